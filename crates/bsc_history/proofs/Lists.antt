@@ -1,0 +1,133 @@
+-- Members of lists, and elements that are apart.
+use Rattle.std.proofs.Common.{◌≡◌, ◌≢◌, ◌⊎◌, inl, inr, Bool, true, false, cond, List, [], ◌∷◌, ◌++◌, filter, find, Option, Some, None, MatchOption, option_to_list, refl, ap, sym, ◌∙◌, subst}
+use Rattle.std.specs.List.{list_any, AllByRecursion}
+use Rattle.std.proofs.lemmas.Bool.{false_from_ne_true}
+use Rattle.bsc_history.specs.Laws.{Apart, kept_if}
+
+abbrev pub In : {A : Type 0} → A → List A → Type 0
+In x [] = ⊥
+In x (y ∷ ys) = (y ≡ x) ⊎ In x ys
+
+pub In-append : {A : Type 0} (x : A) (xs ys : List A) → In x (xs ++ ys) → In x xs ⊎ In x ys
+In-append x [] ys h = inr h
+In-append x (y ∷ xs) ys (inl e) = inl (inl e)
+In-append x (y ∷ xs) ys (inr h) = elim (In-append x xs ys h) [ inl m ↦ inl (inr m) | inr m ↦ inr m ]
+
+pub In-option : {A : Type 0} (x : A) (o : Option A) → In x (option_to_list o) → o ≡ Some x
+In-option x None h = absurd h
+In-option x (Some y) (inl e) = ap Some e
+In-option x (Some y) (inr h) = absurd h
+
+pub In-filter : {A : Type 0} (p : A → Bool) (x : A) (xs : List A) → In x (filter p xs) → In x xs × (p x ≡ true)
+In-filter {A} p x [] h = absurd h
+In-filter {A} p x (y ∷ ys) h =
+    let by : (b : Bool) → p y ≡ b → In x (cond b (y ∷ filter p ys) (filter p ys)) → In x (y ∷ ys) × (p x ≡ true) = λ b. elim b as (λ b. p y ≡ b → In x (cond b (y ∷ filter p ys) (filter p ys)) → In x (y ∷ ys) × (p x ≡ true)) [
+      | true ↦ λ e m. elim m [ inl same ↦ (inl same, subst (λ z. p z ≡ true) same e) | inr n ↦ (let r = In-filter p x ys n in (inr r.0, r.1)) ]
+      | false ↦ λ e m. (let r = In-filter p x ys m in (inr r.0, r.1))
+    ] in
+    by (p y) refl h
+
+-- what a search says, found or not
+pub find_says : {A : Type 0} (p : A → Bool) (xs : List A) → MatchOption (find p xs) ((x : A) → In x xs → p x ≡ false) (λ x. In x xs × (p x ≡ true))
+find_says p [] = λ x h. absurd h
+find_says {A} p (y ∷ ys) =
+    let none = (x : A) → In x (y ∷ ys) → p x ≡ false in
+    let some = λ (x : A). In x (y ∷ ys) × (p x ≡ true) in
+    let on : p y ≡ false → (o : Option A) → MatchOption o ((x : A) → In x ys → p x ≡ false) (λ x. In x ys × (p x ≡ true)) → MatchOption o none some = λ e o. elim o as (λ o. MatchOption o ((x : A) → In x ys → p x ≡ false) (λ x. In x ys × (p x ≡ true)) → MatchOption o none some) [
+      | None ↦ λ f x m. elim m [ inl same ↦ subst (λ z. p z ≡ false) same e | inr n ↦ f x n ]
+      | Some z ↦ λ r. (inr r.0, r.1)
+    ] in
+    let by : (b : Bool) → p y ≡ b → MatchOption (cond b (Some y) (find p ys)) none some = λ b. elim b as (λ b. p y ≡ b → MatchOption (cond b (Some y) (find p ys)) none some) [
+      | true ↦ λ e. (inl refl, e)
+      | false ↦ λ e. on e (find p ys) (find_says p ys)
+    ] in
+    by (p y) refl
+
+pub all_from_In : {A : Type 0} (P : A → Type 0) (xs : List A) → ((x : A) → In x xs → P x) → AllByRecursion P xs
+all_from_In P [] f = tt
+all_from_In P (x ∷ xs) f = (f x (inl refl), all_from_In P xs (λ y h. f y (inr h)))
+
+pub In_from_all : {A : Type 0} (P : A → Type 0) (x : A) (xs : List A) → AllByRecursion P xs → In x xs → P x
+In_from_all P x [] f h = absurd h
+In_from_all P x (y ∷ ys) f (inl e) = subst P e f.0
+In_from_all P x (y ∷ ys) f (inr h) = In_from_all P x ys f.1 h
+
+pub none_passes : {A : Type 0} (p : A → Bool) (xs : List A) → ((x : A) → In x xs → p x ≡ false) → list_any p xs ≡ false
+none_passes p [] f = refl
+none_passes p (x ∷ xs) f = rw (f x (inl refl)) (none_passes p xs (λ y h. f y (inr h)))
+
+pub Apart-filter : {A B : Type 0} (f : A → B) (q : A → Bool) (xs : List A) → Apart f xs → Apart f (filter q xs)
+Apart-filter f q [] h = tt
+Apart-filter f q (x ∷ xs) h =
+    let rest = Apart-filter f q xs h.1 in
+    elim (q x) as (λ b. Apart f (cond b (x ∷ filter q xs) (filter q xs))) [
+      | true ↦ (all_from_In (λ y. f x ≢ f y) (filter q xs) (λ y m. In_from_all (λ z. f x ≢ f z) y xs h.0 (In-filter q y xs m).0), rest)
+      | false ↦ rest
+    ]
+
+pub Apart-push : {A B : Type 0} (f : A → B) (xs : List A) (o : Option A) → Apart f xs → ((x y : A) → In x xs → o ≡ Some y → f x ≢ f y) → Apart f (xs ++ option_to_list o)
+Apart-push f [] None h new = tt
+Apart-push f [] (Some y) h new = (tt, tt)
+Apart-push f (x ∷ xs) o h new = (
+  all_from_In (λ z. f x ≢ f z) (xs ++ option_to_list o) (λ z m. elim (In-append z xs (option_to_list o) m) [ inl n ↦ In_from_all (λ w. f x ≢ f w) z xs h.0 n | inr n ↦ new x z (inl refl) (In-option z o n) ]),
+  Apart-push f xs o h.1 (λ z y m e. new z y (inr m) e),
+)
+
+-- of elements that are apart, two that agree are one
+pub same_one : {A B : Type 0} (f : A → B) (x y : A) (xs : List A) → Apart f xs → In x xs → In y xs → f x ≡ f y → x ≡ y
+same_one f x y [] h m n e = absurd m
+same_one f x y (z ∷ zs) h (inl p) (inl q) e = sym p ∙ q
+same_one f x y (z ∷ zs) h (inl p) (inr n) e = absurd (In_from_all (λ w. f z ≢ f w) y zs h.0 n (ap f p ∙ e))
+same_one f x y (z ∷ zs) h (inr m) (inl q) e = absurd (In_from_all (λ w. f z ≢ f w) x zs h.0 m (ap f q ∙ sym e))
+same_one f x y (z ∷ zs) h (inr m) (inr n) e = same_one f x y zs h.1 m n e
+
+-- of elements that are apart, the one found is found among those kept, or is not kept
+pub find-filter : {A B : Type 0} (f : A → B) (p q : A → Bool) (xs : List A) → Apart f xs → ((x y : A) → p x ≡ true → p y ≡ true → f x ≡ f y) → find p (filter q xs) ≡ kept_if q (find p xs)
+find-filter f p q [] h agree = refl
+find-filter {A} f p q (x ∷ xs) h agree =
+    let rest = find-filter f p q xs h.1 agree in
+    let by : (b c : Bool) → p x ≡ b → q x ≡ c → find p (cond c (x ∷ filter q xs) (filter q xs)) ≡ kept_if q (cond b (Some x) (find p xs)) = λ b c. elim b as (λ b. p x ≡ b → q x ≡ c → find p (cond c (x ∷ filter q xs) (filter q xs)) ≡ kept_if q (cond b (Some x) (find p xs))) [
+      | true ↦ elim c as (λ c. p x ≡ true → q x ≡ c → find p (cond c (x ∷ filter q xs) (filter q xs)) ≡ kept_if q (Some x)) [
+        | true ↦ λ e d. rw (e, d) refl
+        | false ↦ λ e d. (
+            let gone : find p xs ≡ None = (
+            let on : (o : Option A) → MatchOption o ((z : A) → In z xs → p z ≡ false) (λ z. In z xs × (p z ≡ true)) → o ≡ None = λ o. elim o as (λ o. MatchOption o ((z : A) → In z xs → p z ≡ false) (λ z. In z xs × (p z ≡ true)) → o ≡ None) [ None ↦ λ r. refl | Some z ↦ λ r. absurd (In_from_all (λ w. f x ≢ f w) z xs h.0 r.0 (agree x z e r.1)) ] in
+            on (find p xs) (find_says p xs)) in
+            rest ∙ ap (kept_if q) gone ∙ sym (ap (λ (k : Bool). cond k (Some x) None) d))
+      ]
+      | false ↦ elim c as (λ c. p x ≡ false → q x ≡ c → find p (cond c (x ∷ filter q xs) (filter q xs)) ≡ kept_if q (find p xs)) [
+        | true ↦ λ e d. rw e rest
+        | false ↦ λ e d. rest
+      ]
+    ] in
+    by (p x) (q x) refl refl
+
+pub none_found : {A : Type 0} (p : A → Bool) (xs : List A) → ((x : A) → In x xs → p x ≡ false) → find p xs ≡ None
+none_found p [] f = refl
+none_found p (x ∷ xs) f = rw (f x (inl refl)) (none_found p xs (λ y h. f y (inr h)))
+
+pub kept_all : {A : Type 0} (q : A → Bool) (o : Option A) → ((x : A) → q x ≡ true) → kept_if q o ≡ o
+kept_all q None h = refl
+kept_all q (Some x) h = rw (h x) refl
+
+pub kept_none : {A : Type 0} (q : A → Bool) (o : Option A) → ((x : A) → q x ≡ false) → kept_if q o ≡ None
+kept_none q None h = refl
+kept_none q (Some x) h = rw (h x) refl
+
+pub kept_same : {A : Type 0} (p q : A → Bool) (o : Option A) → ((x : A) → p x ≡ q x) → kept_if p o ≡ kept_if q o
+kept_same p q None h = refl
+kept_same p q (Some x) h = ap (λ (b : Bool). cond b (Some x) None) (h x)
+
+pub none_filtered : {A : Type 0} (p : A → Bool) (xs : List A) → ((x : A) → In x xs → p x ≡ false) → filter p xs ≡ []
+none_filtered p [] f = refl
+none_filtered p (x ∷ xs) f = rw (f x (inl refl)) (none_filtered p xs (λ y h. f y (inr h)))
+
+-- of elements that are apart, those that pass are the one found
+pub filter-find : {A B : Type 0} (f : A → B) (p : A → Bool) (xs : List A) → Apart f xs → ((x y : A) → p x ≡ true → p y ≡ true → f x ≡ f y) → filter p xs ≡ option_to_list (find p xs)
+filter-find f p [] h agree = refl
+filter-find {A} f p (x ∷ xs) h agree =
+    let by : (b : Bool) → p x ≡ b → cond b (x ∷ filter p xs) (filter p xs) ≡ option_to_list (cond b (Some x) (find p xs)) = λ b. elim b as (λ b. p x ≡ b → cond b (x ∷ filter p xs) (filter p xs) ≡ option_to_list (cond b (Some x) (find p xs))) [
+      | true ↦ λ e. ap (λ (l : List A). x ∷ l) (none_filtered p xs (λ y m. false_from_ne_true (p y) (λ g. In_from_all (λ w. f x ≢ f w) y xs h.0 m (agree x y e g))))
+      | false ↦ λ e. filter-find f p xs h.1 agree
+    ] in
+    by (p x) refl

@@ -1,0 +1,88 @@
+-- The eight numbers of a history.
+use Rattle.std.specs.Prelude.{ℕ, ◌+◌, ◌==◌, Bool, true, false, not, ◌&&◌, if◌then◌else◌, List, length, sum_by, count_by, is_some}
+use Rattle.bsc_octets.specs.Forwarding.{is_broadcast}
+use Rattle.bsc_history.specs.declared.entry.Entry.{Entry}
+use Rattle.bsc_history.specs.declared.call.Call.{Call}
+use Rattle.bsc_history.specs.declared.call.Call.TheVariants.{Forward}
+use Rattle.bsc_history.specs.declared.reply.Reply.{Reply}
+use Rattle.bsc_history.specs.declared.reply.Reply.TheVariants.{Joined, Refused, Appended, Closed, SentAll}
+use Rattle.bsc_history.specs.declared.counts.Counts.{Counts}
+
+-- kinds of replies and calls
+abbrev pub is_joined : Reply → Bool
+is_joined (Joined conn replaced) = true
+is_joined reply = false
+
+abbrev pub is_replacing : Reply → Bool
+is_replacing (Joined conn replaced) = is_some replaced
+is_replacing reply = false
+
+abbrev pub is_refused : Reply → Bool
+is_refused (Refused refusal) = true
+is_refused reply = false
+
+abbrev pub is_unicast_call : Call → Bool
+is_unicast_call (Forward conn frame) = not (is_broadcast frame)
+is_unicast_call call = false
+
+abbrev pub is_broadcast_call : Call → Bool
+is_broadcast_call (Forward conn frame) = is_broadcast frame
+is_broadcast_call call = false
+
+abbrev pub is_forward_call : Call → Bool
+is_forward_call (Forward conn frame) = true
+is_forward_call call = false
+
+-- how many outboxes a reply names as appended to, and how many connections as closed
+abbrev pub appended_in : Reply → ℕ
+appended_in (Appended conn) = 1
+appended_in (SentAll to closed skipped) = length to
+appended_in reply = 0
+
+abbrev pub closed_in : Reply → ℕ
+closed_in (Closed conn) = 1
+closed_in (SentAll to closed skipped) = length closed
+closed_in reply = 0
+
+-- 1 where a test passes
+abbrev pub one_if : Bool → ℕ
+one_if b = if b then 1 else 0
+
+-- the counts of one entry
+abbrev pub counts_of : Entry → Counts
+counts_of e = record {
+  joined = one_if (is_joined e.reply);
+  replaced = one_if (is_replacing e.reply);
+  refused = one_if (is_refused e.reply);
+  unicasts = one_if (is_unicast_call e.call);
+  broadcasts = one_if (is_broadcast_call e.call);
+  appended = appended_in e.reply;
+  dropped = one_if (is_forward_call e.call && (appended_in e.reply == 0));
+  full = closed_in e.reply;
+}
+
+-- the counts of two parts of a history together
+abbrev pub plus : Counts → Counts → Counts
+plus k m = record {
+  joined = k.joined + m.joined;
+  replaced = k.replaced + m.replaced;
+  refused = k.refused + m.refused;
+  unicasts = k.unicasts + m.unicasts;
+  broadcasts = k.broadcasts + m.broadcasts;
+  appended = k.appended + m.appended;
+  dropped = k.dropped + m.dropped;
+  full = k.full + m.full;
+}
+
+-- The counts of a history, each the number of entries, or of connections that replies name, of its kind.
+unfoldable pub counts : List Entry → Counts
+counts H = record {
+  joined = count_by (λ e. is_joined e.reply) H;
+  replaced = count_by (λ e. is_replacing e.reply) H;
+  refused = count_by (λ e. is_refused e.reply) H;
+  unicasts = count_by (λ e. is_unicast_call e.call) H;
+  broadcasts = count_by (λ e. is_broadcast_call e.call) H;
+  appended = sum_by (λ e. appended_in e.reply) H;
+  dropped = count_by (λ e. is_forward_call e.call && (appended_in e.reply == 0)) H;
+  full = sum_by (λ e. closed_in e.reply) H;
+}

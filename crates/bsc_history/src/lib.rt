@@ -1,0 +1,33 @@
+//! What is said of one hub: the calls, their replies, and the history that they stand in.
+//!
+//! This is plain data, and the program stores no history: contracts speak of it. `specs/` has the
+//! definitions, a file a subject (`Entries`, `Ends`, `Holders`, `Outboxes`, `Replies`, `Counting`,
+//! `Legality`, `Marks`); `laws` has what holds of every legal history. `docs/DEFINITIONS.md` says each in
+//! plain words.
+#![tactic(auto)]
+
+mod call;
+mod connection;
+mod conns;
+mod counts;
+mod ending;
+mod entry;
+mod laws;
+mod limits;
+mod looks;
+mod mark;
+mod reply;
+mod told;
+
+pub use call::Call;
+pub use connection::Connection;
+pub use conns::Conns;
+pub use counts::Counts;
+pub use ending::End;
+pub use entry::Entry;
+pub use laws::{after_end, naming, numbering, one_holder, one_of_device, until_end, within};
+pub use limits::{About, Limits};
+pub use looks::{Look, Looks};
+pub use mark::{Mark, Stamped};
+pub use reply::{Refusal, Reply};
+pub use told::{AlreadyStopped, Told, Worn};

@@ -1,0 +1,20 @@
+//! Marks, by which contracts tell which outbox a Connect was given.
+use crate::entry::Entry;
+use std::collections::LinkedList;
+
+/// What contracts name an outbox by. No value is made.
+pub struct Mark {
+    pub words: u64,
+    pub slots: u64,
+    pub views_name: u64,
+    pub atom: u64,
+    pub block: u64,
+    pub offset: u64,
+    pub slot_names: LinkedList<u64>,
+}
+
+/// An entry, with the mark of the inlet that a Connect handed in. No value is made.
+pub struct Stamped {
+    pub entry: Entry,
+    pub mark: Option<Mark>,
+}

@@ -1,0 +1,100 @@
+-- The envelope that is read from a message is spelled by it.
+use Rattle.std.proofs.Common.{◌≡◌, ℕ, suc, ◌+◌, ◌*◌, ◌%◌, ◌<◌, ◌≤◌, Bool, true, false, cond, not, nat_le, ◌&&◌, ltb, List, [], ◌∷◌, ◌++◌, length, get_or, take, drop, Option, Some, None, is_some, Result, Ok, Err, IfOk, refl, ap, sym, ◌∙◌, subst, arith, append_assoc, append-nil, length-append, length-take, length-drop}
+use Rattle.std.proofs.lemmas.Bool.{le-ltb, ltb-false, leb-true, and_parts, not-true}
+use Rattle.std.proofs.lemmas.Nat.{div-mul-add, mod-mul-add}
+use Rattle.std.proofs.lemmas.List.{take-append-drop}
+use Rattle.byteorder.specs.Endian.{big_bytes, big_number}
+use Rattle.bsc_octets.specs.declared.vmac.Vmac.{Vmac}
+use Rattle.bsc_octets.specs.declared.envelope.Envelope.{Envelope}
+use Rattle.bsc_octets.specs.declared.envelope.EnvelopeFault.{EnvelopeFault}
+use Rattle.bsc_octets.specs.declared.envelope.EnvelopeFault.TheVariants.{Cut}
+use Rattle.bsc_octets.specs.Forwarding.{has_route, flags_in}
+use Rattle.bsc_octets.specs.Envelopes.{announces_origin, announces_dest, address_octets, SpellsEnvelope, vmac_at, header_of, envelope_of}
+
+-- the octets of the number that two octets make are those two
+two_octets : (a b : ℕ) (rest : List ℕ) → a < 256 → b < 256 → big_bytes 2 (big_number 2 (a ∷ b ∷ rest)) ≡ a ∷ b ∷ []
+two_octets a b rest ha hb =
+    let e : a * 256 + (b * 1 + 0) ≡ a * 256 + b = omega arith in
+    let m : a % 256 ≡ a = omega arith in
+    rw (e, div-mul-add a 256 b hb, m, mod-mul-add a 256 b hb) refl
+
+leaf : (f g a b : ℕ) (rest : List ℕ) (o d : Option Vmac) (at n : ℕ) → a < 256 → b < 256 → rest ≡ (address_octets o ++ address_octets d) ++ drop n rest → drop at (f ∷ g ∷ a ∷ b ∷ rest) ≡ drop n rest → at ≡ 4 + length (address_octets o ++ address_octets d) → announces_origin g ≡ is_some o → announces_dest g ≡ is_some d → SpellsEnvelope (header_of (f ∷ g ∷ a ∷ b ∷ rest) o d at) (f ∷ g ∷ a ∷ b ∷ rest)
+leaf f g a b rest o d at n ha hb cut same place org dst =
+    let ids = two_octets a b rest ha hb in
+    record {
+      spelling = ap (λ (r : List ℕ). f ∷ g ∷ a ∷ b ∷ r) (cut ∙ ap (λ (r : List ℕ). (address_octets o ++ address_octets d) ++ r) (sym same))
+          ∙ ap (λ (l : List ℕ). f ∷ g ∷ (l ++ ((address_octets o ++ address_octets d) ++ drop at (f ∷ g ∷ a ∷ b ∷ rest)))) (sym ids);
+      place = (let k = length (address_octets o ++ address_octets d) in let e : 4 + k ≡ suc (suc (suc (suc k))) = omega arith in place ∙ e);
+      origin = org;
+      dest = dst;
+    }
+
+six_long : (rest : List ℕ) → 6 ≤ length rest → length (take 6 rest) ≡ 6
+six_long rest h = rw length-take (omega arith)
+
+drop_12 : (l : List ℕ) → drop 12 l ≡ drop 6 (drop 6 l)
+drop_12 [] = refl
+drop_12 (a ∷ []) = refl
+drop_12 (a ∷ b ∷ []) = refl
+drop_12 (a ∷ b ∷ c ∷ []) = refl
+drop_12 (a ∷ b ∷ c ∷ d ∷ []) = refl
+drop_12 (a ∷ b ∷ c ∷ d ∷ e ∷ []) = refl
+drop_12 (a ∷ b ∷ c ∷ d ∷ e ∷ f ∷ l) = refl
+
+two_cuts : (l : List ℕ) → l ≡ (take 6 l ++ take 6 (drop 6 l)) ++ drop 12 l
+two_cuts l = sym (append_assoc (take 6 l) (take 6 (drop 6 l)) (drop 12 l) ∙ ap (λ (r : List ℕ). take 6 l ++ (take 6 (drop 6 l) ++ r)) (drop_12 l) ∙ ap (λ (r : List ℕ). take 6 l ++ r) (take-append-drop 6 (drop 6 l)) ∙ take-append-drop 6 l)
+
+by_flags : (f g a b : ℕ) (rest : List ℕ) (e : Envelope) → a < 256 → b < 256 → (o d t s : Bool) → announces_origin g ≡ o → announces_dest g ≡ d → (t ≡ false → 6 ≤ length rest) → (s ≡ false → 12 ≤ length rest)
+    → cond o (cond t (Err Cut) (cond d (cond s (Err Cut) (Ok (header_of (f ∷ g ∷ a ∷ b ∷ rest) (Some (vmac_at (f ∷ g ∷ a ∷ b ∷ rest) 4)) (Some (vmac_at (f ∷ g ∷ a ∷ b ∷ rest) 10)) 16))) (Ok (header_of (f ∷ g ∷ a ∷ b ∷ rest) (Some (vmac_at (f ∷ g ∷ a ∷ b ∷ rest) 4)) None 10))))
+    (cond d (cond t (Err Cut) (Ok (header_of (f ∷ g ∷ a ∷ b ∷ rest) None (Some (vmac_at (f ∷ g ∷ a ∷ b ∷ rest) 4)) 10))) (Ok (header_of (f ∷ g ∷ a ∷ b ∷ rest) None None 4))) ≡ Ok e
+    → SpellsEnvelope e (f ∷ g ∷ a ∷ b ∷ rest)
+by_flags f g a b rest e ha hb true d true s p q t6 s12 h = cc
+by_flags f g a b rest e ha hb true true false true p q t6 s12 h = cc
+by_flags f g a b rest e ha hb true true false false p q t6 s12 h =
+    let m = f ∷ g ∷ a ∷ b ∷ rest in
+    let long = s12 refl in
+    let here = six_long rest (omega arith) in
+    let k : header_of m (Some (vmac_at m 4)) (Some (vmac_at m 10)) 16 ≡ e = cc in
+    let there : length (take 6 (drop 6 rest)) ≡ 6 = six_long (drop 6 rest) (rw length-drop (omega arith)) in
+    subst (λ x. SpellsEnvelope x m) k (leaf f g a b rest (Some (vmac_at m 4)) (Some (vmac_at m 10)) 16 12 ha hb (two_cuts rest) refl (rw (length-append, here, there) refl) p q)
+by_flags f g a b rest e ha hb true false false s p q t6 s12 h =
+    let m = f ∷ g ∷ a ∷ b ∷ rest in
+    let k : header_of m (Some (vmac_at m 4)) None 10 ≡ e = cc in
+    subst (λ x. SpellsEnvelope x m) k (leaf f g a b rest (Some (vmac_at m 4)) None 10 6 ha hb (rw (append-nil, take-append-drop) refl) refl (rw (append-nil, six_long rest (t6 refl)) refl) p q)
+by_flags f g a b rest e ha hb false true true s p q t6 s12 h = cc
+by_flags f g a b rest e ha hb false true false s p q t6 s12 h =
+    let m = f ∷ g ∷ a ∷ b ∷ rest in
+    let k : header_of m None (Some (vmac_at m 4)) 10 ≡ e = cc in
+    subst (λ x. SpellsEnvelope x m) k (leaf f g a b rest None (Some (vmac_at m 4)) 10 6 ha hb (sym (take-append-drop 6 rest)) refl (rw (six_long rest (t6 refl)) refl) p q)
+by_flags f g a b rest e ha hb false false t s p q t6 s12 h =
+    let m = f ∷ g ∷ a ∷ b ∷ rest in
+    let k : header_of m None None 4 ≡ e = cc in
+    subst (λ x. SpellsEnvelope x m) k (leaf f g a b rest None None 4 0 ha hb refl refl refl p q)
+
+pub spelled : (m : List ℕ) (e : Envelope) → ((i : ℕ) → get_or m i 0 < 256) → envelope_of m ≡ Ok e → SpellsEnvelope e m
+unfolding envelope_of
+spelled [] e all h = cc
+spelled (f ∷ []) e all h = cc
+spelled (f ∷ g ∷ []) e all h = cc
+spelled (f ∷ g ∷ a ∷ []) e all h = cc
+spelled (f ∷ g ∷ a ∷ b ∷ rest) e all h =
+    let n = length (f ∷ g ∷ a ∷ b ∷ rest) in
+    let four : 4 ≤ n = omega arith in
+    let not_short : ltb n 4 ≡ false = le-ltb n 4 four in
+    by_flags f g a b rest e (all 2) (all 3) (announces_origin g) (announces_dest g) (ltb n 10) (ltb n 16) refl refl (λ t. let k = ltb-false n 10 t in omega arith) (λ t. let k = ltb-false n 16 t in omega arith) (rw not_short at h)
+
+pub spelled_result : (m : List ℕ) (r : Result Envelope EnvelopeFault) → ((i : ℕ) → get_or m i 0 < 256) → r ≡ envelope_of m → IfOk r (λ e. SpellsEnvelope e m)
+spelled_result m (Ok e) all h = spelled m e all (sym h)
+spelled_result m (Err e) all h = tt
+
+-- a message that has a route has an envelope with that destination and no origin, and the rest stands at 10
+pub routed : (m : List ℕ) → has_route m ≡ true → envelope_of m ≡ Ok (header_of m None (Some (vmac_at m 4)) 10)
+unfolding envelope_of
+routed m h =
+    let three = and_parts (nat_le 10 (length m) && announces_dest (flags_in m)) (not (announces_origin (flags_in m))) h in
+    let two = and_parts (nat_le 10 (length m)) (announces_dest (flags_in m)) three.0 in
+    let ten : 10 ≤ length m = leb-true 10 (length m) two.0 in
+    let four : ltb (length m) 4 ≡ false = le-ltb (length m) 4 (omega arith) in
+    let long : ltb (length m) 10 ≡ false = le-ltb (length m) 10 ten in
+    let no : announces_origin (flags_in m) ≡ false = not-true (announces_origin (flags_in m)) three.1 in
+    rw (four, no, two.1, long) refl

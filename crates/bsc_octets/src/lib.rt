@@ -1,0 +1,22 @@
+//! Octets, addresses, identities, and the first part of a BVLC-SC message.
+//!
+//! Start at `envelope` (what a message begins with) and `forwarding` (what the hub makes of it). Each
+//! layout is defined once, in `specs/`, and what reads it and what writes it are held to that. This crate
+//! stands on `byteorder` for numbers and on `uuid` for device identifiers.
+#![tactic(auto)]
+
+mod device_id;
+mod envelope;
+mod forwarding;
+mod identity;
+mod no_memory;
+mod octets;
+mod vmac;
+
+pub use device_id::DeviceId;
+pub use envelope::{Envelope, EnvelopeFault, read_envelope};
+pub use forwarding::forwarded;
+pub use identity::{Identity, read_identity};
+pub use no_memory::NoMemory;
+pub use octets::Octets;
+pub use vmac::Vmac;
