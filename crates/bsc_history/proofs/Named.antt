@@ -121,7 +121,7 @@ none_live a H legal = along a (λ G. is_stopped G ≡ true → live G ≡ []) (�
 
 -- who is unleft has joined
 
-unleft_joined : (test : ℕ → List Entry → Bool) (t : Connection → Bool) (c : ℕ) → ((x : Connection) → t x ≡ true → (x.number == c) ≡ true) → (H : List Entry) → list_any t (joined_where test H) ≡ true → list_any (joins c) H ≡ true
+pub unleft_joined : (test : ℕ → List Entry → Bool) (t : Connection → Bool) (c : ℕ) → ((x : Connection) → t x ≡ true → (x.number == c) ≡ true) → (H : List Entry) → list_any t (joined_where test H) ≡ true → list_any (joins c) H ≡ true
 unfolding joined_where
 unleft_joined test t c says [] h = h
 unleft_joined test t c says (e ∷ after) h =
@@ -144,7 +144,7 @@ meant-unicast a H sender m legal one =
 
 -- names
 
-and_true : (b : Bool) → (b && true) ≡ b
+pub and_true : (b : Bool) → (b && true) ≡ b
 and_true true = refl
 and_true false = refl
 
@@ -152,7 +152,7 @@ and_false : (b : Bool) → (b && false) ≡ false
 and_false true = refl
 and_false false = refl
 
-among_filter : (c : ℕ) (q t : Connection → Bool) → ((x : Connection) → ((x.number == c) && q x) ≡ t x) → (xs : List Connection) → is_among c (numbers (filter q xs)) ≡ list_any t xs
+pub among_filter : (c : ℕ) (q t : Connection → Bool) → ((x : Connection) → ((x.number == c) && q x) ≡ t x) → (xs : List Connection) → is_among c (numbers (filter q xs)) ≡ list_any t xs
 among_filter c q t same [] = refl
 among_filter c q t same (x ∷ xs) =
     let rest = among_filter c q t same xs in

@@ -117,7 +117,7 @@ or_some : {A : Type 0} (o p : Option A) → is_none (option_or o p) ≡ true →
 or_some None p h = h
 or_some (Some x) p h = cc
 
-is_None : {A : Type 0} (o : Option A) → is_none o ≡ true → o ≡ None
+pub is_None : {A : Type 0} (o : Option A) → is_none o ≡ true → o ≡ None
 is_None None h = refl
 is_None (Some x) h = cc
 

@@ -1,4 +1,4 @@
--- The eight numbers of a history.
+-- What a hub counts over its history.
 use Rattle.std.specs.Prelude.{ℕ, ◌+◌, ◌==◌, Bool, true, false, not, ◌&&◌, if◌then◌else◌, List, length, sum_by, count_by, is_some}
 use Rattle.bsc_octets.specs.Forwarding.{is_broadcast}
 use Rattle.bsc_history.specs.declared.entry.Entry.{Entry}
@@ -8,37 +8,43 @@ use Rattle.bsc_history.specs.declared.reply.Reply.{Reply}
 use Rattle.bsc_history.specs.declared.reply.Reply.TheVariants.{Joined, Refused, Appended, Closed, SentAll}
 use Rattle.bsc_history.specs.declared.counts.Counts.{Counts}
 
--- kinds of replies and calls
+-- whether a connect joined
 abbrev pub is_joined : Reply → Bool
 is_joined (Joined conn replaced) = true
 is_joined reply = false
 
+-- whether it took over from a connection
 abbrev pub is_replacing : Reply → Bool
 is_replacing (Joined conn replaced) = is_some replaced
 is_replacing reply = false
 
+-- whether a connect was refused
 abbrev pub is_refused : Reply → Bool
 is_refused (Refused refusal) = true
 is_refused reply = false
 
+-- whether a call forwards a unicast
 abbrev pub is_unicast_call : Call → Bool
 is_unicast_call (Forward conn frame) = not (is_broadcast frame)
 is_unicast_call call = false
 
+-- whether a call forwards a broadcast
 abbrev pub is_broadcast_call : Call → Bool
 is_broadcast_call (Forward conn frame) = is_broadcast frame
 is_broadcast_call call = false
 
+-- whether a call forwards
 abbrev pub is_forward_call : Call → Bool
 is_forward_call (Forward conn frame) = true
 is_forward_call call = false
 
--- how many outboxes a reply names as appended to, and how many connections as closed
+-- how many outboxes a reply names as appended to
 abbrev pub appended_in : Reply → ℕ
 appended_in (Appended conn) = 1
 appended_in (SentAll to closed skipped) = length to
 appended_in reply = 0
 
+-- how many connections a reply names as closed
 abbrev pub closed_in : Reply → ℕ
 closed_in (Closed conn) = 1
 closed_in (SentAll to closed skipped) = length closed
@@ -48,7 +54,7 @@ closed_in reply = 0
 abbrev pub one_if : Bool → ℕ
 one_if b = if b then 1 else 0
 
--- the counts of one entry
+-- what one entry adds to the counts
 abbrev pub counts_of : Entry → Counts
 counts_of e = record {
   joined = one_if (is_joined e.reply);
@@ -74,7 +80,8 @@ plus k m = record {
   full = k.full + m.full;
 }
 
--- The counts of a history, each the number of entries, or of connections that replies name, of its kind.
+-- The counts of a history: how many entries are of each kind, and how many connections the replies name as appended
+-- to and as closed.
 unfoldable pub counts : List Entry → Counts
 counts H = record {
   joined = count_by (λ e. is_joined e.reply) H;

@@ -7,10 +7,10 @@ use Rattle.bsc_history.specs.declared.entry.Entry.{Entry}
 use Rattle.bsc_history.specs.declared.connection.Connection.{Connection}
 use Rattle.bsc_history.specs.Ends.{live}
 
--- The live connection that joined with the address v.
+-- The holder of the address v: the live connection that joined with it.
 abbrev pub holder : List Entry → Vmac → Option Connection
 holder H v = find (λ c. same_vmac c.who.vmac v) (live H)
 
--- The live connection that joined with the device u.
+-- The connection of the device u: the live one that joined with it.
 abbrev pub of_device : List Entry → DeviceId → Option Connection
 of_device H u = find (λ c. same_device c.who.device u) (live H)

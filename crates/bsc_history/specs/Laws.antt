@@ -1,17 +1,22 @@
 -- What holds of every legal history.
-use Rattle.std.specs.Prelude.{◌≡◌, ◌≢◌, ◌≤◌, ◌+◌, ℕ, ◌==◌, Bool, false, ◌&&◌, is_none, if◌then◌else◌, List, [], ◌∷◌, ◌++◌, length, Option, Some, None, ⊤}
+use Rattle.std.specs.Prelude.{◌≡◌, ◌≢◌, ◌≤◌, ◌+◌, ◌⊎◌, ℕ, ◌==◌, Bool, false, ◌&&◌, is_none, if◌then◌else◌, List, [], ◌∷◌, ◌++◌, length, Option, Some, None, IsTrue, ⊤}
 use Rattle.std.specs.List.{AllByRecursion, list_any, range_with_len}
+use Rattle.bsc_octets.specs.declared.identity.Identity.{Identity}
+use Rattle.bsc_octets.specs.Forwarding.{destination, is_broadcast, out}
 use Rattle.bsc_history.specs.declared.limits.About.{About}
 use Rattle.bsc_history.specs.declared.ending.End.{End}
+use Rattle.bsc_history.specs.declared.ending.End.TheVariants.{Replaced, Full}
 use Rattle.bsc_history.specs.declared.entry.Entry.{Entry}
-use Rattle.bsc_history.specs.declared.call.Call.TheVariants.{Forward}
+use Rattle.bsc_history.specs.declared.call.Call.TheVariants.{Connect, Forward}
+use Rattle.bsc_history.specs.declared.reply.Refusal.{Refusal}
 use Rattle.bsc_history.specs.declared.reply.Reply.{Reply}
-use Rattle.bsc_history.specs.declared.reply.Reply.TheVariants.{Appended, SentAll}
+use Rattle.bsc_history.specs.declared.reply.Reply.TheVariants.{Joined, Refused, Appended, SentAll}
 use Rattle.bsc_history.specs.declared.connection.Connection.{Connection}
 use Rattle.bsc_history.specs.Entries.{joins, moment}
-use Rattle.bsc_history.specs.Ends.{ended, is_among, is_live, joined, live}
-use Rattle.bsc_history.specs.Outboxes.{added, looked, out_of, sent}
-use Rattle.bsc_history.specs.Replies.{numbers}
+use Rattle.bsc_history.specs.Ends.{ended, is_among, is_live, joined, live, numbered, unleft}
+use Rattle.bsc_history.specs.Holders.{holder, of_device}
+use Rattle.bsc_history.specs.Outboxes.{added, is_found_full, is_too_long, looked, out_of, sent, vmac_of}
+use Rattle.bsc_history.specs.Replies.{number_of, numbers}
 use Rattle.bsc_history.specs.Legality.{Lawful}
 
 -- no two of the elements agree in f
@@ -19,21 +24,89 @@ abbrev pub Apart : {A B : Type 0} → (A → B) → List A → Type 0
 Apart f [] = ⊤
 Apart f (x ∷ xs) = AllByRecursion (λ y. f x ≢ f y) xs × Apart f xs
 
--- the connections that joined are numbered from 1 in the order of joining
+-- Connections are numbered from 1, in the order of joining.
 abbrev pub NumbersInOrder : List Entry → Type 0
 NumbersInOrder H = numbers (joined H) ≡ range_with_len 1 (length (joined H))
 
--- no two live connections have the same address
+-- No two connections that haven't left have the same number.
+abbrev pub NumbersAreNew : List Entry → Type 0
+NumbersAreNew H = Apart (λ (c : Connection). c.number) (unleft H)
+
+-- No two live connections have the same address, so the holder of one is the only one to hold it.
 abbrev pub OneHolder : List Entry → Type 0
 OneHolder H = Apart (λ (c : Connection). c.who.vmac) (live H)
 
--- no two live connections have the same device
+-- No two live connections have the same device.
 abbrev pub OneOfDevice : List Entry → Type 0
 OneOfDevice H = Apart (λ (c : Connection). c.who.device) (live H)
 
--- nothing enters the outbox of a connection that has ended
+-- By the entry e the outbox of c gains the octets o, once and behind all that had entered it.
+abbrev pub Gains : About → List Entry → Entry → ℕ → List ℕ → Type 0
+Gains a H e c o = sent a (H ++ e ∷ []) c ≡ sent a H c ++ o ∷ []
+
+-- A unicast of a live sender joins, under the sender's address, the outbox of its destination's holder, unless it is
+-- too long for the holder or a look finds the outbox full.
+abbrev pub UnicastJoins : About → List Entry → Type 0
+UnicastJoins a H = (e : Entry) (sender : ℕ) (m : List ℕ) (x : Connection) →
+    e.call ≡ Forward sender m → is_broadcast m ≡ false →
+    IsTrue (is_live H sender) → holder H (destination m) ≡ Some x →
+    is_too_long (out_of H sender m) x ≡ false → is_found_full a (sent a H x.number) e.looks x.number ≡ false →
+    Gains a H e x.number (out m (vmac_of H sender))
+
+-- An outbox that changes by a unicast is that of its destination's holder, and gains the frame under the sender's
+-- address.
+abbrev pub UnicastToHolderAlone : About → List Entry → Type 0
+UnicastToHolderAlone a H = (e : Entry) (sender : ℕ) (m : List ℕ) (c : ℕ) →
+    e.call ≡ Forward sender m → is_broadcast m ≡ false →
+    sent a (H ++ e ∷ []) c ≢ sent a H c →
+    (number_of (holder H (destination m)) ≡ Some c) × Gains a H e c (out m (vmac_of H sender))
+
+-- A broadcast of a live sender joins, under the sender's address, the outbox of each live connection but the sender,
+-- unless it is too long for that one or a look finds the outbox full.
+abbrev pub BroadcastJoins : About → List Entry → Type 0
+BroadcastJoins a H = (e : Entry) (sender : ℕ) (m : List ℕ) (x : Connection) →
+    e.call ≡ Forward sender m → IsTrue (is_broadcast m) →
+    IsTrue (is_live H sender) → numbered x.number (live H) ≡ Some x → x.number ≢ sender →
+    is_too_long (out_of H sender m) x ≡ false → is_found_full a (sent a H x.number) e.looks x.number ≡ false →
+    Gains a H e x.number (out m (vmac_of H sender))
+
+-- An outbox that changes by a broadcast is that of a live connection other than the sender, and gains the frame under
+-- the sender's address.
+abbrev pub BroadcastToOthersAlone : About → List Entry → Type 0
+BroadcastToOthersAlone a H = (e : Entry) (sender : ℕ) (m : List ℕ) (c : ℕ) →
+    e.call ≡ Forward sender m → IsTrue (is_broadcast m) →
+    sent a (H ++ e ∷ []) c ≢ sent a H c →
+    IsTrue (is_live H c) × (c ≢ sender) × Gains a H e c (out m (vmac_of H sender))
+
+-- By one entry an outbox stays as it is, or gains one frame.
+abbrev pub AddsOnce : About → List Entry → Type 0
+AddsOnce a H = (e : Entry) (c : ℕ) → (sent a (H ++ e ∷ []) c ≡ sent a H c) ⊎ ((frame : List ℕ) × Gains a H e c frame)
+
+-- A connection whose outbox a lawful Forward finds full ends as Full, and its outbox stays as it is.
+abbrev pub FullCloses : About → List Entry → Type 0
+FullCloses a H = (e : Entry) (sender : ℕ) (m : List ℕ) (c : ℕ) →
+    Lawful a (moment H e) → e.call ≡ Forward sender m →
+    IsTrue (is_found_full a (sent a H c) e.looks c) →
+    (ended (H ++ e ∷ []) c ≡ Some Full) × (sent a (H ++ e ∷ []) c ≡ sent a H c)
+
+-- Nothing enters the outbox of a connection that has ended, whatever the next entry is.
 abbrev pub NoneAfterEnd : About → List Entry → Type 0
 NoneAfterEnd a H = (c : ℕ) (ending : End) (e : Entry) → ended H c ≡ Some ending → sent a (H ++ e ∷ []) c ≡ sent a H c
+
+-- Who joins is then the holder of its address, and what it replaced is its device's live connection, which then has
+-- ended as Replaced.
+abbrev pub JoinTakesOver : About → List Entry → Type 0
+JoinTakesOver a H = (e : Entry) (who : Identity) (c : ℕ) (replaced : Option ℕ) →
+    Lawful a (moment H e) → e.call ≡ Connect who → e.reply ≡ Joined c replaced →
+    (number_of (holder (H ++ e ∷ []) who.vmac) ≡ Some c)
+    × (replaced ≡ number_of (of_device H who.device))
+    × ((k : ℕ) → replaced ≡ Some k → ended (H ++ e ∷ []) k ≡ Some Replaced)
+
+-- By a connect that is refused no one joins and no one ends.
+abbrev pub RefusalChangesNone : List Entry → Type 0
+RefusalChangesNone H = (e : Entry) (who : Identity) (refusal : Refusal) →
+    e.call ≡ Connect who → e.reply ≡ Refused refusal →
+    live (H ++ e ∷ []) ≡ live H
 
 -- what is left of an option that may not stay
 abbrev pub kept_if : {A : Type 0} → (A → Bool) → Option A → Option A
@@ -46,15 +119,15 @@ names c (Appended conn) = conn == c
 names c (SentAll to closed skipped) = is_among c to
 names c reply = false
 
--- a Forward adds its frame to the outboxes that its reply names, and to no other
+-- A Forward adds its frame to the outboxes that its reply names, and to no other.
 abbrev pub AddsAsNamed : About → List Entry → Type 0
 AddsAsNamed a H = (e : Entry) (sender : ℕ) (m : List ℕ) (c : ℕ) → Lawful a (moment H e) → e.call ≡ Forward sender m → added a (moment H e) (sent a H c) c ≡ (if names c e.reply then out_of H sender m ∷ [] else [])
 
--- a connection is live exactly where it has joined and has no end
+-- A connection is live exactly where it has joined and has no end.
 abbrev pub LiveUntilEnded : List Entry → Type 0
 LiveUntilEnded H = (c : ℕ) → is_live H c ≡ (list_any (joins c) H && is_none (ended H c))
 
--- the newest look at an outbox is no more than what entered it, and no more than its capacity behind
+-- The newest look at an outbox is no more than what entered it, and no more than its capacity behind.
 pub record WithinCapacity (a : About) (H : List Entry) : Type 0 where
   pub not_ahead : (c : ℕ) → looked H c ≤ length (sent a H c)
   pub not_over : (c : ℕ) → length (sent a H c) ≤ looked H c + a.limits.outbox

@@ -6,7 +6,7 @@ use Rattle.bsc_history.specs.declared.mark.Stamped.{Stamped}
 use Rattle.bsc_history.specs.declared.entry.Entry.{Entry}
 use Rattle.bsc_history.specs.Entries.{joins}
 
--- a history without its marks, which is what all other definitions read
+-- A history without its marks, which is what all other definitions read.
 abbrev pub entries : List Stamped → List Entry
 entries S = map (λ s. s.entry) S
 

@@ -1,4 +1,4 @@
--- The one reply of a call, where its looks found what they found.
+-- The one reply of a call after a history, where its looks found what they found.
 use Rattle.std.specs.Prelude.{ℕ, ◌+◌, nat_le, Bool, not, ◌&&◌, if◌then◌else◌, List, length, map, filter, Option, Some, None, unwrap_or}
 use Rattle.std.specs.List.{list_any}
 use Rattle.std.specs.Option.{option_map}
@@ -22,7 +22,7 @@ use Rattle.bsc_history.specs.Holders.{holder, of_device}
 use Rattle.bsc_history.specs.Outboxes.{meant, out_of, is_too_long, is_found_full, sent}
 use Rattle.bsc_history.specs.Counting.{counts}
 
--- whether the history has a Stop entry
+-- Whether the hub has stopped.
 abbrev pub is_stopped : List Entry → Bool
 is_stopped H = list_any stops H
 
@@ -30,7 +30,7 @@ is_stopped H = list_any stops H
 abbrev pub numbers : List Connection → List ℕ
 numbers xs = map (λ c. c.number) xs
 
--- the connection that holds the address of who with another device
+-- the number of an address's holder, where it is another device than that of who connects
 abbrev pub rival : Identity → Option Connection → Option ℕ
 rival who None = None
 rival who (Some c) = if same_device c.who.device who.device then None else Some c.number
@@ -39,12 +39,14 @@ rival who (Some c) = if same_device c.who.device who.device then None else Some 
 abbrev pub number_of : Option Connection → Option ℕ
 number_of o = option_map (λ c. c.number) o
 
--- refused as a duplicate where there is a rival
+-- refused as Duplicate where there is a rival
 abbrev pub refused_as_held : Option ℕ → Reply → Reply
 refused_as_held (Some number) otherwise = Refused (Duplicate (Some number))
 refused_as_held None otherwise = otherwise
 
--- Connect: refused where the hub has stopped, where the address is the hub's or is held by another device, or where all rows are taken; else it joins, in place of the live connection of its device
+-- A Connect is refused where the hub has stopped, where the address is the hub's own or another device holds it, or
+-- where all rows are taken; else it joins under the next number, and takes over from its device's live connection
+-- where there is one.
 unfoldable pub connect_reply : About → List Entry → Identity → Reply
 connect_reply a H who =
     if is_stopped H then Refused RefusedStopped
@@ -53,7 +55,8 @@ connect_reply a H who =
     (if nat_le a.limits.rows (length (unleft H)) then Refused (TableFull a.limits.rows)
     else Joined (1 + length (joined H)) (number_of (of_device H who.device)))
 
--- a unicast to its holder: skipped where too long, closed where found full, else appended
+-- A unicast has no holder, is too long for its holder and skipped, finds the holder's outbox full and closes it, or
+-- is appended to it.
 abbrev pub unicast_reply : About → List Entry → List ℕ → List ℕ → List Look → Option Connection → Reply
 unicast_reply a H m o looks None = NoHolder
 unicast_reply a H m o looks (Some c) =
@@ -61,7 +64,8 @@ unicast_reply a H m o looks (Some c) =
     else if is_found_full a (sent a H c.number) looks c.number then Closed c.number
     else Appended c.number
 
--- a broadcast: each live connection that it means stands in one of three lists, by the same tests
+-- A broadcast tells of each connection that it means, by the same tests and in the order of joining, whether it was
+-- appended to, closed or skipped.
 abbrev pub broadcast_reply : About → List Entry → List ℕ → List Look → List Connection → Reply
 broadcast_reply a H o looks meant =
     let full = λ (c : Connection). is_found_full a (sent a H c.number) looks c.number in
@@ -70,12 +74,13 @@ broadcast_reply a H o looks meant =
     (numbers (filter (λ c. not (is_too_long o c) && full c) meant))
     (numbers (filter (λ c. is_too_long o c) meant))
 
--- a sender that has ended is told its End
+-- a sender that has ended is told how
 abbrev pub unless_ended : Option End → Reply → Reply
 unless_ended (Some ending) otherwise = NotCurrent ending
 unless_ended None otherwise = otherwise
 
--- Forward: nothing where the hub has stopped or the sender has ended
+-- A Forward does nothing where the hub has stopped or the sender has ended; else it is a broadcast to those that it
+-- means, or a unicast to the holder of its destination.
 unfoldable pub forward_reply : About → List Entry → ℕ → List ℕ → List Look → Reply
 forward_reply a H sender m looks =
     let o = out_of H sender m in
@@ -83,7 +88,7 @@ forward_reply a H sender m looks =
     else unless_ended (ended H sender)
     (if is_broadcast m then broadcast_reply a H o looks (meant H sender m) else unicast_reply a H m o looks (holder H (destination m)))
 
--- The reply of a call after the history H. A Leave is told the End, Left where the connection was live, and the number taken.
+-- The reply of a call after the history H. A Leave is told how its connection ended, as Left where it was live.
 abbrev pub reply : About → List Entry → Call → List Look → Reply
 reply a H (Connect who) looks = connect_reply a H who
 reply a H (Forward sender m) looks = forward_reply a H sender m looks

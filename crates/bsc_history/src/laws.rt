@@ -1,15 +1,21 @@
-//! What holds of every legal history. The functions do nothing: their contracts are the laws.
+//! What holds of every legal history, and some of it of any. The functions do nothing: their contracts are the
+//! laws.
 #![tactic(auto)]
 
 ghost use Rattle.std.specs.Prelude.{List};
 ghost use Rattle.bsc_history.specs.declared.limits.About.{About};
 ghost use Rattle.bsc_history.specs.declared.entry.Entry.{Entry};
 ghost use Rattle.bsc_history.specs.Legality.{Legal};
-ghost use Rattle.bsc_history.specs.Laws.{NumbersInOrder, OneHolder, OneOfDevice, NoneAfterEnd, AddsAsNamed, LiveUntilEnded, WithinCapacity};
+ghost use Rattle.bsc_history.specs.Laws.{NumbersInOrder, NumbersAreNew, OneHolder, OneOfDevice, UnicastJoins, UnicastToHolderAlone, BroadcastJoins, BroadcastToOthersAlone, AddsOnce, FullCloses, NoneAfterEnd, JoinTakesOver, RefusalChangesNone, AddsAsNamed, LiveUntilEnded, WithinCapacity};
 
 /// Connections are numbered from 1, in the order of joining.
 pub fn numbering()
     ensures { (a : About) (H : List Entry) → Legal a H → NumbersInOrder H }
+{}
+
+/// No two connections that haven't left have one number.
+pub fn numbers_are_new()
+    ensures { (a : About) (H : List Entry) → Legal a H → NumbersAreNew H }
 {}
 
 /// An address has at most one live connection.
@@ -22,9 +28,49 @@ pub fn one_of_device()
     ensures { (a : About) (H : List Entry) → Legal a H → OneOfDevice H }
 {}
 
+/// A unicast joins the outbox of its destination's holder, where the holder takes it.
+pub fn unicast_joins()
+    ensures { (a : About) (H : List Entry) → Legal a H → UnicastJoins a H }
+{}
+
+/// A unicast joins no other outbox.
+pub fn unicast_to_holder_alone()
+    ensures { (a : About) (H : List Entry) → Legal a H → UnicastToHolderAlone a H }
+{}
+
+/// A broadcast joins the outbox of each live connection but its sender, where that one takes it.
+pub fn broadcast_joins()
+    ensures { (a : About) (H : List Entry) → BroadcastJoins a H }
+{}
+
+/// A broadcast joins no other outbox.
+pub fn broadcast_to_others_alone()
+    ensures { (a : About) (H : List Entry) → BroadcastToOthersAlone a H }
+{}
+
+/// A call adds at most one frame to an outbox, behind all that entered it.
+pub fn once()
+    ensures { (a : About) (H : List Entry) → AddsOnce a H }
+{}
+
+/// A connection whose outbox is found full ends, and what was meant for it is not added.
+pub fn full_closes()
+    ensures { (a : About) (H : List Entry) → Legal a H → FullCloses a H }
+{}
+
 /// Nothing enters an ended outbox.
 pub fn after_end()
     ensures { (a : About) (H : List Entry) → Legal a H → NoneAfterEnd a H }
+{}
+
+/// Who joins holds its address, and takes over from its device's live connection.
+pub fn join_takes_over()
+    ensures { (a : About) (H : List Entry) → Legal a H → JoinTakesOver a H }
+{}
+
+/// A refused connect changes who is live in nothing.
+pub fn refusal_changes_none()
+    ensures { (H : List Entry) → RefusalChangesNone H }
 {}
 
 /// A reply names exactly the outboxes that its call adds to.

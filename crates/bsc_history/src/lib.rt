@@ -17,6 +17,8 @@ mod limits;
 mod looks;
 mod mark;
 mod reply;
+#[cfg(test)]
+mod tests;
 mod told;
 
 pub use call::Call;
@@ -25,7 +27,11 @@ pub use conns::Conns;
 pub use counts::Counts;
 pub use ending::End;
 pub use entry::Entry;
-pub use laws::{after_end, naming, numbering, one_holder, one_of_device, until_end, within};
+pub use laws::{
+    after_end, broadcast_joins, broadcast_to_others_alone, full_closes, join_takes_over, naming,
+    numbering, numbers_are_new, once, one_holder, one_of_device, refusal_changes_none,
+    unicast_joins, unicast_to_holder_alone, until_end, within,
+};
 pub use limits::{About, Limits};
 pub use looks::{Look, Looks};
 pub use mark::{Mark, Stamped};

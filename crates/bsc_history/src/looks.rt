@@ -1,5 +1,5 @@
 //! What a call found of the outboxes that it looked at.
-ghost use Rattle.std.specs.Prelude.{◌≡◌};
+ghost use Rattle.std.specs.Prelude.{◌≡◌, ◌==◌, length};
 
 use std::marker::Model;
 
@@ -33,9 +33,32 @@ impl Looks {
         Looks { list }
     }
 
+    /// The vector that the looks stand in. No memory is taken.
+    pub fn into_vec(self) -> Vec<Look>
+        ensures { result.items ≡ self }
+    {
+        let Looks { list } = self;
+        list
+    }
+
+    /// The looks, in order.
     pub fn as_slice(&self) -> &[Look]
         ensures { result.now ≡ self.now }
     {
         self.list.as_slice()
+    }
+
+    /// How many looks there are.
+    pub fn len(&self) -> usize
+        ensures { result ≡ length self.now }
+    {
+        self.list.len()
+    }
+
+    /// Whether there are none.
+    pub fn is_empty(&self) -> bool
+        ensures { result ≡ (length self.now == 0) }
+    {
+        self.list.is_empty()
     }
 }

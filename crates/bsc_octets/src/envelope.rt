@@ -9,20 +9,33 @@
 //! | then 0 or 6 | Destination Virtual Address |
 #![tactic(auto)]
 
-ghost use Rattle.std.specs.Prelude.{◌≡◌, ◌≤◌, ◌+◌, IfOk, length, take, drop};
-ghost use Rattle.bsc_octets.specs.Envelopes.{envelope_of, SpellsEnvelope};
+ghost use Rattle.std.specs.Prelude.{◌≡◌, ◌↔◌, ◌≤◌, ◌<◌, ◌+◌, ◌^◌, IsTrue, IsNone, IsSome, IfOk, IsOkAnd, length, take, drop};
+ghost use Rattle.bsc_octets.specs.declared.envelope.Envelope.{Envelope};
+ghost use Rattle.bsc_octets.specs.Envelopes.{envelope_of, SpellsEnvelope, HasWholeAddresses, announced_length, announces_origin, announces_dest, flags_in};
+ghost use Rattle.bsc_octets.specs.Forwarding.{has_route};
 
 use crate::vmac::Vmac;
 use byteorder::{BigEndian, ByteOrder};
 use thiserror::Error;
 
+/// Bit 3 of the control flags: an Originating Virtual Address is present.
+pub(crate) const ORIGIN_PRESENT: u8 = 8;
+
+/// Bit 2 of the control flags: a Destination Virtual Address is present.
+pub(crate) const DEST_PRESENT: u8 = 4;
+
 /// The first part of a message (Annex AB, "General BVLC Message Format").
 #[derive(Clone, Copy, Debug, PartialEq, Eq)]
 pub struct Envelope {
+    /// The BVLC Function.
     pub function: u8,
+    /// The Control Flags, all eight.
     pub flags: u8,
+    /// The Message ID.
     pub id: u16,
+    /// The Originating Virtual Address.
     pub origin: Option<Vmac>,
+    /// The Destination Virtual Address.
     pub dest: Option<Vmac>,
     /// The place after the addresses, where header options and payload begin.
     pub rest_at: usize,
@@ -39,7 +52,8 @@ pub enum EnvelopeFault {
     Cut,
 }
 
-fn vmac_at(m: &[u8], at: usize) -> Vmac
+/// The address in the six octets from place `at`.
+pub(crate) fn vmac_at(m: &[u8], at: usize) -> Vmac
     requires { at + 6 ≤ length m.now }
     ensures { result.0 ≡ take 6 (drop at m.now) }
 {
@@ -48,9 +62,27 @@ fn vmac_at(m: &[u8], at: usize) -> Vmac
     Vmac(octets)
 }
 
+#[tactic(auto, using(crate::proofs::Flags::flag_tests))]
+fn announces_origin(flags: u8) -> bool
+    ensures { result ≡ announces_origin flags }
+{
+    flags & ORIGIN_PRESENT != 0
+}
+
+#[tactic(auto, using(crate::proofs::Flags::flag_tests))]
+fn announces_dest(flags: u8) -> bool
+    ensures { result ≡ announces_dest flags }
+{
+    flags & DEST_PRESENT != 0
+}
+
 #[tactic(auto, unfolding(crate::specs::Envelopes::envelope_of))]
 fn envelope_at_front(m: &[u8]) -> Result<Envelope, EnvelopeFault>
-    ensures { result ≡ envelope_of m.now }
+    ensures read { result ≡ envelope_of m.now }
+    ensures whole { IfOk result HasWholeAddresses }
+    ensures short { (result ≡ Err EnvelopeFault.Short) ↔ (length m.now < 4) }
+    ensures cut { (result ≡ Err EnvelopeFault.Cut) ↔ ((4 ≤ length m.now) × (length m.now < 4 + announced_length (flags_in m.now))) }
+    ensures route { IsTrue (has_route m.now) ↔ IsOkAnd result (λ e. IsNone e.origin × IsSome e.dest) }
 {
     if m.len() < 4 {
         return Err(EnvelopeFault::Short);
@@ -58,7 +90,7 @@ fn envelope_at_front(m: &[u8]) -> Result<Envelope, EnvelopeFault>
     let flags = m[1];
     let mut at = 4;
     let mut origin = None;
-    if flags / 8 % 2 == 1 {
+    if announces_origin(flags) {
         if m.len() < at + 6 {
             return Err(EnvelopeFault::Cut);
         }
@@ -66,7 +98,7 @@ fn envelope_at_front(m: &[u8]) -> Result<Envelope, EnvelopeFault>
         at += 6;
     }
     let mut dest = None;
-    if flags / 4 % 2 == 1 {
+    if announces_dest(flags) {
         if m.len() < at + 6 {
             return Err(EnvelopeFault::Cut);
         }
@@ -85,8 +117,20 @@ fn envelope_at_front(m: &[u8]) -> Result<Envelope, EnvelopeFault>
 
 /// The envelope that a message begins with. No memory is taken.
 pub fn read_envelope(m: &[u8]) -> Result<Envelope, EnvelopeFault>
+    // What is found is spelled by the message, and no other envelope is.
+    ensures found { IfOk result (λ e. SpellsEnvelope e m.now) }
+    ensures whole { IfOk result HasWholeAddresses }
+    ensures only { (e : Envelope) → HasWholeAddresses e → e.id < 2 ^ 16 → SpellsEnvelope e m.now → result ≡ Ok e }
+
+    // There is none below four octets, or where octets of an announced address are missing.
+    ensures short { (result ≡ Err EnvelopeFault.Short) ↔ (length m.now < 4) }
+    ensures cut { (result ≡ Err EnvelopeFault.Cut) ↔ ((4 ≤ length m.now) × (length m.now < 4 + announced_length (flags_in m.now))) }
+
+    // The hub passes on what has a Destination and no Originating address.
+    ensures route { IsTrue (has_route m.now) ↔ IsOkAnd result (λ e. IsNone e.origin × IsSome e.dest) }
+
+    // The same, as it is read from the front.
     ensures read { result ≡ envelope_of m.now }
-    ensures spelled { IfOk result (λ e. SpellsEnvelope e m.now) }
 {
     envelope_at_front(m)
 }

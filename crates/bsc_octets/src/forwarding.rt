@@ -2,38 +2,32 @@
 #![tactic(auto)]
 
 ghost use Rattle.std.specs.Prelude.{◌≡◌, ◌≤◌, IsTrue, IfOk, length, take, drop};
-ghost use Rattle.bsc_octets.specs.Forwarding.{out, destination, has_route, is_broadcast, flags_out, kept};
+ghost use Rattle.bsc_octets.specs.Envelopes.{SpellsEnvelope};
+ghost use Rattle.bsc_octets.specs.Forwarding.{out, envelope_out, has_route, is_broadcast, flags_out, kept};
 
+use crate::envelope::{DEST_PRESENT, ORIGIN_PRESENT, vmac_at};
 use crate::no_memory::NoMemory;
 use crate::octets::Octets;
 use crate::vmac::Vmac;
 use std::alloc::Global;
 
-/// The Destination of a message that has one and no Originating address.
-fn destination_in(m: &[u8]) -> Vmac
-    requires { 10 ≤ length m.now }
-    ensures { result ≡ destination m.now }
-{
-    let mut octets = [0u8; 6];
-    octets.copy_from_slice(&m[4..10]);
-    Vmac(octets)
-}
-
+/// Whether the Destination, in a message with no Originating address, is the broadcast address.
 fn is_to_all(m: &[u8]) -> bool
     requires { 10 ≤ length m.now }
     ensures { result ≡ is_broadcast m.now }
 {
-    destination_in(m) == Vmac::BROADCAST
+    vmac_at(m, 4) == Vmac::BROADCAST
 }
 
+/// The flags with the Originating address announced, and with a unicast's Destination no longer.
 fn new_flags(m: &[u8]) -> u8
     requires { 10 ≤ length m.now }
     ensures { result ≡ flags_out m.now }
 {
     if is_to_all(m) {
-        m[1] | 8
+        m[1] | ORIGIN_PRESENT
     } else {
-        (m[1] | 8) & 251
+        (m[1] | ORIGIN_PRESENT) & !DEST_PRESENT
     }
 }
 
@@ -45,10 +39,8 @@ fn kept_destination(m: &[u8]) -> &[u8]
     if is_to_all(m) { &m[4..10] } else { &m[10..10] }
 }
 
-/// The message as the hub passes it on, from a sender at `from` (Annex AB, "Hub Function Forwarding"):
-/// the Originating address is put in, a unicast's Destination is taken out, and all else is kept.
 #[tactic(auto, unfolding(crate::specs::Forwarding::out))]
-pub fn forwarded(alloc: Global, m: &[u8], from: Vmac) -> Result<Octets, NoMemory>
+fn octets_out(alloc: Global, m: &[u8], from: Vmac) -> Result<Octets, NoMemory>
     requires { IsTrue (has_route m.now) }
     ensures { IfOk result (λ o. o ≡ out m.now from) }
 {
@@ -60,4 +52,16 @@ pub fn forwarded(alloc: Global, m: &[u8], from: Vmac) -> Result<Octets, NoMemory
     octets.extend_from_slice(kept_destination(m))?;
     octets.extend_from_slice(&m[10..])?;
     Ok(Octets::from_vec(octets))
+}
+
+/// The message as the hub passes it on, from a sender at `from` (Annex AB, "Hub Function Forwarding"):
+/// the Originating address is put in, a unicast's Destination is taken out, and all else is kept.
+pub fn forwarded(alloc: Global, m: &[u8], from: Vmac) -> Result<Octets, NoMemory>
+    requires { IsTrue (has_route m.now) }
+    ensures passed_on { IfOk result (λ o. o ≡ out m.now from) }
+
+    // It has an envelope again: function and ID as they were, and with that origin.
+    ensures envelope { IfOk result (λ o. SpellsEnvelope (envelope_out m.now from) o) }
+{
+    octets_out(alloc, m, from)
 }

@@ -16,19 +16,25 @@ use crate::vmac::Vmac;
 use byteorder::{BigEndian, ByteOrder};
 use uuid::Uuid;
 
-/// Who connects: its address, its device, and the longest message and NPDU that it takes, in octets.
+/// Who connects: its address, its device, and the longest message and NPDU that it accepts, in octets.
 #[derive(Clone, Copy, Debug, PartialEq, Eq)]
 pub struct Identity {
+    /// The VMAC.
     pub vmac: Vmac,
+    /// The Device UUID.
     pub device: DeviceId,
+    /// The Maximum BVLC Length.
     pub max_bvlc: u16,
+    /// The Maximum NPDU Length.
     pub max_npdu: u16,
 }
 
 impl Identity {
     /// The 26 octets of the identity.
     pub fn octets(&self) -> [u8; 26]
-        ensures { result ≡ identity_octets self.now }
+        ensures spelled { result ≡ identity_octets self.now }
+        // They say this identity.
+        ensures read_back { identity_of result ≡ self.now }
     {
         let mut out = [0u8; 26];
         write_identity(&mut out, self);
@@ -38,7 +44,8 @@ impl Identity {
 
 fn write_identity(out: &mut [u8], who: &Identity)
     requires { length out.old ≡ 26 }
-    ensures { out.new ≡ identity_octets who.now }
+    ensures spelled { out.new ≡ identity_octets who.now }
+    ensures read_back { identity_of out.new ≡ who.now }
 {
     let (vmac, rest) = out.split_at_mut(6);
     let (device, rest) = rest.split_at_mut(16);
@@ -70,7 +77,9 @@ fn sixteen(b: &[u8]) -> [u8; 16]
 /// The identity that 26 octets say.
 pub fn read_identity(b: &[u8]) -> Identity
     requires { length b.now ≡ 26 }
-    ensures { result ≡ identity_of b.now }
+    ensures read { result ≡ identity_of b.now }
+    // No other octets say this identity.
+    ensures spelled { identity_octets result ≡ b.now }
 {
     Identity {
         vmac: Vmac(six(b)),

@@ -20,3 +20,6 @@ pub use identity::{Identity, read_identity};
 pub use no_memory::NoMemory;
 pub use octets::Octets;
 pub use vmac::Vmac;
+
+#[cfg(test)]
+mod tests;

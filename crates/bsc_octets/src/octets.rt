@@ -34,6 +34,7 @@ impl Octets {
         self.bytes
     }
 
+    /// The octets, in place.
     pub fn as_slice(&self) -> &[u8]
         ensures { result.now ≡ self.now }
     {
@@ -47,6 +48,7 @@ impl Octets {
         self.bytes.len()
     }
 
+    /// Whether there are none.
     pub fn is_empty(&self) -> bool
         ensures { result ≡ (length self.now == 0) }
     {

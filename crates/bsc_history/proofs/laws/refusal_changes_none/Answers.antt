@@ -1,0 +1,5 @@
+use Rattle.bsc_history.proofs.Takeover.{refusal_changes_none}
+use Rattle.bsc_history.proofs.laws.refusal_changes_none.Goals as goal
+
+pub returns : goal.returns
+returns c = refusal_changes_none
