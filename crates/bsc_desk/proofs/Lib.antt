@@ -1,0 +1,14 @@
+pub mod Passing
+pub mod Places
+pub mod Changes
+pub mod Found
+pub mod Taken
+pub mod Histories
+pub mod LiveRows
+pub mod Entering
+pub mod Standing
+pub mod Connects
+pub mod Choosing
+pub mod Unicasts
+pub mod Forwards
+pub mod Rowed

@@ -1,0 +1,28 @@
+use Rattle.std.proofs.Common.{refl, arith, ap, ◌∙◌, ◌++◌, ◌∷◌, [], List, find, is_some}
+use Rattle.bsc_history.specs.Counting.{one_if}
+use Rattle.bsc_desk.specs.declared.row.Row.{Row}
+use Rattle.bsc_desk.specs.Rows.{taken_in}
+use Rattle.bsc_desk.proofs.Changes.{has_number}
+use Rattle.bsc_desk.proofs.Connects.{stands_joined, entered_joined, taken_joined, one_at_most}
+use Rattle.bsc_desk.proofs.desk.Desk.join.Goals as goal
+
+pub invariant_of-self-clause-counted : goal.invariant_of-self-clause-counted
+invariant_of-self-clause-counted c =
+    let k = c.args.self.now.counted in
+    let one = c.one_if.ensures ∙ ap one_if c.is_some.ensures in
+    let few = one_at_most (is_some c.args.row.replaced) in
+    record { joined = omega arith; replaced = omega arith; refused = omega arith; unicasts = omega arith; broadcasts = omega arith; appended = omega arith; dropped = omega arith; full = omega arith }
+
+pub invariant_of-self-clause-entered : goal.invariant_of-self-clause-entered
+invariant_of-self-clause-entered c = rw (c.push_reserved.ensures.items, c.finish.ensures.items) (entered_joined c.args.self.now.made c.args.self.now.rows.items _ c.args.row.replaced c.args.self.now.entered c.requires.new_inlet.takes c.requires.new_inlet.waits)
+
+pub returns-clause-stands : goal.returns-clause-stands
+returns-clause-stands c h s l =
+    let new : Row = record { connection = record { number = c.args.row.conn; caller = c.args.caller; who = c.args.who }; inlet = c.args.inlet } in
+    stands_joined c.args.self.now _ h c.args.caller c.args.who c.args.row.conn c.args.row.replaced new c.one_if.result s l refl refl refl (c.one_if.ensures ∙ ap one_if c.is_some.ensures) refl (c.push_reserved.ensures.items ∙ ap (λ (rs : List Row). rs ++ new ∷ []) c.finish.ensures.items) refl c.requires.new_inlet
+
+pub returns-clause-taken : goal.returns-clause-taken
+returns-clause-taken c k =
+    let new : Row = record { connection = record { number = c.args.row.conn; caller = c.args.caller; who = c.args.who }; inlet = c.args.inlet } in
+    ap (λ (rs : List Row). taken_in (find (has_number k) rs)) (c.push_reserved.ensures.items ∙ ap (λ (rs : List Row). rs ++ new ∷ []) c.finish.ensures.items)
+    ∙ taken_joined c.args.self.now.rows.items new c.args.row.replaced k c.requires.new_inlet.takes

@@ -1,0 +1,27 @@
+//! The hub of one thread: each of its calls adds one legal entry to its history.
+//!
+//! Start at `specs/Standing.antt`, which says what it is for a desk to stand for a history, and at
+//! `connecting` and `forwarding`, whose clauses say which entry a call adds. The desk stores rows, counts
+//! and outboxes, and no history. The live connections are those of the rows that have no End.
+#![tactic(auto)]
+
+mod connecting;
+mod desk;
+mod forwarding;
+mod making;
+mod outbox;
+mod prepared;
+mod row;
+mod rows;
+mod taking;
+#[cfg(test)]
+mod tests;
+
+pub use bsc_history::{About, Limits};
+pub use connecting::{NewRow, NoRow};
+pub use desk::Desk;
+pub use forwarding::OneReply;
+pub use making::inlet;
+pub use outbox::{Inlet, Outlet, Take};
+pub use prepared::{Prepared, prepare};
+pub use row::Row;

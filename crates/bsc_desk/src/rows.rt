@@ -1,0 +1,119 @@
+//! What is done to the outboxes of rows, by the number of a connection.
+#![tactic(auto)]
+
+ghost use Rattle.std.specs.Prelude.{◌≡◌, ◌==◌, position, find, Some, option_copied, nat_lt, vec_len, vec_capacity, IsTrue};
+ghost use Rattle.std.specs.List.{list_any, list_all};
+ghost use Rattle.bsc_desk.specs.Rows.{taken_in, waiting_in, ending_in};
+ghost use Rattle.bsc_desk.specs.Taking.{next_taken};
+ghost use Rattle.bsc_desk.specs.Choices.{full_in};
+ghost use Rattle.bsc_desk.specs.Inlets.{is_row, done_at, with_end, with_frame, without_first};
+
+use crate::outbox::Take;
+use crate::row::Row;
+use bsc_history::End;
+use bsc_octets::Octets;
+
+/// The place of the row of a connection.
+fn place_of(rows: &[Row], conn: u64) -> Option<usize>
+    ensures { result ≡ position (λ r. r.connection.number == conn) rows.now }
+{
+    rows.iter().position(|row| row.connection.number == conn)
+}
+
+/// Finishes the outbox of a connection with an End.
+fn finish_one(rows: &mut Vec<Row>, conn: u64, ending: End)
+    ensures items { rows.new.items ≡ done_at (Some conn) (with_end ending) rows.old.items }
+    ensures len { vec_len rows.new ≡ vec_len rows.old }
+    ensures capacity { vec_capacity rows.new ≡ vec_capacity rows.old }
+{
+    match place_of(rows, conn) {
+        None => {}
+        Some(place) => {
+            let row = &mut rows[place];
+            row.inlet.finish(ending);
+        }
+    }
+}
+
+/// Finishes the outbox of a connection, if one is given, with an End.
+#[tactic(auto, using(crate::proofs::Places::not_done))]
+pub(crate) fn finish(rows: &mut Vec<Row>, conn: Option<u64>, ending: End)
+    ensures items { rows.new.items ≡ done_at conn (with_end ending) rows.old.items }
+    ensures len { vec_len rows.new ≡ vec_len rows.old }
+    ensures capacity { vec_capacity rows.new ≡ vec_capacity rows.old }
+{
+    match conn {
+        None => {}
+        Some(conn) => finish_one(rows, conn, ending),
+    }
+}
+
+/// Puts a frame into the outbox of a connection. One that finds no room is dropped.
+pub(crate) fn push(rows: &mut Vec<Row>, conn: u64, frame: Octets)
+    ensures items { rows.new.items ≡ done_at (Some conn) (with_frame frame) rows.old.items }
+    ensures len { vec_len rows.new ≡ vec_len rows.old }
+    ensures capacity { vec_capacity rows.new ≡ vec_capacity rows.old }
+{
+    match place_of(rows, conn) {
+        None => {}
+        Some(place) => {
+            let row = &mut rows[place];
+            row.inlet.push(frame);
+        }
+    }
+}
+
+/// The row of a connection.
+fn row_of(rows: &[Row], conn: u64) -> Option<&Row>
+    ensures { option_copied result ≡ find (λ r. r.connection.number == conn) rows.now }
+{
+    rows.iter().find(|row| row.connection.number == conn)
+}
+
+/// How many frames were taken from the outbox of a connection.
+pub(crate) fn taken_at(rows: &[Row], conn: u64) -> u64
+    ensures { result ≡ taken_in (find (λ r. r.connection.number == conn) rows.now) }
+{
+    match row_of(rows, conn) {
+        Some(row) => row.inlet.taken,
+        None => 0,
+    }
+}
+
+/// How a connection has ended, if it has.
+pub(crate) fn ending_at(rows: &[Row], conn: u64) -> Option<End>
+    ensures { result ≡ ending_in (find (λ r. r.connection.number == conn) rows.now) }
+{
+    match row_of(rows, conn) {
+        Some(row) => row.inlet.ending,
+        None => None,
+    }
+}
+
+/// Whether the outbox of a connection is full.
+pub(crate) fn is_full_at(rows: &[Row], conn: u64) -> bool
+    ensures { result ≡ full_in (find (λ r. r.connection.number == conn) rows.now) }
+{
+    match row_of(rows, conn) {
+        Some(row) => row.inlet.is_full(),
+        None => false,
+    }
+}
+
+/// Takes the next frame from the outbox of a connection that has a row.
+pub(crate) fn take_at(rows: &mut Vec<Row>, conn: u64) -> Take
+    requires some_row { IsTrue (list_any (λ r. r.connection.number == conn) rows.old.items) }
+    requires few { IsTrue (list_all (λ r. nat_lt r.inlet.taken 18446744073709551615) rows.old.items) }
+    ensures given { result ≡ next_taken (waiting_in (find (λ r. r.connection.number == conn) rows.old.items)) (ending_in (find (λ r. r.connection.number == conn) rows.old.items)) }
+    ensures items { rows.new.items ≡ done_at (Some conn) without_first rows.old.items }
+    ensures len { vec_len rows.new ≡ vec_len rows.old }
+    ensures capacity { vec_capacity rows.new ≡ vec_capacity rows.old }
+{
+    match place_of(rows, conn) {
+        None => unreachable!(),
+        Some(place) => {
+            let row = &mut rows[place];
+            row.inlet.take()
+        }
+    }
+}

@@ -1,0 +1,10 @@
+use Rattle.std.proofs.Common.{◌-◌, ◌≤◌}
+use Rattle.bsc_replay.proofs.Playing.{PlaysOn}
+use Rattle.bsc_replay.proofs.replaying.replay.Given as goal
+
+abbrev pub invariant-loop-octets : goal.invariant-loop-octets
+invariant-loop-octets g l = PlaysOn (g.S.Source.left l.fn.source) (g.K.Sink.held l.fn.sink) (g.S.Source.left l.source) (g.K.Sink.held l.sink) l.feed l.stage l.number
+    × (g.S.Source.faults l.fn.source ≤ g.S.Source.faults l.source) × (g.K.Sink.faults l.fn.sink ≤ g.K.Sink.faults l.sink)
+
+abbrev pub decreases-loop-octets : goal.decreases-loop-octets
+decreases-loop-octets g l = 1099511627776 - l.feed.count
