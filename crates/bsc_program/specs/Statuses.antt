@@ -8,18 +8,12 @@ use Rattle.bsc_replay.specs.declared.replaying.ReplayEnd.TheVariants.{Done, BadL
 abbrev pub replay_words : List (List ℕ)
 replay_words = codes "replay" ∷ []
 
--- the last line of a run whose words are refused, whose script is refused at line n, whose source failed, that ran out of memory
+-- the last line of a run whose words are refused, and of one whose script is refused at line n
 abbrev pub words_line : List ℕ
 words_line = codes "fault words\n"
 
 abbrev pub script_line : ℕ → List ℕ
 script_line n = codes "fault script line " ++ decimal n ++ codes "\n"
-
-abbrev pub read_line : List ℕ
-read_line = codes "fault read\n"
-
-abbrev pub memory_line : List ℕ
-memory_line = codes "fault memory\n"
 
 -- Line n of the script o is the first that is refused; the text of the lines before it, and then the last line, were written after t.
 pub record RefusesLine (n : ℕ) (o t : List ℕ) (held : Option (List ℕ)) : Type 0 where

@@ -4,7 +4,7 @@
 ghost use Rattle.std.specs.Prelude.{◌≡◌, ◌≢◌, ◌≤◌, ◌⊎◌, ◌++◌, ◌==◌, ℕ, List, Some, map, string_bytes, ◌↔◌, IsTrue, IfOk};
 ghost use Rattle.bsc_replay.specs.Faults.{Rose};
 ghost use Rattle.bsc_replay.specs.Replaying.{WritesAll};
-ghost use Rattle.bsc_program.specs.Statuses.{replay_words, script_line, RefusesSome, RefusedAt, EndsReplay, IsStatus};
+ghost use Rattle.bsc_program.specs.Statuses.{replay_words, words_line, script_line, RefusesSome, RefusedAt, EndsReplay, IsStatus};
 
 use bsc_octets::NoMemory;
 use bsc_replay::{ReplayEnd, Sink, Source, replay};
@@ -97,6 +97,7 @@ pub fn run<S: Source, K: Sink>(alloc: Global, words: &[String], source: &mut S, 
     ensures refused { (o t : List ℕ) → result ≡ 2 → S.left source.old ≡ Some o → K.held sink.old ≡ Some t →
         RefusesSome o t (K.held sink.new) }
     ensures words { result ≡ 1 → map string_bytes words.now ≢ replay_words }
+    ensures words_told { (t : List ℕ) → result ≡ 1 → K.held sink.old ≡ Some t → K.held sink.new ≡ Some (t ++ words_line) }
     ensures other_words { map string_bytes words.now ≢ replay_words → (result ≡ 1) ⊎ (result ≡ 4) }
     ensures read { result ≡ 3 → Rose (S.faults source.old) (S.faults source.new) }
     ensures write { result ≡ 4 → Rose (K.faults sink.old) (K.faults sink.new) }

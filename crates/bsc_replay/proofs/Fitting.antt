@@ -1,6 +1,6 @@
 -- A hub line says a hub that may be made.
-use Rattle.std.proofs.Common.{◌≡◌, ℕ, ◌≤◌, ◌*◌, Bool, true, false, cond, not, nat_le, ◌&&◌, List, [], ◌∷◌, refl, ap, sym, ◌∙◌, subst, arith, codes, Option, Some, None}
-use Rattle.std.specs.Prelude.{⊤, IfOk, Result, Ok, Err}
+use Rattle.std.proofs.Common.{◌≡◌, ℕ, ◌*◌, Bool, true, false, cond, not, nat_le, ◌&&◌, List, [], ◌∷◌, refl, subst, arith, codes, Option, Some, None}
+use Rattle.std.specs.Prelude.{IfOk, Result, Ok, Err}
 use Rattle.bsc_replay.specs.declared.script.LineFault.{LineFault}
 use Rattle.std.proofs.lemmas.Bool.{and_parts, leb-true}
 use Rattle.bsc_octets.specs.declared.vmac.Vmac.{Vmac}

@@ -1,29 +1,25 @@
 -- A forward, as its scene has it.
-use Rattle.std.proofs.Common.{◌≡◌, ◌≢◌, ℕ, ◌+◌, ◌<◌, ◌≤◌, ◌==◌, Bool, true, false, not, ◌||◌, ◌&&◌, cond, nat_le, inl, inr, ◌⊎◌, List, [], ◌∷◌, ◌++◌, length, map, filter, find, option_to_list, refl, ap, sym, ◌∙◌, subst, append_assoc, append-nil, true≢false, arith, Option, Some, None, Result, Ok, Err}
-use Rattle.std.specs.Prelude.{IsTrue, OnOk, ⊤}
+use Rattle.std.proofs.Common.{◌≡◌, ℕ, ◌≤◌, ◌==◌, Bool, true, false, ◌||◌, ◌&&◌, cond, nat_le, inl, inr, ◌⊎◌, List, [], ◌∷◌, ◌++◌, length, map, filter, find, refl, ap, sym, ◌∙◌, subst, append-nil, Some, Result, Ok, Err}
+use Rattle.std.specs.Prelude.{OnOk, ⊤}
 use Rattle.std.specs.List.{list_any, AllByRecursion}
 use Rattle.std.specs.Option.{option_map}
-use Rattle.std.proofs.lemmas.List.{map-append}
 use Rattle.std.proofs.lemmas.Bool.{eqb-true, eq-eqb, leb-true}
 use Rattle.std.proofs.Math.Bool.{or-true}
 use Rattle.bsc_octets.specs.declared.no_memory.NoMemory.{NoMemory}
 use Rattle.bsc_octets.specs.Addresses.{same_vmac}
 use Rattle.bsc_history.specs.declared.limits.About.{About}
 use Rattle.bsc_history.specs.declared.entry.Entry.{Entry}
-use Rattle.bsc_history.specs.declared.call.Call.{Call}
 use Rattle.bsc_history.specs.declared.call.Call.TheVariants.{Forward}
 use Rattle.bsc_history.specs.declared.looks.Look.{Look}
 use Rattle.bsc_history.specs.declared.connection.Connection.{Connection}
 use Rattle.bsc_history.specs.declared.reply.Reply.{Reply}
-use Rattle.bsc_history.specs.Entries.{moment}
 use Rattle.bsc_history.specs.Ends.{unleft}
 use Rattle.bsc_history.specs.Replies.{reply}
-use Rattle.bsc_history.specs.Legality.{Legal, looks_at}
 use Rattle.bsc_history.proofs.More.{unleft-more, filter_true, Legal-front}
 use Rattle.bsc_history.proofs.Uniqueness.{vmac_refl}
 use Rattle.bsc_desk.specs.declared.desk.Desk.{Desk}
 use Rattle.bsc_desk.specs.declared.row.Row.{Row}
-use Rattle.bsc_desk.specs.Rows.{taken_of, taken_in, IsRowOf}
+use Rattle.bsc_desk.specs.Rows.{taken_of, IsRowOf}
 use Rattle.bsc_desk.specs.Standing.{StandsFor, connection}
 use Rattle.bsc_desk.specs.Entries.{forward_entry}
 use Rattle.bsc_replay.specs.declared.member.Member.{Member as Joined}

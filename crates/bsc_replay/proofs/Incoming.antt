@@ -1,5 +1,5 @@
 -- A message that comes in, as its scene has it.
-use Rattle.std.proofs.Common.{◌≡◌, ℕ, ◌==◌, Bool, true, false, not, ◌&&◌, cond, List, ◌++◌, find, refl, ap, sym, ◌∙◌, subst, is_some, is_none, Option, Some, None, Result, Ok, Err}
+use Rattle.std.proofs.Common.{◌≡◌, ℕ, Bool, true, false, not, cond, List, ◌++◌, find, refl, ap, sym, ◌∙◌, subst, is_some, is_none, Option, Some, None, Result, Ok, Err}
 use Rattle.std.specs.Prelude.{OnOk, ⊤}
 use Rattle.std.specs.Option.{option_map}
 use Rattle.bsc_octets.specs.declared.identity.Identity.{Identity}
@@ -7,13 +7,12 @@ use Rattle.bsc_octets.specs.declared.no_memory.NoMemory.{NoMemory}
 use Rattle.bsc_octets.specs.Forwarding.{id_in}
 use Rattle.bsc_history.specs.declared.connection.Connection.{Connection}
 use Rattle.bsc_history.specs.Holders.{of_device}
-use Rattle.bsc_replay.specs.declared.member.Member.{Member as Joined}
 use Rattle.bsc_replay.specs.declared.stage.Stage.{Stage}
 use Rattle.bsc_replay.specs.Lines.{same_octets}
 use Rattle.bsc_replay.specs.Messages.{is_connect_request, asks_for, asker_of}
 use Rattle.bsc_replay.specs.Texts.{unbuilt_text}
-use Rattle.bsc_replay.specs.Scenes.{Member, Scene, is_waiting, member_of}
-use Rattle.bsc_replay.specs.Turns.{Turn, connect_turn, unbuilt_turn, waiting_turn, either_turn, member_turn, in_turn}
+use Rattle.bsc_replay.specs.Scenes.{Scene, is_waiting, member_of}
+use Rattle.bsc_replay.specs.Turns.{Turn, connect_turn, unbuilt_turn, waiting_turn, either_turn, in_turn}
 use Rattle.bsc_replay.specs.Holding.{shown, connection_in, Holds}
 use Rattle.bsc_replay.specs.Steps.{CarriesOut, SomeSender}
 use Rattle.bsc_replay.proofs.Forwards.{member_found, found_sender, found_outlet}

@@ -1,6 +1,6 @@
 -- A connect, as its scene has it.
-use Rattle.std.proofs.Common.{◌≡◌, ◌≢◌, ℕ, ◌+◌, ◌<◌, ◌≤◌, ◌==◌, Bool, true, false, not, ◌||◌, cond, nat_le, List, [], ◌∷◌, ◌++◌, length, map, filter, find, option_to_list, refl, ap, sym, ◌∙◌, subst, append_assoc, append-nil, true≢false, arith, Option, Some, None, Result, Ok, Err}
-use Rattle.std.specs.Prelude.{IsTrue, OnOk, ⊤}
+use Rattle.std.proofs.Common.{◌≡◌, ℕ, ◌==◌, Bool, true, false, not, ◌||◌, cond, nat_le, List, [], ◌∷◌, ◌++◌, length, map, filter, find, refl, ap, sym, ◌∙◌, subst, append-nil, true≢false, arith, Option, Some, None, Result, Ok, Err}
+use Rattle.std.specs.Prelude.{OnOk, ⊤}
 use Rattle.std.specs.List.{list_any, AllByRecursion}
 use Rattle.std.proofs.lemmas.List.{map-append}
 use Rattle.bsc_octets.specs.declared.identity.Identity.{Identity}
@@ -12,8 +12,8 @@ use Rattle.bsc_history.specs.declared.connection.Connection.{Connection}
 use Rattle.bsc_history.specs.declared.reply.Reply.{Reply}
 use Rattle.bsc_history.specs.declared.reply.Reply.TheVariants.{Joined as JoinedReply, Refused as RefusedReply}
 use Rattle.bsc_history.specs.declared.reply.Refusal.{Refusal}
-use Rattle.bsc_history.specs.Entries.{connection_of, joins, moment}
-use Rattle.bsc_history.specs.Ends.{joined, leaves, unleft}
+use Rattle.bsc_history.specs.Entries.{connection_of, joins}
+use Rattle.bsc_history.specs.Ends.{leaves, unleft}
 use Rattle.bsc_history.specs.Replies.{connect_reply}
 use Rattle.bsc_history.specs.Legality.{Legal}
 use Rattle.bsc_history.proofs.More.{unleft-more, filter_true, Legal-front}
@@ -23,16 +23,16 @@ use Rattle.bsc_desk.specs.declared.desk.Desk.{Desk}
 use Rattle.bsc_desk.specs.declared.row.Row.{Row}
 use Rattle.bsc_desk.specs.Rows.{taken_of, taken_in}
 use Rattle.bsc_desk.specs.Standing.{StandsFor, connection}
-use Rattle.bsc_desk.specs.Entries.{connect_entry, connect_due, connect_adds}
+use Rattle.bsc_desk.specs.Entries.{connect_entry, connect_due}
 use Rattle.bsc_replay.specs.declared.member.Member.{Member as Joined}
 use Rattle.bsc_replay.specs.declared.stage.Stage.{Stage}
 use Rattle.bsc_replay.specs.Texts.{connect_text}
 use Rattle.bsc_replay.specs.Scenes.{Member, Scene, reply_in, entry_in, names_without}
-use Rattle.bsc_replay.specs.Turns.{is_worn, entered, with_member, without_waiting, after_connect, connect_turn}
+use Rattle.bsc_replay.specs.Turns.{is_worn, with_member, without_waiting, after_connect, connect_turn}
 use Rattle.bsc_replay.specs.Holding.{shown, connection_in, IsMemberOf, Holds}
 use Rattle.bsc_replay.specs.Steps.{CarriesOut}
 use Rattle.bsc_replay.proofs.Outboxes.{any_mapped}
-use Rattle.bsc_replay.proofs.Members.{number_in, each_kept}
+use Rattle.bsc_replay.proofs.Members.{each_kept}
 
 -- what is due says whether the hub is worn, and the reply
 due_cases : (w : Bool) (r q : Reply) → Some r ≡ (cond w None (Some q)) → (w ≡ false) × (q ≡ r)

@@ -14,4 +14,5 @@ pub mod Incoming
 pub mod Turned
 pub mod Fitting
 pub mod Playing
+pub mod Stopping
 mod WorkedScripts

@@ -1,19 +1,16 @@
 -- Outboxes that are written, a frame at a time.
-use Rattle.std.proofs.Common.{◌≡◌, ◌≢◌, ℕ, ◌+◌, ◌==◌, Bool, true, false, ◌||◌, cond, List, [], ◌∷◌, ◌++◌, length, map, take, drop, flat_map, Option, Some, None, refl, ap, sym, ◌∙◌, subst, append_assoc, append-nil, arith}
-use Rattle.std.specs.Prelude.{IsTrue}
+use Rattle.std.proofs.Common.{◌≡◌, ◌≢◌, ℕ, ◌+◌, ◌==◌, Bool, true, false, ◌||◌, List, [], ◌∷◌, ◌++◌, length, map, drop, flat_map, Option, Some, None, refl, ap, sym, ◌∙◌}
 use Rattle.std.specs.List.{list_any}
 use Rattle.bsc_history.specs.declared.ending.End.{End}
 use Rattle.bsc_history.specs.declared.entry.Entry.{Entry}
 use Rattle.bsc_history.specs.declared.connection.Connection.{Connection}
-use Rattle.bsc_history.specs.Ends.{unleft}
 use Rattle.bsc_desk.specs.declared.desk.Desk.{Desk}
-use Rattle.bsc_desk.specs.declared.row.Row.{Row}
 use Rattle.bsc_desk.specs.declared.outbox.Outlet.{Outlet}
 use Rattle.bsc_desk.specs.declared.outbox.Take.{Take}
-use Rattle.bsc_desk.specs.declared.outbox.Take.TheVariants.{Frame, Empty, Closed}
+use Rattle.bsc_desk.specs.declared.outbox.Take.TheVariants.{Frame}
 use Rattle.bsc_desk.specs.Rows.{HasRow, taken_of, waiting_of}
 use Rattle.bsc_desk.specs.Standing.{StandsFor, connection}
-use Rattle.bsc_desk.specs.Taking.{next_taken, KeepsOthers}
+use Rattle.bsc_desk.specs.Taking.{next_taken}
 use Rattle.bsc_replay.specs.Texts.{puts}
 use Rattle.bsc_replay.specs.Steps.{SomeHistory}
 

@@ -1,10 +1,5 @@
 -- A script that is played line by line.
-use Rattle.std.proofs.Common.{◌≡◌, ℕ, ◌+◌, ◌≤◌, ◌<◌, Bool, true, false, cond, List, [], ◌∷◌, ◌++◌, length, refl, ap, sym, ◌∙◌, subst, append_assoc, append-nil, add-zero, arith, Option, Some, None, Result, Ok, Err}
-use Rattle.std.specs.Prelude.{⊤}
-use Rattle.bsc_replay.specs.declared.script.LineFault.{LineFault}
-use Rattle.bsc_replay.specs.declared.script.Line.{Line}
-use Rattle.bsc_replay.specs.declared.replaying.Stop.{Stop}
-use Rattle.bsc_replay.specs.declared.replaying.Stop.TheVariants.{Refused as StopRefused}
+use Rattle.std.proofs.Common.{◌≡◌, ℕ, ◌+◌, ◌≤◌, ◌<◌, false, List, [], ◌∷◌, ◌++◌, length, refl, ap, sym, ◌∙◌, append_assoc, append-nil, arith, Option, Some, None}
 use Rattle.bsc_replay.specs.declared.feed.Feed.{Feed}
 use Rattle.bsc_replay.specs.declared.stage.Stage.{Stage}
 use Rattle.bsc_replay.specs.Lines.{pieces_of, line_in, is_too_big}
@@ -12,7 +7,7 @@ use Rattle.bsc_replay.specs.Script.{line_of}
 use Rattle.bsc_replay.specs.Scenes.{Scene}
 use Rattle.bsc_replay.specs.Playing.{Played, Stood, said_after, piece_after, ended_at, play, replay_of}
 use Rattle.bsc_replay.specs.Feeding.{rest_of, GivesLine, HasTooBig, unread}
-use Rattle.bsc_replay.specs.Steps.{HoldsIf, SomeIf, StandsAs, WrittenAs, PlaysTo, end_of}
+use Rattle.bsc_replay.specs.Steps.{HoldsIf, SomeIf, StandsAs, WrittenAs, end_of}
 use Rattle.bsc_replay.specs.Replaying.{WritesAll, WritesTo, Replays}
 
 -- what stands holds some scene
@@ -58,7 +53,7 @@ begins left held feed none zero = record {
 }
 
 -- a line that is carried out
-play_line : (s : Option Scene) (number before : ℕ) (piece : List ℕ) (pieces : List (List ℕ)) (st : Stood) → piece_after s before piece ≡ Some st → play s number before (piece ∷ pieces) ≡ record { text = st.text ++ (play st.scene (number + 1) (before + length piece) pieces).text; refused = (play st.scene (number + 1) (before + length piece) pieces).refused }
+pub play_line : (s : Option Scene) (number before : ℕ) (piece : List ℕ) (pieces : List (List ℕ)) (st : Stood) → piece_after s before piece ≡ Some st → play s number before (piece ∷ pieces) ≡ record { text = st.text ++ (play st.scene (number + 1) (before + length piece) pieces).text; refused = (play st.scene (number + 1) (before + length piece) pieces).refused }
 unfolding play
 play_line s number before piece pieces st h = rw (h, play) refl
 
@@ -71,7 +66,7 @@ play_end : (s : Option Scene) (number before : ℕ) → play s number before [] 
 unfolding play
 play_end s number before = refl
 
-fits_after : (s : Option Scene) (before : ℕ) (piece : List ℕ) → is_too_big before piece ≡ false → piece_after s before piece ≡ said_after s (line_of (line_in piece))
+pub fits_after : (s : Option Scene) (before : ℕ) (piece : List ℕ) → is_too_big before piece ≡ false → piece_after s before piece ≡ said_after s (line_of (line_in piece))
 fits_after s before piece h = rw h refl
 
 written_as : (stage : Option Stage) (t : List ℕ) (held : Option (List ℕ)) (o : Option Stood) → WrittenAs stage t held o → (st : Stood) × ((o ≡ Some st) × (HoldsIf stage st.scene × (held ≡ Some (t ++ st.text))))

@@ -1,6 +1,6 @@
 -- The turn of a line, carried out in two steps.
-use Rattle.std.proofs.Common.{◌≡◌, ℕ, List, [], ◌++◌, refl, ap, sym, ◌∙◌, subst, append_assoc, append-nil, Option, Some, None, Result, Ok, Err}
-use Rattle.std.specs.Prelude.{OnOk, ⊤}
+use Rattle.std.proofs.Common.{◌≡◌, ℕ, List, ◌++◌, refl, ap, ◌∙◌, append_assoc, Option, Some, None, Ok, Err}
+use Rattle.std.specs.Prelude.{⊤}
 use Rattle.bsc_replay.specs.declared.script.Line.{Line}
 use Rattle.bsc_replay.specs.declared.script.LineFault.{LineFault}
 use Rattle.bsc_replay.specs.declared.script.LineFault.TheVariants.{Refused, NoMemory}

@@ -1,6 +1,6 @@
 -- A stage of which one more member was written.
-use Rattle.std.proofs.Common.{◌≡◌, ◌≢◌, ℕ, zero, suc, ◌+◌, ◌-◌, ◌<◌, ◌≤◌, ◌==◌, Bool, true, false, ◌||◌, cond, List, [], ◌∷◌, ◌++◌, length, map, take, drop, find, flat_map, get_or, set, refl, ap, sym, ◌∙◌, subst, append_assoc, length-drop, append-nil, add-one, arith, Option, Some, None, Result, Ok, Err}
-use Rattle.std.specs.Prelude.{IsTrue, OnOk, ⊤}
+use Rattle.std.proofs.Common.{◌≡◌, ◌≢◌, ℕ, zero, suc, ◌+◌, ◌<◌, ◌≤◌, ◌==◌, Bool, true, false, ◌||◌, cond, List, [], ◌∷◌, ◌++◌, length, map, take, drop, find, flat_map, get_or, set, refl, ap, sym, ◌∙◌, subst, append_assoc, length-drop, append-nil, add-one, arith, Option, Some, Result, Ok, Err}
+use Rattle.std.specs.Prelude.{OnOk, ⊤}
 use Rattle.bsc_octets.specs.declared.no_memory.NoMemory.{NoMemory}
 use Rattle.std.specs.List.{list_any, AllByRecursion}
 use Rattle.std.proofs.lemmas.Bool.{eqb-true, eq-eqb}
@@ -15,14 +15,14 @@ use Rattle.bsc_history.proofs.Numbers.{numbers_are_new}
 use Rattle.bsc_desk.specs.declared.desk.Desk.{Desk}
 use Rattle.bsc_desk.specs.declared.row.Row.{Row}
 use Rattle.bsc_desk.specs.Rows.{HasRow, taken_of, waiting_of, taken_in, waiting_in}
-use Rattle.bsc_desk.specs.Standing.{StandsFor, IsInletOf, connection}
+use Rattle.bsc_desk.specs.Standing.{StandsFor, IsInletOf}
 use Rattle.bsc_replay.specs.declared.member.Member.{Member as Joined}
 use Rattle.bsc_replay.specs.declared.stage.Stage.{Stage}
 use Rattle.bsc_replay.specs.Texts.{puts}
 use Rattle.bsc_replay.specs.Scenes.{Member, Scene, member_written, unwritten_of}
 use Rattle.bsc_replay.specs.Holding.{shown, connection_in, IsMemberOf, Holds}
 use Rattle.bsc_replay.specs.Steps.{SomeHistory, written_to, text_to}
-use Rattle.bsc_replay.proofs.Outboxes.{any_mapped, has_row}
+use Rattle.bsc_replay.proofs.Outboxes.{has_row}
 use Rattle.bsc_replay.proofs.Members.{number_in, all_at, names_step, take_step, rows_step, each_step, apart_members}
 
 -- what waits for a connection is what entered its outbox and wasn't taken

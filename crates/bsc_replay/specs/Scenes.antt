@@ -1,5 +1,5 @@
 -- What stands after some lines of a script.
-use Rattle.std.specs.Prelude.{ℕ, ◌==◌, Bool, not, ◌||◌, List, [], ◌∷◌, ◌++◌, length, map, filter, find, flat_map, drop, Option, Some, None}
+use Rattle.std.specs.Prelude.{ℕ, ◌==◌, Bool, not, ◌||◌, List, [], length, map, filter, find, flat_map, drop, Option, Some, None}
 use Rattle.std.specs.List.{list_any}
 use Rattle.bsc_history.specs.declared.limits.About.{About}
 use Rattle.bsc_history.specs.declared.entry.Entry.{Entry}

@@ -17,6 +17,7 @@ use Rattle.bsc_replay.specs.declared.script.Line.TheVariants.{Nothing, Hub, Open
 use Rattle.bsc_replay.specs.declared.script.LineFault.{LineFault}
 use Rattle.bsc_replay.specs.declared.script.LineFault.TheVariants.{Refused as LineRefused, NoMemory as LineNoMemory}
 use Rattle.bsc_replay.specs.declared.stage.Stage.{Stage}
+use Rattle.bsc_replay.specs.Faults.{PutsPrefix}
 use Rattle.bsc_replay.specs.Texts.{puts}
 use Rattle.bsc_replay.specs.Scenes.{Scene, member_written, unwritten_of}
 use Rattle.bsc_replay.specs.Turns.{Turn}
@@ -100,12 +101,17 @@ abbrev pub WrittenAs : Option Stage → List ℕ → Option (List ℕ) → Optio
 WrittenAs stage t held None = ⊥
 WrittenAs stage t held (Some st) = HoldsIf stage st.scene × (held ≡ Some (t ++ st.text))
 
+-- A write failed when some first part of a line's text was written after t.
+abbrev pub BreaksOff : List ℕ → Option (List ℕ) → Option Stood → Type 0
+BreaksOff t held None = ⊥
+BreaksOff t held (Some st) = PutsPrefix (Some t) held st.text
+
 -- A line is played: written as it should, or refused where it has to be, with nothing written.
 abbrev pub PlaysTo : Result (Option Stage) Stop → List ℕ → Option (List ℕ) → Option Stood → Type 0
 PlaysTo (Ok stage) t held o = WrittenAs stage t held o
 PlaysTo (Err StopRefused) t held o = (o ≡ None) × (held ≡ Some t)
-PlaysTo (Err StopWriteFault) t held o = ⊤
-PlaysTo (Err StopNoMemory) t held o = ⊤
+PlaysTo (Err StopWriteFault) t held o = BreaksOff t held o
+PlaysTo (Err StopNoMemory) t held o = held ≡ Some t
 
 -- How a script ends whose lines were all accepted: well where it made a hub.
 abbrev pub end_of : Option Stage → ℕ → ReplayEnd

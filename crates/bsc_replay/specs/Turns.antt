@@ -2,7 +2,6 @@
 use Rattle.std.specs.Prelude.{ℕ, nat_le, nat_lt, Bool, not, ◌&&◌, if◌then◌else◌, List, [], ◌∷◌, ◌++◌, ◌+◌, length, Option, Some, None}
 use Rattle.bsc_octets.specs.declared.identity.Identity.{Identity}
 use Rattle.bsc_octets.specs.Forwarding.{id_in}
-use Rattle.bsc_history.specs.declared.limits.About.{About}
 use Rattle.bsc_history.specs.declared.call.Call.{Call}
 use Rattle.bsc_history.specs.declared.call.Call.TheVariants.{Connect, Forward}
 use Rattle.bsc_history.specs.declared.reply.Reply.{Reply}
@@ -11,7 +10,7 @@ use Rattle.bsc_replay.specs.declared.script.Line.{Line}
 use Rattle.bsc_replay.specs.declared.script.Line.TheVariants.{Nothing, Hub, Open, In}
 use Rattle.bsc_replay.specs.Messages.{asks_for, is_connect_form, is_unicast_form}
 use Rattle.bsc_replay.specs.Texts.{says, connect_text, forward_words, worn_text, unbuilt_text}
-use Rattle.bsc_replay.specs.Scenes.{Scene, Member, opening, is_waiting, is_open, member_of, names_without, entry_in, reply_in, frames_text, all_written}
+use Rattle.bsc_replay.specs.Scenes.{Scene, Member, is_waiting, is_open, member_of, names_without, entry_in, reply_in, frames_text, all_written}
 
 -- A turn: the scene after a line, and what was written for it.
 pub record Turn : Type 0 where

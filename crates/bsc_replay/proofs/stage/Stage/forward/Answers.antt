@@ -1,4 +1,4 @@
-use Rattle.std.proofs.Common.{refl, sym, ap, subst, ◌∙◌}
+use Rattle.std.proofs.Common.{refl, sym, ap, subst}
 use Rattle.std.proofs.lemmas.Bool.{false≢true}
 use Rattle.bsc_desk.specs.Rows.{IsRowOf}
 use Rattle.bsc_desk.specs.Entries.{one_looks, one_reply}

@@ -1,6 +1,5 @@
 use Rattle.std.proofs.Common.{◌≡◌, false, sym, ◌∙◌}
-use Rattle.bsc_replay.specs.Scenes.{Scene, is_waiting}
-use Rattle.bsc_replay.specs.Holding.{Holds}
+use Rattle.bsc_replay.specs.Scenes.{is_waiting}
 use Rattle.bsc_replay.proofs.Incoming.{sender_of, member_turned, none_turned}
 use Rattle.bsc_replay.proofs.stage.Stage.message.Goals as goal
 

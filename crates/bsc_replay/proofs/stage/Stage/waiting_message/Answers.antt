@@ -1,4 +1,4 @@
-use Rattle.std.proofs.Common.{refl, sym, ◌∙◌}
+use Rattle.std.proofs.Common.{sym}
 use Rattle.bsc_octets.specs.Forwarding.{id_in}
 use Rattle.bsc_replay.specs.Turns.{waiting_turn, connect_turn}
 use Rattle.bsc_replay.proofs.Incoming.{held_turn, free_turn, unbuilt_if_ok, turned_if_ok}
