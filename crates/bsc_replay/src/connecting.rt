@@ -19,8 +19,9 @@ use bsc_octets::{Identity, NoMemory, Octets};
 use std::alloc::Global;
 
 impl Stage {
-    /// Connects a name that hasn't joined, by a Connect-Request of this ID: it joins, or is refused and closed.
-    pub fn connect(
+    /// Connects a name that hasn't joined, by a Connect-Request of this ID: it joins, or is refused and
+    /// closed.
+    fn connect(
         &mut self,
         alloc: Global,
         name: Octets,

@@ -17,7 +17,7 @@ use bsc_octets::NoMemory;
 use std::alloc::Global;
 
 /// Writes what waits in one outbox.
-pub fn write_outbox(
+fn write_outbox(
     desk: &mut Desk,
     outlet: &mut Outlet,
     alloc: Global,
@@ -27,7 +27,8 @@ pub fn write_outbox(
     requires { SomeHistory desk.old outlet.old.conn }
     ensures stands { (h : List Entry) → StandsFor desk.old h → StandsFor desk.new h }
     ensures about { desk.new.about ≡ desk.old.about }
-    ensures text { OnOk result (text.new.items ≡ text.old.items ++ flat_map (puts name.now) (waiting_of desk.old outlet.old.conn)) }
+    ensures text { OnOk result (text.new.items
+        ≡ text.old.items ++ flat_map (puts name.now) (waiting_of desk.old outlet.old.conn)) }
     ensures taken { OnOk result (taken_of desk.new outlet.old.conn
         ≡ taken_of desk.old outlet.old.conn + length (waiting_of desk.old outlet.old.conn)) }
     ensures outlet_taken { OnOk result (outlet.new.taken ≡ taken_of desk.new outlet.old.conn) }
@@ -42,18 +43,15 @@ pub fn write_outbox(
 
 impl Stage {
     /// Writes what waits for the member at a place, where those before it were written.
-    pub fn write_member(
-        &mut self,
-        at: usize,
-        alloc: Global,
-        text: &mut Vec<u8>,
-    ) -> Result<(), NoMemory>
+    fn write_member(&mut self, at: usize, alloc: Global, text: &mut Vec<u8>) -> Result<(), NoMemory>
         requires within { at < vec_len self.old.members }
         requires before { (s : Scene) × Holds self.old (written_to at s) }
         ensures hub { self.new.about ≡ self.old.about }
         ensures len { vec_len self.new.members ≡ vec_len self.old.members }
         ensures written { (s : Scene) → Holds self.old (written_to at s) → OnOk result
-            (Holds self.new (written_to (at + 1) s) × ((base : List ℕ) → text.old.items ≡ base ++ text_to at s → text.new.items ≡ base ++ text_to (at + 1) s)) }
+            (Holds self.new (written_to (at + 1) s)
+            × ((base : List ℕ) → text.old.items ≡ base ++ text_to at s
+            → text.new.items ≡ base ++ text_to (at + 1) s)) }
     {
         let member = &mut self.members[at];
         write_outbox(

@@ -110,7 +110,8 @@ impl Feed {
         requires { self.old.at ≡ self.old.end }
         ensures later { S.faults source.old ≤ S.faults source.new }
         ensures failed { IsErr result → Rose (S.faults source.old) (S.faults source.new) }
-        ensures kept { OnOk result (Keeps (rest_of self.old (S.left source.old)) (rest_of self.new (S.left source.new))) }
+        ensures kept { OnOk result
+            (Keeps (rest_of self.old (S.left source.old)) (rest_of self.new (S.left source.new))) }
         ensures ended { OnOk result (self.new.at ≡ self.new.end → IsAtEnd (S.left source.new)) }
         ensures count { self.new.count ≡ self.old.count }
     {
@@ -135,7 +136,8 @@ impl Feed {
     fn next_octet<S: Source>(&mut self, source: &mut S) -> Result<Option<u8>, Failed>
         ensures later { S.faults source.old ≤ S.faults source.new }
         ensures failed { IsErr result → Rose (S.faults source.old) (S.faults source.new) }
-        ensures given { IfOk result (λ next. GivesOctet (rest_of self.old (S.left source.old)) (rest_of self.new (S.left source.new)) (S.left source.new) next) }
+        ensures given { IfOk result (λ next. GivesOctet (rest_of self.old (S.left source.old))
+            (rest_of self.new (S.left source.new)) (S.left source.new) next) }
         ensures count { self.new.count ≡ self.old.count }
     {
         if self.at < self.end {
@@ -151,12 +153,15 @@ impl Feed {
     /// The line of a whole piece, which is next.
     #[tactic(auto, using(crate::proofs::Reading::take_line_in))]
     fn give(&mut self, mut piece: Vec<u8>) -> NextLine
-        ensures fits { is_too_big self.old.count piece.items ≡ false → result ≡ NextLine.Line (line_in piece.items) }
-        ensures counted { is_too_big self.old.count piece.items ≡ false → self.new.count ≡ self.old.count + length piece.items }
+        ensures fits { is_too_big self.old.count piece.items ≡ false →
+            result ≡ NextLine.Line (line_in piece.items) }
+        ensures counted { is_too_big self.old.count piece.items ≡ false →
+            self.new.count ≡ self.old.count + length piece.items }
         ensures unread { unread self.new ≡ unread self.old }
         ensures big { is_too_big self.old.count piece.items ≡ true → result ≡ NextLine.Refused }
         ensures short { (l : List ℕ) → result ≡ NextLine.Line l → length l ≤ 140000 }
-        ensures on { (l : List ℕ) → result ≡ NextLine.Line l → self.new.count ≡ self.old.count + length piece.items }
+        ensures on { (l : List ℕ) → result ≡ NextLine.Line l →
+            self.new.count ≡ self.old.count + length piece.items }
     {
         if is_too_big(self.count, piece.as_slice()) {
             return NextLine::Refused;

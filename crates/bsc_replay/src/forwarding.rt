@@ -44,7 +44,8 @@ impl Stage {
         requires some { SomeSender self.old connection.now }
         requires unicast { IsTrue (is_unicast_form self.old.about message.now) }
         ensures { (s : Scene) → Holds self.old s → OnOk result
-            (CarriesOut self.new text.old.items text.new.items (forward_turn s name.now connection.now.number message.now)) }
+            (CarriesOut self.new text.old.items text.new.items
+            (forward_turn s name.now connection.now.number message.now)) }
     {
         let frame = prepare(alloc, message, connection.who.vmac)?;
         match self.desk.forward_one(0, connection.number, frame) {
@@ -64,7 +65,8 @@ impl Stage {
     ) -> Result<(), NoMemory>
         requires { SomeSender self.old connection.now }
         ensures { (s : Scene) → Holds self.old s → OnOk result
-            (CarriesOut self.new text.old.items text.new.items (either_turn s name.now connection.now.number message.now)) }
+            (CarriesOut self.new text.old.items text.new.items
+            (either_turn s name.now connection.now.number message.now)) }
     {
         if is_unicast(&self.about, message) {
             self.forward(alloc, name, connection, message, text)

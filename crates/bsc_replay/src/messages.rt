@@ -37,7 +37,8 @@ pub fn id_of(m: &[u8]) -> [u8; 2]
     [m[2], m[3]]
 }
 
-/// Who asks to connect by a message of 30 octets that begins 0600, if it is one, under a VMAC that names one node.
+/// Who asks to connect by a message of 30 octets that begins 0600, if it is one, under a VMAC that
+/// names one node.
 pub fn asking(m: &[u8]) -> Option<Identity>
     ensures { result ≡ asker_of m.now }
 {

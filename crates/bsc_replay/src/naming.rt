@@ -64,7 +64,7 @@ impl Stage {
     }
 
     /// Whether a name is open.
-    pub fn is_open(&self, name: &[u8]) -> bool
+    fn is_open(&self, name: &[u8]) -> bool
         ensures { (s : Scene) → Holds self.now s → result ≡ is_open s name.now }
     {
         is_among(self.waiting.as_slice(), name) || is_member(self.members.as_slice(), name)
@@ -72,14 +72,16 @@ impl Stage {
 
     /// Whether one more name may be open.
     fn has_room(&self) -> bool
-        ensures { result ≡ nat_lt (length self.now.waiting.items + length self.now.members.items) most_names }
+        ensures { result
+            ≡ nat_lt (length self.now.waiting.items + length self.now.members.items) most_names }
     {
         self.waiting.len() < MOST_NAMES && self.members.len() < MOST_NAMES - self.waiting.len()
     }
 
     /// Opens a name.
     pub fn open_name(&mut self, name: Octets) -> Result<(), LineFault>
-        ensures { (text : List ℕ) (s : Scene) → Holds self.old s → TurnsTo result self.new text text (open_turn s name) }
+        ensures { (text : List ℕ) (s : Scene) → Holds self.old s →
+            TurnsTo result self.new text text (open_turn s name) }
     {
         if self.is_open(name.as_slice()) || !self.has_room() {
             return Err(LineFault::Refused);

@@ -122,8 +122,9 @@ fn end_of(stage: &Option<Stage>, number: u64) -> ReplayEnd
 
 /// Replays the script that a source gives, and writes its text to a sink, line by line.
 ///
-/// It reads on until a line is refused, a read or a write fails, memory runs out, or the script ends; it holds one
-/// line at a time. A script of more than 2^40 octets is refused at the line that goes past them, so it returns.
+/// It reads on until a line is refused, a read or a write fails, memory runs out, or the script ends;
+/// it holds one line at a time. A script of more than 2^40 octets is refused at the line that goes past
+/// them, so it returns.
 pub fn replay<S: Source, K: Sink>(alloc: Global, source: &mut S, sink: &mut K) -> ReplayEnd
     ensures replayed { (o t : List ℕ) → S.left source.old ≡ Some o → K.held sink.old ≡ Some t →
         Replays result o t (S.left source.new) (K.held sink.new) }

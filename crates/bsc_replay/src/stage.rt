@@ -6,8 +6,8 @@ use bsc_desk::Desk;
 use bsc_history::About;
 use bsc_octets::Octets;
 
-/// A hub with its open names: those that haven't joined, in the order of opening, and those that have, in the
-/// order of joining.
+/// A hub with its open names: those that haven't joined, in the order of opening, and those that
+/// have, in the order of joining.
 #[derive(Drop)]
 pub struct Stage {
     pub about: About,

@@ -55,7 +55,7 @@ fn begin_line(text: &mut Vec<u8>, name: &[u8]) -> Result<(), NoMemory>
 }
 
 /// A line of words alone.
-pub fn put_line(text: &mut Vec<u8>, name: &[u8], words: &str) -> Result<(), NoMemory>
+fn put_line(text: &mut Vec<u8>, name: &[u8], words: &str) -> Result<(), NoMemory>
     ensures { IfOk result (λ _. text.new.items ≡ text.old.items ++ says name.now words.now) }
 {
     begin_line(text, name)?;
@@ -64,14 +64,15 @@ pub fn put_line(text: &mut Vec<u8>, name: &[u8], words: &str) -> Result<(), NoMe
 }
 
 /// A line of a word and a number.
-pub fn put_numbered(
+fn put_numbered(
     text: &mut Vec<u8>,
     alloc: Global,
     name: &[u8],
     word: &str,
     n: u64,
 ) -> Result<(), NoMemory>
-    ensures { IfOk result (λ _. text.new.items ≡ text.old.items ++ says name.now (numbered_word word.now n)) }
+    ensures { IfOk result (λ _. text.new.items
+        ≡ text.old.items ++ says name.now (numbered_word word.now n)) }
 {
     begin_line(text, name)?;
     put_words(text, word)?;
@@ -109,7 +110,7 @@ fn put_replacing(text: &mut Vec<u8>, alloc: Global, replaced: Option<u64>) -> Re
 }
 
 /// The line of a connect that joined.
-pub fn put_joined(
+fn put_joined(
     text: &mut Vec<u8>,
     alloc: Global,
     name: &[u8],
@@ -127,7 +128,7 @@ pub fn put_joined(
 }
 
 /// The line of a VMAC that the hub itself has, or that a connection holds.
-pub fn put_duplicate(
+fn put_duplicate(
     text: &mut Vec<u8>,
     alloc: Global,
     name: &[u8],
@@ -154,7 +155,7 @@ fn word_of(ending: End) -> &'static str
 }
 
 /// The line of a sender that has ended.
-pub fn put_not_current(text: &mut Vec<u8>, name: &[u8], ending: End) -> Result<(), NoMemory>
+fn put_not_current(text: &mut Vec<u8>, name: &[u8], ending: End) -> Result<(), NoMemory>
     ensures { IfOk result (λ _. text.new.items
         ≡ text.old.items ++ says name.now (codes "notcurrent " ++ ending_word ending)) }
 {
@@ -206,13 +207,15 @@ pub fn put_accept(
     hub: &Identity,
     row: NewRow,
 ) -> Result<(), NoMemory>
-    ensures { IfOk result (λ _. text.new.items ≡ text.old.items ++ joined_text name.now id hub.now row.conn row.replaced) }
+    ensures { IfOk result (λ _. text.new.items
+        ≡ text.old.items ++ joined_text name.now id hub.now row.conn row.replaced) }
 {
     put_joined(text, alloc, name, row.conn, row.replaced)?;
     put_message(text, alloc, name, &accept(id, hub))
 }
 
-/// A connect was refused: its line, what the peer is told, and the code with which its WebSocket is closed.
+/// A connect was refused: its line, what the peer is told, and the code with which its WebSocket is
+/// closed.
 pub fn put_refusal(
     text: &mut Vec<u8>,
     alloc: Global,
@@ -246,7 +249,8 @@ pub fn put_reply(
     name: &[u8],
     reply: OneReply,
 ) -> Result<(), NoMemory>
-    ensures { IfOk result (λ _. text.new.items ≡ text.old.items ++ says name.now (forward_words (one_reply reply))) }
+    ensures { IfOk result (λ _. text.new.items
+        ≡ text.old.items ++ says name.now (forward_words (one_reply reply))) }
 {
     match reply {
         OneReply::Appended(look) => put_numbered(text, alloc, name, "sent", look.conn),

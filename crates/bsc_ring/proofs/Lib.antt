@@ -1,0 +1,5 @@
+mod Counting
+mod Slots
+mod Views
+mod Keeping
+mod Notes

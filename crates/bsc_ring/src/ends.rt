@@ -1,0 +1,47 @@
+//! The two ends of a ring. Their calls stand in `pushing`, `taking` and `meeting`.
+ghost use Rattle.std.specs.Prelude.{◌≡◌, ◌≤◌, length};
+ghost use Rattle.std.specs.Arc.{arc_value};
+ghost use Rattle.bsc_ring.specs.Lists.{newest};
+ghost use Rattle.bsc_ring.specs.Told.{InletRests, OutletRests};
+
+use crate::plays::{RingSeat, RingTable};
+use std::sync::Arc;
+
+/// The end that pushes. It may be sent to another thread, and dropped.
+#[derive(Drop)]
+pub struct Inlet {
+    pub(crate) table: Arc<RingTable>,
+    pub(crate) seat: RingSeat,
+    pub(crate) capacity: u64,
+    pub(crate) sent: u64,
+    // The seat is one of this table.
+    ghost placed: { seat.table_id ≡ (arc_value table).shared.table_id },
+    // The table has three words, and a slot for each item of the capacity.
+    ghost sized: { (seat.table_id.words ≡ 3) × (seat.table_id.slots ≡ capacity) },
+    ghost bounds: { (2 ≤ capacity) × (capacity ≤ 1024) },
+    // Between two calls no slot is in hand.
+    ghost rests: { InletRests seat.me },
+    // `sent` counts the items that were pushed.
+    ghost counts: { sent ≡ length seat.me.0.pushed },
+    // The newest load is one of the numbers of which it is known that so many were taken.
+    ghost newest: { newest seat.me.0.loads ≤ seat.me.0.least },
+}
+
+/// The end that takes. It may be sent to another thread, and dropped.
+#[derive(Drop)]
+pub struct Outlet {
+    pub(crate) table: Arc<RingTable>,
+    pub(crate) seat: RingSeat,
+    pub(crate) capacity: u64,
+    pub(crate) taken: u64,
+    pub(crate) empties: u64,
+    // The seat is one of this table.
+    ghost placed: { seat.table_id ≡ (arc_value table).shared.table_id },
+    // The table has three words, and a slot for each item of the capacity.
+    ghost sized: { (seat.table_id.words ≡ 3) × (seat.table_id.slots ≡ capacity) },
+    ghost bounds: { (2 ≤ capacity) × (capacity ≤ 1024) },
+    // Between two calls no slot is in hand.
+    ghost rests: { OutletRests seat.me },
+    // `taken` counts the items that were given.
+    ghost counts: { taken ≡ length seat.me.0.given },
+}

@@ -1,0 +1,31 @@
+//! The outbox between two threads: a ring into which one end pushes and from which the other takes.
+//!
+//! Start at `making`, then `pushing`, `taking` and `meeting`: these are the public calls. `specs/Ends.antt`
+//! has every word of their clauses. No call waits, none but `make` takes memory, and none takes a lock.
+//! Below them `steps` has each step on shared memory, through the kit's `atomic_table`, and
+//! `specs/Rule.antt` the rule that each of these steps keeps. `docs/RING.md` draws the ring and says the
+//! rule in plain words.
+#![tactic(auto)]
+
+mod ends;
+mod found;
+mod making;
+mod meeting;
+mod plays;
+mod pushing;
+mod remains;
+mod steps;
+mod take;
+mod taking;
+#[cfg(test)]
+mod tests;
+mod view;
+
+pub use ends::{Inlet, Outlet};
+pub use found::Found;
+pub use making::make;
+pub use meeting::unite;
+pub use plays::{RingRule, RingSeat, RingTable};
+pub use remains::Remains;
+pub use take::Take;
+pub use view::View;

@@ -1,0 +1,37 @@
+//! A ring begins.
+ghost use Rattle.std.specs.Prelude.{◌≡◌, ◌≤◌, [], length, IfOk, None, false};
+ghost use Rattle.bsc_ring.specs.Ends.{IsNewInlet, IsNewOutlet, capacity_of, inlet_mark, outlet_mark};
+
+use crate::ends::{Inlet, Outlet};
+use crate::steps::lay_out;
+use bsc_octets::NoMemory;
+use std::alloc::Global;
+use std::sync::Arc;
+
+/// The two ends of a new ring, which holds up to `capacity` items.
+#[tactic(auto, using(crate::proofs::Counting::newest_none))]
+pub fn make(alloc: Global, capacity: u32) -> Result<(Inlet, Outlet), NoMemory>
+    requires { (2 ≤ capacity) × (capacity ≤ 1024) }
+    ensures mark { IfOk result (λ ends. inlet_mark ends.0 ≡ outlet_mark ends.1) }
+    ensures capacity { IfOk result (λ ends. capacity_of ends.0 ≡ capacity) }
+    ensures inlet { IfOk result (λ ends. IsNewInlet ends.0) }
+    ensures outlet { IfOk result (λ ends. IsNewOutlet ends.1) }
+{
+    let (table, inlet, outlet) = lay_out(alloc, capacity)?;
+    let table = Arc::new(alloc, table)?;
+    let other = Arc::try_clone(&table)?;
+    let inlet = Inlet {
+        table,
+        seat: inlet,
+        capacity: capacity as u64,
+        sent: 0,
+    };
+    let outlet = Outlet {
+        table: other,
+        seat: outlet,
+        capacity: capacity as u64,
+        taken: 0,
+        empties: 0,
+    };
+    Ok((inlet, outlet))
+}

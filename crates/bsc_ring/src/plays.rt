@@ -1,0 +1,142 @@
+//! The ring's table: its rule, and what each kind of step tells the seat that makes it.
+//!
+//! The table has three words (0 the head, 1 the tail, 2 the end) and a slot for each item of the capacity.
+use crate::view::View;
+use atomic_table::{Join, Play, Seat, Split, Table, TableRule};
+use bsc_octets::Octets;
+use std::alloc::Global;
+
+/// A seat at the ring's table.
+pub type RingSeat = Seat<Option<Octets>, View>;
+
+/// The table that the two ends share.
+pub type RingTable = Table<Option<Octets>, View, (), RingRule, Global>;
+
+/// The rule that each step on the table keeps.
+pub struct RingRule;
+
+impl TableRule<Option<Octets>, View, ()> for RingRule {
+    ghost use Rattle.bsc_ring.specs.Rule.{Kept, first_view};
+
+    ghost holds = { λ _. Kept };
+
+    ghost first = { λ _. first_view };
+}
+
+/// The inlet loads the head, and takes the slot at the tail unless the ring is full.
+pub struct LoadHead;
+
+impl Play<Option<Octets>, View> for LoadHead {
+    ghost use Rattle.bsc_ring.specs.Told.{LoadsHead};
+
+    ghost then = { LoadsHead };
+}
+
+/// The inlet stores the tail, and gives that slot back with an item in it.
+pub struct StoreTail;
+
+impl Play<Option<Octets>, View> for StoreTail {
+    ghost use Rattle.bsc_ring.specs.Told.{StoresTail};
+
+    ghost then = { StoresTail };
+}
+
+/// The outlet loads the end word.
+pub struct LoadEnd;
+
+impl Play<Option<Octets>, View> for LoadEnd {
+    ghost use Rattle.bsc_ring.specs.Told.{LoadsEnd};
+
+    ghost then = { LoadsEnd };
+}
+
+/// The outlet loads the tail, and takes the slot at the head unless each item is taken.
+pub struct LoadTail;
+
+impl Play<Option<Octets>, View> for LoadTail {
+    ghost use Rattle.bsc_ring.specs.Told.{LoadsTail};
+
+    ghost then = { LoadsTail };
+}
+
+/// The outlet stores the head, and gives that slot back empty.
+pub struct StoreHead;
+
+impl Play<Option<Octets>, View> for StoreHead {
+    ghost use Rattle.bsc_ring.specs.Told.{StoresHead};
+
+    ghost then = { StoresHead };
+}
+
+/// The inlet stores the end word.
+pub struct StoreEnd;
+
+impl Play<Option<Octets>, View> for StoreEnd {
+    ghost use Rattle.bsc_ring.specs.Told.{StoresEnd};
+
+    ghost then = { StoresEnd };
+}
+
+/// A load after which a seat has at hand what the rule says of its own view.
+pub struct Confirm;
+
+impl Play<Option<Octets>, View> for Confirm {
+    ghost use Rattle.bsc_ring.specs.Told.{Confirms};
+
+    ghost then = { Confirms };
+}
+
+/// The table's first seat becomes an inlet's and an outlet's.
+pub struct IntoEnds;
+
+impl Split<View> for IntoEnds {
+    ghost use Rattle.bsc_ring.specs.Rule.{inlet_part, outlet_part};
+
+    ghost left = { inlet_part };
+
+    ghost right = { outlet_part };
+}
+
+/// A note of what the inlet knows.
+pub struct InletNote;
+
+impl Split<View> for InletNote {
+    ghost use Rattle.bsc_ring.specs.Told.{inlet_note};
+
+    ghost left = { λ v. v };
+
+    ghost right = { inlet_note };
+}
+
+/// A note of what the outlet knows.
+pub struct OutletNote;
+
+impl Split<View> for OutletNote {
+    ghost use Rattle.bsc_ring.specs.Told.{outlet_note};
+
+    ghost left = { λ v. v };
+
+    ghost right = { outlet_note };
+}
+
+/// The inlet takes in an outlet's note.
+pub struct InletHears;
+
+impl Join<View> for InletHears {
+    ghost use Rattle.bsc_ring.specs.Told.{inlet_hears, spent_view};
+
+    ghost both = { inlet_hears };
+
+    ghost spent = { spent_view };
+}
+
+/// The outlet takes in an inlet's note.
+pub struct OutletHears;
+
+impl Join<View> for OutletHears {
+    ghost use Rattle.bsc_ring.specs.Told.{outlet_hears, spent_view};
+
+    ghost both = { outlet_hears };
+
+    ghost spent = { spent_view };
+}
