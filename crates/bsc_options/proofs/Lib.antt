@@ -1,0 +1,8 @@
+pub mod Markers
+pub mod Unique
+pub mod Chains
+pub mod Missing
+pub mod Rest
+pub mod Faults
+pub mod Exact
+mod WorkedOptions
