@@ -39,7 +39,7 @@ use Rattle.bsc_desk.proofs.Standing.{Counted, Stays, Quiet, stands_on, stands_sa
 use Rattle.bsc_desk.proofs.Connects.{eqb_comm, later}
 use Rattle.bsc_desk.proofs.Unicasts.{sends}
 
-stays_forward : (caller conn : ℕ) (m : List ℕ) (looks : List Look) (reply : Reply) → Stays (forward_entry caller conn m looks reply)
+pub stays_forward : (caller conn : ℕ) (m : List ℕ) (looks : List Look) (reply : Reply) → Stays (forward_entry caller conn m looks reply)
 stays_forward caller conn m looks reply = record { goes_on = refl; stays = λ c. refl }
 
 -- counts of a unicast that appends x times and closes z times, and is dropped y times
@@ -140,7 +140,7 @@ stands_appended d n h caller conn frame look s lawful is one found about stop ma
 
 -- dropped without a look
 
-record Drops (reply : Reply) : Type 0 where
+pub record Drops (reply : Reply) : Type 0 where
   pub joins : is_joined reply ≡ false
   pub replaces : is_replacing reply ≡ false
   pub refuses : is_refused reply ≡ false
@@ -185,7 +185,7 @@ taken_pushed rows conn c o = find-keeps taken_in (Some conn) c (with_frame o) ro
 pub entered_ended : (m : ℕ) (rows : List Row) (conn : ℕ) (ending : End) → list_all (entered_at_most m) rows ≡ true → list_all (entered_at_most (m + 1)) (done_at (Some conn) (with_end ending) rows) ≡ true
 entered_ended m rows conn ending h = tests-done (entered_at_most m) (entered_at_most (m + 1)) (Some conn) (with_end ending) rows (later m) (later m) h
 
-one_more : (m : ℕ) (o : List ℕ) (r : Row) → entered_at_most m r ≡ true → entered_at_most (m + 1) (with_inlet (with_frame o) r) ≡ true
+pub one_more : (m : ℕ) (o : List ℕ) (r : Row) → entered_at_most m r ≡ true → entered_at_most (m + 1) (with_inlet (with_frame o) r) ≡ true
 one_more m o r h =
     let items = r.inlet.waiting.items in
     let most : r.inlet.taken + length items ≤ m = leb-true (r.inlet.taken + length items) m h in

@@ -12,3 +12,6 @@ pub mod Choosing
 pub mod Unicasts
 pub mod Forwards
 pub mod Rowed
+pub mod Leaves
+pub mod Mapped
+pub mod Broadcasts

@@ -42,7 +42,7 @@ live_found d H p s = ap (find p) (live_rows d H s) ∙ find_open p d.rows.items
 
 -- numbers of rows are apart, so a change at the first row of a connection is one at each
 
-all_map : (P : Connection → Type 0) (rows : List Row) → AllByRecursion P (map connection rows) → AllByRecursion (λ r. P (connection r)) rows
+pub all_map : (P : Connection → Type 0) (rows : List Row) → AllByRecursion P (map connection rows) → AllByRecursion (λ r. P (connection r)) rows
 all_map P [] all = tt
 all_map P (r ∷ rows) all = (all.0, all_map P rows all.1)
 
@@ -76,7 +76,7 @@ done_each conn f (r ∷ rows) apart =
     ] in
     by (is_row conn r) refl
 
-rows_apart : (d : Desk) (H : List Entry) → StandsFor d H → Apart (λ (x : Connection). x.number) (map connection d.rows.items)
+pub rows_apart : (d : Desk) (H : List Entry) → StandsFor d H → Apart (λ (x : Connection). x.number) (map connection d.rows.items)
 rows_apart d H s = subst (Apart (λ (x : Connection). x.number)) (sym s.unleft_rows) (unleft_apart d.about H s.legal)
 
 pub found_row : (d : Desk) (H : List Entry) (r : Row) → StandsFor d H → In r d.rows.items → find (λ x. x.connection.number == r.connection.number) d.rows.items ≡ Some r

@@ -1,4 +1,4 @@
--- What a history says of the rows of a desk that stands for it: a caller shows by it what `forward_one` and `take` ask for.
+-- What a history says of the rows of a desk that stands for it: a caller shows by it what `forward_one`, `forward_all`, `leave` and `take` ask for.
 use Rattle.std.proofs.Common.{◌≡◌, inl, inr, ℕ, ◌==◌, Bool, true, ◌&&◌, ◌||◌, List, [], ◌∷◌, map, refl, ap, sym, ◌∙◌}
 use Rattle.std.specs.List.{list_any}
 use Rattle.std.proofs.lemmas.Bool.{and_parts, and_from, or_cases, or_left, or_right, eqb-true}
@@ -13,7 +13,7 @@ use Rattle.bsc_history.proofs.Lists.{In}
 use Rattle.bsc_history.proofs.Uniqueness.{vmac_refl}
 use Rattle.bsc_desk.specs.declared.row.Row.{Row}
 use Rattle.bsc_desk.specs.declared.desk.Desk.{Desk}
-use Rattle.bsc_desk.specs.Rows.{HasRow, IsRowOf}
+use Rattle.bsc_desk.specs.Rows.{HasRow, IsRowOf, IsRowBy}
 use Rattle.bsc_desk.specs.Standing.{connection, StandsFor}
 use Rattle.bsc_desk.proofs.Histories.{vmac_unleft}
 
@@ -43,3 +43,7 @@ is_row_of d h caller c v s mine address =
     let here : x.who.vmac ≡ v = sym (vmac_unleft d.about h x s.legal m) ∙ ap (vmac_of h) same ∙ address in
     and_from (p x) (same_vmac x.who.vmac v) e (vmac_refl x.who.vmac v here)) in
     any_row q d.rows.items ∙ ap (list_any q) s.unleft_rows ∙ any_more p q (unleft h) each mine
+
+-- an unleft connection of a caller is a row of that caller
+pub is_row_by : (d : Desk) (h : List Entry) (caller c : ℕ) → StandsFor d h → is_of h caller c ≡ true → IsRowBy d caller c
+is_row_by d h caller c s mine = any_row (λ (x : Connection). (x.number == c) && (x.caller == caller)) d.rows.items ∙ ap (list_any (λ (x : Connection). (x.number == c) && (x.caller == caller))) s.unleft_rows ∙ mine

@@ -107,7 +107,7 @@ stands_more d n H e f new s lawful keeps same joins_so each fresh =
 
 -- where the entry is no Stop, and no Leave
 
-none_leaves : (e : Entry) (rows : List Row) → ((c : ℕ) → leaves c e ≡ false) → filter (λ r. not (leaves r.connection.number e)) rows ≡ rows
+pub none_leaves : (e : Entry) (rows : List Row) → ((c : ℕ) → leaves c e ≡ false) → filter (λ r. not (leaves r.connection.number e)) rows ≡ rows
 none_leaves e [] stays = refl
 none_leaves e (r ∷ rows) stays = rw (stays r.connection.number) (ap (λ (l : List Row). r ∷ l) (none_leaves e rows stays))
 

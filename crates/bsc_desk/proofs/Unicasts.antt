@@ -39,7 +39,7 @@ use Rattle.bsc_desk.proofs.LiveRows.{live_found}
 use Rattle.bsc_desk.proofs.Standing.{In-map}
 use Rattle.bsc_desk.proofs.Choosing.{stopped_so}
 
-any_In : {A : Type 0} (p : A → Bool) (x : A) (xs : List A) → In x xs → p x ≡ true → list_any p xs ≡ true
+pub any_In : {A : Type 0} (p : A → Bool) (x : A) (xs : List A) → In x xs → p x ≡ true → list_any p xs ≡ true
 any_In p x [] m h = absurd m
 any_In p x (y ∷ ys) (inl e) h = or_left (p y) (list_any p ys) (ap p e ∙ h)
 any_In p x (y ∷ ys) (inr m) h = or_right (p y) (list_any p ys) (any_In p x ys m h)
@@ -71,7 +71,7 @@ pub record Looks (d : Desk) (h : List Entry) (k : ℕ) : Type 0 where
   pub full : full_in (find (has_number k) d.rows.items) ≡ finds_full d.about (sent d.about h k) (taken_of d k)
   pub can : can_find d.about h k (taken_of d k) ≡ true
 
-looks_right : (d : Desk) (h : List Entry) (k : ℕ) (r : Row) → Has d h k r → Looks d h k
+pub looks_right : (d : Desk) (h : List Entry) (k : ℕ) (r : Row) → Has d h k r → Looks d h k
 looks_right d h k r has =
     let i = has.inlet in
     let S = sent d.about h k in

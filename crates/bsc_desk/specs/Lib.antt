@@ -5,4 +5,5 @@ pub mod Standing
 pub mod Inlets
 pub mod Taking
 pub mod Choices
+pub mod Receivers
 pub mod Entries

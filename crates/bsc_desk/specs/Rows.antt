@@ -45,6 +45,10 @@ HasRow d c = IsTrue (list_any (λ r. r.connection.number == c) d.rows.items)
 abbrev pub IsRowOf : Desk → ℕ → ℕ → Vmac → Type 0
 IsRowOf d caller c v = IsTrue (list_any (λ r. (r.connection.number == c) && (r.connection.caller == caller) && same_vmac r.connection.who.vmac v) d.rows.items)
 
+-- Connection c has a row, and was joined by this caller.
+abbrev pub IsRowBy : Desk → ℕ → ℕ → Type 0
+IsRowBy d caller c = IsTrue (list_any (λ r. (r.connection.number == c) && (r.connection.caller == caller)) d.rows.items)
+
 -- An inlet is new: nothing was pushed, nothing taken, and it isn't finished.
 pub record IsNewInlet (i : Inlet) (capacity : ℕ) : Type 0 where
   pub holds : i.waiting.capacity ≡ capacity

@@ -97,7 +97,7 @@ fn number_of(found: Option<Connection>) -> Option<u64>
 }
 
 /// 1 where a test passes, to be counted.
-fn one_if(passes: bool) -> u64
+pub(crate) fn one_if(passes: bool) -> u64
     ensures { result ≡ one_if passes }
 {
     if passes { 1 } else { 0 }

@@ -6,8 +6,9 @@ ghost use Rattle.bsc_desk.specs.Bounds.{AreLimits, AreAtMost, stops_left, entere
 use crate::row::Row;
 use bsc_history::{About, Counts};
 
-/// The hub of one thread. It is made by `make`; `connect` and `forward_one` add an entry each to its
-/// history; `take` takes the next frame from an outbox and adds none.
+/// The hub of one thread. It is made by `make`; `connect`, `forward_one`,
+/// `forward_all`, `leave`, `stop` and `count` add an entry each to its history; `take` takes the next frame
+/// from an outbox and adds none.
 #[derive(Drop)]
 pub struct Desk {
     /// The hub's own identity, and its limits.

@@ -80,6 +80,20 @@ impl Prepared {
         self.frame.len()
     }
 
+    /// A prepared message has a Destination and no origin.
+    pub(crate) fn has_route(&self)
+        ensures { IsTrue (has_route self.now.message) }
+    {
+        let _head: &[u8] = &self.head;
+    }
+
+    /// The octets that are forwarded, in memory of their own.
+    pub(crate) fn copy(&self, alloc: Global) -> Result<Octets, NoMemory>
+        ensures { IfOk result (λ o. o ≡ out self.now.message self.now.sender) }
+    {
+        self.frame.copy(alloc)
+    }
+
     /// The octets that are forwarded.
     pub(crate) fn into_octets(self) -> Octets
         ensures { result ≡ out self.message self.sender }

@@ -1,12 +1,12 @@
 //! What is done to the outboxes of rows, by the number of a connection.
 #![tactic(auto)]
 
-ghost use Rattle.std.specs.Prelude.{◌≡◌, ◌==◌, position, find, Some, option_copied, nat_lt, vec_len, vec_capacity, IsTrue};
+ghost use Rattle.std.specs.Prelude.{◌≡◌, ◌<◌, ◌==◌, not, map, filter, position, find, Some, option_copied, nat_lt, vec_len, vec_capacity, IsTrue};
 ghost use Rattle.std.specs.List.{list_any, list_all};
 ghost use Rattle.bsc_desk.specs.Rows.{taken_in, waiting_in, ending_in};
 ghost use Rattle.bsc_desk.specs.Taking.{next_taken};
 ghost use Rattle.bsc_desk.specs.Choices.{full_in};
-ghost use Rattle.bsc_desk.specs.Inlets.{is_row, done_at, with_end, with_frame, without_first};
+ghost use Rattle.bsc_desk.specs.Inlets.{is_row, done_at, with_inlet, with_end, with_frame, without_first};
 
 use crate::outbox::Take;
 use crate::row::Row;
@@ -116,4 +116,32 @@ pub(crate) fn take_at(rows: &mut Vec<Row>, conn: u64) -> Take
             row.inlet.take()
         }
     }
+}
+
+/// Takes the row of a connection that has one out.
+pub(crate) fn remove(rows: &mut Vec<Row>, conn: u64)
+    requires some_row { IsTrue (list_any (λ r. r.connection.number == conn) rows.old.items) }
+    ensures items { rows.new.items ≡ filter (λ r. not (r.connection.number == conn)) rows.old.items }
+    ensures capacity { vec_capacity rows.new ≡ vec_capacity rows.old }
+    ensures len { vec_len rows.new < vec_len rows.old }
+{
+    rows.retain(|row| row.connection.number != conn);
+}
+
+/// Finishes each outbox with an End.
+fn finish_each(rows: &mut [Row], ending: End)
+    ensures { rows.new ≡ map (with_inlet (with_end ending)) rows.old }
+{
+    for row in rows.iter_mut() {
+        row.inlet.finish(ending);
+    }
+}
+
+/// Finishes the outboxes of all rows with an End.
+pub(crate) fn finish_all(rows: &mut Vec<Row>, ending: End)
+    ensures items { rows.new.items ≡ map (with_inlet (with_end ending)) rows.old.items }
+    ensures len { vec_len rows.new ≡ vec_len rows.old }
+    ensures capacity { vec_capacity rows.new ≡ vec_capacity rows.old }
+{
+    finish_each(rows.as_mut_slice(), ending);
 }

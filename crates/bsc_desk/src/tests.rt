@@ -4,8 +4,10 @@ ghost use Rattle.std.specs.List.{list_any};
 ghost use Rattle.bsc_octets.specs.Addresses.{same_vmac};
 ghost use Rattle.bsc_octets.specs.Forwarding.{has_route, is_broadcast};
 
-use crate::{Desk, Limits, NewRow, NoRow, OneReply, Outlet, Take, inlet, prepare};
-use bsc_history::{End, Look, Refusal, Worn};
+use crate::{
+    AllRefusal, AllReply, Desk, Gone, Limits, NewRow, NoRow, OneReply, Outlet, Take, inlet, prepare,
+};
+use bsc_history::{AlreadyStopped, Counts, End, Look, Refusal, Worn};
 use bsc_octets::{Identity, NoMemory, Vmac, read_identity};
 use std::alloc::Global;
 use std::process::Abort;
@@ -87,7 +89,45 @@ fn take(rt: &impl Abort, desk: &mut Desk, outlet: &mut Outlet) -> (Option<u8>, O
     }
 }
 
+fn is_row_by(desk: &Desk, caller: u64, conn: u64) -> bool
+    ensures { result ≡ list_any (λ r. (r.connection.number == conn) && (r.connection.caller == caller)) desk.now.rows.items }
+{
+    desk.rows.iter().any(|row| row.connection.number == conn && row.connection.caller == caller)
+}
+
+/// Sends a broadcast from a device at its address, which joined as `conn`.
+fn send_to_all(
+    rt: &impl Abort,
+    alloc: Global,
+    desk: &mut Desk,
+    device: u8,
+    conn: u64,
+    message: &[u8],
+) -> Result<Result<AllReply, AllRefusal>, NoMemory>
+    requires route { IsTrue (has_route message.now) }
+    requires broadcast { IsTrue (is_broadcast message.now) }
+    requires outbox { desk.old.about.limits.outbox ≡ 2 }
+    ensures { desk.new.about.limits.outbox ≡ 2 }
+{
+    let address = Vmac([2, 0, 0, 0, 0, device]);
+    let frame = prepare(alloc, message, address)?;
+    assert!(rt; is_row_of(desk, u64::from(device), conn, address));
+    Ok(desk.forward_all(alloc, u64::from(device), conn, &frame))
+}
+
+/// Lets a connection of a caller leave.
+fn leave(rt: &impl Abort, desk: &mut Desk, caller: u64, conn: u64, outlet: Outlet) -> Gone
+    requires { desk.old.about.limits.outbox ≡ 2 }
+    ensures { desk.new.about.limits.outbox ≡ 2 }
+{
+    assert!(rt; is_row_by(desk, caller, conn));
+    assert!(rt; outlet.conn == conn);
+    desk.leave(caller, conn, outlet)
+}
+
 const TO_1: [u8; 12] = [1, 4, 0, 7, 2, 0, 0, 0, 0, 1, 50, 51];
+
+const TO_ALL: [u8; 12] = [1, 4, 0, 9, 255, 255, 255, 255, 255, 255, 70, 71];
 
 const TO_2: [u8; 12] = [1, 4, 0, 8, 2, 0, 0, 0, 0, 2, 60, 61];
 
@@ -174,5 +214,134 @@ fn a_full_outbox_ends(rt: HostRuntime) -> Result<(), Fail> {
     assert_eq!(rt; take(&rt, &mut desk, &mut outlet), (Some(61), None));
     assert_eq!(rt; take(&rt, &mut desk, &mut outlet), (None, Some(End::Full)));
     assert_eq!(rt; (outlet.taken(), outlet.empties()), (3, 1));
+    Ok(())
+}
+
+#[test]
+fn connections_leave_and_the_hub_stops(rt: HostRuntime) -> Result<(), Fail> {
+    let alloc = rt.alloc();
+    let limits = Limits {
+        rows: 2,
+        outbox: 2,
+        calls: 7,
+        callers: 4,
+    };
+    let mut desk = Desk::make(alloc, who(100, 100, 20), limits)?;
+    let _first = join(alloc, &mut desk, 1, 1)?;
+    let _second = join(alloc, &mut desk, 1, 1)?;
+    let mut outlet = Outlet::of(2);
+    let appended = OneReply::Appended(Look { conn: 2, taken: 0 });
+    assert_eq!(rt; send(&rt, alloc, &mut desk, 1, 2, &TO_1)?, Ok(appended));
+    assert_eq!(rt; take(&rt, &mut desk, &mut outlet), (Some(51), None));
+    let counts = Counts {
+        joined: 2,
+        replaced: 1,
+        refused: 0,
+        unicasts: 1,
+        broadcasts: 0,
+        appended: 1,
+        dropped: 0,
+        full: 0,
+    };
+    assert_eq!(rt; desk.count(9), Ok(counts));
+    let replaced = Gone {
+        ending: End::Replaced,
+        taken: 0,
+    };
+    assert_eq!(rt; leave(&rt, &mut desk, 1, 1, Outlet::of(1)), replaced);
+    let _third = join(alloc, &mut desk, 3, 3)?;
+    let left = Gone {
+        ending: End::Left,
+        taken: 1,
+    };
+    assert_eq!(rt; leave(&rt, &mut desk, 1, 2, outlet), left);
+    assert_eq!(rt; desk.count(9), Err(Worn { calls: 7 }));
+    let more = Counts {
+        joined: 3,
+        ..counts
+    };
+    assert_eq!(rt; desk.stop(9), Ok(more));
+    assert_eq!(rt; desk.stop(9), Err(AlreadyStopped { at: 7 }));
+    let stopped = Gone {
+        ending: End::Stopped,
+        taken: 0,
+    };
+    assert_eq!(rt; leave(&rt, &mut desk, 3, 3, Outlet::of(3)), stopped);
+    assert_eq!(rt; desk.made(), 9);
+    Ok(())
+}
+
+#[test]
+fn a_stopped_hub_serves_nobody(rt: HostRuntime) -> Result<(), Fail> {
+    let alloc = rt.alloc();
+    let limits = Limits {
+        rows: 2,
+        outbox: 2,
+        calls: 100,
+        callers: 4,
+    };
+    let mut desk = Desk::make(alloc, who(100, 100, 20), limits)?;
+    let _first = join(alloc, &mut desk, 1, 1)?;
+    let counts = desk.stop(0);
+    assert!(rt; counts.is_ok());
+    let refused = NoRow::Refused(Refusal::Stopped);
+    assert_eq!(rt; join(alloc, &mut desk, 2, 2)?, Err(refused));
+    assert_eq!(rt;
+        send(&rt, alloc, &mut desk, 1, 1, &TO_2)?,
+        Ok(OneReply::Stopped)
+    );
+    Ok(())
+}
+
+#[test]
+fn a_broadcast_reaches_the_others(rt: HostRuntime) -> Result<(), Fail> {
+    let alloc = rt.alloc();
+    let limits = Limits {
+        rows: 4,
+        outbox: 2,
+        calls: 100,
+        callers: 9,
+    };
+    let mut desk = Desk::make(alloc, who(100, 100, 20), limits)?;
+    let _first = join(alloc, &mut desk, 1, 1)?;
+    let _second = join(alloc, &mut desk, 2, 2)?;
+    let _short = desk.connect(3, who(3, 3, 17), inlet(alloc, 2)?);
+    let _fourth = join(alloc, &mut desk, 4, 4)?;
+    let _one = send(&rt, alloc, &mut desk, 1, 1, &TO_2)?;
+    let _two = send(&rt, alloc, &mut desk, 1, 1, &TO_2)?;
+    match send_to_all(&rt, alloc, &mut desk, 1, 1, &TO_ALL)? {
+        Ok(
+            AllReply::Sent {
+                to,
+                closed,
+                skipped,
+                looks,
+            },
+        ) => {
+            assert_eq!(rt; to.as_slice(), [4].as_slice());
+            assert_eq!(rt; closed.as_slice(), [2].as_slice());
+            assert_eq!(rt; skipped.as_slice(), [3].as_slice());
+            let two = Look { conn: 2, taken: 0 };
+            let four = Look { conn: 4, taken: 0 };
+            assert_eq!(rt; looks.as_slice(), [two, four].as_slice());
+        }
+        Ok(AllReply::NotCurrent { .. }) | Ok(AllReply::Stopped) | Err(_) => assert!(rt; false),
+    }
+    let mut sender = Outlet::of(1);
+    assert_eq!(rt; take(&rt, &mut desk, &mut sender), (None, None));
+    let mut outlet = Outlet::of(4);
+    assert_eq!(rt; take(&rt, &mut desk, &mut outlet), (Some(71), None));
+    let counts = desk.count(9);
+    let expected = Counts {
+        joined: 4,
+        replaced: 0,
+        refused: 0,
+        unicasts: 2,
+        broadcasts: 1,
+        appended: 3,
+        dropped: 0,
+        full: 1,
+    };
+    assert_eq!(rt; counts, Ok(expected));
     Ok(())
 }
