@@ -16,7 +16,10 @@ use Rattle.bsc_desk.specs.declared.row.Row.{Row}
 use Rattle.bsc_desk.specs.declared.desk.Desk.{Desk}
 use Rattle.bsc_desk.specs.Standing.{connection, StandsFor}
 use Rattle.bsc_desk.specs.Inlets.{is_open}
-use Rattle.bsc_desk.specs.Choices.{first_reply}
+use Rattle.bsc_desk.specs.declared.connecting.NewRow.{NewRow}
+use Rattle.bsc_desk.specs.declared.connecting.Choice.{Choice}
+use Rattle.bsc_desk.specs.declared.connecting.Choice.TheVariants.{Refused, Joined}
+use Rattle.bsc_desk.specs.Choices.{first_reply, IfJoined}
 use Rattle.bsc_desk.proofs.Places.{position_any}
 use Rattle.bsc_desk.proofs.Histories.{joined_counted}
 use Rattle.bsc_desk.proofs.LiveRows.{live_found}
@@ -39,3 +42,9 @@ chosen d h who s =
     let rows : length d.rows.items ≡ length (unleft h) = sym (size d.rows.items) ∙ ap length s.unleft_rows in
     let count : d.counts.joined ≡ length (joined h) = ap (λ k. k.joined) s.counted ∙ sym (joined_counted d.about h s.legal) in
     rw (stop, ← held, replaced, rows, count) refl
+
+-- what holds of a choice to join
+
+pub if_both : (x : Choice) (P Q R : NewRow → Type 0) → IfJoined x P → IfJoined x Q → ((row : NewRow) → P row → Q row → R row) → IfJoined x R
+if_both (Refused refusal) P Q R p q so = tt
+if_both (Joined row) P Q R p q so = so row p q

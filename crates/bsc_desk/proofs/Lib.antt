@@ -15,3 +15,7 @@ pub mod Rowed
 pub mod Leaves
 pub mod Mapped
 pub mod Broadcasts
+pub mod Orders
+pub mod Sorted
+pub mod Numbers
+pub mod Filing

@@ -58,14 +58,14 @@ none_changed conn f r [] here all = refl
 none_changed conn f r (y ∷ rows) here all = rw (is_other conn r y here all.0) (ap (λ (l : List Row). y ∷ l) (none_changed conn f r rows here all.1))
 
 -- of rows whose numbers are apart, each is the one that is found by its number
-found_each : (r : Row) (rows : List Row) → Apart (λ (x : Connection). x.number) (map connection rows) → In r rows → find (λ x. x.connection.number == r.connection.number) rows ≡ Some r
+pub found_each : (r : Row) (rows : List Row) → Apart (λ (x : Connection). x.number) (map connection rows) → In r rows → find (λ x. x.connection.number == r.connection.number) rows ≡ Some r
 found_each r [] apart m = absurd m
 found_each r (y ∷ rows) apart (inl e) = rw (eq-eqb y.connection.number r.connection.number (ap (λ (x : Row). x.connection.number) e)) (ap Some e)
 found_each r (y ∷ rows) apart (inr m) =
     let others = all_map (λ (x : Connection). y.connection.number ≢ x.number) rows apart.0 in
     rw (ne_eqb y.connection.number r.connection.number (In_from_all (λ (x : Row). y.connection.number ≢ x.connection.number) r rows others m)) (found_each r rows apart.1 m)
 
-done_each : (conn : Option ℕ) (f : Inlet → Inlet) (rows : List Row) → Apart (λ (x : Connection). x.number) (map connection rows) → done_at conn f rows ≡ map (changed conn f) rows
+pub done_each : (conn : Option ℕ) (f : Inlet → Inlet) (rows : List Row) → Apart (λ (x : Connection). x.number) (map connection rows) → done_at conn f rows ≡ map (changed conn f) rows
 done_each conn f [] apart = refl
 done_each conn f (r ∷ rows) apart =
     let rest = done_each conn f rows apart.1 in

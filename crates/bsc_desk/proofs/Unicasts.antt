@@ -205,12 +205,12 @@ lawful_one d h caller conn f s is route one calls =
     }
 
 -- what is chosen from the parts that were read is what is chosen
-pub chosen_by : (d : Desk) (conn : ℕ) (f : Frame) (rows : List Row) (v : Vmac) (len : ℕ) (held : Option Connection) (otherwise : OneReply) (stopped : Bool) (ending : Option End) (r : OneReply) → rows ≡ d.rows.items → v ≡ destination f.message → len ≡ length (out f.message f.sender) → held ≡ option_map connection (find (λ x. is_open x && same_vmac x.connection.who.vmac v) rows) → otherwise ≡ one_to rows len held → stopped ≡ is_some d.stopped_at → ending ≡ ending_in (find (has_number conn) rows) → r ≡ first_one stopped ending otherwise → r ≡ chosen_one d conn f
+pub chosen_by : (d : Desk) (conn : ℕ) (f : Frame) (rows : List Row) (v : Vmac) (len : ℕ) (held : Option Connection) (otherwise : OneReply) (stopped : Bool) (ending : Option End) (r : OneReply) → rows ≡ d.rows.items → v ≡ destination f.message → len ≡ length (out f.message f.sender) → held ≡ option_map connection (find (λ x. is_open x && same_vmac x.connection.who.vmac v) d.rows.items) → otherwise ≡ one_to rows len held → stopped ≡ is_some d.stopped_at → ending ≡ ending_in (find (has_number conn) rows) → r ≡ first_one stopped ending otherwise → r ≡ chosen_one d conn f
 chosen_by d conn f rows v len held otherwise stopped ending r same_rows same_v same_len holds other stop ends is =
     let items = d.rows.items in
     let long = length (out f.message f.sender) in
     let search_by = λ (w : Vmac) (rs : List Row). option_map connection (find (λ x. is_open x && same_vmac x.connection.who.vmac w) rs) in
-    let held_now : held ≡ search_by (destination f.message) items = holds ∙ ap (search_by v) same_rows ∙ ap (λ (w : Vmac). search_by w items) same_v in
+    let held_now : held ≡ search_by (destination f.message) items = holds ∙ ap (λ (w : Vmac). search_by w items) same_v in
     let other_now : otherwise ≡ one_to items long (search_by (destination f.message) items) = other ∙ ap (λ (rs : List Row). one_to rs len held) same_rows ∙ ap (λ (n : ℕ). one_to items n held) same_len ∙ ap (one_to items long) held_now in
     let ending_now : ending ≡ ending_of d conn = ends ∙ ap (λ (rs : List Row). ending_in (find (has_number conn) rs)) same_rows in
     is ∙ ap (λ (b : Bool). first_one b ending otherwise) stop ∙ ap (λ (w : Option End). first_one (is_some d.stopped_at) w otherwise) ending_now ∙ ap (first_one (is_some d.stopped_at) (ending_of d conn)) other_now

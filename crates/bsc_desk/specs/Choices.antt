@@ -18,6 +18,7 @@ use Rattle.bsc_desk.specs.Frames.{Frame}
 use Rattle.bsc_desk.specs.Rows.{taken_in, ending_of}
 use Rattle.bsc_desk.specs.Standing.{connection}
 use Rattle.bsc_desk.specs.Inlets.{is_open, is_full}
+use Rattle.bsc_desk.specs.declared.connecting.NewRow.{NewRow}
 use Rattle.bsc_desk.specs.declared.connecting.Choice.{Choice}
 use Rattle.bsc_desk.specs.declared.connecting.Choice.TheVariants.{Refused, Joined}
 
@@ -26,10 +27,10 @@ abbrev pub choice_reply : Choice → Reply
 choice_reply (Refused refusal) = RefusedReply refusal
 choice_reply (Joined row) = JoinedReply row.conn row.replaced
 
--- where the choice is to join, a fact
-abbrev pub IfJoined : Choice → Type 0 → Type 0
+-- where the choice is to join, a fact of the row
+abbrev pub IfJoined : Choice → (NewRow → Type 0) → Type 0
 IfJoined (Refused refusal) P = ⊤
-IfJoined (Joined row) P = P
+IfJoined (Joined row) P = P row
 
 -- the first case that holds
 abbrev pub first_reply : Bool → Bool → Option ℕ → Bool → ℕ → Reply → Reply

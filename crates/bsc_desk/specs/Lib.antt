@@ -7,3 +7,6 @@ pub mod Taking
 pub mod Choices
 pub mod Receivers
 pub mod Entries
+pub mod Orders
+pub mod Rising
+pub mod Directories

@@ -1,7 +1,8 @@
 //! Connects.
 #![tactic(auto)]
 
-ghost use Rattle.std.specs.Prelude.{◌≡◌, ◌<◌, ℕ, ◌++◌, ◌&&◌, false, ◌∷◌, [], List, find, vec_len, IfErr, IsFalse, is_some};
+ghost use Rattle.std.specs.Prelude.{◌≡◌, ◌<◌, ℕ, ◌+◌, ◌++◌, ◌&&◌, false, ◌∷◌, [], List, find, vec_len, None, IfErr, IsTrue, IsFalse, is_some};
+ghost use Rattle.std.specs.List.{list_all};
 ghost use Rattle.std.specs.Option.{option_map};
 ghost use Rattle.bsc_octets.specs.Addresses.{same_vmac, same_device, zero_vmac, broadcast};
 ghost use Rattle.bsc_history.specs.declared.entry.Entry.{Entry};
@@ -14,13 +15,16 @@ ghost use Rattle.bsc_history.specs.Replies.{connect_reply, rival, number_of};
 ghost use Rattle.bsc_desk.specs.Rows.{IsNewInlet, taken_of};
 ghost use Rattle.bsc_desk.specs.Standing.{StandsFor, connection};
 ghost use Rattle.bsc_desk.specs.Inlets.{is_open};
+ghost use Rattle.bsc_desk.specs.Orders.{in_order};
+ghost use Rattle.bsc_desk.specs.Rising.{rises};
+ghost use Rattle.bsc_desk.specs.Directories.{gives_place, live_one};
 ghost use Rattle.bsc_desk.specs.Choices.{choice_reply, first_reply, IfJoined};
 ghost use Rattle.bsc_desk.specs.Entries.{connect_said, connect_due, connect_adds, connect_entry, SaysLimit};
 
 use crate::desk::Desk;
 use crate::outbox::Inlet;
 use crate::row::Row;
-use crate::rows::finish;
+use crate::rows::{finish, is_open_at};
 use bsc_history::{Connection, End, Refusal, Worn};
 use bsc_octets::{DeviceId, Identity, Vmac};
 
@@ -47,28 +51,17 @@ pub(crate) enum Choice {
     Joined(NewRow),
 }
 
-/// The live connection that holds an address.
-pub(crate) fn holder(rows: &[Row], v: Vmac) -> Option<Connection>
-    ensures { result ≡ option_map connection (find (λ r. is_open r && same_vmac r.connection.who.vmac v) rows.now) }
+/// The connection, if it is live.
+fn live_one(rows: &[Row], found: Option<Connection>) -> Option<Connection>
+    requires { IsTrue (in_order rises rows.now) }
+    ensures { result ≡ live_one rows.now found }
 {
-    match rows
-        .iter()
-        .find(|row| row.is_open() && row.connection.who.vmac == v)
-    {
-        Some(row) => Some(row.connection),
-        None => None,
-    }
-}
-
-/// The live connection of a device.
-fn of_device(rows: &[Row], device: DeviceId) -> Option<Connection>
-    ensures { result ≡ option_map connection (find (λ r. is_open r && same_device r.connection.who.device device) rows.now) }
-{
-    match rows
-        .iter()
-        .find(|row| row.is_open() && row.connection.who.device == device)
-    {
-        Some(row) => Some(row.connection),
+    match found {
+        Some(connection) => if is_open_at(rows, connection.number) {
+            Some(connection)
+        } else {
+            None
+        },
         None => None,
     }
 }
@@ -113,7 +106,9 @@ fn first_case(
     joined: NewRow,
 ) -> Choice
     ensures reply { choice_reply result ≡ first_reply stopped is_hub rival is_full rows (JoinedReply joined.conn joined.replaced) }
-    ensures room { IfJoined result (is_full ≡ false) }
+    ensures room { IfJoined result (λ row. is_full ≡ false) }
+    ensures rival { IfJoined result (λ row. rival ≡ None) }
+    ensures row { IfJoined result (λ row. row ≡ joined) }
 {
     if stopped {
         return Choice::Refused(Refusal::Stopped);
@@ -175,26 +170,43 @@ impl Desk {
     pub fn has_device(&self, device: DeviceId) -> bool
         ensures { (h : List Entry) → StandsFor self.now h → result ≡ is_some (of_device h device) }
     {
-        of_device(self.rows.as_slice(), device).is_some()
+        self.of_device(&device).is_some()
+    }
+
+    /// The live connection that holds an address.
+    pub(crate) fn holder(&self, v: Vmac) -> Option<Connection>
+        ensures { result ≡ option_map connection (find (λ r. is_open r && same_vmac r.connection.who.vmac v) self.now.rows.items) }
+    {
+        live_one(self.rows.as_slice(), self.directory.newest_at(v))
+    }
+
+    /// The live connection of a device.
+    fn of_device(&self, device: &DeviceId) -> Option<Connection>
+        ensures { result ≡ option_map connection (find (λ r. is_open r && same_device r.connection.who.device device.now) self.now.rows.items) }
+    {
+        live_one(self.rows.as_slice(), self.directory.newest_of(device))
     }
 
     /// The reply of a connect after every history that the desk stands for.
     fn choose(&self, who: &Identity) -> Choice
         ensures reply { (h : List Entry) → StandsFor self.now h → choice_reply result ≡ connect_reply self.now.about h who.now }
-        ensures room { IfJoined result (vec_len self.now.rows < self.now.about.limits.rows) }
+        ensures room { IfJoined result (λ row. vec_len self.now.rows < self.now.about.limits.rows) }
+        ensures number { IfJoined result (λ row. row.conn ≡ 1 + self.now.counts.joined) }
+
+        // No live connection but the one replaced has the address or the device.
+        ensures free { IfJoined result (λ row. IsTrue (list_all (gives_place who.now row.replaced) self.now.rows.items)) }
     {
-        let rows = self.rows.as_slice();
-        let held = rival(who, holder(rows, who.vmac));
+        let held = rival(who, self.holder(who.vmac));
         let joined = NewRow {
             conn: 1 + self.counts.joined,
-            replaced: number_of(of_device(rows, who.device)),
+            replaced: number_of(self.of_device(&who.device)),
         };
         let limit = self.about.limits.rows;
         first_case(
             self.stopped_at.is_some(),
             who.vmac == self.about.hub.vmac,
             held,
-            limit as usize <= rows.len(),
+            limit as usize <= self.rows.len(),
             limit as u64,
             joined,
         )
@@ -216,6 +228,8 @@ impl Desk {
         requires calls { self.old.made < self.old.about.limits.calls }
         requires room { vec_len self.old.rows < self.old.about.limits.rows }
         requires new_inlet { IsNewInlet inlet self.old.about.limits.outbox }
+        requires number { row.conn ≡ 1 + self.old.counts.joined }
+        requires free { IsTrue (list_all (gives_place who row.replaced) self.old.rows.items) }
         ensures stands { (h : List Entry) → StandsFor self.old h → Lawful self.old.about (moment h (connect_entry caller who (JoinedReply row.conn row.replaced))) → StandsFor self.new (h ++ connect_entry caller who (JoinedReply row.conn row.replaced) ∷ []) }
         ensures about { self.new.about ≡ self.old.about }
         ensures taken { (c : ℕ) → taken_of self.new c ≡ taken_of self.old c }
@@ -226,6 +240,7 @@ impl Desk {
             caller,
             who,
         };
+        self.directory.enter(&connection);
         self.rows.push_reserved(Row { connection, inlet });
         self.made += 1;
         self.counts.joined += 1;

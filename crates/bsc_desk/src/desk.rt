@@ -1,8 +1,10 @@
 //! What the hub of one thread keeps.
 ghost use Rattle.std.specs.Prelude.{◌≤◌, ◌+◌, ◌*◌, IsTrue, vec_len, vec_capacity};
 ghost use Rattle.std.specs.List.{list_all};
+ghost use Rattle.bsc_desk.specs.Directories.{AreFiled};
 ghost use Rattle.bsc_desk.specs.Bounds.{AreLimits, AreAtMost, stops_left, entered_at_most};
 
+use crate::directory::Directory;
 use crate::row::Row;
 use bsc_history::{About, Counts};
 
@@ -20,10 +22,15 @@ pub struct Desk {
     pub(crate) counts: Counts,
     /// The connections that haven't left, in the order of joining, live or ended.
     pub(crate) rows: Vec<Row>,
+    /// Their connections, by which a row is found.
+    pub(crate) directory: Directory,
     ghost in_range: { AreLimits about.limits },
     ghost few_rows: { vec_len rows ≤ about.limits.rows },
-    // A row is pushed without memory.
+    // A row is pushed and entered without memory.
     ghost room: { about.limits.rows ≤ vec_capacity rows },
+    ghost address_room: { about.limits.rows ≤ vec_capacity directory.by_address },
+    ghost device_room: { about.limits.rows ≤ vec_capacity directory.by_device },
+    ghost filed: { AreFiled rows.items counts.joined directory },
     // Only leaving and stopping are entries past the limit, one for each row and one for the hub.
     ghost few_calls: { made + vec_len rows + stops_left stopped_at ≤ about.limits.calls + about.limits.rows + 1 },
     ghost counted: { AreAtMost counts (made * 1024) },

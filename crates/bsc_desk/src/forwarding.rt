@@ -1,7 +1,7 @@
 //! Forwards of a unicast.
 #![tactic(auto)]
 
-ghost use Rattle.std.specs.Prelude.{◌≡◌, ◌≤◌, ◌<◌, ◌↔◌, ℕ, ◌++◌, ◌∷◌, [], List, length, IfOk, IfErr, IsErr, OnErr, IsFalse};
+ghost use Rattle.std.specs.Prelude.{◌≡◌, ◌≤◌, ◌<◌, ◌↔◌, ℕ, ◌++◌, ◌∷◌, [], List, length, IfOk, IfErr, IsErr, OnErr, IsTrue, IsFalse};
 ghost use Rattle.std.specs.List.{AllByRecursion};
 ghost use Rattle.bsc_octets.specs.Forwarding.{is_broadcast};
 ghost use Rattle.bsc_history.specs.declared.entry.Entry.{Entry};
@@ -11,10 +11,11 @@ ghost use Rattle.bsc_history.specs.Legality.{Lawful};
 ghost use Rattle.bsc_history.specs.Replies.{forward_reply};
 ghost use Rattle.bsc_desk.specs.Rows.{IsRowOf, taken_of};
 ghost use Rattle.bsc_desk.specs.Standing.{StandsFor};
+ghost use Rattle.bsc_desk.specs.Orders.{in_order};
+ghost use Rattle.bsc_desk.specs.Rising.{rises};
 ghost use Rattle.bsc_desk.specs.Choices.{one_at, one_to, first_one};
 ghost use Rattle.bsc_desk.specs.Entries.{one_reply, one_looks, one_adds, forward_entry};
 
-use crate::connecting::holder;
 use crate::desk::Desk;
 use crate::prepared::Prepared;
 use crate::row::Row;
@@ -40,6 +41,7 @@ pub enum OneReply {
 
 /// A unicast to a connection, by a look at its outbox.
 fn one_at(rows: &[Row], conn: u64) -> OneReply
+    requires { IsTrue (in_order rises rows.now) }
     ensures { result ≡ one_at rows.now conn }
 {
     let look = Look {
@@ -55,6 +57,7 @@ fn one_at(rows: &[Row], conn: u64) -> OneReply
 
 /// A unicast of so many octets to its holder, if there is one.
 fn one_to(rows: &[Row], len: usize, held: Option<Connection>) -> OneReply
+    requires { IsTrue (in_order rises rows.now) }
     ensures { result ≡ one_to rows.now len held }
 {
     match held {
@@ -127,7 +130,7 @@ impl Desk {
         ensures looked { AllByRecursion (λ k. k.taken ≡ taken_of self.now k.conn) (one_looks result) }
     {
         let rows = self.rows.as_slice();
-        let held = holder(rows, frame.destination());
+        let held = self.holder(frame.destination());
         let otherwise = one_to(rows, frame.len(), held);
         first_one(self.stopped_at.is_some(), ending_at(rows, conn), otherwise)
     }

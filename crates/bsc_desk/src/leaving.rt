@@ -99,6 +99,7 @@ impl Desk {
         ensures row { row_of self.new conn ≡ None }
         ensures others { (k : ℕ) → k ≢ conn → KeepsOthers self.old self.new k }
     {
+        self.directory.leave(conn);
         remove(&mut self.rows, conn);
         self.made += 1;
         gone

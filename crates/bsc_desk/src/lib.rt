@@ -9,6 +9,7 @@
 mod broadcasting;
 mod connecting;
 mod desk;
+mod directory;
 mod forwarding;
 mod leaving;
 mod making;

@@ -7,6 +7,7 @@ ghost use Rattle.bsc_desk.specs.Rows.{IsNewInlet};
 ghost use Rattle.bsc_desk.specs.Standing.{StandsFor};
 
 use crate::desk::Desk;
+use crate::directory::Directory;
 use crate::outbox::Inlet;
 use bsc_history::{About, Counts, Limits};
 use bsc_octets::{Identity, NoMemory};
@@ -56,6 +57,7 @@ impl Desk {
                 full: 0,
             },
             rows: Vec::with_capacity(alloc, limits.rows as usize)?,
+            directory: Directory::make(alloc, limits.rows as usize)?,
         })
     }
 

@@ -1,8 +1,12 @@
-//! What is done to the outboxes of rows, by the number of a connection.
+//! What is done to the outboxes of rows, by the number of a connection. Rows stand in the order of their
+//! numbers.
 #![tactic(auto)]
 
 ghost use Rattle.std.specs.Prelude.{◌≡◌, ◌<◌, ◌==◌, not, map, filter, position, find, Some, option_copied, nat_lt, vec_len, vec_capacity, IsTrue};
 ghost use Rattle.std.specs.List.{list_any, list_all};
+ghost use Rattle.bsc_desk.specs.Orders.{in_order};
+ghost use Rattle.bsc_desk.specs.Rising.{rises};
+ghost use Rattle.bsc_desk.specs.Directories.{open_in};
 ghost use Rattle.bsc_desk.specs.Rows.{taken_in, waiting_in, ending_in};
 ghost use Rattle.bsc_desk.specs.Taking.{next_taken};
 ghost use Rattle.bsc_desk.specs.Choices.{full_in};
@@ -15,13 +19,15 @@ use bsc_octets::Octets;
 
 /// The place of the row of a connection.
 fn place_of(rows: &[Row], conn: u64) -> Option<usize>
+    requires { IsTrue (in_order rises rows.now) }
     ensures { result ≡ position (λ r. r.connection.number == conn) rows.now }
 {
-    rows.iter().position(|row| row.connection.number == conn)
+    rows.binary_search_by_key(&conn, |row| row.connection.number).ok()
 }
 
 /// Finishes the outbox of a connection with an End.
 fn finish_one(rows: &mut Vec<Row>, conn: u64, ending: End)
+    requires { IsTrue (in_order rises rows.old.items) }
     ensures items { rows.new.items ≡ done_at (Some conn) (with_end ending) rows.old.items }
     ensures len { vec_len rows.new ≡ vec_len rows.old }
     ensures capacity { vec_capacity rows.new ≡ vec_capacity rows.old }
@@ -38,6 +44,7 @@ fn finish_one(rows: &mut Vec<Row>, conn: u64, ending: End)
 /// Finishes the outbox of a connection, if one is given, with an End.
 #[tactic(auto, using(crate::proofs::Places::not_done))]
 pub(crate) fn finish(rows: &mut Vec<Row>, conn: Option<u64>, ending: End)
+    requires { IsTrue (in_order rises rows.old.items) }
     ensures items { rows.new.items ≡ done_at conn (with_end ending) rows.old.items }
     ensures len { vec_len rows.new ≡ vec_len rows.old }
     ensures capacity { vec_capacity rows.new ≡ vec_capacity rows.old }
@@ -50,6 +57,7 @@ pub(crate) fn finish(rows: &mut Vec<Row>, conn: Option<u64>, ending: End)
 
 /// Puts a frame into the outbox of a connection. One that finds no room is dropped.
 pub(crate) fn push(rows: &mut Vec<Row>, conn: u64, frame: Octets)
+    requires { IsTrue (in_order rises rows.old.items) }
     ensures items { rows.new.items ≡ done_at (Some conn) (with_frame frame) rows.old.items }
     ensures len { vec_len rows.new ≡ vec_len rows.old }
     ensures capacity { vec_capacity rows.new ≡ vec_capacity rows.old }
@@ -65,13 +73,18 @@ pub(crate) fn push(rows: &mut Vec<Row>, conn: u64, frame: Octets)
 
 /// The row of a connection.
 fn row_of(rows: &[Row], conn: u64) -> Option<&Row>
+    requires { IsTrue (in_order rises rows.now) }
     ensures { option_copied result ≡ find (λ r. r.connection.number == conn) rows.now }
 {
-    rows.iter().find(|row| row.connection.number == conn)
+    match place_of(rows, conn) {
+        Some(place) => Some(&rows[place]),
+        None => None,
+    }
 }
 
 /// How many frames were taken from the outbox of a connection.
 pub(crate) fn taken_at(rows: &[Row], conn: u64) -> u64
+    requires { IsTrue (in_order rises rows.now) }
     ensures { result ≡ taken_in (find (λ r. r.connection.number == conn) rows.now) }
 {
     match row_of(rows, conn) {
@@ -82,6 +95,7 @@ pub(crate) fn taken_at(rows: &[Row], conn: u64) -> u64
 
 /// How a connection has ended, if it has.
 pub(crate) fn ending_at(rows: &[Row], conn: u64) -> Option<End>
+    requires { IsTrue (in_order rises rows.now) }
     ensures { result ≡ ending_in (find (λ r. r.connection.number == conn) rows.now) }
 {
     match row_of(rows, conn) {
@@ -90,8 +104,20 @@ pub(crate) fn ending_at(rows: &[Row], conn: u64) -> Option<End>
     }
 }
 
+/// Whether a connection is live.
+pub(crate) fn is_open_at(rows: &[Row], conn: u64) -> bool
+    requires { IsTrue (in_order rises rows.now) }
+    ensures { result ≡ open_in (find (λ r. r.connection.number == conn) rows.now) }
+{
+    match row_of(rows, conn) {
+        Some(row) => row.is_open(),
+        None => false,
+    }
+}
+
 /// Whether the outbox of a connection is full.
 pub(crate) fn is_full_at(rows: &[Row], conn: u64) -> bool
+    requires { IsTrue (in_order rises rows.now) }
     ensures { result ≡ full_in (find (λ r. r.connection.number == conn) rows.now) }
 {
     match row_of(rows, conn) {
@@ -102,6 +128,7 @@ pub(crate) fn is_full_at(rows: &[Row], conn: u64) -> bool
 
 /// Takes the next frame from the outbox of a connection that has a row.
 pub(crate) fn take_at(rows: &mut Vec<Row>, conn: u64) -> Take
+    requires rising { IsTrue (in_order rises rows.old.items) }
     requires some_row { IsTrue (list_any (λ r. r.connection.number == conn) rows.old.items) }
     requires few { IsTrue (list_all (λ r. nat_lt r.inlet.taken 18446744073709551615) rows.old.items) }
     ensures given { result ≡ next_taken (waiting_in (find (λ r. r.connection.number == conn) rows.old.items)) (ending_in (find (λ r. r.connection.number == conn) rows.old.items)) }

@@ -4,6 +4,7 @@ use Rattle.bsc_desk.specs.declared.row.Row.{Row}
 use Rattle.bsc_desk.specs.Rows.{taken_in}
 use Rattle.bsc_desk.specs.Inlets.{done_at, with_frame}
 use Rattle.bsc_desk.proofs.Changes.{has_number}
+use Rattle.bsc_desk.proofs.Filing.{filed_done, frame_opens}
 use Rattle.bsc_desk.proofs.desk.Desk.append.Goals as goal
 
 pub invariant_of-self-clause-counted : goal.invariant_of-self-clause-counted
@@ -19,3 +20,6 @@ returns-clause-stands c h s l = stands_appended c.args.self.now _ h c.args.calle
 
 pub returns-clause-taken : goal.returns-clause-taken
 returns-clause-taken c k = ap (λ (rs : List Row). taken_in (find (has_number k) rs)) c.push.ensures.items ∙ taken_pushed c.args.self.now.rows.items c.args.look.conn k c.into_octets.result
+
+pub invariant_of-self-clause-filed : goal.invariant_of-self-clause-filed
+invariant_of-self-clause-filed c = rw c.push.ensures.items (filed_done (Some c.args.look.conn) (with_frame c.into_octets.result) c.args.self.now.rows.items c.args.self.now.counts.joined c.args.self.now.directory (frame_opens c.into_octets.result) c.args.self.now.filed)

@@ -1,9 +1,11 @@
-use Rattle.std.proofs.Common.{List, find, refl, arith, ap, ◌∙◌}
+use Rattle.std.proofs.Common.{List, Some, find, refl, arith, ap, ◌∙◌}
 use Rattle.bsc_desk.proofs.Forwards.{stands_closed, entered_ended, taken_ended}
 use Rattle.bsc_history.specs.declared.ending.End.TheVariants.{Full}
 use Rattle.bsc_desk.specs.declared.row.Row.{Row}
 use Rattle.bsc_desk.specs.Rows.{taken_in}
 use Rattle.bsc_desk.proofs.Changes.{has_number}
+use Rattle.bsc_desk.specs.Inlets.{with_end}
+use Rattle.bsc_desk.proofs.Filing.{filed_done, end_opens}
 use Rattle.bsc_desk.proofs.desk.Desk.close.Goals as goal
 
 pub invariant_of-self-clause-counted : goal.invariant_of-self-clause-counted
@@ -19,3 +21,6 @@ returns-clause-stands c h s l = stands_closed c.args.self.now _ h c.args.caller 
 
 pub returns-clause-taken : goal.returns-clause-taken
 returns-clause-taken c k = ap (λ (rs : List Row). taken_in (find (has_number k) rs)) c.finish.ensures.items ∙ taken_ended c.args.self.now.rows.items c.args.look.conn k Full
+
+pub invariant_of-self-clause-filed : goal.invariant_of-self-clause-filed
+invariant_of-self-clause-filed c = rw c.finish.ensures.items (filed_done (Some c.args.look.conn) (with_end Full) c.args.self.now.rows.items c.args.self.now.counts.joined c.args.self.now.directory (end_opens Full) c.args.self.now.filed)

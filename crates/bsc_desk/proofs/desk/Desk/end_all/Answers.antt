@@ -3,6 +3,7 @@ use Rattle.bsc_history.specs.declared.ending.End.TheVariants.{Stopped}
 use Rattle.bsc_desk.specs.Rows.{taken_in, waiting_in}
 use Rattle.bsc_desk.proofs.Changes.{has_number}
 use Rattle.bsc_desk.proofs.Leaves.{stands_stopped, taken_stopped, waiting_stopped, entered_stopped}
+use Rattle.bsc_desk.proofs.Filing.{filed_ended}
 use Rattle.bsc_desk.proofs.desk.Desk.end_all.Goals as goal
 
 pub invariant_of-self-clause-counted : goal.invariant_of-self-clause-counted
@@ -20,3 +21,6 @@ pub returns-clause-others : goal.returns-clause-others
 returns-clause-others c k =
     let same = ap (find (has_number k)) c.finish_all.ensures.items in
     (ap taken_in same ∙ taken_stopped k c.args.self.now.rows.items Stopped, ap waiting_in same ∙ waiting_stopped k c.args.self.now.rows.items Stopped)
+
+pub invariant_of-self-clause-filed : goal.invariant_of-self-clause-filed
+invariant_of-self-clause-filed c = rw c.finish_all.ensures.items (filed_ended Stopped c.args.self.now.rows.items c.args.self.now.counts.joined c.args.self.now.directory c.args.self.now.filed)

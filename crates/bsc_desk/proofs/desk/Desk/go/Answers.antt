@@ -2,6 +2,7 @@ use Rattle.std.proofs.Common.{find, refl, arith, ap, ◌∙◌}
 use Rattle.bsc_desk.specs.Rows.{taken_in, waiting_in}
 use Rattle.bsc_desk.proofs.Changes.{has_number}
 use Rattle.bsc_desk.proofs.Leaves.{lawful_leave, stands_left, all_kept, find_gone, find_kept, has_row_by}
+use Rattle.bsc_desk.proofs.Filing.{filed_left}
 use Rattle.bsc_desk.proofs.desk.Desk.go.Goals as goal
 
 pub remove-requires : goal.remove-requires
@@ -28,3 +29,6 @@ returns-clause-others c k other =
 
 pub returns-clause-due : goal.returns-clause-due
 returns-clause-due c h s = (lawful_leave c.args.self.now h c.args.caller c.args.conn c.args.outlet.now.empties c.args.gone s c.requires.unleft c.requires.ending c.requires.taken).replied
+
+pub invariant_of-self-clause-filed : goal.invariant_of-self-clause-filed
+invariant_of-self-clause-filed c = rw c.remove.ensures.items (filed_left c.args.conn c.args.self.now.rows.items c.args.self.now.counts.joined c.args.self.now.directory c.leave.new.self c.leave.ensures.by_address c.leave.ensures.by_device c.args.self.now.filed)

@@ -5,6 +5,7 @@ use Rattle.bsc_desk.specs.Rows.{taken_in}
 use Rattle.bsc_desk.proofs.Changes.{has_number}
 use Rattle.bsc_desk.proofs.Connects.{one_at_most}
 use Rattle.bsc_desk.proofs.Broadcasts.{stands_sent, taken_delivered, entered_delivered}
+use Rattle.bsc_desk.proofs.Filing.{filed_delivered}
 use Rattle.bsc_desk.proofs.desk.Desk.put_all.Goals as goal
 
 pub invariant_of-self-clause-counted : goal.invariant_of-self-clause-counted
@@ -25,3 +26,6 @@ returns-clause-stands c h s = stands_sent c.args.self.now _ h c.args.caller c.ar
 
 pub returns-clause-taken : goal.returns-clause-taken
 returns-clause-taken c k = ap (λ (rs : List Row). taken_in (find (has_number k) rs)) c.deliver.ensures.items ∙ taken_delivered c.args.conn k (out c.args.frame.now.message c.args.frame.now.sender) c.args.self.now.rows.items
+
+pub invariant_of-self-clause-filed : goal.invariant_of-self-clause-filed
+invariant_of-self-clause-filed c = rw c.deliver.ensures.items (filed_delivered c.args.conn (out c.args.frame.now.message c.args.frame.now.sender) c.args.self.now.rows.items c.args.self.now.counts.joined c.args.self.now.directory c.args.self.now.filed)

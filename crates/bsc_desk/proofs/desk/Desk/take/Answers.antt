@@ -1,5 +1,7 @@
-use Rattle.std.proofs.Common.{refl}
+use Rattle.std.proofs.Common.{Some, refl}
 use Rattle.bsc_desk.proofs.Taken.{stands_taken, waits_next, waiting_drops, taken_grows, keeps_others, counts_taken, entered_taken}
+use Rattle.bsc_desk.specs.Inlets.{without_first}
+use Rattle.bsc_desk.proofs.Filing.{filed_done}
 use Rattle.bsc_desk.proofs.desk.Desk.take.Goals as goal
 
 pub take_at-taken-requires-clause-few : goal.take_at-taken-requires-clause-few
@@ -22,3 +24,6 @@ returns-clause-taken c = taken_grows c.args.self.now.rows.items c.take_at-taken.
 
 pub returns-clause-others : goal.returns-clause-others
 returns-clause-others c = keeps_others c.args.self.now.rows.items c.take_at-taken.new.rows.items c.args.outlet.now.conn c.take_at-taken.ensures.items
+
+pub invariant_of-self-clause-filed : goal.invariant_of-self-clause-filed
+invariant_of-self-clause-filed c = rw c.take_at-taken.ensures.items (filed_done (Some c.args.outlet.now.conn) without_first c.args.self.now.rows.items c.args.self.now.counts.joined c.args.self.now.directory (λ i h. h) c.args.self.now.filed)
