@@ -1,9 +1,9 @@
 -- Rows that are filed stay so after each change, and the newest row of some octets is the one that may be live.
-use Rattle.std.proofs.Common.{◌≡◌, ◌≢◌, inl, inr, ℕ, suc, ◌+◌, ◌≤◌, ◌<◌, ◌==◌, nat_lt, nat_le, Bool, true, false, not, ◌&&◌, ◌||◌, cond, List, [], ◌∷◌, ◌++◌, length, map, filter, find, fold, Option, Some, None, is_some, is_none, refl, ap, sym, ◌∙◌, subst, arith}
+use Rattle.std.proofs.Common.{◌≡◌, inl, inr, ℕ, ◌+◌, ◌==◌, nat_lt, nat_le, Bool, true, false, not, ◌&&◌, ◌||◌, cond, List, [], ◌∷◌, ◌++◌, length, map, filter, find, Option, Some, None, is_none, refl, ap, sym, ◌∙◌, subst, arith}
 use Rattle.std.specs.List.{list_all, AllByRecursion}
 use Rattle.std.specs.Option.{option_map, option_or}
 use Rattle.std.specs.Cmp.Lexicographic.{same_text, bytes_decides}
-use Rattle.std.proofs.lemmas.Bool.{both_ways, and_parts, and_from, not-true, eq-eqb, eqb-true, le-leb, leb-true, lt-ltb}
+use Rattle.std.proofs.lemmas.Bool.{both_ways, not-true, eq-eqb, le-leb, leb-true, lt-ltb}
 use Rattle.std.proofs.lemmas.List.{map-append, length-map}
 use Rattle.bsc_octets.specs.declared.identity.Identity.{Identity}
 use Rattle.bsc_octets.specs.Addresses.{same_vmac, same_device}
@@ -22,11 +22,10 @@ use Rattle.bsc_desk.specs.Inlets.{is_open, is_row, with_inlet, with_frame, with_
 use Rattle.bsc_desk.specs.Receivers.{closes, appends, delivered}
 use Rattle.circular_buffer.specs.Buffer.{buffer}
 use Rattle.bsc_desk.specs.Standing.{connection}
-use Rattle.bsc_desk.specs.Directories.{gives_way, gives_place, AreFiled, open_in, live_one}
-use Rattle.bsc_desk.proofs.Changes.{has_number, connections-done}
+use Rattle.bsc_desk.specs.Directories.{gives_way, gives_place, AreFiled, live_one}
 use Rattle.bsc_desk.proofs.LiveRows.{changed, done_each, found_each}
 use Rattle.bsc_desk.proofs.Numbers.{apart}
-use Rattle.bsc_desk.proofs.Orders.{InOrder, order_true, true_order, order-map, order-push, order-filter, tests-filter, all_true, true_all, all-map, all-push, all-weaker, all-filter}
+use Rattle.bsc_desk.proofs.Orders.{InOrder, order_true, true_order, order-map, order-push, tests-filter, all_true, true_all, all-map, all-push, all-weaker, all-filter}
 use Rattle.bsc_desk.proofs.Sorted.{length-sorted, last-sorted, filter-sorted, sorted-push}
 
 pub filed_none : (x : Directory) → x.by_address.items ≡ [] → x.by_device.items ≡ [] → AreFiled [] 0 x
@@ -185,13 +184,13 @@ newest_live key k (r ∷ rows) order =
     let closed : is_open r ≡ false → (o : Option Row) → if_open o ≡ if_open (option_or o (Some r)) = λ e o. elim o as (λ o. if_open o ≡ if_open (option_or o (Some r))) [ None ↦ rw e refl | Some s ↦ refl ] in
     let on : (b p : Bool) → is_open r ≡ b → has key k r ≡ p → cond (b && p) (Some r) F ≡ if_open (option_or L (cond p (Some r) None)) = λ b p. elim b as (λ b. is_open r ≡ b → has key k r ≡ p → cond (b && p) (Some r) F ≡ if_open (option_or L (cond p (Some r) None))) [
       | true ↦ λ e. elim p as (λ p. has key k r ≡ p → cond p (Some r) F ≡ if_open (option_or L (cond p (Some r) None))) [
-          | true ↦ λ h. sym (ap (λ (o : Option Row). if_open (option_or o (Some r))) (none_behind key k r rows e h order.0).0 ∙ ap (λ (b : Bool). cond b (Some r) None) e)
-          | false ↦ λ h. rest ∙ ap if_open (sym (or_none L))
-        ]
+        | true ↦ λ h. sym (ap (λ (o : Option Row). if_open (option_or o (Some r))) (none_behind key k r rows e h order.0).0 ∙ ap (λ (b : Bool). cond b (Some r) None) e)
+        | false ↦ λ h. rest ∙ ap if_open (sym (or_none L))
+      ]
       | false ↦ λ e. elim p as (λ p. has key k r ≡ p → F ≡ if_open (option_or L (cond p (Some r) None))) [
-          | true ↦ λ h. rest ∙ closed e L
-          | false ↦ λ h. rest ∙ ap if_open (sym (or_none L))
-        ]
+        | true ↦ λ h. rest ∙ closed e L
+        | false ↦ λ h. rest ∙ ap if_open (sym (or_none L))
+      ]
     ] in
     on (is_open r) (has key k r) refl refl
 
@@ -246,9 +245,9 @@ found_live key k (s ∷ rows) r order (inr m) live is =
     let way = In_from_all (λ y. gives_way key s y ≡ true) r rows order.0 m in
     let by : (b p : Bool) → is_open s ≡ b → has key k s ≡ p → cond (b && p) (Some s) F ≡ Some r = λ b p. elim b as (λ b. is_open s ≡ b → has key k s ≡ p → cond (b && p) (Some s) F ≡ Some r) [
       | true ↦ λ o. elim p as (λ p. has key k s ≡ p → cond p (Some s) F ≡ Some r) [
-          | true ↦ λ h. absurd (both_ways (same_key (key s.connection) (key r.connection)) (not-true (same_key (key s.connection) (key r.connection)) (ap (λ (b : Bool). not (b && same_key (key s.connection) (key r.connection))) (sym o) ∙ way)) ((bytes_decides (key s.connection) (key r.connection)).1 (same_text (key s.connection) k (sym h) ∙ sym (same_text (key r.connection) k (sym is)))))
-          | false ↦ λ h. rest
-        ]
+        | true ↦ λ h. absurd (both_ways (same_key (key s.connection) (key r.connection)) (not-true (same_key (key s.connection) (key r.connection)) (ap (λ (b : Bool). not (b && same_key (key s.connection) (key r.connection))) (sym o) ∙ way)) ((bytes_decides (key s.connection) (key r.connection)).1 (same_text (key s.connection) k (sym h) ∙ sym (same_text (key r.connection) k (sym is)))))
+        | false ↦ λ h. rest
+      ]
       | false ↦ λ o h. rest
     ] in
     by (is_open s) (has key k s) refl refl
@@ -268,9 +267,9 @@ free rows who at of none =
     let each : (r : Row) → In r rows → gives_place who replaced r ≡ true = λ r m. (
     let last : (b p q : Bool) → (b ≡ true → p ≡ true → is_row replaced r ≡ true) → (b ≡ true → q ≡ true → is_row replaced r ≡ true) → (is_row replaced r || not (b && (p || q))) ≡ true = λ b p q. elim b as (λ b. (b ≡ true → p ≡ true → is_row replaced r ≡ true) → (b ≡ true → q ≡ true → is_row replaced r ≡ true) → (is_row replaced r || not (b && (p || q))) ≡ true) [
       | true ↦ elim p as (λ p. (true ≡ true → p ≡ true → is_row replaced r ≡ true) → (true ≡ true → q ≡ true → is_row replaced r ≡ true) → (is_row replaced r || not (p || q)) ≡ true) [
-          | true ↦ λ f g. rw (f refl refl) refl
-          | false ↦ elim q as (λ q. (true ≡ true → false ≡ true → is_row replaced r ≡ true) → (true ≡ true → q ≡ true → is_row replaced r ≡ true) → (is_row replaced r || not q) ≡ true) [ true ↦ λ f g. rw (g refl refl) refl | false ↦ λ f g. or_true (is_row replaced r) ]
-        ]
+        | true ↦ λ f g. rw (f refl refl) refl
+        | false ↦ elim q as (λ q. (true ≡ true → false ≡ true → is_row replaced r ≡ true) → (true ≡ true → q ≡ true → is_row replaced r ≡ true) → (is_row replaced r || not q) ≡ true) [ true ↦ λ f g. rw (g refl refl) refl | false ↦ λ f g. or_true (is_row replaced r) ]
+      ]
       | false ↦ λ f g. or_true (is_row replaced r)
     ] in
     last (is_open r) (same_vmac r.connection.who.vmac who.vmac) (same_device r.connection.who.device who.device) (by_address r m) (by_device r m)) in
@@ -296,6 +295,7 @@ filed_delivered conn o rows joined x s = filed_changed (delivered conn o) rows j
   where
     same : (r : Row) → connection (delivered conn o r) ≡ connection r
     same r = elim (appends conn o r) as (λ b. connection (cond b (with_inlet (with_frame o) r) (cond (closes conn o r) (with_inlet (with_end Full) r) r)) ≡ connection r) [ true ↦ refl | false ↦ elim (closes conn o r) as (λ b. connection (cond b (with_inlet (with_end Full) r) r) ≡ connection r) [ true ↦ refl | false ↦ refl ] ]
+
     opens : (r : Row) → is_open (delivered conn o r) ≡ true → is_open r ≡ true
     opens r = elim (appends conn o r) as (λ b. is_open (cond b (with_inlet (with_frame o) r) (cond (closes conn o r) (with_inlet (with_end Full) r) r)) ≡ true → is_open r ≡ true) [ true ↦ frame_opens o r.inlet | false ↦ elim (closes conn o r) as (λ b. is_open (cond b (with_inlet (with_end Full) r) r) ≡ true → is_open r ≡ true) [ true ↦ end_opens Full r.inlet | false ↦ λ h. h ] ]
 

@@ -1,15 +1,15 @@
 -- Lists in an order, and the order of octets.
-use Rattle.std.proofs.Common.{◌≡◌, ◌≢◌, ◌<◌, ◌≤◌, inl, inr, ℕ, zero, suc, Bool, true, false, cond, List, [], ◌∷◌, ◌++◌, ◌&&◌, length, map, filter, get_or, take, drop, refl, ap, sym, ◌∙◌, subst, arith}
+use Rattle.std.proofs.Common.{◌≡◌, ◌<◌, ℕ, zero, suc, Bool, true, false, cond, List, [], ◌∷◌, ◌++◌, length, map, filter, get_or, refl, ap, sym, ◌∙◌, arith}
 use Rattle.std.specs.Bool.{⊤}
 use Rattle.std.specs.List.{AllByRecursion, list_all}
-use Rattle.std.specs.Cmp.Lexicographic.{pointwise, slice_cmp, same_text}
+use Rattle.std.specs.Cmp.Lexicographic.{slice_cmp}
 use Rattle.std.specs.declared.cmp.Ordering.{Ordering}
 use Rattle.std.specs.declared.cmp.Ordering.TheVariants.{Less, Equal, Greater}
-use Rattle.std.specs.Ordering.{is_le, is_gt, is_eq, nat_cmp, ordering_reverse}
+use Rattle.std.specs.Ordering.{is_le, is_gt, nat_cmp, ordering_reverse}
 use Rattle.std.proofs.lemmas.Cmp.{nat_list_cmp_total, upto, tied_itself}
 use Rattle.std.proofs.lemmas.Map.Lookups.{exact_bytes}
-use Rattle.std.proofs.lemmas.Bool.{both_ways, and_parts, and_from}
-use Rattle.bsc_desk.specs.Orders.{in_order, same_key, at_most}
+use Rattle.std.proofs.lemmas.Bool.{and_parts, and_from}
+use Rattle.bsc_desk.specs.Orders.{in_order, at_most}
 
 -- what holds of each element holds of those that are kept, and of each but one that is put in
 

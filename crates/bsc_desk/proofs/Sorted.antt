@@ -1,5 +1,5 @@
 -- Connections that are filed one after the other in the order of their octets.
-use Rattle.std.proofs.Common.{◌≡◌, ◌≢◌, ◌<◌, ◌≤◌, ◌+◌, ◌⊎◌, inl, inr, ℕ, zero, suc, Bool, true, false, not, cond, List, [], ◌∷◌, ◌++◌, length, filter, fold, get_or, take, drop, slice_get, Option, Some, None, refl, ap, sym, ◌∙◌, subst, arith}
+use Rattle.std.proofs.Common.{◌≡◌, ◌<◌, ◌≤◌, ◌+◌, ◌⊎◌, inl, inr, ℕ, zero, suc, Bool, true, false, cond, List, [], ◌∷◌, ◌++◌, length, filter, fold, get_or, take, drop, slice_get, Option, Some, None, refl, ap, sym, ◌∙◌, subst, arith}
 use Rattle.std.specs.List.{AllByRecursion}
 use Rattle.std.specs.List.Sorted.{IsPartitionedBy, IsPartitionPoint}
 use Rattle.std.specs.Option.{option_or}
@@ -49,9 +49,12 @@ module _ (key : Connection → List ℕ) where
 
   -- behind a connection whose octets come later than k, all do
   all_above : (k : List ℕ) (c : Connection) (cs : List Connection) → at_most (key c) k ≡ false → AllByRecursion (Precedes key c) cs → AllByRecursion (λ d. at_most (key d) k ≡ false) (c ∷ cs)
-  all_above k c cs above all = (above, all-weaker (Precedes key c) (λ (d : Connection). at_most (key d) k ≡ false) cs (λ d h. (
-      let by : (b : Bool) → at_most (key d) k ≡ b → b ≡ false = λ b. elim b as (λ b. at_most (key d) k ≡ b → b ≡ false) [ true ↦ λ e. absurd (both_ways (at_most (key c) k) above (at_most-chain (key c) (key d) k h e)) | false ↦ λ e. refl ] in
-      by (at_most (key d) k) refl)) all)
+  all_above k c cs above all = (
+    above,
+    all-weaker (Precedes key c) (λ (d : Connection). at_most (key d) k ≡ false) cs (λ d h. (
+        let by : (b : Bool) → at_most (key d) k ≡ b → b ≡ false = λ b. elim b as (λ b. at_most (key d) k ≡ b → b ≡ false) [ true ↦ λ e. absurd (both_ways (at_most (key c) k) above (at_most-chain (key c) (key d) k h e)) | false ↦ λ e. refl ] in
+        by (at_most (key d) k) refl)) all,
+  )
 
   -- one more
 

@@ -29,7 +29,7 @@ returns-clause-taken c k =
     ∙ taken_joined c.args.self.now.rows.items new c.args.row.replaced k c.requires.new_inlet.takes
 
 pub invariant_of-self-clause-filed : goal.invariant_of-self-clause-filed
-invariant_of-self-clause-filed c = 
+invariant_of-self-clause-filed c =
     let d = c.args.self.now in
     let new : Row = record { connection = record { number = c.args.row.conn; caller = c.args.caller; who = c.args.who }; inlet = c.args.inlet } in
     rw c.push_reserved.ensures.items (filed_replaced d.rows.items c.finish.new.rows.items d.counts.joined d.directory c.enter.new.self c.args.row.replaced new c.requires.number c.requires.free c.finish.ensures.items c.enter.ensures.by_address c.enter.ensures.by_device d.filed)
