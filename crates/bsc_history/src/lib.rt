@@ -15,8 +15,10 @@ mod entry;
 mod laws;
 mod limits;
 mod looks;
+mod making;
 mod mark;
 mod reply;
+mod standing;
 #[cfg(test)]
 mod tests;
 mod told;
@@ -34,6 +36,8 @@ pub use laws::{
 };
 pub use limits::{About, Limits};
 pub use looks::{Look, Looks};
+pub use making::Makes;
 pub use mark::{Mark, Stamped};
 pub use reply::{Refusal, Reply};
+pub use standing::Stands;
 pub use told::{AlreadyStopped, Told, Worn};
