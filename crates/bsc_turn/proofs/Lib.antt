@@ -1,0 +1,4 @@
+pub mod Beginnings
+pub mod Keeping
+pub mod Passing
+pub mod Views

@@ -1,0 +1,17 @@
+-- A pass that gets its view back.
+use Rattle.std.proofs.Common.{◌≡◌, ℕ, true, List, [], ◌∷◌, refl, sym, ap, subst, ◌∙◌}
+use Rattle.bsc_history.specs.declared.limits.About.{About}
+use Rattle.bsc_turn.specs.declared.stage.Stage.TheVariants.{Outside}
+use Rattle.bsc_turn.specs.declared.view.View.{View}
+use Rattle.bsc_turn.specs.Told.{Truths, at_stage}
+use Rattle.bsc_turn.specs.Passes.{Sound, view_in}
+
+-- what holds of a view holds of the one that a badge with it has
+pub held_in : (P : View → Type 0) (vs : List View) (v : View) → vs ≡ v ∷ [] → P v → (vs ≡ view_in vs ∷ []) × P (view_in vs)
+held_in P vs v e p = subst (λ (us : List View). (us ≡ view_in us ∷ []) × P (view_in us)) (sym e) (refl, p)
+
+-- the view v, once it is outside, in a badge
+pub sound_outside : (n : ℕ) (a : About) (most : ℕ) (vs : List View) (v w : View) → vs ≡ w ∷ [] → w ≡ at_stage Outside v → v.live ≡ true → v.number ≡ n → v.about ≡ a → v.callers ≡ most → Truths v
+    → (vs ≡ view_in vs ∷ []) × Sound n a most (view_in vs)
+sound_outside n a most vs v w has e live number about callers truths =
+    held_in (Sound n a most) vs w has (subst (Sound n a most) (sym e) (live, refl, number, about, callers, truths))
