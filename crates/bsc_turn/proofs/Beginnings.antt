@@ -26,3 +26,11 @@ own_mine H s n e = own_append H (s ∷ []) n ∙ ap (λ b. own_of H n ++ cond b 
 
 pub own_else : (H : List Stamped) (s : Stamped) (n : ℕ) → s.entry.caller ≢ n → own_of (H ++ s ∷ []) n ≡ own_of H n
 own_else H s n e = own_append H (s ∷ []) n ∙ (ap (λ b. own_of H n ++ cond b (s.entry ∷ []) []) (ne_eqb s.entry.caller n e) ∙ append-nil (own_of H n))
+
+empty_front : (a b : List Entry) → a ++ b ≡ [] → a ≡ []
+empty_front [] b e = refl
+empty_front (x ∷ xs) b e = absurd (let bad : x ∷ (xs ++ b) ≡ [] = e in cc)
+
+-- who has no entry has none in what was seen
+pub own_none : (H front : List Stamped) (n : ℕ) → StartsWith H front → own_of H n ≡ [] → own_of front n ≡ []
+own_none H front n h e = empty_front (own_of front n) (own_of h.0 n) (sym (own_append front h.0 n) ∙ (ap (λ (l : List Stamped). own_of l n) (sym h.1) ∙ e))

@@ -1,4 +1,5 @@
 pub mod Beginnings
+pub mod Cutting
 pub mod Keeping
 pub mod Passing
 pub mod Views

@@ -15,3 +15,7 @@ pub sound_outside : (n : ℕ) (a : About) (most : ℕ) (vs : List View) (v w : V
     → (vs ≡ view_in vs ∷ []) × Sound n a most (view_in vs)
 sound_outside n a most vs v w has e live number about callers truths =
     held_in (Sound n a most) vs w has (subst (Sound n a most) (sym e) (live, refl, number, about, callers, truths))
+
+-- a view in a badge, and what it was computed as
+pub sound_as : (n : ℕ) (a : About) (most : ℕ) (vs : List View) (w u : View) → vs ≡ w ∷ [] → w ≡ u → Sound n a most u → (vs ≡ view_in vs ∷ []) × Sound n a most (view_in vs)
+sound_as n a most vs w u has e sound = held_in (Sound n a most) vs w has (subst (Sound n a most) (sym e) sound)

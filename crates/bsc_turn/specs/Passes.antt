@@ -93,3 +93,11 @@ after_commit e v = at_stage Outside (having_made e v)
 -- What a pass knows when its guard went back.
 abbrev pub after_back : View → View
 after_back v = at_stage Outside v
+
+-- What a pass knows after a load of the number word that found n.
+abbrev pub after_load : ℕ → View → View
+after_load n v = record v { loaded = n; stage = Outside }
+
+-- What a pass of number n knows that was split from one with the view v: it has seen as much.
+abbrev pub new_pass : ℕ → View → View
+new_pass n v = record v { number = n; own = []; took = []; loaded = 0; stage = Outside }

@@ -1,6 +1,6 @@
 -- What each kind of step tells the seat that makes it: of the step, the seat before, the number found, and
 -- the seat after.
-use Rattle.std.specs.Prelude.{◌≡◌, ◌≢◌, ℕ, ◌≤◌, true, List, [], ◌∷◌, ◌++◌, length, Option, Some, None}
+use Rattle.std.specs.Prelude.{◌≡◌, ◌≢◌, ℕ, ◌≤◌, Bool, true, false, List, [], ◌∷◌, ◌++◌, length, Option, Some, None}
 use mathlib.Core.Option.{some}
 use lib.ListN.{get_elem?}
 use Rattle.atomic_table.specs.Table.{Me, Step, rest}
@@ -35,6 +35,12 @@ having_made s v = record v { seen = v.seen ++ s ∷ []; own = v.own ++ s.entry �
 -- The view when it loaded the number word.
 abbrev pub having_loaded : ℕ → View → View
 having_loaded n v = record v { loaded = n; stage = Numbered }
+
+-- Whether a seat at this stage may free the turn with nothing in hand.
+abbrev pub may_leave : Stage → Bool
+may_leave Holding = true
+may_leave Numbered = true
+may_leave stage = false
 
 -- The view of the pass that gets the number which this view drew: it has seen as much, and has no entries.
 abbrev pub next_pass : View → View
@@ -76,9 +82,9 @@ module _ {S : Type 0} where
   abbrev pub LoadsNumber : Step (Option S) → Me (Option S) View → ℕ → Me (Option S) View → Type 0
   LoadsNumber s v n w = (n ≤ v.0.callers) × (w ≡ (having_loaded n v.0, v.1))
 
-  -- A number is drawn: it is the one that the load found.
+  -- A number is drawn: it is the one that the load found, and no entry is of that number.
   abbrev pub Draws : Step (Option S) → Me (Option S) View → ℕ → Me (Option S) View → Type 0
-  Draws s v n w = (n ≡ v.0.loaded) × (w ≡ (at_stage Drawn v.0, v.1))
+  Draws s v n w = (n ≡ v.0.loaded) × (w ≡ (at_stage Drawn v.0, v.1)) × (own_of v.0.seen v.0.loaded ≡ [])
 
   -- A load that leaves the view as it is, and after which this is at hand.
   abbrev pub Confirms : Step (Option S) → Me (Option S) View → ℕ → Me (Option S) View → Type 0

@@ -15,6 +15,8 @@ mod making;
 mod numbers;
 mod pass;
 mod plays;
+mod spent;
+mod splitting;
 mod stage;
 mod steps;
 #[cfg(test)]
@@ -25,6 +27,7 @@ mod view;
 pub use guard::Guard;
 pub use pass::Pass;
 pub use plays::{Fixed, TurnRule, TurnSeat, TurnTable};
+pub use spent::NumbersSpent;
 pub use stage::Stage;
 pub use turn::Turn;
 pub use view::{Ended, View};

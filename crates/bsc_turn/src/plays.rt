@@ -3,7 +3,7 @@
 //! The table has three words (0 the turn word, 1 the count word, 2 the number word) and one slot, which holds
 //! the state.
 use crate::view::View;
-use atomic_table::{Play, Seat, Table, TableRule};
+use atomic_table::{Join, Play, Seat, Split, Table, TableRule};
 use bsc_history::{Makes, Stands};
 use std::alloc::Global;
 use std::marker::PhantomData;
@@ -69,4 +69,55 @@ impl<S> Play<Option<S>, View> for Release {
     ghost use Rattle.bsc_turn.specs.Told.{Releases};
 
     ghost then = { Releases };
+}
+
+/// The number word is loaded while the turn is held.
+pub struct LoadNumber;
+
+impl<S> Play<Option<S>, View> for LoadNumber {
+    ghost use Rattle.bsc_turn.specs.Told.{LoadsNumber};
+
+    ghost then = { LoadsNumber };
+}
+
+/// The number that was loaded is drawn.
+pub struct Draw;
+
+impl<S> Play<Option<S>, View> for Draw {
+    ghost use Rattle.bsc_turn.specs.Told.{Draws};
+
+    ghost then = { Draws };
+}
+
+/// A pass begins, with the number that was drawn for it.
+pub struct IntoPasses;
+
+impl Split<View> for IntoPasses {
+    ghost use Rattle.bsc_turn.specs.declared.stage.Stage.TheVariants.{Holding};
+    ghost use Rattle.bsc_turn.specs.Told.{at_stage, next_pass};
+
+    ghost left = { at_stage Holding };
+
+    ghost right = { next_pass };
+}
+
+/// A pass ends, and another keeps what it had.
+pub struct IntoOne;
+
+impl Join<View> for IntoOne {
+    ghost use Rattle.bsc_turn.specs.Rule.{spent_view};
+    ghost use Rattle.bsc_turn.specs.Told.{joined};
+
+    ghost both = { joined };
+
+    ghost spent = { spent_view };
+}
+
+/// A load after which a seat has at hand what the rule says of its own view.
+pub struct Confirm;
+
+impl<S> Play<Option<S>, View> for Confirm {
+    ghost use Rattle.bsc_turn.specs.Told.{Confirms};
+
+    ghost then = { Confirms };
 }

@@ -2,14 +2,17 @@
 //!
 //! The slot is taken by the load of the count and given back by the store that frees the turn. Between the two
 //! the seat may exchange what lies in it, and no other seat can.
-ghost use Rattle.std.specs.Prelude.{ℕ, List, ◌≡◌, ◌<◌, ◌≤◌, ◌^◌, [], ◌∷◌, length, IfOk, true, Some, None};
+ghost use Rattle.std.specs.Prelude.{ℕ, List, ◌≡◌, ◌<◌, ◌≤◌, ◌^◌, [], ◌∷◌, length, IfOk, IfErr, true, Some, None};
 ghost use Rattle.bsc_history.specs.declared.mark.Stamped.{Stamped};
 ghost use Rattle.bsc_turn.specs.declared.stage.Stage.TheVariants.{Outside, Holding};
-ghost use Rattle.bsc_turn.specs.Histories.{StartsWith};
+ghost use Rattle.bsc_turn.specs.Histories.{StartsWith, own_of};
+ghost use Rattle.bsc_turn.specs.Passes.{after_load, new_pass};
 ghost use Rattle.bsc_turn.specs.Rule.{first_view, has_state};
-ghost use Rattle.bsc_turn.specs.Told.{HasOut, IsOutside, Truths, at_stage, having_made, having_seen};
+ghost use Rattle.bsc_turn.specs.Told.{HasOut, IsOutside, Truths, at_stage, having_made, having_seen, may_leave};
 
-use crate::plays::{Acquire, Commit, Count, Fixed, Release, TurnSeat, TurnTable};
+use crate::plays::{
+    Acquire, Commit, Count, Draw, Fixed, IntoPasses, LoadNumber, Release, TurnSeat, TurnTable,
+};
 use atomic_table::Table;
 use bsc_history::{Makes, Stands};
 use bsc_octets::NoMemory;
@@ -111,4 +114,48 @@ pub(crate) fn put_in<S: Stands>(table: &TurnTable<S>, seat: &mut TurnSeat<S>, st
         Some(_) => unreachable!(),
     }
     table.shared.store::<Release>(seat, 0, 0);
+}
+
+/// Frees the turn with nothing in hand. One store.
+fn leave<S: Stands>(table: &TurnTable<S>, seat: &mut TurnSeat<S>)
+    requires placed { seat.old.table_id ≡ table.now.shared.table_id }
+    requires sized { seat.old.table_id.words ≡ 3 }
+    requires held { (may_leave seat.old.me.0.stage ≡ true) × (seat.old.me.0.live ≡ true)
+        × (seat.old.me.1 ≡ []) }
+    ensures placed { seat.new.table_id ≡ seat.old.table_id }
+    ensures outside { seat.new.me ≡ (at_stage Outside seat.old.me.0, []) }
+{
+    table.shared.store::<Release>(seat, 0, 0);
+}
+
+/// A seat with the next number, unless all are drawn. One load, one addition and one split, while the turn is
+/// held.
+pub(crate) fn next_seat<S: Stands, R: Wait>(
+    rt: &R,
+    table: &TurnTable<S>,
+    seat: &mut TurnSeat<S>,
+    callers: u64,
+) -> Result<(u64, TurnSeat<S>), u64>
+    requires placed { seat.old.table_id ≡ table.now.shared.table_id }
+    requires sized { seat.old.table_id.words ≡ 3 }
+    requires outside { IsOutside seat.old.me }
+    requires bounds { (callers ≤ 2 ^ 62) × (seat.old.me.0.callers ≡ callers) }
+    ensures placed { seat.new.table_id ≡ seat.old.table_id }
+    ensures ok { IfOk result (λ r. (r.0 < callers) × (r.1.table_id ≡ seat.old.table_id)
+        × (seat.new.me ≡ (after_load r.0 seat.old.me.0, []))
+        × (r.1.me ≡ (new_pass r.0 seat.old.me.0, []))
+        × (own_of seat.old.me.0.seen r.0 ≡ [])) }
+    ensures err { IfErr result (λ n. (n ≡ callers)
+        × (seat.new.me ≡ (after_load n seat.old.me.0, []))) }
+{
+    acquire(rt, table, seat);
+    let next = table.shared.load::<LoadNumber>(seat, 2);
+    if next == callers {
+        leave(table, seat);
+        return Err(next);
+    }
+    table.shared.fetch_add::<Draw>(seat, 2, 1);
+    let other = table.shared.split_seat::<IntoPasses>(seat);
+    leave(table, seat);
+    Ok((next, other))
 }

@@ -87,3 +87,13 @@ fn one_thread(rt: HostRuntime) -> Result<(), Fail> {
     guard.back(&mut pass);
     Ok(())
 }
+
+#[test]
+fn two_callers(rt: HostRuntime) -> Result<(), Fail> {
+    let (turn, mut pass) = Turn::make(rt.alloc(), new_counter(), 2)?;
+    assert!(rt; pass.number() == 0);
+    let second = turn.split(&rt, &mut pass)?;
+    assert!(rt; second.number() == 1);
+    assert!(rt; matches!(turn.split(&rt, &mut pass), Err(NumbersSpent { drawn: 2 })));
+    Ok(())
+}
