@@ -2,4 +2,5 @@ pub mod Beginnings
 pub mod Cutting
 pub mod Keeping
 pub mod Passing
+pub mod Uniting
 pub mod Views

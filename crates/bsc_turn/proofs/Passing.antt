@@ -1,10 +1,13 @@
 -- A pass that gets its view back.
-use Rattle.std.proofs.Common.{◌≡◌, ℕ, true, List, [], ◌∷◌, refl, sym, ap, subst, ◌∙◌}
+use Rattle.std.proofs.Common.{◌≡◌, ℕ, true, List, [], ◌∷◌, length, refl, sym, ap, subst, ◌∙◌}
 use Rattle.bsc_history.specs.declared.limits.About.{About}
 use Rattle.bsc_turn.specs.declared.stage.Stage.TheVariants.{Outside}
 use Rattle.bsc_turn.specs.declared.view.View.{View}
-use Rattle.bsc_turn.specs.Told.{Truths, at_stage}
+use Rattle.bsc_turn.specs.Histories.{IsLonger}
+use Rattle.bsc_turn.specs.Told.{Truths, at_stage, ended_of, joined}
 use Rattle.bsc_turn.specs.Passes.{Sound, view_in}
+use Rattle.bsc_turn.proofs.Beginnings.{longer_first, longer_one}
+use Rattle.bsc_turn.proofs.Uniting.{at_middle}
 
 -- what holds of a view holds of the one that a badge with it has
 pub held_in : (P : View → Type 0) (vs : List View) (v : View) → vs ≡ v ∷ [] → P v → (vs ≡ view_in vs ∷ []) × P (view_in vs)
@@ -19,3 +22,9 @@ sound_outside n a most vs v w has e live number about callers truths =
 -- a view in a badge, and what it was computed as
 pub sound_as : (n : ℕ) (a : About) (most : ℕ) (vs : List View) (w u : View) → vs ≡ w ∷ [] → w ≡ u → Sound n a most u → (vs ≡ view_in vs ∷ []) × Sound n a most (view_in vs)
 sound_as n a most vs w u has e sound = held_in (Sound n a most) vs w has (subst (Sound n a most) (sym e) sound)
+
+-- what one pass that took in another has seen
+pub joined_longer : (v w : View) → Truths (joined v w) → IsLonger v.seen w.seen (joined v w).seen
+joined_longer v w t =
+    let second = (t.1 (length v.took) (ended_of w) (at_middle v.took (ended_of w) w.took)).1 in
+    (longer_one v.seen w.seen second, longer_first v.seen w.seen, second)

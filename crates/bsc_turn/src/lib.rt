@@ -10,6 +10,7 @@
 
 mod entering;
 mod guard;
+mod joining;
 mod lending;
 mod making;
 mod numbers;

@@ -8,10 +8,11 @@ ghost use Rattle.bsc_turn.specs.declared.stage.Stage.TheVariants.{Outside, Holdi
 ghost use Rattle.bsc_turn.specs.Histories.{StartsWith, own_of};
 ghost use Rattle.bsc_turn.specs.Passes.{after_load, new_pass};
 ghost use Rattle.bsc_turn.specs.Rule.{first_view, has_state};
-ghost use Rattle.bsc_turn.specs.Told.{HasOut, IsOutside, Truths, at_stage, having_made, having_seen, may_leave};
+ghost use Rattle.bsc_turn.specs.Told.{HasOut, IsOutside, Truths, at_stage, having_made, having_seen, joined, may_leave};
 
 use crate::plays::{
-    Acquire, Commit, Count, Draw, Fixed, IntoPasses, LoadNumber, Release, TurnSeat, TurnTable,
+    Acquire, Commit, Confirm, Count, Draw, Fixed, IntoOne, IntoPasses, LoadNumber, Release, TurnSeat,
+    TurnTable,
 };
 use atomic_table::Table;
 use bsc_history::{Makes, Stands};
@@ -158,4 +159,23 @@ pub(crate) fn next_seat<S: Stands, R: Wait>(
     let other = table.shared.split_seat::<IntoPasses>(seat);
     leave(table, seat);
     Ok((next, other))
+}
+
+/// Takes in another seat: one join, and one load of the count without the turn, by which the rule says how the
+/// two histories that were seen lie to one another.
+pub(crate) fn take_in<S: Stands>(
+    table: &TurnTable<S>,
+    seat: &mut TurnSeat<S>,
+    other: TurnSeat<S>,
+)
+    requires placed { (seat.old.table_id ≡ table.now.shared.table_id)
+        × (other.table_id ≡ table.now.shared.table_id) }
+    requires sized { seat.old.table_id.words ≡ 3 }
+    requires outside { IsOutside seat.old.me × IsOutside other.me }
+    ensures placed { seat.new.table_id ≡ seat.old.table_id }
+    ensures joined { seat.new.me ≡ (joined seat.old.me.0 other.me.0, []) }
+    ensures truths { Truths (joined seat.old.me.0 other.me.0) }
+{
+    table.shared.join_seat::<IntoOne>(seat, other);
+    let _made = table.shared.load::<Confirm>(seat, 1);
 }
