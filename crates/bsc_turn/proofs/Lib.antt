@@ -4,3 +4,4 @@ pub mod Keeping
 pub mod Passing
 pub mod Uniting
 pub mod Views
+pub mod WorkedViews

@@ -1,9 +1,10 @@
 -- A pass that gets its view back.
-use Rattle.std.proofs.Common.{◌≡◌, ℕ, true, List, [], ◌∷◌, length, refl, sym, ap, subst, ◌∙◌}
+use Rattle.std.proofs.Common.{◌≡◌, ◌⊎◌, inl, inr, ⊎_elim, ℕ, true, List, [], ◌∷◌, length, refl, sym, ap, subst, ◌∙◌}
 use Rattle.bsc_history.specs.declared.limits.About.{About}
+use Rattle.bsc_history.specs.declared.mark.Stamped.{Stamped}
 use Rattle.bsc_turn.specs.declared.stage.Stage.TheVariants.{Outside}
 use Rattle.bsc_turn.specs.declared.view.View.{View}
-use Rattle.bsc_turn.specs.Histories.{IsLonger}
+use Rattle.bsc_turn.specs.Histories.{IsLonger, StartsWith}
 use Rattle.bsc_turn.specs.Told.{Truths, at_stage, ended_of, joined}
 use Rattle.bsc_turn.specs.Passes.{Sound, view_in}
 use Rattle.bsc_turn.proofs.Beginnings.{longer_first, longer_one}
@@ -28,3 +29,11 @@ pub joined_longer : (v w : View) → Truths (joined v w) → IsLonger v.seen w.s
 joined_longer v w t =
     let second = (t.1 (length v.took) (ended_of w) (at_middle v.took (ended_of w) w.took)).1 in
     (longer_one v.seen w.seen second, longer_first v.seen w.seen, second)
+
+-- where one history is the longer of two, one of these begins with the other
+pub one_begins : (F G H : List Stamped) → IsLonger F G H → StartsWith F G ⊎ StartsWith G F
+one_begins F G H h = ⊎_elim (λ (e : H ≡ F). inl (subst (λ (l : List Stamped). StartsWith l G) e h.2)) (λ (e : H ≡ G). inr (subst (λ (l : List Stamped). StartsWith l F) e h.1)) h.0
+
+-- what is so of two views joined, where they are written in another way
+pub joined_truths : (v w v' w' : View) → v' ≡ v → w' ≡ w → Truths (joined v' w') → Truths (joined v w)
+joined_truths v w v' w' a b t = subst (λ (x : View). Truths (joined x w)) a (subst (λ (x : View). Truths (joined v' x)) b t)

@@ -1,14 +1,17 @@
 //! Passes that commit to one counter, in one thread and in two, and what callers can rely on.
-ghost use Rattle.std.specs.Prelude.{◌≡◌, ◌<◌, ◌^◌, ◌++◌, ◌∷◌, [], length, IfSome, IfNone};
+ghost use Rattle.std.specs.Prelude.{◌≡◌, ◌+◌, ◌<◌, ◌^◌, ◌++◌, ◌∷◌, [], length, true, IfSome, IfNone};
 ghost use Rattle.bsc_turn.specs.Counting.{MadeOne, counted};
 ghost use Rattle.bsc_turn.specs.Passes.{IsFor, IsGuardOf, IsPassOf, after_commit, first_state, guard_view, history, number_of, own_list, view_of};
 
 use super::*;
 use bsc_history::{About, Limits, Makes, Stands};
 use bsc_octets::read_identity;
+use std::alloc::Global;
 use std::marker::Brand;
 use std::sync::Wait;
 use std::test::Fail;
+use std::thread;
+use std::thread::Threads;
 
 /// A state that counts the entries of its history.
 #[derive(Drop)]
@@ -64,7 +67,7 @@ fn count_one<R: Wait>(rt: &R, turn: &Turn<Counter>, pass: &mut Pass) -> Option<u
     requires { IsPassOf (λ s. s.about) turn.now pass.old }
     ensures pass { IsPassOf (λ s. s.about) turn.now pass.new }
     ensures number { number_of pass.new ≡ number_of pass.old }
-    ensures some { IfSome result (λ place. MadeOne pass.old place pass.new) }
+    ensures some { IfSome result (λ place. (place < 2 ^ 62) × MadeOne pass.old place pass.new) }
     ensures none { IfNone result (own_list pass.new ≡ own_list pass.old) }
 {
     let caller = pass.number();
@@ -96,4 +99,75 @@ fn two_callers(rt: HostRuntime) -> Result<(), Fail> {
     assert!(rt; second.number() == 1);
     assert!(rt; matches!(turn.split(&rt, &mut pass), Err(NumbersSpent { drawn: 2 })));
     Ok(())
+}
+
+/// Counts so many, and says whether each found room at a place behind the one before.
+fn count_many<R: Wait>(
+    rt: &R,
+    turn: &Turn<Counter>,
+    pass: Pass,
+    times: u32,
+) -> (Pass, bool)
+    requires { IsPassOf (λ s. s.about) turn.now pass }
+    ensures pass { IsPassOf (λ s. s.about) turn.now result.0 }
+    ensures number { number_of result.0 ≡ number_of pass }
+    ensures own { result.1 ≡ true → length (own_list result.0) ≡ length (own_list pass) + times }
+{
+    let mut pass = pass;
+    let mut rising = true;
+    let mut least = 0;
+    for n in 0..times {
+        match count_one(rt, turn, &mut pass) {
+            Some(place) => {
+                rising = rising && least <= place;
+                least = place + 1;
+            }
+            None => rising = false,
+        }
+    }
+    (pass, rising)
+}
+
+/// Two threads count so many each. The answer is whether the places of each rose, and the count.
+fn across<R: Threads + Wait + Sync>(rt: &R, alloc: Global, times: u32) -> Option<(bool, u64)> {
+    let (turn, mut first) = Turn::make(alloc, new_counter(), 2).ok()?;
+    let second = turn.split(rt, &mut first).ok()?;
+    let shared = &turn;
+    let ((mut first, one), (second, two)) = thread::join(
+        rt,
+        move || -> (Pass, bool)
+            requires { IsPassOf (λ s. s.about) shared.now first }
+            ensures { IsPassOf (λ s. s.about) shared.entry.now result.0 }
+        { count_many(rt, shared, first, times) },
+        move || -> (Pass, bool)
+            requires { IsPassOf (λ s. s.about) shared.now second }
+            ensures { IsPassOf (λ s. s.about) shared.entry.now result.0 }
+        { count_many(rt, shared, second, times) },
+    );
+    turn.join(&mut first, second);
+    let mut guard = turn.enter(rt, &mut first);
+    let count = guard.state().count;
+    guard.back(&mut first);
+    Some((one && two, count))
+}
+
+#[test]
+fn two_threads(rt: HostRuntime) -> Result<(), Fail> {
+    assert!(rt; across(&rt, rt.alloc(), 1_000) == Some((true, 2_000)));
+    Ok(())
+}
+
+fn is_shared<T: Send + Sync>(value: &T) {
+    let _value = value;
+}
+
+fn is_sent<T: Send>(value: &T) {
+    let _value = value;
+}
+
+/// A turn may be shared among threads where its state may be sent, and a pass may always be sent.
+fn cross<S: Stands + Drop + Send>(turn: &Turn<S>, pass: &Pass) {
+    is_shared(turn);
+    is_sent(turn);
+    is_sent(pass);
 }
