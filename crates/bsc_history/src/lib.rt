@@ -3,7 +3,8 @@
 //! This is plain data, and the program stores no history: contracts speak of it. `specs/` has the
 //! definitions, a file a subject (`Entries`, `Ends`, `Holders`, `Outboxes`, `Replies`, `Counting`,
 //! `Legality`, `Marks`); `laws` has what holds of every legal history. `docs/DEFINITIONS.md` says each in
-//! plain words.
+//! plain words. `standing` and `making` have the traits by which a lock speaks of a state and of the entry
+//! of a commit.
 #![tactic(auto)]
 
 mod call;
@@ -15,8 +16,10 @@ mod entry;
 mod laws;
 mod limits;
 mod looks;
+mod making;
 mod mark;
 mod reply;
+mod standing;
 #[cfg(test)]
 mod tests;
 mod told;
@@ -34,6 +37,8 @@ pub use laws::{
 };
 pub use limits::{About, Limits};
 pub use looks::{Look, Looks};
+pub use making::Makes;
 pub use mark::{Mark, Stamped};
 pub use reply::{Refusal, Reply};
+pub use standing::Stands;
 pub use told::{AlreadyStopped, Told, Worn};

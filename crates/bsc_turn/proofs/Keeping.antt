@@ -1,0 +1,363 @@
+-- Each step of one seat keeps the rule.
+use Rattle.std.proofs.Common.{◌≡◌, ◌≢◌, ℕ, zero, suc, ◌+◌, ◌%◌, ◌^◌, ◌<◌, ◌≤◌, ◌==◌, Bool, true, false, List, [], ◌∷◌, ◌++◌, length, set, Option, Some, None, ◌⊎◌, inl, inr, ⊎_elim, refl, sym, ◌∙◌, ap, subst, arith, length-append, append-nil, slice_index, slice_set, ne_eqb, eq-eqb}
+use mathlib.Core.Option.{some, none, some-ne-none}
+use mathlib.Core.Option as maybe
+use lib.ListN.{get_elem?}
+use prog.Atomic.{either}
+use Rattle.atomic_table.specs.Table.{State, Me, Step, step, Act, keeps, takes, gives, Allows, Valid, opening, homes_after, carried_after, put_back, rest}
+use Rattle.atomic_table.proofs.Lists.{set_again}
+use Rattle.bsc_history.specs.declared.limits.About.{About}
+use Rattle.bsc_history.specs.declared.mark.Stamped.{Stamped}
+use Rattle.bsc_turn.specs.declared.stage.Stage.{Stage}
+use Rattle.bsc_turn.specs.declared.stage.Stage.TheVariants.{Outside, Holding, Entered, Committed, Numbered, Drawn}
+use Rattle.bsc_turn.specs.declared.view.Ended.{Ended}
+use Rattle.bsc_turn.specs.declared.view.View.{View}
+use Rattle.bsc_turn.specs.Histories.{StartsWith, own_of}
+use Rattle.bsc_turn.specs.Rule.{holds_turn, has_state, knows_next, turn_word, number_word, At, IsKept, Fits, Held, Home, Stored, Kept, first_view}
+use Rattle.bsc_turn.specs.Told.{Truths, at_stage, having_seen, having_made, having_loaded, may_leave, Acquires, Counts, Commits, Releases, LoadsNumber, Draws, Confirms}
+use Rattle.bsc_turn.proofs.Beginnings.{starts_self, starts_more, starts_trans, own_mine, own_else, own_none}
+use Rattle.bsc_turn.proofs.Views.{not_also, single, free_or_held, state_holds, next_holds, at_changed, apart_after, gone_after, none_else, held_after}
+
+pub truths : (a : About) (most made : ℕ) (log : List Stamped) (v : View) → Fits a most made log v → Truths v
+truths a most made log v f = (f.own, λ i e at. let k = f.kept i e at in (k.own, k.saw))
+
+-- the rule speaks of no state or number at this stage
+idle : (P : Type 0) → false ≡ true → P
+idle P e = absurd (not_also e)
+
+module _ {S : Type 0} (stands : S → List Stamped → Type 0) (about : S → About) where
+  abbrev Slots : Type 0
+  Slots = List (maybe.Option (Option S))
+
+  pub starts : (a : About) (most : ℕ) (st : S) → 1 ≤ most → stands st [] → about st ≡ a → Kept stands about a most (opening (0 ∷ 0 ∷ 1 ∷ []) (Some st ∷ []) (first_view a most))
+  starts a most st few h e =
+      let first : View = first_view a most in
+      let f : Fits a most 1 [] first = record { begins = ([], refl); about = refl; callers = refl; below = omega arith; loaded = omega arith; all = refl; own = refl; kept = λ i x got. absurd (some-ne-none x (sym got)); whole = idle ([] ≡ []); next = idle (0 ≡ 1) } in
+      record {
+        log = [];
+        made = 1;
+        stage = Outside;
+        words = refl;
+        stored = (st, refl, h, e);
+        few = few;
+        strangers = λ n _. refl;
+        fits = λ id v got. subst (Fits a most 1 []) (single first id v got.0).1 f;
+        apart = λ i j v w at at2 _. (single first i v at.0).0 ∙ sym (single first j w at2.0).0;
+        gone = λ i j n v w x at got at2 _. some-ne-none x (sym (subst (λ (u : View). get_elem? u.took n ≡ some x) (sym (single first i v at.0).1) got));
+        held = record { holder = 0; alone = λ i v got holds. absurd (not_also (ap (λ (u : View). holds_turn u.stage) (single first i v got.0).1 ∙ holds)); there = idle ((v : View) × At (first ∷ []) 0 v × (v.stage ≡ Outside)) };
+      }
+
+  module _ (a : About) (most id slots : ℕ) (me : Me (Option S) View) (live : me.0.live ≡ true) (s : State (Option S) View) (k : Kept stands about a most s) (here : get_elem? s.views id ≡ some me.0) where
+    abbrev at : At s.views id me.0
+    at = (here, live)
+
+    abbrev mine : Fits a most k.made k.log me.0
+    mine = k.fits id me.0 at
+
+    -- the seat with its new view, after a step at the word `i`
+    abbrev Goes : ℕ → ℕ → (Me (Option S) View → Type 0) → Type 0
+    Goes i n told =
+        (w : View) × (t : Act (Option S)) × Valid s.homes me.1 t
+        × Kept stands about a most (record { words = slice_set s.words i n; homes = homes_after s.homes me.1 t; views = slice_set s.views id w })
+        × told (w, carried_after me.1 t)
+
+    -- where the seat has the turn, or nobody had it
+    remade : (log : List Stamped) (w : View) (ws : List ℕ) (hs : Slots)
+        → (holds_turn me.0.stage ≡ true) ⊎ (k.stage ≡ Outside)
+        → ws ≡ turn_word w.stage ∷ length log ∷ number_word w.stage k.made ∷ []
+        → Stored stands about a (has_state w.stage) log hs
+        → number_word w.stage k.made ≤ most
+        → ((n : ℕ) → k.made ≤ n → own_of log n ≡ [])
+        → Fits a most k.made log w
+        → ((i : ℕ) (x : View) → i ≢ id → At s.views i x → Fits a most k.made log x)
+        → w.live ≡ true → w.number ≡ me.0.number → w.took ≡ me.0.took
+        → Kept stands about a most (record { words = ws; homes = hs; views = set s.views id w })
+    remade log w ws hs how words stored few strangers fit others live' number took =
+        record {
+          log = log;
+          made = k.made;
+          stage = w.stage;
+          words = words;
+          stored = stored;
+          few = few;
+          strangers = strangers;
+          fits = λ i x got. ⊎_elim (λ h. subst (Fits a most k.made log) h.1 fit) (λ h. others i x h.0 h.1) (at_changed s.views id w i x got);
+          apart = apart_after s.views id me.0 at k.apart w number took;
+          gone = gone_after s.views id me.0 at k.gone w number took;
+          held = held_after s.views id me.0 at k.stage k.held how w live';
+        }
+
+    -- nothing changed
+    same_again : (ws : List ℕ) → ws ≡ turn_word k.stage ∷ length k.log ∷ number_word k.stage k.made ∷ [] → Kept stands about a most (record { words = ws; homes = s.homes; views = set s.views id me.0 })
+    same_again ws words =
+        let kept : Kept stands about a most (record { words = ws; homes = s.homes; views = s.views }) = record {
+          log = k.log;
+          made = k.made;
+          stage = k.stage;
+          words = words;
+          stored = k.stored;
+          few = k.few;
+          strangers = k.strangers;
+          fits = k.fits;
+          apart = k.apart;
+          gone = k.gone;
+          held = k.held;
+        } in
+        subst (λ (vs : List View). Kept stands about a most (record { words = ws; homes = s.homes; views = vs })) (sym (set_again s.views id me.0 here)) kept
+
+    -- the others fit as before
+    others : (i : ℕ) (x : View) → i ≢ id → At s.views i x → Fits a most k.made k.log x
+    others i x _ got = k.fits i x got
+
+    -- the seat's own stage is the one of the turn
+    stage_is : holds_turn me.0.stage ≡ true → k.stage ≡ me.0.stage
+    stage_is holds = sym (k.held.alone id me.0 at holds).1
+
+    pub acquire_at : me.0.stage ≡ Outside → Goes 0 (either (slice_index s.words 0 == 0) 1 (slice_index s.words 0)) (Acquires (step slots 0 0 1 none) me (slice_index s.words 0))
+    acquire_at out =
+        let found : slice_index s.words 0 ≡ turn_word k.stage = ap (λ (ws : List ℕ). slice_index ws 0) k.words in
+        let put : slice_set s.words 0 (either (slice_index s.words 0 == 0) 1 (slice_index s.words 0)) ≡ either (turn_word k.stage == 0) 1 (turn_word k.stage) ∷ length k.log ∷ number_word k.stage k.made ∷ [] = ap (λ (ws : List ℕ). slice_set ws 0 (either (slice_index ws 0 == 0) 1 (slice_index ws 0))) k.words in
+        ⊎_elim
+        (λ (free : k.stage ≡ Outside).
+        let w : View = at_stage Holding me.0 in (
+          w,
+          keeps,
+          tt,
+          remade k.log w (slice_set s.words 0 (either (slice_index s.words 0 == 0) 1 (slice_index s.words 0))) s.homes (inr free)
+              (put ∙ ap (λ (st : Stage). either (turn_word st == 0) 1 (turn_word st) ∷ length k.log ∷ number_word st k.made ∷ []) free)
+              (subst (λ (st : Stage). Stored stands about a (has_state st) k.log s.homes) free k.stored)
+              (subst (λ (st : Stage). number_word st k.made ≤ most) free k.few)
+              k.strangers
+              (record { begins = mine.begins; about = mine.about; callers = mine.callers; below = mine.below; loaded = mine.loaded; all = mine.all; own = mine.own; kept = mine.kept; whole = idle (me.0.seen ≡ k.log); next = idle (me.0.loaded ≡ k.made) })
+              others live refl refl,
+          ((λ _. refl), λ taken. absurd (taken (found ∙ ap (λ (st : Stage). turn_word st) free))),
+        ))
+        (λ (busy : turn_word k.stage ≡ 1). (
+          me.0,
+          keeps,
+          tt,
+          same_again (slice_set s.words 0 (either (slice_index s.words 0 == 0) 1 (slice_index s.words 0))) (put ∙ ap (λ (n : ℕ). either (n == 0) 1 n ∷ length k.log ∷ number_word k.stage k.made ∷ []) busy ∙ ap (λ (n : ℕ). n ∷ length k.log ∷ number_word k.stage k.made ∷ []) (sym busy)),
+          ((λ free. absurd (omega (arith, free, found, busy))), λ _. refl),
+        ))
+        (free_or_held k.stage)
+
+    pub count_at : me.0.stage ≡ Holding → Goes 1 (slice_index s.words 1) (Counts stands about (step slots 1 0 0 none) me (slice_index s.words 1))
+    count_at holding =
+        let holds : holds_turn me.0.stage ≡ true = ap (λ (st : Stage). holds_turn st) holding in
+        let now : k.stage ≡ Holding = stage_is holds ∙ holding in
+        let home : Home stands about a k.log s.homes = subst (λ (st : Stage). Stored stands about a (has_state st) k.log s.homes) now k.stored in
+        let w : View = having_seen k.log me.0 in
+        let fit : Fits a most k.made k.log w = record {
+          begins = starts_self k.log;
+          about = mine.about;
+          callers = mine.callers;
+          below = mine.below;
+          loaded = mine.loaded;
+          all = mine.all;
+          own = mine.all;
+          kept = λ i e got. let x = mine.kept i e got in record { below = x.below; all = x.all; own = x.all; saw = starts_trans k.log me.0.seen e.seen mine.begins x.saw };
+          whole = λ _. refl;
+          next = idle (me.0.loaded ≡ k.made);
+        } in (
+          w,
+          takes 0 (Some home.0),
+          ap (λ (hs : Slots). get_elem? hs 0) home.1,
+          remade k.log w (slice_set s.words 1 (slice_index s.words 1)) (slice_set s.homes 0 none) (inl holds)
+              (ap (λ (ws : List ℕ). slice_set ws 1 (slice_index ws 1)) k.words ∙ ap (λ (st : Stage). turn_word st ∷ length k.log ∷ number_word st k.made ∷ []) now)
+              (ap (λ (hs : Slots). slice_set hs 0 none) home.1)
+              (subst (λ (st : Stage). number_word st k.made ≤ most) now k.few)
+              k.strangers fit others live refl refl,
+          (k.log, home.0, mine.begins, sym (ap (λ (ws : List ℕ). slice_index ws 1) k.words), refl, truths a most k.made k.log w fit, home.2, home.3 ∙ sym mine.about),
+        )
+
+    pub commit_at : (e : Stamped) → me.0.stage ≡ Entered → me.1 ≡ (0, None) ∷ [] → e.entry.caller ≡ me.0.number → length me.0.seen < 2 ^ 63
+        → Goes 1 ((slice_index s.words 1 + 1) % 2 ^ 64) (Commits e (step slots 1 1 0 none) me (slice_index s.words 1))
+    commit_at e entered empty caller few =
+        let holds : holds_turn me.0.stage ≡ true = ap (λ (st : Stage). holds_turn st) entered in
+        let now : k.stage ≡ Entered = stage_is holds ∙ entered in
+        let whole : me.0.seen ≡ k.log = mine.whole (ap (λ (st : Stage). has_state st) entered) in
+        let log : List Stamped = k.log ++ e ∷ [] in
+        let few' : length k.log < 2 ^ 63 = subst (λ (l : List Stamped). length l < 2 ^ 63) whole few in
+        let count : (length k.log + 1) % 2 ^ 64 ≡ length log = omega (arith, length-append k.log (e ∷ []), few') in
+        let below : e.entry.caller < k.made = let b = mine.below in omega (arith, b, caller) in
+        let w : View = having_made e me.0 in
+        let alone = none_else s.views id me.0 at k.stage k.held (inl holds) in
+        let fit : Fits a most k.made log w = record {
+          begins = ([], sym (append-nil (me.0.seen ++ e ∷ []) ∙ ap (λ (l : List Stamped). l ++ e ∷ []) whole));
+          about = mine.about;
+          callers = mine.callers;
+          below = mine.below;
+          loaded = mine.loaded;
+          all = own_mine k.log e me.0.number caller ∙ ap (λ l. l ++ e.entry ∷ []) mine.all;
+          own = own_mine me.0.seen e me.0.number caller ∙ ap (λ l. l ++ e.entry ∷ []) mine.own;
+          kept = λ i x got.
+              let y = mine.kept i x got in
+              let other : e.entry.caller ≢ x.number = λ same. k.gone id id i me.0 me.0 x at got at (sym caller ∙ same) in
+              record { below = y.below; all = own_else k.log e x.number other ∙ y.all; own = own_else me.0.seen e x.number other ∙ y.own; saw = starts_more me.0.seen x.seen (e ∷ []) y.saw };
+          whole = λ _. ap (λ (l : List Stamped). l ++ e ∷ []) whole;
+          next = idle (me.0.loaded ≡ k.made);
+        } in
+        let there : (i : ℕ) (x : View) → i ≢ id → At s.views i x → Fits a most k.made log x = λ i x not_me got.
+        let f = k.fits i x got in
+        let other : e.entry.caller ≢ x.number = λ same. not_me (k.apart i id x me.0 got at (sym same ∙ caller)) in
+        record {
+          begins = starts_more k.log x.seen (e ∷ []) f.begins;
+          about = f.about;
+          callers = f.callers;
+          below = f.below;
+          loaded = f.loaded;
+          all = own_else k.log e x.number other ∙ f.all;
+          own = f.own;
+          kept = λ j y took.
+              let z = f.kept j y took in
+              let not_its : e.entry.caller ≢ y.number = λ same. k.gone i id j x me.0 y got took at (sym caller ∙ same) in
+              record { below = z.below; all = own_else k.log e y.number not_its ∙ z.all; own = z.own; saw = z.saw };
+          whole = λ h. absurd (alone i x not_me got (state_holds x.stage h));
+          next = f.next;
+        } in (
+          w,
+          keeps,
+          tt,
+          remade log w (slice_set s.words 1 ((slice_index s.words 1 + 1) % 2 ^ 64)) s.homes (inl holds)
+              (ap (λ (ws : List ℕ). slice_set ws 1 ((slice_index ws 1 + 1) % 2 ^ 64)) k.words ∙ ap (λ (st : Stage). turn_word st ∷ (length k.log + 1) % 2 ^ 64 ∷ number_word st k.made ∷ []) now ∙ ap (λ (n : ℕ). 1 ∷ n ∷ k.made ∷ []) count)
+              (subst (λ (st : Stage). Stored stands about a (has_state st) k.log s.homes) now k.stored)
+              (subst (λ (st : Stage). number_word st k.made ≤ most) now k.few)
+              (λ n more. own_else k.log e n (λ same. absurd (omega (arith, same, below, more))) ∙ k.strangers n more)
+              fit there live refl refl,
+          (empty, ap (λ (ws : List ℕ). slice_index ws 1) k.words ∙ ap (λ (l : List Stamped). length l) (sym whole), refl, truths a most k.made log w fit),
+        )
+
+    pub release_at : (st : S) → has_state me.0.stage ≡ true → me.1 ≡ (0, Some st) ∷ [] → stands st me.0.seen → about st ≡ me.0.about → Goes 0 0 (Releases (step slots 0 0 0 none) me 0)
+    release_at st out carried h same =
+        let holds : holds_turn me.0.stage ≡ true = state_holds me.0.stage out in
+        let whole : me.0.seen ≡ k.log = mine.whole out in
+        let away : s.homes ≡ none ∷ [] = subst (λ (b : Bool). Stored stands about a b k.log s.homes) (ap (λ (st : Stage). has_state st) (stage_is holds) ∙ out) k.stored in
+        let w : View = at_stage Outside me.0 in
+        let words : slice_set s.words 0 0 ≡ 0 ∷ length k.log ∷ number_word k.stage k.made ∷ [] = ap (λ (ws : List ℕ). slice_set ws 0 0) k.words in
+        let number : number_word k.stage k.made ≡ k.made = plain k.stage (ap (λ (st : Stage). has_state st) (stage_is holds) ∙ out) in (
+          w,
+          gives,
+          tt,
+          remade k.log w (slice_set s.words 0 0) (put_back s.homes me.1) (inl holds)
+              (words ∙ ap (λ (n : ℕ). 0 ∷ length k.log ∷ n ∷ []) number)
+              (st, ap (λ (c : List (ℕ × Option S)). put_back s.homes c) carried ∙ ap (λ (hs : Slots). slice_set hs 0 (some (Some st))) away, subst (stands st) whole h, same ∙ mine.about)
+              (subst (λ (n : ℕ). n ≤ most) number k.few)
+              k.strangers
+              (record { begins = mine.begins; about = mine.about; callers = mine.callers; below = mine.below; loaded = mine.loaded; all = mine.all; own = mine.own; kept = mine.kept; whole = idle (me.0.seen ≡ k.log); next = idle (me.0.loaded ≡ k.made) })
+              others live refl refl,
+          ap (λ (c : List (ℕ × Option S)). (w, rest c)) carried,
+        )
+      where
+        plain : (stage : Stage) → has_state stage ≡ true → number_word stage k.made ≡ k.made
+        plain Outside e = refl
+        plain Holding e = refl
+        plain Entered e = refl
+        plain Committed e = refl
+        plain Numbered e = refl
+        plain Drawn e = absurd (not_also e)
+
+    -- the stages at which the turn is freed with nothing in hand
+    pub leave_at : may_leave me.0.stage ≡ true → me.1 ≡ [] → Goes 0 0 (Releases (step slots 0 0 0 none) me 0)
+    leave_at may empty =
+        let facts = leaving me.0.stage may in
+        let holds : holds_turn me.0.stage ≡ true = facts.0 in
+        let now : k.stage ≡ me.0.stage = stage_is holds in
+        let number : number_word k.stage k.made ≡ k.made = ap (λ (st : Stage). number_word st k.made) now ∙ facts.2 k.made in
+        let w : View = at_stage Outside me.0 in (
+          w,
+          keeps,
+          tt,
+          remade k.log w (slice_set s.words 0 0) s.homes (inl holds)
+              (ap (λ (ws : List ℕ). slice_set ws 0 0) k.words ∙ ap (λ (n : ℕ). 0 ∷ length k.log ∷ n ∷ []) number)
+              (subst (λ (b : Bool). Stored stands about a b k.log s.homes) (ap (λ (st : Stage). has_state st) now ∙ facts.1) k.stored)
+              (subst (λ (n : ℕ). n ≤ most) number k.few)
+              k.strangers
+              (record { begins = mine.begins; about = mine.about; callers = mine.callers; below = mine.below; loaded = mine.loaded; all = mine.all; own = mine.own; kept = mine.kept; whole = idle (me.0.seen ≡ k.log); next = idle (me.0.loaded ≡ k.made) })
+              others live refl refl,
+          ap (λ (c : List (ℕ × Option S)). (w, c)) empty,
+        )
+      where
+        leaving : (stage : Stage) → may_leave stage ≡ true → (holds_turn stage ≡ true) × (has_state stage ≡ false) × ((n : ℕ) → number_word stage n ≡ n)
+        leaving Outside e = absurd (not_also e)
+        leaving Holding e = (refl, refl, λ n. refl)
+        leaving Entered e = absurd (not_also e)
+        leaving Committed e = absurd (not_also e)
+        leaving Numbered e = (refl, refl, λ n. refl)
+        leaving Drawn e = absurd (not_also e)
+
+    pub number_at : me.0.stage ≡ Holding → Goes 2 (slice_index s.words 2) (LoadsNumber (step slots 2 0 0 none) me (slice_index s.words 2))
+    number_at holding =
+        let holds : holds_turn me.0.stage ≡ true = ap (λ (st : Stage). holds_turn st) holding in
+        let now : k.stage ≡ Holding = stage_is holds ∙ holding in
+        let found : slice_index s.words 2 ≡ k.made = ap (λ (ws : List ℕ). slice_index ws 2) k.words ∙ ap (λ (st : Stage). number_word st k.made) now in
+        let few : k.made ≤ most = subst (λ (st : Stage). number_word st k.made ≤ most) now k.few in
+        let w : View = having_loaded (slice_index s.words 2) me.0 in (
+          w,
+          keeps,
+          tt,
+          remade k.log w (slice_set s.words 2 (slice_index s.words 2)) s.homes (inl holds)
+              (ap (λ (ws : List ℕ). slice_set ws 2 (slice_index ws 2)) k.words ∙ ap (λ (st : Stage). turn_word st ∷ length k.log ∷ number_word st k.made ∷ []) now)
+              (subst (λ (st : Stage). Stored stands about a (has_state st) k.log s.homes) now k.stored)
+              few k.strangers
+              (record { begins = mine.begins; about = mine.about; callers = mine.callers; below = mine.below; loaded = omega (arith, found); all = mine.all; own = mine.own; kept = mine.kept; whole = idle (me.0.seen ≡ k.log); next = λ _. found })
+              others live refl refl,
+          (let c = mine.callers in omega (arith, found, few, c), refl),
+        )
+
+    pub draw_at : me.0.stage ≡ Numbered → me.0.loaded < me.0.callers → me.0.callers ≤ 2 ^ 62 → Goes 2 ((slice_index s.words 2 + 1) % 2 ^ 64) (Draws (step slots 2 1 0 none) me (slice_index s.words 2))
+    draw_at numbered room bounds =
+        let holds : holds_turn me.0.stage ≡ true = ap (λ (st : Stage). holds_turn st) numbered in
+        let now : k.stage ≡ Numbered = stage_is holds ∙ numbered in
+        let next : me.0.loaded ≡ k.made = mine.next (ap (λ (st : Stage). knows_next st) numbered) in
+        let found : slice_index s.words 2 ≡ k.made = ap (λ (ws : List ℕ). slice_index ws 2) k.words ∙ ap (λ (st : Stage). number_word st k.made) now in
+        let one_more : (k.made + 1) % 2 ^ 64 ≡ suc k.made = omega (arith, next, room, bounds) in
+        let w : View = at_stage Drawn me.0 in (
+          w,
+          keeps,
+          tt,
+          remade k.log w (slice_set s.words 2 ((slice_index s.words 2 + 1) % 2 ^ 64)) s.homes (inl holds)
+              (ap (λ (ws : List ℕ). slice_set ws 2 ((slice_index ws 2 + 1) % 2 ^ 64)) k.words ∙ ap (λ (st : Stage). turn_word st ∷ length k.log ∷ (number_word st k.made + 1) % 2 ^ 64 ∷ []) now ∙ ap (λ (n : ℕ). 1 ∷ length k.log ∷ n ∷ []) one_more)
+              (subst (λ (st : Stage). Stored stands about a (has_state st) k.log s.homes) now k.stored)
+              (let c = mine.callers in omega (arith, next, room, c)) k.strangers
+              (record { begins = mine.begins; about = mine.about; callers = mine.callers; below = mine.below; loaded = mine.loaded; all = mine.all; own = mine.own; kept = mine.kept; whole = idle (me.0.seen ≡ k.log); next = λ _. next })
+              others live refl refl,
+          (found ∙ sym next, refl, own_none k.log me.0.seen me.0.loaded mine.begins (k.strangers me.0.loaded (omega (arith, next)))),
+        )
+
+    pub confirm_at : Goes 1 (slice_index s.words 1) (Confirms (step slots 1 0 0 none) me (slice_index s.words 1))
+    confirm_at = (
+      me.0,
+      keeps,
+      tt,
+      same_again (slice_set s.words 1 (slice_index s.words 1)) (ap (λ (ws : List ℕ). slice_set ws 1 (slice_index ws 1)) k.words),
+      (refl, truths a most k.made k.log me.0 mine),
+    )
+
+  module _ (a : About) (most id slots : ℕ) (me : Me (Option S) View) (live : me.0.live ≡ true) where
+    pub acquires : me.0.stage ≡ Outside → Allows (Kept stands about a most) slots id me 0 (λ n. either (n == 0) 1 n) (Acquires (step slots 0 0 1 none) me)
+    acquires out s k wide at small = acquire_at a most id slots me live s k at out
+
+    pub counts : me.0.stage ≡ Holding → Allows (Kept stands about a most) slots id me 1 (λ n. n) (Counts stands about (step slots 1 0 0 none) me)
+    counts holding s k wide at small = count_at a most id slots me live s k at holding
+
+    pub commits : (e : Stamped) → me.0.stage ≡ Entered → me.1 ≡ (0, None) ∷ [] → e.entry.caller ≡ me.0.number → length me.0.seen < 2 ^ 63 → Allows (Kept stands about a most) slots id me 1 (λ n. (n + 1) % 2 ^ 64) (Commits e (step slots 1 1 0 none) me)
+    commits e entered empty caller few s k wide at small = commit_at a most id slots me live s k at e entered empty caller few
+
+    pub releases : (st : S) → has_state me.0.stage ≡ true → me.1 ≡ (0, Some st) ∷ [] → stands st me.0.seen → about st ≡ me.0.about → Allows (Kept stands about a most) slots id me 0 (λ _. 0) (λ _. Releases (step slots 0 0 0 none) me 0)
+    releases st out carried h same s k wide at small = release_at a most id slots me live s k at st out carried h same
+
+    pub leaves : may_leave me.0.stage ≡ true → me.1 ≡ [] → Allows (Kept stands about a most) slots id me 0 (λ _. 0) (λ _. Releases (step slots 0 0 0 none) me 0)
+    leaves may empty s k wide at small = leave_at a most id slots me live s k at may empty
+
+    pub numbers : me.0.stage ≡ Holding → Allows (Kept stands about a most) slots id me 2 (λ n. n) (LoadsNumber (step slots 2 0 0 none) me)
+    numbers holding s k wide at small = number_at a most id slots me live s k at holding
+
+    pub draws : me.0.stage ≡ Numbered → me.0.loaded < me.0.callers → me.0.callers ≤ 2 ^ 62 → Allows (Kept stands about a most) slots id me 2 (λ n. (n + 1) % 2 ^ 64) (Draws (step slots 2 1 0 none) me)
+    draws numbered room bounds s k wide at small = draw_at a most id slots me live s k at numbered room bounds
+
+    pub confirms : Allows (Kept stands about a most) slots id me 1 (λ n. n) (Confirms (step slots 1 0 0 none) me)
+    confirms s k wide at small = confirm_at a most id slots me live s k at
+
+  -- what lies in the slot in hand after the load of the count
+  pub in_hand : (t : Step (Option S)) (v w : Me (Option S) View) (n : ℕ) → Counts stands about t v n w → (x : Option S) × (w.1 ≡ (0, x) ∷ rest w.1)
+  in_hand t v w n h = (Some h.1, ap (λ (m : Me (Option S) View). m.1) h.4 ∙ ap (λ (m : Me (Option S) View). (0, Some h.1) ∷ rest m.1) (sym h.4))

@@ -1,0 +1,7 @@
+pub mod Beginnings
+pub mod Cutting
+pub mod Keeping
+pub mod Passing
+pub mod Uniting
+pub mod Views
+pub mod WorkedViews

@@ -1,0 +1,99 @@
+-- What the views say after one of them changed.
+use Rattle.std.proofs.Common.{◌≡◌, ◌≢◌, ℕ, zero, suc, ◌<◌, Bool, true, false, List, [], ◌∷◌, length, set, ◌⊎◌, inl, inr, ⊎_elim, refl, sym, ◌∙◌, ap, subst, arith}
+use mathlib.Core.Option.{some, some-injective, some-ne-none}
+use lib.ListN.{get_elem?}
+use Rattle.atomic_table.proofs.Lists.{at_set, set_here}
+use Rattle.bsc_turn.specs.declared.stage.Stage.{Stage}
+use Rattle.bsc_turn.specs.declared.stage.Stage.TheVariants.{Outside, Holding, Entered, Committed, Numbered, Drawn}
+use Rattle.bsc_turn.specs.declared.view.Ended.{Ended}
+use Rattle.bsc_turn.specs.declared.view.View.{View}
+use Rattle.bsc_turn.specs.Rule.{holds_turn, has_state, knows_next, turn_word, At, Apart, Gone, Held}
+
+pub not_both : true ≢ false
+not_both e = cc
+
+pub not_also : false ≢ true
+not_also e = cc
+
+pub single : {A : Type 0} (x : A) (i : ℕ) (y : A) → get_elem? (x ∷ []) i ≡ some y → (i ≡ 0) × (x ≡ y)
+single x zero y e = (refl, some-injective x y e)
+single x (suc i) y e = absurd (some-ne-none y (sym e))
+
+pub at_below : {A : Type 0} (l : List A) (i : ℕ) (a : A) → get_elem? l i ≡ some a → i < length l
+at_below [] i a e = absurd (some-ne-none a (sym e))
+at_below (x ∷ xs) zero a e = omega arith
+at_below (x ∷ xs) (suc i) a e = let h = at_below xs i a e in omega arith
+
+pub free_or_held : (stage : Stage) → (stage ≡ Outside) ⊎ (turn_word stage ≡ 1)
+free_or_held Outside = inl refl
+free_or_held Holding = inr refl
+free_or_held Entered = inr refl
+free_or_held Committed = inr refl
+free_or_held Numbered = inr refl
+free_or_held Drawn = inr refl
+
+pub state_holds : (stage : Stage) → has_state stage ≡ true → holds_turn stage ≡ true
+state_holds Outside e = absurd (not_also e)
+state_holds Holding e = refl
+state_holds Entered e = refl
+state_holds Committed e = refl
+state_holds Numbered e = refl
+state_holds Drawn e = refl
+
+pub next_holds : (stage : Stage) → knows_next stage ≡ true → holds_turn stage ≡ true
+next_holds Outside e = absurd (not_also e)
+next_holds Holding e = refl
+next_holds Entered e = refl
+next_holds Committed e = refl
+next_holds Numbered e = refl
+next_holds Drawn e = refl
+
+-- a seat is the one that changed, or is as it was
+pub at_changed : (views : List View) (id : ℕ) (w : View) (i : ℕ) (x : View) → At (set views id w) i x → ((i ≡ id) × (w ≡ x)) ⊎ ((i ≢ id) × At views i x)
+at_changed views id w i x got = ⊎_elim (λ h. inl h) (λ h. inr (h.0, (h.1, got.1))) (at_set views id i w x got.0)
+
+module _ (views : List View) (id : ℕ) (me : View) (at : At views id me) where
+  -- who was there before, with the same number and the same callers
+  Before : ℕ → View → Type 0
+  Before i x = (y : View) × At views i y × (x.number ≡ y.number) × (x.took ≡ y.took)
+
+  had : (w : View) → w.number ≡ me.number → w.took ≡ me.took → (i : ℕ) (x : View) → At (set views id w) i x → (y : View) × At views i y × (x.number ≡ y.number) × (x.took ≡ y.took)
+  had w n t i x got =
+      ⊎_elim
+      (λ h. (me, subst (λ (j : ℕ). At views j me) (sym h.0) at, ap (λ (v : View). v.number) (sym h.1) ∙ n, ap (λ (v : View). v.took) (sym h.1) ∙ t))
+      (λ h. (x, h.1, refl, refl))
+      (at_changed views id w i x got)
+
+  pub apart_after : Apart views → (w : View) → w.number ≡ me.number → w.took ≡ me.took → Apart (set views id w)
+  apart_after apart w n t i j v x ai aj same =
+      let p = had w n t i v ai in
+      let q = had w n t j x aj in
+      apart i j p.0 q.0 p.1 q.1 (sym p.2 ∙ (same ∙ q.2))
+
+  pub gone_after : Gone views → (w : View) → w.number ≡ me.number → w.took ≡ me.took → Gone (set views id w)
+  gone_after gone w n t i j k v x e ai took aj same =
+      let p = had w n t i v ai in
+      let q = had w n t j x aj in
+      gone i j k p.0 q.0 e p.1 (subst (λ (l : List Ended). get_elem? l k ≡ some e) p.3 took) q.1 (sym q.2 ∙ same)
+
+  -- where the seat holds the turn, or nobody does, no other seat holds it
+  pub none_else : (stage : Stage) → Held views stage → (holds_turn me.stage ≡ true) ⊎ (stage ≡ Outside) → (i : ℕ) (x : View) → i ≢ id → At views i x → holds_turn x.stage ≡ true → ⊥
+  none_else stage held how i x other got holds =
+      let a = held.alone i x got holds in
+      ⊎_elim
+      (λ (mine : holds_turn me.stage ≡ true). other (a.0 ∙ sym (held.alone id me at mine).0))
+      (λ (free : stage ≡ Outside). not_both (sym holds ∙ ap (λ (s : Stage). holds_turn s) (a.1 ∙ free)))
+      how
+
+  -- then it alone holds the turn, or nobody does, by its own stage
+  pub held_after : (stage : Stage) → Held views stage → (holds_turn me.stage ≡ true) ⊎ (stage ≡ Outside) → (w : View) → w.live ≡ true → Held (set views id w) w.stage
+  held_after stage held how w live =
+      record {
+        holder = id;
+        alone = λ i v got holds.
+            ⊎_elim
+            (λ h. (h.0, ap (λ (u : View). u.stage) (sym h.1)))
+            (λ h. absurd (none_else stage held how i v h.0 h.1 holds))
+            (at_changed views id w i v got);
+        there = λ _. (w, (set_here views id w (at_below views id me at.0), live), refl);
+      }

@@ -1,0 +1,6 @@
+pub mod Counting
+pub mod Histories
+pub mod Lending
+pub mod Rule
+pub mod Told
+pub mod Passes

@@ -1,0 +1,101 @@
+-- What each kind of step tells the seat that makes it: of the step, the seat before, the number found, and
+-- the seat after.
+use Rattle.std.specs.Prelude.{◌≡◌, ◌≢◌, ℕ, ◌≤◌, Bool, true, false, List, [], ◌∷◌, ◌++◌, length, Option, Some, None}
+use mathlib.Core.Option.{some}
+use lib.ListN.{get_elem?}
+use Rattle.atomic_table.specs.Table.{Me, Step, rest}
+use Rattle.bsc_history.specs.declared.limits.About.{About}
+use Rattle.bsc_history.specs.declared.mark.Stamped.{Stamped}
+use Rattle.bsc_turn.specs.declared.stage.Stage.{Stage}
+use Rattle.bsc_turn.specs.declared.stage.Stage.TheVariants.{Outside, Holding, Entered, Committed, Numbered, Drawn}
+use Rattle.bsc_turn.specs.declared.view.Ended.{Ended}
+use Rattle.bsc_turn.specs.declared.view.View.{View}
+use Rattle.bsc_turn.specs.Histories.{StartsWith, own_of, longer}
+
+-- What the rule says of one view alone: its own list is what it has seen of its number, and so of each
+-- caller that it took in, which had seen no more.
+abbrev pub Truths : View → Type 0
+Truths v =
+    (own_of v.seen v.number ≡ v.own)
+    × ((i : ℕ) (e : Ended) → get_elem? v.took i ≡ some e
+    → (own_of v.seen e.number ≡ e.own) × StartsWith v.seen e.seen)
+
+-- The view at another stage.
+abbrev pub at_stage : Stage → View → View
+at_stage stage v = record v { stage = stage }
+
+-- The view when it has seen this much, with the state in hand.
+abbrev pub having_seen : List Stamped → View → View
+having_seen seen v = record v { seen = seen; stage = Entered }
+
+-- The view after a commit.
+abbrev pub having_made : Stamped → View → View
+having_made s v = record v { seen = v.seen ++ s ∷ []; own = v.own ++ s.entry ∷ []; stage = Committed }
+
+-- The view when it loaded the number word.
+abbrev pub having_loaded : ℕ → View → View
+having_loaded n v = record v { loaded = n; stage = Numbered }
+
+-- Whether a seat at this stage may free the turn with nothing in hand.
+abbrev pub may_leave : Stage → Bool
+may_leave Holding = true
+may_leave Numbered = true
+may_leave stage = false
+
+-- The view of the pass that gets the number which this view drew: it has seen as much, and has no entries.
+abbrev pub next_pass : View → View
+next_pass v =
+    record v { number = v.loaded; own = []; took = []; loaded = 0; stage = Outside }
+
+-- The caller of a view, as one that was taken in.
+abbrev pub ended_of : View → Ended
+ended_of v = record { number = v.number; own = v.own; seen = v.seen }
+
+-- The view after it took in another: it has seen the longer of the two histories, and keeps the other's
+-- caller and all that that one kept.
+abbrev pub joined : View → View → View
+joined v w = record v { seen = longer v.seen w.seen; took = v.took ++ ended_of w ∷ w.took }
+
+module _ {S : Type 0} where
+  -- A seat outside: it has nothing in hand.
+  abbrev pub IsOutside : Me (Option S) View → Type 0
+  IsOutside m = (m.0.stage ≡ Outside) × (m.0.live ≡ true) × (m.1 ≡ [])
+
+  -- A seat that entered: it took the state out of the slot in its hand, and made no entry since.
+  abbrev pub HasOut : Me (Option S) View → Type 0
+  HasOut m = (m.0.stage ≡ Entered) × (m.0.live ≡ true) × (m.1 ≡ (0, None) ∷ [])
+
+  -- The turn is taken where its word is found at 0, and else nothing changes.
+  abbrev pub Acquires : Step (Option S) → Me (Option S) View → ℕ → Me (Option S) View → Type 0
+  Acquires s v n w = (n ≡ 0 → w ≡ (at_stage Holding v.0, v.1)) × (n ≢ 0 → w ≡ v)
+
+  -- An entry is made: its place is found in the count word. The slot in hand is empty meanwhile.
+  abbrev pub Commits : Stamped → Step (Option S) → Me (Option S) View → ℕ → Me (Option S) View → Type 0
+  Commits e s v n w =
+      (v.1 ≡ (0, None) ∷ []) × (n ≡ length v.0.seen) × (w ≡ (having_made e v.0, v.1)) × Truths w.0
+
+  -- The turn is given back, with the slot if that is in hand.
+  abbrev pub Releases : Step (Option S) → Me (Option S) View → ℕ → Me (Option S) View → Type 0
+  Releases s v n w = w ≡ (at_stage Outside v.0, [])
+
+  -- The number word is loaded while the turn is held.
+  abbrev pub LoadsNumber : Step (Option S) → Me (Option S) View → ℕ → Me (Option S) View → Type 0
+  LoadsNumber s v n w = (n ≤ v.0.callers) × (w ≡ (having_loaded n v.0, v.1))
+
+  -- A number is drawn: it is the one that the load found, and no entry is of that number.
+  abbrev pub Draws : Step (Option S) → Me (Option S) View → ℕ → Me (Option S) View → Type 0
+  Draws s v n w = (n ≡ v.0.loaded) × (w ≡ (at_stage Drawn v.0, v.1)) × (own_of v.0.seen v.0.loaded ≡ [])
+
+  -- A load that leaves the view as it is, and after which this is at hand.
+  abbrev pub Confirms : Step (Option S) → Me (Option S) View → ℕ → Me (Option S) View → Type 0
+  Confirms s v n w = (w ≡ v) × Truths v.0
+
+module _ {S : Type 0} (stands : S → List Stamped → Type 0) (about : S → About) where
+  -- The count is loaded while the turn is held. The whole history is seen, as many entries as were found,
+  -- and the slot is taken, with a state in it that stands for them.
+  abbrev pub Counts : Step (Option S) → Me (Option S) View → ℕ → Me (Option S) View → Type 0
+  Counts s v n w =
+      (seen : List Stamped) × (st : S)
+      × StartsWith seen v.0.seen × (length seen ≡ n)
+      × (w ≡ (having_seen seen v.0, (0, Some st) ∷ v.1)) × Truths w.0
+      × stands st seen × (about st ≡ v.0.about)

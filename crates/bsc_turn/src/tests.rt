@@ -1,0 +1,173 @@
+//! Passes that commit to one counter, in one thread and in two, and what callers can rely on.
+ghost use Rattle.std.specs.Prelude.{◌≡◌, ◌+◌, ◌<◌, ◌^◌, ◌++◌, ◌∷◌, [], length, true, IfSome, IfNone};
+ghost use Rattle.bsc_turn.specs.Counting.{MadeOne, counted};
+ghost use Rattle.bsc_turn.specs.Passes.{IsFor, IsGuardOf, IsPassOf, after_commit, first_state, guard_view, history, number_of, own_list, view_of};
+
+use super::*;
+use bsc_history::{About, Limits, Makes, Stands};
+use bsc_octets::read_identity;
+use std::alloc::Global;
+use std::marker::Brand;
+use std::sync::Wait;
+use std::test::Fail;
+use std::thread;
+use std::thread::Threads;
+
+/// A state that counts the entries of its history.
+#[derive(Drop)]
+struct Counter {
+    count: u64,
+    about: About,
+}
+
+impl Stands for Counter {
+    ghost use Rattle.std.specs.Prelude.{◌≡◌, length};
+
+    ghost stands = { λ s H. s.count ≡ length H };
+
+    ghost about = { λ s. s.about };
+}
+
+fn new_counter() -> Counter
+    ensures { result.count ≡ 0 }
+{
+    let limits = Limits {
+        rows: 4,
+        outbox: 4,
+        calls: 1 << 20,
+        callers: 2,
+    };
+    let hub = read_identity([1; 26].as_slice());
+    Counter {
+        count: 0,
+        about: About { hub, limits },
+    }
+}
+
+fn commit_count<'a, E: Makes>(
+    guard: Guard<&'a Turn<Counter>, Counter>,
+    pass: &mut Pass,
+    caller: u64,
+) -> u64
+    requires picked { E.stamped ≡ counted caller }
+    requires guard { IsGuardOf (λ s. s.about) guard.turn.now guard }
+    requires pass { IsFor pass.old guard × (caller ≡ number_of pass.old) }
+    requires stands { guard.state.count ≡ length (history guard ++ counted caller ∷ []) }
+    requires about { guard.state.about ≡ (first_state guard.turn.now).about }
+    requires room { length (history guard) < 2 ^ 63 }
+    ensures place { result ≡ length (history guard.entry) }
+    ensures pass { IsPassOf (λ s. s.about) guard.entry.turn.now pass.new }
+    ensures knows { view_of pass.new ≡ after_commit (counted caller) (guard_view guard.entry) }
+{
+    guard.commit::<E>(pass)
+}
+
+/// Counts one, where there is room, and answers the place of the entry.
+fn count_one<R: Wait>(rt: &R, turn: &Turn<Counter>, pass: &mut Pass) -> Option<u64>
+    requires { IsPassOf (λ s. s.about) turn.now pass.old }
+    ensures pass { IsPassOf (λ s. s.about) turn.now pass.new }
+    ensures number { number_of pass.new ≡ number_of pass.old }
+    ensures some { IfSome result (λ place. (place < 2 ^ 62) × MadeOne pass.old place pass.new) }
+    ensures none { IfNone result (own_list pass.new ≡ own_list pass.old) }
+{
+    let caller = pass.number();
+    let mut guard = turn.enter(rt, pass);
+    if guard.state().count >= 1 << 62 {
+        guard.back(pass);
+        return None;
+    }
+    guard.state().count += 1;
+    Some(commit_count::<Brand>(guard, pass, caller))
+}
+
+#[test]
+fn one_thread(rt: HostRuntime) -> Result<(), Fail> {
+    let (turn, mut pass) = Turn::make(rt.alloc(), new_counter(), 2)?;
+    assert!(rt; count_one(&rt, &turn, &mut pass) == Some(0));
+    assert!(rt; count_one(&rt, &turn, &mut pass) == Some(1));
+    let mut guard = turn.enter(&rt, &mut pass);
+    assert!(rt; guard.state().count == 2);
+    guard.back(&mut pass);
+    Ok(())
+}
+
+#[test]
+fn two_callers(rt: HostRuntime) -> Result<(), Fail> {
+    let (turn, mut pass) = Turn::make(rt.alloc(), new_counter(), 2)?;
+    assert!(rt; pass.number() == 0);
+    let second = turn.split(&rt, &mut pass)?;
+    assert!(rt; second.number() == 1);
+    assert!(rt; matches!(turn.split(&rt, &mut pass), Err(NumbersSpent { drawn: 2 })));
+    Ok(())
+}
+
+/// Counts so many, and says whether each found room at a place behind the one before.
+fn count_many<R: Wait>(
+    rt: &R,
+    turn: &Turn<Counter>,
+    pass: Pass,
+    times: u32,
+) -> (Pass, bool)
+    requires { IsPassOf (λ s. s.about) turn.now pass }
+    ensures pass { IsPassOf (λ s. s.about) turn.now result.0 }
+    ensures number { number_of result.0 ≡ number_of pass }
+    ensures own { result.1 ≡ true → length (own_list result.0) ≡ length (own_list pass) + times }
+{
+    let mut pass = pass;
+    let mut rising = true;
+    let mut least = 0;
+    for n in 0..times {
+        match count_one(rt, turn, &mut pass) {
+            Some(place) => {
+                rising = rising && least <= place;
+                least = place + 1;
+            }
+            None => rising = false,
+        }
+    }
+    (pass, rising)
+}
+
+/// Two threads count so many each. The answer is whether the places of each rose, and the count.
+fn across<R: Threads + Wait + Sync>(rt: &R, alloc: Global, times: u32) -> Option<(bool, u64)> {
+    let (turn, mut first) = Turn::make(alloc, new_counter(), 2).ok()?;
+    let second = turn.split(rt, &mut first).ok()?;
+    let shared = &turn;
+    let ((mut first, one), (second, two)) = thread::join(
+        rt,
+        move || -> (Pass, bool)
+            requires { IsPassOf (λ s. s.about) shared.now first }
+            ensures { IsPassOf (λ s. s.about) shared.entry.now result.0 }
+        { count_many(rt, shared, first, times) },
+        move || -> (Pass, bool)
+            requires { IsPassOf (λ s. s.about) shared.now second }
+            ensures { IsPassOf (λ s. s.about) shared.entry.now result.0 }
+        { count_many(rt, shared, second, times) },
+    );
+    turn.join(&mut first, second);
+    let mut guard = turn.enter(rt, &mut first);
+    let count = guard.state().count;
+    guard.back(&mut first);
+    Some((one && two, count))
+}
+
+#[test]
+fn two_threads(rt: HostRuntime) -> Result<(), Fail> {
+    assert!(rt; across(&rt, rt.alloc(), 1_000) == Some((true, 2_000)));
+    Ok(())
+}
+
+fn is_shared<T: Send + Sync>(value: &T) {
+    let _value = value;
+}
+
+fn is_sent<T: Send>(value: &T) {
+    let _value = value;
+}
+
+/// A turn may be shared among threads where its state may be sent, and a pass may always be sent.
+fn cross<S: Stands + Drop + Send>(turn: &Turn<S>, pass: &Pass) {
+    is_shared(turn);
+    is_sent(turn);
+    is_sent(pass);
+}

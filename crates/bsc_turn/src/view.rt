@@ -1,0 +1,36 @@
+//! What a seat at the turn's table knows.
+use crate::stage::Stage;
+use bsc_history::{About, Entry, Stamped};
+use std::collections::LinkedList;
+
+/// A caller that a pass took in. Contracts speak of it, and no value is made.
+pub struct Ended {
+    /// The caller's number.
+    pub number: u64,
+    /// Its own entries, oldest first.
+    pub own: LinkedList<Entry>,
+    /// As much of the history as it had seen.
+    pub seen: LinkedList<Stamped>,
+}
+
+/// What a seat knows. Contracts speak of it, and no value is made.
+pub struct View {
+    /// It is a pass's or a guard's seat, and not one that a join left behind.
+    pub live: bool,
+    /// The caller's number.
+    pub number: u64,
+    /// What is fixed of the state.
+    pub about: About,
+    /// How many callers there may be.
+    pub callers: u64,
+    /// As much of the history as it has seen, oldest first.
+    pub seen: LinkedList<Stamped>,
+    /// The caller's own entries, oldest first.
+    pub own: LinkedList<Entry>,
+    /// The callers that it took in.
+    pub took: LinkedList<Ended>,
+    /// What its newest load of the number word found, 0 before the first.
+    pub loaded: u64,
+    /// How far it is with the turn.
+    pub stage: Stage,
+}
