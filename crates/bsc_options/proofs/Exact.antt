@@ -14,12 +14,12 @@ use Rattle.bsc_options.proofs.Faults.{FaultAt, fault_at, all_have_shape, shape_w
 
 -- ---- what a walk over the octets from a place on finds, at that place
 
-begins_at : (m o : List ℕ) (at n : ℕ) (items : List OptionItem) → o ≡ drop at m → BeginsWith o 0 items n → BeginsWith m at items (at + n)
+pub begins_at : (m o : List ℕ) (at n : ℕ) (items : List OptionItem) → o ≡ drop at m → BeginsWith o 0 items n → BeginsWith m at items (at + n)
 begins_at m o at n items e begins =
     record { spelling = sym e ∙ begins.spelling ∙ ap (λ (l : List ℕ). spelling_of items ++ drop n l) e ∙ ap (λ (l : List ℕ). spelling_of items ++ l) (drop-drop n at m); place = omega (arith, begins.place) }
 
 -- the octets of the list alone
-list_taken : (o : List ℕ) (n : ℕ) (ends : EndsAt o n) → take n o ≡ spelling_of ends.items
+pub list_taken : (o : List ℕ) (n : ℕ) (ends : EndsAt o n) → take n o ≡ spelling_of ends.items
 list_taken o n ends = ap (take n) ends.whole.spelling ∙ take_at (spelling_of ends.items) (drop n o) n (omega (arith, ends.whole.place))
 
 -- what a walk over the first n octets says, of whatever items they spell
@@ -27,7 +27,7 @@ abbrev pub SaysOf : List ℕ → ℕ → (List OptionItem → Type 0) → Type 0
 SaysOf o n P = (items : List OptionItem) → AllByRecursion Fits items → take n o ≡ spelling_of items → P items
 
 -- no item is at fault
-options_found : (m o : List ℕ) (at n : ℕ) (e : o ≡ drop at m) (ends : EndsAt o n) → SaysOf o n (λ items. None ≡ first_fault items) → AreOptions ends.items × BeginsWith m at ends.items (at + n)
+pub options_found : (m o : List ℕ) (at n : ℕ) (e : o ≡ drop at m) (ends : EndsAt o n) → SaysOf o n (λ items. None ≡ first_fault items) → AreOptions ends.items × BeginsWith m at ends.items (at + n)
 options_found m o at n e ends none =
     (record { some = ends.are.some; shapes = all_have_shape ends.items ends.are.fit (sym (none ends.items ends.are.fit (list_taken o n ends))) }, begins_at m o at n ends.items e ends.whole)
 
@@ -111,7 +111,7 @@ pub found_of : (m : List ℕ) (at : ℕ) (r : Found) → Answers m at r → IfOk
 found_of m at (Ok x) a = a
 found_of m at (Err e) a = tt
 
-spelled_some : (list : List OptionItem) → 0 < length list → 0 < length (spelling_of list)
+pub spelled_some : (list : List OptionItem) → 0 < length list → 0 < length (spelling_of list)
 spelled_some [] some = absurd (omega arith)
 spelled_some (x ∷ list) some = omega arith
 

@@ -5,4 +5,5 @@ pub mod Missing
 pub mod Rest
 pub mod Faults
 pub mod Exact
+pub mod Ends
 mod WorkedOptions

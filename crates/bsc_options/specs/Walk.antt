@@ -61,3 +61,11 @@ Answers m at (Err Cut) = IsCut m at
 Answers m at (Err BadKind) = (item : OptionItem) × IsFirstAtFault m at item × (item.kind ≡ 0)
 Answers m at (Err BadShape) = (item : OptionItem) × IsFirstAtFault m at item × (item.kind ≢ 0)
 Answers m at (Err NoMemory) = (list : List OptionItem) × (end : ℕ) × AreOptions list × BeginsWith m at list end
+
+-- What looking at octets from a place on may answer, where no list is made of them.
+abbrev pub Finds : List ℕ → ℕ → Result ℕ OptionsFault → Type 0
+Finds m at (Ok end) = (list : List OptionItem) × AreOptions list × BeginsWith m at list end
+Finds m at (Err Cut) = IsCut m at
+Finds m at (Err BadKind) = (item : OptionItem) × IsFirstAtFault m at item × (item.kind ≡ 0)
+Finds m at (Err BadShape) = (item : OptionItem) × IsFirstAtFault m at item × (item.kind ≢ 0)
+Finds m at (Err NoMemory) = ⊥

@@ -13,6 +13,7 @@
 //! that. This crate stands on `bsc_octets`, and on `byteorder` for the length.
 #![tactic(auto)]
 
+mod checking;
 mod fault;
 mod first;
 mod item;
@@ -22,6 +23,7 @@ mod options;
 mod reading;
 mod writing;
 
+pub use checking::{check_options, options_end};
 pub use fault::OptionsFault;
 pub use item::OptionItem;
 pub use laws::{one_spelling, reads_back};

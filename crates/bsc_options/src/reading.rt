@@ -21,7 +21,7 @@ const PROPRIETARY: u8 = 31;
 
 /// How many octets the list at the front has, whatever the types and data of its items. There is no answer
 /// where octets of it are missing.
-fn list_length(o: &[u8]) -> Option<usize>
+pub(crate) fn list_length(o: &[u8]) -> Option<usize>
     ensures found { IfSome result (λ n. EndsAt o.now n) }
     ensures none { IfNone result (IsCut o.now 0) }
 {
@@ -49,7 +49,7 @@ fn fault_of(item: &FirstItem) -> Option<OptionsFault>
 }
 
 /// What is wrong with the first item at fault, of a list that is whole.
-fn first_fault(list: &[u8]) -> Option<OptionsFault>
+pub(crate) fn first_fault(list: &[u8]) -> Option<OptionsFault>
     ensures { (items : List OptionItem) → AllByRecursion Fits items → list.now ≡ spelling_of items → result ≡ first_fault items }
 {
     let mut rest = list;

@@ -75,6 +75,15 @@ fn reads_within_a_message(rt: HostRuntime) -> Result<(), Fail> {
 }
 
 #[test]
+fn looks_without_reading(rt: HostRuntime) {
+    assert_eq!(rt; options_end(&MESSAGE, 4), Some(5));
+    assert_eq!(rt; options_end(&[0x80, 0x00], 0), Some(2));
+    assert_eq!(rt; options_end(&[0x80], 0), None);
+    assert_eq!(rt; check_options(&MESSAGE, 5), Ok(7));
+    assert_eq!(rt; check_options(&[0x80, 0x00], 0), Err(OptionsFault::BadKind));
+}
+
+#[test]
 fn faults(rt: HostRuntime) {
     // Another option is announced, or data are, and octets are missing.
     assert_eq!(rt; fault_in(rt.alloc(), &[]), Some(OptionsFault::Cut));

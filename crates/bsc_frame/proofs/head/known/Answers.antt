@@ -1,0 +1,9 @@
+use Rattle.std.proofs.Common.{arith}
+use Rattle.bsc_frame.proofs.Heads.{first_reserved, first_unknown}
+use Rattle.bsc_frame.proofs.head.known.Goals as goal
+
+pub returns-then-envelope-gt-FLAGS : goal.returns-then-envelope-gt-FLAGS
+returns-then-envelope-gt-FLAGS c = first_reserved c.args.m.now c.args.envelope c.requires.spells c.requires.whole (omega arith)
+
+pub returns-then-envelope-gt-LAST_FUNCTION : goal.returns-then-envelope-gt-LAST_FUNCTION
+returns-then-envelope-gt-LAST_FUNCTION c = first_unknown c.args.m.now c.args.envelope c.requires.spells c.requires.whole (omega arith) (omega arith)

@@ -1,0 +1,42 @@
+//! The checks of a message, in their order.
+
+/// A check of a message, named as the printed output names it. The order of the variants is the order of the
+/// checks: the first that fails decides what becomes of the message.
+///
+/// The octets of a message alone decide C1, C3, C5 to C8, C10 to C10c and C11, and `read` makes these. C2,
+/// C4, C9, C12 and C13 ask in addition where and when the message came.
+#[derive(Clone, Copy, Debug, PartialEq, Eq)]
+pub enum Check {
+    /// The message has fewer than four octets.
+    C1,
+    /// The message is longer than its receiver takes.
+    C2,
+    /// Octets of an announced address are missing.
+    C3,
+    /// The addresses are wrong for the place.
+    C4,
+    /// A reserved control flag is set.
+    C5,
+    /// The function is above 0C.
+    C6,
+    /// Octets of an announced list of header options are missing, in either list.
+    C7,
+    /// A header option has type 0 or a shape that its type does not have, in either list.
+    C7b,
+    /// Data options are announced on a function other than 01 and 0C.
+    C8,
+    /// A destination option that must be understood is not.
+    C9,
+    /// There is no payload on 01, 04, 06, 07 or 0C.
+    C10,
+    /// The payload is shorter than its fixed part.
+    C10b,
+    /// Octets stand behind the fixed part of a payload that ends with it.
+    C10c,
+    /// A value of the payload is out of its range, or a text is not UTF-8.
+    C11,
+    /// The function is a proprietary one, and none is known.
+    C12,
+    /// The function is out of place.
+    C13,
+}
