@@ -24,7 +24,7 @@ use Rattle.bsc_desk.specs.Standing.{StandsFor, connection}
 use Rattle.bsc_desk.specs.Entries.{forward_entry}
 use Rattle.bsc_replay.specs.declared.member.Member.{Member as Joined}
 use Rattle.bsc_replay.specs.declared.stage.Stage.{Stage}
-use Rattle.bsc_replay.specs.Lines.{same_octets}
+use Rattle.bsc_text.specs.Lines.{same_octets}
 use Rattle.bsc_replay.specs.Texts.{says, forward_words}
 use Rattle.bsc_replay.specs.Scenes.{Member, Scene, looks_in, reply_in, entry_in, written_for, written_in, member_of}
 use Rattle.bsc_replay.specs.Turns.{is_worn, entered, forward_turn}

@@ -8,7 +8,7 @@ use Rattle.bsc_octets.specs.Forwarding.{id_in}
 use Rattle.bsc_history.specs.declared.connection.Connection.{Connection}
 use Rattle.bsc_history.specs.Holders.{of_device}
 use Rattle.bsc_replay.specs.declared.stage.Stage.{Stage}
-use Rattle.bsc_replay.specs.Lines.{same_octets}
+use Rattle.bsc_text.specs.Lines.{same_octets}
 use Rattle.bsc_replay.specs.Messages.{is_connect_request, asks_for, asker_of}
 use Rattle.bsc_replay.specs.Texts.{unbuilt_text}
 use Rattle.bsc_replay.specs.Scenes.{Scene, is_waiting, member_of}

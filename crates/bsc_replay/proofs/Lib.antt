@@ -1,9 +1,4 @@
 pub mod OnLiterals
-pub mod Puts
-pub mod Reading
-pub mod Cutting
-pub mod Giving
-pub mod Spelling
 pub mod Outboxes
 pub mod Members
 pub mod Names

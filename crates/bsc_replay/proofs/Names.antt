@@ -6,7 +6,7 @@ use Rattle.bsc_history.specs.Ends.{joined_where, unleft}
 use Rattle.bsc_desk.specs.Standing.{StandsFor}
 use Rattle.bsc_replay.specs.declared.member.Member.{Member as Joined}
 use Rattle.bsc_replay.specs.declared.stage.Stage.{Stage}
-use Rattle.bsc_replay.specs.Lines.{same_octets}
+use Rattle.bsc_text.specs.Lines.{same_octets}
 use Rattle.bsc_replay.specs.Scenes.{Member, Scene, opening, is_open}
 use Rattle.bsc_replay.specs.Holding.{shown, Holds}
 use Rattle.bsc_replay.proofs.Outboxes.{any_mapped}

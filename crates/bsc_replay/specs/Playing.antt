@@ -2,7 +2,7 @@
 use Rattle.std.specs.Prelude.{ℕ, ◌+◌, if◌then◌else◌, List, [], ◌∷◌, ◌++◌, length, Option, Some, None}
 use Rattle.bsc_replay.specs.declared.script.Line.{Line}
 use Rattle.bsc_replay.specs.declared.script.Line.TheVariants.{Nothing, Hub, Open, In}
-use Rattle.bsc_replay.specs.Lines.{pieces_of, line_in, is_too_big}
+use Rattle.bsc_text.specs.Lines.{pieces_of, line_in, is_too_big}
 use Rattle.bsc_replay.specs.Script.{line_of}
 use Rattle.bsc_replay.specs.Scenes.{Scene, opening}
 use Rattle.bsc_replay.specs.Turns.{Turn, turn}

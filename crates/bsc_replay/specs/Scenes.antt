@@ -9,7 +9,7 @@ use Rattle.bsc_history.specs.Outboxes.{sent}
 use Rattle.bsc_history.specs.Legality.{looks_at}
 use Rattle.bsc_history.specs.declared.reply.Reply.{Reply}
 use Rattle.bsc_history.specs.Replies.{reply}
-use Rattle.bsc_replay.specs.Lines.{same_octets}
+use Rattle.bsc_text.specs.Lines.{same_octets}
 use Rattle.bsc_replay.specs.Texts.{puts}
 
 -- A name that is open and has joined: its connection, and how many frames were written for it.

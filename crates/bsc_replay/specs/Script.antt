@@ -6,9 +6,9 @@ use Rattle.bsc_octets.specs.Addresses.{same_vmac, zero_vmac, broadcast}
 use Rattle.bsc_history.specs.declared.limits.About.{About}
 use Rattle.bsc_replay.specs.declared.script.Line.{Line}
 use Rattle.bsc_replay.specs.declared.script.Line.TheVariants.{Nothing, Hub, Open, In}
-use Rattle.bsc_replay.specs.Lines.{same_octets}
-use Rattle.bsc_replay.specs.Words.{words_of}
-use Rattle.bsc_replay.specs.Grammar.{number_of, vmac_of_word, maximum_of_word, device_of_word, octets_of_words, is_name}
+use Rattle.bsc_text.specs.Lines.{same_octets}
+use Rattle.bsc_text.specs.Words.{words_of}
+use Rattle.bsc_text.specs.Grammar.{number_of, vmac_of_word, maximum_of_word, device_of_word, octets_of_words, is_name}
 
 -- A number lies within two others.
 abbrev pub lies_within : ℕ → ℕ → ℕ → Bool

@@ -17,7 +17,7 @@ use Rattle.bsc_replay.specs.declared.script.Line.TheVariants.{Nothing, Hub, Open
 use Rattle.bsc_replay.specs.declared.script.LineFault.{LineFault}
 use Rattle.bsc_replay.specs.declared.script.LineFault.TheVariants.{Refused as LineRefused, NoMemory as LineNoMemory}
 use Rattle.bsc_replay.specs.declared.stage.Stage.{Stage}
-use Rattle.bsc_replay.specs.Faults.{PutsPrefix}
+use Rattle.bsc_outside.specs.Faults.{PutsPrefix}
 use Rattle.bsc_replay.specs.Texts.{puts}
 use Rattle.bsc_replay.specs.Scenes.{Scene, member_written, unwritten_of}
 use Rattle.bsc_replay.specs.Turns.{Turn}

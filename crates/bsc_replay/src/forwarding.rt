@@ -4,7 +4,7 @@
 ghost use Rattle.std.specs.Prelude.{◌≡◌, ◌++◌, ◌==◌, ◌&&◌, ℕ, List, find, OnOk, IsTrue};
 ghost use Rattle.std.specs.List.{list_any};
 ghost use Rattle.std.specs.Option.{option_map};
-ghost use Rattle.bsc_replay.specs.Lines.{same_octets};
+ghost use Rattle.bsc_text.specs.Lines.{same_octets};
 ghost use Rattle.bsc_replay.specs.Messages.{is_unicast_form};
 ghost use Rattle.bsc_replay.specs.Scenes.{Scene};
 ghost use Rattle.bsc_replay.specs.Turns.{forward_turn, either_turn, in_turn};

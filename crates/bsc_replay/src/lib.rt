@@ -8,13 +8,10 @@
 
 mod connecting;
 mod emptying;
-mod feed;
 mod forwarding;
-mod grammar;
 mod member;
 mod messages;
 mod naming;
-mod outside;
 #[cfg(test)]
 mod reading_tests;
 mod replaying;
@@ -24,7 +21,5 @@ mod script;
 mod stage;
 mod texts;
 mod turning;
-mod words;
 
-pub use outside::{Failed, ReaderSource, Sink, Source, SureSink, SureSource, WriterSink};
 pub use replaying::{ReplayEnd, replay};

@@ -3,7 +3,7 @@
 
 ghost use Rattle.std.specs.Prelude.{◌≡◌, ◌++◌, ◌+◌, ℕ, nat_lt, not, List, [], length, filter, position, option_map, Option, Some, None, IfOk, IfSome, vec_len};
 ghost use Rattle.std.specs.List.{list_any};
-ghost use Rattle.bsc_replay.specs.Lines.{same_octets};
+ghost use Rattle.bsc_text.specs.Lines.{same_octets};
 ghost use Rattle.bsc_replay.specs.Scenes.{Scene, opening, is_waiting, is_open, names_without};
 ghost use Rattle.bsc_replay.specs.Turns.{open_turn, most_names};
 ghost use Rattle.bsc_replay.specs.Holding.{Holds};

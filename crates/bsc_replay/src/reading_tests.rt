@@ -1,6 +1,6 @@
 //! What lines say, where a text is cut, and one fault in mid-stream.
-use crate::feed::{Feed, NextLine};
-use crate::outside::{Failed, ReaderSource, Sink, Source, SureSink, SureSource, WriterSink};
+use bsc_text::{Feed, NextLine};
+use bsc_outside::{Failed, ReaderSource, Sink, Source, SureSink, SureSource, WriterSink};
 use crate::script::{Line, LineFault, read_line};
 use bsc_history::{About, Limits};
 use bsc_octets::{DeviceId, Identity, Vmac};

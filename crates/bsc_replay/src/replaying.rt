@@ -2,15 +2,15 @@
 #![tactic(auto)]
 
 ghost use Rattle.std.specs.Prelude.{◌≡◌, ◌≤◌, ℕ, List, Option, Some, Err, IfOk};
-ghost use Rattle.bsc_replay.specs.Faults.{Rose};
+ghost use Rattle.bsc_outside.specs.Faults.{Rose};
 ghost use Rattle.bsc_replay.specs.Scenes.{Scene};
 ghost use Rattle.bsc_replay.specs.Script.{line_of};
 ghost use Rattle.bsc_replay.specs.Playing.{line_after, said_after};
 ghost use Rattle.bsc_replay.specs.Steps.{HoldsIf, SomeIf, IsFit, StepsTo, PlaysTo, end_of};
 ghost use Rattle.bsc_replay.specs.Replaying.{Replays};
 
-use crate::feed::{Feed, NextLine};
-use crate::outside::{Sink, Source};
+use bsc_text::{Feed, NextLine};
+use bsc_outside::{Sink, Source};
 use crate::script::{Line, LineFault, read_line};
 use crate::stage::Stage;
 use bsc_octets::Octets;

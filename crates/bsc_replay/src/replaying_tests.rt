@@ -1,5 +1,5 @@
 //! Whole scripts with the texts that they come to, and faults in mid-stream.
-use crate::outside::{ReaderSource, SureSource, WriterSink};
+use bsc_outside::{ReaderSource, SureSource, WriterSink};
 use crate::replaying::{ReplayEnd, replay};
 use std::alloc::Global;
 use std::io;

@@ -1,15 +1,14 @@
 //! The lines of a script, and what they say.
 ghost use Rattle.std.specs.Prelude.{◌≡◌, IfOk, IfSome, MatchOption, if◌then◌else◌, Some, None, Err};
-ghost use Rattle.bsc_replay.specs.Words.{words_of};
-ghost use Rattle.bsc_replay.specs.Grammar.{vmac_of_word, device_of_word, maximum_of_word, number_of, octets_of_words, decoded};
-ghost use Rattle.hex.specs.Hex.{decode_of};
+ghost use Rattle.bsc_text.specs.Words.{words_of};
+ghost use Rattle.bsc_text.specs.Grammar.{vmac_of_word, device_of_word, maximum_of_word, number_of, octets_of_words};
 ghost use Rattle.bsc_replay.specs.Script.{may_be_hub, hub_of, hub_line, hub_line_of_words, open_line_of_words, in_line_of_words, begins_comment, line_of};
 
-use crate::grammar::{is_name, read_device, read_maximum, read_number, read_vmac};
-use crate::words::{joined, next_word};
 use bsc_history::{About, Limits};
 use bsc_octets::{DeviceId, Identity, NoMemory, Octets, Vmac};
-use hex::FromHexError;
+use bsc_text::{
+    OctetsFault, copy_of, is_name, next_word, read_device, read_maximum, read_number, read_octets, read_vmac,
+};
 use std::alloc::Global;
 
 /// A line of a script.
@@ -134,25 +133,6 @@ fn read_hub(words: &[u8]) -> Option<Line>
     }
 }
 
-/// The octets of a word, in memory of their own.
-fn copy_of(alloc: Global, word: &[u8]) -> Result<Octets, NoMemory>
-    ensures { IfOk result (λ o. o ≡ word.now) }
-{
-    Ok(Octets::from_vec(Vec::from_slice(alloc, word)?))
-}
-
-/// The octets that hexadecimal digits write.
-fn read_octets(alloc: Global, digits: &[u8]) -> Result<Octets, LineFault>
-    ensures read { IfOk result (λ o. decoded (decode_of digits.now) ≡ Some o) }
-    ensures refused { result ≡ Err LineFault.Refused → decoded (decode_of digits.now) ≡ None }
-{
-    match hex::decode(alloc, digits) {
-        Ok(octets) => Ok(Octets::from_vec(octets)),
-        Err(FromHexError::OutOfMemory) => Err(LineFault::NoMemory),
-        Err(_) => Err(LineFault::Refused),
-    }
-}
-
 /// What a line says whose first word is `open`, by the words after it.
 fn read_open(alloc: Global, words: &[u8]) -> Result<Line, LineFault>
     ensures read { IfOk result (λ l. open_line_of_words (words_of words.now) ≡ Some l) }
@@ -169,6 +149,18 @@ fn read_open(alloc: Global, words: &[u8]) -> Result<Line, LineFault>
     })
 }
 
+/// The message that the words of a line write.
+fn message_of(alloc: Global, words: &[u8]) -> Result<Octets, LineFault>
+    ensures read { IfOk result (λ o. octets_of_words (words_of words.now) ≡ Some o) }
+    ensures refused { result ≡ Err LineFault.Refused → octets_of_words (words_of words.now) ≡ None }
+{
+    match read_octets(alloc, words) {
+        Ok(message) => Ok(message),
+        Err(OctetsFault::Refused) => Err(LineFault::Refused),
+        Err(OctetsFault::NoMemory) => Err(LineFault::NoMemory),
+    }
+}
+
 /// What a line says whose first word is `in`, by the words after it.
 fn read_in(alloc: Global, words: &[u8]) -> Result<Line, LineFault>
     ensures read { IfOk result (λ l. in_line_of_words (words_of words.now) ≡ Some l) }
@@ -177,8 +169,7 @@ fn read_in(alloc: Global, words: &[u8]) -> Result<Line, LineFault>
     let Some((name, words)) = next_word(words) else {
         return Err(LineFault::Refused);
     };
-    let digits = joined(alloc, words)?;
-    let message = read_octets(alloc, digits.as_slice())?;
+    let message = message_of(alloc, words)?;
     Ok(Line::In {
         name: copy_of(alloc, name)?,
         message,

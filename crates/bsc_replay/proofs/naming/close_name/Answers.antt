@@ -1,6 +1,6 @@
 use Rattle.std.proofs.Common.{not, rules, tests}
 use Rattle.std.proofs.lemmas.Fn.{filter_same}
-use Rattle.bsc_replay.specs.Lines.{same_octets}
+use Rattle.bsc_text.specs.Lines.{same_octets}
 use Rattle.bsc_replay.proofs.naming.close_name.Goals as goal
 
 pub returns : goal.returns

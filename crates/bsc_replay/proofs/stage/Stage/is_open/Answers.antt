@@ -1,6 +1,6 @@
 use Rattle.std.proofs.Common.{◌≡◌, Bool, false, ◌||◌, ap, sym, ◌∙◌}
 use Rattle.std.specs.List.{list_any}
-use Rattle.bsc_replay.specs.Lines.{same_octets}
+use Rattle.bsc_text.specs.Lines.{same_octets}
 use Rattle.bsc_replay.proofs.Names.{open_shown}
 use Rattle.bsc_replay.proofs.stage.Stage.is_open.Goals as goal
 
