@@ -9,6 +9,8 @@ mod reader_source;
 mod stream;
 mod sure_sink;
 mod sure_source;
+#[cfg(test)]
+mod tests;
 mod writer_sink;
 
 pub use reader_source::ReaderSource;

@@ -1,9 +1,3 @@
-pub mod Script
-pub mod Messages
-pub mod Texts
-pub mod Scenes
-pub mod Turns
 pub mod Playing
-pub mod Holding
 pub mod Replaying
 pub mod Steps

@@ -8,6 +8,8 @@
 mod feed;
 mod grammar;
 mod octets;
+#[cfg(test)]
+mod tests;
 mod words;
 
 pub use feed::{Feed, NextLine};
