@@ -6,11 +6,11 @@
 
 mod connecting;
 mod emptying;
-mod fitting;
 mod forwarding;
 mod member;
 mod messages;
 mod naming;
+mod reading;
 mod script;
 mod stage;
 #[cfg(test)]
@@ -18,6 +18,6 @@ mod tests;
 mod texts;
 mod turning;
 
-pub use fitting::read_line;
+pub use reading::read_line;
 pub use script::{Line, LineFault};
 pub use stage::Stage;

@@ -1,5 +1,5 @@
 //! What lines say.
-use crate::fitting::read_line;
+use crate::reading::read_line;
 use crate::script::{Line, LineFault};
 use bsc_history::{About, Limits};
 use bsc_octets::{DeviceId, Identity, Vmac};
