@@ -28,6 +28,13 @@ abbrev pub fuel : Feed → ℕ
 fuel feed =
     2 * (most_read - (feed.count + length (unread feed))) + length (unread feed) + (if feed.ended then 0 else 1)
 
+-- The line l of a whole piece is given, which isn't too big, and nothing else of the feed has changed.
+pub record Gives (old new : Feed) (piece l : List ℕ) : Type 0 where
+  pub line : l ≡ line_in piece
+  pub fits : is_too_big old.count piece ≡ false
+  pub unread_same : unread new ≡ unread old
+  pub counted : new.count ≡ old.count + length piece
+
 -- Of the octets o, the line l of the first piece is given, which isn't too big, and the pieces after it are those of
 -- what is not given yet.
 pub record GivesLine (o : List ℕ) (old new : Feed) (left : Option (List ℕ)) (l : List ℕ) : Type 0 where
@@ -60,15 +67,15 @@ pub record HasEnded (old new : Feed) : Type 0 where
   pub count : new.count ≡ old.count
   pub ended : new.ended ≡ true
 
--- What an answer says of the octets that weren't given yet: a line is the next one, where an ended feed's source has
--- nothing left, and what is refused is too big, whatever follows.
+-- What an answer says of the octets that weren't given yet: a line is the next one, and what is refused is too big,
+-- whatever follows; after the end of the input nothing does.
 abbrev pub Feeds : Feed → Feed → NextLine → Type 0
 Feeds old new (Line l) =
     (o : List ℕ) (left : Option (List ℕ)) → rest_of old left ≡ Some o → (old.ended ≡ true → IsAtEnd left) →
     GivesLine o old new left l
 Feeds old new More = WantsMore old new
 Feeds old new End = HasEnded old new
-Feeds old new Refused = (left : List ℕ) → HasTooBig (unread old ++ left) old
+Feeds old new Refused = (left : List ℕ) → (old.ended ≡ true → left ≡ []) → HasTooBig (unread old ++ left) old
 Feeds old new NoMemory = ⊤
 
 -- What reading a chunk does: what was read before stays in front, and only an ended feed has no octet more.

@@ -3,8 +3,8 @@
 //! A `Feed` reads a source a chunk at a time, and cuts what it has read into lines: a caller takes lines
 //! until no whole one is left, and only then has the next chunk read. It never holds more than one chunk and
 //! one line. What a line is, and which are too big, stands in `specs/Lines.antt`.
-ghost use Rattle.std.specs.Prelude.{◌≡◌, ◌≢◌, ◌+◌, ◌≤◌, if◌then◌else◌, ℕ, List, [], ◌∷◌, ◌++◌, length, take, MatchOption, IfSome, true, false, ◌⊎◌, ◌<◌};
-ghost use Rattle.bsc_text.specs.Lines.{line_in, is_too_big, has_no_lf};
+ghost use Rattle.std.specs.Prelude.{◌≡◌, ◌≢◌, ◌+◌, ◌≤◌, if◌then◌else◌, ℕ, List, [], ◌∷◌, ◌++◌, length, take, slice_index, MatchOption, true, false, ◌⊎◌, ◌<◌};
+ghost use Rattle.bsc_text.specs.Lines.{line_in, is_too_big, has_no_lf, BeginsLine};
 
 use bsc_octets::{NoMemory, Octets};
 use bsc_outside::{Failed, Source};
@@ -95,11 +95,33 @@ fn cannot_fit(before: u64, len: usize) -> bool
     len > LONGEST_LINE + 1 || LONGEST_SCRIPT - before < len as u64
 }
 
+/// How many octets stand in front of the first LF.
+fn lf_at(octets: &[u8]) -> usize
+    ensures within { result ≤ length octets.now }
+    ensures before { (k : ℕ) → k < result → slice_index octets.now k ≢ 10 }
+    ensures found { result < length octets.now → slice_index octets.now result ≡ 10 }
+{
+    octets
+        .iter()
+        .position(|c| *c == b'\n')
+        .unwrap_or(octets.len())
+}
+
+/// How many octets stand in front of the first LF, where there is one.
+fn first_lf(octets: &[u8]) -> Option<usize>
+    ensures { MatchOption result
+        (has_no_lf octets.now ≡ true)
+        (λ n. BeginsLine n octets.now) }
+{
+    let n = lf_at(octets);
+    if n < octets.len() { Some(n) } else { None }
+}
+
 impl Feed {
     ghost use Rattle.std.specs.Prelude.{◌≡◌, ◌≤◌, ◌<◌, ◌+◌, true, false, ℕ, List, [], ◌∷◌, ◌++◌, Option, Some, Ok, OnOk, OnErr, IfOk, IsErr, length, take, drop};
     ghost use Rattle.std.specs.Io.KnownBytes.{Keeps, IsAtEnd};
     ghost use Rattle.bsc_outside.specs.Faults.{Rose};
-    ghost use Rattle.bsc_text.specs.Feeding.{unread, rest_of, IsUsedUp, Feeds, Fills, fuel};
+    ghost use Rattle.bsc_text.specs.Feeding.{unread, rest_of, IsUsedUp, Gives, Feeds, Fills, fuel};
 
     /// A feed that has read nothing yet. It takes room for one chunk.
     pub fn make(alloc: Global) -> Result<Feed, NoMemory>
@@ -137,6 +159,74 @@ impl Feed {
         self.end = source.read(self.chunk.as_mut_slice())?;
         self.ended = self.end == 0;
         Ok(())
+    }
+
+    /// The octets of the last chunk that were not given yet.
+    fn rest(&self) -> &[u8]
+        ensures { result.now ≡ drop self.now.at (take self.now.end self.now.chunk.items) }
+    {
+        &self.chunk[self.at..self.end]
+    }
+
+    /// The line of a whole piece, which is next.
+    #[tactic(auto, using(crate::proofs::Reading::take_line_in))]
+    fn give(&mut self, mut piece: Vec<u8>) -> NextLine
+        requires { self.old.carry.items ≡ [] }
+        ensures given { (l : List ℕ) → result ≡ NextLine.Line l → Gives self.old self.new piece.items l }
+        ensures big { result ≡ NextLine.Refused → is_too_big self.old.count piece.items ≡ true }
+        ensures ended { self.new.ended ≡ self.old.ended }
+        ensures more { result ≢ NextLine.More }
+        ensures end { result ≢ NextLine.End }
+    {
+        if is_too_big(self.count, piece.as_slice()) {
+            return NextLine::Refused;
+        }
+        self.count += piece.len() as u64;
+        piece.truncate(line_in(piece.as_slice()).len());
+        NextLine::Line(Octets::from_vec(piece))
+    }
+
+    /// The next line, which ends with the LF after the first `n` octets of the rest.
+    fn next_whole(&mut self, alloc: Global, n: usize) -> NextLine
+        requires { BeginsLine n (drop self.old.at (take self.old.end self.old.chunk.items)) }
+        ensures fed { Feeds self.old self.new result }
+        ensures ended { self.new.ended ≡ self.old.ended }
+        ensures more { result ≢ NextLine.More }
+    {
+        if cannot_fit(self.count, self.carry.len() + n) {
+            return NextLine::Refused;
+        }
+        let mut piece = mem::replace(&mut self.carry, Vec::new(alloc));
+        let (front, _) = self.rest().split_at(n + 1);
+        if piece.extend_from_slice(front).is_err() {
+            return NextLine::NoMemory;
+        }
+        self.at += n + 1;
+        self.give(piece)
+    }
+
+    /// Keeps the rest, in which there is no LF; at the end of the input it is the last line.
+    fn keep_rest(&mut self, alloc: Global) -> NextLine
+        requires { has_no_lf (drop self.old.at (take self.old.end self.old.chunk.items)) ≡ true }
+        ensures fed { Feeds self.old self.new result }
+        ensures ended { self.new.ended ≡ self.old.ended }
+    {
+        if cannot_fit(self.count, self.carry.len() + self.rest().len()) {
+            return NextLine::Refused;
+        }
+        let rest = &self.chunk[self.at..self.end];
+        if self.carry.extend_from_slice(rest).is_err() {
+            return NextLine::NoMemory;
+        }
+        self.at = self.end;
+        if !self.ended {
+            return NextLine::More;
+        }
+        if self.carry.is_empty() {
+            return NextLine::End;
+        }
+        let piece = mem::replace(&mut self.carry, Vec::new(alloc));
+        self.give(piece)
     }
 
     /// The next line of what was read, without its LF and the one CR before it. A last line may have no LF,
