@@ -28,12 +28,12 @@ abbrev pub fuel : Feed → ℕ
 fuel feed =
     2 * (most_read - (feed.count + length (unread feed))) + length (unread feed) + (if feed.ended then 0 else 1)
 
--- The line l of a whole piece is given, which isn't too big, and nothing else of the feed has changed.
-pub record Gives (old new : Feed) (piece l : List ℕ) : Type 0 where
+-- The line l of a whole piece is given, which isn't too big after so many octets, and the octets u are left.
+pub record Gives (before : ℕ) (u : List ℕ) (new : Feed) (piece l : List ℕ) : Type 0 where
   pub line : l ≡ line_in piece
-  pub fits : is_too_big old.count piece ≡ false
-  pub unread_same : unread new ≡ unread old
-  pub counted : new.count ≡ old.count + length piece
+  pub fits : is_too_big before piece ≡ false
+  pub unread_same : unread new ≡ u
+  pub counted : new.count ≡ before + length piece
 
 -- Of the octets o, the line l of the first piece is given, which isn't too big, and the pieces after it are those of
 -- what is not given yet.

@@ -3,7 +3,7 @@
 //! A `Feed` reads a source a chunk at a time, and cuts what it has read into lines: a caller takes lines
 //! until no whole one is left, and only then has the next chunk read. It never holds more than one chunk and
 //! one line. What a line is, and which are too big, stands in `specs/Lines.antt`.
-ghost use Rattle.std.specs.Prelude.{◌≡◌, ◌≢◌, ◌+◌, ◌≤◌, if◌then◌else◌, ℕ, List, [], ◌∷◌, ◌++◌, length, take, slice_index, MatchOption, true, false, ◌⊎◌, ◌<◌};
+ghost use Rattle.std.specs.Prelude.{◌≡◌, ◌≢◌, ◌+◌, ◌≤◌, if◌then◌else◌, ℕ, List, [], ◌∷◌, ◌++◌, length, take, drop, slice_index, MatchOption, true, false, ◌⊎◌, ◌<◌};
 ghost use Rattle.bsc_text.specs.Lines.{line_in, is_too_big, has_no_lf, BeginsLine};
 
 use bsc_octets::{NoMemory, Octets};
@@ -117,6 +117,15 @@ fn first_lf(octets: &[u8]) -> Option<usize>
     if n < octets.len() { Some(n) } else { None }
 }
 
+/// The octets of a chunk from one place to another.
+fn between(chunk: &[u8], at: usize, end: usize) -> &[u8]
+    requires order { at ≤ end }
+    requires within { end ≤ length chunk.now }
+    ensures { result.now ≡ drop at (take end chunk.now) }
+{
+    &chunk[at..end]
+}
+
 impl Feed {
     ghost use Rattle.std.specs.Prelude.{◌≡◌, ◌≤◌, ◌<◌, ◌+◌, true, false, ℕ, List, [], ◌∷◌, ◌++◌, Option, Some, Ok, OnOk, OnErr, IfOk, IsErr, length, take, drop};
     ghost use Rattle.std.specs.Io.KnownBytes.{Keeps, IsAtEnd};
@@ -165,14 +174,15 @@ impl Feed {
     fn rest(&self) -> &[u8]
         ensures { result.now ≡ drop self.now.at (take self.now.end self.now.chunk.items) }
     {
-        &self.chunk[self.at..self.end]
+        between(self.chunk.as_slice(), self.at, self.end)
     }
 
     /// The line of a whole piece, which is next.
     #[tactic(auto, using(crate::proofs::Reading::take_line_in))]
     fn give(&mut self, mut piece: Vec<u8>) -> NextLine
         requires { self.old.carry.items ≡ [] }
-        ensures given { (l : List ℕ) → result ≡ NextLine.Line l → Gives self.old self.new piece.items l }
+        ensures given { (l : List ℕ) → result ≡ NextLine.Line l →
+            Gives self.old.count (unread self.old) self.new piece.items l }
         ensures big { result ≡ NextLine.Refused → is_too_big self.old.count piece.items ≡ true }
         ensures ended { self.new.ended ≡ self.old.ended }
         ensures more { result ≢ NextLine.More }
@@ -214,7 +224,7 @@ impl Feed {
         if cannot_fit(self.count, self.carry.len() + self.rest().len()) {
             return NextLine::Refused;
         }
-        let rest = &self.chunk[self.at..self.end];
+        let rest = between(self.chunk.as_slice(), self.at, self.end);
         if self.carry.extend_from_slice(rest).is_err() {
             return NextLine::NoMemory;
         }
