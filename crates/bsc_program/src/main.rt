@@ -5,7 +5,7 @@
 
 mod run;
 
-use bsc_replay::{ReaderSource, WriterSink};
+use bsc_outside::{ReaderSource, WriterSink};
 use run::{out_of_memory, run};
 use std::env;
 use std::io::{self, ErrorKind};

@@ -2,12 +2,13 @@
 #![tactic(auto)]
 
 ghost use Rattle.std.specs.Prelude.{◌≡◌, ◌≢◌, ◌≤◌, ◌⊎◌, ◌++◌, ◌==◌, ℕ, List, Some, map, string_bytes, ◌↔◌, IsTrue, IfOk};
-ghost use Rattle.bsc_replay.specs.Faults.{Rose};
+ghost use Rattle.bsc_outside.specs.Faults.{Rose};
 ghost use Rattle.bsc_replay.specs.Replaying.{WritesAll};
 ghost use Rattle.bsc_program.specs.Statuses.{replay_words, words_line, script_line, RefusesSome, RefusedAt, EndsReplay, IsStatus};
 
 use bsc_octets::NoMemory;
-use bsc_replay::{ReplayEnd, Sink, Source, replay};
+use bsc_outside::{Sink, Source};
+use bsc_replay::{ReplayEnd, replay};
 use std::alloc::Global;
 
 /// Tries the last line of a run that ran out of memory. Its answer is not looked at.

@@ -1,12 +1,12 @@
 -- A script that is played line by line.
 use Rattle.std.proofs.Common.{◌≡◌, ℕ, ◌+◌, ◌≤◌, ◌<◌, false, List, [], ◌∷◌, ◌++◌, length, refl, ap, sym, ◌∙◌, append_assoc, append-nil, arith, Option, Some, None}
-use Rattle.bsc_replay.specs.declared.feed.Feed.{Feed}
-use Rattle.bsc_replay.specs.declared.stage.Stage.{Stage}
-use Rattle.bsc_replay.specs.Lines.{pieces_of, line_in, is_too_big}
-use Rattle.bsc_replay.specs.Script.{line_of}
-use Rattle.bsc_replay.specs.Scenes.{Scene}
+use Rattle.bsc_text.specs.declared.feed.Feed.{Feed}
+use Rattle.bsc_stage.specs.declared.stage.Stage.{Stage}
+use Rattle.bsc_text.specs.Lines.{pieces_of, line_in, is_too_big}
+use Rattle.bsc_stage.specs.Script.{line_of}
+use Rattle.bsc_stage.specs.Scenes.{Scene}
 use Rattle.bsc_replay.specs.Playing.{Played, Stood, said_after, piece_after, ended_at, play, replay_of}
-use Rattle.bsc_replay.specs.Feeding.{rest_of, GivesLine, HasTooBig, unread}
+use Rattle.bsc_text.specs.Feeding.{rest_of, GivesLine, HasTooBig, unread}
 use Rattle.bsc_replay.specs.Steps.{HoldsIf, SomeIf, StandsAs, WrittenAs, end_of}
 use Rattle.bsc_replay.specs.Replaying.{WritesAll, WritesTo, Replays}
 

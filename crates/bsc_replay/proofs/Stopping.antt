@@ -3,12 +3,12 @@ use Rattle.std.proofs.Common.{◌≡◌, ℕ, ◌+◌, ◌≤◌, List, ◌++◌
 use Rattle.std.proofs.Math.Seq.{take-append_seam, take-append-add}
 use Rattle.std.proofs.lemmas.List.{take-append-le, length-append}
 use Rattle.std.specs.Io.KnownBytes.{Appends}
-use Rattle.bsc_replay.specs.declared.feed.Feed.{Feed}
-use Rattle.bsc_replay.specs.declared.stage.Stage.{Stage}
-use Rattle.bsc_replay.specs.Faults.{PutsPrefix}
-use Rattle.bsc_replay.specs.Lines.{pieces_of}
-use Rattle.bsc_replay.specs.Script.{line_of}
-use Rattle.bsc_replay.specs.Feeding.{GivesLine}
+use Rattle.bsc_text.specs.declared.feed.Feed.{Feed}
+use Rattle.bsc_stage.specs.declared.stage.Stage.{Stage}
+use Rattle.bsc_outside.specs.Faults.{PutsPrefix}
+use Rattle.bsc_text.specs.Lines.{pieces_of}
+use Rattle.bsc_stage.specs.Script.{line_of}
+use Rattle.bsc_text.specs.Feeding.{GivesLine}
 use Rattle.bsc_replay.specs.Playing.{Played, Stood, said_after, piece_after, play, replay_of}
 use Rattle.bsc_replay.specs.Replaying.{WritesSome}
 use Rattle.bsc_replay.specs.Steps.{BreaksOff}

@@ -1,14 +1,3 @@
-pub mod Faults
-pub mod Lines
-pub mod Words
-pub mod Grammar
-pub mod Script
-pub mod Messages
-pub mod Texts
-pub mod Scenes
-pub mod Turns
 pub mod Playing
-pub mod Holding
-pub mod Feeding
 pub mod Replaying
 pub mod Steps

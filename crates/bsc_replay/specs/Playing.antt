@@ -1,11 +1,11 @@
 -- The text that a script defines.
 use Rattle.std.specs.Prelude.{ℕ, ◌+◌, if◌then◌else◌, List, [], ◌∷◌, ◌++◌, length, Option, Some, None}
-use Rattle.bsc_replay.specs.declared.script.Line.{Line}
-use Rattle.bsc_replay.specs.declared.script.Line.TheVariants.{Nothing, Hub, Open, In}
-use Rattle.bsc_replay.specs.Lines.{pieces_of, line_in, is_too_big}
-use Rattle.bsc_replay.specs.Script.{line_of}
-use Rattle.bsc_replay.specs.Scenes.{Scene, opening}
-use Rattle.bsc_replay.specs.Turns.{Turn, turn}
+use Rattle.bsc_stage.specs.declared.script.Line.{Line}
+use Rattle.bsc_stage.specs.declared.script.Line.TheVariants.{Nothing, Hub, Open, In}
+use Rattle.bsc_text.specs.Lines.{pieces_of, line_in, is_too_big}
+use Rattle.bsc_stage.specs.Script.{line_of}
+use Rattle.bsc_stage.specs.Scenes.{Scene, opening}
+use Rattle.bsc_stage.specs.Turns.{Turn, turn}
 
 -- What a script comes to: the text that is written, and the number of the first refused line, None where no line is
 -- refused.

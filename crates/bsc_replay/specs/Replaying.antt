@@ -2,7 +2,7 @@
 use Rattle.std.specs.Prelude.{◌≡◌, ℕ, List, ◌++◌, [], Option, Some, None}
 use Rattle.bsc_replay.specs.declared.replaying.ReplayEnd.{ReplayEnd}
 use Rattle.bsc_replay.specs.declared.replaying.ReplayEnd.TheVariants.{Done, BadLine, ReadFault, WriteFault, NoMemory}
-use Rattle.bsc_replay.specs.Faults.{PutsPrefix}
+use Rattle.bsc_outside.specs.Faults.{PutsPrefix}
 use Rattle.bsc_replay.specs.Playing.{replay_of}
 
 -- The whole text of the script o was written after t, and o was read to its end.

@@ -2,29 +2,12 @@
 //!
 //! The call is `replay`, in `src/replaying.rt`: from a `Source` of lines to a `Sink` of text. What a
 //! script comes to is `replay_of` in `specs/Playing.antt`, and `proofs/WorkedScripts.antt` has scripts
-//! with their texts. Inside, a `Feed` cuts lines, `read_line` says what one means, and a `Stage`, which
-//! is a hub with its open names, carries it out. The hub is that of `bsc_desk`.
+//! with their texts. Inside, a `Feed` of `bsc_text` cuts lines, `read_line` of `bsc_stage` says what one
+//! means, and its `Stage`, which is a hub with its open names, carries it out.
 #![tactic(auto)]
 
-mod connecting;
-mod emptying;
-mod feed;
-mod forwarding;
-mod grammar;
-mod member;
-mod messages;
-mod naming;
-mod outside;
-#[cfg(test)]
-mod reading_tests;
 mod replaying;
 #[cfg(test)]
 mod replaying_tests;
-mod script;
-mod stage;
-mod texts;
-mod turning;
-mod words;
 
-pub use outside::{Failed, ReaderSource, Sink, Source, SureSink, SureSource, WriterSink};
 pub use replaying::{ReplayEnd, replay};

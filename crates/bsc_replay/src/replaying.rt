@@ -2,18 +2,18 @@
 #![tactic(auto)]
 
 ghost use Rattle.std.specs.Prelude.{◌≡◌, ◌≤◌, ℕ, List, Option, Some, Err, IfOk};
-ghost use Rattle.bsc_replay.specs.Faults.{Rose};
-ghost use Rattle.bsc_replay.specs.Scenes.{Scene};
-ghost use Rattle.bsc_replay.specs.Script.{line_of};
+ghost use Rattle.bsc_outside.specs.Faults.{Rose};
+ghost use Rattle.bsc_stage.specs.Scenes.{Scene};
+ghost use Rattle.bsc_stage.specs.Script.{line_of};
 ghost use Rattle.bsc_replay.specs.Playing.{line_after, said_after};
-ghost use Rattle.bsc_replay.specs.Steps.{HoldsIf, SomeIf, IsFit, StepsTo, PlaysTo, end_of};
+ghost use Rattle.bsc_stage.specs.Steps.{IsFit};
+ghost use Rattle.bsc_replay.specs.Steps.{HoldsIf, SomeIf, StepsTo, PlaysTo, end_of};
 ghost use Rattle.bsc_replay.specs.Replaying.{Replays};
 
-use crate::feed::{Feed, NextLine};
-use crate::outside::{Sink, Source};
-use crate::script::{Line, LineFault, read_line};
-use crate::stage::Stage;
 use bsc_octets::Octets;
+use bsc_outside::{Sink, Source};
+use bsc_stage::{Line, LineFault, Stage, read_line};
+use bsc_text::{Feed, NextLine};
 use std::alloc::Global;
 
 /// How a replay ended.
@@ -71,15 +71,6 @@ fn step(
     }
 }
 
-/// Reads a line that says something a hub may be made by.
-fn read_fit(alloc: Global, line: &[u8]) -> Result<Line, LineFault>
-    ensures read { IfOk result (λ l. line_of line.now ≡ Some l) }
-    ensures fit { IfOk result IsFit }
-    ensures refused { result ≡ Err LineFault.Refused → line_of line.now ≡ None }
-{
-    read_line(alloc, line)
-}
-
 /// Plays a line: carries it out, and writes its text.
 fn play<K: Sink>(
     alloc: Global,
@@ -94,7 +85,7 @@ fn play<K: Sink>(
     ensures failed { result ≡ Err Stop.WriteFault → Rose (K.faults sink.old) (K.faults sink.new) }
     ensures some { IfOk result SomeIf }
 {
-    let line = match read_fit(alloc, octets.as_slice()) {
+    let line = match read_line(alloc, octets.as_slice()) {
         Ok(line) => line,
         Err(LineFault::Refused) => return Err(Stop::Refused),
         Err(LineFault::NoMemory) => return Err(Stop::NoMemory),

@@ -1,6 +1,6 @@
 //! Whole scripts with the texts that they come to, and faults in mid-stream.
-use crate::outside::{ReaderSource, SureSource, WriterSink};
 use crate::replaying::{ReplayEnd, replay};
+use bsc_outside::{ReaderSource, SureSource, WriterSink};
 use std::alloc::Global;
 use std::io;
 use std::process::Abort;

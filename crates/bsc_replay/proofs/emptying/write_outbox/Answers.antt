@@ -1,5 +1,0 @@
-use Rattle.bsc_replay.proofs.Outboxes.{has_row}
-use Rattle.bsc_replay.proofs.emptying.write_outbox.Goals as goal
-
-pub take-requires : goal.take-requires
-take-requires c = has_row c.loop-frame.desk c.loop-frame.outlet.conn c.loop-frame.invariant.some

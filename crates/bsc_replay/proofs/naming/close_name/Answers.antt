@@ -1,7 +1,0 @@
-use Rattle.std.proofs.Common.{not, rules, tests}
-use Rattle.std.proofs.lemmas.Fn.{filter_same}
-use Rattle.bsc_replay.specs.Lines.{same_octets}
-use Rattle.bsc_replay.proofs.naming.close_name.Goals as goal
-
-pub returns : goal.returns
-returns c = filter_same _ (λ n. not (same_octets n c.args.name.now)) _ (λ x b q k. search (rules, tests)) _ _ c.retain.ensures.filtered

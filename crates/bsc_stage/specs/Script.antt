@@ -1,0 +1,79 @@
+-- What a line of a script says.
+use Rattle.std.specs.Prelude.{ℕ, ◌*◌, ◌==◌, nat_le, Bool, false, not, ◌&&◌, if◌then◌else◌, List, [], ◌∷◌, codes, Option, Some, None}
+use Rattle.bsc_octets.specs.declared.vmac.Vmac.{Vmac}
+use Rattle.bsc_octets.specs.declared.device_id.DeviceId.{DeviceId}
+use Rattle.bsc_octets.specs.Addresses.{same_vmac, zero_vmac, broadcast}
+use Rattle.bsc_history.specs.declared.limits.About.{About}
+use Rattle.bsc_stage.specs.declared.script.Line.{Line}
+use Rattle.bsc_stage.specs.declared.script.Line.TheVariants.{Nothing, Hub, Open, In}
+use Rattle.bsc_text.specs.Lines.{same_octets}
+use Rattle.bsc_text.specs.Words.{words_of}
+use Rattle.bsc_text.specs.Grammar.{number_of, vmac_of_word, maximum_of_word, device_of_word, octets_of_words, is_name}
+
+-- A number lies within two others.
+abbrev pub lies_within : ℕ → ℕ → ℕ → Bool
+lies_within low n high = nat_le low n && nat_le n high
+
+-- What a hub may be: a VMAC that names one node, maximum lengths of 64 to 65,535 and 1 to 65,535, 1 to 1024 rows,
+-- outboxes of 2 to 1024 frames, and a product of rows, outbox and maximum BVLC length of at most 2^30.
+abbrev pub may_be_hub : Vmac → ℕ → ℕ → ℕ → ℕ → Bool
+may_be_hub v max_bvlc max_npdu rows outbox =
+    not (same_vmac v zero_vmac) && not (same_vmac v broadcast)
+    && lies_within 64 max_bvlc 65535 && lies_within 1 max_npdu 65535
+    && lies_within 1 rows 1024 && lies_within 2 outbox 1024
+    && nat_le (rows * outbox * max_bvlc) 1073741824
+
+-- a hub of these, with 2^52 calls and 2^62 callers
+abbrev pub hub_of : Vmac → DeviceId → ℕ → ℕ → ℕ → ℕ → About
+hub_of v u max_bvlc max_npdu rows outbox = record {
+  hub = record { vmac = v; device = u; max_bvlc = max_bvlc; max_npdu = max_npdu };
+  limits = record { rows = rows; outbox = outbox; calls = 4503599627370496; callers = 4611686018427387904 };
+}
+
+-- a hub line, where each of its words is what it should be
+abbrev pub hub_line : Option Vmac → Option DeviceId → Option ℕ → Option ℕ → Option ℕ → Option ℕ → Option Line
+hub_line (Some v) (Some u) (Some max_bvlc) (Some max_npdu) (Some rows) (Some outbox) =
+    if may_be_hub v max_bvlc max_npdu rows outbox
+    then Some (Hub (hub_of v u max_bvlc max_npdu rows outbox)) else None
+hub_line v u max_bvlc max_npdu rows outbox = None
+
+-- a hub line, by the six words after its first
+abbrev pub hub_line_of_words : List (List ℕ) → Option Line
+hub_line_of_words (v ∷ u ∷ max_bvlc ∷ max_npdu ∷ rows ∷ outbox ∷ []) =
+    hub_line (vmac_of_word v) (device_of_word u) (maximum_of_word max_bvlc) (maximum_of_word max_npdu)
+    (number_of rows) (number_of outbox)
+hub_line_of_words ws = None
+
+-- an open line, by the words after its first: a name alone
+abbrev pub open_line_of_words : List (List ℕ) → Option Line
+open_line_of_words (name ∷ []) = if is_name name then Some (Open name) else None
+open_line_of_words ws = None
+
+-- a line of a message that comes in, where its octets are octets
+abbrev pub in_line : List ℕ → Option (List ℕ) → Option Line
+in_line name (Some message) = Some (In name message)
+in_line name None = None
+
+-- a line of a message, by the words after its first: a name, and then octets
+abbrev pub in_line_of_words : List (List ℕ) → Option Line
+in_line_of_words (name ∷ ws) = in_line name (octets_of_words ws)
+in_line_of_words [] = None
+
+-- whether a word begins a comment
+abbrev pub begins_comment : List ℕ → Bool
+begins_comment (c ∷ o) = c == 35
+begins_comment [] = false
+
+-- what a line says, by its words
+abbrev pub line_of_words : List (List ℕ) → Option Line
+line_of_words [] = Some Nothing
+line_of_words (w ∷ ws) =
+    if begins_comment w then Some Nothing
+    else if same_octets w (codes "hub") then hub_line_of_words ws
+    else if same_octets w (codes "open") then open_line_of_words ws
+    else if same_octets w (codes "in") then in_line_of_words ws
+    else None
+
+-- What a line says; None where it has no form of a line. A line with no words, or with a comment, says nothing.
+unfoldable pub line_of : List ℕ → Option Line
+line_of l = line_of_words (words_of l)

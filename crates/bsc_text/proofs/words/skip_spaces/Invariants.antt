@@ -1,0 +1,13 @@
+-- The spaces that were skipped hold no word.
+use Rattle.std.proofs.Common.{◌≡◌, ◌≤◌, length}
+use Rattle.bsc_text.specs.Words.{words_of}
+use Rattle.bsc_text.proofs.words.skip_spaces.Given as goal
+
+abbrev pub invariant-loop-line : goal.invariant-loop-line
+invariant-loop-line l = record {
+  words : words_of l.line ≡ words_of l.initial.line;
+  shorter : length l.line ≤ length l.initial.line;
+}
+
+abbrev pub decreases-loop-line : goal.decreases-loop-line
+decreases-loop-line l = length l.line

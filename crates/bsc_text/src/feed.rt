@@ -1,0 +1,261 @@
+//! Lines of what was read, one at a time.
+//!
+//! A `Feed` reads a source a chunk at a time, and cuts what it has read into lines: a caller takes lines
+//! until no whole one is left, and only then has the next chunk read. It never holds more than one chunk and
+//! one line. What a line is, and which are too big, stands in `specs/Lines.antt`.
+ghost use Rattle.std.specs.Prelude.{◌≡◌, ◌≢◌, ◌+◌, ◌≤◌, if◌then◌else◌, ℕ, List, [], ◌∷◌, ◌++◌, length, take, drop, slice_index, MatchOption, true, false, ◌⊎◌, ◌<◌};
+ghost use Rattle.bsc_text.specs.Lines.{line_in, is_too_big, has_no_lf, BeginsLine};
+
+use bsc_octets::{NoMemory, Octets};
+use bsc_outside::{Failed, Source};
+use std::alloc::Global;
+use std::mem;
+
+/// The most octets that one read gives: 64 KiB.
+const CHUNK: usize = 65_536;
+
+/// The most octets that a line may have.
+const LONGEST_LINE: usize = 140_000;
+
+/// The most octets that a whole script may have: 2^40.
+const LONGEST_SCRIPT: u64 = 1_099_511_627_776;
+
+/// What was read and not given yet: the front of a line, and the octets of a chunk from `at` to `end`.
+#[derive(Drop)]
+pub struct Feed {
+    /// The front of a line, of which no LF was read yet.
+    carry: Vec<u8>,
+    /// Room for one chunk.
+    chunk: Vec<u8>,
+    at: usize,
+    end: usize,
+    /// How many octets the lines that were given stood in.
+    count: u64,
+    /// Whether the last read found the end of the input.
+    ended: bool,
+    ghost in_order: { at ≤ end },
+    ghost in_chunk: { end ≤ length chunk.items },
+    ghost one_chunk: { length chunk.items ≡ 65536 },
+    ghost one_line: { has_no_lf carry.items ≡ true },
+    ghost short_line: { length carry.items ≤ 140001 },
+    ghost in_script: { count + length carry.items ≤ 1099511627776 },
+}
+
+/// What the next line is.
+#[derive(Debug, Drop)]
+pub enum NextLine {
+    /// This line, without its LF and the one CR before it.
+    Line(Octets),
+    /// No whole line is left of what was read, and the next chunk may be read.
+    More,
+    /// There is none: the input ended, and all its lines were given.
+    End,
+    /// It is too long, or it goes past the longest script.
+    Refused,
+    /// Memory ran out.
+    NoMemory,
+}
+
+/// The octets in front of a last one that is `last`, where it is.
+fn before_last(octets: &[u8], last: u8) -> Option<&[u8]>
+    ensures { MatchOption result
+        ((front : List ℕ) → octets.now ≢ front ++ last ∷ [])
+        (λ front. octets.now ≡ front.now ++ last ∷ []) }
+{
+    octets.strip_suffix(&[last])
+}
+
+/// The line that a piece holds: the piece without its LF and the one CR before it.
+fn line_in(piece: &[u8]) -> &[u8]
+    ensures { result.now ≡ line_in piece.now }
+{
+    match before_last(piece, b'\n') {
+        None => piece,
+        Some(front) => match before_last(front, b'\r') {
+            None => front,
+            Some(line) => line,
+        },
+    }
+}
+
+/// Whether a piece that stands after `before` octets is too big.
+fn is_too_big(before: u64, piece: &[u8]) -> bool
+    requires { before ≤ 1099511627776 }
+    ensures { result ≡ is_too_big before piece.now }
+{
+    line_in(piece).len() > LONGEST_LINE || LONGEST_SCRIPT - before < piece.len() as u64
+}
+
+/// Whether each piece that begins with this many octets, of which none is an LF, is too big.
+fn cannot_fit(before: u64, len: usize) -> bool
+    requires { before ≤ 1099511627776 }
+    ensures cannot { result ≡ true → (140001 < len) ⊎ (1099511627776 < before + len) }
+    ensures may { result ≡ false → (len ≤ 140001) × (before + len ≤ 1099511627776) }
+{
+    len > LONGEST_LINE + 1 || LONGEST_SCRIPT - before < len as u64
+}
+
+/// How many octets stand in front of the first LF.
+fn lf_at(octets: &[u8]) -> usize
+    ensures within { result ≤ length octets.now }
+    ensures before { (k : ℕ) → k < result → slice_index octets.now k ≢ 10 }
+    ensures found { result < length octets.now → slice_index octets.now result ≡ 10 }
+{
+    octets
+        .iter()
+        .position(|c| *c == b'\n')
+        .unwrap_or(octets.len())
+}
+
+/// How many octets stand in front of the first LF, where there is one.
+fn first_lf(octets: &[u8]) -> Option<usize>
+    ensures { MatchOption result
+        (has_no_lf octets.now ≡ true)
+        (λ n. BeginsLine n octets.now) }
+{
+    let n = lf_at(octets);
+    if n < octets.len() { Some(n) } else { None }
+}
+
+/// The octets of a chunk from one place to another.
+fn between(chunk: &[u8], at: usize, end: usize) -> &[u8]
+    requires order { at ≤ end }
+    requires within { end ≤ length chunk.now }
+    ensures { result.now ≡ drop at (take end chunk.now) }
+{
+    &chunk[at..end]
+}
+
+impl Feed {
+    ghost use Rattle.std.specs.Prelude.{◌≡◌, ◌≤◌, ◌<◌, ◌+◌, true, false, ℕ, List, [], ◌∷◌, ◌++◌, Option, Some, Ok, OnOk, OnErr, IfOk, IsErr, length, take, drop};
+    ghost use Rattle.std.specs.Io.KnownBytes.{Keeps, IsAtEnd};
+    ghost use Rattle.bsc_outside.specs.Faults.{Rose};
+    ghost use Rattle.bsc_text.specs.Feeding.{unread, rest_of, IsUsedUp, Gives, Feeds, Fills, fuel};
+
+    /// A feed that has read nothing yet. It takes room for one chunk.
+    pub fn make(alloc: Global) -> Result<Feed, NoMemory>
+        ensures unread { IfOk result (λ feed. unread feed ≡ []) }
+        ensures rest { IfOk result (λ feed. (left : Option (List ℕ)) → rest_of feed left ≡ left) }
+        ensures count { IfOk result (λ feed. feed.count ≡ 0) }
+        ensures used_up { IfOk result IsUsedUp }
+    {
+        Ok(Feed {
+            carry: Vec::new(alloc),
+            chunk: vec![in alloc; 0; CHUNK]?,
+            at: 0,
+            end: 0,
+            count: 0,
+            ended: false,
+        })
+    }
+
+    /// Reads the next chunk, of up to 64 KiB; an empty one is the end of the input.
+    pub fn fill<S: Source>(&mut self, source: &mut S) -> Result<(), Failed>
+        requires { IsUsedUp self.old }
+        ensures filled { OnOk result (Fills self.old self.new) }
+        ensures kept { Keeps (rest_of self.old (S.left source.old)) (rest_of self.new (S.left source.new)) }
+        ensures ended { self.new.ended ≡ true → IsAtEnd (S.left source.new) }
+
+        // A fault leaves what was read as it was, and the chunk may be read once more.
+        ensures failed { IsErr result → Rose (S.faults source.old) (S.faults source.new) }
+        ensures later { S.faults source.old ≤ S.faults source.new }
+        ensures unread { OnErr result (unread self.new ≡ unread self.old) }
+        ensures count { OnErr result (self.new.count ≡ self.old.count) }
+        ensures used_up { OnErr result (IsUsedUp self.new) }
+    {
+        self.at = 0;
+        self.end = 0;
+        self.end = source.read(self.chunk.as_mut_slice())?;
+        self.ended = self.end == 0;
+        Ok(())
+    }
+
+    /// The octets of the last chunk that were not given yet.
+    fn rest(&self) -> &[u8]
+        ensures { result.now ≡ drop self.now.at (take self.now.end self.now.chunk.items) }
+    {
+        between(self.chunk.as_slice(), self.at, self.end)
+    }
+
+    /// The line of a whole piece, which is next.
+    #[tactic(auto, using(crate::proofs::Reading::take_line_in))]
+    fn give(&mut self, mut piece: Vec<u8>) -> NextLine
+        requires { self.old.carry.items ≡ [] }
+        ensures given { (l : List ℕ) → result ≡ NextLine.Line l →
+            Gives self.old.count (unread self.old) self.new piece.items l }
+        ensures big { result ≡ NextLine.Refused → is_too_big self.old.count piece.items ≡ true }
+        ensures ended { self.new.ended ≡ self.old.ended }
+        ensures more { result ≢ NextLine.More }
+        ensures end { result ≢ NextLine.End }
+    {
+        if is_too_big(self.count, piece.as_slice()) {
+            return NextLine::Refused;
+        }
+        self.count += piece.len() as u64;
+        piece.truncate(line_in(piece.as_slice()).len());
+        NextLine::Line(Octets::from_vec(piece))
+    }
+
+    /// The next line, which ends with the LF after the first `n` octets of the rest.
+    fn next_whole(&mut self, alloc: Global, n: usize) -> NextLine
+        requires { BeginsLine n (drop self.old.at (take self.old.end self.old.chunk.items)) }
+        ensures fed { Feeds self.old self.new result }
+        ensures ended { self.new.ended ≡ self.old.ended }
+        ensures more { result ≢ NextLine.More }
+    {
+        if cannot_fit(self.count, self.carry.len() + n) {
+            return NextLine::Refused;
+        }
+        let mut piece = mem::replace(&mut self.carry, Vec::new(alloc));
+        let (front, _) = self.rest().split_at(n + 1);
+        if piece.extend_from_slice(front).is_err() {
+            return NextLine::NoMemory;
+        }
+        self.at += n + 1;
+        self.give(piece)
+    }
+
+    /// Keeps the rest, in which there is no LF; at the end of the input it is the last line.
+    fn keep_rest(&mut self, alloc: Global) -> NextLine
+        requires { has_no_lf (drop self.old.at (take self.old.end self.old.chunk.items)) ≡ true }
+        ensures fed { Feeds self.old self.new result }
+        ensures ended { self.new.ended ≡ self.old.ended }
+    {
+        if cannot_fit(self.count, self.carry.len() + self.rest().len()) {
+            return NextLine::Refused;
+        }
+        let rest = between(self.chunk.as_slice(), self.at, self.end);
+        if self.carry.extend_from_slice(rest).is_err() {
+            return NextLine::NoMemory;
+        }
+        self.at = self.end;
+        if !self.ended {
+            return NextLine::More;
+        }
+        if self.carry.is_empty() {
+            return NextLine::End;
+        }
+        let piece = mem::replace(&mut self.carry, Vec::new(alloc));
+        self.give(piece)
+    }
+
+    /// The next line of what was read, without its LF and the one CR before it. A last line may have no LF,
+    /// and is given once the end of the input was found.
+    ///
+    /// After a line that is refused or a lack of memory the feed has lost its place.
+    pub fn next_line(&mut self, alloc: Global) -> NextLine
+        ensures fed { Feeds self.old self.new result }
+        ensures ended { self.new.ended ≡ self.old.ended }
+
+        // What source it may be, a line is short, and moves the count on, which stays at most 2^40.
+        ensures short { (l : List ℕ) → result ≡ NextLine.Line l → length l ≤ 140000 }
+        ensures on { (l : List ℕ) → result ≡ NextLine.Line l → self.old.count < self.new.count }
+        ensures less { (l : List ℕ) → result ≡ NextLine.Line l → fuel self.new < fuel self.old }
+        ensures no_less { result ≡ NextLine.More → fuel self.new ≡ fuel self.old }
+    {
+        match first_lf(self.rest()) {
+            Some(n) => self.next_whole(alloc, n),
+            None => self.keep_rest(alloc),
+        }
+    }
+}

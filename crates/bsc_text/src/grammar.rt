@@ -1,0 +1,97 @@
+//! Numbers, addresses, devices and names as words.
+ghost use Rattle.std.specs.Prelude.{◌≡◌, ◌<◌, ◌==◌, ◌||◌};
+ghost use Rattle.bsc_text.specs.Grammar.{number_of, vmac_of_word, maximum_of_word, device_of_word, is_name, has_leading_zero, is_letter, is_digit};
+ghost use Rattle.std.specs.List.{list_all};
+
+use bsc_octets::{DeviceId, Vmac};
+use byteorder::{BigEndian, ByteOrder};
+use uuid::Uuid;
+
+/// The most digits that a number may have.
+const LONGEST_NUMBER: usize = 19;
+
+/// The most octets that a name may have.
+const LONGEST_NAME: usize = 16;
+
+/// Whether digits begin with a zero that isn't the only one.
+fn has_leading_zero(word: &[u8]) -> bool
+    ensures { result ≡ has_leading_zero word.now }
+{
+    match word {
+        [] => true,
+        [_] => false,
+        [first, ..] => *first == b'0',
+    }
+}
+
+/// The number that a word is: 1 to 19 decimal digits, with no sign and no leading zero.
+pub fn read_number(word: &[u8]) -> Option<u64>
+    ensures { result ≡ number_of word.now }
+{
+    if word.len() > LONGEST_NUMBER || has_leading_zero(word) {
+        return None;
+    }
+    let mut number: u64 = 0;
+    for digit in word {
+        if !digit.is_ascii_digit() {
+            return None;
+        }
+        number = number * 10 + u64::from(*digit - b'0');
+    }
+    Some(number)
+}
+
+/// The VMAC that a word is: twelve hexadecimal digits in either case.
+pub fn read_vmac(word: &[u8]) -> Option<Vmac>
+    ensures { result ≡ vmac_of_word word.now }
+{
+    let mut octets = [0; 6];
+    match hex::decode_to_slice(word, &mut octets) {
+        Ok(()) => Some(Vmac(octets)),
+        Err(_) => None,
+    }
+}
+
+/// The maximum length that a word is: four hexadecimal digits in either case.
+pub fn read_maximum(word: &[u8]) -> Option<u16>
+    ensures { result ≡ maximum_of_word word.now }
+{
+    let mut octets = [0; 2];
+    match hex::decode_to_slice(word, &mut octets) {
+        Ok(()) => Some(BigEndian::read_u16(&octets)),
+        Err(_) => None,
+    }
+}
+
+/// The device that a word is: a UUID, in any form that a UUID is written in.
+pub fn read_device(word: &[u8]) -> Option<DeviceId>
+    ensures { result ≡ device_of_word word.now }
+{
+    match Uuid::try_parse_ascii(word) {
+        Ok(uuid) => Some(DeviceId(uuid)),
+        Err(_) => None,
+    }
+}
+
+/// Whether an octet may stand in a name.
+fn is_name_octet(octet: u8) -> bool
+    ensures { result ≡ (is_letter octet || is_digit octet || (octet == 95)) }
+{
+    octet.is_ascii_alphabetic() || octet.is_ascii_digit() || octet == b'_'
+}
+
+fn has_name_octets(word: &[u8]) -> bool
+    ensures { result ≡ list_all (λ c. is_letter c || is_digit c || (c == 95)) word.now }
+{
+    word.iter().all(|c| is_name_octet(*c))
+}
+
+/// Whether a word is a name: 1 to 16 letters, digits or `_`, but not `hub`.
+pub fn is_name(word: &[u8]) -> bool
+    ensures { result ≡ is_name word.now }
+{
+    !word.is_empty()
+        && word.len() <= LONGEST_NAME
+        && has_name_octets(word)
+        && word != b"hub".as_slice()
+}

@@ -1,0 +1,18 @@
+//! Text by lines and words: where it is cut, and what a word may be.
+//!
+//! Start at `feed`, which gives the lines of a source, and at `words`, which gives the words of a line;
+//! `grammar` says which words are numbers, addresses, devices, octets and names. Scripts of every kind are
+//! read by these.
+#![tactic(auto)]
+
+mod feed;
+mod grammar;
+mod octets;
+#[cfg(test)]
+mod tests;
+mod words;
+
+pub use feed::{Feed, NextLine};
+pub use grammar::{is_name, read_device, read_maximum, read_number, read_vmac};
+pub use octets::{OctetsFault, copy_of, read_octets};
+pub use words::{joined, next_word};
