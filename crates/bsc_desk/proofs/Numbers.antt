@@ -46,7 +46,7 @@ other_number conn (r ∷ rows) none =
     ∙ ap (λ (b : Bool). cond b (Some 0) (option_map (λ i. 1 + i) (position (has_number conn) rows))) (ne_eqb r.connection.number conn (none 0 r (omega arith)))
     ∙ ap (option_map (λ i. 1 + i)) (other_number conn rows (λ k d within. none (suc k) d (omega arith)))
 
-at_place : (conn : ℕ) (rows : List Row) (i : ℕ) → InOrder Rises rows → i < length rows → ((d : Row) → (get_or rows i d).connection.number ≡ conn) → position (has_number conn) rows ≡ Some i
+pub at_place : (conn : ℕ) (rows : List Row) (i : ℕ) → InOrder Rises rows → i < length rows → ((d : Row) → (get_or rows i d).connection.number ≡ conn) → position (has_number conn) rows ≡ Some i
 at_place conn [] i order within here = absurd (omega arith)
 at_place conn (r ∷ rows) zero order within here = position-cons (has_number conn) r rows ∙ ap (λ (b : Bool). cond b (Some 0) (option_map (λ i. 1 + i) (position (has_number conn) rows))) (eq-eqb r.connection.number conn (here r))
 at_place conn (r ∷ rows) (suc i) order within here =

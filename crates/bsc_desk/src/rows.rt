@@ -17,13 +17,41 @@ use crate::row::Row;
 use bsc_history::End;
 use bsc_octets::Octets;
 
+/// Whether the row at a place is that of a connection.
+fn stands_at(rows: &[Row], conn: u64, place: usize) -> bool
+    requires { IsTrue (in_order rises rows.now) }
+    ensures { IsTrue result → position (λ r. r.connection.number == conn) rows.now ≡ Some place }
+{
+    place < rows.len() && rows[place].connection.number == conn
+}
+
+/// The place of the row of a connection, if none of those that joined between the first row's and it has left.
+fn likely_place(rows: &[Row], conn: u64) -> usize {
+    match rows.first() {
+        Some(first) => conn.saturating_sub(first.connection.number) as usize,
+        None => 0,
+    }
+}
+
 /// The place of the row of a connection.
 fn place_of(rows: &[Row], conn: u64) -> Option<usize>
     requires { IsTrue (in_order rises rows.now) }
     ensures { result ≡ position (λ r. r.connection.number == conn) rows.now }
 {
-    rows.binary_search_by_key(&conn, |row| row.connection.number)
-        .ok()
+    let place = likely_place(rows, conn);
+    if stands_at(rows, conn, place) {
+        Some(place)
+    } else {
+        searched_place(rows, conn)
+    }
+}
+
+/// The place of the row of a connection, by a binary search.
+fn searched_place(rows: &[Row], conn: u64) -> Option<usize>
+    requires { IsTrue (in_order rises rows.now) }
+    ensures { result ≡ position (λ r. r.connection.number == conn) rows.now }
+{
+    rows.binary_search_by_key(&conn, |row| row.connection.number).ok()
 }
 
 /// Finishes the outbox of a connection with an End.

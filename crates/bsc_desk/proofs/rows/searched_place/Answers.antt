@@ -1,7 +1,7 @@
 use Rattle.std.proofs.Common.{rules, ◌∙◌}
 use Rattle.std.proofs.lemmas.List.Sorted.{answers_always}
 use Rattle.bsc_desk.proofs.Numbers.{searched}
-use Rattle.bsc_desk.proofs.rows.place_of.Goals as goal
+use Rattle.bsc_desk.proofs.rows.searched_place.Goals as goal
 
 pub returns : goal.returns
 returns c =
