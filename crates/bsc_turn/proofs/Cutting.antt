@@ -33,9 +33,10 @@ fits_later a most made log v f never =
       loaded = let l = f.loaded in omega (arith, l);
       all = f.all;
       own = f.own;
-      kept = λ i e got. let x = f.kept i e got in record { below = let b = x.below in omega (arith, b); all = x.all; own = x.own; saw = x.saw };
+      kept = λ i e got. let x = f.kept i e got in record { other = x.other; below = let b = x.below in omega (arith, b); all = x.all; own = x.own; saw = x.saw };
       whole = f.whole;
       next = λ has. absurd (not_also (sym never ∙ has));
+      past = λ no_next lt. let p = f.past no_next lt in omega (arith, p);
     }
 
 module _ {S : Type 0} (stands : S → List Stamped → Type 0) (about : S → About) (a : About) (most id : ℕ) (v : View) (live : v.live ≡ true) (drawn : v.stage ≡ Drawn) where
@@ -70,9 +71,19 @@ module _ {S : Type 0} (stands : S → List Stamped → Type 0) (about : S → Ab
 
     fits_left : Fits a most (suc k.made) k.log left
     fits_left =
-        fits_later a most k.made k.log left
-        (record { begins = mine.begins; about = mine.about; callers = mine.callers; below = mine.below; loaded = mine.loaded; all = mine.all; own = mine.own; kept = mine.kept; whole = λ bad. absurd (not_also bad); next = λ bad. absurd (not_also bad) })
-        refl
+        record {
+          begins = mine.begins;
+          about = mine.about;
+          callers = mine.callers;
+          below = let b = mine.below in omega (arith, b);
+          loaded = omega (arith, next);
+          all = mine.all;
+          own = mine.own;
+          kept = λ i e got. let x = mine.kept i e got in record { other = x.other; below = let b = x.below in omega (arith, b); all = x.all; own = x.own; saw = x.saw };
+          whole = λ bad. absurd (not_also bad);
+          next = λ bad. absurd (not_also bad);
+          past = λ _ _. omega (arith, next);
+        }
 
     fits_right : Fits a most (suc k.made) k.log right
     fits_right =
@@ -88,6 +99,7 @@ module _ {S : Type 0} (stands : S → List Stamped → Type 0) (about : S → Ab
           kept = λ i e got. absurd (some-ne-none e (sym got));
           whole = λ bad. absurd (not_also bad);
           next = λ bad. absurd (not_also bad);
+          past = λ _ _. omega arith;
         }
 
     idle_now : (i : ℕ) (x : View) → i ≢ id → At s.views i x → knows_next x.stage ≡ false
