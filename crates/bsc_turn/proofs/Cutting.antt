@@ -11,10 +11,10 @@ use Rattle.bsc_turn.specs.declared.stage.Stage.TheVariants.{Holding, Drawn}
 use Rattle.bsc_turn.specs.declared.view.Ended.{Ended}
 use Rattle.bsc_turn.specs.declared.view.View.{View}
 use Rattle.bsc_turn.specs.Histories.{own_of}
-use Rattle.bsc_turn.specs.Rule.{holds_turn, has_state, knows_next, turn_word, number_word, At, Apart, Gone, Held, IsKept, Fits, Stored, Kept}
+use Rattle.bsc_turn.specs.Rule.{holds_turn, has_state, knows_next, turn_word, number_word, At, Apart, Gone, Held, Fits, Stored, Kept}
 use Rattle.bsc_turn.specs.Told.{at_stage, next_pass}
 use Rattle.bsc_turn.proofs.Beginnings.{own_none}
-use Rattle.bsc_turn.proofs.Views.{not_also, at_below, next_holds, state_holds, at_changed, apart_after, gone_after, none_else}
+use Rattle.bsc_turn.proofs.Views.{not_also, at_below, next_holds, at_changed, apart_after, gone_after, none_else}
 
 pub at_end : {A : Type 0} (l : List A) (a b : A) (j : ℕ) → get_elem? (l ++ a ∷ []) j ≡ some b → (get_elem? l j ≡ some b) ⊎ ((j ≡ length l) × (a ≡ b))
 at_end [] a b zero e = inr (refl, some-injective a b e)

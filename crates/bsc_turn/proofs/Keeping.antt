@@ -1,5 +1,5 @@
 -- Each step of one seat keeps the rule.
-use Rattle.std.proofs.Common.{◌≡◌, ◌≢◌, ℕ, zero, suc, ◌+◌, ◌%◌, ◌^◌, ◌<◌, ◌≤◌, ◌==◌, Bool, true, false, List, [], ◌∷◌, ◌++◌, length, set, Option, Some, None, ◌⊎◌, inl, inr, ⊎_elim, refl, sym, ◌∙◌, ap, subst, arith, length-append, append-nil, slice_index, slice_set, ne_eqb, eq-eqb}
+use Rattle.std.proofs.Common.{◌≡◌, ◌≢◌, ℕ, suc, ◌+◌, ◌%◌, ◌^◌, ◌<◌, ◌≤◌, ◌==◌, Bool, true, false, List, [], ◌∷◌, ◌++◌, length, set, Option, Some, None, ◌⊎◌, inl, inr, ⊎_elim, refl, sym, ◌∙◌, ap, subst, arith, length-append, append-nil, slice_index, slice_set}
 use mathlib.Core.Option.{some, none, some-ne-none}
 use mathlib.Core.Option as maybe
 use lib.ListN.{get_elem?}
@@ -10,13 +10,12 @@ use Rattle.bsc_history.specs.declared.limits.About.{About}
 use Rattle.bsc_history.specs.declared.mark.Stamped.{Stamped}
 use Rattle.bsc_turn.specs.declared.stage.Stage.{Stage}
 use Rattle.bsc_turn.specs.declared.stage.Stage.TheVariants.{Outside, Holding, Entered, Committed, Numbered, Drawn}
-use Rattle.bsc_turn.specs.declared.view.Ended.{Ended}
 use Rattle.bsc_turn.specs.declared.view.View.{View}
-use Rattle.bsc_turn.specs.Histories.{StartsWith, own_of}
-use Rattle.bsc_turn.specs.Rule.{holds_turn, has_state, knows_next, turn_word, number_word, At, IsKept, Fits, Held, Home, Stored, Kept, first_view}
+use Rattle.bsc_turn.specs.Histories.{own_of}
+use Rattle.bsc_turn.specs.Rule.{holds_turn, has_state, knows_next, turn_word, number_word, At, Fits, Home, Stored, Kept, first_view}
 use Rattle.bsc_turn.specs.Told.{Truths, at_stage, having_seen, having_made, having_loaded, may_leave, Acquires, Counts, Commits, Releases, LoadsNumber, Draws, Confirms}
 use Rattle.bsc_turn.proofs.Beginnings.{starts_self, starts_more, starts_trans, own_mine, own_else, own_none}
-use Rattle.bsc_turn.proofs.Views.{not_also, single, free_or_held, state_holds, next_holds, at_changed, apart_after, gone_after, none_else, held_after}
+use Rattle.bsc_turn.proofs.Views.{not_also, single, free_or_held, state_holds, at_changed, apart_after, gone_after, none_else, held_after}
 
 pub truths : (a : About) (most made : ℕ) (log : List Stamped) (v : View) → Fits a most made log v → Truths v
 truths a most made log v f = (f.own, λ i e at. let k = f.kept i e at in (k.other, k.own, k.saw))

@@ -1,6 +1,6 @@
 -- A seat that takes in another keeps the rule.
-use Rattle.std.proofs.Common.{◌≡◌, ◌≢◌, ℕ, zero, suc, ◌≤◌, Bool, true, false, List, [], ◌∷◌, ◌++◌, length, set, Option, ◌⊎◌, inl, inr, ⊎_elim, refl, sym, ◌∙◌, ap, subst}
-use mathlib.Core.Option.{some, some-injective, some-ne-none}
+use Rattle.std.proofs.Common.{◌≡◌, ◌≢◌, ℕ, zero, suc, true, List, [], ◌∷◌, ◌++◌, length, set, Option, ◌⊎◌, inl, inr, ⊎_elim, refl, sym, ◌∙◌, ap, subst}
+use mathlib.Core.Option.{some, some-injective}
 use lib.ListN.{get_elem?}
 use Rattle.atomic_table.specs.Table.{State, Joins}
 use Rattle.atomic_table.proofs.Lists.{set_else}
@@ -10,8 +10,8 @@ use Rattle.bsc_turn.specs.declared.stage.Stage.{Stage}
 use Rattle.bsc_turn.specs.declared.stage.Stage.TheVariants.{Outside}
 use Rattle.bsc_turn.specs.declared.view.Ended.{Ended}
 use Rattle.bsc_turn.specs.declared.view.View.{View}
-use Rattle.bsc_turn.specs.Histories.{StartsWith, longer, own_of}
-use Rattle.bsc_turn.specs.Rule.{holds_turn, has_state, knows_next, At, Apart, Gone, Held, IsKept, Fits, Kept, spent_view}
+use Rattle.bsc_turn.specs.Histories.{StartsWith}
+use Rattle.bsc_turn.specs.Rule.{holds_turn, has_state, At, Apart, Gone, Held, IsKept, Fits, Kept, spent_view}
 use Rattle.bsc_turn.specs.Told.{ended_of, joined}
 use Rattle.bsc_turn.proofs.Beginnings.{starts_longer, longer_first, longer_second, own_between, starts_trans}
 use Rattle.bsc_turn.proofs.Views.{not_also, at_changed}

@@ -11,8 +11,8 @@ ghost use Rattle.bsc_turn.specs.Rule.{first_view, has_state, knows_next};
 ghost use Rattle.bsc_turn.specs.Told.{HasOut, IsOutside, Truths, at_stage, having_made, having_seen, joined, may_leave};
 
 use crate::plays::{
-    Acquire, Commit, Confirm, Count, Draw, Fixed, IntoOne, IntoPasses, LoadNumber, Release, TurnSeat,
-    TurnTable,
+    Acquire, Commit, Confirm, Count, Draw, Fixed, IntoOne, IntoPasses, LoadNumber, Release,
+    TurnSeat, TurnTable,
 };
 use atomic_table::Table;
 use bsc_history::{Makes, Stands};
@@ -166,11 +166,7 @@ pub(crate) fn next_seat<S: Stands, R: Wait>(
 
 /// Takes in another seat: one join, and one load of the count without the turn, by which the rule says how the
 /// two histories that were seen lie to one another.
-pub(crate) fn take_in<S: Stands>(
-    table: &TurnTable<S>,
-    seat: &mut TurnSeat<S>,
-    other: TurnSeat<S>,
-)
+pub(crate) fn take_in<S: Stands>(table: &TurnTable<S>, seat: &mut TurnSeat<S>, other: TurnSeat<S>)
     requires placed { (seat.old.table_id ≡ table.now.shared.table_id)
         × (other.table_id ≡ table.now.shared.table_id) }
     requires sized { seat.old.table_id.words ≡ 3 }

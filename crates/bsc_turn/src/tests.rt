@@ -115,12 +115,7 @@ fn two_callers(rt: HostRuntime) -> Result<(), Fail> {
 }
 
 /// Counts so many, and says whether each found room at a place behind the one before.
-fn count_many<R: Wait>(
-    rt: &R,
-    turn: &Turn<Counter>,
-    pass: Pass,
-    times: u32,
-) -> (Pass, bool)
+fn count_many<R: Wait>(rt: &R, turn: &Turn<Counter>, pass: Pass, times: u32) -> (Pass, bool)
     requires { IsPassOf (λ s. s.about) turn.now pass }
     ensures pass { IsPassOf (λ s. s.about) turn.now result.0 }
     ensures number { number_of result.0 ≡ number_of pass }
