@@ -1,7 +1,9 @@
 -- Histories that begin with others, and a caller's own entries in them.
-use Rattle.std.proofs.Common.{◌≡◌, ◌≢◌, ◌⊎◌, inl, inr, ℕ, zero, suc, ◌+◌, ◌-◌, ◌≤◌, ◌==◌, cond, List, [], ◌∷◌, ◌++◌, length, drop, map, filter, refl, sym, ◌∙◌, ap, subst, arith, length-append, length-drop, append_assoc, append-nil, ne_eqb, eq-eqb}
+use Rattle.std.proofs.Common.{◌≡◌, ◌≢◌, ◌⊎◌, inl, inr, ℕ, suc, ◌+◌, ◌-◌, ◌≤◌, ◌==◌, cond, List, [], ◌∷◌, ◌++◌, length, drop, filter, refl, sym, ◌∙◌, ap, subst, arith, length-append, length-drop, append_assoc, append-nil, ne_eqb, eq-eqb}
 use Rattle.std.proofs.lemmas.List.{map-append, append_cancel_left}
 use Rattle.std.proofs.lemmas.List.Elements.{filter-append}
+use mathlib.Core.Logic.{dite}
+use native.Mathlib.Decide.{ℕ_discrete}
 use Rattle.bsc_history.specs.Marks.{entries}
 use Rattle.bsc_history.specs.declared.entry.Entry.{Entry}
 use Rattle.bsc_history.specs.declared.mark.Stamped.{Stamped}
@@ -90,3 +92,22 @@ own_between H b a n l h k all own =
     let twice : (l ++ own_of k.0 n) ++ own_of h.0 n ≡ l ++ [] = ap (λ x. x ++ own_of h.0 n) (sym more) ∙ (outer ∙ sym (append-nil l)) in
     let none : own_of k.0 n ++ own_of h.0 n ≡ [] = append_cancel_left l (own_of k.0 n ++ own_of h.0 n) [] (sym (append_assoc l (own_of k.0 n) (own_of h.0 n)) ∙ twice) in
     more ∙ (ap (λ x. l ++ x) (empty_front (own_of k.0 n) (own_of h.0 n) none) ∙ append-nil l)
+
+head_mine : (s : Stamped) (ss : List Stamped) (n : ℕ) → s.entry.caller ≡ n → length (own_of (s ∷ ss) n) ≡ suc (length (own_of ss n))
+head_mine s ss n e = ap (λ b. length (cond b (s.entry ∷ own_of ss n) (own_of ss n))) (eq-eqb s.entry.caller n e)
+
+head_else : (s : Stamped) (ss : List Stamped) (n : ℕ) → s.entry.caller ≢ n → length (own_of (s ∷ ss) n) ≡ length (own_of ss n)
+head_else s ss n e = ap (λ b. length (cond b (s.entry ∷ own_of ss n) (own_of ss n))) (ne_eqb s.entry.caller n e)
+
+-- the entries of two callers are no more than all
+pub two_own : (H : List Stamped) (m n : ℕ) → m ≢ n → length (own_of H m) + length (own_of H n) ≤ length H
+two_own [] m n other = omega arith
+two_own (s ∷ ss) m n other =
+    let tail = two_own ss m n other in
+    dite (ℕ_discrete s.entry.caller m)
+    (λ (e : s.entry.caller ≡ m). let a = head_mine s ss m e in let b = head_else s ss n (λ f. other (sym e ∙ f)) in omega (arith, a, b, tail))
+    (λ (e : s.entry.caller ≢ m).
+    let a = head_else s ss m e in
+    dite (ℕ_discrete s.entry.caller n)
+    (λ (f : s.entry.caller ≡ n). let b = head_mine s ss n f in omega (arith, a, b, tail))
+    (λ (f : s.entry.caller ≢ n). let b = head_else s ss n f in omega (arith, a, b, tail)))

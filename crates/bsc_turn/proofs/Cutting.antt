@@ -11,10 +11,10 @@ use Rattle.bsc_turn.specs.declared.stage.Stage.TheVariants.{Holding, Drawn}
 use Rattle.bsc_turn.specs.declared.view.Ended.{Ended}
 use Rattle.bsc_turn.specs.declared.view.View.{View}
 use Rattle.bsc_turn.specs.Histories.{own_of}
-use Rattle.bsc_turn.specs.Rule.{holds_turn, has_state, knows_next, turn_word, number_word, At, Apart, Gone, Held, IsKept, Fits, Stored, Kept}
+use Rattle.bsc_turn.specs.Rule.{holds_turn, has_state, knows_next, turn_word, number_word, At, Apart, Gone, Held, Fits, Stored, Kept}
 use Rattle.bsc_turn.specs.Told.{at_stage, next_pass}
 use Rattle.bsc_turn.proofs.Beginnings.{own_none}
-use Rattle.bsc_turn.proofs.Views.{not_also, at_below, next_holds, state_holds, at_changed, apart_after, gone_after, none_else}
+use Rattle.bsc_turn.proofs.Views.{not_also, at_below, next_holds, at_changed, apart_after, gone_after, none_else}
 
 pub at_end : {A : Type 0} (l : List A) (a b : A) (j : ℕ) → get_elem? (l ++ a ∷ []) j ≡ some b → (get_elem? l j ≡ some b) ⊎ ((j ≡ length l) × (a ≡ b))
 at_end [] a b zero e = inr (refl, some-injective a b e)
@@ -33,9 +33,10 @@ fits_later a most made log v f never =
       loaded = let l = f.loaded in omega (arith, l);
       all = f.all;
       own = f.own;
-      kept = λ i e got. let x = f.kept i e got in record { below = let b = x.below in omega (arith, b); all = x.all; own = x.own; saw = x.saw };
+      kept = λ i e got. let x = f.kept i e got in record { other = x.other; below = let b = x.below in omega (arith, b); all = x.all; own = x.own; saw = x.saw };
       whole = f.whole;
       next = λ has. absurd (not_also (sym never ∙ has));
+      past = λ no_next lt. let p = f.past no_next lt in omega (arith, p);
     }
 
 module _ {S : Type 0} (stands : S → List Stamped → Type 0) (about : S → About) (a : About) (most id : ℕ) (v : View) (live : v.live ≡ true) (drawn : v.stage ≡ Drawn) where
@@ -70,9 +71,19 @@ module _ {S : Type 0} (stands : S → List Stamped → Type 0) (about : S → Ab
 
     fits_left : Fits a most (suc k.made) k.log left
     fits_left =
-        fits_later a most k.made k.log left
-        (record { begins = mine.begins; about = mine.about; callers = mine.callers; below = mine.below; loaded = mine.loaded; all = mine.all; own = mine.own; kept = mine.kept; whole = λ bad. absurd (not_also bad); next = λ bad. absurd (not_also bad) })
-        refl
+        record {
+          begins = mine.begins;
+          about = mine.about;
+          callers = mine.callers;
+          below = let b = mine.below in omega (arith, b);
+          loaded = omega (arith, next);
+          all = mine.all;
+          own = mine.own;
+          kept = λ i e got. let x = mine.kept i e got in record { other = x.other; below = let b = x.below in omega (arith, b); all = x.all; own = x.own; saw = x.saw };
+          whole = λ bad. absurd (not_also bad);
+          next = λ bad. absurd (not_also bad);
+          past = λ _ _. omega (arith, next);
+        }
 
     fits_right : Fits a most (suc k.made) k.log right
     fits_right =
@@ -88,6 +99,7 @@ module _ {S : Type 0} (stands : S → List Stamped → Type 0) (about : S → Ab
           kept = λ i e got. absurd (some-ne-none e (sym got));
           whole = λ bad. absurd (not_also bad);
           next = λ bad. absurd (not_also bad);
+          past = λ _ _. omega arith;
         }
 
     idle_now : (i : ℕ) (x : View) → i ≢ id → At s.views i x → knows_next x.stage ≡ false

@@ -1,5 +1,5 @@
 -- Each step of one seat keeps the rule.
-use Rattle.std.proofs.Common.{◌≡◌, ◌≢◌, ℕ, zero, suc, ◌+◌, ◌%◌, ◌^◌, ◌<◌, ◌≤◌, ◌==◌, Bool, true, false, List, [], ◌∷◌, ◌++◌, length, set, Option, Some, None, ◌⊎◌, inl, inr, ⊎_elim, refl, sym, ◌∙◌, ap, subst, arith, length-append, append-nil, slice_index, slice_set, ne_eqb, eq-eqb}
+use Rattle.std.proofs.Common.{◌≡◌, ◌≢◌, ℕ, suc, ◌+◌, ◌%◌, ◌^◌, ◌<◌, ◌≤◌, ◌==◌, Bool, true, false, List, [], ◌∷◌, ◌++◌, length, set, Option, Some, None, ◌⊎◌, inl, inr, ⊎_elim, refl, sym, ◌∙◌, ap, subst, arith, length-append, append-nil, slice_index, slice_set}
 use mathlib.Core.Option.{some, none, some-ne-none}
 use mathlib.Core.Option as maybe
 use lib.ListN.{get_elem?}
@@ -10,16 +10,15 @@ use Rattle.bsc_history.specs.declared.limits.About.{About}
 use Rattle.bsc_history.specs.declared.mark.Stamped.{Stamped}
 use Rattle.bsc_turn.specs.declared.stage.Stage.{Stage}
 use Rattle.bsc_turn.specs.declared.stage.Stage.TheVariants.{Outside, Holding, Entered, Committed, Numbered, Drawn}
-use Rattle.bsc_turn.specs.declared.view.Ended.{Ended}
 use Rattle.bsc_turn.specs.declared.view.View.{View}
-use Rattle.bsc_turn.specs.Histories.{StartsWith, own_of}
-use Rattle.bsc_turn.specs.Rule.{holds_turn, has_state, knows_next, turn_word, number_word, At, IsKept, Fits, Held, Home, Stored, Kept, first_view}
+use Rattle.bsc_turn.specs.Histories.{own_of}
+use Rattle.bsc_turn.specs.Rule.{holds_turn, has_state, knows_next, turn_word, number_word, At, Fits, Home, Stored, Kept, first_view}
 use Rattle.bsc_turn.specs.Told.{Truths, at_stage, having_seen, having_made, having_loaded, may_leave, Acquires, Counts, Commits, Releases, LoadsNumber, Draws, Confirms}
 use Rattle.bsc_turn.proofs.Beginnings.{starts_self, starts_more, starts_trans, own_mine, own_else, own_none}
-use Rattle.bsc_turn.proofs.Views.{not_also, single, free_or_held, state_holds, next_holds, at_changed, apart_after, gone_after, none_else, held_after}
+use Rattle.bsc_turn.proofs.Views.{not_also, single, free_or_held, state_holds, at_changed, apart_after, gone_after, none_else, held_after}
 
 pub truths : (a : About) (most made : ℕ) (log : List Stamped) (v : View) → Fits a most made log v → Truths v
-truths a most made log v f = (f.own, λ i e at. let k = f.kept i e at in (k.own, k.saw))
+truths a most made log v f = (f.own, λ i e at. let k = f.kept i e at in (k.other, k.own, k.saw))
 
 -- the rule speaks of no state or number at this stage
 idle : (P : Type 0) → false ≡ true → P
@@ -32,7 +31,7 @@ module _ {S : Type 0} (stands : S → List Stamped → Type 0) (about : S → Ab
   pub starts : (a : About) (most : ℕ) (st : S) → 1 ≤ most → stands st [] → about st ≡ a → Kept stands about a most (opening (0 ∷ 0 ∷ 1 ∷ []) (Some st ∷ []) (first_view a most))
   starts a most st few h e =
       let first : View = first_view a most in
-      let f : Fits a most 1 [] first = record { begins = ([], refl); about = refl; callers = refl; below = omega arith; loaded = omega arith; all = refl; own = refl; kept = λ i x got. absurd (some-ne-none x (sym got)); whole = idle ([] ≡ []); next = idle (0 ≡ 1) } in
+      let f : Fits a most 1 [] first = record { begins = ([], refl); about = refl; callers = refl; below = omega arith; loaded = omega arith; all = refl; own = refl; kept = λ i x got. absurd (some-ne-none x (sym got)); whole = idle ([] ≡ []); next = idle (0 ≡ 1); past = λ _ _. omega arith } in
       record {
         log = [];
         made = 1;
@@ -128,7 +127,7 @@ module _ {S : Type 0} (stands : S → List Stamped → Type 0) (about : S → Ab
               (subst (λ (st : Stage). Stored stands about a (has_state st) k.log s.homes) free k.stored)
               (subst (λ (st : Stage). number_word st k.made ≤ most) free k.few)
               k.strangers
-              (record { begins = mine.begins; about = mine.about; callers = mine.callers; below = mine.below; loaded = mine.loaded; all = mine.all; own = mine.own; kept = mine.kept; whole = idle (me.0.seen ≡ k.log); next = idle (me.0.loaded ≡ k.made) })
+              (record { begins = mine.begins; about = mine.about; callers = mine.callers; below = mine.below; loaded = mine.loaded; all = mine.all; own = mine.own; kept = mine.kept; whole = idle (me.0.seen ≡ k.log); next = idle (me.0.loaded ≡ k.made); past = λ _. mine.past (ap (λ (st : Stage). knows_next st) out) })
               others live refl refl,
           ((λ _. refl), λ taken. absurd (taken (found ∙ ap (λ (st : Stage). turn_word st) free))),
         ))
@@ -155,9 +154,10 @@ module _ {S : Type 0} (stands : S → List Stamped → Type 0) (about : S → Ab
           loaded = mine.loaded;
           all = mine.all;
           own = mine.all;
-          kept = λ i e got. let x = mine.kept i e got in record { below = x.below; all = x.all; own = x.all; saw = starts_trans k.log me.0.seen e.seen mine.begins x.saw };
+          kept = λ i e got. let x = mine.kept i e got in record { other = x.other; below = x.below; all = x.all; own = x.all; saw = starts_trans k.log me.0.seen e.seen mine.begins x.saw };
           whole = λ _. refl;
           next = idle (me.0.loaded ≡ k.made);
+          past = λ _. mine.past (ap (λ (st : Stage). knows_next st) holding);
         } in (
           w,
           takes 0 (Some home.0),
@@ -193,9 +193,10 @@ module _ {S : Type 0} (stands : S → List Stamped → Type 0) (about : S → Ab
           kept = λ i x got.
               let y = mine.kept i x got in
               let other : e.entry.caller ≢ x.number = λ same. k.gone id id i me.0 me.0 x at got at (sym caller ∙ same) in
-              record { below = y.below; all = own_else k.log e x.number other ∙ y.all; own = own_else me.0.seen e x.number other ∙ y.own; saw = starts_more me.0.seen x.seen (e ∷ []) y.saw };
+              record { other = y.other; below = y.below; all = own_else k.log e x.number other ∙ y.all; own = own_else me.0.seen e x.number other ∙ y.own; saw = starts_more me.0.seen x.seen (e ∷ []) y.saw };
           whole = λ _. ap (λ (l : List Stamped). l ++ e ∷ []) whole;
           next = idle (me.0.loaded ≡ k.made);
+          past = λ _. mine.past (ap (λ (st : Stage). knows_next st) entered);
         } in
         let there : (i : ℕ) (x : View) → i ≢ id → At s.views i x → Fits a most k.made log x = λ i x not_me got.
         let f = k.fits i x got in
@@ -211,9 +212,10 @@ module _ {S : Type 0} (stands : S → List Stamped → Type 0) (about : S → Ab
           kept = λ j y took.
               let z = f.kept j y took in
               let not_its : e.entry.caller ≢ y.number = λ same. k.gone i id j x me.0 y got took at (sym caller ∙ same) in
-              record { below = z.below; all = own_else k.log e y.number not_its ∙ z.all; own = z.own; saw = z.saw };
+              record { other = z.other; below = z.below; all = own_else k.log e y.number not_its ∙ z.all; own = z.own; saw = z.saw };
           whole = λ h. absurd (alone i x not_me got (state_holds x.stage h));
           next = f.next;
+          past = f.past;
         } in (
           w,
           keeps,
@@ -243,7 +245,7 @@ module _ {S : Type 0} (stands : S → List Stamped → Type 0) (about : S → Ab
               (st, ap (λ (c : List (ℕ × Option S)). put_back s.homes c) carried ∙ ap (λ (hs : Slots). slice_set hs 0 (some (Some st))) away, subst (stands st) whole h, same ∙ mine.about)
               (subst (λ (n : ℕ). n ≤ most) number k.few)
               k.strangers
-              (record { begins = mine.begins; about = mine.about; callers = mine.callers; below = mine.below; loaded = mine.loaded; all = mine.all; own = mine.own; kept = mine.kept; whole = idle (me.0.seen ≡ k.log); next = idle (me.0.loaded ≡ k.made) })
+              (record { begins = mine.begins; about = mine.about; callers = mine.callers; below = mine.below; loaded = mine.loaded; all = mine.all; own = mine.own; kept = mine.kept; whole = idle (me.0.seen ≡ k.log); next = idle (me.0.loaded ≡ k.made); past = λ _. mine.past (only_state me.0.stage out) })
               others live refl refl,
           ap (λ (c : List (ℕ × Option S)). (w, rest c)) carried,
         )
@@ -256,9 +258,17 @@ module _ {S : Type 0} (stands : S → List Stamped → Type 0) (about : S → Ab
         plain Numbered e = refl
         plain Drawn e = absurd (not_also e)
 
+        only_state : (stage : Stage) → has_state stage ≡ true → knows_next stage ≡ false
+        only_state Outside e = refl
+        only_state Holding e = refl
+        only_state Entered e = refl
+        only_state Committed e = refl
+        only_state Numbered e = absurd (not_also e)
+        only_state Drawn e = absurd (not_also e)
+
     -- the stages at which the turn is freed with nothing in hand
-    pub leave_at : may_leave me.0.stage ≡ true → me.1 ≡ [] → Goes 0 0 (Releases (step slots 0 0 0 none) me 0)
-    leave_at may empty =
+    pub leave_at : may_leave me.0.stage ≡ true → (knows_next me.0.stage ≡ true → me.0.loaded ≡ me.0.callers) → me.1 ≡ [] → Goes 0 0 (Releases (step slots 0 0 0 none) me 0)
+    leave_at may limit empty =
         let facts = leaving me.0.stage may in
         let holds : holds_turn me.0.stage ≡ true = facts.0 in
         let now : k.stage ≡ me.0.stage = stage_is holds in
@@ -272,7 +282,7 @@ module _ {S : Type 0} (stands : S → List Stamped → Type 0) (about : S → Ab
               (subst (λ (b : Bool). Stored stands about a b k.log s.homes) (ap (λ (st : Stage). has_state st) now ∙ facts.1) k.stored)
               (subst (λ (n : ℕ). n ≤ most) number k.few)
               k.strangers
-              (record { begins = mine.begins; about = mine.about; callers = mine.callers; below = mine.below; loaded = mine.loaded; all = mine.all; own = mine.own; kept = mine.kept; whole = idle (me.0.seen ≡ k.log); next = idle (me.0.loaded ≡ k.made) })
+              (record { begins = mine.begins; about = mine.about; callers = mine.callers; below = mine.below; loaded = mine.loaded; all = mine.all; own = mine.own; kept = mine.kept; whole = idle (me.0.seen ≡ k.log); next = idle (me.0.loaded ≡ k.made); past = λ _. past_or (knows_next me.0.stage) refl })
               others live refl refl,
           ap (λ (c : List (ℕ × Option S)). (w, c)) empty,
         )
@@ -284,6 +294,10 @@ module _ {S : Type 0} (stands : S → List Stamped → Type 0) (about : S → Ab
         leaving Committed e = absurd (not_also e)
         leaving Numbered e = (refl, refl, λ n. refl)
         leaving Drawn e = absurd (not_also e)
+
+        past_or : (b : Bool) → knows_next me.0.stage ≡ b → me.0.loaded < most → me.0.loaded < k.made
+        past_or true e lt = let l = limit e in let c = mine.callers in absurd (omega (arith, l, c, lt))
+        past_or false e lt = mine.past e lt
 
     pub number_at : me.0.stage ≡ Holding → Goes 2 (slice_index s.words 2) (LoadsNumber (step slots 2 0 0 none) me (slice_index s.words 2))
     number_at holding =
@@ -299,9 +313,15 @@ module _ {S : Type 0} (stands : S → List Stamped → Type 0) (about : S → Ab
               (ap (λ (ws : List ℕ). slice_set ws 2 (slice_index ws 2)) k.words ∙ ap (λ (st : Stage). turn_word st ∷ length k.log ∷ number_word st k.made ∷ []) now)
               (subst (λ (st : Stage). Stored stands about a (has_state st) k.log s.homes) now k.stored)
               few k.strangers
-              (record { begins = mine.begins; about = mine.about; callers = mine.callers; below = mine.below; loaded = omega (arith, found); all = mine.all; own = mine.own; kept = mine.kept; whole = idle (me.0.seen ≡ k.log); next = λ _. found })
+              (record { begins = mine.begins; about = mine.about; callers = mine.callers; below = mine.below; loaded = omega (arith, found); all = mine.all; own = mine.own; kept = mine.kept; whole = idle (me.0.seen ≡ k.log); next = λ _. found; past = λ bad. absurd (not_also (sym bad)) })
               others live refl refl,
-          (let c = mine.callers in omega (arith, found, few, c), refl),
+          (
+            (let c = mine.callers in omega (arith, found, few, c)),
+            (let b = mine.below in omega (arith, found, b)),
+            (let l = mine.loaded in omega (arith, found, l)),
+            (λ lt. let c = mine.callers in let p = mine.past (ap (λ (st : Stage). knows_next st) holding) (omega (arith, c, lt)) in omega (arith, found, p)),
+            refl,
+          ),
         )
 
     pub draw_at : me.0.stage ≡ Numbered → me.0.loaded < me.0.callers → me.0.callers ≤ 2 ^ 62 → Goes 2 ((slice_index s.words 2 + 1) % 2 ^ 64) (Draws (step slots 2 1 0 none) me (slice_index s.words 2))
@@ -319,7 +339,7 @@ module _ {S : Type 0} (stands : S → List Stamped → Type 0) (about : S → Ab
               (ap (λ (ws : List ℕ). slice_set ws 2 ((slice_index ws 2 + 1) % 2 ^ 64)) k.words ∙ ap (λ (st : Stage). turn_word st ∷ length k.log ∷ (number_word st k.made + 1) % 2 ^ 64 ∷ []) now ∙ ap (λ (n : ℕ). 1 ∷ length k.log ∷ n ∷ []) one_more)
               (subst (λ (st : Stage). Stored stands about a (has_state st) k.log s.homes) now k.stored)
               (let c = mine.callers in omega (arith, next, room, c)) k.strangers
-              (record { begins = mine.begins; about = mine.about; callers = mine.callers; below = mine.below; loaded = mine.loaded; all = mine.all; own = mine.own; kept = mine.kept; whole = idle (me.0.seen ≡ k.log); next = λ _. next })
+              (record { begins = mine.begins; about = mine.about; callers = mine.callers; below = mine.below; loaded = mine.loaded; all = mine.all; own = mine.own; kept = mine.kept; whole = idle (me.0.seen ≡ k.log); next = λ _. next; past = λ bad. absurd (not_also (sym bad)) })
               others live refl refl,
           (found ∙ sym next, refl, own_none k.log me.0.seen me.0.loaded mine.begins (k.strangers me.0.loaded (omega (arith, next)))),
         )
@@ -346,8 +366,8 @@ module _ {S : Type 0} (stands : S → List Stamped → Type 0) (about : S → Ab
     pub releases : (st : S) → has_state me.0.stage ≡ true → me.1 ≡ (0, Some st) ∷ [] → stands st me.0.seen → about st ≡ me.0.about → Allows (Kept stands about a most) slots id me 0 (λ _. 0) (λ _. Releases (step slots 0 0 0 none) me 0)
     releases st out carried h same s k wide at small = release_at a most id slots me live s k at st out carried h same
 
-    pub leaves : may_leave me.0.stage ≡ true → me.1 ≡ [] → Allows (Kept stands about a most) slots id me 0 (λ _. 0) (λ _. Releases (step slots 0 0 0 none) me 0)
-    leaves may empty s k wide at small = leave_at a most id slots me live s k at may empty
+    pub leaves : may_leave me.0.stage ≡ true → (knows_next me.0.stage ≡ true → me.0.loaded ≡ me.0.callers) → me.1 ≡ [] → Allows (Kept stands about a most) slots id me 0 (λ _. 0) (λ _. Releases (step slots 0 0 0 none) me 0)
+    leaves may limit empty s k wide at small = leave_at a most id slots me live s k at may limit empty
 
     pub numbers : me.0.stage ≡ Holding → Allows (Kept stands about a most) slots id me 2 (λ n. n) (LoadsNumber (step slots 2 0 0 none) me)
     numbers holding s k wide at small = number_at a most id slots me live s k at holding

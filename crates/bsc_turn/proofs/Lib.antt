@@ -1,5 +1,6 @@
 pub mod Beginnings
 pub mod Cutting
+pub mod Counted
 pub mod Keeping
 pub mod Passing
 pub mod Uniting

@@ -1,5 +1,5 @@
 -- A pass that gets its view back.
-use Rattle.std.proofs.Common.{◌≡◌, ◌⊎◌, inl, inr, ⊎_elim, ℕ, true, List, [], ◌∷◌, length, refl, sym, ap, subst, ◌∙◌}
+use Rattle.std.proofs.Common.{◌≡◌, ◌≢◌, ◌⊎◌, inl, inr, ⊎_elim, ℕ, true, List, [], ◌∷◌, length, refl, sym, subst}
 use Rattle.bsc_history.specs.declared.limits.About.{About}
 use Rattle.bsc_history.specs.declared.mark.Stamped.{Stamped}
 use Rattle.bsc_turn.specs.declared.stage.Stage.TheVariants.{Outside}
@@ -27,12 +27,16 @@ sound_as n a most vs w u has e sound = held_in (Sound n a most) vs w has (subst 
 -- what one pass that took in another has seen
 pub joined_longer : (v w : View) → Truths (joined v w) → IsLonger v.seen w.seen (joined v w).seen
 joined_longer v w t =
-    let second = (t.1 (length v.took) (ended_of w) (at_middle v.took (ended_of w) w.took)).1 in
+    let second = (t.1 (length v.took) (ended_of w) (at_middle v.took (ended_of w) w.took)).2 in
     (longer_one v.seen w.seen second, longer_first v.seen w.seen, second)
 
 -- where one history is the longer of two, one of these begins with the other
 pub one_begins : (F G H : List Stamped) → IsLonger F G H → StartsWith F G ⊎ StartsWith G F
 one_begins F G H h = ⊎_elim (λ (e : H ≡ F). inl (subst (λ (l : List Stamped). StartsWith l G) e h.2)) (λ (e : H ≡ G). inr (subst (λ (l : List Stamped). StartsWith l F) e h.1)) h.0
+
+-- a pass that is taken in has another number
+pub joined_apart : (v w : View) → Truths (joined v w) → v.number ≢ w.number
+joined_apart v w t = (t.1 (length v.took) (ended_of w) (at_middle v.took (ended_of w) w.took)).0
 
 -- what is so of two views joined, where they are written in another way
 pub joined_truths : (v w v' w' : View) → v' ≡ v → w' ≡ w → Truths (joined v' w') → Truths (joined v w)

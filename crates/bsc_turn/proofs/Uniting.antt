@@ -1,6 +1,6 @@
 -- A seat that takes in another keeps the rule.
-use Rattle.std.proofs.Common.{◌≡◌, ◌≢◌, ℕ, zero, suc, ◌≤◌, Bool, true, false, List, [], ◌∷◌, ◌++◌, length, set, Option, ◌⊎◌, inl, inr, ⊎_elim, refl, sym, ◌∙◌, ap, subst}
-use mathlib.Core.Option.{some, some-injective, some-ne-none}
+use Rattle.std.proofs.Common.{◌≡◌, ◌≢◌, ℕ, zero, suc, true, List, [], ◌∷◌, ◌++◌, length, set, Option, ◌⊎◌, inl, inr, ⊎_elim, refl, sym, ◌∙◌, ap, subst}
+use mathlib.Core.Option.{some, some-injective}
 use lib.ListN.{get_elem?}
 use Rattle.atomic_table.specs.Table.{State, Joins}
 use Rattle.atomic_table.proofs.Lists.{set_else}
@@ -10,8 +10,8 @@ use Rattle.bsc_turn.specs.declared.stage.Stage.{Stage}
 use Rattle.bsc_turn.specs.declared.stage.Stage.TheVariants.{Outside}
 use Rattle.bsc_turn.specs.declared.view.Ended.{Ended}
 use Rattle.bsc_turn.specs.declared.view.View.{View}
-use Rattle.bsc_turn.specs.Histories.{StartsWith, longer, own_of}
-use Rattle.bsc_turn.specs.Rule.{holds_turn, has_state, knows_next, At, Apart, Gone, Held, IsKept, Fits, Kept, spent_view}
+use Rattle.bsc_turn.specs.Histories.{StartsWith}
+use Rattle.bsc_turn.specs.Rule.{holds_turn, has_state, At, Apart, Gone, Held, IsKept, Fits, Kept, spent_view}
 use Rattle.bsc_turn.specs.Told.{ended_of, joined}
 use Rattle.bsc_turn.proofs.Beginnings.{starts_longer, longer_first, longer_second, own_between, starts_trans}
 use Rattle.bsc_turn.proofs.Views.{not_also, at_changed}
@@ -63,16 +63,16 @@ module _ {S : Type 0} (stands : S → List Stamped → Type 0) (about : S → Ab
     second = longer_second k.log v.seen w.seen f.begins g.begins
 
     -- what either had seen of a caller is what is seen of it now
-    kept_of : (seen : List Stamped) (e : Ended) → StartsWith both.seen seen → IsKept k.made k.log seen e → IsKept k.made k.log both.seen e
-    kept_of seen e h x = record { below = x.below; all = x.all; own = own_between k.log both.seen seen e.number e.own begins h x.all x.own; saw = starts_trans both.seen seen e.seen h x.saw }
+    kept_of : (n : ℕ) (seen : List Stamped) (e : Ended) → StartsWith both.seen seen → IsKept k.made k.log n seen e → v.number ≢ e.number → IsKept k.made k.log v.number both.seen e
+    kept_of n seen e h x other = record { other = other; below = x.below; all = x.all; own = own_between k.log both.seen seen e.number e.own begins h x.all x.own; saw = starts_trans both.seen seen e.seen h x.saw }
 
-    kept_all : (i : ℕ) (e : Ended) → get_elem? both.took i ≡ some e → IsKept k.made k.log both.seen e
+    kept_all : (i : ℕ) (e : Ended) → get_elem? both.took i ≡ some e → IsKept k.made k.log v.number both.seen e
     kept_all i e got =
         ⊎_elim
-        (λ h. kept_of v.seen e (longer_first v.seen w.seen) (f.kept i e h))
+        (λ h. let x = f.kept i e h in kept_of v.number v.seen e (longer_first v.seen w.seen) x x.other)
         (λ h. ⊎_elim
-        (λ x. subst (IsKept k.made k.log both.seen) x (record { below = g.below; all = g.all; own = own_between k.log both.seen w.seen w.number w.own begins second g.all g.own; saw = second }))
-        (λ x. kept_of w.seen e second (g.kept x.0 e x.1))
+        (λ x. subst (IsKept k.made k.log v.number both.seen) x (record { other = λ same. distinct (sym (k.apart id other v w at_id at_other same)); below = g.below; all = g.all; own = own_between k.log both.seen w.seen w.number w.own begins second g.all g.own; saw = second }))
+        (λ x. kept_of w.number w.seen e second (g.kept x.0 e x.1) (k.gone other id x.0 w v e at_other x.1 at_id))
         h)
         (in_both v.took (ended_of w) w.took i e got)
 
@@ -89,6 +89,7 @@ module _ {S : Type 0} (stands : S → List Stamped → Type 0) (about : S → Ab
           kept = kept_all;
           whole = λ bad. absurd (not_also (sym (ap (λ (st : Stage). has_state st) out) ∙ bad));
           next = f.next;
+          past = f.past;
         }
 
     fits_all : (i : ℕ) (x : View) → At views i x → Fits a most k.made k.log x

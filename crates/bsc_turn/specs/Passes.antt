@@ -1,16 +1,16 @@
 -- What contracts see of a turn, its passes and its guards.
-use Rattle.std.specs.Prelude.{◌≡◌, ℕ, true, List, [], ◌∷◌, ◌++◌}
+use Rattle.std.specs.Prelude.{◌≡◌, ℕ, true, List, [], ◌∷◌}
 use Rattle.bsc_history.specs.declared.entry.Entry.{Entry}
 use Rattle.bsc_history.specs.declared.limits.About.{About}
 use Rattle.bsc_history.specs.declared.mark.Stamped.{Stamped}
 use Rattle.bsc_turn.specs.declared.guard.Guard.{Guard}
 use Rattle.bsc_turn.specs.declared.pass.Pass.{Pass}
-use Rattle.bsc_turn.specs.declared.stage.Stage.TheVariants.{Outside, Entered}
+use Rattle.bsc_turn.specs.declared.stage.Stage.TheVariants.{Outside}
 use Rattle.bsc_turn.specs.declared.turn.Turn.{Turn}
 use Rattle.bsc_turn.specs.declared.view.Ended.{Ended}
 use Rattle.bsc_turn.specs.declared.view.View.{View}
 use Rattle.bsc_turn.specs.Rule.{spent_view}
-use Rattle.bsc_turn.specs.Told.{HasOut, Truths, at_stage, having_seen, having_made}
+use Rattle.bsc_turn.specs.Told.{HasOut, Truths, at_stage, having_made}
 
 -- The first of some views.
 abbrev pub view_in : List View → View

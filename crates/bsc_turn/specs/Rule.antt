@@ -8,7 +8,7 @@ use Rattle.atomic_table.specs.Table.{State}
 use Rattle.bsc_history.specs.declared.limits.About.{About}
 use Rattle.bsc_history.specs.declared.mark.Stamped.{Stamped}
 use Rattle.bsc_turn.specs.declared.stage.Stage.{Stage}
-use Rattle.bsc_turn.specs.declared.stage.Stage.TheVariants.{Outside, Holding, Entered, Committed, Numbered, Drawn}
+use Rattle.bsc_turn.specs.declared.stage.Stage.TheVariants.{Outside, Entered, Committed, Numbered, Drawn}
 use Rattle.bsc_turn.specs.declared.view.Ended.{Ended}
 use Rattle.bsc_turn.specs.declared.view.View.{View}
 use Rattle.bsc_turn.specs.Histories.{StartsWith, own_of}
@@ -44,16 +44,18 @@ number_word stage made = made
 abbrev pub At : List View → ℕ → View → Type 0
 At views id v = (get_elem? views id ≡ some v) × (v.live ≡ true)
 
--- A caller that was taken in by a seat which has seen this much: its own list is all that the history has of
--- it, and all that was seen of it, and it had seen no more.
-pub record IsKept (made : ℕ) (log seen : List Stamped) (e : Ended) : Type 0 where
+-- A caller that was taken in by caller n, which has seen this much: it is another, its own list is all that
+-- the history has of it, and all that was seen of it, and it had seen no more.
+pub record IsKept (made : ℕ) (log : List Stamped) (n : ℕ) (seen : List Stamped) (e : Ended) : Type 0 where
+  pub other : n ≢ e.number
   pub below : e.number < made
   pub all : own_of log e.number ≡ e.own
   pub own : own_of seen e.number ≡ e.own
   pub saw : StartsWith seen e.seen
 
 -- A view fits the history: it has seen a first part of it, which is the whole while it has the state in
--- hand; its own list is all that the history has of its number; each caller that it took in is kept.
+-- hand; its own list is all that the history has of its number; each caller that it took in is kept. The
+-- number that it keeps was drawn already, unless it is the limit or the next to be drawn.
 pub record Fits (a : About) (most made : ℕ) (log : List Stamped) (v : View) : Type 0 where
   pub begins : StartsWith log v.seen
   pub about : v.about ≡ a
@@ -62,9 +64,10 @@ pub record Fits (a : About) (most made : ℕ) (log : List Stamped) (v : View) : 
   pub loaded : v.loaded ≤ made
   pub all : own_of log v.number ≡ v.own
   pub own : own_of v.seen v.number ≡ v.own
-  pub kept : (i : ℕ) (e : Ended) → get_elem? v.took i ≡ some e → IsKept made log v.seen e
+  pub kept : (i : ℕ) (e : Ended) → get_elem? v.took i ≡ some e → IsKept made log v.number v.seen e
   pub whole : has_state v.stage ≡ true → v.seen ≡ log
   pub next : knows_next v.stage ≡ true → v.loaded ≡ made
+  pub past : knows_next v.stage ≡ false → v.loaded < most → v.loaded < made
 
 -- No two seats have one number.
 abbrev pub Apart : List View → Type 0

@@ -1,9 +1,9 @@
 -- What each kind of step tells the seat that makes it: of the step, the seat before, the number found, and
 -- the seat after.
-use Rattle.std.specs.Prelude.{◌≡◌, ◌≢◌, ℕ, ◌≤◌, Bool, true, false, List, [], ◌∷◌, ◌++◌, length, Option, Some, None}
+use Rattle.std.specs.Prelude.{◌≡◌, ◌≢◌, ℕ, ◌<◌, ◌≤◌, Bool, true, false, List, [], ◌∷◌, ◌++◌, length, Option, Some, None}
 use mathlib.Core.Option.{some}
 use lib.ListN.{get_elem?}
-use Rattle.atomic_table.specs.Table.{Me, Step, rest}
+use Rattle.atomic_table.specs.Table.{Me, Step}
 use Rattle.bsc_history.specs.declared.limits.About.{About}
 use Rattle.bsc_history.specs.declared.mark.Stamped.{Stamped}
 use Rattle.bsc_turn.specs.declared.stage.Stage.{Stage}
@@ -13,12 +13,12 @@ use Rattle.bsc_turn.specs.declared.view.View.{View}
 use Rattle.bsc_turn.specs.Histories.{StartsWith, own_of, longer}
 
 -- What the rule says of one view alone: its own list is what it has seen of its number, and so of each
--- caller that it took in, which had seen no more.
+-- caller that it took in, which is another and had seen no more.
 abbrev pub Truths : View → Type 0
 Truths v =
     (own_of v.seen v.number ≡ v.own)
     × ((i : ℕ) (e : Ended) → get_elem? v.took i ≡ some e
-    → (own_of v.seen e.number ≡ e.own) × StartsWith v.seen e.seen)
+    → (v.number ≢ e.number) × (own_of v.seen e.number ≡ e.own) × StartsWith v.seen e.seen)
 
 -- The view at another stage.
 abbrev pub at_stage : Stage → View → View
@@ -78,9 +78,12 @@ module _ {S : Type 0} where
   abbrev pub Releases : Step (Option S) → Me (Option S) View → ℕ → Me (Option S) View → Type 0
   Releases s v n w = w ≡ (at_stage Outside v.0, [])
 
-  -- The number word is loaded while the turn is held.
+  -- The number word is loaded while the turn is held. It is more than the seat's own number, no less than the
+  -- number kept before, and more than that where that isn't the limit.
   abbrev pub LoadsNumber : Step (Option S) → Me (Option S) View → ℕ → Me (Option S) View → Type 0
-  LoadsNumber s v n w = (n ≤ v.0.callers) × (w ≡ (having_loaded n v.0, v.1))
+  LoadsNumber s v n w =
+      (n ≤ v.0.callers) × (v.0.number < n) × (v.0.loaded ≤ n) × (v.0.loaded < v.0.callers → v.0.loaded < n)
+      × (w ≡ (having_loaded n v.0, v.1))
 
   -- A number is drawn: it is the one that the load found, and no entry is of that number.
   abbrev pub Draws : Step (Option S) → Me (Option S) View → ℕ → Me (Option S) View → Type 0

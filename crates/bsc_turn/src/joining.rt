@@ -1,5 +1,5 @@
 //! A caller ends, and another keeps what it had.
-ghost use Rattle.std.specs.Prelude.{◌≡◌, ◌⊎◌, ◌++◌, ◌∷◌};
+ghost use Rattle.std.specs.Prelude.{◌≡◌, ◌≢◌, ◌⊎◌, ◌++◌, ◌∷◌};
 ghost use Rattle.bsc_turn.specs.Histories.{IsLonger, StartsWith};
 ghost use Rattle.bsc_turn.specs.Told.{ended_of};
 ghost use Rattle.bsc_turn.specs.Passes.{IsPassOf, newest_number, number_of, own_list, seen, taken_in, view_of};
@@ -19,6 +19,7 @@ impl<S: Stands + Drop> Turn<S> {
         requires other { IsPassOf S.about self.now other }
         ensures pass { IsPassOf S.about self.now pass.new × (number_of pass.new ≡ number_of pass.old) }
         ensures seen { IsLonger (seen pass.old) (seen other) (seen pass.new) }
+        ensures apart { number_of pass.old ≢ number_of other }
         ensures one { StartsWith (seen pass.old) (seen other) ⊎ StartsWith (seen other) (seen pass.old) }
         ensures kept { taken_in pass.new ≡ taken_in pass.old ++ ended_of (view_of other) ∷ taken_in other }
         ensures own { own_list pass.new ≡ own_list pass.old }

@@ -20,10 +20,13 @@ impl<S: Stands + Drop> Turn<S> {
         ensures pass { IsPassOf S.about self.now pass.new × (number_of pass.new ≡ number_of pass.old) }
         ensures knows { view_of pass.new ≡ after_load (newest_number pass.new) (view_of pass.old) }
 
-        // Where the load finds another number than the limit, a new pass has it.
+        // Where the load finds another number than the limit, a new pass has it. It is more than this pass's
+        // own number, and than any that this pass found before.
         ensures room { IfOk result (λ p. newest_number pass.new < callers_of self.now) }
         ensures new { IfOk result (λ p. IsPassOf S.about self.now p) }
         ensures number { IfOk result (λ p. number_of p ≡ newest_number pass.new) }
+        ensures newer { IfOk result (λ p. (number_of pass.old < number_of p)
+            × (newest_number pass.old < number_of p)) }
         ensures seen { IfOk result (λ p. view_of p ≡ new_pass (number_of p) (view_of pass.old)) }
 
         // It is refused exactly where the load finds the limit.

@@ -7,12 +7,12 @@ ghost use Rattle.bsc_history.specs.declared.mark.Stamped.{Stamped};
 ghost use Rattle.bsc_turn.specs.declared.stage.Stage.TheVariants.{Outside, Holding};
 ghost use Rattle.bsc_turn.specs.Histories.{StartsWith, own_of};
 ghost use Rattle.bsc_turn.specs.Passes.{after_load, new_pass};
-ghost use Rattle.bsc_turn.specs.Rule.{first_view, has_state};
+ghost use Rattle.bsc_turn.specs.Rule.{first_view, has_state, knows_next};
 ghost use Rattle.bsc_turn.specs.Told.{HasOut, IsOutside, Truths, at_stage, having_made, having_seen, joined, may_leave};
 
 use crate::plays::{
-    Acquire, Commit, Confirm, Count, Draw, Fixed, IntoOne, IntoPasses, LoadNumber, Release, TurnSeat,
-    TurnTable,
+    Acquire, Commit, Confirm, Count, Draw, Fixed, IntoOne, IntoPasses, LoadNumber, Release,
+    TurnSeat, TurnTable,
 };
 use atomic_table::Table;
 use bsc_history::{Makes, Stands};
@@ -123,6 +123,8 @@ fn leave<S: Stands>(table: &TurnTable<S>, seat: &mut TurnSeat<S>)
     requires sized { seat.old.table_id.words ≡ 3 }
     requires held { (may_leave seat.old.me.0.stage ≡ true) × (seat.old.me.0.live ≡ true)
         × (seat.old.me.1 ≡ []) }
+    requires drawn { knows_next seat.old.me.0.stage ≡ true
+        → seat.old.me.0.loaded ≡ seat.old.me.0.callers }
     ensures placed { seat.new.table_id ≡ seat.old.table_id }
     ensures outside { seat.new.me ≡ (at_stage Outside seat.old.me.0, []) }
 {
@@ -146,6 +148,7 @@ pub(crate) fn next_seat<S: Stands, R: Wait>(
         × (seat.new.me ≡ (after_load r.0 seat.old.me.0, []))
         × (r.1.me ≡ (new_pass r.0 seat.old.me.0, []))
         × (own_of seat.old.me.0.seen r.0 ≡ [])) }
+    ensures newer { IfOk result (λ r. (seat.old.me.0.number < r.0) × (seat.old.me.0.loaded < r.0)) }
     ensures err { IfErr result (λ n. (n ≡ callers)
         × (seat.new.me ≡ (after_load n seat.old.me.0, []))) }
 {
@@ -163,11 +166,7 @@ pub(crate) fn next_seat<S: Stands, R: Wait>(
 
 /// Takes in another seat: one join, and one load of the count without the turn, by which the rule says how the
 /// two histories that were seen lie to one another.
-pub(crate) fn take_in<S: Stands>(
-    table: &TurnTable<S>,
-    seat: &mut TurnSeat<S>,
-    other: TurnSeat<S>,
-)
+pub(crate) fn take_in<S: Stands>(table: &TurnTable<S>, seat: &mut TurnSeat<S>, other: TurnSeat<S>)
     requires placed { (seat.old.table_id ≡ table.now.shared.table_id)
         × (other.table_id ≡ table.now.shared.table_id) }
     requires sized { seat.old.table_id.words ≡ 3 }

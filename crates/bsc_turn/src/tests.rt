@@ -1,5 +1,6 @@
 //! Passes that commit to one counter, in one thread and in two, and what callers can rely on.
-ghost use Rattle.std.specs.Prelude.{◌≡◌, ◌+◌, ◌<◌, ◌^◌, ◌++◌, ◌∷◌, [], length, true, IfSome, IfNone};
+ghost use Rattle.std.specs.Prelude.{List, ◌≡◌, ◌+◌, ◌<◌, ◌≤◌, ◌^◌, ◌++◌, ◌∷◌, [], length, true, IfSome, IfNone};
+ghost use Rattle.bsc_history.specs.declared.mark.Stamped.{Stamped};
 ghost use Rattle.bsc_turn.specs.Counting.{MadeOne, counted};
 ghost use Rattle.bsc_turn.specs.Passes.{IsFor, IsGuardOf, IsPassOf, after_commit, first_state, guard_view, history, number_of, own_list, view_of};
 
@@ -21,11 +22,23 @@ struct Counter {
 }
 
 impl Stands for Counter {
-    ghost use Rattle.std.specs.Prelude.{◌≡◌, length};
+    ghost use Rattle.std.specs.Prelude.{List, ◌≡◌, length};
 
     ghost stands = { λ s H. s.count ≡ length H };
 
     ghost about = { λ s. s.about };
+}
+
+impl Counter {
+    /// Counts one more entry, whatever history it stood for.
+    fn add(&mut self)
+        requires { self.old.count < 2 ^ 62 }
+        ensures stands { (H : List Stamped) (e : Stamped) →
+            self.old.count ≡ length H → self.new.count ≡ length (H ++ e ∷ []) }
+        ensures about { self.new.about ≡ self.old.about }
+    {
+        self.count += 1;
+    }
 }
 
 fn new_counter() -> Counter
@@ -76,7 +89,7 @@ fn count_one<R: Wait>(rt: &R, turn: &Turn<Counter>, pass: &mut Pass) -> Option<u
         guard.back(pass);
         return None;
     }
-    guard.state().count += 1;
+    guard.state().add();
     Some(commit_count::<Brand>(guard, pass, caller))
 }
 
@@ -102,12 +115,7 @@ fn two_callers(rt: HostRuntime) -> Result<(), Fail> {
 }
 
 /// Counts so many, and says whether each found room at a place behind the one before.
-fn count_many<R: Wait>(
-    rt: &R,
-    turn: &Turn<Counter>,
-    pass: Pass,
-    times: u32,
-) -> (Pass, bool)
+fn count_many<R: Wait>(rt: &R, turn: &Turn<Counter>, pass: Pass, times: u32) -> (Pass, bool)
     requires { IsPassOf (λ s. s.about) turn.now pass }
     ensures pass { IsPassOf (λ s. s.about) turn.now result.0 }
     ensures number { number_of result.0 ≡ number_of pass }
@@ -128,27 +136,52 @@ fn count_many<R: Wait>(
     (pass, rising)
 }
 
-/// Two threads count so many each. The answer is whether the places of each rose, and the count.
-fn across<R: Threads + Wait + Sync>(rt: &R, alloc: Global, times: u32) -> Option<(bool, u64)> {
+/// Ends both passes. The answer is the count: no less than the two made.
+fn count_of<R: Wait>(rt: &R, turn: &Turn<Counter>, pass: Pass, other: Pass) -> u64
+    requires pass { IsPassOf (λ s. s.about) turn.now pass }
+    requires other { IsPassOf (λ s. s.about) turn.now other }
+    ensures { length (own_list pass) + length (own_list other) ≤ result }
+{
+    let mut pass = pass;
+    turn.join(&mut pass, other);
+    let mut guard = turn.enter(rt, &mut pass);
+    let count = guard.state().count;
+    guard.back(&mut pass);
+    count
+}
+
+/// A turn with two passes.
+fn turn_for_two<R: Wait>(rt: &R, alloc: Global) -> Option<(Turn<Counter>, Pass, Pass)>
+    ensures { IfSome result (λ r. IsPassOf (λ s. s.about) r.0 r.1 × IsPassOf (λ s. s.about) r.0 r.2) }
+{
     let (turn, mut first) = Turn::make(alloc, new_counter(), 2).ok()?;
     let second = turn.split(rt, &mut first).ok()?;
+    Some((turn, first, second))
+}
+
+/// Two threads count so many each. The answer is whether all found room and the places of each rose, and the
+/// count.
+fn across<R: Threads + Wait + Sync>(rt: &R, alloc: Global, times: u32) -> Option<(bool, u64)>
+    ensures { IfSome result (λ r. r.0 ≡ true → times + times ≤ r.1) }
+{
+    let (turn, first, second) = turn_for_two(rt, alloc)?;
     let shared = &turn;
-    let ((mut first, one), (second, two)) = thread::join(
+    let ((first, one), (second, two)) = thread::join(
         rt,
         move || -> (Pass, bool)
             requires { IsPassOf (λ s. s.about) shared.now first }
-            ensures { IsPassOf (λ s. s.about) shared.entry.now result.0 }
+            ensures pass { IsPassOf (λ s. s.about) shared.entry.now result.0 }
+            ensures number { number_of result.0 ≡ number_of first }
+            ensures own { result.1 ≡ true → length (own_list result.0) ≡ length (own_list first) + times }
         { count_many(rt, shared, first, times) },
         move || -> (Pass, bool)
             requires { IsPassOf (λ s. s.about) shared.now second }
-            ensures { IsPassOf (λ s. s.about) shared.entry.now result.0 }
+            ensures pass { IsPassOf (λ s. s.about) shared.entry.now result.0 }
+            ensures number { number_of result.0 ≡ number_of second }
+            ensures own { result.1 ≡ true → length (own_list result.0) ≡ length (own_list second) + times }
         { count_many(rt, shared, second, times) },
     );
-    turn.join(&mut first, second);
-    let mut guard = turn.enter(rt, &mut first);
-    let count = guard.state().count;
-    guard.back(&mut first);
-    Some((one && two, count))
+    Some((one && two, count_of(rt, &turn, first, second)))
 }
 
 #[test]

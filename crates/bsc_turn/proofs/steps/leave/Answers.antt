@@ -4,4 +4,4 @@ use Rattle.bsc_turn.proofs.steps.leave.Goals as goal
 
 pub store-requires : goal.store-requires
 store-requires g c =
-    (search rules, search rules, leaves g.S.Stands.stands g.S.Stands.about _ _ _ _ c.args.seat.now.me (search rules) (search rules) (search rules))
+    (search rules, search rules, leaves g.S.Stands.stands g.S.Stands.about _ _ _ _ c.args.seat.now.me (search rules) (search rules) c.requires.drawn (search rules))

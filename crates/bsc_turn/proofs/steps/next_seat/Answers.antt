@@ -1,4 +1,4 @@
-use Rattle.std.proofs.Common.{rules, arith, ◌≡◌, ◌<◌, ap}
+use Rattle.std.proofs.Common.{rules, arith, ◌≡◌, ap}
 use Rattle.bsc_turn.specs.declared.view.View.{View}
 use Rattle.bsc_turn.specs.Told.{having_loaded}
 use Rattle.bsc_turn.proofs.Keeping.{numbers, draws}

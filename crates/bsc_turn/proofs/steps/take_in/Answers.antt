@@ -1,4 +1,4 @@
-use Rattle.std.proofs.Common.{rules, ◌≡◌, sym, subst}
+use Rattle.std.proofs.Common.{rules, ◌≡◌, subst}
 use Rattle.bsc_turn.specs.Told.{Truths, joined}
 use Rattle.bsc_turn.proofs.Keeping.{confirms}
 use Rattle.bsc_turn.proofs.Uniting.{joins}

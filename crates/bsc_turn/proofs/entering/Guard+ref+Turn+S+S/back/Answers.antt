@@ -1,8 +1,8 @@
-use Rattle.std.proofs.Common.{rules, ◌≡◌, refl, sym, subst}
+use Rattle.std.proofs.Common.{rules, ◌≡◌}
 use Rattle.bsc_turn.specs.declared.stage.Stage.TheVariants.{Outside}
 use Rattle.bsc_turn.specs.Told.{at_stage}
-use Rattle.bsc_turn.specs.Passes.{Sound, first_state}
-use Rattle.bsc_turn.proofs.Passing.{held_in, sound_outside}
+use Rattle.bsc_turn.specs.Passes.{first_state}
+use Rattle.bsc_turn.proofs.Passing.{sound_outside}
 use Rattle.bsc_turn.proofs.entering.Guard+ref+Turn+S+S.back.Goals as goal
 
 pub returns-clause-pass : goal.returns-clause-pass

@@ -1,4 +1,4 @@
-use Rattle.std.proofs.Common.{rules, ◌≡◌, refl, sym, subst}
+use Rattle.std.proofs.Common.{rules, ◌≡◌}
 use Rattle.bsc_turn.specs.declared.stage.Stage.TheVariants.{Outside}
 use Rattle.bsc_turn.specs.Told.{at_stage}
 use Rattle.bsc_turn.specs.Passes.{first_state}

@@ -1,9 +1,9 @@
-use Rattle.std.proofs.Common.{rules, ◌≡◌, sym, subst}
+use Rattle.std.proofs.Common.{rules, ◌≡◌, ◌∙◌, sym, subst}
 use Rattle.bsc_turn.specs.declared.view.View.{View}
 use Rattle.bsc_turn.specs.Histories.{IsLonger}
 use Rattle.bsc_turn.specs.Told.{Truths, joined}
 use Rattle.bsc_turn.specs.Passes.{first_state, view_of}
-use Rattle.bsc_turn.proofs.Passing.{sound_as, joined_truths, joined_longer, one_begins}
+use Rattle.bsc_turn.proofs.Passing.{sound_as, joined_truths, joined_apart, joined_longer, one_begins}
 use Rattle.bsc_turn.proofs.turn.Turn.join.Goals as goal
 
 pub returns-clause-pass : goal.returns-clause-pass
@@ -29,3 +29,10 @@ returns-clause-one g c =
     let w = view_of c.args.other in
     let t : Truths (joined v w) = joined_truths v w c.into_seat-seat.result.me.0 c.into_seat.result.me.0 (search rules) (search rules) c.take_in.ensures.truths in
     one_begins v.seen w.seen (joined v w).seen (joined_longer v w t)
+
+pub returns-clause-apart : goal.returns-clause-apart
+returns-clause-apart g c same =
+    let v = view_of c.args.pass.now in
+    let w = view_of c.args.other in
+    let t : Truths (joined v w) = joined_truths v w c.into_seat-seat.result.me.0 c.into_seat.result.me.0 (search rules) (search rules) c.take_in.ensures.truths in
+    joined_apart v w t (c.requires.pass.1.1.2 ∙ (same ∙ sym c.requires.other.1.1.2))
