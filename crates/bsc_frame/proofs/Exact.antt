@@ -1,6 +1,7 @@
 -- The answers of reading exclude one another.
 use Rattle.std.proofs.Common.{◌≡◌, ℕ, ◌⊎◌, inl, inr, Bool, List, ◌++◌, drop, refl, sym, ap, subst, ◌∙◌}
 use Rattle.std.specs.Prelude.{Result, Ok, Err}
+use Rattle.std.specs.Result.{MatchResult}
 use Rattle.std.specs.List.{AllByRecursion}
 use Rattle.bsc_octets.specs.declared.envelope.Envelope.{Envelope}
 use Rattle.bsc_octets.specs.declared.envelope.EnvelopeFault.{EnvelopeFault}
@@ -150,3 +151,10 @@ pub fails_if : (m : List ℕ) (r : Result Message FrameFault) → Answers m r �
 fails_if m (Ok found) a k first = absurd (first_or_none (MessageFails m) order k (spelled_passes found m a) first)
 fails_if m (Err (Fails j)) a k first = ap (λ (check : Check). Err (Fails check)) (one_first (MessageFails m) order j k a first)
 fails_if m (Err NoMemory) a k first = absurd (first_or_none (MessageFails m) order k (spelled_passes a.0 m a.1) first)
+
+-- what was written is read back
+pub read_back : (msg : Message) (r : Result Message FrameFault) → (r ≡ Ok msg) ⊎ (r ≡ Err NoMemory) → MatchResult r (λ again. again ≡ msg) (λ fault. fault ≡ NoMemory)
+read_back msg (Ok found) (inl same) = cc
+read_back msg (Ok found) (inr out) = absurd cc
+read_back msg (Err fault) (inl same) = absurd cc
+read_back msg (Err fault) (inr out) = cc

@@ -9,3 +9,4 @@ pub mod OptionLists
 pub mod Bodies
 pub mod Whole
 pub mod Exact
+mod WorkedMessages

@@ -1,0 +1,142 @@
+//! Messages from outside, and each public function once.
+ghost use Rattle.std.specs.Prelude.{◌≡◌};
+ghost use Rattle.std.specs.Result.{MatchResult};
+ghost use Rattle.bsc_frame.specs.Spelling.{HasSpelling};
+
+use super::rows::{FIXED_PARTS, MALFORMED_FRONTS, MALFORMED_PAYLOADS, WHOLE};
+use super::*;
+use std::alloc::Global;
+use std::test::*;
+
+/// The octets that digits say, with spaces between them.
+fn octets_of(alloc: Global, digits: &str) -> Result<Vec<u8>, Fail> {
+    let mut packed = Vec::new(alloc);
+    for digit in digits.bytes() {
+        if digit != b' ' {
+            packed.push(digit)?;
+        }
+    }
+    Ok(hex::decode(alloc, packed.as_slice())?)
+}
+
+/// What reading the octets says of them: the name of the first check that fails, or `-` for a message.
+fn verdict(alloc: Global, m: &[u8]) -> Result<String, Fail> {
+    match read(alloc, m) {
+        Ok(_) => Ok(format!(in alloc; "-")?),
+        Err(FrameFault::Fails(check)) => Ok(format!(in alloc; "{check:?}")?),
+        Err(FrameFault::NoMemory) => Ok(format!(in alloc; "memory")?),
+    }
+}
+
+/// A message by way of its octets: what was written is read back.
+fn read_again(alloc: Global, message: &Message) -> Result<Message, FrameFault>
+    requires { HasSpelling message.now }
+    ensures { MatchResult result (λ again. again ≡ message.now) (λ fault. fault ≡ FrameFault.NoMemory) }
+{
+    let octets = write(alloc, message)?;
+    read(alloc, octets.as_slice())
+}
+
+#[test]
+fn whole_messages(rt: HostRuntime) -> Result<(), Fail> {
+    for row in WHOLE {
+        let Some((digits, _fields)) = row.split_once(" | ") else {
+            return Err(Fail::from("a row without fields"));
+        };
+        let m = octets_of(rt.alloc(), digits)?;
+        let message = read(rt.alloc(), &m)?;
+        let again = write(rt.alloc(), &message)?;
+        assert_eq!(rt; again.as_slice(), m.as_slice(), "{row}");
+    }
+    Ok(())
+}
+
+#[test]
+fn reads_options_and_npdu(rt: HostRuntime) -> Result<(), Fail> {
+    let m = [0x01, 0x03, 0x00, 0x01, 0x41, 0xC1, 0x01, 0x00];
+    let message = read(rt.alloc(), &m)?;
+    assert_eq!(rt; message.id, 1);
+    assert!(rt; message.origin.is_none() && message.dest.is_none());
+    assert_eq!(rt; message.dest_options.len(), 1);
+    assert_eq!(rt; message.data_options.len(), 2);
+    assert!(rt;
+        message
+            .data_options
+            .as_slice()
+            .iter()
+            .all(|item| item.kind == 1)
+    );
+    let Body::Npdu(npdu) = &message.body else {
+        return Err(Fail::from("no NPDU"));
+    };
+    assert_eq!(rt; npdu.as_slice(), [0x00].as_slice());
+    let again = read_again(rt.alloc(), &message)?;
+    assert_eq!(rt; again.data_options.len(), 2);
+    Ok(())
+}
+
+#[test]
+fn reads_a_nak(rt: HostRuntime) -> Result<(), Fail> {
+    let m = [
+        0x00, 0x00, 0x00, 0x09, 0x0D, 0x01, 0x00, 0x00, 0x07, 0x00, 0x8F,
+    ];
+    let message = read(rt.alloc(), &m)?;
+    let Body::BvlcResult(
+        Answer::Nak {
+            function,
+            marker,
+            class,
+            code,
+            details,
+        },
+    ) = &message.body
+    else {
+        return Err(Fail::from("no NAK"));
+    };
+    assert_eq!(rt; (*function, *marker, *class, *code), (0x0D, 0x00, 7, 143));
+    assert!(rt; details.is_empty());
+    Ok(())
+}
+
+#[test]
+fn malformed(rt: HostRuntime) -> Result<(), Fail> {
+    for row in MALFORMED_FRONTS.iter().chain(MALFORMED_PAYLOADS.iter()) {
+        let Some((check, digits)) = row.split_once(" | ") else {
+            return Err(Fail::from("a row without a check"));
+        };
+        let m = octets_of(rt.alloc(), digits)?;
+        assert_eq!(rt; verdict(rt.alloc(), &m)?.as_str(), check, "{row}");
+    }
+    Ok(())
+}
+
+#[test]
+fn cut_fixed_parts(rt: HostRuntime) -> Result<(), Fail> {
+    for (digits, length, none) in FIXED_PARTS {
+        let m = octets_of(rt.alloc(), digits)?;
+        assert_eq!(rt; m.len(), 4 + usize::from(length), "{digits}");
+        for n in 0..length {
+            let check = if n == 0 { none } else { "C10b" };
+            let Some(cut) = m.get(..4 + usize::from(n)) else {
+                return Err(Fail::from("a row of fewer octets"));
+            };
+            assert_eq!(rt;
+                verdict(rt.alloc(), cut)?.as_str(),
+                check,
+                "{digits} with {n}"
+            );
+        }
+    }
+    Ok(())
+}
+
+#[test]
+fn texts(rt: HostRuntime) -> Result<(), Fail> {
+    let text = format!(in rt.alloc();
+        "{}; {}",
+        FrameFault::Fails(Check::C10b),
+        FrameFault::NoMemory
+    )?;
+    assert_eq!(rt; text.as_str(), "the message fails C10b; out of memory");
+    Ok(())
+}
