@@ -1,10 +1,10 @@
 -- How a run ends whose script was replayed.
-use Rattle.std.proofs.Common.{◌≡◌, ℕ, List, ◌++◌, refl, ap, sym, ◌∙◌, subst, append_assoc, Option, Some, None}
+use Rattle.std.proofs.Common.{◌≡◌, ℕ, List, ◌++◌, sym, subst, Option}
 use Rattle.bsc_replay.specs.declared.replaying.ReplayEnd.{ReplayEnd}
 use Rattle.bsc_replay.specs.declared.replaying.ReplayEnd.TheVariants.{Done, BadLine, ReadFault, WriteFault, NoMemory}
 use Rattle.bsc_replay.specs.Playing.{replay_of}
-use Rattle.bsc_replay.specs.Replaying.{Replays, WritesAll, WritesTo}
-use Rattle.bsc_program.specs.Statuses.{script_line, RefusesLine, RefusesSome, RefusedAt}
+use Rattle.bsc_replay.specs.Replaying.{Replays, WritesAll}
+use Rattle.bsc_program.specs.Statuses.{RefusesSome, RefusedAt}
 
 -- a replay that was done, after which nothing more was written
 pub done : (end : ReplayEnd) (o t : List ℕ) (left held later : Option (List ℕ)) → Replays end o t left held → end ≡ Done → later ≡ held → WritesAll o t left later
