@@ -1,4 +1,5 @@
-pub mod Reading
 pub mod Cutting
 pub mod Giving
+pub mod Reading
 pub mod Spelling
+pub mod Spending

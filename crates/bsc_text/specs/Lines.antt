@@ -1,5 +1,5 @@
 -- The lines of a script.
-use Rattle.std.specs.Prelude.{ℕ, ◌+◌, ◌==◌, nat_eq, nat_lt, Bool, ◌||◌, if◌then◌else◌, List, [], ◌∷◌, length}
+use Rattle.std.specs.Prelude.{ℕ, ◌+◌, ◌==◌, nat_eq, nat_lt, Bool, true, false, ◌||◌, if◌then◌else◌, ◌≡◌, ◌<◌, List, [], ◌∷◌, ◌++◌, length, take}
 use Rattle.std.specs.Cmp.Lexicographic.{pointwise}
 
 -- the code of LF
@@ -32,6 +32,17 @@ is_line_end o = same_octets o (lf ∷ []) || same_octets o (cr ∷ lf ∷ [])
 abbrev pub line_in : List ℕ → List ℕ
 line_in [] = []
 line_in (c ∷ o) = if is_line_end (c ∷ o) then [] else c ∷ line_in o
+
+-- whether no octet is an LF
+abbrev pub has_no_lf : List ℕ → Bool
+has_no_lf [] = true
+has_no_lf (c ∷ o) = if c == lf then false else has_no_lf o
+
+-- The first n octets have no LF, and one comes after them.
+pub record BeginsLine (n : ℕ) (octets : List ℕ) : Type 0 where
+  pub within : n < length octets
+  pub no_lf : has_no_lf (take n octets) ≡ true
+  pub cut : take (n + 1) octets ≡ take n octets ++ lf ∷ []
 
 -- the most octets that a line may have, without its end
 abbrev pub longest_line : ℕ

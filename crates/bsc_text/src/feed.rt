@@ -1,16 +1,18 @@
-//! Lines from a source, one at a time.
+//! Lines of what was read, one at a time.
 //!
-//! A `Feed` reads a source a chunk at a time, and gives its lines: it never holds more than one chunk and
+//! A `Feed` reads a source a chunk at a time, and cuts what it has read into lines: a caller takes lines
+//! until no whole one is left, and only then has the next chunk read. It never holds more than one chunk and
 //! one line. What a line is, and which are too big, stands in `specs/Lines.antt`.
-ghost use Rattle.std.specs.Prelude.{◌≡◌, ◌≢◌, ◌+◌, ◌≤◌, if◌then◌else◌, ℕ, List, [], ◌∷◌, ◌++◌, length, MatchOption, true, false, ◌⊎◌, ◌<◌};
-ghost use Rattle.bsc_text.specs.Lines.{line_in, is_too_big};
+ghost use Rattle.std.specs.Prelude.{◌≡◌, ◌≢◌, ◌+◌, ◌≤◌, if◌then◌else◌, ℕ, List, [], ◌∷◌, ◌++◌, length, take, drop, slice_index, MatchOption, true, false, ◌⊎◌, ◌<◌};
+ghost use Rattle.bsc_text.specs.Lines.{line_in, is_too_big, has_no_lf, BeginsLine};
 
-use bsc_octets::Octets;
+use bsc_octets::{NoMemory, Octets};
 use bsc_outside::{Failed, Source};
 use std::alloc::Global;
+use std::mem;
 
-/// The most octets that one read gives.
-const CHUNK: usize = 4096;
+/// The most octets that one read gives: 64 KiB.
+const CHUNK: usize = 65_536;
 
 /// The most octets that a line may have.
 const LONGEST_LINE: usize = 140_000;
@@ -18,17 +20,25 @@ const LONGEST_LINE: usize = 140_000;
 /// The most octets that a whole script may have: 2^40.
 const LONGEST_SCRIPT: u64 = 1_099_511_627_776;
 
-/// What a feed has read and not given yet: at most one chunk of octets.
+/// What was read and not given yet: the front of a line, and the octets of a chunk from `at` to `end`.
 #[derive(Drop)]
 pub struct Feed {
-    chunk: [u8; CHUNK],
+    /// The front of a line, of which no LF was read yet.
+    carry: Vec<u8>,
+    /// Room for one chunk.
+    chunk: Vec<u8>,
     at: usize,
     end: usize,
     /// How many octets the lines that were given stood in.
     count: u64,
+    /// Whether the last read found the end of the input.
+    ended: bool,
     ghost in_order: { at ≤ end },
-    ghost in_chunk: { end ≤ 4096 },
-    ghost in_script: { count ≤ 1099511627776 },
+    ghost in_chunk: { end ≤ length chunk.items },
+    ghost one_chunk: { length chunk.items ≡ 65536 },
+    ghost one_line: { has_no_lf carry.items ≡ true },
+    ghost short_line: { length carry.items ≤ 140001 },
+    ghost in_script: { count + length carry.items ≤ 1099511627776 },
 }
 
 /// What the next line is.
@@ -36,12 +46,12 @@ pub struct Feed {
 pub enum NextLine {
     /// This line, without its LF and the one CR before it.
     Line(Octets),
-    /// There is none: the input ended before it.
+    /// No whole line is left of what was read, and the next chunk may be read.
+    More,
+    /// There is none: the input ended, and all its lines were given.
     End,
     /// It is too long, or it goes past the longest script.
     Refused,
-    /// A read failed.
-    Failed,
     /// Memory ran out.
     NoMemory,
 }
@@ -85,83 +95,98 @@ fn cannot_fit(before: u64, len: usize) -> bool
     len > LONGEST_LINE + 1 || LONGEST_SCRIPT - before < len as u64
 }
 
-impl Feed {
-    ghost use Rattle.std.specs.Prelude.{◌≡◌, ◌≤◌, ◌+◌, true, false, ℕ, List, [], ◌∷◌, Option, Some, OnOk, IfOk, IsErr, length};
-    ghost use Rattle.std.specs.Io.KnownBytes.{Keeps, Consumes, IsAtEnd};
-    ghost use Rattle.bsc_outside.specs.Faults.{Rose};
-    ghost use Rattle.bsc_text.specs.Feeding.{unread, rest_of, GivesOctet, Feeds};
+/// How many octets stand in front of the first LF.
+fn lf_at(octets: &[u8]) -> usize
+    ensures within { result ≤ length octets.now }
+    ensures before { (k : ℕ) → k < result → slice_index octets.now k ≢ 10 }
+    ensures found { result < length octets.now → slice_index octets.now result ≡ 10 }
+{
+    octets
+        .iter()
+        .position(|c| *c == b'\n')
+        .unwrap_or(octets.len())
+}
 
-    /// A feed that has read nothing yet.
-    pub fn new() -> Feed
-        ensures unread { unread result ≡ [] }
-        ensures rest { (left : Option (List ℕ)) → rest_of result left ≡ left }
-        ensures count { result.count ≡ 0 }
+/// How many octets stand in front of the first LF, where there is one.
+fn first_lf(octets: &[u8]) -> Option<usize>
+    ensures { MatchOption result
+        (has_no_lf octets.now ≡ true)
+        (λ n. BeginsLine n octets.now) }
+{
+    let n = lf_at(octets);
+    if n < octets.len() { Some(n) } else { None }
+}
+
+/// The octets of a chunk from one place to another.
+fn between(chunk: &[u8], at: usize, end: usize) -> &[u8]
+    requires order { at ≤ end }
+    requires within { end ≤ length chunk.now }
+    ensures { result.now ≡ drop at (take end chunk.now) }
+{
+    &chunk[at..end]
+}
+
+impl Feed {
+    ghost use Rattle.std.specs.Prelude.{◌≡◌, ◌≤◌, ◌<◌, ◌+◌, true, false, ℕ, List, [], ◌∷◌, ◌++◌, Option, Some, Ok, OnOk, OnErr, IfOk, IsErr, length, take, drop};
+    ghost use Rattle.std.specs.Io.KnownBytes.{Keeps, IsAtEnd};
+    ghost use Rattle.bsc_outside.specs.Faults.{Rose};
+    ghost use Rattle.bsc_text.specs.Feeding.{unread, rest_of, IsUsedUp, Gives, Feeds, Fills, fuel};
+
+    /// A feed that has read nothing yet. It takes room for one chunk.
+    pub fn make(alloc: Global) -> Result<Feed, NoMemory>
+        ensures unread { IfOk result (λ feed. unread feed ≡ []) }
+        ensures rest { IfOk result (λ feed. (left : Option (List ℕ)) → rest_of feed left ≡ left) }
+        ensures count { IfOk result (λ feed. feed.count ≡ 0) }
+        ensures used_up { IfOk result IsUsedUp }
     {
-        Feed {
-            chunk: [0; CHUNK],
+        Ok(Feed {
+            carry: Vec::new(alloc),
+            chunk: vec![in alloc; 0; CHUNK]?,
             at: 0,
             end: 0,
             count: 0,
-        }
+            ended: false,
+        })
     }
 
-    /// Reads the next chunk, where all of the last one was given; an empty one is the end of the input.
-    fn refill<S: Source>(&mut self, source: &mut S) -> Result<(), Failed>
-        requires { self.old.at ≡ self.old.end }
-        ensures later { S.faults source.old ≤ S.faults source.new }
+    /// Reads the next chunk, of up to 64 KiB; an empty one is the end of the input.
+    pub fn fill<S: Source>(&mut self, source: &mut S) -> Result<(), Failed>
+        requires { IsUsedUp self.old }
+        ensures filled { OnOk result (Fills self.old self.new) }
+        ensures kept { Keeps (rest_of self.old (S.left source.old)) (rest_of self.new (S.left source.new)) }
+        ensures ended { self.new.ended ≡ true → IsAtEnd (S.left source.new) }
+
+        // A fault leaves what was read as it was, and the chunk may be read once more.
         ensures failed { IsErr result → Rose (S.faults source.old) (S.faults source.new) }
-        ensures kept { OnOk result
-            (Keeps (rest_of self.old (S.left source.old)) (rest_of self.new (S.left source.new))) }
-        ensures ended { OnOk result (self.new.at ≡ self.new.end → IsAtEnd (S.left source.new)) }
-        ensures count { self.new.count ≡ self.old.count }
+        ensures later { S.faults source.old ≤ S.faults source.new }
+        ensures unread { OnErr result (unread self.new ≡ unread self.old) }
+        ensures count { OnErr result (self.new.count ≡ self.old.count) }
+        ensures used_up { OnErr result (IsUsedUp self.new) }
     {
-        self.end = 0;
         self.at = 0;
-        self.end = source.read(&mut self.chunk)?;
+        self.end = 0;
+        self.end = source.read(self.chunk.as_mut_slice())?;
+        self.ended = self.end == 0;
         Ok(())
     }
 
-    /// The first octet that was read and not given.
-    fn take_octet(&mut self) -> u8
-        requires { self.old.at < self.old.end }
-        ensures taken { unread self.old ≡ result ∷ unread self.new }
-        ensures count { self.new.count ≡ self.old.count }
+    /// The octets of the last chunk that were not given yet.
+    fn rest(&self) -> &[u8]
+        ensures { result.now ≡ drop self.now.at (take self.now.end self.now.chunk.items) }
     {
-        let octet = self.chunk[self.at];
-        self.at += 1;
-        octet
-    }
-
-    /// The next octet, or none where the input ended.
-    fn next_octet<S: Source>(&mut self, source: &mut S) -> Result<Option<u8>, Failed>
-        ensures later { S.faults source.old ≤ S.faults source.new }
-        ensures failed { IsErr result → Rose (S.faults source.old) (S.faults source.new) }
-        ensures given { IfOk result (λ next. GivesOctet (rest_of self.old (S.left source.old))
-            (rest_of self.new (S.left source.new)) (S.left source.new) next) }
-        ensures count { self.new.count ≡ self.old.count }
-    {
-        if self.at < self.end {
-            return Ok(Some(self.take_octet()));
-        }
-        self.refill(source)?;
-        if self.at == self.end {
-            return Ok(None);
-        }
-        Ok(Some(self.take_octet()))
+        between(self.chunk.as_slice(), self.at, self.end)
     }
 
     /// The line of a whole piece, which is next.
     #[tactic(auto, using(crate::proofs::Reading::take_line_in))]
     fn give(&mut self, mut piece: Vec<u8>) -> NextLine
-        ensures fits { is_too_big self.old.count piece.items ≡ false →
-            result ≡ NextLine.Line (line_in piece.items) }
-        ensures counted { is_too_big self.old.count piece.items ≡ false →
-            self.new.count ≡ self.old.count + length piece.items }
-        ensures unread { unread self.new ≡ unread self.old }
-        ensures big { is_too_big self.old.count piece.items ≡ true → result ≡ NextLine.Refused }
-        ensures short { (l : List ℕ) → result ≡ NextLine.Line l → length l ≤ 140000 }
-        ensures on { (l : List ℕ) → result ≡ NextLine.Line l →
-            self.new.count ≡ self.old.count + length piece.items }
+        requires { self.old.carry.items ≡ [] }
+        ensures given { (l : List ℕ) → result ≡ NextLine.Line l →
+            Gives self.old.count (unread self.old) self.new piece.items l }
+        ensures big { result ≡ NextLine.Refused → is_too_big self.old.count piece.items ≡ true }
+        ensures ended { self.new.ended ≡ self.old.ended }
+        ensures more { result ≢ NextLine.More }
+        ensures end { result ≢ NextLine.End }
     {
         if is_too_big(self.count, piece.as_slice()) {
             return NextLine::Refused;
@@ -171,41 +196,66 @@ impl Feed {
         NextLine::Line(Octets::from_vec(piece))
     }
 
-    /// The next line, without its LF and the one CR before it.
+    /// The next line, which ends with the LF after the first `n` octets of the rest.
+    fn next_whole(&mut self, alloc: Global, n: usize) -> NextLine
+        requires { BeginsLine n (drop self.old.at (take self.old.end self.old.chunk.items)) }
+        ensures fed { Feeds self.old self.new result }
+        ensures ended { self.new.ended ≡ self.old.ended }
+        ensures more { result ≢ NextLine.More }
+    {
+        if cannot_fit(self.count, self.carry.len() + n) {
+            return NextLine::Refused;
+        }
+        let mut piece = mem::replace(&mut self.carry, Vec::new(alloc));
+        let (front, _) = self.rest().split_at(n + 1);
+        if piece.extend_from_slice(front).is_err() {
+            return NextLine::NoMemory;
+        }
+        self.at += n + 1;
+        self.give(piece)
+    }
+
+    /// Keeps the rest, in which there is no LF; at the end of the input it is the last line.
+    fn keep_rest(&mut self, alloc: Global) -> NextLine
+        requires { has_no_lf (drop self.old.at (take self.old.end self.old.chunk.items)) ≡ true }
+        ensures fed { Feeds self.old self.new result }
+        ensures ended { self.new.ended ≡ self.old.ended }
+    {
+        if cannot_fit(self.count, self.carry.len() + self.rest().len()) {
+            return NextLine::Refused;
+        }
+        let rest = between(self.chunk.as_slice(), self.at, self.end);
+        if self.carry.extend_from_slice(rest).is_err() {
+            return NextLine::NoMemory;
+        }
+        self.at = self.end;
+        if !self.ended {
+            return NextLine::More;
+        }
+        if self.carry.is_empty() {
+            return NextLine::End;
+        }
+        let piece = mem::replace(&mut self.carry, Vec::new(alloc));
+        self.give(piece)
+    }
+
+    /// The next line of what was read, without its LF and the one CR before it. A last line may have no LF,
+    /// and is given once the end of the input was found.
     ///
-    /// After a line that is refused, a fault or a lack of memory the feed has lost its place.
-    pub fn next_line<S: Source>(&mut self, alloc: Global, source: &mut S) -> NextLine
-        ensures fed { (o : List ℕ) → rest_of self.old (S.left source.old) ≡ Some o →
-            Feeds o self.old self.new (S.left source.new) result }
-        ensures failed { result ≡ NextLine.Failed → Rose (S.faults source.old) (S.faults source.new) }
-        ensures later { S.faults source.old ≤ S.faults source.new }
+    /// After a line that is refused or a lack of memory the feed has lost its place.
+    pub fn next_line(&mut self, alloc: Global) -> NextLine
+        ensures fed { Feeds self.old self.new result }
+        ensures ended { self.new.ended ≡ self.old.ended }
 
         // What source it may be, a line is short, and moves the count on, which stays at most 2^40.
         ensures short { (l : List ℕ) → result ≡ NextLine.Line l → length l ≤ 140000 }
         ensures on { (l : List ℕ) → result ≡ NextLine.Line l → self.old.count < self.new.count }
+        ensures less { (l : List ℕ) → result ≡ NextLine.Line l → fuel self.new < fuel self.old }
+        ensures no_less { result ≡ NextLine.More → fuel self.new ≡ fuel self.old }
     {
-        let mut piece = Vec::new(alloc);
-        loop {
-            match self.next_octet(source) {
-                Err(_) => return NextLine::Failed,
-                Ok(None) => {
-                    if piece.is_empty() {
-                        return NextLine::End;
-                    }
-                    return self.give(piece);
-                }
-                Ok(Some(octet)) => {
-                    if piece.push(octet).is_err() {
-                        return NextLine::NoMemory;
-                    }
-                    if octet == b'\n' {
-                        return self.give(piece);
-                    }
-                    if cannot_fit(self.count, piece.len()) {
-                        return NextLine::Refused;
-                    }
-                }
-            }
+        match first_lf(self.rest()) {
+            Some(n) => self.next_whole(alloc, n),
+            None => self.keep_rest(alloc),
         }
     }
 }

@@ -6,20 +6,34 @@ use std::io;
 use std::process::Abort;
 use std::test::*;
 
+/// The next line of a source; none where a read failed.
+fn next_of<S: Source>(alloc: Global, feed: &mut Feed, source: &mut S) -> Option<NextLine> {
+    loop {
+        match feed.next_line(alloc) {
+            NextLine::More => {
+                if feed.fill(source).is_err() {
+                    return None;
+                }
+            }
+            line => return Some(line),
+        }
+    }
+}
+
 /// Whether the next line is this one.
 fn is_next<S: Source>(alloc: Global, feed: &mut Feed, source: &mut S, line: &[u8]) -> bool {
-    match feed.next_line(alloc, source) {
-        NextLine::Line(next) => next.as_slice() == line,
+    match next_of(alloc, feed, source) {
+        Some(NextLine::Line(next)) => next.as_slice() == line,
         _ => false,
     }
 }
 
 #[test]
-fn cuts_lines(rt: HostRuntime) {
+fn cuts_lines(rt: HostRuntime) -> Result<(), Fail> {
     let text = b"open A\r\n# c\n\r\n\r\r\nin A 0\r";
     for most in [1, 3, 100] {
         let mut source = SureSource::in_pieces(text, most);
-        let mut feed = Feed::new();
+        let mut feed = Feed::make(rt.alloc())?;
         for line in [
             b"open A".as_slice(),
             b"# c".as_slice(),
@@ -32,26 +46,42 @@ fn cuts_lines(rt: HostRuntime) {
                 "in {most}"
             );
         }
-        assert!(rt; matches!(feed.next_line(rt.alloc(), &mut source), NextLine::End));
-        assert!(rt; matches!(feed.next_line(rt.alloc(), &mut source), NextLine::End));
+        assert!(rt; matches!(next_of(rt.alloc(), &mut feed, &mut source), Some(NextLine::End)));
+        assert!(rt; matches!(feed.next_line(rt.alloc()), NextLine::End));
     }
+    Ok(())
+}
+
+#[test]
+fn gives_all_whole_lines_before_it_reads(rt: HostRuntime) -> Result<(), Fail> {
+    let mut source = SureSource::in_pieces(b"a\nb\nc\n", 5);
+    let mut feed = Feed::make(rt.alloc())?;
+    assert!(rt; matches!(feed.next_line(rt.alloc()), NextLine::More));
+    feed.fill(&mut source)?;
+    for line in [b"a", b"b"] {
+        match feed.next_line(rt.alloc()) {
+            NextLine::Line(next) => assert!(rt; next.as_slice() == line.as_slice()),
+            _ => assert!(rt; false, "a line"),
+        }
+    }
+    assert!(rt; matches!(feed.next_line(rt.alloc()), NextLine::More));
+    assert!(rt; is_next(rt.alloc(), &mut feed, &mut source, b"c"));
+    Ok(())
 }
 
 #[test]
 fn refuses_long_lines(rt: HostRuntime) -> Result<(), Fail> {
     let mut line = vec![in rt.alloc(); b'a'; 140_000]?;
     let mut text = line.clone()?;
-    text.extend_from_slice(b"\r\n")?;
+    text.extend_from_slice(b"\r\nb")?;
     let mut source = SureSource::new(text.as_slice());
-    assert!(rt; is_next(rt.alloc(), &mut Feed::new(), &mut source, line.as_slice()));
+    let mut feed = Feed::make(rt.alloc())?;
+    assert!(rt; is_next(rt.alloc(), &mut feed, &mut source, line.as_slice()));
+    assert!(rt; is_next(rt.alloc(), &mut feed, &mut source, b"b"));
     line.push(b'a')?;
     let mut source = SureSource::new(line.as_slice());
-    assert!(rt;
-        matches!(
-            Feed::new().next_line(rt.alloc(), &mut source),
-            NextLine::Refused
-        )
-    );
+    let mut feed = Feed::make(rt.alloc())?;
+    assert!(rt; matches!(next_of(rt.alloc(), &mut feed, &mut source), Some(NextLine::Refused)));
     Ok(())
 }
 
@@ -76,14 +106,15 @@ impl io::Read for Faulty {
 }
 
 #[test]
-fn tells_a_fault(rt: HostRuntime) {
+fn tells_a_fault(rt: HostRuntime) -> Result<(), Fail> {
     let mut source = ReaderSource::new(Faulty {
         reads: 0,
         failing: 3,
     });
-    let mut feed = Feed::new();
+    let mut feed = Feed::make(rt.alloc())?;
     assert!(rt; is_next(rt.alloc(), &mut feed, &mut source, b"open A"));
     assert!(rt; is_next(rt.alloc(), &mut feed, &mut source, b"open A"));
-    assert!(rt; matches!(feed.next_line(rt.alloc(), &mut source), NextLine::Failed));
+    assert!(rt; next_of(rt.alloc(), &mut feed, &mut source).is_none());
     assert!(rt; is_next(rt.alloc(), &mut feed, &mut source, b"open A"));
+    Ok(())
 }
