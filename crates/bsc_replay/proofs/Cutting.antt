@@ -2,8 +2,7 @@
 use Rattle.std.proofs.Common.{◌≡◌, ◌≢◌, ℕ, Bool, true, false, ◌==◌, ◌⊎◌, inl, inr, ⊎_elim, List, [], ◌∷◌, ◌++◌, length, refl, ap, sym, ◌∙◌, arith}
 use Rattle.std.specs.List.{concat}
 use Rattle.std.proofs.lemmas.Bool.Decides.{nat_tests}
-use Rattle.bsc_text.specs.Lines.{pieces_of, in_front}
-use Rattle.bsc_text.proofs.Cutting.{has_no_lf}
+use Rattle.bsc_text.specs.Lines.{pieces_of, in_front, has_no_lf}
 use Rattle.bsc_replay.specs.Replaying.{whole_lines}
 
 -- with no LF there is no whole line

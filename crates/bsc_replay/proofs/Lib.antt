@@ -1,7 +1,8 @@
 pub mod OnLiterals
 pub mod Cutting
-pub mod Looping
 pub mod Playing
 pub mod Reached
 pub mod Stopping
+pub mod Feeding
+pub mod Looping
 mod WorkedScripts

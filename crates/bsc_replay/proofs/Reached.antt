@@ -3,8 +3,7 @@ use Rattle.std.proofs.Common.{◌≡◌, ℕ, ◌+◌, Bool, true, false, ◌⊎
 use Rattle.std.specs.Option.{option_map}
 use Rattle.std.specs.Io.KnownBytes.{Appends, Keeps, IsAtEnd}
 use Rattle.bsc_stage.specs.declared.stage.Stage.{Stage}
-use Rattle.bsc_text.specs.Lines.{pieces_of}
-use Rattle.bsc_text.proofs.Cutting.{has_no_lf}
+use Rattle.bsc_text.specs.Lines.{pieces_of, has_no_lf}
 use Rattle.bsc_stage.specs.Scenes.{Scene}
 use Rattle.bsc_replay.specs.Playing.{Stood, piece_after}
 use Rattle.bsc_replay.specs.Replaying.{whole_lines}
@@ -76,7 +75,7 @@ given_last given piece unread rest pieces ended g one none_unread none_left at_e
   at_end = at_end;
 }
 
-nothing_in_front : (a b : List ℕ) → a ++ b ≡ [] → (a ≡ []) × (b ≡ [])
+pub nothing_in_front : (a b : List ℕ) → a ++ b ≡ [] → (a ≡ []) × (b ≡ [])
 nothing_in_front [] b h = (refl, h)
 nothing_in_front (c ∷ a) b h = absurd cc
 
@@ -108,14 +107,14 @@ cut_more given pieces unread unread' rest piece ended g first lf = ⊎_elim
   (first_piece (unread ++ rest) piece (pieces_of (unread' ++ rest)) first)
 
 -- a line was given, and carried out
-pub plays_line : (o t : List ℕ) (left held : Option (List ℕ)) (unread unread' : List ℕ) (ended : Bool) (count number : ℕ) (stage stage' : Option Stage) (collected collected' piece : List ℕ) (st : Stood) (r : Reached o t left held unread ended count number stage collected)
+next_line : (o t : List ℕ) (left held : Option (List ℕ)) (unread unread' : List ℕ) (ended : Bool) (count number : ℕ) (stage stage' : Option Stage) (collected collected' piece : List ℕ) (st : Stood) (r : Reached o t left held unread ended count number stage collected)
     → pieces_of (unread ++ r.rest) ≡ piece ∷ pieces_of (unread' ++ r.rest)
     → (has_no_lf piece ≡ true → ended ≡ true)
     → piece_after r.scene count piece ≡ Some st
     → HoldsIf stage' st.scene
     → collected' ≡ collected ++ st.text
     → Reached o t left held unread' ended (count + length piece) (number + 1) stage' collected'
-plays_line o t left held unread unread' ended count number stage stage' collected collected' piece st r first lf after holds grown =
+next_line o t left held unread unread' ended count number stage stage' collected collected' piece st r first lf after holds grown =
     let parted = first_and_rest (unread ++ r.rest) piece (unread' ++ r.rest) first in
     record {
       given = r.given ++ piece;
@@ -133,6 +132,18 @@ plays_line o t left held unread unread' ended count number stage stage' collecte
       wrote = r.wrote;
       parts = ap (λ (x : List ℕ). x ++ st.text) r.parts ∙ append_assoc r.written collected st.text ∙ ap (λ (x : List ℕ). r.written ++ x) (sym grown);
     }
+
+pub plays_line : (o t : List ℕ) (left held : Option (List ℕ)) (unread unread' : List ℕ) (ended ended' : Bool) (count count' number : ℕ) (stage stage' : Option Stage) (collected collected' piece : List ℕ) (st : Stood) (r : Reached o t left held unread ended count number stage collected)
+    → pieces_of (unread ++ r.rest) ≡ piece ∷ pieces_of (unread' ++ r.rest)
+    → (has_no_lf piece ≡ true → ended ≡ true)
+    → piece_after r.scene count piece ≡ Some st
+    → HoldsIf stage' st.scene
+    → collected' ≡ collected ++ st.text
+    → ended' ≡ ended
+    → count' ≡ count + length piece
+    → Reached o t left held unread' ended' count' (number + 1) stage' collected'
+plays_line o t left held unread unread' ended ended' count count' number stage stage' collected collected' piece st r first lf after holds grown same counted =
+    rw (same, counted) (next_line o t left held unread unread' ended count number stage stage' collected collected' piece st r first lf after holds grown)
 
 pub appended : (before after : Option (List ℕ)) (x part : List ℕ) → before ≡ Some x → Appends before after part → after ≡ Some (x ++ part)
 appended None after x part same h = absurd cc

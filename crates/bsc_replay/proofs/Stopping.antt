@@ -6,8 +6,7 @@ use Rattle.std.specs.List.{concat}
 use Rattle.std.specs.Io.KnownBytes.{Appends}
 use Rattle.bsc_stage.specs.declared.stage.Stage.{Stage}
 use Rattle.bsc_outside.specs.Faults.{PutsPrefix}
-use Rattle.bsc_text.specs.Lines.{pieces_of}
-use Rattle.bsc_text.proofs.Cutting.{has_no_lf}
+use Rattle.bsc_text.specs.Lines.{pieces_of, has_no_lf}
 use Rattle.bsc_stage.specs.Scenes.{Scene}
 use Rattle.bsc_replay.specs.Playing.{Played, piece_after, ended_at, play, replay_of}
 use Rattle.bsc_replay.specs.Replaying.{Taken, whole_lines, lines_read, AcceptsLines, WritesAll, WritesTo, WritesWhole, WritesSome, Replays}

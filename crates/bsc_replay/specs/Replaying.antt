@@ -3,8 +3,7 @@ use Rattle.std.specs.Prelude.{◌≡◌, ◌⊎◌, ℕ, ◌+◌, if◌then◌el
 use Rattle.bsc_replay.specs.declared.replaying.ReplayEnd.{ReplayEnd}
 use Rattle.bsc_replay.specs.declared.replaying.ReplayEnd.TheVariants.{Done, BadLine, ReadFault, WriteFault, NoMemory}
 use Rattle.bsc_outside.specs.Faults.{PutsPrefix}
-use Rattle.bsc_text.specs.Lines.{pieces_of}
-use Rattle.bsc_text.proofs.Cutting.{has_no_lf}
+use Rattle.bsc_text.specs.Lines.{pieces_of, has_no_lf}
 use Rattle.bsc_replay.specs.Playing.{replay_of}
 
 -- Of the octets o that a source had left, these were read, and the rest is left.

@@ -51,11 +51,7 @@ fn step(
         None => match line {
             Line::Nothing => Ok(None),
             Line::Hub(about) => Ok(Some(Stage::open(alloc, about)?)),
-            Line::Open { name: _ } => Err(LineFault::Refused),
-            Line::In {
-                name: _,
-                message: _,
-            } => Err(LineFault::Refused),
+            _other => Err(LineFault::Refused),
         },
         Some(mut stage) => match stage.turn(alloc, line, text) {
             Ok(()) => Ok(Some(stage)),
@@ -178,15 +174,15 @@ pub fn replay<S: Source, K: Sink>(alloc: Global, source: &mut S, sink: &mut K) -
                     }
                 };
                 number += 1;
-                if relieve(sink, &mut text).is_err() {
+                if let Err(Failed) = relieve(sink, &mut text) {
                     return ReplayEnd::WriteFault;
                 }
             }
             NextLine::More => {
-                if hand_over(sink, &mut text).is_err() {
+                if let Err(Failed) = hand_over(sink, &mut text) {
                     return ReplayEnd::WriteFault;
                 }
-                if feed.fill(source).is_err() {
+                if let Err(Failed) = feed.fill(source) {
                     return ReplayEnd::ReadFault;
                 }
             }
