@@ -1,7 +1,7 @@
 // An ordinary program for scripts of the form that bench/long-script writes: what bsc replay writes for them, with
 // hash maps and deques, and with no proof. It is there to be measured beside bsc, and for nothing else: it reads the
 // lines `hub`, `open` and `in`, and carries out a Connect-Request and a unicast, each with its refusals. At any other
-// line it stops with status 2.
+// line, and at a device that is not 32 digits, it stops with status 2.
 #include <cstdint>
 #include <cstdio>
 #include <deque>

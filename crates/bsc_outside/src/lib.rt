@@ -5,6 +5,9 @@
 //! one.
 #![tactic(auto)]
 
+mod calls;
+mod mem_sink;
+mod mem_source;
 mod reader_source;
 mod stream;
 mod sure_sink;
@@ -13,6 +16,8 @@ mod sure_source;
 mod tests;
 mod writer_sink;
 
+pub use mem_sink::MemSink;
+pub use mem_source::MemSource;
 pub use reader_source::ReaderSource;
 pub use stream::{Failed, Sink, Source};
 pub use sure_sink::SureSink;

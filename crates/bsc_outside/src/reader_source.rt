@@ -1,8 +1,8 @@
 //! Sources over readers.
-ghost use Rattle.std.specs.Prelude.{◌≡◌};
+ghost use Rattle.std.specs.Prelude.{◌≡◌, Ok, Err, IsErr, IfOk};
 
 use crate::stream::{Failed, Source};
-use std::io::Read;
+use std::io::{self, Read};
 
 /// A source over any reader. It tells what is left where the reader does.
 #[derive(Drop)]
@@ -21,18 +21,24 @@ impl<R: Read> ReaderSource<R> {
     }
 }
 
+/// What a reader's own answer comes to: a fault exactly where its call failed.
+fn told(answer: io::Result<usize>) -> Result<usize, Failed>
+    ensures ok { IfOk answer (λ n. result ≡ Ok n) }
+    ensures err { IsErr answer → IsErr result }
+{
+    answer.map_err(|_| Failed)
+}
+
 impl<R: Read> Source for ReaderSource<R> {
     ghost faults = { λ s. s.faults };
 
     ghost left = { λ s. R.remaining s.reader };
 
     fn read(&mut self, into: &mut [u8]) -> Result<usize, Failed> {
-        match self.reader.read(into) {
-            Ok(n) => Ok(n),
-            Err(_) => {
-                self.faults = self.faults.saturating_add(1);
-                Err(Failed)
-            }
+        let answer = told(self.reader.read(into));
+        if answer.is_err() {
+            self.faults = self.faults.saturating_add(1);
         }
+        answer
     }
 }

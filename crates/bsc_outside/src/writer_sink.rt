@@ -1,10 +1,10 @@
 //! Sinks over writers.
-ghost use Rattle.std.specs.Prelude.{◌≡◌, true};
+ghost use Rattle.std.specs.Prelude.{◌≡◌, ◌<◌, ◌⊎◌, true, None, Ok, IsErr, IfSome};
 ghost use Rattle.std.specs.Io.KnownBytes.{Appends};
 ghost use Rattle.bsc_outside.specs.Faults.{PutsPrefix};
 
 use crate::stream::{Failed, Sink};
-use std::io::Write;
+use std::io::{self, Write};
 
 /// A sink over any writer. It tells what it holds where the writer does.
 #[derive(Drop)]
@@ -23,6 +23,18 @@ impl<W: Write> WriterSink<W> {
     }
 }
 
+/// How many octets a writer's own answer says that it took; none where its call failed, or took nothing.
+fn taken(answer: io::Result<usize>) -> Option<usize>
+    ensures some { IfSome result (λ n. (answer ≡ Ok n) × (0 < n)) }
+    ensures none { result ≡ None → IsErr answer ⊎ (answer ≡ Ok 0) }
+{
+    match answer {
+        Ok(0) => None,
+        Ok(n) => Some(n),
+        Err(_) => None,
+    }
+}
+
 /// Whether all of `from` was written. A writer that takes nothing of octets that are there is at fault.
 fn put_all<W: Write>(writer: &mut W, from: &[u8]) -> bool
     ensures all { result ≡ true → Appends (W.contents writer.old) (W.contents writer.new) from.now }
@@ -31,10 +43,9 @@ fn put_all<W: Write>(writer: &mut W, from: &[u8]) -> bool
     let mut at = 0;
     while at < from.len() {
         let (_, rest) = from.split_at(at);
-        match writer.write(rest) {
-            Ok(0) => return false,
-            Ok(n) => at += n,
-            Err(_) => return false,
+        match taken(writer.write(rest)) {
+            None => return false,
+            Some(n) => at += n,
         }
     }
     true

@@ -3,3 +3,4 @@ pub mod Giving
 pub mod Reading
 pub mod Spelling
 pub mod Spending
+pub mod WorkedText

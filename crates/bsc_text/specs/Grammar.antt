@@ -7,6 +7,7 @@ use Rattle.hex.specs.Hex.{decode_of, decode_sized}
 use Rattle.uuid.specs.Text.{parsed}
 use Rattle.bsc_octets.specs.declared.vmac.Vmac.{Vmac}
 use Rattle.bsc_octets.specs.declared.device_id.DeviceId.{DeviceId}
+use Rattle.bsc_octets.specs.declared.identity.Identity.{Identity}
 use Rattle.bsc_text.specs.Lines.{same_octets}
 
 -- whether an octet is a decimal digit
@@ -64,6 +65,18 @@ maximum_of_word w = number_in (decoded (decode_sized w 2))
 -- A device UUID, in any form that a UUID is written in.
 abbrev pub device_of_word : List ℕ → Option DeviceId
 device_of_word w = device_in (parsed w)
+
+-- an identity of these, where each is what it should be
+abbrev pub identity_in : Option Vmac → Option DeviceId → Option ℕ → Option ℕ → Option Identity
+identity_in (Some v) (Some u) (Some max_bvlc) (Some max_npdu) =
+    Some (record { vmac = v; device = u; max_bvlc = max_bvlc; max_npdu = max_npdu })
+identity_in v u max_bvlc max_npdu = None
+
+-- An identity: a VMAC, a device UUID, a maximum BVLC length and a maximum NPDU length, in four words.
+abbrev pub identity_of_words : List (List ℕ) → Option Identity
+identity_of_words (v ∷ u ∷ max_bvlc ∷ max_npdu ∷ []) =
+    identity_in (vmac_of_word v) (device_of_word u) (maximum_of_word max_bvlc) (maximum_of_word max_npdu)
+identity_of_words ws = None
 
 -- Octets: hexadecimal digits in either case over any number of words, an even number of them together.
 abbrev pub octets_of_words : List (List ℕ) → Option (List ℕ)

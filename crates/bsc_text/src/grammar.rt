@@ -1,9 +1,11 @@
 //! Numbers, addresses, devices and names as words.
 ghost use Rattle.std.specs.Prelude.{◌≡◌, ◌<◌, ◌==◌, ◌||◌};
-ghost use Rattle.bsc_text.specs.Grammar.{number_of, vmac_of_word, maximum_of_word, device_of_word, is_name, has_leading_zero, is_letter, is_digit};
+ghost use Rattle.bsc_text.specs.Grammar.{number_of, vmac_of_word, maximum_of_word, device_of_word, identity_in, identity_of_words, is_name, has_leading_zero, is_letter, is_digit};
+ghost use Rattle.bsc_text.specs.Words.{words_of};
 ghost use Rattle.std.specs.List.{list_all};
 
-use bsc_octets::{DeviceId, Vmac};
+use crate::words::next_word;
+use bsc_octets::{DeviceId, Identity, Vmac};
 use byteorder::{BigEndian, ByteOrder};
 use uuid::Uuid;
 
@@ -70,6 +72,33 @@ pub fn read_device(word: &[u8]) -> Option<DeviceId>
     match Uuid::try_parse_ascii(word) {
         Ok(uuid) => Some(DeviceId(uuid)),
         Err(_) => None,
+    }
+}
+
+/// The identity that four words are: a VMAC, a device, a maximum BVLC length, a maximum NPDU length.
+fn identity_in(vmac: &[u8], device: &[u8], max_bvlc: &[u8], max_npdu: &[u8]) -> Option<Identity>
+    ensures { result ≡ identity_in (vmac_of_word vmac.now) (device_of_word device.now)
+        (maximum_of_word max_bvlc.now) (maximum_of_word max_npdu.now) }
+{
+    Some(Identity {
+        vmac: read_vmac(vmac)?,
+        device: read_device(device)?,
+        max_bvlc: read_maximum(max_bvlc)?,
+        max_npdu: read_maximum(max_npdu)?,
+    })
+}
+
+/// The identity that the words of a line are: exactly four, as `identity_of_words` says.
+pub fn read_identity_words(words: &[u8]) -> Option<Identity>
+    ensures { result ≡ identity_of_words (words_of words.now) }
+{
+    let (vmac, words) = next_word(words)?;
+    let (device, words) = next_word(words)?;
+    let (max_bvlc, words) = next_word(words)?;
+    let (max_npdu, words) = next_word(words)?;
+    match next_word(words) {
+        None => identity_in(vmac, device, max_bvlc, max_npdu),
+        Some(_) => None,
     }
 }
 

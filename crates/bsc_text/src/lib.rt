@@ -10,9 +10,13 @@ mod grammar;
 mod octets;
 #[cfg(test)]
 mod tests;
+mod text;
 mod words;
 
 pub use feed::{Feed, NextLine};
-pub use grammar::{is_name, read_device, read_maximum, read_number, read_vmac};
+pub use grammar::{
+    is_name, read_device, read_identity_words, read_maximum, read_number, read_vmac,
+};
 pub use octets::{OctetsFault, copy_of, read_octets};
+pub use text::Text;
 pub use words::{joined, next_word};

@@ -1,5 +1,9 @@
-//! Where a text is cut into lines, and one fault in mid-stream.
+//! Where a text is cut into lines, one fault in mid-stream, and each reader of words once.
 use crate::feed::{Feed, NextLine};
+use crate::{
+    Text, is_name, read_device, read_identity_words, read_maximum, read_number, read_octets,
+    read_vmac,
+};
 use bsc_outside::{ReaderSource, Source, SureSource};
 use std::alloc::Global;
 use std::io;
@@ -116,5 +120,33 @@ fn tells_a_fault(rt: HostRuntime) -> Result<(), Fail> {
     assert!(rt; is_next(rt.alloc(), &mut feed, &mut source, b"open A"));
     assert!(rt; next_of(rt.alloc(), &mut feed, &mut source).is_none());
     assert!(rt; is_next(rt.alloc(), &mut feed, &mut source, b"open A"));
+    Ok(())
+}
+
+#[test]
+fn reads_words(rt: HostRuntime) -> Result<(), Fail> {
+    assert_eq!(rt; read_number(b"9999999999999999999"), Some(9_999_999_999_999_999_999));
+    assert!(rt; read_vmac(b"0200000000fF").is_some() && read_vmac(b"0200000000F").is_none());
+    assert_eq!(rt; read_maximum(b"05d9"), Some(1497));
+    for device in [
+        b"aaaaaaaaaaaaaaaaAAAAAAAAAAAAAAAA".as_slice(),
+        b"aaaaaaaa-aaaa-aaaa-aaaa-aaaaaaaaaaaa".as_slice(),
+        b"{aaaaaaaa-aaaa-aaaa-aaaa-aaaaaaaaaaaa}".as_slice(),
+        b"urn:uuid:aaaaaaaa-aaaa-aaaa-aaaa-aaaaaaaaaaaa".as_slice(),
+    ] {
+        match read_device(device) {
+            Some(id) => assert!(rt; *id.0.as_bytes() == [0xAA; 16]),
+            None => assert!(rt; false, "a device"),
+        }
+    }
+    let words = b" 02000000000A  AAAAAAAAAAAAAAAAAAAAAAAAAAAAAAAA 0640 05D9 ";
+    match read_identity_words(words) {
+        Some(who) => assert!(rt; who.vmac.0 == [2, 0, 0, 0, 0, 10] && who.max_bvlc == 1600),
+        None => assert!(rt; false, "an identity"),
+    }
+    assert!(rt; read_identity_words(&words[15..]).is_none());
+    assert!(rt; read_octets(rt.alloc(), b"0 1aF")?.as_slice() == [1, 0xAF].as_slice());
+    assert!(rt; is_name(b"Node_7") && !is_name(b"hub"));
+    assert!(rt; Text::from_string(String::from_str(rt.alloc(), "hub")?).as_str() == "hub");
     Ok(())
 }
