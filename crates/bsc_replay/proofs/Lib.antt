@@ -5,4 +5,5 @@ pub mod Reached
 pub mod Stopping
 pub mod Feeding
 pub mod Looping
+mod WorkedReads
 mod WorkedScripts
