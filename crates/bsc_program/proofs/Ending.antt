@@ -1,23 +1,160 @@
 -- How a run ends whose script was replayed.
-use Rattle.std.proofs.Common.{◌≡◌, ℕ, List, ◌++◌, refl, ap, sym, ◌∙◌, subst, append_assoc, Option, Some, None}
+use Rattle.std.proofs.Common.{◌≡◌, ℕ, ◌⊎◌, inl, inr, ⊎_elim, List, [], ◌∷◌, ◌++◌, length, take, drop, refl, ap, sym, ◌∙◌, subst, append_assoc, append-nil, arith, Option, Some, None, Result, Ok, Err}
+use Rattle.std.proofs.lemmas.List.{take_all, take-append-drop}
+use Rattle.std.specs.Prelude.{⊤, OnOk, OnErr}
+use Rattle.std.specs.Io.KnownBytes.{Appends}
+use Rattle.bsc_outside.specs.Faults.{Rose, PutsPrefix}
+use Rattle.bsc_outside.specs.declared.stream.Failed.{Failed}
 use Rattle.bsc_replay.specs.declared.replaying.ReplayEnd.{ReplayEnd}
 use Rattle.bsc_replay.specs.declared.replaying.ReplayEnd.TheVariants.{Done, BadLine, ReadFault, WriteFault, NoMemory}
 use Rattle.bsc_replay.specs.Playing.{replay_of}
-use Rattle.bsc_replay.specs.Replaying.{Replays, WritesAll, WritesTo}
-use Rattle.bsc_program.specs.Statuses.{script_line, RefusesLine, RefusesSome, RefusedAt}
+use Rattle.bsc_replay.specs.Replaying.{Replays, WritesAll, WritesTo, WritesWhole, WritesSome, whole_lines, lines_read}
+use Rattle.bsc_program.specs.Statuses.{script_line, read_line, memory_line, IsMishap, RefusesSome, StopsReading, BreaksOff, RunsOut}
+use Rattle.bsc_program.specs.Endings.{EndsWith, RanOut, EndsTo}
 
--- a replay that was done, after which nothing more was written
-pub done : (end : ReplayEnd) (o t : List ℕ) (left held later : Option (List ℕ)) → Replays end o t left held → end ≡ Done → later ≡ held → WritesAll o t left later
-done end o t left held later h is same =
-    let all : WritesAll o t left held = subst (λ (e : ReplayEnd). Replays e o t left held) is h in
-    subst (WritesAll o t left) (sym same) all
+-- all of some octets is a first part of them
+pub puts_all : (before after : Option (List ℕ)) (octets : List ℕ) → Appends before after octets → PutsPrefix before after octets
+puts_all before after octets h = (length octets, omega arith, subst (Appends before after) (sym (take_all (length octets) octets (omega arith))) h)
 
--- a replay that was refused at a line, and then the last line
-pub refused : (end : ReplayEnd) (o t : List ℕ) (left held later : Option (List ℕ)) → Replays end o t left held → RefusedAt end held later → RefusesSome o t later
-refused (BadLine n) o t left held later h last =
-    let text = (replay_of o).text in
-    (n, record { refused = h.refused; written = last (t ++ text) h.written })
-refused Done o t left held later h last = absurd last
-refused ReadFault o t left held later h last = absurd last
-refused WriteFault o t left held later h last = absurd last
-refused NoMemory o t left held later h last = absurd last
+-- a write that was tried
+pub tried : (before after : Option (List ℕ)) (octets : List ℕ) (result : Result ⊤ Failed) → OnOk result (Appends before after octets) → OnErr result (PutsPrefix before after octets) → PutsPrefix before after octets
+tried before after octets (Ok done) ok err = puts_all before after octets ok
+tried before after octets (Err failed) ok err = err
+
+-- the last line in whole or in part
+pub ends_in_part : (result status : ℕ) (before after : Option (List ℕ)) (line : List ℕ) → EndsWith result status before after line → PutsPrefix before after line
+ends_in_part result status before after line ends = ⊎_elim
+  (λ (h : (result ≡ status) × Appends before after line). puts_all before after line h.1)
+  (λ (h : (result ≡ 4) × PutsPrefix before after line). h.1)
+  ends
+
+appended : (before after : Option (List ℕ)) (x part : List ℕ) → before ≡ Some x → Appends before after part → after ≡ Some (x ++ part)
+appended None after x part same h = absurd cc
+appended (Some y) None x part same h = absurd h
+appended (Some y) (Some z) x part same h = let is : y ≡ x = cc in ap Some (h ∙ ap (λ (w : List ℕ). w ++ part) is)
+
+-- What a status says of the script o, where t was held before.
+pub data Told (result : ℕ) (o t : List ℕ) (left held : Option (List ℕ)) (faults faults' : ℕ) : Type 0 where
+  told_done : result ≡ 0 → WritesAll o t left held → Told result o t left held faults faults'
+  told_refused : result ≡ 2 → RefusesSome o t left held → Told result o t left held faults faults'
+  told_stopped : result ≡ 3 → StopsReading o t left held → Told result o t left held faults faults'
+  told_broken : result ≡ 4 → BreaksOff o t left held faults faults' → Told result o t left held faults faults'
+  told_ran_out : result ≡ 7 → RunsOut o t left held → Told result o t left held faults faults'
+
+module _ (result : ℕ) (o t : List ℕ) (left mid held : Option (List ℕ)) (faults faults' : ℕ) where
+  -- the script was refused at line n
+  ends_refused : (n : ℕ) → WritesTo n o t left mid → EndsWith result 2 mid held (script_line n) ⊎ RanOut result mid held → Told result o t left held faults faults'
+  ends_refused n r ends = ⊎_elim
+    (λ (e : EndsWith result 2 mid held (script_line n)). ⊎_elim
+      (λ (h : (result ≡ 2) × Appends mid held (script_line n)). told_refused h.0 (n, record {
+        refused = r.refused;
+        written = appended mid held (t ++ (replay_of o).text) (script_line n) r.written h.1 ∙ ap Some (append_assoc t (replay_of o).text (script_line n));
+        taken = r.taken;
+        decided = r.decided;
+      }))
+      (λ (h : (result ≡ 4) × PutsPrefix mid held (script_line n)). told_broken h.0 (inr (inl (record {
+        line = n;
+        refused = r.refused;
+        written = subst (λ (m : Option (List ℕ)). PutsPrefix m held (script_line n)) r.written h.1;
+      }))))
+      e)
+    (λ (e : RanOut result mid held). told_ran_out e.0 (record {
+      taken = r.taken;
+      text = (replay_of o).text;
+      more = [];
+      first = r.in_time ∙ sym (append-nil (replay_of o).text);
+      written = subst (λ (m : Option (List ℕ)). PutsPrefix m held memory_line) r.written e.1;
+    }))
+    ends
+
+  -- a read failed
+  ends_stopped : Rose faults faults' → WritesWhole o t left mid → EndsWith result 3 mid held read_line → Told result o t left held faults faults'
+  ends_stopped rose r ends = ⊎_elim
+    (λ (h : (result ≡ 3) × Appends mid held read_line). told_stopped h.0 (record {
+      taken = r.taken;
+      accepted = r.accepted;
+      written = appended mid held (t ++ (replay_of (whole_lines r.taken.read)).text) read_line r.written h.1 ∙ ap Some (append_assoc t (replay_of (whole_lines r.taken.read)).text read_line);
+    }))
+    (λ (h : (result ≡ 4) × PutsPrefix mid held read_line). told_broken h.0 (inr (inr (record {
+      failed = rose;
+      taken = r.taken;
+      accepted = r.accepted;
+      written = subst (λ (m : Option (List ℕ)). PutsPrefix m held read_line) r.written h.1;
+    }))))
+    ends
+
+  front_of : (before : Option (List ℕ)) (text : List ℕ) → PutsPrefix (Some t) before text → (n : ℕ) × (before ≡ Some (t ++ take n text))
+  front_of None text h = absurd h.2
+  front_of (Some x) text h = (h.0, ap Some h.2)
+
+  -- memory ran out
+  ends_out : WritesSome o t left mid → RanOut result mid held → Told result o t left held faults faults'
+  ends_out r ends =
+      let all = (replay_of (lines_read r.taken.read r.taken.rest)).text in
+      let front = front_of mid all r.written in
+      told_ran_out ends.0 (record {
+        taken = r.taken;
+        text = take front.0 all;
+        more = drop front.0 all;
+        first = sym (take-append-drop front.0 all);
+        written = subst (λ (m : Option (List ℕ)). PutsPrefix m held memory_line) front.1 ends.1;
+      })
+
+  pub told : (end : ReplayEnd) → (end ≡ ReadFault → Rose faults faults') → Replays end o t left mid → EndsTo end result mid held → Told result o t left held faults faults'
+  told Done rose r ends = told_done ends.0 (subst (WritesAll o t left) (sym ends.1) r)
+  told (BadLine n) rose r ends = ends_refused n r ends
+  told ReadFault rose r ends = ends_stopped (rose refl) r ends
+  told WriteFault rose r ends = told_broken ends.0 (inl (subst (WritesSome o t left) (sym ends.1) r))
+  told NoMemory rose r ends = ends_out r ends
+
+module _ (result : ℕ) (o t : List ℕ) (left held : Option (List ℕ)) (faults faults' : ℕ) where
+  pub done_of : Told result o t left held faults faults' → result ≡ 0 → WritesAll o t left held
+  done_of (told_done is w) h = w
+  done_of (told_refused is w) h = absurd (omega arith)
+  done_of (told_stopped is w) h = absurd (omega arith)
+  done_of (told_broken is w) h = absurd (omega arith)
+  done_of (told_ran_out is w) h = absurd (omega arith)
+
+  pub refused_of : Told result o t left held faults faults' → result ≡ 2 → RefusesSome o t left held
+  refused_of (told_done is w) h = absurd (omega arith)
+  refused_of (told_refused is w) h = w
+  refused_of (told_stopped is w) h = absurd (omega arith)
+  refused_of (told_broken is w) h = absurd (omega arith)
+  refused_of (told_ran_out is w) h = absurd (omega arith)
+
+  pub stopped_of : Told result o t left held faults faults' → result ≡ 3 → StopsReading o t left held
+  stopped_of (told_done is w) h = absurd (omega arith)
+  stopped_of (told_refused is w) h = absurd (omega arith)
+  stopped_of (told_stopped is w) h = w
+  stopped_of (told_broken is w) h = absurd (omega arith)
+  stopped_of (told_ran_out is w) h = absurd (omega arith)
+
+  pub broken_of : Told result o t left held faults faults' → result ≡ 4 → BreaksOff o t left held faults faults'
+  broken_of (told_done is w) h = absurd (omega arith)
+  broken_of (told_refused is w) h = absurd (omega arith)
+  broken_of (told_stopped is w) h = absurd (omega arith)
+  broken_of (told_broken is w) h = w
+  broken_of (told_ran_out is w) h = absurd (omega arith)
+
+  pub ran_out_of : Told result o t left held faults faults' → result ≡ 7 → RunsOut o t left held
+  ran_out_of (told_done is w) h = absurd (omega arith)
+  ran_out_of (told_refused is w) h = absurd (omega arith)
+  ran_out_of (told_stopped is w) h = absurd (omega arith)
+  ran_out_of (told_broken is w) h = absurd (omega arith)
+  ran_out_of (told_ran_out is w) h = w
+
+  -- a script with a refused line
+  pub refuses_of : Told result o t left held faults faults' → (n : ℕ) → (replay_of o).refused ≡ Some n → (result ≡ 2) ⊎ IsMishap result
+  refuses_of (told_done is w) n h = absurd (let none = w.accepted in cc)
+  refuses_of (told_refused is w) n h = inl is
+  refuses_of (told_stopped is w) n h = inr (inl is)
+  refuses_of (told_broken is w) n h = inr (inr (inl is))
+  refuses_of (told_ran_out is w) n h = inr (inr (inr is))
+
+  -- and one without
+  pub accepts_of : Told result o t left held faults faults' → (replay_of o).refused ≡ None → (result ≡ 0) ⊎ IsMishap result
+  accepts_of (told_done is w) h = inl is
+  accepts_of (told_refused is w) h = absurd (let some = w.1.refused in cc)
+  accepts_of (told_stopped is w) h = inr (inl is)
+  accepts_of (told_broken is w) h = inr (inr (inl is))
+  accepts_of (told_ran_out is w) h = inr (inr (inr is))

@@ -4,6 +4,8 @@
 #![tactic(auto)]
 
 mod run;
+#[cfg(test)]
+mod tests;
 
 use bsc_outside::{ReaderSource, WriterSink};
 use run::{out_of_memory, run};

@@ -1,4 +1,9 @@
 pub mod OnLiterals
+pub mod Cutting
 pub mod Playing
+pub mod Reached
 pub mod Stopping
+pub mod Feeding
+pub mod Looping
+mod WorkedReads
 mod WorkedScripts

@@ -1,7 +1,7 @@
 -- The text that a script defines.
 use Rattle.std.specs.Prelude.{ℕ, ◌+◌, if◌then◌else◌, List, [], ◌∷◌, ◌++◌, length, Option, Some, None}
 use Rattle.bsc_stage.specs.declared.script.Line.{Line}
-use Rattle.bsc_stage.specs.declared.script.Line.TheVariants.{Nothing, Hub, Open, In}
+use Rattle.bsc_stage.specs.declared.script.Line.TheVariants.{Nothing, Hub}
 use Rattle.bsc_text.specs.Lines.{pieces_of, line_in, is_too_big}
 use Rattle.bsc_stage.specs.Script.{line_of}
 use Rattle.bsc_stage.specs.Scenes.{Scene, opening}
@@ -22,8 +22,7 @@ pub record Stood : Type 0 where
 abbrev pub before_hub : Line → Option Stood
 before_hub Nothing = Some (record { scene = None; text = [] })
 before_hub (Hub about) = Some (record { scene = Some (opening about); text = [] })
-before_hub (Open name) = None
-before_hub (In name message) = None
+before_hub line = None
 
 -- a turn, over a hub that is made
 abbrev pub stood_of : Option Turn → Option Stood

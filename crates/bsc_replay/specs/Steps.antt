@@ -1,5 +1,7 @@
--- What the inner functions of a replay say of a stage and its scene; no public clause cites any of it.
-use Rattle.std.specs.Prelude.{◌≡◌, ℕ, List, ◌++◌, Option, Some, None, Result, Ok, Err, ⊤}
+-- What the inner functions of a replay say of a stage and its scene, and of the text that was collected; no public
+-- clause cites any of it.
+use Rattle.std.specs.Prelude.{◌≡◌, ◌⊎◌, ℕ, List, ◌++◌, Option, Some, None, Result, Ok, Err, ⊤}
+use Rattle.std.specs.Io.KnownBytes.{Appends}
 use Rattle.bsc_outside.specs.Faults.{PutsPrefix}
 use Rattle.bsc_stage.specs.declared.script.LineFault.{LineFault}
 use Rattle.bsc_stage.specs.declared.script.LineFault.TheVariants.{Refused as LineRefused, NoMemory as LineNoMemory}
@@ -7,9 +9,7 @@ use Rattle.bsc_stage.specs.declared.stage.Stage.{Stage}
 use Rattle.bsc_stage.specs.Scenes.{Scene}
 use Rattle.bsc_stage.specs.Holding.{Holds}
 use Rattle.bsc_replay.specs.declared.replaying.ReplayEnd.{ReplayEnd}
-use Rattle.bsc_replay.specs.declared.replaying.ReplayEnd.TheVariants.{Done, BadLine}
-use Rattle.bsc_replay.specs.declared.replaying.Stop.{Stop}
-use Rattle.bsc_replay.specs.declared.replaying.Stop.TheVariants.{Refused as StopRefused, WriteFault as StopWriteFault, NoMemory as StopNoMemory}
+use Rattle.bsc_replay.specs.declared.replaying.ReplayEnd.TheVariants.{Done, BadLine, WriteFault}
 use Rattle.bsc_replay.specs.Playing.{Stood}
 
 -- A stage that may not be made yet holds a scene that may not be there yet.
@@ -34,22 +34,16 @@ StepsTo (Ok stage) before after o = StandsAs stage before after o
 StepsTo (Err LineRefused) before after o = o ≡ None
 StepsTo (Err LineNoMemory) before after o = ⊤
 
--- What stands after a line holds the scene that the line leads to, and its text was written after t.
-abbrev pub WrittenAs : Option Stage → List ℕ → Option (List ℕ) → Option Stood → Type 0
-WrittenAs stage t held None = ⊥
-WrittenAs stage t held (Some st) = HoldsIf stage st.scene × (held ≡ Some (t ++ st.text))
+-- A first part of the collected text was handed over, and the rest of it is still collected.
+pub record HandsOver (held held' : Option (List ℕ)) (text text' : List ℕ) : Type 0 where
+  pub part : List ℕ
+  pub put : Appends held held' part
+  pub kept : text ≡ part ++ text'
 
--- A write failed when some first part of a line's text was written after t.
-abbrev pub BreaksOff : List ℕ → Option (List ℕ) → Option Stood → Type 0
-BreaksOff t held None = ⊥
-BreaksOff t held (Some st) = PutsPrefix (Some t) held st.text
-
--- A line is played: written as it should, or refused where it has to be, with nothing written.
-abbrev pub PlaysTo : Result (Option Stage) Stop → List ℕ → Option (List ℕ) → Option Stood → Type 0
-PlaysTo (Ok stage) t held o = WrittenAs stage t held o
-PlaysTo (Err StopRefused) t held o = (o ≡ None) × (held ≡ Some t)
-PlaysTo (Err StopWriteFault) t held o = BreaksOff t held o
-PlaysTo (Err StopNoMemory) t held o = held ≡ Some t
+-- A replay stopped with this end after all of the collected text was written, or where that failed.
+abbrev pub StopsAs : ReplayEnd → ReplayEnd → Option (List ℕ) → Option (List ℕ) → List ℕ → Type 0
+StopsAs result end held held' text =
+    ((result ≡ end) × Appends held held' text) ⊎ ((result ≡ WriteFault) × PutsPrefix held held' text)
 
 -- How a script ends whose lines were all accepted: well where it made a hub.
 abbrev pub end_of : Option Stage → ℕ → ReplayEnd

@@ -6,8 +6,12 @@
 //! means, and its `Stage`, which is a hub with its open names, carries it out.
 #![tactic(auto)]
 
+#[cfg(test)]
+mod fault_tests;
 mod replaying;
 #[cfg(test)]
 mod replaying_tests;
+#[cfg(test)]
+mod script_cases;
 
 pub use replaying::{ReplayEnd, replay};

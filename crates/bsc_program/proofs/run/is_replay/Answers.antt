@@ -1,4 +1,4 @@
-use Rattle.std.proofs.Common.{codes, arith}
+use Rattle.std.proofs.Common.{codes}
 use Rattle.bsc_program.proofs.OneWord.{one_word}
 use Rattle.bsc_program.proofs.run.is_replay.Goals as goal
 

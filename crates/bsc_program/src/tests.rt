@@ -1,0 +1,193 @@
+//! The statuses of runs, with what stands written after each.
+use crate::run::run;
+use bsc_octets::NoMemory;
+use bsc_outside::{MemSink, MemSource};
+use std::alloc::Global;
+use std::process::Abort;
+use std::test::*;
+
+const SCRIPT: &str = concat!(
+    "hub 0200000000FF 00112233445566778899AABBCCDDEEFF 0640 05D9 256 64\n",
+    "open A\n",
+    "in A 09\n",
+    "in A\n",
+);
+
+/// The same with a line that is refused at its end.
+const REFUSED: &str = concat!(
+    "hub 0200000000FF 00112233445566778899AABBCCDDEEFF 0640 05D9 256 64\n",
+    "open A\n",
+    "in A 09\n",
+    "jump A\n",
+);
+
+/// The words and the script of a run, the reads and the writes that fail, how much the sink takes, and what
+/// it comes to. A read gives 85 octets at most, and the first ends within the last line.
+struct Case {
+    words: &'static [&'static str],
+    script: &'static str,
+    reads: &'static [u64],
+    writes: &'static [u64],
+    room: usize,
+    status: u8,
+    text: &'static str,
+}
+
+const REPLAY: &[&str] = &["replay"];
+
+const CASES: [Case; 14] = [
+    Case {
+        words: REPLAY,
+        script: SCRIPT,
+        reads: &[],
+        writes: &[],
+        room: 99,
+        status: 0,
+        text: "A unbuilt 09\nA unbuilt --\n",
+    },
+    Case {
+        words: &[],
+        script: SCRIPT,
+        reads: &[],
+        writes: &[],
+        room: 99,
+        status: 1,
+        text: "fault words\n",
+    },
+    Case {
+        words: &["check"],
+        script: SCRIPT,
+        reads: &[],
+        writes: &[],
+        room: 99,
+        status: 1,
+        text: "fault words\n",
+    },
+    Case {
+        words: &["replay", "replay"],
+        script: SCRIPT,
+        reads: &[],
+        writes: &[],
+        room: 99,
+        status: 1,
+        text: "fault words\n",
+    },
+    Case {
+        words: &["check"],
+        script: SCRIPT,
+        reads: &[],
+        writes: &[],
+        room: 8,
+        status: 4,
+        text: "fault wo",
+    },
+    Case {
+        words: REPLAY,
+        script: REFUSED,
+        reads: &[],
+        writes: &[],
+        room: 99,
+        status: 2,
+        text: "A unbuilt 09\nfault script line 4\n",
+    },
+    Case {
+        words: REPLAY,
+        script: "",
+        reads: &[],
+        writes: &[],
+        room: 99,
+        status: 2,
+        text: "fault script line 1\n",
+    },
+    Case {
+        words: REPLAY,
+        script: SCRIPT,
+        reads: &[1],
+        writes: &[],
+        room: 99,
+        status: 3,
+        text: "fault read\n",
+    },
+    Case {
+        words: REPLAY,
+        script: SCRIPT,
+        reads: &[2],
+        writes: &[],
+        room: 99,
+        status: 3,
+        text: "A unbuilt 09\nfault read\n",
+    },
+    Case {
+        words: REPLAY,
+        script: SCRIPT,
+        reads: &[],
+        writes: &[1],
+        room: 99,
+        status: 4,
+        text: "",
+    },
+    Case {
+        words: REPLAY,
+        script: SCRIPT,
+        reads: &[],
+        writes: &[],
+        room: 20,
+        status: 4,
+        text: "A unbuilt 09\nA unbui",
+    },
+    Case {
+        words: REPLAY,
+        script: REFUSED,
+        reads: &[],
+        writes: &[2],
+        room: 99,
+        status: 4,
+        text: "A unbuilt 09\n",
+    },
+    Case {
+        words: REPLAY,
+        script: REFUSED,
+        reads: &[],
+        writes: &[],
+        room: 32,
+        status: 4,
+        text: "A unbuilt 09\nfault script line 4",
+    },
+    Case {
+        words: REPLAY,
+        script: SCRIPT,
+        reads: &[2],
+        writes: &[],
+        room: 18,
+        status: 4,
+        text: "A unbuilt 09\nfault",
+    },
+];
+
+/// The words as a run takes them.
+fn words_of(alloc: Global, words: &[&str]) -> Result<Vec<String>, NoMemory> {
+    let mut all = Vec::new(alloc);
+    for word in words {
+        all.push(String::from_str(alloc, word)?)?;
+    }
+    Ok(all)
+}
+
+#[test]
+fn ends_with_a_status(rt: HostRuntime) {
+    let alloc = rt.alloc();
+    for (at, case) in CASES.iter().enumerate() {
+        let Ok(mut sink) = MemSink::make(alloc, case.room, case.writes) else {
+            assert!(rt; false, "no memory");
+            return;
+        };
+        let Ok(words) = words_of(alloc, case.words) else {
+            assert!(rt; false, "no memory");
+            return;
+        };
+        let mut source = MemSource::in_pieces(case.script.as_bytes(), 85, case.reads);
+        let status = run(alloc, words.as_slice(), &mut source, &mut sink);
+        assert_eq!(rt; status, case.status, "in row {at}");
+        assert!(rt; sink.held() == case.text.as_bytes(), "in row {at}");
+    }
+}
