@@ -19,3 +19,4 @@ pub mod Orders
 pub mod Sorted
 pub mod Numbers
 pub mod Filing
+pub mod Newest

@@ -51,7 +51,8 @@ fn searched_place(rows: &[Row], conn: u64) -> Option<usize>
     requires { IsTrue (in_order rises rows.now) }
     ensures { result ≡ position (λ r. r.connection.number == conn) rows.now }
 {
-    rows.binary_search_by_key(&conn, |row| row.connection.number).ok()
+    rows.binary_search_by_key(&conn, |row| row.connection.number)
+        .ok()
 }
 
 /// Finishes the outbox of a connection with an End.

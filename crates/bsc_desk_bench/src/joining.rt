@@ -76,12 +76,7 @@ fn connect(
 }
 
 /// Joins a member, and answers the number of its connection.
-fn join(
-    alloc: Global,
-    desk: &mut Desk,
-    member: u16,
-    vmac: Vmac,
-) -> Result<Option<u64>, NoMemory>
+fn join(alloc: Global, desk: &mut Desk, member: u16, vmac: Vmac) -> Result<Option<u64>, NoMemory>
     requires outbox { desk.old.about.limits.outbox ≡ 16 }
     requires not_zero { IsFalse (same_vmac vmac zero_vmac) }
     requires not_broadcast { IsFalse (same_vmac vmac broadcast) }
@@ -97,12 +92,7 @@ fn join(
 }
 
 /// Joins a member, and adds the number of its connection.
-fn add(
-    alloc: Global,
-    desk: &mut Desk,
-    others: &mut Vec<u64>,
-    member: u16,
-) -> Result<(), NoMemory>
+fn add(alloc: Global, desk: &mut Desk, others: &mut Vec<u64>, member: u16) -> Result<(), NoMemory>
     requires outbox { desk.old.about.limits.outbox ≡ 16 }
     requires stands { Stands desk.old }
     requires rows { AllByRecursion (HasRow desk.old) others.old.items }

@@ -18,7 +18,6 @@ use bsc_desk::Desk;
 use std::time::{Duration, Instant};
 use std::{env, io};
 
-
 /// How many frames go to each number of rows where the command line says nothing.
 const FEW: u32 = 3_000;
 
@@ -37,10 +36,14 @@ fn asked(rt: &HostRuntime) -> io::Result<u32> {
 }
 
 fn tell(rt: &HostRuntime, name: &str, rows: u16, tally: Tally, time: Duration) -> io::Result<()> {
-    println!(
-        rt; "{name}, {rows} rows: {} appended, {} taken, octets add up to {}", tally.appended, tally.taken, tally.octets
+    println!(rt;
+        "{name}, {rows} rows: {} appended, {} taken, octets add up to {}",
+        tally.appended, tally.taken, tally.octets
     )?;
-    eprintln!(rt; "{name}, {rows} rows: {} frames a second", rate(tally.appended, time))
+    eprintln!(rt;
+        "{name}, {rows} rows: {} frames a second",
+        rate(tally.appended, time)
+    )
 }
 
 /// Unicasts to the others by turns.

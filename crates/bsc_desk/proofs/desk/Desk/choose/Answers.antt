@@ -3,7 +3,7 @@ use Rattle.std.specs.List.{list_all}
 use Rattle.bsc_desk.specs.declared.connecting.NewRow.{NewRow}
 use Rattle.bsc_desk.specs.Directories.{gives_place}
 use Rattle.bsc_desk.proofs.Choosing.{chosen, if_both}
-use Rattle.bsc_desk.proofs.Filing.{free_by}
+use Rattle.bsc_desk.proofs.Newest.{free_by}
 use Rattle.bsc_desk.proofs.desk.Desk.choose.Goals as goal
 
 pub returns-clause-reply : goal.returns-clause-reply

@@ -1,4 +1,4 @@
-use Rattle.bsc_desk.proofs.Filing.{live_at}
+use Rattle.bsc_desk.proofs.Newest.{live_at}
 use Rattle.bsc_desk.proofs.desk.Desk.holder.Goals as goal
 
 pub returns : goal.returns

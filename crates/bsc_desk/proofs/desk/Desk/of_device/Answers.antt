@@ -1,4 +1,4 @@
-use Rattle.bsc_desk.proofs.Filing.{live_of}
+use Rattle.bsc_desk.proofs.Newest.{live_of}
 use Rattle.bsc_desk.proofs.desk.Desk.of_device.Goals as goal
 
 pub returns : goal.returns
