@@ -1,28 +1,20 @@
--- Each step of one seat keeps the rule.
-use Rattle.std.proofs.Common.{◌≡◌, ◌≢◌, ℕ, suc, ◌+◌, ◌%◌, ◌^◌, ◌<◌, ◌≤◌, ◌==◌, Bool, true, false, List, [], ◌∷◌, ◌++◌, length, set, Option, Some, None, ◌⊎◌, inl, inr, ⊎_elim, refl, sym, ◌∙◌, ap, subst, arith, length-append, append-nil, slice_index, slice_set}
+-- Each step of the lock and of the commit keeps the rule.
+use Rattle.std.proofs.Common.{◌≡◌, ◌≢◌, ℕ, ◌+◌, ◌%◌, ◌^◌, ◌<◌, ◌≤◌, ◌==◌, Bool, true, false, List, [], ◌∷◌, ◌++◌, length, Option, Some, None, inl, inr, ⊎_elim, refl, sym, ◌∙◌, ap, subst, arith, length-append, append-nil, slice_index, slice_set}
 use mathlib.Core.Option.{some, none, some-ne-none}
 use mathlib.Core.Option as maybe
 use lib.ListN.{get_elem?}
 use prog.Atomic.{either}
-use Rattle.atomic_table.specs.Table.{State, Me, Step, step, Act, keeps, takes, gives, Allows, Valid, opening, homes_after, carried_after, put_back, rest}
-use Rattle.atomic_table.proofs.Lists.{set_again}
+use Rattle.atomic_table.specs.Table.{State, Me, Step, step, keeps, takes, gives, Allows, opening, put_back, rest}
 use Rattle.bsc_history.specs.declared.limits.About.{About}
 use Rattle.bsc_history.specs.declared.mark.Stamped.{Stamped}
 use Rattle.bsc_turn.specs.declared.stage.Stage.{Stage}
 use Rattle.bsc_turn.specs.declared.stage.Stage.TheVariants.{Outside, Holding, Entered, Committed, Numbered, Drawn}
 use Rattle.bsc_turn.specs.declared.view.View.{View}
-use Rattle.bsc_turn.specs.Histories.{own_of}
 use Rattle.bsc_turn.specs.Rule.{holds_turn, has_state, knows_next, turn_word, number_word, At, Fits, Home, Stored, Kept, first_view}
-use Rattle.bsc_turn.specs.Told.{Truths, at_stage, having_seen, having_made, having_loaded, may_leave, Acquires, Counts, Commits, Releases, LoadsNumber, Draws, Confirms}
-use Rattle.bsc_turn.proofs.Beginnings.{starts_self, starts_more, starts_trans, own_mine, own_else, own_none}
-use Rattle.bsc_turn.proofs.Views.{not_also, single, free_or_held, state_holds, at_changed, apart_after, gone_after, none_else, held_after}
-
-pub truths : (a : About) (most made : ℕ) (log : List Stamped) (v : View) → Fits a most made log v → Truths v
-truths a most made log v f = (f.own, λ i e at. let k = f.kept i e at in (k.other, k.own, k.saw))
-
--- the rule speaks of no state or number at this stage
-idle : (P : Type 0) → false ≡ true → P
-idle P e = absurd (not_also e)
+use Rattle.bsc_turn.specs.Told.{at_stage, having_seen, having_made, Acquires, Counts, Commits, Releases}
+use Rattle.bsc_turn.proofs.Beginnings.{starts_self, starts_more, starts_trans, own_mine, own_else}
+use Rattle.bsc_turn.proofs.Views.{not_also, single, free_or_held, state_holds, none_else}
+use Rattle.bsc_turn.proofs.Remaking.{truths, idle, Goes, remade, same_again}
 
 module _ {S : Type 0} (stands : S → List Stamped → Type 0) (about : S → About) where
   abbrev Slots : Type 0
@@ -53,66 +45,14 @@ module _ {S : Type 0} (stands : S → List Stamped → Type 0) (about : S → Ab
     abbrev mine : Fits a most k.made k.log me.0
     mine = k.fits id me.0 at
 
-    -- the seat with its new view, after a step at the word `i`
-    abbrev Goes : ℕ → ℕ → (Me (Option S) View → Type 0) → Type 0
-    Goes i n told =
-        (w : View) × (t : Act (Option S)) × Valid s.homes me.1 t
-        × Kept stands about a most (record { words = slice_set s.words i n; homes = homes_after s.homes me.1 t; views = slice_set s.views id w })
-        × told (w, carried_after me.1 t)
-
-    -- where the seat has the turn, or nobody had it
-    remade : (log : List Stamped) (w : View) (ws : List ℕ) (hs : Slots)
-        → (holds_turn me.0.stage ≡ true) ⊎ (k.stage ≡ Outside)
-        → ws ≡ turn_word w.stage ∷ length log ∷ number_word w.stage k.made ∷ []
-        → Stored stands about a (has_state w.stage) log hs
-        → number_word w.stage k.made ≤ most
-        → ((n : ℕ) → k.made ≤ n → own_of log n ≡ [])
-        → Fits a most k.made log w
-        → ((i : ℕ) (x : View) → i ≢ id → At s.views i x → Fits a most k.made log x)
-        → w.live ≡ true → w.number ≡ me.0.number → w.took ≡ me.0.took
-        → Kept stands about a most (record { words = ws; homes = hs; views = set s.views id w })
-    remade log w ws hs how words stored few strangers fit others live' number took =
-        record {
-          log = log;
-          made = k.made;
-          stage = w.stage;
-          words = words;
-          stored = stored;
-          few = few;
-          strangers = strangers;
-          fits = λ i x got. ⊎_elim (λ h. subst (Fits a most k.made log) h.1 fit) (λ h. others i x h.0 h.1) (at_changed s.views id w i x got);
-          apart = apart_after s.views id me.0 at k.apart w number took;
-          gone = gone_after s.views id me.0 at k.gone w number took;
-          held = held_after s.views id me.0 at k.stage k.held how w live';
-        }
-
-    -- nothing changed
-    same_again : (ws : List ℕ) → ws ≡ turn_word k.stage ∷ length k.log ∷ number_word k.stage k.made ∷ [] → Kept stands about a most (record { words = ws; homes = s.homes; views = set s.views id me.0 })
-    same_again ws words =
-        let kept : Kept stands about a most (record { words = ws; homes = s.homes; views = s.views }) = record {
-          log = k.log;
-          made = k.made;
-          stage = k.stage;
-          words = words;
-          stored = k.stored;
-          few = k.few;
-          strangers = k.strangers;
-          fits = k.fits;
-          apart = k.apart;
-          gone = k.gone;
-          held = k.held;
-        } in
-        subst (λ (vs : List View). Kept stands about a most (record { words = ws; homes = s.homes; views = vs })) (sym (set_again s.views id me.0 here)) kept
-
-    -- the others fit as before
-    others : (i : ℕ) (x : View) → i ≢ id → At s.views i x → Fits a most k.made k.log x
-    others i x _ got = k.fits i x got
+    abbrev Moves : ℕ → ℕ → (Me (Option S) View → Type 0) → Type 0
+    Moves = Goes stands about a most id slots me live s k here
 
     -- the seat's own stage is the one of the turn
     stage_is : holds_turn me.0.stage ≡ true → k.stage ≡ me.0.stage
     stage_is holds = sym (k.held.alone id me.0 at holds).1
 
-    pub acquire_at : me.0.stage ≡ Outside → Goes 0 (either (slice_index s.words 0 == 0) 1 (slice_index s.words 0)) (Acquires (step slots 0 0 1 none) me (slice_index s.words 0))
+    pub acquire_at : me.0.stage ≡ Outside → Moves 0 (either (slice_index s.words 0 == 0) 1 (slice_index s.words 0)) (Acquires (step slots 0 0 1 none) me (slice_index s.words 0))
     acquire_at out =
         let found : slice_index s.words 0 ≡ turn_word k.stage = ap (λ (ws : List ℕ). slice_index ws 0) k.words in
         let put : slice_set s.words 0 (either (slice_index s.words 0 == 0) 1 (slice_index s.words 0)) ≡ either (turn_word k.stage == 0) 1 (turn_word k.stage) ∷ length k.log ∷ number_word k.stage k.made ∷ [] = ap (λ (ws : List ℕ). slice_set ws 0 (either (slice_index ws 0 == 0) 1 (slice_index ws 0))) k.words in
@@ -122,25 +62,25 @@ module _ {S : Type 0} (stands : S → List Stamped → Type 0) (about : S → Ab
           w,
           keeps,
           tt,
-          remade k.log w (slice_set s.words 0 (either (slice_index s.words 0 == 0) 1 (slice_index s.words 0))) s.homes (inr free)
+          remade stands about a most id slots me live s k here k.log w (slice_set s.words 0 (either (slice_index s.words 0 == 0) 1 (slice_index s.words 0))) s.homes (inr free)
               (put ∙ ap (λ (st : Stage). either (turn_word st == 0) 1 (turn_word st) ∷ length k.log ∷ number_word st k.made ∷ []) free)
               (subst (λ (st : Stage). Stored stands about a (has_state st) k.log s.homes) free k.stored)
               (subst (λ (st : Stage). number_word st k.made ≤ most) free k.few)
               k.strangers
               (record { begins = mine.begins; about = mine.about; callers = mine.callers; below = mine.below; loaded = mine.loaded; all = mine.all; own = mine.own; kept = mine.kept; whole = idle (me.0.seen ≡ k.log); next = idle (me.0.loaded ≡ k.made); past = λ _. mine.past (ap (λ (st : Stage). knows_next st) out) })
-              others live refl refl,
+              (λ i x _ got. k.fits i x got) live refl refl,
           ((λ _. refl), λ taken. absurd (taken (found ∙ ap (λ (st : Stage). turn_word st) free))),
         ))
         (λ (busy : turn_word k.stage ≡ 1). (
           me.0,
           keeps,
           tt,
-          same_again (slice_set s.words 0 (either (slice_index s.words 0 == 0) 1 (slice_index s.words 0))) (put ∙ ap (λ (n : ℕ). either (n == 0) 1 n ∷ length k.log ∷ number_word k.stage k.made ∷ []) busy ∙ ap (λ (n : ℕ). n ∷ length k.log ∷ number_word k.stage k.made ∷ []) (sym busy)),
+          same_again stands about a most id slots me live s k here (slice_set s.words 0 (either (slice_index s.words 0 == 0) 1 (slice_index s.words 0))) (put ∙ ap (λ (n : ℕ). either (n == 0) 1 n ∷ length k.log ∷ number_word k.stage k.made ∷ []) busy ∙ ap (λ (n : ℕ). n ∷ length k.log ∷ number_word k.stage k.made ∷ []) (sym busy)),
           ((λ free. absurd (omega (arith, free, found, busy))), λ _. refl),
         ))
         (free_or_held k.stage)
 
-    pub count_at : me.0.stage ≡ Holding → Goes 1 (slice_index s.words 1) (Counts stands about (step slots 1 0 0 none) me (slice_index s.words 1))
+    pub count_at : me.0.stage ≡ Holding → Moves 1 (slice_index s.words 1) (Counts stands about (step slots 1 0 0 none) me (slice_index s.words 1))
     count_at holding =
         let holds : holds_turn me.0.stage ≡ true = ap (λ (st : Stage). holds_turn st) holding in
         let now : k.stage ≡ Holding = stage_is holds ∙ holding in
@@ -162,16 +102,16 @@ module _ {S : Type 0} (stands : S → List Stamped → Type 0) (about : S → Ab
           w,
           takes 0 (Some home.0),
           ap (λ (hs : Slots). get_elem? hs 0) home.1,
-          remade k.log w (slice_set s.words 1 (slice_index s.words 1)) (slice_set s.homes 0 none) (inl holds)
+          remade stands about a most id slots me live s k here k.log w (slice_set s.words 1 (slice_index s.words 1)) (slice_set s.homes 0 none) (inl holds)
               (ap (λ (ws : List ℕ). slice_set ws 1 (slice_index ws 1)) k.words ∙ ap (λ (st : Stage). turn_word st ∷ length k.log ∷ number_word st k.made ∷ []) now)
               (ap (λ (hs : Slots). slice_set hs 0 none) home.1)
               (subst (λ (st : Stage). number_word st k.made ≤ most) now k.few)
-              k.strangers fit others live refl refl,
+              k.strangers fit (λ i x _ got. k.fits i x got) live refl refl,
           (k.log, home.0, mine.begins, sym (ap (λ (ws : List ℕ). slice_index ws 1) k.words), refl, truths a most k.made k.log w fit, home.2, home.3 ∙ sym mine.about),
         )
 
     pub commit_at : (e : Stamped) → me.0.stage ≡ Entered → me.1 ≡ (0, None) ∷ [] → e.entry.caller ≡ me.0.number → length me.0.seen < 2 ^ 63
-        → Goes 1 ((slice_index s.words 1 + 1) % 2 ^ 64) (Commits e (step slots 1 1 0 none) me (slice_index s.words 1))
+        → Moves 1 ((slice_index s.words 1 + 1) % 2 ^ 64) (Commits e (step slots 1 1 0 none) me (slice_index s.words 1))
     commit_at e entered empty caller few =
         let holds : holds_turn me.0.stage ≡ true = ap (λ (st : Stage). holds_turn st) entered in
         let now : k.stage ≡ Entered = stage_is holds ∙ entered in
@@ -220,7 +160,7 @@ module _ {S : Type 0} (stands : S → List Stamped → Type 0) (about : S → Ab
           w,
           keeps,
           tt,
-          remade log w (slice_set s.words 1 ((slice_index s.words 1 + 1) % 2 ^ 64)) s.homes (inl holds)
+          remade stands about a most id slots me live s k here log w (slice_set s.words 1 ((slice_index s.words 1 + 1) % 2 ^ 64)) s.homes (inl holds)
               (ap (λ (ws : List ℕ). slice_set ws 1 ((slice_index ws 1 + 1) % 2 ^ 64)) k.words ∙ ap (λ (st : Stage). turn_word st ∷ (length k.log + 1) % 2 ^ 64 ∷ number_word st k.made ∷ []) now ∙ ap (λ (n : ℕ). 1 ∷ n ∷ k.made ∷ []) count)
               (subst (λ (st : Stage). Stored stands about a (has_state st) k.log s.homes) now k.stored)
               (subst (λ (st : Stage). number_word st k.made ≤ most) now k.few)
@@ -229,7 +169,7 @@ module _ {S : Type 0} (stands : S → List Stamped → Type 0) (about : S → Ab
           (empty, ap (λ (ws : List ℕ). slice_index ws 1) k.words ∙ ap (λ (l : List Stamped). length l) (sym whole), refl, truths a most k.made log w fit),
         )
 
-    pub release_at : (st : S) → has_state me.0.stage ≡ true → me.1 ≡ (0, Some st) ∷ [] → stands st me.0.seen → about st ≡ me.0.about → Goes 0 0 (Releases (step slots 0 0 0 none) me 0)
+    pub release_at : (st : S) → has_state me.0.stage ≡ true → me.1 ≡ (0, Some st) ∷ [] → stands st me.0.seen → about st ≡ me.0.about → Moves 0 0 (Releases (step slots 0 0 0 none) me 0)
     release_at st out carried h same =
         let holds : holds_turn me.0.stage ≡ true = state_holds me.0.stage out in
         let whole : me.0.seen ≡ k.log = mine.whole out in
@@ -240,13 +180,13 @@ module _ {S : Type 0} (stands : S → List Stamped → Type 0) (about : S → Ab
           w,
           gives,
           tt,
-          remade k.log w (slice_set s.words 0 0) (put_back s.homes me.1) (inl holds)
+          remade stands about a most id slots me live s k here k.log w (slice_set s.words 0 0) (put_back s.homes me.1) (inl holds)
               (words ∙ ap (λ (n : ℕ). 0 ∷ length k.log ∷ n ∷ []) number)
               (st, ap (λ (c : List (ℕ × Option S)). put_back s.homes c) carried ∙ ap (λ (hs : Slots). slice_set hs 0 (some (Some st))) away, subst (stands st) whole h, same ∙ mine.about)
               (subst (λ (n : ℕ). n ≤ most) number k.few)
               k.strangers
               (record { begins = mine.begins; about = mine.about; callers = mine.callers; below = mine.below; loaded = mine.loaded; all = mine.all; own = mine.own; kept = mine.kept; whole = idle (me.0.seen ≡ k.log); next = idle (me.0.loaded ≡ k.made); past = λ _. mine.past (only_state me.0.stage out) })
-              others live refl refl,
+              (λ i x _ got. k.fits i x got) live refl refl,
           ap (λ (c : List (ℕ × Option S)). (w, rest c)) carried,
         )
       where
@@ -266,93 +206,6 @@ module _ {S : Type 0} (stands : S → List Stamped → Type 0) (about : S → Ab
         only_state Numbered e = absurd (not_also e)
         only_state Drawn e = absurd (not_also e)
 
-    -- the stages at which the turn is freed with nothing in hand
-    pub leave_at : may_leave me.0.stage ≡ true → (knows_next me.0.stage ≡ true → me.0.loaded ≡ me.0.callers) → me.1 ≡ [] → Goes 0 0 (Releases (step slots 0 0 0 none) me 0)
-    leave_at may limit empty =
-        let facts = leaving me.0.stage may in
-        let holds : holds_turn me.0.stage ≡ true = facts.0 in
-        let now : k.stage ≡ me.0.stage = stage_is holds in
-        let number : number_word k.stage k.made ≡ k.made = ap (λ (st : Stage). number_word st k.made) now ∙ facts.2 k.made in
-        let w : View = at_stage Outside me.0 in (
-          w,
-          keeps,
-          tt,
-          remade k.log w (slice_set s.words 0 0) s.homes (inl holds)
-              (ap (λ (ws : List ℕ). slice_set ws 0 0) k.words ∙ ap (λ (n : ℕ). 0 ∷ length k.log ∷ n ∷ []) number)
-              (subst (λ (b : Bool). Stored stands about a b k.log s.homes) (ap (λ (st : Stage). has_state st) now ∙ facts.1) k.stored)
-              (subst (λ (n : ℕ). n ≤ most) number k.few)
-              k.strangers
-              (record { begins = mine.begins; about = mine.about; callers = mine.callers; below = mine.below; loaded = mine.loaded; all = mine.all; own = mine.own; kept = mine.kept; whole = idle (me.0.seen ≡ k.log); next = idle (me.0.loaded ≡ k.made); past = λ _. past_or (knows_next me.0.stage) refl })
-              others live refl refl,
-          ap (λ (c : List (ℕ × Option S)). (w, c)) empty,
-        )
-      where
-        leaving : (stage : Stage) → may_leave stage ≡ true → (holds_turn stage ≡ true) × (has_state stage ≡ false) × ((n : ℕ) → number_word stage n ≡ n)
-        leaving Outside e = absurd (not_also e)
-        leaving Holding e = (refl, refl, λ n. refl)
-        leaving Entered e = absurd (not_also e)
-        leaving Committed e = absurd (not_also e)
-        leaving Numbered e = (refl, refl, λ n. refl)
-        leaving Drawn e = absurd (not_also e)
-
-        past_or : (b : Bool) → knows_next me.0.stage ≡ b → me.0.loaded < most → me.0.loaded < k.made
-        past_or true e lt = let l = limit e in let c = mine.callers in absurd (omega (arith, l, c, lt))
-        past_or false e lt = mine.past e lt
-
-    pub number_at : me.0.stage ≡ Holding → Goes 2 (slice_index s.words 2) (LoadsNumber (step slots 2 0 0 none) me (slice_index s.words 2))
-    number_at holding =
-        let holds : holds_turn me.0.stage ≡ true = ap (λ (st : Stage). holds_turn st) holding in
-        let now : k.stage ≡ Holding = stage_is holds ∙ holding in
-        let found : slice_index s.words 2 ≡ k.made = ap (λ (ws : List ℕ). slice_index ws 2) k.words ∙ ap (λ (st : Stage). number_word st k.made) now in
-        let few : k.made ≤ most = subst (λ (st : Stage). number_word st k.made ≤ most) now k.few in
-        let w : View = having_loaded (slice_index s.words 2) me.0 in (
-          w,
-          keeps,
-          tt,
-          remade k.log w (slice_set s.words 2 (slice_index s.words 2)) s.homes (inl holds)
-              (ap (λ (ws : List ℕ). slice_set ws 2 (slice_index ws 2)) k.words ∙ ap (λ (st : Stage). turn_word st ∷ length k.log ∷ number_word st k.made ∷ []) now)
-              (subst (λ (st : Stage). Stored stands about a (has_state st) k.log s.homes) now k.stored)
-              few k.strangers
-              (record { begins = mine.begins; about = mine.about; callers = mine.callers; below = mine.below; loaded = omega (arith, found); all = mine.all; own = mine.own; kept = mine.kept; whole = idle (me.0.seen ≡ k.log); next = λ _. found; past = λ bad. absurd (not_also (sym bad)) })
-              others live refl refl,
-          (
-            (let c = mine.callers in omega (arith, found, few, c)),
-            (let b = mine.below in omega (arith, found, b)),
-            (let l = mine.loaded in omega (arith, found, l)),
-            (λ lt. let c = mine.callers in let p = mine.past (ap (λ (st : Stage). knows_next st) holding) (omega (arith, c, lt)) in omega (arith, found, p)),
-            refl,
-          ),
-        )
-
-    pub draw_at : me.0.stage ≡ Numbered → me.0.loaded < me.0.callers → me.0.callers ≤ 2 ^ 62 → Goes 2 ((slice_index s.words 2 + 1) % 2 ^ 64) (Draws (step slots 2 1 0 none) me (slice_index s.words 2))
-    draw_at numbered room bounds =
-        let holds : holds_turn me.0.stage ≡ true = ap (λ (st : Stage). holds_turn st) numbered in
-        let now : k.stage ≡ Numbered = stage_is holds ∙ numbered in
-        let next : me.0.loaded ≡ k.made = mine.next (ap (λ (st : Stage). knows_next st) numbered) in
-        let found : slice_index s.words 2 ≡ k.made = ap (λ (ws : List ℕ). slice_index ws 2) k.words ∙ ap (λ (st : Stage). number_word st k.made) now in
-        let one_more : (k.made + 1) % 2 ^ 64 ≡ suc k.made = omega (arith, next, room, bounds) in
-        let w : View = at_stage Drawn me.0 in (
-          w,
-          keeps,
-          tt,
-          remade k.log w (slice_set s.words 2 ((slice_index s.words 2 + 1) % 2 ^ 64)) s.homes (inl holds)
-              (ap (λ (ws : List ℕ). slice_set ws 2 ((slice_index ws 2 + 1) % 2 ^ 64)) k.words ∙ ap (λ (st : Stage). turn_word st ∷ length k.log ∷ (number_word st k.made + 1) % 2 ^ 64 ∷ []) now ∙ ap (λ (n : ℕ). 1 ∷ length k.log ∷ n ∷ []) one_more)
-              (subst (λ (st : Stage). Stored stands about a (has_state st) k.log s.homes) now k.stored)
-              (let c = mine.callers in omega (arith, next, room, c)) k.strangers
-              (record { begins = mine.begins; about = mine.about; callers = mine.callers; below = mine.below; loaded = mine.loaded; all = mine.all; own = mine.own; kept = mine.kept; whole = idle (me.0.seen ≡ k.log); next = λ _. next; past = λ bad. absurd (not_also (sym bad)) })
-              others live refl refl,
-          (found ∙ sym next, refl, own_none k.log me.0.seen me.0.loaded mine.begins (k.strangers me.0.loaded (omega (arith, next)))),
-        )
-
-    pub confirm_at : Goes 1 (slice_index s.words 1) (Confirms (step slots 1 0 0 none) me (slice_index s.words 1))
-    confirm_at = (
-      me.0,
-      keeps,
-      tt,
-      same_again (slice_set s.words 1 (slice_index s.words 1)) (ap (λ (ws : List ℕ). slice_set ws 1 (slice_index ws 1)) k.words),
-      (refl, truths a most k.made k.log me.0 mine),
-    )
-
   module _ (a : About) (most id slots : ℕ) (me : Me (Option S) View) (live : me.0.live ≡ true) where
     pub acquires : me.0.stage ≡ Outside → Allows (Kept stands about a most) slots id me 0 (λ n. either (n == 0) 1 n) (Acquires (step slots 0 0 1 none) me)
     acquires out s k wide at small = acquire_at a most id slots me live s k at out
@@ -365,18 +218,6 @@ module _ {S : Type 0} (stands : S → List Stamped → Type 0) (about : S → Ab
 
     pub releases : (st : S) → has_state me.0.stage ≡ true → me.1 ≡ (0, Some st) ∷ [] → stands st me.0.seen → about st ≡ me.0.about → Allows (Kept stands about a most) slots id me 0 (λ _. 0) (λ _. Releases (step slots 0 0 0 none) me 0)
     releases st out carried h same s k wide at small = release_at a most id slots me live s k at st out carried h same
-
-    pub leaves : may_leave me.0.stage ≡ true → (knows_next me.0.stage ≡ true → me.0.loaded ≡ me.0.callers) → me.1 ≡ [] → Allows (Kept stands about a most) slots id me 0 (λ _. 0) (λ _. Releases (step slots 0 0 0 none) me 0)
-    leaves may limit empty s k wide at small = leave_at a most id slots me live s k at may limit empty
-
-    pub numbers : me.0.stage ≡ Holding → Allows (Kept stands about a most) slots id me 2 (λ n. n) (LoadsNumber (step slots 2 0 0 none) me)
-    numbers holding s k wide at small = number_at a most id slots me live s k at holding
-
-    pub draws : me.0.stage ≡ Numbered → me.0.loaded < me.0.callers → me.0.callers ≤ 2 ^ 62 → Allows (Kept stands about a most) slots id me 2 (λ n. (n + 1) % 2 ^ 64) (Draws (step slots 2 1 0 none) me)
-    draws numbered room bounds s k wide at small = draw_at a most id slots me live s k at numbered room bounds
-
-    pub confirms : Allows (Kept stands about a most) slots id me 1 (λ n. n) (Confirms (step slots 1 0 0 none) me)
-    confirms s k wide at small = confirm_at a most id slots me live s k at
 
   -- what lies in the slot in hand after the load of the count
   pub in_hand : (t : Step (Option S)) (v w : Me (Option S) View) (n : ℕ) → Counts stands about t v n w → (x : Option S) × (w.1 ≡ (0, x) ∷ rest w.1)

@@ -1,8 +1,10 @@
 pub mod Beginnings
-pub mod Cutting
 pub mod Counted
+pub mod Cutting
 pub mod Keeping
+pub mod Numbering
 pub mod Passing
+pub mod Remaking
 pub mod Uniting
 pub mod Views
 pub mod WorkedViews

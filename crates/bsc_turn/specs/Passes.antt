@@ -79,7 +79,6 @@ module _ {T S : Type 0} where
   abbrev pub IsFor : Pass → Guard T S → Type 0
   IsFor p d = IsOut p × (p.number ≡ (guard_view d).number)
 
-module _ {T S : Type 0} where
   -- The guard is of this turn.
   abbrev pub IsGuardOf : (S → About) → Turn S → Guard T S → Type 0
   IsGuardOf about t d =

@@ -1,5 +1,5 @@
 use Rattle.std.proofs.Common.{rules}
-use Rattle.bsc_turn.proofs.Keeping.{leaves}
+use Rattle.bsc_turn.proofs.Numbering.{leaves}
 use Rattle.bsc_turn.proofs.steps.leave.Goals as goal
 
 pub store-requires : goal.store-requires

@@ -1,7 +1,7 @@
 use Rattle.std.proofs.Common.{rules, arith, ◌≡◌, ap}
 use Rattle.bsc_turn.specs.declared.view.View.{View}
 use Rattle.bsc_turn.specs.Told.{having_loaded}
-use Rattle.bsc_turn.proofs.Keeping.{numbers, draws}
+use Rattle.bsc_turn.proofs.Numbering.{numbers, draws}
 use Rattle.bsc_turn.proofs.Cutting.{splits}
 use Rattle.bsc_turn.proofs.steps.next_seat.Goals as goal
 

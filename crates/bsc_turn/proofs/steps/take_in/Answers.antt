@@ -1,6 +1,6 @@
 use Rattle.std.proofs.Common.{rules, ◌≡◌, subst}
 use Rattle.bsc_turn.specs.Told.{Truths, joined}
-use Rattle.bsc_turn.proofs.Keeping.{confirms}
+use Rattle.bsc_turn.proofs.Numbering.{confirms}
 use Rattle.bsc_turn.proofs.Uniting.{joins}
 use Rattle.bsc_turn.proofs.steps.take_in.Goals as goal
 
