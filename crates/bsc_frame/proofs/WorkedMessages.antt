@@ -1,12 +1,11 @@
 -- Messages written out in octets, with what the definitions make of them.
-use Rattle.std.proofs.Common.{◌≡◌, ℕ, ◌<◌, true, false, List, [], ◌∷◌, ◌++◌, Some, None, replicate, refl, arith}
+use Rattle.std.proofs.Common.{◌≡◌, true, false, [], ◌∷◌, ◌++◌, Some, None, replicate, refl, arith}
 use Rattle.bsc_octets.specs.declared.vmac.Vmac.{Vmac}
 use Rattle.bsc_octets.specs.Addresses.{broadcast}
-use Rattle.bsc_octets.specs.Envelopes.{flags_in}
 use Rattle.bsc_options.specs.declared.item.OptionItem.{OptionItem}
 use Rattle.bsc_frame.specs.declared.answer.Answer.TheVariants.{Ack, Nak}
-use Rattle.bsc_frame.specs.declared.body.Body.TheVariants.{BvlcResult, Npdu, AddressResolution, AddressResolutionAck, Advertisement, ConnectRequest, HeartbeatAck, Proprietary}
-use Rattle.bsc_frame.specs.Spelling.{flags_of, spelling}
+use Rattle.bsc_frame.specs.declared.body.Body.TheVariants.{BvlcResult, Npdu, AddressResolutionAck, Advertisement, ConnectRequest, HeartbeatAck, Proprietary}
+use Rattle.bsc_frame.specs.Spelling.{spelling}
 use Rattle.bsc_frame.specs.Layout.{announces_dest_options, announces_data_options, options_at}
 use Rattle.bsc_frame.specs.PayloadChecks.{expects_payload, fixed_part, takes_rest}
 use Rattle.bsc_frame.specs.Checks.{LacksAddressOctets, HasReservedFlag, HasUnknownFunction}

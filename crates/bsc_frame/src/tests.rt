@@ -5,6 +5,8 @@ ghost use Rattle.bsc_frame.specs.Spelling.{HasSpelling};
 
 use super::rows::{FIXED_PARTS, MALFORMED_FRONTS, MALFORMED_PAYLOADS, WHOLE};
 use super::*;
+use bsc_octets::{NoMemory, Octets, Vmac};
+use bsc_options::Options;
 use std::alloc::Global;
 use std::test::*;
 
@@ -35,6 +37,27 @@ fn read_again(alloc: Global, message: &Message) -> Result<Message, FrameFault>
 {
     let octets = write(alloc, message)?;
     read(alloc, octets.as_slice())
+}
+
+/// A Heartbeat-ACK to a node, for the request with this ID: a message that is made here has a spelling.
+fn heartbeat_ack(alloc: Global, id: u16, to: Vmac) -> Result<Octets, NoMemory> {
+    let message = Message {
+        id,
+        origin: None,
+        dest: Some(to),
+        dest_options: Options::new(alloc),
+        data_options: Options::new(alloc),
+        body: Body::HeartbeatAck,
+    };
+    write(alloc, &message)
+}
+
+#[test]
+fn writes(rt: HostRuntime) -> Result<(), Fail> {
+    let octets = heartbeat_ack(rt.alloc(), 0x1234, Vmac([0x02, 0, 0, 0, 0, 0x0A]))?;
+    let wanted = octets_of(rt.alloc(), "0B 04 1234 02000000000A")?;
+    assert_eq!(rt; octets.as_slice(), wanted.as_slice());
+    Ok(())
 }
 
 #[test]

@@ -1,5 +1,5 @@
 -- The answers of looking at a list are those of reading it, without the list.
-use Rattle.std.proofs.Common.{◌≡◌, ◌≢◌, ℕ, ◌+◌, ◌<◌, ◌≤◌, ◌⊎◌, inl, inr, List, ◌∷◌, ◌++◌, length, drop, Option, Some, None, Result, Ok, Err, refl, sym, ap, subst, ◌∙◌, arith, length-append, length-drop}
+use Rattle.std.proofs.Common.{◌≡◌, ◌≢◌, ℕ, ◌+◌, ◌<◌, ◌≤◌, inl, inr, List, length, drop, Some, None, Result, Ok, Err, refl, sym, ap, subst, ◌∙◌, arith, length-append, length-drop}
 use Rattle.std.specs.Prelude.{IfOk}
 use Rattle.bsc_options.specs.declared.item.OptionItem.{OptionItem}
 use Rattle.bsc_options.specs.declared.fault.OptionsFault.{OptionsFault}
@@ -7,7 +7,7 @@ use Rattle.bsc_options.specs.declared.fault.OptionsFault.TheVariants.{Cut, BadKi
 use Rattle.bsc_options.specs.Spelling.{AreOptions, spelling_of}
 use Rattle.bsc_options.specs.Reading.{AreItems, BeginsWith, IsCut, IsFirstAtFault}
 use Rattle.bsc_options.specs.Walk.{Answers, Finds, EndsAt, first_fault}
-use Rattle.bsc_options.proofs.Exact.{SaysOf, begins_at, options_found, list_taken, fault_answers, spelled_some, within_of, only_of, cut_if, bad_kind_if, bad_shape_if, cut_or_whole, items_of_options, fit_all}
+use Rattle.bsc_options.proofs.Exact.{SaysOf, begins_at, options_found, list_taken, fault_answers, spelled_some, within_of, only_of, cut_if, bad_kind_if, bad_shape_if, cut_or_whole}
 use Rattle.bsc_options.proofs.Faults.{fault_at, never_memory}
 
 abbrev Found : Type 0
