@@ -48,7 +48,7 @@ module _ (result : ℕ) (o t : List ℕ) (left mid held : Option (List ℕ)) (fa
     (λ (e : EndsWith result 2 mid held (script_line n)). ⊎_elim
       (λ (h : (result ≡ 2) × Appends mid held (script_line n)). told_refused h.0 (n, record {
         refused = r.refused;
-        written = appended mid held (t ++ (replay_of o).text) (script_line n) r.written h.1 ∙ ap Some (append_assoc t (replay_of o).text (script_line n));
+        written = appended mid held (t ++ (replay_of o).text) (script_line n) r.written h.1;
         taken = r.taken;
         decided = r.decided;
       }))
@@ -73,7 +73,7 @@ module _ (result : ℕ) (o t : List ℕ) (left mid held : Option (List ℕ)) (fa
     (λ (h : (result ≡ 3) × Appends mid held read_line). told_stopped h.0 (record {
       taken = r.taken;
       accepted = r.accepted;
-      written = appended mid held (t ++ (replay_of (whole_lines r.taken.read)).text) read_line r.written h.1 ∙ ap Some (append_assoc t (replay_of (whole_lines r.taken.read)).text read_line);
+      written = appended mid held (t ++ (replay_of (whole_lines r.taken.read)).text) read_line r.written h.1;
     }))
     (λ (h : (result ≡ 4) × PutsPrefix mid held read_line). told_broken h.0 (inr (inr (record {
       failed = rose;
