@@ -37,7 +37,9 @@ const REFUSED: &str = concat!(
 );
 
 const ONE: &str = "A unbuilt --\n";
+
 const TWO: &str = "A unbuilt --\nB unbuilt 09\n";
+
 const ALL: &str = "A unbuilt --\nB unbuilt 09\nA unbuilt 06\n";
 
 /// The reads and the writes that fail, how much the sink takes, and what stands written at which end.
