@@ -1,6 +1,5 @@
-use Rattle.std.proofs.Common.{◌≡◌, ℕ, List, inl, sym, ◌∙◌}
+use Rattle.std.proofs.Common.{◌≡◌, inl, ◌∙◌}
 use Rattle.bsc_program.specs.Statuses.{script_line}
-use Rattle.bsc_program.specs.Endings.{EndsWith}
 use Rattle.bsc_program.proofs.run.refuse_line.Goals as goal
 
 pub returns-in-Ok-clause-ends : goal.returns-in-Ok-clause-ends
