@@ -1,5 +1,5 @@
 -- How a run ends whose script was replayed.
-use Rattle.std.proofs.Common.{◌≡◌, ℕ, ◌⊎◌, inl, inr, ⊎_elim, List, [], ◌∷◌, ◌++◌, length, take, drop, refl, ap, sym, ◌∙◌, subst, append_assoc, append-nil, arith, Option, Some, None, Result, Ok, Err}
+use Rattle.std.proofs.Common.{◌≡◌, ℕ, ◌⊎◌, inl, inr, ⊎_elim, List, [], ◌++◌, length, take, drop, refl, ap, sym, ◌∙◌, subst, append-nil, arith, Option, Some, None, Result, Ok, Err}
 use Rattle.std.proofs.lemmas.List.{take_all, take-append-drop}
 use Rattle.std.specs.Prelude.{⊤, OnOk, OnErr}
 use Rattle.std.specs.Io.KnownBytes.{Appends}
@@ -24,9 +24,9 @@ tried before after octets (Err failed) ok err = err
 -- the last line in whole or in part
 pub ends_in_part : (result status : ℕ) (before after : Option (List ℕ)) (line : List ℕ) → EndsWith result status before after line → PutsPrefix before after line
 ends_in_part result status before after line ends = ⊎_elim
-  (λ (h : (result ≡ status) × Appends before after line). puts_all before after line h.1)
-  (λ (h : (result ≡ 4) × PutsPrefix before after line). h.1)
-  ends
+    (λ (h : (result ≡ status) × Appends before after line). puts_all before after line h.1)
+    (λ (h : (result ≡ 4) × PutsPrefix before after line). h.1)
+    ends
 
 appended : (before after : Option (List ℕ)) (x part : List ℕ) → before ≡ Some x → Appends before after part → after ≡ Some (x ++ part)
 appended None after x part same h = absurd cc
@@ -45,43 +45,46 @@ module _ (result : ℕ) (o t : List ℕ) (left mid held : Option (List ℕ)) (fa
   -- the script was refused at line n
   ends_refused : (n : ℕ) → WritesTo n o t left mid → EndsWith result 2 mid held (script_line n) ⊎ RanOut result mid held → Told result o t left held faults faults'
   ends_refused n r ends = ⊎_elim
-    (λ (e : EndsWith result 2 mid held (script_line n)). ⊎_elim
-      (λ (h : (result ≡ 2) × Appends mid held (script_line n)). told_refused h.0 (n, record {
-        refused = r.refused;
-        written = appended mid held (t ++ (replay_of o).text) (script_line n) r.written h.1 ∙ ap Some (append_assoc t (replay_of o).text (script_line n));
-        taken = r.taken;
-        decided = r.decided;
-      }))
+      (λ (e : EndsWith result 2 mid held (script_line n)). ⊎_elim
+      (λ (h : (result ≡ 2) × Appends mid held (script_line n)). told_refused h.0 (
+        n,
+        record {
+          refused = r.refused;
+          written = appended mid held (t ++ (replay_of o).text) (script_line n) r.written h.1;
+          taken = r.taken;
+          decided = r.decided;
+        },
+      ))
       (λ (h : (result ≡ 4) × PutsPrefix mid held (script_line n)). told_broken h.0 (inr (inl (record {
         line = n;
         refused = r.refused;
         written = subst (λ (m : Option (List ℕ)). PutsPrefix m held (script_line n)) r.written h.1;
       }))))
       e)
-    (λ (e : RanOut result mid held). told_ran_out e.0 (record {
-      taken = r.taken;
-      text = (replay_of o).text;
-      more = [];
-      first = r.in_time ∙ sym (append-nil (replay_of o).text);
-      written = subst (λ (m : Option (List ℕ)). PutsPrefix m held memory_line) r.written e.1;
-    }))
-    ends
+      (λ (e : RanOut result mid held). told_ran_out e.0 (record {
+        taken = r.taken;
+        text = (replay_of o).text;
+        more = [];
+        first = r.in_time ∙ sym (append-nil (replay_of o).text);
+        written = subst (λ (m : Option (List ℕ)). PutsPrefix m held memory_line) r.written e.1;
+      }))
+      ends
 
   -- a read failed
   ends_stopped : Rose faults faults' → WritesWhole o t left mid → EndsWith result 3 mid held read_line → Told result o t left held faults faults'
   ends_stopped rose r ends = ⊎_elim
-    (λ (h : (result ≡ 3) × Appends mid held read_line). told_stopped h.0 (record {
-      taken = r.taken;
-      accepted = r.accepted;
-      written = appended mid held (t ++ (replay_of (whole_lines r.taken.read)).text) read_line r.written h.1 ∙ ap Some (append_assoc t (replay_of (whole_lines r.taken.read)).text read_line);
-    }))
-    (λ (h : (result ≡ 4) × PutsPrefix mid held read_line). told_broken h.0 (inr (inr (record {
-      failed = rose;
-      taken = r.taken;
-      accepted = r.accepted;
-      written = subst (λ (m : Option (List ℕ)). PutsPrefix m held read_line) r.written h.1;
-    }))))
-    ends
+      (λ (h : (result ≡ 3) × Appends mid held read_line). told_stopped h.0 (record {
+        taken = r.taken;
+        accepted = r.accepted;
+        written = appended mid held (t ++ (replay_of (whole_lines r.taken.read)).text) read_line r.written h.1;
+      }))
+      (λ (h : (result ≡ 4) × PutsPrefix mid held read_line). told_broken h.0 (inr (inr (record {
+        failed = rose;
+        taken = r.taken;
+        accepted = r.accepted;
+        written = subst (λ (m : Option (List ℕ)). PutsPrefix m held read_line) r.written h.1;
+      }))))
+      ends
 
   front_of : (before : Option (List ℕ)) (text : List ℕ) → PutsPrefix (Some t) before text → (n : ℕ) × (before ≡ Some (t ++ take n text))
   front_of None text h = absurd h.2

@@ -1,5 +1,5 @@
 -- What a run of the program comes to, by its words.
-use Rattle.std.specs.Prelude.{◌≡◌, ℕ, ◌⊎◌, ◌≤◌, List, [], ◌∷◌, ◌++◌, length, take, codes, decimal, Option, Some}
+use Rattle.std.specs.Prelude.{◌≡◌, ℕ, ◌⊎◌, List, [], ◌∷◌, ◌++◌, codes, decimal, Option, Some}
 use Rattle.bsc_outside.specs.Faults.{Rose, PutsPrefix}
 use Rattle.bsc_replay.specs.Playing.{replay_of}
 use Rattle.bsc_replay.specs.Replaying.{Taken, whole_lines, lines_read, AcceptsLines, Decides, WritesSome}

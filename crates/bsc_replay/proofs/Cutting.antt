@@ -1,8 +1,7 @@
 -- Whole lines, and what may follow them.
-use Rattle.std.proofs.Common.{◌≡◌, ◌≢◌, ℕ, Bool, true, false, ◌==◌, ◌⊎◌, inl, inr, ⊎_elim, List, [], ◌∷◌, ◌++◌, length, refl, ap, sym, ◌∙◌, arith}
+use Rattle.std.proofs.Common.{◌≡◌, ℕ, Bool, true, false, ◌==◌, ◌⊎◌, inl, inr, ⊎_elim, List, [], ◌∷◌, ◌++◌, refl, ap, sym, ◌∙◌}
 use Rattle.std.specs.List.{concat}
-use Rattle.std.proofs.lemmas.Bool.Decides.{nat_tests}
-use Rattle.bsc_text.specs.Lines.{pieces_of, in_front, has_no_lf}
+use Rattle.bsc_text.specs.Lines.{pieces_of, has_no_lf}
 use Rattle.bsc_replay.specs.Replaying.{whole_lines}
 
 -- with no LF there is no whole line
@@ -66,9 +65,9 @@ first_piece (c ∷ o) piece pieces h = by (first_piece o) (c == 10) refl (pieces
         let is : piece ≡ c ∷ q = cc in
         let after : pieces ≡ qs = cc in
         ⊎_elim
-          (λ (w : IsWhole q). inl (rw is (whole-more c q e w)))
-          (λ (l : IsLast o q qs). inr (record { none_after = after ∙ l.none_after; no_lf = rw (is, e) l.no_lf; all = cc }))
-          (next q qs k)
+        (λ (w : IsWhole q). inl (rw is (whole-more c q e w)))
+        (λ (l : IsLast o q qs). inr (record { none_after = after ∙ l.none_after; no_lf = rw (is, e) l.no_lf; all = cc }))
+        (next q qs k)
 
 -- the pieces of some octets are all of them
 pub concat-pieces_of : (o : List ℕ) → concat (pieces_of o) ≡ o

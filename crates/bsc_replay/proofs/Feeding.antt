@@ -1,5 +1,5 @@
 -- What a feed gives, by the octets that were read and those that are left.
-use Rattle.std.proofs.Common.{◌≡◌, ℕ, ◌+◌, Bool, true, false, ◌⊎◌, inl, inr, ⊎_elim, List, [], ◌∷◌, ◌++◌, length, refl, ap, sym, ◌∙◌, append_assoc, append-nil, Option, Some, None}
+use Rattle.std.proofs.Common.{◌≡◌, ℕ, ◌+◌, Bool, true, false, inl, inr, ⊎_elim, List, [], ◌∷◌, ◌++◌, length, refl, ap, sym, ◌∙◌, append_assoc, append-nil, Option, Some, None}
 use Rattle.std.proofs.lemmas.List.{append_cancel_right}
 use Rattle.bsc_text.specs.declared.feed.Feed.{Feed}
 use Rattle.bsc_text.specs.declared.feed.NextLine.TheVariants.{Line, Refused}
@@ -17,9 +17,9 @@ use Rattle.bsc_replay.proofs.Stopping.{RefusesFirst, RefusesNext}
 -- a piece with no LF is the last
 last_of : (o piece : List ℕ) (pieces : List (List ℕ)) → pieces_of o ≡ piece ∷ pieces → has_no_lf piece ≡ true → IsLast o piece pieces
 last_of o piece pieces first no_lf = ⊎_elim
-  (λ (w : IsWhole piece). absurd (let bad = sym (ap has_no_lf (append-nil piece)) ∙ w.has_lf [] in cc))
-  (λ (l : IsLast o piece pieces). l)
-  (first_piece o piece pieces first)
+    (λ (w : IsWhole piece). absurd (let bad = sym (ap has_no_lf (append-nil piece)) ∙ w.has_lf [] in cc))
+    (λ (l : IsLast o piece pieces). l)
+    (first_piece o piece pieces first)
 
 -- a piece with no LF is given only at the end of the input
 only_at_end : (old new : Feed) (rest l piece : List ℕ) → Feeds old new (Line l) → pieces_of (unread old ++ rest) ≡ piece ∷ pieces_of (unread new ++ rest) → has_no_lf piece ≡ true → (b : Bool) → old.ended ≡ b → old.ended ≡ true
@@ -64,18 +64,17 @@ pub line_refused : (old new : Feed) (rest l : List ℕ) (scene : Option Scene) �
 line_refused old new rest l scene g none =
     let after = fits_after scene old.count g.piece g.fits ∙ ap (λ (x : List ℕ). said_after scene (line_of x)) (sym g.line) ∙ none in
     let parted : unread old ++ rest ≡ (g.piece ++ unread new) ++ rest = first_and_rest (unread old ++ rest) g.piece (unread new ++ rest) g.first ∙ sym (append_assoc g.piece (unread new) rest) in
-    let front : unread old ≡ g.piece ++ unread new = append_cancel_right (unread old) (g.piece ++ unread new) rest parted in
-    (
+    let front : unread old ≡ g.piece ++ unread new = append_cancel_right (unread old) (g.piece ++ unread new) rest parted in (
       record { piece = g.piece; pieces = pieces_of (unread new ++ rest); first = g.first; refused = after },
       ⊎_elim
-        (λ (w : IsWhole g.piece). inr (λ more. record {
-          piece = g.piece;
-          pieces = pieces_of (unread new ++ more);
-          first = ap (λ (x : List ℕ). pieces_of (x ++ more)) front ∙ ap pieces_of (append_assoc g.piece (unread new) more) ∙ w.cuts (unread new ++ more);
-          refused = after;
-        }))
-        (λ (l : IsLast (unread old ++ rest) g.piece (pieces_of (unread new ++ rest))). inl (nothing_in_front (unread new) rest (pieces_of-none (unread new ++ rest) l.none_after)).1)
-        (first_piece (unread old ++ rest) g.piece (pieces_of (unread new ++ rest)) g.first),
+          (λ (w : IsWhole g.piece). inr (λ more. record {
+            piece = g.piece;
+            pieces = pieces_of (unread new ++ more);
+            first = ap (λ (x : List ℕ). pieces_of (x ++ more)) front ∙ ap pieces_of (append_assoc g.piece (unread new) more) ∙ w.cuts (unread new ++ more);
+            refused = after;
+          }))
+          (λ (l : IsLast (unread old ++ rest) g.piece (pieces_of (unread new ++ rest))). inl (nothing_in_front (unread new) rest (pieces_of-none (unread new ++ rest) l.none_after)).1)
+          (first_piece (unread old ++ rest) g.piece (pieces_of (unread new ++ rest)) g.first),
     )
 
 -- a line that is too big is refused, whatever may follow

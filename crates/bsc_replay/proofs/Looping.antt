@@ -1,5 +1,5 @@
 -- What the loop over the lines of a script keeps, and how it ends.
-use Rattle.std.proofs.Common.{◌≡◌, ℕ, ◌+◌, ◌≤◌, ◌<◌, ◌⊎◌, inl, inr, ⊎_elim, true, false, List, [], ◌∷◌, ◌++◌, length, refl, ap, sym, ◌∙◌, subst, append-nil, arith, Option, Some, None, Err}
+use Rattle.std.proofs.Common.{◌≡◌, ℕ, ◌+◌, ◌≤◌, ◌<◌, ⊎_elim, true, false, List, [], ◌++◌, refl, ap, sym, ◌∙◌, subst, append-nil, arith, Option, Some, None, Err}
 use Rattle.std.specs.Option.{option_map}
 use Rattle.std.specs.Io.KnownBytes.{Appends, Keeps, IsAtEnd}
 use Rattle.bsc_outside.specs.Faults.{PutsPrefix}
@@ -20,7 +20,7 @@ use Rattle.bsc_replay.specs.Steps.{HoldsIf, SomeIf, StandsAs, StepsTo, HandsOver
 use Rattle.bsc_replay.proofs.Playing.{fits_after}
 use Rattle.bsc_replay.proofs.Reached.{Reached, begins, plays_line, hands_over, reads_on}
 use Rattle.bsc_replay.proofs.Feeding.{line_given, line_refused, big_refused}
-use Rattle.bsc_replay.proofs.Stopping.{RefusesFirst, RefusesNext, breaks_off, runs_out, ends_refused, ends_as, ends_at_fault}
+use Rattle.bsc_replay.proofs.Stopping.{breaks_off, runs_out, ends_refused, ends_as, ends_at_fault}
 
 -- What the loop over the lines keeps.
 pub record PlaysOn (left_before held_before left held : Option (List ℕ)) (feed : Feed) (number : ℕ) (stage : Option Stage) (collected : List ℕ) : Type 0 where
@@ -106,9 +106,9 @@ loop_fills lb hb left left' held held' feed new filled number stage collected co
 -- How a replay stopped, over what it had reached.
 stops_as : (result end : ReplayEnd) (o t : List ℕ) (left held held' : Option (List ℕ)) (collected : List ℕ) → StopsAs result end held held' collected → (Appends held held' collected → Replays end o t left held') → (PutsPrefix held held' collected → WritesSome o t left held') → Replays result o t left held'
 stops_as result end o t left held held' collected stopped all some = ⊎_elim
-  (λ (h : (result ≡ end) × Appends held held' collected). subst (λ (e : ReplayEnd). Replays e o t left held') (sym h.0) (all h.1))
-  (λ (h : (result ≡ WriteFault) × PutsPrefix held held' collected). subst (λ (e : ReplayEnd). Replays e o t left held') (sym h.0) (some h.1))
-  stopped
+    (λ (h : (result ≡ end) × Appends held held' collected). subst (λ (e : ReplayEnd). Replays e o t left held') (sym h.0) (all h.1))
+    (λ (h : (result ≡ WriteFault) × PutsPrefix held held' collected). subst (λ (e : ReplayEnd). Replays e o t left held') (sym h.0) (some h.1))
+    stopped
 
 -- the line that was given is refused
 pub loop_refuses : (lb hb left held held' : Option (List ℕ)) (feed new : Feed) (number : ℕ) (stage : Option Stage) (collected text l : List ℕ) (result : ReplayEnd) (fault : LineFault)
@@ -123,8 +123,8 @@ loop_refuses lb hb left held held' feed new number stage collected text l result
     let none = rw is at (played r.scene r.holds) in
     let f = line_refused feed new r.rest l r.scene g none in
     stops_as result (BadLine number) o t left held held' collected (rw kept at stopped)
-      (λ put. ends_refused o t left held held' (unread feed) feed.ended feed.count number stage collected r f.0 f.1 put)
-      (λ part. breaks_off o t left held held' (unread feed) feed.ended feed.count number stage collected r part)
+    (λ put. ends_refused o t left held held' (unread feed) feed.ended feed.count number stage collected r f.0 f.1 put)
+    (λ part. breaks_off o t left held held' (unread feed) feed.ended feed.count number stage collected r part)
 
 -- the next line is too big
 pub loop_refuses_big : (lb hb left held held' : Option (List ℕ)) (feed new : Feed) (number : ℕ) (stage : Option Stage) (collected : List ℕ) (result : ReplayEnd)
@@ -136,8 +136,8 @@ loop_refuses_big lb hb left held held' feed new number stage collected result in
     let r = inv.reached o t left_is held_is in
     let f = big_refused feed new r.rest r.scene r.at_end fed in
     stops_as result (BadLine number) o t left held held' collected stopped
-      (λ put. ends_refused o t left held held' (unread feed) feed.ended feed.count number stage collected r f.0 f.1 put)
-      (λ part. breaks_off o t left held held' (unread feed) feed.ended feed.count number stage collected r part)
+    (λ put. ends_refused o t left held held' (unread feed) feed.ended feed.count number stage collected r f.0 f.1 put)
+    (λ part. breaks_off o t left held held' (unread feed) feed.ended feed.count number stage collected r part)
 
 -- memory ran out
 pub loop_runs_out : (lb hb left held held' : Option (List ℕ)) (feed : Feed) (number : ℕ) (stage : Option Stage) (collected text : List ℕ) (result : ReplayEnd)
@@ -147,8 +147,8 @@ pub loop_runs_out : (lb hb left held held' : Option (List ℕ)) (feed : Feed) (n
 loop_runs_out lb hb left held held' feed number stage collected text result inv kept stopped o t left_is held_is =
     let r = inv.reached o t left_is held_is in
     stops_as result NoMemory o t left held held' collected (rw kept at stopped)
-      (λ put. runs_out o t left held held' (unread feed) feed.ended feed.count number stage collected r put)
-      (λ part. breaks_off o t left held held' (unread feed) feed.ended feed.count number stage collected r part)
+    (λ put. runs_out o t left held held' (unread feed) feed.ended feed.count number stage collected r put)
+    (λ part. breaks_off o t left held held' (unread feed) feed.ended feed.count number stage collected r part)
 
 -- a write failed
 pub loop_breaks_off : (lb hb left held held' : Option (List ℕ)) (feed : Feed) (number : ℕ) (stage : Option Stage) (collected : List ℕ)
@@ -173,5 +173,5 @@ pub loop_ends : (lb hb left held held' : Option (List ℕ)) (feed new : Feed) (n
 loop_ends lb hb left held held' feed new number stage collected result end inv ended same is stopped o t left_is held_is =
     let r = inv.reached o t left_is held_is in
     stops_as result (end_of stage number) o t left held held' collected (rw is at stopped)
-      (λ put. ends_as o t left held held' (unread feed) feed.ended feed.count number stage collected r ended.none_before (sym same ∙ ended.ended) put)
-      (λ part. breaks_off o t left held held' (unread feed) feed.ended feed.count number stage collected r part)
+    (λ put. ends_as o t left held held' (unread feed) feed.ended feed.count number stage collected r ended.none_before (sym same ∙ ended.ended) put)
+    (λ part. breaks_off o t left held held' (unread feed) feed.ended feed.count number stage collected r part)

@@ -82,29 +82,29 @@ nothing_in_front (c ∷ a) b h = absurd cc
 -- where a line is still to be given, each line before it has its LF
 pub given_before : (given : List ℕ) (pieces : List (List ℕ)) (unread rest piece : List ℕ) (ended : Bool) (after : List (List ℕ)) → pieces_of (unread ++ rest) ≡ piece ∷ after → IsGiven given pieces ⊎ IsAll given pieces unread rest ended → IsGiven given pieces
 given_before given pieces unread rest piece ended after first cut = ⊎_elim
-  (λ (g : IsGiven given pieces). g)
-  (λ (a : IsAll given pieces unread rest ended).
+    (λ (g : IsGiven given pieces). g)
+    (λ (a : IsAll given pieces unread rest ended).
     let none : unread ++ rest ≡ [] = rw (a.none_unread, a.none_left) refl in
     let bad = rw none at first in
     absurd cc)
-  cut
+    cut
 
 -- where the input goes on, each line has its LF
 pub given_going : (given : List ℕ) (pieces : List (List ℕ)) (unread rest : List ℕ) (ended : Bool) → ended ≡ false → IsGiven given pieces ⊎ IsAll given pieces unread rest ended → IsGiven given pieces
 given_going given pieces unread rest ended going cut = ⊎_elim
-  (λ (g : IsGiven given pieces). g)
-  (λ (a : IsAll given pieces unread rest ended). absurd (let bad = a.at_end in cc))
-  cut
+    (λ (g : IsGiven given pieces). g)
+    (λ (a : IsAll given pieces unread rest ended). absurd (let bad = a.at_end in cc))
+    cut
 
 -- the lines that were given, with the next one
 cut_more : (given : List ℕ) (pieces : List (List ℕ)) (unread unread' rest piece : List ℕ) (ended : Bool) → IsGiven given pieces → pieces_of (unread ++ rest) ≡ piece ∷ pieces_of (unread' ++ rest) → (has_no_lf piece ≡ true → ended ≡ true) → IsGiven (given ++ piece) (pieces ++ piece ∷ []) ⊎ IsAll (given ++ piece) (pieces ++ piece ∷ []) unread' rest ended
 cut_more given pieces unread unread' rest piece ended g first lf = ⊎_elim
-  (λ (w : IsWhole piece). inl (given_more given piece pieces g w))
-  (λ (l : IsLast (unread ++ rest) piece (pieces_of (unread' ++ rest))).
+    (λ (w : IsWhole piece). inl (given_more given piece pieces g w))
+    (λ (l : IsLast (unread ++ rest) piece (pieces_of (unread' ++ rest))).
     let none = nothing_in_front unread' rest (pieces_of-none (unread' ++ rest) l.none_after) in
     let one : pieces_of piece ≡ piece ∷ [] = ap pieces_of (sym l.all) ∙ first ∙ ap (λ (x : List (List ℕ)). piece ∷ x) l.none_after in
     inr (given_last given piece unread' rest pieces ended g one none.0 none.1 (lf l.no_lf)))
-  (first_piece (unread ++ rest) piece (pieces_of (unread' ++ rest)) first)
+    (first_piece (unread ++ rest) piece (pieces_of (unread' ++ rest)) first)
 
 -- a line was given, and carried out
 next_line : (o t : List ℕ) (left held : Option (List ℕ)) (unread unread' : List ℕ) (ended : Bool) (count number : ℕ) (stage stage' : Option Stage) (collected collected' piece : List ℕ) (st : Stood) (r : Reached o t left held unread ended count number stage collected)

@@ -9,7 +9,7 @@ use Rattle.bsc_outside.specs.Faults.{PutsPrefix}
 use Rattle.bsc_text.specs.Lines.{pieces_of, has_no_lf}
 use Rattle.bsc_stage.specs.Scenes.{Scene}
 use Rattle.bsc_replay.specs.Playing.{Played, piece_after, ended_at, play, replay_of}
-use Rattle.bsc_replay.specs.Replaying.{Taken, whole_lines, lines_read, AcceptsLines, WritesAll, WritesTo, WritesWhole, WritesSome, Replays}
+use Rattle.bsc_replay.specs.Replaying.{Taken, whole_lines, lines_read, WritesAll, WritesTo, WritesWhole, WritesSome, Replays}
 use Rattle.bsc_replay.specs.Steps.{HoldsIf, end_of}
 use Rattle.bsc_replay.proofs.Cutting.{IsWhole, IsLast, pieces_of-none, whole_lines-none, first_piece, concat-pieces_of}
 use Rattle.bsc_replay.proofs.Playing.{Plays, plays_all, play_refused, play_end, ended_says}
@@ -39,19 +39,19 @@ pub record BeginsWith (all text : List ℕ) : Type 0 where
 -- the text of the lines that were read begins with that of the lines that were given
 text_first : (given unread rest : List ℕ) (ended : Bool) (pieces : List (List ℕ)) (scene : Option Scene) (number count : ℕ) (text : List ℕ) → IsGiven given pieces ⊎ IsAll given pieces unread rest ended → Plays pieces scene number count text → BeginsWith (replay_of (lines_read (given ++ unread) rest)).text text
 text_first given unread [] ended pieces scene number count text cut p = ⊎_elim
-  (λ (g : IsGiven given pieces). record { more = (play scene number count (pieces_of unread)).text; is = says_after given pieces scene number count text g p unread })
-  (λ (a : IsAll given pieces unread [] ended).
+    (λ (g : IsGiven given pieces). record { more = (play scene number count (pieces_of unread)).text; is = says_after given pieces scene number count text g p unread })
+    (λ (a : IsAll given pieces unread [] ended).
     let none : given ++ unread ≡ given = ap (λ (x : List ℕ). given ++ x) a.none_unread ∙ append-nil given in
     let all : (replay_of (given ++ unread)).text ≡ text = ap (λ (x : List ℕ). (replay_of x).text) none ∙ ap (λ (x : List (List ℕ)). (play None 1 0 x).text) a.cut ∙ ap (λ (x : Played). x.text) (plays_all pieces scene number count text p) in
     record { more = []; is = all ∙ sym (append-nil text) })
-  cut
+    cut
 text_first given unread (c ∷ rest) ended pieces scene number count text cut p = ⊎_elim
-  (λ (g : IsGiven given pieces). record {
-    more = (play scene number count (pieces_of (whole_lines unread))).text;
-    is = ap (λ (x : List ℕ). (replay_of x).text) (g.whole unread) ∙ says_after given pieces scene number count text g p (whole_lines unread);
-  })
-  (λ (a : IsAll given pieces unread (c ∷ rest) ended). absurd (let bad = a.none_left in cc))
-  cut
+    (λ (g : IsGiven given pieces). record {
+      more = (play scene number count (pieces_of (whole_lines unread))).text;
+      is = ap (λ (x : List ℕ). (replay_of x).text) (g.whole unread) ∙ says_after given pieces scene number count text g p (whole_lines unread);
+    })
+    (λ (a : IsAll given pieces unread (c ∷ rest) ended). absurd (let bad = a.none_left in cc))
+    cut
 
 -- a first part of some octets, after others, is a first part of both and more
 puts_part : (t xs st ys all : List ℕ) (held : Option (List ℕ)) → all ≡ xs ++ (st ++ ys) → PutsPrefix (Some (t ++ xs)) held st → PutsPrefix (Some t) held all
@@ -94,10 +94,11 @@ whole_says_nothing scene number count unread rest f = by (pieces_of unread) refl
   where
     none : whole_lines unread ≡ [] → (play scene number count (pieces_of (whole_lines unread))).text ≡ []
     none e = ap (λ (x : List ℕ). (play scene number count (pieces_of x)).text) e ∙ ap (λ (x : Played). x.text) (play_end scene number count) ∙ ended_says scene number
+
     by : (ps : List (List ℕ)) → pieces_of unread ≡ ps → (play scene number count (pieces_of (whole_lines unread))).text ≡ []
     by [] e = none (rw (pieces_of-none unread e) refl)
     by (p ∷ ps) e = ⊎_elim
-      (λ (w : IsWhole p).
+        (λ (w : IsWhole p).
         let parted : unread ≡ p ++ concat ps = sym (concat-pieces_of unread) ∙ ap concat e in
         let longer : pieces_of (unread ++ rest) ≡ p ∷ pieces_of (concat ps ++ rest) = ap (λ (x : List ℕ). pieces_of (x ++ rest)) parted ∙ ap pieces_of (append_assoc p (concat ps) rest) ∙ w.cuts (concat ps ++ rest) in
         let both = sym f.first ∙ longer in
@@ -106,8 +107,8 @@ whole_says_nothing scene number count unread rest f = by (pieces_of unread) refl
         let cut : pieces_of (whole_lines unread) ≡ p ∷ pieces_of (whole_lines (concat ps)) = ap pieces_of whole ∙ w.cuts (whole_lines (concat ps)) in
         let after : piece_after scene count p ≡ None = ap (piece_after scene count) (sym same) ∙ f.refused in
         ap (λ (x : List (List ℕ)). (play scene number count x).text) cut ∙ ap (λ (x : Played). x.text) (play_refused scene number count p (pieces_of (whole_lines (concat ps))) after))
-      (λ (l : IsLast unread p ps). none (whole_lines-none unread (ap has_no_lf l.all ∙ l.no_lf)))
-      (first_piece unread p ps e)
+        (λ (l : IsLast unread p ps). none (whole_lines-none unread (ap has_no_lf l.all ∙ l.no_lf)))
+        (first_piece unread p ps e)
 
 -- the same of all that was read
 in_time : (given unread rest : List ℕ) (pieces : List (List ℕ)) (scene : Option Scene) (number count : ℕ) (text : List ℕ) → IsGiven given pieces → Plays pieces scene number count text → RefusesFirst scene count (unread ++ rest) → (replay_of (lines_read (given ++ unread) rest)).text ≡ text
@@ -133,10 +134,10 @@ pub ends_refused : (o t : List ℕ) (left held held' : Option (List ℕ)) (unrea
 ends_refused o t left held held' unread ended count number stage collected r first next put =
     let g = given_before r.given r.pieces unread r.rest first.piece ended first.pieces first.first r.cut in
     let refused : (more : List ℕ) → RefusesFirst r.scene count (unread ++ more) → replay_of (r.given ++ (unread ++ more)) ≡ record { text = r.text; refused = Some number } = λ more f. (
-        let turned = first_refused r.scene number count (unread ++ more) f in
-        let says : (replay_of (r.given ++ (unread ++ more))).text ≡ r.text = says_after r.given r.pieces r.scene number count r.text g r.plays (unread ++ more) ∙ ap (λ (x : Played). r.text ++ x.text) turned ∙ append-nil r.text in
-        let refuses : (replay_of (r.given ++ (unread ++ more))).refused ≡ Some number = refuses_after r.given r.pieces r.scene number count r.text g r.plays (unread ++ more) ∙ ap (λ (x : Played). x.refused) turned in
-        rw (← says, ← refuses) refl) in
+    let turned = first_refused r.scene number count (unread ++ more) f in
+    let says : (replay_of (r.given ++ (unread ++ more))).text ≡ r.text = says_after r.given r.pieces r.scene number count r.text g r.plays (unread ++ more) ∙ ap (λ (x : Played). r.text ++ x.text) turned ∙ append-nil r.text in
+    let refuses : (replay_of (r.given ++ (unread ++ more))).refused ≡ Some number = refuses_after r.given r.pieces r.scene number count r.text g r.plays (unread ++ more) ∙ ap (λ (x : Played). x.refused) turned in
+    rw (← says, ← refuses) refl) in
     let here : replay_of o ≡ record { text = r.text; refused = Some number } = ap replay_of r.octets ∙ refused r.rest first in
     let said : (replay_of o).text ≡ r.text = ap (λ (x : Played). x.text) here in
     record {
@@ -144,9 +145,9 @@ ends_refused o t left held held' unread ended count number stage collected r fir
       written = written_all o t left held held' unread ended count number stage collected r put ∙ ap (λ (x : List ℕ). Some (t ++ x)) (sym said);
       taken = taken_of o t left held unread ended count number stage collected r;
       decided = ⊎_elim
-        (λ (e : r.rest ≡ []). inl e)
-        (λ (f : (more : List ℕ) → RefusesFirst r.scene count (unread ++ more)). inr (λ more. ap (λ (x : List ℕ). (replay_of x).refused) (append_assoc r.given unread more) ∙ ap (λ (x : Played). x.refused) (refused more (f more))))
-        next;
+          (λ (e : r.rest ≡ []). inl e)
+          (λ (f : (more : List ℕ) → RefusesFirst r.scene count (unread ++ more)). inr (λ more. ap (λ (x : List ℕ). (replay_of x).refused) (append_assoc r.given unread more) ∙ ap (λ (x : Played). x.refused) (refused more (f more))))
+          next;
       in_time = in_time r.given unread r.rest r.pieces r.scene number count r.text g r.plays first ∙ sym said;
     }
 
@@ -156,9 +157,9 @@ comes_to given unread rest ended pieces scene number count text none_unread none
     let none : unread ++ rest ≡ [] = rw (none_unread, none_left) refl in
     let all : given ++ (unread ++ rest) ≡ given = ap (λ (x : List ℕ). given ++ x) none ∙ append-nil given in
     let cut_all : pieces_of given ≡ pieces = ⊎_elim
-      (λ (g : IsGiven given pieces). ap pieces_of (sym (append-nil given)) ∙ g.cuts [] ∙ append-nil pieces)
-      (λ (a : IsAll given pieces unread rest ended). a.cut)
-      cut in
+    (λ (g : IsGiven given pieces). ap pieces_of (sym (append-nil given)) ∙ g.cuts [] ∙ append-nil pieces)
+    (λ (a : IsAll given pieces unread rest ended). a.cut)
+    cut in
     ap replay_of all ∙ ap (play None 1 0) cut_all ∙ plays_all pieces scene number count text p
 
 -- the script ended, and a hub was made

@@ -1,5 +1,5 @@
 -- What was read of a script, written out with its whole lines and with what it decides.
-use Rattle.std.specs.Prelude.{◌≡◌, ℕ, List, ◌∷◌, [], ◌++◌, codes, Some, refl}
+use Rattle.std.specs.Prelude.{◌≡◌, ℕ, List, [], ◌++◌, codes, Some, refl}
 use Rattle.uuid.proofs.OnLiterals.{uuid_on_literals}
 use Rattle.bsc_replay.specs.Playing.{replay_of}
 use Rattle.bsc_replay.specs.Replaying.{whole_lines, lines_read, AcceptsLines}

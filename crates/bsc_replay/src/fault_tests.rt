@@ -37,7 +37,9 @@ const REFUSED: &str = concat!(
 );
 
 const ONE: &str = "A unbuilt --\n";
+
 const TWO: &str = "A unbuilt --\nB unbuilt 09\n";
+
 const ALL: &str = "A unbuilt --\nB unbuilt 09\nA unbuilt 06\n";
 
 /// The reads and the writes that fail, how much the sink takes, and what stands written at which end.
@@ -50,45 +52,138 @@ struct Fault {
     end: ReplayEnd,
 }
 
-/// A row of the table.
-const fn fault(
-    script: &'static str,
-    reads: &'static [u64],
-    writes: &'static [u64],
-    room: usize,
-    text: &'static str,
-    end: ReplayEnd,
-) -> Fault {
-    Fault {
-        script,
-        reads,
-        writes,
-        room,
-        text,
-        end,
-    }
-}
-
 const FAULTS: [Fault; 16] = [
     // The text of the whole lines that were read.
-    fault(SCRIPT, &[1], &[], 99, "", ReplayEnd::ReadFault),
-    fault(SCRIPT, &[2], &[], 99, "", ReplayEnd::ReadFault),
-    fault(SCRIPT, &[3], &[], 99, ONE, ReplayEnd::ReadFault),
-    fault(SCRIPT, &[4], &[], 99, ALL, ReplayEnd::ReadFault),
-    fault(SCRIPT, &[5], &[], 99, ALL, ReplayEnd::Done),
-    fault(UNENDED, &[4], &[], 99, TWO, ReplayEnd::ReadFault),
-    fault(UNENDED, &[], &[], 99, ALL, ReplayEnd::Done),
+    Fault {
+        script: SCRIPT,
+        reads: &[1],
+        writes: &[],
+        room: 99,
+        text: "",
+        end: ReplayEnd::ReadFault,
+    },
+    Fault {
+        script: SCRIPT,
+        reads: &[2],
+        writes: &[],
+        room: 99,
+        text: "",
+        end: ReplayEnd::ReadFault,
+    },
+    Fault {
+        script: SCRIPT,
+        reads: &[3],
+        writes: &[],
+        room: 99,
+        text: ONE,
+        end: ReplayEnd::ReadFault,
+    },
+    Fault {
+        script: SCRIPT,
+        reads: &[4],
+        writes: &[],
+        room: 99,
+        text: ALL,
+        end: ReplayEnd::ReadFault,
+    },
+    Fault {
+        script: SCRIPT,
+        reads: &[5],
+        writes: &[],
+        room: 99,
+        text: ALL,
+        end: ReplayEnd::Done,
+    },
+    Fault {
+        script: UNENDED,
+        reads: &[4],
+        writes: &[],
+        room: 99,
+        text: TWO,
+        end: ReplayEnd::ReadFault,
+    },
+    Fault {
+        script: UNENDED,
+        reads: &[],
+        writes: &[],
+        room: 99,
+        text: ALL,
+        end: ReplayEnd::Done,
+    },
     // A write for each read whose lines have a text.
-    fault(SCRIPT, &[], &[1], 99, "", ReplayEnd::WriteFault),
-    fault(SCRIPT, &[], &[2], 99, ONE, ReplayEnd::WriteFault),
-    fault(SCRIPT, &[], &[3], 99, ALL, ReplayEnd::Done),
-    fault(UNENDED, &[], &[3], 99, TWO, ReplayEnd::WriteFault),
-    fault(SCRIPT, &[], &[], 20, "A unbuilt --\nB unbui", ReplayEnd::WriteFault),
+    Fault {
+        script: SCRIPT,
+        reads: &[],
+        writes: &[1],
+        room: 99,
+        text: "",
+        end: ReplayEnd::WriteFault,
+    },
+    Fault {
+        script: SCRIPT,
+        reads: &[],
+        writes: &[2],
+        room: 99,
+        text: ONE,
+        end: ReplayEnd::WriteFault,
+    },
+    Fault {
+        script: SCRIPT,
+        reads: &[],
+        writes: &[3],
+        room: 99,
+        text: ALL,
+        end: ReplayEnd::Done,
+    },
+    Fault {
+        script: UNENDED,
+        reads: &[],
+        writes: &[3],
+        room: 99,
+        text: TWO,
+        end: ReplayEnd::WriteFault,
+    },
+    Fault {
+        script: SCRIPT,
+        reads: &[],
+        writes: &[],
+        room: 20,
+        text: "A unbuilt --\nB unbui",
+        end: ReplayEnd::WriteFault,
+    },
     // The text that was collected is written before a line is refused, or a fault is told.
-    fault(REFUSED, &[], &[], 99, TWO, ReplayEnd::BadLine { line: 6 }),
-    fault(REFUSED, &[], &[2], 99, ONE, ReplayEnd::WriteFault),
-    fault(REFUSED, &[3], &[], 99, ONE, ReplayEnd::ReadFault),
-    fault(SCRIPT, &[3], &[1], 99, "", ReplayEnd::WriteFault),
+    Fault {
+        script: REFUSED,
+        reads: &[],
+        writes: &[],
+        room: 99,
+        text: TWO,
+        end: ReplayEnd::BadLine { line: 6 },
+    },
+    Fault {
+        script: REFUSED,
+        reads: &[],
+        writes: &[2],
+        room: 99,
+        text: ONE,
+        end: ReplayEnd::WriteFault,
+    },
+    Fault {
+        script: REFUSED,
+        reads: &[3],
+        writes: &[],
+        room: 99,
+        text: ONE,
+        end: ReplayEnd::ReadFault,
+    },
+    Fault {
+        script: SCRIPT,
+        reads: &[3],
+        writes: &[1],
+        room: 99,
+        text: "",
+        end: ReplayEnd::WriteFault,
+    },
 ];
 
 #[test]

@@ -1,7 +1,7 @@
 //! Replays a whole script.
 #![tactic(auto)]
 
-ghost use Rattle.std.specs.Prelude.{◌≡◌, ◌≢◌, ◌≤◌, ◌⊎◌, ℕ, List, [], Option, Some, IfOk, OnOk, OnErr, IsErr};
+ghost use Rattle.std.specs.Prelude.{◌≡◌, ◌≢◌, ◌≤◌, ◌<◌, ◌⊎◌, ℕ, List, [], vec_len, Option, Some, IfOk, OnOk, OnErr, IsErr};
 ghost use Rattle.std.specs.Io.KnownBytes.{Appends};
 ghost use Rattle.bsc_outside.specs.Faults.{Rose, PutsPrefix};
 ghost use Rattle.bsc_stage.specs.Scenes.{Scene};
@@ -88,6 +88,7 @@ fn play(
 fn hand_over<K: Sink>(sink: &mut K, text: &mut Vec<u8>) -> Result<(), Failed>
     ensures over { OnOk result (Appends (K.held sink.old) (K.held sink.new) text.old.items) }
     ensures empty { OnOk result (text.new.items ≡ []) }
+    ensures none { OnOk result (vec_len text.new ≡ 0) }
     ensures part { OnErr result (PutsPrefix (K.held sink.old) (K.held sink.new) text.old.items) }
     ensures failed { IsErr result → Rose (K.faults sink.old) (K.faults sink.new) }
     ensures later { K.faults sink.old ≤ K.faults sink.new }
@@ -104,6 +105,7 @@ fn hand_over<K: Sink>(sink: &mut K, text: &mut Vec<u8>) -> Result<(), Failed>
 fn relieve<K: Sink>(sink: &mut K, text: &mut Vec<u8>) -> Result<(), Failed>
     ensures over { OnOk result
         (HandsOver (K.held sink.old) (K.held sink.new) text.old.items text.new.items) }
+    ensures little { OnOk result (vec_len text.new < 1048576) }
     ensures part { OnErr result (PutsPrefix (K.held sink.old) (K.held sink.new) text.old.items) }
     ensures failed { IsErr result → Rose (K.faults sink.old) (K.faults sink.new) }
     ensures later { K.faults sink.old ≤ K.faults sink.new }

@@ -1,6 +1,5 @@
-use Rattle.std.proofs.Common.{◌+◌, true, ◌∙◌, ap, refl, arith}
+use Rattle.std.proofs.Common.{◌+◌, ◌∙◌, ap, refl, arith}
 use Rattle.bsc_text.specs.Lines.{has_no_lf}
-use Rattle.bsc_replay.proofs.Stopping.{runs_out_first}
 use Rattle.bsc_replay.proofs.Looping.{loop_begins, loop_plays, loop_hands_over, loop_fills, loop_breaks_off, loop_faults, loop_refuses, loop_refuses_big, loop_runs_out, loop_ends}
 use Rattle.bsc_replay.proofs.replaying.replay.Goals as goal
 
