@@ -3,7 +3,7 @@
 //! Start at `specs/Standing.antt`, which says what it is for a desk to stand for a history, and at
 //! `connecting`, `forwarding`, `broadcasting` and `leaving`, whose clauses say which entry a call adds. The
 //! desk stores rows, counts and outboxes, and no history. The live connections are those of the rows that
-//! have no End.
+//! have no End; `directory` finds them by address and by device.
 #![tactic(auto)]
 
 mod broadcasting;
