@@ -1,5 +1,5 @@
 -- What a feed gives, from what it has read.
-use Rattle.std.proofs.Common.{◌≡◌, ◌≢◌, ℕ, ◌+◌, ◌≤◌, ◌<◌, ◌⊎◌, Bool, true, false, nat_lt, ◌||◌, List, [], ◌∷◌, ◌++◌, length, take, drop, Option, Some, None, refl, sym, ap, ◌∙◌, length-append, append_assoc, inl, inr, ⊎_elim, arith}
+use Rattle.std.proofs.Common.{◌≡◌, ◌≢◌, ℕ, ◌+◌, ◌≤◌, ◌<◌, ◌⊎◌, true, nat_lt, ◌||◌, List, [], ◌∷◌, ◌++◌, length, take, drop, Option, Some, None, refl, sym, ap, ◌∙◌, length-append, append_assoc, inl, inr, ⊎_elim, arith}
 use Rattle.std.proofs.lemmas.List.{append-nil, take-append-drop}
 use Rattle.std.proofs.lemmas.Bool.Decides.{nat_tests}
 use Rattle.std.specs.Option.{option_map}
@@ -8,7 +8,7 @@ use Rattle.bsc_text.specs.declared.feed.Feed.{Feed}
 use Rattle.bsc_text.specs.declared.feed.NextLine.{NextLine}
 use Rattle.bsc_text.specs.declared.feed.NextLine.TheVariants.{Line, More, End, Refused, NoMemory}
 use Rattle.bsc_text.specs.Lines.{pieces_of, line_in, is_too_big, has_no_lf, BeginsLine}
-use Rattle.bsc_text.specs.Feeding.{unread, rest_of, Gives, GivesLine, IsUsedUp, WantsMore, Feeds, HasTooBig}
+use Rattle.bsc_text.specs.Feeding.{unread, Gives, GivesLine, IsUsedUp, WantsMore, Feeds, HasTooBig}
 use Rattle.bsc_text.proofs.Cutting.{has_no_lf-append, pieces_of-begin, pieces_of-lf, pieces_of-last, line_in-length}
 use Rattle.bsc_text.proofs.Spending.{none-left}
 

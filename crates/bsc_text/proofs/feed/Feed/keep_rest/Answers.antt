@@ -1,6 +1,6 @@
 -- What is kept and the rest have no LF.
-use Rattle.std.proofs.Common.{◌≡◌, ◌+◌, ◌<◌, ◌≤◌, ◌⊎◌, true, false, inl, inr, ⊎_elim, List, ℕ, [], ◌∷◌, ◌++◌, length, take, drop, refl, sym, ap, ◌∙◌, arith, length-append, vec_len}
-use Rattle.std.proofs.lemmas.List.{take_all, append-nil}
+use Rattle.std.proofs.Common.{◌≡◌, ◌<◌, true, false, inl, inr, ⊎_elim, List, ℕ, [], ◌++◌, length, take, drop, refl, sym, ap, ◌∙◌, arith, length-append, vec_len}
+use Rattle.std.proofs.lemmas.List.{take_all}
 use Rattle.std.proofs.lemmas.Bool.{eqb-false}
 use Rattle.bsc_text.specs.Lines.{has_no_lf}
 use Rattle.bsc_text.proofs.Cutting.{has_no_lf-append}

@@ -1,5 +1,5 @@
 -- What is kept and the rest up to the LF are a piece.
-use Rattle.std.proofs.Common.{◌≡◌, ◌+◌, ◌<◌, ◌≤◌, ◌⊎◌, inl, inr, ⊎_elim, List, ℕ, [], ◌∷◌, ◌++◌, length, take, drop, refl, sym, ap, ◌∙◌, arith}
+use Rattle.std.proofs.Common.{◌≡◌, ◌+◌, inl, inr, ⊎_elim, List, ℕ, [], ◌++◌, take, drop, refl, sym, ap, ◌∙◌, arith}
 use Rattle.std.proofs.lemmas.List.{drop-drop, length-take-le}
 use Rattle.bsc_text.proofs.Giving.{fed-whole, fed-long}
 use Rattle.bsc_text.proofs.feed.Feed.next_whole.Goals as goal
