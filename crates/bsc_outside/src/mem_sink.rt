@@ -23,11 +23,7 @@ pub struct MemSink<'a> {
 
 impl<'a> MemSink<'a> {
     /// A sink with room for so many octets, of which the writes with these numbers fail.
-    pub fn make(
-        alloc: Global,
-        room: usize,
-        failing: &'a [u64],
-    ) -> Result<MemSink<'a>, NoMemory>
+    pub fn make(alloc: Global, room: usize, failing: &'a [u64]) -> Result<MemSink<'a>, NoMemory>
         ensures held { IfOk result (λ s. s.held.items ≡ []) }
         ensures room { IfOk result (λ s. s.room ≡ room) }
         ensures failing { IfOk result (λ s. s.calls.failing.now ≡ failing.now) }

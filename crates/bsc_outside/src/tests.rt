@@ -1,5 +1,7 @@
 //! Each stream once, with a fault in it.
-use crate::{Failed, MemSink, MemSource, ReaderSource, Sink, Source, SureSink, SureSource, WriterSink};
+use crate::{
+    Failed, MemSink, MemSource, ReaderSource, Sink, Source, SureSink, SureSource, WriterSink,
+};
 use std::io;
 use std::process::Abort;
 use std::test::*;
@@ -52,7 +54,10 @@ fn sources_in_memory(rt: HostRuntime) {
     assert!(rt; source.left() == b"ef".as_slice());
     assert_eq!(rt; source.read(&mut into), Ok(2));
     assert_eq!(rt; source.read(&mut into), Ok(0));
-    assert_eq!(rt; MemSource::in_pieces(b"abcdef", 3, &[]).read(&mut into), Ok(3));
+    assert_eq!(rt;
+        MemSource::in_pieces(b"abcdef", 3, &[]).read(&mut into),
+        Ok(3)
+    );
     assert_eq!(rt; SureSource::in_pieces(b"abcdef", 3).read(&mut into), Ok(3));
     assert_eq!(rt; SureSource::new(b"abcdef").read(&mut into), Ok(4));
 }

@@ -1,5 +1,5 @@
 -- What a feed gives, from what it has read.
-use Rattle.std.proofs.Common.{◌≡◌, ◌≢◌, ℕ, ◌+◌, ◌≤◌, ◌<◌, ◌⊎◌, Bool, true, false, nat_lt, ◌||◌, List, [], ◌∷◌, ◌++◌, length, take, drop, Option, Some, None, refl, sym, ap, ◌∙◌, length-append, append_assoc, inl, inr, ⊎_elim, arith}
+use Rattle.std.proofs.Common.{◌≡◌, ◌≢◌, ℕ, ◌+◌, ◌≤◌, ◌<◌, ◌⊎◌, true, nat_lt, ◌||◌, List, [], ◌∷◌, ◌++◌, length, take, drop, Option, Some, None, refl, sym, ap, ◌∙◌, length-append, append_assoc, inl, inr, ⊎_elim, arith}
 use Rattle.std.proofs.lemmas.List.{append-nil, take-append-drop}
 use Rattle.std.proofs.lemmas.Bool.Decides.{nat_tests}
 use Rattle.std.specs.Option.{option_map}
@@ -8,7 +8,7 @@ use Rattle.bsc_text.specs.declared.feed.Feed.{Feed}
 use Rattle.bsc_text.specs.declared.feed.NextLine.{NextLine}
 use Rattle.bsc_text.specs.declared.feed.NextLine.TheVariants.{Line, More, End, Refused, NoMemory}
 use Rattle.bsc_text.specs.Lines.{pieces_of, line_in, is_too_big, has_no_lf, BeginsLine}
-use Rattle.bsc_text.specs.Feeding.{unread, rest_of, Gives, GivesLine, IsUsedUp, WantsMore, Feeds, HasTooBig}
+use Rattle.bsc_text.specs.Feeding.{unread, Gives, GivesLine, IsUsedUp, WantsMore, Feeds, HasTooBig}
 use Rattle.bsc_text.proofs.Cutting.{has_no_lf-append, pieces_of-begin, pieces_of-lf, pieces_of-last, line_in-length}
 use Rattle.bsc_text.proofs.Spending.{none-left}
 
@@ -63,8 +63,8 @@ cut C R left n h b =
     let r : C ++ R ≡ (C ++ take (n + 1) R) ++ drop (n + 1) R = ap (λ (x : List ℕ). C ++ x) (sym (take-append-drop (n + 1) R)) ∙ sym (append_assoc C (take (n + 1) R) (drop (n + 1) R)) in
     let w : (C ++ R) ++ left ≡ (C ++ take (n + 1) R) ++ (drop (n + 1) R ++ left) = ap (λ (x : List ℕ). x ++ left) r ∙ append_assoc (C ++ take (n + 1) R) (drop (n + 1) R) left in
     ap pieces_of (w ∙ ap (λ (x : List ℕ). x ++ (drop (n + 1) R ++ left)) p)
-      ∙ (pieces_of-lf q (drop (n + 1) R ++ left) (has_no_lf-append C (take n R) h b.no_lf)
-      ∙ ap (λ (x : List ℕ). x ∷ pieces_of (drop (n + 1) R ++ left)) (sym p))
+    ∙ (pieces_of-lf q (drop (n + 1) R ++ left) (has_no_lf-append C (take n R) h b.no_lf)
+    ∙ ap (λ (x : List ℕ). x ∷ pieces_of (drop (n + 1) R ++ left)) (sym p))
 
 pub fed-whole : (old new : Feed) (r : NextLine) (C R p u : List ℕ) (n : ℕ) →
     unread old ≡ C ++ R → has_no_lf C ≡ true → BeginsLine n R → p ≡ C ++ take (n + 1) R → u ≡ drop (n + 1) R →
@@ -74,8 +74,8 @@ pub fed-whole : (old new : Feed) (r : NextLine) (C R p u : List ℕ) (n : ℕ) �
 fed-whole old new (Line l) C R p u n w h b e m g big more end = λ o left t ended.
     let k = told (unread old) o left t in
     let first : pieces_of o ≡ p ∷ pieces_of (u ++ k.0) =
-        ap pieces_of (k.2 ∙ ap (λ (x : List ℕ). x ++ k.0) w)
-          ∙ (cut C R k.0 n h b ∙ (ap (λ (x : List ℕ). x ∷ pieces_of (drop (n + 1) R ++ k.0)) (sym e) ∙ ap (λ (x : List ℕ). p ∷ pieces_of (x ++ k.0)) (sym m))) in
+    ap pieces_of (k.2 ∙ ap (λ (x : List ℕ). x ++ k.0) w)
+    ∙ (cut C R k.0 n h b ∙ (ap (λ (x : List ℕ). x ∷ pieces_of (drop (n + 1) R ++ k.0)) (sym e) ∙ ap (λ (x : List ℕ). p ∷ pieces_of (x ++ k.0)) (sym m))) in
     given o p (u ++ k.0) l u old new left first (ap (option_map (λ x. u ++ x)) k.1) (g l refl)
 fed-whole old new More C R p u n w h b e m g big more end = absurd (more refl)
 fed-whole old new End C R p u n w h b e m g big more end = absurd (end refl)
@@ -122,11 +122,11 @@ pub fed-long : (old : Feed) (C R q : List ℕ) (n : ℕ) → unread old ≡ C ++
 fed-long old C R q n w h k e m big left =
     let parts : length (C ++ q) ≡ length C + n = length-append C q ∙ ap (λ (x : ℕ). length C + x) m in
     let r : unread old ++ left ≡ (C ++ q) ++ (drop n R ++ left) =
-        ap (λ (x : List ℕ). x ++ left) (w ∙ (ap (λ (x : List ℕ). C ++ x) (sym (take-append-drop n R) ∙ ap (λ (x : List ℕ). x ++ drop n R) (sym e)) ∙ sym (append_assoc C q (drop n R))))
-          ∙ append_assoc (C ++ q) (drop n R) left in
+    ap (λ (x : List ℕ). x ++ left) (w ∙ (ap (λ (x : List ℕ). C ++ x) (sym (take-append-drop n R) ∙ ap (λ (x : List ℕ). x ++ drop n R) (sym e)) ∙ sym (append_assoc C q (drop n R))))
+    ∙ append_assoc (C ++ q) (drop n R) left in
     too_big (unread old ++ left) (C ++ q) (drop n R ++ left) old (has_no_lf-append C q h k) r
-      (⊎_elim (λ j. omega arith) (λ j. omega (arith, old.in_script)) big)
-      (⊎_elim (λ j. inl (omega arith)) (λ j. inr (omega arith)) big)
+    (⊎_elim (λ j. omega arith) (λ j. omega (arith, old.in_script)) big)
+    (⊎_elim (λ j. inl (omega arith)) (λ j. inr (omega arith)) big)
 
 -- what is kept of all that was read has no LF
 pub fed-more : (old new : Feed) → unread old ≡ new.carry.items → IsUsedUp new → new.count ≡ old.count → WantsMore old new

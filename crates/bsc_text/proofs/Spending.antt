@@ -1,15 +1,14 @@
 -- What a loop over a feed uses up.
-use Rattle.std.proofs.Common.{◌≡◌, ◌≢◌, ℕ, ◌+◌, ◌-◌, ◌*◌, ◌≤◌, ◌<◌, if◌then◌else◌, Bool, true, false, nat_lt, nat_eq, zero, suc, ◌||◌, List, [], ◌∷◌, ◌++◌, length, take, drop, Option, Some, refl, sym, ap, ◌∙◌, length-append, length-drop, arith}
+use Rattle.std.proofs.Common.{◌≡◌, ℕ, ◌+◌, ◌-◌, ◌*◌, ◌≤◌, ◌<◌, if◌then◌else◌, Bool, true, false, nat_lt, nat_eq, zero, suc, ◌||◌, List, [], ◌∷◌, ◌++◌, length, take, drop, Option, Some, refl, sym, ap, ◌∙◌, length-append, length-drop, arith}
 use Rattle.std.proofs.lemmas.List.{append-nil, length-take}
 use Rattle.std.proofs.lemmas.Bool.{eqb-true}
 use Rattle.std.proofs.lemmas.Bool.Decides.{nat_tests}
 use Rattle.std.proofs.Math.ListN.{drop_of_length-le}
-use Rattle.std.specs.Io.KnownBytes.{IsAtEnd}
 use Rattle.bsc_text.specs.declared.feed.Feed.{Feed}
 use Rattle.bsc_text.specs.declared.feed.NextLine.{NextLine}
 use Rattle.bsc_text.specs.declared.feed.NextLine.TheVariants.{Line}
-use Rattle.bsc_text.specs.Lines.{pieces_of, line_in, is_too_big}
-use Rattle.bsc_text.specs.Feeding.{unread, rest_of, fuel, most_read, IsUsedUp, GivesLine, Feeds, Fills}
+use Rattle.bsc_text.specs.Lines.{pieces_of, line_in}
+use Rattle.bsc_text.specs.Feeding.{unread, fuel, most_read, IsUsedUp, GivesLine, Feeds, Fills}
 use Rattle.bsc_text.proofs.Cutting.{length-pieces_of, length-piece}
 
 -- what is read and given stays within a bound

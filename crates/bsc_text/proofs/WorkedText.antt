@@ -1,9 +1,9 @@
 -- Lines and words, and what they write, worked by hand.
-use Rattle.std.proofs.Common.{◌≡◌, ℕ, List, [], ◌∷◌, codes, true, false, Some, None, refl}
+use Rattle.std.proofs.Common.{◌≡◌, [], ◌∷◌, codes, true, false, Some, None, refl}
 use Rattle.hex.specs.Hex.{decode_pairs}
 use Rattle.bsc_text.specs.Lines.{pieces_of, line_in, is_too_big}
 use Rattle.bsc_text.specs.Words.{words_of}
-use Rattle.bsc_text.specs.Grammar.{number_of, vmac_of_word, maximum_of_word, octets_of_words, identity_of_words, is_name}
+use Rattle.bsc_text.specs.Grammar.{number_of, vmac_of_word, maximum_of_word, octets_of_words, is_name}
 
 -- a\nb
 pieces : pieces_of (97 ∷ 10 ∷ 98 ∷ []) ≡ (97 ∷ 10 ∷ []) ∷ (98 ∷ []) ∷ []

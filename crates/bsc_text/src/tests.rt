@@ -50,7 +50,12 @@ fn cuts_lines(rt: HostRuntime) -> Result<(), Fail> {
                 "in {most}"
             );
         }
-        assert!(rt; matches!(next_of(rt.alloc(), &mut feed, &mut source), Some(NextLine::End)));
+        assert!(rt;
+            matches!(
+                next_of(rt.alloc(), &mut feed, &mut source),
+                Some(NextLine::End)
+            )
+        );
         assert!(rt; matches!(feed.next_line(rt.alloc()), NextLine::End));
     }
     Ok(())
@@ -85,7 +90,12 @@ fn refuses_long_lines(rt: HostRuntime) -> Result<(), Fail> {
     line.push(b'a')?;
     let mut source = SureSource::new(line.as_slice());
     let mut feed = Feed::make(rt.alloc())?;
-    assert!(rt; matches!(next_of(rt.alloc(), &mut feed, &mut source), Some(NextLine::Refused)));
+    assert!(rt;
+        matches!(
+            next_of(rt.alloc(), &mut feed, &mut source),
+            Some(NextLine::Refused)
+        )
+    );
     Ok(())
 }
 
@@ -125,7 +135,10 @@ fn tells_a_fault(rt: HostRuntime) -> Result<(), Fail> {
 
 #[test]
 fn reads_words(rt: HostRuntime) -> Result<(), Fail> {
-    assert_eq!(rt; read_number(b"9999999999999999999"), Some(9_999_999_999_999_999_999));
+    assert_eq!(rt;
+        read_number(b"9999999999999999999"),
+        Some(9_999_999_999_999_999_999)
+    );
     assert!(rt; read_vmac(b"0200000000fF").is_some() && read_vmac(b"0200000000F").is_none());
     assert_eq!(rt; read_maximum(b"05d9"), Some(1497));
     for device in [

@@ -46,7 +46,7 @@ pub fn next_word(line: &[u8]) -> Option<(&[u8], &[u8])>
 pub fn joined(alloc: Global, mut line: &[u8]) -> Result<Vec<u8>, NoMemory>
     ensures { IfOk result (λ v. v.items ≡ flat_map (λ w. w) (words_of line.entry.now)) }
 {
-    let mut octets = Vec::new(alloc);
+    let mut octets = Vec::with_capacity(alloc, line.len())?;
     while let Some((word, rest)) = next_word(line) {
         octets.extend_from_slice(word)?;
         line = rest;

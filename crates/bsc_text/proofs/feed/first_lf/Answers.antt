@@ -1,5 +1,5 @@
 -- An LF is found, or there is none.
-use Rattle.std.proofs.Common.{◌≡◌, ◌<◌, ◌+◌, ◌++◌, ℕ, List, [], ◌∷◌, length, take, get_or, sym, ap, ◌∙◌, arith, add-one}
+use Rattle.std.proofs.Common.{◌≡◌, ◌<◌, ◌+◌, ◌++◌, ℕ, List, [], ◌∷◌, length, take, get_or, sym, ap, ◌∙◌, add-one}
 use Rattle.std.proofs.lemmas.List.{take_all}
 use Rattle.std.proofs.Math.Seq.{take-suc}
 use Rattle.bsc_text.specs.Lines.{has_no_lf}
@@ -19,4 +19,4 @@ returns-then-n-octets c = record {
 pub returns-else-n-octets : goal.returns-else-n-octets
 returns-else-n-octets c =
     ap has_no_lf (sym (take_all c.lf_at-n.result c.args.octets.now c.if-n-octets.false))
-      ∙ has_no_lf-before c.lf_at-n.result c.args.octets.now c.lf_at-n.ensures.within c.lf_at-n.ensures.before
+    ∙ has_no_lf-before c.lf_at-n.result c.args.octets.now c.lf_at-n.ensures.within c.lf_at-n.ensures.before

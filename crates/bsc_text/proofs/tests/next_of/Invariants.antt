@@ -1,5 +1,4 @@
 -- Each chunk that is read uses something up.
-use Rattle.std.proofs.Common.{◌≡◌}
 use Rattle.bsc_text.specs.Feeding.{fuel}
 use Rattle.bsc_text.proofs.tests.next_of.Given as goal
 

@@ -1,6 +1,6 @@
 -- What is kept and the rest have no LF.
-use Rattle.std.proofs.Common.{◌≡◌, ◌+◌, ◌<◌, ◌≤◌, ◌⊎◌, true, false, inl, inr, ⊎_elim, List, ℕ, [], ◌∷◌, ◌++◌, length, take, drop, refl, sym, ap, ◌∙◌, arith, length-append, vec_len}
-use Rattle.std.proofs.lemmas.List.{take_all, append-nil}
+use Rattle.std.proofs.Common.{◌≡◌, ◌<◌, true, false, inl, inr, ⊎_elim, List, ℕ, [], ◌++◌, length, take, drop, refl, sym, ap, ◌∙◌, arith, length-append, vec_len}
+use Rattle.std.proofs.lemmas.List.{take_all}
 use Rattle.std.proofs.lemmas.Bool.{eqb-false}
 use Rattle.bsc_text.specs.Lines.{has_no_lf}
 use Rattle.bsc_text.proofs.Cutting.{has_no_lf-append}
@@ -13,7 +13,7 @@ returns-then-cannot_fit-clause-fed c = λ left ended.
     let self = c.args.self.now in
     let rest = drop self.at (take self.end self.chunk.items) in
     fed-long self self.carry.items rest rest (length rest) refl self.one_line c.requires (sym (take_all (length rest) rest (omega arith)))
-      refl (⊎_elim (λ k. inl (omega (arith, ap length c.rest.ensures))) (λ k. inr (omega (arith, ap length c.rest.ensures))) (c.cannot_fit.ensures.cannot c.if-cannot_fit.true)) left
+    refl (⊎_elim (λ k. inl (omega (arith, ap length c.rest.ensures))) (λ k. inr (omega (arith, ap length c.rest.ensures))) (c.cannot_fit.ensures.cannot c.if-cannot_fit.true)) left
 
 pub invariant_of-self-then-not-self : goal.invariant_of-self-then-not-self
 invariant_of-self-then-not-self c =
@@ -48,7 +48,7 @@ returns-clause-fed c =
     let some : 0 < length c.replace-piece.result.items = omega (arith, ap length all, eqb-false (vec_len c.extend_from_slice.new.self) 0 (sym c.is_empty.ensures ∙ c.if-is_empty.false), c.extend_from_slice.new.self.ok.0) in
     let over : self.ended ≡ true = grind arith in
     fed-last self c.give.new.self c.give.result c.replace-piece.result.items
-      (c.replace-piece.new.dest.items ++ drop self.end (take self.end self.chunk.items))
-      kept (ap has_no_lf (sym kept) ∙ has_no_lf-append self.carry.items rest self.one_line c.requires) some
-      (ap (λ (x : List ℕ). x ++ drop self.end (take self.end self.chunk.items)) none ∙ none-left self.end self.end self.chunk.items refl)
-      over c.give.ensures.given c.give.ensures.big c.give.ensures.more c.give.ensures.end
+    (c.replace-piece.new.dest.items ++ drop self.end (take self.end self.chunk.items))
+    kept (ap has_no_lf (sym kept) ∙ has_no_lf-append self.carry.items rest self.one_line c.requires) some
+    (ap (λ (x : List ℕ). x ++ drop self.end (take self.end self.chunk.items)) none ∙ none-left self.end self.end self.chunk.items refl)
+    over c.give.ensures.given c.give.ensures.big c.give.ensures.more c.give.ensures.end

@@ -1,6 +1,4 @@
 -- A line that is given is short, and uses something up.
-use Rattle.std.proofs.Common.{◌≡◌, Option, Some, List, ℕ, [], ◌++◌, ◌∙◌}
-use Rattle.bsc_text.specs.Feeding.{unread}
 use Rattle.bsc_text.proofs.Spending.{fed-line, line-short, line-on, line-less}
 use Rattle.bsc_text.proofs.feed.Feed.next_line.Goals as goal
 
