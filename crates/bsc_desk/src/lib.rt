@@ -9,6 +9,7 @@
 mod broadcasting;
 mod connecting;
 mod desk;
+mod due;
 mod forwarding;
 mod leaving;
 mod making;

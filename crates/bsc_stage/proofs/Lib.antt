@@ -5,6 +5,7 @@ pub mod Names
 pub mod Writing
 pub mod Joins
 pub mod Forwards
-pub mod Incoming
+pub mod Arriving
 pub mod Turned
 pub mod Fitting
+pub mod WorkedLines

@@ -1,20 +1,17 @@
 -- What the calls of a stage say of it and its scene.
-use Rattle.std.specs.Prelude.{◌≡◌, ◌≤◌, ◌^◌, ◌==◌, ◌&&◌, ℕ, List, ◌++◌, map, take, drop, flat_map, Option, Some, None, Result, Ok, Err, ⊤, IsTrue}
+use Rattle.std.specs.Prelude.{◌≡◌, ◌≤◌, ◌^◌, ◌==◌, ◌&&◌, ℕ, List, ◌∷◌, ◌++◌, ◌+◌, drop, Option, Some, None, Result, Ok, Err, ⊤, IsTrue}
 use Rattle.std.specs.List.{list_any}
-use Rattle.bsc_octets.specs.Addresses.{same_vmac}
 use Rattle.bsc_history.specs.declared.limits.About.{About}
-use Rattle.bsc_history.specs.declared.connection.Connection.{Connection}
 use Rattle.bsc_history.specs.declared.entry.Entry.{Entry}
 use Rattle.bsc_history.specs.Ends.{unleft}
 use Rattle.bsc_desk.specs.declared.desk.Desk.{Desk}
 use Rattle.bsc_desk.specs.Standing.{StandsFor}
 use Rattle.bsc_stage.specs.declared.script.Line.{Line}
-use Rattle.bsc_stage.specs.declared.script.Line.TheVariants.{Nothing, Hub, Open, In}
+use Rattle.bsc_stage.specs.declared.script.Line.TheVariants.{Hub}
 use Rattle.bsc_stage.specs.declared.script.LineFault.{LineFault}
 use Rattle.bsc_stage.specs.declared.script.LineFault.TheVariants.{Refused as LineRefused, NoMemory as LineNoMemory}
 use Rattle.bsc_stage.specs.declared.stage.Stage.{Stage}
-use Rattle.bsc_stage.specs.Texts.{puts}
-use Rattle.bsc_stage.specs.Scenes.{Scene, member_written, unwritten_of}
+use Rattle.bsc_stage.specs.Scenes.{Scene}
 use Rattle.bsc_stage.specs.Turns.{Turn}
 use Rattle.bsc_stage.specs.Holding.{Holds}
 
@@ -37,18 +34,9 @@ SomeHistory d c = (h : List Entry) × (StandsFor d h × IsTrue (list_any (λ x. 
 abbrev pub SomeScene : Stage → Type 0
 SomeScene t = (s : Scene) × Holds t s
 
--- The stage holds some scene in which this connection, of caller 0, hasn't left.
-abbrev pub SomeSender : Stage → Connection → Type 0
-SomeSender t x = (s : Scene) × (Holds t s
-    × IsTrue (list_any (λ y. (y.number == x.number) && (y.caller == 0) && same_vmac y.who.vmac x.who.vmac) (unleft s.history)))
-
--- What stands when the first n members were written.
-abbrev pub written_to : ℕ → Scene → Scene
-written_to n s = record s { members = map (member_written s) (take n s.members) ++ drop n s.members }
-
--- What was written for the first n members.
-abbrev pub text_to : ℕ → Scene → List ℕ
-text_to n s = flat_map (λ k. flat_map (puts k.name) (unwritten_of s k)) (take n s.members)
+-- The element at a place is k.
+abbrev pub IsAt : {A : Type 0} → ℕ → A → List A → Type 0
+IsAt at k L = drop at L ≡ k ∷ drop (at + 1) L
 
 -- A turn is carried out: the stage holds its scene, and its text was put at the end of the text.
 abbrev pub CarriesOut : Stage → List ℕ → List ℕ → Turn → Type 0
@@ -63,7 +51,5 @@ TurnsTo (Err LineNoMemory) new before after o = ⊤
 
 -- A hub line says a hub that may be made.
 abbrev pub IsFit : Line → Type 0
-IsFit Nothing = ⊤
 IsFit (Hub about) = IsHub about
-IsFit (Open name) = ⊤
-IsFit (In name message) = ⊤
+IsFit line = ⊤

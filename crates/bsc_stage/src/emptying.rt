@@ -1,76 +1,112 @@
-//! What is written after each line: the frames that wait for the members.
+//! What is written after each line: the outboxes of the members are emptied.
 #![tactic(auto)]
 
-ghost use Rattle.std.specs.Prelude.{◌≡◌, ◌≢◌, ◌+◌, ◌++◌, ◌<◌, ℕ, List, length, vec_len, flat_map, OnOk};
+ghost use Rattle.std.specs.Prelude.{◌≡◌, ◌≢◌, ◌+◌, ◌++◌, ◌<◌, ◌≤◌, ℕ, List, length, drop, vec_len, flat_map, OnOk, IfOk, IsTrue, Option};
 ghost use Rattle.bsc_history.specs.declared.entry.Entry.{Entry};
+ghost use Rattle.bsc_history.specs.Ends.{ended};
 ghost use Rattle.bsc_desk.specs.Rows.{HasRow, taken_of, waiting_of};
 ghost use Rattle.bsc_desk.specs.Standing.{StandsFor};
 ghost use Rattle.bsc_stage.specs.Texts.{puts};
-ghost use Rattle.bsc_stage.specs.Scenes.{Scene, all_written, frames_text};
+ghost use Rattle.bsc_stage.specs.Scenes.{Scene, Member as Shown};
+ghost use Rattle.bsc_stage.specs.Emptying.{then_emptied, then_emptied_one, emptied_turn, end_turn, then_turn, empties_after};
+ghost use Rattle.bsc_stage.specs.Turns.{Turn};
 ghost use Rattle.bsc_stage.specs.Holding.{Holds};
-ghost use Rattle.bsc_stage.specs.Steps.{SomeHistory, SomeScene, written_to, text_to};
+ghost use Rattle.bsc_stage.specs.Steps.{SomeHistory, SomeScene, IsAt, CarriesOut};
 
+use crate::member::Phase;
 use crate::stage::Stage;
-use crate::texts::put_message;
+use crate::texts::{put_disconnecting, put_line, put_message};
 use bsc_desk::{Desk, Outlet, Take};
+use bsc_history::End;
 use bsc_octets::NoMemory;
 use std::alloc::Global;
 
-/// Writes what waits in one outbox.
+/// Writes what waits in one outbox, and says how its connection has ended, if it has.
 fn write_outbox(
     desk: &mut Desk,
     outlet: &mut Outlet,
     alloc: Global,
     name: &[u8],
     text: &mut Vec<u8>,
-) -> Result<(), NoMemory>
+) -> Result<Option<End>, NoMemory>
     requires { SomeHistory desk.old outlet.old.conn }
     ensures stands { (h : List Entry) → StandsFor desk.old h → StandsFor desk.new h }
     ensures about { desk.new.about ≡ desk.old.about }
+    ensures ending { (h : List Entry) → StandsFor desk.old h → IfOk result (λ ending. ending ≡ ended h outlet.old.conn) }
     ensures text { OnOk result (text.new.items
         ≡ text.old.items ++ flat_map (puts name.now) (waiting_of desk.old outlet.old.conn)) }
     ensures taken { OnOk result (taken_of desk.new outlet.old.conn
         ≡ taken_of desk.old outlet.old.conn + length (waiting_of desk.old outlet.old.conn)) }
     ensures outlet_taken { OnOk result (outlet.new.taken ≡ taken_of desk.new outlet.old.conn) }
+    ensures empties { IfOk result (λ ending. outlet.new.empties ≡ empties_after ending outlet.old.empties) }
     ensures conn { outlet.new.conn ≡ outlet.old.conn }
     ensures others { (k : ℕ) → k ≢ outlet.old.conn → taken_of desk.new k ≡ taken_of desk.old k }
 {
-    while let Take::Frame(frame) = desk.take(outlet) {
-        put_message(text, alloc, name, frame.as_slice())?;
+    loop {
+        match desk.take(outlet) {
+            Take::Frame(frame) => put_message(text, alloc, name, frame.as_slice())?,
+            Take::Empty => return Ok(None),
+            Take::Closed(ending) => return Ok(Some(ending)),
+        }
     }
-    Ok(())
 }
 
 impl Stage {
-    /// Writes what waits for the member at a place, where those before it were written.
-    fn write_member(&mut self, at: usize, alloc: Global, text: &mut Vec<u8>) -> Result<(), NoMemory>
+    /// Writes what waits for the member at a place, which then is as its End says. The place of the next
+    /// member is told.
+    fn empty(&mut self, alloc: Global, at: usize, text: &mut Vec<u8>) -> Result<usize, NoMemory>
+        requires some { SomeScene self.old }
         requires within { at < vec_len self.old.members }
-        requires before { (s : Scene) × Holds self.old (written_to at s) }
-        ensures hub { self.new.about ≡ self.old.about }
-        ensures len { vec_len self.new.members ≡ vec_len self.old.members }
-        ensures written { (s : Scene) → Holds self.old (written_to at s) → OnOk result
-            (Holds self.new (written_to (at + 1) s)
-            × ((base : List ℕ) → text.old.items ≡ base ++ text_to at s
-            → text.new.items ≡ base ++ text_to (at + 1) s)) }
+        ensures { (base before : List ℕ) (s : Scene) (k : Shown) → Holds self.old s → IsAt at k s.members →
+            text.old.items ≡ base ++ before → IfOk result (λ next.
+            CarriesOut self.new base text.new.items (then_turn (record { scene = s; text = before }) (emptied_turn s k))
+            × (drop next (emptied_turn s k).scene.members ≡ drop (at + 1) s.members)) }
     {
         let member = &mut self.members[at];
-        write_outbox(
+        let ending = write_outbox(
             &mut self.desk,
             &mut member.outlet,
             alloc,
             member.name.as_slice(),
             text,
-        )
+        )?;
+        match ending {
+            None => Ok(at + 1),
+            Some(End::Full) => {
+                put_line(text, member.name.as_slice(), "close 1008 outbox full")?;
+                self.leave(alloc, at, text)?;
+                Ok(at)
+            }
+            Some(End::Left | End::Replaced | End::Stopped) => {
+                member.phase = Phase::Disconnecting;
+                put_disconnecting(text, alloc, member.name.as_slice())?;
+                Ok(at + 1)
+            }
+        }
     }
 
-    /// Writes what waits for the members, in the order of joining.
-    pub fn write_frames(&mut self, alloc: Global, text: &mut Vec<u8>) -> Result<(), NoMemory>
-        requires { SomeScene self.old }
-        ensures { (s : Scene) → Holds self.old s → OnOk result
-            (Holds self.new (all_written s) × (text.new.items ≡ text.old.items ++ frames_text s)) }
+    /// The member at a place, for whom something is due, is emptied where it is Connected and not held. The
+    /// place of the next member is told.
+    fn empty_one(&mut self, alloc: Global, at: usize, text: &mut Vec<u8>) -> Result<usize, NoMemory>
+        requires some { SomeScene self.old }
+        requires within { at < vec_len self.old.members }
     {
-        for at in 0..self.members.len() {
-            self.write_member(at, alloc, text)?;
+        let member = &self.members[at];
+        if member.held || member.phase == Phase::Disconnecting {
+            return Ok(at + 1);
+        }
+        self.empty(alloc, at, text)
+    }
+
+    /// Empties the members for whom something is due, in the order of joining.
+    pub fn empty_all(&mut self, alloc: Global, text: &mut Vec<u8>) -> Result<(), NoMemory>
+        requires { SomeScene self.old }
+        ensures { (base : List ℕ) (t : Turn) → CarriesOut self.old base text.old.items t → OnOk result
+            (CarriesOut self.new base text.new.items (then_emptied t)) }
+    {
+        let mut at = 0;
+        while let Some(next) = self.desk.next_due(at) {
+            at = self.empty_one(alloc, next, text)?;
         }
         Ok(())
     }
