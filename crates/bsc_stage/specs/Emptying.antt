@@ -7,7 +7,7 @@ use Rattle.bsc_desk.specs.Taking.{one_more}
 use Rattle.bsc_stage.specs.declared.member.Phase.{Phase}
 use Rattle.bsc_stage.specs.declared.member.Phase.TheVariants.{Connected, Disconnecting}
 use Rattle.bsc_stage.specs.Texts.{says, puts, disconnecting_text}
-use Rattle.bsc_stage.specs.Scenes.{Scene, Member, with_changed, unwritten_of, all_written}
+use Rattle.bsc_stage.specs.Scenes.{Scene, Member, with_changed, disconnecting, unwritten_of, all_written}
 use Rattle.bsc_stage.specs.Leaving.{Turn, leaves_after}
 
 -- whether a phase is Connected
@@ -32,26 +32,21 @@ abbrev pub empties_after : Option End → ℕ → ℕ
 empties_after None empties = one_more empties
 empties_after (Some ending) empties = empties
 
--- A member for whom all is written: where its connection is live, its outbox was found empty once more; where it ended
--- as full, its WebSocket is closed and it leaves; where it was replaced or stopped, it is asked to disconnect.
-abbrev pub end_turn : Option End → Scene → Member → Turn
-end_turn None s k = record { scene = with_changed (record k { empties = one_more k.empties }) s; text = [] }
-end_turn (Some Full) s k = leaves_after (says k.name (codes "close 1008 outbox full")) s k
-end_turn (Some ending) s k = record { scene = with_changed (record k { phase = Disconnecting }) s; text = disconnecting_text k.name }
+-- After this text all is written for a member: where its connection is live, its outbox was found empty once more;
+-- where it ended as full, its WebSocket is closed and it leaves; where it was replaced or stopped, it is asked to
+-- disconnect.
+abbrev pub end_turn : Option End → List ℕ → Scene → Member → Turn
+end_turn None text s k = record { scene = with_changed (record k { empties = one_more k.empties }) s; text = text }
+end_turn (Some Full) text s k = leaves_after (text ++ says k.name (codes "close 1008 outbox full")) (with_changed k s) k
+end_turn (Some ending) text s k = record { scene = with_changed (disconnecting k) s; text = text ++ disconnecting_text k.name }
 
 -- one turn, and then another
 abbrev pub then_turn : Turn → Turn → Turn
 then_turn t u = record { scene = u.scene; text = t.text ++ u.text }
 
--- a member's frames are written
-abbrev pub frames_turn : Scene → Member → Turn
-frames_turn s k = record { scene = with_changed (all_written s k) s; text = frames_text s k }
-
 -- A member is emptied: first its frames are written, and then it is seen how it ended.
 abbrev pub emptied_turn : Scene → Member → Turn
-emptied_turn s k =
-    then_turn (frames_turn s k)
-    (end_turn (ended s.history k.conn) (frames_turn s k).scene (all_written s k))
+emptied_turn s k = end_turn (ended s.history k.conn) (frames_text s k) s (all_written s k)
 
 -- after a turn, a member is emptied where it is to be
 abbrev pub then_emptied_one : Turn → Member → Turn

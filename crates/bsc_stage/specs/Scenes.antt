@@ -11,6 +11,7 @@ use Rattle.bsc_history.specs.declared.reply.Reply.{Reply}
 use Rattle.bsc_history.specs.Replies.{reply}
 use Rattle.bsc_text.specs.Lines.{same_octets}
 use Rattle.bsc_stage.specs.declared.member.Phase.{Phase}
+use Rattle.bsc_stage.specs.declared.member.Phase.TheVariants.{Disconnecting}
 use Rattle.bsc_stage.specs.declared.member.Waiting.{Waiting}
 
 -- A name that is open and has joined: its connection, how many frames were written for it, how often its outbox was
@@ -73,6 +74,10 @@ waiting_held name held w = if same_octets w.name name then record w { held = hel
 
 abbrev pub member_held : List ℕ → Bool → Member → Member
 member_held name held k = if same_octets k.name name then record k { held = held } else k
+
+-- a member that is asked to disconnect
+abbrev pub disconnecting : Member → Member
+disconnecting k = record k { phase = Disconnecting }
 
 -- how many frames were written for a member, none where there is no such member
 abbrev pub written_in : Option Member → ℕ

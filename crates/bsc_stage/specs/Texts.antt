@@ -105,15 +105,15 @@ disconnecting_text name = puts name disconnect_octets
 abbrev pub counts_text : Counts → List ℕ
 counts_text k =
     codes "hub counts"
-    ++ codes " joined=" ++ decimal k.joined
-    ++ codes " replaced=" ++ decimal k.replaced
-    ++ codes " refused=" ++ decimal k.refused
-    ++ codes " unicasts=" ++ decimal k.unicasts
-    ++ codes " broadcasts=" ++ decimal k.broadcasts
-    ++ codes " appended=" ++ decimal k.appended
-    ++ codes " dropped=" ++ decimal k.dropped
-    ++ codes " full=" ++ decimal k.full
-    ++ codes "\n"
+    ++ (codes " joined=" ++ decimal k.joined
+    ++ (codes " replaced=" ++ decimal k.replaced
+    ++ (codes " refused=" ++ decimal k.refused
+    ++ (codes " unicasts=" ++ decimal k.unicasts
+    ++ (codes " broadcasts=" ++ decimal k.broadcasts
+    ++ (codes " appended=" ++ decimal k.appended
+    ++ (codes " dropped=" ++ decimal k.dropped
+    ++ (codes " full=" ++ decimal k.full
+    ++ codes "\n"))))))))
 
 -- the first octet of a message, where it has one
 abbrev pub first_octet : List ℕ → List ℕ

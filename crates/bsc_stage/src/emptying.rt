@@ -1,17 +1,17 @@
 //! What is written after each line: the outboxes of the members are emptied.
 #![tactic(auto)]
 
-ghost use Rattle.std.specs.Prelude.{◌≡◌, ◌≢◌, ◌+◌, ◌++◌, ◌<◌, ◌≤◌, ℕ, List, length, drop, vec_len, flat_map, OnOk, IfOk, IsTrue, Option};
+ghost use Rattle.std.specs.Prelude.{◌≡◌, ◌≢◌, ◌+◌, ◌++◌, ◌<◌, ◌≤◌, suc, ℕ, List, length, drop, vec_len, flat_map, OnOk, IfOk, IsTrue, Option};
 ghost use Rattle.bsc_history.specs.declared.entry.Entry.{Entry};
 ghost use Rattle.bsc_history.specs.Ends.{ended};
 ghost use Rattle.bsc_desk.specs.Rows.{HasRow, taken_of, waiting_of};
 ghost use Rattle.bsc_desk.specs.Standing.{StandsFor};
-ghost use Rattle.bsc_stage.specs.Texts.{puts};
-ghost use Rattle.bsc_stage.specs.Scenes.{Scene, Member as Shown};
-ghost use Rattle.bsc_stage.specs.Emptying.{then_emptied, then_emptied_one, emptied_turn, end_turn, then_turn, empties_after};
+ghost use Rattle.bsc_stage.specs.Texts.{puts, disconnecting_text};
+ghost use Rattle.bsc_stage.specs.Scenes.{Scene, Member as Shown, with_changed, disconnecting};
+ghost use Rattle.bsc_stage.specs.Emptying.{then_emptied, then_emptied_one, emptied_turn, then_turn, empties_after, frames_text};
 ghost use Rattle.bsc_stage.specs.Turns.{Turn};
 ghost use Rattle.bsc_stage.specs.Holding.{Holds};
-ghost use Rattle.bsc_stage.specs.Steps.{SomeHistory, SomeScene, IsAt, CarriesOut};
+ghost use Rattle.bsc_stage.specs.Steps.{SomeHistory, SomeScene, IsAt, CarriesOut, Written, GoesOn};
 
 use crate::member::Phase;
 use crate::stage::Stage;
@@ -52,47 +52,76 @@ fn write_outbox(
 }
 
 impl Stage {
-    /// Writes what waits for the member at a place, which then is as its End says. The place of the next
-    /// member is told.
-    fn empty(&mut self, alloc: Global, at: usize, text: &mut Vec<u8>) -> Result<usize, NoMemory>
+    /// Writes what waits for the member at a place, and says how its connection has ended, if it has.
+    fn write(
+        &mut self,
+        alloc: Global,
+        at: usize,
+        text: &mut Vec<u8>,
+    ) -> Result<Option<End>, NoMemory>
         requires some { SomeScene self.old }
         requires within { at < vec_len self.old.members }
-        ensures { (base before : List ℕ) (s : Scene) (k : Shown) → Holds self.old s → IsAt at k s.members →
-            text.old.items ≡ base ++ before → IfOk result (λ next.
-            CarriesOut self.new base text.new.items (then_turn (record { scene = s; text = before }) (emptied_turn s k))
-            × (drop next (emptied_turn s k).scene.members ≡ drop (at + 1) s.members)) }
+        ensures len { vec_len self.new.members ≡ vec_len self.old.members }
+        ensures written { (s : Scene) (k : Shown) → Holds self.old s → IsAt at k s.members → IfOk result (λ ending.
+            Written self.new s k ending × (text.new.items ≡ text.old.items ++ frames_text s k)) }
     {
         let member = &mut self.members[at];
-        let ending = write_outbox(
+        write_outbox(
             &mut self.desk,
             &mut member.outlet,
             alloc,
             member.name.as_slice(),
             text,
-        )?;
-        match ending {
+        )
+    }
+
+    /// The member at a place, for whom all is written, is asked to disconnect.
+    fn ask(&mut self, alloc: Global, at: usize, text: &mut Vec<u8>) -> Result<(), NoMemory>
+        requires some { SomeScene self.old }
+        requires within { at < vec_len self.old.members }
+        ensures len { vec_len self.new.members ≡ vec_len self.old.members }
+        ensures asked { (s : Scene) (k : Shown) → Holds self.old s → IsAt at k s.members → OnOk result
+            (Holds self.new (with_changed (disconnecting k) s) × (text.new.items ≡ text.old.items ++ disconnecting_text k.name)) }
+    {
+        let member = &mut self.members[at];
+        member.phase = Phase::Disconnecting;
+        put_disconnecting(text, alloc, member.name.as_slice())
+    }
+
+    /// Empties the member at a place, for whom something is due. The place of the next member is told.
+    fn empty(&mut self, alloc: Global, at: usize, text: &mut Vec<u8>) -> Result<usize, NoMemory>
+        requires some { SomeScene self.old }
+        requires within { at < vec_len self.old.members }
+        ensures { (base : List ℕ) (t : Turn) (k : Shown) → CarriesOut self.old base text.old.items t →
+            IsAt at k t.scene.members → IfOk result (λ next.
+            GoesOn self.new base text.new.items next at t (then_turn t (emptied_turn t.scene k))) }
+    {
+        match self.write(alloc, at, text)? {
             None => Ok(at + 1),
             Some(End::Full) => {
-                put_line(text, member.name.as_slice(), "close 1008 outbox full")?;
+                put_line(text, self.members[at].name.as_slice(), "close 1008 outbox full")?;
                 self.leave(alloc, at, text)?;
                 Ok(at)
             }
             Some(End::Left | End::Replaced | End::Stopped) => {
-                member.phase = Phase::Disconnecting;
-                put_disconnecting(text, alloc, member.name.as_slice())?;
+                self.ask(alloc, at, text)?;
                 Ok(at + 1)
             }
         }
     }
 
-    /// The member at a place, for whom something is due, is emptied where it is Connected and not held. The
+    /// Empties the member at a place, where it is Connected and not held and something is due for it. The
     /// place of the next member is told.
     fn empty_one(&mut self, alloc: Global, at: usize, text: &mut Vec<u8>) -> Result<usize, NoMemory>
         requires some { SomeScene self.old }
         requires within { at < vec_len self.old.members }
+        ensures { (base : List ℕ) (t : Turn) (k : Shown) → CarriesOut self.old base text.old.items t →
+            IsAt at k t.scene.members → IfOk result (λ next.
+            GoesOn self.new base text.new.items next at t (then_emptied_one t k)) }
     {
         let member = &self.members[at];
-        if member.held || member.phase == Phase::Disconnecting {
+        let waits = member.phase == Phase::Disconnecting || member.held;
+        if waits || !self.desk.is_due(member.connection.number) {
             return Ok(at + 1);
         }
         self.empty(alloc, at, text)
@@ -105,8 +134,8 @@ impl Stage {
             (CarriesOut self.new base text.new.items (then_emptied t)) }
     {
         let mut at = 0;
-        while let Some(next) = self.desk.next_due(at) {
-            at = self.empty_one(alloc, next, text)?;
+        while at < self.members.len() {
+            at = self.empty_one(alloc, at, text)?;
         }
         Ok(())
     }

@@ -11,14 +11,34 @@ use crate::member::{Member, Waiting};
 use crate::script::LineFault;
 use crate::stage::Stage;
 
+impl Waiting {
+    /// Holds it, or frees it, where it has this name.
+    fn hold(&mut self, name: &[u8], held: bool)
+        ensures { self.new ≡ waiting_held name.now held self.old }
+    {
+        if self.name.as_slice() == name {
+            self.held = held;
+        }
+    }
+}
+
+impl Member {
+    /// Holds it, or frees it, where it has this name.
+    fn hold(&mut self, name: &[u8], held: bool)
+        ensures { self.new ≡ joined_held name.now held self.old }
+    {
+        if self.name.as_slice() == name {
+            self.held = held;
+        }
+    }
+}
+
 /// A name that waits is held, or freed.
 fn hold_waiting(names: &mut [Waiting], name: &[u8], held: bool)
     ensures { names.new ≡ map (waiting_held name.now held) names.old }
 {
     for w in names.iter_mut() {
-        if w.name.as_slice() == name {
-            w.held = held;
-        }
+        w.hold(name, held);
     }
 }
 
@@ -27,9 +47,7 @@ fn hold_members(members: &mut [Member], name: &[u8], held: bool)
     ensures { members.new ≡ map (joined_held name.now held) members.old }
 {
     for m in members.iter_mut() {
-        if m.name.as_slice() == name {
-            m.held = held;
-        }
+        m.hold(name, held);
     }
 }
 

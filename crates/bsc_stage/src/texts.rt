@@ -288,6 +288,25 @@ fn put_list(text: &mut Vec<u8>, alloc: Global, numbers: &[u64]) -> Result<(), No
 }
 
 /// The lists of a broadcast's reply.
+fn put_lists(
+    text: &mut Vec<u8>,
+    alloc: Global,
+    to: &[u64],
+    closed: &[u64],
+    skipped: &[u64],
+) -> Result<(), NoMemory>
+    ensures { IfOk result (λ _. text.new.items
+        ≡ text.old.items ++ forward_words (SentAllReply to.now closed.now skipped.now)) }
+{
+    put_words(text, "sentall to=")?;
+    put_list(text, alloc, to)?;
+    put_words(text, " closed=")?;
+    put_list(text, alloc, closed)?;
+    put_words(text, " skipped=")?;
+    put_list(text, alloc, skipped)
+}
+
+/// The line of a broadcast that was sent.
 fn put_sent(
     text: &mut Vec<u8>,
     alloc: Global,
@@ -300,12 +319,7 @@ fn put_sent(
         ≡ text.old.items ++ says name.now (forward_words (SentAllReply to.now closed.now skipped.now))) }
 {
     begin_line(text, name)?;
-    put_words(text, "sentall to=")?;
-    put_list(text, alloc, to)?;
-    put_words(text, " closed=")?;
-    put_list(text, alloc, closed)?;
-    put_words(text, " skipped=")?;
-    put_list(text, alloc, skipped)?;
+    put_lists(text, alloc, to, closed, skipped)?;
     put_words(text, "\n")
 }
 
