@@ -1,5 +1,5 @@
 -- Messages that come in, and names that close, as a scene has them.
-use Rattle.std.proofs.Common.{◌≡◌, ℕ, ◌<◌, Bool, true, false, cond, List, ◌++◌, length, map, find, refl, ap, sym, ◌∙◌, subst, Option, Some, None, Result, Ok, Err}
+use Rattle.std.proofs.Common.{◌≡◌, ℕ, ◌<◌, Bool, true, false, cond, List, ◌++◌, length, map, find, refl, ap, sym, ◌∙◌, subst, codes, Option, Some, None, Result, Ok, Err}
 use Rattle.std.specs.Prelude.{OnOk, ⊤}
 use Rattle.std.specs.List.{position}
 use Rattle.std.specs.Option.{option_map}
@@ -9,10 +9,10 @@ use Rattle.bsc_octets.specs.Forwarding.{id_in}
 use Rattle.bsc_stage.specs.declared.member.Member.{Member as Joined}
 use Rattle.bsc_stage.specs.declared.stage.Stage.{Stage}
 use Rattle.bsc_text.specs.Lines.{same_octets}
-use Rattle.bsc_stage.specs.Messages.{is_connect_request, asks_for, asker_of}
-use Rattle.bsc_stage.specs.Texts.{unbuilt_text}
+use Rattle.bsc_stage.specs.Messages.{is_connect_request, asks_for, asker_of, is_forward_form, is_disconnect_request, is_disconnect_ack}
+use Rattle.bsc_stage.specs.Texts.{says, unbuilt_text, disconnected_text}
 use Rattle.bsc_stage.specs.Scenes.{Member, Scene, is_waiting, member_of}
-use Rattle.bsc_stage.specs.Turns.{Turn, leaves_after, connect_turn, unbuilt_turn, waiting_turn, phase_turn, in_turn, close_turn}
+use Rattle.bsc_stage.specs.Turns.{Turn, leaves_after, connect_turn, unbuilt_turn, waiting_turn, connected_turn, disconnecting_turn, phase_turn, in_turn, close_turn}
 use Rattle.bsc_stage.specs.Holding.{shown, Holds}
 use Rattle.bsc_stage.specs.Steps.{CarriesOut, IsAt}
 use Rattle.bsc_stage.proofs.Places.{mapped, within, found_there, found_nowhere, find_mapped}
@@ -60,3 +60,20 @@ member_closed s name text k waits here = rw (waits, here) refl
 
 pub none_closed : (s : Scene) (name text : List ℕ) → is_waiting s name ≡ false → member_of s name ≡ None → close_turn s name text ≡ None
 none_closed s name text waits here = rw (waits, here) refl
+
+-- a message of a form that isn't built
+pub unbuilt_if_ok : (o : Result ⊤ NoMemory) (t : Stage) (s : Scene) (name m before after : List ℕ) (turn : Turn) → Holds t s → turn ≡ unbuilt_turn s name m → OnOk o (after ≡ before ++ unbuilt_text name m) → OnOk o (CarriesOut t before after turn)
+unbuilt_if_ok (Err e) t s name m before after turn holds same text = tt
+unbuilt_if_ok (Ok x) t s name m before after turn holds same text = subst (CarriesOut t before after) (sym same) (holds, text)
+
+pub other_message : (s : Scene) (k : Member) (m : List ℕ) → is_forward_form s.about m ≡ false → is_disconnect_request m ≡ false → connected_turn s k m ≡ unbuilt_turn s k.name m
+other_message s k m forward request = rw (forward, request) refl
+
+pub disconnects : (s : Scene) (k : Member) (m : List ℕ) → is_forward_form s.about m ≡ false → is_disconnect_request m ≡ true → connected_turn s k m ≡ leaves_after (disconnected_text k.name (id_in m)) s k
+disconnects s k m forward request = rw (forward, request) refl
+
+pub not_ack : (s : Scene) (k : Member) (m : List ℕ) → is_disconnect_ack m ≡ false → disconnecting_turn s k m ≡ unbuilt_turn s k.name m
+not_ack s k m ack = rw ack refl
+
+pub acknowledges : (s : Scene) (k : Member) (m : List ℕ) → is_disconnect_ack m ≡ true → disconnecting_turn s k m ≡ leaves_after (says k.name (codes "close 1000")) s k
+acknowledges s k m ack = rw ack refl

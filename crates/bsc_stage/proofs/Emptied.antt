@@ -20,7 +20,7 @@ use Rattle.bsc_stage.specs.declared.member.Member.{Member as Joined}
 use Rattle.bsc_stage.specs.declared.member.Phase.{Phase}
 use Rattle.bsc_stage.specs.declared.member.Phase.TheVariants.{Connected, Disconnecting}
 use Rattle.bsc_stage.specs.declared.stage.Stage.{Stage}
-use Rattle.bsc_stage.specs.Texts.{puts, says}
+use Rattle.bsc_stage.specs.Texts.{puts, disconnecting_text}
 use Rattle.bsc_stage.specs.Scenes.{Member, Scene, with_changed, unwritten_of, all_written, disconnecting}
 use Rattle.bsc_stage.specs.Leaving.{Turn}
 use Rattle.bsc_stage.specs.Emptying.{is_connected, is_due, is_emptied, frames_text, empties_after, then_emptied_one, then_emptied}
@@ -129,3 +129,27 @@ pub record EmptiesOn (t l : Stage) (from text : List ℕ) (at : ℕ) : Type 0 wh
 pub one_more_emptied : (k : Member) (next at : ℕ) (v w u : Turn) → IsAt at k v.scene.members → w ≡ then_emptied_one v k → drop next w.scene.members ≡ drop (suc at) v.scene.members → fold then_emptied_one v (drop at v.scene.members) ≡ then_emptied u → fold then_emptied_one w (drop next w.scene.members) ≡ then_emptied u
 one_more_emptied k next at v w u here step behind rest =
     ap (fold then_emptied_one w) behind ∙ ap (λ (x : Turn). fold then_emptied_one x (drop (suc at) v.scene.members)) step ∙ ap (fold then_emptied_one v) (sym here) ∙ rest
+
+-- whether a member is emptied, by its phase and whether it is held
+pub passes_on : (p : Phase) (held due d : Bool) → p ≡ Connected → held ≡ false → due ≡ d → due ≡ (is_connected p && not held && d)
+passes_on p held due d phase free same = rw (phase, free) same
+
+pub is_passed : (p : Phase) (held d : Bool) → p ≡ Connected → held ≡ true → not held ≡ (is_connected p && not held && d)
+is_passed p held d phase free = rw (phase, free) refl
+
+pub disconnects : (p : Phase) (held d : Bool) → p ≡ Disconnecting → false ≡ (is_connected p && not held && d)
+disconnects p held d phase = rw phase refl
+
+-- a member that is asked to disconnect
+pub asked_if_ok : (o : Result ⊤ NoMemory) (t n : Stage) (s : Scene) (i : ℕ) (m q : Joined) (k : Member) (before after : List ℕ) → Holds t s → i < length t.members.items → get_or t.members.items i m ≡ m → IsAt i k s.members
+    → n.desk ≡ t.desk → n.about ≡ t.about → n.waiting.items ≡ t.waiting.items → n.members.items ≡ set t.members.items i q
+    → q.connection ≡ m.connection → q.name ≡ m.name → q.held ≡ m.held → q.outlet ≡ m.outlet → q.phase ≡ Disconnecting
+    → OnOk o (after ≡ before ++ disconnecting_text m.name)
+    → OnOk o (Holds n (with_changed (disconnecting k) s) × (after ≡ before ++ disconnecting_text k.name))
+asked_if_ok (Err e) t n s i m q k before after holds h g at desk about waits items connection name held outlet phase text = tt
+asked_if_ok (Ok x) t n s i m q k before after holds h g at desk about waits items connection name held outlet phase text =
+    let one = is_member t s i m holds h g in
+    let shows : shown q ≡ disconnecting (shown m) = (λ j. record { name = name j; conn = (outlet j).conn; written = (outlet j).taken; empties = (outlet j).empties; held = held j; phase = phase j }) in
+    let took : q.outlet.taken ≡ taken_of n.desk m.outlet.conn = ap (λ z. z.taken) outlet ∙ one.took ∙ ap (taken_of t.desk) (sym one.outlet) ∙ ap (λ (d : Desk). taken_of d m.outlet.conn) (sym desk) in
+    let here = changed_holds t n s i m q (disconnecting (shown m)) holds h g (λ l stands. subst (λ (d : Desk). StandsFor d l) (sym desk) stands) (ap (λ (d : Desk). d.about) desk) (λ c differ. ap (λ (d : Desk). taken_of d c) desk) about waits items connection (ap (λ z. z.conn) outlet) took shows in
+    subst (λ (y : Member). Holds n (with_changed (disconnecting y) s) × (after ≡ before ++ disconnecting_text y.name)) (same_member t s i m k holds h g at) (here, text)

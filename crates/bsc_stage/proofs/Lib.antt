@@ -10,6 +10,8 @@ pub mod Joins
 pub mod Arriving
 pub mod Emptied
 pub mod Forwards
+pub mod Finished
+pub mod Holds
 pub mod Turned
 pub mod Fitting
 pub mod WorkedLines

@@ -139,3 +139,25 @@ found_nowhere p (x ∷ L) h =
 pub find_mapped : {A B : Type 0} (f : A → B) (p : B → Bool) (L : List A) → find p (map f L) ≡ option_map f (find (λ x. p (f x)) L)
 find_mapped f p [] = refl
 find_mapped f p (x ∷ L) = elim (p (f x)) as (λ b. cond b (Some (f x)) (find p (map f L)) ≡ option_map f (cond b (Some x) (find (λ x. p (f x)) L))) [ true ↦ refl | false ↦ find_mapped f p L ]
+
+set_front : {A : Type 0} (f : A → A) (xs : List A) (n : ℕ) (r : A) → n < length xs → set (map f (take n xs) ++ drop n xs) n (f (get_or (map f (take n xs) ++ drop n xs) n r)) ≡ map f (take (suc n) xs) ++ drop (suc n) xs
+set_front f [] n r h = absurd (omega arith)
+set_front f (x ∷ xs) zero r h = refl
+set_front f (x ∷ xs) (suc n) r h = ap (λ l. f x ∷ l) (set_front f xs n r (omega arith))
+
+-- one more element of a list is changed
+pub set_next : {A : Type 0} (f : A → A) (old now : List A) (n : ℕ) (r new : A) → n < length old → now ≡ map f (take n old) ++ drop n old → new ≡ f (get_or now n r) → set now n new ≡ map f (take (n + 1) old) ++ drop (n + 1) old
+set_next f old now n r new h same is =
+    ap (λ x. set now n x) is
+    ∙ subst (λ l. set l n (f (get_or l n r)) ≡ map f (take (suc n) old) ++ drop (suc n) old) (sym same) (set_front f old n r h)
+    ∙ ap (λ (k : ℕ). map f (take k old) ++ drop k old) (let e : suc n ≡ n + 1 = omega arith in e)
+
+pub some_there : {A : Type 0} (L : List A) (i : ℕ) → i < length L → (x : A) × IsAt i x L
+some_there [] i h = absurd (omega arith)
+some_there (x ∷ L) zero h = (x, refl)
+some_there (x ∷ L) (suc i) h = some_there L i (omega arith)
+
+pub set_there : {A : Type 0} (L : List A) (i : ℕ) (x y : A) → IsAt i x L → IsAt i y (set L i y)
+set_there [] i x y h = absurd (not_in_nil i x h)
+set_there (z ∷ L) zero x y h = refl
+set_there (z ∷ L) (suc i) x y h = set_there L i x y h

@@ -1,7 +1,7 @@
 -- What is written after each line: the outboxes of the members are emptied.
 use Rattle.std.specs.Prelude.{ℕ, ◌==◌, Bool, true, false, not, ◌&&◌, ◌||◌, if◌then◌else◌, List, [], ◌++◌, fold, flat_map, length, is_some, codes, Option, Some, None}
 use Rattle.bsc_history.specs.declared.ending.End.{End}
-use Rattle.bsc_history.specs.declared.ending.End.TheVariants.{Left, Replaced, Full, Stopped}
+use Rattle.bsc_history.specs.declared.ending.End.TheVariants.{Full}
 use Rattle.bsc_history.specs.Ends.{ended}
 use Rattle.bsc_desk.specs.Taking.{one_more}
 use Rattle.bsc_stage.specs.declared.member.Phase.{Phase}
@@ -27,6 +27,11 @@ is_emptied s k = is_connected k.phase && not k.held && is_due s k
 abbrev pub frames_text : Scene → Member → List ℕ
 frames_text s k = flat_map (puts k.name) (unwritten_of s k)
 
+-- whether an End is Full
+abbrev pub is_full : End → Bool
+is_full Full = true
+is_full ending = false
+
 -- how often an outbox was found empty, once its frames are taken: once more where its connection is live
 abbrev pub empties_after : Option End → ℕ → ℕ
 empties_after None empties = one_more empties
@@ -37,8 +42,9 @@ empties_after (Some ending) empties = empties
 -- disconnect.
 abbrev pub end_turn : Option End → List ℕ → Scene → Member → Turn
 end_turn None text s k = record { scene = with_changed (record k { empties = one_more k.empties }) s; text = text }
-end_turn (Some Full) text s k = leaves_after (text ++ says k.name (codes "close 1008 outbox full")) (with_changed k s) k
-end_turn (Some ending) text s k = record { scene = with_changed (disconnecting k) s; text = text ++ disconnecting_text k.name }
+end_turn (Some ending) text s k =
+    if is_full ending then leaves_after (text ++ says k.name (codes "close 1008 outbox full")) (with_changed k s) k
+    else record { scene = with_changed (disconnecting k) s; text = text ++ disconnecting_text k.name }
 
 -- one turn, and then another
 abbrev pub then_turn : Turn → Turn → Turn

@@ -8,7 +8,7 @@ ghost use Rattle.bsc_desk.specs.Rows.{HasRow, taken_of, waiting_of};
 ghost use Rattle.bsc_desk.specs.Standing.{StandsFor};
 ghost use Rattle.bsc_stage.specs.Texts.{puts, disconnecting_text};
 ghost use Rattle.bsc_stage.specs.Scenes.{Scene, Member as Shown, with_changed, disconnecting};
-ghost use Rattle.bsc_stage.specs.Emptying.{then_emptied, then_emptied_one, emptied_turn, then_turn, empties_after, frames_text};
+ghost use Rattle.bsc_stage.specs.Emptying.{then_emptied, then_emptied_one, emptied_turn, then_turn, empties_after, frames_text, is_emptied, is_full};
 ghost use Rattle.bsc_stage.specs.Turns.{Turn};
 ghost use Rattle.bsc_stage.specs.Holding.{Holds};
 ghost use Rattle.bsc_stage.specs.Steps.{SomeHistory, SomeScene, IsAt, CarriesOut, Written, GoesOn};
@@ -49,6 +49,13 @@ fn write_outbox(
             Take::Closed(ending) => return Ok(Some(ending)),
         }
     }
+}
+
+/// Whether an End is Full.
+fn is_full(ending: End) -> bool
+    ensures { result ≡ is_full ending }
+{
+    ending == End::Full
 }
 
 impl Stage {
@@ -96,17 +103,32 @@ impl Stage {
             IsAt at k t.scene.members → IfOk result (λ next.
             GoesOn self.new base text.new.items next at t (then_turn t (emptied_turn t.scene k))) }
     {
-        match self.write(alloc, at, text)? {
+        let ended = self.write(alloc, at, text)?;
+        match ended {
             None => Ok(at + 1),
-            Some(End::Full) => {
-                put_line(text, self.members[at].name.as_slice(), "close 1008 outbox full")?;
-                self.leave(alloc, at, text)?;
-                Ok(at)
+            Some(ending) => {
+                if is_full(ending) {
+                    put_line(text, self.members[at].name.as_slice(), "close 1008 outbox full")?;
+                    self.leave(alloc, at, text)?;
+                    Ok(at)
+                } else {
+                    self.ask(alloc, at, text)?;
+                    Ok(at + 1)
+                }
             }
-            Some(End::Left | End::Replaced | End::Stopped) => {
-                self.ask(alloc, at, text)?;
-                Ok(at + 1)
-            }
+        }
+    }
+
+    /// Whether the member at a place is to be emptied.
+    fn is_emptied(&self, at: usize) -> bool
+        requires some { SomeScene self.now }
+        requires within { at < vec_len self.now.members }
+        ensures { (s : Scene) (k : Shown) → Holds self.now s → IsAt at k s.members → result ≡ is_emptied s k }
+    {
+        let member = &self.members[at];
+        match member.phase {
+            Phase::Connected => !member.held && self.desk.is_due(member.connection.number),
+            Phase::Disconnecting => false,
         }
     }
 
@@ -119,12 +141,11 @@ impl Stage {
             IsAt at k t.scene.members → IfOk result (λ next.
             GoesOn self.new base text.new.items next at t (then_emptied_one t k)) }
     {
-        let member = &self.members[at];
-        let waits = member.phase == Phase::Disconnecting || member.held;
-        if waits || !self.desk.is_due(member.connection.number) {
-            return Ok(at + 1);
+        if self.is_emptied(at) {
+            self.empty(alloc, at, text)
+        } else {
+            Ok(at + 1)
         }
-        self.empty(alloc, at, text)
     }
 
     /// Empties the members for whom something is due, in the order of joining.

@@ -29,17 +29,17 @@ impl Stage {
         ensures { (s : Scene) (k : Shown) → Holds self.old s → IsAt at k s.members → OnOk result
             (CarriesOut self.new text.old.items text.new.items (forward_turn s k message.now)) }
     {
-        let connection = self.members[at].connection;
-        let frame = prepare(alloc, message, connection.who.vmac)?;
+        let member = &self.members[at];
+        let frame = prepare(alloc, message, member.connection.who.vmac)?;
         if frame.is_broadcast() {
-            match self.desk.forward_all(alloc, 0, connection.number, &frame) {
-                Ok(reply) => put_all(text, alloc, self.members[at].name.as_slice(), &reply),
+            match self.desk.forward_all(alloc, 0, member.connection.number, &frame) {
+                Ok(reply) => put_all(text, alloc, member.name.as_slice(), &reply),
                 Err(AllRefusal::Worn(_)) => self.wear(alloc, at, text),
                 Err(AllRefusal::NoMemory) => Err(NoMemory),
             }
         } else {
-            match self.desk.forward_one(0, connection.number, frame) {
-                Ok(reply) => put_reply(text, alloc, self.members[at].name.as_slice(), reply),
+            match self.desk.forward_one(0, member.connection.number, frame) {
+                Ok(reply) => put_reply(text, alloc, member.name.as_slice(), reply),
                 Err(_) => self.wear(alloc, at, text),
             }
         }

@@ -33,8 +33,8 @@ impl Member {
     }
 }
 
-/// A name that waits is held, or freed.
-fn hold_waiting(names: &mut [Waiting], name: &[u8], held: bool)
+/// Of names that wait, those with this name are held, or freed.
+fn hold_each_waiting(names: &mut [Waiting], name: &[u8], held: bool)
     ensures { names.new ≡ map (waiting_held name.now held) names.old }
 {
     for w in names.iter_mut() {
@@ -42,13 +42,26 @@ fn hold_waiting(names: &mut [Waiting], name: &[u8], held: bool)
     }
 }
 
-/// A member of this name is held, or freed.
-fn hold_members(members: &mut [Member], name: &[u8], held: bool)
+/// Of members, those with this name are held, or freed.
+fn hold_each_member(members: &mut [Member], name: &[u8], held: bool)
     ensures { members.new ≡ map (joined_held name.now held) members.old }
 {
     for m in members.iter_mut() {
         m.hold(name, held);
     }
+}
+
+/// The same over a vector.
+fn hold_waiting(names: &mut Vec<Waiting>, name: &[u8], held: bool)
+    ensures { names.new.items ≡ map (waiting_held name.now held) names.old.items }
+{
+    hold_each_waiting(names.as_mut_slice(), name, held);
+}
+
+fn hold_members(members: &mut Vec<Member>, name: &[u8], held: bool)
+    ensures { members.new.items ≡ map (joined_held name.now held) members.old.items }
+{
+    hold_each_member(members.as_mut_slice(), name, held);
 }
 
 impl Stage {
@@ -60,8 +73,8 @@ impl Stage {
         if !self.is_open(name) {
             return Err(LineFault::Refused);
         }
-        hold_waiting(self.waiting.as_mut_slice(), name, held);
-        hold_members(self.members.as_mut_slice(), name, held);
+        hold_waiting(&mut self.waiting, name, held);
+        hold_members(&mut self.members, name, held);
         Ok(())
     }
 }
