@@ -4,6 +4,7 @@ pub mod Rows
 pub mod Standing
 pub mod Inlets
 pub mod Taking
+pub mod Due
 pub mod Choices
 pub mod Receivers
 pub mod Entries

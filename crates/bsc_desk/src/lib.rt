@@ -10,6 +10,7 @@ mod broadcasting;
 mod connecting;
 mod desk;
 mod directory;
+mod due;
 mod forwarding;
 mod leaving;
 mod making;

@@ -102,7 +102,7 @@ pub(crate) fn push(rows: &mut Vec<Row>, conn: u64, frame: Octets)
 }
 
 /// The row of a connection.
-fn row_of(rows: &[Row], conn: u64) -> Option<&Row>
+pub(crate) fn row_of(rows: &[Row], conn: u64) -> Option<&Row>
     requires { IsTrue (in_order rises rows.now) }
     ensures { option_copied result ≡ find (λ r. r.connection.number == conn) rows.now }
 {

@@ -27,12 +27,13 @@ use Rattle.bsc_desk.specs.Entries.{connect_entry, connect_due}
 use Rattle.bsc_stage.specs.declared.member.Member.{Member as Joined}
 use Rattle.bsc_stage.specs.declared.stage.Stage.{Stage}
 use Rattle.bsc_stage.specs.Texts.{connect_text}
-use Rattle.bsc_stage.specs.Scenes.{Member, Scene, reply_in, entry_in, names_without}
-use Rattle.bsc_stage.specs.Turns.{is_worn, with_member, without_waiting, after_connect, connect_turn}
+use Rattle.bsc_stage.specs.Scenes.{Member, Scene, reply_in, entry_in, names_without, without_waiting, is_held}
+use Rattle.bsc_stage.specs.declared.member.Phase.TheVariants.{Connected}
+use Rattle.bsc_stage.specs.Turns.{is_worn, with_member, after_connect, connect_turn}
 use Rattle.bsc_stage.specs.Holding.{shown, connection_in, IsMemberOf, Holds}
 use Rattle.bsc_stage.specs.Steps.{CarriesOut}
-use Rattle.bsc_stage.proofs.Outboxes.{any_mapped}
-use Rattle.bsc_stage.proofs.Members.{each_kept}
+use Rattle.bsc_stage.proofs.Members.{any_mapped, each_kept}
+use Rattle.bsc_stage.proofs.Entered.{none_of_rows}
 
 -- what is due says whether the hub is worn, and the reply
 due_cases : (w : Bool) (r q : Reply) → Some r ≡ (cond w None (Some q)) → (w ≡ false) × (q ≡ r)
@@ -46,13 +47,6 @@ turn_of : (s : Scene) (name : List ℕ) (who : Identity) (id : List ℕ) (r : Re
 turn_of s name who id r worn reply =
     let e : entry_in s (Connect who) ≡ connect_entry 0 who r = ap (connect_entry 0 who) reply in
     rw (worn, reply) refl
-
--- a connection that hasn't joined has no row, and nothing of it was taken
-pub none_of_rows : (c : ℕ) (rs : List Row) → list_any (λ r. r.connection.number == c) rs ≡ false → taken_in (find (λ r. r.connection.number == c) rs) ≡ 0
-none_of_rows c [] h = refl
-none_of_rows c (r ∷ rs) h =
-    let by : (b : Bool) → (b || list_any (λ r. r.connection.number == c) rs) ≡ false → taken_in (cond b (Some r) (find (λ r. r.connection.number == c) rs)) ≡ 0 = λ b. elim b as (λ b. (b || list_any (λ r. r.connection.number == c) rs) ≡ false → taken_in (cond b (Some r) (find (λ r. r.connection.number == c) rs)) ≡ 0) [ true ↦ λ k. cc | false ↦ λ k. none_of_rows c rs k ] in
-    by (r.connection.number == c) h
 
 either_way : (b : Bool) → (b ≡ true → ⊥) → b ≡ false
 either_way true h = absurd (h refl)
@@ -78,9 +72,9 @@ pub joined_turn : (t n : Stage) (s : Scene) (name : List ℕ) (who : Identity) (
     → StandsFor n.desk (s.history ++ connect_entry 0 who (JoinedReply conn replaced) ∷ [])
     → n.desk.about ≡ t.desk.about → ((c : ℕ) → taken_of n.desk c ≡ taken_of t.desk c)
     → n.about ≡ t.about → n.waiting.items ≡ names_without name t.waiting.items → n.members.items ≡ t.members.items ++ m ∷ []
-    → m.name ≡ name → m.connection ≡ record { number = conn; caller = 0; who = who } → m.outlet.conn ≡ conn → m.outlet.taken ≡ 0
+    → m.name ≡ name → m.connection ≡ record { number = conn; caller = 0; who = who } → m.outlet.conn ≡ conn → m.outlet.taken ≡ 0 → m.outlet.empties ≡ 0 → m.held ≡ is_held s name → m.phase ≡ Connected
     → Holds n (connect_turn s name who id).scene × ((connect_turn s name who id).text ≡ connect_text name id t.about.hub (JoinedReply conn replaced))
-joined_turn t n s name who id m conn replaced holds due stands desk_about taken about waits items same_name same_connection outlet took =
+joined_turn t n s name who id m conn replaced holds due stands desk_about taken about waits items same_name same_connection outlet took empty held phase =
     let r = JoinedReply conn replaced in
     let e = connect_entry 0 who r in
     let x : Connection = record { number = conn; caller = 0; who = who } in
@@ -90,7 +84,7 @@ joined_turn t n s name who id m conn replaced holds due stands desk_about taken 
     let zero_taken : taken_of n.desk conn ≡ 0 = taken conn ∙ new_taken t.desk s.history conn holds.stands none in
     let number : m.connection.number ≡ conn = ap (λ (y : Connection). y.number) same_connection in
     let one : IsMemberOf n.desk m = record { outlet = outlet ∙ sym number; joiner = ap (λ (y : Connection). y.caller) same_connection; took = took ∙ sym (ap (taken_of n.desk) number ∙ zero_taken) } in
-    let shows : shown m ≡ record { name = name; conn = conn; written = 0 } = (λ i. record { name = same_name i; conn = outlet i; written = took i }) in
+    let shows : shown m ≡ record { name = name; conn = conn; written = 0; empties = 0; held = is_held s name; phase = Connected } = (λ i. record { name = same_name i; conn = outlet i; written = took i; empties = empty i; held = held i; phase = phase i }) in
     let after = with_member name conn (record s { history = s.history ++ e ∷ [] }) in
     let h : Holds n after = record {
       same_hub = about ∙ holds.same_hub;

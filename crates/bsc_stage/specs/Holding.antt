@@ -1,5 +1,5 @@
 -- What it is for a stage to hold a scene: a word of inner functions, that no public clause cites.
-use Rattle.std.specs.Prelude.{◌≡◌, map}
+use Rattle.std.specs.Prelude.{◌≡◌, ℕ, Bool, if◌then◌else◌, List, map}
 use Rattle.std.specs.List.{AllByRecursion}
 use Rattle.bsc_history.specs.declared.connection.Connection.{Connection}
 use Rattle.bsc_history.specs.Ends.{unleft}
@@ -8,11 +8,16 @@ use Rattle.bsc_desk.specs.Rows.{taken_of}
 use Rattle.bsc_desk.specs.Standing.{StandsFor}
 use Rattle.bsc_stage.specs.declared.member.Member.{Member as Joined}
 use Rattle.bsc_stage.specs.declared.stage.Stage.{Stage}
+use Rattle.bsc_text.specs.Lines.{same_octets}
 use Rattle.bsc_stage.specs.Scenes.{Member, Scene}
 
 -- a member as a scene has it
 abbrev pub shown : Joined → Member
-shown m = record { name = m.name; conn = m.outlet.conn; written = m.outlet.taken }
+shown m = record { name = m.name; conn = m.outlet.conn; written = m.outlet.taken; empties = m.outlet.empties; held = m.held; phase = m.phase }
+
+-- a member, held or freed where it has this name
+abbrev pub joined_held : List ℕ → Bool → Joined → Joined
+joined_held name held m = if same_octets m.name name then record m { held = held } else m
 
 -- the connection of a member
 abbrev pub connection_in : Joined → Connection

@@ -5,7 +5,7 @@ use Rattle.bsc_octets.specs.declared.device_id.DeviceId.{DeviceId}
 use Rattle.bsc_octets.specs.Addresses.{same_vmac, zero_vmac, broadcast}
 use Rattle.bsc_history.specs.declared.limits.About.{About}
 use Rattle.bsc_stage.specs.declared.script.Line.{Line}
-use Rattle.bsc_stage.specs.declared.script.Line.TheVariants.{Nothing, Hub, Open, In}
+use Rattle.bsc_stage.specs.declared.script.Line.TheVariants.{Nothing, Hub, Open, In, Text, Drop, Hold, Free, Stop, Counts}
 use Rattle.bsc_text.specs.Lines.{same_octets}
 use Rattle.bsc_text.specs.Words.{words_of}
 use Rattle.bsc_text.specs.Grammar.{number_of, vmac_of_word, maximum_of_word, device_of_word, octets_of_words, is_name}
@@ -14,34 +14,44 @@ use Rattle.bsc_text.specs.Grammar.{number_of, vmac_of_word, maximum_of_word, dev
 abbrev pub lies_within : ℕ → ℕ → ℕ → Bool
 lies_within low n high = nat_le low n && nat_le n high
 
+-- how many calls a hub answers where its line doesn't say: 2^52
+abbrev pub most_calls : ℕ
+most_calls = 4503599627370496
+
 -- What a hub may be: a VMAC that names one node, maximum lengths of 64 to 65,535 and 1 to 65,535, 1 to 1024 rows,
--- outboxes of 2 to 1024 frames, and a product of rows, outbox and maximum BVLC length of at most 2^30.
-abbrev pub may_be_hub : Vmac → ℕ → ℕ → ℕ → ℕ → Bool
-may_be_hub v max_bvlc max_npdu rows outbox =
+-- outboxes of 2 to 1024 frames, 1 to 2^52 calls, and a product of rows, outbox and maximum BVLC length of at most 2^30.
+abbrev pub may_be_hub : Vmac → ℕ → ℕ → ℕ → ℕ → ℕ → Bool
+may_be_hub v max_bvlc max_npdu rows outbox calls =
     not (same_vmac v zero_vmac) && not (same_vmac v broadcast)
     && lies_within 64 max_bvlc 65535 && lies_within 1 max_npdu 65535
-    && lies_within 1 rows 1024 && lies_within 2 outbox 1024
+    && lies_within 1 rows 1024 && lies_within 2 outbox 1024 && lies_within 1 calls most_calls
     && nat_le (rows * outbox * max_bvlc) 1073741824
 
--- a hub of these, with 2^52 calls and 2^62 callers
-abbrev pub hub_of : Vmac → DeviceId → ℕ → ℕ → ℕ → ℕ → About
-hub_of v u max_bvlc max_npdu rows outbox = record {
+-- a hub of these, with 2^62 callers
+abbrev pub hub_of : Vmac → DeviceId → ℕ → ℕ → ℕ → ℕ → ℕ → About
+hub_of v u max_bvlc max_npdu rows outbox calls = record {
   hub = record { vmac = v; device = u; max_bvlc = max_bvlc; max_npdu = max_npdu };
-  limits = record { rows = rows; outbox = outbox; calls = 4503599627370496; callers = 4611686018427387904 };
+  limits = record { rows = rows; outbox = outbox; calls = calls; callers = 4611686018427387904 };
 }
 
 -- a hub line, where each of its words is what it should be
-abbrev pub hub_line : Option Vmac → Option DeviceId → Option ℕ → Option ℕ → Option ℕ → Option ℕ → Option Line
-hub_line (Some v) (Some u) (Some max_bvlc) (Some max_npdu) (Some rows) (Some outbox) =
-    if may_be_hub v max_bvlc max_npdu rows outbox
-    then Some (Hub (hub_of v u max_bvlc max_npdu rows outbox)) else None
-hub_line v u max_bvlc max_npdu rows outbox = None
+abbrev pub hub_line : Option Vmac → Option DeviceId → Option ℕ → Option ℕ → Option ℕ → Option ℕ → Option ℕ → Option Line
+hub_line (Some v) (Some u) (Some max_bvlc) (Some max_npdu) (Some rows) (Some outbox) (Some calls) =
+    if may_be_hub v max_bvlc max_npdu rows outbox calls
+    then Some (Hub (hub_of v u max_bvlc max_npdu rows outbox calls)) else None
+hub_line v u max_bvlc max_npdu rows outbox calls = None
 
--- a hub line, by the six words after its first
+-- how many calls the last words of a hub line say: one number, or none, which is 2^52
+abbrev pub calls_of_words : List (List ℕ) → Option ℕ
+calls_of_words [] = Some most_calls
+calls_of_words (calls ∷ []) = number_of calls
+calls_of_words ws = None
+
+-- a hub line, by the six or seven words after its first
 abbrev pub hub_line_of_words : List (List ℕ) → Option Line
-hub_line_of_words (v ∷ u ∷ max_bvlc ∷ max_npdu ∷ rows ∷ outbox ∷ []) =
+hub_line_of_words (v ∷ u ∷ max_bvlc ∷ max_npdu ∷ rows ∷ outbox ∷ ws) =
     hub_line (vmac_of_word v) (device_of_word u) (maximum_of_word max_bvlc) (maximum_of_word max_npdu)
-    (number_of rows) (number_of outbox)
+    (number_of rows) (number_of outbox) (calls_of_words ws)
 hub_line_of_words ws = None
 
 -- an open line, by the words after its first: a name alone
@@ -59,6 +69,27 @@ abbrev pub in_line_of_words : List (List ℕ) → Option Line
 in_line_of_words (name ∷ ws) = in_line name (octets_of_words ws)
 in_line_of_words [] = None
 
+-- a line of one word after its first, which is a name; whether it is open is looked at later
+abbrev pub name_line_of_words : (List ℕ → Line) → List (List ℕ) → Option Line
+name_line_of_words line (name ∷ []) = Some (line name)
+name_line_of_words line ws = None
+
+-- a line of no words after its first
+abbrev pub bare_line_of_words : Line → List (List ℕ) → Option Line
+bare_line_of_words line [] = Some line
+bare_line_of_words line ws = None
+
+-- a line of a name that closes, is held or is freed, or of the hub alone, by its first word and those after it
+abbrev pub other_line_of_words : List ℕ → List (List ℕ) → Option Line
+other_line_of_words w ws =
+    if same_octets w (codes "text") then name_line_of_words Text ws
+    else if same_octets w (codes "drop") then name_line_of_words Drop ws
+    else if same_octets w (codes "hold") then name_line_of_words Hold ws
+    else if same_octets w (codes "free") then name_line_of_words Free ws
+    else if same_octets w (codes "stop") then bare_line_of_words Stop ws
+    else if same_octets w (codes "counts") then bare_line_of_words Counts ws
+    else None
+
 -- whether a word begins a comment
 abbrev pub begins_comment : List ℕ → Bool
 begins_comment (c ∷ o) = c == 35
@@ -72,7 +103,7 @@ line_of_words (w ∷ ws) =
     else if same_octets w (codes "hub") then hub_line_of_words ws
     else if same_octets w (codes "open") then open_line_of_words ws
     else if same_octets w (codes "in") then in_line_of_words ws
-    else None
+    else other_line_of_words w ws
 
 -- What a line says; None where it has no form of a line. A line with no words, or with a comment, says nothing.
 unfoldable pub line_of : List ℕ → Option Line

@@ -1,20 +1,19 @@
 -- What the calls of a stage say of it and its scene.
-use Rattle.std.specs.Prelude.{◌≡◌, ◌≤◌, ◌^◌, ◌==◌, ◌&&◌, ℕ, List, ◌++◌, map, take, drop, flat_map, Option, Some, None, Result, Ok, Err, ⊤, IsTrue}
+use Rattle.std.specs.Prelude.{◌≡◌, ◌≤◌, ◌^◌, ◌==◌, ◌&&◌, ℕ, List, ◌∷◌, ◌++◌, suc, drop, Option, Some, None, Result, Ok, Err, ⊤, IsTrue}
 use Rattle.std.specs.List.{list_any}
-use Rattle.bsc_octets.specs.Addresses.{same_vmac}
 use Rattle.bsc_history.specs.declared.limits.About.{About}
-use Rattle.bsc_history.specs.declared.connection.Connection.{Connection}
 use Rattle.bsc_history.specs.declared.entry.Entry.{Entry}
-use Rattle.bsc_history.specs.Ends.{unleft}
 use Rattle.bsc_desk.specs.declared.desk.Desk.{Desk}
 use Rattle.bsc_desk.specs.Standing.{StandsFor}
 use Rattle.bsc_stage.specs.declared.script.Line.{Line}
-use Rattle.bsc_stage.specs.declared.script.Line.TheVariants.{Nothing, Hub, Open, In}
+use Rattle.bsc_stage.specs.declared.script.Line.TheVariants.{Hub}
 use Rattle.bsc_stage.specs.declared.script.LineFault.{LineFault}
 use Rattle.bsc_stage.specs.declared.script.LineFault.TheVariants.{Refused as LineRefused, NoMemory as LineNoMemory}
 use Rattle.bsc_stage.specs.declared.stage.Stage.{Stage}
-use Rattle.bsc_stage.specs.Texts.{puts}
-use Rattle.bsc_stage.specs.Scenes.{Scene, member_written, unwritten_of}
+use Rattle.bsc_history.specs.declared.ending.End.{End}
+use Rattle.bsc_history.specs.Ends.{ended, unleft}
+use Rattle.bsc_stage.specs.Scenes.{Scene, Member, with_changed, all_written}
+use Rattle.bsc_stage.specs.Emptying.{empties_after}
 use Rattle.bsc_stage.specs.Turns.{Turn}
 use Rattle.bsc_stage.specs.Holding.{Holds}
 
@@ -37,18 +36,9 @@ SomeHistory d c = (h : List Entry) × (StandsFor d h × IsTrue (list_any (λ x. 
 abbrev pub SomeScene : Stage → Type 0
 SomeScene t = (s : Scene) × Holds t s
 
--- The stage holds some scene in which this connection, of caller 0, hasn't left.
-abbrev pub SomeSender : Stage → Connection → Type 0
-SomeSender t x = (s : Scene) × (Holds t s
-    × IsTrue (list_any (λ y. (y.number == x.number) && (y.caller == 0) && same_vmac y.who.vmac x.who.vmac) (unleft s.history)))
-
--- What stands when the first n members were written.
-abbrev pub written_to : ℕ → Scene → Scene
-written_to n s = record s { members = map (member_written s) (take n s.members) ++ drop n s.members }
-
--- What was written for the first n members.
-abbrev pub text_to : ℕ → Scene → List ℕ
-text_to n s = flat_map (λ k. flat_map (puts k.name) (unwritten_of s k)) (take n s.members)
+-- The element at a place is k.
+abbrev pub IsAt : {A : Type 0} → ℕ → A → List A → Type 0
+IsAt at k L = drop at L ≡ k ∷ drop (suc at) L
 
 -- A turn is carried out: the stage holds its scene, and its text was put at the end of the text.
 abbrev pub CarriesOut : Stage → List ℕ → List ℕ → Turn → Type 0
@@ -63,7 +53,14 @@ TurnsTo (Err LineNoMemory) new before after o = ⊤
 
 -- A hub line says a hub that may be made.
 abbrev pub IsFit : Line → Type 0
-IsFit Nothing = ⊤
 IsFit (Hub about) = IsHub about
-IsFit (Open name) = ⊤
-IsFit (In name message) = ⊤
+IsFit line = ⊤
+
+-- All is written for a member of scene s, whose connection ended so, if it did: the stage holds the scene in which it is
+-- as that says.
+abbrev pub Written : Stage → Scene → Member → Option End → Type 0
+Written new s k ending = (ending ≡ ended s.history k.conn) × Holds new (with_changed (record (all_written s k) { empties = empties_after ending k.empties }) s)
+
+-- A turn goes on: it is carried out, and the members from the next place on are those that stood behind the place at.
+abbrev pub GoesOn : Stage → List ℕ → List ℕ → ℕ → ℕ → Turn → Turn → Type 0
+GoesOn new base after next at before t = CarriesOut new base after t × (drop next t.scene.members ≡ drop (suc at) before.scene.members)

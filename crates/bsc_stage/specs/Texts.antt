@@ -1,5 +1,5 @@
 -- The lines that a replay writes.
-use Rattle.std.specs.Prelude.{ℕ, List, [], ◌∷◌, ◌++◌, codes, decimal, Option, Some, None}
+use Rattle.std.specs.Prelude.{ℕ, List, [], ◌∷◌, ◌++◌, flat_map, codes, decimal, Option, Some, None}
 use Rattle.hex.specs.Hex.{encode_upper}
 use Rattle.bsc_octets.specs.declared.identity.Identity.{Identity}
 use Rattle.bsc_history.specs.declared.ending.End.{End}
@@ -7,8 +7,11 @@ use Rattle.bsc_history.specs.declared.ending.End.TheVariants.{Left, Replaced, Fu
 use Rattle.bsc_history.specs.declared.reply.Refusal.{Refusal}
 use Rattle.bsc_history.specs.declared.reply.Refusal.TheVariants.{Stopped as RefusedStopped, Duplicate, TableFull}
 use Rattle.bsc_history.specs.declared.reply.Reply.{Reply}
-use Rattle.bsc_history.specs.declared.reply.Reply.TheVariants.{Joined, Refused, Appended, Closed, Skipped, NoHolder, NotCurrent, Stopped}
-use Rattle.bsc_stage.specs.Messages.{accept_octets, duplicate_octets}
+use Rattle.bsc_history.specs.declared.reply.Reply.TheVariants.{Joined, Refused, Appended, Closed, Skipped, NoHolder, SentAll, NotCurrent, Stopped, Gone}
+use Rattle.bsc_history.specs.declared.counts.Counts.{Counts}
+use Rattle.bsc_stage.specs.declared.leaving.Closing.{Closing}
+use Rattle.bsc_stage.specs.declared.leaving.Closing.TheVariants.{ByText, ByPeer}
+use Rattle.bsc_stage.specs.Messages.{accept_octets, duplicate_octets, disconnect_ack_octets, disconnect_octets}
 
 -- a line that says something of a name
 abbrev pub says : List ℕ → List ℕ → List ℕ
@@ -59,12 +62,19 @@ ending_word Replaced = codes "replaced"
 ending_word Full = codes "full"
 ending_word EndStopped = codes "stopped"
 
--- The reply to a unicast.
+-- numbers of connections with commas between, or `-` where there are none
+abbrev pub list_words : List ℕ → List ℕ
+list_words [] = codes "-"
+list_words (n ∷ ns) = decimal n ++ flat_map (λ k. codes "," ++ decimal k) ns
+
+-- The reply to a unicast or a broadcast.
 abbrev pub forward_words : Reply → List ℕ
 forward_words (Appended conn) = numbered_word (codes "sent") conn
 forward_words (Closed conn) = numbered_word (codes "full") conn
 forward_words (Skipped conn) = numbered_word (codes "long") conn
 forward_words NoHolder = codes "noholder"
+forward_words (SentAll to closed skipped) =
+    codes "sentall to=" ++ list_words to ++ codes " closed=" ++ list_words closed ++ codes " skipped=" ++ list_words skipped
 forward_words (NotCurrent ending) = codes "notcurrent " ++ ending_word ending
 forward_words Stopped = codes "stopped"
 forward_words reply = []
@@ -72,6 +82,38 @@ forward_words reply = []
 -- a call was answered Worn, and the WebSocket is closed
 abbrev pub worn_text : List ℕ → List ℕ
 worn_text name = says name (codes "worn") ++ says name (codes "close 1008 hub worn")
+
+-- The reply to a leave: how the connection ended, and how many frames were taken from its outbox.
+abbrev pub gone_words : Reply → List ℕ
+gone_words (Gone ending taken) = codes "gone " ++ numbered_word (ending_word ending) taken
+gone_words reply = []
+
+-- a Disconnect-Request of a peer is answered, and its WebSocket is closed
+abbrev pub disconnected_text : List ℕ → List ℕ → List ℕ
+disconnected_text name id = puts name (disconnect_ack_octets id) ++ says name (codes "close 1000")
+
+-- What is written where a peer ends its WebSocket: by a text message, for which the hub closes it, or by closing it.
+abbrev pub closing_text : List ℕ → Closing → List ℕ
+closing_text name ByText = says name (codes "close 1003")
+closing_text name ByPeer = []
+
+-- the hub asks a peer to disconnect
+abbrev pub disconnecting_text : List ℕ → List ℕ
+disconnecting_text name = puts name disconnect_octets
+
+-- The line of the hub's counts.
+abbrev pub counts_text : Counts → List ℕ
+counts_text k =
+    codes "hub counts"
+    ++ (codes " joined=" ++ decimal k.joined
+    ++ (codes " replaced=" ++ decimal k.replaced
+    ++ (codes " refused=" ++ decimal k.refused
+    ++ (codes " unicasts=" ++ decimal k.unicasts
+    ++ (codes " broadcasts=" ++ decimal k.broadcasts
+    ++ (codes " appended=" ++ decimal k.appended
+    ++ (codes " dropped=" ++ decimal k.dropped
+    ++ (codes " full=" ++ decimal k.full
+    ++ codes "\n"))))))))
 
 -- the first octet of a message, where it has one
 abbrev pub first_octet : List ℕ → List ℕ

@@ -8,7 +8,7 @@ ghost use Rattle.bsc_stage.specs.Turns.{connect_turn, waiting_turn};
 ghost use Rattle.bsc_stage.specs.Holding.{Holds};
 ghost use Rattle.bsc_stage.specs.Steps.{SomeScene, CarriesOut};
 
-use crate::member::Member;
+use crate::member::{Member, Phase};
 use crate::messages::{asking, id_of};
 use crate::naming::close_name;
 use crate::stage::Stage;
@@ -36,6 +36,7 @@ impl Stage {
             (CarriesOut self.new text.old.items text.new.items (connect_turn s name who.now id)) }
     {
         let inlet = inlet(alloc, self.about.limits.outbox)?;
+        let held = self.is_held(name.as_slice());
         match self.desk.connect(0, *who, inlet) {
             Ok(row) => {
                 close_name(&mut self.waiting, name.as_slice());
@@ -50,6 +51,8 @@ impl Stage {
                     name,
                     connection,
                     outlet,
+                    held,
+                    phase: Phase::Connected,
                 })?;
                 Ok(())
             }
@@ -79,9 +82,6 @@ impl Stage {
         let Some(who) = asking(message) else {
             return put_unbuilt(text, alloc, name.as_slice(), message);
         };
-        if self.desk.has_device(who.device) {
-            return put_unbuilt(text, alloc, name.as_slice(), message);
-        }
         self.connect(alloc, name, &who, id_of(message), text)
     }
 }

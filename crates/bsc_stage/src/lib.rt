@@ -5,19 +5,25 @@
 #![tactic(auto)]
 
 mod connecting;
+mod counting;
 mod emptying;
 mod forwarding;
+mod holding;
+mod incoming;
+mod leaving;
 mod member;
 mod messages;
 mod naming;
 mod reading;
 mod script;
 mod stage;
+mod stopping;
 #[cfg(test)]
 mod tests;
 mod texts;
 mod turning;
 
+pub use counting::counts_line;
 pub use reading::read_line;
 pub use script::{Line, LineFault};
 pub use stage::Stage;

@@ -3,8 +3,8 @@
 
 ghost use Rattle.std.specs.Prelude.{◌≡◌, ◌≤◌, ◌&&◌, ◌==◌, not, length, take, drop, IsTrue, IsFalse};
 ghost use Rattle.bsc_octets.specs.Addresses.{same_vmac, zero_vmac, broadcast};
-ghost use Rattle.bsc_octets.specs.Forwarding.{id_in, is_broadcast, has_route, destination};
-ghost use Rattle.bsc_stage.specs.Messages.{accept_octets, duplicate_octets, asks_for, begins_with, is_unicast_form, asker_of};
+ghost use Rattle.bsc_octets.specs.Forwarding.{id_in};
+ghost use Rattle.bsc_stage.specs.Messages.{accept_octets, duplicate_octets, disconnect_ack_octets, asks_for, begins_with, is_forward_form, is_disconnect_request, is_disconnect_ack, asker_of};
 
 use bsc_history::About;
 use bsc_octets::{Identity, Vmac, read_identity};
@@ -52,23 +52,33 @@ pub fn asking(m: &[u8]) -> Option<Identity>
     Some(who)
 }
 
-/// Whether a message is a unicast of the form that is built.
-pub fn is_unicast(about: &About, m: &[u8]) -> bool
-    ensures { result ≡ is_unicast_form about.now m.now }
+/// A Disconnect-ACK: 4 octets.
+pub fn disconnect_ack(id: [u8; 2]) -> [u8; 4]
+    ensures { result ≡ disconnect_ack_octets id }
 {
-    m.len() >= 10
-        && m.len() <= about.hub.max_bvlc as usize
-        && m[0] == 1
-        && m[1] == 4
-        && destination_of(m) != Vmac::BROADCAST
+    [9, 0, id[0], id[1]]
 }
 
-/// The Destination of a message that has no Originating address.
-fn destination_of(m: &[u8]) -> Vmac
-    requires { 10 ≤ length m.now }
-    ensures { result ≡ destination m.now }
+/// The hub's Disconnect-Request.
+pub const DISCONNECT: [u8; 4] = [8, 0, 0, 1];
+
+/// Whether a message is to be forwarded.
+pub fn is_forward(about: &About, m: &[u8]) -> bool
+    ensures { result ≡ is_forward_form about.now m.now }
 {
-    let mut octets = [0u8; 6];
-    octets.copy_from_slice(&m[4..10]);
-    Vmac(octets)
+    m.len() >= 10 && m.len() <= about.hub.max_bvlc as usize && m[0] == 1 && m[1] == 4
+}
+
+/// Whether a message is a Disconnect-Request.
+pub fn is_disconnect_request(m: &[u8]) -> bool
+    ensures { result ≡ is_disconnect_request m.now }
+{
+    m.len() == 4 && m[0] == 8 && m[1] == 0
+}
+
+/// Whether a message is the Disconnect-ACK to the hub's Disconnect-Request.
+pub fn is_disconnect_ack(m: &[u8]) -> bool
+    ensures { result ≡ is_disconnect_ack m.now }
+{
+    m == [9, 0, 0, 1].as_slice()
 }

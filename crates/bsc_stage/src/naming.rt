@@ -1,15 +1,15 @@
 //! The open names of a stage.
 #![tactic(auto)]
 
-ghost use Rattle.std.specs.Prelude.{◌≡◌, ◌++◌, ◌+◌, ℕ, nat_lt, not, List, [], length, filter, position, option_map, Option, Some, None, IfOk, IfSome, vec_len};
+ghost use Rattle.std.specs.Prelude.{◌≡◌, ◌++◌, ◌+◌, ℕ, nat_lt, not, ◌&&◌, List, [], length, filter, position, option_map, Option, Some, None, IfOk, IfSome, vec_len};
 ghost use Rattle.std.specs.List.{list_any};
 ghost use Rattle.bsc_text.specs.Lines.{same_octets};
-ghost use Rattle.bsc_stage.specs.Scenes.{Scene, opening, is_waiting, is_open, names_without};
+ghost use Rattle.bsc_stage.specs.Scenes.{Scene, opening, is_waiting, is_open, is_held, names_without};
 ghost use Rattle.bsc_stage.specs.Turns.{open_turn, most_names};
 ghost use Rattle.bsc_stage.specs.Holding.{Holds};
 ghost use Rattle.bsc_stage.specs.Steps.{IsHub, TurnsTo};
 
-use crate::member::Member;
+use crate::member::{Member, Waiting};
 use crate::script::LineFault;
 use crate::stage::Stage;
 use bsc_desk::Desk;
@@ -20,11 +20,18 @@ use std::alloc::Global;
 /// The most names that may be open at once.
 const MOST_NAMES: usize = 2048;
 
-/// Whether a name is among some.
-fn is_among(names: &[Octets], name: &[u8]) -> bool
-    ensures { result ≡ list_any (λ n. same_octets n name.now) names.now }
+/// Whether a name is among those that wait.
+fn is_among(names: &[Waiting], name: &[u8]) -> bool
+    ensures { result ≡ list_any (λ w. same_octets w.name name.now) names.now }
 {
-    names.iter().any(|n| n.as_slice() == name)
+    names.iter().any(|w| w.name.as_slice() == name)
+}
+
+/// Whether a name is among those that wait, and is held.
+fn is_held_among(names: &[Waiting], name: &[u8]) -> bool
+    ensures { result ≡ list_any (λ w. same_octets w.name name.now && w.held) names.now }
+{
+    names.iter().any(|w| w.name.as_slice() == name && w.held)
 }
 
 /// Whether a name is that of a member.
@@ -34,11 +41,18 @@ fn is_member(members: &[Member], name: &[u8]) -> bool
     members.iter().any(|m| m.name.as_slice() == name)
 }
 
+/// The place of the member of a name.
+pub fn place_of(members: &[Member], name: &[u8]) -> Option<usize>
+    ensures { result ≡ position (λ m. same_octets m.name name.now) members.now }
+{
+    members.iter().position(|m| m.name.as_slice() == name)
+}
+
 /// Takes a name out.
-pub fn close_name(names: &mut Vec<Octets>, name: &[u8])
+pub fn close_name(names: &mut Vec<Waiting>, name: &[u8])
     ensures { names.new.items ≡ names_without name.now names.old.items }
 {
-    names.retain(|n| n.as_slice() != name);
+    names.retain(|w| w.name.as_slice() != name);
 }
 
 impl Stage {
@@ -63,8 +77,15 @@ impl Stage {
         is_among(self.waiting.as_slice(), name)
     }
 
+    /// Whether a name that hasn't joined is held.
+    pub fn is_held(&self, name: &[u8]) -> bool
+        ensures { (s : Scene) → Holds self.now s → result ≡ is_held s name.now }
+    {
+        is_held_among(self.waiting.as_slice(), name)
+    }
+
     /// Whether a name is open.
-    fn is_open(&self, name: &[u8]) -> bool
+    pub fn is_open(&self, name: &[u8]) -> bool
         ensures { (s : Scene) → Holds self.now s → result ≡ is_open s name.now }
     {
         is_among(self.waiting.as_slice(), name) || is_member(self.members.as_slice(), name)
@@ -86,6 +107,8 @@ impl Stage {
         if self.is_open(name.as_slice()) || !self.has_room() {
             return Err(LineFault::Refused);
         }
-        self.waiting.push(name).map_err(|_| LineFault::NoMemory)
+        self.waiting
+            .push(Waiting { name, held: false })
+            .map_err(|_| LineFault::NoMemory)
     }
 }

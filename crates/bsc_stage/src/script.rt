@@ -1,8 +1,8 @@
 //! The lines of a script, and what they say.
-ghost use Rattle.std.specs.Prelude.{◌≡◌, IfOk, IfSome, MatchOption, if◌then◌else◌, Some, None, Err};
+ghost use Rattle.std.specs.Prelude.{◌≡◌, ◌∷◌, [], ℕ, List, IfOk, IfSome, MatchOption, if◌then◌else◌, Some, None, Err};
 ghost use Rattle.bsc_text.specs.Words.{words_of};
 ghost use Rattle.bsc_text.specs.Grammar.{vmac_of_word, device_of_word, maximum_of_word, number_of, octets_of_words};
-ghost use Rattle.bsc_stage.specs.Script.{may_be_hub, hub_of, hub_line, hub_line_of_words, open_line_of_words, in_line_of_words, begins_comment, line_of};
+ghost use Rattle.bsc_stage.specs.Script.{may_be_hub, hub_of, hub_line, hub_line_of_words, calls_of_words, open_line_of_words, in_line_of_words, name_line_of_words, bare_line_of_words, other_line_of_words, begins_comment, line_of};
 
 use bsc_history::{About, Limits};
 use bsc_octets::{DeviceId, Identity, NoMemory, Octets, Vmac};
@@ -23,6 +23,18 @@ pub enum Line {
     Open { name: Octets },
     /// The peer of this name sends a binary message.
     In { name: Octets, message: Octets },
+    /// The peer of this name sends a text message.
+    Text { name: Octets },
+    /// The peer of this name closes.
+    Drop { name: Octets },
+    /// The outbox of this name is no longer emptied.
+    Hold { name: Octets },
+    /// The outbox of this name is emptied again.
+    Free { name: Octets },
+    /// The hub stops.
+    Stop,
+    /// The hub tells its counts.
+    Counts,
 }
 
 /// Why a line isn't read.
@@ -44,15 +56,22 @@ impl From<NoMemory> for LineFault {
     }
 }
 
-/// How many calls a hub of a script answers: 2^52.
-const CALLS: u64 = 1 << 52;
+/// How many calls a hub answers where its line doesn't say: 2^52.
+const MOST_CALLS: u64 = 1 << 52;
 
 /// How many callers a hub of a script may have: 2^62.
 const CALLERS: u64 = 1 << 62;
 
 /// Whether a hub may be made so.
-fn may_be_hub(vmac: Vmac, max_bvlc: u16, max_npdu: u16, rows: u64, outbox: u64) -> bool
-    ensures { result ≡ may_be_hub vmac max_bvlc max_npdu rows outbox }
+fn may_be_hub(
+    vmac: Vmac,
+    max_bvlc: u16,
+    max_npdu: u16,
+    rows: u64,
+    outbox: u64,
+    calls: u64,
+) -> bool
+    ensures { result ≡ may_be_hub vmac max_bvlc max_npdu rows outbox calls }
 {
     vmac != Vmac::ZERO
         && vmac != Vmac::BROADCAST
@@ -62,10 +81,12 @@ fn may_be_hub(vmac: Vmac, max_bvlc: u16, max_npdu: u16, rows: u64, outbox: u64) 
         && rows <= 1024
         && 2 <= outbox
         && outbox <= 1024
+        && 1 <= calls
+        && calls <= MOST_CALLS
         && rows * outbox * u64::from(max_bvlc) <= 1 << 30
 }
 
-/// A line that makes a hub of these, with the calls and callers of a script's hub.
+/// A line that makes a hub of these, with the callers of a script's hub.
 fn hub_of(
     vmac: Vmac,
     device: DeviceId,
@@ -73,11 +94,12 @@ fn hub_of(
     max_npdu: u16,
     rows: u64,
     outbox: u64,
+    calls: u64,
 ) -> Option<Line>
-    ensures { result ≡ (if may_be_hub vmac max_bvlc max_npdu rows outbox
-        then Some (Line.Hub (hub_of vmac device max_bvlc max_npdu rows outbox)) else None) }
+    ensures { result ≡ (if may_be_hub vmac max_bvlc max_npdu rows outbox calls
+        then Some (Line.Hub (hub_of vmac device max_bvlc max_npdu rows outbox calls)) else None) }
 {
-    if !may_be_hub(vmac, max_bvlc, max_npdu, rows, outbox) {
+    if !may_be_hub(vmac, max_bvlc, max_npdu, rows, outbox, calls) {
         return None;
     }
     let hub = Identity {
@@ -89,13 +111,13 @@ fn hub_of(
     let limits = Limits {
         rows: rows as u32,
         outbox: outbox as u32,
-        calls: CALLS,
+        calls,
         callers: CALLERS,
     };
     Some(Line::Hub(About { hub, limits }))
 }
 
-/// What a line says whose words after `hub` are these.
+/// What a line says whose words after `hub` are these, the last ones together.
 fn hub_line(
     vmac: &[u8],
     device: &[u8],
@@ -103,10 +125,11 @@ fn hub_line(
     max_npdu: &[u8],
     rows: &[u8],
     outbox: &[u8],
+    calls: &[u8],
 ) -> Option<Line>
     ensures { result ≡ hub_line (vmac_of_word vmac.now) (device_of_word device.now)
         (maximum_of_word max_bvlc.now) (maximum_of_word max_npdu.now)
-        (number_of rows.now) (number_of outbox.now) }
+        (number_of rows.now) (number_of outbox.now) (calls_of_words (words_of calls.now)) }
 {
     hub_of(
         read_vmac(vmac)?,
@@ -115,7 +138,21 @@ fn hub_line(
         read_maximum(max_npdu)?,
         read_number(rows)?,
         read_number(outbox)?,
+        read_calls(calls)?,
     )
+}
+
+/// How many calls the last words of a hub line say.
+fn read_calls(words: &[u8]) -> Option<u64>
+    ensures { result ≡ calls_of_words (words_of words.now) }
+{
+    let Some((calls, words)) = next_word(words) else {
+        return Some(MOST_CALLS);
+    };
+    match next_word(words) {
+        None => read_number(calls),
+        Some(_) => None,
+    }
 }
 
 /// What a line says whose first word is `hub`, by the words after it.
@@ -128,10 +165,7 @@ fn read_hub(words: &[u8]) -> Option<Line>
     let (max_npdu, words) = next_word(words)?;
     let (rows, words) = next_word(words)?;
     let (outbox, words) = next_word(words)?;
-    match next_word(words) {
-        None => hub_line(vmac, device, max_bvlc, max_npdu, rows, outbox),
-        Some(_) => None,
-    }
+    hub_line(vmac, device, max_bvlc, max_npdu, rows, outbox, words)
 }
 
 /// What a line says whose first word is `open`, by the words after it.
@@ -177,6 +211,31 @@ fn read_in(alloc: Global, words: &[u8]) -> Result<Line, LineFault>
     })
 }
 
+/// The name that is the only word.
+fn read_name(alloc: Global, words: &[u8]) -> Result<Octets, LineFault>
+    ensures read { IfOk result (λ name. words_of words.now ≡ name ∷ []) }
+    ensures refused { result ≡ Err LineFault.Refused → (line : List ℕ → Line) → name_line_of_words line (words_of words.now) ≡ None }
+{
+    let Some((name, words)) = next_word(words) else {
+        return Err(LineFault::Refused);
+    };
+    match next_word(words) {
+        None => Ok(copy_of(alloc, name)?),
+        Some(_) => Err(LineFault::Refused),
+    }
+}
+
+/// A line that has no more words.
+fn read_bare(line: Line, words: &[u8]) -> Result<Line, LineFault>
+    ensures read { IfOk result (λ l. bare_line_of_words line (words_of words.now) ≡ Some l) }
+    ensures refused { result ≡ Err LineFault.Refused → bare_line_of_words line (words_of words.now) ≡ None }
+{
+    match next_word(words) {
+        None => Ok(line),
+        Some(_) => Err(LineFault::Refused),
+    }
+}
+
 /// Whether a word begins a comment.
 fn begins_comment(word: &[u8]) -> bool
     ensures { result ≡ begins_comment word.now }
@@ -185,6 +244,40 @@ fn begins_comment(word: &[u8]) -> bool
         [b'#', ..] => true,
         _ => false,
     }
+}
+
+/// What a line says of a name that closes, is held or is freed, or of the hub alone, by its first word and those after it.
+fn read_other(alloc: Global, first: &[u8], words: &[u8]) -> Result<Line, LineFault>
+    ensures read { IfOk result (λ l. other_line_of_words first.now (words_of words.now) ≡ Some l) }
+    ensures refused { result ≡ Err LineFault.Refused → other_line_of_words first.now (words_of words.now) ≡ None }
+{
+    if first == b"text".as_slice() {
+        return Ok(Line::Text {
+            name: read_name(alloc, words)?,
+        });
+    }
+    if first == b"drop".as_slice() {
+        return Ok(Line::Drop {
+            name: read_name(alloc, words)?,
+        });
+    }
+    if first == b"hold".as_slice() {
+        return Ok(Line::Hold {
+            name: read_name(alloc, words)?,
+        });
+    }
+    if first == b"free".as_slice() {
+        return Ok(Line::Free {
+            name: read_name(alloc, words)?,
+        });
+    }
+    if first == b"stop".as_slice() {
+        return read_bare(Line::Stop, words);
+    }
+    if first == b"counts".as_slice() {
+        return read_bare(Line::Counts, words);
+    }
+    Err(LineFault::Refused)
 }
 
 /// What a line says, or that it has no form of a line.
@@ -208,5 +301,5 @@ pub(crate) fn parse_line(alloc: Global, line: &[u8]) -> Result<Line, LineFault>
     if first == b"in".as_slice() {
         return read_in(alloc, words);
     }
-    Err(LineFault::Refused)
+    read_other(alloc, first, words)
 }

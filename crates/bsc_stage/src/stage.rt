@@ -1,10 +1,9 @@
 //! A hub of one thread, with the peers that a script names.
 ghost use Rattle.std.specs.Prelude.{◌≤◌};
 
-use crate::member::Member;
+use crate::member::{Member, Waiting};
 use bsc_desk::Desk;
 use bsc_history::About;
-use bsc_octets::Octets;
 
 /// A hub with its open names: those that haven't joined, in the order of opening, and those that
 /// have, in the order of joining.
@@ -12,7 +11,7 @@ use bsc_octets::Octets;
 pub struct Stage {
     pub about: About,
     pub desk: Desk,
-    pub waiting: Vec<Octets>,
+    pub waiting: Vec<Waiting>,
     pub members: Vec<Member>,
     ghost some_room: { 2 ≤ about.limits.outbox },
     ghost little_room: { about.limits.outbox ≤ 1024 },

@@ -1,19 +1,20 @@
 //! The lines that a replay writes, put at the end of a text.
 #![tactic(auto)]
 
-ghost use Rattle.std.specs.Prelude.{◌≡◌, ◌++◌, IfOk, codes, decimal};
+ghost use Rattle.std.specs.Prelude.{◌≡◌, ◌++◌, ℕ, List, flat_map, IfOk, codes, decimal};
 ghost use Rattle.hex.specs.Hex.{encode_upper};
-ghost use Rattle.bsc_stage.specs.Texts.{says, puts, numbered_word, replacing_words, holder_words, ending_word, first_octet, unbuilt_text, worn_text, joined_text, refusal_text, forward_words};
-ghost use Rattle.bsc_desk.specs.Entries.{one_reply};
+ghost use Rattle.bsc_stage.specs.Texts.{says, puts, numbered_word, replacing_words, holder_words, ending_word, first_octet, unbuilt_text, worn_text, joined_text, refusal_text, forward_words, list_words, gone_words, disconnected_text, disconnecting_text};
+ghost use Rattle.bsc_history.specs.declared.reply.Reply.TheVariants.{SentAll as SentAllReply};
+ghost use Rattle.bsc_desk.specs.Entries.{one_reply, all_reply, gone_reply};
 
-use crate::messages::{accept, duplicate};
-use bsc_desk::{NewRow, OneReply};
+use crate::messages::{DISCONNECT, accept, disconnect_ack, duplicate};
+use bsc_desk::{AllReply, Gone, NewRow, OneReply};
 use bsc_history::{End, Refusal};
 use bsc_octets::{Identity, NoMemory};
 use std::alloc::Global;
 
 /// Puts words of text.
-fn put_words(text: &mut Vec<u8>, words: &str) -> Result<(), NoMemory>
+pub(crate) fn put_words(text: &mut Vec<u8>, words: &str) -> Result<(), NoMemory>
     ensures { IfOk result (λ _. text.new.items ≡ text.old.items ++ words.now) }
 {
     text.extend_from_slice(words.as_bytes())?;
@@ -29,7 +30,7 @@ fn put_octets(text: &mut Vec<u8>, octets: &[u8]) -> Result<(), NoMemory>
 }
 
 /// Puts a number in decimal digits.
-fn put_number(text: &mut Vec<u8>, alloc: Global, n: u64) -> Result<(), NoMemory>
+pub(crate) fn put_number(text: &mut Vec<u8>, alloc: Global, n: u64) -> Result<(), NoMemory>
     ensures { IfOk result (λ _. text.new.items ≡ text.old.items ++ decimal n) }
 {
     let digits = format!(in alloc; "{n}")?;
@@ -55,7 +56,7 @@ fn begin_line(text: &mut Vec<u8>, name: &[u8]) -> Result<(), NoMemory>
 }
 
 /// A line of words alone.
-fn put_line(text: &mut Vec<u8>, name: &[u8], words: &str) -> Result<(), NoMemory>
+pub(crate) fn put_line(text: &mut Vec<u8>, name: &[u8], words: &str) -> Result<(), NoMemory>
     ensures { IfOk result (λ _. text.new.items ≡ text.old.items ++ says name.now words.now) }
 {
     begin_line(text, name)?;
@@ -260,4 +261,131 @@ pub fn put_reply(
         OneReply::NotCurrent { ending } => put_not_current(text, name, ending),
         OneReply::Stopped => put_line(text, name, "stopped"),
     }
+}
+
+/// Numbers behind commas.
+fn put_more(text: &mut Vec<u8>, alloc: Global, numbers: &[u64]) -> Result<(), NoMemory>
+    ensures { IfOk result (λ _. text.new.items ≡ text.old.items ++ flat_map (λ k. codes "," ++ decimal k) numbers.now) }
+{
+    for n in numbers.iter() {
+        put_words(text, ",")?;
+        put_number(text, alloc, *n)?;
+    }
+    Ok(())
+}
+
+/// Numbers with commas between.
+fn put_list(text: &mut Vec<u8>, alloc: Global, numbers: &[u64]) -> Result<(), NoMemory>
+    ensures { IfOk result (λ _. text.new.items ≡ text.old.items ++ list_words numbers.now) }
+{
+    match numbers {
+        [] => put_words(text, "-"),
+        [first, more @ ..] => {
+            put_number(text, alloc, *first)?;
+            put_more(text, alloc, more)
+        }
+    }
+}
+
+/// The lists of a broadcast's reply.
+fn put_lists(
+    text: &mut Vec<u8>,
+    alloc: Global,
+    to: &[u64],
+    closed: &[u64],
+    skipped: &[u64],
+) -> Result<(), NoMemory>
+    ensures { IfOk result (λ _. text.new.items
+        ≡ text.old.items ++ forward_words (SentAllReply to.now closed.now skipped.now)) }
+{
+    put_words(text, "sentall to=")?;
+    put_list(text, alloc, to)?;
+    put_words(text, " closed=")?;
+    put_list(text, alloc, closed)?;
+    put_words(text, " skipped=")?;
+    put_list(text, alloc, skipped)
+}
+
+/// The line of a broadcast that was sent.
+fn put_sent(
+    text: &mut Vec<u8>,
+    alloc: Global,
+    name: &[u8],
+    to: &[u64],
+    closed: &[u64],
+    skipped: &[u64],
+) -> Result<(), NoMemory>
+    ensures { IfOk result (λ _. text.new.items
+        ≡ text.old.items ++ says name.now (forward_words (SentAllReply to.now closed.now skipped.now))) }
+{
+    begin_line(text, name)?;
+    put_lists(text, alloc, to, closed, skipped)?;
+    put_words(text, "\n")
+}
+
+/// The reply to a broadcast.
+pub fn put_all(
+    text: &mut Vec<u8>,
+    alloc: Global,
+    name: &[u8],
+    reply: &AllReply,
+) -> Result<(), NoMemory>
+    ensures { IfOk result (λ _. text.new.items
+        ≡ text.old.items ++ says name.now (forward_words (all_reply reply.now))) }
+{
+    match reply {
+        AllReply::Sent {
+            to,
+            closed,
+            skipped,
+            ..
+        } => put_sent(
+            text,
+            alloc,
+            name,
+            to.as_slice(),
+            closed.as_slice(),
+            skipped.as_slice(),
+        ),
+        AllReply::NotCurrent { ending } => put_not_current(text, name, *ending),
+        AllReply::Stopped => put_line(text, name, "stopped"),
+    }
+}
+
+/// The reply to a leave.
+pub fn put_gone(
+    text: &mut Vec<u8>,
+    alloc: Global,
+    name: &[u8],
+    gone: Gone,
+) -> Result<(), NoMemory>
+    ensures { IfOk result (λ _. text.new.items
+        ≡ text.old.items ++ says name.now (gone_words (gone_reply gone))) }
+{
+    begin_line(text, name)?;
+    put_words(text, "gone ")?;
+    put_words(text, word_of(gone.ending))?;
+    put_words(text, " ")?;
+    put_number(text, alloc, gone.taken)?;
+    put_words(text, "\n")
+}
+
+/// A Disconnect-Request of a peer is answered, and its WebSocket is closed.
+pub fn put_disconnected(
+    text: &mut Vec<u8>,
+    alloc: Global,
+    name: &[u8],
+    id: [u8; 2],
+) -> Result<(), NoMemory>
+    ensures { IfOk result (λ _. text.new.items ≡ text.old.items ++ disconnected_text name.now id) }
+{
+    put_message(text, alloc, name, &disconnect_ack(id))?;
+    put_line(text, name, "close 1000")
+}
+
+/// The hub asks a peer to disconnect.
+pub fn put_disconnecting(text: &mut Vec<u8>, alloc: Global, name: &[u8]) -> Result<(), NoMemory>
+    ensures { IfOk result (λ _. text.new.items ≡ text.old.items ++ disconnecting_text name.now) }
+{
+    put_message(text, alloc, name, &DISCONNECT)
 }

@@ -7,6 +7,7 @@ ghost use Rattle.bsc_stage.specs.Turns.{line_turn, turn};
 ghost use Rattle.bsc_stage.specs.Holding.{Holds};
 ghost use Rattle.bsc_stage.specs.Steps.{SomeScene, TurnsTo};
 
+use crate::leaving::Closing;
 use crate::script::{Line, LineFault};
 use crate::stage::Stage;
 use std::alloc::Global;
@@ -23,10 +24,22 @@ impl Stage {
             Line::Hub(_) => Err(LineFault::Refused),
             Line::Open { name } => self.open_name(name),
             Line::In { name, message } => self.message(alloc, name, message.as_slice(), text),
+            Line::Text { name } => self.close(alloc, name.as_slice(), Closing::ByText, text),
+            Line::Drop { name } => self.close(alloc, name.as_slice(), Closing::ByPeer, text),
+            Line::Hold { name } => self.hold(name.as_slice(), true),
+            Line::Free { name } => self.hold(name.as_slice(), false),
+            Line::Stop => {
+                self.stop(alloc, text)?;
+                Ok(())
+            }
+            Line::Counts => {
+                self.count(alloc, text)?;
+                Ok(())
+            }
         }
     }
 
-    /// Carries out a line, and then writes what waits for the members.
+    /// Carries out a line, and then empties the members.
     pub fn turn(&mut self, alloc: Global, line: Line, text: &mut Vec<u8>) -> Result<(), LineFault>
         requires { SomeScene self.old }
         ensures { (s : Scene) → Holds self.old s →
@@ -34,7 +47,7 @@ impl Stage {
     {
         match self.act(alloc, line, text) {
             Ok(()) => {
-                self.write_frames(alloc, text)?;
+                self.empty_all(alloc, text)?;
                 Ok(())
             }
             Err(fault) => Err(fault),

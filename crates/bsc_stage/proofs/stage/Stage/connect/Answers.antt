@@ -1,4 +1,4 @@
-use Rattle.std.proofs.Common.{refl, ap, ◌∙◌, ◌++◌, List, ℕ, sym}
+use Rattle.std.proofs.Common.{refl, ap, sym, ◌∙◌, ◌++◌, List, ℕ}
 use Rattle.bsc_stage.proofs.Joins.{joined_turn, refused_if_ok}
 use Rattle.bsc_stage.proofs.stage.Stage.connect.Goals as goal
 
@@ -7,8 +7,8 @@ returns-in-Ok c s holds =
     let t = c.args.self.now in
     let e = c.in-Ok.ensures in
     let o = c.of-outlet.ensures in
-    let k = joined_turn t _ s c.args.name c.args.who.now c.args.id _ c.in-Ok.row.conn c.in-Ok.row.replaced holds (e.due s.history holds.stands) (e.stands s.history holds.stands) e.about e.taken refl (rw c.as_slice.ensures at c.close_name.ensures) c.in_ok-push-in-Ok.ensures.items refl refl (ap (λ x. x.conn) o) (ap (λ x. x.taken) o) in
-    (k.0, (rw c.as_slice-in-Ok.ensures at c.in_ok-put_accept-in-Ok.ensures) ∙ ap (λ (l : List ℕ). c.args.text.now.items ++ l) (sym k.1))
+    let k = joined_turn t _ s c.args.name c.args.who.now c.args.id _ c.in-Ok.row.conn c.in-Ok.row.replaced holds (e.due s.history holds.stands) (e.stands s.history holds.stands) e.about e.taken refl (rw c.as_slice-in-Ok.ensures at c.close_name.ensures) c.in_ok-push-in-Ok.ensures.items refl refl (ap (λ x. x.conn) o) (ap (λ x. x.taken) o) (ap (λ x. x.empties) o) (rw c.as_slice.ensures at (c.is_held-held.ensures s holds)) refl in
+    (k.0, (rw c.as_slice-in-Ok-2.ensures at c.in_ok-put_accept-in-Ok.ensures) ∙ ap (λ (l : List ℕ). c.args.text.now.items ++ l) (sym k.1))
 
 pub returns : goal.returns
 returns c s holds =
