@@ -5,5 +5,6 @@ pub mod Reached
 pub mod Stopping
 pub mod Feeding
 pub mod Looping
+mod WorkedHubs
 mod WorkedReads
 mod WorkedScripts

@@ -8,10 +8,13 @@
 
 #[cfg(test)]
 mod fault_tests;
+#[cfg(test)]
+mod hub_cases;
 mod replaying;
 #[cfg(test)]
 mod replaying_tests;
 #[cfg(test)]
 mod script_cases;
 
+pub use bsc_stage::counts_line;
 pub use replaying::{ReplayEnd, replay};
