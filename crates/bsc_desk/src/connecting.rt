@@ -1,7 +1,7 @@
 //! Connects.
 #![tactic(auto)]
 
-ghost use Rattle.std.specs.Prelude.{◌≡◌, ◌<◌, ℕ, ◌+◌, ◌++◌, ◌&&◌, false, ◌∷◌, [], List, find, vec_len, None, IfErr, IsTrue, IsFalse, is_some};
+ghost use Rattle.std.specs.Prelude.{◌≡◌, ◌<◌, ℕ, ◌+◌, ◌++◌, ◌&&◌, false, ◌∷◌, [], List, find, vec_len, None, IfErr, IsTrue, IsFalse};
 ghost use Rattle.std.specs.List.{list_all};
 ghost use Rattle.std.specs.Option.{option_map};
 ghost use Rattle.bsc_octets.specs.Addresses.{same_vmac, same_device, zero_vmac, broadcast};
@@ -9,7 +9,6 @@ ghost use Rattle.bsc_history.specs.declared.entry.Entry.{Entry};
 ghost use Rattle.bsc_history.specs.declared.reply.Reply.TheVariants.{Joined as JoinedReply, Refused as RefusedReply};
 ghost use Rattle.bsc_history.specs.Entries.{moment};
 ghost use Rattle.bsc_history.specs.Counting.{one_if};
-ghost use Rattle.bsc_history.specs.Holders.{of_device};
 ghost use Rattle.bsc_history.specs.Legality.{Lawful};
 ghost use Rattle.bsc_history.specs.Replies.{connect_reply, rival, number_of};
 ghost use Rattle.bsc_desk.specs.Rows.{IsNewInlet, taken_of};
@@ -164,13 +163,6 @@ impl Desk {
                 Ok(row)
             }
         }
-    }
-
-    /// Whether a live connection has the device.
-    pub fn has_device(&self, device: DeviceId) -> bool
-        ensures { (h : List Entry) → StandsFor self.now h → result ≡ is_some (of_device h device) }
-    {
-        self.of_device(&device).is_some()
     }
 
     /// The live connection that holds an address.

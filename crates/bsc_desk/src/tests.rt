@@ -172,8 +172,6 @@ fn a_hub_answers_connects(rt: HostRuntime) -> Result<(), Fail> {
     let worn = Worn { calls: 8 };
     assert_eq!(rt; join(alloc, &mut desk, 4, 4)?, Err(NoRow::Worn(worn)));
     assert_eq!(rt; send(&rt, alloc, &mut desk, 2, 2, &TO_1)?, Err(worn));
-    assert!(rt; desk.has_device(who(9, 2, 20).device));
-    assert!(rt; !desk.has_device(who(9, 3, 20).device));
     let mut outlet = Outlet::of(1);
     assert_eq!(rt; take(&rt, &mut desk, &mut outlet), (Some(51), None));
     assert_eq!(rt;

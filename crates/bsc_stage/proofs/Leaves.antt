@@ -60,9 +60,9 @@ left_holds t n s i m gone holds h e stands desk_about due taken others about wai
     let entry : entry_in s (leave_of k) ≡ x = (λ j. record { caller = 0; call = call j; looks = []; reply = replied j }) in
     let spot = place t.members.items i m h e in
     let rows : map connection_in n.members.items ≡ unleft (s.history ++ x ∷ []) =
-        ap (map connection_in) items ∙ map_remove connection_in t.members.items i ∙ removed (λ (y : Connection). y.number) (map connection_in t.members.items) i m.connection (apart_rows t s holds) (mapped connection_in t.members.items i m spot) ∙ ap (filter (λ (y : Connection). not (y.number == c))) holds.rows ∙ sym (unleft-more s.history x ∙ append-nil (filter (λ (y : Connection). not (leaves y.number x)) (unleft s.history)) ∙ either_side (unleft s.history) c) in
+    ap (map connection_in) items ∙ map_remove connection_in t.members.items i ∙ removed (λ (y : Connection). y.number) (map connection_in t.members.items) i m.connection (apart_rows t s holds) (mapped connection_in t.members.items i m spot) ∙ ap (filter (λ (y : Connection). not (y.number == c))) holds.rows ∙ sym (unleft-more s.history x ∙ append-nil (filter (λ (y : Connection). not (leaves y.number x)) (unleft s.history)) ∙ either_side (unleft s.history) c) in
     let names : map shown n.members.items ≡ filter (λ (y : Member). not (y.conn == m.outlet.conn)) s.members =
-        ap (map shown) items ∙ map_remove shown t.members.items i ∙ ap (λ (l : List Member). remove l i) holds.names ∙ removed (λ (y : Member). y.conn) s.members i k (apart_members t s holds) (there t s i m holds h e) in
+    ap (map shown) items ∙ map_remove shown t.members.items i ∙ ap (λ (l : List Member). remove l i) holds.names ∙ removed (λ (y : Member). y.conn) s.members i k (apart_members t s holds) (there t s i m holds h e) in
     let rest = subst (AllByRecursion (λ (y : Connection). c ≢ y.number)) (sym (map_remove connection_in t.members.items i)) (rest_apart (map connection_in t.members.items) i m.connection (apart_rows t s holds) (mapped connection_in t.members.items i m spot)) in
     let each = others_kept t.desk n.desk c (remove t.members.items i) (λ y differ. (others y differ).0) rest (all_removed (IsMemberOf t.desk) t.members.items i holds.each) in
     let after : Holds n (record s { history = s.history ++ x ∷ []; members = filter (λ (y : Member). not (y.conn == m.outlet.conn)) s.members }) = record {

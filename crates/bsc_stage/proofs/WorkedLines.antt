@@ -187,7 +187,7 @@ text_message = refl
 
 -- A stop tells the counts and ends all; a second one, and a connect, are refused.
 stop : written_for_lines (codes "hub 0200000000FF 00112233445566778899AABBCCDDEEFF 0640 05D9 256 64") (a_joins ++ b_joins ++ codes "in A 01040002 02000000000B 0120FFFF00FF1008" ∷
-        [])
+    [])
     (codes "stop" ∷
     codes "stop" ∷
     codes "open D" ∷
@@ -301,7 +301,7 @@ held_and_stopped = refl
 
 -- Forms that aren't built, before and after joining.
 unbuilt : written_for_lines (codes "hub 0200000000FF 00112233445566778899AABBCCDDEEFF 0640 05D9 256 64") (codes "open A" ∷
-        [])
+    [])
     (codes "in A" ∷
     codes "in A 06000001 000000000000 AAAAAAAAAAAAAAAAAAAAAAAAAAAAAAAA 0640 05D9" ∷
     codes "in A 08000001" ∷
@@ -351,9 +351,9 @@ free_of_none = refl
 
 -- Refused: hold A
 hold_after_close : written_for_lines (codes "hub 0200000000FF 00112233445566778899AABBCCDDEEFF 0640 05D9 256 64") (codes "open A" ∷
-        codes "in A 06000001 02000000000A AAAAAAAAAAAAAAAAAAAAAAAAAAAAAAAA 0640 05D9" ∷
-        codes "drop A" ∷
-        []) (codes "hold A" ∷ []) ≡ None
+    codes "in A 06000001 02000000000A AAAAAAAAAAAAAAAAAAAAAAAAAAAAAAAA 0640 05D9" ∷
+    codes "drop A" ∷
+    []) (codes "hold A" ∷ []) ≡ None
 unfolding stage_on_literals uuid_on_literals
 hold_after_close = refl
 

@@ -108,7 +108,11 @@ impl Stage {
             None => Ok(at + 1),
             Some(ending) => {
                 if is_full(ending) {
-                    put_line(text, self.members[at].name.as_slice(), "close 1008 outbox full")?;
+                    put_line(
+                        text,
+                        self.members[at].name.as_slice(),
+                        "close 1008 outbox full",
+                    )?;
                     self.leave(alloc, at, text)?;
                     Ok(at)
                 } else {

@@ -32,7 +32,10 @@ impl Stage {
         let member = &self.members[at];
         let frame = prepare(alloc, message, member.connection.who.vmac)?;
         if frame.is_broadcast() {
-            match self.desk.forward_all(alloc, 0, member.connection.number, &frame) {
+            match self
+                .desk
+                .forward_all(alloc, 0, member.connection.number, &frame)
+            {
                 Ok(reply) => put_all(text, alloc, member.name.as_slice(), &reply),
                 Err(AllRefusal::Worn(_)) => self.wear(alloc, at, text),
                 Err(AllRefusal::NoMemory) => Err(NoMemory),

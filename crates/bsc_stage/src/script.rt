@@ -63,14 +63,7 @@ const MOST_CALLS: u64 = 1 << 52;
 const CALLERS: u64 = 1 << 62;
 
 /// Whether a hub may be made so.
-fn may_be_hub(
-    vmac: Vmac,
-    max_bvlc: u16,
-    max_npdu: u16,
-    rows: u64,
-    outbox: u64,
-    calls: u64,
-) -> bool
+fn may_be_hub(vmac: Vmac, max_bvlc: u16, max_npdu: u16, rows: u64, outbox: u64, calls: u64) -> bool
     ensures { result ≡ may_be_hub vmac max_bvlc max_npdu rows outbox calls }
 {
     vmac != Vmac::ZERO

@@ -353,12 +353,7 @@ pub fn put_all(
 }
 
 /// The reply to a leave.
-pub fn put_gone(
-    text: &mut Vec<u8>,
-    alloc: Global,
-    name: &[u8],
-    gone: Gone,
-) -> Result<(), NoMemory>
+pub fn put_gone(text: &mut Vec<u8>, alloc: Global, name: &[u8], gone: Gone) -> Result<(), NoMemory>
     ensures { IfOk result (λ _. text.new.items
         ≡ text.old.items ++ says name.now (gone_words (gone_reply gone))) }
 {
