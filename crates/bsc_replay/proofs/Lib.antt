@@ -1,5 +1,6 @@
 pub mod OnLiterals
 pub mod Cutting
+pub mod Standing
 pub mod Playing
 pub mod Reached
 pub mod Stopping
