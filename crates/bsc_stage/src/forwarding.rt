@@ -8,8 +8,8 @@ ghost use Rattle.bsc_stage.specs.Turns.{forward_turn};
 ghost use Rattle.bsc_stage.specs.Holding.{Holds};
 ghost use Rattle.bsc_stage.specs.Steps.{SomeScene, IsAt, CarriesOut};
 
+use crate::replies::{put_all, put_reply};
 use crate::stage::Stage;
-use crate::texts::{put_all, put_reply};
 use bsc_desk::{AllRefusal, prepare};
 use bsc_octets::NoMemory;
 use std::alloc::Global;
@@ -32,7 +32,10 @@ impl Stage {
         let member = &self.members[at];
         let frame = prepare(alloc, message, member.connection.who.vmac)?;
         if frame.is_broadcast() {
-            match self.desk.forward_all(alloc, 0, member.connection.number, &frame) {
+            match self
+                .desk
+                .forward_all(alloc, 0, member.connection.number, &frame)
+            {
                 Ok(reply) => put_all(text, alloc, member.name.as_slice(), &reply),
                 Err(AllRefusal::Worn(_)) => self.wear(alloc, at, text),
                 Err(AllRefusal::NoMemory) => Err(NoMemory),

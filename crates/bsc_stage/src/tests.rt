@@ -82,10 +82,26 @@ fn reads_lines(rt: HostRuntime) {
 /// Which line of one name, or of none, a text says.
 fn says(alloc: Global, text: &[u8]) -> &'static str {
     match read_line(alloc, text) {
-        Ok(Line::Text { name }) => if name.as_slice() == b"A".as_slice() { "text A" } else { "text" },
-        Ok(Line::Drop { name }) => if name.as_slice() == b"A".as_slice() { "drop A" } else { "drop" },
-        Ok(Line::Hold { name }) => if name.as_slice() == b"A".as_slice() { "hold A" } else { "hold" },
-        Ok(Line::Free { name }) => if name.as_slice() == b"A".as_slice() { "free A" } else { "free" },
+        Ok(Line::Text { name }) => if name.as_slice() == b"A".as_slice() {
+            "text A"
+        } else {
+            "text"
+        },
+        Ok(Line::Drop { name }) => if name.as_slice() == b"A".as_slice() {
+            "drop A"
+        } else {
+            "drop"
+        },
+        Ok(Line::Hold { name }) => if name.as_slice() == b"A".as_slice() {
+            "hold A"
+        } else {
+            "hold"
+        },
+        Ok(Line::Free { name }) => if name.as_slice() == b"A".as_slice() {
+            "free A"
+        } else {
+            "free"
+        },
         Ok(Line::Stop) => "stop",
         Ok(Line::Counts) => "counts",
         _ => "another",
@@ -133,7 +149,8 @@ fn tells_counts(rt: HostRuntime) {
         full: 18446744073709551615,
     };
     let told = match counts_line(rt.alloc(), &counts) {
-        Ok(line) => line.as_slice() == b"hub counts joined=8 replaced=1 refused=2 unicasts=30 broadcasts=4 appended=50 dropped=6 full=18446744073709551615\n".as_slice(),
+        Ok(line) => line.as_slice()
+            == b"hub counts joined=8 replaced=1 refused=2 unicasts=30 broadcasts=4 appended=50 dropped=6 full=18446744073709551615\n".as_slice(),
         Err(_) => false,
     };
     assert!(rt; told);
