@@ -1,5 +1,5 @@
 -- Messages that come in, and names that close, as a scene has them.
-use Rattle.std.proofs.Common.{◌≡◌, ℕ, ◌<◌, Bool, true, false, cond, List, ◌++◌, length, map, find, refl, ap, sym, ◌∙◌, subst, codes, Option, Some, None, Result, Ok, Err}
+use Rattle.std.proofs.Common.{◌≡◌, ℕ, ◌<◌, Bool, true, false, cond, List, ◌++◌, length, find, refl, ap, sym, ◌∙◌, subst, codes, Some, None, Result, Ok, Err}
 use Rattle.std.specs.Prelude.{OnOk, ⊤}
 use Rattle.std.specs.List.{position}
 use Rattle.std.specs.Option.{option_map}

@@ -1,18 +1,16 @@
 -- Members that are emptied, as a scene has them.
-use Rattle.std.proofs.Common.{◌≡◌, ◌≢◌, ℕ, zero, suc, ◌+◌, ◌<◌, ◌≤◌, ◌==◌, Bool, true, false, not, ◌&&◌, ◌||◌, cond, List, [], ◌∷◌, ◌++◌, length, map, take, drop, set, fold, flat_map, get_or, is_some, refl, ap, sym, ◌∙◌, subst, append_assoc, length-drop, arith, Option, Some, None, Result, Ok, Err}
+use Rattle.std.proofs.Common.{◌≡◌, ◌≢◌, ℕ, zero, suc, ◌+◌, ◌<◌, ◌≤◌, ◌==◌, Bool, true, false, not, ◌&&◌, ◌||◌, List, [], ◌∷◌, ◌++◌, length, map, drop, set, fold, flat_map, get_or, is_some, refl, ap, sym, ◌∙◌, subst, length-drop, arith, Option, Result, Ok, Err}
 use Rattle.std.specs.Prelude.{IfOk, OnOk, ⊤}
 use Rattle.bsc_octets.specs.declared.no_memory.NoMemory.{NoMemory}
 use Rattle.std.specs.List.{AllByRecursion}
 use Rattle.bsc_history.specs.declared.limits.About.{About}
 use Rattle.bsc_history.specs.declared.ending.End.{End}
-use Rattle.bsc_history.specs.declared.ending.End.TheVariants.{Left, Replaced, Full, Stopped}
 use Rattle.bsc_history.specs.declared.entry.Entry.{Entry}
 use Rattle.bsc_history.specs.declared.connection.Connection.{Connection}
-use Rattle.bsc_history.specs.Ends.{ended, unleft}
+use Rattle.bsc_history.specs.Ends.{ended}
 use Rattle.bsc_history.specs.Laws.{Apart}
 use Rattle.bsc_history.specs.Outboxes.{sent}
 use Rattle.bsc_desk.specs.declared.desk.Desk.{Desk}
-use Rattle.bsc_desk.specs.declared.row.Row.{Row}
 use Rattle.bsc_desk.specs.Due.{is_due as desk_due}
 use Rattle.bsc_desk.specs.Rows.{HasRow, taken_of, waiting_of, ending_of}
 use Rattle.bsc_desk.specs.Standing.{StandsFor}
@@ -25,8 +23,8 @@ use Rattle.bsc_stage.specs.Scenes.{Member, Scene, with_changed, unwritten_of, al
 use Rattle.bsc_stage.specs.Leaving.{Turn}
 use Rattle.bsc_stage.specs.Emptying.{is_connected, is_due, is_emptied, frames_text, empties_after, then_emptied_one, then_emptied}
 use Rattle.bsc_stage.specs.Holding.{shown, connection_in, IsMemberOf, Holds}
-use Rattle.bsc_stage.specs.Steps.{SomeHistory, SomeScene, IsAt, CarriesOut, Written, GoesOn}
-use Rattle.bsc_stage.proofs.Places.{place, mapped, all_there, changed, map_set, drop_set, within}
+use Rattle.bsc_stage.specs.Steps.{SomeScene, IsAt, CarriesOut, Written, GoesOn}
+use Rattle.bsc_stage.proofs.Places.{place, mapped, all_there, changed, map_set}
 use Rattle.bsc_stage.proofs.Members.{number_in, there, same_member, is_member, apart_rows, apart_members, others_kept, row_shows, has_row, history_of_member}
 
 set_same : {A : Type 0} (L : List A) (i : ℕ) (x : A) → IsAt i x L → set L i x ≡ L

@@ -1,5 +1,5 @@
 -- A scene with one entry more.
-use Rattle.std.proofs.Common.{◌≡◌, ℕ, ◌==◌, Bool, true, false, ◌||◌, cond, inl, inr, ◌⊎◌, List, [], ◌∷◌, ◌++◌, length, map, filter, find, refl, ap, sym, ◌∙◌, subst, append-nil, Some}
+use Rattle.std.proofs.Common.{◌≡◌, ℕ, ◌==◌, Bool, true, false, ◌||◌, cond, inl, inr, ◌⊎◌, List, [], ◌∷◌, ◌++◌, map, filter, find, refl, ap, sym, ◌∙◌, subst, append-nil, Some}
 use Rattle.std.specs.List.{list_any, AllByRecursion}
 use Rattle.std.proofs.lemmas.Bool.{eqb-true}
 use Rattle.bsc_history.specs.declared.limits.About.{About}

@@ -3,10 +3,9 @@ use Rattle.std.proofs.Common.{◌≡◌, ℕ, suc, ◌+◌, ◌-◌, ◌<◌, �
 use Rattle.std.specs.List.{remove}
 use Rattle.std.proofs.lemmas.Bool.{eq-eqb}
 use Rattle.bsc_history.specs.declared.ending.End.{End}
-use Rattle.bsc_history.specs.Laws.{Apart}
 use Rattle.bsc_stage.specs.declared.stage.Stage.{Stage}
 use Rattle.bsc_stage.specs.Texts.{says, disconnecting_text, gone_words}
-use Rattle.bsc_stage.specs.Scenes.{Member, Scene, with_changed, all_written, disconnecting, entered, reply_in}
+use Rattle.bsc_stage.specs.Scenes.{Member, Scene, with_changed, all_written, disconnecting, reply_in}
 use Rattle.bsc_stage.specs.Leaving.{Turn, leave_of, leaves_after}
 use Rattle.bsc_stage.specs.Emptying.{is_full, frames_text, empties_after, end_turn, then_turn, emptied_turn, then_emptied_one, then_emptied}
 use Rattle.bsc_stage.specs.Holding.{shown, Holds}

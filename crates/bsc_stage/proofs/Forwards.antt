@@ -1,11 +1,10 @@
 -- Forwards, stops and counts, as a scene has them.
-use Rattle.std.proofs.Common.{◌≡◌, ℕ, ◌<◌, ◌≤◌, Bool, true, false, nat_le, List, [], ◌∷◌, ◌++◌, length, filter, map, get_or, refl, ap, sym, ◌∙◌, subst, append-nil, codes, Result, Ok, Err}
+use Rattle.std.proofs.Common.{◌≡◌, ℕ, ◌<◌, ◌≤◌, Bool, true, false, List, [], ◌∷◌, ◌++◌, length, filter, map, get_or, refl, ap, sym, ◌∙◌, subst, append-nil, codes, Result, Ok, Err}
 use Rattle.std.specs.Prelude.{OnOk, ⊤, IsTrue}
 use Rattle.std.specs.List.{AllByRecursion}
 use Rattle.std.proofs.lemmas.Bool.{leb-true, le-leb}
 use Rattle.bsc_octets.specs.declared.no_memory.NoMemory.{NoMemory}
 use Rattle.bsc_history.specs.declared.limits.About.{About}
-use Rattle.bsc_history.specs.declared.entry.Entry.{Entry}
 use Rattle.bsc_history.specs.declared.counts.Counts.{Counts}
 use Rattle.bsc_history.specs.declared.call.Call.TheVariants.{Forward, Stop, Count}
 use Rattle.bsc_history.specs.declared.looks.Look.{Look}
@@ -21,7 +20,7 @@ use Rattle.bsc_desk.specs.Entries.{forward_entry, stop_entry, count_entry}
 use Rattle.bsc_stage.specs.declared.member.Member.{Member as Joined}
 use Rattle.bsc_stage.specs.declared.stage.Stage.{Stage}
 use Rattle.bsc_stage.specs.Texts.{says, forward_words, worn_text, counts_text}
-use Rattle.bsc_stage.specs.Scenes.{Member, Scene, entered, entry_in, reply_in}
+use Rattle.bsc_stage.specs.Scenes.{Member, Scene, entered, reply_in}
 use Rattle.bsc_stage.specs.Leaving.{Turn, leaves_after}
 use Rattle.bsc_stage.specs.Turns.{is_worn, forward_turn, stop_turn, counts_turn}
 use Rattle.bsc_stage.specs.Holding.{shown, connection_in, Holds}

@@ -1,13 +1,11 @@
 -- A name that is held or freed, as a scene has it.
 use Rattle.std.proofs.Common.{◌≡◌, ℕ, Bool, true, false, cond, List, [], ◌∷◌, map, refl, ap, sym, ◌∙◌, subst, append-nil, Ok}
 use Rattle.std.specs.List.{AllByRecursion}
-use Rattle.bsc_history.specs.declared.connection.Connection.{Connection}
 use Rattle.bsc_text.specs.Lines.{same_octets}
 use Rattle.bsc_desk.specs.declared.desk.Desk.{Desk}
 use Rattle.bsc_stage.specs.declared.member.Member.{Member as Joined}
-use Rattle.bsc_stage.specs.declared.member.Waiting.{Waiting}
 use Rattle.bsc_stage.specs.declared.stage.Stage.{Stage}
-use Rattle.bsc_stage.specs.Scenes.{Member, Scene, is_open, waiting_held, member_held}
+use Rattle.bsc_stage.specs.Scenes.{Scene, is_open, waiting_held, member_held}
 use Rattle.bsc_stage.specs.Turns.{hold_turn}
 use Rattle.bsc_stage.specs.Holding.{shown, connection_in, joined_held, IsMemberOf, Holds}
 use Rattle.bsc_stage.specs.Steps.{TurnsTo}

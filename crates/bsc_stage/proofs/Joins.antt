@@ -1,5 +1,5 @@
 -- A connect, as its scene has it.
-use Rattle.std.proofs.Common.{◌≡◌, ℕ, ◌==◌, Bool, true, false, not, ◌||◌, cond, nat_le, List, [], ◌∷◌, ◌++◌, length, map, filter, find, refl, ap, sym, ◌∙◌, subst, append-nil, true≢false, arith, Option, Some, None, Result, Ok, Err}
+use Rattle.std.proofs.Common.{◌≡◌, ℕ, ◌==◌, Bool, true, false, not, cond, nat_le, List, [], ◌∷◌, ◌++◌, length, map, filter, refl, ap, sym, ◌∙◌, subst, append-nil, true≢false, arith, Option, Some, None, Result, Ok, Err}
 use Rattle.std.specs.Prelude.{OnOk, ⊤}
 use Rattle.std.specs.List.{list_any, AllByRecursion}
 use Rattle.std.proofs.lemmas.List.{map-append}
@@ -20,8 +20,7 @@ use Rattle.bsc_history.proofs.More.{unleft-more, filter_true, Legal-front}
 use Rattle.bsc_history.proofs.Uniqueness.{settled, comes}
 use Rattle.bsc_history.proofs.Named.{unleft_joined}
 use Rattle.bsc_desk.specs.declared.desk.Desk.{Desk}
-use Rattle.bsc_desk.specs.declared.row.Row.{Row}
-use Rattle.bsc_desk.specs.Rows.{taken_of, taken_in}
+use Rattle.bsc_desk.specs.Rows.{taken_of}
 use Rattle.bsc_desk.specs.Standing.{StandsFor, connection}
 use Rattle.bsc_desk.specs.Entries.{connect_entry, connect_due}
 use Rattle.bsc_stage.specs.declared.member.Member.{Member as Joined}

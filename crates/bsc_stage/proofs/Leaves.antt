@@ -1,5 +1,5 @@
 -- A member that leaves, as its scene has it.
-use Rattle.std.proofs.Common.{◌≡◌, ◌≢◌, ℕ, zero, suc, ◌<◌, ◌==◌, Bool, true, not, cond, List, [], ◌∷◌, ◌++◌, length, map, filter, get_or, refl, ap, sym, ◌∙◌, subst, append-nil, append_assoc, Result, Ok, Err}
+use Rattle.std.proofs.Common.{◌≡◌, ◌≢◌, ℕ, zero, suc, ◌<◌, ◌==◌, not, cond, List, [], ◌∷◌, ◌++◌, length, map, filter, get_or, refl, ap, sym, ◌∙◌, subst, append-nil, append_assoc, Result, Ok, Err}
 use Rattle.std.specs.Prelude.{OnOk, ⊤}
 use Rattle.std.specs.List.{AllByRecursion, remove}
 use Rattle.bsc_octets.specs.declared.no_memory.NoMemory.{NoMemory}
@@ -14,7 +14,6 @@ use Rattle.bsc_history.specs.Laws.{Apart}
 use Rattle.bsc_history.specs.Replies.{reply}
 use Rattle.bsc_history.proofs.More.{unleft-more}
 use Rattle.bsc_desk.proofs.Connects.{eqb_comm}
-use Rattle.bsc_desk.specs.declared.desk.Desk.{Desk}
 use Rattle.bsc_desk.specs.declared.leaving.Gone.{Gone}
 use Rattle.bsc_desk.specs.Rows.{taken_of}
 use Rattle.bsc_desk.specs.Taking.{KeepsOthers}
@@ -23,12 +22,12 @@ use Rattle.bsc_desk.specs.Standing.{StandsFor}
 use Rattle.bsc_stage.specs.declared.member.Member.{Member as Joined}
 use Rattle.bsc_stage.specs.declared.stage.Stage.{Stage}
 use Rattle.bsc_stage.specs.Texts.{says, gone_words}
-use Rattle.bsc_stage.specs.Scenes.{Member, Scene, without_member, entered, entry_in, reply_in, looks_in}
+use Rattle.bsc_stage.specs.Scenes.{Member, Scene, without_member, entered, entry_in, reply_in}
 use Rattle.bsc_stage.specs.Leaving.{leave_of, leaves_after}
 use Rattle.bsc_stage.specs.Holding.{shown, connection_in, IsMemberOf, Holds}
 use Rattle.bsc_stage.specs.Steps.{IsAt, CarriesOut}
 use Rattle.bsc_stage.proofs.Places.{place, mapped, removed, map_remove, all_removed, all_there}
-use Rattle.bsc_stage.proofs.Members.{number_in, there, same_member, is_member, apart_rows, apart_members, others_kept}
+use Rattle.bsc_stage.proofs.Members.{there, same_member, is_member, apart_rows, apart_members, others_kept}
 
 -- no other member has the number of the one taken out
 rest_apart : (L : List Connection) (i : ℕ) (x : Connection) → Apart (λ (c : Connection). c.number) L → IsAt i x L → AllByRecursion (λ (c : Connection). x.number ≢ c.number) (remove L i)

@@ -15,3 +15,4 @@ pub mod Holds
 pub mod Turned
 pub mod Fitting
 pub mod WorkedLines
+pub mod WorkedRefusals

@@ -5,7 +5,6 @@ use Rattle.std.proofs.lemmas.Bool.{eqb-true, eq-eqb}
 use Rattle.std.proofs.Math.Bool.{or-true}
 use Rattle.bsc_octets.specs.Addresses.{same_vmac}
 use Rattle.bsc_history.specs.declared.limits.About.{About}
-use Rattle.bsc_history.specs.declared.ending.End.{End}
 use Rattle.bsc_history.specs.declared.entry.Entry.{Entry}
 use Rattle.bsc_history.specs.declared.connection.Connection.{Connection}
 use Rattle.bsc_history.specs.Laws.{Apart}
@@ -15,7 +14,7 @@ use Rattle.bsc_history.proofs.Numbers.{numbers_are_new}
 use Rattle.bsc_history.proofs.Uniqueness.{vmac_refl}
 use Rattle.bsc_desk.specs.declared.desk.Desk.{Desk}
 use Rattle.bsc_desk.specs.declared.row.Row.{Row}
-use Rattle.bsc_desk.specs.Rows.{HasRow, IsRowOf, IsRowBy, taken_of, waiting_of, ending_of, taken_in, waiting_in, ending_in}
+use Rattle.bsc_desk.specs.Rows.{HasRow, IsRowOf, IsRowBy, taken_of, taken_in, waiting_in, ending_in}
 use Rattle.bsc_desk.specs.Standing.{StandsFor, IsInletOf, connection}
 use Rattle.bsc_stage.specs.declared.member.Member.{Member as Joined}
 use Rattle.bsc_stage.specs.declared.stage.Stage.{Stage}

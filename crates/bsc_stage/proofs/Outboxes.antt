@@ -1,18 +1,18 @@
 -- Outboxes that are written, a frame at a time.
-use Rattle.std.proofs.Common.{◌≡◌, ◌≢◌, ℕ, ◌+◌, ◌==◌, Bool, true, false, List, [], ◌∷◌, ◌++◌, length, drop, flat_map, Option, Some, None, refl, ap, sym, ◌∙◌}
+use Rattle.std.proofs.Common.{◌≡◌, ◌≢◌, ℕ, ◌+◌, Bool, true, false, List, [], ◌∷◌, ◌++◌, length, drop, flat_map, Option, Some, None, refl, ap, sym, ◌∙◌}
 use Rattle.bsc_history.specs.declared.ending.End.{End}
 use Rattle.bsc_history.specs.declared.entry.Entry.{Entry}
 use Rattle.bsc_history.specs.Ends.{ended}
 use Rattle.bsc_desk.specs.declared.desk.Desk.{Desk}
 use Rattle.bsc_desk.specs.declared.outbox.Outlet.{Outlet}
 use Rattle.bsc_desk.specs.declared.outbox.Take.{Take}
-use Rattle.bsc_desk.specs.declared.outbox.Take.TheVariants.{Frame, Empty, Closed}
+use Rattle.bsc_desk.specs.declared.outbox.Take.TheVariants.{Frame, Closed}
 use Rattle.bsc_desk.specs.Rows.{HasRow, taken_of, waiting_of, ending_of}
 use Rattle.bsc_desk.specs.Standing.{StandsFor}
 use Rattle.bsc_desk.specs.Taking.{next_taken}
 use Rattle.bsc_stage.specs.Texts.{puts}
 use Rattle.bsc_stage.specs.Steps.{SomeHistory}
-use Rattle.bsc_stage.proofs.Members.{has_row, row_shows}
+use Rattle.bsc_stage.proofs.Members.{row_shows}
 
 pub first_frame : (w : List (List ℕ)) (e : Option End) (f : List ℕ) → Frame f ≡ next_taken w e → w ≡ f ∷ drop 1 w
 first_frame [] None f h = cc

@@ -1,8 +1,7 @@
 -- The turn of a line, carried out in two steps.
-use Rattle.std.proofs.Common.{◌≡◌, ℕ, List, refl, ap, sym, subst, Option, Some, None, Result, Ok, Err}
-use Rattle.std.specs.Prelude.{⊤, OnOk}
+use Rattle.std.proofs.Common.{◌≡◌, ℕ, List, refl, ap, Option, Some, None, Ok, Err}
+use Rattle.std.specs.Prelude.{⊤}
 use Rattle.std.specs.Option.{option_map}
-use Rattle.bsc_octets.specs.declared.no_memory.NoMemory.{NoMemory as Lacks}
 use Rattle.bsc_stage.specs.declared.script.Line.{Line}
 use Rattle.bsc_stage.specs.declared.script.LineFault.{LineFault}
 use Rattle.bsc_stage.specs.declared.script.LineFault.TheVariants.{Refused, NoMemory}

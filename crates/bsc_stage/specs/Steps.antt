@@ -1,5 +1,5 @@
 -- What the calls of a stage say of it and its scene.
-use Rattle.std.specs.Prelude.{◌≡◌, ◌≤◌, ◌^◌, ◌==◌, ◌&&◌, ℕ, List, ◌∷◌, ◌++◌, suc, drop, Option, Some, None, Result, Ok, Err, ⊤, IsTrue}
+use Rattle.std.specs.Prelude.{◌≡◌, ◌≤◌, ◌^◌, ◌==◌, ℕ, List, ◌∷◌, ◌++◌, suc, drop, Option, Some, None, Result, Ok, Err, ⊤, IsTrue}
 use Rattle.std.specs.List.{list_any}
 use Rattle.bsc_history.specs.declared.limits.About.{About}
 use Rattle.bsc_history.specs.declared.entry.Entry.{Entry}

@@ -3,19 +3,16 @@ use Rattle.std.specs.Prelude.{ℕ, nat_le, nat_lt, Bool, true, false, not, ◌&&
 use Rattle.std.specs.Option.{option_map}
 use Rattle.bsc_octets.specs.declared.identity.Identity.{Identity}
 use Rattle.bsc_octets.specs.Forwarding.{id_in}
-use Rattle.bsc_history.specs.declared.call.Call.{Call}
 use Rattle.bsc_history.specs.declared.call.Call.TheVariants.{Connect, Forward, Stop as StopCall, Count}
 use Rattle.bsc_history.specs.declared.reply.Reply.{Reply}
 use Rattle.bsc_history.specs.declared.reply.Reply.TheVariants.{Joined}
 use Rattle.bsc_history.specs.Replies.{is_stopped}
 use Rattle.bsc_history.specs.Counting.{counts}
-use Rattle.bsc_text.specs.Lines.{same_octets}
 use Rattle.bsc_stage.specs.declared.script.Line.{Line}
 use Rattle.bsc_stage.specs.declared.script.Line.TheVariants.{Nothing, Hub, Open, In, Text, Drop, Hold, Free, Stop, Counts}
 use Rattle.bsc_stage.specs.declared.member.Phase.{Phase}
 use Rattle.bsc_stage.specs.declared.member.Phase.TheVariants.{Connected, Disconnecting}
 use Rattle.bsc_stage.specs.Messages.{asks_for, is_connect_request, is_forward_form, is_disconnect_request, is_disconnect_ack}
-use Rattle.bsc_stage.specs.declared.leaving.Closing.{Closing}
 use Rattle.bsc_stage.specs.declared.leaving.Closing.TheVariants.{ByText, ByPeer}
 use Rattle.bsc_stage.specs.Texts.{says, closing_text, connect_text, forward_words, worn_text, unbuilt_text, disconnected_text, counts_text}
 use Rattle.bsc_stage.specs.Scenes.{Scene, Member, is_waiting, is_open, is_held, waiting_held, member_held, member_of, names_without, without_waiting, entered, reply_in}

@@ -14,8 +14,9 @@ ghost use Rattle.bsc_stage.specs.Holding.{Holds};
 ghost use Rattle.bsc_stage.specs.Steps.{SomeHistory, SomeScene, IsAt, CarriesOut, Written, GoesOn};
 
 use crate::member::Phase;
+use crate::replies::put_disconnecting;
 use crate::stage::Stage;
-use crate::texts::{put_disconnecting, put_line, put_message};
+use crate::texts::{put_line, put_message};
 use bsc_desk::{Desk, Outlet, Take};
 use bsc_history::End;
 use bsc_octets::NoMemory;

@@ -8,8 +8,8 @@ ghost use Rattle.bsc_stage.specs.Turns.{forward_turn};
 ghost use Rattle.bsc_stage.specs.Holding.{Holds};
 ghost use Rattle.bsc_stage.specs.Steps.{SomeScene, IsAt, CarriesOut};
 
+use crate::replies::{put_all, put_reply};
 use crate::stage::Stage;
-use crate::texts::{put_all, put_reply};
 use bsc_desk::{AllRefusal, prepare};
 use bsc_octets::NoMemory;
 use std::alloc::Global;

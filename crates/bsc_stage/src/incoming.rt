@@ -10,9 +10,10 @@ ghost use Rattle.bsc_stage.specs.Steps.{SomeScene, IsAt, CarriesOut, TurnsTo};
 use crate::member::Phase;
 use crate::messages::{id_of, is_disconnect_ack, is_disconnect_request, is_forward};
 use crate::naming::place_of;
+use crate::replies::put_disconnected;
 use crate::script::LineFault;
 use crate::stage::Stage;
-use crate::texts::{put_disconnected, put_line, put_unbuilt};
+use crate::texts::{put_line, put_unbuilt};
 use bsc_octets::{NoMemory, Octets};
 use std::alloc::Global;
 

@@ -10,9 +10,10 @@ ghost use Rattle.bsc_stage.specs.Steps.{SomeScene, IsAt, CarriesOut, TurnsTo};
 
 use crate::member::Member;
 use crate::naming::{close_name, place_of};
+use crate::replies::put_gone;
 use crate::script::LineFault;
 use crate::stage::Stage;
-use crate::texts::{put_gone, put_line, put_worn};
+use crate::texts::{put_line, put_worn};
 use bsc_octets::NoMemory;
 use std::alloc::Global;
 

@@ -1,5 +1,4 @@
-use Rattle.std.proofs.Common.{refl, ap, sym, ◌∙◌}
-use Rattle.bsc_desk.specs.Taking.{next_taken}
+use Rattle.std.proofs.Common.{refl, ap, ◌∙◌}
 use Rattle.bsc_history.specs.Ends.{ended}
 use Rattle.bsc_stage.proofs.Members.{has_row}
 use Rattle.bsc_stage.proofs.Outboxes.{tells_end}

@@ -1,4 +1,4 @@
-use Rattle.std.proofs.Common.{◌≡◌, false, sym, ◌∙◌}
+use Rattle.std.proofs.Common.{sym, ◌∙◌}
 use Rattle.bsc_stage.specs.Texts.{closing_text}
 use Rattle.bsc_stage.proofs.Arriving.{member_there, member_closed, none_closed, no_member}
 use Rattle.bsc_stage.proofs.stage.Stage.close.Goals as goal

@@ -1,12 +1,11 @@
 use Rattle.std.specs.Prelude.{OnOk}
-use Rattle.std.proofs.Common.{◌≡◌, true, false, ℕ, List, ◌++◌, refl, sym, ap, ◌∙◌, subst, arith, codes}
-use Rattle.bsc_octets.specs.Forwarding.{id_in}
-use Rattle.bsc_stage.specs.Messages.{is_forward_form, is_disconnect_request, is_disconnect_ack}
-use Rattle.bsc_stage.specs.Texts.{says, disconnected_text, unbuilt_text}
+use Rattle.std.proofs.Common.{◌≡◌, true, false, ◌++◌, sym, ap, ◌∙◌, subst, arith, codes}
+use Rattle.bsc_stage.specs.Messages.{is_disconnect_ack}
+use Rattle.bsc_stage.specs.Texts.{says, unbuilt_text}
 use Rattle.bsc_stage.specs.Scenes.{Member}
-use Rattle.bsc_stage.specs.Turns.{leaves_after, connected_turn, disconnecting_turn}
+use Rattle.bsc_stage.specs.Turns.{leaves_after, disconnecting_turn}
 use Rattle.bsc_stage.proofs.Members.{same_member}
-use Rattle.bsc_stage.proofs.Arriving.{unbuilt_if_ok, turned_if_ok, other_message, disconnects, not_ack, acknowledges}
+use Rattle.bsc_stage.proofs.Arriving.{unbuilt_if_ok, turned_if_ok, not_ack, acknowledges}
 use Rattle.bsc_stage.proofs.stage.Stage.disconnecting_message.Goals as goal
 
 pub returns-then-is_disconnect_ack : goal.returns-then-is_disconnect_ack

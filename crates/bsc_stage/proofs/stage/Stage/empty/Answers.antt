@@ -1,6 +1,6 @@
-use Rattle.std.proofs.Common.{◌≡◌, ℕ, ◌<◌, ◌++◌, List, vec_len, length, refl, sym, ap, ◌∙◌, subst, arith, codes}
+use Rattle.std.proofs.Common.{◌≡◌, ℕ, ◌<◌, ◌++◌, refl, sym, ap, ◌∙◌, subst, arith, codes}
 use Rattle.bsc_stage.specs.Texts.{says}
-use Rattle.bsc_stage.specs.Scenes.{Member, Scene, with_changed, all_written}
+use Rattle.bsc_stage.specs.Scenes.{Member, with_changed, all_written}
 use Rattle.bsc_stage.specs.Emptying.{frames_text}
 use Rattle.bsc_stage.proofs.Places.{some_there}
 use Rattle.bsc_stage.proofs.Members.{same_member}

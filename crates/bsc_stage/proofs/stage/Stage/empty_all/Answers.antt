@@ -1,4 +1,4 @@
-use Rattle.std.proofs.Common.{sym, arith}
+use Rattle.std.proofs.Common.{arith}
 use Rattle.bsc_stage.proofs.Finished.{step_on, shorter}
 use Rattle.bsc_stage.proofs.stage.Stage.empty_all.Goals as goal
 

@@ -4,7 +4,7 @@ use Rattle.bsc_desk.specs.Rows.{IsRowOf}
 use Rattle.bsc_desk.specs.Entries.{one_looks, one_reply, all_looks, all_reply}
 use Rattle.bsc_desk.specs.Frames.{Frame}
 use Rattle.bsc_stage.proofs.Members.{row_of_member}
-use Rattle.bsc_stage.proofs.Forwards.{forwarded_if_ok, worn_if_ok, not_worn, worn, same_desk}
+use Rattle.bsc_stage.proofs.Forwards.{forwarded_if_ok, not_worn}
 use Rattle.bsc_stage.proofs.stage.Stage.forward.Goals as goal
 
 pub forward_all-requires-clause-unleft : goal.forward_all-requires-clause-unleft

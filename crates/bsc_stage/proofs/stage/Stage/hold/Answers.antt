@@ -1,4 +1,4 @@
-use Rattle.std.proofs.Common.{refl, sym, ◌∙◌}
+use Rattle.std.proofs.Common.{refl, sym}
 use Rattle.bsc_stage.proofs.Holds.{held_turn}
 use Rattle.bsc_stage.proofs.stage.Stage.hold.Goals as goal
 

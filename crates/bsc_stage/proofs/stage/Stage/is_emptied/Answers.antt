@@ -1,7 +1,6 @@
-use Rattle.std.proofs.Common.{◌≡◌, false, true, not, ◌&&◌, Bool, refl, sym, ap, ◌∙◌, arith}
-use Rattle.bsc_stage.specs.declared.member.Phase.{Phase}
+use Rattle.std.proofs.Common.{not, ◌&&◌, sym, ap, ◌∙◌, arith}
 use Rattle.bsc_stage.specs.Scenes.{Member}
-use Rattle.bsc_stage.specs.Emptying.{is_connected, is_due, is_emptied}
+use Rattle.bsc_stage.specs.Emptying.{is_connected, is_due}
 use Rattle.bsc_stage.proofs.Members.{same_member}
 use Rattle.bsc_stage.proofs.Emptied.{due_same}
 use Rattle.bsc_stage.proofs.Emptied.{passes_on, is_passed, disconnects}

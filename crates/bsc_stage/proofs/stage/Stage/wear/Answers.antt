@@ -1,4 +1,4 @@
-use Rattle.std.proofs.Common.{refl, sym, arith, ap, ◌∙◌, ◌++◌, List, ℕ}
+use Rattle.std.proofs.Common.{sym, arith, ap, ◌∙◌, ◌++◌}
 use Rattle.bsc_stage.proofs.Members.{same_member}
 use Rattle.bsc_stage.specs.Scenes.{Member}
 use Rattle.bsc_stage.specs.Texts.{worn_text}

@@ -1,7 +1,7 @@
 use Rattle.std.proofs.Common.{ℕ, List, ◌++◌, codes}
 use Rattle.bsc_stage.specs.Texts.{list_words}
 use Rattle.bsc_stage.proofs.Chains.{onto, behind}
-use Rattle.bsc_stage.proofs.texts.put_lists.Goals as goal
+use Rattle.bsc_stage.proofs.replies.put_lists.Goals as goal
 
 pub returns : goal.returns
 returns c =
