@@ -1,4 +1,4 @@
--- The checks that the octets of a message alone decide, each with its condition, and the first that fails.
+-- The checks by which octets are no message, each with its condition, and the first that fails.
 use Rattle.std.specs.Prelude.{◌≡◌, ℕ, ◌<◌, ◌≤◌, ◌⊎◌, IsTrue, List, [], ◌∷◌, ◌++◌, length}
 use Rattle.std.specs.List.{AllByRecursion}
 use Rattle.bsc_octets.specs.Envelopes.{flags_in}
@@ -74,7 +74,7 @@ HasValueOutOfRange m = OfPayload m IsOutOfRange
 
 -- ---- the first that fails
 
--- The check fails of these octets. The checks that ask for a place, C2, C4, C9, C12 and C13, are not made here.
+-- The check fails of these octets. The checks that refuse a message are not made here: C9 and C12, by which its receiver does not understand it, and C2, C4 and C13, which ask for the place at which it came.
 abbrev pub Fails : List ℕ → Check → Type 0
 Fails m C1 = IsShort m
 Fails m C3 = LacksAddressOctets m
@@ -97,7 +97,7 @@ pub record IsFirstOf (order : List Check) (fails : Check → Type 0) (k : Check)
   pub earlier : AllByRecursion (λ check. ¬ fails check) before
   pub fault : fails k
 
--- The checks that octets alone decide, in their order.
+-- The checks by which octets are no message, in their order.
 abbrev pub order : List Check
 order = C1 ∷ C3 ∷ C5 ∷ C6 ∷ C7 ∷ C7b ∷ C8 ∷ C10 ∷ C10b ∷ C10c ∷ C11 ∷ []
 

@@ -6,7 +6,7 @@ use crate::body::Body;
 use crate::check::Check;
 use crate::fault::FrameFault;
 
-/// The body, where the payload is empty, as it has none.
+/// The body of a function that has no payload, where the payload is empty.
 pub(crate) fn read_bare(p: &[u8], body: Body) -> Result<Body, FrameFault>
     requires { IsBare body }
     ensures { BodyAnswers (function_of body) p.now result }

@@ -3,13 +3,14 @@
 /// A check of a message, named as the printed output names it. The order of the variants is the order of the
 /// checks: the first that fails decides what becomes of the message.
 ///
-/// The octets of a message alone decide C1, C3, C5 to C8, C10 to C10c and C11, and `read` makes these. C2,
-/// C4, C9, C12 and C13 ask in addition where and when the message came.
+/// Octets that fail C1, C3, C5 to C8, C10 to C10c or C11 are no message, and `read` makes these checks. The
+/// others refuse what is a message. C9 and C12 are decided by its octets too: a receiver doesn't understand
+/// it. C2, C4 and C13 ask in addition at which place and in which phase it came.
 #[derive(Clone, Copy, Debug, PartialEq, Eq)]
 pub enum Check {
     /// The message has fewer than four octets.
     C1,
-    /// The message is longer than its receiver takes.
+    /// The message is longer than is taken at the place.
     C2,
     /// Octets of an announced address are missing.
     C3,

@@ -3,7 +3,7 @@
 //! Start at `message` and `body` (what a message is), then `reading` and `writing`. Each kind of payload has
 //! its reader beside its writer in a file of its own. The octets of a message are defined once, as `spelling`
 //! in `specs/Spelling.antt`, and what reads them and what writes them are both held to that. The checks that
-//! octets alone decide are defined in `specs/Checks.antt`, each by itself. This crate stands on `bsc_octets`
+//! octets of no message fail are defined in `specs/Checks.antt`, each by itself. This crate stands on `bsc_octets`
 //! and `bsc_options`, and on `byteorder` for numbers.
 #![tactic(auto)]
 

@@ -61,7 +61,7 @@ fn end_of(m: &[u8], at: usize, announced: bool) -> Option<usize>
     }
 }
 
-/// Whether an item of that list, which is whole, has no shape.
+/// Whether an item of that list has no shape. The list is whole.
 fn has_fault(m: &[u8], at: usize, announced: bool) -> bool
     requires within { at ≤ length m.now }
     requires whole { (end : ℕ) × (items : List OptionItem) × IsList announced m.now at items end }
@@ -109,7 +109,8 @@ pub(crate) fn read_list(
     announced: bool,
 ) -> Result<Options, NoMemory>
     requires { at ≤ length m.now }
-    ensures { IfOk result (λ list. (items : List OptionItem) (end : ℕ) → IsList announced m.now at items end → list ≡ items) }
+    ensures { IfOk result (λ list. (items : List OptionItem) (end : ℕ) → IsList announced m.now at items end
+        → list ≡ items) }
 {
     if !announced {
         return Ok(Options::new(alloc));

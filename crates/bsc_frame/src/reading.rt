@@ -35,7 +35,7 @@ fn message_in(alloc: Global, m: &[u8]) -> Result<Message, FrameFault>
 }
 
 /// The message that the octets spell, or the first check that fails of them: of C1, C3, C5, C6, C7, C7b, C8,
-/// C10, C10b, C10c and C11, in this order. C2, C4, C9, C12 and C13 are not made here.
+/// C10, C10b, C10c and C11, in this order. The other checks refuse messages, and are not made here.
 ///
 /// Memory is taken for the octets of the body and for the header options, each copied once, and only where no
 /// check fails. Reading is linear in the octets.

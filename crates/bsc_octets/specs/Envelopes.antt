@@ -24,7 +24,7 @@ announces_dest flags = (flags / 4 % 2) == 1
 abbrev pub announced_length : ℕ → ℕ
 announced_length flags = (if announces_origin flags then 6 else 0) + (if announces_dest flags then 6 else 0)
 
--- ---- the envelope that a message has, as a relation between the two
+-- ---- the envelope that a message has, as a relation between the two. `SpellsEnvelope` and `HasWholeAddresses` bind together: the first alone also holds of an address with fewer than six octets
 
 -- The octets of a Virtual Address that may be absent.
 abbrev pub address_octets : Option Vmac → List ℕ

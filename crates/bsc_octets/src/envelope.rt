@@ -81,7 +81,8 @@ fn envelope_at_front(m: &[u8]) -> Result<Envelope, EnvelopeFault>
     ensures read { result ≡ envelope_of m.now }
     ensures whole { IfOk result HasWholeAddresses }
     ensures short { (result ≡ Err EnvelopeFault.Short) ↔ (length m.now < 4) }
-    ensures cut { (result ≡ Err EnvelopeFault.Cut) ↔ ((4 ≤ length m.now) × (length m.now < 4 + announced_length (flags_in m.now))) }
+    ensures cut { (result ≡ Err EnvelopeFault.Cut) ↔
+        ((4 ≤ length m.now) × (length m.now < 4 + announced_length (flags_in m.now))) }
     ensures route { IsTrue (has_route m.now) ↔ IsOkAnd result (λ e. IsNone e.origin × IsSome e.dest) }
 {
     if m.len() < 4 {
@@ -117,19 +118,20 @@ fn envelope_at_front(m: &[u8]) -> Result<Envelope, EnvelopeFault>
 
 /// The envelope that a message begins with. No memory is taken.
 pub fn read_envelope(m: &[u8]) -> Result<Envelope, EnvelopeFault>
-    // What is found is spelled by the message, and no other envelope is.
+    // What is found is spelled by the message, its addresses are whole, and no other such envelope is spelled by it.
     ensures found { IfOk result (λ e. SpellsEnvelope e m.now) }
     ensures whole { IfOk result HasWholeAddresses }
     ensures only { (e : Envelope) → HasWholeAddresses e → e.id < 2 ^ 16 → SpellsEnvelope e m.now → result ≡ Ok e }
 
     // There is none below four octets, or where octets of an announced address are missing.
     ensures short { (result ≡ Err EnvelopeFault.Short) ↔ (length m.now < 4) }
-    ensures cut { (result ≡ Err EnvelopeFault.Cut) ↔ ((4 ≤ length m.now) × (length m.now < 4 + announced_length (flags_in m.now))) }
+    ensures cut { (result ≡ Err EnvelopeFault.Cut) ↔
+        ((4 ≤ length m.now) × (length m.now < 4 + announced_length (flags_in m.now))) }
 
     // The hub passes on what has a Destination and no Originating address.
     ensures route { IsTrue (has_route m.now) ↔ IsOkAnd result (λ e. IsNone e.origin × IsSome e.dest) }
 
-    // The same, as it is read from the front.
+    // The same as a value: what one reading from the front finds.
     ensures read { result ≡ envelope_of m.now }
 {
     envelope_at_front(m)

@@ -1,4 +1,4 @@
-//! The one free answer: memory ran out.
+//! Memory ran out: the one answer whose cause no contract states.
 use std::alloc::{AllocError, AllocFailed};
 use thiserror::Error;
 

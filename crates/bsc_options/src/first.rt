@@ -19,11 +19,12 @@ pub(crate) struct FirstItem<'a> {
     pub(crate) rest: &'a [u8],
 }
 
-/// The data behind a marker, where it says that there are some, and the octets after them. There is no
-/// answer where octets of the data are missing.
+/// The data behind a marker, where it says that there are some, and the octets after them. `None` comes where
+/// octets of the data are missing.
 fn first_data(present: bool, o: &[u8]) -> Option<(Option<&[u8]>, &[u8])>
     ensures present { IfSome result (λ x. is_some (option_copied x.0) ≡ present) }
-    ensures found { IfSome result (λ x. FitsData (option_copied x.0) × (o.now ≡ data_octets (option_copied x.0) ++ x.1.now)) }
+    ensures found { IfSome result (λ x. FitsData (option_copied x.0)
+        × (o.now ≡ data_octets (option_copied x.0) ++ x.1.now)) }
     ensures none { IfNone result (IsCutData present o.now) }
 {
     if !present {
@@ -41,9 +42,10 @@ fn first_data(present: bool, o: &[u8]) -> Option<(Option<&[u8]>, &[u8])>
     Some((Some(data), rest))
 }
 
-/// The item that octets begin with. There is no answer where octets of it are missing.
+/// The item that octets begin with. `None` comes where octets of it are missing.
 pub(crate) fn first_item(o: &[u8]) -> Option<FirstItem<'_>>
-    ensures found { IfSome result (λ first. Fits (item_of first) × (o.now ≡ item_octets first.follows (item_of first) ++ first.rest.now)) }
+    ensures found { IfSome result (λ first. Fits (item_of first)
+        × (o.now ≡ item_octets first.follows (item_of first) ++ first.rest.now)) }
     ensures none { IfNone result (IsCutItem o.now) }
 {
     let (marker, rest) = o.split_first()?;

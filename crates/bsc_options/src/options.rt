@@ -6,7 +6,7 @@ use bsc_octets::NoMemory;
 use std::alloc::Global;
 use std::marker::Model;
 
-/// A list of header options, which keeps the allocator of its making.
+/// A list of header options. It keeps the allocator that it was made with.
 #[derive(Debug, Drop)]
 pub struct Options {
     list: Vec<OptionItem>,

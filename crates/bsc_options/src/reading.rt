@@ -19,8 +19,8 @@ const SECURE_PATH: u8 = 1;
 /// The type of Proprietary.
 const PROPRIETARY: u8 = 31;
 
-/// How many octets the list at the front has, whatever the types and data of its items. There is no answer
-/// where octets of it are missing.
+/// How many octets the list at the front has, whatever the types and data of its items. `None` comes where
+/// octets of it are missing.
 pub(crate) fn list_length(o: &[u8]) -> Option<usize>
     ensures found { IfSome result (λ n. EndsAt o.now n) }
     ensures none { IfNone result (IsCut o.now 0) }
@@ -48,9 +48,10 @@ fn fault_of(item: &FirstItem) -> Option<OptionsFault>
     }
 }
 
-/// What is wrong with the first item at fault, of a list that is whole.
+/// What is wrong with the first item at fault in a whole list.
 pub(crate) fn first_fault(list: &[u8]) -> Option<OptionsFault>
-    ensures { (items : List OptionItem) → AllByRecursion Fits items → list.now ≡ spelling_of items → result ≡ first_fault items }
+    ensures { (items : List OptionItem) → AllByRecursion Fits items → list.now ≡ spelling_of items
+        → result ≡ first_fault items }
 {
     let mut rest = list;
     while let Some(first) = first_item(rest) {
@@ -77,9 +78,10 @@ fn owned(alloc: Global, first: &FirstItem) -> Result<OptionItem, NoMemory>
     })
 }
 
-/// The items of a list that is whole.
+/// The items of a whole list.
 fn items_of(alloc: Global, list: &[u8]) -> Result<Options, NoMemory>
-    ensures { IfOk result (λ options. (items : List OptionItem) → AllByRecursion Fits items → list.now ≡ spelling_of items → options ≡ items) }
+    ensures { IfOk result (λ options. (items : List OptionItem) → AllByRecursion Fits items
+        → list.now ≡ spelling_of items → options ≡ items) }
 {
     let mut options = Options::new(alloc);
     let mut rest = list;
@@ -123,12 +125,15 @@ pub fn read_options(alloc: Global, m: &[u8], at: usize) -> Result<(Options, usiz
     // No other list is spelled there, and one that is spelled there is found, unless memory runs out.
     ensures only { (list : List OptionItem) (end : ℕ) → AreOptions list → BeginsWith m.now at list end
         → (result ≡ Ok (list, end)) ⊎ (result ≡ Err OptionsFault.NoMemory) }
-    ensures memory { result ≡ Err OptionsFault.NoMemory → (list : List OptionItem) × (end : ℕ) × AreOptions list × BeginsWith m.now at list end }
+    ensures memory { result ≡ Err OptionsFault.NoMemory
+        → (list : List OptionItem) × (end : ℕ) × AreOptions list × BeginsWith m.now at list end }
 
     // Octets of the list are missing, or else the first item at fault is named.
     ensures cut { (result ≡ Err OptionsFault.Cut) ↔ IsCut m.now at }
-    ensures bad_kind { (result ≡ Err OptionsFault.BadKind) ↔ ((item : OptionItem) × IsFirstAtFault m.now at item × (item.kind ≡ 0)) }
-    ensures bad_shape { (result ≡ Err OptionsFault.BadShape) ↔ ((item : OptionItem) × IsFirstAtFault m.now at item × (item.kind ≢ 0)) }
+    ensures bad_kind { (result ≡ Err OptionsFault.BadKind) ↔
+        ((item : OptionItem) × IsFirstAtFault m.now at item × (item.kind ≡ 0)) }
+    ensures bad_shape { (result ≡ Err OptionsFault.BadShape) ↔
+        ((item : OptionItem) × IsFirstAtFault m.now at item × (item.kind ≢ 0)) }
 {
     list_at(alloc, m, at)
 }

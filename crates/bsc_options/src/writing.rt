@@ -24,8 +24,8 @@ fn put_item(out: &mut Vec<u8>, item: &OptionItem, follows: bool) -> Result<(), N
     Ok(())
 }
 
-/// The octets of a list that is not empty and each item of which has a shape: its type is 1 to 31, its data
-/// are such as that type has, and at most 65,535 octets. A list has no other octets.
+/// The octets of a list. It has an item at least, and each item has a shape: its type is 1 to 31, and it has
+/// the data of its type, at most 65,535 octets. A list has no other octets.
 pub fn write_options(alloc: Global, list: &Options) -> Result<Octets, NoMemory>
     requires { AreOptions list.now }
     ensures { IfOk result (λ o. SpellsOptions list.now o) }
