@@ -1,7 +1,6 @@
 -- Each step keeps the rule.
-use Rattle.std.proofs.Common.{◌≡◌, ◌≢◌, ℕ, zero, suc, ◌+◌, ◌%◌, ◌<◌, ◌≤◌, Bool, true, false, List, [], ◌∷◌, ◌++◌, length, set, replicate, map, is_some, Option, Some, None, ⊎_elim, refl, sym, ◌∙◌, ap, subst, arith, length-append, mod-lt, append-nil, slice_index, slice_set}
-use Rattle.std.proofs.lemmas.List.{length-map, length-replicate}
-use mathlib.Core.Option.{some, none, some-ne-none}
+use Rattle.std.proofs.Common.{◌≡◌, ◌≢◌, ℕ, suc, ◌+◌, ◌%◌, ◌<◌, ◌≤◌, Bool, true, false, List, [], ◌∷◌, ◌++◌, length, set, is_some, Option, Some, None, ⊎_elim, refl, sym, ◌∙◌, ap, subst, arith, length-append, append-nil, slice_index, slice_set}
+use mathlib.Core.Option.{some, none}
 use mathlib.Core.Logic.{dite}
 use native.Mathlib.Decide.{ℕ_discrete}
 use lib.ListN.{get_elem?}
@@ -13,10 +12,10 @@ use Rattle.bsc_ring.specs.declared.found.Found.{Found}
 use Rattle.bsc_ring.specs.declared.found.Found.TheVariants.{Ending, Tail}
 use Rattle.bsc_ring.specs.declared.view.View.{View}
 use Rattle.bsc_ring.specs.Lists.{Item, StartsWith}
-use Rattle.bsc_ring.specs.Rule.{Homes, end_number, count_given, Stored, Fits, One, is_inlet, is_outlet, Kept, Recalls, end_in, first_view, inlet_part, outlet_part}
-use Rattle.bsc_ring.specs.Told.{Seated, in_hand, LoadsHead, StoresTail, after_end, LoadsEnd, after_none, LoadsTail, StoresHead, StoresEnd}
+use Rattle.bsc_ring.specs.Rule.{Homes, end_number, count_given, Stored, Fits, AtMostOne, is_inlet, is_outlet, Kept, Recalls, end_in}
+use Rattle.bsc_ring.specs.Effects.{Seated, in_hand, LoadsHead, StoresTail, after_end, LoadsEnd, after_none, LoadsTail, StoresHead, StoresEnd}
 use Rattle.bsc_ring.proofs.Slots.{there, not_both, tail_home, tail_out, tail_back, head_home, head_out, head_back}
-use Rattle.bsc_ring.proofs.Views.{single, starts_whole, next_starts, starts_length, longer_starts, starts_trans, changed, split_all, one_after, one_split}
+use Rattle.bsc_ring.proofs.Views.{starts_whole, next_starts, starts_length, longer_starts, starts_trans, changed, one_after}
 
 pub end_in_number : (e : Option End) → end_in (end_number e) ≡ e
 end_in_number None = refl
@@ -52,25 +51,70 @@ found_end d (Tail n) = d
 recalls_end : (v : View) (h : Option End) → ((d : End) → v.heard ≡ Some d → h ≡ Some d) → Recalls v → Recalls (after_end h v)
 recalls_end v h keeps_ old i e at = ⊎_elim (λ there_. keeps_ e (old i e there_)) (λ new. ap (λ (f : Found). found_end h f) new) (at_snoc v.found (Ending h) (Ending (Some e)) i at)
 
-module _ (id slots : ℕ) (me : Seated) (homes : Homes) (views : List View) (head : ℕ) (pushed : List Item) (ending : Option End) (writing reading : Bool)
-    (named : ending ≢ Some Left) (stored : Stored slots head pushed writing reading homes)
-    (fits : (i : ℕ) (v : View) → get_elem? views i ≡ some v → Fits head pushed ending writing reading v) (one_inlet : One is_inlet views) (one_outlet : One is_outlet views)
-    (at : get_elem? views id ≡ some me.0) where
-  -- the word i becomes n
-  abbrev Goes : ℕ → ℕ → (Seated → Type 0) → List ℕ → Type 0
-  Goes i n told ws =
+-- the rule where only the views are others, and the words say the same
+pub other_views : (s : State (Option Item) View) (k : Kept s) (ws : List ℕ) → ws ≡ k.head ∷ length k.pushed ∷ end_number k.ending ∷ [] → (views : List View)
+    → ((i : ℕ) (v : View) → get_elem? views i ≡ some v → Fits k.head k.pushed k.ending k.writing k.reading v) → AtMostOne is_inlet views → AtMostOne is_outlet views
+    → Kept (record { words = ws; homes = s.homes; views = views })
+other_views s k ws words views fits one_inlet one_outlet =
+    record {
+      cap = k.cap;
+      head = k.head;
+      pushed = k.pushed;
+      ending = k.ending;
+      writing = k.writing;
+      reading = k.reading;
+      words = words;
+      named = k.named;
+      stored = k.stored;
+      fits = fits;
+      one_inlet = one_inlet;
+      one_outlet = one_outlet;
+    }
+
+module _ (id slots : ℕ) (me : Seated) (s : State (Option Item) View) (k : Kept s) (wide : length s.homes ≡ slots) (at : get_elem? s.views id ≡ some me.0) where
+  abbrev homes : Homes
+  homes = s.homes
+
+  abbrev views : List View
+  views = s.views
+
+  abbrev head : ℕ
+  head = k.head
+
+  abbrev pushed : List Item
+  pushed = k.pushed
+
+  abbrev ending : Option End
+  ending = k.ending
+
+  abbrev writing : Bool
+  writing = k.writing
+
+  abbrev reading : Bool
+  reading = k.reading
+
+  abbrev words : List ℕ
+  words = head ∷ length pushed ∷ end_number ending ∷ []
+
+  -- as many slots as the step sees
+  stored : Stored slots head pushed writing reading homes
+  stored = subst (λ (c : ℕ). Stored c head pushed writing reading homes) (sym k.stored.size ∙ wide) k.stored
+
+  -- the rule still holds when the word i of the words ws is n and the seat has its new view
+  abbrev KeepsRule : ℕ → ℕ → (Seated → Type 0) → List ℕ → Type 0
+  KeepsRule i n told ws =
       (w : View) × (a : Act (Option Item)) × Valid homes me.1 a
       × Kept (record { words = slice_set ws i n; homes = homes_after homes me.1 a; views = slice_set views id w })
       × told (w, carried_after me.1 a)
 
   mine : Fits head pushed ending writing reading me.0
-  mine = fits id me.0 at
+  mine = k.fits id me.0 at
 
   others_inlet : me.0.inlet ≡ true → (i : ℕ) (x : View) → i ≢ id → get_elem? views i ≡ some x → x.inlet ≡ true → ⊥
-  others_inlet is i x other got has = other (one_inlet i id x me.0 got at has is)
+  others_inlet is i x other got has = other (k.one_inlet i id x me.0 got at has is)
 
   others_outlet : me.0.outlet ≡ true → (i : ℕ) (x : View) → i ≢ id → get_elem? views i ≡ some x → x.outlet ≡ true → ⊥
-  others_outlet is i x other got has = other (one_outlet i id x me.0 got at has is)
+  others_outlet is i x other got has = other (k.one_outlet i id x me.0 got at has is)
 
   remade : (head' : ℕ) (pushed' : List Item) (ending' : Option End) (writing' reading' : Bool) (ws : List ℕ) (homes' : Homes) (w : View)
       → ws ≡ head' ∷ length pushed' ∷ end_number ending' ∷ [] → ending' ≢ Some Left → Stored slots head' pushed' writing' reading' homes'
@@ -90,12 +134,12 @@ module _ (id slots : ℕ) (me : Seated) (homes : Homes) (views : List View) (hea
         named = n;
         stored = st;
         fits = changed views id w (Fits head' pushed' ending' writing' reading') here there;
-        one_inlet = one_after is_inlet views id me.0 at one_inlet w i;
-        one_outlet = one_after is_outlet views id me.0 at one_outlet w o;
+        one_inlet = one_after is_inlet views id me.0 at k.one_inlet w i;
+        one_outlet = one_after is_outlet views id me.0 at k.one_outlet w o;
       }
 
   module _ (empty : me.1 ≡ []) (is : me.0.inlet ≡ true) (idle : me.0.writing ≡ false) where
-    head_at : Goes 0 head (LoadsHead (step slots 0 0 0 none) me head) (head ∷ length pushed ∷ end_number ending ∷ [])
+    head_at : KeepsRule 0 head (LoadsHead (step slots 0 0 0 none) me head) words
     head_at =
         let own = mine.inlet is in
         let same : length me.0.pushed ≡ length pushed = ap (λ (l : List Item). length l) own.0 in
@@ -111,9 +155,9 @@ module _ (id slots : ℕ) (me : Seated) (homes : Homes) (views : List View) (hea
           w,
           keeps,
           tt,
-          remade head pushed ending writing reading (head ∷ length pushed ∷ end_number ending ∷ []) homes w refl named stored
+          remade head pushed ending writing reading words homes w refl k.named stored
               (record { begins = mine.begins; gave = mine.gave; low = omega arith; heard = mine.heard; recalls = mine.recalls; whole = mine.whole; inlet = mine.inlet; outlet = mine.outlet })
-              (λ i x _ got. fits i x got) (λ h. h) (λ h. h),
+              (λ i x _ got. k.fits i x got) (λ h. h) (λ h. h),
           (a, b, c, (λ _. ap (λ (m : List (ℕ × Option Item)). (w, m)) empty), λ no. absurd (no full)),
         ))
         (λ (roomy : length me.0.pushed ≢ head + slots).
@@ -122,9 +166,9 @@ module _ (id slots : ℕ) (me : Seated) (homes : Homes) (views : List View) (hea
           w,
           takes (length pushed % slots) None,
           tail_home slots head pushed writing reading homes stored free room,
-          remade head pushed ending true reading (head ∷ length pushed ∷ end_number ending ∷ []) (set homes (length pushed % slots) none) w refl named (tail_out slots head pushed writing reading homes stored room)
+          remade head pushed ending true reading words (set homes (length pushed % slots) none) w refl k.named (tail_out slots head pushed writing reading homes stored room)
               (record { begins = mine.begins; gave = mine.gave; low = omega arith; heard = mine.heard; recalls = mine.recalls; whole = mine.whole; inlet = λ _. (own.0, own.1, refl); outlet = mine.outlet })
-              (λ i x other got. let f = fits i x got in record { begins = f.begins; gave = f.gave; low = f.low; heard = f.heard; recalls = f.recalls; whole = f.whole; inlet = λ has. absurd (others_inlet is i x other got has); outlet = f.outlet })
+              (λ i x other got. let f = k.fits i x got in record { begins = f.begins; gave = f.gave; low = f.low; heard = f.heard; recalls = f.recalls; whole = f.whole; inlet = λ has. absurd (others_inlet is i x other got has); outlet = f.outlet })
               (λ h. h) (λ h. h),
           (a, b, c, (λ full. absurd (roomy full)), λ _. ap (λ (m : List (ℕ × Option Item)). (w, (length pushed % slots, None) ∷ m)) empty ∙ ap (λ (n : ℕ). (w, (n % slots, None) ∷ [])) (sym same)),
         ))
@@ -133,7 +177,7 @@ module _ (id slots : ℕ) (me : Seated) (homes : Homes) (views : List View) (hea
     still_open : {b : Bool} {known : List Item} → b ≡ true → (b ≡ true → (known ≡ pushed) × (is_some ending ≡ true)) → ⊥
     still_open h f = not_both (sym (f h).1 ∙ ap (λ (e : Option End). is_some e) (sym (mine.inlet is).1 ∙ open_))
 
-    tail_put : Goes 1 (length me.0.pushed + 1) (StoresTail (step slots 1 (length me.0.pushed + 1) 0 none) me (length me.0.pushed + 1)) (head ∷ length pushed ∷ end_number ending ∷ [])
+    tail_put : KeepsRule 1 (length me.0.pushed + 1) (StoresTail (step slots 1 (length me.0.pushed + 1) 0 none) me (length me.0.pushed + 1)) words
     tail_put =
         let own = mine.inlet is in
         let same : length me.0.pushed ≡ length pushed = ap (λ (l : List Item). length l) own.0 in
@@ -146,16 +190,16 @@ module _ (id slots : ℕ) (me : Seated) (homes : Homes) (views : List View) (hea
           w,
           gives,
           tt,
-          remade head pushed' ending false reading (head ∷ (length me.0.pushed + 1) ∷ end_number ending ∷ []) (put_back homes me.1) w (ap (λ (n : ℕ). head ∷ n ∷ end_number ending ∷ []) more) named
+          remade head pushed' ending false reading (head ∷ (length me.0.pushed + 1) ∷ end_number ending ∷ []) (put_back homes me.1) w (ap (λ (n : ℕ). head ∷ n ∷ end_number ending ∷ []) more) k.named
               (subst (λ (m : List (ℕ × Option Item)). Stored slots head pushed' false reading (put_back homes m)) (sym slot) (tail_back slots head pushed writing reading homes stored x out))
               (record { begins = longer_starts pushed me.0.known (x ∷ []) mine.begins; gave = mine.gave; low = mine.low; heard = mine.heard; recalls = mine.recalls; whole = λ h. absurd (still_open h mine.whole); inlet = λ _. (new, own.1, refl); outlet = mine.outlet })
-              (λ i y other got. let f = fits i y got in record { begins = longer_starts pushed y.known (x ∷ []) f.begins; gave = f.gave; low = f.low; heard = f.heard; recalls = f.recalls; whole = λ h. absurd (still_open h f.whole); inlet = λ has. absurd (others_inlet is i y other got has); outlet = f.outlet })
+              (λ i y other got. let f = k.fits i y got in record { begins = longer_starts pushed y.known (x ∷ []) f.begins; gave = f.gave; low = f.low; heard = f.heard; recalls = f.recalls; whole = λ h. absurd (still_open h f.whole); inlet = λ has. absurd (others_inlet is i y other got has); outlet = f.outlet })
               (λ h. h) (λ h. h),
           ap (λ (m : List (ℕ × Option Item)). (w, Rattle.atomic_table.specs.Table.rest m)) carried,
         )
 
   module _ (n : ℕ) (e : End) (means : n ≡ end_number (Some e)) (right : e ≢ Left) (is : me.0.inlet ≡ true) (open_ : me.0.ended ≡ None) where
-    end_put : Goes 2 n (StoresEnd (step slots 2 n 0 none) me n) (head ∷ length pushed ∷ end_number ending ∷ [])
+    end_put : KeepsRule 2 n (StoresEnd (step slots 2 n 0 none) me n) words
     end_put =
         let own = mine.inlet is in
         let none_yet : ending ≡ None = sym own.1 ∙ open_ in
@@ -167,27 +211,27 @@ module _ (id slots : ℕ) (me : Seated) (homes : Homes) (views : List View) (hea
           tt,
           remade head pushed (Some e) writing reading (head ∷ length pushed ∷ n ∷ []) homes w (ap (λ (m : ℕ). head ∷ length pushed ∷ m ∷ []) means) (λ bad. right (some_once e Left bad)) stored
               (record { begins = mine.begins; gave = mine.gave; low = mine.low; heard = λ d h. never d (mine.heard d h); recalls = mine.recalls; whole = λ h. ((mine.whole h).0, refl); inlet = λ _. (own.0, same, own.2); outlet = mine.outlet })
-              (λ i x other got. let f = fits i x got in record { begins = f.begins; gave = f.gave; low = f.low; heard = λ d h. never d (f.heard d h); recalls = f.recalls; whole = λ h. ((f.whole h).0, refl); inlet = λ has. absurd (others_inlet is i x other got has); outlet = f.outlet })
+              (λ i x other got. let f = k.fits i x got in record { begins = f.begins; gave = f.gave; low = f.low; heard = λ d h. never d (f.heard d h); recalls = f.recalls; whole = λ h. ((f.whole h).0, refl); inlet = λ has. absurd (others_inlet is i x other got has); outlet = f.outlet })
               (λ h. h) (λ h. h),
           refl,
         )
 
   module _ (is : me.0.outlet ≡ true) where
-    end_asked : Goes 2 (end_number ending) (LoadsEnd (step slots 2 0 0 none) me (end_number ending)) (head ∷ length pushed ∷ end_number ending ∷ [])
+    end_asked : KeepsRule 2 (end_number ending) (LoadsEnd (step slots 2 0 0 none) me (end_number ending)) words
     end_asked =
         let same : end_in (end_number ending) ≡ ending = end_in_number ending in
         let w : View = after_end (end_in (end_number ending)) me.0 in (
           w,
           keeps,
           tt,
-          remade head pushed ending writing reading (head ∷ length pushed ∷ end_number ending ∷ []) homes w refl named stored
+          remade head pushed ending writing reading words homes w refl k.named stored
               (record { begins = mine.begins; gave = mine.gave; low = mine.low; heard = λ e h. sym same ∙ h; recalls = recalls_end me.0 (end_in (end_number ending)) (λ d h. same ∙ mine.heard d h) mine.recalls; whole = mine.whole; inlet = mine.inlet; outlet = mine.outlet })
-              (λ i x _ got. fits i x got) (λ h. h) (λ h. h),
-          ((λ bad. named (sym same ∙ bad)), (λ h. ap (λ (e : Option End). is_some e) same ∙ (mine.whole h).1), (λ d h. same ∙ mine.heard d h), refl),
+              (λ i x _ got. k.fits i x got) (λ h. h) (λ h. h),
+          ((λ bad. k.named (sym same ∙ bad)), (λ h. ap (λ (e : Option End). is_some e) same ∙ (mine.whole h).1), (λ d h. same ∙ mine.heard d h), refl),
         )
 
     module _ (empty : me.1 ≡ []) (idle : me.0.reading ≡ false) where
-      tail_at : Goes 1 (length pushed) (LoadsTail (step slots 1 0 0 none) me (length pushed)) (head ∷ length pushed ∷ end_number ending ∷ [])
+      tail_at : KeepsRule 1 (length pushed) (LoadsTail (step slots 1 0 0 none) me (length pushed)) words
       tail_at =
           let own = mine.outlet is in
           let free : reading ≡ false = sym own.1 ∙ idle in
@@ -202,9 +246,9 @@ module _ (id slots : ℕ) (me : Seated) (homes : Homes) (views : List View) (hea
             w,
             keeps,
             tt,
-            remade head pushed ending writing reading (head ∷ length pushed ∷ end_number ending ∷ []) homes w refl named stored
+            remade head pushed ending writing reading words homes w refl k.named stored
                 (record { begins = whole; gave = ([], sym (append-nil me.0.given)); low = mine.low; heard = mine.heard; recalls = recalls_tail me.0.found (length me.0.given) me.0.heard mine.recalls; whole = λ h. (sym all, heard_some me.0.heard ending mine.heard h); inlet = mine.inlet; outlet = mine.outlet })
-                (λ i x _ got. fits i x got) (λ h. h) (λ h. h),
+                (λ i x _ got. k.fits i x got) (λ h. h) (λ h. h),
             ((λ _. (subst (λ (l : List Item). StartsWith l me.0.known) all mine.begins, (λ h. sym all ∙ sym (mine.whole h).0), ap (λ (m : List (ℕ × Option Item)). (w, m)) empty)), λ no. absurd (no none_left)),
           ))
           (λ (more : length pushed ≢ length me.0.given).
@@ -216,15 +260,15 @@ module _ (id slots : ℕ) (me : Seated) (homes : Homes) (views : List View) (hea
             w,
             takes (head % slots) (Some x),
             head_home slots head pushed writing reading homes stored x free next.1,
-            remade head pushed ending writing true (head ∷ length pushed ∷ end_number ending ∷ []) (set homes (head % slots) none) w refl named (head_out slots head pushed writing reading homes stored left)
+            remade head pushed ending writing true words (set homes (head % slots) none) w refl k.named (head_out slots head pushed writing reading homes stored left)
                 (record { begins = self; gave = one_more; low = mine.low; heard = mine.heard; recalls = recalls_tail me.0.found (length pushed) me.0.heard mine.recalls; whole = λ h. (refl, heard_some me.0.heard ending mine.heard h); inlet = mine.inlet; outlet = λ _. (omega (arith, length-append me.0.given (x ∷ []), count), refl) })
-                (λ i y other got. let f = fits i y got in record { begins = f.begins; gave = f.gave; low = f.low; heard = f.heard; recalls = f.recalls; whole = f.whole; inlet = f.inlet; outlet = λ has. absurd (others_outlet is i y other got has) })
+                (λ i y other got. let f = k.fits i y got in record { begins = f.begins; gave = f.gave; low = f.low; heard = f.heard; recalls = f.recalls; whole = f.whole; inlet = f.inlet; outlet = λ has. absurd (others_outlet is i y other got has) })
                 (λ h. h) (λ h. h),
             ((λ same. absurd (more same)), λ _. (pushed, x, (mine.begins, (λ h. sym (mine.whole h).0), refl, one_more, omega (arith, left, count)), ap (λ (m : List (ℕ × Option Item)). (w, (head % slots, Some x) ∷ m)) empty ∙ ap (λ (n : ℕ). (w, (n % slots, Some x) ∷ [])) (sym count))),
           ))
 
     module _ (n : ℕ) (counted : n + 1 ≡ length me.0.given) (carried : me.1 ≡ (n % slots, None) ∷ []) (busy : me.0.reading ≡ true) where
-      head_freed : Goes 0 (n + 1) (StoresHead (step slots 0 (n + 1) 0 none) me (n + 1)) (head ∷ length pushed ∷ end_number ending ∷ [])
+      head_freed : KeepsRule 0 (n + 1) (StoresHead (step slots 0 (n + 1) 0 none) me (n + 1)) words
       head_freed =
           let own = mine.outlet is in
           let out : reading ≡ true = sym own.1 ∙ busy in
@@ -238,31 +282,27 @@ module _ (id slots : ℕ) (me : Seated) (homes : Homes) (views : List View) (hea
             w,
             gives,
             tt,
-            remade (suc head) pushed ending writing false ((n + 1) ∷ length pushed ∷ end_number ending ∷ []) (put_back homes me.1) w (ap (λ (m : ℕ). m ∷ length pushed ∷ end_number ending ∷ []) (omega (arith, same))) named
+            remade (suc head) pushed ending writing false ((n + 1) ∷ length pushed ∷ end_number ending ∷ []) (put_back homes me.1) w (ap (λ (m : ℕ). m ∷ length pushed ∷ end_number ending ∷ []) (omega (arith, same))) k.named
                 (subst (λ (m : List (ℕ × Option Item)). Stored slots (suc head) pushed writing false (put_back homes m)) (sym slot) (head_back slots head pushed writing reading homes stored left))
                 (record { begins = mine.begins; gave = mine.gave; low = let l = mine.low in omega (arith, l); heard = mine.heard; recalls = mine.recalls; whole = mine.whole; inlet = mine.inlet; outlet = λ _. (count, refl) })
-                (λ i y other got. let f = fits i y got in record { begins = f.begins; gave = f.gave; low = let l = f.low in omega (arith, l); heard = f.heard; recalls = f.recalls; whole = f.whole; inlet = f.inlet; outlet = λ has. absurd (others_outlet is i y other got has) })
+                (λ i y other got. let f = k.fits i y got in record { begins = f.begins; gave = f.gave; low = let l = f.low in omega (arith, l); heard = f.heard; recalls = f.recalls; whole = f.whole; inlet = f.inlet; outlet = λ has. absurd (others_outlet is i y other got has) })
                 (λ h. h) (λ h. h),
             ap (λ (m : List (ℕ × Option Item)). (w, Rattle.atomic_table.specs.Table.rest m)) carried,
           )
 
--- the slots of a state that the step sees
-sized : (slots : ℕ) (s : State (Option Item) View) (k : Kept s) → length s.homes ≡ slots → Stored slots k.head k.pushed k.writing k.reading s.homes
-sized slots s k wide = subst (λ (c : ℕ). Stored c k.head k.pushed k.writing k.reading s.homes) (sym k.stored.size ∙ wide) k.stored
-
 module _ (id slots : ℕ) (me : Seated) where
   pub loads_head : me.1 ≡ [] → me.0.inlet ≡ true → me.0.writing ≡ false → Allows Kept slots id me 0 (λ n. n) (LoadsHead (step slots 0 0 0 none) me)
   loads_head empty is idle s k wide at small =
-      subst (λ (ws : List ℕ). Goes id slots me s.homes s.views k.head k.pushed k.ending k.writing k.reading k.named (sized slots s k wide) k.fits k.one_inlet k.one_outlet at 0 (slice_index ws 0) (LoadsHead (step slots 0 0 0 none) me (slice_index ws 0)) ws)
+      subst (λ (ws : List ℕ). KeepsRule id slots me s k wide at 0 (slice_index ws 0) (LoadsHead (step slots 0 0 0 none) me (slice_index ws 0)) ws)
       (sym k.words)
-      (head_at id slots me s.homes s.views k.head k.pushed k.ending k.writing k.reading k.named (sized slots s k wide) k.fits k.one_inlet k.one_outlet at empty is idle)
+      (head_at id slots me s k wide at empty is idle)
 
   stores_next : (x : Item) → me.1 ≡ (length me.0.pushed % slots, Some x) ∷ [] → me.0.inlet ≡ true → me.0.writing ≡ true → me.0.ended ≡ None
       → Allows Kept slots id me 1 (λ _. length me.0.pushed + 1) (λ _. StoresTail (step slots 1 (length me.0.pushed + 1) 0 none) me (length me.0.pushed + 1))
   stores_next x carried is busy open_ s k wide at small =
-      subst (λ (ws : List ℕ). Goes id slots me s.homes s.views k.head k.pushed k.ending k.writing k.reading k.named (sized slots s k wide) k.fits k.one_inlet k.one_outlet at 1 (length me.0.pushed + 1) (StoresTail (step slots 1 (length me.0.pushed + 1) 0 none) me (length me.0.pushed + 1)) ws)
+      subst (λ (ws : List ℕ). KeepsRule id slots me s k wide at 1 (length me.0.pushed + 1) (StoresTail (step slots 1 (length me.0.pushed + 1) 0 none) me (length me.0.pushed + 1)) ws)
       (sym k.words)
-      (tail_put id slots me s.homes s.views k.head k.pushed k.ending k.writing k.reading k.named (sized slots s k wide) k.fits k.one_inlet k.one_outlet at x carried is busy open_)
+      (tail_put id slots me s k wide at x carried is busy open_)
 
   pub stores_tail : (n i cap : ℕ) (x : Item) → n ≡ length me.0.pushed → cap ≡ slots → me.1 ≡ (n % cap, Some x) ∷ [] → me.0.inlet ≡ true → me.0.writing ≡ true → me.0.ended ≡ None
       → Allows Kept slots id me 1 (λ _. n + 1) (λ _. StoresTail (step slots 1 (n + 1) 0 none) me (n + 1))
@@ -273,28 +313,28 @@ module _ (id slots : ℕ) (me : Seated) where
 module _ (id slots : ℕ) (me : Seated) where
   pub stores_end : (n : ℕ) (e : End) → n ≡ end_number (Some e) → e ≢ Left → me.0.inlet ≡ true → me.0.ended ≡ None → Allows Kept slots id me 2 (λ _. n) (λ _. StoresEnd (step slots 2 n 0 none) me n)
   stores_end n e means right is open_ s k wide at small =
-      subst (λ (ws : List ℕ). Goes id slots me s.homes s.views k.head k.pushed k.ending k.writing k.reading k.named (sized slots s k wide) k.fits k.one_inlet k.one_outlet at 2 n (StoresEnd (step slots 2 n 0 none) me n) ws)
+      subst (λ (ws : List ℕ). KeepsRule id slots me s k wide at 2 n (StoresEnd (step slots 2 n 0 none) me n) ws)
       (sym k.words)
-      (end_put id slots me s.homes s.views k.head k.pushed k.ending k.writing k.reading k.named (sized slots s k wide) k.fits k.one_inlet k.one_outlet at n e means right is open_)
+      (end_put id slots me s k wide at n e means right is open_)
 
 module _ (id slots : ℕ) (me : Seated) (is : me.0.outlet ≡ true) where
   pub loads_end : Allows Kept slots id me 2 (λ n. n) (LoadsEnd (step slots 2 0 0 none) me)
   loads_end s k wide at small =
-      subst (λ (ws : List ℕ). Goes id slots me s.homes s.views k.head k.pushed k.ending k.writing k.reading k.named (sized slots s k wide) k.fits k.one_inlet k.one_outlet at 2 (slice_index ws 2) (LoadsEnd (step slots 2 0 0 none) me (slice_index ws 2)) ws)
+      subst (λ (ws : List ℕ). KeepsRule id slots me s k wide at 2 (slice_index ws 2) (LoadsEnd (step slots 2 0 0 none) me (slice_index ws 2)) ws)
       (sym k.words)
-      (end_asked id slots me s.homes s.views k.head k.pushed k.ending k.writing k.reading k.named (sized slots s k wide) k.fits k.one_inlet k.one_outlet at is)
+      (end_asked id slots me s k wide at is)
 
   pub loads_tail : me.1 ≡ [] → me.0.reading ≡ false → Allows Kept slots id me 1 (λ n. n) (LoadsTail (step slots 1 0 0 none) me)
   loads_tail empty idle s k wide at small =
-      subst (λ (ws : List ℕ). Goes id slots me s.homes s.views k.head k.pushed k.ending k.writing k.reading k.named (sized slots s k wide) k.fits k.one_inlet k.one_outlet at 1 (slice_index ws 1) (LoadsTail (step slots 1 0 0 none) me (slice_index ws 1)) ws)
+      subst (λ (ws : List ℕ). KeepsRule id slots me s k wide at 1 (slice_index ws 1) (LoadsTail (step slots 1 0 0 none) me (slice_index ws 1)) ws)
       (sym k.words)
-      (tail_at id slots me s.homes s.views k.head k.pushed k.ending k.writing k.reading k.named (sized slots s k wide) k.fits k.one_inlet k.one_outlet at is empty idle)
+      (tail_at id slots me s k wide at is empty idle)
 
   pub stores_head_of : (n cap : ℕ) → n + 1 ≡ length me.0.given → cap ≡ slots → me.1 ≡ (n % cap, None) ∷ [] → me.0.reading ≡ true → Allows Kept slots id me 0 (λ _. n + 1) (λ _. StoresHead (step slots 0 (n + 1) 0 none) me (n + 1))
   stores_head_of n cap counted e carried busy s k wide at small =
-      subst (λ (ws : List ℕ). Goes id slots me s.homes s.views k.head k.pushed k.ending k.writing k.reading k.named (sized slots s k wide) k.fits k.one_inlet k.one_outlet at 0 (n + 1) (StoresHead (step slots 0 (n + 1) 0 none) me (n + 1)) ws)
+      subst (λ (ws : List ℕ). KeepsRule id slots me s k wide at 0 (n + 1) (StoresHead (step slots 0 (n + 1) 0 none) me (n + 1)) ws)
       (sym k.words)
-      (head_freed id slots me s.homes s.views k.head k.pushed k.ending k.writing k.reading k.named (sized slots s k wide) k.fits k.one_inlet k.one_outlet at is n counted (carried ∙ ap (λ (m : ℕ). (n % m, None) ∷ []) e) busy)
+      (head_freed id slots me s k wide at is n counted (carried ∙ ap (λ (m : ℕ). (n % m, None) ∷ []) e) busy)
 
 -- the slot in hand after a load of the tail that found more
 pub item_in_hand : (slots n taken cap : ℕ) (v w : Seated) → LoadsTail (step slots 1 0 0 none) v n w → n ≢ taken → taken ≡ length v.0.given → cap ≡ slots → (x : Option Item) × (w.1 ≡ (taken % cap, x) ∷ Rattle.atomic_table.specs.Table.rest w.1)
@@ -314,57 +354,3 @@ stores_head id slots n taken cap v w u h more e f is after =
     let list : length u.0.given ≡ length (v.0.given ++ got.1 ∷ []) = ap (λ (m : Seated). length m.0.given) now ∙ ap (λ (m : Seated). length m.0.given) got.3 in
     let counted : taken + 1 ≡ length u.0.given = omega (arith, list, e, length-append v.0.given (got.1 ∷ [])) in
     stores_head_of id slots u is' taken cap counted f (ap (λ (m : Seated). m.1) now) busy
-
-abbrev vacant : Option Item
-vacant = None
-
-vacant_at : (n i : ℕ) → i < n → get_elem? (map some (replicate n vacant)) i ≡ some (some vacant)
-vacant_at zero i h = absurd (omega arith)
-vacant_at (suc n) zero h = refl
-vacant_at (suc n) (suc i) h = vacant_at n i (omega arith)
-
-pub opens : (cap : ℕ) → 0 < cap → Kept (opening (0 ∷ 0 ∷ 0 ∷ []) (replicate cap None) first_view)
-opens cap pos =
-    record {
-      cap = cap;
-      head = 0;
-      pushed = [];
-      ending = None;
-      writing = false;
-      reading = false;
-      words = refl;
-      named = λ e. cc;
-      stored = record {
-        size = length-map (replicate cap vacant) some ∙ length-replicate cap vacant;
-        some_slot = pos;
-        behind = omega arith;
-        within = omega arith;
-        writes = λ bad. absurd (not_both (sym bad));
-        full = λ p x _ _ at. absurd (some-ne-none x (sym at));
-        free = λ p _ _ _. vacant_at cap (p % cap) (mod-lt p pos);
-      };
-      fits = λ id v at. subst (Fits 0 [] None false false) (single first_view id v at).1 (record { begins = ([], refl); gave = ([], refl); low = omega arith; heard = λ e bad. absurd cc; recalls = λ i e bad. absurd (some-ne-none (Ending (Some e)) (sym bad)); whole = λ bad. absurd (not_both (sym bad)); inlet = λ _. (refl, refl, refl); outlet = λ _. (refl, refl) });
-      one_inlet = λ i j v w at at2 _ _. (single first_view i v at).0 ∙ sym (single first_view j w at2).0;
-      one_outlet = λ i j v w at at2 _ _. (single first_view i v at).0 ∙ sym (single first_view j w at2).0;
-    }
-
--- a seat that was both stores_end becomes one of each
-pub cuts_in_two : (id : ℕ) (v : View) → v.inlet ≡ true → v.outlet ≡ true → Splits Kept id v (inlet_part v) (outlet_part v)
-cuts_in_two id v is os s k at =
-    let mine = k.fits id v at in
-    let left : Fits k.head k.pushed k.ending k.writing k.reading (inlet_part v) = record { begins = mine.begins; gave = mine.gave; low = mine.low; heard = mine.heard; recalls = mine.recalls; whole = mine.whole; inlet = mine.inlet; outlet = λ bad. absurd (not_both (sym bad)) } in
-    let right : Fits k.head k.pushed k.ending k.writing k.reading (outlet_part v) = record { begins = mine.begins; gave = mine.gave; low = mine.low; heard = mine.heard; recalls = mine.recalls; whole = mine.whole; inlet = λ bad. absurd (not_both (sym bad)); outlet = mine.outlet } in
-    record {
-      cap = k.cap;
-      head = k.head;
-      pushed = k.pushed;
-      ending = k.ending;
-      writing = k.writing;
-      reading = k.reading;
-      words = k.words;
-      named = k.named;
-      stored = k.stored;
-      fits = split_all s.views id (inlet_part v) (outlet_part v) (Fits k.head k.pushed k.ending k.writing k.reading) left right k.fits;
-      one_inlet = one_split is_inlet s.views id v at k.one_inlet (inlet_part v) (outlet_part v) (λ h. h) (λ bad. absurd (not_both (sym bad)));
-      one_outlet = one_split is_outlet s.views id v at k.one_outlet (inlet_part v) (outlet_part v) (λ _. os) (λ _. (os, refl));
-    }

@@ -1,5 +1,6 @@
 mod Counting
-mod Slots
-mod Views
 mod Keeping
 mod Notes
+mod Opening
+mod Slots
+mod Views

@@ -1,4 +1,4 @@
--- Notes between the two stores_end keep the rule, and what the stores_end know of each other after them.
+-- Notes between the two ends keep the rule, and what the ends know of each other after them.
 use Rattle.std.proofs.Common.{◌≡◌, ℕ, ◌≤◌, Bool, true, false, List, [], ◌∷◌, ◌++◌, length, drop, set, is_some, Option, Some, None, refl, sym, ◌∙◌, ap, subst, arith, append-nil, slice_index}
 use Rattle.std.proofs.lemmas.List.{drop_at}
 use mathlib.Core.Option.{some, none, some-ne-none}
@@ -10,7 +10,8 @@ use Rattle.bsc_ring.specs.declared.found.Found.TheVariants.{Ending}
 use Rattle.bsc_ring.specs.declared.view.View.{View}
 use Rattle.bsc_ring.specs.Lists.{Item, StartsWith}
 use Rattle.bsc_ring.specs.Rule.{count_given, Fits, is_inlet, is_outlet, Kept}
-use Rattle.bsc_ring.specs.Told.{Seated, longer, either_end, note, spent_view, inlet_note, outlet_note, inlet_hears, outlet_hears, Truths, Confirms, inlet_met, outlet_met, Agree}
+use Rattle.bsc_ring.specs.Effects.{Seated, longer, either_end, note, spent_view, inlet_note, outlet_note, inlet_hears, outlet_hears, IsConsistent, Confirms, inlet_met, outlet_met, Agree}
+use Rattle.bsc_ring.proofs.Keeping.{other_views}
 use Rattle.bsc_ring.proofs.Slots.{not_both}
 use Rattle.bsc_ring.proofs.Views.{starts_trans, changed, split_all, one_after, one_split}
 
@@ -50,22 +51,12 @@ module _ (s : State (Option Item) View) (k : Kept s) where
   noted : (id : ℕ) (v : View) (least : ℕ) (known : List Item) (whole : Bool) (heard : Option End) → get_elem? s.views id ≡ some v → StartsWith k.pushed known → least ≤ k.head → ((e : End) → heard ≡ Some e → k.ending ≡ Some e) → (whole ≡ true → (known ≡ k.pushed) × (is_some k.ending ≡ true))
       → Kept (record { words = s.words; homes = s.homes; views = set s.views id v ++ note least known whole heard ∷ [] })
   noted id v least known whole heard at b l h t =
-      record {
-        cap = k.cap;
-        head = k.head;
-        pushed = k.pushed;
-        ending = k.ending;
-        writing = k.writing;
-        reading = k.reading;
-        words = k.words;
-        named = k.named;
-        stored = k.stored;
-        fits = split_all s.views id v (note least known whole heard) Fit (k.fits id v at)
-            (record { begins = b; gave = (known, refl); low = l; heard = h; recalls = λ i e bad. absurd (some-ne-none (Ending (Some e)) (sym bad)); whole = t; inlet = λ bad. absurd (not_both (sym bad)); outlet = λ bad. absurd (not_both (sym bad)) })
-            k.fits;
-        one_inlet = one_split is_inlet s.views id v at k.one_inlet v (note least known whole heard) (λ h. h) (λ bad. absurd (not_both (sym bad)));
-        one_outlet = one_split is_outlet s.views id v at k.one_outlet v (note least known whole heard) (λ h. h) (λ bad. absurd (not_both (sym bad)));
-      }
+      other_views s k s.words k.words (set s.views id v ++ note least known whole heard ∷ [])
+      (split_all s.views id v (note least known whole heard) Fit (k.fits id v at)
+      (record { begins = b; gave = (known, refl); low = l; heard = h; recalls = λ i e bad. absurd (some-ne-none (Ending (Some e)) (sym bad)); whole = t; inlet = λ bad. absurd (not_both (sym bad)); outlet = λ bad. absurd (not_both (sym bad)) })
+      k.fits)
+      (one_split is_inlet s.views id v at k.one_inlet v (note least known whole heard) (λ h. h) (λ bad. absurd (not_both (sym bad))))
+      (one_split is_outlet s.views id v at k.one_outlet v (note least known whole heard) (λ h. h) (λ bad. absurd (not_both (sym bad))))
 
   spent_fits : Fit spent_view
   spent_fits = record { begins = (k.pushed, refl); gave = ([], refl); low = omega arith; heard = λ e bad. absurd (let clash : None ≡ Some e = bad in cc); recalls = λ i e bad. absurd (some-ne-none (Ending (Some e)) (sym bad)); whole = λ bad. absurd (not_both (sym bad)); inlet = λ bad. absurd (not_both (sym bad)); outlet = λ bad. absurd (not_both (sym bad)) }
@@ -102,20 +93,10 @@ module _ (s : State (Option Item) View) (k : Kept s) where
   joined id v other w both at apart there_ fit i o =
       let there' : get_elem? s.views other ≡ some w = sym (set_else s.views id other both apart) ∙ there_ in
       let fits' = changed s.views id both Fit (fit (k.fits id v at) (k.fits other w there')) (λ j x _ got. k.fits j x got) in
-      record {
-        cap = k.cap;
-        head = k.head;
-        pushed = k.pushed;
-        ending = k.ending;
-        writing = k.writing;
-        reading = k.reading;
-        words = k.words;
-        named = k.named;
-        stored = k.stored;
-        fits = changed (set s.views id both) other spent_view Fit spent_fits (λ j x _ got. fits' j x got);
-        one_inlet = one_after is_inlet (set s.views id both) other w there_ (one_after is_inlet s.views id v at k.one_inlet both i) spent_view (λ bad. absurd (not_both (sym bad)));
-        one_outlet = one_after is_outlet (set s.views id both) other w there_ (one_after is_outlet s.views id v at k.one_outlet both o) spent_view (λ bad. absurd (not_both (sym bad)));
-      }
+      other_views s k s.words k.words (set (set s.views id both) other spent_view)
+      (changed (set s.views id both) other spent_view Fit spent_fits (λ j x _ got. fits' j x got))
+      (one_after is_inlet (set s.views id both) other w there_ (one_after is_inlet s.views id v at k.one_inlet both i) spent_view (λ bad. absurd (not_both (sym bad))))
+      (one_after is_outlet (set s.views id both) other w there_ (one_after is_outlet s.views id v at k.one_outlet both o) spent_view (λ bad. absurd (not_both (sym bad))))
 
 pub notes_inlet : (id : ℕ) (v : View) → v.inlet ≡ true → Splits Kept id v v (inlet_note v)
 notes_inlet id v is s k at =
@@ -136,8 +117,8 @@ joins_inlet id v other w not_outlet s k at apart there_ = joined s k id v other 
 pub joins_outlet : (id : ℕ) (v : View) (other : ℕ) (w : View) → Joins Kept id v other w (outlet_hears v w) spent_view
 joins_outlet id v other w s k at apart there_ = joined s k id v other w (outlet_hears v w) at apart there_ (heard_fits s k v w) (λ h. h) (λ h. h)
 
-truths : (s : State (Option Item) View) (k : Kept s) (id : ℕ) (v : View) → get_elem? s.views id ≡ some v → Truths v
-truths s k id v at =
+consistent : (s : State (Option Item) View) (k : Kept s) (id : ℕ) (v : View) → get_elem? s.views id ≡ some v → IsConsistent v
+consistent s k id v at =
     let mine = k.fits id v at in (
       mine.gave,
       mine.recalls,
@@ -151,23 +132,13 @@ truths s k id v at =
 pub confirms : (id slots : ℕ) (me : Seated) → Allows Kept slots id me 0 (λ n. n) (Confirms (step slots 0 0 0 none) me)
 confirms id slots me s k wide at small =
     let kept : Kept (record { words = set s.words 0 (slice_index s.words 0); homes = s.homes; views = set s.views id me.0 }) =
-    record {
-      cap = k.cap;
-      head = k.head;
-      pushed = k.pushed;
-      ending = k.ending;
-      writing = k.writing;
-      reading = k.reading;
-      words = ap (λ (ws : List ℕ). set ws 0 (slice_index ws 0)) k.words;
-      named = k.named;
-      stored = k.stored;
-      fits = changed s.views id me.0 (Fit s k) (k.fits id me.0 at) (λ i x _ got. k.fits i x got);
-      one_inlet = one_after is_inlet s.views id me.0 at k.one_inlet me.0 (λ h. h);
-      one_outlet = one_after is_outlet s.views id me.0 at k.one_outlet me.0 (λ h. h);
-    } in
-    (me.0, keeps, tt, kept, (refl, truths s k id me.0 at))
+    other_views s k (set s.words 0 (slice_index s.words 0)) (ap (λ (ws : List ℕ). set ws 0 (slice_index ws 0)) k.words) (set s.views id me.0)
+    (changed s.views id me.0 (Fit s k) (k.fits id me.0 at) (λ i x _ got. k.fits i x got))
+    (one_after is_inlet s.views id me.0 at k.one_inlet me.0 (λ h. h))
+    (one_after is_outlet s.views id me.0 at k.one_outlet me.0 (λ h. h)) in
+    (me.0, keeps, tt, kept, (refl, consistent s k id me.0 at))
 
-pub agrees : (v w : View) → v.inlet ≡ true → w.outlet ≡ true → w.reading ≡ false → Truths (inlet_met v w) → Truths (outlet_met v w) → Agree v w (inlet_met v w) (outlet_met v w)
+pub agrees : (v w : View) → v.inlet ≡ true → w.outlet ≡ true → w.reading ≡ false → IsConsistent (inlet_met v w) → IsConsistent (outlet_met v w) → Agree v w (inlet_met v w) (outlet_met v w)
 agrees v w is os idle t u =
     let a = t.2 is in
     let b = u.3 os idle in

@@ -5,7 +5,7 @@ use lib.ListN.{get_elem?}
 use Rattle.atomic_table.proofs.Lists.{at_set}
 use Rattle.bsc_ring.specs.declared.view.View.{View}
 use Rattle.bsc_ring.specs.Lists.{Item, StartsWith}
-use Rattle.bsc_ring.specs.Rule.{One}
+use Rattle.bsc_ring.specs.Rule.{AtMostOne}
 use Rattle.bsc_ring.proofs.Slots.{not_both}
 
 pub single : {A : Type 0} (x : A) (i : ℕ) (y : A) → get_elem? (x ∷ []) i ≡ some y → (i ≡ 0) × (x ≡ y)
@@ -54,7 +54,7 @@ pub split_all : (views : List View) (id : ℕ) (left right : View) (P : View →
 split_all views id left right P a b all i x got =
     ⊎_elim (λ h. changed views id left P a (λ j y _ there. all j y there) i x h) (λ h. subst P h.1 b) (at_end (set views id left) right x i got)
 
-module _ (part : View → Bool) (views : List View) (id : ℕ) (v : View) (at : get_elem? views id ≡ some v) (one : One part views) where
+module _ (part : View → Bool) (views : List View) (id : ℕ) (v : View) (at : get_elem? views id ≡ some v) (one : AtMostOne part views) where
   -- who has the part after the change had it before
   had : (w : View) → (part w ≡ true → part v ≡ true) → (i : ℕ) (x : View) → get_elem? (set views id w) i ≡ some x → part x ≡ true → (y : View) × (get_elem? views i ≡ some y) × (part y ≡ true)
   had w keeps i x got has =
@@ -63,13 +63,13 @@ module _ (part : View → Bool) (views : List View) (id : ℕ) (v : View) (at : 
       (λ h. (x, h.1, has))
       (at_set views id i w x got)
 
-  pub one_after : (w : View) → (part w ≡ true → part v ≡ true) → One part (set views id w)
+  pub one_after : (w : View) → (part w ≡ true → part v ≡ true) → AtMostOne part (set views id w)
   one_after w keeps i j x y ai aj xi yj =
       let a = had w keeps i x ai xi in
       let b = had w keeps j y aj yj in
       one i j a.0 b.0 a.1 b.1 a.2 b.2
 
-  pub one_split : (left right : View) → (part left ≡ true → part v ≡ true) → (part right ≡ true → (part v ≡ true) × (part left ≡ false)) → One part (set views id left ++ right ∷ [])
+  pub one_split : (left right : View) → (part left ≡ true → part v ≡ true) → (part right ≡ true → (part v ≡ true) × (part left ≡ false)) → AtMostOne part (set views id left ++ right ∷ [])
   one_split left right keeps gets i j x y ai aj xi yj =
       let nobody : part right ≡ true → (k : ℕ) (z : View) → get_elem? (set views id left) k ≡ some z → part z ≡ true → ⊥ =
       λ r k z got has.

@@ -1,4 +1,4 @@
 pub mod Lists
 pub mod Rule
-pub mod Told
+pub mod Effects
 pub mod Ends

@@ -1,6 +1,6 @@
 -- The rule of the ring: what holds of its words, its slots and what its seats know, between any two steps.
--- Word 0 is the head, word 1 the tail, word 2 the end. A place is a number in the list of all pushed items,
--- and the item at the place p lies in the slot p % cap.
+-- The words stand in the order of their places: head, tail, end. An item's place is the number of items pushed
+-- before it, and the item of the place p lies in the slot p % cap.
 use Rattle.std.specs.Prelude.{◌≡◌, ◌≢◌, ℕ, suc, ◌+◌, ◌%◌, ◌<◌, ◌≤◌, ◌==◌, if◌then◌else◌, Bool, true, false, List, [], ◌∷◌, length, is_some, Option, Some, None}
 use mathlib.Core.Option.{some}
 use mathlib.Core.Option as maybe
@@ -59,10 +59,11 @@ abbrev pub Recalls : View → Type 0
 Recalls v = (i : ℕ) (e : End) → get_elem? v.found i ≡ some (Ending (Some e)) → v.heard ≡ Some e
 
 -- What a seat knows is true of the head, of what was pushed and of the End: the known items were pushed, the
--- given ones are the first of them, so many as `least` are taken, the End that was heard is set, and where
+-- given ones are the first of them, as many as `least` are taken, the End that was heard is set, and where
 -- the view is whole nothing more is pushed. An inlet's view has the very list and the very End, and an
 -- outlet's as many given items as the head says.
-pub record Fits (head : ℕ) (pushed : List Item) (ending : Option End) (writing reading : Bool) (v : View) : Type 0 where
+pub record Fits
+    (head : ℕ) (pushed : List Item) (ending : Option End) (writing reading : Bool) (v : View) : Type 0 where
   pub begins : StartsWith pushed v.known
   pub gave : StartsWith v.known v.given
   pub low : v.least ≤ head
@@ -73,8 +74,8 @@ pub record Fits (head : ℕ) (pushed : List Item) (ending : Option End) (writing
   pub outlet : v.outlet ≡ true → (length v.given ≡ count_given reading head) × (v.reading ≡ reading)
 
 -- At most one view has the part.
-abbrev pub One : (View → Bool) → List View → Type 0
-One part views = (i j : ℕ) (v w : View)
+abbrev pub AtMostOne : (View → Bool) → List View → Type 0
+AtMostOne part views = (i j : ℕ) (v w : View)
     → get_elem? views i ≡ some v → get_elem? views j ≡ some w
     → part v ≡ true → part w ≡ true → i ≡ j
 
@@ -100,8 +101,8 @@ pub record Kept (s : State (Option Item) View) : Type 0 where
   pub stored : Stored cap head pushed writing reading s.homes
   pub fits : (id : ℕ) (v : View)
       → get_elem? s.views id ≡ some v → Fits head pushed ending writing reading v
-  pub one_inlet : One is_inlet s.views
-  pub one_outlet : One is_outlet s.views
+  pub one_inlet : AtMostOne is_inlet s.views
+  pub one_outlet : AtMostOne is_outlet s.views
 
 -- The view of a table's first seat, which is both ends.
 abbrev pub first_view : View

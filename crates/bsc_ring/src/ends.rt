@@ -2,7 +2,7 @@
 ghost use Rattle.std.specs.Prelude.{◌≡◌, ◌≤◌, length};
 ghost use Rattle.std.specs.Arc.{arc_value};
 ghost use Rattle.bsc_ring.specs.Lists.{newest};
-ghost use Rattle.bsc_ring.specs.Told.{InletRests, OutletRests};
+ghost use Rattle.bsc_ring.specs.Effects.{InletRests, OutletRests};
 
 use crate::plays::{RingSeat, RingTable};
 use std::sync::Arc;
@@ -23,7 +23,7 @@ pub struct Inlet {
     ghost rests: { InletRests seat.me },
     // `sent` counts the items that were pushed.
     ghost counts: { sent ≡ length seat.me.0.pushed },
-    // The newest load is one of the numbers of which it is known that so many were taken.
+    // At least as many items are known to be taken as the newest load found.
     ghost newest: { newest seat.me.0.loads ≤ seat.me.0.least },
 }
 

@@ -20,6 +20,7 @@ mod taking;
 #[cfg(test)]
 mod tests;
 mod view;
+mod words;
 
 pub use ends::{Inlet, Outlet};
 pub use found::Found;

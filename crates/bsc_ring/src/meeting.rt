@@ -7,8 +7,8 @@ use crate::remains::Remains;
 use crate::steps::tell_each_other;
 
 impl Inlet {
-    /// Tells each end what the other knows: what was pushed until now is found by each later take, and what
-    /// was taken by each later push.
+    /// Tells each end what the other knows: each later take finds what was pushed until now, and each later
+    /// push loads no less than was taken until now.
     pub fn meet(&mut self, outlet: &mut Outlet)
         requires { inlet_mark self.old ≡ outlet_mark outlet.old }
         ensures fit { Fit self.old outlet.old }

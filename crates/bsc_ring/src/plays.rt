@@ -1,6 +1,6 @@
-//! The ring's table: its rule, and what each kind of step tells the seat that makes it.
+//! The ring's table: its rule, and what each kind of step does to the seat that makes it.
 //!
-//! The table has three words (0 the head, 1 the tail, 2 the end) and a slot for each item of the capacity.
+//! `words` names the table's words. It has a slot for each item of the capacity.
 use crate::view::View;
 use atomic_table::{Join, Play, Seat, Split, Table, TableRule};
 use bsc_octets::Octets;
@@ -27,7 +27,7 @@ impl TableRule<Option<Octets>, View, ()> for RingRule {
 pub struct LoadHead;
 
 impl Play<Option<Octets>, View> for LoadHead {
-    ghost use Rattle.bsc_ring.specs.Told.{LoadsHead};
+    ghost use Rattle.bsc_ring.specs.Effects.{LoadsHead};
 
     ghost then = { LoadsHead };
 }
@@ -36,7 +36,7 @@ impl Play<Option<Octets>, View> for LoadHead {
 pub struct StoreTail;
 
 impl Play<Option<Octets>, View> for StoreTail {
-    ghost use Rattle.bsc_ring.specs.Told.{StoresTail};
+    ghost use Rattle.bsc_ring.specs.Effects.{StoresTail};
 
     ghost then = { StoresTail };
 }
@@ -45,7 +45,7 @@ impl Play<Option<Octets>, View> for StoreTail {
 pub struct LoadEnd;
 
 impl Play<Option<Octets>, View> for LoadEnd {
-    ghost use Rattle.bsc_ring.specs.Told.{LoadsEnd};
+    ghost use Rattle.bsc_ring.specs.Effects.{LoadsEnd};
 
     ghost then = { LoadsEnd };
 }
@@ -54,7 +54,7 @@ impl Play<Option<Octets>, View> for LoadEnd {
 pub struct LoadTail;
 
 impl Play<Option<Octets>, View> for LoadTail {
-    ghost use Rattle.bsc_ring.specs.Told.{LoadsTail};
+    ghost use Rattle.bsc_ring.specs.Effects.{LoadsTail};
 
     ghost then = { LoadsTail };
 }
@@ -63,7 +63,7 @@ impl Play<Option<Octets>, View> for LoadTail {
 pub struct StoreHead;
 
 impl Play<Option<Octets>, View> for StoreHead {
-    ghost use Rattle.bsc_ring.specs.Told.{StoresHead};
+    ghost use Rattle.bsc_ring.specs.Effects.{StoresHead};
 
     ghost then = { StoresHead };
 }
@@ -72,16 +72,16 @@ impl Play<Option<Octets>, View> for StoreHead {
 pub struct StoreEnd;
 
 impl Play<Option<Octets>, View> for StoreEnd {
-    ghost use Rattle.bsc_ring.specs.Told.{StoresEnd};
+    ghost use Rattle.bsc_ring.specs.Effects.{StoresEnd};
 
     ghost then = { StoresEnd };
 }
 
-/// A load after which a seat has at hand what the rule says of its own view.
+/// A load that changes nothing. What the rule says of the seat's own view is known after it.
 pub struct Confirm;
 
 impl Play<Option<Octets>, View> for Confirm {
-    ghost use Rattle.bsc_ring.specs.Told.{Confirms};
+    ghost use Rattle.bsc_ring.specs.Effects.{Confirms};
 
     ghost then = { Confirms };
 }
@@ -97,44 +97,44 @@ impl Split<View> for IntoEnds {
     ghost right = { outlet_part };
 }
 
-/// A note of what the inlet knows.
+/// A new seat begins, with a note of what the inlet knows.
 pub struct InletNote;
 
 impl Split<View> for InletNote {
-    ghost use Rattle.bsc_ring.specs.Told.{inlet_note};
+    ghost use Rattle.bsc_ring.specs.Effects.{inlet_note};
 
     ghost left = { λ v. v };
 
     ghost right = { inlet_note };
 }
 
-/// A note of what the outlet knows.
+/// A new seat begins, with a note of what the outlet knows.
 pub struct OutletNote;
 
 impl Split<View> for OutletNote {
-    ghost use Rattle.bsc_ring.specs.Told.{outlet_note};
+    ghost use Rattle.bsc_ring.specs.Effects.{outlet_note};
 
     ghost left = { λ v. v };
 
     ghost right = { outlet_note };
 }
 
-/// The inlet takes in an outlet's note.
+/// An outlet's note ends, and the inlet keeps what it said.
 pub struct InletHears;
 
 impl Join<View> for InletHears {
-    ghost use Rattle.bsc_ring.specs.Told.{inlet_hears, spent_view};
+    ghost use Rattle.bsc_ring.specs.Effects.{inlet_hears, spent_view};
 
     ghost both = { inlet_hears };
 
     ghost spent = { spent_view };
 }
 
-/// The outlet takes in an inlet's note.
+/// An inlet's note ends, and the outlet keeps what it said.
 pub struct OutletHears;
 
 impl Join<View> for OutletHears {
-    ghost use Rattle.bsc_ring.specs.Told.{outlet_hears, spent_view};
+    ghost use Rattle.bsc_ring.specs.Effects.{outlet_hears, spent_view};
 
     ghost both = { outlet_hears };
 

@@ -14,7 +14,7 @@ impl Inlet {
     #[tactic(auto, using(crate::proofs::Counting::newest_last, crate::proofs::Counting::length_more))]
     pub fn push(&mut self, frame: Octets) -> Result<u64, (Octets, u64)>
         requires open { ending_of self.old ≡ None }
-        requires few { length (pushed self.old) < 2 ^ 63 }
+        requires in_range { length (pushed self.old) < 2 ^ 63 }
 
         // It loads the head once, and the number that is found is the one that is answered.
         ensures load { IfOk result (λ head. Loaded self.old head self.new) }

@@ -7,12 +7,13 @@ ghost use Rattle.bsc_history.specs.declared.ending.End.{End};
 ghost use Rattle.bsc_history.specs.declared.ending.End.TheVariants.{Left};
 ghost use Rattle.bsc_ring.specs.Lists.{Item, StartsWith};
 ghost use Rattle.bsc_ring.specs.Rule.{end_in, end_number, first_view, inlet_part, outlet_part};
-ghost use Rattle.bsc_ring.specs.Told.{Agree, InletRests, OutletRests, TakesNext, after_end, after_finish, after_load, after_none, after_push, after_take, inlet_met, outlet_met};
+ghost use Rattle.bsc_ring.specs.Effects.{Agree, InletRests, OutletRests, TakesNext, after_end, after_finish, after_load, after_none, after_push, after_take, inlet_met, outlet_met};
 
 use crate::plays::{
     Confirm, InletHears, InletNote, IntoEnds, LoadEnd, LoadHead, LoadTail, OutletHears, OutletNote,
     RingSeat, RingTable, StoreEnd, StoreHead, StoreTail,
 };
+use crate::words::{END_WORD, HEAD_WORD, TAIL_WORD};
 use atomic_table::Table;
 use bsc_history::End;
 use bsc_octets::{NoMemory, Octets};
@@ -48,7 +49,7 @@ pub(crate) fn put_in(
     requires sized { (seat.old.table_id.words ≡ 3) × (seat.old.table_id.slots ≡ capacity) }
     requires bounds { (2 ≤ capacity) × (capacity ≤ 1024) }
     requires rests { InletRests seat.old.me × (sent ≡ length seat.old.me.0.pushed) }
-    requires few { sent < 2 ^ 63 }
+    requires in_range { sent < 2 ^ 63 }
     requires open { seat.old.me.0.ended ≡ None }
     ensures placed { seat.new.table_id ≡ seat.old.table_id }
     ensures ok { IfOk result (λ n. (seat.old.me.0.least ≤ n) × (n ≤ sent) × (sent < n + capacity)
@@ -56,7 +57,7 @@ pub(crate) fn put_in(
     ensures full { IfErr result (λ e. (e.0 ≡ frame) × (seat.old.me.0.least ≤ e.1) × (e.1 ≤ sent)
         × (sent ≡ e.1 + capacity) × (seat.new.me ≡ (after_load e.1 seat.old.me.0, []))) }
 {
-    let head = table.shared.load::<LoadHead>(seat, 0);
+    let head = table.shared.load::<LoadHead>(seat, HEAD_WORD);
     if sent - head == capacity {
         return Err((frame, head));
     }
@@ -65,7 +66,7 @@ pub(crate) fn put_in(
         None => {}
         Some(_) => unreachable!(),
     }
-    table.shared.store::<StoreTail>(seat, 1, sent + 1);
+    table.shared.store::<StoreTail>(seat, TAIL_WORD, sent + 1);
     Ok(head)
 }
 
@@ -108,7 +109,7 @@ pub(crate) fn load_end(table: &RingTable, seat: &mut RingSeat) -> Option<End>
     ensures stays { (e : End) → seat.old.me.0.heard ≡ Some e → result ≡ Some e }
     ensures seen { seat.new.me ≡ (after_end result seat.old.me.0, []) }
 {
-    let found = table.shared.load::<LoadEnd>(seat, 2);
+    let found = table.shared.load::<LoadEnd>(seat, END_WORD);
     end_of(found)
 }
 
@@ -130,13 +131,13 @@ pub(crate) fn take_next(
     ensures some { IfSome result (λ x. (k : List Item) × (n : ℕ) × (n < 2 ^ 64)
         × TakesNext k n x seat.old.me.0 × (seat.new.me ≡ (after_take k n x seat.old.me.0, []))) }
 {
-    let tail = table.shared.load::<LoadTail>(seat, 1);
+    let tail = table.shared.load::<LoadTail>(seat, TAIL_WORD);
     if tail == taken {
         return None;
     }
     let slot = (taken % capacity) as usize;
     let item = table.shared.exchange(seat, slot, None);
-    table.shared.store::<StoreHead>(seat, 0, taken + 1);
+    table.shared.store::<StoreHead>(seat, HEAD_WORD, taken + 1);
     match item {
         Some(frame) => Some(frame),
         None => unreachable!(),
@@ -152,11 +153,14 @@ pub(crate) fn store_end(table: &RingTable, seat: &mut RingSeat, ending: End)
     ensures placed { seat.new.table_id ≡ seat.old.table_id }
     ensures ended { seat.new.me ≡ (after_finish ending seat.old.me.0, []) }
 {
-    table.shared.store::<StoreEnd>(seat, 2, number_of(ending));
+    table
+        .shared
+        .store::<StoreEnd>(seat, END_WORD, number_of(ending));
 }
 
-/// Tells each end what the other knows. The inlet takes in a note of the outlet's and confirms its view by
-/// a load, and then the outlet one of the inlet's. No slot moves, and nothing of this stands in a list.
+/// Tells each end what the other knows. A note of what the outlet knows goes to the inlet, which then confirms
+/// its view by a load; and then one of what the inlet knows to the outlet. No slot is taken or given back, and
+/// no load of this is kept in a list.
 pub(crate) fn tell_each_other(table: &RingTable, inlet: &mut RingSeat, outlet: &mut RingSeat)
     requires placed { (inlet.old.table_id ≡ table.now.shared.table_id)
         × (outlet.old.table_id ≡ table.now.shared.table_id) }
@@ -171,8 +175,8 @@ pub(crate) fn tell_each_other(table: &RingTable, inlet: &mut RingSeat, outlet: &
 {
     let note = table.shared.split_seat::<OutletNote>(outlet);
     table.shared.join_seat::<InletHears>(inlet, note);
-    table.shared.load::<Confirm>(inlet, 0);
+    table.shared.load::<Confirm>(inlet, HEAD_WORD);
     let note = table.shared.split_seat::<InletNote>(inlet);
     table.shared.join_seat::<OutletHears>(outlet, note);
-    table.shared.load::<Confirm>(outlet, 0);
+    table.shared.load::<Confirm>(outlet, HEAD_WORD);
 }

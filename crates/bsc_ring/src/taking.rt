@@ -7,8 +7,8 @@ use crate::steps::{load_end, take_next};
 use crate::take::Take;
 
 impl Outlet {
-    /// Takes the oldest item that wasn't taken yet. The end word is loaded before the tail, so that no item
-    /// is missed by a `Closed`.
+    /// Takes the oldest item that wasn't taken yet. The end word is loaded before the tail, so that a `Closed`
+    /// misses no item.
     pub fn take(&mut self) -> Take
         ensures took { Took self.old result self.new }
         ensures mark { outlet_mark self.new ≡ outlet_mark self.old }
@@ -36,7 +36,7 @@ impl Outlet {
         self.taken
     }
 
-    /// How many takes answered `Empty`, up to the greatest number.
+    /// How many takes answered `Empty`. The count stays at the greatest number of its type once it is there.
     pub fn empties(&self) -> u64
         ensures { result ≡ empties_of self.now }
     {

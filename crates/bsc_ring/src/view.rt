@@ -24,11 +24,11 @@ pub struct View {
     pub found: LinkedList<Found>,
     /// The outlet holds the slot at the head.
     pub reading: bool,
-    /// So many items were taken, and maybe more.
+    /// At least so many items were taken.
     pub least: u64,
-    /// These items were pushed, and maybe more.
+    /// At least these items were pushed.
     pub known: LinkedList<Octets>,
-    /// No more than the known items will be pushed.
+    /// No item but the known ones will be pushed.
     pub whole: bool,
     /// This End was set.
     pub heard: Option<End>,

@@ -6,13 +6,13 @@ use Rattle.atomic_table.specs.Table.{State, Splits}
 use Rattle.atomic_table.proofs.Lists.{set_here, at_longer}
 use Rattle.bsc_history.specs.declared.limits.About.{About}
 use Rattle.bsc_history.specs.declared.mark.Stamped.{Stamped}
-use Rattle.bsc_turn.specs.declared.stage.Stage.{Stage}
-use Rattle.bsc_turn.specs.declared.stage.Stage.TheVariants.{Holding, Drawn}
+use Rattle.bsc_turn.specs.declared.phase.SeatPhase.{SeatPhase}
+use Rattle.bsc_turn.specs.declared.phase.SeatPhase.TheVariants.{Holding, Drawn}
 use Rattle.bsc_turn.specs.declared.view.Ended.{Ended}
 use Rattle.bsc_turn.specs.declared.view.View.{View}
 use Rattle.bsc_turn.specs.Histories.{own_of}
-use Rattle.bsc_turn.specs.Rule.{holds_turn, has_state, knows_next, turn_word, number_word, At, Apart, Gone, Held, Fits, Stored, Kept}
-use Rattle.bsc_turn.specs.Told.{at_stage, next_pass}
+use Rattle.bsc_turn.specs.Rule.{holds_turn, has_state, knows_next, turn_word, number_word, At, DistinctNumbers, NoSeatOfEnded, Held, Fits, Stored, Kept}
+use Rattle.bsc_turn.specs.Effects.{in_phase, next_pass}
 use Rattle.bsc_turn.proofs.Beginnings.{own_none}
 use Rattle.bsc_turn.proofs.Views.{not_also, at_below, next_holds, at_changed, apart_after, gone_after, none_else}
 
@@ -23,8 +23,8 @@ at_end (x ∷ xs) a b zero e = inl e
 at_end (x ∷ xs) a b (suc j) e = ⊎_elim (λ h. inl h) (λ h. inr (ap suc h.0, h.1)) (at_end xs a b j e)
 
 -- as many passes were made, and one more
-fits_later : (a : About) (most made : ℕ) (log : List Stamped) (v : View) → Fits a most made log v → knows_next v.stage ≡ false → Fits a most (suc made) log v
-fits_later a most made log v f never =
+fits_later : (a : About) (limit made : ℕ) (log : List Stamped) (v : View) → Fits a limit made log v → knows_next v.phase ≡ false → Fits a limit (suc made) log v
+fits_later a limit made log v f never =
     record {
       begins = f.begins;
       about = f.about;
@@ -39,16 +39,16 @@ fits_later a most made log v f never =
       past = λ no_next lt. let p = f.past no_next lt in omega (arith, p);
     }
 
-module _ {S : Type 0} (stands : S → List Stamped → Type 0) (about : S → About) (a : About) (most id : ℕ) (v : View) (live : v.live ≡ true) (drawn : v.stage ≡ Drawn) where
-  module _ (s : State (Option S) View) (k : Kept stands about a most s) (here : get_elem? s.views id ≡ some v) where
+module _ {S : Type 0} (stands : S → List Stamped → Type 0) (about : S → About) (a : About) (limit id : ℕ) (v : View) (live : v.live ≡ true) (drawn : v.phase ≡ Drawn) where
+  module _ (s : State (Option S) View) (k : Kept stands about a limit s) (here : get_elem? s.views id ≡ some v) where
     abbrev at : At s.views id v
     at = (here, live)
 
-    abbrev mine : Fits a most k.made k.log v
+    abbrev mine : Fits a limit k.made k.log v
     mine = k.fits id v at
 
     abbrev left : View
-    left = at_stage Holding v
+    left = in_phase Holding v
 
     abbrev right : View
     right = next_pass v
@@ -56,20 +56,20 @@ module _ {S : Type 0} (stands : S → List Stamped → Type 0) (about : S → Ab
     abbrev views : List View
     views = set s.views id left ++ right ∷ []
 
-    holds : holds_turn v.stage ≡ true
-    holds = ap (λ (st : Stage). holds_turn st) drawn
+    holds : holds_turn v.phase ≡ true
+    holds = ap (λ (st : SeatPhase). holds_turn st) drawn
 
-    now : k.stage ≡ Drawn
+    now : k.phase ≡ Drawn
     now = sym (k.held.alone id v at holds).1 ∙ drawn
 
     next : v.loaded ≡ k.made
-    next = mine.next (ap (λ (st : Stage). knows_next st) drawn)
+    next = mine.next (ap (λ (st : SeatPhase). knows_next st) drawn)
 
     -- who is there: one who was, or the new one
     who : (i : ℕ) (x : View) → At views i x → (At (set s.views id left) i x) ⊎ ((i ≡ length (set s.views id left)) × (right ≡ x))
     who i x got = ⊎_elim (λ h. inl (h, got.1)) (λ h. inr h) (at_end (set s.views id left) right x i got.0)
 
-    fits_left : Fits a most (suc k.made) k.log left
+    fits_left : Fits a limit (suc k.made) k.log left
     fits_left =
         record {
           begins = mine.begins;
@@ -85,7 +85,7 @@ module _ {S : Type 0} (stands : S → List Stamped → Type 0) (about : S → Ab
           past = λ _ _. omega (arith, next);
         }
 
-    fits_right : Fits a most (suc k.made) k.log right
+    fits_right : Fits a limit (suc k.made) k.log right
     fits_right =
         let none : own_of k.log v.loaded ≡ [] = k.strangers v.loaded (omega (arith, next)) in
         record {
@@ -102,21 +102,21 @@ module _ {S : Type 0} (stands : S → List Stamped → Type 0) (about : S → Ab
           past = λ _ _. omega arith;
         }
 
-    idle_now : (i : ℕ) (x : View) → i ≢ id → At s.views i x → knows_next x.stage ≡ false
+    idle_now : (i : ℕ) (x : View) → i ≢ id → At s.views i x → knows_next x.phase ≡ false
     idle_now i x other got =
-        elim (knows_next x.stage) as (λ (b : Bool). knows_next x.stage ≡ b → b ≡ false) [
-          | true ↦ (λ has. absurd (none_else s.views id v at k.stage k.held (inl holds) i x other got (next_holds x.stage has)))
+        elim (knows_next x.phase) as (λ (b : Bool). knows_next x.phase ≡ b → b ≡ false) [
+          | true ↦ (λ has. absurd (none_else s.views id v at k.phase k.held (inl holds) i x other got (next_holds x.phase has)))
           | false ↦ (λ _. refl)
         ] refl
 
-    fits_all : (i : ℕ) (x : View) → At views i x → Fits a most (suc k.made) k.log x
+    fits_all : (i : ℕ) (x : View) → At views i x → Fits a limit (suc k.made) k.log x
     fits_all i x got =
         ⊎_elim
         (λ h. ⊎_elim
-        (λ e. subst (Fits a most (suc k.made) k.log) e.1 fits_left)
-        (λ e. fits_later a most k.made k.log x (k.fits i x e.1) (idle_now i x e.0 e.1))
+        (λ e. subst (Fits a limit (suc k.made) k.log) e.1 fits_left)
+        (λ e. fits_later a limit k.made k.log x (k.fits i x e.1) (idle_now i x e.0 e.1))
         (at_changed s.views id left i x h))
-        (λ h. subst (Fits a most (suc k.made) k.log) h.1 fits_right)
+        (λ h. subst (Fits a limit (suc k.made) k.log) h.1 fits_right)
         (who i x got)
 
     -- whoever was there has a smaller number
@@ -127,7 +127,7 @@ module _ {S : Type 0} (stands : S → List Stamped → Type 0) (about : S → Ab
         (λ e. let b = (k.fits i x e.1).below in omega (arith, b, next))
         (at_changed s.views id left i x got)
 
-    apart_all : Apart views
+    apart_all : DistinctNumbers views
     apart_all i j x y ai aj same =
         ⊎_elim
         (λ hi. ⊎_elim
@@ -140,22 +140,22 @@ module _ {S : Type 0} (stands : S → List Stamped → Type 0) (about : S → Ab
         (who j y aj))
         (who i x ai)
 
-    -- whoever was taken in has a smaller number
-    smaller_ended : (i j : ℕ) (x : View) (e : Ended) → At (set s.views id left) i x → get_elem? x.took j ≡ some e → e.number < v.loaded
-    smaller_ended i j x e got took =
+    -- whoever ended has a smaller number
+    smaller_ended : (i j : ℕ) (x : View) (e : Ended) → At (set s.views id left) i x → get_elem? x.ended j ≡ some e → e.number < v.loaded
+    smaller_ended i j x e got ended =
         ⊎_elim
-        (λ h. let b = (mine.kept j e (subst (λ (u : View). get_elem? u.took j ≡ some e) (sym h.1) took)).below in omega (arith, b, next))
-        (λ h. let b = ((k.fits i x h.1).kept j e took).below in omega (arith, b, next))
+        (λ h. let b = (mine.kept j e (subst (λ (u : View). get_elem? u.ended j ≡ some e) (sym h.1) ended)).below in omega (arith, b, next))
+        (λ h. let b = ((k.fits i x h.1).kept j e ended).below in omega (arith, b, next))
         (at_changed s.views id left i x got)
 
-    gone_all : Gone views
-    gone_all i j n x y e ai took aj same =
+    gone_all : NoSeatOfEnded views
+    gone_all i j n x y e ai ended aj same =
         ⊎_elim
         (λ hi. ⊎_elim
-        (λ hj. gone_after s.views id v at k.gone left refl refl i j n x y e hi took hj same)
-        (λ hj. let lt = smaller_ended i n x e hi took in let m : v.loaded ≡ y.number = ap (λ (u : View). u.number) hj.1 in absurd (omega (arith, lt, m, same)))
+        (λ hj. gone_after s.views id v at k.gone left refl refl i j n x y e hi ended hj same)
+        (λ hj. let lt = smaller_ended i n x e hi ended in let m : v.loaded ≡ y.number = ap (λ (u : View). u.number) hj.1 in absurd (omega (arith, lt, m, same)))
         (who j y aj))
-        (λ hi. some-ne-none e (sym (subst (λ (u : View). get_elem? u.took n ≡ some e) (sym hi.1) took)))
+        (λ hi. some-ne-none e (sym (subst (λ (u : View). get_elem? u.ended n ≡ some e) (sym hi.1) ended)))
         (who i x ai)
 
     held_all : Held views Holding
@@ -165,23 +165,23 @@ module _ {S : Type 0} (stands : S → List Stamped → Type 0) (about : S → Ab
           alone = λ i x got has.
               ⊎_elim
               (λ h. ⊎_elim
-              (λ e. (e.0, ap (λ (u : View). u.stage) (sym e.1)))
-              (λ e. absurd (none_else s.views id v at k.stage k.held (inl holds) i x e.0 e.1 has))
+              (λ e. (e.0, ap (λ (u : View). u.phase) (sym e.1)))
+              (λ e. absurd (none_else s.views id v at k.phase k.held (inl holds) i x e.0 e.1 has))
               (at_changed s.views id left i x h))
-              (λ h. absurd (not_also (ap (λ (u : View). holds_turn u.stage) h.1 ∙ has)))
+              (λ h. absurd (not_also (ap (λ (u : View). holds_turn u.phase) h.1 ∙ has)))
               (who i x got);
           there = λ _. (left, (at_longer (set s.views id left) (right ∷ []) id left (set_here s.views id left (at_below s.views id v here)), live), refl);
         }
 
-    split_at : Kept stands about a most (record { words = s.words; homes = s.homes; views = views })
+    split_at : Kept stands about a limit (record { words = s.words; homes = s.homes; views = views })
     split_at =
         record {
           log = k.log;
           made = suc k.made;
-          stage = Holding;
-          words = k.words ∙ ap (λ (st : Stage). turn_word st ∷ length k.log ∷ number_word st k.made ∷ []) now;
-          stored = subst (λ (st : Stage). Stored stands about a (has_state st) k.log s.homes) now k.stored;
-          few = subst (λ (st : Stage). number_word st k.made ≤ most) now k.few;
+          phase = Holding;
+          words = k.words ∙ ap (λ (st : SeatPhase). turn_word st ∷ length k.log ∷ number_word st k.made ∷ []) now;
+          stored = subst (λ (st : SeatPhase). Stored stands about a (has_state st) k.log s.homes) now k.stored;
+          in_range = subst (λ (st : SeatPhase). number_word st k.made ≤ limit) now k.in_range;
           strangers = λ n more. k.strangers n (omega (arith, more));
           fits = fits_all;
           apart = apart_all;
@@ -189,5 +189,5 @@ module _ {S : Type 0} (stands : S → List Stamped → Type 0) (about : S → Ab
           held = held_all;
         }
 
-  pub splits : Splits (Kept stands about a most) id v (at_stage Holding v) (next_pass v)
+  pub splits : Splits (Kept stands about a limit) id v (in_phase Holding v) (next_pass v)
   splits s k here = split_at s k here

@@ -1,8 +1,8 @@
 pub mod Beginnings
-pub mod Counted
 pub mod Cutting
 pub mod Keeping
 pub mod Numbering
+pub mod Owning
 pub mod Passing
 pub mod Remaking
 pub mod Uniting

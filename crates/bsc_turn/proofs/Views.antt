@@ -3,11 +3,11 @@ use Rattle.std.proofs.Common.{◌≡◌, ◌≢◌, ℕ, zero, suc, ◌<◌, tru
 use mathlib.Core.Option.{some, some-injective, some-ne-none}
 use lib.ListN.{get_elem?}
 use Rattle.atomic_table.proofs.Lists.{at_set, set_here}
-use Rattle.bsc_turn.specs.declared.stage.Stage.{Stage}
-use Rattle.bsc_turn.specs.declared.stage.Stage.TheVariants.{Outside, Holding, Entered, Committed, Numbered, Drawn}
+use Rattle.bsc_turn.specs.declared.phase.SeatPhase.{SeatPhase}
+use Rattle.bsc_turn.specs.declared.phase.SeatPhase.TheVariants.{Outside, Holding, Entered, Committed, Numbered, Drawn}
 use Rattle.bsc_turn.specs.declared.view.Ended.{Ended}
 use Rattle.bsc_turn.specs.declared.view.View.{View}
-use Rattle.bsc_turn.specs.Rule.{holds_turn, has_state, knows_next, turn_word, At, Apart, Gone, Held}
+use Rattle.bsc_turn.specs.Rule.{holds_turn, has_state, knows_next, turn_word, At, DistinctNumbers, NoSeatOfEnded, Held}
 
 pub not_both : true ≢ false
 not_both e = cc
@@ -24,7 +24,7 @@ at_below [] i a e = absurd (some-ne-none a (sym e))
 at_below (x ∷ xs) zero a e = omega arith
 at_below (x ∷ xs) (suc i) a e = let h = at_below xs i a e in omega arith
 
-pub free_or_held : (stage : Stage) → (stage ≡ Outside) ⊎ (turn_word stage ≡ 1)
+pub free_or_held : (phase : SeatPhase) → (phase ≡ Outside) ⊎ (turn_word phase ≡ 1)
 free_or_held Outside = inl refl
 free_or_held Holding = inr refl
 free_or_held Entered = inr refl
@@ -32,7 +32,7 @@ free_or_held Committed = inr refl
 free_or_held Numbered = inr refl
 free_or_held Drawn = inr refl
 
-pub state_holds : (stage : Stage) → has_state stage ≡ true → holds_turn stage ≡ true
+pub state_holds : (phase : SeatPhase) → has_state phase ≡ true → holds_turn phase ≡ true
 state_holds Outside e = absurd (not_also e)
 state_holds Holding e = refl
 state_holds Entered e = refl
@@ -40,7 +40,7 @@ state_holds Committed e = refl
 state_holds Numbered e = refl
 state_holds Drawn e = refl
 
-pub next_holds : (stage : Stage) → knows_next stage ≡ true → holds_turn stage ≡ true
+pub next_holds : (phase : SeatPhase) → knows_next phase ≡ true → holds_turn phase ≡ true
 next_holds Outside e = absurd (not_also e)
 next_holds Holding e = refl
 next_holds Entered e = refl
@@ -55,45 +55,45 @@ at_changed views id w i x got = ⊎_elim (λ h. inl h) (λ h. inr (h.0, (h.1, go
 module _ (views : List View) (id : ℕ) (me : View) (at : At views id me) where
   -- who was there before, with the same number and the same callers
   Before : ℕ → View → Type 0
-  Before i x = (y : View) × At views i y × (x.number ≡ y.number) × (x.took ≡ y.took)
+  Before i x = (y : View) × At views i y × (x.number ≡ y.number) × (x.ended ≡ y.ended)
 
-  had : (w : View) → w.number ≡ me.number → w.took ≡ me.took → (i : ℕ) (x : View) → At (set views id w) i x → (y : View) × At views i y × (x.number ≡ y.number) × (x.took ≡ y.took)
+  had : (w : View) → w.number ≡ me.number → w.ended ≡ me.ended → (i : ℕ) (x : View) → At (set views id w) i x → (y : View) × At views i y × (x.number ≡ y.number) × (x.ended ≡ y.ended)
   had w n t i x got =
       ⊎_elim
-      (λ h. (me, subst (λ (j : ℕ). At views j me) (sym h.0) at, ap (λ (v : View). v.number) (sym h.1) ∙ n, ap (λ (v : View). v.took) (sym h.1) ∙ t))
+      (λ h. (me, subst (λ (j : ℕ). At views j me) (sym h.0) at, ap (λ (v : View). v.number) (sym h.1) ∙ n, ap (λ (v : View). v.ended) (sym h.1) ∙ t))
       (λ h. (x, h.1, refl, refl))
       (at_changed views id w i x got)
 
-  pub apart_after : Apart views → (w : View) → w.number ≡ me.number → w.took ≡ me.took → Apart (set views id w)
+  pub apart_after : DistinctNumbers views → (w : View) → w.number ≡ me.number → w.ended ≡ me.ended → DistinctNumbers (set views id w)
   apart_after apart w n t i j v x ai aj same =
       let p = had w n t i v ai in
       let q = had w n t j x aj in
       apart i j p.0 q.0 p.1 q.1 (sym p.2 ∙ (same ∙ q.2))
 
-  pub gone_after : Gone views → (w : View) → w.number ≡ me.number → w.took ≡ me.took → Gone (set views id w)
-  gone_after gone w n t i j k v x e ai took aj same =
+  pub gone_after : NoSeatOfEnded views → (w : View) → w.number ≡ me.number → w.ended ≡ me.ended → NoSeatOfEnded (set views id w)
+  gone_after gone w n t i j k v x e ai ended aj same =
       let p = had w n t i v ai in
       let q = had w n t j x aj in
-      gone i j k p.0 q.0 e p.1 (subst (λ (l : List Ended). get_elem? l k ≡ some e) p.3 took) q.1 (sym q.2 ∙ same)
+      gone i j k p.0 q.0 e p.1 (subst (λ (l : List Ended). get_elem? l k ≡ some e) p.3 ended) q.1 (sym q.2 ∙ same)
 
   -- where the seat holds the turn, or nobody does, no other seat holds it
-  pub none_else : (stage : Stage) → Held views stage → (holds_turn me.stage ≡ true) ⊎ (stage ≡ Outside) → (i : ℕ) (x : View) → i ≢ id → At views i x → holds_turn x.stage ≡ true → ⊥
-  none_else stage held how i x other got holds =
+  pub none_else : (phase : SeatPhase) → Held views phase → (holds_turn me.phase ≡ true) ⊎ (phase ≡ Outside) → (i : ℕ) (x : View) → i ≢ id → At views i x → holds_turn x.phase ≡ true → ⊥
+  none_else phase held how i x other got holds =
       let a = held.alone i x got holds in
       ⊎_elim
-      (λ (mine : holds_turn me.stage ≡ true). other (a.0 ∙ sym (held.alone id me at mine).0))
-      (λ (free : stage ≡ Outside). not_both (sym holds ∙ ap (λ (s : Stage). holds_turn s) (a.1 ∙ free)))
+      (λ (mine : holds_turn me.phase ≡ true). other (a.0 ∙ sym (held.alone id me at mine).0))
+      (λ (free : phase ≡ Outside). not_both (sym holds ∙ ap (λ (s : SeatPhase). holds_turn s) (a.1 ∙ free)))
       how
 
-  -- then it alone holds the turn, or nobody does, by its own stage
-  pub held_after : (stage : Stage) → Held views stage → (holds_turn me.stage ≡ true) ⊎ (stage ≡ Outside) → (w : View) → w.live ≡ true → Held (set views id w) w.stage
-  held_after stage held how w live =
+  -- then it alone holds the turn, or nobody does, by its own phase
+  pub held_after : (phase : SeatPhase) → Held views phase → (holds_turn me.phase ≡ true) ⊎ (phase ≡ Outside) → (w : View) → w.live ≡ true → Held (set views id w) w.phase
+  held_after phase held how w live =
       record {
         holder = id;
         alone = λ i v got holds.
             ⊎_elim
-            (λ h. (h.0, ap (λ (u : View). u.stage) (sym h.1)))
-            (λ h. absurd (none_else stage held how i v h.0 h.1 holds))
+            (λ h. (h.0, ap (λ (u : View). u.phase) (sym h.1)))
+            (λ h. absurd (none_else phase held how i v h.0 h.1 holds))
             (at_changed views id w i v got);
         there = λ _. (w, (set_here views id w (at_below views id me at.0), live), refl);
       }

@@ -7,7 +7,7 @@ use Rattle.bsc_turn.specs.Counting.{counted}
 use Rattle.bsc_turn.specs.Histories.{longer, own_of}
 use Rattle.bsc_turn.specs.Passes.{after_commit, after_load, new_pass}
 use Rattle.bsc_turn.specs.Rule.{first_view}
-use Rattle.bsc_turn.specs.Told.{having_seen, joined}
+use Rattle.bsc_turn.specs.Effects.{having_seen, after_join}
 
 -- three entries, of the callers 0, 1 and 0
 abbrev three : List Stamped
@@ -51,14 +51,14 @@ module _ (a : About) where
   second_owns_one : second_once ≡ record second { seen = counted 0 ∷ counted 1 ∷ []; own = (counted 1).entry ∷ [] }
   second_owns_one = refl
 
-  first_owns_two : first_twice ≡ record (first_view a 2) { seen = three; own = (counted 0).entry ∷ (counted 0).entry ∷ []; loaded = 1 }
+  first_owns_two : first_twice ≡ record (first_view a 2) { seen = three; own = (counted 0).entry ∷ (counted 0).entry ∷ []; loaded = 1; loads = 1 }
   first_owns_two = refl
 
-  -- the first takes in the second, and the second, in another run, the first
-  first_is_left : joined first_twice second_once
-      ≡ record first_twice { took = record { number = 1; own = (counted 1).entry ∷ []; seen = counted 0 ∷ counted 1 ∷ [] } ∷ [] }
+  -- the second ends in the first, and, in another run, the first in the second
+  first_is_left : after_join first_twice second_once
+      ≡ record first_twice { ended = record { number = 1; own = (counted 1).entry ∷ []; seen = counted 0 ∷ counted 1 ∷ [] } ∷ [] }
   first_is_left = refl
 
-  second_is_left : joined second_once first_twice
-      ≡ record second_once { seen = three; took = record { number = 0; own = (counted 0).entry ∷ (counted 0).entry ∷ []; seen = three } ∷ [] }
+  second_is_left : after_join second_once first_twice
+      ≡ record second_once { seen = three; ended = record { number = 0; own = (counted 0).entry ∷ (counted 0).entry ∷ []; seen = three } ∷ [] }
   second_is_left = refl

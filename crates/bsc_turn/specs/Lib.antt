@@ -2,5 +2,5 @@ pub mod Counting
 pub mod Histories
 pub mod Lending
 pub mod Rule
-pub mod Told
+pub mod Effects
 pub mod Passes

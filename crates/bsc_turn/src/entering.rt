@@ -1,7 +1,7 @@
 //! A caller enters, and spends its guard.
 ghost use Rattle.std.specs.Prelude.{◌≡◌, ◌<◌, ◌^◌, ◌++◌, [], ◌∷◌, length};
 ghost use Rattle.bsc_turn.specs.Histories.{StartsWith};
-ghost use Rattle.bsc_turn.specs.Told.{having_seen};
+ghost use Rattle.bsc_turn.specs.Effects.{having_seen};
 ghost use Rattle.bsc_turn.specs.Passes.{IsFor, IsGuardOf, IsPassOf, first_state, after_back, after_commit, guard_view, history, number_of, seen, view_of};
 
 use crate::guard::Guard;

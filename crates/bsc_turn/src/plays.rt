@@ -1,7 +1,6 @@
-//! The turn's table: its rule, and what each kind of step tells the seat that makes it.
+//! The turn's table: its rule, and what each kind of step does to the seat that makes it.
 //!
-//! The table has three words (0 the turn word, 1 the count word, 2 the number word) and one slot, which holds
-//! the state.
+//! `words` names the table's words and its one slot, which holds the state.
 use crate::view::View;
 use atomic_table::{Join, Play, Seat, Split, Table, TableRule};
 use bsc_history::{Makes, Stands};
@@ -37,7 +36,7 @@ impl<S: Stands> TableRule<Option<S>, View, Fixed<S>> for TurnRule {
 pub struct Acquire;
 
 impl<S> Play<Option<S>, View> for Acquire {
-    ghost use Rattle.bsc_turn.specs.Told.{Acquires};
+    ghost use Rattle.bsc_turn.specs.Effects.{Acquires};
 
     ghost then = { Acquires };
 }
@@ -46,7 +45,7 @@ impl<S> Play<Option<S>, View> for Acquire {
 pub struct Count;
 
 impl<S: Stands> Play<Option<S>, View> for Count {
-    ghost use Rattle.bsc_turn.specs.Told.{Counts};
+    ghost use Rattle.bsc_turn.specs.Effects.{Counts};
 
     ghost then = { Counts S.stands S.about };
 }
@@ -57,7 +56,7 @@ pub struct Commit<E> {
 }
 
 impl<S, E: Makes> Play<Option<S>, View> for Commit<E> {
-    ghost use Rattle.bsc_turn.specs.Told.{Commits};
+    ghost use Rattle.bsc_turn.specs.Effects.{Commits};
 
     ghost then = { Commits E.stamped };
 }
@@ -66,7 +65,7 @@ impl<S, E: Makes> Play<Option<S>, View> for Commit<E> {
 pub struct Release;
 
 impl<S> Play<Option<S>, View> for Release {
-    ghost use Rattle.bsc_turn.specs.Told.{Releases};
+    ghost use Rattle.bsc_turn.specs.Effects.{Releases};
 
     ghost then = { Releases };
 }
@@ -75,7 +74,7 @@ impl<S> Play<Option<S>, View> for Release {
 pub struct LoadNumber;
 
 impl<S> Play<Option<S>, View> for LoadNumber {
-    ghost use Rattle.bsc_turn.specs.Told.{LoadsNumber};
+    ghost use Rattle.bsc_turn.specs.Effects.{LoadsNumber};
 
     ghost then = { LoadsNumber };
 }
@@ -84,40 +83,40 @@ impl<S> Play<Option<S>, View> for LoadNumber {
 pub struct Draw;
 
 impl<S> Play<Option<S>, View> for Draw {
-    ghost use Rattle.bsc_turn.specs.Told.{Draws};
+    ghost use Rattle.bsc_turn.specs.Effects.{Draws};
 
     ghost then = { Draws };
 }
 
-/// A pass begins, with the number that was drawn for it.
+/// A new pass begins, with the number that was drawn for it.
 pub struct IntoPasses;
 
 impl Split<View> for IntoPasses {
-    ghost use Rattle.bsc_turn.specs.declared.stage.Stage.TheVariants.{Holding};
-    ghost use Rattle.bsc_turn.specs.Told.{at_stage, next_pass};
+    ghost use Rattle.bsc_turn.specs.declared.phase.SeatPhase.TheVariants.{Holding};
+    ghost use Rattle.bsc_turn.specs.Effects.{in_phase, next_pass};
 
-    ghost left = { at_stage Holding };
+    ghost left = { in_phase Holding };
 
     ghost right = { next_pass };
 }
 
-/// A pass ends, and another keeps what it had.
+/// One pass ends, and another keeps what it had.
 pub struct IntoOne;
 
 impl Join<View> for IntoOne {
     ghost use Rattle.bsc_turn.specs.Rule.{spent_view};
-    ghost use Rattle.bsc_turn.specs.Told.{joined};
+    ghost use Rattle.bsc_turn.specs.Effects.{after_join};
 
-    ghost both = { joined };
+    ghost both = { after_join };
 
     ghost spent = { spent_view };
 }
 
-/// A load after which a seat has at hand what the rule says of its own view.
+/// A load of the count that changes nothing. What the rule says of the seat's own view is known after it.
 pub struct Confirm;
 
 impl<S> Play<Option<S>, View> for Confirm {
-    ghost use Rattle.bsc_turn.specs.Told.{Confirms};
+    ghost use Rattle.bsc_turn.specs.Effects.{Confirms};
 
     ghost then = { Confirms };
 }

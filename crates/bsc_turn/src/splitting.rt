@@ -1,6 +1,6 @@
 //! A caller makes another.
-ghost use Rattle.std.specs.Prelude.{◌≡◌, ◌<◌, IfOk, IfErr};
-ghost use Rattle.bsc_turn.specs.Passes.{IsPassOf, after_load, callers_of, new_pass, newest_number, number_of, view_of};
+ghost use Rattle.std.specs.Prelude.{◌≡◌, ◌+◌, ◌<◌, IfOk, IfErr};
+ghost use Rattle.bsc_turn.specs.Passes.{IsPassOf, after_load, callers_of, loads_made, new_pass, newest_number, number_of, view_of};
 
 use crate::pass::Pass;
 use crate::spent::NumbersSpent;
@@ -13,15 +13,18 @@ use std::sync::Wait;
 
 impl<S: Stands + Drop> Turn<S> {
     /// A pass with the next number, which has seen as much as this one and has no entries of its own. Waits for
-    /// the turn. The number is the one that this call's load of the number word finds, and the pass keeps it;
-    /// where that is the number of callers that there may be, no pass is made.
+    /// the turn. The next number is the one that this call's only load of the number word finds, and the pass
+    /// keeps it. Where that is the number of callers that there may be, no pass is made.
     pub fn split<R: Wait>(&self, rt: &R, pass: &mut Pass) -> Result<Pass, NumbersSpent>
         requires { IsPassOf S.about self.now pass.old }
         ensures pass { IsPassOf S.about self.now pass.new × (number_of pass.new ≡ number_of pass.old) }
+
+        // The call makes one load of the number word, and no other. So it draws at most one number.
+        ensures one_load { loads_made pass.new ≡ loads_made pass.old + 1 }
         ensures knows { view_of pass.new ≡ after_load (newest_number pass.new) (view_of pass.old) }
 
-        // Where the load finds another number than the limit, a new pass has it. It is more than this pass's
-        // own number, and than any that this pass found before.
+        // Where the load finds another number than the limit, a new pass has this number, and no load was made with
+        // it. The number is more than this pass's own, and than any that this pass found before.
         ensures room { IfOk result (λ p. newest_number pass.new < callers_of self.now) }
         ensures new { IfOk result (λ p. IsPassOf S.about self.now p) }
         ensures number { IfOk result (λ p. number_of p ≡ newest_number pass.new) }

@@ -2,7 +2,8 @@
 ghost use Rattle.std.specs.Prelude.{List, ◌≡◌, ◌+◌, ◌<◌, ◌≤◌, ◌^◌, ◌++◌, ◌∷◌, [], length, true, IfSome, IfNone};
 ghost use Rattle.bsc_history.specs.declared.mark.Stamped.{Stamped};
 ghost use Rattle.bsc_turn.specs.Counting.{MadeOne, counted};
-ghost use Rattle.bsc_turn.specs.Passes.{IsFor, IsGuardOf, IsPassOf, after_commit, first_state, guard_view, history, number_of, own_list, view_of};
+ghost use Rattle.bsc_turn.specs.Histories.{own_of};
+ghost use Rattle.bsc_turn.specs.Passes.{IsFor, IsGuardOf, IsPassOf, after_commit, first_state, guard_view, history, number_of, own_list, seen, view_of};
 
 use super::*;
 use bsc_history::{About, Limits, Makes, Stands};
@@ -98,6 +99,7 @@ fn one_thread(rt: HostRuntime) -> Result<(), Fail> {
     let (turn, mut pass) = Turn::make(rt.alloc(), new_counter(), 2)?;
     assert!(rt; count_one(&rt, &turn, &mut pass) == Some(0));
     assert!(rt; count_one(&rt, &turn, &mut pass) == Some(1));
+    look(&rt, &turn, &mut pass);
     let mut guard = turn.enter(&rt, &mut pass);
     assert!(rt; guard.state().count == 2);
     guard.back(&mut pass);
@@ -105,7 +107,7 @@ fn one_thread(rt: HostRuntime) -> Result<(), Fail> {
 }
 
 #[test]
-fn two_callers(rt: HostRuntime) -> Result<(), Fail> {
+fn numbers_of_two_callers(rt: HostRuntime) -> Result<(), Fail> {
     let (turn, mut pass) = Turn::make(rt.alloc(), new_counter(), 2)?;
     assert!(rt; pass.number() == 0);
     let second = turn.split(&rt, &mut pass)?;
@@ -142,12 +144,27 @@ fn count_of<R: Wait>(rt: &R, turn: &Turn<Counter>, pass: Pass, other: Pass) -> u
     requires other { IsPassOf (λ s. s.about) turn.now other }
     ensures { length (own_list pass) + length (own_list other) ≤ result }
 {
+    two_callers();
     let mut pass = pass;
     turn.join(&mut pass, other);
     let mut guard = turn.enter(rt, &mut pass);
     let count = guard.state().count;
     guard.back(&mut pass);
     count
+}
+
+/// Enters and goes back. The history that is then seen has the same entries of the caller as before.
+fn look<R: Wait>(rt: &R, turn: &Turn<Counter>, pass: &mut Pass)
+    requires { IsPassOf (λ s. s.about) turn.now pass.old }
+    ensures pass { IsPassOf (λ s. s.about) turn.now pass.new }
+    ensures own { own_of (seen pass.new) (number_of pass.new) ≡ own_list pass.old }
+    ensures same { own_of (seen pass.new) (number_of pass.new)
+        ≡ own_of (seen pass.old) (number_of pass.old) }
+{
+    own_is_all();
+    entering_keeps_own();
+    let guard = turn.enter(rt, pass);
+    guard.back(pass);
 }
 
 /// A turn with two passes.

@@ -1,9 +1,9 @@
 //! What a seat at the turn's table knows.
-use crate::stage::Stage;
+use crate::phase::SeatPhase;
 use bsc_history::{About, Entry, Stamped};
 use std::collections::LinkedList;
 
-/// A caller that a pass took in. Contracts speak of it, and no value is made.
+/// A caller whose pass ended in a join. Contracts speak of it, and no value is made.
 pub struct Ended {
     /// The caller's number.
     pub number: u64,
@@ -27,10 +27,12 @@ pub struct View {
     pub seen: LinkedList<Stamped>,
     /// The caller's own entries, oldest first.
     pub own: LinkedList<Entry>,
-    /// The callers that it took in.
-    pub took: LinkedList<Ended>,
+    /// The callers whose passes ended in this one.
+    pub ended: LinkedList<Ended>,
     /// What its newest load of the number word found, 0 before the first.
     pub loaded: u64,
+    /// How many loads of the number word it has made.
+    pub loads: u64,
     /// How far it is with the turn.
-    pub stage: Stage,
+    pub phase: SeatPhase,
 }

@@ -1,5 +1,5 @@
 use Rattle.std.proofs.Common.{rules}
-use Rattle.bsc_ring.proofs.Keeping.{opens, cuts_in_two}
+use Rattle.bsc_ring.proofs.Opening.{opens, cuts_in_two}
 use Rattle.bsc_ring.proofs.steps.lay_out.Goals as goal
 
 pub vacant-requires : goal.vacant-requires

@@ -1,5 +1,5 @@
 use Rattle.std.proofs.Common.{rules, ◌≡◌, subst}
-use Rattle.bsc_ring.specs.Told.{Truths, inlet_met, outlet_met}
+use Rattle.bsc_ring.specs.Effects.{IsConsistent, inlet_met, outlet_met}
 use Rattle.bsc_ring.proofs.Notes.{notes_inlet, notes_outlet, joins_inlet, joins_outlet, confirms, agrees}
 use Rattle.bsc_ring.proofs.steps.tell_each_other.Goals as goal
 
@@ -25,4 +25,4 @@ pub returns-clause-agree : goal.returns-clause-agree
 returns-clause-agree c =
     let a : c.join_seat.new.seat.me.0 ≡ inlet_met c.args.inlet.now.me.0 c.args.outlet.now.me.0 = search rules in
     let b : c.join_seat-2.new.seat.me.0 ≡ outlet_met c.args.inlet.now.me.0 c.args.outlet.now.me.0 = search rules in
-    agrees c.args.inlet.now.me.0 c.args.outlet.now.me.0 (search rules) (search rules) (search rules) (subst Truths a c.load.ensures.2.1) (subst Truths b c.load-2.ensures.2.1)
+    agrees c.args.inlet.now.me.0 c.args.outlet.now.me.0 (search rules) (search rules) (search rules) (subst IsConsistent a c.load.ensures.2.1) (subst IsConsistent b c.load-2.ensures.2.1)

@@ -1,7 +1,7 @@
 use Rattle.std.proofs.Common.{rules, ◌≡◌, sym, subst}
 use mathlib.Core.Option.{none}
 use Rattle.atomic_table.specs.Table.{step}
-use Rattle.bsc_turn.specs.Told.{Truths}
+use Rattle.bsc_turn.specs.Effects.{IsConsistent}
 use Rattle.bsc_turn.proofs.Keeping.{counts, in_hand}
 use Rattle.bsc_turn.proofs.steps.take_out.Goals as goal
 
@@ -13,7 +13,7 @@ pub exchange-requires : goal.exchange-requires
 exchange-requires g c =
     (search rules, in_hand g.S.Stands.stands g.S.Stands.about (step 1 1 0 0 none) c.args.seat.now.me c.load-made.new.seat.me c.load-made.result c.load-made.ensures.2)
 
-pub returns-clause-truths : goal.returns-clause-truths
-returns-clause-truths g c =
+pub returns-clause-consistent : goal.returns-clause-consistent
+returns-clause-consistent g c =
     let e : c.exchange.new.seat.me.0 ≡ c.load-made.new.seat.me.0 = search rules in
-    subst Truths (sym e) c.load-made.ensures.2.5
+    subst IsConsistent (sym e) c.load-made.ensures.2.5

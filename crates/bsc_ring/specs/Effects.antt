@@ -1,4 +1,5 @@
--- What each step on the ring's table tells the seat that makes it, and what the seat knows then.
+-- What each kind of step does: a relation of the step, the seat before it, the number found or stored, and the
+-- seat after it. And what the two ends know after each call.
 use Rattle.std.specs.Prelude.{◌≡◌, ◌≢◌, ℕ, ◌+◌, ◌%◌, ◌<◌, ◌≤◌, Bool, true, false, max, List, [], ◌∷◌, ◌++◌, length, drop, is_some, Option, Some, None}
 use Rattle.atomic_table.specs.Table.{Me, Step}
 use Rattle.bsc_history.specs.declared.ending.End.{End}
@@ -25,7 +26,7 @@ abbrev pub items_of : Option Item → List Item
 items_of None = []
 items_of (Some x) = x ∷ []
 
--- What lies in the slot that a seat took last.
+-- What lies in the slot that a seat has taken last.
 abbrev pub in_hand : List (ℕ × Option Item) → List Item
 in_hand [] = []
 in_hand (s ∷ ss) = items_of s.1
@@ -40,7 +41,7 @@ LoadsHead s v n w =
     (v.0.least ≤ n) × (n ≤ length v.0.pushed) × (length v.0.pushed ≤ n + s.slots)
     × (length v.0.pushed ≡ n + s.slots → w ≡ (after_load n v.0, []))
     × (length v.0.pushed ≢ n + s.slots
-    → w ≡ (record v.0 { loads = v.0.loads ++ n ∷ []; least = n; writing = true }, (length v.0.pushed % s.slots, None) ∷ []))
+    → w ≡ (record (after_load n v.0) { writing = true }, (length v.0.pushed % s.slots, None) ∷ []))
 
 -- The store of the tail gives that slot back, and what lies in it is pushed.
 abbrev pub StoresTail : Step (Option Item) → Seated → ℕ → Seated → Type 0
@@ -48,7 +49,7 @@ StoresTail s v n w = w ≡ (record v.0 { pushed = v.0.pushed ++ in_hand v.1; wri
 
 -- An inlet's view after a push whose load found n.
 abbrev pub after_push : ℕ → Item → View → View
-after_push n x v = record v { loads = v.loads ++ n ∷ []; least = n; pushed = v.pushed ++ x ∷ [] }
+after_push n x v = record (after_load n v) { pushed = v.pushed ++ x ∷ [] }
 
 -- The store of the end word sets the End that the number says.
 abbrev pub StoresEnd : Step (Option Item) → Seated → ℕ → Seated → Type 0
@@ -68,7 +69,7 @@ LoadsEnd s v n w =
     (end_in n ≢ Some Left) × (v.0.whole ≡ true → is_some (end_in n) ≡ true)
     × ((d : End) → v.0.heard ≡ Some d → end_in n ≡ Some d) × (w ≡ (after_end (end_in n) v.0, v.1))
 
--- An outlet's view after a load of the tail by which each item is taken.
+-- An outlet's view after a load of the tail that finds each item taken.
 abbrev pub after_none : View → View
 after_none v =
     record v { known = v.given; whole = is_some v.heard; found = v.found ++ Tail (length v.given) ∷ [] }
@@ -94,7 +95,8 @@ TakesNext k n x v =
 abbrev pub LoadsTail : Step (Option Item) → Seated → ℕ → Seated → Type 0
 LoadsTail s v n w =
     (n ≡ length v.0.given
-    → StartsWith v.0.given v.0.known × (v.0.whole ≡ true → v.0.given ≡ v.0.known) × (w ≡ (after_none v.0, [])))
+    → StartsWith v.0.given v.0.known
+    × (v.0.whole ≡ true → v.0.given ≡ v.0.known) × (w ≡ (after_none v.0, [])))
     × (n ≢ length v.0.given → (k : List Item) × (x : Item) × TakesNext k n x v.0
     × (w ≡ (record (after_take k n x v.0) { reading = true }, (length v.0.given % s.slots, Some x) ∷ [])))
 
@@ -121,7 +123,7 @@ note least known whole heard =
       heard = heard;
     }
 
--- What is left of a note that was taken in.
+-- What is left of a note once it was heard.
 abbrev pub spent_view : View
 spent_view = note 0 [] false None
 
@@ -165,17 +167,17 @@ outlet_hears v w =
     }
 
 -- What the rule says of one view alone.
-abbrev pub Truths : View → Type 0
-Truths v =
+abbrev pub IsConsistent : View → Type 0
+IsConsistent v =
     StartsWith v.known v.given × Recalls v
     × (v.inlet ≡ true
     → StartsWith v.pushed v.known × (v.whole ≡ true → v.known ≡ v.pushed)
     × ((e : End) → v.heard ≡ Some e → v.ended ≡ Some e))
     × (v.outlet ≡ true → v.reading ≡ false → v.least ≤ length v.given)
 
--- A load that leaves the view as it is, and after which this is at hand.
+-- A load that leaves the view as it is. What the rule says of the view alone is known after it.
 abbrev pub Confirms : Step (Option Item) → Seated → ℕ → Seated → Type 0
-Confirms s v n w = (w ≡ v) × Truths v.0
+Confirms s v n w = (w ≡ v) × IsConsistent v.0
 
 -- The inlet's view after `meet`, of the views before it.
 abbrev pub inlet_met : View → View → View
