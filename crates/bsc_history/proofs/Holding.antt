@@ -17,7 +17,7 @@ use Rattle.bsc_history.specs.declared.reply.Reply.{Reply}
 use Rattle.bsc_history.specs.declared.reply.Reply.TheVariants.{Joined, Appended, Closed, SentAll, Gone}
 use Rattle.bsc_history.specs.declared.connection.Connection.{Connection}
 use Rattle.bsc_history.specs.Entries.{connection_of, moment}
-use Rattle.bsc_history.specs.Ends.{end_by, is_one, is_among, live}
+use Rattle.bsc_history.specs.Ends.{end_by, is_one, live}
 use Rattle.bsc_history.specs.Holders.{holder}
 use Rattle.bsc_history.specs.Legality.{Lawful, Legal}
 use Rattle.bsc_history.specs.Laws.{kept_if}
@@ -72,10 +72,10 @@ module _ (a : About) (H : List Entry) (v : Vmac) (legal : Legal a H) (caller : �
       let e = entry (Forward sender m) (Closed c) in
       holder-stays a H e v legal refl ∙ kept_same (λ x. is_none (end_by x.number e)) (λ x. not (c == x.number)) (holder H v) (λ x. ends_here (c == x.number) Full)
 
-  pub holder-sent_all : (sender : ℕ) (m : List ℕ) (to closed skipped : List ℕ) → holder (H ++ entry (Forward sender m) (SentAll to closed skipped) ∷ []) v ≡ kept_if (λ x. not (is_among x.number closed)) (holder H v)
-  holder-sent_all sender m to closed skipped =
-      let e = entry (Forward sender m) (SentAll to closed skipped) in
-      holder-stays a H e v legal refl ∙ kept_same (λ x. is_none (end_by x.number e)) (λ x. not (is_among x.number closed)) (holder H v) (λ x. ends_here (is_among x.number closed) Full)
+  pub holder-sent_all : (sender : ℕ) (m to missed skipped : List ℕ) → holder (H ++ entry (Forward sender m) (SentAll to missed skipped) ∷ []) v ≡ holder H v
+  holder-sent_all sender m to missed skipped =
+      let e = entry (Forward sender m) (SentAll to missed skipped) in
+      holder-stays a H e v legal refl ∙ kept_all (λ x. is_none (end_by x.number e)) (holder H v) (λ x. refl)
 
   pub holder-appended : (sender c : ℕ) (m : List ℕ) → holder (H ++ entry (Forward sender m) (Appended c) ∷ []) v ≡ holder H v
   holder-appended sender c m =

@@ -16,12 +16,12 @@ use Rattle.bsc_history.specs.declared.reply.Reply.{Reply}
 use Rattle.bsc_history.specs.declared.reply.Reply.TheVariants.{Joined, Appended, Closed, Skipped, Stopped}
 use Rattle.bsc_history.specs.declared.connection.Connection.{Connection}
 use Rattle.bsc_history.specs.Entries.{connection_of, made_by, is_number, joins, stops, is_stop}
-use Rattle.bsc_history.specs.Ends.{end_by, end_by_call, end_by_reply, is_among, ended, joined_where, live, leaves, numbered, is_live}
+use Rattle.bsc_history.specs.Ends.{end_by, end_by_call, end_by_reply, ended, joined_where, live, leaves, numbered, is_live}
 use Rattle.bsc_history.specs.Holders.{holder}
 use Rattle.bsc_history.specs.Outboxes.{added_by, meant, out_of, takes, is_too_long, is_found_full, sent}
 use Rattle.bsc_history.specs.Replies.{reply, connect_reply, forward_reply, unicast_reply, broadcast_reply, unless_ended, is_stopped, numbers}
 use Rattle.bsc_history.specs.Legality.{is_of, may_call, Legal}
-use Rattle.bsc_history.specs.Laws.{names, AddsAsNamed, LiveUntilEnded}
+use Rattle.bsc_history.specs.Laws.{is_among, names, AddsAsNamed, LiveUntilEnded}
 use Rattle.bsc_history.proofs.Lists.{filter-find}
 use Rattle.bsc_history.proofs.More.{along, live-more, ended-more, is_stopped-more}
 use Rattle.bsc_history.proofs.Uniqueness.{settled, comes, vmac_same, not_joined}

@@ -1,5 +1,5 @@
 -- A connect joins and takes over, or is refused and changes nothing.
-use Rattle.std.proofs.Common.{◌≡◌, inl, inr, ℕ, ◌==◌, Bool, true, false, cond, List, [], ◌∷◌, ◌++◌, filter, Option, Some, None, MatchOption, is_none, is_some, option_to_list, refl, ap, sym, ◌∙◌, subst, append-nil}
+use Rattle.std.proofs.Common.{◌≡◌, inl, inr, ℕ, ◌==◌, Bool, true, false, cond, List, [], ◌∷◌, ◌++◌, Option, Some, None, MatchOption, is_none, is_some, refl, ap, sym, ◌∙◌, subst}
 use Rattle.std.specs.List.{list_any}
 use Rattle.std.specs.Option.{option_or}
 use Rattle.std.proofs.lemmas.Bool.{and_parts, eq-eqb}
@@ -11,7 +11,6 @@ use Rattle.bsc_history.specs.declared.call.Call.TheVariants.{Connect}
 use Rattle.bsc_history.specs.declared.ending.End.{End}
 use Rattle.bsc_history.specs.declared.ending.End.TheVariants.{Replaced}
 use Rattle.bsc_history.specs.declared.entry.Entry.{Entry}
-use Rattle.bsc_history.specs.declared.reply.Reply.{Reply}
 use Rattle.bsc_history.specs.declared.reply.Reply.TheVariants.{Joined}
 use Rattle.bsc_history.specs.declared.connection.Connection.{Connection}
 use Rattle.bsc_history.specs.Entries.{connection_of, joins, made_by, moment}
@@ -21,7 +20,7 @@ use Rattle.bsc_history.specs.Replies.{number_of}
 use Rattle.bsc_history.specs.Legality.{Lawful, Legal}
 use Rattle.bsc_history.specs.Laws.{JoinTakesOver, RefusalChangesNone}
 use Rattle.bsc_history.proofs.Lists.{In, find_says}
-use Rattle.bsc_history.proofs.More.{ended-more, live-more}
+use Rattle.bsc_history.proofs.More.{ended-more, live-same}
 use Rattle.bsc_history.proofs.Holding.{holder-join}
 use Rattle.bsc_history.proofs.Uniqueness.{comes, is_None}
 use Rattle.bsc_history.proofs.Named.{live_until_ended}
@@ -57,12 +56,7 @@ join_takes_over a H legal e who c replaced lawful is said =
           ended-more H e k ∙ ap (λ (w : Option End). option_or w (cond (list_any (joins k) H) (end_by k e) None)) (is_None (ended H k) came.1) ∙ ap (λ (b : Bool). cond b (end_by k e) None) came.0 ∙ ends),
     )
 
-filter_every : (q : Connection → Bool) (xs : List Connection) → ((x : Connection) → q x ≡ true) → filter q xs ≡ xs
-filter_every q [] h = refl
-filter_every q (x ∷ xs) h = rw (h x) (ap (λ (l : List Connection). x ∷ l) (filter_every q xs h))
-
 pub refusal_changes_none : (H : List Entry) → RefusalChangesNone H
-refusal_changes_none H e who refusal is said =
-    let none : connection_of e ≡ None = ap (λ (call : Call). made_by e.caller call e.reply) is ∙ ap (made_by e.caller (Connect who)) said in
-    let stays : (x : Connection) → is_none (end_by x.number e) ≡ true = λ x. ap (λ (call : Call). is_none (option_or (end_by_call x.number call) (end_by_reply x.number e.reply))) is ∙ ap (λ (r : Reply). is_none (end_by_reply x.number r)) said in
-    live-more H e ∙ ap (λ (o : Option Connection). filter (λ x. is_none (end_by x.number e)) (live H) ++ option_to_list o) none ∙ append-nil (filter (λ x. is_none (end_by x.number e)) (live H)) ∙ filter_every (λ x. is_none (end_by x.number e)) (live H) stays
+refusal_changes_none H e who refusal is said = live-same H e
+    (ap (λ (call : Call). made_by e.caller call e.reply) is ∙ ap (made_by e.caller (Connect who)) said)
+    (λ c. ap (λ (call : Call). option_or (end_by_call c call) (end_by_reply c e.reply)) is ∙ ap (end_by_reply c) said)

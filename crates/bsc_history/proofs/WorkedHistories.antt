@@ -165,7 +165,7 @@ unicast_to_holder-live : numbers (live unicast_to_holder) ≡ 1 ∷ 2 ∷ 3 ∷ 
 unfolding history_on_literals
 unicast_to_holder-live = refl
 
-unicast_to_holder-counts : counts unicast_to_holder ≡ record { joined = 3; replaced = 0; refused = 0; unicasts = 2; broadcasts = 0; appended = 2; dropped = 0; full = 0 }
+unicast_to_holder-counts : counts unicast_to_holder ≡ record { joined = 3; replaced = 0; refused = 0; unicasts = 2; broadcasts = 0; appended = 2; dropped = 0; full = 0; missed = 0 }
 unfolding history_on_literals
 unicast_to_holder-counts = refl
 
@@ -196,7 +196,7 @@ broadcast_to_others-live : numbers (live broadcast_to_others) ≡ 1 ∷ 2 ∷ 3 
 unfolding history_on_literals
 broadcast_to_others-live = refl
 
-broadcast_to_others-counts : counts broadcast_to_others ≡ record { joined = 3; replaced = 0; refused = 0; unicasts = 0; broadcasts = 1; appended = 2; dropped = 0; full = 0 }
+broadcast_to_others-counts : counts broadcast_to_others ≡ record { joined = 3; replaced = 0; refused = 0; unicasts = 0; broadcasts = 1; appended = 2; dropped = 0; full = 0; missed = 0 }
 unfolding history_on_literals
 broadcast_to_others-counts = refl
 
@@ -224,7 +224,7 @@ no_holder-sent_c : sent the_hub no_holder 3 ≡ []
 unfolding history_on_literals
 no_holder-sent_c = refl
 
-no_holder-counts : counts no_holder ≡ record { joined = 3; replaced = 0; refused = 0; unicasts = 2; broadcasts = 0; appended = 0; dropped = 2; full = 0 }
+no_holder-counts : counts no_holder ≡ record { joined = 3; replaced = 0; refused = 0; unicasts = 2; broadcasts = 0; appended = 0; dropped = 2; full = 0; missed = 0 }
 unfolding history_on_literals
 no_holder-counts = refl
 
@@ -251,7 +251,7 @@ duplicate_address-live : numbers (live duplicate_address) ≡ 1 ∷ 2 ∷ 3 ∷ 
 unfolding history_on_literals
 duplicate_address-live = refl
 
-duplicate_address-counts : counts duplicate_address ≡ record { joined = 3; replaced = 0; refused = 1; unicasts = 0; broadcasts = 0; appended = 0; dropped = 0; full = 0 }
+duplicate_address-counts : counts duplicate_address ≡ record { joined = 3; replaced = 0; refused = 1; unicasts = 0; broadcasts = 0; appended = 0; dropped = 0; full = 0; missed = 0 }
 unfolding history_on_literals
 duplicate_address-counts = refl
 
@@ -340,7 +340,7 @@ takeover_by_device-unleft : numbers (unleft takeover_by_device) ≡ 2 ∷ 3 ∷ 
 unfolding history_on_literals
 takeover_by_device-unleft = refl
 
-takeover_by_device-counts : counts takeover_by_device ≡ record { joined = 4; replaced = 1; refused = 0; unicasts = 2; broadcasts = 1; appended = 4; dropped = 0; full = 0 }
+takeover_by_device-counts : counts takeover_by_device ≡ record { joined = 4; replaced = 1; refused = 0; unicasts = 2; broadcasts = 1; appended = 4; dropped = 0; full = 0; missed = 0 }
 unfolding history_on_literals
 takeover_by_device-counts = refl
 
@@ -409,7 +409,7 @@ full_outbox_closes-holder : number_of (holder full_outbox_closes (address 0x0B))
 unfolding history_on_literals
 full_outbox_closes-holder = refl
 
-full_outbox_closes-counts : counts full_outbox_closes ≡ record { joined = 3; replaced = 0; refused = 0; unicasts = 5; broadcasts = 0; appended = 2; dropped = 3; full = 1 }
+full_outbox_closes-counts : counts full_outbox_closes ≡ record { joined = 3; replaced = 0; refused = 0; unicasts = 5; broadcasts = 0; appended = 2; dropped = 3; full = 1; missed = 0 }
 unfolding history_on_literals
 full_outbox_closes-counts = refl
 
@@ -439,7 +439,7 @@ taken_frame_makes_room-ended : ended taken_frame_makes_room 2 ≡ Some Full
 unfolding history_on_literals
 taken_frame_makes_room-ended = refl
 
--- An outbox of two is found full by a broadcast: its connection ends, and the others get the frame.
+-- An outbox of two is found full by a broadcast: its connection misses it and stays live, and the others get the frame.
 abbrev full_on_broadcast : List Entry
 full_on_broadcast =
     abc
@@ -460,15 +460,15 @@ full_on_broadcast-others : sent hub_with_outboxes_of_two full_on_broadcast 3 ≡
 unfolding history_on_literals
 full_on_broadcast-others = refl
 
-full_on_broadcast-ended : ended full_on_broadcast 2 ≡ Some Full
+full_on_broadcast-ended : ended full_on_broadcast 2 ≡ None
 unfolding history_on_literals
 full_on_broadcast-ended = refl
 
-full_on_broadcast-live : numbers (live full_on_broadcast) ≡ 1 ∷ 3 ∷ []
+full_on_broadcast-live : numbers (live full_on_broadcast) ≡ 1 ∷ 2 ∷ 3 ∷ []
 unfolding history_on_literals
 full_on_broadcast-live = refl
 
-full_on_broadcast-counts : counts full_on_broadcast ≡ record { joined = 3; replaced = 0; refused = 0; unicasts = 2; broadcasts = 1; appended = 3; dropped = 0; full = 1 }
+full_on_broadcast-counts : counts full_on_broadcast ≡ record { joined = 3; replaced = 0; refused = 0; unicasts = 2; broadcasts = 1; appended = 3; dropped = 0; full = 0; missed = 1 }
 unfolding history_on_literals
 full_on_broadcast-counts = refl
 
@@ -497,7 +497,7 @@ sender_was_replaced-ended : ended sender_was_replaced 1 ≡ Some Replaced
 unfolding history_on_literals
 sender_was_replaced-ended = refl
 
-sender_was_replaced-counts : counts sender_was_replaced ≡ record { joined = 4; replaced = 1; refused = 0; unicasts = 1; broadcasts = 1; appended = 0; dropped = 2; full = 0 }
+sender_was_replaced-counts : counts sender_was_replaced ≡ record { joined = 4; replaced = 1; refused = 0; unicasts = 1; broadcasts = 1; appended = 0; dropped = 2; full = 0; missed = 0 }
 unfolding history_on_literals
 sender_was_replaced-counts = refl
 
@@ -528,7 +528,7 @@ table_full_until_one_leaves-live : numbers (live table_full_until_one_leaves) �
 unfolding history_on_literals
 table_full_until_one_leaves-live = refl
 
-table_full_until_one_leaves-counts : counts table_full_until_one_leaves ≡ record { joined = 3; replaced = 0; refused = 2; unicasts = 0; broadcasts = 0; appended = 0; dropped = 0; full = 0 }
+table_full_until_one_leaves-counts : counts table_full_until_one_leaves ≡ record { joined = 3; replaced = 0; refused = 2; unicasts = 0; broadcasts = 0; appended = 0; dropped = 0; full = 0; missed = 0 }
 unfolding history_on_literals
 table_full_until_one_leaves-counts = refl
 
@@ -560,7 +560,7 @@ stop_counts_and_ends_all =
     join peer_a 1
     ∷ join peer_b 2
     ∷ entry (Forward 1 (unicast 2 0x0B long)) (look 2 0 ∷ []) (Appended 2)
-    ∷ entry Stop [] (Counted (record { joined = 2; replaced = 0; refused = 0; unicasts = 1; broadcasts = 0; appended = 1; dropped = 0; full = 0 }))
+    ∷ entry Stop [] (Counted (record { joined = 2; replaced = 0; refused = 0; unicasts = 1; broadcasts = 0; appended = 1; dropped = 0; full = 0; missed = 0 }))
     ∷ entry (Connect (peer 0x0D 0xDD)) [] (Refused RefusedStopped)
     ∷ entry (Forward 1 (unicast 3 0x0B long)) [] Stopped
     ∷ entry (Leave 1 0 0) [] (Gone EndStopped 0)
@@ -595,7 +595,7 @@ abbrev count_tells_the_counts : List Entry
 count_tells_the_counts =
     abc
     ++ entry (Connect (peer 0x0A 0xDD)) [] (Refused (Duplicate (Some 1)))
-    ∷ entry Count [] (Counted (record { joined = 3; replaced = 0; refused = 1; unicasts = 0; broadcasts = 0; appended = 0; dropped = 0; full = 0 }))
+    ∷ entry Count [] (Counted (record { joined = 3; replaced = 0; refused = 1; unicasts = 0; broadcasts = 0; appended = 0; dropped = 0; full = 0; missed = 0 }))
     ∷ []
 
 count_tells_the_counts-legal : Legal the_hub count_tells_the_counts
@@ -606,7 +606,7 @@ count_tells_the_counts-live : numbers (live count_tells_the_counts) ≡ 1 ∷ 2 
 unfolding history_on_literals
 count_tells_the_counts-live = refl
 
-count_tells_the_counts-counts : counts count_tells_the_counts ≡ record { joined = 3; replaced = 0; refused = 1; unicasts = 0; broadcasts = 0; appended = 0; dropped = 0; full = 0 }
+count_tells_the_counts-counts : counts count_tells_the_counts ≡ record { joined = 3; replaced = 0; refused = 1; unicasts = 0; broadcasts = 0; appended = 0; dropped = 0; full = 0; missed = 0 }
 unfolding history_on_literals
 count_tells_the_counts-counts = refl
 
@@ -631,7 +631,7 @@ too_long_is_skipped-ended : ended too_long_is_skipped 2 ≡ None
 unfolding history_on_literals
 too_long_is_skipped-ended = refl
 
-too_long_is_skipped-counts : counts too_long_is_skipped ≡ record { joined = 3; replaced = 0; refused = 0; unicasts = 2; broadcasts = 1; appended = 1; dropped = 2; full = 0 }
+too_long_is_skipped-counts : counts too_long_is_skipped ≡ record { joined = 3; replaced = 0; refused = 0; unicasts = 2; broadcasts = 1; appended = 1; dropped = 2; full = 0; missed = 0 }
 unfolding history_on_literals
 too_long_is_skipped-counts = refl
 

@@ -1,5 +1,5 @@
 -- What holds of every legal history.
-use Rattle.std.specs.Prelude.{◌≡◌, ◌≢◌, ◌≤◌, ◌+◌, ◌⊎◌, ℕ, ◌==◌, Bool, false, ◌&&◌, is_none, if◌then◌else◌, List, [], ◌∷◌, ◌++◌, length, Option, Some, None, IsTrue, ⊤}
+use Rattle.std.specs.Prelude.{◌≡◌, ◌≢◌, ◌≤◌, ◌+◌, ◌⊎◌, ℕ, ◌==◌, Bool, false, not, ◌&&◌, is_none, if◌then◌else◌, count_by, List, [], ◌∷◌, ◌++◌, length, Option, Some, None, IsTrue, ⊤}
 use Rattle.std.specs.List.{AllByRecursion, list_any, range_with_len}
 use Rattle.bsc_octets.specs.declared.identity.Identity.{Identity}
 use Rattle.bsc_octets.specs.Forwarding.{destination, is_broadcast, out}
@@ -13,7 +13,7 @@ use Rattle.bsc_history.specs.declared.reply.Reply.{Reply}
 use Rattle.bsc_history.specs.declared.reply.Reply.TheVariants.{Joined, Refused, Appended, SentAll}
 use Rattle.bsc_history.specs.declared.connection.Connection.{Connection}
 use Rattle.bsc_history.specs.Entries.{joins, moment}
-use Rattle.bsc_history.specs.Ends.{ended, is_among, is_live, joined, live, numbered, unleft}
+use Rattle.bsc_history.specs.Ends.{ended, is_live, joined, live, numbered, unleft}
 use Rattle.bsc_history.specs.Holders.{holder, of_device}
 use Rattle.bsc_history.specs.Outboxes.{added, is_found_full, is_too_long, looked, out_of, sent, vmac_of}
 use Rattle.bsc_history.specs.Replies.{number_of, numbers}
@@ -82,12 +82,48 @@ BroadcastToOthersAlone a H = (e : Entry) (sender : ℕ) (m : List ℕ) (c : ℕ)
 abbrev pub AddsOnce : About → List Entry → Type 0
 AddsOnce a H = (e : Entry) (c : ℕ) → (sent a (H ++ e ∷ []) c ≡ sent a H c) ⊎ ((frame : List ℕ) × Gains a H e c frame)
 
--- A connection whose outbox a lawful Forward finds full ends as Full, and its outbox stays as it is.
+-- whether c is among some numbers
+abbrev pub is_among : ℕ → List ℕ → Bool
+is_among c ks = list_any (λ k. k == c) ks
+
+-- whether a reply names c as appended to
+abbrev pub names : ℕ → Reply → Bool
+names c (Appended conn) = conn == c
+names c (SentAll to missed skipped) = is_among c to
+names c reply = false
+
+-- A connection whose outbox a lawful unicast finds full holds its destination. It ends as Full, and every outbox
+-- stays as it is.
 abbrev pub FullCloses : About → List Entry → Type 0
 FullCloses a H = (e : Entry) (sender : ℕ) (m : List ℕ) (c : ℕ) →
-    Lawful a (moment H e) → e.call ≡ Forward sender m →
+    Lawful a (moment H e) → e.call ≡ Forward sender m → is_broadcast m ≡ false →
     IsTrue (is_found_full a (sent a H c) e.looks c) →
-    (ended (H ++ e ∷ []) c ≡ Some Full) × (sent a (H ++ e ∷ []) c ≡ sent a H c)
+    (number_of (holder H (destination m)) ≡ Some c)
+    × (ended (H ++ e ∷ []) c ≡ Some Full)
+    × ((k : ℕ) → sent a (H ++ e ∷ []) k ≡ sent a H k)
+
+-- whether a reply names c as missed
+abbrev pub names_missed : ℕ → Reply → Bool
+names_missed c (SentAll to missed skipped) = is_among c missed
+names_missed c reply = false
+
+-- A connection whose outbox a lawful broadcast finds full is named as missed, and its outbox stays as it is. Nobody
+-- ends by the broadcast, and nobody joins.
+abbrev pub FullMisses : About → List Entry → Type 0
+FullMisses a H = (e : Entry) (sender : ℕ) (m : List ℕ) (c : ℕ) →
+    Lawful a (moment H e) → e.call ≡ Forward sender m → IsTrue (is_broadcast m) →
+    IsTrue (is_found_full a (sent a H c) e.looks c) →
+    IsTrue (names_missed c e.reply)
+    × (sent a (H ++ e ∷ []) c ≡ sent a H c)
+    × (live (H ++ e ∷ []) ≡ live H)
+    × ((k : ℕ) → ended (H ++ e ∷ []) k ≡ ended H k)
+
+-- In the three lists of a broadcast's lawful reply together, each live connection but the sender stands once, and
+-- nobody else stands at all.
+abbrev pub OneOfThree : About → List Entry → Type 0
+OneOfThree a H = (e : Entry) (sender : ℕ) (m to missed skipped : List ℕ) (c : ℕ) →
+    Lawful a (moment H e) → e.call ≡ Forward sender m → e.reply ≡ SentAll to missed skipped →
+    count_by (λ k. k == c) (to ++ missed ++ skipped) ≡ (if is_live H c && not (c == sender) then 1 else 0)
 
 -- Nothing enters the outbox of a connection that has ended, whatever the next entry is.
 abbrev pub NoneAfterEnd : About → List Entry → Type 0
@@ -112,12 +148,6 @@ RefusalChangesNone H = (e : Entry) (who : Identity) (refusal : Refusal) →
 abbrev pub kept_if : {A : Type 0} → (A → Bool) → Option A → Option A
 kept_if stays None = None
 kept_if stays (Some x) = if stays x then Some x else None
-
--- whether a reply names c as appended to
-abbrev pub names : ℕ → Reply → Bool
-names c (Appended conn) = conn == c
-names c (SentAll to closed skipped) = is_among c to
-names c reply = false
 
 -- A Forward adds its frame to the outboxes that its reply names, and to no other.
 abbrev pub AddsAsNamed : About → List Entry → Type 0

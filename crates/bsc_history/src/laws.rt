@@ -6,7 +6,7 @@ ghost use Rattle.std.specs.Prelude.{List};
 ghost use Rattle.bsc_history.specs.declared.limits.About.{About};
 ghost use Rattle.bsc_history.specs.declared.entry.Entry.{Entry};
 ghost use Rattle.bsc_history.specs.Legality.{Legal};
-ghost use Rattle.bsc_history.specs.Laws.{NumbersInOrder, NumbersAreNew, OneHolder, OneOfDevice, UnicastJoins, UnicastToHolderAlone, BroadcastJoins, BroadcastToOthersAlone, AddsOnce, FullCloses, NoneAfterEnd, JoinTakesOver, RefusalChangesNone, AddsAsNamed, LiveUntilEnded, WithinCapacity};
+ghost use Rattle.bsc_history.specs.Laws.{NumbersInOrder, NumbersAreNew, OneHolder, OneOfDevice, UnicastJoins, UnicastToHolderAlone, BroadcastJoins, BroadcastToOthersAlone, AddsOnce, FullCloses, FullMisses, OneOfThree, NoneAfterEnd, JoinTakesOver, RefusalChangesNone, AddsAsNamed, LiveUntilEnded, WithinCapacity};
 
 /// Connections are numbered from 1, in the order of joining.
 pub fn numbering()
@@ -53,9 +53,19 @@ pub fn once()
     ensures { (a : About) (H : List Entry) → AddsOnce a H }
 {}
 
-/// A connection whose outbox is found full ends, and what was meant for it is not added.
+/// A unicast that finds its holder's outbox full ends that connection as Full, and nothing is added.
 pub fn full_closes()
     ensures { (a : About) (H : List Entry) → Legal a H → FullCloses a H }
+{}
+
+/// A broadcast that finds an outbox full adds nothing to it, ends nobody, and names it as missed.
+pub fn full_misses()
+    ensures { (a : About) (H : List Entry) → FullMisses a H }
+{}
+
+/// Each live connection but the sender stands in exactly one of the three lists of a broadcast's reply.
+pub fn one_of_three()
+    ensures { (a : About) (H : List Entry) → Legal a H → OneOfThree a H }
 {}
 
 /// Nothing enters an ended outbox.
