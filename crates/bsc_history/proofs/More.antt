@@ -46,7 +46,7 @@ looked-more H e c =
 
 -- ends
 
-or_none : {A : Type 0} (o : Option A) → option_or o None ≡ o
+pub or_none : {A : Type 0} (o : Option A) → option_or o None ≡ o
 or_none None = refl
 or_none (Some x) = refl
 
@@ -127,6 +127,12 @@ live-same H e none ends =
     let K = λ (x : Connection). is_none (end_by x.number e) in
     live-more H e ∙ ap (λ (o : Option Connection). filter K (live H) ++ option_to_list o) none ∙ append-nil (filter K (live H)) ∙ filter_every K (live H) (λ x. ap is_none (ends x.number))
 
+-- by an entry by which nobody joins and nobody leaves, the same connections are unleft
+pub unleft-same : (H : List Entry) (e : Entry) → connection_of e ≡ None → ((c : ℕ) → leaves c e ≡ false) → unleft (H ++ e ∷ []) ≡ unleft H
+unleft-same H e none stay =
+    let K = λ (x : Connection). not (leaves x.number e) in
+    unleft-more H e ∙ ap (λ (o : Option Connection). filter K (unleft H) ++ option_to_list o) none ∙ append-nil (filter K (unleft H)) ∙ filter_every K (unleft H) (λ x. ap not (stay x.number))
+
 -- an entry that doesn't end c leaves the End of c as it was
 pub ended-same : (H : List Entry) (e : Entry) (c : ℕ) → end_by c e ≡ None → ended (H ++ e ∷ []) c ≡ ended H c
 ended-same H e c none =
@@ -160,6 +166,14 @@ is_stopped-more H e = list_any-append stops H (e ∷ []) ∙ ap (λ (b : Bool). 
 
 pub entries-more : (S : List Stamped) (s : Stamped) → entries (S ++ s ∷ []) ≡ entries S ++ s.entry ∷ []
 entries-more S s = map-append (λ (x : Stamped). x.entry) S (s ∷ [])
+
+-- What holds of no entries, and stays with each one more, holds of every list of entries.
+each_from : (P : List Entry → Type 0) → ((G : List Entry) (e : Entry) → P G → P (G ++ e ∷ [])) → (G es : List Entry) → P G → P (G ++ es)
+each_from P more G [] p = rw append-nil p
+each_from P more G (x ∷ es) p = let all = each_from P more (G ++ x ∷ []) es (more G x p) in rw append_assoc at all
+
+pub each_entry : (P : List Entry → Type 0) → P [] → ((G : List Entry) (e : Entry) → P G → P (G ++ e ∷ [])) → (H : List Entry) → P H
+each_entry P none more H = each_from P more [] H none
 
 -- legality
 

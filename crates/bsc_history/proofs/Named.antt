@@ -43,11 +43,11 @@ find_numbered c q (x ∷ xs) =
     ] in
     by (x.number == c) (q x.number) refl refl
 
-some_or : {A : Type 0} (o p : Option A) → is_some (option_or o p) ≡ (is_some o || is_some p)
+pub some_or : {A : Type 0} (o p : Option A) → is_some (option_or o p) ≡ (is_some o || is_some p)
 some_or None p = refl
 some_or (Some x) p = refl
 
-find_one : (c : ℕ) (o : Option Connection) → is_some (numbered c (option_to_list o)) ≡ is_number c o
+pub find_one : (c : ℕ) (o : Option Connection) → is_some (numbered c (option_to_list o)) ≡ is_number c o
 find_one c None = refl
 find_one c (Some x) = elim (x.number == c) as (λ b. is_some (cond b (Some x) None) ≡ b) [ true ↦ refl | false ↦ refl ]
 

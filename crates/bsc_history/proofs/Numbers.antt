@@ -1,7 +1,7 @@
 -- Connections that haven't left have numbers of their own.
-use Rattle.std.proofs.Common.{◌≡◌, ◌≢◌, inl, inr, ℕ, ◌==◌, Bool, true, not, List, [], ◌∷◌, filter, Some, is_none, refl, sym, subst, arith}
+use Rattle.std.proofs.Common.{◌≡◌, ◌≢◌, ℕ, ◌==◌, Bool, true, not, List, filter, Some, is_none, refl, arith}
 use Rattle.std.specs.List.{list_any}
-use Rattle.std.proofs.lemmas.Bool.{eq-eqb, both_ways, or_left, or_right}
+use Rattle.std.proofs.lemmas.Bool.{eq-eqb, both_ways}
 use Rattle.bsc_history.specs.declared.limits.About.{About}
 use Rattle.bsc_history.specs.declared.entry.Entry.{Entry}
 use Rattle.bsc_history.specs.declared.connection.Connection.{Connection}
@@ -9,15 +9,10 @@ use Rattle.bsc_history.specs.Entries.{connection_of, joins, moment}
 use Rattle.bsc_history.specs.Ends.{end_by, first_end, joined_where, leaves, live, unleft}
 use Rattle.bsc_history.specs.Legality.{Lawful, Legal}
 use Rattle.bsc_history.specs.Laws.{Apart, NumbersAreNew}
-use Rattle.bsc_history.proofs.Lists.{In, In-filter, Apart-filter, Apart-push}
+use Rattle.bsc_history.proofs.Lists.{In, In-filter, any_In, Apart-filter, Apart-push}
 use Rattle.bsc_history.proofs.More.{along, live-more, unleft-more}
 use Rattle.bsc_history.proofs.Uniqueness.{settled, comes}
 use Rattle.bsc_history.proofs.Named.{unleft_joined}
-
-any_In : (p : Connection → Bool) (x : Connection) (xs : List Connection) → In x xs → p x ≡ true → list_any p xs ≡ true
-any_In p x [] m h = absurd m
-any_In p x (y ∷ ys) (inl e) h = or_left (p y) (list_any p ys) (subst (λ z. p z ≡ true) (sym e) h)
-any_In p x (y ∷ ys) (inr m) h = or_right (p y) (list_any p ys) (any_In p x ys m h)
 
 -- the number of one that joins is that of none of those who joined before
 new_number : (a : About) (G : List Entry) (e : Entry) (test : ℕ → List Entry → Bool) (x y : Connection) → Legal a G → Lawful a (moment G e) → In x (joined_where test G) → connection_of e ≡ Some y → x.number ≢ y.number

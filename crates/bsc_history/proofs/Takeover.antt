@@ -1,4 +1,4 @@
--- A connect joins and takes over, or is refused and changes nothing.
+-- Who joins holds its address, and takes over from its device's live connection.
 use Rattle.std.proofs.Common.{◌≡◌, inl, inr, ℕ, ◌==◌, Bool, true, false, cond, List, [], ◌∷◌, ◌++◌, Option, Some, None, MatchOption, is_none, is_some, refl, ap, sym, ◌∙◌, subst}
 use Rattle.std.specs.List.{list_any}
 use Rattle.std.specs.Option.{option_or}
@@ -18,9 +18,9 @@ use Rattle.bsc_history.specs.Ends.{end_by, end_by_call, end_by_reply, ended, is_
 use Rattle.bsc_history.specs.Holders.{holder, of_device}
 use Rattle.bsc_history.specs.Replies.{number_of}
 use Rattle.bsc_history.specs.Legality.{Lawful, Legal}
-use Rattle.bsc_history.specs.Laws.{JoinTakesOver, RefusalChangesNone}
+use Rattle.bsc_history.specs.Laws.{JoinTakesOver}
 use Rattle.bsc_history.proofs.Lists.{In, find_says}
-use Rattle.bsc_history.proofs.More.{ended-more, live-same}
+use Rattle.bsc_history.proofs.More.{ended-more}
 use Rattle.bsc_history.proofs.Holding.{holder-join}
 use Rattle.bsc_history.proofs.Uniqueness.{comes, is_None}
 use Rattle.bsc_history.proofs.Named.{live_until_ended}
@@ -55,8 +55,3 @@ join_takes_over a H legal e who c replaced lawful is said =
           let ends : end_by k e ≡ Some Replaced = ap (λ (call : Call). option_or (end_by_call k call) (end_by_reply k e.reply)) is ∙ ap (end_by_reply k) said ∙ ap (λ (o : Option ℕ). end_by_reply k (Joined c o)) old ∙ ap (λ (b : Bool). cond b (Some Replaced) None) (eq-eqb k k refl) in
           ended-more H e k ∙ ap (λ (w : Option End). option_or w (cond (list_any (joins k) H) (end_by k e) None)) (is_None (ended H k) came.1) ∙ ap (λ (b : Bool). cond b (end_by k e) None) came.0 ∙ ends),
     )
-
-pub refusal_changes_none : (H : List Entry) → RefusalChangesNone H
-refusal_changes_none H e who refusal is said = live-same H e
-    (ap (λ (call : Call). made_by e.caller call e.reply) is ∙ ap (made_by e.caller (Connect who)) said)
-    (λ c. ap (λ (call : Call). option_or (end_by_call c call) (end_by_reply c e.reply)) is ∙ ap (end_by_reply c) said)

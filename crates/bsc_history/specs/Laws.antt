@@ -5,17 +5,18 @@ use Rattle.bsc_octets.specs.declared.identity.Identity.{Identity}
 use Rattle.bsc_octets.specs.Forwarding.{destination, is_broadcast, out}
 use Rattle.bsc_history.specs.declared.limits.About.{About}
 use Rattle.bsc_history.specs.declared.ending.End.{End}
-use Rattle.bsc_history.specs.declared.ending.End.TheVariants.{Replaced, Full}
+use Rattle.bsc_history.specs.declared.ending.End.TheVariants.{Left, Replaced, Full, Stopped}
 use Rattle.bsc_history.specs.declared.entry.Entry.{Entry}
-use Rattle.bsc_history.specs.declared.call.Call.TheVariants.{Connect, Forward}
+use Rattle.bsc_history.specs.declared.call.Call.TheVariants.{Connect, Forward, Leave, Stop}
 use Rattle.bsc_history.specs.declared.reply.Refusal.{Refusal}
 use Rattle.bsc_history.specs.declared.reply.Reply.{Reply}
-use Rattle.bsc_history.specs.declared.reply.Reply.TheVariants.{Joined, Refused, Appended, SentAll}
+use Rattle.bsc_history.specs.declared.reply.Reply.TheVariants.{Joined, Refused, Appended, Closed, SentAll}
 use Rattle.bsc_history.specs.declared.connection.Connection.{Connection}
 use Rattle.bsc_history.specs.Entries.{joins, moment}
 use Rattle.bsc_history.specs.Ends.{ended, is_live, joined, live, numbered, unleft}
 use Rattle.bsc_history.specs.Holders.{holder, of_device}
 use Rattle.bsc_history.specs.Outboxes.{added, is_found_full, is_too_long, looked, out_of, sent, vmac_of}
+use Rattle.bsc_history.specs.Counting.{counts}
 use Rattle.bsc_history.specs.Replies.{number_of, numbers}
 use Rattle.bsc_history.specs.Legality.{Lawful}
 
@@ -138,11 +139,35 @@ JoinTakesOver a H = (e : Entry) (who : Identity) (c : ℕ) (replaced : Option �
     × (replaced ≡ number_of (of_device H who.device))
     × ((k : ℕ) → replaced ≡ Some k → ended (H ++ e ∷ []) k ≡ Some Replaced)
 
--- By a connect that is refused no one joins and no one ends.
-abbrev pub RefusalChangesNone : List Entry → Type 0
-RefusalChangesNone H = (e : Entry) (who : Identity) (refusal : Refusal) →
+-- A connect that is refused changes nothing but its entry and its count: who is live, who hasn't left, how each
+-- connection ended and what entered each outbox are as before, and so is each newest look, where the entry is lawful.
+abbrev pub RefusalChangesNone : About → List Entry → Type 0
+RefusalChangesNone a H = (e : Entry) (who : Identity) (refusal : Refusal) →
     e.call ≡ Connect who → e.reply ≡ Refused refusal →
-    live (H ++ e ∷ []) ≡ live H
+    (live (H ++ e ∷ []) ≡ live H)
+    × (unleft (H ++ e ∷ []) ≡ unleft H)
+    × ((c : ℕ) → ended (H ++ e ∷ []) c ≡ ended H c)
+    × ((c : ℕ) → sent a (H ++ e ∷ []) c ≡ sent a H c)
+    × (Lawful a (moment H e) → (c : ℕ) → looked (H ++ e ∷ []) c ≡ looked H c)
+    × (counts (H ++ e ∷ []) ≡ record (counts H) { refused = (counts H).refused + 1 })
+
+-- An End, once it stands, stands in every longer history, with the same cause.
+abbrev pub EndStays : List Entry → Type 0
+EndStays H = (c : ℕ) (ending : End) (more : List Entry) → ended H c ≡ Some ending → ended (H ++ more) c ≡ Some ending
+
+-- What the entry is that ends c: its own Leave, a Connect that took over from it, a unicast that found its outbox
+-- full, or the Stop.
+abbrev pub IsCause : ℕ → End → Entry → Type 0
+IsCause c Left e = (taken : ℕ) × (empties : ℕ) × (e.call ≡ Leave c taken empties)
+IsCause c Replaced e = (who : Identity) × (n : ℕ) × (e.call ≡ Connect who) × (e.reply ≡ Joined n (Some c))
+IsCause c Full e = (sender : ℕ) × (m : List ℕ) × (e.call ≡ Forward sender m) × (is_broadcast m ≡ false) × (e.reply ≡ Closed c)
+IsCause c Stopped e = e.call ≡ Stop
+
+-- A connection that has ended was live until one entry, and that entry is the cause of its End.
+abbrev pub EndsByCause : List Entry → Type 0
+EndsByCause H = (c : ℕ) (ending : End) → ended H c ≡ Some ending →
+    (before : List Entry) × (e : Entry) × (after : List Entry) ×
+    (H ≡ before ++ e ∷ after) × IsTrue (is_live before c) × IsCause c ending e
 
 -- what is left of an option that may not stay
 abbrev pub kept_if : {A : Type 0} → (A → Bool) → Option A → Option A
