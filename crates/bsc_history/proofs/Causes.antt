@@ -27,10 +27,6 @@ use Rattle.bsc_history.proofs.Named.{live_until_ended}
 
 -- an End stays
 
-some_first : {A : Type 0} (o p : Option A) (x : A) → o ≡ Some x → option_or o p ≡ Some x
-some_first None p x h = cc
-some_first (Some y) p x h = h
-
 first_end_stays : (c : ℕ) (ending : End) (es more : List Entry) → first_end c es ≡ Some ending → first_end c (es ++ more) ≡ Some ending
 first_end_stays c ending [] more h = cc
 first_end_stays c ending (e ∷ es) more h =

@@ -122,18 +122,6 @@ pub none_found : {A : Type 0} (p : A → Bool) (xs : List A) → ((x : A) → In
 none_found p [] f = refl
 none_found p (x ∷ xs) f = rw (f x (inl refl)) (none_found p xs (λ y h. f y (inr h)))
 
-pub kept_all : {A : Type 0} (q : A → Bool) (o : Option A) → ((x : A) → q x ≡ true) → kept_if q o ≡ o
-kept_all q None h = refl
-kept_all q (Some x) h = rw (h x) refl
-
-pub kept_none : {A : Type 0} (q : A → Bool) (o : Option A) → ((x : A) → q x ≡ false) → kept_if q o ≡ None
-kept_none q None h = refl
-kept_none q (Some x) h = rw (h x) refl
-
-pub kept_same : {A : Type 0} (p q : A → Bool) (o : Option A) → ((x : A) → p x ≡ q x) → kept_if p o ≡ kept_if q o
-kept_same p q None h = refl
-kept_same p q (Some x) h = ap (λ (b : Bool). cond b (Some x) None) (h x)
-
 pub none_filtered : {A : Type 0} (p : A → Bool) (xs : List A) → ((x : A) → In x xs → p x ≡ false) → filter p xs ≡ []
 none_filtered p [] f = refl
 none_filtered p (x ∷ xs) f = rw (f x (inl refl)) (none_filtered p xs (λ y h. f y (inr h)))

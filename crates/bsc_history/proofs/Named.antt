@@ -22,8 +22,8 @@ use Rattle.bsc_history.specs.Outboxes.{added_by, meant, out_of, takes, is_too_lo
 use Rattle.bsc_history.specs.Replies.{reply, connect_reply, forward_reply, unicast_reply, broadcast_reply, unless_ended, is_stopped, numbers}
 use Rattle.bsc_history.specs.Legality.{is_of, may_call, Legal}
 use Rattle.bsc_history.specs.Laws.{is_among, names, AddsAsNamed, LiveUntilEnded}
-use Rattle.bsc_history.proofs.Lists.{filter-find}
-use Rattle.bsc_history.proofs.More.{along, live-more, ended-more, is_stopped-more}
+use Rattle.bsc_history.proofs.Lists.{filter-find, none_filtered}
+use Rattle.bsc_history.proofs.More.{along, live-more, ended-more, is_stopped-more, or_false}
 use Rattle.bsc_history.proofs.Uniqueness.{settled, comes, vmac_same, not_joined}
 
 -- live until ended
@@ -69,10 +69,6 @@ turn false true (Some y) v once free = let bad : Some y ≡ None = free refl in 
 turn false false None v once free = refl
 turn false false (Some y) v once free = refl
 
-or_false : (b : Bool) → (b || false) ≡ b
-or_false true = refl
-or_false false = refl
-
 pub live_until_ended : (a : About) (H : List Entry) → Legal a H → LiveUntilEnded H
 unfolding joined_where ended
 live_until_ended a H legal = along a LiveUntilEnded (λ c. refl) (λ G e legalG p lawful c.
@@ -101,10 +97,6 @@ stop_ends c e h =
     let by : (call : Call) → is_stop call ≡ true → is_none (option_or (end_by_call c call) (end_by_reply c e.reply)) ≡ false = λ call. elim call as (λ call. is_stop call ≡ true → is_none (option_or (end_by_call c call) (end_by_reply c e.reply)) ≡ false) [ Connect who ↦ λ g. cc | Forward s m ↦ λ g. cc | Leave k t n ↦ λ g. cc | Stop ↦ λ g. refl | Count ↦ λ g. cc ] in
     by e.call h
 
-filter_none : (q : Connection → Bool) (xs : List Connection) → ((x : Connection) → q x ≡ false) → filter q xs ≡ []
-filter_none q [] h = refl
-filter_none q (x ∷ xs) h = rw (h x) (filter_none q xs h)
-
 refused_when_stopped : (a : About) (H : List Entry) (caller : ℕ) (call : Call) (looks : List Look) (r : Reply) → is_stopped H ≡ true → r ≡ reply a H call looks → made_by caller call r ≡ None
 unfolding connect_reply
 refused_when_stopped a H caller (Connect who) looks (Joined c p) stopped h = let k = rw stopped at h in cc
@@ -116,7 +108,7 @@ none_live a H legal = along a (λ G. is_stopped G ≡ true → live G ≡ []) (�
     let K = λ (x : Connection). is_none (end_by x.number e) in
     elim (or_cases (is_stopped G) (stops e) (sym (is_stopped-more G e) ∙ h)) [
       | inl was ↦ live-more G e ∙ ap (λ (l : List Connection). filter K l ++ option_to_list (connection_of e)) (p was) ∙ ap option_to_list (refused_when_stopped a G e.caller e.call e.looks e.reply was lawful.replied)
-      | inr now ↦ live-more G e ∙ ap (λ (l : List Connection). l ++ option_to_list (connection_of e)) (filter_none K (live G) (λ x. stop_ends x.number e now)) ∙ ap option_to_list (call_joins e.caller e.call e.reply now)
+      | inr now ↦ live-more G e ∙ ap (λ (l : List Connection). l ++ option_to_list (connection_of e)) (none_filtered K (live G) (λ x m. stop_ends x.number e now)) ∙ ap option_to_list (call_joins e.caller e.call e.reply now)
     ]) H legal
 
 -- who is unleft has joined

@@ -1,5 +1,5 @@
 -- Who joins holds its address, and takes over from its device's live connection.
-use Rattle.std.proofs.Common.{◌≡◌, inl, inr, ℕ, ◌==◌, Bool, true, false, cond, List, [], ◌∷◌, ◌++◌, Option, Some, None, MatchOption, is_none, is_some, refl, ap, sym, ◌∙◌, subst}
+use Rattle.std.proofs.Common.{◌≡◌, inl, inr, ℕ, ◌==◌, Bool, true, false, cond, List, [], ◌∷◌, Option, Some, None, MatchOption, is_none, is_some, refl, ap, sym, ◌∙◌, subst}
 use Rattle.std.specs.List.{list_any}
 use Rattle.std.specs.Option.{option_or}
 use Rattle.std.proofs.lemmas.Bool.{and_parts, eq-eqb}
@@ -13,11 +13,11 @@ use Rattle.bsc_history.specs.declared.ending.End.TheVariants.{Replaced}
 use Rattle.bsc_history.specs.declared.entry.Entry.{Entry}
 use Rattle.bsc_history.specs.declared.reply.Reply.TheVariants.{Joined}
 use Rattle.bsc_history.specs.declared.connection.Connection.{Connection}
-use Rattle.bsc_history.specs.Entries.{connection_of, joins, made_by, moment}
+use Rattle.bsc_history.specs.Entries.{connection_of, joins, made_by}
 use Rattle.bsc_history.specs.Ends.{end_by, end_by_call, end_by_reply, ended, is_live, live, numbered}
-use Rattle.bsc_history.specs.Holders.{holder, of_device}
+use Rattle.bsc_history.specs.Holders.{of_device}
 use Rattle.bsc_history.specs.Replies.{number_of}
-use Rattle.bsc_history.specs.Legality.{Lawful, Legal}
+use Rattle.bsc_history.specs.Legality.{Legal}
 use Rattle.bsc_history.specs.Laws.{JoinTakesOver}
 use Rattle.bsc_history.proofs.Lists.{In, find_says}
 use Rattle.bsc_history.proofs.More.{ended-more}
@@ -44,10 +44,9 @@ pub join_takes_over : (a : About) (H : List Entry) → Legal a H → JoinTakesOv
 join_takes_over a H legal e who c replaced lawful is said =
     let x : Connection = record { number = c; caller = e.caller; who = who } in
     let new : connection_of e ≡ Some x = ap (λ (call : Call). made_by e.caller call e.reply) is ∙ ap (made_by e.caller (Connect who)) said in
-    let it : e ≡ record { caller = e.caller; call = Connect who; looks = e.looks; reply = Joined c replaced } = (λ i. record { caller = e.caller; call = is i; looks = e.looks; reply = said i }) in
     let r = comes a H e x lawful new in
     let took : replaced ≡ number_of (of_device H who.device) = (let j : Joined c replaced ≡ Joined c (number_of (of_device H who.device)) = sym said ∙ r.1 in cc) in (
-      ap number_of (subst (λ f. holder (H ++ f ∷ []) who.vmac ≡ Some x) (sym it) (holder-join a H who.vmac legal e.caller e.looks who c replaced (subst (λ f. Lawful a (moment H f)) it lawful) refl)),
+      ap number_of (holder-join a H e x legal lawful new),
       took,
       λ k old. (
           let now = of_device_live H who k (sym took ∙ old) in

@@ -60,7 +60,8 @@ leaves c e = is_leave c e.call
 -- the connections that joined, in order, where the entries after the joining pass the test
 unfoldable pub joined_where : (ℕ → List Entry → Bool) → List Entry → List Connection
 joined_where test [] = []
-joined_where test (e ∷ after) = filter (λ c. test c.number after) (option_to_list (connection_of e)) ++ joined_where test after
+joined_where test (e ∷ after) =
+    filter (λ c. test c.number after) (option_to_list (connection_of e)) ++ joined_where test after
 
 -- All connections that joined.
 abbrev pub joined : List Entry → List Connection

@@ -160,7 +160,8 @@ EndStays H = (c : ℕ) (ending : End) (more : List Entry) → ended H c ≡ Some
 abbrev pub IsCause : ℕ → End → Entry → Type 0
 IsCause c Left e = (taken : ℕ) × (empties : ℕ) × (e.call ≡ Leave c taken empties)
 IsCause c Replaced e = (who : Identity) × (n : ℕ) × (e.call ≡ Connect who) × (e.reply ≡ Joined n (Some c))
-IsCause c Full e = (sender : ℕ) × (m : List ℕ) × (e.call ≡ Forward sender m) × (is_broadcast m ≡ false) × (e.reply ≡ Closed c)
+IsCause c Full e =
+    (sender : ℕ) × (m : List ℕ) × (e.call ≡ Forward sender m) × (is_broadcast m ≡ false) × (e.reply ≡ Closed c)
 IsCause c Stopped e = e.call ≡ Stop
 
 -- A connection that has ended was live until one entry, and that entry is the cause of its End.
@@ -169,14 +170,16 @@ EndsByCause H = (c : ℕ) (ending : End) → ended H c ≡ Some ending →
     (before : List Entry) × (e : Entry) × (after : List Entry) ×
     (H ≡ before ++ e ∷ after) × IsTrue (is_live before c) × IsCause c ending e
 
--- what is left of an option that may not stay
+-- an option, kept where its value passes a test
 abbrev pub kept_if : {A : Type 0} → (A → Bool) → Option A → Option A
 kept_if stays None = None
 kept_if stays (Some x) = if stays x then Some x else None
 
 -- A Forward adds its frame to the outboxes that its reply names, and to no other.
 abbrev pub AddsAsNamed : About → List Entry → Type 0
-AddsAsNamed a H = (e : Entry) (sender : ℕ) (m : List ℕ) (c : ℕ) → Lawful a (moment H e) → e.call ≡ Forward sender m → added a (moment H e) (sent a H c) c ≡ (if names c e.reply then out_of H sender m ∷ [] else [])
+AddsAsNamed a H = (e : Entry) (sender : ℕ) (m : List ℕ) (c : ℕ) →
+    Lawful a (moment H e) → e.call ≡ Forward sender m →
+    added a (moment H e) (sent a H c) c ≡ (if names c e.reply then out_of H sender m ∷ [] else [])
 
 -- A connection is live exactly where it has joined and has no end.
 abbrev pub LiveUntilEnded : List Entry → Type 0

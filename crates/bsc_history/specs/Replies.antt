@@ -86,7 +86,8 @@ forward_reply a H sender m looks =
     let o = out_of H sender m in
     if is_stopped H then Stopped
     else unless_ended (ended H sender)
-    (if is_broadcast m then broadcast_reply a H o looks (meant H sender m) else unicast_reply a H m o looks (holder H (destination m)))
+    (if is_broadcast m then broadcast_reply a H o looks (meant H sender m)
+    else unicast_reply a H m o looks (holder H (destination m)))
 
 -- The reply of a call after the history H. A Leave is told how its connection ended, as Left where it was live.
 abbrev pub reply : About → List Entry → Call → List Look → Reply

@@ -1,5 +1,5 @@
-//! What holds of every legal history, and some of it of any. The functions do nothing: their contracts are the
-//! laws.
+//! What holds of every legal history; some of it holds of any list of entries. The functions do nothing:
+//! their contracts are the laws.
 #![tactic(auto)]
 
 ghost use Rattle.std.specs.Prelude.{List};
