@@ -9,11 +9,11 @@ use Rattle.bsc_history.specs.declared.entry.Entry.{Entry}
 use Rattle.bsc_history.specs.declared.looks.Look.{Look}
 use Rattle.bsc_history.specs.declared.connection.Connection.{Connection}
 use Rattle.bsc_history.specs.Entries.{joins, moment}
-use Rattle.bsc_history.specs.Ends.{ended, is_among, is_live, numbered}
+use Rattle.bsc_history.specs.Ends.{ended, is_live, numbered}
 use Rattle.bsc_history.specs.Outboxes.{newer, looked, added, added_by, meant, out_of, takes, finds_full, is_too_long, is_found_full, sent}
 use Rattle.bsc_history.specs.Replies.{numbers, is_stopped}
 use Rattle.bsc_history.specs.Legality.{looks_at, can_find, Lawful, Legal}
-use Rattle.bsc_history.specs.Laws.{WithinCapacity}
+use Rattle.bsc_history.specs.Laws.{is_among, WithinCapacity}
 use Rattle.bsc_history.proofs.Lists.{In}
 use Rattle.bsc_history.proofs.Named.{none_live, live_until_ended}
 use Rattle.bsc_history.proofs.More.{along, sent-more, looked-more}

@@ -1,5 +1,5 @@
 -- Which outboxes gain a frame by an entry, and which frame.
-use Rattle.std.proofs.Common.{◌≡◌, ◌≢◌, ◌⊎◌, inl, inr, ℕ, ◌==◌, Bool, true, false, not, ◌&&◌, ◌||◌, cond, List, [], ◌∷◌, ◌++◌, filter, Option, Some, None, is_some, option_to_list, refl, ap, sym, ◌∙◌, append-nil}
+use Rattle.std.proofs.Common.{◌≡◌, ◌≢◌, ◌⊎◌, ◌≤◌, ◌+◌, inl, inr, ℕ, ◌==◌, Bool, true, false, not, ◌&&◌, ◌||◌, cond, List, [], ◌∷◌, ◌++◌, length, filter, Option, Some, None, is_some, option_to_list, refl, ap, sym, ◌∙◌, append-nil, length-append, arith}
 use Rattle.std.specs.Prelude.{if◌then◌else◌}
 use Rattle.std.specs.List.{list_any}
 use Rattle.std.proofs.lemmas.Bool.{eqb-true, eq-eqb, ne_eqb, and_parts, or_cases, or_left, or_right, both_ways}
@@ -17,7 +17,7 @@ use Rattle.bsc_history.specs.Outboxes.{added_by, meant, out_of, takes, is_too_lo
 use Rattle.bsc_history.specs.Replies.{number_of}
 use Rattle.bsc_history.specs.Legality.{Legal}
 use Rattle.bsc_history.specs.Laws.{UnicastJoins, BroadcastJoins, UnicastToHolderAlone, BroadcastToOthersAlone, AddsOnce}
-use Rattle.bsc_history.proofs.More.{sent-more}
+use Rattle.bsc_history.proofs.More.{each_entry, sent-more}
 use Rattle.bsc_history.proofs.Named.{meant-unicast}
 
 -- a call adds nothing, or one frame
@@ -35,6 +35,16 @@ adds_once a H e c =
       | inl none ↦ inl (sent-more a H e c ∙ ap (λ (l : List (List ℕ)). s ++ l) none ∙ append-nil s)
       | inr one ↦ inr (one.0, sent-more a H e c ∙ ap (λ (l : List (List ℕ)). s ++ l) one.1)
     ]
+
+-- An outbox was entered by no more frames than the history has entries.
+pub sent_short : (a : About) (H : List Entry) (c : ℕ) → length (sent a H c) ≤ length H
+unfolding sent
+sent_short a H c = each_entry (λ G. length (sent a G c) ≤ length G) (omega arith) (λ G e short.
+    let long : length (G ++ e ∷ []) ≡ length G + 1 = length-append G (e ∷ []) in
+    elim (adds_once a G e c) [
+      | inl same ↦ (let l : length (sent a (G ++ e ∷ []) c) ≡ length (sent a G c) = ap length same in omega arith)
+      | inr one ↦ (let l : length (sent a (G ++ e ∷ []) c) ≡ length (sent a G c) + 1 = ap length one.1 ∙ length-append (sent a G c) (one.0 ∷ []) in omega arith)
+    ]) H
 
 -- where a Forward makes the outbox of c grow, a connection that it means takes it, and the outbox gains the frame as it is passed on
 gains : (a : About) (H : List Entry) (e : Entry) (sender : ℕ) (m : List ℕ) (c : ℕ) → e.call ≡ Forward sender m → sent a (H ++ e ∷ []) c ≢ sent a H c → (list_any (takes a (out_of H sender m) (sent a H c) e.looks c) (meant H sender m) ≡ true) × (sent a (H ++ e ∷ []) c ≡ sent a H c ++ out_of H sender m ∷ [])

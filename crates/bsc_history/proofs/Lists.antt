@@ -1,7 +1,7 @@
 -- Members of lists, and elements that are apart.
 use Rattle.std.proofs.Common.{◌≡◌, ◌≢◌, ◌⊎◌, inl, inr, Bool, true, false, cond, List, [], ◌∷◌, ◌++◌, filter, find, Option, Some, None, MatchOption, option_to_list, refl, ap, sym, ◌∙◌, subst}
 use Rattle.std.specs.List.{list_any, AllByRecursion}
-use Rattle.std.proofs.lemmas.Bool.{false_from_ne_true}
+use Rattle.std.proofs.lemmas.Bool.{false_from_ne_true, or_cases, or_left, or_right}
 use Rattle.bsc_history.specs.Laws.{Apart, kept_if}
 
 abbrev pub In : {A : Type 0} → A → List A → Type 0
@@ -51,6 +51,22 @@ pub In_from_all : {A : Type 0} (P : A → Type 0) (x : A) (xs : List A) → AllB
 In_from_all P x [] f h = absurd h
 In_from_all P x (y ∷ ys) f (inl e) = subst P e f.0
 In_from_all P x (y ∷ ys) f (inr h) = In_from_all P x ys f.1 h
+
+pub any_gives : {A : Type 0} (t : A → Bool) (xs : List A) → list_any t xs ≡ true → (x : A) × In x xs × (t x ≡ true)
+any_gives t [] h = cc
+any_gives t (x ∷ xs) h = elim (or_cases (t x) (list_any t xs) h) [ inl here ↦ (x, inl refl, here) | inr later ↦ (let r = any_gives t xs later in (r.0, inr r.1, r.2)) ]
+
+pub any_In : {A : Type 0} (t : A → Bool) (x : A) (xs : List A) → In x xs → t x ≡ true → list_any t xs ≡ true
+any_In t x [] m h = absurd m
+any_In t x (y ∷ ys) (inl e) h = or_left (t y) (list_any t ys) (subst (λ z. t z ≡ true) (sym e) h)
+any_In t x (y ∷ ys) (inr m) h = or_right (t y) (list_any t ys) (any_In t x ys m h)
+
+pub In_kept : {A : Type 0} (q : A → Bool) (x : A) (xs : List A) → In x xs → q x ≡ true → In x (filter q xs)
+In_kept q x [] m h = absurd m
+In_kept q x (y ∷ ys) (inl e) h = (let k : q y ≡ true = subst (λ z. q z ≡ true) (sym e) h in subst (λ b. In x (cond b (y ∷ filter q ys) (filter q ys))) (sym k) (inl e))
+In_kept q x (y ∷ ys) (inr m) h =
+    let rest = In_kept q x ys m h in
+    elim (q y) as (λ b. In x (cond b (y ∷ filter q ys) (filter q ys))) [ true ↦ inr rest | false ↦ rest ]
 
 pub none_passes : {A : Type 0} (p : A → Bool) (xs : List A) → ((x : A) → In x xs → p x ≡ false) → list_any p xs ≡ false
 none_passes p [] f = refl
@@ -105,18 +121,6 @@ find-filter {A} f p q (x ∷ xs) h agree =
 pub none_found : {A : Type 0} (p : A → Bool) (xs : List A) → ((x : A) → In x xs → p x ≡ false) → find p xs ≡ None
 none_found p [] f = refl
 none_found p (x ∷ xs) f = rw (f x (inl refl)) (none_found p xs (λ y h. f y (inr h)))
-
-pub kept_all : {A : Type 0} (q : A → Bool) (o : Option A) → ((x : A) → q x ≡ true) → kept_if q o ≡ o
-kept_all q None h = refl
-kept_all q (Some x) h = rw (h x) refl
-
-pub kept_none : {A : Type 0} (q : A → Bool) (o : Option A) → ((x : A) → q x ≡ false) → kept_if q o ≡ None
-kept_none q None h = refl
-kept_none q (Some x) h = rw (h x) refl
-
-pub kept_same : {A : Type 0} (p q : A → Bool) (o : Option A) → ((x : A) → p x ≡ q x) → kept_if p o ≡ kept_if q o
-kept_same p q None h = refl
-kept_same p q (Some x) h = ap (λ (b : Bool). cond b (Some x) None) (h x)
 
 pub none_filtered : {A : Type 0} (p : A → Bool) (xs : List A) → ((x : A) → In x xs → p x ≡ false) → filter p xs ≡ []
 none_filtered p [] f = refl

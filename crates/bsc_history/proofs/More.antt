@@ -16,7 +16,7 @@ use Rattle.bsc_history.specs.Entries.{connection_of, joins, own, stops, Moment, 
 use Rattle.bsc_history.specs.Ends.{end_by, first_end, ended, leaves, joined_where, joined, live, unleft}
 use Rattle.bsc_history.specs.Outboxes.{newer, looked, added, sent}
 use Rattle.bsc_history.specs.declared.mark.Stamped.{Stamped}
-use Rattle.bsc_history.specs.Counting.{counts, counts_of, plus, one_if, is_joined, is_replacing, is_refused, is_unicast_call, is_broadcast_call, is_forward_call, appended_in, closed_in}
+use Rattle.bsc_history.specs.Counting.{counts, counts_of, plus, one_if, is_joined, is_replacing, is_refused, is_unicast_call, is_broadcast_call, is_forward_call, appended_in, is_closing, missed_in}
 use Rattle.bsc_history.specs.Replies.{is_stopped}
 use Rattle.bsc_history.specs.Marks.{entries}
 use Rattle.bsc_history.specs.Legality.{Lawful, Legal}
@@ -46,7 +46,7 @@ looked-more H e c =
 
 -- ends
 
-or_none : {A : Type 0} (o : Option A) → option_or o None ≡ o
+pub or_none : {A : Type 0} (o : Option A) → option_or o None ≡ o
 or_none None = refl
 or_none (Some x) = refl
 
@@ -115,6 +115,30 @@ unleft-more H e =
 pub joined-more : (H : List Entry) (e : Entry) → joined (H ++ e ∷ []) ≡ joined H ++ option_to_list (connection_of e)
 joined-more H e = joined_where-more (λ c after. true) (λ c x. true) (λ c es x. refl) H e ∙ ap (λ (l : List Connection). l ++ filter (λ x. true) (option_to_list (connection_of e))) (filter_true (joined H)) ∙ ap (λ (l : List Connection). joined H ++ l) (filter_all (connection_of e))
 
+-- an entry that ends nobody, and by which nobody joins
+
+filter_every : (q : Connection → Bool) (xs : List Connection) → ((x : Connection) → q x ≡ true) → filter q xs ≡ xs
+filter_every q [] h = refl
+filter_every q (x ∷ xs) h = rw (h x) (ap (λ (l : List Connection). x ∷ l) (filter_every q xs h))
+
+-- by an entry that ends nobody, and by which nobody joins, the same connections are live
+pub live-same : (H : List Entry) (e : Entry) → connection_of e ≡ None → ((c : ℕ) → end_by c e ≡ None) → live (H ++ e ∷ []) ≡ live H
+live-same H e none ends =
+    let K = λ (x : Connection). is_none (end_by x.number e) in
+    live-more H e ∙ ap (λ (o : Option Connection). filter K (live H) ++ option_to_list o) none ∙ append-nil (filter K (live H)) ∙ filter_every K (live H) (λ x. ap is_none (ends x.number))
+
+-- by an entry by which nobody joins and nobody leaves, the same connections are unleft
+pub unleft-same : (H : List Entry) (e : Entry) → connection_of e ≡ None → ((c : ℕ) → leaves c e ≡ false) → unleft (H ++ e ∷ []) ≡ unleft H
+unleft-same H e none stay =
+    let K = λ (x : Connection). not (leaves x.number e) in
+    unleft-more H e ∙ ap (λ (o : Option Connection). filter K (unleft H) ++ option_to_list o) none ∙ append-nil (filter K (unleft H)) ∙ filter_every K (unleft H) (λ x. ap not (stay x.number))
+
+-- an entry that doesn't end c leaves the End of c as it was
+pub ended-same : (H : List Entry) (e : Entry) (c : ℕ) → end_by c e ≡ None → ended (H ++ e ∷ []) c ≡ ended H c
+ended-same H e c none =
+    let same : (b : Bool) → cond b (end_by c e) None ≡ None = λ b. elim b as (λ b. cond b (end_by c e) None ≡ None) [ true ↦ none | false ↦ refl ] in
+    ended-more H e c ∙ ap (option_or (ended H c)) (same (list_any (joins c) H)) ∙ or_none (ended H c)
+
 -- counts, own entries, marks
 
 counted : {X : Type 0} (f : X → ℕ) (xs : List X) (x : X) → sum_by f (xs ++ x ∷ []) ≡ sum_by f xs + f x
@@ -130,7 +154,8 @@ counts-more H e = λ i. record {
   broadcasts = counted (λ (x : Entry). one_if (is_broadcast_call x.call)) H e i;
   appended = counted (λ (x : Entry). appended_in x.reply) H e i;
   dropped = counted (λ (x : Entry). one_if (is_forward_call x.call && (appended_in x.reply == 0))) H e i;
-  full = counted (λ (x : Entry). closed_in x.reply) H e i;
+  full = counted (λ (x : Entry). one_if (is_closing x.reply)) H e i;
+  missed = counted (λ (x : Entry). missed_in x.reply) H e i;
 }
 
 pub own-more : (H : List Entry) (e : Entry) (p : ℕ) → own (H ++ e ∷ []) p ≡ own H p ++ cond (e.caller == p) (e ∷ []) []
@@ -141,6 +166,14 @@ is_stopped-more H e = list_any-append stops H (e ∷ []) ∙ ap (λ (b : Bool). 
 
 pub entries-more : (S : List Stamped) (s : Stamped) → entries (S ++ s ∷ []) ≡ entries S ++ s.entry ∷ []
 entries-more S s = map-append (λ (x : Stamped). x.entry) S (s ∷ [])
+
+-- What holds of no entries, and stays with each one more, holds of every list of entries.
+each_from : (P : List Entry → Type 0) → ((G : List Entry) (e : Entry) → P G → P (G ++ e ∷ [])) → (G es : List Entry) → P G → P (G ++ es)
+each_from P more G [] p = rw append-nil p
+each_from P more G (x ∷ es) p = let all = each_from P more (G ++ x ∷ []) es (more G x p) in rw append_assoc at all
+
+pub each_entry : (P : List Entry → Type 0) → P [] → ((G : List Entry) (e : Entry) → P G → P (G ++ e ∷ [])) → (H : List Entry) → P H
+each_entry P none more H = each_from P more [] H none
 
 -- legality
 

@@ -16,14 +16,14 @@ use Rattle.bsc_history.specs.declared.reply.Reply.{Reply}
 use Rattle.bsc_history.specs.declared.reply.Reply.TheVariants.{Joined, Appended, Closed, Skipped, Stopped}
 use Rattle.bsc_history.specs.declared.connection.Connection.{Connection}
 use Rattle.bsc_history.specs.Entries.{connection_of, made_by, is_number, joins, stops, is_stop}
-use Rattle.bsc_history.specs.Ends.{end_by, end_by_call, end_by_reply, is_among, ended, joined_where, live, leaves, numbered, is_live}
+use Rattle.bsc_history.specs.Ends.{end_by, end_by_call, end_by_reply, ended, joined_where, live, leaves, numbered, is_live}
 use Rattle.bsc_history.specs.Holders.{holder}
 use Rattle.bsc_history.specs.Outboxes.{added_by, meant, out_of, takes, is_too_long, is_found_full, sent}
 use Rattle.bsc_history.specs.Replies.{reply, connect_reply, forward_reply, unicast_reply, broadcast_reply, unless_ended, is_stopped, numbers}
 use Rattle.bsc_history.specs.Legality.{is_of, may_call, Legal}
-use Rattle.bsc_history.specs.Laws.{names, AddsAsNamed, LiveUntilEnded}
-use Rattle.bsc_history.proofs.Lists.{filter-find}
-use Rattle.bsc_history.proofs.More.{along, live-more, ended-more, is_stopped-more}
+use Rattle.bsc_history.specs.Laws.{is_among, names, AddsAsNamed, LiveUntilEnded}
+use Rattle.bsc_history.proofs.Lists.{filter-find, none_filtered}
+use Rattle.bsc_history.proofs.More.{along, live-more, ended-more, is_stopped-more, or_false}
 use Rattle.bsc_history.proofs.Uniqueness.{settled, comes, vmac_same, not_joined}
 
 -- live until ended
@@ -43,11 +43,11 @@ find_numbered c q (x ∷ xs) =
     ] in
     by (x.number == c) (q x.number) refl refl
 
-some_or : {A : Type 0} (o p : Option A) → is_some (option_or o p) ≡ (is_some o || is_some p)
+pub some_or : {A : Type 0} (o p : Option A) → is_some (option_or o p) ≡ (is_some o || is_some p)
 some_or None p = refl
 some_or (Some x) p = refl
 
-find_one : (c : ℕ) (o : Option Connection) → is_some (numbered c (option_to_list o)) ≡ is_number c o
+pub find_one : (c : ℕ) (o : Option Connection) → is_some (numbered c (option_to_list o)) ≡ is_number c o
 find_one c None = refl
 find_one c (Some x) = elim (x.number == c) as (λ b. is_some (cond b (Some x) None) ≡ b) [ true ↦ refl | false ↦ refl ]
 
@@ -68,10 +68,6 @@ turn false true None v once free = refl
 turn false true (Some y) v once free = let bad : Some y ≡ None = free refl in cc
 turn false false None v once free = refl
 turn false false (Some y) v once free = refl
-
-or_false : (b : Bool) → (b || false) ≡ b
-or_false true = refl
-or_false false = refl
 
 pub live_until_ended : (a : About) (H : List Entry) → Legal a H → LiveUntilEnded H
 unfolding joined_where ended
@@ -101,10 +97,6 @@ stop_ends c e h =
     let by : (call : Call) → is_stop call ≡ true → is_none (option_or (end_by_call c call) (end_by_reply c e.reply)) ≡ false = λ call. elim call as (λ call. is_stop call ≡ true → is_none (option_or (end_by_call c call) (end_by_reply c e.reply)) ≡ false) [ Connect who ↦ λ g. cc | Forward s m ↦ λ g. cc | Leave k t n ↦ λ g. cc | Stop ↦ λ g. refl | Count ↦ λ g. cc ] in
     by e.call h
 
-filter_none : (q : Connection → Bool) (xs : List Connection) → ((x : Connection) → q x ≡ false) → filter q xs ≡ []
-filter_none q [] h = refl
-filter_none q (x ∷ xs) h = rw (h x) (filter_none q xs h)
-
 refused_when_stopped : (a : About) (H : List Entry) (caller : ℕ) (call : Call) (looks : List Look) (r : Reply) → is_stopped H ≡ true → r ≡ reply a H call looks → made_by caller call r ≡ None
 unfolding connect_reply
 refused_when_stopped a H caller (Connect who) looks (Joined c p) stopped h = let k = rw stopped at h in cc
@@ -116,7 +108,7 @@ none_live a H legal = along a (λ G. is_stopped G ≡ true → live G ≡ []) (�
     let K = λ (x : Connection). is_none (end_by x.number e) in
     elim (or_cases (is_stopped G) (stops e) (sym (is_stopped-more G e) ∙ h)) [
       | inl was ↦ live-more G e ∙ ap (λ (l : List Connection). filter K l ++ option_to_list (connection_of e)) (p was) ∙ ap option_to_list (refused_when_stopped a G e.caller e.call e.looks e.reply was lawful.replied)
-      | inr now ↦ live-more G e ∙ ap (λ (l : List Connection). l ++ option_to_list (connection_of e)) (filter_none K (live G) (λ x. stop_ends x.number e now)) ∙ ap option_to_list (call_joins e.caller e.call e.reply now)
+      | inr now ↦ live-more G e ∙ ap (λ (l : List Connection). l ++ option_to_list (connection_of e)) (none_filtered K (live G) (λ x m. stop_ends x.number e now)) ∙ ap option_to_list (call_joins e.caller e.call e.reply now)
     ]) H legal
 
 -- who is unleft has joined

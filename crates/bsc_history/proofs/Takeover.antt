@@ -1,5 +1,5 @@
--- A connect joins and takes over, or is refused and changes nothing.
-use Rattle.std.proofs.Common.{◌≡◌, inl, inr, ℕ, ◌==◌, Bool, true, false, cond, List, [], ◌∷◌, ◌++◌, filter, Option, Some, None, MatchOption, is_none, is_some, option_to_list, refl, ap, sym, ◌∙◌, subst, append-nil}
+-- Who joins holds its address, and takes over from its device's live connection.
+use Rattle.std.proofs.Common.{◌≡◌, inl, inr, ℕ, ◌==◌, Bool, true, false, cond, List, [], ◌∷◌, Option, Some, None, MatchOption, is_none, is_some, refl, ap, sym, ◌∙◌, subst}
 use Rattle.std.specs.List.{list_any}
 use Rattle.std.specs.Option.{option_or}
 use Rattle.std.proofs.lemmas.Bool.{and_parts, eq-eqb}
@@ -11,17 +11,16 @@ use Rattle.bsc_history.specs.declared.call.Call.TheVariants.{Connect}
 use Rattle.bsc_history.specs.declared.ending.End.{End}
 use Rattle.bsc_history.specs.declared.ending.End.TheVariants.{Replaced}
 use Rattle.bsc_history.specs.declared.entry.Entry.{Entry}
-use Rattle.bsc_history.specs.declared.reply.Reply.{Reply}
 use Rattle.bsc_history.specs.declared.reply.Reply.TheVariants.{Joined}
 use Rattle.bsc_history.specs.declared.connection.Connection.{Connection}
-use Rattle.bsc_history.specs.Entries.{connection_of, joins, made_by, moment}
+use Rattle.bsc_history.specs.Entries.{connection_of, joins, made_by}
 use Rattle.bsc_history.specs.Ends.{end_by, end_by_call, end_by_reply, ended, is_live, live, numbered}
-use Rattle.bsc_history.specs.Holders.{holder, of_device}
+use Rattle.bsc_history.specs.Holders.{of_device}
 use Rattle.bsc_history.specs.Replies.{number_of}
-use Rattle.bsc_history.specs.Legality.{Lawful, Legal}
-use Rattle.bsc_history.specs.Laws.{JoinTakesOver, RefusalChangesNone}
+use Rattle.bsc_history.specs.Legality.{Legal}
+use Rattle.bsc_history.specs.Laws.{JoinTakesOver}
 use Rattle.bsc_history.proofs.Lists.{In, find_says}
-use Rattle.bsc_history.proofs.More.{ended-more, live-more}
+use Rattle.bsc_history.proofs.More.{ended-more}
 use Rattle.bsc_history.proofs.Holding.{holder-join}
 use Rattle.bsc_history.proofs.Uniqueness.{comes, is_None}
 use Rattle.bsc_history.proofs.Named.{live_until_ended}
@@ -45,10 +44,9 @@ pub join_takes_over : (a : About) (H : List Entry) → Legal a H → JoinTakesOv
 join_takes_over a H legal e who c replaced lawful is said =
     let x : Connection = record { number = c; caller = e.caller; who = who } in
     let new : connection_of e ≡ Some x = ap (λ (call : Call). made_by e.caller call e.reply) is ∙ ap (made_by e.caller (Connect who)) said in
-    let it : e ≡ record { caller = e.caller; call = Connect who; looks = e.looks; reply = Joined c replaced } = (λ i. record { caller = e.caller; call = is i; looks = e.looks; reply = said i }) in
     let r = comes a H e x lawful new in
     let took : replaced ≡ number_of (of_device H who.device) = (let j : Joined c replaced ≡ Joined c (number_of (of_device H who.device)) = sym said ∙ r.1 in cc) in (
-      ap number_of (subst (λ f. holder (H ++ f ∷ []) who.vmac ≡ Some x) (sym it) (holder-join a H who.vmac legal e.caller e.looks who c replaced (subst (λ f. Lawful a (moment H f)) it lawful) refl)),
+      ap number_of (holder-join a H e x legal lawful new),
       took,
       λ k old. (
           let now = of_device_live H who k (sym took ∙ old) in
@@ -56,13 +54,3 @@ join_takes_over a H legal e who c replaced lawful is said =
           let ends : end_by k e ≡ Some Replaced = ap (λ (call : Call). option_or (end_by_call k call) (end_by_reply k e.reply)) is ∙ ap (end_by_reply k) said ∙ ap (λ (o : Option ℕ). end_by_reply k (Joined c o)) old ∙ ap (λ (b : Bool). cond b (Some Replaced) None) (eq-eqb k k refl) in
           ended-more H e k ∙ ap (λ (w : Option End). option_or w (cond (list_any (joins k) H) (end_by k e) None)) (is_None (ended H k) came.1) ∙ ap (λ (b : Bool). cond b (end_by k e) None) came.0 ∙ ends),
     )
-
-filter_every : (q : Connection → Bool) (xs : List Connection) → ((x : Connection) → q x ≡ true) → filter q xs ≡ xs
-filter_every q [] h = refl
-filter_every q (x ∷ xs) h = rw (h x) (ap (λ (l : List Connection). x ∷ l) (filter_every q xs h))
-
-pub refusal_changes_none : (H : List Entry) → RefusalChangesNone H
-refusal_changes_none H e who refusal is said =
-    let none : connection_of e ≡ None = ap (λ (call : Call). made_by e.caller call e.reply) is ∙ ap (made_by e.caller (Connect who)) said in
-    let stays : (x : Connection) → is_none (end_by x.number e) ≡ true = λ x. ap (λ (call : Call). is_none (option_or (end_by_call x.number call) (end_by_reply x.number e.reply))) is ∙ ap (λ (r : Reply). is_none (end_by_reply x.number r)) said in
-    live-more H e ∙ ap (λ (o : Option Connection). filter (λ x. is_none (end_by x.number e)) (live H) ++ option_to_list o) none ∙ append-nil (filter (λ x. is_none (end_by x.number e)) (live H)) ∙ filter_every (λ x. is_none (end_by x.number e)) (live H) stays

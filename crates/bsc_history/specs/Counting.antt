@@ -41,14 +41,18 @@ is_forward_call call = false
 -- how many outboxes a reply names as appended to
 abbrev pub appended_in : Reply → ℕ
 appended_in (Appended conn) = 1
-appended_in (SentAll to closed skipped) = length to
+appended_in (SentAll to missed skipped) = length to
 appended_in reply = 0
 
--- how many connections a reply names as closed
-abbrev pub closed_in : Reply → ℕ
-closed_in (Closed conn) = 1
-closed_in (SentAll to closed skipped) = length closed
-closed_in reply = 0
+-- whether a reply says that a connection was closed
+abbrev pub is_closing : Reply → Bool
+is_closing (Closed conn) = true
+is_closing reply = false
+
+-- how many connections a reply names as missed
+abbrev pub missed_in : Reply → ℕ
+missed_in (SentAll to missed skipped) = length missed
+missed_in reply = 0
 
 -- 1 where a test passes
 abbrev pub one_if : Bool → ℕ
@@ -64,7 +68,8 @@ counts_of e = record {
   broadcasts = one_if (is_broadcast_call e.call);
   appended = appended_in e.reply;
   dropped = one_if (is_forward_call e.call && (appended_in e.reply == 0));
-  full = closed_in e.reply;
+  full = one_if (is_closing e.reply);
+  missed = missed_in e.reply;
 }
 
 -- the counts of two parts of a history together
@@ -78,10 +83,11 @@ plus k m = record {
   appended = k.appended + m.appended;
   dropped = k.dropped + m.dropped;
   full = k.full + m.full;
+  missed = k.missed + m.missed;
 }
 
 -- The counts of a history: how many entries are of each kind, and how many connections the replies name as appended
--- to and as closed.
+-- to and as missed.
 unfoldable pub counts : List Entry → Counts
 counts H = record {
   joined = count_by (λ e. is_joined e.reply) H;
@@ -91,5 +97,6 @@ counts H = record {
   broadcasts = count_by (λ e. is_broadcast_call e.call) H;
   appended = sum_by (λ e. appended_in e.reply) H;
   dropped = count_by (λ e. is_forward_call e.call && (appended_in e.reply == 0)) H;
-  full = sum_by (λ e. closed_in e.reply) H;
+  full = count_by (λ e. is_closing e.reply) H;
+  missed = sum_by (λ e. missed_in e.reply) H;
 }

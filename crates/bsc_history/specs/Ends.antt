@@ -12,7 +12,7 @@ use Rattle.bsc_history.specs.declared.entry.Entry.{Entry}
 use Rattle.bsc_history.specs.declared.call.Call.{Call}
 use Rattle.bsc_history.specs.declared.call.Call.TheVariants.{Leave, Stop}
 use Rattle.bsc_history.specs.declared.reply.Reply.{Reply}
-use Rattle.bsc_history.specs.declared.reply.Reply.TheVariants.{Joined, Closed, SentAll}
+use Rattle.bsc_history.specs.declared.reply.Reply.TheVariants.{Joined, Closed}
 use Rattle.bsc_history.specs.declared.connection.Connection.{Connection}
 use Rattle.bsc_history.specs.Entries.{connection_of, joins}
 
@@ -21,22 +21,17 @@ abbrev pub is_one : ℕ → Option ℕ → Bool
 is_one c None = false
 is_one c (Some k) = k == c
 
--- whether c is among some numbers
-abbrev pub is_among : ℕ → List ℕ → Bool
-is_among c ks = list_any (λ k. k == c) ks
-
 -- how a call ends c: a Leave of c as Left, and a Stop, which ends all, as Stopped
 abbrev pub end_by_call : ℕ → Call → Option End
 end_by_call c (Leave conn taken empties) = if conn == c then Some Left else None
 end_by_call c Stop = Some Stopped
 end_by_call c call = None
 
--- how a reply ends c: as Replaced where the one that joined took over from it, as Full where its outbox was found
--- full
+-- how a reply ends c: as Replaced where the one that joined took over from it, as Full where a unicast found its
+-- outbox full
 abbrev pub end_by_reply : ℕ → Reply → Option End
 end_by_reply c (Joined conn replaced) = if is_one c replaced then Some Replaced else None
 end_by_reply c (Closed conn) = if conn == c then Some Full else None
-end_by_reply c (SentAll to closed skipped) = if is_among c closed then Some Full else None
 end_by_reply c reply = None
 
 -- How an entry ends c, if it does.
@@ -65,7 +60,8 @@ leaves c e = is_leave c e.call
 -- the connections that joined, in order, where the entries after the joining pass the test
 unfoldable pub joined_where : (ℕ → List Entry → Bool) → List Entry → List Connection
 joined_where test [] = []
-joined_where test (e ∷ after) = filter (λ c. test c.number after) (option_to_list (connection_of e)) ++ joined_where test after
+joined_where test (e ∷ after) =
+    filter (λ c. test c.number after) (option_to_list (connection_of e)) ++ joined_where test after
 
 -- All connections that joined.
 abbrev pub joined : List Entry → List Connection

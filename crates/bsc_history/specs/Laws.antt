@@ -1,21 +1,22 @@
 -- What holds of every legal history.
-use Rattle.std.specs.Prelude.{◌≡◌, ◌≢◌, ◌≤◌, ◌+◌, ◌⊎◌, ℕ, ◌==◌, Bool, false, ◌&&◌, is_none, if◌then◌else◌, List, [], ◌∷◌, ◌++◌, length, Option, Some, None, IsTrue, ⊤}
+use Rattle.std.specs.Prelude.{◌≡◌, ◌≢◌, ◌≤◌, ◌+◌, ◌⊎◌, ℕ, ◌==◌, Bool, false, not, ◌&&◌, is_none, if◌then◌else◌, count_by, List, [], ◌∷◌, ◌++◌, length, Option, Some, None, IsTrue, ⊤}
 use Rattle.std.specs.List.{AllByRecursion, list_any, range_with_len}
 use Rattle.bsc_octets.specs.declared.identity.Identity.{Identity}
 use Rattle.bsc_octets.specs.Forwarding.{destination, is_broadcast, out}
 use Rattle.bsc_history.specs.declared.limits.About.{About}
 use Rattle.bsc_history.specs.declared.ending.End.{End}
-use Rattle.bsc_history.specs.declared.ending.End.TheVariants.{Replaced, Full}
+use Rattle.bsc_history.specs.declared.ending.End.TheVariants.{Left, Replaced, Full, Stopped}
 use Rattle.bsc_history.specs.declared.entry.Entry.{Entry}
-use Rattle.bsc_history.specs.declared.call.Call.TheVariants.{Connect, Forward}
+use Rattle.bsc_history.specs.declared.call.Call.TheVariants.{Connect, Forward, Leave, Stop}
 use Rattle.bsc_history.specs.declared.reply.Refusal.{Refusal}
 use Rattle.bsc_history.specs.declared.reply.Reply.{Reply}
-use Rattle.bsc_history.specs.declared.reply.Reply.TheVariants.{Joined, Refused, Appended, SentAll}
+use Rattle.bsc_history.specs.declared.reply.Reply.TheVariants.{Joined, Refused, Appended, Closed, SentAll}
 use Rattle.bsc_history.specs.declared.connection.Connection.{Connection}
 use Rattle.bsc_history.specs.Entries.{joins, moment}
-use Rattle.bsc_history.specs.Ends.{ended, is_among, is_live, joined, live, numbered, unleft}
+use Rattle.bsc_history.specs.Ends.{ended, is_live, joined, live, numbered, unleft}
 use Rattle.bsc_history.specs.Holders.{holder, of_device}
 use Rattle.bsc_history.specs.Outboxes.{added, is_found_full, is_too_long, looked, out_of, sent, vmac_of}
+use Rattle.bsc_history.specs.Counting.{counts}
 use Rattle.bsc_history.specs.Replies.{number_of, numbers}
 use Rattle.bsc_history.specs.Legality.{Lawful}
 
@@ -82,12 +83,48 @@ BroadcastToOthersAlone a H = (e : Entry) (sender : ℕ) (m : List ℕ) (c : ℕ)
 abbrev pub AddsOnce : About → List Entry → Type 0
 AddsOnce a H = (e : Entry) (c : ℕ) → (sent a (H ++ e ∷ []) c ≡ sent a H c) ⊎ ((frame : List ℕ) × Gains a H e c frame)
 
--- A connection whose outbox a lawful Forward finds full ends as Full, and its outbox stays as it is.
+-- whether c is among some numbers
+abbrev pub is_among : ℕ → List ℕ → Bool
+is_among c ks = list_any (λ k. k == c) ks
+
+-- whether a reply names c as appended to
+abbrev pub names : ℕ → Reply → Bool
+names c (Appended conn) = conn == c
+names c (SentAll to missed skipped) = is_among c to
+names c reply = false
+
+-- A connection whose outbox a lawful unicast finds full holds its destination. It ends as Full, and every outbox
+-- stays as it is.
 abbrev pub FullCloses : About → List Entry → Type 0
 FullCloses a H = (e : Entry) (sender : ℕ) (m : List ℕ) (c : ℕ) →
-    Lawful a (moment H e) → e.call ≡ Forward sender m →
+    Lawful a (moment H e) → e.call ≡ Forward sender m → is_broadcast m ≡ false →
     IsTrue (is_found_full a (sent a H c) e.looks c) →
-    (ended (H ++ e ∷ []) c ≡ Some Full) × (sent a (H ++ e ∷ []) c ≡ sent a H c)
+    (number_of (holder H (destination m)) ≡ Some c)
+    × (ended (H ++ e ∷ []) c ≡ Some Full)
+    × ((k : ℕ) → sent a (H ++ e ∷ []) k ≡ sent a H k)
+
+-- whether a reply names c as missed
+abbrev pub names_missed : ℕ → Reply → Bool
+names_missed c (SentAll to missed skipped) = is_among c missed
+names_missed c reply = false
+
+-- A connection whose outbox a lawful broadcast finds full is named as missed, and its outbox stays as it is. Nobody
+-- ends by the broadcast, and nobody joins.
+abbrev pub FullMisses : About → List Entry → Type 0
+FullMisses a H = (e : Entry) (sender : ℕ) (m : List ℕ) (c : ℕ) →
+    Lawful a (moment H e) → e.call ≡ Forward sender m → IsTrue (is_broadcast m) →
+    IsTrue (is_found_full a (sent a H c) e.looks c) →
+    IsTrue (names_missed c e.reply)
+    × (sent a (H ++ e ∷ []) c ≡ sent a H c)
+    × (live (H ++ e ∷ []) ≡ live H)
+    × ((k : ℕ) → ended (H ++ e ∷ []) k ≡ ended H k)
+
+-- In the three lists of a broadcast's lawful reply together, each live connection but the sender stands once, and
+-- nobody else stands at all.
+abbrev pub OneOfThree : About → List Entry → Type 0
+OneOfThree a H = (e : Entry) (sender : ℕ) (m to missed skipped : List ℕ) (c : ℕ) →
+    Lawful a (moment H e) → e.call ≡ Forward sender m → e.reply ≡ SentAll to missed skipped →
+    count_by (λ k. k == c) (to ++ missed ++ skipped) ≡ (if is_live H c && not (c == sender) then 1 else 0)
 
 -- Nothing enters the outbox of a connection that has ended, whatever the next entry is.
 abbrev pub NoneAfterEnd : About → List Entry → Type 0
@@ -102,26 +139,47 @@ JoinTakesOver a H = (e : Entry) (who : Identity) (c : ℕ) (replaced : Option �
     × (replaced ≡ number_of (of_device H who.device))
     × ((k : ℕ) → replaced ≡ Some k → ended (H ++ e ∷ []) k ≡ Some Replaced)
 
--- By a connect that is refused no one joins and no one ends.
-abbrev pub RefusalChangesNone : List Entry → Type 0
-RefusalChangesNone H = (e : Entry) (who : Identity) (refusal : Refusal) →
+-- A connect that is refused changes nothing but its entry and its count: who is live, who hasn't left, how each
+-- connection ended and what entered each outbox are as before, and so is each newest look, where the entry is lawful.
+abbrev pub RefusalChangesNone : About → List Entry → Type 0
+RefusalChangesNone a H = (e : Entry) (who : Identity) (refusal : Refusal) →
     e.call ≡ Connect who → e.reply ≡ Refused refusal →
-    live (H ++ e ∷ []) ≡ live H
+    (live (H ++ e ∷ []) ≡ live H)
+    × (unleft (H ++ e ∷ []) ≡ unleft H)
+    × ((c : ℕ) → ended (H ++ e ∷ []) c ≡ ended H c)
+    × ((c : ℕ) → sent a (H ++ e ∷ []) c ≡ sent a H c)
+    × (Lawful a (moment H e) → (c : ℕ) → looked (H ++ e ∷ []) c ≡ looked H c)
+    × (counts (H ++ e ∷ []) ≡ record (counts H) { refused = (counts H).refused + 1 })
 
--- what is left of an option that may not stay
+-- An End, once it stands, stands in every longer history, with the same cause.
+abbrev pub EndStays : List Entry → Type 0
+EndStays H = (c : ℕ) (ending : End) (more : List Entry) → ended H c ≡ Some ending → ended (H ++ more) c ≡ Some ending
+
+-- What the entry is that ends c: its own Leave, a Connect that took over from it, a unicast that found its outbox
+-- full, or the Stop.
+abbrev pub IsCause : ℕ → End → Entry → Type 0
+IsCause c Left e = (taken : ℕ) × (empties : ℕ) × (e.call ≡ Leave c taken empties)
+IsCause c Replaced e = (who : Identity) × (n : ℕ) × (e.call ≡ Connect who) × (e.reply ≡ Joined n (Some c))
+IsCause c Full e =
+    (sender : ℕ) × (m : List ℕ) × (e.call ≡ Forward sender m) × (is_broadcast m ≡ false) × (e.reply ≡ Closed c)
+IsCause c Stopped e = e.call ≡ Stop
+
+-- A connection that has ended was live until one entry, and that entry is the cause of its End.
+abbrev pub EndsByCause : List Entry → Type 0
+EndsByCause H = (c : ℕ) (ending : End) → ended H c ≡ Some ending →
+    (before : List Entry) × (e : Entry) × (after : List Entry) ×
+    (H ≡ before ++ e ∷ after) × IsTrue (is_live before c) × IsCause c ending e
+
+-- an option, kept where its value passes a test
 abbrev pub kept_if : {A : Type 0} → (A → Bool) → Option A → Option A
 kept_if stays None = None
 kept_if stays (Some x) = if stays x then Some x else None
 
--- whether a reply names c as appended to
-abbrev pub names : ℕ → Reply → Bool
-names c (Appended conn) = conn == c
-names c (SentAll to closed skipped) = is_among c to
-names c reply = false
-
 -- A Forward adds its frame to the outboxes that its reply names, and to no other.
 abbrev pub AddsAsNamed : About → List Entry → Type 0
-AddsAsNamed a H = (e : Entry) (sender : ℕ) (m : List ℕ) (c : ℕ) → Lawful a (moment H e) → e.call ≡ Forward sender m → added a (moment H e) (sent a H c) c ≡ (if names c e.reply then out_of H sender m ∷ [] else [])
+AddsAsNamed a H = (e : Entry) (sender : ℕ) (m : List ℕ) (c : ℕ) →
+    Lawful a (moment H e) → e.call ≡ Forward sender m →
+    added a (moment H e) (sent a H c) c ≡ (if names c e.reply then out_of H sender m ∷ [] else [])
 
 -- A connection is live exactly where it has joined and has no end.
 abbrev pub LiveUntilEnded : List Entry → Type 0

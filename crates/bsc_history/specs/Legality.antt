@@ -31,7 +31,8 @@ is_of G caller c = list_any (λ x. (x.number == c) && (x.caller == caller)) (unl
 -- Whether a caller may make a call: for no connection but its own, a Stop once, and all but Stop and Leave within
 -- the limit of calls.
 abbrev pub may_call : About → List Entry → ℕ → Call → Bool
-may_call a G caller (Connect who) = not (same_vmac who.vmac zero_vmac) && not (same_vmac who.vmac broadcast) && nat_lt (length G) a.limits.calls
+may_call a G caller (Connect who) =
+    not (same_vmac who.vmac zero_vmac) && not (same_vmac who.vmac broadcast) && nat_lt (length G) a.limits.calls
 may_call a G caller (Forward sender m) = is_of G caller sender && has_route m && nat_lt (length G) a.limits.calls
 may_call a G caller (Leave conn taken empties) = is_of G caller conn && can_find a G conn taken
 may_call a G caller Stop = not (is_stopped G)

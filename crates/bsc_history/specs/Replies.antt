@@ -64,8 +64,8 @@ unicast_reply a H m o looks (Some c) =
     else if is_found_full a (sent a H c.number) looks c.number then Closed c.number
     else Appended c.number
 
--- A broadcast tells of each connection that it means, by the same tests and in the order of joining, whether it was
--- appended to, closed or skipped.
+-- A broadcast sorts the connections that it means into three lists, each in the order of joining: it is appended to
+-- those of `to`, those of `missed` are found full, and for those of `skipped` it is too long, which is asked first.
 abbrev pub broadcast_reply : About → List Entry → List ℕ → List Look → List Connection → Reply
 broadcast_reply a H o looks meant =
     let full = λ (c : Connection). is_found_full a (sent a H c.number) looks c.number in
@@ -86,7 +86,8 @@ forward_reply a H sender m looks =
     let o = out_of H sender m in
     if is_stopped H then Stopped
     else unless_ended (ended H sender)
-    (if is_broadcast m then broadcast_reply a H o looks (meant H sender m) else unicast_reply a H m o looks (holder H (destination m)))
+    (if is_broadcast m then broadcast_reply a H o looks (meant H sender m)
+    else unicast_reply a H m o looks (holder H (destination m)))
 
 -- The reply of a call after the history H. A Leave is told how its connection ended, as Left where it was live.
 abbrev pub reply : About → List Entry → Call → List Look → Reply

@@ -19,4 +19,7 @@ pub struct Counts {
     pub dropped: u64,
     /// Connections that ended as full.
     pub full: u64,
+    /// Broadcasts that a connection missed, as its outbox was full: one for each connection that a
+    /// reply names as missed.
+    pub missed: u64,
 }

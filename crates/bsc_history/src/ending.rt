@@ -7,7 +7,7 @@ pub enum End {
     Left,
     /// A connection of the same device joined in its place.
     Replaced,
-    /// A frame was meant for it while its outbox was full.
+    /// A unicast was meant for it while its outbox was full.
     Full,
     /// The hub stopped.
     Stopped,

@@ -1,12 +1,12 @@
-//! What holds of every legal history, and some of it of any. The functions do nothing: their contracts are the
-//! laws.
+//! What holds of every legal history; some of it holds of any list of entries. The functions do nothing:
+//! their contracts are the laws.
 #![tactic(auto)]
 
 ghost use Rattle.std.specs.Prelude.{List};
 ghost use Rattle.bsc_history.specs.declared.limits.About.{About};
 ghost use Rattle.bsc_history.specs.declared.entry.Entry.{Entry};
 ghost use Rattle.bsc_history.specs.Legality.{Legal};
-ghost use Rattle.bsc_history.specs.Laws.{NumbersInOrder, NumbersAreNew, OneHolder, OneOfDevice, UnicastJoins, UnicastToHolderAlone, BroadcastJoins, BroadcastToOthersAlone, AddsOnce, FullCloses, NoneAfterEnd, JoinTakesOver, RefusalChangesNone, AddsAsNamed, LiveUntilEnded, WithinCapacity};
+ghost use Rattle.bsc_history.specs.Laws.{NumbersInOrder, NumbersAreNew, OneHolder, OneOfDevice, UnicastJoins, UnicastToHolderAlone, BroadcastJoins, BroadcastToOthersAlone, AddsOnce, FullCloses, FullMisses, OneOfThree, NoneAfterEnd, JoinTakesOver, RefusalChangesNone, EndStays, EndsByCause, AddsAsNamed, LiveUntilEnded, WithinCapacity};
 
 /// Connections are numbered from 1, in the order of joining.
 pub fn numbering()
@@ -53,9 +53,19 @@ pub fn once()
     ensures { (a : About) (H : List Entry) → AddsOnce a H }
 {}
 
-/// A connection whose outbox is found full ends, and what was meant for it is not added.
+/// A unicast that finds its holder's outbox full ends that connection as Full, and nothing is added.
 pub fn full_closes()
     ensures { (a : About) (H : List Entry) → Legal a H → FullCloses a H }
+{}
+
+/// A broadcast that finds an outbox full adds nothing to it, ends nobody, and names it as missed.
+pub fn full_misses()
+    ensures { (a : About) (H : List Entry) → FullMisses a H }
+{}
+
+/// Each live connection but the sender stands in exactly one of the three lists of a broadcast's reply.
+pub fn one_of_three()
+    ensures { (a : About) (H : List Entry) → Legal a H → OneOfThree a H }
 {}
 
 /// Nothing enters an ended outbox.
@@ -68,9 +78,20 @@ pub fn join_takes_over()
     ensures { (a : About) (H : List Entry) → Legal a H → JoinTakesOver a H }
 {}
 
-/// A refused connect changes who is live in nothing.
+/// A refused connect changes nothing but its entry and its count.
 pub fn refusal_changes_none()
-    ensures { (H : List Entry) → RefusalChangesNone H }
+    ensures { (a : About) (H : List Entry) → RefusalChangesNone a H }
+{}
+
+/// An End, once it stands, stands in every longer history, with the same cause.
+pub fn end_stays()
+    ensures { (H : List Entry) → EndStays H }
+{}
+
+/// A connection ends by its own leave, a join that replaced it, a unicast that found it full, or the
+/// stop, and by nothing else.
+pub fn ends_by_cause()
+    ensures { (a : About) (H : List Entry) → Legal a H → EndsByCause H }
 {}
 
 /// A reply names exactly the outboxes that its call adds to.

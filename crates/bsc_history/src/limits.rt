@@ -4,7 +4,7 @@ use bsc_octets::Identity;
 /// The limits of a hub.
 #[derive(Clone, Copy, Debug, PartialEq, Eq)]
 pub struct Limits {
-    /// How many connections may not have left: 1 to 1024.
+    /// How many connections there may be that haven't left: 1 to 1024.
     pub rows: u32,
     /// How many frames an outbox holds: 2 to 1024.
     pub outbox: u32,

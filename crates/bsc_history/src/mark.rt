@@ -2,7 +2,7 @@
 use crate::entry::Entry;
 use std::collections::LinkedList;
 
-/// What contracts name an outbox by. No value is made.
+/// The name of an outbox, for contracts alone: no value of it is made.
 pub struct Mark {
     pub words: u64,
     pub slots: u64,
@@ -13,7 +13,7 @@ pub struct Mark {
     pub slot_names: LinkedList<u64>,
 }
 
-/// An entry, with the mark of the inlet that a Connect handed in. No value is made.
+/// An entry, with the mark of the inlet that its Connect handed in, where it joined. No value of it is made.
 pub struct Stamped {
     pub entry: Entry,
     pub mark: Option<Mark>,

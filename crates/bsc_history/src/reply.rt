@@ -38,11 +38,11 @@ pub enum Reply {
     },
     /// No live connection holds the Destination.
     NoHolder,
-    /// The broadcast joined the outboxes of `to`; those of `closed` were found full; it is longer than
-    /// those of `skipped` take.
+    /// The broadcast joined the outboxes of `to`. Those of `missed` were found full and didn't get it,
+    /// and its forwarded octets are longer than those of `skipped` take.
     SentAll {
         to: Conns,
-        closed: Conns,
+        missed: Conns,
         skipped: Conns,
     },
     /// The sender has ended.

@@ -1,7 +1,8 @@
 //! What callers of a hub are told beside a reply.
 use thiserror::Error;
 
-/// The history has `calls` entries, as many as the hub's limits allow before each further call is refused.
+/// The history has `calls` entries, no fewer than the hub's limits allow: no call makes a further entry but
+/// a leave and the stop.
 #[derive(Clone, Copy, Debug, PartialEq, Eq, Error)]
 #[error("the hub has made {calls} calls, as many as it may")]
 pub struct Worn {

@@ -1,0 +1,84 @@
+-- A first part of a history, and what stays as the history grows.
+use Rattle.std.proofs.Common.{◌≡◌, ℕ, ◌==◌, Bool, true, ◌||◌, List, [], ◌∷◌, ◌++◌, filter, Option, Some, None, is_some, option_to_list, refl, ap, sym, ◌∙◌, subst, append_assoc, append-nil}
+use Rattle.std.specs.List.{list_any, AllByRecursion}
+use Rattle.std.specs.Option.{option_or}
+use Rattle.std.proofs.lemmas.Bool.{or_left}
+use Rattle.std.proofs.lemmas.List.Elements.{filter-append}
+use Rattle.std.proofs.lemmas.List.Folds.{find-append, list_any-append}
+use Rattle.bsc_history.specs.declared.limits.About.{About}
+use Rattle.bsc_history.specs.declared.ending.End.{End}
+use Rattle.bsc_history.specs.declared.entry.Entry.{Entry}
+use Rattle.bsc_history.specs.declared.connection.Connection.{Connection}
+use Rattle.bsc_history.specs.Entries.{Moment, connection_of, is_number, joins, moments_after, own, stops}
+use Rattle.bsc_history.specs.Ends.{ended, joined, joined_where, numbered}
+use Rattle.bsc_history.specs.Outboxes.{vmac_in, vmac_of}
+use Rattle.bsc_history.specs.Replies.{is_stopped}
+use Rattle.bsc_history.specs.Legality.{Lawful, Legal}
+use Rattle.bsc_history.proofs.Causes.{end_stays}
+use Rattle.bsc_history.proofs.More.{filter_true}
+use Rattle.bsc_history.proofs.Named.{find_one, some_or}
+
+-- legality
+
+pub All-parts : (P : Moment → Type 0) (G es rest : List Entry) → AllByRecursion P (moments_after G (es ++ rest)) → AllByRecursion P (moments_after G es) × AllByRecursion P (moments_after (G ++ es) rest)
+All-parts P G [] rest h = (tt, rw append-nil h)
+All-parts P G (e ∷ es) rest h =
+    let r = All-parts P (G ++ e ∷ []) es rest h.1 in
+    ((h.0, r.0), subst (λ F. AllByRecursion P (moments_after F rest)) (append_assoc G (e ∷ []) es) r.1)
+
+-- A first part of a legal history is legal.
+pub Legal-first : (a : About) (F rest : List Entry) → Legal a (F ++ rest) → Legal a F
+Legal-first a F rest legal = record { lawful = (All-parts (Lawful a) [] F rest legal.lawful).0 }
+
+-- Of a legal history each entry is lawful after those before it.
+pub Legal-at : (a : About) (F rest : List Entry) (e : Entry) → Legal a (F ++ e ∷ rest) → Lawful a (record { before = F; entry = e })
+Legal-at a F rest e legal = (All-parts (Lawful a) [] F (e ∷ rest) legal.lawful).1.0
+
+-- what stays
+
+pub own-append : (F rest : List Entry) (p : ℕ) → own (F ++ rest) p ≡ own F p ++ own rest p
+own-append F rest p = filter-append (λ (e : Entry). e.caller == p) F rest
+
+pub joins_stays : (F rest : List Entry) (c : ℕ) → list_any (joins c) F ≡ true → list_any (joins c) (F ++ rest) ≡ true
+joins_stays F rest c h = list_any-append (joins c) F rest ∙ or_left (list_any (joins c) F) (list_any (joins c) rest) h
+
+pub stopped_stays : (F rest : List Entry) → is_stopped F ≡ true → is_stopped (F ++ rest) ≡ true
+stopped_stays F rest h = list_any-append stops F rest ∙ or_left (is_stopped F) (is_stopped rest) h
+
+-- What hasn't ended hadn't ended before.
+pub unended_before : (F rest : List Entry) (c : ℕ) → ended (F ++ rest) c ≡ None → ended F c ≡ None
+unended_before F rest c h =
+    let on : (o : Option End) → ended F c ≡ o → o ≡ None = λ o. elim o as (λ o. ended F c ≡ o → o ≡ None) [
+      | None ↦ λ is. refl
+      | Some w ↦ λ is. (let still : ended (F ++ rest) c ≡ Some w = end_stays F c w rest is in cc)
+    ] in
+    on (ended F c) refl
+
+pub joined-append : (F rest : List Entry) → joined (F ++ rest) ≡ joined F ++ joined rest
+unfolding joined_where
+joined-append [] rest = refl
+joined-append (e ∷ F) rest =
+    let new = filter (λ (x : Connection). true) (option_to_list (connection_of e)) in
+    ap (λ (l : List Connection). new ++ l) (joined-append F rest) ∙ sym (append_assoc new (joined F) (joined rest))
+
+-- Among all that joined there is a connection of the number c exactly where c has joined.
+pub numbered_joined : (F : List Entry) (c : ℕ) → is_some (numbered c (joined F)) ≡ list_any (joins c) F
+unfolding joined_where
+numbered_joined [] c = refl
+numbered_joined (e ∷ F) c =
+    let o = connection_of e in
+    ap (λ (l : List Connection). is_some (numbered c (l ++ joined F))) (filter_true (option_to_list o))
+    ∙ ap is_some (find-append (λ (x : Connection). x.number == c) (option_to_list o) (joined F))
+    ∙ some_or (numbered c (option_to_list o)) (numbered c (joined F))
+    ∙ ap (λ (b : Bool). b || is_some (numbered c (joined F))) (find_one c o)
+    ∙ ap (λ (b : Bool). is_number c o || b) (numbered_joined F c)
+
+-- A connection that has joined stays the one of its number, and its address stays.
+pub numbered_stays : (F rest : List Entry) (c : ℕ) → list_any (joins c) F ≡ true → numbered c (joined (F ++ rest)) ≡ numbered c (joined F)
+numbered_stays F rest c h =
+    let first : (o p : Option Connection) → is_some o ≡ true → option_or o p ≡ o = λ o p. elim o as (λ o. is_some o ≡ true → option_or o p ≡ o) [ None ↦ λ k. cc | Some x ↦ λ k. refl ] in
+    ap (numbered c) (joined-append F rest) ∙ find-append (λ (x : Connection). x.number == c) (joined F) (joined rest)
+    ∙ first (numbered c (joined F)) (numbered c (joined rest)) (numbered_joined F c ∙ h)
+
+pub vmac_stays : (F rest : List Entry) (c : ℕ) → list_any (joins c) F ≡ true → vmac_of (F ++ rest) c ≡ vmac_of F c
+vmac_stays F rest c h = ap vmac_in (numbered_stays F rest c h)
