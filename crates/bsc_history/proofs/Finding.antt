@@ -30,7 +30,7 @@ look_names f c (k ∷ ks) h = elim (or_cases ((k.conn == c) && f k) (list_any (�
   | inr later ↦ or_right (k.conn == c) (is_among c (map (λ l. l.conn) ks)) (look_names f c ks later)
 ]
 
--- of which connections the frame isn't too long for c is one
+-- whether x is the connection c, and the frame isn't too long for it
 abbrev pub fits : List ℕ → ℕ → Connection → Bool
 fits o c x = (x.number == c) && not (is_too_long o x)
 

@@ -1,4 +1,4 @@
--- A broadcast that finds an outbox full misses it, and each other live connection stands in one list of its reply.
+-- A full outbox misses a broadcast, and each live connection but the sender stands in one list of the reply.
 use Rattle.std.proofs.Common.{◌≡◌, ◌≢◌, inl, inr, ℕ, ◌+◌, ◌==◌, Bool, true, false, not, ◌&&◌, cond, List, [], ◌∷◌, ◌++◌, filter, Option, Some, None, is_some, refl, ap, sym, ◌∙◌, append_assoc, arith}
 use Rattle.std.specs.List.{count_by}
 use Rattle.std.specs.Option.{option_or}
@@ -57,7 +57,7 @@ often-cons c k ks = sum_by-cons (one c) k ks
 often-append : (c : ℕ) (ks ls : List ℕ) → often c (ks ++ ls) ≡ often c ks + often c ls
 often-append c ks ls = sum_by-append (one c) ks ls
 
--- three tests of which each element passes one sort the elements into three lists
+-- each connection passes one of three tests, so the three lists together have the numbers of all
 sorted : (c : ℕ) (long full : Connection → Bool) (xs : List Connection) → often c (numbers (filter (λ x. not (long x) && not (full x)) xs)) + (often c (numbers (filter (λ x. not (long x) && full x) xs)) + often c (numbers (filter (λ x. long x) xs))) ≡ often c (numbers xs)
 sorted c long full [] = refl
 sorted c long full (x ∷ xs) =
@@ -90,7 +90,7 @@ once_found c (x ∷ xs) apart =
     ] in
     often-cons c x.number (numbers xs) ∙ by (x.number == c) refl
 
--- among all but the sender, c stands as often as among all, where it isn't the sender
+-- c stands among all but the sender as often as among all, and not at all if it is the sender
 but_sender : (c sender : ℕ) (xs : List Connection) → often c (numbers (filter (λ x. not (x.number == sender)) xs)) ≡ cond (not (c == sender)) (often c (numbers xs)) 0
 but_sender c sender [] = elim (c == sender) as (λ b. often c [] ≡ cond (not b) (often c []) 0) [ true ↦ refl | false ↦ refl ]
 but_sender c sender (x ∷ xs) =
