@@ -11,16 +11,15 @@ use Rattle.bsc_history.specs.declared.limits.About.{About}
 use Rattle.bsc_history.specs.declared.call.Call.TheVariants.{Forward}
 use Rattle.bsc_history.specs.declared.counts.Counts.{Counts}
 use Rattle.bsc_history.specs.declared.ending.End.{End}
-use Rattle.bsc_history.specs.declared.ending.End.TheVariants.{Full}
 use Rattle.bsc_history.specs.declared.entry.Entry.{Entry}
 use Rattle.bsc_history.specs.declared.looks.Look.{Look}
 use Rattle.bsc_history.specs.declared.reply.Reply.{Reply}
 use Rattle.bsc_history.specs.declared.reply.Reply.TheVariants.{NotCurrent, Stopped, SentAll}
 use Rattle.bsc_history.specs.declared.connection.Connection.{Connection}
 use Rattle.bsc_history.specs.Entries.{moment}
-use Rattle.bsc_history.specs.Ends.{end_by, ended, live, is_among}
-use Rattle.bsc_history.specs.Counting.{counts_of, plus, one_if, appended_in, closed_in, is_joined, is_replacing, is_refused}
-use Rattle.bsc_history.specs.Laws.{Apart}
+use Rattle.bsc_history.specs.Ends.{end_by, ended, live}
+use Rattle.bsc_history.specs.Counting.{counts_of, plus, one_if, appended_in, is_closing, missed_in, is_joined, is_replacing, is_refused}
+use Rattle.bsc_history.specs.Laws.{Apart, is_among}
 use Rattle.bsc_history.specs.Outboxes.{newer, looked, added, sent, meant, out_of, is_too_long, finds_full, is_found_full}
 use Rattle.bsc_history.specs.Replies.{forward_reply, broadcast_reply, is_stopped, numbers}
 use Rattle.bsc_history.specs.Legality.{can_find, is_of, may_call, Lawful}
@@ -34,8 +33,8 @@ use Rattle.bsc_desk.specs.Bounds.{entered_at_most}
 use Rattle.bsc_desk.specs.Frames.{Frame}
 use Rattle.bsc_desk.specs.Rows.{IsRowOf, ending_in, taken_in, taken_of, ending_of}
 use Rattle.bsc_desk.specs.Standing.{connection, IsInletOf, StandsFor}
-use Rattle.bsc_desk.specs.Inlets.{is_open, is_full, with_inlet, with_frame, with_end}
-use Rattle.bsc_desk.specs.Receivers.{is_meant, skips, is_looked_at, closes, appends, delivered, number, look_of, sent_looks, sent_reply}
+use Rattle.bsc_desk.specs.Inlets.{is_open, is_full, with_inlet, with_frame}
+use Rattle.bsc_desk.specs.Receivers.{is_meant, skips, is_looked_at, misses, appends, delivered, number, look_of, sent_looks, sent_reply}
 use Rattle.bsc_desk.specs.declared.broadcasting.AllReply.{AllReply}
 use Rattle.bsc_desk.specs.declared.broadcasting.AllReply.TheVariants.{Sent as AllSent, NotCurrent as AllNotCurrent, Stopped as AllStopped}
 use Rattle.bsc_desk.specs.Entries.{forward_entry, all_reply, is_passed_over}
@@ -88,8 +87,8 @@ lawful_ended d h caller conn f ending s is route calls stop_place at =
       called = called_so d h caller conn f s is route calls;
     }
 
-pub count_broadcast : (k : Counts) (caller conn : ℕ) (m : List ℕ) (looks : List Look) (reply : Reply) (x y z : ℕ) → is_broadcast m ≡ true → is_joined reply ≡ false → is_replacing reply ≡ false → is_refused reply ≡ false → appended_in reply ≡ x → one_if (appended_in reply == 0) ≡ y → closed_in reply ≡ z → record k { broadcasts = k.broadcasts + 1; appended = k.appended + x; dropped = k.dropped + y; full = k.full + z } ≡ plus k (counts_of (forward_entry caller conn m looks reply))
-count_broadcast k caller conn m looks reply x y z all j p r a d f = λ i. record {
+pub count_broadcast : (k : Counts) (caller conn : ℕ) (m : List ℕ) (looks : List Look) (reply : Reply) (x y z : ℕ) → is_broadcast m ≡ true → is_joined reply ≡ false → is_replacing reply ≡ false → is_refused reply ≡ false → appended_in reply ≡ x → one_if (appended_in reply == 0) ≡ y → is_closing reply ≡ false → missed_in reply ≡ z → record k { broadcasts = k.broadcasts + 1; appended = k.appended + x; dropped = k.dropped + y; missed = k.missed + z } ≡ plus k (counts_of (forward_entry caller conn m looks reply))
+count_broadcast k caller conn m looks reply x y z all j p r a d f w = λ i. record {
   joined = (sym (add-zero k.joined) ∙ ap (λ (b : Bool). k.joined + one_if b) (sym j)) i;
   replaced = (sym (add-zero k.replaced) ∙ ap (λ (b : Bool). k.replaced + one_if b) (sym p)) i;
   refused = (sym (add-zero k.refused) ∙ ap (λ (b : Bool). k.refused + one_if b) (sym r)) i;
@@ -97,13 +96,14 @@ count_broadcast k caller conn m looks reply x y z all j p r a d f = λ i. record
   broadcasts = ap (λ (b : Bool). k.broadcasts + one_if b) (sym all) i;
   appended = ap (λ (n : ℕ). k.appended + n) (sym a) i;
   dropped = ap (λ (n : ℕ). k.dropped + n) (sym d) i;
-  full = ap (λ (n : ℕ). k.full + n) (sym f) i;
+  full = (sym (add-zero k.full) ∙ ap (λ (b : Bool). k.full + one_if b) (sym f)) i;
+  missed = ap (λ (n : ℕ). k.missed + n) (sym w) i;
 }
 
 passes : (reply : AllReply) → is_passed_over reply ≡ true → Drops (all_reply reply)
-passes (AllSent to closed skipped looks) none = cc
-passes (AllNotCurrent ending) none = record { joins = refl; replaces = refl; refuses = refl; appends = refl; closes = refl; names_none = λ c. refl; ends_none = λ c caller k m. refl }
-passes AllStopped none = record { joins = refl; replaces = refl; refuses = refl; appends = refl; closes = refl; names_none = λ c. refl; ends_none = λ c caller k m. refl }
+passes (AllSent to missed skipped looks) none = cc
+passes (AllNotCurrent ending) none = record { joins = refl; replaces = refl; refuses = refl; appends = refl; closes = refl; misses = refl; names_none = λ c. refl; ends_none = λ c caller k m. refl }
+passes AllStopped none = record { joins = refl; replaces = refl; refuses = refl; appends = refl; closes = refl; misses = refl; names_none = λ c. refl; ends_none = λ c caller k m. refl }
 
 pub stands_passed : (d n : Desk) (h : List Entry) (caller conn : ℕ) (m : List ℕ) (reply : AllReply) → StandsFor d h → Lawful d.about (moment h (forward_entry caller conn m [] (all_reply reply))) → is_passed_over reply ≡ true → is_broadcast m ≡ true → n.about ≡ d.about → n.stopped_at ≡ d.stopped_at → n.made ≡ d.made + 1 → n.counts ≡ record d.counts { broadcasts = d.counts.broadcasts + 1; dropped = d.counts.dropped + 1 } → n.rows.items ≡ d.rows.items → StandsFor n (h ++ forward_entry caller conn m [] (all_reply reply) ∷ [])
 stands_passed d n h caller conn m reply s lawful none all about stop made count rows =
@@ -112,8 +112,8 @@ stands_passed d n h caller conn m reply s lawful none all about stop made count 
     let e = forward_entry caller conn m [] r in
     let x = passes reply none in
     let zero_more : (x : ℕ) → x ≡ x + 0 = λ x. sym (add-zero x) in
-    let counts_so : record d.counts { broadcasts = d.counts.broadcasts + 1; dropped = d.counts.dropped + 1 } ≡ record d.counts { broadcasts = d.counts.broadcasts + 1; appended = d.counts.appended + 0; dropped = d.counts.dropped + 1; full = d.counts.full + 0 } = λ i. record d.counts { broadcasts = d.counts.broadcasts + 1; appended = zero_more d.counts.appended i; dropped = d.counts.dropped + 1; full = zero_more d.counts.full i } in
-    let counted : Counted d n e = record { about = about; stop = stop; made = made; count = count ∙ counts_so ∙ count_broadcast d.counts caller conn m [] r 0 1 0 all x.joins x.replaces x.refuses x.appends (ap (λ (n : ℕ). one_if (n == 0)) x.appends) x.closes } in
+    let counts_so : record d.counts { broadcasts = d.counts.broadcasts + 1; dropped = d.counts.dropped + 1 } ≡ record d.counts { broadcasts = d.counts.broadcasts + 1; appended = d.counts.appended + 0; dropped = d.counts.dropped + 1; missed = d.counts.missed + 0 } = λ i. record d.counts { broadcasts = d.counts.broadcasts + 1; appended = zero_more d.counts.appended i; dropped = d.counts.dropped + 1; missed = zero_more d.counts.missed i } in
+    let counted : Counted d n e = record { about = about; stop = stop; made = made; count = count ∙ counts_so ∙ count_broadcast d.counts caller conn m [] r 0 1 0 all x.joins x.replaces x.refuses x.appends (ap (λ (n : ℕ). one_if (n == 0)) x.appends) x.closes x.misses } in
     let quiet : Quiet a h e = record {
       joins_none = refl;
       ends_none = λ c. x.ends_none c caller conn m;
@@ -246,11 +246,11 @@ lawful_sent d h caller conn f s is route all calls goes_on current =
     ∙ ap (λ (b : Bool). (b && not (long r)) && is_full r.inlet) meant_so) in
     let F = λ (c : Connection). is_found_full a (sent a h c.number) looks c.number in
     let to = numbers_kept (λ c. not (is_too_long o c) && not (F c)) M (λ r. not (long r) && not (is_full r.inlet)) (appends conn o) rows (λ r. and_both (M r) (not (long r)) (not (is_full r.inlet))) (λ r mem e. not_full (F (connection r)) (long r) (is_full r.inlet) (full r mem e)) in
-    let closed = numbers_kept (λ c. not (is_too_long o c) && F c) M (λ r. not (long r) && is_full r.inlet) (closes conn o) rows (λ r. and_both (M r) (not (long r)) (is_full r.inlet)) (λ r mem e. now_full (F (connection r)) (long r) (is_full r.inlet) (full r mem e)) in
+    let missed = numbers_kept (λ c. not (is_too_long o c) && F c) M (λ r. not (long r) && is_full r.inlet) (misses conn o) rows (λ r. and_both (M r) (not (long r)) (is_full r.inlet)) (λ r mem e. now_full (F (connection r)) (long r) (is_full r.inlet) (full r mem e)) in
     let skipped = numbers_kept (λ c. is_too_long o c) M long (skips conn o) rows (λ r. refl) (λ r mem e. refl) in
     let seen = numbers_kept (λ c. not (is_too_long o c)) M (λ r. not (long r)) (is_looked_at conn o) rows (λ r. refl) (λ r mem e. refl) in
     let N = map connection (filter M rows) in
-    let lists : sent_reply conn o rows ≡ broadcast_reply a h o looks N = λ i. SentAll (sym to i) (sym closed i) (sym skipped i) in
+    let lists : sent_reply conn o rows ≡ broadcast_reply a h o looks N = λ i. SentAll (sym to i) (sym missed i) (sym skipped i) in
     record {
       replied = lists ∙ rw (stop, ends, all) (ap (λ (l : List Connection). broadcast_reply a h o looks l) (sym those) ∙ ap (λ (x : List ℕ). broadcast_reply a h x looks (meant h conn m)) (sym passes_on));
       named = conns_of (filter (is_looked_at conn o) rows) ∙ sym seen ∙ rw (stop, ends) (ap (λ (l : List Connection). numbers (filter (λ c. not (is_too_long o c)) l)) (sym those) ∙ ap (λ (x : List ℕ). numbers (filter (λ c. not (is_too_long x c)) (meant h conn m))) (sym passes_on));
@@ -273,9 +273,9 @@ has_room : (n c : ℕ) → n ≤ c → n ≢ c → n < c
 has_room n c most other = elim (cases_lt n c) [ inl below ↦ below | inr over ↦ absurd (other (omega arith)) ]
 
 same_taken : (conn : ℕ) (o : List ℕ) (r : Row) → (delivered conn o r).inlet.taken ≡ r.inlet.taken
-same_taken conn o r = elim (appends conn o r) as (λ b. (cond b (with_inlet (with_frame o) r) (cond (closes conn o r) (with_inlet (with_end Full) r) r)).inlet.taken ≡ r.inlet.taken) [
+same_taken conn o r = elim (appends conn o r) as (λ b. (cond b (with_inlet (with_frame o) r) r).inlet.taken ≡ r.inlet.taken) [
   | true ↦ elim (nat_lt (length r.inlet.waiting.items) r.inlet.waiting.capacity) as (λ b. (cond b (record r.inlet { waiting = buffer (r.inlet.waiting.items ++ o ∷ []) r.inlet.waiting.capacity }) r.inlet).taken ≡ r.inlet.taken) [ true ↦ refl | false ↦ refl ]
-  | false ↦ elim (closes conn o r) as (λ b. (cond b (with_inlet (with_end Full) r) r).inlet.taken ≡ r.inlet.taken) [ true ↦ refl | false ↦ refl ]
+  | false ↦ refl
 ]
 
 -- looks at rows find what was taken
@@ -293,8 +293,8 @@ newest_all d h r looks s m p found =
     let here : k.taken ≡ r.inlet.taken = In_from_all (λ (l : Look). l.taken ≡ taken_of d l.conn) k looks found mem ∙ ap (taken_of d) same ∙ at in
     omega arith))
 
--- the row after it, where l says whether its outbox is looked at, and f whether it is full
-enters_row : (a : About) (h : List Entry) (e : Entry) (c : ℕ) (r : Row) (o : List ℕ) (l f : Bool) → IsInletOf a h c r.inlet → length (sent a h c) ≤ looked h c + a.limits.outbox → is_full r.inlet ≡ f → added a (moment h e) (sent a h c) c ≡ cond (l && not f) (o ∷ []) [] → end_by c e ≡ cond (l && f) (Some Full) None → fold (newer c) (looked h c) e.looks ≤ r.inlet.taken → Enters a h e c r.inlet (cond (l && not f) (with_inlet (with_frame o) r) (cond (l && f) (with_inlet (with_end Full) r) r)).inlet
+-- the row after it, where l says whether its outbox is looked at, and f whether it is full: no broadcast ends it
+enters_row : (a : About) (h : List Entry) (e : Entry) (c : ℕ) (r : Row) (o : List ℕ) (l f : Bool) → IsInletOf a h c r.inlet → length (sent a h c) ≤ looked h c + a.limits.outbox → is_full r.inlet ≡ f → added a (moment h e) (sent a h c) c ≡ cond (l && not f) (o ∷ []) [] → end_by c e ≡ None → fold (newer c) (looked h c) e.looks ≤ r.inlet.taken → Enters a h e c r.inlet (cond (l && not f) (with_inlet (with_frame o) r) r).inlet
 enters_row a h e c r o false f p over full adds ends newest = record {
   room = refl;
   items = sym (append-nil r.inlet.waiting.items) ∙ ap (λ (l : List (List ℕ)). r.inlet.waiting.items ++ l) (sym adds);
@@ -306,7 +306,7 @@ enters_row a h e c r o true true p over full adds ends newest = record {
   room = refl;
   items = sym (append-nil r.inlet.waiting.items) ∙ ap (λ (l : List (List ℕ)). r.inlet.waiting.items ++ l) (sym adds);
   count = refl;
-  end = ap (option_or r.inlet.ending) (sym ends);
+  end = sym (ap (option_or r.inlet.ending) ends ∙ option_none r.inlet.ending);
   newest = newest;
 }
 enters_row a h e c r o true false p over full adds ends newest =
@@ -329,16 +329,13 @@ enters_row a h e c r o true false p over full adds ends newest =
     })
 
 same_connection : (conn : ℕ) (o : List ℕ) (r : Row) → connection (delivered conn o r) ≡ connection r
-same_connection conn o r = elim (appends conn o r) as (λ b. connection (cond b (with_inlet (with_frame o) r) (cond (closes conn o r) (with_inlet (with_end Full) r) r)) ≡ connection r) [
-  | true ↦ refl
-  | false ↦ elim (closes conn o r) as (λ b. connection (cond b (with_inlet (with_end Full) r) r) ≡ connection r) [ true ↦ refl | false ↦ refl ]
-]
+same_connection conn o r = elim (appends conn o r) as (λ b. connection (cond b (with_inlet (with_frame o) r) r) ≡ connection r) [ true ↦ refl | false ↦ refl ]
 
 pub looked_sent : (d : Desk) (h : List Entry) (conn : ℕ) (o : List ℕ) → StandsFor d h → AllByRecursion (λ k. k.taken ≡ taken_of d k.conn) (sent_looks conn o d.rows.items)
 looked_sent d h conn o s = looks_found d h (is_looked_at conn o) d.rows.items s (λ r m. m)
 
-pub stands_sent : (d n : Desk) (h : List Entry) (caller conn : ℕ) (f : Frame) (x y z : ℕ) → StandsFor d h → IsRowOf d caller conn f.sender → has_route f.message ≡ true → is_broadcast f.message ≡ true → d.made < d.about.limits.calls → is_some d.stopped_at ≡ false → ending_of d conn ≡ None → n.about ≡ d.about → n.stopped_at ≡ d.stopped_at → n.made ≡ d.made + 1 → x ≡ length (filter (appends conn (out f.message f.sender)) d.rows.items) → y ≡ one_if (x == 0) → z ≡ length (filter (closes conn (out f.message f.sender)) d.rows.items) → n.counts ≡ record d.counts { broadcasts = d.counts.broadcasts + 1; appended = d.counts.appended + x; dropped = d.counts.dropped + y; full = d.counts.full + z } → n.rows.items ≡ map (delivered conn (out f.message f.sender)) d.rows.items → StandsFor n (h ++ forward_entry caller conn f.message (sent_looks conn (out f.message f.sender) d.rows.items) (sent_reply conn (out f.message f.sender) d.rows.items) ∷ [])
-stands_sent d n h caller conn f x y z s is route all calls goes_on current about stop made to none closed count rows =
+pub stands_sent : (d n : Desk) (h : List Entry) (caller conn : ℕ) (f : Frame) (x y z : ℕ) → StandsFor d h → IsRowOf d caller conn f.sender → has_route f.message ≡ true → is_broadcast f.message ≡ true → d.made < d.about.limits.calls → is_some d.stopped_at ≡ false → ending_of d conn ≡ None → n.about ≡ d.about → n.stopped_at ≡ d.stopped_at → n.made ≡ d.made + 1 → x ≡ length (filter (appends conn (out f.message f.sender)) d.rows.items) → y ≡ one_if (x == 0) → z ≡ length (filter (misses conn (out f.message f.sender)) d.rows.items) → n.counts ≡ record d.counts { broadcasts = d.counts.broadcasts + 1; appended = d.counts.appended + x; dropped = d.counts.dropped + y; missed = d.counts.missed + z } → n.rows.items ≡ map (delivered conn (out f.message f.sender)) d.rows.items → StandsFor n (h ++ forward_entry caller conn f.message (sent_looks conn (out f.message f.sender) d.rows.items) (sent_reply conn (out f.message f.sender) d.rows.items) ∷ [])
+stands_sent d n h caller conn f x y z s is route all calls goes_on current about stop made to none missed count rows =
     let a = d.about in
     let m = f.message in
     let o = out m f.sender in
@@ -348,14 +345,13 @@ stands_sent d n h caller conn f x y z s is route all calls goes_on current about
     let passes_on : out_of h conn m ≡ o = ap (out m) (sends d h caller conn f.sender s is).address in
     let apart = rows_apart d h s in
     let named : length (map number (filter (appends conn o) items)) ≡ x = size (filter (appends conn o) items) ∙ sym to in
-    let full_ones : length (map number (filter (closes conn o) items)) ≡ z = size (filter (closes conn o) items) ∙ sym closed in
-    let counted : Counted d n e = record { about = about; stop = stop; made = made; count = count ∙ count_broadcast d.counts caller conn m e.looks e.reply x y z all refl refl refl named (ap (λ (k : ℕ). one_if (k == 0)) named ∙ sym none) full_ones } in
+    let missed_ones : length (map number (filter (misses conn o) items)) ≡ z = size (filter (misses conn o) items) ∙ sym missed in
+    let counted : Counted d n e = record { about = about; stop = stop; made = made; count = count ∙ count_broadcast d.counts caller conn m e.looks e.reply x y z all refl refl refl named (ap (λ (k : ℕ). one_if (k == 0)) named ∙ sym none) refl missed_ones } in
     let each : (r : Row) → In r items → IsInletOf a h r.connection.number r.inlet → Enters a h e r.connection.number r.inlet (delivered conn o r).inlet = λ r mem p. (
     let c = r.connection.number in
     let adds : added a (moment h e) (sent a h c) c ≡ cond (appends conn o r) (o ∷ []) [] = adds_as_named a h s.legal e conn m c lawful refl ∙ ap (λ (b : Bool). cond b (out_of h conn m ∷ []) []) (among_kept (appends conn o) r items apart mem) ∙ ap (λ (l : List ℕ). cond (appends conn o r) (l ∷ []) []) passes_on in
-    let ends : end_by c e ≡ cond (closes conn o r) (Some Full) None = ap (λ (b : Bool). cond b (Some Full) None) (among_kept (closes conn o) r items apart mem) in
     let newest = newest_all d h r e.looks s mem p (looked_sent d h conn o s) in
-    enters_row a h e c r o (is_looked_at conn o r) (is_full r.inlet) p ((within_capacity a h s.legal).not_over c) refl adds ends newest) in
+    enters_row a h e c r o (is_looked_at conn o r) (is_full r.inlet) p ((within_capacity a h s.legal).not_over c) refl adds refl newest) in
     stands_on d n h e (delivered conn o) None s lawful (stays_forward caller conn m e.looks e.reply) counted (rows ∙ sym (append-nil (map (delivered conn o) items))) (same_connection conn o) refl each (λ r is. cc)
 
 -- the numbers that are taken stay, and the frames that entered are as few as the entries
@@ -368,10 +364,7 @@ taken_delivered conn k o (r ∷ rows) =
     ∙ elim (r.connection.number == k) as (λ b. taken_in (cond b (Some (delivered conn o r)) rest) ≡ taken_in (cond b (Some r) (find (has_number k) rows))) [ true ↦ same_taken conn o r | false ↦ taken_delivered conn k o rows ]
 
 one_later : (m conn : ℕ) (o : List ℕ) (r : Row) → entered_at_most m r ≡ true → entered_at_most (m + 1) (delivered conn o r) ≡ true
-one_later m conn o r h = elim (appends conn o r) as (λ b. entered_at_most (m + 1) (cond b (with_inlet (with_frame o) r) (cond (closes conn o r) (with_inlet (with_end Full) r) r)) ≡ true) [
-  | true ↦ one_more m o r h
-  | false ↦ elim (closes conn o r) as (λ b. entered_at_most (m + 1) (cond b (with_inlet (with_end Full) r) r) ≡ true) [ true ↦ later m r h | false ↦ later m r h ]
-]
+one_later m conn o r h = elim (appends conn o r) as (λ b. entered_at_most (m + 1) (cond b (with_inlet (with_frame o) r) r) ≡ true) [ true ↦ one_more m o r h | false ↦ later m r h ]
 
 pub entered_delivered : (m conn : ℕ) (o : List ℕ) (rows : List Row) → list_all (entered_at_most m) rows ≡ true → list_all (entered_at_most (m + 1)) (map (delivered conn o) rows) ≡ true
 entered_delivered m conn o [] all = refl
@@ -396,10 +389,10 @@ few_named d q rows list same is =
     omega (arith, d.rows.ok.0)
 
 -- the reply of lists that were read from the rows
-pub sent_due : (d : Desk) (h : List Entry) (caller conn : ℕ) (f : Frame) (rows : List Row) (to closed skipped : List ℕ) (looks : List Look) → StandsFor d h → IsRowOf d caller conn f.sender → has_route f.message ≡ true → is_broadcast f.message ≡ true → d.made < d.about.limits.calls → is_some d.stopped_at ≡ false → ending_of d conn ≡ None → rows ≡ d.rows.items → to ≡ map number (filter (appends conn (out f.message f.sender)) rows) → closed ≡ map number (filter (closes conn (out f.message f.sender)) rows) → skipped ≡ map number (filter (skips conn (out f.message f.sender)) rows) → looks ≡ sent_looks conn (out f.message f.sender) rows → SentAll to closed skipped ≡ forward_reply d.about h conn f.message looks
-sent_due d h caller conn f rows to closed skipped looks s is route all calls goes_on current same to_is closed_is skipped_is looks_is =
+pub sent_due : (d : Desk) (h : List Entry) (caller conn : ℕ) (f : Frame) (rows : List Row) (to missed skipped : List ℕ) (looks : List Look) → StandsFor d h → IsRowOf d caller conn f.sender → has_route f.message ≡ true → is_broadcast f.message ≡ true → d.made < d.about.limits.calls → is_some d.stopped_at ≡ false → ending_of d conn ≡ None → rows ≡ d.rows.items → to ≡ map number (filter (appends conn (out f.message f.sender)) rows) → missed ≡ map number (filter (misses conn (out f.message f.sender)) rows) → skipped ≡ map number (filter (skips conn (out f.message f.sender)) rows) → looks ≡ sent_looks conn (out f.message f.sender) rows → SentAll to missed skipped ≡ forward_reply d.about h conn f.message looks
+sent_due d h caller conn f rows to missed skipped looks s is route all calls goes_on current same to_is missed_is skipped_is looks_is =
     let o = out f.message f.sender in
-    let read : SentAll to closed skipped ≡ sent_reply conn o rows = λ i. SentAll (to_is i) (closed_is i) (skipped_is i) in
+    let read : SentAll to missed skipped ≡ sent_reply conn o rows = λ i. SentAll (to_is i) (missed_is i) (skipped_is i) in
     read ∙ ap (sent_reply conn o) same
     ∙ (lawful_sent d h caller conn f s is route all calls goes_on current).replied
     ∙ sym (ap (forward_reply d.about h conn f.message) (looks_is ∙ ap (sent_looks conn o) same))

@@ -45,6 +45,7 @@ count_refused k caller who refusal = λ i. record {
   appended = sym (add-zero k.appended) i;
   dropped = sym (add-zero k.dropped) i;
   full = sym (add-zero k.full) i;
+  missed = sym (add-zero k.missed) i;
 }
 
 pub stands_refused : (d n : Desk) (H : List Entry) (caller : ℕ) (who : Identity) (refusal : Refusal) → StandsFor d H → Lawful d.about (moment H (connect_entry caller who (RefusedReply refusal))) → n.about ≡ d.about → n.stopped_at ≡ d.stopped_at → n.made ≡ d.made + 1 → n.counts ≡ record d.counts { refused = d.counts.refused + 1 } → n.rows.items ≡ d.rows.items → StandsFor n (H ++ connect_entry caller who (RefusedReply refusal) ∷ [])
@@ -66,6 +67,7 @@ count_joined k n caller who conn replaced one = λ i. record {
   appended = sym (add-zero k.appended) i;
   dropped = sym (add-zero k.dropped) i;
   full = sym (add-zero k.full) i;
+  missed = sym (add-zero k.missed) i;
 }
 
 or_none : {A : Type 0} (o : Option A) → option_or o None ≡ o

@@ -8,7 +8,7 @@ use Rattle.bsc_octets.specs.declared.identity.Identity.{Identity}
 use Rattle.bsc_octets.specs.Addresses.{same_vmac, same_device}
 use Rattle.bsc_history.specs.declared.connection.Connection.{Connection}
 use Rattle.bsc_history.specs.declared.ending.End.{End}
-use Rattle.bsc_history.specs.declared.ending.End.TheVariants.{Replaced, Full}
+use Rattle.bsc_history.specs.declared.ending.End.TheVariants.{Replaced}
 use Rattle.bsc_history.specs.Laws.{Apart}
 use Rattle.bsc_desk.specs.declared.outbox.Inlet.{Inlet}
 use Rattle.bsc_desk.specs.declared.row.Row.{Row}
@@ -16,7 +16,7 @@ use Rattle.bsc_desk.specs.declared.directory.Directory.{Directory}
 use Rattle.bsc_desk.specs.Orders.{in_order, same_key, address_of, device_of, filed, sorted_by}
 use Rattle.bsc_desk.specs.Rising.{rises}
 use Rattle.bsc_desk.specs.Inlets.{is_open, is_row, with_inlet, with_frame, with_end, done_at}
-use Rattle.bsc_desk.specs.Receivers.{closes, appends, delivered}
+use Rattle.bsc_desk.specs.Receivers.{appends, delivered}
 use Rattle.circular_buffer.specs.Buffer.{buffer}
 use Rattle.bsc_desk.specs.Standing.{connection}
 use Rattle.bsc_desk.specs.Directories.{gives_way, gives_place, AreFiled}
@@ -158,10 +158,10 @@ pub filed_delivered : (conn : ℕ) (o : List ℕ) (rows : List Row) (joined : �
 filed_delivered conn o rows joined x s = filed_changed (delivered conn o) rows joined x (λ r. same r) (λ r. opens r) s
   where
     same : (r : Row) → connection (delivered conn o r) ≡ connection r
-    same r = elim (appends conn o r) as (λ b. connection (cond b (with_inlet (with_frame o) r) (cond (closes conn o r) (with_inlet (with_end Full) r) r)) ≡ connection r) [ true ↦ refl | false ↦ elim (closes conn o r) as (λ b. connection (cond b (with_inlet (with_end Full) r) r) ≡ connection r) [ true ↦ refl | false ↦ refl ] ]
+    same r = elim (appends conn o r) as (λ b. connection (cond b (with_inlet (with_frame o) r) r) ≡ connection r) [ true ↦ refl | false ↦ refl ]
 
     opens : (r : Row) → is_open (delivered conn o r) ≡ true → is_open r ≡ true
-    opens r = elim (appends conn o r) as (λ b. is_open (cond b (with_inlet (with_frame o) r) (cond (closes conn o r) (with_inlet (with_end Full) r) r)) ≡ true → is_open r ≡ true) [ true ↦ frame_opens o r.inlet | false ↦ elim (closes conn o r) as (λ b. is_open (cond b (with_inlet (with_end Full) r) r) ≡ true → is_open r ≡ true) [ true ↦ end_opens Full r.inlet | false ↦ λ h. h ] ]
+    opens r = elim (appends conn o r) as (λ b. is_open (cond b (with_inlet (with_frame o) r) r) ≡ true → is_open r ≡ true) [ true ↦ frame_opens o r.inlet | false ↦ λ h. h ]
 
 pub filed_ended : (ending : End) (rows : List Row) (joined : ℕ) (x : Directory) → AreFiled rows joined x → AreFiled (map (with_inlet (with_end ending)) rows) joined x
 filed_ended ending rows joined x s = filed_changed (with_inlet (with_end ending)) rows joined x (λ r. refl) (λ r. end_opens ending r.inlet) s

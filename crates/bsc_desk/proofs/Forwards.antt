@@ -14,7 +14,7 @@ use Rattle.bsc_history.specs.declared.reply.Reply.{Reply}
 use Rattle.bsc_history.specs.declared.reply.Reply.TheVariants.{Appended, Closed}
 use Rattle.bsc_history.specs.Entries.{moment}
 use Rattle.bsc_history.specs.Ends.{end_by}
-use Rattle.bsc_history.specs.Counting.{counts_of, plus, one_if, appended_in, closed_in, is_joined, is_replacing, is_refused}
+use Rattle.bsc_history.specs.Counting.{counts_of, plus, one_if, appended_in, is_closing, missed_in, is_joined, is_replacing, is_refused}
 use Rattle.bsc_history.specs.Outboxes.{newer, looked, added, sent, out_of}
 use Rattle.bsc_history.specs.Legality.{Lawful}
 use Rattle.bsc_history.specs.Laws.{names}
@@ -44,8 +44,8 @@ stays_forward caller conn m looks reply = record { goes_on = refl; stays = λ c.
 
 -- counts of a unicast that appends x times and closes z times, and is dropped y times
 
-pub count_unicast : (k : Counts) (caller conn : ℕ) (m : List ℕ) (looks : List Look) (reply : Reply) (x y z : ℕ) → is_broadcast m ≡ false → is_joined reply ≡ false → is_replacing reply ≡ false → is_refused reply ≡ false → appended_in reply ≡ x → one_if (appended_in reply == 0) ≡ y → closed_in reply ≡ z → record k { unicasts = k.unicasts + 1; appended = k.appended + x; dropped = k.dropped + y; full = k.full + z } ≡ plus k (counts_of (forward_entry caller conn m looks reply))
-count_unicast k caller conn m looks reply x y z one j p r a d f = λ i. record {
+pub count_unicast : (k : Counts) (caller conn : ℕ) (m : List ℕ) (looks : List Look) (reply : Reply) (x y z : ℕ) → is_broadcast m ≡ false → is_joined reply ≡ false → is_replacing reply ≡ false → is_refused reply ≡ false → appended_in reply ≡ x → one_if (appended_in reply == 0) ≡ y → one_if (is_closing reply) ≡ z → missed_in reply ≡ 0 → record k { unicasts = k.unicasts + 1; appended = k.appended + x; dropped = k.dropped + y; full = k.full + z } ≡ plus k (counts_of (forward_entry caller conn m looks reply))
+count_unicast k caller conn m looks reply x y z one j p r a d f w = λ i. record {
   joined = (sym (add-zero k.joined) ∙ ap (λ (b : Bool). k.joined + one_if b) (sym j)) i;
   replaced = (sym (add-zero k.replaced) ∙ ap (λ (b : Bool). k.replaced + one_if b) (sym p)) i;
   refused = (sym (add-zero k.refused) ∙ ap (λ (b : Bool). k.refused + one_if b) (sym r)) i;
@@ -54,6 +54,7 @@ count_unicast k caller conn m looks reply x y z one j p r a d f = λ i. record {
   appended = ap (λ (n : ℕ). k.appended + n) (sym a) i;
   dropped = ap (λ (n : ℕ). k.dropped + n) (sym d) i;
   full = ap (λ (n : ℕ). k.full + n) (sym f) i;
+  missed = (sym (add-zero k.missed) ∙ ap (λ (n : ℕ). k.missed + n) (sym w)) i;
 }
 
 or_none : {A : Type 0} (o : Option A) → option_or o None ≡ o
@@ -85,7 +86,7 @@ stands_closed d n h caller conn m look s lawful one found about stop made count 
     let f = changed (Some k) (with_end Full) in
     let zero_more : (x : ℕ) → x ≡ x + 0 = λ x. sym (add-zero x) in
     let counts_so : record d.counts { unicasts = d.counts.unicasts + 1; dropped = d.counts.dropped + 1; full = d.counts.full + 1 } ≡ record d.counts { unicasts = d.counts.unicasts + 1; appended = d.counts.appended + 0; dropped = d.counts.dropped + 1; full = d.counts.full + 1 } = ap (λ (x : ℕ). record d.counts { unicasts = d.counts.unicasts + 1; appended = x; dropped = d.counts.dropped + 1; full = d.counts.full + 1 }) (zero_more d.counts.appended) in
-    let counted : Counted d n e = record { about = about; stop = stop; made = made; count = count ∙ counts_so ∙ count_unicast d.counts caller conn m (look ∷ []) (Closed k) 0 1 1 one refl refl refl refl refl refl } in
+    let counted : Counted d n e = record { about = about; stop = stop; made = made; count = count ∙ counts_so ∙ count_unicast d.counts caller conn m (look ∷ []) (Closed k) 0 1 1 one refl refl refl refl refl refl refl } in
     let each : (r : Row) → In r d.rows.items → IsInletOf a h r.connection.number r.inlet → Enters a h e r.connection.number r.inlet (f r).inlet = λ r mem p. (
     let c = r.connection.number in
     let adds = adds_as_named a h s.legal e conn m c lawful refl in
@@ -112,7 +113,7 @@ stands_appended d n h caller conn frame look s lawful is one found about stop ma
     let passes : out_of h conn m ≡ o = ap (out m) (sends d h caller conn frame.sender s is).address in
     let zero_more : (x : ℕ) → x ≡ x + 0 = λ x. sym (add-zero x) in
     let counts_so : record d.counts { unicasts = d.counts.unicasts + 1; appended = d.counts.appended + 1 } ≡ record d.counts { unicasts = d.counts.unicasts + 1; appended = d.counts.appended + 1; dropped = d.counts.dropped + 0; full = d.counts.full + 0 } = λ i. record d.counts { unicasts = d.counts.unicasts + 1; appended = d.counts.appended + 1; dropped = zero_more d.counts.dropped i; full = zero_more d.counts.full i } in
-    let counted : Counted d n e = record { about = about; stop = stop; made = made; count = count ∙ counts_so ∙ count_unicast d.counts caller conn m (look ∷ []) (Appended k) 1 0 0 one refl refl refl refl refl refl } in
+    let counted : Counted d n e = record { about = about; stop = stop; made = made; count = count ∙ counts_so ∙ count_unicast d.counts caller conn m (look ∷ []) (Appended k) 1 0 0 one refl refl refl refl refl refl refl } in
     let each : (r : Row) → In r d.rows.items → IsInletOf a h r.connection.number r.inlet → Enters a h e r.connection.number r.inlet (f r).inlet = λ r mem p. (
     let c = r.connection.number in
     let items = r.inlet.waiting.items in
@@ -145,17 +146,18 @@ pub record Drops (reply : Reply) : Type 0 where
   pub replaces : is_replacing reply ≡ false
   pub refuses : is_refused reply ≡ false
   pub appends : appended_in reply ≡ 0
-  pub closes : closed_in reply ≡ 0
+  pub closes : is_closing reply ≡ false
+  pub misses : missed_in reply ≡ 0
   pub names_none : (c : ℕ) → names c reply ≡ false
   pub ends_none : (c : ℕ) (caller conn : ℕ) (m : List ℕ) → end_by c (forward_entry caller conn m [] reply) ≡ None
 
 drops : (reply : OneReply) → one_looks reply ≡ [] → Drops (one_reply reply)
 drops (OneAppended look) none = cc
 drops (OneClosed look) none = cc
-drops (OneSkipped conn) none = record { joins = refl; replaces = refl; refuses = refl; appends = refl; closes = refl; names_none = λ c. refl; ends_none = λ c caller k m. refl }
-drops OneNoHolder none = record { joins = refl; replaces = refl; refuses = refl; appends = refl; closes = refl; names_none = λ c. refl; ends_none = λ c caller k m. refl }
-drops (OneNotCurrent ending) none = record { joins = refl; replaces = refl; refuses = refl; appends = refl; closes = refl; names_none = λ c. refl; ends_none = λ c caller k m. refl }
-drops OneStopped none = record { joins = refl; replaces = refl; refuses = refl; appends = refl; closes = refl; names_none = λ c. refl; ends_none = λ c caller k m. refl }
+drops (OneSkipped conn) none = record { joins = refl; replaces = refl; refuses = refl; appends = refl; closes = refl; misses = refl; names_none = λ c. refl; ends_none = λ c caller k m. refl }
+drops OneNoHolder none = record { joins = refl; replaces = refl; refuses = refl; appends = refl; closes = refl; misses = refl; names_none = λ c. refl; ends_none = λ c caller k m. refl }
+drops (OneNotCurrent ending) none = record { joins = refl; replaces = refl; refuses = refl; appends = refl; closes = refl; misses = refl; names_none = λ c. refl; ends_none = λ c caller k m. refl }
+drops OneStopped none = record { joins = refl; replaces = refl; refuses = refl; appends = refl; closes = refl; misses = refl; names_none = λ c. refl; ends_none = λ c caller k m. refl }
 
 pub stands_dropped : (d n : Desk) (h : List Entry) (caller conn : ℕ) (m : List ℕ) (reply : OneReply) → StandsFor d h → Lawful d.about (moment h (forward_entry caller conn m [] (one_reply reply))) → one_looks reply ≡ [] → is_broadcast m ≡ false → n.about ≡ d.about → n.stopped_at ≡ d.stopped_at → n.made ≡ d.made + 1 → n.counts ≡ record d.counts { unicasts = d.counts.unicasts + 1; dropped = d.counts.dropped + 1 } → n.rows.items ≡ d.rows.items → StandsFor n (h ++ forward_entry caller conn m [] (one_reply reply) ∷ [])
 stands_dropped d n h caller conn m reply s lawful none one about stop made count rows =
@@ -165,7 +167,7 @@ stands_dropped d n h caller conn m reply s lawful none one about stop made count
     let x = drops reply none in
     let zero_more : (x : ℕ) → x ≡ x + 0 = λ x. sym (add-zero x) in
     let counts_so : record d.counts { unicasts = d.counts.unicasts + 1; dropped = d.counts.dropped + 1 } ≡ record d.counts { unicasts = d.counts.unicasts + 1; appended = d.counts.appended + 0; dropped = d.counts.dropped + 1; full = d.counts.full + 0 } = λ i. record d.counts { unicasts = d.counts.unicasts + 1; appended = zero_more d.counts.appended i; dropped = d.counts.dropped + 1; full = zero_more d.counts.full i } in
-    let counted : Counted d n e = record { about = about; stop = stop; made = made; count = count ∙ counts_so ∙ count_unicast d.counts caller conn m [] r 0 1 0 one x.joins x.replaces x.refuses x.appends (ap (λ (n : ℕ). one_if (n == 0)) x.appends) x.closes } in
+    let counted : Counted d n e = record { about = about; stop = stop; made = made; count = count ∙ counts_so ∙ count_unicast d.counts caller conn m [] r 0 1 0 one x.joins x.replaces x.refuses x.appends (ap (λ (n : ℕ). one_if (n == 0)) x.appends) (ap one_if x.closes) x.misses } in
     let quiet : Quiet a h e = record {
       joins_none = refl;
       ends_none = λ c. x.ends_none c caller conn m;

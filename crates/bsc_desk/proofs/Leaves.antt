@@ -33,7 +33,7 @@ use Rattle.bsc_desk.proofs.Standing.{Counted, Keeps, Quiet, Stays, In-map, none_
 use Rattle.bsc_desk.proofs.Unicasts.{Has, has_row, any_In, looks_right}
 
 abbrev no_counts : Counts
-no_counts = record { joined = 0; replaced = 0; refused = 0; unicasts = 0; broadcasts = 0; appended = 0; dropped = 0; full = 0 }
+no_counts = record { joined = 0; replaced = 0; refused = 0; unicasts = 0; broadcasts = 0; appended = 0; dropped = 0; full = 0; missed = 0 }
 
 count_none : (k : Counts) → k ≡ plus k no_counts
 count_none k = λ i. record {
@@ -45,6 +45,7 @@ count_none k = λ i. record {
   appended = sym (add-zero k.appended) i;
   dropped = sym (add-zero k.dropped) i;
   full = sym (add-zero k.full) i;
+  missed = sym (add-zero k.missed) i;
 }
 
 or_none : {A : Type 0} (o : Option A) → option_or o None ≡ o

@@ -23,7 +23,7 @@ use Rattle.bsc_desk.proofs.Histories.{unleft_joined}
 use Rattle.bsc_desk.proofs.Entering.{Enters, inlet_more, inlet_new}
 
 abbrev no_counts : Counts
-no_counts = record { joined = 0; replaced = 0; refused = 0; unicasts = 0; broadcasts = 0; appended = 0; dropped = 0; full = 0 }
+no_counts = record { joined = 0; replaced = 0; refused = 0; unicasts = 0; broadcasts = 0; appended = 0; dropped = 0; full = 0; missed = 0 }
 
 -- no entries
 pub stands_none : (d : Desk) → d.stopped_at ≡ None → d.made ≡ 0 → d.counts ≡ no_counts → d.rows.items ≡ [] → StandsFor d []

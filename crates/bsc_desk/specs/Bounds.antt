@@ -22,6 +22,7 @@ pub record AreAtMost (k : Counts) (n : ℕ) : Type 0 where
   pub appended : k.appended ≤ n
   pub dropped : k.dropped ≤ n
   pub full : k.full ≤ n
+  pub missed : k.missed ≤ n
 
 -- the Stop entry that may still come
 abbrev pub stops_left : Option ℕ → ℕ

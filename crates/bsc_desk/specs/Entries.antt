@@ -97,12 +97,12 @@ count_adds caller (Err worn) = []
 
 -- the reply that a broadcast's answer says, and the looks that it made
 abbrev pub all_reply : AllReply → Reply
-all_reply (AllSent to closed skipped looks) = SentAll to closed skipped
+all_reply (AllSent to missed skipped looks) = SentAll to missed skipped
 all_reply (AllNotCurrent ending) = NotCurrent ending
 all_reply AllStopped = Stopped
 
 abbrev pub all_looks : AllReply → List Look
-all_looks (AllSent to closed skipped looks) = looks
+all_looks (AllSent to missed skipped looks) = looks
 all_looks r = []
 
 -- the entries that a broadcast adds, one or none
@@ -128,5 +128,5 @@ AllSaysLimit AllNoMemory calls = ⊤
 
 -- whether a broadcast's answer is that it went nowhere
 abbrev pub is_passed_over : AllReply → Bool
-is_passed_over (AllSent to closed skipped looks) = false
+is_passed_over (AllSent to missed skipped looks) = false
 is_passed_over r = true

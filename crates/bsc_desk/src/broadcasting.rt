@@ -11,13 +11,13 @@ ghost use Rattle.bsc_history.specs.Legality.{Lawful};
 ghost use Rattle.bsc_history.specs.Replies.{forward_reply, is_stopped};
 ghost use Rattle.bsc_desk.specs.Rows.{IsRowOf, taken_of, ending_of};
 ghost use Rattle.bsc_desk.specs.Standing.{StandsFor};
-ghost use Rattle.bsc_desk.specs.Receivers.{appends, closes, sent_looks, sent_reply};
+ghost use Rattle.bsc_desk.specs.Receivers.{appends, misses, sent_looks, sent_reply};
 ghost use Rattle.bsc_desk.specs.Entries.{all_reply, all_looks, all_adds, is_all_worn, lacks_memory, AllSaysLimit, is_passed_over, forward_entry};
 
 use crate::connecting::one_if;
 use crate::desk::Desk;
 use crate::prepared::Prepared;
-use crate::receivers::{copies, deliver, full_ones, looks, receivers, skipped_ones};
+use crate::receivers::{copies, deliver, looks, missed_ones, receivers, skipped_ones};
 use crate::rows::ending_at;
 use bsc_history::{Conns, End, Looks, Worn};
 use bsc_octets::{NoMemory, Octets};
@@ -27,11 +27,11 @@ use std::alloc::Global;
 #[derive(Debug, Drop)]
 pub enum AllReply {
     /// Each live connection but the sender, in the order of joining: it joined the outboxes of `to`, those of
-    /// `closed` were found full and ended as Full, and its forwarded octets are longer than those of `skipped`
-    /// take. The looks are those at the outboxes of all that weren't skipped.
+    /// `missed` were found full and miss it, and its forwarded octets are longer than those of `skipped` take.
+    /// The looks are those at the outboxes of all that weren't skipped. It ends nobody.
     Sent {
         to: Conns,
-        closed: Conns,
+        missed: Conns,
         skipped: Conns,
         looks: Looks,
     },
@@ -55,9 +55,9 @@ pub enum AllRefusal {
 impl Desk {
     /// Forwards a broadcast of connection `conn`, which this caller joined, which hasn't left and which has the
     /// frame's sender as its VMAC. The first of these holds: worn; the hub has stopped; the sender has ended;
-    /// memory runs out, and then nothing has changed; each live connection but the sender gets it, finds its
-    /// outbox full and ends as Full, or is skipped, as its octets are too long. All memory is taken before the
-    /// first frame is put into an outbox.
+    /// memory runs out, and then nothing has changed; each live connection but the sender is skipped, as its
+    /// octets are too long, misses it, as its outbox is full, or gets it. It ends nobody: who misses it goes on.
+    /// All memory is taken before the first frame is put into an outbox.
     pub fn forward_all(
         &mut self,
         alloc: Global,
@@ -146,27 +146,27 @@ impl Desk {
     {
         let rows = self.rows.as_slice();
         let to = receivers(alloc, rows, conn, frame)?;
-        let closed = full_ones(alloc, rows, conn, frame)?;
+        let missed = missed_ones(alloc, rows, conn, frame)?;
         let skipped = skipped_ones(alloc, rows, conn, frame)?;
         let looks = looks(alloc, rows, conn, frame)?;
         let copies = copies(alloc, frame, to.len())?;
-        self.put_all(caller, conn, frame, copies, closed.len());
+        self.put_all(caller, conn, frame, copies, missed.len());
         Ok(AllReply::Sent {
             to: Conns::from_vec(to),
-            closed: Conns::from_vec(closed),
+            missed: Conns::from_vec(missed),
             skipped: Conns::from_vec(skipped),
             looks: Looks::from_vec(looks),
         })
     }
 
-    /// The copies are put into the outboxes that take them, and those found full end.
+    /// The copies are put into the outboxes that take them, and those that miss it are counted.
     fn put_all(
         &mut self,
         caller: u64,
         conn: u64,
         frame: &Prepared,
         copies: Vec<Octets>,
-        closed: usize,
+        missed: usize,
     )
         requires broadcast { IsTrue (is_broadcast frame.now.message) }
         requires route { IsTrue (has_route frame.now.message) }
@@ -175,9 +175,9 @@ impl Desk {
         requires goes_on { IsFalse (is_some self.old.stopped_at) }
         requires current { ending_of self.old conn ≡ None }
         requires to { vec_len copies ≡ length (filter (appends conn (out frame.now.message frame.now.sender)) self.old.rows.items) }
-        requires closed { closed ≡ length (filter (closes conn (out frame.now.message frame.now.sender)) self.old.rows.items) }
+        requires missed { missed ≡ length (filter (misses conn (out frame.now.message frame.now.sender)) self.old.rows.items) }
         requires few_to { vec_len copies ≤ 1024 }
-        requires few_closed { closed ≤ 1024 }
+        requires few_missed { missed ≤ 1024 }
         requires each { AllByRecursion (λ o. o ≡ out frame.now.message frame.now.sender) copies.items }
         ensures stands { (h : List Entry) → StandsFor self.old h → StandsFor self.new (h ++ forward_entry caller conn frame.now.message (sent_looks conn (out frame.now.message frame.now.sender) self.old.rows.items) (sent_reply conn (out frame.now.message frame.now.sender) self.old.rows.items) ∷ []) }
         ensures about { self.new.about ≡ self.old.about }
@@ -189,6 +189,6 @@ impl Desk {
         self.counts.broadcasts += 1;
         self.counts.appended += to as u64;
         self.counts.dropped += one_if(to == 0);
-        self.counts.full += closed as u64;
+        self.counts.missed += missed as u64;
     }
 }

@@ -55,6 +55,7 @@ impl Desk {
                 appended: 0,
                 dropped: 0,
                 full: 0,
+                missed: 0,
             },
             rows: Vec::with_capacity(alloc, limits.rows as usize)?,
             directory: Directory::make(alloc, limits.rows as usize)?,

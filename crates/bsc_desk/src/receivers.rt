@@ -5,11 +5,11 @@ ghost use Rattle.std.specs.Prelude.{◌≡◌, ◌≤◌, ◌<◌, ◌+◌, leng
 ghost use Rattle.std.specs.List.{AllByRecursion};
 ghost use Rattle.bsc_octets.specs.Forwarding.{out};
 ghost use Rattle.bsc_history.specs.Counting.{one_if};
-ghost use Rattle.bsc_desk.specs.Receivers.{is_meant, skips, is_looked_at, closes, appends, delivered, number, look_of, sent_looks};
+ghost use Rattle.bsc_desk.specs.Receivers.{is_meant, skips, is_looked_at, misses, appends, delivered, number, look_of, sent_looks};
 
 use crate::prepared::Prepared;
 use crate::row::Row;
-use bsc_history::{End, Look};
+use bsc_history::Look;
 use bsc_octets::{NoMemory, Octets};
 use std::alloc::Global;
 
@@ -32,8 +32,8 @@ fn is_looked_at(row: &Row, conn: u64, frame: &Prepared) -> bool
     is_meant(row, conn) && frame.len() <= row.connection.who.max_bvlc as usize
 }
 
-fn closes(row: &Row, conn: u64, frame: &Prepared) -> bool
-    ensures { result ≡ closes conn (out frame.now.message frame.now.sender) row.now }
+fn misses(row: &Row, conn: u64, frame: &Prepared) -> bool
+    ensures { result ≡ misses conn (out frame.now.message frame.now.sender) row.now }
 {
     is_looked_at(row, conn, frame) && row.inlet.is_full()
 }
@@ -61,18 +61,18 @@ pub(crate) fn receivers(
     Ok(list)
 }
 
-/// The connections whose outboxes are found full.
-pub(crate) fn full_ones(
+/// The connections whose outboxes are found full, which miss it.
+pub(crate) fn missed_ones(
     alloc: Global,
     rows: &[Row],
     conn: u64,
     frame: &Prepared,
 ) -> Result<Vec<u64>, NoMemory>
-    ensures { IfOk result (λ v. v.items ≡ map number (filter (closes conn (out frame.now.message frame.now.sender)) rows.now)) }
+    ensures { IfOk result (λ v. v.items ≡ map number (filter (misses conn (out frame.now.message frame.now.sender)) rows.now)) }
 {
     let list: Vec<u64> = rows
         .iter()
-        .filter(|row| closes(row, conn, frame))
+        .filter(|row| misses(row, conn, frame))
         .map(|row| row.connection.number)
         .collect(alloc)?;
     Ok(list)
@@ -142,7 +142,7 @@ fn next_copy(copies: &mut Vec<Octets>, frame: &Prepared) -> Octets
     }
 }
 
-/// Delivers a broadcast to one row.
+/// Delivers a broadcast to one row. A full outbox stays as it is, and its connection goes on.
 fn deliver_one(row: &mut Row, conn: u64, frame: &Prepared, copies: &mut Vec<Octets>)
     requires enough { one_if (appends conn (out frame.now.message frame.now.sender) row.old) ≤ vec_len copies.old }
     requires each { AllByRecursion (λ o. o ≡ out frame.now.message frame.now.sender) copies.old.items }
@@ -152,8 +152,6 @@ fn deliver_one(row: &mut Row, conn: u64, frame: &Prepared, copies: &mut Vec<Octe
 {
     if appends(row, conn, frame) {
         row.inlet.push(next_copy(copies, frame));
-    } else if closes(row, conn, frame) {
-        row.inlet.finish(End::Full);
     }
 }
 

@@ -240,6 +240,7 @@ fn connections_leave_and_the_hub_stops(rt: HostRuntime) -> Result<(), Fail> {
         appended: 1,
         dropped: 0,
         full: 0,
+        missed: 0,
     };
     assert_eq!(rt; desk.count(9), Ok(counts));
     let replaced = Gone {
@@ -291,8 +292,34 @@ fn a_stopped_hub_serves_nobody(rt: HostRuntime) -> Result<(), Fail> {
     Ok(())
 }
 
+/// Whether a broadcast was sent, with these lists and these looks.
+fn is_sent(
+    reply: &Result<AllReply, AllRefusal>,
+    receivers: &[u64],
+    full: &[u64],
+    long: &[u64],
+    seen: &[Look],
+) -> bool {
+    match reply {
+        Ok(
+            AllReply::Sent {
+                to,
+                missed,
+                skipped,
+                looks,
+            },
+        ) => {
+            to.as_slice() == receivers
+                && missed.as_slice() == full
+                && skipped.as_slice() == long
+                && looks.as_slice() == seen
+        }
+        Ok(AllReply::NotCurrent { .. }) | Ok(AllReply::Stopped) | Err(_) => false,
+    }
+}
+
 #[test]
-fn a_broadcast_reaches_the_others(rt: HostRuntime) -> Result<(), Fail> {
+fn a_full_outbox_misses_a_broadcast(rt: HostRuntime) -> Result<(), Fail> {
     let alloc = rt.alloc();
     let limits = Limits {
         rows: 4,
@@ -307,38 +334,31 @@ fn a_broadcast_reaches_the_others(rt: HostRuntime) -> Result<(), Fail> {
     let _fourth = join(alloc, &mut desk, 4, 4)?;
     let _one = send(&rt, alloc, &mut desk, 1, 1, &TO_2)?;
     let _two = send(&rt, alloc, &mut desk, 1, 1, &TO_2)?;
-    match send_to_all(&rt, alloc, &mut desk, 1, 1, &TO_ALL)? {
-        Ok(
-            AllReply::Sent {
-                to,
-                closed,
-                skipped,
-                looks,
-            },
-        ) => {
-            assert_eq!(rt; to.as_slice(), [4].as_slice());
-            assert_eq!(rt; closed.as_slice(), [2].as_slice());
-            assert_eq!(rt; skipped.as_slice(), [3].as_slice());
-            let two = Look { conn: 2, taken: 0 };
-            let four = Look { conn: 4, taken: 0 };
-            assert_eq!(rt; looks.as_slice(), [two, four].as_slice());
-        }
-        Ok(AllReply::NotCurrent { .. }) | Ok(AllReply::Stopped) | Err(_) => assert!(rt; false),
-    }
+    let two = Look { conn: 2, taken: 0 };
+    let four = Look { conn: 4, taken: 0 };
+    let missing = send_to_all(&rt, alloc, &mut desk, 1, 1, &TO_ALL)?;
+    assert!(rt; is_sent(&missing, &[4], &[2], &[3], &[two, four]));
+    let mut outlet = Outlet::of(2);
+    assert_eq!(rt; take(&rt, &mut desk, &mut outlet), (Some(61), None));
+    let two = Look { conn: 2, taken: 1 };
+    let reaching = send_to_all(&rt, alloc, &mut desk, 1, 1, &TO_ALL)?;
+    assert!(rt; is_sent(&reaching, &[2, 4], &[], &[3], &[two, four]));
+    assert_eq!(rt; take(&rt, &mut desk, &mut outlet), (Some(61), None));
+    assert_eq!(rt; take(&rt, &mut desk, &mut outlet), (Some(71), None));
+    assert_eq!(rt; take(&rt, &mut desk, &mut outlet), (None, None));
     let mut sender = Outlet::of(1);
     assert_eq!(rt; take(&rt, &mut desk, &mut sender), (None, None));
-    let mut outlet = Outlet::of(4);
-    assert_eq!(rt; take(&rt, &mut desk, &mut outlet), (Some(71), None));
     let counts = desk.count(9);
     let expected = Counts {
         joined: 4,
         replaced: 0,
         refused: 0,
         unicasts: 2,
-        broadcasts: 1,
-        appended: 3,
+        broadcasts: 2,
+        appended: 5,
         dropped: 0,
-        full: 1,
+        full: 0,
+        missed: 1,
     };
     assert_eq!(rt; counts, Ok(expected));
     Ok(())

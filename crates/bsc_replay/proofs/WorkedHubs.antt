@@ -20,7 +20,7 @@ broadcast : replay_of (codes "hub 0200000000FF 00112233445566778899AABBCCDDEEFF 
           ++ codes "B out 070000010200000000FF00112233445566778899AABBCCDDEEFF064005D9\n"
           ++ codes "C joined 3\n"
           ++ codes "C out 070000010200000000FF00112233445566778899AABBCCDDEEFF064005D9\n"
-          ++ codes "A sentall to=2,3 closed=- skipped=-\n"
+          ++ codes "A sentall to=2,3 missed=- skipped=-\n"
           ++ codes "B out 010C000202000000000AFFFFFFFFFFFF0120FFFF00FF1008\n"
           ++ codes "C out 010C000202000000000AFFFFFFFFFFFF0120FFFF00FF1008\n";
       refused = None;
@@ -59,8 +59,8 @@ takeover : replay_of (codes "hub 0200000000FF 00112233445566778899AABBCCDDEEFF 0
 unfolding script_on_literals uuid_on_literals
 takeover = refl
 
--- A broadcast closes the connection whose outbox is full; what was sent to it before is still written.
-full_outbox_in_a_broadcast : replay_of (codes "hub 0200000000FF 00112233445566778899AABBCCDDEEFF 0640 05D9 256 2\n"
+-- A connection whose outbox is full misses a broadcast and goes on; what was sent to it before is written when it is freed.
+missed_broadcast : replay_of (codes "hub 0200000000FF 00112233445566778899AABBCCDDEEFF 0640 05D9 256 2\n"
     ++ codes "open A\n"
     ++ codes "in A 06000001 02000000000A AAAAAAAAAAAAAAAAAAAAAAAAAAAAAAAA 0640 05D9\n"
     ++ codes "open B\n"
@@ -81,16 +81,14 @@ full_outbox_in_a_broadcast : replay_of (codes "hub 0200000000FF 0011223344556677
           ++ codes "C out 070000010200000000FF00112233445566778899AABBCCDDEEFF064005D9\n"
           ++ codes "A sent 2\n"
           ++ codes "A sent 2\n"
-          ++ codes "A sentall to=3 closed=2 skipped=-\n"
+          ++ codes "A sentall to=3 missed=2 skipped=-\n"
           ++ codes "C out 010C000402000000000AFFFFFFFFFFFF0100\n"
           ++ codes "B out 0108000202000000000A0100\n"
-          ++ codes "B out 0108000302000000000A0100\n"
-          ++ codes "B close 1008 outbox full\n"
-          ++ codes "B gone full 2\n";
+          ++ codes "B out 0108000302000000000A0100\n";
       refused = None;
     }
 unfolding script_on_literals uuid_on_literals
-full_outbox_in_a_broadcast = refl
+missed_broadcast = refl
 
 -- A held name that was replaced learns of it when its outbox is emptied again; until then its frames say so.
 held_and_replaced : replay_of (codes "hub 0200000000FF 00112233445566778899AABBCCDDEEFF 0640 05D9 256 64\n"
@@ -174,7 +172,7 @@ stop : replay_of (codes "hub 0200000000FF 00112233445566778899AABBCCDDEEFF 0640 
           ++ codes "B out 070000010200000000FF00112233445566778899AABBCCDDEEFF064005D9\n"
           ++ codes "A sent 2\n"
           ++ codes "B out 0108000202000000000A0120FFFF00FF1008\n"
-          ++ codes "hub counts joined=2 replaced=0 refused=0 unicasts=1 broadcasts=0 appended=1 dropped=0 full=0\n"
+          ++ codes "hub counts joined=2 replaced=0 refused=0 unicasts=1 broadcasts=0 appended=1 dropped=0 full=0 missed=0\n"
           ++ codes "A out 08000001\n"
           ++ codes "B out 08000001\n"
           ++ codes "hub stopped already\n"

@@ -60,7 +60,7 @@ c_joins = codes "open C" ∷
 broadcast : written_for_lines (codes "hub 0200000000FF 00112233445566778899AABBCCDDEEFF 0640 05D9 256 64") (a_joins ++ b_joins ++ c_joins)
     (codes "in A 01040002 FFFFFFFFFFFF 0120FFFF00FF1008" ∷
     [])
-    ≡ Some (ended_lines (codes "A sentall to=2,3 closed=- skipped=-" ∷
+    ≡ Some (ended_lines (codes "A sentall to=2,3 missed=- skipped=-" ∷
     codes "B out 010C000202000000000AFFFFFFFFFFFF0120FFFF00FF1008" ∷
     codes "C out 010C000202000000000AFFFFFFFFFFFF0120FFFF00FF1008" ∷
     []))
@@ -116,25 +116,46 @@ full_outbox : written_for_lines (codes "hub 0200000000FF 00112233445566778899AAB
 unfolding stage_on_literals uuid_on_literals
 full_outbox = refl
 
--- A broadcast that finds an outbox full closes it, and reaches the others.
-full_by_a_broadcast : written_for_lines (codes "hub 0200000000FF 00112233445566778899AABBCCDDEEFF 0640 05D9 256 2") (a_joins ++ b_joins ++ c_joins)
+-- A broadcast that finds an outbox full reaches the others. Who missed it goes on: freed, its frames are written, and it gets the next.
+missed_broadcast : written_for_lines (codes "hub 0200000000FF 00112233445566778899AABBCCDDEEFF 0640 05D9 256 2") (a_joins ++ b_joins ++ c_joins)
     (codes "hold B" ∷
     codes "in A 01040002 02000000000B 0100" ∷
     codes "in A 01040003 02000000000B 0100" ∷
     codes "in A 01040004 FFFFFFFFFFFF 0100" ∷
     codes "free B" ∷
+    codes "in A 01040005 FFFFFFFFFFFF 0100" ∷
     [])
     ≡ Some (ended_lines (codes "A sent 2" ∷
     codes "A sent 2" ∷
-    codes "A sentall to=3 closed=2 skipped=-" ∷
+    codes "A sentall to=3 missed=2 skipped=-" ∷
     codes "C out 010C000402000000000AFFFFFFFFFFFF0100" ∷
     codes "B out 0108000202000000000A0100" ∷
     codes "B out 0108000302000000000A0100" ∷
-    codes "B close 1008 outbox full" ∷
-    codes "B gone full 2" ∷
+    codes "A sentall to=2,3 missed=- skipped=-" ∷
+    codes "B out 010C000502000000000AFFFFFFFFFFFF0100" ∷
+    codes "C out 010C000502000000000AFFFFFFFFFFFF0100" ∷
     []))
 unfolding stage_on_literals uuid_on_literals
-full_by_a_broadcast = refl
+missed_broadcast = refl
+
+-- Three broadcasts to an outbox of two frames: the third is missed once, and counted so.
+missed_is_counted : written_for_lines (codes "hub 0200000000FF 00112233445566778899AABBCCDDEEFF 0640 05D9 256 2") (a_joins ++ b_joins ++ c_joins)
+    (codes "hold B" ∷
+    codes "in A 01040002 FFFFFFFFFFFF 0100" ∷
+    codes "in A 01040003 FFFFFFFFFFFF 0100" ∷
+    codes "in A 01040004 FFFFFFFFFFFF 0100" ∷
+    codes "counts" ∷
+    [])
+    ≡ Some (ended_lines (codes "A sentall to=2,3 missed=- skipped=-" ∷
+    codes "C out 010C000202000000000AFFFFFFFFFFFF0100" ∷
+    codes "A sentall to=2,3 missed=- skipped=-" ∷
+    codes "C out 010C000302000000000AFFFFFFFFFFFF0100" ∷
+    codes "A sentall to=3 missed=2 skipped=-" ∷
+    codes "C out 010C000402000000000AFFFFFFFFFFFF0100" ∷
+    codes "hub counts joined=3 replaced=0 refused=0 unicasts=0 broadcasts=3 appended=5 dropped=0 full=0 missed=1" ∷
+    []))
+unfolding stage_on_literals uuid_on_literals
+missed_is_counted = refl
 
 -- A held name that was replaced stays in Connected: its unicast is told so; freed, it is asked to disconnect.
 held_and_replaced : written_for_lines (codes "hub 0200000000FF 00112233445566778899AABBCCDDEEFF 0640 05D9 256 64") (a_joins ++ b_joins ++ c_joins)
@@ -193,7 +214,7 @@ stop : written_for_lines (codes "hub 0200000000FF 00112233445566778899AABBCCDDEE
     codes "open D" ∷
     codes "in D 06000001 02000000000D DDDDDDDDDDDDDDDDDDDDDDDDDDDDDDDD 0640 05D9" ∷
     [])
-    ≡ Some (ended_lines (codes "hub counts joined=2 replaced=0 refused=0 unicasts=1 broadcasts=0 appended=1 dropped=0 full=0" ∷
+    ≡ Some (ended_lines (codes "hub counts joined=2 replaced=0 refused=0 unicasts=1 broadcasts=0 appended=1 dropped=0 full=0 missed=0" ∷
     codes "A out 08000001" ∷
     codes "B out 08000001" ∷
     codes "hub stopped already" ∷
@@ -232,11 +253,11 @@ counts_again : written_for_lines (codes "hub 0200000000FF 00112233445566778899AA
     codes "in B 06000001 02000000000B BBBBBBBBBBBBBBBBBBBBBBBBBBBBBBBB 0640 05D9" ∷
     codes "stop" ∷
     [])
-    ≡ Some (ended_lines (codes "hub counts joined=1 replaced=0 refused=0 unicasts=0 broadcasts=0 appended=0 dropped=0 full=0" ∷
+    ≡ Some (ended_lines (codes "hub counts joined=1 replaced=0 refused=0 unicasts=0 broadcasts=0 appended=0 dropped=0 full=0 missed=0" ∷
     codes "hub worn" ∷
     codes "B worn" ∷
     codes "B close 1008 hub worn" ∷
-    codes "hub counts joined=1 replaced=0 refused=0 unicasts=0 broadcasts=0 appended=0 dropped=0 full=0" ∷
+    codes "hub counts joined=1 replaced=0 refused=0 unicasts=0 broadcasts=0 appended=0 dropped=0 full=0 missed=0" ∷
     codes "A out 08000001" ∷
     []))
 unfolding stage_on_literals uuid_on_literals
@@ -288,7 +309,7 @@ held_and_stopped : written_for_lines (codes "hub 0200000000FF 001122334455667788
     codes "free A" ∷
     codes "in B 09000001" ∷
     [])
-    ≡ Some (ended_lines (codes "hub counts joined=2 replaced=0 refused=0 unicasts=0 broadcasts=0 appended=0 dropped=0 full=0" ∷
+    ≡ Some (ended_lines (codes "hub counts joined=2 replaced=0 refused=0 unicasts=0 broadcasts=0 appended=0 dropped=0 full=0 missed=0" ∷
     codes "B out 08000001" ∷
     codes "A stopped" ∷
     codes "B unbuilt 01" ∷

@@ -95,7 +95,7 @@ long_after destination npdu =
     option_map {T = Turn} (λ u. u.text) (option_and_then (λ t. option_map (then_turn t) (turn t.scene (In (codes "A") (1 ∷ 4 ∷ 0 ∷ 2 ∷ destination ++ npdu))))
     (silent (after_lines (hub_of_line (line_of (codes "hub 0200000000FF 00112233445566778899AABBCCDDEEFF 0640 05D9 256 64"))) (a_joins ++ b_joins ++ c_joins))))
 
-long_broadcast : long_after (replicate 6 255) (replicate 1590 0) ≡ Some (codes "A sentall to=- closed=- skipped=2,3\n")
+long_broadcast : long_after (replicate 6 255) (replicate 1590 0) ≡ Some (codes "A sentall to=- missed=- skipped=2,3\n")
 unfolding stage_on_literals uuid_on_literals
 long_broadcast = refl
 

@@ -73,8 +73,8 @@ forward_words (Appended conn) = numbered_word (codes "sent") conn
 forward_words (Closed conn) = numbered_word (codes "full") conn
 forward_words (Skipped conn) = numbered_word (codes "long") conn
 forward_words NoHolder = codes "noholder"
-forward_words (SentAll to closed skipped) =
-    codes "sentall to=" ++ list_words to ++ codes " closed=" ++ list_words closed ++ codes " skipped=" ++ list_words skipped
+forward_words (SentAll to missed skipped) =
+    codes "sentall to=" ++ list_words to ++ codes " missed=" ++ list_words missed ++ codes " skipped=" ++ list_words skipped
 forward_words (NotCurrent ending) = codes "notcurrent " ++ ending_word ending
 forward_words Stopped = codes "stopped"
 forward_words reply = []
@@ -113,7 +113,8 @@ counts_text k =
     ++ (codes " appended=" ++ decimal k.appended
     ++ (codes " dropped=" ++ decimal k.dropped
     ++ (codes " full=" ++ decimal k.full
-    ++ codes "\n"))))))))
+    ++ (codes " missed=" ++ decimal k.missed
+    ++ codes "\n")))))))))
 
 -- the first octet of a message, where it has one
 abbrev pub first_octet : List ℕ → List ℕ

@@ -30,6 +30,7 @@ pub fn put_counts(text: &mut Vec<u8>, alloc: Global, counts: &Counts) -> Result<
     put_pair(text, alloc, " appended=", counts.appended)?;
     put_pair(text, alloc, " dropped=", counts.dropped)?;
     put_pair(text, alloc, " full=", counts.full)?;
+    put_pair(text, alloc, " missed=", counts.missed)?;
     put_words(text, "\n")
 }
 

@@ -175,16 +175,16 @@ fn put_lists(
     text: &mut Vec<u8>,
     alloc: Global,
     to: &[u64],
-    closed: &[u64],
+    missed: &[u64],
     skipped: &[u64],
 ) -> Result<(), NoMemory>
     ensures { IfOk result (λ _. text.new.items
-        ≡ text.old.items ++ forward_words (SentAllReply to.now closed.now skipped.now)) }
+        ≡ text.old.items ++ forward_words (SentAllReply to.now missed.now skipped.now)) }
 {
     put_words(text, "sentall to=")?;
     put_list(text, alloc, to)?;
-    put_words(text, " closed=")?;
-    put_list(text, alloc, closed)?;
+    put_words(text, " missed=")?;
+    put_list(text, alloc, missed)?;
     put_words(text, " skipped=")?;
     put_list(text, alloc, skipped)
 }
@@ -195,14 +195,14 @@ fn put_sent(
     alloc: Global,
     name: &[u8],
     to: &[u64],
-    closed: &[u64],
+    missed: &[u64],
     skipped: &[u64],
 ) -> Result<(), NoMemory>
     ensures { IfOk result (λ _. text.new.items
-        ≡ text.old.items ++ says name.now (forward_words (SentAllReply to.now closed.now skipped.now))) }
+        ≡ text.old.items ++ says name.now (forward_words (SentAllReply to.now missed.now skipped.now))) }
 {
     begin_line(text, name)?;
-    put_lists(text, alloc, to, closed, skipped)?;
+    put_lists(text, alloc, to, missed, skipped)?;
     put_words(text, "\n")
 }
 
@@ -219,7 +219,7 @@ pub fn put_all(
     match reply {
         AllReply::Sent {
             to,
-            closed,
+            missed,
             skipped,
             ..
         } => put_sent(
@@ -227,7 +227,7 @@ pub fn put_all(
             alloc,
             name,
             to.as_slice(),
-            closed.as_slice(),
+            missed.as_slice(),
             skipped.as_slice(),
         ),
         AllReply::NotCurrent { ending } => put_not_current(text, name, *ending),

@@ -146,11 +146,12 @@ fn tells_counts(rt: HostRuntime) {
         broadcasts: 4,
         appended: 50,
         dropped: 6,
-        full: 18446744073709551615,
+        full: 7,
+        missed: 18446744073709551615,
     };
     let told = match counts_line(rt.alloc(), &counts) {
         Ok(line) => line.as_slice()
-            == b"hub counts joined=8 replaced=1 refused=2 unicasts=30 broadcasts=4 appended=50 dropped=6 full=18446744073709551615\n".as_slice(),
+            == b"hub counts joined=8 replaced=1 refused=2 unicasts=30 broadcasts=4 appended=50 dropped=6 full=7 missed=18446744073709551615\n".as_slice(),
         Err(_) => false,
     };
     assert!(rt; told);

@@ -6,7 +6,9 @@ pub returns : goal.returns
 returns c =
     let o = c.put_words-2.result in
     let z = c.put_words-2.new.text.items in
-    let r9 : List ℕ = codes "\n" in
+    let r10 : List ℕ = codes "\n" in
+    let w9 : List ℕ = codes " missed=" ++ decimal c.args.counts.now.missed in
+    let r9 : List ℕ = w9 ++ r10 in
     let w8 : List ℕ = codes " full=" ++ decimal c.args.counts.now.full in
     let r8 : List ℕ = w8 ++ r9 in
     let w7 : List ℕ = codes " dropped=" ++ decimal c.args.counts.now.dropped in
@@ -31,4 +33,5 @@ returns c =
     (behind o c.put_pair-4.new.text.items c.put_pair-5.new.text.items w5 r6 z c.in_ok-put_pair-5.ensures
     (behind o c.put_pair-5.new.text.items c.put_pair-6.new.text.items w6 r7 z c.in_ok-put_pair-6.ensures
     (behind o c.put_pair-6.new.text.items c.put_pair-7.new.text.items w7 r8 z c.in_ok-put_pair-7.ensures
-    (behind o c.put_pair-7.new.text.items c.put_pair-8.new.text.items w8 r9 z c.in_ok-put_pair-8.ensures c.put_words-2.ensures))))))))
+    (behind o c.put_pair-7.new.text.items c.put_pair-8.new.text.items w8 r9 z c.in_ok-put_pair-8.ensures
+    (behind o c.put_pair-8.new.text.items c.put_pair-9.new.text.items w9 r10 z c.in_ok-put_pair-9.ensures c.put_words-2.ensures)))))))))

@@ -11,7 +11,7 @@ use Rattle.bsc_desk.proofs.desk.Desk.close.Goals as goal
 pub invariant_of-self-clause-counted : goal.invariant_of-self-clause-counted
 invariant_of-self-clause-counted c =
     let k = c.args.self.now.counted in
-    record { joined = omega arith; replaced = omega arith; refused = omega arith; unicasts = omega arith; broadcasts = omega arith; appended = omega arith; dropped = omega arith; full = omega arith }
+    record { joined = omega arith; replaced = omega arith; refused = omega arith; unicasts = omega arith; broadcasts = omega arith; appended = omega arith; dropped = omega arith; full = omega arith; missed = omega arith }
 
 pub invariant_of-self-clause-entered : goal.invariant_of-self-clause-entered
 invariant_of-self-clause-entered c = rw c.finish.ensures.items (entered_ended c.args.self.now.made c.args.self.now.rows.items c.args.look.conn Full c.args.self.now.entered)

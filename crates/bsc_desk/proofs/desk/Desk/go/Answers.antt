@@ -11,7 +11,7 @@ remove-requires c = record { some_row = has_row_by c.args.caller c.args.conn c.a
 pub invariant_of-self-clause-counted : goal.invariant_of-self-clause-counted
 invariant_of-self-clause-counted c =
     let k = c.args.self.now.counted in
-    record { joined = omega arith; replaced = omega arith; refused = omega arith; unicasts = omega arith; broadcasts = omega arith; appended = omega arith; dropped = omega arith; full = omega arith }
+    record { joined = omega arith; replaced = omega arith; refused = omega arith; unicasts = omega arith; broadcasts = omega arith; appended = omega arith; dropped = omega arith; full = omega arith; missed = omega arith }
 
 pub invariant_of-self-clause-entered : goal.invariant_of-self-clause-entered
 invariant_of-self-clause-entered c = rw c.remove.ensures.items (all_kept c.args.self.now.made c.args.conn c.args.self.now.rows.items c.args.self.now.entered)

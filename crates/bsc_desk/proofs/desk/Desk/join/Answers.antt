@@ -12,7 +12,7 @@ invariant_of-self-clause-counted c =
     let k = c.args.self.now.counted in
     let one = c.one_if.ensures ∙ ap one_if c.is_some.ensures in
     let few = one_at_most (is_some c.args.row.replaced) in
-    record { joined = omega arith; replaced = omega arith; refused = omega arith; unicasts = omega arith; broadcasts = omega arith; appended = omega arith; dropped = omega arith; full = omega arith }
+    record { joined = omega arith; replaced = omega arith; refused = omega arith; unicasts = omega arith; broadcasts = omega arith; appended = omega arith; dropped = omega arith; full = omega arith; missed = omega arith }
 
 pub invariant_of-self-clause-entered : goal.invariant_of-self-clause-entered
 invariant_of-self-clause-entered c = rw (c.push_reserved.ensures.items, c.finish.ensures.items) (entered_joined c.args.self.now.made c.args.self.now.rows.items _ c.args.row.replaced c.args.self.now.entered c.requires.new_inlet.takes c.requires.new_inlet.waits)
