@@ -3,7 +3,7 @@ use Rattle.std.proofs.Common.{◌≡◌, ℕ, ◌⊎◌, inl, inr, ⊎_elim, Lis
 use Rattle.std.proofs.lemmas.List.{take_all, take-append-drop}
 use Rattle.std.specs.Prelude.{⊤, OnOk, OnErr}
 use Rattle.std.specs.Io.KnownBytes.{Appends}
-use Rattle.bsc_outside.specs.Faults.{Rose, PutsPrefix}
+use Rattle.bsc_outside.specs.Faults.{HasRisen, PutsPrefix}
 use Rattle.bsc_outside.specs.declared.stream.Failed.{Failed}
 use Rattle.bsc_replay.specs.declared.replaying.ReplayEnd.{ReplayEnd}
 use Rattle.bsc_replay.specs.declared.replaying.ReplayEnd.TheVariants.{Done, BadLine, ReadFault, WriteFault, NoMemory}
@@ -71,7 +71,7 @@ module _ (result : ℕ) (o t : List ℕ) (left mid held : Option (List ℕ)) (fa
       ends
 
   -- a read failed
-  ends_stopped : Rose faults faults' → WritesWhole o t left mid → EndsWith result 3 mid held read_line → Told result o t left held faults faults'
+  ends_stopped : HasRisen faults faults' → WritesWhole o t left mid → EndsWith result 3 mid held read_line → Told result o t left held faults faults'
   ends_stopped rose r ends = ⊎_elim
       (λ (h : (result ≡ 3) × Appends mid held read_line). told_stopped h.0 (record {
         taken = r.taken;
@@ -103,7 +103,7 @@ module _ (result : ℕ) (o t : List ℕ) (left mid held : Option (List ℕ)) (fa
         written = subst (λ (m : Option (List ℕ)). PutsPrefix m held memory_line) front.1 ends.1;
       })
 
-  pub told : (end : ReplayEnd) → (end ≡ ReadFault → Rose faults faults') → Replays end o t left mid → EndsTo end result mid held → Told result o t left held faults faults'
+  pub told : (end : ReplayEnd) → (end ≡ ReadFault → HasRisen faults faults') → Replays end o t left mid → EndsTo end result mid held → Told result o t left held faults faults'
   told Done rose r ends = told_done ends.0 (subst (WritesAll o t left) (sym ends.1) r)
   told (BadLine n) rose r ends = ends_refused n r ends
   told ReadFault rose r ends = ends_stopped (rose refl) r ends

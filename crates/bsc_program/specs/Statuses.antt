@@ -1,6 +1,6 @@
 -- What a run of the program comes to, by its words.
 use Rattle.std.specs.Prelude.{◌≡◌, ℕ, ◌⊎◌, List, [], ◌∷◌, ◌++◌, codes, decimal, Option, Some}
-use Rattle.bsc_outside.specs.Faults.{Rose, PutsPrefix}
+use Rattle.bsc_outside.specs.Faults.{HasRisen, PutsPrefix}
 use Rattle.bsc_replay.specs.Playing.{replay_of}
 use Rattle.bsc_replay.specs.Replaying.{Taken, whole_lines, lines_read, AcceptsLines, Decides, WritesSome}
 
@@ -58,7 +58,7 @@ pub record RefusesInPart (o t : List ℕ) (held : Option (List ℕ)) : Type 0 wh
 -- A read failed, as the count of such faults shows; the text of the whole lines that were read, and then a first part
 -- of the last line, were written after t.
 pub record StopsInPart (o t : List ℕ) (left held : Option (List ℕ)) (faults faults' : ℕ) : Type 0 where
-  pub failed : Rose faults faults'
+  pub failed : HasRisen faults faults'
   pub taken : Taken o left
   pub accepted : AcceptsLines (whole_lines taken.read)
   pub written : PutsPrefix (Some (t ++ (replay_of (whole_lines taken.read)).text)) held read_line

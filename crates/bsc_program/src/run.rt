@@ -2,7 +2,7 @@
 #![tactic(auto)]
 
 ghost use Rattle.std.specs.Prelude.{◌≡◌, ◌≢◌, ◌≤◌, ◌⊎◌, ◌++◌, ℕ, List, Option, Some, None, map, string_bytes, ◌↔◌, IsTrue, IfOk};
-ghost use Rattle.bsc_outside.specs.Faults.{Rose, PutsPrefix};
+ghost use Rattle.bsc_outside.specs.Faults.{HasRisen, PutsPrefix};
 ghost use Rattle.bsc_replay.specs.Playing.{replay_of};
 ghost use Rattle.bsc_replay.specs.Replaying.{WritesAll};
 ghost use Rattle.bsc_program.specs.Statuses.{replay_words, words_line, script_line, memory_line, RefusesSome, StopsReading, BreaksOff, RunsOut, IsStatus, IsMishap};
@@ -26,7 +26,7 @@ pub fn out_of_memory<K: Sink>(sink: &mut K) -> u8
 /// Writes the last line of a run that ends with this status, or ends with 4 where that fails.
 fn end_with<K: Sink>(sink: &mut K, line: &[u8], status: u8) -> u8
     ensures ends { EndsWith result status (K.held sink.old) (K.held sink.new) line.now }
-    ensures failed { (result ≡ status) ⊎ ((result ≡ 4) × Rose (K.faults sink.old) (K.faults sink.new)) }
+    ensures failed { (result ≡ status) ⊎ ((result ≡ 4) × HasRisen (K.faults sink.old) (K.faults sink.new)) }
     ensures later { K.faults sink.old ≤ K.faults sink.new }
 {
     match sink.write(line) {
@@ -46,7 +46,7 @@ fn script_line(alloc: Global, line: u64) -> Result<String, NoMemory>
 fn refuse_line<K: Sink>(alloc: Global, sink: &mut K, line: u64) -> u8
     ensures ends { EndsWith result 2 (K.held sink.old) (K.held sink.new) (script_line line)
         ⊎ RanOut result (K.held sink.old) (K.held sink.new) }
-    ensures failed { (result ≡ 2) ⊎ (result ≡ 7) ⊎ ((result ≡ 4) × Rose (K.faults sink.old) (K.faults sink.new)) }
+    ensures failed { (result ≡ 2) ⊎ (result ≡ 7) ⊎ ((result ≡ 4) × HasRisen (K.faults sink.old) (K.faults sink.new)) }
     ensures later { K.faults sink.old ≤ K.faults sink.new }
 {
     match script_line(alloc, line) {
@@ -59,7 +59,7 @@ fn refuse_line<K: Sink>(alloc: Global, sink: &mut K, line: u64) -> u8
 fn end_replay<K: Sink>(alloc: Global, sink: &mut K, end: ReplayEnd) -> u8
     ensures ends { EndsTo end result (K.held sink.old) (K.held sink.new) }
     ensures read { result ≡ 3 → end ≡ ReplayEnd.ReadFault }
-    ensures write { result ≡ 4 → (end ≡ ReplayEnd.WriteFault) ⊎ Rose (K.faults sink.old) (K.faults sink.new) }
+    ensures write { result ≡ 4 → (end ≡ ReplayEnd.WriteFault) ⊎ HasRisen (K.faults sink.old) (K.faults sink.new) }
     ensures statuses { (result ≡ 0) ⊎ (result ≡ 2) ⊎ IsMishap result }
     ensures later { K.faults sink.old ≤ K.faults sink.new }
 {
@@ -123,8 +123,8 @@ pub fn run<S: Source, K: Sink>(alloc: Global, words: &[String], source: &mut S, 
         (replay_of o).refused ≡ None → (result ≡ 0) ⊎ IsMishap result }
 
     // Faults of the source and the sink are counted.
-    ensures read { result ≡ 3 → Rose (S.faults source.old) (S.faults source.new) }
-    ensures write { result ≡ 4 → Rose (K.faults sink.old) (K.faults sink.new) }
+    ensures read { result ≡ 3 → HasRisen (S.faults source.old) (S.faults source.new) }
+    ensures write { result ≡ 4 → HasRisen (K.faults sink.old) (K.faults sink.new) }
     ensures reads_later { S.faults source.old ≤ S.faults source.new }
     ensures writes_later { K.faults sink.old ≤ K.faults sink.new }
     ensures statuses { IsStatus result }

@@ -3,7 +3,7 @@
 
 ghost use Rattle.std.specs.Prelude.{◌≡◌, ◌≢◌, ◌≤◌, ◌<◌, ◌⊎◌, ℕ, List, [], vec_len, Option, Some, IfOk, OnOk, OnErr, IsErr};
 ghost use Rattle.std.specs.Io.KnownBytes.{Appends};
-ghost use Rattle.bsc_outside.specs.Faults.{Rose, PutsPrefix};
+ghost use Rattle.bsc_outside.specs.Faults.{HasRisen, PutsPrefix};
 ghost use Rattle.bsc_stage.specs.Scenes.{Scene};
 ghost use Rattle.bsc_stage.specs.Script.{line_of};
 ghost use Rattle.bsc_replay.specs.Playing.{line_after, said_after};
@@ -90,7 +90,7 @@ fn hand_over<K: Sink>(sink: &mut K, text: &mut Vec<u8>) -> Result<(), Failed>
     ensures empty { OnOk result (text.new.items ≡ []) }
     ensures none { OnOk result (vec_len text.new ≡ 0) }
     ensures part { OnErr result (PutsPrefix (K.held sink.old) (K.held sink.new) text.old.items) }
-    ensures failed { IsErr result → Rose (K.faults sink.old) (K.faults sink.new) }
+    ensures failed { IsErr result → HasRisen (K.faults sink.old) (K.faults sink.new) }
     ensures later { K.faults sink.old ≤ K.faults sink.new }
 {
     if text.is_empty() {
@@ -107,7 +107,7 @@ fn relieve<K: Sink>(sink: &mut K, text: &mut Vec<u8>) -> Result<(), Failed>
         (HandsOver (K.held sink.old) (K.held sink.new) text.old.items text.new.items) }
     ensures little { OnOk result (vec_len text.new < 1048576) }
     ensures part { OnErr result (PutsPrefix (K.held sink.old) (K.held sink.new) text.old.items) }
-    ensures failed { IsErr result → Rose (K.faults sink.old) (K.faults sink.new) }
+    ensures failed { IsErr result → HasRisen (K.faults sink.old) (K.faults sink.new) }
     ensures later { K.faults sink.old ≤ K.faults sink.new }
 {
     if text.len() < MUCH {
@@ -119,7 +119,7 @@ fn relieve<K: Sink>(sink: &mut K, text: &mut Vec<u8>) -> Result<(), Failed>
 /// Writes the text that is collected, and then ends so.
 fn stop<K: Sink>(sink: &mut K, text: &mut Vec<u8>, end: ReplayEnd) -> ReplayEnd
     ensures stopped { StopsAs result end (K.held sink.old) (K.held sink.new) text.old.items }
-    ensures failed { (result ≡ end) ⊎ ((result ≡ ReplayEnd.WriteFault) × Rose (K.faults sink.old) (K.faults sink.new)) }
+    ensures failed { (result ≡ end) ⊎ ((result ≡ ReplayEnd.WriteFault) × HasRisen (K.faults sink.old) (K.faults sink.new)) }
     ensures later { K.faults sink.old ≤ K.faults sink.new }
 {
     match hand_over(sink, text) {
@@ -150,8 +150,8 @@ fn end_of(stage: &Option<Stage>, number: u64) -> ReplayEnd
 pub fn replay<S: Source, K: Sink>(alloc: Global, source: &mut S, sink: &mut K) -> ReplayEnd
     ensures replayed { (o t : List ℕ) → S.left source.old ≡ Some o → K.held sink.old ≡ Some t →
         Replays result o t (S.left source.new) (K.held sink.new) }
-    ensures read_fault { result ≡ ReplayEnd.ReadFault → Rose (S.faults source.old) (S.faults source.new) }
-    ensures write_fault { result ≡ ReplayEnd.WriteFault → Rose (K.faults sink.old) (K.faults sink.new) }
+    ensures read_fault { result ≡ ReplayEnd.ReadFault → HasRisen (S.faults source.old) (S.faults source.new) }
+    ensures write_fault { result ≡ ReplayEnd.WriteFault → HasRisen (K.faults sink.old) (K.faults sink.new) }
     ensures reads_later { S.faults source.old ≤ S.faults source.new }
     ensures writes_later { K.faults sink.old ≤ K.faults sink.new }
 {
