@@ -103,7 +103,7 @@ module _ (p : List ℕ → Played) (status : ℕ) (o t : List ℕ) (left mid hel
         written = subst (λ (m : Option (List ℕ)). PutsPrefix m held memory_line) front.1 ends.1;
       })
 
-  pub told : (end : PlayEnd) → (end ≡ ReadFault → HasRisen faults faults') → PlaysOut p end o t left mid → EndsTo end status mid held → Told p status o t left held faults faults'
+  told : (end : PlayEnd) → (end ≡ ReadFault → HasRisen faults faults') → PlaysOut p end o t left mid → EndsTo end status mid held → Told p status o t left held faults faults'
   told Done rose r ends = told_done ends.0 (subst (WritesAll p o t left) (sym ends.1) r)
   told (BadLine n) rose r ends = ends_refused n r ends
   told ReadFault rose r ends = ends_stopped (rose refl) r ends
@@ -163,7 +163,7 @@ module _ (p : List ℕ → Played) (status : ℕ) (o t : List ℕ) (left held : 
   accepts_of (told_ran_out is w) h = inr (inr (inr is))
 
   -- what the status says, whichever it is
-  pub tells_of : Told p status o t left held faults faults' → StatusTells p status o t left held faults faults'
+  tells_of : Told p status o t left held faults faults' → StatusTells p status o t left held faults faults'
   tells_of it = record {
     done = done_of it;
     refused = refused_of it;
@@ -173,3 +173,10 @@ module _ (p : List ℕ → Played) (status : ℕ) (o t : List ℕ) (left held : 
     refuses = refuses_of it;
     accepts = accepts_of it;
   }
+
+-- what the status says of an input that was played to this end, after the last line
+pub tells : (p : List ℕ → Played) (status : ℕ) (o t : List ℕ) (left mid held : Option (List ℕ)) (faults faults' : ℕ) (end : PlayEnd)
+    → (end ≡ ReadFault → HasRisen faults faults') → PlaysOut p end o t left mid → EndsTo end status mid held
+    → StatusTells p status o t left held faults faults'
+tells p status o t left mid held faults faults' end rose played ends =
+    tells_of p status o t left held faults faults' (told p status o t left mid held faults faults' end rose played ends)

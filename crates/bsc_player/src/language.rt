@@ -1,5 +1,5 @@
 //! What a language of lines is.
-
+use bsc_octets::NoMemory;
 use std::alloc::Global;
 
 /// Why a line was not carried out.
@@ -9,6 +9,17 @@ pub enum LineFault {
     Refused,
     /// Memory ran out.
     NoMemory,
+}
+
+impl From<NoMemory> for LineFault {
+    ghost use Rattle.std.specs.Prelude.{◌≡◌};
+    ghost use Rattle.bsc_player.specs.declared.language.LineFault.TheVariants as fault;
+
+    ghost from_gives = { λ _ r. r ≡ fault.NoMemory };
+
+    fn from(_fault: NoMemory) -> LineFault {
+        LineFault::NoMemory
+    }
 }
 
 /// A language of lines. A value of it is what stands after some lines.
