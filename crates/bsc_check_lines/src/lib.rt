@@ -7,10 +7,12 @@
 #![tactic(auto)]
 
 mod answering;
+mod checks;
 mod line;
 mod places;
 #[cfg(test)]
 mod tests;
 
 pub use answering::{check_name, put_verdict};
+pub use checks::{Checks, Judge, check_by};
 pub use line::{Line, read_line};
