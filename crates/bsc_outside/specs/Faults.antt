@@ -2,9 +2,9 @@
 use Rattle.std.specs.Prelude.{ℕ, ◌<◌, ◌≤◌, ◌⊎◌, List, take, length, Option}
 use Rattle.std.specs.Io.KnownBytes.{Appends}
 
--- A count rose, or stands at its last value, the greatest u64.
-abbrev pub Rose : ℕ → ℕ → Type 0
-Rose old new = (old < new) ⊎ (18446744073709551615 ≤ new)
+-- A count increased, or stands at its last value, the greatest u64.
+abbrev pub HasRisen : ℕ → ℕ → Type 0
+HasRisen old new = (old < new) ⊎ (18446744073709551615 ≤ new)
 
 -- What is held grew by the first n of these octets, for some n.
 abbrev pub PutsPrefix : Option (List ℕ) → Option (List ℕ) → List ℕ → Type 0

@@ -1,9 +1,9 @@
 //! Calls that are counted, some of which fail: what the streams in memory have in common.
 ghost use Rattle.std.specs.Prelude.{◌≡◌, ◌≤◌, true, false};
-ghost use Rattle.bsc_outside.specs.Faults.{Rose};
+ghost use Rattle.bsc_outside.specs.Faults.{HasRisen};
 ghost use Rattle.bsc_outside.specs.Calls.{next_call, is_next_failing};
 
-/// The numbers of the calls that are to fail, and how many calls and faults there were.
+/// The numbers of the calls that are to fail, and how many calls and faults there have been.
 #[derive(Drop)]
 pub struct Calls<'a> {
     pub failing: &'a [u64],
@@ -14,7 +14,7 @@ pub struct Calls<'a> {
 }
 
 impl<'a> Calls<'a> {
-    /// No call was made yet.
+    /// A count of calls before the first one.
     pub fn new(failing: &'a [u64]) -> Calls<'a>
         ensures failing { result.failing.now ≡ failing.now }
         ensures made { result.made ≡ 0 }
@@ -40,7 +40,7 @@ impl<'a> Calls<'a> {
 
     /// Counts a fault.
     pub fn fault(&mut self)
-        ensures rose { Rose self.old.faults self.new.faults }
+        ensures rose { HasRisen self.old.faults self.new.faults }
         ensures later { self.old.faults ≤ self.new.faults }
         ensures made { self.new.made ≡ self.old.made }
         ensures failing { self.new.failing.now ≡ self.old.failing.now }

@@ -1,8 +1,8 @@
 //! The outside: what is read from and written to, in memory and for real.
 //!
-//! Start at `stream`: what is read and written in the crates above goes by `Source` and `Sink` alone. Each
-//! counts the faults that it answered, so that a caller who is told of a fault knows that the outside had
-//! one.
+//! Start at `stream`: the crates above read and write by the traits `Source` and `Sink` alone. Each source and
+//! each sink counts the faults that it answered, so that a caller who is told of a fault knows that the outside
+//! had one.
 #![tactic(auto)]
 
 mod calls;

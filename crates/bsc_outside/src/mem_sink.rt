@@ -1,7 +1,7 @@
 //! A sink in memory, of which some writes fail.
 ghost use Rattle.std.specs.Prelude.{◌≡◌, ◌≤◌, ◌<◌, ◌+◌, ◌++◌, take, length, vec_capacity, true, false, [], Some, IsErr, IsOk, IfOk, OnOk, OnErr};
 ghost use Rattle.std.specs.Io.KnownBytes.{Appends};
-ghost use Rattle.bsc_outside.specs.Faults.{Rose, PutsPrefix};
+ghost use Rattle.bsc_outside.specs.Faults.{HasRisen, PutsPrefix};
 ghost use Rattle.bsc_outside.specs.Calls.{next_call, is_next_failing};
 
 use crate::calls::Calls;
@@ -9,9 +9,9 @@ use crate::stream::{Failed, Sink};
 use bsc_octets::NoMemory;
 use std::alloc::Global;
 
-/// A sink that keeps what is written in memory of its own, taken when it is made, and tells it. A write
-/// fails and puts nothing where its number is in a list; one that goes past the room fails too, and fills
-/// it. The first write has the number 1.
+/// A sink that keeps what is written in memory of its own, and tells it. The memory is taken when the sink is
+/// made: `room` octets. A write whose number is in a list fails and puts nothing, and the first write has the
+/// number 1. A write that needs more room than is left fails too, and fills the room with its first octets.
 #[derive(Drop)]
 pub struct MemSink<'a> {
     held: Vec<u8>,
@@ -37,7 +37,7 @@ impl<'a> MemSink<'a> {
         })
     }
 
-    /// What was written.
+    /// The octets that were written.
     pub fn held(&self) -> &[u8]
         ensures { result.now ≡ self.now.held.items }
     {
@@ -65,7 +65,7 @@ impl Sink for MemSink<'_> {
 
     fn write(&mut self, from: &[u8]) -> Result<(), Failed>
         ensures later { self.old.calls.faults ≤ self.new.calls.faults }
-        ensures failed { IsErr result → Rose self.old.calls.faults self.new.calls.faults }
+        ensures failed { IsErr result → HasRisen self.old.calls.faults self.new.calls.faults }
         ensures ok { OnOk result (Appends (Some self.old.held.items) (Some self.new.held.items) from.now) }
         ensures err { OnErr result (PutsPrefix (Some self.old.held.items) (Some self.new.held.items) from.now) }
 

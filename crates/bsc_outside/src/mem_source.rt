@@ -1,14 +1,14 @@
 //! A source in memory, of which some reads fail.
 ghost use Rattle.std.specs.Prelude.{◌≡◌, ◌≤◌, ◌<◌, ◌↔◌, min, length, true, Some, IsErr, IfOk};
 ghost use Rattle.std.specs.Io.KnownBytes.{ReadConsumes};
-ghost use Rattle.bsc_outside.specs.Faults.{Rose};
+ghost use Rattle.bsc_outside.specs.Faults.{HasRisen};
 ghost use Rattle.bsc_outside.specs.Calls.{next_call, is_next_failing};
 
 use crate::calls::Calls;
 use crate::stream::{Failed, Source};
 
-/// A source over octets in memory, which tells what is left. A read gives as much as there is room for, or
-/// fails where its number is in a list; after the end it gives 0 octets. The first read has the number 1.
+/// A source over octets in memory, which tells what is left. A read gives as many octets as `into` has room
+/// for, and after the end none. A read whose number is in a list fails; the first read has the number 1.
 #[derive(Drop)]
 pub struct MemSource<'a> {
     left: &'a [u8],
@@ -63,7 +63,7 @@ impl Source for MemSource<'_> {
 
     fn read(&mut self, into: &mut [u8]) -> Result<usize, Failed>
         ensures later { self.old.calls.faults ≤ self.new.calls.faults }
-        ensures failed { IsErr result → Rose self.old.calls.faults self.new.calls.faults }
+        ensures failed { IsErr result → HasRisen self.old.calls.faults self.new.calls.faults }
         ensures within { IfOk result (λ n. n ≤ length into.new) }
         ensures octets { ReadConsumes (Some self.old.left.now) (Some self.new.left.now) result into.new }
 

@@ -21,7 +21,7 @@ impl<R: Read> ReaderSource<R> {
     }
 }
 
-/// What a reader's own answer comes to: a fault exactly where its call failed.
+/// The answer of a source by its reader's own: a fault exactly where the reader's call failed.
 fn told(answer: io::Result<usize>) -> Result<usize, Failed>
     ensures ok { IfOk answer (λ n. result ≡ Ok n) }
     ensures err { IsErr answer → IsErr result }

@@ -1,7 +1,7 @@
 //! Streams of octets: what a text is read from, and what answers are written to.
 ghost use Rattle.std.specs.Prelude.{◌<◌, ◌≤◌, length, IsErr, OnOk, OnErr, IfOk};
 ghost use Rattle.std.specs.Io.KnownBytes.{Appends, ReadConsumes};
-ghost use Rattle.bsc_outside.specs.Faults.{Rose, PutsPrefix};
+ghost use Rattle.bsc_outside.specs.Faults.{HasRisen, PutsPrefix};
 
 use thiserror::Error;
 
@@ -24,7 +24,7 @@ pub trait Source {
     fn read(&mut self, into: &mut [u8]) -> Result<usize, Failed>
         requires { 0 < length into.old }
         ensures later { faults self.old ≤ faults self.new }
-        ensures failed { IsErr result → Rose (faults self.old) (faults self.new) }
+        ensures failed { IsErr result → HasRisen (faults self.old) (faults self.new) }
         ensures within { IfOk result (λ n. n ≤ length into.new) }
         ensures octets { ReadConsumes (left self.old) (left self.new) result into.new };
 }
@@ -39,10 +39,10 @@ pub trait Sink {
     /// The octets that were written, where the sink tells them.
     ghost held: { Self → Option (List ℕ) };
 
-    /// Writes all of `from`, or fails and has written some first part of it.
+    /// Writes all of `from`. A write that fails has written some first part of it.
     fn write(&mut self, from: &[u8]) -> Result<(), Failed>
         ensures later { faults self.old ≤ faults self.new }
-        ensures failed { IsErr result → Rose (faults self.old) (faults self.new) }
+        ensures failed { IsErr result → HasRisen (faults self.old) (faults self.new) }
         ensures ok { OnOk result (Appends (held self.old) (held self.new) from.now) }
         ensures err { OnErr result (PutsPrefix (held self.old) (held self.new) from.now) };
 }

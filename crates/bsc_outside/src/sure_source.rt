@@ -12,7 +12,7 @@ pub struct SureSource<'a> {
 }
 
 impl<'a> SureSource<'a> {
-    /// A source of these octets, which a read gives as many of as it has room for.
+    /// A source of these octets. A read gives as many as `into` has room for.
     pub fn new(octets: &'a [u8]) -> SureSource<'a>
         ensures { result.left.now ≡ octets.now }
     {
@@ -22,7 +22,7 @@ impl<'a> SureSource<'a> {
         }
     }
 
-    /// A source of these octets, which a read gives at most `most` of.
+    /// A source of these octets, of which a read gives at most `most`.
     pub fn in_pieces(octets: &'a [u8], most: usize) -> SureSource<'a>
         requires { 0 < most }
         ensures { result.left.now ≡ octets.now }

@@ -23,7 +23,7 @@ impl<W: Write> WriterSink<W> {
     }
 }
 
-/// How many octets a writer's own answer says that it took; none where its call failed, or took nothing.
+/// How many octets a writer took, by its own answer; None where its call failed or took nothing.
 fn taken(answer: io::Result<usize>) -> Option<usize>
     ensures some { IfSome result (λ n. (answer ≡ Ok n) × (0 < n)) }
     ensures none { result ≡ None → IsErr answer ⊎ (answer ≡ Ok 0) }
@@ -35,7 +35,8 @@ fn taken(answer: io::Result<usize>) -> Option<usize>
     }
 }
 
-/// Whether all of `from` was written. A writer that takes nothing of octets that are there is at fault.
+/// Writes all of `from`, and says whether that was done. A writer that takes nothing, although octets are
+/// there, is at fault.
 fn put_all<W: Write>(writer: &mut W, from: &[u8]) -> bool
     ensures all { result ≡ true → Appends (W.contents writer.old) (W.contents writer.new) from.now }
     ensures some { PutsPrefix (W.contents writer.old) (W.contents writer.new) from.now }

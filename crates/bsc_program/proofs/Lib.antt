@@ -1,2 +1,1 @@
-pub mod Ending
-pub mod OneWord
+pub mod Reading

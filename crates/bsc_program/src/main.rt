@@ -3,12 +3,14 @@
 //! All that the program does is `run`, over a source and a sink; `main` hands it standard input and output.
 #![tactic(auto)]
 
+mod command;
 mod run;
 #[cfg(test)]
 mod tests;
 
 use bsc_outside::{ReaderSource, WriterSink};
-use run::{out_of_memory, run};
+use bsc_player::out_of_memory;
+use run::run;
 use std::env;
 use std::io::{self, ErrorKind};
 use std::process::ExitCode;
@@ -30,7 +32,7 @@ fn main(rt: HostRuntime) -> ExitCode {
             if error.kind() == ErrorKind::OutOfMemory {
                 return ExitCode::from(out_of_memory(&mut sink));
             }
-            // A word that isn't UTF-8 is no word that is built: no words are refused all the same.
+            // A word that isn't UTF-8 names no command. The run is given no words then, which are refused too.
         }
     }
     ExitCode::from(run(alloc, words.as_slice(), &mut source, &mut sink))

@@ -1,7 +1,7 @@
 -- Scripts over all calls of a hub, each with the text that it defines.
 use Rattle.std.specs.Prelude.{◌≡◌, ◌++◌, codes, None, refl}
 use Rattle.uuid.proofs.OnLiterals.{uuid_on_literals}
-use Rattle.bsc_replay.specs.Playing.{replay_of}
+use Rattle.bsc_replay.specs.Scripts.{replay_of}
 use Rattle.bsc_replay.proofs.OnLiterals.{script_on_literals}
 
 -- A broadcast: each other holder gets the frame once, in the order of joining.

@@ -1,8 +1,8 @@
 -- What was read of a script, written out with its whole lines and with what it decides.
 use Rattle.std.specs.Prelude.{◌≡◌, ℕ, List, [], ◌++◌, codes, Some, refl}
 use Rattle.uuid.proofs.OnLiterals.{uuid_on_literals}
-use Rattle.bsc_replay.specs.Playing.{replay_of}
-use Rattle.bsc_replay.specs.Replaying.{whole_lines, lines_read, AcceptsLines}
+use Rattle.bsc_replay.specs.Scripts.{replay_of}
+use Rattle.bsc_player.specs.Ends.{whole_lines, lines_read, AcceptsLines}
 use Rattle.bsc_replay.proofs.OnLiterals.{script_on_literals}
 
 -- The octets after the last LF are no whole line yet.
@@ -25,6 +25,6 @@ unfolding script_on_literals uuid_on_literals
 refused_whatever_follows more = refl
 
 -- A comment alone is accepted: what is refused is that no hub line comes after it.
-comment_is_accepted : AcceptsLines (codes "# a hub\n")
+comment_is_accepted : AcceptsLines replay_of (codes "# a hub\n")
 unfolding script_on_literals uuid_on_literals
 comment_is_accepted n h = cc

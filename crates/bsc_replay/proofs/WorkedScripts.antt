@@ -1,7 +1,7 @@
 -- Scripts written out, each with the text that it defines and how it ends.
 use Rattle.std.specs.Prelude.{◌≡◌, ◌++◌, codes, Some, None, refl}
 use Rattle.uuid.proofs.OnLiterals.{uuid_on_literals}
-use Rattle.bsc_replay.specs.Playing.{replay_of}
+use Rattle.bsc_replay.specs.Scripts.{replay_of}
 use Rattle.bsc_replay.proofs.OnLiterals.{script_on_literals}
 
 -- A hub line alone writes nothing.

@@ -1,3 +1,2 @@
-pub mod Playing
-pub mod Replaying
-pub mod Steps
+pub mod Scripts
+pub mod Standing

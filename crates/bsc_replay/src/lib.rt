@@ -1,20 +1,20 @@
-//! Replays scripts: what a hub, and the peers that a script names, say to one another.
+//! The commands that play lines: each is a language of the player.
 //!
-//! The call is `replay`, in `src/replaying.rt`: from a `Source` of lines to a `Sink` of text. What a
-//! script comes to is `replay_of` in `specs/Playing.antt`, and `proofs/WorkedScripts.antt` has scripts
-//! with their texts. Inside, a `Feed` of `bsc_text` cuts lines, `read_line` of `bsc_stage` says what one
-//! means, and its `Stage`, which is a hub with its open names, carries it out.
+//! `replay`, in `src/script.rt`, plays a script: what a hub, and the peers that the script names, say to one
+//! another. What a script comes to is `replay_of` in `specs/Scripts.antt`, and `proofs/WorkedScripts.antt` has
+//! scripts with their texts. The loop that reads, cuts, collects and writes is `play_lines` of `bsc_player`;
+//! `read_line` of `bsc_stage` says what a line means, and its `Stage`, which is a hub with its open names,
+//! carries it out.
 #![tactic(auto)]
 
 #[cfg(test)]
-mod fault_tests;
-#[cfg(test)]
 mod hub_cases;
-mod replaying;
 #[cfg(test)]
 mod replaying_tests;
+mod script;
 #[cfg(test)]
 mod script_cases;
 
+pub use bsc_player::PlayEnd as ReplayEnd;
 pub use bsc_stage::counts_line;
-pub use replaying::{ReplayEnd, replay};
+pub use script::replay;

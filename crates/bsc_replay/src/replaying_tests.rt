@@ -1,7 +1,7 @@
 //! Whole scripts with the texts that they come to.
 use crate::hub_cases::HUBS;
-use crate::replaying::{ReplayEnd, replay};
 use crate::script_cases::SCRIPTS;
+use crate::{ReplayEnd, replay};
 use bsc_octets::NoMemory;
 use bsc_outside::{SureSource, WriterSink};
 use std::alloc::Global;

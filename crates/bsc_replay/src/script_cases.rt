@@ -1,5 +1,5 @@
 //! Scripts over connects and unicasts, how lines are read, and lines that are refused.
-use crate::replaying::ReplayEnd;
+use crate::ReplayEnd;
 use crate::replaying_tests::Case;
 
 pub const SCRIPTS: [Case; 16] = [

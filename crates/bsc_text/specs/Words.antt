@@ -18,3 +18,8 @@ words_of (c ∷ o) =
     if c == space then words_of o
     else if goes_on o then in_front c (words_of o)
     else (c ∷ []) ∷ words_of o
+
+-- Whether a word begins a comment: its first octet is `#`.
+abbrev pub begins_comment : List ℕ → Bool
+begins_comment (c ∷ o) = c == 35
+begins_comment [] = false

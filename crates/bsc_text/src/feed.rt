@@ -1,35 +1,37 @@
 //! Lines of what was read, one at a time.
 //!
 //! A `Feed` reads a source a chunk at a time, and cuts what it has read into lines: a caller takes lines
-//! until no whole one is left, and only then has the next chunk read. It never holds more than one chunk and
-//! one line. What a line is, and which are too big, stands in `specs/Lines.antt`.
+//! until no whole one is left, and only then asks for the next chunk. It never holds more than one chunk and
+//! one line. What a line is, and which lines are too big, stands in `specs/Lines.antt`.
 ghost use Rattle.std.specs.Prelude.{◌≡◌, ◌≢◌, ◌+◌, ◌≤◌, if◌then◌else◌, ℕ, List, [], ◌∷◌, ◌++◌, length, take, drop, slice_index, MatchOption, true, false, ◌⊎◌, ◌<◌};
 ghost use Rattle.bsc_text.specs.Lines.{line_in, is_too_big, has_no_lf, BeginsLine};
 
 use bsc_octets::{NoMemory, Octets};
 use bsc_outside::{Failed, Source};
+use memchr::memchr;
 use std::alloc::Global;
 use std::mem;
 
 /// The most octets that one read gives: 64 KiB.
-const CHUNK: usize = 65_536;
+const CHUNK_LEN: usize = 65_536;
 
 /// The most octets that a line may have.
-const LONGEST_LINE: usize = 140_000;
+const MAX_LINE_LEN: usize = 140_000;
 
-/// The most octets that a whole script may have: 2^40.
-const LONGEST_SCRIPT: u64 = 1_099_511_627_776;
+/// The most octets that a whole input may have: 2^40.
+const MAX_INPUT_LEN: u64 = 1_099_511_627_776;
 
-/// What was read and not given yet: the front of a line, and the octets of a chunk from `at` to `end`.
+/// What was read and not given yet: the front of a line, and the octets of a chunk from `at` to `end`. No
+/// octet of the front is an LF.
 #[derive(Drop)]
 pub struct Feed {
-    /// The front of a line, of which no LF was read yet.
+    /// The front of a line whose LF wasn't read yet.
     carry: Vec<u8>,
     /// Room for one chunk.
     chunk: Vec<u8>,
     at: usize,
     end: usize,
-    /// How many octets the lines that were given stood in.
+    /// How many octets the lines had that were given, with their ends.
     count: u64,
     /// Whether the last read found the end of the input.
     ended: bool,
@@ -50,13 +52,13 @@ pub enum NextLine {
     More,
     /// There is none: the input ended, and all its lines were given.
     End,
-    /// It is too long, or it goes past the longest script.
+    /// It is too long, or it goes past the longest input.
     Refused,
     /// Memory ran out.
     NoMemory,
 }
 
-/// The octets in front of a last one that is `last`, where it is.
+/// The octets in front of the last one, where the last one is `last`.
 fn before_last(octets: &[u8], last: u8) -> Option<&[u8]>
     ensures { MatchOption result
         ((front : List ℕ) → octets.now ≢ front ++ last ∷ [])
@@ -83,28 +85,28 @@ fn is_too_big(before: u64, piece: &[u8]) -> bool
     requires { before ≤ 1099511627776 }
     ensures { result ≡ is_too_big before piece.now }
 {
-    line_in(piece).len() > LONGEST_LINE || LONGEST_SCRIPT - before < piece.len() as u64
+    line_in(piece).len() > MAX_LINE_LEN || MAX_INPUT_LEN - before < piece.len() as u64
 }
 
-/// Whether each piece that begins with this many octets, of which none is an LF, is too big.
+/// Whether `len` octets without an LF are already too many: then each piece that begins with them is too big.
 fn cannot_fit(before: u64, len: usize) -> bool
     requires { before ≤ 1099511627776 }
     ensures cannot { result ≡ true → (140001 < len) ⊎ (1099511627776 < before + len) }
     ensures may { result ≡ false → (len ≤ 140001) × (before + len ≤ 1099511627776) }
 {
-    len > LONGEST_LINE + 1 || LONGEST_SCRIPT - before < len as u64
+    len > MAX_LINE_LEN + 1 || MAX_INPUT_LEN - before < len as u64
 }
 
-/// How many octets stand in front of the first LF.
+/// How many octets stand in front of the first LF; all of them, where there is none.
 fn lf_at(octets: &[u8]) -> usize
     ensures within { result ≤ length octets.now }
     ensures before { (k : ℕ) → k < result → slice_index octets.now k ≢ 10 }
     ensures found { result < length octets.now → slice_index octets.now result ≡ 10 }
 {
-    octets
-        .iter()
-        .position(|c| *c == b'\n')
-        .unwrap_or(octets.len())
+    match memchr(b'\n', octets) {
+        Some(n) => n,
+        None => octets.len(),
+    }
 }
 
 /// How many octets stand in front of the first LF, where there is one.
@@ -129,7 +131,7 @@ fn between(chunk: &[u8], at: usize, end: usize) -> &[u8]
 impl Feed {
     ghost use Rattle.std.specs.Prelude.{◌≡◌, ◌≤◌, ◌<◌, ◌+◌, true, false, ℕ, List, [], ◌∷◌, ◌++◌, Option, Some, Ok, OnOk, OnErr, IfOk, IsErr, length, take, drop};
     ghost use Rattle.std.specs.Io.KnownBytes.{Keeps, IsAtEnd};
-    ghost use Rattle.bsc_outside.specs.Faults.{Rose};
+    ghost use Rattle.bsc_outside.specs.Faults.{HasRisen};
     ghost use Rattle.bsc_text.specs.Feeding.{unread, rest_of, IsUsedUp, Gives, Feeds, Fills, fuel};
 
     /// A feed that has read nothing yet. It takes room for one chunk.
@@ -141,7 +143,7 @@ impl Feed {
     {
         Ok(Feed {
             carry: Vec::new(alloc),
-            chunk: vec![in alloc; 0; CHUNK]?,
+            chunk: vec![in alloc; 0; CHUNK_LEN]?,
             at: 0,
             end: 0,
             count: 0,
@@ -157,7 +159,7 @@ impl Feed {
         ensures ended { self.new.ended ≡ true → IsAtEnd (S.left source.new) }
 
         // A fault leaves what was read as it was, and the chunk may be read once more.
-        ensures failed { IsErr result → Rose (S.faults source.old) (S.faults source.new) }
+        ensures failed { IsErr result → HasRisen (S.faults source.old) (S.faults source.new) }
         ensures later { S.faults source.old ≤ S.faults source.new }
         ensures unread { OnErr result (unread self.new ≡ unread self.old) }
         ensures count { OnErr result (self.new.count ≡ self.old.count) }
@@ -197,7 +199,7 @@ impl Feed {
     }
 
     /// The next line, which ends with the LF after the first `n` octets of the rest.
-    fn next_whole(&mut self, alloc: Global, n: usize) -> NextLine
+    fn next_whole(&mut self, mut room: Vec<u8>, n: usize) -> NextLine
         requires { BeginsLine n (drop self.old.at (take self.old.end self.old.chunk.items)) }
         ensures fed { Feeds self.old self.new result }
         ensures ended { self.new.ended ≡ self.old.ended }
@@ -206,7 +208,8 @@ impl Feed {
         if cannot_fit(self.count, self.carry.len() + n) {
             return NextLine::Refused;
         }
-        let mut piece = mem::replace(&mut self.carry, Vec::new(alloc));
+        room.clear();
+        let mut piece = mem::replace(&mut self.carry, room);
         let (front, _) = self.rest().split_at(n + 1);
         if piece.extend_from_slice(front).is_err() {
             return NextLine::NoMemory;
@@ -216,7 +219,7 @@ impl Feed {
     }
 
     /// Keeps the rest, in which there is no LF; at the end of the input it is the last line.
-    fn keep_rest(&mut self, alloc: Global) -> NextLine
+    fn keep_rest(&mut self, mut room: Vec<u8>) -> NextLine
         requires { has_no_lf (drop self.old.at (take self.old.end self.old.chunk.items)) ≡ true }
         ensures fed { Feeds self.old self.new result }
         ensures ended { self.new.ended ≡ self.old.ended }
@@ -235,15 +238,17 @@ impl Feed {
         if self.carry.is_empty() {
             return NextLine::End;
         }
-        let piece = mem::replace(&mut self.carry, Vec::new(alloc));
+        room.clear();
+        let piece = mem::replace(&mut self.carry, room);
         self.give(piece)
     }
 
     /// The next line of what was read, without its LF and the one CR before it. A last line may have no LF,
     /// and is given once the end of the input was found.
     ///
-    /// After a line that is refused or a lack of memory the feed has lost its place.
-    pub fn next_line(&mut self, alloc: Global) -> NextLine
+    /// `room` is memory that the feed may use again, as that of the line before; what it holds is dropped.
+    /// After a line that is refused, or when memory ran out, the feed has lost its place.
+    pub fn next_line(&mut self, room: Vec<u8>) -> NextLine
         ensures fed { Feeds self.old self.new result }
         ensures ended { self.new.ended ≡ self.old.ended }
 
@@ -254,8 +259,8 @@ impl Feed {
         ensures no_less { result ≡ NextLine.More → fuel self.new ≡ fuel self.old }
     {
         match first_lf(self.rest()) {
-            Some(n) => self.next_whole(alloc, n),
-            None => self.keep_rest(alloc),
+            Some(n) => self.next_whole(room, n),
+            None => self.keep_rest(room),
         }
     }
 }

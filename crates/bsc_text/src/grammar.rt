@@ -10,10 +10,10 @@ use byteorder::{BigEndian, ByteOrder};
 use uuid::Uuid;
 
 /// The most digits that a number may have.
-const LONGEST_NUMBER: usize = 19;
+const MAX_NUMBER_DIGITS: usize = 19;
 
 /// The most octets that a name may have.
-const LONGEST_NAME: usize = 16;
+const MAX_NAME_LEN: usize = 16;
 
 /// Whether digits begin with a zero that isn't the only one.
 fn has_leading_zero(word: &[u8]) -> bool
@@ -30,7 +30,7 @@ fn has_leading_zero(word: &[u8]) -> bool
 pub fn read_number(word: &[u8]) -> Option<u64>
     ensures { result ≡ number_of word.now }
 {
-    if word.len() > LONGEST_NUMBER || has_leading_zero(word) {
+    if word.len() > MAX_NUMBER_DIGITS || has_leading_zero(word) {
         return None;
     }
     let mut number: u64 = 0;
@@ -120,7 +120,7 @@ pub fn is_name(word: &[u8]) -> bool
     ensures { result ≡ is_name word.now }
 {
     !word.is_empty()
-        && word.len() <= LONGEST_NAME
+        && word.len() <= MAX_NAME_LEN
         && has_name_octets(word)
         && word != b"hub".as_slice()
 }

@@ -19,4 +19,4 @@ pub use grammar::{
 };
 pub use octets::{OctetsFault, copy_of, read_octets};
 pub use text::Text;
-pub use words::{joined, next_word};
+pub use words::{begins_comment, joined, next_word};

@@ -4,7 +4,7 @@ ghost use Rattle.bsc_text.specs.Words.{words_of};
 ghost use Rattle.bsc_text.specs.Grammar.{octets_of_words, decoded};
 ghost use Rattle.hex.specs.Hex.{decode_of};
 
-use crate::words::joined;
+use crate::words::{joined, next_word};
 use bsc_octets::{NoMemory, Octets};
 use hex::FromHexError;
 use std::alloc::Global;
@@ -50,12 +50,25 @@ fn decode(alloc: Global, digits: &[u8]) -> Result<Octets, OctetsFault>
     }
 }
 
-/// The octets that the words of a line write: hexadecimal digits in either case over any number of words,
-/// an even number of them together.
-pub fn read_octets(alloc: Global, words: &[u8]) -> Result<Octets, OctetsFault>
+/// The octets that several words write.
+fn decode_joined(alloc: Global, words: &[u8]) -> Result<Octets, OctetsFault>
     ensures read { IfOk result (λ o. octets_of_words (words_of words.now) ≡ Some o) }
     ensures refused { result ≡ Err OctetsFault.Refused → octets_of_words (words_of words.now) ≡ None }
 {
     let digits = joined(alloc, words)?;
     decode(alloc, digits.as_slice())
+}
+
+/// The octets that the words of a line write: hexadecimal digits in either case over any number of words,
+/// an even number of them together. The digits of one word are read where they stand.
+pub fn read_octets(alloc: Global, words: &[u8]) -> Result<Octets, OctetsFault>
+    ensures read { IfOk result (λ o. octets_of_words (words_of words.now) ≡ Some o) }
+    ensures refused { result ≡ Err OctetsFault.Refused → octets_of_words (words_of words.now) ≡ None }
+{
+    if let Some((word, rest)) = next_word(words) {
+        if next_word(rest).is_none() {
+            return decode(alloc, word);
+        }
+    }
+    decode_joined(alloc, words)
 }

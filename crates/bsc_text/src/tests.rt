@@ -13,7 +13,7 @@ use std::test::*;
 /// The next line of a source; none where a read failed.
 fn next_of<S: Source>(alloc: Global, feed: &mut Feed, source: &mut S) -> Option<NextLine> {
     loop {
-        match feed.next_line(alloc) {
+        match feed.next_line(Vec::new(alloc)) {
             NextLine::More => {
                 if feed.fill(source).is_err() {
                     return None;
@@ -56,7 +56,7 @@ fn cuts_lines(rt: HostRuntime) -> Result<(), Fail> {
                 Some(NextLine::End)
             )
         );
-        assert!(rt; matches!(feed.next_line(rt.alloc()), NextLine::End));
+        assert!(rt; matches!(feed.next_line(Vec::new(rt.alloc())), NextLine::End));
     }
     Ok(())
 }
@@ -65,15 +65,15 @@ fn cuts_lines(rt: HostRuntime) -> Result<(), Fail> {
 fn gives_all_whole_lines_before_it_reads(rt: HostRuntime) -> Result<(), Fail> {
     let mut source = SureSource::in_pieces(b"a\nb\nc\n", 5);
     let mut feed = Feed::make(rt.alloc())?;
-    assert!(rt; matches!(feed.next_line(rt.alloc()), NextLine::More));
+    assert!(rt; matches!(feed.next_line(Vec::new(rt.alloc())), NextLine::More));
     feed.fill(&mut source)?;
     for line in [b"a", b"b"] {
-        match feed.next_line(rt.alloc()) {
+        match feed.next_line(Vec::new(rt.alloc())) {
             NextLine::Line(next) => assert!(rt; next.as_slice() == line.as_slice()),
             _ => assert!(rt; false, "a line"),
         }
     }
-    assert!(rt; matches!(feed.next_line(rt.alloc()), NextLine::More));
+    assert!(rt; matches!(feed.next_line(Vec::new(rt.alloc())), NextLine::More));
     assert!(rt; is_next(rt.alloc(), &mut feed, &mut source, b"c"));
     Ok(())
 }

@@ -1,7 +1,7 @@
 //! The words of a line.
 ghost use Rattle.std.specs.Prelude.{◌≡◌, ◌≢◌, ◌<◌, ◌≤◌, ℕ, [], ◌∷◌, length, slice_index, IfOk, IfSome, MatchOption};
 ghost use Rattle.std.specs.List.{flat_map};
-ghost use Rattle.bsc_text.specs.Words.{words_of, space};
+ghost use Rattle.bsc_text.specs.Words.{words_of, space, begins_comment};
 
 use bsc_octets::NoMemory;
 use std::alloc::Global;
@@ -52,4 +52,14 @@ pub fn joined(alloc: Global, mut line: &[u8]) -> Result<Vec<u8>, NoMemory>
         line = rest;
     }
     Ok(octets)
+}
+
+/// Whether a word begins a comment.
+pub fn begins_comment(word: &[u8]) -> bool
+    ensures { result ≡ begins_comment word.now }
+{
+    match word {
+        [b'#', ..] => true,
+        _ => false,
+    }
 }

@@ -1,23 +1,17 @@
-use Rattle.bsc_program.proofs.Ending.{told, done_of, refused_of, stopped_of, broken_of, ran_out_of, refuses_of, accepts_of}
+use Rattle.std.proofs.Common.{subst, map}
+use Rattle.std.specs.Prelude.{string_bytes}
+use Rattle.bsc_player.specs.Ends.{PlaysOut}
+use Rattle.bsc_player.proofs.Ran.{tells}
+use Rattle.bsc_program.specs.declared.command.Command.{Command}
+use Rattle.bsc_program.specs.Commands.{command_of, played_by}
+use Rattle.bsc_program.proofs.Reading.{one_command}
 use Rattle.bsc_program.proofs.run.run.Goals as goal
 
-pub returns-clause-done : goal.returns-clause-done
-returns-clause-done g c o t zero left held = done_of c.end_replay.result o t (g.S.Source.left c.replay-end.new.source) (g.K.Sink.held c.end_replay.new.sink) (g.S.Source.faults c.args.source.now) (g.S.Source.faults c.replay-end.new.source) (told c.end_replay.result o t (g.S.Source.left c.replay-end.new.source) (g.K.Sink.held c.replay-end.new.sink) (g.K.Sink.held c.end_replay.new.sink) (g.S.Source.faults c.args.source.now) (g.S.Source.faults c.replay-end.new.source) c.replay-end.result c.replay-end.ensures.read_fault (c.replay-end.ensures.replayed o t left held) c.end_replay.ensures.ends) zero
-
-pub returns-clause-refused : goal.returns-clause-refused
-returns-clause-refused g c o t two left held = refused_of c.end_replay.result o t (g.S.Source.left c.replay-end.new.source) (g.K.Sink.held c.end_replay.new.sink) (g.S.Source.faults c.args.source.now) (g.S.Source.faults c.replay-end.new.source) (told c.end_replay.result o t (g.S.Source.left c.replay-end.new.source) (g.K.Sink.held c.replay-end.new.sink) (g.K.Sink.held c.end_replay.new.sink) (g.S.Source.faults c.args.source.now) (g.S.Source.faults c.replay-end.new.source) c.replay-end.result c.replay-end.ensures.read_fault (c.replay-end.ensures.replayed o t left held) c.end_replay.ensures.ends) two
-
-pub returns-clause-stopped : goal.returns-clause-stopped
-returns-clause-stopped g c o t three left held = stopped_of c.end_replay.result o t (g.S.Source.left c.replay-end.new.source) (g.K.Sink.held c.end_replay.new.sink) (g.S.Source.faults c.args.source.now) (g.S.Source.faults c.replay-end.new.source) (told c.end_replay.result o t (g.S.Source.left c.replay-end.new.source) (g.K.Sink.held c.replay-end.new.sink) (g.K.Sink.held c.end_replay.new.sink) (g.S.Source.faults c.args.source.now) (g.S.Source.faults c.replay-end.new.source) c.replay-end.result c.replay-end.ensures.read_fault (c.replay-end.ensures.replayed o t left held) c.end_replay.ensures.ends) three
-
-pub returns-clause-broken : goal.returns-clause-broken
-returns-clause-broken g c o t words four left held = broken_of c.end_replay.result o t (g.S.Source.left c.replay-end.new.source) (g.K.Sink.held c.end_replay.new.sink) (g.S.Source.faults c.args.source.now) (g.S.Source.faults c.replay-end.new.source) (told c.end_replay.result o t (g.S.Source.left c.replay-end.new.source) (g.K.Sink.held c.replay-end.new.sink) (g.K.Sink.held c.end_replay.new.sink) (g.S.Source.faults c.args.source.now) (g.S.Source.faults c.replay-end.new.source) c.replay-end.result c.replay-end.ensures.read_fault (c.replay-end.ensures.replayed o t left held) c.end_replay.ensures.ends) four
-
-pub returns-clause-ran_out : goal.returns-clause-ran_out
-returns-clause-ran_out g c o t seven left held = ran_out_of c.end_replay.result o t (g.S.Source.left c.replay-end.new.source) (g.K.Sink.held c.end_replay.new.sink) (g.S.Source.faults c.args.source.now) (g.S.Source.faults c.replay-end.new.source) (told c.end_replay.result o t (g.S.Source.left c.replay-end.new.source) (g.K.Sink.held c.replay-end.new.sink) (g.K.Sink.held c.end_replay.new.sink) (g.S.Source.faults c.args.source.now) (g.S.Source.faults c.replay-end.new.source) c.replay-end.result c.replay-end.ensures.read_fault (c.replay-end.ensures.replayed o t left held) c.end_replay.ensures.ends) seven
-
-pub returns-clause-refuses : goal.returns-clause-refuses
-returns-clause-refuses g c o t n words left held some = refuses_of c.end_replay.result o t (g.S.Source.left c.replay-end.new.source) (g.K.Sink.held c.end_replay.new.sink) (g.S.Source.faults c.args.source.now) (g.S.Source.faults c.replay-end.new.source) (told c.end_replay.result o t (g.S.Source.left c.replay-end.new.source) (g.K.Sink.held c.replay-end.new.sink) (g.K.Sink.held c.end_replay.new.sink) (g.S.Source.faults c.args.source.now) (g.S.Source.faults c.replay-end.new.source) c.replay-end.result c.replay-end.ensures.read_fault (c.replay-end.ensures.replayed o t left held) c.end_replay.ensures.ends) n some
-
-pub returns-clause-accepts : goal.returns-clause-accepts
-returns-clause-accepts g c o t words left held none = accepts_of c.end_replay.result o t (g.S.Source.left c.replay-end.new.source) (g.K.Sink.held c.end_replay.new.sink) (g.S.Source.faults c.args.source.now) (g.S.Source.faults c.replay-end.new.source) (told c.end_replay.result o t (g.S.Source.left c.replay-end.new.source) (g.K.Sink.held c.replay-end.new.sink) (g.K.Sink.held c.end_replay.new.sink) (g.S.Source.faults c.args.source.now) (g.S.Source.faults c.replay-end.new.source) c.replay-end.result c.replay-end.ensures.read_fault (c.replay-end.ensures.replayed o t left held) c.end_replay.ensures.ends) none
+pub returns-clause-played : goal.returns-clause-played
+returns-clause-played g c k o t named left held =
+    let same = one_command c.read_command.result (command_of (map string_bytes c.args.words.now)) c.in-Some.command k c.in-Some.is c.read_command.ensures named in
+    let left' = g.S.Source.left c.play_command-end.new.source in
+    let mid = g.K.Sink.held c.play_command-end.new.sink in
+    let ended = c.play_command-end.result in
+    let played = subst (λ (x : Command). PlaysOut (played_by x) ended o t left' mid) same (c.play_command-end.ensures.played o t left held) in
+    tells (played_by k) c.end_play.result o t left' mid (g.K.Sink.held c.end_play.new.sink) (g.S.Source.faults c.args.source.now) (g.S.Source.faults c.play_command-end.new.source) ended c.play_command-end.ensures.read_fault played c.end_play.ensures.ends

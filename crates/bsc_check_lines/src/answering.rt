@@ -1,0 +1,84 @@
+//! The line that answers a question.
+ghost use Rattle.std.specs.Prelude.{◌≡◌, ◌++◌, IfOk, codes};
+ghost use Rattle.hex.specs.Hex.{encode_upper};
+ghost use Rattle.bsc_check_lines.specs.Answering.{check_name, verdict_line};
+
+use bsc_checks::{Check, Verdict};
+use bsc_octets::NoMemory;
+use std::alloc::Global;
+
+/// The name of a check, as it is written.
+pub fn check_name(check: Check) -> &'static str
+    ensures { result.now ≡ check_name check }
+{
+    match check {
+        Check::C1 => "C1",
+        Check::C2 => "C2",
+        Check::C3 => "C3",
+        Check::C4 => "C4",
+        Check::C5 => "C5",
+        Check::C6 => "C6",
+        Check::C7 => "C7",
+        Check::C7b => "C7b",
+        Check::C8 => "C8",
+        Check::C9 => "C9",
+        Check::C10 => "C10",
+        Check::C10b => "C10b",
+        Check::C10c => "C10c",
+        Check::C11 => "C11",
+        Check::C12 => "C12",
+        Check::C13 => "C13",
+    }
+}
+
+/// Puts words of text.
+fn put_words(text: &mut Vec<u8>, words: &str) -> Result<(), NoMemory>
+    ensures { IfOk result (λ _. text.new.items ≡ text.old.items ++ words.now) }
+{
+    text.extend_from_slice(words.as_bytes())?;
+    Ok(())
+}
+
+/// Puts octets as hexadecimal digits, with letters in upper case.
+fn put_hex(text: &mut Vec<u8>, alloc: Global, octets: &[u8]) -> Result<(), NoMemory>
+    ensures { IfOk result (λ _. text.new.items ≡ text.old.items ++ encode_upper octets.now) }
+{
+    let Ok(digits) = hex::encode_upper(alloc, octets) else {
+        return Err(NoMemory);
+    };
+    put_words(text, digits.as_str())
+}
+
+/// Puts the line of silence at a check.
+fn put_silence(text: &mut Vec<u8>, check: Check) -> Result<(), NoMemory>
+    ensures { IfOk result (λ _. text.new.items
+        ≡ text.old.items ++ (codes "silent " ++ check_name check ++ codes "\n")) }
+{
+    put_words(text, "silent ")?;
+    put_words(text, check_name(check))?;
+    put_words(text, "\n")
+}
+
+/// Puts the line of a NAK at a check.
+fn put_nak(text: &mut Vec<u8>, alloc: Global, check: Check, octets: &[u8]) -> Result<(), NoMemory>
+    ensures { IfOk result (λ _. text.new.items ≡ text.old.items
+        ++ (codes "nak " ++ check_name check ++ codes " " ++ encode_upper octets.now ++ codes "\n")) }
+{
+    put_words(text, "nak ")?;
+    put_words(text, check_name(check))?;
+    put_words(text, " ")?;
+    put_hex(text, alloc, octets)?;
+    put_words(text, "\n")
+}
+
+/// Puts the line of a verdict at the end of a text.
+pub fn put_verdict(text: &mut Vec<u8>, alloc: Global, verdict: &Verdict) -> Result<(), NoMemory>
+    ensures { IfOk result (λ _. text.new.items ≡ text.old.items ++ verdict_line verdict.now) }
+{
+    match verdict {
+        Verdict::Pass(_) => put_words(text, "pass\n"),
+        Verdict::Carry(_) => put_words(text, "carry\n"),
+        Verdict::Silent(check) => put_silence(text, *check),
+        Verdict::Nak(check, octets) => put_nak(text, alloc, *check, octets.as_slice()),
+    }
+}

@@ -1,0 +1,4 @@
+pub mod Places
+pub mod Table
+pub mod Naks
+pub mod Verdicts

@@ -1,0 +1,9 @@
+pub mod Cutting
+pub mod SoFar
+pub mod Reached
+pub mod Stopping
+pub mod Feeding
+pub mod Looping
+pub mod Ran
+pub mod NeverAtEnd
+mod WorkedPlays
