@@ -52,7 +52,7 @@ place_of_word w phase =
     if same_octets w (codes "hub") then Some (HubPort phase)
     else if same_octets (take 5 w) (codes "node:") then at_node (vmac_of_word (drop 5 w)) phase
     else if same_octets (take 7 w) (codes "direct:") then
-        at_direct (vmac_of_word (take 12 (drop 7 w))) (peer_of_word (drop 12 (drop 7 w))) phase
+    at_direct (vmac_of_word (take 12 (drop 7 w))) (peer_of_word (drop 12 (drop 7 w))) phase
     else None
 
 -- a place, where the phase is one

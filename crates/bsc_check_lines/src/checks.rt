@@ -22,11 +22,18 @@ pub trait Judge {
     ghost verdict_of: { List ℕ → Place → ℕ → Verdict };
 
     /// Gives the verdict.
-    fn judge(&self, alloc: Global, message: &[u8], place: &Place, max: u16) -> Result<Verdict, NoMemory>
+    fn judge(
+        &self,
+        alloc: Global,
+        message: &[u8],
+        place: &Place,
+        max: u16,
+    ) -> Result<Verdict, NoMemory>
         ensures { IfOk result (λ verdict. verdict ≡ verdict_of message.now place.now max) };
 }
 
 /// The language of `check`, with what gives the verdicts.
+#[derive(Drop)]
 pub struct Checks<J> {
     judge: J,
 }
@@ -38,10 +45,21 @@ impl<J: Judge> Language for Checks<J> {
 
     ghost stands_for = { λ it s. ⊤ };
 
-    fn carry_out(&mut self, alloc: Global, line: &[u8], text: &mut Vec<u8>) -> Result<(), LineFault> {
+    fn carry_out(
+        &mut self,
+        alloc: Global,
+        line: &[u8],
+        text: &mut Vec<u8>,
+    ) -> Result<(), LineFault> {
         match read_line(alloc, line) {
             Ok(Line::Nothing) => Ok(()),
-            Ok(Line::Question { place, max, message }) => {
+            Ok(
+                Line::Question {
+                    place,
+                    max,
+                    message,
+                },
+            ) => {
                 let verdict = self.judge.judge(alloc, message.as_slice(), &place, max)?;
                 put_verdict(text, alloc, &verdict)?;
                 Ok(())

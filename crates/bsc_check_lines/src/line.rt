@@ -17,7 +17,11 @@ pub enum Line {
     /// An empty line, or a comment.
     Nothing,
     /// What becomes of this message at this place, where messages have at most `max` octets?
-    Question { place: Place, max: u16, message: Octets },
+    Question {
+        place: Place,
+        max: u16,
+        message: Octets,
+    },
 }
 
 /// The place that two words are, PLACE and PHASE.

@@ -91,11 +91,13 @@ const REFUSED: [&str; 12] = [
 fn reads_lines(rt: HostRuntime) {
     for case in &CASES {
         match read_line(rt.alloc(), case.line.as_bytes()) {
-            Ok(Line::Question {
-                place,
-                max,
-                message,
-            }) => {
+            Ok(
+                Line::Question {
+                    place,
+                    max,
+                    message,
+                },
+            ) => {
                 assert_eq!(rt; place, case.place, "of {}", case.line);
                 assert_eq!(rt; max, case.max, "of {}", case.line);
                 assert!(rt; message.as_slice() == case.octets, "of {}", case.line);
@@ -145,12 +147,25 @@ impl Judge for Strict {
 fn plays_checks(rt: HostRuntime) -> Result<(), Fail> {
     for (input, text, end) in [
         ("", "", PlayEnd::Done),
-        ("# one\nhub connected 1600 00\n\nhub accept 7", "silent C13\nsilent C13\n", PlayEnd::Done),
-        ("hub connected 1600\nhub 1600\n", "silent C13\n", PlayEnd::BadLine { line: 2 }),
+        (
+            "# one\nhub connected 1600 00\n\nhub accept 7",
+            "silent C13\nsilent C13\n",
+            PlayEnd::Done,
+        ),
+        (
+            "hub connected 1600\nhub 1600\n",
+            "silent C13\n",
+            PlayEnd::BadLine { line: 2 },
+        ),
     ] {
         let mut sink = MemSink::make(rt.alloc(), 99, &[])?;
         let mut source = SureSource::in_pieces(input.as_bytes(), 7);
-        assert_eq!(rt; check_by(rt.alloc(), Strict, &mut source, &mut sink), end, "of {}", input);
+        assert_eq!(rt;
+            check_by(rt.alloc(), Strict, &mut source, &mut sink),
+            end,
+            "of {}",
+            input
+        );
         assert!(rt; sink.held() == text.as_bytes(), "of {}", input);
     }
     Ok(())

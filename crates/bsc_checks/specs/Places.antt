@@ -3,7 +3,6 @@ use Rattle.std.specs.Prelude.{◌≡◌, ◌≢◌, ℕ, ◌≤◌, ◌⊎◌, B
 use Rattle.bsc_octets.specs.declared.vmac.Vmac.{Vmac}
 use Rattle.bsc_octets.specs.Addresses.{broadcast}
 use Rattle.bsc_octets.specs.Envelopes.{flags_in, announces_origin, announces_dest, vmac_at}
-use Rattle.bsc_octets.specs.Forwarding.{function_in}
 use Rattle.bsc_checks.specs.declared.phase.Phase.{Phase}
 use Rattle.bsc_checks.specs.declared.phase.Phase.TheVariants.{AwaitingRequest, AwaitingAccept, Connected, Disconnecting}
 use Rattle.bsc_checks.specs.declared.place.Place.{Place}
@@ -19,9 +18,9 @@ origin_in m = if announces_origin (flags_in m) then Some (vmac_at m 4) else None
 abbrev pub dest_in : List ℕ → Option Vmac
 dest_in m = if announces_dest (flags_in m) then Some (vmac_at m (if announces_origin (flags_in m) then 10 else 4)) else None
 
--- A unicast has no Destination, or one that is not the broadcast address.
-abbrev pub IsUnicast : List ℕ → Type 0
-IsUnicast m = dest_in m ≢ Some broadcast
+-- A message with this Destination is a unicast: it has none, or one that is not the broadcast address.
+abbrev pub IsUnicast : Option Vmac → Type 0
+IsUnicast dest = dest ≢ Some broadcast
 
 -- ---- the place
 
@@ -38,56 +37,48 @@ is_to_carry place m = false
 
 -- ---- the addresses at a place
 
--- A function of which a node has to be told the sender: every one but BVLC-Result and 06 to 0B, which are between the two ends of the connection.
-abbrev pub NeedsSender : ℕ → Type 0
-NeedsSender function = (function ≢ 0x00) × (¬ ((0x06 ≤ function) × (function ≤ 0x0B)))
+-- The functions of the connection itself, which its two ends say to each other: 06 to 0B, from Connect-Request to Heartbeat-ACK.
+abbrev pub IsOfConnection : ℕ → Type 0
+IsOfConnection function = (0x06 ≤ function) × (function ≤ 0x0B)
 
--- The sender is not said, though the function needs it.
-abbrev pub LacksSender : List ℕ → Type 0
-LacksSender m = (origin_in m ≡ None) × NeedsSender (function_in m)
+-- There is no Originating address, though the function needs one: every function but BVLC-Result and those of the connection does.
+abbrev pub LacksSender : ℕ → Option Vmac → Type 0
+LacksSender function origin = (origin ≡ None) × (function ≢ 0x00) × (¬ IsOfConnection function)
 
--- The message has a Destination, and it is neither the broadcast address nor this one.
-abbrev pub IsForAnother : List ℕ → Vmac → Type 0
-IsForAnother m own = (v : Vmac) × (dest_in m ≡ Some v) × (v ≢ broadcast) × (v ≢ own)
+-- There is a Destination, and it is neither the broadcast address nor this node's own.
+abbrev pub IsForAnother : Vmac → Option Vmac → Type 0
+IsForAnother own dest = (v : Vmac) × (dest ≡ Some v) × (v ≢ broadcast) × (v ≢ own)
 
--- The message has an Originating address, and it is not that of the peer, or the peer is not known yet.
-abbrev pub IsFromAnother : List ℕ → Option Vmac → Type 0
-IsFromAnother m peer = (v : Vmac) × (origin_in m ≡ Some v) × (peer ≢ Some v)
+-- There is an Originating address, and it is not that of the peer; while the peer is not known, none is.
+abbrev pub IsFromAnother : Option Vmac → Option Vmac → Type 0
+IsFromAnother peer origin = (v : Vmac) × (origin ≡ Some v) × (peer ≢ Some v)
 
--- The message has a Destination, and it is not this address.
-abbrev pub IsNotFor : List ℕ → Vmac → Type 0
-IsNotFor m own = (v : Vmac) × (dest_in m ≡ Some v) × (v ≢ own)
+-- There is a Destination, and it is not this node's own.
+abbrev pub IsNotFor : Vmac → Option Vmac → Type 0
+IsNotFor own dest = (v : Vmac) × (dest ≡ Some v) × (v ≢ own)
 
--- The addresses are wrong for the place. A node says no Originating address to its hub; the hub says the sender to a node, and passes on only what is for the node or for all; and on a direct connection each address that is said is that of its end.
-abbrev pub HasWrongAddresses : List ℕ → Place → Type 0
-HasWrongAddresses m (HubPort phase) = origin_in m ≢ None
-HasWrongAddresses m (NodeHub own phase) = LacksSender m ⊎ IsForAnother m own
-HasWrongAddresses m (NodeDirect own peer phase) = IsFromAnother m peer ⊎ IsNotFor m own
+-- The addresses of a message with this function are wrong for the place. A node gives its hub no Originating address. The hub gives a node the sender's, and passes on only what is for that node or for all. On a direct connection each address that is given is that of its end.
+abbrev pub HasWrongAddresses : Place → ℕ → Option Vmac → Option Vmac → Type 0
+HasWrongAddresses (HubPort phase) function origin dest = origin ≢ None
+HasWrongAddresses (NodeHub own phase) function origin dest = LacksSender function origin ⊎ IsForAnother own dest
+HasWrongAddresses (NodeDirect own peer phase) function origin dest = IsFromAnother peer origin ⊎ IsNotFor own dest
 
 -- ---- the function at a place
 
--- A function of the connection itself, once it is made: Disconnect-Request, Heartbeat-Request, Heartbeat-ACK.
-abbrev pub KeepsConnection : ℕ → Type 0
-KeepsConnection function = (function ≡ 0x08) ⊎ (function ≡ 0x0A) ⊎ (function ≡ 0x0B)
-
--- A function between nodes: 00 to 05.
-abbrev pub IsBetweenNodes : ℕ → Type 0
-IsBetweenNodes function = function ≤ 0x05
-
--- What the two ends say to each other once the connection is made. To a node, its hub says nothing of the connection in another's name.
+-- What is said once the connection is made: to a hub, that the connection ends or is still there; to a node, also the functions 00 to 05, which are between nodes; and what its hub says of the connection it says in no other's name.
 abbrev pub IsInPlaceConnected : Place → ℕ → Option Vmac → Type 0
 IsInPlaceConnected (HubPort phase) function origin = (function ≡ 0x08) ⊎ (function ≡ 0x0A)
-IsInPlaceConnected (NodeHub own phase) function origin = IsBetweenNodes function ⊎ (KeepsConnection function × (origin ≡ None))
-IsInPlaceConnected (NodeDirect own peer phase) function origin = IsBetweenNodes function ⊎ KeepsConnection function
+IsInPlaceConnected (NodeHub own phase) function origin = (function ≤ 0x05) ⊎ (((function ≡ 0x08) ⊎ (function ≡ 0x0A) ⊎ (function ≡ 0x0B)) × (origin ≡ None))
+IsInPlaceConnected (NodeDirect own peer phase) function origin = (function ≤ 0x05) ⊎ (function ≡ 0x08) ⊎ (function ≡ 0x0A) ⊎ (function ≡ 0x0B)
 
--- The function is in place in this phase: a Connect-Request where it is awaited; a BVLC-Result or a Connect-Accept where the answer to one is; a BVLC-Result or a Disconnect-ACK where the answer to a Disconnect-Request is; and once connected as above.
+-- The function is in place in this phase: a Connect-Request where one is awaited; a BVLC-Result or a Connect-Accept where the answer to one is; a BVLC-Result or a Disconnect-ACK where the answer to a Disconnect-Request is; and once connected as above.
 abbrev pub IsInPlaceIn : Phase → Place → ℕ → Option Vmac → Type 0
 IsInPlaceIn AwaitingRequest place function origin = function ≡ 0x06
 IsInPlaceIn AwaitingAccept place function origin = (function ≡ 0x00) ⊎ (function ≡ 0x07)
 IsInPlaceIn Connected place function origin = IsInPlaceConnected place function origin
 IsInPlaceIn Disconnecting place function origin = (function ≡ 0x00) ⊎ (function ≡ 0x09)
 
--- The message is in place: one to be carried on where the connection is made, whatever its function, and another where its function is.
-abbrev pub IsInPlace : Bool → Place → List ℕ → Type 0
-IsInPlace true place m = phase_of place ≡ Connected
-IsInPlace false place m = IsInPlaceIn (phase_of place) place (function_in m) (origin_in m)
+-- The message is in place: one that is to be carried on where the connection is made, whatever its function, and another where its function is.
+abbrev pub IsInPlace : Bool → Place → ℕ → Option Vmac → Type 0
+IsInPlace true place function origin = phase_of place ≡ Connected
+IsInPlace false place function origin = IsInPlaceIn (phase_of place) place function origin

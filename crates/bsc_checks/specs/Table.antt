@@ -1,5 +1,5 @@
 -- The table of the checks: what each finds wrong with a message, in which order they are made, and which code each gives.
-use Rattle.std.specs.Prelude.{◌≡◌, ◌≢◌, ℕ, ◌<◌, Bool, true, if◌then◌else◌, List, [], ◌∷◌, ◌++◌, Option, Some, None}
+use Rattle.std.specs.Prelude.{◌≡◌, ◌≢◌, ℕ, ◌<◌, true, if◌then◌else◌, List, [], ◌∷◌, ◌++◌, length, Option, Some, None}
 use Rattle.std.specs.List.{AllByRecursion}
 use Rattle.bsc_octets.specs.Envelopes.{flags_in}
 use Rattle.bsc_octets.specs.Forwarding.{function_in}
@@ -10,7 +10,7 @@ use Rattle.bsc_frame.specs.declared.check.Check.TheVariants.{C1, C2, C3, C4, C5,
 use Rattle.bsc_frame.specs.Layout.{announces_dest_options, options_at, IsList}
 use Rattle.bsc_frame.specs.Checks.{IsFirstOf, IsShort, LacksAddressOctets, HasReservedFlag, HasUnknownFunction, LacksOptionOctets, HasBadOption, HasMisplacedDataOptions, LacksPayload, HasShortPayload, HasLongPayload, HasValueOutOfRange}
 use Rattle.bsc_checks.specs.declared.place.Place.{Place}
-use Rattle.bsc_checks.specs.Places.{HasWrongAddresses, IsInPlace, is_to_carry}
+use Rattle.bsc_checks.specs.Places.{origin_in, dest_in, is_to_carry, HasWrongAddresses, IsInPlace}
 
 -- ---- the conditions that octets alone do not decide, and two that ask what is understood here
 
@@ -43,7 +43,7 @@ IsProprietary m = function_in m ≡ 0x0C
 
 -- C13: the message is out of place.
 abbrev pub IsOutOfPlace : List ℕ → Place → Type 0
-IsOutOfPlace m place = ¬ IsInPlace (is_to_carry place m) place m
+IsOutOfPlace m place = ¬ IsInPlace (is_to_carry place m) place (function_in m) (origin_in m)
 
 -- ---- the table
 
@@ -52,7 +52,7 @@ abbrev pub Fails : List ℕ → Place → ℕ → Check → Type 0
 Fails m place max C1 = IsShort m
 Fails m place max C2 = IsTooLong m max
 Fails m place max C3 = LacksAddressOctets m
-Fails m place max C4 = HasWrongAddresses m place
+Fails m place max C4 = HasWrongAddresses place (function_in m) (origin_in m) (dest_in m)
 Fails m place max C5 = HasReservedFlag m
 Fails m place max C6 = HasUnknownFunction m
 Fails m place max C7 = LacksOptionOctets m

@@ -8,12 +8,23 @@
 //! `bsc_octets` below it, and on `arrayvec` for the octets of a NAK.
 #![tactic(auto)]
 
+mod addresses;
+mod functions;
+mod head;
+mod judging;
+mod nak;
+mod option_checks;
+mod options;
+mod payload;
 mod phase;
 mod place;
+mod refusal;
+mod understood;
 mod verdict;
 
 pub use bsc_frame::{Check, Message};
 pub use bsc_octets::Envelope;
+pub use judging::judge;
 pub use phase::Phase;
 pub use place::Place;
 pub use verdict::Verdict;
