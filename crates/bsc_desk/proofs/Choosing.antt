@@ -5,42 +5,39 @@ use Rattle.std.proofs.lemmas.List.{length-map}
 use Rattle.bsc_octets.specs.declared.identity.Identity.{Identity}
 use Rattle.bsc_octets.specs.declared.device_id.DeviceId.{DeviceId}
 use Rattle.bsc_octets.specs.Addresses.{same_vmac, same_device}
-use Rattle.bsc_history.specs.declared.entry.Entry.{Entry}
+use Rattle.bsc_history.specs.declared.mark.Stamped.{Stamped}
 use Rattle.bsc_history.specs.declared.reply.Reply.TheVariants.{Joined as JoinedReply}
 use Rattle.bsc_history.specs.declared.connection.Connection.{Connection}
-use Rattle.bsc_history.specs.Entries.{stops}
 use Rattle.bsc_history.specs.Ends.{joined, unleft}
 use Rattle.bsc_history.specs.Holders.{of_device}
-use Rattle.bsc_history.specs.Replies.{connect_reply, rival, number_of, is_stopped}
+use Rattle.bsc_history.specs.Marks.{entries}
+use Rattle.bsc_history.specs.Replies.{connect_reply, rival, number_of}
 use Rattle.bsc_desk.specs.declared.row.Row.{Row}
 use Rattle.bsc_desk.specs.declared.desk.Desk.{Desk}
-use Rattle.bsc_desk.specs.Standing.{connection, StandsFor}
-use Rattle.bsc_desk.specs.Inlets.{is_open}
+use Rattle.bsc_desk.specs.Live.{connection, is_open}
+use Rattle.bsc_desk.specs.Standing.{StandsFor}
 use Rattle.bsc_desk.specs.declared.connecting.NewRow.{NewRow}
 use Rattle.bsc_desk.specs.declared.connecting.Choice.{Choice}
 use Rattle.bsc_desk.specs.declared.connecting.Choice.TheVariants.{Refused, Joined}
 use Rattle.bsc_desk.specs.Choices.{first_reply, IfJoined}
-use Rattle.bsc_desk.proofs.Places.{position_any}
 use Rattle.bsc_desk.proofs.Histories.{joined_counted}
-use Rattle.bsc_desk.proofs.LiveRows.{live_found}
-
-pub stopped_so : (d : Desk) (h : List Entry) → StandsFor d h → is_some d.stopped_at ≡ is_stopped h
-stopped_so d h s = ap is_some s.stop_place ∙ position_any stops h
+use Rattle.bsc_desk.proofs.LiveRows.{live_found, stopped_so}
 
 size : (rows : List Row) → length (map connection rows) ≡ length rows
 size rows = simp length-map
 
-pub device_found : (d : Desk) (h : List Entry) (u : DeviceId) → StandsFor d h → option_map connection (find (λ r. is_open r && same_device r.connection.who.device u) d.rows.items) ≡ of_device h u
-device_found d h u s = sym (live_found d h (λ (c : Connection). same_device c.who.device u) s)
+pub device_found : (d : Desk) (S : List Stamped) (u : DeviceId) → StandsFor d S → option_map connection (find (λ r. is_open r && same_device r.connection.who.device u) d.rows.items) ≡ of_device (entries S) u
+device_found d S u s = sym (live_found d S (λ (c : Connection). same_device c.who.device u) s)
 
-pub chosen : (d : Desk) (h : List Entry) (who : Identity) → StandsFor d h → first_reply (is_some d.stopped_at) (same_vmac who.vmac d.about.hub.vmac) (rival who (option_map connection (find (λ r. is_open r && same_vmac r.connection.who.vmac who.vmac) d.rows.items))) (nat_le d.about.limits.rows (length d.rows.items)) d.about.limits.rows (JoinedReply (1 + d.counts.joined) (number_of (option_map connection (find (λ r. is_open r && same_device r.connection.who.device who.device) d.rows.items)))) ≡ connect_reply d.about h who
+pub chosen : (d : Desk) (S : List Stamped) (who : Identity) → StandsFor d S → first_reply (is_some d.stopped_at) (same_vmac who.vmac d.about.hub.vmac) (rival who (option_map connection (find (λ r. is_open r && same_vmac r.connection.who.vmac who.vmac) d.rows.items))) (nat_le d.about.limits.rows (length d.rows.items)) d.about.limits.rows (JoinedReply (1 + d.tally.counts.joined) (number_of (option_map connection (find (λ r. is_open r && same_device r.connection.who.device who.device) d.rows.items)))) ≡ connect_reply d.about (entries S) who
 unfolding connect_reply
-chosen d h who s =
-    let stop = stopped_so d h s in
-    let held = ap (rival who) (live_found d h (λ (c : Connection). same_vmac c.who.vmac who.vmac) s) in
-    let replaced = ap number_of (device_found d h who.device s) in
+chosen d S who s =
+    let h = entries S in
+    let stop = stopped_so d S s in
+    let held = ap (rival who) (live_found d S (λ (c : Connection). same_vmac c.who.vmac who.vmac) s) in
+    let replaced = ap number_of (device_found d S who.device s) in
     let rows : length d.rows.items ≡ length (unleft h) = sym (size d.rows.items) ∙ ap length s.unleft_rows in
-    let count : d.counts.joined ≡ length (joined h) = ap (λ k. k.joined) s.counted ∙ sym (joined_counted d.about h s.legal) in
+    let count : d.tally.counts.joined ≡ length (joined h) = ap (λ k. k.joined) s.counted ∙ sym (joined_counted d.about h s.legal) in
     rw (stop, ← held, replaced, rows, count) refl
 
 -- what holds of a choice to join

@@ -1,78 +1,64 @@
 -- A connect, refused or joined.
-use Rattle.std.proofs.Common.{◌≡◌, ℕ, ◌+◌, ◌≤◌, ◌==◌, inl, inr, Bool, true, false, cond, List, [], ◌∷◌, ◌++◌, length, find, Option, Some, None, is_some, refl, ap, sym, ◌∙◌, subst, arith, add-zero, append-nil}
-use Rattle.std.specs.List.{list_all}
+use Rattle.std.proofs.Common.{◌≡◌, inl, inr, ℕ, suc, ◌+◌, ◌≤◌, ◌<◌, ◌==◌, ◌&&◌, ◌||◌, nat_lt, Bool, true, false, not, cond, List, [], ◌∷◌, ◌++◌, length, map, filter, find, fold, Option, Some, None, is_some, option_to_list, refl, ap, sym, ◌∙◌, subst, arith, append-nil}
+use Rattle.std.specs.List.{list_any, AllByRecursion}
 use Rattle.std.specs.Option.{option_or}
-use Rattle.std.proofs.lemmas.Bool.{le-leb, leb-true, and_from, cases_eq, eq-eqb, ne_eqb}
-use Rattle.std.proofs.lemmas.Option.{same_Some}
-use Rattle.std.proofs.lemmas.List.Folds.{find-append, list_all-append}
+use Rattle.std.proofs.lemmas.Bool.{and_from, cases_eq, eq-eqb, lt-ltb, ne_eqb}
+use Rattle.std.proofs.lemmas.List.{map-append}
+use Rattle.std.proofs.lemmas.List.Folds.{find-append}
+use Rattle.bsc_octets.specs.Addresses.{broadcast, same_vmac, zero_vmac}
 use Rattle.bsc_octets.specs.declared.identity.Identity.{Identity}
-use Rattle.bsc_history.specs.declared.counts.Counts.{Counts}
+use Rattle.bsc_history.specs.declared.limits.About.{About}
+use Rattle.bsc_history.specs.declared.connection.Connection.{Connection}
+use Rattle.bsc_history.specs.declared.ending.End.{End}
 use Rattle.bsc_history.specs.declared.ending.End.TheVariants.{Replaced}
 use Rattle.bsc_history.specs.declared.entry.Entry.{Entry}
+use Rattle.bsc_history.specs.declared.mark.Mark.{Mark}
+use Rattle.bsc_history.specs.declared.mark.Stamped.{Stamped}
 use Rattle.bsc_history.specs.declared.reply.Refusal.{Refusal}
 use Rattle.bsc_history.specs.declared.reply.Reply.{Reply}
 use Rattle.bsc_history.specs.declared.reply.Reply.TheVariants.{Joined as JoinedReply, Refused as RefusedReply}
+use Rattle.bsc_history.specs.Counting.{one_if, plus}
 use Rattle.bsc_history.specs.Entries.{moment}
-use Rattle.bsc_history.specs.Ends.{is_one}
-use Rattle.bsc_history.specs.Counting.{counts_of, plus, one_if}
-use Rattle.bsc_history.specs.Outboxes.{added_by}
-use Rattle.bsc_history.specs.Legality.{Lawful}
-use Rattle.bsc_history.proofs.Lists.{In}
-use Rattle.bsc_desk.specs.declared.row.Row.{Row}
+use Rattle.bsc_history.specs.Ends.{end_by, ended, is_one, joined}
+use Rattle.bsc_history.specs.Legality.{Lawful, Legal}
+use Rattle.bsc_history.specs.Marks.{entries}
+use Rattle.bsc_history.specs.Outboxes.{added_by, looked, sent}
+use Rattle.bsc_history.specs.Replies.{connect_reply}
+use Rattle.bsc_history.proofs.Capacity.{within_capacity}
+use Rattle.bsc_history.proofs.Fresh.{fresh_joins, fresh_sent}
+use Rattle.bsc_history.proofs.Marks.{mark_new}
+use Rattle.bsc_history.proofs.More.{Legal-more, ended-more, entries-more, or_none, sent-more}
+use Rattle.bsc_history.proofs.Uniqueness.{comes, not_joined}
+use Rattle.bsc_ring.specs.Ends.{IsNewInlet, capacity_of, ending_of, inlet_mark, known_taken, loads, pushed}
+use Rattle.bsc_ring.specs.Lists.{newest}
 use Rattle.bsc_desk.specs.declared.desk.Desk.{Desk}
-use Rattle.bsc_desk.specs.Bounds.{entered_at_most}
-use Rattle.bsc_desk.specs.Rows.{IsNewInlet, taken_in}
-use Rattle.bsc_desk.specs.Standing.{connection, IsInletOf, StandsFor}
-use Rattle.bsc_desk.specs.Entries.{connect_entry}
-use Rattle.bsc_desk.specs.Inlets.{is_row, with_inlet, with_end, done_at}
-use Rattle.bsc_desk.proofs.Changes.{has_number, weaker, tests-done, find-keeps}
-use Rattle.bsc_desk.proofs.LiveRows.{changed, done_rows}
-use Rattle.bsc_desk.proofs.Entering.{Enters}
-use Rattle.bsc_desk.proofs.Standing.{Counted, Stays, stands_on, stands_same}
+use Rattle.bsc_desk.specs.declared.row.Row.{Row}
+use Rattle.bsc_desk.specs.Changes.{EachBecomes, Finishes, FinishesIf}
+use Rattle.bsc_desk.specs.Entries.{connect_entry, connect_stamped}
+use Rattle.bsc_desk.specs.Live.{connection, is_row, known_in}
+use Rattle.bsc_desk.specs.Standing.{IsInletOf, StandsFor}
+use Rattle.bsc_desk.specs.Tallies.{no_counts}
+use Rattle.bsc_desk.proofs.Orders.{all-push}
+use Rattle.bsc_desk.proofs.Standings.{Follows, Goes, Keeps, Stays, goes_all, kept, length_entries, stands_more, stands_same}
+use Rattle.bsc_desk.proofs.Walks.{each_connections, each_found, each_weaker, has_number}
 
-stays_connect : (caller : ℕ) (who : Identity) (reply : Reply) → Stays (connect_entry caller who reply)
-stays_connect caller who reply = record { goes_on = refl; stays = λ c. refl }
+pub lawful_connect : (d : Desk) (S : List Stamped) (caller : ℕ) (who : Identity) (reply : Reply) → StandsFor d S → same_vmac who.vmac zero_vmac ≡ false → same_vmac who.vmac broadcast ≡ false → d.tally.made < d.about.limits.calls → reply ≡ connect_reply d.about (entries S) who → Lawful d.about (moment (entries S) (connect_entry caller who reply))
+lawful_connect d S caller who reply p zero all calls says = record {
+  replied = says;
+  named = refl;
+  found = refl;
+  called = and_from (not (same_vmac who.vmac zero_vmac) && not (same_vmac who.vmac broadcast)) (nat_lt (length (entries S)) d.about.limits.calls) (and_from (not (same_vmac who.vmac zero_vmac)) (not (same_vmac who.vmac broadcast)) (ap not zero) (ap not all))
+      (ap (λ (n : ℕ). nat_lt n d.about.limits.calls) (length_entries S ∙ sym p.entered) ∙ lt-ltb d.tally.made d.about.limits.calls calls);
+}
 
 -- a refusal
-
-pub count_refused : (k : Counts) (caller : ℕ) (who : Identity) (refusal : Refusal) → record k { refused = k.refused + 1 } ≡ plus k (counts_of (connect_entry caller who (RefusedReply refusal)))
-count_refused k caller who refusal = λ i. record {
-  joined = sym (add-zero k.joined) i;
-  replaced = sym (add-zero k.replaced) i;
-  refused = k.refused + 1;
-  unicasts = sym (add-zero k.unicasts) i;
-  broadcasts = sym (add-zero k.broadcasts) i;
-  appended = sym (add-zero k.appended) i;
-  dropped = sym (add-zero k.dropped) i;
-  full = sym (add-zero k.full) i;
-  missed = sym (add-zero k.missed) i;
-}
-
-pub stands_refused : (d n : Desk) (H : List Entry) (caller : ℕ) (who : Identity) (refusal : Refusal) → StandsFor d H → Lawful d.about (moment H (connect_entry caller who (RefusedReply refusal))) → n.about ≡ d.about → n.stopped_at ≡ d.stopped_at → n.made ≡ d.made + 1 → n.counts ≡ record d.counts { refused = d.counts.refused + 1 } → n.rows.items ≡ d.rows.items → StandsFor n (H ++ connect_entry caller who (RefusedReply refusal) ∷ [])
+pub stands_refused : (d n : Desk) (S : List Stamped) (caller : ℕ) (who : Identity) (m : Mark) (refusal : Refusal) → StandsFor d S → Lawful d.about (moment (entries S) (connect_entry caller who (RefusedReply refusal))) → n.about ≡ d.about → n.stopped_at ≡ d.stopped_at → n.tally.made ≡ d.tally.made + 1 → n.tally.counts ≡ plus d.tally.counts (record no_counts { refused = 1 }) → n.rows.items ≡ d.rows.items → StandsFor n (S ++ connect_stamped caller who m (RefusedReply refusal) ∷ [])
 unfolding added_by
-stands_refused d n H caller who refusal s lawful about stop made count rows =
-    let e = connect_entry caller who (RefusedReply refusal) in
-    let counted : Counted d n e = record { about = about; stop = stop; made = made; count = count ∙ count_refused d.counts caller who refusal } in
-    stands_same d n H e s lawful (stays_connect caller who (RefusedReply refusal)) counted (record { joins_none = refl; ends_none = λ c. refl; looks_none = refl; adds_nothing = λ c. refl }) rows
+stands_refused d n S caller who m refusal p lawful about stop made count rows =
+    let s = connect_stamped caller who m (RefusedReply refusal) in
+    stands_same d n S s p lawful (record { goes_on = refl; stays = λ c. refl; joins_none = refl }) (record { ends_none = λ c. refl; looks_none = refl; adds_nothing = λ c. refl }) about stop made count rows
 
--- a join
-
-pub count_joined : (k : Counts) (n caller : ℕ) (who : Identity) (conn : ℕ) (replaced : Option ℕ) → n ≡ one_if (is_some replaced) → record k { joined = k.joined + 1; replaced = k.replaced + n } ≡ plus k (counts_of (connect_entry caller who (JoinedReply conn replaced)))
-count_joined k n caller who conn replaced one = λ i. record {
-  joined = k.joined + 1;
-  replaced = k.replaced + one i;
-  refused = sym (add-zero k.refused) i;
-  unicasts = sym (add-zero k.unicasts) i;
-  broadcasts = sym (add-zero k.broadcasts) i;
-  appended = sym (add-zero k.appended) i;
-  dropped = sym (add-zero k.dropped) i;
-  full = sym (add-zero k.full) i;
-  missed = sym (add-zero k.missed) i;
-}
-
-or_none : {A : Type 0} (o : Option A) → option_or o None ≡ o
-or_none None = refl
-or_none (Some x) = refl
+-- a row by a connect, which ends the connection that it replaces
 
 pub eqb_comm : (a b : ℕ) → (a == b) ≡ (b == a)
 eqb_comm a b = elim (cases_eq a b) as (λ w. (a == b) ≡ (b == a)) [ inl e ↦ eq-eqb a b e ∙ sym (eq-eqb b a (sym e)) | inr n ↦ ne_eqb a b n ∙ sym (ne_eqb b a (λ e. n (sym e))) ]
@@ -81,50 +67,99 @@ same_test : (replaced : Option ℕ) (r : Row) → is_row replaced r ≡ is_one r
 same_test None r = refl
 same_test (Some k) r = eqb_comm r.connection.number k
 
-pub stands_joined : (d n : Desk) (H : List Entry) (caller : ℕ) (who : Identity) (conn : ℕ) (replaced : Option ℕ) (new : Row) (k : ℕ) → StandsFor d H → Lawful d.about (moment H (connect_entry caller who (JoinedReply conn replaced))) → n.about ≡ d.about → n.stopped_at ≡ d.stopped_at → n.made ≡ d.made + 1 → k ≡ one_if (is_some replaced) → n.counts ≡ record d.counts { joined = d.counts.joined + 1; replaced = d.counts.replaced + k } → n.rows.items ≡ done_at replaced (with_end Replaced) d.rows.items ++ new ∷ [] → connection new ≡ record { number = conn; caller = caller; who = who } → IsNewInlet new.inlet d.about.limits.outbox → StandsFor n (H ++ connect_entry caller who (JoinedReply conn replaced) ∷ [])
+joined_one : (a : About) (H : List Entry) (caller : ℕ) (who : Identity) (conn : ℕ) (replaced : Option ℕ) (r t : Row) → FinishesIf (is_row replaced r) Replaced r t → Goes a H (connect_entry caller who (JoinedReply conn replaced)) r t
 unfolding added_by
-stands_joined d n H caller who conn replaced new k s lawful about stop made one count rows is fresh =
-    let a = d.about in
+joined_one a H caller who conn replaced r t fin =
     let e = connect_entry caller who (JoinedReply conn replaced) in
-    let f = changed replaced (with_end Replaced) in
-    let counted : Counted d n e = record { about = about; stop = stop; made = made; count = count ∙ count_joined d.counts k caller who conn replaced one } in
-    let each : (r : Row) → In r d.rows.items → IsInletOf a H r.connection.number r.inlet → Enters a H e r.connection.number r.inlet (f r).inlet = λ r m p. (
-    let by : (b : Bool) → is_row replaced r ≡ b → Enters a H e r.connection.number r.inlet (cond b (with_inlet (with_end Replaced) r) r).inlet = λ b. elim b as (λ b. is_row replaced r ≡ b → Enters a H e r.connection.number r.inlet (cond b (with_inlet (with_end Replaced) r) r).inlet) [
-      | true ↦ λ h. record { room = refl; items = sym (append-nil r.inlet.waiting.items); count = refl; end = sym (ap (λ (b : Bool). option_or r.inlet.ending (cond b (Some Replaced) None)) (sym (same_test replaced r) ∙ h)); newest = p.after_look }
-      | false ↦ λ h. record { room = refl; items = sym (append-nil r.inlet.waiting.items); count = refl; end = sym (ap (λ (b : Bool). option_or r.inlet.ending (cond b (Some Replaced) None)) (sym (same_test replaced r) ∙ h) ∙ or_none r.inlet.ending); newest = p.after_look }
+    let c = r.connection.number in
+    let by : (b : Bool) → is_one c replaced ≡ b → FinishesIf b Replaced r t → Goes a H e r t = λ b. elim b as (λ b. is_one c replaced ≡ b → FinishesIf b Replaced r t → Goes a H e r t) [
+      | true ↦ λ h f. (
+        f.same,
+        record {
+          mark = f.pushes.mark;
+          holds = f.pushes.holds;
+          items = f.pushes.items ∙ sym (append-nil (pushed r.inlet));
+          newest_look = ap newest f.pushes.loads;
+          ends = t.tied ∙ f.ends ∙ ap (λ (o : Option End). option_or o (Some Replaced)) (sym r.tied) ∙ sym (ap (λ (b : Bool). option_or (ending_of r.inlet) (cond b (Some Replaced) None)) h);
+        },
+      )
+      | false ↦ λ h f. (
+        ap connection f,
+        record {
+          mark = ap (λ (x : Row). inlet_mark x.inlet) f;
+          holds = ap (λ (x : Row). capacity_of x.inlet) f;
+          items = ap (λ (x : Row). pushed x.inlet) f ∙ sym (append-nil (pushed r.inlet));
+          newest_look = ap (λ (x : Row). newest (loads x.inlet)) f;
+          ends = ap (λ (x : Row). ending_of x.inlet) f ∙ sym (ap (λ (b : Bool). option_or (ending_of r.inlet) (cond b (Some Replaced) None)) h ∙ or_none (ending_of r.inlet));
+        },
+      )
     ] in
-    by (is_row replaced r) refl) in
-    let same : (r : Row) → connection (f r) ≡ connection r = λ r. elim (is_row replaced r) as (λ b. connection (cond b (with_inlet (with_end Replaced) r) r) ≡ connection r) [ true ↦ refl | false ↦ refl ] in
-    stands_on d n H e f (Some new) s lawful (stays_connect caller who (JoinedReply conn replaced)) counted (rows ∙ ap (λ (l : List Row). l ++ new ∷ []) (done_rows d H replaced (with_end Replaced) s)) same (ap Some is) each (λ r q. subst (λ (x : Row). IsNewInlet x.inlet a.limits.outbox) (same_Some new r q) fresh)
+    by (is_one c replaced) refl (subst (λ b. FinishesIf b Replaced r t) (same_test replaced r) fin)
 
--- the numbers that are taken stay
+newest_none : newest [] ≡ 0
+unfolding newest
+newest_none = refl
 
-pub taken_joined : (rows : List Row) (new : Row) (replaced : Option ℕ) (c : ℕ) → new.inlet.taken ≡ 0 → taken_in (find (has_number c) (done_at replaced (with_end Replaced) rows ++ new ∷ [])) ≡ taken_in (find (has_number c) rows)
-taken_joined rows new replaced c zero_taken =
-    let old = done_at replaced (with_end Replaced) rows in
-    let none : (o : Option Row) → taken_in (option_or o (cond (has_number c new) (Some new) None)) ≡ taken_in o = λ o. elim o as (λ o. taken_in (option_or o (cond (has_number c new) (Some new) None)) ≡ taken_in o) [
-      | None ↦ elim (has_number c new) as (λ b. taken_in (cond b (Some new) None) ≡ 0) [ true ↦ zero_taken | false ↦ refl ]
+-- the inlet of the connection that joins
+pub inlet_new : (a : About) (S : List Stamped) (caller : ℕ) (who : Identity) (conn : ℕ) (replaced : Option ℕ) (r : Row) → Legal a (entries S) → Lawful a (moment (entries S) (connect_entry caller who (JoinedReply conn replaced))) → IsNewInlet r.inlet → capacity_of r.inlet ≡ a.limits.outbox → IsInletOf a (S ++ connect_stamped caller who (inlet_mark r.inlet) (JoinedReply conn replaced) ∷ []) conn r.inlet
+unfolding added_by
+inlet_new a S caller who conn replaced r legal lawful new holds =
+    let H = entries S in
+    let s = connect_stamped caller who (inlet_mark r.inlet) (JoinedReply conn replaced) in
+    let e = s.entry in
+    let more = entries-more S s in
+    let x : Connection = record { number = conn; caller = caller; who = who } in
+    let next = (comes a H e x lawful refl).0 in
+    let far : length (joined H) < conn = omega arith in
+    let fresh = fresh_joins a H conn legal far in
+    let quiet : sent a (H ++ e ∷ []) conn ≡ [] = sent-more a H e conn ∙ append-nil (sent a H conn) ∙ fresh_sent a H conn legal far in
+    let ahead = (within_capacity a (H ++ e ∷ []) (Legal-more a H e legal lawful)).not_ahead conn in
+    let nothing : length (sent a (H ++ e ∷ []) conn) ≡ 0 = ap length quiet in
+    let none : looked (H ++ e ∷ []) conn ≡ 0 = omega arith in
+    record {
+      holds = holds;
+      marked = mark_new S s conn fresh (eq-eqb conn conn refl);
+      items = new.0 ∙ sym (ap (λ (G : List Entry). sent a G conn) more ∙ quiet);
+      newest_look = ap newest new.1 ∙ newest_none ∙ sym (ap (λ (G : List Entry). looked G conn) more ∙ none);
+      finished = new.2 ∙ sym (ap (λ (G : List Entry). ended G conn) more ∙ ended-more H e conn ∙ ap (λ (b : Bool). option_or (ended H conn) (cond b (end_by conn e) None)) fresh ∙ ap (λ (w : Option End). option_or w None) (not_joined H conn fresh));
+    }
+
+none_leave : (xs : List Connection) → filter (λ x. not false) xs ≡ xs
+none_leave [] = refl
+none_leave (x ∷ xs) = ap (λ (l : List Connection). x ∷ l) (none_leave xs)
+
+pub stands_joined : (d n : Desk) (S : List Stamped) (caller : ℕ) (who : Identity) (conn : ℕ) (replaced : Option ℕ) (after : List Row) (new : Row) → StandsFor d S → Lawful d.about (moment (entries S) (connect_entry caller who (JoinedReply conn replaced))) → n.about ≡ d.about → n.stopped_at ≡ d.stopped_at → n.tally.made ≡ d.tally.made + 1 → n.tally.counts ≡ plus d.tally.counts (record no_counts { joined = 1; replaced = one_if (is_some replaced) }) → EachBecomes (λ r t. FinishesIf (is_row replaced r) Replaced r t) d.rows.items after → n.rows.items ≡ after ++ new ∷ [] → connection new ≡ record { number = conn; caller = caller; who = who } → IsNewInlet new.inlet → capacity_of new.inlet ≡ d.about.limits.outbox → StandsFor n (S ++ connect_stamped caller who (inlet_mark new.inlet) (JoinedReply conn replaced) ∷ [])
+stands_joined d n S caller who conn replaced after new p lawful about stop made count each rows is fresh holds =
+    let a = d.about in
+    let H = entries S in
+    let s = connect_stamped caller who (inlet_mark new.inlet) (JoinedReply conn replaced) in
+    let R = λ (r t : Row). FinishesIf (is_row replaced r) Replaced r t in
+    let goes = each_weaker R (Goes a H s.entry) d.rows.items after (λ r t f. joined_one a H caller who conn replaced r t f) each in
+    let same = each_connections (Goes a H s.entry) d.rows.items after (λ r t g. g.0) goes in
+    let old = goes_all a S s d.rows.items after (kept d S p) goes in
+    let one = subst (λ k. IsInletOf a (S ++ s ∷ []) k new.inlet) (sym (ap (λ (x : Connection). x.number) is)) (inlet_new a S caller who conn replaced new p.legal lawful fresh holds) in
+    let keeps : Keeps d n s.entry = record {
+      about = about;
+      stop = stop ∙ sym (or_none d.stopped_at);
+      made = made;
+      count = count;
+      rows = ap (map connection) rows ∙ map-append connection after (new ∷ []) ∙ ap (λ (k : Connection). map connection after ++ k ∷ []) is ∙ ap (λ (l : List Connection). l ++ record { number = conn; caller = caller; who = who } ∷ []) (same ∙ sym (none_leave (map connection d.rows.items)));
+    } in
+    stands_more d n S s p lawful keeps (subst (AllByRecursion (λ r. IsInletOf a (S ++ s ∷ []) r.connection.number r.inlet)) (sym rows) (all-push (λ r. IsInletOf a (S ++ s ∷ []) r.connection.number r.inlet) after new old one))
+
+-- what is known of each outbox stays, and of the new one nothing is known
+
+pub known_finish : (b : Bool) (ending : End) (r t : Row) → FinishesIf b ending r t → (t.connection ≡ r.connection) × (known_in (Some t) ≡ known_in (Some r))
+known_finish true ending r t f = (f.same, f.known)
+known_finish false ending r t f = (ap connection f, ap (λ (x : Row). known_taken x.inlet) f)
+
+pub known_joined : (replaced : Option ℕ) (c : ℕ) (rows after : List Row) (new : Row) → EachBecomes (λ r t. FinishesIf (is_row replaced r) Replaced r t) rows after → known_taken new.inlet ≡ 0 → known_in (find (has_number c) (after ++ new ∷ [])) ≡ known_in (find (has_number c) rows)
+known_joined replaced c rows after new each none =
+    let on : (o : Option Row) → known_in (option_or o (cond (has_number c new) (Some new) None)) ≡ known_in o = λ o. elim o as (λ o. known_in (option_or o (cond (has_number c new) (Some new) None)) ≡ known_in o) [
+      | None ↦ elim (has_number c new) as (λ b. known_in (cond b (Some new) None) ≡ 0) [ true ↦ none | false ↦ refl ]
       | Some r ↦ refl
     ] in
-    ap taken_in (find-append (has_number c) old (new ∷ [])) ∙ none (find (has_number c) old) ∙ find-keeps taken_in replaced c (with_end Replaced) rows (λ r. refl)
-
--- the frames that entered are as few as the entries
-
-pub later : (m : ℕ) (r : Row) → entered_at_most m r ≡ true → entered_at_most (m + 1) r ≡ true
-later m r h =
-    let most : r.inlet.taken + length r.inlet.waiting.items ≤ m = leb-true (r.inlet.taken + length r.inlet.waiting.items) m h in
-    le-leb (r.inlet.taken + length r.inlet.waiting.items) (m + 1) (omega arith)
-
-pub entered_later : (m : ℕ) (rows : List Row) → list_all (entered_at_most m) rows ≡ true → list_all (entered_at_most (m + 1)) rows ≡ true
-entered_later m rows h = weaker (entered_at_most m) (entered_at_most (m + 1)) rows (later m) h
-
-pub entered_joined : (m : ℕ) (rows : List Row) (new : Row) (replaced : Option ℕ) → list_all (entered_at_most m) rows ≡ true → new.inlet.taken ≡ 0 → new.inlet.waiting.items ≡ [] → list_all (entered_at_most (m + 1)) (done_at replaced (with_end Replaced) rows ++ new ∷ []) ≡ true
-entered_joined m rows new replaced h taken items =
-    let old = done_at replaced (with_end Replaced) rows in
-    let empty : length new.inlet.waiting.items ≡ 0 = ap length items in
-    let few : entered_at_most (m + 1) new ≡ true = le-leb (new.inlet.taken + length new.inlet.waiting.items) (m + 1) (omega arith) in
-    list_all-append (entered_at_most (m + 1)) old (new ∷ [])
-    ∙ and_from (list_all (entered_at_most (m + 1)) old) (list_all (entered_at_most (m + 1)) (new ∷ [])) (tests-done (entered_at_most m) (entered_at_most (m + 1)) replaced (with_end Replaced) rows (later m) (later m) h) (and_from (entered_at_most (m + 1) new) true few refl)
+    ap known_in (find-append (has_number c) after (new ∷ [])) ∙ on (find (has_number c) after) ∙ each_found known_in (λ r t. FinishesIf (is_row replaced r) Replaced r t) c rows after (λ r t f. known_finish (is_row replaced r) Replaced r t f) each
 
 pub one_at_most : (b : Bool) → one_if b ≤ 1
 one_at_most true = omega arith

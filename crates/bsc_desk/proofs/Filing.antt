@@ -1,6 +1,6 @@
 -- Rows that are filed stay so after each change.
 use Rattle.std.proofs.Common.{◌≡◌, ℕ, ◌+◌, ◌==◌, nat_lt, nat_le, Bool, true, false, not, ◌&&◌, ◌||◌, cond, List, [], ◌∷◌, ◌++◌, length, map, filter, Option, Some, None, is_none, refl, ap, sym, ◌∙◌, subst, arith}
-use Rattle.std.specs.List.{list_all, AllByRecursion}
+use Rattle.std.specs.List.{list_all, position, remove, AllByRecursion}
 use Rattle.std.specs.Option.{option_or}
 use Rattle.std.proofs.lemmas.Bool.{le-leb, leb-true, lt-ltb}
 use Rattle.std.proofs.lemmas.List.{map-append, length-map}
@@ -10,19 +10,16 @@ use Rattle.bsc_history.specs.declared.connection.Connection.{Connection}
 use Rattle.bsc_history.specs.declared.ending.End.{End}
 use Rattle.bsc_history.specs.declared.ending.End.TheVariants.{Replaced}
 use Rattle.bsc_history.specs.Laws.{Apart}
-use Rattle.bsc_desk.specs.declared.outbox.Inlet.{Inlet}
 use Rattle.bsc_desk.specs.declared.row.Row.{Row}
 use Rattle.bsc_desk.specs.declared.directory.Directory.{Directory}
 use Rattle.bsc_desk.specs.Orders.{in_order, same_key, address_of, device_of, filed, sorted_by}
 use Rattle.bsc_desk.specs.Rising.{rises}
-use Rattle.bsc_desk.specs.Inlets.{is_open, is_row, with_inlet, with_frame, with_end, done_at}
-use Rattle.bsc_desk.specs.Receivers.{appends, delivered}
-use Rattle.circular_buffer.specs.Buffer.{buffer}
-use Rattle.bsc_desk.specs.Standing.{connection}
+use Rattle.bsc_desk.specs.Changes.{EachBecomes, FinishesIf}
+use Rattle.bsc_desk.specs.Live.{connection, is_open, is_row, number}
 use Rattle.bsc_desk.specs.Directories.{gives_way, gives_place, AreFiled}
-use Rattle.bsc_desk.proofs.LiveRows.{changed, done_each}
-use Rattle.bsc_desk.proofs.Numbers.{apart}
-use Rattle.bsc_desk.proofs.Orders.{order_true, true_order, order-map, order-push, tests-filter, all_true, true_all, all-map, all-push, all-weaker, all-filter}
+use Rattle.bsc_desk.proofs.Removals.{connections-kept, removed}
+use Rattle.bsc_desk.proofs.Walks.{each_all, each_connections, each_weaker, has_number}
+use Rattle.bsc_desk.proofs.Orders.{InOrder, order_true, true_order, order-map, order-push, tests-filter, all_true, true_all, all-map, all-push, all-weaker, all-filter}
 use Rattle.bsc_desk.proofs.Sorted.{length-sorted, filter-sorted, sorted-push}
 
 pub filed_none : (x : Directory) → x.by_address.items ≡ [] → x.by_device.items ≡ [] → AreFiled [] 0 x
@@ -33,72 +30,72 @@ filed_none x a b = record { rising = refl; counted = refl; one_at = refl; one_of
 pub as_many : (rows : List Row) (joined : ℕ) (x : Directory) → AreFiled rows joined x → (length x.by_address.items ≡ length rows) × (length x.by_device.items ≡ length rows)
 as_many rows joined x s = (ap length s.by_address ∙ length-sorted address_of (map connection rows) ∙ length-map rows connection, ap length s.by_device ∙ length-sorted device_of (map connection rows) ∙ length-map rows connection)
 
--- a change that keeps the connections of rows, and makes none live
+-- rows that keep their connections, and of which none becomes live
 
-same_connections : (f : Row → Row) (rows : List Row) → ((r : Row) → connection (f r) ≡ connection r) → map connection (map f rows) ≡ map connection rows
-same_connections f [] same = refl
-same_connections f (r ∷ rows) same = λ i. same r i ∷ same_connections f rows same i
+abbrev pub StaysFiled : Row → Row → Type 0
+StaysFiled r s = (s.connection ≡ r.connection) × (is_open s ≡ true → is_open r ≡ true)
 
-gives_on : (key : Connection → List ℕ) (f : Row → Row) → ((r : Row) → connection (f r) ≡ connection r) → ((r : Row) → is_open (f r) ≡ true → is_open r ≡ true) → (r s : Row) → gives_way key r s ≡ true → gives_way key (f r) (f s) ≡ true
-gives_on key f same opens r s h =
-    let by : (b : Bool) → is_open (f r) ≡ b → not (b && same_key (key (f r).connection) (key (f s).connection)) ≡ true = λ b. elim b as (λ b. is_open (f r) ≡ b → not (b && same_key (key (f r).connection) (key (f s).connection)) ≡ true) [
-      | true ↦ λ e. ap (λ (c : Connection). not (same_key (key c) (key (f s).connection))) (same r) ∙ ap (λ (c : Connection). not (same_key (key r.connection) (key c))) (same s) ∙ ap (λ (b : Bool). not (b && same_key (key r.connection) (key s.connection))) (sym (opens r e)) ∙ h
+gives_on : (key : Connection → List ℕ) (r s t u : Row) → StaysFiled r t → StaysFiled s u → gives_way key r s ≡ true → gives_way key t u ≡ true
+gives_on key r s t u h g way =
+    let by : (b : Bool) → is_open t ≡ b → not (b && same_key (key t.connection) (key u.connection)) ≡ true = λ b. elim b as (λ b. is_open t ≡ b → not (b && same_key (key t.connection) (key u.connection)) ≡ true) [
+      | true ↦ λ e. ap (λ (c : Connection). not (same_key (key c) (key u.connection))) h.0 ∙ ap (λ (c : Connection). not (same_key (key r.connection) (key c))) g.0 ∙ ap (λ (b : Bool). not (b && same_key (key r.connection) (key s.connection))) (sym (h.1 e)) ∙ way
       | false ↦ λ e. refl
     ] in
-    by (is_open (f r)) refl
+    by (is_open t) refl
 
-tests-map : (t : Row → Row → Bool) (f : Row → Row) (rows : List Row) → ((r s : Row) → t r s ≡ true → t (f r) (f s) ≡ true) → in_order t rows ≡ true → in_order t (map f rows) ≡ true
-tests-map t f rows each h = true_order t (map f rows) (order-map (λ r s. t r s ≡ true) (λ r s. t r s ≡ true) f rows each (order_true t rows h))
+behind : (t : Row → Row → Bool) (r s : Row) (rows after : List Row) → StaysFiled r s → ((r s u v : Row) → StaysFiled r u → StaysFiled s v → t r s ≡ true → t u v ≡ true) → EachBecomes StaysFiled rows after → AllByRecursion (λ y. t r y ≡ true) rows → AllByRecursion (λ y. t s y ≡ true) after
+behind t r s [] [] here on each all = tt
+behind t r s (y ∷ rows) (z ∷ after) here on each all = (on r y s z here each.0 all.0, behind t r s rows after here on each.1 all.1)
+behind t r s rows after here on each all = absurd each
 
-pub filed_changed : (f : Row → Row) (rows : List Row) (joined : ℕ) (x : Directory) → ((r : Row) → connection (f r) ≡ connection r) → ((r : Row) → is_open (f r) ≡ true → is_open r ≡ true) → AreFiled rows joined x → AreFiled (map f rows) joined x
-filed_changed f rows joined x same opens s =
-    let number : (r : Row) → (f r).connection.number ≡ r.connection.number = λ r. ap (λ (c : Connection). c.number) (same r) in
+ordered : (t : Row → Row → Bool) (rows after : List Row) → ((r s u v : Row) → StaysFiled r u → StaysFiled s v → t r s ≡ true → t u v ≡ true) → EachBecomes StaysFiled rows after → InOrder (λ r s. t r s ≡ true) rows → InOrder (λ r s. t r s ≡ true) after
+ordered t [] [] on each order = tt
+ordered t (r ∷ rows) (s ∷ after) on each order = (behind t r s rows after each.0 on each.1 order.0, ordered t rows after on each.1 order.1)
+ordered t rows after on each order = absurd each
+
+in_order_still : (t : Row → Row → Bool) (rows after : List Row) → ((r s u v : Row) → StaysFiled r u → StaysFiled s v → t r s ≡ true → t u v ≡ true) → EachBecomes StaysFiled rows after → in_order t rows ≡ true → in_order t after ≡ true
+in_order_still t rows after on each h = true_order t after (ordered t rows after on each (order_true t rows h))
+
+number_stays : (r s : Row) → StaysFiled r s → s.connection.number ≡ r.connection.number
+number_stays r s h = ap (λ (c : Connection). c.number) h.0
+
+pub filed_each : (rows after : List Row) (joined : ℕ) (x : Directory) → EachBecomes StaysFiled rows after → AreFiled rows joined x → AreFiled after joined x
+filed_each rows after joined x each s =
+    let same = each_connections StaysFiled rows after (λ r t h. h.0) each in
+    let P = λ (r : Row). nat_le r.connection.number joined ≡ true in
     record {
-      rising = tests-map rises f rows (λ r y h. rw (number r, number y) h) s.rising;
-      counted = true_all (λ r. nat_le r.connection.number joined) (map f rows) (all-map (λ r. nat_le r.connection.number joined ≡ true) (λ r. nat_le r.connection.number joined ≡ true) f rows (λ r h. rw (number r) h) (all_true (λ r. nat_le r.connection.number joined) rows s.counted));
-      one_at = tests-map (gives_way address_of) f rows (gives_on address_of f same opens) s.one_at;
-      one_of = tests-map (gives_way device_of) f rows (gives_on device_of f same opens) s.one_of;
-      by_address = s.by_address ∙ ap (sorted_by address_of) (sym (same_connections f rows same));
-      by_device = s.by_device ∙ ap (sorted_by device_of) (sym (same_connections f rows same));
+      rising = in_order_still rises rows after (λ r y u v h g e. rw (number_stays r u h, number_stays y v g) e) each s.rising;
+      counted = true_all (λ r. nat_le r.connection.number joined) after (each_all StaysFiled P P rows after (λ r t p h. rw (number_stays r t h) p) (all_true (λ r. nat_le r.connection.number joined) rows s.counted) each);
+      one_at = in_order_still (gives_way address_of) rows after (gives_on address_of) each s.one_at;
+      one_of = in_order_still (gives_way device_of) rows after (gives_on device_of) each s.one_of;
+      by_address = s.by_address ∙ ap (sorted_by address_of) (sym same);
+      by_device = s.by_device ∙ ap (sorted_by device_of) (sym same);
     }
 
-pub rows_apart : (rows : List Row) → in_order rises rows ≡ true → Apart (λ (c : Connection). c.number) (map connection rows)
-rows_apart rows h = apart rows (order_true rises rows h)
+no_end : (ending : End) (o : Option End) → is_none (option_or o (Some ending)) ≡ true → is_none o ≡ true
+no_end ending None h = cc
+no_end ending (Some e) h = h
 
-changed_same : (conn : Option ℕ) (f : Inlet → Inlet) (r : Row) → connection (changed conn f r) ≡ connection r
-changed_same conn f r = elim (is_row conn r) as (λ b. connection (cond b (with_inlet f r) r) ≡ connection r) [ true ↦ refl | false ↦ refl ]
-
-changed_opens : (conn : Option ℕ) (f : Inlet → Inlet) → ((i : Inlet) → is_none (f i).ending ≡ true → is_none i.ending ≡ true) → (r : Row) → is_open (changed conn f r) ≡ true → is_open r ≡ true
-changed_opens conn f opens r = elim (is_row conn r) as (λ b. is_open (cond b (with_inlet f r) r) ≡ true → is_open r ≡ true) [ true ↦ opens r.inlet | false ↦ λ h. h ]
-
-pub filed_done : (conn : Option ℕ) (f : Inlet → Inlet) (rows : List Row) (joined : ℕ) (x : Directory) → ((i : Inlet) → is_none (f i).ending ≡ true → is_none i.ending ≡ true) → AreFiled rows joined x → AreFiled (done_at conn f rows) joined x
-filed_done conn f rows joined x opens s = subst (λ (l : List Row). AreFiled l joined x) (sym (done_each conn f rows (rows_apart rows s.rising))) (filed_changed (changed conn f) rows joined x (changed_same conn f) (changed_opens conn f opens) s)
-
-pub end_opens : (ending : End) (i : Inlet) → is_none (with_end ending i).ending ≡ true → is_none i.ending ≡ true
-end_opens ending i = elim i.ending as (λ o. is_none (option_or o (Some ending)) ≡ true → is_none o ≡ true) [ None ↦ λ h. refl | Some e ↦ λ h. h ]
+pub finish_files : (b : Bool) (ending : End) (r s : Row) → FinishesIf b ending r s → StaysFiled r s
+finish_files true ending r s h = (h.same, λ e. no_end ending r.ending (sym (ap is_none h.ends) ∙ e))
+finish_files false ending r s h = (ap connection h, λ e. ap is_open (sym h) ∙ e)
 
 -- a connection leaves
 
-connections-kept : (conn : ℕ) (rows : List Row) → map connection (filter (λ r. not (r.connection.number == conn)) rows) ≡ filter (λ c. not (c.number == conn)) (map connection rows)
-connections-kept conn [] = refl
-connections-kept conn (r ∷ rows) =
-    let rest = connections-kept conn rows in
-    let F = filter (λ (x : Row). not (x.connection.number == conn)) rows in
-    let G = filter (λ (c : Connection). not (c.number == conn)) (map connection rows) in
-    elim (not (r.connection.number == conn)) as (λ b. map connection (cond b (r ∷ F) F) ≡ cond b (connection r ∷ G) G) [ true ↦ ap (λ (l : List Connection). connection r ∷ l) rest | false ↦ rest ]
-
-pub filed_left : (conn : ℕ) (rows : List Row) (joined : ℕ) (x y : Directory) → y.by_address.items ≡ filter (λ c. not (c.number == conn)) x.by_address.items → y.by_device.items ≡ filter (λ c. not (c.number == conn)) x.by_device.items → AreFiled rows joined x → AreFiled (filter (λ r. not (r.connection.number == conn)) rows) joined y
-filed_left conn rows joined x y a b s =
+-- rows without one that is taken out
+pub filed_left : (conn i : ℕ) (r : Row) (rows : List Row) (joined : ℕ) (x y : Directory) → position (has_number conn) rows ≡ Some i → Apart number rows → y.by_address.items ≡ filter (λ c. not (c.number == conn)) x.by_address.items → y.by_device.items ≡ filter (λ c. not (c.number == conn)) x.by_device.items → AreFiled rows joined x → AreFiled (remove rows i) joined y
+filed_left conn i r rows joined x y place apart a b s =
     let q = λ (r : Row). not (r.connection.number == conn) in
     let k = λ (c : Connection). not (c.number == conn) in
-    record {
+    let out : remove rows i ≡ filter q rows = removed conn i r rows place apart in
+    subst (λ (l : List Row). AreFiled l joined y) (sym out) (record {
       rising = tests-filter rises q rows s.rising;
       counted = true_all (λ r. nat_le r.connection.number joined) (filter q rows) (all-filter (λ r. nat_le r.connection.number joined ≡ true) q rows (all_true (λ r. nat_le r.connection.number joined) rows s.counted));
       one_at = tests-filter (gives_way address_of) q rows s.one_at;
       one_of = tests-filter (gives_way device_of) q rows s.one_of;
       by_address = a ∙ ap (filter k) s.by_address ∙ filter-sorted address_of k (map connection rows) ∙ ap (sorted_by address_of) (sym (connections-kept conn rows));
       by_device = b ∙ ap (filter k) s.by_device ∙ filter-sorted device_of k (map connection rows) ∙ ap (sorted_by device_of) (sym (connections-kept conn rows));
-    }
+    })
 
 -- a connection joins, in place of the one that it replaces
 
@@ -126,42 +123,22 @@ no_part true false true h = cc
 no_part true false false h = (refl, refl)
 no_part false p q h = (refl, refl)
 
-gives_after : (who : Identity) (replaced : Option ℕ) (new r : Row) → new.connection.who ≡ who → gives_place who replaced r ≡ true → (gives_way address_of (changed replaced (with_end Replaced) r) new ≡ true) × (gives_way device_of (changed replaced (with_end Replaced) r) new ≡ true)
-gives_after who replaced new r is h =
-    let Goal = λ (b : Bool). (gives_way address_of (cond b (with_inlet (with_end Replaced) r) r) new ≡ true) × (gives_way device_of (cond b (with_inlet (with_end Replaced) r) r) new ≡ true) in
-    let ended : is_open (with_inlet (with_end Replaced) r) ≡ false = elim r.inlet.ending as (λ o. is_none (option_or o (Some Replaced)) ≡ false) [ None ↦ refl | Some e ↦ refl ] in
+gives_after : (who : Identity) (replaced : Option ℕ) (new r t : Row) → new.connection.who ≡ who → FinishesIf (is_row replaced r) Replaced r t → gives_place who replaced r ≡ true → (gives_way address_of t new ≡ true) × (gives_way device_of t new ≡ true)
+gives_after who replaced new r t is fin h =
     let at = same_vmac r.connection.who.vmac in
     let of = same_device r.connection.who.device in
-    let by : (b : Bool) → (b || not (is_open r && (at who.vmac || of who.device))) ≡ true → Goal b = λ b. elim b as (λ b. (b || not (is_open r && (at who.vmac || of who.device))) ≡ true → Goal b) [
-      | true ↦ λ e. rw ended (refl, refl)
-      | false ↦ λ e. (let two = no_part (is_open r) (at who.vmac) (of who.device) e in (ap (λ (w : Identity). not (is_open r && at w.vmac)) is ∙ two.0, ap (λ (w : Identity). not (is_open r && of w.device)) is ∙ two.1))
+    let by : (b : Bool) → FinishesIf b Replaced r t → (b || not (is_open r && (at who.vmac || of who.device))) ≡ true → (gives_way address_of t new ≡ true) × (gives_way device_of t new ≡ true) = λ b. elim b as (λ b. FinishesIf b Replaced r t → (b || not (is_open r && (at who.vmac || of who.device))) ≡ true → (gives_way address_of t new ≡ true) × (gives_way device_of t new ≡ true)) [
+      | true ↦ λ f e. (let ended : is_open t ≡ false = ap is_none f.ends ∙ elim r.ending as (λ o. is_none (option_or o (Some Replaced)) ≡ false) [ None ↦ refl | Some e ↦ refl ] in rw ended (refl, refl))
+      | false ↦ λ f e. (let two = no_part (is_open r) (at who.vmac) (of who.device) e in subst (λ (z : Row). (gives_way address_of z new ≡ true) × (gives_way device_of z new ≡ true)) (sym f) (ap (λ (w : Identity). not (is_open r && at w.vmac)) is ∙ two.0, ap (λ (w : Identity). not (is_open r && of w.device)) is ∙ two.1))
     ] in
-    by (is_row replaced r) h
+    by (is_row replaced r) fin h
 
-pub filed_replaced : (rows after : List Row) (joined : ℕ) (x y : Directory) (replaced : Option ℕ) (new : Row) → new.connection.number ≡ 1 + joined → list_all (gives_place new.connection.who replaced) rows ≡ true → after ≡ done_at replaced (with_end Replaced) rows → y.by_address.items ≡ filed address_of x.by_address.items (connection new) → y.by_device.items ≡ filed device_of x.by_device.items (connection new) → AreFiled rows joined x → AreFiled (after ++ new ∷ []) (joined + 1) y
-filed_replaced rows after joined x y replaced new is free same a b s =
+pub filed_replaced : (rows after : List Row) (joined now : ℕ) (x y : Directory) (replaced : Option ℕ) (new : Row) → new.connection.number ≡ 1 + joined → list_all (gives_place new.connection.who replaced) rows ≡ true → EachBecomes (λ r s. FinishesIf (is_row replaced r) Replaced r s) rows after → y.by_address.items ≡ filed address_of x.by_address.items (connection new) → y.by_device.items ≡ filed device_of x.by_device.items (connection new) → AreFiled rows joined x → now ≡ joined + 1 → AreFiled (after ++ new ∷ []) now y
+filed_replaced rows after joined now x y replaced new is free each a b s more =
     let who = new.connection.who in
-    let g = changed replaced (with_end Replaced) in
-    let each = done_each replaced (with_end Replaced) rows (rows_apart rows s.rising) in
+    let R = λ (r s : Row). FinishesIf (is_row replaced r) Replaced r s in
+    let P = λ (r : Row). gives_place who replaced r ≡ true in
     let every = all_true (gives_place who replaced) rows free in
-    let at = all-map (λ r. gives_place who replaced r ≡ true) (λ r. gives_way address_of r new ≡ true) g rows (λ r h. (gives_after who replaced new r refl h).0) every in
-    let of = all-map (λ r. gives_place who replaced r ≡ true) (λ r. gives_way device_of r new ≡ true) g rows (λ r h. (gives_after who replaced new r refl h).1) every in
-    let before = filed_changed g rows joined x (changed_same replaced (with_end Replaced)) (changed_opens replaced (with_end Replaced) (end_opens Replaced)) s in
-    subst (λ (l : List Row). AreFiled (l ++ new ∷ []) (joined + 1) y) (sym (same ∙ each)) (filed_joined (map g rows) joined x y new is at of a b before)
-
--- what the changes of the desk keep
-
-pub frame_opens : (o : List ℕ) (i : Inlet) → is_none (with_frame o i).ending ≡ true → is_none i.ending ≡ true
-frame_opens o i = elim (nat_lt (length i.waiting.items) i.waiting.capacity) as (λ b. is_none (cond b (record i { waiting = buffer (i.waiting.items ++ o ∷ []) i.waiting.capacity }) i).ending ≡ true → is_none i.ending ≡ true) [ true ↦ λ h. h | false ↦ λ h. h ]
-
-pub filed_delivered : (conn : ℕ) (o : List ℕ) (rows : List Row) (joined : ℕ) (x : Directory) → AreFiled rows joined x → AreFiled (map (delivered conn o) rows) joined x
-filed_delivered conn o rows joined x s = filed_changed (delivered conn o) rows joined x (λ r. same r) (λ r. opens r) s
-  where
-    same : (r : Row) → connection (delivered conn o r) ≡ connection r
-    same r = elim (appends conn o r) as (λ b. connection (cond b (with_inlet (with_frame o) r) r) ≡ connection r) [ true ↦ refl | false ↦ refl ]
-
-    opens : (r : Row) → is_open (delivered conn o r) ≡ true → is_open r ≡ true
-    opens r = elim (appends conn o r) as (λ b. is_open (cond b (with_inlet (with_frame o) r) r) ≡ true → is_open r ≡ true) [ true ↦ frame_opens o r.inlet | false ↦ λ h. h ]
-
-pub filed_ended : (ending : End) (rows : List Row) (joined : ℕ) (x : Directory) → AreFiled rows joined x → AreFiled (map (with_inlet (with_end ending)) rows) joined x
-filed_ended ending rows joined x s = filed_changed (with_inlet (with_end ending)) rows joined x (λ r. refl) (λ r. end_opens ending r.inlet) s
+    let at = each_all R P (λ r. gives_way address_of r new ≡ true) rows after (λ r t p h. (gives_after who replaced new r t refl h p).0) every each in
+    let of = each_all R P (λ r. gives_way device_of r new ≡ true) rows after (λ r t p h. (gives_after who replaced new r t refl h p).1) every each in
+    subst (λ (n : ℕ). AreFiled (after ++ new ∷ []) n y) (sym more) (filed_joined after joined x y new is at of a b (filed_each rows after joined x (each_weaker R StaysFiled rows after (λ r t h. finish_files (is_row replaced r) Replaced r t h) each) s))

@@ -1,200 +1,216 @@
--- A unicast that is appended, that finds its holder's outbox full, or that is dropped.
-use Rattle.std.proofs.Common.{◌≡◌, inl, inr, ℕ, ◌+◌, ◌-◌, ◌≤◌, ◌<◌, ◌==◌, nat_lt, Bool, true, false, not, cond, List, [], ◌∷◌, ◌++◌, length, map, find, fold, Option, Some, None, nat_le, refl, ap, sym, ◌∙◌, subst, arith, add-zero, append-nil, length-append, length-drop}
-use Rattle.std.specs.List.{list_all}
-use Rattle.std.specs.Option.{option_or}
-use Rattle.std.proofs.lemmas.Bool.{le-leb, leb-true, lt-ltb}
-use Rattle.circular_buffer.specs.Buffer.{buffer}
-use Rattle.bsc_octets.specs.Forwarding.{is_broadcast, out}
+-- Forwards, of a unicast or of a broadcast.
+use Rattle.std.proofs.Common.{◌≡◌, ℕ, ◌+◌, ◌<◌, ◌^◌, ◌==◌, nat_lt, Bool, true, false, not, ◌&&◌, ◌||◌, cond, List, [], ◌∷◌, ◌++◌, length, map, filter, find, Option, Some, None, is_none, is_some, IsTrue, refl, ap, sym, ◌∙◌, subst, arith}
+use Rattle.std.specs.List.{flat_map, list_any, list_all, AllByRecursion}
+use Rattle.std.proofs.lemmas.Bool.{and_from, lt-ltb}
+use Rattle.std.proofs.lemmas.List.{map-append}
+use Rattle.bsc_octets.specs.Forwarding.{destination, has_route, is_broadcast, out}
+use Rattle.bsc_history.specs.declared.limits.About.{About}
+use Rattle.bsc_history.specs.declared.connection.Connection.{Connection}
 use Rattle.bsc_history.specs.declared.counts.Counts.{Counts}
 use Rattle.bsc_history.specs.declared.ending.End.{End}
-use Rattle.bsc_history.specs.declared.ending.End.TheVariants.{Full}
 use Rattle.bsc_history.specs.declared.entry.Entry.{Entry}
 use Rattle.bsc_history.specs.declared.looks.Look.{Look}
+use Rattle.bsc_history.specs.declared.mark.Stamped.{Stamped}
 use Rattle.bsc_history.specs.declared.reply.Reply.{Reply}
-use Rattle.bsc_history.specs.declared.reply.Reply.TheVariants.{Appended, Closed}
+use Rattle.bsc_history.specs.declared.reply.Reply.TheVariants.{NotCurrent, Stopped}
+use Rattle.bsc_history.specs.Counting.{counts_of, plus}
 use Rattle.bsc_history.specs.Entries.{moment}
-use Rattle.bsc_history.specs.Ends.{end_by}
-use Rattle.bsc_history.specs.Counting.{counts_of, plus, one_if, appended_in, is_closing, missed_in, is_joined, is_replacing, is_refused}
-use Rattle.bsc_history.specs.Outboxes.{newer, looked, added, sent, out_of}
-use Rattle.bsc_history.specs.Legality.{Lawful}
+use Rattle.bsc_history.specs.Ends.{end_by, ended}
+use Rattle.bsc_history.specs.Holders.{holder}
+use Rattle.bsc_history.specs.Legality.{can_find, is_of, Lawful}
 use Rattle.bsc_history.specs.Laws.{names}
-use Rattle.bsc_history.proofs.Lists.{In}
-use Rattle.bsc_history.proofs.More.{Legal-more, sent-more, looked-more}
+use Rattle.bsc_history.specs.Marks.{entries}
+use Rattle.bsc_history.specs.Outboxes.{is_too_long, meant, means, out_of}
+use Rattle.bsc_history.specs.Replies.{broadcast_reply, forward_reply, is_stopped, numbers, unicast_reply, unless_ended}
+use Rattle.bsc_history.proofs.Gains.{sent_short}
 use Rattle.bsc_history.proofs.Named.{adds_as_named}
-use Rattle.bsc_history.proofs.Capacity.{within_capacity}
-use Rattle.bsc_desk.specs.declared.row.Row.{Row}
+use Rattle.bsc_ring.specs.Ends.{pushed}
 use Rattle.bsc_desk.specs.declared.desk.Desk.{Desk}
-use Rattle.bsc_desk.specs.declared.forwarding.OneReply.{OneReply}
-use Rattle.bsc_desk.specs.declared.forwarding.OneReply.TheVariants.{Appended as OneAppended, Closed as OneClosed, Skipped as OneSkipped, NoHolder as OneNoHolder, NotCurrent as OneNotCurrent, Stopped as OneStopped}
-use Rattle.bsc_desk.specs.Bounds.{entered_at_most}
+use Rattle.bsc_desk.specs.declared.fate.Fate.{Fate}
+use Rattle.bsc_desk.specs.declared.fate.Fate.TheVariants.{Unmeant, TooLong, Entered, FoundFull}
+use Rattle.bsc_desk.specs.declared.row.Row.{Row}
+use Rattle.bsc_desk.specs.Entries.{forward_entry, plain, unserved}
+use Rattle.bsc_desk.specs.Fates.{AllBefall, Befalls, FewPushed, is_long_for, looks_in, looks_of}
 use Rattle.bsc_desk.specs.Frames.{Frame}
-use Rattle.bsc_desk.specs.Rows.{IsRowOf, taken_in, taken_of}
-use Rattle.bsc_desk.specs.Standing.{connection, IsInletOf, StandsFor}
-use Rattle.bsc_desk.specs.Inlets.{is_row, with_inlet, with_frame, with_end, done_at}
-use Rattle.bsc_desk.specs.Entries.{one_reply, one_looks, forward_entry}
-use Rattle.bsc_desk.proofs.Changes.{has_number, tests-done, find-keeps}
-use Rattle.bsc_desk.proofs.LiveRows.{changed, done_rows, found_row}
-use Rattle.bsc_desk.proofs.Entering.{Enters, newest_within}
-use Rattle.bsc_desk.proofs.Standing.{Counted, Stays, Quiet, stands_on, stands_same}
-use Rattle.bsc_desk.proofs.Connects.{eqb_comm, later}
-use Rattle.bsc_desk.proofs.Unicasts.{sends}
+use Rattle.bsc_desk.specs.Live.{connection, is_open, number}
+use Rattle.bsc_desk.specs.Rows.{IsRowOf, IsUnserved, end_of}
+use Rattle.bsc_desk.specs.Standing.{IsInletOf, StandsFor}
+use Rattle.bsc_desk.proofs.Fared.{AllFates, Told, can_all, each_fate, goes, more_said}
+use Rattle.bsc_desk.proofs.LiveRows.{address_of_row, by_of, live_rows, owns, stopped_so}
+use Rattle.bsc_desk.proofs.Orders.{all-weaker}
+use Rattle.bsc_desk.proofs.Standings.{Goes, IsKept, kept, length_entries, stands_on, stands_same}
 
-pub stays_forward : (caller conn : ℕ) (m : List ℕ) (looks : List Look) (reply : Reply) → Stays (forward_entry caller conn m looks reply)
-stays_forward caller conn m looks reply = record { goes_on = refl; stays = λ c. refl }
+-- the sender of a frame, by the rows and by the history
+pub record Sends (d : Desk) (S : List Stamped) (caller conn : ℕ) (f : Frame) : Type 0 where
+  pub mine : is_of (entries S) caller conn ≡ true
+  pub ends : end_of d conn ≡ ended (entries S) conn
+  pub passes : out_of (entries S) conn f.message ≡ out f.message f.sender
 
--- counts of a unicast that appends x times and closes z times, and is dropped y times
+pub sends : (d : Desk) (S : List Stamped) (caller conn : ℕ) (f : Frame) → StandsFor d S → IsRowOf d caller conn f.sender → Sends d S caller conn f
+sends d S caller conn f p is =
+    let own = owns d S caller conn p (by_of d caller conn f.sender is) in
+    record {
+      mine = own.mine;
+      ends = own.ends;
+      passes = ap (out f.message) (address_of_row d S caller conn f.sender p is);
+    }
 
-pub count_unicast : (k : Counts) (caller conn : ℕ) (m : List ℕ) (looks : List Look) (reply : Reply) (x y z : ℕ) → is_broadcast m ≡ false → is_joined reply ≡ false → is_replacing reply ≡ false → is_refused reply ≡ false → appended_in reply ≡ x → one_if (appended_in reply == 0) ≡ y → one_if (is_closing reply) ≡ z → missed_in reply ≡ 0 → record k { unicasts = k.unicasts + 1; appended = k.appended + x; dropped = k.dropped + y; full = k.full + z } ≡ plus k (counts_of (forward_entry caller conn m looks reply))
-count_unicast k caller conn m looks reply x y z one j p r a d f w = λ i. record {
-  joined = (sym (add-zero k.joined) ∙ ap (λ (b : Bool). k.joined + one_if b) (sym j)) i;
-  replaced = (sym (add-zero k.replaced) ∙ ap (λ (b : Bool). k.replaced + one_if b) (sym p)) i;
-  refused = (sym (add-zero k.refused) ∙ ap (λ (b : Bool). k.refused + one_if b) (sym r)) i;
-  unicasts = ap (λ (b : Bool). k.unicasts + one_if (not b)) (sym one) i;
-  broadcasts = (sym (add-zero k.broadcasts) ∙ ap (λ (b : Bool). k.broadcasts + one_if b) (sym one)) i;
-  appended = ap (λ (n : ℕ). k.appended + n) (sym a) i;
-  dropped = ap (λ (n : ℕ). k.dropped + n) (sym d) i;
-  full = ap (λ (n : ℕ). k.full + n) (sym f) i;
-  missed = (sym (add-zero k.missed) ∙ ap (λ (n : ℕ). k.missed + n) (sym w)) i;
-}
+may : (d : Desk) (S : List Stamped) (caller conn : ℕ) (f : Frame) → StandsFor d S → IsRowOf d caller conn f.sender → has_route f.message ≡ true → d.tally.made < d.about.limits.calls → (is_of (entries S) caller conn && has_route f.message && nat_lt (length (entries S)) d.about.limits.calls) ≡ true
+may d S caller conn f p is route calls =
+    and_from (is_of (entries S) caller conn && has_route f.message) _ (and_from (is_of (entries S) caller conn) (has_route f.message) (sends d S caller conn f p is).mine route)
+    (ap (λ (n : ℕ). nat_lt n d.about.limits.calls) (length_entries S ∙ sym p.entered) ∙ lt-ltb d.tally.made d.about.limits.calls calls)
 
-or_none : {A : Type 0} (o : Option A) → option_or o None ≡ o
-or_none None = refl
-or_none (Some x) = refl
+-- the hub goes on, and the sender is live
+pub serves : (d : Desk) (S : List Stamped) (caller conn : ℕ) (f : Frame) → StandsFor d S → IsRowOf d caller conn f.sender → d.stopped_at ≡ None → end_of d conn ≡ None → (is_stopped (entries S) ≡ false) × (ended (entries S) conn ≡ None)
+serves d S caller conn f p is on current = (sym (stopped_so d S p) ∙ ap is_some on, sym (sends d S caller conn f p is).ends ∙ current)
 
-none_added : (l : List (List ℕ)) (b : Bool) (o : List ℕ) → b ≡ false → l ≡ l ++ cond b (o ∷ []) []
-none_added l b o h = sym (append-nil l) ∙ ap (λ (b : Bool). l ++ cond b (o ∷ []) []) (sym h)
+-- the reply to a live sender's frame, whose octets are passed on as o
+abbrev pub served : About → List Entry → ℕ → List ℕ → List ℕ → List Look → Reply
+served a H conn m o looks = cond (is_broadcast m) (broadcast_reply a H o looks (meant H conn m)) (unicast_reply a H m o looks (holder H (destination m)))
 
--- a row that was looked at, or wasn't, by one look that found what was taken
-newest_one : (d : Desk) (h : List Entry) (r : Row) (look : Look) → StandsFor d h → In r d.rows.items → IsInletOf d.about h r.connection.number r.inlet → look.taken ≡ taken_of d look.conn → fold (newer r.connection.number) (looked h r.connection.number) (look ∷ []) ≤ r.inlet.taken
-newest_one d h r look s m p found =
-    let c = r.connection.number in
-    newest_within c r.inlet.taken (looked h c) (look ∷ []) p.after_look (λ k mem same. elim mem [
-      | inl is ↦ (
-          let at : taken_of d c ≡ r.inlet.taken = ap taken_in (found_row d h r s m) in
-          let here : k.taken ≡ r.inlet.taken = sym (ap (λ (l : Look). l.taken) is) ∙ found ∙ ap (taken_of d) (ap (λ (l : Look). l.conn) is ∙ same) ∙ at in
-          omega arith)
-      | inr none ↦ absurd none
-    ])
-
--- closed
-
-pub stands_closed : (d n : Desk) (h : List Entry) (caller conn : ℕ) (m : List ℕ) (look : Look) → StandsFor d h → Lawful d.about (moment h (forward_entry caller conn m (look ∷ []) (Closed look.conn))) → is_broadcast m ≡ false → look.taken ≡ taken_of d look.conn → n.about ≡ d.about → n.stopped_at ≡ d.stopped_at → n.made ≡ d.made + 1 → n.counts ≡ record d.counts { unicasts = d.counts.unicasts + 1; dropped = d.counts.dropped + 1; full = d.counts.full + 1 } → n.rows.items ≡ done_at (Some look.conn) (with_end Full) d.rows.items → StandsFor n (h ++ forward_entry caller conn m (look ∷ []) (Closed look.conn) ∷ [])
-stands_closed d n h caller conn m look s lawful one found about stop made count rows =
+pub lawful_served : (d : Desk) (S : List Stamped) (caller conn : ℕ) (f : Frame) (looks : List Look) (reply : Reply) → StandsFor d S → IsRowOf d caller conn f.sender → has_route f.message ≡ true → d.tally.made < d.about.limits.calls → d.stopped_at ≡ None → end_of d conn ≡ None → reply ≡ served d.about (entries S) conn f.message (out f.message f.sender) looks → map (λ k. k.conn) looks ≡ numbers (filter (λ c. not (is_too_long (out f.message f.sender) c)) (meant (entries S) conn f.message)) → list_all (λ k. can_find d.about (entries S) k.conn k.taken) looks ≡ true → Lawful d.about (moment (entries S) (forward_entry caller conn f.message looks reply))
+unfolding forward_reply
+lawful_served d S caller conn f looks reply p is route calls on current says names_so can =
     let a = d.about in
-    let k = look.conn in
-    let e = forward_entry caller conn m (look ∷ []) (Closed k) in
-    let f = changed (Some k) (with_end Full) in
-    let zero_more : (x : ℕ) → x ≡ x + 0 = λ x. sym (add-zero x) in
-    let counts_so : record d.counts { unicasts = d.counts.unicasts + 1; dropped = d.counts.dropped + 1; full = d.counts.full + 1 } ≡ record d.counts { unicasts = d.counts.unicasts + 1; appended = d.counts.appended + 0; dropped = d.counts.dropped + 1; full = d.counts.full + 1 } = ap (λ (x : ℕ). record d.counts { unicasts = d.counts.unicasts + 1; appended = x; dropped = d.counts.dropped + 1; full = d.counts.full + 1 }) (zero_more d.counts.appended) in
-    let counted : Counted d n e = record { about = about; stop = stop; made = made; count = count ∙ counts_so ∙ count_unicast d.counts caller conn m (look ∷ []) (Closed k) 0 1 1 one refl refl refl refl refl refl refl } in
-    let each : (r : Row) → In r d.rows.items → IsInletOf a h r.connection.number r.inlet → Enters a h e r.connection.number r.inlet (f r).inlet = λ r mem p. (
-    let c = r.connection.number in
-    let adds = adds_as_named a h s.legal e conn m c lawful refl in
-    let newest = newest_one d h r look s mem p found in
-    let stays : r.inlet.waiting.items ≡ r.inlet.waiting.items ++ added a (moment h e) (sent a h c) c = sym (append-nil r.inlet.waiting.items) ∙ sym (ap (λ (l : List (List ℕ)). r.inlet.waiting.items ++ l) adds) in
-    let by : (b : Bool) → (c == k) ≡ b → Enters a h e c r.inlet (cond b (with_inlet (with_end Full) r) r).inlet = λ b. elim b as (λ b. (c == k) ≡ b → Enters a h e c r.inlet (cond b (with_inlet (with_end Full) r) r).inlet) [
-      | true ↦ λ g. record { room = refl; items = stays; count = refl; end = sym (ap (λ (b : Bool). option_or r.inlet.ending (cond b (Some Full) None)) (eqb_comm k c ∙ g)); newest = newest }
-      | false ↦ λ g. record { room = refl; items = stays; count = refl; end = sym (ap (λ (b : Bool). option_or r.inlet.ending (cond b (Some Full) None)) (eqb_comm k c ∙ g) ∙ or_none r.inlet.ending); newest = newest }
-    ] in
-    by (c == k) refl) in
-    let same : (r : Row) → connection (f r) ≡ connection r = λ r. elim (is_row (Some k) r) as (λ b. connection (cond b (with_inlet (with_end Full) r) r) ≡ connection r) [ true ↦ refl | false ↦ refl ] in
-    stands_on d n h e f None s lawful (stays_forward caller conn m (look ∷ []) (Closed k)) counted (rows ∙ done_rows d h (Some k) (with_end Full) s ∙ sym (append-nil (map f d.rows.items))) same refl each (λ r is. cc)
+    let H = entries S in
+    let m = f.message in
+    let o = out m f.sender in
+    let two = serves d S caller conn f p is on current in
+    let passes = (sends d S caller conn f p is).passes in
+    let reply_by = λ (b : Bool) (w : Option End) (x : List ℕ). cond b Stopped (unless_ended w (served a H conn m x looks)) in
+    let names_by = λ (b : Bool) (w : Option End) (x : List ℕ). cond (b || not (is_none w)) [] (numbers (filter (λ c. not (is_too_long x c)) (meant H conn m))) in
+    record {
+      replied = says ∙ ap (λ (b : Bool). reply_by b None o) (sym two.0) ∙ ap (λ (w : Option End). reply_by (is_stopped H) w o) (sym two.1) ∙ ap (λ (x : List ℕ). reply_by (is_stopped H) (ended H conn) x) (sym passes);
+      named = names_so ∙ ap (λ (b : Bool). names_by b None o) (sym two.0) ∙ ap (λ (w : Option End). names_by (is_stopped H) w o) (sym two.1) ∙ ap (λ (x : List ℕ). names_by (is_stopped H) (ended H conn) x) (sym passes);
+      found = can;
+      called = may d S caller conn f p is route calls;
+    }
 
--- appended
+-- A frame that goes nowhere, as the hub has stopped or its sender has ended.
+pub lawful_unserved : (d : Desk) (S : List Stamped) (caller conn : ℕ) (f : Frame) (w : Option End) → StandsFor d S → IsRowOf d caller conn f.sender → has_route f.message ≡ true → d.tally.made < d.about.limits.calls → IsUnserved d conn w → Lawful d.about (moment (entries S) (forward_entry caller conn f.message [] (unserved w)))
+unfolding forward_reply
+lawful_unserved d S caller conn f None p is route calls idle =
+    let H = entries S in
+    let m = f.message in
+    let stop : is_stopped H ≡ true = sym (stopped_so d S p) ∙ idle in
+    record {
+      replied = sym (ap (λ (b : Bool). cond b Stopped (unless_ended (ended H conn) (served d.about H conn m (out_of H conn m) []))) stop);
+      named = sym (ap (λ (b : Bool). cond (b || not (is_none (ended H conn))) [] (numbers (filter (λ c. not (is_too_long (out_of H conn m) c)) (meant H conn m)))) stop);
+      found = refl;
+      called = may d S caller conn f p is route calls;
+    }
+lawful_unserved d S caller conn f (Some ending) p is route calls idle =
+    let H = entries S in
+    let m = f.message in
+    let stop : is_stopped H ≡ false = sym (stopped_so d S p) ∙ ap is_some idle.0 in
+    let ends : ended H conn ≡ Some ending = sym (sends d S caller conn f p is).ends ∙ idle.1 in
+    let reply_by = λ (b : Bool) (w : Option End). cond b Stopped (unless_ended w (served d.about H conn m (out_of H conn m) [])) in
+    let names_by = λ (b : Bool) (w : Option End). cond (b || not (is_none w)) [] (numbers (filter (λ c. not (is_too_long (out_of H conn m) c)) (meant H conn m))) in
+    record {
+      replied = sym (ap (λ (b : Bool). reply_by b (ended H conn)) stop ∙ ap (λ (w : Option End). reply_by false w) ends);
+      named = sym (ap (λ (b : Bool). names_by b (ended H conn)) stop ∙ ap (λ (w : Option End). names_by false w) ends);
+      found = refl;
+      called = may d S caller conn f p is route calls;
+    }
 
-pub stands_appended : (d n : Desk) (h : List Entry) (caller conn : ℕ) (frame : Frame) (look : Look) → StandsFor d h → Lawful d.about (moment h (forward_entry caller conn frame.message (look ∷ []) (Appended look.conn))) → IsRowOf d caller conn frame.sender → is_broadcast frame.message ≡ false → look.taken ≡ taken_of d look.conn → n.about ≡ d.about → n.stopped_at ≡ d.stopped_at → n.made ≡ d.made + 1 → n.counts ≡ record d.counts { unicasts = d.counts.unicasts + 1; appended = d.counts.appended + 1 } → n.rows.items ≡ done_at (Some look.conn) (with_frame (out frame.message frame.sender)) d.rows.items → StandsFor n (h ++ forward_entry caller conn frame.message (look ∷ []) (Appended look.conn) ∷ [])
-stands_appended d n h caller conn frame look s lawful is one found about stop made count rows =
-    let a = d.about in
-    let k = look.conn in
-    let m = frame.message in
-    let o = out m frame.sender in
-    let e = forward_entry caller conn m (look ∷ []) (Appended k) in
-    let f = changed (Some k) (with_frame o) in
-    let passes : out_of h conn m ≡ o = ap (out m) (sends d h caller conn frame.sender s is).address in
-    let zero_more : (x : ℕ) → x ≡ x + 0 = λ x. sym (add-zero x) in
-    let counts_so : record d.counts { unicasts = d.counts.unicasts + 1; appended = d.counts.appended + 1 } ≡ record d.counts { unicasts = d.counts.unicasts + 1; appended = d.counts.appended + 1; dropped = d.counts.dropped + 0; full = d.counts.full + 0 } = λ i. record d.counts { unicasts = d.counts.unicasts + 1; appended = d.counts.appended + 1; dropped = zero_more d.counts.dropped i; full = zero_more d.counts.full i } in
-    let counted : Counted d n e = record { about = about; stop = stop; made = made; count = count ∙ counts_so ∙ count_unicast d.counts caller conn m (look ∷ []) (Appended k) 1 0 0 one refl refl refl refl refl refl refl } in
-    let each : (r : Row) → In r d.rows.items → IsInletOf a h r.connection.number r.inlet → Enters a h e r.connection.number r.inlet (f r).inlet = λ r mem p. (
-    let c = r.connection.number in
-    let items = r.inlet.waiting.items in
-    let S = sent a h c in
-    let adds = adds_as_named a h s.legal e conn m c lawful refl in
-    let newest = newest_one d h r look s mem p found in
-    let by : (b : Bool) → (c == k) ≡ b → Enters a h e c r.inlet (cond b (with_inlet (with_frame o) r) r).inlet = λ b. elim b as (λ b. (c == k) ≡ b → Enters a h e c r.inlet (cond b (with_inlet (with_frame o) r) r).inlet) [
-      | true ↦ λ g. (
-          let here : added a (moment h e) S c ≡ o ∷ [] = adds ∙ ap (λ (b : Bool). cond b (out_of h conn m ∷ []) []) (eqb_comm k c ∙ g) ∙ ap (λ (x : List ℕ). x ∷ []) passes in
-          let grown : length (sent a (h ++ e ∷ []) c) ≡ length S + 1 = ap length (sent-more a h e c ∙ ap (λ (l : List (List ℕ)). S ++ l) here) ∙ length-append S (o ∷ []) in
-          let over = (within_capacity a (h ++ e ∷ []) (Legal-more a h e s.legal lawful)).not_over c in
-          let seen = looked-more h e c in
-          let waits : length items ≡ length S - r.inlet.taken = ap length p.waits ∙ length-drop r.inlet.taken S in
-          let within = p.within in
-          let holds = p.holds in
-          let room : length items < r.inlet.waiting.capacity = omega arith in
-          let fits = lt-ltb (length items) r.inlet.waiting.capacity room in
-          let it : with_frame o r.inlet ≡ record r.inlet { waiting = buffer (items ++ o ∷ []) r.inlet.waiting.capacity } = ap (λ (b : Bool). cond b (record r.inlet { waiting = buffer (items ++ o ∷ []) r.inlet.waiting.capacity }) r.inlet) fits in
-          subst (λ j. Enters a h e c r.inlet j) (sym it) (record { room = refl; items = ap (λ (l : List (List ℕ)). items ++ l) (sym here); count = refl; end = sym (or_none r.inlet.ending); newest = newest }))
-      | false ↦ λ g. record { room = refl; items = sym (append-nil items) ∙ sym (ap (λ (l : List (List ℕ)). items ++ l) (adds ∙ ap (λ (b : Bool). cond b (out_of h conn m ∷ []) []) (eqb_comm k c ∙ g))); count = refl; end = sym (or_none r.inlet.ending); newest = newest }
-    ] in
-    by (c == k) refl) in
-    let same : (r : Row) → connection (f r) ≡ connection r = λ r. elim (is_row (Some k) r) as (λ b. connection (cond b (with_inlet (with_frame o) r) r) ≡ connection r) [ true ↦ refl | false ↦ refl ] in
-    stands_on d n h e f None s lawful (stays_forward caller conn m (look ∷ []) (Appended k)) counted (rows ∙ done_rows d h (Some k) (with_frame o) s ∙ sym (append-nil (map f d.rows.items))) same refl each (λ r is. cc)
+none_named : (w : Option End) (c : ℕ) → names c (unserved w) ≡ false
+none_named None c = refl
+none_named (Some e) c = refl
 
--- dropped without a look
-
-pub record Drops (reply : Reply) : Type 0 where
-  pub joins : is_joined reply ≡ false
-  pub replaces : is_replacing reply ≡ false
-  pub refuses : is_refused reply ≡ false
-  pub appends : appended_in reply ≡ 0
-  pub closes : is_closing reply ≡ false
-  pub misses : missed_in reply ≡ 0
-  pub names_none : (c : ℕ) → names c reply ≡ false
-  pub ends_none : (c : ℕ) (caller conn : ℕ) (m : List ℕ) → end_by c (forward_entry caller conn m [] reply) ≡ None
-
-drops : (reply : OneReply) → one_looks reply ≡ [] → Drops (one_reply reply)
-drops (OneAppended look) none = cc
-drops (OneClosed look) none = cc
-drops (OneSkipped conn) none = record { joins = refl; replaces = refl; refuses = refl; appends = refl; closes = refl; misses = refl; names_none = λ c. refl; ends_none = λ c caller k m. refl }
-drops OneNoHolder none = record { joins = refl; replaces = refl; refuses = refl; appends = refl; closes = refl; misses = refl; names_none = λ c. refl; ends_none = λ c caller k m. refl }
-drops (OneNotCurrent ending) none = record { joins = refl; replaces = refl; refuses = refl; appends = refl; closes = refl; misses = refl; names_none = λ c. refl; ends_none = λ c caller k m. refl }
-drops OneStopped none = record { joins = refl; replaces = refl; refuses = refl; appends = refl; closes = refl; misses = refl; names_none = λ c. refl; ends_none = λ c caller k m. refl }
-
-pub stands_dropped : (d n : Desk) (h : List Entry) (caller conn : ℕ) (m : List ℕ) (reply : OneReply) → StandsFor d h → Lawful d.about (moment h (forward_entry caller conn m [] (one_reply reply))) → one_looks reply ≡ [] → is_broadcast m ≡ false → n.about ≡ d.about → n.stopped_at ≡ d.stopped_at → n.made ≡ d.made + 1 → n.counts ≡ record d.counts { unicasts = d.counts.unicasts + 1; dropped = d.counts.dropped + 1 } → n.rows.items ≡ d.rows.items → StandsFor n (h ++ forward_entry caller conn m [] (one_reply reply) ∷ [])
-stands_dropped d n h caller conn m reply s lawful none one about stop made count rows =
-    let a = d.about in
-    let r = one_reply reply in
-    let e = forward_entry caller conn m [] r in
-    let x = drops reply none in
-    let zero_more : (x : ℕ) → x ≡ x + 0 = λ x. sym (add-zero x) in
-    let counts_so : record d.counts { unicasts = d.counts.unicasts + 1; dropped = d.counts.dropped + 1 } ≡ record d.counts { unicasts = d.counts.unicasts + 1; appended = d.counts.appended + 0; dropped = d.counts.dropped + 1; full = d.counts.full + 0 } = λ i. record d.counts { unicasts = d.counts.unicasts + 1; appended = zero_more d.counts.appended i; dropped = d.counts.dropped + 1; full = zero_more d.counts.full i } in
-    let counted : Counted d n e = record { about = about; stop = stop; made = made; count = count ∙ counts_so ∙ count_unicast d.counts caller conn m [] r 0 1 0 one x.joins x.replaces x.refuses x.appends (ap (λ (n : ℕ). one_if (n == 0)) x.appends) (ap one_if x.closes) x.misses } in
-    let quiet : Quiet a h e = record {
-      joins_none = refl;
-      ends_none = λ c. x.ends_none c caller conn m;
+pub stands_unserved : (d n : Desk) (S : List Stamped) (caller conn : ℕ) (f : Frame) (w : Option End) → StandsFor d S → IsRowOf d caller conn f.sender → has_route f.message ≡ true → d.tally.made < d.about.limits.calls → IsUnserved d conn w → n.about ≡ d.about → n.stopped_at ≡ d.stopped_at → n.tally.made ≡ d.tally.made + 1 → n.tally.counts ≡ plus d.tally.counts (counts_of (forward_entry caller conn f.message [] (unserved w))) → n.rows.items ≡ d.rows.items → StandsFor n (S ++ plain (forward_entry caller conn f.message [] (unserved w)) ∷ [])
+stands_unserved d n S caller conn f w p is route calls idle about stop made count rows =
+    let H = entries S in
+    let e = forward_entry caller conn f.message [] (unserved w) in
+    let lawful = lawful_unserved d S caller conn f w p is route calls idle in
+    stands_same d n S (plain e) p lawful (record { goes_on = refl; stays = λ c. refl; joins_none = refl }) (record {
+      ends_none = λ c. ends_nobody w c;
       looks_none = refl;
-      adds_nothing = λ c. adds_as_named a h s.legal e conn m c lawful refl ∙ ap (λ (b : Bool). cond b (out_of h conn m ∷ []) []) (x.names_none c);
-    } in
-    stands_same d n h e s lawful (stays_forward caller conn m [] r) counted quiet rows
+      adds_nothing = λ c. adds_as_named d.about H p.legal e conn f.message c lawful refl ∙ ap (λ (b : Bool). cond b (out_of H conn f.message ∷ []) []) (none_named w c);
+    }) about stop made count rows
+  where
+    ends_nobody : (w : Option End) (c : ℕ) → end_by c (forward_entry caller conn f.message [] (unserved w)) ≡ None
+    ends_nobody None c = refl
+    ends_nobody (Some e) c = refl
 
--- the numbers that are taken stay, and the frames that entered are as few as the entries
+-- A frame that went through the rows makes its one entry.
+pub stands_sent : (d n : Desk) (S : List Stamped) (caller conn : ℕ) (f : Frame) (looks : List Look) (reply : Reply) (t : Row → Bool) (full : Option End) (fates : List Fate) → StandsFor d S → IsRowOf d caller conn f.sender → Lawful d.about (moment (entries S) (forward_entry caller conn f.message looks reply)) → ((r : Row) → t r ≡ true → is_open r ≡ true) → AllBefall t full (out f.message f.sender) d.rows.items fates n.rows.items → AllFates (λ r x. Told full reply looks (number r) x) d.rows.items fates → n.about ≡ d.about → n.stopped_at ≡ d.stopped_at → n.tally.made ≡ d.tally.made + 1 → n.tally.counts ≡ plus d.tally.counts (counts_of (forward_entry caller conn f.message looks reply)) → StandsFor n (S ++ plain (forward_entry caller conn f.message looks reply) ∷ [])
+stands_sent d n S caller conn f looks reply t full fates p is lawful opens all told about stop made count =
+    let a = d.about in
+    let H = entries S in
+    let o = out f.message f.sender in
+    let e = forward_entry caller conn f.message looks reply in
+    let passes = (sends d S caller conn f p is).passes in
+    let adds = λ (c : ℕ). adds_as_named a H p.legal e conn f.message c lawful refl ∙ ap (λ (x : List ℕ). cond (names c reply) (x ∷ []) []) passes in
+    let each = each_fate t full o (Goes a H e) (λ r x. Told full reply looks (number r) x) (IsKept a S) d.rows.items fates n.rows.items (λ r x s k says h. goes a S caller conn f.message looks reply t full o opens r x s (adds (number r)) says h) (kept d S p) told all in
+    stands_on d n S (plain e) p lawful (record { goes_on = refl; stays = λ c. refl; joins_none = refl }) about stop made count each
 
-pub taken_ended : (rows : List Row) (conn c : ℕ) (ending : End) → taken_in (find (has_number c) (done_at (Some conn) (with_end ending) rows)) ≡ taken_in (find (has_number c) rows)
-taken_ended rows conn c ending = find-keeps taken_in (Some conn) c (with_end ending) rows (λ r. refl)
+-- the connections that a frame means, of those that pass a test
 
-pub taken_pushed : (rows : List Row) (conn c : ℕ) (o : List ℕ) → taken_in (find (has_number c) (done_at (Some conn) (with_frame o) rows)) ≡ taken_in (find (has_number c) rows)
-taken_pushed rows conn c o = find-keeps taken_in (Some conn) c (with_frame o) rows (λ r. elim (nat_lt (length r.inlet.waiting.items) r.inlet.waiting.capacity) as (λ b. (cond b (record r.inlet { waiting = buffer (r.inlet.waiting.items ++ o ∷ []) r.inlet.waiting.capacity }) r.inlet).taken ≡ r.inlet.taken) [ true ↦ refl | false ↦ refl ])
+abbrev pub picked : (Connection → Bool) → (Connection → Bool) → List Row → List ℕ
+picked q p rows = numbers (filter p (filter q (map connection (filter is_open rows))))
 
-pub entered_ended : (m : ℕ) (rows : List Row) (conn : ℕ) (ending : End) → list_all (entered_at_most m) rows ≡ true → list_all (entered_at_most (m + 1)) (done_at (Some conn) (with_end ending) rows) ≡ true
-entered_ended m rows conn ending h = tests-done (entered_at_most m) (entered_at_most (m + 1)) (Some conn) (with_end ending) rows (later m) (later m) h
-
-pub one_more : (m : ℕ) (o : List ℕ) (r : Row) → entered_at_most m r ≡ true → entered_at_most (m + 1) (with_inlet (with_frame o) r) ≡ true
-one_more m o r h =
-    let items = r.inlet.waiting.items in
-    let most : r.inlet.taken + length items ≤ m = leb-true (r.inlet.taken + length items) m h in
-    elim (nat_lt (length items) r.inlet.waiting.capacity) as (λ b. nat_le ((cond b (record r.inlet { waiting = buffer (items ++ o ∷ []) r.inlet.waiting.capacity }) r.inlet).taken + length (cond b (record r.inlet { waiting = buffer (items ++ o ∷ []) r.inlet.waiting.capacity }) r.inlet).waiting.items) (m + 1) ≡ true) [
-      | true ↦ le-leb (r.inlet.taken + length (items ++ o ∷ [])) (m + 1) (omega (arith, length-append items (o ∷ [])))
-      | false ↦ le-leb (r.inlet.taken + length items) (m + 1) (omega arith)
+picked-cons : (q p : Connection → Bool) (r : Row) (rows : List Row) → picked q p (r ∷ rows) ≡ cond ((is_open r && q (connection r)) && p (connection r)) (number r ∷ picked q p rows) (picked q p rows)
+picked-cons q p r rows =
+    let c = connection r in
+    let O = filter is_open rows in
+    let Q = filter q (map connection O) in
+    let P = filter p Q in
+    elim (is_open r) as (λ b. numbers (filter p (filter q (map connection (cond b (r ∷ O) O)))) ≡ cond ((b && q c) && p c) (number r ∷ numbers P) (numbers P)) [
+      | true ↦ elim (q c) as (λ b. numbers (filter p (cond b (c ∷ Q) Q)) ≡ cond (b && p c) (number r ∷ numbers P) (numbers P)) [
+        | true ↦ elim (p c) as (λ b. numbers (cond b (c ∷ P) P) ≡ cond b (number r ∷ numbers P) (numbers P)) [ true ↦ refl | false ↦ refl ]
+        | false ↦ refl
+      ]
+      | false ↦ refl
     ]
 
-pub entered_pushed : (m : ℕ) (rows : List Row) (conn : ℕ) (o : List ℕ) → list_all (entered_at_most m) rows ≡ true → list_all (entered_at_most (m + 1)) (done_at (Some conn) (with_frame o) rows) ≡ true
-entered_pushed m rows conn o h = tests-done (entered_at_most m) (entered_at_most (m + 1)) (Some conn) (with_frame o) rows (one_more m o) (later m) h
+-- what fates add to a list is what a test picks, where it is so row by row
+pub picks : (q p : Connection → Bool) (f : Fate → List ℕ) (rows : List Row) (fates : List Fate) → AllFates (λ r x. f x ≡ cond ((is_open r && q (connection r)) && p (connection r)) (number r ∷ []) []) rows fates → flat_map f fates ≡ picked q p rows
+picks q p f [] [] all = refl
+picks q p f (r ∷ rows) (x ∷ fates) all =
+    let rest = picks q p f rows fates all.1 in
+    ap (λ (l : List ℕ). l ++ flat_map f fates) all.0
+    ∙ elim ((is_open r && q (connection r)) && p (connection r)) as (λ b. cond b (number r ∷ []) [] ++ flat_map f fates ≡ cond b (number r ∷ picked q p rows) (picked q p rows)) [ true ↦ ap (λ (l : List ℕ). number r ∷ l) rest | false ↦ rest ]
+    ∙ sym (picked-cons q p r rows)
+picks q p f rows fates all = absurd all
+
+pub conns_of : (fates : List Fate) → map (λ k. k.conn) (looks_of fates) ≡ flat_map (λ x. map (λ (k : Look). k.conn) (looks_in x)) fates
+conns_of [] = refl
+conns_of (x ∷ fates) = map-append (λ (k : Look). k.conn) (looks_in x) (looks_of fates) ∙ ap (λ (l : List ℕ). map (λ (k : Look). k.conn) (looks_in x) ++ l) (conns_of fates)
+
+-- the looks are at those that the frame means and isn't too long for
+look_one : (q : Connection → Bool) (full : Option End) (o : List ℕ) (r : Row) (x : Fate) (s : Row) → Befalls (λ r. is_open r && q (connection r)) full o r x s → map (λ (k : Look). k.conn) (looks_in x) ≡ cond ((is_open r && q (connection r)) && not (is_too_long o (connection r))) (number r ∷ []) []
+look_one q full o r Unmeant s h = sym (ap (λ (b : Bool). cond (b && not (is_too_long o (connection r))) (number r ∷ []) []) h.0)
+look_one q full o r (TooLong c) s h = sym (ap (λ (b : Bool). cond (b && not (is_too_long o (connection r))) (number r ∷ []) []) h.0 ∙ ap (λ (b : Bool). cond (not b) (number r ∷ []) []) h.1.0)
+look_one q full o r (Entered k) s h = ap (λ (n : ℕ). n ∷ []) h.1.0.conn ∙ sym (ap (λ (b : Bool). cond (b && not (is_too_long o (connection r))) (number r ∷ []) []) h.0 ∙ ap (λ (b : Bool). cond (not b) (number r ∷ []) []) h.1.0.fits)
+look_one q full o r (FoundFull k) s h = ap (λ (n : ℕ). n ∷ []) h.1.0.conn ∙ sym (ap (λ (b : Bool). cond (b && not (is_too_long o (connection r))) (number r ∷ []) []) h.0 ∙ ap (λ (b : Bool). cond (not b) (number r ∷ []) []) h.1.0.fits)
+
+no_facts : (rows : List Row) (fates : List Fate) (after : List Row) (t : Row → Bool) (full : Option End) (o : List ℕ) → AllBefall t full o rows fates after → AllFates (λ r x. true ≡ true) rows fates
+no_facts [] [] [] t full o h = tt
+no_facts (r ∷ rows) (x ∷ fates) (s ∷ after) t full o h = (refl, no_facts rows fates after t full o h.1)
+no_facts rows fates after t full o h = absurd h
+
+pub looks_named : (d : Desk) (S : List Stamped) (conn : ℕ) (m o : List ℕ) (full : Option End) (fates : List Fate) (after : List Row) → StandsFor d S → AllBefall (λ r. is_open r && means m conn (connection r)) full o d.rows.items fates after → map (λ k. k.conn) (looks_of fates) ≡ numbers (filter (λ c. not (is_too_long o c)) (meant (entries S) conn m))
+looks_named d S conn m o full fates after p h =
+    let q = means m conn in
+    let t = λ (r : Row). is_open r && q (connection r) in
+    let f = λ (x : Fate). map (λ (k : Look). k.conn) (looks_in x) in
+    let U = λ (r : Row) (x : Fate). f x ≡ cond (t r && not (is_too_long o (connection r))) (number r ∷ []) [] in
+    conns_of fates
+    ∙ picks q (λ c. not (is_too_long o c)) f d.rows.items fates (more_said t full o (IsKept d.about S) (λ r x. true ≡ true) U d.rows.items fates after (λ r x s k y z. look_one q full o r x s z) (kept d S p) (no_facts d.rows.items fates after t full o h) h)
+    ∙ ap (λ (l : List Connection). numbers (filter (λ c. not (is_too_long o c)) (filter q l))) (sym (live_rows d S p))
+
+-- a push more is possible at each ring
+pub few_pushed : (d : Desk) (S : List Stamped) → StandsFor d S → FewPushed d.rows.items
+few_pushed d S p = all-weaker (λ r. IsInletOf d.about S r.connection.number r.inlet) (λ r. length (pushed r.inlet) < 2 ^ 63) d.rows.items (λ r i.
+    let short = sent_short d.about (entries S) r.connection.number in
+    let same = ap length i.items in
+    let len = length_entries S in
+    let made = p.entered in
+    let few = d.few_calls in
+    let rows = d.in_range.few_rows in
+    let calls = d.in_range.few_calls in
+    omega arith) p.inlets
+
+pub none_if : {A : Type 0} (o : Option A) → is_some o ≡ false → o ≡ None
+none_if None h = refl
+none_if (Some x) h = cc

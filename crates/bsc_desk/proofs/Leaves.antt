@@ -1,240 +1,184 @@
 -- A leave, a stop and a count.
-use Rattle.std.proofs.Common.{◌≡◌, ◌≢◌, inl, inr, ℕ, suc, ◌+◌, ◌≤◌, ◌<◌, ◌==◌, ◌||◌, arith, nat_lt, Bool, true, false, not, ◌&&◌, cond, List, [], ◌∷◌, ◌++◌, length, map, filter, find, Option, Some, None, unwrap_or, is_some, refl, ap, sym, ◌∙◌, subst, add-zero, append-nil}
-use Rattle.std.specs.List.{list_any, list_all}
+use Rattle.std.proofs.Common.{◌≡◌, ◌≢◌, inl, inr, ℕ, ◌+◌, ◌≤◌, ◌<◌, ◌==◌, nat_lt, Bool, true, false, not, ◌&&◌, cond, List, [], ◌∷◌, ◌++◌, length, map, filter, find, get_or, take, Option, Some, None, unwrap_or, is_some, refl, ap, sym, ◌∙◌, subst, arith, append-nil, length-append}
+use Rattle.std.specs.List.{list_any, position, remove, AllByRecursion}
 use Rattle.std.specs.Option.{option_or}
-use Rattle.std.proofs.lemmas.Bool.{and_parts, and_from, or_cases, or_left, or_right, eqb-true, ne_eqb, not-true, lt-ltb}
+use Rattle.std.proofs.Math.Seq.{take-append_seam}
+use Rattle.std.proofs.lemmas.Bool.{and_from, eqb-true, le-leb, lt-ltb, ne_eqb}
+use Rattle.std.proofs.lemmas.List.Quantifiers.{position-Some}
 use Rattle.bsc_history.specs.declared.counts.Counts.{Counts}
+use Rattle.bsc_history.specs.declared.connection.Connection.{Connection}
 use Rattle.bsc_history.specs.declared.ending.End.{End}
 use Rattle.bsc_history.specs.declared.ending.End.TheVariants.{Left, Stopped}
 use Rattle.bsc_history.specs.declared.entry.Entry.{Entry}
+use Rattle.bsc_history.specs.declared.mark.Mark.{Mark}
+use Rattle.bsc_history.specs.declared.mark.Stamped.{Stamped}
 use Rattle.bsc_history.specs.declared.reply.Reply.TheVariants.{Gone as GoneReply, Counted as CountedReply}
-use Rattle.bsc_history.specs.declared.connection.Connection.{Connection}
-use Rattle.bsc_history.specs.Entries.{moment}
-use Rattle.bsc_history.specs.Ends.{ended, unleft}
 use Rattle.bsc_history.specs.Counting.{plus}
-use Rattle.bsc_history.specs.Outboxes.{added_by}
-use Rattle.bsc_history.specs.Replies.{is_stopped}
+use Rattle.bsc_history.specs.Entries.{moment}
+use Rattle.bsc_history.specs.Ends.{ended}
+use Rattle.bsc_history.specs.Laws.{Apart}
 use Rattle.bsc_history.specs.Legality.{can_find, is_of, Lawful}
-use Rattle.bsc_history.proofs.Lists.{In}
+use Rattle.bsc_history.specs.Marks.{entries}
+use Rattle.bsc_history.specs.Outboxes.{added_by, looked, sent}
+use Rattle.bsc_history.specs.Replies.{is_stopped}
+use Rattle.bsc_history.proofs.More.{or_none}
+use Rattle.bsc_ring.specs.declared.ends.Inlet.{Inlet}
+use Rattle.bsc_ring.specs.declared.ends.Outlet.{Outlet}
+use Rattle.bsc_ring.specs.Ends.{FoundEnd, Fit, given, inlet_mark, outlet_mark, pushed}
+use Rattle.bsc_ring.specs.Lists.{Item, newest}
+use Rattle.bsc_desk.specs.declared.desk.Desk.{Desk}
 use Rattle.bsc_desk.specs.declared.leaving.Gone.{Gone}
 use Rattle.bsc_desk.specs.declared.row.Row.{Row}
-use Rattle.bsc_desk.specs.declared.desk.Desk.{Desk}
-use Rattle.bsc_desk.specs.Bounds.{entered_at_most}
-use Rattle.bsc_desk.specs.Rows.{IsRowBy, taken_in, waiting_in, ending_in, taken_of, ending_of}
-use Rattle.bsc_desk.specs.Standing.{connection, IsInletOf, StandsFor}
-use Rattle.bsc_desk.specs.Inlets.{with_inlet, with_end}
-use Rattle.bsc_desk.specs.Entries.{leave_entry, stop_entry, count_entry}
-use Rattle.bsc_desk.proofs.Changes.{has_number}
-use Rattle.bsc_desk.proofs.Choosing.{stopped_so}
-use Rattle.bsc_desk.proofs.Connects.{eqb_comm, later}
-use Rattle.bsc_desk.proofs.Entering.{Enters}
-use Rattle.bsc_desk.proofs.Found.{found}
-use Rattle.bsc_desk.proofs.Standing.{Counted, Keeps, Quiet, Stays, In-map, none_leaves, stands_more, stands_same}
-use Rattle.bsc_desk.proofs.Unicasts.{Has, has_row, any_In, looks_right}
+use Rattle.bsc_desk.specs.Changes.{EachBecomes, FinishesIf}
+use Rattle.bsc_desk.specs.Entries.{count_entry, leave_entry, plain, stop_entry}
+use Rattle.bsc_desk.specs.Live.{connection, number}
+use Rattle.bsc_desk.specs.Meetings.{IsOutletOf}
+use Rattle.bsc_desk.specs.Rows.{IsMarkOf, IsRowBy}
+use Rattle.bsc_desk.specs.Standing.{IsInletOf, StandsFor}
+use Rattle.bsc_desk.specs.Tallies.{no_counts}
+use Rattle.bsc_desk.proofs.Connects.{eqb_comm}
+use Rattle.bsc_desk.proofs.LiveRows.{owns, stopped_so}
+use Rattle.bsc_desk.proofs.Orders.{all-filter}
+use Rattle.bsc_desk.proofs.Removals.{connections-kept, removed}
+use Rattle.bsc_desk.proofs.Standings.{Follows, Goes, IsKept, Keeps, Quiet, Stays, follows_same, goes_all, goes_one, kept, length_entries, rows_apart, stands_more, stands_same}
+use Rattle.bsc_desk.proofs.Walks.{all_at, each_connections, each_weaker, has_number}
 
-abbrev no_counts : Counts
-no_counts = record { joined = 0; replaced = 0; refused = 0; unicasts = 0; broadcasts = 0; appended = 0; dropped = 0; full = 0; missed = 0 }
+-- the row at the place of a connection
 
-count_none : (k : Counts) → k ≡ plus k no_counts
-count_none k = λ i. record {
-  joined = sym (add-zero k.joined) i;
-  replaced = sym (add-zero k.replaced) i;
-  refused = sym (add-zero k.refused) i;
-  unicasts = sym (add-zero k.unicasts) i;
-  broadcasts = sym (add-zero k.broadcasts) i;
-  appended = sym (add-zero k.appended) i;
-  dropped = sym (add-zero k.dropped) i;
-  full = sym (add-zero k.full) i;
-  missed = sym (add-zero k.missed) i;
-}
+module _ (d : Desk) (conn i : ℕ) (r : Row) (there : position (has_number conn) d.rows.items ≡ Some i) (at : r ≡ get_or d.rows.items i r) where
+  pub of_conn : r.connection.number ≡ conn
+  of_conn = eqb-true r.connection.number conn (subst (λ z. (z.connection.number == conn) ≡ true) (sym at) (position-Some (has_number conn) d.rows.items i r there).1)
 
-or_none : {A : Type 0} (o : Option A) → option_or o None ≡ o
-or_none None = refl
-or_none (Some x) = refl
+  pub inlet_at : (S : List Stamped) → StandsFor d S → IsInletOf d.about S conn r.inlet
+  inlet_at S p = subst (λ k. IsInletOf d.about S k r.inlet) of_conn (all_at (λ x. IsInletOf d.about S x.connection.number x.inlet) d.rows.items i r (position-Some (has_number conn) d.rows.items i r there).0 at p.inlets)
 
--- a leave
+  pub mark_at : (o : Outlet) → IsMarkOf d conn (outlet_mark o) → inlet_mark r.inlet ≡ outlet_mark o
+  mark_at o marks = all_at (λ x. x.connection.number ≡ conn → inlet_mark x.inlet ≡ outlet_mark o) d.rows.items i r (position-Some (has_number conn) d.rows.items i r there).0 at marks of_conn
 
--- the connection has a row, and is the caller's own
-pub record Owns (d : Desk) (h : List Entry) (caller conn : ℕ) : Type 0 where
-  pub has : (r : Row) × Has d h conn r
-  pub mine : is_of h caller conn ≡ true
+  -- what the outlet gave, by what was pushed
+  pub outlet_fits : (S : List Stamped) (o : Outlet) → StandsFor d S → Fit r.inlet o → IsOutletOf d.about (entries S) conn o
+  outlet_fits S o p fit =
+      let its = inlet_at S p in
+      record {
+        begins = (fit.0.0, sym its.items ∙ fit.0.1);
+        behind = subst (λ n. n ≤ length (given o)) its.newest_look fit.1;
+        ends = λ e found. sym its.finished ∙ fit.2 e found;
+      }
 
-pub owns : (d : Desk) (h : List Entry) (caller conn : ℕ) → StandsFor d h → IsRowBy d caller conn → Owns d h caller conn
-owns d h caller conn s is =
-    let r = found (λ (r : Row). (r.connection.number == conn) && (r.connection.caller == caller)) d.rows.items is in
-    let one = and_parts (r.0.connection.number == conn) (r.0.connection.caller == caller) r.1.passes in
-    let same : r.0.connection.number ≡ conn = eqb-true r.0.connection.number conn one.0 in
-    let member = subst (In (connection r.0)) s.unleft_rows (In-map r.0 d.rows.items r.1.among) in
-    record {
-      has = subst (λ k. (x : Row) × Has d h k x) same (has_row d h r.0 s r.1.among);
-      mine = any_In (λ (x : Connection). (x.number == conn) && (x.caller == caller)) (connection r.0) (unleft h) member r.1.passes;
-    }
+pub given_first : (d : Desk) (S : List Stamped) (conn t : ℕ) (o : Outlet) → IsOutletOf d.about (entries S) conn o → t ≡ length (given o) → given o ≡ take t (sent d.about (entries S) conn)
+given_first d S conn t o is count =
+    let rest = is.begins.0 in
+    sym (ap (λ (l : List Item). take t l) is.begins.1 ∙ ap (λ k. take k (given o ++ rest)) count ∙ take-append_seam (given o) rest)
 
-pub lawful_leave : (d : Desk) (h : List Entry) (caller conn empties : ℕ) (g : Gone) → StandsFor d h → IsRowBy d caller conn → g.ending ≡ unwrap_or (ending_of d conn) Left → g.taken ≡ taken_of d conn → Lawful d.about (moment h (leave_entry caller conn empties g))
-lawful_leave d h caller conn empties g s is ending taken =
+pub lawful_leave : (d : Desk) (S : List Stamped) (caller conn empties : ℕ) (r : Row) (o : Outlet) (g : Gone) → StandsFor d S → IsRowBy d caller conn → IsInletOf d.about S conn r.inlet → IsOutletOf d.about (entries S) conn o → g.ending ≡ unwrap_or r.ending Left → g.taken ≡ length (given o) → Lawful d.about (moment (entries S) (leave_entry caller conn empties g))
+lawful_leave d S caller conn empties r o g p is its out ending taken =
     let a = d.about in
-    let own = owns d h caller conn s is in
-    let ends : ending_of d conn ≡ ended h conn = ap ending_in own.has.1.finds ∙ own.has.1.inlet.finished in
+    let H = entries S in
+    let own = owns d S caller conn p is in
+    let low : looked H conn ≤ g.taken = (let k = out.behind in omega arith) in
+    let whole = ap length out.begins.1 ∙ length-append (given o) out.begins.0 in
+    let high : g.taken ≤ length (sent a H conn) = omega arith in
     record {
-      replied = ap (λ (w : End). GoneReply w g.taken) (ending ∙ ap (λ (o : Option End). unwrap_or o Left) ends);
+      replied = ap (λ (w : End). GoneReply w g.taken) (ending ∙ ap (λ (w : Option End). unwrap_or w Left) (sym r.tied ∙ its.finished));
       named = refl;
       found = refl;
-      called = and_from (is_of h caller conn) (can_find a h conn g.taken) own.mine (ap (can_find a h conn) taken ∙ (looks_right d h conn own.has.0 own.has.1).can);
+      called = and_from (is_of H caller conn) (can_find a H conn g.taken) own.mine (and_from _ _ (le-leb (looked H conn) g.taken low) (le-leb g.taken (length (sent a H conn)) high));
     }
 
--- rows without one connection
-
-kept_rows : (conn : ℕ) (rows : List Row) → filter (λ r. not (r.connection.number == conn)) rows ≡ filter (λ r. not (conn == r.connection.number)) (map (λ (r : Row). r) rows) ++ []
-kept_rows conn [] = refl
-kept_rows conn (r ∷ rows) =
-    let rest = kept_rows conn rows in
-    let A = filter (λ (x : Row). not (x.connection.number == conn)) rows in
-    let B = filter (λ (x : Row). not (conn == x.connection.number)) (map (λ (x : Row). x) rows) in
-    ap (λ (b : Bool). cond (not b) (r ∷ A) A) (eqb_comm r.connection.number conn)
-    ∙ elim (conn == r.connection.number) as (λ b. cond (not b) (r ∷ A) A ≡ cond (not b) (r ∷ B) B ++ []) [ true ↦ rest | false ↦ ap (λ (l : List Row). r ∷ l) rest ]
-
-pub find_gone : (conn : ℕ) (rows : List Row) → find (has_number conn) (filter (λ r. not (r.connection.number == conn)) rows) ≡ None
-find_gone conn [] = refl
-find_gone conn (r ∷ rows) =
-    let rest = find_gone conn rows in
-    let A = filter (λ (x : Row). not (x.connection.number == conn)) rows in
-    let by : (b : Bool) → (r.connection.number == conn) ≡ b → find (has_number conn) (cond (not b) (r ∷ A) A) ≡ None = λ b. elim b as (λ b. (r.connection.number == conn) ≡ b → find (has_number conn) (cond (not b) (r ∷ A) A) ≡ None) [ true ↦ λ e. rest | false ↦ λ e. rw e rest ] in
-    by (r.connection.number == conn) refl
-
-pub find_kept : (conn k : ℕ) (rows : List Row) → k ≢ conn → find (has_number k) (filter (λ r. not (r.connection.number == conn)) rows) ≡ find (has_number k) rows
-find_kept conn k [] other = refl
-find_kept conn k (r ∷ rows) other =
-    let rest = find_kept conn k rows other in
-    let A = filter (λ (x : Row). not (x.connection.number == conn)) rows in
-    let Goal = λ (b : Bool). find (has_number k) (cond (not b) (r ∷ A) A) ≡ cond (r.connection.number == k) (Some r) (find (has_number k) rows) in
-    let by : (b : Bool) → (r.connection.number == conn) ≡ b → Goal b = λ b. elim b as (λ b. (r.connection.number == conn) ≡ b → Goal b) [
-      | true ↦ λ e. (let no : (r.connection.number == k) ≡ false = ne_eqb r.connection.number k (λ same. other (sym same ∙ eqb-true r.connection.number conn e)) in rw no rest)
-      | false ↦ λ e. ap (λ (o : Option Row). cond (r.connection.number == k) (Some r) o) rest
+-- the rows that stay
+left_all : (d : Desk) (S : List Stamped) (caller conn empties : ℕ) (g : Gone) (rows : List Row) → AllByRecursion (IsKept d.about S) rows → AllByRecursion (λ r. IsInletOf d.about (S ++ plain (leave_entry caller conn empties g) ∷ []) r.connection.number r.inlet) (filter (λ r. not (r.connection.number == conn)) rows)
+unfolding added_by
+left_all d S caller conn empties g [] all = tt
+left_all d S caller conn empties g (r ∷ rows) all =
+    let a = d.about in
+    let s = plain (leave_entry caller conn empties g) in
+    let Q = λ (x : Row). IsInletOf a (S ++ s ∷ []) x.connection.number x.inlet in
+    let F = filter (λ (x : Row). not (x.connection.number == conn)) rows in
+    let rest = left_all d S caller conn empties g rows all.1 in
+    let by : (b : Bool) → (r.connection.number == conn) ≡ b → AllByRecursion Q (cond (not b) (r ∷ F) F) = λ b. elim b as (λ b. (r.connection.number == conn) ≡ b → AllByRecursion Q (cond (not b) (r ∷ F) F)) [
+      | true ↦ λ e. rest
+      | false ↦ λ e. (goes_one a S s r r all.0 (refl, follows_same a (entries S) s.entry r.connection.number r.inlet refl (λ n. refl) (ap (λ (b : Bool). option_or (cond b (Some Left) None) None) (eqb_comm conn r.connection.number ∙ e))), rest)
     ] in
     by (r.connection.number == conn) refl
 
-pub all_kept : (m conn : ℕ) (rows : List Row) → list_all (entered_at_most m) rows ≡ true → list_all (entered_at_most (m + 1)) (filter (λ r. not (r.connection.number == conn)) rows) ≡ true
-all_kept m conn [] all = refl
-all_kept m conn (r ∷ rows) all =
-    let two = and_parts (entered_at_most m r) (list_all (entered_at_most m) rows) all in
-    let rest = all_kept m conn rows two.1 in
-    let A = filter (λ (x : Row). not (x.connection.number == conn)) rows in
-    elim (r.connection.number == conn) as (λ b. list_all (entered_at_most (m + 1)) (cond (not b) (r ∷ A) A) ≡ true) [ true ↦ rest | false ↦ and_from (entered_at_most (m + 1) r) (list_all (entered_at_most (m + 1)) A) (later m r two.0) rest ]
+commuted : (conn : ℕ) (xs : List Connection) → filter (λ c. not (c.number == conn)) xs ≡ filter (λ c. not (conn == c.number)) xs ++ []
+commuted conn [] = refl
+commuted conn (x ∷ xs) =
+    let A = filter (λ (c : Connection). not (c.number == conn)) xs in
+    let B = filter (λ (c : Connection). not (conn == c.number)) xs in
+    ap (λ (b : Bool). cond (not b) (x ∷ A) A) (eqb_comm x.number conn)
+    ∙ elim (conn == x.number) as (λ b. cond (not b) (x ∷ A) A ≡ cond (not b) (x ∷ B) B ++ []) [ true ↦ commuted conn xs | false ↦ ap (λ (l : List Connection). x ∷ l) (commuted conn xs) ]
 
-fewer_or_same : (conn : ℕ) (rows : List Row) → length (filter (λ r. not (r.connection.number == conn)) rows) ≤ length rows
-fewer_or_same conn [] = omega arith
-fewer_or_same conn (r ∷ rows) =
-    let rest = fewer_or_same conn rows in
-    let A = filter (λ (x : Row). not (x.connection.number == conn)) rows in
-    elim (r.connection.number == conn) as (λ b. length (cond (not b) (r ∷ A) A) ≤ suc (length rows)) [ true ↦ omega arith | false ↦ omega arith ]
-
--- a row goes where the connection has one
-pub fewer : (conn : ℕ) (rows : List Row) → list_any (has_number conn) rows ≡ true → length (filter (λ r. not (r.connection.number == conn)) rows) < length rows
-fewer conn [] any = cc
-fewer conn (r ∷ rows) any =
-    let most = fewer_or_same conn rows in
-    let A = filter (λ (x : Row). not (x.connection.number == conn)) rows in
-    let by : (b : Bool) → (b || list_any (has_number conn) rows) ≡ true → length (cond (not b) (r ∷ A) A) < suc (length rows) = λ b. elim b as (λ b. (b || list_any (has_number conn) rows) ≡ true → length (cond (not b) (r ∷ A) A) < suc (length rows)) [ true ↦ λ e. omega arith | false ↦ λ e. (let rest = fewer conn rows e in omega arith) ] in
-    by (r.connection.number == conn) any
-
--- the row of a caller is a row
-pub has_row_by : (caller conn : ℕ) (rows : List Row) → list_any (λ r. (r.connection.number == conn) && (r.connection.caller == caller)) rows ≡ true → list_any (has_number conn) rows ≡ true
-has_row_by caller conn [] any = any
-has_row_by caller conn (r ∷ rows) any =
-    elim (or_cases ((r.connection.number == conn) && (r.connection.caller == caller)) (list_any (λ (x : Row). (x.connection.number == conn) && (x.connection.caller == caller)) rows) any) [
-      | inl here ↦ or_left (has_number conn r) (list_any (has_number conn) rows) (and_parts (r.connection.number == conn) (r.connection.caller == caller) here).0
-      | inr after ↦ or_right (has_number conn r) (list_any (has_number conn) rows) (has_row_by caller conn rows after)
-    ]
-
-pub stands_left : (d n : Desk) (h : List Entry) (caller conn empties : ℕ) (g : Gone) → StandsFor d h → Lawful d.about (moment h (leave_entry caller conn empties g)) → n.about ≡ d.about → n.stopped_at ≡ d.stopped_at → n.made ≡ d.made + 1 → n.counts ≡ d.counts → n.rows.items ≡ filter (λ r. not (r.connection.number == conn)) d.rows.items → StandsFor n (h ++ leave_entry caller conn empties g ∷ [])
-unfolding added_by
-stands_left d n h caller conn empties g s lawful about stop made count rows =
-    let a = d.about in
-    let e = leave_entry caller conn empties g in
-    let keeps : Keeps d n e (λ (r : Row). r) None = record {
+pub stands_left : (d n : Desk) (S : List Stamped) (caller conn empties i : ℕ) (r : Row) (g : Gone) → StandsFor d S → Lawful d.about (moment (entries S) (leave_entry caller conn empties g)) → position (has_number conn) d.rows.items ≡ Some i → n.about ≡ d.about → n.stopped_at ≡ d.stopped_at → n.tally.made ≡ d.tally.made + 1 → n.tally.counts ≡ plus d.tally.counts no_counts → n.rows.items ≡ remove d.rows.items i → StandsFor n (S ++ plain (leave_entry caller conn empties g) ∷ [])
+stands_left d n S caller conn empties i r g p lawful there about stop made count rows =
+    let s = plain (leave_entry caller conn empties g) in
+    let out = rows ∙ removed conn i r d.rows.items there (rows_apart d S p) in
+    let keeps : Keeps d n s.entry = record {
       about = about;
       stop = stop ∙ sym (or_none d.stopped_at);
       made = made;
-      count = count ∙ count_none d.counts;
-      rows = rows ∙ kept_rows conn d.rows.items;
+      count = count;
+      rows = ap (map connection) out ∙ connections-kept conn d.rows.items ∙ commuted conn (map connection d.rows.items);
     } in
-    let each : (r : Row) → In r d.rows.items → IsInletOf a h r.connection.number r.inlet → not (conn == r.connection.number) ≡ true → Enters a h e r.connection.number r.inlet r.inlet = λ r m p stays. (
-    let other = not-true (conn == r.connection.number) stays in
-    record {
-      room = refl;
-      items = sym (append-nil r.inlet.waiting.items);
-      count = refl;
-      end = sym (ap (λ (b : Bool). option_or r.inlet.ending (option_or (cond b (Some Left) None) None)) other ∙ or_none r.inlet.ending);
-      newest = p.after_look;
-    }) in
-    stands_more d n h e (λ (r : Row). r) None s lawful keeps (λ r. refl) refl each (λ r is. cc)
+    stands_more d n S s p lawful keeps (subst (AllByRecursion (λ r. IsInletOf d.about (S ++ s ∷ []) r.connection.number r.inlet)) (sym out) (left_all d S caller conn empties g d.rows.items (kept d S p)))
 
 -- a stop
 
-pub lawful_stop : (d : Desk) (h : List Entry) (caller : ℕ) → StandsFor d h → d.stopped_at ≡ None → Lawful d.about (moment h (stop_entry caller d.counts))
-lawful_stop d h caller s none = record {
-  replied = ap CountedReply s.counted;
+pub lawful_stop : (d : Desk) (S : List Stamped) (caller : ℕ) → StandsFor d S → d.stopped_at ≡ None → Lawful d.about (moment (entries S) (stop_entry caller d.tally.counts))
+lawful_stop d S caller p none = record {
+  replied = ap CountedReply p.counted;
   named = refl;
   found = refl;
-  called = ap not (sym (stopped_so d h s) ∙ ap is_some none);
+  called = ap not (sym (stopped_so d S p) ∙ ap is_some none);
 }
 
-pub stands_stopped : (d n : Desk) (h : List Entry) (caller : ℕ) → StandsFor d h → d.stopped_at ≡ None → n.about ≡ d.about → n.stopped_at ≡ Some d.made → n.made ≡ d.made + 1 → n.counts ≡ d.counts → n.rows.items ≡ map (with_inlet (with_end Stopped)) d.rows.items → StandsFor n (h ++ stop_entry caller d.counts ∷ [])
+stop_one : (d : Desk) (H : List Entry) (caller : ℕ) (k : Counts) (r t : Row) → FinishesIf true Stopped r t → Goes d.about H (stop_entry caller k) r t
 unfolding added_by
-stands_stopped d n h caller s none about stop made count rows =
-    let a = d.about in
-    let e = stop_entry caller d.counts in
-    let f = with_inlet (with_end Stopped) in
-    let keeps : Keeps d n e f None = record {
+stop_one d H caller k r t f = (
+  f.same,
+  record {
+    mark = f.pushes.mark;
+    holds = f.pushes.holds;
+    items = f.pushes.items ∙ sym (append-nil (pushed r.inlet));
+    newest_look = ap newest f.pushes.loads;
+    ends = t.tied ∙ f.ends ∙ ap (λ (o : Option End). option_or o (Some Stopped)) (sym r.tied);
+  },
+)
+
+pub stands_stopped : (d n : Desk) (S : List Stamped) (caller : ℕ) → StandsFor d S → d.stopped_at ≡ None → n.about ≡ d.about → n.stopped_at ≡ Some d.tally.made → n.tally.made ≡ d.tally.made + 1 → n.tally.counts ≡ plus d.tally.counts no_counts → EachBecomes (λ r t. FinishesIf true Stopped r t) d.rows.items n.rows.items → StandsFor n (S ++ plain (stop_entry caller d.tally.counts) ∷ [])
+stands_stopped d n S caller p none about stop made count each =
+    let s = plain (stop_entry caller d.tally.counts) in
+    let goes = each_weaker (λ r t. FinishesIf true Stopped r t) (Goes d.about (entries S) s.entry) d.rows.items n.rows.items (stop_one d (entries S) caller d.tally.counts) each in
+    let keeps : Keeps d n s.entry = record {
       about = about;
-      stop = stop ∙ sym (ap (λ (o : Option ℕ). option_or o (Some d.made)) none);
+      stop = stop ∙ sym (ap (λ (o : Option ℕ). option_or o (Some d.tally.made)) none);
       made = made;
-      count = count ∙ count_none d.counts;
-      rows = rows ∙ sym (ap (λ (l : List Row). l ++ []) (none_leaves e (map f d.rows.items) (λ c. refl)) ∙ append-nil (map f d.rows.items));
+      count = count;
+      rows = each_connections (Goes d.about (entries S) s.entry) d.rows.items n.rows.items (λ r t g. g.0) goes ∙ sym (append-nil _ ∙ none_leave (map connection d.rows.items));
     } in
-    let each : (r : Row) → In r d.rows.items → IsInletOf a h r.connection.number r.inlet → true ≡ true → Enters a h e r.connection.number r.inlet (f r).inlet = λ r m p stays. record {
-      room = refl;
-      items = sym (append-nil r.inlet.waiting.items);
-      count = refl;
-      end = refl;
-      newest = p.after_look;
-    } in
-    stands_more d n h e f None s (lawful_stop d h caller s none) keeps (λ r. refl) refl each (λ r is. cc)
-
-pub stopped_before : (d : Desk) (h : List Entry) (place : ℕ) → StandsFor d h → d.stopped_at ≡ Some place → is_stopped h ≡ true
-stopped_before d h place s at = sym (stopped_so d h s) ∙ ap is_some at
-
-pub never_stopped : (d : Desk) (h : List Entry) → StandsFor d h → d.stopped_at ≡ None → is_stopped h ≡ false
-never_stopped d h s none = sym (stopped_so d h s) ∙ ap is_some none
-
-pub taken_stopped : (k : ℕ) (rows : List Row) (ending : End) → taken_in (find (has_number k) (map (with_inlet (with_end ending)) rows)) ≡ taken_in (find (has_number k) rows)
-taken_stopped k [] ending = refl
-taken_stopped k (r ∷ rows) ending = elim (r.connection.number == k) as (λ b. taken_in (cond b (Some (with_inlet (with_end ending) r)) (find (has_number k) (map (with_inlet (with_end ending)) rows))) ≡ taken_in (cond b (Some r) (find (has_number k) rows))) [ true ↦ refl | false ↦ taken_stopped k rows ending ]
-
-pub waiting_stopped : (k : ℕ) (rows : List Row) (ending : End) → waiting_in (find (has_number k) (map (with_inlet (with_end ending)) rows)) ≡ waiting_in (find (has_number k) rows)
-waiting_stopped k [] ending = refl
-waiting_stopped k (r ∷ rows) ending = elim (r.connection.number == k) as (λ b. waiting_in (cond b (Some (with_inlet (with_end ending) r)) (find (has_number k) (map (with_inlet (with_end ending)) rows))) ≡ waiting_in (cond b (Some r) (find (has_number k) rows))) [ true ↦ refl | false ↦ waiting_stopped k rows ending ]
-
-pub entered_stopped : (m : ℕ) (rows : List Row) (ending : End) → list_all (entered_at_most m) rows ≡ true → list_all (entered_at_most (m + 1)) (map (with_inlet (with_end ending)) rows) ≡ true
-entered_stopped m [] ending all = refl
-entered_stopped m (r ∷ rows) ending all =
-    let two = and_parts (entered_at_most m r) (list_all (entered_at_most m) rows) all in
-    and_from (entered_at_most (m + 1) r) (list_all (entered_at_most (m + 1)) (map (with_inlet (with_end ending)) rows)) (later m r two.0) (entered_stopped m rows ending two.1)
+    stands_more d n S s p (lawful_stop d S caller p none) keeps (goes_all d.about S s d.rows.items n.rows.items (kept d S p) goes)
+  where
+    none_leave : (xs : List Connection) → filter (λ x. not false) xs ≡ xs
+    none_leave [] = refl
+    none_leave (x ∷ xs) = ap (λ (l : List Connection). x ∷ l) (none_leave xs)
 
 -- a count
 
-pub stands_counted : (d n : Desk) (h : List Entry) (caller : ℕ) → StandsFor d h → d.made < d.about.limits.calls → n.about ≡ d.about → n.stopped_at ≡ d.stopped_at → n.made ≡ d.made + 1 → n.counts ≡ d.counts → n.rows.items ≡ d.rows.items → StandsFor n (h ++ count_entry caller d.counts ∷ [])
+pub lawful_count : (d : Desk) (S : List Stamped) (caller : ℕ) → StandsFor d S → d.tally.made < d.about.limits.calls → Lawful d.about (moment (entries S) (count_entry caller d.tally.counts))
+lawful_count d S caller p calls = record {
+  replied = ap CountedReply p.counted;
+  named = refl;
+  found = refl;
+  called = ap (λ (n : ℕ). nat_lt n d.about.limits.calls) (length_entries S ∙ sym p.entered) ∙ lt-ltb d.tally.made d.about.limits.calls calls;
+}
+
+pub stands_counted : (d n : Desk) (S : List Stamped) (caller : ℕ) → StandsFor d S → d.tally.made < d.about.limits.calls → n.about ≡ d.about → n.stopped_at ≡ d.stopped_at → n.tally.made ≡ d.tally.made + 1 → n.tally.counts ≡ plus d.tally.counts no_counts → n.rows.items ≡ d.rows.items → StandsFor n (S ++ plain (count_entry caller d.tally.counts) ∷ [])
 unfolding added_by
-stands_counted d n h caller s calls about stop made count rows =
-    let a = d.about in
-    let e = count_entry caller d.counts in
-    let lawful : Lawful a (moment h e) = record {
-      replied = ap CountedReply s.counted;
-      named = refl;
-      found = refl;
-      called = ap (λ (k : ℕ). nat_lt k a.limits.calls) (sym s.entered) ∙ lt-ltb d.made a.limits.calls calls;
-    } in
-    let still : Stays e = record { goes_on = refl; stays = λ c. refl } in
-    let counted : Counted d n e = record { about = about; stop = stop; made = made; count = count ∙ count_none d.counts } in
-    let quiet : Quiet a h e = record { joins_none = refl; ends_none = λ c. refl; looks_none = refl; adds_nothing = λ c. refl } in
-    stands_same d n h e s lawful still counted quiet rows
+stands_counted d n S caller p calls about stop made count rows =
+    stands_same d n S (plain (count_entry caller d.tally.counts)) p (lawful_count d S caller p calls) (record { goes_on = refl; stays = λ c. refl; joins_none = refl }) (record { ends_none = λ c. refl; looks_none = refl; adds_nothing = λ c. refl }) about stop made count rows
+
+pub stopped_before : (d : Desk) (S : List Stamped) (place : ℕ) → StandsFor d S → d.stopped_at ≡ Some place → is_stopped (entries S) ≡ true
+stopped_before d S place p at = sym (stopped_so d S p) ∙ ap is_some at
+
+pub never_stopped : (d : Desk) (S : List Stamped) → StandsFor d S → d.stopped_at ≡ None → is_stopped (entries S) ≡ false
+never_stopped d S p none = sym (stopped_so d S p) ∙ ap is_some none

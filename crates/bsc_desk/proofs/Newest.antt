@@ -1,25 +1,28 @@
 -- The newest row of some octets is the one that may be live.
-use Rattle.std.proofs.Common.{◌≡◌, inl, inr, ℕ, Bool, true, false, not, ◌&&◌, ◌||◌, cond, List, [], ◌∷◌, map, find, Option, Some, None, refl, ap, sym, ◌∙◌, subst}
-use Rattle.std.specs.List.{list_all, AllByRecursion}
+use Rattle.std.proofs.Common.{◌≡◌, ◌≢◌, ◌+◌, ◌==◌, inl, inr, ℕ, Bool, true, false, not, ◌&&◌, ◌||◌, cond, List, [], ◌∷◌, map, find, Option, Some, None, refl, ap, sym, ◌∙◌, subst}
+use Rattle.std.specs.List.{list_all, position, AllByRecursion}
 use Rattle.std.specs.Option.{option_map, option_or}
 use Rattle.std.specs.Cmp.Lexicographic.{same_text, bytes_decides}
-use Rattle.std.proofs.lemmas.Bool.{both_ways, not-true, eq-eqb}
+use Rattle.std.proofs.lemmas.Bool.{both_ways, not-true, eq-eqb, ne_eqb}
+use Rattle.std.proofs.lemmas.Option.{same_Some}
 use Rattle.bsc_octets.specs.declared.identity.Identity.{Identity}
 use Rattle.bsc_octets.specs.Addresses.{same_vmac, same_device}
 use Rattle.bsc_history.specs.declared.connection.Connection.{Connection}
+use Rattle.bsc_history.specs.Laws.{Apart}
 use Rattle.bsc_history.specs.Replies.{rival, number_of}
 use Rattle.bsc_history.proofs.Lists.{In, In_from_all, all_from_In}
 use Rattle.bsc_desk.specs.declared.row.Row.{Row}
 use Rattle.bsc_desk.specs.declared.directory.Directory.{Directory}
 use Rattle.bsc_desk.specs.Orders.{in_order, same_key, address_of, device_of, last_of}
 use Rattle.bsc_desk.specs.Rising.{rises}
-use Rattle.bsc_desk.specs.Inlets.{is_open, is_row}
-use Rattle.bsc_desk.specs.Standing.{connection}
-use Rattle.bsc_desk.specs.Directories.{gives_way, gives_place, AreFiled, live_one}
+use Rattle.bsc_desk.specs.Live.{connection, is_open, is_row, number}
+use Rattle.bsc_desk.specs.Directories.{gives_way, gives_place, AreFiled, live_place, open_place}
 use Rattle.bsc_desk.proofs.LiveRows.{found_each}
 use Rattle.bsc_desk.proofs.Orders.{InOrder, order_true, true_all}
 use Rattle.bsc_desk.proofs.Sorted.{last-sorted}
-use Rattle.bsc_desk.proofs.Filing.{rows_apart}
+use Rattle.bsc_desk.proofs.Numbers.{rows_rise}
+use Rattle.bsc_desk.proofs.Places.{position-cons, position_any}
+use Rattle.bsc_desk.proofs.Walks.{has_number}
 
 -- the live row of some octets is the newest row that has them
 
@@ -73,34 +76,65 @@ last_among : (p : Row → Bool) (rows : List Row) (r : Row) → last_of p rows �
 last_among p [] r is = cc
 last_among p (s ∷ rows) r is =
     let by : (o : Option Row) (b : Bool) → (o ≡ Some r → In r rows) → option_or o (cond b (Some s) None) ≡ Some r → In r (s ∷ rows) = λ o b. elim o as (λ o. (o ≡ Some r → In r rows) → option_or o (cond b (Some s) None) ≡ Some r → In r (s ∷ rows)) [
-      | None ↦ elim b as (λ b. (None ≡ Some r → In r rows) → cond b (Some s) None ≡ Some r → In r (s ∷ rows)) [ true ↦ λ later e. inl cc | false ↦ λ later e. cc ]
+      | None ↦ elim b as (λ b. (None ≡ Some r → In r rows) → cond b (Some s) None ≡ Some r → In r (s ∷ rows)) [ true ↦ λ later e. inl (same_Some s r e) | false ↦ λ later e. cc ]
       | Some t ↦ λ later e. inr (later e)
     ] in
     by (last_of p rows) (p s) (last_among p rows r) is
 
-pub live_is : (key : Connection → List ℕ) (k : List ℕ) (rows : List Row) → in_order rises rows ≡ true → in_order (gives_way key) rows ≡ true → live_one rows (last_of (λ c. same_key (key c) k) (map connection rows)) ≡ option_map connection (find (λ r. is_open r && same_key (key r.connection) k) rows)
+-- where a test finds the row r, its place is that of r's number
+same_place : (p : Row → Bool) (r : Row) (rows : List Row) → Apart number rows → In r rows → find p rows ≡ Some r → position (has_number r.connection.number) rows ≡ position p rows
+same_place p r [] apart m is = absurd m
+same_place p r (x ∷ rows) apart m is =
+    let c = r.connection.number in
+    let by : (b : Bool) → p x ≡ b → cond b (Some x) (find p rows) ≡ Some r → cond (has_number c x) (Some 0) (option_map (λ i. 1 + i) (position (has_number c) rows)) ≡ cond b (Some 0) (option_map (λ i. 1 + i) (position p rows)) = λ b. elim b as (λ b. p x ≡ b → cond b (Some x) (find p rows) ≡ Some r → cond (has_number c x) (Some 0) (option_map (λ i. 1 + i) (position (has_number c) rows)) ≡ cond b (Some 0) (option_map (λ i. 1 + i) (position p rows))) [
+      | true ↦ λ e f. (let same : x ≡ r = same_Some x r f in let yes : has_number c x ≡ true = eq-eqb x.connection.number c (ap (λ (y : Row). y.connection.number) same) in rw yes refl)
+      | false ↦ λ e f. (let later = In_found p r rows f in let no : has_number c x ≡ false = ne_eqb x.connection.number c (In_from_all (λ (y : Row). number x ≢ number y) r rows apart.0 later) in rw no (ap (option_map (λ i. 1 + i)) (same_place p r rows apart.1 later f)))
+    ] in
+    position-cons (has_number c) x rows ∙ by (p x) refl is ∙ sym (position-cons p x rows)
+  where
+    In_found : (p : Row → Bool) (r : Row) (rows : List Row) → find p rows ≡ Some r → In r rows
+    In_found p r [] is = cc
+    In_found p r (y ∷ rows) is =
+        let on : (b : Bool) → cond b (Some y) (find p rows) ≡ Some r → In r (y ∷ rows) = λ b. elim b as (λ b. cond b (Some y) (find p rows) ≡ Some r → In r (y ∷ rows)) [ true ↦ λ e. inl (same_Some y r e) | false ↦ λ e. inr (In_found p r rows e) ] in
+        on (p y) is
+
+no_place : (p : Row → Bool) (rows : List Row) → find p rows ≡ None → position p rows ≡ None
+no_place p [] none = refl
+no_place p (x ∷ rows) none =
+    let by : (b : Bool) → cond b (Some x) (find p rows) ≡ None → cond b (Some 0) (option_map (λ i. 1 + i) (position p rows)) ≡ None = λ b. elim b as (λ b. cond b (Some x) (find p rows) ≡ None → cond b (Some 0) (option_map (λ i. 1 + i) (position p rows)) ≡ None) [ true ↦ λ e. cc | false ↦ λ e. ap (option_map (λ i. 1 + i)) (no_place p rows e) ] in
+    position-cons p x rows ∙ by (p x) none
+
+pub live_is : (key : Connection → List ℕ) (k : List ℕ) (rows : List Row) → in_order rises rows ≡ true → in_order (gives_way key) rows ≡ true → live_place rows (last_of (λ c. same_key (key c) k) (map connection rows)) ≡ position (λ r. is_open r && same_key (key r.connection) k) rows
 unfolding if_open
 live_is key k rows rising one =
+    let t = λ (r : Row). is_open r && has key k r in
     let L = last_of (has key k) rows in
-    let on : (o : Option Row) → L ≡ o → live_one rows (option_map connection o) ≡ option_map connection (if_open o) = λ o. elim o as (λ o. L ≡ o → live_one rows (option_map connection o) ≡ option_map connection (if_open o)) [
-      | None ↦ λ e. refl
+    let live = newest_live key k rows (order_true (gives_way key) rows one) in
+    let apart = rows_rise rows rising in
+    let on : (o : Option Row) → L ≡ o → live_place rows (option_map connection o) ≡ position t rows = λ o. elim o as (λ o. L ≡ o → live_place rows (option_map connection o) ≡ position t rows) [
+      | None ↦ λ e. sym (no_place t rows (live ∙ ap if_open e))
       | Some r ↦ λ e. (
-          let found = found_each r rows (rows_apart rows rising) (last_among (has key k) rows r e) in
-          rw found (elim (is_open r) as (λ b. cond b (Some (connection r)) None ≡ option_map connection (cond b (Some r) None)) [ true ↦ refl | false ↦ refl ]))
+          let m = last_among (has key k) rows r e in
+          let found = found_each r rows apart m in
+          let by : (b : Bool) → is_open r ≡ b → cond b (position (has_number r.connection.number) rows) None ≡ position t rows = λ b. elim b as (λ b. is_open r ≡ b → cond b (position (has_number r.connection.number) rows) None ≡ position t rows) [
+            | true ↦ λ f. same_place t r rows apart m (live ∙ ap if_open e ∙ ap (λ (b : Bool). cond b (Some r) None) f)
+            | false ↦ λ f. sym (no_place t rows (live ∙ ap if_open e ∙ ap (λ (b : Bool). cond b (Some r) None) f))
+          ] in
+          rw found (by (is_open r) refl))
     ] in
-    ap (live_one rows) (last-map (λ c. same_key (key c) k) rows) ∙ on L refl ∙ ap (option_map connection) (sym (newest_live key k rows (order_true (gives_way key) rows one)))
+    ap (live_place rows) (last-map (λ c. same_key (key c) k) rows) ∙ on L refl
 
 -- what a search by the directory gives, by its steps
-pub live_at : (rows list : List Row) (joined : ℕ) (x : Directory) (k : List ℕ) (newest result : Option Connection) → AreFiled rows joined x → list ≡ rows → newest ≡ last_of (λ c. same_key (address_of c) k) x.by_address.items → result ≡ live_one list newest → result ≡ option_map connection (find (λ r. is_open r && same_key (address_of r.connection) k) rows)
+pub live_at : (rows list : List Row) (joined : ℕ) (x : Directory) (k : List ℕ) (newest : Option Connection) (result : Option ℕ) → AreFiled rows joined x → list ≡ rows → newest ≡ last_of (λ c. same_key (address_of c) k) x.by_address.items → result ≡ live_place list newest → result ≡ position (λ r. is_open r && same_key (address_of r.connection) k) rows
 live_at rows list joined x k newest result s same last is =
-    is ∙ ap (λ (l : List Row). live_one l newest) same
-    ∙ ap (live_one rows) (last ∙ ap (last_of (λ c. same_key (address_of c) k)) s.by_address ∙ last-sorted address_of k (map connection rows))
+    is ∙ ap (λ (l : List Row). live_place l newest) same
+    ∙ ap (live_place rows) (last ∙ ap (last_of (λ c. same_key (address_of c) k)) s.by_address ∙ last-sorted address_of k (map connection rows))
     ∙ live_is address_of k rows s.rising s.one_at
 
-pub live_of : (rows list : List Row) (joined : ℕ) (x : Directory) (k : List ℕ) (newest result : Option Connection) → AreFiled rows joined x → list ≡ rows → newest ≡ last_of (λ c. same_key (device_of c) k) x.by_device.items → result ≡ live_one list newest → result ≡ option_map connection (find (λ r. is_open r && same_key (device_of r.connection) k) rows)
+pub live_of : (rows list : List Row) (joined : ℕ) (x : Directory) (k : List ℕ) (newest : Option Connection) (result : Option ℕ) → AreFiled rows joined x → list ≡ rows → newest ≡ last_of (λ c. same_key (device_of c) k) x.by_device.items → result ≡ live_place list newest → result ≡ position (λ r. is_open r && same_key (device_of r.connection) k) rows
 live_of rows list joined x k newest result s same last is =
-    is ∙ ap (λ (l : List Row). live_one l newest) same
-    ∙ ap (live_one rows) (last ∙ ap (last_of (λ c. same_key (device_of c) k)) s.by_device ∙ last-sorted device_of k (map connection rows))
+    is ∙ ap (λ (l : List Row). live_place l newest) same
+    ∙ ap (live_place rows) (last ∙ ap (last_of (λ c. same_key (device_of c) k)) s.by_device ∙ last-sorted device_of k (map connection rows))
     ∙ live_is device_of k rows s.rising s.one_of
 
 -- where there is no rival, only the replaced connection has the address or the device
@@ -153,3 +187,11 @@ pub free_by : (rows : List Row) (joined : ℕ) (x : Directory) (who : Identity) 
 free_by rows joined x who held of_device rivals replaced s holds has is none takes =
     ap (λ (o : Option ℕ). list_all (gives_place who o) rows) (takes ∙ ap number_of has)
     ∙ free rows who s.one_at s.one_of (ap (rival who) (sym holds) ∙ sym is ∙ none)
+
+-- where there is no place, nothing is found
+pub no_find : (p : Row → Bool) (rows : List Row) → position p rows ≡ None → find p rows ≡ None
+no_find p [] none = refl
+no_find p (x ∷ rows) none =
+    let later : (o : Option ℕ) → option_map (λ i. 1 + i) o ≡ None → o ≡ None = λ o. elim o as (λ o. option_map (λ i. 1 + i) o ≡ None → o ≡ None) [ None ↦ λ e. refl | Some i ↦ λ e. cc ] in
+    let by : (b : Bool) → cond b (Some 0) (option_map (λ i. 1 + i) (position p rows)) ≡ None → cond b (Some x) (find p rows) ≡ None = λ b. elim b as (λ b. cond b (Some 0) (option_map (λ i. 1 + i) (position p rows)) ≡ None → cond b (Some x) (find p rows) ≡ None) [ true ↦ λ e. cc | false ↦ λ e. no_find p rows (later (position p rows) e) ] in
+    by (p x) (sym (position-cons p x rows) ∙ none)

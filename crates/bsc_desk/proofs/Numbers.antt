@@ -13,9 +13,9 @@ use Rattle.bsc_history.specs.declared.connection.Connection.{Connection}
 use Rattle.bsc_desk.specs.declared.row.Row.{Row}
 use Rattle.bsc_desk.specs.Orders.{in_order}
 use Rattle.bsc_desk.specs.Rising.{rises}
-use Rattle.bsc_desk.specs.Standing.{connection}
+use Rattle.bsc_desk.specs.Live.{connection, number}
 use Rattle.bsc_desk.proofs.Orders.{InOrder, order_true, order-at, all-map}
-use Rattle.bsc_desk.proofs.Changes.{has_number}
+use Rattle.bsc_desk.proofs.Walks.{apart_rows, has_number}
 use Rattle.bsc_desk.proofs.Places.{position-cons}
 
 abbrev Rises : Row → Row → Type 0
@@ -66,6 +66,9 @@ searched conn rows (Err i) order within parts =
       | inl less ↦ (let low : (get_or rows k d).connection.number < conn = ranked (get_or rows k d).connection.number conn _ (sym (split.0 k d (omega arith) less)) in λ e. omega arith)
       | inr more ↦ (let high : conn < (get_or rows k d).connection.number = ranked (get_or rows k d).connection.number conn _ (sym (split.1 k d more there)) in λ e. omega arith)
     ]))
+
+pub rows_rise : (rows : List Row) → in_order rises rows ≡ true → Apart number rows
+rows_rise rows h = apart_rows rows (apart rows (order_true rises rows h))
 
 -- where there is no place, none is found
 pub none_found : (conn : ℕ) (rows : List Row) → position (has_number conn) rows ≡ None → find (has_number conn) rows ≡ None

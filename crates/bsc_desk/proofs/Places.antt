@@ -1,14 +1,11 @@
 -- Places in lists, and rows changed at a place.
 use Rattle.std.proofs.Common.{◌≡◌, ◌+◌, ◌<◌, ◌==◌, ℕ, zero, suc, nat_lt, Bool, true, false, not, cond, ◌||◌, List, [], ◌∷◌, ◌++◌, length, get_or, find, Option, Some, None, is_some, refl, ap, sym, ◌∙◌, arith}
-use Rattle.std.proofs.Math.ListN.{set}
 use Rattle.std.specs.List.{list_any, position, position_or_len}
 use Rattle.std.specs.Option.{option_map, option_or}
 use Rattle.std.proofs.lemmas.Bool.{or_parts}
 use Rattle.std.proofs.lemmas.Bool.Decides.{nat_tests}
 use Rattle.std.proofs.lemmas.List.Quantifiers.{position-Some}
-use Rattle.bsc_desk.specs.declared.outbox.Inlet.{Inlet}
 use Rattle.bsc_desk.specs.declared.row.Row.{Row}
-use Rattle.bsc_desk.specs.Inlets.{with_inlet, is_row, done_at}
 
 -- positions
 
@@ -60,32 +57,6 @@ position_more p (x ∷ xs) y =
       | false ↦ ap (option_map (λ i. 1 + i)) rest ∙ later (position p xs) (p y) (length xs)
     ]
     ∙ sym (ap (λ (o : Option ℕ). option_or o (cond (p y) (Some (suc (length xs))) None)) (position-cons p x xs))
-
--- rows
-
-set_here : (conn : Option ℕ) (f : Inlet → Inlet) (rows : List Row) (i : ℕ) (r : Row) → i < length rows → is_row conn (get_or rows i r) ≡ true → ((k : ℕ) → k < i → is_row conn (get_or rows k r) ≡ false) → r ≡ get_or rows i r → set rows i (with_inlet f r) ≡ done_at conn f rows
-set_here conn f [] i r within here before at = absurd (omega arith)
-set_here conn f (x ∷ xs) zero r within here before at = rw here (ap (λ (y : Row). with_inlet f y ∷ xs) at)
-set_here conn f (x ∷ xs) (suc i) r within here before at = rw (before 0 (omega arith)) (ap (λ (l : List Row). x ∷ l) (set_here conn f xs i r (omega arith) here (λ k h. before (suc k) (omega arith)) at))
-
--- a change at the place of a connection
-pub set_done : (conn : ℕ) (f : Inlet → Inlet) (rows : List Row) (i : ℕ) (r : Row) → position (λ x. x.connection.number == conn) rows ≡ Some i → r ≡ get_or rows i r → set rows i (with_inlet f r) ≡ done_at (Some conn) f rows
-set_done conn f rows i r place at = let p = position-Some (λ (x : Row). x.connection.number == conn) rows i r place in set_here (Some conn) f rows i r p.0 p.1 p.2 at
-
-stays_as_is : (conn : Option ℕ) (f : Inlet → Inlet) (rows : List Row) → list_any (is_row conn) rows ≡ false → done_at conn f rows ≡ rows
-stays_as_is conn f [] none = refl
-stays_as_is conn f (r ∷ rows) none = let e = or_parts (is_row conn r) (list_any (is_row conn) rows) none in rw e.0 (ap (λ (l : List Row). r ∷ l) (stays_as_is conn f rows e.1))
-
-no_row : (rows : List Row) → list_any (is_row None) rows ≡ false
-no_row [] = refl
-no_row (r ∷ rows) = no_row rows
-
--- no change where there is no connection, or it has no row
-pub not_done : (conn : Option ℕ) (f : Inlet → Inlet) (rows : List Row) → conn ≡ None → done_at conn f rows ≡ rows
-not_done conn f rows none = ap (λ (o : Option ℕ). done_at o f rows) none ∙ stays_as_is None f rows (no_row rows)
-
-pub not_placed : (conn : ℕ) (f : Inlet → Inlet) (rows : List Row) → position (λ x. x.connection.number == conn) rows ≡ None → done_at (Some conn) f rows ≡ rows
-not_placed conn f rows none = stays_as_is (Some conn) f rows (sym (position_any (λ (x : Row). x.connection.number == conn) rows) ∙ ap is_some none)
 
 find_here : (p : Row → Bool) (rows : List Row) (i : ℕ) (r : Row) → i < length rows → p (get_or rows i r) ≡ true → ((k : ℕ) → k < i → p (get_or rows k r) ≡ false) → r ≡ get_or rows i r → find p rows ≡ Some r
 find_here p [] i r within here before at = absurd (omega arith)

@@ -1,25 +1,27 @@
--- What a history says of the rows of a desk that stands for it: a caller shows by it what `forward_one`, `forward_all`, `leave` and `take` ask for.
-use Rattle.std.proofs.Common.{◌≡◌, inl, inr, ℕ, ◌==◌, Bool, true, ◌&&◌, ◌||◌, List, [], ◌∷◌, map, refl, ap, sym, ◌∙◌}
+-- What a history says of the rows of a desk that stands for it: a caller shows by it what the calls of the desk ask for.
+use Rattle.std.proofs.Common.{◌≡◌, inl, inr, ℕ, ◌==◌, ◌+◌, ◌≤◌, Bool, true, ◌&&◌, ◌||◌, List, [], ◌∷◌, length, map, Option, Some, None, refl, ap, sym, ◌∙◌, arith}
 use Rattle.std.specs.List.{list_any}
 use Rattle.std.proofs.lemmas.Bool.{and_parts, and_from, or_cases, or_left, or_right, eqb-true}
 use Rattle.bsc_octets.specs.declared.vmac.Vmac.{Vmac}
 use Rattle.bsc_octets.specs.Addresses.{same_vmac}
-use Rattle.bsc_history.specs.declared.entry.Entry.{Entry}
 use Rattle.bsc_history.specs.declared.connection.Connection.{Connection}
+use Rattle.bsc_history.specs.declared.mark.Mark.{Mark}
+use Rattle.bsc_history.specs.declared.mark.Stamped.{Stamped}
 use Rattle.bsc_history.specs.Ends.{unleft}
+use Rattle.bsc_history.specs.Marks.{entries, mark_of}
 use Rattle.bsc_history.specs.Outboxes.{vmac_of}
 use Rattle.bsc_history.specs.Legality.{is_of}
 use Rattle.bsc_history.proofs.Lists.{In}
 use Rattle.bsc_history.proofs.Uniqueness.{vmac_refl}
 use Rattle.bsc_desk.specs.declared.row.Row.{Row}
 use Rattle.bsc_desk.specs.declared.desk.Desk.{Desk}
-use Rattle.bsc_desk.specs.Rows.{HasRow, IsRowOf, IsRowBy}
-use Rattle.bsc_desk.specs.Standing.{connection, StandsFor}
+use Rattle.bsc_ring.specs.Ends.{inlet_mark}
+use Rattle.bsc_desk.specs.Live.{connection}
+use Rattle.bsc_desk.specs.Rows.{HasRow, IsMarkOf, IsRowOf, IsRowBy}
+use Rattle.bsc_desk.specs.Standing.{IsInletOf, StandsFor}
 use Rattle.bsc_desk.proofs.Histories.{vmac_unleft}
-
-any_row : (p : Connection → Bool) (rows : List Row) → list_any (λ r. p (connection r)) rows ≡ list_any p (map connection rows)
-any_row p [] = refl
-any_row p (r ∷ rows) = ap (λ (b : Bool). p (connection r) || b) (any_row p rows)
+use Rattle.bsc_desk.proofs.LiveRows.{any_row}
+use Rattle.bsc_desk.proofs.Orders.{all-weaker}
 
 any_more : (p q : Connection → Bool) (xs : List Connection) → ((x : Connection) → In x xs → p x ≡ true → q x ≡ true) → list_any p xs ≡ true → list_any q xs ≡ true
 any_more p q [] each any = any
@@ -30,20 +32,34 @@ any_more p q (x ∷ xs) each any =
     ]
 
 -- an unleft connection has a row
-pub has_unleft : (d : Desk) (h : List Entry) (c : ℕ) → StandsFor d h → list_any (λ x. x.number == c) (unleft h) ≡ true → HasRow d c
-has_unleft d h c s came = any_row (λ (x : Connection). x.number == c) d.rows.items ∙ ap (list_any (λ (x : Connection). x.number == c)) s.unleft_rows ∙ came
+pub has_unleft : (d : Desk) (S : List Stamped) (c : ℕ) → StandsFor d S → list_any (λ x. x.number == c) (unleft (entries S)) ≡ true → HasRow d c
+has_unleft d S c s came = any_row (λ (x : Connection). x.number == c) d.rows.items ∙ ap (list_any (λ (x : Connection). x.number == c)) s.unleft_rows ∙ came
 
 -- an unleft connection of a caller is the row of that caller, with the address with which it joined
-pub is_row_of : (d : Desk) (h : List Entry) (caller c : ℕ) (v : Vmac) → StandsFor d h → is_of h caller c ≡ true → vmac_of h c ≡ v → IsRowOf d caller c v
-is_row_of d h caller c v s mine address =
+pub is_row_of : (d : Desk) (S : List Stamped) (caller c : ℕ) (v : Vmac) → StandsFor d S → is_of (entries S) caller c ≡ true → vmac_of (entries S) c ≡ v → IsRowOf d caller c v
+is_row_of d S caller c v s mine address =
     let p = λ (x : Connection). (x.number == c) && (x.caller == caller) in
     let q = λ (x : Connection). (x.number == c) && (x.caller == caller) && same_vmac x.who.vmac v in
-    let each : (x : Connection) → In x (unleft h) → p x ≡ true → q x ≡ true = λ x m e. (
+    let each : (x : Connection) → In x (unleft (entries S)) → p x ≡ true → q x ≡ true = λ x m e. (
     let same = eqb-true x.number c (and_parts (x.number == c) (x.caller == caller) e).0 in
-    let here : x.who.vmac ≡ v = sym (vmac_unleft d.about h x s.legal m) ∙ ap (vmac_of h) same ∙ address in
+    let here : x.who.vmac ≡ v = sym (vmac_unleft d.about (entries S) x s.legal m) ∙ ap (vmac_of (entries S)) same ∙ address in
     and_from (p x) (same_vmac x.who.vmac v) e (vmac_refl x.who.vmac v here)) in
-    any_row q d.rows.items ∙ ap (list_any q) s.unleft_rows ∙ any_more p q (unleft h) each mine
+    any_row q d.rows.items ∙ ap (list_any q) s.unleft_rows ∙ any_more p q (unleft (entries S)) each mine
 
 -- an unleft connection of a caller is a row of that caller
-pub is_row_by : (d : Desk) (h : List Entry) (caller c : ℕ) → StandsFor d h → is_of h caller c ≡ true → IsRowBy d caller c
-is_row_by d h caller c s mine = any_row (λ (x : Connection). (x.number == c) && (x.caller == caller)) d.rows.items ∙ ap (list_any (λ (x : Connection). (x.number == c) && (x.caller == caller))) s.unleft_rows ∙ mine
+pub is_row_by : (d : Desk) (S : List Stamped) (caller c : ℕ) → StandsFor d S → is_of (entries S) caller c ≡ true → IsRowBy d caller c
+is_row_by d S caller c s mine = any_row (λ (x : Connection). (x.number == c) && (x.caller == caller)) d.rows.items ∙ ap (list_any (λ (x : Connection). (x.number == c) && (x.caller == caller))) s.unleft_rows ∙ mine
+
+same_mark : (m n : Mark) → Some m ≡ Some n → m ≡ n
+same_mark m n e = cc
+
+-- the mark that the history keeps for a connection is that of its inlet
+pub is_mark_of : (d : Desk) (S : List Stamped) (c : ℕ) (m : Mark) → StandsFor d S → mark_of S c ≡ Some m → IsMarkOf d c m
+is_mark_of d S c m s h = all-weaker (λ r. IsInletOf d.about S r.connection.number r.inlet) (λ r. r.connection.number ≡ c → inlet_mark r.inlet ≡ m) d.rows.items (λ r i same. same_mark (inlet_mark r.inlet) m (sym i.marked ∙ ap (mark_of S) same ∙ h)) s.inlets
+
+-- a history is no longer than the limit of calls, but for the leaves of all rows and one stop
+pub few_entries : (d : Desk) (S : List Stamped) → StandsFor d S → length S ≤ d.about.limits.calls + d.about.limits.rows + 1
+few_entries d S s =
+    let few = d.few_calls in
+    let count = s.entered in
+    omega arith

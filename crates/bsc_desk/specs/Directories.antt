@@ -1,12 +1,12 @@
 -- What a desk keeps beside its rows, by which they are found.
-use Rattle.std.specs.Prelude.{◌≡◌, ◌&&◌, ◌||◌, ◌==◌, ℕ, nat_le, Bool, false, not, if◌then◌else◌, IsTrue, List, map, find, Option, Some, None}
+use Rattle.std.specs.Prelude.{◌≡◌, ◌&&◌, ◌||◌, ◌==◌, ℕ, nat_le, Bool, false, not, if◌then◌else◌, IsTrue, List, map, find, position, Option, Some, None}
 use Rattle.std.specs.List.{list_all}
 use Rattle.bsc_octets.specs.declared.identity.Identity.{Identity}
 use Rattle.bsc_octets.specs.Addresses.{same_vmac, same_device}
 use Rattle.bsc_history.specs.declared.connection.Connection.{Connection}
 use Rattle.bsc_desk.specs.declared.row.Row.{Row}
 use Rattle.bsc_desk.specs.declared.directory.Directory.{Directory}
-use Rattle.bsc_desk.specs.Inlets.{is_open, is_row}
+use Rattle.bsc_desk.specs.Live.{is_open, is_row}
 use Rattle.bsc_desk.specs.Orders.{in_order, address_of, device_of, same_key, sorted_by}
 use Rattle.bsc_desk.specs.Rising.{rises}
 
@@ -33,7 +33,11 @@ abbrev pub open_in : Option Row → Bool
 open_in None = false
 open_in (Some r) = is_open r
 
--- the connection given, if its row is live
-abbrev pub live_one : List Row → Option Connection → Option Connection
-live_one rows None = None
-live_one rows (Some c) = if open_in (find (λ r. r.connection.number == c.number) rows) then Some c else None
+-- the place of the row of connection c, if it is live
+abbrev pub open_place : List Row → ℕ → Option ℕ
+open_place rows c = if open_in (find (λ r. r.connection.number == c) rows) then position (λ r. r.connection.number == c) rows else None
+
+-- the same of the connection given, if there is one
+abbrev pub live_place : List Row → Option Connection → Option ℕ
+live_place rows None = None
+live_place rows (Some c) = open_place rows c.number

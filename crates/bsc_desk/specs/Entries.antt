@@ -1,16 +1,20 @@
--- The entry that a call of the desk adds, by its answer.
+-- The entry that a call of the desk adds, by its answer, with the mark that a history keeps.
 use Rattle.std.specs.Prelude.{◌≡◌, ℕ, nat_le, Bool, true, false, if◌then◌else◌, List, [], ◌∷◌, length, Option, Some, None, Result, Ok, Err, ⊤}
 use Rattle.bsc_octets.specs.declared.identity.Identity.{Identity}
 use Rattle.bsc_history.specs.declared.limits.About.{About}
 use Rattle.bsc_history.specs.declared.call.Call.TheVariants.{Connect, Forward, Leave, Stop, Count}
+use Rattle.bsc_history.specs.declared.ending.End.{End}
 use Rattle.bsc_history.specs.declared.entry.Entry.{Entry}
 use Rattle.bsc_history.specs.declared.looks.Look.{Look}
+use Rattle.bsc_history.specs.declared.mark.Mark.{Mark}
+use Rattle.bsc_history.specs.declared.mark.Stamped.{Stamped}
 use Rattle.bsc_history.specs.declared.reply.Reply.{Reply}
 use Rattle.bsc_history.specs.declared.reply.Reply.TheVariants.{Joined, Refused, Appended, Closed, Skipped, NoHolder, NotCurrent, Stopped, SentAll, Gone as GoneReply, Counted}
 use Rattle.bsc_history.specs.declared.counts.Counts.{Counts}
 use Rattle.bsc_history.specs.declared.told.Worn.{Worn}
 use Rattle.bsc_history.specs.declared.told.AlreadyStopped.{AlreadyStopped}
 use Rattle.bsc_history.specs.Replies.{connect_reply}
+use Rattle.bsc_ring.specs.declared.ends.Inlet.{Inlet}
 use Rattle.bsc_desk.specs.declared.connecting.NewRow.{NewRow}
 use Rattle.bsc_desk.specs.declared.connecting.NoRow.{NoRow}
 use Rattle.bsc_desk.specs.declared.connecting.NoRow.TheVariants.{Worn as NoRowWorn, Refused as NoRowRefused}
@@ -21,7 +25,10 @@ use Rattle.bsc_desk.specs.declared.broadcasting.AllReply.TheVariants.{Sent as Al
 use Rattle.bsc_desk.specs.declared.broadcasting.AllRefusal.{AllRefusal}
 use Rattle.bsc_desk.specs.declared.broadcasting.AllRefusal.TheVariants.{Worn as AllWorn, NoMemory as AllNoMemory}
 use Rattle.bsc_desk.specs.declared.leaving.Gone.{Gone}
-use Rattle.bsc_desk.specs.declared.outbox.Inlet.{Inlet}
+
+-- an entry with no mark
+abbrev pub plain : Entry → Stamped
+plain e = record { entry = e; mark = None }
 
 -- the entry of a connect, and of a forward
 abbrev pub connect_entry : ℕ → Identity → Reply → Entry
@@ -48,10 +55,18 @@ SaysLimit (NoRowRefused refusal) calls = ⊤
 abbrev pub connect_due : About → List Entry → Identity → Option Reply
 connect_due a H who = if nat_le a.limits.calls (length H) then None else Some (connect_reply a H who)
 
+-- the mark that is kept with a connect's entry: that of the inlet handed in, where it joined
+abbrev pub mark_by : Mark → Reply → Option Mark
+mark_by m (Joined conn replaced) = Some m
+mark_by m reply = None
+
+abbrev pub connect_stamped : ℕ → Identity → Mark → Reply → Stamped
+connect_stamped caller who m reply = record { entry = connect_entry caller who reply; mark = mark_by m reply }
+
 -- the entries that a connect adds, one or none
-abbrev pub connect_adds : ℕ → Identity → Option Reply → List Entry
-connect_adds caller who None = []
-connect_adds caller who (Some reply) = connect_entry caller who reply ∷ []
+abbrev pub connect_adds : ℕ → Identity → Mark → Option Reply → List Stamped
+connect_adds caller who m None = []
+connect_adds caller who m (Some reply) = connect_stamped caller who m reply ∷ []
 
 -- the reply that a unicast's answer says, and the looks that it made
 abbrev pub one_reply : OneReply → Reply
@@ -68,8 +83,8 @@ one_looks (OneClosed look) = look ∷ []
 one_looks r = []
 
 -- the entries that a unicast adds, one or none
-abbrev pub one_adds : ℕ → ℕ → List ℕ → Result OneReply Worn → List Entry
-one_adds caller conn message (Ok r) = forward_entry caller conn message (one_looks r) (one_reply r) ∷ []
+abbrev pub one_adds : ℕ → ℕ → List ℕ → Result OneReply Worn → List Stamped
+one_adds caller conn message (Ok r) = plain (forward_entry caller conn message (one_looks r) (one_reply r)) ∷ []
 one_adds caller conn message (Err worn) = []
 
 -- the reply of a leave's answer
@@ -87,12 +102,12 @@ abbrev pub count_entry : ℕ → Counts → Entry
 count_entry caller k = record { caller = caller; call = Count; looks = []; reply = Counted k }
 
 -- the entries that a stop adds, and that a count adds: one or none
-abbrev pub stop_adds : ℕ → Result Counts AlreadyStopped → List Entry
-stop_adds caller (Ok k) = stop_entry caller k ∷ []
+abbrev pub stop_adds : ℕ → Result Counts AlreadyStopped → List Stamped
+stop_adds caller (Ok k) = plain (stop_entry caller k) ∷ []
 stop_adds caller (Err already) = []
 
-abbrev pub count_adds : ℕ → Result Counts Worn → List Entry
-count_adds caller (Ok k) = count_entry caller k ∷ []
+abbrev pub count_adds : ℕ → Result Counts Worn → List Stamped
+count_adds caller (Ok k) = plain (count_entry caller k) ∷ []
 count_adds caller (Err worn) = []
 
 -- the reply that a broadcast's answer says, and the looks that it made
@@ -106,8 +121,8 @@ all_looks (AllSent to missed skipped looks) = looks
 all_looks r = []
 
 -- the entries that a broadcast adds, one or none
-abbrev pub all_adds : ℕ → ℕ → List ℕ → Result AllReply AllRefusal → List Entry
-all_adds caller conn message (Ok r) = forward_entry caller conn message (all_looks r) (all_reply r) ∷ []
+abbrev pub all_adds : ℕ → ℕ → List ℕ → Result AllReply AllRefusal → List Stamped
+all_adds caller conn message (Ok r) = plain (forward_entry caller conn message (all_looks r) (all_reply r)) ∷ []
 all_adds caller conn message (Err refusal) = []
 
 -- whether a broadcast was refused as worn, and whether for want of memory
@@ -126,7 +141,17 @@ abbrev pub AllSaysLimit : AllRefusal → ℕ → Type 0
 AllSaysLimit (AllWorn worn) calls = worn.calls ≡ calls
 AllSaysLimit AllNoMemory calls = ⊤
 
--- whether a broadcast's answer is that it went nowhere
-abbrev pub is_passed_over : AllReply → Bool
-is_passed_over (AllSent to missed skipped looks) = false
-is_passed_over r = true
+-- the reply that a forward gets without a look: the hub has stopped, or the sender has ended
+abbrev pub unserved : Option End → Reply
+unserved None = Stopped
+unserved (Some ending) = NotCurrent ending
+
+-- the answer to a unicast that is dropped unsent
+abbrev pub one_unserved : Option End → OneReply
+one_unserved None = OneStopped
+one_unserved (Some ending) = OneNotCurrent ending
+
+-- the answer to a broadcast that is dropped unsent
+abbrev pub all_unserved : Option End → AllReply
+all_unserved None = AllStopped
+all_unserved (Some ending) = AllNotCurrent ending

@@ -1,31 +1,35 @@
 //! Connects.
 #![tactic(auto)]
 
-ghost use Rattle.std.specs.Prelude.{◌≡◌, ◌<◌, ℕ, ◌+◌, ◌++◌, ◌&&◌, false, ◌∷◌, [], List, find, vec_len, None, IfErr, IsTrue, IsFalse};
+ghost use Rattle.std.specs.Prelude.{◌≡◌, ◌<◌, ℕ, ◌+◌, ◌++◌, ◌&&◌, Bool, false, ◌∷◌, [], List, length, position, find, vec_len, None, IfErr, IfSome, IsTrue, IsFalse};
 ghost use Rattle.std.specs.List.{list_all};
 ghost use Rattle.std.specs.Option.{option_map};
 ghost use Rattle.bsc_octets.specs.Addresses.{same_vmac, same_device, zero_vmac, broadcast};
-ghost use Rattle.bsc_history.specs.declared.entry.Entry.{Entry};
+ghost use Rattle.bsc_history.specs.declared.mark.Mark.{Mark};
+ghost use Rattle.bsc_history.specs.declared.mark.Stamped.{Stamped};
 ghost use Rattle.bsc_history.specs.declared.reply.Reply.TheVariants.{Joined as JoinedReply, Refused as RefusedReply};
 ghost use Rattle.bsc_history.specs.Entries.{moment};
-ghost use Rattle.bsc_history.specs.Counting.{one_if};
 ghost use Rattle.bsc_history.specs.Legality.{Lawful};
+ghost use Rattle.bsc_history.specs.Marks.{entries};
 ghost use Rattle.bsc_history.specs.Replies.{connect_reply, rival, number_of};
-ghost use Rattle.bsc_desk.specs.Rows.{IsNewInlet, taken_of};
-ghost use Rattle.bsc_desk.specs.Standing.{StandsFor, connection};
-ghost use Rattle.bsc_desk.specs.Inlets.{is_open};
+ghost use Rattle.bsc_ring.specs.Ends.{IsNewInlet, capacity_of, inlet_mark};
+ghost use Rattle.bsc_desk.specs.declared.row.Row.{Row};
+ghost use Rattle.bsc_desk.specs.Rows.{known_of};
+ghost use Rattle.bsc_desk.specs.Standing.{StandsFor};
+ghost use Rattle.bsc_desk.specs.Live.{connection, is_open};
 ghost use Rattle.bsc_desk.specs.Orders.{in_order};
 ghost use Rattle.bsc_desk.specs.Rising.{rises};
-ghost use Rattle.bsc_desk.specs.Directories.{gives_place, live_one};
+ghost use Rattle.bsc_desk.specs.Directories.{gives_place, live_place};
 ghost use Rattle.bsc_desk.specs.Choices.{choice_reply, first_reply, IfJoined};
-ghost use Rattle.bsc_desk.specs.Entries.{connect_said, connect_due, connect_adds, connect_entry, SaysLimit};
+ghost use Rattle.bsc_desk.specs.Entries.{connect_said, connect_due, connect_adds, connect_entry, connect_stamped, SaysLimit};
 
 use crate::desk::Desk;
-use crate::outbox::Inlet;
 use crate::row::Row;
-use crate::rows::{finish, is_open_at};
-use bsc_history::{Connection, End, Refusal, Worn};
+use crate::rows::{finish, open_place};
+use crate::tally::{NOTHING, one_if};
+use bsc_history::{Connection, Counts, End, Refusal, Worn};
 use bsc_octets::{DeviceId, Identity, Vmac};
+use bsc_ring::Inlet;
 
 /// A new row: its number, and the connection that it replaced.
 #[derive(Clone, Copy, Debug, PartialEq, Eq)]
@@ -50,17 +54,24 @@ pub(crate) enum Choice {
     Joined(NewRow),
 }
 
-/// The connection, if it is live.
-fn live_one(rows: &[Row], found: Option<Connection>) -> Option<Connection>
+/// The place of the row of the connection, if it is live.
+fn live_place(rows: &[Row], found: Option<Connection>) -> Option<usize>
     requires { IsTrue (in_order rises rows.now) }
-    ensures { result ≡ live_one rows.now found }
+    ensures { result ≡ live_place rows.now found }
 {
     match found {
-        Some(connection) => if is_open_at(rows, connection.number) {
-            Some(connection)
-        } else {
-            None
-        },
+        Some(connection) => open_place(rows, connection.number),
+        None => None,
+    }
+}
+
+/// The connection of the row at a place, if there is one.
+fn connection_at(rows: &[Row], place: Option<usize>) -> Option<Connection>
+    requires { IfSome place (λ i. i < length rows.now) }
+    ensures { (p : Row → Bool) → place ≡ position p rows.now → result ≡ option_map connection (find p rows.now) }
+{
+    match place {
+        Some(place) => Some(rows[place].connection),
         None => None,
     }
 }
@@ -86,13 +97,6 @@ fn number_of(found: Option<Connection>) -> Option<u64>
         Some(connection) => Some(connection.number),
         None => None,
     }
-}
-
-/// 1 where a test passes, to be counted.
-pub(crate) fn one_if(passes: bool) -> u64
-    ensures { result ≡ one_if passes }
-{
-    if passes { 1 } else { 0 }
 }
 
 /// The first case that holds.
@@ -138,19 +142,24 @@ impl Desk {
     ) -> Result<NewRow, (NoRow, Inlet)>
         requires not_zero { IsFalse (same_vmac who.vmac zero_vmac) }
         requires not_broadcast { IsFalse (same_vmac who.vmac broadcast) }
-        requires new_inlet { IsNewInlet inlet self.old.about.limits.outbox }
+        requires new_inlet { IsNewInlet inlet }
+        requires capacity { capacity_of inlet ≡ self.old.about.limits.outbox }
 
         // What is answered is what the definition of replies asks for, after each history.
-        ensures due { (h : List Entry) → StandsFor self.old h → connect_said result ≡ connect_due self.old.about h who }
-        ensures stands { (h : List Entry) → StandsFor self.old h → StandsFor self.new (h ++ connect_adds caller who (connect_said result)) }
+        ensures due { (S : List Stamped) → StandsFor self.old S →
+            connect_said result ≡ connect_due self.old.about (entries S) who }
+
+        // With the entry of a connect that joined, the history keeps the mark of the inlet.
+        ensures stands { (S : List Stamped) → StandsFor self.old S →
+            StandsFor self.new (S ++ connect_adds caller who (inlet_mark inlet) (connect_said result)) }
         ensures about { self.new.about ≡ self.old.about }
-        ensures taken { (c : ℕ) → taken_of self.new c ≡ taken_of self.old c }
+        ensures known { (c : ℕ) → known_of self.new c ≡ known_of self.old c }
         ensures back { IfErr result (λ no. no.1 ≡ inlet) }
         ensures worn { connect_said result ≡ None → self.new ≡ self.old }
         ensures limit { IfErr result (λ no. SaysLimit no.0 self.old.about.limits.calls) }
     {
         let calls = self.about.limits.calls;
-        if calls <= self.made {
+        if calls <= self.tally.made {
             return Err((NoRow::Worn(Worn { calls }), inlet));
         }
         match self.choose(&who) {
@@ -165,32 +174,47 @@ impl Desk {
         }
     }
 
+    /// The place of the row of the live connection that holds an address.
+    pub(crate) fn holder_place(&self, v: Vmac) -> Option<usize>
+        ensures { result ≡ position (λ r. is_open r && same_vmac r.connection.who.vmac v) self.now.rows.items }
+    {
+        live_place(self.rows.as_slice(), self.directory.newest_at(v))
+    }
+
+    /// The place of the row of the live connection of a device.
+    fn device_place(&self, device: &DeviceId) -> Option<usize>
+        ensures { result ≡ position (λ r. is_open r && same_device r.connection.who.device device.now) self.now.rows.items }
+    {
+        live_place(self.rows.as_slice(), self.directory.newest_of(device))
+    }
+
     /// The live connection that holds an address.
-    pub(crate) fn holder(&self, v: Vmac) -> Option<Connection>
+    fn holder(&self, v: Vmac) -> Option<Connection>
         ensures { result ≡ option_map connection (find (λ r. is_open r && same_vmac r.connection.who.vmac v) self.now.rows.items) }
     {
-        live_one(self.rows.as_slice(), self.directory.newest_at(v))
+        connection_at(self.rows.as_slice(), self.holder_place(v))
     }
 
     /// The live connection of a device.
     fn of_device(&self, device: &DeviceId) -> Option<Connection>
         ensures { result ≡ option_map connection (find (λ r. is_open r && same_device r.connection.who.device device.now) self.now.rows.items) }
     {
-        live_one(self.rows.as_slice(), self.directory.newest_of(device))
+        connection_at(self.rows.as_slice(), self.device_place(device))
     }
 
     /// The reply of a connect after every history that the desk stands for.
     fn choose(&self, who: &Identity) -> Choice
-        ensures reply { (h : List Entry) → StandsFor self.now h → choice_reply result ≡ connect_reply self.now.about h who.now }
+        ensures reply { (S : List Stamped) → StandsFor self.now S →
+            choice_reply result ≡ connect_reply self.now.about (entries S) who.now }
         ensures room { IfJoined result (λ row. vec_len self.now.rows < self.now.about.limits.rows) }
-        ensures number { IfJoined result (λ row. row.conn ≡ 1 + self.now.counts.joined) }
+        ensures number { IfJoined result (λ row. row.conn ≡ 1 + self.now.tally.counts.joined) }
 
         // No live connection but the one replaced has the address or the device.
         ensures free { IfJoined result (λ row. IsTrue (list_all (gives_place who.now row.replaced) self.now.rows.items)) }
     {
         let held = rival(who, self.holder(who.vmac));
         let joined = NewRow {
-            conn: 1 + self.counts.joined,
+            conn: 1 + self.tally.counts.joined,
             replaced: number_of(self.of_device(&who.device)),
         };
         let limit = self.about.limits.rows;
@@ -206,25 +230,32 @@ impl Desk {
 
     /// A refused connect adds its entry, and changes nothing else.
     fn refuse(&mut self, caller: u64, who: Identity, refusal: Refusal)
-        requires calls { self.old.made < self.old.about.limits.calls }
-        ensures stands { (h : List Entry) → StandsFor self.old h → Lawful self.old.about (moment h (connect_entry caller who (RefusedReply refusal))) → StandsFor self.new (h ++ connect_entry caller who (RefusedReply refusal) ∷ []) }
+        requires calls { self.old.tally.made < self.old.about.limits.calls }
+        ensures stands { (S : List Stamped) (m : Mark) → StandsFor self.old S →
+            Lawful self.old.about (moment (entries S) (connect_entry caller who (RefusedReply refusal))) →
+            StandsFor self.new (S ++ connect_stamped caller who m (RefusedReply refusal) ∷ []) }
         ensures about { self.new.about ≡ self.old.about }
         ensures rows { self.new.rows ≡ self.old.rows }
     {
-        self.made += 1;
-        self.counts.refused += 1;
+        self.tally.add(Counts {
+            refused: 1,
+            ..NOTHING
+        });
     }
 
     /// A join adds its entry and its row, and ends the connection that it replaces.
     fn join(&mut self, caller: u64, who: Identity, row: NewRow, inlet: Inlet)
-        requires calls { self.old.made < self.old.about.limits.calls }
+        requires calls { self.old.tally.made < self.old.about.limits.calls }
         requires room { vec_len self.old.rows < self.old.about.limits.rows }
-        requires new_inlet { IsNewInlet inlet self.old.about.limits.outbox }
-        requires number { row.conn ≡ 1 + self.old.counts.joined }
+        requires new_inlet { IsNewInlet inlet }
+        requires capacity { capacity_of inlet ≡ self.old.about.limits.outbox }
+        requires number { row.conn ≡ 1 + self.old.tally.counts.joined }
         requires free { IsTrue (list_all (gives_place who row.replaced) self.old.rows.items) }
-        ensures stands { (h : List Entry) → StandsFor self.old h → Lawful self.old.about (moment h (connect_entry caller who (JoinedReply row.conn row.replaced))) → StandsFor self.new (h ++ connect_entry caller who (JoinedReply row.conn row.replaced) ∷ []) }
+        ensures stands { (S : List Stamped) → StandsFor self.old S →
+            Lawful self.old.about (moment (entries S) (connect_entry caller who (JoinedReply row.conn row.replaced))) →
+            StandsFor self.new (S ++ connect_stamped caller who (inlet_mark inlet) (JoinedReply row.conn row.replaced) ∷ []) }
         ensures about { self.new.about ≡ self.old.about }
-        ensures taken { (c : ℕ) → taken_of self.new c ≡ taken_of self.old c }
+        ensures known { (c : ℕ) → known_of self.new c ≡ known_of self.old c }
     {
         finish(&mut self.rows, row.replaced, End::Replaced);
         let connection = Connection {
@@ -233,9 +264,15 @@ impl Desk {
             who,
         };
         self.directory.enter(&connection);
-        self.rows.push_reserved(Row { connection, inlet });
-        self.made += 1;
-        self.counts.joined += 1;
-        self.counts.replaced += one_if(row.replaced.is_some());
+        self.rows.push_reserved(Row {
+            connection,
+            inlet,
+            ending: None,
+        });
+        self.tally.add(Counts {
+            joined: 1,
+            replaced: one_if(row.replaced.is_some()),
+            ..NOTHING
+        });
     }
 }

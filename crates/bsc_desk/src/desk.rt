@@ -1,25 +1,24 @@
 //! What the hub of one thread keeps.
-ghost use Rattle.std.specs.Prelude.{◌≤◌, ◌+◌, ◌*◌, IsTrue, vec_len, vec_capacity};
-ghost use Rattle.std.specs.List.{list_all};
+ghost use Rattle.std.specs.Prelude.{◌≤◌, ◌+◌, vec_len, vec_capacity};
 ghost use Rattle.bsc_desk.specs.Directories.{AreFiled};
-ghost use Rattle.bsc_desk.specs.Bounds.{AreLimits, AreAtMost, stops_left, entered_at_most};
+ghost use Rattle.bsc_desk.specs.Bounds.{AreLimits, stops_left};
 
 use crate::directory::Directory;
 use crate::row::Row;
-use bsc_history::{About, Counts};
+use crate::tally::Tally;
+use bsc_history::About;
 
-/// The hub of one thread. It is made by `make`; `connect`, `forward_one`,
-/// `forward_all`, `leave`, `stop` and `count` add an entry each to its history; `take` takes the next frame
-/// from an outbox and adds none.
+/// The hub of one thread. It is made by `make`; `connect`, `forward_one`, `forward_all`, `leave`, `stop` and
+/// `count` add an entry each to its history; `meet` adds none. What the desk pushes at its inlets is taken at
+/// their outlets, which may be in other threads.
 #[derive(Drop)]
 pub struct Desk {
     /// The hub's own identity, and its limits.
     pub(crate) about: About,
     /// The place of the entry that stopped the hub.
     pub(crate) stopped_at: Option<u64>,
-    /// How many entries were made.
-    pub(crate) made: u64,
-    pub(crate) counts: Counts,
+    /// How many entries were made, and what they count.
+    pub(crate) tally: Tally,
     /// The connections that haven't left, in the order of joining, live or ended.
     pub(crate) rows: Vec<Row>,
     /// Their connections, by which a row is found.
@@ -30,9 +29,7 @@ pub struct Desk {
     ghost room: { about.limits.rows ≤ vec_capacity rows },
     ghost address_room: { about.limits.rows ≤ vec_capacity directory.by_address },
     ghost device_room: { about.limits.rows ≤ vec_capacity directory.by_device },
-    ghost filed: { AreFiled rows.items counts.joined directory },
+    ghost filed: { AreFiled rows.items tally.counts.joined directory },
     // Only leaving and stopping are entries past the limit, one for each row and one for the hub.
-    ghost few_calls: { made + vec_len rows + stops_left stopped_at ≤ about.limits.calls + about.limits.rows + 1 },
-    ghost counted: { AreAtMost counts (made * 1024) },
-    ghost entered: { IsTrue (list_all (entered_at_most made) rows.items) },
+    ghost few_calls: { tally.made + vec_len rows + stops_left stopped_at ≤ about.limits.calls + about.limits.rows + 1 },
 }

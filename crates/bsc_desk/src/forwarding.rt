@@ -1,31 +1,35 @@
 //! Forwards of a unicast.
 #![tactic(auto)]
 
-ghost use Rattle.std.specs.Prelude.{◌≡◌, ◌≤◌, ◌<◌, ◌↔◌, ℕ, ◌++◌, ◌∷◌, [], List, length, IfOk, IfErr, IsErr, OnErr, IsTrue, IsFalse};
-ghost use Rattle.std.specs.List.{AllByRecursion};
-ghost use Rattle.bsc_octets.specs.Forwarding.{is_broadcast};
-ghost use Rattle.bsc_history.specs.declared.entry.Entry.{Entry};
-ghost use Rattle.bsc_history.specs.declared.reply.Reply.TheVariants.{Appended as AppendedReply, Closed as ClosedReply};
-ghost use Rattle.bsc_history.specs.Entries.{moment};
-ghost use Rattle.bsc_history.specs.Legality.{Lawful};
+ghost use Rattle.std.specs.Prelude.{◌≡◌, ◌≤◌, ◌<◌, ◌↔◌, ◌&&◌, ◌++◌, ◌∷◌, [], List, length, position, vec_len, vec_capacity, Some, None, IfOk, IfErr, IsErr, OnErr, IsTrue, IsFalse, is_some};
+ghost use Rattle.bsc_octets.specs.Addresses.{same_vmac};
+ghost use Rattle.bsc_octets.specs.Forwarding.{destination, has_route, is_broadcast, out};
+ghost use Rattle.bsc_history.specs.declared.ending.End.TheVariants.{Full};
+ghost use Rattle.bsc_history.specs.declared.mark.Stamped.{Stamped};
+ghost use Rattle.bsc_history.specs.Marks.{entries};
 ghost use Rattle.bsc_history.specs.Replies.{forward_reply};
-ghost use Rattle.bsc_desk.specs.Rows.{IsRowOf, taken_of};
+ghost use Rattle.bsc_desk.specs.Counted.{unicast_counts};
+ghost use Rattle.bsc_desk.specs.Entries.{forward_entry, one_adds, one_looks, one_reply, one_unserved, plain, unserved};
+ghost use Rattle.bsc_desk.specs.Fates.{FaresAt, FewPushed, IsOpenAt, one_said};
+ghost use Rattle.bsc_desk.specs.Knowing.{Learns};
+ghost use Rattle.bsc_desk.specs.Live.{is_open};
+ghost use Rattle.bsc_desk.specs.Rows.{IsRowOf, IsUnserved, end_of};
 ghost use Rattle.bsc_desk.specs.Standing.{StandsFor};
-ghost use Rattle.bsc_desk.specs.Orders.{in_order};
-ghost use Rattle.bsc_desk.specs.Rising.{rises};
-ghost use Rattle.bsc_desk.specs.Choices.{one_at, one_to, first_one};
-ghost use Rattle.bsc_desk.specs.Entries.{one_reply, one_looks, one_adds, forward_entry};
+ghost use Rattle.bsc_desk.specs.Tallies.{AreAtMost};
 
 use crate::desk::Desk;
+use crate::fate::Fate;
 use crate::prepared::Prepared;
 use crate::row::Row;
-use crate::rows::{ending_at, finish, is_full_at, push, taken_at};
-use bsc_history::{Connection, End, Look, Worn};
+use crate::rows::end_at;
+use crate::tally::NOTHING;
+use bsc_history::{Counts, End, Look, Worn};
+use bsc_octets::Octets;
 
 /// The reply to a unicast.
 #[derive(Clone, Copy, Debug, PartialEq, Eq)]
 pub enum OneReply {
-    /// It joined the outbox of its holder; this is the look that was made there.
+    /// It joined the outbox of its holder; this is the look that its push made there.
     Appended(Look),
     /// The outbox of its holder was found full by this look, and the holder ended as Full.
     Closed(Look),
@@ -39,49 +43,85 @@ pub enum OneReply {
     Stopped,
 }
 
-/// A unicast to a connection, by a look at its outbox.
-fn one_at(rows: &[Row], conn: u64) -> OneReply
-    requires { IsTrue (in_order rises rows.now) }
-    ensures { result ≡ one_at rows.now conn }
+/// The answer to a unicast, by what became of it.
+fn one_said(fate: Fate) -> OneReply
+    ensures { result ≡ one_said fate }
 {
-    let look = Look {
-        conn,
-        taken: taken_at(rows, conn),
-    };
-    if is_full_at(rows, conn) {
-        OneReply::Closed(look)
-    } else {
-        OneReply::Appended(look)
+    match fate {
+        Fate::Unmeant => OneReply::NoHolder,
+        Fate::TooLong { conn } => OneReply::Skipped { conn },
+        Fate::Entered(look) => OneReply::Appended(look),
+        Fate::FoundFull(look) => OneReply::Closed(look),
     }
 }
 
-/// A unicast of so many octets to its holder, if there is one.
-fn one_to(rows: &[Row], len: usize, held: Option<Connection>) -> OneReply
-    requires { IsTrue (in_order rises rows.now) }
-    ensures { result ≡ one_to rows.now len held }
+/// The answer to a unicast that is dropped unsent.
+fn one_unserved(ended: Option<End>) -> OneReply
+    ensures { result ≡ one_unserved ended }
 {
-    match held {
-        None => OneReply::NoHolder,
-        Some(connection) => if (connection.who.max_bvlc as usize) < len {
-            OneReply::Skipped {
-                conn: connection.number,
-            }
-        } else {
-            one_at(rows, connection.number)
+    match ended {
+        Some(ending) => OneReply::NotCurrent { ending },
+        None => OneReply::Stopped,
+    }
+}
+
+/// What a unicast counts.
+fn counts_of(reply: OneReply) -> Counts
+    ensures value { result ≡ unicast_counts (one_reply reply) }
+    ensures small { AreAtMost result 1024 }
+{
+    match reply {
+        OneReply::Appended(_) => Counts {
+            unicasts: 1,
+            appended: 1,
+            ..NOTHING
+        },
+        OneReply::Closed(_) => Counts {
+            unicasts: 1,
+            dropped: 1,
+            full: 1,
+            ..NOTHING
+        },
+        OneReply::Skipped { .. }
+        | OneReply::NoHolder
+        | OneReply::NotCurrent { .. }
+        | OneReply::Stopped => Counts {
+            unicasts: 1,
+            dropped: 1,
+            ..NOTHING
         },
     }
 }
 
-/// The first case that holds.
-fn first_one(stopped: bool, ended: Option<End>, otherwise: OneReply) -> OneReply
-    ensures { result ≡ first_one stopped ended otherwise }
+/// Offers a unicast at the row of its holder.
+fn offer_at(rows: &mut Vec<Row>, place: usize, octets: Octets) -> Fate
+    requires few { FewPushed rows.old.items }
+    requires live { IsOpenAt (Some place) rows.old.items }
+    ensures fares { FaresAt (Some place) octets rows.old.items result rows.new.items }
+    ensures len { vec_len rows.new ≡ vec_len rows.old }
+    ensures capacity { vec_capacity rows.new ≡ vec_capacity rows.old }
 {
-    if stopped {
-        return OneReply::Stopped;
+    let row = &mut rows[place];
+    if row.is_short_of(octets.len()) {
+        Fate::TooLong {
+            conn: row.connection.number,
+        }
+    } else {
+        row.offer(octets, Some(End::Full))
     }
-    match ended {
-        Some(ending) => OneReply::NotCurrent { ending },
-        None => otherwise,
+}
+
+/// Offers a unicast at the row of its holder, if there is one.
+fn offer_to(rows: &mut Vec<Row>, place: Option<usize>, octets: Octets) -> Fate
+    requires few { FewPushed rows.old.items }
+    requires live { IsOpenAt place rows.old.items }
+    ensures fares { FaresAt place octets rows.old.items result rows.new.items }
+    ensures len { vec_len rows.new ≡ vec_len rows.old }
+    ensures capacity { vec_capacity rows.new ≡ vec_capacity rows.old }
+{
+    match place {
+        None => Fate::Unmeant,
+        Some(place) => offer_at(rows, place, octets),
     }
 }
 
@@ -89,95 +129,80 @@ impl Desk {
     /// Forwards a unicast of connection `conn`, which this caller joined, which hasn't left and which has the
     /// frame's sender as its VMAC. It joins the outbox of the live connection that holds its Destination, or
     /// else the first of these holds: worn; the hub has stopped; the sender has ended; nobody holds the
-    /// Destination; the octets are too long for the holder; its outbox is full, and it ends. A frame that
-    /// isn't appended is dropped. No memory is taken.
+    /// Destination; the octets are too long for the holder; the push finds the outbox full, and the holder
+    /// ends. A frame that isn't appended is dropped. No memory is taken.
     pub fn forward_one(&mut self, caller: u64, conn: u64, frame: Prepared) -> Result<OneReply, Worn>
         requires unicast { IsFalse (is_broadcast frame.message) }
         requires unleft { IsRowOf self.old caller conn frame.sender }
 
-        ensures due { (h : List Entry) → StandsFor self.old h →
-            IfOk result (λ r. one_reply r ≡ forward_reply self.old.about h conn frame.message (one_looks r)) }
-        ensures worn { (h : List Entry) → StandsFor self.old h → IsErr result ↔ (self.old.about.limits.calls ≤ length h) }
-        ensures stands { (h : List Entry) → StandsFor self.old h → StandsFor self.new (h ++ one_adds caller conn frame.message result) }
+        // The desk stands for some history, by which few frames were pushed.
+        requires some { (S : List Stamped) × StandsFor self.old S }
+
+        ensures due { (S : List Stamped) → StandsFor self.old S → IfOk result (λ r.
+            one_reply r ≡ forward_reply self.old.about (entries S) conn frame.message (one_looks r)) }
+        ensures worn { (S : List Stamped) → StandsFor self.old S →
+            IsErr result ↔ (self.old.about.limits.calls ≤ length S) }
+        ensures stands { (S : List Stamped) → StandsFor self.old S →
+            StandsFor self.new (S ++ one_adds caller conn frame.message result) }
         ensures about { self.new.about ≡ self.old.about }
 
-        // A look finds the number taken, which no forward changes.
-        ensures looked { IfOk result (λ r. AllByRecursion (λ k. k.taken ≡ taken_of self.old k.conn) (one_looks r)) }
-        ensures taken { (c : ℕ) → taken_of self.new c ≡ taken_of self.old c }
+        // The look is that of the call's own push.
+        ensures learns { IfOk result (λ r. Learns self.old (one_looks r) self.new) }
         ensures err { OnErr result (self.new ≡ self.old) }
         ensures limit { IfErr result (λ worn. worn.calls ≡ self.old.about.limits.calls) }
     {
         let calls = self.about.limits.calls;
-        if calls <= self.made {
+        if calls <= self.tally.made {
             return Err(Worn { calls });
         }
-        let reply = self.choose_one(conn, &frame);
-        match reply {
-            OneReply::Appended(look) => self.append(caller, conn, frame, look),
-            OneReply::Closed(look) => self.close(caller, conn, &frame, look),
-            OneReply::Skipped { .. }
-            | OneReply::NoHolder
-            | OneReply::NotCurrent { .. }
-            | OneReply::Stopped => self.let_go(caller, conn, &frame, reply),
+        if self.stopped_at.is_some() {
+            return Ok(self.drop_one(caller, conn, &frame, None));
         }
-        Ok(reply)
+        match end_at(self.rows.as_slice(), conn) {
+            Some(ending) => Ok(self.drop_one(caller, conn, &frame, Some(ending))),
+            None => Ok(self.send_one(caller, conn, frame)),
+        }
     }
 
-    /// The reply to a unicast after every history that the desk stands for.
-    fn choose_one(&self, conn: u64, frame: &Prepared) -> OneReply
+    /// A unicast is dropped unsent, as its sender has ended, or else as the hub has stopped.
+    fn drop_one(&mut self, caller: u64, conn: u64, frame: &Prepared, ended: Option<End>) -> OneReply
         requires unicast { IsFalse (is_broadcast frame.now.message) }
-        ensures lawful { (h : List Entry) (caller : ℕ) → StandsFor self.now h → IsRowOf self.now caller conn frame.now.sender → self.now.made < self.now.about.limits.calls → Lawful self.now.about (moment h (forward_entry caller conn frame.now.message (one_looks result) (one_reply result))) }
-        ensures looked { AllByRecursion (λ k. k.taken ≡ taken_of self.now k.conn) (one_looks result) }
-    {
-        let rows = self.rows.as_slice();
-        let held = self.holder(frame.destination());
-        let otherwise = one_to(rows, frame.len(), held);
-        first_one(self.stopped_at.is_some(), ending_at(rows, conn), otherwise)
-    }
-
-    /// The frame joins the outbox that was looked at.
-    fn append(&mut self, caller: u64, conn: u64, frame: Prepared, look: Look)
-        requires unicast { IsFalse (is_broadcast frame.message) }
-        requires unleft { IsRowOf self.old caller conn frame.sender }
-        requires calls { self.old.made < self.old.about.limits.calls }
-        requires looked { look.taken ≡ taken_of self.old look.conn }
-        ensures stands { (h : List Entry) → StandsFor self.old h → Lawful self.old.about (moment h (forward_entry caller conn frame.message (look ∷ []) (AppendedReply look.conn))) → StandsFor self.new (h ++ forward_entry caller conn frame.message (look ∷ []) (AppendedReply look.conn) ∷ []) }
-        ensures about { self.new.about ≡ self.old.about }
-        ensures taken { (c : ℕ) → taken_of self.new c ≡ taken_of self.old c }
-    {
-        push(&mut self.rows, look.conn, frame.into_octets());
-        self.made += 1;
-        self.counts.unicasts += 1;
-        self.counts.appended += 1;
-    }
-
-    /// The connection whose outbox was found full ends.
-    fn close(&mut self, caller: u64, conn: u64, frame: &Prepared, look: Look)
-        requires unicast { IsFalse (is_broadcast frame.now.message) }
-        requires calls { self.old.made < self.old.about.limits.calls }
-        requires looked { look.taken ≡ taken_of self.old look.conn }
-        ensures stands { (h : List Entry) → StandsFor self.old h → Lawful self.old.about (moment h (forward_entry caller conn frame.now.message (look ∷ []) (ClosedReply look.conn))) → StandsFor self.new (h ++ forward_entry caller conn frame.now.message (look ∷ []) (ClosedReply look.conn) ∷ []) }
-        ensures about { self.new.about ≡ self.old.about }
-        ensures taken { (c : ℕ) → taken_of self.new c ≡ taken_of self.old c }
-    {
-        finish(&mut self.rows, Some(look.conn), End::Full);
-        self.made += 1;
-        self.counts.unicasts += 1;
-        self.counts.dropped += 1;
-        self.counts.full += 1;
-    }
-
-    /// A frame that no outbox was looked at for is dropped, and its entry is made.
-    fn let_go(&mut self, caller: u64, conn: u64, frame: &Prepared, reply: OneReply)
-        requires unicast { IsFalse (is_broadcast frame.now.message) }
-        requires calls { self.old.made < self.old.about.limits.calls }
-        requires no_look { one_looks reply ≡ [] }
-        ensures stands { (h : List Entry) → StandsFor self.old h → Lawful self.old.about (moment h (forward_entry caller conn frame.now.message [] (one_reply reply))) → StandsFor self.new (h ++ forward_entry caller conn frame.now.message [] (one_reply reply) ∷ []) }
+        requires calls { self.old.tally.made < self.old.about.limits.calls }
+        requires unserved { IsUnserved self.old conn ended }
+        requires unleft { IsRowOf self.old caller conn frame.now.sender }
+        ensures value { result ≡ one_unserved ended }
+        ensures due { (S : List Stamped) → StandsFor self.old S →
+            unserved ended ≡ forward_reply self.old.about (entries S) conn frame.now.message [] }
+        ensures stands { (S : List Stamped) → StandsFor self.old S →
+            StandsFor self.new (S ++ plain (forward_entry caller conn frame.now.message [] (unserved ended)) ∷ []) }
         ensures about { self.new.about ≡ self.old.about }
         ensures rows { self.new.rows ≡ self.old.rows }
     {
-        self.made += 1;
-        self.counts.unicasts += 1;
-        self.counts.dropped += 1;
+        frame.has_route();
+        let reply = one_unserved(ended);
+        self.tally.add(counts_of(reply));
+        reply
+    }
+
+    /// A unicast of a live sender is offered to its holder.
+    fn send_one(&mut self, caller: u64, conn: u64, frame: Prepared) -> OneReply
+        requires unicast { IsFalse (is_broadcast frame.message) }
+        requires unleft { IsRowOf self.old caller conn frame.sender }
+        requires some { (S : List Stamped) × StandsFor self.old S }
+        requires calls { self.old.tally.made < self.old.about.limits.calls }
+        requires goes_on { self.old.stopped_at ≡ None }
+        requires current { end_of self.old conn ≡ None }
+        ensures due { (S : List Stamped) → StandsFor self.old S →
+            one_reply result ≡ forward_reply self.old.about (entries S) conn frame.message (one_looks result) }
+        ensures stands { (S : List Stamped) → StandsFor self.old S →
+            StandsFor self.new (S ++ plain (forward_entry caller conn frame.message (one_looks result) (one_reply result)) ∷ []) }
+        ensures about { self.new.about ≡ self.old.about }
+        ensures learns { Learns self.old (one_looks result) self.new }
+    {
+        frame.has_route();
+        let place = self.holder_place(frame.destination());
+        let reply = one_said(offer_to(&mut self.rows, place, frame.into_octets()));
+        self.tally.add(counts_of(reply));
+        reply
     }
 }

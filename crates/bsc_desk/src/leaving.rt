@@ -1,22 +1,26 @@
-//! Leaving, stopping and counting.
+//! Leaving.
 #![tactic(auto)]
 
-ghost use Rattle.std.specs.Prelude.{◌≡◌, ◌≢◌, ◌≤◌, ◌<◌, ◌↔◌, ℕ, ◌++◌, ◌∷◌, [], List, length, position, Some, None, unwrap_or, IfOk, IfErr, IsErr, OnErr, IsTrue};
-ghost use Rattle.bsc_history.specs.declared.entry.Entry.{Entry};
+ghost use Rattle.std.specs.Prelude.{◌≡◌, ◌≢◌, ◌==◌, ◌<◌, ◌++◌, ◌∷◌, [], ℕ, List, length, take, position, vec_len, vec_capacity, Some, None};
+ghost use Rattle.std.specs.List.{remove};
 ghost use Rattle.bsc_history.specs.declared.call.Call.TheVariants.{Leave};
-ghost use Rattle.bsc_history.specs.declared.ending.End.TheVariants.{Left};
-ghost use Rattle.bsc_history.specs.Entries.{stops};
-ghost use Rattle.bsc_history.specs.Counting.{counts};
-ghost use Rattle.bsc_history.specs.Replies.{reply, is_stopped};
-ghost use Rattle.bsc_desk.specs.Rows.{IsRowBy, row_of, taken_of, ending_of};
+ghost use Rattle.bsc_history.specs.declared.ending.End.{End};
+ghost use Rattle.bsc_history.specs.declared.mark.Stamped.{Stamped};
+ghost use Rattle.bsc_history.specs.Marks.{entries};
+ghost use Rattle.bsc_history.specs.Outboxes.{sent};
+ghost use Rattle.bsc_history.specs.Replies.{reply};
+ghost use Rattle.bsc_ring.specs.Ends.{FoundEnd, empties_of, given, outlet_mark};
+ghost use Rattle.bsc_desk.specs.Entries.{gone_reply, leave_entry, plain};
+ghost use Rattle.bsc_desk.specs.Meetings.{IsOutletOf};
+ghost use Rattle.bsc_desk.specs.Rows.{IsMarkOf, IsRowBy, row_of};
 ghost use Rattle.bsc_desk.specs.Standing.{StandsFor};
-ghost use Rattle.bsc_desk.specs.Taking.{KeepsOthers};
-ghost use Rattle.bsc_desk.specs.Entries.{gone_reply, leave_entry, stop_entry, count_entry, stop_adds, count_adds};
 
 use crate::desk::Desk;
-use crate::outbox::Outlet;
-use crate::rows::{ending_at, finish_all, remove, taken_at};
-use bsc_history::{AlreadyStopped, Counts, End, Worn};
+use crate::row::Row;
+use crate::rows::place_of;
+use crate::tally::NOTHING;
+use bsc_history::End;
+use bsc_ring::{Outlet, unite};
 
 /// What a connection that leaves is told.
 #[derive(Clone, Copy, Debug, PartialEq, Eq)]
@@ -28,106 +32,69 @@ pub struct Gone {
 }
 
 impl Desk {
-    /// Connection `conn`, which this caller joined and which hasn't left, leaves, and gives its outlet back. It
-    /// is told its End, Left where it was live, and how many frames were taken. Its row is free again, and what
-    /// waits in its outbox is dropped. It is never refused, and no memory is taken.
+    /// Connection `conn`, which this caller joined and which hasn't left, leaves, and gives its outlet back: the
+    /// two ends of its outbox are united. It is told its End, Left where it was live, and how many frames the
+    /// outlet gave. Its row is free again, and what waits in its outbox is dropped. It is never refused, and no
+    /// memory is taken.
     pub fn leave(&mut self, caller: u64, conn: u64, outlet: Outlet) -> Gone
         requires unleft { IsRowBy self.old caller conn }
-        requires own_outlet { outlet.conn ≡ conn }
+        requires mark { IsMarkOf self.old conn (outlet_mark outlet) }
 
         // What is answered is what the definition of replies asks for, after each history.
-        ensures due { (h : List Entry) → StandsFor self.old h →
-            gone_reply result ≡ reply self.old.about h (Leave conn result.taken outlet.empties) [] }
-        ensures stands { (h : List Entry) → StandsFor self.old h →
-            StandsFor self.new (h ++ leave_entry caller conn outlet.empties result ∷ []) }
+        ensures due { (S : List Stamped) → StandsFor self.old S →
+            gone_reply result ≡ reply self.old.about (entries S) (Leave conn result.taken (empties_of outlet)) [] }
+        ensures stands { (S : List Stamped) → StandsFor self.old S →
+            StandsFor self.new (S ++ plain (leave_entry caller conn (empties_of outlet) result) ∷ []) }
         ensures about { self.new.about ≡ self.old.about }
-        ensures taken { result.taken ≡ taken_of self.old conn }
+
+        // The outlet gave so many frames, the first of those that entered the outbox; and where its loads found an
+        // End, that End is the one answered.
+        ensures taken { result.taken ≡ length (given outlet) }
+        ensures outlet { (S : List Stamped) → StandsFor self.old S →
+            IsOutletOf self.old.about (entries S) conn outlet }
+        ensures given { (S : List Stamped) → StandsFor self.old S →
+            given outlet ≡ take result.taken (sent self.old.about (entries S) conn) }
+        ensures found { (e : End) → FoundEnd outlet e → result.ending ≡ e }
+
         ensures row { row_of self.new conn ≡ None }
-        ensures others { (k : ℕ) → k ≢ conn → KeepsOthers self.old self.new k }
+        ensures others { (k : ℕ) → k ≢ conn → row_of self.new k ≡ row_of self.old k }
     {
-        let rows = self.rows.as_slice();
-        let ending = ending_at(rows, conn).unwrap_or(End::Left);
-        let taken = taken_at(rows, conn);
-        self.go(caller, conn, &outlet, Gone { ending, taken })
-    }
-
-    /// Ends every live connection as Stopped, and answers the counts of the history before. From then on no
-    /// connection joins and nothing is forwarded. It is refused exactly where the hub has been stopped before,
-    /// and then nothing changes. No memory is taken.
-    pub fn stop(&mut self, caller: u64) -> Result<Counts, AlreadyStopped>
-        ensures due { (h : List Entry) → StandsFor self.old h → IfOk result (λ k. k ≡ counts h) }
-        ensures refused { (h : List Entry) → StandsFor self.old h → IsErr result ↔ IsTrue (is_stopped h) }
-        ensures place { (h : List Entry) → StandsFor self.old h → IfErr result (λ already. position stops h ≡ Some already.at) }
-        ensures stands { (h : List Entry) → StandsFor self.old h → StandsFor self.new (h ++ stop_adds caller result) }
-        ensures about { self.new.about ≡ self.old.about }
-        ensures others { (k : ℕ) → KeepsOthers self.old self.new k }
-        ensures err { OnErr result (self.new ≡ self.old) }
-    {
-        match self.stopped_at {
-            Some(at) => Err(AlreadyStopped { at }),
-            None => Ok(self.end_all(caller)),
+        match place_of(self.rows.as_slice(), conn) {
+            None => unreachable!(),
+            Some(place) => self.leave_at(caller, conn, place, outlet),
         }
     }
 
-    /// The counts of the history before. Worn comes exactly where the hub has made as many calls as it may, and
-    /// then no entry is made. No memory is taken.
-    pub fn count(&mut self, caller: u64) -> Result<Counts, Worn>
-        ensures due { (h : List Entry) → StandsFor self.old h → IfOk result (λ k. k ≡ counts h) }
-        ensures worn { (h : List Entry) → StandsFor self.old h → IsErr result ↔ (self.old.about.limits.calls ≤ length h) }
-        ensures stands { (h : List Entry) → StandsFor self.old h → StandsFor self.new (h ++ count_adds caller result) }
-        ensures about { self.new.about ≡ self.old.about }
-        ensures others { (k : ℕ) → KeepsOthers self.old self.new k }
-        ensures err { OnErr result (self.new ≡ self.old) }
-        ensures limit { IfErr result (λ worn. worn.calls ≡ self.old.about.limits.calls) }
-    {
-        let calls = self.about.limits.calls;
-        if calls <= self.made {
-            return Err(Worn { calls });
-        }
-        Ok(self.note_count(caller))
-    }
-
-    /// The row of a connection goes, and its entry is made.
-    fn go(&mut self, caller: u64, conn: u64, outlet: &Outlet, gone: Gone) -> Gone
+    /// The same at the place of the connection's row.
+    fn leave_at(&mut self, caller: u64, conn: u64, place: usize, outlet: Outlet) -> Gone
         requires unleft { IsRowBy self.old caller conn }
-        requires ending { gone.ending ≡ unwrap_or (ending_of self.old conn) Left }
-        requires taken { gone.taken ≡ taken_of self.old conn }
-        ensures result { result ≡ gone }
-        ensures due { (h : List Entry) → StandsFor self.old h → gone_reply gone ≡ reply self.old.about h (Leave conn gone.taken outlet.now.empties) [] }
-        ensures stands { (h : List Entry) → StandsFor self.old h → StandsFor self.new (h ++ leave_entry caller conn outlet.now.empties gone ∷ []) }
+        requires mark { IsMarkOf self.old conn (outlet_mark outlet) }
+        requires place { position (λ r. r.connection.number == conn) self.old.rows.items ≡ Some place }
+        ensures due { (S : List Stamped) → StandsFor self.old S →
+            gone_reply result ≡ reply self.old.about (entries S) (Leave conn result.taken (empties_of outlet)) [] }
+        ensures stands { (S : List Stamped) → StandsFor self.old S →
+            StandsFor self.new (S ++ plain (leave_entry caller conn (empties_of outlet) result) ∷ []) }
         ensures about { self.new.about ≡ self.old.about }
+        ensures taken { result.taken ≡ length (given outlet) }
+        ensures outlet { (S : List Stamped) → StandsFor self.old S →
+            IsOutletOf self.old.about (entries S) conn outlet }
+        ensures given { (S : List Stamped) → StandsFor self.old S →
+            given outlet ≡ take result.taken (sent self.old.about (entries S) conn) }
+        ensures found { (e : End) → FoundEnd outlet e → result.ending ≡ e }
         ensures row { row_of self.new conn ≡ None }
-        ensures others { (k : ℕ) → k ≢ conn → KeepsOthers self.old self.new k }
+        ensures others { (k : ℕ) → k ≢ conn → row_of self.new k ≡ row_of self.old k }
     {
         self.directory.leave(conn);
-        remove(&mut self.rows, conn);
-        self.made += 1;
-        gone
-    }
-
-    /// The entry of a count is made, and nothing else changes.
-    fn note_count(&mut self, caller: u64) -> Counts
-        requires calls { self.old.made < self.old.about.limits.calls }
-        ensures result { result ≡ self.old.counts }
-        ensures stands { (h : List Entry) → StandsFor self.old h → StandsFor self.new (h ++ count_entry caller result ∷ []) }
-        ensures about { self.new.about ≡ self.old.about }
-        ensures rows { self.new.rows ≡ self.old.rows }
-    {
-        self.made += 1;
-        self.counts
-    }
-
-    /// All connections end, and the entry is made.
-    fn end_all(&mut self, caller: u64) -> Counts
-        requires goes_on { self.old.stopped_at ≡ None }
-        ensures result { result ≡ self.old.counts }
-        ensures stands { (h : List Entry) → StandsFor self.old h → StandsFor self.new (h ++ stop_entry caller result ∷ []) }
-        ensures about { self.new.about ≡ self.old.about }
-        ensures others { (k : ℕ) → KeepsOthers self.old self.new k }
-    {
-        finish_all(&mut self.rows, End::Stopped);
-        self.stopped_at = Some(self.made);
-        self.made += 1;
-        self.counts
+        let Row {
+            connection: _,
+            inlet,
+            ending,
+        } = self.rows.remove(place);
+        let remains = unite(inlet, outlet);
+        self.tally.add(NOTHING);
+        Gone {
+            ending: ending.unwrap_or(End::Left),
+            taken: remains.taken,
+        }
     }
 }

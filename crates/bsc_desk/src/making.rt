@@ -1,31 +1,16 @@
-//! Making inlets and desks.
+//! Making desks.
 #![tactic(auto)]
 
 ghost use Rattle.std.specs.Prelude.{◌≡◌, ◌≤◌, ◌^◌, List, [], length, IfOk};
-ghost use Rattle.bsc_history.specs.declared.entry.Entry.{Entry};
-ghost use Rattle.bsc_desk.specs.Rows.{IsNewInlet};
+ghost use Rattle.bsc_history.specs.declared.mark.Stamped.{Stamped};
 ghost use Rattle.bsc_desk.specs.Standing.{StandsFor};
 
 use crate::desk::Desk;
 use crate::directory::Directory;
-use crate::outbox::Inlet;
-use bsc_history::{About, Counts, Limits};
+use crate::tally::Tally;
+use bsc_history::{About, Limits};
 use bsc_octets::{Identity, NoMemory};
-use circular_buffer::HeapCircularBuffer;
 use std::alloc::Global;
-
-/// A new inlet of some capacity, 2 to 1024 frames. All of its room is taken now.
-pub fn inlet(alloc: Global, capacity: u32) -> Result<Inlet, NoMemory>
-    requires some_room { 2 ≤ capacity }
-    requires little_room { capacity ≤ 1024 }
-    ensures { IfOk result (λ i. IsNewInlet i capacity) }
-{
-    Ok(Inlet {
-        waiting: HeapCircularBuffer::with_capacity(alloc, capacity as usize)?,
-        taken: 0,
-        ending: None,
-    })
-}
 
 impl Desk {
     /// A desk with no entries. All room for rows is taken now: 1 to 1024 rows, outboxes of 2 to 1024 frames,
@@ -45,18 +30,7 @@ impl Desk {
         Ok(Desk {
             about: About { hub, limits },
             stopped_at: None,
-            made: 0,
-            counts: Counts {
-                joined: 0,
-                replaced: 0,
-                refused: 0,
-                unicasts: 0,
-                broadcasts: 0,
-                appended: 0,
-                dropped: 0,
-                full: 0,
-                missed: 0,
-            },
+            tally: Tally::new(),
             rows: Vec::with_capacity(alloc, limits.rows as usize)?,
             directory: Directory::make(alloc, limits.rows as usize)?,
         })
@@ -64,8 +38,8 @@ impl Desk {
 
     /// How many entries were made.
     pub fn made(&self) -> u64
-        ensures { (h : List Entry) → StandsFor self.now h → result ≡ length h }
+        ensures { (S : List Stamped) → StandsFor self.now S → result ≡ length S }
     {
-        self.made
+        self.tally.made
     }
 }

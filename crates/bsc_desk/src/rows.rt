@@ -1,21 +1,16 @@
-//! What is done to the outboxes of rows, by the number of a connection. Rows stand in the order of their
-//! numbers.
+//! Finding rows by the number of a connection. Rows stand in the order of their numbers.
 #![tactic(auto)]
 
-ghost use Rattle.std.specs.Prelude.{◌≡◌, ◌<◌, ◌==◌, not, map, filter, position, find, Some, option_copied, nat_lt, vec_len, vec_capacity, IsTrue};
-ghost use Rattle.std.specs.List.{list_any, list_all};
+ghost use Rattle.std.specs.Prelude.{◌≡◌, ◌≢◌, ◌==◌, true, position, find, Some, vec_len, vec_capacity, IsTrue};
+ghost use Rattle.bsc_history.specs.declared.ending.End.TheVariants.{Left};
 ghost use Rattle.bsc_desk.specs.Orders.{in_order};
 ghost use Rattle.bsc_desk.specs.Rising.{rises};
-ghost use Rattle.bsc_desk.specs.Directories.{open_in};
-ghost use Rattle.bsc_desk.specs.Rows.{taken_in, waiting_in, ending_in};
-ghost use Rattle.bsc_desk.specs.Taking.{next_taken};
-ghost use Rattle.bsc_desk.specs.Choices.{full_in};
-ghost use Rattle.bsc_desk.specs.Inlets.{is_row, done_at, with_inlet, with_end, with_frame, without_first};
+ghost use Rattle.bsc_desk.specs.Changes.{EachBecomes, FinishesIf};
+ghost use Rattle.bsc_desk.specs.Directories.{open_place};
+ghost use Rattle.bsc_desk.specs.Live.{end_in, is_row};
 
-use crate::outbox::Take;
 use crate::row::Row;
 use bsc_history::End;
-use bsc_octets::Octets;
 
 /// Whether the row at a place is that of a connection.
 fn stands_at(rows: &[Row], conn: u64, place: usize) -> bool
@@ -34,7 +29,7 @@ fn likely_place(rows: &[Row], conn: u64) -> usize {
 }
 
 /// The place of the row of a connection.
-fn place_of(rows: &[Row], conn: u64) -> Option<usize>
+pub(crate) fn place_of(rows: &[Row], conn: u64) -> Option<usize>
     requires { IsTrue (in_order rises rows.now) }
     ensures { result ≡ position (λ r. r.connection.number == conn) rows.now }
 {
@@ -55,27 +50,64 @@ fn searched_place(rows: &[Row], conn: u64) -> Option<usize>
         .ok()
 }
 
+/// The place of the row of a connection that is live.
+pub(crate) fn open_place(rows: &[Row], conn: u64) -> Option<usize>
+    requires { IsTrue (in_order rises rows.now) }
+    ensures { result ≡ open_place rows.now conn }
+{
+    match place_of(rows, conn) {
+        Some(place) => if rows[place].is_open() {
+            Some(place)
+        } else {
+            None
+        },
+        None => None,
+    }
+}
+
+/// How a connection has ended, if it has.
+pub(crate) fn end_at(rows: &[Row], conn: u64) -> Option<End>
+    requires { IsTrue (in_order rises rows.now) }
+    ensures { result ≡ end_in (find (λ r. r.connection.number == conn) rows.now) }
+{
+    match place_of(rows, conn) {
+        Some(place) => rows[place].ending,
+        None => None,
+    }
+}
+
+/// Finishes the outbox of the row at a place with an End.
+fn finish_at(rows: &mut Vec<Row>, conn: u64, place: usize, ending: End)
+    requires place { position (λ r. r.connection.number == conn) rows.old.items ≡ Some place }
+    requires rising { IsTrue (in_order rises rows.old.items) }
+    requires named { ending ≢ Left }
+    ensures items { EachBecomes (λ r s. FinishesIf (is_row (Some conn) r) ending r s) rows.old.items rows.new.items }
+    ensures len { vec_len rows.new ≡ vec_len rows.old }
+    ensures capacity { vec_capacity rows.new ≡ vec_capacity rows.old }
+{
+    let row = &mut rows[place];
+    row.finish(ending);
+}
+
 /// Finishes the outbox of a connection with an End.
 fn finish_one(rows: &mut Vec<Row>, conn: u64, ending: End)
-    requires { IsTrue (in_order rises rows.old.items) }
-    ensures items { rows.new.items ≡ done_at (Some conn) (with_end ending) rows.old.items }
+    requires rising { IsTrue (in_order rises rows.old.items) }
+    requires named { ending ≢ Left }
+    ensures items { EachBecomes (λ r s. FinishesIf (is_row (Some conn) r) ending r s) rows.old.items rows.new.items }
     ensures len { vec_len rows.new ≡ vec_len rows.old }
     ensures capacity { vec_capacity rows.new ≡ vec_capacity rows.old }
 {
     match place_of(rows, conn) {
         None => {}
-        Some(place) => {
-            let row = &mut rows[place];
-            row.inlet.finish(ending);
-        }
+        Some(place) => finish_at(rows, conn, place, ending),
     }
 }
 
-/// Finishes the outbox of a connection, if one is given, with an End.
-#[tactic(auto, using(crate::proofs::Places::not_done))]
+/// Finishes the outbox of the connection given, if there is one, with an End.
 pub(crate) fn finish(rows: &mut Vec<Row>, conn: Option<u64>, ending: End)
-    requires { IsTrue (in_order rises rows.old.items) }
-    ensures items { rows.new.items ≡ done_at conn (with_end ending) rows.old.items }
+    requires rising { IsTrue (in_order rises rows.old.items) }
+    requires named { ending ≢ Left }
+    ensures items { EachBecomes (λ r s. FinishesIf (is_row conn r) ending r s) rows.old.items rows.new.items }
     ensures len { vec_len rows.new ≡ vec_len rows.old }
     ensures capacity { vec_capacity rows.new ≡ vec_capacity rows.old }
 {
@@ -85,118 +117,20 @@ pub(crate) fn finish(rows: &mut Vec<Row>, conn: Option<u64>, ending: End)
     }
 }
 
-/// Puts a frame into the outbox of a connection. One that finds no room is dropped.
-pub(crate) fn push(rows: &mut Vec<Row>, conn: u64, frame: Octets)
-    requires { IsTrue (in_order rises rows.old.items) }
-    ensures items { rows.new.items ≡ done_at (Some conn) (with_frame frame) rows.old.items }
-    ensures len { vec_len rows.new ≡ vec_len rows.old }
-    ensures capacity { vec_capacity rows.new ≡ vec_capacity rows.old }
-{
-    match place_of(rows, conn) {
-        None => {}
-        Some(place) => {
-            let row = &mut rows[place];
-            row.inlet.push(frame);
-        }
-    }
-}
-
-/// The row of a connection.
-pub(crate) fn row_of(rows: &[Row], conn: u64) -> Option<&Row>
-    requires { IsTrue (in_order rises rows.now) }
-    ensures { option_copied result ≡ find (λ r. r.connection.number == conn) rows.now }
-{
-    match place_of(rows, conn) {
-        Some(place) => Some(&rows[place]),
-        None => None,
-    }
-}
-
-/// How many frames were taken from the outbox of a connection.
-pub(crate) fn taken_at(rows: &[Row], conn: u64) -> u64
-    requires { IsTrue (in_order rises rows.now) }
-    ensures { result ≡ taken_in (find (λ r. r.connection.number == conn) rows.now) }
-{
-    match row_of(rows, conn) {
-        Some(row) => row.inlet.taken,
-        None => 0,
-    }
-}
-
-/// How a connection has ended, if it has.
-pub(crate) fn ending_at(rows: &[Row], conn: u64) -> Option<End>
-    requires { IsTrue (in_order rises rows.now) }
-    ensures { result ≡ ending_in (find (λ r. r.connection.number == conn) rows.now) }
-{
-    match row_of(rows, conn) {
-        Some(row) => row.inlet.ending,
-        None => None,
-    }
-}
-
-/// Whether a connection is live.
-pub(crate) fn is_open_at(rows: &[Row], conn: u64) -> bool
-    requires { IsTrue (in_order rises rows.now) }
-    ensures { result ≡ open_in (find (λ r. r.connection.number == conn) rows.now) }
-{
-    match row_of(rows, conn) {
-        Some(row) => row.is_open(),
-        None => false,
-    }
-}
-
-/// Whether the outbox of a connection is full.
-pub(crate) fn is_full_at(rows: &[Row], conn: u64) -> bool
-    requires { IsTrue (in_order rises rows.now) }
-    ensures { result ≡ full_in (find (λ r. r.connection.number == conn) rows.now) }
-{
-    match row_of(rows, conn) {
-        Some(row) => row.inlet.is_full(),
-        None => false,
-    }
-}
-
-/// Takes the next frame from the outbox of a connection that has a row.
-pub(crate) fn take_at(rows: &mut Vec<Row>, conn: u64) -> Take
-    requires rising { IsTrue (in_order rises rows.old.items) }
-    requires some_row { IsTrue (list_any (λ r. r.connection.number == conn) rows.old.items) }
-    requires few { IsTrue (list_all (λ r. nat_lt r.inlet.taken 18446744073709551615) rows.old.items) }
-    ensures given { result ≡ next_taken (waiting_in (find (λ r. r.connection.number == conn) rows.old.items)) (ending_in (find (λ r. r.connection.number == conn) rows.old.items)) }
-    ensures items { rows.new.items ≡ done_at (Some conn) without_first rows.old.items }
-    ensures len { vec_len rows.new ≡ vec_len rows.old }
-    ensures capacity { vec_capacity rows.new ≡ vec_capacity rows.old }
-{
-    match place_of(rows, conn) {
-        None => unreachable!(),
-        Some(place) => {
-            let row = &mut rows[place];
-            row.inlet.take()
-        }
-    }
-}
-
-/// Takes the row of a connection that has one out.
-pub(crate) fn remove(rows: &mut Vec<Row>, conn: u64)
-    requires some_row { IsTrue (list_any (λ r. r.connection.number == conn) rows.old.items) }
-    ensures items { rows.new.items ≡ filter (λ r. not (r.connection.number == conn)) rows.old.items }
-    ensures capacity { vec_capacity rows.new ≡ vec_capacity rows.old }
-    ensures len { vec_len rows.new < vec_len rows.old }
-{
-    rows.retain(|row| row.connection.number != conn);
-}
-
-/// Finishes each outbox with an End.
+/// Finishes the outbox of each row with an End.
 fn finish_each(rows: &mut [Row], ending: End)
-    ensures { rows.new ≡ map (with_inlet (with_end ending)) rows.old }
+    requires named { ending ≢ Left }
+    ensures { EachBecomes (λ r s. FinishesIf true ending r s) rows.old rows.new }
 {
     for row in rows.iter_mut() {
-        row.inlet.finish(ending);
+        row.finish(ending);
     }
 }
 
 /// Finishes the outboxes of all rows with an End.
 pub(crate) fn finish_all(rows: &mut Vec<Row>, ending: End)
-    ensures items { rows.new.items ≡ map (with_inlet (with_end ending)) rows.old.items }
+    requires named { ending ≢ Left }
+    ensures items { EachBecomes (λ r s. FinishesIf true ending r s) rows.old.items rows.new.items }
     ensures len { vec_len rows.new ≡ vec_len rows.old }
     ensures capacity { vec_capacity rows.new ≡ vec_capacity rows.old }
 {

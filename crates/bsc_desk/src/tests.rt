@@ -1,11 +1,16 @@
 //! One hub from its making, against replies worked out by hand.
-ghost use Rattle.std.specs.Prelude.{◌≡◌, ◌==◌, ◌∷◌, [], ◌&&◌, IsTrue, IsFalse};
+ghost use Rattle.std.specs.Prelude.{◌≡◌, ◌==◌, ◌∷◌, [], ◌&&◌, nat_le, List, IfOk, IsTrue, IsFalse};
 ghost use Rattle.std.specs.List.{list_any};
 ghost use Rattle.bsc_octets.specs.Addresses.{same_vmac};
 ghost use Rattle.bsc_octets.specs.Forwarding.{has_route, is_broadcast};
+ghost use Rattle.bsc_history.specs.declared.mark.Stamped.{Stamped};
+ghost use Rattle.bsc_ring.specs.Ends.{outlet_mark};
+ghost use Rattle.bsc_desk.specs.Rows.{IsMarkOf, IsRowBy};
+ghost use Rattle.bsc_desk.specs.Standing.{StandsFor};
 
 use crate::{
-    AllRefusal, AllReply, Desk, Gone, Limits, NewRow, NoRow, OneReply, Outlet, Take, inlet, prepare,
+    AllRefusal, AllReply, Desk, Gone, Inlet, Limits, NewRow, NoRow, OneReply, Outlet, Take, make,
+    prepare,
 };
 use bsc_history::{AlreadyStopped, Counts, End, Look, Refusal, Worn};
 use bsc_octets::{Identity, NoMemory, Vmac, read_identity};
@@ -23,10 +28,20 @@ fn who(address: u8, device: u8, max_bvlc: u8) -> Identity
     ])
 }
 
-fn has_row(desk: &Desk, conn: u64) -> bool
-    ensures { result ≡ list_any (λ r. r.connection.number == conn) desk.now.rows.items }
+/// A hub at the address 100, whose outboxes hold two frames.
+fn hub(alloc: Global, rows: u32, calls: u64) -> Result<Desk, NoMemory>
+    requires rows { IsTrue (nat_le 1 rows && nat_le rows 1024) }
+    requires calls { IsTrue (nat_le 1 calls && nat_le calls 1000) }
+    ensures some { IfOk result (λ d. (S : List Stamped) × StandsFor d S) }
+    ensures two { IfOk result (λ d. d.about.limits.outbox ≡ 2) }
 {
-    desk.rows.iter().any(|row| row.connection.number == conn)
+    let limits = Limits {
+        rows,
+        outbox: 2,
+        calls,
+        callers: 9,
+    };
+    Desk::make(alloc, who(100, 100, 20), limits)
 }
 
 fn is_row_of(desk: &Desk, caller: u64, conn: u64, v: Vmac) -> bool
@@ -39,20 +54,26 @@ fn is_row_of(desk: &Desk, caller: u64, conn: u64, v: Vmac) -> bool
     })
 }
 
-/// Connects a caller with a new outbox of two frames.
+/// What a connect answers, and the outlet where it joined.
+type Joining = (Result<NewRow, NoRow>, Option<Outlet>);
+
+/// Connects a device with a new outbox, which is of its own caller.
 fn join(
     alloc: Global,
     desk: &mut Desk,
     address: u8,
     device: u8,
-) -> Result<Result<NewRow, NoRow>, NoMemory>
-    requires { desk.old.about.limits.outbox ≡ 2 }
-    ensures { desk.new.about.limits.outbox ≡ 2 }
+    max_bvlc: u8,
+) -> Result<Joining, NoMemory>
+    requires some { (S : List Stamped) × StandsFor desk.old S }
+    requires two { desk.old.about.limits.outbox ≡ 2 }
+    ensures some { (S : List Stamped) × StandsFor desk.new S }
+    ensures two { desk.new.about.limits.outbox ≡ 2 }
 {
-    let inlet = inlet(alloc, 2)?;
-    match desk.connect(u64::from(device), who(address, device, 20), inlet) {
-        Ok(row) => Ok(Ok(row)),
-        Err((no_row, _inlet)) => Ok(Err(no_row)),
+    let (inlet, outlet) = make(alloc, 2)?;
+    match desk.connect(u64::from(device), who(address, device, max_bvlc), inlet) {
+        Ok(row) => Ok((Ok(row), Some(outlet))),
+        Err((no_row, _inlet)) => Ok((Err(no_row), None)),
     }
 }
 
@@ -67,32 +88,15 @@ fn send(
 ) -> Result<Result<OneReply, Worn>, NoMemory>
     requires route { IsTrue (has_route message.now) }
     requires unicast { IsFalse (is_broadcast message.now) }
-    requires outbox { desk.old.about.limits.outbox ≡ 2 }
-    ensures { desk.new.about.limits.outbox ≡ 2 }
+    requires some { (S : List Stamped) × StandsFor desk.old S }
+    requires two { desk.old.about.limits.outbox ≡ 2 }
+    ensures some { (S : List Stamped) × StandsFor desk.new S }
+    ensures two { desk.new.about.limits.outbox ≡ 2 }
 {
     let address = Vmac([2, 0, 0, 0, 0, device]);
     let frame = prepare(alloc, message, address)?;
     assert!(rt; is_row_of(desk, u64::from(device), conn, address));
     Ok(desk.forward_one(u64::from(device), conn, frame))
-}
-
-/// What is taken next: the last octet of a frame, or how the outbox ended, or nothing.
-fn take(rt: &impl Abort, desk: &mut Desk, outlet: &mut Outlet) -> (Option<u8>, Option<End>)
-    requires { desk.old.about.limits.outbox ≡ 2 }
-    ensures { desk.new.about.limits.outbox ≡ 2 }
-{
-    assert!(rt; has_row(desk, outlet.conn));
-    match desk.take(outlet) {
-        Take::Frame(frame) => (frame.as_slice().last().copied(), None),
-        Take::Closed(ending) => (None, Some(ending)),
-        Take::Empty => (None, None),
-    }
-}
-
-fn is_row_by(desk: &Desk, caller: u64, conn: u64) -> bool
-    ensures { result ≡ list_any (λ r. (r.connection.number == conn) && (r.connection.caller == caller)) desk.now.rows.items }
-{
-    desk.rows.iter().any(|row| row.connection.number == conn && row.connection.caller == caller)
 }
 
 /// Sends a broadcast from a device at its address, which joined as `conn`.
@@ -106,8 +110,10 @@ fn send_to_all(
 ) -> Result<Result<AllReply, AllRefusal>, NoMemory>
     requires route { IsTrue (has_route message.now) }
     requires broadcast { IsTrue (is_broadcast message.now) }
-    requires outbox { desk.old.about.limits.outbox ≡ 2 }
-    ensures { desk.new.about.limits.outbox ≡ 2 }
+    requires some { (S : List Stamped) × StandsFor desk.old S }
+    requires two { desk.old.about.limits.outbox ≡ 2 }
+    ensures some { (S : List Stamped) × StandsFor desk.new S }
+    ensures two { desk.new.about.limits.outbox ≡ 2 }
 {
     let address = Vmac([2, 0, 0, 0, 0, device]);
     let frame = prepare(alloc, message, address)?;
@@ -115,251 +121,211 @@ fn send_to_all(
     Ok(desk.forward_all(alloc, u64::from(device), conn, &frame))
 }
 
-/// Lets a connection of a caller leave.
-fn leave(rt: &impl Abort, desk: &mut Desk, caller: u64, conn: u64, outlet: Outlet) -> Gone
-    requires { desk.old.about.limits.outbox ≡ 2 }
-    ensures { desk.new.about.limits.outbox ≡ 2 }
+/// Stops the hub.
+fn stop(desk: &mut Desk) -> Result<Counts, AlreadyStopped>
+    requires some { (S : List Stamped) × StandsFor desk.old S }
+    requires two { desk.old.about.limits.outbox ≡ 2 }
+    ensures some { (S : List Stamped) × StandsFor desk.new S }
+    ensures two { desk.new.about.limits.outbox ≡ 2 }
 {
-    assert!(rt; is_row_by(desk, caller, conn));
-    assert!(rt; outlet.conn == conn);
-    desk.leave(caller, conn, outlet)
+    desk.stop(9)
+}
+
+/// Asks for the counts.
+fn count(desk: &mut Desk) -> Result<Counts, Worn>
+    requires some { (S : List Stamped) × StandsFor desk.old S }
+    requires two { desk.old.about.limits.outbox ≡ 2 }
+    ensures some { (S : List Stamped) × StandsFor desk.new S }
+    ensures two { desk.new.about.limits.outbox ≡ 2 }
+{
+    desk.count(9)
+}
+
+/// What is taken next: the last octet of a frame, or how the outbox ended, or nothing.
+fn take(outlet: &mut Outlet) -> (Option<u8>, Option<End>) {
+    match outlet.take() {
+        Take::Frame(frame) => (frame.as_slice().last().copied(), None),
+        Take::Closed(ending) => (None, Some(ending)),
+        Take::Empty => (None, None),
+    }
+}
+
+/// What was sent to all, by connections, and the numbers taken that the looks found.
+fn told(
+    reply: &Result<AllReply, AllRefusal>,
+    to: &[u64],
+    missed: &[u64],
+    skipped: &[u64],
+    looks: &[Look],
+) -> bool {
+    match reply {
+        Ok(
+            AllReply::Sent {
+                to: a,
+                missed: b,
+                skipped: c,
+                looks: d,
+            },
+        ) => a.as_slice() == to
+            && b.as_slice() == missed
+            && c.as_slice() == skipped
+            && d.as_slice() == looks,
+        Ok(AllReply::NotCurrent { .. }) | Ok(AllReply::Stopped) | Err(_) => false,
+    }
 }
 
 const TO_1: [u8; 12] = [1, 4, 0, 7, 2, 0, 0, 0, 0, 1, 50, 51];
 
-const TO_ALL: [u8; 12] = [1, 4, 0, 9, 255, 255, 255, 255, 255, 255, 70, 71];
-
 const TO_2: [u8; 12] = [1, 4, 0, 8, 2, 0, 0, 0, 0, 2, 60, 61];
+
+const TO_ALL: [u8; 12] = [1, 4, 0, 9, 255, 255, 255, 255, 255, 255, 70, 71];
 
 #[test]
 fn a_hub_answers_connects(rt: HostRuntime) -> Result<(), Fail> {
     let alloc = rt.alloc();
-    let limits = Limits {
-        rows: 3,
-        outbox: 2,
-        calls: 8,
-        callers: 4,
-    };
-    let mut desk = Desk::make(alloc, who(100, 100, 20), limits)?;
+    let mut desk = hub(alloc, 3, 8)?;
     let first = NewRow {
         conn: 1,
         replaced: None,
     };
-    assert_eq!(rt; join(alloc, &mut desk, 1, 1)?, Ok(first));
+    let (joined, outlet) = join(alloc, &mut desk, 1, 1, 20)?;
+    assert_eq!(rt; joined, Ok(first));
     let second = NewRow {
         conn: 2,
         replaced: None,
     };
-    assert_eq!(rt; join(alloc, &mut desk, 2, 2)?, Ok(second));
+    assert_eq!(rt; join(alloc, &mut desk, 2, 2, 20)?.0, Ok(second));
     let held = NoRow::Refused(Refusal::Duplicate { holder: Some(1) });
-    assert_eq!(rt; join(alloc, &mut desk, 1, 3)?, Err(held));
+    assert_eq!(rt; join(alloc, &mut desk, 1, 3, 20)?.0, Err(held));
     let hub = NoRow::Refused(Refusal::Duplicate { holder: None });
-    assert_eq!(rt; join(alloc, &mut desk, 100, 3)?, Err(hub));
+    assert_eq!(rt; join(alloc, &mut desk, 100, 3, 20)?.0, Err(hub));
     let looked = OneReply::Appended(Look { conn: 1, taken: 0 });
     assert_eq!(rt; send(&rt, alloc, &mut desk, 2, 2, &TO_1)?, Ok(looked));
     let third = NewRow {
         conn: 3,
         replaced: Some(1),
     };
-    assert_eq!(rt; join(alloc, &mut desk, 1, 1)?, Ok(third));
+    assert_eq!(rt; join(alloc, &mut desk, 1, 1, 20)?.0, Ok(third));
     let full = NoRow::Refused(Refusal::TableFull { rows: 3 });
-    assert_eq!(rt; join(alloc, &mut desk, 4, 4)?, Err(full));
+    assert_eq!(rt; join(alloc, &mut desk, 4, 4, 20)?.0, Err(full));
     let replaced = OneReply::NotCurrent {
         ending: End::Replaced,
     };
     assert_eq!(rt; send(&rt, alloc, &mut desk, 1, 1, &TO_2)?, Ok(replaced));
     assert_eq!(rt; desk.made(), 8);
     let worn = Worn { calls: 8 };
-    assert_eq!(rt; join(alloc, &mut desk, 4, 4)?, Err(NoRow::Worn(worn)));
+    assert_eq!(rt; join(alloc, &mut desk, 4, 4, 20)?.0, Err(NoRow::Worn(worn)));
     assert_eq!(rt; send(&rt, alloc, &mut desk, 2, 2, &TO_1)?, Err(worn));
-    let mut outlet = Outlet::of(1);
-    assert_eq!(rt; take(&rt, &mut desk, &mut outlet), (Some(51), None));
-    assert_eq!(rt;
-        take(&rt, &mut desk, &mut outlet),
-        (None, Some(End::Replaced))
-    );
-    assert_eq!(rt; (outlet.taken(), outlet.empties()), (1, 0));
-    Ok(())
-}
-
-#[test]
-fn a_full_outbox_ends(rt: HostRuntime) -> Result<(), Fail> {
-    let alloc = rt.alloc();
-    let limits = Limits {
-        rows: 2,
-        outbox: 2,
-        calls: 100,
-        callers: 4,
-    };
-    let mut desk = Desk::make(alloc, who(100, 100, 20), limits)?;
-    let _first = join(alloc, &mut desk, 1, 1)?;
-    let _second = join(alloc, &mut desk, 2, 2)?;
-    let mut outlet = Outlet::of(2);
-    assert_eq!(rt; take(&rt, &mut desk, &mut outlet), (None, None));
-    let none_taken = OneReply::Appended(Look { conn: 2, taken: 0 });
-    assert_eq!(rt; send(&rt, alloc, &mut desk, 1, 1, &TO_2)?, Ok(none_taken));
-    assert_eq!(rt; send(&rt, alloc, &mut desk, 1, 1, &TO_2)?, Ok(none_taken));
-    assert_eq!(rt; take(&rt, &mut desk, &mut outlet), (Some(61), None));
-    let one_taken = OneReply::Appended(Look { conn: 2, taken: 1 });
-    assert_eq!(rt; send(&rt, alloc, &mut desk, 1, 1, &TO_2)?, Ok(one_taken));
-    let full = OneReply::Closed(Look { conn: 2, taken: 1 });
-    assert_eq!(rt; send(&rt, alloc, &mut desk, 1, 1, &TO_2)?, Ok(full));
-    assert_eq!(rt;
-        send(&rt, alloc, &mut desk, 1, 1, &TO_2)?,
-        Ok(OneReply::NoHolder)
-    );
-    assert_eq!(rt; take(&rt, &mut desk, &mut outlet), (Some(61), None));
-    assert_eq!(rt; take(&rt, &mut desk, &mut outlet), (Some(61), None));
-    assert_eq!(rt; take(&rt, &mut desk, &mut outlet), (None, Some(End::Full)));
-    assert_eq!(rt; (outlet.taken(), outlet.empties()), (3, 1));
-    Ok(())
-}
-
-#[test]
-fn connections_leave_and_the_hub_stops(rt: HostRuntime) -> Result<(), Fail> {
-    let alloc = rt.alloc();
-    let limits = Limits {
-        rows: 2,
-        outbox: 2,
-        calls: 7,
-        callers: 4,
-    };
-    let mut desk = Desk::make(alloc, who(100, 100, 20), limits)?;
-    let _first = join(alloc, &mut desk, 1, 1)?;
-    let _second = join(alloc, &mut desk, 1, 1)?;
-    let mut outlet = Outlet::of(2);
-    let appended = OneReply::Appended(Look { conn: 2, taken: 0 });
-    assert_eq!(rt; send(&rt, alloc, &mut desk, 1, 2, &TO_1)?, Ok(appended));
-    assert_eq!(rt; take(&rt, &mut desk, &mut outlet), (Some(51), None));
-    let counts = Counts {
-        joined: 2,
-        replaced: 1,
-        refused: 0,
-        unicasts: 1,
-        broadcasts: 0,
-        appended: 1,
-        dropped: 0,
-        full: 0,
-        missed: 0,
-    };
-    assert_eq!(rt; desk.count(9), Ok(counts));
-    let replaced = Gone {
-        ending: End::Replaced,
-        taken: 0,
-    };
-    assert_eq!(rt; leave(&rt, &mut desk, 1, 1, Outlet::of(1)), replaced);
-    let _third = join(alloc, &mut desk, 3, 3)?;
-    let left = Gone {
-        ending: End::Left,
-        taken: 1,
-    };
-    assert_eq!(rt; leave(&rt, &mut desk, 1, 2, outlet), left);
-    assert_eq!(rt; desk.count(9), Err(Worn { calls: 7 }));
-    let more = Counts {
-        joined: 3,
-        ..counts
-    };
-    assert_eq!(rt; desk.stop(9), Ok(more));
-    assert_eq!(rt; desk.stop(9), Err(AlreadyStopped { at: 7 }));
-    let stopped = Gone {
-        ending: End::Stopped,
-        taken: 0,
-    };
-    assert_eq!(rt; leave(&rt, &mut desk, 3, 3, Outlet::of(3)), stopped);
-    assert_eq!(rt; desk.made(), 9);
-    Ok(())
-}
-
-#[test]
-fn a_stopped_hub_serves_nobody(rt: HostRuntime) -> Result<(), Fail> {
-    let alloc = rt.alloc();
-    let limits = Limits {
-        rows: 2,
-        outbox: 2,
-        calls: 100,
-        callers: 4,
-    };
-    let mut desk = Desk::make(alloc, who(100, 100, 20), limits)?;
-    let _first = join(alloc, &mut desk, 1, 1)?;
-    let counts = desk.stop(0);
-    assert!(rt; counts.is_ok());
-    let refused = NoRow::Refused(Refusal::Stopped);
-    assert_eq!(rt; join(alloc, &mut desk, 2, 2)?, Err(refused));
-    assert_eq!(rt;
-        send(&rt, alloc, &mut desk, 1, 1, &TO_2)?,
-        Ok(OneReply::Stopped)
-    );
-    Ok(())
-}
-
-/// Whether a broadcast was sent, with these lists and these looks.
-fn is_sent(
-    reply: &Result<AllReply, AllRefusal>,
-    receivers: &[u64],
-    full: &[u64],
-    long: &[u64],
-    seen: &[Look],
-) -> bool {
-    match reply {
-        Ok(
-            AllReply::Sent {
-                to,
-                missed,
-                skipped,
-                looks,
-            },
-        ) => {
-            to.as_slice() == receivers
-                && missed.as_slice() == full
-                && skipped.as_slice() == long
-                && looks.as_slice() == seen
+    match outlet {
+        Some(outlet) => {
+            let mut outlet = outlet;
+            assert_eq!(rt; take(&mut outlet), (Some(51), None));
+            assert_eq!(rt; take(&mut outlet), (None, Some(End::Replaced)));
         }
-        Ok(AllReply::NotCurrent { .. }) | Ok(AllReply::Stopped) | Err(_) => false,
+        None => assert!(rt; false),
+    }
+    Ok(())
+}
+
+#[test]
+fn a_full_outbox_misses_broadcasts_and_closes_on_a_unicast(rt: HostRuntime) -> Result<(), Fail> {
+    let alloc = rt.alloc();
+    let mut desk = hub(alloc, 4, 100)?;
+    let (_one, _first) = join(alloc, &mut desk, 1, 1, 20)?;
+    let (_two, second) = join(alloc, &mut desk, 2, 2, 20)?;
+    let (_three, _short) = join(alloc, &mut desk, 3, 3, 17)?;
+    let none_taken = Look { conn: 2, taken: 0 };
+    let sent = send(&rt, alloc, &mut desk, 1, 1, &TO_2)?;
+    assert_eq!(rt; sent, Ok(OneReply::Appended(none_taken)));
+    let all = send_to_all(&rt, alloc, &mut desk, 1, 1, &TO_ALL)?;
+    assert!(rt; told(&all, &[2], &[], &[3], &[none_taken]));
+    let missed = send_to_all(&rt, alloc, &mut desk, 1, 1, &TO_ALL)?;
+    assert!(rt; told(&missed, &[], &[2], &[3], &[none_taken]));
+    match second {
+        Some(second) => {
+            let mut second = second;
+            assert_eq!(rt; take(&mut second), (Some(61), None));
+            let one_taken = Look { conn: 2, taken: 1 };
+            let goes_on = send_to_all(&rt, alloc, &mut desk, 1, 1, &TO_ALL)?;
+            assert!(rt; told(&goes_on, &[2], &[], &[3], &[one_taken]));
+            let full = send(&rt, alloc, &mut desk, 1, 1, &TO_2)?;
+            assert_eq!(rt; full, Ok(OneReply::Closed(one_taken)));
+            let none = send(&rt, alloc, &mut desk, 1, 1, &TO_2)?;
+            assert_eq!(rt; none, Ok(OneReply::NoHolder));
+            assert_eq!(rt; take(&mut second), (Some(71), None));
+            assert_eq!(rt; take(&mut second), (Some(71), None));
+            assert_eq!(rt; take(&mut second), (None, Some(End::Full)));
+            assert_eq!(rt; (second.taken(), second.empties()), (3, 0));
+        }
+        None => assert!(rt; false),
+    }
+    let expected = Counts {
+        joined: 3,
+        replaced: 0,
+        refused: 0,
+        unicasts: 3,
+        broadcasts: 3,
+        appended: 3,
+        dropped: 3,
+        full: 1,
+        missed: 1,
+    };
+    assert_eq!(rt; count(&mut desk), Ok(expected));
+    assert_eq!(rt; stop(&mut desk), Ok(expected));
+    assert_eq!(rt; stop(&mut desk), Err(AlreadyStopped { at: 10 }));
+    let refused = NoRow::Refused(Refusal::Stopped);
+    assert_eq!(rt; join(alloc, &mut desk, 4, 4, 20)?.0, Err(refused));
+    let stopped = send(&rt, alloc, &mut desk, 1, 1, &TO_2)?;
+    assert_eq!(rt; stopped, Ok(OneReply::Stopped));
+    Ok(())
+}
+
+/// A connection's outlet meets the desk twice, and then leaves.
+fn meet_and_leave(desk: &mut Desk, conn: u64, outlet: Outlet) -> ((Option<u8>, Option<End>), Gone)
+    requires row { IsRowBy desk.old 1 conn }
+    requires mark { IsMarkOf desk.old conn (outlet_mark outlet) }
+    requires some { (S : List Stamped) × StandsFor desk.old S }
+{
+    let mut outlet = outlet;
+    desk.meet(conn, &mut outlet);
+    let took = take(&mut outlet);
+    (took, desk.leave(1, conn, outlet))
+}
+
+fn is_sent<T: Send>(value: &T) {
+    let _value = value;
+}
+
+/// A desk, an inlet and an outlet may go to another thread.
+fn crosses(desk: &Desk, inlet: &Inlet, outlet: &Outlet) {
+    is_sent(desk);
+    is_sent(inlet);
+    is_sent(outlet);
+}
+
+/// A member alone in the room, which sends to itself, meets the desk, takes and leaves.
+fn alone(
+    rt: &impl Abort,
+    alloc: Global,
+) -> Result<Option<((Option<u8>, Option<End>), Gone)>, NoMemory> {
+    let mut desk = hub(alloc, 2, 7)?;
+    let (inlet, outlet) = make(alloc, 2)?;
+    crosses(&desk, &inlet, &outlet);
+    match desk.connect(1, who(1, 1, 20), inlet) {
+        Ok(row) => {
+            assert!(rt; row.conn == 1);
+            Ok(Some(meet_and_leave(&mut desk, row.conn, outlet)))
+        }
+        Err(_) => Ok(None),
     }
 }
 
 #[test]
-fn a_full_outbox_misses_a_broadcast(rt: HostRuntime) -> Result<(), Fail> {
-    let alloc = rt.alloc();
-    let limits = Limits {
-        rows: 4,
-        outbox: 2,
-        calls: 100,
-        callers: 9,
+fn a_member_meets_the_desk_and_leaves(rt: HostRuntime) -> Result<(), Fail> {
+    let left = Gone {
+        ending: End::Left,
+        taken: 0,
     };
-    let mut desk = Desk::make(alloc, who(100, 100, 20), limits)?;
-    let _first = join(alloc, &mut desk, 1, 1)?;
-    let _second = join(alloc, &mut desk, 2, 2)?;
-    let _short = desk.connect(3, who(3, 3, 17), inlet(alloc, 2)?);
-    let _fourth = join(alloc, &mut desk, 4, 4)?;
-    let _one = send(&rt, alloc, &mut desk, 1, 1, &TO_2)?;
-    let _two = send(&rt, alloc, &mut desk, 1, 1, &TO_2)?;
-    let two = Look { conn: 2, taken: 0 };
-    let four = Look { conn: 4, taken: 0 };
-    let missing = send_to_all(&rt, alloc, &mut desk, 1, 1, &TO_ALL)?;
-    assert!(rt; is_sent(&missing, &[4], &[2], &[3], &[two, four]));
-    let mut outlet = Outlet::of(2);
-    assert_eq!(rt; take(&rt, &mut desk, &mut outlet), (Some(61), None));
-    let two = Look { conn: 2, taken: 1 };
-    let reaching = send_to_all(&rt, alloc, &mut desk, 1, 1, &TO_ALL)?;
-    assert!(rt; is_sent(&reaching, &[2, 4], &[], &[3], &[two, four]));
-    assert_eq!(rt; take(&rt, &mut desk, &mut outlet), (Some(61), None));
-    assert_eq!(rt; take(&rt, &mut desk, &mut outlet), (Some(71), None));
-    assert_eq!(rt; take(&rt, &mut desk, &mut outlet), (None, None));
-    let mut sender = Outlet::of(1);
-    assert_eq!(rt; take(&rt, &mut desk, &mut sender), (None, None));
-    let counts = desk.count(9);
-    let expected = Counts {
-        joined: 4,
-        replaced: 0,
-        refused: 0,
-        unicasts: 2,
-        broadcasts: 2,
-        appended: 5,
-        dropped: 0,
-        full: 0,
-        missed: 1,
-    };
-    assert_eq!(rt; counts, Ok(expected));
+    assert_eq!(rt; alone(&rt, rt.alloc())?, Some(((None, None), left)));
     Ok(())
 }

@@ -10,10 +10,10 @@ use Rattle.bsc_history.specs.declared.connection.Connection.{Connection}
 use Rattle.bsc_history.specs.Ends.{ended}
 use Rattle.bsc_history.specs.Laws.{Apart}
 use Rattle.bsc_history.specs.Outboxes.{sent}
-use Rattle.bsc_desk.specs.declared.desk.Desk.{Desk}
-use Rattle.bsc_desk.specs.Due.{is_due as desk_due}
-use Rattle.bsc_desk.specs.Rows.{HasRow, taken_of, waiting_of, ending_of}
-use Rattle.bsc_desk.specs.Standing.{StandsFor}
+use Rattle.bsc_buffer_desk.specs.declared.desk.Desk.{Desk}
+use Rattle.bsc_buffer_desk.specs.Due.{is_due as desk_due}
+use Rattle.bsc_buffer_desk.specs.Rows.{HasRow, taken_of, waiting_of, ending_of}
+use Rattle.bsc_buffer_desk.specs.Standing.{StandsFor}
 use Rattle.bsc_stage.specs.declared.member.Member.{Member as Joined}
 use Rattle.bsc_stage.specs.declared.member.Phase.{Phase}
 use Rattle.bsc_stage.specs.declared.member.Phase.TheVariants.{Connected, Disconnecting}

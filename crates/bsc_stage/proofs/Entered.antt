@@ -12,11 +12,11 @@ use Rattle.bsc_history.specs.declared.reply.Reply.{Reply}
 use Rattle.bsc_history.specs.Ends.{unleft}
 use Rattle.bsc_history.specs.Replies.{reply}
 use Rattle.bsc_history.proofs.More.{unleft-more, filter_true, Legal-front}
-use Rattle.bsc_desk.specs.declared.desk.Desk.{Desk}
-use Rattle.bsc_desk.specs.declared.row.Row.{Row}
-use Rattle.bsc_desk.specs.Rows.{taken_of, taken_in}
-use Rattle.bsc_desk.specs.Standing.{StandsFor, connection}
-use Rattle.bsc_desk.specs.Entries.{forward_entry}
+use Rattle.bsc_buffer_desk.specs.declared.desk.Desk.{Desk}
+use Rattle.bsc_buffer_desk.specs.declared.row.Row.{Row}
+use Rattle.bsc_buffer_desk.specs.Rows.{taken_of, taken_in}
+use Rattle.bsc_buffer_desk.specs.Standing.{StandsFor, connection}
+use Rattle.bsc_buffer_desk.specs.Entries.{forward_entry}
 use Rattle.bsc_stage.specs.declared.member.Member.{Member as Joined}
 use Rattle.bsc_stage.specs.declared.stage.Stage.{Stage}
 use Rattle.bsc_stage.specs.Scenes.{Member, Scene, looks_in, reply_in, entry_in, entered, written_for, written_in}

@@ -13,10 +13,10 @@ use Rattle.bsc_history.specs.Counting.{counts}
 use Rattle.bsc_history.specs.Ends.{unleft}
 use Rattle.bsc_history.specs.Replies.{is_stopped}
 use Rattle.bsc_history.proofs.More.{unleft-more, filter_true}
-use Rattle.bsc_desk.specs.declared.desk.Desk.{Desk}
-use Rattle.bsc_desk.specs.Rows.{taken_of}
-use Rattle.bsc_desk.specs.Standing.{StandsFor}
-use Rattle.bsc_desk.specs.Entries.{forward_entry, stop_entry, count_entry}
+use Rattle.bsc_buffer_desk.specs.declared.desk.Desk.{Desk}
+use Rattle.bsc_buffer_desk.specs.Rows.{taken_of}
+use Rattle.bsc_buffer_desk.specs.Standing.{StandsFor}
+use Rattle.bsc_buffer_desk.specs.Entries.{forward_entry, stop_entry, count_entry}
 use Rattle.bsc_stage.specs.declared.member.Member.{Member as Joined}
 use Rattle.bsc_stage.specs.declared.stage.Stage.{Stage}
 use Rattle.bsc_stage.specs.Texts.{says, forward_words, worn_text, counts_text}

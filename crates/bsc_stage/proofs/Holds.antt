@@ -2,7 +2,7 @@
 use Rattle.std.proofs.Common.{◌≡◌, ℕ, Bool, true, false, cond, List, [], ◌∷◌, map, refl, ap, sym, ◌∙◌, subst, append-nil, Ok}
 use Rattle.std.specs.List.{AllByRecursion}
 use Rattle.bsc_text.specs.Lines.{same_octets}
-use Rattle.bsc_desk.specs.declared.desk.Desk.{Desk}
+use Rattle.bsc_buffer_desk.specs.declared.desk.Desk.{Desk}
 use Rattle.bsc_stage.specs.declared.member.Member.{Member as Joined}
 use Rattle.bsc_stage.specs.declared.stage.Stage.{Stage}
 use Rattle.bsc_stage.specs.Scenes.{Scene, is_open, waiting_held, member_held}

@@ -19,10 +19,10 @@ use Rattle.bsc_history.specs.Legality.{Legal}
 use Rattle.bsc_history.proofs.More.{unleft-more, filter_true, Legal-front}
 use Rattle.bsc_history.proofs.Uniqueness.{settled, comes}
 use Rattle.bsc_history.proofs.Named.{unleft_joined}
-use Rattle.bsc_desk.specs.declared.desk.Desk.{Desk}
-use Rattle.bsc_desk.specs.Rows.{taken_of}
-use Rattle.bsc_desk.specs.Standing.{StandsFor, connection}
-use Rattle.bsc_desk.specs.Entries.{connect_entry, connect_due}
+use Rattle.bsc_buffer_desk.specs.declared.desk.Desk.{Desk}
+use Rattle.bsc_buffer_desk.specs.Rows.{taken_of}
+use Rattle.bsc_buffer_desk.specs.Standing.{StandsFor, connection}
+use Rattle.bsc_buffer_desk.specs.Entries.{connect_entry, connect_due}
 use Rattle.bsc_stage.specs.declared.member.Member.{Member as Joined}
 use Rattle.bsc_stage.specs.declared.stage.Stage.{Stage}
 use Rattle.bsc_stage.specs.Texts.{connect_text}

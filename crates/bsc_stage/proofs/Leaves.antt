@@ -13,12 +13,12 @@ use Rattle.bsc_history.specs.Ends.{unleft, leaves}
 use Rattle.bsc_history.specs.Laws.{Apart}
 use Rattle.bsc_history.specs.Replies.{reply}
 use Rattle.bsc_history.proofs.More.{unleft-more}
-use Rattle.bsc_desk.proofs.Connects.{eqb_comm}
-use Rattle.bsc_desk.specs.declared.leaving.Gone.{Gone}
-use Rattle.bsc_desk.specs.Rows.{taken_of}
-use Rattle.bsc_desk.specs.Taking.{KeepsOthers}
-use Rattle.bsc_desk.specs.Entries.{gone_reply, leave_entry}
-use Rattle.bsc_desk.specs.Standing.{StandsFor}
+use Rattle.bsc_buffer_desk.proofs.Connects.{eqb_comm}
+use Rattle.bsc_buffer_desk.specs.declared.leaving.Gone.{Gone}
+use Rattle.bsc_buffer_desk.specs.Rows.{taken_of}
+use Rattle.bsc_buffer_desk.specs.Taking.{KeepsOthers}
+use Rattle.bsc_buffer_desk.specs.Entries.{gone_reply, leave_entry}
+use Rattle.bsc_buffer_desk.specs.Standing.{StandsFor}
 use Rattle.bsc_stage.specs.declared.member.Member.{Member as Joined}
 use Rattle.bsc_stage.specs.declared.stage.Stage.{Stage}
 use Rattle.bsc_stage.specs.Texts.{says, gone_words}

@@ -12,10 +12,10 @@ use Rattle.bsc_history.specs.Ends.{ended, unleft}
 use Rattle.bsc_history.specs.Outboxes.{sent}
 use Rattle.bsc_history.proofs.Numbers.{numbers_are_new}
 use Rattle.bsc_history.proofs.Uniqueness.{vmac_refl}
-use Rattle.bsc_desk.specs.declared.desk.Desk.{Desk}
-use Rattle.bsc_desk.specs.declared.row.Row.{Row}
-use Rattle.bsc_desk.specs.Rows.{HasRow, IsRowOf, IsRowBy, taken_of, taken_in, waiting_in, ending_in}
-use Rattle.bsc_desk.specs.Standing.{StandsFor, IsInletOf, connection}
+use Rattle.bsc_buffer_desk.specs.declared.desk.Desk.{Desk}
+use Rattle.bsc_buffer_desk.specs.declared.row.Row.{Row}
+use Rattle.bsc_buffer_desk.specs.Rows.{HasRow, IsRowOf, IsRowBy, taken_of, taken_in, waiting_in, ending_in}
+use Rattle.bsc_buffer_desk.specs.Standing.{StandsFor, IsInletOf, connection}
 use Rattle.bsc_stage.specs.declared.member.Member.{Member as Joined}
 use Rattle.bsc_stage.specs.declared.stage.Stage.{Stage}
 use Rattle.bsc_stage.specs.Scenes.{Member, Scene}

@@ -3,7 +3,7 @@ use Rattle.std.proofs.Common.{◌≡◌, ℕ, Bool, ◌||◌, List, [], map, ref
 use Rattle.std.specs.List.{list_any}
 use Rattle.bsc_history.specs.declared.limits.About.{About}
 use Rattle.bsc_history.specs.Ends.{joined_where, unleft}
-use Rattle.bsc_desk.specs.Standing.{StandsFor}
+use Rattle.bsc_buffer_desk.specs.Standing.{StandsFor}
 use Rattle.bsc_stage.specs.declared.member.Member.{Member as Joined}
 use Rattle.bsc_stage.specs.declared.stage.Stage.{Stage}
 use Rattle.bsc_text.specs.Lines.{same_octets}

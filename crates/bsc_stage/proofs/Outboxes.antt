@@ -3,13 +3,13 @@ use Rattle.std.proofs.Common.{◌≡◌, ◌≢◌, ℕ, ◌+◌, Bool, true, fa
 use Rattle.bsc_history.specs.declared.ending.End.{End}
 use Rattle.bsc_history.specs.declared.entry.Entry.{Entry}
 use Rattle.bsc_history.specs.Ends.{ended}
-use Rattle.bsc_desk.specs.declared.desk.Desk.{Desk}
-use Rattle.bsc_desk.specs.declared.outbox.Outlet.{Outlet}
-use Rattle.bsc_desk.specs.declared.outbox.Take.{Take}
-use Rattle.bsc_desk.specs.declared.outbox.Take.TheVariants.{Frame, Closed}
-use Rattle.bsc_desk.specs.Rows.{HasRow, taken_of, waiting_of, ending_of}
-use Rattle.bsc_desk.specs.Standing.{StandsFor}
-use Rattle.bsc_desk.specs.Taking.{next_taken}
+use Rattle.bsc_buffer_desk.specs.declared.desk.Desk.{Desk}
+use Rattle.bsc_buffer_desk.specs.declared.outbox.Outlet.{Outlet}
+use Rattle.bsc_buffer_desk.specs.declared.outbox.Take.{Take}
+use Rattle.bsc_buffer_desk.specs.declared.outbox.Take.TheVariants.{Frame, Closed}
+use Rattle.bsc_buffer_desk.specs.Rows.{HasRow, taken_of, waiting_of, ending_of}
+use Rattle.bsc_buffer_desk.specs.Standing.{StandsFor}
+use Rattle.bsc_buffer_desk.specs.Taking.{next_taken}
 use Rattle.bsc_stage.specs.Texts.{puts}
 use Rattle.bsc_stage.specs.Steps.{SomeHistory}
 use Rattle.bsc_stage.proofs.Members.{row_shows}

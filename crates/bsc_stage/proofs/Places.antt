@@ -4,7 +4,7 @@ use Rattle.std.specs.List.{AllByRecursion, position, remove}
 use Rattle.std.specs.Option.{option_map}
 use Rattle.std.proofs.lemmas.Bool.{ne_eqb, eq-eqb}
 use Rattle.bsc_history.specs.Laws.{Apart}
-use Rattle.bsc_desk.proofs.Places.{position-cons}
+use Rattle.bsc_buffer_desk.proofs.Places.{position-cons}
 use Rattle.bsc_stage.specs.Steps.{IsAt}
 
 pub place : {A : Type 0} (L : List A) (i : ℕ) (m : A) → i < length L → get_or L i m ≡ m → IsAt i m L

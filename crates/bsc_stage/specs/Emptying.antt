@@ -3,7 +3,7 @@ use Rattle.std.specs.Prelude.{ℕ, ◌==◌, Bool, true, false, not, ◌&&◌, �
 use Rattle.bsc_history.specs.declared.ending.End.{End}
 use Rattle.bsc_history.specs.declared.ending.End.TheVariants.{Full}
 use Rattle.bsc_history.specs.Ends.{ended}
-use Rattle.bsc_desk.specs.Taking.{one_more}
+use Rattle.bsc_buffer_desk.specs.Taking.{one_more}
 use Rattle.bsc_stage.specs.declared.member.Phase.{Phase}
 use Rattle.bsc_stage.specs.declared.member.Phase.TheVariants.{Connected, Disconnecting}
 use Rattle.bsc_stage.specs.Texts.{says, puts, disconnecting_text}

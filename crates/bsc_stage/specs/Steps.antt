@@ -3,8 +3,8 @@ use Rattle.std.specs.Prelude.{◌≡◌, ◌≤◌, ◌^◌, ◌==◌, ℕ, List
 use Rattle.std.specs.List.{list_any}
 use Rattle.bsc_history.specs.declared.limits.About.{About}
 use Rattle.bsc_history.specs.declared.entry.Entry.{Entry}
-use Rattle.bsc_desk.specs.declared.desk.Desk.{Desk}
-use Rattle.bsc_desk.specs.Standing.{StandsFor}
+use Rattle.bsc_buffer_desk.specs.declared.desk.Desk.{Desk}
+use Rattle.bsc_buffer_desk.specs.Standing.{StandsFor}
 use Rattle.bsc_stage.specs.declared.script.Line.{Line}
 use Rattle.bsc_stage.specs.declared.script.Line.TheVariants.{Hub}
 use Rattle.bsc_stage.specs.declared.script.LineFault.{LineFault}

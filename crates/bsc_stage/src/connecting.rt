@@ -14,7 +14,7 @@ use crate::naming::close_name;
 use crate::replies::{put_accept, put_refusal};
 use crate::stage::Stage;
 use crate::texts::{put_unbuilt, put_worn};
-use bsc_desk::{NoRow, Outlet, inlet};
+use bsc_buffer_desk::{NoRow, Outlet, inlet};
 use bsc_history::Connection;
 use bsc_octets::{Identity, NoMemory, Octets};
 use std::alloc::Global;

@@ -10,7 +10,7 @@ ghost use Rattle.bsc_stage.specs.Steps.{SomeScene, IsAt, CarriesOut};
 
 use crate::replies::{put_all, put_reply};
 use crate::stage::Stage;
-use bsc_desk::{AllRefusal, prepare};
+use bsc_buffer_desk::{AllRefusal, prepare};
 use bsc_octets::NoMemory;
 use std::alloc::Global;
 

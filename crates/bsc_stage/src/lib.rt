@@ -1,7 +1,7 @@
 //! The stage of a script: a hub, with the peers that the script names, and what each line does.
 //!
 //! Start at `specs/Turns.antt`, which says what a line does after the lines before it. `read_line` says
-//! what a line means, and a `Stage` carries it out by `turn`. The hub is that of `bsc_desk`.
+//! what a line means, and a `Stage` carries it out by `turn`. The hub is that of `bsc_buffer_desk`.
 #![tactic(auto)]
 
 mod connecting;

@@ -1,5 +1,5 @@
 //! Open names.
-use bsc_desk::Outlet;
+use bsc_buffer_desk::Outlet;
 use bsc_history::Connection;
 use bsc_octets::Octets;
 

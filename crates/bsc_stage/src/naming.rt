@@ -12,7 +12,7 @@ ghost use Rattle.bsc_stage.specs.Steps.{IsHub, TurnsTo};
 use crate::member::{Member, Waiting};
 use crate::script::LineFault;
 use crate::stage::Stage;
-use bsc_desk::Desk;
+use bsc_buffer_desk::Desk;
 use bsc_history::About;
 use bsc_octets::{NoMemory, Octets};
 use std::alloc::Global;

@@ -4,11 +4,11 @@
 ghost use Rattle.std.specs.Prelude.{◌≡◌, ◌++◌, ℕ, List, flat_map, IfOk, codes, decimal};
 ghost use Rattle.bsc_stage.specs.Texts.{says, numbered_word, replacing_words, holder_words, ending_word, joined_text, refusal_text, forward_words, list_words, gone_words, disconnected_text, disconnecting_text};
 ghost use Rattle.bsc_history.specs.declared.reply.Reply.TheVariants.{SentAll as SentAllReply};
-ghost use Rattle.bsc_desk.specs.Entries.{one_reply, all_reply, gone_reply};
+ghost use Rattle.bsc_buffer_desk.specs.Entries.{one_reply, all_reply, gone_reply};
 
 use crate::messages::{DISCONNECT, accept, disconnect_ack, duplicate};
 use crate::texts::{begin_line, put_line, put_message, put_number, put_numbered, put_words};
-use bsc_desk::{AllReply, Gone, NewRow, OneReply};
+use bsc_buffer_desk::{AllReply, Gone, NewRow, OneReply};
 use bsc_history::{End, Refusal};
 use bsc_octets::{Identity, NoMemory};
 use std::alloc::Global;

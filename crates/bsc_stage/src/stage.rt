@@ -2,7 +2,7 @@
 ghost use Rattle.std.specs.Prelude.{◌≤◌};
 
 use crate::member::{Member, Waiting};
-use bsc_desk::Desk;
+use bsc_buffer_desk::Desk;
 use bsc_history::About;
 
 /// A hub with its open names: those that haven't joined, in the order of opening, and those that

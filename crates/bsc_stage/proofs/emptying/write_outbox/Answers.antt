@@ -2,7 +2,7 @@ use Rattle.std.proofs.Common.{refl, ap, ◌∙◌}
 use Rattle.bsc_history.specs.Ends.{ended}
 use Rattle.bsc_stage.proofs.Members.{has_row}
 use Rattle.bsc_stage.proofs.Outboxes.{tells_end}
-use Rattle.bsc_desk.specs.declared.outbox.Take.TheVariants.{Empty, Closed}
+use Rattle.bsc_buffer_desk.specs.declared.outbox.Take.TheVariants.{Empty, Closed}
 use Rattle.bsc_stage.proofs.emptying.write_outbox.Goals as goal
 
 pub take-requires : goal.take-requires

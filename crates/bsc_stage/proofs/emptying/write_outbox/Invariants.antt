@@ -1,5 +1,5 @@
 use Rattle.std.proofs.Common.{length}
-use Rattle.bsc_desk.specs.Rows.{waiting_of}
+use Rattle.bsc_buffer_desk.specs.Rows.{waiting_of}
 use Rattle.bsc_stage.proofs.Outboxes.{WritesOn}
 use Rattle.bsc_stage.proofs.emptying.write_outbox.Given as goal
 

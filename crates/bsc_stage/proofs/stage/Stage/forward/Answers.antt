@@ -1,8 +1,8 @@
 use Rattle.std.proofs.Common.{refl, sym, ap, subst, arith}
 use Rattle.std.proofs.lemmas.Bool.{false≢true}
-use Rattle.bsc_desk.specs.Rows.{IsRowOf}
-use Rattle.bsc_desk.specs.Entries.{one_looks, one_reply, all_looks, all_reply}
-use Rattle.bsc_desk.specs.Frames.{Frame}
+use Rattle.bsc_buffer_desk.specs.Rows.{IsRowOf}
+use Rattle.bsc_buffer_desk.specs.Entries.{one_looks, one_reply, all_looks, all_reply}
+use Rattle.bsc_buffer_desk.specs.Frames.{Frame}
 use Rattle.bsc_stage.proofs.Members.{row_of_member}
 use Rattle.bsc_stage.proofs.Forwards.{forwarded_if_ok, not_worn}
 use Rattle.bsc_stage.proofs.stage.Stage.forward.Goals as goal

@@ -1,0 +1,132 @@
+-- The entry that a call of the desk adds, by its answer.
+use Rattle.std.specs.Prelude.{◌≡◌, ℕ, nat_le, Bool, true, false, if◌then◌else◌, List, [], ◌∷◌, length, Option, Some, None, Result, Ok, Err, ⊤}
+use Rattle.bsc_octets.specs.declared.identity.Identity.{Identity}
+use Rattle.bsc_history.specs.declared.limits.About.{About}
+use Rattle.bsc_history.specs.declared.call.Call.TheVariants.{Connect, Forward, Leave, Stop, Count}
+use Rattle.bsc_history.specs.declared.entry.Entry.{Entry}
+use Rattle.bsc_history.specs.declared.looks.Look.{Look}
+use Rattle.bsc_history.specs.declared.reply.Reply.{Reply}
+use Rattle.bsc_history.specs.declared.reply.Reply.TheVariants.{Joined, Refused, Appended, Closed, Skipped, NoHolder, NotCurrent, Stopped, SentAll, Gone as GoneReply, Counted}
+use Rattle.bsc_history.specs.declared.counts.Counts.{Counts}
+use Rattle.bsc_history.specs.declared.told.Worn.{Worn}
+use Rattle.bsc_history.specs.declared.told.AlreadyStopped.{AlreadyStopped}
+use Rattle.bsc_history.specs.Replies.{connect_reply}
+use Rattle.bsc_buffer_desk.specs.declared.connecting.NewRow.{NewRow}
+use Rattle.bsc_buffer_desk.specs.declared.connecting.NoRow.{NoRow}
+use Rattle.bsc_buffer_desk.specs.declared.connecting.NoRow.TheVariants.{Worn as NoRowWorn, Refused as NoRowRefused}
+use Rattle.bsc_buffer_desk.specs.declared.forwarding.OneReply.{OneReply}
+use Rattle.bsc_buffer_desk.specs.declared.forwarding.OneReply.TheVariants.{Appended as OneAppended, Closed as OneClosed, Skipped as OneSkipped, NoHolder as OneNoHolder, NotCurrent as OneNotCurrent, Stopped as OneStopped}
+use Rattle.bsc_buffer_desk.specs.declared.broadcasting.AllReply.{AllReply}
+use Rattle.bsc_buffer_desk.specs.declared.broadcasting.AllReply.TheVariants.{Sent as AllSent, NotCurrent as AllNotCurrent, Stopped as AllStopped}
+use Rattle.bsc_buffer_desk.specs.declared.broadcasting.AllRefusal.{AllRefusal}
+use Rattle.bsc_buffer_desk.specs.declared.broadcasting.AllRefusal.TheVariants.{Worn as AllWorn, NoMemory as AllNoMemory}
+use Rattle.bsc_buffer_desk.specs.declared.leaving.Gone.{Gone}
+use Rattle.bsc_buffer_desk.specs.declared.outbox.Inlet.{Inlet}
+
+-- the entry of a connect, and of a forward
+abbrev pub connect_entry : ℕ → Identity → Reply → Entry
+connect_entry caller who reply = record { caller = caller; call = Connect who; looks = []; reply = reply }
+
+abbrev pub forward_entry : ℕ → ℕ → List ℕ → List Look → Reply → Entry
+forward_entry caller conn message looks reply = record { caller = caller; call = Forward conn message; looks = looks; reply = reply }
+
+-- the reply that a connect's answer says, None where it was worn
+abbrev pub said_by_no_row : NoRow → Option Reply
+said_by_no_row (NoRowWorn worn) = None
+said_by_no_row (NoRowRefused refusal) = Some (Refused refusal)
+
+abbrev pub connect_said : Result NewRow (NoRow × Inlet) → Option Reply
+connect_said (Ok row) = Some (Joined row.conn row.replaced)
+connect_said (Err refused) = said_by_no_row refused.0
+
+-- a connect that was worn says how many calls the hub may make
+abbrev pub SaysLimit : NoRow → ℕ → Type 0
+SaysLimit (NoRowWorn worn) calls = worn.calls ≡ calls
+SaysLimit (NoRowRefused refusal) calls = ⊤
+
+-- the reply that a connect is due after H, None where it is worn
+abbrev pub connect_due : About → List Entry → Identity → Option Reply
+connect_due a H who = if nat_le a.limits.calls (length H) then None else Some (connect_reply a H who)
+
+-- the entries that a connect adds, one or none
+abbrev pub connect_adds : ℕ → Identity → Option Reply → List Entry
+connect_adds caller who None = []
+connect_adds caller who (Some reply) = connect_entry caller who reply ∷ []
+
+-- the reply that a unicast's answer says, and the looks that it made
+abbrev pub one_reply : OneReply → Reply
+one_reply (OneAppended look) = Appended look.conn
+one_reply (OneClosed look) = Closed look.conn
+one_reply (OneSkipped conn) = Skipped conn
+one_reply OneNoHolder = NoHolder
+one_reply (OneNotCurrent ending) = NotCurrent ending
+one_reply OneStopped = Stopped
+
+abbrev pub one_looks : OneReply → List Look
+one_looks (OneAppended look) = look ∷ []
+one_looks (OneClosed look) = look ∷ []
+one_looks r = []
+
+-- the entries that a unicast adds, one or none
+abbrev pub one_adds : ℕ → ℕ → List ℕ → Result OneReply Worn → List Entry
+one_adds caller conn message (Ok r) = forward_entry caller conn message (one_looks r) (one_reply r) ∷ []
+one_adds caller conn message (Err worn) = []
+
+-- the reply of a leave's answer
+abbrev pub gone_reply : Gone → Reply
+gone_reply g = GoneReply g.ending g.taken
+
+-- the entry of a leave, of a stop, and of a count
+abbrev pub leave_entry : ℕ → ℕ → ℕ → Gone → Entry
+leave_entry caller conn empties g = record { caller = caller; call = Leave conn g.taken empties; looks = []; reply = gone_reply g }
+
+abbrev pub stop_entry : ℕ → Counts → Entry
+stop_entry caller k = record { caller = caller; call = Stop; looks = []; reply = Counted k }
+
+abbrev pub count_entry : ℕ → Counts → Entry
+count_entry caller k = record { caller = caller; call = Count; looks = []; reply = Counted k }
+
+-- the entries that a stop adds, and that a count adds: one or none
+abbrev pub stop_adds : ℕ → Result Counts AlreadyStopped → List Entry
+stop_adds caller (Ok k) = stop_entry caller k ∷ []
+stop_adds caller (Err already) = []
+
+abbrev pub count_adds : ℕ → Result Counts Worn → List Entry
+count_adds caller (Ok k) = count_entry caller k ∷ []
+count_adds caller (Err worn) = []
+
+-- the reply that a broadcast's answer says, and the looks that it made
+abbrev pub all_reply : AllReply → Reply
+all_reply (AllSent to missed skipped looks) = SentAll to missed skipped
+all_reply (AllNotCurrent ending) = NotCurrent ending
+all_reply AllStopped = Stopped
+
+abbrev pub all_looks : AllReply → List Look
+all_looks (AllSent to missed skipped looks) = looks
+all_looks r = []
+
+-- the entries that a broadcast adds, one or none
+abbrev pub all_adds : ℕ → ℕ → List ℕ → Result AllReply AllRefusal → List Entry
+all_adds caller conn message (Ok r) = forward_entry caller conn message (all_looks r) (all_reply r) ∷ []
+all_adds caller conn message (Err refusal) = []
+
+-- whether a broadcast was refused as worn, and whether for want of memory
+abbrev pub is_all_worn : Result AllReply AllRefusal → Bool
+is_all_worn (Ok r) = false
+is_all_worn (Err (AllWorn worn)) = true
+is_all_worn (Err AllNoMemory) = false
+
+abbrev pub lacks_memory : Result AllReply AllRefusal → Bool
+lacks_memory (Ok r) = false
+lacks_memory (Err (AllWorn worn)) = false
+lacks_memory (Err AllNoMemory) = true
+
+-- a broadcast that was worn says how many calls the hub may make
+abbrev pub AllSaysLimit : AllRefusal → ℕ → Type 0
+AllSaysLimit (AllWorn worn) calls = worn.calls ≡ calls
+AllSaysLimit AllNoMemory calls = ⊤
+
+-- whether a broadcast's answer is that it went nowhere
+abbrev pub is_passed_over : AllReply → Bool
+is_passed_over (AllSent to missed skipped looks) = false
+is_passed_over r = true

@@ -1,0 +1,13 @@
+pub mod Frames
+pub mod Bounds
+pub mod Rows
+pub mod Standing
+pub mod Inlets
+pub mod Taking
+pub mod Due
+pub mod Choices
+pub mod Receivers
+pub mod Entries
+pub mod Orders
+pub mod Rising
+pub mod Directories
