@@ -56,7 +56,7 @@ pub fn run<S: Source, K: Sink>(alloc: Global, words: &[String], source: &mut S, 
     ensures played { (c : Command) (o t : List ℕ) → command_of (map string_bytes words.now) ≡ Some c →
         S.left source.old ≡ Some o → K.held sink.old ≡ Some t →
         StatusTells (played_by c) result o t (S.left source.new) (K.held sink.new)
-            (S.faults source.old) (S.faults source.new) }
+        (S.faults source.old) (S.faults source.new) }
 
     // Faults of the source and the sink are counted.
     ensures read { result ≡ 3 → HasRisen (S.faults source.old) (S.faults source.new) }
