@@ -30,4 +30,5 @@ abbrev pub verdict_line : Verdict → List ℕ
 verdict_line (Pass message) = codes "pass\n"
 verdict_line (Carry envelope) = codes "carry\n"
 verdict_line (Silent check) = codes "silent " ++ check_name check ++ codes "\n"
-verdict_line (Nak check octets) = codes "nak " ++ check_name check ++ codes " " ++ encode_upper octets.items ++ codes "\n"
+verdict_line (Nak check octets) =
+    codes "nak " ++ check_name check ++ codes " " ++ encode_upper octets.items ++ codes "\n"
