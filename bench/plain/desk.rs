@@ -27,6 +27,7 @@ struct Counts {
     appended: u64,
     dropped: u64,
     full: u64,
+    missed: u64,
 }
 
 /// Rows by the numbers of their connections, and the live ones by address and by device.
@@ -112,20 +113,16 @@ impl Desk {
         self.counts.broadcasts += 1;
         let frame = forwarded(message, self.rows[conn].address);
         let mut to = Vec::new();
-        let mut full = Vec::new();
         for (number, row) in self.rows.iter_mut().enumerate() {
             if !row.live || number == conn || (row.max_bvlc as usize) < frame.len() {
                 continue;
             }
             if row.waiting.len() == OUTBOX {
-                full.push(number);
+                self.counts.missed += 1;
             } else {
                 row.waiting.push_back(frame.clone());
                 to.push(number);
             }
-        }
-        for number in full {
-            self.end(number);
         }
         self.counts.appended += to.len() as u64;
         self.counts.dropped += u64::from(to.is_empty());

@@ -2,14 +2,14 @@
 #![tactic(auto)]
 
 ghost use Rattle.std.specs.Prelude.{◌≡◌, ◌≤◌, ◌^◌, IfOk, IfSome, OnOk, IsFalse};
-ghost use Rattle.std.specs.List.{AllByRecursion};
 ghost use Rattle.bsc_octets.specs.Addresses.{same_vmac, zero_vmac, broadcast};
-ghost use Rattle.bsc_desk.specs.Rows.{IsRowOf, HasRow, IsNewInlet};
+ghost use Rattle.bsc_ring.specs.Ends.{IsNewInlet, capacity_of};
+ghost use Rattle.bsc_desk.specs.Rows.{IsRowOf};
 ghost use Rattle.bsc_desk_bench.specs.Following.{Follows, Stands};
 ghost use Rattle.bsc_desk_bench.specs.Ready.{IsReady};
 
-use crate::room::Room;
-use bsc_desk::{Desk, Inlet, Limits, NewRow, NoRow, inlet};
+use crate::room::{Others, Room};
+use bsc_desk::{Desk, Inlet, Limits, NewRow, NoRow, Outlet, make};
 use bsc_octets::{DeviceId, Identity, NoMemory, Vmac};
 use std::alloc::Global;
 use uuid::Uuid;
@@ -67,53 +67,54 @@ fn connect(
 ) -> Result<NewRow, (NoRow, Inlet)>
     requires not_zero { IsFalse (same_vmac who.vmac zero_vmac) }
     requires not_broadcast { IsFalse (same_vmac who.vmac broadcast) }
-    requires new_inlet { IsNewInlet inlet desk.old.about.limits.outbox }
+    requires new_inlet { IsNewInlet inlet }
+    requires capacity { capacity_of inlet ≡ desk.old.about.limits.outbox }
     ensures follows { Follows desk.old desk.new }
     ensures caller { IfOk result (λ row. Stands desk.old → IsRowOf desk.new caller row.conn who.vmac) }
-    ensures row { IfOk result (λ row. Stands desk.old → HasRow desk.new row.conn) }
 {
     desk.connect(caller, who, inlet)
 }
 
-/// Joins a member, and answers the number of its connection.
-fn join(alloc: Global, desk: &mut Desk, member: u16, vmac: Vmac) -> Result<Option<u64>, NoMemory>
+/// Joins a member, and answers the number of its connection and its outlet.
+fn join(
+    alloc: Global,
+    desk: &mut Desk,
+    member: u16,
+    vmac: Vmac,
+) -> Result<Option<(u64, Outlet)>, NoMemory>
     requires outbox { desk.old.about.limits.outbox ≡ 16 }
     requires not_zero { IsFalse (same_vmac vmac zero_vmac) }
     requires not_broadcast { IsFalse (same_vmac vmac broadcast) }
     ensures follows { OnOk result (Follows desk.old desk.new) }
-    ensures caller { IfOk result (λ o. IfSome o (λ c. Stands desk.old → IsRowOf desk.new member c vmac)) }
-    ensures row { IfOk result (λ o. IfSome o (λ c. Stands desk.old → HasRow desk.new c)) }
+    ensures caller { IfOk result (λ o. IfSome o (λ m. Stands desk.old → IsRowOf desk.new member m.0 vmac)) }
 {
-    let inlet = inlet(alloc, OUTBOX)?;
+    let (inlet, outlet) = make(alloc, OUTBOX)?;
     match connect(desk, u64::from(member), identity(member, vmac), inlet) {
-        Ok(row) => Ok(Some(row.conn)),
+        Ok(row) => Ok(Some((row.conn, outlet))),
         Err(_refused) => Ok(None),
     }
 }
 
-/// Joins a member, and adds the number of its connection.
-fn add(alloc: Global, desk: &mut Desk, others: &mut Vec<u64>, member: u16) -> Result<(), NoMemory>
+/// Joins a member, and adds its outlet.
+fn add(alloc: Global, desk: &mut Desk, others: &mut Others, member: u16) -> Result<(), NoMemory>
     requires outbox { desk.old.about.limits.outbox ≡ 16 }
-    requires stands { Stands desk.old }
-    requires rows { AllByRecursion (HasRow desk.old) others.old.items }
     ensures follows { OnOk result (Follows desk.old desk.new) }
-    ensures rows { OnOk result (AllByRecursion (HasRow desk.new) others.new.items) }
 {
     match join(alloc, desk, member, address(member))? {
-        Some(conn) => Ok(others.push(conn)?),
+        Some((_conn, outlet)) => Ok(others.outlets.push(outlet)?),
         None => Ok(()),
     }
 }
 
-/// Joins the members from 2 on, and answers the numbers of their connections.
-fn join_others(alloc: Global, desk: &mut Desk, rows: u16) -> Result<Vec<u64>, NoMemory>
+/// Joins the members from 2 on, and answers their outlets.
+fn join_others(alloc: Global, desk: &mut Desk, rows: u16) -> Result<Others, NoMemory>
     requires few { rows ≤ 1024 }
     requires outbox { desk.old.about.limits.outbox ≡ 16 }
-    requires stands { Stands desk.old }
     ensures follows { OnOk result (Follows desk.old desk.new) }
-    ensures rows { IfOk result (λ v. AllByRecursion (HasRow desk.new) v.items) }
 {
-    let mut others = Vec::with_capacity(alloc, rows as usize)?;
+    let mut others = Others {
+        outlets: Vec::with_capacity(alloc, rows as usize)?,
+    };
     for member in 2..rows + 1 {
         add(alloc, desk, &mut others, member)?;
     }
@@ -121,21 +122,21 @@ fn join_others(alloc: Global, desk: &mut Desk, rows: u16) -> Result<Vec<u64>, No
 }
 
 /// Fills a desk with members, the first of which is to send. None where it didn't join.
-pub(crate) fn fill(alloc: Global, desk: &mut Desk, rows: u16) -> Result<Option<Room>, NoMemory>
+pub(crate) fn fill(
+    alloc: Global,
+    desk: &mut Desk,
+    rows: u16,
+) -> Result<Option<(Room, Others)>, NoMemory>
     requires few { rows ≤ 1024 }
     requires outbox { desk.old.about.limits.outbox ≡ 16 }
     requires stands { Stands desk.old }
-    ensures ready { IfOk result (λ o. IfSome o (IsReady desk.new)) }
+    ensures ready { IfOk result (λ o. IfSome o (λ m. IsReady desk.new m.0)) }
 {
     let from = address(1);
     match join(alloc, desk, 1, from)? {
-        Some(sender) => {
+        Some((sender, _outlet)) => {
             let others = join_others(alloc, desk, rows)?;
-            Ok(Some(Room {
-                from,
-                sender,
-                others,
-            }))
+            Ok(Some((Room { from, sender }, others)))
         }
         None => Ok(None),
     }

@@ -53,11 +53,11 @@ fn measure_unicasts(rt: &HostRuntime, rows: u16, frames: u32) -> anyhow::Result<
 {
     let alloc = rt.alloc();
     let mut desk = Desk::make(alloc, hub(), limits(rows))?;
-    let Some(room) = fill(alloc, &mut desk, rows)? else {
+    let Some((room, mut others)) = fill(alloc, &mut desk, rows)? else {
         return Ok(());
     };
     let start = Instant::now(rt)?;
-    let tally = unicasts(alloc, &mut desk, &room, frames / u32::from(rows - 1))?;
+    let tally = unicasts(alloc, &mut desk, &room, &mut others, frames / u32::from(rows - 1))?;
     let time = start.elapsed(rt)?;
     tell(rt, "unicasts", rows, tally, time)?;
     Ok(())
@@ -70,11 +70,11 @@ fn measure_broadcasts(rt: &HostRuntime, rows: u16, frames: u32) -> anyhow::Resul
 {
     let alloc = rt.alloc();
     let mut desk = Desk::make(alloc, hub(), limits(rows))?;
-    let Some(room) = fill(alloc, &mut desk, rows)? else {
+    let Some((room, mut others)) = fill(alloc, &mut desk, rows)? else {
         return Ok(());
     };
     let start = Instant::now(rt)?;
-    let tally = broadcasts(alloc, &mut desk, &room, frames / u32::from(rows - 1))?;
+    let tally = broadcasts(alloc, &mut desk, &room, &mut others, frames / u32::from(rows - 1))?;
     let time = start.elapsed(rt)?;
     tell(rt, "broadcasts", rows, tally, time)?;
     Ok(())

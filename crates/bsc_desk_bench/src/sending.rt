@@ -3,11 +3,11 @@
 
 ghost use Rattle.std.specs.Prelude.{IsTrue, IsFalse, OnOk};
 ghost use Rattle.bsc_octets.specs.Forwarding.{has_route, is_broadcast};
-ghost use Rattle.bsc_desk.specs.Rows.{HasRow, IsRowOf};
-ghost use Rattle.bsc_desk_bench.specs.Following.{Follows};
+ghost use Rattle.bsc_desk.specs.Rows.{IsRowOf};
+ghost use Rattle.bsc_desk_bench.specs.Following.{Follows, Stands};
 ghost use Rattle.bsc_desk_bench.specs.Ready.{IsReady};
 
-use crate::room::Room;
+use crate::room::{Others, Room};
 use bsc_desk::{AllRefusal, AllReply, Desk, OneReply, Outlet, Prepared, Take, prepare};
 use bsc_history::Worn;
 use bsc_octets::NoMemory;
@@ -80,6 +80,7 @@ fn sum(octets: &[u8]) -> u64 {
 fn forward_one(desk: &mut Desk, room: &Room, frame: Prepared) -> Result<OneReply, Worn>
     requires unicast { IsFalse (is_broadcast frame.message) }
     requires sender { IsRowOf desk.old 1 room.now.sender frame.sender }
+    requires stands { Stands desk.old }
     ensures { Follows desk.old desk.new }
 {
     desk.forward_one(1, room.sender, frame)
@@ -94,17 +95,10 @@ fn forward_all(
 ) -> Result<AllReply, AllRefusal>
     requires broadcast { IsTrue (is_broadcast frame.now.message) }
     requires sender { IsRowOf desk.old 1 room.now.sender frame.now.sender }
+    requires stands { Stands desk.old }
     ensures { Follows desk.old desk.new }
 {
     desk.forward_all(alloc, 1, room.sender, frame)
-}
-
-/// A take from the outbox of a connection.
-fn take(desk: &mut Desk, conn: u64) -> Take
-    requires { HasRow desk.old conn }
-    ensures { Follows desk.old desk.new }
-{
-    desk.take(&mut Outlet::of(conn))
 }
 
 fn appended_by(reply: Result<OneReply, Worn>) -> u64 {
@@ -135,58 +129,64 @@ fn tally_of(take: Take) -> Tally {
     }
 }
 
-/// Sends a unicast to a member, and takes it from the outbox of its connection.
+/// Sends a unicast to a member, and takes it from its outbox.
 fn exchange(
     alloc: Global,
     desk: &mut Desk,
     room: &Room,
     member: u16,
-    conn: u64,
+    outlet: &mut Outlet,
 ) -> Result<Tally, NoMemory>
     requires ready { IsReady desk.old room.now }
-    requires row { HasRow desk.old conn }
     ensures { OnOk result (Follows desk.old desk.new) }
 {
     let frame = prepare(alloc, &to_one(member), room.from)?;
     let appended = appended_by(forward_one(desk, room, frame));
-    let took = take(desk, conn);
-    Ok(tally_of(took).with(appended))
+    Ok(tally_of(outlet.take()).with(appended))
 }
 
 /// Sends a unicast to each of the others, and takes it.
-fn unicasts_once(alloc: Global, desk: &mut Desk, room: &Room) -> Result<Tally, NoMemory>
+#[tactic(auto, using(crate::proofs::Following::ready_still, crate::proofs::Following::follows_on))]
+fn unicasts_once(
+    alloc: Global,
+    desk: &mut Desk,
+    room: &Room,
+    others: &mut Others,
+) -> Result<Tally, NoMemory>
     requires { IsReady desk.old room.now }
     ensures { OnOk result (Follows desk.old desk.new) }
 {
     let mut tally = NOTHING;
     let mut member = 2u16;
-    for conn in room.others.as_slice() {
-        tally = tally.and(exchange(alloc, desk, room, member, *conn)?);
+    for outlet in others.outlets.iter_mut() {
+        tally = tally.and(exchange(alloc, desk, room, member, outlet)?);
         member = member.wrapping_add(1);
     }
     Ok(tally)
 }
 
 /// Takes a frame from each of the others.
-fn take_each(desk: &mut Desk, room: &Room) -> Tally
-    requires { IsReady desk.old room.now }
-    ensures { Follows desk.old desk.new }
-{
+fn take_each(others: &mut Others) -> Tally {
     let mut tally = NOTHING;
-    for conn in room.others.as_slice() {
-        tally = tally.and(tally_of(take(desk, *conn)));
+    for outlet in others.outlets.iter_mut() {
+        tally = tally.and(tally_of(outlet.take()));
     }
     tally
 }
 
 /// Sends a broadcast, and takes it from the outbox of each of the others.
-fn broadcast_once(alloc: Global, desk: &mut Desk, room: &Room) -> Result<Tally, NoMemory>
+fn broadcast_once(
+    alloc: Global,
+    desk: &mut Desk,
+    room: &Room,
+    others: &mut Others,
+) -> Result<Tally, NoMemory>
     requires { IsReady desk.old room.now }
     ensures { OnOk result (Follows desk.old desk.new) }
 {
     let frame = prepare(alloc, &to_all(), room.from)?;
     let appended = appended_to(forward_all(alloc, desk, room, &frame));
-    Ok(take_each(desk, room).with(appended))
+    Ok(take_each(others).with(appended))
 }
 
 /// Sends so many unicasts to each of the others by turns.
@@ -195,13 +195,14 @@ pub(crate) fn unicasts(
     alloc: Global,
     desk: &mut Desk,
     room: &Room,
+    others: &mut Others,
     rounds: u32,
 ) -> Result<Tally, NoMemory>
     requires { IsReady desk.old room.now }
 {
     let mut tally = NOTHING;
     for _round in 0..rounds {
-        tally = tally.and(unicasts_once(alloc, desk, room)?);
+        tally = tally.and(unicasts_once(alloc, desk, room, others)?);
     }
     Ok(tally)
 }
@@ -212,13 +213,14 @@ pub(crate) fn broadcasts(
     alloc: Global,
     desk: &mut Desk,
     room: &Room,
+    others: &mut Others,
     rounds: u32,
 ) -> Result<Tally, NoMemory>
     requires { IsReady desk.old room.now }
 {
     let mut tally = NOTHING;
     for _round in 0..rounds {
-        tally = tally.and(broadcast_once(alloc, desk, room)?);
+        tally = tally.and(broadcast_once(alloc, desk, room, others)?);
     }
     Ok(tally)
 }

@@ -1,0 +1,41 @@
+//! The machine of a peer that accepts a connection (Annex AB, "Accepting Peer"), without input or output.
+//!
+//! Start at `specs/Steps.antt`: which step a machine makes at an event, by all events before it. `specs/Past.antt`
+//! looks back over them, and `specs/Waits.antt` has the three waits. `accepting` has the calls, one for each
+//! event, and `step` what each of them answers. Whoever holds the machine carries its steps out: it knows no
+//! link, no text and no hub, and it takes no memory.
+#![tactic(auto)]
+
+mod accepting;
+mod closing;
+mod event;
+mod farewell;
+mod laws;
+mod moving;
+mod passing;
+mod reason;
+mod replies;
+mod stage;
+mod start;
+mod step;
+mod times;
+mod waits;
+
+pub use accepting::Accepting;
+pub use closing::Closing;
+pub use event::Event;
+pub use farewell::Farewell;
+pub use laws::{messages_are_heard, replies_are_messages, ticks_close};
+pub use reason::Reason;
+pub use start::Start;
+pub use step::Step;
+pub use times::Times;
+
+#[cfg(test)]
+mod reading;
+#[cfg(test)]
+mod rows;
+#[cfg(test)]
+mod telling;
+#[cfg(test)]
+mod tests;

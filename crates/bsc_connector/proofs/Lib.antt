@@ -1,0 +1,6 @@
+mod WorkedConnector
+pub mod BackLemmas
+pub mod SideLemmas
+pub mod Following
+pub mod Beside
+pub mod Apart

@@ -1,0 +1,5 @@
+pub mod Back
+pub mod Sides
+pub mod Steps
+pub mod Standing
+pub mod Kept
