@@ -1,0 +1,10 @@
+pub mod SameAddress
+pub mod Firsts
+pub mod HeadParts
+pub mod Behind
+pub mod Lists
+pub mod NakOctets
+pub mod Stages
+pub mod Unique
+pub mod InPlace
+pub mod Verdicts

@@ -1,0 +1,5 @@
+pub mod Places
+pub mod Table
+pub mod Naks
+pub mod Verdicts
+pub mod Walk

@@ -1,0 +1,68 @@
+//! The function at a place and in its phase: C13. Which functions are responses.
+ghost use Rattle.std.specs.Prelude.{◌↔◌, ◌≡◌, IsTrue};
+ghost use Rattle.bsc_checks.specs.Places.{IsInPlaceConnected, IsInPlaceIn, IsInPlace, phase_of};
+ghost use Rattle.bsc_checks.specs.Naks.{IsResponse};
+
+use crate::phase::Phase;
+use crate::place::Place;
+use bsc_octets::Vmac;
+
+impl Place {
+    /// The phase of the connection.
+    pub fn phase(&self) -> Phase
+        ensures { result ≡ phase_of self.now }
+    {
+        match *self {
+            Place::HubPort { phase }
+            | Place::NodeHub { phase, .. }
+            | Place::NodeDirect { phase, .. } => phase,
+        }
+    }
+}
+
+/// Whether the function is one that answers another message.
+pub(crate) fn is_response(function: u8) -> bool
+    ensures { IsTrue result ↔ IsResponse function }
+{
+    matches!(function, 0x00 | 0x03 | 0x07 | 0x09 | 0x0B)
+}
+
+/// Whether the function is in place once the connection is made.
+fn is_in_place_connected(place: &Place, function: u8, origin: Option<Vmac>) -> bool
+    ensures { IsTrue result ↔ IsInPlaceConnected place.now function origin }
+{
+    match place {
+        Place::HubPort { .. } => matches!(function, 0x08 | 0x0A),
+        Place::NodeHub { .. } => {
+            function <= 0x05 || (matches!(function, 0x08 | 0x0A | 0x0B) && origin.is_none())
+        }
+        Place::NodeDirect { .. } => function <= 0x05 || matches!(function, 0x08 | 0x0A | 0x0B),
+    }
+}
+
+/// Whether the function is in place.
+fn is_in_place(place: &Place, function: u8, origin: Option<Vmac>) -> bool
+    ensures { IsTrue result ↔ IsInPlaceIn (phase_of place.now) place.now function origin }
+{
+    match place.phase() {
+        Phase::AwaitingRequest => function == 0x06,
+        Phase::AwaitingAccept => matches!(function, 0x00 | 0x07),
+        Phase::Connected => is_in_place_connected(place, function, origin),
+        Phase::Disconnecting => matches!(function, 0x00 | 0x09),
+    }
+}
+
+/// C13: whether a message, which is to be carried on or not, is out of place.
+pub(crate) fn is_out_of_place(
+    to_carry: bool,
+    place: &Place,
+    function: u8,
+    origin: Option<Vmac>,
+) -> bool
+    ensures { IsTrue result ↔ (¬ IsInPlace to_carry place.now function origin) }
+{
+    if to_carry {
+        return place.phase() != Phase::Connected;
+    }
+    !is_in_place(place, function, origin)
+}

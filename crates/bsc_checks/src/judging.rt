@@ -1,0 +1,174 @@
+//! What becomes of a message.
+ghost use Rattle.std.specs.Prelude.{◌≡◌, ◌↔◌, ◌⊎◌, ℕ, List, IfOk, IfErr, IsErr};
+ghost use Rattle.std.specs.List.{AllByRecursion};
+ghost use Rattle.arrayvec.specs.ArrayVec.{ArrayVec};
+ghost use Rattle.bsc_octets.specs.declared.envelope.Envelope.{Envelope};
+ghost use Rattle.bsc_frame.specs.declared.check.Check.{Check};
+ghost use Rattle.bsc_frame.specs.declared.message.Message.{Message};
+ghost use Rattle.bsc_frame.specs.Checks.{Fails, order};
+ghost use Rattle.bsc_frame.specs.Spelling.{Spells};
+ghost use Rattle.bsc_checks.specs.declared.place.Place.{Place};
+ghost use Rattle.bsc_checks.specs.declared.verdict.Verdict.{Verdict};
+ghost use Rattle.bsc_checks.specs.Places.{is_to_carry};
+ghost use Rattle.bsc_checks.specs.Table.{code_of, IsFirst};
+ghost use Rattle.bsc_checks.specs.Naks.{IsMarker};
+ghost use Rattle.bsc_checks.specs.Verdicts.{Judged};
+ghost use Rattle.bsc_checks.specs.Walk.{IsHead, Answers, VerdictAnswers, between, from_flags};
+
+use crate::addresses::is_unicast;
+use crate::functions::{is_out_of_place, is_response};
+use crate::head::read_head;
+use crate::nak::{nak, return_address};
+use crate::option_checks::read_options;
+use crate::payload::payload_fault;
+use crate::place::Place;
+use crate::refusal::Refusal;
+use crate::verdict::Verdict;
+use bsc_frame::{Check, Message, read};
+use bsc_octets::{Envelope, NoMemory};
+use std::alloc::Global;
+
+/// The control flags that are not reserved.
+const FLAGS: u8 = 0x0F;
+
+/// The greatest function that is known, Proprietary-Message.
+const PROPRIETARY: u8 = 0x0C;
+
+/// The error code that a check answers with.
+fn code_of(check: Check) -> Option<u16>
+    ensures { result ≡ code_of check }
+{
+    match check {
+        Check::C1 | Check::C2 | Check::C3 | Check::C4 | Check::C13 => None,
+        Check::C5 | Check::C7b | Check::C8 => Some(145),
+        Check::C6 => Some(143),
+        Check::C7 | Check::C10b => Some(147),
+        Check::C9 => Some(146),
+        Check::C10 => Some(149),
+        Check::C10c => Some(150),
+        Check::C11 => Some(80),
+        Check::C12 => Some(144),
+    }
+}
+
+/// Whether the hub carries the message on.
+fn is_to_carry(place: &Place, head: &Envelope) -> bool
+    ensures { (m : List ℕ) → IsHead m head.now → result ≡ is_to_carry place.now m }
+{
+    matches!(place, Place::HubPort { .. }) && head.dest.is_some()
+}
+
+/// The first of C6 to C12 that fails, of a message that is not to be carried on.
+fn later_refusal(m: &[u8], head: &Envelope, to_carry: bool) -> Option<Refusal>
+    requires { IsHead m.now head.now }
+    ensures { (place : Place) (max : ℕ) → Answers (between to_carry) m.now place max result }
+{
+    if to_carry {
+        return None;
+    }
+    if head.function > PROPRIETARY {
+        return Some(Refusal::of(Check::C6));
+    }
+    let ends = match read_options(m, head) {
+        Ok(ends) => ends,
+        Err(refusal) => return Some(refusal),
+    };
+    if let Some(check) = payload_fault(head.function, &m[ends.data..]) {
+        return Some(Refusal::of(check));
+    }
+    if head.function == PROPRIETARY {
+        return Some(Refusal::of(Check::C12));
+    }
+    None
+}
+
+/// The first of C5 to C13 that fails.
+fn refusal(m: &[u8], head: &Envelope, place: &Place) -> Option<Refusal>
+    requires { IsHead m.now head.now }
+    ensures { (max : ℕ) → Answers (from_flags (is_to_carry place.now m.now)) m.now place.now max result }
+{
+    if head.flags > FLAGS {
+        return Some(Refusal::of(Check::C5));
+    }
+    let to_carry = is_to_carry(place, head);
+    if let Some(refusal) = later_refusal(m, head, to_carry) {
+        return Some(refusal);
+    }
+    if is_out_of_place(to_carry, place, head.function, head.origin) {
+        return Some(Refusal::of(Check::C13));
+    }
+    None
+}
+
+/// The verdict where a check fails: a NAK, where it has a code, the message is a unicast and no response.
+fn refused(head: &Envelope, place: &Place, refusal: Refusal) -> Verdict
+    ensures { (m : List ℕ) (max : ℕ) → IsHead m head.now → IsFirst refusal.check m place.now max → IsMarker m refusal.check refusal.marker
+        → Judged m place.now max result }
+{
+    let Some(code) = code_of(refusal.check) else {
+        return Verdict::Silent(refusal.check);
+    };
+    if !is_unicast(head.dest) {
+        return Verdict::Silent(refusal.check);
+    }
+    if is_response(head.function) {
+        return Verdict::Silent(refusal.check);
+    }
+    let dest = return_address(place, head.origin);
+    let octets = nak(head.id, dest, head.function, refusal.marker, code);
+    Verdict::Nak(refusal.check, octets)
+}
+
+/// The message that the octets spell, where none of their checks fails.
+fn passed(alloc: Global, m: &[u8]) -> Result<Message, NoMemory>
+    requires { AllByRecursion (λ check. ¬ Fails m.now check) order }
+    ensures found { IfOk result (λ msg. Spells msg m.now) }
+    ensures memory { IfErr result (λ _. (msg : Message) × Spells msg m.now) }
+{
+    match read(alloc, m) {
+        Ok(message) => Ok(message),
+        Err(_) => Err(NoMemory),
+    }
+}
+
+/// The verdict on a message, check by check.
+fn verdict_on(alloc: Global, m: &[u8], place: &Place, max: u16) -> Result<Verdict, NoMemory>
+    ensures { VerdictAnswers m.now place.now max result }
+{
+    let head = match read_head(m, place, max) {
+        Ok(head) => head,
+        Err(check) => return Ok(Verdict::Silent(check)),
+    };
+    if let Some(refusal) = refusal(m, &head, place) {
+        return Ok(refused(&head, place, refusal));
+    }
+    if is_to_carry(place, &head) {
+        return Ok(Verdict::Carry(head));
+    }
+    let message = passed(alloc, m)?;
+    Ok(Verdict::Pass(message))
+}
+
+/// What becomes of a message that came at this place, where no message is to be longer than `max` octets.
+///
+/// The checks are made in the order of [`Check`], and the first that fails decides. At a hub port a message with
+/// a Destination is judged by its head alone, C1 to C5, and then by the phase: it is carried on where the
+/// connection is made. Every other message has to pass all checks.
+///
+/// A check that fails is answered by a NAK where it has a code, the message is a unicast, and its function is no
+/// response; else the verdict is silence. Memory is taken only for a message that passes, as [`read`] takes it.
+pub fn judge(alloc: Global, m: &[u8], place: &Place, max: u16) -> Result<Verdict, NoMemory>
+    // The verdict that is answered is the one that the message has, and it has no other.
+    ensures found { IfOk result (λ verdict. Judged m.now place.now max verdict) }
+    ensures only { (verdict : Verdict) → Judged m.now place.now max verdict → (result ≡ Ok verdict) ⊎ IsErr result }
+
+    // Memory can be wanting only where the message passes.
+    ensures memory { IfErr result (λ _. (msg : Message) × Judged m.now place.now max (Verdict.Pass msg)) }
+
+    // So a message is carried on, dropped in silence or refused exactly where that is its verdict.
+    ensures carry { (envelope : Envelope) → (result ≡ Ok (Verdict.Carry envelope)) ↔ Judged m.now place.now max (Verdict.Carry envelope) }
+    ensures silent { (check : Check) → (result ≡ Ok (Verdict.Silent check)) ↔ Judged m.now place.now max (Verdict.Silent check) }
+    ensures nak { (check : Check) (octets : ArrayVec ℕ) → (result ≡ Ok (Verdict.Nak check octets)) ↔ Judged m.now place.now max (Verdict.Nak check octets) }
+{
+    verdict_on(alloc, m, place, max)
+}

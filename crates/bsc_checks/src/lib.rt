@@ -1,0 +1,30 @@
+//! What becomes of a message at its place: it passes, the hub carries it on, it is dropped in silence, or a NAK
+//! answers it.
+//!
+//! Start at `place` (where and when a message comes) and `verdict`, then `judging`. The checks stand in one
+//! table, `specs/Table.antt`: what each finds wrong, in which order they are made, and which code each gives.
+//! `specs/Verdicts.antt` says which verdict a message has. Each check has a function of its own here, in that
+//! order. This crate stands on `bsc_frame` for the checks that octets alone decide, on `bsc_options` and
+//! `bsc_octets` below it, and on `arrayvec` for the octets of a NAK.
+#![tactic(auto)]
+
+mod addresses;
+mod functions;
+mod head;
+mod judging;
+mod nak;
+mod option_checks;
+mod options;
+mod payload;
+mod phase;
+mod place;
+mod refusal;
+mod understood;
+mod verdict;
+
+pub use bsc_frame::{Check, Message};
+pub use bsc_octets::Envelope;
+pub use judging::judge;
+pub use phase::Phase;
+pub use place::Place;
+pub use verdict::Verdict;
