@@ -4,6 +4,10 @@ pub mod Lists
 pub mod Options
 pub mod Payloads
 pub mod Places
-pub mod Tests
+pub mod Failing
+pub mod Envelopes
+pub mod Bodies
+pub mod Messages
 pub mod Outcomes
+pub mod Existence
 mod WorkedOutcomes

@@ -13,7 +13,7 @@ use Rattle.bsc_frame.specs.Checks.{OfDestOptions, OfDataOptions, OfPayload, Lack
 use Rattle.bsc_frame.proofs.OptionLists.{AreLists, list_one}
 use Rattle.bsc_frame.proofs.Whole.{one_payload}
 use Rattle.bsc_verdict.specs.Options.{AreOctets, Found, items_in, list_in, list_behind, dest_options_in, data_options_in}
-use Rattle.bsc_verdict.specs.Tests.{of_payload}
+use Rattle.bsc_verdict.specs.Failing.{of_payload}
 use Rattle.bsc_verdict.proofs.Reflecting.{Reflects}
 use Rattle.bsc_verdict.proofs.Walks.{behind_octets, ItemsSay, items_say}
 

@@ -14,7 +14,7 @@ use Rattle.bsc_checks.specs.Table.{IsFirstNotUnderstood, HasOptionNotUnderstood}
 use Rattle.bsc_checks.specs.Walk.{marker_refused}
 use Rattle.bsc_checks.proofs.Behind.{refused_at, refused_is}
 use Rattle.bsc_verdict.specs.Options.{Found, items_of}
-use Rattle.bsc_verdict.specs.Tests.{is_bad, has_bad}
+use Rattle.bsc_verdict.specs.Failing.{is_bad, has_bad}
 use Rattle.bsc_verdict.proofs.Reflecting.{Reflects, either, alike}
 use Rattle.bsc_verdict.proofs.Lists.{DestSays, BothSay, not_cut, data_at, data_of, no_data}
 
@@ -57,7 +57,7 @@ good_by : (x : OptionItem) (xs : List OptionItem) (b : Bool) → ShapeSays x b �
 good_by x xs true says e later = absurd cc
 good_by x xs false says e later = (says, later e)
 
-good_all : (items : List OptionItem) → AllByRecursion Fits items → has_bad items ≡ false → AllByRecursion HasShape items
+pub good_all : (items : List OptionItem) → AllByRecursion Fits items → has_bad items ≡ false → AllByRecursion HasShape items
 good_all [] fits e = tt
 good_all (x ∷ xs) fits e = good_by x xs (is_bad x) (shape_says x fits.0) e (λ later. good_all xs fits.1 later)
 

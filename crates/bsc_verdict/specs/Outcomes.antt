@@ -18,7 +18,7 @@ use Rattle.bsc_checks.specs.Naks.{nak_to}
 use Rattle.bsc_verdict.specs.Options.{items_of, rest_of, dest_options_in, data_options_in}
 use Rattle.bsc_verdict.specs.Payloads.{body_in}
 use Rattle.bsc_verdict.specs.Places.{is_unicast, is_response}
-use Rattle.bsc_verdict.specs.Tests.{fails, refused_marker}
+use Rattle.bsc_verdict.specs.Failing.{fails, refused_marker}
 
 -- ---- what octets say
 

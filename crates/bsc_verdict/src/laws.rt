@@ -6,9 +6,10 @@ ghost use Rattle.bsc_checks.specs.Verdicts.{Judged};
 ghost use Rattle.bsc_verdict.specs.Options.{AreOctets};
 ghost use Rattle.bsc_verdict.specs.Outcomes.{outcome_of};
 
-/// The verdict that octets have at a place is the one that is computed of them.
+/// The verdict that is computed of octets is one that they have at that place, and they have no other.
 pub fn one_outcome()
-    ensures { (m : List ℕ) (place : Place) (max : ℕ) (verdict : Verdict) → AreOctets m
+    ensures has { (m : List ℕ) (place : Place) (max : ℕ) → AreOctets m → Judged m place max (outcome_of m place max) }
+    ensures only { (m : List ℕ) (place : Place) (max : ℕ) (verdict : Verdict) → AreOctets m
         → Judged m place max verdict → verdict ≡ outcome_of m place max }
 {}
 

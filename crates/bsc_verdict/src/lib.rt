@@ -7,6 +7,8 @@
 
 mod judging;
 mod laws;
+#[cfg(test)]
+mod tests;
 
 pub use judging::judged;
 pub use laws::{one_outcome, one_verdict};

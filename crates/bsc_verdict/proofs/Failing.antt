@@ -14,7 +14,7 @@ use Rattle.bsc_checks.specs.Table.{Fails}
 use Rattle.bsc_verdict.specs.Options.{AreOctets, dest_options_in, data_options_in}
 use Rattle.bsc_verdict.specs.Payloads.{is_missing, is_below_fixed_part, is_beyond_fixed_part, is_out_of_range}
 use Rattle.bsc_verdict.specs.Places.{is_in_place}
-use Rattle.bsc_verdict.specs.Tests.{has_misplaced_data_options, fails}
+use Rattle.bsc_verdict.specs.Failing.{has_misplaced_data_options, fails}
 use Rattle.bsc_verdict.specs.Outcomes.{first_failing}
 use Rattle.bsc_verdict.proofs.Reflecting.{Reflects, clear_of, also, either, never, equal, less, at_most, set}
 use Rattle.bsc_verdict.proofs.Lists.{dest_says, both_say, lacks, payload_says}
