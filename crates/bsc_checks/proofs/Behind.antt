@@ -1,10 +1,10 @@
 -- What stands behind the marker of an item, and the first item that is not understood.
-use Rattle.std.proofs.Common.{◌≡◌, ◌≢◌, ℕ, ◌+◌, ◌*◌, ◌/◌, ◌%◌, ◌<◌, ◌≤◌, Bool, true, false, not, ◌&&◌, eqb, cond, List, [], ◌∷◌, ◌++◌, length, drop, Option, Some, None, is_some, refl, sym, ap, subst, ◌∙◌, append_assoc, arith, length-append}
+use Rattle.std.proofs.Common.{◌≡◌, ◌≢◌, ℕ, ◌+◌, ◌*◌, ◌/◌, ◌%◌, ◌<◌, Bool, true, false, not, ◌&&◌, eqb, cond, List, [], ◌∷◌, ◌++◌, length, drop, Option, Some, None, is_some, refl, sym, ap, ◌∙◌, arith, length-append}
 use Rattle.std.specs.List.{AllByRecursion}
-use Rattle.std.proofs.lemmas.Bool.{eqb-true, eq-eqb, ne_eqb, eqb-false, and_parts, not-true}
+use Rattle.std.proofs.lemmas.Bool.{eq-eqb, ne_eqb, eqb-false, and_parts, not-true}
 use Rattle.std.proofs.lemmas.List.{drop_at}
 use Rattle.bsc_options.specs.declared.item.OptionItem.{OptionItem}
-use Rattle.bsc_options.specs.Spelling.{Fits, bit, data_octets, has_items, item_octets, marker_of, spelling_of}
+use Rattle.bsc_options.specs.Spelling.{Fits, bit, data_octets, has_items, marker_of, spelling_of}
 use Rattle.bsc_checks.specs.Table.{IsNotUnderstood}
 use Rattle.bsc_checks.specs.Walk.{marker_refused}
 

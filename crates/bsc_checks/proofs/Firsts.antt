@@ -1,5 +1,5 @@
 -- The first of some checks that fails, check by check.
-use Rattle.std.proofs.Common.{◌≡◌, Bool, true, false, List, [], ◌∷◌, ◌++◌, refl, ap, ◌∙◌, sym}
+use Rattle.std.proofs.Common.{◌≡◌, Bool, true, false, List, [], ◌∷◌, refl, ap, ◌∙◌, sym}
 use Rattle.bsc_frame.specs.declared.check.Check.{Check}
 use Rattle.bsc_frame.specs.Checks.{IsFirstOf}
 

@@ -1,21 +1,21 @@
 -- What the envelope that octets begin with says of them, and the checks of the head.
-use Rattle.std.proofs.Common.{◌≡◌, ◌≢◌, ℕ, ◌+◌, ◌<◌, ◌≤◌, ◌^◌, Bool, true, false, cond, ltb, List, [], ◌∷◌, length, get_or, take, drop, Option, Some, None, Result, Ok, Err, refl, ap, sym, ◌∙◌, subst, arith}
+use Rattle.std.proofs.Common.{◌≡◌, ℕ, ◌<◌, ◌≤◌, ◌^◌, Bool, true, false, cond, ltb, List, [], ◌∷◌, length, get_or, drop, Option, Some, None, Result, Ok, Err, refl, sym, subst, arith}
 use Rattle.byteorder.specs.Endian.{big_number}
 use Rattle.byteorder.specs.Numbers.{big_from-take}
 use Rattle.bsc_octets.specs.declared.vmac.Vmac.{Vmac}
 use Rattle.bsc_octets.specs.declared.envelope.Envelope.{Envelope}
 use Rattle.bsc_octets.specs.declared.envelope.EnvelopeFault.{EnvelopeFault}
 use Rattle.bsc_octets.specs.declared.envelope.EnvelopeFault.TheVariants.{Short, Cut}
-use Rattle.bsc_octets.specs.Envelopes.{flags_in, announces_origin, announces_dest, SpellsEnvelope, HasWholeAddresses, vmac_at, header_of, envelope_of}
+use Rattle.bsc_octets.specs.Envelopes.{announces_origin, announces_dest, SpellsEnvelope, HasWholeAddresses, vmac_at, header_of, envelope_of}
 use Rattle.bsc_octets.specs.Forwarding.{function_in, id_in}
 use Rattle.bsc_frame.specs.declared.check.Check.{Check}
 use Rattle.bsc_frame.specs.declared.check.Check.TheVariants.{C1, C2, C3, C4}
 use Rattle.bsc_frame.specs.Checks.{LacksAddressOctets}
-use Rattle.bsc_frame.proofs.Heads.{head_facts, not_short, lacks_none}
+use Rattle.bsc_frame.proofs.Heads.{head_facts, lacks_none}
 use Rattle.bsc_checks.specs.declared.place.Place.{Place}
 use Rattle.bsc_checks.specs.Places.{origin_in, dest_in, HasWrongAddresses}
 use Rattle.bsc_checks.specs.Table.{Fails}
-use Rattle.bsc_checks.specs.Walk.{IsHead, HeadAnswers, PlacedAnswers, silent_checks}
+use Rattle.bsc_checks.specs.Walk.{IsHead, HeadAnswers, PlacedAnswers}
 use Rattle.bsc_checks.proofs.Firsts.{first_here, first_after}
 
 -- ---- the parts of the envelope

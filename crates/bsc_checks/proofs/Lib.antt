@@ -8,3 +8,4 @@ pub mod Stages
 pub mod Unique
 pub mod InPlace
 pub mod Verdicts
+pub mod WorkedRows

@@ -1,18 +1,16 @@
 -- The checks behind the head, stage by stage.
-use Rattle.std.proofs.Common.{◌≡◌, ℕ, ◌<◌, ◌≤◌, Bool, true, false, List, [], ◌∷◌, ◌++◌, drop, Option, Some, None, Result, Ok, Err, refl, sym, ap, subst, ◌∙◌, arith}
+use Rattle.std.proofs.Common.{◌≡◌, ℕ, ◌<◌, ◌≤◌, Bool, true, false, List, [], ◌∷◌, ◌++◌, drop, Option, Some, None, Ok, Err, refl, sym, subst, ◌∙◌, arith}
 use Rattle.std.specs.List.{AllByRecursion}
 use Rattle.bsc_octets.specs.declared.envelope.Envelope.{Envelope}
 use Rattle.bsc_octets.specs.declared.vmac.Vmac.{Vmac}
-use Rattle.bsc_octets.specs.Envelopes.{flags_in}
 use Rattle.bsc_octets.specs.Forwarding.{function_in}
 use Rattle.bsc_options.specs.declared.item.OptionItem.{OptionItem}
 use Rattle.bsc_frame.specs.declared.check.Check.{Check}
-use Rattle.bsc_frame.specs.declared.check.Check.TheVariants.{C5, C6, C7, C9, C10, C10b, C10c, C11, C12, C13}
+use Rattle.bsc_frame.specs.declared.check.Check.TheVariants.{C5, C6, C9, C10, C10b, C10c, C11, C12, C13}
 use Rattle.bsc_frame.specs.Layout.{IsPayload}
 use Rattle.bsc_frame.specs.Checks.{IsFirstOf, OfPayload}
 use Rattle.bsc_frame.specs.Walk.{PayloadFails, payload_checks}
 use Rattle.bsc_frame.proofs.First.{Pass, pass_append, first_later, first_earlier, first_as}
-use Rattle.bsc_frame.proofs.OptionLists.{AreLists}
 use Rattle.bsc_frame.proofs.Whole.{one_payload}
 use Rattle.bsc_checks.specs.declared.options.Ends.{Ends}
 use Rattle.bsc_checks.specs.declared.place.Place.{Place}

@@ -1,14 +1,12 @@
 -- A message has one verdict.
-use Rattle.std.proofs.Common.{◌≡◌, ℕ, ◌⊎◌, inl, inr, List, [], ◌∷◌, ◌++◌, Option, Some, None, Result, Ok, Err, refl, sym, ap, subst, ◌∙◌}
+use Rattle.std.proofs.Common.{◌≡◌, ℕ, ◌⊎◌, inl, inr, List, ◌∷◌, ◌++◌, Option, Some, Result, Ok, Err, refl, sym, ap, subst, ◌∙◌}
 use Rattle.std.specs.Prelude.{IsErr}
-use Rattle.std.specs.List.{AllByRecursion}
 use Rattle.arrayvec.specs.ArrayVec.{ArrayVec}
 use Rattle.bsc_octets.specs.declared.envelope.Envelope.{Envelope}
 use Rattle.bsc_octets.specs.declared.envelope.EnvelopeFault.{EnvelopeFault}
 use Rattle.bsc_octets.specs.declared.no_memory.NoMemory.{NoMemory}
-use Rattle.bsc_octets.specs.Envelopes.{flags_in, envelope_of}
+use Rattle.bsc_octets.specs.Envelopes.{flags_in}
 use Rattle.bsc_octets.proofs.Spelling.{only}
-use Rattle.bsc_options.specs.declared.item.OptionItem.{OptionItem}
 use Rattle.bsc_options.specs.Spelling.{has_items, marker_of}
 use Rattle.bsc_frame.specs.declared.check.Check.{Check}
 use Rattle.bsc_frame.specs.declared.check.Check.TheVariants.{C9}
@@ -21,7 +19,7 @@ use Rattle.bsc_frame.proofs.Exact.{one_message}
 use Rattle.bsc_checks.specs.declared.place.Place.{Place}
 use Rattle.bsc_checks.specs.declared.verdict.Verdict.{Verdict}
 use Rattle.bsc_checks.specs.declared.verdict.Verdict.TheVariants.{Pass, Carry, Silent, Nak}
-use Rattle.bsc_checks.specs.Table.{Fails, code_of, checks_of, IsFirstNotUnderstood}
+use Rattle.bsc_checks.specs.Table.{Fails, checks_of, IsFirstNotUnderstood}
 use Rattle.bsc_checks.specs.Naks.{IsAnswered, IsNak, IsMarker, nak_to}
 use Rattle.bsc_checks.specs.Verdicts.{Judged}
 use Rattle.bsc_checks.specs.Walk.{VerdictAnswers, marker_refused}

@@ -1,36 +1,34 @@
 -- What a verdict says of the place and of the message.
-use Rattle.std.proofs.Common.{◌≡◌, ℕ, Bool, true, false, List, [], ◌∷◌, ◌++◌, Option, Some, None, Result, Ok, Err, is_some, refl, sym, ap, subst, ◌∙◌}
+use Rattle.std.proofs.Common.{◌≡◌, ℕ, Bool, true, false, List, ◌++◌, Option, Some, None, Result, Err, refl, sym, ap, subst, ◌∙◌}
 use Rattle.std.specs.List.{AllByRecursion}
 use Rattle.bsc_octets.specs.declared.envelope.Envelope.{Envelope}
 use Rattle.bsc_octets.specs.declared.vmac.Vmac.{Vmac}
 use Rattle.bsc_octets.specs.Forwarding.{function_in, id_in}
 use Rattle.byteorder.specs.Endian.{big_number}
 use Rattle.bsc_frame.specs.declared.check.Check.{Check}
-use Rattle.bsc_frame.specs.declared.check.Check.TheVariants.{C5, C13}
 use Rattle.bsc_frame.specs.declared.message.Message.{Message}
 use Rattle.bsc_frame.specs.declared.fault.FrameFault.{FrameFault}
 use Rattle.bsc_frame.specs.Payloads.{function_of}
 use Rattle.bsc_frame.specs.Spelling.{Spells}
-use Rattle.bsc_frame.specs.Checks.{IsFirstOf, order}
+use Rattle.bsc_frame.specs.Checks.{order}
 use Rattle.bsc_frame.specs.Checks.{Fails as FrameFails}
 use Rattle.bsc_frame.specs.Checks.{IsFirst as IsFrameFirst}
 use Rattle.bsc_frame.specs.declared.fault.FrameFault.TheVariants as faults
-use Rattle.bsc_frame.proofs.First.{Pass as PassAll, pass_append, first_later, first_earlier, first_or_none}
+use Rattle.bsc_frame.proofs.First.{pass_append, first_later, first_earlier, first_or_none}
 use Rattle.bsc_checks.specs.declared.place.Place.{Place}
 use Rattle.bsc_checks.specs.declared.refusal.Refusal.{Refusal}
-use Rattle.bsc_checks.specs.declared.verdict.Verdict.{Verdict}
-use Rattle.bsc_checks.specs.declared.verdict.Verdict.TheVariants.{Pass, Carry, Silent, Nak}
+use Rattle.bsc_checks.specs.declared.verdict.Verdict.TheVariants.{Pass, Carry, Silent}
 use Rattle.bsc_checks.specs.declared.phase.Phase.TheVariants.{Connected}
 use Rattle.bsc_checks.specs.declared.place.Place.TheVariants.{HubPort, NodeHub, NodeDirect}
-use Rattle.bsc_checks.specs.Places.{origin_in, dest_in, is_to_carry, phase_of, IsInPlace, IsInPlaceIn, IsUnicast}
-use Rattle.bsc_checks.specs.Table.{Fails, code_of, checks_of, IsFirst, NoneFails}
+use Rattle.bsc_checks.specs.Places.{origin_in, is_to_carry, phase_of, IsInPlace, IsInPlaceIn, IsUnicast}
+use Rattle.bsc_checks.specs.Table.{Fails, code_of, IsFirst, NoneFails}
 use Rattle.bsc_checks.specs.Naks.{IsAnswered, IsNak, IsMarker, IsResponse, nak, nak_to, return_address}
 use Rattle.bsc_checks.specs.Verdicts.{Judged}
 use Rattle.bsc_octets.proofs.Spelling.{only}
 use Rattle.bsc_frame.proofs.Whole.{head_of, has_head}
 use Rattle.bsc_checks.proofs.HeadParts.{is_head}
 use Rattle.bsc_checks.proofs.InPlace.{is_in_place_or_not, connected_or_not}
-use Rattle.bsc_checks.specs.Walk.{IsHead, NoneOf, Answers, HeadAnswers, between, from_flags, silent_checks}
+use Rattle.bsc_checks.specs.Walk.{IsHead, NoneOf, Answers, HeadAnswers, from_flags, silent_checks}
 
 -- ---- from the stages to the whole
 

@@ -102,8 +102,8 @@ fn refusal(m: &[u8], head: &Envelope, place: &Place) -> Option<Refusal>
 
 /// The verdict where a check fails: a NAK, where it has a code, the message is a unicast and no response.
 fn refused(head: &Envelope, place: &Place, refusal: Refusal) -> Verdict
-    ensures { (m : List ℕ) (max : ℕ) → IsHead m head.now → IsFirst refusal.check m place.now max → IsMarker m refusal.check refusal.marker
-        → Judged m place.now max result }
+    ensures { (m : List ℕ) (max : ℕ) → IsHead m head.now → IsFirst refusal.check m place.now max
+        → IsMarker m refusal.check refusal.marker → Judged m place.now max result }
 {
     let Some(code) = code_of(refusal.check) else {
         return Verdict::Silent(refusal.check);
@@ -166,9 +166,12 @@ pub fn judge(alloc: Global, m: &[u8], place: &Place, max: u16) -> Result<Verdict
     ensures memory { IfErr result (λ _. (msg : Message) × Judged m.now place.now max (Verdict.Pass msg)) }
 
     // So a message is carried on, dropped in silence or refused exactly where that is its verdict.
-    ensures carry { (envelope : Envelope) → (result ≡ Ok (Verdict.Carry envelope)) ↔ Judged m.now place.now max (Verdict.Carry envelope) }
-    ensures silent { (check : Check) → (result ≡ Ok (Verdict.Silent check)) ↔ Judged m.now place.now max (Verdict.Silent check) }
-    ensures nak { (check : Check) (octets : ArrayVec ℕ) → (result ≡ Ok (Verdict.Nak check octets)) ↔ Judged m.now place.now max (Verdict.Nak check octets) }
+    ensures carry { (envelope : Envelope) →
+        (result ≡ Ok (Verdict.Carry envelope)) ↔ Judged m.now place.now max (Verdict.Carry envelope) }
+    ensures silent { (check : Check) →
+        (result ≡ Ok (Verdict.Silent check)) ↔ Judged m.now place.now max (Verdict.Silent check) }
+    ensures nak { (check : Check) (octets : ArrayVec ℕ) →
+        (result ≡ Ok (Verdict.Nak check octets)) ↔ Judged m.now place.now max (Verdict.Nak check octets) }
 {
     verdict_on(alloc, m, place, max)
 }

@@ -28,3 +28,8 @@ pub use judging::judge;
 pub use phase::Phase;
 pub use place::Place;
 pub use verdict::Verdict;
+
+#[cfg(test)]
+mod rows;
+#[cfg(test)]
+mod tests;

@@ -60,7 +60,8 @@ fn behind_data(marker: u8, rest: &[u8]) -> &[u8]
 
 /// The marker of the first option of a list that has to be understood and is not, of a list that is whole.
 pub(crate) fn first_not_understood(list: &[u8]) -> Option<u8>
-    ensures { (items : List OptionItem) → AllByRecursion Fits items → list.now ≡ spelling_of items → result ≡ marker_refused items }
+    ensures { (items : List OptionItem) → AllByRecursion Fits items → list.now ≡ spelling_of items
+        → result ≡ marker_refused items }
 {
     let mut rest = list;
     while let Some((marker, data)) = rest.split_first() {
