@@ -7,6 +7,8 @@ ghost use Rattle.bsc_program.specs.Commands.{command_named, command_of};
 pub enum Command {
     /// `replay`: plays a script.
     Replay,
+    /// `check`: answers lines with the verdicts on messages.
+    Check,
 }
 
 /// The command that a word names.
@@ -15,6 +17,9 @@ fn command_named(word: &[u8]) -> Option<Command>
 {
     if word == b"replay".as_slice() {
         return Some(Command::Replay);
+    }
+    if word == b"check".as_slice() {
+        return Some(Command::Check);
     }
     None
 }

@@ -9,7 +9,7 @@ ghost use Rattle.bsc_program.specs.Commands.{command_of, played_by};
 use crate::command::{Command, read_command};
 use bsc_outside::{Sink, Source};
 use bsc_player::{end_play, end_with};
-use bsc_replay::{ReplayEnd, replay};
+use bsc_replay::{ReplayEnd, check, replay};
 use std::alloc::Global;
 
 /// Plays a source by a command.
@@ -28,6 +28,7 @@ fn play_command<S: Source, K: Sink>(
 {
     match command {
         Command::Replay => replay(alloc, source, sink),
+        Command::Check => check(alloc, source, sink),
     }
 }
 

@@ -56,12 +56,12 @@ const CASES: [Case; 14] = [
     },
     Case {
         words: &["check"],
-        script: SCRIPT,
+        script: "hub connected 1600 0A000005 AA\n",
         reads: &[],
         writes: &[],
         room: 99,
-        status: 1,
-        text: "fault words\n",
+        status: 0,
+        text: "nak C10c 000000050A010000070096\n",
     },
     Case {
         words: &["replay", "replay"],
@@ -73,7 +73,7 @@ const CASES: [Case; 14] = [
         text: "fault words\n",
     },
     Case {
-        words: &["check"],
+        words: &["judge"],
         script: SCRIPT,
         reads: &[],
         writes: &[],

@@ -1,2 +1,3 @@
 pub mod Scripts
 pub mod Standing
+pub mod Checks

@@ -5,6 +5,8 @@
 //! scripts with their texts. The loop that reads, cuts, collects and writes is `play_lines` of `bsc_player`;
 //! `read_line` of `bsc_stage` says what a line means, and its `Stage`, which is a hub with its open names,
 //! carries it out.
+//!
+//! `check`, in `src/verdicts.rt`, answers questions on messages: `check_of` in `specs/Checks.antt`.
 #![tactic(auto)]
 
 #[cfg(test)]
@@ -14,7 +16,11 @@ mod replaying_tests;
 mod script;
 #[cfg(test)]
 mod script_cases;
+#[cfg(test)]
+mod verdict_tests;
+mod verdicts;
 
 pub use bsc_player::PlayEnd as ReplayEnd;
 pub use bsc_stage::counts_line;
 pub use script::replay;
+pub use verdicts::check;
