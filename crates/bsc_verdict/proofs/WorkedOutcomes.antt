@@ -1,5 +1,5 @@
 -- Messages written out in octets, with the verdict that is computed of them.
-use Rattle.std.proofs.Common.{◌≡◌, List, [], ◌∷◌, ◌++◌, Some, None, replicate, refl}
+use Rattle.std.proofs.Common.{◌≡◌, [], ◌∷◌, ◌++◌, Some, None, replicate, refl}
 use Rattle.bsc_octets.specs.declared.vmac.Vmac.{Vmac}
 use Rattle.bsc_octets.specs.Addresses.{broadcast}
 use Rattle.bsc_frame.specs.declared.body.Body.TheVariants.{Npdu, ConnectRequest, HeartbeatRequest}
