@@ -1,13 +1,12 @@
 -- Octets with room for the announced addresses begin with the envelope that is read of them.
-use Rattle.std.proofs.Common.{◌≡◌, ℕ, ◌+◌, ◌<◌, ◌≤◌, ◌^◌, Bool, true, false, ltb, List, [], ◌∷◌, length, take, drop, Option, Some, None, IfSome, Result, Ok, Err, refl, sym, subst, ◌∙◌, arith, length-drop}
+use Rattle.std.proofs.Common.{◌≡◌, ℕ, ◌+◌, ◌<◌, ◌≤◌, ◌^◌, Bool, true, false, ltb, List, [], ◌∷◌, length, drop, Ok, refl, sym, subst, arith, length-drop}
 use Rattle.std.proofs.lemmas.Bool.{le-ltb}
 use Rattle.std.proofs.lemmas.List.{length-take-le}
 use Rattle.byteorder.specs.Endian.{big_number}
 use Rattle.byteorder.specs.Numbers.{big_from-take}
-use Rattle.bsc_octets.specs.declared.vmac.Vmac.{Vmac}
 use Rattle.bsc_octets.specs.declared.envelope.Envelope.{Envelope}
 use Rattle.bsc_octets.specs.Envelopes.{flags_in, announces_origin, announces_dest, vmac_at, header_of, envelope_of, SpellsEnvelope, HasWholeAddresses}
-use Rattle.bsc_octets.specs.Forwarding.{function_in, id_in}
+use Rattle.bsc_octets.specs.Forwarding.{id_in}
 use Rattle.bsc_octets.proofs.Spelling.{spelled, only}
 use Rattle.bsc_frame.specs.Layout.{options_at}
 use Rattle.bsc_checks.specs.Places.{origin_in, dest_in}

@@ -1,22 +1,19 @@
 -- The verdict that is computed is one that the message has.
-use Rattle.std.proofs.Common.{◌≡◌, ℕ, ◌<◌, ◌≤◌, ◌^◌, ◌*◌, Bool, true, false, not, ◌&&◌, List, [], ◌∷◌, ◌++◌, length, Option, Some, None, is_some, IfSome, refl, sym, ap, subst, ◌∙◌, arith}
-use Rattle.std.specs.List.{AllByRecursion}
+use Rattle.std.proofs.Common.{◌≡◌, ℕ, ◌<◌, ◌≤◌, ◌*◌, Bool, true, false, not, ◌&&◌, List, [], ◌∷◌, ◌++◌, length, Option, Some, None, is_some, IfSome, refl, sym, ap, subst, ◌∙◌, arith}
 use Rattle.byteorder.specs.Endian.{big_number}
 use Rattle.bsc_octets.specs.declared.vmac.Vmac.{Vmac}
 use Rattle.bsc_octets.specs.Forwarding.{function_in, id_in}
 use Rattle.bsc_options.specs.Spelling.{bit}
 use Rattle.bsc_frame.specs.declared.check.Check.{Check}
-use Rattle.bsc_frame.specs.declared.check.Check.TheVariants.{C1, C2, C3, C4, C5, C6, C7, C7b, C8, C9, C10, C10b, C10c, C11, C12, C13}
+use Rattle.bsc_frame.specs.declared.check.Check.TheVariants.{C1, C2, C3, C5, C6, C7, C7b, C8, C9, C10, C10b, C10c, C11, C12}
 use Rattle.bsc_frame.specs.Layout.{options_at}
 use Rattle.bsc_frame.specs.Checks.{IsFirstOf}
-use Rattle.bsc_frame.specs.Spelling.{Spells, spelling}
+use Rattle.bsc_frame.specs.Spelling.{spelling}
 use Rattle.bsc_frame.proofs.First.{Pass as PassAll}
 use Rattle.bsc_checks.specs.declared.place.Place.{Place}
 use Rattle.bsc_checks.specs.declared.place.Place.TheVariants.{HubPort, NodeHub, NodeDirect}
-use Rattle.bsc_checks.specs.declared.verdict.Verdict.{Verdict}
-use Rattle.bsc_checks.specs.declared.verdict.Verdict.TheVariants.{Pass, Carry, Silent, Nak}
 use Rattle.bsc_checks.specs.Places.{origin_in, dest_in, is_to_carry}
-use Rattle.bsc_checks.specs.Table.{Fails, code_of, checks_of, IsFirst, NoneFails, HasOptionNotUnderstood, IsFirstNotUnderstood}
+use Rattle.bsc_checks.specs.Table.{Fails, code_of, checks_of, IsFirst, NoneFails, IsFirstNotUnderstood}
 use Rattle.bsc_checks.specs.Naks.{IsAnswered, IsNak, IsMarker, return_address, nak_to}
 use Rattle.bsc_checks.specs.Verdicts.{Judged}
 use Rattle.bsc_checks.proofs.Firsts.{first_here, first_after}
@@ -32,7 +29,7 @@ use Rattle.bsc_verdict.proofs.Options.{first_marker}
 use Rattle.bsc_verdict.proofs.Failing.{fails_says}
 use Rattle.bsc_verdict.proofs.Envelopes.{id_small, envelope_spelled, envelope_whole}
 use Rattle.bsc_verdict.proofs.Messages.{room, message_spelled}
-use Rattle.bsc_verdict.proofs.Outcomes.{answers, outcome_is}
+use Rattle.bsc_verdict.proofs.Outcomes.{answers}
 
 -- ---- the first that fails
 

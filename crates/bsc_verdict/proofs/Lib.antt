@@ -10,4 +10,5 @@ pub mod Bodies
 pub mod Messages
 pub mod Outcomes
 pub mod Existence
+pub mod OnLiterals
 mod WorkedOutcomes

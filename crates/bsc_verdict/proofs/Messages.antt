@@ -1,5 +1,5 @@
 -- The message that octets spell is the one that is read of them, and one is spelled where no check fails.
-use Rattle.std.proofs.Common.{◌≡◌, ℕ, zero, suc, ◌+◌, ◌<◌, ◌≤◌, ◌⊎◌, inl, inr, Bool, true, false, eqb, ◌||◌, List, [], ◌∷◌, ◌++◌, length, drop, Option, Some, None, refl, sym, ap, subst, ◌∙◌, arith, length-append, length-drop}
+use Rattle.std.proofs.Common.{◌≡◌, ℕ, zero, suc, ◌+◌, ◌≤◌, inl, inr, Bool, true, false, eqb, ◌||◌, List, length, drop, Option, Some, None, refl, sym, ap, subst, ◌∙◌, arith, length-append, length-drop}
 use Rattle.std.specs.Prelude.{IsTrue}
 use Rattle.std.specs.List.{AllByRecursion}
 use Rattle.std.proofs.lemmas.Bool.{eqb-true, eqb-false}
@@ -7,7 +7,7 @@ use Rattle.bsc_octets.specs.Envelopes.{flags_in}
 use Rattle.bsc_octets.specs.Forwarding.{function_in}
 use Rattle.bsc_octets.proofs.Spelling.{only}
 use Rattle.bsc_options.specs.declared.item.OptionItem.{OptionItem}
-use Rattle.bsc_options.specs.Spelling.{Fits, HasShape, spelling_of}
+use Rattle.bsc_options.specs.Spelling.{Fits, spelling_of}
 use Rattle.bsc_frame.specs.declared.message.Message.{Message}
 use Rattle.bsc_frame.specs.Layout.{announces_dest_options, announces_data_options, options_at, IsList, IsPayload}
 use Rattle.bsc_frame.specs.Checks.{Fails, order, IsShort, LacksAddressOctets, HasBadOption, HasMisplacedDataOptions}

@@ -10,7 +10,7 @@ use Rattle.bsc_frame.specs.Spelling.{spelling}
 use Rattle.bsc_checks.specs.declared.place.Place.{Place}
 use Rattle.bsc_checks.specs.declared.verdict.Verdict.{Verdict}
 use Rattle.bsc_checks.specs.declared.verdict.Verdict.TheVariants.{Pass, Carry, Silent, Nak}
-use Rattle.bsc_checks.specs.Places.{dest_in, is_to_carry, IsUnicast}
+use Rattle.bsc_checks.specs.Places.{dest_in, IsUnicast}
 use Rattle.bsc_checks.specs.Table.{Fails, code_of, checks_of}
 use Rattle.bsc_checks.specs.Naks.{IsAnswered, IsNak, IsMarker, IsResponse, nak_to}
 use Rattle.bsc_checks.specs.Verdicts.{Judged}

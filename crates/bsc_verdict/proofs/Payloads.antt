@@ -1,5 +1,5 @@
 -- The checks of a payload as tests, and the body that a payload says.
-use Rattle.std.proofs.Common.{◌≡◌, ℕ, ◌<◌, ◌⊎◌, Bool, true, false, eqb, ltb, not, ◌&&◌, ◌||◌, List, [], ◌∷◌, ◌++◌, length, drop, slice_index, refl, ap, ◌∙◌}
+use Rattle.std.proofs.Common.{◌≡◌, ℕ, ◌<◌, ◌⊎◌, true, false, eqb, ltb, not, ◌||◌, List, [], ◌∷◌, ◌++◌, length, drop, slice_index, refl, ap, ◌∙◌}
 use Rattle.std.specs.Str.{IsUtf8, is_utf8}
 use Rattle.byteorder.specs.Endian.{big_bytes, big_number}
 use Rattle.bsc_octets.specs.Addresses.{broadcast, zero_vmac, same_vmac}

@@ -1,14 +1,12 @@
 -- Reading options from the front finds what octets spell, or that octets are missing.
-use Rattle.std.proofs.Common.{◌≡◌, ℕ, zero, suc, ◌+◌, ◌/◌, ◌%◌, ◌<◌, ◌≤◌, Bool, true, false, ◌||◌, eqb, ltb, cond, List, [], ◌∷◌, ◌++◌, length, get_or, take, drop, Option, Some, None, is_some, refl, sym, ap, subst, ◌∙◌, append_assoc, arith, length-append}
-use Rattle.std.specs.List.{AllByRecursion}
+use Rattle.std.proofs.Common.{◌≡◌, ℕ, zero, suc, ◌+◌, ◌/◌, ◌%◌, ◌<◌, ◌≤◌, Bool, true, false, ◌||◌, eqb, ltb, cond, List, [], ◌∷◌, ◌++◌, length, get_or, take, drop, Option, Some, None, is_some, refl, sym, ap, ◌∙◌, append_assoc, arith, length-append}
 use Rattle.std.proofs.lemmas.Bool.{ltb-true, ltb-false}
 use Rattle.std.proofs.lemmas.List.{drop_at, get_or-drop, length-take-le, take-append-drop, append-nil}
 use Rattle.byteorder.specs.Endian.{big_bytes, big_number}
-use Rattle.byteorder.specs.Numbers.{big_from-take}
 use Rattle.bsc_octets.proofs.TwoOctets.{two_octets}
 use Rattle.bsc_options.specs.declared.item.OptionItem.{OptionItem}
 use Rattle.bsc_options.specs.Spelling.{Fits, data_octets, has_items, item_octets, marker_of, spelling_of}
-use Rattle.bsc_options.specs.Reading.{AreItems, BeginsWith, IsCut}
+use Rattle.bsc_options.specs.Reading.{AreItems, IsCut}
 use Rattle.bsc_options.specs.Walk.{FitsData, IsCutData, IsCutItem}
 use Rattle.bsc_options.proofs.Markers.{marker_of-parts}
 use Rattle.bsc_options.proofs.Missing.{cut_data, cut_item, cut_length, cut_marker}

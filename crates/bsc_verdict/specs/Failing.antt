@@ -1,5 +1,5 @@
 -- Whether a check fails of a message, as a test of its octets.
-use Rattle.std.specs.Prelude.{ℕ, ◌==◌, ◌||◌, ◌&&◌, nat_le, nat_lt, not, Bool, true, false, List, [], ◌∷◌, length, is_some, is_none, Option, Some, None}
+use Rattle.std.specs.Prelude.{ℕ, ◌==◌, ◌||◌, ◌&&◌, nat_le, nat_lt, not, Bool, false, List, [], ◌∷◌, length, is_some, is_none, Option, Some, None}
 use Rattle.bsc_octets.specs.Envelopes.{flags_in}
 use Rattle.bsc_octets.specs.Forwarding.{function_in}
 use Rattle.bsc_options.specs.declared.item.OptionItem.{OptionItem}

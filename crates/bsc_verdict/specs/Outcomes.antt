@@ -1,5 +1,5 @@
 -- The verdict on a message, computed from its octets. Which verdict a message has is said by `Judged`, in words of the standard; this is its value.
-use Rattle.std.specs.Prelude.{ℕ, ◌&&◌, not, if◌then◌else◌, Bool, true, false, List, [], ◌∷◌, Option, Some, None}
+use Rattle.std.specs.Prelude.{ℕ, ◌&&◌, not, Bool, true, false, List, [], ◌∷◌, Option, Some, None}
 use Rattle.byteorder.specs.Endian.{big_number}
 use Rattle.bsc_octets.specs.declared.envelope.Envelope.{Envelope}
 use Rattle.bsc_octets.specs.Envelopes.{flags_in}
