@@ -1,0 +1,7 @@
+pub mod Guarding
+pub mod Passing
+pub mod Owning
+pub mod Entering
+mod Leaves
+pub mod Joinings
+pub mod Staying

@@ -1,0 +1,5 @@
+use Rattle.bsc_hub.proofs.Owning.{owned_kept}
+use Rattle.bsc_hub.proofs.laws.own_stays.Goals as goal
+
+pub returns : goal.returns
+returns c = owned_kept

@@ -1,0 +1,5 @@
+pub mod Passing
+pub mod Calls
+pub mod Committing
+pub mod Unicasts
+pub mod Testing
