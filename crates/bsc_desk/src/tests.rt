@@ -5,12 +5,12 @@ ghost use Rattle.bsc_octets.specs.Addresses.{same_vmac};
 ghost use Rattle.bsc_octets.specs.Forwarding.{has_route, is_broadcast};
 ghost use Rattle.bsc_history.specs.declared.mark.Stamped.{Stamped};
 ghost use Rattle.bsc_ring.specs.Ends.{outlet_mark};
-ghost use Rattle.bsc_desk.specs.Rows.{IsMarkOf, IsRowBy};
+ghost use Rattle.bsc_desk.specs.Rows.{IsRowOf};
 ghost use Rattle.bsc_desk.specs.Standing.{StandsFor};
 
 use crate::{
-    AllRefusal, AllReply, Desk, Gone, Inlet, Limits, NewRow, NoRow, OneReply, Outlet, Take, make,
-    prepare,
+    AllRefusal, AllReply, Desk, Inlet, Limits, NewRow, NoRow, OneReply, Outlet, Prepared, Take,
+    make, prepare,
 };
 use bsc_history::{AlreadyStopped, Counts, End, Look, Refusal, Worn};
 use bsc_octets::{Identity, NoMemory, Vmac, read_identity};
@@ -77,6 +77,36 @@ fn join(
     }
 }
 
+/// A unicast.
+fn unicast(desk: &mut Desk, caller: u64, conn: u64, frame: Prepared) -> Result<OneReply, Worn>
+    requires unicast { IsFalse (is_broadcast frame.message) }
+    requires unleft { IsRowOf desk.old caller conn frame.sender }
+    requires some { (S : List Stamped) × StandsFor desk.old S }
+    requires two { desk.old.about.limits.outbox ≡ 2 }
+    ensures some { (S : List Stamped) × StandsFor desk.new S }
+    ensures two { desk.new.about.limits.outbox ≡ 2 }
+{
+    desk.forward_one(caller, conn, frame)
+}
+
+/// A broadcast.
+fn broadcast(
+    desk: &mut Desk,
+    alloc: Global,
+    caller: u64,
+    conn: u64,
+    frame: &Prepared,
+) -> Result<AllReply, AllRefusal>
+    requires broadcast { IsTrue (is_broadcast frame.now.message) }
+    requires unleft { IsRowOf desk.old caller conn frame.now.sender }
+    requires some { (S : List Stamped) × StandsFor desk.old S }
+    requires two { desk.old.about.limits.outbox ≡ 2 }
+    ensures some { (S : List Stamped) × StandsFor desk.new S }
+    ensures two { desk.new.about.limits.outbox ≡ 2 }
+{
+    desk.forward_all(alloc, caller, conn, frame)
+}
+
 /// Sends a message from a device at its address, which joined as `conn`.
 fn send(
     rt: &impl Abort,
@@ -96,7 +126,7 @@ fn send(
     let address = Vmac([2, 0, 0, 0, 0, device]);
     let frame = prepare(alloc, message, address)?;
     assert!(rt; is_row_of(desk, u64::from(device), conn, address));
-    Ok(desk.forward_one(u64::from(device), conn, frame))
+    Ok(unicast(desk, u64::from(device), conn, frame))
 }
 
 /// Sends a broadcast from a device at its address, which joined as `conn`.
@@ -118,7 +148,7 @@ fn send_to_all(
     let address = Vmac([2, 0, 0, 0, 0, device]);
     let frame = prepare(alloc, message, address)?;
     assert!(rt; is_row_of(desk, u64::from(device), conn, address));
-    Ok(desk.forward_all(alloc, u64::from(device), conn, &frame))
+    Ok(broadcast(desk, alloc, u64::from(device), conn, &frame))
 }
 
 /// Stops the hub.
@@ -142,7 +172,9 @@ fn count(desk: &mut Desk) -> Result<Counts, Worn>
 }
 
 /// What is taken next: the last octet of a frame, or how the outbox ended, or nothing.
-fn take(outlet: &mut Outlet) -> (Option<u8>, Option<End>) {
+fn take(outlet: &mut Outlet) -> (Option<u8>, Option<End>)
+    ensures { outlet_mark outlet.new ≡ outlet_mark outlet.old }
+{
     match outlet.take() {
         Take::Frame(frame) => (frame.as_slice().last().copied(), None),
         Take::Closed(ending) => (None, Some(ending)),
@@ -280,18 +312,6 @@ fn a_full_outbox_misses_broadcasts_and_closes_on_a_unicast(rt: HostRuntime) -> R
     Ok(())
 }
 
-/// A connection's outlet meets the desk twice, and then leaves.
-fn meet_and_leave(desk: &mut Desk, conn: u64, outlet: Outlet) -> ((Option<u8>, Option<End>), Gone)
-    requires row { IsRowBy desk.old 1 conn }
-    requires mark { IsMarkOf desk.old conn (outlet_mark outlet) }
-    requires some { (S : List Stamped) × StandsFor desk.old S }
-{
-    let mut outlet = outlet;
-    desk.meet(conn, &mut outlet);
-    let took = take(&mut outlet);
-    (took, desk.leave(1, conn, outlet))
-}
-
 fn is_sent<T: Send>(value: &T) {
     let _value = value;
 }
@@ -303,29 +323,11 @@ fn crosses(desk: &Desk, inlet: &Inlet, outlet: &Outlet) {
     is_sent(outlet);
 }
 
-/// A member alone in the room, which sends to itself, meets the desk, takes and leaves.
-fn alone(
-    rt: &impl Abort,
-    alloc: Global,
-) -> Result<Option<((Option<u8>, Option<End>), Gone)>, NoMemory> {
-    let mut desk = hub(alloc, 2, 7)?;
-    let (inlet, outlet) = make(alloc, 2)?;
-    crosses(&desk, &inlet, &outlet);
-    match desk.connect(1, who(1, 1, 20), inlet) {
-        Ok(row) => {
-            assert!(rt; row.conn == 1);
-            Ok(Some(meet_and_leave(&mut desk, row.conn, outlet)))
-        }
-        Err(_) => Ok(None),
-    }
-}
-
 #[test]
-fn a_member_meets_the_desk_and_leaves(rt: HostRuntime) -> Result<(), Fail> {
-    let left = Gone {
-        ending: End::Left,
-        taken: 0,
-    };
-    assert_eq!(rt; alone(&rt, rt.alloc())?, Some(((None, None), left)));
+fn a_desk_and_the_ends_of_an_outbox_may_be_sent(rt: HostRuntime) -> Result<(), Fail> {
+    let desk = hub(rt.alloc(), 2, 7)?;
+    let (inlet, outlet) = make(rt.alloc(), 2)?;
+    crosses(&desk, &inlet, &outlet);
+    assert_eq!(rt; desk.made(), 0);
     Ok(())
 }

@@ -57,7 +57,13 @@ fn measure_unicasts(rt: &HostRuntime, rows: u16, frames: u32) -> anyhow::Result<
         return Ok(());
     };
     let start = Instant::now(rt)?;
-    let tally = unicasts(alloc, &mut desk, &room, &mut others, frames / u32::from(rows - 1))?;
+    let tally = unicasts(
+        alloc,
+        &mut desk,
+        &room,
+        &mut others,
+        frames / u32::from(rows - 1),
+    )?;
     let time = start.elapsed(rt)?;
     tell(rt, "unicasts", rows, tally, time)?;
     Ok(())
@@ -74,7 +80,13 @@ fn measure_broadcasts(rt: &HostRuntime, rows: u16, frames: u32) -> anyhow::Resul
         return Ok(());
     };
     let start = Instant::now(rt)?;
-    let tally = broadcasts(alloc, &mut desk, &room, &mut others, frames / u32::from(rows - 1))?;
+    let tally = broadcasts(
+        alloc,
+        &mut desk,
+        &room,
+        &mut others,
+        frames / u32::from(rows - 1),
+    )?;
     let time = start.elapsed(rt)?;
     tell(rt, "broadcasts", rows, tally, time)?;
     Ok(())
