@@ -51,9 +51,13 @@ fn is_shared<T: Send + Sync>(value: &T) {
     let _value = value;
 }
 
-/// A hub may be shared among threads, and a pass and an outlet may go from one to another.
+fn is_sent<T: Send>(value: &T) {
+    let _value = value;
+}
+
+/// A hub may be shared among threads, and a pass and an outlet may be sent.
 fn cross(hub: &Hub, pass: &Pass, outlet: &Outlet) {
     is_shared(hub);
-    is_shared(pass);
-    is_shared(outlet);
+    is_sent(pass);
+    is_sent(outlet);
 }

@@ -13,7 +13,6 @@ use std::sync::{Arc, Wait};
 use std::test::Fail;
 
 /// Broadcasts, and says to how many.
-#[tactic(auto, using(crate::proofs::Owning::owned_kept, crate::proofs::Staying::all_stays))]
 fn tell_all<R: Wait>(
     rt: &R,
     alloc: Global,

@@ -39,7 +39,6 @@ fn enter<R: Wait>(
 }
 
 /// Sends frame `n` to an address, and says whether it was appended.
-#[tactic(auto, using(crate::proofs::Owning::owned_kept, crate::proofs::Staying::one_stays))]
 fn send<R: Wait>(
     rt: &R,
     alloc: Global,
