@@ -25,8 +25,6 @@ mod rows;
 mod standing;
 mod stopping;
 mod tally;
-#[cfg(test)]
-mod tests;
 
 pub use broadcasting::{AllRefusal, AllReply};
 pub use bsc_history::{About, Limits};
