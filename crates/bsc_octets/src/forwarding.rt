@@ -44,7 +44,7 @@ fn octets_out(alloc: Global, m: &[u8], from: Vmac) -> Result<Octets, NoMemory>
     requires { IsTrue (has_route m.now) }
     ensures { IfOk result (λ o. o ≡ out m.now from) }
 {
-    let mut octets = Vec::new(alloc);
+    let mut octets = Vec::with_capacity(alloc, m.len() + 6)?;
     octets.push(m[0])?;
     octets.push(new_flags(m))?;
     octets.extend_from_slice(&m[2..4])?;

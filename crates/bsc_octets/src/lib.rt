@@ -19,7 +19,7 @@ pub use forwarding::forwarded;
 pub use identity::{Identity, read_identity};
 pub use no_memory::NoMemory;
 pub use octets::Octets;
-pub use vmac::Vmac;
+pub use vmac::{Vmac, random48};
 
 #[cfg(test)]
 mod tests;

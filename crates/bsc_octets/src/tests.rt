@@ -93,6 +93,19 @@ fn identities(rt: HostRuntime) {
 }
 
 #[test]
+fn random_addresses(rt: HostRuntime) {
+    assert_eq!(rt; random48(0), Vmac([0x02, 0, 0, 0, 0, 0]));
+    assert_eq!(rt;
+        random48(0x1122_3344_5566_7788),
+        Vmac([0x32, 0x44, 0x55, 0x66, 0x77, 0x88])
+    );
+    assert_eq!(rt;
+        random48(u64::MAX),
+        Vmac([0xF2, 0xFF, 0xFF, 0xFF, 0xFF, 0xFF])
+    );
+}
+
+#[test]
 fn owns_octets(rt: HostRuntime) -> Result<(), Fail> {
     let octets = Octets::from_vec(Vec::from_slice(rt.alloc(), &UNICAST)?);
     let copy = octets.copy(rt.alloc())?;
