@@ -1,0 +1,44 @@
+//! Who takes the links that peers make.
+ghost use Rattle.std.specs.Prelude.{◌≡◌, ◌≤◌, Some, Err, IsErr, IfOk};
+ghost use Rattle.bsc_edge.specs.declared.fault.LinkFault.{LinkFault};
+ghost use Rattle.bsc_edge.specs.Told.{Tells, Stays, Leaves, IsNoLink};
+ghost use Rattle.bsc_outside.specs.Faults.{HasRisen};
+
+use crate::Failed;
+use crate::arrived::Arrived;
+use crate::fault::LinkFault;
+use std::alloc::Global;
+
+/// Takes the links that peers make.
+pub trait Acceptor<L> {
+    ghost use Rattle.std.specs.Prelude.{List, ℕ, Option};
+
+    /// How many calls failed, up to the greatest `u64`.
+    ghost faults: { Self → ℕ };
+
+    /// How many waits ended without a link, up to the greatest `u64`.
+    ghost quiets: { Self → ℕ };
+
+    /// The port that it is bound to, if to any, where that is told.
+    ghost bound: { Self → Option (Option ℕ) };
+
+    /// The links that it has left, where they are told.
+    ghost left: { Self → Option (List L) };
+
+    /// Takes the links that come to this TCP port from now on.
+    fn bind(&mut self, port: u16) -> Result<(), Failed>
+        ensures bound { IfOk result (λ _. Tells (bound self.new) (Some port)) }
+        ensures left { Stays (left self.old) (left self.new) }
+        ensures later { faults self.old ≤ faults self.new }
+        ensures failed { IsErr result → HasRisen (faults self.old) (faults self.new) }
+        ensures quiets { quiets self.old ≤ quiets self.new };
+
+    /// Waits this long for the next link.
+    fn next(&mut self, alloc: Global, wait_ms: u32) -> Result<Arrived<L>, LinkFault>
+        ensures bound { Stays (bound self.old) (bound self.new) }
+        ensures left { Leaves (left self.old) (left self.new) result }
+        ensures later { faults self.old ≤ faults self.new }
+        ensures failed { result ≡ Err LinkFault.Failed → HasRisen (faults self.old) (faults self.new) }
+        ensures quiets { quiets self.old ≤ quiets self.new }
+        ensures quiet { IsNoLink result → HasRisen (quiets self.old) (quiets self.new) };
+}

@@ -1,0 +1,25 @@
+//! Files that are read whole.
+ghost use Rattle.std.specs.Prelude.{◌≡◌, ◌≤◌, Err, IfOk};
+ghost use Rattle.bsc_edge.specs.declared.fault.FileFault.{FileFault};
+ghost use Rattle.bsc_outside.specs.Faults.{HasRisen};
+
+use crate::fault::FileFault;
+use bsc_octets::Octets;
+use std::alloc::Global;
+
+/// Where files are read from.
+pub trait Files {
+    ghost use Rattle.std.specs.Prelude.{List, ℕ};
+
+    /// How many loads failed, up to the greatest `u64`.
+    ghost faults: { Self → ℕ };
+
+    /// Whether the file at a path has these octets, as far as that is told.
+    ghost holds: { Self → List ℕ → List ℕ → Type 0 };
+
+    /// Reads the whole file at a path.
+    fn load(&mut self, alloc: Global, path: &str) -> Result<Octets, FileFault>
+        ensures given { IfOk result (λ o. holds self.old path.now o) }
+        ensures later { faults self.old ≤ faults self.new }
+        ensures failed { result ≡ Err FileFault.Failed → HasRisen (faults self.old) (faults self.new) };
+}

@@ -1,0 +1,57 @@
+//! The edge: what a hub talks with, in memory and for real.
+//!
+//! Start at `link` and `clock`, then `acceptor` and `spawner`: the crates above serve connections by these traits
+//! alone. Each object counts the faults that it answered, so that a caller who is told of a fault knows that the
+//! outside had one. An object in memory tells what it holds; clauses on content hold where it is told.
+#![tactic(auto)]
+
+mod acceptor;
+mod arrived;
+mod calls;
+mod clock;
+mod disk;
+mod fault;
+mod files;
+mod incoming;
+mod job;
+mod link;
+mod mem_acceptor;
+mod mem_clock;
+mod mem_file;
+mod mem_files;
+mod mem_link;
+mod mem_patience;
+mod mem_spawner;
+mod monotonic;
+mod notes;
+mod patience;
+mod said;
+mod spawner;
+#[cfg(test)]
+mod tests;
+mod threads;
+mod unstarted;
+
+pub use acceptor::Acceptor;
+pub use arrived::Arrived;
+pub use bsc_outside::Failed;
+pub use clock::Clock;
+pub use disk::Disk;
+pub use fault::{FileFault, LinkFault};
+pub use files::Files;
+pub use incoming::Incoming;
+pub use job::Job;
+pub use link::Link;
+pub use mem_acceptor::MemAcceptor;
+pub use mem_clock::MemClock;
+pub use mem_file::MemFile;
+pub use mem_files::MemFiles;
+pub use mem_link::MemLink;
+pub use mem_patience::MemPatience;
+pub use mem_spawner::MemSpawner;
+pub use monotonic::Monotonic;
+pub use patience::Patience;
+pub use said::Said;
+pub use spawner::Spawner;
+pub use threads::{Places, ThreadSpawner, launch};
+pub use unstarted::Unstarted;

@@ -1,0 +1,59 @@
+//! Links: WebSockets as a session sees them.
+ghost use Rattle.std.specs.Prelude.{◌≡◌, ◌≤◌, [], ◌∷◌, Err};
+ghost use Rattle.bsc_edge.specs.declared.fault.LinkFault.{LinkFault};
+ghost use Rattle.bsc_edge.specs.declared.said.Said.{Said};
+ghost use Rattle.bsc_edge.specs.Told.{Grows, Stays, IsQuiet, fault_in};
+ghost use Rattle.bsc_outside.specs.Faults.{HasRisen};
+
+use crate::fault::LinkFault;
+use crate::incoming::Incoming;
+use std::alloc::Global;
+
+/// A link to a peer. Its meaning is its talk: one list in the order of the calls.
+pub trait Link {
+    ghost use Rattle.std.specs.Prelude.{List, ℕ, Option};
+    ghost use Rattle.bsc_edge.specs.declared.said.Said.{Said as SaidType};
+
+    /// How many calls failed, up to the greatest `u64`.
+    ghost faults: { Self → ℕ };
+
+    /// How many receives gave nothing, up to the greatest `u64`.
+    ghost quiets: { Self → ℕ };
+
+    /// What was said, where the link tells it.
+    ghost talk: { Self → Option (List SaidType) };
+
+    /// Waits this long for the next thing.
+    fn receive(&mut self, alloc: Global, wait_ms: u32) -> Result<Incoming, LinkFault>
+        ensures told { Grows (talk self.old) (talk self.new) (Said.Gave result ∷ []) }
+        ensures later { faults self.old ≤ faults self.new }
+        ensures failed { result ≡ Err LinkFault.Failed → HasRisen (faults self.old) (faults self.new) }
+        ensures quiets { quiets self.old ≤ quiets self.new }
+        ensures quiet { IsQuiet result → HasRisen (quiets self.old) (quiets self.new) };
+
+    /// Puts a message.
+    fn put(&mut self, alloc: Global, m: &[u8]) -> Result<(), LinkFault>
+        ensures told { Grows (talk self.old) (talk self.new) (Said.Put m.now (fault_in result) ∷ []) }
+        ensures later { faults self.old ≤ faults self.new }
+        ensures failed { result ≡ Err LinkFault.Failed → HasRisen (faults self.old) (faults self.new) }
+        ensures quiets { quiets self.old ≤ quiets self.new };
+
+    /// Closes the link, with a close code and a reason.
+    fn close(&mut self, alloc: Global, code: u16, reason: &str) -> Result<(), LinkFault>
+        ensures told { Grows (talk self.old) (talk self.new) (Said.Closed code reason.now ∷ []) }
+        ensures later { faults self.old ≤ faults self.new }
+        ensures failed { result ≡ Err LinkFault.Failed → HasRisen (faults self.old) (faults self.new) }
+        ensures quiets { quiets self.old ≤ quiets self.new };
+
+    /// The link is this connection's from now on.
+    fn known_as(&mut self, conn: u64)
+        ensures told { Stays (talk self.old) (talk self.new) }
+        ensures same { faults self.new ≡ faults self.old }
+        ensures quiets { quiets self.new ≡ quiets self.old };
+
+    /// Something is new for this connection: its link's wait ends, or its next one.
+    fn wake(&mut self, conn: u64)
+        ensures told { Stays (talk self.old) (talk self.new) }
+        ensures same { faults self.new ≡ faults self.old }
+        ensures quiets { quiets self.new ≡ quiets self.old };
+}

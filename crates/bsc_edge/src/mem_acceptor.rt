@@ -1,0 +1,77 @@
+//! Links in memory that arrive.
+ghost use Rattle.std.specs.Prelude.{◌≡◌, ◌≤◌, true, None, Some};
+
+use crate::Failed;
+use crate::acceptor::Acceptor;
+use crate::arrived::Arrived;
+use crate::calls::Calls;
+use crate::fault::LinkFault;
+use std::alloc::Global;
+use std::collections::VecDeque;
+
+/// An acceptor at which these links arrive, and then none. The calls with these numbers fail.
+#[derive(Debug, Drop)]
+pub struct MemAcceptor<'a, L> {
+    links: VecDeque<L>,
+    calls: Calls<'a>,
+    quiets: u64,
+    bound: Option<u16>,
+}
+
+impl<'a, L> MemAcceptor<'a, L> {
+    pub fn new(links: Vec<L>, failing: &'a [u64]) -> MemAcceptor<'a, L>
+        ensures links { result.links.items ≡ links.items }
+        ensures failing { result.calls.failing.now ≡ failing.now }
+        ensures bound { result.bound ≡ None }
+    {
+        MemAcceptor {
+            links: VecDeque::from(links),
+            calls: Calls::of(failing),
+            quiets: 0,
+            bound: None,
+        }
+    }
+
+    /// The port that it is bound to.
+    pub fn bound(&self) -> Option<u16>
+        ensures { result ≡ self.now.bound }
+    {
+        self.bound
+    }
+
+    /// How many links haven't arrived yet.
+    pub fn left(&self) -> usize {
+        self.links.len()
+    }
+}
+
+impl<L> Acceptor<L> for MemAcceptor<'_, L> {
+    ghost faults = { λ a. a.calls.faults };
+
+    ghost quiets = { λ a. a.quiets };
+
+    ghost bound = { λ a. Some a.bound };
+
+    ghost left = { λ a. Some a.links.items };
+
+    fn bind(&mut self, port: u16) -> Result<(), Failed> {
+        if self.calls.fails() {
+            return Err(Failed);
+        }
+        self.bound = Some(port);
+        Ok(())
+    }
+
+    fn next(&mut self, _alloc: Global, _wait_ms: u32) -> Result<Arrived<L>, LinkFault> {
+        if self.calls.fails() {
+            return Err(LinkFault::Failed);
+        }
+        match self.links.pop_front() {
+            Some(link) => Ok(Arrived::Link(link)),
+            None => {
+                self.quiets = self.quiets.saturating_add(1);
+                Ok(Arrived::Quiet)
+            }
+        }
+    }
+}

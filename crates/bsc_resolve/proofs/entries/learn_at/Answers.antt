@@ -1,0 +1,6 @@
+use Rattle.bsc_resolve.specs.Kept.{is_for, with_uris}
+use Rattle.bsc_resolve.proofs.Finding.{set_first}
+use Rattle.bsc_resolve.proofs.entries.learn_at.Goals as goal
+
+pub returns-clause-items : goal.returns-clause-items
+returns-clause-items c = set_first (is_for c.args.v) (with_uris c.args.uris) c.args.entries.now.items c.args.place c.index_mut-entry.result.now c.requires c.index_mut-entry.ensures.value

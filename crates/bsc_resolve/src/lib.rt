@@ -1,0 +1,19 @@
+//! Address resolution: by which URIs other nodes accept direct connections (Annex AB, "Address Resolution"), without
+//! input or output.
+//!
+//! Start at `specs/Resolving.antt`: which questions are under way and which URIs are learnt, by all that happened.
+//! `calls` has the calls. Whoever holds a `Resolve` puts the Address-Resolutions, and tells it what comes of them.
+#![tactic(auto)]
+
+mod ask_refusal;
+mod call;
+mod calls;
+mod entries;
+mod entry;
+mod question;
+mod resolve;
+
+pub use ask_refusal::AskRefusal;
+pub use call::ResolveCall;
+pub use question::Question;
+pub use resolve::Resolve;

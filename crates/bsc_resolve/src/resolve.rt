@@ -1,0 +1,14 @@
+//! Address resolution.
+ghost use Rattle.std.specs.Prelude.{◌≤◌, vec_len};
+
+use crate::entry::Entry;
+
+/// Address resolution of a node: the questions under way, and the URIs learnt.
+///
+/// A VMAC is held while a question for it is under way or URIs are learnt of it.
+#[derive(Drop)]
+pub struct Resolve {
+    pub(crate) wait: u32,
+    pub(crate) entries: Vec<Entry>,
+    ghost few: { vec_len entries ≤ 256 },
+}
