@@ -1,6 +1,6 @@
 -- A message has one verdict.
 use Rattle.std.proofs.Common.{◌≡◌, ℕ, ◌⊎◌, inl, inr, List, ◌∷◌, ◌++◌, Option, Some, Result, Ok, Err, refl, sym, ap, subst, ◌∙◌}
-use Rattle.std.specs.Prelude.{IsErr}
+use Rattle.std.specs.Prelude.{◌↔◌, IsErr}
 use Rattle.arrayvec.specs.ArrayVec.{ArrayVec}
 use Rattle.bsc_octets.specs.declared.envelope.Envelope.{Envelope}
 use Rattle.bsc_octets.specs.declared.envelope.EnvelopeFault.{EnvelopeFault}
@@ -94,7 +94,7 @@ pub only_of : (m : List ℕ) (place : Place) (max : ℕ) (r : Result Verdict NoM
 only_of m place max (Ok w) answer v judged = inl (ap (λ (x : Verdict). Ok x) (one_verdict m place max w v answer judged))
 only_of m place max (Err e) answer v judged = inr refl
 
-pub found_then : (m : List ℕ) (place : Place) (max : ℕ) (r : Result Verdict NoMemory) → VerdictAnswers m place max r → (v : Verdict) → r ≡ Ok v → Judged m place max v
+found_then : (m : List ℕ) (place : Place) (max : ℕ) (r : Result Verdict NoMemory) → VerdictAnswers m place max r → (v : Verdict) → r ≡ Ok v → Judged m place max v
 found_then m place max r answer v is = subst (VerdictAnswers m place max) is answer
 
 -- a verdict that is no pass is answered, whatever the memory
@@ -102,11 +102,21 @@ refused_if : (m : List ℕ) (place : Place) (max : ℕ) (r : Result Verdict NoMe
 refused_if m place max (Ok w) answer v other judged = ap (λ (x : Verdict). Ok x) (one_verdict m place max w v answer judged)
 refused_if m place max (Err e) answer v other judged = absurd (other answer.0 (one_verdict m place max (Pass answer.0) v answer.1 judged))
 
-pub carry_if : (m : List ℕ) (place : Place) (max : ℕ) (r : Result Verdict NoMemory) → VerdictAnswers m place max r → (e : Envelope) → Judged m place max (Carry e) → r ≡ Ok (Carry e)
+carry_if : (m : List ℕ) (place : Place) (max : ℕ) (r : Result Verdict NoMemory) → VerdictAnswers m place max r → (e : Envelope) → Judged m place max (Carry e) → r ≡ Ok (Carry e)
 carry_if m place max r answer e judged = refused_if m place max r answer (Carry e) (λ msg same. cc) judged
 
-pub silent_if : (m : List ℕ) (place : Place) (max : ℕ) (r : Result Verdict NoMemory) → VerdictAnswers m place max r → (k : Check) → Judged m place max (Silent k) → r ≡ Ok (Silent k)
+silent_if : (m : List ℕ) (place : Place) (max : ℕ) (r : Result Verdict NoMemory) → VerdictAnswers m place max r → (k : Check) → Judged m place max (Silent k) → r ≡ Ok (Silent k)
 silent_if m place max r answer k judged = refused_if m place max r answer (Silent k) (λ msg same. cc) judged
 
-pub nak_if : (m : List ℕ) (place : Place) (max : ℕ) (r : Result Verdict NoMemory) → VerdictAnswers m place max r → (k : Check) (o : ArrayVec ℕ) → Judged m place max (Nak k o) → r ≡ Ok (Nak k o)
+nak_if : (m : List ℕ) (place : Place) (max : ℕ) (r : Result Verdict NoMemory) → VerdictAnswers m place max r → (k : Check) (o : ArrayVec ℕ) → Judged m place max (Nak k o) → r ≡ Ok (Nak k o)
 nak_if m place max r answer k o judged = refused_if m place max r answer (Nak k o) (λ msg same. cc) judged
+
+-- a verdict that is no pass is answered exactly where the message has it
+pub carries : (m : List ℕ) (place : Place) (max : ℕ) (r : Result Verdict NoMemory) → VerdictAnswers m place max r → (e : Envelope) → (r ≡ Ok (Carry e)) ↔ Judged m place max (Carry e)
+carries m place max r answer e = (found_then m place max r answer (Carry e), carry_if m place max r answer e)
+
+pub silences : (m : List ℕ) (place : Place) (max : ℕ) (r : Result Verdict NoMemory) → VerdictAnswers m place max r → (k : Check) → (r ≡ Ok (Silent k)) ↔ Judged m place max (Silent k)
+silences m place max r answer k = (found_then m place max r answer (Silent k), silent_if m place max r answer k)
+
+pub refuses : (m : List ℕ) (place : Place) (max : ℕ) (r : Result Verdict NoMemory) → VerdictAnswers m place max r → (k : Check) (o : ArrayVec ℕ) → (r ≡ Ok (Nak k o)) ↔ Judged m place max (Nak k o)
+refuses m place max r answer k o = (found_then m place max r answer (Nak k o), nak_if m place max r answer k o)

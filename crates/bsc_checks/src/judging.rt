@@ -13,7 +13,7 @@ ghost use Rattle.bsc_checks.specs.Places.{is_to_carry};
 ghost use Rattle.bsc_checks.specs.Table.{code_of, IsFirst};
 ghost use Rattle.bsc_checks.specs.Naks.{IsMarker};
 ghost use Rattle.bsc_checks.specs.Verdicts.{Judged};
-ghost use Rattle.bsc_checks.specs.Walk.{IsHead, Answers, VerdictAnswers, between, from_flags};
+ghost use Rattle.bsc_checks.specs.Walk.{IsHead, Answers, between, from_flags};
 
 use crate::addresses::is_unicast;
 use crate::functions::{is_out_of_place, is_response};
@@ -131,24 +131,6 @@ fn passed(alloc: Global, m: &[u8]) -> Result<Message, NoMemory>
     }
 }
 
-/// The verdict on a message, check by check.
-fn verdict_on(alloc: Global, m: &[u8], place: &Place, max: u16) -> Result<Verdict, NoMemory>
-    ensures { VerdictAnswers m.now place.now max result }
-{
-    let head = match read_head(m, place, max) {
-        Ok(head) => head,
-        Err(check) => return Ok(Verdict::Silent(check)),
-    };
-    if let Some(refusal) = refusal(m, &head, place) {
-        return Ok(refused(&head, place, refusal));
-    }
-    if is_to_carry(place, &head) {
-        return Ok(Verdict::Carry(head));
-    }
-    let message = passed(alloc, m)?;
-    Ok(Verdict::Pass(message))
-}
-
 /// What becomes of a message that came at this place, where no message is to be longer than `max` octets.
 ///
 /// The checks are made in the order of [`Check`], and the first that fails decides. At a hub port a message with
@@ -173,5 +155,16 @@ pub fn judge(alloc: Global, m: &[u8], place: &Place, max: u16) -> Result<Verdict
     ensures nak { (check : Check) (octets : ArrayVec ℕ) →
         (result ≡ Ok (Verdict.Nak check octets)) ↔ Judged m.now place.now max (Verdict.Nak check octets) }
 {
-    verdict_on(alloc, m, place, max)
+    let head = match read_head(m, place, max) {
+        Ok(head) => head,
+        Err(check) => return Ok(Verdict::Silent(check)),
+    };
+    if let Some(refusal) = refusal(m, &head, place) {
+        return Ok(refused(&head, place, refusal));
+    }
+    if is_to_carry(place, &head) {
+        return Ok(Verdict::Carry(head));
+    }
+    let message = passed(alloc, m)?;
+    Ok(Verdict::Pass(message))
 }

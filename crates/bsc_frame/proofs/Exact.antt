@@ -1,6 +1,6 @@
 -- The answers of reading exclude one another.
 use Rattle.std.proofs.Common.{◌≡◌, ℕ, ◌⊎◌, inl, inr, Bool, List, ◌++◌, drop, refl, sym, ap, subst, ◌∙◌}
-use Rattle.std.specs.Prelude.{Result, Ok, Err}
+use Rattle.std.specs.Prelude.{◌↔◌, Result, Ok, Err}
 use Rattle.std.specs.Result.{MatchResult}
 use Rattle.std.specs.List.{AllByRecursion}
 use Rattle.bsc_octets.specs.declared.envelope.Envelope.{Envelope}
@@ -144,13 +144,19 @@ only_of m (Ok found) a msg spells = inl (ap (λ (x : Message). Ok x) (one_messag
 only_of m (Err (Fails k)) a msg spells = absurd (first_or_none (MessageFails m) order k (spelled_passes msg m spells) a)
 only_of m (Err NoMemory) a msg spells = inr refl
 
-pub fails_then : (m : List ℕ) (r : Result Message FrameFault) → Answers m r → (k : Check) → r ≡ Err (Fails k) → IsFirst k m
+fails_then : (m : List ℕ) (r : Result Message FrameFault) → Answers m r → (k : Check) → r ≡ Err (Fails k) → IsFirst k m
 fails_then m r a k e = subst (Answers m) e a
 
-pub fails_if : (m : List ℕ) (r : Result Message FrameFault) → Answers m r → (k : Check) → IsFirst k m → r ≡ Err (Fails k)
+fails_if : (m : List ℕ) (r : Result Message FrameFault) → Answers m r → (k : Check) → IsFirst k m → r ≡ Err (Fails k)
 fails_if m (Ok found) a k first = absurd (first_or_none (MessageFails m) order k (spelled_passes found m a) first)
 fails_if m (Err (Fails j)) a k first = ap (λ (check : Check). Err (Fails check)) (one_first (MessageFails m) order j k a first)
 fails_if m (Err NoMemory) a k first = absurd (first_or_none (MessageFails m) order k (spelled_passes a.0 m a.1) first)
+
+pub fails_where : (m : List ℕ) (r : Result Message FrameFault) → Answers m r → (k : Check) → (r ≡ Err (Fails k)) ↔ IsFirst k m
+fails_where m r a k = (fails_then m r a k, fails_if m r a k)
+
+pub memory_then : (m : List ℕ) (r : Result Message FrameFault) → Answers m r → r ≡ Err NoMemory → (msg : Message) × Spells msg m
+memory_then m r a e = subst (Answers m) e a
 
 -- what was written is read back
 pub read_back : (msg : Message) (r : Result Message FrameFault) → (r ≡ Ok msg) ⊎ (r ≡ Err NoMemory) → MatchResult r (λ again. again ≡ msg) (λ fault. fault ≡ NoMemory)

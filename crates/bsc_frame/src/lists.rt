@@ -101,7 +101,8 @@ pub(crate) fn read_ends(m: &[u8], head: &Envelope) -> Result<Ends, Check>
     Ok(Ends { dest, data })
 }
 
-/// The items of the list from place `at`, where one is announced.
+/// The items of the list from place `at`, where one is announced. It is inlined, since most messages have none.
+#[inline(always)]
 pub(crate) fn read_list(
     alloc: Global,
     m: &[u8],

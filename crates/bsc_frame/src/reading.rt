@@ -4,7 +4,6 @@ ghost use Rattle.bsc_frame.specs.declared.message.Message.{Message};
 ghost use Rattle.bsc_frame.specs.declared.check.Check.{Check};
 ghost use Rattle.bsc_frame.specs.Spelling.{Spells};
 ghost use Rattle.bsc_frame.specs.Checks.{IsFirst};
-ghost use Rattle.bsc_frame.specs.Walk.{Answers};
 
 use crate::fault::FrameFault;
 use crate::head::read_head;
@@ -13,9 +12,19 @@ use crate::message::Message;
 use crate::payload::read_body;
 use std::alloc::Global;
 
-/// The message, part by part. Memory is taken only where no check fails.
-fn message_in(alloc: Global, m: &[u8]) -> Result<Message, FrameFault>
-    ensures { Answers m.now result }
+/// The message that the octets spell, or the first check that fails of them: of C1, C3, C5, C6, C7, C7b, C8,
+/// C10, C10b, C10c and C11, in this order. The other checks refuse messages, and are not made here.
+///
+/// Memory is taken for the octets of the body and for the header options, each copied once, and only where no
+/// check fails. Reading is linear in the octets.
+pub fn read(alloc: Global, m: &[u8]) -> Result<Message, FrameFault>
+    // What is found is spelled by the octets, and no other message is.
+    ensures found { IfOk result (λ msg. Spells msg m.now) }
+    ensures only { (msg : Message) → Spells msg m.now → (result ≡ Ok msg) ⊎ (result ≡ Err FrameFault.NoMemory) }
+    ensures memory { result ≡ Err FrameFault.NoMemory → (msg : Message) × Spells msg m.now }
+
+    // A check is answered exactly where it is the first that fails.
+    ensures fails { (check : Check) → (result ≡ Err (FrameFault.Fails check)) ↔ IsFirst check m.now }
 {
     let head = read_head(m)?;
     let ends = read_ends(m, &head)?;
@@ -32,21 +41,4 @@ fn message_in(alloc: Global, m: &[u8]) -> Result<Message, FrameFault>
         data_options,
         body,
     })
-}
-
-/// The message that the octets spell, or the first check that fails of them: of C1, C3, C5, C6, C7, C7b, C8,
-/// C10, C10b, C10c and C11, in this order. The other checks refuse messages, and are not made here.
-///
-/// Memory is taken for the octets of the body and for the header options, each copied once, and only where no
-/// check fails. Reading is linear in the octets.
-pub fn read(alloc: Global, m: &[u8]) -> Result<Message, FrameFault>
-    // What is found is spelled by the octets, and no other message is.
-    ensures found { IfOk result (λ msg. Spells msg m.now) }
-    ensures only { (msg : Message) → Spells msg m.now → (result ≡ Ok msg) ⊎ (result ≡ Err FrameFault.NoMemory) }
-    ensures memory { result ≡ Err FrameFault.NoMemory → (msg : Message) × Spells msg m.now }
-
-    // A check is answered exactly where it is the first that fails.
-    ensures fails { (check : Check) → (result ≡ Err (FrameFault.Fails check)) ↔ IsFirst check m.now }
-{
-    message_in(alloc, m)
 }

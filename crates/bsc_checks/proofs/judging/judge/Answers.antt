@@ -1,24 +1,156 @@
-use Rattle.bsc_checks.specs.declared.verdict.Verdict.TheVariants.{Carry, Silent, Nak}
-use Rattle.bsc_checks.proofs.Unique.{only_of, found_then, carry_if, silent_if, nak_if}
+use Rattle.std.proofs.Common.{Ok}
+use Rattle.std.proofs.lemmas.Result.{err_from_is_err_and}
+use Rattle.bsc_checks.specs.declared.verdict.Verdict.TheVariants.{Pass, Carry, Silent}
+use Rattle.bsc_checks.proofs.Unique.{memory_answers, only_of, carries, silences, refuses}
+use Rattle.bsc_checks.proofs.Verdicts.{silent_head, first_of_all, none_of_all, carried, frame_passes, passed}
 use Rattle.bsc_checks.proofs.judging.judge.Goals as goal
 
-pub returns-clause-only : goal.returns-clause-only
-returns-clause-only c = λ verdict judged. only_of c.args.m.now c.args.place.now c.args.max c.verdict_on.result c.verdict_on.ensures verdict judged
-
-pub returns-clause-carry : goal.returns-clause-carry
-returns-clause-carry c =
+pub returns-in-Err-clause-found : goal.returns-in-Err-clause-found
+returns-in-Err-clause-found c =
     let m = c.args.m.now in
-    let r = c.verdict_on.result in
-    λ envelope. ((λ is. found_then m c.args.place.now c.args.max r c.verdict_on.ensures (Carry envelope) is), (λ judged. carry_if m c.args.place.now c.args.max r c.verdict_on.ensures envelope judged))
+    silent_head m c.args.place.now c.args.max c.in-Err.check c.in-Err.ensures
+
+pub returns-in-Err-clause-only : goal.returns-in-Err-clause-only
+returns-in-Err-clause-only c =
+    let m = c.args.m.now in
+    only_of m c.args.place.now c.args.max (Ok (Silent c.in-Err.check)) (silent_head m c.args.place.now c.args.max c.in-Err.check c.in-Err.ensures)
+
+pub returns-in-Err-clause-silent : goal.returns-in-Err-clause-silent
+returns-in-Err-clause-silent c =
+    let m = c.args.m.now in
+    silences m c.args.place.now c.args.max (Ok (Silent c.in-Err.check)) (silent_head m c.args.place.now c.args.max c.in-Err.check c.in-Err.ensures)
+
+pub returns-in-Err-clause-nak : goal.returns-in-Err-clause-nak
+returns-in-Err-clause-nak c =
+    let m = c.args.m.now in
+    refuses m c.args.place.now c.args.max (Ok (Silent c.in-Err.check)) (silent_head m c.args.place.now c.args.max c.in-Err.check c.in-Err.ensures)
+
+pub returns-in-Some-clause-found : goal.returns-in-Some-clause-found
+returns-in-Some-clause-found c =
+    let m = c.args.m.now in
+    let why = c.in-Some.ensures c.args.max in
+    c.refused.ensures m c.args.max c.in-Ok.ensures.0 (first_of_all m c.args.place.now c.args.max c.in-Some.refusal c.in-Ok.ensures.1 why) why.1
+
+pub returns-in-Some-clause-only : goal.returns-in-Some-clause-only
+returns-in-Some-clause-only c =
+    let m = c.args.m.now in
+    let why = c.in-Some.ensures c.args.max in
+    only_of m c.args.place.now c.args.max (Ok c.refused.result) (c.refused.ensures m c.args.max c.in-Ok.ensures.0 (first_of_all m c.args.place.now c.args.max c.in-Some.refusal c.in-Ok.ensures.1 why) why.1)
+
+pub returns-in-Some-clause-carry : goal.returns-in-Some-clause-carry
+returns-in-Some-clause-carry c =
+    let m = c.args.m.now in
+    let why = c.in-Some.ensures c.args.max in
+    carries m c.args.place.now c.args.max (Ok c.refused.result) (c.refused.ensures m c.args.max c.in-Ok.ensures.0 (first_of_all m c.args.place.now c.args.max c.in-Some.refusal c.in-Ok.ensures.1 why) why.1)
+
+pub returns-in-Some-clause-silent : goal.returns-in-Some-clause-silent
+returns-in-Some-clause-silent c =
+    let m = c.args.m.now in
+    let why = c.in-Some.ensures c.args.max in
+    silences m c.args.place.now c.args.max (Ok c.refused.result) (c.refused.ensures m c.args.max c.in-Ok.ensures.0 (first_of_all m c.args.place.now c.args.max c.in-Some.refusal c.in-Ok.ensures.1 why) why.1)
+
+pub returns-in-Some-clause-nak : goal.returns-in-Some-clause-nak
+returns-in-Some-clause-nak c =
+    let m = c.args.m.now in
+    let why = c.in-Some.ensures c.args.max in
+    refuses m c.args.place.now c.args.max (Ok c.refused.result) (c.refused.ensures m c.args.max c.in-Ok.ensures.0 (first_of_all m c.args.place.now c.args.max c.in-Some.refusal c.in-Ok.ensures.1 why) why.1)
+
+pub returns-then-is_to_carry-clause-found : goal.returns-then-is_to_carry-clause-found
+returns-then-is_to_carry-clause-found c =
+    let m = c.args.m.now in
+    let none = none_of_all m c.args.place.now c.args.max c.in-Ok.ensures.1 (c.in_default.ensures c.args.max) in
+    let to_carry = c.is_to_carry.ensures m c.in-Ok.ensures.0 in
+    carried m c.in-Ok.head c.args.place.now c.args.max c.is_to_carry.result to_carry c.if-is_to_carry.true c.in-Ok.ensures.0 none
+
+pub returns-then-is_to_carry-clause-only : goal.returns-then-is_to_carry-clause-only
+returns-then-is_to_carry-clause-only c =
+    let m = c.args.m.now in
+    let none = none_of_all m c.args.place.now c.args.max c.in-Ok.ensures.1 (c.in_default.ensures c.args.max) in
+    let to_carry = c.is_to_carry.ensures m c.in-Ok.ensures.0 in
+    only_of m c.args.place.now c.args.max (Ok (Carry c.in-Ok.head)) (carried m c.in-Ok.head c.args.place.now c.args.max c.is_to_carry.result to_carry c.if-is_to_carry.true c.in-Ok.ensures.0 none)
+
+pub returns-then-is_to_carry-clause-carry : goal.returns-then-is_to_carry-clause-carry
+returns-then-is_to_carry-clause-carry c =
+    let m = c.args.m.now in
+    let none = none_of_all m c.args.place.now c.args.max c.in-Ok.ensures.1 (c.in_default.ensures c.args.max) in
+    let to_carry = c.is_to_carry.ensures m c.in-Ok.ensures.0 in
+    carries m c.args.place.now c.args.max (Ok (Carry c.in-Ok.head)) (carried m c.in-Ok.head c.args.place.now c.args.max c.is_to_carry.result to_carry c.if-is_to_carry.true c.in-Ok.ensures.0 none)
+
+pub returns-then-is_to_carry-clause-silent : goal.returns-then-is_to_carry-clause-silent
+returns-then-is_to_carry-clause-silent c =
+    let m = c.args.m.now in
+    let none = none_of_all m c.args.place.now c.args.max c.in-Ok.ensures.1 (c.in_default.ensures c.args.max) in
+    let to_carry = c.is_to_carry.ensures m c.in-Ok.ensures.0 in
+    silences m c.args.place.now c.args.max (Ok (Carry c.in-Ok.head)) (carried m c.in-Ok.head c.args.place.now c.args.max c.is_to_carry.result to_carry c.if-is_to_carry.true c.in-Ok.ensures.0 none)
+
+pub returns-then-is_to_carry-clause-nak : goal.returns-then-is_to_carry-clause-nak
+returns-then-is_to_carry-clause-nak c =
+    let m = c.args.m.now in
+    let none = none_of_all m c.args.place.now c.args.max c.in-Ok.ensures.1 (c.in_default.ensures c.args.max) in
+    let to_carry = c.is_to_carry.ensures m c.in-Ok.ensures.0 in
+    refuses m c.args.place.now c.args.max (Ok (Carry c.in-Ok.head)) (carried m c.in-Ok.head c.args.place.now c.args.max c.is_to_carry.result to_carry c.if-is_to_carry.true c.in-Ok.ensures.0 none)
+
+pub passed-requires : goal.passed-requires
+passed-requires c =
+    let m = c.args.m.now in
+    let none = none_of_all m c.args.place.now c.args.max c.in-Ok.ensures.1 (c.in_default.ensures c.args.max) in
+    let to_carry = c.is_to_carry.ensures m c.in-Ok.ensures.0 in
+    frame_passes m c.args.place.now c.args.max c.is_to_carry.result to_carry c.if-is_to_carry.false none
+
+pub returns-in_err-message-clause-memory : goal.returns-in_err-message-clause-memory
+returns-in_err-message-clause-memory c =
+    let m = c.args.m.now in
+    let none = none_of_all m c.args.place.now c.args.max c.in-Ok.ensures.1 (c.in_default.ensures c.args.max) in
+    let to_carry = c.is_to_carry.ensures m c.in-Ok.ensures.0 in
+    let found = c.in_err-message.ensures.memory in
+    let passes = passed m c.args.place.now c.args.max c.is_to_carry.result found.0 to_carry c.if-is_to_carry.false none found.1 in
+    let e = err_from_is_err_and c.from_residual.result c.from_residual.ensures.1 in
+    rw e.1 (found.0, passes)
+
+pub returns-in_err-message-clause-silent : goal.returns-in_err-message-clause-silent
+returns-in_err-message-clause-silent c =
+    let m = c.args.m.now in
+    let none = none_of_all m c.args.place.now c.args.max c.in-Ok.ensures.1 (c.in_default.ensures c.args.max) in
+    let to_carry = c.is_to_carry.ensures m c.in-Ok.ensures.0 in
+    let found = c.in_err-message.ensures.memory in
+    let passes = passed m c.args.place.now c.args.max c.is_to_carry.result found.0 to_carry c.if-is_to_carry.false none found.1 in
+    let e = err_from_is_err_and c.from_residual.result c.from_residual.ensures.1 in
+    silences m c.args.place.now c.args.max c.from_residual.result (memory_answers m c.args.place.now c.args.max c.from_residual.result e.0 e.1 (found.0, passes))
+
+pub returns-in_err-message-clause-nak : goal.returns-in_err-message-clause-nak
+returns-in_err-message-clause-nak c =
+    let m = c.args.m.now in
+    let none = none_of_all m c.args.place.now c.args.max c.in-Ok.ensures.1 (c.in_default.ensures c.args.max) in
+    let to_carry = c.is_to_carry.ensures m c.in-Ok.ensures.0 in
+    let found = c.in_err-message.ensures.memory in
+    let passes = passed m c.args.place.now c.args.max c.is_to_carry.result found.0 to_carry c.if-is_to_carry.false none found.1 in
+    let e = err_from_is_err_and c.from_residual.result c.from_residual.ensures.1 in
+    refuses m c.args.place.now c.args.max c.from_residual.result (memory_answers m c.args.place.now c.args.max c.from_residual.result e.0 e.1 (found.0, passes))
+
+pub returns-clause-found : goal.returns-clause-found
+returns-clause-found c =
+    let m = c.args.m.now in
+    let none = none_of_all m c.args.place.now c.args.max c.in-Ok.ensures.1 (c.in_default.ensures c.args.max) in
+    let to_carry = c.is_to_carry.ensures m c.in-Ok.ensures.0 in
+    passed m c.args.place.now c.args.max c.is_to_carry.result c.in_ok-message.message to_carry c.if-is_to_carry.false none c.in_ok-message.ensures.found
+
+pub returns-clause-only : goal.returns-clause-only
+returns-clause-only c =
+    let m = c.args.m.now in
+    let none = none_of_all m c.args.place.now c.args.max c.in-Ok.ensures.1 (c.in_default.ensures c.args.max) in
+    let to_carry = c.is_to_carry.ensures m c.in-Ok.ensures.0 in
+    only_of m c.args.place.now c.args.max (Ok (Pass c.in_ok-message.message)) (passed m c.args.place.now c.args.max c.is_to_carry.result c.in_ok-message.message to_carry c.if-is_to_carry.false none c.in_ok-message.ensures.found)
 
 pub returns-clause-silent : goal.returns-clause-silent
 returns-clause-silent c =
     let m = c.args.m.now in
-    let r = c.verdict_on.result in
-    λ check. ((λ is. found_then m c.args.place.now c.args.max r c.verdict_on.ensures (Silent check) is), (λ judged. silent_if m c.args.place.now c.args.max r c.verdict_on.ensures check judged))
+    let none = none_of_all m c.args.place.now c.args.max c.in-Ok.ensures.1 (c.in_default.ensures c.args.max) in
+    let to_carry = c.is_to_carry.ensures m c.in-Ok.ensures.0 in
+    silences m c.args.place.now c.args.max (Ok (Pass c.in_ok-message.message)) (passed m c.args.place.now c.args.max c.is_to_carry.result c.in_ok-message.message to_carry c.if-is_to_carry.false none c.in_ok-message.ensures.found)
 
 pub returns-clause-nak : goal.returns-clause-nak
 returns-clause-nak c =
     let m = c.args.m.now in
-    let r = c.verdict_on.result in
-    λ check octets. ((λ is. found_then m c.args.place.now c.args.max r c.verdict_on.ensures (Nak check octets) is), (λ judged. nak_if m c.args.place.now c.args.max r c.verdict_on.ensures check octets judged))
+    let none = none_of_all m c.args.place.now c.args.max c.in-Ok.ensures.1 (c.in_default.ensures c.args.max) in
+    let to_carry = c.is_to_carry.ensures m c.in-Ok.ensures.0 in
+    refuses m c.args.place.now c.args.max (Ok (Pass c.in_ok-message.message)) (passed m c.args.place.now c.args.max c.is_to_carry.result c.in_ok-message.message to_carry c.if-is_to_carry.false none c.in_ok-message.ensures.found)
