@@ -1,6 +1,6 @@
 -- What is kept goes on standing for what happened.
 use Rattle.std.proofs.Common.{◌≡◌, ◌<◌, ◌≤◌, ◌==◌, ◌+◌, ℕ, Bool, true, false, not, cond, ◌||◌, ◌&&◌, List, [], ◌∷◌, ◌++◌, length, map, filter, get_or, find, Option, Some, None, is_some, refl, ap, sym, ◌∙◌, subst, arith}
-use Rattle.std.specs.Prelude.{nat_le}
+use Rattle.std.specs.Prelude.{nat_le, vec_len}
 use Rattle.std.specs.Option.{option_map, option_or}
 use Rattle.std.specs.List.{list_any, list_all, position, filter_map, IsDistinct}
 use Rattle.std.proofs.lemmas.Bool.{le-leb, lt-leb}
@@ -321,3 +321,11 @@ made r wait waits items = record {
   where
     nothing : IsDistinct same_vmac []
     nothing = IsDistinct-from_apart same_vmac [] (λ i j d below within. absurd (omega arith))
+
+-- ---- laws
+
+pub few_held : (r : Resolve) (wait : ℕ) (calls : List ResolveCall) → StandsFor r wait calls → held wait calls ≤ 256
+few_held r wait calls s = subst (λ (n : ℕ). n ≤ 256) (held_count r wait calls s) (let few : vec_len r.entries ≤ 256 = r.few in omega (arith, few, r.entries.ok.0))
+
+pub learnt_stays : (calls : List ResolveCall) (call : ResolveCall) (v : Vmac) → uris_for v call ≡ None → learnt (calls ++ call ∷ []) v ≡ learnt calls v
+learnt_stays calls call v none = learnt-more calls call v ∙ ap (λ (o : Option (List ℕ)). option_or o (learnt calls v)) none

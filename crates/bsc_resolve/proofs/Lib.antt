@@ -1,3 +1,4 @@
+mod WorkedResolving
 pub mod Finding
 pub mod OneMore
 pub mod Following

@@ -10,10 +10,15 @@ mod call;
 mod calls;
 mod entries;
 mod entry;
+mod laws;
 mod question;
 mod resolve;
 
 pub use ask_refusal::AskRefusal;
 pub use call::ResolveCall;
+pub use laws::{at_most_256_are_held, what_is_learnt_stays};
 pub use question::Question;
 pub use resolve::Resolve;
+
+#[cfg(test)]
+mod tests;

@@ -1,0 +1,5 @@
+mod WorkedSlots
+pub mod OneMore
+pub mod Keeping
+pub mod Finding
+pub mod Following

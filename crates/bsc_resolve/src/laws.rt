@@ -1,0 +1,17 @@
+//! Laws of the definition, each carried by a function that does nothing.
+ghost use Rattle.std.specs.Prelude.{◌≡◌, ◌≤◌, ℕ, List, [], ◌∷◌, ◌++◌, None};
+ghost use Rattle.bsc_octets.specs.declared.vmac.Vmac.{Vmac};
+ghost use Rattle.bsc_resolve.specs.declared.call.ResolveCall.{ResolveCall};
+ghost use Rattle.bsc_resolve.specs.declared.resolve.Resolve.{Resolve};
+ghost use Rattle.bsc_resolve.specs.Resolving.{uris_for, learnt, held};
+ghost use Rattle.bsc_resolve.specs.Standing.{StandsFor};
+
+/// At most 256 VMACs are held.
+pub fn at_most_256_are_held()
+    ensures { (r : Resolve) (wait : ℕ) (calls : List ResolveCall) → StandsFor r wait calls → held wait calls ≤ 256 }
+{}
+
+/// What is learnt of a VMAC stays until another answer for it comes: through a new question, its NAK, and time.
+pub fn what_is_learnt_stays()
+    ensures { (calls : List ResolveCall) (call : ResolveCall) (v : Vmac) → uris_for v call ≡ None → learnt (calls ++ call ∷ []) v ≡ learnt calls v }
+{}
