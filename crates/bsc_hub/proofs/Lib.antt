@@ -5,3 +5,4 @@ pub mod Entering
 mod Leaves
 pub mod Joinings
 pub mod Staying
+pub mod Coming

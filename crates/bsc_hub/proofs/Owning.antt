@@ -37,7 +37,7 @@ since h p q took made c new is passed grew quiet has =
     let same : own_of (seen q) (number_of p) ≡ own_of (seen p) (number_of p) ++ new = ap (own_of (seen q)) (sym passed.number) ∙ passed.all_own ∙ grew ∙ ap (λ (l : List Entry). l ++ new) (sym (own_is h p is)) in
     subst (λ n. is_of (entries (seen q)) n c ≡ true) (sym passed.number) (own_lifted (about_of h) (seen p) (seen q) (number_of p) c new passed.caller.1 passed.grows same quiet has)
 
-own_kept : (h : Hub) (p q : Pass) (took : List Ended) (made : Option Placed) (c : ℕ) → IsCaller h p → Passed h p took made q → StaysBy made c → IsOwn p c → IsOwn q c
+pub own_kept : (h : Hub) (p q : Pass) (took : List Ended) (made : Option Placed) (c : ℕ) → IsCaller h p → Passed h p took made q → StaysBy made c → IsOwn p c → IsOwn q c
 own_kept h p q took None c is passed stays has = since h p q took None c [] is passed (passed.makes ∙ sym (append-nil (own_list p))) refl has
 own_kept h p q took (Some m) c is passed stays has = since h p q took (Some m) c (m.stamped.entry ∷ []) is passed passed.makes.grew (or_false (leaves c m.stamped.entry) ∙ stays) has
 
