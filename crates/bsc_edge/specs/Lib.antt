@@ -1,3 +1,4 @@
 pub mod Told
 pub mod Notes
 pub mod MemLink
+pub mod Dialling

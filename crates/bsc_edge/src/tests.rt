@@ -1,8 +1,8 @@
 //! Each object once, with a fault in it.
 use crate::{
-    Acceptor, Arrived, Clock, Disk, Failed, FileFault, Files, Incoming, Job, Link, LinkFault,
-    MemAcceptor, MemClock, MemFile, MemFiles, MemLink, MemPatience, MemSpawner, Monotonic,
-    Patience, Places, Said, Spawner, ThreadSpawner, Unstarted, launch,
+    Acceptor, Arrived, Clock, Dialer, Disk, Failed, FileFault, Files, Incoming, Job, Kind, Link,
+    LinkFault, MemAcceptor, MemClock, MemDialer, MemFile, MemFiles, MemLink, MemPatience,
+    MemSpawner, Monotonic, Patience, Places, Said, Spawner, ThreadSpawner, Unstarted, launch,
 };
 use bsc_octets::{NoMemory, Octets};
 use std::alloc::Global;
@@ -216,5 +216,29 @@ fn threads(rt: HostRuntime) -> Result<(), Fail> {
         spawner.gather(&rt);
     }
     assert_eq!(rt; *sum.lock(&rt), 101);
+    Ok(())
+}
+
+#[test]
+fn dialers_in_memory(rt: HostRuntime) -> Result<(), Fail> {
+    let alloc = rt.alloc();
+    let mut links = Vec::new(alloc);
+    links.push(7u64)?;
+    let failing = [1];
+    let mut dialer = MemDialer::new(alloc, links, &failing);
+    assert_eq!(rt; dialer.dial(alloc, b"ws://a", Kind::Hub), Err(LinkFault::Failed));
+    assert_eq!(rt; dialer.dial(alloc, b"ws://b", Kind::Direct), Ok(7));
+    assert_eq!(rt; dialer.left(), 0);
+    assert_eq!(rt; dialer.dial(alloc, b"ws://c", Kind::Hub), Err(LinkFault::Failed));
+    let mut told = Vec::new(alloc);
+    for call in dialer.dialled().unwrap_or(&[]) {
+        told.extend_from_slice(call.uri.as_slice())?;
+        told.push(match call.kind {
+            Kind::Hub => b'h',
+            Kind::Direct => b'd',
+        })?;
+        told.push(if call.came { b'+' } else { b'-' })?;
+    }
+    assert!(rt; told.as_slice() == b"ws://ah-ws://bd+ws://ch-".as_slice());
     Ok(())
 }

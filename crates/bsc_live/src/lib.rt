@@ -1,0 +1,20 @@
+//! Sockets that wait for their octets and for a wake at once.
+//!
+//! Start at `stream`: a `LiveStream` reads and writes a socket that doesn't block. While it waits it stands in one
+//! `poll`, which its socket or its `Bell` ends. `Bells` finds the bell of a connection, and `LivePatience` is what a
+//! link sets the waits and rings the bells by. No clause says when a wait ends: the system holds that.
+#![tactic(auto)]
+
+mod bell;
+mod bells;
+mod moment;
+mod patience;
+mod stream;
+#[cfg(test)]
+mod tests;
+
+pub use bell::Bell;
+pub use bells::Bells;
+pub use moment::Moment;
+pub use patience::LivePatience;
+pub use stream::LiveStream;

@@ -1,0 +1,151 @@
+//! Streams over sockets that don't block.
+use crate::bell::Bell;
+use crate::moment::{Moment, wait_of};
+use mio::net::TcpStream;
+use mio::{Events, Interest, Poll, Token, Waker};
+use std::alloc::Global;
+use std::io::{self, ErrorKind, Read, Write};
+use std::net::Net;
+use std::sync::Arc;
+use std::time::Clock;
+
+const SOCKET: Token = Token(0);
+
+const BELL: Token = Token(1);
+
+/// A stream over a socket that doesn't block. A read waits until octets are there, the bell rings or the time is over,
+/// and then answers `WouldBlock`; a write waits until its octets are taken, and answers `TimedOut` once its own time is
+/// over. It holds three descriptors: the socket, the poll and the bell's.
+#[derive(Drop)]
+pub struct LiveStream<R> {
+    clock: R,
+    socket: TcpStream,
+    poll: Poll,
+    events: Events,
+    bell: Arc<Bell>,
+    write_ms: u32,
+    /// When the octets that were written since the last flush must have left, once one of them had to wait.
+    write_until: Option<Moment>,
+}
+
+impl<R: Clock + Net + Copy + Drop> LiveStream<R> {
+    /// A stream over this socket, whose small messages aren't held back. What is written between two flushes has
+    /// `write_ms` milliseconds to leave.
+    pub fn over(
+        rt: R,
+        alloc: Global,
+        socket: TcpStream,
+        write_ms: u32,
+    ) -> io::Result<LiveStream<R>> {
+        let mut socket = socket;
+        socket.set_nodelay(true)?;
+        let poll = Poll::new(&rt)?;
+        let waker = Waker::new(poll.registry(), BELL)?;
+        poll.registry().register(&mut socket, SOCKET, Interest::READABLE | Interest::WRITABLE)?;
+        let Ok(events) = Events::with_capacity(alloc, 4) else {
+            return Err(io::Error::from(ErrorKind::OutOfMemory));
+        };
+        let Ok(bell) = Arc::new(alloc, Bell::new(waker)) else {
+            return Err(io::Error::from(ErrorKind::OutOfMemory));
+        };
+        Ok(LiveStream {
+            clock: rt,
+            socket,
+            poll,
+            events,
+            bell,
+            write_ms,
+            write_until: None,
+        })
+    }
+}
+
+impl<R: Clock + Drop> LiveStream<R> {
+    /// The stream's bell, to be shared.
+    pub fn bell(&self) -> io::Result<Arc<Bell>> {
+        match Arc::try_clone(&self.bell) {
+            Ok(bell) => Ok(bell),
+            Err(_) => Err(io::Error::from(ErrorKind::OutOfMemory)),
+        }
+    }
+
+    /// Sleeps until something is new. False where the time is over or the bell has rung; true may come for no reason,
+    /// so that the caller tries the socket again.
+    fn sleeps(&mut self) -> io::Result<bool> {
+        let left = self.bell.until().left(Moment::now(&self.clock)?);
+        if left == 0 || !self.bell.falls_asleep() {
+            return Ok(false);
+        }
+        let polled = self.poll.poll(&mut self.events, Some(wait_of(left)));
+        let rung = self.bell.wakes_up_rung();
+        polled?;
+        Ok(!rung)
+    }
+
+    /// Waits until the socket takes octets again, within the time of a write. A ring is kept for the next read.
+    fn waits_to_write(&mut self) -> io::Result<()> {
+        let now = Moment::now(&self.clock)?;
+        let until = match self.write_until {
+            Some(until) => until,
+            None => now.after(self.write_ms),
+        };
+        self.write_until = Some(until);
+        let left = until.left(now);
+        if left == 0 {
+            return Err(io::Error::from(ErrorKind::TimedOut));
+        }
+        self.poll.poll(&mut self.events, Some(wait_of(left)))
+    }
+
+    /// Whether the time of the reads is over.
+    fn is_late(&self) -> io::Result<bool> {
+        Ok(self.bell.until().left(Moment::now(&self.clock)?) == 0)
+    }
+}
+
+impl<R: Clock + Drop> Read for LiveStream<R> {
+    fn read(&mut self, buf: &mut [u8]) -> io::Result<usize> {
+        // A peer that never lets a message end can't keep its reader past the time.
+        if !self.bell.is_first_read() && self.is_late()? {
+            return Err(io::Error::from(ErrorKind::WouldBlock));
+        }
+        for _ in 0..u64::MAX {
+            match self.socket.read(buf) {
+                Ok(n) => return Ok(n),
+                Err(error) => {
+                    if error.kind() == ErrorKind::WouldBlock {
+                        if !self.sleeps()? {
+                            return Err(error);
+                        }
+                    } else if error.kind() != ErrorKind::Interrupted {
+                        return Err(error);
+                    }
+                }
+            }
+        }
+        Err(io::Error::from(ErrorKind::WouldBlock))
+    }
+}
+
+impl<R: Clock + Drop> Write for LiveStream<R> {
+    fn write(&mut self, buf: &[u8]) -> io::Result<usize> {
+        for _ in 0..u64::MAX {
+            match self.socket.write(buf) {
+                Ok(n) => return Ok(n),
+                Err(error) => {
+                    if error.kind() == ErrorKind::WouldBlock {
+                        self.waits_to_write()?;
+                    } else if error.kind() != ErrorKind::Interrupted {
+                        return Err(error);
+                    }
+                }
+            }
+        }
+        Err(io::Error::from(ErrorKind::TimedOut))
+    }
+
+    fn flush(&mut self) -> io::Result<()> {
+        self.write_until = None;
+        Ok(())
+    }
+}

@@ -1,0 +1,95 @@
+//! Rings before and during a sleep, and a write that its peer doesn't take.
+use crate::{Bells, LivePatience, LiveStream, Moment};
+use bsc_edge::Patience;
+use mio::net::{TcpListener, TcpStream};
+use std::alloc::Global;
+use std::io::{self, ErrorKind, Read, Write};
+use std::net::{Ipv4Addr, Net, SocketAddr};
+use std::sync::Arc;
+use std::test::*;
+use std::thread;
+use std::time::Clock;
+
+/// Two ends of a connection over loopback.
+fn ends<R: Net>(rt: &R) -> io::Result<(TcpStream, TcpStream)> {
+    let listener = TcpListener::bind(rt, SocketAddr::from((Ipv4Addr::LOCALHOST, 0)))?;
+    let near = TcpStream::connect(rt, listener.local_addr()?)?;
+    for _ in 0..u32::MAX {
+        match listener.accept() {
+            Ok((far, _)) => return Ok((near, far)),
+            Err(error) => {
+                if error.kind() != ErrorKind::WouldBlock {
+                    return Err(error);
+                }
+            }
+        }
+    }
+    Err(io::Error::from(ErrorKind::TimedOut))
+}
+
+/// Whether a read gives nothing, and long before its time of ten minutes is over.
+fn comes_back<R: Clock + Drop>(rt: &R, stream: &mut LiveStream<R>) -> bool {
+    let Ok(begun) = Moment::now(rt) else {
+        return false;
+    };
+    let mut into = [0u8; 8];
+    let quiet = match stream.read(&mut into) {
+        Ok(_) => false,
+        Err(error) => error.kind() == ErrorKind::WouldBlock,
+    };
+    match Moment::now(rt) {
+        Ok(end) => quiet && end.left(begun) < 300_000_000,
+        Err(_) => false,
+    }
+}
+
+/// A ring before the sleep ends the next sleep, and octets are read as they are.
+#[test]
+fn a_ring_before_the_sleep_is_kept(rt: HostRuntime) -> Result<(), Fail> {
+    let alloc = rt.alloc();
+    let (near, far) = ends(&rt)?;
+    let mut stream = LiveStream::over(rt, alloc, near, 50)?;
+    let bells = Arc::new(alloc, Bells::new(alloc)?)?;
+    let mut patience = LivePatience::new(rt, stream.bell()?, bells);
+    patience.known_as(7);
+    assert_eq!(rt; patience.set(600_000), Ok(()));
+    patience.wake(8);
+    patience.wake(7);
+    assert!(rt; comes_back(&rt, &mut stream));
+    let mut peer = LiveStream::over(rt, alloc, far, 50)?;
+    peer.write_all(b"octets")?;
+    let mut into = [0u8; 8];
+    assert_eq!(rt; stream.read(&mut into)?, 6);
+    // The peer reads nothing: what the system doesn't take runs out of its time.
+    let mut late = false;
+    for _ in 0..100_000u32 {
+        if let Err(error) = stream.write(&[0u8; 4096]) {
+            late = error.kind() == ErrorKind::TimedOut;
+            break;
+        }
+    }
+    assert!(rt; late);
+    Ok(())
+}
+
+/// A ring from another thread ends a sleep.
+#[test]
+fn a_ring_ends_a_sleep(rt: HostRuntime) -> Result<(), Fail> {
+    let alloc = rt.alloc();
+    let (near, _far) = ends(&rt)?;
+    let mut stream = LiveStream::over(rt, alloc, near, 50)?;
+    let bell = stream.bell()?;
+    bell.set_until(Moment::now(&rt)?.after(600_000));
+    let (back, _rung) = thread::join(
+        &rt,
+        move || -> bool { comes_back(&rt, &mut stream) },
+        move || -> bool {
+            // Most often the reader sleeps by then; where it doesn't, the ring is kept.
+            thread::sleep(&rt, std::time::Duration::from_millis(50));
+            bell.ring();
+            true
+        },
+    );
+    assert!(rt; back);
+    Ok(())
+}

@@ -1,0 +1,4 @@
+pub mod Limits
+pub mod Receiving
+pub mod Protocols
+pub mod Targets

@@ -1,0 +1,40 @@
+-- What links over streams receive.
+use Rattle.std.specs.Prelude.{◌≡◌, ◌≢◌, ◌⊎◌, ℕ, List, Option, Result, Ok, Err}
+use Rattle.std.specs.IoError.{error_kind}
+use Rattle.std.specs.declared.io.ErrorKind.TheVariants.{WouldBlock}
+use Rattle.bsc_edge.specs.declared.fault.LinkFault.{LinkFault}
+use Rattle.bsc_edge.specs.declared.fault.LinkFault.TheVariants.{Failed, NoMemory}
+use Rattle.bsc_edge.specs.declared.incoming.Incoming.{Incoming}
+use Rattle.bsc_edge.specs.declared.incoming.Incoming.TheVariants as In
+use Rattle.tungstenite.specs.Socket.{Socket, Reads}
+use Rattle.tungstenite.specs.declared.error.Error.{Error}
+use Rattle.tungstenite.specs.declared.error.Error.TheVariants as E
+use Rattle.tungstenite.specs.declared.message.Message.{Message}
+use Rattle.tungstenite.specs.declared.message.Message.TheVariants as M
+
+-- What is answered where the socket's read failed: the end is Closed, a stream that gave nothing in time is Quiet, and all else but want of memory is a fault.
+abbrev pub Fails : Error → Result Incoming LinkFault → Type 0
+Fails E.ConnectionClosed answer = answer ≡ Ok In.Closed
+Fails E.OutOfMemory answer = answer ≡ Err NoMemory
+Fails (E.Io cause) answer =
+    ((error_kind cause ≡ WouldBlock) × (answer ≡ Ok In.Quiet))
+    ⊎ ((error_kind cause ≢ WouldBlock) × (answer ≡ Err Failed))
+Fails e answer = answer ≡ Err Failed
+
+-- What is answered where the socket read this: the octets of a binary message unless there is no memory for them, Text, Quiet of a ping and a pong, Closed of a close.
+abbrev pub Answers : Result Message Error → Result Incoming LinkFault → Type 0
+Answers (Ok (M.Binary octets)) answer = (answer ≡ Ok (In.Message octets)) ⊎ (answer ≡ Err NoMemory)
+Answers (Ok (M.Text text)) answer = answer ≡ Ok In.Text
+Answers (Ok (M.Ping octets)) answer = answer ≡ Ok In.Quiet
+Answers (Ok (M.Pong octets)) answer = answer ≡ Ok In.Quiet
+Answers (Ok (M.Close frame)) answer = answer ≡ Ok In.Closed
+Answers (Err e) answer = Fails e answer
+
+-- The answer is that of what the socket read from the octets of its stream.
+abbrev pub Receives : {S : Type 0} → (S → Option (List ℕ)) → Socket S → Socket S → Result Incoming LinkFault → Type 0
+Receives remaining old new answer =
+    (read : Result Message Error) × Reads remaining old new read × Answers read answer
+
+-- The wait couldn't be set: that is a fault, and nothing was read.
+abbrev pub IsUnset : {S : Type 0} → Socket S → Socket S → Result Incoming LinkFault → Type 0
+IsUnset old new answer = (new ≡ old) × (answer ≡ Err Failed)

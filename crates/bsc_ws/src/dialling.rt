@@ -1,0 +1,67 @@
+//! The client's handshake.
+ghost use Rattle.std.specs.Prelude.{◌≡◌, IfOk};
+ghost use Rattle.bsc_ws.specs.Limits.{HasOurLimits};
+ghost use Rattle.websocket.specs.declared.protocol.config.Role.TheVariants as Role;
+
+use crate::bounds::limits;
+use crate::failure::fault_of;
+use crate::protocol::{header, value_of};
+use crate::stream_link::StreamLink;
+use bsc_edge::{Kind, LinkFault, Patience};
+use http::Request;
+use std::alloc::Global;
+use std::io::{Read, Write};
+use tungstenite::MaskKeys;
+use tungstenite::handshake::HandshakeError;
+use tungstenite::handshake::client::{request_of, start};
+
+/// The request that offers the sub-protocol of this kind.
+fn offer(alloc: Global, uri: &str, kind: Kind) -> Result<Request<()>, LinkFault> {
+    let mut request = match request_of(alloc, uri) {
+        Ok(request) => request,
+        Err(error) => return Err(fault_of(error)),
+    };
+    match request.headers_mut().insert(header(), value_of(kind)) {
+        Ok(_) => Ok(request),
+        Err(_) => Err(LinkFault::NoMemory),
+    }
+}
+
+/// The sixteen octets that a client's handshake is known by.
+fn nonce_of<K: MaskKeys>(keys: &mut K) -> [u8; 16] {
+    let mut nonce = [0u8; 16];
+    for i in 0..4usize {
+        nonce[4 * i..4 * i + 4].copy_from_slice(&keys.next_key());
+    }
+    nonce
+}
+
+/// The link to the peer at the other end of this stream, whose reads wait. It offers the sub-protocol of its kind, and
+/// refuses an answer without it. Fails where the stream would block once.
+pub fn dial<T: Read + Write + Drop, W: Patience + Drop, K: MaskKeys + Drop>(
+    alloc: Global,
+    stream: T,
+    wait: W,
+    keys: K,
+    uri: &str,
+    kind: Kind,
+) -> Result<StreamLink<T, W, K>, LinkFault>
+    ensures role { IfOk result (λ l. l.socket.conn.role ≡ Role.Client) }
+    ensures limits { IfOk result (λ l. HasOurLimits l.socket.conn.config.max_message_size l.socket.conn.config.max_frame_size
+        l.socket.conn.config.accept_unmasked_frames) }
+    ensures wait { IfOk result (λ l. l.wait ≡ wait) }
+    ensures faults { IfOk result (λ l. l.faults ≡ 0) }
+    ensures quiets { IfOk result (λ l. l.quiets ≡ 0) }
+{
+    let mut keys = keys;
+    let nonce = nonce_of(&mut keys);
+    let request = offer(alloc, uri, kind)?;
+    match start(alloc, nonce, keys, request, stream, Some(limits())) {
+        Ok(rounds) => match rounds.handshake() {
+            Ok((socket, _response)) => Ok(StreamLink::over(socket, wait)),
+            Err(HandshakeError::Failure(error)) => Err(fault_of(error)),
+            Err(HandshakeError::Interrupted(_)) => Err(LinkFault::Failed),
+        },
+        Err(error) => Err(fault_of(error)),
+    }
+}

@@ -1,0 +1,107 @@
+//! The sub-protocols, and who takes them.
+ghost use Rattle.std.specs.Prelude.{◌≡◌, IsTrue, IsOk, IfErr};
+ghost use Rattle.bsc_ws.specs.Protocols.{protocol, Offers, AsksFor};
+ghost use Rattle.http_header.specs.FieldValue.{plain_value};
+
+use bsc_edge::Kind;
+use http::{HeaderName, HeaderValue, Request, Response, StatusCode};
+use std::alloc::Global;
+use tungstenite::Callback;
+use tungstenite::handshake::server::ErrorResponse;
+
+/// The sub-protocol of links of this kind.
+pub(crate) fn protocol_of(kind: Kind) -> &'static str
+    ensures { result.now ≡ protocol kind }
+{
+    match kind {
+        Kind::Hub => "hub.bsc.bacnet.org",
+        Kind::Direct => "dc.bsc.bacnet.org",
+    }
+}
+
+/// The same as a header's value.
+pub(crate) fn value_of(kind: Kind) -> HeaderValue
+    ensures { result ≡ plain_value (protocol kind) }
+{
+    match kind {
+        Kind::Hub => HeaderValue::from_static("hub.bsc.bacnet.org"),
+        Kind::Direct => HeaderValue::from_static("dc.bsc.bacnet.org"),
+    }
+}
+
+/// The header's name.
+pub(crate) fn header() -> HeaderName {
+    HeaderName::from_static("sec-websocket-protocol")
+}
+
+/// Whether one of the parts between commas, without the blanks around it, is this name.
+fn offers(text: &str, name: &str) -> bool
+    ensures { IsTrue result → Offers text.now name.now }
+{
+    let mut left = text;
+    for _ in 0..=text.len() {
+        match left.split_once(',') {
+            Some((first, rest)) => {
+                if first.trim_ascii() == name {
+                    return true;
+                }
+                left = rest;
+            }
+            None => return left.trim_ascii() == name,
+        }
+    }
+    false
+}
+
+/// Whether the value of a header offers this name.
+fn value_offers(value: &HeaderValue, name: &str) -> bool
+    ensures { IsTrue result → Offers value.now.bytes name.now }
+{
+    match value.to_str() {
+        Ok(text) => offers(text, name),
+        Err(_) => false,
+    }
+}
+
+/// Whether a request offers the sub-protocol of this kind.
+fn asks_for(request: &Request<()>, kind: Kind) -> bool
+    ensures { IsTrue result → AsksFor request.now kind }
+{
+    let name = protocol_of(kind);
+    for value in request.headers().get_all("sec-websocket-protocol") {
+        if value_offers(value, name) {
+            return true;
+        }
+    }
+    false
+}
+
+/// Takes a request that offers the sub-protocol of this kind, and echoes it.
+#[derive(Drop)]
+pub struct Takes {
+    pub alloc: Global,
+    pub kind: Kind,
+}
+
+impl Callback for Takes {
+    fn on_request(
+        self,
+        request: &Request<()>,
+        response: Response<()>,
+    ) -> Result<Response<()>, ErrorResponse>
+        ensures taken { IsOk result → AsksFor request.now self.kind }
+    {
+        let mut response = response;
+        if asks_for(request, self.kind)
+            && response
+                .headers_mut()
+                .insert(header(), value_of(self.kind))
+                .is_ok()
+        {
+            return Ok(response);
+        }
+        let mut refused = Response::new(self.alloc, None);
+        *refused.status_mut() = StatusCode::BAD_REQUEST;
+        Err(refused)
+    }
+}
