@@ -13,6 +13,7 @@ mod desk;
 mod directory;
 mod fate;
 mod forwarding;
+mod hints;
 mod leaving;
 mod making;
 mod meeting;
