@@ -4,7 +4,6 @@ ghost use Rattle.bsc_desk.specs.Directories.{AreFiled};
 ghost use Rattle.bsc_desk.specs.Bounds.{AreLimits, stops_left};
 
 use crate::directory::Directory;
-use crate::hints::Hints;
 use crate::row::Row;
 use crate::tally::Tally;
 use bsc_history::About;
@@ -24,8 +23,6 @@ pub struct Desk {
     pub(crate) rows: Vec<Row>,
     /// Their connections, by which a row is found.
     pub(crate) directory: Directory,
-    /// Where their addresses were found last.
-    pub(crate) hints: Hints,
     ghost in_range: { AreLimits about.limits },
     ghost few_rows: { vec_len rows ≤ about.limits.rows },
     // A row is pushed and entered without memory.

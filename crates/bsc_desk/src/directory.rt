@@ -6,6 +6,7 @@ ghost use Rattle.std.specs.List.{AllByRecursion};
 ghost use Rattle.bsc_octets.specs.Addresses.{same_vmac, same_device};
 ghost use Rattle.bsc_desk.specs.Orders.{in_order, precedes, address_of, device_of, up_to, filed, last_of, passing, before, at_most, spelled};
 
+use crate::hints::Hints;
 use bsc_history::Connection;
 use bsc_octets::{DeviceId, NoMemory, Vmac};
 use std::alloc::Global;
@@ -16,6 +17,8 @@ use std::alloc::Global;
 pub struct Directory {
     pub(crate) by_address: Vec<Connection>,
     pub(crate) by_device: Vec<Connection>,
+    /// Where the holders of addresses were found last.
+    pub(crate) hints: Hints,
     ghost address_order: { IsTrue (in_order (precedes address_of) by_address.items) },
     ghost device_order: { IsTrue (in_order (precedes device_of) by_device.items) },
 }
@@ -135,6 +138,7 @@ impl Directory {
         Ok(Directory {
             by_address: Vec::with_capacity(alloc, rows)?,
             by_device: Vec::with_capacity(alloc, rows)?,
+            hints: Hints::make(alloc)?,
         })
     }
 

@@ -201,8 +201,8 @@ impl Desk {
     {
         frame.has_route();
         let to = frame.destination();
-        let place = self.holder_near(to, self.hints.place(to));
-        self.hints.keep(to, place);
+        let place = self.holder_near(to, self.directory.hints.place(to));
+        self.directory.hints.keep(to, place);
         let reply = one_said(offer_to(&mut self.rows, place, frame.into_octets()));
         self.tally.add(counts_of(reply));
         reply

@@ -7,7 +7,6 @@ ghost use Rattle.bsc_desk.specs.Standing.{StandsFor};
 
 use crate::desk::Desk;
 use crate::directory::Directory;
-use crate::hints::Hints;
 use crate::tally::Tally;
 use bsc_history::{About, Limits};
 use bsc_octets::{Identity, NoMemory};
@@ -34,7 +33,6 @@ impl Desk {
             tally: Tally::new(),
             rows: Vec::with_capacity(alloc, limits.rows as usize)?,
             directory: Directory::make(alloc, limits.rows as usize)?,
-            hints: Hints::make(alloc)?,
         })
     }
 

@@ -3,7 +3,7 @@ use Rattle.bsc_history.specs.declared.counts.Counts.{Counts}
 use Rattle.bsc_history.specs.declared.ending.End.TheVariants.{Full}
 use Rattle.bsc_history.specs.Counting.{plus}
 use Rattle.bsc_desk.specs.Directories.{AreFiled}
-use Rattle.bsc_desk.proofs.Filing.{filed_each}
+use Rattle.bsc_desk.proofs.Filing.{filed_each, filed_same}
 use Rattle.bsc_desk.proofs.Fared.{all_filed}
 use Rattle.bsc_desk.proofs.Forwards.{few_pushed}
 use Rattle.bsc_desk.proofs.Learning.{learns}
@@ -28,10 +28,11 @@ returns-clause-learns c =
     let r = reaches c.destination-to.result c.into_octets.result c.holder_near-place.result c.offer_to.result c.one_said-reply.result d.rows.items c.offer_to.new.rows.items d.filed.one_at c.holder_near-place.ensures c.offer_to.ensures.fares c.one_said-reply.ensures in
     learns (holds c.destination-to.result) (Some Full) c.into_octets.result d _ _ r.0 r.2 r.1
 
-pub invariant_of-self-clause-filed : goal.invariant_of-self-clause-filed
-invariant_of-self-clause-filed c =
+pub invariant_of-self-2-clause-filed : goal.invariant_of-self-2-clause-filed
+invariant_of-self-2-clause-filed c =
     let d = c.args.self.now in
     let after = c.offer_to.new.rows.items in
     let r = reaches c.destination-to.result c.into_octets.result c.holder_near-place.result c.offer_to.result c.one_said-reply.result d.rows.items after d.filed.one_at c.holder_near-place.ensures c.offer_to.ensures.fares c.one_said-reply.ensures in
-    subst (λ (n : ℕ). AreFiled after n d.directory) (sym (ap (λ (k : Counts). k.joined) (c.add.ensures.counts ∙ ap (plus d.tally.counts) c.counts_of.ensures.value) ∙ add-zero d.tally.counts.joined))
-    (filed_each d.rows.items after d.tally.counts.joined d.directory (all_filed (holds c.destination-to.result) (Some Full) c.into_octets.result (holds_open c.destination-to.result) d.rows.items r.0 after r.1) d.filed)
+    filed_same after _ d.directory _ refl refl
+    (subst (λ (n : ℕ). AreFiled after n d.directory) (sym (ap (λ (k : Counts). k.joined) (c.add.ensures.counts ∙ ap (plus d.tally.counts) c.counts_of.ensures.value) ∙ add-zero d.tally.counts.joined))
+    (filed_each d.rows.items after d.tally.counts.joined d.directory (all_filed (holds c.destination-to.result) (Some Full) c.into_octets.result (holds_open c.destination-to.result) d.rows.items r.0 after r.1) d.filed))
