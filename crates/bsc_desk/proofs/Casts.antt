@@ -1,16 +1,22 @@
 -- The pass of a broadcast over the rows.
-use Rattle.std.proofs.Common.{◌≡◌, ℕ, zero, suc, ◌+◌, ◌<◌, ◌^◌, Bool, true, false, cond, List, [], ◌∷◌, ◌++◌, length, filter, drop, get_or, Option, None, refl, ap, sym, ◌∙◌, subst, arith}
+use Rattle.std.proofs.Common.{◌≡◌, ℕ, zero, suc, ◌+◌, ◌<◌, ◌^◌, Bool, true, false, cond, List, [], ◌∷◌, ◌++◌, length, filter, drop, get_or, vec_len, Vec, Option, None, refl, ap, sym, ◌∙◌, subst, arith}
 use Rattle.std.proofs.Math.ListN.{set}
 use Rattle.std.specs.List.{AllByRecursion}
+use Rattle.std.specs.declared.alloc.Global.{Global}
 use Rattle.bsc_history.specs.Counting.{one_if}
 use Rattle.bsc_ring.specs.Ends.{pushed}
 use Rattle.bsc_desk.specs.declared.fate.Fate.{Fate}
 use Rattle.bsc_desk.specs.declared.row.Row.{Row}
+use Rattle.bsc_desk.specs.Copying.{AreBatches}
 use Rattle.bsc_desk.specs.Fates.{AllBefall, Befalls, FewPushed, is_meant}
 
 pub all_push : (o : List ℕ) (xs : List (List ℕ)) (x : List ℕ) → AllByRecursion (λ y. y ≡ o) xs → x ≡ o → AllByRecursion (λ y. y ≡ o) (xs ++ x ∷ [])
 all_push o [] x all same = (same, tt)
 all_push o (y ∷ ys) x all same = (all.0, all_push o ys x all.1 same)
+
+pub batch_push : (o : List ℕ) (bs : List (Vec (List ℕ) Global)) (b : Vec (List ℕ) Global) → AreBatches o bs → vec_len b ≡ 32 → AllByRecursion (λ x. x ≡ o) b.items → AreBatches o (bs ++ b ∷ [])
+batch_push o [] b all long same = ((long, same), tt)
+batch_push o (c ∷ bs) b all long same = (all.0, batch_push o bs b all.1 long same)
 
 -- The first i rows were gone through, with these fates, and the others are as they were.
 abbrev pub Reach : ℕ → List ℕ → ℕ → List Row → List Fate → List Row → Type 0

@@ -25,6 +25,10 @@ use Rattle.bsc_desk.proofs.Sorted.{length-sorted, filter-sorted, sorted-push}
 pub filed_none : (x : Directory) → x.by_address.items ≡ [] → x.by_device.items ≡ [] → AreFiled [] 0 x
 filed_none x a b = record { rising = refl; counted = refl; one_at = refl; one_of = refl; by_address = a; by_device = b }
 
+-- a directory with the same connections
+pub filed_same : (rows : List Row) (joined : ℕ) (x y : Directory) → y.by_address.items ≡ x.by_address.items → y.by_device.items ≡ x.by_device.items → AreFiled rows joined x → AreFiled rows joined y
+filed_same rows joined x y a b s = record { rising = s.rising; counted = s.counted; one_at = s.one_at; one_of = s.one_of; by_address = a ∙ s.by_address; by_device = b ∙ s.by_device }
+
 -- the directory is as long as the rows
 
 pub as_many : (rows : List Row) (joined : ℕ) (x : Directory) → AreFiled rows joined x → (length x.by_address.items ≡ length rows) × (length x.by_device.items ≡ length rows)

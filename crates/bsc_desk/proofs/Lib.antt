@@ -1,5 +1,6 @@
 pub mod Passing
 pub mod Orders
+pub mod Ranks
 pub mod Sorted
 pub mod Places
 pub mod Walks

@@ -4,6 +4,7 @@ use Rattle.std.specs.List.{list_any, list_all, position, AllByRecursion}
 use Rattle.std.specs.Option.{option_map}
 use Rattle.std.specs.Cmp.Lexicographic.{same_text, bytes_decides}
 use Rattle.std.proofs.lemmas.Bool.{both_ways, eq-eqb, false_from_ne_true, ne_eqb, not-true, and_parts, or_parts}
+use Rattle.std.proofs.lemmas.List.{get_or_default}
 use Rattle.std.proofs.lemmas.List.Quantifiers.{position-Some}
 use Rattle.bsc_octets.specs.declared.vmac.Vmac.{Vmac}
 use Rattle.bsc_octets.specs.Addresses.{same_vmac}
@@ -46,9 +47,9 @@ use Rattle.bsc_desk.proofs.Forwards.{lawful_served, looks_named, served, stands_
 use Rattle.bsc_desk.proofs.LiveRows.{live_found}
 use Rattle.bsc_desk.proofs.Newest.{no_find}
 use Rattle.bsc_desk.proofs.Orders.{InOrder, order_true}
-use Rattle.bsc_desk.proofs.Places.{position_any}
+use Rattle.bsc_desk.proofs.Places.{position_any, position-cons}
 use Rattle.bsc_desk.proofs.Standings.{rows_apart}
-use Rattle.bsc_desk.proofs.Walks.{OnlyAt}
+use Rattle.bsc_desk.proofs.Walks.{OnlyAt, all_at}
 
 -- whether the row is that of the live connection with the address
 abbrev pub holds : Vmac → Row → Bool
@@ -288,3 +289,15 @@ reaches v o None x r rows after order is h reply =
 reaches v o (Some i) x r rows after order is h reply =
     let only = only_holder v i rows (sym is) order in
     (somebody i x rows, somebody_all (holds v) (Some Full) o i x rows after only h, ap one_looks reply ∙ looks_said x ∙ sym (somebody_looks (holds v) i x rows only))
+
+-- where the row at a place is the holder's, no other row is before it
+
+pub at_holder : (v : Vmac) (rows : List Row) (i : ℕ) → InOrder (λ r s. gives_way address_of r s ≡ true) rows → i < length rows → ((d : Row) → holds v (get_or rows i d) ≡ true) → position (holds v) rows ≡ Some i
+at_holder v [] i order within here = absurd (omega arith)
+at_holder v (r ∷ rows) zero order within here = position-cons (holds v) r rows ∙ ap (λ (b : Bool). cond b (Some 0) (option_map (λ i. 1 + i) (position (holds v) rows))) (here r)
+at_holder v (r ∷ rows) (suc i) order within here =
+    let no : holds v r ≡ false = false_from_ne_true (holds v r) (λ h. both_ways (holds v (get_or rows i r)) (all_at (λ y. holds v y ≡ false) rows i (get_or rows i r) (omega arith) (get_or_default rows i r (get_or rows i r) (omega arith)) (behind_holder v r rows h order.0)) (here r)) in
+    position-cons (holds v) r rows
+    ∙ ap (λ (b : Bool). cond b (Some 0) (option_map (λ i. 1 + i) (position (holds v) rows))) no
+    ∙ ap (option_map (λ i. 1 + i)) (at_holder v rows i order.1 (omega arith) here)
+    ∙ (let e : 1 + i ≡ suc i = omega arith in ap Some e)

@@ -1,3 +1,4 @@
+pub mod Copying
 pub mod Frames
 pub mod Live
 pub mod Pushes

@@ -1,5 +1,5 @@
 -- Connections in the order of their addresses, or of their devices.
-use Rattle.std.specs.Prelude.{ℕ, zero, suc, nat_eq, Bool, true, ◌&&◌, if◌then◌else◌, List, [], ◌∷◌, fold, slice_get, Option, Some, None}
+use Rattle.std.specs.Prelude.{ℕ, zero, suc, ◌+◌, ◌*◌, nat_eq, Bool, true, ◌&&◌, if◌then◌else◌, List, [], ◌∷◌, fold, slice_get, Option, Some, None}
 use Rattle.std.specs.Cmp.Lexicographic.{pointwise, slice_cmp}
 use Rattle.std.specs.List.{list_all, insert}
 use Rattle.std.specs.Option.{option_or}
@@ -24,6 +24,11 @@ same_key k l = pointwise nat_eq k l
 
 abbrev pub at_most : List ℕ → List ℕ → Bool
 at_most k l = is_le (slice_cmp nat_cmp k l)
+
+-- the number that octets spell behind n, each octet higher than those after it
+abbrev pub spelled : ℕ → List ℕ → ℕ
+spelled n [] = n
+spelled n (x ∷ xs) = spelled (n * 256 + x) xs
 
 -- whether the octets of one connection come no later than those of another
 abbrev pub precedes : (Connection → List ℕ) → Connection → Connection → Bool

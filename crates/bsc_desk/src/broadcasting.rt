@@ -2,12 +2,12 @@
 #![tactic(auto)]
 
 ghost use Rattle.std.specs.Prelude.{◌≡◌, ◌≤◌, ◌<◌, ◌↔◌, ℕ, ◌++◌, ◌∷◌, [], List, length, vec_len, None, IfOk, IfErr, OnErr, IsTrue, IsFalse};
-ghost use Rattle.std.specs.List.{AllByRecursion};
 ghost use Rattle.bsc_octets.specs.Forwarding.{has_route, is_broadcast, out};
 ghost use Rattle.bsc_history.specs.declared.mark.Stamped.{Stamped};
 ghost use Rattle.bsc_history.specs.Ends.{ended};
 ghost use Rattle.bsc_history.specs.Marks.{entries};
 ghost use Rattle.bsc_history.specs.Replies.{forward_reply, is_stopped};
+ghost use Rattle.bsc_desk.specs.Copying.{AreCopies, count_of};
 ghost use Rattle.bsc_desk.specs.Counted.{broadcast_counts};
 ghost use Rattle.bsc_desk.specs.Entries.{AllSaysLimit, all_adds, all_looks, all_reply, all_unserved, forward_entry, is_all_worn, lacks_memory, plain, unserved};
 ghost use Rattle.bsc_desk.specs.Fates.{HasRoom, Tell, count_offered};
@@ -16,14 +16,15 @@ ghost use Rattle.bsc_desk.specs.Rows.{IsRowOf, IsUnserved, end_of};
 ghost use Rattle.bsc_desk.specs.Standing.{StandsFor};
 ghost use Rattle.bsc_desk.specs.Tallies.{AreAtMost};
 
+use crate::copies::Copies;
 use crate::desk::Desk;
 use crate::notes::Notes;
-use crate::offering::{copies, count_offered, offer_all};
+use crate::offering::{count_offered, offer_all};
 use crate::prepared::Prepared;
 use crate::rows::end_at;
 use crate::tally::{NOTHING, one_if};
 use bsc_history::{Conns, Counts, End, Looks, Worn};
-use bsc_octets::{NoMemory, Octets};
+use bsc_octets::NoMemory;
 use std::alloc::Global;
 
 /// The reply to a broadcast.
@@ -177,7 +178,7 @@ impl Desk {
         ensures err { OnErr result (self.new ≡ self.old) }
     {
         let count = count_offered(self.rows.as_slice(), conn, frame);
-        let copies = copies(alloc, frame, count)?;
+        let copies = Copies::make(alloc, frame, count)?;
         let notes = Notes::make(alloc, self.rows.len())?;
         Ok(self.push_all(caller, conn, frame, copies, notes))
     }
@@ -188,7 +189,7 @@ impl Desk {
         caller: u64,
         conn: u64,
         frame: &Prepared,
-        copies: Vec<Octets>,
+        copies: Copies,
         notes: Notes,
     ) -> AllReply
         requires broadcast { IsTrue (is_broadcast frame.now.message) }
@@ -197,8 +198,8 @@ impl Desk {
         requires calls { self.old.tally.made < self.old.about.limits.calls }
         requires goes_on { self.old.stopped_at ≡ None }
         requires current { end_of self.old conn ≡ None }
-        requires enough { vec_len copies ≡ count_offered conn (out frame.now.message frame.now.sender) self.old.rows.items }
-        requires each { AllByRecursion (λ o. o ≡ out frame.now.message frame.now.sender) copies.items }
+        requires enough { count_of copies ≡ count_offered conn (out frame.now.message frame.now.sender) self.old.rows.items }
+        requires each { AreCopies (out frame.now.message frame.now.sender) copies }
         requires room { HasRoom notes (vec_len self.old.rows) }
         requires empty { Tell notes [] }
         ensures due { (S : List Stamped) → StandsFor self.old S →

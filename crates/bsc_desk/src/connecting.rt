@@ -25,7 +25,7 @@ ghost use Rattle.bsc_desk.specs.Entries.{connect_said, connect_due, connect_adds
 
 use crate::desk::Desk;
 use crate::row::Row;
-use crate::rows::{finish, open_place};
+use crate::rows::{finish, holds_at, open_place};
 use crate::tally::{NOTHING, one_if};
 use bsc_history::{Connection, Counts, End, Refusal, Worn};
 use bsc_octets::{DeviceId, Identity, Vmac};
@@ -179,6 +179,17 @@ impl Desk {
         ensures { result ≡ position (λ r. is_open r && same_vmac r.connection.who.vmac v) self.now.rows.items }
     {
         live_place(self.rows.as_slice(), self.directory.newest_at(v))
+    }
+
+    /// The same, where the hint is that it may be at a place.
+    pub(crate) fn holder_near(&self, v: Vmac, hint: usize) -> Option<usize>
+        ensures { result ≡ position (λ r. is_open r && same_vmac r.connection.who.vmac v) self.now.rows.items }
+    {
+        if holds_at(self.rows.as_slice(), v, hint) {
+            Some(hint)
+        } else {
+            self.holder_place(v)
+        }
     }
 
     /// The place of the row of the live connection of a device.

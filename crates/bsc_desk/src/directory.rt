@@ -2,9 +2,11 @@
 #![tactic(auto)]
 
 ghost use Rattle.std.specs.Prelude.{◌≡◌, ◌≤◌, ◌<◌, not, ◌==◌, [], length, filter, IsTrue, IfOk, vec_len, vec_capacity};
+ghost use Rattle.std.specs.List.{AllByRecursion};
 ghost use Rattle.bsc_octets.specs.Addresses.{same_vmac, same_device};
-ghost use Rattle.bsc_desk.specs.Orders.{in_order, precedes, address_of, device_of, up_to, filed, last_of, passing, before};
+ghost use Rattle.bsc_desk.specs.Orders.{in_order, precedes, address_of, device_of, up_to, filed, last_of, passing, before, at_most, spelled};
 
+use crate::hints::Hints;
 use bsc_history::Connection;
 use bsc_octets::{DeviceId, NoMemory, Vmac};
 use std::alloc::Global;
@@ -15,8 +17,27 @@ use std::alloc::Global;
 pub struct Directory {
     pub(crate) by_address: Vec<Connection>,
     pub(crate) by_device: Vec<Connection>,
+    /// Where the holders of addresses were found last.
+    pub(crate) hints: Hints,
     ghost address_order: { IsTrue (in_order (precedes address_of) by_address.items) },
     ghost device_order: { IsTrue (in_order (precedes device_of) by_device.items) },
+}
+
+/// The number that the octets of an address spell, the first octet the highest.
+fn number(v: &Vmac) -> u64
+    ensures value { result ≡ spelled 0 v.now.0 }
+    ensures six { length v.now.0 ≡ 6 }
+    ensures octets { AllByRecursion (λ x. x < 256) v.now.0 }
+{
+    let [a, b, c, d, e, f] = v.0;
+    u64::from_be_bytes([0, 0, a, b, c, d, e, f])
+}
+
+/// Whether an address comes no later than another in their order.
+fn is_at_most(v: &Vmac, w: &Vmac) -> bool
+    ensures { result ≡ at_most v.now.0 w.now.0 }
+{
+    number(v) <= number(w)
 }
 
 /// How many of the connections have an address that is at most `v`.
@@ -25,7 +46,7 @@ fn up_to_address(list: &[Connection], v: Vmac) -> usize
     ensures value { result ≡ up_to address_of v.0 list.now }
     ensures bound { result ≤ length list.now }
 {
-    list.partition_point(|connection| connection.who.vmac.cmp(&v).is_le())
+    list.partition_point(|connection| is_at_most(&connection.who.vmac, &v))
 }
 
 /// How many of the connections have a device that is at most `device`.
@@ -117,6 +138,7 @@ impl Directory {
         Ok(Directory {
             by_address: Vec::with_capacity(alloc, rows)?,
             by_device: Vec::with_capacity(alloc, rows)?,
+            hints: Hints::make(alloc)?,
         })
     }
 

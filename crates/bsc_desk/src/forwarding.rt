@@ -200,7 +200,9 @@ impl Desk {
         ensures learns { Learns self.old (one_looks result) self.new }
     {
         frame.has_route();
-        let place = self.holder_place(frame.destination());
+        let to = frame.destination();
+        let place = self.holder_near(to, self.directory.hints.place(to));
+        self.directory.hints.keep(to, place);
         let reply = one_said(offer_to(&mut self.rows, place, frame.into_octets()));
         self.tally.add(counts_of(reply));
         reply

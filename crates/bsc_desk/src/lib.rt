@@ -3,16 +3,18 @@
 //! Start at `specs/Standing.antt`, which says what it is for a desk to stand for a history, and at
 //! `connecting`, `forwarding`, `broadcasting`, `leaving` and `stopping`, whose clauses say which entry a call
 //! adds. The desk stores rows, counts and the inlets of outboxes, and no history; the outlets are their
-//! receivers'. `directory` finds rows by address and by device. `meeting` has what one thread may say that has
-//! the desk and an outlet.
+//! receivers'. `directory` finds rows by address and by device, and `hints` says where to look first. `meeting`
+//! has what one thread may say that has the desk and an outlet.
 #![tactic(auto)]
 
 mod broadcasting;
 mod connecting;
+mod copies;
 mod desk;
 mod directory;
 mod fate;
 mod forwarding;
+mod hints;
 mod leaving;
 mod making;
 mod meeting;

@@ -1,16 +1,18 @@
 //! Finding rows by the number of a connection. Rows stand in the order of their numbers.
 #![tactic(auto)]
 
-ghost use Rattle.std.specs.Prelude.{◌≡◌, ◌≢◌, ◌==◌, true, position, find, Some, vec_len, vec_capacity, IsTrue};
+ghost use Rattle.std.specs.Prelude.{◌≡◌, ◌≢◌, ◌==◌, ◌&&◌, true, position, find, Some, vec_len, vec_capacity, IsTrue};
 ghost use Rattle.bsc_history.specs.declared.ending.End.TheVariants.{Left};
-ghost use Rattle.bsc_desk.specs.Orders.{in_order};
+ghost use Rattle.bsc_octets.specs.Addresses.{same_vmac};
+ghost use Rattle.bsc_desk.specs.Orders.{address_of, in_order};
 ghost use Rattle.bsc_desk.specs.Rising.{rises};
 ghost use Rattle.bsc_desk.specs.Changes.{EachBecomes, FinishesIf};
-ghost use Rattle.bsc_desk.specs.Directories.{open_place};
-ghost use Rattle.bsc_desk.specs.Live.{end_in, is_row};
+ghost use Rattle.bsc_desk.specs.Directories.{gives_way, open_place};
+ghost use Rattle.bsc_desk.specs.Live.{end_in, is_open, is_row};
 
 use crate::row::Row;
 use bsc_history::End;
+use bsc_octets::Vmac;
 
 /// Whether the row at a place is that of a connection.
 fn stands_at(rows: &[Row], conn: u64, place: usize) -> bool
@@ -18,6 +20,21 @@ fn stands_at(rows: &[Row], conn: u64, place: usize) -> bool
     ensures { IsTrue result → position (λ r. r.connection.number == conn) rows.now ≡ Some place }
 {
     place < rows.len() && rows[place].connection.number == conn
+}
+
+/// Whether a row is that of the live connection that holds an address.
+fn is_holder(row: &Row, v: Vmac) -> bool
+    ensures { result ≡ (is_open row.now && same_vmac row.now.connection.who.vmac v) }
+{
+    row.is_open() && row.connection.who.vmac == v
+}
+
+/// Whether the row at a place is that of the live connection that holds an address.
+pub(crate) fn holds_at(rows: &[Row], v: Vmac, place: usize) -> bool
+    requires { IsTrue (in_order (gives_way address_of) rows.now) }
+    ensures { IsTrue result → position (λ r. is_open r && same_vmac r.connection.who.vmac v) rows.now ≡ Some place }
+{
+    place < rows.len() && is_holder(&rows[place], v)
 }
 
 /// The place of the row of a connection, if none of those that joined between the first row's and it has left.

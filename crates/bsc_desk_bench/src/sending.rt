@@ -71,7 +71,7 @@ fn to_all() -> [u8; 40]
 fn sum(octets: &[u8]) -> u64 {
     let mut sum = 0u64;
     for octet in octets {
-        sum = sum.saturating_add(u64::from(*octet));
+        sum = sum.wrapping_add(u64::from(*octet));
     }
     sum
 }
