@@ -1,5 +1,5 @@
 //! The two ends of a ring. Their calls stand in `pushing`, `taking` and `meeting`.
-ghost use Rattle.std.specs.Prelude.{◌≡◌, ◌≤◌, length};
+ghost use Rattle.std.specs.Prelude.{◌≡◌, ◌%◌, ◌<◌, ◌≤◌, length};
 ghost use Rattle.std.specs.Arc.{arc_value};
 ghost use Rattle.bsc_ring.specs.Lists.{newest};
 ghost use Rattle.bsc_ring.specs.Effects.{InletRests, OutletRests};
@@ -14,6 +14,7 @@ pub struct Inlet {
     pub(crate) seat: RingSeat,
     pub(crate) capacity: u64,
     pub(crate) sent: u64,
+    pub(crate) slot: u64,
     // The seat is one of this table.
     ghost placed: { seat.table_id ≡ (arc_value table).shared.table_id },
     // The table has three words, and a slot for each item of the capacity.
@@ -23,6 +24,8 @@ pub struct Inlet {
     ghost rests: { InletRests seat.me },
     // `sent` counts the items that were pushed.
     ghost counts: { sent ≡ length seat.me.0.pushed },
+    // `slot` is the slot of the next item.
+    ghost at: { (slot ≡ sent % capacity) × (slot < capacity) },
     // At least as many items are known to be taken as the newest load found.
     ghost newest: { newest seat.me.0.loads ≤ seat.me.0.least },
 }
@@ -34,6 +37,7 @@ pub struct Outlet {
     pub(crate) seat: RingSeat,
     pub(crate) capacity: u64,
     pub(crate) taken: u64,
+    pub(crate) slot: u64,
     pub(crate) empties: u64,
     // The seat is one of this table.
     ghost placed: { seat.table_id ≡ (arc_value table).shared.table_id },
@@ -44,4 +48,6 @@ pub struct Outlet {
     ghost rests: { OutletRests seat.me },
     // `taken` counts the items that were given.
     ghost counts: { taken ≡ length seat.me.0.given },
+    // `slot` is the slot of the next item.
+    ghost at: { (slot ≡ taken % capacity) × (slot < capacity) },
 }

@@ -11,6 +11,7 @@ mod ends;
 mod found;
 mod making;
 mod meeting;
+mod next_slot;
 mod plays;
 mod pushing;
 mod remains;

@@ -25,12 +25,14 @@ pub fn make(alloc: Global, capacity: u32) -> Result<(Inlet, Outlet), NoMemory>
         seat: inlet,
         capacity: capacity as u64,
         sent: 0,
+        slot: 0,
     };
     let outlet = Outlet {
         table: other,
         seat: outlet,
         capacity: capacity as u64,
         taken: 0,
+        slot: 0,
         empties: 0,
     };
     Ok((inlet, outlet))

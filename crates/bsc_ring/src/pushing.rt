@@ -4,6 +4,7 @@ ghost use Rattle.bsc_history.specs.declared.ending.End.TheVariants.{Left};
 ghost use Rattle.bsc_ring.specs.Ends.{Loaded, capacity_of, ending_of, inlet_mark, known_taken, loads, pushed};
 
 use crate::ends::Inlet;
+use crate::next_slot::slot_after;
 use crate::steps::{put_in, store_end};
 use bsc_history::End;
 use bsc_octets::Octets;
@@ -33,8 +34,17 @@ impl Inlet {
         ensures mark { inlet_mark self.new ≡ inlet_mark self.old }
         ensures same { (capacity_of self.new ≡ capacity_of self.old) × (ending_of self.new ≡ None) }
     {
-        match put_in(&self.table, &mut self.seat, self.capacity, self.sent, frame) {
+        let put = put_in(
+            &self.table,
+            &mut self.seat,
+            self.capacity,
+            self.sent,
+            self.slot,
+            frame,
+        );
+        match put {
             Ok(head) => {
+                self.slot = slot_after(self.slot, self.capacity);
                 self.sent += 1;
                 Ok(head)
             }

@@ -2,7 +2,7 @@
 //!
 //! A slot is taken at a load and given back at a store. Between the two the seat may exchange what lies
 //! in it, and no other seat can.
-ghost use Rattle.std.specs.Prelude.{ℕ, List, ◌≡◌, ◌≢◌, ◌+◌, ◌<◌, ◌≤◌, ◌^◌, [], length, IfOk, IfErr, IfSome, IfNone, is_some, true, Some, None};
+ghost use Rattle.std.specs.Prelude.{ℕ, List, ◌≡◌, ◌≢◌, ◌+◌, ◌%◌, ◌<◌, ◌≤◌, ◌^◌, [], length, IfOk, IfErr, IfSome, IfNone, is_some, true, Some, None};
 ghost use Rattle.bsc_history.specs.declared.ending.End.{End};
 ghost use Rattle.bsc_history.specs.declared.ending.End.TheVariants.{Left};
 ghost use Rattle.bsc_ring.specs.Lists.{Item, StartsWith};
@@ -43,12 +43,14 @@ pub(crate) fn put_in(
     seat: &mut RingSeat,
     capacity: u64,
     sent: u64,
+    slot: u64,
     frame: Octets,
 ) -> Result<u64, (Octets, u64)>
     requires placed { seat.old.table_id ≡ table.now.shared.table_id }
     requires sized { (seat.old.table_id.words ≡ 3) × (seat.old.table_id.slots ≡ capacity) }
     requires bounds { (2 ≤ capacity) × (capacity ≤ 1024) }
     requires rests { InletRests seat.old.me × (sent ≡ length seat.old.me.0.pushed) }
+    requires at { (slot ≡ sent % capacity) × (slot < capacity) }
     requires in_range { sent < 2 ^ 63 }
     requires open { seat.old.me.0.ended ≡ None }
     ensures placed { seat.new.table_id ≡ seat.old.table_id }
@@ -61,7 +63,7 @@ pub(crate) fn put_in(
     if sent - head == capacity {
         return Err((frame, head));
     }
-    let slot = (sent % capacity) as usize;
+    let slot = slot as usize;
     match table.shared.exchange(seat, slot, Some(frame)) {
         None => {}
         Some(_) => unreachable!(),
@@ -119,11 +121,13 @@ pub(crate) fn take_next(
     seat: &mut RingSeat,
     capacity: u64,
     taken: u64,
+    slot: u64,
 ) -> Option<Octets>
     requires placed { seat.old.table_id ≡ table.now.shared.table_id }
     requires sized { (seat.old.table_id.words ≡ 3) × (seat.old.table_id.slots ≡ capacity) }
     requires bounds { (2 ≤ capacity) × (capacity ≤ 1024) }
     requires rests { OutletRests seat.old.me × (taken ≡ length seat.old.me.0.given) }
+    requires at { (slot ≡ taken % capacity) × (slot < capacity) }
     ensures placed { seat.new.table_id ≡ seat.old.table_id }
     ensures none { IfNone result (StartsWith seat.old.me.0.given seat.old.me.0.known
         × (seat.old.me.0.whole ≡ true → seat.old.me.0.given ≡ seat.old.me.0.known)
@@ -135,7 +139,7 @@ pub(crate) fn take_next(
     if tail == taken {
         return None;
     }
-    let slot = (taken % capacity) as usize;
+    let slot = slot as usize;
     let item = table.shared.exchange(seat, slot, None);
     table.shared.store::<StoreHead>(seat, HEAD_WORD, taken + 1);
     match item {

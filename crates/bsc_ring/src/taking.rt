@@ -3,6 +3,7 @@ ghost use Rattle.std.specs.Prelude.{◌≡◌, length};
 ghost use Rattle.bsc_ring.specs.Ends.{Took, empties_of, given, outlet_mark};
 
 use crate::ends::Outlet;
+use crate::next_slot::slot_after;
 use crate::steps::{load_end, take_next};
 use crate::take::Take;
 
@@ -14,8 +15,16 @@ impl Outlet {
         ensures mark { outlet_mark self.new ≡ outlet_mark self.old }
     {
         let ending = load_end(&self.table, &mut self.seat);
-        match take_next(&self.table, &mut self.seat, self.capacity, self.taken) {
+        let next = take_next(
+            &self.table,
+            &mut self.seat,
+            self.capacity,
+            self.taken,
+            self.slot,
+        );
+        match next {
             Some(frame) => {
+                self.slot = slot_after(self.slot, self.capacity);
                 self.taken += 1;
                 Take::Frame(frame)
             }

@@ -1,5 +1,5 @@
 -- Whom the URIs of links name.
-use Rattle.std.specs.Prelude.{◌≡◌, ◌⊎◌, ℕ, List, [], ◌∷◌, ◌++◌, codes, Some}
+use Rattle.std.specs.Prelude.{◌≡◌, ◌⊎◌, ℕ, List, [], ◌∷◌, ◌++◌, codes, Some, IsUtf8}
 use Rattle.std.specs.Net.Grammar.{IsIpv4Text}
 use Rattle.std.specs.Net.Addr.{ipv4_octets}
 use Rattle.std.specs.Net.Socket.{v4_ip}
@@ -23,6 +23,6 @@ Names uri target =
     BeginsWs uri
     × ((u : Uri) × (host : List ℕ) × Spells uri u × IsHostOf u (Some host) × NamesAddress host (v4_ip target))
 
--- The URI names somebody who is dialled.
+-- The URI is UTF-8, and names somebody who is dialled.
 abbrev pub IsDialable : List ℕ → Type 0
-IsDialable uri = (target : SocketAddrV4) × Names uri target
+IsDialable uri = IsUtf8 uri × ((target : SocketAddrV4) × Names uri target)

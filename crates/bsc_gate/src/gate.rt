@@ -1,0 +1,297 @@
+//! An acceptor of one thread whose handshakes wait in one poll.
+ghost use Rattle.std.specs.Prelude.{◌≡◌, ◌≤◌, None};
+
+use crate::handshakes::{Handshakes, Turned};
+use crate::socket_link::{AcceptedLink, HANDSHAKE_MS, accepted};
+use bsc_edge::{Acceptor, Arrived, Failed, Kind, LinkFault};
+use bsc_live::{Bells, Moment};
+use bsc_octets::NoMemory;
+use mio::net::{TcpListener, TcpStream};
+use mio::{Events, Interest, Poll, Token};
+use std::alloc::Global;
+use std::collections::VecDeque;
+use std::io::{self, ErrorKind};
+use std::net::{Ipv4Addr, Net, SocketAddr};
+use std::sync::{Arc, Wait};
+use std::time::{Clock, Duration};
+
+/// The listener's token. The handshake at place i has the token i + 1.
+const LISTENER: Token = Token(0);
+
+/// So many streams are taken, and so many events are looked at, between two waits.
+const BATCH: usize = 64;
+
+/// Late handshakes are looked for at least this often, in microseconds.
+const SWEEP: u64 = 100_000;
+
+/// Where a stream couldn't be taken, the next try comes after so many microseconds.
+const AGAIN: u64 = 10_000;
+
+/// What the listener may hold of which no event will tell.
+#[derive(Clone, Copy, PartialEq, Eq)]
+enum Backlog {
+    /// Nothing.
+    Empty,
+    /// Streams: a batch ended before they did.
+    More,
+    /// Streams that can't be taken yet, as where no descriptor is left.
+    Stuck,
+}
+
+/// Takes the streams that come to a port, and hands out links whose handshake is done. All handshakes wait in one poll
+/// with the listener, each for 1,000 ms at most as a whole; where all places are taken the oldest goes. A stream that
+/// fails, or that can't be taken, is no fault of the gate.
+#[derive(Drop)]
+pub struct Gate<R: Clock + Net + Wait + Copy + Drop> {
+    rt: R,
+    host: Ipv4Addr,
+    kind: Kind,
+    bells: Arc<Bells>,
+    poll: Poll,
+    events: Events,
+    listener: Option<TcpListener>,
+    backlog: Backlog,
+    handshakes: Handshakes,
+    done: VecDeque<AcceptedLink<R>>,
+    faults: u64,
+    quiets: u64,
+}
+
+/// The tokens of the events, and how many there are.
+fn tokens_of(events: &Events) -> ([Token; BATCH], usize) {
+    let mut tokens = [LISTENER; BATCH];
+    let mut count = 0usize;
+    for event in events.iter() {
+        if let Some(token) = tokens.get_mut(count) {
+            *token = event.token();
+            count = count.saturating_add(1);
+        }
+    }
+    (tokens, count)
+}
+
+impl<R: Clock + Net + Wait + Copy + Drop> Gate<R> {
+    /// A gate that will listen at this host for links of this kind, and has at most `places` handshakes at work.
+    pub fn new(
+        rt: R,
+        alloc: Global,
+        host: Ipv4Addr,
+        kind: Kind,
+        bells: Arc<Bells>,
+        places: usize,
+    ) -> io::Result<Gate<R>> {
+        let Ok(handshakes) = Handshakes::new(alloc, places) else {
+            return Err(io::Error::from(ErrorKind::OutOfMemory));
+        };
+        let Ok(events) = Events::with_capacity(alloc, BATCH) else {
+            return Err(io::Error::from(ErrorKind::OutOfMemory));
+        };
+        Ok(Gate {
+            rt,
+            host,
+            kind,
+            bells,
+            poll: Poll::new(&rt)?,
+            events,
+            listener: None,
+            backlog: Backlog::Empty,
+            handshakes,
+            done: VecDeque::new(alloc),
+            faults: 0,
+            quiets: 0,
+        })
+    }
+
+    /// The address that it listens at, once it is bound. Of port 0 the system chose one.
+    pub fn address(&self) -> Option<SocketAddr> {
+        match &self.listener {
+            Some(listener) => listener.local_addr().ok(),
+            None => None,
+        }
+    }
+
+    /// How many streams were turned away.
+    pub fn turned(&self) -> Turned {
+        self.handshakes.turned()
+    }
+
+    /// Listens at the port.
+    fn listen(&mut self, port: u16) -> io::Result<()>
+        ensures faults { self.new.faults ≡ self.old.faults }
+        ensures quiets { self.new.quiets ≡ self.old.quiets }
+    {
+        let mut listener = TcpListener::bind(&self.rt, SocketAddr::from((self.host, port)))?;
+        self.poll
+            .registry()
+            .register(&mut listener, LISTENER, Interest::READABLE)?;
+        self.listener = Some(listener);
+        self.backlog = Backlog::More;
+        Ok(())
+    }
+
+    /// Begins the handshake of a stream.
+    fn admit(&mut self, alloc: Global, socket: TcpStream, until: Moment)
+        ensures faults { self.new.faults ≡ self.old.faults }
+        ensures quiets { self.new.quiets ≡ self.old.quiets }
+    {
+        let Some(place) = self.handshakes.place() else {
+            return;
+        };
+        let mut socket = socket;
+        let token = Token(place.saturating_add(1));
+        let registered = self.poll.registry().register(
+            &mut socket,
+            token,
+            Interest::READABLE | Interest::WRITABLE,
+        );
+        if registered.is_err() {
+            return;
+        }
+        self.handshakes
+            .begin(alloc, place, socket, self.kind, until);
+        // Of what its peer sent by then no event need tell.
+        self.drive(alloc, place);
+    }
+
+    /// Goes on with a handshake. Its link waits to be handed out where it is done.
+    fn drive(&mut self, alloc: Global, place: usize)
+        ensures faults { self.new.faults ≡ self.old.faults }
+        ensures quiets { self.new.quiets ≡ self.old.quiets }
+    {
+        let Some(socket) = self.handshakes.go_on(place) else {
+            return;
+        };
+        let mut socket = socket;
+        if self.poll.registry().deregister(&mut socket).is_err() {
+            return;
+        }
+        if let Ok(link) = accepted(self.rt, alloc, socket, &self.bells) {
+            let _ = self.done.push_back(link);
+        }
+    }
+
+    /// The next stream, if one can be taken; else says what the listener holds.
+    fn take_stream(&mut self) -> Option<TcpStream>
+        ensures faults { self.new.faults ≡ self.old.faults }
+        ensures quiets { self.new.quiets ≡ self.old.quiets }
+    {
+        let taken = match &self.listener {
+            Some(listener) => listener.accept(),
+            None => Err(io::Error::from(ErrorKind::WouldBlock)),
+        };
+        match taken {
+            Ok((socket, _)) => Some(socket),
+            Err(error) => {
+                self.backlog = match error.kind() {
+                    ErrorKind::WouldBlock => Backlog::Empty,
+                    // The peer went before it was taken: others may stand behind it.
+                    ErrorKind::ConnectionAborted => Backlog::More,
+                    _ => Backlog::Stuck,
+                };
+                None
+            }
+        }
+    }
+
+    /// Takes the streams that have come, a batch at most.
+    fn take_streams(&mut self, alloc: Global, now: Moment)
+        ensures faults { self.new.faults ≡ self.old.faults }
+        ensures quiets { self.new.quiets ≡ self.old.quiets }
+    {
+        self.backlog = Backlog::More;
+        for _ in 0..BATCH {
+            match self.take_stream() {
+                Some(socket) => self.admit(alloc, socket, now.after(HANDSHAKE_MS)),
+                None => return,
+            }
+        }
+    }
+
+    /// Goes on with what has something new.
+    fn drive_all(&mut self, alloc: Global, tokens: &[Token])
+        ensures faults { self.new.faults ≡ self.old.faults }
+        ensures quiets { self.new.quiets ≡ self.old.quiets }
+    {
+        for token in tokens {
+            match token.0.checked_sub(1) {
+                Some(place) => self.drive(alloc, place),
+                None => self.backlog = Backlog::More,
+            }
+        }
+    }
+
+    /// Waits at most so many microseconds, and goes on with what has come.
+    fn turn(&mut self, alloc: Global, left: u64) -> io::Result<()>
+        ensures faults { self.new.faults ≡ self.old.faults }
+        ensures quiets { self.new.quiets ≡ self.old.quiets }
+    {
+        let wait = match self.backlog {
+            Backlog::Empty => left.min(SWEEP),
+            Backlog::More => 0,
+            Backlog::Stuck => left.min(AGAIN),
+        };
+        self.poll
+            .poll(&mut self.events, Some(Duration::from_micros(wait)))?;
+        let (tokens, count) = tokens_of(&self.events);
+        self.drive_all(alloc, tokens.get(..count).unwrap_or(&[]));
+        let now = Moment::now(&self.rt)?;
+        if self.backlog != Backlog::Empty {
+            self.take_streams(alloc, now);
+        }
+        self.handshakes.sweep(now);
+        Ok(())
+    }
+
+    /// The link that is done first, within so many milliseconds.
+    fn wait_for(&mut self, alloc: Global, wait_ms: u32) -> io::Result<Option<AcceptedLink<R>>>
+        ensures faults { self.new.faults ≡ self.old.faults }
+        ensures quiets { self.new.quiets ≡ self.old.quiets }
+    {
+        let until = Moment::now(&self.rt)?.after(wait_ms);
+        for _ in 0..u64::MAX {
+            if let Some(link) = self.done.pop_front() {
+                return Ok(Some(link));
+            }
+            let left = until.left(Moment::now(&self.rt)?);
+            self.turn(alloc, left)?;
+            if left == 0 {
+                return Ok(self.done.pop_front());
+            }
+        }
+        Ok(None)
+    }
+}
+
+impl<R: Clock + Net + Wait + Copy + Drop> Acceptor<AcceptedLink<R>> for Gate<R> {
+    ghost faults = { λ g. g.faults };
+
+    ghost quiets = { λ g. g.quiets };
+
+    ghost bound = { λ _. None };
+
+    ghost left = { λ _. None };
+
+    fn bind(&mut self, port: u16) -> Result<(), Failed> {
+        match self.listen(port) {
+            Ok(()) => Ok(()),
+            Err(_) => {
+                self.faults = self.faults.saturating_add(1);
+                Err(Failed)
+            }
+        }
+    }
+
+    fn next(&mut self, alloc: Global, wait_ms: u32) -> Result<Arrived<AcceptedLink<R>>, LinkFault> {
+        match self.wait_for(alloc, wait_ms) {
+            Ok(Some(link)) => Ok(Arrived::Link(link)),
+            Ok(None) => {
+                self.quiets = self.quiets.saturating_add(1);
+                Ok(Arrived::Quiet)
+            }
+            Err(_) => {
+                self.faults = self.faults.saturating_add(1);
+                Err(LinkFault::Failed)
+            }
+        }
+    }
+}

@@ -1,0 +1,140 @@
+//! The handshakes that are at work, as rows of one table.
+ghost use Rattle.std.specs.Prelude.{◌≡◌, ◌<◌, IfSome, vec_len};
+
+use bsc_edge::Kind;
+use bsc_live::Moment;
+use bsc_octets::NoMemory;
+use bsc_ws::{Handshake, Step, begin};
+use mio::net::TcpStream;
+use std::alloc::Global;
+
+/// How many streams were turned away, and why.
+#[derive(Clone, Copy, Debug, PartialEq, Eq)]
+pub struct Turned {
+    /// Their handshake wasn't done in its time.
+    pub late: u64,
+    /// Their handshake failed.
+    pub refused: u64,
+    /// They had the oldest handshake when the table was full.
+    pub pushed_out: u64,
+}
+
+/// A handshake, and when it must be done.
+#[derive(Drop)]
+struct Row {
+    handshake: Handshake<TcpStream>,
+    until: Moment,
+}
+
+/// The handshakes at work, each in its place.
+#[derive(Drop)]
+pub(crate) struct Handshakes {
+    rows: Vec<Option<Row>>,
+    turned: Turned,
+}
+
+impl Handshakes {
+    /// A table of so many places.
+    pub(crate) fn new(alloc: Global, places: usize) -> Result<Handshakes, NoMemory> {
+        let mut rows = Vec::new(alloc);
+        for _ in 0..places {
+            rows.push(None)?;
+        }
+        Ok(Handshakes {
+            rows,
+            turned: Turned {
+                late: 0,
+                refused: 0,
+                pushed_out: 0,
+            },
+        })
+    }
+
+    pub(crate) fn turned(&self) -> Turned {
+        self.turned
+    }
+
+    /// A free place, or the place of the oldest handshake; none where the table has no places.
+    pub(crate) fn place(&self) -> Option<usize>
+        ensures { IfSome result (λ p. p < vec_len self.now.rows) }
+    {
+        let mut oldest = None;
+        let mut least = Moment { micros: u64::MAX };
+        for (place, row) in self.rows.iter().enumerate() {
+            match row {
+                None => return Some(place),
+                Some(row) => {
+                    if row.until.micros <= least.micros {
+                        least = row.until;
+                        oldest = Some(place);
+                    }
+                }
+            }
+        }
+        oldest
+    }
+
+    /// Begins a handshake at a place. What stood there is dropped.
+    pub(crate) fn begin(
+        &mut self,
+        alloc: Global,
+        place: usize,
+        socket: TcpStream,
+        kind: Kind,
+        until: Moment,
+    )
+        ensures { vec_len self.new.rows ≡ vec_len self.old.rows }
+    {
+        let begun = Row {
+            handshake: begin(alloc, socket, kind),
+            until,
+        };
+        if let Some(row) = self.rows.get_mut(place) {
+            if row.is_some() {
+                self.turned.pushed_out = self.turned.pushed_out.saturating_add(1);
+            }
+            *row = Some(begun);
+        }
+    }
+
+    /// Goes on with the handshake at a place. Gives its socket where it is done.
+    pub(crate) fn go_on(&mut self, place: usize) -> Option<TcpStream>
+        ensures { vec_len self.new.rows ≡ vec_len self.old.rows }
+    {
+        let row = self.rows.get_mut(place)?;
+        let Row { handshake, until } = row.take()?;
+        match handshake.go_on() {
+            Step::More(handshake) => {
+                *row = Some(Row { handshake, until });
+                None
+            }
+            Step::Done(socket) => Some(socket),
+            Step::Refused => {
+                self.turned.refused = self.turned.refused.saturating_add(1);
+                None
+            }
+            Step::NoMemory => {
+                self.turned.refused = self.turned.refused.saturating_add(1);
+                None
+            }
+        }
+    }
+
+    /// Drops the handshakes whose time is over.
+    pub(crate) fn sweep(&mut self, now: Moment)
+        ensures { vec_len self.new.rows ≡ vec_len self.old.rows }
+    {
+        for place in 0..self.rows.len() {
+            if let Some(row) = self.rows.get_mut(place) {
+                let late = match row {
+                    Some(row) => row.until.micros <= now.micros,
+                    None => false,
+                };
+                if late {
+                    *row = None;
+                    self.turned.late = self.turned.late.saturating_add(1);
+                }
+            }
+        }
+    }
+}

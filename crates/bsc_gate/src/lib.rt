@@ -1,0 +1,17 @@
+//! The acceptor and the opener of links over sockets.
+//!
+//! Start at `gate`: a `Gate` takes streams, makes all their handshakes in one `poll` with its listener, and hands out
+//! links that are done, so that no peer makes it wait. `SocketOpener` opens the streams that a `StreamDialer` dials over.
+#![tactic(auto)]
+
+mod gate;
+mod handshakes;
+mod opening;
+mod socket_link;
+#[cfg(test)]
+mod tests;
+
+pub use gate::Gate;
+pub use handshakes::Turned;
+pub use opening::SocketOpener;
+pub use socket_link::{AcceptedLink, HANDSHAKE_MS, WRITE_MS};

@@ -1,0 +1,48 @@
+//! The opener of sockets.
+use crate::socket_link::{HANDSHAKE_MS, alive};
+use bsc_edge::LinkFault;
+use bsc_live::{Bells, LivePatience, LiveStream, Moment};
+use bsc_ws::{Opener, RandomKeys};
+use mio::net::TcpStream;
+use std::alloc::Global;
+use std::net::{Net, SocketAddr, SocketAddrV4};
+use std::random::RandomSource;
+use std::sync::{Arc, Wait};
+use std::time::Clock;
+
+/// Opens sockets to peers. To connect and to make the handshake a peer has 1,000 ms as a whole.
+#[derive(Drop)]
+pub struct SocketOpener<R> {
+    rt: R,
+    bells: Arc<Bells>,
+}
+
+impl<R> SocketOpener<R> {
+    /// An opener for the links of a hub or a node that has these bells.
+    pub fn new(rt: R, bells: Arc<Bells>) -> SocketOpener<R> {
+        SocketOpener { rt, bells }
+    }
+}
+
+impl<R: Clock + Net + Wait + RandomSource + Copy + Drop> Opener<
+    LiveStream<R>,
+    LivePatience<R>,
+    RandomKeys<R>,
+> for SocketOpener<R> {
+    fn open(
+        &mut self,
+        alloc: Global,
+        address: SocketAddrV4,
+    ) -> Result<(LiveStream<R>, LivePatience<R>, RandomKeys<R>), LinkFault> {
+        // It answers at once: the first write waits until the peer has answered.
+        let Ok(socket) = TcpStream::connect(&self.rt, SocketAddr::V4(address)) else {
+            return Err(LinkFault::Failed);
+        };
+        let (stream, wait) = alive(self.rt, alloc, socket, &self.bells)?;
+        let (Ok(now), Ok(bell)) = (Moment::now(&self.rt), stream.bell()) else {
+            return Err(LinkFault::Failed);
+        };
+        bell.set_until(now.after(HANDSHAKE_MS));
+        Ok((stream, wait, RandomKeys::new(self.rt)))
+    }
+}

@@ -1,0 +1,48 @@
+//! Links over sockets.
+use bsc_edge::LinkFault;
+use bsc_live::{Bells, LivePatience, LiveStream};
+use bsc_ws::{NoMask, StreamLink, settle};
+use mio::net::TcpStream;
+use std::alloc::Global;
+use std::net::Net;
+use std::sync::{Arc, Wait};
+use std::time::Clock;
+
+/// A link that a gate accepted.
+pub type AcceptedLink<R> = StreamLink<LiveStream<R>, LivePatience<R>, NoMask>;
+
+/// A handshake's time as a whole, in milliseconds.
+pub const HANDSHAKE_MS: u32 = 1_000;
+
+/// The time in which a peer must take a put, in milliseconds.
+pub const WRITE_MS: u32 = 5_000;
+
+/// A live stream over a socket, and the patience of its link.
+pub(crate) fn alive<R: Clock + Net + Wait + Copy + Drop>(
+    rt: R,
+    alloc: Global,
+    socket: TcpStream,
+    bells: &Arc<Bells>,
+) -> Result<(LiveStream<R>, LivePatience<R>), LinkFault> {
+    let Ok(stream) = LiveStream::over(rt, alloc, socket, WRITE_MS) else {
+        return Err(LinkFault::Failed);
+    };
+    let Ok(bell) = stream.bell() else {
+        return Err(LinkFault::NoMemory);
+    };
+    let Ok(bells) = Arc::try_clone(bells) else {
+        return Err(LinkFault::NoMemory);
+    };
+    Ok((stream, LivePatience::new(rt, bell, bells)))
+}
+
+/// The link over a socket whose handshake is done.
+pub(crate) fn accepted<R: Clock + Net + Wait + Copy + Drop>(
+    rt: R,
+    alloc: Global,
+    socket: TcpStream,
+    bells: &Arc<Bells>,
+) -> Result<AcceptedLink<R>, LinkFault> {
+    let (stream, wait) = alive(rt, alloc, socket, bells)?;
+    Ok(settle(alloc, stream, wait, NoMask))
+}
