@@ -1,0 +1,130 @@
+-- Scenes of a node that is told to finish, in each state of its links, by computation.
+use Rattle.std.proofs.Common.{◌≡◌, true, List, [], ◌∷◌, ◌++◌, refl}
+use Rattle.bsc_frame.specs.declared.body.Body.TheVariants.{ConnectRequest, ConnectAccept, DisconnectRequest, DisconnectAck}
+use Rattle.bsc_connector.specs.declared.hub_use.HubUse.TheVariants.{NoHub, Primary as UsesPrimary}
+use Rattle.bsc_accept.specs.Steps.{normal}
+use Rattle.bsc_direct.specs.Slots.{slots}
+use Rattle.bsc_node.specs.declared.node_event.NodeEvent.TheVariants.{Start, Opened, DialFailed, Arrived, Lost, Tick, Finish, Send}
+use Rattle.bsc_node.specs.declared.timed_event.TimedEvent.{TimedEvent}
+use Rattle.bsc_node.specs.declared.note.Note.TheVariants.{NoPath, HubNow, DirectUp, DirectDown, Finished}
+use Rattle.bsc_node.specs.declared.action.Action.TheVariants.{Dial, Take, Close, Tell}
+use Rattle.bsc_node.specs.Logs.{About}
+use Rattle.bsc_node.specs.Node.{each_actions, actions}
+use Rattle.bsc_node.specs.Conditions.{may_all_come}
+use Rattle.bsc_node.specs.Laws.{is_always_sound}
+use Rattle.std.specs.Prelude.{◌&&◌}
+use Rattle.bsc_node.proofs.Scenes.{alone, a, b, address, node, with_failover, primary_uri, plain, accept, primary, failover, direct, at, hears, puts, connects}
+
+abbrev two_hubs : About
+two_hubs = node with_failover (accept 1 ∷ plain 2 DisconnectAck ∷ plain 1 (ConnectRequest a) ∷ plain 3 DisconnectAck ∷ [])
+
+-- No link is there: it has ended at once.
+no_link : actions two_hubs (at 0 Finish ∷ []) ≡ Tell Finished ∷ []
+unfolding slots
+no_link = refl
+
+-- Between two attempts no link is there either.
+between_attempts : actions (node with_failover []) (at 0 Start ∷ at 100 (DialFailed primary) ∷ at 150 (DialFailed failover) ∷ at 200 Finish ∷ []) ≡ Tell Finished ∷ []
+unfolding slots
+between_attempts = refl
+
+-- AWAITING_WEBSOCKET: the link is closed; the failover isn't dialled any more.
+awaiting_websocket : actions two_hubs (at 0 Start ∷ at 3 Finish ∷ []) ≡ Close primary normal ∷ Tell Finished ∷ []
+unfolding slots
+awaiting_websocket = refl
+
+-- AWAITING_ACCEPT: the same.
+awaiting_accept : actions two_hubs (at 0 Start ∷ at 5 (Opened primary) ∷ at 6 Finish ∷ []) ≡ Close primary normal ∷ Tell Finished ∷ []
+unfolding slots
+awaiting_accept = refl
+
+-- Both hubs are under way: each is closed, and then it has ended.
+both_under_way : actions two_hubs (at 0 Start ∷ at 100 (DialFailed primary) ∷ at 2100 Tick ∷ at 2200 Finish ∷ []) ≡ Close primary normal ∷ Close failover normal ∷ Tell Finished ∷ []
+unfolding slots
+both_under_way = refl
+
+-- CONNECTED: a Disconnect-Request is put; DISCONNECTING: a second Finish does nothing. Its answer, the disconnect wait or
+-- the end of the link ends the node, and nothing is dialled any more.
+abbrev asked : List TimedEvent
+asked = connects ++ at 100 Finish ∷ at 101 Finish ∷ at 10099 Tick ∷ []
+
+connected : each_actions two_hubs (asked ++ hears 10099 primary (plain 2 DisconnectAck) ∷ [])
+    ≡ each_actions two_hubs connects
+    ++ (puts primary 2 DisconnectRequest ∷ [])
+    ∷ []
+    ∷ []
+    ∷ (Close primary normal ∷ Tell (HubNow NoHub) ∷ Tell Finished ∷ [])
+    ∷ []
+unfolding slots
+connected = refl
+
+by_wait : actions two_hubs (asked ++ at 10100 Tick ∷ []) ≡ Close primary normal ∷ Tell (HubNow NoHub) ∷ Tell Finished ∷ []
+unfolding slots
+by_wait = refl
+
+by_loss : actions two_hubs (asked ++ at 10100 (Lost primary) ∷ []) ≡ Tell (HubNow NoHub) ∷ Tell Finished ∷ []
+unfolding slots
+by_loss = refl
+
+-- A hub connection, an established direct connection and one that awaits its Connect-Request: in the order of the
+-- machines, with the next numbers; it has ended when the last link is over.
+with_slots :
+    each_actions two_hubs
+    (connects ++ at 20 Arrived ∷ hears 21 (direct 0) (plain 1 (ConnectRequest a)) ∷ at 22 Arrived ∷ at 100 Finish ∷ hears 101 (direct 0) (plain 3 DisconnectAck) ∷ hears 102 primary (plain 2 DisconnectAck) ∷ [])
+    ≡ each_actions two_hubs connects
+    ++ (Take (direct 0) ∷ [])
+    ∷ (puts (direct 0) 1 (ConnectAccept b) ∷ Tell (DirectUp (address 10)) ∷ [])
+    ∷ (Take (direct 1) ∷ [])
+    ∷ (puts primary 2 DisconnectRequest ∷ puts (direct 0) 3 DisconnectRequest ∷ Close (direct 1) normal ∷ [])
+    ∷ (Close (direct 0) normal ∷ Tell (DirectDown (address 10)) ∷ [])
+    ∷ (Close primary normal ∷ Tell (HubNow NoHub) ∷ Tell Finished ∷ [])
+    ∷ []
+unfolding slots
+with_slots = refl
+
+-- ---- whole runs of a node without a failover
+
+-- It connects, is told to finish, and its Disconnect-Request stays unanswered.
+run_with_link :
+    each_actions (node alone (accept 1 ∷ []))
+    (at 0 Start ∷ at 0 Tick ∷ at 50 Tick ∷ at 50 (Opened primary) ∷ hears 50 primary (accept 1) ∷ at 100 Tick ∷ at 100 Finish ∷ at 20000 Tick ∷ [])
+    ≡ (Dial primary primary_uri ∷ [])
+    ∷ []
+    ∷ []
+    ∷ (puts primary 1 (ConnectRequest b) ∷ [])
+    ∷ (Tell (HubNow UsesPrimary) ∷ [])
+    ∷ []
+    ∷ (puts primary 2 DisconnectRequest ∷ [])
+    ∷ (Close primary normal ∷ Tell (HubNow NoHub) ∷ Tell Finished ∷ [])
+    ∷ []
+unfolding slots
+run_with_link = refl
+
+-- No link comes: it dials twice.
+run_without_link :
+    each_actions (node alone [])
+    (at 0 Start ∷ at 0 Tick ∷ at 50 Tick ∷ at 50 (DialFailed primary) ∷ at 50 (Send (address 10) (1 ∷ 0 ∷ [])) ∷ at 2049 Tick ∷ at 2050 Tick ∷ at 2100 Tick ∷ at 2100 (DialFailed primary) ∷ at 2100 Finish ∷ [])
+    ≡ (Dial primary primary_uri ∷ []) ∷ [] ∷ [] ∷ [] ∷ (Tell (NoPath (address 10)) ∷ []) ∷ [] ∷ (Dial primary primary_uri ∷ []) ∷ [] ∷ [] ∷ (Tell Finished ∷ []) ∷ []
+unfolding slots
+run_without_link = refl
+
+-- ---- the events of these scenes may come, and the log is sound after each
+
+abbrev ends_with_slots : List TimedEvent
+ends_with_slots =
+    connects ++ at 20 Arrived ∷ hears 21 (direct 0) (plain 1 (ConnectRequest a)) ∷ at 22 Arrived ∷ at 100 Finish ∷ hears 101 (direct 0) (plain 3 DisconnectAck) ∷ hears 102 primary (plain 2 DisconnectAck) ∷ []
+
+with_slots-lawful : (may_all_come two_hubs ends_with_slots && is_always_sound two_hubs ends_with_slots) ≡ true
+unfolding slots
+with_slots-lawful = refl
+
+asked-lawful : (may_all_come two_hubs (asked ++ at 10100 Tick ∷ []) && is_always_sound two_hubs (asked ++ at 10100 Tick ∷ [])) ≡ true
+unfolding slots
+asked-lawful = refl
+
+abbrev both : List TimedEvent
+both = at 0 Start ∷ at 100 (DialFailed primary) ∷ at 2100 Tick ∷ at 2200 Finish ∷ at 50000 Tick ∷ []
+
+under_way-lawful : (may_all_come two_hubs both && is_always_sound two_hubs both) ≡ true
+unfolding slots
+under_way-lawful = refl

@@ -1,0 +1,13 @@
+pub mod Messages
+pub mod Logs
+pub mod Links
+pub mod Hubs
+pub mod Ways
+pub mod Ending
+pub mod Meeting
+pub mod Receiving
+pub mod Requesting
+pub mod Events
+pub mod Node
+pub mod Conditions
+pub mod Laws
