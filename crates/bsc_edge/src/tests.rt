@@ -226,10 +226,16 @@ fn dialers_in_memory(rt: HostRuntime) -> Result<(), Fail> {
     links.push(7u64)?;
     let failing = [1];
     let mut dialer = MemDialer::new(alloc, links, &failing);
-    assert_eq!(rt; dialer.dial(alloc, b"ws://a", Kind::Hub), Err(LinkFault::Failed));
+    assert_eq!(rt;
+        dialer.dial(alloc, b"ws://a", Kind::Hub),
+        Err(LinkFault::Failed)
+    );
     assert_eq!(rt; dialer.dial(alloc, b"ws://b", Kind::Direct), Ok(7));
     assert_eq!(rt; dialer.left(), 0);
-    assert_eq!(rt; dialer.dial(alloc, b"ws://c", Kind::Hub), Err(LinkFault::Failed));
+    assert_eq!(rt;
+        dialer.dial(alloc, b"ws://c", Kind::Hub),
+        Err(LinkFault::Failed)
+    );
     let mut told = Vec::new(alloc);
     for call in dialer.dialled().unwrap_or(&[]) {
         told.extend_from_slice(call.uri.as_slice())?;
