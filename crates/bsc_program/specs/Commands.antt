@@ -2,7 +2,7 @@
 use Rattle.std.specs.Prelude.{ℕ, if◌then◌else◌, List, [], ◌∷◌, codes, Option, Some, None}
 use Rattle.bsc_text.specs.Lines.{same_octets}
 use Rattle.bsc_player.specs.Playing.{Played}
-use Rattle.bsc_replay.specs.Scripts.{replay_of}
+use Rattle.bsc_script.specs.Scripts.{replay_of}
 use Rattle.bsc_replay.specs.Checks.{check_of}
 use Rattle.bsc_program.specs.declared.command.Command.{Command}
 use Rattle.bsc_program.specs.declared.command.Command.TheVariants.{Replay, Check}

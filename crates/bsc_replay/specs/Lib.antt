@@ -1,3 +1,1 @@
-pub mod Scripts
-pub mod Standing
 pub mod Checks

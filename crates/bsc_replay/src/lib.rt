@@ -1,26 +1,20 @@
 //! The commands that play lines: each is a language of the player.
 //!
 //! `replay`, in `src/script.rt`, plays a script: what a hub, and the peers that the script names, say to one
-//! another. What a script comes to is `replay_of` in `specs/Scripts.antt`, and `proofs/WorkedScripts.antt` has
-//! scripts with their texts. The loop that reads, cuts, collects and writes is `play_lines` of `bsc_player`;
-//! `read_line` of `bsc_stage` says what a line means, and its `Stage`, which is a hub with its open names,
-//! carries it out.
+//! another. What a script comes to is `replay_of` in `specs/Scripts.antt` of `bsc_script`, whose `Script` carries
+//! out each line. The loop that reads, cuts, collects and writes is `play_lines` of `bsc_player`.
 //!
 //! `check`, in `src/verdicts.rt`, answers questions on messages: `check_of` in `specs/Checks.antt`.
 #![tactic(auto)]
 
 #[cfg(test)]
-mod hub_cases;
-#[cfg(test)]
 mod replaying_tests;
 mod script;
-#[cfg(test)]
-mod script_cases;
 #[cfg(test)]
 mod verdict_tests;
 mod verdicts;
 
 pub use bsc_player::PlayEnd as ReplayEnd;
-pub use bsc_stage::counts_line;
+pub use bsc_script::counts_line;
 pub use script::replay;
 pub use verdicts::check;

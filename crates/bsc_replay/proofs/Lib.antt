@@ -1,4 +1,0 @@
-pub mod OnLiterals
-mod WorkedHubs
-mod WorkedReads
-mod WorkedScripts

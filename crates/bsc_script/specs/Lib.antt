@@ -1,0 +1,16 @@
+pub mod Lines
+pub mod Hubs
+pub mod Written
+pub mod Texts
+pub mod States
+pub mod Calls
+pub mod Carrying
+pub mod Receiving
+pub mod Emptying
+pub mod Running
+pub mod Scripts
+pub mod Settled
+pub mod Touching
+pub mod Holding
+pub mod Laws
+pub mod Between

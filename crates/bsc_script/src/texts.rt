@@ -1,0 +1,132 @@
+//! The lines that are written, put at the end of a text.
+ghost use Rattle.std.specs.Prelude.{◌≡◌, ◌++◌, IfOk, codes, decimal};
+ghost use Rattle.hex.specs.Hex.{encode_upper};
+ghost use Rattle.bsc_script.specs.Written.{says, line_text};
+ghost use Rattle.bsc_script.specs.Texts.{out_words, silent_words, behind_space, close_words, numbered_word};
+
+use bsc_accept::Closing;
+use bsc_check_lines::check_name;
+use bsc_checks::Check;
+use bsc_octets::NoMemory;
+use std::alloc::Global;
+
+/// Puts words of text.
+pub(crate) fn put_words(text: &mut Vec<u8>, words: &str) -> Result<(), NoMemory>
+    ensures { IfOk result (λ _. text.new.items ≡ text.old.items ++ words.now) }
+{
+    text.extend_from_slice(words.as_bytes())?;
+    Ok(())
+}
+
+/// Puts octets as they stand.
+fn put_octets(text: &mut Vec<u8>, octets: &[u8]) -> Result<(), NoMemory>
+    ensures { IfOk result (λ _. text.new.items ≡ text.old.items ++ octets.now) }
+{
+    text.extend_from_slice(octets)?;
+    Ok(())
+}
+
+/// Puts a number in decimal digits.
+pub(crate) fn put_number(text: &mut Vec<u8>, alloc: Global, n: u64) -> Result<(), NoMemory>
+    ensures { IfOk result (λ _. text.new.items ≡ text.old.items ++ decimal n) }
+{
+    let digits = format!(in alloc; "{n}")?;
+    put_words(text, digits.as_str())
+}
+
+/// Puts octets as hexadecimal digits, with letters in upper case.
+fn put_hex(text: &mut Vec<u8>, alloc: Global, octets: &[u8]) -> Result<(), NoMemory>
+    ensures { IfOk result (λ _. text.new.items ≡ text.old.items ++ encode_upper octets.now) }
+{
+    let Ok(digits) = hex::encode_upper(alloc, octets) else {
+        return Err(NoMemory);
+    };
+    put_words(text, digits.as_str())
+}
+
+/// Begins a line that says something of a name.
+pub(crate) fn begin_line(text: &mut Vec<u8>, name: &[u8]) -> Result<(), NoMemory>
+    ensures { IfOk result (λ _. text.new.items ≡ text.old.items ++ (name.now ++ codes " ")) }
+{
+    put_octets(text, name)?;
+    put_words(text, " ")
+}
+
+/// A line of words alone.
+pub(crate) fn put_line(text: &mut Vec<u8>, name: &[u8], words: &str) -> Result<(), NoMemory>
+    ensures { IfOk result (λ _. text.new.items ≡ text.old.items ++ line_text (says name.now words.now)) }
+{
+    begin_line(text, name)?;
+    put_words(text, words)?;
+    put_words(text, "\n")
+}
+
+/// A line of a word and a number.
+pub(crate) fn put_numbered(
+    text: &mut Vec<u8>,
+    alloc: Global,
+    name: &[u8],
+    word: &str,
+    n: u64,
+) -> Result<(), NoMemory>
+    ensures { IfOk result (λ _. text.new.items
+        ≡ text.old.items ++ line_text (says name.now (numbered_word word.now n))) }
+{
+    begin_line(text, name)?;
+    put_words(text, word)?;
+    put_words(text, " ")?;
+    put_number(text, alloc, n)?;
+    put_words(text, "\n")
+}
+
+/// The line of a message that is put.
+pub(crate) fn put_out(
+    text: &mut Vec<u8>,
+    alloc: Global,
+    name: &[u8],
+    message: &[u8],
+) -> Result<(), NoMemory>
+    ensures { IfOk result (λ _. text.new.items ≡ text.old.items ++ line_text (says name.now (out_words message.now))) }
+{
+    begin_line(text, name)?;
+    put_words(text, "out ")?;
+    put_hex(text, alloc, message)?;
+    put_words(text, "\n")
+}
+
+/// The line of a message that is met with silence.
+pub(crate) fn put_silent(text: &mut Vec<u8>, name: &[u8], check: Check) -> Result<(), NoMemory>
+    ensures { IfOk result (λ _. text.new.items ≡ text.old.items ++ line_text (says name.now (silent_words check))) }
+{
+    begin_line(text, name)?;
+    put_words(text, "silent ")?;
+    put_words(text, check_name(check))?;
+    put_words(text, "\n")
+}
+
+/// A word behind a space, where there is one.
+fn put_behind_space(text: &mut Vec<u8>, word: &str) -> Result<(), NoMemory>
+    ensures { IfOk result (λ _. text.new.items ≡ text.old.items ++ behind_space word.now) }
+{
+    if word.is_empty() {
+        return Ok(());
+    }
+    put_words(text, " ")?;
+    put_words(text, word)
+}
+
+/// The line of a WebSocket that is closed.
+pub(crate) fn put_close(
+    text: &mut Vec<u8>,
+    alloc: Global,
+    name: &[u8],
+    closing: Closing,
+) -> Result<(), NoMemory>
+    ensures { IfOk result (λ _. text.new.items ≡ text.old.items ++ line_text (says name.now (close_words closing))) }
+{
+    begin_line(text, name)?;
+    put_words(text, "close ")?;
+    put_number(text, alloc, u64::from(closing.code))?;
+    put_behind_space(text, closing.reason.text())?;
+    put_words(text, "\n")
+}

@@ -1,5 +1,0 @@
-use Rattle.bsc_stage.proofs.Fitting.{fits_if_ok}
-use Rattle.bsc_stage.proofs.reading.read_line.Goals as goal
-
-pub returns-clause-fit : goal.returns-clause-fit
-returns-clause-fit c = fits_if_ok c.args.line.now c.parse_line.result c.parse_line.ensures.read

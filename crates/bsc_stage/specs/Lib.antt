@@ -1,9 +1,0 @@
-pub mod Script
-pub mod Messages
-pub mod Texts
-pub mod Scenes
-pub mod Leaving
-pub mod Emptying
-pub mod Turns
-pub mod Holding
-pub mod Steps
