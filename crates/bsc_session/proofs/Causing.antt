@@ -1,0 +1,251 @@
+-- How a session stops: each way with what the link gave last, whether there was memory to judge it, what the hub answered
+-- last, and the fault that came last.
+use Rattle.std.proofs.Common.{◌≡◌, ◌⊎◌, ◌↔◌, ℕ, Bool, true, false, is_some, List, [], refl, ap, sym, ◌∙◌, inl, inr, Option, Some, None, Result, Ok, Err}
+use Rattle.bsc_octets.specs.declared.identity.Identity.{Identity}
+use Rattle.bsc_history.specs.declared.ending.End.{End}
+use Rattle.bsc_history.specs.declared.looks.Look.{Look}
+use Rattle.bsc_history.specs.declared.reply.Refusal.{Refusal}
+use Rattle.bsc_history.specs.declared.reply.Reply.{Reply}
+use Rattle.bsc_history.specs.declared.reply.Reply.TheVariants.{Joined, Refused as RefusedReply, Appended, Closed as ClosedReply, Skipped, NoHolder, SentAll, NotCurrent, Stopped, Gone, Counted}
+use Rattle.bsc_edge.specs.declared.fault.LinkFault.{LinkFault}
+use Rattle.bsc_edge.specs.declared.fault.LinkFault.TheVariants.{Failed, NoMemory as MemoryFault}
+use Rattle.bsc_edge.specs.declared.incoming.Incoming.{Incoming}
+use Rattle.bsc_edge.specs.declared.incoming.Incoming.TheVariants.{Message, Text, Quiet, Closed}
+use Rattle.bsc_accept.specs.declared.closing.Closing.{Closing}
+use Rattle.bsc_accept.specs.declared.step.Step.{Step}
+use Rattle.bsc_accept.specs.declared.step.Step.TheVariants.{Ask, Carry, Nothing}
+use Rattle.bsc_session.specs.declared.why.Why.{Why}
+use Rattle.bsc_session.specs.declared.why.Why.TheVariants.{PeerClosed, NotBinary, PeerLeft, Refused, WaitExpired, Idle, EndedBy, Worn, LinkFault as WhyLinkFault, NoMemory, Spent}
+use Rattle.bsc_session.specs.declared.stop.Stop.{Stop}
+use Rattle.bsc_session.specs.Answering.{Fits, calls_hub, cause_of, last_wanted, stop_by, stop_given, stop_judged, stop_message}
+use Rattle.bsc_session.specs.Causes.{fault_at, given_in, judged_in, answer_in, hearing_fault, IsRefused, LacksMemory, AreExact, CausesAreExact}
+use Rattle.bsc_session.specs.Course.{standing, EachTurn, and_last, Stops}
+use Rattle.bsc_session.specs.Judging.{LacksAtPass, heard, heard_step}
+use Rattle.bsc_session.specs.Puts.{HasPut, octets_in}
+use Rattle.bsc_session.specs.Reading.{ticked, wanted_at}
+use Rattle.bsc_session.specs.Receiving.{Answer, replies, worn, no_memory, Hearing}
+use Rattle.bsc_session.specs.Standings.{Standing, Terms, begun}
+use Rattle.bsc_session.specs.Stops.{stop_at, stop_if, closes, first_of, closing_in}
+use Rattle.bsc_session.specs.Taking.{Opening, put_first, waiting_for, ended_by, end_step, stop_before, opened}
+use Rattle.bsc_session.specs.Turns.{Turn, IsTurn, stop_in}
+use Rattle.bsc_session.proofs.EndingAtFault.{nothing_put, some_is, alone, no_stop, after_none, each_last, none_put, unheard, unheard_closed, unheard_text}
+
+-- the hub answered neither Worn nor NoMemory
+abbrev IsTaken : Option Answer → Type 0
+IsTaken a = stop_by a ≡ None
+
+data Ends : Option (Result Incoming LinkFault) → Bool → Option Answer → Option LinkFault → Why → Type 0 where
+  unjoined : Ends None true None None WaitExpired
+  idle : Ends None true None None Idle
+  cut : Ends None true None (Some Failed) WhyLinkFault
+  cut_memory : Ends None true None (Some MemoryFault) NoMemory
+  parted : (e : End) → Ends None true None None (EndedBy e)
+  unheard_fault : Ends (Some (Err Failed)) true None (Some Failed) WhyLinkFault
+  unheard_memory : Ends (Some (Err MemoryFault)) true None (Some MemoryFault) NoMemory
+  closed : Ends (Some (Ok Closed)) true None None PeerClosed
+  text : Ends (Some (Ok Text)) true None None NotBinary
+  unjudged : (x : List ℕ) → Ends (Some (Ok (Message x))) false None None NoMemory
+  is_worn : (x : List ℕ) → Ends (Some (Ok (Message x))) true (Some worn) None Worn
+  memory : (x : List ℕ) → Ends (Some (Ok (Message x))) true (Some no_memory) None NoMemory
+  failed : (x : List ℕ) (a : Option Answer) → IsTaken a → Ends (Some (Ok (Message x))) true a (Some Failed) WhyLinkFault
+  failed_memory : (x : List ℕ) (a : Option Answer) → IsTaken a → Ends (Some (Ok (Message x))) true a (Some MemoryFault) NoMemory
+  refused : (x : List ℕ) (l : List Look) (r : Refusal) → Ends (Some (Ok (Message x))) true (Some (replies l (RefusedReply r))) None (Refused r)
+  left : (x : List ℕ) (a : Option Answer) → IsTaken a → ((r : Refusal) → IsRefused a r → ⊥) → Ends (Some (Ok (Message x))) true a None PeerLeft
+
+why_is : (a b : Stop) → Some a ≡ Some b → b.why ≡ a.why
+why_is a b h = ap (λ (s : Stop). s.why) (some_is a b h)
+
+no_put : (fault : Option LinkFault) → HasPut [] fault → fault ≡ None
+no_put None h = refl
+no_put (Some f) h = absurd h
+
+no_answer : (a : Option Answer) → is_some a ≡ false → a ≡ None
+no_answer None h = refl
+no_answer (Some x) h = cc
+
+-- ---- the opening
+
+waiting_ends : (conn : Option ℕ) → Ends None true None None (waiting_for conn)
+waiting_ends None = unjoined
+waiting_ends (Some c) = idle
+
+cut_ends : (f : LinkFault) → Ends None true None (Some f) (stop_at f).why
+cut_ends Failed = cut
+cut_ends MemoryFault = cut_memory
+
+closes_why : (w : Why) (c : Option Closing) (stop : Stop) → closes w c ≡ Some stop → stop.why ≡ w
+closes_why w None stop h = cc
+closes_why w (Some c) stop h = why_is _ stop h
+
+part_ends : (v : Terms) (s : Standing) (met : Option End) (now : ℕ) (stop : Stop) → closes (ended_by met) (closing_in (end_step v s now met)) ≡ Some stop → Ends None true None None stop.why
+part_ends v s None now stop h = cc
+part_ends v s (Some e) now stop h = rw (closes_why (EndedBy e) (closing_in (end_step v s now (Some e))) stop h) (parted e)
+
+opening_ends : (conn : Option ℕ) (tick : Option Closing) (v : Terms) (s : Standing) (met : Option End) (now : ℕ) (os : List (List ℕ)) (fault : Option LinkFault) (stop : Stop)
+    → HasPut os fault → (tick ≡ None) ⊎ (os ≡ [])
+    → first_of (closes (waiting_for conn) tick) (first_of (stop_if fault) (closes (ended_by met) (closing_in (end_step v s now met)))) ≡ Some stop
+    → Ends None true None fault stop.why
+opening_ends conn None v s met now os None stop h quiet is = part_ends v s met now stop is
+opening_ends conn None v s met now os (Some f) stop h quiet is = rw (why_is (stop_at f) stop is) (cut_ends f)
+opening_ends conn (Some c) v s met now os fault stop h (inl quiet) is = cc
+opening_ends conn (Some c) v s met now os fault stop h (inr none) is =
+    let k : HasPut [] fault = rw none at h in
+    rw (no_put fault k, why_is _ stop is) (waiting_ends conn)
+
+-- ---- the hearing
+
+unheard_ends : (f : LinkFault) → Ends (Some (Err f)) true None (Some f) (stop_at f).why
+unheard_ends Failed = unheard_fault
+unheard_ends MemoryFault = unheard_memory
+
+failed_ends : (x : List ℕ) (a : Option Answer) (f : LinkFault) → IsTaken a → Ends (Some (Ok (Message x))) true a (Some f) (stop_at f).why
+failed_ends x a Failed h = failed x a h
+failed_ends x a MemoryFault h = failed_memory x a h
+
+none_refused : (r : Refusal) → IsRefused None r → ⊥
+none_refused r h = (let k = h.1 in cc)
+
+joined_refused : (l : List Look) (c : ℕ) (x : Option ℕ) (r : Refusal) → IsRefused (Some (replies l (Joined c x))) r → ⊥
+joined_refused l c x r h = (let k = h.1 in cc)
+
+-- a message that was answered with no fault
+left_ends : (x : List ℕ) (v : Terms) (s : Standing) (st : Step) (a : Option Answer) (stop : Stop) → IsTaken a → Fits st a → closes (cause_of st a) (closing_in (last_wanted v s st a)) ≡ Some stop → is_some a ≡ calls_hub st
+    → Ends (Some (Ok (Message x))) true a None stop.why
+left_ends x v s (Ask who) (Some (replies l (RefusedReply r))) stop h fits is calls = rw (closes_why (Refused r) (closing_in (last_wanted v s (Ask who) (Some (replies l (RefusedReply r))))) stop is) (refused x l r)
+left_ends x v s (Ask who) (Some (replies l (Joined c y))) stop h fits is calls = rw (closes_why PeerLeft (closing_in (last_wanted v s (Ask who) (Some (replies l (Joined c y))))) stop is) (left x (Some (replies l (Joined c y))) refl (joined_refused l c y))
+left_ends x v s (Ask who) a stop h fits is calls = cc
+left_ends x v s Carry a stop h fits is calls = cc
+left_ends x v s st None stop h fits is calls = rw (closes_why PeerLeft (closing_in (last_wanted v s st None)) stop is) (left x None refl none_refused)
+left_ends x v s st (Some a) stop h fits is calls = cc
+
+message_ends : (x : List ℕ) (v : Terms) (s : Standing) (st : Step) (a : Option Answer) (fault : Option LinkFault) (stop : Stop) → is_some a ≡ calls_hub st → Fits st a → HasPut (octets_in (last_wanted v s st a)) fault → stop_message v s st a fault ≡ Some stop
+    → Ends (Some (Ok (Message x))) true a fault stop.why
+message_ends x v s st (Some worn) fault stop calls fits put is =
+    let k : HasPut [] fault = rw (nothing_put v s st worn (inl refl) calls) at put in
+    rw (no_put fault k, why_is _ stop is) (is_worn x)
+message_ends x v s st (Some no_memory) fault stop calls fits put is =
+    let k : HasPut [] fault = rw (nothing_put v s st no_memory (inr refl) calls) at put in
+    rw (no_put fault k, why_is _ stop is) (memory x)
+message_ends x v s st a None stop calls fits put is = left_ends x v s st a stop refl fits is calls
+message_ends x v s st a (Some f) stop calls fits put is = rw (why_is (stop_at f) stop is) (failed_ends x a f refl)
+
+judged_ends : (x : List ℕ) (v : Terms) (s0 s : Standing) (now : ℕ) (judged : Bool) (a : Option Answer) (fault : Option LinkFault) (stop : Stop)
+    → is_some a ≡ calls_hub (heard_step v s0 now judged (Ok (Message x))) → Fits (heard_step v s0 now judged (Ok (Message x))) a → HasPut (octets_in (last_wanted v s (heard_step v s0 now judged (Ok (Message x))) a)) fault
+    → stop_judged judged (stop_message v s (heard_step v s0 now judged (Ok (Message x))) a fault) ≡ Some stop
+    → Ends (Some (Ok (Message x))) judged a fault stop.why
+judged_ends x v s0 s now true a fault stop calls fits put is = message_ends x v s (heard_step v s0 now true (Ok (Message x))) a fault stop calls fits put is
+judged_ends x v s0 s now false a fault stop calls fits put is = rw (no_answer a calls, no_put fault put, why_is _ stop is) (unjudged x)
+
+-- of what isn't a message the machine isn't told, and nothing is called or put
+quiet_fault : (v : Terms) (s : Standing) (st : Step) (a : Option Answer) (fault : Option LinkFault) → st ≡ Nothing → is_some a ≡ calls_hub st → HasPut (octets_in (last_wanted v s st a)) fault → (a ≡ None) × (fault ≡ None)
+quiet_fault v s st a fault is calls put =
+    let c : is_some a ≡ calls_hub Nothing = rw is at calls in
+    let p : HasPut (octets_in (last_wanted v s Nothing a)) fault = rw is at put in
+    (no_answer a c, no_put fault p)
+
+given_ends : (v : Terms) (s0 s : Standing) (now : ℕ) (judged : Bool) (given : Result Incoming LinkFault) (a : Option Answer) (fault : Option LinkFault) (stop : Stop)
+    → LacksAtPass v s0 judged given → is_some a ≡ calls_hub (heard_step v s0 now judged given) → Fits (heard_step v s0 now judged given) a → HasPut (octets_in (last_wanted v s (heard_step v s0 now judged given) a)) fault
+    → stop_given given (stop_judged judged (stop_message v s (heard_step v s0 now judged given) a fault)) ≡ Some stop
+    → Ends (Some given) judged a (fault_at given fault) stop.why
+given_ends v s0 s now true (Err f) a fault stop lacks calls fits put is = rw (no_answer a calls, why_is (stop_at f) stop is) (unheard_ends f)
+given_ends v s0 s now true (Ok Closed) a fault stop lacks calls fits put is = rw (no_answer a calls, no_put fault put, why_is _ stop is) closed
+given_ends v s0 s now true (Ok Text) a fault stop lacks calls fits put is = rw (no_answer a calls, no_put fault put, why_is _ stop is) text
+given_ends v s0 s now true (Ok Quiet) a fault stop lacks calls fits put is = cc
+given_ends v s0 s now judged (Ok (Message x)) a fault stop lacks calls fits put is = judged_ends x v s0 s now judged a fault stop calls fits put is
+given_ends v s0 s now false (Err f) a fault stop lacks calls fits put is = absurd lacks
+given_ends v s0 s now false (Ok Closed) a fault stop lacks calls fits put is = absurd lacks
+given_ends v s0 s now false (Ok Text) a fault stop lacks calls fits put is = absurd lacks
+given_ends v s0 s now false (Ok Quiet) a fault stop lacks calls fits put is = absurd lacks
+
+-- ---- the turn
+
+turn_ends : (v : Terms) (s : Standing) (o : Opening) (h : Option Hearing) (stop : Stop) → IsTurn v s (record { opening = o; hearing = h }) → stop_in v s (record { opening = o; hearing = h }) ≡ Some stop
+    → Ends (given_in h) (judged_in h) (answer_in h) (hearing_fault o.fault h) stop.why
+turn_ends v s o None stop is stops = opening_ends s.conn (closing_in (wanted_at v s o.reading)) v (ticked s o.reading) o.met o.reading (put_first v s o) o.fault stop is.opening.cause (none_put v s o is.opening) (sym (alone (stop_before v s o)) ∙ stops)
+turn_ends v s o (Some h) stop is stops = given_ends v (opened s o) (heard v (opened s o) o.reading h.judged h.given) o.reading h.judged h.given h.answer h.fault stop is.hearing.memory is.hearing.calls is.hearing.fits is.hearing.cause
+    (after_none (stop_before v s o) _ stop (no_stop (stop_before v s o) is.heard) stops)
+
+-- ---- the rows
+
+not_worn : (a : Option Answer) → IsTaken a → a ≡ Some worn → ⊥
+not_worn a taken h = (let k = rw h at taken in cc)
+
+not_memory : (a : Option Answer) → IsTaken a → a ≡ Some no_memory → ⊥
+not_memory a taken h = (let k = rw h at taken in cc)
+
+row_peer_closed : {g : Option (Result Incoming LinkFault)} {j : Bool} {a : Option Answer} {f : Option LinkFault} {w : Why} → Ends g j a f w → w ≡ PeerClosed ↔ (g ≡ Some (Ok Closed))
+row_peer_closed closed = (λ h. refl, λ h. refl)
+row_peer_closed e = (λ h. cc, λ h. cc)
+
+row_not_binary : {g : Option (Result Incoming LinkFault)} {j : Bool} {a : Option Answer} {f : Option LinkFault} {w : Why} → Ends g j a f w → w ≡ NotBinary ↔ (g ≡ Some (Ok Text))
+row_not_binary text = (λ h. refl, λ h. refl)
+row_not_binary e = (λ h. cc, λ h. cc)
+
+row_worn : {g : Option (Result Incoming LinkFault)} {j : Bool} {a : Option Answer} {f : Option LinkFault} {w : Why} → Ends g j a f w → w ≡ Worn ↔ (a ≡ Some worn)
+row_worn (is_worn x) = (λ h. refl, λ h. refl)
+row_worn (failed x a t) = (λ h. cc, λ h. absurd (not_worn a t h))
+row_worn (failed_memory x a t) = (λ h. cc, λ h. absurd (not_worn a t h))
+row_worn (left x a t n) = (λ h. cc, λ h. absurd (not_worn a t h))
+row_worn e = (λ h. cc, λ h. cc)
+
+reply_is : (l k : List Look) (p q : Reply) → Some (replies l p) ≡ Some (replies k q) → p ≡ q
+reply_is l k p q h = cc
+
+row_refused : {g : Option (Result Incoming LinkFault)} {j : Bool} {a : Option Answer} {f : Option LinkFault} {w : Why} → (r : Refusal) → Ends g j a f w → w ≡ Refused r ↔ (IsRefused a r × (f ≡ None))
+row_refused r (refused x l k) = (λ h. ((l, cc), refl), λ h. (let e = reply_is l h.0.0 (RefusedReply k) (RefusedReply r) h.0.1 in cc))
+row_refused r (failed x a t) = (λ h. (([], cc), cc), λ h. (let e = h.1 in cc))
+row_refused r (failed_memory x a t) = (λ h. (([], cc), cc), λ h. (let e = h.1 in cc))
+row_refused r (left x a t n) = (λ h. (([], cc), cc), λ h. absurd (n r h.0))
+row_refused r e = (λ h. (([], cc), cc), λ h. (let k = h.0.1 in cc))
+
+row_link_fault : {g : Option (Result Incoming LinkFault)} {j : Bool} {a : Option Answer} {f : Option LinkFault} {w : Why} → Ends g j a f w → w ≡ WhyLinkFault ↔ (f ≡ Some Failed)
+row_link_fault cut = (λ h. refl, λ h. refl)
+row_link_fault unheard_fault = (λ h. refl, λ h. refl)
+row_link_fault (failed x a t) = (λ h. refl, λ h. refl)
+row_link_fault e = (λ h. cc, λ h. cc)
+
+abbrev Lacks : Bool → Option Answer → Option LinkFault → Type 0
+Lacks j a f = (f ≡ Some MemoryFault) ⊎ ((j ≡ false) ⊎ (a ≡ Some no_memory))
+
+row_no_memory : {g : Option (Result Incoming LinkFault)} {j : Bool} {a : Option Answer} {f : Option LinkFault} {w : Why} → Ends g j a f w → w ≡ NoMemory ↔ Lacks j a f
+row_no_memory cut_memory = (λ h. inl refl, λ h. refl)
+row_no_memory unheard_memory = (λ h. inl refl, λ h. refl)
+row_no_memory (failed_memory x a t) = (λ h. inl refl, λ h. refl)
+row_no_memory (memory x) = (λ h. inr (inr refl), λ h. refl)
+row_no_memory (unjudged x) = (λ h. inr (inl refl), λ h. refl)
+row_no_memory (failed x a t) = (λ h. inl cc, λ h. elim h [ inl k ↦ cc | inr k ↦ elim k [ inl i ↦ cc | inr i ↦ absurd (not_memory a t i) ] ])
+row_no_memory (left x a t n) = (λ h. inl cc, λ h. elim h [ inl k ↦ cc | inr k ↦ elim k [ inl i ↦ cc | inr i ↦ absurd (not_memory a t i) ] ])
+row_no_memory e = (λ h. inl cc, λ h. elim h [ inl k ↦ cc | inr k ↦ elim k [ inl i ↦ cc | inr i ↦ cc ] ])
+
+not_spent : {g : Option (Result Incoming LinkFault)} {j : Bool} {a : Option Answer} {f : Option LinkFault} {w : Why} → Ends g j a f w → w ≡ Spent → ⊥
+not_spent unjoined h = cc
+not_spent e h = cc
+
+exact_turn : (t : Turn) (w : Why) → Ends (given_in t.hearing) (judged_in t.hearing) (answer_in t.hearing) (hearing_fault t.opening.fault t.hearing) w → AreExact (Some t) w
+exact_turn t w e = record {
+  peer_closed = row_peer_closed e;
+  not_binary = row_not_binary e;
+  worn = row_worn e;
+  refused = λ r. row_refused r e;
+  link_fault = row_link_fault e;
+  no_memory = row_no_memory e;
+  spent = (λ h. absurd (not_spent e h), λ h. cc);
+}
+
+exact_spent : (w : Why) → w ≡ Spent → AreExact None w
+exact_spent w is = record {
+  peer_closed = (λ h. cc, λ h. cc);
+  not_binary = (λ h. cc, λ h. cc);
+  worn = (λ h. cc, λ h. cc);
+  refused = λ r. (λ h. (([], cc), refl), λ h. (let k = h.0.1 in cc));
+  link_fault = (λ h. cc, λ h. cc);
+  no_memory = (λ h. inl cc, λ h. elim h [ inl k ↦ cc | inr k ↦ elim k [ inl i ↦ cc | inr i ↦ cc ] ]);
+  spent = (λ h. refl, λ h. is);
+}
+
+exact : (v : Terms) (s : Standing) (ts : List Turn) (last : Option Turn) (stop : Stop) → EachTurn IsTurn v s (and_last ts last) → Stops v (standing v s ts) last stop → AreExact last stop.why
+exact v s ts None stop are stops = exact_spent stop.why (ap (λ (x : Stop). x.why) stops.1)
+exact v s ts (Some t) stop are stops = exact_turn t stop.why (turn_ends v (standing v s ts) t.opening t.hearing stop (each_last IsTurn v s ts t are) stops)
+
+pub causes_are_exact : CausesAreExact
+causes_are_exact v c = exact v begun c.went_on c.last c.stop c.turns c.stops

@@ -1,0 +1,346 @@
+-- What follows the thing given.
+use Rattle.std.proofs.Common.{◌≡◌, ◌≢◌, ℕ, ◌+◌, Bool, true, false, cond, is_some, List, [], ◌∷◌, ◌++◌, refl, ap, sym, ◌∙◌, append-nil, Option, Some, None, Result, Ok, Err}
+use Rattle.bsc_octets.specs.declared.identity.Identity.{Identity}
+use Rattle.bsc_octets.specs.declared.envelope.Envelope.{Envelope}
+use Rattle.bsc_history.specs.declared.entry.Entry.{Entry}
+use Rattle.bsc_frame.specs.declared.body.Body.{Body}
+use Rattle.bsc_frame.specs.declared.body.Body.TheVariants.{HeartbeatRequest, DisconnectRequest}
+use Rattle.bsc_frame.specs.declared.message.Message.{Message as Bvlc}
+use Rattle.bsc_checks.specs.declared.phase.Phase.{Phase}
+use Rattle.bsc_checks.specs.declared.phase.Phase.TheVariants.{Connected as PhaseConnected}
+use Rattle.bsc_checks.specs.declared.place.Place.TheVariants.{HubPort}
+use Rattle.bsc_verdict.specs.Outcomes.{outcome_of}
+use Rattle.bsc_checks.specs.declared.verdict.Verdict.{Verdict}
+use Rattle.bsc_checks.specs.declared.verdict.Verdict.TheVariants.{Pass, Carry as Carried, Silent, Nak}
+use Rattle.bsc_turn.specs.declared.pass.Pass.{Pass as CallerPass}
+use Rattle.bsc_turn.specs.Passes.{number_of}
+use Rattle.bsc_hub.specs.declared.hub.Hub.{Hub}
+use Rattle.bsc_edge.specs.declared.fault.LinkFault.{LinkFault}
+use Rattle.bsc_edge.specs.declared.fault.LinkFault.TheVariants.{NoMemory}
+use Rattle.bsc_edge.specs.declared.incoming.Incoming.{Incoming}
+use Rattle.bsc_edge.specs.declared.incoming.Incoming.TheVariants.{Message}
+use Rattle.bsc_edge.specs.declared.said.Said.{Said}
+use Rattle.bsc_edge.specs.declared.said.Said.TheVariants.{Gave}
+use Rattle.bsc_edge.specs.Told.{Grows}
+use Rattle.bsc_accept.specs.declared.accepting.Accepting.{Accepting}
+use Rattle.bsc_accept.specs.declared.event.Event.{Event}
+use Rattle.bsc_accept.specs.declared.event.Event.TheVariants.{Message as Came}
+use Rattle.bsc_accept.specs.declared.closing.Closing.{Closing}
+use Rattle.bsc_accept.specs.declared.stage.Stage.{Stage}
+use Rattle.bsc_accept.specs.declared.stage.Stage.TheVariants.{Idle}
+use Rattle.bsc_accept.specs.declared.step.Step.{Step}
+use Rattle.bsc_accept.specs.declared.step.Step.TheVariants.{Ask, Reply, ReplyClose, Carry, Close, Nothing}
+use Rattle.bsc_accept.specs.Messages.{is_farewell_answer, who_asks}
+use Rattle.bsc_accept.specs.Past.{Standing as MachineStanding, awaiting_request, connected, disconnecting, phase, phase_named, standing}
+use Rattle.bsc_accept.specs.Standing.{Answers as MachineAnswers, IsOpen, IsOver, LeftBy, StandsFor, is_open}
+use Rattle.bsc_accept.specs.Steps.{ask_step, connected_step, message_step, normal}
+use Rattle.bsc_session.specs.declared.at.At.{At}
+use Rattle.bsc_session.specs.declared.member.Member.{Member}
+use Rattle.bsc_session.specs.declared.stop.Stop.{Stop}
+use Rattle.bsc_session.specs.declared.why.Why.TheVariants.{PeerLeft}
+use Rattle.bsc_session.specs.Answering.{Fits, answered, called, calls_hub, cause_of, forwarded_by, last_wanted, stop_by, stop_given, stop_judged, stop_message}
+use Rattle.bsc_session.specs.Inner.{Answers, Calls, Carries, Follows, Forwards, HasStanding, Hears, HearsMessage, Held, IsMember, Runs, Tied, conn_of, empties_by, forward_made, given_by, has_joined}
+use Rattle.bsc_session.specs.Judging.{LacksAtPass, heard_step, heard_told, verdict_on}
+use Rattle.bsc_session.specs.Serving.{Goes}
+use Rattle.bsc_session.specs.Puts.{HasPut, octets_in, puts}
+use Rattle.bsc_session.specs.Receiving.{Answer, replies, worn, no_memory, received_one}
+use Rattle.bsc_session.specs.Standings.{Standing, Terms, start_of, told, wanted}
+use Rattle.bsc_session.specs.Stops.{first_of, stop_at}
+use Rattle.bsc_session.proofs.Asking.{left_open, tied_told}
+use Rattle.bsc_session.proofs.HubCalls.{goes_as, goes_nowhere, member_stays}
+use Rattle.bsc_session.proofs.Lists.{grown, grows-nil, grows_stays}
+
+-- ---- the step of a message
+
+-- the step of a message calls no hub
+pub plain_answers : (h : Hub) (v : Terms) (s : Standing) (st : Step) (thing : Result Incoming LinkFault) (p : CallerPass) (a : At) (old new : Option (List Said)) (stop : Option Stop)
+    → Held h v p a s → StandsFor a.machine (start_of v s) s.events → Tied s → LeftBy st a.machine
+    → calls_hub st ≡ false → last_wanted v s st None ≡ st → answered s st None ≡ s → called v s st thing None ≡ [] → cause_of st None ≡ PeerLeft → Fits st None
+    → Carries old new st PeerLeft stop
+    → Answers v s st thing h p p a a old new stop
+plain_answers h v s st thing p a old new stop held stood tied left plain same stays none why fits k = record {
+  answer = None;
+  fault = k.fault;
+  calls = sym plain;
+  fits = fits;
+  goes = goes_as h p p [] _ (sym none) (goes_nowhere h p held.caller);
+  said = rw same k.said;
+  cause = rw same k.cause;
+  stops = rw (same, why) k.stops;
+  given_same = refl;
+  empties_same = refl;
+  held = rw stays held;
+  runs = λ going. rw stays (record { machine = stood; waits = left_open st a.machine k.fault PeerLeft stop left plain k.stops going; tied = tied });
+}
+
+is_conn : (m : Option Member) (c : ℕ) (n : Member) → m ≡ Some n → n.conn ≡ c → conn_of m ≡ Some c
+is_conn m c n is e = rw (is, e) refl
+
+forward_called : (v : Terms) (s : Standing) (p : CallerPass) (m : List ℕ) (c : ℕ) (answer : Answer) → number_of p ≡ v.caller → s.conn ≡ Some c
+    → forward_made (number_of p) c m answer ≡ called v s Carry (Ok (Message m)) (Some answer)
+forward_called v s p m c (replies looks reply) n is = rw (n, is) refl
+forward_called v s p m c worn n is = refl
+forward_called v s p m c no_memory n is = refl
+
+ends_so : (answer : Answer) → stop_by (Some answer) ≡ first_of (stop_by (Some answer)) None
+ends_so (replies looks reply) = refl
+ends_so worn = refl
+ends_so no_memory = refl
+
+-- a forward's answer stops the session, or it goes on as it stood
+pub carry_answers : (h : Hub) (v : Terms) (s : Standing) (p q : CallerPass) (a : At) (m : List ℕ) (n : Member) (old new : Option (List Said)) (stop : Option Stop)
+    → Held h v p a s → StandsFor a.machine (start_of v s) s.events → Tied s → LeftBy Carry a.machine → a.member ≡ Some n
+    → Forwards h p q n.conn m old new stop
+    → Answers v s Carry (Ok (Message m)) h p q a a old new stop
+carry_answers h v s p q a m n old new stop held stood tied left is f =
+    let conn : s.conn ≡ Some n.conn = sym held.follows.conn ∙ is_conn a.member n.conn n is refl in
+    record {
+      answer = Some f.answer;
+      fault = None;
+      calls = refl;
+      fits = tt;
+      goes = goes_as h p q _ _ (forward_called v s p m n.conn f.answer held.number conn) f.calls.goes;
+      said = grows_stays old new f.said;
+      cause = tt;
+      stops = f.stops ∙ ends_so f.answer;
+      given_same = refl;
+      empties_same = refl;
+      held = record { caller = f.calls.goes.caller; number = f.calls.goes.number ∙ held.number; member = member_stays h p q _ a.member f.calls held.member; follows = held.follows };
+      runs = λ going. record { machine = stood; waits = left; tied = tied };
+    }
+
+-- ---- which step a message brings
+
+no_asks : (b : Bool) (c : Closing) (who : Identity) → cond b (Close c) Nothing ≡ Ask who → ⊥
+no_asks true c who h = cc
+no_asks false c who h = cc
+
+no_carries : (b : Bool) (c : Closing) → cond b (Close c) Nothing ≡ Carry → ⊥
+no_carries true c h = cc
+no_carries false c h = cc
+
+connected_asks : (id : ℕ) (body : Body) (who : Identity) → connected_step id body ≡ Ask who → ⊥
+connected_asks id HeartbeatRequest who h = cc
+connected_asks id DisconnectRequest who h = cc
+connected_asks id body who h = cc
+
+connected_carries : (id : ℕ) (body : Body) → connected_step id body ≡ Carry → ⊥
+connected_carries id HeartbeatRequest h = cc
+connected_carries id DisconnectRequest h = cc
+connected_carries id body h = cc
+
+asked_who : (o : Option Identity) (who : Identity) → ask_step o ≡ Ask who → o ≡ Some who
+asked_who None who h = cc
+asked_who (Some w) who h = cc
+
+no_ask_carries : (o : Option Identity) → ask_step o ≡ Carry → ⊥
+no_ask_carries None h = cc
+no_ask_carries (Some w) h = cc
+
+-- who asks hasn't joined, and said so by a message that passed
+record IsAsked (g : MachineStanding) (verdict : Verdict) (who : Identity) : Type 0 where
+  apart : has_joined g ≡ false
+  msg : Bvlc
+  passes : verdict ≡ Pass msg
+  says : who_asks msg.body ≡ Some who
+
+asks_by : (g : MachineStanding) (verdict : Verdict) (who : Identity) → message_step g verdict ≡ Ask who → IsAsked g verdict who
+asks_by awaiting_request (Pass msg) who h = record { apart = refl; msg = msg; passes = refl; says = asked_who (who_asks msg.body) who h }
+asks_by connected (Pass msg) who h = absurd (connected_asks msg.id msg.body who h)
+asks_by (disconnecting f) (Pass msg) who h = absurd (no_asks (is_farewell_answer f.id msg) normal who h)
+asks_by g (Carried e) who h = cc
+asks_by g (Silent check) who h = cc
+asks_by g (Nak check octets) who h = cc
+
+carries_by : (g : MachineStanding) (verdict : Verdict) → message_step g verdict ≡ Carry → (e : Envelope) × (verdict ≡ Carried e)
+carries_by awaiting_request (Pass msg) h = absurd (no_ask_carries (who_asks msg.body) h)
+carries_by connected (Pass msg) h = absurd (connected_carries msg.id msg.body h)
+carries_by (disconnecting f) (Pass msg) h = absurd (no_carries (is_farewell_answer f.id msg) normal h)
+carries_by g (Carried e) h = (e, refl)
+carries_by g (Silent check) h = cc
+carries_by g (Nak check octets) h = cc
+
+pub connected_joined : (g : MachineStanding) → phase_named g ≡ PhaseConnected → has_joined g ≡ true
+connected_joined awaiting_request h = cc
+connected_joined connected h = refl
+connected_joined (disconnecting f) h = refl
+
+none_of : (m : Option Member) (c : Option ℕ) → conn_of m ≡ c → false ≡ is_some c → m ≡ None
+none_of None c h k = refl
+none_of (Some n) c h k = (let e = sym h in let z : false ≡ is_some (Some n.conn) = rw e at k in cc)
+
+pub some_of : (m : Option Member) (c : Option ℕ) → conn_of m ≡ c → true ≡ is_some c → is_some m ≡ true
+some_of None c h k = (let e = sym h in let z : true ≡ is_some (conn_of None) = rw e at k in cc)
+some_of (Some n) c h k = refl
+
+pub asks_alone : (h : Hub) (v : Terms) (s : Standing) (p : CallerPass) (a : At) (now : ℕ) (verdict : Verdict) (m : Accepting) (st : Step) (who : Identity)
+    → Held h v p a s → Runs v a s → MachineAnswers a.machine m (Came now verdict) st → st ≡ Ask who → a.member ≡ None
+asks_alone h v s p a now verdict m st who held runs answers is =
+    let does = answers (start_of v s) s.events runs.machine in
+    let k = asks_by (standing s.events) verdict who (sym does.0 ∙ is) in
+    none_of a.member s.conn held.follows.conn (sym k.apart ∙ runs.tied)
+
+-- what is asked of who asks holds of one that a message says that passed
+pub asks_so : (v : Terms) (s : Standing) (a : At) (now : ℕ) (verdict : Verdict) (m : Accepting) (st : Step) (who : Identity) (P : Identity → Type 0)
+    → Runs v a s → MachineAnswers a.machine m (Came now verdict) st → st ≡ Ask who
+    → ((msg : Bvlc) (w : Identity) → verdict ≡ Pass msg → who_asks msg.body ≡ Some w → P w) → P who
+asks_so v s a now verdict m st who P runs answers is so =
+    let does = answers (start_of v s) s.events runs.machine in
+    let k = asks_by (standing s.events) verdict who (sym does.0 ∙ is) in
+    so k.msg who k.passes k.says
+
+pub carries_so : (v : Terms) (s : Standing) (a : At) (now : ℕ) (verdict : Verdict) (m : Accepting) (st : Step) (P : Type 0)
+    → Runs v a s → MachineAnswers a.machine m (Came now verdict) st → st ≡ Carry
+    → ((e : Envelope) → verdict ≡ Carried e → P) → P
+carries_so v s a now verdict m st P runs answers is so =
+    let does = answers (start_of v s) s.events runs.machine in
+    let k = carries_by (standing s.events) verdict (sym does.0 ∙ is) in
+    so k.0 k.1
+
+pub connected_some : (h : Hub) (v : Terms) (s : Standing) (p : CallerPass) (a : At) → Held h v p a s → Runs v a s → phase s.events ≡ PhaseConnected → is_some a.member ≡ true
+connected_some h v s p a held runs is = some_of a.member s.conn held.follows.conn (sym (connected_joined (standing s.events) is) ∙ runs.tied)
+
+open_not_over : (waits : Stage) → is_open waits ≡ true → waits ≡ Idle → ⊥
+open_not_over waits o is = (let k : is_open Idle ≡ true = rw is at o in cc)
+
+pub not_over : (m : Accepting) → IsOpen m → ¬ (IsOver m)
+not_over m o is = open_not_over m.stage o is
+
+-- the receive is counted
+pub held_received : (h : Hub) (v : Terms) (s : Standing) (p : CallerPass) (a : At) (n : ℕ) → n ≡ a.receives + 1 → Held h v p a s
+    → Held h v p (record { machine = a.machine; member = a.member; ended = a.ended; receives = n }) (received_one s)
+held_received h v s p a n is held = record {
+  caller = held.caller;
+  number = held.number;
+  member = held.member;
+  follows = record { conn = held.follows.conn; ended = held.follows.ended; receives = is ∙ ap (λ k. k + 1) held.follows.receives; found = held.follows.found };
+}
+
+pub runs_received : (v : Terms) (s : Standing) (a : At) (n : ℕ) → Runs v a s → Runs v (record { machine = a.machine; member = a.member; ended = a.ended; receives = n }) (received_one s)
+runs_received v s a n runs = record { machine = runs.machine; waits = runs.waits; tied = runs.tied }
+
+-- ---- the message
+
+-- a message was judged, and its step carried out
+pub message_heard : (h : Hub) (v : Terms) (s : Standing) (now : ℕ) (m : List ℕ) (p q : CallerPass) (a a' b : At) (old new : Option (List Said)) (verdict : Verdict) (st : Step) (stop : Option Stop)
+    → verdict ≡ verdict_on v s m → st ≡ wanted v s (Came now verdict)
+    → a'.member ≡ a.member
+    → Answers v (told s (Came now verdict)) st (Ok (Message m)) h p q a' b old new stop
+    → HearsMessage v s now m h p q a b old new stop
+message_heard h v s now m p q a a' b old new verdict st stop is does same k =
+    let l : Answers v (told s (Came now (verdict_on v s m))) (wanted v s (Came now (verdict_on v s m))) (Ok (Message m)) h p q a' b old new stop = rw (does, is) at k in
+    record {
+      judged = true;
+      answer = l.answer;
+      fault = l.fault;
+      memory = tt;
+      calls = l.calls;
+      fits = l.fits;
+      goes = l.goes;
+      said = l.said;
+      cause = l.cause;
+      stops = l.stops;
+      given_same = rw same at l.given_same;
+      empties_same = rw same at l.empties_same;
+      held = l.held;
+      runs = l.runs;
+    }
+
+-- there was no memory to judge it
+pub message_unjudged : (h : Hub) (v : Terms) (s : Standing) (now : ℕ) (m : List ℕ) (p : CallerPass) (a : At) (old : Option (List Said)) (stop : Stop)
+    → Held h v p a s → (msg : Bvlc) × (verdict_on v s m ≡ Pass msg) → stop ≡ stop_at NoMemory
+    → HearsMessage v s now m h p p a a old old (Some stop)
+message_unjudged h v s now m p a old stop held passes is = record {
+  judged = false;
+  answer = None;
+  fault = None;
+  memory = passes;
+  calls = refl;
+  fits = tt;
+  goes = goes_nowhere h p held.caller;
+  said = grows-nil old;
+  cause = tt;
+  stops = ap (λ x. Some x) is;
+  given_same = refl;
+  empties_same = refl;
+  held = held;
+  runs = λ going. cc;
+}
+
+pub held_told : (h : Hub) (v : Terms) (s : Standing) (p : CallerPass) (a : At) (m : Accepting) (e : Event) → Held h v p a s
+    → Held h v p (record { machine = m; member = a.member; ended = a.ended; receives = a.receives }) (told s e)
+held_told h v s p a m e held = record {
+  caller = held.caller;
+  number = held.number;
+  member = held.member;
+  follows = record { conn = held.follows.conn; ended = held.follows.ended; receives = held.follows.receives; found = held.follows.found };
+}
+
+pub place_is : (v : Terms) (s : Standing) (m : List ℕ) (p : Phase) (who hub : Identity) → p ≡ phase s.events → who ≡ hub → v.hub ≡ hub → outcome_of m (HubPort p) who.max_bvlc ≡ verdict_on v s m
+place_is v s m p who hub is same fixed = ap (λ (x : Phase). outcome_of m (HubPort x) who.max_bvlc) is ∙ ap (λ (x : Identity). outcome_of m (HubPort (phase s.events)) x.max_bvlc) (same ∙ sym fixed)
+
+pub passes_there : (v : Terms) (s : Standing) (m : List ℕ) (x : Verdict) → x ≡ verdict_on v s m → (msg : Bvlc) × (x ≡ Pass msg) → (msg : Bvlc) × (verdict_on v s m ≡ Pass msg)
+passes_there v s m x is k = (k.0, sym is ∙ k.1)
+
+-- ---- the thing given
+
+pub standing_received : (h : Hub) (p : CallerPass) (a : At) (n : ℕ) → n ≡ a.receives + 1 → HasStanding h p a → HasStanding h p (record { machine = a.machine; member = a.member; ended = a.ended; receives = n })
+standing_received h p a n is k = (k.0, received_one k.1, held_received h k.0 k.1 p a n is k.2, runs_received k.0 k.1 a n k.3)
+
+hears_judged : (h : Hub) (v : Terms) (s : Standing) (now : ℕ) (m : List ℕ) (p q : CallerPass) (a a' b : At) (old mid new : Option (List Said)) (stop : Option Stop) (judged : Bool) (answer : Option Answer) (fault : Option LinkFault)
+    → Grows old mid (Gave (Ok (Message m)) ∷ []) → a'.member ≡ a.member
+    → LacksAtPass v (received_one s) judged (Ok (Message m)) → is_some answer ≡ calls_hub (heard_step v (received_one s) now judged (Ok (Message m))) → Fits (heard_step v (received_one s) now judged (Ok (Message m))) answer
+    → Goes h p (called v (received_one s) (heard_step v (received_one s) now judged (Ok (Message m))) (Ok (Message m)) answer) q
+    → Grows mid new (puts (octets_in (last_wanted v (heard_told v (received_one s) now judged (Ok (Message m))) (heard_step v (received_one s) now judged (Ok (Message m))) answer)) fault)
+    → HasPut (octets_in (last_wanted v (heard_told v (received_one s) now judged (Ok (Message m))) (heard_step v (received_one s) now judged (Ok (Message m))) answer)) fault
+    → stop ≡ stop_judged judged (stop_message v (heard_told v (received_one s) now judged (Ok (Message m))) (heard_step v (received_one s) now judged (Ok (Message m))) answer fault)
+    → given_by b.member ≡ given_by a'.member → empties_by b.member ≡ empties_by a'.member
+    → Held h v q b (answered (heard_told v (received_one s) now judged (Ok (Message m))) (heard_step v (received_one s) now judged (Ok (Message m))) answer)
+    → (stop ≡ None → Runs v b (answered (heard_told v (received_one s) now judged (Ok (Message m))) (heard_step v (received_one s) now judged (Ok (Message m))) answer))
+    → Hears v s now h p q a b old new stop
+hears_judged h v s now m p q a a' b old mid new stop true answer fault told_ same memory calls fits goes said cause stops given empties held runs = record {
+  hearing = record { given = Ok (Message m); judged = true; answer = answer; fault = fault };
+  is = record { memory = memory; calls = calls; fits = fits; cause = cause };
+  goes = goes;
+  said = grown old mid new (Gave (Ok (Message m)) ∷ []) _ told_ said;
+  stops = stops;
+  given_same = rw same at given;
+  empties_same = rw same at empties;
+  held = held;
+  runs = runs;
+}
+hears_judged h v s now m p q a a' b old mid new stop false answer fault told_ same memory calls fits goes said cause stops given empties held runs = record {
+  hearing = record { given = Ok (Message m); judged = false; answer = answer; fault = fault };
+  is = record { memory = memory; calls = calls; fits = fits; cause = cause };
+  goes = goes;
+  said = grown old mid new (Gave (Ok (Message m)) ∷ []) _ told_ said;
+  stops = stops;
+  given_same = rw same at given;
+  empties_same = rw same at empties;
+  held = held;
+  runs = runs;
+}
+
+pub hears_message : (h : Hub) (v : Terms) (s : Standing) (now : ℕ) (m : List ℕ) (p q : CallerPass) (a a' b : At) (old mid new : Option (List Said)) (stop : Option Stop)
+    → Grows old mid (Gave (Ok (Message m)) ∷ []) → a'.member ≡ a.member
+    → HearsMessage v (received_one s) now m h p q a' b mid new stop
+    → Hears v s now h p q a b old new stop
+hears_message h v s now m p q a a' b old mid new stop told_ same k = hears_judged h v s now m p q a a' b old mid new stop k.judged k.answer k.fault told_ same k.memory k.calls k.fits k.goes k.said k.cause k.stops k.given_same k.empties_same k.held k.runs
+
+-- what isn't a message is followed by nothing
+pub hears_nothing : (h : Hub) (v : Terms) (s : Standing) (now : ℕ) (p : CallerPass) (a b : At) (old new : Option (List Said)) (given : Result Incoming LinkFault) (stop : Option Stop)
+    → Grows old new (Gave given ∷ []) → heard_step v s now true given ≡ Nothing → heard_told v s now true given ≡ s
+    → stop ≡ stop_given given (stop_judged true (stop_message v (received_one s) Nothing None None))
+    → b.member ≡ a.member → Held h v p b (received_one s) → (stop ≡ None → Runs v b (received_one s))
+    → Hears v s now h p p a b old new stop
+hears_nothing h v s now p a b old new given stop told_ quiet stays stops same held runs = record {
+  hearing = record { given = given; judged = true; answer = None; fault = None };
+  is = record { memory = tt; calls = rw quiet refl; fits = rw quiet tt; cause = rw quiet tt };
+  goes = rw quiet (goes_nowhere h p held.caller);
+  said = rw quiet told_;
+  stops = rw quiet stops;
+  given_same = rw same refl;
+  empties_same = rw same refl;
+  held = rw (quiet, stays) held;
+  runs = rw (quiet, stays) runs;
+}

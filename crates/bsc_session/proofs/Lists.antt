@@ -1,0 +1,72 @@
+-- What grows grows on, and puts behind puts.
+use Rattle.std.proofs.Common.{◌≡◌, ℕ, ◌+◌, List, [], ◌∷◌, ◌++◌, refl, ap, sym, ◌∙◌, append_assoc, append-nil, add_assoc, arith, Option, Some, None}
+use Rattle.bsc_edge.specs.declared.fault.LinkFault.{LinkFault}
+use Rattle.bsc_edge.specs.Told.{Grows, Stays}
+use Rattle.bsc_session.specs.Course.{standing, shares, total, EachTurn}
+use Rattle.bsc_session.specs.Puts.{HasPut, puts}
+use Rattle.bsc_session.specs.Standings.{Standing, Terms}
+use Rattle.bsc_session.specs.Turns.{Turn, after}
+
+pub grows-nil : {A : Type 0} (o : Option (List A)) → Grows o o []
+grows-nil None = tt
+grows-nil (Some xs) = sym (append-nil xs)
+
+-- what stays grows by nothing
+pub grows_stays : {A : Type 0} (o p : Option (List A)) → Stays o p → Grows o p []
+grows_stays o None h = tt
+grows_stays None (Some b) h = absurd h
+grows_stays (Some a) (Some b) h = h ∙ sym (append-nil a)
+
+pub grows_as : {A : Type 0} (o p : Option (List A)) (xs ys : List A) → xs ≡ ys → Grows o p xs → Grows o p ys
+grows_as o p xs ys e h = rw e at h
+
+-- grown twice
+pub grown : {A : Type 0} (o p q : Option (List A)) (xs ys : List A) → Grows o p xs → Grows p q ys → Grows o q (xs ++ ys)
+grown o p None xs ys h k = tt
+grown o None (Some c) xs ys h k = absurd k
+grown None (Some b) (Some c) xs ys h k = absurd h
+grown (Some a) (Some b) (Some c) xs ys h k = k ∙ ap (λ w. w ++ ys) h ∙ append_assoc a xs ys
+
+-- the last of some puts has the fault
+pub puts-more : (os : List (List ℕ)) (o : List ℕ) (fault : Option LinkFault) → puts (os ++ o ∷ []) fault ≡ puts os None ++ puts (o ∷ []) fault
+puts-more [] o fault = refl
+puts-more (p ∷ []) o fault = refl
+puts-more (p ∷ (q ∷ os)) o fault = ap (λ w. puts (p ∷ []) None ++ w) (puts-more (q ∷ os) o fault)
+
+pub standing-more : (v : Terms) (s : Standing) (ts : List Turn) (t : Turn) → standing v s (ts ++ t ∷ []) ≡ after v (standing v s ts) t
+standing-more v s [] t = refl
+standing-more v s (u ∷ ts) t = standing-more v (after v s u) ts t
+
+pub shares-more : {A : Type 0} (f : Terms → Standing → Turn → List A) (v : Terms) (s : Standing) (ts : List Turn) (t : Turn) → shares f v s (ts ++ t ∷ []) ≡ shares f v s ts ++ f v (standing v s ts) t
+shares-more f v s [] t = append-nil (f v s t)
+shares-more f v s (u ∷ ts) t = ap (λ w. f v s u ++ w) (shares-more f v (after v s u) ts t) ∙ sym (append_assoc (f v s u) (shares f v (after v s u) ts) (f v (standing v (after v s u) ts) t))
+
+pub total-more : (f : Terms → Standing → Turn → ℕ) (v : Terms) (s : Standing) (ts : List Turn) (t : Turn) → total f v s (ts ++ t ∷ []) ≡ total f v s ts + f v (standing v s ts) t
+total-more f v s [] t = omega arith
+total-more f v s (u ∷ ts) t = ap (λ w. f v s u + w) (total-more f v (after v s u) ts t) ∙ sym (add_assoc (f v s u) (total f v (after v s u) ts) (f v (standing v (after v s u) ts) t))
+
+pub each-more : (P : Terms → Standing → Turn → Type 0) (v : Terms) (s : Standing) (ts : List Turn) (t : Turn) → EachTurn P v s ts → P v (standing v s ts) t → EachTurn P v s (ts ++ t ∷ [])
+each-more P v s [] t each last = (last, tt)
+each-more P v s (u ∷ ts) t each last = (each.0, each-more P v (after v s u) ts t each.1 last)
+
+-- the last of puts behind others has the fault
+pub puts-append : (xs ys : List (List ℕ)) (fault : Option LinkFault) → HasPut ys fault → puts (xs ++ ys) fault ≡ puts xs None ++ puts ys fault
+puts-append xs [] None h = ap (λ w. puts w None) (append-nil xs) ∙ sym (append-nil (puts xs None))
+puts-append xs [] (Some fault) h = absurd h
+puts-append [] (y ∷ ys) fault h = refl
+puts-append (p ∷ []) (y ∷ ys) fault h = refl
+puts-append (p ∷ (q ∷ xs)) (y ∷ ys) fault h = ap (λ w. puts (p ∷ []) None ++ w) (puts-append (q ∷ xs) (y ∷ ys) fault h)
+
+pub HasPut-append : (xs ys : List (List ℕ)) (fault : Option LinkFault) → HasPut ys fault → HasPut (xs ++ ys) fault
+HasPut-append [] ys fault h = h
+HasPut-append (x ∷ xs) ys fault h = tt
+
+pub stays_same : {A : Type 0} (o : Option A) → Stays o o
+stays_same None = tt
+stays_same (Some x) = refl
+
+pub stays_on : {A : Type 0} (o p q : Option A) → Stays o p → Stays p q → Stays o q
+stays_on o p None h k = tt
+stays_on o None (Some c) h k = absurd k
+stays_on None (Some b) (Some c) h k = absurd h
+stays_on (Some a) (Some b) (Some c) h k = k ∙ h

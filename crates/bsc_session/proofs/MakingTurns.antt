@@ -1,0 +1,148 @@
+-- A turn is its opening, and then its hearing where the opening didn't stop the session.
+use Rattle.std.proofs.Common.{◌≡◌, ◌≢◌, ℕ, ◌+◌, ◌≤◌, ◌<◌, Bool, true, false, is_some, is_none, ◌&&◌, cond, List, [], ◌∷◌, ◌++◌, refl, ap, sym, ◌∙◌, append-nil, arith, Option, Some, None, Result, Ok}
+use Rattle.std.specs.Prelude.{length, nat_lt, if◌then◌else◌}
+use Rattle.bsc_history.specs.declared.ending.End.{End}
+use Rattle.bsc_history.specs.declared.looks.Look.{Look}
+use Rattle.bsc_history.specs.declared.reply.Reply.TheVariants.{Joined, Refused}
+use Rattle.bsc_history.specs.Marks.{mark_of}
+use Rattle.bsc_ring.specs.Ends.{outlet_mark}
+use Rattle.bsc_turn.specs.declared.pass.Pass.{Pass}
+use Rattle.bsc_turn.specs.Passes.{seen}
+use Rattle.bsc_hub.specs.declared.hub.Hub.{Hub}
+use Rattle.bsc_edge.specs.declared.said.Said.{Said}
+use Rattle.bsc_edge.specs.Told.{Grows}
+use Rattle.bsc_accept.specs.declared.step.Step.{Step}
+use Rattle.bsc_accept.specs.declared.step.Step.TheVariants.{Ask}
+use Rattle.bsc_session.specs.declared.at.At.{At}
+use Rattle.bsc_session.specs.declared.member.Member.{Member}
+use Rattle.bsc_session.specs.declared.stop.Stop.{Stop}
+use Rattle.bsc_session.specs.Answering.{after_hearing, answered, said_hearing, step_of, stands_heard}
+use Rattle.bsc_edge.specs.declared.fault.LinkFault.{LinkFault}
+use Rattle.bsc_edge.specs.declared.incoming.Incoming.{Incoming}
+use Rattle.bsc_edge.specs.declared.incoming.Incoming.TheVariants.{Message}
+use Rattle.bsc_session.specs.Judging.{heard_told}
+use Rattle.bsc_session.specs.Inner.{Between, Follows, HasStanding, Hears, Held, IsFollowed, IsMember, Makes, Opens, Runs, SameMember, Starts, empties_by, given_by}
+use Rattle.bsc_session.specs.Puts.{puts}
+use Rattle.bsc_session.specs.Reading.{started, ticked}
+use Rattle.bsc_session.specs.Receiving.{Answer, replies, Hearing}
+use Rattle.bsc_session.specs.Standings.{Standing, Terms, is_connected}
+use Rattle.bsc_session.specs.Stops.{first_of}
+use Rattle.bsc_session.specs.Taking.{Opening, end_told, opened, put_first, stop_before}
+use Rattle.bsc_session.specs.Turns.{after, empties_in}
+use Rattle.bsc_session.proofs.HubCalls.{goes_nowhere}
+use Rattle.bsc_session.proofs.Lists.{grows_as, grown}
+
+pub member_same : (p : Pass) (m n : Option Member) → SameMember m n → IsMember p m → IsMember p n
+member_same p None None h k = tt
+member_same p (Some m) (Some n) h k = rw (h.0, h.1, h.2) k
+member_same p None (Some n) h k = absurd h
+member_same p (Some m) None h k = absurd h
+
+pub held_opened : (h : Hub) (v : Terms) (s : Standing) (now : ℕ) (p : Pass) (a a1 b : At) (old new : Option (List Said)) (stop : Option Stop) → Held h v p a s → Starts v s now a a1 → (k : Opens v s now a1 b old new stop) → Held h v p b (opened s k.opening)
+held_opened h v s now p a a1 b old new stop held st k = record {
+  caller = held.caller;
+  number = held.number;
+  member = member_same p a1.member b.member k.same (rw st.member held.member);
+  follows = k.follows;
+}
+
+-- the opening stops the session
+pub makes_opening : (h : Hub) (v : Terms) (s : Standing) (now : ℕ) (p : Pass) (a a1 b : At) (old new : Option (List Said)) (read read' : Option (List ℕ)) (stop : Stop) → Held h v p a s → Starts v s now a a1
+    → Grows read read' (now ∷ []) → Opens v s now a1 b old new (Some stop) → Makes v s h p p a b old new read read' (Some stop)
+makes_opening h v s now p a a1 b old new read read' stop held st reads k = record {
+  turn = record { opening = k.opening; hearing = None };
+  is = record { opening = k.is; heard = rw (sym k.stops) refl; hearing = tt };
+  goes = goes_nowhere h p held.caller;
+  gave = rw (sym st.member) k.gave;
+  empties = rw (sym st.member) (
+      let e : empties_by b.member ≡ empties_by a1.member + (if is_none k.opening.met && (false && (is_connected (ticked s k.opening.reading) && nat_lt (length k.opening.frames) 16)) then 1 else 0) = rw (sym k.stops) at k.empties in e);
+  said = grows_as old new _ _ (sym (append-nil (puts (put_first v s k.opening) k.opening.fault))) k.said;
+  reads = rw k.read reads;
+  stops = rw (sym k.stops) refl;
+  held = held_opened h v s now p a a1 b old new (Some stop) held st k;
+  runs = λ going. cc;
+}
+
+-- the opening goes on, and the session hears
+pub makes_hearing : (h : Hub) (v : Terms) (s : Standing) (now : ℕ) (p q : Pass) (a a1 b c : At) (old mid new : Option (List Said)) (read read' : Option (List ℕ)) (stop : Option Stop) → Starts v s now a a1
+    → Grows read read' (now ∷ []) → (k : Opens v s now a1 b old mid None) → Hears v (opened s k.opening) now h p q b c mid new stop → Makes v s h p q a c old new read read' stop
+makes_hearing h v s now p q a a1 b c old mid new read read' stop st reads k hears =
+    let l : Hears v (opened s k.opening) k.opening.reading h p q b c mid new stop = rw (sym k.read) at hears in
+    record {
+      turn = record { opening = k.opening; hearing = Some l.hearing };
+      is = record { opening = k.is; heard = rw (sym k.stops) refl; hearing = l.is };
+      goes = l.goes;
+      gave = rw (sym st.member) (l.given_same ∙ k.gave);
+      empties = rw (sym st.member) (l.empties_same ∙ (
+          let e : empties_by b.member ≡ empties_by a1.member + (if is_none k.opening.met && (true && (is_connected (ticked s k.opening.reading) && nat_lt (length k.opening.frames) 16)) then 1 else 0) = rw (sym k.stops) at k.empties in e));
+      said = grown old mid new (puts (put_first v s k.opening) k.opening.fault) (said_hearing v (opened s k.opening) k.opening.reading l.hearing) k.said l.said;
+      reads = rw k.read reads;
+      stops = rw (sym k.stops) l.stops;
+      held = l.held;
+      runs = l.runs;
+    }
+
+-- ---- how many receives
+
+receives_met : (s : Standing) (now : ℕ) (met : Option End) → (end_told s now met).receives ≡ s.receives
+receives_met s now None = refl
+receives_met s now (Some e) = refl
+
+pub receives_opened : (s : Standing) (o : Opening) → (opened s o).receives ≡ s.receives
+receives_opened s o = receives_met (ticked s o.reading) o.reading o.met
+
+receives_answered : (s : Standing) (st : Step) (a : Option Answer) → (answered s st a).receives ≡ s.receives
+receives_answered s (Ask who) (Some (replies l (Joined c r))) = refl
+receives_answered s (Ask who) (Some (replies l (Refused r))) = refl
+receives_answered s st a = refl
+
+heard_by : (v : Terms) (s : Standing) (now : ℕ) (judged : Bool) (given : Result Incoming LinkFault) → (heard_told v s now judged given).receives ≡ s.receives
+heard_by v s now true (Ok (Message m)) = refl
+heard_by v s now false (Ok (Message m)) = refl
+heard_by v s now true given = refl
+heard_by v s now false given = refl
+
+heard_one : (v : Terms) (s : Standing) (now : ℕ) (h : Hearing) → (stands_heard v s now h).receives ≡ s.receives + 1
+heard_one v s now h = ap (λ k. k + 1) (heard_by v s now h.judged h.given)
+
+receives_heard : (v : Terms) (s : Standing) (o : Opening) (h : Option Hearing) → is_some h ≡ true → (after v s (record { opening = o; hearing = h })).receives ≡ s.receives + 1
+receives_heard v s o None some = cc
+receives_heard v s o (Some h) some = receives_answered (stands_heard v (opened s o) o.reading h) (step_of v (opened s o) o.reading h) h.answer ∙ heard_one v (opened s o) o.reading h ∙ ap (λ k. k + 1) (receives_opened s o)
+
+none_first : (a b : Option Stop) → None ≡ first_of a b → is_none a ≡ true
+none_first None b h = refl
+none_first (Some x) b h = cc
+
+at_most_one : (b : Bool) → cond b 1 0 ≤ 1
+at_most_one true = omega arith
+at_most_one false = omega arith
+
+-- a turn that goes on has received
+pub receives_more : (v : Terms) (s : Standing) (h : Hub) (p q : Pass) (a b : At) (old new : Option (List Said)) (read read' : Option (List ℕ)) → (k : Makes v s h p q a b old new read read' None) → (after v s k.turn).receives ≡ s.receives + 1
+receives_more v s h p q a b old new read read' k =
+    let some : is_some k.turn.hearing ≡ true = k.is.heard ∙ none_first (stop_before v s k.turn.opening) _ k.stops in
+    receives_heard v s k.turn.opening k.turn.hearing some
+
+not_zero : (n m : ℕ) → n ≡ m + 1 → n ≡ 0 → ⊥
+not_zero n m h k = (let e : m + 1 ≡ 0 = sym h ∙ k in absurd (omega (arith, e)))
+
+pub between_more : (v : Terms) (s : Standing) (h : Hub) (p q : Pass) (a b : At) (old new : Option (List Said)) (read read' : Option (List ℕ)) → Between v a s → (k : Makes v s h p q a b old new read read' None) → Between v b (after v s k.turn)
+between_more v s h p q a b old new read read' between k =
+    let more = receives_more v s h p q a b old new read read' k in
+    record {
+      runs = k.runs refl;
+      fresh = λ z. absurd (not_zero (after v s k.turn).receives s.receives more z);
+      bounded = (let e = k.empties in let x = between.bounded in let o = at_most_one (is_none k.turn.opening.met && (is_some k.turn.hearing && (is_connected (ticked s k.turn.opening.reading) && nat_lt (length k.turn.opening.frames) 16))) in omega (arith, e, x, o, more));
+    }
+
+pub followed_started : (v : Terms) (s : Standing) (now : ℕ) (a b : At) → Starts v s now a b → IsFollowed b
+followed_started v s now a b st = (v, started s now, st.follows, st.runs)
+
+pub room_started : (v : Terms) (s : Standing) (now : ℕ) (a b : At) → Starts v s now a b → Follows a s → Between v a s → a.receives < 18446744073709551615 → empties_by b.member < 18446744073709551615
+room_started v s now a b st f between room = (let x = between.bounded in let r = f.receives in rw st.member (omega (arith, x, r, room)))
+
+pub standing_opened : (h : Hub) (v : Terms) (s : Standing) (now : ℕ) (p : Pass) (a a1 b : At) (old new : Option (List Said)) (stop : Option Stop) → stop ≡ None → Held h v p a s → Starts v s now a a1 → Opens v s now a1 b old new stop → HasStanding h p b
+standing_opened h v s now p a a1 b old new stop going held st k = (v, opened s k.opening, held_opened h v s now p a a1 b old new stop held st k, k.runs going)
+
+pub room_opened : (h : Hub) (v : Terms) (s : Standing) (now : ℕ) (p : Pass) (a a1 b : At) (old new : Option (List Said)) (stop : Option Stop) → Held h v p a s → Opens v s now a1 b old new stop → a.receives < 18446744073709551615 → b.receives < 18446744073709551615
+room_opened h v s now p a a1 b old new stop held k room = (let e : b.receives ≡ a.receives = k.follows.receives ∙ receives_opened s k.opening ∙ sym held.follows.receives in rw e room)

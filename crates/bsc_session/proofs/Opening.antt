@@ -1,0 +1,287 @@
+-- A turn's opening: the time, and what the outlet has.
+use Rattle.std.proofs.Common.{◌≡◌, ◌≢◌, ◌⊎◌, ◌≤◌, ℕ, ◌+◌, Bool, true, false, cond, is_some, is_none, ◌&&◌, List, [], ◌∷◌, ◌++◌, refl, ap, sym, ◌∙◌, append-nil, arith, inl, inr, lit≤, Option, Some, None}
+use Rattle.std.specs.Prelude.{length, nat_lt, suc, zero}
+use Rattle.bsc_octets.specs.declared.identity.Identity.{Identity}
+use Rattle.bsc_history.specs.declared.ending.End.{End}
+use Rattle.bsc_history.specs.declared.ending.End.TheVariants.{Left, Replaced, Full, Stopped}
+use Rattle.bsc_ring.specs.declared.ends.Outlet.{Outlet}
+use Rattle.bsc_ring.specs.Ends.{FoundEnd, outlet_mark}
+use Rattle.bsc_checks.specs.declared.phase.Phase.{Phase}
+use Rattle.bsc_checks.specs.declared.phase.Phase.TheVariants.{Connected as PhaseConnected}
+use Rattle.bsc_hub.specs.declared.hub.Hub.{Hub}
+use Rattle.bsc_edge.specs.declared.fault.LinkFault.{LinkFault}
+use Rattle.bsc_edge.specs.declared.said.Said.{Said}
+use Rattle.bsc_edge.specs.Told.{Grows}
+use Rattle.bsc_accept.specs.declared.accepting.Accepting.{Accepting}
+use Rattle.bsc_accept.specs.declared.closing.Closing.{Closing}
+use Rattle.bsc_accept.specs.declared.event.Event.TheVariants.{Ended, Tick}
+use Rattle.bsc_accept.specs.declared.start.Start.{Start}
+use Rattle.bsc_accept.specs.declared.step.Step.{Step}
+use Rattle.bsc_accept.specs.declared.step.Step.TheVariants.{Ask, Reply, ReplyClose, Carry, Close, Nothing}
+use Rattle.bsc_accept.specs.Past.{Standing as MachineStanding, awaiting_request, connected, disconnecting, last_message, phase, standing}
+use Rattle.bsc_accept.specs.Standing.{Answers as MachineAnswers, IsOpen, LeftBy, StandsFor}
+use Rattle.bsc_accept.specs.Steps.{ended_step, normal, tick_step}
+use Rattle.bsc_accept.specs.Waits.{connect_wait_is_over, disconnect_wait_is_over, is_idle}
+use Rattle.bsc_session.specs.declared.at.At.{At}
+use Rattle.bsc_session.specs.declared.limits.SessionLimits.{SessionLimits}
+use Rattle.bsc_session.specs.declared.member.Member.{Member}
+use Rattle.bsc_session.specs.declared.stop.Stop.{Stop}
+use Rattle.bsc_session.specs.declared.taken.Taken.{Taken}
+use Rattle.bsc_session.specs.declared.taken.Taken.TheVariants.{All, Met, Cut}
+use Rattle.bsc_session.specs.declared.why.Why.{Why}
+use Rattle.bsc_session.specs.declared.why.Why.TheVariants.{EndedBy}
+use Rattle.bsc_session.specs.Answering.{calls_hub}
+use Rattle.bsc_session.specs.Inner.{AreTerms, Attends, Between, Carries, Follows, HasFound, Meets, Opens, Runs, SameMember, Starts, Takes, TakesFrom, Ticks, Tied, conn_of, empties_by, empties_opening, given_by, nothing_found}
+use Rattle.bsc_session.specs.Puts.{HasPut, octets_in, puts}
+use Rattle.bsc_session.specs.Reading.{start_at, started, ticked, wanted_at}
+use Rattle.bsc_session.specs.Standings.{Standing, Terms, is_connected, is_phase_connected, start_of, told, wanted}
+use Rattle.bsc_session.specs.Stops.{closes, closing_in, first_of, stop_at, stop_for, stop_if}
+use Rattle.bsc_session.specs.Taking.{Opening, IsOpening, end_step, end_told, ended_by, opened, put_first, stop_before, waiting_for}
+use Rattle.bsc_session.proofs.Asking.{left_open, tied_told}
+use Rattle.bsc_session.proofs.Hearing.{connected_joined, some_of}
+use Rattle.bsc_session.proofs.Lists.{grown, grows-nil, grows_as, puts-append, HasPut-append}
+
+-- ---- the time
+
+cond_calls : (b : Bool) (c : Closing) → calls_hub (cond b (Close c) Nothing) ≡ false
+cond_calls true c = refl
+cond_calls false c = refl
+
+tick_calls : (s : Start) (last now : ℕ) (g : MachineStanding) → calls_hub (tick_step s last now g) ≡ false
+tick_calls s last now awaiting_request = cond_calls (connect_wait_is_over s now) _
+tick_calls s last now connected = cond_calls (is_idle s last now) _
+tick_calls s last now (disconnecting f) = cond_calls (disconnect_wait_is_over s f now) normal
+
+follows_told : (a : At) (s : Standing) (m : Accepting) (now : ℕ) → Follows a s → Follows (record { machine = m; member = a.member; ended = a.ended; receives = a.receives }) (told s (Tick now))
+follows_told a s m now f = record { conn = f.conn; ended = f.ended; receives = f.receives; found = f.found }
+
+-- the reading closes the session
+pub ticks_closed : (v : Terms) (s : Standing) (now : ℕ) (a : At) (m : Accepting) (st : Step) (c : Closing) (why : Why) (stop : Stop) → Follows a s → Runs v a s → MachineAnswers a.machine m (Tick now) st
+    → closing_in st ≡ Some c → why ≡ waiting_for (conn_of a.member) → stop ≡ stop_for why (Some c)
+    → Ticks v s now a (record { machine = m; member = a.member; ended = a.ended; receives = a.receives }) (Some stop)
+ticks_closed v s now a m st c why stop f r answers closing waits is =
+    let does = answers (start_of v s) s.events r.machine in
+    let k : closing_in (wanted v s (Tick now)) ≡ Some c = rw does.0 at closing in
+    let w : why ≡ waiting_for s.conn = waits ∙ ap waiting_for f.conn in
+    record { member = refl; stops = rw (k, is, w) refl; follows = follows_told a s m now f; runs = λ going. cc }
+
+-- it doesn't
+pub ticks_on : (v : Terms) (s : Standing) (now : ℕ) (a : At) (m : Accepting) (st : Step) → Follows a s → Runs v a s → MachineAnswers a.machine m (Tick now) st → LeftBy st m
+    → closing_in st ≡ None → Ticks v s now a (record { machine = m; member = a.member; ended = a.ended; receives = a.receives }) None
+ticks_on v s now a m st f r answers left closing =
+    let does = answers (start_of v s) s.events r.machine in
+    let k : closing_in (wanted v s (Tick now)) ≡ None = rw does.0 at closing in
+    let l : LeftBy (wanted v s (Tick now)) m = rw does.0 at left in
+    record {
+      member = refl;
+      stops = rw k refl;
+      follows = follows_told a s m now f;
+      runs = λ going. record {
+        machine = does.1;
+        waits = left_open (wanted v s (Tick now)) m None (waiting_for s.conn) None l (tick_calls (start_of v s) (last_message (start_of v s) s.events) now (standing s.events)) (rw k refl) refl;
+        tied = tied_told s (Tick now) refl r.tied;
+      };
+    }
+
+-- ---- the start
+
+start_later : (n start now : ℕ) → n ≢ 0 → start_at n start now ≡ start
+start_later zero start now h = absurd (h refl)
+start_later (suc n) start now h = refl
+
+pub starts_later : (v : Terms) (s : Standing) (now : ℕ) (a : At) → a.receives ≢ 0 → Follows a s → Between v a s → Starts v s now a a
+starts_later v s now a later f b =
+    let e : start_at s.receives s.start now ≡ s.start = start_later s.receives s.start now (λ z. later (f.receives ∙ z)) in
+    record {
+      member = refl;
+      follows = record { conn = f.conn; ended = f.ended; receives = f.receives; found = f.found };
+      runs = record { machine = rw e b.runs.machine; waits = b.runs.waits; tied = b.runs.tied };
+    }
+
+start_first : (n start now : ℕ) → n ≡ 0 → start_at n start now ≡ now
+start_first zero start now h = refl
+start_first (suc n) start now h = cc
+
+pub starts_first : (h : Hub) (limits : SessionLimits) (v : Terms) (s : Standing) (now : ℕ) (a : At) (m : Accepting) (who : Identity) → a.receives ≡ 0 → AreTerms v h limits → Follows a s → Between v a s
+    → v.hub ≡ who → StandsFor m (record { own = who; times = limits.times; at = now }) [] → IsOpen m
+    → Starts v s now a (record { machine = m; member = a.member; ended = a.ended; receives = a.receives })
+starts_first h limits v s now a m who zero_ terms f b fixed stands waits =
+    let z : s.receives ≡ 0 = sym f.receives ∙ zero_ in
+    let e : start_at s.receives s.start now ≡ now = start_first s.receives s.start now z in
+    let none : s.events ≡ [] = b.fresh z in
+    record {
+      member = refl;
+      follows = record { conn = f.conn; ended = f.ended; receives = f.receives; found = f.found };
+      runs = record { machine = rw (e, none, fixed, terms.times) stands; waits = waits; tied = b.runs.tied };
+    }
+
+-- ---- the taking
+
+keep_end : (e : Option End) (m : Member) (p : Outlet) → ((d : End) → FoundEnd m.outlet d → FoundEnd p d) → HasFound e (Some m) → HasFound e (Some (record { conn = m.conn; address = m.address; outlet = p }))
+keep_end None m p keeps h = tt
+keep_end (Some d) m p keeps h = keeps d h
+
+pub takes_from : (m : Member) (p : Outlet) (old new : Option (List Said)) (taken : Taken) → Takes m.outlet p old new taken → TakesFrom (Some m) (Some (record { conn = m.conn; address = m.address; outlet = p })) old new taken
+takes_from m p old new taken t = record {
+  frames = t.frames;
+  same = (refl, refl, t.mark);
+  keeps = λ e h. keep_end e m p t.keeps h;
+  found = t.found;
+  left = t.left;
+  gave = t.gave;
+  empties = t.empties;
+  few = t.few;
+  said = t.said;
+  cause = t.cause;
+}
+
+conn_same : (m n : Option Member) → SameMember m n → conn_of n ≡ conn_of m
+conn_same None None h = refl
+conn_same (Some m) (Some n) h = ap (λ x. Some x) h.0
+conn_same None (Some n) h = absurd h
+conn_same (Some m) None h = absurd h
+
+follows_taken : (a : At) (n : Option Member) (s : Standing) → SameMember a.member n → ((e : Option End) → HasFound e a.member → HasFound e n) → Follows a s → Follows (record { machine = a.machine; member = n; ended = a.ended; receives = a.receives }) s
+follows_taken a n s same keeps f = record { conn = conn_same a.member n same ∙ f.conn; ended = f.ended; receives = f.receives; found = keeps a.ended f.found }
+
+-- nothing more was there, or sixteen were taken
+pub attends_all : (v : Terms) (s : Standing) (now : ℕ) (a : At) (n : Option Member) (old new : Option (List Said)) → TakesFrom a.member n old new All → Follows a s → Runs v a s
+    → Attends v s now a (record { machine = a.machine; member = n; ended = a.ended; receives = a.receives }) old new None
+attends_all v s now a n old new t f r = record {
+  frames = t.frames;
+  met = None;
+  fault = None;
+  same = t.same;
+  gave = t.gave;
+  empties = t.empties;
+  few = t.few;
+  said = rw append-nil t.said;
+  cause = rw append-nil t.cause;
+  stops = refl;
+  follows = follows_taken a n s t.same t.keeps f;
+  runs = λ going. record { machine = r.machine; waits = r.waits; tied = r.tied };
+}
+
+-- the taking was cut off by a fault
+pub attends_cut : (v : Terms) (s : Standing) (now : ℕ) (a : At) (n : Option Member) (old new : Option (List Said)) (fault : LinkFault) (stop : Stop) → TakesFrom a.member n old new (Cut fault) → Follows a s → stop ≡ stop_at fault
+    → Attends v s now a (record { machine = a.machine; member = n; ended = a.ended; receives = a.receives }) old new (Some stop)
+attends_cut v s now a n old new fault stop t f is = record {
+  frames = t.frames;
+  met = None;
+  fault = Some fault;
+  same = t.same;
+  gave = t.gave;
+  empties = t.empties;
+  few = t.few;
+  said = rw append-nil t.said;
+  cause = rw append-nil t.cause;
+  stops = ap (λ x. Some x) is;
+  follows = follows_taken a n s t.same t.keeps f;
+  runs = λ going. cc;
+}
+
+ended_calls : (e : End) → calls_hub (ended_step e) ≡ false
+ended_calls Full = refl
+ended_calls e = refl
+
+-- the machine was told an End
+pub meets : (v : Terms) (s : Standing) (now : ℕ) (e : End) (a : At) (m : Accepting) (st : Step) (old new : Option (List Said)) (stop : Option Stop) → StandsFor a.machine (start_of v s) s.events → Tied s
+    → MachineAnswers a.machine m (Ended now e) st → LeftBy st m → Carries old new st (EndedBy e) stop
+    → Meets v s now e a (record { machine = m; member = a.member; ended = Some e; receives = a.receives }) old new stop
+meets v s now e a m st old new stop stood tied answers left carried =
+    let does = answers (start_of v s) s.events stood in
+    let k : Carries old new (wanted v s (Ended now e)) (EndedBy e) stop = rw does.0 at carried in
+    let l : LeftBy (wanted v s (Ended now e)) m = rw does.0 at left in
+    record {
+      carried = k;
+      member = refl;
+      ended = refl;
+      receives = refl;
+      runs = λ going. record { machine = does.1; waits = left_open (wanted v s (Ended now e)) m k.fault (EndedBy e) stop l (ended_calls e) k.stops going; tied = tied_told s (Ended now e) refl tied };
+    }
+
+-- the taking came to an End, and what the machine then wanted was carried out
+pub attends_met : (v : Terms) (s : Standing) (now : ℕ) (a b : At) (n : Option Member) (old mid new : Option (List Said)) (e : End) (stop : Option Stop) → TakesFrom a.member n old mid (Met e) → Follows a s
+    → Meets v s now e (record { machine = a.machine; member = n; ended = a.ended; receives = a.receives }) b mid new stop
+    → Attends v s now a b old new stop
+attends_met v s now a b n old mid new e stop t f k = record {
+  frames = t.frames;
+  met = Some e;
+  fault = k.carried.fault;
+  same = rw k.member t.same;
+  gave = rw k.member t.gave;
+  empties = rw k.member t.empties;
+  few = t.few;
+  said = grows_as old new _ _ (sym (puts-append t.frames (octets_in (wanted v s (Ended now e))) k.carried.fault k.carried.cause))
+      (grown old mid new (puts t.frames None) (puts (octets_in (wanted v s (Ended now e))) k.carried.fault) t.said k.carried.said);
+  cause = HasPut-append t.frames (octets_in (wanted v s (Ended now e))) k.carried.fault k.carried.cause;
+  stops = k.carried.stops;
+  follows = record { conn = rw k.member (conn_same a.member n t.same ∙ f.conn); ended = k.ended; receives = k.receives ∙ f.receives; found = rw (k.ended, k.member) (t.found e refl) };
+  runs = k.runs;
+}
+
+-- ---- the opening
+
+same_member : (m : Option Member) → SameMember m m
+same_member None = tt
+same_member (Some m) = (refl, refl, refl)
+
+-- the reading closes the session
+pub opens_expired : (v : Terms) (s : Standing) (now : ℕ) (a b : At) (old : Option (List Said)) (stop : Stop) → Ticks v (started s now) now a b (Some stop) → Opens v s now a b old old (Some stop)
+opens_expired v s now a b old stop t = record {
+  opening = record { reading = now; frames = []; met = None; fault = None };
+  read = refl;
+  is = record { takes = inr (refl, refl); few = lit≤ tt; cause = tt };
+  same = rw t.member (same_member a.member);
+  gave = rw t.member (sym (append-nil (given_by a.member)));
+  empties = rw (t.member, sym t.stops) (omega arith);
+  said = grows-nil old;
+  stops = rw (sym t.stops) refl;
+  follows = t.follows;
+  runs = λ going. cc;
+}
+
+closes_none : (w : Why) (c : Option Closing) → None ≡ closes w c → c ≡ None
+closes_none w None h = refl
+closes_none w (Some c) h = cc
+
+-- nothing is taken outside of Connected
+pub opens_apart : (v : Terms) (s : Standing) (now : ℕ) (a b : At) (old : Option (List Said)) → Ticks v (started s now) now a b None → is_connected (ticked s now) ≡ false → Opens v s now a b old old None
+opens_apart v s now a b old t apart = record {
+  opening = record { reading = now; frames = []; met = None; fault = None };
+  read = refl;
+  is = record { takes = inr (refl, refl); few = lit≤ tt; cause = tt };
+  same = rw t.member (same_member a.member);
+  gave = rw t.member (sym (append-nil (given_by a.member)));
+  empties = rw (t.member, sym t.stops, apart) (omega arith);
+  said = grows-nil old;
+  stops = rw (sym t.stops) refl;
+  follows = t.follows;
+  runs = t.runs;
+}
+
+-- in Connected the frames are taken
+pub opens_attended : (v : Terms) (s : Standing) (now : ℕ) (a b c : At) (old new : Option (List Said)) (stop : Option Stop) → Ticks v (started s now) now a b None → is_connected (ticked s now) ≡ true
+    → Attends v (ticked s now) now b c old new stop → Opens v s now a c old new stop
+opens_attended v s now a b c old new stop t live k =
+    let quiet : closing_in (wanted_at v s now) ≡ None = closes_none _ _ t.stops in
+    record {
+      opening = record { reading = now; frames = k.frames; met = k.met; fault = k.fault };
+      read = refl;
+      is = record { takes = inl (live, quiet); few = k.few; cause = k.cause };
+      same = rw t.member at k.same;
+      gave = rw t.member at k.gave;
+      empties = rw (quiet, sym k.stops, live) (rw t.member at k.empties);
+      said = k.said;
+      stops = rw quiet k.stops;
+      follows = k.follows;
+      runs = k.runs;
+    }
+
+phase_connected : (p : Phase) → is_phase_connected p ≡ true → p ≡ PhaseConnected
+phase_connected PhaseConnected h = refl
+phase_connected p h = cc
+
+-- in Connected there is a connection
+pub followed_some : (v : Terms) (s : Standing) (a : At) → Follows a s → Runs v a s → is_connected s ≡ true → is_some a.member ≡ true
+followed_some v s a f r h = some_of a.member s.conn f.conn (sym (connected_joined (standing s.events) (phase_connected (phase s.events) h)) ∙ r.tied)

@@ -1,0 +1,194 @@
+-- Turn after turn, up to the stop; and the last acts.
+use Rattle.std.proofs.Common.{◌≡◌, ℕ, ◌+◌, ◌≤◌, List, [], ◌∷◌, ◌++◌, length, refl, ap, sym, ◌∙◌, append-nil, append_assoc, arith, Option, Some, None}
+use Rattle.std.specs.Prelude.{take}
+use Rattle.std.proofs.Common.{◌<◌, ◌⊎◌, inl, inr}
+use Rattle.std.proofs.lemmas.Bool.Decides.{leb_tells}
+use Rattle.bsc_history.specs.declared.ending.End.{End}
+use Rattle.bsc_history.specs.declared.ending.End.TheVariants.{Left}
+use Rattle.bsc_history.specs.declared.entry.Entry.{Entry}
+use Rattle.bsc_history.specs.declared.told.Told.{Told}
+use Rattle.bsc_history.specs.Outboxes.{sent}
+use Rattle.bsc_desk.specs.declared.leaving.Gone.{Gone}
+use Rattle.bsc_ring.specs.Ends.{FoundEnd, empties_of, given}
+use Rattle.bsc_hub.specs.Calls.{leave_made}
+use Rattle.bsc_history.specs.Marks.{entries}
+use Rattle.bsc_accept.specs.declared.accepting.Accepting.{Accepting}
+use Rattle.bsc_accept.specs.declared.closing.Closing.{Closing}
+use Rattle.bsc_accept.specs.declared.reason.Reason.TheVariants.{Nothing as NoReason}
+use Rattle.bsc_accept.specs.Standing.{IsOpen, StandsFor}
+use Rattle.bsc_turn.specs.declared.pass.Pass.{Pass}
+use Rattle.bsc_turn.specs.Passes.{number_of, own_list, seen}
+use Rattle.bsc_hub.specs.declared.hub.Hub.{Hub}
+use Rattle.bsc_hub.specs.Passing.{IsCaller, Passed, about_of}
+use Rattle.bsc_edge.specs.declared.said.Said.{Said}
+use Rattle.bsc_edge.specs.Told.{Grows}
+use Rattle.bsc_session.specs.declared.at.At.{At}
+use Rattle.bsc_session.specs.declared.limits.SessionLimits.{SessionLimits}
+use Rattle.bsc_session.specs.declared.member.Member.{Member}
+use Rattle.bsc_session.specs.declared.stop.Stop.{Stop}
+use Rattle.bsc_session.specs.declared.why.Why.{Why}
+use Rattle.bsc_session.specs.declared.why.Why.TheVariants.{Spent}
+use Rattle.bsc_session.specs.Course.{standing, shares, total, EachTurn, GoesOn, and_last, said_closing}
+use Rattle.bsc_session.specs.Inner.{AreTerms, Between, HasFound, HasTerms, Held, Makes, Parts, Ran, Runs, Stood, conn_of, empties_by, given_by}
+use Rattle.bsc_session.specs.Serving.{Goes, Serves, received, terms_of}
+use Rattle.bsc_session.specs.Standings.{Standing, Terms, begun, start_of}
+use Rattle.bsc_session.specs.Stops.{stop_closing}
+use Rattle.bsc_session.specs.Talk.{leaving, named}
+use Rattle.bsc_session.specs.Turns.{Turn, IsTurn, reading_in, frames_in, said_in, entries_in, empties_in, after, stop_in}
+use Rattle.bsc_session.proofs.HubCalls.{goes_as, goes_nowhere, goes_on, goes_passed}
+use Rattle.bsc_session.proofs.Lists.{grows-nil, grows_as, grown, standing-more, shares-more, total-more, each-more}
+use Rattle.bsc_session.proofs.MakingTurns.{between_more, receives_more}
+
+-- before the first turn
+pub stood_begins : (v : Terms) (h : Hub) (p : Pass) (a : At) (old : Option (List Said)) (read : Option (List ℕ)) → IsCaller h p → number_of p ≡ v.caller → StandsFor a.machine (start_of v begun) [] → IsOpen a.machine
+    → a.member ≡ None → a.ended ≡ None → a.receives ≡ 0 → Stood v h p p a old old read read
+stood_begins v h p a old read is number stands waits alone unended none = record {
+  turns = [];
+  are = tt;
+  on = tt;
+  goes = goes_nowhere h p is;
+  gave = rw alone refl;
+  empties = rw alone refl;
+  said = grows-nil old;
+  reads = grows-nil read;
+  held = record { caller = is; number = number; member = rw alone tt; follows = record { conn = rw alone refl; ended = unended; receives = none; found = rw unended tt } };
+  between = record { runs = record { machine = stands; waits = waits; tied = refl }; fresh = λ z. refl; bounded = rw alone (omega arith) };
+}
+
+-- the terms are those of the hub and of the call
+pub are_terms : (h : Hub) (p : Pass) (limits : SessionLimits) (turns : ℕ) → AreTerms (terms_of h p limits turns) h limits
+are_terms h p limits turns = record { hub = refl; times = refl }
+
+pub some_terms : (h : Hub) (p0 p : Pass) (limits : SessionLimits) (turns : ℕ) (a : At) (old new : Option (List Said)) (read read' : Option (List ℕ)) → Stood (terms_of h p0 limits turns) h p0 p a old new read read' → HasTerms h p limits a
+some_terms h p0 p limits turns a old new read read' k = (terms_of h p0 limits turns, standing (terms_of h p0 limits turns) begun k.turns, are_terms h p0 limits turns, k.held, k.between)
+
+-- a turn that goes on has received
+pub received_more : (v : Terms) (s : Standing) (h : Hub) (p q : Pass) (a b : At) (old new : Option (List Said)) (read read' : Option (List ℕ)) → Held h v p a s → Makes v s h p q a b old new read read' None → b.receives ≡ a.receives + 1
+received_more v s h p q a b old new read read' held k = k.held.follows.receives ∙ receives_more v s h p q a b old new read read' k ∙ ap (λ n. n + 1) (sym held.follows.receives)
+
+-- what so many turns and one more come to
+more_goes : (v : Terms) (h : Hub) (p0 p q : Pass) (ts : List Turn) (t : Turn) → Goes h p0 (shares entries_in v begun ts) p → Goes h p (entries_in v (standing v begun ts) t) q → Goes h p0 (shares entries_in v begun (ts ++ t ∷ [])) q
+more_goes v h p0 p q ts t k l = goes_as h p0 q _ _ (sym (shares-more entries_in v begun ts t)) (goes_on h p0 p q _ _ k l)
+
+more_gave : (v : Terms) (m n : Option Member) (ts : List Turn) (t : Turn) → given_by m ≡ shares frames_in v begun ts → given_by n ≡ given_by m ++ t.opening.frames → given_by n ≡ shares frames_in v begun (ts ++ t ∷ [])
+more_gave v m n ts t k l = l ∙ ap (λ w. w ++ t.opening.frames) k ∙ sym (shares-more frames_in v begun ts t)
+
+more_empties : (v : Terms) (m n : Option Member) (ts : List Turn) (t : Turn) → empties_by m ≡ total empties_in v begun ts → empties_by n ≡ empties_by m + empties_in v (standing v begun ts) t → empties_by n ≡ total empties_in v begun (ts ++ t ∷ [])
+more_empties v m n ts t k l = l ∙ ap (λ w. w + empties_in v (standing v begun ts) t) k ∙ sym (total-more empties_in v begun ts t)
+
+more_told : {A : Type 0} (f : Terms → Standing → Turn → List A) (v : Terms) (ts : List Turn) (t : Turn) (base a b : Option (List A)) → Grows base a (shares f v begun ts) → Grows a b (f v (standing v begun ts) t) → Grows base b (shares f v begun (ts ++ t ∷ []))
+more_told f v ts t base a b k l = grows_as base b _ _ (sym (shares-more f v begun ts t)) (grown base a b _ _ k l)
+
+-- a turn that goes on
+pub stood_more : (v : Terms) (h : Hub) (p0 p q : Pass) (a b : At) (old mid new : Option (List Said)) (read read' read'' : Option (List ℕ)) → (k : Stood v h p0 p a old mid read read') → Makes v (standing v begun k.turns) h p q a b mid new read' read'' None
+    → Stood v h p0 q b old new read read''
+stood_more v h p0 p q a b old mid new read read' read'' k m =
+    let on : GoesOn v (standing v begun k.turns) m.turn = sym m.stops in
+    let next = standing-more v begun k.turns m.turn in
+    record {
+      turns = k.turns ++ m.turn ∷ [];
+      are = each-more IsTurn v begun k.turns m.turn k.are m.is;
+      on = each-more GoesOn v begun k.turns m.turn k.on on;
+      goes = more_goes v h p0 p q k.turns m.turn k.goes m.goes;
+      gave = more_gave v a.member b.member k.turns m.turn k.gave m.gave;
+      empties = more_empties v a.member b.member k.turns m.turn k.empties m.empties;
+      said = more_told said_in v k.turns m.turn old mid new k.said m.said;
+      reads = more_told reading_in v k.turns m.turn read read' read'' k.reads m.reads;
+      held = rw next m.held;
+      between = rw next (between_more v (standing v begun k.turns) h p q a b mid new read' read'' k.between m);
+    }
+
+-- a turn that stops the session
+pub ran_stopped : (v : Terms) (h : Hub) (p0 p q : Pass) (a b : At) (old mid new : Option (List Said)) (read read' read'' : Option (List ℕ)) (stop : Stop) → (k : Stood v h p0 p a old mid read read') → Makes v (standing v begun k.turns) h p q a b mid new read' read'' (Some stop)
+    → Ran v h p0 q b old new read read'' stop
+ran_stopped v h p0 p q a b old mid new read read' read'' stop k m = record {
+  went_on = k.turns;
+  last = Some m.turn;
+  are = each-more IsTurn v begun k.turns m.turn k.are m.is;
+  on = k.on;
+  stops = sym m.stops;
+  goes = more_goes v h p0 p q k.turns m.turn k.goes m.goes;
+  gave = more_gave v a.member b.member k.turns m.turn k.gave m.gave;
+  empties = more_empties v a.member b.member k.turns m.turn k.empties m.empties;
+  said = more_told said_in v k.turns m.turn old mid new k.said m.said;
+  reads = more_told reading_in v k.turns m.turn read read' read'' k.reads m.reads;
+  held = rw (standing-more v begun k.turns m.turn) m.held;
+}
+
+-- the receives are spent
+pub ran_spent : (v : Terms) (h : Hub) (p0 p : Pass) (a : At) (old new : Option (List Said)) (read read' : Option (List ℕ)) (stop : Stop) → Stood v h p0 p a old new read read' → a.receives ≡ v.turns → stop ≡ stop_closing Spent 1001 NoReason
+    → Ran v h p0 p a old new read read' stop
+ran_spent v h p0 p a old new read read' stop k all is = record {
+  went_on = k.turns;
+  last = None;
+  are = k.are;
+  on = k.on;
+  stops = (sym k.held.follows.receives ∙ all, is);
+  goes = k.goes;
+  gave = k.gave;
+  empties = k.empties;
+  said = k.said;
+  reads = k.reads;
+  held = k.held;
+}
+
+-- the link was closed and the hub left
+pub serves : (v : Terms) (h : Hub) (p0 p q : Pass) (a : At) (old mid new : Option (List Said)) (read read' : Option (List ℕ)) (stop : Stop) (conn : Option ℕ) (taken empties : ℕ) (why : Why)
+    → Ran v h p0 p a old mid read read' stop → Grows mid new (said_closing stop.closing) → Parts v h p q a.member a.ended conn taken empties → why ≡ named a.ended stop.why
+    → Serves v h p0 q old new read read' (record { why = why; conn = conn; taken = taken; empties = empties; turns = a.receives })
+serves v h p0 p q a old mid new read read' stop conn taken empties why r closed left is = record {
+  T = shares said_in v begun (and_last r.went_on r.last) ++ said_closing stop.closing;
+  R = shares reading_in v begun (and_last r.went_on r.last);
+  E = shares entries_in v begun (and_last r.went_on r.last) ++ leaving v.caller conn taken empties left.reply;
+  talk = grown old mid new (shares said_in v begun (and_last r.went_on r.last)) (said_closing stop.closing) r.said closed;
+  readings = r.reads;
+  goes = goes_on h p0 p q _ _ r.goes left.goes;
+  session = record {
+    course = record { went_on = r.went_on; last = r.last; stop = stop; turns = r.are; goes_on = r.on; stops = r.stops };
+    talk = refl;
+    readings = refl;
+    reply = left.reply;
+    entries = refl;
+    replied = λ c e joined met. left.replied c e joined (r.held.follows.ended ∙ met);
+    received = sym left.got ∙ r.gave;
+    why = is ∙ ap (λ x. named x stop.why) r.held.follows.ended;
+    conn = left.conn_is ∙ r.held.follows.conn;
+    taken = left.took ∙ ap (λ (x : List (List ℕ)). length x) left.got;
+    empties = left.empties_is ∙ r.empties;
+    made = r.held.follows.receives;
+  };
+}
+
+ended_found : (e : End) (d : Option End) (m : Member) → d ≡ Some e → HasFound d (Some m) → FoundEnd m.outlet e
+ended_found e None m is h = cc
+ended_found e (Some x) m is h = (let k : HasFound (Some e) (Some m) = rw is at h in k)
+
+-- the session had joined, and left
+pub part_left : (h : Hub) (v : Terms) (p q : Pass) (m : Member) (ended : Option End) (t : Told Gone) (empties : ℕ)
+    → Passed h p [] (leave_made (number_of p) m.conn (empties_of m.outlet) t) q → v.caller ≡ number_of p → empties ≡ empties_of m.outlet
+    → t.said.taken ≡ length (given m.outlet) → given m.outlet ≡ take t.said.taken (sent (about_of h) (entries (seen q)) m.conn) → ((e : End) → FoundEnd m.outlet e → t.said.ending ≡ e)
+    → HasFound ended (Some m) → Parts v h p q (Some m) ended (Some m.conn) t.said.taken empties
+part_left h v p q m ended t empties passed caller counted took got finds found = record {
+  reply = t.said.ending;
+  goes = goes_as h p q _ _ (rw (caller, counted) refl) (goes_passed h p q _ passed);
+  conn_is = refl;
+  took = took;
+  empties_is = counted;
+  got = got;
+  replied = λ c e joined met. finds e (ended_found e ended m met found);
+}
+
+-- the session had not joined
+pub part_alone : (h : Hub) (v : Terms) (p : Pass) (ended : Option End) → IsCaller h p → HasFound ended None → Parts v h p p None ended None 0 0
+part_alone h v p ended is found = record {
+  reply = Left;
+  goes = goes_nowhere h p is;
+  conn_is = refl;
+  took = refl;
+  empties_is = refl;
+  got = refl;
+  replied = λ c e joined met. cc;
+}
+
+spent_all : (a b : ℕ) → a ≤ b → (a < b → ⊥) → a ≡ b
+spent_all a b h k = elim (leb_tells b a) [ inl x ↦ (let y = x.1 in omega (arith, h, y)) | inr x ↦ absurd (k x.1) ]

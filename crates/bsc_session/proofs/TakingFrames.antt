@@ -1,0 +1,142 @@
+-- Frames are taken and put.
+use Rattle.std.proofs.Common.{◌≡◌, ◌≢◌, ℕ, ◌+◌, ◌<◌, ◌≤◌, List, [], ◌∷◌, ◌++◌, refl, ap, sym, ◌∙◌, append-nil, append_assoc, length-append, arith, Option, Some, None}
+use Rattle.std.specs.Prelude.{◌^◌, ◌-◌, min, suc, zero, length}
+use Rattle.std.proofs.lemmas.Bool.{lt-ltb}
+use Rattle.bsc_history.specs.declared.ending.End.{End}
+use Rattle.bsc_history.specs.declared.ending.End.TheVariants.{Left}
+use Rattle.bsc_edge.specs.declared.fault.LinkFault.{LinkFault}
+use Rattle.bsc_edge.specs.declared.said.Said.{Said}
+use Rattle.bsc_edge.specs.declared.said.Said.TheVariants.{Put}
+use Rattle.bsc_edge.specs.Told.{Grows}
+use Rattle.bsc_ring.specs.declared.ends.Outlet.{Outlet}
+use Rattle.bsc_ring.specs.declared.take.Take.{Take}
+use Rattle.bsc_ring.specs.declared.take.Take.TheVariants.{Frame, Empty, Closed}
+use mathlib.Core.Option.{some}
+use lib.ListN.{get_elem?}
+use Rattle.bsc_ring.specs.declared.found.Found.{Found}
+use Rattle.bsc_ring.specs.declared.found.Found.TheVariants.{Ending, Tail}
+use Rattle.bsc_ring.specs.Ends.{FoundEnd, Took, empties_of, found, given, outlet_mark}
+use Rattle.bsc_session.specs.declared.taken.Taken.TheVariants.{All, Met, Cut}
+use Rattle.bsc_session.specs.Inner.{Taking, Takes}
+use Rattle.bsc_session.specs.Puts.{puts, HasPut}
+use Rattle.bsc_session.proofs.Lists.{grows-nil, grows_as, grown, puts-more}
+
+elem_stays : (xs ys : List Found) (i : ℕ) (x : Found) → get_elem? xs i ≡ some x → get_elem? (xs ++ ys) i ≡ some x
+elem_stays [] ys i x h = cc
+elem_stays (y ∷ xs) ys zero x h = h
+elem_stays (y ∷ xs) ys (suc i) x h = elem_stays xs ys i x h
+
+took_found : (o p : Outlet) (t : Take) → Took o t p → (ys : List Found) × (found p ≡ found o ++ ys)
+took_found o p (Frame x) h = (Ending h.3.0 ∷ Tail h.3.1 ∷ [], h.3.3.0)
+took_found o p Empty h = (Ending None ∷ Tail (length (given o)) ∷ [], h.0.3.0)
+took_found o p (Closed e) h = (Ending (Some e) ∷ Tail (length (given o)) ∷ [], h.0.3.0)
+
+keeps_found : (o p : Outlet) (t : Take) (e : End) → Took o t p → FoundEnd o e → FoundEnd p e
+keeps_found o p t e took h = (let k = took_found o p t took in (h.0, rw k.1 (elem_stays (found o) k.0 h.0 _ h.1)))
+
+pub taking_begins : (o : Outlet) (old : Option (List Said)) → Taking o o old old 0
+taking_begins o old = record { frames = []; many = refl; mark = refl; keeps = λ e h. h; gave = sym (append-nil (given o)); empties = refl; said = grows-nil old }
+
+-- a frame was taken, and put
+pub taking_more : (o p q : Outlet) (old mid new : Option (List Said)) (n : ℕ) (f : List ℕ) → Taking o p old mid n
+    → Took p (Frame f) q → outlet_mark q ≡ outlet_mark p → Grows mid new (Put f None ∷ []) → Taking o q old new (n + 1)
+taking_more o p q old mid new n f t took mark said = record {
+  frames = t.frames ++ f ∷ [];
+  many = length-append t.frames (f ∷ []) ∙ ap (λ k. k + 1) t.many;
+  mark = mark ∙ t.mark;
+  keeps = λ e h. keeps_found p q (Frame f) e took (t.keeps e h);
+  gave = took.0 ∙ ap (λ k. k ++ f ∷ []) t.gave ∙ append_assoc (given o) t.frames (f ∷ []);
+  empties = took.2 ∙ t.empties;
+  said = grows_as old new _ _ (sym (puts-more t.frames f None)) (grown old mid new (puts t.frames None) (Put f None ∷ []) t.said said);
+}
+
+-- no fault needs no put
+well : (os : List (List ℕ)) → HasPut os None
+well [] = tt
+well (o ∷ os) = tt
+
+some_put : (os : List (List ℕ)) (o : List ℕ) (fault : Option LinkFault) → HasPut (os ++ o ∷ []) fault
+some_put [] o fault = tt
+some_put (p ∷ os) o fault = tt
+
+-- sixteen were taken
+pub takes_sixteen : (o p : Outlet) (old new : Option (List Said)) → Taking o p old new 16 → Takes o p old new All
+takes_sixteen o p old new t = record {
+  frames = t.frames;
+  mark = t.mark;
+  keeps = t.keeps;
+  found = λ e h. cc;
+  left = λ e h. cc;
+  gave = t.gave;
+  empties = rw t.many (let k = t.empties in omega (arith, k));
+  few = (let k = t.many in omega (arith, k));
+  said = t.said;
+  cause = well t.frames;
+}
+
+counted : (a b : ℕ) → a < 18446744073709551615 → b ≡ min (a + 1) (2 ^ 64 - 1) → b ≡ a + 1
+counted a b h is = omega (arith, h, is)
+
+-- fewer were there
+pub takes_few : (o p q : Outlet) (old new : Option (List Said)) (n : ℕ) → Taking o p old new n → n < 16 → empties_of o < 18446744073709551615
+    → Took p Empty q → outlet_mark q ≡ outlet_mark p → Takes o q old new All
+takes_few o p q old new n t few room took mark =
+    let less : empties_of p < 18446744073709551615 = rw t.empties room in
+    let one : empties_of q ≡ empties_of p + 1 = counted (empties_of p) (empties_of q) less took.2 in
+    record {
+      frames = t.frames;
+      mark = mark ∙ t.mark;
+      keeps = λ e h. keeps_found p q Empty e took (t.keeps e h);
+      found = λ e h. cc;
+      left = λ e h. cc;
+      gave = took.0.0 ∙ t.gave;
+      empties = rw (t.many, lt-ltb n 16 few) (one ∙ ap (λ k. k + 1) t.empties);
+      few = (let k = t.many in omega (arith, k, few));
+      said = t.said;
+      cause = well t.frames;
+    }
+
+end_is : (d e : End) → Some d ≡ Some e → d ≡ e
+end_is d e h = cc
+
+-- an End was there
+pub takes_met : (o p q : Outlet) (old new : Option (List Said)) (n : ℕ) (e : End) → Taking o p old new n → n < 16
+    → Took p (Closed e) q → outlet_mark q ≡ outlet_mark p → FoundEnd q e → Takes o q old new (Met e)
+takes_met o p q old new n e t few took mark finds = record {
+  frames = t.frames;
+  mark = mark ∙ t.mark;
+  keeps = λ d h. keeps_found p q (Closed e) d took (t.keeps d h);
+  found = λ d h. rw (sym (end_is e d h)) finds;
+  left = λ d h. rw (sym (end_is e d h)) took.1;
+  gave = took.0.0 ∙ t.gave;
+  empties = took.2 ∙ t.empties ∙ omega arith;
+  few = (let k = t.many in omega (arith, k, few));
+  said = t.said;
+  cause = well t.frames;
+}
+
+-- a put failed
+pub takes_cut : (o p q : Outlet) (old mid new : Option (List Said)) (n : ℕ) (f : List ℕ) (fault : LinkFault) → Taking o p old mid n → n < 16
+    → Took p (Frame f) q → outlet_mark q ≡ outlet_mark p → Grows mid new (Put f (Some fault) ∷ []) → Takes o q old new (Cut fault)
+takes_cut o p q old mid new n f fault t few took mark said = record {
+  frames = t.frames ++ f ∷ [];
+  mark = mark ∙ t.mark;
+  keeps = λ e h. keeps_found p q (Frame f) e took (t.keeps e h);
+  found = λ e h. cc;
+  left = λ e h. cc;
+  gave = took.0 ∙ ap (λ k. k ++ f ∷ []) t.gave ∙ append_assoc (given o) t.frames (f ∷ []);
+  empties = took.2 ∙ t.empties ∙ omega arith;
+  few = rw length-append (let k = t.many in omega (arith, k, few));
+  said = grows_as old new _ _ (sym (puts-more t.frames f (Some fault))) (grown old mid new (puts t.frames None) (Put f (Some fault) ∷ []) t.said said);
+  cause = some_put t.frames f (Some fault);
+}
+
+elem_there : (xs ys : List Found) (x : Found) → (i : ℕ) × (get_elem? (xs ++ x ∷ ys) i ≡ some x)
+elem_there [] ys x = (0, refl)
+elem_there (y ∷ xs) ys x = (let k = elem_there xs ys x in (suc k.0, k.1))
+
+-- the loads of a take that answers Closed find that End
+pub finds_end : (p q : Outlet) (e : End) → Took p (Closed e) q → FoundEnd q e
+finds_end p q e took =
+    let there = elem_there (found p) (Tail (length (given p)) ∷ []) (Ending (Some e)) in
+    (there.0, rw took.0.3.0 there.1)

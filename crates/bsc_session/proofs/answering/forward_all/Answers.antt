@@ -1,0 +1,14 @@
+use Rattle.std.proofs.Common.{Some, refl, ap}
+use Rattle.bsc_session.specs.Receiving.{worn, no_memory}
+use Rattle.bsc_session.proofs.Lists.{stays_same}
+use Rattle.bsc_session.proofs.HubCalls.{all_told, all_refused}
+use Rattle.bsc_session.proofs.answering.forward_all.Goals as goal
+
+pub returns-in-Ok-clause-forwarded : goal.returns-in-Ok-clause-forwarded
+returns-in-Ok-clause-forwarded g c = all_told c.args.hub.now c.args.pass.now c.forward_all.new.pass c.args.conn c.args.frame.now.message c.in-Ok.told (g.L.Link.talk c.args.link.now) (g.L.Link.talk c.wake_all.new.link) c.requires.caller c.in-Ok.ensures.pass c.wake_all.ensures.told
+
+pub returns-in-Err-Worn-clause-forwarded : goal.returns-in-Err-Worn-clause-forwarded
+returns-in-Err-Worn-clause-forwarded g c = all_refused c.args.hub.now c.args.pass.now c.forward_all.new.pass c.args.conn c.args.frame.now.message worn (g.L.Link.talk c.args.link.now) (g.L.Link.talk c.args.link.now) (Some c.worn.result) c.requires.caller c.in-Err-Worn.ensures.pass (stays_same (g.L.Link.talk c.args.link.now)) refl (ap (λ s. Some s) c.worn.ensures)
+
+pub returns-in-Err-NoMemory-clause-forwarded : goal.returns-in-Err-NoMemory-clause-forwarded
+returns-in-Err-NoMemory-clause-forwarded g c = all_refused c.args.hub.now c.args.pass.now c.forward_all.new.pass c.args.conn c.args.frame.now.message no_memory (g.L.Link.talk c.args.link.now) (g.L.Link.talk c.args.link.now) (Some c.stop_at.result) c.requires.caller c.in-Err-NoMemory.ensures.pass (stays_same (g.L.Link.talk c.args.link.now)) refl (ap (λ s. Some s) c.stop_at.ensures)

@@ -1,0 +1,5 @@
+use Rattle.bsc_session.proofs.Causing.{causes_are_exact}
+use Rattle.bsc_session.proofs.laws.causes_are_exact.Goals as goal
+
+pub returns : goal.returns
+returns c = causes_are_exact

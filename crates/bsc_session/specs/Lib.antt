@@ -1,0 +1,15 @@
+pub mod Standings
+pub mod Stops
+pub mod Puts
+pub mod Reading
+pub mod Taking
+pub mod Receiving
+pub mod Judging
+pub mod Answering
+pub mod Turns
+pub mod Course
+pub mod Talk
+pub mod Causes
+pub mod Laws
+pub mod Serving
+pub mod Inner

@@ -1,0 +1,71 @@
+-- The opening of a turn: its reading, the frames from the outlet, and the End that the outlet gives.
+use Rattle.std.specs.Prelude.{List, None, Option, Some, [], length, true, ℕ, ◌+◌, ◌++◌, ◌≡◌, ◌≤◌, ◌⊎◌}
+use Rattle.bsc_history.specs.declared.ending.End.{End}
+use Rattle.bsc_edge.specs.declared.fault.LinkFault.{LinkFault}
+use Rattle.bsc_accept.specs.declared.event.Event.TheVariants.{Ended}
+use Rattle.bsc_accept.specs.declared.step.Step.{Step}
+use Rattle.bsc_accept.specs.declared.step.Step.TheVariants.{Nothing}
+use Rattle.bsc_session.specs.declared.stop.Stop.{Stop}
+use Rattle.bsc_session.specs.declared.why.Why.{Why}
+use Rattle.bsc_session.specs.declared.why.Why.TheVariants.{EndedBy, Idle, WaitExpired}
+use Rattle.bsc_session.specs.Puts.{HasPut, octets_in}
+use Rattle.bsc_session.specs.Reading.{ticked, wanted_at}
+use Rattle.bsc_session.specs.Standings.{Standing, Terms, is_connected, told, wanted}
+use Rattle.bsc_session.specs.Stops.{closes, closing_in, first_of, stop_if}
+
+-- What comes before the receive: the reading, the frames from the outlet, the End that it gave, and what the last put
+-- answered where it failed.
+pub record Opening : Type 0 where
+  pub reading : ℕ
+  pub frames : List (List ℕ)
+  pub met : Option End
+  pub fault : Option LinkFault
+
+-- what the machine wants done at an End, where one was met, and where the session then stands
+abbrev pub end_step : Terms → Standing → ℕ → Option End → Step
+end_step v s now None = Nothing
+end_step v s now (Some e) = wanted v s (Ended now e)
+
+abbrev pub end_told : Standing → ℕ → Option End → Standing
+end_told s now None = s
+end_told s now (Some e) = record (told s (Ended now e)) { ended = Some e }
+
+-- Where the session stands after the opening.
+abbrev pub opened : Standing → Opening → Standing
+opened s o = end_told (ticked s o.reading) o.reading o.met
+
+-- The octets that are put: the frames, then those of the machine's step at an End.
+abbrev pub put_first : Terms → Standing → Opening → List (List ℕ)
+put_first v s o = o.frames ++ octets_in (end_step v (ticked s o.reading) o.reading o.met)
+
+-- a session that hasn't joined waits for its connect
+abbrev pub waiting_for : Option ℕ → Why
+waiting_for None = WaitExpired
+waiting_for (Some c) = Idle
+
+abbrev pub ended_by : Option End → Why
+ended_by None = Idle
+ended_by (Some e) = EndedBy e
+
+-- How an opening stops the session: by its reading, by a fault of a put, by its End.
+abbrev pub stop_before : Terms → Standing → Opening → Option Stop
+stop_before v s o =
+    first_of (closes (waiting_for s.conn) (closing_in (wanted_at v s o.reading)))
+    (first_of (stop_if o.fault)
+    (closes (ended_by o.met) (closing_in (end_step v (ticked s o.reading) o.reading o.met))))
+
+-- one for an End
+abbrev pub count_of : Option End → ℕ
+count_of None = 0
+count_of (Some e) = 1
+
+-- The outlet is looked at: the reading doesn't close, and the machine is in Connected.
+abbrev pub Looks : Terms → Standing → ℕ → Type 0
+Looks v s now = (is_connected (ticked s now) ≡ true) × (closing_in (wanted_at v s now) ≡ None)
+
+-- An opening as it may be: frames and an End come only where the outlet is looked at, at most sixteen of them, and a
+-- fault is that of a put.
+pub record IsOpening (v : Terms) (s : Standing) (o : Opening) : Type 0 where
+  pub takes : Looks v s o.reading ⊎ ((o.frames ≡ []) × (o.met ≡ None))
+  pub few : length o.frames + count_of o.met ≤ 16
+  pub cause : HasPut (put_first v s o) o.fault

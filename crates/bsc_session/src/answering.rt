@@ -1,0 +1,251 @@
+//! What follows from a message.
+ghost use Rattle.std.specs.Prelude.{◌≡◌, ◌≤◌, ◌≢◌, ℕ, Result, Ok, Some, None, IsTrue, IsFalse, is_some};
+ghost use Rattle.bsc_octets.specs.declared.identity.Identity.{Identity};
+ghost use Rattle.bsc_octets.specs.Addresses.{broadcast, same_vmac, zero_vmac};
+ghost use Rattle.bsc_octets.specs.Forwarding.{has_route, is_broadcast};
+ghost use Rattle.bsc_checks.specs.declared.phase.Phase.TheVariants.{Connected};
+ghost use Rattle.bsc_accept.specs.Standing.{AwaitsAnswer, IsOpen, LeftBy, StandsFor, phase_of};
+ghost use Rattle.bsc_edge.specs.declared.fault.LinkFault.{LinkFault};
+ghost use Rattle.bsc_edge.specs.declared.incoming.Incoming.{Incoming};
+ghost use Rattle.bsc_accept.specs.declared.reason.Reason.{Reason};
+ghost use Rattle.bsc_accept.specs.declared.event.Event.{Event};
+ghost use Rattle.bsc_accept.specs.declared.step.Step.{Step};
+ghost use Rattle.bsc_hub.specs.Passing.{IsCaller, IsOwnAs, about_of};
+ghost use Rattle.bsc_session.specs.declared.why.Why.{Why};
+ghost use Rattle.bsc_session.specs.Inner.{Answers, Carries, Forwards, HasStanding, HearsMessage, Held, IsMember, RoseIf, Runs, Tied};
+ghost use Rattle.bsc_session.specs.Standings.{Standing, Terms, start_of, wanted};
+ghost use Rattle.bsc_session.specs.Stops.{stop_closing};
+
+use crate::at::At;
+use crate::judging::verdict;
+use crate::member::Member;
+use crate::stop::Stop;
+use crate::stopping::{carry_out, stop_at, stop_closing};
+use crate::waking::{introduce, wake_all, wake_one};
+use crate::why::Why;
+use bsc_accept::{Closing, Step};
+use bsc_desk::{AllRefusal, Prepared, prepare};
+use bsc_edge::{Link, LinkFault};
+use bsc_history::Refusal;
+use bsc_hub::{ConnectRefusal, Hub, Joined, Pass};
+use bsc_octets::{Identity, Vmac};
+use std::alloc::Global;
+use std::sync::Wait;
+
+/// The hub has made as many calls as it may.
+fn worn() -> Stop
+    ensures { result ≡ stop_closing Why.Worn 1008 Reason.HubWorn }
+{
+    stop_closing(Why::Worn, Closing::HUB_WORN)
+}
+
+/// Tells the machine of a refusal, and carries out what it wants.
+fn refuse<L: Link>(alloc: Global, link: &mut L, at: &mut At, refusal: Refusal) -> Option<Stop>
+    requires { AwaitsAnswer at.old.machine }
+    ensures refused { (v : Terms) (s : Standing) → StandsFor at.old.machine (start_of v s) s.events
+        → Carries (L.talk link.old) (L.talk link.new) (wanted v s (Event.Refused refusal)) (Why.Refused refusal) result }
+    ensures member { at.new.member ≡ at.old.member }
+    ensures ended { at.new.ended ≡ at.old.ended }
+    ensures receives { at.new.receives ≡ at.old.receives }
+    ensures later { L.faults link.old ≤ L.faults link.new }
+    ensures failed { RoseIf result (L.faults link.old) (L.faults link.new) }
+{
+    let step = at.machine.refused(&refusal);
+    carry_out(alloc, link, step, Why::Refused(refusal))
+}
+
+fn address_of(who: &Identity) -> Vmac
+    ensures { result ≡ who.now.vmac }
+{
+    who.vmac
+}
+
+/// Asks the hub to join, and answers the peer.
+fn ask<R: Wait, L: Link>(
+    rt: &R,
+    alloc: Global,
+    hub: &Hub,
+    pass: &mut Pass,
+    link: &mut L,
+    at: &mut At,
+    who: Identity,
+) -> Option<Stop>
+    requires asked { AwaitsAnswer at.old.machine }
+    requires alone { at.old.member ≡ None }
+    requires caller { IsCaller hub.now pass.old }
+    requires not_zero { IsFalse (same_vmac who.vmac zero_vmac) }
+    requires not_broadcast { IsFalse (same_vmac who.vmac broadcast) }
+    ensures answered { (v : Terms) (s : Standing) (given : Result Incoming LinkFault) → Held hub.now v pass.old at.old s
+        → StandsFor at.old.machine (start_of v s) s.events → Tied s
+        → Answers v s (Step.Ask who) given hub.now pass.old pass.new at.old at.new (L.talk link.old) (L.talk link.new) result }
+    ensures later { L.faults link.old ≤ L.faults link.new }
+    ensures failed { RoseIf result (L.faults link.old) (L.faults link.new) }
+{
+    let address = address_of(&who);
+    match hub.connect(rt, alloc, pass, who) {
+        Ok(
+            Joined {
+                conn,
+                replaced,
+                outlet,
+                ..
+            },
+        ) => {
+            introduce(link, conn, replaced);
+            let member = Member {
+                conn,
+                address,
+                outlet,
+            };
+            let _none = at.member.replace(member);
+            let step = at.machine.joined();
+            carry_out(alloc, link, step, Why::PeerLeft)
+        }
+        Err(ConnectRefusal::Refused { refusal, .. }) => { refuse(alloc, link, at, refusal) }
+        Err(ConnectRefusal::Worn(_)) => Some(worn()),
+        Err(ConnectRefusal::NoMemory) => Some(stop_at(LinkFault::NoMemory)),
+    }
+}
+
+/// Forwards a unicast.
+fn forward_one<R: Wait, L: Link>(
+    rt: &R,
+    hub: &Hub,
+    pass: &mut Pass,
+    link: &mut L,
+    conn: u64,
+    frame: Prepared,
+) -> Option<Stop>
+    requires caller { IsCaller hub.now pass.old }
+    requires own { IsOwnAs pass.old conn frame.sender }
+    requires unicast { IsFalse (is_broadcast frame.message) }
+    ensures forwarded { Forwards hub.now pass.old pass.new conn frame.message (L.talk link.old) (L.talk link.new) result }
+    ensures same { L.faults link.new ≡ L.faults link.old }
+    ensures other { (n : ℕ) → RoseIf result n n }
+{
+    match hub.forward_one(rt, pass, conn, frame) {
+        Ok(told) => {
+            wake_one(link, told.said);
+            None
+        }
+        Err(_) => Some(worn()),
+    }
+}
+
+/// Forwards a broadcast.
+fn forward_all<R: Wait, L: Link>(
+    rt: &R,
+    alloc: Global,
+    hub: &Hub,
+    pass: &mut Pass,
+    link: &mut L,
+    conn: u64,
+    frame: &Prepared,
+) -> Option<Stop>
+    requires caller { IsCaller hub.now pass.old }
+    requires own { IsOwnAs pass.old conn frame.now.sender }
+    requires broadcast { IsTrue (is_broadcast frame.now.message) }
+    ensures forwarded { Forwards hub.now pass.old pass.new conn frame.now.message (L.talk link.old) (L.talk link.new) result }
+    ensures same { L.faults link.new ≡ L.faults link.old }
+    ensures other { (n : ℕ) → RoseIf result n n }
+{
+    match hub.forward_all(rt, alloc, pass, conn, frame) {
+        Ok(told) => {
+            wake_all(link, &told.said);
+            None
+        }
+        Err(AllRefusal::Worn(_)) => Some(worn()),
+        Err(AllRefusal::NoMemory) => Some(stop_at(LinkFault::NoMemory)),
+    }
+}
+
+/// Forwards a message of the connection that has this address.
+fn forward<R: Wait, L: Link>(
+    rt: &R,
+    alloc: Global,
+    hub: &Hub,
+    pass: &mut Pass,
+    link: &mut L,
+    conn: u64,
+    address: Vmac,
+    m: &[u8],
+) -> Option<Stop>
+    requires caller { IsCaller hub.now pass.old }
+    requires own { IsOwnAs pass.old conn address }
+    requires route { IsTrue (has_route m.now) }
+    ensures forwarded { Forwards hub.now pass.old pass.new conn m.now (L.talk link.old) (L.talk link.new) result }
+    ensures same { L.faults link.new ≡ L.faults link.old }
+    ensures other { (n : ℕ) → RoseIf result n n }
+{
+    let Ok(frame) = prepare(alloc, m, address) else {
+        return Some(stop_at(LinkFault::NoMemory));
+    };
+    if frame.is_broadcast() {
+        forward_all(rt, alloc, hub, pass, link, conn, &frame)
+    } else {
+        forward_one(rt, hub, pass, link, conn, frame)
+    }
+}
+
+/// Carries out the step of a message.
+fn answer<R: Wait, L: Link>(
+    rt: &R,
+    alloc: Global,
+    hub: &Hub,
+    pass: &mut Pass,
+    link: &mut L,
+    at: &mut At,
+    step: Step,
+    m: &[u8],
+) -> Option<Stop>
+    requires caller { IsCaller hub.now pass.old }
+    requires member { IsMember pass.old at.old.member }
+    requires left { LeftBy step at.old.machine }
+    requires alone { (who : Identity) → step ≡ Step.Ask who → at.old.member ≡ None }
+    requires not_zero { (who : Identity) → step ≡ Step.Ask who → IsFalse (same_vmac who.vmac zero_vmac) }
+    requires not_broadcast { (who : Identity) → step ≡ Step.Ask who → IsFalse (same_vmac who.vmac broadcast) }
+    requires some { step ≡ Step.Carry → IsTrue (is_some at.old.member) }
+    requires route { step ≡ Step.Carry → IsTrue (has_route m.now) }
+    ensures answered { (v : Terms) (s : Standing) → Held hub.now v pass.old at.old s
+        → StandsFor at.old.machine (start_of v s) s.events → Tied s
+        → Answers v s step (Ok (Incoming.Message m.now)) hub.now pass.old pass.new at.old at.new (L.talk link.old) (L.talk link.new) result }
+    ensures later { L.faults link.old ≤ L.faults link.new }
+    ensures failed { RoseIf result (L.faults link.old) (L.faults link.new) }
+{
+    match step {
+        Step::Ask(who) => ask(rt, alloc, hub, pass, link, at, who),
+        Step::Carry => match &at.member {
+            Some(member) => forward(rt, alloc, hub, pass, link, member.conn, member.address, m),
+            None => unreachable!(),
+        },
+        Step::Reply(_) | Step::ReplyClose(_, _) | Step::Close(_) | Step::Nothing => {
+            carry_out(alloc, link, step, Why::PeerLeft)
+        }
+    }
+}
+
+/// Judges a message, tells the machine, and carries out its step.
+pub fn take_message<R: Wait, L: Link>(
+    rt: &R,
+    alloc: Global,
+    hub: &Hub,
+    pass: &mut Pass,
+    link: &mut L,
+    at: &mut At,
+    now: u64,
+    m: &[u8],
+) -> Option<Stop>
+    requires { HasStanding hub.now pass.old at.old }
+    ensures heard { (v : Terms) (s : Standing) → v.hub ≡ (about_of hub.now).hub → Held hub.now v pass.old at.old s → Runs v at.old s
+        → HearsMessage v s now m.now hub.now pass.old pass.new at.old at.new (L.talk link.old) (L.talk link.new) result }
+    ensures later { L.faults link.old ≤ L.faults link.new }
+    ensures failed { RoseIf result (L.faults link.old) (L.faults link.new) }
+{
+    match verdict(alloc, m, at.machine.phase(), hub.identity().max_bvlc) {
+        Ok(verdict) => {
+            let step = at.machine.message(now, &verdict);
+            answer(rt, alloc, hub, pass, link, at, step, m)
+        }
+        Err(_) => Some(stop_at(LinkFault::NoMemory)),
+    }
+}

@@ -1,0 +1,31 @@
+//! One connection's session, from its first reading to its Leave.
+//!
+//! Start at `specs/Standings.antt` and `specs/Talk.antt`, and read `specs/Turns.antt` between them: what a session says
+//! of its link. Then `serving`, and down to `turning`, `taking` and `answering`, which are the parts of a turn.
+#![tactic(auto)]
+
+mod answering;
+mod at;
+mod ended;
+mod ending;
+mod judging;
+mod laws;
+mod limits;
+mod member;
+mod serving;
+mod stop;
+mod stopping;
+mod taken;
+mod taking;
+#[cfg(test)]
+mod tests;
+mod turning;
+mod waking;
+mod why;
+
+pub use ended::Ended;
+pub use laws::{causes_are_exact, sessions_end_at_fault};
+pub use limits::SessionLimits;
+pub use serving::serve_connection;
+pub use stop::Stop;
+pub use why::Why;

@@ -1,0 +1,58 @@
+//! How sessions are stopped.
+ghost use Rattle.std.specs.Prelude.{◌≡◌, ◌≢◌, ◌≤◌, Some};
+ghost use Rattle.bsc_session.specs.declared.why.Why.{Why};
+ghost use Rattle.bsc_session.specs.Inner.{Carries, RoseIf};
+ghost use Rattle.bsc_session.specs.Stops.{stop_at, stop_for};
+
+use crate::stop::Stop;
+use crate::why::Why;
+use bsc_accept::{Closing, Step};
+use bsc_edge::{Link, LinkFault};
+use std::alloc::Global;
+
+/// After a fault of the link nothing is put; want of memory tries to close.
+pub fn stop_at(fault: LinkFault) -> Stop
+    ensures { result ≡ stop_at fault }
+{
+    match fault {
+        LinkFault::Failed => Stop {
+            why: Why::LinkFault,
+            closing: None,
+        },
+        LinkFault::NoMemory => Stop {
+            why: Why::NoMemory,
+            closing: Some(Closing::NO_MEMORY),
+        },
+    }
+}
+
+/// A closing for this cause.
+pub fn stop_closing(why: Why, closing: Closing) -> Stop
+    ensures { result ≡ stop_for why (Some closing) }
+{
+    Stop {
+        why,
+        closing: Some(closing),
+    }
+}
+
+/// Carries out a step that calls nobody: puts its octets, and says how it stops the session.
+pub fn carry_out<L: Link>(alloc: Global, link: &mut L, step: Step, why: Why) -> Option<Stop>
+    requires { why ≢ Why.LinkFault }
+    ensures carried { Carries (L.talk link.old) (L.talk link.new) step why result }
+    ensures later { L.faults link.old ≤ L.faults link.new }
+    ensures failed { RoseIf result (L.faults link.old) (L.faults link.new) }
+{
+    match step {
+        Step::Reply(o) => match link.put(alloc, o.as_slice()) {
+            Ok(()) => None,
+            Err(fault) => Some(stop_at(fault)),
+        },
+        Step::ReplyClose(o, closing) => match link.put(alloc, o.as_slice()) {
+            Ok(()) => Some(stop_closing(why, closing)),
+            Err(fault) => Some(stop_at(fault)),
+        },
+        Step::Close(closing) => Some(stop_closing(why, closing)),
+        Step::Ask(_) | Step::Carry | Step::Nothing => None,
+    }
+}

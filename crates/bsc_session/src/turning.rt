@@ -1,0 +1,161 @@
+//! One turn.
+ghost use Rattle.std.specs.Prelude.{◌≡◌, ◌≤◌, ◌<◌, ◌≢◌, None, Some, IsTrue, is_some};
+ghost use Rattle.bsc_hub.specs.Passing.{about_of};
+ghost use Rattle.bsc_accept.specs.Standing.{IsConnected, IsOpen, StandsFor};
+ghost use Rattle.bsc_session.specs.Inner.{AreTerms, HasTerms, Starts, empties_by, Between, Follows, HasStanding, Hears, Held, IsFollowed, Makes, Opens, RoseIf, Runs, Ticks, conn_of};
+ghost use Rattle.bsc_session.specs.Reading.{started};
+ghost use Rattle.bsc_session.specs.Stops.{closing_in};
+ghost use Rattle.bsc_session.specs.Taking.{waiting_for};
+ghost use Rattle.bsc_session.specs.declared.why.Why.{Why};
+ghost use Rattle.bsc_session.specs.Standings.{Standing, Terms, is_connected, start_of};
+
+use crate::answering::take_message;
+use crate::at::At;
+use crate::limits::SessionLimits;
+use crate::member::Member;
+use crate::stop::Stop;
+use crate::stopping::{stop_at, stop_closing};
+use crate::taking::attend;
+use crate::why::Why;
+use bsc_accept::{Accepting, Closing, Step};
+use bsc_checks::Phase;
+use bsc_edge::{Clock, Incoming, Link};
+use bsc_hub::{Hub, Pass};
+use std::alloc::Global;
+use std::sync::Wait;
+
+/// How long a receive waits, in milliseconds.
+const WAIT_MS: u32 = 20;
+
+/// What a session waits for that its reading closes.
+fn waiting_for(member: &Option<Member>) -> Why
+    ensures waits { result ≡ waiting_for (conn_of member.now) }
+    ensures other { result ≢ Why.LinkFault }
+{
+    match member {
+        None => Why::WaitExpired,
+        Some(_) => Why::Idle,
+    }
+}
+
+/// The closing that a step wants.
+fn closing_in(step: Step) -> Option<Closing>
+    ensures { result ≡ closing_in step }
+{
+    match step {
+        Step::ReplyClose(_, closing) => Some(closing),
+        Step::Close(closing) => Some(closing),
+        Step::Ask(_) | Step::Reply(_) | Step::Carry | Step::Nothing => None,
+    }
+}
+
+/// Tells the machine the time.
+fn tick(at: &mut At, now: u64) -> Option<Stop>
+    requires { IsOpen at.old.machine }
+    ensures { (v : Terms) (s : Standing) → Follows at.old s → Runs v at.old s → Ticks v s now at.old at.new result }
+{
+    let why = waiting_for(&at.member);
+    let step = at.machine.tick(now);
+    match closing_in(step) {
+        Some(closing) => Some(stop_closing(why, closing)),
+        None => None,
+    }
+}
+
+/// Whether the machine is in the phase Connected.
+fn is_connected(machine: &Accepting) -> bool
+    requires { IsOpen machine.now }
+    ensures told { (v : Terms) (s : Standing) → StandsFor machine.now (start_of v s) s.events → result ≡ is_connected s }
+    ensures holds { IsTrue result → IsConnected machine.now }
+{
+    match machine.phase() {
+        Phase::Connected => true,
+        Phase::AwaitingRequest | Phase::AwaitingAccept | Phase::Disconnecting => false,
+    }
+}
+
+/// Opens a turn at a reading: the time, and in Connected what the outlet has.
+fn open<L: Link>(alloc: Global, link: &mut L, at: &mut At, now: u64) -> Option<Stop>
+    requires stands { IsFollowed at.old }
+    requires room { empties_by at.old.member < 18446744073709551615 }
+    ensures opened { (v : Terms) (s s0 : Standing) → s0 ≡ started s now → Follows at.old s0 → Runs v at.old s0
+        → Opens v s now at.old at.new (L.talk link.old) (L.talk link.new) result }
+    ensures later { L.faults link.old ≤ L.faults link.new }
+    ensures failed { RoseIf result (L.faults link.old) (L.faults link.new) }
+{
+    if let Some(stop) = tick(at, now) {
+        return Some(stop);
+    }
+    if is_connected(&at.machine) {
+        attend(alloc, link, at, now)
+    } else {
+        None
+    }
+}
+
+/// Receives, and does what follows.
+fn hear<R: Wait, L: Link>(
+    rt: &R,
+    alloc: Global,
+    hub: &Hub,
+    pass: &mut Pass,
+    link: &mut L,
+    at: &mut At,
+    now: u64,
+) -> Option<Stop>
+    requires stands { HasStanding hub.now pass.old at.old }
+    requires room { at.old.receives < 18446744073709551615 }
+    ensures heard { (v : Terms) (s : Standing) → v.hub ≡ (about_of hub.now).hub → Held hub.now v pass.old at.old s → Runs v at.old s
+        → Hears v s now hub.now pass.old pass.new at.old at.new (L.talk link.old) (L.talk link.new) result }
+    ensures later { L.faults link.old ≤ L.faults link.new }
+    ensures failed { RoseIf result (L.faults link.old) (L.faults link.new) }
+{
+    at.receives += 1;
+    match link.receive(alloc, WAIT_MS) {
+        Ok(Incoming::Message(m)) => take_message(rt, alloc, hub, pass, link, at, now, m.as_slice()),
+        Ok(Incoming::Quiet) => None,
+        Ok(Incoming::Text) => Some(stop_closing(Why::NotBinary, Closing::NOT_BINARY)),
+        Ok(Incoming::Closed) => Some(Stop {
+            why: Why::PeerClosed,
+            closing: None,
+        }),
+        Err(fault) => Some(stop_at(fault)),
+    }
+}
+
+/// Starts the machine, in the first turn.
+fn start(hub: &Hub, limits: &SessionLimits, at: &mut At, now: u64)
+    ensures { (v : Terms) (s : Standing) → AreTerms v hub.now limits.now → Follows at.old s → Between v at.old s
+        → Starts v s now at.old at.new }
+{
+    if at.receives == 0 {
+        at.machine = Accepting::start(hub.identity(), limits.times, now);
+    }
+}
+
+/// Makes a turn.
+pub fn turn<R: Wait, L: Link, C: Clock>(
+    rt: &R,
+    alloc: Global,
+    hub: &Hub,
+    pass: &mut Pass,
+    link: &mut L,
+    clock: &mut C,
+    limits: &SessionLimits,
+    at: &mut At,
+) -> Option<Stop>
+    requires stands { HasTerms hub.now pass.old limits.now at.old }
+    requires room { at.old.receives < 18446744073709551615 }
+    ensures made { (v : Terms) (s : Standing) → AreTerms v hub.now limits.now → Held hub.now v pass.old at.old s → Between v at.old s
+        → Makes v s hub.now pass.old pass.new at.old at.new (L.talk link.old) (L.talk link.new)
+        (C.readings clock.old) (C.readings clock.new) result }
+    ensures later { L.faults link.old ≤ L.faults link.new }
+    ensures failed { RoseIf result (L.faults link.old) (L.faults link.new) }
+{
+    let now = clock.now();
+    start(hub, limits, at, now);
+    match open(alloc, link, at, now) {
+        Some(stop) => Some(stop),
+        None => hear(rt, alloc, hub, pass, link, at, now),
+    }
+}

@@ -1,0 +1,56 @@
+//! Who is told that something is new.
+ghost use Rattle.std.specs.Prelude.{◌≡◌};
+ghost use Rattle.bsc_edge.specs.Told.{Stays};
+
+use bsc_desk::{AllReply, OneReply};
+use bsc_edge::Link;
+
+/// Tells the link of the receiver of a unicast, or of the connection that it ended.
+#[tactic(auto, using(crate::proofs::Lists::stays_same))]
+pub fn wake_one<L: Link>(link: &mut L, said: OneReply)
+    ensures told { Stays (L.talk link.old) (L.talk link.new) }
+    ensures same { L.faults link.new ≡ L.faults link.old }
+{
+    match said {
+        OneReply::Appended(look) | OneReply::Closed(look) => link.wake(look.conn),
+        OneReply::Skipped { .. }
+        | OneReply::NoHolder
+        | OneReply::NotCurrent { .. }
+        | OneReply::Stopped => (),
+    }
+}
+
+/// Tells the link of these connections.
+#[tactic(auto, using(crate::proofs::Lists::stays_same, crate::proofs::Lists::stays_on))]
+fn wake_each<L: Link>(link: &mut L, conns: &[u64])
+    ensures told { Stays (L.talk link.old) (L.talk link.new) }
+    ensures same { L.faults link.new ≡ L.faults link.old }
+{
+    for conn in conns {
+        link.wake(*conn);
+    }
+}
+
+/// Tells the link of the receivers of a broadcast.
+#[tactic(auto, using(crate::proofs::Lists::stays_same))]
+pub fn wake_all<L: Link>(link: &mut L, said: &AllReply)
+    ensures told { Stays (L.talk link.old) (L.talk link.new) }
+    ensures same { L.faults link.new ≡ L.faults link.old }
+{
+    match said {
+        AllReply::Sent { to, .. } => wake_each(link, to.as_slice()),
+        AllReply::NotCurrent { .. } | AllReply::Stopped => (),
+    }
+}
+
+/// Tells the link whose it is, and of the connection that was replaced.
+#[tactic(auto, using(crate::proofs::Lists::stays_same, crate::proofs::Lists::stays_on))]
+pub fn introduce<L: Link>(link: &mut L, conn: u64, replaced: Option<u64>)
+    ensures told { Stays (L.talk link.old) (L.talk link.new) }
+    ensures same { L.faults link.new ≡ L.faults link.old }
+{
+    link.known_as(conn);
+    if let Some(replaced) = replaced {
+        link.wake(replaced);
+    }
+}
