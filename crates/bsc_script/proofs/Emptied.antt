@@ -173,6 +173,11 @@ stays_both S d n r i j k a b = record {
   vmac = b.vmac ∙ a.vmac;
 }
 
+-- what isn't something is nothing
+pub none_left : (o : Option (Option End)) → ((e : Option End) → o ≡ Some e → ⊥) → o ≡ None
+none_left None away = refl
+none_left (Some e) away = absurd (away e refl)
+
 -- no frame was written yet
 pub writes_none : (S : List Stamped) (d : Desk) (i : Joined) (name before : List ℕ) → OwnsOutlet d S i → Writes S d d i i name before before
 writes_none S d i name before w = record {
