@@ -1,0 +1,4 @@
+pub mod OneHub
+pub mod Adding
+pub mod Looking
+pub mod Aside

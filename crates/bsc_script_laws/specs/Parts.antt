@@ -1,0 +1,18 @@
+-- Parts of what a line adds, each of which a function of its own carries.
+use Rattle.std.specs.Prelude.{◌≡◌, ◌≢◌, ℕ, false, List, ◌++◌, length, drop, codes}
+use Rattle.std.specs.List.{AllByRecursion}
+use Rattle.bsc_history.specs.declared.entry.Entry.{Entry}
+use Rattle.bsc_script.specs.States.{State, is_open}
+use Rattle.bsc_script.specs.Carrying.{Outcome}
+use Rattle.bsc_script.specs.Written.{Said}
+use Rattle.bsc_script.specs.Laws.{LooksAtWritten}
+
+-- What a line adds to the history: the calls that it made stand behind those before, and their looks find what had been
+-- written.
+pub record AddsToHistory (s : State) (o : Outcome) : Type 0 where
+  pub behind : (more : List Entry) × (o.state.history ≡ s.history ++ more)
+  pub looks : AllByRecursion (LooksAtWritten s) (drop (length s.history) o.state.history)
+
+-- A line writes nothing under a name that isn't open.
+abbrev pub WritesToOpenNames : State → Outcome → Type 0
+WritesToOpenNames s o = (name : List ℕ) → name ≢ codes "hub" → is_open s name ≡ false → AllByRecursion (λ (l : Said). l.name ≢ name) o.said
