@@ -1,9 +1,9 @@
 #!/usr/bin/env bash
 # Measures ./bsc replay beside bench/plain.cpp, an ordinary program without proofs, on a long script.
 #
-#     bench/replay.sh [UNICASTS [RUNS]]
+#     bench/replay.sh [UNICASTS [RUNS [NAMES]]]
 #
-# It writes the script by bench/long-script (1,000,000 unicasts), builds both programs, and compares what they write,
+# It writes the script by bench/long-script (1,000,000 unicasts between 200 names), builds both programs, and compares what they write,
 # octet by octet, before it tells a time. Then each of them runs RUNS times (5), by turns; its figure is the middle one.
 # PROGRAM may name another build of bsc, and CXX the compiler of the plain program.
 set -u
@@ -13,6 +13,7 @@ top=${top%/*/*}
 program=${PROGRAM-$top/crates/bsc_program/out/bsc_program}
 unicasts=${1-1000000}
 runs=${2-5}
+names=${3-200}
 
 fail() {
     echo "replay.sh: $1" >&2
@@ -24,7 +25,7 @@ trap 'rm -rf -- "$work"' EXIT
 
 [[ ${PROGRAM+set} ]] || "$top/bsc" replay < "$top/examples/unicast.script" > /dev/null || fail "bsc isn't built"
 "${CXX:-g++}" -std=c++17 -O2 -o "$work/plain" "$top/bench/plain.cpp" || fail "the plain program isn't built"
-"$top/bench/long-script" "$unicasts" > "$work/script" || fail "the script isn't written"
+"$top/bench/long-script" "$unicasts" "$names" > "$work/script" || fail "the script isn't written"
 lines=$(wc -l < "$work/script")
 
 "$program" replay < "$work/script" > "$work/bsc.out"
