@@ -2,3 +2,4 @@ pub mod OneHub
 pub mod Adding
 pub mod Looking
 pub mod Aside
+pub mod Written

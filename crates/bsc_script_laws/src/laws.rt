@@ -8,7 +8,7 @@ ghost use Rattle.bsc_script.specs.Carrying.{Outcome};
 ghost use Rattle.bsc_script.specs.Running.{run_line};
 ghost use Rattle.bsc_script.specs.Holding.{Holds};
 ghost use Rattle.bsc_script.specs.Laws.{IsOfOneHub, after_lines};
-ghost use Rattle.bsc_script_laws.specs.Parts.{AddsToHistory, WritesToOpenNames};
+ghost use Rattle.bsc_script_laws.specs.Parts.{AddsToHistory, WritesNewFrames, WritesToOpenNames};
 
 /// After any lines that a hub carried out, the calls that they made are a legal history of caller 0, and the frames
 /// that were written for each open name are the first ones that entered its outbox, in order: all of them where it is
@@ -29,4 +29,11 @@ pub fn a_line_adds_to_the_history()
 pub fn a_line_writes_to_open_names()
     ensures { (s : State) (line : Line) (o : Outcome) →
         run_line s line ≡ Some o → WritesToOpenNames s o }
+{}
+
+/// The frames that a line writes for a name that is open before it and after it stand together in its text, as lines
+/// of that name, in the order in which they entered the outbox.
+pub fn a_line_writes_its_frames_together()
+    ensures { (t : ScriptHub) (s : State) (line : Line) (o : Outcome) →
+        Holds t s → run_line s line ≡ Some o → WritesNewFrames s o }
 {}
