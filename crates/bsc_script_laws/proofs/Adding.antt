@@ -151,7 +151,7 @@ emptied_one_added P plain a H o x h = by (is_emptied o.state x.peer x.conn)
     by true = more
     by false = h
 
-all_emptied_added : (P : Entry → Type 0) → HoldsPlain P → (a : About) (H : List Entry) (xs : List OnConnection) (o : Outcome) → Adds P a H o.state → Adds P a H (fold emptied_one o xs).state
+pub all_emptied_added : (P : Entry → Type 0) → HoldsPlain P → (a : About) (H : List Entry) (xs : List OnConnection) (o : Outcome) → Adds P a H o.state → Adds P a H (fold emptied_one o xs).state
 all_emptied_added P plain a H [] o h = h
 all_emptied_added P plain a H (x ∷ xs) o h = all_emptied_added P plain a H xs (emptied_one o x) (emptied_one_added P plain a H o x h)
 

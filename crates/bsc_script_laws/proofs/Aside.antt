@@ -99,7 +99,7 @@ does_aside n s k Carry other h = quiet_aside n s h
 does_aside n s k (Close c) other h = (let e = ends_aside n s k other h in record { lines = (other, e.lines); others = e.others })
 does_aside n s k NoStep other h = quiet_aside n s h
 
-tells_aside : (n : List ℕ) (s : State) (k : Peer) (e : Event) → k.name ≢ n → AreOthers n s → IsAside n (tells s k e)
+pub tells_aside : (n : List ℕ) (s : State) (k : Peer) (e : Event) → k.name ≢ n → AreOthers n s → IsAside n (tells s k e)
 tells_aside n s k e other h = does_aside n (with_peer (told e k) s) (told e k) (step_of s k e) other (with_peer_others n s (told e k) other h)
 
 -- ---- a message
@@ -172,7 +172,7 @@ ending_aside : (n : List ℕ) (s : State) (k : Peer) (o : Option End) → k.name
 ending_aside n s k None other h = quiet_aside n (with_peer (found_empty k) s) (with_peer_others n s (found_empty k) other h)
 ending_aside n s k (Some ending) other h = tells_aside n (with_peer k s) k (Ended s.clock ending) other (with_peer_others n s k other h)
 
-empties_aside : (n : List ℕ) (s : State) (k : Peer) (c : ℕ) → k.name ≢ n → AreOthers n s → IsAside n (empties s k c)
+pub empties_aside : (n : List ℕ) (s : State) (k : Peer) (c : ℕ) → k.name ≢ n → AreOthers n s → IsAside n (empties s k c)
 empties_aside n s k c other h =
     let frames = unwritten s k c in
     more_aside n (frame_lines k.name frames) (ends_as s (given_frames frames k) (ended s.history c))
@@ -199,7 +199,7 @@ on_others n c (k ∷ ks) h = by (has_joined_as c k) refl (on_others n c ks h.1)
     by true is rest = (h.0 c (has_conn c k is), rest)
     by false is rest = rest
 
-in_order_others : (n : List ℕ) (xs : List Connection) (ks : List Peer) → AllByRecursion (IsOther n) ks
+pub in_order_others : (n : List ℕ) (xs : List Connection) (ks : List Peer) → AllByRecursion (IsOther n) ks
     → AllByRecursion (λ (x : OnConnection). x.peer.name ≢ n) (flat_map (λ (x : Connection). map (λ (k : Peer). record { conn = x.number; peer = k }) (filter (has_joined_as x.number) ks)) xs)
 in_order_others n [] ks h = tt
 in_order_others n (x ∷ xs) ks h =
@@ -227,7 +227,7 @@ as_aside : (n : List ℕ) (x o : Outcome) → x ≡ o → IsAside n x → IsAsid
 as_aside n x o e h = subst (λ (u : Outcome). IsAside n u) e h
 
 -- a name that isn't open is none of those that are
-none_of : (n : List ℕ) (ks : List Peer) → is_some (find (is_named n) ks) ≡ false → AllByRecursion (λ (k : Peer). k.name ≢ n) ks
+pub none_of : (n : List ℕ) (ks : List Peer) → is_some (find (is_named n) ks) ≡ false → AllByRecursion (λ (k : Peer). k.name ≢ n) ks
 none_of n [] h = tt
 none_of n (k ∷ ks) h = by (is_named n k) refl (none_of n ks)
   where
@@ -238,7 +238,7 @@ none_of n (k ∷ ks) h = by (is_named n k) refl (none_of n ks)
       rec (sym (ap (λ (b : Bool). is_some (cond b (Some k) (find (is_named n) ks))) is) ∙ h),
     )
 
-all_others : (n : List ℕ) (ks : List Peer) → AllByRecursion (λ (k : Peer). k.name ≢ n) ks → AllByRecursion (IsOther n) ks
+pub all_others : (n : List ℕ) (ks : List Peer) → AllByRecursion (λ (k : Peer). k.name ≢ n) ks → AllByRecursion (IsOther n) ks
 all_others n [] h = tt
 all_others n (k ∷ ks) h = ((λ c e. h.0), all_others n ks h.1)
 

@@ -3,3 +3,4 @@ pub mod Adding
 pub mod Looking
 pub mod Aside
 pub mod Written
+pub mod Lasting

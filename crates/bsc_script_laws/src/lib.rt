@@ -5,7 +5,4 @@
 
 mod laws;
 
-pub use laws::{
-    a_line_adds_to_the_history, a_line_writes_its_frames_together, a_line_writes_to_open_names,
-    a_script_is_of_one_hub,
-};
+pub use laws::{a_line_goes_on, a_script_is_of_one_hub};

@@ -16,15 +16,14 @@ pub returns-in-Some : goal.returns-in-Some
 returns-in-Some c S w =
     let h = c.loop-taken.invariant S w in
     let t : TakesOne S (Some c.in-Some.ending) c.loop-taken.desk c.write_next.new.desk c.loop-taken.joined c.write_next.new.joined c.args.name.now c.loop-taken.text.items c.write_next.new.text.items =
-        subst (λ (o : Option (Option End)). TakesOne S o c.loop-taken.desk c.write_next.new.desk c.loop-taken.joined c.write_next.new.joined c.args.name.now c.loop-taken.text.items c.write_next.new.text.items) c.in-Some.is (c.in_ok-ending.ensures S h.0.stays.owns) in
+    subst (λ (o : Option (Option End)). TakesOne S o c.loop-taken.desk c.write_next.new.desk c.loop-taken.joined c.write_next.new.joined c.args.name.now c.loop-taken.text.items c.write_next.new.text.items) c.in-Some.is (c.in_ok-ending.ensures S h.0.stays.owns) in
     writes_all S c.in-Some.ending c.args.desk.now c.loop-taken.desk c.write_next.new.desk c.args.joined.now c.loop-taken.joined c.write_next.new.joined c.args.name.now c.args.text.now.items c.loop-taken.text.items c.write_next.new.text.items h.0 t
 
 pub loop-taken-preserved : goal.loop-taken-preserved
 loop-taken-preserved c S w =
     let h = c.loop-taken.invariant S w in
     let t : TakesOne S None c.loop-taken.desk c.write_next.new.desk c.loop-taken.joined c.write_next.new.joined c.args.name.now c.loop-taken.text.items c.write_next.new.text.items =
-        subst (λ (o : Option (Option End)). TakesOne S o c.loop-taken.desk c.write_next.new.desk c.loop-taken.joined c.write_next.new.joined c.args.name.now c.loop-taken.text.items c.write_next.new.text.items) (none_left c.in_ok-ending.field-0 c.in_default.not-Some) (c.in_ok-ending.ensures S h.0.stays.owns) in
-    (
+    subst (λ (o : Option (Option End)). TakesOne S o c.loop-taken.desk c.write_next.new.desk c.loop-taken.joined c.write_next.new.joined c.args.name.now c.loop-taken.text.items c.write_next.new.text.items) (none_left c.in_ok-ending.field-0 c.in_default.not-Some) (c.in_ok-ending.ensures S h.0.stays.owns) in (
       writes_both S c.args.desk.now c.loop-taken.desk c.write_next.new.desk c.args.joined.now c.loop-taken.joined c.write_next.new.joined c.args.name.now c.args.text.now.items c.loop-taken.text.items c.write_next.new.text.items h.0 t.0,
       omega (arith, h.1, t.1),
     )
