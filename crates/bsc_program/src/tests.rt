@@ -43,7 +43,7 @@ const CASES: [Case; 14] = [
         writes: &[],
         room: 99,
         status: 0,
-        text: "A unbuilt 09\nA unbuilt --\n",
+        text: "A silent C1\nA silent C1\n",
     },
     Case {
         words: &[],
@@ -88,7 +88,7 @@ const CASES: [Case; 14] = [
         writes: &[],
         room: 99,
         status: 2,
-        text: "A unbuilt 09\nfault script line 4\n",
+        text: "A silent C1\nfault script line 4\n",
     },
     Case {
         words: REPLAY,
@@ -115,7 +115,7 @@ const CASES: [Case; 14] = [
         writes: &[],
         room: 99,
         status: 3,
-        text: "A unbuilt 09\nfault read\n",
+        text: "A silent C1\nfault read\n",
     },
     Case {
         words: REPLAY,
@@ -133,7 +133,7 @@ const CASES: [Case; 14] = [
         writes: &[],
         room: 20,
         status: 4,
-        text: "A unbuilt 09\nA unbui",
+        text: "A silent C1\nA silent",
     },
     Case {
         words: REPLAY,
@@ -142,25 +142,25 @@ const CASES: [Case; 14] = [
         writes: &[2],
         room: 99,
         status: 4,
-        text: "A unbuilt 09\n",
+        text: "A silent C1\n",
     },
     Case {
         words: REPLAY,
         script: REFUSED,
         reads: &[],
         writes: &[],
-        room: 32,
+        room: 31,
         status: 4,
-        text: "A unbuilt 09\nfault script line 4",
+        text: "A silent C1\nfault script line 4",
     },
     Case {
         words: REPLAY,
         script: SCRIPT,
         reads: &[2],
         writes: &[],
-        room: 18,
+        room: 17,
         status: 4,
-        text: "A unbuilt 09\nfault",
+        text: "A silent C1\nfault",
     },
 ];
 
