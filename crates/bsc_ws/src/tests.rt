@@ -1,8 +1,8 @@
 //! Links, handshakes and URIs over streams in memory.
 use crate::stream_link::StreamLink;
 use crate::target::target_of;
-use crate::{NoMask, accept, dial, limits, settle};
-use bsc_edge::{Incoming, Kind, Link, LinkFault, MemPatience, Patience};
+use crate::{NoMask, dial, limits, settle};
+use bsc_edge::{Incoming, Kind, Link, MemPatience};
 use std::alloc::{AllocError, Global};
 use std::io::{self, ErrorKind, Read, Write};
 use std::test::Fail;
@@ -152,85 +152,6 @@ fn frames(rt: HostRuntime) -> Result<(), Fail> {
         let mut link = StreamLink::over(socket, MemPatience::new(alloc, &[]));
         assert!(rt; told(alloc, &mut link)?.as_slice() == answers);
     }
-    Ok(())
-}
-
-/// Puts and closings as they go out, and a wait that can't be set.
-#[test]
-fn puts(rt: HostRuntime) -> Result<(), Fail> {
-    let alloc = rt.alloc();
-    let mut stream = whole(alloc, b"");
-    let failing = [1];
-    let mut link = settle(
-        alloc,
-        &mut stream,
-        MemPatience::new(alloc, &failing),
-        NoMask,
-    );
-    assert!(rt; told(alloc, &mut link)?.as_slice() == b"F".as_slice());
-    link.known_as(1);
-    link.wake(2);
-    assert_eq!(rt; link.put(alloc, b"abc"), Ok(()));
-    assert_eq!(rt; link.close(alloc, 1008, "idle"), Ok(()));
-    assert_eq!(rt; link.put(alloc, b"abc"), Err(LinkFault::Failed));
-    drop(link);
-    assert!(rt; stream.written.as_slice() == b"\x82\x03abc\x88\x06\x03\xF0idle".as_slice());
-    Ok(())
-}
-
-/// A request of a client that offers these.
-fn request(alloc: Global, lines: &str) -> Result<Vec<u8>, AllocError> {
-    let mut head = Vec::from_slice(
-        alloc,
-        b"GET / HTTP/1.1\r\nHost: h\r\nConnection: Upgrade\r\nUpgrade: websocket\r\n".as_slice(),
-    )?;
-    head.extend_from_slice(b"Sec-WebSocket-Version: 13\r\n")?;
-    head.extend_from_slice(b"Sec-WebSocket-Key: dGhlIHNhbXBsZSBub25jZQ==\r\n")?;
-    head.extend_from_slice(lines.as_bytes())?;
-    head.extend_from_slice(b"\r\n")?;
-    Ok(head)
-}
-
-/// Offers of sub-protocols, and whether they are taken.
-#[test]
-fn offers(rt: HostRuntime) -> Result<(), Fail> {
-    let alloc = rt.alloc();
-    let rows = [
-        ("Sec-WebSocket-Protocol: hub.bsc.bacnet.org\r\n", true),
-        (
-            "Sec-WebSocket-Protocol: dc.bsc.bacnet.org, hub.bsc.bacnet.org\r\n",
-            true,
-        ),
-        (
-            "Sec-WebSocket-Protocol: x\r\nSec-WebSocket-Protocol: hub.bsc.bacnet.org\r\n",
-            true,
-        ),
-        ("Sec-WebSocket-Protocol: dc.bsc.bacnet.org\r\n", false),
-        ("Sec-WebSocket-Protocol: hub.bsc.bacnet.org.x\r\n", false),
-        ("Sec-WebSocket-Protocol: HUB.bsc.bacnet.org\r\n", false),
-        ("", false),
-    ];
-    for (lines, taken) in rows {
-        let head = request(alloc, lines)?;
-        let mut stream = whole(alloc, head.as_slice());
-        let wait = MemPatience::new(alloc, &[]);
-        assert_eq!(rt;
-            accept(alloc, &mut stream, wait, NoMask, Kind::Hub).is_ok(),
-            taken
-        );
-        let status: &[u8] = if taken {
-            b"HTTP/1.1 101"
-        } else {
-            b"HTTP/1.1 400"
-        };
-        assert!(rt; stream.written.as_slice().starts_with(status), "{lines}");
-    }
-    // A head without an end is read no further than a head may go.
-    let endless = Vec::from_elem(alloc, b'a', 40_000)?;
-    let mut stream = whole(alloc, endless.as_slice());
-    let wait = MemPatience::new(alloc, &[]);
-    assert!(rt; accept(alloc, &mut stream, wait, NoMask, Kind::Hub).is_err());
-    assert_eq!(rt; stream.taken, 16_384);
     Ok(())
 }
 
