@@ -1,7 +1,10 @@
-mod Judging
+pub mod OnLiterals
 mod Scenes
 mod WorkedHubs
 mod WorkedEnds
 mod WorkedRenewal
 mod WorkedDirect
 pub mod Order
+pub mod Passing
+pub mod Told
+pub mod Calm
