@@ -29,10 +29,10 @@ use Rattle.bsc_direct.proofs.Finding.{none_passes, found_as_kept, none_found}
 abbrev pub Stand : List Slot → List SlotCall → Type 0
 Stand items calls = (k : ℕ) → SlotStands calls k (slot_at items k)
 
-set_here : (xs : List Slot) (i k : ℕ) (s : Slot) → i < length xs → (i == k) ≡ true → slot_at (set xs i s) k ≡ s
+pub set_here : (xs : List Slot) (i k : ℕ) (s : Slot) → i < length xs → (i == k) ≡ true → slot_at (set xs i s) k ≡ s
 set_here xs i k s within h = get_or-set_at xs i k s Free (sym (eqb-true i k h)) within
 
-set_there : (xs : List Slot) (i k : ℕ) (s : Slot) → (i == k) ≡ false → slot_at (set xs i s) k ≡ slot_at xs k
+pub set_there : (xs : List Slot) (i k : ℕ) (s : Slot) → (i == k) ≡ false → slot_at (set xs i s) k ≡ slot_at xs k
 set_there xs i k s h = get_or-set_other xs i k s Free (λ e. eqb-false i k h (sym e))
 
 unless_quiet : (k : ℕ) (call : SlotCall) (o : Option Identity) → ((w : Identity) → replaces k w call ≡ false) → unless_now k call o ≡ o
@@ -87,7 +87,7 @@ past_stands calls items slot past st k = by (slot == k) refl
 
 -- ---- a slot comes up
 
-keeps_claimed : (s : Slot) → says_claimed (without_peer s) ≡ says_claimed s
+pub keeps_claimed : (s : Slot) → says_claimed (without_peer s) ≡ says_claimed s
 keeps_claimed Free = refl
 keeps_claimed (Claimed v) = refl
 keeps_claimed (Established v who) = refl
@@ -97,16 +97,16 @@ keeps_wanted Free = refl
 keeps_wanted (Claimed v) = refl
 keeps_wanted (Established v who) = refl
 
-loses_peer : (s : Slot) → says_peer (without_peer s) ≡ None
+pub loses_peer : (s : Slot) → says_peer (without_peer s) ≡ None
 loses_peer Free = refl
 loses_peer (Claimed v) = refl
 loses_peer (Established v who) = refl
 
-abbrev Within : Option ℕ → List Slot → Type 0
+abbrev pub Within : Option ℕ → List Slot → Type 0
 Within replaced items = (j : ℕ) → replaced ≡ Some j → j < length items
 
 -- what a slot's loss of its peer leaves as it was
-without_same : {A : Type 0} (f : Slot → A) (replaced : Option ℕ) (items : List Slot) (k : ℕ) → ((s : Slot) → f (without_peer s) ≡ f s) → Within replaced items → f (slot_at (slots_without replaced items) k) ≡ f (slot_at items k)
+pub without_same : {A : Type 0} (f : Slot → A) (replaced : Option ℕ) (items : List Slot) (k : ℕ) → ((s : Slot) → f (without_peer s) ≡ f s) → Within replaced items → f (slot_at (slots_without replaced items) k) ≡ f (slot_at items k)
 without_same f None items k keeps within = refl
 without_same f (Some r) items k keeps within = by (r == k) refl
   where
@@ -114,7 +114,7 @@ without_same f (Some r) items k keeps within = by (r == k) refl
     by true h = ap f (set_here items r k (without_peer (slot_at items r)) (within r refl) h) ∙ keeps (slot_at items r) ∙ ap (λ (j : ℕ). f (slot_at items j)) (eqb-true r k h)
     by false h = ap f (set_there items r k (without_peer (slot_at items r)) h)
 
-length_without : (replaced : Option ℕ) (items : List Slot) → length (slots_without replaced items) ≡ length items
+pub length_without : (replaced : Option ℕ) (items : List Slot) → length (slots_without replaced items) ≡ length items
 length_without None items = refl
 length_without (Some r) items = length-set items r (without_peer (slot_at items r))
 
@@ -136,7 +136,7 @@ gone : (slot k : ℕ) (who : Identity) (o : Option Identity) → (slot == k) ≡
 gone slot k who None n same = refl
 gone slot k who (Some z) n same = ap (λ (b : Bool). cond b None (Some z)) (ap (λ (b : Bool). not b && same_device who.device z.device) n ∙ same z refl)
 
-abbrev by_device : Identity → Identity → Bool
+abbrev pub by_device : Identity → Identity → Bool
 by_device who peer = same_device peer.device who.device
 
 -- the peer of another slot once this one came up
@@ -223,7 +223,7 @@ up_unless true o d r h = cc
 up_unless false (Some x) d r h = cc
 up_unless false None d r h = (refl, cc)
 
-up_by : (w : Option Vmac) (who : Identity) (own : Bool) (o d r : Option ℕ) → unless_wrong w who (unless_own own (unless_rival o d)) ≡ IsUp r → (o ≡ None) × (d ≡ r)
+pub up_by : (w : Option Vmac) (who : Identity) (own : Bool) (o d r : Option ℕ) → unless_wrong w who (unless_own own (unless_rival o d)) ≡ IsUp r → (o ≡ None) × (d ≡ r)
 up_by None who own o d r h = up_unless own o d r h
 up_by (Some v) who own o d r h = by (same_vmac v who.vmac) h
   where
