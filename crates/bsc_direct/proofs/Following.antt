@@ -208,7 +208,7 @@ up_stands calls items slot who replaced st apart within is here claimed k = by (
 kept_as_told : (calls : List SlotCall) (items : List Slot) (test : Identity → Bool) → length items ≡ 64 → Stand items calls → kept_with test items ≡ established_with test calls
 kept_as_told calls items test len st = found_as_kept (λ (s : Slot). is_peer test (says_peer s)) (λ (k : ℕ). is_peer test (established_peer calls k)) Free items len (λ k. ap (is_peer test) (sym (st k).peer))
 
-answer_is : (calls : List SlotCall) (items : List Slot) (own : Vmac) (slot : ℕ) (who : Identity) → length items ≡ 64 → Stand items calls → says_claimed (slot_at items slot) ≡ true → establish_kept own items slot who ≡ establish own calls slot who
+pub answer_is : (calls : List SlotCall) (items : List Slot) (own : Vmac) (slot : ℕ) (who : Identity) → length items ≡ 64 → Stand items calls → says_claimed (slot_at items slot) ≡ true → establish_kept own items slot who ≡ establish own calls slot who
 answer_is calls items own slot who len st claimed =
     ap (λ (w : Option Vmac). unless_wrong w who (unless_own (same_vmac who.vmac own) (unless_rival (kept_with (is_rival who) items) (kept_with (by_device who) items)))) (sym ((st slot).wanted claimed))
     ∙ ap (λ (r : Option ℕ). unless_wrong (wanted calls slot) who (unless_own (same_vmac who.vmac own) (unless_rival r (kept_with (by_device who) items)))) (kept_as_told calls items (is_rival who) len st)

@@ -65,7 +65,7 @@ impl Direct {
     }
 
     /// Whether the connection of a slot is established with this peer.
-    fn answer(&self, own: Vmac, slot: u32, peer: &Identity) -> Establish
+    pub(crate) fn answer(&self, own: Vmac, slot: u32, peer: &Identity) -> Establish
         requires { slot < 64 }
         ensures { result ≡ establish_kept own self.now.slots.items slot peer.now }
     {

@@ -1,12 +1,13 @@
 //! What can be asked of the slots, and a copy of them.
-ghost use Rattle.std.specs.Prelude.{◌≡◌, List, IfOk};
+ghost use Rattle.std.specs.Prelude.{◌≡◌, ◌<◌, List, IfOk};
 ghost use Rattle.bsc_direct.specs.declared.call.SlotCall.{SlotCall};
-ghost use Rattle.bsc_direct.specs.Slots.{established_peer, free_slot, wanted};
+ghost use Rattle.bsc_direct.specs.Slots.{establish, established_peer, free_slot, wanted};
 ghost use Rattle.bsc_direct.specs.Kept.{says_peer, says_wanted, slot_at};
 ghost use Rattle.bsc_direct.specs.Left.{IsHeld};
 ghost use Rattle.bsc_direct.specs.Standing.{StandsFor};
 
 use crate::direct::Direct;
+use crate::establish::Establish;
 use crate::places::place_free;
 use crate::slot::Slot;
 use bsc_octets::{Identity, NoMemory, Vmac};
@@ -35,7 +36,7 @@ impl Direct {
 
     /// The VMAC that is wanted of the peer of a slot that is claimed, where one is.
     pub fn wanted(&self, slot: u32) -> Option<Vmac>
-        ensures told { (calls : List SlotCall) → StandsFor self.now calls → IsHeld self.now slot → result ≡ wanted calls slot }
+        ensures { (calls : List SlotCall) → StandsFor self.now calls → IsHeld self.now slot → result ≡ wanted calls slot }
     {
         self.slot(slot).wanted()
     }
@@ -45,6 +46,15 @@ impl Direct {
         ensures { (calls : List SlotCall) → StandsFor self.now calls → result ≡ established_peer calls slot }
     {
         self.slot(slot).peer()
+    }
+
+    /// What `establish` answers, with nothing established yet.
+    pub fn establishes(&self, own: Vmac, slot: u32, peer: &Identity) -> Establish
+        requires { slot < 64 }
+        ensures { (calls : List SlotCall) → StandsFor self.now calls → IsHeld self.now slot
+            → result ≡ establish own calls slot peer.now }
+    {
+        self.answer(own, slot, peer)
     }
 
     /// The same slots in memory of their own.
