@@ -21,7 +21,7 @@ use Rattle.bsc_node.specs.declared.node_event.NodeEvent.TheVariants.{Start, Open
 use Rattle.bsc_node.specs.declared.timed_event.TimedEvent.{TimedEvent}
 use Rattle.bsc_node.specs.declared.action.Action.{Action}
 use Rattle.bsc_node.specs.declared.action.Action.TheVariants.{Put}
-use Rattle.bsc_node.specs.Logs.{About}
+use Rattle.bsc_node.specs.Logs.{Made}
 use Rattle.bsc_node.proofs.Judging.{judge}
 
 -- ---- peers
@@ -63,7 +63,7 @@ settings failover uris = record {
 }
 
 -- B with these settings, which knows these messages
-abbrev pub node : NodeLimits → List Message → About
+abbrev pub node : NodeLimits → List Message → Made
 node limits known = record { own = b; limits = limits; judge = judge known }
 
 abbrev pub alone : NodeLimits

@@ -14,7 +14,7 @@ use Rattle.bsc_node.specs.declared.node_event.NodeEvent.TheVariants.{Start, Open
 use Rattle.bsc_node.specs.declared.timed_event.TimedEvent.{TimedEvent}
 use Rattle.bsc_node.specs.declared.note.Note.TheVariants.{HubNow, Uris, DirectUp, DirectDown, NoPath, TooLong, NoUris, SlotsFull, AskPending, NoDirect, Advert as ToldAdvert, Nak}
 use Rattle.bsc_node.specs.declared.action.Action.TheVariants.{Dial, Take, Refuse, Put, Close, Deliver, Tell}
-use Rattle.bsc_node.specs.Logs.{About}
+use Rattle.bsc_node.specs.Logs.{Made}
 use Rattle.bsc_node.specs.Node.{each_actions, actions}
 use Rattle.bsc_node.specs.Conditions.{may_all_come}
 use Rattle.bsc_node.specs.Laws.{is_always_sound}
@@ -101,7 +101,7 @@ answers =
     ∷ plain 1 (ConnectRequest c) ∷ plain 1 (ConnectRequest (peer 0x0A 0xDD)) ∷ plain 1 (ConnectRequest (peer 0x0B 0xDD))
     ∷ from 10 9 (Npdu (1 ∷ 2 ∷ [])) ∷ from 12 9 (Npdu (1 ∷ 2 ∷ [])) ∷ plain 9 (Npdu (1 ∷ 2 ∷ [])) ∷ plain 9 AddressResolution ∷ plain 9 HeartbeatRequest ∷ []
 
-abbrev the_node : About
+abbrev the_node : Made
 the_node = node alone answers
 
 -- It is asked once; its NAK is told and drops it, and it can be asked again. An answer with an old Message ID, or of

@@ -8,14 +8,14 @@ use Rattle.bsc_node.specs.declared.node_event.NodeEvent.TheVariants.{Start, Open
 use Rattle.bsc_node.specs.declared.timed_event.TimedEvent.{TimedEvent}
 use Rattle.bsc_node.specs.declared.note.Note.TheVariants.{NoPath, HubNow, DirectUp, DirectDown, Finished}
 use Rattle.bsc_node.specs.declared.action.Action.TheVariants.{Dial, Take, Close, Tell}
-use Rattle.bsc_node.specs.Logs.{About}
+use Rattle.bsc_node.specs.Logs.{Made}
 use Rattle.bsc_node.specs.Node.{each_actions, actions}
 use Rattle.bsc_node.specs.Conditions.{may_all_come}
 use Rattle.bsc_node.specs.Laws.{is_always_sound}
 use Rattle.std.specs.Prelude.{◌&&◌}
 use Rattle.bsc_node.proofs.Scenes.{alone, a, b, address, node, with_failover, primary_uri, plain, accept, primary, failover, direct, at, hears, puts, connects}
 
-abbrev two_hubs : About
+abbrev two_hubs : Made
 two_hubs = node with_failover (accept 1 ∷ plain 2 DisconnectAck ∷ plain 1 (ConnectRequest a) ∷ plain 3 DisconnectAck ∷ [])
 
 -- No link is there: it has ended at once.

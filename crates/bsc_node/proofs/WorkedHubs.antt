@@ -10,7 +10,7 @@ use Rattle.bsc_node.specs.declared.node_event.NodeEvent.TheVariants.{Start, Open
 use Rattle.bsc_node.specs.declared.timed_event.TimedEvent.{TimedEvent}
 use Rattle.bsc_node.specs.declared.note.Note.TheVariants.{HubNow, Nak}
 use Rattle.bsc_node.specs.declared.action.Action.TheVariants.{Dial, Close, Tell}
-use Rattle.bsc_node.specs.Logs.{About}
+use Rattle.bsc_node.specs.Logs.{Made}
 use Rattle.bsc_node.specs.Node.{each_actions, actions}
 use Rattle.bsc_node.specs.Conditions.{may_all_come}
 use Rattle.bsc_node.specs.Laws.{is_always_sound}
@@ -19,7 +19,7 @@ use Rattle.bsc_node.proofs.Scenes.{b, address, node, alone, with_failover, idle,
 
 -- ---- the primary hub fails, the failover is dialled in the same step, and the primary hub comes back
 
-abbrev two_hubs : About
+abbrev two_hubs : Made
 two_hubs = node with_failover (accept 1 ∷ accept 2 ∷ accept 3 ∷ plain 3 DisconnectAck ∷ [])
 
 abbrev comes_back : List TimedEvent

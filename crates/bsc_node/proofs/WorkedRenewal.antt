@@ -13,7 +13,7 @@ use Rattle.bsc_node.specs.declared.node_event.NodeEvent.TheVariants.{Start, Open
 use Rattle.bsc_node.specs.declared.timed_event.TimedEvent.{TimedEvent}
 use Rattle.bsc_node.specs.declared.note.Note.TheVariants.{Nak, Renewed, NoRandom as ToldNoRandom}
 use Rattle.bsc_node.specs.declared.action.Action.TheVariants.{Dial, Close, Tell, Draw}
-use Rattle.bsc_node.specs.Logs.{About}
+use Rattle.bsc_node.specs.Logs.{Made}
 use Rattle.bsc_node.specs.Node.{each_actions, actions, log}
 use Rattle.bsc_node.specs.Conditions.{may_all_come}
 use Rattle.bsc_node.specs.Laws.{is_always_sound, hubs_are_sound}
@@ -32,7 +32,7 @@ refusals = refusal 1 ∷ refusal 2 ∷ refusal 3 ∷ refusal 4 ∷ refusal 5 ∷
 abbrev own : Identity
 own = peer 0x0A 0xBB
 
-abbrev the_node : About
+abbrev the_node : Made
 the_node = record { own = own; limits = alone; judge = judge refusals }
 
 abbrev drawn : Vmac

@@ -8,13 +8,13 @@ use Rattle.bsc_node.specs.declared.node_event.NodeEvent.{NodeEvent}
 use Rattle.bsc_node.specs.declared.node_event.NodeEvent.TheVariants.{Start, Opened, DialFailed, Came, CameText, Lost, Send, Random, NoRandom}
 use Rattle.bsc_node.specs.declared.timed_event.TimedEvent.{TimedEvent}
 use Rattle.bsc_node.specs.declared.action.Action.TheVariants.{Draw}
-use Rattle.bsc_node.specs.Logs.{About, Mark, came, did, Log, now}
-use Rattle.bsc_node.specs.Links.{is_there, was_taken, dialler_events, request}
+use Rattle.bsc_node.specs.Logs.{Made, Line, came, did, Log, now}
+use Rattle.bsc_node.specs.Links.{is_there, was_taken, initiating_events, request}
 use Rattle.bsc_node.specs.Node.{goes_on}
 
 -- whether the WebSocket of a link that was dialled has opened
 abbrev pub has_opened : LinkName → Log → Bool
-has_opened name L = is_some (request (dialler_events L name))
+has_opened name L = is_some (request (initiating_events L name))
 
 -- The link is under way: it was dialled, and it hasn't opened.
 abbrev pub is_dialling : LinkName → Log → Bool
@@ -24,7 +24,7 @@ is_dialling name L = is_there name L && not (was_taken name L) && not (has_opene
 abbrev pub is_open : LinkName → Log → Bool
 is_open name L = is_there name L && (was_taken name L || has_opened name L)
 
-abbrev pub is_start : Mark → Bool
+abbrev pub is_start : Line → Bool
 is_start (came e) = starts e.event
   where
     starts : NodeEvent → Bool
@@ -33,7 +33,7 @@ is_start (came e) = starts e.event
 is_start m = false
 
 -- whether a line is that a word is drawn
-abbrev pub is_draw : Mark → Bool
+abbrev pub is_draw : Line → Bool
 is_draw (did Draw) = true
 is_draw m = false
 
@@ -69,5 +69,5 @@ pub record Watched : Type 0 where
   pub fine : Bool
 
 -- Whether each of these events may come after those before it.
-abbrev pub may_all_come : About → List TimedEvent → Bool
+abbrev pub may_all_come : Made → List TimedEvent → Bool
 may_all_come a events = (fold (λ (w : Watched) e. record { log = w.log ++ goes_on a e w.log; fine = w.fine && may_come w.log e }) (record { log = []; fine = true }) events).fine

@@ -15,14 +15,14 @@ use Rattle.bsc_connector.specs.Sides as Sides
 use Rattle.bsc_connector.specs.Steps.{connector_step}
 use Rattle.bsc_node.specs.declared.link_name.LinkName.{LinkName}
 use Rattle.bsc_node.specs.declared.link_name.LinkName.TheVariants.{Hub}
-use Rattle.bsc_node.specs.Logs.{About, Mark, connector, Log, Rule, now}
+use Rattle.bsc_node.specs.Logs.{Made, Line, connector, Log, Rule, now}
 use Rattle.bsc_node.specs.Links.{life}
 
 -- how long to wait after failures, and whether there is a failover
-abbrev pub waits : About → Waits
+abbrev pub waits : Made → Waits
 waits a = record { failover = is_some a.limits.failover; least = a.limits.least_wait; greatest = a.limits.greatest_wait }
 
-abbrev pub hub_event_of : Mark → Option HubEvent
+abbrev pub hub_event_of : Line → Option HubEvent
 hub_event_of (connector e) = Some e
 hub_event_of m = None
 
@@ -46,7 +46,7 @@ abbrev pub no_step : ConnectorStep
 no_step = record { dial_primary = false; dial_failover = false; drop_failover = false }
 
 -- The connector's step when it was last told something.
-abbrev pub newest_step : About → Log → ConnectorStep
+abbrev pub newest_step : Made → Log → ConnectorStep
 newest_step a L = at_last (connector_step (waits a)) no_step (hub_events L)
 
 -- A failover is dropped once the primary hub has accepted since the failover's link began.

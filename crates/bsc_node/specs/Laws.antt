@@ -23,7 +23,7 @@ use Rattle.bsc_node.specs.declared.link_name.LinkName.TheVariants.{Hub, Direct}
 use Rattle.bsc_node.specs.declared.timed_event.TimedEvent.{TimedEvent}
 use Rattle.bsc_node.specs.declared.note.Note.TheVariants.{HubNow}
 use Rattle.bsc_node.specs.declared.action.Action.TheVariants.{Put, Tell}
-use Rattle.bsc_node.specs.Logs.{About, Mark, did, Log, is_response, is_finishing}
+use Rattle.bsc_node.specs.Logs.{Made, Line, did, Log, is_response, is_finishing}
 use Rattle.bsc_node.specs.Links.{is_there, phase}
 use Rattle.bsc_node.specs.Hubs.{waits, hub_events, hub_use, is_up, is_dropped, same_use}
 use Rattle.bsc_node.specs.Ways.{slot_calls, established_peer}
@@ -40,7 +40,7 @@ same p q = implies p q && implies q p
 -- ---- numbers
 
 -- the Message ID of a message that the node numbered
-abbrev pub own_id : Mark → Option ℕ
+abbrev pub own_id : Line → Option ℕ
 own_id (did (Put name o)) = if is_response o then None else Some (256 * slice_index o 2 + slice_index o 3)
 own_id m = None
 
@@ -50,7 +50,7 @@ numbers_in_order L = let ids = filter_map own_id L in pointwise nat_eq ids (map 
 
 -- ---- hubs
 
-abbrev pub hub_now : Mark → Option HubUse
+abbrev pub hub_now : Line → Option HubUse
 hub_now (did (Tell (HubNow u))) = Some u
 hub_now m = None
 
@@ -70,7 +70,7 @@ may_each_be_told w E [] = true
 may_each_be_told w E (e ∷ es) = may_be_told w E e.event && may_each_be_told w (E ++ e ∷ []) es
 
 -- The connector was told only what it may be told.
-abbrev pub connector_is_told_well : About → Log → Bool
+abbrev pub connector_is_told_well : Made → Log → Bool
 connector_is_told_well a L = may_each_be_told (waits a) [] (hub_events L)
 
 abbrev pub is_met : Phase → Bool
@@ -84,7 +84,7 @@ has_side s L = is_there (Hub s) L && not (is_dropped s L)
 
 -- A side is up exactly where it has a link whose peer has accepted. One that is under way has a link whose peer hasn't,
 -- but while a word is awaited, and once the node is to end; and such a link is under way.
-abbrev pub side_has_its_link : About → Side → Log → Bool
+abbrev pub side_has_its_link : Made → Side → Log → Bool
 side_has_its_link a s L =
     same (is_up s L) (has_side s L && is_met (phase L (Hub s)))
     && implies (has_side s L && not (is_met (phase L (Hub s)))) (is_under_way (waits a) s (hub_events L))
@@ -121,14 +121,14 @@ peers_are_apart L =
 -- ---- all of it
 
 -- What is tied together of numbers and hubs, and of direct connections.
-abbrev pub hubs_are_sound : About → Log → Bool
+abbrev pub hubs_are_sound : Made → Log → Bool
 hubs_are_sound a L = numbers_in_order L && use_is_told L && connector_is_told_well a L && side_has_its_link a Primary L && side_has_its_link a Failover L
 
 abbrev pub slots_are_sound : Log → Bool
 slots_are_sound L = list_all (slot_has_its_link L) slots && peers_are_apart L
 
 -- What is tied together in a log.
-abbrev pub is_sound : About → Log → Bool
+abbrev pub is_sound : Made → Log → Bool
 is_sound a L = hubs_are_sound a L && slots_are_sound L
 
 -- a log, and whether it was sound after each event so far
@@ -136,13 +136,13 @@ pub record Checked : Type 0 where
   pub log : Log
   pub fine : Bool
 
-abbrev pub checked_on : About → Checked → Log → Checked
+abbrev pub checked_on : Made → Checked → Log → Checked
 checked_on a c L = record { log = L; fine = c.fine && is_sound a L }
 
 -- Whether the log is sound after each of these events.
-abbrev pub is_always_sound : About → List TimedEvent → Bool
+abbrev pub is_always_sound : Made → List TimedEvent → Bool
 is_always_sound a events = (fold (λ (c : Checked) e. checked_on a c (c.log ++ goes_on a e c.log)) (record { log = []; fine = true }) events).fine
 
 -- The log of a node to which only events came that may come is sound.
-abbrev pub LogIsSound : About → Type 0
+abbrev pub LogIsSound : Made → Type 0
 LogIsSound a = (events : List TimedEvent) → IsTrue (may_all_come a events) → IsTrue (is_sound a (log a events))

@@ -37,7 +37,7 @@ use Rattle.bsc_node.specs.declared.node_event.NodeEvent.{NodeEvent}
 use Rattle.bsc_node.specs.declared.node_event.NodeEvent.TheVariants.{DialFailed, Lost}
 use Rattle.bsc_node.specs.declared.action.Action.{Action}
 use Rattle.bsc_node.specs.declared.action.Action.TheVariants.{Dial, Take, Close}
-use Rattle.bsc_node.specs.Logs.{About, Mark, came, dialler, taker, did, Log, Rule, now, own, own_vmac, next_id}
+use Rattle.bsc_node.specs.Logs.{Made, Line, came, initiating, accepting, did, Log, Rule, now, own, own_vmac, next_id}
 
 -- ---- names
 
@@ -58,11 +58,11 @@ begins_by name (Dial other uri) = if same_link other name then Some false else N
 begins_by name (Take other) = if same_link other name then Some true else None
 begins_by name action = None
 
-abbrev pub beginning_of : LinkName → Mark → Option Bool
+abbrev pub beginning_of : LinkName → Line → Option Bool
 beginning_of name (did action) = begins_by name action
 beginning_of name m = None
 
-abbrev pub begins : LinkName → Mark → Bool
+abbrev pub begins : LinkName → Line → Bool
 begins name m = is_some (beginning_of name m)
 
 -- whether by this event, or by this action, the link is over
@@ -71,7 +71,7 @@ is_over_by_event name (DialFailed other) = same_link other name
 is_over_by_event name (Lost other) = same_link other name
 is_over_by_event name e = false
 
-abbrev pub is_over_by : LinkName → Mark → Bool
+abbrev pub is_over_by : LinkName → Line → Bool
 is_over_by name (came e) = is_over_by_event name e.event
 is_over_by name (did (Close other closing)) = same_link other name
 is_over_by name m = false
@@ -96,23 +96,23 @@ was_taken name L = unwrap_or (newest_of (beginning_of name) L) false
 -- ---- their machines
 
 -- With what the link's machine started: who the node was then, and the time.
-abbrev pub start : About → Log → LinkName → Start
+abbrev pub start : Made → Log → LinkName → Start
 start a L name = let before = until (begins name) L in record { own = own a before; times = a.limits.times; at = now before }
 
-abbrev pub dialler_event : LinkName → Mark → Option InitEvent
-dialler_event name (dialler other call) = if same_link other name then Some call else None
-dialler_event name m = None
+abbrev pub initiating_event : LinkName → Line → Option InitEvent
+initiating_event name (initiating other call) = if same_link other name then Some call else None
+initiating_event name m = None
 
-abbrev pub taker_event : LinkName → Mark → Option Event
-taker_event name (taker other call) = if same_link other name then Some call else None
-taker_event name m = None
+abbrev pub accepting_event : LinkName → Line → Option Event
+accepting_event name (accepting other call) = if same_link other name then Some call else None
+accepting_event name m = None
 
 -- What the link's machine was told since it began, where it was dialled, and where it was taken.
-abbrev pub dialler_events : Log → LinkName → List InitEvent
-dialler_events L name = filter_map (dialler_event name) (life L name)
+abbrev pub initiating_events : Log → LinkName → List InitEvent
+initiating_events L name = filter_map (initiating_event name) (life L name)
 
-abbrev pub taker_events : Log → LinkName → List Event
-taker_events L name = filter_map (taker_event name) (life L name)
+abbrev pub accepting_events : Log → LinkName → List Event
+accepting_events L name = filter_map (accepting_event name) (life L name)
 
 -- the Message ID of the Connect-Request that a dialled link put, once its WebSocket has opened
 abbrev pub request : List InitEvent → Option ℕ
@@ -137,39 +137,39 @@ who_asked E = first_of asks_by E
 
 -- The link's peer, once it has named itself: by the Connect-Accept, or by the Connect-Request.
 abbrev pub peer : Log → LinkName → Option Identity
-peer L name = option_or (who_accepted (dialler_events L name)) (who_asked (taker_events L name))
+peer L name = option_or (who_accepted (initiating_events L name)) (who_asked (accepting_events L name))
 
 -- ---- where a message comes
 
 abbrev pub phase_by : Bool → Log → LinkName → Phase
-phase_by false L name = unwrap_or (Initiating.phase (dialler_events L name)) AwaitingAccept
-phase_by true L name = Accepting.phase (taker_events L name)
+phase_by false L name = unwrap_or (Initiating.phase (initiating_events L name)) AwaitingAccept
+phase_by true L name = Accepting.phase (accepting_events L name)
 
 -- The phase of the link, by what its machine was told. (No message comes before the WebSocket has opened.)
 abbrev pub phase : Log → LinkName → Phase
 phase L name = phase_by (was_taken name L) L name
 
 -- The place of a message that comes over the link.
-abbrev pub place : About → Log → LinkName → Place
+abbrev pub place : Made → Log → LinkName → Place
 place a L (Hub s) = NodeHub (own_vmac a L) (phase L (Hub s))
 place a L (Direct k) = NodeDirect (own_vmac a L) (option_map (λ (who : Identity). who.vmac) (peer L (Direct k))) (phase L (Direct k))
 
 -- What becomes of the octets that come over the link.
-abbrev pub verdict : About → Log → LinkName → List ℕ → Verdict
+abbrev pub verdict : Made → Log → LinkName → List ℕ → Verdict
 verdict a L name o = a.judge (place a L name) a.own.max_bvlc o
 
 -- ---- what a link's machine is told
 
-abbrev pub by_machine : (LinkName → InitEvent) → (LinkName → Event) → LinkName → Bool → List Mark
-by_machine dialled taken name false = dialler name (dialled name) ∷ []
-by_machine dialled taken name true = taker name (taken name) ∷ []
+abbrev pub by_machine : (LinkName → InitEvent) → (LinkName → Event) → LinkName → Bool → List Line
+by_machine dialled taken name false = initiating name (dialled name) ∷ []
+by_machine dialled taken name true = accepting name (taken name) ∷ []
 
 -- The machine of a link that opened is told so.
 abbrev pub opens : LinkName → Rule
-opens name L = dialler name (Opened (now L) (next_id L)) ∷ []
+opens name L = initiating name (Opened (now L) (next_id L)) ∷ []
 
 -- The link's machine gets a message, with its verdict.
-abbrev pub hears : About → LinkName → List ℕ → Rule
+abbrev pub hears : Made → LinkName → List ℕ → Rule
 hears a name o L = by_machine (λ n. InitMessage (now L) (verdict a L n o)) (λ n. AcceptMessage (now L) (verdict a L n o)) name (was_taken name L)
 
 -- The link's machine is told the time.
@@ -204,41 +204,41 @@ abbrev pub up_from : Verdict → Outcome
 up_from (Pass msg) = passes_up msg
 up_from v = keeps_still
 
-abbrev pub up_by_dialler : InitEvent → Outcome
-up_by_dialler (InitMessage now v) = up_from v
-up_by_dialler e = keeps_still
+abbrev pub up_by_initiating : InitEvent → Outcome
+up_by_initiating (InitMessage now v) = up_from v
+up_by_initiating e = keeps_still
 
 -- the Originating Virtual Address of the message that came
 abbrev pub origin_of : InitEvent → Option Vmac
 origin_of (InitMessage now (Pass msg)) = msg.origin
 origin_of e = None
 
-abbrev pub dialler_outcome : InitEvent → InitStep → Outcome
-dialler_outcome e (Put o) = puts o.items
-dialler_outcome e (PutClose o closing) = puts_and_closes o.items closing
-dialler_outcome e (InitConnected who) = meets who
-dialler_outcome e (Refused code) = is_refused (origin_of e) code
-dialler_outcome e Up = up_by_dialler e
-dialler_outcome e (InitClose closing) = closes closing
-dialler_outcome e InitNothing = keeps_still
+abbrev pub initiating_outcome : InitEvent → InitStep → Outcome
+initiating_outcome e (Put o) = puts o.items
+initiating_outcome e (PutClose o closing) = puts_and_closes o.items closing
+initiating_outcome e (InitConnected who) = meets who
+initiating_outcome e (Refused code) = is_refused (origin_of e) code
+initiating_outcome e Up = up_by_initiating e
+initiating_outcome e (InitClose closing) = closes closing
+initiating_outcome e InitNothing = keeps_still
 
 -- In Connected what the accepting machine does nothing with is for the node.
-abbrev pub up_by_taker : Accepting.Standing → Event → Outcome
-up_by_taker Accepting.connected (AcceptMessage now v) = up_from v
-up_by_taker standing e = keeps_still
+abbrev pub up_by_accepting : Accepting.Standing → Event → Outcome
+up_by_accepting Accepting.connected (AcceptMessage now v) = up_from v
+up_by_accepting standing e = keeps_still
 
-abbrev pub taker_outcome : Accepting.Standing → Event → Step → Outcome
-taker_outcome standing e (Ask who) = meets who
-taker_outcome standing e (Reply o) = puts o.items
-taker_outcome standing e (ReplyClose o closing) = puts_and_closes o.items closing
-taker_outcome standing e Carry = keeps_still
-taker_outcome standing e (AcceptClose closing) = closes closing
-taker_outcome standing e AcceptNothing = up_by_taker standing e
+abbrev pub accepting_outcome : Accepting.Standing → Event → Step → Outcome
+accepting_outcome standing e (Ask who) = meets who
+accepting_outcome standing e (Reply o) = puts o.items
+accepting_outcome standing e (ReplyClose o closing) = puts_and_closes o.items closing
+accepting_outcome standing e Carry = keeps_still
+accepting_outcome standing e (AcceptClose closing) = closes closing
+accepting_outcome standing e AcceptNothing = up_by_accepting standing e
 
-abbrev pub outcome_by : Bool → About → Log → LinkName → Outcome
-outcome_by false a L name = at_last (λ E e. dialler_outcome e (InitiatingSteps.step (start a L name) E e)) keeps_still (dialler_events L name)
-outcome_by true a L name = at_last (λ E e. taker_outcome (Accepting.standing E) e (AcceptingSteps.step (start a L name) E e)) keeps_still (taker_events L name)
+abbrev pub outcome_by : Bool → Made → Log → LinkName → Outcome
+outcome_by false a L name = at_last (λ E e. initiating_outcome e (InitiatingSteps.step (start a L name) E e)) keeps_still (initiating_events L name)
+outcome_by true a L name = at_last (λ E e. accepting_outcome (Accepting.standing E) e (AcceptingSteps.step (start a L name) E e)) keeps_still (accepting_events L name)
 
 -- The step of the link's machine when it was last told something.
-abbrev pub outcome : About → Log → LinkName → Outcome
+abbrev pub outcome : Made → Log → LinkName → Outcome
 outcome a L name = outcome_by (was_taken name L) a L name

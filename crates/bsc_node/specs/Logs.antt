@@ -23,9 +23,9 @@ use Rattle.bsc_node.specs.declared.note.Note.{Note}
 use Rattle.bsc_node.specs.declared.action.Action.{Action}
 use Rattle.bsc_node.specs.declared.action.Action.TheVariants.{Put, Tell}
 
--- What a node is made of: the identity and the settings that it was given, and how octets are judged at a place that takes
+-- What a node was made with: the identity and the settings that it was given, and how octets are judged at a place that takes
 -- messages of at most so many octets. The judge stands for the checks of a message; no rule asks what is in it.
-pub record About : Type 0 where
+pub record Made : Type 0 where
   pub own : Identity
   pub limits : NodeLimits
   pub judge : Place → ℕ → List ℕ → Verdict
@@ -33,28 +33,28 @@ pub record About : Type 0 where
 -- ---- logs
 
 -- One line of a log.
-pub data Mark : Type 0 where
+pub data Line : Type 0 where
   -- an event came to the node
-  came : TimedEvent → Mark
+  came : TimedEvent → Line
   -- the machine of a link that the node dialled was told something
-  dialler : LinkName → InitEvent → Mark
+  initiating : LinkName → InitEvent → Line
   -- the machine of a link that it took was told something
-  taker : LinkName → Event → Mark
+  accepting : LinkName → Event → Line
   -- the connector was told something
-  connector : HubEvent → Mark
+  connector : HubEvent → Line
   -- something happened to the slots
-  slot : SlotCall → Mark
+  slot : SlotCall → Line
   -- something happened to address resolution
-  resolution : ResolveCall → Mark
+  resolution : ResolveCall → Line
   -- the node did something
-  did : Action → Mark
+  did : Action → Line
 
 abbrev pub Log : Type 0
-Log = List Mark
+Log = List Line
 
 -- A rule says by which lines a log goes on.
 abbrev pub Rule : Type 0
-Rule = Log → List Mark
+Rule = Log → List Line
 
 -- ---- how rules are put together
 
@@ -100,11 +100,11 @@ tells note = does (Tell note)
 
 -- ---- time, numbers and address
 
-abbrev pub event_of : Mark → Option TimedEvent
+abbrev pub event_of : Line → Option TimedEvent
 event_of (came e) = Some e
 event_of m = None
 
-abbrev pub action_of : Mark → Option Action
+abbrev pub action_of : Line → Option Action
 action_of (did action) = Some action
 action_of m = None
 
@@ -118,7 +118,7 @@ abbrev pub is_response : List ℕ → Bool
 is_response o = list_any (λ function. slice_index o 0 == function) (0x00 ∷ 0x03 ∷ 0x07 ∷ 0x09 ∷ 0x0B ∷ [])
 
 -- whether the node put a message of its own, which is numbered
-abbrev pub is_numbered : Mark → Bool
+abbrev pub is_numbered : Line → Bool
 is_numbered (did (Put name o)) = not (is_response o)
 is_numbered m = false
 
@@ -130,19 +130,19 @@ abbrev pub renewal_in : NodeEvent → Option Vmac
 renewal_in (Random w) = Some (random48_of w)
 renewal_in e = None
 
-abbrev pub renewal_of : Mark → Option Vmac
+abbrev pub renewal_of : Line → Option Vmac
 renewal_of (came e) = renewal_in e.event
 renewal_of m = None
 
 -- The node's VMAC: the newest that was drawn, or the one that it was given.
-abbrev pub own_vmac : About → Log → Vmac
+abbrev pub own_vmac : Made → Log → Vmac
 own_vmac a L = unwrap_or (newest_of renewal_of L) a.own.vmac
 
 -- Who the node is.
-abbrev pub own : About → Log → Identity
+abbrev pub own : Made → Log → Identity
 own a L = record a.own { vmac = own_vmac a L }
 
-abbrev pub is_finish : Mark → Bool
+abbrev pub is_finish : Line → Bool
 is_finish (came e) = finishes e.event
   where
     finishes : NodeEvent → Bool

@@ -20,7 +20,7 @@ use Rattle.bsc_node.specs.declared.node_event.NodeEvent.{NodeEvent}
 use Rattle.bsc_node.specs.declared.node_event.NodeEvent.TheVariants.{Came, Random}
 use Rattle.bsc_node.specs.declared.note.Note.TheVariants.{DirectUp, Nak, Renewed, NoRandom}
 use Rattle.bsc_node.specs.declared.action.Action.TheVariants.{Close, Draw}
-use Rattle.bsc_node.specs.Logs.{About, Mark, came, connector, taker, Log, Rule, nothing, in_order, either, where_found, does, tells, own_vmac, is_finishing}
+use Rattle.bsc_node.specs.Logs.{Made, Line, came, connector, accepting, Log, Rule, nothing, in_order, either, where_found, does, tells, own_vmac, is_finishing}
 use Rattle.bsc_node.specs.Links.{none_there, was_taken}
 use Rattle.bsc_node.specs.Hubs.{is_connected_event}
 use Rattle.bsc_node.specs.Ways.{wanted, establish, slots_see}
@@ -34,37 +34,37 @@ wrong_peer = closing 1008 ReasonWrongPeer
 
 -- who asked is accepted
 abbrev pub joins : LinkName → Rule
-joins name L = taker name Joined ∷ []
+joins name L = accepting name Joined ∷ []
 
 -- who asked is refused, since its VMAC is taken
 abbrev pub refuses : LinkName → Rule
-refuses name L = taker name (Refused (Duplicate None)) ∷ []
+refuses name L = accepting name (Refused (Duplicate None)) ∷ []
 
 -- A replaced slot is told to finish.
-abbrev pub finishes_replaced : About → Option ℕ → Rule
+abbrev pub finishes_replaced : Made → Option ℕ → Rule
 finishes_replaced a None = nothing
 finishes_replaced a (Some k) = finishes_link a (Direct k)
 
 -- A direct connection is established; that it is up is told; the slot that it replaced is told to finish.
-abbrev pub comes_up : About → ℕ → Identity → Option ℕ → Rule
+abbrev pub comes_up : Made → ℕ → Identity → Option ℕ → Rule
 comes_up a k who replaced = in_order (slots_see (Up k who) ∷ tells (DirectUp who.vmac) ∷ finishes_replaced a replaced ∷ [])
 
 -- A peer that this node dialled is established, or the link is closed.
-abbrev pub meets_dialled : About → ℕ → Identity → Establish → Rule
+abbrev pub meets_dialled : Made → ℕ → Identity → Establish → Rule
 meets_dialled a k who (IsUp replaced) = comes_up a k who replaced
 meets_dialled a k who otherwise = closes_link a (Direct k) wrong_peer
 
 -- A peer that dialled this node gets the Connect-Accept and is established, or gets the NAK for a duplicate VMAC and the
 -- link is closed.
-abbrev pub meets_taken : About → ℕ → Identity → Establish → Rule
+abbrev pub meets_taken : Made → ℕ → Identity → Establish → Rule
 meets_taken a k who (IsUp replaced) = in_order (joins (Direct k) ∷ carries_out a (Direct k) ∷ comes_up a k who replaced ∷ [])
 meets_taken a k who otherwise = in_order (refuses (Direct k) ∷ carries_out a (Direct k) ∷ ends a (Direct k) ∷ [])
 
-abbrev pub meets_direct : About → ℕ → Identity → Rule
+abbrev pub meets_direct : Made → ℕ → Identity → Rule
 meets_direct a k who L = either (was_taken (Direct k)) (meets_taken a k who (establish a k who L)) (meets_dialled a k who (establish a k who L)) L
 
 -- The peer of a link has named itself: a hub is connected, a direct connection is established or not.
-abbrev pub meets_peer : About → LinkName → Identity → Rule
+abbrev pub meets_peer : Made → LinkName → Identity → Rule
 meets_peer a (Hub s) who = tells_connector a (Connected s)
 meets_peer a (Direct k) who = meets_direct a k who
 
@@ -80,7 +80,7 @@ refuser (Direct k) origin L = wanted k L
 abbrev pub tells_refusal : LinkName → Option Vmac → ℕ → Rule
 tells_refusal name origin code L = tells (Nak (refuser name origin L) 0x06 code) L
 
-abbrev pub is_renewal : Mark → Bool
+abbrev pub is_renewal : Line → Bool
 is_renewal (came e) = is_random e.event
   where
     is_random : NodeEvent → Bool
@@ -88,7 +88,7 @@ is_renewal (came e) = is_random e.event
     is_random e = false
 is_renewal m = false
 
-abbrev pub is_accept_of_hub : Mark → Bool
+abbrev pub is_accept_of_hub : Line → Bool
 is_accept_of_hub (connector e) = is_connected_event e.event
 is_accept_of_hub m = false
 
@@ -107,7 +107,7 @@ may_draw name code L = is_hub name && (code == duplicate_vmac_code) && none_ther
 
 -- A link whose Connect-Request was refused is closed, and the refusal is told. Then another VMAC is drawn, and what
 -- follows where a link is over waits for it; or that follows at once.
-abbrev pub is_refused_by : About → LinkName → Option Vmac → ℕ → Rule
+abbrev pub is_refused_by : Made → LinkName → Option Vmac → ℕ → Rule
 is_refused_by a name origin code =
     in_order (does (Close name normal) ∷ tells_refusal name origin code ∷ either (may_draw name code) (does Draw) (ends a name) ∷ [])
 
@@ -116,7 +116,7 @@ abbrev pub hub_message : NodeEvent → Option Side
 hub_message (Came (Hub s) o) = Some s
 hub_message e = None
 
-abbrev pub hub_message_of : Mark → Option Side
+abbrev pub hub_message_of : Line → Option Side
 hub_message_of (came e) = hub_message e.event
 hub_message_of m = None
 
@@ -125,13 +125,13 @@ abbrev pub refusing_side : Log → Option Side
 refusing_side L = newest_of hub_message_of L
 
 -- That link, which is closed, is over now.
-abbrev pub ends_refused : About → Rule
+abbrev pub ends_refused : Made → Rule
 ends_refused a = where_found refusing_side (λ s. ends a (Hub s)) nothing
 
 -- The node has the VMAC of the word that was drawn, and tells so.
-abbrev pub renews : About → Rule
+abbrev pub renews : Made → Rule
 renews a = in_order ((λ L. tells (Renewed (own_vmac a L)) L) ∷ ends_refused a ∷ [])
 
 -- No word was drawn: the node keeps its VMAC, and tells so.
-abbrev pub keeps_vmac : About → Rule
+abbrev pub keeps_vmac : Made → Rule
 keeps_vmac a = in_order (tells NoRandom ∷ ends_refused a ∷ [])

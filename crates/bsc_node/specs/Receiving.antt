@@ -16,7 +16,7 @@ use Rattle.bsc_node.specs.declared.link_name.LinkName.{LinkName}
 use Rattle.bsc_node.specs.declared.link_name.LinkName.TheVariants.{Hub, Direct}
 use Rattle.bsc_node.specs.declared.note.Note.TheVariants.{Uris, Advert as ToldAdvert, Nak as ToldNak}
 use Rattle.bsc_node.specs.declared.action.Action.TheVariants.{Put, Deliver}
-use Rattle.bsc_node.specs.Logs.{About, Log, Rule, nothing, in_order, when, with_some, does, tells, next_id}
+use Rattle.bsc_node.specs.Logs.{Made, Log, Rule, nothing, in_order, when, with_some, does, tells, next_id}
 use Rattle.bsc_node.specs.Links.{peer}
 use Rattle.bsc_node.specs.Hubs.{hub_use, hub_status}
 use Rattle.bsc_node.specs.Ways.{awaits, resolution_sees}
@@ -54,7 +54,7 @@ delivers msg npdu from = does (Deliver (record { from = from; broadcast = is_for
 
 -- A question for the node's URIs is answered by them; a node that accepts no direct connections answers a unicast by the
 -- NAK that the function isn't supported.
-abbrev pub answers_question : About → LinkName → Message → Rule
+abbrev pub answers_question : Made → LinkName → Message → Rule
 answers_question a name msg = by a.limits.uris
   where
     by : Option (List ℕ) → Rule
@@ -62,28 +62,28 @@ answers_question a name msg = by a.limits.uris
     by None = when (λ L. not (is_for_all msg)) (answers name msg msg.id (nak 0x02 not_supported_code))
 
 -- An answer to a question that is under way for the sender's URIs is told, and they are learnt.
-abbrev pub learns : About → Message → List ℕ → Vmac → Rule
+abbrev pub learns : Made → Message → List ℕ → Vmac → Rule
 learns a msg uris from = when (awaits a msg.id from) (in_order (resolution_sees (Answered msg.id from uris) ∷ tells (Uris from uris) ∷ []))
 
 -- What the node advertises: the hub in use, whether it accepts direct connections, and what it takes.
-abbrev pub advert : About → Log → Advert
+abbrev pub advert : Made → Log → Advert
 advert a L = record { status = hub_status (hub_use L); accepts = if is_some a.limits.uris then 1 else 0; max_bvlc = a.own.max_bvlc; max_npdu = a.own.max_npdu }
 
 -- A solicitation is answered by an Advertisement, which has the node's next number.
-abbrev pub advertises : About → LinkName → Message → Rule
+abbrev pub advertises : Made → LinkName → Message → Rule
 advertises a name msg L = answers name msg (next_id L) (Advertisement (advert a L)) L
 
 -- A question that is under way and that the NAK answers is dropped.
-abbrev pub drops_question : About → ℕ → ℕ → Vmac → Rule
+abbrev pub drops_question : Made → ℕ → ℕ → Vmac → Rule
 drops_question a function id from = when (λ L. (function == 0x02) && awaits a id from L) (resolution_sees (Refused id from))
 
 -- A NAK of a function is told, and drops the question that it answers.
-abbrev pub takes_nak : About → LinkName → Message → ℕ → ℕ → Rule
+abbrev pub takes_nak : Made → LinkName → Message → ℕ → ℕ → Rule
 takes_nak a name msg function code L =
     in_order (tells (ToldNak (sender name msg L) function code) ∷ with_some (sender name msg L) (drops_question a function msg.id) nothing ∷ []) L
 
 -- An ACK does nothing.
-abbrev pub takes_answer : About → LinkName → Message → Answer → Rule
+abbrev pub takes_answer : Made → LinkName → Message → Answer → Rule
 takes_answer a name msg (Ack function) = nothing
 takes_answer a name msg (Nak function marker class code details) = takes_nak a name msg function code
 
@@ -91,7 +91,7 @@ takes_answer a name msg (Nak function marker class code details) = takes_nak a n
 abbrev pub of_sender : LinkName → Message → (Vmac → Rule) → Rule
 of_sender name msg rule L = with_some (sender name msg L) rule nothing L
 
-abbrev pub takes_body : About → LinkName → Message → Body → Rule
+abbrev pub takes_body : Made → LinkName → Message → Body → Rule
 takes_body a name msg (Npdu npdu) = of_sender name msg (delivers msg npdu)
 takes_body a name msg AddressResolution = answers_question a name msg
 takes_body a name msg (AddressResolutionAck uris) = of_sender name msg (learns a msg uris)
@@ -101,5 +101,5 @@ takes_body a name msg (BvlcResult answer) = takes_answer a name msg answer
 takes_body a name msg body = nothing
 
 -- What follows where a message comes for the node.
-abbrev pub takes_up : About → LinkName → Message → Rule
+abbrev pub takes_up : Made → LinkName → Message → Rule
 takes_up a name msg = takes_body a name msg msg.body

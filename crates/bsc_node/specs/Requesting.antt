@@ -12,7 +12,7 @@ use Rattle.bsc_resolve.specs.declared.ask_refusal.AskRefusal.TheVariants.{Full, 
 use Rattle.bsc_node.specs.declared.link_name.LinkName.TheVariants.{Direct}
 use Rattle.bsc_node.specs.declared.note.Note.TheVariants.{NoPath, TooLong, NoUris, SlotsFull, AsksFull, AskPending, NoDirect}
 use Rattle.bsc_node.specs.declared.action.Action.TheVariants.{Dial, Put}
-use Rattle.bsc_node.specs.Logs.{About, Log, Rule, nothing, in_order, either, where_found, does, tells, next_id, now}
+use Rattle.bsc_node.specs.Logs.{Made, Log, Rule, nothing, in_order, either, where_found, does, tells, next_id, now}
 use Rattle.bsc_node.specs.Links.{peer}
 use Rattle.bsc_node.specs.Ways.{Way, way, established, learnt, uris_to_dial, free_slot, ask_refusal, slots_see, resolution_sees}
 
@@ -52,7 +52,7 @@ asks_unless w v (Some (Pending id)) L = tells (AskPending v) L
 asks_unless w v (Some NoMemory) L = []
 
 -- A question for v's URIs goes by the path, unless there is no room for it or one is under way.
-abbrev pub resolves : About → Vmac → Rule
+abbrev pub resolves : Made → Vmac → Rule
 resolves a v = by_path v (λ w L. asks_unless w v (ask_refusal a v L) L)
 
 -- A solicitation of an Advertisement goes by the path.

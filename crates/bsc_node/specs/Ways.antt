@@ -17,13 +17,13 @@ use Rattle.bsc_direct.specs.Slots as Slots
 use Rattle.bsc_switch.specs.Paths.{path}
 use Rattle.bsc_node.specs.declared.link_name.LinkName.{LinkName}
 use Rattle.bsc_node.specs.declared.link_name.LinkName.TheVariants.{Direct}
-use Rattle.bsc_node.specs.Logs.{About, Mark, slot, resolution, Log, Rule, own_vmac}
+use Rattle.bsc_node.specs.Logs.{Made, Line, slot, resolution, Log, Rule, own_vmac}
 use Rattle.bsc_node.specs.Links.{begins}
 use Rattle.bsc_node.specs.Hubs.{hub_use, link_in_use}
 
 -- ---- slots
 
-abbrev pub slot_call_of : Mark → Option SlotCall
+abbrev pub slot_call_of : Line → Option SlotCall
 slot_call_of (slot call) = Some call
 slot_call_of m = None
 
@@ -52,12 +52,12 @@ abbrev pub established : Vmac → Log → Option ℕ
 established v L = Slots.established (slot_calls L) v
 
 -- Whether the connection of the slot with who is established.
-abbrev pub establish : About → ℕ → Identity → Log → Establish
+abbrev pub establish : Made → ℕ → Identity → Log → Establish
 establish a k who L = Slots.establish (own_vmac a L) (slot_calls L) k who
 
 -- ---- questions and URIs
 
-abbrev pub resolve_call_of : Mark → Option ResolveCall
+abbrev pub resolve_call_of : Line → Option ResolveCall
 resolve_call_of (resolution call) = Some call
 resolve_call_of m = None
 
@@ -70,11 +70,11 @@ abbrev pub resolution_sees : ResolveCall → Rule
 resolution_sees call L = resolution call ∷ []
 
 -- Why a question for v isn't asked. A question waits for the connect wait.
-abbrev pub ask_refusal : About → Vmac → Log → Option AskRefusal
+abbrev pub ask_refusal : Made → Vmac → Log → Option AskRefusal
 ask_refusal a v L = Resolving.ask_refusal a.limits.times.connect_wait (resolve_calls L) v
 
 -- Whether a question for v with this Message ID is under way.
-abbrev pub awaits : About → ℕ → Vmac → Log → Bool
+abbrev pub awaits : Made → ℕ → Vmac → Log → Bool
 awaits a id v L = Resolving.awaits a.limits.times.connect_wait (resolve_calls L) id v
 
 -- the first word of a text, and the words after a space
@@ -102,7 +102,7 @@ uris_to_dial v L = of_text (learnt v L)
     of_text None = []
     of_text (Some text) = filter is_dialled (words_with [] text)
 
-abbrev pub is_claim_of : ℕ → Mark → Bool
+abbrev pub is_claim_of : ℕ → Line → Bool
 is_claim_of k (slot (Claim j wanted)) = j == k
 is_claim_of k m = false
 
