@@ -4,3 +4,4 @@ pub mod SideLemmas
 pub mod Following
 pub mod Beside
 pub mod Apart
+pub mod Leaving

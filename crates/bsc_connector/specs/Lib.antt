@@ -3,3 +3,4 @@ pub mod Sides
 pub mod Steps
 pub mod Standing
 pub mod Kept
+pub mod Left

@@ -2,11 +2,14 @@
 ghost use Rattle.std.specs.Prelude.{◌≡◌, ◌<◌, ◌^◌, List, []};
 ghost use Rattle.bsc_connector.specs.declared.waits.Waits.{Waits};
 ghost use Rattle.bsc_connector.specs.declared.event.HubEvent.{HubEvent};
-ghost use Rattle.bsc_connector.specs.Sides.{hub_use};
-ghost use Rattle.bsc_connector.specs.Standing.{StandsFor, Answers, MayCome};
+ghost use Rattle.bsc_connector.specs.Sides.{hub_use, is_up};
+ghost use Rattle.bsc_connector.specs.Kept.{says_up};
+ghost use Rattle.bsc_connector.specs.Left.{LeftBy};
+ghost use Rattle.bsc_connector.specs.Standing.{StandsFor, Answers, MayCome, attempt_at};
 
 use crate::event::ConnectorEvent;
 use crate::hub_use::HubUse;
+use crate::side::Side;
 use crate::side_state::{Attempt, SideState};
 use crate::sides::{dropped, failover_after, primary_after, step_of};
 use crate::step::ConnectorStep;
@@ -45,7 +48,8 @@ impl Connector {
     pub fn event(&mut self, now: u64, event: ConnectorEvent) -> ConnectorStep
         requires time { now < 2 ^ 62 }
         requires order { MayCome self.old event }
-        ensures { Answers self.old self.new (record { now = now; event = event }) result }
+        ensures step { Answers self.old self.new (record { now = now; event = event }) result }
+        ensures left { LeftBy self.old event result self.new }
     {
         let step = step_of(
             &self.waits,
@@ -69,6 +73,17 @@ impl Connector {
             HubUse::Failover
         } else {
             HubUse::NoHub
+        }
+    }
+
+    /// Whether the hub of a side is connected.
+    pub fn is_up(&self, side: Side) -> bool
+        ensures told { (w : Waits) (E : List HubEvent) → StandsFor self.now w E → result ≡ is_up side E }
+        ensures kept { result ≡ says_up (attempt_at self.now side) }
+    {
+        match side {
+            Side::Primary => self.primary.attempt == Attempt::Up,
+            Side::Failover => self.failover.attempt == Attempt::Up,
         }
     }
 }

@@ -29,10 +29,10 @@ use Rattle.bsc_direct.proofs.Finding.{none_passes, found_as_kept, none_found}
 abbrev pub Stand : List Slot → List SlotCall → Type 0
 Stand items calls = (k : ℕ) → SlotStands calls k (slot_at items k)
 
-set_here : (xs : List Slot) (i k : ℕ) (s : Slot) → i < length xs → (i == k) ≡ true → slot_at (set xs i s) k ≡ s
+pub set_here : (xs : List Slot) (i k : ℕ) (s : Slot) → i < length xs → (i == k) ≡ true → slot_at (set xs i s) k ≡ s
 set_here xs i k s within h = get_or-set_at xs i k s Free (sym (eqb-true i k h)) within
 
-set_there : (xs : List Slot) (i k : ℕ) (s : Slot) → (i == k) ≡ false → slot_at (set xs i s) k ≡ slot_at xs k
+pub set_there : (xs : List Slot) (i k : ℕ) (s : Slot) → (i == k) ≡ false → slot_at (set xs i s) k ≡ slot_at xs k
 set_there xs i k s h = get_or-set_other xs i k s Free (λ e. eqb-false i k h (sym e))
 
 unless_quiet : (k : ℕ) (call : SlotCall) (o : Option Identity) → ((w : Identity) → replaces k w call ≡ false) → unless_now k call o ≡ o
@@ -87,7 +87,7 @@ past_stands calls items slot past st k = by (slot == k) refl
 
 -- ---- a slot comes up
 
-keeps_claimed : (s : Slot) → says_claimed (without_peer s) ≡ says_claimed s
+pub keeps_claimed : (s : Slot) → says_claimed (without_peer s) ≡ says_claimed s
 keeps_claimed Free = refl
 keeps_claimed (Claimed v) = refl
 keeps_claimed (Established v who) = refl
@@ -97,16 +97,16 @@ keeps_wanted Free = refl
 keeps_wanted (Claimed v) = refl
 keeps_wanted (Established v who) = refl
 
-loses_peer : (s : Slot) → says_peer (without_peer s) ≡ None
+pub loses_peer : (s : Slot) → says_peer (without_peer s) ≡ None
 loses_peer Free = refl
 loses_peer (Claimed v) = refl
 loses_peer (Established v who) = refl
 
-abbrev Within : Option ℕ → List Slot → Type 0
+abbrev pub Within : Option ℕ → List Slot → Type 0
 Within replaced items = (j : ℕ) → replaced ≡ Some j → j < length items
 
 -- what a slot's loss of its peer leaves as it was
-without_same : {A : Type 0} (f : Slot → A) (replaced : Option ℕ) (items : List Slot) (k : ℕ) → ((s : Slot) → f (without_peer s) ≡ f s) → Within replaced items → f (slot_at (slots_without replaced items) k) ≡ f (slot_at items k)
+pub without_same : {A : Type 0} (f : Slot → A) (replaced : Option ℕ) (items : List Slot) (k : ℕ) → ((s : Slot) → f (without_peer s) ≡ f s) → Within replaced items → f (slot_at (slots_without replaced items) k) ≡ f (slot_at items k)
 without_same f None items k keeps within = refl
 without_same f (Some r) items k keeps within = by (r == k) refl
   where
@@ -114,7 +114,7 @@ without_same f (Some r) items k keeps within = by (r == k) refl
     by true h = ap f (set_here items r k (without_peer (slot_at items r)) (within r refl) h) ∙ keeps (slot_at items r) ∙ ap (λ (j : ℕ). f (slot_at items j)) (eqb-true r k h)
     by false h = ap f (set_there items r k (without_peer (slot_at items r)) h)
 
-length_without : (replaced : Option ℕ) (items : List Slot) → length (slots_without replaced items) ≡ length items
+pub length_without : (replaced : Option ℕ) (items : List Slot) → length (slots_without replaced items) ≡ length items
 length_without None items = refl
 length_without (Some r) items = length-set items r (without_peer (slot_at items r))
 
@@ -136,7 +136,7 @@ gone : (slot k : ℕ) (who : Identity) (o : Option Identity) → (slot == k) ≡
 gone slot k who None n same = refl
 gone slot k who (Some z) n same = ap (λ (b : Bool). cond b None (Some z)) (ap (λ (b : Bool). not b && same_device who.device z.device) n ∙ same z refl)
 
-abbrev by_device : Identity → Identity → Bool
+abbrev pub by_device : Identity → Identity → Bool
 by_device who peer = same_device peer.device who.device
 
 -- the peer of another slot once this one came up
@@ -208,7 +208,7 @@ up_stands calls items slot who replaced st apart within is here claimed k = by (
 kept_as_told : (calls : List SlotCall) (items : List Slot) (test : Identity → Bool) → length items ≡ 64 → Stand items calls → kept_with test items ≡ established_with test calls
 kept_as_told calls items test len st = found_as_kept (λ (s : Slot). is_peer test (says_peer s)) (λ (k : ℕ). is_peer test (established_peer calls k)) Free items len (λ k. ap (is_peer test) (sym (st k).peer))
 
-answer_is : (calls : List SlotCall) (items : List Slot) (own : Vmac) (slot : ℕ) (who : Identity) → length items ≡ 64 → Stand items calls → says_claimed (slot_at items slot) ≡ true → establish_kept own items slot who ≡ establish own calls slot who
+pub answer_is : (calls : List SlotCall) (items : List Slot) (own : Vmac) (slot : ℕ) (who : Identity) → length items ≡ 64 → Stand items calls → says_claimed (slot_at items slot) ≡ true → establish_kept own items slot who ≡ establish own calls slot who
 answer_is calls items own slot who len st claimed =
     ap (λ (w : Option Vmac). unless_wrong w who (unless_own (same_vmac who.vmac own) (unless_rival (kept_with (is_rival who) items) (kept_with (by_device who) items)))) (sym ((st slot).wanted claimed))
     ∙ ap (λ (r : Option ℕ). unless_wrong (wanted calls slot) who (unless_own (same_vmac who.vmac own) (unless_rival r (kept_with (by_device who) items)))) (kept_as_told calls items (is_rival who) len st)
@@ -223,7 +223,7 @@ up_unless true o d r h = cc
 up_unless false (Some x) d r h = cc
 up_unless false None d r h = (refl, cc)
 
-up_by : (w : Option Vmac) (who : Identity) (own : Bool) (o d r : Option ℕ) → unless_wrong w who (unless_own own (unless_rival o d)) ≡ IsUp r → (o ≡ None) × (d ≡ r)
+pub up_by : (w : Option Vmac) (who : Identity) (own : Bool) (o d r : Option ℕ) → unless_wrong w who (unless_own own (unless_rival o d)) ≡ IsUp r → (o ≡ None) × (d ≡ r)
 up_by None who own o d r h = up_unless own o d r h
 up_by (Some v) who own o d r h = by (same_vmac v who.vmac) h
   where

@@ -3,3 +3,4 @@ pub mod OneMore
 pub mod Keeping
 pub mod Finding
 pub mod Following
+pub mod Leaving

@@ -2,3 +2,4 @@ pub mod Slots
 pub mod Laws
 pub mod Standing
 pub mod Kept
+pub mod Left

@@ -4,6 +4,7 @@ ghost use Rattle.bsc_octets.specs.Addresses.{broadcast};
 ghost use Rattle.bsc_direct.specs.declared.call.SlotCall.{SlotCall};
 ghost use Rattle.bsc_direct.specs.Slots.{established};
 ghost use Rattle.bsc_direct.specs.Kept.{establish_kept, slots_up, slots_without};
+ghost use Rattle.bsc_direct.specs.Left.{IsHeld, LeavesOthers};
 ghost use Rattle.bsc_direct.specs.Standing.{StandsFor, IsClaimed, IsFull, Answers, StandsOn, IsOnlyClaimed};
 
 use crate::direct::Direct;
@@ -31,6 +32,8 @@ impl Direct {
     /// claimed.
     pub fn claim(&mut self, wanted: Option<Vmac>) -> Result<u32, SlotsFull>
         ensures claimed { IfOk result (λ slot. IsClaimed self.old self.new slot wanted) }
+        ensures only { IfOk result (λ slot. IsOnlyClaimed self.new slot) }
+        ensures left { IfOk result (λ slot. LeavesOthers self.old self.new slot) }
         ensures full { IfErr result (λ fault. IsFull self.old fault) }
         ensures err { OnErr result (self.new ≡ self.old) }
     {
@@ -47,7 +50,9 @@ impl Direct {
     pub fn establish(&mut self, own: Vmac, slot: u32, peer: Identity) -> Establish
         requires claimed { IsOnlyClaimed self.old slot }
         requires unicast { peer.vmac ≢ broadcast }
-        ensures { Answers self.old self.new own slot peer result }
+        ensures answer { Answers self.old self.new own slot peer result }
+        ensures held { IsHeld self.new slot }
+        ensures left { LeavesOthers self.old self.new slot }
     {
         match self.answer(own, slot, &peer) {
             Establish::Up { replaced } => {
@@ -60,7 +65,7 @@ impl Direct {
     }
 
     /// Whether the connection of a slot is established with this peer.
-    fn answer(&self, own: Vmac, slot: u32, peer: &Identity) -> Establish
+    pub(crate) fn answer(&self, own: Vmac, slot: u32, peer: &Identity) -> Establish
         requires { slot < 64 }
         ensures { result ≡ establish_kept own self.now.slots.items slot peer.now }
     {
@@ -106,7 +111,8 @@ impl Direct {
 
     /// Releases a slot, whose connection is over.
     pub fn release(&mut self, slot: u32)
-        ensures { StandsOn self.old self.new (SlotCall.Release slot) }
+        ensures stands { StandsOn self.old self.new (SlotCall.Release slot) }
+        ensures left { LeavesOthers self.old self.new slot }
     {
         if slot < SLOTS {
             self.slots[slot as usize] = Slot::Free;

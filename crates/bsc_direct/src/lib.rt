@@ -10,6 +10,7 @@ mod calls;
 mod direct;
 mod establish;
 mod laws;
+mod looking;
 mod places;
 mod slot;
 mod slots_full;

@@ -43,6 +43,16 @@ impl Slot {
         }
     }
 
+    /// The peer with which it is established.
+    pub(crate) fn peer(&self) -> Option<Identity>
+        ensures { result ≡ says_peer self.now }
+    {
+        match self {
+            Slot::Free | Slot::Claimed { .. } => None,
+            Slot::Established { peer, .. } => Some(*peer),
+        }
+    }
+
     /// Whether it is established with this VMAC.
     pub(crate) fn has_vmac(&self, v: Vmac) -> bool
         ensures { result ≡ is_peer (λ who. same_vmac who.vmac v) (says_peer self.now) }

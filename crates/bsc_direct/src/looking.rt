@@ -1,0 +1,68 @@
+//! What can be asked of the slots, and a copy of them.
+ghost use Rattle.std.specs.Prelude.{◌≡◌, ◌<◌, List, IfOk};
+ghost use Rattle.bsc_direct.specs.declared.call.SlotCall.{SlotCall};
+ghost use Rattle.bsc_direct.specs.Slots.{establish, established_peer, free_slot, wanted};
+ghost use Rattle.bsc_direct.specs.Kept.{says_peer, says_wanted, slot_at};
+ghost use Rattle.bsc_direct.specs.Left.{IsHeld};
+ghost use Rattle.bsc_direct.specs.Standing.{StandsFor};
+
+use crate::direct::Direct;
+use crate::establish::Establish;
+use crate::places::place_free;
+use crate::slot::Slot;
+use bsc_octets::{Identity, NoMemory, Vmac};
+use std::alloc::Global;
+
+impl Direct {
+    /// The lowest free slot, where one is free.
+    pub fn free(&self) -> Option<u32>
+        ensures { (calls : List SlotCall) → StandsFor self.now calls → result ≡ free_slot calls }
+    {
+        match place_free(&self.slots) {
+            Some(place) => Some(place as u32),
+            None => None,
+        }
+    }
+
+    /// What is kept of a slot.
+    fn slot(&self, slot: u32) -> Slot
+        ensures { result ≡ slot_at self.now.slots.items slot }
+    {
+        match self.slots.get(slot as usize) {
+            Some(slot) => *slot,
+            None => Slot::Free,
+        }
+    }
+
+    /// The VMAC that is wanted of the peer of a slot that is claimed, where one is.
+    pub fn wanted(&self, slot: u32) -> Option<Vmac>
+        ensures { (calls : List SlotCall) → StandsFor self.now calls → IsHeld self.now slot → result ≡ wanted calls slot }
+    {
+        self.slot(slot).wanted()
+    }
+
+    /// The peer with which a slot is established, where it is.
+    pub fn peer(&self, slot: u32) -> Option<Identity>
+        ensures { (calls : List SlotCall) → StandsFor self.now calls → result ≡ established_peer calls slot }
+    {
+        self.slot(slot).peer()
+    }
+
+    /// What `establish` answers, with nothing established yet.
+    pub fn establishes(&self, own: Vmac, slot: u32, peer: &Identity) -> Establish
+        requires { slot < 64 }
+        ensures { (calls : List SlotCall) → StandsFor self.now calls → IsHeld self.now slot
+            → result ≡ establish own calls slot peer.now }
+    {
+        self.answer(own, slot, peer)
+    }
+
+    /// The same slots in memory of their own.
+    pub fn copy(&self, alloc: Global) -> Result<Direct, NoMemory>
+        ensures { IfOk result (λ d. d.slots.items ≡ self.now.slots.items) }
+    {
+        Ok(Direct {
+            slots: Vec::from_slice(alloc, self.slots.as_slice())?,
+        })
+    }
+}
