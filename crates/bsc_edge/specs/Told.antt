@@ -52,12 +52,17 @@ abbrev pub ComesBack : {J : Type 0} → Unstarted J → J → Type 0
 ComesBack (Failed job) given = job ≡ given
 ComesBack (NoMemory job) given = job ≡ given
 
--- Where jobs are told, one that was started is the last of them, and else they are as before and the job comes back.
+-- A job that wasn't started comes back, and it is the one that was handed in.
+abbrev pub GivesBack : {J : Type 0} → {T : Type 0} → Result T (Unstarted J) → J → Type 0
+GivesBack (Ok x) given = ⊤
+GivesBack (Err unstarted) given = ComesBack unstarted given
+
+-- Where jobs are told, one that was started is the last of them, and else they are as before.
 abbrev pub Starts : {J : Type 0} → {T : Type 0} → Option (List J) → Option (List J) → Result T (Unstarted J) → J → Type 0
 Starts old None answer job = ⊤
 Starts None (Some new) answer job = ⊥
 Starts (Some old) (Some new) (Ok x) job = new ≡ old ++ job ∷ []
-Starts (Some old) (Some new) (Err unstarted) job = (new ≡ old) × ComesBack unstarted job
+Starts (Some old) (Some new) (Err unstarted) job = new ≡ old
 
 -- one more where a job was started
 abbrev pub started_in : {T E : Type 0} → Result T E → ℕ

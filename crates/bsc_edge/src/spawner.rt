@@ -1,6 +1,6 @@
 //! Who starts jobs.
 ghost use Rattle.std.specs.Prelude.{◌≡◌, ◌≤◌, Err};
-ghost use Rattle.bsc_edge.specs.Told.{Starts, Stays, Adds, Tells, started_in};
+ghost use Rattle.bsc_edge.specs.Told.{Starts, Stays, Adds, GivesBack, Tells, started_in};
 ghost use Rattle.bsc_edge.specs.declared.unstarted.Unstarted.{Unstarted};
 ghost use Rattle.bsc_outside.specs.Faults.{HasRisen};
 
@@ -29,6 +29,7 @@ pub trait Spawner<J: Job> {
     fn start<R: Wait>(&mut self, rt: &R, alloc: Global, job: J) -> Result<(), Unstarted<J>>
         requires { can_start self.old }
         ensures again { can_start self.new }
+        ensures back { GivesBack result job }
         ensures jobs { Starts (jobs self.old) (jobs self.new) result job }
         ensures since { Adds (since self.old) (since self.new) (started_in result) }
         ensures later { faults self.old ≤ faults self.new }

@@ -1,5 +1,6 @@
 //! Jobs in threads of their own.
-ghost use Rattle.std.specs.Prelude.{◌≡◌, ◌≤◌, None};
+ghost use Rattle.std.specs.Prelude.{◌≡◌, ◌≤◌, None, Result};
+ghost use Rattle.bsc_edge.specs.Told.{GivesBack};
 
 use crate::job::Job;
 use crate::spawner::Spawner;
@@ -63,54 +64,72 @@ impl Places {
     }
 }
 
-/// What a thread does: it takes the job out of its slot, works it off, and gives its place back.
-fn run<R: Wait, J: Job + Drop>(rt: &R, slot: &Mutex<Option<J>>, places: &Places) {
-    let job = slot.lock(rt).take();
-    if let Some(job) = job {
+/// Where a thread finds its job.
+#[derive(Drop)]
+struct Slot<J> {
+    job: Mutex<Option<J>>,
+    given: Condvar,
+}
+
+impl<J: Drop> Slot<J> {
+    fn new() -> Slot<J> {
+        Slot {
+            job: Mutex::new(None),
+            given: Condvar::new(),
+        }
+    }
+
+    /// Gives the job to the thread that waits for it.
+    fn give<R: Wait>(&self, rt: &R, job: J) {
+        let _none = self.job.lock(rt).replace(job);
+        self.given.notify_all();
+    }
+
+    /// Waits for the job.
+    fn take<R: Wait>(&self, rt: &R) -> Option<J> {
+        self.given
+            .wait_while(rt, self.job.lock(rt), |job| job.is_none())
+            .take()
+    }
+}
+
+/// What a thread does: it waits for its job, works it off, and gives its place back.
+fn run<R: Wait, J: Job + Drop>(rt: &R, slot: &Slot<J>, places: &Places) {
+    if let Some(job) = slot.take(rt) {
         let mut job = job;
         job.work(rt);
     }
     places.leave(rt);
 }
 
-/// Starts a job in a thread of its own, where there is a place. What a `ThreadSpawner` is made with calls this.
+/// Starts a job in a thread of its own, where there is a place. What a `ThreadSpawner` is made with calls this. The
+/// thread is there before it is given its job, so that a job that can't be started comes back as it was.
 pub fn launch<R: Threads + Wait + Copy + Send + 'static, J: Job + Drop + Send + 'static>(
     rt: &R,
     alloc: Global,
     places: &Arc<Places>,
     job: J,
-) -> Result<(), Unstarted<J>> {
-    let slot = match Arc::new(alloc, Mutex::new(Some(job))) {
-        Ok(slot) => slot,
-        Err(failed) => {
-            return match failed.value.into_inner() {
-                Some(job) => Err(Unstarted::NoMemory(job)),
-                None => Ok(()),
-            };
-        }
+) -> Result<(), Unstarted<J>>
+    ensures { GivesBack result job }
+{
+    let Ok(slot) = Arc::new(alloc, Slot::new()) else {
+        return Err(Unstarted::NoMemory(job));
     };
     let (Ok(theirs), Ok(left)) = (Arc::try_clone(&slot), Arc::try_clone(places)) else {
-        return match slot.lock(rt).take() {
-            Some(job) => Err(Unstarted::NoMemory(job)),
-            None => Ok(()),
-        };
+        return Err(Unstarted::NoMemory(job));
     };
     if !places.enter(rt) {
-        return match slot.lock(rt).take() {
-            Some(job) => Err(Unstarted::Failed(job)),
-            None => Ok(()),
-        };
+        return Err(Unstarted::Failed(job));
     }
     let handle = *rt;
     match thread::spawn(rt, move || run(&handle, &theirs, &left)) {
-        Ok(_detached) => Ok(()),
+        Ok(_detached) => {
+            slot.give(rt, job);
+            Ok(())
+        }
         Err(_refused) => {
             places.leave(rt);
-            // Where the slot is empty, the job was taken.
-            match slot.lock(rt).take() {
-                Some(job) => Err(Unstarted::Failed(job)),
-                None => Ok(()),
-            }
+            Err(Unstarted::Failed(job))
         }
     }
 }
@@ -139,7 +158,7 @@ impl<F> ThreadSpawner<F> {
 
 impl<J: Job + Drop, F: Drop + Fn(Global, &Arc<Places>, J) -> Result<(), Unstarted<J>>> Spawner<J>
     for ThreadSpawner<F> {
-    ghost can_start = { λ s. F.IsAlwaysCallable s.begin };
+    ghost can_start = { λ s. F.IsAlwaysCallable s.begin × ((a : _) (p : _) (j : J) (r : _) → F.post s.begin a p j r → GivesBack r j) };
 
     ghost faults = { λ s. s.faults };
 
