@@ -13,13 +13,13 @@ use Rattle.bsc_accept.specs.declared.step.Step.{Step}
 use Rattle.bsc_accept.specs.declared.step.Step.TheVariants.{Ask, Reply, ReplyClose, Carry, Close, Nothing}
 use Rattle.bsc_session.specs.declared.why.Why.{Why}
 use Rattle.bsc_session.specs.declared.stop.Stop.{Stop}
-use Rattle.bsc_session.specs.Answering.{Fits, calls_hub, last_wanted, said_hearing, stop_by, stop_given, stop_judged, stop_message}
+use Rattle.bsc_session.specs.Answering.{calls_hub, last_wanted, said_hearing, stop_by, stop_given, stop_judged, stop_message}
 use Rattle.bsc_session.specs.Course.{standing, shares, EachTurn, GoesOn, and_last, Stops, said_closing}
-use Rattle.bsc_session.specs.Judging.{LacksAtPass, heard, heard_step}
+use Rattle.bsc_session.specs.Judging.{heard, heard_step}
 use Rattle.bsc_session.specs.Laws.{fault_of, EndsAtFault, SessionsEndAtFault}
 use Rattle.bsc_session.specs.Puts.{puts, HasPut, octets_in}
 use Rattle.bsc_session.specs.Reading.{ticked, wanted_at}
-use Rattle.bsc_session.specs.Receiving.{Answer, replies, worn, no_memory, Hearing}
+use Rattle.bsc_session.specs.Receiving.{Answer, worn, no_memory, Hearing}
 use Rattle.bsc_session.specs.Standings.{Standing, Terms, begun}
 use Rattle.bsc_session.specs.Stops.{stop_at, stop_if, closes, first_of, closing_in}
 use Rattle.bsc_session.specs.Taking.{Opening, IsOpening, end_step, last_of, put_first, stop_before, opened}

@@ -1,13 +1,9 @@
 -- A turn is its opening, and then its hearing where the opening didn't stop the session.
-use Rattle.std.proofs.Common.{◌≡◌, ◌≢◌, ℕ, ◌+◌, ◌≤◌, ◌<◌, Bool, true, false, is_some, is_none, ◌&&◌, cond, List, [], ◌∷◌, ◌++◌, refl, ap, sym, ◌∙◌, append-nil, arith, Option, Some, None, Result, Ok}
+use Rattle.std.proofs.Common.{◌≡◌, ℕ, ◌+◌, ◌≤◌, ◌<◌, Bool, true, false, is_some, is_none, ◌&&◌, cond, List, [], ◌∷◌, refl, ap, sym, ◌∙◌, append-nil, arith, Option, Some, None, Result, Ok}
 use Rattle.std.specs.Prelude.{length, nat_lt, if◌then◌else◌}
 use Rattle.bsc_history.specs.declared.ending.End.{End}
-use Rattle.bsc_history.specs.declared.looks.Look.{Look}
 use Rattle.bsc_history.specs.declared.reply.Reply.TheVariants.{Joined, Refused}
-use Rattle.bsc_history.specs.Marks.{mark_of}
-use Rattle.bsc_ring.specs.Ends.{outlet_mark}
 use Rattle.bsc_turn.specs.declared.pass.Pass.{Pass}
-use Rattle.bsc_turn.specs.Passes.{seen}
 use Rattle.bsc_hub.specs.declared.hub.Hub.{Hub}
 use Rattle.bsc_edge.specs.declared.said.Said.{Said}
 use Rattle.bsc_edge.specs.Told.{Grows}
@@ -16,19 +12,19 @@ use Rattle.bsc_accept.specs.declared.step.Step.TheVariants.{Ask}
 use Rattle.bsc_session.specs.declared.at.At.{At}
 use Rattle.bsc_session.specs.declared.member.Member.{Member}
 use Rattle.bsc_session.specs.declared.stop.Stop.{Stop}
-use Rattle.bsc_session.specs.Answering.{after_hearing, answered, said_hearing, step_of, stands_heard}
+use Rattle.bsc_session.specs.Answering.{answered, said_hearing, step_of, stands_heard}
 use Rattle.bsc_edge.specs.declared.fault.LinkFault.{LinkFault}
 use Rattle.bsc_edge.specs.declared.incoming.Incoming.{Incoming}
 use Rattle.bsc_edge.specs.declared.incoming.Incoming.TheVariants.{Message}
 use Rattle.bsc_session.specs.Judging.{heard_told}
-use Rattle.bsc_session.specs.Inner.{Between, Follows, HasStanding, Hears, Held, IsFollowed, IsMember, Makes, Opens, Runs, SameMember, Starts, empties_by, given_by}
+use Rattle.bsc_session.specs.Inner.{Between, Follows, HasStanding, Hears, Held, IsFollowed, IsMember, Makes, Opens, SameMember, Starts, empties_by}
 use Rattle.bsc_session.specs.Puts.{puts}
 use Rattle.bsc_session.specs.Reading.{started, ticked}
 use Rattle.bsc_session.specs.Receiving.{Answer, replies, Hearing}
 use Rattle.bsc_session.specs.Standings.{Standing, Terms, is_connected}
 use Rattle.bsc_session.specs.Stops.{first_of}
 use Rattle.bsc_session.specs.Taking.{Opening, end_told, opened, put_first, stop_before}
-use Rattle.bsc_session.specs.Turns.{after, empties_in}
+use Rattle.bsc_session.specs.Turns.{after}
 use Rattle.bsc_session.proofs.HubCalls.{goes_nowhere}
 use Rattle.bsc_session.proofs.Lists.{grows_as, grown}
 
@@ -59,6 +55,7 @@ makes_opening h v s now p a a1 b old new read read' stop room held st reads k = 
   said = grows_as old new _ _ (sym (append-nil (puts (put_first v s k.opening) k.opening.fault))) k.said;
   reads = rw k.read reads;
   stops = rw (sym k.stops) refl;
+  is_worn = λ e. cc;
   held = held_opened h v s now p a a1 b old new (Some stop) held st k;
   runs = λ going. cc;
 }
@@ -78,6 +75,7 @@ makes_hearing h v s now p q a a1 b c old mid new read read' stop room st reads k
       said = grown old mid new (puts (put_first v s k.opening) k.opening.fault) (said_hearing v (opened s k.opening) k.opening.reading l.hearing) k.said l.said;
       reads = rw k.read reads;
       stops = rw (sym k.stops) l.stops;
+      is_worn = l.is_worn;
       held = l.held;
       runs = l.runs;
     }

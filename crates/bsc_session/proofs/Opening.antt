@@ -1,23 +1,22 @@
 -- A turn's opening: the time, and what the outlet has.
-use Rattle.std.proofs.Common.{◌≡◌, ◌≢◌, ◌⊎◌, ◌≤◌, ℕ, ◌+◌, Bool, true, false, cond, is_some, is_none, ◌&&◌, List, [], ◌∷◌, ◌++◌, refl, ap, sym, ◌∙◌, append-nil, arith, inl, inr, lit≤, Option, Some, None}
-use Rattle.std.specs.Prelude.{length, nat_lt, suc, zero}
+use Rattle.std.proofs.Common.{◌≡◌, ◌≢◌, ℕ, Bool, true, false, cond, is_some, List, [], refl, ap, sym, ◌∙◌, append-nil, arith, inl, inr, lit≤, Option, Some, None}
+use Rattle.std.specs.Prelude.{suc, zero}
 use Rattle.bsc_octets.specs.declared.identity.Identity.{Identity}
 use Rattle.bsc_history.specs.declared.ending.End.{End}
-use Rattle.bsc_history.specs.declared.ending.End.TheVariants.{Left, Replaced, Full, Stopped}
+use Rattle.bsc_history.specs.declared.ending.End.TheVariants.{Left, Full}
 use Rattle.bsc_ring.specs.declared.ends.Outlet.{Outlet}
-use Rattle.bsc_ring.specs.Ends.{FoundEnd, outlet_mark}
+use Rattle.bsc_ring.specs.Ends.{FoundEnd}
 use Rattle.bsc_checks.specs.declared.phase.Phase.{Phase}
 use Rattle.bsc_checks.specs.declared.phase.Phase.TheVariants.{Connected as PhaseConnected}
 use Rattle.bsc_hub.specs.declared.hub.Hub.{Hub}
 use Rattle.bsc_edge.specs.declared.fault.LinkFault.{LinkFault}
 use Rattle.bsc_edge.specs.declared.said.Said.{Said}
-use Rattle.bsc_edge.specs.Told.{Grows}
 use Rattle.bsc_accept.specs.declared.accepting.Accepting.{Accepting}
 use Rattle.bsc_accept.specs.declared.closing.Closing.{Closing}
 use Rattle.bsc_accept.specs.declared.event.Event.TheVariants.{Ended, Tick}
 use Rattle.bsc_accept.specs.declared.start.Start.{Start}
 use Rattle.bsc_accept.specs.declared.step.Step.{Step}
-use Rattle.bsc_accept.specs.declared.step.Step.TheVariants.{Ask, Reply, ReplyClose, Carry, Close, Nothing}
+use Rattle.bsc_accept.specs.declared.step.Step.TheVariants.{Close, Nothing}
 use Rattle.bsc_accept.specs.Past.{Standing as MachineStanding, awaiting_request, connected, disconnecting, last_message, phase, standing}
 use Rattle.bsc_accept.specs.Standing.{Answers as MachineAnswers, IsOpen, LeftBy, StandsFor}
 use Rattle.bsc_accept.specs.Steps.{ended_step, normal, tick_step}
@@ -31,12 +30,12 @@ use Rattle.bsc_session.specs.declared.taken.Taken.TheVariants.{All, Met, Cut}
 use Rattle.bsc_session.specs.declared.why.Why.{Why}
 use Rattle.bsc_session.specs.declared.why.Why.TheVariants.{EndedBy}
 use Rattle.bsc_session.specs.Answering.{calls_hub}
-use Rattle.bsc_session.specs.Inner.{AreTerms, Attends, Between, Carries, Follows, HasFound, Meets, Opens, Runs, SameMember, Starts, Takes, TakesFrom, Ticks, Tied, conn_of, empties_by, empties_opening, given_by, nothing_found}
-use Rattle.bsc_session.specs.Puts.{HasPut, octets_in, puts}
+use Rattle.bsc_session.specs.Inner.{AreTerms, Attends, Between, Carries, Follows, HasFound, Meets, Opens, Runs, SameMember, Starts, Takes, TakesFrom, Ticks, Tied, conn_of, given_by}
+use Rattle.bsc_session.specs.Puts.{octets_in, puts}
 use Rattle.bsc_session.specs.Reading.{start_at, started, ticked, wanted_at}
 use Rattle.bsc_session.specs.Standings.{Standing, Terms, is_connected, is_phase_connected, start_of, told, wanted}
-use Rattle.bsc_session.specs.Stops.{closes, closing_in, first_of, stop_at, stop_for, stop_if}
-use Rattle.bsc_session.specs.Taking.{Opening, IsOpening, end_step, end_told, ended_by, opened, put_first, stop_before, waiting_for}
+use Rattle.bsc_session.specs.Stops.{closes, closing_in, stop_at, stop_for}
+use Rattle.bsc_session.specs.Taking.{waiting_for}
 use Rattle.bsc_session.proofs.Asking.{left_open, tied_told}
 use Rattle.bsc_session.proofs.Hearing.{connected_joined, some_of}
 use Rattle.bsc_session.proofs.Lists.{grown, grows-nil, grows_as, puts-append}

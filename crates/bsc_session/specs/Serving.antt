@@ -1,6 +1,5 @@
 -- What a serving call says.
-use Rattle.std.specs.Prelude.{◌≡◌, ℕ, List, [], ◌++◌, take, Option, Some, None}
-use Rattle.bsc_octets.specs.declared.identity.Identity.{Identity}
+use Rattle.std.specs.Prelude.{◌≡◌, ◌<◌, ◌≤◌, ℕ, List, [], ◌++◌, length, take, Option, Some, None}
 use Rattle.bsc_history.specs.declared.entry.Entry.{Entry}
 use Rattle.bsc_history.specs.declared.limits.About.{About}
 use Rattle.bsc_history.specs.Marks.{entries}
@@ -12,9 +11,10 @@ use Rattle.bsc_hub.specs.declared.hub.Hub.{Hub}
 use Rattle.bsc_hub.specs.Passing.{IsCaller, about_of}
 use Rattle.bsc_edge.specs.declared.said.Said.{Said}
 use Rattle.bsc_edge.specs.Told.{Grows}
-use Rattle.bsc_accept.specs.declared.times.Times.{Times}
 use Rattle.bsc_session.specs.declared.ended.Ended.{Ended}
 use Rattle.bsc_session.specs.declared.limits.SessionLimits.{SessionLimits}
+use Rattle.bsc_session.specs.Causes.{last_answer}
+use Rattle.bsc_session.specs.Receiving.{worn}
 use Rattle.bsc_session.specs.Standings.{Terms}
 use Rattle.bsc_session.specs.Talk.{Session}
 
@@ -36,8 +36,15 @@ pub record Goes (h : Hub) (p : Pass) (E : List Entry) (q : Pass) : Type 0 where
   pub own : own_list q ≡ own_list p ++ E
   pub took_in : ended_callers q ≡ ended_callers p
 
+-- The hub was worn when it answered last, by what the pass has then seen: before the Leave of a session that had joined it
+-- had as many entries as it may.
+abbrev pub WasWorn : About → List Entry → Option ℕ → Type 0
+WasWorn a H None = a.limits.calls ≤ length H
+WasWorn a H (Some c) = a.limits.calls < length H
+
 -- What a serving call says: the talk, the readings and the own list grew by those of a session, whose frames are the
--- first that entered the outbox of its connection, by what the pass has then seen.
+-- first that entered the outbox of its connection, by what the pass has then seen; and the hub answers that it is worn
+-- only where it is.
 pub record Serves (v : Terms) (h : Hub) (p q : Pass) (old new : Option (List Said)) (read read' : Option (List ℕ)) (ended : Ended) : Type 0 where
   pub T : List Said
   pub R : List ℕ
@@ -46,3 +53,4 @@ pub record Serves (v : Terms) (h : Hub) (p q : Pass) (old new : Option (List Sai
   pub readings : Grows read read' R
   pub goes : Goes h p E q
   pub session : Session v T R E (received (about_of h) (entries (seen q)) ended.conn ended.taken) ended
+  pub is_worn : last_answer session.course.last ≡ Some worn → WasWorn (about_of h) (entries (seen q)) ended.conn

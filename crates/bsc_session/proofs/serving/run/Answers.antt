@@ -3,7 +3,7 @@ use Rattle.bsc_session.specs.Course.{standing}
 use Rattle.bsc_session.specs.Inner.{Makes}
 use Rattle.bsc_session.specs.Serving.{terms_of}
 use Rattle.bsc_session.specs.Standings.{begun}
-use Rattle.bsc_session.proofs.Running.{are_terms, has_room, ran_spent, ran_stopped, received_more, some_terms, stood_begins, stood_more}
+use Rattle.bsc_session.proofs.Running.{are_terms, has_room, ran_stopped, received_more, some_terms, stood_begins, stood_more}
 use Rattle.bsc_session.proofs.serving.run.Goals as goal
 
 pub turn-requires-clause-stands : goal.turn-requires-clause-stands
