@@ -1,14 +1,12 @@
 -- What a machine's step leaves, and how the hub's answers are answered.
-use Rattle.std.proofs.Common.{◌≡◌, ◌≢◌, ℕ, Bool, true, false, is_some, List, [], ◌∷◌, ◌++◌, refl, ap, sym, ◌∙◌, append-nil, Option, Some, None, Result, Ok}
+use Rattle.std.proofs.Common.{◌≡◌, ℕ, true, false, List, [], ◌∷◌, ◌++◌, refl, ap, sym, ◌∙◌, Option, Some, None, Result, Ok}
 use Rattle.bsc_octets.specs.declared.identity.Identity.{Identity}
 use Rattle.bsc_octets.specs.declared.vmac.Vmac.{Vmac}
 use Rattle.bsc_history.specs.declared.call.Call.TheVariants.{Connect}
 use Rattle.bsc_history.specs.declared.ending.End.{End}
 use Rattle.bsc_history.specs.declared.entry.Entry.{Entry}
-use Rattle.bsc_history.specs.declared.looks.Look.{Look}
 use Rattle.bsc_history.specs.declared.reply.Refusal.{Refusal}
 use Rattle.bsc_history.specs.declared.reply.Refusal.TheVariants.{Stopped as HubStopped, Duplicate, TableFull}
-use Rattle.bsc_history.specs.declared.reply.Reply.{Reply}
 use Rattle.bsc_history.specs.declared.reply.Reply.TheVariants.{Joined as JoinedReply, Refused as RefusedReply}
 use Rattle.bsc_history.specs.Marks.{mark_of}
 use Rattle.bsc_ring.specs.Ends.{IsNewOutlet, outlet_mark}
@@ -38,13 +36,12 @@ use Rattle.bsc_session.specs.declared.member.Member.{Member}
 use Rattle.bsc_session.specs.declared.stop.Stop.{Stop}
 use Rattle.bsc_session.specs.declared.why.Why.{Why}
 use Rattle.bsc_session.specs.declared.why.Why.TheVariants.{PeerLeft, Refused as WhyRefused}
-use Rattle.bsc_session.specs.Answering.{Fits, answered, called, calls_hub, last_wanted, stop_by, stop_message}
-use Rattle.bsc_session.specs.Inner.{Answers, Calls, Carries, Follows, HasFound, Held, IsMember, Runs, Tied, has_joined}
-use Rattle.bsc_session.specs.Serving.{Goes}
-use Rattle.bsc_session.specs.Receiving.{Answer, replies, worn, no_memory}
+use Rattle.bsc_session.specs.Answering.{Fits, answered, called, calls_hub, last_wanted, stop_message}
+use Rattle.bsc_session.specs.Inner.{Answers, Carries, HasFound, Held, SeesWorn, Tied, has_joined}
+use Rattle.bsc_session.specs.Receiving.{Answer, replies, worn}
 use Rattle.bsc_session.specs.Standings.{Standing, Terms, start_of, told, wanted}
 use Rattle.bsc_session.specs.Stops.{closes, closing_in, first_of, stop_if}
-use Rattle.bsc_session.proofs.HubCalls.{call_passed, goes_as, goes_passed, member_stays}
+use Rattle.bsc_session.proofs.HubCalls.{goes_as, goes_passed}
 use Rattle.bsc_session.proofs.Lists.{grown, grows-nil, grows_stays}
 
 -- ---- a step
@@ -86,7 +83,7 @@ joined_told s e h = ap has_joined (standing-more s.events e) ∙ joined_moved (s
 pub tied_told : (s : Standing) (e : Event) → is_joined e ≡ false → Tied s → Tied (told s e)
 tied_told s e h tied = joined_told s e h ∙ tied
 
-tied_joined : (s : Standing) (c : ℕ) → has_joined (standing (s.events ++ JoinedEvent ∷ [])) ≡ true
+pub tied_joined : (s : Standing) (c : ℕ) → has_joined (standing (s.events ++ JoinedEvent ∷ [])) ≡ true
 tied_joined s c = ap has_joined (standing-more s.events JoinedEvent) ∙ joined_at (standing s.events)
 
 found_new : (e : Option End) (m : Option Member) (n : Member) → m ≡ None → HasFound e m → HasFound e (Some n)
@@ -115,6 +112,7 @@ ask_joined h v s given p q a old mid new who j address m st stop mem held stood 
       said = grown old mid new [] _ (grows_stays old mid stays) k.said;
       cause = k.cause;
       stops = k.stops;
+      is_worn = λ e. cc;
       given_same = rw (alone, set) fresh.0;
       empties_same = rw (alone, set) fresh.1;
       held = record {
@@ -151,6 +149,7 @@ ask_refused h v s given p q a b old new who at r stop held alone passed k member
       said = k.said;
       cause = k.cause;
       stops = k.stops;
+      is_worn = λ e. cc;
       given_same = rw member refl;
       empties_same = rw member refl;
       held = record {
@@ -162,13 +161,16 @@ ask_refused h v s given p q a b old new who at r stop held alone passed k member
       runs = λ going. absurd (refused_stops _ r k.fault (WhyRefused r) (sym going ∙ k.stops));
     }
 
+pub answer_is : (a b : Answer) → Some a ≡ Some b → a ≡ b
+answer_is a b h = cc
+
 -- the hub's answer to a connect asks for no step
 pub ask_ends : (h : Hub) (v : Terms) (s : Standing) (given : Result Incoming LinkFault) (p q : Pass) (a : At) (old : Option (List Said)) (who : Identity) (answer : Answer) (stop : Stop)
     → Held h v p a s → a.member ≡ None → Passed h p [] None q
     → last_wanted v s (Ask who) (Some answer) ≡ Nothing → answered s (Ask who) (Some answer) ≡ s → called v s (Ask who) given (Some answer) ≡ [] → Fits (Ask who) (Some answer)
-    → Some stop ≡ stop_message v s (Ask who) (Some answer) None
+    → Some stop ≡ stop_message v s (Ask who) (Some answer) None → (answer ≡ worn → SeesWorn h q)
     → Answers v s (Ask who) given h p q a a old old (Some stop)
-ask_ends h v s given p q a old who answer stop held alone passed quiet same none fits stops = record {
+ask_ends h v s given p q a old who answer stop held alone passed quiet same none fits stops wears = record {
   answer = Some answer;
   fault = None;
   calls = refl;
@@ -177,6 +179,7 @@ ask_ends h v s given p q a old who answer stop held alone passed quiet same none
   said = rw quiet (grows-nil old);
   cause = rw quiet tt;
   stops = stops;
+  is_worn = λ e. wears (answer_is answer worn e);
   given_same = refl;
   empties_same = refl;
   held = rw same (record { caller = passed.caller; number = passed.number ∙ held.number; member = rw alone tt; follows = held.follows });

@@ -1,12 +1,11 @@
 -- How a session stops: each way with what the link gave last, whether there was memory to judge it, what the hub answered
 -- last, and the fault that came last.
 use Rattle.std.proofs.Common.{◌≡◌, ◌⊎◌, ◌↔◌, ℕ, Bool, true, false, is_some, List, [], refl, ap, sym, ◌∙◌, inl, inr, Option, Some, None, Result, Ok, Err}
-use Rattle.bsc_octets.specs.declared.identity.Identity.{Identity}
 use Rattle.bsc_history.specs.declared.ending.End.{End}
 use Rattle.bsc_history.specs.declared.looks.Look.{Look}
 use Rattle.bsc_history.specs.declared.reply.Refusal.{Refusal}
 use Rattle.bsc_history.specs.declared.reply.Reply.{Reply}
-use Rattle.bsc_history.specs.declared.reply.Reply.TheVariants.{Joined, Refused as RefusedReply, Appended, Closed as ClosedReply, Skipped, NoHolder, SentAll, NotCurrent, Stopped, Gone, Counted}
+use Rattle.bsc_history.specs.declared.reply.Reply.TheVariants.{Joined, Refused as RefusedReply}
 use Rattle.bsc_edge.specs.declared.fault.LinkFault.{LinkFault}
 use Rattle.bsc_edge.specs.declared.fault.LinkFault.TheVariants.{Failed, NoMemory as MemoryFault}
 use Rattle.bsc_edge.specs.declared.incoming.Incoming.{Incoming}
@@ -18,23 +17,22 @@ use Rattle.bsc_session.specs.declared.why.Why.{Why}
 use Rattle.bsc_session.specs.declared.why.Why.TheVariants.{PeerClosed, NotBinary, PeerLeft, Refused, WaitExpired, Idle, EndedBy, Worn, LinkFault as WhyLinkFault, NoMemory, Spent}
 use Rattle.bsc_session.specs.declared.stop.Stop.{Stop}
 use Rattle.bsc_session.specs.Answering.{Fits, calls_hub, cause_of, last_wanted, stop_by, stop_given, stop_judged, stop_message}
-use Rattle.bsc_session.specs.Causes.{fault_at, given_in, judged_in, answer_in, hearing_fault, IsRefused, LacksMemory, AreExact, CausesAreExact}
-use Rattle.bsc_session.specs.Course.{standing, EachTurn, and_last, Stops}
+use Rattle.bsc_session.specs.Causes.{fault_at, given_in, judged_in, answer_in, hearing_fault, IsRefused}
 use Rattle.bsc_session.specs.Judging.{LacksAtPass, heard, heard_step}
 use Rattle.bsc_session.specs.Puts.{HasPut, octets_in}
 use Rattle.bsc_session.specs.Reading.{ticked, wanted_at}
 use Rattle.bsc_session.specs.Receiving.{Answer, replies, worn, no_memory, Hearing}
-use Rattle.bsc_session.specs.Standings.{Standing, Terms, begun}
+use Rattle.bsc_session.specs.Standings.{Standing, Terms}
 use Rattle.bsc_session.specs.Stops.{stop_at, stop_if, closes, first_of, closing_in}
 use Rattle.bsc_session.specs.Taking.{Opening, put_first, waiting_for, ended_by, end_step, stop_before, opened}
-use Rattle.bsc_session.specs.Turns.{Turn, IsTurn, stop_in}
-use Rattle.bsc_session.proofs.EndingAtFault.{nothing_put, some_is, alone, no_stop, after_none, each_last, none_put, unheard, unheard_closed, unheard_text}
+use Rattle.bsc_session.specs.Turns.{IsTurn, stop_in}
+use Rattle.bsc_session.proofs.EndingAtFault.{fault_put, nothing_put, some_is, alone, no_stop, after_none, none_put}
 
 -- the hub answered neither Worn nor NoMemory
-abbrev IsTaken : Option Answer → Type 0
+abbrev pub IsTaken : Option Answer → Type 0
 IsTaken a = stop_by a ≡ None
 
-data Ends : Option (Result Incoming LinkFault) → Bool → Option Answer → Option LinkFault → Why → Type 0 where
+pub data Ends : Option (Result Incoming LinkFault) → Bool → Option Answer → Option LinkFault → Why → Type 0 where
   unjoined : Ends None true None None WaitExpired
   idle : Ends None true None None Idle
   cut : Ends None true None (Some Failed) WhyLinkFault
@@ -52,7 +50,7 @@ data Ends : Option (Result Incoming LinkFault) → Bool → Option Answer → Op
   refused : (x : List ℕ) (l : List Look) (r : Refusal) → Ends (Some (Ok (Message x))) true (Some (replies l (RefusedReply r))) None (Refused r)
   left : (x : List ℕ) (a : Option Answer) → IsTaken a → ((r : Refusal) → IsRefused a r → ⊥) → Ends (Some (Ok (Message x))) true a None PeerLeft
 
-why_is : (a b : Stop) → Some a ≡ Some b → b.why ≡ a.why
+pub why_is : (a b : Stop) → Some a ≡ Some b → b.why ≡ a.why
 why_is a b h = ap (λ (s : Stop). s.why) (some_is a b h)
 
 no_put : (fault : Option LinkFault) → HasPut [] fault → fault ≡ None
@@ -73,7 +71,7 @@ cut_ends : (f : LinkFault) → Ends None true None (Some f) (stop_at f).why
 cut_ends Failed = cut
 cut_ends MemoryFault = cut_memory
 
-closes_why : (w : Why) (c : Option Closing) (stop : Stop) → closes w c ≡ Some stop → stop.why ≡ w
+pub closes_why : (w : Why) (c : Option Closing) (stop : Stop) → closes w c ≡ Some stop → stop.why ≡ w
 closes_why w None stop h = cc
 closes_why w (Some c) stop h = why_is _ stop h
 
@@ -159,9 +157,9 @@ given_ends v s0 s now false (Ok Quiet) a fault stop lacks calls fits put is = ab
 
 -- ---- the turn
 
-turn_ends : (v : Terms) (s : Standing) (o : Opening) (h : Option Hearing) (stop : Stop) → IsTurn v s (record { opening = o; hearing = h }) → stop_in v s (record { opening = o; hearing = h }) ≡ Some stop
+pub turn_ends : (v : Terms) (s : Standing) (o : Opening) (h : Option Hearing) (stop : Stop) → IsTurn v s (record { opening = o; hearing = h }) → stop_in v s (record { opening = o; hearing = h }) ≡ Some stop
     → Ends (given_in h) (judged_in h) (answer_in h) (hearing_fault o.fault h) stop.why
-turn_ends v s o None stop is stops = opening_ends s.conn (closing_in (wanted_at v s o.reading)) v (ticked s o.reading) o.met o.reading (put_first v s o) o.fault stop is.opening.cause (none_put v s o is.opening) (sym (alone (stop_before v s o)) ∙ stops)
+turn_ends v s o None stop is stops = opening_ends s.conn (closing_in (wanted_at v s o.reading)) v (ticked s o.reading) o.met o.reading (put_first v s o) o.fault stop (fault_put v s o is.opening) (none_put v s o is.opening) (sym (alone (stop_before v s o)) ∙ stops)
 turn_ends v s o (Some h) stop is stops = given_ends v (opened s o) (heard v (opened s o) o.reading h.judged h.given) o.reading h.judged h.given h.answer h.fault stop is.hearing.memory is.hearing.calls is.hearing.fits is.hearing.cause
     (after_none (stop_before v s o) _ stop (no_stop (stop_before v s o) is.heard) stops)
 
@@ -173,15 +171,15 @@ not_worn a taken h = (let k = rw h at taken in cc)
 not_memory : (a : Option Answer) → IsTaken a → a ≡ Some no_memory → ⊥
 not_memory a taken h = (let k = rw h at taken in cc)
 
-row_peer_closed : {g : Option (Result Incoming LinkFault)} {j : Bool} {a : Option Answer} {f : Option LinkFault} {w : Why} → Ends g j a f w → w ≡ PeerClosed ↔ (g ≡ Some (Ok Closed))
+pub row_peer_closed : {g : Option (Result Incoming LinkFault)} {j : Bool} {a : Option Answer} {f : Option LinkFault} {w : Why} → Ends g j a f w → w ≡ PeerClosed ↔ (g ≡ Some (Ok Closed))
 row_peer_closed closed = (λ h. refl, λ h. refl)
 row_peer_closed e = (λ h. cc, λ h. cc)
 
-row_not_binary : {g : Option (Result Incoming LinkFault)} {j : Bool} {a : Option Answer} {f : Option LinkFault} {w : Why} → Ends g j a f w → w ≡ NotBinary ↔ (g ≡ Some (Ok Text))
+pub row_not_binary : {g : Option (Result Incoming LinkFault)} {j : Bool} {a : Option Answer} {f : Option LinkFault} {w : Why} → Ends g j a f w → w ≡ NotBinary ↔ (g ≡ Some (Ok Text))
 row_not_binary text = (λ h. refl, λ h. refl)
 row_not_binary e = (λ h. cc, λ h. cc)
 
-row_worn : {g : Option (Result Incoming LinkFault)} {j : Bool} {a : Option Answer} {f : Option LinkFault} {w : Why} → Ends g j a f w → w ≡ Worn ↔ (a ≡ Some worn)
+pub row_worn : {g : Option (Result Incoming LinkFault)} {j : Bool} {a : Option Answer} {f : Option LinkFault} {w : Why} → Ends g j a f w → w ≡ Worn ↔ (a ≡ Some worn)
 row_worn (is_worn x) = (λ h. refl, λ h. refl)
 row_worn (failed x a t) = (λ h. cc, λ h. absurd (not_worn a t h))
 row_worn (failed_memory x a t) = (λ h. cc, λ h. absurd (not_worn a t h))
@@ -191,23 +189,23 @@ row_worn e = (λ h. cc, λ h. cc)
 reply_is : (l k : List Look) (p q : Reply) → Some (replies l p) ≡ Some (replies k q) → p ≡ q
 reply_is l k p q h = cc
 
-row_refused : {g : Option (Result Incoming LinkFault)} {j : Bool} {a : Option Answer} {f : Option LinkFault} {w : Why} → (r : Refusal) → Ends g j a f w → w ≡ Refused r ↔ (IsRefused a r × (f ≡ None))
+pub row_refused : {g : Option (Result Incoming LinkFault)} {j : Bool} {a : Option Answer} {f : Option LinkFault} {w : Why} → (r : Refusal) → Ends g j a f w → w ≡ Refused r ↔ (IsRefused a r × (f ≡ None))
 row_refused r (refused x l k) = (λ h. ((l, cc), refl), λ h. (let e = reply_is l h.0.0 (RefusedReply k) (RefusedReply r) h.0.1 in cc))
 row_refused r (failed x a t) = (λ h. (([], cc), cc), λ h. (let e = h.1 in cc))
 row_refused r (failed_memory x a t) = (λ h. (([], cc), cc), λ h. (let e = h.1 in cc))
 row_refused r (left x a t n) = (λ h. (([], cc), cc), λ h. absurd (n r h.0))
 row_refused r e = (λ h. (([], cc), cc), λ h. (let k = h.0.1 in cc))
 
-row_link_fault : {g : Option (Result Incoming LinkFault)} {j : Bool} {a : Option Answer} {f : Option LinkFault} {w : Why} → Ends g j a f w → w ≡ WhyLinkFault ↔ (f ≡ Some Failed)
+pub row_link_fault : {g : Option (Result Incoming LinkFault)} {j : Bool} {a : Option Answer} {f : Option LinkFault} {w : Why} → Ends g j a f w → w ≡ WhyLinkFault ↔ (f ≡ Some Failed)
 row_link_fault cut = (λ h. refl, λ h. refl)
 row_link_fault unheard_fault = (λ h. refl, λ h. refl)
 row_link_fault (failed x a t) = (λ h. refl, λ h. refl)
 row_link_fault e = (λ h. cc, λ h. cc)
 
-abbrev Lacks : Bool → Option Answer → Option LinkFault → Type 0
+abbrev pub Lacks : Bool → Option Answer → Option LinkFault → Type 0
 Lacks j a f = (f ≡ Some MemoryFault) ⊎ ((j ≡ false) ⊎ (a ≡ Some no_memory))
 
-row_no_memory : {g : Option (Result Incoming LinkFault)} {j : Bool} {a : Option Answer} {f : Option LinkFault} {w : Why} → Ends g j a f w → w ≡ NoMemory ↔ Lacks j a f
+pub row_no_memory : {g : Option (Result Incoming LinkFault)} {j : Bool} {a : Option Answer} {f : Option LinkFault} {w : Why} → Ends g j a f w → w ≡ NoMemory ↔ Lacks j a f
 row_no_memory cut_memory = (λ h. inl refl, λ h. refl)
 row_no_memory unheard_memory = (λ h. inl refl, λ h. refl)
 row_no_memory (failed_memory x a t) = (λ h. inl refl, λ h. refl)
@@ -217,35 +215,21 @@ row_no_memory (failed x a t) = (λ h. inl cc, λ h. elim h [ inl k ↦ cc | inr 
 row_no_memory (left x a t n) = (λ h. inl cc, λ h. elim h [ inl k ↦ cc | inr k ↦ elim k [ inl i ↦ cc | inr i ↦ absurd (not_memory a t i) ] ])
 row_no_memory e = (λ h. inl cc, λ h. elim h [ inl k ↦ cc | inr k ↦ elim k [ inl i ↦ cc | inr i ↦ cc ] ])
 
-not_spent : {g : Option (Result Incoming LinkFault)} {j : Bool} {a : Option Answer} {f : Option LinkFault} {w : Why} → Ends g j a f w → w ≡ Spent → ⊥
+pub not_spent : {g : Option (Result Incoming LinkFault)} {j : Bool} {a : Option Answer} {f : Option LinkFault} {w : Why} → Ends g j a f w → w ≡ Spent → ⊥
 not_spent unjoined h = cc
 not_spent e h = cc
 
-exact_turn : (t : Turn) (w : Why) → Ends (given_in t.hearing) (judged_in t.hearing) (answer_in t.hearing) (hearing_fault t.opening.fault t.hearing) w → AreExact (Some t) w
-exact_turn t w e = record {
-  peer_closed = row_peer_closed e;
-  not_binary = row_not_binary e;
-  worn = row_worn e;
-  refused = λ r. row_refused r e;
-  link_fault = row_link_fault e;
-  no_memory = row_no_memory e;
-  spent = (λ h. absurd (not_spent e h), λ h. cc);
-}
+-- causes that a reading has, and an End
+pub waits_before : {g : Option (Result Incoming LinkFault)} {j : Bool} {a : Option Answer} {f : Option LinkFault} {w : Why} → Ends g j a f w → (w ≡ WaitExpired) ⊎ (w ≡ Idle) → g ≡ None
+waits_before unjoined h = refl
+waits_before idle h = refl
+waits_before e (inl h) = cc
+waits_before e (inr h) = cc
 
-exact_spent : (w : Why) → w ≡ Spent → AreExact None w
-exact_spent w is = record {
-  peer_closed = (λ h. cc, λ h. cc);
-  not_binary = (λ h. cc, λ h. cc);
-  worn = (λ h. cc, λ h. cc);
-  refused = λ r. (λ h. (([], cc), refl), λ h. (let k = h.0.1 in cc));
-  link_fault = (λ h. cc, λ h. cc);
-  no_memory = (λ h. inl cc, λ h. elim h [ inl k ↦ cc | inr k ↦ elim k [ inl i ↦ cc | inr i ↦ cc ] ]);
-  spent = (λ h. refl, λ h. is);
-}
+pub parts_before : {g : Option (Result Incoming LinkFault)} {j : Bool} {a : Option Answer} {f : Option LinkFault} {w : Why} → (d : End) → Ends g j a f w → w ≡ EndedBy d → g ≡ None
+parts_before d (parted e) h = refl
+parts_before d e h = cc
 
-exact : (v : Terms) (s : Standing) (ts : List Turn) (last : Option Turn) (stop : Stop) → EachTurn IsTurn v s (and_last ts last) → Stops v (standing v s ts) last stop → AreExact last stop.why
-exact v s ts None stop are stops = exact_spent stop.why (ap (λ (x : Stop). x.why) stops.1)
-exact v s ts (Some t) stop are stops = exact_turn t stop.why (turn_ends v (standing v s ts) t.opening t.hearing stop (each_last IsTurn v s ts t are) stops)
-
-pub causes_are_exact : CausesAreExact
-causes_are_exact v c = exact v begun c.went_on c.last c.stop c.turns c.stops
+pub left_after : {j : Bool} {a : Option Answer} {f : Option LinkFault} {w : Why} → Ends None j a f w → w ≡ PeerLeft → ⊥
+left_after unjoined h = cc
+left_after e h = cc

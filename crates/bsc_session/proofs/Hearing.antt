@@ -1,8 +1,7 @@
 -- What follows the thing given.
-use Rattle.std.proofs.Common.{◌≡◌, ◌≢◌, ℕ, ◌+◌, Bool, true, false, cond, is_some, List, [], ◌∷◌, ◌++◌, refl, ap, sym, ◌∙◌, append-nil, Option, Some, None, Result, Ok, Err}
+use Rattle.std.proofs.Common.{◌≡◌, ℕ, ◌+◌, Bool, true, false, cond, is_some, List, [], ◌∷◌, refl, ap, sym, ◌∙◌, Option, Some, None, Result, Ok}
 use Rattle.bsc_octets.specs.declared.identity.Identity.{Identity}
 use Rattle.bsc_octets.specs.declared.envelope.Envelope.{Envelope}
-use Rattle.bsc_history.specs.declared.entry.Entry.{Entry}
 use Rattle.bsc_frame.specs.declared.body.Body.{Body}
 use Rattle.bsc_frame.specs.declared.body.Body.TheVariants.{HeartbeatRequest, DisconnectRequest}
 use Rattle.bsc_frame.specs.declared.message.Message.{Message as Bvlc}
@@ -29,7 +28,7 @@ use Rattle.bsc_accept.specs.declared.closing.Closing.{Closing}
 use Rattle.bsc_accept.specs.declared.stage.Stage.{Stage}
 use Rattle.bsc_accept.specs.declared.stage.Stage.TheVariants.{Idle}
 use Rattle.bsc_accept.specs.declared.step.Step.{Step}
-use Rattle.bsc_accept.specs.declared.step.Step.TheVariants.{Ask, Reply, ReplyClose, Carry, Close, Nothing}
+use Rattle.bsc_accept.specs.declared.step.Step.TheVariants.{Ask, Carry, Close, Nothing}
 use Rattle.bsc_accept.specs.Messages.{is_farewell_answer, who_asks}
 use Rattle.bsc_accept.specs.Past.{Standing as MachineStanding, awaiting_request, connected, disconnecting, phase, phase_named, standing}
 use Rattle.bsc_accept.specs.Standing.{Answers as MachineAnswers, IsOpen, IsOver, LeftBy, StandsFor, is_open}
@@ -38,15 +37,15 @@ use Rattle.bsc_session.specs.declared.at.At.{At}
 use Rattle.bsc_session.specs.declared.member.Member.{Member}
 use Rattle.bsc_session.specs.declared.stop.Stop.{Stop}
 use Rattle.bsc_session.specs.declared.why.Why.TheVariants.{PeerLeft}
-use Rattle.bsc_session.specs.Answering.{Fits, answered, called, calls_hub, cause_of, forwarded_by, last_wanted, stop_by, stop_given, stop_judged, stop_message}
-use Rattle.bsc_session.specs.Inner.{Answers, Calls, Carries, Follows, Forwards, HasStanding, Hears, HearsMessage, Held, IsMember, Runs, Tied, conn_of, empties_by, forward_made, given_by, has_joined}
+use Rattle.bsc_session.specs.Answering.{Fits, answered, called, calls_hub, cause_of, last_wanted, stop_by, stop_given, stop_judged, stop_message}
+use Rattle.bsc_session.specs.Inner.{Answers, Carries, Forwards, HasStanding, Hears, HearsMessage, Held, Runs, SeesWorn, Tied, conn_of, empties_by, forward_made, given_by, has_joined}
 use Rattle.bsc_session.specs.Judging.{LacksAtPass, heard_step, heard_told, verdict_on}
 use Rattle.bsc_session.specs.Serving.{Goes}
 use Rattle.bsc_session.specs.Puts.{HasPut, octets_in, puts}
 use Rattle.bsc_session.specs.Receiving.{Answer, replies, worn, no_memory, received_one}
 use Rattle.bsc_session.specs.Standings.{Standing, Terms, start_of, told, wanted}
 use Rattle.bsc_session.specs.Stops.{first_of, stop_at}
-use Rattle.bsc_session.proofs.Asking.{left_open, tied_told}
+use Rattle.bsc_session.proofs.Asking.{answer_is, left_open}
 use Rattle.bsc_session.proofs.HubCalls.{goes_as, goes_nowhere, member_stays}
 use Rattle.bsc_session.proofs.Lists.{grown, grows-nil, grows_stays}
 
@@ -67,6 +66,7 @@ plain_answers h v s st thing p a old new stop held stood tied left plain same st
   said = rw same k.said;
   cause = rw same k.cause;
   stops = rw (same, why) k.stops;
+  is_worn = λ e. cc;
   given_same = refl;
   empties_same = refl;
   held = rw stays held;
@@ -103,6 +103,7 @@ carry_answers h v s p q a m n old new stop held stood tied left is f =
       said = grows_stays old new f.said;
       cause = tt;
       stops = f.stops ∙ ends_so f.answer;
+      is_worn = λ e. f.is_worn (answer_is f.answer worn e);
       given_same = refl;
       empties_same = refl;
       held = record { caller = f.calls.goes.caller; number = f.calls.goes.number ∙ held.number; member = member_stays h p q _ a.member f.calls held.member; follows = held.follows };
@@ -240,6 +241,7 @@ message_heard h v s now m p q a a' b old new verdict st stop is does same k =
       said = l.said;
       cause = l.cause;
       stops = l.stops;
+      is_worn = l.is_worn;
       given_same = rw same at l.given_same;
       empties_same = rw same at l.empties_same;
       held = l.held;
@@ -261,6 +263,7 @@ message_unjudged h v s now m p a old stop held passes is = record {
   said = grows-nil old;
   cause = tt;
   stops = ap (λ x. Some x) is;
+  is_worn = λ e. cc;
   given_same = refl;
   empties_same = refl;
   held = held;
@@ -294,27 +297,30 @@ hears_judged : (h : Hub) (v : Terms) (s : Standing) (now : ℕ) (m : List ℕ) (
     → Grows mid new (puts (octets_in (last_wanted v (heard_told v (received_one s) now judged (Ok (Message m))) (heard_step v (received_one s) now judged (Ok (Message m))) answer)) fault)
     → HasPut (octets_in (last_wanted v (heard_told v (received_one s) now judged (Ok (Message m))) (heard_step v (received_one s) now judged (Ok (Message m))) answer)) fault
     → stop ≡ stop_judged judged (stop_message v (heard_told v (received_one s) now judged (Ok (Message m))) (heard_step v (received_one s) now judged (Ok (Message m))) answer fault)
+    → (answer ≡ Some worn → SeesWorn h q)
     → given_by b.member ≡ given_by a'.member → empties_by b.member ≡ empties_by a'.member
     → Held h v q b (answered (heard_told v (received_one s) now judged (Ok (Message m))) (heard_step v (received_one s) now judged (Ok (Message m))) answer)
     → (stop ≡ None → Runs v b (answered (heard_told v (received_one s) now judged (Ok (Message m))) (heard_step v (received_one s) now judged (Ok (Message m))) answer))
     → Hears v s now h p q a b old new stop
-hears_judged h v s now m p q a a' b old mid new stop true answer fault told_ same memory calls fits goes said cause stops given empties held runs = record {
+hears_judged h v s now m p q a a' b old mid new stop true answer fault told_ same memory calls fits goes said cause stops worns given empties held runs = record {
   hearing = record { given = Ok (Message m); judged = true; answer = answer; fault = fault };
   is = record { memory = memory; calls = calls; fits = fits; cause = cause };
   goes = goes;
   said = grown old mid new (Gave (Ok (Message m)) ∷ []) _ told_ said;
   stops = stops;
+  is_worn = worns;
   given_same = rw same at given;
   empties_same = rw same at empties;
   held = held;
   runs = runs;
 }
-hears_judged h v s now m p q a a' b old mid new stop false answer fault told_ same memory calls fits goes said cause stops given empties held runs = record {
+hears_judged h v s now m p q a a' b old mid new stop false answer fault told_ same memory calls fits goes said cause stops worns given empties held runs = record {
   hearing = record { given = Ok (Message m); judged = false; answer = answer; fault = fault };
   is = record { memory = memory; calls = calls; fits = fits; cause = cause };
   goes = goes;
   said = grown old mid new (Gave (Ok (Message m)) ∷ []) _ told_ said;
   stops = stops;
+  is_worn = worns;
   given_same = rw same at given;
   empties_same = rw same at empties;
   held = held;
@@ -325,7 +331,7 @@ pub hears_message : (h : Hub) (v : Terms) (s : Standing) (now : ℕ) (m : List �
     → Grows old mid (Gave (Ok (Message m)) ∷ []) → a'.member ≡ a.member
     → HearsMessage v (received_one s) now m h p q a' b mid new stop
     → Hears v s now h p q a b old new stop
-hears_message h v s now m p q a a' b old mid new stop told_ same k = hears_judged h v s now m p q a a' b old mid new stop k.judged k.answer k.fault told_ same k.memory k.calls k.fits k.goes k.said k.cause k.stops k.given_same k.empties_same k.held k.runs
+hears_message h v s now m p q a a' b old mid new stop told_ same k = hears_judged h v s now m p q a a' b old mid new stop k.judged k.answer k.fault told_ same k.memory k.calls k.fits k.goes k.said k.cause k.stops k.is_worn k.given_same k.empties_same k.held k.runs
 
 -- what isn't a message is followed by nothing
 pub hears_nothing : (h : Hub) (v : Terms) (s : Standing) (now : ℕ) (p : CallerPass) (a b : At) (old new : Option (List Said)) (given : Result Incoming LinkFault) (stop : Option Stop)
@@ -339,6 +345,7 @@ hears_nothing h v s now p a b old new given stop told_ quiet stays stops same he
   goes = rw quiet (goes_nowhere h p held.caller);
   said = rw quiet told_;
   stops = rw quiet stops;
+  is_worn = λ e. cc;
   given_same = rw same refl;
   empties_same = rw same refl;
   held = rw (quiet, stays) held;

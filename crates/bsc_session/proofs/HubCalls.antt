@@ -1,20 +1,16 @@
 -- What a call of the hub leaves of the pass.
-use Rattle.std.proofs.Common.{◌≡◌, ℕ, Bool, true, false, List, [], ◌∷◌, ◌++◌, refl, ap, sym, ◌∙◌, append-nil, append_assoc, Option, Some, None, Result, Ok, Err}
-use Rattle.bsc_octets.specs.declared.vmac.Vmac.{Vmac}
+use Rattle.std.proofs.Common.{◌≡◌, ℕ, List, [], ◌∷◌, ◌++◌, refl, ap, sym, ◌∙◌, append-nil, append_assoc, Option, Some, None, Ok}
 use Rattle.bsc_history.specs.declared.entry.Entry.{Entry}
 use Rattle.bsc_history.specs.declared.told.Told.{Told}
-use Rattle.bsc_history.specs.declared.told.Worn.{Worn}
 use Rattle.bsc_ring.specs.Ends.{outlet_mark}
 use Rattle.bsc_turn.specs.declared.pass.Pass.{Pass}
-use Rattle.bsc_turn.specs.Histories.{StartsWith}
-use Rattle.bsc_turn.specs.Passes.{number_of, own_list, seen}
-use Rattle.bsc_desk.specs.declared.broadcasting.AllRefusal.{AllRefusal}
+use Rattle.bsc_turn.specs.Passes.{ended_callers, number_of, own_list, seen}
 use Rattle.bsc_desk.specs.declared.broadcasting.AllReply.{AllReply}
 use Rattle.bsc_desk.specs.declared.forwarding.OneReply.{OneReply}
 use Rattle.bsc_desk.specs.Entries.{all_looks, all_reply, one_looks, one_reply}
 use Rattle.bsc_hub.specs.declared.hub.Hub.{Hub}
 use Rattle.bsc_hub.specs.Calls.{all_made, one_made}
-use Rattle.bsc_hub.specs.Passing.{IsCaller, IsOwnAs, Made, MadeOne, Passed, Placed, StaysBy}
+use Rattle.bsc_hub.specs.Passing.{IsCaller, Made, Passed, Placed, StaysBy}
 use Rattle.bsc_hub.proofs.Owning.{owned_kept, mark_kept}
 use Rattle.bsc_hub.proofs.Staying.{all_stays, one_stays}
 use Rattle.bsc_edge.specs.declared.said.Said.{Said}
@@ -22,9 +18,9 @@ use Rattle.bsc_edge.specs.Told.{Stays}
 use Rattle.bsc_session.specs.declared.member.Member.{Member}
 use Rattle.bsc_session.specs.declared.stop.Stop.{Stop}
 use Rattle.bsc_session.specs.Answering.{stop_by}
-use Rattle.bsc_session.specs.Inner.{Calls, Forwards, IsMember, forward_made}
+use Rattle.bsc_session.specs.Inner.{Calls, Forwards, IsMember, SeesWorn, forward_made}
 use Rattle.bsc_session.specs.Serving.{Goes}
-use Rattle.bsc_session.specs.Receiving.{Answer, replies, worn, no_memory}
+use Rattle.bsc_session.specs.Receiving.{Answer, replies, worn}
 
 -- the entry that a call made, or none
 abbrev pub entry_made : Option Placed → List Entry
@@ -36,7 +32,7 @@ own_grew p q None h = h ∙ sym (append-nil (own_list p))
 own_grew p q (Some m) h = h.grew
 
 pub goes_passed : (h : Hub) (p q : Pass) (made : Option Placed) → Passed h p [] made q → Goes h p (entry_made made) q
-goes_passed h p q made k = record { caller = k.caller; number = k.number; sees = k.grows; own = own_grew p q made k.makes }
+goes_passed h p q made k = record { caller = k.caller; number = k.number; sees = k.grows; own = own_grew p q made k.makes; took_in = k.takes_in ∙ append-nil (ended_callers p) }
 
 pub call_passed : (h : Hub) (p q : Pass) (made : Option Placed) → IsCaller h p → Passed h p [] made q → ((c : ℕ) → StaysBy made c) → Calls h p (entry_made made) q
 call_passed h p q made is k stays = record {
@@ -53,7 +49,7 @@ calls_as h p q E F e k = rw e at k
 
 -- no call was made
 pub goes_nowhere : (h : Hub) (p : Pass) → IsCaller h p → Goes h p [] p
-goes_nowhere h p is = record { caller = is; number = refl; sees = ([], sym (append-nil (seen p))); own = sym (append-nil (own_list p)) }
+goes_nowhere h p is = record { caller = is; number = refl; sees = ([], sym (append-nil (seen p))); own = sym (append-nil (own_list p)); took_in = refl }
 
 pub calls_nobody : (h : Hub) (p : Pass) → IsCaller h p → Calls h p [] p
 calls_nobody h p is = record { goes = goes_nowhere h p is; owns = λ c w has. has; marks = λ c m has. has }
@@ -64,6 +60,7 @@ goes_on h p q r E F k l = record {
   number = l.number ∙ k.number;
   sees = (k.sees.0 ++ l.sees.0, l.sees.1 ∙ ap (λ x. x ++ l.sees.0) k.sees.1 ∙ append_assoc (seen p) k.sees.0 l.sees.0);
   own = l.own ∙ ap (λ x. x ++ F) k.own ∙ append_assoc (own_list p) E F;
+  took_in = l.took_in ∙ k.took_in;
 }
 
 -- the connection stays the caller's own
@@ -80,15 +77,17 @@ one_told h p q conn m t old new is k said = record {
   calls = call_passed h p q (one_made (number_of p) conn m (Ok t)) is k (one_stays (number_of p) conn m (Ok t));
   said = said;
   stops = refl;
+  is_worn = λ e. cc;
 }
 
 pub one_worn : (h : Hub) (p q : Pass) (conn : ℕ) (m : List ℕ) (old new : Option (List Said)) (stop : Option Stop) → IsCaller h p
-    → Passed h p [] None q → Stays old new → stop ≡ stop_by (Some worn) → Forwards h p q conn m old new stop
-one_worn h p q conn m old new stop is k said stops = record {
+    → Passed h p [] None q → Stays old new → stop ≡ stop_by (Some worn) → SeesWorn h q → Forwards h p q conn m old new stop
+one_worn h p q conn m old new stop is k said stops wears = record {
   answer = worn;
   calls = call_passed h p q None is k (λ c. tt);
   said = said;
   stops = stops;
+  is_worn = λ e. wears;
 }
 
 pub all_told : (h : Hub) (p q : Pass) (conn : ℕ) (m : List ℕ) (t : Told AllReply) (old new : Option (List Said)) → IsCaller h p
@@ -98,13 +97,15 @@ all_told h p q conn m t old new is k said = record {
   calls = call_passed h p q (all_made (number_of p) conn m (Ok t)) is k (all_stays (number_of p) conn m (Ok t));
   said = said;
   stops = refl;
+  is_worn = λ e. cc;
 }
 
 pub all_refused : (h : Hub) (p q : Pass) (conn : ℕ) (m : List ℕ) (answer : Answer) (old new : Option (List Said)) (stop : Option Stop) → IsCaller h p
-    → Passed h p [] None q → Stays old new → forward_made (number_of p) conn m answer ≡ [] → stop ≡ stop_by (Some answer) → Forwards h p q conn m old new stop
-all_refused h p q conn m answer old new stop is k said none stops = record {
+    → Passed h p [] None q → Stays old new → forward_made (number_of p) conn m answer ≡ [] → stop ≡ stop_by (Some answer) → (answer ≡ worn → SeesWorn h q) → Forwards h p q conn m old new stop
+all_refused h p q conn m answer old new stop is k said none stops wears = record {
   answer = answer;
   calls = calls_as h p q [] (forward_made (number_of p) conn m answer) (sym none) (call_passed h p q None is k (λ c. tt));
   said = said;
   stops = stops;
+  is_worn = wears;
 }

@@ -1,7 +1,14 @@
+pub mod TalkWords
 mod WorkedTalks
+mod WorkedEnds
 pub mod Lists
 mod EndingAtFault
 mod Causing
+mod Keeping
+mod Waiting
+mod Leaving
+mod Naming
+mod Wearing
 mod Verdicts
 mod Running
 mod MakingTurns

@@ -1,13 +1,9 @@
 -- A turn is its opening, and then its hearing where the opening didn't stop the session.
-use Rattle.std.proofs.Common.{◌≡◌, ◌≢◌, ℕ, ◌+◌, ◌≤◌, ◌<◌, Bool, true, false, is_some, is_none, ◌&&◌, cond, List, [], ◌∷◌, ◌++◌, refl, ap, sym, ◌∙◌, append-nil, arith, Option, Some, None, Result, Ok}
+use Rattle.std.proofs.Common.{◌≡◌, ℕ, ◌+◌, ◌≤◌, ◌<◌, Bool, true, false, is_some, is_none, ◌&&◌, cond, List, [], ◌∷◌, refl, ap, sym, ◌∙◌, append-nil, arith, Option, Some, None, Result, Ok}
 use Rattle.std.specs.Prelude.{length, nat_lt, if◌then◌else◌}
 use Rattle.bsc_history.specs.declared.ending.End.{End}
-use Rattle.bsc_history.specs.declared.looks.Look.{Look}
 use Rattle.bsc_history.specs.declared.reply.Reply.TheVariants.{Joined, Refused}
-use Rattle.bsc_history.specs.Marks.{mark_of}
-use Rattle.bsc_ring.specs.Ends.{outlet_mark}
 use Rattle.bsc_turn.specs.declared.pass.Pass.{Pass}
-use Rattle.bsc_turn.specs.Passes.{seen}
 use Rattle.bsc_hub.specs.declared.hub.Hub.{Hub}
 use Rattle.bsc_edge.specs.declared.said.Said.{Said}
 use Rattle.bsc_edge.specs.Told.{Grows}
@@ -16,19 +12,19 @@ use Rattle.bsc_accept.specs.declared.step.Step.TheVariants.{Ask}
 use Rattle.bsc_session.specs.declared.at.At.{At}
 use Rattle.bsc_session.specs.declared.member.Member.{Member}
 use Rattle.bsc_session.specs.declared.stop.Stop.{Stop}
-use Rattle.bsc_session.specs.Answering.{after_hearing, answered, said_hearing, step_of, stands_heard}
+use Rattle.bsc_session.specs.Answering.{answered, said_hearing, step_of, stands_heard}
 use Rattle.bsc_edge.specs.declared.fault.LinkFault.{LinkFault}
 use Rattle.bsc_edge.specs.declared.incoming.Incoming.{Incoming}
 use Rattle.bsc_edge.specs.declared.incoming.Incoming.TheVariants.{Message}
 use Rattle.bsc_session.specs.Judging.{heard_told}
-use Rattle.bsc_session.specs.Inner.{Between, Follows, HasStanding, Hears, Held, IsFollowed, IsMember, Makes, Opens, Runs, SameMember, Starts, empties_by, given_by}
+use Rattle.bsc_session.specs.Inner.{Between, Follows, HasStanding, Hears, Held, IsFollowed, IsMember, Makes, Opens, SameMember, Starts, empties_by}
 use Rattle.bsc_session.specs.Puts.{puts}
 use Rattle.bsc_session.specs.Reading.{started, ticked}
 use Rattle.bsc_session.specs.Receiving.{Answer, replies, Hearing}
 use Rattle.bsc_session.specs.Standings.{Standing, Terms, is_connected}
 use Rattle.bsc_session.specs.Stops.{first_of}
 use Rattle.bsc_session.specs.Taking.{Opening, end_told, opened, put_first, stop_before}
-use Rattle.bsc_session.specs.Turns.{after, empties_in}
+use Rattle.bsc_session.specs.Turns.{after}
 use Rattle.bsc_session.proofs.HubCalls.{goes_nowhere}
 use Rattle.bsc_session.proofs.Lists.{grows_as, grown}
 
@@ -47,11 +43,11 @@ held_opened h v s now p a a1 b old new stop held st k = record {
 }
 
 -- the opening stops the session
-pub makes_opening : (h : Hub) (v : Terms) (s : Standing) (now : ℕ) (p : Pass) (a a1 b : At) (old new : Option (List Said)) (read read' : Option (List ℕ)) (stop : Stop) → Held h v p a s → Starts v s now a a1
+pub makes_opening : (h : Hub) (v : Terms) (s : Standing) (now : ℕ) (p : Pass) (a a1 b : At) (old new : Option (List Said)) (read read' : Option (List ℕ)) (stop : Stop) → s.receives < v.turns → Held h v p a s → Starts v s now a a1
     → Grows read read' (now ∷ []) → Opens v s now a1 b old new (Some stop) → Makes v s h p p a b old new read read' (Some stop)
-makes_opening h v s now p a a1 b old new read read' stop held st reads k = record {
+makes_opening h v s now p a a1 b old new read read' stop room held st reads k = record {
   turn = record { opening = k.opening; hearing = None };
-  is = record { opening = k.is; heard = rw (sym k.stops) refl; hearing = tt };
+  is = record { room = room; opening = k.is; heard = rw (sym k.stops) refl; hearing = tt };
   goes = goes_nowhere h p held.caller;
   gave = rw (sym st.member) k.gave;
   empties = rw (sym st.member) (
@@ -59,18 +55,19 @@ makes_opening h v s now p a a1 b old new read read' stop held st reads k = recor
   said = grows_as old new _ _ (sym (append-nil (puts (put_first v s k.opening) k.opening.fault))) k.said;
   reads = rw k.read reads;
   stops = rw (sym k.stops) refl;
+  is_worn = λ e. cc;
   held = held_opened h v s now p a a1 b old new (Some stop) held st k;
   runs = λ going. cc;
 }
 
 -- the opening goes on, and the session hears
-pub makes_hearing : (h : Hub) (v : Terms) (s : Standing) (now : ℕ) (p q : Pass) (a a1 b c : At) (old mid new : Option (List Said)) (read read' : Option (List ℕ)) (stop : Option Stop) → Starts v s now a a1
+pub makes_hearing : (h : Hub) (v : Terms) (s : Standing) (now : ℕ) (p q : Pass) (a a1 b c : At) (old mid new : Option (List Said)) (read read' : Option (List ℕ)) (stop : Option Stop) → s.receives < v.turns → Starts v s now a a1
     → Grows read read' (now ∷ []) → (k : Opens v s now a1 b old mid None) → Hears v (opened s k.opening) now h p q b c mid new stop → Makes v s h p q a c old new read read' stop
-makes_hearing h v s now p q a a1 b c old mid new read read' stop st reads k hears =
+makes_hearing h v s now p q a a1 b c old mid new read read' stop room st reads k hears =
     let l : Hears v (opened s k.opening) k.opening.reading h p q b c mid new stop = rw (sym k.read) at hears in
     record {
       turn = record { opening = k.opening; hearing = Some l.hearing };
-      is = record { opening = k.is; heard = rw (sym k.stops) refl; hearing = l.is };
+      is = record { room = room; opening = k.is; heard = rw (sym k.stops) refl; hearing = l.is };
       goes = l.goes;
       gave = rw (sym st.member) (l.given_same ∙ k.gave);
       empties = rw (sym st.member) (l.empties_same ∙ (
@@ -78,6 +75,7 @@ makes_hearing h v s now p q a a1 b c old mid new read read' stop st reads k hear
       said = grown old mid new (puts (put_first v s k.opening) k.opening.fault) (said_hearing v (opened s k.opening) k.opening.reading l.hearing) k.said l.said;
       reads = rw k.read reads;
       stops = rw (sym k.stops) l.stops;
+      is_worn = l.is_worn;
       held = l.held;
       runs = l.runs;
     }

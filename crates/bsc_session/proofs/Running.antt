@@ -1,23 +1,20 @@
 -- Turn after turn, up to the stop; and the last acts.
-use Rattle.std.proofs.Common.{◌≡◌, ℕ, ◌+◌, ◌≤◌, List, [], ◌∷◌, ◌++◌, length, refl, ap, sym, ◌∙◌, append-nil, append_assoc, arith, Option, Some, None}
+use Rattle.std.proofs.Common.{◌≡◌, ℕ, ◌+◌, ◌≤◌, List, [], ◌∷◌, ◌++◌, length, refl, ap, sym, ◌∙◌, arith, Option, Some, None}
 use Rattle.std.specs.Prelude.{take}
-use Rattle.std.proofs.Common.{◌<◌, ◌⊎◌, inl, inr}
+use Rattle.std.proofs.Common.{◌<◌, inl, inr}
 use Rattle.std.proofs.lemmas.Bool.Decides.{leb_tells}
 use Rattle.bsc_history.specs.declared.ending.End.{End}
 use Rattle.bsc_history.specs.declared.ending.End.TheVariants.{Left}
-use Rattle.bsc_history.specs.declared.entry.Entry.{Entry}
 use Rattle.bsc_history.specs.declared.told.Told.{Told}
 use Rattle.bsc_history.specs.Outboxes.{sent}
 use Rattle.bsc_desk.specs.declared.leaving.Gone.{Gone}
 use Rattle.bsc_ring.specs.Ends.{FoundEnd, empties_of, given}
 use Rattle.bsc_hub.specs.Calls.{leave_made}
 use Rattle.bsc_history.specs.Marks.{entries}
-use Rattle.bsc_accept.specs.declared.accepting.Accepting.{Accepting}
-use Rattle.bsc_accept.specs.declared.closing.Closing.{Closing}
 use Rattle.bsc_accept.specs.declared.reason.Reason.TheVariants.{Nothing as NoReason}
 use Rattle.bsc_accept.specs.Standing.{IsOpen, StandsFor}
 use Rattle.bsc_turn.specs.declared.pass.Pass.{Pass}
-use Rattle.bsc_turn.specs.Passes.{number_of, own_list, seen}
+use Rattle.bsc_turn.specs.Passes.{number_of, seen}
 use Rattle.bsc_hub.specs.declared.hub.Hub.{Hub}
 use Rattle.bsc_hub.specs.Passing.{IsCaller, Passed, about_of}
 use Rattle.bsc_edge.specs.declared.said.Said.{Said}
@@ -28,16 +25,20 @@ use Rattle.bsc_session.specs.declared.member.Member.{Member}
 use Rattle.bsc_session.specs.declared.stop.Stop.{Stop}
 use Rattle.bsc_session.specs.declared.why.Why.{Why}
 use Rattle.bsc_session.specs.declared.why.Why.TheVariants.{Spent}
-use Rattle.bsc_session.specs.Course.{standing, shares, total, EachTurn, GoesOn, and_last, said_closing}
-use Rattle.bsc_session.specs.Inner.{AreTerms, Between, HasFound, HasTerms, Held, Makes, Parts, Ran, Runs, Stood, conn_of, empties_by, given_by}
-use Rattle.bsc_session.specs.Serving.{Goes, Serves, received, terms_of}
+use Rattle.bsc_session.specs.Course.{standing, shares, total, GoesOn, and_last, said_closing}
+use Rattle.bsc_session.specs.declared.ended.Ended.{Ended}
+use Rattle.bsc_session.specs.Laws.{GrowsToFault}
+use Rattle.bsc_session.specs.Inner.{AreTerms, HasFound, HasTerms, Held, Makes, Parts, Ran, Stood, empties_by, given_by}
+use Rattle.bsc_session.specs.Serving.{Goes, Serves, terms_of}
 use Rattle.bsc_session.specs.Standings.{Standing, Terms, begun, start_of}
 use Rattle.bsc_session.specs.Stops.{stop_closing}
 use Rattle.bsc_session.specs.Talk.{leaving, named}
-use Rattle.bsc_session.specs.Turns.{Turn, IsTurn, reading_in, frames_in, said_in, entries_in, empties_in, after, stop_in}
+use Rattle.bsc_session.specs.Turns.{Turn, IsTurn, reading_in, frames_in, said_in, entries_in, empties_in}
+use Rattle.bsc_session.proofs.EndingAtFault.{sessions_end_at_fault}
 use Rattle.bsc_session.proofs.HubCalls.{goes_as, goes_nowhere, goes_on, goes_passed}
 use Rattle.bsc_session.proofs.Lists.{grows-nil, grows_as, grown, standing-more, shares-more, total-more, each-more}
 use Rattle.bsc_session.proofs.MakingTurns.{between_more, receives_more}
+use Rattle.bsc_session.proofs.Wearing.{wears_left}
 
 -- before the first turn
 pub stood_begins : (v : Terms) (h : Hub) (p : Pass) (a : At) (old : Option (List Said)) (read : Option (List ℕ)) → IsCaller h p → number_of p ≡ v.caller → StandsFor a.machine (start_of v begun) [] → IsOpen a.machine
@@ -61,6 +62,10 @@ are_terms h p limits turns = record { hub = refl; times = refl }
 
 pub some_terms : (h : Hub) (p0 p : Pass) (limits : SessionLimits) (turns : ℕ) (a : At) (old new : Option (List Said)) (read read' : Option (List ℕ)) → Stood (terms_of h p0 limits turns) h p0 p a old new read read' → HasTerms h p limits a
 some_terms h p0 p limits turns a old new read read' k = (terms_of h p0 limits turns, standing (terms_of h p0 limits turns) begun k.turns, are_terms h p0 limits turns, k.held, k.between)
+
+-- receives are left
+pub has_room : (v : Terms) (s : Standing) (h : Hub) (p : Pass) (a : At) → Held h v p a s → a.receives < v.turns → s.receives < v.turns
+has_room v s h p a held room = (let e = held.follows.receives in omega (arith, e, room))
 
 -- a turn that goes on has received
 pub received_more : (v : Terms) (s : Standing) (h : Hub) (p q : Pass) (a b : At) (old new : Option (List Said)) (read read' : Option (List ℕ)) → Held h v p a s → Makes v s h p q a b old new read read' None → b.receives ≡ a.receives + 1
@@ -107,6 +112,7 @@ ran_stopped v h p0 p q a b old mid new read read' read'' stop k m = record {
   are = each-more IsTurn v begun k.turns m.turn k.are m.is;
   on = k.on;
   stops = sym m.stops;
+  is_worn = m.is_worn;
   goes = more_goes v h p0 p q k.turns m.turn k.goes m.goes;
   gave = more_gave v a.member b.member k.turns m.turn k.gave m.gave;
   empties = more_empties v a.member b.member k.turns m.turn k.empties m.empties;
@@ -124,6 +130,7 @@ ran_spent v h p0 p a old new read read' stop k all is = record {
   are = k.are;
   on = k.on;
   stops = (sym k.held.follows.receives ∙ all, is);
+  is_worn = λ e. cc;
   goes = k.goes;
   gave = k.gave;
   empties = k.empties;
@@ -157,7 +164,12 @@ serves v h p0 p q a old mid new read read' stop conn taken empties why r closed 
     empties = left.empties_is ∙ r.empties;
     made = r.held.follows.receives;
   };
+  is_worn = λ e. left.wears (r.is_worn e);
 }
+
+-- the talk that was told ends at its fault
+pub grows_to_fault : (v : Terms) (h : Hub) (p q : Pass) (old new : Option (List Said)) (read read' : Option (List ℕ)) (ended : Ended) → Serves v h p q old new read read' ended → GrowsToFault old new
+grows_to_fault v h p q old new read read' ended k = (k.T, k.talk, sessions_end_at_fault v k.T k.R k.E _ ended k.session)
 
 ended_found : (e : End) (d : Option End) (m : Member) → d ≡ Some e → HasFound d (Some m) → FoundEnd m.outlet e
 ended_found e None m is h = cc
@@ -176,6 +188,7 @@ part_left h v p q m ended t empties passed caller counted took got finds found =
   empties_is = counted;
   got = got;
   replied = λ c e joined met. finds e (ended_found e ended m met found);
+  wears = λ is. wears_left h p q [] _ passed is;
 }
 
 -- the session had not joined
@@ -188,6 +201,7 @@ part_alone h v p ended is found = record {
   empties_is = refl;
   got = refl;
   replied = λ c e joined met. cc;
+  wears = λ is. is;
 }
 
 spent_all : (a b : ℕ) → a ≤ b → (a < b → ⊥) → a ≡ b

@@ -1,9 +1,8 @@
 -- Frames are taken and put.
-use Rattle.std.proofs.Common.{◌≡◌, ◌≢◌, ℕ, ◌+◌, ◌<◌, ◌≤◌, List, [], ◌∷◌, ◌++◌, refl, ap, sym, ◌∙◌, append-nil, append_assoc, length-append, arith, Option, Some, None}
+use Rattle.std.proofs.Common.{◌≡◌, ℕ, ◌+◌, ◌<◌, List, [], ◌∷◌, ◌++◌, refl, ap, sym, ◌∙◌, append-nil, append_assoc, length-append, arith, Option, Some, None}
 use Rattle.std.specs.Prelude.{◌^◌, ◌-◌, min, suc, zero, length}
 use Rattle.std.proofs.lemmas.Bool.{lt-ltb}
 use Rattle.bsc_history.specs.declared.ending.End.{End}
-use Rattle.bsc_history.specs.declared.ending.End.TheVariants.{Left}
 use Rattle.bsc_edge.specs.declared.fault.LinkFault.{LinkFault}
 use Rattle.bsc_edge.specs.declared.said.Said.{Said}
 use Rattle.bsc_edge.specs.declared.said.Said.TheVariants.{Put}

@@ -1,6 +1,6 @@
 -- What a verdict at the hub's port says of the message.
-use Rattle.std.proofs.Common.{◌≡◌, ◌⊎◌, ◌≤◌, ◌<◌, ℕ, ◌+◌, Bool, true, false, not, ◌&&◌, cond, List, refl, ap, sym, ◌∙◌, arith, Option, Some, None, inl, inr}
-use Rattle.std.specs.Prelude.{length, nat_le, IsTrue, IsFalse}
+use Rattle.std.proofs.Common.{◌≡◌, ◌≤◌, ◌<◌, ℕ, ◌+◌, Bool, true, false, not, ◌&&◌, cond, List, refl, arith, Some, None, inl, inr}
+use Rattle.std.specs.Prelude.{length, nat_le, IsTrue}
 use Rattle.std.proofs.lemmas.Bool.Decides.{leb_tells}
 use Rattle.bsc_octets.specs.declared.envelope.Envelope.{Envelope}
 use Rattle.bsc_octets.specs.declared.identity.Identity.{Identity}
@@ -10,16 +10,11 @@ use Rattle.bsc_octets.specs.Envelopes.{announces_dest, announces_origin, flags_i
 use Rattle.bsc_octets.specs.Forwarding.{has_route}
 use Rattle.bsc_frame.specs.declared.body.Body.{Body}
 use Rattle.bsc_frame.specs.declared.body.Body.TheVariants.{ConnectRequest}
-use Rattle.bsc_frame.specs.declared.message.Message.{Message}
 use Rattle.bsc_frame.specs.Payloads.{HasPayload, IsNode}
 use Rattle.bsc_checks.specs.declared.phase.Phase.{Phase}
-use Rattle.bsc_checks.specs.declared.phase.Phase.TheVariants.{Connected}
 use Rattle.bsc_checks.specs.declared.place.Place.TheVariants.{HubPort}
-use Rattle.bsc_checks.specs.declared.verdict.Verdict.TheVariants.{Pass, Carry}
-use Rattle.bsc_checks.specs.Places.{is_to_carry}
-use Rattle.bsc_checks.specs.Table.{NoneFails}
+use Rattle.bsc_checks.specs.declared.verdict.Verdict.TheVariants.{Carry}
 use Rattle.bsc_checks.specs.Verdicts.{Judged}
-use Rattle.bsc_checks.specs.Walk.{NoneOf, from_flags, silent_checks}
 use Rattle.bsc_checks.proofs.SameAddress.{test_holds}
 use Rattle.bsc_accept.specs.Messages.{who_asks}
 

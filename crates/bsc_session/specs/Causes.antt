@@ -1,18 +1,34 @@
--- The causes of a session's stop, each exactly, by what came last.
-use Rattle.std.specs.Prelude.{◌≡◌, ◌⊎◌, ◌↔◌, ℕ, Bool, false, true, List, Option, Some, None, Result, Ok, Err}
+-- The causes of a session's end, each exactly, by what came last.
+use Rattle.std.specs.Prelude.{◌≡◌, ◌≢◌, ◌⊎◌, ◌↔◌, ℕ, Bool, false, true, IsTrue, List, Option, Some, None, Result, Ok, Err}
+use Rattle.bsc_frame.specs.declared.body.Body.TheVariants.{DisconnectRequest}
+use Rattle.bsc_frame.specs.declared.message.Message.{Message as Bvlc}
+use Rattle.bsc_checks.specs.declared.phase.Phase.TheVariants.{AwaitingRequest, Connected}
+use Rattle.bsc_checks.specs.declared.verdict.Verdict.TheVariants.{Pass}
+use Rattle.bsc_history.specs.declared.ending.End.{End}
+use Rattle.bsc_history.specs.declared.entry.Entry.{Entry}
 use Rattle.bsc_history.specs.declared.looks.Look.{Look}
 use Rattle.bsc_history.specs.declared.reply.Refusal.{Refusal}
 use Rattle.bsc_history.specs.declared.reply.Reply.TheVariants.{Refused as RefusedReply}
+use Rattle.bsc_accept.specs.Past.{last_message, phase}
+use Rattle.bsc_accept.specs.Waits.{connect_wait_is_over, is_idle}
 use Rattle.bsc_edge.specs.declared.fault.LinkFault.{LinkFault}
 use Rattle.bsc_edge.specs.declared.fault.LinkFault.TheVariants.{Failed, NoMemory as MemoryFault}
 use Rattle.bsc_edge.specs.declared.incoming.Incoming.{Incoming}
-use Rattle.bsc_edge.specs.declared.incoming.Incoming.TheVariants.{Text, Closed}
+use Rattle.bsc_edge.specs.declared.incoming.Incoming.TheVariants.{Closed, Message, Text}
+use Rattle.bsc_edge.specs.declared.said.Said.{Said}
+use Rattle.bsc_session.specs.declared.ended.Ended.{Ended}
 use Rattle.bsc_session.specs.declared.why.Why.{Why}
-use Rattle.bsc_session.specs.declared.why.Why.TheVariants.{PeerClosed, NotBinary, Refused, Worn, LinkFault as WhyLinkFault, NoMemory, Spent}
-use Rattle.bsc_session.specs.Course.{Course}
+use Rattle.bsc_session.specs.declared.why.Why.TheVariants.{EndedBy, Idle, LinkFault as WhyLinkFault, NoMemory, NotBinary, PeerClosed, PeerLeft, Refused, Spent, WaitExpired, Worn}
+use Rattle.bsc_session.specs.Course.{end_of, standing}
+use Rattle.bsc_session.specs.Judging.{verdict_on}
+use Rattle.bsc_session.specs.Reading.{started}
 use Rattle.bsc_session.specs.Receiving.{Answer, replies, worn, no_memory, Hearing}
-use Rattle.bsc_session.specs.Standings.{Terms}
+use Rattle.bsc_session.specs.Standings.{Standing, Terms, begun, start_of}
+use Rattle.bsc_session.specs.Taking.{opened}
+use Rattle.bsc_session.specs.Talk.{Session}
 use Rattle.bsc_session.specs.Turns.{Turn}
+
+-- ---- what came last
 
 abbrev pub given_in : Option Hearing → Option (Result Incoming LinkFault)
 given_in None = None
@@ -63,16 +79,72 @@ IsRefused answer r = (looks : List Look) × (answer ≡ Some (replies looks (Ref
 abbrev pub LacksMemory : Option Turn → Type 0
 LacksMemory last = (last_fault last ≡ Some MemoryFault) ⊎ ((last_judged last ≡ false) ⊎ (last_answer last ≡ Some no_memory))
 
--- The causes by what came last.
-pub record AreExact (last : Option Turn) (why : Why) : Type 0 where
-  pub peer_closed : why ≡ PeerClosed ↔ (last_given last ≡ Some (Ok Closed))
-  pub not_binary : why ≡ NotBinary ↔ (last_given last ≡ Some (Ok Text))
-  pub worn : why ≡ Worn ↔ (last_answer last ≡ Some worn)
-  pub refused : (r : Refusal) → why ≡ Refused r ↔ (IsRefused (last_answer last) r × (last_fault last ≡ None))
+-- ---- what the last turn found, by where the session stood before it
+
+-- At the last reading nobody had joined, and the connect wait was over.
+abbrev pub HasWaited : Terms → Standing → Option Turn → Type 0
+HasWaited v s None = ⊥
+HasWaited v s (Some t) =
+    let now = t.opening.reading in
+    let from = start_of v (started s now) in
+    (phase s.events ≡ AwaitingRequest) × IsTrue (connect_wait_is_over from now)
+
+-- At the last reading the peer was connected, and the last message had come twice the heartbeat ago.
+abbrev pub HasIdled : Terms → Standing → Option Turn → Type 0
+HasIdled v s None = ⊥
+HasIdled v s (Some t) =
+    let now = t.opening.reading in
+    let from = start_of v (started s now) in
+    (phase s.events ≡ Connected) × IsTrue (is_idle from (last_message from s.events) now)
+
+-- The message given passed, in Connected, as a Disconnect-Request, and its answer was put.
+pub record AnswersLeaving (v : Terms) (s : Standing) (h : Hearing) : Type 0 where
+  pub connected : phase s.events ≡ Connected
+  pub octets : List ℕ
+  pub gave : h.given ≡ Ok (Message octets)
+  pub had_memory : h.judged ≡ true
+  pub message : Bvlc
+  pub passes : verdict_on v s octets ≡ Pass message
+  pub leaves : message.body ≡ DisconnectRequest
+  pub put : h.fault ≡ None
+
+abbrev pub AnswersLeavingIn : Terms → Standing → Option Hearing → Type 0
+AnswersLeavingIn v s None = ⊥
+AnswersLeavingIn v s (Some h) = AnswersLeaving v s h
+
+-- In the last turn a Disconnect-Request was answered.
+abbrev pub HasAnswered : Terms → Standing → Option Turn → Type 0
+HasAnswered v s None = ⊥
+HasAnswered v s (Some t) = AnswersLeavingIn v (opened s t.opening) t.hearing
+
+-- ---- the causes
+
+-- Neither the link, nor memory, nor the count of receives ended the session.
+pub record EndsOtherwise (last : Option Turn) : Type 0 where
+  pub link : last_fault last ≢ Some Failed
+  pub memory : ¬ (LacksMemory last)
+  pub receives : last ≢ None
+
+-- The cause of a session's end, by where the session stood before its last turn, that turn, and the End that the outlet
+-- gave: the link, memory and the count of receives come first; then that End; and the others come where it gave none.
+pub record AreExact (v : Terms) (s : Standing) (last : Option Turn) (met : Option End) (why : Why) : Type 0 where
   pub link_fault : why ≡ WhyLinkFault ↔ (last_fault last ≡ Some Failed)
   pub no_memory : why ≡ NoMemory ↔ LacksMemory last
   pub spent : why ≡ Spent ↔ (last ≡ None)
+  pub ended_by : (e : End) → why ≡ EndedBy e ↔ ((met ≡ Some e) × EndsOtherwise last)
+  pub peer_closed : why ≡ PeerClosed ↔ ((met ≡ None) × (last_given last ≡ Some (Ok Closed)))
+  pub not_binary : why ≡ NotBinary ↔ ((met ≡ None) × (last_given last ≡ Some (Ok Text)))
+  pub is_worn : why ≡ Worn ↔ ((met ≡ None) × (last_answer last ≡ Some worn))
+  pub refused : (r : Refusal) → why ≡ Refused r ↔ ((met ≡ None) × IsRefused (last_answer last) r × (last_fault last ≡ None))
+  pub peer_left : why ≡ PeerLeft ↔ ((met ≡ None) × HasAnswered v s last)
+  pub wait_expired : why ≡ WaitExpired ↔ ((met ≡ None) × HasWaited v s last)
+  pub idle : why ≡ Idle ↔ ((met ≡ None) × HasIdled v s last)
 
--- It is so of each course.
+-- Whatever session this is the end of, its cause is exact.
+abbrev pub HasExactCause : Terms → Ended → Type 0
+HasExactCause v ended = (T : List Said) (R : List ℕ) (E : List Entry) (frames : List (List ℕ)) (x : Session v T R E frames ended)
+    → AreExact v (standing v begun x.course.went_on) x.course.last (end_of x.course).ended ended.why
+
+-- It is so of each session.
 abbrev pub CausesAreExact : Type 0
-CausesAreExact = (v : Terms) (c : Course v) → AreExact c.last c.stop.why
+CausesAreExact = (v : Terms) (ended : Ended) → HasExactCause v ended

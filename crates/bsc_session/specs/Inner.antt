@@ -31,16 +31,17 @@ use Rattle.bsc_session.specs.declared.taken.Taken.TheVariants.{Met, Cut}
 use Rattle.bsc_session.specs.declared.why.Why.{Why}
 use Rattle.bsc_session.specs.declared.why.Why.TheVariants.{EndedBy, LinkFault as WhyLinkFault}
 use Rattle.bsc_session.specs.Answering.{Fits, IsHearing, after_hearing, answered, called, calls_hub, entries_hearing, last_wanted, said_hearing, stop_by, stop_hearing, stop_judged, stop_message}
+use Rattle.bsc_session.specs.Causes.{answer_in, last_answer}
 use Rattle.bsc_session.specs.Puts.{HasPut, octets_in, puts}
 use Rattle.bsc_session.specs.Course.{EachTurn, GoesOn, Stops, and_last, shares, standing as stands_at, total}
-use Rattle.bsc_session.specs.Serving.{Goes, received}
+use Rattle.bsc_session.specs.Serving.{Goes, WasWorn, received}
 use Rattle.bsc_session.specs.Talk.{leaving}
 use Rattle.bsc_session.specs.Receiving.{Answer, replies, worn, no_memory, Hearing}
 use Rattle.bsc_session.specs.Standings.{Standing, Terms, begun, is_connected, start_of, told, wanted}
 use Rattle.bsc_session.specs.declared.limits.SessionLimits.{SessionLimits}
 use Rattle.bsc_session.specs.Judging.{LacksAtPass, heard_step, heard_told}
 use Rattle.bsc_session.specs.Reading.{started, ticked}
-use Rattle.bsc_session.specs.Taking.{IsOpening, Opening, count_of, end_step, end_told, ended_by, opened, put_first, stop_before, waiting_for}
+use Rattle.bsc_session.specs.Taking.{IsOpening, Opening, count_of, end_step, end_told, ended_by, last_of, opened, put_first, stop_before, waiting_for}
 use Rattle.bsc_session.specs.Turns.{IsTurn, Turn, after, empties_in, entries_in, frames_in, reading_in, said_in, stop_in}
 use Rattle.bsc_session.specs.Stops.{closes, closing_in, first_of, stop_if}
 
@@ -59,6 +60,10 @@ pub record Carries (old new : Option (List Said)) (st : Step) (why : Why) (stop 
   pub said : Grows old new (puts (octets_in st) fault)
   pub cause : HasPut (octets_in st) fault
   pub stops : stop ≡ first_of (stop_if fault) (closes why (closing_in st))
+
+-- The hub has made as many calls as it may, by what the pass has seen.
+abbrev pub SeesWorn : Hub → Pass → Type 0
+SeesWorn h p = (about_of h).limits.calls ≤ length (entries (seen p))
 
 -- ---- where the code stands
 
@@ -128,6 +133,7 @@ pub record Answers (v : Terms) (s : Standing) (st : Step) (thing : Result Incomi
   pub said : Grows old new (puts (octets_in (last_wanted v s st answer)) fault)
   pub cause : HasPut (octets_in (last_wanted v s st answer)) fault
   pub stops : stop ≡ stop_message v s st answer fault
+  pub is_worn : answer ≡ Some worn → SeesWorn h q
   pub given_same : given_by b.member ≡ given_by a.member
   pub empties_same : empties_by b.member ≡ empties_by a.member
   pub held : Held h v q b (answered s st answer)
@@ -152,6 +158,7 @@ pub record HearsMessage (v : Terms) (s : Standing) (now : ℕ) (m : List ℕ) (h
   pub said : Grows old new (puts (octets_in (last_wanted v (heard_told v s now judged (Ok (Message m))) (heard_step v s now judged (Ok (Message m))) answer)) fault)
   pub cause : HasPut (octets_in (last_wanted v (heard_told v s now judged (Ok (Message m))) (heard_step v s now judged (Ok (Message m))) answer)) fault
   pub stops : stop ≡ stop_judged judged (stop_message v (heard_told v s now judged (Ok (Message m))) (heard_step v s now judged (Ok (Message m))) answer fault)
+  pub is_worn : answer ≡ Some worn → SeesWorn h q
   pub given_same : given_by b.member ≡ given_by a.member
   pub empties_same : empties_by b.member ≡ empties_by a.member
   pub held : Held h v q b (answered (heard_told v s now judged (Ok (Message m))) (heard_step v s now judged (Ok (Message m))) answer)
@@ -164,6 +171,7 @@ pub record Hears (v : Terms) (s : Standing) (now : ℕ) (h : Hub) (p q : Pass) (
   pub goes : Goes h p (entries_hearing v s now hearing) q
   pub said : Grows old new (said_hearing v s now hearing)
   pub stops : stop ≡ stop_hearing v s now hearing
+  pub is_worn : hearing.answer ≡ Some worn → SeesWorn h q
   pub given_same : given_by b.member ≡ given_by a.member
   pub empties_same : empties_by b.member ≡ empties_by a.member
   pub held : Held h v q b (after_hearing v s now hearing)
@@ -227,6 +235,7 @@ pub record Forwards (h : Hub) (p q : Pass) (conn : ℕ) (m : List ℕ) (old new 
   pub calls : Calls h p (forward_made (number_of p) conn m answer) q
   pub said : Stays old new
   pub stops : stop ≡ stop_by (Some answer)
+  pub is_worn : answer ≡ worn → SeesWorn h q
 
 -- ---- the opening
 
@@ -273,8 +282,9 @@ pub record Attends (v : Terms) (s : Standing) (now : ℕ) (a b : At) (old new : 
   pub gave : given_by b.member ≡ given_by a.member ++ frames
   pub empties : empties_by b.member ≡ empties_by a.member + nothing_found frames met (is_none stop)
   pub few : length frames + count_of met ≤ 16
+  pub left : met ≢ Some Left
   pub said : Grows old new (puts (frames ++ octets_in (end_step v s now met)) fault)
-  pub cause : HasPut (frames ++ octets_in (end_step v s now met)) fault
+  pub cause : HasPut (last_of frames (octets_in (end_step v s now met)) met) fault
   pub stops : stop ≡ first_of (stop_if fault) (closes (ended_by met) (closing_in (end_step v s now met)))
   pub follows : Follows b (end_told s now met)
   pub runs : stop ≡ None → Runs v b (end_told s now met)
@@ -314,6 +324,7 @@ pub record Makes (v : Terms) (s : Standing) (h : Hub) (p q : Pass) (a b : At) (o
   pub said : Grows old new (said_in v s turn)
   pub reads : Grows read read' (turn.opening.reading ∷ [])
   pub stops : stop ≡ stop_in v s turn
+  pub is_worn : answer_in turn.hearing ≡ Some worn → SeesWorn h q
   pub held : Held h v q b (after v s turn)
   pub runs : stop ≡ None → Runs v b (after v s turn)
 
@@ -352,6 +363,7 @@ pub record Ran (v : Terms) (h : Hub) (p0 p : Pass) (a : At) (old new : Option (L
   pub are : EachTurn IsTurn v begun (and_last went_on last)
   pub on : EachTurn GoesOn v begun went_on
   pub stops : Stops v (stands_at v begun went_on) last stop
+  pub is_worn : last_answer last ≡ Some worn → SeesWorn h p
   pub goes : Goes h p0 (shares entries_in v begun (and_last went_on last)) p
   pub gave : given_by a.member ≡ shares frames_in v begun (and_last went_on last)
   pub empties : empties_by a.member ≡ total empties_in v begun (and_last went_on last)
@@ -368,3 +380,4 @@ pub record Parts (v : Terms) (h : Hub) (p q : Pass) (m : Option Member) (ended :
   pub empties_is : empties ≡ empties_by m
   pub got : given_by m ≡ received (about_of h) (entries (seen q)) conn taken
   pub replied : (c : ℕ) (e : End) → conn ≡ Some c → ended ≡ Some e → reply ≡ e
+  pub wears : SeesWorn h p → WasWorn (about_of h) (entries (seen q)) conn

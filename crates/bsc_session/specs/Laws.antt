@@ -5,6 +5,7 @@ use Rattle.bsc_edge.specs.declared.fault.LinkFault.{LinkFault}
 use Rattle.bsc_edge.specs.declared.fault.LinkFault.TheVariants.{Failed, NoMemory}
 use Rattle.bsc_edge.specs.declared.said.Said.{Said}
 use Rattle.bsc_edge.specs.declared.said.Said.TheVariants.{Gave, Put, Closed}
+use Rattle.bsc_edge.specs.Told.{Grows}
 use Rattle.bsc_accept.specs.declared.reason.Reason.TheVariants.{NoMemory as MemoryReason}
 use Rattle.bsc_accept.specs.Reasons.{reason_text}
 use Rattle.bsc_session.specs.declared.ended.Ended.{Ended}
@@ -28,6 +29,10 @@ GoesOnAfter (Some NoMemory) rest = rest ≡ Closed 1011 (reason_text MemoryReaso
 abbrev pub EndsAtFault : List Said → Type 0
 EndsAtFault [] = ⊤
 EndsAtFault (x ∷ rest) = GoesOnAfter (fault_of x) rest × EndsAtFault rest
+
+-- What was told grew by a talk that ends so, where it is told.
+abbrev pub GrowsToFault : Option (List Said) → Option (List Said) → Type 0
+GrowsToFault old new = (T : List Said) × Grows old new T × EndsAtFault T
 
 -- It is so of the talk of each session.
 abbrev pub SessionsEndAtFault : Type 0

@@ -1,5 +1,5 @@
 -- What comes from the receive on.
-use Rattle.std.specs.Prelude.{Bool, List, Option, Result, ℕ, ◌+◌}
+use Rattle.std.specs.Prelude.{Bool, List, Option, Result, ◌+◌}
 use Rattle.bsc_history.specs.declared.looks.Look.{Look}
 use Rattle.bsc_history.specs.declared.reply.Reply.{Reply}
 use Rattle.bsc_edge.specs.declared.fault.LinkFault.{LinkFault}

@@ -7,7 +7,7 @@ pub fn sessions_end_at_fault()
     ensures { SessionsEndAtFault }
 {}
 
-/// Each cause of a session's stop comes exactly where it should.
+/// Each cause of a session's end comes exactly where it should.
 pub fn causes_are_exact()
     ensures { CausesAreExact }
 {}

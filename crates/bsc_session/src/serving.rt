@@ -4,7 +4,9 @@ ghost use Rattle.bsc_outside.specs.Faults.{HasRisen};
 ghost use Rattle.bsc_accept.specs.Standing.{IsOpen, StandsFor};
 ghost use Rattle.bsc_hub.specs.Passing.{IsCaller, about_of};
 ghost use Rattle.bsc_session.specs.declared.why.Why.{Why};
+ghost use Rattle.bsc_session.specs.Causes.{HasExactCause};
 ghost use Rattle.bsc_session.specs.Inner.{Ran, RoseFor};
+ghost use Rattle.bsc_session.specs.Laws.{GrowsToFault};
 ghost use Rattle.bsc_session.specs.Serving.{Serves, terms_of};
 
 use crate::at::At;
@@ -84,6 +86,12 @@ pub fn serve_connection<R: Wait, L: Link, C: Clock>(
     // The own list grew by the entries of a session, the link's talk by its talk, the clock's readings by its readings.
     ensures served { Serves (terms_of hub.now pass.old limits.now turns) hub.now pass.old pass.new (L.talk link.old) (L.talk link.new)
         (C.readings clock.old) (C.readings clock.new) result }
+
+    // No call on the link followed one that failed, but the one closing with 1011 after want of memory.
+    ensures ends { GrowsToFault (L.talk link.old) (L.talk link.new) }
+
+    // The cause comes exactly where it should.
+    ensures caused { HasExactCause (terms_of hub.now pass.old limits.now turns) result }
 
     // A fault of the link is told only where its count rose.
     ensures failed { result.why ≡ Why.LinkFault → HasRisen (L.faults link.old) (L.faults link.new) }

@@ -12,9 +12,9 @@ pub enum Why {
     PeerLeft,
     /// The hub refused the connect, and the peer was told.
     Refused(Refusal),
-    /// No Connect-Request came within the connect wait.
+    /// No Connect-Request was accepted within the connect wait. One may have come that got a NAK or no answer.
     WaitExpired,
-    /// No message came for twice the heartbeat.
+    /// The peer was connected, and no message came for twice the heartbeat.
     Idle,
     /// The outbox gave this End of the connection.
     EndedBy(End),

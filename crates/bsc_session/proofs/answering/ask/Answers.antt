@@ -1,6 +1,8 @@
-use Rattle.std.proofs.Common.{Some, None, refl, ap}
+use Rattle.std.proofs.Common.{Some, Err, refl, ap}
+use Rattle.bsc_turn.specs.Passes.{number_of}
 use Rattle.bsc_session.specs.Receiving.{worn, no_memory}
 use Rattle.bsc_session.proofs.Asking.{ask_joined, ask_refused, ask_ends}
+use Rattle.bsc_session.proofs.Wearing.{connect_wears}
 use Rattle.bsc_session.proofs.answering.ask.Goals as goal
 
 pub returns-in-Ok-clause-answered : goal.returns-in-Ok-clause-answered
@@ -11,6 +13,7 @@ returns-in-Err-Refused-clause-answered g c v s given held stood tied = ask_refus
 
 pub returns-in-Err-Worn-clause-answered : goal.returns-in-Err-Worn-clause-answered
 returns-in-Err-Worn-clause-answered g c v s given held stood tied = ask_ends c.args.hub.now v s given c.args.pass.now c.connect.new.pass c.args.at.now (g.L.Link.talk c.args.link.now) c.args.who worn c.worn.result held c.requires.alone (rw c.in-Err-Worn.field-0-is at c.in-Err-Worn.ensures.pass) refl refl refl tt (ap (λ x. Some x) c.worn.ensures)
+    (λ e. connect_wears c.args.hub.now c.connect.new.pass (number_of c.args.pass.now) c.args.who (Err c.in-Err-Worn.field-0) c.in-Err-Worn.field-0-0 (ap (λ x. Err x) c.in-Err-Worn.field-0-is) c.in-Err-Worn.ensures.due)
 
 pub returns-in-Err-NoMemory-clause-answered : goal.returns-in-Err-NoMemory-clause-answered
-returns-in-Err-NoMemory-clause-answered g c v s given held stood tied = ask_ends c.args.hub.now v s given c.args.pass.now c.connect.new.pass c.args.at.now (g.L.Link.talk c.args.link.now) c.args.who no_memory c.stop_at.result held c.requires.alone (rw c.in-Err-NoMemory.field-0-is at c.in-Err-NoMemory.ensures.pass) refl refl refl tt (ap (λ x. Some x) c.stop_at.ensures)
+returns-in-Err-NoMemory-clause-answered g c v s given held stood tied = ask_ends c.args.hub.now v s given c.args.pass.now c.connect.new.pass c.args.at.now (g.L.Link.talk c.args.link.now) c.args.who no_memory c.stop_at.result held c.requires.alone (rw c.in-Err-NoMemory.field-0-is at c.in-Err-NoMemory.ensures.pass) refl refl refl tt (ap (λ x. Some x) c.stop_at.ensures) (λ e. cc)

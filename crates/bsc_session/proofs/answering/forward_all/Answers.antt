@@ -1,7 +1,9 @@
-use Rattle.std.proofs.Common.{Some, refl, ap}
+use Rattle.std.proofs.Common.{Some, Err, refl, ap}
+use Rattle.bsc_turn.specs.Passes.{number_of}
 use Rattle.bsc_session.specs.Receiving.{worn, no_memory}
 use Rattle.bsc_session.proofs.Lists.{stays_same}
 use Rattle.bsc_session.proofs.HubCalls.{all_told, all_refused}
+use Rattle.bsc_session.proofs.Wearing.{all_wears}
 use Rattle.bsc_session.proofs.answering.forward_all.Goals as goal
 
 pub returns-in-Ok-clause-forwarded : goal.returns-in-Ok-clause-forwarded
@@ -9,6 +11,7 @@ returns-in-Ok-clause-forwarded g c = all_told c.args.hub.now c.args.pass.now c.f
 
 pub returns-in-Err-Worn-clause-forwarded : goal.returns-in-Err-Worn-clause-forwarded
 returns-in-Err-Worn-clause-forwarded g c = all_refused c.args.hub.now c.args.pass.now c.forward_all.new.pass c.args.conn c.args.frame.now.message worn (g.L.Link.talk c.args.link.now) (g.L.Link.talk c.args.link.now) (Some c.worn.result) c.requires.caller c.in-Err-Worn.ensures.pass (stays_same (g.L.Link.talk c.args.link.now)) refl (ap (λ s. Some s) c.worn.ensures)
+    (λ e. all_wears c.args.hub.now c.forward_all.new.pass (number_of c.args.pass.now) c.args.conn c.args.frame.now.message (Err c.in-Err-Worn.field-0) c.in-Err-Worn.field-0-0 (ap (λ x. Err x) c.in-Err-Worn.field-0-is) c.in-Err-Worn.ensures.worn)
 
 pub returns-in-Err-NoMemory-clause-forwarded : goal.returns-in-Err-NoMemory-clause-forwarded
-returns-in-Err-NoMemory-clause-forwarded g c = all_refused c.args.hub.now c.args.pass.now c.forward_all.new.pass c.args.conn c.args.frame.now.message no_memory (g.L.Link.talk c.args.link.now) (g.L.Link.talk c.args.link.now) (Some c.stop_at.result) c.requires.caller c.in-Err-NoMemory.ensures.pass (stays_same (g.L.Link.talk c.args.link.now)) refl (ap (λ s. Some s) c.stop_at.ensures)
+returns-in-Err-NoMemory-clause-forwarded g c = all_refused c.args.hub.now c.args.pass.now c.forward_all.new.pass c.args.conn c.args.frame.now.message no_memory (g.L.Link.talk c.args.link.now) (g.L.Link.talk c.args.link.now) (Some c.stop_at.result) c.requires.caller c.in-Err-NoMemory.ensures.pass (stays_same (g.L.Link.talk c.args.link.now)) refl (ap (λ s. Some s) c.stop_at.ensures) (λ e. cc)

@@ -7,4 +7,4 @@ pub returns-in-Ok-clause-forwarded : goal.returns-in-Ok-clause-forwarded
 returns-in-Ok-clause-forwarded g c = one_told c.args.hub.now c.args.pass.now c.forward_one.new.pass c.args.conn c.args.frame.message c.in-Ok.told (g.L.Link.talk c.args.link.now) (g.L.Link.talk c.wake_one.new.link) c.requires.caller c.in-Ok.ensures.pass c.wake_one.ensures.told
 
 pub returns-in-Err-clause-forwarded : goal.returns-in-Err-clause-forwarded
-returns-in-Err-clause-forwarded g c = one_worn c.args.hub.now c.args.pass.now c.forward_one.new.pass c.args.conn c.args.frame.message (g.L.Link.talk c.args.link.now) (g.L.Link.talk c.args.link.now) (Some c.worn.result) c.requires.caller c.in-Err.ensures.pass (stays_same (g.L.Link.talk c.args.link.now)) (ap (λ s. Some s) c.worn.ensures)
+returns-in-Err-clause-forwarded g c = one_worn c.args.hub.now c.args.pass.now c.forward_one.new.pass c.args.conn c.args.frame.message (g.L.Link.talk c.args.link.now) (g.L.Link.talk c.args.link.now) (Some c.worn.result) c.requires.caller c.in-Err.ensures.pass (stays_same (g.L.Link.talk c.args.link.now)) (ap (λ s. Some s) c.worn.ensures) (c.in-Err.ensures.worn.0 refl)

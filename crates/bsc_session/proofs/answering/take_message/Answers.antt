@@ -1,4 +1,4 @@
-use Rattle.std.proofs.Common.{Some, Ok, refl, ap, sym, ◌∙◌}
+use Rattle.std.proofs.Common.{Ok, refl, ap, ◌∙◌}
 use Rattle.bsc_accept.specs.declared.event.Event.TheVariants.{Message as Came}
 use Rattle.bsc_session.specs.Standings.{start_of, told}
 use Rattle.bsc_session.proofs.Asking.{tied_told}

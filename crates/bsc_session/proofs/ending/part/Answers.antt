@@ -1,4 +1,3 @@
-use Rattle.std.proofs.Common.{refl}
 use Rattle.bsc_session.proofs.Running.{part_left}
 use Rattle.bsc_session.proofs.ending.part.Goals as goal
 

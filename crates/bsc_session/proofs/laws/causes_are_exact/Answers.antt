@@ -1,4 +1,4 @@
-use Rattle.bsc_session.proofs.Causing.{causes_are_exact}
+use Rattle.bsc_session.proofs.Naming.{causes_are_exact}
 use Rattle.bsc_session.proofs.laws.causes_are_exact.Goals as goal
 
 pub returns : goal.returns

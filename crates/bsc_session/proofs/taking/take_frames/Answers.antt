@@ -1,4 +1,4 @@
-use Rattle.std.proofs.Common.{◌<◌, arith}
+use Rattle.std.proofs.Common.{arith}
 use Rattle.bsc_session.proofs.TakingFrames.{taking_more, takes_cut, takes_few, takes_met, finds_end}
 use Rattle.bsc_session.proofs.taking.take_frames.Goals as goal
 

@@ -1,4 +1,4 @@
-use Rattle.std.proofs.Common.{◌∙◌, sym, refl, None, Some}
+use Rattle.std.proofs.Common.{◌∙◌, sym, refl, None}
 use Rattle.bsc_accept.specs.declared.event.Event.TheVariants.{Tick}
 use Rattle.bsc_session.specs.Inner.{Ticks}
 use Rattle.bsc_session.specs.Reading.{started, ticked}
