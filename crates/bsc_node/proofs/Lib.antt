@@ -8,3 +8,6 @@ pub mod Order
 pub mod Passing
 pub mod Told
 pub mod Calm
+pub mod Quiet
+pub mod Heard
+pub mod Proper
