@@ -11,3 +11,5 @@ pub mod Calm
 pub mod Quiet
 pub mod Heard
 pub mod Proper
+pub mod Sending
+pub mod Delivering
