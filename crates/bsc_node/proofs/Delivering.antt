@@ -48,8 +48,8 @@ use Rattle.bsc_node.proofs.Order.{in_order-brought}
 use Rattle.bsc_node.proofs.Passing.{Passes, both, pass-in_order, pass-either, pass-nothing, pass-found, pass-weaker}
 use Rattle.bsc_node.proofs.Told.{outcome-initiating, outcome-accepting}
 use Rattle.bsc_node.proofs.Quiet.{is_quiet_action, is_quiet, Quiet, quiet-tells_connector, quiet-ends, quiet-closes_link, quiet-is_refused_by, quiet-renews, quiet-keeps_vmac}
-use Rattle.bsc_node.proofs.Heard.{is_still, still-quiet, still-meets_peer, quiet-takes_body, quiet-resolves, quiet-solicits, quiet-directs, quiet-dial_fails, quiet-arrives, quiet-time_passes, quiet-is_to_end}
-use Rattle.bsc_node.proofs.Sending.{opened-dialled, quiet-opened, goes_on-is, and_left, and_right, not_true}
+use Rattle.bsc_node.proofs.Heard.{LetsQuiet, lets-rule, pass-meets_peer, quiet-takes_body}
+use Rattle.bsc_node.proofs.Following.{is_came, pass-follows, opened-dialled, goes_on-is, and_left, and_right, not_true}
 
 -- ---- what a machine hands up is what came
 
@@ -132,49 +132,26 @@ abbrev pub delivers_none : Line → Bool
 delivers_none (did action) = not (delivers_npdu action)
 delivers_none m = true
 
-still_delivers_none_by : (action : Action) → is_quiet_action action ≡ true → not (delivers_npdu action) ≡ true
-still_delivers_none_by (Deliver delivered) h = h
-still_delivers_none_by action h = refl
+quiet_delivers_none_by : (action : Action) → is_quiet_action action ≡ true → not (delivers_npdu action) ≡ true
+quiet_delivers_none_by (Deliver delivered) h = h
+quiet_delivers_none_by action h = refl
 
-still_delivers_none : (m : Line) → is_still m ≡ true → delivers_none m ≡ true
-still_delivers_none (did action) h = still_delivers_none_by action h
-still_delivers_none m h = refl
-
-quiet_delivers_none : (m : Line) → is_quiet m ≡ true → delivers_none m ≡ true
-quiet_delivers_none (did action) h = still_delivers_none_by action h
+quiet_delivers_none : LetsQuiet delivers_none
+quiet_delivers_none (did action) h = quiet_delivers_none_by action h
 quiet_delivers_none m h = refl
 
-none-still : (rule : Rule) → Passes is_still rule → Passes delivers_none rule
-none-still rule p L = pass-weaker is_still delivers_none still_delivers_none (rule L) (p L)
-
 none-quiet : (rule : Rule) → Quiet rule → Passes delivers_none rule
-none-quiet rule q = none-still rule (still-quiet rule q)
+none-quiet rule q = lets-rule delivers_none quiet_delivers_none rule q
 
 none-sends : (v : Vmac) (npdu : List ℕ) → Passes delivers_none (sends v npdu)
 none-sends v npdu =
     pass-found delivers_none (way v) (λ w. either (fits w npdu) (puts_own w (Npdu npdu)) (tells (TooLong v))) (tells (NoPath v))
     (λ w. pass-either delivers_none (fits w npdu) (puts_own w (Npdu npdu)) (tells (TooLong v)) (λ L. refl) (λ L. refl)) (λ L. refl)
 
-abbrev pub is_came : NodeEvent → Bool
-is_came (Came name o) = true
-is_came e = false
-
 none-follows : (a : Made) (M : Log) (ev : NodeEvent) → is_came ev ≡ false → ((name : LinkName) → ev ≡ Opened name → was_taken name M ≡ false) → list_all delivers_none (follows a ev M) ≡ true
-none-follows a M Start s o = none-quiet (tells_connector a ConnectorStart) (quiet-tells_connector a ConnectorStart) M
-none-follows a M (Opened name) s o = pass-weaker is_quiet delivers_none quiet_delivers_none (follows a (Opened name) M) (quiet-opened a name M (o name refl))
-none-follows a M (DialFailed name) s o = none-quiet (dial_fails a name) (quiet-dial_fails a name) M
-none-follows a M Arrived s o = none-quiet arrives quiet-arrives M
 none-follows a M (Came name octets) s o = cc
-none-follows a M (CameText name) s o = none-quiet (closes_link a name (closing 1003 NoReason)) (quiet-closes_link a name (closing 1003 NoReason)) M
-none-follows a M (Lost name) s o = none-quiet (ends a name) (quiet-ends a name) M
-none-follows a M Tick s o = none-quiet (time_passes a) (quiet-time_passes a) M
 none-follows a M (Send dest npdu) s o = none-sends dest npdu M
-none-follows a M (Resolve v) s o = none-quiet (resolves a v) (quiet-resolves a v) M
-none-follows a M (DirectTo v) s o = none-quiet (directs v) (quiet-directs v) M
-none-follows a M (Solicit v) s o = none-quiet (solicits v) (quiet-solicits v) M
-none-follows a M Finish s o = none-quiet (is_to_end a) (quiet-is_to_end a) M
-none-follows a M (Random w) s o = none-quiet (renews a) (quiet-renews a) M
-none-follows a M NoRandom s o = none-quiet (keeps_vmac a) (quiet-keeps_vmac a) M
+none-follows a M ev s o = pass-follows delivers_none quiet_delivers_none a M ev refl refl (record { dialled = o; next = λ name k is named uri. refl; dial = λ k free uri. refl; take = λ k free. refl })
 
 -- what lines deliver
 abbrev pub delivered_by : List Line → List Action
@@ -204,7 +181,7 @@ none-obeys_by a name (puts_and_closes o closing) h =
     pass-in_order delivers_none (carries_out_by name (puts_and_closes o closing) ∷ ends a name ∷ [])
     (pass-in_order delivers_none (does (Put name o) ∷ does (Close name closing) ∷ []) ((λ L. refl), ((λ L. refl), tt)), (none-quiet (ends a name) (quiet-ends a name), tt))
 none-obeys_by a name (closes closing) h = none-quiet (closes_link a name closing) (quiet-closes_link a name closing)
-none-obeys_by a name (meets who) h = none-still (meets_peer a name who) (still-meets_peer a name who)
+none-obeys_by a name (meets who) h = pass-meets_peer delivers_none quiet_delivers_none (λ k w. refl) a name who
 none-obeys_by a name (is_refused origin code) h = none-quiet (is_refused_by a name origin code) (quiet-is_refused_by a name origin code)
 none-obeys_by a name (passes_up msg) h = cc
 none-obeys_by a name keeps_still h = pass-nothing delivers_none

@@ -42,31 +42,14 @@ use Rattle.bsc_node.proofs.Told.{outcome-accepting}
 use Rattle.bsc_node.proofs.Calm.{is_calm, calm-joined, calm-duplicate}
 use Rattle.bsc_node.proofs.Quiet.{is_quiet_action, is_quiet, Quiet, quiet-does, quiet-two, quiet-machine, quiet-carries, calm-ticked, quiet-tells_connector, quiet-tells_finished, quiet-ends, quiet-closes_link, quiet-finishes_link, quiet-is_refused_by}
 
--- ---- a peer has named itself: all is quiet but that a slot comes up
+-- ---- tests that quiet lines pass
 
-abbrev pub is_still : Line → Bool
-is_still (did action) = is_quiet_action action
-is_still m = true
+-- What is quiet passes the test.
+abbrev pub LetsQuiet : (Line → Bool) → Type 0
+LetsQuiet test = (m : Line) → is_quiet m ≡ true → test m ≡ true
 
-quiet_is_still : (m : Line) → is_quiet m ≡ true → is_still m ≡ true
-quiet_is_still (did action) h = h
-quiet_is_still m h = refl
-
-pub still-quiet : (rule : Rule) → Quiet rule → Passes is_still rule
-still-quiet rule q L = pass-weaker is_quiet is_still quiet_is_still (rule L) (q L)
-
-still-finishes_replaced : (a : Made) (replaced : Option ℕ) → Passes is_still (finishes_replaced a replaced)
-still-finishes_replaced a None = pass-nothing is_still
-still-finishes_replaced a (Some k) = still-quiet (finishes_link a (Direct k)) (quiet-finishes_link a (Direct k))
-
-still-comes_up : (a : Made) (k : ℕ) (who : Identity) (replaced : Option ℕ) → Passes is_still (comes_up a k who replaced)
-still-comes_up a k who replaced =
-    pass-in_order is_still (slots_see (Up k who) ∷ tells (DirectUp who.vmac) ∷ finishes_replaced a replaced ∷ []) ((λ L. refl), ((λ L. refl), (still-finishes_replaced a replaced, tt)))
-
-still-meets_dialled : (a : Made) (k : ℕ) (who : Identity) (e : Establish) → Passes is_still (meets_dialled a k who e)
-still-meets_dialled a k who (IsUp replaced) = still-comes_up a k who replaced
-still-meets_dialled a k who (Duplicate holder) = still-quiet (closes_link a (Direct k) wrong_peer) (quiet-closes_link a (Direct k) wrong_peer)
-still-meets_dialled a k who (WrongPeer v) = still-quiet (closes_link a (Direct k) wrong_peer) (quiet-closes_link a (Direct k) wrong_peer)
+pub lets-rule : (test : Line → Bool) → LetsQuiet test → (rule : Rule) → Quiet rule → Passes test rule
+lets-rule test lets rule q L = pass-weaker is_quiet test lets (rule L) (q L)
 
 -- two rules, each where the one before has left the log, and then others
 pub pass-two-then : (test : Line → Bool) (first second : Rule) (rest : List Rule) (L : Log) → list_all test (first L) ≡ true → list_all test (second (L ++ first L)) ≡ true → PassEach test rest
@@ -78,8 +61,27 @@ pass-two-then test first second rest L p q r =
     (list_all-append test (second (L ++ first L)) (brought rest ((L ++ first L) ++ second (L ++ first L)))
     ∙ both (list_all test (second (L ++ first L))) (list_all test (brought rest ((L ++ first L) ++ second (L ++ first L)))) q (pass-brought test rest r ((L ++ first L) ++ second (L ++ first L))))
 
-still-carries : (a : Made) (k : ℕ) (L : Log) → is_calm (outcome a L (Direct k)) ≡ true → list_all is_still (carries_out a (Direct k) L) ≡ true
-still-carries a k L h = pass-weaker is_quiet is_still quiet_is_still (carries_out a (Direct k) L) (quiet-carries (Direct k) (outcome a L (Direct k)) h L)
+-- ---- a peer has named itself: all is quiet but that a slot comes up
+
+pass-finishes_replaced : (test : Line → Bool) → LetsQuiet test → (a : Made) (replaced : Option ℕ) → Passes test (finishes_replaced a replaced)
+pass-finishes_replaced test lets a None = pass-nothing test
+pass-finishes_replaced test lets a (Some k) = lets-rule test lets (finishes_link a (Direct k)) (quiet-finishes_link a (Direct k))
+
+-- what follows where a slot came up
+pub pass-after_up : (test : Line → Bool) → LetsQuiet test → (a : Made) (who : Identity) (replaced : Option ℕ) → PassEach test (tells (DirectUp who.vmac) ∷ finishes_replaced a replaced ∷ [])
+pass-after_up test lets a who replaced = (lets-rule test lets (tells (DirectUp who.vmac)) (λ L. refl), (pass-finishes_replaced test lets a replaced, tt))
+
+pass-comes_up : (test : Line → Bool) → LetsQuiet test → (a : Made) (k : ℕ) (who : Identity) (replaced : Option ℕ) → test (slot (Up k who)) ≡ true → Passes test (comes_up a k who replaced)
+pass-comes_up test lets a k who replaced up =
+    pass-in_order test (slots_see (Up k who) ∷ tells (DirectUp who.vmac) ∷ finishes_replaced a replaced ∷ []) ((λ L. both (test (slot (Up k who))) true up refl), pass-after_up test lets a who replaced)
+
+pass-meets_dialled : (test : Line → Bool) → LetsQuiet test → (a : Made) (k : ℕ) (who : Identity) (e : Establish) → test (slot (Up k who)) ≡ true → Passes test (meets_dialled a k who e)
+pass-meets_dialled test lets a k who (IsUp replaced) up = pass-comes_up test lets a k who replaced up
+pass-meets_dialled test lets a k who (Duplicate holder) up = lets-rule test lets (closes_link a (Direct k) wrong_peer) (quiet-closes_link a (Direct k) wrong_peer)
+pass-meets_dialled test lets a k who (WrongPeer v) up = lets-rule test lets (closes_link a (Direct k) wrong_peer) (quiet-closes_link a (Direct k) wrong_peer)
+
+pass-carries : (test : Line → Bool) → LetsQuiet test → (a : Made) (k : ℕ) (L : Log) → is_calm (outcome a L (Direct k)) ≡ true → list_all test (carries_out a (Direct k) L) ≡ true
+pass-carries test lets a k L h = pass-weaker is_quiet test lets (carries_out a (Direct k) L) (quiet-carries (Direct k) (outcome a L (Direct k)) h L)
 
 calm_joins : (a : Made) (k : ℕ) (L : Log) → was_taken (Direct k) L ≡ true → is_calm (outcome a (L ++ accepting (Direct k) Joined ∷ []) (Direct k)) ≡ true
 calm_joins a k L h = ap is_calm (outcome-accepting a L (Direct k) Joined h) ∙ calm-joined (start a (L ++ accepting (Direct k) Joined ∷ []) (Direct k)) (accepting_events L (Direct k))
@@ -89,28 +91,32 @@ calm_refuses a k L h =
     ap is_calm (outcome-accepting a L (Direct k) (RefusedEvent (DuplicateRefusal None)) h)
     ∙ calm-duplicate (start a (L ++ accepting (Direct k) (RefusedEvent (DuplicateRefusal None)) ∷ []) (Direct k)) (accepting_events L (Direct k))
 
-still_refused : (a : Made) (k : ℕ) (L : Log) → was_taken (Direct k) L ≡ true → list_all is_still (in_order (refuses (Direct k) ∷ carries_out a (Direct k) ∷ ends a (Direct k) ∷ []) L) ≡ true
-still_refused a k L h =
-    pass-two-then is_still (refuses (Direct k)) (carries_out a (Direct k)) (ends a (Direct k) ∷ []) L refl
-    (still-carries a k (L ++ refuses (Direct k) L) (calm_refuses a k L h)) (still-quiet (ends a (Direct k)) (quiet-ends a (Direct k)), tt)
+pass-refused : (test : Line → Bool) → LetsQuiet test → (a : Made) (k : ℕ) (L : Log) → was_taken (Direct k) L ≡ true → list_all test (in_order (refuses (Direct k) ∷ carries_out a (Direct k) ∷ ends a (Direct k) ∷ []) L) ≡ true
+pass-refused test lets a k L h =
+    pass-two-then test (refuses (Direct k)) (carries_out a (Direct k)) (ends a (Direct k) ∷ []) L (lets-rule test lets (refuses (Direct k)) (λ M. refl) L)
+    (pass-carries test lets a k (L ++ refuses (Direct k) L) (calm_refuses a k L h)) (lets-rule test lets (ends a (Direct k)) (quiet-ends a (Direct k)), tt)
 
-still_taken : (a : Made) (k : ℕ) (who : Identity) (e : Establish) (L : Log) → was_taken (Direct k) L ≡ true → list_all is_still (meets_taken a k who e L) ≡ true
-still_taken a k who (IsUp replaced) L h =
-    pass-two-then is_still (joins (Direct k)) (carries_out a (Direct k)) (comes_up a k who replaced ∷ []) L refl
-    (still-carries a k (L ++ joins (Direct k) L) (calm_joins a k L h)) (still-comes_up a k who replaced, tt)
-still_taken a k who (Duplicate holder) L h = still_refused a k L h
-still_taken a k who (WrongPeer v) L h = still_refused a k L h
+pass-taken : (test : Line → Bool) → LetsQuiet test → (a : Made) (k : ℕ) (who : Identity) (e : Establish) (L : Log) → test (slot (Up k who)) ≡ true → was_taken (Direct k) L ≡ true → list_all test (meets_taken a k who e L) ≡ true
+pass-taken test lets a k who (IsUp replaced) L up h =
+    pass-two-then test (joins (Direct k)) (carries_out a (Direct k)) (comes_up a k who replaced ∷ []) L (lets-rule test lets (joins (Direct k)) (λ M. refl) L)
+    (pass-carries test lets a k (L ++ joins (Direct k) L) (calm_joins a k L h)) (pass-comes_up test lets a k who replaced up, tt)
+pass-taken test lets a k who (Duplicate holder) L up h = pass-refused test lets a k L h
+pass-taken test lets a k who (WrongPeer v) L up h = pass-refused test lets a k L h
 
-pub still-meets_direct : (a : Made) (k : ℕ) (who : Identity) → Passes is_still (meets_direct a k who)
-still-meets_direct a k who L = by (was_taken (Direct k) L) refl
+-- whatever the slots answer
+pub pass-meets : (test : Line → Bool) → LetsQuiet test → (a : Made) (k : ℕ) (who : Identity) (e : Establish) → test (slot (Up k who)) ≡ true → Passes test (either (was_taken (Direct k)) (meets_taken a k who e) (meets_dialled a k who e))
+pass-meets test lets a k who e up L = by (was_taken (Direct k) L) refl
   where
-    by : (b : Bool) → was_taken (Direct k) L ≡ b → list_all is_still (if_so b (meets_taken a k who (establish a k who L)) (meets_dialled a k who (establish a k who L)) L) ≡ true
-    by true h = still_taken a k who (establish a k who L) L h
-    by false h = still-meets_dialled a k who (establish a k who L) L
+    by : (b : Bool) → was_taken (Direct k) L ≡ b → list_all test (if_so b (meets_taken a k who e) (meets_dialled a k who e) L) ≡ true
+    by true h = pass-taken test lets a k who e L up h
+    by false h = pass-meets_dialled test lets a k who e up L
 
-pub still-meets_peer : (a : Made) (name : LinkName) (who : Identity) → Passes is_still (meets_peer a name who)
-still-meets_peer a (Hub s) who = still-quiet (tells_connector a (ConnectorConnected s)) (quiet-tells_connector a (ConnectorConnected s))
-still-meets_peer a (Direct k) who = still-meets_direct a k who
+pub pass-meets_direct : (test : Line → Bool) → LetsQuiet test → (a : Made) (k : ℕ) (who : Identity) → test (slot (Up k who)) ≡ true → Passes test (meets_direct a k who)
+pass-meets_direct test lets a k who up L = pass-meets test lets a k who (establish a k who L) up L
+
+pub pass-meets_peer : (test : Line → Bool) → LetsQuiet test → ((k : ℕ) (who : Identity) → test (slot (Up k who)) ≡ true) → (a : Made) (name : LinkName) (who : Identity) → Passes test (meets_peer a name who)
+pass-meets_peer test lets up a (Hub s) who = lets-rule test lets (tells_connector a (ConnectorConnected s)) (quiet-tells_connector a (ConnectorConnected s))
+pass-meets_peer test lets up a (Direct k) who = pass-meets_direct test lets a k who (up k who)
 
 -- ---- a message for the node: all is quiet but the delivery of an NPDU
 
@@ -167,20 +173,25 @@ quiet-resolves a v = quiet-by_path v (λ w L. asks_unless w v (ask_refusal a v L
 pub quiet-solicits : (v : Vmac) → Quiet (solicits v)
 quiet-solicits v = quiet-by_path v (λ w. puts_own w AdvertisementSolicitation) (λ w L. refl)
 
-quiet-dials_first : (v : Vmac) (k : ℕ) (uris : List (List ℕ)) → Quiet (dials_first v k uris)
-quiet-dials_first v k [] = λ L. refl
-quiet-dials_first v k (uri ∷ uris) = pass-in_order is_quiet (slots_see (Claim k (Some v)) ∷ does (Dial (Direct k) uri) ∷ []) ((λ L. refl), ((λ L. refl), tt))
+pass-dials_first : (test : Line → Bool) → LetsQuiet test → (v : Vmac) (k : ℕ) (uris : List (List ℕ)) → ((uri : List ℕ) → test (did (Dial (Direct k) uri)) ≡ true) → Passes test (dials_first v k uris)
+pass-dials_first test lets v k [] dial = lets-rule test lets (tells (NoDirect v)) (λ L. refl)
+pass-dials_first test lets v k (uri ∷ uris) dial =
+    pass-in_order test (slots_see (Claim k (Some v)) ∷ does (Dial (Direct k) uri) ∷ []) (lets-rule test lets (slots_see (Claim k (Some v))) (λ L. refl), ((λ L. both (test (did (Dial (Direct k) uri))) true (dial uri) refl), tt))
 
-quiet-dials : (v : Vmac) (k : ℕ) → Quiet (λ L. dials_first v k (uris_to_dial v L) L)
-quiet-dials v k L = quiet-dials_first v k (uris_to_dial v L) L
+-- a rule of what is found, where it is known what is found
+pass-some-is : {A : Type 0} (test : Line → Bool) (o : Option A) (rule : A → Rule) (other : Rule) (L : Log) → ((x : A) → o ≡ Some x → list_all test (rule x L) ≡ true) → list_all test (other L) ≡ true → list_all test (with_some o rule other L) ≡ true
+pass-some-is test (Some x) rule other L p q = p x refl
+pass-some-is test None rule other L p q = q
 
-pub quiet-directs : (v : Vmac) → Quiet (directs v)
-quiet-directs v =
-    pass-found is_quiet (established v) (λ k. nothing) (where_found (learnt v) (λ text. where_found free_slot (λ k L. dials_first v k (uris_to_dial v L) L) (tells SlotsFull)) (tells (NoUris v)))
-    (λ k. pass-nothing is_quiet)
-    (pass-found is_quiet (learnt v) (λ text. where_found free_slot (λ k L. dials_first v k (uris_to_dial v L) L) (tells SlotsFull)) (tells (NoUris v))
-    (λ text. pass-found is_quiet free_slot (λ k L. dials_first v k (uris_to_dial v L) L) (tells SlotsFull) (quiet-dials v) (λ L. refl))
-    (λ L. refl))
+-- slots are claimed and dialled that were found free
+pub pass-directs : (test : Line → Bool) → LetsQuiet test → (v : Vmac) (L : Log) → ((k : ℕ) → free_slot L ≡ Some k → (uri : List ℕ) → test (did (Dial (Direct k) uri)) ≡ true) → list_all test (directs v L) ≡ true
+pass-directs test lets v L dial =
+    pass-some-is test (established v L) (λ k. nothing) (where_found (learnt v) (λ text. where_found free_slot (λ k M. dials_first v k (uris_to_dial v M) M) (tells SlotsFull)) (tells (NoUris v))) L
+    (λ k is. refl)
+    (pass-some-is test (learnt v L) (λ text. where_found free_slot (λ k M. dials_first v k (uris_to_dial v M) M) (tells SlotsFull)) (tells (NoUris v)) L
+    (λ text is. pass-some-is test (free_slot L) (λ k M. dials_first v k (uris_to_dial v M) M) (tells SlotsFull) L
+    (λ k free. pass-dials_first test lets v k (uris_to_dial v L) (dial k free) L) (lets-rule test lets (tells SlotsFull) (λ M. refl) L))
+    (lets-rule test lets (tells (NoUris v)) (λ M. refl) L))
 
 -- ---- the other events
 
@@ -196,17 +207,22 @@ quiet-obeys_by a name keeps_still h = pass-nothing is_quiet
 pub quiet-obeys : (a : Made) (name : LinkName) (L : Log) → is_calm (outcome a L name) ≡ true → list_all is_quiet (obeys a name L) ≡ true
 quiet-obeys a name L h = quiet-obeys_by a name (outcome a L name) h L
 
-pub quiet-dial_fails : (a : Made) (name : LinkName) → Quiet (dial_fails a name)
-quiet-dial_fails a (Hub s) = quiet-ends a (Hub s)
-quiet-dial_fails a (Direct k) =
-    pass-found is_quiet (next_uri k) (λ uri. does (Dial (Direct k) uri)) (in_order (where_found (wanted k) (λ v. tells (NoDirect v)) nothing ∷ ends a (Direct k) ∷ [])) (λ uri L. refl)
-    (pass-in_order is_quiet (where_found (wanted k) (λ v. tells (NoDirect v)) nothing ∷ ends a (Direct k) ∷ [])
-    (pass-found is_quiet (wanted k) (λ v. tells (NoDirect v)) nothing (λ v L. refl) (pass-nothing is_quiet), (quiet-ends a (Direct k), tt)))
+pub pass-dial_fails : (test : Line → Bool) → LetsQuiet test → (a : Made) (name : LinkName) → ((k : ℕ) → name ≡ Direct k → (uri : List ℕ) → test (did (Dial (Direct k) uri)) ≡ true) → Passes test (dial_fails a name)
+pass-dial_fails test lets a (Hub s) dial = lets-rule test lets (ends a (Hub s)) (quiet-ends a (Hub s))
+pass-dial_fails test lets a (Direct k) dial =
+    pass-found test (next_uri k) (λ uri. does (Dial (Direct k) uri)) (in_order (where_found (wanted k) (λ v. tells (NoDirect v)) nothing ∷ ends a (Direct k) ∷ []))
+    (λ uri L. both (test (did (Dial (Direct k) uri))) true (dial k refl uri) refl)
+    (pass-in_order test (where_found (wanted k) (λ v. tells (NoDirect v)) nothing ∷ ends a (Direct k) ∷ [])
+    (pass-found test (wanted k) (λ v. tells (NoDirect v)) nothing (λ v. lets-rule test lets (tells (NoDirect v)) (λ L. refl)) (pass-nothing test), (lets-rule test lets (ends a (Direct k)) (quiet-ends a (Direct k)), tt)))
 
-pub quiet-arrives : Quiet arrives
-quiet-arrives =
-    pass-found is_quiet free_slot (λ k. in_order (slots_see (Claim k None) ∷ does (Take (Direct k)) ∷ [])) (does (Refuse (closing 1008 TableFull)))
-    (λ k. pass-in_order is_quiet (slots_see (Claim k None) ∷ does (Take (Direct k)) ∷ []) ((λ L. refl), ((λ L. refl), tt))) (λ L. refl)
+pass-takes : (test : Line → Bool) → LetsQuiet test → (k : ℕ) → test (did (Take (Direct k))) ≡ true → Passes test (in_order (slots_see (Claim k None) ∷ does (Take (Direct k)) ∷ []))
+pass-takes test lets k take =
+    pass-in_order test (slots_see (Claim k None) ∷ does (Take (Direct k)) ∷ []) (lets-rule test lets (slots_see (Claim k None)) (λ L. refl), ((λ L. both (test (did (Take (Direct k)))) true take refl), tt))
+
+pub pass-arrives : (test : Line → Bool) → LetsQuiet test → (L : Log) → ((k : ℕ) → free_slot L ≡ Some k → test (did (Take (Direct k))) ≡ true) → list_all test (arrives L) ≡ true
+pass-arrives test lets L take =
+    pass-some-is test (free_slot L) (λ k. in_order (slots_see (Claim k None) ∷ does (Take (Direct k)) ∷ [])) (does (Refuse (closing 1008 TableFull))) L
+    (λ k free. pass-takes test lets k (take k free) L) (lets-rule test lets (does (Refuse (closing 1008 TableFull))) (λ M. refl) L)
 
 quiet-ticks_link : (a : Made) (name : LinkName) → Quiet (ticks_link a name)
 quiet-ticks_link a name =

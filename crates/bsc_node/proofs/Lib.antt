@@ -11,5 +11,6 @@ pub mod Calm
 pub mod Quiet
 pub mod Heard
 pub mod Proper
+pub mod Following
 pub mod Sending
 pub mod Delivering

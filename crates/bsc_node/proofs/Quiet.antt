@@ -1,4 +1,4 @@
--- Which rules are quiet: they neither deliver, nor put an Encapsulated-NPDU, nor bring a slot up.
+-- Which rules are quiet: they neither deliver, nor put an Encapsulated-NPDU, nor begin a direct connection, nor bring a slot up.
 use Rattle.std.proofs.Common.{◌≡◌, ℕ, Bool, true, false, not, ◌&&◌, List, [], ◌∷◌, ◌++◌, Option, Some, None, refl, ap, sym, ◌∙◌}
 use Rattle.std.specs.Prelude.{map, unwrap_or}
 use Rattle.std.specs.List.{list_all}
@@ -24,7 +24,7 @@ use Rattle.bsc_node.specs.declared.link_name.LinkName.TheVariants.{Hub, Direct}
 use Rattle.bsc_node.specs.declared.note.Note.{Note}
 use Rattle.bsc_node.specs.declared.note.Note.TheVariants.{HubNow, DirectDown, Finished, Renewed, NoRandom}
 use Rattle.bsc_node.specs.declared.action.Action.{Action}
-use Rattle.bsc_node.specs.declared.action.Action.TheVariants.{Dial, Put, Close, Deliver, Tell, Draw}
+use Rattle.bsc_node.specs.declared.action.Action.TheVariants.{Dial, Take, Put, Close, Deliver, Tell, Draw}
 use Rattle.bsc_node.specs.Logs.{Made, Line, did, slot, initiating, accepting, Log, Rule, nothing, in_order, either, when, where_found, does, tells, own_vmac, now, next_id, is_finishing}
 use Rattle.bsc_node.specs.Links.{names, is_there, none_there, was_taken, start, initiating_events, accepting_events, by_machine, opens, ticks, finishes, Outcome, puts, puts_and_closes, closes, meets, is_refused, passes_up, keeps_still, outcome}
 use Rattle.bsc_node.specs.Hubs.{hub_use, hub_use_before, is_up, is_dropped, newest_step, told, same_use}
@@ -39,6 +39,8 @@ use Rattle.bsc_node.proofs.Calm.{is_npdu, is_calm, calm-tick, calm-finish, calm-
 abbrev pub is_quiet_action : Action → Bool
 is_quiet_action (Put name o) = not (is_npdu o)
 is_quiet_action (Deliver delivered) = false
+is_quiet_action (Dial (Direct k) uri) = false
+is_quiet_action (Take name) = false
 is_quiet_action action = true
 
 abbrev pub is_quiet_call : SlotCall → Bool

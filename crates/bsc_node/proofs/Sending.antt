@@ -38,26 +38,8 @@ use Rattle.bsc_node.proofs.Told.{outcome-initiating, was_taken-initiating}
 use Rattle.bsc_node.proofs.Calm.{is_npdu, is_calm, calm-opened}
 use Rattle.bsc_node.proofs.Proper.{is_proper, proper-hears}
 use Rattle.bsc_node.proofs.Quiet.{is_quiet_action, is_quiet, Quiet, quiet-machine, quiet-tells_connector, quiet-ends, quiet-closes_link, quiet-is_refused_by, quiet-renews, quiet-keeps_vmac}
-use Rattle.bsc_node.proofs.Heard.{is_still, still-quiet, still-meets_peer, is_npdu_body, quiet-takes_body, quiet-resolves, quiet-solicits, quiet-directs, quiet-obeys, quiet-dial_fails, quiet-arrives, quiet-time_passes, quiet-is_to_end, pass-two-then}
-
--- ---- what an event is, once it came
-
--- the condition on an event speaks of what it is
-pub the_last : (p q r s : Bool) → (p && q && r && s) ≡ true → s ≡ true
-the_last true true true s h = h
-the_last true true false s h = cc
-the_last true false r s h = cc
-the_last false q r s h = cc
-
-the_middle : (p q r : Bool) → (p && not q && r) ≡ true → q ≡ false
-the_middle true false r h = refl
-the_middle true true r h = cc
-the_middle false q r h = cc
-
--- A link that opens was dialled.
-pub opened-dialled : (L : Log) (e : TimedEvent) (name : LinkName) → e.event ≡ Opened name → IsTrue (may_come L e) → was_taken name (with_event L e) ≡ false
-opened-dialled L e name is h = ap (λ o. unwrap_or o false) (newest_of-more (beginning_of name) L (came e))
-    ∙ the_middle (is_there name L) (was_taken name L) (not (has_opened name L)) (sym (ap (may_fit L) is) ∙ the_last (nat_le (now L) e.now) (nat_lt e.now (2 ^ 62)) (if brings_word e.event then awaits_word L else not (awaits_word L)) (may_fit L e.event) h)
+use Rattle.bsc_node.proofs.Following.{is_send, is_came, pass-follows, opened-dialled, goes_on-is, and_left, and_right, not_true}
+use Rattle.bsc_node.proofs.Heard.{LetsQuiet, lets-rule, pass-meets_peer, is_npdu_body, quiet-takes_body, pass-two-then}
 
 -- ---- lines that put no Encapsulated-NPDU
 
@@ -65,24 +47,17 @@ abbrev pub puts_none : Line → Bool
 puts_none (did action) = not (puts_npdu action)
 puts_none m = true
 
-still_puts_none_by : (action : Action) → is_quiet_action action ≡ true → not (puts_npdu action) ≡ true
-still_puts_none_by (Put name o) h = h
-still_puts_none_by (Deliver delivered) h = refl
-still_puts_none_by action h = refl
+quiet_puts_none_by : (action : Action) → is_quiet_action action ≡ true → not (puts_npdu action) ≡ true
+quiet_puts_none_by (Put name o) h = h
+quiet_puts_none_by (Deliver delivered) h = refl
+quiet_puts_none_by action h = refl
 
-still_puts_none : (m : Line) → is_still m ≡ true → puts_none m ≡ true
-still_puts_none (did action) h = still_puts_none_by action h
-still_puts_none m h = refl
-
-quiet_puts_none : (m : Line) → is_quiet m ≡ true → puts_none m ≡ true
-quiet_puts_none (did action) h = still_puts_none_by action h
+quiet_puts_none : LetsQuiet puts_none
+quiet_puts_none (did action) h = quiet_puts_none_by action h
 quiet_puts_none m h = refl
 
-none-still : (rule : Rule) → Passes is_still rule → Passes puts_none rule
-none-still rule p L = pass-weaker is_still puts_none still_puts_none (rule L) (p L)
-
 none-quiet : (rule : Rule) → Quiet rule → Passes puts_none rule
-none-quiet rule q = none-still rule (still-quiet rule q)
+none-quiet rule q = lets-rule puts_none quiet_puts_none rule q
 
 -- ---- a message that came
 
@@ -102,7 +77,7 @@ none-obeys_by a name (puts_and_closes o closing) h =
     pass-in_order puts_none (carries_out_by name (puts_and_closes o closing) ∷ ends a name ∷ [])
     (pass-in_order puts_none (does (Put name o) ∷ does (Close name closing) ∷ []) (none-does (Put name o) h, ((λ L. refl), tt)), (none-quiet (ends a name) (quiet-ends a name), tt))
 none-obeys_by a name (closes closing) h = none-quiet (closes_link a name closing) (quiet-closes_link a name closing)
-none-obeys_by a name (meets who) h = none-still (meets_peer a name who) (still-meets_peer a name who)
+none-obeys_by a name (meets who) h = pass-meets_peer puts_none quiet_puts_none (λ k w. refl) a name who
 none-obeys_by a name (is_refused origin code) h = none-quiet (is_refused_by a name origin code) (quiet-is_refused_by a name origin code)
 none-obeys_by a name (passes_up msg) h = none-takes_body a name msg msg.body
 none-obeys_by a name keeps_still h = pass-nothing puts_none
@@ -118,46 +93,10 @@ none-came a name o L =
 
 -- ---- every event but a Send
 
-abbrev pub is_send : NodeEvent → Bool
-is_send (Send dest npdu) = true
-is_send e = false
-
--- A link that opens puts its Connect-Request, and nothing else follows.
-pub quiet-opened : (a : Made) (name : LinkName) (M : Log) → was_taken name M ≡ false → list_all is_quiet (follows a (Opened name) M) ≡ true
-quiet-opened a name M h =
-    pass-two-then is_quiet (opens name) (obeys a name) [] M refl
-    (quiet-obeys a name (M ++ opens name M)
-    (ap is_calm (outcome-initiating a M name (InitOpened (now M) (next_id M)) h) ∙ calm-opened (start a (M ++ initiating name (InitOpened (now M) (next_id M)) ∷ []) name) (initiating_events M name) (now M) (next_id M))) tt
-
 none-follows : (a : Made) (M : Log) (ev : NodeEvent) → is_send ev ≡ false → ((name : LinkName) → ev ≡ Opened name → was_taken name M ≡ false) → list_all puts_none (follows a ev M) ≡ true
-none-follows a M Start s o = none-quiet (tells_connector a ConnectorStart) (quiet-tells_connector a ConnectorStart) M
-none-follows a M (Opened name) s o = pass-weaker is_quiet puts_none quiet_puts_none (follows a (Opened name) M) (quiet-opened a name M (o name refl))
-none-follows a M (DialFailed name) s o = none-quiet (dial_fails a name) (quiet-dial_fails a name) M
-none-follows a M Arrived s o = none-quiet arrives quiet-arrives M
 none-follows a M (Came name octets) s o = none-came a name octets M
-none-follows a M (CameText name) s o = none-quiet (closes_link a name (closing 1003 Nothing)) (quiet-closes_link a name (closing 1003 Nothing)) M
-none-follows a M (Lost name) s o = none-quiet (ends a name) (quiet-ends a name) M
-none-follows a M Tick s o = none-quiet (time_passes a) (quiet-time_passes a) M
 none-follows a M (Send dest npdu) s o = cc
-none-follows a M (Resolve v) s o = none-quiet (resolves a v) (quiet-resolves a v) M
-none-follows a M (DirectTo v) s o = none-quiet (directs v) (quiet-directs v) M
-none-follows a M (Solicit v) s o = none-quiet (solicits v) (quiet-solicits v) M
-none-follows a M Finish s o = none-quiet (is_to_end a) (quiet-is_to_end a) M
-none-follows a M (Random w) s o = none-quiet (renews a) (quiet-renews a) M
-none-follows a M NoRandom s o = none-quiet (keeps_vmac a) (quiet-keeps_vmac a) M
-
-pub and_left : (p q : Bool) → (p && q) ≡ true → p ≡ true
-and_left true q h = refl
-and_left false q h = h
-
-pub and_right : (p q : Bool) → (p && q) ≡ true → q ≡ true
-and_right true q h = h
-and_right false true h = refl
-and_right false false h = h
-
-pub not_true : (b : Bool) → not b ≡ true → b ≡ false
-not_true false h = refl
-not_true true h = sym h
+none-follows a M ev s o = pass-follows puts_none quiet_puts_none a M ev refl refl (record { dialled = o; next = λ name k is named uri. refl; dial = λ k free uri. refl; take = λ k free. refl })
 
 none_put_by : (m : Line) (lines : List Line) → puts_none m ≡ true → filter puts_npdu (filter_map action_of lines) ≡ [] → filter puts_npdu (filter_map action_of (m ∷ lines)) ≡ []
 none_put_by (did action) lines h rest =
@@ -167,10 +106,6 @@ none_put_by m lines h rest = rest
 none_put : (lines : List Line) → list_all puts_none lines ≡ true → filter puts_npdu (filter_map action_of lines) ≡ []
 none_put [] h = refl
 none_put (m ∷ lines) h = none_put_by m lines (and_left (puts_none m) (list_all puts_none lines) h) (none_put lines (and_right (puts_none m) (list_all puts_none lines) h))
-
--- what comes about at an event: the event, and what follows from it
-pub goes_on-is : (a : Made) (L : Log) (e : TimedEvent) → goes_on a e L ≡ came e ∷ follows a e.event (with_event L e)
-goes_on-is a L e = in_order-brought ((λ M. came e ∷ []) ∷ follows a e.event ∷ []) L ∙ ap (λ lines. came e ∷ lines) (append-nil (follows a e.event (with_event L e)))
 
 not_sent : (a : Made) (L : Log) (e : TimedEvent) → IsTrue (may_come L e) → is_send e.event ≡ false → npdus_put a L e ≡ []
 not_sent a L e h s =
