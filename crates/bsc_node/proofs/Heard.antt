@@ -91,7 +91,7 @@ calm_refuses a k L h =
     ap is_calm (outcome-accepting a L (Direct k) (RefusedEvent (DuplicateRefusal None)) h)
     ∙ calm-duplicate (start a (L ++ accepting (Direct k) (RefusedEvent (DuplicateRefusal None)) ∷ []) (Direct k)) (accepting_events L (Direct k))
 
-pass-refused : (test : Line → Bool) → LetsQuiet test → (a : Made) (k : ℕ) (L : Log) → was_taken (Direct k) L ≡ true → list_all test (in_order (refuses (Direct k) ∷ carries_out a (Direct k) ∷ ends a (Direct k) ∷ []) L) ≡ true
+pub pass-refused : (test : Line → Bool) → LetsQuiet test → (a : Made) (k : ℕ) (L : Log) → was_taken (Direct k) L ≡ true → list_all test (in_order (refuses (Direct k) ∷ carries_out a (Direct k) ∷ ends a (Direct k) ∷ []) L) ≡ true
 pass-refused test lets a k L h =
     pass-two-then test (refuses (Direct k)) (carries_out a (Direct k)) (ends a (Direct k) ∷ []) L (lets-rule test lets (refuses (Direct k)) (λ M. refl) L)
     (pass-carries test lets a k (L ++ refuses (Direct k) L) (calm_refuses a k L h)) (lets-rule test lets (ends a (Direct k)) (quiet-ends a (Direct k)), tt)

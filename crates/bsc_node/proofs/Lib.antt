@@ -14,3 +14,5 @@ pub mod Proper
 pub mod Following
 pub mod Sending
 pub mod Delivering
+pub mod Judged
+pub mod Slotting
