@@ -16,3 +16,4 @@ pub mod Sending
 pub mod Delivering
 pub mod Judged
 pub mod Slotting
+pub mod Named
