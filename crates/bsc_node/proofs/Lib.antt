@@ -17,3 +17,5 @@ pub mod Delivering
 pub mod Judged
 pub mod Slotting
 pub mod Named
+pub mod Lasting
+pub mod Apart
