@@ -1,6 +1,5 @@
 -- No two established slots have one VMAC or one device, and no broadcast goes over a slot.
-use Rattle.std.proofs.Common.{◌≡◌, ℕ, Bool, true, false, cond, List, [], ◌∷◌, find, Option, Some, None, refl, ap, sym, ◌∙◌}
-use Rattle.std.specs.Prelude.{IsTrue}
+use Rattle.std.proofs.Common.{◌≡◌, ℕ, false, List, Option, Some, None, refl, ap, sym, ◌∙◌}
 use Rattle.bsc_octets.specs.declared.identity.Identity.{Identity}
 use Rattle.bsc_octets.specs.Addresses.{same_vmac, broadcast}
 use Rattle.bsc_connector.specs.declared.hub_use.HubUse.{HubUse}
@@ -9,15 +8,12 @@ use Rattle.bsc_direct.specs.declared.call.SlotCall.{SlotCall}
 use Rattle.bsc_direct.specs.Slots.{slots, established_peer, is_peer, established}
 use Rattle.bsc_direct.specs.Standing.{PeersAreUnicast}
 use Rattle.bsc_direct.proofs.Finding.{none_found}
-use Rattle.bsc_switch.specs.declared.routes.Route.{Route}
-use Rattle.bsc_switch.specs.declared.routes.Route.TheVariants.{Direct as ByDirect, Hub, NoPath}
-use Rattle.bsc_switch.specs.Paths.{hub_path, slot_or, path}
-use Rattle.bsc_node.specs.declared.timed_event.TimedEvent.{TimedEvent}
+use Rattle.bsc_switch.specs.declared.routes.Route.TheVariants.{Direct as ByDirect}
+use Rattle.bsc_switch.specs.Paths.{hub_path, slot_or}
 use Rattle.bsc_node.specs.Logs.{Made}
 use Rattle.bsc_node.specs.Hubs.{hub_use}
 use Rattle.bsc_node.specs.Ways.{slot_calls}
 use Rattle.bsc_node.specs.Node.{log}
-use Rattle.bsc_node.specs.Conditions.{may_all_come}
 use Rattle.bsc_node.specs.Laws.{BroadcastsKeepOffSlots, SlotsKeepApart}
 use Rattle.bsc_node.proofs.Lasting.{fine-log}
 

@@ -1,5 +1,5 @@
 -- A node delivers at most the one message that came.
-use Rattle.std.proofs.Common.{◌≡◌, ℕ, Bool, true, false, not, cond, ◌&&◌, inl, inr, List, [], ◌∷◌, ◌++◌, Option, Some, None, refl, ap, sym, ◌∙◌}
+use Rattle.std.proofs.Common.{◌≡◌, ℕ, Bool, true, false, not, cond, inl, inr, List, [], ◌∷◌, ◌++◌, Option, Some, None, refl, ap, sym, ◌∙◌}
 use Rattle.std.specs.Prelude.{◌⊎◌, ◌==◌, IsTrue, filter, filter_map}
 use Rattle.std.specs.List.{list_all}
 use Rattle.std.proofs.lemmas.List.{append-nil}
@@ -10,8 +10,6 @@ use Rattle.bsc_frame.specs.declared.body.Body.{Body}
 use Rattle.bsc_frame.specs.declared.body.Body.TheVariants.{Npdu, DisconnectRequest, HeartbeatRequest, HeartbeatAck}
 use Rattle.bsc_checks.specs.declared.verdict.Verdict.{Verdict}
 use Rattle.bsc_checks.specs.declared.verdict.Verdict.TheVariants.{Pass, Carry, Silent, Nak}
-use Rattle.bsc_connector.specs.declared.event.ConnectorEvent.TheVariants.{Start as ConnectorStart}
-use Rattle.bsc_accept.specs.declared.reason.Reason.TheVariants.{Nothing as NoReason}
 use Rattle.bsc_accept.specs.declared.step.Step.{Step}
 use Rattle.bsc_accept.specs.declared.event.Event.{Event}
 use Rattle.bsc_accept.specs.declared.event.Event.TheVariants.{Message as AcceptMessage}
@@ -29,25 +27,25 @@ use Rattle.bsc_initiate.specs.Past.{Standing, awaiting_websocket, awaiting_accep
 use Rattle.bsc_initiate.specs.Steps.{answer_step, connected_step, passed_step, message_step}
 use Rattle.bsc_node.specs.declared.link_name.LinkName.{LinkName}
 use Rattle.bsc_node.specs.declared.node_event.NodeEvent.{NodeEvent}
-use Rattle.bsc_node.specs.declared.node_event.NodeEvent.TheVariants.{Start, Opened, DialFailed, Arrived, Came, CameText, Lost, Tick, Send, Resolve, DirectTo, Solicit, Finish, Random, NoRandom}
+use Rattle.bsc_node.specs.declared.node_event.NodeEvent.TheVariants.{Opened, Came, Send}
 use Rattle.bsc_node.specs.declared.timed_event.TimedEvent.{TimedEvent}
 use Rattle.bsc_node.specs.declared.note.Note.TheVariants.{NoPath, TooLong}
 use Rattle.bsc_node.specs.declared.action.Action.{Action}
 use Rattle.bsc_node.specs.declared.action.Action.TheVariants.{Put, Close, Deliver}
-use Rattle.bsc_node.specs.Logs.{Made, Line, came, did, initiating, accepting, Log, Rule, nothing, in_order, either, with_some, does, tells, now, action_of}
+use Rattle.bsc_node.specs.Logs.{Made, Line, did, Log, Rule, nothing, either, with_some, does, tells, now, action_of}
 use Rattle.bsc_node.specs.Links.{was_taken, initiating_events, accepting_events, by_machine, hears, verdict, Outcome, puts, puts_and_closes, closes, meets, is_refused, passes_up, keeps_still, initiating_outcome, accepting_outcome, outcome}
-use Rattle.bsc_node.specs.Ways.{Way, way}
-use Rattle.bsc_node.specs.Ending.{tells_connector, ends, closes_link, carries_out_by}
-use Rattle.bsc_node.specs.Meeting.{meets_peer, is_refused_by, renews, keeps_vmac}
+use Rattle.bsc_node.specs.Ways.{way}
+use Rattle.bsc_node.specs.Ending.{ends, closes_link, carries_out_by}
+use Rattle.bsc_node.specs.Meeting.{is_refused_by}
 use Rattle.bsc_node.specs.Receiving.{sender, delivers, takes_body}
-use Rattle.bsc_node.specs.Requesting.{puts_own, fits, sends, resolves, directs, solicits}
-use Rattle.bsc_node.specs.Events.{obeys_by, obeys, follows, dial_fails, arrives, time_passes, is_to_end}
+use Rattle.bsc_node.specs.Requesting.{puts_own, fits, sends}
+use Rattle.bsc_node.specs.Events.{obeys_by, obeys, follows}
 use Rattle.bsc_node.specs.Conditions.{may_come}
 use Rattle.bsc_node.specs.Laws.{with_event, delivers_npdu, delivered_at, IsDeliveredOnce, DeliversWhatCame}
 use Rattle.bsc_node.proofs.Order.{in_order-brought}
-use Rattle.bsc_node.proofs.Passing.{Passes, both, pass-in_order, pass-either, pass-nothing, pass-found, pass-weaker}
+use Rattle.bsc_node.proofs.Passing.{Passes, pass-in_order, pass-either, pass-nothing, pass-found}
 use Rattle.bsc_node.proofs.Told.{outcome-initiating, outcome-accepting}
-use Rattle.bsc_node.proofs.Quiet.{is_quiet_action, is_quiet, Quiet, quiet-tells_connector, quiet-ends, quiet-closes_link, quiet-is_refused_by, quiet-renews, quiet-keeps_vmac}
+use Rattle.bsc_node.proofs.Quiet.{is_quiet_action, Quiet, quiet-ends, quiet-closes_link, quiet-is_refused_by}
 use Rattle.bsc_node.proofs.Heard.{LetsQuiet, lets-rule, pass-meets_peer, quiet-takes_body}
 use Rattle.bsc_node.proofs.Following.{is_came, pass-follows, opened-dialled, goes_on-is, and_left, and_right, not_true}
 

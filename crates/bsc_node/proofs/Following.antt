@@ -1,43 +1,34 @@
 -- What follows from an event, by a test that quiet lines pass.
-use Rattle.std.proofs.Common.{◌≡◌, ℕ, Bool, true, false, not, cond, ◌&&◌, inl, inr, List, [], ◌∷◌, ◌++◌, Option, Some, None, refl, ap, sym, ◌∙◌}
-use Rattle.std.specs.Prelude.{◌⊎◌, IsTrue, ◌||◌, filter, filter_map, nat_le, nat_lt, ◌^◌, if◌then◌else◌, unwrap_or}
+use Rattle.std.proofs.Common.{◌≡◌, ℕ, Bool, true, false, not, ◌&&◌, List, [], ◌∷◌, ◌++◌, Some, refl, ap, sym, ◌∙◌}
+use Rattle.std.specs.Prelude.{IsTrue, nat_le, nat_lt, ◌^◌, if◌then◌else◌, unwrap_or}
 use Rattle.std.specs.List.{list_all}
 use Rattle.std.proofs.lemmas.List.{append-nil}
-use Rattle.bsc_octets.specs.declared.vmac.Vmac.{Vmac}
-use Rattle.bsc_octets.specs.declared.identity.Identity.{Identity}
-use Rattle.bsc_frame.specs.declared.message.Message.{Message}
-use Rattle.bsc_frame.specs.declared.body.Body.{Body}
-use Rattle.bsc_frame.specs.declared.body.Body.TheVariants.{Npdu}
 use Rattle.bsc_connector.proofs.BackLemmas.{newest_of-more}
 use Rattle.bsc_connector.specs.declared.event.ConnectorEvent.TheVariants.{Start as ConnectorStart}
 use Rattle.bsc_accept.specs.declared.reason.Reason.TheVariants.{Nothing}
 use Rattle.bsc_accept.specs.Steps.{closing}
-use Rattle.bsc_initiate.specs.declared.event.InitEvent.TheVariants.{Opened as InitOpened, Message as InitMessage}
-use Rattle.bsc_accept.specs.declared.event.Event.TheVariants.{Message as AcceptMessage}
+use Rattle.bsc_initiate.specs.declared.event.InitEvent.TheVariants.{Opened as InitOpened}
 use Rattle.bsc_node.specs.declared.link_name.LinkName.{LinkName}
 use Rattle.bsc_node.specs.declared.link_name.LinkName.TheVariants.{Direct}
 use Rattle.bsc_node.specs.declared.node_event.NodeEvent.{NodeEvent}
 use Rattle.bsc_node.specs.declared.node_event.NodeEvent.TheVariants.{Start, Opened, DialFailed, Arrived, Came, CameText, Lost, Tick, Send, Resolve, DirectTo, Solicit, Finish, Random, NoRandom}
 use Rattle.bsc_node.specs.declared.timed_event.TimedEvent.{TimedEvent}
-use Rattle.bsc_node.specs.declared.note.Note.TheVariants.{NoPath, TooLong}
-use Rattle.bsc_node.specs.declared.action.Action.{Action}
 use Rattle.bsc_node.specs.declared.action.Action.TheVariants.{Dial, Take}
-use Rattle.bsc_node.specs.Logs.{Made, Line, came, did, initiating, Log, Rule, nothing, in_order, either, if_so, with_some, does, tells, now, next_id, action_of}
-use Rattle.bsc_node.specs.Links.{is_there, was_taken, beginning_of, start, initiating_events, by_machine, opens, hears, verdict, Outcome, puts, puts_and_closes, closes, meets, is_refused, passes_up, keeps_still, outcome}
+use Rattle.bsc_node.specs.Logs.{Made, Line, came, did, initiating, Log, now, next_id}
+use Rattle.bsc_node.specs.Links.{is_there, was_taken, beginning_of, start, initiating_events, opens}
 use Rattle.bsc_node.specs.Ways.{free_slot}
-use Rattle.bsc_node.specs.Ending.{tells_connector, ends, closes_link, carries_out_by}
-use Rattle.bsc_node.specs.Meeting.{meets_peer, is_refused_by, renews, keeps_vmac}
-use Rattle.bsc_node.specs.Receiving.{sender, delivers, takes_body, takes_up}
-use Rattle.bsc_node.specs.Requesting.{own_message, puts_own, fits, sends, resolves, directs, solicits}
-use Rattle.bsc_node.specs.Events.{obeys_by, obeys, follows, dial_fails, arrives, time_passes, is_to_end}
-use Rattle.bsc_node.specs.Node.{goes_on, actions_at}
+use Rattle.bsc_node.specs.Ending.{tells_connector, ends, closes_link}
+use Rattle.bsc_node.specs.Meeting.{renews, keeps_vmac}
+use Rattle.bsc_node.specs.Requesting.{resolves, solicits}
+use Rattle.bsc_node.specs.Events.{obeys, follows, time_passes, is_to_end}
+use Rattle.bsc_node.specs.Node.{goes_on}
 use Rattle.bsc_node.specs.Conditions.{has_opened, awaits_word, brings_word, fits as may_fit, may_come}
 use Rattle.bsc_node.specs.Laws.{with_event}
-use Rattle.bsc_node.proofs.Order.{brought, in_order-brought}
-use Rattle.bsc_node.proofs.Passing.{Passes, both, pass-in_order, pass-nothing, pass-some, pass-weaker, pass-if}
-use Rattle.bsc_node.proofs.Told.{outcome-initiating, was_taken-initiating}
-use Rattle.bsc_node.proofs.Calm.{is_npdu, is_calm, calm-opened}
-use Rattle.bsc_node.proofs.Quiet.{is_quiet_action, is_quiet, Quiet, quiet-machine, quiet-tells_connector, quiet-ends, quiet-closes_link, quiet-is_refused_by, quiet-renews, quiet-keeps_vmac}
+use Rattle.bsc_node.proofs.Order.{in_order-brought}
+use Rattle.bsc_node.proofs.Passing.{pass-weaker}
+use Rattle.bsc_node.proofs.Told.{outcome-initiating}
+use Rattle.bsc_node.proofs.Calm.{is_calm, calm-opened}
+use Rattle.bsc_node.proofs.Quiet.{is_quiet, quiet-tells_connector, quiet-ends, quiet-closes_link, quiet-renews, quiet-keeps_vmac}
 use Rattle.bsc_node.proofs.Heard.{LetsQuiet, lets-rule, quiet-resolves, quiet-solicits, pass-directs, quiet-obeys, pass-dial_fails, pass-arrives, quiet-time_passes, quiet-is_to_end, pass-two-then}
 
 -- ---- what an event is, once it came

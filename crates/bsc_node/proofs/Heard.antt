@@ -1,13 +1,13 @@
 -- What follows from a message, from what the user wants, and from the other events: which of it is quiet, and which is not.
-use Rattle.std.proofs.Common.{◌≡◌, ℕ, Bool, true, false, not, cond, ◌&&◌, List, [], ◌∷◌, ◌++◌, Option, Some, None, refl, ap, sym, ◌∙◌}
-use Rattle.std.specs.Prelude.{⊤, ◌==◌, map}
+use Rattle.std.proofs.Common.{◌≡◌, ℕ, Bool, true, false, not, ◌&&◌, List, [], ◌∷◌, ◌++◌, Option, Some, None, refl, ap, ◌∙◌}
+use Rattle.std.specs.Prelude.{◌==◌, map}
 use Rattle.std.specs.List.{list_all}
 use Rattle.std.proofs.lemmas.List.Folds.{list_all-append}
 use Rattle.bsc_octets.specs.declared.vmac.Vmac.{Vmac}
 use Rattle.bsc_octets.specs.declared.identity.Identity.{Identity}
 use Rattle.bsc_frame.specs.declared.message.Message.{Message}
 use Rattle.bsc_frame.specs.declared.body.Body.{Body}
-use Rattle.bsc_frame.specs.declared.body.Body.TheVariants.{BvlcResult, Npdu, AddressResolution, AddressResolutionAck, Advertisement, AdvertisementSolicitation, DisconnectRequest, HeartbeatRequest, HeartbeatAck}
+use Rattle.bsc_frame.specs.declared.body.Body.TheVariants.{BvlcResult, Npdu, AddressResolution, AddressResolutionAck, Advertisement, AdvertisementSolicitation}
 use Rattle.bsc_frame.specs.declared.answer.Answer.{Answer}
 use Rattle.bsc_frame.specs.declared.answer.Answer.TheVariants.{Ack, Nak}
 use Rattle.bsc_resolve.specs.declared.call.ResolveCall.TheVariants.{Answered, Ask, Refused as RefusedCall}
@@ -25,22 +25,21 @@ use Rattle.bsc_direct.specs.declared.establish.Establish.TheVariants.{Up as IsUp
 use Rattle.bsc_node.specs.Messages.{nak, not_supported_code}
 use Rattle.bsc_node.specs.declared.link_name.LinkName.{LinkName}
 use Rattle.bsc_node.specs.declared.link_name.LinkName.TheVariants.{Hub, Direct}
-use Rattle.bsc_node.specs.declared.note.Note.TheVariants.{Uris, Advert as ToldAdvert, Nak as ToldNak, DirectUp, NoPath, NoDirect, NoUris, SlotsFull, TooLong}
-use Rattle.bsc_node.specs.declared.action.Action.{Action}
-use Rattle.bsc_node.specs.declared.action.Action.TheVariants.{Dial, Take, Refuse, Put, Deliver}
-use Rattle.bsc_node.specs.Logs.{Made, Line, did, slot, accepting, Log, Rule, nothing, in_order, either, if_so, when, with_some, where_found, does, tells, own_vmac, now, next_id}
+use Rattle.bsc_node.specs.declared.note.Note.TheVariants.{Uris, Advert as ToldAdvert, Nak as ToldNak, DirectUp, NoPath, NoDirect, NoUris, SlotsFull}
+use Rattle.bsc_node.specs.declared.action.Action.TheVariants.{Dial, Take, Refuse}
+use Rattle.bsc_node.specs.Logs.{Made, Line, did, slot, accepting, Log, Rule, nothing, in_order, either, if_so, with_some, where_found, does, tells, now, next_id}
 use Rattle.bsc_node.specs.Links.{names, is_there, was_taken, start, accepting_events, by_machine, ticks, Outcome, puts, puts_and_closes, closes, meets, is_refused, passes_up, keeps_still, outcome}
 use Rattle.bsc_node.specs.Ways.{Way, way, wanted, next_uri, free_slot, established, learnt, uris_to_dial, establish, awaits, ask_refusal, slots_see, resolution_sees}
 use Rattle.bsc_node.specs.Ending.{carries_out, carries_out_by, tells_connector, tells_finished, ends, closes_link, finishes_link}
-use Rattle.bsc_node.specs.Meeting.{joins, refuses, finishes_replaced, comes_up, meets_dialled, meets_taken, meets_direct, meets_peer, wrong_peer, is_refused_by}
-use Rattle.bsc_node.specs.Receiving.{sender, is_for_all, answers, answers_by, answers_question, delivers, learns, advertises, drops_question, takes_nak, takes_answer, of_sender, takes_body, takes_up}
-use Rattle.bsc_node.specs.Requesting.{own_message, puts_own, by_path, asks_unless, resolves, solicits, dials_first, directs, fits, sends}
-use Rattle.bsc_node.specs.Events.{obeys_by, obeys, tries_next, dial_fails, arrives, ticks_link, ticks_resolution, time_passes, is_to_end}
+use Rattle.bsc_node.specs.Meeting.{joins, refuses, finishes_replaced, comes_up, meets_dialled, meets_taken, meets_direct, meets_peer, wrong_peer}
+use Rattle.bsc_node.specs.Receiving.{sender, is_for_all, answers, answers_by, learns, drops_question, takes_answer, of_sender, takes_body}
+use Rattle.bsc_node.specs.Requesting.{puts_own, by_path, asks_unless, resolves, solicits, dials_first, directs}
+use Rattle.bsc_node.specs.Events.{obeys_by, obeys, dial_fails, arrives, ticks_link, ticks_resolution, time_passes, is_to_end}
 use Rattle.bsc_node.proofs.Order.{brought, in_order-brought}
-use Rattle.bsc_node.proofs.Passing.{Passes, PassEach, both, pass-brought, pass-in_order, pass-either, pass-nothing, pass-when, pass-found, pass-if, pass-some, pass-mapped, pass-each-append, pass-weaker}
+use Rattle.bsc_node.proofs.Passing.{Passes, PassEach, both, pass-brought, pass-in_order, pass-nothing, pass-when, pass-found, pass-if, pass-some, pass-mapped, pass-each-append, pass-weaker}
 use Rattle.bsc_node.proofs.Told.{outcome-accepting}
 use Rattle.bsc_node.proofs.Calm.{is_calm, calm-joined, calm-duplicate}
-use Rattle.bsc_node.proofs.Quiet.{is_quiet_action, is_quiet, Quiet, quiet-does, quiet-two, quiet-machine, quiet-carries, calm-ticked, quiet-tells_connector, quiet-tells_finished, quiet-ends, quiet-closes_link, quiet-finishes_link, quiet-is_refused_by}
+use Rattle.bsc_node.proofs.Quiet.{is_quiet, Quiet, quiet-two, quiet-machine, quiet-carries, calm-ticked, quiet-tells_connector, quiet-tells_finished, quiet-ends, quiet-closes_link, quiet-finishes_link, quiet-is_refused_by}
 
 -- ---- tests that quiet lines pass
 

@@ -8,12 +8,11 @@ use Rattle.bsc_octets.specs.Envelopes.{vmac_at}
 use Rattle.bsc_octets.specs.Identities.{identity_of}
 use Rattle.bsc_octets.specs.Forwarding.{function_in}
 use Rattle.bsc_frame.specs.declared.check.Check.{Check}
-use Rattle.bsc_frame.specs.declared.check.Check.TheVariants.{C6, C7, C7b, C8, C9, C10, C10b, C10c, C11, C12, C13}
+use Rattle.bsc_frame.specs.declared.check.Check.TheVariants.{C7, C7b, C8, C9, C10, C10b, C10c, C11, C12, C13}
 use Rattle.bsc_frame.specs.declared.message.Message.{Message}
 use Rattle.bsc_frame.specs.declared.body.Body.{Body}
 use Rattle.bsc_frame.specs.declared.body.Body.TheVariants.{ConnectRequest, ConnectAccept}
 use Rattle.bsc_checks.specs.declared.place.Place.{Place}
-use Rattle.bsc_checks.specs.declared.verdict.Verdict.{Verdict}
 use Rattle.bsc_checks.specs.declared.verdict.Verdict.TheVariants.{Pass}
 use Rattle.bsc_checks.specs.Places.{dest_in, is_to_carry}
 use Rattle.bsc_checks.specs.Table.{code_of, checks_of, head_checks, later_checks}

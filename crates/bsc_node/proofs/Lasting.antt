@@ -1,5 +1,5 @@
 -- What holds of the slots after every event: they are fine, and links begin only under the names of slots.
-use Rattle.std.proofs.Common.{◌≡◌, ℕ, Bool, true, false, not, cond, ◌&&◌, ◌||◌, List, [], ◌∷◌, ◌++◌, find, Option, Some, None, refl, ap, sym, ◌∙◌, subst, arith}
+use Rattle.std.proofs.Common.{◌≡◌, ℕ, Bool, true, false, not, cond, ◌&&◌, ◌||◌, List, [], ◌∷◌, ◌++◌, find, Some, None, refl, ap, sym, ◌∙◌, subst, arith}
 use Rattle.std.specs.Prelude.{◌^◌, ◌==◌, IsTrue, fold, filter_map, nat_le, nat_lt, if◌then◌else◌, is_some}
 use Rattle.std.specs.List.{list_all, list_any}
 use Rattle.std.proofs.lemmas.Bool.{eqb-true}
@@ -29,11 +29,11 @@ use Rattle.bsc_node.specs.declared.action.Action.{Action}
 use Rattle.bsc_node.specs.declared.action.Action.TheVariants.{Dial, Take, Put, Close, Deliver}
 use Rattle.bsc_node.specs.declared.delivered.Delivered.{Delivered}
 use Rattle.bsc_node.specs.declared.note.Note.TheVariants.{NoPath, TooLong}
-use Rattle.bsc_node.specs.Logs.{Made, Line, came, did, slot, Log, Rule, nothing, in_order, either, with_some, does, tells, now}
+use Rattle.bsc_node.specs.Logs.{Made, Line, came, did, Log, nothing, either, does, tells, now}
 use Rattle.bsc_node.specs.Links.{begins, is_over_by, life, is_there, was_taken, by_machine, hears, verdict, Outcome, puts, puts_and_closes, closes, meets, is_refused, passes_up, keeps_still, outcome}
-use Rattle.bsc_node.specs.Ways.{Way, way, slot_call_of, slot_calls, free_slot}
+use Rattle.bsc_node.specs.Ways.{way, slot_call_of, slot_calls, free_slot}
 use Rattle.bsc_node.specs.Ending.{carries_out_by, tells_connector, ends, closes_link}
-use Rattle.bsc_node.specs.Meeting.{meets_peer, is_refused_by, meets_direct}
+use Rattle.bsc_node.specs.Meeting.{is_refused_by}
 use Rattle.bsc_node.specs.Receiving.{sender, delivers, takes_body}
 use Rattle.bsc_node.specs.Requesting.{own_message, puts_own, fits, sends}
 use Rattle.bsc_node.specs.Events.{obeys_by, obeys, follows}
@@ -43,9 +43,9 @@ use Rattle.bsc_node.specs.Soundness.{is_in_slots}
 use Rattle.bsc_node.specs.Laws.{with_event, delivery}
 use Rattle.bsc_node.proofs.Order.{in_order-brought}
 use Rattle.bsc_node.proofs.Passing.{Passes, both, pass-in_order, pass-either, pass-found, pass-nothing, pass-some}
-use Rattle.bsc_node.proofs.Quiet.{is_quiet_action, is_quiet, Quiet, quiet-tells_connector, quiet-ends, quiet-closes_link, quiet-is_refused_by}
+use Rattle.bsc_node.proofs.Quiet.{is_quiet_action, quiet-tells_connector, quiet-ends, quiet-closes_link, quiet-is_refused_by}
 use Rattle.bsc_node.proofs.Heard.{LetsQuiet, lets-rule, pass-two-then, pass-meets_peer, quiet-takes_body}
-use Rattle.bsc_node.proofs.Following.{is_send, is_came, LetsEvent, pass-follows, opened-dialled, the_last, goes_on-is, and_left, and_right}
+use Rattle.bsc_node.proofs.Following.{pass-follows, opened-dialled, the_last, goes_on-is, and_left, and_right}
 use Rattle.bsc_node.proofs.Slotting.{SlotsFine, ups_none, quiet_ups_none, fine-lines, fine-meets_direct}
 use Rattle.bsc_node.proofs.Named.{met-unicast}
 
@@ -159,7 +159,7 @@ pass-sends : (test : Line → Bool) → LetsMessages test → (v : Vmac) (npdu :
 pass-sends test lets v npdu =
     pass-found test (way v) (λ w. either (fits w npdu) (puts_own w (Npdu npdu)) (tells (TooLong v))) (tells (NoPath v))
     (λ w. pass-either test (fits w npdu) (puts_own w (Npdu npdu)) (tells (TooLong v)) (λ L. both (test (did (Put w.link (own_message w (Npdu npdu) L)))) true (lets.put w.link (own_message w (Npdu npdu) L)) refl)
-      (lets-rule test lets.quiet (tells (TooLong v)) (λ L. refl)))
+    (lets-rule test lets.quiet (tells (TooLong v)) (λ L. refl)))
     (lets-rule test lets.quiet (tells (NoPath v)) (λ L. refl))
 
 pass-puts : (test : Line → Bool) → LetsMessages test → (name : LinkName) (o : List ℕ) → Passes test (does (Put name o))
@@ -208,7 +208,7 @@ slots_came : (a : Made) (name : LinkName) (o : List ℕ) (M : Log) → SlotsFine
 slots_came a name o M f here =
     subst (λ (told : List SlotCall). SlotsFine (slot_calls M ++ told)) (sym (came_calls a name o M))
     (subst (λ (calls : List SlotCall). SlotsFine (calls ++ filter_map slot_call_of (obeys a name (M ++ hears a name o M)))) (heard_calls a name o M)
-      (obeyed a name (M ++ hears a name o M) (outcome a (M ++ hears a name o M) name) (subst SlotsFine (sym (heard_calls a name o M)) f) here (λ who. met-unicast a name o M who)))
+    (obeyed a name (M ++ hears a name o M) (outcome a (M ++ hears a name o M) name) (subst SlotsFine (sym (heard_calls a name o M)) f) here (λ who. met-unicast a name o M who)))
 
 begins_came : (a : Made) (name : LinkName) (o : List ℕ) (M : Log) → list_all begins_in_slots (follows a (Came name o) M) ≡ true
 begins_came a name o M =
@@ -252,7 +252,7 @@ fine-goes_on a L e f h =
     (record {
       slots = subst SlotsFine (sym calls_are) (slots_follow a L e (with_event L e) e.event refl (f, h) (subst SlotsFine (sym event_calls) f.slots) (λ name is. opened-dialled L e name is h));
       begun = list_all-append begins_in_slots L (came e ∷ follows a e.event (with_event L e))
-        ∙ both (list_all begins_in_slots L) (list_all begins_in_slots (follows a e.event (with_event L e))) f.begun (begins_follow a L e (with_event L e) e.event refl (f, h) (λ name is. opened-dialled L e name is h));
+          ∙ both (list_all begins_in_slots L) (list_all begins_in_slots (follows a e.event (with_event L e))) f.begun (begins_follow a L e (with_event L e) e.event refl (f, h) (λ name is. opened-dialled L e name is h));
     })
   where
     event_calls : slot_calls (with_event L e) ≡ slot_calls L

@@ -1,5 +1,5 @@
 -- A peer names itself in the message that came, which passed.
-use Rattle.std.proofs.Common.{◌≡◌, ℕ, Bool, true, false, cond, List, [], ◌∷◌, ◌++◌, Option, Some, None, refl, ap, sym, ◌∙◌}
+use Rattle.std.proofs.Common.{◌≡◌, ℕ, Bool, true, false, cond, List, ◌++◌, Option, Some, None, refl, ap, sym, ◌∙◌}
 use Rattle.std.specs.Prelude.{◌==◌}
 use Rattle.bsc_octets.specs.declared.identity.Identity.{Identity}
 use Rattle.bsc_octets.specs.Addresses.{same_vmac, broadcast}
@@ -8,12 +8,10 @@ use Rattle.bsc_frame.specs.declared.body.Body.{Body}
 use Rattle.bsc_frame.specs.declared.body.Body.TheVariants.{ConnectRequest, ConnectAccept, DisconnectRequest, HeartbeatRequest, HeartbeatAck}
 use Rattle.bsc_checks.specs.declared.verdict.Verdict.{Verdict}
 use Rattle.bsc_checks.specs.declared.verdict.Verdict.TheVariants.{Pass, Carry, Silent, Nak}
-use Rattle.bsc_accept.specs.declared.event.Event.{Event}
 use Rattle.bsc_accept.specs.declared.event.Event.TheVariants.{Message as AcceptMessage}
 use Rattle.bsc_accept.specs.Messages.{who_asks, is_farewell_answer}
 use Rattle.bsc_accept.specs.Past as Accepting
 use Rattle.bsc_accept.specs.Steps as AcceptingSteps
-use Rattle.bsc_initiate.specs.declared.event.InitEvent.{InitEvent}
 use Rattle.bsc_initiate.specs.declared.event.InitEvent.TheVariants.{Message as InitMessage}
 use Rattle.bsc_initiate.specs.declared.step.InitStep.TheVariants.{Close as InitClose, Nothing as InitNothing}
 use Rattle.bsc_accept.specs.declared.step.Step.TheVariants.{Close as StepClose, Nothing as StepNothing}
@@ -22,7 +20,7 @@ use Rattle.bsc_initiate.specs.Past.{Standing, awaiting_websocket, awaiting_accep
 use Rattle.bsc_initiate.specs.Steps.{answer_step, connected_step, passed_step, message_step}
 use Rattle.bsc_node.specs.declared.link_name.LinkName.{LinkName}
 use Rattle.bsc_node.specs.Logs.{Made, Log, now}
-use Rattle.bsc_node.specs.Links.{was_taken, initiating_events, accepting_events, by_machine, hears, verdict, place, Outcome, meets, initiating_outcome, accepting_outcome, outcome}
+use Rattle.bsc_node.specs.Links.{was_taken, initiating_events, accepting_events, by_machine, hears, verdict, place, meets, initiating_outcome, accepting_outcome, outcome}
 use Rattle.bsc_node.proofs.Told.{outcome-initiating, outcome-accepting}
 use Rattle.bsc_node.proofs.Judged.{names, named-unicast}
 

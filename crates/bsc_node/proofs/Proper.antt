@@ -1,13 +1,12 @@
 -- A machine that hears a message never puts an Encapsulated-NPDU.
-use Rattle.std.proofs.Common.{◌≡◌, ℕ, Bool, true, false, not, cond, List, [], ◌∷◌, ◌++◌, ◌∙◌, Option, Some, None, refl, ap}
-use Rattle.std.specs.Prelude.{⊤, ◌==◌}
+use Rattle.std.proofs.Common.{◌≡◌, ℕ, Bool, true, false, not, cond, List, ◌++◌, ◌∙◌, Option, Some, None, refl, ap}
+use Rattle.std.specs.Prelude.{◌==◌}
 use Rattle.bsc_octets.specs.declared.identity.Identity.{Identity}
 use Rattle.bsc_frame.specs.declared.message.Message.{Message}
 use Rattle.bsc_frame.specs.declared.body.Body.{Body}
 use Rattle.bsc_frame.specs.declared.body.Body.TheVariants.{DisconnectRequest, HeartbeatRequest, HeartbeatAck}
 use Rattle.bsc_checks.specs.declared.verdict.Verdict.{Verdict}
 use Rattle.bsc_checks.specs.declared.verdict.Verdict.TheVariants.{Pass, Carry, Silent, Nak}
-use Rattle.bsc_accept.specs.declared.start.Start.{Start}
 use Rattle.bsc_accept.specs.declared.step.Step.{Step}
 use Rattle.bsc_accept.specs.declared.event.Event.{Event}
 use Rattle.bsc_accept.specs.declared.event.Event.TheVariants.{Message as AcceptMessage}
@@ -20,10 +19,10 @@ use Rattle.bsc_initiate.specs.declared.step.InitStep.{InitStep}
 use Rattle.bsc_initiate.specs.declared.step.InitStep.TheVariants.{Nothing}
 use Rattle.bsc_initiate.specs.Messages.{who_accepts, refusing_code}
 use Rattle.bsc_initiate.specs.Past.{Standing, awaiting_websocket, awaiting_accept, connected, disconnecting, standing}
-use Rattle.bsc_initiate.specs.Steps.{answer_step, connected_step, passed_step, message_step, step}
-use Rattle.bsc_node.specs.Logs.{Made, Line, initiating, accepting, Log, now}
+use Rattle.bsc_initiate.specs.Steps.{answer_step, connected_step, passed_step, message_step}
+use Rattle.bsc_node.specs.Logs.{Made, Log, now}
 use Rattle.bsc_node.specs.declared.link_name.LinkName.{LinkName}
-use Rattle.bsc_node.specs.Links.{was_taken, start, initiating_events, accepting_events, verdict, by_machine, hears, Outcome, puts, puts_and_closes, initiating_outcome, accepting_outcome, outcome, place}
+use Rattle.bsc_node.specs.Links.{was_taken, initiating_events, accepting_events, verdict, by_machine, hears, Outcome, puts, puts_and_closes, initiating_outcome, accepting_outcome, outcome, place}
 use Rattle.bsc_node.proofs.Told.{outcome-initiating, outcome-accepting}
 use Rattle.bsc_node.proofs.Calm.{is_npdu, IsNoNpdu, no_npdu-judged}
 

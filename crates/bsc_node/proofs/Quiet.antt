@@ -1,12 +1,10 @@
 -- Which rules are quiet: they neither deliver, nor put an Encapsulated-NPDU, nor begin a direct connection, nor bring a slot up.
-use Rattle.std.proofs.Common.{◌≡◌, ℕ, Bool, true, false, not, ◌&&◌, List, [], ◌∷◌, ◌++◌, Option, Some, None, refl, ap, sym, ◌∙◌}
-use Rattle.std.specs.Prelude.{map, unwrap_or}
+use Rattle.std.proofs.Common.{◌≡◌, ℕ, Bool, true, false, not, ◌&&◌, [], ◌∷◌, ◌++◌, Option, refl, ap, ◌∙◌}
+use Rattle.std.specs.Prelude.{unwrap_or}
 use Rattle.std.specs.List.{list_all}
 use Rattle.std.proofs.lemmas.List.Folds.{list_all-append}
 use Rattle.bsc_octets.specs.declared.vmac.Vmac.{Vmac}
 use Rattle.bsc_octets.specs.declared.identity.Identity.{Identity}
-use Rattle.bsc_frame.specs.declared.message.Message.{Message}
-use Rattle.bsc_frame.specs.declared.body.Body.{Body}
 use Rattle.bsc_connector.specs.declared.side.Side.{Side}
 use Rattle.bsc_connector.specs.declared.side.Side.TheVariants.{Primary, Failover}
 use Rattle.bsc_connector.specs.declared.event.ConnectorEvent.{ConnectorEvent}
@@ -15,24 +13,24 @@ use Rattle.bsc_accept.specs.declared.closing.Closing.{Closing}
 use Rattle.bsc_accept.specs.declared.event.Event.{Event}
 use Rattle.bsc_accept.specs.declared.event.Event.TheVariants.{Tick as AcceptTick, Finish as AcceptFinish}
 use Rattle.bsc_initiate.specs.declared.event.InitEvent.{InitEvent}
-use Rattle.bsc_initiate.specs.declared.event.InitEvent.TheVariants.{Opened, Tick as InitTick, Finish as InitFinish}
+use Rattle.bsc_initiate.specs.declared.event.InitEvent.TheVariants.{Tick as InitTick, Finish as InitFinish}
 use Rattle.bsc_accept.specs.Steps.{normal}
 use Rattle.bsc_direct.specs.declared.call.SlotCall.{SlotCall}
-use Rattle.bsc_direct.specs.declared.call.SlotCall.TheVariants.{Claim, Up, Release}
+use Rattle.bsc_direct.specs.declared.call.SlotCall.TheVariants.{Up, Release}
 use Rattle.bsc_node.specs.declared.link_name.LinkName.{LinkName}
 use Rattle.bsc_node.specs.declared.link_name.LinkName.TheVariants.{Hub, Direct}
 use Rattle.bsc_node.specs.declared.note.Note.{Note}
 use Rattle.bsc_node.specs.declared.note.Note.TheVariants.{HubNow, DirectDown, Finished, Renewed, NoRandom}
 use Rattle.bsc_node.specs.declared.action.Action.{Action}
-use Rattle.bsc_node.specs.declared.action.Action.TheVariants.{Dial, Take, Put, Close, Deliver, Tell, Draw}
+use Rattle.bsc_node.specs.declared.action.Action.TheVariants.{Dial, Take, Put, Close, Deliver, Draw}
 use Rattle.bsc_node.specs.Logs.{Made, Line, did, slot, initiating, accepting, Log, Rule, nothing, in_order, either, when, where_found, does, tells, own_vmac, now, next_id, is_finishing}
-use Rattle.bsc_node.specs.Links.{names, is_there, none_there, was_taken, start, initiating_events, accepting_events, by_machine, opens, ticks, finishes, Outcome, puts, puts_and_closes, closes, meets, is_refused, passes_up, keeps_still, outcome}
+use Rattle.bsc_node.specs.Links.{is_there, none_there, was_taken, start, initiating_events, accepting_events, by_machine, ticks, finishes, Outcome, puts, puts_and_closes, closes, meets, is_refused, passes_up, keeps_still, outcome}
 use Rattle.bsc_node.specs.Hubs.{hub_use, hub_use_before, is_up, is_dropped, newest_step, told, same_use}
 use Rattle.bsc_node.specs.Ways.{established_peer, slots_see}
 use Rattle.bsc_node.specs.Ending.{carries_out_by, carries_out, finishes_machine, dials, dials_primary, dials_failover, tells_use, drops_failover, tells_connector, ends_hub, ends_slot, tells_finished, ends_by, ends, closes_link, finishes_link}
 use Rattle.bsc_node.specs.Meeting.{tells_refusal, may_draw, is_refused_by, refusing_side, ends_refused, renews, keeps_vmac}
 use Rattle.bsc_node.proofs.Order.{in_order-brought}
-use Rattle.bsc_node.proofs.Passing.{Passes, PassEach, both, pass-in_order, pass-either, pass-nothing, pass-when, pass-found, pass-if, pass-mapped}
+use Rattle.bsc_node.proofs.Passing.{Passes, both, pass-in_order, pass-either, pass-nothing, pass-when, pass-found}
 use Rattle.bsc_node.proofs.Told.{outcome-initiating, outcome-accepting}
 use Rattle.bsc_node.proofs.Calm.{is_npdu, is_calm, calm-tick, calm-finish, calm-taken_tick, calm-taken_finish}
 

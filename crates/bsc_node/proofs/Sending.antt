@@ -1,45 +1,36 @@
 -- An Encapsulated-NPDU is put for a Send alone, at most once.
-use Rattle.std.proofs.Common.{◌≡◌, ℕ, Bool, true, false, not, cond, ◌&&◌, inl, inr, List, [], ◌∷◌, ◌++◌, Option, Some, None, refl, ap, sym, ◌∙◌}
-use Rattle.std.specs.Prelude.{◌⊎◌, IsTrue, ◌||◌, filter, filter_map, nat_le, nat_lt, ◌^◌, if◌then◌else◌, unwrap_or}
+use Rattle.std.proofs.Common.{◌≡◌, ℕ, Bool, true, false, not, cond, inl, inr, List, [], ◌∷◌, ◌++◌, Option, Some, None, refl, ap, ◌∙◌}
+use Rattle.std.specs.Prelude.{◌⊎◌, IsTrue, filter, filter_map}
 use Rattle.std.specs.List.{list_all}
-use Rattle.std.proofs.lemmas.List.{append-nil}
 use Rattle.bsc_octets.specs.declared.vmac.Vmac.{Vmac}
-use Rattle.bsc_octets.specs.declared.identity.Identity.{Identity}
 use Rattle.bsc_frame.specs.declared.message.Message.{Message}
 use Rattle.bsc_frame.specs.declared.body.Body.{Body}
 use Rattle.bsc_frame.specs.declared.body.Body.TheVariants.{Npdu}
-use Rattle.bsc_connector.proofs.BackLemmas.{newest_of-more}
-use Rattle.bsc_connector.specs.declared.event.ConnectorEvent.TheVariants.{Start as ConnectorStart}
-use Rattle.bsc_accept.specs.declared.reason.Reason.TheVariants.{Nothing}
 use Rattle.bsc_accept.specs.Steps.{closing}
-use Rattle.bsc_initiate.specs.declared.event.InitEvent.TheVariants.{Opened as InitOpened, Message as InitMessage}
+use Rattle.bsc_initiate.specs.declared.event.InitEvent.TheVariants.{Message as InitMessage}
 use Rattle.bsc_accept.specs.declared.event.Event.TheVariants.{Message as AcceptMessage}
 use Rattle.bsc_node.specs.declared.link_name.LinkName.{LinkName}
 use Rattle.bsc_node.specs.declared.node_event.NodeEvent.{NodeEvent}
-use Rattle.bsc_node.specs.declared.node_event.NodeEvent.TheVariants.{Start, Opened, DialFailed, Arrived, Came, CameText, Lost, Tick, Send, Resolve, DirectTo, Solicit, Finish, Random, NoRandom}
+use Rattle.bsc_node.specs.declared.node_event.NodeEvent.TheVariants.{Opened, Came, Send}
 use Rattle.bsc_node.specs.declared.timed_event.TimedEvent.{TimedEvent}
 use Rattle.bsc_node.specs.declared.note.Note.TheVariants.{NoPath, TooLong}
 use Rattle.bsc_node.specs.declared.action.Action.{Action}
-use Rattle.bsc_node.specs.declared.action.Action.TheVariants.{Put, Close, Deliver, Tell}
-use Rattle.bsc_node.specs.Logs.{Made, Line, came, did, initiating, Log, Rule, nothing, in_order, either, if_so, with_some, does, tells, now, next_id, action_of}
-use Rattle.bsc_node.specs.Links.{is_there, was_taken, beginning_of, start, initiating_events, by_machine, opens, hears, verdict, Outcome, puts, puts_and_closes, closes, meets, is_refused, passes_up, keeps_still, outcome}
+use Rattle.bsc_node.specs.declared.action.Action.TheVariants.{Put, Close, Deliver}
+use Rattle.bsc_node.specs.Logs.{Made, Line, did, Log, Rule, nothing, either, if_so, with_some, does, tells, now, action_of}
+use Rattle.bsc_node.specs.Links.{was_taken, by_machine, hears, verdict, Outcome, puts, puts_and_closes, closes, meets, is_refused, passes_up, keeps_still, outcome}
 use Rattle.bsc_node.specs.Ways.{Way, way}
-use Rattle.bsc_node.specs.Ending.{tells_connector, ends, closes_link, carries_out_by}
-use Rattle.bsc_node.specs.Meeting.{meets_peer, is_refused_by, renews, keeps_vmac}
-use Rattle.bsc_node.specs.Receiving.{sender, delivers, takes_body, takes_up}
-use Rattle.bsc_node.specs.Requesting.{own_message, puts_own, fits, sends, resolves, directs, solicits}
-use Rattle.bsc_node.specs.Events.{obeys_by, obeys, follows, dial_fails, arrives, time_passes, is_to_end}
-use Rattle.bsc_node.specs.Node.{goes_on, actions_at}
-use Rattle.bsc_node.specs.Conditions.{has_opened, awaits_word, brings_word, fits as may_fit, may_come}
+use Rattle.bsc_node.specs.Ending.{ends, closes_link, carries_out_by}
+use Rattle.bsc_node.specs.Meeting.{is_refused_by}
+use Rattle.bsc_node.specs.Receiving.{sender, delivers, takes_body}
+use Rattle.bsc_node.specs.Requesting.{puts_own, fits}
+use Rattle.bsc_node.specs.Events.{obeys_by, obeys, follows}
+use Rattle.bsc_node.specs.Conditions.{may_come}
 use Rattle.bsc_node.specs.Laws.{with_event, puts_npdu, npdus_put, IsPutOnce, NpdusArePutOnce}
-use Rattle.bsc_node.proofs.Order.{brought, in_order-brought}
-use Rattle.bsc_node.proofs.Passing.{Passes, both, pass-in_order, pass-nothing, pass-some, pass-weaker, pass-if}
-use Rattle.bsc_node.proofs.Told.{outcome-initiating, was_taken-initiating}
-use Rattle.bsc_node.proofs.Calm.{is_npdu, is_calm, calm-opened}
+use Rattle.bsc_node.proofs.Passing.{Passes, both, pass-in_order, pass-nothing, pass-some}
 use Rattle.bsc_node.proofs.Proper.{is_proper, proper-hears}
-use Rattle.bsc_node.proofs.Quiet.{is_quiet_action, is_quiet, Quiet, quiet-machine, quiet-tells_connector, quiet-ends, quiet-closes_link, quiet-is_refused_by, quiet-renews, quiet-keeps_vmac}
-use Rattle.bsc_node.proofs.Following.{is_send, is_came, pass-follows, opened-dialled, goes_on-is, and_left, and_right, not_true}
-use Rattle.bsc_node.proofs.Heard.{LetsQuiet, lets-rule, pass-meets_peer, is_npdu_body, quiet-takes_body, pass-two-then}
+use Rattle.bsc_node.proofs.Quiet.{is_quiet_action, Quiet, quiet-ends, quiet-closes_link, quiet-is_refused_by}
+use Rattle.bsc_node.proofs.Following.{is_send, pass-follows, opened-dialled, goes_on-is, and_left, and_right, not_true}
+use Rattle.bsc_node.proofs.Heard.{LetsQuiet, lets-rule, pass-meets_peer, quiet-takes_body, pass-two-then}
 
 -- ---- lines that put no Encapsulated-NPDU
 

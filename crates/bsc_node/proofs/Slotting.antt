@@ -1,20 +1,13 @@
 -- The established slots of a node: they stay apart, none has the broadcast address, and each is one of the node's.
-use Rattle.std.proofs.Common.{◌≡◌, ℕ, Bool, true, false, not, cond, ◌&&◌, ◌||◌, inl, inr, List, [], ◌∷◌, ◌++◌, find, Option, Some, None, refl, ap, sym, ◌∙◌, subst}
-use Rattle.std.specs.Prelude.{◌==◌, IsTrue, fold, filter_map, is_some}
+use Rattle.std.proofs.Common.{◌≡◌, ℕ, Bool, true, false, cond, ◌||◌, List, [], ◌∷◌, ◌++◌, find, Option, Some, None, refl, ap, sym, ◌∙◌, subst}
+use Rattle.std.specs.Prelude.{◌==◌, filter_map}
 use Rattle.std.specs.List.{list_all, list_any}
 use Rattle.std.proofs.lemmas.Bool.{eqb-true}
 use Rattle.std.proofs.lemmas.List.{append-nil, append_assoc}
 use Rattle.std.proofs.lemmas.List.Elements.{filter_map-append}
-use Rattle.std.proofs.lemmas.List.Folds.{list_all-append}
 use Rattle.bsc_octets.specs.declared.vmac.Vmac.{Vmac}
 use Rattle.bsc_octets.specs.declared.identity.Identity.{Identity}
 use Rattle.bsc_octets.specs.Addresses.{same_vmac, broadcast}
-use Rattle.bsc_frame.specs.declared.message.Message.{Message}
-use Rattle.bsc_frame.specs.declared.body.Body.{Body}
-use Rattle.bsc_frame.specs.declared.body.Body.TheVariants.{Npdu, ConnectRequest, ConnectAccept, DisconnectRequest, HeartbeatRequest, HeartbeatAck}
-use Rattle.bsc_checks.specs.declared.verdict.Verdict.{Verdict}
-use Rattle.bsc_checks.specs.declared.verdict.Verdict.TheVariants.{Pass, Carry, Silent, Nak}
-use Rattle.bsc_connector.specs.declared.side.Side.TheVariants.{Primary, Failover}
 use Rattle.bsc_direct.specs.declared.call.SlotCall.{SlotCall}
 use Rattle.bsc_direct.specs.declared.call.SlotCall.TheVariants.{Claim, Up, Release}
 use Rattle.bsc_direct.specs.declared.establish.Establish.{Establish}
@@ -23,28 +16,21 @@ use Rattle.bsc_direct.specs.Slots.{slots, established_peer, is_peer, established
 use Rattle.bsc_direct.specs.Slots as Slots
 use Rattle.bsc_direct.specs.Laws.{PeersAreApart}
 use Rattle.bsc_direct.specs.Standing.{PeersAreUnicast}
-use Rattle.bsc_direct.proofs.OneMore.{some_none, some_same, peer-before, peer-beside}
+use Rattle.bsc_direct.proofs.OneMore.{peer-before, peer-beside}
 use Rattle.bsc_direct.proofs.Keeping.{HasNoRival, quiet-apart, quiet-unicast, up-apart, up-unicast}
-use Rattle.bsc_accept.specs.declared.event.Event.{Event}
-use Rattle.bsc_accept.specs.declared.event.Event.TheVariants.{Message as AcceptMessage}
-use Rattle.bsc_initiate.specs.declared.event.InitEvent.{InitEvent}
-use Rattle.bsc_initiate.specs.declared.event.InitEvent.TheVariants.{Message as InitMessage}
 use Rattle.bsc_node.specs.declared.link_name.LinkName.{LinkName}
-use Rattle.bsc_node.specs.declared.link_name.LinkName.TheVariants.{Hub, Direct}
-use Rattle.bsc_node.specs.declared.node_event.NodeEvent.{NodeEvent}
-use Rattle.bsc_node.specs.declared.timed_event.TimedEvent.{TimedEvent}
+use Rattle.bsc_node.specs.declared.link_name.LinkName.TheVariants.{Direct}
 use Rattle.bsc_node.specs.declared.note.Note.TheVariants.{DirectUp}
-use Rattle.bsc_node.specs.declared.action.Action.{Action}
-use Rattle.bsc_node.specs.declared.action.Action.TheVariants.{Dial, Take, Put, Close}
-use Rattle.bsc_node.specs.Logs.{Made, Line, came, did, slot, accepting, Log, Rule, nothing, in_order, if_so, does, tells, own_vmac}
-use Rattle.bsc_node.specs.Links.{same_link, begins, was_taken, Outcome, puts, puts_and_closes, closes, meets, is_refused, passes_up, keeps_still, outcome}
-use Rattle.bsc_node.specs.Ways.{slot_call_of, slot_calls, free_slot, establish, slots_see}
+use Rattle.bsc_node.specs.declared.action.Action.TheVariants.{Put, Close}
+use Rattle.bsc_node.specs.Logs.{Made, Line, slot, Log, if_so, does, tells, own_vmac}
+use Rattle.bsc_node.specs.Links.{was_taken, Outcome, puts, puts_and_closes, closes, meets, is_refused, passes_up, keeps_still, outcome}
+use Rattle.bsc_node.specs.Ways.{slot_call_of, slot_calls, establish, slots_see}
 use Rattle.bsc_node.specs.Ending.{carries_out, carries_out_by, closes_link}
 use Rattle.bsc_node.specs.Meeting.{joins, finishes_replaced, comes_up, meets_dialled, meets_taken, meets_direct, wrong_peer}
 use Rattle.bsc_node.specs.Soundness.{is_in_slots}
 use Rattle.bsc_node.proofs.Order.{brought, in_order-brought}
-use Rattle.bsc_node.proofs.Passing.{both, pass-brought, pass-weaker}
-use Rattle.bsc_node.proofs.Quiet.{is_quiet_action, is_quiet_call, is_quiet, quiet-closes_link}
+use Rattle.bsc_node.proofs.Passing.{pass-brought}
+use Rattle.bsc_node.proofs.Quiet.{is_quiet_call, quiet-closes_link}
 use Rattle.bsc_node.proofs.Heard.{LetsQuiet, lets-rule, pass-after_up, pass-refused}
 use Rattle.bsc_node.proofs.Following.{and_left, and_right}
 

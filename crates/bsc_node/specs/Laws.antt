@@ -15,11 +15,11 @@ use Rattle.bsc_node.specs.declared.node_event.NodeEvent.TheVariants.{Came, Send}
 use Rattle.bsc_node.specs.declared.timed_event.TimedEvent.{TimedEvent}
 use Rattle.bsc_node.specs.declared.action.Action.{Action}
 use Rattle.bsc_node.specs.declared.action.Action.TheVariants.{Put, Deliver}
-use Rattle.bsc_node.specs.Logs.{Made, Line, came, Log}
+use Rattle.bsc_node.specs.Logs.{Made, came, Log}
 use Rattle.bsc_node.specs.Links.{verdict}
 use Rattle.bsc_node.specs.Hubs.{hub_use}
 use Rattle.bsc_node.specs.Ways.{Way, way, slot_calls}
-use Rattle.bsc_node.specs.Receiving.{is_for_all, sender}
+use Rattle.bsc_node.specs.Receiving.{is_for_all}
 use Rattle.bsc_node.specs.Requesting.{own_message}
 use Rattle.bsc_node.specs.Node.{actions_at, log}
 use Rattle.bsc_node.specs.Conditions.{may_come, may_all_come}
