@@ -41,7 +41,7 @@ use Rattle.bsc_node.specs.Receiving.{sender, delivers, takes_body}
 use Rattle.bsc_node.specs.Requesting.{puts_own, fits, sends}
 use Rattle.bsc_node.specs.Events.{obeys_by, obeys, follows}
 use Rattle.bsc_node.specs.Conditions.{may_come}
-use Rattle.bsc_node.specs.Laws.{with_event, delivers_npdu, delivered_at, IsDeliveredOnce, DeliversWhatCame}
+use Rattle.bsc_node.specs.Laws.{with_event, with_heard, delivers_npdu, delivered_at, IsDeliveredOnce, DeliversWhatCame}
 use Rattle.bsc_node.proofs.Order.{in_order-brought}
 use Rattle.bsc_node.proofs.Passing.{Passes, pass-in_order, pass-either, pass-nothing, pass-found}
 use Rattle.bsc_node.proofs.Told.{outcome-initiating, outcome-accepting}
@@ -184,20 +184,21 @@ none-obeys_by a name (is_refused origin code) h = none-quiet (is_refused_by a na
 none-obeys_by a name (passes_up msg) h = cc
 none-obeys_by a name keeps_still h = pass-nothing delivers_none
 
-by_sender : (a : Made) (L : Log) (e : TimedEvent) (name : LinkName) (o : List ℕ) (msg : Message) (npdu : List ℕ) (N : Log) → e.event ≡ Came name o → verdict a (with_event L e) name o ≡ Pass msg → msg.body ≡ Npdu npdu
-    → (v : Option Vmac) → delivered_at a L e ≡ delivered_by (with_some v (delivers msg npdu) nothing N) → (delivered_at a L e ≡ []) ⊎ IsDeliveredOnce a L e
-by_sender a L e name o msg npdu N is passed body None h = inl h
-by_sender a L e name o msg npdu N is passed body (Some v) h = inr (name, o, msg, npdu, v, is, passed, body, h)
+by_sender : (a : Made) (L : Log) (e : TimedEvent) (name : LinkName) (o : List ℕ) (msg : Message) (npdu : List ℕ) → e.event ≡ Came name o → verdict a (with_event L e) name o ≡ Pass msg → msg.body ≡ Npdu npdu
+    → (v : Option Vmac) → sender name msg (with_heard a L e name o) ≡ v → delivered_at a L e ≡ delivered_by (with_some v (delivers msg npdu) nothing (with_heard a L e name o)) → (delivered_at a L e ≡ []) ⊎ IsDeliveredOnce a L e
+by_sender a L e name o msg npdu is passed body None s h = inl h
+by_sender a L e name o msg npdu is passed body (Some v) s h = inr (name, o, msg, npdu, v, is, passed, body, s, h)
 
-by_body : (a : Made) (L : Log) (e : TimedEvent) (name : LinkName) (o : List ℕ) (msg : Message) (N : Log) → e.event ≡ Came name o → verdict a (with_event L e) name o ≡ Pass msg
-    → (body : Body) → msg.body ≡ body → delivered_at a L e ≡ delivered_by (takes_body a name msg body N) → (delivered_at a L e ≡ []) ⊎ IsDeliveredOnce a L e
-by_body a L e name o msg N is passed (Npdu npdu) b h = by_sender a L e name o msg npdu N is passed b (sender name msg N) h
-by_body a L e name o msg N is passed body b h = inl (h ∙ none_delivered (takes_body a name msg body N) (none-quiet (takes_body a name msg body) (quiet-takes_body a name msg body refl) N))
+by_body : (a : Made) (L : Log) (e : TimedEvent) (name : LinkName) (o : List ℕ) (msg : Message) → e.event ≡ Came name o → verdict a (with_event L e) name o ≡ Pass msg
+    → (body : Body) → msg.body ≡ body → delivered_at a L e ≡ delivered_by (takes_body a name msg body (with_heard a L e name o)) → (delivered_at a L e ≡ []) ⊎ IsDeliveredOnce a L e
+by_body a L e name o msg is passed (Npdu npdu) b h = by_sender a L e name o msg npdu is passed b (sender name msg (with_heard a L e name o)) refl h
+by_body a L e name o msg is passed body b h =
+    inl (h ∙ none_delivered (takes_body a name msg body (with_heard a L e name o)) (none-quiet (takes_body a name msg body) (quiet-takes_body a name msg body refl) (with_heard a L e name o)))
 
-by_outcome : (a : Made) (L : Log) (e : TimedEvent) (name : LinkName) (o : List ℕ) (N : Log) → e.event ≡ Came name o → ((msg : Message) → outcome a N name ≡ passes_up msg → verdict a (with_event L e) name o ≡ Pass msg)
-    → (u : Outcome) → outcome a N name ≡ u → delivered_at a L e ≡ delivered_by (obeys_by a name u N) → (delivered_at a L e ≡ []) ⊎ IsDeliveredOnce a L e
-by_outcome a L e name o N is up (passes_up msg) u h = by_body a L e name o msg N is (up msg u) msg.body refl h
-by_outcome a L e name o N is up other u h = inl (h ∙ none_delivered (obeys_by a name other N) (none-obeys_by a name other refl N))
+by_outcome : (a : Made) (L : Log) (e : TimedEvent) (name : LinkName) (o : List ℕ) → e.event ≡ Came name o → ((msg : Message) → outcome a (with_heard a L e name o) name ≡ passes_up msg → verdict a (with_event L e) name o ≡ Pass msg)
+    → (u : Outcome) → outcome a (with_heard a L e name o) name ≡ u → delivered_at a L e ≡ delivered_by (obeys_by a name u (with_heard a L e name o)) → (delivered_at a L e ≡ []) ⊎ IsDeliveredOnce a L e
+by_outcome a L e name o is up (passes_up msg) u h = by_body a L e name o msg is (up msg u) msg.body refl h
+by_outcome a L e name o is up other u h = inl (h ∙ none_delivered (obeys_by a name other (with_heard a L e name o)) (none-obeys_by a name other refl (with_heard a L e name o)))
 
 -- what the machine is told delivers nothing
 machine_delivers : (b : Bool) (dialled : LinkName → InitEvent) (taken : LinkName → Event) (name : LinkName) (lines : List Line) → delivered_by (by_machine dialled taken name b ++ lines) ≡ delivered_by lines
@@ -212,7 +213,7 @@ came_delivers a M name o =
 
 is_came_by : (a : Made) (L : Log) (e : TimedEvent) (name : LinkName) (o : List ℕ) → e.event ≡ Came name o → (delivered_at a L e ≡ []) ⊎ IsDeliveredOnce a L e
 is_came_by a L e name o is =
-    by_outcome a L e name o (with_event L e ++ hears a name o (with_event L e)) is (up-came a name o (with_event L e)) (outcome a (with_event L e ++ hears a name o (with_event L e)) name) refl
+    by_outcome a L e name o is (up-came a name o (with_event L e)) (outcome a (with_heard a L e name o) name) refl
     (ap delivered_by (goes_on-is a L e) ∙ ap (λ (ev : NodeEvent). delivered_by (follows a ev (with_event L e))) is ∙ came_delivers a (with_event L e) name o)
 
 -- ---- all events
