@@ -1,10 +1,10 @@
 -- Which steps of a machine are calm: they neither put an Encapsulated-NPDU, nor have a message for the node, nor name a peer.
-use Rattle.std.proofs.Common.{◌≡◌, ℕ, Bool, true, false, not, cond, ◌&&◌, List, [], ◌∷◌, Option, Some, None, refl, ap, sym, ◌∙◌}
+use Rattle.std.proofs.Common.{◌≡◌, ℕ, Bool, true, false, not, cond, ◌&&◌, List, Option, Some, None, refl}
 use Rattle.std.specs.Prelude.{⊤, ◌==◌, slice_index}
 use Rattle.bsc_frame.specs.declared.check.Check.{Check}
 use Rattle.bsc_checks.specs.declared.place.Place.{Place}
 use Rattle.bsc_checks.specs.declared.verdict.Verdict.{Verdict}
-use Rattle.bsc_checks.specs.declared.verdict.Verdict.TheVariants.{Pass, Carry, Silent, Nak}
+use Rattle.bsc_checks.specs.declared.verdict.Verdict.TheVariants.{Nak}
 use Rattle.bsc_checks.specs.Places.{dest_in, is_to_carry}
 use Rattle.bsc_octets.specs.Forwarding.{function_in}
 use Rattle.bsc_verdict.specs.Places.{is_unicast, is_response}

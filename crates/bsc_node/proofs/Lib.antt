@@ -8,3 +8,14 @@ pub mod Order
 pub mod Passing
 pub mod Told
 pub mod Calm
+pub mod Quiet
+pub mod Heard
+pub mod Proper
+pub mod Following
+pub mod Sending
+pub mod Delivering
+pub mod Judged
+pub mod Slotting
+pub mod Named
+pub mod Lasting
+pub mod Apart

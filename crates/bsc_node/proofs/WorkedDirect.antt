@@ -3,7 +3,6 @@ use Rattle.std.proofs.Common.{◌≡◌, ℕ, true, false, List, [], ◌∷◌, 
 use Rattle.std.specs.Prelude.{codes, drop}
 use Rattle.bsc_octets.specs.Addresses.{broadcast}
 use Rattle.bsc_options.specs.declared.item.OptionItem.{OptionItem}
-use Rattle.bsc_frame.specs.declared.message.Message.{Message}
 use Rattle.bsc_frame.specs.declared.body.Body.TheVariants.{BvlcResult, Npdu, AddressResolution, AddressResolutionAck, Advertisement, AdvertisementSolicitation, ConnectRequest, ConnectAccept, DisconnectRequest, DisconnectAck, HeartbeatRequest, HeartbeatAck}
 use Rattle.bsc_connector.specs.declared.hub_use.HubUse.TheVariants.{NoHub, Primary as UsesPrimary}
 use Rattle.bsc_accept.specs.declared.reason.Reason.TheVariants.{Nothing, TableFull, WrongPeer, Idle, ConnectWait}
@@ -246,8 +245,16 @@ addressed : drop 14 (each_actions the_node (meets ++ hears 33 (direct 0) (from 1
 unfolding node_on_literals
 addressed = refl
 
--- Another peer than the wanted one: the link is closed, and nothing was up.
-wrong_peer : actions the_node (dials ++ hears 32 (direct 0) (plain 4 (ConnectAccept c)) ∷ []) ≡ Close (direct 0) (closing 1008 WrongPeer) ∷ []
+-- Another peer than the wanted one: the link is closed, and nothing was up. Messages for either go over the hub, and the
+-- slot is free again.
+wrong_peer :
+    drop 13
+    (each_actions the_node (dials ++ hears 32 (direct 0) (plain 4 (ConnectAccept c)) ∷ at 33 (Send (address 10) (1 ∷ 0 ∷ [])) ∷ at 34 (Send (address 12) (1 ∷ 0 ∷ [])) ∷ at 35 Arrived ∷ []))
+    ≡ (Close (direct 0) (closing 1008 WrongPeer) ∷ [])
+    ∷ (Put primary (for_node 10 5 (Npdu (1 ∷ 0 ∷ []))) ∷ [])
+    ∷ (Put primary (for_node 12 6 (Npdu (1 ∷ 0 ∷ []))) ∷ [])
+    ∷ (Take (direct 0) ∷ [])
+    ∷ []
 unfolding node_on_literals
 wrong_peer = refl
 

@@ -1,5 +1,5 @@
 -- Scenes of a node that is told to finish, in each state of its links, by computation.
-use Rattle.std.proofs.Common.{◌≡◌, ℕ, true, List, [], ◌∷◌, ◌++◌, refl}
+use Rattle.std.proofs.Common.{◌≡◌, ℕ, true, List, [], ◌∷◌, ◌++◌, refl, arith}
 use Rattle.bsc_frame.specs.declared.body.Body.TheVariants.{AddressResolutionAck, ConnectRequest, ConnectAccept, DisconnectRequest, DisconnectAck}
 use Rattle.bsc_connector.specs.declared.hub_use.HubUse.TheVariants.{NoHub, Primary as UsesPrimary}
 use Rattle.bsc_accept.specs.Steps.{normal}
@@ -12,8 +12,11 @@ use Rattle.bsc_node.specs.Node.{each_actions, actions}
 use Rattle.bsc_node.specs.Conditions.{may_all_come}
 use Rattle.bsc_node.specs.Soundness.{is_always_sound}
 use Rattle.std.specs.Prelude.{◌&&◌, codes, drop}
+use Rattle.bsc_node.specs.Making.{MayBeMade}
+use Rattle.bsc_octets.specs.Addresses.{same_vmac, zero_vmac, broadcast}
+use Rattle.bsc_verdict.proofs.Reflecting.{fails_of, one_address, text}
 use Rattle.bsc_node.proofs.OnLiterals.{node_on_literals}
-use Rattle.bsc_node.proofs.Scenes.{alone, peer, a, b, from, address, node, with_failover, primary_uri, plain, accept, primary, failover, direct, at, hears, puts, connects}
+use Rattle.bsc_node.proofs.Scenes.{alone, peer, a, b, from, address, node, with_failover, primary_uri, failover_uri, plain, accept, primary, failover, direct, at, hears, puts, connects}
 
 abbrev two_hubs : Made
 two_hubs = node with_failover
@@ -162,3 +165,18 @@ both = at 0 Start ∷ at 100 (DialFailed primary) ∷ at 2100 Tick ∷ at 2200 F
 under_way-lawful : (may_all_come two_hubs both && is_always_sound two_hubs both) ≡ true
 unfolding node_on_literals
 under_way-lawful = refl
+
+-- ---- what a node may be made with
+
+-- B with a failover and these settings may be made.
+may_be_made : MayBeMade (node with_failover)
+unfolding node_on_literals
+may_be_made = record {
+  own = record { address = refl; device = refl; reserved = fails_of (b.vmac ≡ zero_vmac) (same_vmac b.vmac zero_vmac) (one_address b.vmac zero_vmac) refl; broadcast = fails_of (b.vmac ≡ broadcast) (same_vmac b.vmac broadcast) (one_address b.vmac broadcast) refl; bvlc = omega arith; npdu = omega arith };
+  primary = ((text primary_uri).holds refl, refl);
+  failover = ((text failover_uri).holds refl, refl);
+  uris = tt;
+  times = record { connect_wait = omega arith; disconnect_wait = omega arith; heartbeat = omega arith };
+  least = omega arith;
+  greatest = omega arith;
+}

@@ -72,6 +72,19 @@ before_accept :
 unfolding node_on_literals
 before_accept = refl
 
+-- A failover that was dropped while it was dialled is dialled anew, with a machine and a connect wait of its own.
+dropped_dialled :
+    drop 5
+    (each_actions two_hubs
+    (at 0 Start ∷ at 100 (DialFailed primary) ∷ at 2100 Tick ∷ at 2150 (Opened primary) ∷ hears 2200 primary (accept 1) ∷ at 3000 (Lost primary) ∷ at 3100 (Opened failover) ∷ at 12999 Tick ∷ at 13000 Tick ∷ []))
+    ≡ (Dial failover failover_uri ∷ Tell (HubNow NoHub) ∷ [])
+    ∷ (puts failover 2 (ConnectRequest b) ∷ [])
+    ∷ (Dial primary primary_uri ∷ [])
+    ∷ (Close failover connect_wait_over ∷ [])
+    ∷ []
+unfolding node_on_literals
+dropped_dialled = refl
+
 -- ---- a dropped failover whose link isn't over
 
 -- The failover was connected, and its Disconnect-Request is unanswered.

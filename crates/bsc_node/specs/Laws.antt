@@ -15,8 +15,8 @@ use Rattle.bsc_node.specs.declared.node_event.NodeEvent.TheVariants.{Came, Send}
 use Rattle.bsc_node.specs.declared.timed_event.TimedEvent.{TimedEvent}
 use Rattle.bsc_node.specs.declared.action.Action.{Action}
 use Rattle.bsc_node.specs.declared.action.Action.TheVariants.{Put, Deliver}
-use Rattle.bsc_node.specs.Logs.{Made, Line, came, Log}
-use Rattle.bsc_node.specs.Links.{verdict}
+use Rattle.bsc_node.specs.Logs.{Made, came, Log}
+use Rattle.bsc_node.specs.Links.{verdict, hears}
 use Rattle.bsc_node.specs.Hubs.{hub_use}
 use Rattle.bsc_node.specs.Ways.{Way, way, slot_calls}
 use Rattle.bsc_node.specs.Receiving.{is_for_all, sender}
@@ -62,11 +62,16 @@ delivered_at a L e = filter delivers_npdu (actions_at a L e)
 abbrev pub delivery : Message → List ℕ → Vmac → Delivered
 delivery msg npdu from = record { from = from; broadcast = is_for_all msg; data_options = msg.data_options; npdu = npdu }
 
+-- The log once an event brought these octets over the link, and its machine heard them.
+abbrev pub with_heard : Made → Log → TimedEvent → LinkName → List ℕ → Log
+with_heard a L e name o = with_event L e ++ hears a name o (with_event L e)
+
 -- At this event a message came that passed, with an NPDU, and this is delivered once, as its sender's.
 abbrev pub IsDeliveredOnce : Made → Log → TimedEvent → Type 0
 IsDeliveredOnce a L e =
     (name : LinkName) × (o : List ℕ) × (msg : Message) × (npdu : List ℕ) × (from : Vmac) × (e.event ≡ Came name o)
-    × (verdict a (with_event L e) name o ≡ Pass msg) × (msg.body ≡ Npdu npdu) × (delivered_at a L e ≡ Deliver (delivery msg npdu from) ∷ [])
+    × (verdict a (with_event L e) name o ≡ Pass msg) × (msg.body ≡ Npdu npdu) × (sender name msg (with_heard a L e name o) ≡ Some from)
+    × (delivered_at a L e ≡ Deliver (delivery msg npdu from) ∷ [])
 
 -- A node delivers at most the one message that came.
 abbrev pub DeliversWhatCame : Made → Type 0
