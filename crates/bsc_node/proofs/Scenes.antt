@@ -22,21 +22,23 @@ use Rattle.bsc_node.specs.declared.timed_event.TimedEvent.{TimedEvent}
 use Rattle.bsc_node.specs.declared.action.Action.{Action}
 use Rattle.bsc_node.specs.declared.action.Action.TheVariants.{Put}
 use Rattle.bsc_node.specs.Logs.{Made}
-use Rattle.bsc_node.proofs.Judging.{judge}
 
 -- ---- peers
 
 abbrev pub address : ℕ → Vmac
 address n = record { 0 = 2 ∷ 0 ∷ 0 ∷ 0 ∷ 0 ∷ n ∷ [] }
 
+-- a peer that takes messages of 1,600 octets and NPDUs of 1,497
 abbrev pub peer : ℕ → ℕ → Identity
 peer n u = record { vmac = address n; device = record { 0 = replicate 16 u }; max_bvlc = 1600; max_npdu = 1497 }
 
+-- the hubs: messages of 1,489 octets and NPDUs of 1,480
 abbrev pub hub : Identity
-hub = peer 0xFF 0x11
+hub = record (peer 0xFF 0x11) { max_bvlc = 1489; max_npdu = 1480 }
 
+-- A: messages of 1,400 octets and NPDUs of 600
 abbrev pub a : Identity
-a = peer 0x0A 0xAA
+a = record (peer 0x0A 0xAA) { max_bvlc = 1400; max_npdu = 600 }
 
 abbrev pub b : Identity
 b = peer 0x0B 0xBB
@@ -62,9 +64,9 @@ settings failover uris = record {
   greatest_wait = 30000;
 }
 
--- B with these settings, which knows these messages
-abbrev pub node : NodeLimits → List Message → Made
-node limits known = record { own = b; limits = limits; judge = judge known }
+-- B with these settings
+abbrev pub node : NodeLimits → Made
+node limits = record { own = b; limits = limits }
 
 abbrev pub alone : NodeLimits
 alone = settings None None

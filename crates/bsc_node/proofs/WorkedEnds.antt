@@ -1,46 +1,46 @@
 -- Scenes of a node that is told to finish, in each state of its links, by computation.
-use Rattle.std.proofs.Common.{◌≡◌, true, List, [], ◌∷◌, ◌++◌, refl}
-use Rattle.bsc_frame.specs.declared.body.Body.TheVariants.{ConnectRequest, ConnectAccept, DisconnectRequest, DisconnectAck}
+use Rattle.std.proofs.Common.{◌≡◌, ℕ, true, List, [], ◌∷◌, ◌++◌, refl}
+use Rattle.bsc_frame.specs.declared.body.Body.TheVariants.{AddressResolutionAck, ConnectRequest, ConnectAccept, DisconnectRequest, DisconnectAck}
 use Rattle.bsc_connector.specs.declared.hub_use.HubUse.TheVariants.{NoHub, Primary as UsesPrimary}
 use Rattle.bsc_accept.specs.Steps.{normal}
-use Rattle.bsc_direct.specs.Slots.{slots}
-use Rattle.bsc_node.specs.declared.node_event.NodeEvent.TheVariants.{Start, Opened, DialFailed, Arrived, Lost, Tick, Finish, Send}
+use Rattle.bsc_node.specs.declared.node_event.NodeEvent.TheVariants.{Start, Opened, DialFailed, Arrived, Lost, Tick, Finish, Send, Resolve, DirectTo}
 use Rattle.bsc_node.specs.declared.timed_event.TimedEvent.{TimedEvent}
 use Rattle.bsc_node.specs.declared.note.Note.TheVariants.{NoPath, HubNow, DirectUp, DirectDown, Finished}
 use Rattle.bsc_node.specs.declared.action.Action.TheVariants.{Dial, Take, Close, Tell}
 use Rattle.bsc_node.specs.Logs.{Made}
 use Rattle.bsc_node.specs.Node.{each_actions, actions}
 use Rattle.bsc_node.specs.Conditions.{may_all_come}
-use Rattle.bsc_node.specs.Laws.{is_always_sound}
-use Rattle.std.specs.Prelude.{◌&&◌}
-use Rattle.bsc_node.proofs.Scenes.{alone, a, b, address, node, with_failover, primary_uri, plain, accept, primary, failover, direct, at, hears, puts, connects}
+use Rattle.bsc_node.specs.Soundness.{is_always_sound}
+use Rattle.std.specs.Prelude.{◌&&◌, codes, drop}
+use Rattle.bsc_node.proofs.OnLiterals.{node_on_literals}
+use Rattle.bsc_node.proofs.Scenes.{alone, peer, a, b, from, address, node, with_failover, primary_uri, plain, accept, primary, failover, direct, at, hears, puts, connects}
 
 abbrev two_hubs : Made
-two_hubs = node with_failover (accept 1 ∷ plain 2 DisconnectAck ∷ plain 1 (ConnectRequest a) ∷ plain 3 DisconnectAck ∷ [])
+two_hubs = node with_failover
 
 -- No link is there: it has ended at once.
 no_link : actions two_hubs (at 0 Finish ∷ []) ≡ Tell Finished ∷ []
-unfolding slots
+unfolding node_on_literals
 no_link = refl
 
 -- Between two attempts no link is there either.
-between_attempts : actions (node with_failover []) (at 0 Start ∷ at 100 (DialFailed primary) ∷ at 150 (DialFailed failover) ∷ at 200 Finish ∷ []) ≡ Tell Finished ∷ []
-unfolding slots
+between_attempts : actions (node with_failover) (at 0 Start ∷ at 100 (DialFailed primary) ∷ at 150 (DialFailed failover) ∷ at 200 Finish ∷ []) ≡ Tell Finished ∷ []
+unfolding node_on_literals
 between_attempts = refl
 
 -- AWAITING_WEBSOCKET: the link is closed; the failover isn't dialled any more.
 awaiting_websocket : actions two_hubs (at 0 Start ∷ at 3 Finish ∷ []) ≡ Close primary normal ∷ Tell Finished ∷ []
-unfolding slots
+unfolding node_on_literals
 awaiting_websocket = refl
 
 -- AWAITING_ACCEPT: the same.
 awaiting_accept : actions two_hubs (at 0 Start ∷ at 5 (Opened primary) ∷ at 6 Finish ∷ []) ≡ Close primary normal ∷ Tell Finished ∷ []
-unfolding slots
+unfolding node_on_literals
 awaiting_accept = refl
 
 -- Both hubs are under way: each is closed, and then it has ended.
 both_under_way : actions two_hubs (at 0 Start ∷ at 100 (DialFailed primary) ∷ at 2100 Tick ∷ at 2200 Finish ∷ []) ≡ Close primary normal ∷ Close failover normal ∷ Tell Finished ∷ []
-unfolding slots
+unfolding node_on_literals
 both_under_way = refl
 
 -- CONNECTED: a Disconnect-Request is put; DISCONNECTING: a second Finish does nothing. Its answer, the disconnect wait or
@@ -55,15 +55,15 @@ connected : each_actions two_hubs (asked ++ hears 10099 primary (plain 2 Disconn
     ∷ []
     ∷ (Close primary normal ∷ Tell (HubNow NoHub) ∷ Tell Finished ∷ [])
     ∷ []
-unfolding slots
+unfolding node_on_literals
 connected = refl
 
 by_wait : actions two_hubs (asked ++ at 10100 Tick ∷ []) ≡ Close primary normal ∷ Tell (HubNow NoHub) ∷ Tell Finished ∷ []
-unfolding slots
+unfolding node_on_literals
 by_wait = refl
 
 by_loss : actions two_hubs (asked ++ at 10100 (Lost primary) ∷ []) ≡ Tell (HubNow NoHub) ∷ Tell Finished ∷ []
-unfolding slots
+unfolding node_on_literals
 by_loss = refl
 
 -- A hub connection, an established direct connection and one that awaits its Connect-Request: in the order of the
@@ -79,14 +79,44 @@ with_slots :
     ∷ (Close (direct 0) normal ∷ Tell (DirectDown (address 10)) ∷ [])
     ∷ (Close primary normal ∷ Tell (HubNow NoHub) ∷ Tell Finished ∷ [])
     ∷ []
-unfolding slots
+unfolding node_on_literals
 with_slots = refl
+
+-- Six slots, each in another state: one that was dialled and is replaced (DISCONNECTING), one that was taken and is
+-- established, one that was taken and awaits its Connect-Request, one that was dialled and awaits its accept, one whose
+-- WebSocket isn't open, and the one that replaced the first.
+abbrev d : ℕ
+d = 13
+
+abbrev d_uri : List ℕ
+d_uri = codes "ws://d/"
+
+abbrev six_slots : List TimedEvent
+six_slots =
+    connects ++ at 20 (Resolve (address d)) ∷ hears 21 primary (from d 2 (AddressResolutionAck d_uri)) ∷ at 22 (DirectTo (address d)) ∷ at 23 (Opened (direct 0)) ∷ hears 24 (direct 0) (plain 3 (ConnectAccept (peer d 0xD0)))
+    ∷ at 25 Arrived ∷ hears 26 (direct 1) (plain 1 (ConnectRequest a)) ∷ at 27 Arrived ∷ at 28 (Resolve (address 12)) ∷ hears 29 primary (from 12 4 (AddressResolutionAck d_uri)) ∷ at 30 (DirectTo (address 12)) ∷ at 31 (Opened (direct 3))
+    ∷ at 32 (DirectTo (address 12)) ∷ at 33 Arrived ∷ hears 34 (direct 5) (plain 1 (ConnectRequest (peer d 0xD0))) ∷ []
+
+six_slots-finish :
+    drop 16
+    (each_actions (node alone)
+    (six_slots ++ at 100 Finish ∷ hears 101 (direct 1) (plain 8 DisconnectAck) ∷ hears 102 (direct 0) (plain 6 DisconnectAck) ∷ hears 103 primary (plain 7 DisconnectAck) ∷ hears 104 (direct 5) (plain 9 DisconnectAck) ∷ []))
+    ≡ (Take (direct 5) ∷ [])
+    ∷ (puts (direct 5) 1 (ConnectAccept b) ∷ Tell (DirectUp (address d)) ∷ puts (direct 0) 6 DisconnectRequest ∷ [])
+    ∷ (puts primary 7 DisconnectRequest ∷ puts (direct 1) 8 DisconnectRequest ∷ Close (direct 2) normal ∷ Close (direct 3) normal ∷ Close (direct 4) normal ∷ puts (direct 5) 9 DisconnectRequest ∷ [])
+    ∷ (Close (direct 1) normal ∷ Tell (DirectDown (address 10)) ∷ [])
+    ∷ (Close (direct 0) normal ∷ [])
+    ∷ (Close primary normal ∷ Tell (HubNow NoHub) ∷ [])
+    ∷ (Close (direct 5) normal ∷ Tell (DirectDown (address d)) ∷ Tell Finished ∷ [])
+    ∷ []
+unfolding node_on_literals
+six_slots-finish = refl
 
 -- ---- whole runs of a node without a failover
 
 -- It connects, is told to finish, and its Disconnect-Request stays unanswered.
 run_with_link :
-    each_actions (node alone (accept 1 ∷ []))
+    each_actions (node alone)
     (at 0 Start ∷ at 0 Tick ∷ at 50 Tick ∷ at 50 (Opened primary) ∷ hears 50 primary (accept 1) ∷ at 100 Tick ∷ at 100 Finish ∷ at 20000 Tick ∷ [])
     ≡ (Dial primary primary_uri ∷ [])
     ∷ []
@@ -97,15 +127,15 @@ run_with_link :
     ∷ (puts primary 2 DisconnectRequest ∷ [])
     ∷ (Close primary normal ∷ Tell (HubNow NoHub) ∷ Tell Finished ∷ [])
     ∷ []
-unfolding slots
+unfolding node_on_literals
 run_with_link = refl
 
 -- No link comes: it dials twice.
 run_without_link :
-    each_actions (node alone [])
+    each_actions (node alone)
     (at 0 Start ∷ at 0 Tick ∷ at 50 Tick ∷ at 50 (DialFailed primary) ∷ at 50 (Send (address 10) (1 ∷ 0 ∷ [])) ∷ at 2049 Tick ∷ at 2050 Tick ∷ at 2100 Tick ∷ at 2100 (DialFailed primary) ∷ at 2100 Finish ∷ [])
     ≡ (Dial primary primary_uri ∷ []) ∷ [] ∷ [] ∷ [] ∷ (Tell (NoPath (address 10)) ∷ []) ∷ [] ∷ (Dial primary primary_uri ∷ []) ∷ [] ∷ [] ∷ (Tell Finished ∷ []) ∷ []
-unfolding slots
+unfolding node_on_literals
 run_without_link = refl
 
 -- ---- the events of these scenes may come, and the log is sound after each
@@ -115,16 +145,20 @@ ends_with_slots =
     connects ++ at 20 Arrived ∷ hears 21 (direct 0) (plain 1 (ConnectRequest a)) ∷ at 22 Arrived ∷ at 100 Finish ∷ hears 101 (direct 0) (plain 3 DisconnectAck) ∷ hears 102 primary (plain 2 DisconnectAck) ∷ []
 
 with_slots-lawful : (may_all_come two_hubs ends_with_slots && is_always_sound two_hubs ends_with_slots) ≡ true
-unfolding slots
+unfolding node_on_literals
 with_slots-lawful = refl
 
+six_slots-lawful : (may_all_come (node alone) (six_slots ++ at 100 Finish ∷ []) && is_always_sound (node alone) (six_slots ++ at 100 Finish ∷ [])) ≡ true
+unfolding node_on_literals
+six_slots-lawful = refl
+
 asked-lawful : (may_all_come two_hubs (asked ++ at 10100 Tick ∷ []) && is_always_sound two_hubs (asked ++ at 10100 Tick ∷ [])) ≡ true
-unfolding slots
+unfolding node_on_literals
 asked-lawful = refl
 
 abbrev both : List TimedEvent
 both = at 0 Start ∷ at 100 (DialFailed primary) ∷ at 2100 Tick ∷ at 2200 Finish ∷ at 50000 Tick ∷ []
 
 under_way-lawful : (may_all_come two_hubs both && is_always_sound two_hubs both) ≡ true
-unfolding slots
+unfolding node_on_literals
 under_way-lawful = refl

@@ -7,7 +7,6 @@ use Rattle.bsc_octets.specs.Addresses.{random48_of}
 use Rattle.bsc_frame.specs.declared.message.Message.{Message}
 use Rattle.bsc_frame.specs.declared.body.Body.TheVariants.{ConnectRequest}
 use Rattle.bsc_accept.specs.Steps.{normal}
-use Rattle.bsc_direct.specs.Slots.{slots}
 use Rattle.bsc_node.specs.Messages.{nak}
 use Rattle.bsc_node.specs.declared.node_event.NodeEvent.TheVariants.{Start, Opened, Arrived, Lost, Tick, Random, NoRandom}
 use Rattle.bsc_node.specs.declared.timed_event.TimedEvent.{TimedEvent}
@@ -16,24 +15,20 @@ use Rattle.bsc_node.specs.declared.action.Action.TheVariants.{Dial, Close, Tell,
 use Rattle.bsc_node.specs.Logs.{Made}
 use Rattle.bsc_node.specs.Node.{each_actions, actions, log}
 use Rattle.bsc_node.specs.Conditions.{may_all_come}
-use Rattle.bsc_node.specs.Laws.{is_always_sound, hubs_are_sound}
+use Rattle.bsc_node.specs.Soundness.{is_always_sound, hubs_are_sound}
+use Rattle.bsc_node.proofs.OnLiterals.{node_on_literals}
 use Rattle.bsc_node.proofs.Scenes.{peer, alone, with_failover, failover_uri, primary_uri, plain, accept, primary, failover as failover_link, at, hears, puts}
-use Rattle.bsc_node.proofs.Judging.{judge}
 
 -- the NAK of the hub for the Connect-Request with this Message ID
 abbrev refusal : ℕ → Message
 refusal id = plain id (nak 0x06 151)
-
--- the refusals of ten Connect-Requests
-abbrev refusals : List Message
-refusals = refusal 1 ∷ refusal 2 ∷ refusal 3 ∷ refusal 4 ∷ refusal 5 ∷ refusal 6 ∷ refusal 7 ∷ refusal 8 ∷ refusal 9 ∷ accept 9 ∷ refusal 10 ∷ []
 
 -- a node of B's device with A's VMAC, which the hub refuses
 abbrev own : Identity
 own = peer 0x0A 0xBB
 
 abbrev the_node : Made
-the_node = record { own = own; limits = alone; judge = judge refusals }
+the_node = record { own = own; limits = alone }
 
 abbrev drawn : Vmac
 drawn = record { 0 = 0x52 ∷ 0x78 ∷ 0x9A ∷ 0xBC ∷ 0xDE ∷ 0xF0 ∷ [] }
@@ -57,7 +52,7 @@ renewed : each_actions the_node (refused ++ at 100 (Random word) ∷ at 2099 Tic
     ∷ (Dial primary primary_uri ∷ [])
     ∷ (puts primary 2 (ConnectRequest (record own { vmac = drawn })) ∷ [])
     ∷ []
-unfolding slots
+unfolding node_on_literals
 renewed = refl
 
 -- No word: the old VMAC stays.
@@ -67,12 +62,12 @@ not_renewed : each_actions the_node (refused ++ at 100 NoRandom ∷ at 2100 Tick
     ∷ (Dial primary primary_uri ∷ [])
     ∷ (puts primary 2 (ConnectRequest own) ∷ [])
     ∷ []
-unfolding slots
+unfolding node_on_literals
 not_renewed = refl
 
 -- While another link is there, nothing is drawn.
 other_link : actions the_node (at 0 Start ∷ at 5 (Opened primary) ∷ at 6 Arrived ∷ hears 100 primary (refusal 1) ∷ []) ≡ Close primary normal ∷ Tell (Nak None 6 151) ∷ []
-unfolding slots
+unfolding node_on_literals
 other_link = refl
 
 -- With a failover the failure that waited for the word dials it, and the new VMAC is its.
@@ -81,7 +76,7 @@ two_hubs : each_actions (record the_node { limits = with_failover }) (refused ++
     ++ (Tell (Renewed drawn) ∷ Dial failover_link failover_uri ∷ [])
     ∷ (puts failover_link 2 (ConnectRequest (record own { vmac = drawn })) ∷ [])
     ∷ []
-unfolding slots
+unfolding node_on_literals
 two_hubs = refl
 
 -- ---- eight renewals, and a ninth refusal
@@ -100,31 +95,31 @@ ninth = at 300000 Tick ∷ at 300001 (Opened primary) ∷ []
 
 -- The ninth refusal is told alone.
 eight-ninth : actions the_node (eight ++ ninth ++ hears 300002 primary (refusal 9) ∷ []) ≡ Close primary normal ∷ Tell (Nak None 6 151) ∷ []
-unfolding slots
+unfolding node_on_literals
 eight-ninth = refl
 
 -- The eighth drew.
 eight-eighth : actions the_node (refused ++ at 100 (Random 1) ∷ rounds 6 2 30100 ++ at 300000 Tick ∷ at 300001 (Opened primary) ∷ hears 300002 primary (refusal 8) ∷ [])
     ≡ Close primary normal ∷ Tell (Nak None 6 151) ∷ Draw ∷ []
-unfolding slots
+unfolding node_on_literals
 eight-eighth = refl
 
 -- ---- these events may come, and the log is sound after each
 
 eight-lawful : may_all_come the_node (eight ++ ninth ++ hears 300002 primary (refusal 9) ∷ at 310000 Tick ∷ []) ≡ true
-unfolding slots
+unfolding node_on_literals
 eight-lawful = refl
 
 eight-sound : hubs_are_sound the_node (log the_node (eight ++ ninth ++ hears 300002 primary (refusal 9) ∷ [])) ≡ true
-unfolding slots
+unfolding node_on_literals
 eight-sound = refl
 
 renewed-sound : is_always_sound the_node (refused ++ at 100 (Random word) ∷ at 2099 Tick ∷ at 2100 Tick ∷ at 2110 (Opened primary) ∷ []) ≡ true
-unfolding slots
+unfolding node_on_literals
 renewed-sound = refl
 
 -- A hub that accepts begins the count anew: after eight renewals and an accept, a refusal draws again.
 accepted_between : actions the_node (eight ++ ninth ++ hears 300002 primary (accept 9) ∷ at 300003 (Lost primary) ∷ at 400000 Tick ∷ at 400001 (Opened primary) ∷ hears 400002 primary (refusal 10) ∷ [])
     ≡ Close primary normal ∷ Tell (Nak None 6 151) ∷ Draw ∷ []
-unfolding slots
+unfolding node_on_literals
 accepted_between = refl

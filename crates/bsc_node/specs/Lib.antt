@@ -9,5 +9,7 @@ pub mod Receiving
 pub mod Requesting
 pub mod Events
 pub mod Node
+pub mod Making
 pub mod Conditions
+pub mod Soundness
 pub mod Laws

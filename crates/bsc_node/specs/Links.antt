@@ -31,6 +31,7 @@ use Rattle.bsc_accept.specs.Messages.{who_asks}
 use Rattle.bsc_accept.specs.Past as Accepting
 use Rattle.bsc_accept.specs.Steps as AcceptingSteps
 use Rattle.bsc_direct.specs.Slots.{slots}
+use Rattle.bsc_verdict.specs.Outcomes.{outcome_of}
 use Rattle.bsc_node.specs.declared.link_name.LinkName.{LinkName}
 use Rattle.bsc_node.specs.declared.link_name.LinkName.TheVariants.{Hub, Direct}
 use Rattle.bsc_node.specs.declared.node_event.NodeEvent.{NodeEvent}
@@ -154,9 +155,10 @@ abbrev pub place : Made → Log → LinkName → Place
 place a L (Hub s) = NodeHub (own_vmac a L) (phase L (Hub s))
 place a L (Direct k) = NodeDirect (own_vmac a L) (option_map (λ (who : Identity). who.vmac) (peer L (Direct k))) (phase L (Direct k))
 
--- What becomes of the octets that come over the link.
+-- What becomes of the octets that come over the link: the verdict of the checks at that place, where no message is to be
+-- longer than the node takes.
 abbrev pub verdict : Made → Log → LinkName → List ℕ → Verdict
-verdict a L name o = a.judge (place a L name) a.own.max_bvlc o
+verdict a L name o = outcome_of o (place a L name) a.own.max_bvlc
 
 -- ---- what a link's machine is told
 

@@ -8,8 +8,6 @@ use Rattle.bsc_octets.specs.declared.identity.Identity.{Identity}
 use Rattle.bsc_octets.specs.Addresses.{random48_of}
 use Rattle.bsc_connector.specs.Back.{newest_of}
 use Rattle.bsc_connector.specs.declared.event.HubEvent.{HubEvent}
-use Rattle.bsc_checks.specs.declared.place.Place.{Place}
-use Rattle.bsc_checks.specs.declared.verdict.Verdict.{Verdict}
 use Rattle.bsc_initiate.specs.declared.event.InitEvent.{InitEvent}
 use Rattle.bsc_accept.specs.declared.event.Event.{Event}
 use Rattle.bsc_resolve.specs.declared.call.ResolveCall.{ResolveCall}
@@ -23,12 +21,10 @@ use Rattle.bsc_node.specs.declared.note.Note.{Note}
 use Rattle.bsc_node.specs.declared.action.Action.{Action}
 use Rattle.bsc_node.specs.declared.action.Action.TheVariants.{Put, Tell}
 
--- What a node was made with: the identity and the settings that it was given, and how octets are judged at a place that takes
--- messages of at most so many octets. The judge stands for the checks of a message; no rule asks what is in it.
+-- What a node was made with: its identity and its settings.
 pub record Made : Type 0 where
   pub own : Identity
   pub limits : NodeLimits
-  pub judge : Place → ℕ → List ℕ → Verdict
 
 -- ---- logs
 

@@ -54,12 +54,12 @@ delivers msg npdu from = does (Deliver (record { from = from; broadcast = is_for
 
 -- A question for the node's URIs is answered by them; a node that accepts no direct connections answers a unicast by the
 -- NAK that the function isn't supported.
+abbrev pub answers_by : LinkName → Message → Option (List ℕ) → Rule
+answers_by name msg (Some uris) = answers name msg msg.id (AddressResolutionAck uris)
+answers_by name msg None = when (λ L. not (is_for_all msg)) (answers name msg msg.id (nak 0x02 not_supported_code))
+
 abbrev pub answers_question : Made → LinkName → Message → Rule
-answers_question a name msg = by a.limits.uris
-  where
-    by : Option (List ℕ) → Rule
-    by (Some uris) = answers name msg msg.id (AddressResolutionAck uris)
-    by None = when (λ L. not (is_for_all msg)) (answers name msg msg.id (nak 0x02 not_supported_code))
+answers_question a name msg = answers_by name msg a.limits.uris
 
 -- An answer to a question that is under way for the sender's URIs is told, and they are learnt.
 abbrev pub learns : Made → Message → List ℕ → Vmac → Rule

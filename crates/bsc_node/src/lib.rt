@@ -6,6 +6,7 @@
 
 mod action;
 mod delivered;
+mod laws;
 mod link_name;
 mod node_event;
 mod node_limits;
@@ -14,6 +15,7 @@ mod timed_event;
 
 pub use action::Action;
 pub use delivered::Delivered;
+pub use laws::{delivers_what_came, npdus_are_put_once};
 pub use link_name::LinkName;
 pub use node_event::NodeEvent;
 pub use node_limits::NodeLimits;
