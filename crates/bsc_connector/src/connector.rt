@@ -2,8 +2,8 @@
 ghost use Rattle.std.specs.Prelude.{◌≡◌, ◌<◌, ◌^◌, List, []};
 ghost use Rattle.bsc_connector.specs.declared.waits.Waits.{Waits};
 ghost use Rattle.bsc_connector.specs.declared.event.HubEvent.{HubEvent};
-ghost use Rattle.bsc_connector.specs.Sides.{hub_use, is_up};
-ghost use Rattle.bsc_connector.specs.Kept.{says_up};
+ghost use Rattle.bsc_connector.specs.Sides.{hub_use, is_under_way, is_up};
+ghost use Rattle.bsc_connector.specs.Kept.{says_under_way, says_up};
 ghost use Rattle.bsc_connector.specs.Left.{LeftBy};
 ghost use Rattle.bsc_connector.specs.Standing.{StandsFor, Answers, MayCome, attempt_at};
 
@@ -73,6 +73,17 @@ impl Connector {
             HubUse::Failover
         } else {
             HubUse::NoHub
+        }
+    }
+
+    /// Whether an attempt at a side is under way.
+    pub fn is_under_way(&self, side: Side) -> bool
+        ensures told { (w : Waits) (E : List HubEvent) → StandsFor self.now w E → result ≡ is_under_way w side E }
+        ensures kept { result ≡ says_under_way (attempt_at self.now side) }
+    {
+        match side {
+            Side::Primary => self.primary.attempt == Attempt::UnderWay,
+            Side::Failover => self.failover.attempt == Attempt::UnderWay,
         }
     }
 

@@ -1,10 +1,10 @@
 //! What can be asked of the slots, and a copy of them.
-ghost use Rattle.std.specs.Prelude.{◌≡◌, ◌<◌, List, IfOk};
+ghost use Rattle.std.specs.Prelude.{◌≡◌, ◌<◌, ◌&&◌, List, IfOk, IsTrue, is_none};
 ghost use Rattle.bsc_direct.specs.declared.call.SlotCall.{SlotCall};
-ghost use Rattle.bsc_direct.specs.Slots.{establish, established_peer, free_slot, wanted};
+ghost use Rattle.bsc_direct.specs.Slots.{establish, established_peer, free_slot, is_claimed, wanted};
 ghost use Rattle.bsc_direct.specs.Kept.{says_peer, says_wanted, slot_at};
 ghost use Rattle.bsc_direct.specs.Left.{IsHeld};
-ghost use Rattle.bsc_direct.specs.Standing.{StandsFor};
+ghost use Rattle.bsc_direct.specs.Standing.{IsOnlyClaimed, StandsFor};
 
 use crate::direct::Direct;
 use crate::establish::Establish;
@@ -46,6 +46,15 @@ impl Direct {
         ensures { (calls : List SlotCall) → StandsFor self.now calls → result ≡ established_peer calls slot }
     {
         self.slot(slot).peer()
+    }
+
+    /// Whether a slot is claimed and not established.
+    pub fn awaits_peer(&self, slot: u32) -> bool
+        ensures kept { IsTrue result → IsOnlyClaimed self.now slot }
+        ensures told { (calls : List SlotCall) → StandsFor self.now calls
+            → result ≡ (is_claimed calls slot && is_none (established_peer calls slot)) }
+    {
+        self.slot(slot).awaits_peer()
     }
 
     /// What `establish` answers, with nothing established yet.

@@ -1,5 +1,5 @@
 //! What is kept of a slot.
-ghost use Rattle.std.specs.Prelude.{◌≡◌, not, ◌&&◌};
+ghost use Rattle.std.specs.Prelude.{◌≡◌, not, ◌&&◌, is_none};
 ghost use Rattle.bsc_octets.specs.Addresses.{same_vmac, same_device};
 ghost use Rattle.bsc_direct.specs.Slots.{is_peer, is_rival};
 ghost use Rattle.bsc_direct.specs.Kept.{says_claimed, says_wanted, says_peer, without_peer};
@@ -29,6 +29,16 @@ impl Slot {
         match self {
             Slot::Free => true,
             Slot::Claimed { .. } | Slot::Established { .. } => false,
+        }
+    }
+
+    /// Whether it is claimed and not established.
+    pub(crate) fn awaits_peer(&self) -> bool
+        ensures { result ≡ (says_claimed self.now && is_none (says_peer self.now)) }
+    {
+        match self {
+            Slot::Claimed { .. } => true,
+            Slot::Free | Slot::Established { .. } => false,
         }
     }
 

@@ -1,0 +1,27 @@
+//! The code of a BACnet/SC node (Annex AB), without its sockets, its clock and its random source: events come in, actions
+//! go out. `bsc_node` says what it has to do.
+//!
+//! Start at `node`: the node and its calls. `following` has what follows from each event, and below it are the rules in
+//! files that are named as those of the definition: `requesting`, `receiving`, `obeying`, `meeting`, `ending`.
+#![tactic(auto)]
+
+mod acting;
+mod actions;
+mod deed;
+mod ending;
+mod following;
+mod link;
+mod links;
+mod machine;
+mod meeting;
+mod messages;
+mod node;
+mod obeying;
+mod receiving;
+mod requesting;
+mod state;
+mod stepping;
+mod uris;
+
+pub use actions::Actions;
+pub use node::Node;

@@ -1,0 +1,67 @@
+//! The messages that a node puts of itself.
+ghost use Rattle.std.specs.Prelude.{◌≡◌, IfOk};
+ghost use Rattle.bsc_frame.specs.Payloads.{HasPayload};
+ghost use Rattle.bsc_node.specs.Logs.{is_response};
+ghost use Rattle.bsc_node.specs.Messages.{message_octets, nak};
+
+use bsc_frame::{Answer, Body, Message, write};
+use bsc_octets::{NoMemory, Octets, Vmac};
+use bsc_options::Options;
+use std::alloc::Global;
+
+/// The error code NODE_DUPLICATE_VMAC.
+pub(crate) const DUPLICATE_VMAC: u16 = 151;
+
+/// The error code OPTIONAL_FUNCTIONALITY_NOT_SUPPORTED.
+pub(crate) const NOT_SUPPORTED: u16 = 45;
+
+/// The error class COMMUNICATION.
+const COMMUNICATION: u16 = 7;
+
+/// The functions of responses: BVLC-Result, Address-Resolution-ACK, Connect-Accept, Disconnect-ACK, Heartbeat-ACK.
+const RESPONSES: [u8; 5] = [0x00, 0x03, 0x07, 0x09, 0x0B];
+
+/// The octets of a message with this Message ID and this Destination, where there is one.
+pub(crate) fn message_octets(
+    alloc: Global,
+    id: u16,
+    dest: Option<Vmac>,
+    body: Body,
+) -> Result<Octets, NoMemory>
+    requires { HasPayload body }
+    ensures { IfOk result (λ o. o ≡ message_octets id dest body) }
+{
+    let message = Message {
+        id,
+        origin: None,
+        dest,
+        dest_options: Options::new(alloc),
+        data_options: Options::new(alloc),
+        body,
+    };
+    write(alloc, &message)
+}
+
+/// A NAK of a function, with this error code.
+pub(crate) fn nak(alloc: Global, function: u8, code: u16) -> Body
+    ensures { result ≡ nak function code }
+{
+    Body::BvlcResult(Answer::Nak {
+        function,
+        marker: 0,
+        class: COMMUNICATION,
+        code,
+        details: Octets::from_vec(Vec::new(alloc)),
+    })
+}
+
+/// Whether these octets are a response, which has the Message ID of what it answers.
+pub(crate) fn is_response(octets: &[u8]) -> bool
+    ensures { result ≡ is_response octets.now }
+{
+    let function = match octets.first() {
+        Some(function) => *function,
+        None => 0x00,
+    };
+    RESPONSES.contains(&function)
+}

@@ -1,0 +1,230 @@
+//! What follows where a message comes for the node, over its hub or a direct connection.
+ghost use Rattle.std.specs.Prelude.{◌≡◌, ◌≤◌, if◌then◌else◌, is_some, IfSome};
+ghost use Rattle.std.specs.Str.{IsUtf8};
+ghost use Rattle.bsc_frame.specs.declared.message.Message.{Message};
+ghost use Rattle.bsc_frame.specs.Payloads.{IsAdvert};
+ghost use Rattle.bsc_node.specs.Hubs.{hub_status};
+ghost use Rattle.bsc_node.specs.Receiving.{answer_dest, is_broadcast_address};
+
+use crate::acting::tell;
+use crate::actions::Actions;
+use crate::messages::{NOT_SUPPORTED, message_octets, nak};
+use crate::state::State;
+use bsc_connector::HubUse;
+use bsc_frame::{Advert, Answer, Body, Message};
+use bsc_node::{Action, Delivered, LinkName, NodeLimits, Note};
+use bsc_octets::{NoMemory, Octets, Vmac};
+use bsc_resolve::Resolve;
+use std::alloc::Global;
+
+/// The function Address-Resolution.
+const ADDRESS_RESOLUTION: u8 = 0x02;
+
+/// The Destination of an answer: over the hub the address that the message came from, none over a direct connection.
+fn answer_dest(name: LinkName, origin: Option<Vmac>) -> Option<Vmac>
+    ensures { (msg : Message) → msg.origin ≡ origin → result ≡ answer_dest name msg }
+{
+    match name {
+        LinkName::Hub(_) => origin,
+        LinkName::Direct(_) => None,
+    }
+}
+
+/// The hub connection status of an Advertisement.
+fn hub_status(used: HubUse) -> u8
+    ensures status { result ≡ hub_status used }
+    ensures few { result ≤ 2 }
+{
+    match used {
+        HubUse::NoHub => 0,
+        HubUse::Primary => 1,
+        HubUse::Failover => 2,
+    }
+}
+
+/// Whether direct connections are accepted, as an Advertisement says it: 1 where the node has URIs, else 0.
+fn accepts(uris: &Option<Octets>) -> u8
+    ensures accepts { result ≡ (if is_some uris.now then 1 else 0) }
+    ensures few { result ≤ 1 }
+{
+    match uris {
+        Some(_) => 1,
+        None => 0,
+    }
+}
+
+/// Whether a Destination is the broadcast.
+fn is_broadcast(dest: Option<Vmac>) -> bool
+    ensures { result ≡ is_broadcast_address dest }
+{
+    match dest {
+        Some(v) => v == Vmac::BROADCAST,
+        None => false,
+    }
+}
+
+impl State {
+    /// Who sent a message: its Originating address, or on a direct connection the peer. The hub itself has none.
+    fn sender(&self, name: LinkName, origin: Option<Vmac>) -> Option<Vmac> {
+        match name {
+            LinkName::Hub(_) => origin,
+            LinkName::Direct(_) => match origin {
+                Some(v) => Some(v),
+                None => match self.links.get(name).peer {
+                    Some(who) => Some(who.vmac),
+                    None => None,
+                },
+            },
+        }
+    }
+
+    /// Answers a question for the node's URIs.
+    fn answer_question(
+        &mut self,
+        out: &mut Actions,
+        alloc: Global,
+        limits: &NodeLimits,
+        name: LinkName,
+        id: u16,
+        dest: Option<Vmac>,
+        for_all: bool,
+    ) -> Result<(), NoMemory>
+        requires { IfSome limits.now.uris IsUtf8 }
+    {
+        match &limits.uris {
+            Some(uris) => {
+                let body = Body::AddressResolutionAck(uris.copy(alloc)?);
+                let octets = message_octets(alloc, id, dest, body)?;
+                self.put(out, name, octets)
+            }
+            None => {
+                if for_all {
+                    return Ok(());
+                }
+                let body = nak(alloc, ADDRESS_RESOLUTION, NOT_SUPPORTED);
+                let octets = message_octets(alloc, id, dest, body)?;
+                self.put(out, name, octets)
+            }
+        }
+    }
+
+    /// What the node advertises.
+    fn advert(&self, limits: &NodeLimits) -> Advert
+        ensures { IsAdvert result }
+    {
+        let (max_bvlc, max_npdu) = (self.own.max_bvlc, self.own.max_npdu);
+        Advert {
+            status: hub_status(self.connector.hub_use()),
+            accepts: accepts(&limits.uris),
+            max_bvlc,
+            max_npdu,
+        }
+    }
+
+    /// Answers a solicitation by an Advertisement, which has the node's next number.
+    fn advertise(
+        &mut self,
+        out: &mut Actions,
+        alloc: Global,
+        limits: &NodeLimits,
+        name: LinkName,
+        dest: Option<Vmac>,
+    ) -> Result<(), NoMemory> {
+        let body = Body::Advertisement(self.advert(limits));
+        let octets = message_octets(alloc, self.next, dest, body)?;
+        self.put(out, name, octets)
+    }
+}
+
+/// Learns the URIs of who sent them, where they answer a question that is under way, and tells them.
+fn learn(
+    out: &mut Actions,
+    resolve: &mut Resolve,
+    alloc: Global,
+    id: u16,
+    from: Vmac,
+    uris: Octets,
+) -> Result<(), NoMemory> {
+    tell(out, Note::Uris(from, uris.copy(alloc)?))?;
+    if !resolve.answered(id, from, uris) {
+        out.take_back();
+    }
+    Ok(())
+}
+
+/// Tells a NAK of a function, and drops the question that it answers.
+fn take_nak(
+    out: &mut Actions,
+    resolve: &mut Resolve,
+    from: Option<Vmac>,
+    id: u16,
+    function: u8,
+    code: u16,
+) -> Result<(), NoMemory> {
+    tell(
+        out,
+        Note::Nak {
+            from,
+            function,
+            code,
+        },
+    )?;
+    if let Some(v) = from {
+        if function == ADDRESS_RESOLUTION {
+            let _ = resolve.refused(id, v);
+        }
+    }
+    Ok(())
+}
+
+/// What follows where a message comes for the node.
+pub(crate) fn take_up(
+    state: &mut State,
+    out: &mut Actions,
+    resolve: &mut Resolve,
+    alloc: Global,
+    limits: &NodeLimits,
+    name: LinkName,
+    message: Message,
+) -> Result<(), NoMemory>
+    requires { IfSome limits.now.uris IsUtf8 }
+{
+    let Message {
+        id,
+        origin,
+        dest,
+        dest_options: _options,
+        data_options,
+        body,
+    } = message;
+    let sender = state.sender(name, origin);
+    let for_all = is_broadcast(dest);
+    let dest = answer_dest(name, origin);
+    match body {
+        Body::Npdu(npdu) => match sender {
+            Some(from) => out.push(Action::Deliver(Delivered {
+                from,
+                broadcast: for_all,
+                data_options,
+                npdu,
+            })),
+            None => Ok(()),
+        },
+        Body::AddressResolution => {
+            state.answer_question(out, alloc, limits, name, id, dest, for_all)
+        }
+        Body::AddressResolutionAck(uris) => match sender {
+            Some(from) => learn(out, resolve, alloc, id, from, uris),
+            None => Ok(()),
+        },
+        Body::Advertisement(advert) => match sender {
+            Some(from) => tell(out, Note::Advert(from, advert)),
+            None => Ok(()),
+        },
+        Body::AdvertisementSolicitation => state.advertise(out, alloc, limits, name, dest),
+        Body::BvlcResult(Answer::Nak { function, code, .. }) => {
+            take_nak(out, resolve, sender, id, function, code)
+        }
+        _ => Ok(()),
+    }
+}

@@ -1,0 +1,108 @@
+//! How a link's machine goes on at a step.
+ghost use Rattle.std.specs.Prelude.{◌≡◌, true};
+ghost use Rattle.bsc_accept.specs.Standing.{LeftBy as LeavesAccepting};
+ghost use Rattle.bsc_initiate.specs.Standing.{LeftBy as LeavesInitiating};
+ghost use Rattle.bsc_node_core.specs.Machines.{is_fit, says_there};
+
+use crate::link::Link;
+use crate::machine::Machine;
+use bsc_accept::{Accepting, Step};
+use bsc_initiate::{InitStep, Initiating};
+use bsc_octets::Identity;
+
+impl Machine {
+    /// That of a link that was dialled, after this step.
+    pub(crate) fn dialled(machine: Initiating, step: &InitStep) -> Machine
+        requires { LeavesInitiating step.now machine }
+        ensures { is_fit result ≡ true }
+    {
+        match step {
+            InitStep::PutClose(_, _) | InitStep::Close(_) | InitStep::Refused { .. } => {
+                Machine::Over
+            }
+            InitStep::Put(_) | InitStep::Connected(_) | InitStep::Up | InitStep::Nothing => {
+                Machine::Dialled(machine)
+            }
+        }
+    }
+
+    /// That of a link that was taken, after this step.
+    pub(crate) fn taken(machine: Accepting, step: &Step) -> Machine
+        requires { LeavesAccepting step.now machine }
+        ensures { is_fit result ≡ true }
+    {
+        match step {
+            Step::ReplyClose(_, _) | Step::Close(_) => Machine::Over,
+            Step::Ask(_) => Machine::Asked(machine),
+            Step::Reply(_) | Step::Carry | Step::Nothing => Machine::Taken(machine),
+        }
+    }
+
+    /// Whether the link is there.
+    pub(crate) fn is_there(&self) -> bool
+        ensures { result ≡ says_there self.now }
+    {
+        match self {
+            Machine::Gone => false,
+            Machine::Over | Machine::Dialled(_) | Machine::Taken(_) | Machine::Asked(_) => true,
+        }
+    }
+}
+
+impl Link {
+    /// A link that never began.
+    pub(crate) fn none() -> Link {
+        Link {
+            machine: Machine::Gone,
+            peer: None,
+            tries: 0,
+        }
+    }
+
+    /// Whether it is there, open or under way.
+    pub(crate) fn is_there(&self) -> bool
+        ensures { result ≡ says_there self.now.machine }
+    {
+        self.machine.is_there()
+    }
+
+    /// The link with this machine.
+    pub(crate) fn with_machine(&self, machine: Machine) -> Link
+        requires { is_fit machine ≡ true }
+    {
+        Link {
+            machine,
+            peer: self.peer,
+            tries: self.tries,
+        }
+    }
+
+    /// The link, whose peer has named itself.
+    pub(crate) fn with_peer(&self, who: Identity) -> Link {
+        Link {
+            machine: self.machine,
+            peer: Some(who),
+            tries: self.tries,
+        }
+    }
+
+    /// The link, which begins anew with this machine.
+    pub(crate) fn begun(&self, machine: Machine) -> Link
+        requires { is_fit machine ≡ true }
+    {
+        Link {
+            machine,
+            peer: None,
+            tries: self.tries.saturating_add(1),
+        }
+    }
+
+    /// The link of a slot that was claimed now.
+    pub(crate) fn claimed(&self) -> Link {
+        Link {
+            machine: self.machine,
+            peer: self.peer,
+            tries: 0,
+        }
+    }
+}
