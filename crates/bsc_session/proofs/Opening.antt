@@ -5,7 +5,6 @@ use Rattle.bsc_octets.specs.declared.identity.Identity.{Identity}
 use Rattle.bsc_history.specs.declared.ending.End.{End}
 use Rattle.bsc_history.specs.declared.ending.End.TheVariants.{Left, Full}
 use Rattle.bsc_ring.specs.declared.ends.Outlet.{Outlet}
-use Rattle.bsc_ring.specs.Ends.{FoundEnd}
 use Rattle.bsc_checks.specs.declared.phase.Phase.{Phase}
 use Rattle.bsc_checks.specs.declared.phase.Phase.TheVariants.{Connected as PhaseConnected}
 use Rattle.bsc_hub.specs.declared.hub.Hub.{Hub}
@@ -30,7 +29,7 @@ use Rattle.bsc_session.specs.declared.taken.Taken.TheVariants.{All, Met, Cut}
 use Rattle.bsc_session.specs.declared.why.Why.{Why}
 use Rattle.bsc_session.specs.declared.why.Why.TheVariants.{EndedBy}
 use Rattle.bsc_session.specs.Answering.{calls_hub}
-use Rattle.bsc_session.specs.Inner.{AreTerms, Attends, Between, Carries, Follows, HasFound, Meets, Opens, Runs, SameMember, Starts, Takes, TakesFrom, Ticks, Tied, conn_of, given_by}
+use Rattle.bsc_session.specs.Inner.{AreTerms, Attends, Between, Carries, Follows, HasEnded, HasFound, Meets, Opens, Runs, SameMember, Starts, Takes, TakesFrom, Ticks, Tied, conn_of, given_by}
 use Rattle.bsc_session.specs.Puts.{octets_in, puts}
 use Rattle.bsc_session.specs.Reading.{start_at, started, ticked, wanted_at}
 use Rattle.bsc_session.specs.Standings.{Standing, Terms, is_connected, is_phase_connected, start_of, told, wanted}
@@ -116,7 +115,7 @@ starts_first h limits v s now a m who zero_ terms f b fixed stands waits =
 
 -- ---- the taking
 
-keep_end : (e : Option End) (m : Member) (p : Outlet) → ((d : End) → FoundEnd m.outlet d → FoundEnd p d) → HasFound e (Some m) → HasFound e (Some (record { conn = m.conn; address = m.address; outlet = p }))
+keep_end : (e : Option End) (m : Member) (p : Outlet) → ((d : End) → HasEnded m.outlet d → HasEnded p d) → HasFound e (Some m) → HasFound e (Some (record { conn = m.conn; address = m.address; outlet = p }))
 keep_end None m p keeps h = tt
 keep_end (Some d) m p keeps h = keeps d h
 

@@ -1,5 +1,5 @@
 -- Turn after turn, up to the stop; and the last acts.
-use Rattle.std.proofs.Common.{◌≡◌, ℕ, ◌+◌, ◌≤◌, List, [], ◌∷◌, ◌++◌, length, refl, ap, sym, ◌∙◌, arith, Option, Some, None}
+use Rattle.std.proofs.Common.{◌≡◌, ℕ, true, ◌+◌, ◌≤◌, List, [], ◌∷◌, ◌++◌, length, refl, ap, sym, ◌∙◌, arith, Option, Some, None}
 use Rattle.std.specs.Prelude.{take}
 use Rattle.std.proofs.Common.{◌<◌, inl, inr}
 use Rattle.std.proofs.lemmas.Bool.Decides.{leb_tells}
@@ -8,7 +8,7 @@ use Rattle.bsc_history.specs.declared.ending.End.TheVariants.{Left}
 use Rattle.bsc_history.specs.declared.told.Told.{Told}
 use Rattle.bsc_history.specs.Outboxes.{sent}
 use Rattle.bsc_desk.specs.declared.leaving.Gone.{Gone}
-use Rattle.bsc_ring.specs.Ends.{FoundEnd, empties_of, given}
+use Rattle.bsc_ring.specs.Ends.{FoundEnd, empties_of, given, known_pushed, knows_all}
 use Rattle.bsc_hub.specs.Calls.{leave_made}
 use Rattle.bsc_history.specs.Marks.{entries}
 use Rattle.bsc_accept.specs.declared.reason.Reason.TheVariants.{Nothing as NoReason}
@@ -28,7 +28,7 @@ use Rattle.bsc_session.specs.declared.why.Why.TheVariants.{Spent}
 use Rattle.bsc_session.specs.Course.{standing, shares, total, GoesOn, and_last, said_closing}
 use Rattle.bsc_session.specs.declared.ended.Ended.{Ended}
 use Rattle.bsc_session.specs.Laws.{GrowsToFault}
-use Rattle.bsc_session.specs.Inner.{AreTerms, HasFound, HasTerms, Held, Makes, Parts, Ran, Stood, empties_by, given_by}
+use Rattle.bsc_session.specs.Inner.{AreTerms, HasEnded, HasFound, HasTerms, Held, Makes, Parts, Ran, Stood, empties_by, given_by}
 use Rattle.bsc_session.specs.Serving.{Goes, Serves, terms_of}
 use Rattle.bsc_session.specs.Standings.{Standing, Terms, begun, start_of}
 use Rattle.bsc_session.specs.Stops.{stop_closing}
@@ -164,6 +164,7 @@ serves v h p0 p q a old mid new read read' stop conn taken empties why r closed 
     empties = left.empties_is ∙ r.empties;
     made = r.held.follows.receives;
   };
+  all = λ c e joined met. sym left.got ∙ left.all c e joined (r.held.follows.ended ∙ met);
   is_worn = λ e. left.wears (r.is_worn e);
 }
 
@@ -171,23 +172,28 @@ serves v h p0 p q a old mid new read read' stop conn taken empties why r closed 
 pub grows_to_fault : (v : Terms) (h : Hub) (p q : Pass) (old new : Option (List Said)) (read read' : Option (List ℕ)) (ended : Ended) → Serves v h p q old new read read' ended → GrowsToFault old new
 grows_to_fault v h p q old new read read' ended k = (k.T, k.talk, sessions_end_at_fault v k.T k.R k.E _ ended k.session)
 
-ended_found : (e : End) (d : Option End) (m : Member) → d ≡ Some e → HasFound d (Some m) → FoundEnd m.outlet e
+ended_found : (e : End) (d : Option End) (m : Member) → d ≡ Some e → HasFound d (Some m) → HasEnded m.outlet e
 ended_found e None m is h = cc
 ended_found e (Some x) m is h = (let k : HasFound (Some e) (Some m) = rw is at h in k)
+
+conn_is : (a b : ℕ) → Some a ≡ Some b → a ≡ b
+conn_is a b h = cc
 
 -- the session had joined, and left
 pub part_left : (h : Hub) (v : Terms) (p q : Pass) (m : Member) (ended : Option End) (t : Told Gone) (empties : ℕ)
     → Passed h p [] (leave_made (number_of p) m.conn (empties_of m.outlet) t) q → v.caller ≡ number_of p → empties ≡ empties_of m.outlet
     → t.said.taken ≡ length (given m.outlet) → given m.outlet ≡ take t.said.taken (sent (about_of h) (entries (seen q)) m.conn) → ((e : End) → FoundEnd m.outlet e → t.said.ending ≡ e)
+    → (knows_all m.outlet ≡ true → known_pushed m.outlet ≡ sent (about_of h) (entries (seen q)) m.conn)
     → HasFound ended (Some m) → Parts v h p q (Some m) ended (Some m.conn) t.said.taken empties
-part_left h v p q m ended t empties passed caller counted took got finds found = record {
+part_left h v p q m ended t empties passed caller counted took got finds whole found = record {
   reply = t.said.ending;
   goes = goes_as h p q _ _ (rw (caller, counted) refl) (goes_passed h p q _ passed);
   conn_is = refl;
   took = took;
   empties_is = counted;
   got = got;
-  replied = λ c e joined met. finds e (ended_found e ended m met found);
+  replied = λ c e joined met. finds e (ended_found e ended m met found).0;
+  all = λ c e joined met. (let k = ended_found e ended m met found in sym k.2 ∙ whole k.1 ∙ ap (λ n. sent (about_of h) (entries (seen q)) n) (conn_is m.conn c joined));
   wears = λ is. wears_left h p q [] _ passed is;
 }
 
@@ -201,6 +207,7 @@ part_alone h v p ended is found = record {
   empties_is = refl;
   got = refl;
   replied = λ c e joined met. cc;
+  all = λ c e joined met. cc;
   wears = λ is. is;
 }
 

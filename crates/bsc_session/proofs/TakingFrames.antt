@@ -1,5 +1,5 @@
 -- Frames are taken and put.
-use Rattle.std.proofs.Common.{◌≡◌, ℕ, ◌+◌, ◌<◌, List, [], ◌∷◌, ◌++◌, refl, ap, sym, ◌∙◌, append-nil, append_assoc, length-append, arith, Option, Some, None}
+use Rattle.std.proofs.Common.{◌≡◌, ℕ, Bool, true, false, ◌+◌, ◌<◌, List, [], ◌∷◌, ◌++◌, refl, ap, sym, ◌∙◌, append-nil, append_assoc, length-append, arith, Option, Some, None}
 use Rattle.std.specs.Prelude.{◌^◌, ◌-◌, min, suc, zero, length}
 use Rattle.std.proofs.lemmas.Bool.{lt-ltb}
 use Rattle.bsc_history.specs.declared.ending.End.{End}
@@ -14,9 +14,9 @@ use mathlib.Core.Option.{some}
 use lib.ListN.{get_elem?}
 use Rattle.bsc_ring.specs.declared.found.Found.{Found}
 use Rattle.bsc_ring.specs.declared.found.Found.TheVariants.{Ending, Tail}
-use Rattle.bsc_ring.specs.Ends.{FoundEnd, Took, empties_of, found, given, outlet_mark}
+use Rattle.bsc_ring.specs.Ends.{FoundEnd, Took, empties_of, found, given, known_pushed, knows_all, outlet_mark}
 use Rattle.bsc_session.specs.declared.taken.Taken.TheVariants.{All, Met, Cut}
-use Rattle.bsc_session.specs.Inner.{Taking, Takes}
+use Rattle.bsc_session.specs.Inner.{HasEnded, Taking, Takes}
 use Rattle.bsc_session.specs.Puts.{puts, HasPut}
 use Rattle.bsc_session.proofs.Lists.{grows-nil, grows_as, grown, puts-more}
 
@@ -33,6 +33,27 @@ took_found o p (Closed e) h = (Ending (Some e) ∷ Tail (length (given o)) ∷ [
 keeps_found : (o p : Outlet) (t : Take) (e : End) → Took o t p → FoundEnd o e → FoundEnd p e
 keeps_found o p t e took h = (let k = took_found o p t took in (h.0, rw k.1 (elem_stays (found o) k.0 h.0 _ h.1)))
 
+no_more : (given_ all rest : List (List ℕ)) (x : List ℕ) → all ≡ given_ → all ≡ (given_ ++ x ∷ []) ++ rest → ⊥
+no_more given_ all rest x same more =
+    let e = ap (λ (l : List (List ℕ)). length l) (sym same ∙ more) in
+    let f = length-append (given_ ++ x ∷ []) rest in
+    let g = length-append given_ (x ∷ []) in
+    omega (arith, e, f, g)
+
+no_longer : (b : Bool) → b ≡ true → b ≡ false → ⊥
+no_longer b h k = (let e : true ≡ false = sym h ∙ k in cc)
+
+-- an outlet that gave all that was pushed gives no more
+keeps_all : (o p : Outlet) (t : Take) → Took o t p → knows_all o ≡ true → known_pushed o ≡ given o → (knows_all p ≡ true) × (known_pushed p ≡ given p)
+keeps_all o p (Frame x) h whole all =
+    let k = h.3.4.2 whole in
+    absurd (no_more (given o) (known_pushed p) h.1.0 x (k.0 ∙ all) (h.1.1 ∙ ap (λ w. w ++ h.1.0) h.0))
+keeps_all o p Empty h whole all = absurd (no_longer (knows_all p) (h.0.4.2 whole).1 h.0.3.3)
+keeps_all o p (Closed e) h whole all = (h.0.3.3, h.0.1 ∙ sym h.0.0)
+
+keeps_ended : (o p : Outlet) (t : Take) (e : End) → Took o t p → HasEnded o e → HasEnded p e
+keeps_ended o p t e took h = (let k = keeps_all o p t took h.1 h.2 in (keeps_found o p t e took h.0, k.0, k.1))
+
 pub taking_begins : (o : Outlet) (old : Option (List Said)) → Taking o o old old 0
 taking_begins o old = record { frames = []; many = refl; mark = refl; keeps = λ e h. h; gave = sym (append-nil (given o)); empties = refl; said = grows-nil old }
 
@@ -43,7 +64,7 @@ taking_more o p q old mid new n f t took mark said = record {
   frames = t.frames ++ f ∷ [];
   many = length-append t.frames (f ∷ []) ∙ ap (λ k. k + 1) t.many;
   mark = mark ∙ t.mark;
-  keeps = λ e h. keeps_found p q (Frame f) e took (t.keeps e h);
+  keeps = λ e h. keeps_ended p q (Frame f) e took (t.keeps e h);
   gave = took.0 ∙ ap (λ k. k ++ f ∷ []) t.gave ∙ append_assoc (given o) t.frames (f ∷ []);
   empties = took.2 ∙ t.empties;
   said = grows_as old new _ _ (sym (puts-more t.frames f None)) (grown old mid new (puts t.frames None) (Put f None ∷ []) t.said said);
@@ -85,7 +106,7 @@ takes_few o p q old new n t few room took mark =
     record {
       frames = t.frames;
       mark = mark ∙ t.mark;
-      keeps = λ e h. keeps_found p q Empty e took (t.keeps e h);
+      keeps = λ e h. keeps_ended p q Empty e took (t.keeps e h);
       found = λ e h. cc;
       left = λ e h. cc;
       gave = took.0.0 ∙ t.gave;
@@ -100,11 +121,11 @@ end_is d e h = cc
 
 -- an End was there
 pub takes_met : (o p q : Outlet) (old new : Option (List Said)) (n : ℕ) (e : End) → Taking o p old new n → n < 16
-    → Took p (Closed e) q → outlet_mark q ≡ outlet_mark p → FoundEnd q e → Takes o q old new (Met e)
+    → Took p (Closed e) q → outlet_mark q ≡ outlet_mark p → HasEnded q e → Takes o q old new (Met e)
 takes_met o p q old new n e t few took mark finds = record {
   frames = t.frames;
   mark = mark ∙ t.mark;
-  keeps = λ d h. keeps_found p q (Closed e) d took (t.keeps d h);
+  keeps = λ d h. keeps_ended p q (Closed e) d took (t.keeps d h);
   found = λ d h. rw (sym (end_is e d h)) finds;
   left = λ d h. rw (sym (end_is e d h)) took.1;
   gave = took.0.0 ∙ t.gave;
@@ -120,7 +141,7 @@ pub takes_cut : (o p q : Outlet) (old mid new : Option (List Said)) (n : ℕ) (f
 takes_cut o p q old mid new n f fault t few took mark said = record {
   frames = t.frames ++ f ∷ [];
   mark = mark ∙ t.mark;
-  keeps = λ e h. keeps_found p q (Frame f) e took (t.keeps e h);
+  keeps = λ e h. keeps_ended p q (Frame f) e took (t.keeps e h);
   found = λ e h. cc;
   left = λ e h. cc;
   gave = took.0 ∙ ap (λ k. k ++ f ∷ []) t.gave ∙ append_assoc (given o) t.frames (f ∷ []);
@@ -134,8 +155,9 @@ elem_there : (xs ys : List Found) (x : Found) → (i : ℕ) × (get_elem? (xs ++
 elem_there [] ys x = (0, refl)
 elem_there (y ∷ xs) ys x = (let k = elem_there xs ys x in (suc k.0, k.1))
 
--- the loads of a take that answers Closed find that End
-pub finds_end : (p q : Outlet) (e : End) → Took p (Closed e) q → FoundEnd q e
+-- the loads of a take that answers Closed find that End, and all was given
+pub finds_end : (p q : Outlet) (e : End) → Took p (Closed e) q → HasEnded q e
 finds_end p q e took =
     let there = elem_there (found p) (Tail (length (given p)) ∷ []) (Ending (Some e)) in
-    (there.0, rw took.0.3.0 there.1)
+    let finds : FoundEnd q e = (there.0, rw took.0.3.0 there.1) in
+    (finds, took.0.3.3, took.0.1 ∙ sym took.0.0)

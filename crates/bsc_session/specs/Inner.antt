@@ -6,6 +6,7 @@ use Rattle.bsc_history.specs.declared.ending.End.{End}
 use Rattle.bsc_history.specs.declared.mark.Mark.{Mark}
 use Rattle.bsc_history.specs.declared.entry.Entry.{Entry}
 use Rattle.bsc_history.specs.Marks.{entries, mark_of}
+use Rattle.bsc_history.specs.Outboxes.{sent}
 use Rattle.bsc_outside.specs.Faults.{HasRisen}
 use Rattle.bsc_edge.specs.declared.fault.LinkFault.{LinkFault}
 use Rattle.bsc_edge.specs.declared.incoming.Incoming.{Incoming}
@@ -18,7 +19,7 @@ use Rattle.bsc_accept.specs.Past.{Standing as MachineStanding, awaiting_request,
 use Rattle.bsc_accept.specs.Standing.{StandsFor, IsOpen}
 use Rattle.bsc_history.specs.declared.ending.End.TheVariants.{Left}
 use Rattle.bsc_ring.specs.declared.ends.Outlet.{Outlet}
-use Rattle.bsc_ring.specs.Ends.{FoundEnd, empties_of, given, outlet_mark}
+use Rattle.bsc_ring.specs.Ends.{FoundEnd, empties_of, given, known_pushed, knows_all, outlet_mark}
 use Rattle.bsc_turn.specs.declared.pass.Pass.{Pass}
 use Rattle.bsc_turn.specs.Passes.{number_of, seen}
 use Rattle.bsc_hub.specs.declared.hub.Hub.{Hub}
@@ -85,11 +86,15 @@ abbrev pub IsMember : Pass → Option Member → Type 0
 IsMember p None = ⊤
 IsMember p (Some m) = IsOwnAs p m.conn m.address × (mark_of (seen p) m.conn ≡ Some (outlet_mark m.outlet))
 
--- An End that was met was found by the outlet's loads.
+-- The outlet's loads found this End, and it gave all that was pushed.
+abbrev pub HasEnded : Outlet → End → Type 0
+HasEnded o e = FoundEnd o e × (knows_all o ≡ true) × (known_pushed o ≡ given o)
+
+-- An End that was met was found by the outlet, which had then given all.
 abbrev pub HasFound : Option End → Option Member → Type 0
 HasFound None m = ⊤
 HasFound (Some e) None = ⊥
-HasFound (Some e) (Some m) = FoundEnd m.outlet e
+HasFound (Some e) (Some m) = HasEnded m.outlet e
 
 -- The code stands where the session stands, but for its machine and its pass.
 pub record Follows (a : At) (s : Standing) : Type 0 where
@@ -197,7 +202,7 @@ pub record Taking (o p : Outlet) (old new : Option (List Said)) (n : ℕ) : Type
   pub frames : List (List ℕ)
   pub many : length frames ≡ n
   pub mark : outlet_mark p ≡ outlet_mark o
-  pub keeps : (e : End) → FoundEnd o e → FoundEnd p e
+  pub keeps : (e : End) → HasEnded o e → HasEnded p e
   pub gave : given p ≡ given o ++ frames
   pub empties : empties_of p ≡ empties_of o
   pub said : Grows old new (puts frames None)
@@ -206,8 +211,8 @@ pub record Taking (o p : Outlet) (old new : Option (List Said)) (n : ℕ) : Type
 pub record Takes (o p : Outlet) (old new : Option (List Said)) (taken : Taken) : Type 0 where
   pub frames : List (List ℕ)
   pub mark : outlet_mark p ≡ outlet_mark o
-  pub keeps : (e : End) → FoundEnd o e → FoundEnd p e
-  pub found : (e : End) → met_in taken ≡ Some e → FoundEnd p e
+  pub keeps : (e : End) → HasEnded o e → HasEnded p e
+  pub found : (e : End) → met_in taken ≡ Some e → HasEnded p e
   pub left : (e : End) → met_in taken ≡ Some e → e ≢ Left
   pub gave : given p ≡ given o ++ frames
   pub empties : empties_of p ≡ empties_of o + nothing_found frames (met_in taken) (is_none (cut_in taken))
@@ -380,4 +385,5 @@ pub record Parts (v : Terms) (h : Hub) (p q : Pass) (m : Option Member) (ended :
   pub empties_is : empties ≡ empties_by m
   pub got : given_by m ≡ received (about_of h) (entries (seen q)) conn taken
   pub replied : (c : ℕ) (e : End) → conn ≡ Some c → ended ≡ Some e → reply ≡ e
+  pub all : (c : ℕ) (e : End) → conn ≡ Some c → ended ≡ Some e → given_by m ≡ sent (about_of h) (entries (seen q)) c
   pub wears : SeesWorn h p → WasWorn (about_of h) (entries (seen q)) conn

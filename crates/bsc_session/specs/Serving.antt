@@ -1,5 +1,6 @@
 -- What a serving call says.
 use Rattle.std.specs.Prelude.{◌≡◌, ◌<◌, ◌≤◌, ℕ, List, [], ◌++◌, length, take, Option, Some, None}
+use Rattle.bsc_history.specs.declared.ending.End.{End}
 use Rattle.bsc_history.specs.declared.entry.Entry.{Entry}
 use Rattle.bsc_history.specs.declared.limits.About.{About}
 use Rattle.bsc_history.specs.Marks.{entries}
@@ -14,6 +15,7 @@ use Rattle.bsc_edge.specs.Told.{Grows}
 use Rattle.bsc_session.specs.declared.ended.Ended.{Ended}
 use Rattle.bsc_session.specs.declared.limits.SessionLimits.{SessionLimits}
 use Rattle.bsc_session.specs.Causes.{last_answer}
+use Rattle.bsc_session.specs.Course.{end_of}
 use Rattle.bsc_session.specs.Receiving.{worn}
 use Rattle.bsc_session.specs.Standings.{Terms}
 use Rattle.bsc_session.specs.Talk.{Session}
@@ -43,8 +45,8 @@ WasWorn a H None = a.limits.calls ≤ length H
 WasWorn a H (Some c) = a.limits.calls < length H
 
 -- What a serving call says: the talk, the readings and the own list grew by those of a session, whose frames are the
--- first that entered the outbox of its connection, by what the pass has then seen; and the hub answers that it is worn
--- only where it is.
+-- first that entered the outbox of its connection, by what the pass has then seen, and all of them where an End was met;
+-- and the hub answers that it is worn only where it is.
 pub record Serves (v : Terms) (h : Hub) (p q : Pass) (old new : Option (List Said)) (read read' : Option (List ℕ)) (ended : Ended) : Type 0 where
   pub T : List Said
   pub R : List ℕ
@@ -53,4 +55,6 @@ pub record Serves (v : Terms) (h : Hub) (p q : Pass) (old new : Option (List Sai
   pub readings : Grows read read' R
   pub goes : Goes h p E q
   pub session : Session v T R E (received (about_of h) (entries (seen q)) ended.conn ended.taken) ended
+  pub all : (c : ℕ) (e : End) → ended.conn ≡ Some c → (end_of session.course).ended ≡ Some e
+      → received (about_of h) (entries (seen q)) ended.conn ended.taken ≡ sent (about_of h) (entries (seen q)) c
   pub is_worn : last_answer session.course.last ≡ Some worn → WasWorn (about_of h) (entries (seen q)) ended.conn
