@@ -61,6 +61,11 @@ class PythonClient(Client):
         await self.ws.close(1000)
         await self.reading
 
+    async def drop(self):
+        """Lets the socket go, as it is."""
+        if hasattr(self, "ws") and self.ws.transport:
+            self.ws.transport.abort()
+
 
 class NodeClient(Client):
     async def open(self, uri):
@@ -113,6 +118,12 @@ class NodeClient(Client):
                 pass
         await asyncio.wait_for(self.node.wait(), WAIT)
         await self.reading
+
+    async def drop(self):
+        """Lets the socket go, as it is."""
+        if hasattr(self, "node") and self.node.returncode is None:
+            self.node.kill()
+            await self.node.wait()
 
 
 LIBRARIES = {"python": PythonClient, "node": NodeClient}

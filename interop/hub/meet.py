@@ -24,6 +24,7 @@ C = Identity(bytes.fromhex("02000000000C"), b"\xCC" * 16)
 WHO_IS = bytes.fromhex("0120FFFF00FF1008")
 
 log = []
+clients = []
 
 
 class Differs(Exception):
@@ -57,6 +58,7 @@ async def nothing_came(client, id):
 
 async def opened(library):
     client = library(log)
+    clients.append(client)
     same(await client.open(uri), "hub.bsc.bacnet.org", "the sub-protocol")
     return client
 
@@ -234,6 +236,8 @@ async def main():
         except Exception as why:  # one scene that fails keeps no other from being played
             failed += 1
             print(f"{first_name} and {second_name}: {scene.__name__}: {type(why).__name__} {why}")
+        while clients:
+            await clients.pop().drop()
     with open(log_file, "w") as file:
         for way, what in log:
             print(way, what if way == "scene" else what.hex(), file=file)
