@@ -1,0 +1,83 @@
+//! The messages that are put, and how the next one is awaited.
+ghost use Rattle.std.specs.Prelude.{◌≤◌, ◌<◌};
+
+use bsc_edge::{Incoming, Link};
+use bsc_live::Bells;
+use bsc_octets::Octets;
+use std::alloc::{AllocError, Global};
+use std::io::{self, ErrorKind};
+use std::sync::Arc;
+
+/// How many messages are put.
+pub(crate) const MESSAGES: usize = 1_000;
+
+/// The octets of the last message, which is the longest.
+const LONGEST: usize = 65_535;
+
+/// A wait of so many milliseconds is repeated so many times before a peer that says nothing is given up.
+const WAIT_MS: u32 = 100;
+
+const WAITS: u32 = 200;
+
+/// The octets of which each message is a part: the one at place j is 167 j + 13 (j / 256), modulo 256.
+pub(crate) fn all_octets(alloc: Global) -> Result<Vec<u8>, AllocError> {
+    let mut octets = Vec::new(alloc);
+    for place in 0..LONGEST + MESSAGES {
+        octets.push(((place * 167 + place / 256 * 13) % 256) as u8)?;
+    }
+    Ok(octets)
+}
+
+/// How many octets the message of this number has: 1 of the first, and 65,535 of the last.
+fn length_of(number: usize) -> usize
+    requires { number < 1000 }
+    ensures low { 1 ≤ result }
+    ensures high { result ≤ 65535 }
+{
+    1 + number * (LONGEST - 1) / (MESSAGES - 1)
+}
+
+/// The message of this number, which begins at the place of that number.
+pub(crate) fn message(octets: &[u8], number: usize) -> &[u8]
+    requires { number < 1000 }
+{
+    octets
+        .get(number..number + length_of(number))
+        .unwrap_or(&[])
+}
+
+/// The bells of links that nobody wakes.
+pub(crate) fn bells(alloc: Global) -> io::Result<Arc<Bells>> {
+    match Bells::new(alloc) {
+        Ok(bells) => Ok(Arc::new(alloc, bells)?),
+        Err(_) => Err(io::Error::from(ErrorKind::OutOfMemory)),
+    }
+}
+
+/// What came of a wait for a message.
+#[derive(Drop)]
+pub(crate) enum Came {
+    Message(Octets),
+    /// The peer closed the link.
+    Closed,
+    /// A text message, nothing for some 20 seconds, or a fault.
+    Else(&'static str),
+}
+
+/// The next message of a link, or what came in its place.
+pub(crate) fn next_message<L: Link>(alloc: Global, link: &mut L) -> Came {
+    for _ in 0..WAITS {
+        match link.receive(alloc, WAIT_MS) {
+            Ok(Incoming::Message(m)) => return Came::Message(m),
+            Ok(Incoming::Quiet) => {}
+            Ok(Incoming::Closed) => {
+                // The reply to a close leaves with the next call.
+                let _ = link.receive(alloc, 0);
+                return Came::Closed;
+            }
+            Ok(Incoming::Text) => return Came::Else("text"),
+            Err(_) => return Came::Else("fault"),
+        }
+    }
+    Came::Else("silence")
+}
