@@ -1,7 +1,7 @@
 //! Leaving.
 #![tactic(auto)]
 
-ghost use Rattle.std.specs.Prelude.{◌≡◌, ◌≢◌, ◌==◌, ◌<◌, ◌++◌, ◌∷◌, [], ℕ, List, length, take, position, vec_len, vec_capacity, Some, None};
+ghost use Rattle.std.specs.Prelude.{◌≡◌, ◌≢◌, ◌==◌, ◌<◌, ◌++◌, ◌∷◌, [], ℕ, List, length, take, position, vec_len, vec_capacity, Some, None, true};
 ghost use Rattle.std.specs.List.{remove};
 ghost use Rattle.bsc_history.specs.declared.call.Call.TheVariants.{Leave};
 ghost use Rattle.bsc_history.specs.declared.ending.End.{End};
@@ -9,7 +9,7 @@ ghost use Rattle.bsc_history.specs.declared.mark.Stamped.{Stamped};
 ghost use Rattle.bsc_history.specs.Marks.{entries};
 ghost use Rattle.bsc_history.specs.Outboxes.{sent};
 ghost use Rattle.bsc_history.specs.Replies.{reply};
-ghost use Rattle.bsc_ring.specs.Ends.{FoundEnd, empties_of, given, outlet_mark};
+ghost use Rattle.bsc_ring.specs.Ends.{FoundEnd, empties_of, given, known_pushed, knows_all, outlet_mark};
 ghost use Rattle.bsc_desk.specs.Entries.{gone_reply, leave_entry, plain};
 ghost use Rattle.bsc_desk.specs.Meetings.{IsOutletOf};
 ghost use Rattle.bsc_desk.specs.Rows.{IsMarkOf, IsRowBy, row_of};
@@ -56,6 +56,10 @@ impl Desk {
             given outlet ≡ take result.taken (sent self.old.about (entries S) conn) }
         ensures found { (e : End) → FoundEnd outlet e → result.ending ≡ e }
 
+        // An outlet that knows all, as one that met its End does, knows all that entered the outbox.
+        ensures all { (S : List Stamped) → StandsFor self.old S → knows_all outlet ≡ true →
+            known_pushed outlet ≡ sent self.old.about (entries S) conn }
+
         ensures row { row_of self.new conn ≡ None }
         ensures others { (k : ℕ) → k ≢ conn → row_of self.new k ≡ row_of self.old k }
     {
@@ -81,6 +85,8 @@ impl Desk {
         ensures given { (S : List Stamped) → StandsFor self.old S →
             given outlet ≡ take result.taken (sent self.old.about (entries S) conn) }
         ensures found { (e : End) → FoundEnd outlet e → result.ending ≡ e }
+        ensures all { (S : List Stamped) → StandsFor self.old S → knows_all outlet ≡ true →
+            known_pushed outlet ≡ sent self.old.about (entries S) conn }
         ensures row { row_of self.new conn ≡ None }
         ensures others { (k : ℕ) → k ≢ conn → row_of self.new k ≡ row_of self.old k }
     {

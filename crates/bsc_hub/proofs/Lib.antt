@@ -6,3 +6,4 @@ mod Leaves
 pub mod Joinings
 pub mod Staying
 pub mod Coming
+pub mod Unique

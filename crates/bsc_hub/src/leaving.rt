@@ -1,11 +1,11 @@
 //! Leaving.
-ghost use Rattle.std.specs.Prelude.{◌≡◌, [], length, take, Some};
+ghost use Rattle.std.specs.Prelude.{◌≡◌, [], length, take, Some, true};
 ghost use Rattle.bsc_history.specs.declared.call.Call.TheVariants.{Leave};
 ghost use Rattle.bsc_history.specs.declared.ending.End.{End};
 ghost use Rattle.bsc_history.specs.Marks.{entries, mark_of};
 ghost use Rattle.bsc_history.specs.Outboxes.{sent};
 ghost use Rattle.bsc_history.specs.Replies.{reply};
-ghost use Rattle.bsc_ring.specs.Ends.{FoundEnd, empties_of, given, outlet_mark};
+ghost use Rattle.bsc_ring.specs.Ends.{FoundEnd, empties_of, given, known_pushed, knows_all, outlet_mark};
 ghost use Rattle.bsc_turn.specs.Passes.{number_of, seen};
 ghost use Rattle.bsc_desk.specs.Entries.{gone_reply};
 ghost use Rattle.bsc_hub.specs.Calls.{leave_made};
@@ -39,6 +39,10 @@ impl Hub {
         ensures taken { result.said.taken ≡ length (given outlet) }
         ensures given { given outlet ≡ take result.said.taken (sent (about_of self.now) (entries (seen pass.new)) conn) }
         ensures found { (e : End) → FoundEnd outlet e → result.said.ending ≡ e }
+
+        // An outlet that knows all, as one that met its End does, knows all that entered the outbox.
+        ensures all { knows_all outlet ≡ true →
+            known_pushed outlet ≡ sent (about_of self.now) (entries (seen pass.new)) conn }
     {
         let caller = pass.number();
         let empties = outlet.empties();

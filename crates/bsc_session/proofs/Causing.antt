@@ -28,7 +28,7 @@ use Rattle.bsc_session.specs.Standings.{Standing, Terms, begun}
 use Rattle.bsc_session.specs.Stops.{stop_at, stop_if, closes, first_of, closing_in}
 use Rattle.bsc_session.specs.Taking.{Opening, put_first, waiting_for, ended_by, end_step, stop_before, opened}
 use Rattle.bsc_session.specs.Turns.{Turn, IsTurn, stop_in}
-use Rattle.bsc_session.proofs.EndingAtFault.{nothing_put, some_is, alone, no_stop, after_none, each_last, none_put, unheard, unheard_closed, unheard_text}
+use Rattle.bsc_session.proofs.EndingAtFault.{fault_put, nothing_put, some_is, alone, no_stop, after_none, each_last, none_put, unheard, unheard_closed, unheard_text}
 
 -- the hub answered neither Worn nor NoMemory
 abbrev IsTaken : Option Answer → Type 0
@@ -161,7 +161,7 @@ given_ends v s0 s now false (Ok Quiet) a fault stop lacks calls fits put is = ab
 
 turn_ends : (v : Terms) (s : Standing) (o : Opening) (h : Option Hearing) (stop : Stop) → IsTurn v s (record { opening = o; hearing = h }) → stop_in v s (record { opening = o; hearing = h }) ≡ Some stop
     → Ends (given_in h) (judged_in h) (answer_in h) (hearing_fault o.fault h) stop.why
-turn_ends v s o None stop is stops = opening_ends s.conn (closing_in (wanted_at v s o.reading)) v (ticked s o.reading) o.met o.reading (put_first v s o) o.fault stop is.opening.cause (none_put v s o is.opening) (sym (alone (stop_before v s o)) ∙ stops)
+turn_ends v s o None stop is stops = opening_ends s.conn (closing_in (wanted_at v s o.reading)) v (ticked s o.reading) o.met o.reading (put_first v s o) o.fault stop (fault_put v s o is.opening) (none_put v s o is.opening) (sym (alone (stop_before v s o)) ∙ stops)
 turn_ends v s o (Some h) stop is stops = given_ends v (opened s o) (heard v (opened s o) o.reading h.judged h.given) o.reading h.judged h.given h.answer h.fault stop is.hearing.memory is.hearing.calls is.hearing.fits is.hearing.cause
     (after_none (stop_before v s o) _ stop (no_stop (stop_before v s o) is.heard) stops)
 

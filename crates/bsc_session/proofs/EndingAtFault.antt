@@ -1,6 +1,7 @@
 -- The talk of a session ends at its first fault.
 use Rattle.std.proofs.Common.{◌≡◌, ◌⊎◌, ℕ, Bool, true, false, is_some, is_none, List, [], ◌∷◌, ◌++◌, refl, sym, ◌∙◌, inl, inr, append-nil, append_assoc, Option, Some, None, Result, Ok, Err}
 use Rattle.std.specs.Prelude.{⊤}
+use Rattle.bsc_history.specs.declared.ending.End.{End}
 use Rattle.bsc_edge.specs.declared.fault.LinkFault.{LinkFault}
 use Rattle.bsc_edge.specs.declared.fault.LinkFault.TheVariants.{Failed, NoMemory}
 use Rattle.bsc_edge.specs.declared.incoming.Incoming.{Incoming}
@@ -17,13 +18,13 @@ use Rattle.bsc_session.specs.Course.{standing, shares, EachTurn, GoesOn, and_las
 use Rattle.bsc_session.specs.Judging.{LacksAtPass, heard, heard_step}
 use Rattle.bsc_session.specs.Laws.{fault_of, EndsAtFault, SessionsEndAtFault}
 use Rattle.bsc_session.specs.Puts.{puts, HasPut, octets_in}
-use Rattle.bsc_session.specs.Reading.{wanted_at}
+use Rattle.bsc_session.specs.Reading.{ticked, wanted_at}
 use Rattle.bsc_session.specs.Receiving.{Answer, replies, worn, no_memory, Hearing}
 use Rattle.bsc_session.specs.Standings.{Standing, Terms, begun}
 use Rattle.bsc_session.specs.Stops.{stop_at, stop_if, closes, first_of, closing_in}
-use Rattle.bsc_session.specs.Taking.{Opening, IsOpening, put_first, stop_before, opened}
+use Rattle.bsc_session.specs.Taking.{Opening, IsOpening, end_step, last_of, put_first, stop_before, opened}
 use Rattle.bsc_session.specs.Turns.{Turn, IsTurn, said_in, stop_in, after}
-use Rattle.bsc_session.proofs.Lists.{shares-more}
+use Rattle.bsc_session.proofs.Lists.{HasPut-append, shares-more}
 
 -- no fault in it
 IsWell : List Said → Type 0
@@ -77,11 +78,19 @@ ends_stop w None os fault later stop h quiet is = ends_putting os fault later st
 ends_stop w (Some c) os fault later stop h (inl quiet) is = cc
 ends_stop w (Some c) os fault later stop h (inr none) is = rw none (ends_closing stop.closing)
 
+-- a fault of the last put is one of what is put
+some_put : (v : Terms) (s : Standing) (now : ℕ) (frames : List (List ℕ)) (met : Option End) (fault : Option LinkFault) → HasPut (last_of frames (octets_in (end_step v s now met)) met) fault → HasPut (frames ++ octets_in (end_step v s now met)) fault
+some_put v s now frames None fault h = rw append-nil h
+some_put v s now frames (Some e) fault h = HasPut-append frames (octets_in (end_step v s now (Some e))) fault h
+
+pub fault_put : (v : Terms) (s : Standing) (o : Opening) → IsOpening v s o → HasPut (put_first v s o) o.fault
+fault_put v s o is = some_put v (ticked s o.reading) o.reading o.frames o.met o.fault is.cause
+
 pub none_put : (v : Terms) (s : Standing) (o : Opening) → IsOpening v s o → (closing_in (wanted_at v s o.reading) ≡ None) ⊎ (put_first v s o ≡ [])
 none_put v s o is = elim is.takes [ inl a ↦ inl a.1 | inr b ↦ inr (rw (b.0, b.1) refl) ]
 
 ends_opening : (v : Terms) (s : Standing) (o : Opening) (stop : Stop) → IsOpening v s o → stop_before v s o ≡ Some stop → EndsAtFault (puts (put_first v s o) o.fault ++ said_closing stop.closing)
-ends_opening v s o stop is h = ends_stop _ (closing_in (wanted_at v s o.reading)) (put_first v s o) o.fault _ stop is.cause (none_put v s o is) h
+ends_opening v s o stop is h = ends_stop _ (closing_in (wanted_at v s o.reading)) (put_first v s o) o.fault _ stop (fault_put v s o is) (none_put v s o is) h
 
 well_opening : (v : Terms) (s : Standing) (o : Opening) → stop_before v s o ≡ None → IsWell (puts (put_first v s o) o.fault)
 well_opening v s o h = well_putting _ (put_first v s o) o.fault _ h

@@ -7,7 +7,7 @@ use Rattle.bsc_history.specs.declared.told.Worn.{Worn}
 use Rattle.bsc_ring.specs.Ends.{outlet_mark}
 use Rattle.bsc_turn.specs.declared.pass.Pass.{Pass}
 use Rattle.bsc_turn.specs.Histories.{StartsWith}
-use Rattle.bsc_turn.specs.Passes.{number_of, own_list, seen}
+use Rattle.bsc_turn.specs.Passes.{ended_callers, number_of, own_list, seen}
 use Rattle.bsc_desk.specs.declared.broadcasting.AllRefusal.{AllRefusal}
 use Rattle.bsc_desk.specs.declared.broadcasting.AllReply.{AllReply}
 use Rattle.bsc_desk.specs.declared.forwarding.OneReply.{OneReply}
@@ -36,7 +36,7 @@ own_grew p q None h = h ∙ sym (append-nil (own_list p))
 own_grew p q (Some m) h = h.grew
 
 pub goes_passed : (h : Hub) (p q : Pass) (made : Option Placed) → Passed h p [] made q → Goes h p (entry_made made) q
-goes_passed h p q made k = record { caller = k.caller; number = k.number; sees = k.grows; own = own_grew p q made k.makes }
+goes_passed h p q made k = record { caller = k.caller; number = k.number; sees = k.grows; own = own_grew p q made k.makes; took_in = k.takes_in ∙ append-nil (ended_callers p) }
 
 pub call_passed : (h : Hub) (p q : Pass) (made : Option Placed) → IsCaller h p → Passed h p [] made q → ((c : ℕ) → StaysBy made c) → Calls h p (entry_made made) q
 call_passed h p q made is k stays = record {
@@ -53,7 +53,7 @@ calls_as h p q E F e k = rw e at k
 
 -- no call was made
 pub goes_nowhere : (h : Hub) (p : Pass) → IsCaller h p → Goes h p [] p
-goes_nowhere h p is = record { caller = is; number = refl; sees = ([], sym (append-nil (seen p))); own = sym (append-nil (own_list p)) }
+goes_nowhere h p is = record { caller = is; number = refl; sees = ([], sym (append-nil (seen p))); own = sym (append-nil (own_list p)); took_in = refl }
 
 pub calls_nobody : (h : Hub) (p : Pass) → IsCaller h p → Calls h p [] p
 calls_nobody h p is = record { goes = goes_nowhere h p is; owns = λ c w has. has; marks = λ c m has. has }
@@ -64,6 +64,7 @@ goes_on h p q r E F k l = record {
   number = l.number ∙ k.number;
   sees = (k.sees.0 ++ l.sees.0, l.sees.1 ∙ ap (λ x. x ++ l.sees.0) k.sees.1 ∙ append_assoc (seen p) k.sees.0 l.sees.0);
   own = l.own ∙ ap (λ x. x ++ F) k.own ∙ append_assoc (own_list p) E F;
+  took_in = l.took_in ∙ k.took_in;
 }
 
 -- the connection stays the caller's own

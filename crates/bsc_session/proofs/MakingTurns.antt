@@ -47,11 +47,11 @@ held_opened h v s now p a a1 b old new stop held st k = record {
 }
 
 -- the opening stops the session
-pub makes_opening : (h : Hub) (v : Terms) (s : Standing) (now : ℕ) (p : Pass) (a a1 b : At) (old new : Option (List Said)) (read read' : Option (List ℕ)) (stop : Stop) → Held h v p a s → Starts v s now a a1
+pub makes_opening : (h : Hub) (v : Terms) (s : Standing) (now : ℕ) (p : Pass) (a a1 b : At) (old new : Option (List Said)) (read read' : Option (List ℕ)) (stop : Stop) → s.receives < v.turns → Held h v p a s → Starts v s now a a1
     → Grows read read' (now ∷ []) → Opens v s now a1 b old new (Some stop) → Makes v s h p p a b old new read read' (Some stop)
-makes_opening h v s now p a a1 b old new read read' stop held st reads k = record {
+makes_opening h v s now p a a1 b old new read read' stop room held st reads k = record {
   turn = record { opening = k.opening; hearing = None };
-  is = record { opening = k.is; heard = rw (sym k.stops) refl; hearing = tt };
+  is = record { room = room; opening = k.is; heard = rw (sym k.stops) refl; hearing = tt };
   goes = goes_nowhere h p held.caller;
   gave = rw (sym st.member) k.gave;
   empties = rw (sym st.member) (
@@ -64,13 +64,13 @@ makes_opening h v s now p a a1 b old new read read' stop held st reads k = recor
 }
 
 -- the opening goes on, and the session hears
-pub makes_hearing : (h : Hub) (v : Terms) (s : Standing) (now : ℕ) (p q : Pass) (a a1 b c : At) (old mid new : Option (List Said)) (read read' : Option (List ℕ)) (stop : Option Stop) → Starts v s now a a1
+pub makes_hearing : (h : Hub) (v : Terms) (s : Standing) (now : ℕ) (p q : Pass) (a a1 b c : At) (old mid new : Option (List Said)) (read read' : Option (List ℕ)) (stop : Option Stop) → s.receives < v.turns → Starts v s now a a1
     → Grows read read' (now ∷ []) → (k : Opens v s now a1 b old mid None) → Hears v (opened s k.opening) now h p q b c mid new stop → Makes v s h p q a c old new read read' stop
-makes_hearing h v s now p q a a1 b c old mid new read read' stop st reads k hears =
+makes_hearing h v s now p q a a1 b c old mid new read read' stop room st reads k hears =
     let l : Hears v (opened s k.opening) k.opening.reading h p q b c mid new stop = rw (sym k.read) at hears in
     record {
       turn = record { opening = k.opening; hearing = Some l.hearing };
-      is = record { opening = k.is; heard = rw (sym k.stops) refl; hearing = l.is };
+      is = record { room = room; opening = k.is; heard = rw (sym k.stops) refl; hearing = l.is };
       goes = l.goes;
       gave = rw (sym st.member) (l.given_same ∙ k.gave);
       empties = rw (sym st.member) (l.empties_same ∙ (

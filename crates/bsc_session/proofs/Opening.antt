@@ -39,7 +39,7 @@ use Rattle.bsc_session.specs.Stops.{closes, closing_in, first_of, stop_at, stop_
 use Rattle.bsc_session.specs.Taking.{Opening, IsOpening, end_step, end_told, ended_by, opened, put_first, stop_before, waiting_for}
 use Rattle.bsc_session.proofs.Asking.{left_open, tied_told}
 use Rattle.bsc_session.proofs.Hearing.{connected_joined, some_of}
-use Rattle.bsc_session.proofs.Lists.{grown, grows-nil, grows_as, puts-append, HasPut-append}
+use Rattle.bsc_session.proofs.Lists.{grown, grows-nil, grows_as, puts-append}
 
 -- ---- the time
 
@@ -155,8 +155,9 @@ attends_all v s now a n old new t f r = record {
   gave = t.gave;
   empties = t.empties;
   few = t.few;
+  left = λ h. cc;
   said = rw append-nil t.said;
-  cause = rw append-nil t.cause;
+  cause = t.cause;
   stops = refl;
   follows = follows_taken a n s t.same t.keeps f;
   runs = λ going. record { machine = r.machine; waits = r.waits; tied = r.tied };
@@ -173,8 +174,9 @@ attends_cut v s now a n old new fault stop t f is = record {
   gave = t.gave;
   empties = t.empties;
   few = t.few;
+  left = λ h. cc;
   said = rw append-nil t.said;
-  cause = rw append-nil t.cause;
+  cause = t.cause;
   stops = ap (λ x. Some x) is;
   follows = follows_taken a n s t.same t.keeps f;
   runs = λ going. cc;
@@ -200,6 +202,9 @@ meets v s now e a m st old new stop stood tied answers left carried =
       runs = λ going. record { machine = does.1; waits = left_open (wanted v s (Ended now e)) m k.fault (EndedBy e) stop l (ended_calls e) k.stops going; tied = tied_told s (Ended now e) refl tied };
     }
 
+not_left : (e : End) → e ≢ Left → Some e ≢ Some Left
+not_left e h is = h cc
+
 -- the taking came to an End, and what the machine then wanted was carried out
 pub attends_met : (v : Terms) (s : Standing) (now : ℕ) (a b : At) (n : Option Member) (old mid new : Option (List Said)) (e : End) (stop : Option Stop) → TakesFrom a.member n old mid (Met e) → Follows a s
     → Meets v s now e (record { machine = a.machine; member = n; ended = a.ended; receives = a.receives }) b mid new stop
@@ -212,9 +217,10 @@ attends_met v s now a b n old mid new e stop t f k = record {
   gave = rw k.member t.gave;
   empties = rw k.member t.empties;
   few = t.few;
+  left = not_left e (t.left e refl);
   said = grows_as old new _ _ (sym (puts-append t.frames (octets_in (wanted v s (Ended now e))) k.carried.fault k.carried.cause))
       (grown old mid new (puts t.frames None) (puts (octets_in (wanted v s (Ended now e))) k.carried.fault) t.said k.carried.said);
-  cause = HasPut-append t.frames (octets_in (wanted v s (Ended now e))) k.carried.fault k.carried.cause;
+  cause = k.carried.cause;
   stops = k.carried.stops;
   follows = record { conn = rw k.member (conn_same a.member n t.same ∙ f.conn); ended = k.ended; receives = k.receives ∙ f.receives; found = rw (k.ended, k.member) (t.found e refl) };
   runs = k.runs;
@@ -231,7 +237,7 @@ pub opens_expired : (v : Terms) (s : Standing) (now : ℕ) (a b : At) (old : Opt
 opens_expired v s now a b old stop t = record {
   opening = record { reading = now; frames = []; met = None; fault = None };
   read = refl;
-  is = record { takes = inr (refl, refl); few = lit≤ tt; cause = tt };
+  is = record { takes = inr (refl, refl); few = lit≤ tt; not_left = λ h. cc; cause = tt };
   same = rw t.member (same_member a.member);
   gave = rw t.member (sym (append-nil (given_by a.member)));
   empties = rw (t.member, sym t.stops) (omega arith);
@@ -250,7 +256,7 @@ pub opens_apart : (v : Terms) (s : Standing) (now : ℕ) (a b : At) (old : Optio
 opens_apart v s now a b old t apart = record {
   opening = record { reading = now; frames = []; met = None; fault = None };
   read = refl;
-  is = record { takes = inr (refl, refl); few = lit≤ tt; cause = tt };
+  is = record { takes = inr (refl, refl); few = lit≤ tt; not_left = λ h. cc; cause = tt };
   same = rw t.member (same_member a.member);
   gave = rw t.member (sym (append-nil (given_by a.member)));
   empties = rw (t.member, sym t.stops, apart) (omega arith);
@@ -268,7 +274,7 @@ opens_attended v s now a b c old new stop t live k =
     record {
       opening = record { reading = now; frames = k.frames; met = k.met; fault = k.fault };
       read = refl;
-      is = record { takes = inl (live, quiet); few = k.few; cause = k.cause };
+      is = record { takes = inl (live, quiet); few = k.few; not_left = k.left; cause = k.cause };
       same = rw t.member at k.same;
       gave = rw t.member at k.gave;
       empties = rw (quiet, sym k.stops, live) (rw t.member at k.empties);

@@ -62,6 +62,10 @@ are_terms h p limits turns = record { hub = refl; times = refl }
 pub some_terms : (h : Hub) (p0 p : Pass) (limits : SessionLimits) (turns : ℕ) (a : At) (old new : Option (List Said)) (read read' : Option (List ℕ)) → Stood (terms_of h p0 limits turns) h p0 p a old new read read' → HasTerms h p limits a
 some_terms h p0 p limits turns a old new read read' k = (terms_of h p0 limits turns, standing (terms_of h p0 limits turns) begun k.turns, are_terms h p0 limits turns, k.held, k.between)
 
+-- receives are left
+pub has_room : (v : Terms) (s : Standing) (h : Hub) (p : Pass) (a : At) → Held h v p a s → a.receives < v.turns → s.receives < v.turns
+has_room v s h p a held room = (let e = held.follows.receives in omega (arith, e, room))
+
 -- a turn that goes on has received
 pub received_more : (v : Terms) (s : Standing) (h : Hub) (p q : Pass) (a b : At) (old new : Option (List Said)) (read read' : Option (List ℕ)) → Held h v p a s → Makes v s h p q a b old new read read' None → b.receives ≡ a.receives + 1
 received_more v s h p q a b old new read read' held k = k.held.follows.receives ∙ receives_more v s h p q a b old new read read' k ∙ ap (λ n. n + 1) (sym held.follows.receives)

@@ -1,6 +1,6 @@
 -- Talks written out, each a session by computation. The hub has the VMAC 020000000001 and takes 1,600 octets; its outboxes
 -- have 64 places. A has the VMAC 02000000000A, and its connect has the Message ID 1. Readings are 0 where none is named.
-use Rattle.std.proofs.Common.{ℕ, [], ◌∷◌, ◌++◌, Some, None, Ok, Err, List, Option, Result, true, replicate, refl, inl, inr, lit≤}
+use Rattle.std.proofs.Common.{ℕ, [], ◌∷◌, ◌++◌, Some, None, Ok, Err, List, Option, Result, true, replicate, refl, inl, inr, lit<, lit≤}
 use Rattle.bsc_octets.specs.declared.identity.Identity.{Identity}
 use Rattle.bsc_octets.specs.Identities.{identity_of}
 use Rattle.bsc_history.specs.declared.call.Call.TheVariants.{Connect, Forward, Leave}
@@ -44,7 +44,7 @@ abbrev reads : ℕ → Opening
 reads now = record { reading = now; frames = []; met = None; fault = None }
 
 bare : (s : Standing) (now : ℕ) → IsOpening terms s (reads now)
-bare s now = record { takes = inr (refl, refl); few = lit≤ tt; cause = tt }
+bare s now = record { takes = inr (refl, refl); few = lit≤ tt; not_left = λ h. cc; cause = tt }
 
 -- a thing given at a reading, with the hub's answer, and with the answer of the last put where that failed
 abbrev given_at : ℕ → Result Incoming LinkFault → Option Answer → Option LinkFault → Turn
@@ -119,7 +119,7 @@ nothing_fails = record {
     went_on = (joins ∷ []);
     last = Some (gives Closed);
     stop = stop_for PeerClosed None;
-    turns = (record { opening = bare _ 0; heard = refl; hearing = record { memory = tt; calls = refl; fits = refl; cause = tt } }, (record { opening = bare _ 0; heard = refl; hearing = record { memory = tt; calls = refl; fits = tt; cause = tt } }, tt));
+    turns = (record { room = lit< tt; opening = bare _ 0; heard = refl; hearing = record { memory = tt; calls = refl; fits = refl; cause = tt } }, (record { room = lit< tt; opening = bare _ 0; heard = refl; hearing = record { memory = tt; calls = refl; fits = tt; cause = tt } }, tt));
     goes_on = (refl, tt);
     stops = refl;
   };
@@ -149,7 +149,7 @@ call_1_fails = record {
     went_on = [];
     last = Some (given_at 0 (Err Failed) None None);
     stop = stop_at Failed;
-    turns = (record { opening = bare _ 0; heard = refl; hearing = record { memory = tt; calls = refl; fits = tt; cause = tt } }, tt);
+    turns = (record { room = lit< tt; opening = bare _ 0; heard = refl; hearing = record { memory = tt; calls = refl; fits = tt; cause = tt } }, tt);
     goes_on = tt;
     stops = refl;
   };
@@ -179,7 +179,7 @@ call_2_fails = record {
     went_on = [];
     last = Some (given_at 0 (Ok (Message connect)) (Some (replies [] (Joined 1 None))) (Some Failed));
     stop = stop_at Failed;
-    turns = (record { opening = bare _ 0; heard = refl; hearing = record { memory = tt; calls = refl; fits = refl; cause = tt } }, tt);
+    turns = (record { room = lit< tt; opening = bare _ 0; heard = refl; hearing = record { memory = tt; calls = refl; fits = refl; cause = tt } }, tt);
     goes_on = tt;
     stops = refl;
   };
@@ -209,7 +209,7 @@ call_3_fails = record {
     went_on = (joins ∷ []);
     last = Some (given_at 0 (Err Failed) None None);
     stop = stop_at Failed;
-    turns = (record { opening = bare _ 0; heard = refl; hearing = record { memory = tt; calls = refl; fits = refl; cause = tt } }, (record { opening = bare _ 0; heard = refl; hearing = record { memory = tt; calls = refl; fits = tt; cause = tt } }, tt));
+    turns = (record { room = lit< tt; opening = bare _ 0; heard = refl; hearing = record { memory = tt; calls = refl; fits = refl; cause = tt } }, (record { room = lit< tt; opening = bare _ 0; heard = refl; hearing = record { memory = tt; calls = refl; fits = tt; cause = tt } }, tt));
     goes_on = (refl, tt);
     stops = refl;
   };
@@ -239,7 +239,7 @@ a_frame_cannot_leave = record {
     went_on = (joins ∷ forwards_to 1 to_itself Appended ∷ []);
     last = Some (record { opening = record { reading = 0; frames = back ∷ []; met = None; fault = Some Failed }; hearing = None });
     stop = stop_at Failed;
-    turns = (record { opening = bare _ 0; heard = refl; hearing = record { memory = tt; calls = refl; fits = refl; cause = tt } }, (record { opening = bare _ 0; heard = refl; hearing = record { memory = tt; calls = refl; fits = tt; cause = tt } }, (record { opening = record { takes = inl (refl, refl); few = lit≤ tt; cause = tt }; heard = refl; hearing = tt }, tt)));
+    turns = (record { room = lit< tt; opening = bare _ 0; heard = refl; hearing = record { memory = tt; calls = refl; fits = refl; cause = tt } }, (record { room = lit< tt; opening = bare _ 0; heard = refl; hearing = record { memory = tt; calls = refl; fits = tt; cause = tt } }, (record { room = lit< tt; opening = record { takes = inl (refl, refl); few = lit≤ tt; not_left = λ h. cc; cause = tt }; heard = refl; hearing = tt }, tt)));
     goes_on = (refl, (refl, tt));
     stops = refl;
   };
@@ -269,7 +269,7 @@ a_text_comes = record {
     went_on = (joins ∷ []);
     last = Some (gives Text);
     stop = stop_closing NotBinary 1003 NoReason;
-    turns = (record { opening = bare _ 0; heard = refl; hearing = record { memory = tt; calls = refl; fits = refl; cause = tt } }, (record { opening = bare _ 0; heard = refl; hearing = record { memory = tt; calls = refl; fits = tt; cause = tt } }, tt));
+    turns = (record { room = lit< tt; opening = bare _ 0; heard = refl; hearing = record { memory = tt; calls = refl; fits = refl; cause = tt } }, (record { room = lit< tt; opening = bare _ 0; heard = refl; hearing = record { memory = tt; calls = refl; fits = tt; cause = tt } }, tt));
     goes_on = (refl, tt);
     stops = refl;
   };
@@ -299,7 +299,7 @@ a_text_comes_and_the_closing_fails = record {
     went_on = (joins ∷ []);
     last = Some (gives Text);
     stop = stop_closing NotBinary 1003 NoReason;
-    turns = (record { opening = bare _ 0; heard = refl; hearing = record { memory = tt; calls = refl; fits = refl; cause = tt } }, (record { opening = bare _ 0; heard = refl; hearing = record { memory = tt; calls = refl; fits = tt; cause = tt } }, tt));
+    turns = (record { room = lit< tt; opening = bare _ 0; heard = refl; hearing = record { memory = tt; calls = refl; fits = refl; cause = tt } }, (record { room = lit< tt; opening = bare _ 0; heard = refl; hearing = record { memory = tt; calls = refl; fits = tt; cause = tt } }, tt));
     goes_on = (refl, tt);
     stops = refl;
   };
@@ -329,7 +329,7 @@ the_ack_cannot_leave = record {
     went_on = (joins ∷ []);
     last = Some (given_at 0 (Ok (Message leaves)) None (Some Failed));
     stop = stop_at Failed;
-    turns = (record { opening = bare _ 0; heard = refl; hearing = record { memory = tt; calls = refl; fits = refl; cause = tt } }, (record { opening = bare _ 0; heard = refl; hearing = record { memory = tt; calls = refl; fits = tt; cause = tt } }, tt));
+    turns = (record { room = lit< tt; opening = bare _ 0; heard = refl; hearing = record { memory = tt; calls = refl; fits = refl; cause = tt } }, (record { room = lit< tt; opening = bare _ 0; heard = refl; hearing = record { memory = tt; calls = refl; fits = tt; cause = tt } }, tt));
     goes_on = (refl, tt);
     stops = refl;
   };
@@ -359,7 +359,7 @@ the_peer_leaves = record {
     went_on = (joins ∷ []);
     last = Some (gives (Message leaves));
     stop = stop_closing PeerLeft 1000 NoReason;
-    turns = (record { opening = bare _ 0; heard = refl; hearing = record { memory = tt; calls = refl; fits = refl; cause = tt } }, (record { opening = bare _ 0; heard = refl; hearing = record { memory = tt; calls = refl; fits = tt; cause = tt } }, tt));
+    turns = (record { room = lit< tt; opening = bare _ 0; heard = refl; hearing = record { memory = tt; calls = refl; fits = refl; cause = tt } }, (record { room = lit< tt; opening = bare _ 0; heard = refl; hearing = record { memory = tt; calls = refl; fits = tt; cause = tt } }, tt));
     goes_on = (refl, tt);
     stops = refl;
   };
@@ -389,7 +389,7 @@ a_cut_head_comes = record {
     went_on = (joins ∷ gives (Message cut) ∷ []);
     last = Some (gives Closed);
     stop = stop_for PeerClosed None;
-    turns = (record { opening = bare _ 0; heard = refl; hearing = record { memory = tt; calls = refl; fits = refl; cause = tt } }, (record { opening = bare _ 0; heard = refl; hearing = record { memory = tt; calls = refl; fits = tt; cause = tt } }, (record { opening = bare _ 0; heard = refl; hearing = record { memory = tt; calls = refl; fits = tt; cause = tt } }, tt)));
+    turns = (record { room = lit< tt; opening = bare _ 0; heard = refl; hearing = record { memory = tt; calls = refl; fits = refl; cause = tt } }, (record { room = lit< tt; opening = bare _ 0; heard = refl; hearing = record { memory = tt; calls = refl; fits = tt; cause = tt } }, (record { room = lit< tt; opening = bare _ 0; heard = refl; hearing = record { memory = tt; calls = refl; fits = tt; cause = tt } }, tt)));
     goes_on = (refl, (refl, tt));
     stops = refl;
   };
@@ -419,7 +419,7 @@ a_message_too_long_comes = record {
     went_on = (joins ∷ gives (Message too_long) ∷ []);
     last = Some (gives Closed);
     stop = stop_for PeerClosed None;
-    turns = (record { opening = bare _ 0; heard = refl; hearing = record { memory = tt; calls = refl; fits = refl; cause = tt } }, (record { opening = bare _ 0; heard = refl; hearing = record { memory = tt; calls = refl; fits = tt; cause = tt } }, (record { opening = bare _ 0; heard = refl; hearing = record { memory = tt; calls = refl; fits = tt; cause = tt } }, tt)));
+    turns = (record { room = lit< tt; opening = bare _ 0; heard = refl; hearing = record { memory = tt; calls = refl; fits = refl; cause = tt } }, (record { room = lit< tt; opening = bare _ 0; heard = refl; hearing = record { memory = tt; calls = refl; fits = tt; cause = tt } }, (record { room = lit< tt; opening = bare _ 0; heard = refl; hearing = record { memory = tt; calls = refl; fits = tt; cause = tt } }, tt)));
     goes_on = (refl, (refl, tt));
     stops = refl;
   };
@@ -449,7 +449,7 @@ no_connect_comes = record {
     went_on = (gives Quiet ∷ given_at 9999 (Ok Quiet) None None ∷ []);
     last = Some (record { opening = reads 10000; hearing = None });
     stop = stop_closing WaitExpired 1008 ConnectWait;
-    turns = (record { opening = bare _ 0; heard = refl; hearing = record { memory = tt; calls = refl; fits = tt; cause = tt } }, (record { opening = bare _ 9999; heard = refl; hearing = record { memory = tt; calls = refl; fits = tt; cause = tt } }, (record { opening = bare _ 10000; heard = refl; hearing = tt }, tt)));
+    turns = (record { room = lit< tt; opening = bare _ 0; heard = refl; hearing = record { memory = tt; calls = refl; fits = tt; cause = tt } }, (record { room = lit< tt; opening = bare _ 9999; heard = refl; hearing = record { memory = tt; calls = refl; fits = tt; cause = tt } }, (record { room = lit< tt; opening = bare _ 10000; heard = refl; hearing = tt }, tt)));
     goes_on = (refl, (refl, tt));
     stops = refl;
   };
@@ -479,7 +479,7 @@ the_hub_has_stopped = record {
     went_on = [];
     last = Some (given_at 0 (Ok (Message connect)) (Some (replies [] (Refused Stopped))) None);
     stop = stop_closing (WhyRefused Stopped) 1001 NoReason;
-    turns = (record { opening = bare _ 0; heard = refl; hearing = record { memory = tt; calls = refl; fits = refl; cause = tt } }, tt);
+    turns = (record { room = lit< tt; opening = bare _ 0; heard = refl; hearing = record { memory = tt; calls = refl; fits = refl; cause = tt } }, tt);
     goes_on = tt;
     stops = refl;
   };
@@ -509,7 +509,7 @@ an_outbox_is_full = record {
     went_on = (joins_as 2 ∷ forwards_to 1 (to_b 1) Appended ∷ forwards_to 1 (to_b 2) Appended ∷ forwards_to 1 (to_b 3) ClosedReply ∷ []);
     last = Some (gives Closed);
     stop = stop_for PeerClosed None;
-    turns = (record { opening = bare _ 0; heard = refl; hearing = record { memory = tt; calls = refl; fits = refl; cause = tt } }, (record { opening = bare _ 0; heard = refl; hearing = record { memory = tt; calls = refl; fits = tt; cause = tt } }, (record { opening = bare _ 0; heard = refl; hearing = record { memory = tt; calls = refl; fits = tt; cause = tt } }, (record { opening = bare _ 0; heard = refl; hearing = record { memory = tt; calls = refl; fits = tt; cause = tt } }, (record { opening = bare _ 0; heard = refl; hearing = record { memory = tt; calls = refl; fits = tt; cause = tt } }, tt)))));
+    turns = (record { room = lit< tt; opening = bare _ 0; heard = refl; hearing = record { memory = tt; calls = refl; fits = refl; cause = tt } }, (record { room = lit< tt; opening = bare _ 0; heard = refl; hearing = record { memory = tt; calls = refl; fits = tt; cause = tt } }, (record { room = lit< tt; opening = bare _ 0; heard = refl; hearing = record { memory = tt; calls = refl; fits = tt; cause = tt } }, (record { room = lit< tt; opening = bare _ 0; heard = refl; hearing = record { memory = tt; calls = refl; fits = tt; cause = tt } }, (record { room = lit< tt; opening = bare _ 0; heard = refl; hearing = record { memory = tt; calls = refl; fits = tt; cause = tt } }, tt)))));
     goes_on = (refl, (refl, (refl, (refl, tt))));
     stops = refl;
   };

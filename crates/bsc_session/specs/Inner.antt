@@ -40,7 +40,7 @@ use Rattle.bsc_session.specs.Standings.{Standing, Terms, begun, is_connected, st
 use Rattle.bsc_session.specs.declared.limits.SessionLimits.{SessionLimits}
 use Rattle.bsc_session.specs.Judging.{LacksAtPass, heard_step, heard_told}
 use Rattle.bsc_session.specs.Reading.{started, ticked}
-use Rattle.bsc_session.specs.Taking.{IsOpening, Opening, count_of, end_step, end_told, ended_by, opened, put_first, stop_before, waiting_for}
+use Rattle.bsc_session.specs.Taking.{IsOpening, Opening, count_of, end_step, end_told, ended_by, last_of, opened, put_first, stop_before, waiting_for}
 use Rattle.bsc_session.specs.Turns.{IsTurn, Turn, after, empties_in, entries_in, frames_in, reading_in, said_in, stop_in}
 use Rattle.bsc_session.specs.Stops.{closes, closing_in, first_of, stop_if}
 
@@ -273,8 +273,9 @@ pub record Attends (v : Terms) (s : Standing) (now : ℕ) (a b : At) (old new : 
   pub gave : given_by b.member ≡ given_by a.member ++ frames
   pub empties : empties_by b.member ≡ empties_by a.member + nothing_found frames met (is_none stop)
   pub few : length frames + count_of met ≤ 16
+  pub left : met ≢ Some Left
   pub said : Grows old new (puts (frames ++ octets_in (end_step v s now met)) fault)
-  pub cause : HasPut (frames ++ octets_in (end_step v s now met)) fault
+  pub cause : HasPut (last_of frames (octets_in (end_step v s now met)) met) fault
   pub stops : stop ≡ first_of (stop_if fault) (closes (ended_by met) (closing_in (end_step v s now met)))
   pub follows : Follows b (end_told s now met)
   pub runs : stop ≡ None → Runs v b (end_told s now met)

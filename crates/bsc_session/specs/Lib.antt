@@ -12,4 +12,5 @@ pub mod Talk
 pub mod Causes
 pub mod Laws
 pub mod Serving
+pub mod Jobs
 pub mod Inner

@@ -1,6 +1,7 @@
 -- The opening of a turn: its reading, the frames from the outlet, and the End that the outlet gives.
-use Rattle.std.specs.Prelude.{List, None, Option, Some, [], length, true, ℕ, ◌+◌, ◌++◌, ◌≡◌, ◌≤◌, ◌⊎◌}
+use Rattle.std.specs.Prelude.{List, None, Option, Some, [], length, true, ℕ, ◌+◌, ◌++◌, ◌≡◌, ◌≢◌, ◌≤◌, ◌⊎◌}
 use Rattle.bsc_history.specs.declared.ending.End.{End}
+use Rattle.bsc_history.specs.declared.ending.End.TheVariants.{Left}
 use Rattle.bsc_edge.specs.declared.fault.LinkFault.{LinkFault}
 use Rattle.bsc_accept.specs.declared.event.Event.TheVariants.{Ended}
 use Rattle.bsc_accept.specs.declared.step.Step.{Step}
@@ -38,6 +39,15 @@ opened s o = end_told (ticked s o.reading) o.reading o.met
 abbrev pub put_first : Terms → Standing → Opening → List (List ℕ)
 put_first v s o = o.frames ++ octets_in (end_step v (ticked s o.reading) o.reading o.met)
 
+-- of frames, and of the octets of a step at an End, those that are put last: the octets where an End was met
+abbrev pub last_of : List (List ℕ) → List (List ℕ) → Option End → List (List ℕ)
+last_of frames octets None = frames
+last_of frames octets (Some e) = octets
+
+-- Those of the octets that are put of which a put may fail: a put that failed is the last, and no End is met after it.
+abbrev pub put_last : Terms → Standing → Opening → List (List ℕ)
+put_last v s o = last_of o.frames (octets_in (end_step v (ticked s o.reading) o.reading o.met)) o.met
+
 -- a session that hasn't joined waits for its connect
 abbrev pub waiting_for : Option ℕ → Why
 waiting_for None = WaitExpired
@@ -63,9 +73,10 @@ count_of (Some e) = 1
 abbrev pub Looks : Terms → Standing → ℕ → Type 0
 Looks v s now = (is_connected (ticked s now) ≡ true) × (closing_in (wanted_at v s now) ≡ None)
 
--- An opening as it may be: frames and an End come only where the outlet is looked at, at most sixteen of them, and a
--- fault is that of a put.
+-- An opening as it may be: frames and an End come only where the outlet is looked at, at most sixteen of them; the End
+-- isn't Left, which only a Leave gives; and a fault is that of the last put.
 pub record IsOpening (v : Terms) (s : Standing) (o : Opening) : Type 0 where
   pub takes : Looks v s o.reading ⊎ ((o.frames ≡ []) × (o.met ≡ None))
   pub few : length o.frames + count_of o.met ≤ 16
-  pub cause : HasPut (put_first v s o) o.fault
+  pub not_left : o.met ≢ Some Left
+  pub cause : HasPut (put_last v s o) o.fault

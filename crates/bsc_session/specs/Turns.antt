@@ -1,6 +1,6 @@
 -- One turn of a session: what is said on the link, which entries are made, where the session stands after it, and how it
 -- stops.
-use Rattle.std.specs.Prelude.{List, None, Option, Some, [], if◌then◌else◌, is_none, is_some, length, nat_lt, ℕ, ⊤, ◌&&◌, ◌++◌, ◌∷◌, ◌≡◌}
+use Rattle.std.specs.Prelude.{List, None, Option, Some, [], if◌then◌else◌, is_none, is_some, length, nat_lt, ℕ, ⊤, ◌&&◌, ◌++◌, ◌<◌, ◌∷◌, ◌≡◌}
 use Rattle.bsc_history.specs.declared.entry.Entry.{Entry}
 use Rattle.bsc_edge.specs.declared.said.Said.{Said}
 use Rattle.bsc_session.specs.declared.stop.Stop.{Stop}
@@ -64,8 +64,10 @@ abbrev pub IsHearingIf : Terms → Standing → ℕ → Option Hearing → Type 
 IsHearingIf v s now None = ⊤
 IsHearingIf v s now (Some h) = IsHearing v s now h
 
--- A turn as it may be: there is a hearing exactly where the opening doesn't stop the session.
+-- A turn as it may be: none is made where the receives are spent, and there is a hearing exactly where the opening
+-- doesn't stop the session.
 pub record IsTurn (v : Terms) (s : Standing) (t : Turn) : Type 0 where
+  pub room : s.receives < v.turns
   pub opening : IsOpening v s t.opening
   pub heard : is_some t.hearing ≡ is_none (stop_before v s t.opening)
   pub hearing : IsHearingIf v (opened s t.opening) t.opening.reading t.hearing

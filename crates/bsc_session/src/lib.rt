@@ -8,6 +8,7 @@ mod answering;
 mod at;
 mod ended;
 mod ending;
+mod job;
 mod judging;
 mod laws;
 mod limits;
@@ -22,8 +23,10 @@ mod tests;
 mod turning;
 mod waking;
 mod why;
+mod working;
 
 pub use ended::Ended;
+pub use job::SessionJob;
 pub use laws::{causes_are_exact, sessions_end_at_fault};
 pub use limits::SessionLimits;
 pub use serving::serve_connection;

@@ -146,7 +146,8 @@ pub fn turn<R: Wait, L: Link, C: Clock>(
 ) -> Option<Stop>
     requires stands { HasTerms hub.now pass.old limits.now at.old }
     requires room { at.old.receives < 18446744073709551615 }
-    ensures made { (v : Terms) (s : Standing) → AreTerms v hub.now limits.now → Held hub.now v pass.old at.old s → Between v at.old s
+    ensures made { (v : Terms) (s : Standing) → AreTerms v hub.now limits.now → s.receives < v.turns → Held hub.now v pass.old at.old s
+        → Between v at.old s
         → Makes v s hub.now pass.old pass.new at.old at.new (L.talk link.old) (L.talk link.new)
         (C.readings clock.old) (C.readings clock.new) result }
     ensures later { L.faults link.old ≤ L.faults link.new }

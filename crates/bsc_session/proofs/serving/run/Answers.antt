@@ -3,7 +3,7 @@ use Rattle.bsc_session.specs.Course.{standing}
 use Rattle.bsc_session.specs.Inner.{Makes}
 use Rattle.bsc_session.specs.Serving.{terms_of}
 use Rattle.bsc_session.specs.Standings.{begun}
-use Rattle.bsc_session.proofs.Running.{are_terms, ran_spent, ran_stopped, received_more, some_terms, stood_begins, stood_more}
+use Rattle.bsc_session.proofs.Running.{are_terms, has_room, ran_spent, ran_stopped, received_more, some_terms, stood_begins, stood_more}
 use Rattle.bsc_session.proofs.serving.run.Goals as goal
 
 pub turn-requires-clause-stands : goal.turn-requires-clause-stands
@@ -13,13 +13,13 @@ pub returns-in-Some-clause-ran : goal.returns-in-Some-clause-ran
 returns-in-Some-clause-ran g c =
     let k = c.loop-at.invariant.0 in
     ran_stopped (terms_of c.args.hub.now c.args.pass.now c.args.limits.now c.args.turns) c.args.hub.now c.args.pass.now c.loop-at.pass c.turn.new.pass c.loop-at.at c.turn.new.at (g.L.Link.talk c.args.link.now) (g.L.Link.talk c.loop-at.link) (g.L.Link.talk c.turn.new.link) (g.C.Clock.readings c.args.clock.now) (g.C.Clock.readings c.loop-at.clock) (g.C.Clock.readings c.turn.new.clock) c.in-Some.stop k
-    (c.in-Some.ensures.made (terms_of c.args.hub.now c.args.pass.now c.args.limits.now c.args.turns) (standing (terms_of c.args.hub.now c.args.pass.now c.args.limits.now c.args.turns) begun k.turns) (are_terms c.args.hub.now c.args.pass.now c.args.limits.now c.args.turns) k.held k.between)
+    (c.in-Some.ensures.made (terms_of c.args.hub.now c.args.pass.now c.args.limits.now c.args.turns) (standing (terms_of c.args.hub.now c.args.pass.now c.args.limits.now c.args.turns) begun k.turns) (are_terms c.args.hub.now c.args.pass.now c.args.limits.now c.args.turns) (has_room _ _ c.args.hub.now c.loop-at.pass c.loop-at.at k.held c.loop-at-test.true) k.held k.between)
 
 pub loop-at-smaller : goal.loop-at-smaller
 loop-at-smaller g c =
     let k = c.loop-at.invariant.0 in
     let m : Makes (terms_of c.args.hub.now c.args.pass.now c.args.limits.now c.args.turns) (standing (terms_of c.args.hub.now c.args.pass.now c.args.limits.now c.args.turns) begun k.turns) c.args.hub.now c.loop-at.pass c.turn.new.pass c.loop-at.at c.turn.new.at (g.L.Link.talk c.loop-at.link) (g.L.Link.talk c.turn.new.link) (g.C.Clock.readings c.loop-at.clock) (g.C.Clock.readings c.turn.new.clock) None =
-    rw c.in_default.is at (c.turn.ensures.made (terms_of c.args.hub.now c.args.pass.now c.args.limits.now c.args.turns) (standing (terms_of c.args.hub.now c.args.pass.now c.args.limits.now c.args.turns) begun k.turns) (are_terms c.args.hub.now c.args.pass.now c.args.limits.now c.args.turns) k.held k.between) in
+    rw c.in_default.is at (c.turn.ensures.made (terms_of c.args.hub.now c.args.pass.now c.args.limits.now c.args.turns) (standing (terms_of c.args.hub.now c.args.pass.now c.args.limits.now c.args.turns) begun k.turns) (are_terms c.args.hub.now c.args.pass.now c.args.limits.now c.args.turns) (has_room _ _ c.args.hub.now c.loop-at.pass c.loop-at.at k.held c.loop-at-test.true) k.held k.between) in
     let r = received_more _ _ c.args.hub.now c.loop-at.pass c.turn.new.pass c.loop-at.at c.turn.new.at _ _ _ _ k.held m in
     omega (arith, c.loop-at-test.true, r)
 
@@ -27,7 +27,7 @@ pub loop-at-preserved : goal.loop-at-preserved
 loop-at-preserved g c =
     let k = c.loop-at.invariant.0 in
     let m : Makes (terms_of c.args.hub.now c.args.pass.now c.args.limits.now c.args.turns) (standing (terms_of c.args.hub.now c.args.pass.now c.args.limits.now c.args.turns) begun k.turns) c.args.hub.now c.loop-at.pass c.turn.new.pass c.loop-at.at c.turn.new.at (g.L.Link.talk c.loop-at.link) (g.L.Link.talk c.turn.new.link) (g.C.Clock.readings c.loop-at.clock) (g.C.Clock.readings c.turn.new.clock) None =
-    rw c.in_default.is at (c.turn.ensures.made (terms_of c.args.hub.now c.args.pass.now c.args.limits.now c.args.turns) (standing (terms_of c.args.hub.now c.args.pass.now c.args.limits.now c.args.turns) begun k.turns) (are_terms c.args.hub.now c.args.pass.now c.args.limits.now c.args.turns) k.held k.between) in
+    rw c.in_default.is at (c.turn.ensures.made (terms_of c.args.hub.now c.args.pass.now c.args.limits.now c.args.turns) (standing (terms_of c.args.hub.now c.args.pass.now c.args.limits.now c.args.turns) begun k.turns) (are_terms c.args.hub.now c.args.pass.now c.args.limits.now c.args.turns) (has_room _ _ c.args.hub.now c.loop-at.pass c.loop-at.at k.held c.loop-at-test.true) k.held k.between) in
     let r = received_more _ _ c.args.hub.now c.loop-at.pass c.turn.new.pass c.loop-at.at c.turn.new.at _ _ _ _ k.held m in (
       stood_more (terms_of c.args.hub.now c.args.pass.now c.args.limits.now c.args.turns) c.args.hub.now c.args.pass.now c.loop-at.pass c.turn.new.pass c.loop-at.at c.turn.new.at (g.L.Link.talk c.args.link.now) (g.L.Link.talk c.loop-at.link) (g.L.Link.talk c.turn.new.link) (g.C.Clock.readings c.args.clock.now) (g.C.Clock.readings c.loop-at.clock) (g.C.Clock.readings c.turn.new.clock) k m,
       omega (arith, c.loop-at.invariant.1, c.turn.ensures.later),

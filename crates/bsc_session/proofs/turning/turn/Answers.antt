@@ -23,14 +23,14 @@ hear-requires-clause-room g c =
     (c.open.ensures.opened c.requires.stands.0 c.requires.stands.1 (started c.requires.stands.1 c.now-now.result) refl st.follows st.runs) c.requires.room
 
 pub returns-in-Some-clause-made : goal.returns-in-Some-clause-made
-returns-in-Some-clause-made g c v s terms held between =
+returns-in-Some-clause-made g c v s terms room held between =
     let st = c.start.ensures v s terms held.follows between in
-    makes_opening c.args.hub.now v s c.now-now.result c.args.pass.now c.args.at.now c.start.new.at c.open.new.at (g.L.Link.talk c.args.link.now) (g.L.Link.talk c.open.new.link) (g.C.Clock.readings c.args.clock.now) (g.C.Clock.readings c.now-now.new.self) c.in-Some.stop held st c.now-now.ensures.told
+    makes_opening c.args.hub.now v s c.now-now.result c.args.pass.now c.args.at.now c.start.new.at c.open.new.at (g.L.Link.talk c.args.link.now) (g.L.Link.talk c.open.new.link) (g.C.Clock.readings c.args.clock.now) (g.C.Clock.readings c.now-now.new.self) c.in-Some.stop room held st c.now-now.ensures.told
     (c.in-Some.ensures.opened v s (started s c.now-now.result) refl st.follows st.runs)
 
 pub returns-in-None-clause-made : goal.returns-in-None-clause-made
-returns-in-None-clause-made g c v s terms held between =
+returns-in-None-clause-made g c v s terms room held between =
     let st = c.start.ensures v s terms held.follows between in
     let k = c.in-None.ensures.opened v s (started s c.now-now.result) refl st.follows st.runs in
-    makes_hearing c.args.hub.now v s c.now-now.result c.args.pass.now c.hear.new.pass c.args.at.now c.start.new.at c.open.new.at c.hear.new.at (g.L.Link.talk c.args.link.now) (g.L.Link.talk c.open.new.link) (g.L.Link.talk c.hear.new.link) (g.C.Clock.readings c.args.clock.now) (g.C.Clock.readings c.now-now.new.self) c.hear.result st c.now-now.ensures.told k
+    makes_hearing c.args.hub.now v s c.now-now.result c.args.pass.now c.hear.new.pass c.args.at.now c.start.new.at c.open.new.at c.hear.new.at (g.L.Link.talk c.args.link.now) (g.L.Link.talk c.open.new.link) (g.L.Link.talk c.hear.new.link) (g.C.Clock.readings c.args.clock.now) (g.C.Clock.readings c.now-now.new.self) c.hear.result room st c.now-now.ensures.told k
     (c.hear.ensures.heard v (opened s k.opening) terms.hub (held_opened c.args.hub.now v s c.now-now.result c.args.pass.now c.args.at.now c.start.new.at c.open.new.at (g.L.Link.talk c.args.link.now) (g.L.Link.talk c.open.new.link) _ held st k) (k.runs refl))

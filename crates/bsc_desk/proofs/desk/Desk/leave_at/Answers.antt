@@ -34,6 +34,11 @@ returns-clause-given c S p = given_first c.args.self.now S c.args.conn _ c.args.
 pub returns-clause-found : goal.returns-clause-found
 returns-clause-found c e found = c.unwrap_or.ensures ∙ ap (λ (o : Option End). unwrap_or o Left) (sym c.remove-inlet.result.tied ∙ c.unite-remains.ensures.fit.2 e found)
 
+pub returns-clause-all : goal.returns-clause-all
+returns-clause-all c S p all =
+    c.unite-remains.ensures.fit.4 all
+    ∙ (inlet_at c.args.self.now c.args.conn c.args.place c.remove-inlet.result c.requires.place c.remove-inlet.ensures.value S p).items
+
 pub returns-clause-row : goal.returns-clause-row
 returns-clause-row c =
     let d = c.args.self.now in

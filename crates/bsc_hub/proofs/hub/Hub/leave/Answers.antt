@@ -74,3 +74,14 @@ returns-clause-given g c =
     let gone = c.leave-said.result in
     let after : sent (about_of h) (entries (seen c.commit_leave-at.new.pass)) c.args.conn ≡ sent (about_of h) (entries w.seen) c.args.conn = ap (λ (v : View). sent (about_of h) (entries v.seen) c.args.conn) c.commit_leave-at.ensures.2 ∙ sent_left (about_of h) w.seen c.number-caller.result c.args.conn c.empties-empties.result gone c.args.conn in
     c.leave-said.ensures.given w.seen stands ∙ ap (λ (a : About). take gone.taken (sent a (entries w.seen) c.args.conn)) about ∙ ap (take gone.taken) (sym after)
+
+pub returns-clause-all : goal.returns-clause-all
+returns-clause-all g c all =
+    let h = c.args.self.now in
+    let e = c.enter-guard.ensures in
+    let w = guard_view c.enter-guard.result in
+    let stands : StandsFor c.state.result.now w.seen = subst (λ d. StandsFor d w.seen) (sym c.state.ensures.value) e.stands in
+    let about : c.state.result.now.about ≡ about_of h = ap (λ (d : Desk). d.about) c.state.ensures.value ∙ e.about ∙ h.fixed in
+    let gone = c.leave-said.result in
+    let after : sent (about_of h) (entries (seen c.commit_leave-at.new.pass)) c.args.conn ≡ sent (about_of h) (entries w.seen) c.args.conn = ap (λ (v : View). sent (about_of h) (entries v.seen) c.args.conn) c.commit_leave-at.ensures.2 ∙ sent_left (about_of h) w.seen c.number-caller.result c.args.conn c.empties-empties.result gone c.args.conn in
+    c.leave-said.ensures.all w.seen stands all ∙ ap (λ (a : About). sent a (entries w.seen) c.args.conn) about ∙ sym after

@@ -1,0 +1,76 @@
+//! A session as a job of a thread.
+ghost use Rattle.std.specs.Prelude.{◌≡◌, None};
+ghost use Rattle.std.specs.Arc.{arc_value};
+ghost use Rattle.bsc_hub.specs.Passing.{IsCaller};
+ghost use Rattle.bsc_hub.proofs.Unique.{IsCaller-prop};
+
+use crate::ended::Ended;
+use crate::limits::SessionLimits;
+use bsc_hub::{Hub, Pass};
+use std::alloc::Global;
+use std::sync::Arc;
+
+/// A session for a thread: all that the serving call of one connection needs, and then what it answered.
+#[derive(Drop)]
+pub struct SessionJob<L, C> {
+    pub alloc: Global,
+    /// The hub that is served.
+    pub hub: Arc<Hub>,
+    /// The caller's pass of this hub.
+    pub pass: Pass,
+    /// The link to the peer.
+    pub link: L,
+    pub clock: C,
+    pub limits: SessionLimits,
+    /// How many receives the session may make.
+    pub turns: u64,
+    /// How the session ended, once it was served.
+    pub ended: Option<Ended>,
+    // The pass is of the hub.
+    ghost of_hub: { IsCaller (arc_value hub) pass } by { IsCaller-prop (arc_value hub) pass },
+}
+
+impl<L, C> SessionJob<L, C> {
+    /// A job that serves this link at this hub, and hasn't yet.
+    pub fn new(
+        alloc: Global,
+        hub: Arc<Hub>,
+        pass: Pass,
+        link: L,
+        clock: C,
+        limits: SessionLimits,
+        turns: u64,
+    ) -> SessionJob<L, C>
+        requires { IsCaller (arc_value hub) pass }
+        ensures hub { result.hub ≡ hub }
+        ensures pass { result.pass ≡ pass }
+        ensures link { result.link ≡ link }
+        ensures clock { result.clock ≡ clock }
+        ensures limits { result.limits ≡ limits }
+        ensures turns { result.turns ≡ turns }
+        ensures ended { result.ended ≡ None }
+    {
+        SessionJob {
+            alloc,
+            hub,
+            pass,
+            link,
+            clock,
+            limits,
+            turns,
+            ended: None,
+        }
+    }
+}
+
+impl<L, C: Drop> SessionJob<L, C> {
+    /// The hub, the pass and the link of a job that isn't to be worked off: the pass is of the hub.
+    pub fn into_parts(self) -> (Arc<Hub>, Pass, L)
+        ensures of_hub { IsCaller (arc_value result.0) result.1 }
+        ensures hub { result.0 ≡ self.hub }
+        ensures pass { result.1 ≡ self.pass }
+        ensures link { result.2 ≡ self.link }
+    {
+        (self.hub, self.pass, self.link)
+    }
+}
