@@ -1,7 +1,7 @@
 -- What a document is, and the tables and keys that it has.
-use Rattle.std.specs.Prelude.{◌≡◌, ℕ, Bool, true, false, ◌&&◌, ◌||◌, List, [], ◌∷◌, codes, IsUtf8, Option, Some, None, option_and_then}
+use Rattle.std.specs.Prelude.{◌≡◌, ℕ, Bool, true, false, ◌&&◌, ◌||◌, List, [], ◌∷◌, codes, IsUtf8, Option, Some, None, option_and_then, is_some}
 use Rattle.std.specs.List.{list_all}
-use Rattle.toml.specs.Data.{Data, Members, no_members, member, table, as_table, get_member}
+use Rattle.toml.specs.Data.{Data, Members, no_members, member, as_table, get_member}
 use Rattle.toml.specs.Parse.{parse_document}
 use Rattle.bsc_text.specs.Lines.{same_octets}
 use Rattle.bsc_settings.specs.Table.{Row, hub_table}
@@ -32,8 +32,7 @@ is_known rows (Some found) = list_all (has_key rows) (keys_of found)
 -- whether what stands at a key is a table, where something does
 abbrev pub is_table : Option Data → Bool
 is_table None = true
-is_table (Some (table found)) = true
-is_table (Some value) = false
+is_table (Some value) = is_some (as_table value)
 
 -- Whether a document has nothing unknown: nothing but the table `hub`, and in it nothing but keys of the table of keys.
 abbrev pub has_known_alone : Members → Bool

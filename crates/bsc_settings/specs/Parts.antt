@@ -1,5 +1,4 @@
 -- What the settings of a hub say to the crates that serve it.
-use Rattle.std.specs.Prelude.{ℕ}
 use Rattle.bsc_octets.specs.declared.identity.Identity.{Identity}
 use Rattle.bsc_history.specs.declared.limits.Limits.{Limits}
 use Rattle.bsc_accept.specs.declared.times.Times.{Times}

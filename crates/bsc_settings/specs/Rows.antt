@@ -1,5 +1,4 @@
 -- The rows of the code as rows of the table of keys.
-use Rattle.std.specs.Prelude.{Option, None}
 use Rattle.bsc_settings.specs.declared.rows.NumberRow.{NumberRow}
 use Rattle.bsc_settings.specs.declared.rows.TextRow.{TextRow}
 use Rattle.bsc_settings.specs.Table.{Kind, integer, Row, row, required}

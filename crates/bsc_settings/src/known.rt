@@ -1,14 +1,17 @@
 //! Whether a document has nothing that settings don't have.
-ghost use Rattle.std.specs.Prelude.{◌≡◌, Some, option_map};
+ghost use Rattle.std.specs.Prelude.{◌≡◌, codes, option_map, string_bytes};
+ghost use Rattle.std.specs.BTreeMap.{keys};
+ghost use Rattle.std.specs.List.{list_all};
 ghost use Rattle.toml.specs.View.{table_view};
 ghost use Rattle.bsc_settings.specs.Table.{hub_table};
-ghost use Rattle.bsc_settings.specs.Documents.{has_key, hub_of, is_known, has_known_alone};
+ghost use Rattle.bsc_settings.specs.Documents.{has_key, hub_of, has_known_alone};
+ghost use Rattle.bsc_text.specs.Lines.{same_octets};
 
 use crate::rows::{
     CONNECT_WAIT_MS, DISCONNECT_WAIT_MS, HEARTBEAT_MS, MAX_BVLC, MAX_NPDU, OUTBOX, PORT, ROWS,
     TURNS, UUID, VMAC,
 };
-use toml::{Table, Value};
+use toml::Table;
 
 /// What a document calls the table of a hub.
 const HUB: &str = "hub";
@@ -41,22 +44,31 @@ fn is_key(word: &str) -> bool
 }
 
 /// Whether all keys of a table are keys of the table `hub`.
-fn has_known_keys(table: &Table) -> bool
-    ensures { result ≡ is_known hub_table (Some (table_view table.now)) }
+fn has_hub_keys(table: &Table) -> bool
+    ensures { result ≡ list_all (λ key. has_key hub_table (string_bytes key)) (keys table.now) }
 {
     table.keys().all(|key| is_key(key.as_str()))
+}
+
+/// Whether a document has no key but `hub`.
+fn has_hub_alone(doc: &Table) -> bool
+    ensures { result ≡ list_all (λ key. same_octets (string_bytes key) (codes "hub")) (keys doc.now) }
+{
+    doc.keys().all(|key| key.as_str() == HUB)
 }
 
 /// Whether a document has nothing but the table `hub`, and in it nothing but keys of the table of keys.
 pub(crate) fn has_known_alone(doc: &Table) -> bool
     ensures { result ≡ has_known_alone (table_view doc.now) }
 {
-    if !doc.keys().all(|key| key.as_str() == HUB) {
+    if !has_hub_alone(doc) {
         return false;
     }
-    match doc.get(HUB) {
-        Some(Value::Table(table)) => has_known_keys(table),
-        Some(_) => false,
-        None => true,
+    let Some(value) = doc.get(HUB) else {
+        return true;
+    };
+    match value.as_table() {
+        Some(table) => has_hub_keys(table),
+        None => false,
     }
 }
