@@ -19,6 +19,7 @@ impl Hub {
         ensures seen { IfOk result (λ p. (seen p ≡ seen pass.old) × (own_list p ≡ []) × (ended_callers p ≡ [])) }
         ensures number { IfOk result (λ p. (number_of p ≡ newest_number pass.new)
             × (number_of pass.old < number_of p)) }
+        ensures newer { IfOk result (λ p. newest_number pass.old < number_of p) }
 
         // The pass keeps what the call found in the number word.
         ensures room { IfOk result (λ p. newest_number pass.new < (about_of self.now).limits.callers) }
@@ -36,6 +37,7 @@ impl Hub {
         ensures pass { Passed self.now pass.old (ended_of (view_of other) ∷ ended_callers other) None pass.new }
         ensures seen { IsLonger (seen pass.old) (seen other) (seen pass.new) }
         ensures apart { number_of pass.old ≢ number_of other }
+        ensures loaded { newest_number pass.new ≡ newest_number pass.old }
         ensures one { StartsWith (seen pass.old) (seen other) ⊎ StartsWith (seen other) (seen pass.old) }
     {
         self.turn.join(pass, other);

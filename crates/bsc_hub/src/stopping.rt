@@ -4,7 +4,7 @@ ghost use Rattle.bsc_history.specs.Counting.{counts};
 ghost use Rattle.bsc_history.specs.Entries.{stops};
 ghost use Rattle.bsc_history.specs.Marks.{entries};
 ghost use Rattle.bsc_history.specs.Replies.{is_stopped};
-ghost use Rattle.bsc_turn.specs.Passes.{number_of, seen};
+ghost use Rattle.bsc_turn.specs.Passes.{newest_number, number_of, seen};
 ghost use Rattle.bsc_hub.specs.Calls.{count_made, stop_made};
 ghost use Rattle.bsc_hub.specs.Passing.{IsCaller, Passed, about_of, found_history};
 
@@ -27,6 +27,7 @@ impl Hub {
         ensures refused { IsErr result ↔ IsTrue (is_stopped
             (found_history (stop_made (number_of pass.old) result) pass.new)) }
         ensures place { IfErr result (λ already. position stops (entries (seen pass.new)) ≡ Some already.at) }
+        ensures loaded { newest_number pass.new ≡ newest_number pass.old }
     {
         let caller = pass.number();
         let mut guard = self.turn.enter(rt, pass);
