@@ -3,6 +3,7 @@ mod Scenes
 mod WorkedHubs
 mod WorkedEnds
 mod WorkedRenewal
+mod WorkedMessages
 mod WorkedDirect
 pub mod Order
 pub mod Passing

@@ -206,3 +206,10 @@ lingering = lingers ++ at 2400 (Lost primary) ∷ at 2500 (Opened failover) ∷ 
 lingering-lawful : may_all_come two_hubs lingering && is_always_sound two_hubs lingering ≡ true
 unfolding node_on_literals
 lingering-lawful = refl
+
+abbrev waiting : List TimedEvent
+waiting = at 0 Start ∷ at 100 (DialFailed primary) ∷ at 150 (DialFailed failover) ∷ at 2100 Tick ∷ at 2110 (DialFailed primary) ∷ at 2150 Tick ∷ at 2160 (Opened failover) ∷ at 2170 (CameText failover) ∷ at 6110 Tick ∷ []
+
+waiting-lawful : may_all_come two_hubs waiting && is_always_sound two_hubs waiting ≡ true
+unfolding node_on_literals
+waiting-lawful = refl

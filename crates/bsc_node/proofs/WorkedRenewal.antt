@@ -1,6 +1,6 @@
 -- Scenes of a node whose VMAC a hub refuses, by computation.
 use Rattle.std.proofs.Common.{◌≡◌, true, ℕ, zero, suc, List, [], ◌∷◌, ◌++◌, None, refl}
-use Rattle.std.specs.Prelude.{◌+◌}
+use Rattle.std.specs.Prelude.{◌+◌, ◌&&◌, drop}
 use Rattle.bsc_octets.specs.declared.vmac.Vmac.{Vmac}
 use Rattle.bsc_octets.specs.declared.identity.Identity.{Identity}
 use Rattle.bsc_octets.specs.Addresses.{random48_of}
@@ -8,7 +8,7 @@ use Rattle.bsc_frame.specs.declared.message.Message.{Message}
 use Rattle.bsc_frame.specs.declared.body.Body.TheVariants.{ConnectRequest}
 use Rattle.bsc_accept.specs.Steps.{normal}
 use Rattle.bsc_node.specs.Messages.{nak}
-use Rattle.bsc_node.specs.declared.node_event.NodeEvent.TheVariants.{Start, Opened, Arrived, Lost, Tick, Random, NoRandom}
+use Rattle.bsc_node.specs.declared.node_event.NodeEvent.TheVariants.{Start, Opened, DialFailed, Arrived, Lost, Tick, Random, NoRandom}
 use Rattle.bsc_node.specs.declared.timed_event.TimedEvent.{TimedEvent}
 use Rattle.bsc_node.specs.declared.note.Note.TheVariants.{Nak, Renewed, NoRandom as ToldNoRandom}
 use Rattle.bsc_node.specs.declared.action.Action.TheVariants.{Dial, Close, Tell, Draw}
@@ -123,3 +123,16 @@ accepted_between : actions the_node (eight ++ ninth ++ hears 300002 primary (acc
     ≡ Close primary normal ∷ Tell (Nak None 6 151) ∷ Draw ∷ []
 unfolding node_on_literals
 accepted_between = refl
+
+-- With a failover, which is refused too: the word's failure is the failover's.
+abbrev second_refused : List TimedEvent
+second_refused = at 0 Start ∷ at 5 (DialFailed primary) ∷ at 6 (Opened failover_link) ∷ hears 10 failover_link (refusal 1) ∷ at 10 (Random word) ∷ at 2005 Tick ∷ at 2010 Tick ∷ []
+
+failover_refused : drop 3 (each_actions (record the_node { limits = with_failover }) second_refused)
+    ≡ (Close failover_link normal ∷ Tell (Nak None 6 151) ∷ Draw ∷ []) ∷ (Tell (Renewed drawn) ∷ []) ∷ (Dial primary primary_uri ∷ []) ∷ (Dial failover_link failover_uri ∷ []) ∷ []
+unfolding node_on_literals
+failover_refused = refl
+
+failover_refused-lawful : (may_all_come (record the_node { limits = with_failover }) second_refused && is_always_sound (record the_node { limits = with_failover }) second_refused) ≡ true
+unfolding node_on_literals
+failover_refused-lawful = refl

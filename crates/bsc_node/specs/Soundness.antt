@@ -34,7 +34,7 @@ use Rattle.bsc_node.specs.Hubs.{waits, hub_events, hub_use, is_up, is_dropped, s
 use Rattle.bsc_node.specs.Ways.{slot_calls, established_peer, wanted}
 use Rattle.bsc_node.specs.Meeting.{refusing_side}
 use Rattle.bsc_node.specs.Node.{goes_on, log}
-use Rattle.bsc_node.specs.Conditions.{may_come, may_all_come, awaits_word}
+use Rattle.bsc_node.specs.Conditions.{is_start, may_come, may_all_come, awaits_word}
 
 -- whether the second is so wherever the first is
 abbrev pub implies : Bool → Bool → Bool
@@ -78,6 +78,10 @@ may_each_be_told w E (e ∷ es) = may_be_told w E e.event && may_each_be_told w 
 -- The connector was told only what it may be told.
 abbrev pub connector_is_told_well : Made → Log → Bool
 connector_is_told_well a L = may_each_be_told (waits a) [] (hub_events L)
+
+-- The connector was told of the start exactly where the node was.
+abbrev pub start_is_told : Log → Bool
+start_is_told L = same (list_any is_start L) (list_any (λ e. Sides.is_start e.event) (hub_events L))
 
 abbrev pub is_met : Phase → Bool
 is_met PhaseConnected = true
@@ -242,7 +246,7 @@ side_is_sound a s L = side_is_up_with_its_link s L && side_is_tried_with_its_lin
 
 abbrev pub hubs_are_sound : Made → Log → Bool
 hubs_are_sound a L =
-    numbers_in_order L && use_is_told L && connector_is_told_well a L && side_is_sound a Primary L && side_is_sound a Failover L
+    numbers_in_order L && use_is_told L && start_is_told L && connector_is_told_well a L && side_is_sound a Primary L && side_is_sound a Failover L
     && dropped_is_disconnecting L && word_is_awaited_well L
 
 abbrev pub slots_are_sound : Log → Bool
