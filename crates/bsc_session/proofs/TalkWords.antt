@@ -1,5 +1,5 @@
--- The words of worked talks. The hub has the VMAC 020000000001 and takes 1,600 octets; its outboxes have 64 places where none
--- are named. A has the VMAC 02000000000A, and its connect has the Message ID 1. Readings are 0 where none is named.
+-- The words of worked talks. The hub has the VMAC 020000000001 and takes 1,600 octets. A has the VMAC 02000000000A, and its
+-- connect has the Message ID 1. Readings are 0 where none is named.
 use Rattle.std.proofs.Common.{ℕ, [], ◌∷◌, ◌++◌, Some, None, Ok, List, Option, Result, true, replicate, refl, inr, lit≤}
 use Rattle.std.specs.Prelude.{◌<◌, ◌≡◌, is_none, is_some, length}
 use Rattle.bsc_octets.specs.Identities.{identity_of}

@@ -38,8 +38,8 @@ pub record Goes (h : Hub) (p : Pass) (E : List Entry) (q : Pass) : Type 0 where
   pub own : own_list q ≡ own_list p ++ E
   pub took_in : ended_callers q ≡ ended_callers p
 
--- The hub was worn when it answered last, by what the pass has then seen: before the Leave of a session that had joined it
--- had as many entries as it may.
+-- The hub was worn, by what the pass has then seen: as many calls as it may make are there, besides the Leave of a session
+-- that had joined.
 abbrev pub WasWorn : About → List Entry → Option ℕ → Type 0
 WasWorn a H None = a.limits.calls ≤ length H
 WasWorn a H (Some c) = a.limits.calls < length H
