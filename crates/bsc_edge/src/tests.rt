@@ -1,4 +1,6 @@
 //! Each object once, with a fault in it.
+ghost use Rattle.std.specs.Prelude.{◌≡◌};
+
 use crate::{
     Acceptor, Arrived, Clock, Dialer, Disk, Failed, FileFault, Files, Incoming, Job, Kind, Link,
     LinkFault, MemAcceptor, MemClock, MemDialer, MemFile, MemFiles, MemLink, MemPatience,
@@ -149,6 +151,8 @@ fn arrived(answer: Result<Arrived<u64>, LinkFault>) -> Option<u64> {
 struct Adds(Arc<Mutex<u64>>);
 
 impl Job for Adds {
+    ghost works = { λ before after. after ≡ before };
+
     fn work<R: Wait>(&mut self, rt: &R) {
         let mut sum = self.0.lock(rt);
         *sum = sum.saturating_add(1);

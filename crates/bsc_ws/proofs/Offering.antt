@@ -1,7 +1,7 @@
 -- Where a text between commas is looked at from its front.
-use Rattle.std.proofs.Common.{◌≡◌, ◌⊎◌, inl, inr, ℕ, List, [], ◌∷◌, ◌++◌, codes, refl, sym, ap, ◌∙◌, append-nil, append_assoc}
+use Rattle.std.proofs.Common.{◌≡◌, inl, inr, ℕ, List, [], ◌∷◌, ◌++◌, refl, sym, ap, ◌∙◌, append-nil, append_assoc}
 use Rattle.std.specs.Str.{IsTrimAscii}
-use Rattle.bsc_ws.specs.Protocols.{Offers, StartsPart, EndsPart}
+use Rattle.bsc_ws.specs.Protocols.{Offers, StartsPart}
 
 -- What is left of a text starts a part of it.
 abbrev pub IsLeft : List ℕ → List ℕ → Type 0

@@ -1,12 +1,12 @@
 -- The sub-protocols of links, and what offers them.
-use Rattle.std.specs.Prelude.{◌≡◌, ◌⊎◌, ℕ, List, [], ◌++◌, codes, Contains}
+use Rattle.std.specs.Prelude.{◌≡◌, ◌⊎◌, ℕ, List, [], ◌∷◌, ◌++◌, codes, Contains}
 use Rattle.std.specs.Str.{IsTrimAscii}
 use Rattle.bsc_edge.specs.declared.kind.Kind.{Kind}
 use Rattle.bsc_edge.specs.declared.kind.Kind.TheVariants.{Hub, Direct}
 use Rattle.http.specs.Request.{head_of}
 use Rattle.http.specs.declared.request.Request.{Request}
-use Rattle.http_header.specs.HeaderMap.{get_all}
-use Rattle.http_header.specs.FieldValue.{FieldValue}
+use Rattle.http_header.specs.HeaderMap.{Entries, get_all}
+use Rattle.http_header.specs.FieldValue.{FieldValue, plain_value}
 
 -- The sub-protocol of links of a kind.
 abbrev pub protocol : Kind → List ℕ
@@ -32,3 +32,7 @@ abbrev pub AsksFor : Request (Unit {0}) → Kind → Type 0
 AsksFor request kind =
     (v : FieldValue) × Contains (get_all (head_of request).headers (codes "sec-websocket-protocol")) v
     × Offers v.bytes (protocol kind)
+
+-- The sub-protocol of this kind is the only one that a head names.
+abbrev pub NamesOnly : Entries FieldValue → Kind → Type 0
+NamesOnly headers kind = get_all headers (codes "sec-websocket-protocol") ≡ plain_value (protocol kind) ∷ []

@@ -6,7 +6,7 @@ use Rattle.bsc_edge.specs.declared.fault.LinkFault.{LinkFault}
 use Rattle.bsc_edge.specs.declared.fault.LinkFault.TheVariants.{Failed, NoMemory}
 use Rattle.bsc_edge.specs.declared.incoming.Incoming.{Incoming}
 use Rattle.bsc_edge.specs.declared.incoming.Incoming.TheVariants as In
-use Rattle.tungstenite.specs.Socket.{Socket, Reads}
+use Rattle.tungstenite.specs.Socket.{Socket, Reads, Flushed}
 use Rattle.tungstenite.specs.declared.error.Error.{Error}
 use Rattle.tungstenite.specs.declared.error.Error.TheVariants as E
 use Rattle.tungstenite.specs.declared.message.Message.{Message}
@@ -30,10 +30,16 @@ Answers (Ok (M.Pong octets)) answer = answer ≡ Ok In.Quiet
 Answers (Ok (M.Close frame)) answer = answer ≡ Ok In.Closed
 Answers (Err e) answer = Fails e answer
 
--- The answer is that of what the socket read from the octets of its stream.
-abbrev pub Receives : {S : Type 0} → (S → Option (List ℕ)) → Socket S → Socket S → Result Incoming LinkFault → Type 0
-Receives remaining old new answer =
-    (read : Result Message Error) × Reads remaining old new read × Answers read answer
+-- Where the peer closed, what waited to be sent went out behind what was read, as far as the stream took it. Else the socket is where the read left it.
+abbrev pub HasReplied : {S : Type 0} → (S → Option (List ℕ)) → Socket S → Socket S → Result Incoming LinkFault → Type 0
+HasReplied contents left new (Ok In.Closed) = Flushed contents left new
+HasReplied contents left new answer = new ≡ left
+
+-- The answer is that of what the socket read from the octets of its stream, and a close was replied to.
+abbrev pub Receives : {S : Type 0} → (S → Option (List ℕ)) → (S → Option (List ℕ)) → Socket S → Socket S → Result Incoming LinkFault → Type 0
+Receives {S = S} remaining contents old new answer =
+    (read : Result Message Error) × (left : Socket S) × Reads remaining old left read × Answers read answer
+    × HasReplied contents left new answer
 
 -- The wait couldn't be set: that is a fault, and nothing was read.
 abbrev pub IsUnset : {S : Type 0} → Socket S → Socket S → Result Incoming LinkFault → Type 0

@@ -1,6 +1,8 @@
 //! The client's handshake.
 ghost use Rattle.std.specs.Prelude.{◌≡◌, IfOk};
 ghost use Rattle.bsc_ws.specs.Limits.{HasOurLimits};
+ghost use Rattle.bsc_ws.specs.Protocols.{NamesOnly};
+ghost use Rattle.http.specs.Request.{head_of};
 ghost use Rattle.websocket.specs.declared.protocol.config.Role.TheVariants as Role;
 
 use crate::bounds::limits;
@@ -16,7 +18,9 @@ use tungstenite::handshake::HandshakeError;
 use tungstenite::handshake::client::{request_of, start};
 
 /// The request that offers the sub-protocol of this kind.
-fn offer(alloc: Global, uri: &str, kind: Kind) -> Result<Request<()>, LinkFault> {
+fn offer(alloc: Global, uri: &str, kind: Kind) -> Result<Request<()>, LinkFault>
+    ensures { IfOk result (λ r. NamesOnly (head_of r).headers kind) }
+{
     let mut request = match request_of(alloc, uri) {
         Ok(request) => request,
         Err(error) => return Err(fault_of(error)),

@@ -1,6 +1,7 @@
 //! The sub-protocols, and who takes them.
-ghost use Rattle.std.specs.Prelude.{◌≡◌, IsTrue, IsOk, IfErr};
-ghost use Rattle.bsc_ws.specs.Protocols.{protocol, Offers, AsksFor};
+ghost use Rattle.std.specs.Prelude.{◌≡◌, codes, IsTrue, IsOk, IfOk, IfErr};
+ghost use Rattle.bsc_ws.specs.Protocols.{protocol, Offers, AsksFor, NamesOnly};
+ghost use Rattle.http.specs.Response.{head_of};
 ghost use Rattle.http_header.specs.FieldValue.{plain_value};
 
 use bsc_edge::Kind;
@@ -30,7 +31,9 @@ pub(crate) fn value_of(kind: Kind) -> HeaderValue
 }
 
 /// The header's name.
-pub(crate) fn header() -> HeaderName {
+pub(crate) fn header() -> HeaderName
+    ensures { result ≡ codes "sec-websocket-protocol" }
+{
     HeaderName::from_static("sec-websocket-protocol")
 }
 
@@ -76,7 +79,7 @@ fn asks_for(request: &Request<()>, kind: Kind) -> bool
     false
 }
 
-/// Takes a request that offers the sub-protocol of this kind, and echoes it.
+/// Takes a request that offers the sub-protocol of this kind, and names that in its answer; refuses others with 400.
 #[derive(Drop)]
 pub struct Takes {
     pub alloc: Global,
@@ -90,15 +93,14 @@ impl Callback for Takes {
         response: Response<()>,
     ) -> Result<Response<()>, ErrorResponse>
         ensures taken { IsOk result → AsksFor request.now self.kind }
+        ensures named { IfOk result (λ r. NamesOnly (head_of r).headers self.kind) }
+        ensures refused { IfErr result (λ r. (head_of r).status ≡ 400) }
     {
         let mut response = response;
-        if asks_for(request, self.kind)
-            && response
-                .headers_mut()
-                .insert(header(), value_of(self.kind))
-                .is_ok()
-        {
-            return Ok(response);
+        if asks_for(request, self.kind) {
+            if let Ok(_) = response.headers_mut().insert(header(), value_of(self.kind)) {
+                return Ok(response);
+            }
         }
         let mut refused = Response::new(self.alloc, None);
         *refused.status_mut() = StatusCode::BAD_REQUEST;

@@ -4,7 +4,7 @@ ghost use Rattle.bsc_edge.specs.Told.{Grows, IsQuiet, fault_in};
 ghost use Rattle.bsc_edge.specs.declared.fault.LinkFault.{LinkFault};
 ghost use Rattle.bsc_edge.specs.declared.said.Said.{Said};
 ghost use Rattle.bsc_outside.specs.Faults.{HasRisen};
-ghost use Rattle.bsc_ws.specs.Receiving.{Answers, Receives, IsUnset};
+ghost use Rattle.bsc_ws.specs.Receiving.{Answers, Receives, HasReplied, IsUnset};
 ghost use Rattle.tungstenite.specs.Connection.{write_step, close_step};
 ghost use Rattle.tungstenite.specs.Content.{binary};
 ghost use Rattle.tungstenite.specs.Socket.{Writes};
@@ -59,6 +59,18 @@ impl<T: Read + Write + Drop, W: Patience + Drop, K: MaskKeys + Drop> StreamLink<
         }
     }
 
+    /// Sends the reply to a close (RFC 6455, section 5.5.1). Where it can't leave, the peer sees the stream's end alone.
+    fn reply(&mut self, answer: &Result<Incoming, LinkFault>)
+        ensures replied { HasReplied T.contents self.old.socket self.new.socket answer.now }
+        ensures wait { self.new.wait ≡ self.old.wait }
+        ensures faults { self.new.faults ≡ self.old.faults }
+        ensures quiets { self.new.quiets ≡ self.old.quiets }
+    {
+        if let Ok(Incoming::Closed) = answer {
+            let _ = self.socket.flush();
+        }
+    }
+
     /// Counts a receive that gave nothing, and one that failed.
     fn count(&mut self, answer: &Result<Incoming, LinkFault>)
         ensures socket { self.new.socket ≡ self.old.socket }
@@ -99,7 +111,7 @@ impl<T: Read + Write + Drop, W: Patience + Drop, K: MaskKeys + Drop> Link for St
 
     fn receive(&mut self, alloc: Global, wait_ms: u32) -> Result<Incoming, LinkFault>
         // The message, or what stands for it, is the one that is read from the octets of the stream.
-        ensures read { Receives T.remaining self.old.socket self.new.socket result
+        ensures read { Receives T.remaining T.contents self.old.socket self.new.socket result
             ⊎ (IsUnset self.old.socket self.new.socket result × HasRisen (W.faults self.old.wait) (W.faults self.new.wait)) }
         ensures later { self.old.faults ≤ self.new.faults }
         ensures failed { result ≡ Err LinkFault.Failed → HasRisen self.old.faults self.new.faults }
@@ -112,6 +124,7 @@ impl<T: Read + Write + Drop, W: Patience + Drop, K: MaskKeys + Drop> Link for St
             return Err(LinkFault::Failed);
         }
         let answer = answer(alloc, self.socket.read());
+        self.reply(&answer);
         self.count(&answer);
         answer
     }

@@ -1,32 +1,40 @@
-//! Links, handshakes and URIs over streams in memory.
+//! Links over streams in memory.
+mod handshakes;
+
+use crate::limits;
 use crate::stream_link::StreamLink;
-use crate::target::target_of;
-use crate::{NoMask, dial, limits, settle};
-use bsc_edge::{Incoming, Kind, Link, MemPatience};
+use bsc_edge::{Incoming, Link, LinkFault, MemPatience};
 use std::alloc::{AllocError, Global};
+use std::cell::Cell;
 use std::io::{self, ErrorKind, Read, Write};
 use std::test::Fail;
 use tungstenite::{MaskKeys, Role, WebSocket};
 
-/// A stream that gives these octets up to a cut, then nothing once, then the rest and its end. It keeps what is written.
+/// A peer as a stream in memory. It gives these octets up to a cut, then nothing once, then the rest and its end. It
+/// takes and keeps what is written while there is room, and then fails so.
 #[derive(Drop)]
-struct Cut<'a> {
-    octets: &'a [u8],
+struct Peer<'a> {
+    gives: &'a [u8],
     cut: Option<usize>,
-    taken: usize,
-    written: Vec<u8>,
+    room: usize,
+    full: ErrorKind,
+    alloc: Global,
+    written: &'a Cell<Vec<u8>>,
 }
 
-fn whole(alloc: Global, octets: &[u8]) -> Cut<'_> {
-    Cut {
-        octets,
+/// A peer that gives these octets at once, and takes all.
+fn peer_of<'a>(alloc: Global, gives: &'a [u8], written: &'a Cell<Vec<u8>>) -> Peer<'a> {
+    Peer {
+        gives,
         cut: None,
-        taken: 0,
-        written: Vec::new(alloc),
+        room: usize::MAX,
+        full: ErrorKind::TimedOut,
+        alloc,
+        written,
     }
 }
 
-impl Read for Cut<'_> {
+impl Read for Peer<'_> {
     fn read(&mut self, buf: &mut [u8]) -> io::Result<usize> {
         let most = match self.cut {
             Some(0) => {
@@ -36,11 +44,10 @@ impl Read for Cut<'_> {
             Some(cut) => cut,
             None => usize::MAX,
         };
-        let n = self.octets.len().min(buf.len()).min(most);
-        let (now, later) = self.octets.split_at(n);
+        let n = self.gives.len().min(buf.len()).min(most);
+        let (now, later) = self.gives.split_at(n);
         buf[..n].copy_from_slice(now);
-        self.octets = later;
-        self.taken = self.taken.saturating_add(n);
+        self.gives = later;
         if let Some(cut) = self.cut {
             self.cut = Some(cut.saturating_sub(n));
         }
@@ -48,9 +55,16 @@ impl Read for Cut<'_> {
     }
 }
 
-impl Write for Cut<'_> {
+impl Write for Peer<'_> {
     fn write(&mut self, buf: &[u8]) -> io::Result<usize> {
-        match self.written.extend_from_slice(buf) {
+        if self.room < buf.len() {
+            return Err(io::Error::from(self.full));
+        }
+        self.room -= buf.len();
+        let mut written = self.written.replace(Vec::new(self.alloc));
+        let kept = written.extend_from_slice(buf);
+        self.written.set(written);
+        match kept {
             Ok(()) => Ok(buf.len()),
             Err(_) => Err(io::Error::from(ErrorKind::OutOfMemory)),
         }
@@ -59,6 +73,27 @@ impl Write for Cut<'_> {
     fn flush(&mut self) -> io::Result<()> {
         Ok(())
     }
+}
+
+/// Keys that are all the same: of a handshake they are zeros, of a link they tell masked octets from plain ones.
+#[derive(Drop)]
+struct Keys([u8; 4]);
+
+impl MaskKeys for Keys {
+    fn next_key(&mut self) -> [u8; 4] {
+        self.0
+    }
+}
+
+/// A link in this role to a peer.
+fn link_of(
+    alloc: Global,
+    peer: Peer<'_>,
+    role: Role,
+) -> StreamLink<Peer<'_>, MemPatience<'static>, Keys> {
+    let keys = Keys([1, 2, 3, 4]);
+    let socket = WebSocket::from_raw_socket(alloc, peer, keys, role, Some(limits()));
+    StreamLink::over(socket, MemPatience::new(alloc, &[]))
 }
 
 /// What a link answers, a letter or the octets a receive, until it is closed or fails.
@@ -86,6 +121,7 @@ fn told<L: Link>(alloc: Global, link: &mut L) -> Result<Vec<u8>, AllocError> {
 #[test]
 fn a_frame_is_the_same_however_it_is_cut(rt: HostRuntime) -> Result<(), Fail> {
     let alloc = rt.alloc();
+    let written = Cell::new(Vec::new(alloc));
     let mask = [0x37, 0xFA, 0x21, 0x3D];
     let mut body = Vec::new(alloc);
     let mut frame = Vec::from_slice(alloc, &[0x82, 0xFE, 0x01, 0x2C, 0x37, 0xFA, 0x21, 0x3D])?;
@@ -97,15 +133,15 @@ fn a_frame_is_the_same_however_it_is_cut(rt: HostRuntime) -> Result<(), Fail> {
     quiet_first.extend_from_slice(body.as_slice())?;
     quiet_first.push(b'F')?;
     for cut in 0..308 {
-        let mut stream = whole(alloc, frame.as_slice());
+        let mut stream = peer_of(alloc, frame.as_slice(), &written);
         stream.cut = Some(cut);
-        let mut link = settle(alloc, stream, MemPatience::new(alloc, &[]), NoMask);
+        let mut link = link_of(alloc, stream, Role::Server);
         assert!(rt;
             told(alloc, &mut link)?.as_slice() == quiet_first.as_slice(),
             "{cut}"
         );
-        let ended = whole(alloc, frame.as_slice().get(..cut).unwrap_or(&[]));
-        let mut link = settle(alloc, ended, MemPatience::new(alloc, &[]), NoMask);
+        let ended = peer_of(alloc, frame.as_slice().get(..cut).unwrap_or(&[]), &written);
+        let mut link = link_of(alloc, ended, Role::Server);
         assert!(rt;
             told(alloc, &mut link)?.as_slice() == b"F".as_slice(),
             "{cut}"
@@ -114,112 +150,130 @@ fn a_frame_is_the_same_however_it_is_cut(rt: HostRuntime) -> Result<(), Fail> {
     Ok(())
 }
 
-/// Frames of clients and of servers, with the answers.
+/// The octets of a peer that are read in this role, the answers, and what is written.
+#[derive(Drop)]
+struct FrameRow {
+    role: Role,
+    gives: &'static [u8],
+    answers: &'static [u8],
+    writes: &'static [u8],
+}
+
+/// The octets of a client, to which nothing is written.
+fn of_client(gives: &'static [u8], answers: &'static [u8]) -> FrameRow {
+    FrameRow {
+        role: Role::Server,
+        gives,
+        answers,
+        writes: b"",
+    }
+}
+
+/// FrameRow of clients and of servers, with the answers and the replies.
 #[test]
 fn frames(rt: HostRuntime) -> Result<(), Fail> {
     let alloc = rt.alloc();
-    let of_clients: [(&[u8], &[u8]); 8] = [
+    let rows = [
         // Fragments with a ping between them, a pong, and a close with and without a code.
-        (
-            b"\x02\x81\0\0\0\0a\x89\x81\0\0\0\0p\x80\x81\0\0\0\0b\x8A\x80\0\0\0\0\x88\x80\0\0\0\0",
-            b"QabQC",
-        ),
-        (b"\x88\x82\0\0\0\0\x03\xE8", b"C"),
-        (b"\x81\x81\0\0\0\0t\x82\x81\0\0\0\0m", b"TmF"),
+        FrameRow {
+            role: Role::Server,
+            gives: b"\x02\x81\0\0\0\0a\x89\x81\0\0\0\0p\x80\x81\0\0\0\0b\x8A\x80\0\0\0\0\x88\x80\0\0\0\0",
+            answers: b"QabQC",
+            writes: b"\x8A\x01p\x88\0",
+        },
+        FrameRow {
+            role: Role::Server,
+            gives: b"\x88\x82\0\0\0\0\x03\xE8",
+            answers: b"C",
+            writes: b"\x88\x02\x03\xE8",
+        },
+        of_client(b"\x81\x81\0\0\0\0t\x82\x81\0\0\0\0m", b"TmF"),
         // No mask, a reserved bit, a reserved operation, and a fragment of nothing.
-        (b"\x82\x01m", b"F"),
-        (b"\xC2\x81\0\0\0\0m", b"F"),
-        (b"\x83\x81\0\0\0\0m", b"F"),
-        (b"\x80\x81\0\0\0\0m", b"F"),
+        of_client(b"\x82\x01m", b"F"),
+        of_client(b"\xC2\x81\0\0\0\0m", b"F"),
+        of_client(b"\x83\x81\0\0\0\0m", b"F"),
+        of_client(b"\x80\x81\0\0\0\0m", b"F"),
         // One octet more than the greatest frame.
-        (b"\x82\xFF\0\0\0\0\0\x02\0\x01\0\0\0\0", b"F"),
+        of_client(b"\x82\xFF\0\0\0\0\0\x02\0\x01\0\0\0\0", b"F"),
+        // Of a server, without a mask and with one.
+        FrameRow {
+            role: Role::Client,
+            gives: b"\x82\x01m",
+            answers: b"mF",
+            writes: b"",
+        },
+        FrameRow {
+            role: Role::Client,
+            gives: b"\x82\x81\0\0\0\0m",
+            answers: b"F",
+            writes: b"",
+        },
     ];
-    for (octets, answers) in of_clients {
-        let stream = whole(alloc, octets);
-        let mut link = settle(alloc, stream, MemPatience::new(alloc, &[]), NoMask);
-        assert!(rt; told(alloc, &mut link)?.as_slice() == answers);
-    }
-    let of_servers: [(&[u8], &[u8]); 2] = [(b"\x82\x01m", b"mF"), (b"\x82\x81\0\0\0\0m", b"F")];
-    for (octets, answers) in of_servers {
-        let stream = whole(alloc, octets);
-        let socket = WebSocket::from_raw_socket(
-            alloc,
-            stream,
-            NoMask,
-            Role::Client,
-            Some(limits()),
-        );
-        let mut link = StreamLink::over(socket, MemPatience::new(alloc, &[]));
-        assert!(rt; told(alloc, &mut link)?.as_slice() == answers);
+    for row in &rows {
+        let written = Cell::new(Vec::new(alloc));
+        let mut link = link_of(alloc, peer_of(alloc, row.gives, &written), row.role);
+        assert!(rt; told(alloc, &mut link)?.as_slice() == row.answers);
+        assert!(rt; written.replace(Vec::new(alloc)).as_slice() == row.writes);
     }
     Ok(())
 }
 
-/// Keys that are all the same, so that the key of a handshake is known.
+/// What a put and a closing write in this role.
 #[derive(Drop)]
-struct Zeros;
-
-impl MaskKeys for Zeros {
-    fn next_key(&mut self) -> [u8; 4] {
-        [0; 4]
-    }
+struct PutRow {
+    role: Role,
+    writes: &'static [u8],
 }
 
-/// Answers of servers, and whether they are taken.
+/// A client masks what it puts, and a server doesn't. What the peer doesn't take is a fault.
 #[test]
-fn answers(rt: HostRuntime) -> Result<(), Fail> {
+fn puts(rt: HostRuntime) -> Result<(), Fail> {
     let alloc = rt.alloc();
     let rows = [
-        ("Sec-WebSocket-Protocol: dc.bsc.bacnet.org\r\n", true),
-        ("Sec-WebSocket-Protocol: hub.bsc.bacnet.org\r\n", false),
-        ("", false),
+        PutRow {
+            role: Role::Server,
+            writes: b"\x82\x03abc\x88\x06\x03\xF0idle",
+        },
+        PutRow {
+            role: Role::Client,
+            writes: b"\x82\x83\x01\x02\x03\x04```\x88\x86\x01\x02\x03\x04\x02\xF2j`mg",
+        },
     ];
-    for (lines, taken) in rows {
-        let mut head = Vec::from_slice(
-            alloc,
-            b"HTTP/1.1 101 Switching Protocols\r\nConnection: Upgrade\r\nUpgrade: websocket\r\n".as_slice(),
-        )?;
-        head.extend_from_slice(b"Sec-WebSocket-Accept: ICX+Yqv66kxgM0FcWaLWlFLwTAI=\r\n")?;
-        head.extend_from_slice(lines.as_bytes())?;
-        // A message right behind the head isn't lost.
-        head.extend_from_slice(b"\r\n\x82\x01m")?;
-        let stream = whole(alloc, head.as_slice());
-        let wait = MemPatience::new(alloc, &[]);
-        match dial(alloc, stream, wait, Zeros, "ws://localhost/", Kind::Direct) {
-            Ok(link) => {
-                let mut link = link;
-                assert!(rt; taken, "{lines}");
-                assert!(rt; told(alloc, &mut link)?.as_slice() == b"mF".as_slice());
-            }
-            Err(_) => assert!(rt; !taken, "{lines}"),
-        }
+    for row in &rows {
+        let written = Cell::new(Vec::new(alloc));
+        let room = row.writes.len();
+        let mut stream = peer_of(alloc, b"", &written);
+        stream.room = room;
+        let mut link = link_of(alloc, stream, row.role);
+        assert_eq!(rt; link.put(alloc, b"abc"), Ok(()));
+        assert_eq!(rt; link.put(alloc, &[0; 64]), Err(LinkFault::Failed));
+        let mut link = link_of(alloc, peer_of(alloc, b"", &written), row.role);
+        assert_eq!(rt; link.close(alloc, 1008, "idle"), Ok(()));
+        assert_eq!(rt; link.put(alloc, b"abc"), Err(LinkFault::Failed));
+        assert!(rt; written.replace(Vec::new(alloc)).as_slice() == row.writes);
     }
     Ok(())
 }
 
-/// URIs, and the last octet and the port of whom they name.
+/// A peer that sends pings and takes no replies is read no further once the replies that wait are as many as they may be.
 #[test]
-fn targets(rt: HostRuntime) -> Result<(), Fail> {
-    let rows: [(&[u8], Option<(u8, u16)>); 12] = [
-        (b"ws://localhost", Some((1, 80))),
-        (b"ws://127.0.0.9:4443/path?query", Some((9, 4443))),
-        (b"wss://127.0.0.1:4443/", None),
-        (b"WS://127.0.0.1:4443/", None),
-        (b"http://127.0.0.1/", None),
-        (b"ws://example.org/", None),
-        (b"ws://localhost.example.org/", None),
-        (b"ws://[::1]/", None),
-        (b"ws://127.0.0.1:65536/", None),
-        (b"ws://127.1/", None),
-        (b"ws://", None),
-        (b"", None),
-    ];
-    for (uri, wanted) in rows {
-        let named = match target_of(rt.alloc(), uri) {
-            Ok(target) => Some((target.ip().octets()[3], target.port())),
-            Err(_) => None,
-        };
-        assert_eq!(rt; named, wanted);
+fn what_waits_is_bounded(rt: HostRuntime) -> Result<(), Fail> {
+    let alloc = rt.alloc();
+    let written = Cell::new(Vec::new(alloc));
+    let mut ping = [0; 131];
+    ping[0] = 0x89;
+    ping[1] = 0xFD;
+    let mut pings = Vec::new(alloc);
+    for _ in 0..2_200 {
+        pings.extend_from_slice(&ping)?;
+    }
+    let mut stream = peer_of(alloc, pings.as_slice(), &written);
+    stream.room = 0;
+    stream.full = ErrorKind::WouldBlock;
+    let mut link = link_of(alloc, stream, Role::Server);
+    // The replies to 2,200 pings are 279,400 octets. Were all read, the stream's end would be a fault.
+    for _ in 0..2_300 {
+        assert!(rt; matches!(link.receive(alloc, 20), Ok(Incoming::Quiet)));
     }
     Ok(())
 }
