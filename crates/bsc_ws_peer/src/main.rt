@@ -1,9 +1,9 @@
 //! One end of links over WebSocket, of which the other end is to be someone else's.
 //!
-//! `accept PORT KIND LINKS` takes so many links, one after the other, and puts back each message of theirs. `dial URI
-//! KIND` makes one link, puts 1,000 messages of 1 to 65,535 octets and compares what comes back; KIND is `hub` or
-//! `direct`. Start at `serving` and `calling`. What came goes to standard output. The status is 0 where the gate didn't
-//! fail, or where all messages came back, else 1.
+//! `accept PORT KIND LINKS` takes so many links, one after the other, and puts back each message of theirs; without LINKS
+//! it goes on for ever. `dial URI KIND` makes one link, puts 1,000 messages of 1 to 65,535 octets and compares what comes
+//! back. KIND is `hub` or `direct`. Start at `serving` and `calling`. What came goes to standard output. The status is 0
+//! where the gate didn't fail, or where all messages came back, else 1.
 #![tactic(auto)]
 
 mod calling;
@@ -39,7 +39,9 @@ fn work<R: Clock + Net + Wait + RandomSource + Print + Copy + Drop>(
         Some(Task::Accept { port, kind, links }) => serving::serve(rt, alloc, port, kind, links),
         Some(Task::Dial { uri, kind }) => calling::call(rt, alloc, uri, kind),
         None => {
-            println!(rt; "words: accept PORT KIND LINKS, or dial URI KIND; KIND is hub or direct")?;
+            println!(rt;
+                "words: accept PORT KIND, accept PORT KIND LINKS, or dial URI KIND; KIND is hub or direct"
+            )?;
             Ok(false)
         }
     }

@@ -70,11 +70,7 @@ pub(crate) fn next_message<L: Link>(alloc: Global, link: &mut L) -> Came {
         match link.receive(alloc, WAIT_MS) {
             Ok(Incoming::Message(m)) => return Came::Message(m),
             Ok(Incoming::Quiet) => {}
-            Ok(Incoming::Closed) => {
-                // The reply to a close leaves with the next call.
-                let _ = link.receive(alloc, 0);
-                return Came::Closed;
-            }
+            Ok(Incoming::Closed) => return Came::Closed,
             Ok(Incoming::Text) => return Came::Else("text"),
             Err(_) => return Came::Else("fault"),
         }
