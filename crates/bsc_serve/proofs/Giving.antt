@@ -1,0 +1,121 @@
+-- A link gets its session, or doesn't.
+use Rattle.std.proofs.Common.{inl, inr, ◌≡◌, ℕ, List, [], ◌∷◌, Bool, true, false, Option, None, Ok, Err, refl, sym, ◌∙◌, subst, arith}
+use Rattle.std.specs.Prelude.{Result, ◌<◌}
+use Rattle.std.specs.Arc.{arc_value}
+use Rattle.bsc_outside.specs.Faults.{HasRisen}
+use Rattle.bsc_octets.specs.declared.no_memory.NoMemory.{NoMemory}
+use Rattle.bsc_history.specs.declared.mark.Stamped.{Stamped}
+use Rattle.bsc_turn.specs.declared.pass.Pass.{Pass}
+use Rattle.bsc_turn.specs.declared.view.Ended.{Ended as EndedCaller}
+use Rattle.bsc_turn.specs.Effects.{ended_of}
+use Rattle.bsc_turn.specs.Histories.{StartsWith}
+use Rattle.bsc_turn.specs.Passes.{newest_number, seen, view_of}
+use Rattle.bsc_hub.specs.declared.hub.Hub.{Hub}
+use Rattle.bsc_hub.specs.Passing.{Passed, about_of}
+use Rattle.bsc_edge.specs.declared.unstarted.Unstarted.{Unstarted}
+use Rattle.bsc_edge.specs.declared.unstarted.Unstarted.TheVariants.{Failed, NoMemory as NoRoom}
+use Rattle.bsc_edge.specs.Told.{ComesBack}
+use Rattle.bsc_session.specs.declared.limits.SessionLimits.{SessionLimits}
+use Rattle.bsc_session.specs.declared.job.SessionJob.{SessionJob}
+use Rattle.bsc_serve.specs.Fates.{IsJobOf, IsSplitIn, returned, spent, started}
+use Rattle.bsc_serve.specs.Inner.{Draws, Fares, HandsOver, LacksRoom, SplitsOff, TakesBack, limit_of}
+use Rattle.bsc_serve.specs.Serving.{RoseBy}
+use Rattle.bsc_serve.proofs.Arrivals.{grows_none}
+use Rattle.bsc_serve.proofs.Passes.{passed_then, starts_same}
+
+-- a job that came back is the one that was handed in
+pub back_failed : {J : Type 0} → (u : Unstarted J) (job given : J) → u ≡ Failed job → ComesBack u given → job ≡ given
+back_failed u job given is back = subst (λ x. ComesBack x given) is back
+
+pub back_memory : {J : Type 0} → (u : Unstarted J) (job given : J) → u ≡ NoRoom job → ComesBack u given → job ≡ given
+back_memory u job given is back = subst (λ x. ComesBack x given) is back
+
+rose_one : (a b : ℕ) → HasRisen a b → RoseBy 1 a b
+rose_one a b (inl x) = inl (omega (arith, x))
+rose_one a b (inr x) = inr x
+
+split_in : (h : Hub) (p m x : Pass) → SplitsOff h p m x → IsSplitIn h p m x
+split_in h p m x s = record {
+  caller = s.caller;
+  new = (s.own, s.ended);
+  number = s.more;
+  drawn = s.newer;
+  since = subst (λ (l : List Stamped). StartsWith l (seen p)) (sym s.same) (starts_same (seen p));
+  by = subst (λ (l : List Stamped). StartsWith (seen m) l) (sym s.same) s.passed.grows;
+}
+
+draws_now : (h : Hub) (p m x : Pass) → SplitsOff h p m x → Draws h p m
+draws_now h p m x s = (subst (λ n. newest_number p < n) s.number s.newer, s.room)
+
+draws_back : (h : Hub) (p m q x : Pass) → SplitsOff h p m x → newest_number q ≡ newest_number m → Draws h p q
+draws_back h p m q x s e = (subst (λ n. newest_number p < n) (s.number ∙ sym e) s.newer, subst (λ n. n < limit_of h) (sym e) s.room)
+
+back : (h : Hub) (p m q x : Pass) → SplitsOff h p m x → TakesBack h m q x → Passed h p (ended_of (view_of x) ∷ []) None q
+back h p m q x s t = passed_then h p m q [] (ended_of (view_of x) ∷ []) None s.passed (subst (λ (l : List EndedCaller). Passed h m (ended_of (view_of x) ∷ l) None q) s.ended t.0)
+
+module _ {L C : Type 0} where
+  -- there was no number
+  pub fares_spent : (h : Hub) (v : SessionLimits) (n : ℕ) (p q : Pass) (l : L) (j : Option (List (SessionJob L C))) (f : ℕ) → Passed h p [] None q → newest_number q ≡ (about_of h).limits.callers → Fares h v n p q l j j f f (Ok false)
+  fares_spent h v n p q l j f passed all = record {
+    fate = spent;
+    is = all;
+    jobs = grows_none j;
+    passed = passed;
+    draws = all;
+    rose = inl (omega arith);
+    counts = refl;
+  }
+
+  -- there was no memory to make a job
+  pub fares_unmade : (h : Hub) (p m q x : Pass) (j : Option (List (SessionJob L C))) (f : ℕ) → SplitsOff h p m x → TakesBack h m q x → LacksRoom {L = L} h p q j j f f
+  fares_unmade h p m q x j f s t = record {
+    caller = ended_of (view_of x);
+    own = s.own;
+    jobs = grows_none j;
+    passed = back h p m q x s t;
+    draws = draws_back h p m q x s t.1;
+    later = omega arith;
+  }
+
+  started_so : (h : Hub) (v : SessionLimits) (n : ℕ) (p m x : Pass) (l : L) (job : SessionJob L C) → SplitsOff h p m x → job.link ≡ l → arc_value job.hub ≡ h → job.pass ≡ x → job.limits ≡ v → job.turns ≡ n → job.ended ≡ None → IsJobOf h v n p m l job
+  started_so h v n p m x l job s link hub pass limits turns ended = record {
+    link = link;
+    hub = hub;
+    pass = subst (λ (y : Pass). IsSplitIn h p m y) (sym pass) (split_in h p m x s);
+    limits = limits;
+    turns = turns;
+    ended = ended;
+  }
+
+  -- a job was made and handed over
+  pub fares_made : (h : Hub) (v : SessionLimits) (n : ℕ) (p m q x : Pass) (l : L) (job : SessionJob L C) (j j' : Option (List (SessionJob L C))) (f f' : ℕ) (r : Result Bool NoMemory) → SplitsOff h p m x → job.link ≡ l → arc_value job.hub ≡ h → job.pass ≡ x → job.limits ≡ v → job.turns ≡ n → job.ended ≡ None → HandsOver h m q job j j' f f' r → Fares h v n p q l j j' f f' r
+  fares_made h v n p m q x l job j j' f f' (Ok true) s link hub pass limits turns ended t = record {
+    fate = started job;
+    is = subst (λ (y : Pass). IsJobOf h v n p y l job) (sym t.2) (started_so h v n p m x l job s link hub pass limits turns ended);
+    jobs = t.0;
+    passed = subst (λ (y : Pass). Passed h p [] None y) (sym t.2) s.passed;
+    draws = subst (λ (y : Pass). Draws h p y) (sym t.2) (draws_now h p m x s);
+    rose = inl (let k = t.1 in omega (arith, k));
+    counts = refl;
+  }
+  fares_made h v n p m q x l job j j' f f' (Ok false) s link hub pass limits turns ended t =
+      let b : TakesBack h m q x = subst (λ (y : Pass). TakesBack h m q y) pass t.2 in
+      record {
+        fate = returned (ended_of (view_of x));
+        is = s.own;
+        jobs = t.0;
+        passed = back h p m q x s b;
+        draws = draws_back h p m q x s b.1;
+        rose = rose_one f f' t.1;
+        counts = refl;
+      }
+  fares_made h v n p m q x l job j j' f f' (Err e) s link hub pass limits turns ended t =
+      let b : TakesBack h m q x = subst (λ (y : Pass). TakesBack h m q y) pass t.2 in
+      record {
+        caller = ended_of (view_of x);
+        own = s.own;
+        jobs = t.0;
+        passed = back h p m q x s b;
+        draws = draws_back h p m q x s b.1;
+        later = t.1;
+      }

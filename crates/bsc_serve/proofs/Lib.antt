@@ -1,0 +1,5 @@
+mod Passes
+mod Arrivals
+mod Giving
+mod Taking
+mod Ending

@@ -1,0 +1,92 @@
+-- What becomes of the links that leave an acceptor.
+use Rattle.std.specs.Prelude.{◌≡◌, ℕ, ◌<◌, ◌+◌, List, [], ◌∷◌, ◌++◌, None, ⊤}
+use Rattle.std.specs.Arc.{arc_value}
+use Rattle.bsc_turn.specs.declared.pass.Pass.{Pass}
+use Rattle.bsc_turn.specs.declared.view.Ended.{Ended as EndedCaller}
+use Rattle.bsc_turn.specs.Histories.{StartsWith}
+use Rattle.bsc_turn.specs.Passes.{ended_callers, newest_number, number_of, own_list, seen}
+use Rattle.bsc_hub.specs.declared.hub.Hub.{Hub}
+use Rattle.bsc_hub.specs.Passing.{IsCaller, about_of}
+use Rattle.bsc_session.specs.declared.limits.SessionLimits.{SessionLimits}
+use Rattle.bsc_session.specs.declared.job.SessionJob.{SessionJob}
+
+-- What became of a link: its job was taken; or its job came back, and the caller of its pass ended; or there was no number
+-- left for a pass.
+pub data Fate (J : Type 0) : Type 0 where
+  started : J → Fate J
+  returned : EndedCaller → Fate J
+  spent : Fate J
+
+-- A link that left the acceptor, with what became of it.
+pub record Arrival (L J : Type 0) : Type 0 where
+  pub link : L
+  pub fate : Fate J
+
+abbrev pub job_in : {J : Type 0} → Fate J → List J
+job_in (started j) = j ∷ []
+job_in (returned e) = []
+job_in spent = []
+
+abbrev pub caller_in : {J : Type 0} → Fate J → List EndedCaller
+caller_in (started j) = []
+caller_in (returned e) = e ∷ []
+caller_in spent = []
+
+-- one where there is no job
+abbrev pub unstarted_in : {J : Type 0} → Fate J → ℕ
+unstarted_in (started j) = 0
+unstarted_in (returned e) = 1
+unstarted_in spent = 1
+
+module _ {L J : Type 0} where
+  -- The links, in the order in which they arrived.
+  abbrev pub links_of : List (Arrival L J) → List L
+  links_of [] = []
+  links_of (a ∷ more) = a.link ∷ links_of more
+
+  -- The jobs that were taken, in order.
+  abbrev pub jobs_of : List (Arrival L J) → List J
+  jobs_of [] = []
+  jobs_of (a ∷ more) = job_in a.fate ++ jobs_of more
+
+  -- The callers whose jobs came back.
+  abbrev pub callers_of : List (Arrival L J) → List EndedCaller
+  callers_of [] = []
+  callers_of (a ∷ more) = caller_in a.fate ++ callers_of more
+
+  -- How many links have no job.
+  abbrev pub unstarted_of : List (Arrival L J) → ℕ
+  unstarted_of [] = 0
+  unstarted_of (a ∷ more) = unstarted_in a.fate + unstarted_of more
+
+-- The pass x was split in a call that had the hub's own pass as p and left it as q: its caller is new and has no entries,
+-- its number is one that was drawn in this call, and what it has seen lies between what p and q had.
+pub record IsSplitIn (h : Hub) (p q x : Pass) : Type 0 where
+  pub caller : IsCaller h x
+  pub new : (own_list x ≡ []) × (ended_callers x ≡ [])
+  pub number : number_of p < number_of x
+  pub drawn : newest_number p < number_of x
+  pub since : StartsWith (seen x) (seen p)
+  pub by : StartsWith (seen q) (seen x)
+
+module _ {L C : Type 0} where
+  -- The job of a link: it has this link, this hub, a pass that was split in this call, and these limits and turns; and it
+  -- isn't worked off.
+  pub record IsJobOf (h : Hub) (v : SessionLimits) (n : ℕ) (p q : Pass) (l : L) (j : SessionJob L C) : Type 0 where
+    pub link : j.link ≡ l
+    pub hub : arc_value j.hub ≡ h
+    pub pass : IsSplitIn h p q j.pass
+    pub limits : j.limits ≡ v
+    pub turns : j.turns ≡ n
+    pub ended : j.ended ≡ None
+
+  -- What became of a link as it may be: its job is one of this call; or the caller whose pass came back made no entry; or
+  -- all numbers are drawn.
+  abbrev pub IsFate : Hub → SessionLimits → ℕ → Pass → Pass → L → Fate (SessionJob L C) → Type 0
+  IsFate h limits turns p q l (started j) = IsJobOf h limits turns p q l j
+  IsFate h limits turns p q l (returned e) = e.own ≡ []
+  IsFate h limits turns p q l spent = newest_number q ≡ (about_of h).limits.callers
+
+  abbrev pub AreFates : Hub → SessionLimits → ℕ → Pass → Pass → List (Arrival L (SessionJob L C)) → Type 0
+  AreFates h limits turns p q [] = ⊤
+  AreFates h limits turns p q (a ∷ more) = IsFate h limits turns p q a.link a.fate × AreFates h limits turns p q more

@@ -1,0 +1,111 @@
+//! The loop that takes links.
+ghost use Rattle.std.specs.Prelude.{◌≡◌, ◌≤◌, ◌≢◌, ◌<◌, ◌^◌, ℕ, List, Option, Some, None, ◌∷◌, []};
+ghost use Rattle.std.specs.Arc.{arc_value};
+ghost use Rattle.bsc_outside.specs.Faults.{HasRisen};
+ghost use Rattle.bsc_turn.specs.declared.pass.Pass.{Pass as PassType};
+ghost use Rattle.bsc_hub.specs.Passing.{IsCaller};
+ghost use Rattle.bsc_serve.specs.declared.halt.Halt.{Halt};
+ghost use Rattle.bsc_session.specs.declared.job.SessionJob.{SessionJob};
+ghost use Rattle.bsc_serve.specs.Inner.{Accepts, TakesOn, Taken};
+
+use crate::halt::Halt;
+use crate::starting::start_session;
+use crate::tally::Tally;
+use bsc_edge::{Acceptor, Arrived, Clock, Link, LinkFault, Spawner};
+use bsc_hub::{Hub, Pass};
+use bsc_session::{SessionJob, SessionLimits};
+use std::alloc::Global;
+use std::sync::{Arc, Wait};
+
+/// How long the acceptor is asked for a link at a time, in milliseconds.
+const WAIT_MS: u32 = 20;
+
+/// Asks the acceptor once, and starts a session for the link that arrived, if one did. Says what ends the loop, if
+/// something does.
+fn take_next<
+    R: Wait,
+    C: Clock + Drop,
+    L: Link + Drop,
+    A: Acceptor<L>,
+    P: Spawner<SessionJob<L, C>>,
+>(
+    rt: &R,
+    alloc: Global,
+    hub: &Arc<Hub>,
+    pass: &mut Pass,
+    limits: &SessionLimits,
+    turns: u64,
+    clock: &C,
+    acceptor: &mut A,
+    spawner: &mut P,
+    tally: &mut Tally,
+) -> Option<Halt>
+    requires can { P.can_start spawner.old }
+    requires pass { IsCaller (arc_value hub.now) pass.old }
+    requires awaits { tally.old.remaining ≢ Some 0 }
+    ensures again { P.can_start spawner.new }
+    ensures taken { (sessions : Option ℕ) (p : PassType) (left : Option (List L)) (jobs : Option (List (SessionJob L C))) (faults : ℕ) →
+        Taken (arc_value hub.now) limits.now turns sessions p pass.old left (A.left acceptor.old) jobs (P.jobs spawner.old)
+        faults (P.faults spawner.old) tally.old.remaining tally.old.unstarted →
+        TakesOn (arc_value hub.now) limits.now turns sessions p pass.new left (A.left acceptor.new) jobs (P.jobs spawner.new)
+        faults (P.faults spawner.new) tally.new.remaining tally.new.unstarted result }
+    ensures later { A.faults acceptor.old ≤ A.faults acceptor.new }
+    ensures failed { result ≡ Some Halt.AcceptFault → HasRisen (A.faults acceptor.old) (A.faults acceptor.new) }
+{
+    match acceptor.next(alloc, WAIT_MS) {
+        Ok(Arrived::Link(link)) => {
+            match start_session(rt, alloc, hub, pass, limits, turns, clock, link, spawner) {
+                Ok(started) => {
+                    tally.count(started);
+                    None
+                }
+                Err(_) => Some(Halt::NoMemory),
+            }
+        }
+        Ok(Arrived::Quiet) => None,
+        Err(LinkFault::Failed) => Some(Halt::AcceptFault),
+        Err(LinkFault::NoMemory) => Some(Halt::NoMemory),
+    }
+}
+
+/// Takes links until as many have arrived as are asked for, and says how many have no session.
+pub(crate) fn accept_all<
+    R: Wait,
+    C: Clock + Drop,
+    L: Link + Drop,
+    A: Acceptor<L>,
+    P: Spawner<SessionJob<L, C>>,
+>(
+    rt: &R,
+    alloc: Global,
+    hub: &Arc<Hub>,
+    pass: &mut Pass,
+    limits: &SessionLimits,
+    turns: u64,
+    sessions: Option<u64>,
+    clock: &C,
+    acceptor: &mut A,
+    spawner: &mut P,
+) -> Result<u64, Halt>
+    requires can { P.can_start spawner.old }
+    requires pass { IsCaller (arc_value hub.now) pass.old }
+    ensures again { P.can_start spawner.new }
+    ensures accepts { Accepts (arc_value hub.now) limits.now turns sessions pass.old pass.new (A.left acceptor.old)
+        (A.left acceptor.new) (P.jobs spawner.old) (P.jobs spawner.new) (P.faults spawner.old) (P.faults spawner.new) result }
+    ensures fits { (n : ℕ) → sessions ≡ Some n → n < 2 ^ 64 }
+    ensures later { A.faults acceptor.old ≤ A.faults acceptor.new }
+    ensures failed { result ≡ Err Halt.AcceptFault → HasRisen (A.faults acceptor.old) (A.faults acceptor.new) }
+{
+    let mut tally = Tally::of(sessions);
+    for _ in rt.forever() {
+        if tally.is_full() {
+            return Ok(tally.unstarted);
+        }
+        if let Some(halt) = take_next(
+            rt, alloc, hub, pass, limits, turns, clock, acceptor, spawner, &mut tally,
+        ) {
+            return Err(halt);
+        }
+    }
+    unreachable!()
+}

@@ -1,0 +1,16 @@
+//! How serving ends.
+use bsc_history::Counts;
+
+/// How serving ends.
+#[derive(Clone, Copy, Debug, PartialEq, Eq)]
+pub enum ServeEnd {
+    /// All links arrived, all sessions ended, and the hub was stopped: these are the counts of its stop, and so many
+    /// links got no session.
+    Done { counts: Counts, unstarted: u64 },
+    /// The same, but the hub had been stopped before, by the entry at this place, counted from 0.
+    StoppedBefore { at: u64, unstarted: u64 },
+    /// The acceptor failed.
+    AcceptFault,
+    /// There was no memory.
+    NoMemory,
+}

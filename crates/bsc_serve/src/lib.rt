@@ -1,0 +1,17 @@
+//! Serving a hub: each link that arrives gets a session in a job of its own.
+//!
+//! Start at `specs/Serving.antt`, which says what serving comes to: what became of each link that left the acceptor,
+//! which jobs were taken, and how it ends. `serving` has `serve_on`; `accepting` is its loop, `starting` gives a link
+//! its job, and `turning_away` closes the link that gets none.
+#![tactic(auto)]
+
+mod accepting;
+mod end;
+mod halt;
+mod serving;
+mod starting;
+mod tally;
+mod turning_away;
+
+pub use end::ServeEnd;
+pub use serving::serve_on;
