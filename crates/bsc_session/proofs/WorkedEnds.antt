@@ -1,11 +1,12 @@
--- Talks written out, each a session by computation: how sessions end that neither the link nor the peer ends.
-use Rattle.std.proofs.Common.{[], ◌∷◌, Some, None, Ok, true, refl, inl, lit<, lit≤, false}
+-- Talks written out, each a session by computation: how sessions end that neither the link nor the peer ends; and what no
+-- session has.
+use Rattle.std.proofs.Common.{◌≡◌, ℕ, List, [], ◌∷◌, Some, None, Ok, true, refl, inl, lit<, lit≤, false, arith}
 use Rattle.bsc_octets.specs.Identities.{identity_of}
 use Rattle.bsc_frame.specs.declared.body.Body.TheVariants.{ConnectRequest}
 use Rattle.bsc_history.specs.declared.call.Call.TheVariants.{Leave}
 use Rattle.bsc_history.specs.declared.ending.End.TheVariants.{Left, Full, Replaced}
 use Rattle.bsc_history.specs.declared.reply.Reply.TheVariants.{Gone}
-use Rattle.bsc_edge.specs.declared.fault.LinkFault.TheVariants.{NoMemory}
+use Rattle.bsc_edge.specs.declared.fault.LinkFault.TheVariants.{Failed, NoMemory}
 use Rattle.bsc_edge.specs.declared.incoming.Incoming.TheVariants.{Message}
 use Rattle.bsc_edge.specs.declared.said.Said.TheVariants.{Gave, Put, Closed as SaidClosed}
 use Rattle.bsc_accept.specs.declared.reason.Reason.TheVariants.{Nothing as NoReason, HubWorn, NoMemory as MemoryReason, OutboxFull}
@@ -14,8 +15,11 @@ use Rattle.bsc_accept.specs.Messages.{to_peer}
 use Rattle.bsc_verdict.proofs.OnLiterals.{verdict_on_literals}
 use Rattle.bsc_session.specs.declared.why.Why.TheVariants.{PeerLeft, EndedBy, NoMemory as WhyNoMemory, Spent, Worn as WhyWorn}
 use Rattle.bsc_session.specs.Receiving.{worn}
+use Rattle.bsc_session.specs.Standings.{Standing, Terms}
 use Rattle.bsc_session.specs.Stops.{stop_at, stop_closing}
+use Rattle.bsc_session.specs.Taking.{IsOpening}
 use Rattle.bsc_session.specs.Talk.{Session}
+use Rattle.bsc_session.specs.Turns.{IsTurn, Turn}
 use Rattle.bsc_session.proofs.TalkWords.{a_octets, terms, reads, given_at, connect, accept, connects, joins, joined_as, left_as, back, to_b, farewell, farewell_ack, hears, told_by}
 
 -- No receive may be made: the link is closed with 1001, and no clock is read.
@@ -101,3 +105,17 @@ a_replaced_one_answers = told_by terms (record {
   goes_on = (refl, tt);
   stops = refl;
 }) Replaced (λ c e joined met. cc)
+
+-- ---- what no session has
+
+-- A put fails, and the outbox is asked again and gives an End.
+no_end_after_a_fault : (s : Standing) → IsOpening terms s (record { reading = 0; frames = back ∷ []; met = Some Full; fault = Some Failed }) → ⊥
+no_end_after_a_fault s is = is.cause
+
+-- The outbox gives the End of one that left.
+no_end_of_one_that_left : (s : Standing) (frames : List (List ℕ)) → IsOpening terms s (record { reading = 0; frames = frames; met = Some Left; fault = None }) → ⊥
+no_end_of_one_that_left s frames is = is.not_left refl
+
+-- A turn is made though the receives are spent.
+no_turn_when_spent : (v : Terms) (s : Standing) (t : Turn) → s.receives ≡ v.turns → IsTurn v s t → ⊥
+no_turn_when_spent v s t spent is = (let room = is.room in omega (arith, spent, room))
