@@ -15,7 +15,7 @@ started = record { now = 0; event = Start } ∷ []
 
 pub event-requires-clause-order : goal.event-requires-clause-order
 event-requires-clause-order c =
-    sym (under_way_by_events c.event-start.new.self (waits c.args.failover) started Primary (c.event-start.ensures (waits c.args.failover) [] c.make-connector.ensures).1)
+    sym (under_way_by_events c.event-start.new.self (waits c.args.failover) started Primary (c.event-start.ensures.step (waits c.args.failover) [] c.make-connector.ensures).1)
 
 -- the failover is dialled where there is one
 dialled : (failover : Bool) → (connector_step (waits failover) started (record { now = 100; event = Failed Primary })).dial_failover ≡ failover
@@ -24,5 +24,5 @@ dialled false = refl
 
 pub returns : goal.returns
 returns c =
-    let stands = (c.event-start.ensures (waits c.args.failover) [] c.make-connector.ensures).1 in
-    ap (λ step. step.dial_failover) (c.event.ensures (waits c.args.failover) started stands).0 ∙ dialled c.args.failover
+    let stands = (c.event-start.ensures.step (waits c.args.failover) [] c.make-connector.ensures).1 in
+    ap (λ step. step.dial_failover) (c.event.ensures.step (waits c.args.failover) started stands).0 ∙ dialled c.args.failover
