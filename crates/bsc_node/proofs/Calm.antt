@@ -1,4 +1,4 @@
--- Which steps of a machine are calm: they neither put an Encapsulated-NPDU, nor have a message for the node, nor name a peer.
+-- Which steps of a machine are calm: they neither put an Encapsulated-NPDU, nor have a message for the node, nor name a peer, nor are a refusal.
 use Rattle.std.proofs.Common.{◌≡◌, ℕ, Bool, true, false, not, cond, ◌&&◌, List, Option, Some, None, refl}
 use Rattle.std.specs.Prelude.{⊤, ◌==◌, slice_index}
 use Rattle.bsc_frame.specs.declared.check.Check.{Check}
@@ -24,7 +24,7 @@ use Rattle.bsc_initiate.specs.declared.event.InitEvent.TheVariants.{Opened, Fini
 use Rattle.bsc_initiate.specs.declared.step.InitStep.{InitStep}
 use Rattle.bsc_initiate.specs.Past.{Standing, awaiting_websocket, awaiting_accept, connected, disconnecting, standing, last_message, heartbeat_was_put, is_heartbeat_due}
 use Rattle.bsc_initiate.specs.Steps.{tick_step, finish_step, step}
-use Rattle.bsc_node.specs.Links.{Outcome, puts, puts_and_closes, meets, passes_up, initiating_outcome, accepting_outcome}
+use Rattle.bsc_node.specs.Links.{Outcome, puts, puts_and_closes, meets, is_refused, passes_up, initiating_outcome, accepting_outcome}
 
 -- whether octets are those of an Encapsulated-NPDU
 abbrev pub is_npdu : List ℕ → Bool
@@ -35,6 +35,7 @@ is_calm (puts o) = not (is_npdu o)
 is_calm (puts_and_closes o closing) = not (is_npdu o)
 is_calm (meets who) = false
 is_calm (passes_up msg) = false
+is_calm (is_refused origin code) = false
 is_calm outcome = true
 
 -- ---- the machine of a link that was dialled

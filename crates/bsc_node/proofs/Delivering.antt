@@ -36,7 +36,6 @@ use Rattle.bsc_node.specs.Logs.{Made, Line, did, Log, Rule, nothing, either, wit
 use Rattle.bsc_node.specs.Links.{was_taken, initiating_events, accepting_events, by_machine, hears, verdict, Outcome, puts, puts_and_closes, closes, meets, is_refused, passes_up, keeps_still, initiating_outcome, accepting_outcome, outcome}
 use Rattle.bsc_node.specs.Ways.{way}
 use Rattle.bsc_node.specs.Ending.{ends, closes_link, carries_out_by}
-use Rattle.bsc_node.specs.Meeting.{is_refused_by}
 use Rattle.bsc_node.specs.Receiving.{sender, delivers, takes_body}
 use Rattle.bsc_node.specs.Requesting.{puts_own, fits, sends}
 use Rattle.bsc_node.specs.Events.{obeys_by, obeys, follows}
@@ -45,8 +44,8 @@ use Rattle.bsc_node.specs.Laws.{with_event, with_heard, delivers_npdu, delivered
 use Rattle.bsc_node.proofs.Order.{in_order-brought}
 use Rattle.bsc_node.proofs.Passing.{Passes, pass-in_order, pass-either, pass-nothing, pass-found}
 use Rattle.bsc_node.proofs.Told.{outcome-initiating, outcome-accepting}
-use Rattle.bsc_node.proofs.Quiet.{is_quiet_action, Quiet, quiet-ends, quiet-closes_link, quiet-is_refused_by}
-use Rattle.bsc_node.proofs.Heard.{LetsQuiet, lets-rule, pass-meets_peer, quiet-takes_body}
+use Rattle.bsc_node.proofs.Quiet.{is_quiet_action, Quiet, quiet-ends, quiet-closes_link}
+use Rattle.bsc_node.proofs.Heard.{LetsQuiet, lets-rule, pass-meets_peer, pass-is_refused_by, quiet-takes_body}
 use Rattle.bsc_node.proofs.Following.{is_came, pass-follows, opened-dialled, goes_on-is, and_left, and_right, not_true}
 
 -- ---- what a machine hands up is what came
@@ -180,7 +179,7 @@ none-obeys_by a name (puts_and_closes o closing) h =
     (pass-in_order delivers_none (does (Put name o) ∷ does (Close name closing) ∷ []) ((λ L. refl), ((λ L. refl), tt)), (none-quiet (ends a name) (quiet-ends a name), tt))
 none-obeys_by a name (closes closing) h = none-quiet (closes_link a name closing) (quiet-closes_link a name closing)
 none-obeys_by a name (meets who) h = pass-meets_peer delivers_none quiet_delivers_none (λ k w. refl) a name who
-none-obeys_by a name (is_refused origin code) h = none-quiet (is_refused_by a name origin code) (quiet-is_refused_by a name origin code)
+none-obeys_by a name (is_refused origin code) h = pass-is_refused_by delivers_none quiet_delivers_none refl a name origin code
 none-obeys_by a name (passes_up msg) h = cc
 none-obeys_by a name keeps_still h = pass-nothing delivers_none
 

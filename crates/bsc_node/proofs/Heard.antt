@@ -16,7 +16,7 @@ use Rattle.bsc_resolve.specs.declared.ask_refusal.AskRefusal.TheVariants.{Full, 
 use Rattle.bsc_accept.specs.declared.event.Event.TheVariants.{Joined, Refused as RefusedEvent, Tick as AcceptTick}
 use Rattle.bsc_initiate.specs.declared.event.InitEvent.TheVariants.{Tick as InitTick}
 use Rattle.bsc_accept.specs.declared.reason.Reason.TheVariants.{TableFull}
-use Rattle.bsc_accept.specs.Steps.{closing}
+use Rattle.bsc_accept.specs.Steps.{closing, normal}
 use Rattle.bsc_history.specs.declared.reply.Refusal.TheVariants.{Duplicate as DuplicateRefusal}
 use Rattle.bsc_connector.specs.declared.event.ConnectorEvent.TheVariants.{Connected as ConnectorConnected, Tick as ConnectorTick}
 use Rattle.bsc_direct.specs.declared.call.SlotCall.TheVariants.{Claim, Up}
@@ -26,20 +26,20 @@ use Rattle.bsc_node.specs.Messages.{nak, not_supported_code}
 use Rattle.bsc_node.specs.declared.link_name.LinkName.{LinkName}
 use Rattle.bsc_node.specs.declared.link_name.LinkName.TheVariants.{Hub, Direct}
 use Rattle.bsc_node.specs.declared.note.Note.TheVariants.{Uris, Advert as ToldAdvert, Nak as ToldNak, DirectUp, NoPath, NoDirect, NoUris, SlotsFull}
-use Rattle.bsc_node.specs.declared.action.Action.TheVariants.{Dial, Take, Refuse}
+use Rattle.bsc_node.specs.declared.action.Action.TheVariants.{Dial, Close, Draw, Take, Refuse}
 use Rattle.bsc_node.specs.Logs.{Made, Line, did, slot, accepting, Log, Rule, nothing, in_order, either, if_so, with_some, where_found, does, tells, now, next_id}
 use Rattle.bsc_node.specs.Links.{names, is_there, was_taken, start, accepting_events, by_machine, ticks, Outcome, puts, puts_and_closes, closes, meets, is_refused, passes_up, keeps_still, outcome}
 use Rattle.bsc_node.specs.Ways.{Way, way, wanted, next_uri, free_slot, established, learnt, uris_to_dial, establish, awaits, ask_refusal, slots_see, resolution_sees}
 use Rattle.bsc_node.specs.Ending.{carries_out, carries_out_by, tells_connector, tells_finished, ends, closes_link, finishes_link}
-use Rattle.bsc_node.specs.Meeting.{joins, refuses, finishes_replaced, comes_up, meets_dialled, meets_taken, meets_direct, meets_peer, wrong_peer}
+use Rattle.bsc_node.specs.Meeting.{joins, refuses, finishes_replaced, comes_up, meets_dialled, meets_taken, meets_direct, meets_peer, wrong_peer, tells_refusal, may_draw, is_refused_by}
 use Rattle.bsc_node.specs.Receiving.{sender, is_for_all, answers, answers_by, learns, drops_question, takes_answer, of_sender, takes_body}
 use Rattle.bsc_node.specs.Requesting.{puts_own, by_path, asks_unless, resolves, solicits, dials_first, directs}
 use Rattle.bsc_node.specs.Events.{obeys_by, obeys, dial_fails, arrives, ticks_link, ticks_resolution, time_passes, is_to_end}
 use Rattle.bsc_node.proofs.Order.{brought, in_order-brought}
-use Rattle.bsc_node.proofs.Passing.{Passes, PassEach, both, pass-brought, pass-in_order, pass-nothing, pass-when, pass-found, pass-if, pass-some, pass-mapped, pass-each-append, pass-weaker}
+use Rattle.bsc_node.proofs.Passing.{Passes, PassEach, both, pass-brought, pass-in_order, pass-either, pass-nothing, pass-when, pass-found, pass-if, pass-some, pass-mapped, pass-each-append, pass-weaker}
 use Rattle.bsc_node.proofs.Told.{outcome-accepting}
 use Rattle.bsc_node.proofs.Calm.{is_calm, calm-joined, calm-duplicate}
-use Rattle.bsc_node.proofs.Quiet.{is_quiet, Quiet, quiet-two, quiet-machine, quiet-carries, calm-ticked, quiet-tells_connector, quiet-tells_finished, quiet-ends, quiet-closes_link, quiet-finishes_link, quiet-is_refused_by}
+use Rattle.bsc_node.proofs.Quiet.{is_quiet, Quiet, quiet-two, quiet-machine, quiet-carries, calm-ticked, quiet-tells_connector, quiet-tells_finished, quiet-ends, quiet-closes_link, quiet-finishes_link}
 
 -- ---- tests that quiet lines pass
 
@@ -116,6 +116,18 @@ pass-meets_direct test lets a k who up L = pass-meets test lets a k who (establi
 pub pass-meets_peer : (test : Line → Bool) → LetsQuiet test → ((k : ℕ) (who : Identity) → test (slot (Up k who)) ≡ true) → (a : Made) (name : LinkName) (who : Identity) → Passes test (meets_peer a name who)
 pass-meets_peer test lets up a (Hub s) who = lets-rule test lets (tells_connector a (ConnectorConnected s)) (quiet-tells_connector a (ConnectorConnected s))
 pass-meets_peer test lets up a (Direct k) who = pass-meets_direct test lets a k who (up k who)
+
+-- ---- a refusal: all is quiet but that a word is drawn
+
+pub pass-is_refused_by : (test : Line → Bool) → LetsQuiet test → test (did Draw) ≡ true → (a : Made) (name : LinkName) (origin : Option Vmac) (code : ℕ) → Passes test (is_refused_by a name origin code)
+pass-is_refused_by test lets draw a name origin code =
+    pass-in_order test (does (Close name normal) ∷ tells_refusal name origin code ∷ either (may_draw name code) (does Draw) (ends a name) ∷ []) (
+      lets-rule test lets (does (Close name normal)) (λ L. refl),
+      (
+        lets-rule test lets (tells_refusal name origin code) (λ L. refl),
+        (pass-either test (may_draw name code) (does Draw) (ends a name) (λ L. both (test (did Draw)) true draw refl) (lets-rule test lets (ends a name) (quiet-ends a name)), tt),
+      ),
+    )
 
 -- ---- a message for the node: all is quiet but the delivery of an NPDU
 
@@ -199,7 +211,7 @@ quiet-obeys_by a name (puts o) h = quiet-carries name (puts o) h
 quiet-obeys_by a name (puts_and_closes o closing) h = pass-in_order is_quiet (carries_out_by name (puts_and_closes o closing) ∷ ends a name ∷ []) (quiet-carries name (puts_and_closes o closing) h, (quiet-ends a name, tt))
 quiet-obeys_by a name (closes closing) h = quiet-closes_link a name closing
 quiet-obeys_by a name (meets who) h = cc
-quiet-obeys_by a name (is_refused origin code) h = quiet-is_refused_by a name origin code
+quiet-obeys_by a name (is_refused origin code) h = cc
 quiet-obeys_by a name (passes_up msg) h = cc
 quiet-obeys_by a name keeps_still h = pass-nothing is_quiet
 

@@ -26,14 +26,13 @@ use Rattle.bsc_node.specs.declared.node_event.NodeEvent.{NodeEvent}
 use Rattle.bsc_node.specs.declared.node_event.NodeEvent.TheVariants.{DialFailed, Opened, Came, Send}
 use Rattle.bsc_node.specs.declared.timed_event.TimedEvent.{TimedEvent}
 use Rattle.bsc_node.specs.declared.action.Action.{Action}
-use Rattle.bsc_node.specs.declared.action.Action.TheVariants.{Dial, Take, Put, Close, Deliver}
+use Rattle.bsc_node.specs.declared.action.Action.TheVariants.{Dial, Take, Put, Close, Deliver, Draw}
 use Rattle.bsc_node.specs.declared.delivered.Delivered.{Delivered}
 use Rattle.bsc_node.specs.declared.note.Note.TheVariants.{NoPath, TooLong}
 use Rattle.bsc_node.specs.Logs.{Made, Line, came, did, Log, nothing, either, does, tells, now}
 use Rattle.bsc_node.specs.Links.{begins, is_over_by, life, is_there, was_taken, by_machine, hears, verdict, Outcome, puts, puts_and_closes, closes, meets, is_refused, passes_up, keeps_still, outcome}
 use Rattle.bsc_node.specs.Ways.{way, slot_call_of, slot_calls, free_slot}
 use Rattle.bsc_node.specs.Ending.{carries_out_by, tells_connector, ends, closes_link}
-use Rattle.bsc_node.specs.Meeting.{is_refused_by}
 use Rattle.bsc_node.specs.Receiving.{sender, delivers, takes_body}
 use Rattle.bsc_node.specs.Requesting.{own_message, puts_own, fits, sends}
 use Rattle.bsc_node.specs.Events.{obeys_by, obeys, follows}
@@ -43,8 +42,8 @@ use Rattle.bsc_node.specs.Soundness.{is_in_slots}
 use Rattle.bsc_node.specs.Laws.{with_event, delivery}
 use Rattle.bsc_node.proofs.Order.{in_order-brought}
 use Rattle.bsc_node.proofs.Passing.{Passes, both, pass-in_order, pass-either, pass-found, pass-nothing, pass-some}
-use Rattle.bsc_node.proofs.Quiet.{is_quiet_action, quiet-tells_connector, quiet-ends, quiet-closes_link, quiet-is_refused_by}
-use Rattle.bsc_node.proofs.Heard.{LetsQuiet, lets-rule, pass-two-then, pass-meets_peer, quiet-takes_body}
+use Rattle.bsc_node.proofs.Quiet.{is_quiet_action, quiet-tells_connector, quiet-ends, quiet-closes_link}
+use Rattle.bsc_node.proofs.Heard.{LetsQuiet, lets-rule, pass-two-then, pass-meets_peer, pass-is_refused_by, quiet-takes_body}
 use Rattle.bsc_node.proofs.Following.{pass-follows, opened-dialled, the_last, goes_on-is, and_left, and_right}
 use Rattle.bsc_node.proofs.Slotting.{SlotsFine, ups_none, quiet_ups_none, fine-lines, fine-meets_direct}
 use Rattle.bsc_node.proofs.Named.{met-unicast}
@@ -150,12 +149,12 @@ messages_ups = record { quiet = quiet_ups_none; put = λ name o. refl; deliver =
 messages_begins : LetsMessages begins_in_slots
 messages_begins = record { quiet = quiet_begins; put = λ name o. refl; deliver = λ d. refl }
 
-pass-takes_body : (test : Line → Bool) → LetsMessages test → (a : Made) (name : LinkName) (msg : Message) (body : Body) → Passes test (takes_body a name msg body)
+pub pass-takes_body : (test : Line → Bool) → LetsMessages test → (a : Made) (name : LinkName) (msg : Message) (body : Body) → Passes test (takes_body a name msg body)
 pass-takes_body test lets a name msg (Npdu npdu) = λ L.
     pass-some test (sender name msg L) (delivers msg npdu) nothing (λ v M. both (test (did (Deliver (delivery msg npdu v)))) true (lets.deliver (delivery msg npdu v)) refl) (pass-nothing test) L
 pass-takes_body test lets a name msg body = lets-rule test lets.quiet (takes_body a name msg body) (quiet-takes_body a name msg body refl)
 
-pass-sends : (test : Line → Bool) → LetsMessages test → (v : Vmac) (npdu : List ℕ) → Passes test (sends v npdu)
+pub pass-sends : (test : Line → Bool) → LetsMessages test → (v : Vmac) (npdu : List ℕ) → Passes test (sends v npdu)
 pass-sends test lets v npdu =
     pass-found test (way v) (λ w. either (fits w npdu) (puts_own w (Npdu npdu)) (tells (TooLong v))) (tells (NoPath v))
     (λ w. pass-either test (fits w npdu) (puts_own w (Npdu npdu)) (tells (TooLong v)) (λ L. both (test (did (Put w.link (own_message w (Npdu npdu) L)))) true (lets.put w.link (own_message w (Npdu npdu) L)) refl)
@@ -165,17 +164,17 @@ pass-sends test lets v npdu =
 pass-puts : (test : Line → Bool) → LetsMessages test → (name : LinkName) (o : List ℕ) → Passes test (does (Put name o))
 pass-puts test lets name o L = both (test (did (Put name o))) true (lets.put name o) refl
 
-pass-obeys_by : (test : Line → Bool) → LetsMessages test → (a : Made) (name : LinkName) (o : Outcome) → meets_slot name o ≡ false → Passes test (obeys_by a name o)
-pass-obeys_by test lets a name (puts o) h = pass-puts test lets name o
-pass-obeys_by test lets a name (puts_and_closes o closing) h =
+pass-obeys_by : (test : Line → Bool) → LetsMessages test → test (did Draw) ≡ true → (a : Made) (name : LinkName) (o : Outcome) → meets_slot name o ≡ false → Passes test (obeys_by a name o)
+pass-obeys_by test lets draw a name (puts o) h = pass-puts test lets name o
+pass-obeys_by test lets draw a name (puts_and_closes o closing) h =
     pass-in_order test (carries_out_by name (puts_and_closes o closing) ∷ ends a name ∷ [])
     (pass-in_order test (does (Put name o) ∷ does (Close name closing) ∷ []) (pass-puts test lets name o, (lets-rule test lets.quiet (does (Close name closing)) (λ L. refl), tt)), (lets-rule test lets.quiet (ends a name) (quiet-ends a name), tt))
-pass-obeys_by test lets a name (closes closing) h = lets-rule test lets.quiet (closes_link a name closing) (quiet-closes_link a name closing)
-pass-obeys_by test lets a (Hub s) (meets who) h = lets-rule test lets.quiet (tells_connector a (Connected s)) (quiet-tells_connector a (Connected s))
-pass-obeys_by test lets a (Direct k) (meets who) h = cc
-pass-obeys_by test lets a name (is_refused origin code) h = lets-rule test lets.quiet (is_refused_by a name origin code) (quiet-is_refused_by a name origin code)
-pass-obeys_by test lets a name (passes_up msg) h = pass-takes_body test lets a name msg msg.body
-pass-obeys_by test lets a name keeps_still h = pass-nothing test
+pass-obeys_by test lets draw a name (closes closing) h = lets-rule test lets.quiet (closes_link a name closing) (quiet-closes_link a name closing)
+pass-obeys_by test lets draw a (Hub s) (meets who) h = lets-rule test lets.quiet (tells_connector a (Connected s)) (quiet-tells_connector a (Connected s))
+pass-obeys_by test lets draw a (Direct k) (meets who) h = cc
+pass-obeys_by test lets draw a name (is_refused origin code) h = pass-is_refused_by test lets.quiet draw a name origin code
+pass-obeys_by test lets draw a name (passes_up msg) h = pass-takes_body test lets a name msg msg.body
+pass-obeys_by test lets draw a name keeps_still h = pass-nothing test
 
 -- ---- a message that came
 
@@ -202,7 +201,7 @@ came_calls a name o M =
 obeyed : (a : Made) (name : LinkName) (N : Log) (u : Outcome) → SlotsFine (slot_calls N) → ((k : ℕ) → name ≡ Direct k → is_in_slots k ≡ true) → ((who : Identity) → u ≡ meets who → same_vmac who.vmac broadcast ≡ false)
     → SlotsFine (slot_calls N ++ filter_map slot_call_of (obeys_by a name u N))
 obeyed a (Direct k) N (meets who) f here unicast = fine-meets_direct a k who N (here k refl) (unicast who refl) f
-obeyed a name N u f here unicast = fine-lines (obeys_by a name u N) (slot_calls N) (pass-obeys_by ups_none messages_ups a name u refl N) f
+obeyed a name N u f here unicast = fine-lines (obeys_by a name u N) (slot_calls N) (pass-obeys_by ups_none messages_ups refl a name u refl N) f
 
 slots_came : (a : Made) (name : LinkName) (o : List ℕ) (M : Log) → SlotsFine (slot_calls M) → ((k : ℕ) → name ≡ Direct k → is_in_slots k ≡ true) → SlotsFine (slot_calls M ++ filter_map slot_call_of (follows a (Came name o) M))
 slots_came a name o M f here =
@@ -220,7 +219,7 @@ begins_came a name o M =
 
     by : (name : LinkName) (u : Outcome) (N : Log) → list_all begins_in_slots (obeys_by a name u N) ≡ true
     by (Direct k) (meets who) N = pass-meets_peer begins_in_slots quiet_begins (λ j w. refl) a (Direct k) who N
-    by name u N = pass-obeys_by begins_in_slots messages_begins a name u refl N
+    by name u N = pass-obeys_by begins_in_slots messages_begins refl a name u refl N
 
 -- ---- every event
 

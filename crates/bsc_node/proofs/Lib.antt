@@ -20,3 +20,4 @@ pub mod Slotting
 pub mod Named
 pub mod Lasting
 pub mod Apart
+pub mod Drawing

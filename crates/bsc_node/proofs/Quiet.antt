@@ -1,9 +1,8 @@
--- Which rules are quiet: they neither deliver, nor put an Encapsulated-NPDU, nor begin a direct connection, nor bring a slot up.
-use Rattle.std.proofs.Common.{◌≡◌, ℕ, Bool, true, false, not, ◌&&◌, [], ◌∷◌, ◌++◌, Option, refl, ap, ◌∙◌}
+-- Which rules are quiet: they neither deliver, nor put an Encapsulated-NPDU, nor begin a direct connection, nor bring a slot up, nor draw a word.
+use Rattle.std.proofs.Common.{◌≡◌, ℕ, Bool, true, false, not, ◌&&◌, [], ◌∷◌, ◌++◌, refl, ap, ◌∙◌}
 use Rattle.std.specs.Prelude.{unwrap_or}
 use Rattle.std.specs.List.{list_all}
 use Rattle.std.proofs.lemmas.List.Folds.{list_all-append}
-use Rattle.bsc_octets.specs.declared.vmac.Vmac.{Vmac}
 use Rattle.bsc_octets.specs.declared.identity.Identity.{Identity}
 use Rattle.bsc_connector.specs.declared.side.Side.{Side}
 use Rattle.bsc_connector.specs.declared.side.Side.TheVariants.{Primary, Failover}
@@ -28,7 +27,7 @@ use Rattle.bsc_node.specs.Links.{is_there, none_there, was_taken, start, initiat
 use Rattle.bsc_node.specs.Hubs.{hub_use, hub_use_before, is_up, is_dropped, newest_step, told, same_use}
 use Rattle.bsc_node.specs.Ways.{established_peer, slots_see}
 use Rattle.bsc_node.specs.Ending.{carries_out_by, carries_out, finishes_machine, dials, dials_primary, dials_failover, tells_use, drops_failover, tells_connector, ends_hub, ends_slot, tells_finished, ends_by, ends, closes_link, finishes_link}
-use Rattle.bsc_node.specs.Meeting.{tells_refusal, may_draw, is_refused_by, refusing_side, ends_refused, renews, keeps_vmac}
+use Rattle.bsc_node.specs.Meeting.{refusing_side, ends_refused, renews, keeps_vmac}
 use Rattle.bsc_node.proofs.Order.{in_order-brought}
 use Rattle.bsc_node.proofs.Passing.{Passes, both, pass-in_order, pass-either, pass-nothing, pass-when, pass-found}
 use Rattle.bsc_node.proofs.Told.{outcome-initiating, outcome-accepting}
@@ -37,6 +36,7 @@ use Rattle.bsc_node.proofs.Calm.{is_npdu, is_calm, calm-tick, calm-finish, calm-
 abbrev pub is_quiet_action : Action → Bool
 is_quiet_action (Put name o) = not (is_npdu o)
 is_quiet_action (Deliver delivered) = false
+is_quiet_action Draw = false
 is_quiet_action (Dial (Direct k) uri) = false
 is_quiet_action (Take name) = false
 is_quiet_action action = true
@@ -175,12 +175,7 @@ quiet-finishes_link a name =
     (pass-in_order is_quiet (finishes_machine a name ∷ either (is_there name) nothing (ends a name) ∷ [])
     (quiet-finishes_machine a name, (pass-either is_quiet (is_there name) nothing (ends a name) (pass-nothing is_quiet) (quiet-ends a name), tt)))
 
--- ---- refusals, and another VMAC
-
-pub quiet-is_refused_by : (a : Made) (name : LinkName) (origin : Option Vmac) (code : ℕ) → Quiet (is_refused_by a name origin code)
-quiet-is_refused_by a name origin code =
-    pass-in_order is_quiet (does (Close name normal) ∷ tells_refusal name origin code ∷ either (may_draw name code) (does Draw) (ends a name) ∷ [])
-    ((λ L. refl), ((λ L. refl), (pass-either is_quiet (may_draw name code) (does Draw) (ends a name) (λ L. refl) (quiet-ends a name), tt)))
+-- ---- another VMAC
 
 quiet-ends_refused : (a : Made) → Quiet (ends_refused a)
 quiet-ends_refused a = pass-found is_quiet refusing_side (λ s. ends a (Hub s)) nothing (λ s. quiet-ends a (Hub s)) (pass-nothing is_quiet)

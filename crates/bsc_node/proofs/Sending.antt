@@ -20,7 +20,6 @@ use Rattle.bsc_node.specs.Logs.{Made, Line, did, Log, Rule, nothing, either, if_
 use Rattle.bsc_node.specs.Links.{was_taken, by_machine, hears, verdict, Outcome, puts, puts_and_closes, closes, meets, is_refused, passes_up, keeps_still, outcome}
 use Rattle.bsc_node.specs.Ways.{Way, way}
 use Rattle.bsc_node.specs.Ending.{ends, closes_link, carries_out_by}
-use Rattle.bsc_node.specs.Meeting.{is_refused_by}
 use Rattle.bsc_node.specs.Receiving.{sender, delivers, takes_body}
 use Rattle.bsc_node.specs.Requesting.{puts_own, fits}
 use Rattle.bsc_node.specs.Events.{obeys_by, obeys, follows}
@@ -28,9 +27,9 @@ use Rattle.bsc_node.specs.Conditions.{may_come}
 use Rattle.bsc_node.specs.Laws.{with_event, puts_npdu, npdus_put, IsPutOnce, NpdusArePutOnce}
 use Rattle.bsc_node.proofs.Passing.{Passes, both, pass-in_order, pass-nothing, pass-some}
 use Rattle.bsc_node.proofs.Proper.{is_proper, proper-hears}
-use Rattle.bsc_node.proofs.Quiet.{is_quiet_action, Quiet, quiet-ends, quiet-closes_link, quiet-is_refused_by}
+use Rattle.bsc_node.proofs.Quiet.{is_quiet_action, Quiet, quiet-ends, quiet-closes_link}
 use Rattle.bsc_node.proofs.Following.{is_send, pass-follows, opened-dialled, goes_on-is, and_left, and_right, not_true}
-use Rattle.bsc_node.proofs.Heard.{LetsQuiet, lets-rule, pass-meets_peer, quiet-takes_body, pass-two-then}
+use Rattle.bsc_node.proofs.Heard.{LetsQuiet, lets-rule, pass-meets_peer, pass-is_refused_by, quiet-takes_body, pass-two-then}
 
 -- ---- lines that put no Encapsulated-NPDU
 
@@ -69,7 +68,7 @@ none-obeys_by a name (puts_and_closes o closing) h =
     (pass-in_order puts_none (does (Put name o) ∷ does (Close name closing) ∷ []) (none-does (Put name o) h, ((λ L. refl), tt)), (none-quiet (ends a name) (quiet-ends a name), tt))
 none-obeys_by a name (closes closing) h = none-quiet (closes_link a name closing) (quiet-closes_link a name closing)
 none-obeys_by a name (meets who) h = pass-meets_peer puts_none quiet_puts_none (λ k w. refl) a name who
-none-obeys_by a name (is_refused origin code) h = none-quiet (is_refused_by a name origin code) (quiet-is_refused_by a name origin code)
+none-obeys_by a name (is_refused origin code) h = pass-is_refused_by puts_none quiet_puts_none refl a name origin code
 none-obeys_by a name (passes_up msg) h = none-takes_body a name msg msg.body
 none-obeys_by a name keeps_still h = pass-nothing puts_none
 

@@ -1,6 +1,7 @@
 -- Laws of every node, on which a theorem over a whole network stands. Each says of an event that may come what the node
 -- does at it, or of a log what holds whatever came.
 use Rattle.std.specs.Prelude.{◌≡◌, ◌≢◌, ◌⊎◌, ℕ, ◌==◌, Bool, true, false, IsTrue, List, [], ◌∷◌, ◌++◌, filter, slice_index, Some}
+use Rattle.std.specs.List.{list_any}
 use Rattle.bsc_octets.specs.declared.vmac.Vmac.{Vmac}
 use Rattle.bsc_octets.specs.Addresses.{broadcast}
 use Rattle.bsc_frame.specs.declared.message.Message.{Message}
@@ -14,7 +15,7 @@ use Rattle.bsc_node.specs.declared.delivered.Delivered.{Delivered}
 use Rattle.bsc_node.specs.declared.node_event.NodeEvent.TheVariants.{Came, Send}
 use Rattle.bsc_node.specs.declared.timed_event.TimedEvent.{TimedEvent}
 use Rattle.bsc_node.specs.declared.action.Action.{Action}
-use Rattle.bsc_node.specs.declared.action.Action.TheVariants.{Put, Deliver}
+use Rattle.bsc_node.specs.declared.action.Action.TheVariants.{Put, Deliver, Draw}
 use Rattle.bsc_node.specs.Logs.{Made, came, Log}
 use Rattle.bsc_node.specs.Links.{verdict, hears}
 use Rattle.bsc_node.specs.Hubs.{hub_use}
@@ -76,6 +77,21 @@ IsDeliveredOnce a L e =
 -- A node delivers at most the one message that came.
 abbrev pub DeliversWhatCame : Made → Type 0
 DeliversWhatCame a = (L : Log) (e : TimedEvent) → IsTrue (may_come L e) → (delivered_at a L e ≡ []) ⊎ IsDeliveredOnce a L e
+
+-- ---- words
+
+-- Whether an action draws a word.
+abbrev pub draws : Action → Bool
+draws Draw = true
+draws action = false
+
+-- At this event a word is drawn once, as the last of the actions.
+abbrev pub IsDrawnLast : Made → Log → TimedEvent → Type 0
+IsDrawnLast a L e = (before : List Action) × (actions_at a L e ≡ before ++ Draw ∷ []) × (list_any draws before ≡ false)
+
+-- A word is drawn at most once at an event, and as the last of its actions.
+abbrev pub DrawsLast : Made → Type 0
+DrawsLast a = (L : Log) (e : TimedEvent) → IsTrue (may_come L e) → (list_any draws (actions_at a L e) ≡ false) ⊎ IsDrawnLast a L e
 
 -- ---- paths and slots
 

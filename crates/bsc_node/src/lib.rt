@@ -16,7 +16,7 @@ mod timed_event;
 pub use action::Action;
 pub use delivered::Delivered;
 pub use laws::{
-    broadcasts_keep_off_slots, delivers_what_came, npdus_are_put_once, slots_keep_apart,
+    broadcasts_keep_off_slots, delivers_what_came, draws_last, npdus_are_put_once, slots_keep_apart,
 };
 pub use link_name::LinkName;
 pub use node_event::NodeEvent;
