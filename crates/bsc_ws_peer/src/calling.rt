@@ -1,5 +1,5 @@
 //! The end that dials.
-use crate::messages::{Came, MESSAGES, all_octets, bells, message, next_message};
+use crate::messages::{End, MESSAGES, all_octets, bells, message, next_message};
 use bsc_edge::{Dialer, Kind, Link};
 use bsc_gate::SocketOpener;
 use bsc_ws::StreamDialer;
@@ -16,8 +16,8 @@ fn comes_back<L: Link>(alloc: Global, link: &mut L, m: &[u8]) -> bool {
         return false;
     }
     match next_message(alloc, link) {
-        Came::Message(back) => back.as_slice() == m,
-        _ => false,
+        Ok(back) => back.as_slice() == m,
+        Err(_) => false,
     }
 }
 
@@ -38,7 +38,7 @@ fn is_closed<L: Link>(alloc: Global, link: &mut L) -> bool {
     if link.close(alloc, 1000, "").is_err() {
         return false;
     }
-    matches!(next_message(alloc, link), Came::Closed)
+    matches!(next_message(alloc, link), Err(End::Closed))
 }
 
 /// Makes a link of this kind to the peer that the URI names, and tells how many messages came back. False where the

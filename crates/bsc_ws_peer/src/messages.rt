@@ -7,6 +7,7 @@ use bsc_octets::Octets;
 use std::alloc::{AllocError, Global};
 use std::io::{self, ErrorKind};
 use std::sync::Arc;
+use thiserror::Error;
 
 /// How many messages are put.
 pub(crate) const MESSAGES: usize = 1_000;
@@ -54,26 +55,33 @@ pub(crate) fn bells(alloc: Global) -> io::Result<Arc<Bells>> {
     }
 }
 
-/// What came of a wait for a message.
-#[derive(Drop)]
-pub(crate) enum Came {
-    Message(Octets),
+/// Why no message comes any more.
+#[derive(Clone, Copy, Debug, PartialEq, Eq, Error)]
+pub(crate) enum End {
     /// The peer closed the link.
+    #[error("closed")]
     Closed,
-    /// A text message, nothing for some 20 seconds, or a fault.
-    Else(&'static str),
+    /// A text message came.
+    #[error("text")]
+    Text,
+    /// Nothing came for some 20 seconds.
+    #[error("silence")]
+    Silence,
+    /// A call on the link failed.
+    #[error("fault")]
+    Fault,
 }
 
-/// The next message of a link, or what came in its place.
-pub(crate) fn next_message<L: Link>(alloc: Global, link: &mut L) -> Came {
+/// The next message of a link.
+pub(crate) fn next_message<L: Link>(alloc: Global, link: &mut L) -> Result<Octets, End> {
     for _ in 0..WAITS {
         match link.receive(alloc, WAIT_MS) {
-            Ok(Incoming::Message(m)) => return Came::Message(m),
+            Ok(Incoming::Message(m)) => return Ok(m),
             Ok(Incoming::Quiet) => {}
-            Ok(Incoming::Closed) => return Came::Closed,
-            Ok(Incoming::Text) => return Came::Else("text"),
-            Err(_) => return Came::Else("fault"),
+            Ok(Incoming::Closed) => return Err(End::Closed),
+            Ok(Incoming::Text) => return Err(End::Text),
+            Err(_) => return Err(End::Fault),
         }
     }
-    Came::Else("silence")
+    Err(End::Silence)
 }

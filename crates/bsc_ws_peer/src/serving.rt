@@ -1,7 +1,8 @@
 //! The end that accepts.
-use crate::messages::{Came, bells, next_message};
+use crate::messages::{End, bells, next_message};
 use bsc_edge::{Acceptor, Arrived, Kind, Link};
 use bsc_gate::Gate;
+use bsc_octets::Octets;
 use std::alloc::Global;
 use std::io::{self, ErrorKind};
 use std::net::{Ipv4Addr, Net};
@@ -11,53 +12,54 @@ use std::time::Clock;
 /// How many handshakes the gate has at work at most.
 const PLACES: usize = 16;
 
-/// What a link came to.
-struct Echoed {
+/// What came over a link.
+#[derive(Clone, Copy)]
+struct Came {
     messages: u64,
     octets: u64,
     /// All octets added up, modulo 2^64.
     sum: u64,
-    end: &'static str,
 }
 
-fn sum_of(octets: &[u8]) -> u64 {
-    let mut sum = 0u64;
-    for octet in octets {
-        sum = sum.wrapping_add(u64::from(*octet));
-    }
-    sum
-}
-
-/// Puts back each message of a link until it ends.
-fn echo<L: Link>(alloc: Global, link: &mut L) -> Echoed {
-    let mut echoed = Echoed {
+impl Came {
+    const NOTHING: Came = Came {
         messages: 0,
         octets: 0,
         sum: 0,
-        end: "enough",
     };
-    for _ in 0..u64::MAX {
-        match next_message(alloc, link) {
-            Came::Message(m) => {
-                echoed.messages = echoed.messages.saturating_add(1);
-                echoed.octets = echoed.octets.saturating_add(m.len() as u64);
-                echoed.sum = echoed.sum.wrapping_add(sum_of(m.as_slice()));
-                if link.put(alloc, m.as_slice()).is_err() {
-                    echoed.end = "fault of a put";
-                    return echoed;
-                }
-            }
-            Came::Closed => {
-                echoed.end = "closed";
-                return echoed;
-            }
-            Came::Else(end) => {
-                echoed.end = end;
-                return echoed;
-            }
+
+    fn and(self, message: &[u8]) -> Came {
+        let mut sum = self.sum;
+        for octet in message {
+            sum = sum.wrapping_add(u64::from(*octet));
+        }
+        Came {
+            messages: self.messages.saturating_add(1),
+            octets: self.octets.saturating_add(message.len() as u64),
+            sum,
         }
     }
-    echoed
+}
+
+/// Puts the next message of a link back.
+fn echo_one<L: Link>(alloc: Global, link: &mut L) -> Result<Octets, End> {
+    let message = next_message(alloc, link)?;
+    match link.put(alloc, message.as_slice()) {
+        Ok(()) => Ok(message),
+        Err(_) => Err(End::Fault),
+    }
+}
+
+/// Puts back each message of a link until it ends.
+fn echo<L: Link>(alloc: Global, link: &mut L) -> (Came, End) {
+    let mut came = Came::NOTHING;
+    for _ in 0..u64::MAX {
+        match echo_one(alloc, link) {
+            Ok(message) => came = came.and(message.as_slice()),
+            Err(end) => return (came, end),
+        }
+    }
+    (came, End::Silence)
 }
 
 /// A gate that listens at this port of 127.0.0.1, and which port that is.
@@ -97,14 +99,10 @@ pub(crate) fn serve<R: Clock + Net + Wait + Print + Copy + Drop>(
             Ok(Arrived::Link(link)) => {
                 let mut link = link;
                 served = served.saturating_add(1);
-                let Echoed {
-                    messages,
-                    octets,
-                    sum,
-                    end,
-                } = echo(alloc, &mut link);
+                let (came, end) = echo(alloc, &mut link);
                 println!(rt;
-                    "link {served}: {messages} messages, {octets} octets that add up to {sum}, {end}"
+                    "link {served}: {} messages, {} octets that add up to {}, {end}",
+                    came.messages, came.octets, came.sum
                 )?;
             }
             Ok(Arrived::Quiet) => {}
