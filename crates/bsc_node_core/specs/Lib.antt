@@ -1,2 +1,5 @@
 pub mod Machines
 pub mod Events
+pub mod Tables
+pub mod Standing
+pub mod Rules

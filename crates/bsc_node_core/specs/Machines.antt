@@ -1,7 +1,14 @@
 -- What is kept of the machine of a link.
-use Rattle.std.specs.Prelude.{Bool, true, false}
+use Rattle.std.specs.Prelude.{Bool, true, false, if◌then◌else◌}
 use Rattle.bsc_accept.specs.declared.stage.Stage.{Stage}
 use Rattle.bsc_accept.specs.declared.stage.Stage.TheVariants.{Asked as StageAsked}
+use Rattle.bsc_accept.specs.declared.accepting.Accepting.{Accepting}
+use Rattle.bsc_accept.specs.declared.step.Step.{Step}
+use Rattle.bsc_accept.specs.declared.step.Step.TheVariants.{Ask}
+use Rattle.bsc_accept.specs.Steps as AcceptingSteps
+use Rattle.bsc_initiate.specs.declared.initiating.Initiating.{Initiating}
+use Rattle.bsc_initiate.specs.declared.step.InitStep.{InitStep}
+use Rattle.bsc_initiate.specs.Steps as InitiatingSteps
 use Rattle.bsc_accept.specs.Standing.{is_open as is_open_accepting}
 use Rattle.bsc_initiate.specs.Standing.{is_open as is_open_initiating}
 use Rattle.bsc_node_core.specs.declared.machine.Machine.{Machine}
@@ -25,3 +32,16 @@ is_fit (Asked m) = is_asked m.stage
 abbrev pub says_there : Machine → Bool
 says_there Gone = false
 says_there m = true
+
+-- The machine of a link that was dialled, after a step: over where it closed.
+abbrev pub dialled_after : Initiating → InitStep → Machine
+dialled_after m step = if InitiatingSteps.closes step then Over else Dialled m
+
+-- whether a step asks about the peer
+abbrev pub asks : Step → Bool
+asks (Ask who) = true
+asks step = false
+
+-- The machine of a link that was taken, after a step: over where it closed, and else it has asked or not.
+abbrev pub taken_after : Accepting → Step → Machine
+taken_after m step = if AcceptingSteps.closes step then Over else if asks step then Asked m else Taken m

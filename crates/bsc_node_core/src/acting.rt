@@ -1,6 +1,14 @@
 //! The actions of a node that change what it keeps, one each.
-ghost use Rattle.std.specs.Prelude.{◌≡◌, ◌<◌, ◌+◌, ◌%◌, ◌^◌, OnOk};
+ghost use Rattle.std.specs.Prelude.{◌≡◌, ◌<◌, ◌+◌, ◌%◌, ◌^◌, ◌∷◌, ◌++◌, if◌then◌else◌, true, false, List, [], OnOk};
 ghost use Rattle.bsc_connector.specs.Standing.{MayCome};
+ghost use Rattle.bsc_node.specs.declared.action.Action.{Action};
+ghost use Rattle.bsc_connector.specs.declared.side.Side.{Side};
+ghost use Rattle.bsc_node.specs.declared.link_name.LinkName.{LinkName};
+ghost use Rattle.bsc_node.specs.Links.{same_link};
+ghost use Rattle.bsc_node_core.specs.Tables.{is_name};
+ghost use Rattle.bsc_node.specs.Logs.{Log, did, does};
+ghost use Rattle.bsc_node.specs.Hubs.{newest_step, told};
+ghost use Rattle.bsc_node_core.specs.Standing.{Base, Goes, Stands, dropped_after, next_after, renewals_after};
 
 use crate::actions::Actions;
 use crate::machine::Machine;
@@ -13,8 +21,58 @@ use bsc_node::{Action, LinkName, Note};
 use bsc_octets::{NoMemory, Octets};
 
 /// Tells the user something.
-pub(crate) fn tell(out: &mut Actions, note: Note) -> Result<(), NoMemory> {
+pub(crate) fn tell(out: &mut Actions, note: Note) -> Result<(), NoMemory>
+    ensures { OnOk result (out.new ≡ out.old ++ Action.Tell note ∷ []) }
+{
     out.push(Action::Tell(note))
+}
+
+/// The number after one: after FFFF comes 0000.
+fn number_past(number: u16) -> u16
+    ensures { result ≡ (number + 1) % 65536 }
+{
+    number.wrapping_add(1)
+}
+
+/// The number of the next message once these octets are put, where it was this one: a response has none of its own.
+fn number_after(number: u16, octets: &[u8]) -> u16
+    ensures { result ≡ next_after octets.now number }
+{
+    if is_response(octets) {
+        number
+    } else {
+        number_past(number)
+    }
+}
+
+/// The renewals since a hub accepted, once the connector was told this.
+fn renewals_after(event: ConnectorEvent, renewals: u8) -> u8
+    ensures { result ≡ renewals_after event renewals }
+{
+    match event {
+        ConnectorEvent::Connected(_) => 0,
+        _ => renewals,
+    }
+}
+
+/// Whether the failover was dropped since its link began, once the link of this name begins.
+fn dropped_begun(name: LinkName, dropped: bool) -> bool
+    ensures { result ≡ (if same_link name (LinkName.Hub Side.Failover) then false else dropped) }
+{
+    match name {
+        LinkName::Hub(Side::Failover) => false,
+        LinkName::Hub(Side::Primary) | LinkName::Direct(_) => dropped,
+    }
+}
+
+/// Whether the failover was dropped, once the connector was told this.
+fn dropped_after(event: ConnectorEvent, dropped: bool) -> bool
+    ensures { result ≡ dropped_after event dropped }
+{
+    match event {
+        ConnectorEvent::Connected(Side::Primary) => true,
+        _ => dropped,
+    }
 }
 
 impl State {
@@ -22,7 +80,7 @@ impl State {
     pub(crate) fn count(&mut self)
         ensures { self.new ≡ record self.old { next = (self.old.next + 1) % 65536 } }
     {
-        self.next = self.next.wrapping_add(1);
+        self.next = number_past(self.next);
     }
 
     /// Puts a message. One that is no response is numbered.
@@ -33,12 +91,11 @@ impl State {
         octets: Octets,
     ) -> Result<(), NoMemory>
         ensures direct { OnOk result (self.new.direct ≡ self.old.direct) }
+        ensures goes { OnOk result (Goes (λ a. does (Action.Put name octets)) out.old self.old out.new self.new) }
     {
-        let numbered = !is_response(octets.as_slice());
+        let next = number_after(self.next, octets.as_slice());
         out.push(Action::Put(name, octets))?;
-        if numbered {
-            self.count();
-        }
+        self.next = next;
         Ok(())
     }
 
@@ -50,6 +107,7 @@ impl State {
         closing: Closing,
     ) -> Result<(), NoMemory>
         ensures direct { OnOk result (self.new.direct ≡ self.old.direct) }
+        ensures goes { OnOk result (Goes (λ a. does (Action.Close name closing)) out.old self.old out.new self.new) }
     {
         out.push(Action::Close(name, closing))?;
         self.links.end(name);
@@ -64,13 +122,13 @@ impl State {
         now: u64,
         name: LinkName,
         uri: Octets,
-    ) -> Result<(), NoMemory> {
+    ) -> Result<(), NoMemory>
+        ensures { OnOk result ((b : Base) (L : Log) → b.made.limits.times ≡ times → b.now ≡ now → is_name name ≡ true → Stands b out.old self.old L → Stands b out.new self.new (L ++ did (Action.Dial name uri) ∷ [])) }
+    {
         out.push(Action::Dial(name, uri))?;
         let machine = Initiating::start(self.own, times, now);
         self.links.begin(name, Machine::Dialled(machine));
-        if name == LinkName::Hub(Side::Failover) {
-            self.dropped = false;
-        }
+        self.dropped = dropped_begun(name, self.dropped);
         Ok(())
     }
 
@@ -81,7 +139,9 @@ impl State {
         times: Times,
         now: u64,
         k: u32,
-    ) -> Result<(), NoMemory> {
+    ) -> Result<(), NoMemory>
+        ensures { OnOk result ((b : Base) (L : Log) → b.made.limits.times ≡ times → b.now ≡ now → k < 64 → Stands b out.old self.old L → Stands b out.new self.new (L ++ did (Action.Take (LinkName.Direct k)) ∷ [])) }
+    {
         out.push(Action::Take(LinkName::Direct(k)))?;
         let machine = Accepting::start(self.own, times, now);
         self.links
@@ -93,14 +153,10 @@ impl State {
     pub(crate) fn told(&mut self, now: u64, event: ConnectorEvent) -> ConnectorStep
         requires time { now < 2 ^ 62 }
         requires order { MayCome self.old.connector event }
+        ensures { (b : Base) (out : List Action) (L : Log) → b.now ≡ now → Stands b out self.old L → Stands b out self.new (L ++ told event L) × (newest_step b.made (L ++ told event L) ≡ result) }
     {
-        let step = self.connector.event(now, event);
-        if let ConnectorEvent::Connected(side) = event {
-            self.renewals = 0;
-            if side == Side::Primary {
-                self.dropped = true;
-            }
-        }
-        step
+        self.renewals = renewals_after(event, self.renewals);
+        self.dropped = dropped_after(event, self.dropped);
+        self.connector.event(now, event)
     }
 }

@@ -1,6 +1,15 @@
 //! What follows where a hub connection changes, and where a link ends.
-ghost use Rattle.std.specs.Prelude.{◌≡◌, ◌<◌, ◌^◌, OnOk};
+ghost use Rattle.std.specs.Prelude.{◌≡◌, ◌<◌, ◌^◌, ◌∷◌, ◌++◌, [], Option, unwrap_or, IfOk, OnOk};
+ghost use Rattle.bsc_octets.specs.declared.vmac.Vmac.{Vmac};
+ghost use Rattle.bsc_frame.specs.declared.message.Message.{Message};
 ghost use Rattle.bsc_connector.specs.Standing.{MayCome};
+ghost use Rattle.bsc_node.specs.declared.action.Action.{Action};
+ghost use Rattle.bsc_node.specs.Logs.{Log, did, does, in_order};
+ghost use Rattle.bsc_connector.specs.declared.side.Side.{Side};
+ghost use Rattle.bsc_node.specs.declared.link_name.LinkName.{LinkName};
+ghost use Rattle.bsc_node.specs.Ending.{carries_out_by, ends_slot};
+ghost use Rattle.bsc_node_core.specs.Rules.{outcome_of, tells_down};
+ghost use Rattle.bsc_node_core.specs.Standing.{Base, Goes, Stands};
 
 use crate::acting::tell;
 use crate::actions::Actions;
@@ -13,6 +22,16 @@ use bsc_node::{LinkName, NodeLimits, Note};
 use bsc_octets::{NoMemory, Octets};
 use std::alloc::Global;
 
+/// The URI of the failover, where there is one.
+fn failover_uri(alloc: Global, limits: &NodeLimits) -> Result<Octets, NoMemory>
+    ensures { IfOk result (λ o. o ≡ unwrap_or limits.now.failover []) }
+{
+    match &limits.failover {
+        Some(uri) => uri.copy(alloc),
+        None => Ok(Octets::from_vec(Vec::new(alloc))),
+    }
+}
+
 impl State {
     /// Puts and closes what a machine's step puts and closes, without what follows from it.
     pub(crate) fn carry_out(
@@ -22,16 +41,29 @@ impl State {
         deed: Deed,
     ) -> Result<(), NoMemory>
         ensures direct { OnOk result (self.new.direct ≡ self.old.direct) }
+        ensures goes { OnOk result ((origin : Option Vmac) (msg : Option Message) → Goes (λ a. carries_out_by name (outcome_of origin msg deed)) out.old self.old out.new self.new) }
     {
         match deed {
             Deed::Puts(octets) => self.put(out, name, octets),
-            Deed::PutsAndCloses(octets, closing) => {
-                self.put(out, name, octets)?;
-                self.close(out, name, closing)
-            }
+            Deed::PutsAndCloses(octets, closing) => self.put_and_close(out, name, octets, closing),
             Deed::Closes(closing) => self.close(out, name, closing),
             Deed::Meets(_) | Deed::IsRefused(_) | Deed::PassesUp | Deed::KeepsStill => Ok(()),
         }
+    }
+
+    /// Puts a message, and closes the link.
+    fn put_and_close(
+        &mut self,
+        out: &mut Actions,
+        name: LinkName,
+        octets: Octets,
+        closing: Closing,
+    ) -> Result<(), NoMemory>
+        ensures direct { OnOk result (self.new.direct ≡ self.old.direct) }
+        ensures goes { OnOk result (Goes (λ a. in_order (does (Action.Put name octets) ∷ does (Action.Close name closing) ∷ [])) out.old self.old out.new self.new) }
+    {
+        self.put(out, name, octets)?;
+        self.close(out, name, closing)
     }
 
     /// The machine of a link that is there is told to finish.
@@ -66,9 +98,20 @@ impl State {
         alloc: Global,
         limits: &NodeLimits,
         now: u64,
-    ) -> Result<(), NoMemory> {
+    ) -> Result<(), NoMemory>
+        ensures { OnOk result ((b : Base) (L : Log) → b.made.limits.times ≡ limits.now.times → b.now ≡ now → Stands b out.old self.old L → Stands b out.new self.new (L ++ did (Action.Dial (LinkName.Hub Side.Primary) limits.now.primary) ∷ [])) }
+    {
         let uri = limits.primary.copy(alloc)?;
         self.dial(out, limits.times, now, LinkName::Hub(Side::Primary), uri)
+    }
+
+    /// Closes a link that is there.
+    fn close_there(&mut self, out: &mut Actions, name: LinkName) -> Result<(), NoMemory> {
+        if self.links.is_there(name) {
+            self.close(out, name, Closing::NORMAL)
+        } else {
+            Ok(())
+        }
     }
 
     /// Dials the failover. The link of a dropped one, where it is still there, is closed first.
@@ -80,13 +123,8 @@ impl State {
         now: u64,
     ) -> Result<(), NoMemory> {
         let name = LinkName::Hub(Side::Failover);
-        if self.links.is_there(name) {
-            self.close(out, name, Closing::NORMAL)?;
-        }
-        let uri = match &limits.failover {
-            Some(uri) => uri.copy(alloc)?,
-            None => Octets::from_vec(Vec::new(alloc)),
-        };
+        self.close_there(out, name)?;
+        let uri = failover_uri(alloc, limits)?;
         self.dial(out, limits.times, now, name, uri)
     }
 
@@ -144,11 +182,21 @@ impl State {
         }
     }
 
-    /// The link of a slot is over, and the slot is released.
-    fn end_slot(&mut self, out: &mut Actions, k: u32) -> Result<(), NoMemory> {
-        if let Some(who) = self.direct.peer(k) {
-            tell(out, Note::DirectDown(who.vmac))?;
+    /// That a direct connection is down is told, where it was established.
+    fn tell_down(&self, out: &mut Actions, k: u32) -> Result<(), NoMemory>
+        ensures { OnOk result ((b : Base) (L : Log) → Stands b out.old self.now L → Stands b out.new self.now (L ++ tells_down k L)) }
+    {
+        match self.direct.peer(k) {
+            Some(who) => tell(out, Note::DirectDown(who.vmac)),
+            None => Ok(()),
         }
+    }
+
+    /// The link of a slot is over, and the slot is released.
+    fn end_slot(&mut self, out: &mut Actions, k: u32) -> Result<(), NoMemory>
+        ensures { OnOk result (Goes (λ a. ends_slot k) out.old self.old out.new self.new) }
+    {
+        self.tell_down(out, k)?;
         self.direct.release(k);
         Ok(())
     }

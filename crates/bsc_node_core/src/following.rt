@@ -1,5 +1,8 @@
 //! What follows from each event that comes to a node.
-ghost use Rattle.std.specs.Prelude.{◌<◌, ◌^◌, IfSome};
+ghost use Rattle.std.specs.Prelude.{◌≡◌, ◌<◌, ◌^◌, ◌++◌, IfSome, OnOk};
+ghost use Rattle.bsc_node.specs.Logs.{Log};
+ghost use Rattle.bsc_node.specs.Events.{arrives};
+ghost use Rattle.bsc_node_core.specs.Standing.{Base, Stands};
 ghost use Rattle.std.specs.Str.{IsUtf8};
 ghost use Rattle.bsc_accept.specs.Standing.{IsOpen as IsOpenAccepting};
 ghost use Rattle.bsc_initiate.specs.Standing.{IsOpen as IsOpenInitiating};
@@ -49,7 +52,9 @@ impl State {
         out: &mut Actions,
         limits: &NodeLimits,
         now: u64,
-    ) -> Result<(), NoMemory> {
+    ) -> Result<(), NoMemory>
+        ensures { OnOk result ((b : Base) (L : Log) → b.made.limits ≡ limits.now → b.now ≡ now → Stands b out.old self.old L → Stands b out.new self.new (L ++ arrives L)) }
+    {
         match self.direct.claim(None) {
             Ok(k) => {
                 self.links.claim(k);

@@ -11,6 +11,7 @@ mod deed;
 mod ending;
 mod following;
 mod link;
+mod linking;
 mod links;
 mod machine;
 mod meeting;
@@ -22,6 +23,7 @@ mod requesting;
 mod state;
 mod stepping;
 mod uris;
+mod way;
 
 pub use actions::Actions;
 pub use node::Node;

@@ -1,10 +1,13 @@
 //! What follows where a message comes for the node, over its hub or a direct connection.
-ghost use Rattle.std.specs.Prelude.{◌≡◌, ◌≤◌, if◌then◌else◌, is_some, IfSome};
+ghost use Rattle.std.specs.Prelude.{◌≡◌, ◌≤◌, ◌++◌, if◌then◌else◌, is_some, List, None, Some, IfSome, OnOk};
 ghost use Rattle.std.specs.Str.{IsUtf8};
 ghost use Rattle.bsc_frame.specs.declared.message.Message.{Message};
 ghost use Rattle.bsc_frame.specs.Payloads.{IsAdvert};
 ghost use Rattle.bsc_node.specs.Hubs.{hub_status};
-ghost use Rattle.bsc_node.specs.Receiving.{answer_dest, is_broadcast_address};
+ghost use Rattle.bsc_node.specs.Receiving.{advert, advertises, answer_dest, answers_by, is_broadcast_address, is_for_all};
+ghost use Rattle.bsc_node.specs.declared.action.Action.{Action};
+ghost use Rattle.bsc_node.specs.Logs.{Log};
+ghost use Rattle.bsc_node_core.specs.Standing.{Base, Goes, Stands};
 
 use crate::acting::tell;
 use crate::actions::Actions;
@@ -78,6 +81,46 @@ impl State {
         }
     }
 
+    /// Answers a question by the node's URIs.
+    fn answer_uris(
+        &mut self,
+        out: &mut Actions,
+        alloc: Global,
+        uris: &Octets,
+        name: LinkName,
+        id: u16,
+        dest: Option<Vmac>,
+    ) -> Result<(), NoMemory>
+        requires { IsUtf8 uris.now }
+        ensures { OnOk result ((msg : Message) → msg.id ≡ id → answer_dest name msg ≡ dest
+            → Goes (λ a. answers_by name msg (Some uris.now)) out.old self.old out.new self.new) }
+    {
+        let body = Body::AddressResolutionAck(uris.copy(alloc)?);
+        let octets = message_octets(alloc, id, dest, body)?;
+        self.put(out, name, octets)
+    }
+
+    /// Answers a question by the NAK that the function isn't supported, unless it came for all.
+    fn answer_nak(
+        &mut self,
+        out: &mut Actions,
+        alloc: Global,
+        name: LinkName,
+        id: u16,
+        dest: Option<Vmac>,
+        for_all: bool,
+    ) -> Result<(), NoMemory>
+        ensures { OnOk result ((msg : Message) → msg.id ≡ id → answer_dest name msg ≡ dest → is_for_all msg ≡ for_all
+            → Goes (λ a. answers_by name msg None) out.old self.old out.new self.new) }
+    {
+        if for_all {
+            return Ok(());
+        }
+        let body = nak(alloc, ADDRESS_RESOLUTION, NOT_SUPPORTED);
+        let octets = message_octets(alloc, id, dest, body)?;
+        self.put(out, name, octets)
+    }
+
     /// Answers a question for the node's URIs.
     fn answer_question(
         &mut self,
@@ -90,27 +133,19 @@ impl State {
         for_all: bool,
     ) -> Result<(), NoMemory>
         requires { IfSome limits.now.uris IsUtf8 }
+        ensures { OnOk result ((msg : Message) → msg.id ≡ id → answer_dest name msg ≡ dest → is_for_all msg ≡ for_all
+            → Goes (λ a. answers_by name msg limits.now.uris) out.old self.old out.new self.new) }
     {
         match &limits.uris {
-            Some(uris) => {
-                let body = Body::AddressResolutionAck(uris.copy(alloc)?);
-                let octets = message_octets(alloc, id, dest, body)?;
-                self.put(out, name, octets)
-            }
-            None => {
-                if for_all {
-                    return Ok(());
-                }
-                let body = nak(alloc, ADDRESS_RESOLUTION, NOT_SUPPORTED);
-                let octets = message_octets(alloc, id, dest, body)?;
-                self.put(out, name, octets)
-            }
+            Some(uris) => self.answer_uris(out, alloc, uris, name, id, dest),
+            None => self.answer_nak(out, alloc, name, id, dest, for_all),
         }
     }
 
     /// What the node advertises.
     fn advert(&self, limits: &NodeLimits) -> Advert
-        ensures { IsAdvert result }
+        ensures legal { IsAdvert result }
+        ensures told { (b : Base) (out : List Action) (L : Log) → b.made.limits ≡ limits.now → Stands b out self.now L → result ≡ advert b.made L }
     {
         let (max_bvlc, max_npdu) = (self.own.max_bvlc, self.own.max_npdu);
         Advert {
@@ -129,7 +164,9 @@ impl State {
         limits: &NodeLimits,
         name: LinkName,
         dest: Option<Vmac>,
-    ) -> Result<(), NoMemory> {
+    ) -> Result<(), NoMemory>
+        ensures { OnOk result ((b : Base) (L : Log) (msg : Message) → b.made.limits ≡ limits.now → answer_dest name msg ≡ dest → Stands b out.old self.old L → Stands b out.new self.new (L ++ advertises b.made name msg L)) }
+    {
         let body = Body::Advertisement(self.advert(limits));
         let octets = message_octets(alloc, self.next, dest, body)?;
         self.put(out, name, octets)

@@ -1,56 +1,69 @@
 //! What follows where the user of the node wants something.
-ghost use Rattle.std.specs.Prelude.{◌<◌, length};
+ghost use Rattle.std.specs.Prelude.{◌≡◌, ℕ, ◌<◌, ◌++◌, List, Some, OnOk, length};
+ghost use Rattle.std.specs.Option.{option_map};
+ghost use Rattle.bsc_frame.specs.declared.body.Body.{Body};
+ghost use Rattle.bsc_node.specs.declared.action.Action.{Action};
+ghost use Rattle.bsc_node.specs.Logs.{Log};
+ghost use Rattle.bsc_node.specs.Ways.{way};
+ghost use Rattle.bsc_node.specs.Requesting.{puts_own, sends, solicits, takes_it};
+ghost use Rattle.bsc_node_core.specs.Rules.{way_by, way_of};
+ghost use Rattle.bsc_node_core.specs.Standing.{Base, Goes, Stands};
 
 use crate::acting::tell;
 use crate::actions::Actions;
 use crate::messages::message_octets;
 use crate::state::State;
 use crate::uris::uri_to_dial;
+use crate::way::Way;
 use bsc_connector::{HubUse, Side};
 use bsc_frame::Body;
 use bsc_node::{Action, LinkName, NodeLimits, Note};
-use bsc_octets::{NoMemory, Octets, Vmac};
+use bsc_octets::{Identity, NoMemory, Octets, Vmac};
 use bsc_resolve::{AskRefusal, Resolve};
 use bsc_switch::{Route, route};
 use std::alloc::Global;
 
-/// By which link a message goes, and with which Destination.
-#[derive(Clone, Copy, Debug)]
-pub(crate) struct Way {
-    pub(crate) link: LinkName,
-    pub(crate) dest: Option<Vmac>,
+/// The way by a route, where this hub is in use.
+fn way_by(v: Vmac, used: HubUse, by: Route) -> Option<Way>
+    ensures { option_map way_of result ≡ way_by v used by }
+{
+    match by {
+        Route::Direct(k) => Some(Way {
+            link: LinkName::Direct(k),
+            dest: None,
+        }),
+        Route::Hub => match used {
+            HubUse::NoHub => None,
+            HubUse::Primary => Some(Way {
+                link: LinkName::Hub(Side::Primary),
+                dest: Some(v),
+            }),
+            HubUse::Failover => Some(Way {
+                link: LinkName::Hub(Side::Failover),
+                dest: Some(v),
+            }),
+        },
+        Route::NoPath => None,
+    }
+}
+
+/// Whether a peer takes an NPDU and a message of these lengths.
+fn takes_it(peer: &Option<Identity>, npdu: usize, message: usize) -> bool
+    ensures { (n o : List ℕ) → length n ≡ npdu → length o ≡ message → result ≡ takes_it n o peer.now }
+{
+    match peer {
+        Some(who) => npdu <= usize::from(who.max_npdu) && message <= usize::from(who.max_bvlc),
+        None => false,
+    }
 }
 
 impl State {
     /// The way of a message to a VMAC, where there is a path.
-    pub(crate) fn way(&self, v: Vmac) -> Option<Way> {
+    pub(crate) fn way(&self, v: Vmac) -> Option<Way>
+        ensures { (b : Base) (out : List Action) (L : Log) → Stands b out self.now L → option_map way_of result ≡ way v L }
+    {
         let used = self.connector.hub_use();
-        match route(&self.direct, used, v) {
-            Route::Direct(k) => Some(Way {
-                link: LinkName::Direct(k),
-                dest: None,
-            }),
-            Route::Hub => match used {
-                HubUse::NoHub => None,
-                HubUse::Primary => Some(Way {
-                    link: LinkName::Hub(Side::Primary),
-                    dest: Some(v),
-                }),
-                HubUse::Failover => Some(Way {
-                    link: LinkName::Hub(Side::Failover),
-                    dest: Some(v),
-                }),
-            },
-            Route::NoPath => None,
-        }
-    }
-
-    /// Whether the other end of a link takes an NPDU and a message of these lengths.
-    fn takes_it(&self, link: LinkName, npdu: usize, message: usize) -> bool {
-        match self.links.get(link).peer {
-            Some(who) => npdu <= usize::from(who.max_npdu) && message <= usize::from(who.max_bvlc),
-            None => false,
-        }
+        way_by(v, used, route(&self.direct, used, v))
     }
 
     /// An NPDU goes by the path, unless it is too long for the other end.
@@ -62,18 +75,34 @@ impl State {
         npdu: &Octets,
     ) -> Result<(), NoMemory>
         requires { 0 < length npdu.now }
+        ensures { OnOk result (Goes (λ a. sends v npdu.now) out.old self.old out.new self.new) }
     {
         match self.way(v) {
             None => tell(out, Note::NoPath(v)),
-            Some(way) => {
-                let body = Body::Npdu(npdu.copy(alloc)?);
-                let octets = message_octets(alloc, self.next, way.dest, body)?;
-                if self.takes_it(way.link, npdu.len(), octets.len()) {
-                    self.put(out, way.link, octets)
-                } else {
-                    tell(out, Note::TooLong(v))
-                }
-            }
+            Some(way) => self.send_by(out, alloc, v, way, npdu),
+        }
+    }
+
+    /// An NPDU goes this way, unless it is too long for the other end.
+    fn send_by(
+        &mut self,
+        out: &mut Actions,
+        alloc: Global,
+        v: Vmac,
+        by: Way,
+        npdu: &Octets,
+    ) -> Result<(), NoMemory>
+        requires { 0 < length npdu.now }
+        ensures { OnOk result ((b : Base) (L : Log) → Stands b out.old self.old L → way v L ≡ Some (way_of by)
+            → Stands b out.new self.new (L ++ sends v npdu.now L)) }
+    {
+        let body = Body::Npdu(npdu.copy(alloc)?);
+        let octets = message_octets(alloc, self.next, by.dest, body)?;
+        let peer = self.links.get(by.link).peer;
+        if takes_it(&peer, npdu.len(), octets.len()) {
+            self.put(out, by.link, octets)
+        } else {
+            tell(out, Note::TooLong(v))
         }
     }
 
@@ -83,15 +112,22 @@ impl State {
         out: &mut Actions,
         alloc: Global,
         v: Vmac,
-    ) -> Result<(), NoMemory> {
+    ) -> Result<(), NoMemory>
+        ensures { OnOk result (Goes (λ a. solicits v) out.old self.old out.new self.new) }
+    {
         match self.way(v) {
             None => tell(out, Note::NoPath(v)),
-            Some(way) => {
-                let body = Body::AdvertisementSolicitation;
-                let octets = message_octets(alloc, self.next, way.dest, body)?;
-                self.put(out, way.link, octets)
-            }
+            Some(way) => self.solicit_by(out, alloc, way),
         }
+    }
+
+    /// A solicitation of an Advertisement goes this way.
+    fn solicit_by(&mut self, out: &mut Actions, alloc: Global, by: Way) -> Result<(), NoMemory>
+        ensures { OnOk result (Goes (λ a. puts_own (way_of by) Body.AdvertisementSolicitation) out.old self.old out.new self.new) }
+    {
+        let body = Body::AdvertisementSolicitation;
+        let octets = message_octets(alloc, self.next, by.dest, body)?;
+        self.put(out, by.link, octets)
     }
 }
 

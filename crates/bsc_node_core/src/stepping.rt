@@ -2,7 +2,8 @@
 ghost use Rattle.std.specs.Prelude.{◌≡◌, true};
 ghost use Rattle.bsc_accept.specs.Standing.{LeftBy as LeavesAccepting};
 ghost use Rattle.bsc_initiate.specs.Standing.{LeftBy as LeavesInitiating};
-ghost use Rattle.bsc_node_core.specs.Machines.{is_fit, says_there};
+ghost use Rattle.bsc_node_core.specs.Machines.{dialled_after, is_fit, says_there, taken_after};
+ghost use Rattle.bsc_node_core.specs.Tables.{begun, claimed, kept_of, nothing_kept, with_machine, with_peer};
 
 use crate::link::Link;
 use crate::machine::Machine;
@@ -14,7 +15,8 @@ impl Machine {
     /// That of a link that was dialled, after this step.
     pub(crate) fn dialled(machine: Initiating, step: &InitStep) -> Machine
         requires { LeavesInitiating step.now machine }
-        ensures { is_fit result ≡ true }
+        ensures fit { is_fit result ≡ true }
+        ensures kept { result ≡ dialled_after machine step.now }
     {
         match step {
             InitStep::PutClose(_, _) | InitStep::Close(_) | InitStep::Refused { .. } => {
@@ -29,7 +31,8 @@ impl Machine {
     /// That of a link that was taken, after this step.
     pub(crate) fn taken(machine: Accepting, step: &Step) -> Machine
         requires { LeavesAccepting step.now machine }
-        ensures { is_fit result ≡ true }
+        ensures fit { is_fit result ≡ true }
+        ensures kept { result ≡ taken_after machine step.now }
     {
         match step {
             Step::ReplyClose(_, _) | Step::Close(_) => Machine::Over,
@@ -51,7 +54,9 @@ impl Machine {
 
 impl Link {
     /// A link that never began.
-    pub(crate) fn none() -> Link {
+    pub(crate) fn none() -> Link
+        ensures { kept_of result ≡ nothing_kept }
+    {
         Link {
             machine: Machine::Gone,
             peer: None,
@@ -69,6 +74,7 @@ impl Link {
     /// The link with this machine.
     pub(crate) fn with_machine(&self, machine: Machine) -> Link
         requires { is_fit machine ≡ true }
+        ensures { kept_of result ≡ with_machine machine (kept_of self.now) }
     {
         Link {
             machine,
@@ -78,7 +84,9 @@ impl Link {
     }
 
     /// The link, whose peer has named itself.
-    pub(crate) fn with_peer(&self, who: Identity) -> Link {
+    pub(crate) fn with_peer(&self, who: Identity) -> Link
+        ensures { kept_of result ≡ with_peer who (kept_of self.now) }
+    {
         Link {
             machine: self.machine,
             peer: Some(who),
@@ -89,6 +97,7 @@ impl Link {
     /// The link, which begins anew with this machine.
     pub(crate) fn begun(&self, machine: Machine) -> Link
         requires { is_fit machine ≡ true }
+        ensures { kept_of result ≡ begun machine (kept_of self.now) }
     {
         Link {
             machine,
@@ -98,7 +107,9 @@ impl Link {
     }
 
     /// The link of a slot that was claimed now.
-    pub(crate) fn claimed(&self) -> Link {
+    pub(crate) fn claimed(&self) -> Link
+        ensures { kept_of result ≡ claimed (kept_of self.now) }
+    {
         Link {
             machine: self.machine,
             peer: self.peer,

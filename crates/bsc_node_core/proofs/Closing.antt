@@ -1,0 +1,100 @@
+-- What a node keeps goes on standing for its log, where a link is closed or begins.
+use Rattle.std.proofs.Common.{◌≡◌, ℕ, ◌+◌, ◌<◌, Bool, true, false, not, cond, ◌&&◌, ◌||◌, List, [], ◌∷◌, ◌++◌, Option, Some, None, refl, ap, sym, ◌∙◌, subst}
+use Rattle.std.specs.Prelude.{⊤, ◌==◌, min, is_some}
+use Rattle.std.specs.List.{list_any}
+use Rattle.std.specs.Option.{option_or}
+use Rattle.std.proofs.lemmas.Bool.{eqb-true, false≢true}
+use Rattle.bsc_connector.specs.declared.side.Side.TheVariants.{Primary, Failover}
+use Rattle.bsc_connector.specs.Standing.{StandsFor as ConnectorStands}
+use Rattle.bsc_connector.proofs.BackLemmas.{list_any-more}
+use Rattle.bsc_direct.specs.Standing.{StandsFor as DirectStands}
+use Rattle.bsc_accept.specs.declared.closing.Closing.{Closing}
+use Rattle.bsc_node.specs.declared.link_name.LinkName.{LinkName}
+use Rattle.bsc_node.specs.declared.link_name.LinkName.TheVariants.{Hub, Direct}
+use Rattle.bsc_node.specs.declared.action.Action.TheVariants.{Close}
+use Rattle.bsc_node.specs.declared.action.Action.{Action}
+use Rattle.bsc_node.specs.Logs.{Made, Line, did, Log}
+use Rattle.bsc_node.specs.Links.{begins, is_over_by, same_link, life, is_there, peer}
+use Rattle.bsc_node.specs.Hubs.{waits, hub_events}
+use Rattle.bsc_node.specs.Ways.{slot_calls, tries}
+use Rattle.bsc_node.proofs.Told.{life-more, same_link-self}
+use Rattle.bsc_node_core.specs.declared.machine.Machine.TheVariants.{Gone}
+use Rattle.bsc_node_core.specs.declared.links.Links.{Links}
+use Rattle.bsc_node_core.specs.declared.state.State.{State}
+use Rattle.bsc_node_core.specs.Tables.{Kept, link_at, is_name, Sets, with_machine}
+use Rattle.bsc_node_core.specs.Standing.{Base, LinkStands, Stands}
+use Rattle.bsc_node_core.proofs.More.{now-kept, own-kept, next-kept, finishing-kept, renewals-kept, refusing-kept, hub_events-kept, slot_calls-kept, resolve_calls-kept, dropped-kept, tries-kept}
+use Rattle.bsc_node_core.proofs.Lines.{link-kept, peer-kept, came-did}
+
+pub same_link-is : (name other : LinkName) → same_link name other ≡ true → name ≡ other
+same_link-is (Hub Primary) (Hub Primary) h = refl
+same_link-is (Hub Failover) (Hub Failover) h = refl
+same_link-is (Hub Primary) (Hub Failover) h = absurd (false≢true h)
+same_link-is (Hub Failover) (Hub Primary) h = absurd (false≢true h)
+same_link-is (Direct k) (Direct j) h = ap (λ n. Direct n) (eqb-true k j h)
+same_link-is (Hub s) (Direct k) h = absurd (false≢true h)
+same_link-is (Direct k) (Hub s) h = absurd (false≢true h)
+
+and_none : (a b : Bool) → (a && not (b || true)) ≡ false
+and_none true true = refl
+and_none true false = refl
+and_none false b = refl
+
+-- A line by which a link is over: it isn't there any more.
+pub there-over : (name : LinkName) (L : Log) (m : Line) → begins name m ≡ false → is_over_by name m ≡ true → is_there name (L ++ m ∷ []) ≡ false
+there-over name L m h g =
+    ap (λ ys. list_any (begins name) (L ++ m ∷ []) && not (list_any (is_over_by name) ys)) (life-more L m name h)
+    ∙ ap (λ b. list_any (begins name) (L ++ m ∷ []) && not b) (list_any-more (is_over_by name) (life L name) m ∙ ap (λ b. list_any (is_over_by name) (life L name) || b) g)
+    ∙ and_none (list_any (begins name) (L ++ m ∷ [])) (list_any (is_over_by name) (life L name))
+
+-- The links, where one is closed.
+closed-link : (a : Made) (old new : Links) (L : Log) (name : LinkName) (closing : Closing) → Sets old new name (with_machine Gone (link_at old name))
+    → ((other : LinkName) → is_name other ≡ true → LinkStands a L other (link_at old other))
+    → (other : LinkName) → is_name other ≡ true → LinkStands a (L ++ did (Close name closing) ∷ []) other (link_at new other)
+closed-link a old new L name closing sets h other n = by (same_link name other) refl
+  where
+    m : Line
+    m = did (Close name closing)
+
+    by : (b : Bool) → same_link name other ≡ b → LinkStands a (L ++ did (Close name closing) ∷ []) other (link_at new other)
+    by true e =
+        let is = same_link-is name other e in
+        let l : link_at new other ≡ with_machine Gone (link_at old other) = sets other ∙ ap (λ b. cond (b && is_name name) (with_machine Gone (link_at old name)) (link_at old other)) e
+        ∙ ap (λ b. cond b (with_machine Gone (link_at old name)) (link_at old other)) (ap is_name is ∙ n) ∙ ap (λ x. with_machine Gone (link_at old x)) is in
+        subst (λ (x : Kept). LinkStands a (L ++ did (Close name closing) ∷ []) other x) (sym l) (record {
+          there = there-over other L (did (Close name closing)) refl e;
+          machine = tt;
+          peer = peer-kept L (did (Close name closing)) other refl refl refl ∙ (h other n).peer;
+        })
+    by false e =
+        let l : link_at new other ≡ link_at old other = sets other ∙ ap (λ b. cond (b && is_name name) (with_machine Gone (link_at old name)) (link_at old other)) e in
+        subst (λ (x : Kept). LinkStands a (L ++ did (Close name closing) ∷ []) other x) (sym l) (link-kept a L (did (Close name closing)) other (link_at old other) refl e refl refl (h other n))
+
+tries-closed : (old new : Links) (name : LinkName) (k : ℕ) → Sets old new name (with_machine Gone (link_at old name)) → (link_at new (Direct k)).tries ≡ (link_at old (Direct k)).tries
+tries-closed old new name k sets = by (same_link name (Direct k)) (is_name name) refl
+  where
+    by : (b c : Bool) → same_link name (Direct k) ≡ b → (link_at new (Direct k)).tries ≡ (link_at old (Direct k)).tries
+    by true c e = ap (λ (l : Kept). l.tries) (sets (Direct k)) ∙ there (same_link name (Direct k) && is_name name) ∙ refl
+      where
+        there : (d : Bool) → (cond d (with_machine Gone (link_at old name)) (link_at old (Direct k))).tries ≡ (link_at old (Direct k)).tries
+        there true = ap (λ x. (link_at old x).tries) (same_link-is name (Direct k) e)
+        there false = refl
+    by false c e = ap (λ (l : Kept). l.tries) (sets (Direct k)) ∙ ap (λ b. (cond (b && is_name name) (with_machine Gone (link_at old name)) (link_at old (Direct k))).tries) e
+
+pub close-stands : (b : Base) (out : List Action) (s : State) (L : Log) (name : LinkName) (closing : Closing) (ls : Links) → Sets s.links ls name (with_machine Gone (link_at s.links name))
+    → Stands b out s L → Stands b (out ++ Close name closing ∷ []) (record s { links = ls }) (L ++ did (Close name closing) ∷ [])
+close-stands b out s L name closing ls sets h = record {
+  now = now-kept L (did (Close name closing)) refl ∙ h.now;
+  own = own-kept b.made L (did (Close name closing)) refl ∙ h.own;
+  next = next-kept L (did (Close name closing)) refl ∙ h.next;
+  finishing = finishing-kept L (did (Close name closing)) refl ∙ h.finishing;
+  renewals = ap (λ k. min 8 k) (renewals-kept L (did (Close name closing)) refl refl) ∙ h.renewals;
+  newest_hub = refusing-kept L (did (Close name closing)) refl ∙ h.newest_hub;
+  dropped = dropped-kept L (did (Close name closing)) refl refl ∙ h.dropped;
+  connector = subst (λ E. ConnectorStands s.connector (waits b.made) E) (sym (hub_events-kept L (did (Close name closing)) refl)) h.connector;
+  direct = subst (λ E. DirectStands s.direct E) (sym (slot_calls-kept L (did (Close name closing)) refl)) h.direct;
+  asked = resolve_calls-kept L (did (Close name closing)) refl ∙ h.asked;
+  links = closed-link b.made s.links ls L name closing sets h.links;
+  tries = λ k w. ap (λ c. min c 18446744073709551615) (tries-kept k L (did (Close name closing)) refl refl) ∙ h.tries k w ∙ sym (tries-closed s.links ls name k sets);
+  actions = came-did b out L (Close name closing) h.actions;
+}

@@ -1,0 +1,51 @@
+-- How what the code hands on stands for the words of the definition.
+use Rattle.std.specs.Prelude.{ℕ, Option, Some, None}
+use Rattle.std.specs.Option.{option_map}
+use Rattle.bsc_octets.specs.declared.identity.Identity.{Identity}
+use Rattle.bsc_octets.specs.declared.vmac.Vmac.{Vmac}
+use Rattle.bsc_frame.specs.declared.message.Message.{Message}
+use Rattle.bsc_connector.specs.declared.hub_use.HubUse.{HubUse}
+use Rattle.bsc_switch.specs.declared.routes.Route.{Route}
+use Rattle.bsc_switch.specs.declared.routes.Route.TheVariants.{Direct as ByDirect, Hub as ByHub, NoPath as ByNone}
+use Rattle.bsc_node.specs.declared.link_name.LinkName.TheVariants.{Direct}
+use Rattle.bsc_node.specs.Links.{Outcome, puts, puts_and_closes, closes, meets, is_refused, passes_up, keeps_still}
+use Rattle.bsc_node.specs.declared.note.Note.TheVariants.{DirectDown}
+use Rattle.bsc_node.specs.Logs.{Rule, nothing, tells, where_found}
+use Rattle.bsc_node.specs.Hubs.{link_in_use}
+use Rattle.bsc_node.specs.Ways as Ways
+use Rattle.bsc_node_core.specs.declared.deed.Deed.{Deed}
+use Rattle.bsc_node_core.specs.declared.deed.Deed.TheVariants.{Puts, PutsAndCloses, Closes, Meets, IsRefused, PassesUp, KeepsStill}
+use Rattle.bsc_node_core.specs.declared.way.Way.{Way}
+
+-- ---- ways
+
+abbrev pub way_of : Way → Ways.Way
+way_of w = record { link = w.link; dest = w.dest }
+
+-- the way by a route, where this hub is in use
+abbrev pub way_by : Vmac → HubUse → Route → Option Ways.Way
+way_by v used (ByDirect k) = Some (record { link = Direct k; dest = None })
+way_by v used ByHub = option_map (λ link. record { link = link; dest = Some v }) (link_in_use used)
+way_by v used ByNone = None
+
+-- ---- a machine's step
+
+abbrev pub up_from : Option Message → Outcome
+up_from None = keeps_still
+up_from (Some msg) = passes_up msg
+
+-- What a deed is, with the address that a message came from and the message, where one came.
+abbrev pub outcome_of : Option Vmac → Option Message → Deed → Outcome
+outcome_of origin msg (Puts o) = puts o
+outcome_of origin msg (PutsAndCloses o closing) = puts_and_closes o closing
+outcome_of origin msg (Closes closing) = closes closing
+outcome_of origin msg (Meets who) = meets who
+outcome_of origin msg (IsRefused code) = is_refused origin code
+outcome_of origin msg PassesUp = up_from msg
+outcome_of origin msg KeepsStill = keeps_still
+
+-- ---- a slot
+
+-- That a direct connection is down is told, where it was established.
+abbrev pub tells_down : ℕ → Rule
+tells_down k = where_found (Ways.established_peer k) (λ (who : Identity). tells (DirectDown who.vmac)) nothing

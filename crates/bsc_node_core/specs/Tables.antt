@@ -1,0 +1,57 @@
+-- What is kept of the links, by their names.
+use Rattle.std.specs.Prelude.{◌≡◌, ℕ, ◌+◌, ◌&&◌, nat_lt, if◌then◌else◌, min, Bool, true, Option, Some, None, slice_get}
+use Rattle.bsc_octets.specs.declared.identity.Identity.{Identity}
+use Rattle.bsc_connector.specs.declared.side.Side.TheVariants.{Primary, Failover}
+use Rattle.bsc_node.specs.declared.link_name.LinkName.{LinkName}
+use Rattle.bsc_node.specs.declared.link_name.LinkName.TheVariants.{Hub, Direct}
+use Rattle.bsc_node.specs.Links.{same_link}
+use Rattle.bsc_node_core.specs.declared.machine.Machine.{Machine}
+use Rattle.bsc_node_core.specs.declared.machine.Machine.TheVariants.{Gone}
+use Rattle.bsc_node_core.specs.declared.link.Link.{Link}
+use Rattle.bsc_node_core.specs.declared.links.Links.{Links}
+
+-- What is kept of one link: its machine, its peer, and how often it began since its slot was claimed.
+pub record Kept : Type 0 where
+  pub machine : Machine
+  pub peer : Option Identity
+  pub tries : ℕ
+
+abbrev pub kept_of : Link → Kept
+kept_of l = record { machine = l.machine; peer = l.peer; tries = l.tries }
+
+-- a link that never began
+abbrev pub nothing_kept : Kept
+nothing_kept = record { machine = Gone; peer = None; tries = 0 }
+
+abbrev pub kept_in : Option Link → Kept
+kept_in None = nothing_kept
+kept_in (Some l) = kept_of l
+
+-- What is kept of the link of a name.
+abbrev pub link_at : Links → LinkName → Kept
+link_at ls (Hub Primary) = kept_of ls.primary
+link_at ls (Hub Failover) = kept_of ls.failover
+link_at ls (Direct k) = kept_in (slice_get ls.slots.items k)
+
+-- Whether it is the name of a link: a hub's, or that of one of 64 slots.
+abbrev pub is_name : LinkName → Bool
+is_name (Hub s) = true
+is_name (Direct k) = nat_lt k 64
+
+-- This is kept of the link of a name, and of all others what was.
+abbrev pub Sets : Links → Links → LinkName → Kept → Type 0
+Sets old new name kept = (other : LinkName) → link_at new other ≡ (if same_link name other && is_name name then kept else link_at old other)
+
+-- how a link goes on
+
+abbrev pub with_machine : Machine → Kept → Kept
+with_machine machine l = record l { machine = machine }
+
+abbrev pub with_peer : Identity → Kept → Kept
+with_peer who l = record l { peer = Some who }
+
+abbrev pub begun : Machine → Kept → Kept
+begun machine l = record { machine = machine; peer = None; tries = min 18446744073709551615 (l.tries + 1) }
+
+abbrev pub claimed : Kept → Kept
+claimed l = record l { tries = 0 }
