@@ -16,26 +16,42 @@ fn octets(alloc: Global, of: &[u8]) -> Result<Octets, NoMemory> {
     Ok(Octets::from_vec(Vec::from_slice(alloc, of)?))
 }
 
+/// What a receive gave, a letter or the octets.
+fn given(answer: &Result<Incoming, LinkFault>) -> &[u8] {
+    match answer {
+        Ok(Incoming::Message(m)) => m.as_slice(),
+        Ok(Incoming::Text) => b"T".as_slice(),
+        Ok(Incoming::Quiet) => b"Q".as_slice(),
+        Ok(Incoming::Closed) => b"C".as_slice(),
+        Err(_) => b"F".as_slice(),
+    }
+}
+
+/// One call of the talk of a link, behind the text of those before it.
+fn tell(text: &mut Vec<u8>, said: &Said) -> Result<(), NoMemory> {
+    match said {
+        Said::Gave(answer) => text.extend_from_slice(given(answer))?,
+        Said::Put(m, fault) => {
+            text.extend_from_slice(m.as_slice())?;
+            text.extend_from_slice(if fault.is_some() {
+                b"!".as_slice()
+            } else {
+                &[]
+            })?;
+        }
+        Said::Closed(code, reason) => {
+            text.extend_from_slice(&code.to_be_bytes())?;
+            text.extend_from_slice(reason.as_slice())?;
+        }
+    }
+    Ok(())
+}
+
 /// The talk of a link, a letter or the octets a call.
 fn told(talk: &[Said], alloc: Global) -> Result<Vec<u8>, NoMemory> {
     let mut text = Vec::new(alloc);
     for said in talk {
-        match said {
-            Said::Gave(Ok(Incoming::Message(m))) => text.extend_from_slice(m.as_slice())?,
-            Said::Gave(Ok(Incoming::Text)) => text.push(b'T')?,
-            Said::Gave(Ok(Incoming::Quiet)) => text.push(b'Q')?,
-            Said::Gave(Ok(Incoming::Closed)) => text.push(b'C')?,
-            Said::Gave(Err(_)) => text.push(b'F')?,
-            Said::Put(m, None) => text.extend_from_slice(m.as_slice())?,
-            Said::Put(m, Some(_)) => {
-                text.extend_from_slice(m.as_slice())?;
-                text.push(b'!')?;
-            }
-            Said::Closed(code, reason) => {
-                text.extend_from_slice(&code.to_be_bytes())?;
-                text.extend_from_slice(reason.as_slice())?;
-            }
-        }
+        tell(&mut text, said)?;
     }
     Ok(text)
 }

@@ -4,7 +4,7 @@ use bsc_edge::{Acceptor, Arrived, Dialer, Incoming, Kind, Link, LinkFault};
 use bsc_live::Bells;
 use bsc_ws::StreamDialer;
 use mio::net::TcpStream;
-use std::alloc::{AllocError, Global};
+use std::alloc::Global;
 use std::net::{Ipv4Addr, Net, SocketAddr};
 use std::random::RandomSource;
 use std::sync::{Arc, Wait};
@@ -42,27 +42,43 @@ fn serves<R: Clock + Net + Wait + Copy + Drop>(alloc: Global, gate: &mut Gate<R>
     false
 }
 
-/// Dials links of both kinds, of which the gate takes one.
+/// Whether a message that is put on a link comes back.
+fn echoes<L: Link>(alloc: Global, link: &mut L) -> bool {
+    if link.put(alloc, b"over").is_err() {
+        return false;
+    }
+    match message(alloc, link) {
+        Some(m) => m.as_slice() == b"over".as_slice(),
+        None => false,
+    }
+}
+
+/// Whether of the links of both kinds that are dialled one is refused, and the other echoes.
+fn meets<L: Link + Drop, D: Dialer<L>>(alloc: Global, dialer: &mut D, uri: &[u8]) -> bool {
+    match dialer.dial(alloc, uri, Kind::Direct) {
+        Err(LinkFault::Failed) => {}
+        _ => return false,
+    }
+    match dialer.dial(alloc, uri, Kind::Hub) {
+        Ok(link) => {
+            let mut link = link;
+            echoes(alloc, &mut link)
+        }
+        Err(_) => false,
+    }
+}
+
+/// Dials links of both kinds to a gate of hubs at this port.
 fn dials<R: Clock + Net + Wait + RandomSource + Copy + Drop>(
     rt: R,
     alloc: Global,
     port: u16,
     bells: Arc<Bells>,
-) -> Result<bool, AllocError> {
+) -> bool {
     let mut dialer = StreamDialer::new(SocketOpener::new(rt, bells));
-    let uri = format!(in alloc; "ws://localhost:{port}/")?;
-    let refused = dialer.dial(alloc, uri.as_bytes(), Kind::Direct);
-    let other = matches!(&refused, Err(LinkFault::Failed));
-    let Ok(link) = dialer.dial(alloc, uri.as_bytes(), Kind::Hub) else {
-        return Ok(false);
-    };
-    let mut link = link;
-    if link.put(alloc, b"over").is_err() {
-        return Ok(false);
-    }
-    match message(alloc, &mut link) {
-        Some(m) => Ok(other && m.as_slice() == b"over".as_slice()),
-        None => Ok(false),
+    match format!(in alloc; "ws://localhost:{port}/") {
+        Ok(uri) => meets(alloc, &mut dialer, uri.as_bytes()),
+        Err(_) => false,
     }
 }
 
@@ -82,12 +98,7 @@ fn a_dialer_meets_a_gate(rt: HostRuntime) -> Result<(), Fail> {
     let (served, dialled) = thread::join(
         &rt,
         move || -> bool { serves(alloc, &mut gate) },
-        move || -> bool {
-            match dials(rt, alloc, port, others) {
-                Ok(dialled) => dialled,
-                Err(_) => false,
-            }
-        },
+        move || -> bool { dials(rt, alloc, port, others) },
     );
     drop(silent);
     assert!(rt; served);
