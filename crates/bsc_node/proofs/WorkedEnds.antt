@@ -173,8 +173,6 @@ may_be_made : MayBeMade (node with_failover)
 unfolding node_on_literals
 may_be_made = record {
   own = record { address = refl; device = refl; reserved = fails_of (b.vmac ≡ zero_vmac) (same_vmac b.vmac zero_vmac) (one_address b.vmac zero_vmac) refl; broadcast = fails_of (b.vmac ≡ broadcast) (same_vmac b.vmac broadcast) (one_address b.vmac broadcast) refl; bvlc = omega arith; npdu = omega arith };
-  primary = ((text primary_uri).holds refl, refl);
-  failover = ((text failover_uri).holds refl, refl);
   uris = tt;
   times = record { connect_wait = omega arith; disconnect_wait = omega arith; heartbeat = omega arith };
   least = omega arith;

@@ -1,14 +1,9 @@
 -- What a node may be made with.
-use Rattle.std.specs.Prelude.{◌≡◌, ◌<◌, ◌^◌, ℕ, true, List, IfSome}
+use Rattle.std.specs.Prelude.{◌<◌, ◌^◌, IfSome}
 use Rattle.std.specs.Str.{IsUtf8}
 use Rattle.bsc_frame.specs.Payloads.{IsNode}
 use Rattle.bsc_accept.specs.declared.times.Times.{Times}
 use Rattle.bsc_node.specs.Logs.{Made}
-use Rattle.bsc_node.specs.Ways.{is_dialled}
-
--- A URI that can be dialled: in UTF-8, and it begins with `ws://`.
-abbrev pub CanBeDialled : List ℕ → Type 0
-CanBeDialled uri = IsUtf8 uri × (is_dialled uri ≡ true)
 
 -- Each wait is a number of 32 bits.
 pub record AreTimes (times : Times) : Type 0 where
@@ -16,12 +11,10 @@ pub record AreTimes (times : Times) : Type 0 where
   pub disconnect_wait : times.disconnect_wait < 2 ^ 32
   pub heartbeat : times.heartbeat < 2 ^ 32
 
--- What a node may be made with: its identity is that of a node, as in a Connect-Request; the URIs of its hubs can be
--- dialled; its own URIs, where it has some, are UTF-8; and its waits are numbers of 32 bits.
+-- What a node may be made with: its identity is that of a node, as in a Connect-Request; its own URIs, where it has some,
+-- are UTF-8; and its waits are numbers of 32 bits. The URIs of its hubs are any octets: a dial of others than it knows fails.
 pub record MayBeMade (a : Made) : Type 0 where
   pub own : IsNode a.own
-  pub primary : CanBeDialled a.limits.primary
-  pub failover : IfSome a.limits.failover CanBeDialled
   pub uris : IfSome a.limits.uris IsUtf8
   pub times : AreTimes a.limits.times
   pub least : a.limits.least_wait < 2 ^ 32
