@@ -4,6 +4,7 @@ ghost use Rattle.bsc_hub.specs.Passing.{IsCaller};
 ghost use Rattle.bsc_hub.specs.Testing.{vmac_at};
 
 mod jobs;
+mod random;
 mod table;
 
 use crate::{Ended, SessionLimits, Why};
