@@ -15,6 +15,8 @@ mod parts;
 mod reading;
 mod rows;
 mod settings;
+#[cfg(test)]
+mod tests;
 mod values;
 
 pub use fault::SettingFault;

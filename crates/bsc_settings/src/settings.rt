@@ -2,7 +2,7 @@
 use crate::hub::HubSettings;
 
 /// The settings of a document: those of each table that it has.
-#[derive(Clone, Copy, Debug, PartialEq, Eq)]
+#[derive(Debug, Drop, PartialEq, Eq)]
 pub struct Settings {
     /// The table `hub`, where the document has it.
     pub hub: Option<HubSettings>,
