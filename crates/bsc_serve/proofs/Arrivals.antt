@@ -87,6 +87,17 @@ module _ {A : Type 0} where
   loses_failed None (Some m) (Some n) xs f a b = absurd a
   loses_failed (Some o) (Some m) (Some n) xs f a b = a ∙ ap (λ (l : List A). xs ++ l) (sym b)
 
+module _ {B : Type 0} where
+  pub stays_same : (a : Option B) → Stays a a
+  stays_same None = tt
+  stays_same (Some x) = refl
+
+  pub stays_then : (a b c : Option B) → Stays a b → Stays b c → Stays a c
+  stays_then a b None s t = tt
+  stays_then a None (Some z) s t = absurd t
+  stays_then None (Some y) (Some z) s t = absurd s
+  stays_then (Some x) (Some y) (Some z) s t = t ∙ s
+
 pub rose_then : (n k a b c : ℕ) → RoseBy n a b → RoseBy k b c → RoseBy (n + k) a c
 rose_then n k a b c (inl x) (inl y) = inl (omega (arith, x, y))
 rose_then n k a b c (inl x) (inr y) = inr y

@@ -6,6 +6,7 @@ ghost use Rattle.bsc_turn.specs.declared.pass.Pass.{Pass as PassType};
 ghost use Rattle.bsc_hub.specs.Passing.{IsCaller};
 ghost use Rattle.bsc_serve.specs.declared.halt.Halt.{Halt};
 ghost use Rattle.bsc_session.specs.declared.job.SessionJob.{SessionJob};
+ghost use Rattle.bsc_edge.specs.Told.{Stays};
 ghost use Rattle.bsc_serve.specs.Inner.{Accepts, TakesOn, Taken};
 
 use crate::halt::Halt;
@@ -49,6 +50,7 @@ fn take_next<
         faults (P.faults spawner.old) tally.old.remaining tally.old.unstarted →
         TakesOn (arc_value hub.now) limits.now turns sessions p pass.new left (A.left acceptor.new) jobs (P.jobs spawner.new)
         faults (P.faults spawner.new) tally.new.remaining tally.new.unstarted result }
+    ensures bound { Stays (A.bound acceptor.old) (A.bound acceptor.new) }
     ensures later { A.faults acceptor.old ≤ A.faults acceptor.new }
     ensures failed { result ≡ Some Halt.AcceptFault → HasRisen (A.faults acceptor.old) (A.faults acceptor.new) }
 {
@@ -93,6 +95,7 @@ pub(crate) fn accept_all<
     ensures accepts { Accepts (arc_value hub.now) limits.now turns sessions pass.old pass.new (A.left acceptor.old)
         (A.left acceptor.new) (P.jobs spawner.old) (P.jobs spawner.new) (P.faults spawner.old) (P.faults spawner.new) result }
     ensures fits { (n : ℕ) → sessions ≡ Some n → n < 2 ^ 64 }
+    ensures bound { Stays (A.bound acceptor.old) (A.bound acceptor.new) }
     ensures later { A.faults acceptor.old ≤ A.faults acceptor.new }
     ensures failed { result ≡ Err Halt.AcceptFault → HasRisen (A.faults acceptor.old) (A.faults acceptor.new) }
 {

@@ -4,7 +4,7 @@ ghost use Rattle.std.specs.Arc.{arc_value};
 ghost use Rattle.bsc_outside.specs.Faults.{HasRisen};
 ghost use Rattle.bsc_hub.specs.Passing.{IsCaller};
 ghost use Rattle.bsc_serve.specs.declared.end.ServeEnd.{ServeEnd};
-ghost use Rattle.bsc_edge.specs.Told.{Tells};
+ghost use Rattle.bsc_edge.specs.Told.{Stays, Tells};
 ghost use Rattle.bsc_serve.specs.Inner.{Finished, Stopped, halt_end};
 ghost use Rattle.bsc_serve.specs.Serving.{Serving};
 
@@ -90,6 +90,9 @@ pub fn serve_on<
     ensures serving { Serving (arc_value hub.now) limits.now turns sessions pass.old pass.new (A.left acceptor.old)
         (A.left acceptor.new) (P.jobs spawner.old) (P.jobs spawner.new) (P.since spawner.new) (P.faults spawner.old)
         (P.faults spawner.new) result }
+
+    // The acceptor stays bound to the port that it was bound to.
+    ensures bound { Stays (A.bound acceptor.old) (A.bound acceptor.new) }
 
     // A fault of the acceptor is told only where its count rose.
     ensures failed { result ≡ ServeEnd.AcceptFault → HasRisen (A.faults acceptor.old) (A.faults acceptor.new) }
