@@ -6,3 +6,4 @@ pub mod Together
 pub mod Beginning
 pub mod Claiming
 pub mod Receipts
+pub mod Asking
