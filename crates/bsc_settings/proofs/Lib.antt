@@ -1,0 +1,4 @@
+pub mod Keys
+pub mod Texts
+pub mod Firsts
+pub mod WorkedSettings

@@ -1,0 +1,46 @@
+//! What is settled before a hub starts.
+ghost use Rattle.std.specs.Prelude.{◌≤◌, ◌*◌, ◌^◌};
+ghost use Rattle.bsc_settings.specs.Table.{port_row, max_bvlc_row, max_npdu_row, rows_row, outbox_row, connect_wait_row, disconnect_wait_row, heartbeat_row, turns_row, Fits, IsNodeAddress};
+
+use bsc_octets::{DeviceId, Vmac};
+
+/// The settings of a hub. Each value is one that its key takes.
+#[derive(Clone, Copy, Debug, PartialEq, Eq)]
+pub struct HubSettings {
+    /// The hub's own VMAC, neither zero nor the broadcast address.
+    pub vmac: Vmac,
+    /// The hub's own Device UUID.
+    pub uuid: DeviceId,
+    /// The TCP port that it binds: 1 to 65,535.
+    pub port: u16,
+    /// Its Maximum BVLC Length, in octets: 64 to 65,535.
+    pub max_bvlc: u16,
+    /// Its Maximum NPDU Length, in octets: 1 to 65,535.
+    pub max_npdu: u16,
+    /// How many connections there may be that haven't left: 1 to 1,024.
+    pub rows: u32,
+    /// How many frames an outbox holds: 2 to 1,024.
+    pub outbox: u32,
+    /// How long a Connect-Request is waited for, in milliseconds: 100 to 3,600,000.
+    pub connect_wait_ms: u32,
+    /// How long the answer to a Disconnect-Request is waited for, in milliseconds: 100 to 3,600,000.
+    pub disconnect_wait_ms: u32,
+    /// The time of a heartbeat, in milliseconds: 100 to 3,600,000.
+    pub heartbeat_ms: u32,
+    /// How many turns a session makes at most: 1 to 2^40.
+    pub turns: u64,
+    // The hub has an address that names one node.
+    pub ghost address: { IsNodeAddress vmac },
+    // Each number is one that its row of the table takes.
+    pub ghost port_fits: { Fits port_row port },
+    pub ghost max_bvlc_fits: { Fits max_bvlc_row max_bvlc },
+    pub ghost max_npdu_fits: { Fits max_npdu_row max_npdu },
+    pub ghost rows_fit: { Fits rows_row rows },
+    pub ghost outbox_fits: { Fits outbox_row outbox },
+    pub ghost connect_wait_fits: { Fits connect_wait_row connect_wait_ms },
+    pub ghost disconnect_wait_fits: { Fits disconnect_wait_row disconnect_wait_ms },
+    pub ghost heartbeat_fits: { Fits heartbeat_row heartbeat_ms },
+    pub ghost turns_fit: { Fits turns_row turns },
+    // All outboxes together hold at most 2^30 octets.
+    pub ghost product: { rows * outbox * max_bvlc ≤ 2 ^ 30 },
+}

@@ -1,0 +1,55 @@
+//! The settings of a hub, read from the table `hub` of a document.
+ghost use Rattle.std.specs.Prelude.{◌≡◌, Some, None, IfOk, IfErr};
+ghost use Rattle.toml.specs.View.{table_view};
+ghost use Rattle.bsc_settings.specs.Table.{hub_table};
+ghost use Rattle.bsc_settings.specs.Faults.{first_at_fault, product_fault, ◌before◌};
+ghost use Rattle.bsc_settings.specs.Fields.{fields_of, values_of};
+
+use crate::hub::HubSettings;
+use crate::key::KeyName;
+use crate::rows::{
+    CONNECT_WAIT_MS, DISCONNECT_WAIT_MS, HEARTBEAT_MS, MAX_BVLC, MAX_NPDU, OUTBOX, PORT, ROWS,
+    TURNS, UUID, VMAC,
+};
+use crate::values::{read_address, read_number, read_uuid};
+use toml::Table;
+
+/// The most octets that all outboxes may hold together.
+const MOST_OCTETS: u64 = 1 << 30;
+
+/// The settings of a hub, or the first key at fault: those of the table in its order, then the product of the limits.
+pub(crate) fn read_hub(table: &Table) -> Result<HubSettings, KeyName>
+    ensures fields { IfOk result (λ h. fields_of h ≡ values_of (table_view table.now)) }
+    ensures fine { IfOk result (λ _. (first_at_fault hub_table (table_view table.now)
+        before product_fault (Some (table_view table.now))) ≡ None) }
+    ensures fault { IfErr result (λ key. (first_at_fault hub_table (table_view table.now)
+        before product_fault (Some (table_view table.now))) ≡ Some key) }
+{
+    let vmac = read_address(table, VMAC)?;
+    let uuid = read_uuid(table, UUID)?;
+    let port = read_number(table, PORT)?;
+    let max_bvlc = read_number(table, MAX_BVLC)?;
+    let max_npdu = read_number(table, MAX_NPDU)?;
+    let rows = read_number(table, ROWS)?;
+    let outbox = read_number(table, OUTBOX)?;
+    let connect_wait_ms = read_number(table, CONNECT_WAIT_MS)?;
+    let disconnect_wait_ms = read_number(table, DISCONNECT_WAIT_MS)?;
+    let heartbeat_ms = read_number(table, HEARTBEAT_MS)?;
+    let turns = read_number(table, TURNS)?;
+    if rows * outbox * max_bvlc > MOST_OCTETS {
+        return Err(KeyName::HubProduct);
+    }
+    Ok(HubSettings {
+        vmac,
+        uuid,
+        port: port as u16,
+        max_bvlc: max_bvlc as u16,
+        max_npdu: max_npdu as u16,
+        rows: rows as u32,
+        outbox: outbox as u32,
+        connect_wait_ms: connect_wait_ms as u32,
+        disconnect_wait_ms: disconnect_wait_ms as u32,
+        heartbeat_ms: heartbeat_ms as u32,
+        turns,
+    })
+}

@@ -1,0 +1,36 @@
+//! What each key is called in a fault line.
+ghost use Rattle.std.specs.Prelude.{◌≡◌};
+ghost use Rattle.bsc_settings.specs.Names.{name_of};
+
+use crate::key::KeyName;
+use std::fmt::{self, Display, Formatter, Write};
+
+impl KeyName {
+    /// The name of the key: its table, a full stop, and its word; `hub.product` for the product of the limits,
+    /// and `unknown` for what settings don't have.
+    pub fn text(self) -> &'static str
+        ensures { result.now ≡ name_of self }
+    {
+        match self {
+            KeyName::HubVmac => "hub.vmac",
+            KeyName::HubUuid => "hub.uuid",
+            KeyName::HubPort => "hub.port",
+            KeyName::HubMaxBvlc => "hub.max_bvlc",
+            KeyName::HubMaxNpdu => "hub.max_npdu",
+            KeyName::HubRows => "hub.rows",
+            KeyName::HubOutbox => "hub.outbox",
+            KeyName::HubConnectWaitMs => "hub.connect_wait_ms",
+            KeyName::HubDisconnectWaitMs => "hub.disconnect_wait_ms",
+            KeyName::HubHeartbeatMs => "hub.heartbeat_ms",
+            KeyName::HubTurns => "hub.turns",
+            KeyName::HubProduct => "hub.product",
+            KeyName::Unknown => "unknown",
+        }
+    }
+}
+
+impl Display for KeyName {
+    fn fmt<W: Write>(&self, f: &mut Formatter<W>) -> fmt::Result {
+        f.write_str(self.text())
+    }
+}
