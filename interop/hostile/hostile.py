@@ -260,10 +260,10 @@ def connect_and_go(times):
 
 
 async def connects():
-    """10,000 one after the other: most go at once, every 20th makes its handshake, every 100th joins."""
-    for n in range(0, 10_000, 20):
-        (await linked(None if n % 100 else somebody())).drop(reset=n % 40 == 0)
-        await asyncio.to_thread(connect_and_go, 19)
+    """10,000 one after the other: most go at once, every 50th makes its handshake, every 200th joins."""
+    for n in range(0, 10_000, 50):
+        (await linked(None if n % 200 else somebody())).drop(reset=n % 100 == 0)
+        await asyncio.to_thread(connect_and_go, 49)
 
 
 async def settled(before):
@@ -276,18 +276,22 @@ async def settled(before):
     return after
 
 
+async def timed(kind):
+    begun = time.monotonic()
+    try:
+        await asyncio.wait_for(kind(), 100)
+    except Exception as why:
+        fault(f"{kind.__name__}: {type(why).__name__} {why}")
+    print(f"  {kind.__name__}: {time.monotonic() - begun:.1f} s, then {process()[2] >> 10} KiB", flush=True)
+
+
 async def round_of_all():
     stay = [asyncio.create_task(again_and_again(one)) for n, one in (
         (200, says_nothing), (100, says_nothing_on_a_link), (25, dribbles_its_handshake), (25, dribbles_its_frame),
     ) for _ in range(n)]
     try:
-        for phase in (half_frames, great_messages, random_octets, random_messages, flood, connects):
-            begun = time.monotonic()
-            try:
-                await asyncio.wait_for(phase(), 60)
-            except Exception as why:
-                fault(f"{phase.__name__}: {type(why).__name__} {why}")
-            print(f"  {phase.__name__}: {time.monotonic() - begun:.1f} s, then {process()[2] >> 10} KiB", flush=True)
+        for kinds in ((half_frames, great_messages, random_octets, random_messages), (flood, connects)):
+            await asyncio.gather(*(timed(kind) for kind in kinds))
     finally:
         for task in stay:
             task.cancel()
