@@ -1,5 +1,5 @@
 //! The statuses of runs, with what stands written after each.
-use crate::run::run;
+use crate::play::play;
 use bsc_octets::NoMemory;
 use bsc_outside::{MemSink, MemSource};
 use std::alloc::Global;
@@ -186,7 +186,7 @@ fn ends_with_a_status(rt: HostRuntime) {
             return;
         };
         let mut source = MemSource::in_pieces(case.script.as_bytes(), 85, case.reads);
-        let status = run(alloc, words.as_slice(), &mut source, &mut sink);
+        let status = play(alloc, words.as_slice(), &mut source, &mut sink);
         assert_eq!(rt; status, case.status, "in row {at}");
         assert!(rt; sink.held() == case.text.as_bytes(), "in row {at}");
     }

@@ -5,7 +5,7 @@ use Rattle.bsc_player.proofs.Ran.{tells}
 use Rattle.bsc_program.specs.declared.command.Command.{Command}
 use Rattle.bsc_program.specs.Commands.{command_of, played_by}
 use Rattle.bsc_program.proofs.Reading.{one_command}
-use Rattle.bsc_program.proofs.run.run.Goals as goal
+use Rattle.bsc_program.proofs.play.play.Goals as goal
 
 pub returns-clause-played : goal.returns-clause-played
 returns-clause-played g c k o t named left held =

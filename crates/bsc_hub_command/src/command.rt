@@ -1,0 +1,116 @@
+//! The command over a file of settings.
+ghost use Rattle.std.specs.Prelude.{◌≡◌, ◌≤◌, ◌⊎◌, IfErr, IfOk, None, Some};
+ghost use Rattle.bsc_outside.specs.Faults.{HasRisen};
+ghost use Rattle.bsc_player.specs.LastLines.{RanOut};
+ghost use Rattle.bsc_settings.specs.declared.hub.HubSettings.{HubSettings as HubSettingsType};
+ghost use Rattle.bsc_hub_command.specs.Lines.{settings_line};
+ghost use Rattle.bsc_hub_command.specs.Served.{Runs, Says};
+ghost use Rattle.bsc_hub_command.specs.Settled.{IsSettled, Unsettled};
+
+use crate::serving::serve;
+use crate::texts::settings_text;
+use crate::words::HubWords;
+use bsc_edge::{Acceptor, Clock, FileFault, Files, Link, Spawner};
+use bsc_hub::Kept;
+use bsc_outside::Sink;
+use bsc_player::{end_with, out_of_memory};
+use bsc_session::SessionJob;
+use bsc_settings::{HubSettings, SettingFault, read_settings};
+use std::alloc::Global;
+use std::sync::Wait;
+
+/// Ends a run whose settings are refused.
+fn refuse<K: Sink>(alloc: Global, sink: &mut K, name: &str) -> u8
+    ensures says { Says result 5 (K.held sink.old) (K.held sink.new) (settings_line name.now) }
+    ensures failed { (result ≡ 5) ⊎ (result ≡ 7)
+        ⊎ ((result ≡ 4) × HasRisen (K.faults sink.old) (K.faults sink.new)) }
+    ensures later { K.faults sink.old ≤ K.faults sink.new }
+{
+    match settings_text(alloc, name) {
+        Ok(text) => end_with(sink, text.as_slice(), 5),
+        Err(_) => out_of_memory(sink),
+    }
+}
+
+/// The settings of a hub, or the status of a run that ends without them.
+fn load<K: Sink, F: Files>(
+    alloc: Global,
+    path: &str,
+    files: &mut F,
+    sink: &mut K,
+) -> Result<HubSettings, u8>
+    ensures settled { IfOk result (λ v. IsSettled (F.holds files.old path.now) v × (K.held sink.new ≡ K.held sink.old)) }
+    ensures unsettled { IfErr result (λ s. Unsettled (F.holds files.old path.now) (F.faults files.old) (F.faults files.new) s
+        (K.held sink.old) (K.held sink.new)) }
+    ensures read { IfErr result (λ s. s ≡ 3 → HasRisen (F.faults files.old) (F.faults files.new)) }
+    ensures write { IfErr result (λ s. s ≡ 4 → HasRisen (K.faults sink.old) (K.faults sink.new)) }
+    ensures other { IfErr result (λ s. (s ≡ 3) ⊎ (s ≡ 4) ⊎ (s ≡ 5) ⊎ (s ≡ 7)) }
+    ensures writes_later { K.faults sink.old ≤ K.faults sink.new }
+{
+    let text = match files.load(alloc, path) {
+        Ok(text) => text,
+        Err(FileFault::Failed) => return Err(end_with(sink, b"fault read\n", 3)),
+        Err(FileFault::NoMemory) => return Err(out_of_memory(sink)),
+    };
+    match read_settings(alloc, text.as_slice()) {
+        Ok(settings) => match settings.hub {
+            Some(hub) => Ok(hub),
+            None => Err(refuse(alloc, sink, "hub")),
+        },
+        Err(SettingFault::NotToml) => Err(refuse(alloc, sink, "-")),
+        Err(SettingFault::Key { name }) => Err(refuse(alloc, sink, name.text())),
+        Err(SettingFault::NoMemory) => Err(out_of_memory(sink)),
+    }
+}
+
+/// Runs the command `hub`: loads its settings, and serves the hub.
+pub fn run_hub<
+    R: Wait,
+    K: Sink,
+    F: Files,
+    C: Clock + Drop,
+    L: Link + Drop,
+    A: Acceptor<L>,
+    P: Spawner<SessionJob<L, C>>,
+>(
+    rt: &R,
+    alloc: Global,
+    words: HubWords<'_>,
+    sink: &mut K,
+    files: &mut F,
+    clock: &mut C,
+    acceptor: &mut A,
+    spawner: &mut P,
+    kept: &mut Kept,
+) -> u8
+    requires can { P.can_start spawner.old }
+    requires kept { kept.old.hub ≡ None }
+
+    // Once a hub is made, its settings are those of the file, and this is what became of it.
+    ensures runs { (hub : _) → kept.new.hub ≡ Some hub → (v : HubSettingsType) × IsSettled (F.holds files.old words.entry.path.now) v
+        × Runs v words.entry.sessions kept.new hub (A.left acceptor.old) (A.left acceptor.new) (A.bound acceptor.new)
+        (P.jobs spawner.old) (P.jobs spawner.new) (P.since spawner.new) (P.faults spawner.old) (P.faults spawner.new)
+        (A.faults acceptor.old) (A.faults acceptor.new) result (K.held sink.old) (K.held sink.new) }
+
+    // Where none is made, the file wasn't read, its settings were refused, or memory ran out.
+    ensures unmade { kept.new.hub ≡ None → Unsettled (F.holds files.old words.entry.path.now) (F.faults files.old) (F.faults files.new)
+        result (K.held sink.old) (K.held sink.new) }
+    ensures read { result ≡ 3 → HasRisen (F.faults files.old) (F.faults files.new) }
+    ensures write { result ≡ 4 → HasRisen (K.faults sink.old) (K.faults sink.new) }
+    ensures link { result ≡ 6 → HasRisen (A.faults acceptor.old) (A.faults acceptor.new) }
+{
+    match load(alloc, words.path, files, sink) {
+        Ok(settings) => serve(
+            rt,
+            alloc,
+            &settings,
+            words.sessions,
+            sink,
+            clock,
+            acceptor,
+            spawner,
+            kept,
+        ),
+        Err(status) => status,
+    }
+}

@@ -1,0 +1,15 @@
+//! The command `hub`: a hub by the settings in a file, served until so many sessions have ended, or for ever.
+//!
+//! Start at `specs/Serving.antt`, which says what a served hub writes and with which status it ends. `command` has
+//! `run_hub`, which loads the settings; `serving` has `serve`, which makes the hub and serves it; `words` reads the words
+//! of the command.
+#![tactic(auto)]
+
+mod command;
+mod serving;
+mod texts;
+mod words;
+
+pub use command::run_hub;
+pub use serving::serve;
+pub use words::{HubWords, read_hub_words};
