@@ -6,3 +6,5 @@ pub mod Together
 pub mod Beginning
 pub mod Claiming
 pub mod Receipts
+pub mod Dialling
+pub mod Asking

@@ -3,3 +3,4 @@ pub mod Events
 pub mod Tables
 pub mod Standing
 pub mod Rules
+pub mod Resolving

@@ -1,5 +1,5 @@
 //! What a node does at an event.
-ghost use Rattle.std.specs.Prelude.{◌≡◌, ◌∷◌, ◌++◌, [], OnOk, OnErr, length};
+ghost use Rattle.std.specs.Prelude.{◌≡◌, ◌-◌, ◌∷◌, ◌++◌, [], OnOk, OnErr, length, take};
 
 use bsc_node::Action;
 use bsc_octets::NoMemory;
@@ -41,7 +41,9 @@ impl Actions {
     }
 
     /// Takes the newest back.
-    pub(crate) fn take_back(&mut self) {
+    pub(crate) fn take_back(&mut self)
+        ensures { self.new ≡ take (length self.old - 1) self.old }
+    {
         let _ = self.list.pop();
     }
 

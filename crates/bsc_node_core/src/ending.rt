@@ -1,10 +1,13 @@
 //! What follows where a hub connection changes, and where a link ends.
-ghost use Rattle.std.specs.Prelude.{◌≡◌, ◌<◌, ◌^◌, ◌∷◌, ◌++◌, [], Option, unwrap_or, IfOk, OnOk};
+ghost use Rattle.std.specs.Prelude.{◌≡◌, ◌<◌, ◌^◌, true, ◌∷◌, ◌++◌, [], Option, unwrap_or, IfOk, OnOk};
 ghost use Rattle.bsc_octets.specs.declared.vmac.Vmac.{Vmac};
 ghost use Rattle.bsc_frame.specs.declared.message.Message.{Message};
 ghost use Rattle.bsc_connector.specs.Standing.{MayCome};
 ghost use Rattle.bsc_node.specs.declared.action.Action.{Action};
-ghost use Rattle.bsc_node.specs.Logs.{Log, did, does, in_order};
+ghost use Rattle.bsc_node.specs.Logs.{Log, did, does, in_order, when};
+ghost use Rattle.bsc_node.specs.Links.{is_there};
+ghost use Rattle.bsc_accept.specs.Steps.{normal};
+ghost use Rattle.bsc_node_core.specs.Tables.{is_name};
 ghost use Rattle.bsc_connector.specs.declared.side.Side.{Side};
 ghost use Rattle.bsc_node.specs.declared.link_name.LinkName.{LinkName};
 ghost use Rattle.bsc_node.specs.Ending.{carries_out_by, ends_slot};
@@ -106,7 +109,9 @@ impl State {
     }
 
     /// Closes a link that is there.
-    fn close_there(&mut self, out: &mut Actions, name: LinkName) -> Result<(), NoMemory> {
+    fn close_there(&mut self, out: &mut Actions, name: LinkName) -> Result<(), NoMemory>
+        ensures { OnOk result ((b : Base) (L : Log) → is_name name ≡ true → Stands b out.old self.old L → Stands b out.new self.new (L ++ when (is_there name) (does (Action.Close name normal)) L)) }
+    {
         if self.links.is_there(name) {
             self.close(out, name, Closing::NORMAL)
         } else {
@@ -121,7 +126,11 @@ impl State {
         alloc: Global,
         limits: &NodeLimits,
         now: u64,
-    ) -> Result<(), NoMemory> {
+    ) -> Result<(), NoMemory>
+        ensures { OnOk result ((b : Base) (L : Log) → b.made.limits.times ≡ limits.now.times → b.now ≡ now → Stands b out.old self.old L
+            → Stands b out.new self.new (L ++ in_order (when (is_there (LinkName.Hub Side.Failover)) (does (Action.Close (LinkName.Hub Side.Failover) normal))
+            ∷ does (Action.Dial (LinkName.Hub Side.Failover) (unwrap_or limits.now.failover [])) ∷ []) L)) }
+    {
         let name = LinkName::Hub(Side::Failover);
         self.close_there(out, name)?;
         let uri = failover_uri(alloc, limits)?;

@@ -27,3 +27,10 @@ mod way;
 
 pub use actions::Actions;
 pub use node::Node;
+
+#[cfg(test)]
+mod scenes;
+#[cfg(test)]
+mod telling;
+#[cfg(test)]
+mod tests;

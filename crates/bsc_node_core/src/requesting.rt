@@ -5,9 +5,10 @@ ghost use Rattle.bsc_frame.specs.declared.body.Body.{Body};
 ghost use Rattle.bsc_node.specs.declared.action.Action.{Action};
 ghost use Rattle.bsc_node.specs.Logs.{Log};
 ghost use Rattle.bsc_node.specs.Ways.{way};
-ghost use Rattle.bsc_node.specs.Requesting.{puts_own, sends, solicits, takes_it};
+ghost use Rattle.bsc_node.specs.Requesting.{puts_own, resolves, sends, solicits, takes_it};
 ghost use Rattle.bsc_node_core.specs.Rules.{way_by, way_of};
 ghost use Rattle.bsc_node_core.specs.Standing.{Base, Goes, Stands};
+ghost use Rattle.bsc_node_core.specs.Resolving.{BothStand};
 
 use crate::acting::tell;
 use crate::actions::Actions;
@@ -139,10 +140,13 @@ fn ask(
     alloc: Global,
     now: u64,
     v: Vmac,
-    way: Way,
-) -> Result<(), NoMemory> {
-    let octets = message_octets(alloc, state.next, way.dest, Body::AddressResolution)?;
-    out.push(Action::Put(way.link, octets))?;
+    by: Way,
+) -> Result<(), NoMemory>
+    ensures { OnOk result ((b : Base) (L : Log) → b.now ≡ now → way v L ≡ Some (way_of by)
+        → BothStand b out.old state.old resolve.old L → BothStand b out.new state.new resolve.new (L ++ resolves b.made v L)) }
+{
+    let octets = message_octets(alloc, state.next, by.dest, Body::AddressResolution)?;
+    out.push(Action::Put(by.link, octets))?;
     match resolve.ask(now, state.next, v) {
         Ok(()) => {
             state.count();
@@ -168,7 +172,10 @@ pub(crate) fn resolve_vmac(
     alloc: Global,
     now: u64,
     v: Vmac,
-) -> Result<(), NoMemory> {
+) -> Result<(), NoMemory>
+    ensures { OnOk result ((b : Base) (L : Log) → b.now ≡ now
+        → BothStand b out.old state.old resolve.old L → BothStand b out.new state.new resolve.new (L ++ resolves b.made v L)) }
+{
     match state.way(v) {
         None => tell(out, Note::NoPath(v)),
         Some(way) => ask(state, out, resolve, alloc, now, v, way),

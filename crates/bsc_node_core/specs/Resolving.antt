@@ -1,0 +1,22 @@
+-- For which log a node's state and its address resolution stand together.
+use Rattle.std.specs.Prelude.{List, ◌++◌}
+use Rattle.bsc_resolve.specs.declared.resolve.Resolve.{Resolve}
+use Rattle.bsc_resolve.specs.Standing.{StandsFor as ResolveStands}
+use Rattle.bsc_node.specs.declared.action.Action.{Action}
+use Rattle.bsc_node.specs.Logs.{Made, Log, Rule}
+use Rattle.bsc_node.specs.Ways.{resolve_calls}
+use Rattle.bsc_node_core.specs.declared.state.State.{State}
+use Rattle.bsc_node_core.specs.Standing.{Base, Stands}
+
+-- the same base, with what the log says of address resolution
+abbrev pub asked_by : Log → Base → Base
+asked_by L b = record b { asked = resolve_calls L }
+
+-- What a node keeps is what the log says, and so is its address resolution, where a question waits for the connect wait.
+pub record BothStand (b : Base) (out : List Action) (s : State) (r : Resolve) (L : Log) : Type 0 where
+  pub state : Stands (asked_by L b) out s L
+  pub resolution : ResolveStands r b.made.limits.times.connect_wait (resolve_calls L)
+
+-- For whatever log both stood, they stand for that with the lines of the rule.
+abbrev pub BothGo : (Made → Rule) → List Action → State → Resolve → List Action → State → Resolve → Type 0
+BothGo rule out s r out' s' r' = (b : Base) (L : Log) → BothStand b out s r L → BothStand b out' s' r' (L ++ rule b.made L)
