@@ -7,3 +7,4 @@ pub mod Beginning
 pub mod Claiming
 pub mod Receipts
 pub mod Asking
+pub mod Answering
