@@ -7,4 +7,5 @@ pub mod Beginning
 pub mod Claiming
 pub mod Receipts
 pub mod Asking
+pub mod Words
 pub mod Answering
