@@ -8,3 +8,5 @@ pub mod Claiming
 pub mod Receipts
 pub mod Dialling
 pub mod Asking
+pub mod Words
+pub mod Answering

@@ -4,10 +4,13 @@ ghost use Rattle.std.specs.Str.{IsUtf8};
 ghost use Rattle.bsc_frame.specs.declared.message.Message.{Message};
 ghost use Rattle.bsc_frame.specs.Payloads.{IsAdvert};
 ghost use Rattle.bsc_node.specs.Hubs.{hub_status};
-ghost use Rattle.bsc_node.specs.Receiving.{advert, advertises, answer_dest, answers_by, is_broadcast_address, is_for_all};
+ghost use Rattle.bsc_node.specs.Receiving.{advert, advertises, answer_dest, answers_by, drops_question, is_broadcast_address, is_for_all, learns, sender, takes_nak};
 ghost use Rattle.bsc_node.specs.declared.action.Action.{Action};
-ghost use Rattle.bsc_node.specs.Logs.{Log};
+ghost use Rattle.bsc_node.specs.declared.link_name.LinkName.{LinkName};
+ghost use Rattle.bsc_node.specs.Logs.{Log, nothing, with_some};
+ghost use Rattle.bsc_node_core.specs.declared.state.State.{State};
 ghost use Rattle.bsc_node_core.specs.Standing.{Base, Goes, Stands};
+ghost use Rattle.bsc_node_core.specs.Resolving.{BothStand};
 
 use crate::acting::tell;
 use crate::actions::Actions;
@@ -181,12 +184,38 @@ fn learn(
     id: u16,
     from: Vmac,
     uris: Octets,
-) -> Result<(), NoMemory> {
+) -> Result<(), NoMemory>
+    ensures { OnOk result ((b : Base) (s : State) (L : Log) (msg : Message) → msg.id ≡ id
+        → BothStand b out.old s resolve.old L → BothStand b out.new s resolve.new (L ++ learns b.made msg uris from L)) }
+{
     tell(out, Note::Uris(from, uris.copy(alloc)?))?;
-    if !resolve.answered(id, from, uris) {
+    if resolve.answered(id, from, uris) {
+        Ok(())
+    } else {
         out.take_back();
+        Ok(())
     }
-    Ok(())
+}
+
+/// Drops the question of a VMAC that a NAK of this function answers.
+fn drop_question_of(resolve: &mut Resolve, v: Vmac, id: u16, function: u8)
+    ensures { (b : Base) (out : List Action) (s : State) (L : Log) → BothStand b out s resolve.old L
+        → BothStand b out s resolve.new (L ++ drops_question b.made function id v L) }
+{
+    if function == ADDRESS_RESOLUTION {
+        let _ = resolve.refused(id, v);
+    }
+}
+
+/// Drops the question that a NAK of this function answers, where it is known who sent it.
+fn drop_question(resolve: &mut Resolve, from: Option<Vmac>, id: u16, function: u8)
+    ensures { (b : Base) (out : List Action) (s : State) (L : Log) → BothStand b out s resolve.old L
+        → BothStand b out s resolve.new (L ++ with_some from (drops_question b.made function id) nothing L) }
+{
+    match from {
+        Some(v) => drop_question_of(resolve, v, id, function),
+        None => {}
+    }
 }
 
 /// Tells a NAK of a function, and drops the question that it answers.
@@ -197,7 +226,10 @@ fn take_nak(
     id: u16,
     function: u8,
     code: u16,
-) -> Result<(), NoMemory> {
+) -> Result<(), NoMemory>
+    ensures { OnOk result ((b : Base) (s : State) (L : Log) (name : LinkName) (msg : Message) → msg.id ≡ id → sender name msg L ≡ from
+        → BothStand b out.old s resolve.old L → BothStand b out.new s resolve.new (L ++ takes_nak b.made name msg function code L)) }
+{
     tell(
         out,
         Note::Nak {
@@ -206,11 +238,7 @@ fn take_nak(
             code,
         },
     )?;
-    if let Some(v) = from {
-        if function == ADDRESS_RESOLUTION {
-            let _ = resolve.refused(id, v);
-        }
-    }
+    drop_question(resolve, from, id, function);
     Ok(())
 }
 

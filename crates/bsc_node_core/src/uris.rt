@@ -1,6 +1,6 @@
 //! URIs that are learnt: a text with one space between two.
-ghost use Rattle.std.specs.Prelude.{◌≡◌};
-ghost use Rattle.bsc_node.specs.Ways.{is_dialled};
+ghost use Rattle.std.specs.Prelude.{◌≡◌, [], filter, option_copied, slice_get};
+ghost use Rattle.bsc_node.specs.Ways.{is_dialled, words_with};
 
 /// How a URI begins that can be dialled: `ws://`.
 const SCHEME: [u8; 5] = [0x77, 0x73, 0x3A, 0x2F, 0x2F];
@@ -13,7 +13,9 @@ fn is_dialled(uri: &[u8]) -> bool
 }
 
 /// The URI of this number, counted from 0, among those that begin with `ws://`.
-pub(crate) fn uri_to_dial(text: &[u8], number: u64) -> Option<&[u8]> {
+pub(crate) fn uri_to_dial(text: &[u8], number: u64) -> Option<&[u8]>
+    ensures { option_copied result ≡ slice_get (filter is_dialled (words_with [] text.now)) number }
+{
     let mut left = number;
     let mut start = 0usize;
     for end in 0..text.len() {

@@ -21,7 +21,8 @@ use std::sync::{Arc, Wait};
 /// Stops the hub. What it answers is one value, so that it is known as a whole.
 fn stop<R: Wait>(rt: &R, hub: &Hub, pass: &mut Pass) -> Result<Told<Counts>, AlreadyStopped>
     requires { IsCaller hub.now pass.old }
-    ensures { Stopped hub.now pass.old pass.new result }
+    ensures stopped { Stopped hub.now pass.old pass.new result }
+    ensures caller { IsCaller hub.now pass.new }
 {
     hub.stop(rt, pass)
 }
@@ -36,7 +37,8 @@ fn finish<R: Wait, J: Job, P: Spawner<J>>(
 ) -> ServeEnd
     requires pass { IsCaller hub.now pass.old }
     requires gathered { Tells (P.since spawner.now) 0 }
-    ensures { Finished hub.now pass.old pass.new unstarted result }
+    ensures finished { Finished hub.now pass.old pass.new unstarted result }
+    ensures caller { IsCaller hub.now pass.new }
 {
     match stop(rt, hub, pass) {
         Ok(told) => ServeEnd::Done {
@@ -90,6 +92,9 @@ pub fn serve_on<
     ensures serving { Serving (arc_value hub.now) limits.now turns sessions pass.old pass.new (A.left acceptor.old)
         (A.left acceptor.new) (P.jobs spawner.old) (P.jobs spawner.new) (P.since spawner.new) (P.faults spawner.old)
         (P.faults spawner.new) result }
+
+    // The pass is still one of the hub.
+    ensures caller { IsCaller (arc_value hub.now) pass.new }
 
     // The acceptor stays bound to the port that it was bound to.
     ensures bound { Stays (A.bound acceptor.old) (A.bound acceptor.new) }
