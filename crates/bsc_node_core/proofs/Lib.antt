@@ -9,3 +9,4 @@ pub mod Receipts
 pub mod Asking
 pub mod Words
 pub mod Answering
+pub mod Connecting
