@@ -10,3 +10,4 @@ pub mod Asking
 pub mod Words
 pub mod Answering
 pub mod Connecting
+pub mod Copying
