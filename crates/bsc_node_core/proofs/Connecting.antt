@@ -1,5 +1,5 @@
 -- What a node keeps and its address resolution go on standing for its log, where a direct connection is wanted.
-use Rattle.std.proofs.Common.{◌≡◌, ℕ, zero, suc, Bool, cond, List, [], ◌∷◌, ◌++◌, Option, Some, None, refl, ap, sym, ◌∙◌, subst}
+use Rattle.std.proofs.Common.{◌≡◌, ℕ, List, [], ◌∷◌, ◌++◌, Option, Some, None, refl, ap, sym, ◌∙◌, subst}
 use Rattle.std.specs.Prelude.{filter, slice_get}
 use Rattle.bsc_direct.proofs.OneMore.{some_none, some_same}
 use Rattle.bsc_octets.specs.declared.vmac.Vmac.{Vmac}
@@ -9,7 +9,7 @@ use Rattle.bsc_node.specs.declared.link_name.LinkName.TheVariants.{Direct}
 use Rattle.bsc_node.specs.declared.note.Note.TheVariants.{NoUris, NoDirect, SlotsFull}
 use Rattle.bsc_node.specs.declared.action.Action.{Action}
 use Rattle.bsc_node.specs.declared.action.Action.TheVariants.{Dial, Tell}
-use Rattle.bsc_node.specs.Logs.{Line, slot, did, Log, Rule, nothing, does, tells, with_some, where_found}
+use Rattle.bsc_node.specs.Logs.{slot, did, Log, Rule, nothing, does, tells, with_some, where_found}
 use Rattle.bsc_node.specs.Ways.{is_dialled, words_with, established, learnt, uris_to_dial, free_slot, slots_see}
 use Rattle.bsc_node.specs.Requesting.{dials_first, directs}
 use Rattle.bsc_node_core.specs.declared.state.State.{State}

@@ -1,5 +1,5 @@
 -- A copy of what a node keeps stands for the same log.
-use Rattle.std.proofs.Common.{◌≡◌, ℕ, true, List, refl, ap, sym, ◌∙◌, subst}
+use Rattle.std.proofs.Common.{◌≡◌, List, ap, sym, ◌∙◌, subst}
 use Rattle.std.specs.Prelude.{slice_get}
 use Rattle.bsc_connector.specs.declared.side.Side.TheVariants.{Primary, Failover}
 use Rattle.bsc_direct.specs.declared.direct.Direct.{Direct as SlotTable}
@@ -14,7 +14,7 @@ use Rattle.bsc_node.specs.Logs.{Log}
 use Rattle.bsc_node_core.specs.declared.links.Links.{Links}
 use Rattle.bsc_node_core.specs.declared.link.Link.{Link}
 use Rattle.bsc_node_core.specs.declared.state.State.{State}
-use Rattle.bsc_node_core.specs.Tables.{Kept, kept_of, kept_in, link_at, is_name}
+use Rattle.bsc_node_core.specs.Tables.{Kept, kept_of, kept_in, link_at}
 use Rattle.bsc_node_core.specs.Standing.{Base, LinkStands, Stands}
 
 same-links : (old new : Links) → new.primary ≡ old.primary → new.failover ≡ old.failover → new.slots.items ≡ old.slots.items → (name : LinkName) → link_at old name ≡ link_at new name
