@@ -1,5 +1,5 @@
 -- What a node keeps and its address resolution go on standing for its log, where a question is answered.
-use Rattle.std.proofs.Common.{◌≡◌, ℕ, Bool, true, false, cond, ◌&&◌, List, [], ◌∷◌, ◌++◌, length, take, Option, Some, None, refl, ap, sym, ◌∙◌, subst}
+use Rattle.std.proofs.Common.{◌≡◌, ℕ, Bool, true, false, ◌&&◌, List, [], ◌∷◌, ◌++◌, length, take, Option, refl, ap, sym, ◌∙◌, subst}
 use Rattle.std.specs.Prelude.{◌-◌, ◌==◌}
 use Rattle.std.proofs.lemmas.List.{append-nil}
 use Rattle.bsc_octets.specs.declared.vmac.Vmac.{Vmac}
@@ -9,7 +9,6 @@ use Rattle.bsc_resolve.specs.declared.call.ResolveCall.TheVariants.{Answered, Re
 use Rattle.bsc_resolve.specs.declared.resolve.Resolve.{Resolve}
 use Rattle.bsc_resolve.specs.Standing.{StandsFor as ResolveStands, AnswersAnswer, AnswersRefusal, if_it_counts}
 use Rattle.bsc_node.specs.declared.link_name.LinkName.{LinkName}
-use Rattle.bsc_node.specs.declared.note.Note.{Note}
 use Rattle.bsc_node.specs.declared.note.Note.TheVariants.{Uris, Nak}
 use Rattle.bsc_node.specs.declared.action.Action.{Action}
 use Rattle.bsc_node.specs.declared.action.Action.TheVariants.{Tell}

@@ -1,5 +1,5 @@
 -- What a node keeps and its address resolution go on standing for its log, where URIs are asked for.
-use Rattle.std.proofs.Common.{◌≡◌, ℕ, ◌+◌, Bool, true, false, cond, List, [], ◌∷◌, ◌++◌, length, take, Option, Some, None, refl, ap, sym, ◌∙◌, subst, arith, length-append, append_assoc}
+use Rattle.std.proofs.Common.{◌≡◌, ℕ, ◌+◌, Bool, false, cond, List, [], ◌∷◌, ◌++◌, length, take, Option, Some, None, refl, ap, sym, ◌∙◌, subst, arith, length-append, append_assoc}
 use Rattle.std.specs.Prelude.{◌-◌, ◌%◌, min}
 use Rattle.std.proofs.Math.Seq.{take-append_seam}
 use Rattle.bsc_octets.specs.declared.vmac.Vmac.{Vmac}
@@ -13,13 +13,11 @@ use Rattle.bsc_resolve.specs.declared.ask_refusal.AskRefusal.TheVariants.{Full, 
 use Rattle.bsc_resolve.specs.declared.resolve.Resolve.{Resolve}
 use Rattle.bsc_resolve.specs.Standing.{StandsFor as ResolveStands, IsAsked, IsRefused, IsUnchanged}
 use Rattle.bsc_node.specs.Messages.{message_octets}
-use Rattle.bsc_node.specs.declared.link_name.LinkName.{LinkName}
-use Rattle.bsc_node.specs.declared.link_name.LinkName.TheVariants.{Direct}
 use Rattle.bsc_node.specs.declared.note.Note.{Note}
 use Rattle.bsc_node.specs.declared.note.Note.TheVariants.{NoPath, AsksFull, AskPending}
 use Rattle.bsc_node.specs.declared.action.Action.{Action}
 use Rattle.bsc_node.specs.declared.action.Action.TheVariants.{Put, Tell}
-use Rattle.bsc_node.specs.Logs.{Made, Line, resolution, did, Log, Rule, now, next_id, in_order, does, tells, is_response}
+use Rattle.bsc_node.specs.Logs.{Made, Line, resolution, did, Log, Rule, now, next_id, in_order, is_response}
 use Rattle.bsc_node.specs.Hubs.{waits}
 use Rattle.bsc_node.specs.Ways.{Way, way, ask_refusal, resolve_call_of, resolve_calls, resolution_sees}
 use Rattle.bsc_node.specs.Requesting.{puts_own, asks_unless, resolves}

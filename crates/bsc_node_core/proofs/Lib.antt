@@ -10,3 +10,5 @@ pub mod Dialling
 pub mod Asking
 pub mod Words
 pub mod Answering
+pub mod Connecting
+pub mod Copying

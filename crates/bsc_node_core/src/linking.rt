@@ -1,5 +1,5 @@
 //! The links of a node, by their names.
-ghost use Rattle.std.specs.Prelude.{◌≡◌, true};
+ghost use Rattle.std.specs.Prelude.{◌≡◌, IfOk, true};
 ghost use Rattle.bsc_node.specs.declared.link_name.LinkName.{LinkName};
 ghost use Rattle.bsc_node_core.specs.declared.machine.Machine.{Machine};
 ghost use Rattle.bsc_node_core.specs.Machines.{is_fit, says_there};
@@ -25,7 +25,11 @@ impl Links {
     }
 
     /// The same links in memory of their own.
-    pub(crate) fn copy(&self, alloc: Global) -> Result<Links, NoMemory> {
+    pub(crate) fn copy(&self, alloc: Global) -> Result<Links, NoMemory>
+        ensures primary { IfOk result (λ ls. ls.primary ≡ self.now.primary) }
+        ensures failover { IfOk result (λ ls. ls.failover ≡ self.now.failover) }
+        ensures slots { IfOk result (λ ls. ls.slots.items ≡ self.now.slots.items) }
+    {
         Ok(Links {
             primary: self.primary,
             failover: self.failover,

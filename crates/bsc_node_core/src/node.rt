@@ -1,8 +1,11 @@
 //! A node and its calls.
-ghost use Rattle.std.specs.Prelude.{◌<◌, ◌^◌, IfSome};
+ghost use Rattle.std.specs.Prelude.{◌<◌, ◌^◌, List, IfSome, OnErr};
 ghost use Rattle.std.specs.Str.{IsUtf8};
 ghost use Rattle.std.proofs.Props.{props};
+ghost use Rattle.bsc_node.specs.declared.action.Action.{Action};
+ghost use Rattle.bsc_node.specs.Logs.{Log};
 ghost use Rattle.bsc_node_core.specs.Events.{HasOctets};
+ghost use Rattle.bsc_node_core.specs.Standing.{Base, Stands};
 
 use crate::actions::Actions;
 use crate::following::{fail_dial, hear};
@@ -108,6 +111,7 @@ impl Node {
     pub fn event(&mut self, alloc: Global, now: u64, event: &NodeEvent) -> Result<Actions, NoMemory>
         requires time { now < 2 ^ 62 }
         requires octets { HasOctets event.now }
+        ensures { OnErr result ((b : Base) (out : List Action) (L : Log) → Stands b out self.old.state L → Stands b out self.new.state L) }
     {
         let before = self.state.copy(alloc)?;
         let mut out = Actions::new(alloc);

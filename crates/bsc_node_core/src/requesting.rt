@@ -1,11 +1,12 @@
 //! What follows where the user of the node wants something.
-ghost use Rattle.std.specs.Prelude.{◌≡◌, ℕ, ◌<◌, ◌++◌, List, Some, OnOk, length};
+ghost use Rattle.std.specs.Prelude.{◌≡◌, ℕ, ◌<◌, ◌++◌, List, None, Some, IfOk, OnOk, length, slice_get};
 ghost use Rattle.std.specs.Option.{option_map};
 ghost use Rattle.bsc_frame.specs.declared.body.Body.{Body};
+ghost use Rattle.bsc_resolve.specs.Standing.{StandsFor as ResolveStands};
 ghost use Rattle.bsc_node.specs.declared.action.Action.{Action};
 ghost use Rattle.bsc_node.specs.Logs.{Log};
-ghost use Rattle.bsc_node.specs.Ways.{way};
-ghost use Rattle.bsc_node.specs.Requesting.{puts_own, resolves, sends, solicits, takes_it};
+ghost use Rattle.bsc_node.specs.Ways.{established, free_slot, learnt, resolve_calls, uris_to_dial, way};
+ghost use Rattle.bsc_node.specs.Requesting.{directs, puts_own, resolves, sends, solicits, takes_it};
 ghost use Rattle.bsc_node_core.specs.Rules.{way_by, way_of};
 ghost use Rattle.bsc_node_core.specs.Standing.{Base, Goes, Stands};
 ghost use Rattle.bsc_node_core.specs.Resolving.{BothStand};
@@ -188,7 +189,9 @@ pub(crate) fn learnt_uri(
     resolve: &Resolve,
     v: Vmac,
     number: u64,
-) -> Result<Option<Octets>, NoMemory> {
+) -> Result<Option<Octets>, NoMemory>
+    ensures { IfOk result (λ uri. (wait : ℕ) (L : Log) → ResolveStands resolve.now wait (resolve_calls L) → uri ≡ slice_get (uris_to_dial v L) number) }
+{
     match resolve.uris(v) {
         None => Ok(None),
         Some(text) => match uri_to_dial(text.as_slice(), number) {
@@ -207,7 +210,11 @@ fn dial_first(
     limits: &NodeLimits,
     now: u64,
     v: Vmac,
-) -> Result<(), NoMemory> {
+) -> Result<(), NoMemory>
+    ensures { OnOk result ((b : Base) (L : Log) (text : List ℕ) (free : ℕ) → b.made.limits ≡ limits.now → b.now ≡ now
+        → established v L ≡ None → learnt v L ≡ Some text → free_slot L ≡ Some free
+        → BothStand b out.old state.old resolve.now L → BothStand b out.new state.new resolve.now (L ++ directs v L)) }
+{
     match learnt_uri(alloc, resolve, v, 0)? {
         None => tell(out, Note::NoDirect(v)),
         Some(uri) => match state.direct.claim(Some(v)) {
@@ -230,15 +237,18 @@ pub(crate) fn connect_to(
     limits: &NodeLimits,
     now: u64,
     v: Vmac,
-) -> Result<(), NoMemory> {
-    if state.direct.established(v).is_some() {
-        return Ok(());
+) -> Result<(), NoMemory>
+    ensures { OnOk result ((b : Base) (L : Log) → b.made.limits ≡ limits.now → b.now ≡ now
+        → BothStand b out.old state.old resolve.now L → BothStand b out.new state.new resolve.now (L ++ directs v L)) }
+{
+    match state.direct.established(v) {
+        Some(_) => Ok(()),
+        None => match resolve.uris(v) {
+            None => tell(out, Note::NoUris(v)),
+            Some(_) => match state.direct.free() {
+                None => tell(out, Note::SlotsFull),
+                Some(_) => dial_first(state, out, resolve, alloc, limits, now, v),
+            },
+        },
     }
-    if resolve.uris(v).is_none() {
-        return tell(out, Note::NoUris(v));
-    }
-    if state.direct.free().is_none() {
-        return tell(out, Note::SlotsFull);
-    }
-    dial_first(state, out, resolve, alloc, limits, now, v)
 }

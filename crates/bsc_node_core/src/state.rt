@@ -1,4 +1,9 @@
 //! What a node keeps, beside its settings and its address resolution.
+ghost use Rattle.std.specs.Prelude.{List, IfOk};
+ghost use Rattle.bsc_node.specs.declared.action.Action.{Action};
+ghost use Rattle.bsc_node.specs.Logs.{Log};
+ghost use Rattle.bsc_node_core.specs.Standing.{Base, Stands};
+
 use crate::links::Links;
 use bsc_connector::{Connector, Side};
 use bsc_direct::Direct;
@@ -30,8 +35,10 @@ pub(crate) struct State {
 }
 
 impl State {
-    /// The same in memory of its own.
-    pub(crate) fn copy(&self, alloc: Global) -> Result<State, NoMemory> {
+    /// The same in memory of its own: for whatever log the state stands, the copy does.
+    pub(crate) fn copy(&self, alloc: Global) -> Result<State, NoMemory>
+        ensures { IfOk result (λ s. (b : Base) (out : List Action) (L : Log) → Stands b out self.now L → Stands b out s L) }
+    {
         Ok(State {
             own: self.own,
             next: self.next,

@@ -1,4 +1,3 @@
-use Rattle.std.proofs.Common.{ap, ◌∙◌}
 use Rattle.std.proofs.lemmas.Result.{on_ok_weaker}
 use Rattle.bsc_node.specs.declared.note.Note.TheVariants.{NoPath}
 use Rattle.bsc_node.specs.Requesting.{resolves}

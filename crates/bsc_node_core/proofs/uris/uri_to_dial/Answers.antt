@@ -8,15 +8,15 @@ pub loop-end-preserved : goal.loop-end-preserved
 loop-end-preserved c =
     let l = c.loop-end in
     elim c.if-text-end-eq32.branch [
-      then-text-end-eq32 w ↦ subst (λ s. IsRead c.args.text.now c.args.number s (l.end + 1) c.if-text-end-eq32.left) (sym w.start-is)
-        (subst (λ n. IsRead c.args.text.now c.args.number (l.end + 1) (l.end + 1) n) (sym w.left-is)
-        (elim w.if-is_dialled.branch [
-          then-is_dialled+else-left-eq0 x ↦ subst (λ n. IsRead c.args.text.now c.args.number (l.end + 1) (l.end + 1) n) (sym x.left-is)
-            (read-next c.args.text.now c.args.number l.start l.end l.left 0 l.invariant c.loop-end-test.true w.if-text-end-eq32.true (sym w.is_dialled.ensures ∙ x.if-is_dialled.true) (omega (arith, x.if-left-eq0.false)))
-        | else-is_dialled x ↦ subst (λ n. IsRead c.args.text.now c.args.number (l.end + 1) (l.end + 1) n) (sym x.left-is)
-            (read-other c.args.text.now c.args.number l.start l.end l.left 0 l.invariant c.loop-end-test.true w.if-text-end-eq32.true (sym w.is_dialled.ensures ∙ x.if-is_dialled.false))
-        ]))
-    | else-text-end-eq32 w ↦ subst (λ s. IsRead c.args.text.now c.args.number s (l.end + 1) c.if-text-end-eq32.left) (sym w.start-is)
-        (subst (λ n. IsRead c.args.text.now c.args.number l.start (l.end + 1) n) (sym w.left-is)
-        (read-more c.args.text.now c.args.number l.start l.end l.left 0 l.invariant c.loop-end-test.true (ne_eqb _ _ w.if-text-end-eq32.false)))
+      | then-text-end-eq32 w ↦ subst (λ s. IsRead c.args.text.now c.args.number s (l.end + 1) c.if-text-end-eq32.left) (sym w.start-is)
+          (subst (λ n. IsRead c.args.text.now c.args.number (l.end + 1) (l.end + 1) n) (sym w.left-is)
+          (elim w.if-is_dialled.branch [
+            | then-is_dialled+else-left-eq0 x ↦ subst (λ n. IsRead c.args.text.now c.args.number (l.end + 1) (l.end + 1) n) (sym x.left-is)
+                (read-next c.args.text.now c.args.number l.start l.end l.left 0 l.invariant c.loop-end-test.true w.if-text-end-eq32.true (sym w.is_dialled.ensures ∙ x.if-is_dialled.true) (omega (arith, x.if-left-eq0.false)))
+            | else-is_dialled x ↦ subst (λ n. IsRead c.args.text.now c.args.number (l.end + 1) (l.end + 1) n) (sym x.left-is)
+                (read-other c.args.text.now c.args.number l.start l.end l.left 0 l.invariant c.loop-end-test.true w.if-text-end-eq32.true (sym w.is_dialled.ensures ∙ x.if-is_dialled.false))
+          ]))
+      | else-text-end-eq32 w ↦ subst (λ s. IsRead c.args.text.now c.args.number s (l.end + 1) c.if-text-end-eq32.left) (sym w.start-is)
+          (subst (λ n. IsRead c.args.text.now c.args.number l.start (l.end + 1) n) (sym w.left-is)
+          (read-more c.args.text.now c.args.number l.start l.end l.left 0 l.invariant c.loop-end-test.true (ne_eqb _ _ w.if-text-end-eq32.false)))
     ]
