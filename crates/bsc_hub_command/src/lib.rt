@@ -1,6 +1,6 @@
 //! The command `hub`: a hub by the settings in a file, served until so many sessions have ended, or for ever.
 //!
-//! Start at `specs/Serving.antt`, which says what a served hub writes and with which status it ends. `command` has
+//! Start at `specs/Served.antt`, which says what a served hub writes and with which status it ends. `command` has
 //! `run_hub`, which loads the settings; `serving` has `serve`, which makes the hub and serves it; `words` reads the words
 //! of the command.
 #![tactic(auto)]
