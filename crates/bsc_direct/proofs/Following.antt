@@ -47,26 +47,26 @@ claim_stands calls items slot v within st k = by (slot == k) refl
     by : (b : Bool) → (slot == k) ≡ b → SlotStands (calls ++ Claim slot v ∷ []) k (slot_at (set items slot (Claimed v)) k)
     by true h = subst (λ (s : Slot). SlotStands (calls ++ Claim slot v ∷ []) k s) (sym (set_here items slot k (Claimed v) within h)) (record {
       claimed = claimed-said calls (Claim slot v) k true (ap (λ (b : Bool). cond b (Some true) None) h);
-      wanted = λ _. wanted-said calls (Claim slot v) k v (ap (λ (b : Bool). cond b (Some v) None) h);
+      wanted = wanted-said calls (Claim slot v) k v (ap (λ (b : Bool). cond b (Some v) None) h);
       peer = peer-cleared calls k (Claim slot v) (ap (λ (b : Bool). is_some (cond b (Some true) None)) h);
     })
     by false h = subst (λ (s : Slot). SlotStands (calls ++ Claim slot v ∷ []) k s) (sym (set_there items slot k (Claimed v) h)) (record {
       claimed = claimed-kept calls (Claim slot v) k (ap (λ (b : Bool). cond b (Some true) None) h) ∙ (st k).claimed;
-      wanted = λ c. wanted-kept calls (Claim slot v) k (ap (λ (b : Bool). cond b (Some v) None) h) ∙ (st k).wanted c;
+      wanted = wanted-kept calls (Claim slot v) k (ap (λ (b : Bool). cond b (Some v) None) h) ∙ (st k).wanted;
       peer = peer-more calls k (Claim slot v) (ap (λ (b : Bool). is_some (cond b (Some true) None)) h) refl ∙ unless_quiet k (Claim slot v) (established_peer calls k) (λ w. refl) ∙ (st k).peer;
     })
 
 freed : (calls : List SlotCall) (slot k : ℕ) → (slot == k) ≡ true → SlotStands (calls ++ Release slot ∷ []) k Free
 freed calls slot k h = record {
   claimed = claimed-said calls (Release slot) k false (ap (λ (b : Bool). cond b (Some false) None) h);
-  wanted = λ c. cc;
+  wanted = wanted-said calls (Release slot) k None (ap (λ (b : Bool). cond b (Some None) None) h);
   peer = peer-cleared calls k (Release slot) (ap (λ (b : Bool). is_some (cond b (Some false) None)) h);
 }
 
 stays : (calls : List SlotCall) (slot k : ℕ) (s : Slot) → (slot == k) ≡ false → SlotStands calls k s → SlotStands (calls ++ Release slot ∷ []) k s
 stays calls slot k s h st = record {
   claimed = claimed-kept calls (Release slot) k (ap (λ (b : Bool). cond b (Some false) None) h) ∙ st.claimed;
-  wanted = λ c. wanted-kept calls (Release slot) k refl ∙ st.wanted c;
+  wanted = wanted-kept calls (Release slot) k (ap (λ (b : Bool). cond b (Some None) None) h) ∙ st.wanted;
   peer = peer-more calls k (Release slot) (ap (λ (b : Bool). is_some (cond b (Some false) None)) h) refl ∙ unless_quiet k (Release slot) (established_peer calls k) (λ w. refl) ∙ st.peer;
 }
 
@@ -191,7 +191,7 @@ up_stands calls items slot who replaced st apart within is here claimed k = by (
         (sym (set_here (slots_without replaced items) slot k (Established (says_wanted (slot_at (slots_without replaced items) slot)) who) (subst (λ (n : ℕ). slot < n) (sym (length_without replaced items)) here) h))
         (record {
           claimed = claimed-kept calls (Up slot who) k refl ∙ (st k).claimed ∙ c;
-          wanted = λ _. wanted-kept calls (Up slot who) k refl ∙ (st k).wanted c ∙ ap (λ (j : ℕ). says_wanted (slot_at items j)) (sym e) ∙ sym (without_same says_wanted replaced items slot keeps_wanted within);
+          wanted = wanted-kept calls (Up slot who) k refl ∙ (st k).wanted ∙ ap (λ (j : ℕ). says_wanted (slot_at items j)) (sym e) ∙ sym (without_same says_wanted replaced items slot keeps_wanted within);
           peer = peer-up calls k (Up slot who) who refl (ap (λ (b : Bool). cond b (Some who) None) h);
         })
     by false h =
@@ -199,7 +199,7 @@ up_stands calls items slot who replaced st apart within is here claimed k = by (
         (sym (set_there (slots_without replaced items) slot k (Established (says_wanted (slot_at (slots_without replaced items) slot)) who) h))
         (record {
           claimed = claimed-kept calls (Up slot who) k refl ∙ (st k).claimed ∙ sym (without_same says_claimed replaced items k keeps_claimed within);
-          wanted = λ c. wanted-kept calls (Up slot who) k refl ∙ (st k).wanted (sym (without_same says_claimed replaced items k keeps_claimed within) ∙ c) ∙ sym (without_same says_wanted replaced items k keeps_wanted within);
+          wanted = wanted-kept calls (Up slot who) k refl ∙ (st k).wanted ∙ sym (without_same says_wanted replaced items k keeps_wanted within);
           peer = peer_after calls items slot k who replaced st apart within is h;
         })
 
@@ -208,9 +208,9 @@ up_stands calls items slot who replaced st apart within is here claimed k = by (
 kept_as_told : (calls : List SlotCall) (items : List Slot) (test : Identity → Bool) → length items ≡ 64 → Stand items calls → kept_with test items ≡ established_with test calls
 kept_as_told calls items test len st = found_as_kept (λ (s : Slot). is_peer test (says_peer s)) (λ (k : ℕ). is_peer test (established_peer calls k)) Free items len (λ k. ap (is_peer test) (sym (st k).peer))
 
-pub answer_is : (calls : List SlotCall) (items : List Slot) (own : Vmac) (slot : ℕ) (who : Identity) → length items ≡ 64 → Stand items calls → says_claimed (slot_at items slot) ≡ true → establish_kept own items slot who ≡ establish own calls slot who
-answer_is calls items own slot who len st claimed =
-    ap (λ (w : Option Vmac). unless_wrong w who (unless_own (same_vmac who.vmac own) (unless_rival (kept_with (is_rival who) items) (kept_with (by_device who) items)))) (sym ((st slot).wanted claimed))
+pub answer_is : (calls : List SlotCall) (items : List Slot) (own : Vmac) (slot : ℕ) (who : Identity) → length items ≡ 64 → Stand items calls → establish_kept own items slot who ≡ establish own calls slot who
+answer_is calls items own slot who len st =
+    ap (λ (w : Option Vmac). unless_wrong w who (unless_own (same_vmac who.vmac own) (unless_rival (kept_with (is_rival who) items) (kept_with (by_device who) items)))) (sym (st slot).wanted)
     ∙ ap (λ (r : Option ℕ). unless_wrong (wanted calls slot) who (unless_own (same_vmac who.vmac own) (unless_rival r (kept_with (by_device who) items)))) (kept_as_told calls items (is_rival who) len st)
     ∙ ap (λ (d : Option ℕ). unless_wrong (wanted calls slot) who (unless_own (same_vmac who.vmac own) (unless_rival (established_with (is_rival who) calls) d))) (kept_as_told calls items (by_device who) len st)
 
@@ -240,7 +240,7 @@ free_at (suc n) (suc k) = free_at n k
 
 pub made : (d : Direct) → d.slots.items ≡ replicate 64 Free → StandsFor d []
 made d items = record {
-  slots = λ k. subst (λ (l : List Slot). SlotStands [] k (slot_at l k)) (sym items) (subst (λ (s : Slot). SlotStands [] k s) (sym (free_at 64 k)) (record { claimed = refl; wanted = λ c. cc; peer = refl }));
+  slots = λ k. subst (λ (l : List Slot). SlotStands [] k (slot_at l k)) (sym items) (subst (λ (s : Slot). SlotStands [] k s) (sym (free_at 64 k)) (record { claimed = refl; wanted = refl; peer = refl }));
   apart = λ i j x y n hi hj. some_none x (sym hi);
   unicast = λ k who h. some_none who (sym h);
 }
@@ -279,7 +279,7 @@ came_up old new own slot who replaced len within claimed unicast is items calls 
     let es = old.slots.items in
     let u = up_by (says_wanted (slot_at es slot)) who (same_vmac who.vmac own) (kept_with (is_rival who) es) (kept_with (by_device who) es) replaced is in
     let inside : Within replaced es = λ j e. (position-Some (λ (x : Slot). is_peer (by_device who) (says_peer x)) es j Free (u.1 ∙ e)).0 in (
-      sym is ∙ answer_is calls es own slot who len s.slots claimed,
+      sym is ∙ answer_is calls es own slot who len s.slots,
       record {
         slots = subst (λ (l : List Slot). Stand l (calls ++ Up slot who ∷ [])) (sym items) (up_stands calls es slot who replaced s.slots s.apart inside u.1 (omega arith) claimed);
         apart = up-apart calls slot who s.apart (no_rivals calls es who s.slots u.0);
@@ -287,9 +287,9 @@ came_up old new own slot who replaced len within claimed unicast is items calls 
       },
     )
 
-pub stays_down : (old : Direct) (own : Vmac) (slot : ℕ) (who : Identity) (answer : Establish) → length old.slots.items ≡ 64 → says_claimed (slot_at old.slots.items slot) ≡ true → establish_kept own old.slots.items slot who ≡ answer
+pub stays_down : (old : Direct) (own : Vmac) (slot : ℕ) (who : Identity) (answer : Establish) → length old.slots.items ≡ 64 → establish_kept own old.slots.items slot who ≡ answer
     → ((calls : List SlotCall) → and_up answer calls slot who ≡ calls) → Answers old old own slot who answer
-stays_down old own slot who answer len claimed is same calls s = (sym is ∙ answer_is calls old.slots.items own slot who len s.slots claimed, subst (StandsFor old) (sym (same calls)) s)
+stays_down old own slot who answer len is same calls s = (sym is ∙ answer_is calls old.slots.items own slot who len s.slots, subst (StandsFor old) (sym (same calls)) s)
 
 pub established_is : (d : Direct) (v : Vmac) (calls : List SlotCall) → length d.slots.items ≡ 64 → StandsFor d calls → kept_with (λ who. same_vmac who.vmac v) d.slots.items ≡ established calls v
 established_is d v calls len s = kept_as_told calls d.slots.items (λ who. same_vmac who.vmac v) len s.slots

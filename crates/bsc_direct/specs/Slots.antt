@@ -24,10 +24,11 @@ claim_said k (Claim slot wanted) = if slot == k then Some true else None
 claim_said k (Release slot) = if slot == k then Some false else None
 claim_said k (Up slot peer) = None
 
--- the VMAC for which the slot is claimed by a call, where the call claims it
+-- the VMAC for which the slot is claimed by a call, and none where the call releases it
 abbrev pub wanted_by : ℕ → SlotCall → Option (Option Vmac)
 wanted_by k (Claim slot wanted) = if slot == k then Some wanted else None
-wanted_by k call = None
+wanted_by k (Release slot) = if slot == k then Some None else None
+wanted_by k (Up slot peer) = None
 
 -- Whether a call ends that the slot is established: it is claimed or released.
 abbrev pub clears : ℕ → SlotCall → Bool
@@ -57,7 +58,7 @@ is_claimed calls k = unwrap_or (newest_of (claim_said k) calls) false
 abbrev pub free_slot : List SlotCall → Option ℕ
 free_slot calls = find (λ k. not (is_claimed calls k)) slots
 
--- The VMAC that is wanted of the slot's peer, where it was dialled.
+-- The VMAC that is wanted of the slot's peer, where it is claimed for one.
 abbrev pub wanted : List SlotCall → ℕ → Option Vmac
 wanted calls k = unwrap_or (newest_of (wanted_by k) calls) None
 

@@ -17,7 +17,7 @@ use Rattle.bsc_direct.specs.Kept.{says_claimed, says_wanted, says_peer, slot_at}
 -- What is kept of the slot k is what the calls say of it.
 pub record SlotStands (calls : List SlotCall) (k : ℕ) (s : Slot) : Type 0 where
   pub claimed : is_claimed calls k ≡ says_claimed s
-  pub wanted : says_claimed s ≡ true → wanted calls k ≡ says_wanted s
+  pub wanted : wanted calls k ≡ says_wanted s
   pub peer : established_peer calls k ≡ says_peer s
 
 -- no established slot has the broadcast VMAC

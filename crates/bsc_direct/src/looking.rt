@@ -3,7 +3,6 @@ ghost use Rattle.std.specs.Prelude.{◌≡◌, ◌<◌, ◌&&◌, List, IfOk, Is
 ghost use Rattle.bsc_direct.specs.declared.call.SlotCall.{SlotCall};
 ghost use Rattle.bsc_direct.specs.Slots.{establish, established_peer, free_slot, is_claimed, wanted};
 ghost use Rattle.bsc_direct.specs.Kept.{says_peer, says_wanted, slot_at};
-ghost use Rattle.bsc_direct.specs.Left.{IsHeld};
 ghost use Rattle.bsc_direct.specs.Standing.{IsOnlyClaimed, StandsFor};
 
 use crate::direct::Direct;
@@ -36,7 +35,7 @@ impl Direct {
 
     /// The VMAC that is wanted of the peer of a slot that is claimed, where one is.
     pub fn wanted(&self, slot: u32) -> Option<Vmac>
-        ensures { (calls : List SlotCall) → StandsFor self.now calls → IsHeld self.now slot → result ≡ wanted calls slot }
+        ensures { (calls : List SlotCall) → StandsFor self.now calls → result ≡ wanted calls slot }
     {
         self.slot(slot).wanted()
     }
@@ -60,8 +59,7 @@ impl Direct {
     /// What `establish` answers, with nothing established yet.
     pub fn establishes(&self, own: Vmac, slot: u32, peer: &Identity) -> Establish
         requires { slot < 64 }
-        ensures { (calls : List SlotCall) → StandsFor self.now calls → IsHeld self.now slot
-            → result ≡ establish own calls slot peer.now }
+        ensures { (calls : List SlotCall) → StandsFor self.now calls → result ≡ establish own calls slot peer.now }
     {
         self.answer(own, slot, peer)
     }

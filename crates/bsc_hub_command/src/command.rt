@@ -53,8 +53,8 @@ fn load<K: Sink, F: Files>(
         Err(FileFault::NoMemory) => return Err(out_of_memory(sink)),
     };
     match read_settings(alloc, text.as_slice()) {
-        Ok(settings) => match settings.hub {
-            Some(hub) => Ok(hub),
+        Ok(settings) => match &settings.hub {
+            Some(hub) => Ok(*hub),
             None => Err(refuse(alloc, sink, "hub")),
         },
         Err(SettingFault::NotToml) => Err(refuse(alloc, sink, "-")),

@@ -29,9 +29,10 @@ use Rattle.bsc_node.specs.declared.note.Note.TheVariants.{Uris, Advert as ToldAd
 use Rattle.bsc_node.specs.declared.action.Action.TheVariants.{Dial, Close, Draw, Take, Refuse}
 use Rattle.bsc_node.specs.Logs.{Made, Line, did, slot, accepting, Log, Rule, nothing, in_order, either, if_so, with_some, where_found, does, tells, now, next_id}
 use Rattle.bsc_node.specs.Links.{names, is_there, was_taken, start, accepting_events, by_machine, ticks, Outcome, puts, puts_and_closes, closes, meets, is_refused, passes_up, keeps_still, outcome}
-use Rattle.bsc_node.specs.Ways.{Way, way, wanted, next_uri, free_slot, established, learnt, uris_to_dial, establish, awaits, ask_refusal, slots_see, resolution_sees}
+use Rattle.bsc_node.specs.Hubs.{is_tried}
+use Rattle.bsc_node.specs.Ways.{Way, way, wanted, next_uri, free_slot, established, learnt, uris_to_dial, awaits_peer, establish, awaits, ask_refusal, slots_see, resolution_sees}
 use Rattle.bsc_node.specs.Ending.{carries_out, carries_out_by, tells_connector, tells_finished, ends, closes_link, finishes_link}
-use Rattle.bsc_node.specs.Meeting.{joins, refuses, finishes_replaced, comes_up, meets_dialled, meets_taken, meets_direct, meets_peer, wrong_peer, tells_refusal, may_draw, is_refused_by}
+use Rattle.bsc_node.specs.Meeting.{joins, refuses, finishes_replaced, comes_up, meets_dialled, meets_taken, meets_slot, meets_direct, meets_peer, wrong_peer, tells_refusal, may_draw, is_refused_by}
 use Rattle.bsc_node.specs.Receiving.{sender, is_for_all, answers, answers_by, learns, drops_question, takes_answer, of_sender, takes_body}
 use Rattle.bsc_node.specs.Requesting.{puts_own, by_path, asks_unless, resolves, solicits, dials_first, directs}
 use Rattle.bsc_node.specs.Events.{obeys_by, obeys, dial_fails, arrives, ticks_link, ticks_resolution, time_passes, is_to_end}
@@ -111,10 +112,13 @@ pass-meets test lets a k who e up L = by (was_taken (Direct k) L) refl
     by false h = pass-meets_dialled test lets a k who e up L
 
 pub pass-meets_direct : (test : Line → Bool) → LetsQuiet test → (a : Made) (k : ℕ) (who : Identity) → test (slot (Up k who)) ≡ true → Passes test (meets_direct a k who)
-pass-meets_direct test lets a k who up L = pass-meets test lets a k who (establish a k who L) up L
+pass-meets_direct test lets a k who up =
+    pass-either test (awaits_peer k) (meets_slot a k who) (closes_link a (Direct k) wrong_peer) (λ L. pass-meets test lets a k who (establish a k who L) up L)
+    (lets-rule test lets (closes_link a (Direct k) wrong_peer) (quiet-closes_link a (Direct k) wrong_peer))
 
 pub pass-meets_peer : (test : Line → Bool) → LetsQuiet test → ((k : ℕ) (who : Identity) → test (slot (Up k who)) ≡ true) → (a : Made) (name : LinkName) (who : Identity) → Passes test (meets_peer a name who)
-pass-meets_peer test lets up a (Hub s) who = lets-rule test lets (tells_connector a (ConnectorConnected s)) (quiet-tells_connector a (ConnectorConnected s))
+pass-meets_peer test lets up a (Hub s) who =
+    pass-when test (is_tried a s) (tells_connector a (ConnectorConnected s)) (lets-rule test lets (tells_connector a (ConnectorConnected s)) (quiet-tells_connector a (ConnectorConnected s)))
 pass-meets_peer test lets up a (Direct k) who = pass-meets_direct test lets a k who (up k who)
 
 -- ---- a refusal: all is quiet but that a word is drawn

@@ -31,6 +31,7 @@ use Rattle.bsc_node.specs.declared.delivered.Delivered.{Delivered}
 use Rattle.bsc_node.specs.declared.note.Note.TheVariants.{NoPath, TooLong}
 use Rattle.bsc_node.specs.Logs.{Made, Line, came, did, Log, nothing, either, does, tells, now}
 use Rattle.bsc_node.specs.Links.{begins, is_over_by, life, is_there, was_taken, by_machine, hears, verdict, Outcome, puts, puts_and_closes, closes, meets, is_refused, passes_up, keeps_still, outcome}
+use Rattle.bsc_node.specs.Hubs.{is_tried}
 use Rattle.bsc_node.specs.Ways.{way, slot_call_of, slot_calls, free_slot}
 use Rattle.bsc_node.specs.Ending.{carries_out_by, tells_connector, ends, closes_link}
 use Rattle.bsc_node.specs.Receiving.{sender, delivers, takes_body}
@@ -38,10 +39,10 @@ use Rattle.bsc_node.specs.Requesting.{own_message, puts_own, fits, sends}
 use Rattle.bsc_node.specs.Events.{obeys_by, obeys, follows}
 use Rattle.bsc_node.specs.Node.{goes_on, log}
 use Rattle.bsc_node.specs.Conditions.{has_opened, awaits_word, brings_word, fits as may_fit, may_come, Watched, may_all_come}
-use Rattle.bsc_node.specs.Soundness.{is_in_slots}
+use Rattle.bsc_node.specs.Soundness.{is_in_slots, begins_in_slots}
 use Rattle.bsc_node.specs.Laws.{with_event, delivery}
 use Rattle.bsc_node.proofs.Order.{in_order-brought}
-use Rattle.bsc_node.proofs.Passing.{Passes, both, pass-in_order, pass-either, pass-found, pass-nothing, pass-some}
+use Rattle.bsc_node.proofs.Passing.{Passes, both, pass-in_order, pass-either, pass-when, pass-found, pass-nothing, pass-some}
 use Rattle.bsc_node.proofs.Quiet.{is_quiet_action, quiet-tells_connector, quiet-ends, quiet-closes_link}
 use Rattle.bsc_node.proofs.Heard.{LetsQuiet, lets-rule, pass-two-then, pass-meets_peer, pass-is_refused_by, quiet-takes_body}
 use Rattle.bsc_node.proofs.Following.{pass-follows, opened-dialled, the_last, goes_on-is, and_left, and_right}
@@ -49,11 +50,6 @@ use Rattle.bsc_node.proofs.Slotting.{SlotsFine, ups_none, quiet_ups_none, fine-l
 use Rattle.bsc_node.proofs.Named.{met-unicast}
 
 -- ---- links begin only under the names of slots
-
-abbrev pub begins_in_slots : Line → Bool
-begins_in_slots (did (Dial (Direct k) uri)) = is_in_slots k
-begins_in_slots (did (Take (Direct k))) = is_in_slots k
-begins_in_slots m = true
 
 quiet_begins_by : (action : Action) → is_quiet_action action ≡ true → begins_in_slots (did action) ≡ true
 quiet_begins_by (Dial (Hub s) uri) h = refl
@@ -113,10 +109,10 @@ pub record Fine (L : Log) : Type 0 where
   pub slots : SlotsFine (slot_calls L)
   pub begun : list_all begins_in_slots L ≡ true
 
-there_in_slots : (L : Log) (k : ℕ) → Fine L → is_there (Direct k) L ≡ true → is_in_slots k ≡ true
+pub there_in_slots : (L : Log) (k : ℕ) → Fine L → is_there (Direct k) L ≡ true → is_in_slots k ≡ true
 there_in_slots L k f h = begun_slot L k f.begun (and_left (list_any (begins (Direct k)) L) (not (list_any (is_over_by (Direct k)) (life L (Direct k)))) h)
 
-event_fits : (L : Log) (e : TimedEvent) → IsTrue (may_come L e) → may_fit L e.event ≡ true
+pub event_fits : (L : Log) (e : TimedEvent) → IsTrue (may_come L e) → may_fit L e.event ≡ true
 event_fits L e h = the_last (nat_le (now L) e.now) (nat_lt e.now (2 ^ 62)) (if brings_word e.event then awaits_word L else not (awaits_word L)) (may_fit L e.event) h
 
 came_in_slots : (L : Log) (e : TimedEvent) (k : ℕ) (o : List ℕ) → Fine L → IsTrue (may_come L e) → e.event ≡ Came (Direct k) o → is_in_slots k ≡ true
@@ -170,7 +166,8 @@ pass-obeys_by test lets draw a name (puts_and_closes o closing) h =
     pass-in_order test (carries_out_by name (puts_and_closes o closing) ∷ ends a name ∷ [])
     (pass-in_order test (does (Put name o) ∷ does (Close name closing) ∷ []) (pass-puts test lets name o, (lets-rule test lets.quiet (does (Close name closing)) (λ L. refl), tt)), (lets-rule test lets.quiet (ends a name) (quiet-ends a name), tt))
 pass-obeys_by test lets draw a name (closes closing) h = lets-rule test lets.quiet (closes_link a name closing) (quiet-closes_link a name closing)
-pass-obeys_by test lets draw a (Hub s) (meets who) h = lets-rule test lets.quiet (tells_connector a (Connected s)) (quiet-tells_connector a (Connected s))
+pass-obeys_by test lets draw a (Hub s) (meets who) h =
+    pass-when test (is_tried a s) (tells_connector a (Connected s)) (lets-rule test lets.quiet (tells_connector a (Connected s)) (quiet-tells_connector a (Connected s)))
 pass-obeys_by test lets draw a (Direct k) (meets who) h = cc
 pass-obeys_by test lets draw a name (is_refused origin code) h = pass-is_refused_by test lets.quiet draw a name origin code
 pass-obeys_by test lets draw a name (passes_up msg) h = pass-takes_body test lets a name msg msg.body

@@ -22,11 +22,11 @@ use Rattle.bsc_node.specs.declared.link_name.LinkName.{LinkName}
 use Rattle.bsc_node.specs.declared.link_name.LinkName.TheVariants.{Direct}
 use Rattle.bsc_node.specs.declared.note.Note.TheVariants.{DirectUp}
 use Rattle.bsc_node.specs.declared.action.Action.TheVariants.{Put, Close}
-use Rattle.bsc_node.specs.Logs.{Made, Line, slot, Log, if_so, does, tells, own_vmac}
+use Rattle.bsc_node.specs.Logs.{Made, Line, slot, Log, nothing, if_so, does, tells, own_vmac}
 use Rattle.bsc_node.specs.Links.{was_taken, Outcome, puts, puts_and_closes, closes, meets, is_refused, passes_up, keeps_still, outcome}
-use Rattle.bsc_node.specs.Ways.{slot_call_of, slot_calls, establish, slots_see}
+use Rattle.bsc_node.specs.Ways.{slot_call_of, slot_calls, awaits_peer, establish, slots_see}
 use Rattle.bsc_node.specs.Ending.{carries_out, carries_out_by, closes_link}
-use Rattle.bsc_node.specs.Meeting.{joins, finishes_replaced, comes_up, meets_dialled, meets_taken, meets_direct, wrong_peer}
+use Rattle.bsc_node.specs.Meeting.{joins, finishes_replaced, comes_up, meets_dialled, meets_taken, meets_slot, meets_direct, wrong_peer}
 use Rattle.bsc_node.specs.Soundness.{is_in_slots}
 use Rattle.bsc_node.proofs.Order.{brought, in_order-brought}
 use Rattle.bsc_node.proofs.Passing.{pass-brought}
@@ -162,4 +162,8 @@ fine_met a k who N (WrongPeer v) true here unicast f h t = fine-lines (meets_tak
 fine_met a k who N (WrongPeer v) false here unicast f h t = fine-lines (closes_link a (Direct k) wrong_peer N) (slot_calls N) (lets-rule ups_none quiet_ups_none (closes_link a (Direct k) wrong_peer) (quiet-closes_link a (Direct k) wrong_peer) N) f
 
 pub fine-meets_direct : (a : Made) (k : ℕ) (who : Identity) (N : Log) → is_in_slots k ≡ true → same_vmac who.vmac broadcast ≡ false → SlotsFine (slot_calls N) → SlotsFine (slot_calls N ++ filter_map slot_call_of (meets_direct a k who N))
-fine-meets_direct a k who N here unicast f = fine_met a k who N (establish a k who N) (was_taken (Direct k) N) here unicast f refl refl
+fine-meets_direct a k who N here unicast f = by (awaits_peer k N)
+  where
+    by : (b : Bool) → SlotsFine (slot_calls N ++ filter_map slot_call_of (if_so b (meets_slot a k who) (closes_link a (Direct k) wrong_peer) N))
+    by true = fine_met a k who N (establish a k who N) (was_taken (Direct k) N) here unicast f refl refl
+    by false = fine-lines (closes_link a (Direct k) wrong_peer N) (slot_calls N) (lets-rule ups_none quiet_ups_none (closes_link a (Direct k) wrong_peer) (quiet-closes_link a (Direct k) wrong_peer) N) f

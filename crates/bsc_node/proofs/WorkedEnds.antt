@@ -14,9 +14,9 @@ use Rattle.bsc_node.specs.Soundness.{is_always_sound}
 use Rattle.std.specs.Prelude.{◌&&◌, codes, drop}
 use Rattle.bsc_node.specs.Making.{MayBeMade}
 use Rattle.bsc_octets.specs.Addresses.{same_vmac, zero_vmac, broadcast}
-use Rattle.bsc_verdict.proofs.Reflecting.{fails_of, one_address, text}
+use Rattle.bsc_verdict.proofs.Reflecting.{fails_of, one_address}
 use Rattle.bsc_node.proofs.OnLiterals.{node_on_literals}
-use Rattle.bsc_node.proofs.Scenes.{alone, peer, a, b, from, address, node, with_failover, primary_uri, failover_uri, plain, accept, primary, failover, direct, at, hears, puts, connects}
+use Rattle.bsc_node.proofs.Scenes.{alone, peer, a, b, from, address, node, with_failover, primary_uri, plain, accept, primary, failover, direct, at, hears, puts, connects}
 
 abbrev two_hubs : Made
 two_hubs = node with_failover

@@ -38,6 +38,10 @@ hub_use L = Sides.hub_use (hub_events L)
 abbrev pub is_up : Side → Log → Bool
 is_up s L = Sides.is_up s (hub_events L)
 
+-- Whether an attempt at the side is under way.
+abbrev pub is_tried : Made → Side → Log → Bool
+is_tried a s L = Sides.is_under_way (waits a) s (hub_events L)
+
 -- The hub that was in use before the connector was last told something.
 abbrev pub hub_use_before : Log → HubUse
 hub_use_before L = at_last (λ E e. Sides.hub_use E) NoHub (hub_events L)

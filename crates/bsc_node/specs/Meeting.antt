@@ -20,10 +20,10 @@ use Rattle.bsc_node.specs.declared.node_event.NodeEvent.{NodeEvent}
 use Rattle.bsc_node.specs.declared.node_event.NodeEvent.TheVariants.{Came, Random}
 use Rattle.bsc_node.specs.declared.note.Note.TheVariants.{DirectUp, Nak, Renewed, NoRandom}
 use Rattle.bsc_node.specs.declared.action.Action.TheVariants.{Close, Draw}
-use Rattle.bsc_node.specs.Logs.{Made, Line, came, connector, accepting, Log, Rule, nothing, in_order, either, where_found, does, tells, own_vmac, is_finishing}
+use Rattle.bsc_node.specs.Logs.{Made, Line, came, connector, accepting, Log, Rule, nothing, in_order, either, when, where_found, does, tells, own_vmac, is_finishing}
 use Rattle.bsc_node.specs.Links.{none_there, was_taken}
-use Rattle.bsc_node.specs.Hubs.{is_connected_event}
-use Rattle.bsc_node.specs.Ways.{wanted, establish, slots_see}
+use Rattle.bsc_node.specs.Hubs.{is_tried, is_connected_event}
+use Rattle.bsc_node.specs.Ways.{wanted, awaits_peer, establish, slots_see}
 use Rattle.bsc_node.specs.Ending.{carries_out, tells_connector, ends, closes_link, finishes_link}
 
 -- ---- direct connections
@@ -60,12 +60,16 @@ abbrev pub meets_taken : Made → ℕ → Identity → Establish → Rule
 meets_taken a k who (IsUp replaced) = in_order (joins (Direct k) ∷ carries_out a (Direct k) ∷ comes_up a k who replaced ∷ [])
 meets_taken a k who otherwise = in_order (refuses (Direct k) ∷ carries_out a (Direct k) ∷ ends a (Direct k) ∷ [])
 
-abbrev pub meets_direct : Made → ℕ → Identity → Rule
-meets_direct a k who L = either (was_taken (Direct k)) (meets_taken a k who (establish a k who L)) (meets_dialled a k who (establish a k who L)) L
+abbrev pub meets_slot : Made → ℕ → Identity → Rule
+meets_slot a k who L = either (was_taken (Direct k)) (meets_taken a k who (establish a k who L)) (meets_dialled a k who (establish a k who L)) L
 
--- The peer of a link has named itself: a hub is connected, a direct connection is established or not.
+-- The peer of a direct connection has named itself. Where its slot doesn't wait for it the link is closed.
+abbrev pub meets_direct : Made → ℕ → Identity → Rule
+meets_direct a k who = either (awaits_peer k) (meets_slot a k who) (closes_link a (Direct k) wrong_peer)
+
+-- The peer of a link has named itself: a hub that is tried is connected, a direct connection is established or not.
 abbrev pub meets_peer : Made → LinkName → Identity → Rule
-meets_peer a (Hub s) who = tells_connector a (Connected s)
+meets_peer a (Hub s) who = when (is_tried a s) (tells_connector a (Connected s))
 meets_peer a (Direct k) who = meets_direct a k who
 
 -- ---- refusals

@@ -30,7 +30,7 @@ use Rattle.bsc_node.specs.declared.action.Action.{Action}
 use Rattle.bsc_node.specs.declared.action.Action.TheVariants.{Dial, Take, Put, Tell}
 use Rattle.bsc_node.specs.Logs.{Made, Line, did, Log, action_of, is_response, is_finishing}
 use Rattle.bsc_node.specs.Links.{names, is_there, none_there, was_taken, phase, peer, Outcome, puts_and_closes, closes, meets, is_refused, outcome}
-use Rattle.bsc_node.specs.Hubs.{waits, hub_events, hub_use, is_up, is_dropped, same_use}
+use Rattle.bsc_node.specs.Hubs.{waits, hub_events, hub_use, is_up, is_tried, is_dropped, same_use}
 use Rattle.bsc_node.specs.Ways.{slot_calls, established_peer, wanted}
 use Rattle.bsc_node.specs.Meeting.{refusing_side}
 use Rattle.bsc_node.specs.Node.{goes_on, log}
@@ -92,10 +92,6 @@ is_met phase = false
 abbrev pub has_side : Side → Log → Bool
 has_side s L = is_there (Hub s) L && not (is_dropped s L)
 
--- whether the connector holds that an attempt at the side is under way
-abbrev pub is_tried_now : Made → Side → Log → Bool
-is_tried_now a s L = is_under_way (waits a) s (hub_events L)
-
 -- whether this is the side whose refusal the awaited word answers
 abbrev pub is_refused_side : Side → Log → Bool
 is_refused_side s L = by (refusing_side L)
@@ -116,8 +112,8 @@ side_is_up_with_its_link s L = same (is_up s L) (has_side s L && is_met (phase L
 -- word; once the node is to end it needs no link.
 abbrev pub side_is_tried_with_its_link : Made → Side → Log → Bool
 side_is_tried_with_its_link a s L =
-    implies ((has_side s L && not (is_met (phase L (Hub s)))) || awaits_its_word s L) (is_tried_now a s L)
-    && implies (is_tried_now a s L && not (is_finishing L)) (has_side s L || awaits_its_word s L)
+    implies ((has_side s L && not (is_met (phase L (Hub s)))) || awaits_its_word s L) (is_tried a s L)
+    && implies (is_tried a s L && not (is_finishing L)) (has_side s L || awaits_its_word s L)
 
 -- The link of a dropped failover is in DISCONNECTING: before that it was closed.
 abbrev pub dropped_is_disconnecting : Log → Bool
@@ -223,6 +219,12 @@ begins_well action = true
 -- Links begin only under the names of the two sides and of the slots, and no hub's link is taken.
 abbrev pub links_begin_well : Log → Bool
 links_begin_well L = list_all begins_well (filter_map action_of L)
+
+-- whether a line begins no link, or that of a hub or of a slot
+abbrev pub begins_in_slots : Line → Bool
+begins_in_slots (did (Dial (Direct k) uri)) = is_in_slots k
+begins_in_slots (did (Take (Direct k))) = is_in_slots k
+begins_in_slots m = true
 
 -- whether no two elements agree
 abbrev pub apart : {A : Type 0} → (A → A → Bool) → List A → Bool

@@ -1,5 +1,5 @@
 -- Direct connections, learnt URIs, and the way of a message that the node sends.
-use Rattle.std.specs.Prelude.{ℕ, ◌==◌, nat_eq, Bool, false, if◌then◌else◌, List, [], ◌∷◌, filter, filter_map, count_by, slice_get, Option, Some, None}
+use Rattle.std.specs.Prelude.{ℕ, ◌==◌, nat_eq, Bool, false, ◌&&◌, if◌then◌else◌, List, [], ◌∷◌, filter, filter_map, count_by, slice_get, Option, Some, None, is_none}
 use Rattle.std.specs.List.{starts_with}
 use Rattle.std.specs.Option.{option_map, option_and_then}
 use Rattle.bsc_octets.specs.declared.vmac.Vmac.{Vmac}
@@ -46,6 +46,10 @@ wanted k L = Slots.wanted (slot_calls L) k
 -- The peer with which the slot is established.
 abbrev pub established_peer : ℕ → Log → Option Identity
 established_peer k L = Slots.established_peer (slot_calls L) k
+
+-- Whether the slot waits for its peer: it is claimed and not established.
+abbrev pub awaits_peer : ℕ → Log → Bool
+awaits_peer k L = Slots.is_claimed (slot_calls L) k && is_none (established_peer k L)
 
 -- The slot that is established for v.
 abbrev pub established : Vmac → Log → Option ℕ

@@ -71,7 +71,7 @@ both-told b out s r r' L call stands both =
         connector = subst (λ E. ConnectorStands s.connector (waits b.made) E) (sym (hub_events-kept L m refl)) h.connector;
         direct = subst (λ E. DirectStands s.direct E) (sym (slot_calls-kept L m refl)) h.direct;
         asked = refl;
-        links = λ name n. link-kept b.made L m name (link_at s.links name) refl refl refl refl (h.links name n);
+        links = λ name n. link-kept b.made b.busy L m name (link_at s.links name) refl refl refl refl (h.links name n);
         tries = λ k w. ap (λ c. min c 18446744073709551615) (tries-kept k L m refl refl) ∙ h.tries k w;
         actions = came-other (asked_by (L ++ m ∷ []) b) out L m refl (same-came b (resolve_calls L) (resolve_calls (L ++ m ∷ [])) out L h.actions);
       };

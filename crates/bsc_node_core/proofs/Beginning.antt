@@ -1,5 +1,5 @@
 -- What a node keeps goes on standing for its log, where a link begins.
-use Rattle.std.proofs.Common.{◌≡◌, ℕ, ◌+◌, ◌<◌, Bool, true, false, not, cond, ◌&&◌, ◌||◌, List, [], ◌∷◌, ◌++◌, length, take, Option, Some, None, unwrap_or, refl, ap, sym, ◌∙◌, subst, arith, length-append}
+use Rattle.std.proofs.Common.{◌≡◌, ℕ, ◌+◌, Bool, true, false, not, cond, ◌&&◌, ◌||◌, List, [], ◌∷◌, ◌++◌, length, take, Option, Some, None, unwrap_or, refl, ap, sym, ◌∙◌, subst, arith, length-append}
 use Rattle.std.specs.Prelude.{◌-◌, min, count_by, filter_map, is_some}
 use Rattle.std.specs.List.{list_any}
 use Rattle.std.specs.Option.{option_or}
@@ -23,10 +23,11 @@ use Rattle.bsc_node.specs.declared.link_name.LinkName.{LinkName}
 use Rattle.bsc_node.specs.declared.link_name.LinkName.TheVariants.{Hub, Direct}
 use Rattle.bsc_node.specs.declared.action.Action.{Action}
 use Rattle.bsc_node.specs.declared.action.Action.TheVariants.{Dial, Take}
-use Rattle.bsc_node.specs.Logs.{Made, Line, did, Log, now, own, is_numbered}
+use Rattle.bsc_node.specs.Logs.{Made, did, Log, now, own, is_numbered}
 use Rattle.bsc_node.specs.Links.{beginning_of, begins, begins_by, is_over_by, same_link, life, is_there, was_taken, start, initiating_event, accepting_event, initiating_events, accepting_events, who_accepted, who_asked, peer}
 use Rattle.bsc_node.specs.Hubs.{waits, hub_events, is_dropped}
-use Rattle.bsc_node.specs.Ways.{slot_calls, is_claim_of, tries}
+use Rattle.bsc_node.specs.Meeting.{is_hub}
+use Rattle.bsc_node.specs.Ways.{is_claim_of, tries}
 use Rattle.bsc_node.proofs.Told.{same_link-self}
 use Rattle.bsc_node_core.specs.declared.machine.Machine.{Machine}
 use Rattle.bsc_node_core.specs.declared.machine.Machine.TheVariants.{Dialled, Taken}
@@ -66,7 +67,7 @@ until-begun test xs x h =
 
 -- ---- the link that begins
 
-module _ (a : Made) (L : Log) (name : LinkName) (taken : Bool) (action : Action) (g : Begins name taken action) where
+module _ (a : Made) (busy : Option LinkName) (L : Log) (name : LinkName) (taken : Bool) (action : Action) (g : Begins name taken action) where
   began : begins name (did action) ≡ true
   began = ap is_some (here name taken action g)
 
@@ -93,29 +94,29 @@ module _ (a : Made) (L : Log) (name : LinkName) (taken : Bool) (action : Action)
   peer-begun : peer (L ++ did action ∷ []) name ≡ None
   peer-begun = ap (λ es. option_or (who_accepted es) (who_asked (accepting_events (L ++ did action ∷ []) name))) initiating-begun ∙ ap who_asked accepting-begun
 
-  pub dialled-begun : (m : Initiating) → taken ≡ false → InitiatingStands m (record { own = own a L; times = a.limits.times; at = now L }) [] → MachineStands a (L ++ did action ∷ []) name (Dialled m)
-  dialled-begun m f h = record { dialled = taken-begun ∙ f; alone = accepting-begun; machine = rw (start-begun, initiating-begun) h }
+  pub dialled-begun : (m : Initiating) → taken ≡ false → InitiatingStands m (record { own = own a L; times = a.limits.times; at = now L }) [] → MachineStands a busy (L ++ did action ∷ []) name (Dialled m)
+  dialled-begun m f h = record { dialled = taken-begun ∙ f; alone = accepting-begun; machine = rw (start-begun, initiating-begun) h; accept = rw initiating-begun (refl, λ id. refl) }
 
-  pub taken-machine-begun : (m : Accepting) → taken ≡ true → AcceptingStands m (record { own = own a L; times = a.limits.times; at = now L }) [] → MachineStands a (L ++ did action ∷ []) name (Taken m)
-  taken-machine-begun m f h = record { taken = taken-begun ∙ f; alone = initiating-begun; machine = rw (start-begun, accepting-begun) h }
+  pub taken-machine-begun : (m : Accepting) → is_hub name ≡ false → taken ≡ true → AcceptingStands m (record { own = own a L; times = a.limits.times; at = now L }) [] → MachineStands a busy (L ++ did action ∷ []) name (Taken m)
+  taken-machine-begun m s f h = record { slot = s; taken = taken-begun ∙ f; alone = initiating-begun; machine = rw (start-begun, accepting-begun) h; ask = rw accepting-begun refl }
 
-  link-begun : (machine : Machine) (l : Kept) → says_there machine ≡ true → MachineStands a (L ++ did action ∷ []) name machine → LinkStands a (L ++ did action ∷ []) name (begun machine l)
+  link-begun : (machine : Machine) (l : Kept) → says_there machine ≡ true → MachineStands a busy (L ++ did action ∷ []) name machine → LinkStands a busy (L ++ did action ∷ []) name (begun machine l)
   link-begun machine l t h = record { there = there-begun ∙ sym t; machine = h; peer = peer-begun }
 
-  pub links-begun : (old new : Links) (machine : Machine) → Sets old new name (begun machine (link_at old name)) → says_there machine ≡ true → MachineStands a (L ++ did action ∷ []) name machine
-      → ((other : LinkName) → is_name other ≡ true → LinkStands a L other (link_at old other))
-      → (other : LinkName) → is_name other ≡ true → LinkStands a (L ++ did action ∷ []) other (link_at new other)
+  pub links-begun : (old new : Links) (machine : Machine) → Sets old new name (begun machine (link_at old name)) → says_there machine ≡ true → MachineStands a busy (L ++ did action ∷ []) name machine
+      → ((other : LinkName) → is_name other ≡ true → LinkStands a busy L other (link_at old other))
+      → (other : LinkName) → is_name other ≡ true → LinkStands a busy (L ++ did action ∷ []) other (link_at new other)
   links-begun old new machine sets t m h other n = by (same_link name other) refl
     where
-      by : (b : Bool) → same_link name other ≡ b → LinkStands a (L ++ did action ∷ []) other (link_at new other)
+      by : (b : Bool) → same_link name other ≡ b → LinkStands a busy (L ++ did action ∷ []) other (link_at new other)
       by true e =
           let is = same_link-is name other e in
           let l : link_at new other ≡ begun machine (link_at old name) = sets other ∙ ap (λ b. cond (b && is_name name) (begun machine (link_at old name)) (link_at old other)) e
           ∙ ap (λ b. cond b (begun machine (link_at old name)) (link_at old other)) (ap is_name is ∙ n) in
-          subst (λ (x : Kept). LinkStands a (L ++ did action ∷ []) other x) (sym l) (subst (λ (x : LinkName). LinkStands a (L ++ did action ∷ []) x (begun machine (link_at old name))) is (link-begun machine (link_at old name) t m))
+          subst (λ (x : Kept). LinkStands a busy (L ++ did action ∷ []) other x) (sym l) (subst (λ (x : LinkName). LinkStands a busy (L ++ did action ∷ []) x (begun machine (link_at old name))) is (link-begun machine (link_at old name) t m))
       by false e =
           let l : link_at new other ≡ link_at old other = sets other ∙ ap (λ b. cond (b && is_name name) (begun machine (link_at old name)) (link_at old other)) e in
-          subst (λ (x : Kept). LinkStands a (L ++ did action ∷ []) other x) (sym l) (link-kept a L (did action) other (link_at old other) (there name other taken action g e) (g.over other) refl refl (h other n))
+          subst (λ (x : Kept). LinkStands a busy (L ++ did action ∷ []) other x) (sym l) (link-kept a busy L (did action) other (link_at old other) (there name other taken action g e) (g.over other) refl refl (h other n))
 
   -- ---- how often a slot began
 
@@ -157,7 +158,7 @@ module _ (a : Made) (L : Log) (name : LinkName) (taken : Bool) (action : Action)
 
 -- A link begins.
 pub begin-stands : (b : Base) (out : List Action) (s : State) (L : Log) (name : LinkName) (taken : Bool) (action : Action) (machine : Machine) (ls : Links) → Begins name taken action
-    → Sets s.links ls name (begun machine (link_at s.links name)) → says_there machine ≡ true → MachineStands b.made (L ++ did action ∷ []) name machine
+    → Sets s.links ls name (begun machine (link_at s.links name)) → says_there machine ≡ true → MachineStands b.made b.busy (L ++ did action ∷ []) name machine
     → Stands b out s L → Stands b (out ++ action ∷ []) (record s { links = ls; dropped = cond (same_link name (Hub Failover)) false s.dropped }) (L ++ did action ∷ [])
 begin-stands b out s L name taken action machine ls g sets t m h = record {
   now = now-kept L (did action) refl ∙ h.now;
@@ -166,12 +167,12 @@ begin-stands b out s L name taken action machine ls g sets t m h = record {
   finishing = finishing-kept L (did action) refl ∙ h.finishing;
   renewals = ap (λ k. min 8 k) (renewals-kept L (did action) refl refl) ∙ h.renewals;
   newest_hub = refusing-kept L (did action) refl ∙ h.newest_hub;
-  dropped = dropped-begun b.made L name taken action g s.dropped h.dropped;
+  dropped = dropped-begun b.made b.busy L name taken action g s.dropped h.dropped;
   connector = subst (λ E. ConnectorStands s.connector (waits b.made) E) (sym (hub_events-kept L (did action) refl)) h.connector;
   direct = subst (λ E. DirectStands s.direct E) (sym (slot_calls-kept L (did action) refl)) h.direct;
   asked = resolve_calls-kept L (did action) refl ∙ h.asked;
-  links = links-begun b.made L name taken action g s.links ls machine sets t m h.links;
-  tries = λ k w. tries-begun b.made L name taken action g s.links ls machine k (lt-ltb k 64 w) sets (h.tries k w);
+  links = links-begun b.made b.busy L name taken action g s.links ls machine sets t m h.links;
+  tries = λ k w. tries-begun b.made b.busy L name taken action g s.links ls machine k (lt-ltb k 64 w) sets (h.tries k w);
   actions = came-did b out L action h.actions;
 }
 
@@ -197,7 +198,7 @@ dial-stands b out later s L times at name uri m ls d o sets de stands t n h =
     subst (λ os. Stands b os (record s { links = ls; dropped = d }) (L ++ did (Dial name uri) ∷ [])) (sym o)
     (subst (λ (x : Bool). Stands b (out ++ Dial name uri ∷ []) (record s { links = ls; dropped = x }) (L ++ did (Dial name uri) ∷ [])) (sym de)
     (begin-stands b out s L name false (Dial name uri) (Dialled m) ls (dials name uri) sets refl
-    (dialled-begun b.made L name false (Dial name uri) (dials name uri) m refl (subst (λ (x : Start). InitiatingStands m x []) (start-is b out s L times at t n h) stands)) h))
+    (dialled-begun b.made b.busy L name false (Dial name uri) (dials name uri) m refl (subst (λ (x : Start). InitiatingStands m x []) (start-is b out s L times at t n h) stands)) h))
 
 -- A link that arrived is taken for a slot.
 pub take-stands : (b : Base) (out later : List Action) (s : State) (L : Log) (times : Times) (at k : ℕ) (m : Accepting) (ls : Links) → later ≡ out ++ Take (Direct k) ∷ []
@@ -206,4 +207,4 @@ pub take-stands : (b : Base) (out later : List Action) (s : State) (L : Log) (ti
 take-stands b out later s L times at k m ls o sets stands t n h =
     subst (λ os. Stands b os (record s { links = ls }) (L ++ did (Take (Direct k)) ∷ [])) (sym o)
     (begin-stands b out s L (Direct k) true (Take (Direct k)) (Taken m) ls (takes (Direct k)) sets refl
-    (taken-machine-begun b.made L (Direct k) true (Take (Direct k)) (takes (Direct k)) m refl (subst (λ (x : Start). AcceptingStands m x []) (start-is b out s L times at t n h) stands)) h)
+    (taken-machine-begun b.made b.busy L (Direct k) true (Take (Direct k)) (takes (Direct k)) m refl refl (subst (λ (x : Start). AcceptingStands m x []) (start-is b out s L times at t n h) stands)) h)

@@ -15,7 +15,7 @@ use Rattle.bsc_node.specs.declared.link_name.LinkName.TheVariants.{Direct}
 use Rattle.bsc_node.specs.declared.note.Note.TheVariants.{DirectDown}
 use Rattle.bsc_node.specs.declared.action.Action.{Action}
 use Rattle.bsc_node.specs.declared.action.Action.TheVariants.{Take, Refuse, Tell}
-use Rattle.bsc_node.specs.Logs.{Line, slot, did, Log, in_order, does}
+use Rattle.bsc_node.specs.Logs.{slot, did, Log, in_order, does}
 use Rattle.bsc_node.specs.Links.{begins, same_link}
 use Rattle.bsc_node.specs.Hubs.{waits}
 use Rattle.bsc_node.specs.Ways.{slot_call_of, slot_calls, is_claim_of, tries, free_slot, established_peer, slots_see}
@@ -28,29 +28,29 @@ use Rattle.std.proofs.lemmas.List.{append-nil}
 use Rattle.bsc_node_core.specs.Rules.{tells_down}
 use Rattle.bsc_node_core.specs.Standing.{Base, LinkStands, Stands}
 use Rattle.bsc_node_core.proofs.More.{now-kept, own-kept, next-kept, finishing-kept, renewals-kept, refusing-kept, hub_events-kept, resolve_calls-kept, dropped-kept, tries-kept, since-now, filter-one_more}
-use Rattle.bsc_node_core.proofs.Lines.{link-kept, came-other, IsQuiet, quiet-stands}
+use Rattle.bsc_node_core.proofs.Lines.{link-kept, came-other, quiet-stands}
 use Rattle.bsc_node_core.proofs.Closing.{same_link-is}
 use Rattle.bsc_node_core.proofs.Together.{first-then, none-left}
 
-same_kept : (b : Base) (L : Log) (name : LinkName) (l : Kept) → LinkStands b.made L name l → LinkStands b.made L name (claimed l)
+same_kept : (b : Base) (L : Log) (name : LinkName) (l : Kept) → LinkStands b.made b.busy L name l → LinkStands b.made b.busy L name (claimed l)
 same_kept b L name l h = record { there = h.there; machine = h.machine; peer = h.peer }
 
-links-claimed : (b : Base) (old new : Links) (L : Log) (k : ℕ) (v : Option Vmac) → Sets old new (Direct k) (claimed (link_at old (Direct k))) → ((other : LinkName) → is_name other ≡ true → LinkStands b.made L other (link_at old other))
-    → (other : LinkName) → is_name other ≡ true → LinkStands b.made (L ++ slot (Claim k v) ∷ []) other (link_at new other)
+links-claimed : (b : Base) (old new : Links) (L : Log) (k : ℕ) (v : Option Vmac) → Sets old new (Direct k) (claimed (link_at old (Direct k))) → ((other : LinkName) → is_name other ≡ true → LinkStands b.made b.busy L other (link_at old other))
+    → (other : LinkName) → is_name other ≡ true → LinkStands b.made b.busy (L ++ slot (Claim k v) ∷ []) other (link_at new other)
 links-claimed b old new L k v sets h other n = by (same_link (Direct k) other) refl
   where
-    kept : LinkStands b.made (L ++ slot (Claim k v) ∷ []) other (link_at old other)
-    kept = link-kept b.made L (slot (Claim k v)) other (link_at old other) refl refl refl refl (h other n)
+    kept : LinkStands b.made b.busy (L ++ slot (Claim k v) ∷ []) other (link_at old other)
+    kept = link-kept b.made b.busy L (slot (Claim k v)) other (link_at old other) refl refl refl refl (h other n)
 
-    by : (c : Bool) → same_link (Direct k) other ≡ c → LinkStands b.made (L ++ slot (Claim k v) ∷ []) other (link_at new other)
+    by : (c : Bool) → same_link (Direct k) other ≡ c → LinkStands b.made b.busy (L ++ slot (Claim k v) ∷ []) other (link_at new other)
     by true e =
         let is = same_link-is (Direct k) other e in
         let l : link_at new other ≡ claimed (link_at old other) = sets other ∙ ap (λ c. cond (c && is_name (Direct k)) (claimed (link_at old (Direct k))) (link_at old other)) e
         ∙ ap (λ c. cond c (claimed (link_at old (Direct k))) (link_at old other)) (ap is_name is ∙ n) ∙ ap (λ x. claimed (link_at old x)) is in
-        subst (λ (x : Kept). LinkStands b.made (L ++ slot (Claim k v) ∷ []) other x) (sym l) (same_kept b (L ++ slot (Claim k v) ∷ []) other (link_at old other) kept)
+        subst (λ (x : Kept). LinkStands b.made b.busy (L ++ slot (Claim k v) ∷ []) other x) (sym l) (same_kept b (L ++ slot (Claim k v) ∷ []) other (link_at old other) kept)
     by false e =
         let l : link_at new other ≡ link_at old other = sets other ∙ ap (λ c. cond (c && is_name (Direct k)) (claimed (link_at old (Direct k))) (link_at old other)) e in
-        subst (λ (x : Kept). LinkStands b.made (L ++ slot (Claim k v) ∷ []) other x) (sym l) kept
+        subst (λ (x : Kept). LinkStands b.made b.busy (L ++ slot (Claim k v) ∷ []) other x) (sym l) kept
 
 tries-claimed : (old new : Links) (L : Log) (k j : ℕ) (v : Option Vmac) → j < 64 → Sets old new (Direct k) (claimed (link_at old (Direct k))) → min (tries j L) 18446744073709551615 ≡ (link_at old (Direct j)).tries
     → min (tries j (L ++ slot (Claim k v) ∷ [])) 18446744073709551615 ≡ (link_at new (Direct j)).tries

@@ -1,8 +1,7 @@
 -- What a node keeps goes on standing for its log, where a link is closed or begins.
-use Rattle.std.proofs.Common.{◌≡◌, ℕ, ◌+◌, ◌<◌, Bool, true, false, not, cond, ◌&&◌, ◌||◌, List, [], ◌∷◌, ◌++◌, Option, Some, None, refl, ap, sym, ◌∙◌, subst}
-use Rattle.std.specs.Prelude.{⊤, ◌==◌, min, is_some}
+use Rattle.std.proofs.Common.{◌≡◌, ℕ, Bool, true, false, not, cond, ◌&&◌, ◌||◌, List, [], ◌∷◌, ◌++◌, Option, refl, ap, sym, ◌∙◌, subst}
+use Rattle.std.specs.Prelude.{min}
 use Rattle.std.specs.List.{list_any}
-use Rattle.std.specs.Option.{option_or}
 use Rattle.std.proofs.lemmas.Bool.{eqb-true, false≢true}
 use Rattle.bsc_connector.specs.declared.side.Side.TheVariants.{Primary, Failover}
 use Rattle.bsc_connector.specs.Standing.{StandsFor as ConnectorStands}
@@ -14,10 +13,9 @@ use Rattle.bsc_node.specs.declared.link_name.LinkName.TheVariants.{Hub, Direct}
 use Rattle.bsc_node.specs.declared.action.Action.TheVariants.{Close}
 use Rattle.bsc_node.specs.declared.action.Action.{Action}
 use Rattle.bsc_node.specs.Logs.{Made, Line, did, Log}
-use Rattle.bsc_node.specs.Links.{begins, is_over_by, same_link, life, is_there, peer}
-use Rattle.bsc_node.specs.Hubs.{waits, hub_events}
-use Rattle.bsc_node.specs.Ways.{slot_calls, tries}
-use Rattle.bsc_node.proofs.Told.{life-more, same_link-self}
+use Rattle.bsc_node.specs.Links.{begins, is_over_by, same_link, life, is_there}
+use Rattle.bsc_node.specs.Hubs.{waits}
+use Rattle.bsc_node.proofs.Told.{life-more}
 use Rattle.bsc_node_core.specs.declared.machine.Machine.TheVariants.{Gone}
 use Rattle.bsc_node_core.specs.declared.links.Links.{Links}
 use Rattle.bsc_node_core.specs.declared.state.State.{State}
@@ -48,29 +46,29 @@ there-over name L m h g =
     ∙ and_none (list_any (begins name) (L ++ m ∷ [])) (list_any (is_over_by name) (life L name))
 
 -- The links, where one is closed.
-closed-link : (a : Made) (old new : Links) (L : Log) (name : LinkName) (closing : Closing) → Sets old new name (with_machine Gone (link_at old name))
-    → ((other : LinkName) → is_name other ≡ true → LinkStands a L other (link_at old other))
-    → (other : LinkName) → is_name other ≡ true → LinkStands a (L ++ did (Close name closing) ∷ []) other (link_at new other)
-closed-link a old new L name closing sets h other n = by (same_link name other) refl
+closed-link : (a : Made) (busy : Option LinkName) (old new : Links) (L : Log) (name : LinkName) (closing : Closing) → Sets old new name (with_machine Gone (link_at old name))
+    → ((other : LinkName) → is_name other ≡ true → LinkStands a busy L other (link_at old other))
+    → (other : LinkName) → is_name other ≡ true → LinkStands a busy (L ++ did (Close name closing) ∷ []) other (link_at new other)
+closed-link a busy old new L name closing sets h other n = by (same_link name other) refl
   where
     m : Line
     m = did (Close name closing)
 
-    by : (b : Bool) → same_link name other ≡ b → LinkStands a (L ++ did (Close name closing) ∷ []) other (link_at new other)
+    by : (b : Bool) → same_link name other ≡ b → LinkStands a busy (L ++ did (Close name closing) ∷ []) other (link_at new other)
     by true e =
         let is = same_link-is name other e in
         let l : link_at new other ≡ with_machine Gone (link_at old other) = sets other ∙ ap (λ b. cond (b && is_name name) (with_machine Gone (link_at old name)) (link_at old other)) e
         ∙ ap (λ b. cond b (with_machine Gone (link_at old name)) (link_at old other)) (ap is_name is ∙ n) ∙ ap (λ x. with_machine Gone (link_at old x)) is in
-        subst (λ (x : Kept). LinkStands a (L ++ did (Close name closing) ∷ []) other x) (sym l) (record {
+        subst (λ (x : Kept). LinkStands a busy (L ++ did (Close name closing) ∷ []) other x) (sym l) (record {
           there = there-over other L (did (Close name closing)) refl e;
           machine = tt;
           peer = peer-kept L (did (Close name closing)) other refl refl refl ∙ (h other n).peer;
         })
     by false e =
         let l : link_at new other ≡ link_at old other = sets other ∙ ap (λ b. cond (b && is_name name) (with_machine Gone (link_at old name)) (link_at old other)) e in
-        subst (λ (x : Kept). LinkStands a (L ++ did (Close name closing) ∷ []) other x) (sym l) (link-kept a L (did (Close name closing)) other (link_at old other) refl e refl refl (h other n))
+        subst (λ (x : Kept). LinkStands a busy (L ++ did (Close name closing) ∷ []) other x) (sym l) (link-kept a busy L (did (Close name closing)) other (link_at old other) refl e refl refl (h other n))
 
-tries-closed : (old new : Links) (name : LinkName) (k : ℕ) → Sets old new name (with_machine Gone (link_at old name)) → (link_at new (Direct k)).tries ≡ (link_at old (Direct k)).tries
+pub tries-closed : (old new : Links) (name : LinkName) (k : ℕ) → Sets old new name (with_machine Gone (link_at old name)) → (link_at new (Direct k)).tries ≡ (link_at old (Direct k)).tries
 tries-closed old new name k sets = by (same_link name (Direct k)) (is_name name) refl
   where
     by : (b c : Bool) → same_link name (Direct k) ≡ b → (link_at new (Direct k)).tries ≡ (link_at old (Direct k)).tries
@@ -94,7 +92,7 @@ close-stands b out s L name closing ls sets h = record {
   connector = subst (λ E. ConnectorStands s.connector (waits b.made) E) (sym (hub_events-kept L (did (Close name closing)) refl)) h.connector;
   direct = subst (λ E. DirectStands s.direct E) (sym (slot_calls-kept L (did (Close name closing)) refl)) h.direct;
   asked = resolve_calls-kept L (did (Close name closing)) refl ∙ h.asked;
-  links = closed-link b.made s.links ls L name closing sets h.links;
+  links = closed-link b.made b.busy s.links ls L name closing sets h.links;
   tries = λ k w. ap (λ c. min c 18446744073709551615) (tries-kept k L (did (Close name closing)) refl refl) ∙ h.tries k w ∙ sym (tries-closed s.links ls name k sets);
   actions = came-did b out L (Close name closing) h.actions;
 }

@@ -42,7 +42,7 @@ copy-stands b out s L ls d p f i j h = record {
   connector = h.connector;
   direct = same-slots s.direct d _ j h.direct;
   asked = h.asked;
-  links = λ name n. subst (λ (x : Kept). LinkStands b.made L name x) (same-links s.links ls p f i name) (h.links name n);
+  links = λ name n. subst (λ (x : Kept). LinkStands b.made b.busy L name x) (same-links s.links ls p f i name) (h.links name n);
   tries = λ k w. h.tries k w ∙ ap (λ (x : Kept). x.tries) (same-links s.links ls p f i (Direct k));
   actions = h.actions;
 }

@@ -1,5 +1,5 @@
 -- The failover is dialled, and the link of a dropped one closed first.
-use Rattle.std.proofs.Common.{◌≡◌, ℕ, Bool, true, false, List, [], ◌∷◌, ◌++◌, refl, ap, sym, ◌∙◌, subst}
+use Rattle.std.proofs.Common.{◌≡◌, ℕ, Bool, true, false, List, [], ◌∷◌, ◌++◌, ap, sym, subst}
 use Rattle.std.proofs.lemmas.List.{append-nil}
 use Rattle.bsc_accept.specs.Steps.{normal}
 use Rattle.bsc_connector.specs.declared.side.Side.TheVariants.{Failover}

@@ -1,21 +1,18 @@
 -- What a node keeps goes on standing for its log, at one line more.
-use Rattle.std.proofs.Common.{◌≡◌, ℕ, ◌+◌, ◌<◌, Bool, true, false, not, cond, ◌&&◌, ◌||◌, List, [], ◌∷◌, ◌++◌, Option, Some, None, refl, ap, sym, ◌∙◌, subst, arith, append_assoc}
-use Rattle.std.specs.Prelude.{⊤, ◌%◌, min, filter_map, count_by, is_some}
+use Rattle.std.proofs.Common.{◌≡◌, ℕ, ◌+◌, Bool, true, false, not, cond, ◌||◌, List, [], ◌∷◌, ◌++◌, Option, None, refl, ap, sym, ◌∙◌, subst, append_assoc}
+use Rattle.std.specs.Prelude.{◌%◌, min, count_by, is_some}
 use Rattle.std.specs.Option.{option_or}
 use Rattle.std.proofs.Math.Nat.{mod-add-mod}
-use Rattle.bsc_octets.specs.declared.identity.Identity.{Identity}
 use Rattle.bsc_connector.specs.declared.side.Side.TheVariants.{Primary, Failover}
 use Rattle.bsc_connector.specs.Standing.{StandsFor as ConnectorStands}
 use Rattle.bsc_direct.specs.Standing.{StandsFor as DirectStands}
-use Rattle.bsc_initiate.specs.Standing.{StandsFor as InitiatingStands}
-use Rattle.bsc_accept.specs.Standing.{StandsFor as AcceptingStands}
-use Rattle.bsc_accept.specs.declared.closing.Closing.{Closing}
+use Rattle.bsc_accept.specs.declared.accepting.Accepting.{Accepting}
 use Rattle.bsc_node.specs.declared.link_name.LinkName.{LinkName}
 use Rattle.bsc_node.specs.declared.link_name.LinkName.TheVariants.{Hub, Direct}
 use Rattle.bsc_node.specs.declared.action.Action.{Action}
-use Rattle.bsc_node.specs.declared.action.Action.TheVariants.{Put, Close}
-use Rattle.bsc_node.specs.Logs.{Made, Line, slot, connector, did, Log, event_of, now, action_of, is_numbered, is_response, next_id}
-use Rattle.bsc_node.specs.Links.{beginning_of, begins, begins_by, is_over_by, same_link, life, start, initiating_event, accepting_event, initiating_events, accepting_events, who_accepted, who_asked, peer, is_there}
+use Rattle.bsc_node.specs.declared.action.Action.TheVariants.{Put}
+use Rattle.bsc_node.specs.Logs.{Made, Line, slot, connector, did, Log, now, action_of, is_numbered, is_response, next_id}
+use Rattle.bsc_node.specs.Links.{beginning_of, begins, begins_by, is_over_by, life, initiating_event, accepting_event, initiating_events, accepting_events, who_accepted, who_asked, peer}
 use Rattle.std.specs.List.{list_any}
 use Rattle.bsc_connector.specs.declared.event.ConnectorEvent.{ConnectorEvent}
 use Rattle.bsc_connector.specs.declared.event.HubEvent.{HubEvent}
@@ -30,47 +27,49 @@ use Rattle.bsc_direct.specs.declared.call.SlotCall.{SlotCall}
 use Rattle.bsc_node.specs.Meeting.{is_renewal, is_accept_of_hub, renewals}
 use Rattle.bsc_node.specs.Hubs.{waits, hub_event_of, hub_events, is_dropped, is_connected_event, newest_step, no_step, told}
 use Rattle.bsc_node.proofs.Told.{life-more, at_last-more}
-use Rattle.bsc_node.specs.Ways.{slot_call_of, slot_calls, is_claim_of, tries}
+use Rattle.bsc_node.specs.Ways.{slot_call_of, slot_calls, is_claim_of}
 use Rattle.bsc_node_core.specs.declared.machine.Machine.{Machine}
 use Rattle.bsc_node_core.specs.declared.machine.Machine.TheVariants.{Gone, Over, Dialled, Taken, Asked}
 use Rattle.bsc_node_core.specs.declared.state.State.{State}
-use Rattle.bsc_node_core.specs.Machines.{says_there}
 use Rattle.bsc_node_core.specs.Tables.{Kept, link_at}
-use Rattle.bsc_node_core.specs.Standing.{Base, next_after, renewals_after, dropped_after, HaveCome, MachineStands, LinkStands, Stands}
+use Rattle.bsc_node_core.specs.Standing.{Base, next_after, renewals_after, dropped_after, HaveCome, TakenStands, MachineStands, LinkStands, Stands}
 use Rattle.bsc_node_core.proofs.More.{now-kept, own-kept, next-kept, finishing-kept, renewals-kept, refusing-kept, hub_events-kept, slot_calls-kept, resolve_calls-kept, dropped-kept, tries-kept, there-kept, taken-kept, start-kept, initiating-kept, accepting-kept, since-now, filter-kept, count-one_more, filter-one_more}
 
 -- ---- links of which a line says nothing
 
-machine-kept : (a : Made) (L : Log) (m : Line) (name : LinkName) (machine : Machine) → beginning_of name m ≡ None → initiating_event name m ≡ None → accepting_event name m ≡ None
-    → MachineStands a L name machine → MachineStands a (L ++ m ∷ []) name machine
-machine-kept a L m name Gone h i j s = s
-machine-kept a L m name Over h i j s = s
-machine-kept a L m name (Dialled x) h i j s = record {
+taken-machine-kept : (a : Made) (L : Log) (m : Line) (name : LinkName) (x : Accepting) → beginning_of name m ≡ None → initiating_event name m ≡ None → accepting_event name m ≡ None
+    → TakenStands a L name x → TakenStands a (L ++ m ∷ []) name x
+taken-machine-kept a L m name x h i j s = record {
+  slot = s.slot;
+  taken = taken-kept name L m h ∙ s.taken;
+  alone = initiating-kept L m name (ap is_some h) i ∙ s.alone;
+  machine = rw (start-kept a L m name (ap is_some h), accepting-kept L m name (ap is_some h) j) s.machine;
+  ask = rw (accepting-kept L m name (ap is_some h) j) s.ask;
+}
+
+machine-kept : (a : Made) (busy : Option LinkName) (L : Log) (m : Line) (name : LinkName) (machine : Machine) → beginning_of name m ≡ None → initiating_event name m ≡ None → accepting_event name m ≡ None
+    → MachineStands a busy L name machine → MachineStands a busy (L ++ m ∷ []) name machine
+machine-kept a busy L m name Gone h i j s = s
+machine-kept a busy L m name Over h i j s = s
+machine-kept a busy L m name (Dialled x) h i j s = record {
   dialled = taken-kept name L m h ∙ s.dialled;
   alone = accepting-kept L m name (ap is_some h) j ∙ s.alone;
   machine = rw (start-kept a L m name (ap is_some h), initiating-kept L m name (ap is_some h) i) s.machine;
+  accept = rw (initiating-kept L m name (ap is_some h) i) s.accept;
 }
-machine-kept a L m name (Taken x) h i j s = record {
-  taken = taken-kept name L m h ∙ s.taken;
-  alone = initiating-kept L m name (ap is_some h) i ∙ s.alone;
-  machine = rw (start-kept a L m name (ap is_some h), accepting-kept L m name (ap is_some h) j) s.machine;
-}
-machine-kept a L m name (Asked x) h i j s = record {
-  taken = taken-kept name L m h ∙ s.taken;
-  alone = initiating-kept L m name (ap is_some h) i ∙ s.alone;
-  machine = rw (start-kept a L m name (ap is_some h), accepting-kept L m name (ap is_some h) j) s.machine;
-}
+machine-kept a busy L m name (Taken x) h i j s = taken-machine-kept a L m name x h i j s
+machine-kept a busy L m name (Asked x) h i j s = (taken-machine-kept a L m name x h i j s.0, s.1)
 
 pub peer-kept : (L : Log) (m : Line) (name : LinkName) → beginning_of name m ≡ None → initiating_event name m ≡ None → accepting_event name m ≡ None → peer (L ++ m ∷ []) name ≡ peer L name
 peer-kept L m name h i j =
     ap (λ es. option_or (who_accepted es) (who_asked (accepting_events (L ++ m ∷ []) name))) (initiating-kept L m name (ap is_some h) i)
     ∙ ap (λ es. option_or (who_accepted (initiating_events L name)) (who_asked es)) (accepting-kept L m name (ap is_some h) j)
 
-pub link-kept : (a : Made) (L : Log) (m : Line) (name : LinkName) (l : Kept) → beginning_of name m ≡ None → is_over_by name m ≡ false → initiating_event name m ≡ None → accepting_event name m ≡ None
-    → LinkStands a L name l → LinkStands a (L ++ m ∷ []) name l
-link-kept a L m name l h g i j s = record {
+pub link-kept : (a : Made) (busy : Option LinkName) (L : Log) (m : Line) (name : LinkName) (l : Kept) → beginning_of name m ≡ None → is_over_by name m ≡ false → initiating_event name m ≡ None → accepting_event name m ≡ None
+    → LinkStands a busy L name l → LinkStands a busy (L ++ m ∷ []) name l
+link-kept a busy L m name l h g i j s = record {
   there = there-kept name L m (ap is_some h) g ∙ s.there;
-  machine = machine-kept a L m name l.machine h i j s.machine;
+  machine = machine-kept a busy L m name l.machine h i j s.machine;
   peer = peer-kept L m name h i j ∙ s.peer;
 }
 
@@ -109,7 +108,7 @@ acts b out s L action n begins over next h =
       connector = subst (λ E. ConnectorStands s.connector (waits b.made) E) (sym (hub_events-kept L m refl)) h.connector;
       direct = subst (λ E. DirectStands s.direct E) (sym (slot_calls-kept L m refl)) h.direct;
       asked = resolve_calls-kept L m refl ∙ h.asked;
-      links = λ name n. link-kept b.made L m name (link_at s.links name) (begins name) (over name) refl refl (h.links name n);
+      links = λ name n. link-kept b.made b.busy L m name (link_at s.links name) (begins name) (over name) refl refl (h.links name n);
       tries = λ k w. ap (λ c. min c 18446744073709551615) (tries-kept k L m (ap is_some (begins (Direct k))) refl) ∙ h.tries k w;
       actions = came-did b out L action h.actions;
     }
@@ -152,7 +151,7 @@ slot-stands b out s L call d claims stands h = record {
   connector = subst (λ E. ConnectorStands s.connector (waits b.made) E) (sym (hub_events-kept L (slot call) refl)) h.connector;
   direct = subst (λ E. DirectStands d E) (sym (filter-one_more slot_call_of L (slot call) call refl)) stands;
   asked = resolve_calls-kept L (slot call) refl ∙ h.asked;
-  links = λ name n. link-kept b.made L (slot call) name (link_at s.links name) refl refl refl refl (h.links name n);
+  links = λ name n. link-kept b.made b.busy L (slot call) name (link_at s.links name) refl refl refl refl (h.links name n);
   tries = λ k w. ap (λ c. min c 18446744073709551615) (tries-kept k L (slot call) refl (claims k)) ∙ h.tries k w;
   actions = came-other b out L (slot call) refl h.actions;
 }
@@ -185,7 +184,7 @@ told-connector b out s L e c stands h = record {
   connector = subst (λ E. ConnectorStands c (waits b.made) E) (sym (filter-one_more hub_event_of L (connector e) e refl)) stands;
   direct = subst (λ E. DirectStands s.direct E) (sym (slot_calls-kept L (connector e) refl)) h.direct;
   asked = resolve_calls-kept L (connector e) refl ∙ h.asked;
-  links = λ name n. link-kept b.made L (connector e) name (link_at s.links name) refl refl refl refl (h.links name n);
+  links = λ name n. link-kept b.made b.busy L (connector e) name (link_at s.links name) refl refl refl refl (h.links name n);
   tries = λ k w. ap (λ n. min n 18446744073709551615) (tries-kept k L (connector e) refl refl) ∙ h.tries k w;
   actions = came-other b out L (connector e) refl h.actions;
 }

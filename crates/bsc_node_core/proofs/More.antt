@@ -1,26 +1,19 @@
 -- What a log says with one line more.
-use Rattle.std.proofs.Common.{◌≡◌, ℕ, ◌+◌, ◌<◌, ◌≤◌, Bool, true, false, not, cond, ◌&&◌, ◌||◌, List, [], ◌∷◌, ◌++◌, length, take, Option, Some, None, unwrap_or, refl, ap, sym, ◌∙◌, arith, length-append}
-use Rattle.std.specs.Prelude.{◌-◌, ◌%◌, filter_map, count_by, is_some}
+use Rattle.std.proofs.Common.{◌≡◌, ℕ, ◌+◌, Bool, true, false, not, cond, ◌&&◌, ◌||◌, List, [], ◌∷◌, ◌++◌, length, take, Option, Some, None, unwrap_or, refl, ap, ◌∙◌, arith, length-append}
+use Rattle.std.specs.Prelude.{◌-◌, ◌%◌, filter_map, count_by}
 use Rattle.std.specs.List.{list_any}
 use Rattle.std.specs.Option.{option_or, option_map}
 use Rattle.std.proofs.lemmas.List.Elements.{filter_map-append}
 use Rattle.std.proofs.lemmas.List.{take-append-le}
-use Rattle.bsc_octets.specs.declared.vmac.Vmac.{Vmac}
-use Rattle.bsc_octets.specs.declared.identity.Identity.{Identity}
 use Rattle.bsc_connector.specs.declared.side.Side.TheVariants.{Primary, Failover}
 use Rattle.bsc_connector.specs.declared.event.HubEvent.{HubEvent}
 use Rattle.bsc_connector.specs.Back.{newest_of, since, until}
 use Rattle.bsc_connector.specs.Sides as Sides
 use Rattle.bsc_connector.proofs.BackLemmas.{newest_of-more, since-more, count_by-more, list_any-more}
-use Rattle.bsc_accept.specs.declared.start.Start.{Start}
-use Rattle.bsc_accept.specs.declared.event.Event.{Event}
-use Rattle.bsc_initiate.specs.declared.event.InitEvent.{InitEvent}
-use Rattle.bsc_resolve.specs.declared.call.ResolveCall.{ResolveCall}
-use Rattle.bsc_direct.specs.declared.call.SlotCall.{SlotCall}
 use Rattle.bsc_node.specs.declared.link_name.LinkName.{LinkName}
 use Rattle.bsc_node.specs.declared.link_name.LinkName.TheVariants.{Hub, Direct}
 use Rattle.bsc_node.specs.declared.timed_event.TimedEvent.{TimedEvent}
-use Rattle.bsc_node.specs.Logs.{Made, Line, Log, event_of, now, is_numbered, next_id, renewal_of, own_vmac, own, is_finish, is_finishing}
+use Rattle.bsc_node.specs.Logs.{Made, Line, Log, event_of, now, is_numbered, next_id, renewal_of, own, is_finish, is_finishing}
 use Rattle.bsc_node.specs.Links.{beginning_of, begins, is_over_by, life, is_there, was_taken, start, initiating_event, accepting_event, initiating_events, accepting_events}
 use Rattle.bsc_node.specs.Hubs.{hub_event_of, hub_events, is_dropped}
 use Rattle.bsc_node.specs.Ways.{slot_call_of, slot_calls, resolve_call_of, resolve_calls, is_claim_of, tries}

@@ -1,5 +1,5 @@
 -- What follows where a message comes for the node, line by line.
-use Rattle.std.proofs.Common.{◌≡◌, ℕ, Bool, true, false, not, cond, List, [], ◌∷◌, ◌++◌, Option, Some, None, refl, ap, sym, ◌∙◌, subst}
+use Rattle.std.proofs.Common.{◌≡◌, ℕ, Bool, true, false, not, cond, List, [], ◌∷◌, ◌++◌, Option, Some, None, ap, sym, ◌∙◌, subst}
 use Rattle.std.specs.Prelude.{is_some}
 use Rattle.std.proofs.lemmas.List.{append-nil}
 use Rattle.bsc_octets.specs.declared.vmac.Vmac.{Vmac}
@@ -13,7 +13,7 @@ use Rattle.bsc_node.specs.declared.link_name.LinkName.{LinkName}
 use Rattle.bsc_node.specs.declared.node_limits.NodeLimits.{NodeLimits}
 use Rattle.bsc_node.specs.declared.action.Action.{Action}
 use Rattle.bsc_node.specs.declared.action.Action.TheVariants.{Put}
-use Rattle.bsc_node.specs.Logs.{did, Log, next_id, nothing, if_so}
+use Rattle.bsc_node.specs.Logs.{did, Log, nothing, if_so}
 use Rattle.bsc_node.specs.Hubs.{hub_use, hub_status}
 use Rattle.bsc_node.specs.Receiving.{advert, advertises, answer_dest, answers, answers_by, is_for_all}
 use Rattle.bsc_node_core.specs.declared.state.State.{State}

@@ -1,5 +1,5 @@
 -- What follows where the user of the node wants something, line by line.
-use Rattle.std.proofs.Common.{◌≡◌, ℕ, zero, suc, Bool, cond, true, false, List, [], ◌∷◌, ◌++◌, Option, Some, None, refl, ap, sym, ◌∙◌, subst, rules, arith}
+use Rattle.std.proofs.Common.{◌≡◌, ℕ, zero, suc, Bool, cond, true, false, List, [], ◌∷◌, ◌++◌, Option, Some, None, refl, ap, sym, ◌∙◌, subst, arith}
 use Rattle.bsc_octets.specs.declared.vmac.Vmac.{Vmac}
 use Rattle.bsc_frame.specs.declared.body.Body.{Body}
 use Rattle.bsc_frame.specs.declared.body.Body.TheVariants.{Npdu, AdvertisementSolicitation}
@@ -12,7 +12,7 @@ use Rattle.bsc_node.specs.declared.note.Note.{Note}
 use Rattle.bsc_node.specs.declared.note.Note.TheVariants.{NoPath, TooLong}
 use Rattle.bsc_node.specs.declared.action.Action.{Action}
 use Rattle.bsc_node.specs.declared.action.Action.TheVariants.{Put, Tell}
-use Rattle.bsc_node.specs.Logs.{Line, did, Log, next_id}
+use Rattle.bsc_node.specs.Logs.{Line, did, Log}
 use Rattle.bsc_node.specs.Links.{peer}
 use Rattle.bsc_node.specs.Hubs.{hub_use}
 use Rattle.bsc_node.specs.Ways.{Way, way, slot_calls}

@@ -7,11 +7,11 @@ use Rattle.std.proofs.lemmas.List.{get_or-drop, length-drop}
 use Rattle.bsc_node.specs.Ways.{is_dialled, words_with}
 
 -- a word with one octet more
-abbrev one_more : List ℕ → ℕ → List ℕ
+abbrev pub one_more : List ℕ → ℕ → List ℕ
 one_more [] c = c ∷ []
 one_more (b ∷ bs) c = b ∷ one_more bs c
 
-at_the_end : (word : List ℕ) (c : ℕ) → one_more word c ≡ word ++ c ∷ []
+pub at_the_end : (word : List ℕ) (c : ℕ) → one_more word c ≡ word ++ c ∷ []
 at_the_end [] c = refl
 at_the_end (b ∷ bs) c = ap (λ xs. b ∷ xs) (at_the_end bs c)
 

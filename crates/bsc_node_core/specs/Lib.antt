@@ -4,3 +4,6 @@ pub mod Tables
 pub mod Standing
 pub mod Rules
 pub mod Resolving
+pub mod Telling
+pub mod Node
+pub mod Resting

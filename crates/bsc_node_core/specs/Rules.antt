@@ -1,9 +1,16 @@
 -- How what the code hands on stands for the words of the definition.
-use Rattle.std.specs.Prelude.{ℕ, Option, Some, None}
+use Rattle.std.specs.Prelude.{ℕ, Bool, true, false, Option, Some, None}
 use Rattle.std.specs.Option.{option_map}
 use Rattle.bsc_octets.specs.declared.identity.Identity.{Identity}
 use Rattle.bsc_octets.specs.declared.vmac.Vmac.{Vmac}
 use Rattle.bsc_frame.specs.declared.message.Message.{Message}
+use Rattle.bsc_checks.specs.declared.verdict.Verdict.{Verdict}
+use Rattle.bsc_checks.specs.declared.verdict.Verdict.TheVariants.{Pass}
+use Rattle.bsc_accept.specs.declared.event.Event.{Event}
+use Rattle.bsc_accept.specs.declared.event.Event.TheVariants.{Message as AcceptMessage}
+use Rattle.bsc_accept.specs.Past as AcceptingPast
+use Rattle.bsc_initiate.specs.declared.event.InitEvent.{InitEvent}
+use Rattle.bsc_initiate.specs.declared.event.InitEvent.TheVariants.{Message as InitMessage}
 use Rattle.bsc_connector.specs.declared.hub_use.HubUse.{HubUse}
 use Rattle.bsc_switch.specs.declared.routes.Route.{Route}
 use Rattle.bsc_switch.specs.declared.routes.Route.TheVariants.{Direct as ByDirect, Hub as ByHub, NoPath as ByNone}
@@ -33,6 +40,29 @@ way_by v used ByNone = None
 abbrev pub up_from : Option Message → Outcome
 up_from None = keeps_still
 up_from (Some msg) = passes_up msg
+
+-- the message that passed, and the Originating Virtual Address that it has
+abbrev pub message_in : Verdict → Option Message
+message_in (Pass msg) = Some msg
+message_in v = None
+
+abbrev pub origin_in : Verdict → Option Vmac
+origin_in (Pass msg) = msg.origin
+origin_in v = None
+
+-- the message that passed at an event of a machine that the node dialled with, and of one of a link that it took
+abbrev pub message_of : InitEvent → Option Message
+message_of (InitMessage now v) = message_in v
+message_of e = None
+
+abbrev pub message_taken : Event → Option Message
+message_taken (AcceptMessage now v) = message_in v
+message_taken e = None
+
+-- whether what an accepting machine does nothing with at this event is for the node: a message in Connected
+abbrev pub goes_up : Event → AcceptingPast.Standing → Bool
+goes_up (AcceptMessage now v) AcceptingPast.connected = true
+goes_up e standing = false
 
 -- What a deed is, with the address that a message came from and the message, where one came.
 abbrev pub outcome_of : Option Vmac → Option Message → Deed → Outcome

@@ -1,12 +1,17 @@
 -- What is kept of the links, by their names.
 use Rattle.std.specs.Prelude.{◌≡◌, ℕ, ◌+◌, ◌&&◌, nat_lt, if◌then◌else◌, min, Bool, true, Option, Some, None, slice_get}
+use Rattle.std.specs.Option.{option_map}
 use Rattle.bsc_octets.specs.declared.identity.Identity.{Identity}
+use Rattle.bsc_octets.specs.declared.vmac.Vmac.{Vmac}
+use Rattle.bsc_checks.specs.declared.place.Place.{Place}
+use Rattle.bsc_checks.specs.declared.place.Place.TheVariants.{NodeHub, NodeDirect}
 use Rattle.bsc_connector.specs.declared.side.Side.TheVariants.{Primary, Failover}
 use Rattle.bsc_node.specs.declared.link_name.LinkName.{LinkName}
 use Rattle.bsc_node.specs.declared.link_name.LinkName.TheVariants.{Hub, Direct}
 use Rattle.bsc_node.specs.Links.{same_link}
 use Rattle.bsc_node_core.specs.declared.machine.Machine.{Machine}
 use Rattle.bsc_node_core.specs.declared.machine.Machine.TheVariants.{Gone}
+use Rattle.bsc_node_core.specs.Machines.{phase_kept}
 use Rattle.bsc_node_core.specs.declared.link.Link.{Link}
 use Rattle.bsc_node_core.specs.declared.links.Links.{Links}
 
@@ -50,8 +55,16 @@ with_machine machine l = record l { machine = machine }
 abbrev pub with_peer : Identity → Kept → Kept
 with_peer who l = record l { peer = Some who }
 
+abbrev pub with_machine_and_peer : Machine → Option Identity → Kept → Kept
+with_machine_and_peer machine peer l = record l { machine = machine; peer = peer }
+
 abbrev pub begun : Machine → Kept → Kept
 begun machine l = record { machine = machine; peer = None; tries = min 18446744073709551615 (l.tries + 1) }
 
 abbrev pub claimed : Kept → Kept
 claimed l = record l { tries = 0 }
+
+-- the place of a message that comes over the link of a name
+abbrev pub place_kept : Vmac → LinkName → Kept → Place
+place_kept own (Hub s) l = NodeHub own (phase_kept l.machine)
+place_kept own (Direct k) l = NodeDirect own (option_map (λ (who : Identity). who.vmac) l.peer) (phase_kept l.machine)

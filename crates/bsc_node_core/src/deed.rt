@@ -1,4 +1,12 @@
 //! What a machine's step is to the node.
+ghost use Rattle.std.specs.Prelude.{◌≡◌, Option, IfOk};
+ghost use Rattle.bsc_octets.specs.declared.vmac.Vmac.{Vmac};
+ghost use Rattle.bsc_accept.specs.declared.event.Event.{Event};
+ghost use Rattle.bsc_accept.specs.Past.{Standing};
+ghost use Rattle.bsc_initiate.specs.declared.event.InitEvent.{InitEvent};
+ghost use Rattle.bsc_node.specs.Links.{accepting_outcome, initiating_outcome, origin_of};
+ghost use Rattle.bsc_node_core.specs.Rules.{goes_up, message_of, message_taken, outcome_of};
+
 use bsc_accept::{Closing, Step};
 use bsc_initiate::InitStep;
 use bsc_octets::{Identity, NoMemory, Octets};
@@ -24,13 +32,17 @@ pub(crate) enum Deed {
 }
 
 /// These octets in memory of their own.
-fn owned(alloc: Global, octets: &[u8]) -> Result<Octets, NoMemory> {
+fn owned(alloc: Global, octets: &[u8]) -> Result<Octets, NoMemory>
+    ensures { IfOk result (λ o. o ≡ octets.now) }
+{
     Ok(Octets::from_vec(Vec::from_slice(alloc, octets)?))
 }
 
 impl Deed {
     /// That of a step of a link that was dialled.
-    pub(crate) fn of_dialled(alloc: Global, step: InitStep) -> Result<Deed, NoMemory> {
+    pub(crate) fn of_dialled(alloc: Global, step: InitStep) -> Result<Deed, NoMemory>
+        ensures { IfOk result (λ d. (e : InitEvent) → initiating_outcome e step ≡ outcome_of (origin_of e) (message_of e) d) }
+    {
         Ok(match step {
             InitStep::Put(octets) => Deed::Puts(owned(alloc, octets.as_slice())?),
             InitStep::PutClose(octets, closing) => Deed::PutsAndCloses(
@@ -46,7 +58,9 @@ impl Deed {
     }
 
     /// That of a step of a link that was taken. In Connected what the machine does nothing with is for the node.
-    pub(crate) fn of_taken(alloc: Global, step: Step, connected: bool) -> Result<Deed, NoMemory> {
+    pub(crate) fn of_taken(alloc: Global, step: Step, connected: bool) -> Result<Deed, NoMemory>
+        ensures { IfOk result (λ d. (origin : Option Vmac) (standing : Standing) (e : Event) → goes_up e standing ≡ connected → accepting_outcome standing e step ≡ outcome_of origin (message_taken e) d) }
+    {
         Ok(match step {
             Step::Ask(who) => Deed::Meets(who),
             Step::Reply(octets) => Deed::Puts(owned(alloc, octets.as_slice())?),

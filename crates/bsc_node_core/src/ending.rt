@@ -1,26 +1,30 @@
 //! What follows where a hub connection changes, and where a link ends.
-ghost use Rattle.std.specs.Prelude.{◌≡◌, ◌<◌, ◌^◌, true, ◌∷◌, ◌++◌, [], Option, unwrap_or, IfOk, OnOk};
+ghost use Rattle.std.specs.Prelude.{◌≡◌, ◌<◌, ◌^◌, true, List, ◌∷◌, ◌++◌, [], map, Option, None, unwrap_or, IfOk, OnOk};
 ghost use Rattle.bsc_octets.specs.declared.vmac.Vmac.{Vmac};
 ghost use Rattle.bsc_frame.specs.declared.message.Message.{Message};
 ghost use Rattle.bsc_connector.specs.Standing.{MayCome};
 ghost use Rattle.bsc_node.specs.declared.action.Action.{Action};
-ghost use Rattle.bsc_node.specs.Logs.{Log, did, does, in_order, when};
+ghost use Rattle.bsc_node.specs.Logs.{Log, did, does, either, in_order, nothing, when};
 ghost use Rattle.bsc_node.specs.Links.{is_there};
 ghost use Rattle.bsc_accept.specs.Steps.{normal};
 ghost use Rattle.bsc_node_core.specs.Tables.{is_name};
 ghost use Rattle.bsc_connector.specs.declared.side.Side.{Side};
 ghost use Rattle.bsc_node.specs.declared.link_name.LinkName.{LinkName};
-ghost use Rattle.bsc_node.specs.Ending.{carries_out_by, ends_slot};
+ghost use Rattle.bsc_direct.specs.Slots.{slots};
+ghost use Rattle.bsc_node.specs.Hubs.{hub_use_before, is_dropped, newest_step, same_use};
+ghost use Rattle.bsc_node.specs.Ending.{carries_out_by, closes_link, dials_failover, dials_primary, drops_failover, ends, ends_by, ends_hub, ends_slot, finishes_link, finishes_machine, tells_connector, tells_finished, tells_use};
 ghost use Rattle.bsc_node_core.specs.Rules.{outcome_of, tells_down};
+ghost use Rattle.bsc_node_core.specs.Resting.{FollowsAtRest};
 ghost use Rattle.bsc_node_core.specs.Standing.{Base, Goes, Stands};
+ghost use Rattle.bsc_node_core.specs.Telling.{busy_with};
 
 use crate::acting::tell;
 use crate::actions::Actions;
 use crate::deed::Deed;
-use crate::machine::Machine;
+use crate::links::SLOTS;
 use crate::state::State;
 use bsc_accept::Closing;
-use bsc_connector::{ConnectorEvent, Side};
+use bsc_connector::{ConnectorEvent, ConnectorStep, HubUse, Side};
 use bsc_node::{LinkName, NodeLimits, Note};
 use bsc_octets::{NoMemory, Octets};
 use std::alloc::Global;
@@ -33,6 +37,13 @@ fn failover_uri(alloc: Global, limits: &NodeLimits) -> Result<Octets, NoMemory>
         Some(uri) => uri.copy(alloc),
         None => Ok(Octets::from_vec(Vec::new(alloc))),
     }
+}
+
+/// Whether it is the same hub, or none both times.
+fn is_same_use(used: HubUse, before: HubUse) -> bool
+    ensures { result ≡ same_use before used }
+{
+    used == before
 }
 
 impl State {
@@ -69,28 +80,21 @@ impl State {
         self.close(out, name, closing)
     }
 
-    /// The machine of a link that is there is told to finish.
+    /// The machine of a link that is there is told to finish: what it puts and closes by that.
     pub(crate) fn finish_machine(
         &mut self,
         out: &mut Actions,
         alloc: Global,
         now: u64,
         name: LinkName,
-    ) -> Result<(), NoMemory> {
-        match self.links.get(name).machine {
-            Machine::Dialled(machine) => {
-                let mut machine = machine;
-                let step = machine.finish(now, self.next);
-                self.links.go_on(name, Machine::dialled(machine, &step));
-                self.carry_out(out, name, Deed::of_dialled(alloc, step)?)
-            }
-            Machine::Taken(machine) => {
-                let mut machine = machine;
-                let step = machine.finish(now, self.next);
-                self.links.go_on(name, Machine::taken(machine, &step));
-                self.carry_out(out, name, Deed::of_taken(alloc, step, false)?)
-            }
-            Machine::Gone | Machine::Over | Machine::Asked(_) => Ok(()),
+    ) -> Result<(), NoMemory>
+        ensures { OnOk result ((b : Base) (L : Log) → b.now ≡ now → b.busy ≡ None → is_name name ≡ true → Stands b out.old self.old L → Stands b out.new self.new (L ++ finishes_machine b.made name L)) }
+    {
+        if self.links.is_there(name) {
+            let deed = self.finishes(alloc, now, name)?;
+            self.carry_out(out, name, deed)
+        } else {
+            Ok(())
         }
     }
 
@@ -137,6 +141,71 @@ impl State {
         self.dial(out, limits.times, now, name, uri)
     }
 
+    /// Dials the primary hub where the connector's step says so, unless the node is to end.
+    fn try_primary(
+        &mut self,
+        out: &mut Actions,
+        alloc: Global,
+        limits: &NodeLimits,
+        now: u64,
+        step: &ConnectorStep,
+    ) -> Result<(), NoMemory>
+        ensures { OnOk result ((b : Base) (L : Log) → b.made.limits ≡ limits.now → b.now ≡ now → newest_step b.made L ≡ step.now → Stands b out.old self.old L → Stands b out.new self.new (L ++ dials_primary b.made L)) }
+    {
+        if step.dial_primary && !self.finishing {
+            self.dial_primary(out, alloc, limits, now)
+        } else {
+            Ok(())
+        }
+    }
+
+    /// Dials the failover where the connector's step says so, unless the node is to end.
+    fn try_failover(
+        &mut self,
+        out: &mut Actions,
+        alloc: Global,
+        limits: &NodeLimits,
+        now: u64,
+        step: &ConnectorStep,
+    ) -> Result<(), NoMemory>
+        ensures { OnOk result ((b : Base) (L : Log) → b.made.limits ≡ limits.now → b.now ≡ now → newest_step b.made L ≡ step.now → Stands b out.old self.old L → Stands b out.new self.new (L ++ dials_failover b.made L)) }
+    {
+        if step.dial_failover && !self.finishing {
+            self.dial_failover(out, alloc, limits, now)
+        } else {
+            Ok(())
+        }
+    }
+
+    /// Tells the hub in use, where it was another one before.
+    fn tell_use(&self, out: &mut Actions, before: HubUse) -> Result<(), NoMemory>
+        ensures { OnOk result ((b : Base) (L : Log) → hub_use_before L ≡ before → Stands b out.old self.now L → Stands b out.new self.now (L ++ tells_use L)) }
+    {
+        let used = self.connector.hub_use();
+        if is_same_use(used, before) {
+            Ok(())
+        } else {
+            tell(out, Note::HubNow(used))
+        }
+    }
+
+    /// Drops the failover where the connector's step says so: it is told to finish.
+    fn drop_failover(
+        &mut self,
+        out: &mut Actions,
+        alloc: Global,
+        now: u64,
+        step: &ConnectorStep,
+    ) -> Result<(), NoMemory>
+        ensures { OnOk result ((b : Base) (L : Log) → b.now ≡ now → b.busy ≡ None → newest_step b.made L ≡ step.now → Stands b out.old self.old L → Stands b out.new self.new (L ++ drops_failover b.made L)) }
+    {
+        if step.drop_failover {
+            self.finish_machine(out, alloc, now, LinkName::Hub(Side::Failover))
+        } else {
+            Ok(())
+        }
+    }
+
     /// Tells the connector something: it dials, the hub in use may change, and a failover may be dropped.
     pub(crate) fn tell_connector(
         &mut self,
@@ -148,27 +217,28 @@ impl State {
     ) -> Result<(), NoMemory>
         requires time { now < 2 ^ 62 }
         requires order { MayCome self.old.connector event }
+        ensures { OnOk result (FollowsAtRest limits.now now (λ a. tells_connector a event) out.old self.old out.new self.new) }
     {
         let before = self.connector.hub_use();
         let step = self.told(now, event);
-        if step.dial_primary && !self.finishing {
-            self.dial_primary(out, alloc, limits, now)?;
-        }
-        if step.dial_failover && !self.finishing {
-            self.dial_failover(out, alloc, limits, now)?;
-        }
-        let used = self.connector.hub_use();
-        if used != before {
-            tell(out, Note::HubNow(used))?;
-        }
-        if step.drop_failover {
-            self.finish_machine(out, alloc, now, LinkName::Hub(Side::Failover))?;
-        }
-        Ok(())
+        self.try_primary(out, alloc, limits, now, &step)?;
+        self.try_failover(out, alloc, limits, now, &step)?;
+        self.tell_use(out, before)?;
+        self.drop_failover(out, alloc, now, &step)
     }
 
-    /// A hub connection is over: it is lost where the side was up, and else has failed. That of a dropped failover is
-    /// neither.
+    /// Whether the hub connection of a side was dropped.
+    fn is_dropped(&self, side: Side) -> bool
+        ensures { (b : Base) (out : List Action) (L : Log) → Stands b out self.now L → result ≡ is_dropped side L }
+    {
+        match side {
+            Side::Primary => false,
+            Side::Failover => self.dropped,
+        }
+    }
+
+    /// A hub connection is over: it is lost where the side was up, and has failed where an attempt at it was under way.
+    /// That of a dropped failover is neither.
     fn end_hub(
         &mut self,
         out: &mut Actions,
@@ -178,11 +248,11 @@ impl State {
         side: Side,
     ) -> Result<(), NoMemory>
         requires { now < 2 ^ 62 }
+        ensures { OnOk result (FollowsAtRest limits.now now (λ a. ends_hub a side) out.old self.old out.new self.new) }
     {
-        if side == Side::Failover && self.dropped {
-            return Ok(());
-        }
-        if self.connector.is_up(side) {
+        if self.is_dropped(side) {
+            Ok(())
+        } else if self.connector.is_up(side) {
             self.tell_connector(out, alloc, limits, now, ConnectorEvent::Lost(side))
         } else if self.connector.is_under_way(side) {
             self.tell_connector(out, alloc, limits, now, ConnectorEvent::Failed(side))
@@ -211,11 +281,32 @@ impl State {
     }
 
     /// Once the node is to end, it has ended when no link is there any more.
-    pub(crate) fn tell_finished(&mut self, out: &mut Actions) -> Result<(), NoMemory> {
+    pub(crate) fn tell_finished(&self, out: &mut Actions) -> Result<(), NoMemory>
+        ensures { OnOk result ((b : Base) (L : Log) → Stands b out.old self.now L → Stands b out.new self.now (L ++ tells_finished L)) }
+    {
         if self.finishing && self.links.none_there() {
-            tell(out, Note::Finished)?;
+            tell(out, Note::Finished)
+        } else {
+            Ok(())
         }
-        Ok(())
+    }
+
+    /// A link is over: its hub connection has ended, or its slot is released.
+    fn end_by(
+        &mut self,
+        out: &mut Actions,
+        alloc: Global,
+        limits: &NodeLimits,
+        now: u64,
+        name: LinkName,
+    ) -> Result<(), NoMemory>
+        requires { now < 2 ^ 62 }
+        ensures { OnOk result (FollowsAtRest limits.now now (λ a. ends_by a name) out.old self.old out.new self.new) }
+    {
+        match name {
+            LinkName::Hub(side) => self.end_hub(out, alloc, limits, now, side),
+            LinkName::Direct(k) => self.end_slot(out, k),
+        }
     }
 
     /// What follows where a link is over.
@@ -228,11 +319,9 @@ impl State {
         name: LinkName,
     ) -> Result<(), NoMemory>
         requires { now < 2 ^ 62 }
+        ensures { OnOk result (FollowsAtRest limits.now now (λ a. ends a name) out.old self.old out.new self.new) }
     {
-        match name {
-            LinkName::Hub(side) => self.end_hub(out, alloc, limits, now, side)?,
-            LinkName::Direct(k) => self.end_slot(out, k)?,
-        }
+        self.end_by(out, alloc, limits, now, name)?;
         self.tell_finished(out)
     }
 
@@ -247,9 +336,48 @@ impl State {
         closing: Closing,
     ) -> Result<(), NoMemory>
         requires { now < 2 ^ 62 }
+        ensures { OnOk result ((b : Base) (L : Log) → b.made.limits ≡ limits.now → b.now ≡ now → b.busy ≡ None → is_name name ≡ true → Stands (busy_with name b) out.old self.old L
+            → Stands b out.new self.new (L ++ closes_link b.made name closing L)) }
     {
         self.close(out, name, closing)?;
         self.end(out, alloc, limits, now, name)
+    }
+
+    /// Where a link isn't there any more, it is over.
+    fn end_gone(
+        &mut self,
+        out: &mut Actions,
+        alloc: Global,
+        limits: &NodeLimits,
+        now: u64,
+        name: LinkName,
+    ) -> Result<(), NoMemory>
+        requires { now < 2 ^ 62 }
+        ensures { OnOk result ((b : Base) (L : Log) → b.made.limits ≡ limits.now → b.now ≡ now → b.busy ≡ None → is_name name ≡ true → Stands b out.old self.old L
+            → Stands b out.new self.new (L ++ either (is_there name) nothing (ends b.made name) L)) }
+    {
+        if self.links.is_there(name) {
+            Ok(())
+        } else {
+            self.end(out, alloc, limits, now, name)
+        }
+    }
+
+    /// A link that is there is told to finish, and is over where that closed it.
+    fn finish_there(
+        &mut self,
+        out: &mut Actions,
+        alloc: Global,
+        limits: &NodeLimits,
+        now: u64,
+        name: LinkName,
+    ) -> Result<(), NoMemory>
+        requires { now < 2 ^ 62 }
+        ensures { OnOk result ((b : Base) (L : Log) → b.made.limits ≡ limits.now → b.now ≡ now → b.busy ≡ None → is_name name ≡ true → Stands b out.old self.old L
+            → Stands b out.new self.new (L ++ in_order (finishes_machine b.made name ∷ either (is_there name) nothing (ends b.made name) ∷ []) L)) }
+    {
+        self.finish_machine(out, alloc, now, name)?;
+        self.end_gone(out, alloc, limits, now, name)
     }
 
     /// The link, where it is there, is told to finish, and is over where that closed it.
@@ -262,12 +390,29 @@ impl State {
         name: LinkName,
     ) -> Result<(), NoMemory>
         requires { now < 2 ^ 62 }
+        ensures { OnOk result ((b : Base) (L : Log) → b.made.limits ≡ limits.now → b.now ≡ now → b.busy ≡ None → is_name name ≡ true → Stands b out.old self.old L
+            → Stands b out.new self.new (L ++ finishes_link b.made name L)) }
     {
         if self.links.is_there(name) {
-            self.finish_machine(out, alloc, now, name)?;
-            if !self.links.is_there(name) {
-                self.end(out, alloc, limits, now, name)?;
-            }
+            self.finish_there(out, alloc, limits, now, name)
+        } else {
+            Ok(())
+        }
+    }
+
+    /// The links of all slots are told to finish, in order.
+    pub(crate) fn finish_slots(
+        &mut self,
+        out: &mut Actions,
+        alloc: Global,
+        limits: &NodeLimits,
+        now: u64,
+    ) -> Result<(), NoMemory>
+        requires { now < 2 ^ 62 }
+        ensures { OnOk result (FollowsAtRest limits.now now (λ a. in_order (map (λ k. finishes_link a (LinkName.Direct k)) slots)) out.old self.old out.new self.new) }
+    {
+        for k in 0..SLOTS {
+            self.finish_link(out, alloc, limits, now, LinkName::Direct(k))?;
         }
         Ok(())
     }

@@ -1,40 +1,54 @@
 //! What follows from each event that comes to a node.
-ghost use Rattle.std.specs.Prelude.{◌≡◌, ◌<◌, ◌^◌, ◌++◌, IfSome, OnOk};
-ghost use Rattle.bsc_node.specs.Logs.{Log};
-ghost use Rattle.bsc_node.specs.Events.{arrives};
+ghost use Rattle.std.specs.Prelude.{◌≡◌, ℕ, ◌<◌, ◌^◌, List, [], ◌∷◌, ◌++◌, map, true, false, None, IfSome, OnErr, OnOk};
+ghost use Rattle.bsc_connector.specs.declared.event.ConnectorEvent.{ConnectorEvent};
+ghost use Rattle.bsc_node.specs.declared.action.Action.{Action};
+ghost use Rattle.bsc_node.specs.Ending.{tells_connector};
+ghost use Rattle.bsc_node.specs.Logs.{Log, came, in_order};
+ghost use Rattle.bsc_node.specs.Events.{arrives, is_to_end, obeys, ticks_link, time_passes};
+ghost use Rattle.bsc_node.specs.Meeting.{keeps_vmac, renews};
+ghost use Rattle.bsc_octets.specs.Addresses.{broadcast, same_vmac};
+ghost use Rattle.bsc_octets.specs.declared.identity.Identity.{Identity};
+ghost use Rattle.bsc_resolve.specs.Standing.{IsUnchanged, StandsFor as ResolveStands};
+ghost use Rattle.bsc_node.specs.Conditions.{is_open};
+ghost use Rattle.bsc_node.specs.Links.{hears, meets, names, outcome};
+ghost use Rattle.bsc_node.specs.Ways.{resolve_calls};
+ghost use Rattle.bsc_node_core.specs.Resolving.{BothStand, asked_by};
+ghost use Rattle.bsc_node_core.specs.Rules.{outcome_of};
+ghost use Rattle.bsc_node_core.specs.Tables.{is_name};
+ghost use Rattle.bsc_node_core.specs.Telling.{HasTold};
+ghost use Rattle.bsc_node_core.specs.Events.{at_time};
+ghost use Rattle.bsc_node_core.specs.Resting.{FollowsAtRest};
 ghost use Rattle.bsc_node_core.specs.Standing.{Base, Stands};
 ghost use Rattle.std.specs.Str.{IsUtf8};
-ghost use Rattle.bsc_accept.specs.Standing.{IsOpen as IsOpenAccepting};
-ghost use Rattle.bsc_initiate.specs.Standing.{IsOpen as IsOpenInitiating};
 
 use crate::acting::tell;
 use crate::actions::Actions;
 use crate::deed::Deed;
-use crate::link::Link;
-use crate::links::{Links, SLOTS};
-use crate::machine::Machine;
+use crate::machines::{message_in, origin_in};
 use crate::meeting::RENEWALS;
 use crate::receiving::take_up;
-use crate::requesting::learnt_uri;
 use crate::state::State;
-use bsc_accept::{Accepting, Closing};
-use bsc_checks::{Phase, Place, Verdict};
+use bsc_accept::Closing;
+use bsc_checks::Message;
 use bsc_connector::{ConnectorEvent, Side};
-use bsc_initiate::Initiating;
 use bsc_node::{Action, LinkName, NodeEvent, NodeLimits, Note};
 use bsc_octets::{NoMemory, Octets, Vmac, random48};
 use bsc_resolve::Resolve;
-use bsc_verdict::judged;
 use std::alloc::Global;
 
 impl State {
     /// An event comes.
-    pub(crate) fn comes(&mut self, event: &NodeEvent) {
-        self.awaits_word = false;
+    pub(crate) fn comes(&mut self, event: &NodeEvent)
+        ensures { (b : Base) (out : List Action) (L : Log) (t : ℕ) → Stands b out self.old L
+            → Stands (at_time t b) out self.new (L ++ came (record { now = t; event = event.now }) ∷ []) }
+    {
         match event {
-            NodeEvent::Start => self.started = true,
-            NodeEvent::DialFailed(name) | NodeEvent::Lost(name) => self.links.end(*name),
-            NodeEvent::Came(LinkName::Hub(side), _) => self.newest_hub = Some(*side),
+            NodeEvent::DialFailed(name) => self.links.end(*name),
+            NodeEvent::Lost(name) => self.links.end(*name),
+            NodeEvent::Came(name, _) => match name {
+                LinkName::Hub(side) => self.newest_hub = Some(*side),
+                LinkName::Direct(_) => {}
+            },
             NodeEvent::Finish => self.finishing = true,
             NodeEvent::Random(w) => {
                 self.own.vmac = random48(*w);
@@ -73,12 +87,11 @@ impl State {
         now: u64,
     ) -> Result<(), NoMemory>
         requires { now < 2 ^ 62 }
+        ensures { OnOk result (FollowsAtRest limits.now now (λ a. in_order (map (ticks_link a) names ++ tells_connector a ConnectorEvent.Tick ∷ [])) out.old self.old out.new self.new) }
     {
         self.tick_link(out, alloc, limits, now, LinkName::Hub(Side::Primary))?;
         self.tick_link(out, alloc, limits, now, LinkName::Hub(Side::Failover))?;
-        for k in 0..SLOTS {
-            self.tick_link(out, alloc, limits, now, LinkName::Direct(k))?;
-        }
+        self.tick_slots(out, alloc, limits, now)?;
         self.tell_connector(out, alloc, limits, now, ConnectorEvent::Tick)
     }
 
@@ -91,14 +104,12 @@ impl State {
         now: u64,
     ) -> Result<(), NoMemory>
         requires { now < 2 ^ 62 }
+        ensures { OnOk result (FollowsAtRest limits.now now (λ a. is_to_end a) out.old self.old out.new self.new) }
     {
         self.tell_finished(out)?;
         self.finish_link(out, alloc, limits, now, LinkName::Hub(Side::Primary))?;
         self.finish_link(out, alloc, limits, now, LinkName::Hub(Side::Failover))?;
-        for k in 0..SLOTS {
-            self.finish_link(out, alloc, limits, now, LinkName::Direct(k))?;
-        }
-        Ok(())
+        self.finish_slots(out, alloc, limits, now)
     }
 
     /// The node has the VMAC of the word that was drawn.
@@ -110,6 +121,7 @@ impl State {
         now: u64,
     ) -> Result<(), NoMemory>
         requires { now < 2 ^ 62 }
+        ensures { OnOk result (FollowsAtRest limits.now now (λ a. renews a) out.old self.old out.new self.new) }
     {
         tell(out, Note::Renewed(self.own.vmac))?;
         self.end_refused(out, alloc, limits, now)
@@ -124,151 +136,59 @@ impl State {
         now: u64,
     ) -> Result<(), NoMemory>
         requires { now < 2 ^ 62 }
+        ensures { OnOk result (FollowsAtRest limits.now now (λ a. keeps_vmac a) out.old self.old out.new self.new) }
     {
         tell(out, Note::NoRandom)?;
         self.end_refused(out, alloc, limits, now)
     }
 }
 
-/// The next URI of a slot: of those learnt by now of the VMAC that it was dialled for.
-fn next_uri(
-    state: &State,
-    resolve: &Resolve,
-    alloc: Global,
-    k: u32,
-    wanted: Option<Vmac>,
-) -> Result<Option<Octets>, NoMemory> {
-    match wanted {
-        None => Ok(None),
-        Some(v) => {
-            let tries = state.links.get(LinkName::Direct(k)).tries;
-            learnt_uri(alloc, resolve, v, tries)
-        }
-    }
-}
-
-/// A slot whose dial failed dials the next URI, or is released.
-fn try_next(
+/// Time passes for all machines, then for the connector, and then for address resolution.
+pub(crate) fn pass_time(
     state: &mut State,
     out: &mut Actions,
-    resolve: &Resolve,
+    resolve: &mut Resolve,
     alloc: Global,
     limits: &NodeLimits,
     now: u64,
-    k: u32,
 ) -> Result<(), NoMemory>
     requires { now < 2 ^ 62 }
+    ensures goes { OnOk result ((b : Base) (L : Log) → b.made.limits ≡ limits.now → b.now ≡ now → b.busy ≡ None → BothStand b out.old state.old resolve.old L
+        → BothStand b out.new state.new resolve.new (L ++ time_passes b.made L)) }
+    ensures err { OnErr result (IsUnchanged resolve.old resolve.new) }
 {
-    let wanted = state.direct.wanted(k);
-    match next_uri(state, resolve, alloc, k, wanted)? {
-        Some(uri) => state.dial(out, limits.times, now, LinkName::Direct(k), uri),
-        None => {
-            if let Some(v) = wanted {
-                tell(out, Note::NoDirect(v))?;
-            }
-            state.end(out, alloc, limits, now, LinkName::Direct(k))
-        }
-    }
+    state.tick(out, alloc, limits, now)?;
+    resolve.tick(now);
+    Ok(())
 }
 
-/// A dial failed: a hub connection has failed, a slot goes on with the next URI.
-pub(crate) fn fail_dial(
+/// What follows from a step that a message brought about, and by which that may have passed.
+fn obey_heard(
     state: &mut State,
     out: &mut Actions,
-    resolve: &Resolve,
+    resolve: &mut Resolve,
     alloc: Global,
     limits: &NodeLimits,
     now: u64,
     name: LinkName,
+    origin: Option<Vmac>,
+    passed: Option<Message>,
+    deed: Deed,
 ) -> Result<(), NoMemory>
-    requires { now < 2 ^ 62 }
+    requires time { now < 2 ^ 62 }
+    requires uris { IfSome limits.now.uris IsUtf8 }
+    ensures goes { OnOk result ((b : Base) (L : Log) (M : Log) → b.made.limits ≡ limits.now → b.now ≡ now → b.busy ≡ None → is_name name ≡ true
+        → ((who : Identity) → outcome b.made M name ≡ meets who → same_vmac who.vmac broadcast ≡ false) → ResolveStands resolve.old b.made.limits.times.connect_wait (resolve_calls L)
+        → HasTold (asked_by L b) out.old state.old M name (outcome_of origin passed deed) → BothStand b out.new state.new resolve.new (M ++ obeys b.made name M)) }
+    ensures err { OnErr result (IsUnchanged resolve.old resolve.new) }
 {
-    match name {
-        LinkName::Hub(_) => state.end(out, alloc, limits, now, name),
-        LinkName::Direct(k) => try_next(state, out, resolve, alloc, limits, now, k),
-    }
-}
-
-/// The phase of a link. (No message comes before the WebSocket has opened.)
-fn phase_of(machine: &Machine) -> Phase {
-    match machine {
-        Machine::Gone | Machine::Over => Phase::AwaitingAccept,
-        Machine::Dialled(machine) => match machine.phase() {
-            Some(phase) => phase,
-            None => Phase::AwaitingAccept,
+    match deed {
+        Deed::PassesUp => match passed {
+            Some(message) => take_up(state, out, resolve, alloc, limits, name, message),
+            None => Ok(()),
         },
-        Machine::Taken(machine) | Machine::Asked(machine) => machine.phase(),
+        other => state.obey(out, alloc, limits, now, name, origin, other),
     }
-}
-
-/// The place of a message that comes over a link.
-fn place_of(own: Vmac, name: LinkName, link: &Link) -> Place {
-    let phase = phase_of(&link.machine);
-    match name {
-        LinkName::Hub(_) => Place::NodeHub { own, phase },
-        LinkName::Direct(_) => Place::NodeDirect {
-            own,
-            peer: match link.peer {
-                Some(who) => Some(who.vmac),
-                None => None,
-            },
-            phase,
-        },
-    }
-}
-
-/// The machine of a link that was dialled gets a message, with its verdict. What the step is to the node.
-fn hear_dialled(
-    links: &mut Links,
-    alloc: Global,
-    now: u64,
-    name: LinkName,
-    machine: Initiating,
-    verdict: &Verdict,
-) -> Result<Deed, NoMemory>
-    requires { IsOpenInitiating machine }
-{
-    let mut machine = machine;
-    let step = machine.message(now, verdict);
-    links.go_on(name, Machine::dialled(machine, &step));
-    Deed::of_dialled(alloc, step)
-}
-
-/// The machine of a link that was taken gets a message, with its verdict. What the step is to the node.
-fn hear_taken(
-    links: &mut Links,
-    alloc: Global,
-    now: u64,
-    name: LinkName,
-    machine: Accepting,
-    verdict: &Verdict,
-) -> Result<Deed, NoMemory>
-    requires { IsOpenAccepting machine }
-{
-    let mut machine = machine;
-    let connected = machine.phase() == Phase::Connected;
-    let step = machine.message(now, verdict);
-    links.go_on(name, Machine::taken(machine, &step));
-    Deed::of_taken(alloc, step, connected)
-}
-
-/// The link's machine gets a message, with its verdict. What the step is to the node.
-fn hear_machine(
-    links: &mut Links,
-    alloc: Global,
-    now: u64,
-    name: LinkName,
-    verdict: &Verdict,
-) -> Result<Deed, NoMemory> {
-    let deed = match links.get(name).machine {
-        Machine::Dialled(machine) => hear_dialled(links, alloc, now, name, machine, verdict)?,
-        Machine::Taken(machine) => hear_taken(links, alloc, now, name, machine, verdict)?,
-        Machine::Gone | Machine::Over | Machine::Asked(_) => Deed::KeepsStill,
-    };
-    if let Deed::Meets(who) = &deed {
-        links.meet(name, *who);
-    }
-    Ok(deed)
 }
 
 /// A message came over a link.
@@ -284,15 +204,15 @@ pub(crate) fn hear(
 ) -> Result<(), NoMemory>
     requires time { now < 2 ^ 62 }
     requires uris { IfSome limits.now.uris IsUtf8 }
+    ensures goes { OnOk result ((b : Base) (L : Log) → b.made.limits ≡ limits.now → b.now ≡ now → b.busy ≡ None → is_name name ≡ true → is_open name L ≡ true → BothStand b out.old state.old resolve.old L
+        → BothStand b out.new state.new resolve.new (L ++ in_order (hears b.made name octets.now ∷ obeys b.made name ∷ []) L)) }
+    ensures err { OnErr result (IsUnchanged resolve.old resolve.new) }
 {
-    let place = place_of(state.own.vmac, name, &state.links.get(name));
-    let verdict = judged(alloc, octets.as_slice(), &place, state.own.max_bvlc)?;
-    let deed = hear_machine(&mut state.links, alloc, now, name, &verdict)?;
-    match verdict {
-        Verdict::Pass(message) => match deed {
-            Deed::PassesUp => take_up(state, out, resolve, alloc, limits, name, message),
-            other => state.obey(out, alloc, limits, now, name, message.origin, other),
-        },
-        _ => state.obey(out, alloc, limits, now, name, None, deed),
-    }
+    let verdict = state.verdict(alloc, name, octets.as_slice())?;
+    let deed = state.hears(alloc, now, name, &verdict)?;
+    let origin = origin_in(&verdict);
+    let passed = message_in(verdict);
+    obey_heard(
+        state, out, resolve, alloc, limits, now, name, origin, passed, deed,
+    )
 }

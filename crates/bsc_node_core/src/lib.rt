@@ -1,19 +1,22 @@
 //! The code of a BACnet/SC node (Annex AB), without its sockets, its clock and its random source: events come in, actions
 //! go out. `bsc_node` says what it has to do.
 //!
-//! Start at `node`: the node and its calls. `following` has what follows from each event, and below it are the rules in
+//! Start at `calls`: the calls of a node. `following` has what follows from each event, and below it are the rules in
 //! files that are named as those of the definition: `requesting`, `receiving`, `obeying`, `meeting`, `ending`.
 #![tactic(auto)]
 
 mod acting;
 mod actions;
+mod calls;
 mod deed;
 mod ending;
+mod failing;
 mod following;
 mod link;
 mod linking;
 mod links;
 mod machine;
+mod machines;
 mod meeting;
 mod messages;
 mod node;
@@ -27,10 +30,3 @@ mod way;
 
 pub use actions::Actions;
 pub use node::Node;
-
-#[cfg(test)]
-mod scenes;
-#[cfg(test)]
-mod telling;
-#[cfg(test)]
-mod tests;

@@ -1,21 +1,39 @@
 //! The links of a node, by their names.
-ghost use Rattle.std.specs.Prelude.{◌≡◌, IfOk, true};
+ghost use Rattle.std.specs.Prelude.{◌≡◌, IfOk, not, true, ℕ, slice_get};
+ghost use Rattle.std.specs.List.{list_any};
 ghost use Rattle.bsc_node.specs.declared.link_name.LinkName.{LinkName};
+ghost use Rattle.bsc_node.specs.Links.{names};
+ghost use Rattle.bsc_node_core.specs.declared.link.Link.{Link};
 ghost use Rattle.bsc_node_core.specs.declared.machine.Machine.{Machine};
-ghost use Rattle.bsc_node_core.specs.Machines.{is_fit, says_there};
-ghost use Rattle.bsc_node_core.specs.Tables.{Sets, begun, claimed, kept_of, link_at, with_machine, with_peer};
+ghost use Rattle.bsc_accept.specs.Standing.{LeftBy as LeavesAccepting};
+ghost use Rattle.bsc_initiate.specs.Standing.{LeftBy as LeavesInitiating};
+ghost use Rattle.bsc_node_core.specs.Machines.{dialled_after, dialled_peer, is_fit, says_there, taken_after, taken_peer};
+ghost use Rattle.bsc_node_core.specs.Tables.{Sets, begun, claimed, kept_in, kept_of, link_at, nothing_kept, with_machine, with_machine_and_peer, with_peer};
 
 use crate::link::Link;
 use crate::links::{Links, SLOTS};
 use crate::machine::Machine;
+use bsc_accept::{Accepting, Step};
 use bsc_connector::Side;
+use bsc_initiate::{InitStep, Initiating};
 use bsc_node::LinkName;
 use bsc_octets::{Identity, NoMemory};
 use std::alloc::Global;
 
+/// Whether one of these links is there.
+fn any_there(links: &[Link]) -> bool
+    ensures { result ≡ list_any (λ (l : Link). says_there l.machine) links.now }
+{
+    links.iter().any(|link| link.is_there())
+}
+
 impl Links {
     /// No link ever began.
-    pub(crate) fn make(alloc: Global) -> Result<Links, NoMemory> {
+    pub(crate) fn make(alloc: Global) -> Result<Links, NoMemory>
+        ensures primary { IfOk result (λ ls. kept_of ls.primary ≡ nothing_kept) }
+        ensures failover { IfOk result (λ ls. kept_of ls.failover ≡ nothing_kept) }
+        ensures slots { IfOk result (λ ls. (k : ℕ) → kept_in (slice_get ls.slots.items k) ≡ nothing_kept) }
+    {
         let none = Link::none();
         Ok(Links {
             primary: none,
@@ -105,6 +123,28 @@ impl Links {
         self.set(name, link.with_peer(who));
     }
 
+    /// The machine of a link that was dialled goes on by a step, by which its peer may have named itself.
+    pub(crate) fn go_on_dialled(&mut self, name: LinkName, machine: Initiating, step: &InitStep)
+        requires { LeavesInitiating step.now machine }
+        ensures { Sets self.old self.new name (with_machine_and_peer (dialled_after machine step.now) (dialled_peer step.now (link_at self.old name).peer) (link_at self.old name)) }
+    {
+        self.go_on(name, Machine::dialled(machine, step));
+        if let InitStep::Connected(who) = step {
+            self.meet(name, *who);
+        }
+    }
+
+    /// The machine of a link that was taken goes on by a step, by which its peer may have named itself.
+    pub(crate) fn go_on_taken(&mut self, name: LinkName, machine: Accepting, step: &Step)
+        requires { LeavesAccepting step.now machine }
+        ensures { Sets self.old self.new name (with_machine_and_peer (taken_after machine step.now) (taken_peer step.now (link_at self.old name).peer) (link_at self.old name)) }
+    {
+        self.go_on(name, Machine::taken(machine, step));
+        if let Step::Ask(who) = step {
+            self.meet(name, *who);
+        }
+    }
+
     /// The slot of a link was claimed: no link began in it since.
     pub(crate) fn claim(&mut self, k: u32)
         ensures { Sets self.old self.new (LinkName.Direct k) (claimed (link_at self.old (LinkName.Direct k))) }
@@ -114,9 +154,9 @@ impl Links {
     }
 
     /// Whether no link at all is there.
-    pub(crate) fn none_there(&self) -> bool {
-        !self.primary.is_there()
-            && !self.failover.is_there()
-            && !self.slots.iter().any(|link| link.is_there())
+    pub(crate) fn none_there(&self) -> bool
+        ensures { result ≡ not (list_any (λ name. says_there (link_at self.now name).machine) names) }
+    {
+        !(self.primary.is_there() || self.failover.is_there() || any_there(self.slots.as_slice()))
     }
 }

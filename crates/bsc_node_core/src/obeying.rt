@@ -1,9 +1,24 @@
 //! What follows from a step of a link's machine.
-ghost use Rattle.std.specs.Prelude.{◌<◌, ◌^◌};
+ghost use Rattle.std.specs.Prelude.{◌≡◌, ◌<◌, ◌^◌, ◌∷◌, ◌++◌, [], map, true, false, Option, None, OnOk};
+ghost use Rattle.bsc_octets.specs.declared.identity.Identity.{Identity};
+ghost use Rattle.bsc_octets.specs.Addresses.{broadcast, same_vmac};
+ghost use Rattle.bsc_frame.specs.declared.message.Message.{Message};
+ghost use Rattle.bsc_direct.specs.Slots.{slots};
+ghost use Rattle.bsc_node.specs.declared.link_name.LinkName.{LinkName};
+ghost use Rattle.bsc_node.specs.Conditions.{is_dialling};
+ghost use Rattle.bsc_node.specs.Logs.{Log, in_order};
+ghost use Rattle.bsc_node.specs.Links.{meets, opens, outcome};
+ghost use Rattle.bsc_node.specs.Events.{obeys, ticks_link};
+ghost use Rattle.bsc_node_core.specs.declared.deed.Deed.{Deed};
+ghost use Rattle.bsc_node_core.specs.Tables.{is_name};
+ghost use Rattle.bsc_node_core.specs.Rules.{outcome_of};
+ghost use Rattle.bsc_node_core.specs.Resting.{FollowsAtRest};
+ghost use Rattle.bsc_node_core.specs.Standing.{Base, Stands};
+ghost use Rattle.bsc_node_core.specs.Telling.{HasTold};
 
 use crate::actions::Actions;
 use crate::deed::Deed;
-use crate::machine::Machine;
+use crate::links::SLOTS;
 use crate::state::State;
 use bsc_node::{LinkName, NodeLimits};
 use bsc_octets::{NoMemory, Vmac};
@@ -22,6 +37,9 @@ impl State {
         deed: Deed,
     ) -> Result<(), NoMemory>
         requires { now < 2 ^ 62 }
+        ensures { OnOk result ((b : Base) (L : Log) (msg : Option Message) → b.made.limits ≡ limits.now → b.now ≡ now → b.busy ≡ None → is_name name ≡ true
+            → ((who : Identity) → outcome b.made L name ≡ meets who → same_vmac who.vmac broadcast ≡ false) → (deed ≡ Deed.PassesUp → msg ≡ None)
+            → HasTold b out.old self.old L name (outcome_of origin msg deed) → Stands b out.new self.new (L ++ obeys b.made name L)) }
     {
         match deed {
             Deed::Puts(octets) => self.put(out, name, octets),
@@ -46,20 +64,11 @@ impl State {
         name: LinkName,
     ) -> Result<(), NoMemory>
         requires { now < 2 ^ 62 }
+        ensures { OnOk result ((b : Base) (L : Log) → b.made.limits ≡ limits.now → b.now ≡ now → b.busy ≡ None → is_name name ≡ true → is_dialling name L ≡ true → Stands b out.old self.old L
+            → Stands b out.new self.new (L ++ in_order (opens name ∷ obeys b.made name ∷ []) L)) }
     {
-        match self.links.get(name).machine {
-            Machine::Dialled(machine) => {
-                if machine.phase().is_some() {
-                    return Ok(());
-                }
-                let mut machine = machine;
-                let step = machine.opened(now, self.next);
-                self.links.go_on(name, Machine::dialled(machine, &step));
-                let deed = Deed::of_dialled(alloc, step)?;
-                self.obey(out, alloc, limits, now, name, None, deed)
-            }
-            Machine::Gone | Machine::Over | Machine::Taken(_) | Machine::Asked(_) => Ok(()),
-        }
+        let deed = self.opens(alloc, now, name)?;
+        self.obey(out, alloc, limits, now, name, None, deed)
     }
 
     /// The machine of a link that is there is told the time.
@@ -72,23 +81,31 @@ impl State {
         name: LinkName,
     ) -> Result<(), NoMemory>
         requires { now < 2 ^ 62 }
+        ensures { OnOk result ((b : Base) (L : Log) → b.made.limits ≡ limits.now → b.now ≡ now → b.busy ≡ None → is_name name ≡ true → Stands b out.old self.old L
+            → Stands b out.new self.new (L ++ ticks_link b.made name L)) }
     {
-        match self.links.get(name).machine {
-            Machine::Dialled(machine) => {
-                let mut machine = machine;
-                let step = machine.tick(now, self.next);
-                self.links.go_on(name, Machine::dialled(machine, &step));
-                let deed = Deed::of_dialled(alloc, step)?;
-                self.obey(out, alloc, limits, now, name, None, deed)
-            }
-            Machine::Taken(machine) => {
-                let mut machine = machine;
-                let step = machine.tick(now);
-                self.links.go_on(name, Machine::taken(machine, &step));
-                let deed = Deed::of_taken(alloc, step, false)?;
-                self.obey(out, alloc, limits, now, name, None, deed)
-            }
-            Machine::Gone | Machine::Over | Machine::Asked(_) => Ok(()),
+        if self.links.is_there(name) {
+            let deed = self.ticks(alloc, now, name)?;
+            self.obey(out, alloc, limits, now, name, None, deed)
+        } else {
+            Ok(())
         }
+    }
+
+    /// The machines of the links of all slots are told the time, in order.
+    pub(crate) fn tick_slots(
+        &mut self,
+        out: &mut Actions,
+        alloc: Global,
+        limits: &NodeLimits,
+        now: u64,
+    ) -> Result<(), NoMemory>
+        requires { now < 2 ^ 62 }
+        ensures { OnOk result (FollowsAtRest limits.now now (λ a. in_order (map (λ k. ticks_link a (LinkName.Direct k)) slots)) out.old self.old out.new self.new) }
+    {
+        for k in 0..SLOTS {
+            self.tick_link(out, alloc, limits, now, LinkName::Direct(k))?;
+        }
+        Ok(())
     }
 }

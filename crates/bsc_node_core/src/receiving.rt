@@ -1,14 +1,20 @@
 //! What follows where a message comes for the node, over its hub or a direct connection.
-ghost use Rattle.std.specs.Prelude.{◌≡◌, ◌≤◌, ◌++◌, if◌then◌else◌, is_some, List, None, Some, IfSome, OnOk};
+ghost use Rattle.std.specs.Prelude.{◌≡◌, ◌≤◌, ◌++◌, if◌then◌else◌, is_some, true, List, None, Some, IfSome, OnErr, OnOk};
 ghost use Rattle.std.specs.Str.{IsUtf8};
+ghost use Rattle.std.specs.Option.{option_map};
+ghost use Rattle.bsc_octets.specs.declared.identity.Identity.{Identity};
+ghost use Rattle.bsc_octets.specs.declared.vmac.Vmac.{Vmac};
 ghost use Rattle.bsc_frame.specs.declared.message.Message.{Message};
 ghost use Rattle.bsc_frame.specs.Payloads.{IsAdvert};
+ghost use Rattle.bsc_resolve.specs.Standing.{IsUnchanged};
 ghost use Rattle.bsc_node.specs.Hubs.{hub_status};
-ghost use Rattle.bsc_node.specs.Receiving.{advert, advertises, answer_dest, answers_by, drops_question, is_broadcast_address, is_for_all, learns, sender, takes_nak};
+ghost use Rattle.bsc_node.specs.Receiving.{advert, advertises, answer_dest, answers_by, delivers, drops_question, is_broadcast_address, is_for_all, learns, of_sender, sender, takes_answer, takes_nak, takes_up};
 ghost use Rattle.bsc_node.specs.declared.action.Action.{Action};
+ghost use Rattle.bsc_node.specs.declared.note.Note.{Note};
 ghost use Rattle.bsc_node.specs.declared.link_name.LinkName.{LinkName};
-ghost use Rattle.bsc_node.specs.Logs.{Log, nothing, with_some};
+ghost use Rattle.bsc_node.specs.Logs.{Log, nothing, tells, with_some};
 ghost use Rattle.bsc_node_core.specs.declared.state.State.{State};
+ghost use Rattle.bsc_node_core.specs.Tables.{is_name};
 ghost use Rattle.bsc_node_core.specs.Standing.{Base, Goes, Stands};
 ghost use Rattle.bsc_node_core.specs.Resolving.{BothStand};
 
@@ -19,7 +25,8 @@ use crate::state::State;
 use bsc_connector::HubUse;
 use bsc_frame::{Advert, Answer, Body, Message};
 use bsc_node::{Action, Delivered, LinkName, NodeLimits, Note};
-use bsc_octets::{NoMemory, Octets, Vmac};
+use bsc_octets::{Identity, NoMemory, Octets, Vmac};
+use bsc_options::Options;
 use bsc_resolve::Resolve;
 use std::alloc::Global;
 
@@ -69,18 +76,24 @@ fn is_broadcast(dest: Option<Vmac>) -> bool
     }
 }
 
+/// The VMAC of a peer, where it is known.
+fn vmac_of(who: Option<Identity>) -> Option<Vmac>
+    ensures { result ≡ option_map (λ (w : Identity). w.vmac) who }
+{
+    match who {
+        Some(who) => Some(who.vmac),
+        None => None,
+    }
+}
+
 impl State {
     /// Who sent a message: its Originating address, or on a direct connection the peer. The hub itself has none.
-    fn sender(&self, name: LinkName, origin: Option<Vmac>) -> Option<Vmac> {
+    fn sender(&self, name: LinkName, origin: Option<Vmac>) -> Option<Vmac>
+        ensures { (b : Base) (out : List Action) (L : Log) (msg : Message) → is_name name ≡ true → msg.origin ≡ origin → Stands b out self.now L → sender name msg L ≡ result }
+    {
         match name {
             LinkName::Hub(_) => origin,
-            LinkName::Direct(_) => match origin {
-                Some(v) => Some(v),
-                None => match self.links.get(name).peer {
-                    Some(who) => Some(who.vmac),
-                    None => None,
-                },
-            },
+            LinkName::Direct(_) => origin.or(vmac_of(self.links.get(name).peer)),
         }
     }
 
@@ -185,8 +198,9 @@ fn learn(
     from: Vmac,
     uris: Octets,
 ) -> Result<(), NoMemory>
-    ensures { OnOk result ((b : Base) (s : State) (L : Log) (msg : Message) → msg.id ≡ id
+    ensures goes { OnOk result ((b : Base) (s : State) (L : Log) (msg : Message) → msg.id ≡ id
         → BothStand b out.old s resolve.old L → BothStand b out.new s resolve.new (L ++ learns b.made msg uris from L)) }
+    ensures err { OnErr result (IsUnchanged resolve.old resolve.new) }
 {
     tell(out, Note::Uris(from, uris.copy(alloc)?))?;
     if resolve.answered(id, from, uris) {
@@ -227,8 +241,9 @@ fn take_nak(
     function: u8,
     code: u16,
 ) -> Result<(), NoMemory>
-    ensures { OnOk result ((b : Base) (s : State) (L : Log) (name : LinkName) (msg : Message) → msg.id ≡ id → sender name msg L ≡ from
+    ensures goes { OnOk result ((b : Base) (s : State) (L : Log) (name : LinkName) (msg : Message) → msg.id ≡ id → sender name msg L ≡ from
         → BothStand b out.old s resolve.old L → BothStand b out.new s resolve.new (L ++ takes_nak b.made name msg function code L)) }
+    ensures err { OnErr result (IsUnchanged resolve.old resolve.new) }
 {
     tell(
         out,
@@ -242,6 +257,76 @@ fn take_nak(
     Ok(())
 }
 
+/// Delivers an NPDU, where it is known who sent it.
+fn deliver(
+    out: &mut Actions,
+    from: Option<Vmac>,
+    broadcast: bool,
+    data_options: Options,
+    npdu: Octets,
+) -> Result<(), NoMemory>
+    ensures { OnOk result ((b : Base) (s : State) (L : Log) (name : LinkName) (msg : Message) → sender name msg L ≡ from → is_for_all msg ≡ broadcast → msg.data_options ≡ data_options
+        → Stands b out.old s L → Stands b out.new s (L ++ of_sender name msg (delivers msg npdu) L)) }
+{
+    match from {
+        Some(v) => out.push(Action::Deliver(Delivered {
+            from: v,
+            broadcast,
+            data_options,
+            npdu,
+        })),
+        None => Ok(()),
+    }
+}
+
+/// Tells an Advertisement, where it is known who sent it.
+fn tell_advert(out: &mut Actions, from: Option<Vmac>, told: Advert) -> Result<(), NoMemory>
+    ensures { OnOk result ((b : Base) (s : State) (L : Log) (name : LinkName) (msg : Message) → sender name msg L ≡ from
+        → Stands b out.old s L → Stands b out.new s (L ++ of_sender name msg (λ v. tells (Note.Advert v told)) L)) }
+{
+    match from {
+        Some(v) => tell(out, Note::Advert(v, told)),
+        None => Ok(()),
+    }
+}
+
+/// Learns the URIs of who sent them, where that is known and they answer a question that is under way.
+fn learn_from(
+    out: &mut Actions,
+    resolve: &mut Resolve,
+    alloc: Global,
+    from: Option<Vmac>,
+    id: u16,
+    uris: Octets,
+) -> Result<(), NoMemory>
+    ensures goes { OnOk result ((b : Base) (s : State) (L : Log) (name : LinkName) (msg : Message) → msg.id ≡ id → sender name msg L ≡ from
+        → BothStand b out.old s resolve.old L → BothStand b out.new s resolve.new (L ++ of_sender name msg (learns b.made msg uris) L)) }
+    ensures err { OnErr result (IsUnchanged resolve.old resolve.new) }
+{
+    match from {
+        Some(v) => learn(out, resolve, alloc, id, v, uris),
+        None => Ok(()),
+    }
+}
+
+/// Takes the answer to a request: a NAK is told, an ACK does nothing.
+fn take_answer(
+    out: &mut Actions,
+    resolve: &mut Resolve,
+    from: Option<Vmac>,
+    id: u16,
+    answer: &Answer,
+) -> Result<(), NoMemory>
+    ensures goes { OnOk result ((b : Base) (s : State) (L : Log) (name : LinkName) (msg : Message) → msg.id ≡ id → sender name msg L ≡ from
+        → BothStand b out.old s resolve.old L → BothStand b out.new s resolve.new (L ++ takes_answer b.made name msg answer.now L)) }
+    ensures err { OnErr result (IsUnchanged resolve.old resolve.new) }
+{
+    match answer {
+        Answer::Ack { .. } => Ok(()),
+        Answer::Nak { function, code, .. } => take_nak(out, resolve, from, id, *function, *code),
+    }
+}
+
 /// What follows where a message comes for the node.
 pub(crate) fn take_up(
     state: &mut State,
@@ -253,6 +338,9 @@ pub(crate) fn take_up(
     message: Message,
 ) -> Result<(), NoMemory>
     requires { IfSome limits.now.uris IsUtf8 }
+    ensures goes { OnOk result ((b : Base) (L : Log) → b.made.limits ≡ limits.now → is_name name ≡ true
+        → BothStand b out.old state.old resolve.old L → BothStand b out.new state.new resolve.new (L ++ takes_up b.made name message L)) }
+    ensures err { OnErr result (IsUnchanged resolve.old resolve.new) }
 {
     let Message {
         id,
@@ -262,34 +350,24 @@ pub(crate) fn take_up(
         data_options,
         body,
     } = message;
-    let sender = state.sender(name, origin);
+    let from = state.sender(name, origin);
     let for_all = is_broadcast(dest);
     let dest = answer_dest(name, origin);
     match body {
-        Body::Npdu(npdu) => match sender {
-            Some(from) => out.push(Action::Deliver(Delivered {
-                from,
-                broadcast: for_all,
-                data_options,
-                npdu,
-            })),
-            None => Ok(()),
-        },
+        Body::BvlcResult(answer) => take_answer(out, resolve, from, id, &answer),
+        Body::Npdu(npdu) => deliver(out, from, for_all, data_options, npdu),
         Body::AddressResolution => {
             state.answer_question(out, alloc, limits, name, id, dest, for_all)
         }
-        Body::AddressResolutionAck(uris) => match sender {
-            Some(from) => learn(out, resolve, alloc, id, from, uris),
-            None => Ok(()),
-        },
-        Body::Advertisement(advert) => match sender {
-            Some(from) => tell(out, Note::Advert(from, advert)),
-            None => Ok(()),
-        },
+        Body::AddressResolutionAck(uris) => learn_from(out, resolve, alloc, from, id, uris),
+        Body::Advertisement(told) => tell_advert(out, from, told),
         Body::AdvertisementSolicitation => state.advertise(out, alloc, limits, name, dest),
-        Body::BvlcResult(Answer::Nak { function, code, .. }) => {
-            take_nak(out, resolve, sender, id, function, code)
-        }
-        _ => Ok(()),
+        Body::ConnectRequest(_)
+        | Body::ConnectAccept(_)
+        | Body::DisconnectRequest
+        | Body::DisconnectAck
+        | Body::HeartbeatRequest
+        | Body::HeartbeatAck
+        | Body::Proprietary { .. } => Ok(()),
     }
 }

@@ -1,8 +1,8 @@
 //! What follows where the user of the node wants something.
-ghost use Rattle.std.specs.Prelude.{◌≡◌, ℕ, ◌<◌, ◌++◌, List, None, Some, IfOk, OnOk, length, slice_get};
+ghost use Rattle.std.specs.Prelude.{◌≡◌, ℕ, ◌<◌, ◌++◌, List, None, Some, IfOk, OnErr, OnOk, length, min, slice_get};
 ghost use Rattle.std.specs.Option.{option_map};
 ghost use Rattle.bsc_frame.specs.declared.body.Body.{Body};
-ghost use Rattle.bsc_resolve.specs.Standing.{StandsFor as ResolveStands};
+ghost use Rattle.bsc_resolve.specs.Standing.{IsUnchanged, StandsFor as ResolveStands};
 ghost use Rattle.bsc_node.specs.declared.action.Action.{Action};
 ghost use Rattle.bsc_node.specs.Logs.{Log};
 ghost use Rattle.bsc_node.specs.Ways.{established, free_slot, learnt, resolve_calls, uris_to_dial, way};
@@ -143,8 +143,9 @@ fn ask(
     v: Vmac,
     by: Way,
 ) -> Result<(), NoMemory>
-    ensures { OnOk result ((b : Base) (L : Log) → b.now ≡ now → way v L ≡ Some (way_of by)
+    ensures goes { OnOk result ((b : Base) (L : Log) → b.now ≡ now → way v L ≡ Some (way_of by)
         → BothStand b out.old state.old resolve.old L → BothStand b out.new state.new resolve.new (L ++ resolves b.made v L)) }
+    ensures err { OnErr result (IsUnchanged resolve.old resolve.new) }
 {
     let octets = message_octets(alloc, state.next, by.dest, Body::AddressResolution)?;
     out.push(Action::Put(by.link, octets))?;
@@ -174,8 +175,9 @@ pub(crate) fn resolve_vmac(
     now: u64,
     v: Vmac,
 ) -> Result<(), NoMemory>
-    ensures { OnOk result ((b : Base) (L : Log) → b.now ≡ now
+    ensures goes { OnOk result ((b : Base) (L : Log) → b.now ≡ now
         → BothStand b out.old state.old resolve.old L → BothStand b out.new state.new resolve.new (L ++ resolves b.made v L)) }
+    ensures err { OnErr result (IsUnchanged resolve.old resolve.new) }
 {
     match state.way(v) {
         None => tell(out, Note::NoPath(v)),
@@ -183,14 +185,15 @@ pub(crate) fn resolve_vmac(
     }
 }
 
-/// The URI of this number, among those learnt of a VMAC that can be dialled.
+/// The URI of this number, among those learnt of a VMAC that can be dialled; the greatest number stands for all past it.
 pub(crate) fn learnt_uri(
     alloc: Global,
     resolve: &Resolve,
     v: Vmac,
     number: u64,
 ) -> Result<Option<Octets>, NoMemory>
-    ensures { IfOk result (λ uri. (wait : ℕ) (L : Log) → ResolveStands resolve.now wait (resolve_calls L) → uri ≡ slice_get (uris_to_dial v L) number) }
+    ensures { IfOk result (λ uri. (wait : ℕ) (L : Log) (n : ℕ) → min n 18446744073709551615 ≡ number → ResolveStands resolve.now wait (resolve_calls L)
+        → uri ≡ slice_get (uris_to_dial v L) n) }
 {
     match resolve.uris(v) {
         None => Ok(None),

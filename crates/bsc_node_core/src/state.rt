@@ -17,16 +17,12 @@ pub(crate) struct State {
     pub(crate) own: Identity,
     /// The Message ID of its next message.
     pub(crate) next: u16,
-    /// Whether it was started.
-    pub(crate) started: bool,
     /// Whether it is to end.
     pub(crate) finishing: bool,
     /// How often it renewed its VMAC since a hub accepted it, up to 8.
     pub(crate) renewals: u8,
     /// The side of the newest message of a hub.
     pub(crate) newest_hub: Option<Side>,
-    /// Whether it awaits a random word.
-    pub(crate) awaits_word: bool,
     /// Whether the failover was dropped since its link began.
     pub(crate) dropped: bool,
     pub(crate) connector: Connector,
@@ -42,11 +38,9 @@ impl State {
         Ok(State {
             own: self.own,
             next: self.next,
-            started: self.started,
             finishing: self.finishing,
             renewals: self.renewals,
             newest_hub: self.newest_hub,
-            awaits_word: self.awaits_word,
             dropped: self.dropped,
             connector: self.connector,
             links: self.links.copy(alloc)?,

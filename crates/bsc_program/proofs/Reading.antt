@@ -1,12 +1,120 @@
--- What words are read as.
-use Rattle.std.proofs.Common.{◌≡◌, Option, Some, sym, ◌∙◌}
-use Rattle.bsc_hub_command.specs.Words.{HubOf}
-use Rattle.bsc_program.specs.declared.command.Command.{Command}
+-- What words ask for, and how what is asked for ends.
+use Rattle.std.proofs.Common.{◌≡◌, ℕ, ◌≤◌, Bool, true, false, nat_le, ◌&&◌, List, [], ◌∷◌, Option, Some, None, option_map, codes, refl, ap, subst, sym, ◌∙◌, append-nil, arith}
+use Rattle.std.proofs.lemmas.Bool.{and_parts, leb-true}
+use Rattle.std.specs.Prelude.{⊤, if◌then◌else◌}
+use Rattle.clap.specs.Words.{Kinds, Text, fault_of}
+use Rattle.bsc_text.specs.Grammar.{number_of}
+use Rattle.bsc_text.specs.Lines.{same_octets}
+use Rattle.bsc_outside.specs.Faults.{PutsPrefix}
+use Rattle.bsc_player.specs.declared.play_end.PlayEnd.TheVariants as play_end
+use Rattle.bsc_words.specs.declared.fault.WordsFault.{WordsFault}
+use Rattle.bsc_words.specs.declared.fault.WordsFault.TheVariants.{Refused, NoMemory}
+use Rattle.bsc_player.specs.Playing.{Played}
+use Rattle.bsc_player.specs.LastLines.{RanOut}
+use Rattle.bsc_player.specs.Statuses.{StatusTells}
+use Rattle.bsc_player.specs.Ends.{lines_read}
+use Rattle.bsc_player.proofs.Ran.{tells}
+use Rattle.bsc_words.specs.Commands.{replay_app, check_app, hub_app, node_app, load_app}
+use Rattle.bsc_words.specs.Words.{AskedOf, replay, check, hub, node, load, value_of, up_to, sessions_of, hub_of, node_of, load_of, unless}
+use Rattle.bsc_words.specs.Words.{replay_asked, check_asked, hub_asked, node_asked, load_asked, run_of, asked_by}
 
--- the words are one command
-pub one_command : (read named : Option Command) (a b : Command) → read ≡ Some a → read ≡ named → named ≡ Some b → a ≡ b
-one_command read named a b is same other = let both : Some a ≡ Some b = sym is ∙ same ∙ other in cc
+-- words that ask for something don't ask for nothing
+pub asks : (read : Option AskedOf) (a : AskedOf) → read ≡ Some a → read ≡ None → ⊥
+asks read a is none = let both : Some a ≡ None = sym is ∙ none in cc
 
--- the words say one thing of a hub
-pub one_hub : (read named : Option HubOf) (a b : HubOf) → read ≡ Some a → read ≡ named → named ≡ Some b → a ≡ b
-one_hub read named a b is same other = let both : Some a ≡ Some b = sym is ∙ same ∙ other in cc
+-- what holds of the words of a hub or of a node holds of words that ask for the same
+abbrev pub OfHub : (Text → Option ℕ → Type 0) → AskedOf → Type 0
+OfHub P (hub path sessions) = P path sessions
+OfHub P asked = ⊤
+
+pub of_hub : (P : Text → Option ℕ → Type 0) (a p : Text) (b n : Option ℕ) → hub a b ≡ hub p n → P a b → P p n
+of_hub P a p b n same h = subst (OfHub P) same h
+
+abbrev pub OfNode : (Text → Text → Type 0) → AskedOf → Type 0
+OfNode P (node path script) = P path script
+OfNode P asked = ⊤
+
+pub of_node : (P : Text → Text → Type 0) (a p b q : Text) → node a b ≡ node p q → P a b → P p q
+of_node P a p b q same h = subst (OfNode P) same h
+
+-- where words weren't read that ask for something, memory ran out
+pub ran_out : (fault : WordsFault) (read : Option AskedOf) (a : AskedOf) (s : ℕ) (b b' : Option (List ℕ)) → (fault ≡ Refused → read ≡ None) → (fault ≡ NoMemory → RanOut s b b') → read ≡ Some a → RanOut s b b'
+ran_out Refused read a s b b' none ran is = absurd (asks read a is (none refl))
+ran_out NoMemory read a s b b' none ran is = ran refl
+
+-- ---- the workers of a workload are 1 to 512
+
+abbrev pub Fits : Option AskedOf → Type 0
+Fits (Some (load n)) = (1 ≤ n) × (n ≤ 512)
+Fits asked = ⊤
+
+fits_chosen : (b : Bool) (x y : Option AskedOf) → Fits x → Fits y → Fits (if b then x else y)
+fits_chosen true x y f g = f
+fits_chosen false x y f g = g
+
+fits_unless : (kinds : Kinds) (x : Option AskedOf) → Fits x → Fits (unless kinds x)
+fits_unless [] x f = f
+fits_unless (kind ∷ kinds) x f = tt
+
+fits_sessions : (path : Text) (n : Option ℕ) → Fits (option_map (λ n. hub path (Some n)) n)
+fits_sessions path None = tt
+fits_sessions path (Some n) = tt
+
+fits_hub : (path sessions : Option Text) → Fits (hub_of path sessions)
+fits_hub None sessions = tt
+fits_hub (Some path) None = tt
+fits_hub (Some path) (Some word) = fits_sessions path (sessions_of word)
+
+fits_node : (path script : Option Text) → Fits (node_of path script)
+fits_node None script = tt
+fits_node (Some path) None = tt
+fits_node (Some path) (Some script) = tt
+
+fits_range : (n : ℕ) (b : Bool) → (b ≡ true → (1 ≤ n) × (n ≤ 512)) → Fits (option_map load (if b then Some n else None))
+fits_range n true f = f refl
+fits_range n false f = tt
+
+in_range : (n : ℕ) → (nat_le 1 n && nat_le n 512) ≡ true → (1 ≤ n) × (n ≤ 512)
+in_range n h = let two = and_parts (nat_le 1 n) (nat_le n 512) h in (leb-true 1 n two.0, leb-true n 512 two.1)
+
+fits_workers : (n : Option ℕ) → Fits (option_map load (up_to 512 n))
+fits_workers None = tt
+fits_workers (Some n) = fits_range n (nat_le 1 n && nat_le n 512) (in_range n)
+
+fits_load : (workers : Option Text) → Fits (load_of workers)
+fits_load None = tt
+fits_load (Some word) = fits_workers (number_of word)
+
+fits_run : (name : Text) (words : List Text) → Fits (run_of name words)
+fits_run name words =
+    fits_chosen (same_octets name (codes "hub")) (hub_asked words) _
+    (fits_unless (fault_of hub_app words) _ (fits_hub (value_of hub_app words (codes "path")) (value_of hub_app words (codes "sessions"))))
+    (fits_chosen (same_octets name (codes "node")) (node_asked words) _
+    (fits_unless (fault_of node_app words) _ (fits_node (value_of node_app words (codes "path")) (value_of node_app words (codes "script"))))
+    (fits_chosen (same_octets name (codes "load")) (load_asked words) None
+    (fits_unless (fault_of load_app words) _ (fits_load (value_of load_app words (codes "workers"))))
+    tt))
+
+fits_asked : (words : List Text) → Fits (asked_by words)
+fits_asked [] = tt
+fits_asked (name ∷ words) =
+    fits_chosen (same_octets name (codes "replay")) (replay_asked (name ∷ words)) _
+    (fits_unless (fault_of replay_app (name ∷ words)) (Some replay) tt)
+    (fits_chosen (same_octets name (codes "check")) (check_asked (name ∷ words)) (run_of name (name ∷ words))
+    (fits_unless (fault_of check_app (name ∷ words)) (Some check) tt)
+    (fits_run name (name ∷ words)))
+
+pub workers_fit : (words : List Text) (a : AskedOf) (n : ℕ) → asked_by words ≡ Some a → a ≡ load n → (1 ≤ n) × (n ≤ 512)
+workers_fit words a n is named = subst Fits (is ∙ ap Some named) (fits_asked words)
+
+-- ---- memory ran out before the input was read
+
+nothing : (before : Option (List ℕ)) (t text : List ℕ) → before ≡ Some t → PutsPrefix (Some t) before text
+nothing before t text held = subst (λ (x : Option (List ℕ)). PutsPrefix (Some t) x text) (sym held) (0, omega arith, sym (append-nil t))
+
+module _ (p : List ℕ → Played) (s : ℕ) (o t : List ℕ) (left before after : Option (List ℕ)) (f f' : ℕ) where
+  pub unread : left ≡ Some o → before ≡ Some t → RanOut s before after → StatusTells p s o t left after f f'
+  unread is held ran =
+      tells p s o t left before after f f' play_end.NoMemory (λ h. cc)
+      (record { taken = record { read = []; rest = o; parts = refl; remains = is }; written = nothing before t (p (lines_read [] o)).text held })
+      ran

@@ -5,7 +5,7 @@ use bsc_edge::{Acceptor, Arrived, Failed, FileFault, Files, Kind, LinkFault};
 use bsc_gate::{AcceptedLink, Gate};
 use bsc_live::Bells;
 use bsc_octets::{Octets, Vmac};
-use bsc_settings::read_settings;
+use bsc_settings::{Settings, read_settings};
 use std::alloc::Global;
 use std::cell::Cell;
 use std::io::{self, Eprint};
@@ -17,19 +17,28 @@ use std::time::Clock;
 /// At most so many handshakes are at work.
 const PLACES: usize = 256;
 
-/// Whose hub it is, once its settings were read.
+/// Whose door it is, a hub's or a node's, once its settings were read.
 pub type Owner = Rc<Cell<Option<Vmac>>>;
 
-/// Files that note whose settings they give.
+/// Files that note whose settings they give: those of a hub or of a node, by the kind of the links at its door.
 #[derive(Drop)]
 pub struct NotingFiles<F> {
     files: F,
+    kind: Kind,
     owner: Owner,
 }
 
 impl<F> NotingFiles<F> {
-    pub fn new(files: F, owner: Owner) -> NotingFiles<F> {
-        NotingFiles { files, owner }
+    pub fn new(files: F, kind: Kind, owner: Owner) -> NotingFiles<F> {
+        NotingFiles { files, kind, owner }
+    }
+}
+
+/// Who has links of this kind at its door, by these settings.
+fn owner_in(settings: &Settings, kind: Kind) -> Option<Vmac> {
+    match kind {
+        Kind::Hub => Some(settings.hub.as_ref()?.vmac),
+        Kind::Direct => Some(settings.node.as_ref()?.vmac),
     }
 }
 
@@ -41,19 +50,20 @@ impl<F: Files> Files for NotingFiles<F> {
     fn load(&mut self, alloc: Global, path: &str) -> Result<Octets, FileFault> {
         let text = self.files.load(alloc, path)?;
         if let Ok(settings) = read_settings(alloc, text.as_slice()) {
-            if let Some(hub) = settings.hub {
-                self.owner.set(Some(hub.vmac));
+            if let Some(vmac) = owner_in(&settings, self.kind) {
+                self.owner.set(Some(vmac));
             }
         }
         Ok(text)
     }
 }
 
-/// A gate that is made where it is bound, and tells on standard error what it serves.
+/// A gate that is made where it is bound, and tells on standard error what is behind it.
 #[derive(Drop)]
 pub struct Door<R: Clock + Net + Wait + Eprint + Copy + Drop> {
     rt: R,
     alloc: Global,
+    kind: Kind,
     owner: Owner,
     gate: Option<Gate<R>>,
     faults: u64,
@@ -61,10 +71,11 @@ pub struct Door<R: Clock + Net + Wait + Eprint + Copy + Drop> {
 }
 
 impl<R: Clock + Net + Wait + Eprint + Copy + Drop> Door<R> {
-    pub fn new(rt: R, alloc: Global, owner: Owner) -> Door<R> {
+    pub fn new(rt: R, alloc: Global, kind: Kind, owner: Owner) -> Door<R> {
         Door {
             rt,
             alloc,
+            kind,
             owner,
             gate: None,
             faults: 0,
@@ -73,29 +84,37 @@ impl<R: Clock + Net + Wait + Eprint + Copy + Drop> Door<R> {
     }
 }
 
-/// A gate that is bound to this port, of which standard error was told.
-fn open<R: Clock + Net + Wait + Eprint + Copy + Drop>(
+/// A gate for links of this kind that is bound to this port.
+fn open<R: Clock + Net + Wait + Copy + Drop>(
     rt: R,
     alloc: Global,
+    kind: Kind,
     port: u16,
-    owner: Option<Vmac>,
 ) -> io::Result<Gate<R>> {
     let Ok(bells) = Bells::new(alloc) else {
         return Err(io::Error::from(io::ErrorKind::OutOfMemory));
     };
     let bells = Arc::new(alloc, bells)?;
-    let mut gate = Gate::new(rt, alloc, Ipv4Addr::LOCALHOST, Kind::Hub, bells, PLACES)?;
-    if gate.bind(port).is_err() {
-        return Err(io::Error::from(io::ErrorKind::AddrInUse));
+    let mut gate = Gate::new(rt, alloc, Ipv4Addr::LOCALHOST, kind, bells, PLACES)?;
+    match gate.bind(port) {
+        Ok(()) => Ok(gate),
+        Err(_) => Err(io::Error::from(io::ErrorKind::AddrInUse)),
     }
+}
+
+/// Tells on standard error who takes links of this kind at this port.
+fn tell_open<R: Eprint>(rt: &R, kind: Kind, port: u16, owner: Option<Vmac>) {
     let [a, b, c, d, e, f] = match owner {
         Some(vmac) => vmac.0,
         None => [0; 6],
     };
+    let (who, takes, protocol) = match kind {
+        Kind::Hub => ("hub", "serves", "hub.bsc.bacnet.org"),
+        Kind::Direct => ("node", "accepts", "dc.bsc.bacnet.org"),
+    };
     let _ = eprintln!(rt;
-        "bsc: hub {a:02X}{b:02X}{c:02X}{d:02X}{e:02X}{f:02X} serves ws://127.0.0.1:{port}/ as hub.bsc.bacnet.org"
+        "bsc: {who} {a:02X}{b:02X}{c:02X}{d:02X}{e:02X}{f:02X} {takes} ws://127.0.0.1:{port}/ as {protocol}"
     );
-    Ok(gate)
 }
 
 impl<R: Clock + Net + Wait + Eprint + Copy + Drop> Acceptor<AcceptedLink<R>> for Door<R> {
@@ -108,8 +127,9 @@ impl<R: Clock + Net + Wait + Eprint + Copy + Drop> Acceptor<AcceptedLink<R>> for
     ghost left = { λ _. None };
 
     fn bind(&mut self, port: u16) -> Result<(), Failed> {
-        match open(self.rt, self.alloc, port, self.owner.get()) {
+        match open(self.rt, self.alloc, self.kind, port) {
             Ok(gate) => {
+                tell_open(&self.rt, self.kind, port, self.owner.get());
                 self.gate = Some(gate);
                 Ok(())
             }

@@ -1,22 +1,28 @@
 //! `bsc`: the switching layer of BACnet Secure Connect, on the command line.
 //!
-//! All that the program does is `run`, over a source and a sink; `main` hands it standard input and output.
+//! All that the program does is `run`. `main` hands it standard input and output, the files, the clock, the random octets,
+//! the links and the threads of the machine that it is on.
 #![tactic(auto)]
 
-mod command;
 mod door;
+mod links;
 mod play;
 mod run;
 #[cfg(test)]
 mod tests;
 
-use bsc_edge::{Disk, Monotonic, Places, ThreadSpawner, Unstarted, launch};
-use bsc_gate::AcceptedLink;
+use bsc_edge::{Disk, Kind, Monotonic, Places, ThreadSpawner, Unstarted, launch};
 use bsc_hub::Kept;
+use bsc_links::{PeerAcceptor, PeerDialer};
+use bsc_node_command::RandomWords;
+use bsc_octets::NoMemory;
 use bsc_outside::{ReaderSource, WriterSink};
+use bsc_pace::{Pace, PacedAcceptor, PacedClock, PacedDialer, PacedLink};
 use bsc_player::out_of_memory;
 use bsc_session::SessionJob;
+use bsc_words::{Asked, WordsFault, read_words};
 use door::{Door, NotingFiles};
+use links::{RealLink, real_dialer};
 use run::run;
 use std::alloc::Global;
 use std::cell::Cell;
@@ -30,7 +36,27 @@ use std::sync::Arc;
 const SESSIONS: u64 = 2048;
 
 /// The session of a real link.
-type Job = SessionJob<AcceptedLink<HostRuntime>, Monotonic<HostRuntime>>;
+type Job = SessionJob<
+    PacedLink<RealLink<HostRuntime>>,
+    PacedClock<Monotonic<HostRuntime>, HostRuntime>,
+>;
+
+/// The kind of the links that are accepted by these words: a node accepts direct connections.
+fn kind_of(alloc: Global, words: &[String]) -> Result<Kind, NoMemory> {
+    match read_words(alloc, words) {
+        Ok(Asked::Node { .. }) => Ok(Kind::Direct),
+        Ok(_) | Err(WordsFault::Refused) => Ok(Kind::Hub),
+        Err(WordsFault::NoMemory) => Err(NoMemory),
+    }
+}
+
+/// The pace of a run: a node that has no link to wait for sleeps between its turns.
+fn pace_of(alloc: Global, kind: Kind) -> Result<Pace, NoMemory> {
+    match kind {
+        Kind::Direct => Pace::new(alloc),
+        Kind::Hub => Ok(Pace::none()),
+    }
+}
 
 fn main(rt: HostRuntime) -> ExitCode {
     let alloc = rt.alloc();
@@ -52,9 +78,10 @@ fn main(rt: HostRuntime) -> ExitCode {
             // A word that isn't UTF-8 names no command. The run is given no words then, which are refused too.
         }
     }
-    let (Ok(owner), Ok(places)) = (
+    let (Ok(owner), Ok(places), Ok(dialer)) = (
         Rc::new(alloc, Cell::new(None)),
         Places::make(alloc, SESSIONS),
+        real_dialer(rt, alloc),
     ) else {
         return ExitCode::from(out_of_memory(&mut sink));
     };
@@ -65,9 +92,23 @@ fn main(rt: HostRuntime) -> ExitCode {
         launch(&rt, alloc, places, job)
     };
     let mut spawner = ThreadSpawner::new(begin, places);
-    let mut files = NotingFiles::new(Disk::new(rt), noted);
-    let mut clock = Monotonic::new(rt);
-    let mut acceptor = Door::new(rt, alloc, owner);
+    let Ok(kind) = kind_of(alloc, words.as_slice()) else {
+        return ExitCode::from(out_of_memory(&mut sink));
+    };
+    let Ok(pace) = pace_of(alloc, kind) else {
+        return ExitCode::from(out_of_memory(&mut sink));
+    };
+    let (Ok(of_clock), Ok(of_acceptor)) = (pace.another(), pace.another()) else {
+        return ExitCode::from(out_of_memory(&mut sink));
+    };
+    let mut files = NotingFiles::new(Disk::new(rt), kind, noted);
+    let mut clock = PacedClock::new(Monotonic::new(rt), rt, of_clock);
+    let mut random = RandomWords::new(rt);
+    let mut acceptor = PacedAcceptor::new(
+        PeerAcceptor::new(Door::new(rt, alloc, kind, owner)),
+        of_acceptor,
+    );
+    let mut dialer = PacedDialer::new(PeerDialer::new(dialer), pace);
     let mut kept = Kept {
         hub: None,
         pass: None,
@@ -80,7 +121,9 @@ fn main(rt: HostRuntime) -> ExitCode {
         &mut sink,
         &mut files,
         &mut clock,
+        &mut random,
         &mut acceptor,
+        &mut dialer,
         &mut spawner,
         &mut kept,
     ))

@@ -1,45 +1,156 @@
 //! What the program does.
-ghost use Rattle.std.specs.Prelude.{◌≡◌, ◌≤◌, ◌⊎◌, ◌++◌, ℕ, List, None, Some, map, string_bytes};
+ghost use Rattle.std.specs.Prelude.{◌≡◌, ◌≢◌, ◌≤◌, ◌⊎◌, ◌++◌, ℕ, List, Option, None, Some, map, string_bytes};
+ghost use Rattle.clap.specs.Words.{Text};
 ghost use Rattle.bsc_outside.specs.Faults.{HasRisen, PutsPrefix};
-ghost use Rattle.bsc_player.specs.LastLines.{words_line};
+ghost use Rattle.bsc_player.specs.LastLines.{EndsWith, RanOut, words_line};
 ghost use Rattle.bsc_player.specs.Statuses.{StatusTells};
+ghost use Rattle.bsc_script.specs.Scripts.{replay_of};
+ghost use Rattle.bsc_replay.specs.Checks.{check_of};
 ghost use Rattle.bsc_settings.specs.declared.hub.HubSettings.{HubSettings};
 ghost use Rattle.bsc_hub_command.specs.Served.{Runs};
 ghost use Rattle.bsc_hub_command.specs.Settled.{IsSettled, Unsettled};
-ghost use Rattle.bsc_hub_command.specs.Words.{HubOf, hub_words_of};
-ghost use Rattle.bsc_program.specs.declared.command.Command.{Command};
-ghost use Rattle.bsc_program.specs.Commands.{command_of, played_by};
+ghost use Rattle.bsc_load_command.specs.Loaded.{RunsLoad};
+ghost use Rattle.bsc_node_command.specs.Comes.{RunsFiles};
+ghost use Rattle.bsc_words.specs.declared.fault.WordsFault.TheVariants as words_fault;
+ghost use Rattle.bsc_words.specs.Words.{asked_by, check, hub, load, node, replay, seen};
 
-use crate::play::play;
-use bsc_edge::{Acceptor, Clock, Files, Link, Spawner};
+use crate::play::{Command, play};
+use bsc_edge::{Acceptor, Clock, Dialer, Files, Link, Spawner};
 use bsc_hub::Kept;
-use bsc_hub_command::{read_hub_words, run_hub};
+use bsc_hub_command::{HubWords, run_hub};
+use bsc_load_command::run_load;
+use bsc_node_command::{NodeWords, run_node_files};
+use bsc_node_run::Words;
 use bsc_outside::{Sink, Source};
+use bsc_player::{end_with, out_of_memory};
 use bsc_session::SessionJob;
+use bsc_words::{Asked, WordsFault, read_words};
 use std::alloc::Global;
 use std::sync::Wait;
+use std::thread::Threads;
 
-/// Runs the program on its words, the program's own name not among them, and answers its status: serves a hub, or plays
-/// the source.
-///
-/// | status | cause | last line written |
-/// |---|---|---|
-/// | 0 | the input was read to its end and its text was written, or the sessions of the hub have ended | none of its own |
-/// | 1 | the words are no command | `fault words` |
-/// | 2 | line n of the input is refused | `fault script line n` |
-/// | 3 | a read of the source or of the settings failed | `fault read` |
-/// | 4 | a write to the sink failed, also one of a last line | none |
-/// | 5 | the settings are refused for this key | `fault settings KEY` |
-/// | 6 | the port can't be bound, or the acceptor failed | `fault link` |
-/// | 7 | memory ran out | `fault memory`, tried once |
-pub fn run<
-    R: Wait,
+/// Ends a run whose words say no command.
+fn end_unasked<K: Sink>(sink: &mut K, fault: WordsFault) -> u8
+    ensures refused { fault ≡ words_fault.Refused → EndsWith result 1 (K.held sink.old) (K.held sink.new) words_line }
+    ensures ran_out { fault ≡ words_fault.NoMemory → RanOut result (K.held sink.old) (K.held sink.new) }
+    ensures write { result ≡ 4 → HasRisen (K.faults sink.old) (K.faults sink.new) }
+{
+    match fault {
+        WordsFault::Refused => end_with(sink, b"fault words\n", 1),
+        WordsFault::NoMemory => out_of_memory(sink),
+    }
+}
+
+/// Does what is asked for: serves a hub, runs a node or a workload, or plays the source.
+fn run_asked<
+    R: Threads + Wait + Sync,
     S: Source,
     K: Sink,
     F: Files,
     C: Clock + Drop,
+    W: Words,
     L: Link + Drop,
     A: Acceptor<L>,
+    D: Dialer<L>,
+    P: Spawner<SessionJob<L, C>>,
+>(
+    rt: &R,
+    alloc: Global,
+    asked: Asked<'_>,
+    source: &mut S,
+    sink: &mut K,
+    files: &mut F,
+    clock: &mut C,
+    random: &mut W,
+    acceptor: &mut A,
+    dialer: &mut D,
+    spawner: &mut P,
+    kept: &mut Kept,
+) -> u8
+    requires can { P.can_start spawner.old }
+    requires kept { kept.old.hub ≡ None }
+    requires workers { (n : ℕ) → seen asked ≡ load n → (1 ≤ n) × (n ≤ 512) }
+    ensures hub { (path : Text) (sessions : Option ℕ) (made : _) → seen asked.entry ≡ hub path sessions → kept.new.hub ≡ Some made →
+        (v : HubSettings) × IsSettled (F.holds files.old path) v
+        × Runs v sessions kept.new made (A.left acceptor.old) (A.left acceptor.new) (A.bound acceptor.new)
+        (P.jobs spawner.old) (P.jobs spawner.new) (P.since spawner.new) (P.faults spawner.old) (P.faults spawner.new)
+        (A.faults acceptor.old) (A.faults acceptor.new) result (K.held sink.old) (K.held sink.new) }
+    ensures no_hub { (path : Text) (sessions : Option ℕ) → seen asked.entry ≡ hub path sessions → kept.new.hub ≡ None →
+        Unsettled (F.holds files.old path) (F.faults files.old) (F.faults files.new) result (K.held sink.old) (K.held sink.new) }
+    ensures node { (path script : Text) → seen asked.entry ≡ node path script →
+        (between : F) × RunsFiles L.talk (F.holds files.old path) (F.holds between script)
+        (F.faults files.old) (F.faults files.new) (D.calls dialer.old) (D.calls dialer.new)
+        (A.left acceptor.old) (A.left acceptor.new) (A.bound acceptor.old) (A.bound acceptor.new)
+        (C.readings clock.old) (C.readings clock.new) (A.faults acceptor.old) (A.faults acceptor.new)
+        result (K.held sink.old) (K.held sink.new) }
+    ensures load { (n : ℕ) (made : _) → seen asked.entry ≡ load n → kept.new.hub ≡ Some made →
+        RunsLoad n kept.new made result (K.held sink.old) (K.held sink.new) }
+    ensures no_load { (n : ℕ) → seen asked.entry ≡ load n → kept.new.hub ≡ None →
+        RanOut result (K.held sink.old) (K.held sink.new) }
+    ensures replayed { (o t : List ℕ) → seen asked.entry ≡ replay → S.left source.old ≡ Some o → K.held sink.old ≡ Some t →
+        StatusTells replay_of result o t (S.left source.new) (K.held sink.new)
+        (S.faults source.old) (S.faults source.new) }
+    ensures checked { (o t : List ℕ) → seen asked.entry ≡ check → S.left source.old ≡ Some o → K.held sink.old ≡ Some t →
+        StatusTells check_of result o t (S.left source.new) (K.held sink.new)
+        (S.faults source.old) (S.faults source.new) }
+    ensures asked { result ≢ 1 }
+    ensures read { result ≡ 3 → HasRisen (S.faults source.old) (S.faults source.new) ⊎ HasRisen (F.faults files.old) (F.faults files.new) }
+    ensures write { result ≡ 4 → HasRisen (K.faults sink.old) (K.faults sink.new) }
+    ensures link { result ≡ 6 → HasRisen (A.faults acceptor.old) (A.faults acceptor.new) }
+{
+    match asked {
+        Asked::Replay => play(alloc, Command::Replay, source, sink),
+        Asked::Check => play(alloc, Command::Check, source, sink),
+        Asked::Hub { path, sessions } => run_hub(
+            rt,
+            alloc,
+            HubWords { path, sessions },
+            sink,
+            files,
+            clock,
+            acceptor,
+            spawner,
+            kept,
+        ),
+        Asked::Node { path, script } => run_node_files(
+            alloc,
+            NodeWords { path, script },
+            sink,
+            files,
+            clock,
+            random,
+            acceptor,
+            dialer,
+        ),
+        Asked::Load { workers } => run_load(rt, alloc, workers, sink, kept),
+    }
+}
+
+/// Runs the program on its words, the program's own name not among them, and answers its status: serves a hub, runs a
+/// node or a workload, or plays the source.
+///
+/// | status | cause | last line written |
+/// |---|---|---|
+/// | 0 | the input was read to its end and its text was written; the sessions of the hub, the node, or all workers have ended | none of its own |
+/// | 1 | the words are no command | `fault words` |
+/// | 2 | line n of the input, or of the node's script, is refused | `fault script line n` |
+/// | 3 | a read of the source, of the settings or of the node's script failed | `fault read` |
+/// | 4 | a write to the sink failed, also one of a last line | none |
+/// | 5 | the settings are refused for this key | `fault settings KEY` |
+/// | 6 | the port can't be bound, or the acceptor failed | `fault link` |
+/// | 7 | memory ran out | `fault memory`, tried once |
+/// | 8 | the node made as many turns as its settings allow | `fault turns` |
+/// | 9 | workers of a workload were cut short | `fault load` |
+pub fn run<
+    R: Threads + Wait + Sync,
+    S: Source,
+    K: Sink,
+    F: Files,
+    C: Clock + Drop,
+    W: Words,
+    L: Link + Drop,
+    A: Acceptor<L>,
+    D: Dialer<L>,
     P: Spawner<SessionJob<L, C>>,
 >(
     rt: &R,
@@ -49,7 +160,9 @@ pub fn run<
     sink: &mut K,
     files: &mut F,
     clock: &mut C,
+    random: &mut W,
     acceptor: &mut A,
+    dialer: &mut D,
     spawner: &mut P,
     kept: &mut Kept,
 ) -> u8
@@ -57,34 +170,53 @@ pub fn run<
     requires kept { kept.old.hub ≡ None }
 
     // Of the words of a hub: once it is made, its settings are those of the file, and this is what became of it.
-    ensures hub { (w : HubOf) (hub : _) → hub_words_of (map string_bytes words.now) ≡ Some w → kept.new.hub ≡ Some hub →
-        (v : HubSettings) × IsSettled (F.holds files.old w.path) v
-        × Runs v w.sessions kept.new hub (A.left acceptor.old) (A.left acceptor.new) (A.bound acceptor.new)
+    ensures hub { (path : Text) (sessions : Option ℕ) (made : _) → asked_by (map string_bytes words.now) ≡ Some (hub path sessions) →
+        kept.new.hub ≡ Some made → (v : HubSettings) × IsSettled (F.holds files.old path) v
+        × Runs v sessions kept.new made (A.left acceptor.old) (A.left acceptor.new) (A.bound acceptor.new)
         (P.jobs spawner.old) (P.jobs spawner.new) (P.since spawner.new) (P.faults spawner.old) (P.faults spawner.new)
         (A.faults acceptor.old) (A.faults acceptor.new) result (K.held sink.old) (K.held sink.new) }
-    ensures no_hub { (w : HubOf) → hub_words_of (map string_bytes words.now) ≡ Some w → kept.new.hub ≡ None →
-        Unsettled (F.holds files.old w.path) (F.faults files.old) (F.faults files.new) result (K.held sink.old) (K.held sink.new) }
+    ensures no_hub { (path : Text) (sessions : Option ℕ) → asked_by (map string_bytes words.now) ≡ Some (hub path sessions) → kept.new.hub ≡ None →
+        Unsettled (F.holds files.old path) (F.faults files.old) (F.faults files.new) result (K.held sink.old) (K.held sink.new) }
 
-    // Of other words: status 1 comes exactly where they are no command and their last line could be written.
-    ensures words { hub_words_of (map string_bytes words.now) ≡ None → result ≡ 1 → command_of (map string_bytes words.now) ≡ None }
-    ensures other_words { hub_words_of (map string_bytes words.now) ≡ None → command_of (map string_bytes words.now) ≡ None →
-        (result ≡ 1) ⊎ (result ≡ 4) }
-    ensures other_words_part { hub_words_of (map string_bytes words.now) ≡ None → command_of (map string_bytes words.now) ≡ None →
-        PutsPrefix (K.held sink.old) (K.held sink.new) words_line }
+    // Of the words of a node: what became of it, by its settings as they were in their file, and by a text that files have at
+    // the path of its script.
+    ensures node { (path script : Text) → asked_by (map string_bytes words.now) ≡ Some (node path script) →
+        (between : F) × RunsFiles L.talk (F.holds files.old path) (F.holds between script)
+        (F.faults files.old) (F.faults files.new) (D.calls dialer.old) (D.calls dialer.new)
+        (A.left acceptor.old) (A.left acceptor.new) (A.bound acceptor.old) (A.bound acceptor.new)
+        (C.readings clock.old) (C.readings clock.new) (A.faults acceptor.old) (A.faults acceptor.new)
+        result (K.held sink.old) (K.held sink.new) }
 
-    // Of a command that plays its input, what the status says of that: what was read, and what was written.
-    ensures played { (c : Command) (o t : List ℕ) → hub_words_of (map string_bytes words.now) ≡ None →
-        command_of (map string_bytes words.now) ≡ Some c → S.left source.old ≡ Some o → K.held sink.old ≡ Some t →
-        StatusTells (played_by c) result o t (S.left source.new) (K.held sink.new)
+    // Of the words of a workload: once its hub is made, this is what became of it; else memory ran out.
+    ensures load { (n : ℕ) (made : _) → asked_by (map string_bytes words.now) ≡ Some (load n) → kept.new.hub ≡ Some made →
+        RunsLoad n kept.new made result (K.held sink.old) (K.held sink.new) }
+    ensures no_load { (n : ℕ) → asked_by (map string_bytes words.now) ≡ Some (load n) → kept.new.hub ≡ None →
+        RanOut result (K.held sink.old) (K.held sink.new) }
+
+    // Of the words of a command that plays its input, what the status says of that: what was read, and what was written.
+    ensures replayed { (o t : List ℕ) → asked_by (map string_bytes words.now) ≡ Some replay →
+        S.left source.old ≡ Some o → K.held sink.old ≡ Some t → StatusTells replay_of result o t (S.left source.new) (K.held sink.new)
         (S.faults source.old) (S.faults source.new) }
+    ensures checked { (o t : List ℕ) → asked_by (map string_bytes words.now) ≡ Some check →
+        S.left source.old ≡ Some o → K.held sink.old ≡ Some t → StatusTells check_of result o t (S.left source.new) (K.held sink.new)
+        (S.faults source.old) (S.faults source.new) }
+
+    // Status 1 comes only where the words ask for nothing. Then nothing is read or touched, and the last line that is written
+    // is that of the words, or there was no memory to read them.
+    ensures words { result ≡ 1 → asked_by (map string_bytes words.now) ≡ None }
+    ensures other_words { asked_by (map string_bytes words.now) ≡ None →
+        EndsWith result 1 (K.held sink.old) (K.held sink.new) words_line ⊎ RanOut result (K.held sink.old) (K.held sink.new) }
+    ensures other_words_unread { asked_by (map string_bytes words.now) ≡ None → S.left source.new ≡ S.left source.old }
 
     // Faults of the source, the files, the sink and the acceptor are counted.
     ensures read { result ≡ 3 → HasRisen (S.faults source.old) (S.faults source.new) ⊎ HasRisen (F.faults files.old) (F.faults files.new) }
     ensures write { result ≡ 4 → HasRisen (K.faults sink.old) (K.faults sink.new) }
     ensures link { result ≡ 6 → HasRisen (A.faults acceptor.old) (A.faults acceptor.new) }
 {
-    match read_hub_words(words) {
-        Some(hub) => run_hub(rt, alloc, hub, sink, files, clock, acceptor, spawner, kept),
-        None => play(alloc, words, source, sink),
+    match read_words(alloc, words) {
+        Ok(asked) => run_asked(
+            rt, alloc, asked, source, sink, files, clock, random, acceptor, dialer, spawner, kept,
+        ),
+        Err(fault) => end_unasked(sink, fault),
     }
 }

@@ -1,10 +1,22 @@
 //! The statuses of runs, with what stands written after each.
-use crate::play::play;
-use bsc_octets::NoMemory;
+mod direct;
+mod loopback;
+mod noding;
+mod process;
+mod serving;
+
+use crate::run::run;
+use bsc_edge::{MemAcceptor, MemClock, MemDialer, MemFile, MemFiles, MemLink, MemSpawner};
+use bsc_hub::Kept;
+use bsc_node_run::MemWords;
+use bsc_octets::{NoMemory, Octets};
 use bsc_outside::{MemSink, MemSource};
+use bsc_session::SessionJob;
 use std::alloc::Global;
 use std::process::Abort;
+use std::sync::Wait;
 use std::test::*;
+use std::thread::Threads;
 
 const SCRIPT: &str = concat!(
     "hub 0200000000FF 00112233445566778899AABBCCDDEEFF 0640 05D9 256 64\n",
@@ -173,21 +185,57 @@ fn words_of(alloc: Global, words: &[&str]) -> Result<Vec<String>, NoMemory> {
     Ok(all)
 }
 
+/// Files by their paths and their texts.
+fn files_of(alloc: Global, files: &[(&str, &str)]) -> Result<Vec<MemFile>, NoMemory> {
+    let mut all = Vec::new(alloc);
+    for (path, text) in files {
+        all.push(MemFile {
+            path: Octets::from_vec(Vec::from_slice(alloc, path.as_bytes())?),
+            octets: Octets::from_vec(Vec::from_slice(alloc, text.as_bytes())?),
+        })?;
+    }
+    Ok(all)
+}
+
+/// The status of a run on these words over a source and a sink, without files or links.
+fn status_of<R: Threads + Wait + Sync>(
+    rt: &R,
+    alloc: Global,
+    case: &Case,
+    sink: &mut MemSink<'_>,
+) -> Result<u8, NoMemory> {
+    let words = words_of(alloc, case.words)?;
+    let mut acceptor: MemAcceptor<'_, MemLink<'static>> = MemAcceptor::new(Vec::new(alloc), &[]);
+    let mut spawner: MemSpawner<'_, SessionJob<MemLink<'static>, MemClock<'static>>> =
+        MemSpawner::new(alloc, &[]);
+    let mut kept = Kept {
+        hub: None,
+        pass: None,
+    };
+    Ok(run(
+        rt,
+        alloc,
+        words.as_slice(),
+        &mut MemSource::in_pieces(case.script.as_bytes(), 85, case.reads),
+        sink,
+        &mut MemFiles::new(Vec::new(alloc), &[]),
+        &mut MemClock::new(alloc, &[]),
+        &mut MemWords::new(&[]),
+        &mut acceptor,
+        &mut MemDialer::new(alloc, Vec::new(alloc), &[]),
+        &mut spawner,
+        &mut kept,
+    ))
+}
+
 #[test]
-fn ends_with_a_status(rt: HostRuntime) {
+fn ends_with_a_status(rt: HostRuntime) -> Result<(), Fail> {
     let alloc = rt.alloc();
     for (at, case) in CASES.iter().enumerate() {
-        let Ok(mut sink) = MemSink::make(alloc, case.room, case.writes) else {
-            assert!(rt; false, "no memory");
-            return;
-        };
-        let Ok(words) = words_of(alloc, case.words) else {
-            assert!(rt; false, "no memory");
-            return;
-        };
-        let mut source = MemSource::in_pieces(case.script.as_bytes(), 85, case.reads);
-        let status = play(alloc, words.as_slice(), &mut source, &mut sink);
+        let mut sink = MemSink::make(alloc, case.room, case.writes)?;
+        let status = status_of(&rt, alloc, case, &mut sink)?;
         assert_eq!(rt; status, case.status, "in row {at}");
         assert!(rt; sink.held() == case.text.as_bytes(), "in row {at}");
     }
+    Ok(())
 }

@@ -25,11 +25,11 @@ use Rattle.bsc_session.specs.declared.limits.SessionLimits.{SessionLimits}
 use Rattle.bsc_session.specs.declared.member.Member.{Member}
 use Rattle.bsc_session.specs.declared.stop.Stop.{Stop}
 use Rattle.bsc_session.specs.declared.taken.Taken.{Taken}
-use Rattle.bsc_session.specs.declared.taken.Taken.TheVariants.{All, Met, Cut}
+use Rattle.bsc_session.specs.declared.taken.Taken.TheVariants.{All, Part, Met, Cut}
 use Rattle.bsc_session.specs.declared.why.Why.{Why}
 use Rattle.bsc_session.specs.declared.why.Why.TheVariants.{EndedBy}
 use Rattle.bsc_session.specs.Answering.{calls_hub}
-use Rattle.bsc_session.specs.Inner.{AreTerms, Attends, Between, Carries, Follows, HasEnded, HasFound, Meets, Opens, Runs, SameMember, Starts, Takes, TakesFrom, Ticks, Tied, conn_of, given_by}
+use Rattle.bsc_session.specs.Inner.{AreTerms, Attends, Between, Carries, Follows, HasEnded, HasFound, Meets, Opens, Runs, SameMember, Starts, Takes, TakesFrom, Ticks, Tied, conn_of, cut_in, given_by, met_in}
 use Rattle.bsc_session.specs.Puts.{octets_in, puts}
 use Rattle.bsc_session.specs.Reading.{start_at, started, ticked, wanted_at}
 use Rattle.bsc_session.specs.Standings.{Standing, Terms, is_connected, is_phase_connected, start_of, told, wanted}
@@ -142,24 +142,37 @@ conn_same (Some m) None h = absurd h
 follows_taken : (a : At) (n : Option Member) (s : Standing) → SameMember a.member n → ((e : Option End) → HasFound e a.member → HasFound e n) → Follows a s → Follows (record { machine = a.machine; member = n; ended = a.ended; receives = a.receives }) s
 follows_taken a n s same keeps f = record { conn = conn_same a.member n same ∙ f.conn; ended = f.ended; receives = f.receives; found = keeps a.ended f.found }
 
--- nothing more was there, or sixteen were taken
-pub attends_all : (v : Terms) (s : Standing) (now : ℕ) (a : At) (n : Option Member) (old new : Option (List Said)) → TakesFrom a.member n old new All → Follows a s → Runs v a s
+-- no End and no fault came
+attends_on : (v : Terms) (s : Standing) (now : ℕ) (a : At) (n : Option Member) (old new : Option (List Said)) (taken : Taken)
+    → met_in taken ≡ None → cut_in taken ≡ None → TakesFrom a.member n old new taken → Follows a s → Runs v a s
     → Attends v s now a (record { machine = a.machine; member = n; ended = a.ended; receives = a.receives }) old new None
-attends_all v s now a n old new t f r = record {
+attends_on v s now a n old new taken unmet uncut t f r = record {
   frames = t.frames;
   met = None;
   fault = None;
   same = t.same;
   gave = t.gave;
-  empties = t.empties;
-  few = t.few;
+  empties = rw (unmet, uncut) at t.empties;
+  few = rw unmet at t.few;
   left = λ h. cc;
-  said = rw append-nil t.said;
-  cause = t.cause;
+  said = rw append-nil (rw uncut at t.said);
+  cause = rw uncut at t.cause;
   stops = refl;
   follows = follows_taken a n s t.same t.keeps f;
   runs = λ going. record { machine = r.machine; waits = r.waits; tied = r.tied };
 }
+
+-- nothing more was there
+pub attends_all : (v : Terms) (s : Standing) (now : ℕ) (a : At) (n : Option Member) (old new : Option (List Said))
+    → TakesFrom a.member n old new All → Follows a s → Runs v a s
+    → Attends v s now a (record { machine = a.machine; member = n; ended = a.ended; receives = a.receives }) old new None
+attends_all v s now a n old new t f r = attends_on v s now a n old new All refl refl t f r
+
+-- there may be more
+pub attends_part : (v : Terms) (s : Standing) (now : ℕ) (a : At) (n : Option Member) (old new : Option (List Said))
+    → TakesFrom a.member n old new Part → Follows a s → Runs v a s
+    → Attends v s now a (record { machine = a.machine; member = n; ended = a.ended; receives = a.receives }) old new None
+attends_part v s now a n old new t f r = attends_on v s now a n old new Part refl refl t f r
 
 -- the taking was cut off by a fault
 pub attends_cut : (v : Terms) (s : Standing) (now : ℕ) (a : At) (n : Option Member) (old new : Option (List Said)) (fault : LinkFault) (stop : Stop) → TakesFrom a.member n old new (Cut fault) → Follows a s → stop ≡ stop_at fault

@@ -15,7 +15,7 @@ use lib.ListN.{get_elem?}
 use Rattle.bsc_ring.specs.declared.found.Found.{Found}
 use Rattle.bsc_ring.specs.declared.found.Found.TheVariants.{Ending, Tail}
 use Rattle.bsc_ring.specs.Ends.{FoundEnd, Took, empties_of, found, given, known_pushed, knows_all, outlet_mark}
-use Rattle.bsc_session.specs.declared.taken.Taken.TheVariants.{All, Met, Cut}
+use Rattle.bsc_session.specs.declared.taken.Taken.TheVariants.{All, Part, Met, Cut}
 use Rattle.bsc_session.specs.Inner.{HasEnded, Taking, Takes}
 use Rattle.bsc_session.specs.Puts.{puts, HasPut}
 use Rattle.bsc_session.proofs.Lists.{grows-nil, grows_as, grown, puts-more}
@@ -80,7 +80,7 @@ some_put [] o fault = tt
 some_put (p ∷ os) o fault = tt
 
 -- sixteen were taken
-pub takes_sixteen : (o p : Outlet) (old new : Option (List Said)) → Taking o p old new 16 → Takes o p old new All
+pub takes_sixteen : (o p : Outlet) (old new : Option (List Said)) → Taking o p old new 16 → Takes o p old new Part
 takes_sixteen o p old new t = record {
   frames = t.frames;
   mark = t.mark;
@@ -90,6 +90,7 @@ takes_sixteen o p old new t = record {
   gave = t.gave;
   empties = rw t.many (let k = t.empties in omega (arith, k));
   few = (let k = t.many in omega (arith, k));
+  fits = t.many;
   said = t.said;
   cause = well t.frames;
 }
@@ -112,6 +113,7 @@ takes_few o p q old new n t few room took mark =
       gave = took.0.0 ∙ t.gave;
       empties = rw (t.many, lt-ltb n 16 few) (one ∙ ap (λ k. k + 1) t.empties);
       few = (let k = t.many in omega (arith, k, few));
+      fits = rw t.many few;
       said = t.said;
       cause = well t.frames;
     }
@@ -131,6 +133,7 @@ takes_met o p q old new n e t few took mark finds = record {
   gave = took.0.0 ∙ t.gave;
   empties = took.2 ∙ t.empties ∙ omega arith;
   few = (let k = t.many in omega (arith, k, few));
+  fits = tt;
   said = t.said;
   cause = well t.frames;
 }
@@ -147,6 +150,7 @@ takes_cut o p q old mid new n f fault t few took mark said = record {
   gave = took.0 ∙ ap (λ k. k ++ f ∷ []) t.gave ∙ append_assoc (given o) t.frames (f ∷ []);
   empties = took.2 ∙ t.empties ∙ omega arith;
   few = rw length-append (let k = t.many in omega (arith, k, few));
+  fits = tt;
   said = grows_as old new _ _ (sym (puts-more t.frames f (Some fault))) (grown old mid new (puts t.frames None) (Put f (Some fault) ∷ []) t.said said);
   cause = some_put t.frames f (Some fault);
 }

@@ -1,5 +1,5 @@
 -- What the inner functions of a session say; no public clause cites any of it.
-use Rattle.std.specs.Prelude.{◌≡◌, ◌≢◌, ◌≤◌, ◌+◌, ℕ, Bool, true, false, is_some, nat_lt, if◌then◌else◌, ◌&&◌, is_none, List, [], ◌∷◌, ◌++◌, length, Option, Some, None, Result, Ok, ⊤}
+use Rattle.std.specs.Prelude.{◌≡◌, ◌≢◌, ◌≤◌, ◌<◌, ◌+◌, ℕ, Bool, true, false, is_some, nat_lt, if◌then◌else◌, ◌&&◌, is_none, List, [], ◌∷◌, ◌++◌, length, Option, Some, None, Result, Ok, Err, ⊤}
 use Rattle.bsc_octets.specs.declared.vmac.Vmac.{Vmac}
 use Rattle.bsc_history.specs.declared.call.Call.TheVariants.{Forward}
 use Rattle.bsc_history.specs.declared.ending.End.{End}
@@ -25,10 +25,11 @@ use Rattle.bsc_turn.specs.Passes.{number_of, seen}
 use Rattle.bsc_hub.specs.declared.hub.Hub.{Hub}
 use Rattle.bsc_hub.specs.Passing.{IsCaller, IsOwnAs, about_of}
 use Rattle.bsc_session.specs.declared.at.At.{At}
+use Rattle.bsc_session.specs.declared.backlog.Backlog.{Backlog}
 use Rattle.bsc_session.specs.declared.member.Member.{Member}
 use Rattle.bsc_session.specs.declared.stop.Stop.{Stop}
 use Rattle.bsc_session.specs.declared.taken.Taken.{Taken}
-use Rattle.bsc_session.specs.declared.taken.Taken.TheVariants.{Met, Cut}
+use Rattle.bsc_session.specs.declared.taken.Taken.TheVariants.{All, Part, Met, Cut}
 use Rattle.bsc_session.specs.declared.why.Why.{Why}
 use Rattle.bsc_session.specs.declared.why.Why.TheVariants.{EndedBy, LinkFault as WhyLinkFault}
 use Rattle.bsc_session.specs.Answering.{Fits, IsHearing, after_hearing, answered, called, calls_hub, entries_hearing, last_wanted, said_hearing, stop_by, stop_hearing, stop_judged, stop_message}
@@ -54,6 +55,11 @@ RoseFor why old new = ⊤
 abbrev pub RoseIf : Option Stop → ℕ → ℕ → Type 0
 RoseIf None old new = ⊤
 RoseIf (Some s) old new = RoseFor s.why old new
+
+-- how what says whether there may be more stops the session
+abbrev pub stop_of : Result Backlog Stop → Option Stop
+stop_of (Ok backlog) = None
+stop_of (Err s) = Some s
 
 -- A step was carried out.
 pub record Carries (old new : Option (List Said)) (st : Step) (why : Why) (stop : Option Stop) : Type 0 where
@@ -193,6 +199,12 @@ abbrev pub cut_in : Taken → Option LinkFault
 cut_in (Cut fault) = Some fault
 cut_in t = None
 
+-- Fewer than sixteen frames were all that there were; sixteen may be a part.
+abbrev pub FitsCount : Taken → List (List ℕ) → Type 0
+FitsCount All frames = length frames < 16
+FitsCount Part frames = length frames ≡ 16
+FitsCount t frames = ⊤
+
 -- one where fewer than sixteen frames were found, and nothing else
 abbrev pub nothing_found : List (List ℕ) → Option End → Bool → ℕ
 nothing_found frames met goes_on = if is_none met && (goes_on && nat_lt (length frames) 16) then 1 else 0
@@ -217,6 +229,7 @@ pub record Takes (o p : Outlet) (old new : Option (List Said)) (taken : Taken) :
   pub gave : given p ≡ given o ++ frames
   pub empties : empties_of p ≡ empties_of o + nothing_found frames (met_in taken) (is_none (cut_in taken))
   pub few : length frames + count_of (met_in taken) ≤ 16
+  pub fits : FitsCount taken frames
   pub said : Grows old new (puts frames (cut_in taken))
   pub cause : HasPut frames (cut_in taken)
 

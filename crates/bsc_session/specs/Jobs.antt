@@ -5,7 +5,6 @@ use Rattle.bsc_outside.specs.Faults.{HasRisen}
 use Rattle.bsc_edge.specs.declared.said.Said.{Said}
 use Rattle.bsc_session.specs.declared.ended.Ended.{Ended}
 use Rattle.bsc_session.specs.declared.job.SessionJob.{SessionJob}
-use Rattle.bsc_session.specs.declared.why.Why.{Why}
 use Rattle.bsc_session.specs.declared.why.Why.TheVariants.{LinkFault}
 use Rattle.bsc_session.specs.Causes.{HasExactCause}
 use Rattle.bsc_session.specs.Laws.{GrowsToFault}

@@ -6,6 +6,7 @@
 
 mod answering;
 mod at;
+mod backlog;
 mod ended;
 mod ending;
 mod job;

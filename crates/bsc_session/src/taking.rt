@@ -6,10 +6,11 @@ ghost use Rattle.bsc_ring.specs.Ends.{empties_of};
 ghost use Rattle.bsc_outside.specs.Faults.{HasRisen};
 ghost use Rattle.bsc_edge.specs.declared.fault.LinkFault.{LinkFault};
 ghost use Rattle.bsc_session.specs.declared.taken.Taken.{Taken};
-ghost use Rattle.bsc_session.specs.Inner.{Attends, Follows, Meets, RoseIf, Runs, Takes, TakesFrom, Tied, empties_by};
+ghost use Rattle.bsc_session.specs.Inner.{Attends, Follows, Meets, RoseIf, Runs, Takes, TakesFrom, Tied, empties_by, stop_of};
 ghost use Rattle.bsc_session.specs.Standings.{Standing, Terms, start_of};
 
 use crate::at::At;
+use crate::backlog::Backlog;
 use crate::member::Member;
 use crate::stop::Stop;
 use crate::stopping::{carry_out, stop_at};
@@ -40,7 +41,7 @@ pub fn take_frames<L: Link>(alloc: Global, link: &mut L, outlet: &mut Outlet) ->
             Take::Closed(end) => return Taken::Met(end),
         }
     }
-    Taken::All
+    Taken::Part
 }
 
 /// Tells the machine of an End, and carries out what it wants.
@@ -71,19 +72,30 @@ fn take_from<L: Link>(alloc: Global, link: &mut L, member: &mut Option<Member>) 
     }
 }
 
-/// In Connected, takes from the outlet, and meets its End.
-pub fn attend<L: Link>(alloc: Global, link: &mut L, at: &mut At, now: u64) -> Option<Stop>
+/// Nothing is left, unless the session stops.
+fn nothing_left(stop: Option<Stop>) -> Result<Backlog, Stop>
+    ensures { stop_of result ≡ stop }
+{
+    match stop {
+        Some(stop) => Err(stop),
+        None => Ok(Backlog::Nothing),
+    }
+}
+
+/// In Connected, takes from the outlet, and meets its End. Says whether there may be more.
+pub fn attend<L: Link>(alloc: Global, link: &mut L, at: &mut At, now: u64) -> Result<Backlog, Stop>
     requires connected { IsConnected at.old.machine }
     requires some { IsTrue (is_some at.old.member) }
     requires room { empties_by at.old.member < 18446744073709551615 }
     ensures attended { (v : Terms) (s : Standing) → Follows at.old s → Runs v at.old s
-        → Attends v s now at.old at.new (L.talk link.old) (L.talk link.new) result }
+        → Attends v s now at.old at.new (L.talk link.old) (L.talk link.new) (stop_of result) }
     ensures later { L.faults link.old ≤ L.faults link.new }
-    ensures failed { RoseIf result (L.faults link.old) (L.faults link.new) }
+    ensures failed { RoseIf (stop_of result) (L.faults link.old) (L.faults link.new) }
 {
     match take_from(alloc, link, &mut at.member) {
-        Taken::All => None,
-        Taken::Cut(fault) => Some(stop_at(fault)),
-        Taken::Met(end) => meet(alloc, link, at, end, now),
+        Taken::All => Ok(Backlog::Nothing),
+        Taken::Part => Ok(Backlog::MaybeMore),
+        Taken::Cut(fault) => Err(stop_at(fault)),
+        Taken::Met(end) => nothing_left(meet(alloc, link, at, end, now)),
     }
 }

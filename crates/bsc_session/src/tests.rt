@@ -6,6 +6,7 @@ ghost use Rattle.bsc_hub.specs.Testing.{vmac_at};
 mod jobs;
 mod random;
 mod table;
+mod waits;
 
 use crate::{Ended, SessionLimits, Why};
 use bsc_accept::Times;
@@ -67,11 +68,16 @@ fn message(alloc: Global, octets: &[u8]) -> Result<Incoming, NoMemory> {
     Ok(Incoming::Message(Octets::from_vec(Vec::from_slice(alloc, octets)?)))
 }
 
+/// The connect of the device at 02:00:00:00:00:`last`.
+fn connect_of(alloc: Global, last: u8) -> Result<Incoming, NoMemory> {
+    let mut octets = Vec::from_slice(alloc, &[6, 0, 0, 1])?;
+    octets.extend_from_slice(&who(last).octets())?;
+    Ok(Incoming::Message(Octets::from_vec(octets)))
+}
+
 /// The connect of the device at 02:00:00:00:00:0A.
 fn connect(alloc: Global) -> Result<Incoming, NoMemory> {
-    let mut octets = Vec::from_slice(alloc, &[6, 0, 0, 1])?;
-    octets.extend_from_slice(&who(10).octets())?;
-    Ok(Incoming::Message(Octets::from_vec(octets)))
+    connect_of(alloc, 10)
 }
 
 fn ended(why: Why, conn: Option<u64>, taken: u64, empties: u64, turns: u64) -> Ended {

@@ -1,4 +1,6 @@
 pub mod Keys
 pub mod Texts
-pub mod Firsts
+pub mod Joined
+pub mod UriWords
+pub mod Defaults
 pub mod WorkedSettings

@@ -4,7 +4,8 @@ use Rattle.std.specs.List.{list_all}
 use Rattle.toml.specs.Data.{Data, Members, no_members, member, as_table, get_member}
 use Rattle.toml.specs.Parse.{parse_document}
 use Rattle.bsc_text.specs.Lines.{same_octets}
-use Rattle.bsc_settings.specs.Table.{Row, hub_table}
+use Rattle.bsc_settings.specs.Table.{Row, hub_table, node_table, least_reconnect_row}
+use Rattle.bsc_settings.specs.Values.{Value, number, value_at}
 
 -- Octets are a TOML document: UTF-8, and a text that the grammar of TOML gives these tables and keys.
 abbrev pub IsDocument : List ℕ → Members → Type 0
@@ -13,6 +14,10 @@ IsDocument text doc = IsUtf8 text × (parse_document text ≡ Some doc)
 -- The table `hub` of a document, where it has it.
 abbrev pub hub_of : Members → Option Members
 hub_of doc = option_and_then as_table (get_member (codes "hub") doc)
+
+-- The table `node` of a document, where it has it.
+abbrev pub node_of : Members → Option Members
+node_of doc = option_and_then as_table (get_member (codes "node") doc)
 
 -- the keys of a table
 abbrev pub keys_of : Members → List (List ℕ)
@@ -24,19 +29,33 @@ abbrev pub has_key : List Row → List ℕ → Bool
 has_key [] word = false
 has_key (r ∷ rows) word = same_octets word r.word || has_key rows word
 
--- whether each key of a table has a row, where the document has the table
-abbrev pub is_known : List Row → Option Members → Bool
+-- whether each key of a table has a row
+abbrev pub has_keys_of : List Row → Members → Bool
+has_keys_of rows table = list_all (has_key rows) (keys_of table)
+
+-- a number, where a row has one
+abbrev pub amount : Option Value → ℕ
+amount (Some (number n)) = n
+amount value = 0
+
+-- The rows of a table `node`: by whether a port for direct connections stands there, and by its least wait.
+abbrev pub node_rows_of : Members → List Row
+node_rows_of table =
+    node_table (is_some (get_member (codes "direct_port") table)) (amount (value_at least_reconnect_row table))
+
+-- whether what stands at a key, where something does, is a table with no keys but those of its rows
+abbrev pub is_known : (Members → List Row) → Option Data → Bool
 is_known rows None = true
-is_known rows (Some found) = list_all (has_key rows) (keys_of found)
+is_known rows (Some value) = is_known_table rows (as_table value)
+  where
+    is_known_table : (Members → List Row) → Option Members → Bool
+    is_known_table rows None = false
+    is_known_table rows (Some table) = has_keys_of (rows table) table
 
--- whether what stands at a key is a table, where something does
-abbrev pub is_table : Option Data → Bool
-is_table None = true
-is_table (Some value) = is_some (as_table value)
-
--- Whether a document has nothing unknown: nothing but the table `hub`, and in it nothing but keys of the table of keys.
+-- Whether a document has nothing unknown: nothing but the tables `hub` and `node`, and in each nothing but keys of its
+-- table of keys.
 abbrev pub has_known_alone : Members → Bool
 has_known_alone doc =
-    list_all (λ key. same_octets key (codes "hub")) (keys_of doc)
-    && is_table (get_member (codes "hub") doc)
-    && is_known hub_table (hub_of doc)
+    list_all (λ key. same_octets key (codes "hub") || same_octets key (codes "node")) (keys_of doc)
+    && is_known (λ _. hub_table) (get_member (codes "hub") doc)
+    && is_known node_rows_of (get_member (codes "node") doc)

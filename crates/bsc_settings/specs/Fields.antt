@@ -2,15 +2,16 @@
 use Rattle.std.specs.Prelude.{◌≡◌, List, [], ◌∷◌, map, Option, Some, None, option_map}
 use Rattle.toml.specs.Data.{Members}
 use Rattle.bsc_settings.specs.declared.hub.HubSettings.{HubSettings}
+use Rattle.bsc_settings.specs.declared.node.NodeSettings.{NodeSettings}
 use Rattle.bsc_settings.specs.declared.settings.Settings.{Settings}
-use Rattle.bsc_settings.specs.Table.{hub_table}
-use Rattle.bsc_settings.specs.Values.{Value, vmac, uuid, number, value_at}
-use Rattle.bsc_settings.specs.Documents.{hub_of}
+use Rattle.bsc_settings.specs.Table.{Row, hub_table}
+use Rattle.bsc_settings.specs.Values.{Value, vmac, uuid, number, number_if, text, text_if, value_at}
+use Rattle.bsc_settings.specs.Documents.{hub_of, node_of, node_rows_of}
 use Rattle.bsc_settings.specs.Faults.{fault_of}
 
--- The values of the table `hub`, in the order of the table of keys.
-abbrev pub values_of : Members → List (Option Value)
-values_of table = map (λ r. value_at r table) hub_table
+-- The values of a table, in the order of its rows.
+abbrev pub values_of : List Row → Members → List (Option Value)
+values_of rows table = map (λ r. value_at r table) rows
 
 -- The fields of the settings of a hub, in the same order.
 abbrev pub fields_of : HubSettings → List (Option Value)
@@ -19,8 +20,17 @@ fields_of h =
     ∷ Some (number h.rows) ∷ Some (number h.outbox) ∷ Some (number h.connect_wait_ms)
     ∷ Some (number h.disconnect_wait_ms) ∷ Some (number h.heartbeat_ms) ∷ Some (number h.turns) ∷ []
 
+-- The fields of the settings of a node, in the order of its rows.
+abbrev pub node_fields_of : NodeSettings → List (Option Value)
+node_fields_of n =
+    Some (vmac n.vmac) ∷ Some (uuid n.uuid) ∷ Some (text n.primary) ∷ Some (text_if n.failover)
+    ∷ Some (number_if n.direct_port) ∷ Some (text_if n.direct_uris) ∷ Some (number n.max_bvlc) ∷ Some (number n.max_npdu)
+    ∷ Some (number n.connect_wait_ms) ∷ Some (number n.disconnect_wait_ms) ∷ Some (number n.heartbeat_ms)
+    ∷ Some (number n.least_reconnect_ms) ∷ Some (number n.greatest_reconnect_ms) ∷ Some (number n.turns) ∷ []
+
 -- These are the settings that a document says: it has no fault, and each field is the value of its row. There are
--- settings of a hub exactly where the document has the table `hub`.
+-- settings of a hub exactly where the document has the table `hub`, and of a node exactly where it has `node`.
 pub record IsSaidBy (doc : Members) (s : Settings) : Type 0 where
   pub no_fault : fault_of doc ≡ None
-  pub hub : option_map fields_of s.hub ≡ option_map values_of (hub_of doc)
+  pub hub : option_map fields_of s.hub ≡ option_map (values_of hub_table) (hub_of doc)
+  pub node : option_map node_fields_of s.node ≡ option_map (λ t. values_of (node_rows_of t) t) (node_of doc)

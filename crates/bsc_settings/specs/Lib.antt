@@ -1,4 +1,5 @@
 pub mod Table
+pub mod Uris
 pub mod Values
 pub mod Documents
 pub mod Faults
@@ -6,3 +7,4 @@ pub mod Fields
 pub mod Parts
 pub mod Names
 pub mod Rows
+pub mod Steps

@@ -1,7 +1,7 @@
 -- What each key is called in a fault line.
 use Rattle.std.specs.Prelude.{ℕ, List, codes}
 use Rattle.bsc_settings.specs.declared.key.KeyName.{KeyName}
-use Rattle.bsc_settings.specs.declared.key.KeyName.TheVariants.{HubVmac, HubUuid, HubPort, HubMaxBvlc, HubMaxNpdu, HubRows, HubOutbox, HubConnectWaitMs, HubDisconnectWaitMs, HubHeartbeatMs, HubTurns, HubProduct, Unknown}
+use Rattle.bsc_settings.specs.declared.key.KeyName.TheVariants.{HubVmac, HubUuid, HubPort, HubMaxBvlc, HubMaxNpdu, HubRows, HubOutbox, HubConnectWaitMs, HubDisconnectWaitMs, HubHeartbeatMs, HubTurns, NodeVmac, NodeUuid, NodePrimary, NodeFailover, NodeDirectPort, NodeDirectUris, NodeMaxBvlc, NodeMaxNpdu, NodeConnectWaitMs, NodeDisconnectWaitMs, NodeHeartbeatMs, NodeLeastReconnectMs, NodeGreatestReconnectMs, NodeTurns, HubProduct, Unknown}
 
 abbrev pub name_of : KeyName → List ℕ
 name_of HubVmac = codes "hub.vmac"
@@ -15,5 +15,19 @@ name_of HubConnectWaitMs = codes "hub.connect_wait_ms"
 name_of HubDisconnectWaitMs = codes "hub.disconnect_wait_ms"
 name_of HubHeartbeatMs = codes "hub.heartbeat_ms"
 name_of HubTurns = codes "hub.turns"
+name_of NodeVmac = codes "node.vmac"
+name_of NodeUuid = codes "node.uuid"
+name_of NodePrimary = codes "node.primary"
+name_of NodeFailover = codes "node.failover"
+name_of NodeDirectPort = codes "node.direct_port"
+name_of NodeDirectUris = codes "node.direct_uris"
+name_of NodeMaxBvlc = codes "node.max_bvlc"
+name_of NodeMaxNpdu = codes "node.max_npdu"
+name_of NodeConnectWaitMs = codes "node.connect_wait_ms"
+name_of NodeDisconnectWaitMs = codes "node.disconnect_wait_ms"
+name_of NodeHeartbeatMs = codes "node.heartbeat_ms"
+name_of NodeLeastReconnectMs = codes "node.least_reconnect_ms"
+name_of NodeGreatestReconnectMs = codes "node.greatest_reconnect_ms"
+name_of NodeTurns = codes "node.turns"
 name_of HubProduct = codes "hub.product"
 name_of Unknown = codes "unknown"

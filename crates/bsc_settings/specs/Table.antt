@@ -1,33 +1,36 @@
--- The one table of keys: what each takes, and what stands for one that is missing.
-use Rattle.std.specs.Prelude.{ℕ, ◌≤◌, Bool, not, ◌||◌, List, [], ◌∷◌, codes, Option, Some, None, IsTrue}
+-- The tables of keys: what each takes, and what stands for one that is missing.
+use Rattle.std.specs.Prelude.{ℕ, ◌≤◌, Bool, true, false, not, ◌||◌, List, [], ◌∷◌, codes, IsTrue}
 use Rattle.bsc_octets.specs.declared.vmac.Vmac.{Vmac}
 use Rattle.bsc_octets.specs.Addresses.{same_vmac, zero_vmac, broadcast}
 use Rattle.bsc_settings.specs.declared.key.KeyName.{KeyName}
-use Rattle.bsc_settings.specs.declared.key.KeyName.TheVariants.{HubVmac, HubUuid, HubPort, HubMaxBvlc, HubMaxNpdu, HubRows, HubOutbox, HubConnectWaitMs, HubDisconnectWaitMs, HubHeartbeatMs, HubTurns}
+use Rattle.bsc_settings.specs.declared.key.KeyName.TheVariants.{HubVmac, HubUuid, HubPort, HubMaxBvlc, HubMaxNpdu, HubRows, HubOutbox, HubConnectWaitMs, HubDisconnectWaitMs, HubHeartbeatMs, HubTurns, NodeVmac, NodeUuid, NodePrimary, NodeFailover, NodeDirectPort, NodeDirectUris, NodeMaxBvlc, NodeMaxNpdu, NodeConnectWaitMs, NodeDisconnectWaitMs, NodeHeartbeatMs, NodeLeastReconnectMs, NodeGreatestReconnectMs, NodeTurns}
 
--- What a key takes: the text of an address that names one node, the text of a device UUID, or an integer from the
--- first number to the second.
+-- What a key takes: the text of an address that names one node, the text of a device UUID, the text of the URI of a hub,
+-- the text of URIs with one space between two, an integer from the first number to the second, or nothing at all.
 pub data Kind : Type 0 where
   address : Kind
   device : Kind
+  hub_uri : Kind
+  uris : Kind
   integer : ℕ → ℕ → Kind
+  nothing : Kind
 
--- A row of the table: the key, the word that a document has for it, what it takes, and its default, if it has one.
+-- What stands for a key that is missing: none does, and the key has to be there; the settings have none either; or this
+-- number.
+pub data Default : Type 0 where
+  required : Default
+  absent : Default
+  or_else : ℕ → Default
+
+-- A row of a table: the key, the word that a document has for it, what it takes, and its default.
 pub record Row : Type 0 where
   pub key : KeyName
   pub word : List ℕ
   pub kind : Kind
-  pub default : Option ℕ
+  pub default : Default
 
-abbrev pub row : KeyName → List ℕ → Kind → Option ℕ → Row
+abbrev pub row : KeyName → List ℕ → Kind → Default → Row
 row key word kind default = record { key = key; word = word; kind = kind; default = default }
-
--- no default: the key has to be there
-abbrev pub required : Option ℕ
-required = None
-
-abbrev pub or_else : ℕ → Option ℕ
-or_else n = Some n
 
 -- The rows of the table `hub`.
 abbrev pub vmac_row : Row
@@ -68,6 +71,67 @@ abbrev pub hub_table : List Row
 hub_table =
     vmac_row ∷ uuid_row ∷ port_row ∷ max_bvlc_row ∷ max_npdu_row ∷ rows_row ∷ outbox_row ∷ connect_wait_row
     ∷ disconnect_wait_row ∷ heartbeat_row ∷ turns_row ∷ []
+
+-- The rows of the table `node`.
+abbrev pub node_vmac_row : Row
+node_vmac_row = row NodeVmac (codes "vmac") address required
+
+abbrev pub node_uuid_row : Row
+node_uuid_row = row NodeUuid (codes "uuid") device required
+
+abbrev pub primary_row : Row
+primary_row = row NodePrimary (codes "primary") hub_uri required
+
+abbrev pub failover_row : Row
+failover_row = row NodeFailover (codes "failover") hub_uri absent
+
+abbrev pub direct_port_row : Row
+direct_port_row = row NodeDirectPort (codes "direct_port") (integer 1 65535) absent
+
+-- A node that accepts direct connections has to tell its URIs, and another must not.
+abbrev pub uris_kind : Bool → Kind
+uris_kind true = uris
+uris_kind false = nothing
+
+abbrev pub uris_default : Bool → Default
+uris_default true = required
+uris_default false = absent
+
+abbrev pub direct_uris_row : Bool → Row
+direct_uris_row accepts = row NodeDirectUris (codes "direct_uris") (uris_kind accepts) (uris_default accepts)
+
+abbrev pub node_max_bvlc_row : Row
+node_max_bvlc_row = row NodeMaxBvlc (codes "max_bvlc") (integer 64 65535) (or_else 16384)
+
+abbrev pub node_max_npdu_row : Row
+node_max_npdu_row = row NodeMaxNpdu (codes "max_npdu") (integer 1 65535) (or_else 1497)
+
+abbrev pub node_connect_wait_row : Row
+node_connect_wait_row = row NodeConnectWaitMs (codes "connect_wait_ms") (integer 100 3600000) (or_else 10000)
+
+abbrev pub node_disconnect_wait_row : Row
+node_disconnect_wait_row = row NodeDisconnectWaitMs (codes "disconnect_wait_ms") (integer 100 3600000) (or_else 10000)
+
+abbrev pub node_heartbeat_row : Row
+node_heartbeat_row = row NodeHeartbeatMs (codes "heartbeat_ms") (integer 100 3600000) (or_else 300000)
+
+abbrev pub least_reconnect_row : Row
+least_reconnect_row = row NodeLeastReconnectMs (codes "least_reconnect_ms") (integer 100 3600000) (or_else 2000)
+
+-- The greatest wait is the least one or more.
+abbrev pub greatest_reconnect_row : ℕ → Row
+greatest_reconnect_row least = row NodeGreatestReconnectMs (codes "greatest_reconnect_ms") (integer least 3600000) (or_else 30000)
+
+abbrev pub node_turns_row : Row
+node_turns_row = row NodeTurns (codes "turns") (integer 1 1099511627776) (or_else 1099511627776)
+
+-- The table `node`, of a node that accepts direct connections or doesn't, and whose least wait this is. Faults are looked
+-- for in its order.
+abbrev pub node_table : Bool → ℕ → List Row
+node_table accepts least =
+    node_vmac_row ∷ node_uuid_row ∷ primary_row ∷ failover_row ∷ direct_port_row ∷ direct_uris_row accepts
+    ∷ node_max_bvlc_row ∷ node_max_npdu_row ∷ node_connect_wait_row ∷ node_disconnect_wait_row ∷ node_heartbeat_row
+    ∷ least_reconnect_row ∷ greatest_reconnect_row least ∷ node_turns_row ∷ []
 
 -- The most octets that all outboxes may hold together: 2^30. So many are the rows, times the frames of an outbox,
 -- times the longest message.

@@ -1,5 +1,9 @@
 //! Why settings are refused.
+ghost use Rattle.std.specs.Prelude.{◌≡◌};
+ghost use Rattle.bsc_settings.specs.declared.fault.SettingFault.TheVariants as setting_fault;
+
 use crate::key::KeyName;
+use bsc_octets::NoMemory;
 use thiserror::Error;
 
 /// Why settings are refused.
@@ -17,4 +21,20 @@ pub enum SettingFault {
     /// Memory ran out.
     #[error("out of memory")]
     NoMemory,
+}
+
+impl From<KeyName> for SettingFault {
+    ghost from_gives = { λ name fault. fault ≡ setting_fault.Key name };
+
+    fn from(name: KeyName) -> SettingFault {
+        SettingFault::Key { name }
+    }
+}
+
+impl From<NoMemory> for SettingFault {
+    ghost from_gives = { λ _ fault. fault ≡ setting_fault.NoMemory };
+
+    fn from(_error: NoMemory) -> SettingFault {
+        SettingFault::NoMemory
+    }
 }

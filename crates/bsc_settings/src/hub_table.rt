@@ -2,10 +2,11 @@
 ghost use Rattle.std.specs.Prelude.{◌≡◌, Some, None, IfOk, IfErr};
 ghost use Rattle.toml.specs.View.{table_view};
 ghost use Rattle.bsc_settings.specs.Table.{hub_table};
-ghost use Rattle.bsc_settings.specs.Faults.{first_at_fault, product_fault, ◌before◌};
-ghost use Rattle.bsc_settings.specs.Fields.{fields_of, values_of};
+ghost use Rattle.bsc_settings.specs.Faults.{first_at_fault};
+ghost use Rattle.bsc_settings.specs.Steps.{Says};
 
 use crate::hub::HubSettings;
+use crate::hub_said::HubSaid;
 use crate::key::KeyName;
 use crate::rows::{
     CONNECT_WAIT_MS, DISCONNECT_WAIT_MS, HEARTBEAT_MS, MAX_BVLC, MAX_NPDU, OUTBOX, PORT, ROWS,
@@ -17,13 +18,11 @@ use toml::Table;
 /// The most octets that all outboxes may hold together.
 const MOST_OCTETS: u64 = 1 << 30;
 
-/// The settings of a hub, or the first key at fault: those of the table in its order, then the product of the limits.
-pub(crate) fn read_hub(table: &Table) -> Result<HubSettings, KeyName>
-    ensures fields { IfOk result (λ h. fields_of h ≡ values_of (table_view table.now)) }
-    ensures fine { IfOk result (λ _. (first_at_fault hub_table (table_view table.now)
-        before product_fault (Some (table_view table.now))) ≡ None) }
-    ensures fault { IfErr result (λ key. (first_at_fault hub_table (table_view table.now)
-        before product_fault (Some (table_view table.now))) ≡ Some key) }
+/// What a table says of a hub, or the first key of it at fault.
+pub(crate) fn read_hub(table: &Table) -> Result<HubSaid, KeyName>
+    ensures says { IfOk result (Says (Some (table_view table.now))) }
+    ensures fine { IfOk result (λ _. first_at_fault hub_table (table_view table.now) ≡ None) }
+    ensures fault { IfErr result (λ key. first_at_fault hub_table (table_view table.now) ≡ Some key) }
 {
     let vmac = read_address(table, VMAC)?;
     let uuid = read_uuid(table, UUID)?;
@@ -37,9 +36,9 @@ pub(crate) fn read_hub(table: &Table) -> Result<HubSettings, KeyName>
     let heartbeat_ms = read_number(table, HEARTBEAT_MS)?;
     let turns = read_number(table, TURNS)?;
     if rows * outbox * max_bvlc > MOST_OCTETS {
-        return Err(KeyName::HubProduct);
+        return Ok(HubSaid::LargeProduct);
     }
-    Ok(HubSettings {
+    Ok(HubSaid::Settings(Some(HubSettings {
         vmac,
         uuid,
         port: port as u16,
@@ -51,5 +50,5 @@ pub(crate) fn read_hub(table: &Table) -> Result<HubSettings, KeyName>
         disconnect_wait_ms: disconnect_wait_ms as u32,
         heartbeat_ms: heartbeat_ms as u32,
         turns,
-    })
+    })))
 }

@@ -1,12 +1,18 @@
 //! Whether a document has nothing that settings don't have.
-ghost use Rattle.std.specs.Prelude.{◌≡◌, codes, option_map, string_bytes};
+ghost use Rattle.std.specs.Prelude.{◌≡◌, ◌||◌, true, codes, option_map, string_bytes};
 ghost use Rattle.std.specs.BTreeMap.{keys};
 ghost use Rattle.std.specs.List.{list_all};
+ghost use Rattle.toml.specs.Data.{get_member};
 ghost use Rattle.toml.specs.View.{table_view};
-ghost use Rattle.bsc_settings.specs.Table.{hub_table};
-ghost use Rattle.bsc_settings.specs.Documents.{has_key, hub_of, has_known_alone};
+ghost use Rattle.bsc_settings.specs.Table.{hub_table, node_table};
+ghost use Rattle.bsc_settings.specs.Documents.{has_key, hub_of, node_of, node_rows_of, is_known, has_known_alone};
 ghost use Rattle.bsc_text.specs.Lines.{same_octets};
 
+use crate::node_rows::{
+    DIRECT_PORT, DIRECT_URIS, FAILOVER, GREATEST_RECONNECT_MS, LEAST_RECONNECT_MS,
+    NODE_CONNECT_WAIT_MS, NODE_DISCONNECT_WAIT_MS, NODE_HEARTBEAT_MS, NODE_MAX_BVLC, NODE_MAX_NPDU,
+    NODE_TURNS, NODE_UUID, NODE_VMAC, PRIMARY,
+};
 use crate::rows::{
     CONNECT_WAIT_MS, DISCONNECT_WAIT_MS, HEARTBEAT_MS, MAX_BVLC, MAX_NPDU, OUTBOX, PORT, ROWS,
     TURNS, UUID, VMAC,
@@ -15,6 +21,9 @@ use toml::Table;
 
 /// What a document calls the table of a hub.
 const HUB: &str = "hub";
+
+/// What a document calls the table of a node.
+const NODE: &str = "node";
 
 /// The table `hub` of a document, where it has it.
 pub(crate) fn hub_of(doc: &Table) -> Option<&Table>
@@ -26,8 +35,18 @@ pub(crate) fn hub_of(doc: &Table) -> Option<&Table>
     }
 }
 
+/// The table `node` of a document, where it has it.
+pub(crate) fn node_of(doc: &Table) -> Option<&Table>
+    ensures { option_map (λ t. table_view t.now) result ≡ node_of (table_view doc.now) }
+{
+    match doc.get(NODE) {
+        Some(value) => value.as_table(),
+        None => None,
+    }
+}
+
 /// Whether a word is a key of the table `hub`.
-fn is_key(word: &str) -> bool
+fn is_hub_key(word: &str) -> bool
     ensures { result ≡ has_key hub_table word.now }
 {
     word == VMAC.word
@@ -43,27 +62,53 @@ fn is_key(word: &str) -> bool
         || word == TURNS.word
 }
 
+/// Whether a word is a key of the table `node`; its words are the same for every node.
+fn is_node_key(word: &str) -> bool
+    ensures { result ≡ has_key (node_table true 0) word.now }
+{
+    word == NODE_VMAC.word
+        || word == NODE_UUID.word
+        || word == PRIMARY.word
+        || word == FAILOVER.word
+        || word == DIRECT_PORT.word
+        || word == DIRECT_URIS.word
+        || word == NODE_MAX_BVLC.word
+        || word == NODE_MAX_NPDU.word
+        || word == NODE_CONNECT_WAIT_MS.word
+        || word == NODE_DISCONNECT_WAIT_MS.word
+        || word == NODE_HEARTBEAT_MS.word
+        || word == LEAST_RECONNECT_MS.word
+        || word == GREATEST_RECONNECT_MS.word
+        || word == NODE_TURNS.word
+}
+
 /// Whether all keys of a table are keys of the table `hub`.
 fn has_hub_keys(table: &Table) -> bool
     ensures { result ≡ list_all (λ key. has_key hub_table (string_bytes key)) (keys table.now) }
 {
-    table.keys().all(|key| is_key(key.as_str()))
+    table.keys().all(|key| is_hub_key(key.as_str()))
 }
 
-/// Whether a document has no key but `hub`.
-fn has_hub_alone(doc: &Table) -> bool
-    ensures { result ≡ list_all (λ key. same_octets (string_bytes key) (codes "hub")) (keys doc.now) }
+/// Whether all keys of a table are keys of the table `node`.
+fn has_node_keys(table: &Table) -> bool
+    ensures { result ≡ list_all (λ key. has_key (node_table true 0) (string_bytes key)) (keys table.now) }
 {
-    doc.keys().all(|key| key.as_str() == HUB)
+    table.keys().all(|key| is_node_key(key.as_str()))
 }
 
-/// Whether a document has nothing but the table `hub`, and in it nothing but keys of the table of keys.
-pub(crate) fn has_known_alone(doc: &Table) -> bool
-    ensures { result ≡ has_known_alone (table_view doc.now) }
+/// Whether a document has no keys but `hub` and `node`.
+fn has_tables_alone(doc: &Table) -> bool
+    ensures { result ≡ list_all (λ key. same_octets (string_bytes key) (codes "hub")
+        || same_octets (string_bytes key) (codes "node")) (keys doc.now) }
 {
-    if !has_hub_alone(doc) {
-        return false;
-    }
+    doc.keys()
+        .all(|key| key.as_str() == HUB || key.as_str() == NODE)
+}
+
+/// Whether `hub`, where a document has it, is a table with nothing but keys of the table of keys.
+fn is_hub_known(doc: &Table) -> bool
+    ensures { result ≡ is_known (λ _. hub_table) (get_member (codes "hub") (table_view doc.now)) }
+{
     let Some(value) = doc.get(HUB) else {
         return true;
     };
@@ -71,4 +116,30 @@ pub(crate) fn has_known_alone(doc: &Table) -> bool
         Some(table) => has_hub_keys(table),
         None => false,
     }
+}
+
+/// The same of `node`.
+fn is_node_known(doc: &Table) -> bool
+    ensures { result ≡ is_known node_rows_of (get_member (codes "node") (table_view doc.now)) }
+{
+    let Some(value) = doc.get(NODE) else {
+        return true;
+    };
+    match value.as_table() {
+        Some(table) => has_node_keys(table),
+        None => false,
+    }
+}
+
+/// Whether a document has nothing but the tables `hub` and `node`, and in each nothing but keys of its table of keys.
+pub(crate) fn has_known_alone(doc: &Table) -> bool
+    ensures { result ≡ has_known_alone (table_view doc.now) }
+{
+    if !has_tables_alone(doc) {
+        return false;
+    }
+    if !is_hub_known(doc) {
+        return false;
+    }
+    is_node_known(doc)
 }

@@ -1,26 +1,34 @@
-//! What is settled before a hub starts, read from a TOML document.
+//! What is settled before a hub or a node starts, read from a TOML document.
 //!
-//! Start at `specs/Table.antt`, the one table of keys: what each takes, and its default. `specs/Faults.antt` says which
+//! Start at `specs/Table.antt`, the tables of keys: what each takes, and its default. `specs/Faults.antt` says which
 //! key of a document is named as the first at fault, and `specs/Fields.antt` which settings a document without a fault
 //! says. `reading` has `read_settings`, which is held to both.
 #![tactic(auto)]
 
 mod fault;
 mod hub;
+mod hub_said;
 mod hub_table;
 mod key;
 mod known;
 mod naming;
+mod node;
+mod node_parts;
+mod node_rows;
+mod node_table;
 mod parts;
 mod reading;
 mod rows;
+mod running;
 mod settings;
 #[cfg(test)]
 mod tests;
+mod uris;
 mod values;
 
 pub use fault::SettingFault;
 pub use hub::HubSettings;
 pub use key::KeyName;
+pub use node::NodeSettings;
 pub use reading::read_settings;
 pub use settings::Settings;

@@ -1,47 +1,85 @@
 //! Settings, read from the octets of a document.
-ghost use Rattle.std.specs.Prelude.{◌≡◌, ◌⊎◌, Some, None, Err, IsOk, IfOk, IfErr};
+ghost use Rattle.std.specs.Prelude.{◌≡◌, ◌⊎◌, Some, None, Err, IsOk, IfOk, IfErr, true, option_map};
 ghost use Rattle.toml.specs.Data.{Members};
 ghost use Rattle.toml.specs.View.{table_view};
-ghost use Rattle.bsc_settings.specs.declared.key.KeyName.{KeyName};
+ghost use Rattle.bsc_settings.specs.declared.key.KeyName.{KeyName as KeyNameType};
+ghost use Rattle.bsc_settings.specs.declared.hub_said.HubSaid.TheVariants as hub_said;
 ghost use Rattle.bsc_settings.specs.declared.fault.SettingFault.TheVariants as setting_fault;
-ghost use Rattle.bsc_settings.specs.Documents.{IsDocument};
-ghost use Rattle.bsc_settings.specs.Faults.{fault_of};
-ghost use Rattle.bsc_settings.specs.Fields.{IsSaidBy};
+ghost use Rattle.bsc_settings.specs.Table.{hub_table};
+ghost use Rattle.bsc_settings.specs.Documents.{IsDocument, hub_of, node_of, node_rows_of};
+ghost use Rattle.bsc_settings.specs.Faults.{fault_in, fault_of, NamesFirst};
+ghost use Rattle.bsc_settings.specs.Fields.{node_fields_of, values_of, IsSaidBy};
+ghost use Rattle.bsc_settings.specs.Steps.{Says, IsLate};
 
 use crate::fault::SettingFault;
+use crate::hub_said::HubSaid;
 use crate::hub_table::read_hub;
 use crate::key::KeyName;
-use crate::known::{has_known_alone, hub_of};
+use crate::known::{has_known_alone, hub_of, node_of};
+use crate::node::NodeSettings;
+use crate::node_table::read_node;
 use crate::settings::Settings;
 use std::alloc::Global;
 use toml::Table;
 
-/// The settings that a document says, or the first key at fault.
-fn settings_of(doc: &Table) -> Result<Settings, KeyName>
-    ensures said { IfOk result (IsSaidBy (table_view doc.now)) }
-    ensures fault { IfErr result (λ key. fault_of (table_view doc.now) ≡ Some key) }
+/// What a document says of a hub, or the first key of `hub` at fault.
+fn hub_in(doc: &Table) -> Result<HubSaid, KeyName>
+    ensures says { IfOk result (Says (hub_of (table_view doc.now))) }
+    ensures fine { IfOk result (λ _. fault_in (λ _. hub_table) (hub_of (table_view doc.now)) ≡ None) }
+    ensures fault { IfErr result (λ key. fault_in (λ _. hub_table) (hub_of (table_view doc.now)) ≡ Some key) }
 {
-    let hub = match hub_of(doc) {
-        Some(table) => Some(read_hub(table)?),
-        None => None,
-    };
-    if !has_known_alone(doc) {
-        return Err(KeyName::Unknown);
+    match hub_of(doc) {
+        Some(table) => read_hub(table),
+        None => Ok(HubSaid::Settings(None)),
     }
-    Ok(Settings { hub })
+}
+
+/// The settings of a node, where a document has the table `node`, or the first key of it at fault.
+fn node_in(alloc: Global, doc: &Table) -> Result<Option<NodeSettings>, SettingFault>
+    ensures fields { IfOk result (λ n. option_map node_fields_of n
+        ≡ option_map (λ t. values_of (node_rows_of t) t) (node_of (table_view doc.now))) }
+    ensures fine { IfOk result (λ _. fault_in node_rows_of (node_of (table_view doc.now)) ≡ None) }
+    ensures fault { IfErr result (λ fault. NamesFirst fault (fault_in node_rows_of (node_of (table_view doc.now)))) }
+{
+    match node_of(doc) {
+        Some(table) => Ok(Some(read_node(alloc, table)?)),
+        None => Ok(None),
+    }
+}
+
+/// The settings of these, where the product of the limits is small and the document has nothing unknown.
+fn whole(said: HubSaid, node: Option<NodeSettings>, known: bool) -> Result<Settings, KeyName>
+    ensures ok { IfOk result (λ s. (said ≡ hub_said.Settings s.hub) × (s.node ≡ node) × (known ≡ true)) }
+    ensures err { IfErr result (λ key. IsLate said known key) }
+{
+    match said {
+        HubSaid::Settings(hub) if known => Ok(Settings { hub, node }),
+        HubSaid::Settings(_) => Err(KeyName::Unknown),
+        HubSaid::LargeProduct => Err(KeyName::HubProduct),
+    }
+}
+
+/// The settings that a document says.
+fn settings_of(alloc: Global, doc: &Table) -> Result<Settings, SettingFault>
+    ensures said { IfOk result (IsSaidBy (table_view doc.now)) }
+    ensures fault { IfErr result (λ fault. NamesFirst fault (fault_of (table_view doc.now))) }
+{
+    let said = hub_in(doc)?;
+    let node = node_in(alloc, doc)?;
+    Ok(whole(said, node, has_known_alone(doc))?)
 }
 
 /// Reads settings from a TOML document.
 ///
-/// A document may have the table `hub`, and nothing else; `docs/SETTINGS.md` has its keys. Where several things are at
-/// fault, the first key in the order of the table is named, then the product of the limits, then a key or a table that
-/// settings don't have. Octets that aren't UTF-8, or aren't TOML, are `NotToml`. `NoMemory` may be answered of any
+/// A document may have the tables `hub` and `node`, and nothing else; `docs/SETTINGS.md` has their keys. Where several
+/// things are at fault, the first key of `hub` in the order of its table is named, then the first of `node`, then the product
+/// of the limits, then a key or a table that settings don't have. Octets that aren't UTF-8, or aren't TOML, are `NotToml`. `NoMemory` may be answered of any
 /// document.
 pub fn read_settings(alloc: Global, text: &[u8]) -> Result<Settings, SettingFault>
     // Settings are those of the document.
     ensures found { IfOk result (λ s. (doc : Members) × IsDocument text.now doc × IsSaidBy doc s) }
     // A key that is named is the first at fault.
-    ensures refused { (key : KeyName) → result ≡ Err (SettingFault.Key key)
+    ensures refused { (key : KeyNameType) → result ≡ Err (SettingFault.Key key)
         → (doc : Members) × IsDocument text.now doc × (fault_of doc ≡ Some key) }
     // What isn't TOML is no document.
     ensures not_toml { result ≡ Err SettingFault.NotToml → (doc : Members) → ¬ IsDocument text.now doc }
@@ -49,14 +87,11 @@ pub fn read_settings(alloc: Global, text: &[u8]) -> Result<Settings, SettingFaul
     ensures good { (doc : Members) → IsDocument text.now doc → fault_of doc ≡ None
         → IsOk result ⊎ (result ≡ Err SettingFault.NoMemory) }
     // The first key at fault is named, unless memory runs out.
-    ensures fault { (doc : Members) (key : KeyName) → IsDocument text.now doc → fault_of doc ≡ Some key
+    ensures fault { (doc : Members) (key : KeyNameType) → IsDocument text.now doc → fault_of doc ≡ Some key
         → (result ≡ Err (SettingFault.Key key)) ⊎ (result ≡ Err SettingFault.NoMemory) }
 {
     match toml::table_from_slice(alloc, text) {
-        Ok(doc) => match settings_of(&doc) {
-            Ok(settings) => Ok(settings),
-            Err(name) => Err(SettingFault::Key { name }),
-        },
+        Ok(doc) => settings_of(alloc, &doc),
         Err(fault) if fault.is_memory() => Err(SettingFault::NoMemory),
         Err(_) => Err(SettingFault::NotToml),
     }

@@ -1,16 +1,34 @@
-use Rattle.std.proofs.Common.{◌≡◌, ap, map, subst}
+use Rattle.std.proofs.Common.{◌≡◌, Some, Result, Err, Ok, IfOk, Option, ap, map, subst, ◌∙◌}
 use Rattle.std.specs.Prelude.{string_bytes}
-use Rattle.bsc_settings.specs.declared.hub.HubSettings.{HubSettings}
-use Rattle.bsc_hub_command.specs.Served.{Runs}
-use Rattle.bsc_hub_command.specs.Settled.{IsSettled}
-use Rattle.bsc_hub_command.specs.Words.{HubOf, hub_words_of, seen_words}
-use Rattle.bsc_program.proofs.Reading.{one_hub}
+use Rattle.bsc_script.specs.Scripts.{replay_of}
+use Rattle.bsc_replay.specs.Checks.{check_of}
+use Rattle.bsc_words.specs.declared.asked.Asked.{Asked}
+use Rattle.bsc_words.specs.declared.fault.WordsFault.{WordsFault}
+use Rattle.bsc_words.specs.declared.fault.WordsFault.TheVariants.{Refused}
+use Rattle.bsc_words.specs.Words.{AskedOf, asked_by, check, replay, seen}
+use Rattle.bsc_program.proofs.Reading.{ran_out, unread, workers_fit}
 use Rattle.bsc_program.proofs.run.run.Goals as goal
 
-pub returns-in-Some-clause-hub : goal.returns-in-Some-clause-hub
-returns-in-Some-clause-hub g c w hub named kept =
-    let A = g.A.Acceptor in
-    let P = g.P.Spawner in
-    let said : HubOf = record { path = c.in-Some.hub.path.now; sessions = c.in-Some.hub.sessions } in
-    let same : said ≡ w = one_hub (seen_words c.read_hub_words.result) (hub_words_of (map string_bytes c.args.words.now)) said w (ap seen_words c.in-Some.is) c.read_hub_words.ensures named in
-    subst (λ (y : HubOf). (v : HubSettings) × IsSettled (g.F.Files.holds c.args.files.now y.path) v × Runs v y.sessions c.run_hub.new.kept hub (A.left c.args.acceptor.now) (A.left c.run_hub.new.acceptor) (A.bound c.run_hub.new.acceptor) (P.jobs c.args.spawner.now) (P.jobs c.run_hub.new.spawner) (P.since c.run_hub.new.spawner) (P.faults c.args.spawner.now) (P.faults c.run_hub.new.spawner) (A.faults c.args.acceptor.now) (A.faults c.run_hub.new.acceptor) c.run_hub.result (g.K.Sink.held c.args.sink.now) (g.K.Sink.held c.run_hub.new.sink)) same (c.run_hub.ensures.runs hub kept)
+said : (read : Option AskedOf) (answer : Result Asked WordsFault) (a : Asked) → answer ≡ Ok a → IfOk answer (λ x. read ≡ Some (seen x)) → read ≡ Some (seen a)
+said read answer a is ok = subst (λ (r : Result Asked WordsFault). IfOk r (λ x. read ≡ Some (seen x))) is ok
+
+pub run_asked-requires-clause-workers : goal.run_asked-requires-clause-workers
+run_asked-requires-clause-workers g c κs within n named =
+    let words = map string_bytes c.args.words.now in
+    workers_fit words (seen c.in-Ok.asked) n (said (asked_by words) c.read_words.result c.in-Ok.asked c.in-Ok.is c.read_words.ensures.ok) named
+
+pub returns-in-Err-clause-replayed : goal.returns-in-Err-clause-replayed
+returns-in-Err-clause-replayed g c o t named left held =
+    let none = λ (e : c.in-Err.fault ≡ Refused). c.read_words.ensures.refused (c.in-Err.is ∙ ap Err e) in
+    let out = ran_out c.in-Err.fault (asked_by (map string_bytes c.args.words.now)) replay c.end_unasked.result
+    (g.K.Sink.held c.args.sink.now) (g.K.Sink.held c.end_unasked.new.sink) none c.end_unasked.ensures.ran_out named in
+    unread replay_of c.end_unasked.result o t (g.S.Source.left c.args.source.now) (g.K.Sink.held c.args.sink.now) (g.K.Sink.held c.end_unasked.new.sink)
+    (g.S.Source.faults c.args.source.now) (g.S.Source.faults c.args.source.now) left held out
+
+pub returns-in-Err-clause-checked : goal.returns-in-Err-clause-checked
+returns-in-Err-clause-checked g c o t named left held =
+    let none = λ (e : c.in-Err.fault ≡ Refused). c.read_words.ensures.refused (c.in-Err.is ∙ ap Err e) in
+    let out = ran_out c.in-Err.fault (asked_by (map string_bytes c.args.words.now)) check c.end_unasked.result
+    (g.K.Sink.held c.args.sink.now) (g.K.Sink.held c.end_unasked.new.sink) none c.end_unasked.ensures.ran_out named in
+    unread check_of c.end_unasked.result o t (g.S.Source.left c.args.source.now) (g.K.Sink.held c.args.sink.now) (g.K.Sink.held c.end_unasked.new.sink)
+    (g.S.Source.faults c.args.source.now) (g.S.Source.faults c.args.source.now) left held out

@@ -1,11 +1,19 @@
-use Rattle.bsc_session.proofs.Opening.{attends_all, attends_cut, attends_met}
+use Rattle.bsc_session.proofs.Opening.{attends_all, attends_cut, attends_met, attends_part}
 use Rattle.bsc_session.proofs.taking.attend.Goals as goal
 
 pub returns-in-All-clause-attended : goal.returns-in-All-clause-attended
 returns-in-All-clause-attended g c v s f r = attends_all v s c.args.now c.args.at.now c.take_from.new.member (g.L.Link.talk c.args.link.now) (g.L.Link.talk c.take_from.new.link) c.in-All.ensures.took f r
 
+pub returns-in-Part-clause-attended : goal.returns-in-Part-clause-attended
+returns-in-Part-clause-attended g c v s f r =
+    attends_part v s c.args.now c.args.at.now c.take_from.new.member (g.L.Link.talk c.args.link.now) (g.L.Link.talk c.take_from.new.link)
+    c.in-Part.ensures.took f r
+
 pub returns-in-Cut-clause-attended : goal.returns-in-Cut-clause-attended
 returns-in-Cut-clause-attended g c v s f r = attends_cut v s c.args.now c.args.at.now c.take_from.new.member (g.L.Link.talk c.args.link.now) (g.L.Link.talk c.take_from.new.link) c.in-Cut.fault c.stop_at.result c.in-Cut.ensures.took f c.stop_at.ensures
 
 pub returns-in-Met-clause-attended : goal.returns-in-Met-clause-attended
-returns-in-Met-clause-attended g c v s f r = attends_met v s c.args.now c.args.at.now c.meet.new.at c.take_from.new.member (g.L.Link.talk c.args.link.now) (g.L.Link.talk c.take_from.new.link) (g.L.Link.talk c.meet.new.link) c.in-Met.end c.meet.result c.in-Met.ensures.took f (c.meet.ensures.met v s r.machine r.tied)
+returns-in-Met-clause-attended g c v s f r = rw c.nothing_left.ensures (
+    attends_met v s c.args.now c.args.at.now c.meet.new.at c.take_from.new.member (g.L.Link.talk c.args.link.now)
+    (g.L.Link.talk c.take_from.new.link) (g.L.Link.talk c.meet.new.link) c.in-Met.end c.meet.result c.in-Met.ensures.took f
+    (c.meet.ensures.met v s r.machine r.tied))

@@ -1,0 +1,7 @@
+pub mod Peers
+pub mod Frames
+pub mod Workers
+pub mod Load
+pub mod Loaded
+pub mod Inner
+pub mod Laws

@@ -1,0 +1,25 @@
+//! The workload of a hub: workers that each join twice, forward a thousand unicasts to themselves, and leave.
+//!
+//! Start at `specs/Workers.antt`, which says what a worker asks of a hub, and `specs/Load.antt`, which says what
+//! `load_on` says by its answer. `worker` has what one worker does, `passes` gives each a pass and a thread and joins
+//! them, `workload` has the whole, and `loading` makes a hub for it. `laws` has what follows
+//! of the counts.
+#![tactic(auto)]
+
+mod ends;
+mod frames;
+mod jobs;
+mod laws;
+mod loading;
+mod passes;
+mod peers;
+mod taking;
+#[cfg(test)]
+mod tests;
+mod worker;
+mod workload;
+
+pub use ends::{LoadEnd, LoadStop};
+pub use laws::appended_is_sent;
+pub use loading::load;
+pub use workload::load_on;

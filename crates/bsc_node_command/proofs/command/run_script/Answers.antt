@@ -1,0 +1,19 @@
+use Rattle.std.proofs.Common.{List, ℕ, Option, inl, inr, refl, subst, sym}
+use Rattle.bsc_node_command.specs.Comes.{Comes}
+use Rattle.bsc_node_command.proofs.command.run_script.Goals as goal
+
+pub returns-in-Ok-clause-runs : goal.returns-in-Ok-clause-runs
+returns-in-Ok-clause-runs g c =
+    let A = g.A.Acceptor in
+    let D = g.D.Dialer in
+    let C = g.C.Clock in
+    let K = g.K.Sink in
+    let held = subst (λ (o : List ℕ). g.F.Files.holds c.args.files.now c.args.path.now o) (sym c.as_slice.ensures) c.in-Ok.ensures.given.0 in
+    inr (
+      c.as_slice.result.now,
+      held,
+      subst (λ (t : Option (List ℕ)). Comes g.L.Link.talk c.args.settings.now c.as_slice.result.now (D.calls c.args.dialer.now) (D.calls c.run_node.new.dialer) (A.left c.args.acceptor.now) (A.left c.run_node.new.acceptor) (A.bound c.args.acceptor.now) (A.bound c.run_node.new.acceptor) (C.readings c.args.clock.now) (C.readings c.run_node.new.clock) (A.faults c.args.acceptor.now) (A.faults c.run_node.new.acceptor) c.run_node.result t (K.held c.run_node.new.sink)) c.in-Ok.ensures.given.1 c.run_node.ensures.comes,
+    )
+
+pub returns-in-Err-clause-runs : goal.returns-in-Err-clause-runs
+returns-in-Err-clause-runs g c = inl ((refl, refl, refl, refl), c.in-Err.ensures.unread)

@@ -1,0 +1,13 @@
+use Rattle.std.proofs.Common.{inl, inr, refl, rules}
+use Rattle.bsc_node_run.proofs.Told.{stays_same}
+use Rattle.bsc_node_command.proofs.playing.run_lines.Goals as goal
+
+pub returns-in-Ok-make_node-clause-comes : goal.returns-in-Ok-make_node-clause-comes
+returns-in-Ok-make_node-clause-comes g c script reads =
+    inr (c.run_made.ensures.ran script (g.A.Acceptor.left c.args.acceptor.now) (g.A.Acceptor.bound c.args.acceptor.now) reads c.bind.ensures.left c.in-Ok.ensures.bound)
+
+pub returns-in-Err-make_node-clause-comes : goal.returns-in-Err-make_node-clause-comes
+returns-in-Err-make_node-clause-comes g c script reads = inl (refl, refl, c.bind.ensures.left, inr (inr (inr c.in-Ok.ensures.bound, (c.out_of_memory.ensures.status, c.out_of_memory.ensures.tried))))
+
+pub returns-in-Err-clause-comes : goal.returns-in-Err-clause-comes
+returns-in-Err-clause-comes g c script reads = inl (refl, refl, c.bind.ensures.left, inr (inl (c.args.lines.now, reads, c.bind.ensures.failed (search rules), c.end_with.ensures.ends)))

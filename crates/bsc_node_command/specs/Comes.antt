@@ -1,0 +1,102 @@
+-- What running a node by its settings comes to.
+use Rattle.std.specs.Prelude.{◌≡◌, ℕ, ◌⊎◌, List, [], map, Option, Some, None, is_some, Result, Ok, Err, IfOk}
+use Rattle.bsc_outside.specs.Faults.{HasRisen}
+use Rattle.bsc_edge.specs.declared.dialled.Dialled.{Dialled}
+use Rattle.bsc_edge.specs.declared.said.Said.{Said}
+use Rattle.bsc_edge.specs.Told.{Stays, Tells}
+use Rattle.bsc_player.specs.LastLines.{EndsWith, RanOut, script_line}
+use Rattle.bsc_settings.specs.declared.node.NodeSettings.{NodeSettings}
+use Rattle.bsc_settings.specs.Parts.{node_identity_of, node_times_of}
+use Rattle.bsc_node.specs.declared.node_limits.NodeLimits.{NodeLimits}
+use Rattle.bsc_node.specs.declared.node_event.NodeEvent.{NodeEvent}
+use Rattle.bsc_node.specs.declared.action.Action.{Action}
+use Rattle.bsc_node.specs.Logs.{Made}
+use Rattle.bsc_node_core.specs.Node.{Answers, StandsFor}
+use Rattle.bsc_node_run.specs.declared.due.Due.{Due}
+use Rattle.bsc_node_run.specs.declared.halt.Halt.{Halt}
+use Rattle.bsc_node_run.specs.declared.run_end.RunEnd.{RunEnd}
+use Rattle.bsc_node_run.specs.Running.{Run}
+use Rattle.bsc_node_run.specs.Scripts.{script_of, wish_of}
+use Rattle.bsc_node_command.specs.declared.running_node.RunningNode.{RunningNode}
+use Rattle.bsc_node_command.specs.Lines.{Says, SaysEnd, link_line}
+use Rattle.bsc_node_command.specs.Settled.{IsSettled, Unread, Unsettled}
+
+-- what a node of these settings is made with
+abbrev pub node_limits_of : NodeSettings → NodeLimits
+node_limits_of v = record {
+  times = node_times_of v;
+  primary = v.primary;
+  failover = v.failover;
+  uris = v.direct_uris;
+  least_wait = v.least_reconnect_ms;
+  greatest_wait = v.greatest_reconnect_ms;
+}
+
+abbrev pub made_by : NodeSettings → Made
+made_by v = record { own = node_identity_of v; limits = node_limits_of v }
+
+-- A node at an event: it answers what the definition of a node asks for.
+abbrev pub AnswersAt : RunningNode → ℕ → NodeEvent → List Action → RunningNode → Type 0
+AnswersAt old now e actions new = Answers old.node new.node (record { now = now; event = e }) actions
+
+-- The acceptor is bound to this port; where there is none, it is bound as before.
+abbrev pub IsBoundBy : Option ℕ → Option (Option ℕ) → Option (Option ℕ) → Type 0
+IsBoundBy (Some port) p p' = Tells p' (Some port)
+IsBoundBy None p p' = Stays p p'
+
+-- No node was run: a line of the script is the first bad one, and no port was bound; or the script is good, the port wasn't
+-- bound, and the acceptor's count of faults rose; or memory ran out, before the port was bound or after.
+abbrev pub NotRun : NodeSettings → List ℕ → Option (Option ℕ) → Option (Option ℕ) → ℕ → ℕ → ℕ → Option (List ℕ) → Option (List ℕ) → Type 0
+NotRun v script p p' f f' s before after =
+    ((n : ℕ) × (script_of script ≡ Err n) × Stays p p' × Says s 2 before after (script_line n))
+    ⊎ ((lines : List Due) × (script_of script ≡ Ok (map wish_of lines)) × HasRisen f f' × EndsWith s 6 before after link_line)
+    ⊎ ((Stays p p' ⊎ IsBoundBy v.direct_port p p') × RanOut s before after)
+
+module _ {L : Type 0} (talk : L → Option (List Said)) where
+  -- A node of the settings to which nothing had come was run, with the lines of the script, and the acceptor is bound by the
+  -- settings. A run that came to its end was a whole run of the node, with the turns of the settings; it accepts links
+  -- exactly where they have a port. What it wrote stands before what is written of its end.
+  pub record Ran (v : NodeSettings) (script : List ℕ) (c c' : Option (List Dialled)) (l l' : Option (List L)) (p p' : Option (Option ℕ))
+      (t t' : Option (List ℕ)) (s : ℕ) (b b' : Option (List ℕ)) : Type 0 where
+    pub lines : List Due
+    pub reads : script_of script ≡ Ok (map wish_of lines)
+    pub first : RunningNode
+    pub last : RunningNode
+    pub end : Result RunEnd Halt
+    pub left : Option (List L)
+    pub written : Option (List ℕ)
+    pub bound : IsBoundBy v.direct_port p p'
+    pub made : StandsFor first.node (made_by v) []
+    pub stays : Stays l left
+    pub run : IfOk end (λ e. Run AnswersAt talk (is_some v.direct_port) e v.turns lines first c b left t last c' written l' t')
+    pub says : SaysEnd end s written b'
+
+  -- Either no node was run, nothing was dialled, no link was taken and the clock wasn't read; or a node was run.
+  abbrev pub Comes : NodeSettings → List ℕ → Option (List Dialled) → Option (List Dialled) → Option (List L) → Option (List L)
+      → Option (Option ℕ) → Option (Option ℕ) → Option (List ℕ) → Option (List ℕ)
+      → ℕ → ℕ → ℕ → Option (List ℕ) → Option (List ℕ) → Type 0
+  Comes v script c c' l l' p p' t t' f f' s b b' =
+      ((c' ≡ c) × (t' ≡ t) × Stays l l' × NotRun v script p p' f f' s b b') ⊎ Ran v script c c' l l' p p' t t' s b b'
+
+  -- Nothing was dialled, no link was taken, no port was bound and the clock wasn't read.
+  abbrev pub IsUntouched : Option (List Dialled) → Option (List Dialled) → Option (List L) → Option (List L)
+      → Option (Option ℕ) → Option (Option ℕ) → Option (List ℕ) → Option (List ℕ) → Type 0
+  IsUntouched c c' l l' p p' t t' = (c' ≡ c) × (l' ≡ l) × (p' ≡ p) × (t' ≡ t)
+
+  -- Either the script wasn't read, and nothing was touched; or a node of these settings came to this by the script that the
+  -- file has.
+  abbrev pub RunsScript : NodeSettings → (List ℕ → Type 0) → ℕ → ℕ → Option (List Dialled) → Option (List Dialled) → Option (List L) → Option (List L)
+      → Option (Option ℕ) → Option (Option ℕ) → Option (List ℕ) → Option (List ℕ)
+      → ℕ → ℕ → ℕ → Option (List ℕ) → Option (List ℕ) → Type 0
+  RunsScript v holds r r' c c' l l' p p' t t' f f' s b b' =
+      (IsUntouched c c' l l' p p' t t' × Unread r r' s b b')
+      ⊎ ((script : List ℕ) × holds script × Comes v script c c' l l' p p' t t' f f' s b b')
+
+  -- Either there are no settings of a node in the file, and nothing was touched; or this became of the node of them, by the
+  -- script in the other file, of which `scripted` says what it has.
+  abbrev pub RunsFiles : (List ℕ → Type 0) → (List ℕ → Type 0) → ℕ → ℕ → Option (List Dialled) → Option (List Dialled) → Option (List L) → Option (List L)
+      → Option (Option ℕ) → Option (Option ℕ) → Option (List ℕ) → Option (List ℕ)
+      → ℕ → ℕ → ℕ → Option (List ℕ) → Option (List ℕ) → Type 0
+  RunsFiles settled scripted r r' c c' l l' p p' t t' f f' s b b' =
+      (IsUntouched c c' l l' p p' t t' × Unsettled settled r r' s b b')
+      ⊎ ((v : NodeSettings) × IsSettled settled v × RunsScript v scripted r r' c c' l l' p p' t t' f f' s b b')

@@ -1,0 +1,164 @@
+//! The command over files of settings and of the script.
+ghost use Rattle.std.specs.Prelude.{◌≡◌, ◌≤◌, ◌⊎◌, IfErr, IfOk};
+ghost use Rattle.bsc_outside.specs.Faults.{HasRisen};
+ghost use Rattle.bsc_node_command.specs.Lines.{Says, settings_line};
+ghost use Rattle.bsc_node_command.specs.Settled.{IsSettled, Unread, Unsettled};
+ghost use Rattle.bsc_node_command.specs.Comes.{Comes, RunsScript, RunsFiles};
+
+use crate::playing::run_node;
+use crate::texts::settings_text;
+use crate::words::NodeWords;
+use bsc_edge::{Acceptor, Clock, Dialer, FileFault, Files, Link};
+use bsc_node_run::Words;
+use bsc_octets::Octets;
+use bsc_outside::Sink;
+use bsc_player::{end_with, out_of_memory};
+use bsc_settings::{NodeSettings, SettingFault, read_settings};
+use std::alloc::Global;
+
+/// Ends a run whose settings are refused.
+fn refuse<K: Sink>(alloc: Global, sink: &mut K, name: &str) -> u8
+    ensures says { Says result 5 (K.held sink.old) (K.held sink.new) (settings_line name.now) }
+    ensures failed { (result ≡ 5) ⊎ (result ≡ 7)
+        ⊎ ((result ≡ 4) × HasRisen (K.faults sink.old) (K.faults sink.new)) }
+    ensures later { K.faults sink.old ≤ K.faults sink.new }
+{
+    match settings_text(alloc, name) {
+        Ok(text) => end_with(sink, text.as_slice(), 5),
+        Err(_) => out_of_memory(sink),
+    }
+}
+
+/// The octets of a file, or the status of a run that ends without them.
+fn load<K: Sink, F: Files>(
+    alloc: Global,
+    path: &str,
+    files: &mut F,
+    sink: &mut K,
+) -> Result<Octets, u8>
+    ensures given { IfOk result (λ o. F.holds files.old path.now o × (K.held sink.new ≡ K.held sink.old)) }
+    ensures unread { IfErr result (λ s. Unread (F.faults files.old) (F.faults files.new) s (K.held sink.old) (K.held sink.new)) }
+    ensures read { IfErr result (λ s. s ≡ 3 → HasRisen (F.faults files.old) (F.faults files.new)) }
+    ensures write { IfErr result (λ s. s ≡ 4 → HasRisen (K.faults sink.old) (K.faults sink.new)) }
+    ensures other { IfErr result (λ s. (s ≡ 3) ⊎ (s ≡ 4) ⊎ (s ≡ 7)) }
+    ensures reads_later { F.faults files.old ≤ F.faults files.new }
+    ensures writes_later { K.faults sink.old ≤ K.faults sink.new }
+{
+    match files.load(alloc, path) {
+        Ok(text) => Ok(text),
+        Err(FileFault::Failed) => Err(end_with(sink, b"fault read\n", 3)),
+        Err(FileFault::NoMemory) => Err(out_of_memory(sink)),
+    }
+}
+
+/// The settings of a node, or the status of a run that ends without them.
+fn load_settings<K: Sink, F: Files>(
+    alloc: Global,
+    path: &str,
+    files: &mut F,
+    sink: &mut K,
+) -> Result<NodeSettings, u8>
+    ensures settled { IfOk result (λ v. IsSettled (F.holds files.old path.now) v × (K.held sink.new ≡ K.held sink.old)) }
+    ensures unsettled { IfErr result (λ s. Unsettled (F.holds files.old path.now) (F.faults files.old) (F.faults files.new) s
+        (K.held sink.old) (K.held sink.new)) }
+    ensures read { IfErr result (λ s. s ≡ 3 → HasRisen (F.faults files.old) (F.faults files.new)) }
+    ensures write { IfErr result (λ s. s ≡ 4 → HasRisen (K.faults sink.old) (K.faults sink.new)) }
+    ensures other { IfErr result (λ s. (s ≡ 3) ⊎ (s ≡ 4) ⊎ (s ≡ 5) ⊎ (s ≡ 7)) }
+    ensures reads_later { F.faults files.old ≤ F.faults files.new }
+    ensures writes_later { K.faults sink.old ≤ K.faults sink.new }
+{
+    let text = match files.load(alloc, path) {
+        Ok(text) => text,
+        Err(FileFault::Failed) => return Err(end_with(sink, b"fault read\n", 3)),
+        Err(FileFault::NoMemory) => return Err(out_of_memory(sink)),
+    };
+    match read_settings(alloc, text.as_slice()) {
+        Ok(settings) => match settings.node {
+            Some(node) => Ok(node),
+            None => Err(refuse(alloc, sink, "node")),
+        },
+        Err(SettingFault::NotToml) => Err(refuse(alloc, sink, "-")),
+        Err(SettingFault::Key { name }) => Err(refuse(alloc, sink, name.text())),
+        Err(SettingFault::NoMemory) => Err(out_of_memory(sink)),
+    }
+}
+
+/// Loads the script, and runs a node of these settings by it.
+fn run_script<K: Sink, F: Files, C: Clock, W: Words, L: Link + Drop, A: Acceptor<L>, D: Dialer<L>>(
+    alloc: Global,
+    settings: &NodeSettings,
+    path: &str,
+    sink: &mut K,
+    files: &mut F,
+    clock: &mut C,
+    random: &mut W,
+    acceptor: &mut A,
+    dialer: &mut D,
+) -> u8
+    ensures runs { RunsScript L.talk settings.now (F.holds files.old path.now) (F.faults files.old) (F.faults files.new)
+        (D.calls dialer.old) (D.calls dialer.new) (A.left acceptor.old) (A.left acceptor.new) (A.bound acceptor.old) (A.bound acceptor.new)
+        (C.readings clock.old) (C.readings clock.new) (A.faults acceptor.old) (A.faults acceptor.new) result (K.held sink.old) (K.held sink.new) }
+    ensures read { result ≡ 3 → HasRisen (F.faults files.old) (F.faults files.new) }
+    ensures write { result ≡ 4 → HasRisen (K.faults sink.old) (K.faults sink.new) }
+    ensures link { result ≡ 6 → HasRisen (A.faults acceptor.old) (A.faults acceptor.new) }
+    ensures later { K.faults sink.old ≤ K.faults sink.new }
+{
+    match load(alloc, path, files, sink) {
+        Ok(script) => run_node(
+            alloc,
+            settings,
+            script.as_slice(),
+            sink,
+            clock,
+            random,
+            acceptor,
+            dialer,
+        ),
+        Err(status) => status,
+    }
+}
+
+/// Runs the command `node`: loads its settings, then its script, and runs the node.
+pub fn run_node_files<
+    K: Sink,
+    F: Files,
+    C: Clock,
+    W: Words,
+    L: Link + Drop,
+    A: Acceptor<L>,
+    D: Dialer<L>,
+>(
+    alloc: Global,
+    words: NodeWords<'_>,
+    sink: &mut K,
+    files: &mut F,
+    clock: &mut C,
+    random: &mut W,
+    acceptor: &mut A,
+    dialer: &mut D,
+) -> u8
+    // The file of settings wasn't read or was refused; or a node of them was run by the script, where that was read, of the
+    // files as they were between the two loads.
+    ensures runs { (between : F) × RunsFiles L.talk (F.holds files.old words.entry.path.now) (F.holds between words.entry.script.now)
+        (F.faults files.old) (F.faults files.new) (D.calls dialer.old) (D.calls dialer.new) (A.left acceptor.old) (A.left acceptor.new)
+        (A.bound acceptor.old) (A.bound acceptor.new) (C.readings clock.old) (C.readings clock.new)
+        (A.faults acceptor.old) (A.faults acceptor.new) result (K.held sink.old) (K.held sink.new) }
+    ensures read { result ≡ 3 → HasRisen (F.faults files.old) (F.faults files.new) }
+    ensures write { result ≡ 4 → HasRisen (K.faults sink.old) (K.faults sink.new) }
+    ensures link { result ≡ 6 → HasRisen (A.faults acceptor.old) (A.faults acceptor.new) }
+{
+    match load_settings(alloc, words.path, files, sink) {
+        Ok(settings) => run_script(
+            alloc,
+            &settings,
+            words.script,
+            sink,
+            files,
+            clock,
+            random,
+            acceptor,
+            dialer,
+        ),
+        Err(status) => status,
+    }
+}

@@ -1,0 +1,21 @@
+//! The command `node`: a node by the settings in a file and the script in another, run until it has ended or has made as
+//! many turns as it may.
+//!
+//! Start at `specs/Comes.antt`, which says what running a node comes to, what is written of it, and with which status.
+//! `command` has `run_node_files`, which loads settings and script; `playing` has `run_node`, which reads the script, makes
+//! the node and runs it; `running_node` is the node as its runner sees it; `words` reads the words of the command.
+#![tactic(auto)]
+
+mod command;
+mod making;
+mod playing;
+mod random_words;
+mod running_node;
+mod texts;
+mod words;
+
+pub use command::run_node_files;
+pub use playing::run_node;
+pub use random_words::RandomWords;
+pub use running_node::RunningNode;
+pub use words::{NodeWords, read_node_words};

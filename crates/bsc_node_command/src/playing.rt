@@ -1,0 +1,200 @@
+//! Running a node by its settings and a script.
+ghost use Rattle.std.specs.Prelude.{◌≡◌, ◌≤◌, ◌⊎◌, [], length, map, Ok, Err, IfOk, IsErr, ℕ, List, Option};
+ghost use Rattle.bsc_outside.specs.Faults.{HasRisen};
+ghost use Rattle.bsc_edge.specs.Told.{Grows, Stays};
+ghost use Rattle.bsc_node_core.specs.Node.{StandsFor};
+ghost use Rattle.bsc_node_run.specs.declared.halt.Halt.{Halt as HaltType};
+ghost use Rattle.bsc_node_command.specs.Lines.{SaysEnd};
+ghost use Rattle.bsc_node_run.specs.Scripts.{script_of, wish_of};
+ghost use Rattle.bsc_node_command.specs.Comes.{made_by, Comes, IsBoundBy, Ran};
+
+use crate::making::make_node;
+use crate::running_node::RunningNode;
+use bsc_edge::{Acceptor, Clock, Dialer, Failed, Link};
+use bsc_node_run::{Due, Halt, RunEnd, ScriptFault, Words, read_script};
+use bsc_outside::Sink;
+use bsc_player::{PlayEnd, end_play, end_with, out_of_memory};
+use bsc_settings::NodeSettings;
+use std::alloc::Global;
+
+/// Writes what the end of a run comes to, and gives its status.
+fn tell_end<K: Sink>(sink: &mut K, end: Result<RunEnd, Halt>) -> u8
+    ensures says { SaysEnd end result (K.held sink.old) (K.held sink.new) }
+    ensures write { result ≡ 4 → (end ≡ Err HaltType.WriteFault) ⊎ HasRisen (K.faults sink.old) (K.faults sink.new) }
+    ensures link { result ≡ 6 → end ≡ Err HaltType.AcceptFault }
+    ensures statuses { (result ≡ 0) ⊎ (result ≡ 4) ⊎ (result ≡ 6) ⊎ (result ≡ 7) ⊎ (result ≡ 8) }
+    ensures later { K.faults sink.old ≤ K.faults sink.new }
+{
+    match end {
+        Ok(RunEnd::Finished) => 0,
+        Ok(RunEnd::Spent) => end_with(sink, b"fault turns\n", 8),
+        Err(Halt::WriteFault) => 4,
+        Err(Halt::AcceptFault) => end_with(sink, b"fault link\n", 6),
+        Err(Halt::NoMemory) => out_of_memory(sink),
+    }
+}
+
+/// Binds the port of direct connections, where the settings have one.
+#[tactic(auto, using(bsc_node_run::proofs::Told::stays_same))]
+fn bind<L, A: Acceptor<L>>(settings: &NodeSettings, acceptor: &mut A) -> Result<(), Failed>
+    ensures bound { IfOk result (λ _. IsBoundBy settings.now.direct_port (A.bound acceptor.old) (A.bound acceptor.new)) }
+    ensures left { Stays (A.left acceptor.old) (A.left acceptor.new) }
+    ensures failed { IsErr result → HasRisen (A.faults acceptor.old) (A.faults acceptor.new) }
+    ensures later { A.faults acceptor.old ≤ A.faults acceptor.new }
+{
+    match settings.direct_port {
+        Some(port) => acceptor.bind(port),
+        None => Ok(()),
+    }
+}
+
+/// Runs a node that was made, and writes what it comes to.
+fn run_made<K: Sink, C: Clock, W: Words, L: Link + Drop, A: Acceptor<L>, D: Dialer<L>>(
+    alloc: Global,
+    settings: &NodeSettings,
+    node: RunningNode,
+    lines: &[Due],
+    sink: &mut K,
+    clock: &mut C,
+    random: &mut W,
+    acceptor: &mut A,
+    dialer: &mut D,
+) -> u8
+    requires { StandsFor node.node (made_by settings.now) [] }
+    ensures ran { (script : List ℕ) (l : Option (List L)) (p : Option (Option ℕ)) → script_of script ≡ Ok (map wish_of lines.now) →
+        Stays l (A.left acceptor.old) → IsBoundBy settings.now.direct_port p (A.bound acceptor.old) →
+        Ran L.talk settings.now script (D.calls dialer.old) (D.calls dialer.new) l (A.left acceptor.new) p (A.bound acceptor.new)
+        (C.readings clock.old) (C.readings clock.new) result (K.held sink.old) (K.held sink.new) }
+    ensures write { result ≡ 4 → HasRisen (K.faults sink.old) (K.faults sink.new) }
+    ensures link { result ≡ 6 → HasRisen (A.faults acceptor.old) (A.faults acceptor.new) }
+    ensures statuses { (result ≡ 0) ⊎ (result ≡ 4) ⊎ (result ≡ 6) ⊎ (result ≡ 7) ⊎ (result ≡ 8) }
+    ensures writes_later { K.faults sink.old ≤ K.faults sink.new }
+    ensures links_later { A.faults acceptor.old ≤ A.faults acceptor.new }
+{
+    let mut node = node;
+    let end = bsc_node_run::run_node(
+        alloc,
+        &mut node,
+        lines,
+        settings.direct_port.is_some(),
+        settings.turns,
+        sink,
+        clock,
+        random,
+        acceptor,
+        dialer,
+    );
+    tell_end(sink, end)
+}
+
+/// Binds its port, where it has one, makes the node, and runs it.
+fn run_lines<K: Sink, C: Clock, W: Words, L: Link + Drop, A: Acceptor<L>, D: Dialer<L>>(
+    alloc: Global,
+    settings: &NodeSettings,
+    lines: &[Due],
+    sink: &mut K,
+    clock: &mut C,
+    random: &mut W,
+    acceptor: &mut A,
+    dialer: &mut D,
+) -> u8
+    ensures comes { (script : List ℕ) → script_of script ≡ Ok (map wish_of lines.now) →
+        Comes L.talk settings.now script (D.calls dialer.old) (D.calls dialer.new) (A.left acceptor.old) (A.left acceptor.new)
+        (A.bound acceptor.old) (A.bound acceptor.new) (C.readings clock.old) (C.readings clock.new)
+        (A.faults acceptor.old) (A.faults acceptor.new) result (K.held sink.old) (K.held sink.new) }
+    ensures write { result ≡ 4 → HasRisen (K.faults sink.old) (K.faults sink.new) }
+    ensures link { result ≡ 6 → HasRisen (A.faults acceptor.old) (A.faults acceptor.new) }
+    ensures statuses { (result ≡ 0) ⊎ (result ≡ 4) ⊎ (result ≡ 6) ⊎ (result ≡ 7) ⊎ (result ≡ 8) }
+    ensures writes_later { K.faults sink.old ≤ K.faults sink.new }
+    ensures links_later { A.faults acceptor.old ≤ A.faults acceptor.new }
+{
+    match bind(settings, acceptor) {
+        Ok(()) => match make_node(alloc, settings) {
+            Ok(node) => run_made(
+                alloc, settings, node, lines, sink, clock, random, acceptor, dialer,
+            ),
+            Err(_) => out_of_memory(sink),
+        },
+        Err(_) => end_with(sink, b"fault link\n", 6),
+    }
+}
+
+/// Reads the whole script, and runs a node of the settings by it.
+fn run_text<K: Sink, C: Clock, W: Words, L: Link + Drop, A: Acceptor<L>, D: Dialer<L>>(
+    alloc: Global,
+    settings: &NodeSettings,
+    script: &[u8],
+    sink: &mut K,
+    clock: &mut C,
+    random: &mut W,
+    acceptor: &mut A,
+    dialer: &mut D,
+) -> u8
+    ensures comes { Comes L.talk settings.now script.now (D.calls dialer.old) (D.calls dialer.new) (A.left acceptor.old) (A.left acceptor.new)
+        (A.bound acceptor.old) (A.bound acceptor.new) (C.readings clock.old) (C.readings clock.new)
+        (A.faults acceptor.old) (A.faults acceptor.new) result (K.held sink.old) (K.held sink.new) }
+    ensures write { result ≡ 4 → HasRisen (K.faults sink.old) (K.faults sink.new) }
+    ensures link { result ≡ 6 → HasRisen (A.faults acceptor.old) (A.faults acceptor.new) }
+    ensures statuses { (result ≡ 0) ⊎ (result ≡ 2) ⊎ (result ≡ 4) ⊎ (result ≡ 6) ⊎ (result ≡ 7) ⊎ (result ≡ 8) }
+    ensures writes_later { K.faults sink.old ≤ K.faults sink.new }
+    ensures links_later { A.faults acceptor.old ≤ A.faults acceptor.new }
+{
+    match read_script(alloc, script) {
+        Ok(script) => run_lines(
+            alloc,
+            settings,
+            script.as_slice(),
+            sink,
+            clock,
+            random,
+            acceptor,
+            dialer,
+        ),
+        Err(ScriptFault::BadLine { line }) => end_play(alloc, sink, PlayEnd::BadLine { line }),
+        Err(ScriptFault::NoMemory) => out_of_memory(sink),
+    }
+}
+
+/// Reads the whole script, binds the port of direct connections where the settings have one, runs a node of the settings,
+/// and writes what that comes to. Answers the status.
+///
+/// | status | cause | last line written |
+/// |---|---|---|
+/// | 0 | the node has ended | `finished`, its own |
+/// | 2 | line n of the script is refused | `fault script line n` |
+/// | 4 | a write failed | none |
+/// | 6 | the port can't be bound, or the acceptor failed | `fault link` |
+/// | 7 | memory ran out | `fault memory`, tried once |
+/// | 8 | the node made as many turns as its settings allow | `fault turns` |
+pub fn run_node<K: Sink, C: Clock, W: Words, L: Link + Drop, A: Acceptor<L>, D: Dialer<L>>(
+    alloc: Global,
+    settings: &NodeSettings,
+    script: &[u8],
+    sink: &mut K,
+    clock: &mut C,
+    random: &mut W,
+    acceptor: &mut A,
+    dialer: &mut D,
+) -> u8
+    // Either no node was run, and nothing was dialled; or a node of the settings was, to its end or to a fault.
+    ensures comes { Comes L.talk settings.now script.now (D.calls dialer.old) (D.calls dialer.new) (A.left acceptor.old) (A.left acceptor.new)
+        (A.bound acceptor.old) (A.bound acceptor.new) (C.readings clock.old) (C.readings clock.new)
+        (A.faults acceptor.old) (A.faults acceptor.new) result (K.held sink.old) (K.held sink.new) }
+
+    // Status 2 comes only of a script with a bad line, and such a script comes to no other, but where the write of the last
+    // line failed or memory ran out.
+    ensures bad { result ≡ 2 → (n : ℕ) × (script_of script.now ≡ Err n) }
+    ensures refuses { (n : ℕ) → script_of script.now ≡ Err n → (result ≡ 2) ⊎ (result ≡ 4) ⊎ (result ≡ 7) }
+
+    // Status 8 comes only where the clock was read as often as the settings allow turns.
+    ensures spent { result ≡ 8 → (times : List ℕ) × Grows (C.readings clock.old) (C.readings clock.new) times × (length times ≡ settings.now.turns) }
+    ensures write { result ≡ 4 → HasRisen (K.faults sink.old) (K.faults sink.new) }
+    ensures link { result ≡ 6 → HasRisen (A.faults acceptor.old) (A.faults acceptor.new) }
+    ensures statuses { (result ≡ 0) ⊎ (result ≡ 2) ⊎ (result ≡ 4) ⊎ (result ≡ 6) ⊎ (result ≡ 7) ⊎ (result ≡ 8) }
+    ensures writes_later { K.faults sink.old ≤ K.faults sink.new }
+    ensures links_later { A.faults acceptor.old ≤ A.faults acceptor.new }
+{
+    run_text(
+        alloc, settings, script, sink, clock, random, acceptor, dialer,
+    )
+}

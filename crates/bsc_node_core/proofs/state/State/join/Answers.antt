@@ -1,0 +1,23 @@
+use Rattle.std.proofs.Common.{ap, sym, ◌∙◌, refl, ◌++◌, None}
+use Rattle.std.proofs.lemmas.Result.{on_ok_weaker}
+use Rattle.bsc_accept.specs.declared.event.Event.TheVariants.{Joined}
+use Rattle.bsc_node.proofs.Calm.{is_calm}
+use Rattle.bsc_node.specs.declared.link_name.LinkName.TheVariants.{Direct}
+use Rattle.bsc_node.specs.Links.{accepting_events}
+use Rattle.bsc_node.specs.Meeting.{joins}
+use Rattle.bsc_accept.specs.Past.{standing}
+use Rattle.bsc_node_core.specs.Machines.{taken_in, may_tell_taken}
+use Rattle.bsc_node_core.proofs.Carrying.{carried}
+use Rattle.bsc_node_core.proofs.Meets.{asked-taken, calm-joins}
+use Rattle.bsc_node_core.proofs.Told.{taken-told}
+use Rattle.bsc_node_core.proofs.state.State.join.Goals as goal
+
+pub returns-clause-goes : goal.returns-clause-goes
+returns-clause-goes c = on_ok_weaker c.carry_out.result
+    (λ g b L none n is h.
+    let name = Direct c.args.k in
+    let told = taken-told b c.args.out.now c.args.self.now L name Joined c.args.machine _ _ _ _ (c.in_ok-of_taken.ensures None (standing (accepting_events L name)) Joined refl) c.go_on_taken.ensures (ap taken_in is) n
+    c.joined-step.ensures.step (ap (λ x. may_tell_taken x Joined) c.requires.asked) h in
+    carried b c.args.out.now _ _ _ (L ++ joins name L) name _ none n (ap is_calm (sym told.newest) ∙ calm-joins b.made name L (asked-taken b c.args.out.now c.args.self.now L name c.args.machine n is h)) told
+    (λ base st. g None None base (L ++ joins name L) st))
+    c.carry_out.ensures.goes

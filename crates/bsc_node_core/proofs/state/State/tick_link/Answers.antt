@@ -1,0 +1,18 @@
+use Rattle.std.proofs.Common.{sym, ◌∙◌, ◌++◌, None, refl}
+use Rattle.std.proofs.lemmas.Result.{on_ok_weaker}
+use Rattle.bsc_node.specs.Links.{is_there, ticks}
+use Rattle.bsc_node_core.specs.Standing.{Stands}
+use Rattle.bsc_node_core.proofs.Branching.{when-not}
+use Rattle.bsc_node_core.proofs.Ticking.{ticked, unmet-ticked}
+use Rattle.bsc_node_core.proofs.state.State.tick_link.Goals as goal
+
+pub returns-in_ok-deed : goal.returns-in_ok-deed
+returns-in_ok-deed c = on_ok_weaker c.obey.result
+    (λ g b L l w none n h.
+    let t = (h.links c.args.name n).there ∙ sym c.is_there.ensures ∙ c.if-is_there.true in
+    ticked b _ _ L c.args.name t (g b (L ++ ticks c.args.name L) None l w none n (unmet-ticked b.made c.args.name L) (λ e. refl) (c.in_ok-deed.ensures b c.args.out.now L w none n t h)))
+    c.obey.ensures
+
+pub returns-else-is_there : goal.returns-else-is_there
+returns-else-is_there c = λ b L l w none n h.
+    when-not (Stands b c.args.out.now c.args.self.now) L (is_there c.args.name) _ ((h.links c.args.name n).there ∙ sym c.is_there.ensures ∙ c.if-is_there.false) h

@@ -1,0 +1,122 @@
+//! The calls of a node.
+ghost use Rattle.std.specs.Prelude.{◌≡◌, ◌<◌, ◌^◌, ◌++◌, [], None, IfOk, IfSome, OnOk, OnErr};
+ghost use Rattle.std.specs.Str.{IsUtf8};
+ghost use Rattle.bsc_resolve.specs.Standing.{IsUnchanged as IsUnchangedResolve};
+ghost use Rattle.bsc_node.specs.Logs.{Log};
+ghost use Rattle.bsc_node.specs.Events.{follows};
+ghost use Rattle.bsc_node_core.specs.Events.{HasOctets, MayFollow};
+ghost use Rattle.bsc_node_core.specs.Standing.{Base};
+ghost use Rattle.bsc_node_core.specs.Resolving.{BothStand};
+ghost use Rattle.bsc_node_core.specs.Node.{Answers, IsUnchanged, StandsFor};
+
+use crate::actions::Actions;
+use crate::failing::fail_dial;
+use crate::following::{hear, pass_time};
+use crate::links::Links;
+use crate::node::Node;
+use crate::requesting::{connect_to, resolve_vmac};
+use crate::state::State;
+use bsc_accept::Closing;
+use bsc_connector::{Connector, ConnectorEvent};
+use bsc_direct::Direct;
+use bsc_node::{NodeEvent, NodeLimits};
+use bsc_octets::{Identity, NoMemory};
+use bsc_resolve::Resolve;
+use std::alloc::Global;
+
+impl Node {
+    /// A node to which nothing came yet.
+    pub fn make(alloc: Global, own: Identity, limits: NodeLimits) -> Result<Node, NoMemory>
+        requires { IfSome limits.uris IsUtf8 }
+        ensures { IfOk result (λ node. StandsFor node (record { own = own; limits = limits }) []) }
+    {
+        let connector = Connector::make(
+            limits.failover.is_some(),
+            limits.least_wait,
+            limits.greatest_wait,
+        );
+        let resolve = Resolve::make(alloc, limits.times.connect_wait)?;
+        let state = State {
+            own,
+            next: 1,
+            finishing: false,
+            renewals: 0,
+            newest_hub: None,
+            dropped: false,
+            connector,
+            links: Links::make(alloc)?,
+            direct: Direct::make(alloc)?,
+        };
+        Ok(Node {
+            limits,
+            state,
+            resolve,
+        })
+    }
+
+    /// What follows from an event, once it came.
+    fn follow(
+        &mut self,
+        out: &mut Actions,
+        alloc: Global,
+        now: u64,
+        event: &NodeEvent,
+    ) -> Result<(), NoMemory>
+        requires time { now < 2 ^ 62 }
+        requires octets { HasOctets event.now }
+        ensures limits { self.new.limits ≡ self.old.limits }
+        ensures goes { OnOk result ((b : Base) (L : Log) → b.made.limits ≡ self.old.limits → b.now ≡ now → b.busy ≡ None → MayFollow event.now L
+            → BothStand b out.old self.old.state self.old.resolve L → BothStand b out.new self.new.state self.new.resolve (L ++ follows b.made event.now L)) }
+        ensures err { OnErr result (IsUnchangedResolve self.old.resolve self.new.resolve) }
+    {
+        let limits = &self.limits;
+        let state = &mut self.state;
+        let resolve = &mut self.resolve;
+        match event {
+            NodeEvent::Start => {
+                state.tell_connector(out, alloc, limits, now, ConnectorEvent::Start)
+            }
+            NodeEvent::Opened(name) => state.open(out, alloc, limits, now, *name),
+            NodeEvent::DialFailed(name) => {
+                fail_dial(state, out, resolve, alloc, limits, now, *name)
+            }
+            NodeEvent::Arrived => state.arrive(out, limits, now),
+            NodeEvent::Came(name, octets) => {
+                hear(state, out, resolve, alloc, limits, now, *name, octets)
+            }
+            NodeEvent::CameText(name) => {
+                state.close_link(out, alloc, limits, now, *name, Closing::NOT_BINARY)
+            }
+            NodeEvent::Lost(name) => state.end(out, alloc, limits, now, *name),
+            NodeEvent::Tick => pass_time(state, out, resolve, alloc, limits, now),
+            NodeEvent::Send { dest, npdu } => state.send(out, alloc, *dest, npdu),
+            NodeEvent::Resolve(v) => resolve_vmac(state, out, resolve, alloc, now, *v),
+            NodeEvent::DirectTo(v) => connect_to(state, out, resolve, alloc, limits, now, *v),
+            NodeEvent::Solicit(v) => state.solicit(out, alloc, *v),
+            NodeEvent::Finish => state.finish(out, alloc, limits, now),
+            NodeEvent::Random(_) => state.renew(out, alloc, limits, now),
+            NodeEvent::NoRandom => state.keep_vmac(out, alloc, limits, now),
+        }
+    }
+
+    /// Something comes to the node, at this time in milliseconds: what it does.
+    ///
+    /// After `NoMemory` the node is as it was, and the same event may be given again.
+    pub fn event(&mut self, alloc: Global, now: u64, event: &NodeEvent) -> Result<Actions, NoMemory>
+        requires time { now < 2 ^ 62 }
+        requires octets { HasOctets event.now }
+        ensures ok { IfOk result (λ actions. Answers self.old self.new (record { now = now; event = event.now }) actions) }
+        ensures err { OnErr result (IsUnchanged self.old self.new) }
+    {
+        let before = self.state.copy(alloc)?;
+        let mut out = Actions::new(alloc);
+        self.state.comes(event);
+        match self.follow(&mut out, alloc, now, event) {
+            Ok(()) => Ok(out),
+            Err(NoMemory) => {
+                self.state = before;
+                Err(NoMemory)
+            }
+        }
+    }
+}

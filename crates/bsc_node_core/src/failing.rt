@@ -1,0 +1,110 @@
+//! What follows where a dial failed.
+ghost use Rattle.std.specs.Prelude.{◌≡◌, ◌<◌, ◌^◌, ◌∷◌, ◌++◌, [], List, None, true, IfOk, OnOk};
+ghost use Rattle.bsc_node.specs.declared.action.Action.{Action};
+ghost use Rattle.bsc_node.specs.declared.link_name.LinkName.{LinkName};
+ghost use Rattle.bsc_node.specs.declared.note.Note.{Note};
+ghost use Rattle.bsc_node.specs.Logs.{Log, in_order, nothing, tells, where_found};
+ghost use Rattle.bsc_node.specs.Ways.{next_uri, wanted};
+ghost use Rattle.bsc_node.specs.Ending.{ends};
+ghost use Rattle.bsc_node.specs.Events.{dial_fails, tries_next};
+ghost use Rattle.bsc_node_core.specs.Tables.{is_name};
+ghost use Rattle.bsc_node_core.specs.Standing.{Base, Stands};
+ghost use Rattle.bsc_node_core.specs.Resolving.{BothStand};
+
+use crate::acting::tell;
+use crate::actions::Actions;
+use crate::requesting::learnt_uri;
+use crate::state::State;
+use bsc_node::{LinkName, NodeLimits, Note};
+use bsc_octets::{NoMemory, Octets, Vmac};
+use bsc_resolve::Resolve;
+use std::alloc::Global;
+
+/// The next URI of a slot: of those learnt by now of the VMAC that it was dialled for.
+fn next_uri(
+    state: &State,
+    resolve: &Resolve,
+    alloc: Global,
+    k: u32,
+    whom: Option<Vmac>,
+) -> Result<Option<Octets>, NoMemory>
+    ensures { IfOk result (λ uri. (b : Base) (out : List Action) (L : Log) → k < 64 → wanted k L ≡ whom → BothStand b out state.now resolve.now L → uri ≡ next_uri k L) }
+{
+    match whom {
+        None => Ok(None),
+        Some(v) => {
+            let tries = state.links.get(LinkName::Direct(k)).tries;
+            learnt_uri(alloc, resolve, v, tries)
+        }
+    }
+}
+
+/// Tells that no direct connection came about, where one was wanted.
+fn tell_none(out: &mut Actions, k: u32, whom: Option<Vmac>) -> Result<(), NoMemory>
+    ensures { OnOk result ((b : Base) (s : State) (L : Log) → wanted k L ≡ whom → Stands b out.old s L
+        → Stands b out.new s (L ++ where_found (wanted k) (λ v. tells (Note.NoDirect v)) nothing L)) }
+{
+    match whom {
+        Some(v) => tell(out, Note::NoDirect(v)),
+        None => Ok(()),
+    }
+}
+
+/// No URI of a slot is left: the slot is released, and that no direct connection came about is told.
+fn give_up(
+    state: &mut State,
+    out: &mut Actions,
+    alloc: Global,
+    limits: &NodeLimits,
+    now: u64,
+    k: u32,
+    whom: Option<Vmac>,
+) -> Result<(), NoMemory>
+    requires { now < 2 ^ 62 }
+    ensures { OnOk result ((b : Base) (L : Log) → b.made.limits ≡ limits.now → b.now ≡ now → b.busy ≡ None → wanted k L ≡ whom → Stands b out.old state.old L
+        → Stands b out.new state.new (L ++ in_order (where_found (wanted k) (λ v. tells (Note.NoDirect v)) nothing ∷ ends b.made (LinkName.Direct k) ∷ []) L)) }
+{
+    tell_none(out, k, whom)?;
+    state.end(out, alloc, limits, now, LinkName::Direct(k))
+}
+
+/// A slot whose dial failed dials the next URI, or is released.
+fn try_next(
+    state: &mut State,
+    out: &mut Actions,
+    resolve: &Resolve,
+    alloc: Global,
+    limits: &NodeLimits,
+    now: u64,
+    k: u32,
+) -> Result<(), NoMemory>
+    requires { now < 2 ^ 62 }
+    ensures { OnOk result ((b : Base) (L : Log) → b.made.limits ≡ limits.now → b.now ≡ now → b.busy ≡ None → k < 64
+        → BothStand b out.old state.old resolve.now L → BothStand b out.new state.new resolve.now (L ++ tries_next b.made k L)) }
+{
+    let whom = state.direct.wanted(k);
+    match next_uri(state, resolve, alloc, k, whom)? {
+        Some(uri) => state.dial(out, limits.times, now, LinkName::Direct(k), uri),
+        None => give_up(state, out, alloc, limits, now, k, whom),
+    }
+}
+
+/// A dial failed: a hub connection has failed, a slot goes on with the next URI.
+pub(crate) fn fail_dial(
+    state: &mut State,
+    out: &mut Actions,
+    resolve: &Resolve,
+    alloc: Global,
+    limits: &NodeLimits,
+    now: u64,
+    name: LinkName,
+) -> Result<(), NoMemory>
+    requires { now < 2 ^ 62 }
+    ensures { OnOk result ((b : Base) (L : Log) → b.made.limits ≡ limits.now → b.now ≡ now → b.busy ≡ None → is_name name ≡ true
+        → BothStand b out.old state.old resolve.now L → BothStand b out.new state.new resolve.now (L ++ dial_fails b.made name L)) }
+{
+    match name {
+        LinkName::Hub(_) => state.end(out, alloc, limits, now, name),
+        LinkName::Direct(k) => try_next(state, out, resolve, alloc, limits, now, k),
+    }
+}

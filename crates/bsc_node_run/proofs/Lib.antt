@@ -1,0 +1,11 @@
+pub mod Worlds
+pub mod Acting
+pub mod Fewer
+pub mod Giving
+pub mod Turns
+pub mod Slots
+pub mod Runs
+pub mod Pieces
+pub mod Behind
+pub mod Told
+pub mod WorkedScripts

@@ -1,0 +1,139 @@
+-- The parts of a turn, from what its steps did.
+use Rattle.std.proofs.Common.{◌≡◌, ◌≤◌, ◌<◌, inl, inr, ℕ, zero, suc, ◌+◌, ◌-◌, Bool, true, false, not, ◌&&◌, IsTrue, List, [], ◌∷◌, ◌++◌, length, Option, Some, None, is_some, Result, Ok, Err, IfOk, get_or, take, drop, refl, ap, sym, ◌∙◌, subst, arith}
+use Rattle.std.specs.List.{list_any}
+use Rattle.std.proofs.lemmas.Bool.{false≢true}
+use Rattle.std.proofs.lemmas.List.{take_all}
+use Rattle.std.proofs.lemmas.Option.{none-some, same_Some}
+use Rattle.bsc_edge.specs.declared.fault.LinkFault.{LinkFault}
+use Rattle.bsc_edge.specs.declared.fault.LinkFault.TheVariants.{Failed, NoMemory}
+use Rattle.bsc_edge.specs.declared.incoming.Incoming.{Incoming}
+use Rattle.bsc_edge.specs.declared.incoming.Incoming.TheVariants.{Message, Text, Quiet, Closed}
+use Rattle.bsc_edge.specs.declared.said.Said.{Said}
+use Rattle.bsc_edge.specs.declared.said.Said.TheVariants.{Gave}
+use Rattle.bsc_edge.specs.Told.{Grows}
+use Rattle.bsc_node.specs.declared.link_name.LinkName.{LinkName}
+use Rattle.bsc_node.specs.declared.link_name.LinkName.TheVariants.{Direct}
+use Rattle.bsc_node.specs.declared.node_event.NodeEvent.{NodeEvent}
+use Rattle.bsc_node.specs.declared.node_event.NodeEvent.TheVariants.{Came, CameText, Lost}
+use Rattle.bsc_node.specs.declared.action.Action.{Action}
+use Rattle.bsc_node_run.specs.declared.due.Due.{Due}
+use Rattle.bsc_node_run.specs.declared.news.News.{News}
+use Rattle.bsc_node_run.specs.Receiving.{Received, WasGiven, left_by, told_of}
+use Rattle.bsc_node_run.specs.Turning.{AreDue, Gives, GivesIn, GivesLines, GivesNews, Hears, HearsEach, HearsIf, HearsOf, IsNotDue, event_of, slots_from}
+use Rattle.bsc_node_run.specs.Worlds.{World, Same, is_of, is_open, with_link, ends}
+
+pub on_if : {T E : Type 0} {P Q : T → Type 0} (r : Result T E) → ((x : T) → P x → Q x) → IfOk r P → IfOk r Q
+on_if (Ok x) f p = f x p
+on_if (Err e) f p = tt
+
+module _ {L : Type 0} where
+  pub same : (w : World L) → Same w w
+  same w = record { link = λ name. refl; arrived = refl; over = refl; due = refl; waiting = refl; finished = refl; dialled = refl; held = refl }
+
+  -- What is due stays so.
+  pub emptied : (w : World L) (due : List News) → w.due ≡ due → Same (record w { due = due }) w
+  emptied w due e = record { link = λ name. refl; arrived = refl; over = refl; due = sym e; waiting = refl; finished = refl; dialled = refl; held = refl }
+
+  pub same_as : (a b : World L) → Same a b → Same b a
+  same_as a b s = record {
+    link = λ name. sym (s.link name);
+    arrived = sym s.arrived;
+    over = sym s.over;
+    due = sym s.due;
+    waiting = sym s.waiting;
+    finished = sym s.finished;
+    dialled = sym s.dialled;
+    held = sym s.held;
+  }
+
+  -- a link that isn't there isn't open
+  none_open : (name : LinkName) (w : World L) → w.link name ≡ None → is_open name w ≡ false
+  none_open name w e = ap (λ (o : Option L). is_some o && not (list_any (is_of name) w.waiting)) e
+
+-- ---- what is due
+
+-- the first line, which isn't due
+pub not_due : (passed : ℕ) (xs : List Due) (d x : Due) → d ≡ get_or xs 0 x → passed < d.at → IsNotDue passed xs
+not_due passed [] d x e p = tt
+not_due passed (y ∷ ys) d x e p = subst (λ (z : Due). passed < z.at) e p
+
+-- no line
+pub none_due : (passed : ℕ) (xs : List Due) → length xs < 1 → IsNotDue passed xs
+none_due passed [] h = tt
+none_due passed (y ∷ ys) h = absurd (omega (arith, h))
+
+-- the first line, and those behind it
+pub cut_first : (xs ys : List Due) (d x : Due) → 1 ≤ length xs → d ≡ get_or xs 0 x → take (length xs - 1) (drop 1 xs) ≡ ys → xs ≡ d ∷ ys
+cut_first [] ys d x h e p = absurd (omega (arith, h))
+cut_first (y ∷ zs) ys d x h e p = ap (λ (z : Due). z ∷ zs) (sym e) ∙ ap (λ (l : List Due). d ∷ l) (sym (take_all (length (y ∷ zs) - 1) zs (omega arith)) ∙ p)
+
+-- ---- what is new
+
+-- what is left where nothing was taken is nothing
+pub none_left : (xs : List News) → xs ≡ drop 1 xs → xs ≡ []
+none_left [] e = refl
+none_left (y ∷ ys) e = (let k : length (y ∷ ys) ≡ length ys = ap length e in absurd (omega (arith, k)))
+
+-- ---- what is received
+
+module _ {L : Type 0} (talk : L → Option (List Said)) where
+  pub received : (name : LinkName) (k l : L) (given : Result Incoming LinkFault) (e : Option NodeEvent) (w v : World L) → Some k ≡ w.link name
+      → WasGiven given → Grows (talk k) (talk l) (Gave given ∷ []) → e ≡ told_of name given → Same v (left_by name l given w) → Received talk name (w.link name) e w v
+  received name k l given e w v is ok g told s = subst (λ (o : Option L). Received talk name o e w v) is (l, given, ok, g, told, s)
+
+  pub received_none : (name : LinkName) (e : Option NodeEvent) (w v : World L) → None ≡ w.link name → e ≡ None → Received talk name (w.link name) e w v
+  received_none name e w v is none = subst (λ (o : Option L). Received talk name o e w v) is none
+
+module _ {N L : Type 0} (goes : N → ℕ → NodeEvent → List Action → N → Type 0) (talk : L → Option (List Said)) (now : ℕ) where
+  -- ---- what is heard
+
+  told_in : (e d : NodeEvent) (n m : N) (w x v : World L) → Some e ≡ Some d → Same x w → Gives goes talk now e n x m v → GivesIn goes talk now d n w m v
+  told_in e d n m w x v is s g = (x, s, subst (λ c. Gives goes talk now c n x m v) (same_Some e d is) g)
+
+  hears_of : (name : LinkName) (l : L) (given : Result Incoming LinkFault) (e : NodeEvent) (n m : N) (w x v : World L) → WasGiven given → Some e ≡ told_of name given
+      → Same x (left_by name l given w) → Gives goes talk now e n x m v → HearsOf goes talk now name l given n w m v
+  hears_of name l (Ok (Message o)) e n m w x v ok is s g = told_in e (Came name o) n m (with_link name (Some l) w) x v is s g
+  hears_of name l (Ok Text) e n m w x v ok is s g = told_in e (CameText name) n m (with_link name (Some l) w) x v is s g
+  hears_of name l (Ok Quiet) e n m w x v ok is s g = absurd (none-some e (sym is))
+  hears_of name l (Ok Closed) e n m w x v ok is s g = told_in e (Lost name) n m (ends name l w) x v is s g
+  hears_of name l (Err Failed) e n m w x v ok is s g = told_in e (Lost name) n m (ends name l w) x v is s g
+  hears_of name l (Err NoMemory) e n m w x v ok is s g = absurd ok
+
+  hears_quiet : (name : LinkName) (l : L) (given : Result Incoming LinkFault) (n : N) (w v : World L) → WasGiven given → None ≡ told_of name given
+      → Same v (left_by name l given w) → HearsOf goes talk now name l given n w n v
+  hears_quiet name l (Ok (Message o)) n w v ok is s = absurd (none-some (Came name o) is)
+  hears_quiet name l (Ok Text) n w v ok is s = absurd (none-some (CameText name) is)
+  hears_quiet name l (Ok Quiet) n w v ok is s = (refl, s)
+  hears_quiet name l (Ok Closed) n w v ok is s = absurd (none-some (Lost name) is)
+  hears_quiet name l (Err Failed) n w v ok is s = absurd (none-some (Lost name) is)
+  hears_quiet name l (Err NoMemory) n w v ok is s = absurd ok
+
+  hears_some_in : (name : LinkName) (e : NodeEvent) (n m : N) (w x v : World L) (o : Option L) → w.link name ≡ o → true ≡ is_open name w
+      → Received talk name o (Some e) w x → Gives goes talk now e n x m v → Hears goes talk now name n w m v
+  hears_some_in name e n m w x v None is up r g = absurd (none-some e (sym r))
+  hears_some_in name e n m w x v (Some k) is up (l, given, ok, grows, told, s) g =
+      subst (λ b. HearsIf goes talk now name b n w m v) up (k, l, given, is, grows, hears_of name l given e n m w x v ok told s g)
+
+  -- Something came.
+  pub hears_some : (name : LinkName) (e : NodeEvent) (n m : N) (w x v : World L) → true ≡ is_open name w
+      → Received talk name (w.link name) (Some e) w x → Gives goes talk now e n x m v → Hears goes talk now name n w m v
+  hears_some name e n m w x v up r g = hears_some_in name e n m w x v (w.link name) refl up r g
+
+  hears_none_in : (name : LinkName) (n : N) (w v : World L) (o : Option L) → w.link name ≡ o → true ≡ is_open name w
+      → Received talk name o None w v → Hears goes talk now name n w n v
+  hears_none_in name n w v None is up r = absurd (false≢true (sym (up ∙ none_open name w is)))
+  hears_none_in name n w v (Some k) is up (l, given, ok, grows, told, s) =
+      subst (λ b. HearsIf goes talk now name b n w n v) up (k, l, given, is, grows, hears_quiet name l given n w v ok told s)
+
+  -- Nothing came.
+  pub hears_none : (name : LinkName) (n : N) (w v : World L) → true ≡ is_open name w → Received talk name (w.link name) None w v → Hears goes talk now name n w n v
+  hears_none name n w v up r = hears_none_in name n w v (w.link name) refl up r
+
+  -- It isn't open.
+  pub hears_closed : (name : LinkName) (n : N) (w : World L) → false ≡ is_open name w → Hears goes talk now name n w n w
+  hears_closed name n w shut = subst (λ b. HearsIf goes talk now name b n w n w) shut (refl, same w)
+
+  -- one slot more, of those that are left
+  pub slot_more : (left rest k : ℕ) (n p m : N) (w x v : World L) → left ≡ suc rest → Hears goes talk now (Direct k) n w p x
+      → HearsEach goes talk now (slots_from rest (k + 1)) p x m v → HearsEach goes talk now (slots_from left k) n w m v
+  slot_more left rest k n p m w x v e h r = subst (λ c. HearsEach goes talk now (slots_from c k) n w m v) (sym e) (p, x, h, r)

@@ -1,0 +1,12 @@
+use Rattle.bsc_node_run.specs.Worlds.{world_of}
+use Rattle.bsc_node_run.proofs.Acting.{on_ok, refuses_none, refuses_some}
+use Rattle.bsc_node_run.proofs.performing.refuse.Goals as goal
+
+pub returns-in-Some : goal.returns-in-Some
+returns-in-Some g c = on_ok c.close_link.result
+    (λ k d h. refuses_some g.L.Link.talk c.args.closing (world_of c.args.set.now d h) (world_of c.take_arrived.new.self d h) (world_of c.close_link.new.set d h) c.in-Some.link
+    c.in-Some.ensures.old (c.in-Some.ensures.new d h) (k d h))
+    c.close_link.ensures
+
+pub returns-in-None : goal.returns-in-None
+returns-in-None g c d h = refuses_none g.L.Link.talk c.args.closing (world_of c.args.set.now d h) (world_of c.take_arrived.new.self d h) c.in-None.ensures.old (c.in-None.ensures.new d h)

@@ -1,0 +1,84 @@
+use Rattle.std.proofs.Common.{arith, refl, None, Some, ◌∷◌, [], ◌++◌, unwrap_or}
+use Rattle.bsc_node_run.specs.Worlds.{world_of}
+use Rattle.bsc_node_run.proofs.Runs.{grows_none, grows_then, one_longer, turns_all, turns_more}
+use Rattle.bsc_node_run.proofs.Told.{stays_same, stays_then}
+use Rattle.bsc_node_run.proofs.running.run_node.Goals as goal
+
+pub loop-made-init : goal.loop-made-init
+loop-made-init g c = record {
+  times = [];
+  readings = grows_none (g.C.Clock.readings c.args.clock.now);
+  count = refl;
+  going = c.in_ok-set.ensures.finished;
+  turns = λ more m v left k. k;
+  writes_later = omega arith;
+  links_later = omega arith;
+  bound = stays_same (g.A.Acceptor.bound c.args.acceptor.now);
+}
+
+pub returns-then-set-clause-runs : goal.returns-then-set-clause-runs
+returns-then-set-clause-runs g c = record {
+  times = c.loop-made.invariant.times ++ c.in_ok-now.now ∷ [];
+  first = world_of c.in_ok-set.set (g.D.Dialer.calls c.args.dialer.now) (g.K.Sink.held c.args.sink.now);
+  last = (world_of c.node_turn.new.set (g.D.Dialer.calls c.node_turn.new.dialer) (g.K.Sink.held c.node_turn.new.sink));
+  empty = record {
+    link = c.in_ok-set.ensures.links;
+    arrived = c.in_ok-set.ensures.arrived;
+    due = c.in_ok-set.ensures.due;
+    waiting = c.in_ok-set.ensures.waiting;
+    finished = c.in_ok-set.ensures.finished;
+    dialled = refl;
+    held = refl;
+  };
+  went = turns_all g.N.Core.goes g.L.Link.talk c.args.listens None c.args.script.now c.args.node.now (world_of c.in_ok-set.set (g.D.Dialer.calls c.args.dialer.now) (g.K.Sink.held c.args.sink.now)) (g.A.Acceptor.left c.args.acceptor.now)
+      (c.loop-made.invariant.times ++ c.in_ok-now.now ∷ []) (Some (unwrap_or c.loop-made.start c.in_ok-now.now)) c.in_ok-now.rest.now c.node_turn.new.node (world_of c.node_turn.new.set (g.D.Dialer.calls c.node_turn.new.dialer) (g.K.Sink.held c.node_turn.new.sink)) (g.A.Acceptor.left c.node_turn.new.acceptor)
+      (turns_more g.N.Core.goes g.L.Link.talk c.args.listens None c.args.script.now c.args.node.now (world_of c.in_ok-set.set (g.D.Dialer.calls c.args.dialer.now) (g.K.Sink.held c.args.sink.now)) (g.A.Acceptor.left c.args.acceptor.now)
+      c.loop-made.invariant.times c.in_ok-now.now c.loop-made.start c.loop-made.left.now c.in_ok-now.rest.now c.loop-made.node c.node_turn.new.node
+      (world_of c.loop-made.set (g.D.Dialer.calls c.loop-made.dialer) (g.K.Sink.held c.loop-made.sink)) (world_of c.node_turn.new.set (g.D.Dialer.calls c.node_turn.new.dialer) (g.K.Sink.held c.node_turn.new.sink)) (g.A.Acceptor.left c.loop-made.acceptor) (g.A.Acceptor.left c.node_turn.new.acceptor)
+      c.loop-made.invariant.turns c.loop-made.invariant.going c.in_ok-now.ensures.turns);
+  dials = refl;
+  holds = refl;
+  readings = grows_then (g.C.Clock.readings c.args.clock.now) (g.C.Clock.readings c.loop-made.clock) (g.C.Clock.readings c.node_turn.new.clock) c.loop-made.invariant.times (c.in_ok-now.now ∷ [])
+      c.loop-made.invariant.readings c.in_ok-now.ensures.reading;
+  ends = c.if-set.true;
+}
+
+pub loop-made-preserved : goal.loop-made-preserved
+loop-made-preserved g c = record {
+  times = c.loop-made.invariant.times ++ c.in_ok-now.now ∷ [];
+  readings = grows_then (g.C.Clock.readings c.args.clock.now) (g.C.Clock.readings c.loop-made.clock) (g.C.Clock.readings c.node_turn.new.clock) c.loop-made.invariant.times (c.in_ok-now.now ∷ [])
+      c.loop-made.invariant.readings c.in_ok-now.ensures.reading;
+  count = one_longer c.loop-made.invariant.times c.in_ok-now.now c.loop-made.made c.loop-made.invariant.count;
+  going = c.if-set.false;
+  turns = λ more m v left k. turns_more g.N.Core.goes g.L.Link.talk c.args.listens None c.args.script.now c.args.node.now (world_of c.in_ok-set.set (g.D.Dialer.calls c.args.dialer.now) (g.K.Sink.held c.args.sink.now)) (g.A.Acceptor.left c.args.acceptor.now)
+      c.loop-made.invariant.times c.in_ok-now.now c.loop-made.start c.loop-made.left.now c.in_ok-now.rest.now c.loop-made.node c.node_turn.new.node
+      (world_of c.loop-made.set (g.D.Dialer.calls c.loop-made.dialer) (g.K.Sink.held c.loop-made.sink)) (world_of c.node_turn.new.set (g.D.Dialer.calls c.node_turn.new.dialer) (g.K.Sink.held c.node_turn.new.sink)) (g.A.Acceptor.left c.loop-made.acceptor) (g.A.Acceptor.left c.node_turn.new.acceptor)
+      c.loop-made.invariant.turns c.loop-made.invariant.going c.in_ok-now.ensures.turns
+      more m v left (rw c.unwrap_or.ensures at k);
+  writes_later = omega (arith, c.loop-made.invariant.writes_later, c.node_turn.ensures.later);
+  links_later = omega (arith, c.loop-made.invariant.links_later, c.node_turn.ensures.arrivals);
+  bound = stays_then (g.A.Acceptor.bound c.args.acceptor.now) (g.A.Acceptor.bound c.loop-made.acceptor) (g.A.Acceptor.bound c.node_turn.new.acceptor) c.loop-made.invariant.bound c.node_turn.ensures.bound;
+}
+
+pub returns-clause-runs : goal.returns-clause-runs
+returns-clause-runs g c = record {
+  times = c.loop-made.invariant.times;
+  first = world_of c.in_ok-set.set (g.D.Dialer.calls c.args.dialer.now) (g.K.Sink.held c.args.sink.now);
+  last = (world_of c.loop-made.set (g.D.Dialer.calls c.loop-made.dialer) (g.K.Sink.held c.loop-made.sink));
+  empty = record {
+    link = c.in_ok-set.ensures.links;
+    arrived = c.in_ok-set.ensures.arrived;
+    due = c.in_ok-set.ensures.due;
+    waiting = c.in_ok-set.ensures.waiting;
+    finished = c.in_ok-set.ensures.finished;
+    dialled = refl;
+    held = refl;
+  };
+  went = turns_all g.N.Core.goes g.L.Link.talk c.args.listens None c.args.script.now c.args.node.now (world_of c.in_ok-set.set (g.D.Dialer.calls c.args.dialer.now) (g.K.Sink.held c.args.sink.now)) (g.A.Acceptor.left c.args.acceptor.now)
+      c.loop-made.invariant.times c.loop-made.start c.loop-made.left.now c.loop-made.node (world_of c.loop-made.set (g.D.Dialer.calls c.loop-made.dialer) (g.K.Sink.held c.loop-made.sink)) (g.A.Acceptor.left c.loop-made.acceptor)
+      c.loop-made.invariant.turns;
+  dials = refl;
+  holds = refl;
+  readings = c.loop-made.invariant.readings;
+  ends = (omega (arith, c.loop-made.invariant.count, c.loop-made-test.false, c.loop-made.auto.made-end), c.loop-made.invariant.going);
+}

@@ -1,0 +1,20 @@
+use Rattle.std.proofs.Common.{◌≡◌, ◌≤◌, ℕ, false, List, Option, None, ◌++◌, length}
+use Rattle.bsc_edge.specs.Told.{Grows, Stays}
+use Rattle.bsc_node_run.specs.Running.{Turns}
+use Rattle.bsc_node_run.specs.Worlds.{World, world_of}
+use Rattle.bsc_node_run.proofs.running.run_node.Given as goal
+
+-- Turns were made at these times, and turns from here on go on with them.
+abbrev pub invariant-loop-made : goal.invariant-loop-made
+invariant-loop-made g l = record {
+  times : List ℕ;
+  readings : Grows (g.C.Clock.readings l.initial.clock) (g.C.Clock.readings l.clock) times;
+  count : length times ≡ l.made;
+  going : l.set.finished ≡ false;
+  turns : (more : List ℕ) (m : _) (v : World _) (left : Option (List _))
+      → Turns g.N.Core.goes g.L.Link.talk l.listens more l.start l.left l.node (world_of l.set (g.D.Dialer.calls l.dialer) (g.K.Sink.held l.sink)) (g.A.Acceptor.left l.acceptor) m v left
+      → Turns g.N.Core.goes g.L.Link.talk l.listens (times ++ more) None l.initial.left l.initial.node (world_of l.initial.set (g.D.Dialer.calls l.initial.dialer) (g.K.Sink.held l.initial.sink)) (g.A.Acceptor.left l.initial.acceptor) m v left;
+  writes_later : g.K.Sink.faults l.initial.sink ≤ g.K.Sink.faults l.sink;
+  links_later : g.A.Acceptor.faults l.initial.acceptor ≤ g.A.Acceptor.faults l.acceptor;
+  bound : Stays (g.A.Acceptor.bound l.initial.acceptor) (g.A.Acceptor.bound l.acceptor);
+}

@@ -1,0 +1,18 @@
+use Rattle.std.proofs.Common.{◌≡◌, ◌≤◌, List, ◌++◌, length}
+use Rattle.bsc_node_run.specs.declared.due.Due.{Due}
+use Rattle.bsc_node_run.specs.Turning.{AreDue, GivesLines}
+use Rattle.bsc_node_run.specs.Worlds.{World, world_of}
+use Rattle.bsc_node_run.proofs.turning.give_due.Given as goal
+
+-- What is due of the lines that are left, with those before, is all that is due.
+abbrev pub invariant-loop-left : goal.invariant-loop-left
+invariant-loop-left g l = record {
+  gives : (lines rest : List Due) (m : _) (v : World _) → l.left ≡ lines ++ rest → AreDue l.passed lines
+      → GivesLines g.N.Core.goes g.L.Link.talk l.now lines l.node (world_of l.set (g.D.Dialer.calls l.dialer) (g.K.Sink.held l.sink)) m v
+      → (all : List Due) × (l.initial.left ≡ all ++ rest) × AreDue l.passed all
+      × GivesLines g.N.Core.goes g.L.Link.talk l.now all l.initial.node (world_of l.initial.set (g.D.Dialer.calls l.initial.dialer) (g.K.Sink.held l.initial.sink)) m v;
+  later : g.K.Sink.faults l.initial.sink ≤ g.K.Sink.faults l.sink;
+}
+
+abbrev pub decreases-loop-left : goal.decreases-loop-left
+decreases-loop-left g l = length l.left

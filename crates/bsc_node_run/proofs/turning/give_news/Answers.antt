@@ -1,0 +1,36 @@
+use Rattle.std.proofs.Common.{arith, ap, length, refl, ◌∙◌, ◌∷◌, []}
+use Rattle.bsc_node_run.specs.Worlds.{world_of}
+use Rattle.bsc_node_run.proofs.Fewer.{gives_fewer, one_more}
+use Rattle.bsc_node_run.proofs.Turns.{emptied, none_left}
+use Rattle.bsc_node_run.proofs.turning.give_news.Goals as goal
+
+pub loop-news-smaller : goal.loop-news-smaller
+loop-news-smaller g c =
+    let k = gives_fewer g.N.Core.goes g.L.Link.talk c.args.now c.event_of.result c.loop-news.node c.give.new.node
+    (world_of (record c.loop-news.set { due = c.pop_front.new.self }) (g.D.Dialer.calls c.loop-news.dialer) (g.K.Sink.held c.loop-news.sink))
+    (world_of c.give.new.set (g.D.Dialer.calls c.give.new.dialer) (g.K.Sink.held c.give.new.sink))
+    c.in_ok-give.ensures.gives in
+    let j = one_more c.loop-news.set.due.items c.pop_front.new.self.items c.in-Some.news c.in-Some.ensures.items in
+    omega (arith, k, j)
+
+pub loop-news-preserved : goal.loop-news-preserved
+loop-news-preserved g c = record {
+  gives = λ more m v k. (let t = c.loop-news.invariant.gives (c.in-Some.news ∷ more) m v (
+    c.pop_front.new.self.items,
+    c.give.new.node,
+    world_of c.give.new.set (g.D.Dialer.calls c.give.new.dialer) (g.K.Sink.held c.give.new.sink),
+    c.in-Some.ensures.items,
+    rw c.event_of.ensures.is at c.in_ok-give.ensures.gives,
+    k,
+  ) in t);
+  later = omega (arith, c.loop-news.invariant.later, c.give.ensures.later);
+}
+
+pub returns-clause-gives : goal.returns-clause-gives
+returns-clause-gives g c =
+    let after = world_of (record c.loop-news.set { due = c.pop_front.new.self }) (g.D.Dialer.calls c.loop-news.dialer) (g.K.Sink.held c.loop-news.sink) in
+    c.loop-news.invariant.gives [] c.loop-news.node after (
+      none_left c.loop-news.set.due.items (c.in_default.ensures.items ∙ c.in_default.ensures.rest),
+      refl,
+      emptied (world_of c.loop-news.set (g.D.Dialer.calls c.loop-news.dialer) (g.K.Sink.held c.loop-news.sink)) c.pop_front.new.self.items c.in_default.ensures.items,
+    )

@@ -1,0 +1,17 @@
+use Rattle.std.proofs.Common.{◌≤◌, List, length}
+use Rattle.bsc_node_run.specs.declared.news.News.{News}
+use Rattle.bsc_node_run.specs.Turning.{GivesNews}
+use Rattle.bsc_node_run.specs.Worlds.{World, world_of}
+use Rattle.bsc_node_run.proofs.turning.give_news.Given as goal
+
+-- What is new from here on, with what was before, is all that is new.
+abbrev pub invariant-loop-news : goal.invariant-loop-news
+invariant-loop-news g l = record {
+  gives : (more : List News) (m : _) (v : World _) → GivesNews g.N.Core.goes g.L.Link.talk l.now more l.node (world_of l.set (g.D.Dialer.calls l.dialer) (g.K.Sink.held l.sink)) m v
+      → (all : List News) × GivesNews g.N.Core.goes g.L.Link.talk l.now all l.initial.node (world_of l.initial.set (g.D.Dialer.calls l.initial.dialer) (g.K.Sink.held l.initial.sink)) m v;
+  later : g.K.Sink.faults l.initial.sink ≤ g.K.Sink.faults l.sink;
+}
+
+-- Nothing that a node does makes more news due in the same turn.
+abbrev pub decreases-loop-news : goal.decreases-loop-news
+decreases-loop-news g l = length l.set.due.items

@@ -1,0 +1,11 @@
+pub mod Requests
+pub mod Lines
+pub mod Worlds
+pub mod Performing
+pub mod Turning
+pub mod Receiving
+pub mod Running
+pub mod Putting
+pub mod Saying
+pub mod Scripts
+pub mod Reading

@@ -1,0 +1,52 @@
+-- A whole run of a node: its turns.
+use Rattle.std.specs.Prelude.{◌≡◌, ℕ, Bool, true, false, List, [], ◌∷◌, Option, Some, None, length, unwrap_or}
+use Rattle.bsc_edge.specs.declared.dialled.Dialled.{Dialled}
+use Rattle.bsc_edge.specs.declared.said.Said.{Said}
+use Rattle.bsc_edge.specs.Told.{Grows}
+use Rattle.bsc_node.specs.declared.link_name.LinkName.{LinkName}
+use Rattle.bsc_node.specs.declared.node_event.NodeEvent.{NodeEvent}
+use Rattle.bsc_node.specs.declared.action.Action.{Action}
+use Rattle.bsc_node_run.specs.declared.due.Due.{Due}
+use Rattle.bsc_node_run.specs.declared.run_end.RunEnd.{RunEnd}
+use Rattle.bsc_node_run.specs.declared.run_end.RunEnd.TheVariants.{Finished, Spent}
+use Rattle.bsc_node_run.specs.Turning.{Turn}
+use Rattle.bsc_node_run.specs.Worlds.{World, Same}
+
+-- No links, and nothing new: this was dialled and written before.
+pub record IsEmpty {L : Type 0} (calls : Option (List Dialled)) (text : Option (List ℕ)) (w : World L) : Type 0 where
+  pub link : (name : LinkName) → w.link name ≡ None
+  pub arrived : w.arrived ≡ None
+  pub due : w.due ≡ []
+  pub waiting : w.waiting ≡ []
+  pub finished : w.finished ≡ false
+  pub dialled : w.dialled ≡ calls
+  pub held : w.held ≡ text
+
+-- How a run ends whose turns were made at these times: with the turn in which the node told that it has ended, or after
+-- as many turns as it may make.
+abbrev pub EndsSo : RunEnd → ℕ → List ℕ → Bool → Type 0
+EndsSo Finished turns times finished = finished ≡ true
+EndsSo Spent turns times finished = (length times ≡ turns) × (finished ≡ false)
+
+module _ {N L : Type 0} (goes : N → ℕ → NodeEvent → List Action → N → Type 0) (talk : L → Option (List Said)) (listens : Bool) where
+  -- Turns at these times, one after the other. The script goes on in each where the one before left it, and its times
+  -- count from the first turn. No turn comes after one in which the node told that it has ended.
+  abbrev pub Turns : List ℕ → Option ℕ → List Due → N → World L → Option (List L) → N → World L → Option (List L) → Type 0
+  Turns [] start script n w left m v left' = (m ≡ n) × Same v w × (left' ≡ left)
+  Turns (now ∷ times) start script n w left m v left' =
+      (rest : List Due) × (p : N) × (x : World L) × (mid : Option (List L)) × (w.finished ≡ false)
+      × Turn goes talk now start script rest listens n w left p x mid × Turns times (Some (unwrap_or start now)) rest p x mid m v left'
+
+  -- A whole run.
+  pub record Run (end : RunEnd) (turns : ℕ) (script : List Due) (n : N) (dialled : Option (List Dialled)) (held : Option (List ℕ))
+      (left : Option (List L)) (told : Option (List ℕ)) (m : N) (dialled' : Option (List Dialled)) (held' : Option (List ℕ))
+      (left' : Option (List L)) (told' : Option (List ℕ)) : Type 0 where
+    pub times : List ℕ
+    pub first : World L
+    pub last : World L
+    pub empty : IsEmpty dialled held first
+    pub went : Turns times None script n first left m last left'
+    pub dials : last.dialled ≡ dialled'
+    pub holds : last.held ≡ held'
+    pub readings : Grows told told' times
+    pub ends : EndsSo end turns times last.finished

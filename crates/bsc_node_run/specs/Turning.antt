@@ -1,0 +1,158 @@
+-- One turn of a node: what it is told, in which order, and that what it does is carried out before it is told more.
+use Rattle.std.specs.Prelude.{◌≡◌, ◌≤◌, ◌<◌, ◌⊎◌, ℕ, zero, suc, ◌+◌, ◌-◌, Bool, true, false, IsTrue, List, [], ◌∷◌, ◌++◌, Option, Some, None, unwrap_or, Result, Ok, Err, ⊤}
+use Rattle.std.specs.List.{list_any}
+use Rattle.bsc_connector.specs.declared.side.Side.TheVariants.{Primary, Failover}
+use Rattle.bsc_edge.specs.declared.arrived.Arrived.TheVariants.{Link, Quiet as NoLink}
+use Rattle.bsc_edge.specs.declared.fault.LinkFault.{LinkFault}
+use Rattle.bsc_edge.specs.declared.fault.LinkFault.TheVariants.{Failed, NoMemory}
+use Rattle.bsc_edge.specs.declared.incoming.Incoming.{Incoming}
+use Rattle.bsc_edge.specs.declared.incoming.Incoming.TheVariants.{Message, Text, Quiet, Closed}
+use Rattle.bsc_edge.specs.declared.said.Said.{Said}
+use Rattle.bsc_edge.specs.declared.said.Said.TheVariants.{Gave}
+use Rattle.bsc_edge.specs.Told.{Grows, Leaves}
+use Rattle.bsc_node.specs.declared.link_name.LinkName.{LinkName}
+use Rattle.bsc_node.specs.declared.link_name.LinkName.TheVariants.{Hub, Direct}
+use Rattle.bsc_node.specs.declared.node_event.NodeEvent.{NodeEvent}
+use Rattle.bsc_node.specs.declared.node_event.NodeEvent.TheVariants.{Start, Opened, DialFailed, Arrived, Came, CameText, Lost, Tick}
+use Rattle.bsc_node.specs.declared.action.Action.{Action}
+use Rattle.bsc_node.specs.Conditions.{brings_word}
+use Rattle.bsc_node_run.specs.declared.due.Due.{Due}
+use Rattle.bsc_node_run.specs.declared.news.Change.{Change}
+use Rattle.bsc_node_run.specs.declared.news.Change.TheVariants.{Opened as DidOpen, DialFailed as DidntOpen, Lost as WasLost}
+use Rattle.bsc_node_run.specs.declared.news.News.{News}
+use Rattle.bsc_node_run.specs.Performing.{Carries, is_draw}
+use Rattle.bsc_node_run.specs.Worlds.{World, Same, begun, ends, is_open, with_link}
+
+-- what a node is told of what is new of a link
+abbrev pub event_of : News → NodeEvent
+event_of news = by news.change
+  where
+    by : Change → NodeEvent
+    by DidOpen = Opened news.link
+    by DidntOpen = DialFailed news.link
+    by WasLost = Lost news.link
+
+-- Whether a random word is drawn.
+abbrev pub draws : List Action → Bool
+draws actions = list_any is_draw actions
+
+-- the links in the slots from a number on, so many of them
+abbrev pub slots_from : ℕ → ℕ → List LinkName
+slots_from zero k = []
+slots_from (suc count) k = Direct k ∷ slots_from count (k + 1)
+
+-- All links: those of the hubs, and then those in the slots.
+abbrev pub names : List LinkName
+names = Hub Primary ∷ Hub Failover ∷ slots_from 64 0
+
+-- How much time has passed since the first turn, at this time.
+abbrev pub passed_by : Option ℕ → ℕ → ℕ
+passed_by start now = now - unwrap_or start now
+
+-- Each of these is due when so much time has passed.
+abbrev pub AreDue : ℕ → List Due → Type 0
+AreDue passed [] = ⊤
+AreDue passed (d ∷ lines) = (d.at ≤ passed) × AreDue passed lines
+
+-- The first of these isn't due yet.
+abbrev pub IsNotDue : ℕ → List Due → Type 0
+IsNotDue passed [] = ⊤
+IsNotDue passed (d ∷ lines) = passed < d.at
+
+module _ {N L : Type 0} (goes : N → ℕ → NodeEvent → List Action → N → Type 0) (talk : L → Option (List Said)) (now : ℕ) where
+  -- ---- one event
+
+  -- A word that the node draws is what it is told next.
+  abbrev pub Answers : Bool → N → World L → N → World L → Type 0
+  Answers false n w m v = (m ≡ n) × Same v w
+  Answers true n w m v = (word : NodeEvent) × (actions : List Action) × IsTrue (brings_word word) × goes n now word actions m × Carries talk actions w v
+
+  -- The node is told this, and what it does is carried out.
+  abbrev pub Gives : NodeEvent → N → World L → N → World L → Type 0
+  Gives e n w m v = (actions : List Action) × (p : N) × (x : World L)
+      × goes n now e actions p × Carries talk actions w x × Answers (draws actions) p x m v
+
+  -- ---- what is new of its links
+
+  -- Each of these is new when it comes to it, the oldest first; at last nothing is new any more.
+  abbrev pub GivesNews : List News → N → World L → N → World L → Type 0
+  GivesNews [] n w m v = (w.due ≡ []) × (m ≡ n) × Same v w
+  GivesNews (news ∷ more) n w m v = (rest : List News) × (p : N) × (x : World L)
+      × (w.due ≡ news ∷ rest) × Gives (event_of news) n (record w { due = rest }) p x × GivesNews more p x m v
+
+  -- ---- the script
+
+  abbrev pub GivesLines : List Due → N → World L → N → World L → Type 0
+  GivesLines [] n w m v = (m ≡ n) × Same v w
+  GivesLines (d ∷ lines) n w m v = (p : N) × (x : World L) × Gives d.event n w p x × GivesLines lines p x m v
+
+  -- ---- what comes
+
+  -- The node is told this in a world like that one.
+  abbrev pub GivesIn : NodeEvent → N → World L → N → World L → Type 0
+  GivesIn e n w m v = (x : World L) × Same x w × Gives e n x m v
+
+  -- What a link gave, that is now this one.
+  abbrev pub HearsOf : LinkName → L → Result Incoming LinkFault → N → World L → N → World L → Type 0
+  HearsOf name l (Ok (Message o)) n w m v = GivesIn (Came name o) n (with_link name (Some l) w) m v
+  HearsOf name l (Ok Text) n w m v = GivesIn (CameText name) n (with_link name (Some l) w) m v
+  HearsOf name l (Ok Quiet) n w m v = (m ≡ n) × Same v (with_link name (Some l) w)
+  HearsOf name l (Ok Closed) n w m v = GivesIn (Lost name) n (ends name l w) m v
+  HearsOf name l (Err Failed) n w m v = GivesIn (Lost name) n (ends name l w) m v
+  HearsOf name l (Err NoMemory) n w m v = ⊥
+
+  -- A link that is open is waited for once, and the node is told what it gave.
+  abbrev pub HearsIf : LinkName → Bool → N → World L → N → World L → Type 0
+  HearsIf name false n w m v = (m ≡ n) × Same v w
+  HearsIf name true n w m v = (k l : L) × (given : Result Incoming LinkFault)
+      × (w.link name ≡ Some k) × Grows (talk k) (talk l) (Gave given ∷ []) × HearsOf name l given n w m v
+
+  abbrev pub Hears : LinkName → N → World L → N → World L → Type 0
+  Hears name n w m v = HearsIf name (is_open name w) n w m v
+
+  -- The links of these names, one after the other.
+  abbrev pub HearsEach : List LinkName → N → World L → N → World L → Type 0
+  HearsEach [] n w m v = (m ≡ n) × Same v w
+  HearsEach (name ∷ names) n w m v = (p : N) × (x : World L) × Hears name n w p x × HearsEach names p x m v
+
+  -- ---- a link that arrives
+
+  -- Where the node accepts direct connections, the acceptor is asked once, and the node is told of the link that arrived.
+  abbrev pub Admits : Bool → N → World L → Option (List L) → N → World L → Option (List L) → Type 0
+  Admits false n w left m v left' = (m ≡ n) × Same v w × (left' ≡ left)
+  Admits true n w left m v left' = ((m ≡ n) × Same v w × Leaves left left' (Ok NoLink))
+      ⊎ ((l : L) × Leaves left left' (Ok (Link l)) × Gives Arrived n (record w { arrived = Some l }) m v)
+
+  -- ---- a turn
+
+  abbrev pub Starts : Option ℕ → N → World L → N → World L → Type 0
+  Starts None n w m v = Gives Start n w m v
+  Starts (Some start) n w m v = (m ≡ n) × Same v w
+
+  -- One turn: that the node starts, in the first turn; that time has passed; what is new of its links; what of the script
+  -- is due; what comes of the links that are open, the hubs' first and then those in the slots; and the link that arrives.
+  pub record Turn (start : Option ℕ) (script rest : List Due) (listens : Bool) (n : N) (w : World L) (left : Option (List L))
+      (m : N) (v : World L) (left' : Option (List L)) : Type 0 where
+    pub news : List News
+    pub lines : List Due
+    pub w0 : World L
+    pub w1 : World L
+    pub w2 : World L
+    pub w3 : World L
+    pub w4 : World L
+    pub w5 : World L
+    pub n1 : N
+    pub n2 : N
+    pub n3 : N
+    pub n4 : N
+    pub n5 : N
+    pub begins : Same w0 (begun w)
+    pub starts : Starts start n w0 n1 w1
+    pub ticks : Gives Tick n1 w1 n2 w2
+    pub told : GivesNews news n2 w2 n3 w3
+    pub parts : script ≡ lines ++ rest
+    pub due : AreDue (passed_by start now) lines
+    pub next : IsNotDue (passed_by start now) rest
+    pub given : GivesLines lines n3 w3 n4 w4
+    pub heard : HearsEach names n4 w4 n5 w5
+    pub admits : Admits listens n5 w5 left m v left'

@@ -1,0 +1,41 @@
+//! Runs a node (Annex AB): its links, its script and the time.
+//!
+//! Start at `running`, and go down: `turning` is one turn, `telling` one event of it, `performing` carries out what the
+//! node does. `link_set` has the links of a node, and what is new of them.
+#![tactic(auto)]
+
+mod due;
+mod halt;
+mod line;
+mod link_set;
+mod linking;
+mod mem_words;
+mod news;
+mod node_core;
+mod performing;
+mod reading;
+mod run_end;
+mod running;
+mod saying;
+mod script;
+mod scripting;
+mod telling;
+#[cfg(test)]
+mod tests;
+mod texts;
+mod turning;
+mod words;
+
+pub use due::Due;
+pub use halt::Halt;
+pub use link_set::LinkSet;
+pub use mem_words::MemWords;
+pub use news::{Change, News};
+pub use node_core::Core;
+pub use performing::perform;
+pub use reading::read_script;
+pub use run_end::RunEnd;
+pub use running::run_node;
+pub use script::{Script, ScriptFault};
+pub use turning::node_turn;
+pub use words::Words;

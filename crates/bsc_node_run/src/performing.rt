@@ -1,0 +1,275 @@
+//! Carrying out what a node does.
+ghost use Rattle.std.specs.Prelude.{◌≡◌, ◌≢◌, ◌≤◌, Err, List, ℕ, OnOk, Option};
+ghost use Rattle.bsc_outside.specs.Faults.{HasRisen};
+ghost use Rattle.bsc_edge.specs.declared.dialled.Dialled.{Dialled};
+ghost use Rattle.bsc_node_run.specs.declared.halt.Halt.{Halt as HaltType};
+ghost use Rattle.bsc_node_run.specs.Lines.{delivered_line, note_line};
+ghost use Rattle.bsc_node_run.specs.declared.news.Change.TheVariants.{Lost};
+ghost use Rattle.bsc_node_run.specs.Putting.{PutsOut};
+ghost use Rattle.bsc_node_run.specs.Performing.{Carries, Closes, Dials, Does, IsClosed, Puts, Refuses, Takes, Tells, Writes, is_end, kind_of};
+ghost use Rattle.bsc_node_run.specs.Worlds.{Same, link_in, with_news, with_over, world_of};
+ghost use Rattle.std.specs.Io.KnownBytes.{Appends};
+
+use crate::halt::Halt;
+use crate::link_set::LinkSet;
+use crate::news::Change;
+use crate::texts::{delivered_line, note_line};
+use bsc_accept::Closing;
+use bsc_edge::{Dialer, Kind, Link, LinkFault};
+use bsc_node::{Action, Delivered, LinkName, Note};
+use bsc_octets::NoMemory;
+use bsc_outside::{Failed, Sink};
+use std::alloc::Global;
+
+/// What a link of this name is for.
+fn kind_of(name: LinkName) -> Kind
+    ensures { result ≡ kind_of name }
+{
+    match name {
+        LinkName::Hub(_) => Kind::Hub,
+        LinkName::Direct(_) => Kind::Direct,
+    }
+}
+
+/// Dials a URI: that the link opened, or that it didn't, is new of it.
+fn dial<L: Link + Drop, D: Dialer<L>>(
+    alloc: Global,
+    set: &mut LinkSet<L>,
+    dialer: &mut D,
+    name: LinkName,
+    uri: &[u8],
+) -> Result<(), NoMemory>
+    ensures { OnOk result ((h : Option (List ℕ)) →
+        Dials name uri.now (world_of set.old (D.calls dialer.old) h) (world_of set.new (D.calls dialer.new) h)) }
+{
+    match dialer.dial(alloc, uri, kind_of(name)) {
+        Ok(link) => {
+            let _ = set.replace(name, Some(link));
+            set.note(name, Change::Opened)
+        }
+        Err(LinkFault::Failed) => set.note(name, Change::DialFailed),
+        Err(LinkFault::NoMemory) => Err(NoMemory),
+    }
+}
+
+/// The link that arrived gets a name.
+fn take<L: Link + Drop>(set: &mut LinkSet<L>, name: LinkName)
+    ensures { (d : Option (List Dialled)) (h : Option (List ℕ)) → Takes name set.old.arrived (world_of set.old d h) (world_of set.new d h) }
+{
+    match set.take_arrived() {
+        Some(link) => {
+            let _ = set.replace(name, Some(link));
+        }
+        None => (),
+    }
+}
+
+/// Closes a link, whatever that answers.
+fn close_link<L: Link + Drop>(
+    alloc: Global,
+    set: &mut LinkSet<L>,
+    link: L,
+    closing: Closing,
+) -> Result<(), NoMemory>
+    ensures { OnOk result ((d : Option (List Dialled)) (h : Option (List ℕ)) →
+        (m : L) × IsClosed L.talk closing link m × Same (world_of set.new d h) (with_over m (world_of set.old d h))) }
+{
+    let mut link = link;
+    let _ = link.close(alloc, closing.code, closing.reason.text());
+    set.end(link)
+}
+
+/// Closes the link that arrived.
+fn refuse<L: Link + Drop>(
+    alloc: Global,
+    set: &mut LinkSet<L>,
+    closing: Closing,
+) -> Result<(), NoMemory>
+    ensures { OnOk result ((d : Option (List Dialled)) (h : Option (List ℕ)) →
+        Refuses L.talk closing set.old.arrived (world_of set.old d h) (world_of set.new d h)) }
+{
+    match set.take_arrived() {
+        Some(link) => close_link(alloc, set, link, closing),
+        None => Ok(()),
+    }
+}
+
+/// A link that was taken out is lost.
+fn lose<L: Link + Drop>(set: &mut LinkSet<L>, name: LinkName, link: L) -> Result<(), NoMemory>
+    ensures { OnOk result ((d : Option (List Dialled)) (h : Option (List ℕ)) →
+        Same (world_of set.new d h) (with_news name Lost (with_over link (world_of set.old d h)))) }
+{
+    set.end(link)?;
+    set.note(name, Change::Lost)
+}
+
+/// Puts a message on a link that was taken out, and puts the link back. One that fails is lost.
+fn put_on<L: Link + Drop>(
+    alloc: Global,
+    set: &mut LinkSet<L>,
+    name: LinkName,
+    link: L,
+    octets: &[u8],
+) -> Result<(), NoMemory>
+    ensures { OnOk result ((d : Option (List Dialled)) (h : Option (List ℕ)) →
+        PutsOut L.talk name octets.now link (world_of set.old d h) (world_of set.new d h)) }
+{
+    let mut link = link;
+    match link.put(alloc, octets) {
+        Ok(()) => {
+            let _ = set.replace(name, Some(link));
+            Ok(())
+        }
+        Err(LinkFault::Failed) => lose(set, name, link),
+        Err(LinkFault::NoMemory) => Err(NoMemory),
+    }
+}
+
+/// Puts a message on the link of a name, where there is one. A link that fails is lost.
+fn put<L: Link + Drop>(
+    alloc: Global,
+    set: &mut LinkSet<L>,
+    name: LinkName,
+    octets: &[u8],
+) -> Result<(), NoMemory>
+    ensures { OnOk result ((d : Option (List Dialled)) (h : Option (List ℕ)) →
+        Puts L.talk name octets.now (link_in set.old name) (world_of set.old d h) (world_of set.new d h)) }
+{
+    match set.replace(name, None) {
+        Some(link) => put_on(alloc, set, name, link, octets),
+        None => Ok(()),
+    }
+}
+
+/// Closes the link of a name, where there is one. What was new of it isn't told any more.
+fn close<L: Link + Drop>(
+    alloc: Global,
+    set: &mut LinkSet<L>,
+    name: LinkName,
+    closing: Closing,
+) -> Result<(), NoMemory>
+    ensures { OnOk result ((d : Option (List Dialled)) (h : Option (List ℕ)) →
+        Closes L.talk name closing (link_in set.old name) (world_of set.old d h) (world_of set.new d h)) }
+{
+    set.forget(name);
+    match set.replace(name, None) {
+        Some(link) => close_link(alloc, set, link, closing),
+        None => Ok(()),
+    }
+}
+
+/// Writes a text.
+fn write<K: Sink>(sink: &mut K, text: &[u8]) -> Result<(), Halt>
+    ensures writes { OnOk result (Appends (K.held sink.old) (K.held sink.new) text.now) }
+    ensures failed { result ≡ Err HaltType.WriteFault → HasRisen (K.faults sink.old) (K.faults sink.new) }
+    ensures later { K.faults sink.old ≤ K.faults sink.new }
+    ensures accepts { result ≢ Err HaltType.AcceptFault }
+{
+    match sink.write(text) {
+        Ok(()) => Ok(()),
+        Err(Failed) => Err(Halt::WriteFault),
+    }
+}
+
+/// Writes what a node delivers.
+fn deliver<K: Sink>(alloc: Global, sink: &mut K, delivered: &Delivered) -> Result<(), Halt>
+    ensures writes { OnOk result (Appends (K.held sink.old) (K.held sink.new) (delivered_line delivered.now)) }
+    ensures failed { result ≡ Err HaltType.WriteFault → HasRisen (K.faults sink.old) (K.faults sink.new) }
+    ensures later { K.faults sink.old ≤ K.faults sink.new }
+    ensures accepts { result ≢ Err HaltType.AcceptFault }
+{
+    let text = delivered_line(alloc, delivered)?;
+    write(sink, text.as_slice())
+}
+
+/// Whether a node tells that it has ended.
+fn is_end(note: &Note) -> bool
+    ensures { result ≡ is_end note.now }
+{
+    match note {
+        Note::Finished => true,
+        Note::HubNow(_)
+        | Note::Uris(_, _)
+        | Note::DirectUp(_)
+        | Note::DirectDown(_)
+        | Note::NoPath(_)
+        | Note::TooLong(_)
+        | Note::NoUris(_)
+        | Note::SlotsFull
+        | Note::AsksFull
+        | Note::AskPending(_)
+        | Note::NoDirect(_)
+        | Note::Advert(_, _)
+        | Note::Nak { .. }
+        | Note::Renewed(_)
+        | Note::NoRandom => false,
+    }
+}
+
+/// Writes what a node tells. That it has ended is kept.
+fn tell<K: Sink, L: Link + Drop>(
+    alloc: Global,
+    set: &mut LinkSet<L>,
+    sink: &mut K,
+    note: &Note,
+) -> Result<(), Halt>
+    ensures tells { OnOk result ((d : Option (List Dialled)) →
+        Tells L.talk note.now (world_of set.old d (K.held sink.old)) (world_of set.new d (K.held sink.new))) }
+    ensures failed { result ≡ Err HaltType.WriteFault → HasRisen (K.faults sink.old) (K.faults sink.new) }
+    ensures later { K.faults sink.old ≤ K.faults sink.new }
+    ensures accepts { result ≢ Err HaltType.AcceptFault }
+{
+    let text = note_line(alloc, note)?;
+    write(sink, text.as_slice())?;
+    set.finished = is_end(note) || set.finished;
+    Ok(())
+}
+
+/// Carries out one action.
+fn carry_out<K: Sink, L: Link + Drop, D: Dialer<L>>(
+    alloc: Global,
+    set: &mut LinkSet<L>,
+    sink: &mut K,
+    dialer: &mut D,
+    action: &Action,
+) -> Result<(), Halt>
+    ensures does { OnOk result (Does L.talk action.now (world_of set.old (D.calls dialer.old) (K.held sink.old))
+        (world_of set.new (D.calls dialer.new) (K.held sink.new))) }
+    ensures failed { result ≡ Err HaltType.WriteFault → HasRisen (K.faults sink.old) (K.faults sink.new) }
+    ensures later { K.faults sink.old ≤ K.faults sink.new }
+    ensures accepts { result ≢ Err HaltType.AcceptFault }
+{
+    match action {
+        Action::Dial(name, uri) => dial(alloc, set, dialer, *name, uri.as_slice())?,
+        Action::Take(name) => take(set, *name),
+        Action::Refuse(closing) => refuse(alloc, set, *closing)?,
+        Action::Put(name, octets) => put(alloc, set, *name, octets.as_slice())?,
+        Action::Close(name, closing) => close(alloc, set, *name, *closing)?,
+        Action::Deliver(delivered) => deliver(alloc, sink, delivered)?,
+        Action::Tell(note) => tell(alloc, set, sink, note)?,
+        Action::Draw => (),
+    }
+    Ok(())
+}
+
+/// Carries out what a node does, one action after the other. A Draw is left to the caller.
+pub fn perform<K: Sink, L: Link + Drop, D: Dialer<L>>(
+    alloc: Global,
+    actions: &[Action],
+    set: &mut LinkSet<L>,
+    sink: &mut K,
+    dialer: &mut D,
+) -> Result<(), Halt>
+    ensures carries { OnOk result (Carries L.talk actions.now (world_of set.old (D.calls dialer.old) (K.held sink.old))
+        (world_of set.new (D.calls dialer.new) (K.held sink.new))) }
+    ensures failed { result ≡ Err HaltType.WriteFault → HasRisen (K.faults sink.old) (K.faults sink.new) }
+    ensures later { K.faults sink.old ≤ K.faults sink.new }
+    ensures accepts { result ≢ Err HaltType.AcceptFault }
+{
+    let mut left = actions;
+    while let [action, rest @ ..] = left {
+        carry_out(alloc, set, sink, dialer, action)?;
+        left = rest;
+    }
+    Ok(())
+}

@@ -1,0 +1,57 @@
+//! A whole run of a node.
+ghost use Rattle.std.specs.Prelude.{◌≡◌, ◌≤◌, Err, IfOk};
+ghost use Rattle.bsc_outside.specs.Faults.{HasRisen};
+ghost use Rattle.bsc_edge.specs.Told.{Stays};
+ghost use Rattle.bsc_node_run.specs.declared.halt.Halt.{Halt as HaltType};
+ghost use Rattle.bsc_node_run.specs.Running.{Run};
+
+use crate::due::Due;
+use crate::halt::Halt;
+use crate::link_set::LinkSet;
+use crate::node_core::Core;
+use crate::run_end::RunEnd;
+use crate::turning::node_turn;
+use crate::words::Words;
+use bsc_edge::{Acceptor, Clock, Dialer, Link};
+use bsc_outside::Sink;
+use std::alloc::Global;
+
+/// Runs a node: makes turns until the node tells that it has ended, up to this number of them.
+#[tactic(auto, using(crate::proofs::Told::stays_then))]
+pub fn run_node<N: Core, K: Sink, C: Clock, W: Words, L: Link + Drop, A: Acceptor<L>, D: Dialer<L>>(
+    alloc: Global,
+    node: &mut N,
+    script: &[Due],
+    listens: bool,
+    turns: u64,
+    sink: &mut K,
+    clock: &mut C,
+    random: &mut W,
+    acceptor: &mut A,
+    dialer: &mut D,
+) -> Result<RunEnd, Halt>
+    ensures runs { IfOk result (λ end. Run N.goes L.talk listens end turns script.now node.old (D.calls dialer.old) (K.held sink.old) (A.left acceptor.old) (C.readings clock.old)
+        node.new (D.calls dialer.new) (K.held sink.new) (A.left acceptor.new) (C.readings clock.new)) }
+    ensures write { result ≡ Err HaltType.WriteFault → HasRisen (K.faults sink.old) (K.faults sink.new) }
+    ensures accept { result ≡ Err HaltType.AcceptFault → HasRisen (A.faults acceptor.old) (A.faults acceptor.new) }
+    ensures writes_later { K.faults sink.old ≤ K.faults sink.new }
+    ensures links_later { A.faults acceptor.old ≤ A.faults acceptor.new }
+
+    // The acceptor stays bound to the port that it was bound to.
+    ensures bound { Stays (A.bound acceptor.old) (A.bound acceptor.new) }
+{
+    let mut set = LinkSet::make(alloc)?;
+    let mut start = None;
+    let mut left = script;
+    for made in 0..turns {
+        let (now, rest) = node_turn(
+            alloc, node, &mut set, left, start, listens, sink, clock, random, acceptor, dialer,
+        )?;
+        if set.finished {
+            return Ok(RunEnd::Finished);
+        }
+        start = Some(start.unwrap_or(now));
+        left = rest;
+    }
+    Ok(RunEnd::Spent)
+}

@@ -1,0 +1,126 @@
+//! Telling a node what came, and carrying out what it does.
+ghost use Rattle.std.specs.Prelude.{◌≡◌, ◌≢◌, ◌<◌, ◌≤◌, ◌^◌, true, Err, IfOk, OnOk, IsTrue};
+ghost use Rattle.bsc_outside.specs.Faults.{HasRisen};
+ghost use Rattle.bsc_node.specs.Conditions.{brings_word};
+ghost use Rattle.bsc_node_run.specs.declared.halt.Halt.{Halt as HaltType};
+ghost use Rattle.bsc_node_run.specs.Turning.{Answers, Gives, draws};
+ghost use Rattle.bsc_node_run.specs.Performing.{Carries, is_draw};
+ghost use Rattle.bsc_node_run.specs.Worlds.{world_of};
+ghost use Rattle.bsc_node_run.specs.Requests.{has_octets};
+
+use crate::halt::Halt;
+use crate::link_set::LinkSet;
+use crate::node_core::Core;
+use crate::performing::perform;
+use crate::words::Words;
+use bsc_edge::{Dialer, Link};
+use bsc_node::{Action, NodeEvent};
+use bsc_outside::{Failed, Sink};
+use std::alloc::Global;
+
+/// Whether a random word is drawn.
+fn is_draw(action: &Action) -> bool
+    ensures { result ≡ is_draw action.now }
+{
+    match action {
+        Action::Draw => true,
+        Action::Dial(_, _)
+        | Action::Take(_)
+        | Action::Refuse(_)
+        | Action::Put(_, _)
+        | Action::Close(_, _)
+        | Action::Deliver(_)
+        | Action::Tell(_) => false,
+    }
+}
+
+/// Whether a random word is drawn by one of these.
+fn draws(actions: &[Action]) -> bool
+    ensures { result ≡ draws actions.now }
+{
+    actions.iter().any(|action| is_draw(action))
+}
+
+/// Draws a random word: what the node is told of it.
+fn draw<W: Words>(random: &mut W) -> NodeEvent
+    ensures octets { has_octets result ≡ true }
+    ensures word { IsTrue (brings_word result) }
+{
+    match random.next() {
+        Ok(word) => NodeEvent::Random(word),
+        Err(Failed) => NodeEvent::NoRandom,
+    }
+}
+
+/// Tells a node what came, and carries out what it does, but for a random word that it draws.
+fn tell<N: Core, K: Sink, L: Link + Drop, D: Dialer<L>>(
+    alloc: Global,
+    node: &mut N,
+    set: &mut LinkSet<L>,
+    sink: &mut K,
+    dialer: &mut D,
+    now: u64,
+    event: &NodeEvent,
+) -> Result<Vec<Action>, Halt>
+    requires time { now < 2 ^ 62 }
+    requires octets { has_octets event.now ≡ true }
+    ensures goes { IfOk result (λ actions. N.goes node.old now event.now actions.items node.new) }
+    ensures carries { IfOk result (λ actions. Carries L.talk actions.items (world_of set.old (D.calls dialer.old) (K.held sink.old)) (world_of set.new (D.calls dialer.new) (K.held sink.new))) }
+    ensures failed { result ≡ Err HaltType.WriteFault → HasRisen (K.faults sink.old) (K.faults sink.new) }
+    ensures later { K.faults sink.old ≤ K.faults sink.new }
+    ensures accepts { result ≢ Err HaltType.AcceptFault }
+{
+    let actions = node.event(alloc, now, event)?;
+    perform(alloc, actions.as_slice(), set, sink, dialer)?;
+    Ok(actions)
+}
+
+/// Draws a random word for a node, and tells it that.
+fn tell_word<N: Core, K: Sink, W: Words, L: Link + Drop, D: Dialer<L>>(
+    alloc: Global,
+    node: &mut N,
+    set: &mut LinkSet<L>,
+    sink: &mut K,
+    random: &mut W,
+    dialer: &mut D,
+    now: u64,
+) -> Result<(), Halt>
+    requires { now < 2 ^ 62 }
+    ensures answers { OnOk result (Answers N.goes L.talk now true node.old (world_of set.old (D.calls dialer.old) (K.held sink.old)) node.new (world_of set.new (D.calls dialer.new) (K.held sink.new))) }
+    ensures failed { result ≡ Err HaltType.WriteFault → HasRisen (K.faults sink.old) (K.faults sink.new) }
+    ensures later { K.faults sink.old ≤ K.faults sink.new }
+    ensures accepts { result ≢ Err HaltType.AcceptFault }
+{
+    let word = draw(random);
+    match tell(alloc, node, set, sink, dialer, now, &word) {
+        Ok(_) => Ok(()),
+        Err(halt) => Err(halt),
+    }
+}
+
+/// Tells a node what came, and carries out what it does. Where it draws a random word, that is what it is told next.
+pub(crate) fn give<N: Core, K: Sink, W: Words, L: Link + Drop, D: Dialer<L>>(
+    alloc: Global,
+    node: &mut N,
+    set: &mut LinkSet<L>,
+    sink: &mut K,
+    random: &mut W,
+    dialer: &mut D,
+    now: u64,
+    event: &NodeEvent,
+) -> Result<(), Halt>
+    requires time { now < 2 ^ 62 }
+    requires octets { has_octets event.now ≡ true }
+    ensures gives { OnOk result (Gives N.goes L.talk now event.now node.old (world_of set.old (D.calls dialer.old) (K.held sink.old))
+        node.new (world_of set.new (D.calls dialer.new) (K.held sink.new))) }
+    ensures failed { result ≡ Err HaltType.WriteFault → HasRisen (K.faults sink.old) (K.faults sink.new) }
+    ensures later { K.faults sink.old ≤ K.faults sink.new }
+    ensures accepts { result ≢ Err HaltType.AcceptFault }
+{
+    let actions = tell(alloc, node, set, sink, dialer, now, event)?;
+    if draws(actions.as_slice()) {
+        tell_word(alloc, node, set, sink, random, dialer, now)
+    } else {
+        Ok(())
+    }
+}

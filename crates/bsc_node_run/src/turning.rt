@@ -1,0 +1,401 @@
+//! One turn of a node.
+ghost use Rattle.std.specs.Prelude.{◌≡◌, ◌≢◌, ◌<◌, ◌≤◌, ◌^◌, ◌∷◌, ◌++◌, [], true, Err, IfSome, IfOk, OnOk, List, ℕ, Option, Some};
+ghost use Rattle.bsc_outside.specs.Faults.{HasRisen};
+ghost use Rattle.bsc_edge.specs.declared.dialled.Dialled.{Dialled};
+ghost use Rattle.bsc_edge.specs.Told.{Grows, Stays};
+ghost use Rattle.bsc_node.specs.declared.node_event.NodeEvent.TheVariants.{Lost as LostEvent};
+ghost use Rattle.bsc_node_run.specs.declared.due.Due.{Due as DueType};
+ghost use Rattle.bsc_node_run.specs.declared.halt.Halt.{Halt as HaltType};
+ghost use Rattle.bsc_node_run.specs.declared.news.News.{News as NewsType};
+ghost use Rattle.bsc_node_run.specs.Receiving.{Received};
+ghost use Rattle.bsc_node_run.specs.Requests.{has_octets};
+ghost use Rattle.bsc_node_run.specs.Turning.{Admits, AreDue, GivesLines, GivesNews, Hears, HearsEach, IsNotDue, Starts, Turn, event_of, names, passed_by, slots_from};
+ghost use Rattle.bsc_node_run.specs.Worlds.{Same, link_in, with_over, world_of};
+
+use crate::due::Due;
+use crate::halt::Halt;
+use crate::link_set::LinkSet;
+use crate::news::{Change, News};
+use crate::node_core::Core;
+use crate::telling::give;
+use crate::words::Words;
+use bsc_connector::Side;
+use bsc_edge::{Acceptor, Arrived, Clock, Dialer, Incoming, Link, LinkFault};
+use bsc_node::{LinkName, NodeEvent};
+use bsc_octets::NoMemory;
+use bsc_outside::Sink;
+use std::alloc::Global;
+
+/// How long each link is waited for in a turn, in milliseconds.
+const LINK_WAIT_MS: u32 = 5;
+
+/// How long the acceptor is waited for in a turn.
+const ACCEPT_WAIT_MS: u32 = 0;
+
+/// What a node is told of what is new.
+fn event_of(news: News) -> NodeEvent
+    ensures octets { has_octets result ≡ true }
+    ensures is { result ≡ event_of news }
+{
+    match news.change {
+        Change::Opened => NodeEvent::Opened(news.link),
+        Change::DialFailed => NodeEvent::DialFailed(news.link),
+        Change::Lost => NodeEvent::Lost(news.link),
+    }
+}
+
+/// Tells the node what is new of its links, the oldest first.
+fn give_news<N: Core, K: Sink, W: Words, L: Link + Drop, D: Dialer<L>>(
+    alloc: Global,
+    node: &mut N,
+    set: &mut LinkSet<L>,
+    sink: &mut K,
+    random: &mut W,
+    dialer: &mut D,
+    now: u64,
+) -> Result<(), Halt>
+    requires { now < 2 ^ 62 }
+    ensures gives { OnOk result ((news : List NewsType) × GivesNews N.goes L.talk now news node.old (world_of set.old (D.calls dialer.old) (K.held sink.old))
+        node.new (world_of set.new (D.calls dialer.new) (K.held sink.new))) }
+    ensures failed { result ≡ Err HaltType.WriteFault → HasRisen (K.faults sink.old) (K.faults sink.new) }
+    ensures later { K.faults sink.old ≤ K.faults sink.new }
+    ensures accepts { result ≢ Err HaltType.AcceptFault }
+{
+    while let Some(news) = set.due.pop_front() {
+        give(alloc, node, set, sink, random, dialer, now, &event_of(news))?;
+    }
+    Ok(())
+}
+
+/// Tells the node what is to be told by now, and gives what isn't.
+fn give_due<'a, N: Core, K: Sink, W: Words, L: Link + Drop, D: Dialer<L>>(
+    alloc: Global,
+    node: &mut N,
+    set: &mut LinkSet<L>,
+    sink: &mut K,
+    random: &mut W,
+    dialer: &mut D,
+    now: u64,
+    passed: u64,
+    script: &'a [Due],
+) -> Result<&'a [Due], Halt>
+    requires { now < 2 ^ 62 }
+    ensures gives { IfOk result (λ rest. (lines : List DueType) × (script.now ≡ lines ++ rest.now) × AreDue passed lines × IsNotDue passed rest.now
+        × GivesLines N.goes L.talk now lines node.old (world_of set.old (D.calls dialer.old) (K.held sink.old)) node.new (world_of set.new (D.calls dialer.new) (K.held sink.new))) }
+    ensures failed { result ≡ Err HaltType.WriteFault → HasRisen (K.faults sink.old) (K.faults sink.new) }
+    ensures later { K.faults sink.old ≤ K.faults sink.new }
+    ensures accepts { result ≢ Err HaltType.AcceptFault }
+{
+    let mut left = script;
+    while let [due, rest @ ..] = left {
+        if passed < due.at {
+            return Ok(left);
+        }
+        give(alloc, node, set, sink, random, dialer, now, &due.event)?;
+        left = rest;
+    }
+    Ok(left)
+}
+
+/// A link that was taken out was lost: what the node is told of it.
+fn lose<L: Link + Drop>(
+    set: &mut LinkSet<L>,
+    name: LinkName,
+    link: L,
+) -> Result<Option<NodeEvent>, NoMemory>
+    ensures octets { IfOk result (λ e. IfSome e (λ event. has_octets event ≡ true)) }
+    ensures ended { IfOk result (λ e. (e ≡ Some (LostEvent name)) × ((d : Option (List Dialled)) (h : Option (List ℕ)) →
+        Same (world_of set.new d h) (with_over link (world_of set.old d h)))) }
+{
+    set.end(link)?;
+    Ok(Some(NodeEvent::Lost(name)))
+}
+
+/// Receives once on the link of a name: what the node is told of it, where something came.
+fn receive<L: Link + Drop>(
+    alloc: Global,
+    set: &mut LinkSet<L>,
+    name: LinkName,
+) -> Result<Option<NodeEvent>, NoMemory>
+    ensures octets { IfOk result (λ e. IfSome e (λ event. has_octets event ≡ true)) }
+    ensures received { IfOk result (λ e. (d : Option (List Dialled)) (h : Option (List ℕ)) →
+        Received L.talk name (link_in set.old name) e (world_of set.old d h) (world_of set.new d h)) }
+{
+    let Some(link) = set.replace(name, None) else {
+        return Ok(None);
+    };
+    let mut link = link;
+    match link.receive(alloc, LINK_WAIT_MS) {
+        Ok(Incoming::Message(octets)) => {
+            let _ = set.replace(name, Some(link));
+            Ok(Some(NodeEvent::Came(name, octets)))
+        }
+        Ok(Incoming::Text) => {
+            let _ = set.replace(name, Some(link));
+            Ok(Some(NodeEvent::CameText(name)))
+        }
+        Ok(Incoming::Quiet) => {
+            let _ = set.replace(name, Some(link));
+            Ok(None)
+        }
+        Ok(Incoming::Closed) => lose(set, name, link),
+        Err(LinkFault::Failed) => lose(set, name, link),
+        Err(LinkFault::NoMemory) => Err(NoMemory),
+    }
+}
+
+/// Receives once on the link of a name, where the node was told that it is open, and tells the node what came.
+fn hear<N: Core, K: Sink, W: Words, L: Link + Drop, D: Dialer<L>>(
+    alloc: Global,
+    node: &mut N,
+    set: &mut LinkSet<L>,
+    sink: &mut K,
+    random: &mut W,
+    dialer: &mut D,
+    now: u64,
+    name: LinkName,
+) -> Result<(), Halt>
+    requires { now < 2 ^ 62 }
+    ensures hears { OnOk result (Hears N.goes L.talk now name node.old (world_of set.old (D.calls dialer.old) (K.held sink.old))
+        node.new (world_of set.new (D.calls dialer.new) (K.held sink.new))) }
+    ensures failed { result ≡ Err HaltType.WriteFault → HasRisen (K.faults sink.old) (K.faults sink.new) }
+    ensures later { K.faults sink.old ≤ K.faults sink.new }
+    ensures accepts { result ≢ Err HaltType.AcceptFault }
+{
+    if !set.is_open(name) {
+        return Ok(());
+    }
+    match receive(alloc, set, name)? {
+        Some(event) => give(alloc, node, set, sink, random, dialer, now, &event),
+        None => Ok(()),
+    }
+}
+
+/// Receives once on each open link in a slot.
+fn hear_slots<N: Core, K: Sink, W: Words, L: Link + Drop, D: Dialer<L>>(
+    alloc: Global,
+    node: &mut N,
+    set: &mut LinkSet<L>,
+    sink: &mut K,
+    random: &mut W,
+    dialer: &mut D,
+    now: u64,
+) -> Result<(), Halt>
+    requires { now < 2 ^ 62 }
+    ensures hears { OnOk result (HearsEach N.goes L.talk now (slots_from 64 0) node.old (world_of set.old (D.calls dialer.old) (K.held sink.old))
+        node.new (world_of set.new (D.calls dialer.new) (K.held sink.new))) }
+    ensures failed { result ≡ Err HaltType.WriteFault → HasRisen (K.faults sink.old) (K.faults sink.new) }
+    ensures later { K.faults sink.old ≤ K.faults sink.new }
+    ensures accepts { result ≢ Err HaltType.AcceptFault }
+{
+    for k in 0..64 {
+        hear(
+            alloc,
+            node,
+            set,
+            sink,
+            random,
+            dialer,
+            now,
+            LinkName::Direct(k),
+        )?;
+    }
+    Ok(())
+}
+
+/// Receives once on each open link: those of the hubs first, and then those in the slots.
+fn hear_all<N: Core, K: Sink, W: Words, L: Link + Drop, D: Dialer<L>>(
+    alloc: Global,
+    node: &mut N,
+    set: &mut LinkSet<L>,
+    sink: &mut K,
+    random: &mut W,
+    dialer: &mut D,
+    now: u64,
+) -> Result<(), Halt>
+    requires { now < 2 ^ 62 }
+    ensures hears { OnOk result (HearsEach N.goes L.talk now names node.old (world_of set.old (D.calls dialer.old) (K.held sink.old))
+        node.new (world_of set.new (D.calls dialer.new) (K.held sink.new))) }
+    ensures failed { result ≡ Err HaltType.WriteFault → HasRisen (K.faults sink.old) (K.faults sink.new) }
+    ensures later { K.faults sink.old ≤ K.faults sink.new }
+    ensures accepts { result ≢ Err HaltType.AcceptFault }
+{
+    hear(
+        alloc,
+        node,
+        set,
+        sink,
+        random,
+        dialer,
+        now,
+        LinkName::Hub(Side::Primary),
+    )?;
+    hear(
+        alloc,
+        node,
+        set,
+        sink,
+        random,
+        dialer,
+        now,
+        LinkName::Hub(Side::Failover),
+    )?;
+    hear_slots(alloc, node, set, sink, random, dialer, now)
+}
+
+/// Asks the acceptor once, where the node accepts direct connections, and tells the node of the link that arrived.
+#[tactic(auto, using(crate::proofs::Told::stays_same))]
+fn admit<N: Core, K: Sink, W: Words, L: Link + Drop, A: Acceptor<L>, D: Dialer<L>>(
+    alloc: Global,
+    node: &mut N,
+    set: &mut LinkSet<L>,
+    sink: &mut K,
+    random: &mut W,
+    acceptor: &mut A,
+    dialer: &mut D,
+    now: u64,
+    listens: bool,
+) -> Result<(), Halt>
+    requires { now < 2 ^ 62 }
+    ensures admits { OnOk result (Admits N.goes L.talk now listens node.old (world_of set.old (D.calls dialer.old) (K.held sink.old)) (A.left acceptor.old)
+        node.new (world_of set.new (D.calls dialer.new) (K.held sink.new)) (A.left acceptor.new)) }
+    ensures failed { result ≡ Err HaltType.WriteFault → HasRisen (K.faults sink.old) (K.faults sink.new) }
+    ensures later { K.faults sink.old ≤ K.faults sink.new }
+    ensures accept { result ≡ Err HaltType.AcceptFault → HasRisen (A.faults acceptor.old) (A.faults acceptor.new) }
+    ensures arrivals { A.faults acceptor.old ≤ A.faults acceptor.new }
+    ensures bound { Stays (A.bound acceptor.old) (A.bound acceptor.new) }
+{
+    if !listens {
+        return Ok(());
+    }
+    match acceptor.next(alloc, ACCEPT_WAIT_MS) {
+        Ok(Arrived::Link(link)) => {
+            set.arrived = Some(link);
+            give(
+                alloc,
+                node,
+                set,
+                sink,
+                random,
+                dialer,
+                now,
+                &NodeEvent::Arrived,
+            )
+        }
+        Ok(Arrived::Quiet) => Ok(()),
+        Err(LinkFault::Failed) => Err(Halt::AcceptFault),
+        Err(LinkFault::NoMemory) => Err(Halt::NoMemory),
+    }
+}
+
+/// Tells the node that it starts, where it has no start yet.
+fn begin<N: Core, K: Sink, W: Words, L: Link + Drop, D: Dialer<L>>(
+    alloc: Global,
+    node: &mut N,
+    set: &mut LinkSet<L>,
+    sink: &mut K,
+    random: &mut W,
+    dialer: &mut D,
+    now: u64,
+    start: Option<u64>,
+) -> Result<(), Halt>
+    requires { now < 2 ^ 62 }
+    ensures starts { OnOk result (Starts N.goes L.talk now start node.old (world_of set.old (D.calls dialer.old) (K.held sink.old))
+        node.new (world_of set.new (D.calls dialer.new) (K.held sink.new))) }
+    ensures failed { result ≡ Err HaltType.WriteFault → HasRisen (K.faults sink.old) (K.faults sink.new) }
+    ensures later { K.faults sink.old ≤ K.faults sink.new }
+    ensures accepts { result ≢ Err HaltType.AcceptFault }
+{
+    match start {
+        None => give(
+            alloc,
+            node,
+            set,
+            sink,
+            random,
+            dialer,
+            now,
+            &NodeEvent::Start,
+        ),
+        Some(_) => Ok(()),
+    }
+}
+
+/// How much time has passed since the first turn.
+fn passed_by(start: Option<u64>, now: u64) -> u64
+    ensures { result ≡ passed_by start now }
+{
+    now.saturating_sub(start.unwrap_or(now))
+}
+
+/// Makes one turn: it reads the clock once, and tells the node, in this order, that it starts, where it has no start yet;
+/// that time has passed; what is new of its links; what of the script is due; what comes of each open link; and that a
+/// link arrived, where it accepts direct connections. What the node does at each is carried out before the next.
+///
+/// `start` is the time of the first turn. It gives the time of this turn, and what of the script isn't due yet.
+#[tactic(auto, using(crate::proofs::Told::stays_same))]
+pub fn node_turn<
+    'a,
+    N: Core,
+    K: Sink,
+    C: Clock,
+    W: Words,
+    L: Link + Drop,
+    A: Acceptor<L>,
+    D: Dialer<L>,
+>(
+    alloc: Global,
+    node: &mut N,
+    set: &mut LinkSet<L>,
+    script: &'a [Due],
+    start: Option<u64>,
+    listens: bool,
+    sink: &mut K,
+    clock: &mut C,
+    random: &mut W,
+    acceptor: &mut A,
+    dialer: &mut D,
+) -> Result<(u64, &'a [Due]), Halt>
+    ensures turns { IfOk result (λ r. Turn N.goes L.talk r.0 start script.now r.1.now listens node.old (world_of set.old (D.calls dialer.old) (K.held sink.old)) (A.left acceptor.old)
+        node.new (world_of set.new (D.calls dialer.new) (K.held sink.new)) (A.left acceptor.new)) }
+    ensures reading { IfOk result (λ r. Grows (C.readings clock.old) (C.readings clock.new) (r.0 ∷ [])) }
+    ensures below { IfOk result (λ r. r.0 < 2 ^ 62) }
+    ensures failed { result ≡ Err HaltType.WriteFault → HasRisen (K.faults sink.old) (K.faults sink.new) }
+    ensures later { K.faults sink.old ≤ K.faults sink.new }
+    ensures accept { result ≡ Err HaltType.AcceptFault → HasRisen (A.faults acceptor.old) (A.faults acceptor.new) }
+    ensures arrivals { A.faults acceptor.old ≤ A.faults acceptor.new }
+
+    // The acceptor stays bound to the port that it was bound to.
+    ensures bound { Stays (A.bound acceptor.old) (A.bound acceptor.new) }
+{
+    let now = clock.now();
+    set.begin_turn(alloc);
+    begin(alloc, node, set, sink, random, dialer, now, start)?;
+    give(
+        alloc,
+        node,
+        set,
+        sink,
+        random,
+        dialer,
+        now,
+        &NodeEvent::Tick,
+    )?;
+    give_news(alloc, node, set, sink, random, dialer, now)?;
+    let left = give_due(
+        alloc,
+        node,
+        set,
+        sink,
+        random,
+        dialer,
+        now,
+        passed_by(start, now),
+        script,
+    )?;
+    hear_all(alloc, node, set, sink, random, dialer, now)?;
+    admit(
+        alloc, node, set, sink, random, acceptor, dialer, now, listens,
+    )?;
+    Ok((now, left))
+}

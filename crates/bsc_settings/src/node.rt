@@ -1,0 +1,60 @@
+//! What is settled before a node starts.
+ghost use Rattle.std.specs.Prelude.{◌≡◌, ◌≤◌, IfSome, is_some};
+ghost use Rattle.std.specs.Str.{IsUtf8};
+ghost use Rattle.std.proofs.Props.{props};
+ghost use Rattle.bsc_settings.specs.Table.{node_max_bvlc_row, node_max_npdu_row, node_connect_wait_row, node_disconnect_wait_row, node_heartbeat_row, least_reconnect_row, greatest_reconnect_row, node_turns_row, Fits, IsNodeAddress};
+ghost use Rattle.bsc_settings.specs.Uris.{IsHubUri, AreUris};
+
+use bsc_octets::{DeviceId, Octets, Vmac};
+
+/// The settings of a node. Each value is one that its key takes.
+#[derive(Debug, Drop)]
+pub struct NodeSettings {
+    /// The node's VMAC when it starts, neither zero nor the broadcast address.
+    pub vmac: Vmac,
+    /// The node's own Device UUID.
+    pub uuid: DeviceId,
+    /// The URI of the primary hub, which begins with `ws://`.
+    pub primary: Octets,
+    /// The URI of the failover hub, which begins with `ws://`; None where there is no failover.
+    pub failover: Option<Octets>,
+    /// The TCP port that it binds for direct connections: 1 to 65,535; None where it accepts none.
+    pub direct_port: Option<u16>,
+    /// The URIs at which it accepts direct connections, with one space between two; None where it accepts none.
+    pub direct_uris: Option<Octets>,
+    /// Its Maximum BVLC Length, in octets: 64 to 65,535.
+    pub max_bvlc: u16,
+    /// Its Maximum NPDU Length, in octets: 1 to 65,535.
+    pub max_npdu: u16,
+    /// How long an accept or a Connect-Request is waited for, in milliseconds: 100 to 3,600,000.
+    pub connect_wait_ms: u32,
+    /// How long the answer to a Disconnect-Request is waited for, in milliseconds: 100 to 3,600,000.
+    pub disconnect_wait_ms: u32,
+    /// The time of a heartbeat, in milliseconds: 100 to 3,600,000.
+    pub heartbeat_ms: u32,
+    /// How long a hub isn't dialled after one failure, in milliseconds: 100 to 3,600,000.
+    pub least_reconnect_ms: u32,
+    /// How long it isn't dialled after many failures in a row, in milliseconds: the least wait to 3,600,000.
+    pub greatest_reconnect_ms: u32,
+    /// How many turns the node makes at most: 1 to 2^40.
+    pub turns: u64,
+    // The node has an address that names one node.
+    pub ghost address: { IsNodeAddress vmac },
+    // The URIs of hubs are ones that can be dialled.
+    pub ghost primary_fits: { IsHubUri primary },
+    pub ghost failover_fits: { IfSome failover IsHubUri } by { Prim.hlevel props },
+    // It tells URIs exactly where it accepts direct connections.
+    pub ghost uris_fit: { IfSome direct_uris AreUris } by { Prim.hlevel props },
+    pub ghost uris_are_utf8: { IfSome direct_uris IsUtf8 } by { Prim.hlevel props },
+    pub ghost uris_of_port: { is_some direct_uris ≡ is_some direct_port },
+    // Each number is one that its row of the table takes.
+    pub ghost direct_port_fits: { IfSome direct_port (λ p. (1 ≤ p) × (p ≤ 65535)) } by { Prim.hlevel props },
+    pub ghost max_bvlc_fits: { Fits node_max_bvlc_row max_bvlc },
+    pub ghost max_npdu_fits: { Fits node_max_npdu_row max_npdu },
+    pub ghost connect_wait_fits: { Fits node_connect_wait_row connect_wait_ms },
+    pub ghost disconnect_wait_fits: { Fits node_disconnect_wait_row disconnect_wait_ms },
+    pub ghost heartbeat_fits: { Fits node_heartbeat_row heartbeat_ms },
+    pub ghost least_reconnect_fits: { Fits least_reconnect_row least_reconnect_ms },
+    pub ghost greatest_reconnect_fits: { Fits (greatest_reconnect_row least_reconnect_ms) greatest_reconnect_ms },
+    pub ghost turns_fit: { Fits node_turns_row turns },
+}

@@ -1,0 +1,6 @@
+pub mod Taken
+pub mod Stays
+pub mod Forwarding
+pub mod Splitting
+pub mod Joining
+pub mod Ending

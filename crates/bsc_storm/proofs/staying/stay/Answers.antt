@@ -1,0 +1,17 @@
+use Rattle.std.proofs.Common.{[], Ok, subst}
+use Rattle.bsc_octets.specs.declared.identity.Identity.{Identity}
+use Rattle.bsc_turn.specs.Passes.{number_of}
+use Rattle.bsc_hub.specs.Calls.{connect_made}
+use Rattle.bsc_hub.specs.Passing.{Passed}
+use Rattle.bsc_storm.proofs.Stays.{stays_once}
+use Rattle.bsc_storm.proofs.staying.stay.Goals as goal
+
+pub returns-in-Ok : goal.returns-in-Ok
+returns-in-Ok g c =
+    let h = c.args.hub.now in
+    let p = c.args.pass.now in
+    let m = c.connect.new.pass in
+    let j = c.in-Ok.joined in
+    stays_once h p m c.leave-told.new.pass j c.take_some.new.outlet c.leave-told.result
+    (subst (λ (who : Identity). Passed h p [] (connect_made (number_of p) who (Ok j)) m) c.taken_over.ensures c.in-Ok.ensures.pass)
+    c.leave-told.ensures.pass

@@ -1,0 +1,4 @@
+pub mod Peers
+pub mod Workers
+pub mod Storms
+pub mod Inner

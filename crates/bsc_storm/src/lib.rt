@@ -1,0 +1,22 @@
+//! A storm on a hub: two workers take over from each other again and again, and a third forwards to their address
+//! meanwhile.
+//!
+//! Start at `specs/Workers.antt`, which says what the workers ask of a hub, and `specs/Storms.antt`, which says what
+//! `storm_on` says by its answer. `staying` and `sending` have what a worker does, `working` gives each a thread, and
+//! `storm` gives each a pass, joins them and stops the hub.
+#![tactic(auto)]
+
+mod ends;
+#[cfg(test)]
+mod once;
+mod peers;
+mod sending;
+mod staying;
+mod storm;
+#[cfg(test)]
+mod tests;
+mod working;
+mod works;
+
+pub use ends::StormEnd;
+pub use storm::storm_on;

@@ -1,0 +1,75 @@
+-- What is asked for by what `clap` finds.
+use Rattle.std.proofs.Common.{◌≡◌, ◌≢◌, ◌∙◌, Bool, true, codes, List, [], ◌∷◌, Option, Some, None, refl, sym, ap, ap₂}
+use Rattle.std.proofs.lemmas.Bool.{and_parts}
+use Rattle.clap.specs.Words.{App, Kinds, Row, Text, fault_of, first_of, is_simple, is_simple_and_free, matches_of}
+use Rattle.clap.specs.Faults.{is_free_app}
+use Rattle.clap.specs.Simple.{built}
+use Rattle.bsc_words.specs.Commands.{replay_app, check_app, hub_app, node_app, load_app}
+use Rattle.bsc_words.specs.Words.{AskedOf, replay, check, hub_of, node_of, load_of, unless}
+use Rattle.bsc_words.specs.Words.{replay_asked, check_asked, hub_asked, node_asked, load_asked}
+
+pub simple_of : (app : App) → is_simple_and_free app ≡ true → is_simple app ≡ true
+simple_of app h = (and_parts (is_simple app) (is_free_app (built app)) h).0
+
+-- where nothing is at fault, what is asked for stands
+pub asked_if_fine : (kinds : Kinds) (asked : Option AskedOf) → kinds ≡ [] → unless kinds asked ≡ asked
+asked_if_fine kinds asked fine = ap (λ k. unless k asked) fine
+
+-- where something is, nothing is asked for
+pub none_if_faulty : (kinds : Kinds) (asked : Option AskedOf) → kinds ≢ [] → unless kinds asked ≡ None
+none_if_faulty [] asked faulty = absurd (faulty refl)
+none_if_faulty (kind ∷ kinds) asked faulty = refl
+
+module _ (app : App) (words : List Text) (rows : List Row) where
+  -- the faults and the rows of an app are those of the one that it is
+  same_fault : (other : App) → app ≡ other → fault_of app words ≡ [] → fault_of other words ≡ []
+  same_fault other is fine = sym (ap (λ a. fault_of a words) is) ∙ fine
+
+  same_rows : (other : App) → app ≡ other → rows ≡ matches_of app words → matches_of other words ≡ rows
+  same_rows other is found = sym (found ∙ ap (λ a. matches_of a words) is)
+
+  pub hub_found : (path sessions : Option Text) (asked : Option AskedOf) → app ≡ hub_app → fault_of app words ≡ [] → rows ≡ matches_of app words
+      → path ≡ first_of (codes "path") rows → sessions ≡ first_of (codes "sessions") rows → asked ≡ hub_of path sessions → hub_asked words ≡ asked
+  hub_found path sessions asked is fine found p s a =
+      asked_if_fine _ _ (same_fault hub_app is fine)
+      ∙ ap (λ r. hub_of (first_of (codes "path") r) (first_of (codes "sessions") r)) (same_rows hub_app is found)
+      ∙ sym (a ∙ ap₂ hub_of p s)
+
+  pub node_found : (path script : Option Text) (asked : Option AskedOf) → app ≡ node_app → fault_of app words ≡ [] → rows ≡ matches_of app words
+      → path ≡ first_of (codes "path") rows → script ≡ first_of (codes "script") rows → asked ≡ node_of path script → node_asked words ≡ asked
+  node_found path script asked is fine found p s a =
+      asked_if_fine _ _ (same_fault node_app is fine)
+      ∙ ap (λ r. node_of (first_of (codes "path") r) (first_of (codes "script") r)) (same_rows node_app is found)
+      ∙ sym (a ∙ ap₂ node_of p s)
+
+  pub load_found : (workers : Option Text) (asked : Option AskedOf) → app ≡ load_app → fault_of app words ≡ [] → rows ≡ matches_of app words
+      → workers ≡ first_of (codes "workers") rows → asked ≡ load_of workers → load_asked words ≡ asked
+  load_found workers asked is fine found w a =
+      asked_if_fine _ _ (same_fault load_app is fine)
+      ∙ ap (λ r. load_of (first_of (codes "workers") r)) (same_rows load_app is found)
+      ∙ sym (a ∙ ap load_of w)
+
+module _ (app : App) (words : List Text) where
+  other_fault : (other : App) → app ≡ other → fault_of app words ≢ [] → fault_of other words ≢ []
+  other_fault other is faulty fine = faulty (ap (λ a. fault_of a words) is ∙ fine)
+
+  pub hub_faulty : app ≡ hub_app → fault_of app words ≢ [] → hub_asked words ≡ None
+  hub_faulty is faulty = none_if_faulty _ _ (other_fault hub_app is faulty)
+
+  pub node_faulty : app ≡ node_app → fault_of app words ≢ [] → node_asked words ≡ None
+  node_faulty is faulty = none_if_faulty _ _ (other_fault node_app is faulty)
+
+  pub load_faulty : app ≡ load_app → fault_of app words ≢ [] → load_asked words ≡ None
+  load_faulty is faulty = none_if_faulty _ _ (other_fault load_app is faulty)
+
+  pub replay_faulty : app ≡ replay_app → fault_of app words ≢ [] → replay_asked words ≡ None
+  replay_faulty is faulty = none_if_faulty _ _ (other_fault replay_app is faulty)
+
+  pub replay_fine : app ≡ replay_app → fault_of app words ≡ [] → replay_asked words ≡ Some replay
+  replay_fine is fine = asked_if_fine _ _ (sym (ap (λ a. fault_of a words) is) ∙ fine)
+
+  pub check_faulty : app ≡ check_app → fault_of app words ≢ [] → check_asked words ≡ None
+  check_faulty is faulty = none_if_faulty _ _ (other_fault check_app is faulty)
+
+  pub check_fine : app ≡ check_app → fault_of app words ≡ [] → check_asked words ≡ Some check
+  check_fine is fine = asked_if_fine _ _ (sym (ap (λ a. fault_of a words) is) ∙ fine)

@@ -1,0 +1,230 @@
+-- What `clap` makes of words that begin with no hyphen, as those of each command.
+use Rattle.std.proofs.Common.{◌≡◌, ◌∙◌, ℕ, Bool, false, codes, List, [], ◌∷◌, Option, Some, None, option_map, refl}
+use Rattle.clap.specs.Words.{Kinds, Row, Shape, Text, built, first_of}
+use Rattle.clap.specs.Walk.{Held, Walk, arg_by_id, arg_by_index, nothing_held, option_word, to_positional, value, walked}
+use Rattle.clap.specs.Faults.{step_fault, turn_fault}
+use Rattle.clap.specs.declared.error.kind.ErrorKind.TheVariants.{UnknownArgument}
+use Rattle.clap.proofs.OnLiterals.{clap_on_literals}
+use Rattle.bsc_words.specs.Commands.{replay_app, check_app, hub_app, node_app, load_app}
+use Rattle.bsc_words.specs.Words.{AskedOf, replay, check, hub, node, load, sessions_of, workers_of, hub_of, node_of, load_of}
+use Rattle.bsc_words.specs.Words.{replay_asked, check_asked, hub_asked, node_asked, load_asked}
+use Rattle.bsc_words.specs.Listed.{has_hyphen}
+use Rattle.bsc_words.proofs.Steps.{at, awaiting, asked_from, walks_on, stops, plain_walked, plain_turn, value_walked, value_turn}
+
+-- the matches so far, and a first or a second word that waits to be one
+abbrev pending : List Row → Text → Text → Held
+pending rows id word = record { rows = rows; pending = Some (id, word ∷ []); skip = 0 }
+
+-- ---- `replay` and `check` take no word
+
+abbrev replay_shape : Shape
+replay_shape = (built replay_app).top
+
+replay_from : (name : Text) (words : List Text) → replay_asked (name ∷ words) ≡ asked_from replay_shape (λ rows. Some replay) (at nothing_held 1) words
+replay_from name words = refl
+
+pub replay_alone : (name : Text) → replay_asked (name ∷ []) ≡ Some replay
+unfolding clap_on_literals
+replay_alone name = refl
+
+replay_stray : step_fault replay_shape 1 nothing_held value ≡ UnknownArgument ∷ []
+replay_stray = refl
+
+pub replay_more : (name word : Text) (words : List Text) → has_hyphen word ≡ false → replay_asked (name ∷ word ∷ words) ≡ None
+replay_more name word words h =
+    replay_from name (word ∷ words)
+    ∙ stops replay_shape (λ rows. Some replay) (at nothing_held 1) word words UnknownArgument [] (plain_turn replay_shape nothing_held 1 word h ∙ replay_stray)
+
+abbrev check_shape : Shape
+check_shape = (built check_app).top
+
+check_from : (name : Text) (words : List Text) → check_asked (name ∷ words) ≡ asked_from check_shape (λ rows. Some check) (at nothing_held 1) words
+check_from name words = refl
+
+pub check_alone : (name : Text) → check_asked (name ∷ []) ≡ Some check
+unfolding clap_on_literals
+check_alone name = refl
+
+check_stray : step_fault check_shape 1 nothing_held value ≡ UnknownArgument ∷ []
+check_stray = refl
+
+pub check_more : (name word : Text) (words : List Text) → has_hyphen word ≡ false → check_asked (name ∷ word ∷ words) ≡ None
+check_more name word words h =
+    check_from name (word ∷ words)
+    ∙ stops check_shape (λ rows. Some check) (at nothing_held 1) word words UnknownArgument [] (plain_turn check_shape nothing_held 1 word h ∙ check_stray)
+
+-- ---- `load` takes one word
+
+abbrev load_shape : Shape
+load_shape = (built load_app).top
+
+abbrev load_read : List Row → Option AskedOf
+load_read rows = load_of (first_of (codes "workers") rows)
+
+load_from : (name : Text) (words : List Text) → load_asked (name ∷ words) ≡ asked_from load_shape load_read (at nothing_held 1) words
+load_from name words = refl
+
+abbrev load_first : Text → Held
+load_first word = pending [] (codes "workers") word
+
+load_step : (word : Text) (words : List Text) → has_hyphen word ≡ false
+    → asked_from load_shape load_read (at nothing_held 1) (word ∷ words) ≡ asked_from load_shape load_read (at (load_first word) 2) words
+load_step word words h =
+    walks_on load_shape load_read (at nothing_held 1) (at (load_first word) 2) word words (plain_turn load_shape nothing_held 1 word h)
+    (plain_walked load_shape.rules nothing_held 1 word h)
+
+pub load_none : (name : Text) → load_asked (name ∷ []) ≡ None
+unfolding clap_on_literals
+load_none name = refl
+
+load_end : (word : Text) → asked_from load_shape load_read (at (load_first word) 2) [] ≡ option_map load (workers_of word)
+unfolding clap_on_literals
+load_end word = refl
+
+pub load_one : (name word : Text) → has_hyphen word ≡ false → load_asked (name ∷ word ∷ []) ≡ option_map load (workers_of word)
+load_one name word h = load_from name (word ∷ []) ∙ load_step word [] h ∙ load_end word
+
+load_stray : (word : Text) → step_fault load_shape 2 (load_first word) value ≡ UnknownArgument ∷ []
+load_stray word = refl
+
+pub load_more : (name word next : Text) (words : List Text) → has_hyphen word ≡ false → has_hyphen next ≡ false
+    → load_asked (name ∷ word ∷ next ∷ words) ≡ None
+load_more name word next words h i =
+    load_from name (word ∷ next ∷ words) ∙ load_step word (next ∷ words) h
+    ∙ stops load_shape load_read (at (load_first word) 2) next words UnknownArgument [] (plain_turn load_shape (load_first word) 2 next i ∙ load_stray word)
+
+-- ---- `hub` takes a path
+
+abbrev hub_shape : Shape
+hub_shape = (built hub_app).top
+
+abbrev hub_read : List Row → Option AskedOf
+hub_read rows = hub_of (first_of (codes "path") rows) (first_of (codes "sessions") rows)
+
+hub_from : (name : Text) (words : List Text) → hub_asked (name ∷ words) ≡ asked_from hub_shape hub_read (at nothing_held 1) words
+hub_from name words = refl
+
+abbrev hub_first : Text → Held
+hub_first word = pending [] (codes "path") word
+
+hub_step : (word : Text) (words : List Text) → has_hyphen word ≡ false
+    → asked_from hub_shape hub_read (at nothing_held 1) (word ∷ words) ≡ asked_from hub_shape hub_read (at (hub_first word) 2) words
+hub_step word words h =
+    walks_on hub_shape hub_read (at nothing_held 1) (at (hub_first word) 2) word words (plain_turn hub_shape nothing_held 1 word h)
+    (plain_walked hub_shape.rules nothing_held 1 word h)
+
+pub hub_none : (name : Text) → hub_asked (name ∷ []) ≡ None
+unfolding clap_on_literals
+hub_none name = refl
+
+hub_end : (path : Text) → asked_from hub_shape hub_read (at (hub_first path) 2) [] ≡ Some (hub path None)
+unfolding clap_on_literals
+hub_end path = refl
+
+pub hub_one : (name path : Text) → has_hyphen path ≡ false → hub_asked (name ∷ path ∷ []) ≡ Some (hub path None)
+hub_one name path h = hub_from name (path ∷ []) ∙ hub_step path [] h ∙ hub_end path
+
+hub_stray : (path : Text) → step_fault hub_shape 2 (hub_first path) value ≡ UnknownArgument ∷ []
+hub_stray path = refl
+
+pub hub_more : (name path next : Text) (words : List Text) → has_hyphen path ≡ false → has_hyphen next ≡ false
+    → hub_asked (name ∷ path ∷ next ∷ words) ≡ None
+hub_more name path next words h i =
+    hub_from name (path ∷ next ∷ words) ∙ hub_step path (next ∷ words) h
+    ∙ stops hub_shape hub_read (at (hub_first path) 2) next words UnknownArgument [] (plain_turn hub_shape (hub_first path) 2 next i ∙ hub_stray path)
+
+-- and a number of sessions behind it
+abbrev hub_second : Text → Walk
+hub_second path = walked hub_shape.rules [] (at (hub_first path) 2) (codes "--sessions")
+
+option_turn : (path : Text) → turn_fault hub_shape [] (at (hub_first path) 2) (codes "--sessions") ≡ []
+unfolding clap_on_literals
+option_turn path = refl
+
+option_walked : (path : Text) → hub_second path ≡ awaiting (codes "sessions") (hub_second path).held 2
+unfolding clap_on_literals
+option_walked path = refl
+
+abbrev hub_third : Text → Text → Walk
+hub_third path word =
+    let held = (hub_second path).held in
+    let met = option_word (arg_by_id hub_shape.rules (codes "sessions")) (codes "sessions") word held in
+    record (awaiting (codes "sessions") held 2) { held = met.0; waiting = met.1 }
+
+served_end : (path word : Text) → asked_from hub_shape hub_read (hub_third path word) [] ≡ option_map (λ n. hub path (Some n)) (sessions_of word)
+unfolding clap_on_literals
+served_end path word = refl
+
+pub hub_served : (name path word : Text) → has_hyphen path ≡ false → has_hyphen word ≡ false
+    → hub_asked (name ∷ path ∷ codes "--sessions" ∷ word ∷ []) ≡ option_map (λ n. hub path (Some n)) (sessions_of word)
+hub_served name path word h i =
+    let held = (hub_second path).held in
+    hub_from name (path ∷ codes "--sessions" ∷ word ∷ []) ∙ hub_step path (codes "--sessions" ∷ word ∷ []) h
+    ∙ walks_on hub_shape hub_read (at (hub_first path) 2) (awaiting (codes "sessions") held 2) (codes "--sessions") (word ∷ [])
+    (option_turn path) (option_walked path)
+    ∙ walks_on hub_shape hub_read (awaiting (codes "sessions") held 2) (hub_third path word) word [] (value_turn hub_shape (codes "sessions") held 2 word i)
+    (value_walked hub_shape.rules (codes "sessions") held 2 word i)
+    ∙ served_end path word
+
+-- ---- `node` takes two paths
+
+abbrev node_shape : Shape
+node_shape = (built node_app).top
+
+abbrev node_read : List Row → Option AskedOf
+node_read rows = node_of (first_of (codes "path") rows) (first_of (codes "script") rows)
+
+node_from : (name : Text) (words : List Text) → node_asked (name ∷ words) ≡ asked_from node_shape node_read (at nothing_held 1) words
+node_from name words = refl
+
+abbrev node_first : Text → Held
+node_first word = pending [] (codes "path") word
+
+node_step : (word : Text) (words : List Text) → has_hyphen word ≡ false
+    → asked_from node_shape node_read (at nothing_held 1) (word ∷ words) ≡ asked_from node_shape node_read (at (node_first word) 2) words
+node_step word words h =
+    walks_on node_shape node_read (at nothing_held 1) (at (node_first word) 2) word words (plain_turn node_shape nothing_held 1 word h)
+    (plain_walked node_shape.rules nothing_held 1 word h)
+
+pub node_none : (name : Text) → node_asked (name ∷ []) ≡ None
+unfolding clap_on_literals
+node_none name = refl
+
+node_first_end : (path : Text) → asked_from node_shape node_read (at (node_first path) 2) [] ≡ None
+unfolding clap_on_literals
+node_first_end path = refl
+
+pub node_one : (name path : Text) → has_hyphen path ≡ false → node_asked (name ∷ path ∷ []) ≡ None
+node_one name path h = node_from name (path ∷ []) ∙ node_step path [] h ∙ node_first_end path
+
+abbrev node_second : Text → Text → Walk
+node_second path script =
+    to_positional node_shape.rules (arg_by_index node_shape.rules 2) script (at (node_first path) 2) (node_first path)
+
+node_fine : (path : Text) → step_fault node_shape 2 (node_first path) value ≡ []
+node_fine path = refl
+
+node_step_two : (path script : Text) (words : List Text) → has_hyphen script ≡ false
+    → asked_from node_shape node_read (at (node_first path) 2) (script ∷ words) ≡ asked_from node_shape node_read (at (node_second path script).held 3) words
+node_step_two path script words i =
+    walks_on node_shape node_read (at (node_first path) 2) (at (node_second path script).held 3) script words
+    (plain_turn node_shape (node_first path) 2 script i ∙ node_fine path) (plain_walked node_shape.rules (node_first path) 2 script i)
+
+node_end : (path script : Text) → asked_from node_shape node_read (at (node_second path script).held 3) [] ≡ Some (node path script)
+unfolding clap_on_literals
+node_end path script = refl
+
+pub node_two : (name path script : Text) → has_hyphen path ≡ false → has_hyphen script ≡ false
+    → node_asked (name ∷ path ∷ script ∷ []) ≡ Some (node path script)
+node_two name path script h i =
+    node_from name (path ∷ script ∷ []) ∙ node_step path (script ∷ []) h ∙ node_step_two path script [] i ∙ node_end path script
+
+node_stray : (path script : Text) → step_fault node_shape 3 (node_second path script).held value ≡ UnknownArgument ∷ []
+node_stray path script = refl
+
+pub node_more : (name path script word : Text) (words : List Text) → has_hyphen path ≡ false → has_hyphen script ≡ false → has_hyphen word ≡ false
+    → node_asked (name ∷ path ∷ script ∷ word ∷ words) ≡ None
+node_more name path script word words h i j =
+    node_from name (path ∷ script ∷ word ∷ words) ∙ node_step path (script ∷ word ∷ words) h ∙ node_step_two path script (word ∷ words) i
+    ∙ stops node_shape node_read (at (node_second path script).held 3) word words UnknownArgument []
+    (plain_turn node_shape (node_second path script).held 3 word j ∙ node_stray path script)

@@ -1,0 +1,125 @@
+-- Words, worked by hand.
+use Rattle.std.proofs.Common.{◌≡◌, codes, [], ◌∷◌, Some, None, refl}
+use Rattle.clap.proofs.OnLiterals.{clap_on_literals}
+use Rattle.bsc_words.specs.Words.{replay, check, hub, node, load, asked_by}
+
+-- a script, and lines
+replays : asked_by (codes "replay" ∷ []) ≡ Some replay
+unfolding clap_on_literals
+replays = refl
+
+replays_more : asked_by (codes "replay" ∷ codes "replay" ∷ []) ≡ None
+unfolding clap_on_literals
+replays_more = refl
+
+replays_to_the_end : asked_by (codes "replay" ∷ codes "--" ∷ []) ≡ Some replay
+unfolding clap_on_literals
+replays_to_the_end = refl
+
+checks : asked_by (codes "check" ∷ []) ≡ Some check
+unfolding clap_on_literals
+checks = refl
+
+-- a hub, in each order of its words
+serves : asked_by (codes "hub" ∷ codes "a" ∷ []) ≡ Some (hub (codes "a") None)
+unfolding clap_on_literals
+serves = refl
+
+serves_three : asked_by (codes "hub" ∷ codes "a" ∷ codes "--sessions" ∷ codes "3" ∷ []) ≡ Some (hub (codes "a") (Some 3))
+unfolding clap_on_literals
+serves_three = refl
+
+serves_three_at_first : asked_by (codes "hub" ∷ codes "--sessions" ∷ codes "3" ∷ codes "a" ∷ []) ≡ Some (hub (codes "a") (Some 3))
+unfolding clap_on_literals
+serves_three_at_first = refl
+
+serves_three_in_one_word : asked_by (codes "hub" ∷ codes "--sessions=3" ∷ codes "a" ∷ []) ≡ Some (hub (codes "a") (Some 3))
+unfolding clap_on_literals
+serves_three_in_one_word = refl
+
+serves_none : asked_by (codes "hub" ∷ codes "a" ∷ codes "--sessions" ∷ codes "0" ∷ []) ≡ None
+unfolding clap_on_literals
+serves_none = refl
+
+serves_a_million : asked_by (codes "hub" ∷ codes "a" ∷ codes "--sessions" ∷ codes "1000000" ∷ []) ≡ Some (hub (codes "a") (Some 1000000))
+unfolding clap_on_literals
+serves_a_million = refl
+
+serves_more : asked_by (codes "hub" ∷ codes "a" ∷ codes "--sessions" ∷ codes "1000001" ∷ []) ≡ None
+unfolding clap_on_literals
+serves_more = refl
+
+serves_with_a_zero : asked_by (codes "hub" ∷ codes "a" ∷ codes "--sessions" ∷ codes "03" ∷ []) ≡ None
+unfolding clap_on_literals
+serves_with_a_zero = refl
+
+serves_with_a_sign : asked_by (codes "hub" ∷ codes "a" ∷ codes "--sessions" ∷ codes "+3" ∷ []) ≡ None
+unfolding clap_on_literals
+serves_with_a_sign = refl
+
+serves_twice : asked_by (codes "hub" ∷ codes "a" ∷ codes "--sessions" ∷ codes "3" ∷ codes "--sessions" ∷ codes "3" ∷ []) ≡ None
+unfolding clap_on_literals
+serves_twice = refl
+
+-- paths that begin with a hyphen
+hyphen : asked_by (codes "hub" ∷ codes "-" ∷ []) ≡ Some (hub (codes "-") None)
+unfolding clap_on_literals
+hyphen = refl
+
+hyphen_a : asked_by (codes "hub" ∷ codes "-a" ∷ []) ≡ None
+unfolding clap_on_literals
+hyphen_a = refl
+
+hyphen_a_at_the_end : asked_by (codes "hub" ∷ codes "--" ∷ codes "-a" ∷ []) ≡ Some (hub (codes "-a") None)
+unfolding clap_on_literals
+hyphen_a_at_the_end = refl
+
+hyphens_alone : asked_by (codes "hub" ∷ codes "--" ∷ []) ≡ None
+unfolding clap_on_literals
+hyphens_alone = refl
+
+-- a word that is missing, and one too many
+no_path : asked_by (codes "hub" ∷ []) ≡ None
+unfolding clap_on_literals
+no_path = refl
+
+no_number : asked_by (codes "hub" ∷ codes "a" ∷ codes "--sessions" ∷ []) ≡ None
+unfolding clap_on_literals
+no_number = refl
+
+two_paths : asked_by (codes "hub" ∷ codes "a" ∷ codes "b" ∷ []) ≡ None
+unfolding clap_on_literals
+two_paths = refl
+
+-- calls for help, and no command
+help : asked_by (codes "hub" ∷ codes "a" ∷ codes "--help" ∷ []) ≡ None
+unfolding clap_on_literals
+help = refl
+
+help_alone : asked_by (codes "--help" ∷ []) ≡ None
+unfolding clap_on_literals
+help_alone = refl
+
+another : asked_by (codes "serve" ∷ codes "a" ∷ []) ≡ None
+unfolding clap_on_literals
+another = refl
+
+-- a node, and a workload
+runs : asked_by (codes "node" ∷ codes "a" ∷ codes "b" ∷ []) ≡ Some (node (codes "a") (codes "b"))
+unfolding clap_on_literals
+runs = refl
+
+no_script : asked_by (codes "node" ∷ codes "a" ∷ []) ≡ None
+unfolding clap_on_literals
+no_script = refl
+
+loads : asked_by (codes "load" ∷ codes "512" ∷ []) ≡ Some (load 512)
+unfolding clap_on_literals
+loads = refl
+
+loads_more : asked_by (codes "load" ∷ codes "513" ∷ []) ≡ None
+unfolding clap_on_literals
+loads_more = refl
+
+nothing : asked_by [] ≡ None
+nothing = refl

@@ -1,0 +1,104 @@
+-- What the words of the program ask for.
+use Rattle.std.specs.Prelude.{ℕ, nat_le, ◌&&◌, if◌then◌else◌, List, [], ◌∷◌, codes, Option, Some, None, option_map}
+use Rattle.clap.specs.Words.{App, Kinds, Text, fault_of, first_of, matches_of}
+use Rattle.bsc_text.specs.Grammar.{number_of}
+use Rattle.bsc_text.specs.Lines.{same_octets}
+use Rattle.bsc_words.specs.Commands.{replay_app, check_app, hub_app, node_app, load_app}
+use Rattle.bsc_words.specs.declared.asked.Asked.{Asked}
+use Rattle.bsc_words.specs.declared.asked.Asked.TheVariants.{Replay, Check, Hub, Node, Load}
+
+-- What words may ask for: a script is played; lines are checked; a hub is served by the settings at a path, until so many
+-- links have ended or for ever; a node is run by the settings at a path and the script at another; or a workload is run by
+-- so many workers.
+pub data AskedOf : Type 0 where
+  replay : AskedOf
+  check : AskedOf
+  hub : Text → Option ℕ → AskedOf
+  node : Text → Text → AskedOf
+  load : ℕ → AskedOf
+
+-- what `clap` finds for an argument of a command
+abbrev pub value_of : App → List Text → Text → Option Text
+value_of app words id = first_of id (matches_of app words)
+
+-- the number that a word writes in decimal digits, without a sign or a leading zero, where it is from 1 to `most`
+abbrev pub up_to : ℕ → Option ℕ → Option ℕ
+up_to most None = None
+up_to most (Some n) = if nat_le 1 n && nat_le n most then Some n else None
+
+-- how many links a word says: 1 to 1,000,000
+abbrev pub sessions_of : Text → Option ℕ
+sessions_of word = up_to 1000000 (number_of word)
+
+-- how many workers a word says: 1 to 512
+abbrev pub workers_of : Text → Option ℕ
+workers_of word = up_to 512 (number_of word)
+
+-- a hub by its path and what is said of its sessions, where both are good
+abbrev pub hub_of : Option Text → Option Text → Option AskedOf
+hub_of None sessions = None
+hub_of (Some path) None = Some (hub path None)
+hub_of (Some path) (Some word) = option_map (λ n. hub path (Some n)) (sessions_of word)
+
+-- a node by its path and its script
+abbrev pub node_of : Option Text → Option Text → Option AskedOf
+node_of None script = None
+node_of (Some path) None = None
+node_of (Some path) (Some script) = Some (node path script)
+
+-- a workload by its workers
+abbrev pub load_of : Option Text → Option AskedOf
+load_of None = None
+load_of (Some word) = option_map load (workers_of word)
+
+-- what is asked for, where `clap` finds nothing at fault
+abbrev pub unless : Kinds → Option AskedOf → Option AskedOf
+unless [] asked = asked
+unless (kind ∷ kinds) asked = None
+
+-- what words ask for as those of each command
+abbrev pub replay_asked : List Text → Option AskedOf
+replay_asked words = unless (fault_of replay_app words) (Some replay)
+
+abbrev pub check_asked : List Text → Option AskedOf
+check_asked words = unless (fault_of check_app words) (Some check)
+
+abbrev pub hub_asked : List Text → Option AskedOf
+hub_asked words =
+    unless (fault_of hub_app words) (hub_of (value_of hub_app words (codes "path")) (value_of hub_app words (codes "sessions")))
+
+abbrev pub node_asked : List Text → Option AskedOf
+node_asked words =
+    unless (fault_of node_app words) (node_of (value_of node_app words (codes "path")) (value_of node_app words (codes "script")))
+
+abbrev pub load_asked : List Text → Option AskedOf
+load_asked words = unless (fault_of load_app words) (load_of (value_of load_app words (codes "workers")))
+
+-- what words ask for whose first is this, as those of a command that runs a hub, a node or a workload
+abbrev pub run_of : Text → List Text → Option AskedOf
+run_of name words =
+    if same_octets name (codes "hub") then hub_asked words
+    else if same_octets name (codes "node") then node_asked words
+    else if same_octets name (codes "load") then load_asked words
+    else None
+
+-- what words ask for whose first is this
+abbrev pub asked_of : Text → List Text → Option AskedOf
+asked_of name words =
+    if same_octets name (codes "replay") then replay_asked words
+    else if same_octets name (codes "check") then check_asked words
+    else run_of name words
+
+-- What words ask for: the first names a command, and `clap` takes all of them as that command and its arguments. They ask
+-- for nothing where there is none, where the first names no command, or where `clap` refuses them or N is out of range.
+abbrev pub asked_by : List Text → Option AskedOf
+asked_by [] = None
+asked_by (name ∷ words) = asked_of name (name ∷ words)
+
+-- what an answer asks for
+abbrev pub seen : Asked → AskedOf
+seen Replay = replay
+seen Check = check
+seen (Hub path sessions) = hub path.now sessions
+seen (Node path script) = node path.now script.now
+seen (Load workers) = load workers

@@ -1,0 +1,29 @@
+//! What the words of the program ask for.
+
+/// What the words of the program ask for.
+#[derive(Clone, Copy, Debug, PartialEq, Eq)]
+pub enum Asked<'a> {
+    /// `replay`: plays a script.
+    Replay,
+    /// `check`: answers lines with the verdicts on messages.
+    Check,
+    /// `hub PATH`, `hub PATH --sessions N`: serves a hub.
+    Hub {
+        /// Where the settings are.
+        path: &'a str,
+        /// How many links are served: 1 to 1,000,000; None for ever.
+        sessions: Option<u64>,
+    },
+    /// `node PATH SCRIPT`: runs a node.
+    Node {
+        /// Where the settings are.
+        path: &'a str,
+        /// Where the script is.
+        script: &'a str,
+    },
+    /// `load N`: runs a workload.
+    Load {
+        /// How many workers it has: 1 to 512.
+        workers: u32,
+    },
+}

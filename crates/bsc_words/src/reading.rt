@@ -1,0 +1,202 @@
+//! What some words ask for.
+ghost use Rattle.std.specs.Prelude.{◌≡◌, ◌≢◌, [], Some, None, Err, true, IfOk, codes, map, option_map, string_bytes};
+ghost use Rattle.clap.specs.Words.{app_of, fault_of, first_of, found_of, is_simple_and_free, matches_of, rows_of};
+ghost use Rattle.bsc_words.specs.declared.fault.WordsFault.TheVariants as words_fault;
+ghost use Rattle.bsc_words.specs.Words.{sessions_of, workers_of, hub_of, node_of, load_of, run_of, asked_by, seen};
+ghost use Rattle.bsc_words.specs.Words.{replay_asked, check_asked, hub_asked, node_asked, load_asked};
+
+use crate::arguments::{hub_arguments, load_arguments, no_arguments, node_arguments};
+use crate::asked::Asked;
+use crate::fault::WordsFault;
+use bsc_text::read_number;
+use clap::error::ErrorKind;
+use clap::{ArgMatches, Command};
+use std::alloc::Global;
+
+/// What `clap` finds in words as the arguments of a command.
+fn parse<'a>(command: Command<'a>, words: &'a [String]) -> Result<ArgMatches<'a>, WordsFault>
+    requires { is_simple_and_free (app_of command) ≡ true }
+    ensures fine { IfOk result (λ _. fault_of (app_of command.entry) (map string_bytes words.entry.now) ≡ []) }
+    ensures found { IfOk result (λ m. rows_of (found_of m) ≡ matches_of (app_of command.entry) (map string_bytes words.entry.now)) }
+    ensures refused { result ≡ Err words_fault.Refused
+        → fault_of (app_of command.entry) (map string_bytes words.entry.now) ≢ [] }
+{
+    match command.try_get_matches_from(words) {
+        Ok(matches) => Ok(matches),
+        Err(error) => {
+            if error.kind() == ErrorKind::OutOfMemory {
+                Err(WordsFault::NoMemory)
+            } else {
+                Err(WordsFault::Refused)
+            }
+        }
+    }
+}
+
+/// The number of sessions that a word says.
+fn read_sessions(word: &[u8]) -> Option<u64>
+    ensures { result ≡ sessions_of word.now }
+{
+    let number = read_number(word)?;
+    if 1 <= number && number <= 1_000_000 {
+        Some(number)
+    } else {
+        None
+    }
+}
+
+/// The number of workers that a word says.
+fn read_workers(word: &[u8]) -> Option<u32>
+    ensures { result ≡ workers_of word.now }
+{
+    let number = read_number(word)?;
+    if 1 <= number && number <= 512 {
+        Some(number as u32)
+    } else {
+        None
+    }
+}
+
+/// A hub by its path and what is said of its sessions.
+fn hub_of<'a>(path: Option<&'a str>, sessions: Option<&'a str>) -> Option<Asked<'a>>
+    ensures { option_map seen result ≡ hub_of (option_map (λ s. s.now) path.entry) (option_map (λ s. s.now) sessions.entry) }
+{
+    let path = path?;
+    match sessions {
+        Some(word) => Some(Asked::Hub {
+            path,
+            sessions: Some(read_sessions(word.as_bytes())?),
+        }),
+        None => Some(Asked::Hub {
+            path,
+            sessions: None,
+        }),
+    }
+}
+
+/// A node by its path and its script.
+fn node_of<'a>(path: Option<&'a str>, script: Option<&'a str>) -> Option<Asked<'a>>
+    ensures { option_map seen result ≡ node_of (option_map (λ s. s.now) path.entry) (option_map (λ s. s.now) script.entry) }
+{
+    Some(Asked::Node {
+        path: path?,
+        script: script?,
+    })
+}
+
+/// A workload by its workers.
+fn load_of<'a>(workers: Option<&'a str>) -> Option<Asked<'a>>
+    ensures { option_map seen result ≡ load_of (option_map (λ s. s.now) workers.entry) }
+{
+    Some(Asked::Load {
+        workers: read_workers(workers?.as_bytes())?,
+    })
+}
+
+/// What an argument has.
+fn value_at<'a>(matches: &ArgMatches<'a>, id: &str) -> Option<&'a str>
+    ensures { option_map (λ s. s.now) result ≡ first_of id.now (rows_of (found_of matches.now)) }
+{
+    matches.get_str(id)
+}
+
+/// The command `replay`, if that is what the words say.
+fn read_replay<'a>(alloc: Global, words: &'a [String]) -> Result<Asked<'a>, WordsFault>
+    ensures ok { IfOk result (λ a. replay_asked (map string_bytes words.entry.now) ≡ Some (seen a)) }
+    ensures refused { result ≡ Err words_fault.Refused → replay_asked (map string_bytes words.entry.now) ≡ None }
+{
+    parse(no_arguments(alloc, "replay"), words)?;
+    Ok(Asked::Replay)
+}
+
+/// The command `check`, if that is what the words say.
+fn read_check<'a>(alloc: Global, words: &'a [String]) -> Result<Asked<'a>, WordsFault>
+    ensures ok { IfOk result (λ a. check_asked (map string_bytes words.entry.now) ≡ Some (seen a)) }
+    ensures refused { result ≡ Err words_fault.Refused → check_asked (map string_bytes words.entry.now) ≡ None }
+{
+    parse(no_arguments(alloc, "check"), words)?;
+    Ok(Asked::Check)
+}
+
+/// The command `hub`, if that is what the words say.
+fn read_hub<'a>(alloc: Global, words: &'a [String]) -> Result<Asked<'a>, WordsFault>
+    ensures ok { IfOk result (λ a. hub_asked (map string_bytes words.entry.now) ≡ Some (seen a)) }
+    ensures refused { result ≡ Err words_fault.Refused → hub_asked (map string_bytes words.entry.now) ≡ None }
+{
+    let matches = parse(hub_arguments(alloc)?, words)?;
+    match hub_of(value_at(&matches, "path"), value_at(&matches, "sessions")) {
+        Some(asked) => Ok(asked),
+        None => Err(WordsFault::Refused),
+    }
+}
+
+/// The command `node`, if that is what the words say.
+fn read_node<'a>(alloc: Global, words: &'a [String]) -> Result<Asked<'a>, WordsFault>
+    ensures ok { IfOk result (λ a. node_asked (map string_bytes words.entry.now) ≡ Some (seen a)) }
+    ensures refused { result ≡ Err words_fault.Refused → node_asked (map string_bytes words.entry.now) ≡ None }
+{
+    let matches = parse(node_arguments(alloc)?, words)?;
+    match node_of(value_at(&matches, "path"), value_at(&matches, "script")) {
+        Some(asked) => Ok(asked),
+        None => Err(WordsFault::Refused),
+    }
+}
+
+/// The command `load`, if that is what the words say.
+fn read_load<'a>(alloc: Global, words: &'a [String]) -> Result<Asked<'a>, WordsFault>
+    ensures ok { IfOk result (λ a. load_asked (map string_bytes words.entry.now) ≡ Some (seen a)) }
+    ensures refused { result ≡ Err words_fault.Refused → load_asked (map string_bytes words.entry.now) ≡ None }
+{
+    let matches = parse(load_arguments(alloc)?, words)?;
+    match load_of(value_at(&matches, "workers")) {
+        Some(asked) => Ok(asked),
+        None => Err(WordsFault::Refused),
+    }
+}
+
+/// What the words ask for, if the command that they name runs a hub, a node or a workload.
+fn read_run<'a>(alloc: Global, name: &[u8], words: &'a [String]) -> Result<Asked<'a>, WordsFault>
+    ensures ok { IfOk result (λ a. run_of name.now (map string_bytes words.entry.now) ≡ Some (seen a)) }
+    ensures refused { result ≡ Err words_fault.Refused → run_of name.now (map string_bytes words.entry.now) ≡ None }
+{
+    if name == b"hub".as_slice() {
+        return read_hub(alloc, words);
+    }
+    if name == b"node".as_slice() {
+        return read_node(alloc, words);
+    }
+    if name == b"load".as_slice() {
+        return read_load(alloc, words);
+    }
+    Err(WordsFault::Refused)
+}
+
+/// What the words of the program ask for, the program's own name not among them.
+///
+/// The first word is `replay`, `check`, `hub`, `node` or `load`, and the words after it are read by `clap` as the arguments
+/// of that command: `hub` takes a path, and `--sessions` with a number from 1 to 1,000,000; `node` a path and the path of a
+/// script; `load` a number from 1 to 512; the other two take none. A call for help is refused.
+///
+/// | error | when it comes |
+/// |---|---|
+/// | `Refused` | only where the words ask for nothing; where they ask for nothing, only this or `NoMemory` |
+/// | `NoMemory` | memory ran out |
+pub fn read_words<'a>(alloc: Global, words: &'a [String]) -> Result<Asked<'a>, WordsFault>
+    // An answer is what the words ask for.
+    ensures ok { IfOk result (λ a. asked_by (map string_bytes words.entry.now) ≡ Some (seen a)) }
+
+    // Words that are refused ask for nothing.
+    ensures refused { result ≡ Err words_fault.Refused → asked_by (map string_bytes words.entry.now) ≡ None }
+{
+    let Some(name) = words.first() else {
+        return Err(WordsFault::Refused);
+    };
+    let name = name.as_bytes();
+    if name == b"replay".as_slice() {
+        return read_replay(alloc, words);
+    }
+    if name == b"check".as_slice() {
+        return read_check(alloc, words);
+    }
+    read_run(alloc, name, words)
+}

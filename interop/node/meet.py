@@ -1,0 +1,50 @@
+#!/usr/bin/env python3
+"""Nodes of `./bsc node` at two hubs of `./bsc hub` that are killed and started again, and one at a hub by another library."""
+import asyncio
+import sys
+import tempfile
+from pathlib import Path
+
+sys.dont_write_bytecode = True
+ROOT = Path(__file__).resolve().parents[2]
+sys.path += [str(ROOT / "bench" / "live"), str(ROOT / "interop" / "hub")]
+from live import Failed, TooBusy  # noqa: E402
+from nodes import Network, Watch  # noqa: E402
+import other_hub  # noqa: E402
+
+# How long the nodes run, in seconds, and how often each sends, in milliseconds.
+SECONDS, EVERY = 26, 100
+
+
+def at_hubs(folder):
+    with Network(folder, SECONDS, EVERY) as network:
+        network.begin()
+        network.fail_over_and_back()
+        if network.left() < 4:
+            raise TooBusy("the hubs came back too late")
+        sent, came = network.end()
+    return f"of {sent} NPDUs of three nodes {came} came, each once and as it was sent, the others while no hub was there for them"
+
+
+def at_other_hub(folder):
+    watch = Watch()
+    try:
+        came = asyncio.run(other_hub.meet(folder))
+    except Failed as why:
+        watch.judge(str(why))
+    finally:
+        watch.is_over = True
+    return f"{came} came back from a hub by websockets"
+
+
+def main():
+    with tempfile.TemporaryDirectory() as folder:
+        print(f"check-node: {at_hubs(folder)}; {at_other_hub(folder)}")
+
+
+try:
+    main()
+except TooBusy as why:
+    print(f"check-node: not all of it could be met, the machine is too busy: {why}")
+except Failed as why:
+    sys.exit(f"check-node: {why}")
