@@ -20,6 +20,9 @@ pub trait Files {
     /// Reads the whole file at a path.
     fn load(&mut self, alloc: Global, path: &str) -> Result<Octets, FileFault>
         ensures given { IfOk result (λ o. holds self.old path.now o) }
+
+        // What the files hold, they held before: a load writes nothing.
+        ensures stays { (other o : List ℕ) → holds self.new other o → holds self.old other o }
         ensures later { faults self.old ≤ faults self.new }
         ensures failed { result ≡ Err FileFault.Failed → HasRisen (faults self.old) (faults self.new) };
 }

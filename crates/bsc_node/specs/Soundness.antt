@@ -1,6 +1,6 @@
 -- How a log is tied together: what it says of the parts, of the links, of the slots and of the user fits, after each
 -- event. Each tie can be computed. They are what a node keeps from one event to the next.
-use Rattle.std.specs.Prelude.{ℕ, ◌+◌, ◌*◌, ◌%◌, ◌==◌, nat_eq, Bool, true, false, not, ◌&&◌, ◌||◌, if◌then◌else◌, IsTrue, List, [], ◌∷◌, ◌++◌, fold, length, map, filter, filter_map, slice_index, Option, Some, None, is_some, is_none, unwrap_or}
+use Rattle.std.specs.Prelude.{ℕ, ◌+◌, ◌*◌, ◌%◌, ◌==◌, nat_eq, Bool, true, false, not, ◌&&◌, ◌||◌, if◌then◌else◌, List, [], ◌∷◌, ◌++◌, fold, length, map, filter, filter_map, slice_index, Option, Some, None, is_some, is_none, unwrap_or}
 use Rattle.std.specs.List.{list_all, list_any, range_with_len}
 use Rattle.std.specs.Cmp.Lexicographic.{pointwise}
 use Rattle.bsc_octets.specs.declared.identity.Identity.{Identity}
@@ -33,8 +33,8 @@ use Rattle.bsc_node.specs.Links.{names, is_there, none_there, was_taken, phase, 
 use Rattle.bsc_node.specs.Hubs.{waits, hub_events, hub_use, is_up, is_tried, is_dropped, same_use}
 use Rattle.bsc_node.specs.Ways.{slot_calls, established_peer, wanted}
 use Rattle.bsc_node.specs.Meeting.{refusing_side}
-use Rattle.bsc_node.specs.Node.{goes_on, log}
-use Rattle.bsc_node.specs.Conditions.{is_start, may_come, may_all_come, awaits_word}
+use Rattle.bsc_node.specs.Node.{goes_on}
+use Rattle.bsc_node.specs.Conditions.{is_start, awaits_word}
 
 -- whether the second is so wherever the first is
 abbrev pub implies : Bool → Bool → Bool
@@ -269,11 +269,3 @@ checked_on a c L = record { log = L; fine = c.fine && is_sound a L }
 -- Whether the log is sound after each of these events.
 abbrev pub is_always_sound : Made → List TimedEvent → Bool
 is_always_sound a events = (fold (λ (c : Checked) e. checked_on a c (c.log ++ goes_on a e c.log)) (record { log = []; fine = true }) events).fine
-
--- The log of a node that may be made so, to which only events came that may come, is sound.
-abbrev pub LogIsSound : Made → Type 0
-LogIsSound a = (events : List TimedEvent) → IsTrue (may_all_come a events) → IsTrue (is_sound a (log a events))
-
--- A sound log stays sound by an event that may come: soundness needs nothing but itself.
-abbrev pub SoundnessIsKept : Made → Type 0
-SoundnessIsKept a = (L : Log) (e : TimedEvent) → IsTrue (is_sound a L) → IsTrue (may_come L e) → IsTrue (is_sound a (L ++ goes_on a e L))

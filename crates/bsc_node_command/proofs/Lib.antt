@@ -1,3 +1,5 @@
 mod Later
 mod Bound
+mod Defined
 mod Statuses
+mod Ended

@@ -1,9 +1,10 @@
 -- What a status says of a run.
-use Rattle.std.proofs.Common.{◌≡◌, ◌⊎◌, inl, inr, ⊎_elim, ℕ, List, map, length, Option, is_some, Result, Ok, Err, IfOk, sym, ◌∙◌, arith}
+use Rattle.std.proofs.Common.{◌≡◌, ◌⊎◌, inl, inr, ⊎_elim, ℕ, List, [], map, length, Option, is_some, Result, Ok, Err, IfOk, sym, ◌∙◌, arith}
 use Rattle.bsc_edge.specs.declared.dialled.Dialled.{Dialled}
 use Rattle.bsc_edge.specs.declared.said.Said.{Said}
 use Rattle.bsc_edge.specs.Told.{Grows}
 use Rattle.bsc_settings.specs.declared.node.NodeSettings.{NodeSettings}
+use Rattle.bsc_node.specs.Logs.{Log}
 use Rattle.bsc_node_run.specs.declared.due.Due.{Due}
 use Rattle.bsc_node_run.specs.declared.halt.Halt.{Halt}
 use Rattle.bsc_node_run.specs.declared.halt.Halt.TheVariants.{WriteFault, AcceptFault, NoMemory}
@@ -11,9 +12,9 @@ use Rattle.bsc_node_run.specs.declared.run_end.RunEnd.{RunEnd}
 use Rattle.bsc_node_run.specs.declared.run_end.RunEnd.TheVariants.{Finished, Spent}
 use Rattle.bsc_node_run.specs.Running.{Run}
 use Rattle.bsc_node_run.specs.Scripts.{Wish, script_of, wish_of}
-use Rattle.bsc_node_command.specs.declared.running_node.RunningNode.{RunningNode}
+use Rattle.bsc_node_runs.specs.Courses.{Goes}
 use Rattle.bsc_node_command.specs.Lines.{SaysEnd}
-use Rattle.bsc_node_command.specs.Comes.{AnswersAt, Comes, NotRun}
+use Rattle.bsc_node_command.specs.Comes.{made_by, Comes, NotRun}
 
 -- a script is good or has a bad line
 good_or_bad : (r : Result (List Wish) ℕ) (lines : List Wish) (n : ℕ) → r ≡ Ok lines → r ≡ Err n → ⊥
@@ -51,14 +52,14 @@ module _ {L : Type 0} (talk : L → Option (List Said)) where
   refused_so v script c c' l l' p p' t t' f f' s b b' (inl k) n bad = none_refused v script p p' f f' s b b' k.3 n bad
   refused_so v script c c' l l' p p' t t' f f' s b b' (inr r) n bad = absurd (good_or_bad (script_of script) (map wish_of r.lines) n r.reads bad)
 
-  spent_turns : (v : NodeSettings) (lines : List Due) (first last : RunningNode) (end : Result RunEnd Halt) (c c' : Option (List Dialled)) (l l' : Option (List L)) (t t' : Option (List ℕ)) (s : ℕ) (b b' b'' : Option (List ℕ))
-      → IfOk end (λ e. Run AnswersAt talk (is_some v.direct_port) e v.turns lines first c b l t last c' b' l' t') → SaysEnd end s b' b'' → s ≡ 8 → (times : List ℕ) × Grows t t' times × (length times ≡ v.turns)
-  spent_turns v lines first last (Ok Finished) c c' l l' t t' s b b' b'' run h is = absurd (omega (arith, h.0, is))
-  spent_turns v lines first last (Ok Spent) c c' l l' t t' s b b' b'' run h is = (run.times, run.readings, run.ends.0)
-  spent_turns v lines first last (Err WriteFault) c c' l l' t t' s b b' b'' run h is = absurd (omega (arith, h.0, is))
-  spent_turns v lines first last (Err AcceptFault) c c' l l' t t' s b b' b'' run h is = absurd (⊎_elim (λ k. omega (arith, k.0, is)) (λ k. omega (arith, k.0, is)) h)
-  spent_turns v lines first last (Err NoMemory) c c' l l' t t' s b b' b'' run h is = absurd (omega (arith, h.0, is))
+  spent_turns : (v : NodeSettings) (lines : List Due) (last : Log) (end : Result RunEnd Halt) (c c' : Option (List Dialled)) (l l' : Option (List L)) (t t' : Option (List ℕ)) (s : ℕ) (b b' b'' : Option (List ℕ))
+      → IfOk end (λ e. Run (Goes (made_by v)) talk (is_some v.direct_port) e v.turns lines [] c b l t last c' b' l' t') → SaysEnd end s b' b'' → s ≡ 8 → (times : List ℕ) × Grows t t' times × (length times ≡ v.turns)
+  spent_turns v lines last (Ok Finished) c c' l l' t t' s b b' b'' run h is = absurd (omega (arith, h.0, is))
+  spent_turns v lines last (Ok Spent) c c' l l' t t' s b b' b'' run h is = (run.times, run.readings, run.ends.0)
+  spent_turns v lines last (Err WriteFault) c c' l l' t t' s b b' b'' run h is = absurd (omega (arith, h.0, is))
+  spent_turns v lines last (Err AcceptFault) c c' l l' t t' s b b' b'' run h is = absurd (⊎_elim (λ k. omega (arith, k.0, is)) (λ k. omega (arith, k.0, is)) h)
+  spent_turns v lines last (Err NoMemory) c c' l l' t t' s b b' b'' run h is = absurd (omega (arith, h.0, is))
 
   pub spent_so : (v : NodeSettings) (script : List ℕ) (c c' : Option (List Dialled)) (l l' : Option (List L)) (p p' : Option (Option ℕ)) (t t' : Option (List ℕ)) (f f' s : ℕ) (b b' : Option (List ℕ)) → Comes talk v script c c' l l' p p' t t' f f' s b b' → s ≡ 8 → (times : List ℕ) × Grows t t' times × (length times ≡ v.turns)
   spent_so v script c c' l l' p p' t t' f f' s b b' (inl k) is = absurd (none_spent v script p p' f f' s b b' k.3 is)
-  spent_so v script c c' l l' p p' t t' f f' s b b' (inr r) is = spent_turns v r.lines r.first r.last r.end c c' r.left l' t t' s b r.written b' r.run r.says is
+  spent_so v script c c' l l' p p' t t' f f' s b b' (inr r) is = spent_turns v r.lines r.last r.end c c' r.left l' t t' s b r.written b' r.run r.says is

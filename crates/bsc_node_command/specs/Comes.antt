@@ -3,20 +3,23 @@ use Rattle.std.specs.Prelude.{◌≡◌, ℕ, ◌⊎◌, List, [], map, Option, 
 use Rattle.bsc_outside.specs.Faults.{HasRisen}
 use Rattle.bsc_edge.specs.declared.dialled.Dialled.{Dialled}
 use Rattle.bsc_edge.specs.declared.said.Said.{Said}
-use Rattle.bsc_edge.specs.Told.{Stays, Tells}
+use Rattle.bsc_edge.specs.Told.{Grows, Stays, Tells}
 use Rattle.bsc_player.specs.LastLines.{EndsWith, RanOut, script_line}
 use Rattle.bsc_settings.specs.declared.node.NodeSettings.{NodeSettings}
 use Rattle.bsc_settings.specs.Parts.{node_identity_of, node_times_of}
 use Rattle.bsc_node.specs.declared.node_limits.NodeLimits.{NodeLimits}
 use Rattle.bsc_node.specs.declared.node_event.NodeEvent.{NodeEvent}
 use Rattle.bsc_node.specs.declared.action.Action.{Action}
-use Rattle.bsc_node.specs.Logs.{Made}
-use Rattle.bsc_node_core.specs.Node.{Answers, StandsFor}
+use Rattle.bsc_node.specs.Logs.{Made, Log}
+use Rattle.bsc_node_core.specs.Node.{Answers}
 use Rattle.bsc_node_run.specs.declared.due.Due.{Due}
 use Rattle.bsc_node_run.specs.declared.halt.Halt.{Halt}
 use Rattle.bsc_node_run.specs.declared.run_end.RunEnd.{RunEnd}
 use Rattle.bsc_node_run.specs.Running.{Run}
 use Rattle.bsc_node_run.specs.Scripts.{script_of, wish_of}
+use Rattle.bsc_node_runs.specs.Alone.{NoLinkCame, alone}
+use Rattle.bsc_node_runs.specs.Courses.{Goes}
+use Rattle.bsc_node_runs.specs.Said.{EndsAsTold, IsSaid}
 use Rattle.bsc_node_command.specs.declared.running_node.RunningNode.{RunningNode}
 use Rattle.bsc_node_command.specs.Lines.{Says, SaysEnd, link_line}
 use Rattle.bsc_node_command.specs.Settled.{IsSettled, Unread, Unsettled}
@@ -54,21 +57,25 @@ NotRun v script p p' f f' s before after =
 
 module _ {L : Type 0} (talk : L → Option (List Said)) where
   -- A node of the settings to which nothing had come was run, with the lines of the script, and the acceptor is bound by the
-  -- settings. A run that came to its end was a whole run of the node, with the turns of the settings; it accepts links
-  -- exactly where they have a port. What it wrote stands before what is written of its end.
+  -- settings. A run that came to its end was a whole run of a node as its definition has it: each event that came to it is
+  -- one that may come, and what was done is what the definition asks for. It made as many turns as the settings allow at
+  -- most, and accepts links exactly where they have a port. What the node of that log told is what was written, and what it
+  -- dialled is what was dialled; it told that it has ended exactly where the run is finished. Where no link came, the
+  -- log is that of a node alone, by the readings of the clock and the lines of the script. What the run wrote stands before
+  -- what is written of its end.
   pub record Ran (v : NodeSettings) (script : List ℕ) (c c' : Option (List Dialled)) (l l' : Option (List L)) (p p' : Option (Option ℕ))
       (t t' : Option (List ℕ)) (s : ℕ) (b b' : Option (List ℕ)) : Type 0 where
     pub lines : List Due
     pub reads : script_of script ≡ Ok (map wish_of lines)
-    pub first : RunningNode
-    pub last : RunningNode
+    pub last : Log
     pub end : Result RunEnd Halt
     pub left : Option (List L)
     pub written : Option (List ℕ)
     pub bound : IsBoundBy v.direct_port p p'
-    pub made : StandsFor first.node (made_by v) []
     pub stays : Stays l left
-    pub run : IfOk end (λ e. Run AnswersAt talk (is_some v.direct_port) e v.turns lines first c b left t last c' written l' t')
+    pub run : IfOk end (λ e. Run (Goes (made_by v)) talk (is_some v.direct_port) e v.turns lines [] c b left t last c' written l' t')
+    pub said : IfOk end (λ e. IsSaid last c c' b written × EndsAsTold e last)
+    pub lonely : IfOk end (λ e. NoLinkCame c c' left l' → (times : List ℕ) × Grows t t' times × (last ≡ alone (made_by v) lines times))
     pub says : SaysEnd end s written b'
 
   -- Either no node was run, nothing was dialled, no link was taken and the clock wasn't read; or a node was run.

@@ -1,6 +1,9 @@
 //! The command over files of settings and of the script.
-ghost use Rattle.std.specs.Prelude.{◌≡◌, ◌≤◌, ◌⊎◌, IfErr, IfOk};
+ghost use Rattle.std.specs.Prelude.{◌≡◌, ◌≤◌, ◌⊎◌, map, Ok, IfErr, IfOk, List, ℕ};
 ghost use Rattle.bsc_outside.specs.Faults.{HasRisen};
+ghost use Rattle.bsc_node_run.specs.declared.due.Due.{Due};
+ghost use Rattle.bsc_node_run.specs.Scripts.{script_of, wish_of};
+ghost use Rattle.bsc_node_runs.specs.Courses.{FinishCame};
 ghost use Rattle.bsc_node_command.specs.Lines.{Says, settings_line};
 ghost use Rattle.bsc_node_command.specs.Settled.{IsSettled, Unread, Unsettled};
 ghost use Rattle.bsc_node_command.specs.Comes.{Comes, RunsScript, RunsFiles};
@@ -59,6 +62,7 @@ fn load_settings<K: Sink, F: Files>(
     sink: &mut K,
 ) -> Result<NodeSettings, u8>
     ensures settled { IfOk result (λ v. IsSettled (F.holds files.old path.now) v × (K.held sink.new ≡ K.held sink.old)) }
+    ensures stays { (other o : List ℕ) → F.holds files.new other o → F.holds files.old other o }
     ensures unsettled { IfErr result (λ s. Unsettled (F.holds files.old path.now) (F.faults files.old) (F.faults files.new) s
         (K.held sink.old) (K.held sink.new)) }
     ensures read { IfErr result (λ s. s ≡ 3 → HasRisen (F.faults files.old) (F.faults files.new)) }
@@ -137,12 +141,15 @@ pub fn run_node_files<
     acceptor: &mut A,
     dialer: &mut D,
 ) -> u8
-    // The file of settings wasn't read or was refused; or a node of them was run by the script, where that was read, of the
-    // files as they were between the two loads.
-    ensures runs { (between : F) × RunsFiles L.talk (F.holds files.old words.entry.path.now) (F.holds between words.entry.script.now)
+    // The file of settings wasn't read or was refused; or a node of them was run by the script, where that was read.
+    ensures runs { RunsFiles L.talk (F.holds files.old words.entry.path.now) (F.holds files.old words.entry.script.now)
         (F.faults files.old) (F.faults files.new) (D.calls dialer.old) (D.calls dialer.new) (A.left acceptor.old) (A.left acceptor.new)
         (A.bound acceptor.old) (A.bound acceptor.new) (C.readings clock.old) (C.readings clock.new)
         (A.faults acceptor.old) (A.faults acceptor.new) result (K.held sink.old) (K.held sink.new) }
+
+    // Status 0 comes only once the time of the script's `finish` has passed, from the first reading of the clock to the last.
+    ensures finished { result ≡ 0 → (script : List ℕ) × F.holds files.old words.entry.script.now script
+        × (lines : List Due) × (script_of script ≡ Ok (map wish_of lines)) × FinishCame lines (C.readings clock.old) (C.readings clock.new) }
     ensures read { result ≡ 3 → HasRisen (F.faults files.old) (F.faults files.new) }
     ensures write { result ≡ 4 → HasRisen (K.faults sink.old) (K.faults sink.new) }
     ensures link { result ≡ 6 → HasRisen (A.faults acceptor.old) (A.faults acceptor.new) }

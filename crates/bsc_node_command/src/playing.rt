@@ -5,7 +5,9 @@ ghost use Rattle.bsc_edge.specs.Told.{Grows, Stays};
 ghost use Rattle.bsc_node_core.specs.Node.{StandsFor};
 ghost use Rattle.bsc_node_run.specs.declared.halt.Halt.{Halt as HaltType};
 ghost use Rattle.bsc_node_command.specs.Lines.{SaysEnd};
+ghost use Rattle.bsc_node_run.specs.declared.due.Due.{Due};
 ghost use Rattle.bsc_node_run.specs.Scripts.{script_of, wish_of};
+ghost use Rattle.bsc_node_runs.specs.Courses.{FinishCame};
 ghost use Rattle.bsc_node_command.specs.Comes.{made_by, Comes, IsBoundBy, Ran};
 
 use crate::making::make_node;
@@ -185,6 +187,9 @@ pub fn run_node<K: Sink, C: Clock, W: Words, L: Link + Drop, A: Acceptor<L>, D: 
     // line failed or memory ran out.
     ensures bad { result ≡ 2 → (n : ℕ) × (script_of script.now ≡ Err n) }
     ensures refuses { (n : ℕ) → script_of script.now ≡ Err n → (result ≡ 2) ⊎ (result ≡ 4) ⊎ (result ≡ 7) }
+
+    // Status 0 comes only once the time of the script's `finish` has passed, from the first reading of the clock to the last.
+    ensures finished { result ≡ 0 → (lines : List Due) × (script_of script.now ≡ Ok (map wish_of lines)) × FinishCame lines (C.readings clock.old) (C.readings clock.new) }
 
     // Status 8 comes only where the clock was read as often as the settings allow turns.
     ensures spent { result ≡ 8 → (times : List ℕ) × Grows (C.readings clock.old) (C.readings clock.new) times × (length times ≡ settings.now.turns) }

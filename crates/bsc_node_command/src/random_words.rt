@@ -1,4 +1,6 @@
 //! Random words of the system.
+ghost use Rattle.std.specs.Prelude.{◌≡◌, ⊤};
+
 use bsc_node_run::Words;
 use bsc_outside::Failed;
 use std::random::RandomSource;
@@ -11,12 +13,18 @@ pub struct RandomWords<R: RandomSource + Drop> {
 }
 
 impl<R: RandomSource + Drop> RandomWords<R> {
-    pub fn new(source: R) -> RandomWords<R> {
+    pub fn new(source: R) -> RandomWords<R>
+        ensures source { result.source ≡ source }
+        ensures faults { result.faults ≡ 0 }
+    {
         RandomWords { source, faults: 0 }
     }
 }
 
 impl<R: RandomSource + Drop> Words for RandomWords<R> {
+    // Nothing tells which octets a source of the system gives.
+    ghost gives = { λ before word after. ⊤ };
+
     ghost faults = { λ w. w.faults };
 
     fn next(&mut self) -> Result<u64, Failed> {

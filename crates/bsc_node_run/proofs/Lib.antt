@@ -8,4 +8,5 @@ pub mod Runs
 pub mod Pieces
 pub mod Behind
 pub mod Told
+pub mod Asked
 pub mod WorkedScripts

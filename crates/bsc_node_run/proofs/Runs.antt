@@ -1,13 +1,12 @@
 -- Whole runs, from their turns.
-use Rattle.std.proofs.Common.{◌≡◌, ◌≤◌, ◌<◌, ℕ, zero, suc, ◌+◌, Bool, true, false, List, [], ◌∷◌, ◌++◌, length, Option, Some, None, refl, ap, sym, ◌∙◌, subst, append_assoc, append-nil, arith, unwrap_or}
+use Rattle.std.proofs.Common.{◌≡◌, ◌≤◌, ◌<◌, ◌^◌, ℕ, ◌+◌, Bool, false, List, [], ◌∷◌, ◌++◌, length, Option, Some, None, refl, ap, sym, ◌∙◌, subst, append_assoc, append-nil, arith, unwrap_or}
 use Rattle.std.proofs.lemmas.List.{length-append}
-use Rattle.bsc_edge.specs.declared.dialled.Dialled.{Dialled}
 use Rattle.bsc_edge.specs.declared.said.Said.{Said}
 use Rattle.bsc_edge.specs.Told.{Grows}
 use Rattle.bsc_node.specs.declared.node_event.NodeEvent.{NodeEvent}
 use Rattle.bsc_node.specs.declared.action.Action.{Action}
 use Rattle.bsc_node_run.specs.declared.due.Due.{Due}
-use Rattle.bsc_node_run.specs.Running.{Turns}
+use Rattle.bsc_node_run.specs.Running.{DontFall, Turns}
 use Rattle.bsc_node_run.specs.Turning.{Turn}
 use Rattle.bsc_node_run.specs.Worlds.{World}
 use Rattle.bsc_node_run.proofs.Turns.{same}
@@ -24,6 +23,25 @@ grows_then (Some o) (Some m) (Some n) xs ys a b = b ∙ ap (λ l. l ++ ys) a ∙
 
 pub one_longer : (times : List ℕ) (now made : ℕ) → length times ≡ made → length (times ++ now ∷ []) ≡ made + 1
 one_longer times now made e = length-append times (now ∷ []) ∙ ap (λ n. n + 1) e
+
+-- ---- readings that don't fall
+
+-- They don't fall from an earlier time either.
+pub rise_before : (a b : ℕ) (times : List ℕ) → a ≤ b → DontFall b times → DontFall a times
+rise_before a b [] le r = tt
+rise_before a b (t ∷ times) le (from, below, more) = (omega (arith, le, from), below, more)
+
+-- Those from here on go on with these and one reading more.
+pub rise_more : (from : ℕ) (times : List ℕ) (old now new : ℕ) → ((more : List ℕ) → DontFall old more → DontFall from (times ++ more))
+    → old ≤ now → now < 2 ^ 62 → new ≡ now → (more : List ℕ) → DontFall new more → DontFall from ((times ++ now ∷ []) ++ more)
+rise_more from times old now new made le below is more r =
+    subst (λ ts. DontFall from ts) (sym (append_assoc times (now ∷ []) more)) (made (now ∷ more) (le, below, subst (λ t. DontFall t more) is r))
+
+-- Those that were made, and no more.
+pub rise_all : (from : ℕ) (times : List ℕ) (old : ℕ) → ((more : List ℕ) → DontFall old more → DontFall from (times ++ more)) → DontFall from times
+rise_all from times old made = subst (λ ts. DontFall from ts) (append-nil times) (made [] tt)
+
+-- ---- turns
 
 module _ {N L : Type 0} (goes : N → ℕ → NodeEvent → List Action → N → Type 0) (talk : L → Option (List Said)) (listens : Bool) where
   -- One turn more behind those that were made.

@@ -1,5 +1,5 @@
 -- The parts of a turn, from what its steps did.
-use Rattle.std.proofs.Common.{◌≡◌, ◌≤◌, ◌<◌, inl, inr, ℕ, zero, suc, ◌+◌, ◌-◌, Bool, true, false, not, ◌&&◌, IsTrue, List, [], ◌∷◌, ◌++◌, length, Option, Some, None, is_some, Result, Ok, Err, IfOk, get_or, take, drop, refl, ap, sym, ◌∙◌, subst, arith}
+use Rattle.std.proofs.Common.{◌≡◌, ◌≤◌, ◌<◌, ℕ, suc, ◌+◌, ◌-◌, true, false, not, ◌&&◌, List, [], ◌∷◌, length, Option, Some, None, is_some, Result, Ok, Err, IfOk, get_or, take, drop, refl, ap, sym, ◌∙◌, subst, arith}
 use Rattle.std.specs.List.{list_any}
 use Rattle.std.proofs.lemmas.Bool.{false≢true}
 use Rattle.std.proofs.lemmas.List.{take_all}
@@ -19,7 +19,7 @@ use Rattle.bsc_node.specs.declared.action.Action.{Action}
 use Rattle.bsc_node_run.specs.declared.due.Due.{Due}
 use Rattle.bsc_node_run.specs.declared.news.News.{News}
 use Rattle.bsc_node_run.specs.Receiving.{Received, WasGiven, left_by, told_of}
-use Rattle.bsc_node_run.specs.Turning.{AreDue, Gives, GivesIn, GivesLines, GivesNews, Hears, HearsEach, HearsIf, HearsOf, IsNotDue, event_of, slots_from}
+use Rattle.bsc_node_run.specs.Turning.{Gives, GivesIn, Hears, HearsEach, HearsIf, HearsOf, IsNotDue, slots_from}
 use Rattle.bsc_node_run.specs.Worlds.{World, Same, is_of, is_open, with_link, ends}
 
 pub on_if : {T E : Type 0} {P Q : T → Type 0} (r : Result T E) → ((x : T) → P x → Q x) → IfOk r P → IfOk r Q
@@ -137,3 +137,7 @@ module _ {N L : Type 0} (goes : N → ℕ → NodeEvent → List Action → N �
   pub slot_more : (left rest k : ℕ) (n p m : N) (w x v : World L) → left ≡ suc rest → Hears goes talk now (Direct k) n w p x
       → HearsEach goes talk now (slots_from rest (k + 1)) p x m v → HearsEach goes talk now (slots_from left k) n w m v
   slot_more left rest k n p m w x v e h r = subst (λ c. HearsEach goes talk now (slots_from c k) n w m v) (sym e) (p, x, h, r)
+
+  -- no slot is left
+  pub slots_over : (left k : ℕ) (n : N) (w : World L) → left ≡ 0 → HearsEach goes talk now (slots_from left k) n w n w
+  slots_over left k n w e = subst (λ c. HearsEach goes talk now (slots_from c k) n w n w) (sym e) (refl, same w)

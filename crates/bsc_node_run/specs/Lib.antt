@@ -9,3 +9,4 @@ pub mod Putting
 pub mod Saying
 pub mod Scripts
 pub mod Reading
+pub mod Drawing

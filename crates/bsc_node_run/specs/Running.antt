@@ -1,5 +1,5 @@
 -- A whole run of a node: its turns.
-use Rattle.std.specs.Prelude.{◌≡◌, ℕ, Bool, true, false, List, [], ◌∷◌, Option, Some, None, length, unwrap_or}
+use Rattle.std.specs.Prelude.{◌≡◌, ◌≤◌, ◌<◌, ◌^◌, ℕ, Bool, true, false, List, [], ◌∷◌, Option, Some, None, length, unwrap_or, ⊤}
 use Rattle.bsc_edge.specs.declared.dialled.Dialled.{Dialled}
 use Rattle.bsc_edge.specs.declared.said.Said.{Said}
 use Rattle.bsc_edge.specs.Told.{Grows}
@@ -28,6 +28,11 @@ abbrev pub EndsSo : RunEnd → ℕ → List ℕ → Bool → Type 0
 EndsSo Finished turns times finished = finished ≡ true
 EndsSo Spent turns times finished = (length times ≡ turns) × (finished ≡ false)
 
+-- Readings of a clock don't fall, from this time on, and stay below 2^62.
+abbrev pub DontFall : ℕ → List ℕ → Type 0
+DontFall from [] = ⊤
+DontFall from (t ∷ times) = (from ≤ t) × (t < 2 ^ 62) × DontFall t times
+
 module _ {N L : Type 0} (goes : N → ℕ → NodeEvent → List Action → N → Type 0) (talk : L → Option (List Said)) (listens : Bool) where
   -- Turns at these times, one after the other. The script goes on in each where the one before left it, and its times
   -- count from the first turn. No turn comes after one in which the node told that it has ended.
@@ -49,4 +54,5 @@ module _ {N L : Type 0} (goes : N → ℕ → NodeEvent → List Action → N �
     pub dials : last.dialled ≡ dialled'
     pub holds : last.held ≡ held'
     pub readings : Grows told told' times
+    pub rise : DontFall 0 times
     pub ends : EndsSo end turns times last.finished

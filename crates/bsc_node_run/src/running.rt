@@ -3,6 +3,7 @@ ghost use Rattle.std.specs.Prelude.{◌≡◌, ◌≤◌, Err, IfOk};
 ghost use Rattle.bsc_outside.specs.Faults.{HasRisen};
 ghost use Rattle.bsc_edge.specs.Told.{Stays};
 ghost use Rattle.bsc_node_run.specs.declared.halt.Halt.{Halt as HaltType};
+ghost use Rattle.bsc_node_run.specs.Drawing.{GoesDrawing, at_rest};
 ghost use Rattle.bsc_node_run.specs.Running.{Run};
 
 use crate::due::Due;
@@ -16,7 +17,8 @@ use bsc_edge::{Acceptor, Clock, Dialer, Link};
 use bsc_outside::Sink;
 use std::alloc::Global;
 
-/// Runs a node: makes turns until the node tells that it has ended, up to this number of them.
+/// Runs a node: makes turns until the node tells that it has ended, up to this number of them. The times of the turns
+/// don't fall.
 #[tactic(auto, using(crate::proofs::Told::stays_then))]
 pub fn run_node<N: Core, K: Sink, C: Clock, W: Words, L: Link + Drop, A: Acceptor<L>, D: Dialer<L>>(
     alloc: Global,
@@ -30,8 +32,8 @@ pub fn run_node<N: Core, K: Sink, C: Clock, W: Words, L: Link + Drop, A: Accepto
     acceptor: &mut A,
     dialer: &mut D,
 ) -> Result<RunEnd, Halt>
-    ensures runs { IfOk result (λ end. Run N.goes L.talk listens end turns script.now node.old (D.calls dialer.old) (K.held sink.old) (A.left acceptor.old) (C.readings clock.old)
-        node.new (D.calls dialer.new) (K.held sink.new) (A.left acceptor.new) (C.readings clock.new)) }
+    ensures runs { IfOk result (λ end. Run (GoesDrawing N.goes W.gives W.faults) L.talk listens end turns script.now (at_rest node.old random.old) (D.calls dialer.old) (K.held sink.old) (A.left acceptor.old) (C.readings clock.old)
+        (at_rest node.new random.new) (D.calls dialer.new) (K.held sink.new) (A.left acceptor.new) (C.readings clock.new)) }
     ensures write { result ≡ Err HaltType.WriteFault → HasRisen (K.faults sink.old) (K.faults sink.new) }
     ensures accept { result ≡ Err HaltType.AcceptFault → HasRisen (A.faults acceptor.old) (A.faults acceptor.new) }
     ensures writes_later { K.faults sink.old ≤ K.faults sink.new }

@@ -3,6 +3,7 @@ ghost use Rattle.std.specs.Prelude.{◌≡◌, ◌≢◌, ◌<◌, ◌≤◌, �
 ghost use Rattle.bsc_outside.specs.Faults.{HasRisen};
 ghost use Rattle.bsc_node.specs.Conditions.{brings_word};
 ghost use Rattle.bsc_node_run.specs.declared.halt.Halt.{Halt as HaltType};
+ghost use Rattle.bsc_node_run.specs.Drawing.{Draws, GoesDrawing, at_rest};
 ghost use Rattle.bsc_node_run.specs.Turning.{Answers, Gives, draws};
 ghost use Rattle.bsc_node_run.specs.Performing.{Carries, is_draw};
 ghost use Rattle.bsc_node_run.specs.Worlds.{world_of};
@@ -45,6 +46,7 @@ fn draws(actions: &[Action]) -> bool
 fn draw<W: Words>(random: &mut W) -> NodeEvent
     ensures octets { has_octets result ≡ true }
     ensures word { IsTrue (brings_word result) }
+    ensures drawn { Draws W.gives W.faults result random.old random.new }
 {
     match random.next() {
         Ok(word) => NodeEvent::Random(word),
@@ -86,7 +88,8 @@ fn tell_word<N: Core, K: Sink, W: Words, L: Link + Drop, D: Dialer<L>>(
     now: u64,
 ) -> Result<(), Halt>
     requires { now < 2 ^ 62 }
-    ensures answers { OnOk result (Answers N.goes L.talk now true node.old (world_of set.old (D.calls dialer.old) (K.held sink.old)) node.new (world_of set.new (D.calls dialer.new) (K.held sink.new))) }
+    ensures answers { OnOk result (Answers (GoesDrawing N.goes W.gives W.faults) L.talk now true (record { node = node.old; words = random.old; awaits = true })
+        (world_of set.old (D.calls dialer.old) (K.held sink.old)) (at_rest node.new random.new) (world_of set.new (D.calls dialer.new) (K.held sink.new))) }
     ensures failed { result ≡ Err HaltType.WriteFault → HasRisen (K.faults sink.old) (K.faults sink.new) }
     ensures later { K.faults sink.old ≤ K.faults sink.new }
     ensures accepts { result ≢ Err HaltType.AcceptFault }
@@ -111,8 +114,8 @@ pub(crate) fn give<N: Core, K: Sink, W: Words, L: Link + Drop, D: Dialer<L>>(
 ) -> Result<(), Halt>
     requires time { now < 2 ^ 62 }
     requires octets { has_octets event.now ≡ true }
-    ensures gives { OnOk result (Gives N.goes L.talk now event.now node.old (world_of set.old (D.calls dialer.old) (K.held sink.old))
-        node.new (world_of set.new (D.calls dialer.new) (K.held sink.new))) }
+    ensures gives { OnOk result (Gives (GoesDrawing N.goes W.gives W.faults) L.talk now event.now (at_rest node.old random.old) (world_of set.old (D.calls dialer.old) (K.held sink.old))
+        (at_rest node.new random.new) (world_of set.new (D.calls dialer.new) (K.held sink.new))) }
     ensures failed { result ≡ Err HaltType.WriteFault → HasRisen (K.faults sink.old) (K.faults sink.new) }
     ensures later { K.faults sink.old ≤ K.faults sink.new }
     ensures accepts { result ≢ Err HaltType.AcceptFault }

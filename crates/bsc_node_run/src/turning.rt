@@ -7,6 +7,7 @@ ghost use Rattle.bsc_node.specs.declared.node_event.NodeEvent.TheVariants.{Lost 
 ghost use Rattle.bsc_node_run.specs.declared.due.Due.{Due as DueType};
 ghost use Rattle.bsc_node_run.specs.declared.halt.Halt.{Halt as HaltType};
 ghost use Rattle.bsc_node_run.specs.declared.news.News.{News as NewsType};
+ghost use Rattle.bsc_node_run.specs.Drawing.{GoesDrawing, at_rest};
 ghost use Rattle.bsc_node_run.specs.Receiving.{Received};
 ghost use Rattle.bsc_node_run.specs.Requests.{has_octets};
 ghost use Rattle.bsc_node_run.specs.Turning.{Admits, AreDue, GivesLines, GivesNews, Hears, HearsEach, IsNotDue, Starts, Turn, event_of, names, passed_by, slots_from};
@@ -55,8 +56,8 @@ fn give_news<N: Core, K: Sink, W: Words, L: Link + Drop, D: Dialer<L>>(
     now: u64,
 ) -> Result<(), Halt>
     requires { now < 2 ^ 62 }
-    ensures gives { OnOk result ((news : List NewsType) × GivesNews N.goes L.talk now news node.old (world_of set.old (D.calls dialer.old) (K.held sink.old))
-        node.new (world_of set.new (D.calls dialer.new) (K.held sink.new))) }
+    ensures gives { OnOk result ((news : List NewsType) × GivesNews (GoesDrawing N.goes W.gives W.faults) L.talk now news (at_rest node.old random.old) (world_of set.old (D.calls dialer.old) (K.held sink.old))
+        (at_rest node.new random.new) (world_of set.new (D.calls dialer.new) (K.held sink.new))) }
     ensures failed { result ≡ Err HaltType.WriteFault → HasRisen (K.faults sink.old) (K.faults sink.new) }
     ensures later { K.faults sink.old ≤ K.faults sink.new }
     ensures accepts { result ≢ Err HaltType.AcceptFault }
@@ -81,7 +82,8 @@ fn give_due<'a, N: Core, K: Sink, W: Words, L: Link + Drop, D: Dialer<L>>(
 ) -> Result<&'a [Due], Halt>
     requires { now < 2 ^ 62 }
     ensures gives { IfOk result (λ rest. (lines : List DueType) × (script.now ≡ lines ++ rest.now) × AreDue passed lines × IsNotDue passed rest.now
-        × GivesLines N.goes L.talk now lines node.old (world_of set.old (D.calls dialer.old) (K.held sink.old)) node.new (world_of set.new (D.calls dialer.new) (K.held sink.new))) }
+        × GivesLines (GoesDrawing N.goes W.gives W.faults) L.talk now lines (at_rest node.old random.old) (world_of set.old (D.calls dialer.old) (K.held sink.old))
+        (at_rest node.new random.new) (world_of set.new (D.calls dialer.new) (K.held sink.new))) }
     ensures failed { result ≡ Err HaltType.WriteFault → HasRisen (K.faults sink.old) (K.faults sink.new) }
     ensures later { K.faults sink.old ≤ K.faults sink.new }
     ensures accepts { result ≢ Err HaltType.AcceptFault }
@@ -156,8 +158,8 @@ fn hear<N: Core, K: Sink, W: Words, L: Link + Drop, D: Dialer<L>>(
     name: LinkName,
 ) -> Result<(), Halt>
     requires { now < 2 ^ 62 }
-    ensures hears { OnOk result (Hears N.goes L.talk now name node.old (world_of set.old (D.calls dialer.old) (K.held sink.old))
-        node.new (world_of set.new (D.calls dialer.new) (K.held sink.new))) }
+    ensures hears { OnOk result (Hears (GoesDrawing N.goes W.gives W.faults) L.talk now name (at_rest node.old random.old) (world_of set.old (D.calls dialer.old) (K.held sink.old))
+        (at_rest node.new random.new) (world_of set.new (D.calls dialer.new) (K.held sink.new))) }
     ensures failed { result ≡ Err HaltType.WriteFault → HasRisen (K.faults sink.old) (K.faults sink.new) }
     ensures later { K.faults sink.old ≤ K.faults sink.new }
     ensures accepts { result ≢ Err HaltType.AcceptFault }
@@ -182,8 +184,8 @@ fn hear_slots<N: Core, K: Sink, W: Words, L: Link + Drop, D: Dialer<L>>(
     now: u64,
 ) -> Result<(), Halt>
     requires { now < 2 ^ 62 }
-    ensures hears { OnOk result (HearsEach N.goes L.talk now (slots_from 64 0) node.old (world_of set.old (D.calls dialer.old) (K.held sink.old))
-        node.new (world_of set.new (D.calls dialer.new) (K.held sink.new))) }
+    ensures hears { OnOk result (HearsEach (GoesDrawing N.goes W.gives W.faults) L.talk now (slots_from 64 0) (at_rest node.old random.old) (world_of set.old (D.calls dialer.old) (K.held sink.old))
+        (at_rest node.new random.new) (world_of set.new (D.calls dialer.new) (K.held sink.new))) }
     ensures failed { result ≡ Err HaltType.WriteFault → HasRisen (K.faults sink.old) (K.faults sink.new) }
     ensures later { K.faults sink.old ≤ K.faults sink.new }
     ensures accepts { result ≢ Err HaltType.AcceptFault }
@@ -214,8 +216,8 @@ fn hear_all<N: Core, K: Sink, W: Words, L: Link + Drop, D: Dialer<L>>(
     now: u64,
 ) -> Result<(), Halt>
     requires { now < 2 ^ 62 }
-    ensures hears { OnOk result (HearsEach N.goes L.talk now names node.old (world_of set.old (D.calls dialer.old) (K.held sink.old))
-        node.new (world_of set.new (D.calls dialer.new) (K.held sink.new))) }
+    ensures hears { OnOk result (HearsEach (GoesDrawing N.goes W.gives W.faults) L.talk now names (at_rest node.old random.old) (world_of set.old (D.calls dialer.old) (K.held sink.old))
+        (at_rest node.new random.new) (world_of set.new (D.calls dialer.new) (K.held sink.new))) }
     ensures failed { result ≡ Err HaltType.WriteFault → HasRisen (K.faults sink.old) (K.faults sink.new) }
     ensures later { K.faults sink.old ≤ K.faults sink.new }
     ensures accepts { result ≢ Err HaltType.AcceptFault }
@@ -257,8 +259,8 @@ fn admit<N: Core, K: Sink, W: Words, L: Link + Drop, A: Acceptor<L>, D: Dialer<L
     listens: bool,
 ) -> Result<(), Halt>
     requires { now < 2 ^ 62 }
-    ensures admits { OnOk result (Admits N.goes L.talk now listens node.old (world_of set.old (D.calls dialer.old) (K.held sink.old)) (A.left acceptor.old)
-        node.new (world_of set.new (D.calls dialer.new) (K.held sink.new)) (A.left acceptor.new)) }
+    ensures admits { OnOk result (Admits (GoesDrawing N.goes W.gives W.faults) L.talk now listens (at_rest node.old random.old) (world_of set.old (D.calls dialer.old) (K.held sink.old)) (A.left acceptor.old)
+        (at_rest node.new random.new) (world_of set.new (D.calls dialer.new) (K.held sink.new)) (A.left acceptor.new)) }
     ensures failed { result ≡ Err HaltType.WriteFault → HasRisen (K.faults sink.old) (K.faults sink.new) }
     ensures later { K.faults sink.old ≤ K.faults sink.new }
     ensures accept { result ≡ Err HaltType.AcceptFault → HasRisen (A.faults acceptor.old) (A.faults acceptor.new) }
@@ -300,8 +302,8 @@ fn begin<N: Core, K: Sink, W: Words, L: Link + Drop, D: Dialer<L>>(
     start: Option<u64>,
 ) -> Result<(), Halt>
     requires { now < 2 ^ 62 }
-    ensures starts { OnOk result (Starts N.goes L.talk now start node.old (world_of set.old (D.calls dialer.old) (K.held sink.old))
-        node.new (world_of set.new (D.calls dialer.new) (K.held sink.new))) }
+    ensures starts { OnOk result (Starts (GoesDrawing N.goes W.gives W.faults) L.talk now start (at_rest node.old random.old) (world_of set.old (D.calls dialer.old) (K.held sink.old))
+        (at_rest node.new random.new) (world_of set.new (D.calls dialer.new) (K.held sink.new))) }
     ensures failed { result ≡ Err HaltType.WriteFault → HasRisen (K.faults sink.old) (K.faults sink.new) }
     ensures later { K.faults sink.old ≤ K.faults sink.new }
     ensures accepts { result ≢ Err HaltType.AcceptFault }
@@ -356,10 +358,15 @@ pub fn node_turn<
     acceptor: &mut A,
     dialer: &mut D,
 ) -> Result<(u64, &'a [Due]), Halt>
-    ensures turns { IfOk result (λ r. Turn N.goes L.talk r.0 start script.now r.1.now listens node.old (world_of set.old (D.calls dialer.old) (K.held sink.old)) (A.left acceptor.old)
-        node.new (world_of set.new (D.calls dialer.new) (K.held sink.new)) (A.left acceptor.new)) }
+    ensures turns { IfOk result (λ r. Turn (GoesDrawing N.goes W.gives W.faults) L.talk r.0 start script.now r.1.now listens (at_rest node.old random.old) (world_of set.old (D.calls dialer.old) (K.held sink.old)) (A.left acceptor.old)
+        (at_rest node.new random.new) (world_of set.new (D.calls dialer.new) (K.held sink.new)) (A.left acceptor.new)) }
     ensures reading { IfOk result (λ r. Grows (C.readings clock.old) (C.readings clock.new) (r.0 ∷ [])) }
     ensures below { IfOk result (λ r. r.0 < 2 ^ 62) }
+
+    // The time isn't less than the clock's newest reading before, and is its newest from then on.
+    ensures rises { IfOk result (λ r. C.newest clock.old ≤ r.0) }
+    ensures newest { IfOk result (λ r. C.newest clock.new ≡ r.0) }
+
     ensures failed { result ≡ Err HaltType.WriteFault → HasRisen (K.faults sink.old) (K.faults sink.new) }
     ensures later { K.faults sink.old ≤ K.faults sink.new }
     ensures accept { result ≡ Err HaltType.AcceptFault → HasRisen (A.faults acceptor.old) (A.faults acceptor.new) }

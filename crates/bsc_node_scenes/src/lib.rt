@@ -1,4 +1,4 @@
-//! Tests of the code of a node: scenes as one table, and two nodes that are joined by a hub.
+//! Tests of the code of a node: scenes as one table.
 //!
 //! They stand in a crate of their own, since a crate's own tests have all of its functions proved a second time.
 #![tactic(auto)]

@@ -1,5 +1,5 @@
 //! What the program does.
-ghost use Rattle.std.specs.Prelude.{◌≡◌, ◌≢◌, ◌≤◌, ◌⊎◌, ◌++◌, ℕ, List, Option, None, Some, map, string_bytes};
+ghost use Rattle.std.specs.Prelude.{◌≡◌, ◌≢◌, ◌≤◌, ◌⊎◌, ◌++◌, ℕ, List, Option, None, Some, Ok, map, string_bytes};
 ghost use Rattle.clap.specs.Words.{Text};
 ghost use Rattle.bsc_outside.specs.Faults.{HasRisen, PutsPrefix};
 ghost use Rattle.bsc_player.specs.LastLines.{EndsWith, RanOut, words_line};
@@ -11,6 +11,9 @@ ghost use Rattle.bsc_hub_command.specs.Served.{Runs};
 ghost use Rattle.bsc_hub_command.specs.Settled.{IsSettled, Unsettled};
 ghost use Rattle.bsc_load_command.specs.Loaded.{RunsLoad};
 ghost use Rattle.bsc_node_command.specs.Comes.{RunsFiles};
+ghost use Rattle.bsc_node_run.specs.declared.due.Due.{Due};
+ghost use Rattle.bsc_node_run.specs.Scripts.{script_of, wish_of};
+ghost use Rattle.bsc_node_runs.specs.Courses.{FinishCame};
 ghost use Rattle.bsc_words.specs.declared.fault.WordsFault.TheVariants as words_fault;
 ghost use Rattle.bsc_words.specs.Words.{asked_by, check, hub, load, node, replay, seen};
 
@@ -78,11 +81,13 @@ fn run_asked<
     ensures no_hub { (path : Text) (sessions : Option ℕ) → seen asked.entry ≡ hub path sessions → kept.new.hub ≡ None →
         Unsettled (F.holds files.old path) (F.faults files.old) (F.faults files.new) result (K.held sink.old) (K.held sink.new) }
     ensures node { (path script : Text) → seen asked.entry ≡ node path script →
-        (between : F) × RunsFiles L.talk (F.holds files.old path) (F.holds between script)
+        RunsFiles L.talk (F.holds files.old path) (F.holds files.old script)
         (F.faults files.old) (F.faults files.new) (D.calls dialer.old) (D.calls dialer.new)
         (A.left acceptor.old) (A.left acceptor.new) (A.bound acceptor.old) (A.bound acceptor.new)
         (C.readings clock.old) (C.readings clock.new) (A.faults acceptor.old) (A.faults acceptor.new)
         result (K.held sink.old) (K.held sink.new) }
+    ensures finished { (path script : Text) → seen asked.entry ≡ node path script → result ≡ 0 → (o : List ℕ) × F.holds files.old script o
+        × (lines : List Due) × (script_of o ≡ Ok (map wish_of lines)) × FinishCame lines (C.readings clock.old) (C.readings clock.new) }
     ensures load { (n : ℕ) (made : _) → seen asked.entry ≡ load n → kept.new.hub ≡ Some made →
         RunsLoad n kept.new made result (K.held sink.old) (K.held sink.new) }
     ensures no_load { (n : ℕ) → seen asked.entry ≡ load n → kept.new.hub ≡ None →
@@ -178,14 +183,19 @@ pub fn run<
     ensures no_hub { (path : Text) (sessions : Option ℕ) → asked_by (map string_bytes words.now) ≡ Some (hub path sessions) → kept.new.hub ≡ None →
         Unsettled (F.holds files.old path) (F.faults files.old) (F.faults files.new) result (K.held sink.old) (K.held sink.new) }
 
-    // Of the words of a node: what became of it, by its settings as they were in their file, and by a text that files have at
-    // the path of its script.
+    // Of the words of a node: what became of it, by its settings and its script as they were in their files.
     ensures node { (path script : Text) → asked_by (map string_bytes words.now) ≡ Some (node path script) →
-        (between : F) × RunsFiles L.talk (F.holds files.old path) (F.holds between script)
+        RunsFiles L.talk (F.holds files.old path) (F.holds files.old script)
         (F.faults files.old) (F.faults files.new) (D.calls dialer.old) (D.calls dialer.new)
         (A.left acceptor.old) (A.left acceptor.new) (A.bound acceptor.old) (A.bound acceptor.new)
         (C.readings clock.old) (C.readings clock.new) (A.faults acceptor.old) (A.faults acceptor.new)
         result (K.held sink.old) (K.held sink.new) }
+
+    // Status 0 comes of the words of a node only once the time of its script's `finish` has passed, from the first reading of
+    // the clock to the last.
+    ensures finished { (path script : Text) → asked_by (map string_bytes words.now) ≡ Some (node path script) → result ≡ 0 →
+        (o : List ℕ) × F.holds files.old script o
+        × (lines : List Due) × (script_of o ≡ Ok (map wish_of lines)) × FinishCame lines (C.readings clock.old) (C.readings clock.new) }
 
     // Of the words of a workload: once its hub is made, this is what became of it; else memory ran out.
     ensures load { (n : ℕ) (made : _) → asked_by (map string_bytes words.now) ≡ Some (load n) → kept.new.hub ≡ Some made →

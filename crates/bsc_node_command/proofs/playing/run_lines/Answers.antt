@@ -1,5 +1,4 @@
 use Rattle.std.proofs.Common.{inl, inr, refl, rules}
-use Rattle.bsc_node_run.proofs.Told.{stays_same}
 use Rattle.bsc_node_command.proofs.playing.run_lines.Goals as goal
 
 pub returns-in-Ok-make_node-clause-comes : goal.returns-in-Ok-make_node-clause-comes

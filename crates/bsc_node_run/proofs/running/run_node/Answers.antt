@@ -1,6 +1,7 @@
 use Rattle.std.proofs.Common.{arith, refl, None, Some, ◌∷◌, [], ◌++◌, unwrap_or}
+use Rattle.bsc_node_run.specs.Drawing.{GoesDrawing, at_rest}
 use Rattle.bsc_node_run.specs.Worlds.{world_of}
-use Rattle.bsc_node_run.proofs.Runs.{grows_none, grows_then, one_longer, turns_all, turns_more}
+use Rattle.bsc_node_run.proofs.Runs.{grows_none, grows_then, one_longer, rise_all, rise_before, rise_more, turns_all, turns_more}
 use Rattle.bsc_node_run.proofs.Told.{stays_same, stays_then}
 use Rattle.bsc_node_run.proofs.running.run_node.Goals as goal
 
@@ -11,6 +12,7 @@ loop-made-init g c = record {
   count = refl;
   going = c.in_ok-set.ensures.finished;
   turns = λ more m v left k. k;
+  rise = λ more r. rise_before 0 (g.C.Clock.newest c.args.clock.now) more (omega arith) r;
   writes_later = omega arith;
   links_later = omega arith;
   bound = stays_same (g.A.Acceptor.bound c.args.acceptor.now);
@@ -30,16 +32,19 @@ returns-then-set-clause-runs g c = record {
     dialled = refl;
     held = refl;
   };
-  went = turns_all g.N.Core.goes g.L.Link.talk c.args.listens None c.args.script.now c.args.node.now (world_of c.in_ok-set.set (g.D.Dialer.calls c.args.dialer.now) (g.K.Sink.held c.args.sink.now)) (g.A.Acceptor.left c.args.acceptor.now)
-      (c.loop-made.invariant.times ++ c.in_ok-now.now ∷ []) (Some (unwrap_or c.loop-made.start c.in_ok-now.now)) c.in_ok-now.rest.now c.node_turn.new.node (world_of c.node_turn.new.set (g.D.Dialer.calls c.node_turn.new.dialer) (g.K.Sink.held c.node_turn.new.sink)) (g.A.Acceptor.left c.node_turn.new.acceptor)
-      (turns_more g.N.Core.goes g.L.Link.talk c.args.listens None c.args.script.now c.args.node.now (world_of c.in_ok-set.set (g.D.Dialer.calls c.args.dialer.now) (g.K.Sink.held c.args.sink.now)) (g.A.Acceptor.left c.args.acceptor.now)
-      c.loop-made.invariant.times c.in_ok-now.now c.loop-made.start c.loop-made.left.now c.in_ok-now.rest.now c.loop-made.node c.node_turn.new.node
+  went = turns_all (GoesDrawing g.N.Core.goes g.W.Words.gives g.W.Words.faults) g.L.Link.talk c.args.listens None c.args.script.now (at_rest c.args.node.now c.args.random.now) (world_of c.in_ok-set.set (g.D.Dialer.calls c.args.dialer.now) (g.K.Sink.held c.args.sink.now)) (g.A.Acceptor.left c.args.acceptor.now)
+      (c.loop-made.invariant.times ++ c.in_ok-now.now ∷ []) (Some (unwrap_or c.loop-made.start c.in_ok-now.now)) c.in_ok-now.rest.now (at_rest c.node_turn.new.node c.node_turn.new.random) (world_of c.node_turn.new.set (g.D.Dialer.calls c.node_turn.new.dialer) (g.K.Sink.held c.node_turn.new.sink)) (g.A.Acceptor.left c.node_turn.new.acceptor)
+      (turns_more (GoesDrawing g.N.Core.goes g.W.Words.gives g.W.Words.faults) g.L.Link.talk c.args.listens None c.args.script.now (at_rest c.args.node.now c.args.random.now) (world_of c.in_ok-set.set (g.D.Dialer.calls c.args.dialer.now) (g.K.Sink.held c.args.sink.now)) (g.A.Acceptor.left c.args.acceptor.now)
+      c.loop-made.invariant.times c.in_ok-now.now c.loop-made.start c.loop-made.left.now c.in_ok-now.rest.now (at_rest c.loop-made.node c.loop-made.random) (at_rest c.node_turn.new.node c.node_turn.new.random)
       (world_of c.loop-made.set (g.D.Dialer.calls c.loop-made.dialer) (g.K.Sink.held c.loop-made.sink)) (world_of c.node_turn.new.set (g.D.Dialer.calls c.node_turn.new.dialer) (g.K.Sink.held c.node_turn.new.sink)) (g.A.Acceptor.left c.loop-made.acceptor) (g.A.Acceptor.left c.node_turn.new.acceptor)
       c.loop-made.invariant.turns c.loop-made.invariant.going c.in_ok-now.ensures.turns);
   dials = refl;
   holds = refl;
   readings = grows_then (g.C.Clock.readings c.args.clock.now) (g.C.Clock.readings c.loop-made.clock) (g.C.Clock.readings c.node_turn.new.clock) c.loop-made.invariant.times (c.in_ok-now.now ∷ [])
       c.loop-made.invariant.readings c.in_ok-now.ensures.reading;
+  rise = rise_all 0 (c.loop-made.invariant.times ++ c.in_ok-now.now ∷ []) (g.C.Clock.newest c.node_turn.new.clock)
+      (rise_more 0 c.loop-made.invariant.times (g.C.Clock.newest c.loop-made.clock) c.in_ok-now.now (g.C.Clock.newest c.node_turn.new.clock)
+      c.loop-made.invariant.rise c.in_ok-now.ensures.rises c.in_ok-now.ensures.below c.in_ok-now.ensures.newest);
   ends = c.if-set.true;
 }
 
@@ -50,11 +55,13 @@ loop-made-preserved g c = record {
       c.loop-made.invariant.readings c.in_ok-now.ensures.reading;
   count = one_longer c.loop-made.invariant.times c.in_ok-now.now c.loop-made.made c.loop-made.invariant.count;
   going = c.if-set.false;
-  turns = λ more m v left k. turns_more g.N.Core.goes g.L.Link.talk c.args.listens None c.args.script.now c.args.node.now (world_of c.in_ok-set.set (g.D.Dialer.calls c.args.dialer.now) (g.K.Sink.held c.args.sink.now)) (g.A.Acceptor.left c.args.acceptor.now)
-      c.loop-made.invariant.times c.in_ok-now.now c.loop-made.start c.loop-made.left.now c.in_ok-now.rest.now c.loop-made.node c.node_turn.new.node
+  turns = λ more m v left k. turns_more (GoesDrawing g.N.Core.goes g.W.Words.gives g.W.Words.faults) g.L.Link.talk c.args.listens None c.args.script.now (at_rest c.args.node.now c.args.random.now) (world_of c.in_ok-set.set (g.D.Dialer.calls c.args.dialer.now) (g.K.Sink.held c.args.sink.now)) (g.A.Acceptor.left c.args.acceptor.now)
+      c.loop-made.invariant.times c.in_ok-now.now c.loop-made.start c.loop-made.left.now c.in_ok-now.rest.now (at_rest c.loop-made.node c.loop-made.random) (at_rest c.node_turn.new.node c.node_turn.new.random)
       (world_of c.loop-made.set (g.D.Dialer.calls c.loop-made.dialer) (g.K.Sink.held c.loop-made.sink)) (world_of c.node_turn.new.set (g.D.Dialer.calls c.node_turn.new.dialer) (g.K.Sink.held c.node_turn.new.sink)) (g.A.Acceptor.left c.loop-made.acceptor) (g.A.Acceptor.left c.node_turn.new.acceptor)
       c.loop-made.invariant.turns c.loop-made.invariant.going c.in_ok-now.ensures.turns
       more m v left (rw c.unwrap_or.ensures at k);
+  rise = rise_more 0 c.loop-made.invariant.times (g.C.Clock.newest c.loop-made.clock) c.in_ok-now.now (g.C.Clock.newest c.node_turn.new.clock)
+      c.loop-made.invariant.rise c.in_ok-now.ensures.rises c.in_ok-now.ensures.below c.in_ok-now.ensures.newest;
   writes_later = omega (arith, c.loop-made.invariant.writes_later, c.node_turn.ensures.later);
   links_later = omega (arith, c.loop-made.invariant.links_later, c.node_turn.ensures.arrivals);
   bound = stays_then (g.A.Acceptor.bound c.args.acceptor.now) (g.A.Acceptor.bound c.loop-made.acceptor) (g.A.Acceptor.bound c.node_turn.new.acceptor) c.loop-made.invariant.bound c.node_turn.ensures.bound;
@@ -74,11 +81,12 @@ returns-clause-runs g c = record {
     dialled = refl;
     held = refl;
   };
-  went = turns_all g.N.Core.goes g.L.Link.talk c.args.listens None c.args.script.now c.args.node.now (world_of c.in_ok-set.set (g.D.Dialer.calls c.args.dialer.now) (g.K.Sink.held c.args.sink.now)) (g.A.Acceptor.left c.args.acceptor.now)
-      c.loop-made.invariant.times c.loop-made.start c.loop-made.left.now c.loop-made.node (world_of c.loop-made.set (g.D.Dialer.calls c.loop-made.dialer) (g.K.Sink.held c.loop-made.sink)) (g.A.Acceptor.left c.loop-made.acceptor)
+  went = turns_all (GoesDrawing g.N.Core.goes g.W.Words.gives g.W.Words.faults) g.L.Link.talk c.args.listens None c.args.script.now (at_rest c.args.node.now c.args.random.now) (world_of c.in_ok-set.set (g.D.Dialer.calls c.args.dialer.now) (g.K.Sink.held c.args.sink.now)) (g.A.Acceptor.left c.args.acceptor.now)
+      c.loop-made.invariant.times c.loop-made.start c.loop-made.left.now (at_rest c.loop-made.node c.loop-made.random) (world_of c.loop-made.set (g.D.Dialer.calls c.loop-made.dialer) (g.K.Sink.held c.loop-made.sink)) (g.A.Acceptor.left c.loop-made.acceptor)
       c.loop-made.invariant.turns;
   dials = refl;
   holds = refl;
   readings = c.loop-made.invariant.readings;
+  rise = rise_all 0 c.loop-made.invariant.times (g.C.Clock.newest c.loop-made.clock) c.loop-made.invariant.rise;
   ends = (omega (arith, c.loop-made.invariant.count, c.loop-made-test.false, c.loop-made.auto.made-end), c.loop-made.invariant.going);
 }

@@ -1,4 +1,5 @@
-use Rattle.std.proofs.Common.{arith, ap, length, refl, ◌∙◌, ◌∷◌, []}
+use Rattle.std.proofs.Common.{arith, refl, ◌∙◌, ◌∷◌, []}
+use Rattle.bsc_node_run.specs.Drawing.{GoesDrawing, at_rest}
 use Rattle.bsc_node_run.specs.Worlds.{world_of}
 use Rattle.bsc_node_run.proofs.Fewer.{gives_fewer, one_more}
 use Rattle.bsc_node_run.proofs.Turns.{emptied, none_left}
@@ -6,7 +7,7 @@ use Rattle.bsc_node_run.proofs.turning.give_news.Goals as goal
 
 pub loop-news-smaller : goal.loop-news-smaller
 loop-news-smaller g c =
-    let k = gives_fewer g.N.Core.goes g.L.Link.talk c.args.now c.event_of.result c.loop-news.node c.give.new.node
+    let k = gives_fewer (GoesDrawing g.N.Core.goes g.W.Words.gives g.W.Words.faults) g.L.Link.talk c.args.now c.event_of.result (at_rest c.loop-news.node c.loop-news.random) (at_rest c.give.new.node c.give.new.random)
     (world_of (record c.loop-news.set { due = c.pop_front.new.self }) (g.D.Dialer.calls c.loop-news.dialer) (g.K.Sink.held c.loop-news.sink))
     (world_of c.give.new.set (g.D.Dialer.calls c.give.new.dialer) (g.K.Sink.held c.give.new.sink))
     c.in_ok-give.ensures.gives in
@@ -17,7 +18,7 @@ pub loop-news-preserved : goal.loop-news-preserved
 loop-news-preserved g c = record {
   gives = λ more m v k. (let t = c.loop-news.invariant.gives (c.in-Some.news ∷ more) m v (
     c.pop_front.new.self.items,
-    c.give.new.node,
+    at_rest c.give.new.node c.give.new.random,
     world_of c.give.new.set (g.D.Dialer.calls c.give.new.dialer) (g.K.Sink.held c.give.new.sink),
     c.in-Some.ensures.items,
     rw c.event_of.ensures.is at c.in_ok-give.ensures.gives,
@@ -29,7 +30,7 @@ loop-news-preserved g c = record {
 pub returns-clause-gives : goal.returns-clause-gives
 returns-clause-gives g c =
     let after = world_of (record c.loop-news.set { due = c.pop_front.new.self }) (g.D.Dialer.calls c.loop-news.dialer) (g.K.Sink.held c.loop-news.sink) in
-    c.loop-news.invariant.gives [] c.loop-news.node after (
+    c.loop-news.invariant.gives [] (at_rest c.loop-news.node c.loop-news.random) after (
       none_left c.loop-news.set.due.items (c.in_default.ensures.items ∙ c.in_default.ensures.rest),
       refl,
       emptied (world_of c.loop-news.set (g.D.Dialer.calls c.loop-news.dialer) (g.K.Sink.held c.loop-news.sink)) c.pop_front.new.self.items c.in_default.ensures.items,

@@ -1,3 +1,4 @@
+use Rattle.bsc_node_run.specs.Drawing.{at_rest}
 use Rattle.bsc_node_run.specs.Worlds.{world_of}
 use Rattle.bsc_node_run.proofs.turning.node_turn.Goals as goal
 
@@ -11,11 +12,11 @@ returns-clause-turns g c = record {
   w3 = (world_of c.give_news.new.set (g.D.Dialer.calls c.give_news.new.dialer) (g.K.Sink.held c.give_news.new.sink));
   w4 = (world_of c.give_due.new.set (g.D.Dialer.calls c.give_due.new.dialer) (g.K.Sink.held c.give_due.new.sink));
   w5 = (world_of c.hear_all.new.set (g.D.Dialer.calls c.hear_all.new.dialer) (g.K.Sink.held c.hear_all.new.sink));
-  n1 = c.begin.new.node;
-  n2 = c.give.new.node;
-  n3 = c.give_news.new.node;
-  n4 = c.give_due.new.node;
-  n5 = c.hear_all.new.node;
+  n1 = at_rest c.begin.new.node c.begin.new.random;
+  n2 = at_rest c.give.new.node c.give.new.random;
+  n3 = at_rest c.give_news.new.node c.give_news.new.random;
+  n4 = at_rest c.give_due.new.node c.give_due.new.random;
+  n5 = at_rest c.hear_all.new.node c.hear_all.new.random;
   begins = c.begin_turn.ensures (g.D.Dialer.calls c.args.dialer.now) (g.K.Sink.held c.args.sink.now);
   starts = c.in_ok-begin.ensures.starts;
   ticks = c.in_ok-give.ensures.gives;

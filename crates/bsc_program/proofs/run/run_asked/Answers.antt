@@ -1,8 +1,11 @@
-use Rattle.std.proofs.Common.{◌≡◌, ℕ, List, Option, ap, sym, ◌∙◌}
+use Rattle.std.proofs.Common.{◌≡◌, ℕ, List, Option, Ok, map, ap, sym, ◌∙◌}
 use Rattle.clap.specs.Words.{Text}
 use Rattle.bsc_settings.specs.declared.hub.HubSettings.{HubSettings}
 use Rattle.bsc_hub_command.specs.Served.{Runs}
 use Rattle.bsc_hub_command.specs.Settled.{IsSettled}
+use Rattle.bsc_node_run.specs.declared.due.Due.{Due}
+use Rattle.bsc_node_run.specs.Scripts.{script_of, wish_of}
+use Rattle.bsc_node_runs.specs.Courses.{FinishCame}
 use Rattle.bsc_node_command.specs.Comes.{RunsFiles}
 use Rattle.bsc_words.specs.Words.{seen}
 use Rattle.bsc_program.proofs.Reading.{of_hub, of_node}
@@ -29,7 +32,7 @@ returns-in-Node-clause-node g c path script named =
     let D = g.D.Dialer in
     let C = g.C.Clock in
     let F = g.F.Files in
-    of_node (λ (p q : Text). (between : g.row.F.Denot) × RunsFiles g.L.Link.talk (F.holds c.args.files.now p) (F.holds between q)
+    of_node (λ (p q : Text). RunsFiles g.L.Link.talk (F.holds c.args.files.now p) (F.holds c.args.files.now q)
     (F.faults c.args.files.now) (F.faults c.run_node_files.new.files)
     (D.calls c.args.dialer.now) (D.calls c.run_node_files.new.dialer)
     (A.left c.args.acceptor.now) (A.left c.run_node_files.new.acceptor)
@@ -38,3 +41,10 @@ returns-in-Node-clause-node g c path script named =
     (A.faults c.args.acceptor.now) (A.faults c.run_node_files.new.acceptor)
     c.run_node_files.result (g.K.Sink.held c.args.sink.now) (g.K.Sink.held c.run_node_files.new.sink))
     c.in-Node.path.now path c.in-Node.script.now script (sym (ap seen c.in-Node.is) ∙ named) c.run_node_files.ensures.runs
+
+pub returns-in-Node-clause-finished : goal.returns-in-Node-clause-finished
+returns-in-Node-clause-finished g c path script named =
+    let C = g.C.Clock in
+    of_node (λ (p q : Text). c.run_node_files.result ≡ 0 → (o : List ℕ) × g.F.Files.holds c.args.files.now q o
+    × (lines : List Due) × (script_of o ≡ Ok (map wish_of lines)) × FinishCame lines (C.readings c.args.clock.now) (C.readings c.run_node_files.new.clock))
+    c.in-Node.path.now path c.in-Node.script.now script (sym (ap seen c.in-Node.is) ∙ named) c.run_node_files.ensures.finished

@@ -1,0 +1,69 @@
+-- Status 0 comes only once the `finish` of the script came.
+use Rattle.std.proofs.Common.{◌≡◌, ◌<◌, inl, inr, ℕ, List, [], map, Option, is_some, Result, Ok, Err, IfOk, arith}
+use Rattle.bsc_edge.specs.declared.dialled.Dialled.{Dialled}
+use Rattle.bsc_edge.specs.declared.said.Said.{Said}
+use Rattle.bsc_player.specs.LastLines.{EndsWith}
+use Rattle.bsc_settings.specs.declared.node.NodeSettings.{NodeSettings}
+use Rattle.bsc_node.specs.Logs.{Log}
+use Rattle.bsc_node_run.specs.declared.due.Due.{Due}
+use Rattle.bsc_node_run.specs.declared.halt.Halt.{Halt}
+use Rattle.bsc_node_run.specs.declared.halt.Halt.TheVariants.{WriteFault, AcceptFault, NoMemory}
+use Rattle.bsc_node_run.specs.declared.run_end.RunEnd.{RunEnd}
+use Rattle.bsc_node_run.specs.declared.run_end.RunEnd.TheVariants.{Finished, Spent}
+use Rattle.bsc_node_run.specs.Running.{Run}
+use Rattle.bsc_node_run.specs.Scripts.{script_of, wish_of}
+use Rattle.bsc_node_runs.specs.Courses.{FinishCame, Goes}
+use Rattle.bsc_node_command.specs.Lines.{Says, SaysEnd}
+use Rattle.bsc_node_command.specs.Settled.{Unread, Unsettled}
+use Rattle.bsc_node_command.specs.Comes.{made_by, Comes, NotRun, RunsScript, RunsFiles}
+use Rattle.bsc_node_command.proofs.Defined.{finish_came}
+
+-- a last line comes with no status 0
+line_fails : (wanted s : ℕ) (b b' : Option (List ℕ)) (line : List ℕ) → 0 < wanted → EndsWith s wanted b b' line → s ≡ 0 → ⊥
+line_fails wanted s b b' line some (inl k) is = omega (arith, some, k.0, is)
+line_fails wanted s b b' line some (inr k) is = omega (arith, k.0, is)
+
+said_fails : (wanted s : ℕ) (b b' : Option (List ℕ)) (line : List ℕ) → 0 < wanted → Says s wanted b b' line → s ≡ 0 → ⊥
+said_fails wanted s b b' line some (inl k) is = line_fails wanted s b b' line some k is
+said_fails wanted s b b' line some (inr k) is = omega (arith, k.0, is)
+
+-- nor does a run without a node, a script that wasn't read, or settings that weren't read
+none_fails : (v : NodeSettings) (script : List ℕ) (p p' : Option (Option ℕ)) (f f' s : ℕ) (b b' : Option (List ℕ)) → NotRun v script p p' f f' s b b' → s ≡ 0 → ⊥
+none_fails v script p p' f f' s b b' (inl k) is = said_fails 2 s b b' _ (omega arith) k.3 is
+none_fails v script p p' f f' s b b' (inr (inl k)) is = line_fails 6 s b b' _ (omega arith) k.3 is
+none_fails v script p p' f f' s b b' (inr (inr k)) is = omega (arith, k.1.0, is)
+
+unread_fails : (r r' s : ℕ) (b b' : Option (List ℕ)) → Unread r r' s b b' → s ≡ 0 → ⊥
+unread_fails r r' s b b' (inl k) is = line_fails 3 s b b' _ (omega arith) k.1 is
+unread_fails r r' s b b' (inr k) is = omega (arith, k.0, is)
+
+unsettled_fails : (holds : List ℕ → Type 0) (r r' s : ℕ) (b b' : Option (List ℕ)) → Unsettled holds r r' s b b' → s ≡ 0 → ⊥
+unsettled_fails holds r r' s b b' (inl k) is = unread_fails r r' s b b' k is
+unsettled_fails holds r r' s b b' (inr k) is = said_fails 5 s b b' _ (omega arith) k.4 is
+
+module _ {L : Type 0} (talk : L → Option (List Said)) where
+  over_of : (v : NodeSettings) (script : List ℕ) (lines : List Due) (last : Log) (end : Result RunEnd Halt) (c c' : Option (List Dialled)) (l l' : Option (List L)) (t t' : Option (List ℕ)) (s : ℕ) (b b' b'' : Option (List ℕ))
+      → script_of script ≡ Ok (map wish_of lines) → IfOk end (λ e. Run (Goes (made_by v)) talk (is_some v.direct_port) e v.turns lines [] c b l t last c' b' l' t') → SaysEnd end s b' b'' → s ≡ 0
+      → FinishCame lines t t'
+  over_of v script lines last (Ok Finished) c c' l l' t t' s b b' b'' reads run h is = finish_came talk (made_by v) script (is_some v.direct_port) v.turns lines last c c' l l' t t' b b' reads run
+  over_of v script lines last (Ok Spent) c c' l l' t t' s b b' b'' reads run h is = absurd (line_fails 8 s b' b'' _ (omega arith) h is)
+  over_of v script lines last (Err WriteFault) c c' l l' t t' s b b' b'' reads run h is = absurd (omega (arith, h.0, is))
+  over_of v script lines last (Err AcceptFault) c c' l l' t t' s b b' b'' reads run h is = absurd (line_fails 6 s b' b'' _ (omega arith) h is)
+  over_of v script lines last (Err NoMemory) c c' l l' t t' s b b' b'' reads run h is = absurd (omega (arith, h.0, is))
+
+  pub finished_so : (v : NodeSettings) (script : List ℕ) (c c' : Option (List Dialled)) (l l' : Option (List L)) (p p' : Option (Option ℕ)) (t t' : Option (List ℕ)) (f f' s : ℕ) (b b' : Option (List ℕ))
+      → Comes talk v script c c' l l' p p' t t' f f' s b b' → s ≡ 0 → (lines : List Due) × (script_of script ≡ Ok (map wish_of lines)) × FinishCame lines t t'
+  finished_so v script c c' l l' p p' t t' f f' s b b' (inl k) is = absurd (none_fails v script p p' f f' s b b' k.3 is)
+  finished_so v script c c' l l' p p' t t' f f' s b b' (inr r) is = (r.lines, r.reads, over_of v script r.lines r.last r.end c c' r.left l' t t' s b r.written b' r.reads r.run r.says is)
+
+  script_finished : (v : NodeSettings) (holds : List ℕ → Type 0) (r r' : ℕ) (c c' : Option (List Dialled)) (l l' : Option (List L)) (p p' : Option (Option ℕ)) (t t' : Option (List ℕ)) (f f' s : ℕ) (b b' : Option (List ℕ))
+      → RunsScript talk v holds r r' c c' l l' p p' t t' f f' s b b' → s ≡ 0 → (script : List ℕ) × holds script × (lines : List Due) × (script_of script ≡ Ok (map wish_of lines)) × FinishCame lines t t'
+  script_finished v holds r r' c c' l l' p p' t t' f f' s b b' (inl k) is = absurd (unread_fails r r' s b b' k.1 is)
+  script_finished v holds r r' c c' l l' p p' t t' f f' s b b' (inr k) is =
+      let three = finished_so v k.0 c c' l l' p p' t t' f f' s b b' k.2 is in
+      (k.0, k.1, three.0, three.1, three.2)
+
+  pub files_finished : (settled scripted : List ℕ → Type 0) (r r' : ℕ) (c c' : Option (List Dialled)) (l l' : Option (List L)) (p p' : Option (Option ℕ)) (t t' : Option (List ℕ)) (f f' s : ℕ) (b b' : Option (List ℕ))
+      → RunsFiles talk settled scripted r r' c c' l l' p p' t t' f f' s b b' → s ≡ 0 → (script : List ℕ) × scripted script × (lines : List Due) × (script_of script ≡ Ok (map wish_of lines)) × FinishCame lines t t'
+  files_finished settled scripted r r' c c' l l' p p' t t' f f' s b b' (inl k) is = absurd (unsettled_fails settled r r' s b b' k.1 is)
+  files_finished settled scripted r r' c c' l l' p p' t t' f f' s b b' (inr k) is = script_finished k.0 scripted r r' c c' l l' p p' t t' f f' s b b' k.2 is

@@ -1,0 +1,230 @@
+-- Which events leave a log that awaits a word: those at which a word is drawn, as the last line, where no link is there.
+use Rattle.std.proofs.Common.{◌≡◌, ℕ, Bool, true, false, not, ◌&&◌, ◌||◌, List, [], ◌∷◌, ◌++◌, Option, refl, ap, sym, ◌∙◌}
+use Rattle.std.specs.Prelude.{◌==◌, IsTrue, filter_map, nat_lt}
+use Rattle.std.specs.List.{list_all, list_any}
+use Rattle.std.proofs.lemmas.List.{append_assoc, append-nil}
+use Rattle.bsc_octets.specs.declared.vmac.Vmac.{Vmac}
+use Rattle.bsc_connector.specs.declared.side.Side.TheVariants.{Primary}
+use Rattle.bsc_accept.specs.Steps.{normal}
+use Rattle.bsc_accept.specs.declared.event.Event.TheVariants.{Message as AcceptMessage}
+use Rattle.bsc_initiate.specs.declared.event.InitEvent.TheVariants.{Message as InitMessage}
+use Rattle.bsc_node.specs.Messages.{duplicate_vmac_code}
+use Rattle.bsc_node.specs.declared.link_name.LinkName.{LinkName}
+use Rattle.bsc_node.specs.declared.link_name.LinkName.TheVariants.{Hub}
+use Rattle.bsc_node.specs.declared.node_event.NodeEvent.{NodeEvent}
+use Rattle.bsc_node.specs.declared.node_event.NodeEvent.TheVariants.{Opened, Came, Send}
+use Rattle.bsc_node.specs.declared.timed_event.TimedEvent.{TimedEvent}
+use Rattle.bsc_node.specs.declared.action.Action.{Action}
+use Rattle.bsc_node.specs.declared.action.Action.TheVariants.{Put, Close, Draw}
+use Rattle.bsc_node.specs.Logs.{Made, Line, came, did, Log, either, if_so, does, now, action_of, is_finishing}
+use Rattle.bsc_node.specs.Links.{is_there, none_there, was_taken, by_machine, hears, verdict, Outcome, puts, puts_and_closes, closes, meets, is_refused, passes_up, keeps_still, outcome}
+use Rattle.bsc_node.specs.Ending.{carries_out_by, ends, closes_link}
+use Rattle.bsc_node.specs.Meeting.{is_hub, renewals, tells_refusal, may_draw, is_refused_by}
+use Rattle.bsc_node.specs.Events.{obeys_by, obeys, follows}
+use Rattle.bsc_node.specs.Node.{goes_on, actions_at}
+use Rattle.bsc_node.specs.Conditions.{is_draw, awaits_word, brings_word, may_come}
+use Rattle.bsc_node.specs.Laws.{with_event, with_heard, draws}
+use Rattle.bsc_node.proofs.Order.{in_order-brought}
+use Rattle.bsc_node.proofs.Passing.{Passes, pass-in_order, pass-nothing}
+use Rattle.bsc_node.proofs.Quiet.{is_quiet_action, quiet-ends, quiet-closes_link}
+use Rattle.bsc_node.proofs.Heard.{LetsQuiet, lets-rule, pass-two-then, pass-meets_peer}
+use Rattle.bsc_node.proofs.Following.{is_came, pass-follows, opened-dialled, goes_on-is, and_left, and_right, not_true}
+use Rattle.bsc_node.proofs.Told.{at_last-more}
+use Rattle.bsc_node.proofs.Lasting.{LetsMessages, pass-takes_body, pass-sends}
+use Rattle.bsc_node.proofs.Drawing.{draws_none}
+use Rattle.bsc_node_laws.proofs.There.{there-other}
+
+-- ---- lines that draw nothing
+
+quiet_draws_none_by : (action : Action) → is_quiet_action action ≡ true → not (draws action) ≡ true
+quiet_draws_none_by Draw h = h
+quiet_draws_none_by action h = refl
+
+quiet_draws_none : LetsQuiet draws_none
+quiet_draws_none (did action) h = quiet_draws_none_by action h
+quiet_draws_none m h = refl
+
+messages : LetsMessages draws_none
+messages = record { quiet = quiet_draws_none; put = λ name o. refl; deliver = λ d. refl }
+
+none_is_no_draw : (m : Line) → draws_none m ≡ true → is_draw m ≡ false
+none_is_no_draw (did Draw) h = sym h
+none_is_no_draw m h = refl
+
+-- a log whose last lines draw nothing awaits no word
+awaits_none : (lines : List Line) (L : Log) (m : Line) → is_draw m ≡ false → list_all draws_none lines ≡ true → awaits_word (L ++ m ∷ lines) ≡ false
+awaits_none [] L m h rest = at_last-more (λ before n. is_draw n) false L m ∙ h
+awaits_none (n ∷ lines) L m h rest =
+    ap awaits_word (sym (append_assoc L (m ∷ []) (n ∷ lines)))
+    ∙ awaits_none lines (L ++ m ∷ []) n (none_is_no_draw n (and_left (draws_none n) (list_all draws_none lines) rest)) (and_right (draws_none n) (list_all draws_none lines) rest)
+
+-- whether lines draw a word
+abbrev drawn_by : List Line → Bool
+drawn_by lines = list_any draws (filter_map action_of lines)
+
+none_drawn_by : (m : Line) (lines : List Line) → draws_none m ≡ true → drawn_by lines ≡ false → drawn_by (m ∷ lines) ≡ false
+none_drawn_by (did action) lines h rest = ap (λ (b : Bool). b || drawn_by lines) (not_true (draws action) h) ∙ rest
+none_drawn_by m lines h rest = rest
+
+none_drawn : (lines : List Line) → list_all draws_none lines ≡ true → drawn_by lines ≡ false
+none_drawn [] h = refl
+none_drawn (m ∷ lines) h = none_drawn_by m lines (and_left (draws_none m) (list_all draws_none lines) h) (none_drawn lines (and_right (draws_none m) (list_all draws_none lines) h))
+
+-- one line and some lines behind a log, and then some lines
+pub seam : (M : Log) (x : Line) (ys zs : List Line) → M ++ (x ∷ (ys ++ zs)) ≡ ((M ++ x ∷ []) ++ ys) ++ zs
+seam M x ys zs = sym (append_assoc (M ++ x ∷ []) ys zs ∙ append_assoc M (x ∷ []) (ys ++ zs))
+
+-- ---- what an event leaves
+
+-- A word is awaited exactly where one was drawn, and then the primary hub's link isn't there.
+record Leaves (a : Made) (L : Log) (e : TimedEvent) : Type 0 where
+  at : awaits_word (L ++ goes_on a e L) ≡ list_any draws (actions_at a L e)
+  gone : awaits_word (L ++ goes_on a e L) ≡ true → is_there (Hub Primary) (L ++ goes_on a e L) ≡ false
+
+-- where nothing is drawn
+none_awaited : (a : Made) (L : Log) (e : TimedEvent) → list_all draws_none (follows a e.event (with_event L e)) ≡ true → awaits_word (L ++ goes_on a e L) ≡ false
+none_awaited a L e h = ap (λ lines. awaits_word (L ++ lines)) (goes_on-is a L e) ∙ awaits_none (follows a e.event (with_event L e)) L (came e) refl h
+
+leaves_none : (a : Made) (L : Log) (e : TimedEvent) → list_all draws_none (follows a e.event (with_event L e)) ≡ true → Leaves a L e
+leaves_none a L e h = record {
+  at = none_awaited a L e h ∙ sym (ap drawn_by (goes_on-is a L e) ∙ none_drawn (follows a e.event (with_event L e)) h);
+  gone = λ awaits. no awaits (none_awaited a L e h);
+}
+  where
+    no : {b c : Bool} → b ≡ true → b ≡ false → c ≡ false
+    no h g = cc
+
+-- where a word is drawn, as the last line
+leaves_draw : (a : Made) (L : Log) (e : TimedEvent) (C : Log) → L ++ goes_on a e L ≡ C ++ did Draw ∷ [] → list_any draws (actions_at a L e) ≡ true → none_there C ≡ true → Leaves a L e
+leaves_draw a L e C is drawn none = record {
+  at = ap awaits_word is ∙ at_last-more (λ before m. is_draw m) false C (did Draw) ∙ sym drawn;
+  gone = λ awaits. ap (is_there (Hub Primary)) is ∙ there-other (Hub Primary) C (did Draw) refl refl ∙ first_none (is_there (Hub Primary) C) _ none;
+}
+  where
+    first_none : (p q : Bool) → not (p || q) ≡ true → p ≡ false
+    first_none true q h = sym h
+    first_none false q h = refl
+
+-- ---- every event but a message
+
+none_follows : (a : Made) (M : Log) (ev : NodeEvent) → is_came ev ≡ false → ((name : LinkName) → ev ≡ Opened name → was_taken name M ≡ false) → list_all draws_none (follows a ev M) ≡ true
+none_follows a M (Came name octets) s o = cc
+none_follows a M (Send dest npdu) s o = pass-sends draws_none messages dest npdu M
+none_follows a M ev s o = pass-follows draws_none quiet_draws_none a M ev refl refl (record { dialled = o; next = λ name k is named uri. refl; dial = λ k free uri. refl; take = λ k free. refl })
+
+not_came : (a : Made) (L : Log) (e : TimedEvent) → IsTrue (may_come L e) → is_came e.event ≡ false → list_all draws_none (follows a e.event (with_event L e)) ≡ true
+not_came a L e h s = none_follows a (with_event L e) e.event s (λ name is. opened-dialled L e name is h)
+
+-- ---- a message that came
+
+abbrev is_refusal : Outcome → Bool
+is_refusal (is_refused origin code) = true
+is_refusal o = false
+
+none_obeys_by : (a : Made) (name : LinkName) (o : Outcome) → is_refusal o ≡ false → Passes draws_none (obeys_by a name o)
+none_obeys_by a name (puts o) h = λ L. refl
+none_obeys_by a name (puts_and_closes o closing) h =
+    pass-in_order draws_none (carries_out_by name (puts_and_closes o closing) ∷ ends a name ∷ [])
+    (pass-in_order draws_none (does (Put name o) ∷ does (Close name closing) ∷ []) ((λ L. refl), ((λ L. refl), tt)), (lets-rule draws_none quiet_draws_none (ends a name) (quiet-ends a name), tt))
+none_obeys_by a name (closes closing) h = lets-rule draws_none quiet_draws_none (closes_link a name closing) (quiet-closes_link a name closing)
+none_obeys_by a name (meets who) h = pass-meets_peer draws_none quiet_draws_none (λ k w. refl) a name who
+none_obeys_by a name (is_refused origin code) h = cc
+none_obeys_by a name (passes_up msg) h = pass-takes_body draws_none messages a name msg msg.body
+none_obeys_by a name keeps_still h = pass-nothing draws_none
+
+-- the log as a message leaves it
+came_log : (a : Made) (L : Log) (e : TimedEvent) (name : LinkName) (o : List ℕ) → e.event ≡ Came name o → L ++ goes_on a e L ≡ with_heard a L e name o ++ obeys a name (with_heard a L e name o)
+came_log a L e name o is =
+    ap (λ lines. L ++ lines) (goes_on-is a L e)
+    ∙ sym (append_assoc L (came e ∷ []) (follows a e.event (with_event L e)))
+    ∙ ap (λ (ev : NodeEvent). with_event L e ++ follows a ev (with_event L e)) is
+    ∙ ap (λ lines. with_event L e ++ lines) (in_order-brought (hears a name o ∷ obeys a name ∷ []) (with_event L e))
+    ∙ sym (append_assoc (with_event L e) (hears a name o (with_event L e)) (obeys a name (with_heard a L e name o) ++ []))
+    ∙ ap (λ lines. with_heard a L e name o ++ lines) (append-nil (obeys a name (with_heard a L e name o)))
+
+machine_acts : (b : Bool) (name : LinkName) (a : Made) (M : Log) (o : List ℕ) (lines : List Line)
+    → filter_map action_of (by_machine (λ n. InitMessage (now M) (verdict a M n o)) (λ n. AcceptMessage (now M) (verdict a M n o)) name b ++ lines) ≡ filter_map action_of lines
+machine_acts true name a M o lines = refl
+machine_acts false name a M o lines = refl
+
+-- the actions at a message that came: those that follow from the machine's step
+came_acts : (a : Made) (L : Log) (e : TimedEvent) (name : LinkName) (o : List ℕ) → e.event ≡ Came name o → actions_at a L e ≡ filter_map action_of (obeys a name (with_heard a L e name o))
+came_acts a L e name o is =
+    ap (filter_map action_of) (goes_on-is a L e)
+    ∙ ap (λ (ev : NodeEvent). filter_map action_of (follows a ev (with_event L e))) is
+    ∙ ap (filter_map action_of) (in_order-brought (hears a name o ∷ obeys a name ∷ []) (with_event L e))
+    ∙ machine_acts (was_taken name (with_event L e)) name a (with_event L e) o (obeys a name (with_heard a L e name o) ++ [])
+    ∙ ap (filter_map action_of) (append-nil (obeys a name (with_heard a L e name o)))
+
+-- where what the machine's step brings about draws nothing, nothing that follows does
+none_came : (a : Made) (L : Log) (e : TimedEvent) (name : LinkName) (o : List ℕ) → e.event ≡ Came name o
+    → list_all draws_none (obeys a name (with_heard a L e name o)) ≡ true → list_all draws_none (follows a e.event (with_event L e)) ≡ true
+none_came a L e name o is h =
+    ap (λ (ev : NodeEvent). list_all draws_none (follows a ev (with_event L e))) is
+    ∙ pass-two-then draws_none (hears a name o) (obeys a name) [] (with_event L e) (machine (was_taken name (with_event L e)) (with_event L e)) h tt
+  where
+    machine : (b : Bool) (M : Log) → list_all draws_none (by_machine (λ n. InitMessage (now M) (verdict a M n o)) (λ n. AcceptMessage (now M) (verdict a M n o)) name b) ≡ true
+    machine true M = refl
+    machine false M = refl
+
+-- the log once a link whose request was refused is closed and that is told, and what follows then
+abbrev told : LinkName → Option Vmac → ℕ → Log → Log
+told name origin code N = (N ++ did (Close name normal) ∷ []) ++ tells_refusal name origin code (N ++ did (Close name normal) ∷ [])
+
+refused : (a : Made) (name : LinkName) (origin : Option Vmac) (code : ℕ) (N : Log) (b : Bool) → may_draw name code (told name origin code N) ≡ b
+    → is_refused_by a name origin code N ≡ did (Close name normal) ∷ tells_refusal name origin code (N ++ did (Close name normal) ∷ []) ++ if_so b (does Draw) (ends a name) (told name origin code N) ++ []
+refused a name origin code N b h =
+    in_order-brought (does (Close name normal) ∷ tells_refusal name origin code ∷ either (may_draw name code) (does Draw) (ends a name) ∷ []) N
+    ∙ ap (λ (d : Bool). did (Close name normal) ∷ tells_refusal name origin code (N ++ did (Close name normal) ∷ []) ++ if_so d (does Draw) (ends a name) (told name origin code N) ++ []) h
+
+draws_where_none : (name : LinkName) (code : ℕ) (C : Log) → may_draw name code C ≡ true → none_there C ≡ true
+draws_where_none name code C h =
+    and_right (is_hub name && (code == duplicate_vmac_code)) (none_there C)
+    (and_left (is_hub name && (code == duplicate_vmac_code) && none_there C) (not (is_finishing C))
+    (and_left (is_hub name && (code == duplicate_vmac_code) && none_there C && not (is_finishing C)) (nat_lt (renewals C) 8) h))
+
+-- what is known of a message that came, once its machine heard it and came to this outcome
+record Heard (a : Made) (L : Log) (e : TimedEvent) (name : LinkName) (N : Log) (u : Outcome) : Type 0 where
+  log_is : L ++ goes_on a e L ≡ N ++ obeys_by a name u N
+  acts : actions_at a L e ≡ filter_map action_of (obeys_by a name u N)
+  none : list_all draws_none (obeys_by a name u N) ≡ true → list_all draws_none (follows a e.event (with_event L e)) ≡ true
+
+by_draw : (a : Made) (L : Log) (e : TimedEvent) (name : LinkName) (N : Log) (origin : Option Vmac) (code : ℕ) → Heard a L e name N (is_refused origin code)
+    → (b : Bool) → may_draw name code (told name origin code N) ≡ b → Leaves a L e
+by_draw a L e name N origin code known true h =
+    leaves_draw a L e (told name origin code N)
+    (known.log_is ∙ ap (λ lines. N ++ lines) (refused a name origin code N true h) ∙ seam N (did (Close name normal)) (tells_refusal name origin code (N ++ did (Close name normal) ∷ [])) (did Draw ∷ []))
+    (ap (list_any draws) (known.acts ∙ ap (filter_map action_of) (refused a name origin code N true h)))
+    (draws_where_none name code (told name origin code N) h)
+by_draw a L e name N origin code known false h =
+    leaves_none a L e (known.none
+    (ap (list_all draws_none) (refused a name origin code N false h)
+    ∙ ap (list_all draws_none) (append-nil (ends a name (told name origin code N)))
+    ∙ lets-rule draws_none quiet_draws_none (ends a name) (quiet-ends a name) (told name origin code N)))
+
+by_outcome : (a : Made) (L : Log) (e : TimedEvent) (name : LinkName) (N : Log) (u : Outcome) → Heard a L e name N u → Leaves a L e
+by_outcome a L e name N (is_refused origin code) known = by_draw a L e name N origin code known (may_draw name code (told name origin code N)) refl
+by_outcome a L e name N u known = leaves_none a L e (known.none (none_obeys_by a name u refl N))
+
+-- ---- all events
+
+by_event : (a : Made) (L : Log) (e : TimedEvent) → IsTrue (may_come L e) → (ev : NodeEvent) → e.event ≡ ev → Leaves a L e
+by_event a L e h (Came name o) is =
+    by_outcome a L e name (with_heard a L e name o) (outcome a (with_heard a L e name o) name) (record { log_is = came_log a L e name o is; acts = came_acts a L e name o is; none = none_came a L e name o is })
+by_event a L e h ev is = leaves_none a L e (not_came a L e h (ap is_came is))
+
+-- A word is awaited after an event exactly where it drew one.
+pub draws_at : (a : Made) (L : Log) (e : TimedEvent) → IsTrue (may_come L e) → awaits_word (L ++ goes_on a e L) ≡ list_any draws (actions_at a L e)
+draws_at a L e h = (by_event a L e h e.event refl).at
+
+-- Where a word is awaited after an event, the primary hub's link isn't there.
+pub word_gone : (a : Made) (L : Log) (e : TimedEvent) → IsTrue (may_come L e) → awaits_word (L ++ goes_on a e L) ≡ true → is_there (Hub Primary) (L ++ goes_on a e L) ≡ false
+word_gone a L e h = (by_event a L e h e.event refl).gone
+
+-- After a word, or after that there is none, no word is awaited.
+pub word_settles : (a : Made) (L : Log) (e : TimedEvent) → IsTrue (may_come L e) → brings_word e.event ≡ true → awaits_word (L ++ goes_on a e L) ≡ false
+word_settles a L e h word = none_awaited a L e (not_came a L e h (no_message e.event word))
+  where
+    no_message : (ev : NodeEvent) → brings_word ev ≡ true → is_came ev ≡ false
+    no_message (Came name o) g = cc
+    no_message ev g = refl

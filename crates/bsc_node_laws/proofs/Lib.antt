@@ -1,0 +1,12 @@
+pub mod Tied
+pub mod Between
+pub mod There
+pub mod Tying
+pub mod Asked
+pub mod Drawn
+pub mod Plain
+pub mod Fitting
+pub mod Obeying
+pub mod Followed
+pub mod Bringing
+pub mod Lasting

@@ -1,0 +1,12 @@
+//! The runs, by subject.
+mod ended;
+mod hubs;
+mod peers;
+mod refused;
+mod renewed;
+
+pub use ended::ENDED;
+pub use hubs::HUBS;
+pub use peers::PEERS;
+pub use refused::{REFUSED, row_of};
+pub use renewed::RENEWED;

@@ -1,0 +1,113 @@
+//! An outside of which is noted what is done.
+use crate::log::Log;
+use bsc_edge::{Clock, Dialer, Incoming, Kind, Link, LinkFault};
+use bsc_octets::NoMemory;
+use std::alloc::Global;
+use std::rc::Rc;
+
+/// Does what another does, and notes what it is asked to do.
+#[derive(Drop)]
+pub struct Watched<T> {
+    pub name: &'static str,
+    pub inner: T,
+    pub log: Rc<Log>,
+}
+
+impl<C: Clock> Clock for Watched<C> {
+    ghost faults = { λ c. C.faults c.inner };
+
+    ghost newest = { λ c. C.newest c.inner };
+
+    ghost readings = { λ c. C.readings c.inner };
+
+    fn now(&mut self) -> u64 {
+        let now = self.inner.now();
+        self.log.set_time(now);
+        now
+    }
+
+    fn another(&self, alloc: Global) -> Result<Self, NoMemory> {
+        let log = self.log.clone()?;
+        let inner = self.inner.another(alloc)?;
+        Ok(Watched {
+            name: self.name,
+            inner,
+            log,
+        })
+    }
+}
+
+/// What is noted of a put.
+fn put_text(alloc: Global, name: &str, m: &[u8]) -> Result<String, NoMemory> {
+    match hex::encode_upper(alloc, m) {
+        Ok(digits) => Ok(format!(in alloc; "{name} put {digits}")?),
+        Err(_) => Err(NoMemory),
+    }
+}
+
+/// What is noted of a closing.
+fn close_text(alloc: Global, name: &str, code: u16, reason: &str) -> Result<String, NoMemory> {
+    if reason.is_empty() {
+        Ok(format!(in alloc; "{name} close {code}")?)
+    } else {
+        Ok(format!(in alloc; "{name} close {code} {reason}")?)
+    }
+}
+
+impl<L: Link> Link for Watched<L> {
+    ghost faults = { λ l. L.faults l.inner };
+
+    ghost quiets = { λ l. L.quiets l.inner };
+
+    ghost talk = { λ l. L.talk l.inner };
+
+    fn receive(&mut self, alloc: Global, wait_ms: u32) -> Result<Incoming, LinkFault> {
+        self.inner.receive(alloc, wait_ms)
+    }
+
+    fn put(&mut self, alloc: Global, m: &[u8]) -> Result<(), LinkFault> {
+        self.log.note(put_text(alloc, self.name, m));
+        self.inner.put(alloc, m)
+    }
+
+    fn close(&mut self, alloc: Global, code: u16, reason: &str) -> Result<(), LinkFault> {
+        self.log.note(close_text(alloc, self.name, code, reason));
+        self.inner.close(alloc, code, reason)
+    }
+
+    fn known_as(&mut self, conn: u64) {
+        self.inner.known_as(conn);
+    }
+
+    fn wake(&mut self, conn: u64) {
+        self.inner.wake(conn);
+    }
+}
+
+/// What a link of this kind is for.
+fn kind_text(kind: Kind) -> &'static str {
+    match kind {
+        Kind::Hub => "hub",
+        Kind::Direct => "direct",
+    }
+}
+
+/// What is noted of a dial.
+fn dial_text(alloc: Global, uri: &[u8], kind: Kind) -> Result<String, NoMemory> {
+    let uri = String::from_utf8_lossy(alloc, uri)?;
+    let kind = kind_text(kind);
+    Ok(format!(in alloc; "dial {kind} {uri}")?)
+}
+
+impl<L, D: Dialer<L>> Dialer<L> for Watched<D> {
+    ghost faults = { λ d. D.faults d.inner };
+
+    ghost calls = { λ d. D.calls d.inner };
+
+    ghost left = { λ d. D.left d.inner };
+
+    fn dial(&mut self, alloc: Global, uri: &[u8], kind: Kind) -> Result<L, LinkFault> {
+        self.log.note(dial_text(alloc, uri, kind));
+        self.inner.dial(alloc, uri, kind)
+    }
+}

@@ -1,0 +1,14 @@
+pub mod Agreeing
+pub mod Same
+pub mod Carrying
+pub mod News
+pub mod Coming
+pub mod Lifting
+pub mod Turning
+pub mod Courses
+pub mod Saying
+pub mod AloneBack
+pub mod AloneActing
+pub mod AloneTurning
+pub mod Lonely
+pub mod WorkedAlone
