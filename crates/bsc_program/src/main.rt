@@ -1,16 +1,11 @@
 //! `bsc`: the switching layer of BACnet Secure Connect, on the command line.
 //!
-//! All that the program does is `run`. `main` hands it standard input and output, the files, the clock, the random octets,
-//! the links and the threads of the machine that it is on.
+//! All that the program does is `run` of `bsc_commands`. `main` hands it standard input and output, the files, the clock,
+//! the random octets, the links and the threads of the machine that it is on, and says on standard error where to find
+//! how it is called, if its words are refused.
 #![tactic(auto)]
 
-mod door;
-mod links;
-mod play;
-mod run;
-#[cfg(test)]
-mod tests;
-
+use bsc_commands::{Door, NotingFiles, RealLink, real_dialer, run};
 use bsc_edge::{Disk, Kind, Monotonic, Places, ThreadSpawner, Unstarted, launch};
 use bsc_hub::Kept;
 use bsc_links::{PeerAcceptor, PeerDialer};
@@ -21,9 +16,6 @@ use bsc_pace::{Pace, PacedAcceptor, PacedClock, PacedDialer, PacedLink};
 use bsc_player::out_of_memory;
 use bsc_session::SessionJob;
 use bsc_words::{Asked, WordsFault, read_words};
-use door::{Door, NotingFiles};
-use links::{RealLink, real_dialer};
-use run::run;
 use std::alloc::Global;
 use std::cell::Cell;
 use std::env;
@@ -57,6 +49,9 @@ fn pace_of(alloc: Global, kind: Kind) -> Result<Pace, NoMemory> {
         Kind::Hub => Ok(Pace::none()),
     }
 }
+
+/// The status of words that are refused.
+const REFUSED: u8 = 1;
 
 fn main(rt: HostRuntime) -> ExitCode {
     let alloc = rt.alloc();
@@ -113,7 +108,7 @@ fn main(rt: HostRuntime) -> ExitCode {
         hub: None,
         pass: None,
     };
-    ExitCode::from(run(
+    let status = run(
         &rt,
         alloc,
         words.as_slice(),
@@ -126,5 +121,10 @@ fn main(rt: HostRuntime) -> ExitCode {
         &mut dialer,
         &mut spawner,
         &mut kept,
-    ))
+    );
+    if status == REFUSED {
+        // Where nobody can be told, the status says it all the same.
+        let _ = eprintln!(rt; "bsc: these words are no command; bsc --help says how to call it");
+    }
+    ExitCode::from(status)
 }

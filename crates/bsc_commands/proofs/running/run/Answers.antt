@@ -1,0 +1,51 @@
+use Rattle.std.proofs.Common.{◌≡◌, Some, Result, Err, Ok, IfOk, Option, ap, map, subst, sym, ◌∙◌, arith}
+use Rattle.std.specs.Prelude.{string_bytes}
+use Rattle.bsc_script.specs.Scripts.{replay_of}
+use Rattle.bsc_replay.specs.Checks.{check_of}
+use Rattle.bsc_words.specs.declared.asked.Asked.{Asked}
+use Rattle.bsc_words.specs.declared.fault.WordsFault.{WordsFault}
+use Rattle.bsc_words.specs.declared.fault.WordsFault.TheVariants.{Refused}
+use Rattle.bsc_words.specs.Words.{AskedOf, asked_by, check, node, replay, seen}
+use Rattle.bsc_commands.proofs.Reading.{ran_out, unread, workers_fit}
+use Rattle.bsc_commands.proofs.running.run.Goals as goal
+
+said : (read : Option AskedOf) (answer : Result Asked WordsFault) (a : Asked) → answer ≡ Ok a → IfOk answer (λ x. read ≡ Some (seen x)) → read ≡ Some (seen a)
+said read answer a is ok = subst (λ (r : Result Asked WordsFault). IfOk r (λ x. read ≡ Some (seen x))) is ok
+
+-- words ask for one thing
+asks_same : (read : Option AskedOf) (x y : AskedOf) → read ≡ Some x → read ≡ Some y → x ≡ y
+asks_same read x y p q = let both : Some x ≡ Some y = sym p ∙ q in cc
+
+pub run_asked-requires-clause-workers : goal.run_asked-requires-clause-workers
+run_asked-requires-clause-workers g c κs within n named =
+    let words = map string_bytes c.args.words.now in
+    workers_fit words (seen c.in-Ok.asked) n (said (asked_by words) c.read_words.result c.in-Ok.asked c.in-Ok.is c.read_words.ensures.ok) named
+
+pub returns-in-Ok-clause-node : goal.returns-in-Ok-clause-node
+returns-in-Ok-clause-node g c path script named =
+    let read = asked_by (map string_bytes c.args.words.now) in
+    let asked = said read c.read_words.result c.in-Ok.asked c.in-Ok.is c.read_words.ensures.ok in
+    c.run_asked.ensures.node path script (asks_same read (seen c.in-Ok.asked) (node path script) asked named)
+
+pub returns-in-Err-clause-replayed : goal.returns-in-Err-clause-replayed
+returns-in-Err-clause-replayed g c o t named left held =
+    let none = λ (e : c.in-Err.fault ≡ Refused). c.read_words.ensures.refused (c.in-Err.is ∙ ap Err e) in
+    let out = ran_out c.in-Err.fault (asked_by (map string_bytes c.args.words.now)) replay c.end_unasked.result
+    (g.K.Sink.held c.args.sink.now) (g.K.Sink.held c.end_unasked.new.sink) none c.end_unasked.ensures.ran_out named in
+    unread replay_of c.end_unasked.result o t (g.S.Source.left c.args.source.now) (g.K.Sink.held c.args.sink.now) (g.K.Sink.held c.end_unasked.new.sink)
+    (g.S.Source.faults c.args.source.now) (g.S.Source.faults c.args.source.now) left held out
+
+pub returns-in-Err-clause-checked : goal.returns-in-Err-clause-checked
+returns-in-Err-clause-checked g c o t named left held =
+    let none = λ (e : c.in-Err.fault ≡ Refused). c.read_words.ensures.refused (c.in-Err.is ∙ ap Err e) in
+    let out = ran_out c.in-Err.fault (asked_by (map string_bytes c.args.words.now)) check c.end_unasked.result
+    (g.K.Sink.held c.args.sink.now) (g.K.Sink.held c.end_unasked.new.sink) none c.end_unasked.ensures.ran_out named in
+    unread check_of c.end_unasked.result o t (g.S.Source.left c.args.source.now) (g.K.Sink.held c.args.sink.now) (g.K.Sink.held c.end_unasked.new.sink)
+    (g.S.Source.faults c.args.source.now) (g.S.Source.faults c.args.source.now) left held out
+
+pub returns-in-Err-clause-finished : goal.returns-in-Err-clause-finished
+returns-in-Err-clause-finished g c path script named is =
+    let none = λ (e : c.in-Err.fault ≡ Refused). c.read_words.ensures.refused (c.in-Err.is ∙ ap Err e) in
+    let out = ran_out c.in-Err.fault (asked_by (map string_bytes c.args.words.now)) (node path script) c.end_unasked.result
+    (g.K.Sink.held c.args.sink.now) (g.K.Sink.held c.end_unasked.new.sink) none c.end_unasked.ensures.ran_out named in
+    absurd (omega (arith, out.0, is))

@@ -1,0 +1,66 @@
+//! The commands that play their input.
+ghost use Rattle.std.specs.Prelude.{◌≡◌, ◌≢◌, ◌≤◌, ℕ, List, Some};
+ghost use Rattle.bsc_outside.specs.Faults.{HasRisen};
+ghost use Rattle.bsc_player.specs.Ends.{PlaysOut};
+ghost use Rattle.bsc_player.specs.Statuses.{StatusTells, IsStatus};
+ghost use Rattle.bsc_commands.specs.Commands.{played_by};
+
+use bsc_outside::{Sink, Source};
+use bsc_player::end_play;
+use bsc_replay::{ReplayEnd, check, replay};
+use std::alloc::Global;
+
+/// A command that plays its input.
+#[derive(Clone, Copy, Debug, PartialEq, Eq)]
+pub enum Command {
+    /// `replay`: plays a script.
+    Replay,
+    /// `check`: answers lines with the verdicts on messages.
+    Check,
+}
+
+/// Plays a source by a command.
+fn play_command<S: Source, K: Sink>(
+    alloc: Global,
+    command: Command,
+    source: &mut S,
+    sink: &mut K,
+) -> ReplayEnd
+    ensures played { (o t : List ℕ) → S.left source.old ≡ Some o → K.held sink.old ≡ Some t →
+        PlaysOut (played_by command) result o t (S.left source.new) (K.held sink.new) }
+    ensures read_fault { result ≡ ReplayEnd.ReadFault → HasRisen (S.faults source.old) (S.faults source.new) }
+    ensures write_fault { result ≡ ReplayEnd.WriteFault → HasRisen (K.faults sink.old) (K.faults sink.new) }
+    ensures reads_later { S.faults source.old ≤ S.faults source.new }
+    ensures writes_later { K.faults sink.old ≤ K.faults sink.new }
+{
+    match command {
+        Command::Replay => replay(alloc, source, sink),
+        Command::Check => check(alloc, source, sink),
+    }
+}
+
+/// Runs a command that plays its input, and answers the status.
+///
+/// | status | cause | last line written |
+/// |---|---|---|
+/// | 0 | the input was read to its end and its text was written | none of its own |
+/// | 2 | line n of the input is refused | `fault script line n` |
+/// | 3 | a read of the source failed | `fault read` |
+/// | 4 | a write to the sink failed, also one of a last line | none |
+/// | 7 | memory ran out | `fault memory`, tried once |
+pub fn play<S: Source, K: Sink>(alloc: Global, command: Command, source: &mut S, sink: &mut K) -> u8
+    // What the status says of the input: what was read, and what was written.
+    ensures played { (o t : List ℕ) → S.left source.old ≡ Some o → K.held sink.old ≡ Some t →
+        StatusTells (played_by command) result o t (S.left source.new) (K.held sink.new)
+        (S.faults source.old) (S.faults source.new) }
+
+    // Faults of the source and the sink are counted.
+    ensures read { result ≡ 3 → HasRisen (S.faults source.old) (S.faults source.new) }
+    ensures write { result ≡ 4 → HasRisen (K.faults sink.old) (K.faults sink.new) }
+    ensures reads_later { S.faults source.old ≤ S.faults source.new }
+    ensures writes_later { K.faults sink.old ≤ K.faults sink.new }
+    ensures statuses { IsStatus result × (result ≢ 1) }
+{
+    let end = play_command(alloc, command, source, sink);
+    end_play(alloc, sink, end)
+}
