@@ -20,8 +20,6 @@ mod making;
 mod mark;
 mod reply;
 mod standing;
-#[cfg(test)]
-mod tests;
 mod told;
 
 pub use call::Call;

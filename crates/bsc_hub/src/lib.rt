@@ -20,8 +20,6 @@ mod leaving;
 mod making;
 mod meeting;
 mod stopping;
-#[cfg(test)]
-mod tests;
 
 pub use bsc_history::Told;
 pub use bsc_turn::{NumbersSpent, Pass};

@@ -14,8 +14,6 @@ mod loading;
 mod passes;
 mod peers;
 mod taking;
-#[cfg(test)]
-mod tests;
 mod worker;
 mod workload;
 

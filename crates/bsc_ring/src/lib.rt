@@ -18,8 +18,6 @@ mod remains;
 mod steps;
 mod take;
 mod taking;
-#[cfg(test)]
-mod tests;
 mod view;
 mod words;
 

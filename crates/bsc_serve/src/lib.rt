@@ -11,8 +11,6 @@ mod halt;
 mod serving;
 mod starting;
 mod tally;
-#[cfg(test)]
-mod tests;
 mod turning_away;
 
 pub use end::ServeEnd;

@@ -19,8 +19,6 @@ mod stop;
 mod stopping;
 mod taken;
 mod taking;
-#[cfg(test)]
-mod tests;
 mod turning;
 mod waking;
 mod why;

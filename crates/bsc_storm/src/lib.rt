@@ -7,14 +7,10 @@
 #![tactic(auto)]
 
 mod ends;
-#[cfg(test)]
-mod once;
 mod peers;
 mod sending;
 mod staying;
 mod storm;
-#[cfg(test)]
-mod tests;
 mod working;
 mod works;
 

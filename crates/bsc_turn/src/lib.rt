@@ -21,8 +21,6 @@ mod plays;
 mod spent;
 mod splitting;
 mod steps;
-#[cfg(test)]
-mod tests;
 mod turn;
 mod view;
 mod words;

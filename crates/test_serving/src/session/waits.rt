@@ -1,0 +1,104 @@
+//! How long the receives of a session are asked to wait.
+use super::{LIMITS, connect_of, ended, message, new_hub};
+use bsc_edge::{Incoming, Job, Link, LinkFault, MemClock, MemLink};
+use bsc_octets::NoMemory;
+use bsc_session::{SessionJob, Why, serve_connection};
+use std::alloc::Global;
+use std::process::Abort;
+use std::sync::{Arc, Wait};
+use std::test::*;
+
+/// A link that notes how long its receives are asked to wait. At the second of them a job is worked off.
+#[derive(Drop)]
+struct Noting<L, J, R> {
+    rt: R,
+    link: L,
+    job: J,
+    waits: Vec<u32>,
+}
+
+impl<L: Link, J: Job, R: Wait> Link for Noting<L, J, R> {
+    ghost faults = { λ l. L.faults l.link };
+
+    ghost quiets = { λ l. L.quiets l.link };
+
+    ghost talk = { λ l. L.talk l.link };
+
+    fn receive(&mut self, alloc: Global, wait_ms: u32) -> Result<Incoming, LinkFault> {
+        let _ = self.waits.push(wait_ms);
+        if self.waits.len() == 2 {
+            self.job.work(&self.rt);
+        }
+        self.link.receive(alloc, wait_ms)
+    }
+
+    fn put(&mut self, alloc: Global, m: &[u8]) -> Result<(), LinkFault> {
+        self.link.put(alloc, m)
+    }
+
+    fn close(&mut self, alloc: Global, code: u16, reason: &str) -> Result<(), LinkFault> {
+        self.link.close(alloc, code, reason)
+    }
+
+    fn known_as(&mut self, conn: u64) {
+        self.link.known_as(conn);
+    }
+
+    fn wake(&mut self, conn: u64) {
+        self.link.wake(conn);
+    }
+}
+
+/// A's connect, and three times nothing.
+fn connect_and_wait(alloc: Global) -> Result<Vec<Incoming>, NoMemory> {
+    let mut gives = Vec::new(alloc);
+    gives.push(connect_of(alloc, 10)?)?;
+    for _ in 0..3 {
+        gives.push(Incoming::Quiet)?;
+    }
+    Ok(gives)
+}
+
+/// B's connect, and 36 unicasts to A.
+fn many_to_a(alloc: Global) -> Result<Vec<Incoming>, NoMemory> {
+    let mut gives = Vec::new(alloc);
+    gives.push(connect_of(alloc, 11)?)?;
+    for id in 2..38u8 {
+        gives.push(message(alloc, &[1, 4, 0, id, 2, 0, 0, 0, 0, 10, 1, 0])?)?;
+    }
+    Ok(gives)
+}
+
+/// While A waits B sends it 36 frames. A takes sixteen and sixteen and four of them, and waits only where it found no
+/// more.
+#[test]
+fn frames_that_are_left(rt: HostRuntime) -> Result<(), Fail> {
+    let alloc = rt.alloc();
+    let (hub, mut own) = new_hub(alloc, 64, 4)?;
+    let pass = hub.split(&rt, &mut own)?;
+    let Ok(hub) = Arc::new(alloc, hub) else {
+        panic!(rt; "no memory");
+    };
+    let Ok(shared) = Arc::try_clone(&hub) else {
+        panic!(rt; "no memory");
+    };
+    let other = MemLink::new(alloc, many_to_a(alloc)?, &[]);
+    let clock = MemClock::new(alloc, &[]);
+    let mut link = Noting {
+        rt,
+        link: MemLink::new(alloc, connect_and_wait(alloc)?, &[]),
+        job: SessionJob::new(alloc, shared, pass, other, clock, LIMITS, 100),
+        waits: Vec::new(alloc),
+    };
+    let mut clock = MemClock::new(alloc, &[]);
+    let came = serve_connection(
+        &rt, alloc, &hub, &mut own, &mut link, &mut clock, &LIMITS, 100,
+    );
+    assert_eq!(rt; came, ended(Why::PeerClosed, Some(1), 36, 2, 5));
+    assert_eq!(rt;
+        link.job.ended,
+        Some(ended(Why::PeerClosed, Some(2), 0, 37, 38))
+    );
+    assert!(rt; link.waits.as_slice() == [500, 500, 0, 0, 500].as_slice());
+    Ok(())
+}
