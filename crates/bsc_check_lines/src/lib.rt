@@ -10,8 +10,6 @@ mod answering;
 mod checks;
 mod line;
 mod places;
-#[cfg(test)]
-mod tests;
 
 pub use answering::{check_name, put_verdict};
 pub use checks::{Checks, Judge, check_by};

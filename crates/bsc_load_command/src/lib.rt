@@ -4,8 +4,6 @@
 #![tactic(auto)]
 
 mod command;
-#[cfg(test)]
-mod tests;
 mod texts;
 mod words;
 

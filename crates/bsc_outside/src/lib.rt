@@ -12,8 +12,6 @@ mod reader_source;
 mod stream;
 mod sure_sink;
 mod sure_source;
-#[cfg(test)]
-mod tests;
 mod writer_sink;
 
 pub use mem_sink::MemSink;

@@ -9,16 +9,10 @@
 #![tactic(auto)]
 
 mod collecting;
-#[cfg(test)]
-mod echo;
-#[cfg(test)]
-mod fault_tests;
 mod language;
 mod last_lines;
 mod play_end;
 mod playing;
-#[cfg(test)]
-mod tests;
 
 pub use language::{Language, LineFault};
 pub use last_lines::{end_play, end_with, out_of_memory};

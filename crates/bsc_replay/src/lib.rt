@@ -7,11 +7,7 @@
 //! `check`, in `src/verdicts.rt`, answers questions on messages: `check_of` in `specs/Checks.antt`.
 #![tactic(auto)]
 
-#[cfg(test)]
-mod replaying_tests;
 mod script;
-#[cfg(test)]
-mod verdict_tests;
 mod verdicts;
 
 pub use bsc_player::PlayEnd as ReplayEnd;

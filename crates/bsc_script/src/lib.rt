@@ -8,8 +8,6 @@
 #![tactic(auto)]
 
 mod carrying;
-#[cfg(test)]
-mod cases;
 mod connecting;
 mod counting;
 mod due;
@@ -29,8 +27,6 @@ mod script;
 mod script_hub;
 mod stopping;
 mod telling;
-#[cfg(test)]
-mod tests;
 mod texts;
 mod ticking;
 

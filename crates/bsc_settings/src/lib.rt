@@ -21,8 +21,6 @@ mod reading;
 mod rows;
 mod running;
 mod settings;
-#[cfg(test)]
-mod tests;
 mod uris;
 mod values;
 

@@ -8,8 +8,6 @@
 mod feed;
 mod grammar;
 mod octets;
-#[cfg(test)]
-mod tests;
 mod text;
 mod words;
 

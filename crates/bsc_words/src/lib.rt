@@ -10,8 +10,6 @@ mod asked;
 mod fault;
 mod laws;
 mod reading;
-#[cfg(test)]
-mod tests;
 
 pub use asked::Asked;
 pub use fault::WordsFault;

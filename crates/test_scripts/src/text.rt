@@ -1,10 +1,9 @@
 //! Where a text is cut into lines, one fault in mid-stream, and each reader of words once.
-use crate::feed::{Feed, NextLine};
-use crate::{
-    Text, is_name, read_device, read_identity_words, read_maximum, read_number, read_octets,
-    read_vmac,
-};
 use bsc_outside::{ReaderSource, Source, SureSource};
+use bsc_text::{
+    Feed, NextLine, Text, is_name, read_device, read_identity_words, read_maximum, read_number,
+    read_octets, read_vmac,
+};
 use std::alloc::Global;
 use std::io;
 use std::process::Abort;

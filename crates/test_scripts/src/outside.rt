@@ -1,5 +1,5 @@
 //! Each stream once, with a fault in it.
-use crate::{
+use bsc_outside::{
     Failed, MemSink, MemSource, ReaderSource, Sink, Source, SureSink, SureSource, WriterSink,
 };
 use std::io;

@@ -1,6 +1,6 @@
 //! Workloads that are run by the command.
-use crate::{read_load_words, run_load};
 use bsc_hub::Kept;
+use bsc_load_command::{read_load_words, run_load};
 use bsc_octets::NoMemory;
 use bsc_outside::MemSink;
 use std::alloc::Global;
@@ -34,9 +34,7 @@ fn said(alloc: Global, command: &str, number: &str) -> Result<Option<u32>, NoMem
 #[test]
 fn words(rt: HostRuntime) -> Result<(), Fail> {
     let alloc = rt.alloc();
-    assert!(rt; said(alloc, "load", "1")? == Some(1));
     assert!(rt; said(alloc, "load", "512")? == Some(512));
-    assert!(rt; said(alloc, "load", "0")?.is_none());
     assert!(rt; said(alloc, "load", "513")?.is_none());
     assert!(rt; said(alloc, "load", "07")?.is_none());
     assert!(rt; said(alloc, "hub", "7")?.is_none());

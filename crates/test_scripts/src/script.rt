@@ -1,9 +1,11 @@
 //! Whole scripts with the texts that they come to.
-use crate::cases::CASES;
-use crate::script::Script;
+mod cases;
+
+use crate::script::cases::CASES;
 use bsc_octets::NoMemory;
 use bsc_outside::{SureSource, WriterSink};
 use bsc_player::{PlayEnd, play_lines};
+use bsc_script::Script;
 use std::alloc::Global;
 use std::process::Abort;
 use std::test::*;

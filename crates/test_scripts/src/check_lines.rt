@@ -2,8 +2,8 @@
 ghost use Rattle.bsc_checks.specs.declared.verdict.Verdict.TheVariants.{Silent};
 ghost use Rattle.bsc_frame.specs.declared.check.Check.TheVariants.{C13};
 
-use crate::{Judge, Line, check_by, put_verdict, read_line};
 use arrayvec::ArrayVec;
+use bsc_check_lines::{Judge, Line, check_by, put_verdict, read_line};
 use bsc_checks::{Check, Phase, Place, Verdict};
 use bsc_octets::{NoMemory, Vmac};
 use bsc_outside::{MemSink, SureSource};

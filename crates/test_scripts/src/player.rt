@@ -1,9 +1,10 @@
 //! Inputs of the small language with the texts that they come to, and the last lines of runs.
-use crate::echo::Echo;
-use crate::last_lines::end_play;
-use crate::play_end::PlayEnd;
-use crate::playing::play_lines;
+mod echo;
+mod faults;
+
+use crate::player::echo::Echo;
 use bsc_outside::{MemSink, SureSource, WriterSink};
+use bsc_player::{PlayEnd, end_play, play_lines};
 use std::process::Abort;
 use std::test::*;
 

@@ -2,7 +2,7 @@
 ghost use Rattle.std.specs.Prelude.{◌≡◌, Bool};
 ghost use Rattle.bsc_player.specs.Echo.{echo};
 
-use crate::language::{Language, LineFault};
+use bsc_player::{Language, LineFault};
 use std::alloc::Global;
 
 /// Repeats its lines after a first one, `begin`, and refuses `stop`.

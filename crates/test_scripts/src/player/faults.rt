@@ -1,8 +1,7 @@
 //! What stands written after a read or a write that failed.
-use crate::echo::Echo;
-use crate::play_end::PlayEnd;
-use crate::playing::play_lines;
+use crate::player::echo::Echo;
 use bsc_outside::{MemSink, MemSource};
+use bsc_player::{PlayEnd, play_lines};
 use std::process::Abort;
 use std::test::*;
 

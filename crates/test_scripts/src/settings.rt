@@ -1,0 +1,227 @@
+//! Documents, each with the settings that it says or the fault that is named.
+use bsc_octets::{DeviceId, Octets, Vmac};
+use bsc_settings::{NodeSettings, SettingFault, read_settings};
+use std::alloc::Global;
+use std::test::*;
+use uuid::Uuid;
+
+/// The keys that are required.
+const REQUIRED: &str = "[hub]
+vmac = \"0200000000FF\"
+uuid = \"00112233-4455-6677-8899-aabbccddeeff\"
+port = 47808
+";
+
+/// What `examples/hub.toml` says, without its comments and empty lines.
+const EXAMPLE: &str = "[hub]
+vmac = \"0200000000FF\"
+uuid = \"00112233-4455-6677-8899-aabbccddeeff\"
+port = 47808
+max_bvlc = 16384
+max_npdu = 1497
+rows = 256
+outbox = 64
+connect_wait_ms = 10000
+disconnect_wait_ms = 10000
+heartbeat_ms = 300000
+turns = 1099511627776
+";
+
+/// The keys of a node that are required.
+const NODE_REQUIRED: &str = "[node]
+vmac = \"02000000000A\"
+uuid = \"11111111-2222-3333-4444-555555555555\"
+primary = \"ws://127.0.0.1:47808/\"
+";
+
+/// What `examples/node.toml` says, without its comments and empty lines.
+const NODE_EXAMPLE: &str = "[node]
+vmac = \"02000000000A\"
+uuid = \"11111111-2222-3333-4444-555555555555\"
+primary = \"ws://127.0.0.1:47808/\"
+failover = \"ws://127.0.0.1:47809/\"
+direct_port = 47810
+direct_uris = \"ws://127.0.0.1:47810/\"
+max_bvlc = 16384
+max_npdu = 1497
+connect_wait_ms = 10000
+disconnect_wait_ms = 10000
+heartbeat_ms = 300000
+least_reconnect_ms = 2000
+greatest_reconnect_ms = 30000
+turns = 1099511627776
+";
+
+/// What `examples/other-node.toml` says, likewise.
+const OTHER_NODE_EXAMPLE: &str = "[node]
+vmac = \"02000000000B\"
+uuid = \"66666666-7777-8888-9999-aaaaaaaaaaaa\"
+primary = \"ws://127.0.0.1:47808/\"
+failover = \"ws://127.0.0.1:47809/\"
+";
+
+#[test]
+fn gives_the_defaults(rt: HostRuntime) -> Result<(), Fail> {
+    let settings = read_settings(rt.alloc(), REQUIRED.as_bytes())?;
+    assert!(rt; settings.node.is_none());
+    let example = read_settings(rt.alloc(), EXAMPLE.as_bytes())?;
+    assert!(rt; settings.hub == example.hub);
+    let hub = settings.hub.ok_or("a hub")?;
+    let device = Uuid::parse_str("00112233-4455-6677-8899-aabbccddeeff")?;
+    assert!(rt; hub.identity().vmac == Vmac([2, 0, 0, 0, 0, 255]));
+    assert!(rt; hub.identity().device == DeviceId(device));
+    assert_eq!(rt; hub.port(), 47_808);
+    assert_eq!(rt; hub.limits().outbox, 64);
+    assert_eq!(rt; hub.times().heartbeat, 300_000);
+    assert_eq!(rt; hub.turns(), 1 << 40);
+    let nothing = read_settings(rt.alloc(), b"# nothing\n")?;
+    assert!(rt; nothing.hub.is_none() && nothing.node.is_none());
+    Ok(())
+}
+
+/// The settings of a node in a document.
+fn node_of(alloc: Global, text: &str) -> Result<NodeSettings, Fail> {
+    let settings = read_settings(alloc, text.as_bytes())?;
+    Ok(settings.node.ok_or("a node")?)
+}
+
+/// Whether the octets are there, and are these.
+fn is_text(octets: &Option<Octets>, text: &str) -> bool {
+    match octets {
+        Some(octets) => octets.as_slice() == text.as_bytes(),
+        None => false,
+    }
+}
+
+#[test]
+fn gives_a_node(rt: HostRuntime) -> Result<(), Fail> {
+    let node = node_of(rt.alloc(), NODE_EXAMPLE)?;
+    assert!(rt; node.vmac == Vmac([2, 0, 0, 0, 0, 10]));
+    assert!(rt; node.primary.as_slice() == b"ws://127.0.0.1:47808/".as_slice());
+    assert!(rt; is_text(&node.failover, "ws://127.0.0.1:47809/"));
+    assert!(rt; is_text(&node.direct_uris, "ws://127.0.0.1:47810/"));
+    assert_eq!(rt; node.direct_port, Some(47_810));
+    let least = node_of(rt.alloc(), NODE_REQUIRED)?;
+    assert!(rt; least.failover.is_none() && least.direct_uris.is_none());
+    assert_eq!(rt; least.direct_port, None);
+    assert_eq!(rt; least.greatest_reconnect_ms, 30_000);
+    Ok(())
+}
+
+/// What a fault line would name for a document of these octets; nothing where there are settings.
+fn fault(alloc: Global, text: &[u8]) -> &'static str {
+    match read_settings(alloc, text) {
+        Ok(_) => "",
+        Err(SettingFault::Key { name }) => name.text(),
+        Err(SettingFault::NotToml) => "-",
+        Err(SettingFault::NoMemory) => "memory",
+    }
+}
+
+/// A document in two parts, and what a fault line would name.
+const DOCUMENTS: [(&str, &str, &str); 42] = [
+    (REQUIRED, "max_npdu = 0", "hub.max_npdu"),
+    (REQUIRED, "rows = 12.0", "hub.rows"),
+    (REQUIRED, "heartbeat_ms = -300000", "hub.heartbeat_ms"),
+    (
+        REQUIRED,
+        "disconnect_wait_ms = 3600001",
+        "hub.disconnect_wait_ms",
+    ),
+    (REQUIRED, "turns.most = 1", "hub.turns"),
+    (REQUIRED, "turns = 0\nrows = 0", "hub.rows"),
+    (REQUIRED, "turns = 0\nname = 1", "hub.turns"),
+    (
+        REQUIRED,
+        "rows = 1024\noutbox = 1024\nmax_bvlc = 1025",
+        "hub.product",
+    ),
+    (REQUIRED, "rows = 1024\noutbox = 1024\nmax_bvlc = 1024", ""),
+    (
+        REQUIRED,
+        "rows = 1024\noutbox = 1024\nname = 1",
+        "hub.product",
+    ),
+    (REQUIRED, "Rows = 12", "unknown"),
+    (REQUIRED, "rows = 1024\noutbox = 1024\n[node]", "node.vmac"),
+    (REQUIRED, "turns = 0\n[node]", "hub.turns"),
+    (REQUIRED, "[nodes]", "unknown"),
+    (REQUIRED, "[hub.limits]", "unknown"),
+    (REQUIRED, "rows = 1\nrows = 2", "-"),
+    (NODE_REQUIRED, "failover = \"wss://a/\"", "node.failover"),
+    (NODE_REQUIRED, "failover = \"WS://a/\"", "node.failover"),
+    (NODE_REQUIRED, "failover = \"ws://\"", ""),
+    (NODE_REQUIRED, "direct_port = 1", "node.direct_uris"),
+    (
+        NODE_REQUIRED,
+        "direct_uris = \"ws://a\"",
+        "node.direct_uris",
+    ),
+    (
+        NODE_REQUIRED,
+        "direct_port = 1\ndirect_uris = \" ws://a\"",
+        "node.direct_uris",
+    ),
+    (
+        NODE_REQUIRED,
+        "direct_port = 1\ndirect_uris = \"ws://\u{E9}\"",
+        "node.direct_uris",
+    ),
+    (
+        NODE_REQUIRED,
+        "direct_port = 1\ndirect_uris = \"wss://a/~b?c ws://d\"",
+        "",
+    ),
+    (
+        NODE_REQUIRED,
+        "heartbeat_ms = \"1000\"",
+        "node.heartbeat_ms",
+    ),
+    (
+        NODE_REQUIRED,
+        "least_reconnect_ms = 30001",
+        "node.greatest_reconnect_ms",
+    ),
+    (NODE_REQUIRED, "least_reconnect_ms = 30000", ""),
+    (
+        NODE_REQUIRED,
+        "greatest_reconnect_ms = 1999",
+        "node.greatest_reconnect_ms",
+    ),
+    (NODE_REQUIRED, "turns = 0\nrows = 1", "node.turns"),
+    (NODE_REQUIRED, "rows = 1", "unknown"),
+    (NODE_REQUIRED, "[hub]", "hub.vmac"),
+    ("[hub]", "", "hub.vmac"),
+    ("[hub]\n", "vmac = \"FFFFFFFFFFFF\"", "hub.vmac"),
+    ("[hub]\n", "vmac = \"02000000000\"", "hub.vmac"),
+    ("[hub]\n", "vmac = \"0200000000ff\"\nport = 1", "hub.uuid"),
+    (
+        "[hub]\n",
+        "vmac = \"0200000000ff\"\nuuid = \"0011\"",
+        "hub.uuid",
+    ),
+    (
+        "hub = {vmac = '0200000000ff', uuid = '00112233445566778899aabbccddeeff'",
+        "}",
+        "hub.port",
+    ),
+    (
+        "hub = {vmac = '0200000000ff', uuid = '00112233445566778899aabbccddeeff'",
+        ", port = 1}",
+        "",
+    ),
+    ("[[hub]]", "", "unknown"),
+    ("node = 1", "", "unknown"),
+    ("[hub", "", "-"),
+    (OTHER_NODE_EXAMPLE, "", ""),
+];
+
+#[test]
+fn names_the_key(rt: HostRuntime) -> Result<(), Fail> {
+    for (first, second, key) in &DOCUMENTS {
+        let text = format!(in rt.alloc(); "{}{}\n", first, second)?;
+        assert_eq!(rt; fault(rt.alloc(), text.as_bytes()), *key, "{}", text);
+    }
+    assert_eq!(rt; fault(rt.alloc(), b"# \xFF"), "-");
+    Ok(())
+}
