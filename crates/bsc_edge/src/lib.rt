@@ -31,8 +31,6 @@ mod notes;
 mod patience;
 mod said;
 mod spawner;
-#[cfg(test)]
-mod tests;
 mod threads;
 mod unstarted;
 

@@ -8,8 +8,6 @@ mod gate;
 mod handshakes;
 mod opening;
 mod socket_link;
-#[cfg(test)]
-mod tests;
 
 pub use gate::Gate;
 pub use handshakes::Turned;

@@ -8,8 +8,6 @@ mod linking;
 mod peer_acceptor;
 mod peer_dialer;
 mod peer_link;
-#[cfg(test)]
-mod tests;
 
 pub use peer_acceptor::PeerAcceptor;
 pub use peer_dialer::PeerDialer;

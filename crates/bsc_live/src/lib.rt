@@ -10,8 +10,6 @@ mod bells;
 mod moment;
 mod patience;
 mod stream;
-#[cfg(test)]
-mod tests;
 
 pub use bell::Bell;
 pub use bells::Bells;

@@ -20,8 +20,6 @@ mod saying;
 mod script;
 mod scripting;
 mod telling;
-#[cfg(test)]
-mod tests;
 mod texts;
 mod turning;
 mod words;

@@ -10,8 +10,6 @@ mod paced_acceptor;
 mod paced_clock;
 mod paced_dialer;
 mod paced_link;
-#[cfg(test)]
-mod tests;
 
 pub use pace::Pace;
 pub use paced_acceptor::PacedAcceptor;

@@ -15,8 +15,6 @@ mod opener;
 mod protocol;
 mod stream_link;
 mod target;
-#[cfg(test)]
-mod tests;
 
 pub use accepting::{Handshake, Step, accept, begin, settle};
 pub use bounds::{GREATEST_MESSAGE, limits};

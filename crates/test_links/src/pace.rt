@@ -1,9 +1,9 @@
 //! A clock sleeps exactly where no link was waited for.
-use crate::{Pace, PacedAcceptor, PacedClock, PacedDialer, PacedLink};
 use bsc_edge::{
     Acceptor, Arrived, Clock, Dialer, Kind, Link, LinkFault, MemAcceptor, MemDialer, MemLink,
     Monotonic,
 };
+use bsc_pace::{Pace, PacedAcceptor, PacedClock, PacedDialer, PacedLink};
 use std::alloc::Global;
 use std::test::*;
 

@@ -1,9 +1,8 @@
 //! Links over streams in memory.
 mod handshakes;
 
-use crate::limits;
-use crate::stream_link::StreamLink;
 use bsc_edge::{Incoming, Link, LinkFault, MemPatience};
+use bsc_ws::{StreamLink, limits};
 use std::alloc::{AllocError, Global};
 use std::cell::Cell;
 use std::io::{self, ErrorKind, Read, Write};
@@ -169,7 +168,7 @@ fn of_client(gives: &'static [u8], answers: &'static [u8]) -> FrameRow {
     }
 }
 
-/// FrameRow of clients and of servers, with the answers and the replies.
+/// Frames of clients and of servers, with the answers and the replies.
 #[test]
 fn frames(rt: HostRuntime) -> Result<(), Fail> {
     let alloc = rt.alloc();

@@ -1,10 +1,10 @@
 //! Handshakes over streams in memory, and URIs.
-use super::{Keys, peer_of, told};
-use crate::target::target_of;
-use crate::{accept, dial};
-use bsc_edge::{Kind, MemPatience};
+use super::{Keys, Peer, peer_of, told};
+use bsc_edge::{Dialer, Kind, LinkFault, MemPatience};
+use bsc_ws::{Opener, StreamDialer, StreamLink, accept, dial};
 use std::alloc::{AllocError, Global};
 use std::cell::Cell;
+use std::net::SocketAddrV4;
 use std::str;
 use std::test::Fail;
 
@@ -142,7 +142,22 @@ fn answers(rt: HostRuntime) -> Result<(), Fail> {
     Ok(())
 }
 
-/// URIs, and the last octet and the port of whom they name.
+/// Opens no stream, and keeps the last octet and the port of the address that it was asked for.
+#[derive(Drop)]
+struct Asked<'a>(&'a Cell<Option<(u8, u16)>>);
+
+impl Opener<Peer<'static>, MemPatience<'static>, Keys> for Asked<'_> {
+    fn open(
+        &mut self,
+        _alloc: Global,
+        address: SocketAddrV4,
+    ) -> Result<(Peer<'static>, MemPatience<'static>, Keys), LinkFault> {
+        self.0.set(Some((address.ip().octets()[3], address.port())));
+        Err(LinkFault::Failed)
+    }
+}
+
+/// URIs, and the last octet and the port of whom they name. For one that names nobody no stream is asked for.
 #[test]
 fn targets(rt: HostRuntime) -> Result<(), Fail> {
     let rows: [(&[u8], Option<(u8, u16)>); 12] = [
@@ -160,11 +175,12 @@ fn targets(rt: HostRuntime) -> Result<(), Fail> {
         (b"", None),
     ];
     for (uri, wanted) in rows {
-        let named = match target_of(rt.alloc(), uri) {
-            Ok(target) => Some((target.ip().octets()[3], target.port())),
-            Err(_) => None,
-        };
-        assert_eq!(rt; named, wanted);
+        let asked = Cell::new(None);
+        let mut dialer = StreamDialer::new(Asked(&asked));
+        let link: Result<StreamLink<Peer<'static>, MemPatience<'static>, Keys>, LinkFault> =
+            dialer.dial(rt.alloc(), uri, Kind::Hub);
+        assert!(rt; link.is_err());
+        assert_eq!(rt; asked.get(), wanted);
     }
     Ok(())
 }

@@ -1,6 +1,6 @@
 //! Rings before and during a sleep, and a write that its peer doesn't take.
-use crate::{Bells, LivePatience, LiveStream, Moment};
 use bsc_edge::Patience;
+use bsc_live::{Bells, LivePatience, LiveStream, Moment};
 use mio::net::{TcpListener, TcpStream};
 use std::alloc::Global;
 use std::io::{self, ErrorKind, Read, Write};

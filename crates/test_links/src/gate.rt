@@ -1,6 +1,6 @@
 //! A gate, a stream that says nothing, and dialers of both kinds.
-use crate::{Gate, SocketOpener};
 use bsc_edge::{Acceptor, Arrived, Dialer, Incoming, Kind, Link, LinkFault};
+use bsc_gate::{Gate, SocketOpener};
 use bsc_live::Bells;
 use bsc_ws::StreamDialer;
 use mio::net::TcpStream;

@@ -1,8 +1,8 @@
 //! Links of either origin, over memory.
-use crate::{PeerAcceptor, PeerDialer, PeerLink};
 use bsc_edge::{
     Acceptor, Arrived, Dialer, Incoming, Kind, Link, LinkFault, MemAcceptor, MemDialer, MemLink,
 };
+use bsc_links::{PeerAcceptor, PeerDialer, PeerLink};
 use bsc_octets::NoMemory;
 use std::alloc::Global;
 use std::test::*;
