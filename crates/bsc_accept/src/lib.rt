@@ -30,12 +30,3 @@ pub use reason::Reason;
 pub use start::Start;
 pub use step::Step;
 pub use times::Times;
-
-#[cfg(test)]
-mod reading;
-#[cfg(test)]
-mod rows;
-#[cfg(test)]
-mod telling;
-#[cfg(test)]
-mod tests;

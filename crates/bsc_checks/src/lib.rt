@@ -28,8 +28,3 @@ pub use judging::judge;
 pub use phase::Phase;
 pub use place::Place;
 pub use verdict::Verdict;
-
-#[cfg(test)]
-mod rows;
-#[cfg(test)]
-mod tests;

@@ -25,8 +25,3 @@ pub use laws::{
 pub use side::Side;
 pub use step::ConnectorStep;
 pub use waits::Waits;
-
-#[cfg(test)]
-mod reading;
-#[cfg(test)]
-mod tests;

@@ -23,6 +23,3 @@ pub use laws::{
     no_slot_is_established_for_the_broadcast,
 };
 pub use slots_full::SlotsFull;
-
-#[cfg(test)]
-mod tests;

@@ -37,8 +37,3 @@ pub use laws::{one_check, one_spelling};
 pub use message::Message;
 pub use reading::read;
 pub use writing::write;
-
-#[cfg(test)]
-mod rows;
-#[cfg(test)]
-mod tests;

@@ -20,6 +20,3 @@ pub use event::InitEvent;
 pub use initiating::Initiating;
 pub use laws::{heartbeats_are_put_once, messages_are_heard, requests_are_messages, ticks_close};
 pub use step::InitStep;
-
-#[cfg(test)]
-mod tests;

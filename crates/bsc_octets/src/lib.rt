@@ -20,6 +20,3 @@ pub use identity::{Identity, read_identity};
 pub use no_memory::NoMemory;
 pub use octets::Octets;
 pub use vmac::{Vmac, random48};
-
-#[cfg(test)]
-mod tests;

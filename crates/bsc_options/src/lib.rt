@@ -30,6 +30,3 @@ pub use laws::{one_spelling, reads_back};
 pub use options::Options;
 pub use reading::read_options;
 pub use writing::write_options;
-
-#[cfg(test)]
-mod tests;

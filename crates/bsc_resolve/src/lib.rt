@@ -19,6 +19,3 @@ pub use call::ResolveCall;
 pub use laws::{at_most_256_are_held, what_is_learnt_stays};
 pub use question::Question;
 pub use resolve::Resolve;
-
-#[cfg(test)]
-mod tests;

@@ -10,6 +10,3 @@ mod routes;
 
 pub use path::route;
 pub use routes::Route;
-
-#[cfg(test)]
-mod tests;

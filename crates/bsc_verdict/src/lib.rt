@@ -7,8 +7,6 @@
 
 mod judging;
 mod laws;
-#[cfg(test)]
-mod tests;
 
 pub use judging::judged;
 pub use laws::{one_outcome, one_verdict};

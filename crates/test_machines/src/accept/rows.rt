@@ -1,0 +1,146 @@
+//! The steps behind the worked scripts, worked out by hand.
+use crate::accept::telling::{Does, Told};
+use bsc_accept::{Closing, Times};
+use bsc_history::{End, Refusal};
+
+/// When something is told, what, and what the machine does.
+pub type Row = (u64, Told, Does);
+
+pub const HUB_TIMES: Times = Times {
+    connect_wait: 10_000,
+    disconnect_wait: 10_000,
+    heartbeat: 300_000,
+};
+
+pub const JOIN: [Row; 2] = [
+    (0, Told::Request(1), Does::Asks),
+    (0, Told::Joined, Does::Puts(0x07, 1)),
+];
+
+/// What a machine that joined at 0 is told, and what it does: the steps behind the worked scripts.
+pub const CONNECTED: [&[Row]; 12] = [
+    // A request that the checks refuse, and one that they don't.
+    &[
+        (5, Told::Refused(5), Does::Puts(0x00, 5)),
+        (6, Told::Heartbeat(6), Does::Puts(0x0B, 6)),
+    ],
+    // Another connection of the device joins in its place; the peer answers the Disconnect-Request.
+    &[
+        (9, Told::Ended(End::Replaced), Does::Puts(0x08, 1)),
+        (10, Told::DisconnectAck(2), Does::Nothing),
+        (11, Told::Heartbeat(7), Does::Nothing),
+        (12, Told::DisconnectAck(1), Does::Closes(Closing::NORMAL)),
+    ],
+    // It doesn't answer.
+    &[
+        (0, Told::Ended(End::Replaced), Does::Puts(0x08, 1)),
+        (9_999, Told::Tick, Does::Nothing),
+        (10_000, Told::Tick, Does::Closes(Closing::NORMAL)),
+    ],
+    // The hub stops; a NAK for the Disconnect-Request ends it too, and one for another function doesn't.
+    &[
+        (3, Told::Ended(End::Stopped), Does::Puts(0x08, 1)),
+        (4, Told::Result(0x01, 1), Does::Nothing),
+        (5, Told::Result(0x08, 1), Does::Closes(Closing::NORMAL)),
+    ],
+    // Its outbox was full.
+    &[(
+        3,
+        Told::Ended(End::Full),
+        Does::Closes(Closing::OUTBOX_FULL),
+    )],
+    // Idle after twice the heartbeat.
+    &[
+        (599_999, Told::Tick, Does::Nothing),
+        (600_000, Told::Tick, Does::Closes(Closing::IDLE)),
+    ],
+    // A message, whatever becomes of it, puts that off.
+    &[
+        (400_000, Told::Heartbeat(3), Does::Puts(0x0B, 3)),
+        (600_000, Told::Tick, Does::Nothing),
+        (999_999, Told::Tick, Does::Nothing),
+        (1_000_000, Told::Tick, Does::Closes(Closing::IDLE)),
+    ],
+    &[
+        (400_000, Told::Silence, Does::Nothing),
+        (999_999, Told::Tick, Does::Nothing),
+        (999_999, Told::Carried, Does::Carries),
+        (1_599_998, Told::Tick, Does::Nothing),
+    ],
+    // It disconnects of itself.
+    &[(
+        7,
+        Told::Disconnect(7),
+        Does::PutsAndCloses(0x09, 7, Closing::NORMAL),
+    )],
+    // A Connect-Request asks no more.
+    &[
+        (7, Told::Request(7), Does::Nothing),
+        (8, Told::Carried, Does::Carries),
+    ],
+    // A node finishes it, and once is enough.
+    &[
+        (7, Told::Finish(21), Does::Puts(0x08, 21)),
+        (8, Told::Finish(22), Does::Nothing),
+        (9, Told::DisconnectAck(21), Does::Closes(Closing::NORMAL)),
+    ],
+    // What it is told later doesn't put off the end of its disconnect wait.
+    &[
+        (7, Told::Finish(21), Does::Puts(0x08, 21)),
+        (9_000, Told::Finish(22), Does::Nothing),
+        (9_000, Told::Silence, Does::Nothing),
+        (10_007, Told::Tick, Does::Closes(Closing::NORMAL)),
+    ],
+];
+
+/// What a machine that started at 0 is told, and what it does.
+pub const ASKING: [&[Row]; 7] = [
+    // A Connect-Request without its last octet is refused; the whole one asks.
+    &[
+        (0, Told::Refused(1), Does::Puts(0x00, 1)),
+        (1, Told::Request(1), Does::Asks),
+        (1, Told::Joined, Does::Puts(0x07, 1)),
+    ],
+    // The connect wait counts from the start, whatever came.
+    &[
+        (9_998, Told::Silence, Does::Nothing),
+        (9_999, Told::Tick, Does::Nothing),
+        (10_000, Told::Tick, Does::Closes(Closing::CONNECT_WAIT)),
+    ],
+    // Its VMAC is another's: the refusal answers its Message ID.
+    &[
+        (0, Told::Request(0x0102), Does::Asks),
+        (
+            0,
+            Told::NotJoined(Refusal::Duplicate { holder: Some(1) }),
+            Does::PutsAndCloses(0x00, 0x0102, Closing::NORMAL),
+        ),
+    ],
+    &[
+        (0, Told::Request(1), Does::Asks),
+        (
+            0,
+            Told::NotJoined(Refusal::Duplicate { holder: None }),
+            Does::PutsAndCloses(0x00, 1, Closing::NORMAL),
+        ),
+    ],
+    // There are no rows, or the hub has stopped.
+    &[
+        (0, Told::Request(1), Does::Asks),
+        (
+            0,
+            Told::NotJoined(Refusal::TableFull { rows: 2 }),
+            Does::Closes(Closing::TABLE_FULL),
+        ),
+    ],
+    &[
+        (0, Told::Request(1), Does::Asks),
+        (
+            0,
+            Told::NotJoined(Refusal::Stopped),
+            Does::Closes(Closing::GOING_AWAY),
+        ),
+    ],
+    // A node finishes it before who it is was said.
+    &[(5, Told::Finish(9), Does::Closes(Closing::NORMAL))],
+];
