@@ -5,12 +5,16 @@ use Rattle.bsc_checks.specs.declared.phase.Phase.TheVariants.{Connected as Phase
 use Rattle.bsc_accept.specs.declared.stage.Stage.{Stage}
 use Rattle.bsc_accept.specs.declared.stage.Stage.TheVariants.{AwaitingRequest, Asked, Connected, Disconnecting, Idle}
 use Rattle.bsc_accept.specs.declared.accepting.Accepting.{Accepting}
-use Rattle.bsc_accept.specs.Standing.{AwaitsAnswer}
+use Rattle.bsc_accept.specs.declared.step.Step.{Step}
+use Rattle.bsc_accept.specs.declared.step.Step.TheVariants.{Ask, Reply, ReplyClose, Carry, Close, Nothing}
+use Rattle.bsc_accept.specs.Standing.{AwaitsAnswer, LeftBy, is_open}
 use Rattle.bsc_initiate.specs.declared.stage.Stage.{Stage as InitStage}
 use Rattle.bsc_initiate.specs.declared.stage.Stage.TheVariants.{AwaitingWebsocket, AwaitingAccept, Connected as InitConnected, Disconnecting as InitDisconnecting, Idle as InitIdle}
 use Rattle.bsc_initiate.specs.declared.initiating.Initiating.{Initiating}
-use Rattle.bsc_initiate.specs.Standing.{AwaitsWebsocket, IsConnected, is_open, phase_at}
-use Rattle.test_machines.specs.Waiting.{is_asked, is_unopened}
+use Rattle.bsc_initiate.specs.declared.step.InitStep.{InitStep}
+use Rattle.bsc_initiate.specs.declared.step.InitStep.TheVariants.{Put, PutClose, Connected as NowConnected, Refused, Up, Close as InitClose, Nothing as InitNothing}
+use Rattle.bsc_initiate.specs.Standing.{AwaitsWebsocket, LeftBy as InitLeftBy, is_open as is_open_initiating, phase_at}
+use Rattle.test_machines.specs.Waiting.{is_asked, is_unopened, asks, goes_on, init_goes_on}
 
 asked_id : (s : Stage) → is_asked s ≡ true → (id : ℕ) × (s ≡ Asked id)
 asked_id (Asked id) e = (id, refl)
@@ -22,8 +26,21 @@ asked_id Idle e = absurd (false≢true e)
 pub asked_awaits : (m : Accepting) → is_asked m.stage ≡ true → AwaitsAnswer m
 asked_awaits m e = let found = asked_id m.stage e in record { id = found.0; asked = found.1 }
 
-pub awaits_asked : (m : Accepting) → AwaitsAnswer m → is_asked m.stage ≡ true
-awaits_asked m h = ap is_asked h.asked
+pub left_asked : (step : Step) (m : Accepting) → LeftBy step m → asks step ≡ true → is_asked m.stage ≡ true
+left_asked (Ask who) m h e = ap is_asked h.asked
+left_asked (Reply octets) m h e = absurd (false≢true e)
+left_asked (ReplyClose octets c) m h e = absurd (false≢true e)
+left_asked Carry m h e = absurd (false≢true e)
+left_asked (Close c) m h e = absurd (false≢true e)
+left_asked Nothing m h e = absurd (false≢true e)
+
+pub left_open : (step : Step) (m : Accepting) → LeftBy step m → goes_on step ≡ true → is_open m.stage ≡ true
+left_open (Ask who) m h e = absurd (false≢true e)
+left_open (Reply octets) m h e = h
+left_open (ReplyClose octets c) m h e = absurd (false≢true e)
+left_open Carry m h e = h
+left_open (Close c) m h e = absurd (false≢true e)
+left_open Nothing m h e = h
 
 unopened_waits : (s : InitStage) → is_unopened s ≡ true → s ≡ AwaitingWebsocket
 unopened_waits AwaitingWebsocket e = refl
@@ -38,12 +55,18 @@ unopened_awaits m e = unopened_waits m.stage e
 pub awaits_unopened : (m : Initiating) → AwaitsWebsocket m → is_unopened m.stage ≡ true
 awaits_unopened m e = ap is_unopened e
 
-connected_open : (s : InitStage) → phase_at s ≡ Some PhaseConnected → is_open s ≡ true
+connected_open : (s : InitStage) → phase_at s ≡ Some PhaseConnected → is_open_initiating s ≡ true
 connected_open AwaitingWebsocket e = refl
 connected_open (AwaitingAccept id) e = refl
 connected_open (InitConnected put) e = refl
 connected_open (InitDisconnecting f) e = refl
 connected_open InitIdle e = absurd (false≢true (sym (ap is_none e)))
 
-pub connected_runs : (m : Initiating) → IsConnected m → is_open m.stage ≡ true
-connected_runs m e = connected_open m.stage e
+pub left_running : (step : InitStep) (m : Initiating) → InitLeftBy step m → init_goes_on step ≡ true → is_open_initiating m.stage ≡ true
+left_running (Put octets) m h e = h
+left_running (PutClose octets c) m h e = absurd (false≢true e)
+left_running (NowConnected who) m h e = connected_open m.stage h
+left_running (Refused code) m h e = absurd (false≢true e)
+left_running Up m h e = h
+left_running (InitClose c) m h e = absurd (false≢true e)
+left_running InitNothing m h e = h

@@ -2,7 +2,7 @@
 ghost use Rattle.std.specs.Prelude.{◌≡◌, true};
 ghost use Rattle.std.proofs.Props.{props};
 ghost use Rattle.bsc_initiate.specs.Standing.{is_open, LeftBy};
-ghost use Rattle.test_machines.specs.Waiting.{is_unopened};
+ghost use Rattle.test_machines.specs.Waiting.{init_goes_on, is_unopened};
 
 use arrayvec::ArrayVec;
 use bsc_accept::{Closing, Times};
@@ -245,33 +245,25 @@ struct Machine {
     ghost if_unopened: { unopened ≡ true → is_unopened initiating.stage ≡ true } by { Prim.hlevel props },
 }
 
+/// Whether messages, ticks and a finish may come after a step.
+fn goes_on(step: &InitStep) -> bool
+    ensures { result ≡ init_goes_on step.now }
+{
+    match step {
+        InitStep::PutClose(..) | InitStep::Refused { .. } | InitStep::Close(_) => false,
+        InitStep::Put(_) | InitStep::Connected(_) | InitStep::Up | InitStep::Nothing => true,
+    }
+}
+
 /// A machine after its step.
-#[tactic(auto, using(crate::proofs::Waits::connected_runs))]
+#[tactic(auto, using(crate::proofs::Waits::left_running))]
 fn left(initiating: Initiating, step: &InitStep) -> Machine
     requires { LeftBy step.now initiating }
 {
-    match step {
-        InitStep::PutClose(..) | InitStep::Refused { .. } | InitStep::Close(_) => {
-            Machine {
-                initiating,
-                running: false,
-                unopened: false,
-            }
-        }
-        InitStep::Connected(_) => {
-            Machine {
-                initiating,
-                running: true,
-                unopened: false,
-            }
-        }
-        InitStep::Put(_) | InitStep::Up | InitStep::Nothing => {
-            Machine {
-                initiating,
-                running: true,
-                unopened: false,
-            }
-        }
+    Machine {
+        initiating,
+        running: goes_on(step),
+        unopened: false,
     }
 }
 

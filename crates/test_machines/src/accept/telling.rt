@@ -2,7 +2,7 @@
 ghost use Rattle.std.specs.Prelude.{◌≡◌, true};
 ghost use Rattle.std.proofs.Props.{props};
 ghost use Rattle.bsc_accept.specs.Standing.{is_open, LeftBy};
-ghost use Rattle.test_machines.specs.Waiting.{is_asked};
+ghost use Rattle.test_machines.specs.Waiting.{asks, goes_on, is_asked};
 
 use arrayvec::ArrayVec;
 use bsc_accept::{Accepting, Closing, Step, Times};
@@ -147,33 +147,35 @@ pub struct Machine {
     ghost if_asked: { asked ≡ true → is_asked accepting.stage ≡ true } by { Prim.hlevel props },
 }
 
+/// Whether a step asks about the peer.
+fn asks(step: &Step) -> bool
+    ensures { result ≡ asks step.now }
+{
+    match step {
+        Step::Ask(_) => true,
+        _ => false,
+    }
+}
+
+/// Whether messages, ticks and a finish may come after a step.
+fn goes_on(step: &Step) -> bool
+    ensures { result ≡ goes_on step.now }
+{
+    match step {
+        Step::Ask(_) | Step::ReplyClose(..) | Step::Close(_) => false,
+        Step::Reply(_) | Step::Carry | Step::Nothing => true,
+    }
+}
+
 /// A machine after its step.
-#[tactic(auto, using(crate::proofs::Waits::awaits_asked))]
+#[tactic(auto, using(crate::proofs::Waits::left_asked, crate::proofs::Waits::left_open))]
 fn left(accepting: Accepting, step: &Step) -> Machine
     requires { LeftBy step.now accepting }
 {
-    match step {
-        Step::Ask(_) => {
-            Machine {
-                accepting,
-                running: false,
-                asked: true,
-            }
-        }
-        Step::ReplyClose(..) | Step::Close(_) => {
-            Machine {
-                accepting,
-                running: false,
-                asked: false,
-            }
-        }
-        Step::Reply(_) | Step::Carry | Step::Nothing => {
-            Machine {
-                accepting,
-                running: true,
-                asked: false,
-            }
-        }
+    Machine {
+        accepting,
+        running: goes_on(step),
+        asked: asks(step),
     }
 }
 
