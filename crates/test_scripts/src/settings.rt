@@ -85,26 +85,58 @@ fn node_of(alloc: Global, text: &str) -> Result<NodeSettings, Fail> {
     Ok(settings.node.ok_or("a node")?)
 }
 
-/// Whether the octets are there, and are these.
+/// Whether the octets are these, which are none where there aren't any.
 fn is_text(octets: &Option<Octets>, text: &str) -> bool {
     match octets {
         Some(octets) => octets.as_slice() == text.as_bytes(),
-        None => false,
+        None => text.is_empty(),
     }
+}
+
+/// Whether the numbers of a node are those that it has where its document says none.
+fn has_defaults(node: &NodeSettings) -> bool {
+    node.max_bvlc == 16_384
+        && node.max_npdu == 1_497
+        && node.connect_wait_ms == 10_000
+        && node.disconnect_wait_ms == 10_000
+        && node.heartbeat_ms == 300_000
+        && node.least_reconnect_ms == 2_000
+        && node.greatest_reconnect_ms == 30_000
+        && node.turns == 1 << 40
+}
+
+/// Whether these are the settings of a node with this last octet of its VMAC, failover, port and URIs of its own, at the
+/// usual hub and with the default numbers.
+fn is_node(node: &NodeSettings, own: u8, failover: &str, port: Option<u16>, uris: &str) -> bool {
+    has_defaults(node)
+        && node.vmac == Vmac([2, 0, 0, 0, 0, own])
+        && node.primary.as_slice() == b"ws://127.0.0.1:47808/".as_slice()
+        && is_text(&node.failover, failover)
+        && node.direct_port == port
+        && is_text(&node.direct_uris, uris)
+}
+
+/// Whether a document has such a node.
+fn gives(
+    alloc: Global,
+    text: &str,
+    own: u8,
+    failover: &str,
+    port: Option<u16>,
+    uris: &str,
+) -> Result<bool, Fail> {
+    let node = node_of(alloc, text)?;
+    Ok(is_node(&node, own, failover, port, uris))
 }
 
 #[test]
 fn gives_a_node(rt: HostRuntime) -> Result<(), Fail> {
-    let node = node_of(rt.alloc(), NODE_EXAMPLE)?;
-    assert!(rt; node.vmac == Vmac([2, 0, 0, 0, 0, 10]));
-    assert!(rt; node.primary.as_slice() == b"ws://127.0.0.1:47808/".as_slice());
-    assert!(rt; is_text(&node.failover, "ws://127.0.0.1:47809/"));
-    assert!(rt; is_text(&node.direct_uris, "ws://127.0.0.1:47810/"));
-    assert_eq!(rt; node.direct_port, Some(47_810));
-    let least = node_of(rt.alloc(), NODE_REQUIRED)?;
-    assert!(rt; least.failover.is_none() && least.direct_uris.is_none());
-    assert_eq!(rt; least.direct_port, None);
-    assert_eq!(rt; least.greatest_reconnect_ms, 30_000);
+    let alloc = rt.alloc();
+    let failover = "ws://127.0.0.1:47809/";
+    let uris = "ws://127.0.0.1:47810/";
+    assert!(rt; gives(alloc, NODE_REQUIRED, 10, "", None, "")?);
+    assert!(rt; gives(alloc, OTHER_NODE_EXAMPLE, 11, failover, None, "")?);
+    assert!(rt; gives(alloc, NODE_EXAMPLE, 10, failover, Some(47_810), uris)?);
     Ok(())
 }
 
@@ -119,7 +151,7 @@ fn fault(alloc: Global, text: &[u8]) -> &'static str {
 }
 
 /// A document in two parts, and what a fault line would name.
-const DOCUMENTS: [(&str, &str, &str); 42] = [
+const DOCUMENTS: [(&str, &str, &str); 41] = [
     (REQUIRED, "max_npdu = 0", "hub.max_npdu"),
     (REQUIRED, "rows = 12.0", "hub.rows"),
     (REQUIRED, "heartbeat_ms = -300000", "hub.heartbeat_ms"),
@@ -213,7 +245,6 @@ const DOCUMENTS: [(&str, &str, &str); 42] = [
     ("[[hub]]", "", "unknown"),
     ("node = 1", "", "unknown"),
     ("[hub", "", "-"),
-    (OTHER_NODE_EXAMPLE, "", ""),
 ];
 
 #[test]
