@@ -124,7 +124,9 @@ fn main(rt: HostRuntime) -> ExitCode {
     );
     if status == REFUSED {
         // Where nobody can be told, the status says it all the same.
-        let _ = eprintln!(rt; "bsc: these words are no command; ./bsc --help in the repository says how to call it");
+        let _ = eprintln!(rt;
+            "bsc: these words are no command; ./bsc --help in the repository says how to call it"
+        );
     }
     ExitCode::from(status)
 }
