@@ -1,15 +1,13 @@
 -- A hub that was served on a port that was bound.
 use Rattle.std.proofs.Common.{◌≡◌, ℕ, List, [], Option, Some, None, refl, ap, sym, ◌∙◌, subst}
 use Rattle.bsc_turn.specs.declared.pass.Pass.{Pass}
-use Rattle.bsc_hub.specs.declared.hub.Hub.{Hub}
 use Rattle.bsc_edge.specs.Told.{Stays, Tells}
-use Rattle.bsc_session.specs.declared.job.SessionJob.{SessionJob}
-use Rattle.bsc_session.specs.declared.limits.SessionLimits.{SessionLimits}
 use Rattle.bsc_settings.specs.declared.hub.HubSettings.{HubSettings}
 use Rattle.bsc_serve.specs.declared.end.ServeEnd.{ServeEnd}
-use Rattle.bsc_serve.specs.Fates.{links_of}
-use Rattle.bsc_serve.specs.Serving.{Loses, Serving, cut_links}
-use Rattle.bsc_hub_command.specs.Served.{Bound, SaysEnd, session_limits}
+use Rattle.bsc_serve.specs.declared.terms.ServeTerms.{ServeTerms}
+use Rattle.bsc_serve.specs.Serving.{Loses, Serving}
+use Rattle.bsc_serve.specs.Worlds.{ServeWorld}
+use Rattle.bsc_hub_command.specs.Served.{Bound, Course, HubWorld, SaysEnd, terms_of, with_pass}
 
 tells_still : {A : Type 0} → (a b : Option A) (x : A) → Tells a x → Stays a b → Tells b x
 tells_still a None x t s = tt
@@ -23,22 +21,31 @@ loses_from None (Some m) (Some n) xs s t = absurd s
 loses_from (Some l) (Some m) (Some n) xs s t = sym s ∙ t
 
 module _ {L C : Type 0} where
-  pub bound_so : (v : HubSettings) (sessions : Option ℕ) (h : Hub) (p q : Pass) (l l1 l2 : Option (List L)) (b1 b2 : Option (Option ℕ)) (j j' : Option (List (SessionJob L C))) (since : Option ℕ) (f f' : ℕ) (s : ℕ) (t t' : Option (List ℕ)) (end : ServeEnd) (w : SessionLimits) (n port : ℕ) → w ≡ session_limits v → n ≡ v.turns → port ≡ v.port → Tells b1 (Some port) → Stays b1 b2 → Stays l l1 → Serving h w n sessions p q l1 l2 j j' since f f' end → SaysEnd end s t t' → Bound v sessions h p q l l2 b2 j j' since f f' s t t'
-  bound_so v sessions h p q l l1 l2 b1 b2 j j' since f f' s t t' end w n port limits turns same bound stays left serving says =
-      let a : Serving h w v.turns sessions p q l1 l2 j j' since f f' end = subst (λ (k : ℕ). Serving h w k sessions p q l1 l2 j j' since f f' end) turns serving in
-      let b : Serving h (session_limits v) v.turns sessions p q l1 l2 j j' since f f' end = subst (λ (y : SessionLimits). Serving h y v.turns sessions p q l1 l2 j j' since f f' end) limits a in
+  pub bound_so : (v : HubSettings) (sessions : Option ℕ) (k : Course) (before after : HubWorld L C) (links : Option (List L))
+      (told : Option (Option ℕ)) (s : ℕ) (end : ServeEnd) (terms : ServeTerms) (port : ℕ)
+      → terms ≡ terms_of v sessions → port ≡ v.port → Tells told (Some port) → Stays told after.port → Stays before.links links
+      → Serving k.hub terms (record (with_pass k.first before) { links = links }) (with_pass k.last after) end
+      → SaysEnd end s before.written after.written → Bound k v sessions before after s
+  bound_so v sessions k before after links told s end terms port asked same bound stays left serving says =
+      let first : ServeWorld L C = record (with_pass k.first before) { links = links } in
+      let b : Serving k.hub (terms_of v sessions) first (with_pass k.last after) end =
+          subst (λ (t : ServeTerms). Serving k.hub t first (with_pass k.last after) end) asked serving in
       record {
         end = end;
-        bound = tells_still b1 b2 (Some v.port) (subst (λ (k : ℕ). Tells b1 (Some k)) same bound) stays;
+        bound = tells_still told after.port (Some v.port) (subst (λ (n : ℕ). Tells told (Some n)) same bound) stays;
         serving = record {
           arrivals = b.arrivals;
           cut = b.cut;
+          stop = b.stop;
           cut_last = b.cut_last;
-          left = loses_from l l1 l2 _ left b.left;
+          left = loses_from before.links links after.links _ left b.left;
+          within = b.within;
           jobs = b.jobs;
           fates = b.fates;
           returned = b.returned;
           gathered = b.gathered;
+          went = b.went;
+          stopped = b.stopped;
           ends = b.ends;
         };
         says = says;

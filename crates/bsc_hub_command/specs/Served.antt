@@ -1,5 +1,6 @@
 -- What serving a hub by its settings comes to.
 use Rattle.std.specs.Prelude.{◌≡◌, ℕ, ◌⊎◌, List, [], Option, Some, None}
+use Rattle.std.specs.declared.alloc.Global.{Global}
 use Rattle.std.specs.declared.sync.Arc.{Arc}
 use Rattle.std.specs.Arc.{arc_value}
 use Rattle.bsc_outside.specs.Faults.{HasRisen}
@@ -16,7 +17,9 @@ use Rattle.bsc_settings.specs.declared.hub.HubSettings.{HubSettings}
 use Rattle.bsc_settings.specs.Parts.{identity_of, limits_of, times_of}
 use Rattle.bsc_serve.specs.declared.end.ServeEnd.{ServeEnd}
 use Rattle.bsc_serve.specs.declared.end.ServeEnd.TheVariants.{Done, StoppedBefore, AcceptFault, NoMemory}
+use Rattle.bsc_serve.specs.declared.terms.ServeTerms.{ServeTerms}
 use Rattle.bsc_serve.specs.Serving.{Serving}
+use Rattle.bsc_serve.specs.Worlds.{ServeWorld}
 use Rattle.bsc_hub_command.specs.Lines.{end_text, link_line}
 
 -- A text was written, and the status is the one that is wanted; or its write failed, and the status is 4; or there was no
@@ -35,33 +38,61 @@ SaysEnd NoMemory s before after = RanOut s before after
 abbrev pub session_limits : HubSettings → SessionLimits
 session_limits v = record { times = times_of v }
 
+-- what serving a hub of these settings is asked for
+abbrev pub terms_of : HubSettings → Option ℕ → ServeTerms
+terms_of v sessions = record { limits = session_limits v; turns = v.turns; sessions = sessions }
+
+-- What there is outside the command at a moment, each as far as it is told: the links that the acceptor has left, the port
+-- that it is bound to, and its count of faults; the jobs that the spawner has taken, how many of them since it last
+-- gathered, and its count of jobs that weren't started; and what was written.
+pub record HubWorld (L C : Type 0) : Type 0 where
+  pub links : Option (List L)
+  pub port : Option (Option ℕ)
+  pub faults : ℕ
+  pub jobs : Option (List (SessionJob L C))
+  pub since : Option ℕ
+  pub unstarted : ℕ
+  pub written : Option (List ℕ)
+
+-- A hub, with its own pass at first and at last.
+pub record Course : Type 0 where
+  pub hub : Hub
+  pub first : Pass
+  pub last : Pass
+
 module _ {L C : Type 0} where
-  -- The port wasn't bound: the acceptor's count of faults rose, and no link left it.
-  pub record NotBound (p q : Pass) (l l' : Option (List L)) (j j' : Option (List (SessionJob L C))) (f f' : ℕ)
-      (s : ℕ) (b b' : Option (List ℕ)) : Type 0 where
-    pub pass : q ≡ p
-    pub left : Stays l l'
-    pub jobs : j' ≡ j
-    pub failed : HasRisen f f'
-    pub says : EndsWith s 6 b b' link_line
+  -- what serving a hub sees of it, beside the hub's own pass
+  abbrev pub with_pass : Pass → HubWorld L C → ServeWorld L C
+  with_pass p w = record { pass = p; links = w.links; jobs = w.jobs; since = w.since; unstarted = w.unstarted }
 
-  -- The port of the settings was bound, and the hub was served with their limits and turns.
-  pub record Bound (v : HubSettings) (sessions : Option ℕ) (h : Hub) (p q : Pass) (l l' : Option (List L))
-      (port : Option (Option ℕ)) (j j' : Option (List (SessionJob L C))) (since : Option ℕ) (f f' : ℕ)
-      (s : ℕ) (b b' : Option (List ℕ)) : Type 0 where
+  -- The port wasn't bound: the acceptor's count of faults rose, no link left it, and the pass and the spawner are as they were.
+  pub record NotBound (k : Course) (before after : HubWorld L C) (s : ℕ) : Type 0 where
+    pub pass : k.last ≡ k.first
+    pub links : Stays before.links after.links
+    pub jobs : after.jobs ≡ before.jobs
+    pub since : after.since ≡ before.since
+    pub unstarted : after.unstarted ≡ before.unstarted
+    pub failed : HasRisen before.faults after.faults
+    pub says : EndsWith s 6 before.written after.written link_line
+
+  -- The port of the settings was bound, the hub was served with their limits and turns, and what is written tells how that
+  -- ended.
+  pub record Bound (k : Course) (v : HubSettings) (sessions : Option ℕ) (before after : HubWorld L C) (s : ℕ) : Type 0 where
     pub end : ServeEnd
-    pub bound : Tells port (Some v.port)
-    pub serving : Serving h (session_limits v) v.turns sessions p q l l' j j' since f f' end
-    pub says : SaysEnd end s b b'
+    pub bound : Tells after.port (Some v.port)
+    pub serving : Serving k.hub (terms_of v sessions) (with_pass k.first before) (with_pass k.last after) end
+    pub says : SaysEnd end s before.written after.written
 
-  -- A hub of the settings was made, and it and its pass, number 0 at first, with nothing seen, are kept.
-  pub record Runs {Z : Type 0} (v : HubSettings) (sessions : Option ℕ) (kept : Kept) (hub : Arc Hub Z) (l l' : Option (List L))
-      (port : Option (Option ℕ)) (j j' : Option (List (SessionJob L C))) (since : Option ℕ) (f f' k k' : ℕ)
-      (s : ℕ) (b b' : Option (List ℕ)) : Type 0 where
+  -- A hub of the settings was made, and it and its pass, number 0 at first, with nothing seen, are kept; its port wasn't bound,
+  -- or it was served.
+  pub record Runs (v : HubSettings) (sessions : Option ℕ) (kept : Kept) (before after : HubWorld L C) (s : ℕ) : Type 0 where
+    pub hub : Arc Hub Global
     pub first : Pass
     pub last : Pass
+    pub made : kept.hub ≡ Some hub
+    pub keeps : kept.pass ≡ Some last
     pub caller : IsCaller (arc_value hub) first
     pub new : (number_of first ≡ 0) × (seen first ≡ []) × (own_list first ≡ []) × (ended_callers first ≡ [])
     pub about : about_of (arc_value hub) ≡ record { hub = identity_of v; limits = limits_of v }
-    pub keeps : kept.pass ≡ Some last
-    pub went : NotBound first last l l' j j' k k' s b b' ⊎ Bound v sessions (arc_value hub) first last l l' port j j' since f f' s b b'
+    pub went : NotBound (record { hub = arc_value hub; first = first; last = last }) before after s
+        ⊎ Bound (record { hub = arc_value hub; first = first; last = last }) v sessions before after s

@@ -88,13 +88,18 @@ pub fn run_hub<
 
     // Once a hub is made, its settings are those of the file, and this is what became of it.
     ensures runs { (hub : _) → kept.new.hub ≡ Some hub → (v : HubSettingsType) × IsSettled (F.holds files.old words.entry.path.now) v
-        × Runs v words.entry.sessions kept.new hub (A.left acceptor.old) (A.left acceptor.new) (A.bound acceptor.new)
-        (P.jobs spawner.old) (P.jobs spawner.new) (P.since spawner.new) (P.faults spawner.old) (P.faults spawner.new)
-        (A.faults acceptor.old) (A.faults acceptor.new) result (K.held sink.old) (K.held sink.new) }
+        × Runs v words.entry.sessions kept.new
+        (record { links = A.left acceptor.old; port = A.bound acceptor.old; faults = A.faults acceptor.old; jobs = P.jobs spawner.old;
+            since = P.since spawner.old; unstarted = P.faults spawner.old; written = K.held sink.old })
+        (record { links = A.left acceptor.new; port = A.bound acceptor.new; faults = A.faults acceptor.new; jobs = P.jobs spawner.new;
+            since = P.since spawner.new; unstarted = P.faults spawner.new; written = K.held sink.new }) result }
 
-    // Where none is made, the file wasn't read, its settings were refused, or memory ran out.
+    // Where none is made, the file wasn't read, its settings were refused, or memory ran out; and nothing was touched but the
+    // files and the sink.
     ensures unmade { kept.new.hub ≡ None → Unsettled (F.holds files.old words.entry.path.now) (F.faults files.old) (F.faults files.new)
         result (K.held sink.old) (K.held sink.new) }
+    ensures untouched { kept.new.hub ≡ None →
+        (kept.new ≡ kept.old) × (clock.new ≡ clock.old) × (acceptor.new ≡ acceptor.old) × (spawner.new ≡ spawner.old) }
     ensures read { result ≡ 3 → HasRisen (F.faults files.old) (F.faults files.new) }
     ensures write { result ≡ 4 → HasRisen (K.faults sink.old) (K.faults sink.new) }
     ensures link { result ≡ 6 → HasRisen (A.faults acceptor.old) (A.faults acceptor.new) }

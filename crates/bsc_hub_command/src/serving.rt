@@ -8,7 +8,7 @@ ghost use Rattle.bsc_player.specs.LastLines.{RanOut};
 ghost use Rattle.bsc_settings.specs.Parts.{identity_of, limits_of};
 ghost use Rattle.bsc_serve.specs.declared.end.ServeEnd.{ServeEnd};
 ghost use Rattle.bsc_hub_command.specs.Lines.{end_text};
-ghost use Rattle.bsc_hub_command.specs.Served.{Bound, NotBound, Runs, Says, SaysEnd, session_limits};
+ghost use Rattle.bsc_hub_command.specs.Served.{Bound, NotBound, Runs, Says, SaysEnd, terms_of};
 
 use crate::texts::done_text;
 use bsc_edge::{Acceptor, Clock, Link, Spawner};
@@ -17,7 +17,7 @@ use bsc_hub::{Hub, Kept, Pass};
 use bsc_octets::NoMemory;
 use bsc_outside::Sink;
 use bsc_player::{end_with, out_of_memory};
-use bsc_serve::{ServeEnd, serve_on};
+use bsc_serve::{ServeEnd, ServeTerms, serve_on};
 use bsc_session::{SessionJob, SessionLimits};
 use bsc_settings::HubSettings;
 use std::alloc::Global;
@@ -52,12 +52,16 @@ fn tell_end<K: Sink>(alloc: Global, sink: &mut K, end: ServeEnd) -> u8
     }
 }
 
-/// The limits of its sessions.
-fn sessions_of(settings: &HubSettings) -> SessionLimits
-    ensures { result ≡ session_limits settings.now }
+/// What serving a hub of these settings is asked for.
+fn terms_by(settings: &HubSettings, sessions: Option<u64>) -> ServeTerms
+    ensures { result ≡ terms_of settings.now sessions }
 {
-    SessionLimits {
-        times: settings.times(),
+    ServeTerms {
+        limits: SessionLimits {
+            times: settings.times(),
+        },
+        turns: settings.turns(),
+        sessions,
     }
 }
 
@@ -95,11 +99,16 @@ fn serve_hub<
 ) -> u8
     requires can { P.can_start spawner.old }
     requires pass { IsCaller (arc_value hub.now) pass.old }
-    ensures went { NotBound pass.old pass.new (A.left acceptor.old) (A.left acceptor.new) (P.jobs spawner.old) (P.jobs spawner.new)
-        (A.faults acceptor.old) (A.faults acceptor.new) result (K.held sink.old) (K.held sink.new)
-        ⊎ Bound settings.now sessions (arc_value hub.now) pass.old pass.new (A.left acceptor.old) (A.left acceptor.new)
-        (A.bound acceptor.new) (P.jobs spawner.old) (P.jobs spawner.new) (P.since spawner.new) (P.faults spawner.old)
-        (P.faults spawner.new) result (K.held sink.old) (K.held sink.new) }
+    ensures went { NotBound (record { hub = arc_value hub.now; first = pass.old; last = pass.new })
+        (record { links = A.left acceptor.old; port = A.bound acceptor.old; faults = A.faults acceptor.old; jobs = P.jobs spawner.old;
+            since = P.since spawner.old; unstarted = P.faults spawner.old; written = K.held sink.old })
+        (record { links = A.left acceptor.new; port = A.bound acceptor.new; faults = A.faults acceptor.new; jobs = P.jobs spawner.new;
+            since = P.since spawner.new; unstarted = P.faults spawner.new; written = K.held sink.new }) result
+        ⊎ Bound (record { hub = arc_value hub.now; first = pass.old; last = pass.new }) settings.now sessions
+        (record { links = A.left acceptor.old; port = A.bound acceptor.old; faults = A.faults acceptor.old; jobs = P.jobs spawner.old;
+            since = P.since spawner.old; unstarted = P.faults spawner.old; written = K.held sink.old })
+        (record { links = A.left acceptor.new; port = A.bound acceptor.new; faults = A.faults acceptor.new; jobs = P.jobs spawner.new;
+            since = P.since spawner.new; unstarted = P.faults spawner.new; written = K.held sink.new }) result }
     ensures write { result ≡ 4 → HasRisen (K.faults sink.old) (K.faults sink.new) }
     ensures link { result ≡ 6 → HasRisen (A.faults acceptor.old) (A.faults acceptor.new) }
     ensures not_read { (result ≡ 0) ⊎ (result ≡ 4) ⊎ (result ≡ 6) ⊎ (result ≡ 7) }
@@ -109,19 +118,8 @@ fn serve_hub<
     match acceptor.bind(settings.port()) {
         Err(_) => end_with(sink, b"fault link\n", 6),
         Ok(()) => {
-            let limits = sessions_of(settings);
-            let end = serve_on(
-                rt,
-                alloc,
-                hub,
-                pass,
-                &limits,
-                settings.turns(),
-                sessions,
-                clock,
-                acceptor,
-                spawner,
-            );
+            let terms = terms_by(settings, sessions);
+            let end = serve_on(rt, alloc, hub, pass, &terms, clock, acceptor, spawner);
             tell_end(alloc, sink, end)
         }
     }
@@ -152,12 +150,16 @@ pub fn serve<
 
     // Once a hub is made, it and its pass are kept, and this is what became of it.
     ensures runs { (hub : _) → kept.new.hub ≡ Some hub →
-        Runs settings.now sessions kept.new hub (A.left acceptor.old) (A.left acceptor.new) (A.bound acceptor.new)
-        (P.jobs spawner.old) (P.jobs spawner.new) (P.since spawner.new) (P.faults spawner.old) (P.faults spawner.new)
-        (A.faults acceptor.old) (A.faults acceptor.new) result (K.held sink.old) (K.held sink.new) }
+        Runs settings.now sessions kept.new
+        (record { links = A.left acceptor.old; port = A.bound acceptor.old; faults = A.faults acceptor.old; jobs = P.jobs spawner.old;
+            since = P.since spawner.old; unstarted = P.faults spawner.old; written = K.held sink.old })
+        (record { links = A.left acceptor.new; port = A.bound acceptor.new; faults = A.faults acceptor.new; jobs = P.jobs spawner.new;
+            since = P.since spawner.new; unstarted = P.faults spawner.new; written = K.held sink.new }) result }
 
-    // Where none is made there was no memory.
-    ensures unmade { kept.new.hub ≡ None → (kept.new ≡ kept.old) × RanOut result (K.held sink.old) (K.held sink.new) }
+    // Where none is made there was no memory, and nothing was touched but the sink.
+    ensures unmade { kept.new.hub ≡ None → RanOut result (K.held sink.old) (K.held sink.new) }
+    ensures untouched { kept.new.hub ≡ None →
+        (kept.new ≡ kept.old) × (clock.new ≡ clock.old) × (acceptor.new ≡ acceptor.old) × (spawner.new ≡ spawner.old) }
     ensures write { result ≡ 4 → HasRisen (K.faults sink.old) (K.faults sink.new) }
     ensures link { result ≡ 6 → HasRisen (A.faults acceptor.old) (A.faults acceptor.new) }
     ensures not_read { (result ≡ 0) ⊎ (result ≡ 4) ⊎ (result ≡ 6) ⊎ (result ≡ 7) }

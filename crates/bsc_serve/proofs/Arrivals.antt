@@ -5,6 +5,7 @@ use Rattle.bsc_turn.specs.declared.view.Ended.{Ended as EndedCaller}
 use Rattle.bsc_turn.specs.Histories.{StartsWith}
 use Rattle.bsc_turn.specs.Passes.{newest_number, seen}
 use Rattle.bsc_hub.specs.declared.hub.Hub.{Hub}
+use Rattle.bsc_hub.proofs.Following.{starts_then}
 use Rattle.bsc_edge.specs.declared.arrived.Arrived.{Arrived}
 use Rattle.bsc_edge.specs.declared.arrived.Arrived.TheVariants.{Link, Quiet}
 use Rattle.bsc_edge.specs.declared.fault.LinkFault.{LinkFault}
@@ -14,7 +15,6 @@ use Rattle.bsc_session.specs.declared.job.SessionJob.{SessionJob}
 use Rattle.bsc_serve.specs.Fates.{AreFates, Arrival, Fate, IsFate, IsSplitIn, caller_in, callers_of, job_in, jobs_of, links_of, returned, spent, started, unstarted_in, unstarted_of}
 use Rattle.bsc_serve.specs.Inner.{limit_of}
 use Rattle.bsc_serve.specs.Serving.{Loses, RoseBy}
-use Rattle.bsc_serve.proofs.Passes.{starts_then}
 
 few_in : {J : Type 0} → (f : Fate J) → unstarted_in f ≤ 1
 few_in (started j) = omega arith

@@ -11,17 +11,18 @@ use Rattle.bsc_turn.specs.Effects.{ended_of}
 use Rattle.bsc_turn.specs.Histories.{StartsWith}
 use Rattle.bsc_turn.specs.Passes.{newest_number, seen, view_of}
 use Rattle.bsc_hub.specs.declared.hub.Hub.{Hub}
-use Rattle.bsc_hub.specs.Passing.{Passed, about_of}
+use Rattle.bsc_hub.specs.Passing.{Went, about_of}
+use Rattle.bsc_hub.proofs.Following.{starts_same, went_then}
 use Rattle.bsc_edge.specs.declared.unstarted.Unstarted.{Unstarted}
 use Rattle.bsc_edge.specs.declared.unstarted.Unstarted.TheVariants.{Failed, NoMemory as NoRoom}
 use Rattle.bsc_edge.specs.Told.{ComesBack}
 use Rattle.bsc_session.specs.declared.limits.SessionLimits.{SessionLimits}
+use Rattle.bsc_serve.specs.declared.terms.ServeTerms.{ServeTerms}
 use Rattle.bsc_session.specs.declared.job.SessionJob.{SessionJob}
 use Rattle.bsc_serve.specs.Fates.{IsJobOf, IsSplitIn, returned, spent, started}
 use Rattle.bsc_serve.specs.Inner.{Draws, Fares, HandsOver, LacksRoom, SplitsOff, TakesBack, limit_of}
 use Rattle.bsc_serve.specs.Serving.{RoseBy}
 use Rattle.bsc_serve.proofs.Arrivals.{grows_none}
-use Rattle.bsc_serve.proofs.Passes.{passed_then, starts_same}
 
 -- a job that came back is the one that was handed in
 pub back_failed : {J : Type 0} → (u : Unstarted J) (job given : J) → u ≡ Failed job → ComesBack u given → job ≡ given
@@ -41,7 +42,7 @@ split_in h p m x s = record {
   number = s.more;
   drawn = s.newer;
   since = subst (λ (l : List Stamped). StartsWith l (seen p)) (sym s.same) (starts_same (seen p));
-  by = subst (λ (l : List Stamped). StartsWith (seen m) l) (sym s.same) s.passed.grows;
+  by = subst (λ (l : List Stamped). StartsWith (seen m) l) (sym s.same) s.went.grows;
 }
 
 draws_now : (h : Hub) (p m x : Pass) → SplitsOff h p m x → Draws h p m
@@ -50,17 +51,20 @@ draws_now h p m x s = (subst (λ n. newest_number p < n) s.number s.newer, s.roo
 draws_back : (h : Hub) (p m q x : Pass) → SplitsOff h p m x → newest_number q ≡ newest_number m → Draws h p q
 draws_back h p m q x s e = (subst (λ n. newest_number p < n) (s.number ∙ sym e) s.newer, subst (λ n. n < limit_of h) (sym e) s.room)
 
-back : (h : Hub) (p m q x : Pass) → SplitsOff h p m x → TakesBack h m q x → Passed h p (ended_of (view_of x) ∷ []) None q
-back h p m q x s t = passed_then h p m q [] (ended_of (view_of x) ∷ []) None s.passed (subst (λ (l : List EndedCaller). Passed h m (ended_of (view_of x) ∷ l) None q) s.ended t.0)
+back : (h : Hub) (p m q x : Pass) → SplitsOff h p m x → TakesBack h m q x → Went h p 1 (ended_of (view_of x) ∷ []) None q
+back h p m q x s t =
+    went_then h p m q 1 0 [] (ended_of (view_of x) ∷ []) None s.went
+    (subst (λ (l : List EndedCaller). Went h m 0 (ended_of (view_of x) ∷ l) None q) s.ended t.0)
 
 module _ {L C : Type 0} where
   -- there was no number
-  pub fares_spent : (h : Hub) (v : SessionLimits) (n : ℕ) (p q : Pass) (l : L) (j : Option (List (SessionJob L C))) (f : ℕ) → Passed h p [] None q → newest_number q ≡ (about_of h).limits.callers → Fares h v n p q l j j f f (Ok false)
-  fares_spent h v n p q l j f passed all = record {
+  pub fares_spent : (h : Hub) (terms : ServeTerms) (p q : Pass) (l : L) (j : Option (List (SessionJob L C))) (f : ℕ)
+      → Went h p 1 [] None q → newest_number q ≡ (about_of h).limits.callers → Fares h terms p q l j j f f (Ok false)
+  fares_spent h terms p q l j f went all = record {
     fate = spent;
     is = all;
     jobs = grows_none j;
-    passed = passed;
+    went = went;
     draws = all;
     rose = inl (omega arith);
     counts = refl;
@@ -72,7 +76,7 @@ module _ {L C : Type 0} where
     caller = ended_of (view_of x);
     own = s.own;
     jobs = grows_none j;
-    passed = back h p m q x s t;
+    went = back h p m q x s t;
     draws = draws_back h p m q x s t.1;
     later = omega arith;
   }
@@ -88,34 +92,38 @@ module _ {L C : Type 0} where
   }
 
   -- a job was made and handed over
-  pub fares_made : (h : Hub) (v : SessionLimits) (n : ℕ) (p m q x : Pass) (l : L) (job : SessionJob L C) (j j' : Option (List (SessionJob L C))) (f f' : ℕ) (r : Result Bool NoMemory) → SplitsOff h p m x → job.link ≡ l → arc_value job.hub ≡ h → job.pass ≡ x → job.limits ≡ v → job.turns ≡ n → job.ended ≡ None → HandsOver h m q job j j' f f' r → Fares h v n p q l j j' f f' r
-  fares_made h v n p m q x l job j j' f f' (Ok true) s link hub pass limits turns ended t = record {
+  pub fares_made : (h : Hub) (terms : ServeTerms) (p m q x : Pass) (l : L) (job : SessionJob L C)
+      (j j' : Option (List (SessionJob L C))) (f f' : ℕ) (r : Result Bool NoMemory) → SplitsOff h p m x → job.link ≡ l
+      → arc_value job.hub ≡ h → job.pass ≡ x → job.limits ≡ terms.limits → job.turns ≡ terms.turns → job.ended ≡ None
+      → HandsOver h m q job j j' f f' r → Fares h terms p q l j j' f f' r
+  fares_made h terms p m q x l job j j' f f' (Ok true) s link hub pass limits turns ended t = record {
     fate = started job;
-    is = subst (λ (y : Pass). IsJobOf h v n p y l job) (sym t.2) (started_so h v n p m x l job s link hub pass limits turns ended);
+    is = subst (λ (y : Pass). IsJobOf h terms.limits terms.turns p y l job) (sym t.2)
+        (started_so h terms.limits terms.turns p m x l job s link hub pass limits turns ended);
     jobs = t.0;
-    passed = subst (λ (y : Pass). Passed h p [] None y) (sym t.2) s.passed;
+    went = subst (λ (y : Pass). Went h p 1 [] None y) (sym t.2) s.went;
     draws = subst (λ (y : Pass). Draws h p y) (sym t.2) (draws_now h p m x s);
     rose = inl (let k = t.1 in omega (arith, k));
     counts = refl;
   }
-  fares_made h v n p m q x l job j j' f f' (Ok false) s link hub pass limits turns ended t =
+  fares_made h terms p m q x l job j j' f f' (Ok false) s link hub pass limits turns ended t =
       let b : TakesBack h m q x = subst (λ (y : Pass). TakesBack h m q y) pass t.2 in
       record {
         fate = returned (ended_of (view_of x));
         is = s.own;
         jobs = t.0;
-        passed = back h p m q x s b;
+        went = back h p m q x s b;
         draws = draws_back h p m q x s b.1;
         rose = rose_one f f' t.1;
         counts = refl;
       }
-  fares_made h v n p m q x l job j j' f f' (Err e) s link hub pass limits turns ended t =
+  fares_made h terms p m q x l job j j' f f' (Err e) s link hub pass limits turns ended t =
       let b : TakesBack h m q x = subst (λ (y : Pass). TakesBack h m q y) pass t.2 in
       record {
         caller = ended_of (view_of x);
         own = s.own;
         jobs = t.0;
-        passed = back h p m q x s b;
+        went = back h p m q x s b;
         draws = draws_back h p m q x s b.1;
         later = t.1;
       }

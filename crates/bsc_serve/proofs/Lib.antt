@@ -1,4 +1,3 @@
-mod Passes
 mod Arrivals
 mod Giving
 mod Taking

@@ -14,7 +14,7 @@ use Rattle.bsc_turn.specs.Effects.{ended_of}
 use Rattle.bsc_turn.specs.Passes.{ended_callers, newest_number, number_of, own_list, seen, view_of}
 use Rattle.bsc_hub.specs.declared.hub.Hub.{Hub}
 use Rattle.bsc_hub.specs.Calls.{stop_made}
-use Rattle.bsc_hub.specs.Passing.{IsCaller, Passed, about_of, found_history}
+use Rattle.bsc_hub.specs.Passing.{IsCaller, Passed, Went, about_of, found_history}
 use Rattle.bsc_outside.specs.Faults.{HasRisen}
 use Rattle.bsc_edge.specs.Told.{Grows}
 use Rattle.bsc_session.specs.declared.limits.SessionLimits.{SessionLimits}
@@ -24,23 +24,11 @@ use Rattle.bsc_serve.specs.declared.end.ServeEnd.{ServeEnd}
 use Rattle.bsc_serve.specs.declared.end.ServeEnd.TheVariants.{Done, StoppedBefore, AcceptFault, NoMemory}
 use Rattle.bsc_session.specs.declared.job.SessionJob.{SessionJob}
 use Rattle.bsc_serve.specs.Fates.{AreFates, Arrival, Fate, started, returned, spent, IsFate, caller_in, callers_of, job_in, jobs_of, links_of, unstarted_in, unstarted_of}
-use Rattle.bsc_serve.specs.Serving.{Cut, Loses, RoseBy, cut_callers, cut_links}
-
--- How many links are still to come, of so many and after n have arrived.
-abbrev pub Remains : Option ℕ → ℕ → Option ℕ → Type 0
-Remains None n None = ⊤
-Remains None n (Some k) = ⊥
-Remains (Some s) n None = ⊥
-Remains (Some s) n (Some k) = n + k ≡ s
-
--- A count is u, or u is past the greatest u64.
-abbrev pub CountsUp : ℕ → ℕ → Type 0
-CountsUp c u = (c ≡ u) ⊎ (18446744073709551616 ≤ u)
-
--- one for a link whose session isn't started
-abbrev pub one_unless : Bool → ℕ
-one_unless true = 0
-one_unless false = 1
+use Rattle.bsc_serve.specs.declared.tally.Tally.{Tally}
+use Rattle.bsc_serve.specs.Tallies.{CountsUp, Remains, one_unless}
+use Rattle.bsc_serve.specs.Serving.{Cut, IsWithin, Loses, RoseBy, cut_callers, cut_links}
+use Rattle.bsc_serve.specs.declared.terms.ServeTerms.{ServeTerms}
+use Rattle.bsc_serve.specs.Worlds.{ServeWorld}
 
 -- What the newest load of the number word found, before and after a split: a number was drawn, or all are drawn.
 abbrev pub limit_of : Hub → ℕ
@@ -61,7 +49,7 @@ CutAt (Some c) halt = (halt ≡ HaltMemory) × (c.caller.own ≡ [])
 
 -- A pass x was split from p, which is m since.
 pub record SplitsOff (h : Hub) (p m x : Pass) : Type 0 where
-  pub passed : Passed h p [] None m
+  pub went : Went h p 1 [] None m
   pub caller : IsCaller h x
   pub same : seen x ≡ seen p
   pub own : own_list x ≡ []
@@ -77,12 +65,12 @@ TakesBack h m q x = Passed h m (ended_of (view_of x) ∷ ended_callers x) None q
 
 module _ {L C : Type 0} where
   -- What became of one link.
-  pub record Fared (h : Hub) (limits : SessionLimits) (turns : ℕ) (p q : Pass) (x : L)
+  pub record Fared (h : Hub) (terms : ServeTerms) (p q : Pass) (x : L)
       (j j' : Option (List (SessionJob L C))) (f f' : ℕ) (is_started : Bool) : Type 0 where
     pub fate : Fate (SessionJob L C)
-    pub is : IsFate h limits turns p q x fate
+    pub is : IsFate h terms.limits terms.turns p q x fate
     pub jobs : Grows j j' (job_in fate)
-    pub passed : Passed h p (caller_in fate) None q
+    pub went : Went h p 1 (caller_in fate) None q
     pub draws : DrawsFor h p q fate
     pub rose : RoseBy (length (caller_in fate)) f f'
     pub counts : unstarted_in fate ≡ one_unless is_started
@@ -92,14 +80,14 @@ module _ {L C : Type 0} where
     pub caller : EndedCaller
     pub own : caller.own ≡ []
     pub jobs : Grows j j' []
-    pub passed : Passed h p (caller ∷ []) None q
+    pub went : Went h p 1 (caller ∷ []) None q
     pub draws : Draws h p q
     pub later : f ≤ f'
 
-  abbrev pub Fares : Hub → SessionLimits → ℕ → Pass → Pass → L → Option (List (SessionJob L C))
+  abbrev pub Fares : Hub → ServeTerms → Pass → Pass → L → Option (List (SessionJob L C))
       → Option (List (SessionJob L C)) → ℕ → ℕ → Result Bool MemoryFault → Type 0
-  Fares h limits turns p q l jobs jobs' faults faults' (Ok is_started) = Fared h limits turns p q l jobs jobs' faults faults' is_started
-  Fares h limits turns p q l jobs jobs' faults faults' (Err e) = LacksRoom h p q jobs jobs' faults faults'
+  Fares h terms p q l jobs jobs' faults faults' (Ok is_started) = Fared h terms p q l jobs jobs' faults faults' is_started
+  Fares h terms p q l jobs jobs' faults faults' (Err e) = LacksRoom h p q jobs jobs' faults faults'
 
   -- A job was handed over, or it came back and its pass was joined.
   abbrev pub HandsOver : Hub → Pass → Pass → SessionJob L C → Option (List (SessionJob L C)) → Option (List (SessionJob L C)) → ℕ → ℕ
@@ -108,44 +96,39 @@ module _ {L C : Type 0} where
   HandsOver h m q job j j' f f' (Ok false) = Grows j j' [] × HasRisen f f' × TakesBack h m q job.pass
   HandsOver h m q job j j' f f' (Err e) = Grows j j' [] × (f ≤ f') × TakesBack h m q job.pass
 
-  -- The links that have arrived, in a loop that began with p and stands at q.
-  pub record Taken (h : Hub) (limits : SessionLimits) (turns : ℕ) (sessions : Option ℕ) (p q : Pass)
-      (l l' : Option (List L)) (j j' : Option (List (SessionJob L C))) (f f' : ℕ)
-      (k : Option ℕ) (u : ℕ) : Type 0 where
+  -- The links that have arrived, in a loop that began with the world w and stands at v with this tally.
+  pub record Taken (h : Hub) (terms : ServeTerms) (w v : ServeWorld L C) (tally : Tally) : Type 0 where
     pub arrivals : List (Arrival L (SessionJob L C))
-    pub left : Loses l l' (links_of arrivals)
-    pub jobs : Grows j j' (jobs_of arrivals)
-    pub fates : AreFates h limits turns p q arrivals
-    pub returned : RoseBy (length (callers_of arrivals)) f f'
-    pub passed : Passed h p (callers_of arrivals) None q
-    pub drawn : (newest_number p ≤ newest_number q) ⊎ (newest_number q ≡ limit_of h)
-    pub remains : Remains sessions (length arrivals) k
-    pub counted : CountsUp u (unstarted_of arrivals)
+    pub left : Loses w.links v.links (links_of arrivals)
+    pub jobs : Grows w.jobs v.jobs (jobs_of arrivals)
+    pub fates : AreFates h terms.limits terms.turns w.pass v.pass arrivals
+    pub returned : RoseBy (length (callers_of arrivals)) w.unstarted v.unstarted
+    pub went : Went h w.pass (length arrivals) (callers_of arrivals) None v.pass
+    pub drawn : (newest_number w.pass ≤ newest_number v.pass) ⊎ (newest_number v.pass ≡ limit_of h)
+    pub remains : Remains terms.sessions (length arrivals) tally.remaining
+    pub counted : CountsUp tally.unstarted (unstarted_of arrivals)
 
   -- The loop halted.
-  pub record Halted (h : Hub) (limits : SessionLimits) (turns : ℕ) (p q : Pass)
-      (l l' : Option (List L)) (j j' : Option (List (SessionJob L C))) (f f' : ℕ)
-      (halt : Halt) : Type 0 where
+  pub record Halted (h : Hub) (terms : ServeTerms) (w v : ServeWorld L C) (halt : Halt) : Type 0 where
     pub arrivals : List (Arrival L (SessionJob L C))
     pub cut : Option (Cut L)
     pub cut_last : CutAt cut halt
-    pub left : Loses l l' (links_of arrivals ++ cut_links cut)
-    pub jobs : Grows j j' (jobs_of arrivals)
-    pub fates : AreFates h limits turns p q arrivals
-    pub returned : RoseBy (length (callers_of arrivals)) f f'
-    pub passed : Passed h p (callers_of arrivals ++ cut_callers cut) None q
+    pub left : Loses w.links v.links (links_of arrivals ++ cut_links cut)
+    pub within : IsWithin terms.sessions (length arrivals + length (cut_links cut))
+    pub jobs : Grows w.jobs v.jobs (jobs_of arrivals)
+    pub fates : AreFates h terms.limits terms.turns w.pass v.pass arrivals
+    pub returned : RoseBy (length (callers_of arrivals)) w.unstarted v.unstarted
+    pub went : Went h w.pass (length arrivals + length (cut_links cut)) (callers_of arrivals ++ cut_callers cut) None v.pass
 
   -- The loop goes on, or halts.
-  abbrev pub TakesOn : Hub → SessionLimits → ℕ → Option ℕ → Pass → Pass → Option (List L) → Option (List L)
-      → Option (List (SessionJob L C)) → Option (List (SessionJob L C)) → ℕ → ℕ → Option ℕ → ℕ → Option Halt → Type 0
-  TakesOn h limits turns sessions p q left left' jobs jobs' faults faults' remaining unstarted None = Taken h limits turns sessions p q left left' jobs jobs' faults faults' remaining unstarted
-  TakesOn h limits turns sessions p q left left' jobs jobs' faults faults' remaining unstarted (Some halt) = Halted h limits turns p q left left' jobs jobs' faults faults' halt
+  abbrev pub TakesOn : Hub → ServeTerms → ServeWorld L C → ServeWorld L C → Tally → Option Halt → Type 0
+  TakesOn h terms w v tally None = Taken h terms w v tally
+  TakesOn h terms w v tally (Some halt) = Halted h terms w v halt
 
-  -- All that were asked for have arrived, or the loop halted.
-  abbrev pub Accepts : Hub → SessionLimits → ℕ → Option ℕ → Pass → Pass → Option (List L) → Option (List L)
-      → Option (List (SessionJob L C)) → Option (List (SessionJob L C)) → ℕ → ℕ → Result ℕ Halt → Type 0
-  Accepts h limits turns sessions p q left left' jobs jobs' faults faults' (Ok unstarted) = Taken h limits turns sessions p q left left' jobs jobs' faults faults' (Some 0) unstarted
-  Accepts h limits turns sessions p q left left' jobs jobs' faults faults' (Err halt) = Halted h limits turns p q left left' jobs jobs' faults faults' halt
+  -- All that are awaited have arrived, or the loop halted.
+  abbrev pub Accepts : Hub → ServeTerms → ServeWorld L C → ServeWorld L C → Result ℕ Halt → Type 0
+  Accepts h terms w v (Ok unstarted) = Taken h terms w v (record { remaining = Some 0; unstarted = unstarted })
+  Accepts h terms w v (Err halt) = Halted h terms w v halt
 
 -- What a stop of the hub says, whose pass was m and is q.
 pub record Stopped (h : Hub) (m q : Pass) (r : Result (Told Counts) AlreadyStopped) : Type 0 where

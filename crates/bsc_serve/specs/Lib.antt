@@ -1,3 +1,5 @@
 pub mod Fates
+pub mod Worlds
+pub mod Tallies
 pub mod Serving
 pub mod Inner

@@ -1,6 +1,8 @@
 -- What serving a hub comes to.
-use Rattle.std.specs.Prelude.{◌≡◌, ℕ, ◌≤◌, ◌+◌, ◌⊎◌, false, List, [], ◌∷◌, ◌++◌, length, take, position, Option, Some, None, Ok, ⊤}
+use Rattle.std.specs.Prelude.{◌≡◌, ℕ, ◌≤◌, ◌+◌, ◌⊎◌, false, List, [], ◌∷◌, ◌++◌, length, take, position, Option, Some, None, Result, Ok, Err, ⊤}
 use Rattle.bsc_history.specs.declared.counts.Counts.{Counts}
+use Rattle.bsc_history.specs.declared.told.AlreadyStopped.{AlreadyStopped}
+use Rattle.bsc_history.specs.declared.told.Told.{Told}
 use Rattle.bsc_history.specs.Counting.{counts}
 use Rattle.bsc_history.specs.Entries.{stops}
 use Rattle.bsc_history.specs.Marks.{entries}
@@ -10,13 +12,14 @@ use Rattle.bsc_turn.specs.declared.view.Ended.{Ended as EndedCaller}
 use Rattle.bsc_turn.specs.Passes.{number_of, seen}
 use Rattle.bsc_hub.specs.declared.hub.Hub.{Hub}
 use Rattle.bsc_hub.specs.Calls.{stop_made}
-use Rattle.bsc_hub.specs.Passing.{Passed}
+use Rattle.bsc_hub.specs.Passing.{Went}
 use Rattle.bsc_edge.specs.Told.{Grows, Tells}
-use Rattle.bsc_session.specs.declared.limits.SessionLimits.{SessionLimits}
 use Rattle.bsc_serve.specs.declared.end.ServeEnd.{ServeEnd}
 use Rattle.bsc_serve.specs.declared.end.ServeEnd.TheVariants.{Done, StoppedBefore, AcceptFault, NoMemory}
 use Rattle.bsc_session.specs.declared.job.SessionJob.{SessionJob}
 use Rattle.bsc_serve.specs.Fates.{AreFates, Arrival, callers_of, jobs_of, links_of, unstarted_of}
+use Rattle.bsc_serve.specs.declared.terms.ServeTerms.{ServeTerms}
+use Rattle.bsc_serve.specs.Worlds.{ServeWorld}
 
 -- What is left lost these, in order, and was told before. What isn't told any more says nothing.
 abbrev pub Loses : {A : Type 0} → Option (List A) → Option (List A) → List A → Type 0
@@ -47,49 +50,52 @@ module _ {L : Type 0} where
   CutBy None end = ⊤
   CutBy (Some c) end = (end ≡ NoMemory) × (c.caller.own ≡ [])
 
--- The hub was stopped by this call, whose own pass was p and is q and took these callers in: the Stop is the last entry of
--- the own list, and these are the counts of the history before it, in which there is no Stop.
-pub record StopsHub (h : Hub) (p q : Pass) (took : List EndedCaller) (c : Counts) : Type 0 where
-  pub at : ℕ
-  pub passed : Passed h p took (stop_made (number_of p) (Ok (record { at = at; said = c }))) q
-  pub counted : c ≡ counts (take at (entries (seen q)))
-  pub first : is_stopped (take at (entries (seen q))) ≡ false
+-- No more links than are awaited, where that is said.
+abbrev pub IsWithin : Option ℕ → ℕ → Type 0
+IsWithin None n = ⊤
+IsWithin (Some awaited) n = n ≤ awaited
 
--- The hub had been stopped before, by the entry at this place, and this call made no entry.
-pub record FindsStop (h : Hub) (p q : Pass) (took : List EndedCaller) (at : ℕ) : Type 0 where
-  pub passed : Passed h p took None q
-  pub found : position stops (entries (seen q)) ≡ Some at
+-- What the stop of a hub answered, by what the pass has then seen: the counts of the history before its Stop, in which there
+-- is no other; or where the Stop stands that was made before.
+abbrev pub StopAnswers : Pass → Result (Told Counts) AlreadyStopped → Type 0
+StopAnswers q (Ok t) =
+    (t.said ≡ counts (take t.at (entries (seen q)))) × (is_stopped (take t.at (entries (seen q))) ≡ false)
+StopAnswers q (Err already) = position stops (entries (seen q)) ≡ Some already.at
 
--- The hub is stopped, by this call or before.
-abbrev pub IsStoppedNow : Hub → Pass → Pass → List EndedCaller → Type 0
-IsStoppedNow h p q took = ((c : Counts) × StopsHub h p q took c) ⊎ ((at : ℕ) × FindsStop h p q took at)
+module _ {L J : Type 0} where
+  -- How serving ends, by the links that arrived and by what the stop answered: as many arrived as were awaited, and the end
+  -- says how many of them have no job, and the counts of the stop or where the earlier one stands; or it was cut short.
+  abbrev pub EndsSo : Option ℕ → List (Arrival L J) → Result (Told Counts) AlreadyStopped → ServeEnd → Type 0
+  EndsSo awaited arrivals stop (Done c u) =
+      (awaited ≡ Some (length arrivals)) × (u ≡ unstarted_of arrivals)
+      × ((at : ℕ) × (stop ≡ Ok (record { at = at; said = c })))
+  EndsSo awaited arrivals stop (StoppedBefore at u) =
+      (awaited ≡ Some (length arrivals)) × (u ≡ unstarted_of arrivals) × (stop ≡ Err (record { at = at }))
+  EndsSo awaited arrivals stop AcceptFault = ⊤
+  EndsSo awaited arrivals stop NoMemory = ⊤
 
--- How serving ends, where n links arrived and so many of them have no job: all that were asked for have arrived, and what
--- is answered is the stop's own; or it was cut short.
-abbrev pub EndsSo : Hub → Pass → Pass → List EndedCaller → Option ℕ → ℕ → ℕ → ServeEnd → Type 0
-EndsSo h p q took sessions n unstarted (Done c u) = (sessions ≡ Some n) × (u ≡ unstarted) × StopsHub h p q took c
-EndsSo h p q took sessions n unstarted (StoppedBefore at u) = (sessions ≡ Some n) × (u ≡ unstarted) × FindsStop h p q took at
-EndsSo h p q took sessions n unstarted AcceptFault = IsStoppedNow h p q took
-EndsSo h p q took sessions n unstarted NoMemory = IsStoppedNow h p q took
-
--- What serving a hub comes to, where the hub's own pass was p and is q, the acceptor had these links left and has those,
--- the spawner had taken these jobs and has those, so many jobs were taken since it last gathered, and its count of faults
--- was and is so: there are links with what became of each, and under want of memory one more, such that ..
-pub record Serving {L C : Type 0} (h : Hub) (limits : SessionLimits) (turns : ℕ) (sessions : Option ℕ) (p q : Pass)
-    (l l' : Option (List L)) (j j' : Option (List (SessionJob L C))) (since : Option ℕ) (f f' : ℕ)
-    (end : ServeEnd) : Type 0 where
+-- What serving a hub comes to, on these terms, from one world to another: there are links with what became of each, under
+-- want of memory one more, and an answer of the hub's stop, such that ..
+pub record Serving {L C : Type 0} (h : Hub) (terms : ServeTerms) (before after : ServeWorld L C) (end : ServeEnd) : Type 0 where
   pub arrivals : List (Arrival L (SessionJob L C))
   pub cut : Option (Cut L)
+  pub stop : Result (Told Counts) AlreadyStopped
   pub cut_last : CutBy cut end
-  -- .. these links left the acceptor, in order;
-  pub left : Loses l l' (links_of arrivals ++ cut_links cut)
+  -- .. these links left the acceptor, in order, no more than are awaited;
+  pub left : Loses before.links after.links (links_of arrivals ++ cut_links cut)
+  pub within : IsWithin terms.sessions (length arrivals + length (cut_links cut))
   -- for each that isn't unstarted the spawner took one job, in order, with that link, this hub, a pass that was split in
   -- this call, and these limits and turns;
-  pub jobs : Grows j j' (jobs_of arrivals)
-  pub fates : AreFates h limits turns p q arrivals
+  pub jobs : Grows before.jobs after.jobs (jobs_of arrivals)
+  pub fates : AreFates h terms.limits terms.turns before.pass after.pass arrivals
   -- no more came back than the spawner's count rose by;
-  pub returned : RoseBy (length (callers_of arrivals)) f f'
+  pub returned : RoseBy (length (callers_of arrivals)) before.unstarted after.unstarted
   -- none was taken since the last gathering;
-  pub gathered : Tells since 0
-  -- and the end says the counts of the stop, and how many links have no job.
-  pub ends : EndsSo h p q (callers_of arrivals ++ cut_callers cut) sessions (length arrivals) (unstarted_of arrivals) end
+  pub gathered : Tells after.since 0
+  -- the hub's own pass drew one number for each link, took in the callers that came back, and stopped the hub, or found it
+  -- stopped;
+  pub went : Went h before.pass (length arrivals + length (cut_links cut)) (callers_of arrivals ++ cut_callers cut)
+      (stop_made (number_of before.pass) stop) after.pass
+  pub stopped : StopAnswers after.pass stop
+  -- and the end says what the stop answered, and how many links have no job.
+  pub ends : EndsSo terms.sessions arrivals stop end

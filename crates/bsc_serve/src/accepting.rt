@@ -1,20 +1,20 @@
 //! The loop that takes links.
-ghost use Rattle.std.specs.Prelude.{◌≡◌, ◌≤◌, ◌≢◌, ◌<◌, ◌^◌, ℕ, List, Option, Some, None, ◌∷◌, []};
+ghost use Rattle.std.specs.Prelude.{◌≡◌, ◌≤◌, ◌≢◌, ◌<◌, ◌^◌, ℕ, Some};
 ghost use Rattle.std.specs.Arc.{arc_value};
 ghost use Rattle.bsc_outside.specs.Faults.{HasRisen};
-ghost use Rattle.bsc_turn.specs.declared.pass.Pass.{Pass as PassType};
 ghost use Rattle.bsc_hub.specs.Passing.{IsCaller};
 ghost use Rattle.bsc_serve.specs.declared.halt.Halt.{Halt};
-ghost use Rattle.bsc_session.specs.declared.job.SessionJob.{SessionJob};
 ghost use Rattle.bsc_edge.specs.Told.{Stays};
 ghost use Rattle.bsc_serve.specs.Inner.{Accepts, TakesOn, Taken};
+ghost use Rattle.bsc_serve.specs.Worlds.{ServeWorld};
 
 use crate::halt::Halt;
 use crate::starting::start_session;
 use crate::tally::Tally;
+use crate::terms::ServeTerms;
 use bsc_edge::{Acceptor, Arrived, Clock, Link, LinkFault, Spawner};
 use bsc_hub::{Hub, Pass};
-use bsc_session::{SessionJob, SessionLimits};
+use bsc_session::SessionJob;
 use std::alloc::Global;
 use std::sync::{Arc, Wait};
 
@@ -34,8 +34,7 @@ fn take_next<
     alloc: Global,
     hub: &Arc<Hub>,
     pass: &mut Pass,
-    limits: &SessionLimits,
-    turns: u64,
+    terms: &ServeTerms,
     clock: &C,
     acceptor: &mut A,
     spawner: &mut P,
@@ -45,18 +44,20 @@ fn take_next<
     requires pass { IsCaller (arc_value hub.now) pass.old }
     requires awaits { tally.old.remaining ≢ Some 0 }
     ensures again { P.can_start spawner.new }
-    ensures taken { (sessions : Option ℕ) (p : PassType) (left : Option (List L)) (jobs : Option (List (SessionJob L C))) (faults : ℕ) →
-        Taken (arc_value hub.now) limits.now turns sessions p pass.old left (A.left acceptor.old) jobs (P.jobs spawner.old)
-        faults (P.faults spawner.old) tally.old.remaining tally.old.unstarted →
-        TakesOn (arc_value hub.now) limits.now turns sessions p pass.new left (A.left acceptor.new) jobs (P.jobs spawner.new)
-        faults (P.faults spawner.new) tally.new.remaining tally.new.unstarted result }
+    ensures taken { (first : ServeWorld L C) →
+        Taken (arc_value hub.now) terms.now first
+        (record { pass = pass.old; links = A.left acceptor.old; jobs = P.jobs spawner.old; since = P.since spawner.old;
+            unstarted = P.faults spawner.old }) tally.old →
+        TakesOn (arc_value hub.now) terms.now first
+        (record { pass = pass.new; links = A.left acceptor.new; jobs = P.jobs spawner.new; since = P.since spawner.new;
+            unstarted = P.faults spawner.new }) tally.new result }
     ensures bound { Stays (A.bound acceptor.old) (A.bound acceptor.new) }
     ensures later { A.faults acceptor.old ≤ A.faults acceptor.new }
     ensures failed { result ≡ Some Halt.AcceptFault → HasRisen (A.faults acceptor.old) (A.faults acceptor.new) }
 {
     match acceptor.next(alloc, WAIT_MS) {
         Ok(Arrived::Link(link)) => {
-            match start_session(rt, alloc, hub, pass, limits, turns, clock, link, spawner) {
+            match start_session(rt, alloc, hub, pass, terms, clock, link, spawner) {
                 Ok(started) => {
                     tally.count(started);
                     None
@@ -82,9 +83,7 @@ pub(crate) fn accept_all<
     alloc: Global,
     hub: &Arc<Hub>,
     pass: &mut Pass,
-    limits: &SessionLimits,
-    turns: u64,
-    sessions: Option<u64>,
+    terms: &ServeTerms,
     clock: &C,
     acceptor: &mut A,
     spawner: &mut P,
@@ -92,20 +91,23 @@ pub(crate) fn accept_all<
     requires can { P.can_start spawner.old }
     requires pass { IsCaller (arc_value hub.now) pass.old }
     ensures again { P.can_start spawner.new }
-    ensures accepts { Accepts (arc_value hub.now) limits.now turns sessions pass.old pass.new (A.left acceptor.old)
-        (A.left acceptor.new) (P.jobs spawner.old) (P.jobs spawner.new) (P.faults spawner.old) (P.faults spawner.new) result }
-    ensures fits { (n : ℕ) → sessions ≡ Some n → n < 2 ^ 64 }
+    ensures accepts { Accepts (arc_value hub.now) terms.now
+        (record { pass = pass.old; links = A.left acceptor.old; jobs = P.jobs spawner.old; since = P.since spawner.old;
+            unstarted = P.faults spawner.old })
+        (record { pass = pass.new; links = A.left acceptor.new; jobs = P.jobs spawner.new; since = P.since spawner.new;
+            unstarted = P.faults spawner.new }) result }
+    ensures fits { (n : ℕ) → terms.now.sessions ≡ Some n → n < 2 ^ 64 }
     ensures bound { Stays (A.bound acceptor.old) (A.bound acceptor.new) }
     ensures later { A.faults acceptor.old ≤ A.faults acceptor.new }
     ensures failed { result ≡ Err Halt.AcceptFault → HasRisen (A.faults acceptor.old) (A.faults acceptor.new) }
 {
-    let mut tally = Tally::of(sessions);
+    let mut tally = Tally::of(terms.sessions);
     for _ in rt.forever() {
         if tally.is_full() {
             return Ok(tally.unstarted);
         }
         if let Some(halt) = take_next(
-            rt, alloc, hub, pass, limits, turns, clock, acceptor, spawner, &mut tally,
+            rt, alloc, hub, pass, terms, clock, acceptor, spawner, &mut tally,
         ) {
             return Err(halt);
         }

@@ -11,7 +11,9 @@ mod halt;
 mod serving;
 mod starting;
 mod tally;
+mod terms;
 mod turning_away;
 
 pub use end::ServeEnd;
 pub use serving::serve_on;
+pub use terms::ServeTerms;

@@ -11,10 +11,11 @@ ghost use Rattle.bsc_serve.specs.Serving.{Serving};
 use crate::accepting::accept_all;
 use crate::end::ServeEnd;
 use crate::halt::Halt;
+use crate::terms::ServeTerms;
 use bsc_edge::{Acceptor, Clock, Job, Link, Spawner};
 use bsc_history::{AlreadyStopped, Counts};
 use bsc_hub::{Hub, Pass, Told};
-use bsc_session::{SessionJob, SessionLimits};
+use bsc_session::SessionJob;
 use std::alloc::Global;
 use std::sync::{Arc, Wait};
 
@@ -77,9 +78,7 @@ pub fn serve_on<
     alloc: Global,
     hub: &Arc<Hub>,
     pass: &mut Pass,
-    limits: &SessionLimits,
-    turns: u64,
-    sessions: Option<u64>,
+    terms: &ServeTerms,
     clock: &mut C,
     acceptor: &mut A,
     spawner: &mut P,
@@ -89,9 +88,11 @@ pub fn serve_on<
     ensures again { P.can_start spawner.new }
 
     // What became of the links, which jobs were taken, and what the hub was told.
-    ensures serving { Serving (arc_value hub.now) limits.now turns sessions pass.old pass.new (A.left acceptor.old)
-        (A.left acceptor.new) (P.jobs spawner.old) (P.jobs spawner.new) (P.since spawner.new) (P.faults spawner.old)
-        (P.faults spawner.new) result }
+    ensures serving { Serving (arc_value hub.now) terms.now
+        (record { pass = pass.old; links = A.left acceptor.old; jobs = P.jobs spawner.old; since = P.since spawner.old;
+            unstarted = P.faults spawner.old })
+        (record { pass = pass.new; links = A.left acceptor.new; jobs = P.jobs spawner.new; since = P.since spawner.new;
+            unstarted = P.faults spawner.new }) result }
 
     // The pass is still one of the hub.
     ensures caller { IsCaller (arc_value hub.now) pass.new }
@@ -104,7 +105,7 @@ pub fn serve_on<
     ensures later { A.faults acceptor.old ≤ A.faults acceptor.new }
 {
     match accept_all(
-        rt, alloc, hub, pass, limits, turns, sessions, clock, acceptor, spawner,
+        rt, alloc, hub, pass, terms, clock, acceptor, spawner,
     ) {
         Ok(unstarted) => {
             spawner.gather(rt);

@@ -4,11 +4,12 @@ ghost use Rattle.std.specs.Arc.{arc_value};
 ghost use Rattle.bsc_hub.specs.Passing.{IsCaller};
 ghost use Rattle.bsc_serve.specs.Inner.{Fares, HandsOver};
 
+use crate::terms::ServeTerms;
 use crate::turning_away::{drop_link, take_back};
 use bsc_edge::{Clock, Link, Spawner, Unstarted};
 use bsc_hub::{Hub, Pass};
 use bsc_octets::NoMemory;
-use bsc_session::{SessionJob, SessionLimits};
+use bsc_session::SessionJob;
 use std::alloc::Global;
 use std::sync::{Arc, Wait};
 
@@ -51,8 +52,7 @@ pub(crate) fn start_session<R: Wait, C: Clock + Drop, L: Link + Drop, P: Spawner
     alloc: Global,
     hub: &Arc<Hub>,
     pass: &mut Pass,
-    limits: &SessionLimits,
-    turns: u64,
+    terms: &ServeTerms,
     clock: &C,
     link: L,
     spawner: &mut P,
@@ -60,7 +60,7 @@ pub(crate) fn start_session<R: Wait, C: Clock + Drop, L: Link + Drop, P: Spawner
     requires can { P.can_start spawner.old }
     requires pass { IsCaller (arc_value hub.now) pass.old }
     ensures again { P.can_start spawner.new }
-    ensures fares { Fares (arc_value hub.now) limits.now turns pass.old pass.new link (P.jobs spawner.old) (P.jobs spawner.new)
+    ensures fares { Fares (arc_value hub.now) terms.now pass.old pass.new link (P.jobs spawner.old) (P.jobs spawner.new)
         (P.faults spawner.old) (P.faults spawner.new) result }
 {
     let here: &Hub = hub;
@@ -72,6 +72,6 @@ pub(crate) fn start_session<R: Wait, C: Clock + Drop, L: Link + Drop, P: Spawner
         take_back(alloc, here, pass, link, other);
         return Err(NoMemory);
     };
-    let job = SessionJob::new(alloc, shared, other, link, clock, *limits, turns);
+    let job = SessionJob::new(alloc, shared, other, link, clock, terms.limits, terms.turns);
     hand_over(rt, alloc, here, pass, job, spawner)
 }

@@ -1,6 +1,6 @@
 //! How many links are still to come.
 ghost use Rattle.std.specs.Prelude.{◌≡◌, ◌≢◌, ◌↔◌, ◌+◌, ◌<◌, ◌^◌, ℕ, Option, Some, None, IsTrue};
-ghost use Rattle.bsc_serve.specs.Inner.{CountsUp, Remains, one_unless};
+ghost use Rattle.bsc_serve.specs.Tallies.{CountsUp, Remains, one_unless};
 
 /// How many links are still to come, where that is settled, and how many of those that came have no session, up to the
 /// greatest `u64`.

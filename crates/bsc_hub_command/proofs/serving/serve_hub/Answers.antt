@@ -1,13 +1,16 @@
 use Rattle.std.proofs.Common.{rules, inl, inr, refl}
 use Rattle.std.specs.Arc.{arc_value}
+use Rattle.bsc_hub_command.specs.Served.{HubWorld}
 use Rattle.bsc_hub_command.proofs.Binding.{bound_so}
 use Rattle.bsc_hub_command.proofs.serving.serve_hub.Goals as goal
 
 pub returns-in-Err-clause-went : goal.returns-in-Err-clause-went
 returns-in-Err-clause-went g c = inl (record {
   pass = refl;
-  left = c.bind.ensures.left;
+  links = c.bind.ensures.left;
   jobs = refl;
+  since = refl;
+  unstarted = refl;
   failed = c.bind.ensures.failed (search rules);
   says = c.end_with.ensures.ends;
 })
@@ -16,5 +19,9 @@ pub returns-in-Ok-clause-went : goal.returns-in-Ok-clause-went
 returns-in-Ok-clause-went g c =
     let A = g.A.Acceptor in
     let P = g.P.Spawner in
-    inr (bound_so c.args.settings.now c.args.sessions (arc_value c.args.hub.now) c.args.pass.now c.serve_on-end.new.pass (A.left c.args.acceptor.now) (A.left c.bind.new.self) (A.left c.serve_on-end.new.acceptor) (A.bound c.bind.new.self) (A.bound c.serve_on-end.new.acceptor) (P.jobs c.args.spawner.now) (P.jobs c.serve_on-end.new.spawner) (P.since c.serve_on-end.new.spawner) (P.faults c.args.spawner.now) (P.faults c.serve_on-end.new.spawner) c.tell_end.result (g.K.Sink.held c.args.sink.now) (g.K.Sink.held c.tell_end.new.sink) c.serve_on-end.result c.sessions_of-limits.result c.turns.result c.port.result
-    c.sessions_of-limits.ensures c.turns.ensures.turns c.port.ensures.port c.in-Ok.ensures.bound c.serve_on-end.ensures.bound c.bind.ensures.left c.serve_on-end.ensures.serving c.tell_end.ensures.says)
+    let before : HubWorld g.row.L.Denot g.row.C.Denot = record { links = A.left c.args.acceptor.now; port = A.bound c.args.acceptor.now; faults = A.faults c.args.acceptor.now; jobs = P.jobs c.args.spawner.now; since = P.since c.args.spawner.now; unstarted = P.faults c.args.spawner.now; written = g.K.Sink.held c.args.sink.now } in
+    let after : HubWorld g.row.L.Denot g.row.C.Denot = record { links = A.left c.serve_on-end.new.acceptor; port = A.bound c.serve_on-end.new.acceptor; faults = A.faults c.serve_on-end.new.acceptor; jobs = P.jobs c.serve_on-end.new.spawner; since = P.since c.serve_on-end.new.spawner; unstarted = P.faults c.serve_on-end.new.spawner; written = g.K.Sink.held c.tell_end.new.sink } in
+    inr (bound_so c.args.settings.now c.args.sessions (record { hub = arc_value c.args.hub.now; first = c.args.pass.now; last = c.serve_on-end.new.pass }) before after
+    (A.left c.bind.new.self) (A.bound c.bind.new.self) c.tell_end.result c.serve_on-end.result c.terms_by-terms.result c.port.result
+    c.terms_by-terms.ensures c.port.ensures.port c.in-Ok.ensures.bound c.serve_on-end.ensures.bound c.bind.ensures.left
+    c.serve_on-end.ensures.serving c.tell_end.ensures.says)

@@ -7,9 +7,13 @@ use Rattle.bsc_serve.proofs.accepting.accept_all.Given as goal
 
 abbrev pub invariant-loop : goal.invariant-loop
 invariant-loop g l =
-    g.P.Spawner.can_start l.spawner
+    let A = g.A.Acceptor in
+    let P = g.P.Spawner in
+    P.can_start l.spawner
     × IsCaller (arc_value l.fn.hub) l.pass
-    × Taken (arc_value l.fn.hub) l.fn.limits l.fn.turns l.fn.sessions l.fn.pass l.pass (g.A.Acceptor.left l.fn.acceptor) (g.A.Acceptor.left l.acceptor) (g.P.Spawner.jobs l.fn.spawner) (g.P.Spawner.jobs l.spawner) (g.P.Spawner.faults l.fn.spawner) (g.P.Spawner.faults l.spawner) l.tally.remaining l.tally.unstarted
-    × (g.A.Acceptor.faults l.fn.acceptor ≤ g.A.Acceptor.faults l.acceptor)
-    × Stays (g.A.Acceptor.bound l.fn.acceptor) (g.A.Acceptor.bound l.acceptor)
+    × Taken (arc_value l.fn.hub) l.fn.terms
+    (record { pass = l.fn.pass; links = A.left l.fn.acceptor; jobs = P.jobs l.fn.spawner; since = P.since l.fn.spawner; unstarted = P.faults l.fn.spawner })
+    (record { pass = l.pass; links = A.left l.acceptor; jobs = P.jobs l.spawner; since = P.since l.spawner; unstarted = P.faults l.spawner }) l.tally
+    × (A.faults l.fn.acceptor ≤ A.faults l.acceptor)
+    × Stays (A.bound l.fn.acceptor) (A.bound l.acceptor)
     × ((goal.iterator-loop g).can_next l.iterator' × (goal.iterator-loop g).is_finite l.iterator')
