@@ -60,8 +60,8 @@ Made p None q = own_list q ≡ own_list p
 -- The pass clause. A call with the pass p asked for so many numbers of new callers, took these callers in, made this entry
 -- or none, and left the pass as q: it is of this hub and what it has seen is legal; its number is unchanged; what it has
 -- seen begins with what it had seen; its own list is exactly what it has seen of its caller; the callers that ended in it
--- stay, each with its own list; and the loads of the number word that were made with it are those of before and one for
--- each number asked for. So no other caller was made with it.
+-- stay, each with its own list and its count of loads of the number word; and the loads that were made with it are those
+-- of before and one for each number asked for. So no other caller was made with it.
 pub record Went (h : Hub) (p : Pass) (drew : ℕ) (took : List Ended) (made : Option Placed) (q : Pass) : Type 0 where
   pub caller : IsCaller h q
   pub number : number_of q ≡ number_of p
