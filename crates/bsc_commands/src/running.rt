@@ -16,6 +16,8 @@ ghost use Rattle.bsc_node_run.specs.Scripts.{script_of, wish_of};
 ghost use Rattle.bsc_node_runs.specs.Courses.{FinishCame};
 ghost use Rattle.bsc_words.specs.declared.fault.WordsFault.TheVariants as words_fault;
 ghost use Rattle.bsc_words.specs.Words.{asked_by, check, hub, load, node, replay, seen};
+ghost use Rattle.bsc_commands.specs.Outside.{TouchesOnly};
+ghost use Rattle.bsc_commands.specs.Statuses.{EndsBy};
 
 use crate::playing::{Command, play};
 use bsc_edge::{Acceptor, Clock, Dialer, Files, Link, Spawner};
@@ -37,6 +39,8 @@ fn end_unasked<K: Sink>(sink: &mut K, fault: WordsFault) -> u8
     ensures refused { fault ≡ words_fault.Refused → EndsWith result 1 (K.held sink.old) (K.held sink.new) words_line }
     ensures ran_out { fault ≡ words_fault.NoMemory → RanOut result (K.held sink.old) (K.held sink.new) }
     ensures write { result ≡ 4 → HasRisen (K.faults sink.old) (K.faults sink.new) }
+    ensures statuses { (result ≡ 1) ⊎ (result ≡ 4) ⊎ (result ≡ 7) }
+    ensures cause { result ≡ 1 → fault ≡ words_fault.Refused }
 {
     match fault {
         WordsFault::Refused => end_with(sink, b"fault words\n", 1),
@@ -75,17 +79,21 @@ fn run_asked<
     requires workers { (n : ℕ) → seen asked ≡ load n → (1 ≤ n) × (n ≤ 512) }
     ensures hub { (path : Text) (sessions : Option ℕ) (made : _) → seen asked.entry ≡ hub path sessions → kept.new.hub ≡ Some made →
         (v : HubSettings) × IsSettled (F.holds files.old path) v
-        × Runs v sessions kept.new made (A.left acceptor.old) (A.left acceptor.new) (A.bound acceptor.new)
-        (P.jobs spawner.old) (P.jobs spawner.new) (P.since spawner.new) (P.faults spawner.old) (P.faults spawner.new)
-        (A.faults acceptor.old) (A.faults acceptor.new) result (K.held sink.old) (K.held sink.new) }
+        × Runs v sessions kept.new
+        (record { links = A.left acceptor.old; port = A.bound acceptor.old; faults = A.faults acceptor.old; jobs = P.jobs spawner.old;
+            since = P.since spawner.old; unstarted = P.faults spawner.old; written = K.held sink.old })
+        (record { links = A.left acceptor.new; port = A.bound acceptor.new; faults = A.faults acceptor.new; jobs = P.jobs spawner.new;
+            since = P.since spawner.new; unstarted = P.faults spawner.new; written = K.held sink.new }) result }
     ensures no_hub { (path : Text) (sessions : Option ℕ) → seen asked.entry ≡ hub path sessions → kept.new.hub ≡ None →
         Unsettled (F.holds files.old path) (F.faults files.old) (F.faults files.new) result (K.held sink.old) (K.held sink.new) }
+    ensures no_hub_untouched { (path : Text) (sessions : Option ℕ) → seen asked.entry ≡ hub path sessions → kept.new.hub ≡ None →
+        (kept.new ≡ kept.old) × (clock.new ≡ clock.old) × (acceptor.new ≡ acceptor.old) × (spawner.new ≡ spawner.old) }
     ensures node { (path script : Text) → seen asked.entry ≡ node path script →
         RunsFiles L.talk (F.holds files.old path) (F.holds files.old script)
-        (F.faults files.old) (F.faults files.new) (D.calls dialer.old) (D.calls dialer.new)
-        (A.left acceptor.old) (A.left acceptor.new) (A.bound acceptor.old) (A.bound acceptor.new)
-        (C.readings clock.old) (C.readings clock.new) (A.faults acceptor.old) (A.faults acceptor.new)
-        result (K.held sink.old) (K.held sink.new) }
+        (record { unread = F.faults files.old; beside = record { dialled = D.calls dialer.old; links = A.left acceptor.old; port = A.bound acceptor.old;
+            faults = A.faults acceptor.old; readings = C.readings clock.old; written = K.held sink.old } })
+        (record { unread = F.faults files.new; beside = record { dialled = D.calls dialer.new; links = A.left acceptor.new; port = A.bound acceptor.new;
+            faults = A.faults acceptor.new; readings = C.readings clock.new; written = K.held sink.new } }) result }
     ensures finished { (path script : Text) → seen asked.entry ≡ node path script → result ≡ 0 → (o : List ℕ) × F.holds files.old script o
         × (lines : List Due) × (script_of o ≡ Ok (map wish_of lines)) × FinishCame lines (C.readings clock.old) (C.readings clock.new) }
     ensures load { (n : ℕ) (made : _) → seen asked.entry ≡ load n → kept.new.hub ≡ Some made →
@@ -98,7 +106,14 @@ fn run_asked<
     ensures checked { (o t : List ℕ) → seen asked.entry ≡ check → S.left source.old ≡ Some o → K.held sink.old ≡ Some t →
         StatusTells check_of result o t (S.left source.new) (K.held sink.new)
         (S.faults source.old) (S.faults source.new) }
-    ensures asked { result ≢ 1 }
+    ensures source { (seen asked.entry ≡ replay) ⊎ (seen asked.entry ≡ check) → result ≡ 3 →
+        HasRisen (S.faults source.old) (S.faults source.new) }
+    ensures untouched { TouchesOnly (Some (seen asked.entry))
+        (record { source = source.old; files = files.old; clock = clock.old; random = random.old; acceptor = acceptor.old;
+            dialer = dialer.old; spawner = spawner.old; kept = kept.old })
+        (record { source = source.new; files = files.new; clock = clock.new; random = random.new; acceptor = acceptor.new;
+            dialer = dialer.new; spawner = spawner.new; kept = kept.new }) }
+    ensures statuses { EndsBy (Some (seen asked.entry)) result }
     ensures read { result ≡ 3 → HasRisen (S.faults source.old) (S.faults source.new) ⊎ HasRisen (F.faults files.old) (F.faults files.new) }
     ensures write { result ≡ 4 → HasRisen (K.faults sink.old) (K.faults sink.new) }
     ensures link { result ≡ 6 → HasRisen (A.faults acceptor.old) (A.faults acceptor.new) }
@@ -177,19 +192,24 @@ pub fn run<
     // Of the words of a hub: once it is made, its settings are those of the file, and this is what became of it.
     ensures hub { (path : Text) (sessions : Option ℕ) (made : _) → asked_by (map string_bytes words.now) ≡ Some (hub path sessions) →
         kept.new.hub ≡ Some made → (v : HubSettings) × IsSettled (F.holds files.old path) v
-        × Runs v sessions kept.new made (A.left acceptor.old) (A.left acceptor.new) (A.bound acceptor.new)
-        (P.jobs spawner.old) (P.jobs spawner.new) (P.since spawner.new) (P.faults spawner.old) (P.faults spawner.new)
-        (A.faults acceptor.old) (A.faults acceptor.new) result (K.held sink.old) (K.held sink.new) }
+        × Runs v sessions kept.new
+        (record { links = A.left acceptor.old; port = A.bound acceptor.old; faults = A.faults acceptor.old; jobs = P.jobs spawner.old;
+            since = P.since spawner.old; unstarted = P.faults spawner.old; written = K.held sink.old })
+        (record { links = A.left acceptor.new; port = A.bound acceptor.new; faults = A.faults acceptor.new; jobs = P.jobs spawner.new;
+            since = P.since spawner.new; unstarted = P.faults spawner.new; written = K.held sink.new }) result }
     ensures no_hub { (path : Text) (sessions : Option ℕ) → asked_by (map string_bytes words.now) ≡ Some (hub path sessions) → kept.new.hub ≡ None →
         Unsettled (F.holds files.old path) (F.faults files.old) (F.faults files.new) result (K.held sink.old) (K.held sink.new) }
+    ensures no_hub_untouched { (path : Text) (sessions : Option ℕ) → asked_by (map string_bytes words.now) ≡ Some (hub path sessions) →
+        kept.new.hub ≡ None →
+        (kept.new ≡ kept.old) × (clock.new ≡ clock.old) × (acceptor.new ≡ acceptor.old) × (spawner.new ≡ spawner.old) }
 
     // Of the words of a node: what became of it, by its settings and its script as they were in their files.
     ensures node { (path script : Text) → asked_by (map string_bytes words.now) ≡ Some (node path script) →
         RunsFiles L.talk (F.holds files.old path) (F.holds files.old script)
-        (F.faults files.old) (F.faults files.new) (D.calls dialer.old) (D.calls dialer.new)
-        (A.left acceptor.old) (A.left acceptor.new) (A.bound acceptor.old) (A.bound acceptor.new)
-        (C.readings clock.old) (C.readings clock.new) (A.faults acceptor.old) (A.faults acceptor.new)
-        result (K.held sink.old) (K.held sink.new) }
+        (record { unread = F.faults files.old; beside = record { dialled = D.calls dialer.old; links = A.left acceptor.old; port = A.bound acceptor.old;
+            faults = A.faults acceptor.old; readings = C.readings clock.old; written = K.held sink.old } })
+        (record { unread = F.faults files.new; beside = record { dialled = D.calls dialer.new; links = A.left acceptor.new; port = A.bound acceptor.new;
+            faults = A.faults acceptor.new; readings = C.readings clock.new; written = K.held sink.new } }) result }
 
     // Status 0 comes of the words of a node only once the time of its script's `finish` has passed, from the first reading of
     // the clock to the last.
@@ -211,14 +231,22 @@ pub fn run<
         S.left source.old ≡ Some o → K.held sink.old ≡ Some t → StatusTells check_of result o t (S.left source.new) (K.held sink.new)
         (S.faults source.old) (S.faults source.new) }
 
-    // Status 1 comes only where the words ask for nothing. Then nothing is read or touched, and the last line that is written
-    // is that of the words, or there was no memory to read them.
-    ensures words { result ≡ 1 → asked_by (map string_bytes words.now) ≡ None }
+    // Where the words ask for nothing, the last line that is written is that of the words, or there was no memory to read them.
     ensures other_words { asked_by (map string_bytes words.now) ≡ None →
         EndsWith result 1 (K.held sink.old) (K.held sink.new) words_line ⊎ RanOut result (K.held sink.old) (K.held sink.new) }
-    ensures other_words_unread { asked_by (map string_bytes words.now) ≡ None → S.left source.new ≡ S.left source.old }
 
-    // Faults of the source, the files, the sink and the acceptor are counted.
+    // What the command that is asked for doesn't use is as it was: all, where none is. Only its own statuses come of it; status 1
+    // of words that ask for nothing alone.
+    ensures untouched { TouchesOnly (asked_by (map string_bytes words.now))
+        (record { source = source.old; files = files.old; clock = clock.old; random = random.old; acceptor = acceptor.old;
+            dialer = dialer.old; spawner = spawner.old; kept = kept.old })
+        (record { source = source.new; files = files.new; clock = clock.new; random = random.new; acceptor = acceptor.new;
+            dialer = dialer.new; spawner = spawner.new; kept = kept.new }) }
+    ensures statuses { EndsBy (asked_by (map string_bytes words.now)) result }
+
+    // Faults of the source, the files, the sink and the acceptor are counted. Where an input is played, status 3 is the source's.
+    ensures source { (asked_by (map string_bytes words.now) ≡ Some replay) ⊎ (asked_by (map string_bytes words.now) ≡ Some check) →
+        result ≡ 3 → HasRisen (S.faults source.old) (S.faults source.new) }
     ensures read { result ≡ 3 → HasRisen (S.faults source.old) (S.faults source.new) ⊎ HasRisen (F.faults files.old) (F.faults files.new) }
     ensures write { result ≡ 4 → HasRisen (K.faults sink.old) (K.faults sink.new) }
     ensures link { result ≡ 6 → HasRisen (A.faults acceptor.old) (A.faults acceptor.new) }

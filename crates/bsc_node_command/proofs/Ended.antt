@@ -15,7 +15,7 @@ use Rattle.bsc_node_run.specs.Scripts.{script_of, wish_of}
 use Rattle.bsc_node_runs.specs.Courses.{FinishCame, Goes}
 use Rattle.bsc_node_command.specs.Lines.{Says, SaysEnd}
 use Rattle.bsc_node_command.specs.Settled.{Unread, Unsettled}
-use Rattle.bsc_node_command.specs.Comes.{made_by, Comes, NotRun, RunsScript, RunsFiles}
+use Rattle.bsc_node_command.specs.Comes.{made_by, CommandWorld, Comes, NodeWorld, NotRun, RunsScript, RunsFiles}
 use Rattle.bsc_node_command.proofs.Defined.{finish_came}
 
 -- a last line comes with no status 0
@@ -28,10 +28,11 @@ said_fails wanted s b b' line some (inl k) is = line_fails wanted s b b' line so
 said_fails wanted s b b' line some (inr k) is = omega (arith, k.0, is)
 
 -- nor does a run without a node, a script that wasn't read, or settings that weren't read
-none_fails : (v : NodeSettings) (script : List ℕ) (p p' : Option (Option ℕ)) (f f' s : ℕ) (b b' : Option (List ℕ)) → NotRun v script p p' f f' s b b' → s ≡ 0 → ⊥
-none_fails v script p p' f f' s b b' (inl k) is = said_fails 2 s b b' _ (omega arith) k.3 is
-none_fails v script p p' f f' s b b' (inr (inl k)) is = line_fails 6 s b b' _ (omega arith) k.3 is
-none_fails v script p p' f f' s b b' (inr (inr k)) is = omega (arith, k.1.0, is)
+module _ {L : Type 0} where
+  none_fails : (v : NodeSettings) (script : List ℕ) (before after : NodeWorld L) (s : ℕ) → NotRun v script before after s → s ≡ 0 → ⊥
+  none_fails v script before after s (inl k) is = said_fails 2 s before.written after.written _ (omega arith) k.3 is
+  none_fails v script before after s (inr (inl k)) is = line_fails 6 s before.written after.written _ (omega arith) k.3 is
+  none_fails v script before after s (inr (inr k)) is = omega (arith, k.1.0, is)
 
 unread_fails : (r r' s : ℕ) (b b' : Option (List ℕ)) → Unread r r' s b b' → s ≡ 0 → ⊥
 unread_fails r r' s b b' (inl k) is = line_fails 3 s b b' _ (omega arith) k.1 is
@@ -51,19 +52,20 @@ module _ {L : Type 0} (talk : L → Option (List Said)) where
   over_of v script lines last (Err AcceptFault) c c' l l' t t' s b b' b'' reads run h is = absurd (line_fails 6 s b' b'' _ (omega arith) h is)
   over_of v script lines last (Err NoMemory) c c' l l' t t' s b b' b'' reads run h is = absurd (omega (arith, h.0, is))
 
-  pub finished_so : (v : NodeSettings) (script : List ℕ) (c c' : Option (List Dialled)) (l l' : Option (List L)) (p p' : Option (Option ℕ)) (t t' : Option (List ℕ)) (f f' s : ℕ) (b b' : Option (List ℕ))
-      → Comes talk v script c c' l l' p p' t t' f f' s b b' → s ≡ 0 → (lines : List Due) × (script_of script ≡ Ok (map wish_of lines)) × FinishCame lines t t'
-  finished_so v script c c' l l' p p' t t' f f' s b b' (inl k) is = absurd (none_fails v script p p' f f' s b b' k.3 is)
-  finished_so v script c c' l l' p p' t t' f f' s b b' (inr r) is = (r.lines, r.reads, over_of v script r.lines r.last r.end c c' r.left l' t t' s b r.written b' r.reads r.run r.says is)
+  pub finished_so : (v : NodeSettings) (script : List ℕ) (before after : NodeWorld L) (s : ℕ)
+      → Comes talk v script before after s → s ≡ 0 → (lines : List Due) × (script_of script ≡ Ok (map wish_of lines)) × FinishCame lines before.readings after.readings
+  finished_so v script before after s (inl k) is = absurd (none_fails v script before after s k.3 is)
+  finished_so v script before after s (inr r) is = (r.lines, r.reads, over_of v script r.lines r.last r.end before.dialled after.dialled r.left after.links before.readings after.readings s
+    before.written r.written after.written r.reads r.run r.says is)
 
-  script_finished : (v : NodeSettings) (holds : List ℕ → Type 0) (r r' : ℕ) (c c' : Option (List Dialled)) (l l' : Option (List L)) (p p' : Option (Option ℕ)) (t t' : Option (List ℕ)) (f f' s : ℕ) (b b' : Option (List ℕ))
-      → RunsScript talk v holds r r' c c' l l' p p' t t' f f' s b b' → s ≡ 0 → (script : List ℕ) × holds script × (lines : List Due) × (script_of script ≡ Ok (map wish_of lines)) × FinishCame lines t t'
-  script_finished v holds r r' c c' l l' p p' t t' f f' s b b' (inl k) is = absurd (unread_fails r r' s b b' k.1 is)
-  script_finished v holds r r' c c' l l' p p' t t' f f' s b b' (inr k) is =
-      let three = finished_so v k.0 c c' l l' p p' t t' f f' s b b' k.2 is in
+  script_finished : (v : NodeSettings) (holds : List ℕ → Type 0) (before after : CommandWorld L) (s : ℕ)
+      → RunsScript talk v holds before after s → s ≡ 0 → (script : List ℕ) × holds script × (lines : List Due) × (script_of script ≡ Ok (map wish_of lines)) × FinishCame lines before.beside.readings after.beside.readings
+  script_finished v holds before after s (inl k) is = absurd (unread_fails before.unread after.unread s before.beside.written after.beside.written k.1 is)
+  script_finished v holds before after s (inr k) is =
+      let three = finished_so v k.0 before.beside after.beside s k.2 is in
       (k.0, k.1, three.0, three.1, three.2)
 
-  pub files_finished : (settled scripted : List ℕ → Type 0) (r r' : ℕ) (c c' : Option (List Dialled)) (l l' : Option (List L)) (p p' : Option (Option ℕ)) (t t' : Option (List ℕ)) (f f' s : ℕ) (b b' : Option (List ℕ))
-      → RunsFiles talk settled scripted r r' c c' l l' p p' t t' f f' s b b' → s ≡ 0 → (script : List ℕ) × scripted script × (lines : List Due) × (script_of script ≡ Ok (map wish_of lines)) × FinishCame lines t t'
-  files_finished settled scripted r r' c c' l l' p p' t t' f f' s b b' (inl k) is = absurd (unsettled_fails settled r r' s b b' k.1 is)
-  files_finished settled scripted r r' c c' l l' p p' t t' f f' s b b' (inr k) is = script_finished k.0 scripted r r' c c' l l' p p' t t' f f' s b b' k.2 is
+  pub files_finished : (settled scripted : List ℕ → Type 0) (before after : CommandWorld L) (s : ℕ)
+      → RunsFiles talk settled scripted before after s → s ≡ 0 → (script : List ℕ) × scripted script × (lines : List Due) × (script_of script ≡ Ok (map wish_of lines)) × FinishCame lines before.beside.readings after.beside.readings
+  files_finished settled scripted before after s (inl k) is = absurd (unsettled_fails settled before.unread after.unread s before.beside.written after.beside.written k.1 is)
+  files_finished settled scripted before after s (inr k) is = script_finished k.0 scripted before after s k.2 is

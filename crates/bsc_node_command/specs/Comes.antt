@@ -47,13 +47,34 @@ abbrev pub IsBoundBy : Option ℕ → Option (Option ℕ) → Option (Option ℕ
 IsBoundBy (Some port) p p' = Tells p' (Some port)
 IsBoundBy None p p' = Stays p p'
 
--- No node was run: a line of the script is the first bad one, and no port was bound; or the script is good, the port wasn't
--- bound, and the acceptor's count of faults rose; or memory ran out, before the port was bound or after.
-abbrev pub NotRun : NodeSettings → List ℕ → Option (Option ℕ) → Option (Option ℕ) → ℕ → ℕ → ℕ → Option (List ℕ) → Option (List ℕ) → Type 0
-NotRun v script p p' f f' s before after =
-    ((n : ℕ) × (script_of script ≡ Err n) × Stays p p' × Says s 2 before after (script_line n))
-    ⊎ ((lines : List Due) × (script_of script ≡ Ok (map wish_of lines)) × HasRisen f f' × EndsWith s 6 before after link_line)
-    ⊎ ((Stays p p' ⊎ IsBoundBy v.direct_port p p') × RanOut s before after)
+-- What there is outside a node that is run, at a moment, each as far as it is told: what was dialled; the links that the
+-- acceptor has left, the port that it is bound to, and its count of faults; the readings of the clock; and what was written.
+pub record NodeWorld (L : Type 0) : Type 0 where
+  pub dialled : Option (List Dialled)
+  pub links : Option (List L)
+  pub port : Option (Option ℕ)
+  pub faults : ℕ
+  pub readings : Option (List ℕ)
+  pub written : Option (List ℕ)
+
+-- The same outside the command, and the files' count of faults.
+pub record CommandWorld (L : Type 0) : Type 0 where
+  pub beside : NodeWorld L
+  pub unread : ℕ
+
+module _ {L : Type 0} where
+  -- No node was run: a line of the script is the first bad one, and no port was bound; or the script is good, the port wasn't
+  -- bound, and the acceptor's count of faults rose; or memory ran out, before the port was bound or after.
+  abbrev pub NotRun : NodeSettings → List ℕ → NodeWorld L → NodeWorld L → ℕ → Type 0
+  NotRun v script before after s =
+      ((n : ℕ) × (script_of script ≡ Err n) × Stays before.port after.port × Says s 2 before.written after.written (script_line n))
+      ⊎ ((lines : List Due) × (script_of script ≡ Ok (map wish_of lines)) × HasRisen before.faults after.faults
+      × EndsWith s 6 before.written after.written link_line)
+      ⊎ ((Stays before.port after.port ⊎ IsBoundBy v.direct_port before.port after.port) × RanOut s before.written after.written)
+
+  -- Nothing was touched but the output.
+  abbrev pub IsUntouched : NodeWorld L → NodeWorld L → Type 0
+  IsUntouched before after = after ≡ record before { written = after.written }
 
 module _ {L : Type 0} (talk : L → Option (List Said)) where
   -- A node of the settings to which nothing had come was run, with the lines of the script, and the acceptor is bound by the
@@ -63,47 +84,40 @@ module _ {L : Type 0} (talk : L → Option (List Said)) where
   -- dialled is what was dialled; it told that it has ended exactly where the run is finished. Where no link came, the
   -- log is that of a node alone, by the readings of the clock and the lines of the script. What the run wrote stands before
   -- what is written of its end.
-  pub record Ran (v : NodeSettings) (script : List ℕ) (c c' : Option (List Dialled)) (l l' : Option (List L)) (p p' : Option (Option ℕ))
-      (t t' : Option (List ℕ)) (s : ℕ) (b b' : Option (List ℕ)) : Type 0 where
+  pub record Ran (v : NodeSettings) (script : List ℕ) (before after : NodeWorld L) (s : ℕ) : Type 0 where
     pub lines : List Due
     pub reads : script_of script ≡ Ok (map wish_of lines)
     pub last : Log
     pub end : Result RunEnd Halt
     pub left : Option (List L)
     pub written : Option (List ℕ)
-    pub bound : IsBoundBy v.direct_port p p'
-    pub stays : Stays l left
-    pub run : IfOk end (λ e. Run (Goes (made_by v)) talk (is_some v.direct_port) e v.turns lines [] c b left t last c' written l' t')
-    pub said : IfOk end (λ e. IsSaid last c c' b written × EndsAsTold e last)
-    pub lonely : IfOk end (λ e. NoLinkCame c c' left l' → (times : List ℕ) × Grows t t' times × (last ≡ alone (made_by v) lines times))
-    pub says : SaysEnd end s written b'
+    pub bound : IsBoundBy v.direct_port before.port after.port
+    pub stays : Stays before.links left
+    pub run : IfOk end (λ e. Run (Goes (made_by v)) talk (is_some v.direct_port) e v.turns lines [] before.dialled before.written
+        left before.readings last after.dialled written after.links after.readings)
+    pub said : IfOk end (λ e. IsSaid last before.dialled after.dialled before.written written × EndsAsTold e last)
+    pub lonely : IfOk end (λ e. NoLinkCame before.dialled after.dialled left after.links
+        → (times : List ℕ) × Grows before.readings after.readings times × (last ≡ alone (made_by v) lines times))
+    pub says : SaysEnd end s written after.written
 
   -- Either no node was run, nothing was dialled, no link was taken and the clock wasn't read; or a node was run.
-  abbrev pub Comes : NodeSettings → List ℕ → Option (List Dialled) → Option (List Dialled) → Option (List L) → Option (List L)
-      → Option (Option ℕ) → Option (Option ℕ) → Option (List ℕ) → Option (List ℕ)
-      → ℕ → ℕ → ℕ → Option (List ℕ) → Option (List ℕ) → Type 0
-  Comes v script c c' l l' p p' t t' f f' s b b' =
-      ((c' ≡ c) × (t' ≡ t) × Stays l l' × NotRun v script p p' f f' s b b') ⊎ Ran v script c c' l l' p p' t t' s b b'
-
-  -- Nothing was dialled, no link was taken, no port was bound and the clock wasn't read.
-  abbrev pub IsUntouched : Option (List Dialled) → Option (List Dialled) → Option (List L) → Option (List L)
-      → Option (Option ℕ) → Option (Option ℕ) → Option (List ℕ) → Option (List ℕ) → Type 0
-  IsUntouched c c' l l' p p' t t' = (c' ≡ c) × (l' ≡ l) × (p' ≡ p) × (t' ≡ t)
+  abbrev pub Comes : NodeSettings → List ℕ → NodeWorld L → NodeWorld L → ℕ → Type 0
+  Comes v script before after s =
+      ((after.dialled ≡ before.dialled) × (after.readings ≡ before.readings) × Stays before.links after.links
+      × NotRun v script before after s)
+      ⊎ Ran v script before after s
 
   -- Either the script wasn't read, and nothing was touched; or a node of these settings came to this by the script that the
   -- file has.
-  abbrev pub RunsScript : NodeSettings → (List ℕ → Type 0) → ℕ → ℕ → Option (List Dialled) → Option (List Dialled) → Option (List L) → Option (List L)
-      → Option (Option ℕ) → Option (Option ℕ) → Option (List ℕ) → Option (List ℕ)
-      → ℕ → ℕ → ℕ → Option (List ℕ) → Option (List ℕ) → Type 0
-  RunsScript v holds r r' c c' l l' p p' t t' f f' s b b' =
-      (IsUntouched c c' l l' p p' t t' × Unread r r' s b b')
-      ⊎ ((script : List ℕ) × holds script × Comes v script c c' l l' p p' t t' f f' s b b')
+  abbrev pub RunsScript : NodeSettings → (List ℕ → Type 0) → CommandWorld L → CommandWorld L → ℕ → Type 0
+  RunsScript v holds before after s =
+      (IsUntouched before.beside after.beside × Unread before.unread after.unread s before.beside.written after.beside.written)
+      ⊎ ((script : List ℕ) × holds script × Comes v script before.beside after.beside s)
 
   -- Either there are no settings of a node in the file, and nothing was touched; or this became of the node of them, by the
   -- script in the other file, of which `scripted` says what it has.
-  abbrev pub RunsFiles : (List ℕ → Type 0) → (List ℕ → Type 0) → ℕ → ℕ → Option (List Dialled) → Option (List Dialled) → Option (List L) → Option (List L)
-      → Option (Option ℕ) → Option (Option ℕ) → Option (List ℕ) → Option (List ℕ)
-      → ℕ → ℕ → ℕ → Option (List ℕ) → Option (List ℕ) → Type 0
-  RunsFiles settled scripted r r' c c' l l' p p' t t' f f' s b b' =
-      (IsUntouched c c' l l' p p' t t' × Unsettled settled r r' s b b')
-      ⊎ ((v : NodeSettings) × IsSettled settled v × RunsScript v scripted r r' c c' l l' p p' t t' f f' s b b')
+  abbrev pub RunsFiles : (List ℕ → Type 0) → (List ℕ → Type 0) → CommandWorld L → CommandWorld L → ℕ → Type 0
+  RunsFiles settled scripted before after s =
+      (IsUntouched before.beside after.beside
+      × Unsettled settled before.unread after.unread s before.beside.written after.beside.written)
+      ⊎ ((v : NodeSettings) × IsSettled settled v × RunsScript v scripted before after s)

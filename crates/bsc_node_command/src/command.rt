@@ -99,12 +99,15 @@ fn run_script<K: Sink, F: Files, C: Clock, W: Words, L: Link + Drop, A: Acceptor
     acceptor: &mut A,
     dialer: &mut D,
 ) -> u8
-    ensures runs { RunsScript L.talk settings.now (F.holds files.old path.now) (F.faults files.old) (F.faults files.new)
-        (D.calls dialer.old) (D.calls dialer.new) (A.left acceptor.old) (A.left acceptor.new) (A.bound acceptor.old) (A.bound acceptor.new)
-        (C.readings clock.old) (C.readings clock.new) (A.faults acceptor.old) (A.faults acceptor.new) result (K.held sink.old) (K.held sink.new) }
+    ensures runs { RunsScript L.talk settings.now (F.holds files.old path.now)
+        (record { unread = F.faults files.old; beside = record { dialled = D.calls dialer.old; links = A.left acceptor.old; port = A.bound acceptor.old;
+            faults = A.faults acceptor.old; readings = C.readings clock.old; written = K.held sink.old } })
+        (record { unread = F.faults files.new; beside = record { dialled = D.calls dialer.new; links = A.left acceptor.new; port = A.bound acceptor.new;
+            faults = A.faults acceptor.new; readings = C.readings clock.new; written = K.held sink.new } }) result }
     ensures read { result ≡ 3 → HasRisen (F.faults files.old) (F.faults files.new) }
     ensures write { result ≡ 4 → HasRisen (K.faults sink.old) (K.faults sink.new) }
     ensures link { result ≡ 6 → HasRisen (A.faults acceptor.old) (A.faults acceptor.new) }
+    ensures statuses { (result ≡ 0) ⊎ (result ≡ 2) ⊎ (result ≡ 3) ⊎ (result ≡ 4) ⊎ (result ≡ 6) ⊎ (result ≡ 7) ⊎ (result ≡ 8) }
     ensures later { K.faults sink.old ≤ K.faults sink.new }
 {
     match load(alloc, path, files, sink) {
@@ -143,9 +146,10 @@ pub fn run_node_files<
 ) -> u8
     // The file of settings wasn't read or was refused; or a node of them was run by the script, where that was read.
     ensures runs { RunsFiles L.talk (F.holds files.old words.entry.path.now) (F.holds files.old words.entry.script.now)
-        (F.faults files.old) (F.faults files.new) (D.calls dialer.old) (D.calls dialer.new) (A.left acceptor.old) (A.left acceptor.new)
-        (A.bound acceptor.old) (A.bound acceptor.new) (C.readings clock.old) (C.readings clock.new)
-        (A.faults acceptor.old) (A.faults acceptor.new) result (K.held sink.old) (K.held sink.new) }
+        (record { unread = F.faults files.old; beside = record { dialled = D.calls dialer.old; links = A.left acceptor.old; port = A.bound acceptor.old;
+            faults = A.faults acceptor.old; readings = C.readings clock.old; written = K.held sink.old } })
+        (record { unread = F.faults files.new; beside = record { dialled = D.calls dialer.new; links = A.left acceptor.new; port = A.bound acceptor.new;
+            faults = A.faults acceptor.new; readings = C.readings clock.new; written = K.held sink.new } }) result }
 
     // Status 0 comes only once the time of the script's `finish` has passed, from the first reading of the clock to the last.
     ensures finished { result ≡ 0 → (script : List ℕ) × F.holds files.old words.entry.script.now script
@@ -153,6 +157,8 @@ pub fn run_node_files<
     ensures read { result ≡ 3 → HasRisen (F.faults files.old) (F.faults files.new) }
     ensures write { result ≡ 4 → HasRisen (K.faults sink.old) (K.faults sink.new) }
     ensures link { result ≡ 6 → HasRisen (A.faults acceptor.old) (A.faults acceptor.new) }
+    ensures statuses { (result ≡ 0) ⊎ (result ≡ 2) ⊎ (result ≡ 3) ⊎ (result ≡ 4) ⊎ (result ≡ 5) ⊎ (result ≡ 6) ⊎ (result ≡ 7)
+        ⊎ (result ≡ 8) }
 {
     match load_settings(alloc, words.path, files, sink) {
         Ok(settings) => run_script(

@@ -8,7 +8,7 @@ ghost use Rattle.bsc_node_command.specs.Lines.{SaysEnd};
 ghost use Rattle.bsc_node_run.specs.declared.due.Due.{Due};
 ghost use Rattle.bsc_node_run.specs.Scripts.{script_of, wish_of};
 ghost use Rattle.bsc_node_runs.specs.Courses.{FinishCame};
-ghost use Rattle.bsc_node_command.specs.Comes.{made_by, Comes, IsBoundBy, Ran};
+ghost use Rattle.bsc_node_command.specs.Comes.{Comes, IsBoundBy, Ran, made_by};
 
 use crate::making::make_node;
 use crate::running_node::RunningNode;
@@ -63,10 +63,14 @@ fn run_made<K: Sink, C: Clock, W: Words, L: Link + Drop, A: Acceptor<L>, D: Dial
     dialer: &mut D,
 ) -> u8
     requires { StandsFor node.node (made_by settings.now) [] }
-    ensures ran { (script : List ℕ) (l : Option (List L)) (p : Option (Option ℕ)) → script_of script ≡ Ok (map wish_of lines.now) →
-        Stays l (A.left acceptor.old) → IsBoundBy settings.now.direct_port p (A.bound acceptor.old) →
-        Ran L.talk settings.now script (D.calls dialer.old) (D.calls dialer.new) l (A.left acceptor.new) p (A.bound acceptor.new)
-        (C.readings clock.old) (C.readings clock.new) result (K.held sink.old) (K.held sink.new) }
+    ensures ran { (script : List ℕ) (links : Option (List L)) (port : Option (Option ℕ)) (faults : ℕ) →
+        script_of script ≡ Ok (map wish_of lines.now) → Stays links (A.left acceptor.old) →
+        IsBoundBy settings.now.direct_port port (A.bound acceptor.old) →
+        Ran L.talk settings.now script
+        (record { dialled = D.calls dialer.old; links = links; port = port; faults = faults; readings = C.readings clock.old;
+            written = K.held sink.old })
+        (record { dialled = D.calls dialer.new; links = A.left acceptor.new; port = A.bound acceptor.new;
+            faults = A.faults acceptor.new; readings = C.readings clock.new; written = K.held sink.new }) result }
     ensures write { result ≡ 4 → HasRisen (K.faults sink.old) (K.faults sink.new) }
     ensures link { result ≡ 6 → HasRisen (A.faults acceptor.old) (A.faults acceptor.new) }
     ensures statuses { (result ≡ 0) ⊎ (result ≡ 4) ⊎ (result ≡ 6) ⊎ (result ≡ 7) ⊎ (result ≡ 8) }
@@ -101,9 +105,11 @@ fn run_lines<K: Sink, C: Clock, W: Words, L: Link + Drop, A: Acceptor<L>, D: Dia
     dialer: &mut D,
 ) -> u8
     ensures comes { (script : List ℕ) → script_of script ≡ Ok (map wish_of lines.now) →
-        Comes L.talk settings.now script (D.calls dialer.old) (D.calls dialer.new) (A.left acceptor.old) (A.left acceptor.new)
-        (A.bound acceptor.old) (A.bound acceptor.new) (C.readings clock.old) (C.readings clock.new)
-        (A.faults acceptor.old) (A.faults acceptor.new) result (K.held sink.old) (K.held sink.new) }
+        Comes L.talk settings.now script
+        (record { dialled = D.calls dialer.old; links = A.left acceptor.old; port = A.bound acceptor.old;
+            faults = A.faults acceptor.old; readings = C.readings clock.old; written = K.held sink.old })
+        (record { dialled = D.calls dialer.new; links = A.left acceptor.new; port = A.bound acceptor.new;
+            faults = A.faults acceptor.new; readings = C.readings clock.new; written = K.held sink.new }) result }
     ensures write { result ≡ 4 → HasRisen (K.faults sink.old) (K.faults sink.new) }
     ensures link { result ≡ 6 → HasRisen (A.faults acceptor.old) (A.faults acceptor.new) }
     ensures statuses { (result ≡ 0) ⊎ (result ≡ 4) ⊎ (result ≡ 6) ⊎ (result ≡ 7) ⊎ (result ≡ 8) }
@@ -132,9 +138,11 @@ fn run_text<K: Sink, C: Clock, W: Words, L: Link + Drop, A: Acceptor<L>, D: Dial
     acceptor: &mut A,
     dialer: &mut D,
 ) -> u8
-    ensures comes { Comes L.talk settings.now script.now (D.calls dialer.old) (D.calls dialer.new) (A.left acceptor.old) (A.left acceptor.new)
-        (A.bound acceptor.old) (A.bound acceptor.new) (C.readings clock.old) (C.readings clock.new)
-        (A.faults acceptor.old) (A.faults acceptor.new) result (K.held sink.old) (K.held sink.new) }
+    ensures comes { Comes L.talk settings.now script.now
+        (record { dialled = D.calls dialer.old; links = A.left acceptor.old; port = A.bound acceptor.old;
+            faults = A.faults acceptor.old; readings = C.readings clock.old; written = K.held sink.old })
+        (record { dialled = D.calls dialer.new; links = A.left acceptor.new; port = A.bound acceptor.new;
+            faults = A.faults acceptor.new; readings = C.readings clock.new; written = K.held sink.new }) result }
     ensures write { result ≡ 4 → HasRisen (K.faults sink.old) (K.faults sink.new) }
     ensures link { result ≡ 6 → HasRisen (A.faults acceptor.old) (A.faults acceptor.new) }
     ensures statuses { (result ≡ 0) ⊎ (result ≡ 2) ⊎ (result ≡ 4) ⊎ (result ≡ 6) ⊎ (result ≡ 7) ⊎ (result ≡ 8) }
@@ -179,9 +187,11 @@ pub fn run_node<K: Sink, C: Clock, W: Words, L: Link + Drop, A: Acceptor<L>, D: 
     dialer: &mut D,
 ) -> u8
     // Either no node was run, and nothing was dialled; or a node of the settings was, to its end or to a fault.
-    ensures comes { Comes L.talk settings.now script.now (D.calls dialer.old) (D.calls dialer.new) (A.left acceptor.old) (A.left acceptor.new)
-        (A.bound acceptor.old) (A.bound acceptor.new) (C.readings clock.old) (C.readings clock.new)
-        (A.faults acceptor.old) (A.faults acceptor.new) result (K.held sink.old) (K.held sink.new) }
+    ensures comes { Comes L.talk settings.now script.now
+        (record { dialled = D.calls dialer.old; links = A.left acceptor.old; port = A.bound acceptor.old;
+            faults = A.faults acceptor.old; readings = C.readings clock.old; written = K.held sink.old })
+        (record { dialled = D.calls dialer.new; links = A.left acceptor.new; port = A.bound acceptor.new;
+            faults = A.faults acceptor.new; readings = C.readings clock.new; written = K.held sink.new }) result }
 
     // Status 2 comes only of a script with a bad line, and such a script comes to no other, but where the write of the last
     // line failed or memory ran out.

@@ -38,7 +38,7 @@ rose_one a b (inr x) = inr x
 split_in : (h : Hub) (p m x : Pass) → SplitsOff h p m x → IsSplitIn h p m x
 split_in h p m x s = record {
   caller = s.caller;
-  new = (s.own, s.ended);
+  new = (s.own, s.ended, s.fresh);
   number = s.more;
   drawn = s.newer;
   since = subst (λ (l : List Stamped). StartsWith l (seen p)) (sym s.same) (starts_same (seen p));
@@ -74,7 +74,7 @@ module _ {L C : Type 0} where
   pub fares_unmade : (h : Hub) (p m q x : Pass) (j : Option (List (SessionJob L C))) (f : ℕ) → SplitsOff h p m x → TakesBack h m q x → LacksRoom {L = L} h p q j j f f
   fares_unmade h p m q x j f s t = record {
     caller = ended_of (view_of x);
-    own = s.own;
+    unused = (s.own, s.fresh);
     jobs = grows_none j;
     went = back h p m q x s t;
     draws = draws_back h p m q x s t.1;
@@ -110,7 +110,7 @@ module _ {L C : Type 0} where
       let b : TakesBack h m q x = subst (λ (y : Pass). TakesBack h m q y) pass t.2 in
       record {
         fate = returned (ended_of (view_of x));
-        is = s.own;
+        is = (s.own, s.fresh);
         jobs = t.0;
         went = back h p m q x s b;
         draws = draws_back h p m q x s b.1;
@@ -121,7 +121,7 @@ module _ {L C : Type 0} where
       let b : TakesBack h m q x = subst (λ (y : Pass). TakesBack h m q y) pass t.2 in
       record {
         caller = ended_of (view_of x);
-        own = s.own;
+        unused = (s.own, s.fresh);
         jobs = t.0;
         went = back h p m q x s b;
         draws = draws_back h p m q x s b.1;

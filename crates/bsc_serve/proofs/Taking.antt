@@ -176,7 +176,7 @@ module _ {L C : Type 0} where
   halted_cut h terms w m v tally x t more_come lost r = record {
     arrivals = t.arrivals;
     cut = Some (record { link = x; caller = r.caller });
-    cut_last = (refl, r.own);
+    cut_last = (refl, r.unused);
     left = loses_more w.links m.links v.links (links_of t.arrivals) x t.left lost;
     within = within_more terms.sessions (length t.arrivals) tally.remaining more_come t.remains;
     jobs = subst (λ xs. Grows w.jobs v.jobs xs) (append-nil (jobs_of t.arrivals))

@@ -4,7 +4,7 @@ use Rattle.std.specs.Arc.{arc_value}
 use Rattle.bsc_turn.specs.declared.pass.Pass.{Pass}
 use Rattle.bsc_turn.specs.declared.view.Ended.{Ended as EndedCaller}
 use Rattle.bsc_turn.specs.Histories.{StartsWith}
-use Rattle.bsc_turn.specs.Passes.{ended_callers, newest_number, number_of, own_list, seen}
+use Rattle.bsc_turn.specs.Passes.{ended_callers, loads_made, newest_number, number_of, own_list, seen}
 use Rattle.bsc_hub.specs.declared.hub.Hub.{Hub}
 use Rattle.bsc_hub.specs.Passing.{IsCaller, about_of}
 use Rattle.bsc_session.specs.declared.limits.SessionLimits.{SessionLimits}
@@ -16,6 +16,10 @@ pub data Fate (J : Type 0) : Type 0 where
   started : J → Fate J
   returned : EndedCaller → Fate J
   spent : Fate J
+
+-- A caller that made no entry and asked for no number.
+abbrev pub IsUnused : EndedCaller → Type 0
+IsUnused e = (e.own ≡ []) × (e.loads ≡ 0)
 
 -- A link that left the acceptor, with what became of it.
 pub record Arrival (L J : Type 0) : Type 0 where
@@ -59,11 +63,11 @@ module _ {L J : Type 0} where
   unstarted_of [] = 0
   unstarted_of (a ∷ more) = unstarted_in a.fate + unstarted_of more
 
--- The pass x was split in a call that had the hub's own pass as p and left it as q: its caller is new and has no entries,
--- its number is one that was drawn in this call, and what it has seen lies between what p and q had.
+-- The pass x was split in a call that had the hub's own pass as p and left it as q: its caller is new, has no entries and
+-- asked for no number, its own is one that was drawn in this call, and what it has seen lies between what p and q had.
 pub record IsSplitIn (h : Hub) (p q x : Pass) : Type 0 where
   pub caller : IsCaller h x
-  pub new : (own_list x ≡ []) × (ended_callers x ≡ [])
+  pub new : (own_list x ≡ []) × (ended_callers x ≡ []) × (loads_made x ≡ 0)
   pub number : number_of p < number_of x
   pub drawn : newest_number p < number_of x
   pub since : StartsWith (seen x) (seen p)
@@ -80,11 +84,11 @@ module _ {L C : Type 0} where
     pub turns : j.turns ≡ n
     pub ended : j.ended ≡ None
 
-  -- What became of a link as it may be: its job is one of this call; or the caller whose pass came back made no entry; or
-  -- all numbers are drawn.
+  -- What became of a link as it may be: its job is one of this call; or the caller whose pass came back was unused; or all
+  -- numbers are drawn.
   abbrev pub IsFate : Hub → SessionLimits → ℕ → Pass → Pass → L → Fate (SessionJob L C) → Type 0
   IsFate h limits turns p q l (started j) = IsJobOf h limits turns p q l j
-  IsFate h limits turns p q l (returned e) = e.own ≡ []
+  IsFate h limits turns p q l (returned e) = IsUnused e
   IsFate h limits turns p q l spent = newest_number q ≡ (about_of h).limits.callers
 
   abbrev pub AreFates : Hub → SessionLimits → ℕ → Pass → Pass → List (Arrival L (SessionJob L C)) → Type 0

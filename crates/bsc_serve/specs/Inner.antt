@@ -11,7 +11,7 @@ use Rattle.bsc_history.specs.Replies.{is_stopped}
 use Rattle.bsc_turn.specs.declared.pass.Pass.{Pass}
 use Rattle.bsc_turn.specs.declared.view.Ended.{Ended as EndedCaller}
 use Rattle.bsc_turn.specs.Effects.{ended_of}
-use Rattle.bsc_turn.specs.Passes.{ended_callers, newest_number, number_of, own_list, seen, view_of}
+use Rattle.bsc_turn.specs.Passes.{ended_callers, loads_made, newest_number, number_of, own_list, seen, view_of}
 use Rattle.bsc_hub.specs.declared.hub.Hub.{Hub}
 use Rattle.bsc_hub.specs.Calls.{stop_made}
 use Rattle.bsc_hub.specs.Passing.{IsCaller, Passed, Went, about_of, found_history}
@@ -23,7 +23,7 @@ use Rattle.bsc_serve.specs.declared.halt.Halt.TheVariants.{AcceptFault as HaltFa
 use Rattle.bsc_serve.specs.declared.end.ServeEnd.{ServeEnd}
 use Rattle.bsc_serve.specs.declared.end.ServeEnd.TheVariants.{Done, StoppedBefore, AcceptFault, NoMemory}
 use Rattle.bsc_session.specs.declared.job.SessionJob.{SessionJob}
-use Rattle.bsc_serve.specs.Fates.{AreFates, Arrival, Fate, started, returned, spent, IsFate, caller_in, callers_of, job_in, jobs_of, links_of, unstarted_in, unstarted_of}
+use Rattle.bsc_serve.specs.Fates.{AreFates, Arrival, Fate, IsUnused, started, returned, spent, IsFate, caller_in, callers_of, job_in, jobs_of, links_of, unstarted_in, unstarted_of}
 use Rattle.bsc_serve.specs.declared.tally.Tally.{Tally}
 use Rattle.bsc_serve.specs.Tallies.{CountsUp, Remains, one_unless}
 use Rattle.bsc_serve.specs.Serving.{Cut, IsWithin, Loses, RoseBy, cut_callers, cut_links}
@@ -45,7 +45,7 @@ DrawsFor h p q spent = newest_number q ≡ limit_of h
 -- The link that was cut, if one was, had no memory for its job.
 abbrev pub CutAt : {L : Type 0} → Option (Cut L) → Halt → Type 0
 CutAt None halt = ⊤
-CutAt (Some c) halt = (halt ≡ HaltMemory) × (c.caller.own ≡ [])
+CutAt (Some c) halt = (halt ≡ HaltMemory) × IsUnused c.caller
 
 -- A pass x was split from p, which is m since.
 pub record SplitsOff (h : Hub) (p m x : Pass) : Type 0 where
@@ -54,6 +54,7 @@ pub record SplitsOff (h : Hub) (p m x : Pass) : Type 0 where
   pub same : seen x ≡ seen p
   pub own : own_list x ≡ []
   pub ended : ended_callers x ≡ []
+  pub fresh : loads_made x ≡ 0
   pub number : number_of x ≡ newest_number m
   pub more : number_of p < number_of x
   pub newer : newest_number p < number_of x
@@ -78,7 +79,7 @@ module _ {L C : Type 0} where
   -- There was no memory for its job.
   pub record LacksRoom (h : Hub) (p q : Pass) (j j' : Option (List (SessionJob L C))) (f f' : ℕ) : Type 0 where
     pub caller : EndedCaller
-    pub own : caller.own ≡ []
+    pub unused : IsUnused caller
     pub jobs : Grows j j' []
     pub went : Went h p 1 (caller ∷ []) None q
     pub draws : Draws h p q

@@ -17,7 +17,7 @@ use Rattle.bsc_edge.specs.Told.{Grows, Tells}
 use Rattle.bsc_serve.specs.declared.end.ServeEnd.{ServeEnd}
 use Rattle.bsc_serve.specs.declared.end.ServeEnd.TheVariants.{Done, StoppedBefore, AcceptFault, NoMemory}
 use Rattle.bsc_session.specs.declared.job.SessionJob.{SessionJob}
-use Rattle.bsc_serve.specs.Fates.{AreFates, Arrival, callers_of, jobs_of, links_of, unstarted_of}
+use Rattle.bsc_serve.specs.Fates.{AreFates, Arrival, IsUnused, callers_of, jobs_of, links_of, unstarted_of}
 use Rattle.bsc_serve.specs.declared.terms.ServeTerms.{ServeTerms}
 use Rattle.bsc_serve.specs.Worlds.{ServeWorld}
 
@@ -48,7 +48,7 @@ module _ {L : Type 0} where
   -- It comes under want of memory alone.
   abbrev pub CutBy : Option (Cut L) → ServeEnd → Type 0
   CutBy None end = ⊤
-  CutBy (Some c) end = (end ≡ NoMemory) × (c.caller.own ≡ [])
+  CutBy (Some c) end = (end ≡ NoMemory) × IsUnused c.caller
 
 -- No more links than are awaited, where that is said.
 abbrev pub IsWithin : Option ℕ → ℕ → Type 0

@@ -1,5 +1,5 @@
 use Rattle.std.proofs.Common.{List, ℕ, Option, inl, inr, refl, subst, sym}
-use Rattle.bsc_node_command.specs.Comes.{Comes}
+use Rattle.bsc_node_command.specs.Comes.{Comes, NodeWorld}
 use Rattle.bsc_node_command.proofs.command.run_script.Goals as goal
 
 pub returns-in-Ok-clause-runs : goal.returns-in-Ok-clause-runs
@@ -9,11 +9,14 @@ returns-in-Ok-clause-runs g c =
     let C = g.C.Clock in
     let K = g.K.Sink in
     let held = subst (λ (o : List ℕ). g.F.Files.holds c.args.files.now c.args.path.now o) (sym c.as_slice.ensures) c.in-Ok.ensures.given.0 in
+    let before : Option (List ℕ) → NodeWorld g.row.L.Denot = λ (t : Option (List ℕ)). record { dialled = D.calls c.args.dialer.now; links = A.left c.args.acceptor.now; port = A.bound c.args.acceptor.now; faults = A.faults c.args.acceptor.now; readings = C.readings c.args.clock.now; written = t } in
+    let after : NodeWorld g.row.L.Denot = record { dialled = D.calls c.run_node.new.dialer; links = A.left c.run_node.new.acceptor; port = A.bound c.run_node.new.acceptor; faults = A.faults c.run_node.new.acceptor; readings = C.readings c.run_node.new.clock; written = K.held c.run_node.new.sink } in
     inr (
       c.as_slice.result.now,
       held,
-      subst (λ (t : Option (List ℕ)). Comes g.L.Link.talk c.args.settings.now c.as_slice.result.now (D.calls c.args.dialer.now) (D.calls c.run_node.new.dialer) (A.left c.args.acceptor.now) (A.left c.run_node.new.acceptor) (A.bound c.args.acceptor.now) (A.bound c.run_node.new.acceptor) (C.readings c.args.clock.now) (C.readings c.run_node.new.clock) (A.faults c.args.acceptor.now) (A.faults c.run_node.new.acceptor) c.run_node.result t (K.held c.run_node.new.sink)) c.in-Ok.ensures.given.1 c.run_node.ensures.comes,
+      subst (λ (t : Option (List ℕ)). Comes g.L.Link.talk c.args.settings.now c.as_slice.result.now (before t) after c.run_node.result)
+      c.in-Ok.ensures.given.1 c.run_node.ensures.comes,
     )
 
 pub returns-in-Err-clause-runs : goal.returns-in-Err-clause-runs
-returns-in-Err-clause-runs g c = inl ((refl, refl, refl, refl), c.in-Err.ensures.unread)
+returns-in-Err-clause-runs g c = inl (refl, c.in-Err.ensures.unread)

@@ -3,7 +3,9 @@ use Rattle.bsc_node_command.proofs.playing.run_lines.Goals as goal
 
 pub returns-in-Ok-make_node-clause-comes : goal.returns-in-Ok-make_node-clause-comes
 returns-in-Ok-make_node-clause-comes g c script reads =
-    inr (c.run_made.ensures.ran script (g.A.Acceptor.left c.args.acceptor.now) (g.A.Acceptor.bound c.args.acceptor.now) reads c.bind.ensures.left c.in-Ok.ensures.bound)
+    let A = g.A.Acceptor in
+    inr (c.run_made.ensures.ran script (A.left c.args.acceptor.now) (A.bound c.args.acceptor.now) (A.faults c.args.acceptor.now) reads
+    c.bind.ensures.left c.in-Ok.ensures.bound)
 
 pub returns-in-Err-make_node-clause-comes : goal.returns-in-Err-make_node-clause-comes
 returns-in-Err-make_node-clause-comes g c script reads = inl (refl, refl, c.bind.ensures.left, inr (inr (inr c.in-Ok.ensures.bound, (c.out_of_memory.ensures.status, c.out_of_memory.ensures.tried))))

@@ -7,7 +7,7 @@ use Rattle.bsc_node_command.proofs.Defined.{by_definition, lonely_of, said_of}
 use Rattle.bsc_node_command.proofs.playing.run_made.Goals as goal
 
 pub returns-clause-ran : goal.returns-clause-ran
-returns-clause-ran g c script l p reads stays bound =
+returns-clause-ran g c script links port faults reads stays bound =
     let talk = g.L.Link.talk in
     let A = g.A.Acceptor in
     let D = g.D.Dialer in
@@ -30,7 +30,7 @@ returns-clause-ran g c script l p reads stays bound =
       end = end;
       left = A.left old.acceptor.now;
       written = K.held new.sink;
-      bound = bound_still v.direct_port p (A.bound old.acceptor.now) (A.bound new.acceptor) bound c.run_node-end.ensures.bound;
+      bound = bound_still v.direct_port port (A.bound old.acceptor.now) (A.bound new.acceptor) bound c.run_node-end.ensures.bound;
       stays = stays;
       run = defined.1;
       said = said_of talk v lines defined.0 end (D.calls old.dialer.now) (D.calls new.dialer) (A.left old.acceptor.now) (A.left new.acceptor) (C.readings old.clock.now) (C.readings new.clock)

@@ -1,3 +1,4 @@
+use Rattle.bsc_node_command.specs.Comes.{NodeWorld}
 use Rattle.bsc_node_command.proofs.Ended.{finished_so}
 use Rattle.bsc_node_command.proofs.Statuses.{bad_line, refused_so, spent_so}
 use Rattle.bsc_node_command.proofs.playing.run_node.Goals as goal
@@ -8,10 +9,9 @@ returns-clause-bad g c =
     let D = g.D.Dialer in
     let C = g.C.Clock in
     let K = g.K.Sink in
-    let old = c.args in
-    let new = c.run_text.new in
-    bad_line g.L.Link.talk old.settings.now old.script.now (D.calls old.dialer.now) (D.calls new.dialer) (A.left old.acceptor.now) (A.left new.acceptor) (A.bound old.acceptor.now) (A.bound new.acceptor)
-    (C.readings old.clock.now) (C.readings new.clock) (A.faults old.acceptor.now) (A.faults new.acceptor) c.run_text.result (K.held old.sink.now) (K.held new.sink) c.run_text.ensures.comes
+    let before : NodeWorld g.row.L.Denot = record { dialled = D.calls c.args.dialer.now; links = A.left c.args.acceptor.now; port = A.bound c.args.acceptor.now; faults = A.faults c.args.acceptor.now; readings = C.readings c.args.clock.now; written = K.held c.args.sink.now } in
+    let after : NodeWorld g.row.L.Denot = record { dialled = D.calls c.run_text.new.dialer; links = A.left c.run_text.new.acceptor; port = A.bound c.run_text.new.acceptor; faults = A.faults c.run_text.new.acceptor; readings = C.readings c.run_text.new.clock; written = K.held c.run_text.new.sink } in
+    bad_line g.L.Link.talk c.args.settings.now c.args.script.now before after c.run_text.result c.run_text.ensures.comes
 
 pub returns-clause-refuses : goal.returns-clause-refuses
 returns-clause-refuses g c =
@@ -19,10 +19,9 @@ returns-clause-refuses g c =
     let D = g.D.Dialer in
     let C = g.C.Clock in
     let K = g.K.Sink in
-    let old = c.args in
-    let new = c.run_text.new in
-    refused_so g.L.Link.talk old.settings.now old.script.now (D.calls old.dialer.now) (D.calls new.dialer) (A.left old.acceptor.now) (A.left new.acceptor) (A.bound old.acceptor.now) (A.bound new.acceptor)
-    (C.readings old.clock.now) (C.readings new.clock) (A.faults old.acceptor.now) (A.faults new.acceptor) c.run_text.result (K.held old.sink.now) (K.held new.sink) c.run_text.ensures.comes
+    let before : NodeWorld g.row.L.Denot = record { dialled = D.calls c.args.dialer.now; links = A.left c.args.acceptor.now; port = A.bound c.args.acceptor.now; faults = A.faults c.args.acceptor.now; readings = C.readings c.args.clock.now; written = K.held c.args.sink.now } in
+    let after : NodeWorld g.row.L.Denot = record { dialled = D.calls c.run_text.new.dialer; links = A.left c.run_text.new.acceptor; port = A.bound c.run_text.new.acceptor; faults = A.faults c.run_text.new.acceptor; readings = C.readings c.run_text.new.clock; written = K.held c.run_text.new.sink } in
+    refused_so g.L.Link.talk c.args.settings.now c.args.script.now before after c.run_text.result c.run_text.ensures.comes
 
 pub returns-clause-spent : goal.returns-clause-spent
 returns-clause-spent g c =
@@ -30,10 +29,9 @@ returns-clause-spent g c =
     let D = g.D.Dialer in
     let C = g.C.Clock in
     let K = g.K.Sink in
-    let old = c.args in
-    let new = c.run_text.new in
-    spent_so g.L.Link.talk old.settings.now old.script.now (D.calls old.dialer.now) (D.calls new.dialer) (A.left old.acceptor.now) (A.left new.acceptor) (A.bound old.acceptor.now) (A.bound new.acceptor)
-    (C.readings old.clock.now) (C.readings new.clock) (A.faults old.acceptor.now) (A.faults new.acceptor) c.run_text.result (K.held old.sink.now) (K.held new.sink) c.run_text.ensures.comes
+    let before : NodeWorld g.row.L.Denot = record { dialled = D.calls c.args.dialer.now; links = A.left c.args.acceptor.now; port = A.bound c.args.acceptor.now; faults = A.faults c.args.acceptor.now; readings = C.readings c.args.clock.now; written = K.held c.args.sink.now } in
+    let after : NodeWorld g.row.L.Denot = record { dialled = D.calls c.run_text.new.dialer; links = A.left c.run_text.new.acceptor; port = A.bound c.run_text.new.acceptor; faults = A.faults c.run_text.new.acceptor; readings = C.readings c.run_text.new.clock; written = K.held c.run_text.new.sink } in
+    spent_so g.L.Link.talk c.args.settings.now c.args.script.now before after c.run_text.result c.run_text.ensures.comes
 
 pub returns-clause-finished : goal.returns-clause-finished
 returns-clause-finished g c =
@@ -41,7 +39,6 @@ returns-clause-finished g c =
     let D = g.D.Dialer in
     let C = g.C.Clock in
     let K = g.K.Sink in
-    let old = c.args in
-    let new = c.run_text.new in
-    finished_so g.L.Link.talk old.settings.now old.script.now (D.calls old.dialer.now) (D.calls new.dialer) (A.left old.acceptor.now) (A.left new.acceptor) (A.bound old.acceptor.now) (A.bound new.acceptor)
-    (C.readings old.clock.now) (C.readings new.clock) (A.faults old.acceptor.now) (A.faults new.acceptor) c.run_text.result (K.held old.sink.now) (K.held new.sink) c.run_text.ensures.comes
+    let before : NodeWorld g.row.L.Denot = record { dialled = D.calls c.args.dialer.now; links = A.left c.args.acceptor.now; port = A.bound c.args.acceptor.now; faults = A.faults c.args.acceptor.now; readings = C.readings c.args.clock.now; written = K.held c.args.sink.now } in
+    let after : NodeWorld g.row.L.Denot = record { dialled = D.calls c.run_text.new.dialer; links = A.left c.run_text.new.acceptor; port = A.bound c.run_text.new.acceptor; faults = A.faults c.run_text.new.acceptor; readings = C.readings c.run_text.new.clock; written = K.held c.run_text.new.sink } in
+    finished_so g.L.Link.talk c.args.settings.now c.args.script.now before after c.run_text.result c.run_text.ensures.comes

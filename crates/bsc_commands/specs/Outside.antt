@@ -1,0 +1,26 @@
+-- What the program is handed beside its words and its output, and what a command leaves of it as it was.
+use Rattle.std.specs.Prelude.{◌≡◌, Option, Some, None}
+use Rattle.bsc_hub.specs.declared.kept.Kept.{Kept}
+use Rattle.bsc_words.specs.Words.{AskedOf, check, hub, load, node, replay}
+
+pub record Outside (S F C W A D P : Type 0) : Type 0 where
+  pub source : S
+  pub files : F
+  pub clock : C
+  pub random : W
+  pub acceptor : A
+  pub dialer : D
+  pub spawner : P
+  pub kept : Kept
+
+module _ {S F C W A D P : Type 0} where
+  -- By what words ask for, what isn't used is as it was; where they ask for nothing, that is all.
+  abbrev pub TouchesOnly : Option AskedOf → Outside S F C W A D P → Outside S F C W A D P → Type 0
+  TouchesOnly None x y = y ≡ x
+  TouchesOnly (Some replay) x y = y ≡ record x { source = y.source }
+  TouchesOnly (Some check) x y = y ≡ record x { source = y.source }
+  TouchesOnly (Some (hub path sessions)) x y =
+      y ≡ record x { files = y.files; clock = y.clock; acceptor = y.acceptor; spawner = y.spawner; kept = y.kept }
+  TouchesOnly (Some (node path script)) x y =
+      y ≡ record x { files = y.files; clock = y.clock; random = y.random; acceptor = y.acceptor; dialer = y.dialer }
+  TouchesOnly (Some (load n)) x y = y ≡ record x { kept = y.kept }
