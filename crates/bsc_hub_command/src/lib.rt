@@ -1,8 +1,7 @@
 //! The command `hub`: a hub by the settings in a file, served until so many sessions have ended, or for ever.
 //!
 //! Start at `specs/Served.antt`, which says what a served hub writes and with which status it ends. `command` has
-//! `run_hub`, which loads the settings; `serving` has `serve`, which makes the hub and serves it; `words` reads the words
-//! of the command.
+//! `run_hub`, which loads the settings; `serving` has `serve`, which makes the hub and serves it.
 #![tactic(auto)]
 
 mod command;
@@ -12,4 +11,4 @@ mod words;
 
 pub use command::run_hub;
 pub use serving::serve;
-pub use words::{HubWords, read_hub_words};
+pub use words::HubWords;

@@ -3,7 +3,7 @@
 //!
 //! Start at `specs/Comes.antt`, which says what running a node comes to, what is written of it, and with which status.
 //! `command` has `run_node_files`, which loads settings and script; `playing` has `run_node`, which reads the script, makes
-//! the node and runs it; `running_node` is the node as its runner sees it; `words` reads the words of the command.
+//! the node and runs it; `running_node` is the node as its runner sees it.
 #![tactic(auto)]
 
 mod command;
@@ -18,4 +18,4 @@ pub use command::run_node_files;
 pub use playing::run_node;
 pub use random_words::RandomWords;
 pub use running_node::RunningNode;
-pub use words::{NodeWords, read_node_words};
+pub use words::NodeWords;
