@@ -22,22 +22,21 @@ use Rattle.bsc_history.specs.Entries.{moment}
 use Rattle.bsc_history.specs.Ends.{end_by, ended, is_one, joined}
 use Rattle.bsc_history.specs.Legality.{Lawful, Legal}
 use Rattle.bsc_history.specs.Marks.{entries}
-use Rattle.bsc_history.specs.Outboxes.{added_by, looked, sent}
+use Rattle.bsc_history.specs.Outboxes.{added_by, sent}
 use Rattle.bsc_history.specs.Replies.{connect_reply}
-use Rattle.bsc_history.proofs.Capacity.{within_capacity}
 use Rattle.bsc_history.proofs.Fresh.{fresh_joins, fresh_sent}
 use Rattle.bsc_history.proofs.Marks.{mark_new}
-use Rattle.bsc_history.proofs.More.{Legal-more, ended-more, entries-more, or_none, sent-more}
+use Rattle.bsc_history.proofs.More.{ended-more, entries-more, or_none, sent-more}
 use Rattle.bsc_history.proofs.Uniqueness.{comes, not_joined}
 use Rattle.bsc_ring.specs.Ends.{IsNewInlet, capacity_of, ending_of, inlet_mark, known_taken, loads, pushed}
-use Rattle.bsc_ring.specs.Lists.{newest}
 use Rattle.bsc_desk.specs.declared.desk.Desk.{Desk}
 use Rattle.bsc_desk.specs.declared.row.Row.{Row}
 use Rattle.bsc_desk.specs.Changes.{EachBecomes, Finishes, FinishesIf}
 use Rattle.bsc_desk.specs.Entries.{connect_entry, connect_stamped}
 use Rattle.bsc_desk.specs.Live.{connection, is_row, known_in}
-use Rattle.bsc_desk.specs.Standing.{IsInletOf, StandsFor}
+use Rattle.bsc_desk.specs.Standing.{IsInletOf, StandsFor, all_found}
 use Rattle.bsc_desk.specs.Tallies.{no_counts}
+use Rattle.bsc_desk.proofs.Looks.{all_found-more, fresh_found}
 use Rattle.bsc_desk.proofs.Orders.{all-push}
 use Rattle.bsc_desk.proofs.Standings.{Follows, Goes, Keeps, Stays, goes_all, kept, length_entries, stands_more, stands_same}
 use Rattle.bsc_desk.proofs.Walks.{each_connections, each_found, each_weaker, has_number}
@@ -79,7 +78,7 @@ joined_one a H caller who conn replaced r t fin =
           mark = f.pushes.mark;
           holds = f.pushes.holds;
           items = f.pushes.items ∙ sym (append-nil (pushed r.inlet));
-          newest_look = ap newest f.pushes.loads;
+          looks = f.pushes.loads ∙ sym (append-nil (loads r.inlet));
           ends = t.tied ∙ f.ends ∙ ap (λ (o : Option End). option_or o (Some Replaced)) (sym r.tied) ∙ sym (ap (λ (b : Bool). option_or (ending_of r.inlet) (cond b (Some Replaced) None)) h);
         },
       )
@@ -89,16 +88,12 @@ joined_one a H caller who conn replaced r t fin =
           mark = ap (λ (x : Row). inlet_mark x.inlet) f;
           holds = ap (λ (x : Row). capacity_of x.inlet) f;
           items = ap (λ (x : Row). pushed x.inlet) f ∙ sym (append-nil (pushed r.inlet));
-          newest_look = ap (λ (x : Row). newest (loads x.inlet)) f;
+          looks = ap (λ (x : Row). loads x.inlet) f ∙ sym (append-nil (loads r.inlet));
           ends = ap (λ (x : Row). ending_of x.inlet) f ∙ sym (ap (λ (b : Bool). option_or (ending_of r.inlet) (cond b (Some Replaced) None)) h ∙ or_none (ending_of r.inlet));
         },
       )
     ] in
     by (is_one c replaced) refl (subst (λ b. FinishesIf b Replaced r t) (same_test replaced r) fin)
-
-newest_none : newest [] ≡ 0
-unfolding newest
-newest_none = refl
 
 -- the inlet of the connection that joins
 pub inlet_new : (a : About) (S : List Stamped) (caller : ℕ) (who : Identity) (conn : ℕ) (replaced : Option ℕ) (r : Row) → Legal a (entries S) → Lawful a (moment (entries S) (connect_entry caller who (JoinedReply conn replaced))) → IsNewInlet r.inlet → capacity_of r.inlet ≡ a.limits.outbox → IsInletOf a (S ++ connect_stamped caller who (inlet_mark r.inlet) (JoinedReply conn replaced) ∷ []) conn r.inlet
@@ -113,14 +108,12 @@ inlet_new a S caller who conn replaced r legal lawful new holds =
     let far : length (joined H) < conn = omega arith in
     let fresh = fresh_joins a H conn legal far in
     let quiet : sent a (H ++ e ∷ []) conn ≡ [] = sent-more a H e conn ∙ append-nil (sent a H conn) ∙ fresh_sent a H conn legal far in
-    let ahead = (within_capacity a (H ++ e ∷ []) (Legal-more a H e legal lawful)).not_ahead conn in
-    let nothing : length (sent a (H ++ e ∷ []) conn) ≡ 0 = ap length quiet in
-    let none : looked (H ++ e ∷ []) conn ≡ 0 = omega arith in
+    let unseen : all_found (H ++ e ∷ []) conn ≡ [] = all_found-more H e conn ∙ append-nil (all_found H conn) ∙ fresh_found a H conn legal far in
     record {
       holds = holds;
       marked = mark_new S s conn fresh (eq-eqb conn conn refl);
       items = new.0 ∙ sym (ap (λ (G : List Entry). sent a G conn) more ∙ quiet);
-      newest_look = ap newest new.1 ∙ newest_none ∙ sym (ap (λ (G : List Entry). looked G conn) more ∙ none);
+      looks = new.1 ∙ sym (ap (λ (G : List Entry). all_found G conn) more ∙ unseen);
       finished = new.2 ∙ sym (ap (λ (G : List Entry). ended G conn) more ∙ ended-more H e conn ∙ ap (λ (b : Bool). option_or (ended H conn) (cond b (end_by conn e) None)) fresh ∙ ap (λ (w : Option End). option_or w None) (not_joined H conn fresh));
     }
 

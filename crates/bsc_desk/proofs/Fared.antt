@@ -31,6 +31,7 @@ use Rattle.bsc_desk.specs.Fates.{AllBefall, Befalls, looks_in, looks_of}
 use Rattle.bsc_desk.specs.Live.{connection, is_open, number}
 use Rattle.bsc_desk.specs.Standing.{IsInletOf}
 use Rattle.bsc_desk.proofs.Filing.{StaysFiled}
+use Rattle.bsc_desk.proofs.Looks.{newest_look}
 use Rattle.bsc_desk.proofs.Standings.{Goes, follows_same}
 
 -- whether the frame entered, and whether it found the outbox full; and the End that it gives then
@@ -140,15 +141,15 @@ module _ (a : About) (S : List Stamped) (caller conn : ℕ) (m : List ℕ) (look
   Adds c = added a (moment (entries S) e) (sent a (entries S) c) c ≡ cond (names c reply) (o ∷ []) []
 
   pub goes : ((r : Row) → t r ≡ true → is_open r ≡ true) → (r : Row) (x : Fate) (s : Row) → Adds (number r) → Told full reply looks (number r) x → Befalls t full o r x s → Goes a (entries S) e r s
-  goes opens r Unmeant s adds told h = subst (Goes a (entries S) e r) (sym h.1) (refl, follows_same a (entries S) e (number r) r.inlet (adds ∙ ap (λ (b : Bool). cond b (o ∷ []) []) told.named) (λ n. newest_seen t full o r Unmeant s looks n h told.seen) told.ended)
-  goes opens r (TooLong c) s adds told h = subst (Goes a (entries S) e r) (sym h.1.2) (refl, follows_same a (entries S) e (number r) r.inlet (adds ∙ ap (λ (b : Bool). cond b (o ∷ []) []) told.named) (λ n. newest_seen t full o r (TooLong c) s looks n h told.seen) told.ended)
+  goes opens r Unmeant s adds told h = subst (Goes a (entries S) e r) (sym h.1) (refl, follows_same a (entries S) e (number r) r.inlet (adds ∙ ap (λ (b : Bool). cond b (o ∷ []) []) told.named) (ap (map (λ (k : Look). k.taken)) told.seen) told.ended)
+  goes opens r (TooLong c) s adds told h = subst (Goes a (entries S) e r) (sym h.1.2) (refl, follows_same a (entries S) e (number r) r.inlet (adds ∙ ap (λ (b : Bool). cond b (o ∷ []) []) told.named) (ap (map (λ (k : Look). k.taken)) told.seen) told.ended)
   goes opens r (Entered k) s adds told h = (
     h.1.0.same,
     record {
       mark = h.1.0.look.mark;
       holds = h.1.0.look.holds;
       items = h.1.1.items ∙ sym (ap (λ (l : List Item). pushed r.inlet ++ l) (adds ∙ ap (λ (b : Bool). cond b (o ∷ []) []) told.named));
-      newest_look = h.1.0.look.found ∙ sym (newest_seen t full o r (Entered k) s looks _ h told.seen);
+      looks = h.1.0.look.loaded ∙ sym (ap (λ (l : List Look). loads r.inlet ++ map (λ (k : Look). k.taken) l) told.seen);
       ends = s.tied ∙ h.1.2 ∙ sym (is_None r.ending (opens r h.0)) ∙ sym r.tied ∙ sym (ap (option_or (ending_of r.inlet)) told.ended ∙ or_none (ending_of r.inlet));
     },
   )
@@ -158,7 +159,7 @@ module _ (a : About) (S : List Stamped) (caller conn : ℕ) (m : List ℕ) (look
       mark = h.1.0.look.mark;
       holds = h.1.0.look.holds;
       items = h.1.1.items ∙ sym (append-nil (pushed r.inlet)) ∙ sym (ap (λ (l : List Item). pushed r.inlet ++ l) (adds ∙ ap (λ (b : Bool). cond b (o ∷ []) []) told.named));
-      newest_look = h.1.0.look.found ∙ sym (newest_seen t full o r (FoundFull k) s looks _ h told.seen);
+      looks = h.1.0.look.loaded ∙ sym (ap (λ (l : List Look). loads r.inlet ++ map (λ (k : Look). k.taken) l) told.seen);
       ends = s.tied ∙ h.1.2 ∙ sym (ap (λ (w : Option End). option_or w (end_by_reply (number r) reply)) (r.tied ∙ is_None r.ending (opens r h.0)) ∙ told.ended);
     },
   )
@@ -168,7 +169,7 @@ module _ (a : About) (S : List Stamped) (caller conn : ℕ) (m : List ℕ) (look
 look_can : (a : About) (S : List Stamped) (r : Row) (k : Look) → IsInletOf a S (number r) r.inlet → k.conn ≡ number r → newest (loads r.inlet) ≤ k.taken → k.taken ≤ length (pushed r.inlet) → (can_find a (entries S) k.conn k.taken && true) ≡ true
 look_can a S r k p same low high =
     let q = subst (λ c. IsInletOf a S c r.inlet) (sym same) p in
-    let lower : looked (entries S) k.conn ≤ k.taken = subst (λ n. n ≤ k.taken) q.newest_look low in
+    let lower : looked (entries S) k.conn ≤ k.taken = subst (λ n. n ≤ k.taken) (newest_look a S k.conn r.inlet q) low in
     let upper : k.taken ≤ length (sent a (entries S) k.conn) = subst (λ (l : List Item). k.taken ≤ length l) q.items high in
     and_from _ true (and_from _ _ (le-leb (looked (entries S) k.conn) k.taken lower) (le-leb k.taken (length (sent a (entries S) k.conn)) upper)) refl
 

@@ -24,8 +24,8 @@ use Rattle.bsc_history.specs.Replies.{is_stopped}
 use Rattle.bsc_history.proofs.More.{or_none}
 use Rattle.bsc_ring.specs.declared.ends.Inlet.{Inlet}
 use Rattle.bsc_ring.specs.declared.ends.Outlet.{Outlet}
-use Rattle.bsc_ring.specs.Ends.{FoundEnd, Fit, given, inlet_mark, outlet_mark, pushed}
-use Rattle.bsc_ring.specs.Lists.{Item, newest}
+use Rattle.bsc_ring.specs.Ends.{FoundEnd, Fit, given, inlet_mark, loads, outlet_mark, pushed}
+use Rattle.bsc_ring.specs.Lists.{Item}
 use Rattle.bsc_desk.specs.declared.desk.Desk.{Desk}
 use Rattle.bsc_desk.specs.declared.leaving.Gone.{Gone}
 use Rattle.bsc_desk.specs.declared.row.Row.{Row}
@@ -38,6 +38,7 @@ use Rattle.bsc_desk.specs.Standing.{IsInletOf, StandsFor}
 use Rattle.bsc_desk.specs.Tallies.{no_counts}
 use Rattle.bsc_desk.proofs.Connects.{eqb_comm}
 use Rattle.bsc_desk.proofs.LiveRows.{owns, stopped_so}
+use Rattle.bsc_desk.proofs.Looks.{newest_look}
 use Rattle.bsc_desk.proofs.Orders.{all-filter}
 use Rattle.bsc_desk.proofs.Removals.{connections-kept, removed}
 use Rattle.bsc_desk.proofs.Standings.{Follows, Goes, IsKept, Keeps, Quiet, Stays, follows_same, goes_all, goes_one, kept, length_entries, rows_apart, stands_more, stands_same}
@@ -61,7 +62,7 @@ module _ (d : Desk) (conn i : ℕ) (r : Row) (there : position (has_number conn)
       let its = inlet_at S p in
       record {
         begins = (fit.0.0, sym its.items ∙ fit.0.1);
-        behind = subst (λ n. n ≤ length (given o)) its.newest_look fit.1;
+        behind = subst (λ n. n ≤ length (given o)) (newest_look d.about S conn r.inlet its) fit.1;
         ends = λ e found. sym its.finished ∙ fit.2 e found;
       }
 
@@ -97,7 +98,7 @@ left_all d S caller conn empties g (r ∷ rows) all =
     let rest = left_all d S caller conn empties g rows all.1 in
     let by : (b : Bool) → (r.connection.number == conn) ≡ b → AllByRecursion Q (cond (not b) (r ∷ F) F) = λ b. elim b as (λ b. (r.connection.number == conn) ≡ b → AllByRecursion Q (cond (not b) (r ∷ F) F)) [
       | true ↦ λ e. rest
-      | false ↦ λ e. (goes_one a S s r r all.0 (refl, follows_same a (entries S) s.entry r.connection.number r.inlet refl (λ n. refl) (ap (λ (b : Bool). option_or (cond b (Some Left) None) None) (eqb_comm conn r.connection.number ∙ e))), rest)
+      | false ↦ λ e. (goes_one a S s r r all.0 (refl, follows_same a (entries S) s.entry r.connection.number r.inlet refl refl (ap (λ (b : Bool). option_or (cond b (Some Left) None) None) (eqb_comm conn r.connection.number ∙ e))), rest)
     ] in
     by (r.connection.number == conn) refl
 
@@ -140,7 +141,7 @@ stop_one d H caller k r t f = (
     mark = f.pushes.mark;
     holds = f.pushes.holds;
     items = f.pushes.items ∙ sym (append-nil (pushed r.inlet));
-    newest_look = ap newest f.pushes.loads;
+    looks = f.pushes.loads ∙ sym (append-nil (loads r.inlet));
     ends = t.tied ∙ f.ends ∙ ap (λ (o : Option End). option_or o (Some Stopped)) (sym r.tied);
   },
 )

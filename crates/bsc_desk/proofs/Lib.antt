@@ -8,6 +8,7 @@ pub mod Numbers
 pub mod Removals
 pub mod Finishing
 pub mod Histories
+pub mod Looks
 pub mod Standings
 pub mod LiveRows
 pub mod Filing

@@ -12,7 +12,6 @@ use Rattle.bsc_history.specs.Legality.{Legal}
 use Rattle.bsc_history.specs.Marks.{entries}
 use Rattle.bsc_ring.specs.declared.ends.Outlet.{Outlet}
 use Rattle.bsc_ring.specs.Ends.{Met, given, known_taken}
-use Rattle.bsc_ring.specs.Lists.{newest}
 use Rattle.bsc_desk.specs.declared.desk.Desk.{Desk}
 use Rattle.bsc_desk.specs.declared.row.Row.{Row}
 use Rattle.bsc_desk.specs.declared.tally.Tally.{Tally}
@@ -40,7 +39,7 @@ inlet_same a S r s p h = subst (λ n. IsInletOf a S n s.inlet) (sym (ap (λ (k :
   holds = h.pushes.holds ∙ p.holds;
   marked = p.marked ∙ ap Some (sym h.pushes.mark);
   items = h.pushes.items ∙ p.items;
-  newest_look = ap newest h.pushes.loads ∙ p.newest_look;
+  looks = h.pushes.loads ∙ p.looks;
   finished = s.tied ∙ h.ends ∙ sym r.tied ∙ p.finished;
 })
 

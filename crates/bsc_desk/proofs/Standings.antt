@@ -1,5 +1,5 @@
 -- The desk stands for a history with one entry more.
-use Rattle.std.proofs.Common.{◌≡◌, inl, inr, ℕ, suc, ◌+◌, Bool, true, false, not, cond, List, [], ◌∷◌, ◌++◌, length, map, filter, fold, Option, Some, None, option_to_list, refl, ap, sym, ◌∙◌, subst, length-append, append-nil}
+use Rattle.std.proofs.Common.{◌≡◌, inl, inr, ℕ, suc, ◌+◌, Bool, true, false, not, cond, List, [], ◌∷◌, ◌++◌, length, map, filter, Option, Some, None, option_to_list, refl, ap, sym, ◌∙◌, subst, length-append, append-nil}
 use Rattle.std.specs.List.{list_any, position, AllByRecursion}
 use Rattle.std.specs.Option.{option_or}
 use Rattle.bsc_history.specs.declared.limits.About.{About}
@@ -14,20 +14,21 @@ use Rattle.bsc_history.specs.Ends.{end_by, ended, joined_where, leaves, unleft}
 use Rattle.bsc_history.specs.Laws.{Apart}
 use Rattle.bsc_history.specs.Legality.{Lawful, Legal}
 use Rattle.bsc_history.specs.Marks.{entries}
-use Rattle.bsc_history.specs.Outboxes.{added, looked, newer, sent}
+use Rattle.bsc_history.specs.Outboxes.{added, sent}
 use Rattle.bsc_history.proofs.Lists.{In, In_from_all, all_from_In}
 use Rattle.bsc_history.proofs.Marks.{mark_grows}
-use Rattle.bsc_history.proofs.More.{Legal-more, counts-more, ended-more, entries-more, looked-more, or_none, sent-more, unleft-more}
+use Rattle.bsc_history.proofs.More.{Legal-more, counts-more, ended-more, entries-more, or_none, sent-more, unleft-more}
 use Rattle.bsc_ring.specs.declared.ends.Inlet.{Inlet}
 use Rattle.bsc_ring.specs.Ends.{capacity_of, ending_of, inlet_mark, loads, pushed}
-use Rattle.bsc_ring.specs.Lists.{Item, newest}
+use Rattle.bsc_ring.specs.Lists.{Item}
 use Rattle.bsc_desk.specs.declared.desk.Desk.{Desk}
 use Rattle.bsc_desk.specs.declared.row.Row.{Row}
 use Rattle.bsc_desk.specs.Changes.{EachBecomes}
 use Rattle.bsc_desk.specs.Live.{connection, number}
-use Rattle.bsc_desk.specs.Standing.{IsInletOf, StandsFor}
+use Rattle.bsc_desk.specs.Standing.{IsInletOf, StandsFor, all_found, found_at}
 use Rattle.bsc_desk.specs.Tallies.{no_counts}
 use Rattle.bsc_desk.proofs.Histories.{unleft_apart, unleft_joined}
+use Rattle.bsc_desk.proofs.Looks.{all_found-more}
 use Rattle.bsc_desk.proofs.Places.{position_more}
 use Rattle.bsc_desk.proofs.Walks.{apart_rows, each_all, each_connections}
 
@@ -37,12 +38,12 @@ length_entries (s ∷ S) = ap suc (length_entries S)
 
 -- inlets
 
--- the inlet i of c became j by the entry e: it has what e adds, the newest look of e, and the End that e makes
+-- the inlet i of c became j by the entry e: it has what e adds, a load for each look of e at c, and the End that e makes
 pub record Follows (a : About) (H : List Entry) (e : Entry) (c : ℕ) (i j : Inlet) : Type 0 where
   pub mark : inlet_mark j ≡ inlet_mark i
   pub holds : capacity_of j ≡ capacity_of i
   pub items : pushed j ≡ pushed i ++ added a (moment H e) (sent a H c) c
-  pub newest_look : newest (loads j) ≡ fold (newer c) (newest (loads i)) e.looks
+  pub looks : loads j ≡ loads i ++ found_at c e.looks
   pub ends : ending_of j ≡ option_or (ending_of i) (end_by c e)
 
 pub inlet_more : (a : About) (S : List Stamped) (s : Stamped) (c : ℕ) (i j : Inlet) → list_any (joins c) (entries S) ≡ true → IsInletOf a S c i → Follows a (entries S) s.entry c i j → IsInletOf a (S ++ s ∷ []) c j
@@ -54,17 +55,18 @@ inlet_more a S s c i j came p f =
       holds = f.holds ∙ p.holds;
       marked = mark_grows S (s ∷ []) c _ p.marked ∙ ap Some (sym f.mark);
       items = f.items ∙ ap (λ (l : List Item). l ++ added a (moment H e) (sent a H c) c) p.items ∙ sym (ap (λ (G : List Entry). sent a G c) more ∙ sent-more a H e c);
-      newest_look = f.newest_look ∙ ap (λ (n : ℕ). fold (newer c) n e.looks) p.newest_look ∙ sym (ap (λ (G : List Entry). looked G c) more ∙ looked-more H e c);
+      looks = f.looks ∙ ap (λ (l : List ℕ). l ++ found_at c e.looks) p.looks
+          ∙ sym (ap (λ (G : List Entry). all_found G c) more ∙ all_found-more H e c);
       finished = f.ends ∙ ap (λ (w : Option End). option_or w (end_by c e)) p.finished ∙ sym (ap (λ (G : List Entry). ended G c) more ∙ ended-more H e c ∙ ap (λ (b : Bool). option_or (ended H c) (cond b (end_by c e) None)) came);
     }
 
 -- an entry that passes c by
-pub follows_same : (a : About) (H : List Entry) (e : Entry) (c : ℕ) (i : Inlet) → added a (moment H e) (sent a H c) c ≡ [] → ((n : ℕ) → fold (newer c) n e.looks ≡ n) → end_by c e ≡ None → Follows a H e c i i
+pub follows_same : (a : About) (H : List Entry) (e : Entry) (c : ℕ) (i : Inlet) → added a (moment H e) (sent a H c) c ≡ [] → found_at c e.looks ≡ [] → end_by c e ≡ None → Follows a H e c i i
 follows_same a H e c i none unlooked open_end = record {
   mark = refl;
   holds = refl;
   items = sym (append-nil (pushed i)) ∙ sym (ap (λ (l : List Item). pushed i ++ l) none);
-  newest_look = sym (unlooked (newest (loads i)));
+  looks = sym (append-nil (loads i)) ∙ sym (ap (λ (l : List ℕ). loads i ++ l) unlooked);
   ends = sym (ap (option_or (ending_of i)) open_end ∙ or_none (ending_of i));
 }
 
@@ -154,7 +156,7 @@ pub record Quiet (a : About) (H : List Entry) (e : Entry) : Type 0 where
 
 quiet_each : (a : About) (H : List Entry) (e : Entry) (rows : List Row) → Quiet a H e → EachBecomes (Goes a H e) rows rows
 quiet_each a H e [] q = tt
-quiet_each a H e (r ∷ rows) q = ((refl, follows_same a H e r.connection.number r.inlet (q.adds_nothing r.connection.number) (λ n. rw q.looks_none refl) (q.ends_none r.connection.number)), quiet_each a H e rows q)
+quiet_each a H e (r ∷ rows) q = ((refl, follows_same a H e r.connection.number r.inlet (q.adds_nothing r.connection.number) (rw q.looks_none refl) (q.ends_none r.connection.number)), quiet_each a H e rows q)
 
 pub stands_same : (d n : Desk) (S : List Stamped) (s : Stamped) → StandsFor d S → Lawful d.about (moment (entries S) s.entry) → Stays s.entry → Quiet d.about (entries S) s.entry → n.about ≡ d.about → n.stopped_at ≡ d.stopped_at → n.tally.made ≡ d.tally.made + 1 → n.tally.counts ≡ plus d.tally.counts (counts_of s.entry) → n.rows.items ≡ d.rows.items → StandsFor n (S ++ s ∷ [])
 stands_same d n S s p lawful still quiet about stop made count rows = stands_on d n S s p lawful still about stop made count (subst (EachBecomes (Goes d.about (entries S) s.entry) d.rows.items) (sym rows) (quiet_each d.about (entries S) s.entry d.rows.items quiet))

@@ -12,12 +12,12 @@ pub record SamePushes (i j : Inlet) : Type 0 where
   pub items : pushed j ≡ pushed i
   pub loads : loads j ≡ loads i
 
--- a push found n taken: that is the newest load, no less than the one before or than was known, and no more than was
--- pushed
+-- a push found n taken: so says its own load, the one load that it made; that is no less than the newest load before it
+-- or than was known, and no more than was pushed
 pub record FoundTaken (i : Inlet) (n : ℕ) (j : Inlet) : Type 0 where
   pub mark : inlet_mark j ≡ inlet_mark i
   pub holds : capacity_of j ≡ capacity_of i
-  pub found : newest (loads j) ≡ n
+  pub loaded : loads j ≡ loads i ++ n ∷ []
   pub later : newest (loads i) ≤ n
   pub at_least : known_taken i ≤ n
   pub within : n ≤ length (pushed i)
