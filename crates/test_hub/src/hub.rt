@@ -1,11 +1,10 @@
 //! One hub that real threads share. Each test says the same whatever the schedule.
 ghost use Rattle.std.specs.Prelude.{◌≡◌, ◌≤◌, ◌^◌, IfOk, IfSome};
 ghost use Rattle.bsc_hub.specs.Passing.{IsCaller, IsOwnAs};
-ghost use Rattle.bsc_hub.specs.Testing.{HasEntered, vmac_at};
+ghost use Rattle.bsc_hub.specs.Testing.{vmac_at};
 
 mod calls;
-pub(crate) mod deliveries;
-mod stays;
+mod threads;
 
 use crate::crossing::{is_sent, is_shared};
 use bsc_history::Limits;
@@ -23,7 +22,7 @@ fn address(last: u8) -> Vmac
 }
 
 /// A device of its own at each address.
-pub(crate) fn who(last: u8) -> Identity
+fn who(last: u8) -> Identity
     ensures { result.vmac ≡ vmac_at last }
 {
     let device = read_identity(&[last; 26]).device;
@@ -58,7 +57,7 @@ pub(crate) fn new_hub(
 }
 
 /// Connects, and answers the number of the connection and its outlet.
-pub(crate) fn enter<R: Wait>(
+fn enter<R: Wait>(
     rt: &R,
     alloc: Global,
     hub: &Hub,
@@ -68,11 +67,20 @@ pub(crate) fn enter<R: Wait>(
     requires { IsCaller hub.now pass.old }
     ensures caller { IsCaller hub.now pass.new }
     ensures owns { IfSome result (λ r. IsOwnAs pass.new r.0 (vmac_at last)) }
-    ensures entered { HasEntered hub.now pass.new result }
 {
     match hub.connect(rt, alloc, pass, who(last)) {
         Ok(joined) => Some((joined.conn, joined.outlet)),
         Err(_) => None,
+    }
+}
+
+/// Stops a hub, if it is to be.
+pub(crate) fn stop_if<R: Wait>(rt: &R, hub: &Hub, pass: &mut Pass, stopped: bool)
+    requires { IsCaller hub.now pass.old }
+    ensures { IsCaller hub.now pass.new }
+{
+    if stopped {
+        let _told = hub.stop(rt, pass);
     }
 }
 

@@ -1,7 +1,7 @@
 //! Workloads that run.
-ghost use Rattle.std.specs.Prelude.{◌≤◌};
+ghost use Rattle.std.specs.Prelude.{◌≤◌, ◌^◌};
 
-use crate::hub::new_hub;
+use crate::hub::{new_hub, stop_if};
 use bsc_history::Counts;
 use bsc_hub::Kept;
 use bsc_load::{LoadEnd, LoadStop, load, load_on};
@@ -31,63 +31,45 @@ fn whole(workers: u32) -> LoadEnd
     }
 }
 
-#[test]
-fn four_workers_twice_the_same(rt: HostRuntime) -> Result<(), Fail> {
-    for _ in 0..2 {
-        let (hub, mut pass) = new_hub(rt.alloc(), 1_024, 1 << 20, 1 << 20)?;
-        let end = load_on(&rt, rt.alloc(), &hub, &mut pass, 4)?;
-        assert!(rt; end == whole(4));
-        assert!(rt; end.octets == 128_080);
-    }
-    Ok(())
-}
-
-/// A workload on a hub of its own.
+/// A workload of so many workers at a new hub for so many rows and calls, which may have been stopped.
 fn loaded<R: Threads + Wait + Sync>(
     rt: &R,
     alloc: Global,
+    rows: u32,
+    calls: u64,
+    stopped: bool,
     workers: u32,
 ) -> Result<LoadEnd, LoadStop>
-    requires { (1 ≤ workers) × (workers ≤ 512) }
+    requires rows { (1 ≤ rows) × (rows ≤ 1024) }
+    requires calls { (1 ≤ calls) × (calls ≤ 2 ^ 52) }
+    requires workers { (1 ≤ workers) × (workers ≤ 512) }
 {
+    let Ok((hub, mut pass)) = new_hub(alloc, rows, calls, 1 << 20) else {
+        return Err(LoadStop::NoMemory);
+    };
+    stop_if(rt, &hub, &mut pass, stopped);
+    load_on(rt, alloc, &hub, &mut pass, workers)
+}
+
+#[test]
+fn four_workers_and_one(rt: HostRuntime) -> Result<(), Fail> {
+    let alloc = rt.alloc();
+    assert!(rt; loaded(&rt, alloc, 1_024, 1 << 20, false, 4) == Ok(whole(4)));
+    assert!(rt; whole(4).octets == 128_080);
     let mut kept = Kept {
         hub: None,
         pass: None,
     };
-    load(rt, alloc, workers, &mut kept)
-}
-
-#[test]
-fn one_worker_and_many(rt: HostRuntime) -> Result<(), Fail> {
-    for workers in [1, 64] {
-        assert!(rt; 1 <= workers && workers <= 512);
-        let end = loaded(&rt, rt.alloc(), workers)?;
-        assert!(rt; end == whole(workers), "with {workers}");
-    }
+    assert!(rt; load(&rt, alloc, 1, &mut kept) == Ok(whole(1)));
     Ok(())
 }
 
+/// One row is too few for a worker, and a hub that is worn or has stopped cuts all short.
 #[test]
-fn one_row_is_short(rt: HostRuntime) -> Result<(), Fail> {
-    let (hub, mut pass) = new_hub(rt.alloc(), 1, 1 << 20, 1 << 20)?;
-    let end = load_on(&rt, rt.alloc(), &hub, &mut pass, 1);
-    assert!(rt; end == Err(LoadStop::Short { workers: 1 }));
-    Ok(())
-}
-
-#[test]
-fn worn_is_short(rt: HostRuntime) -> Result<(), Fail> {
-    let (hub, mut pass) = new_hub(rt.alloc(), 1_024, 100, 1 << 20)?;
-    let end = load_on(&rt, rt.alloc(), &hub, &mut pass, 3);
-    assert!(rt; end == Err(LoadStop::Short { workers: 3 }));
-    Ok(())
-}
-
-#[test]
-fn a_stopped_hub_is_short(rt: HostRuntime) -> Result<(), Fail> {
-    let (hub, mut pass) = new_hub(rt.alloc(), 1_024, 1 << 20, 1 << 20)?;
-    assert!(rt; hub.stop(&rt, &mut pass).is_ok());
-    let end = load_on(&rt, rt.alloc(), &hub, &mut pass, 2);
-    assert!(rt; end == Err(LoadStop::Short { workers: 2 }));
+fn workloads_that_are_short(rt: HostRuntime) -> Result<(), Fail> {
+    let alloc = rt.alloc();
+    assert!(rt; loaded(&rt, alloc, 1, 1 << 20, false, 1) == Err(LoadStop::Short { workers: 1 }));
+    assert!(rt; loaded(&rt, alloc, 1_024, 100, false, 3) == Err(LoadStop::Short { workers: 3 }));
+    assert!(rt; loaded(&rt, alloc, 1_024, 1 << 20, true, 2) == Err(LoadStop::Short { workers: 2 }));
     Ok(())
 }

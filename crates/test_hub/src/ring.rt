@@ -28,52 +28,35 @@ fn gives(take: Take, n: u32) -> bool {
     }
 }
 
+/// The frames that say 1, 2 and 3.
+fn three_frames(alloc: Global) -> Result<(Octets, Octets, Octets), NoMemory> {
+    Ok((frame(alloc, 1)?, frame(alloc, 2)?, frame(alloc, 3)?))
+}
+
 #[test]
 fn two_slots(rt: HostRuntime) -> Result<(), Fail> {
-    let (mut inlet, mut outlet) = make(rt.alloc(), 2)?;
-    assert!(rt; matches!(inlet.push(frame(rt.alloc(), 1)?), Ok(0)));
-    assert!(rt; matches!(inlet.push(frame(rt.alloc(), 2)?), Ok(0)));
-    match inlet.push(frame(rt.alloc(), 3)?) {
-        Ok(_) => panic!(rt; "the ring was full"),
-        Err((back, head)) => assert!(rt; head == 0 && says(&back, 3)),
-    }
+    let (one, two, three) = three_frames(rt.alloc())?;
+    let Ok((mut inlet, mut outlet)) = make(rt.alloc(), 2) else {
+        panic!(rt; "no memory");
+    };
+    assert!(rt; matches!(outlet.take(), Take::Empty));
+    assert!(rt; matches!(inlet.push(one), Ok(0)));
+    assert!(rt; matches!(inlet.push(two), Ok(0)));
+    let Err((three, 0)) = inlet.push(three) else {
+        panic!(rt; "the ring was full");
+    };
+    assert!(rt; says(&three, 3));
+    inlet.meet(&mut outlet);
     assert!(rt; gives(outlet.take(), 1));
-    assert!(rt; matches!(inlet.push(frame(rt.alloc(), 3)?), Ok(1)));
+    assert!(rt; matches!(inlet.push(three), Ok(1)));
     inlet.finish(End::Full);
     assert!(rt; gives(outlet.take(), 2));
     assert!(rt; gives(outlet.take(), 3));
     assert!(rt; matches!(outlet.take(), Take::Closed(End::Full)));
-    assert!(rt; outlet.taken() == 3 && outlet.empties() == 0);
+    assert!(rt; matches!(outlet.take(), Take::Closed(End::Full)));
+    assert!(rt; outlet.taken() == 3 && outlet.empties() == 1);
     let remains = unite(inlet, outlet);
     assert!(rt; remains.taken == 3 && remains.left == 0);
-    Ok(())
-}
-
-#[test]
-fn empties_and_what_is_left(rt: HostRuntime) -> Result<(), Fail> {
-    let (mut inlet, mut outlet) = make(rt.alloc(), 1024)?;
-    assert!(rt; matches!(outlet.take(), Take::Empty) && matches!(outlet.take(), Take::Empty));
-    assert!(rt; matches!(inlet.push(frame(rt.alloc(), 1)?), Ok(0)));
-    assert!(rt; matches!(inlet.push(frame(rt.alloc(), 2)?), Ok(0)));
-    inlet.meet(&mut outlet);
-    assert!(rt; gives(outlet.take(), 1));
-    inlet.meet(&mut outlet);
-    assert!(rt; matches!(inlet.push(frame(rt.alloc(), 3)?), Ok(1)));
-    assert!(rt; outlet.taken() == 1 && outlet.empties() == 2);
-    let remains = unite(inlet, outlet);
-    assert!(rt; remains.taken == 1 && remains.left == 2);
-    Ok(())
-}
-
-#[test]
-fn each_end(rt: HostRuntime) -> Result<(), Fail> {
-    for ending in [End::Replaced, End::Full, End::Stopped] {
-        let (mut inlet, mut outlet) = make(rt.alloc(), 2)?;
-        inlet.finish(ending);
-        inlet.meet(&mut outlet);
-        assert!(rt; matches!(outlet.take(), Take::Closed(found) if found == ending));
-        assert!(rt; matches!(outlet.take(), Take::Closed(found) if found == ending));
-    }
     Ok(())
 }
 

@@ -1,52 +1,62 @@
 //! Storms that run.
-mod once;
+ghost use Rattle.std.specs.Prelude.{◌≤◌, ◌^◌};
 
-use crate::hub::new_hub;
+use crate::hub::{new_hub, stop_if};
 use bsc_load::LoadStop;
-use bsc_storm::storm_on;
+use bsc_storm::{StormEnd, storm_on};
+use std::alloc::Global;
+use std::sync::Wait;
 use std::test::Fail;
+use std::thread::Threads;
 
-#[test]
-fn five_hundred_rounds(rt: HostRuntime) -> Result<(), Fail> {
-    let (hub, mut pass) = new_hub(rt.alloc(), 1_024, 1 << 20, 4)?;
-    let end = storm_on(&rt, rt.alloc(), &hub, &mut pass, 500)?;
-    assert!(rt; end.counts.joined == 1_001);
-    assert!(rt; end.counts.refused == 0);
-    assert!(rt; end.counts.unicasts == 1_000);
-    assert!(rt; end.counts.broadcasts == 0);
-    assert!(rt; end.taken <= end.counts.appended);
-    Ok(())
+/// A storm of 500 rounds at a new hub for so many calls and callers, which may have been stopped.
+fn stormed<R: Threads + Wait + Sync>(
+    rt: &R,
+    alloc: Global,
+    calls: u64,
+    callers: u64,
+    stopped: bool,
+) -> Result<StormEnd, LoadStop>
+    requires calls { (1 ≤ calls) × (calls ≤ 2 ^ 52) }
+    requires callers { (1 ≤ callers) × (callers ≤ 2 ^ 62) }
+{
+    let Ok((hub, mut pass)) = new_hub(alloc, 1_024, calls, callers) else {
+        return Err(LoadStop::NoMemory);
+    };
+    stop_if(rt, &hub, &mut pass, stopped);
+    storm_on(rt, alloc, &hub, &mut pass, 500)
 }
 
-#[test]
-fn a_stopped_hub_is_short(rt: HostRuntime) -> Result<(), Fail> {
-    let (hub, mut pass) = new_hub(rt.alloc(), 1_024, 1 << 20, 4)?;
-    assert!(rt; hub.stop(&rt, &mut pass).is_ok());
-    let end = storm_on(&rt, rt.alloc(), &hub, &mut pass, 2);
-    assert!(rt; end == Err(LoadStop::Short { workers: 3 }));
-    Ok(())
+/// Whether each of three workers made its calls. They leave as they came, so that nobody is refused.
+fn is_whole(end: StormEnd) -> bool {
+    let counts = end.counts;
+    let joined = counts.joined == 1_001 && counts.refused == 0;
+    let sent = counts.unicasts == 1_000 && counts.broadcasts == 0;
+    joined && sent && end.taken <= counts.appended
 }
 
+/// Storms until in one of them a frame was taken, and a connection was replaced by who took it over. Which storm that is
+/// the schedule says; where a hundred have none, the workers don't take, or don't take over.
 #[test]
-fn a_worker_without_a_pass_is_short(rt: HostRuntime) -> Result<(), Fail> {
-    let (hub, mut pass) = new_hub(rt.alloc(), 1_024, 1 << 20, 3)?;
-    let end = storm_on(&rt, rt.alloc(), &hub, &mut pass, 2);
-    assert!(rt; end == Err(LoadStop::Short { workers: 1 }));
-    Ok(())
+fn frames_are_taken_and_connections_replaced(rt: HostRuntime) -> Result<(), Fail> {
+    for _ in 0..100 {
+        let end = stormed(&rt, rt.alloc(), 1 << 20, 4, false)?;
+        assert!(rt; is_whole(end));
+        if end.taken > 0 && end.counts.replaced > 0 {
+            return Ok(());
+        }
+    }
+    panic!(rt; "no storm in which a frame was taken and a connection replaced")
 }
 
+/// A hub that has stopped or that is worn cuts all three short, and one with too few callers those that get no pass.
 #[test]
-fn workers_without_passes_are_short(rt: HostRuntime) -> Result<(), Fail> {
-    let (hub, mut pass) = new_hub(rt.alloc(), 1_024, 1 << 20, 1)?;
-    let end = storm_on(&rt, rt.alloc(), &hub, &mut pass, 2);
-    assert!(rt; end == Err(LoadStop::Short { workers: 3 }));
-    Ok(())
-}
-
-#[test]
-fn worn_is_short(rt: HostRuntime) -> Result<(), Fail> {
-    let (hub, mut pass) = new_hub(rt.alloc(), 1_024, 5, 4)?;
-    let end = storm_on(&rt, rt.alloc(), &hub, &mut pass, 500);
-    assert!(rt; end == Err(LoadStop::Short { workers: 3 }));
+fn storms_that_are_short(rt: HostRuntime) -> Result<(), Fail> {
+    let alloc = rt.alloc();
+    let three = Err(LoadStop::Short { workers: 3 });
+    assert!(rt; stormed(&rt, alloc, 1 << 20, 4, true) == three);
+    assert!(rt; stormed(&rt, alloc, 5, 4, false) == three);
+    assert!(rt; stormed(&rt, alloc, 1 << 20, 1, false) == three);
+    assert!(rt; stormed(&rt, alloc, 1 << 20, 3, false) == Err(LoadStop::Short { workers: 1 }));
     Ok(())
 }

@@ -1,20 +1,17 @@
-//! Passes that commit to one counter, in one thread and in two, and what callers can rely on.
-ghost use Rattle.std.specs.Prelude.{List, ◌≡◌, ◌+◌, ◌<◌, ◌≤◌, ◌^◌, ◌++◌, ◌∷◌, [], length, true, IfSome, IfNone};
+//! Two passes that commit to one counter.
+ghost use Rattle.std.specs.Prelude.{List, ◌≡◌, ◌+◌, ◌<◌, ◌≤◌, ◌^◌, ◌++◌, ◌∷◌, [], length, IfSome, IfNone};
 ghost use Rattle.bsc_history.specs.declared.mark.Stamped.{Stamped};
 ghost use Rattle.bsc_turn.specs.Counting.{MadeOne, counted};
-ghost use Rattle.bsc_turn.specs.Histories.{own_of};
-ghost use Rattle.bsc_turn.specs.Passes.{IsFor, IsGuardOf, IsPassOf, after_commit, first_state, guard_view, history, number_of, own_list, seen, view_of};
+ghost use Rattle.bsc_turn.specs.Passes.{IsFor, IsGuardOf, IsPassOf, after_commit, first_state, guard_view, history, number_of, own_list, view_of};
 
 use crate::crossing::{is_sent, is_shared};
 use bsc_history::{About, Limits, Makes, Stands};
 use bsc_octets::read_identity;
-use bsc_turn::{Guard, NumbersSpent, Pass, Turn, entering_keeps_own, own_is_all, two_callers};
+use bsc_turn::{Guard, NumbersSpent, Pass, Turn, two_callers};
 use std::alloc::Global;
 use std::marker::Brand;
 use std::sync::Wait;
 use std::test::Fail;
-use std::thread;
-use std::thread::Threads;
 
 /// A state that counts the entries of its history.
 #[derive(Drop)]
@@ -95,50 +92,6 @@ fn count_one<R: Wait>(rt: &R, turn: &Turn<Counter>, pass: &mut Pass) -> Option<u
     Some(commit_count::<Brand>(guard, pass, caller))
 }
 
-#[test]
-fn one_thread(rt: HostRuntime) -> Result<(), Fail> {
-    let (turn, mut pass) = Turn::make(rt.alloc(), new_counter(), 2)?;
-    assert!(rt; count_one(&rt, &turn, &mut pass) == Some(0));
-    assert!(rt; count_one(&rt, &turn, &mut pass) == Some(1));
-    look(&rt, &turn, &mut pass);
-    let mut guard = turn.enter(&rt, &mut pass);
-    assert!(rt; guard.state().count == 2);
-    guard.back(&mut pass);
-    Ok(())
-}
-
-#[test]
-fn numbers_of_two_callers(rt: HostRuntime) -> Result<(), Fail> {
-    let (turn, mut pass) = Turn::make(rt.alloc(), new_counter(), 2)?;
-    assert!(rt; pass.number() == 0);
-    let second = turn.split(&rt, &mut pass)?;
-    assert!(rt; second.number() == 1);
-    assert!(rt; matches!(turn.split(&rt, &mut pass), Err(NumbersSpent { drawn: 2 })));
-    Ok(())
-}
-
-/// Counts so many, and says whether each found room at a place behind the one before.
-fn count_many<R: Wait>(rt: &R, turn: &Turn<Counter>, pass: Pass, times: u32) -> (Pass, bool)
-    requires { IsPassOf (λ s. s.about) turn.now pass }
-    ensures pass { IsPassOf (λ s. s.about) turn.now result.0 }
-    ensures number { number_of result.0 ≡ number_of pass }
-    ensures own { result.1 ≡ true → length (own_list result.0) ≡ length (own_list pass) + times }
-{
-    let mut pass = pass;
-    let mut rising = true;
-    let mut least = 0;
-    for n in 0..times {
-        match count_one(rt, turn, &mut pass) {
-            Some(place) => {
-                rising = rising && least <= place;
-                least = place + 1;
-            }
-            None => rising = false,
-        }
-    }
-    (pass, rising)
-}
-
 /// Ends both passes. The answer is the count: no less than the two made.
 fn count_of<R: Wait>(rt: &R, turn: &Turn<Counter>, pass: Pass, other: Pass) -> u64
     requires pass { IsPassOf (λ s. s.about) turn.now pass }
@@ -154,57 +107,20 @@ fn count_of<R: Wait>(rt: &R, turn: &Turn<Counter>, pass: Pass, other: Pass) -> u
     count
 }
 
-/// Enters and goes back. The history that is then seen has the same entries of the caller as before.
-fn look<R: Wait>(rt: &R, turn: &Turn<Counter>, pass: &mut Pass)
-    requires { IsPassOf (λ s. s.about) turn.now pass.old }
-    ensures pass { IsPassOf (λ s. s.about) turn.now pass.new }
-    ensures own { own_of (seen pass.new) (number_of pass.new) ≡ own_list pass.old }
-    ensures same { own_of (seen pass.new) (number_of pass.new)
-        ≡ own_of (seen pass.old) (number_of pass.old) }
-{
-    own_is_all();
-    entering_keeps_own();
-    let guard = turn.enter(rt, pass);
-    guard.back(pass);
-}
-
-/// A turn with two passes.
-fn turn_for_two<R: Wait>(rt: &R, alloc: Global) -> Option<(Turn<Counter>, Pass, Pass)>
-    ensures { IfSome result (λ r. IsPassOf (λ s. s.about) r.0 r.1 × IsPassOf (λ s. s.about) r.0 r.2) }
-{
-    let (turn, mut first) = Turn::make(alloc, new_counter(), 2).ok()?;
-    let second = turn.split(rt, &mut first).ok()?;
-    Some((turn, first, second))
-}
-
-/// Two threads count so many each. The answer is whether all found room and the places of each rose, and the
-/// count.
-fn across<R: Threads + Wait + Sync>(rt: &R, alloc: Global, times: u32) -> Option<(bool, u64)>
-    ensures { IfSome result (λ r. r.0 ≡ true → times + times ≤ r.1) }
-{
-    let (turn, first, second) = turn_for_two(rt, alloc)?;
-    let shared = &turn;
-    let ((first, one), (second, two)) = thread::join(
-        rt,
-        move || -> (Pass, bool)
-            requires { IsPassOf (λ s. s.about) shared.now first }
-            ensures pass { IsPassOf (λ s. s.about) shared.entry.now result.0 }
-            ensures number { number_of result.0 ≡ number_of first }
-            ensures own { result.1 ≡ true → length (own_list result.0) ≡ length (own_list first) + times }
-        { count_many(rt, shared, first, times) },
-        move || -> (Pass, bool)
-            requires { IsPassOf (λ s. s.about) shared.now second }
-            ensures pass { IsPassOf (λ s. s.about) shared.entry.now result.0 }
-            ensures number { number_of result.0 ≡ number_of second }
-            ensures own { result.1 ≡ true → length (own_list result.0) ≡ length (own_list second) + times }
-        { count_many(rt, shared, second, times) },
-    );
-    Some((one && two, count_of(rt, &turn, first, second)))
-}
-
 #[test]
-fn two_threads(rt: HostRuntime) -> Result<(), Fail> {
-    assert!(rt; across(&rt, rt.alloc(), 1_000) == Some((true, 2_000)));
+fn two_callers_count(rt: HostRuntime) -> Result<(), Fail> {
+    let Ok((turn, mut pass)) = Turn::make(rt.alloc(), new_counter(), 2) else {
+        panic!(rt; "no memory");
+    };
+    let Ok(mut other) = turn.split(&rt, &mut pass) else {
+        panic!(rt; "there is a second number");
+    };
+    assert!(rt; matches!(turn.split(&rt, &mut pass), Err(NumbersSpent { drawn: 2 })));
+    assert!(rt; pass.number() == 0 && other.number() == 1);
+    assert!(rt; count_one(&rt, &turn, &mut pass) == Some(0));
+    assert!(rt; count_one(&rt, &turn, &mut other) == Some(1));
+    assert!(rt; count_one(&rt, &turn, &mut pass) == Some(2));
+    assert!(rt; count_of(&rt, &turn, pass, other) == 3);
     Ok(())
 }
 

@@ -6,9 +6,9 @@ ghost use Rattle.bsc_hub.specs.Passing.{IsCaller};
 mod scene;
 mod watching;
 
-use crate::serve::scene::{CuedLink, Scene, Still, Until};
-use crate::serve::watching::{Session, begin_beside, begin_here};
-use crate::session::{self, LIMITS, connect_octets};
+use crate::serve::scene::{CLOSING, CuedLink, FIRST, LATER, Scene, Still, links};
+use crate::serve::watching::{Session, begin_beside, begin_none};
+use crate::session::{self, LIMITS};
 use bsc_edge::{MemAcceptor, MemSpawner, Places, Spawner, ThreadSpawner, Unstarted};
 use bsc_history::Counts;
 use bsc_hub::{Hub, Pass};
@@ -42,8 +42,38 @@ fn new_hub(alloc: Global, callers: u64) -> Result<(Arc<Hub>, Pass), NoMemory>
     requires { (1 ≤ callers) × (callers ≤ 100) }
     ensures { IfOk result (λ r. IsCaller (arc_value r.0) r.1) }
 {
-    let (hub, pass) = session::new_hub(alloc, 64, callers)?;
+    let (hub, pass) = session::new_hub(alloc, callers)?;
     Ok((Arc::new(alloc, hub)?, pass))
+}
+
+/// Serves these links at a hub. The calls of the acceptor with these numbers fail.
+fn serve<R: Wait, P: Spawner<Session>>(
+    rt: &R,
+    alloc: Global,
+    hub: &Arc<Hub>,
+    pass: &mut Pass,
+    links: Vec<CuedLink>,
+    failing: &[u64],
+    spawner: &mut P,
+) -> ServeEnd
+    requires pass { IsCaller (arc_value hub.now) pass.old }
+    requires can { P.can_start spawner.old }
+    ensures { IsCaller (arc_value hub.now) pass.new }
+{
+    let sessions = Some(links.len() as u64);
+    let mut acceptor = MemAcceptor::new(links, failing);
+    serve_on(
+        rt,
+        alloc,
+        hub,
+        pass,
+        &LIMITS,
+        TURNS,
+        sessions,
+        &mut Still,
+        &mut acceptor,
+        spawner,
+    )
 }
 
 /// Serves these links at a new hub for so many callers.
@@ -51,7 +81,6 @@ fn served<R: Wait, P: Spawner<Session>>(
     rt: &R,
     alloc: Global,
     callers: u64,
-    turns: u64,
     links: Vec<CuedLink>,
     spawner: &mut P,
 ) -> Result<ServeEnd, NoMemory>
@@ -59,20 +88,7 @@ fn served<R: Wait, P: Spawner<Session>>(
     requires can { P.can_start spawner.old }
 {
     let (hub, mut pass) = new_hub(alloc, callers)?;
-    let sessions = Some(links.len() as u64);
-    let mut acceptor = MemAcceptor::new(links, &[]);
-    Ok(serve_on(
-        rt,
-        alloc,
-        &hub,
-        &mut pass,
-        &LIMITS,
-        turns,
-        sessions,
-        &mut Still,
-        &mut acceptor,
-        spawner,
-    ))
+    Ok(serve(rt, alloc, &hub, &mut pass, links, &[], spawner))
 }
 
 /// Serves these links at a new hub, each session in a thread of its own.
@@ -89,83 +105,16 @@ fn served_beside<R: Threads + Wait + Copy + Send + 'static>(
         Unstarted<Session>,
     > { begin_beside(&handle, alloc, places, &theirs, job) };
     let mut spawner = ThreadSpawner::new(begin, Places::make(alloc, 8)?);
-    served(rt, alloc, 8, TURNS, links, &mut spawner)
+    served(rt, alloc, 8, links, &mut spawner)
 }
 
-fn done(counts: Counts, unstarted: u64) -> ServeEnd {
-    ServeEnd::Done { counts, unstarted }
-}
-
-/// So many links that close at once.
-fn closing_links(alloc: Global, scene: &Arc<Scene>, n: usize) -> Result<Vec<CuedLink>, NoMemory> {
-    let mut links = Vec::new(alloc);
-    for _ in 0..n {
-        links.push(CuedLink::new(alloc, scene, false, Until::Now)?)?;
-    }
-    Ok(links)
-}
-
-/// Two links: the first is Quiet until the peer of the second was accepted, and closes then.
-fn meeting_links(alloc: Global, scene: &Arc<Scene>) -> Result<Vec<CuedLink>, NoMemory> {
-    let mut second = CuedLink::new(alloc, scene, true, Until::Now)?;
-    second.gives(alloc, Until::Now, &connect_octets(alloc, 11)?)?;
-    let mut links = Vec::new(alloc);
-    links.push(CuedLink::new(alloc, scene, false, Until::Accepted)?)?;
-    links.push(second)?;
-    Ok(links)
-}
-
-/// Two links: the first gives a message to the peer of the second once that was accepted. Both are Quiet then until the
-/// message was put on the second, and close.
-fn carrying_links(alloc: Global, scene: &Arc<Scene>) -> Result<Vec<CuedLink>, NoMemory> {
-    let message = [1, 4, 0, 2, 2, 0, 0, 0, 0, 11, 1, 0];
-    let mut first = CuedLink::new(alloc, scene, false, Until::Carried)?;
-    first.gives(alloc, Until::Now, &connect_octets(alloc, 10)?)?;
-    first.gives(alloc, Until::Accepted, &message)?;
-    let mut second = CuedLink::new(alloc, scene, true, Until::Carried)?;
-    second.gives(alloc, Until::Now, &connect_octets(alloc, 11)?)?;
-    let mut links = Vec::new(alloc);
-    links.push(first)?;
-    links.push(second)?;
-    Ok(links)
-}
-
-#[test]
-fn sessions_beside_each_other_meet(rt: HostRuntime) -> Result<(), Fail> {
-    let alloc = rt.alloc();
-    let scene = Scene::new(alloc)?;
-    let links = meeting_links(alloc, &scene)?;
-    let end = served_beside(&rt, alloc, &scene, links)?;
-    assert_eq!(rt; end, done(Counts { joined: 1, ..NONE }, 0));
-    assert_eq!(rt; scene.closed.load(Ordering::SeqCst), 2);
-    Ok(())
-}
-
-/// The same links, served one after the other: the first session makes all its receives, and the second begins then.
-#[test]
-fn sessions_after_each_other_do_not_meet(rt: HostRuntime) -> Result<(), Fail> {
-    let alloc = rt.alloc();
-    let scene = Scene::new(alloc)?;
-    let links = meeting_links(alloc, &scene)?;
-    let theirs = Arc::try_clone(&scene)?;
-    let begin = move |_alloc: Global, _places: &Arc<Places>, job: Session| -> Result<
-        (),
-        Unstarted<Session>,
-    > { begin_here(&rt, &theirs, 2, job) };
-    let mut spawner = ThreadSpawner::new(begin, Places::make(alloc, 1)?);
-    let end = served(&rt, alloc, 8, 1000, links, &mut spawner)?;
-    assert_eq!(rt; end, done(Counts { joined: 1, ..NONE }, 0));
-    assert_eq!(rt; scene.spent.load(Ordering::SeqCst), 1);
-    assert_eq!(rt; scene.closed.load(Ordering::SeqCst), 1);
-    Ok(())
-}
-
-/// A session hands on a message before its next receive: its peer closes only when the message was put on the other link.
+/// The sessions of two links run beside each other, and a session hands on a message before its next receive: the first
+/// link gives its message when the peer of the later one was accepted, and both close only when it was put on that.
 #[test]
 fn a_message_is_carried_at_once(rt: HostRuntime) -> Result<(), Fail> {
     let alloc = rt.alloc();
     let scene = Scene::new(alloc)?;
-    let links = carrying_links(alloc, &scene)?;
+    let links = links(alloc, &scene, &[FIRST, LATER])?;
     let end = served_beside(&rt, alloc, &scene, links)?;
     let counts = Counts {
         joined: 2,
@@ -173,78 +122,85 @@ fn a_message_is_carried_at_once(rt: HostRuntime) -> Result<(), Fail> {
         appended: 1,
         ..NONE
     };
-    assert_eq!(rt; end, done(counts, 0));
+    assert_eq!(rt;
+        end,
+        ServeEnd::Done {
+            counts,
+            unstarted: 0
+        }
+    );
     assert_eq!(rt; scene.closed.load(Ordering::SeqCst), 2);
     Ok(())
 }
 
-/// Three links that close at once: the second start fails; and then there is no number for a second pass.
+/// Three links arrive that close at once, and the starts with these numbers fail. How it ends, how many links were closed
+/// with 1001, and how many jobs there are.
+fn three_closing<R: Wait>(
+    rt: &R,
+    alloc: Global,
+    callers: u64,
+    failing: &[u64],
+) -> Result<(ServeEnd, u64, usize), NoMemory>
+    requires { (1 ≤ callers) × (callers ≤ 100) }
+{
+    let scene = Scene::new(alloc)?;
+    let mut spawner = MemSpawner::new(alloc, failing);
+    let links = links(alloc, &scene, &[CLOSING, CLOSING, CLOSING])?;
+    let end = served(rt, alloc, callers, links, &mut spawner)?;
+    let away = scene.away.load(Ordering::SeqCst);
+    Ok((end, away, spawner.into_jobs().len()))
+}
+
+/// The second of three starts fails; and at a hub for two callers there is no number for a second pass.
 #[test]
 fn links_without_a_session_are_closed(rt: HostRuntime) -> Result<(), Fail> {
-    let alloc = rt.alloc();
-    let scene = Scene::new(alloc)?;
-    let mut spawner = MemSpawner::new(alloc, &[2]);
-    let links = closing_links(alloc, &scene, 3)?;
-    let end = served(&rt, alloc, 8, TURNS, links, &mut spawner)?;
-    assert_eq!(rt; end, done(NONE, 1));
-    assert_eq!(rt; scene.away.load(Ordering::SeqCst), 1);
-    assert_eq!(rt; spawner.into_jobs().len(), 2);
-    let mut spawner = MemSpawner::new(alloc, &[]);
-    let links = closing_links(alloc, &scene, 3)?;
-    let end = served(&rt, alloc, 2, TURNS, links, &mut spawner)?;
-    assert_eq!(rt; end, done(NONE, 2));
-    assert_eq!(rt; scene.away.load(Ordering::SeqCst), 3);
-    assert_eq!(rt; spawner.into_jobs().len(), 1);
+    let (end, away, jobs) = three_closing(&rt, rt.alloc(), 8, &[2])?;
+    let one_is_left = ServeEnd::Done {
+        counts: NONE,
+        unstarted: 1,
+    };
+    assert!(rt; end == one_is_left && away == 1 && jobs == 2);
+    let (end, away, jobs) = three_closing(&rt, rt.alloc(), 2, &[])?;
+    let two_are_left = ServeEnd::Done {
+        counts: NONE,
+        unstarted: 2,
+    };
+    assert!(rt; end == two_are_left && away == 2 && jobs == 1);
     Ok(())
 }
 
-/// There is no memory for the second of three jobs: its link is closed, and no link is taken after it.
+/// There is no memory for the first of two jobs: its link is closed, and no link is taken after it.
 #[test]
 fn want_of_memory_ends_serving(rt: HostRuntime) -> Result<(), Fail> {
     let alloc = rt.alloc();
     let scene = Scene::new(alloc)?;
-    let theirs = Arc::try_clone(&scene)?;
+    let links = links(alloc, &scene, &[CLOSING, CLOSING])?;
     let begin = move |_alloc: Global, _places: &Arc<Places>, job: Session| -> Result<
         (),
         Unstarted<Session>,
-    > { begin_here(&rt, &theirs, 1, job) };
+    > { begin_none(job) };
     let mut spawner = ThreadSpawner::new(begin, Places::make(alloc, 1)?);
-    let links = closing_links(alloc, &scene, 3)?;
-    assert_eq!(rt;
-        served(&rt, alloc, 8, TURNS, links, &mut spawner)?,
-        ServeEnd::NoMemory
-    );
-    assert_eq!(rt; scene.starts.load(Ordering::SeqCst), 2);
+    let end = served(&rt, alloc, 8, links, &mut spawner)?;
+    assert_eq!(rt; end, ServeEnd::NoMemory);
     assert_eq!(rt; scene.away.load(Ordering::SeqCst), 1);
-    assert_eq!(rt; scene.closed.load(Ordering::SeqCst), 1);
     Ok(())
 }
 
-/// Serves two links that close at once, after which the acceptor fails.
-fn served_until_a_fault<R: Wait>(
+/// Serves two links that close at once, where the calls of the acceptor with these numbers fail.
+fn served_until<R: Wait>(
     rt: &R,
     alloc: Global,
     hub: &Arc<Hub>,
     pass: &mut Pass,
-    sessions: Option<u64>,
+    failing: &[u64],
 ) -> Result<ServeEnd, NoMemory>
     requires { IsCaller (arc_value hub.now) pass.old }
+    ensures { IsCaller (arc_value hub.now) pass.new }
 {
     let scene = Scene::new(alloc)?;
-    let mut acceptor = MemAcceptor::new(closing_links(alloc, &scene, 2)?, &[3]);
+    let links = links(alloc, &scene, &[CLOSING, CLOSING])?;
     let mut spawner = MemSpawner::new(alloc, &[]);
-    Ok(serve_on(
-        rt,
-        alloc,
-        hub,
-        pass,
-        &LIMITS,
-        TURNS,
-        sessions,
-        &mut Still,
-        &mut acceptor,
-        &mut spawner,
-    ))
+    Ok(serve(rt, alloc, hub, pass, links, failing, &mut spawner))
 }
 
 /// A fault of the acceptor stops the hub. So it was stopped before, by its first entry, where it is served again.
@@ -252,22 +208,13 @@ fn served_until_a_fault<R: Wait>(
 fn a_fault_of_the_acceptor_stops_the_hub(rt: HostRuntime) -> Result<(), Fail> {
     let alloc = rt.alloc();
     let (hub, mut pass) = new_hub(alloc, 8)?;
-    let here: &Hub = &hub;
-    let Ok(other) = here.split(&rt, &mut pass) else {
-        assert!(rt; false, "there are numbers");
-        return Ok(());
+    let end = served_until(&rt, alloc, &hub, &mut pass, &[2])?;
+    assert_eq!(rt; end, ServeEnd::AcceptFault);
+    let end = served_until(&rt, alloc, &hub, &mut pass, &[])?;
+    let stopped = ServeEnd::StoppedBefore {
+        at: 0,
+        unstarted: 0,
     };
-    let mut other = other;
-    assert_eq!(rt;
-        served_until_a_fault(&rt, alloc, &hub, &mut pass, None)?,
-        ServeEnd::AcceptFault
-    );
-    assert_eq!(rt;
-        served_until_a_fault(&rt, alloc, &hub, &mut other, Some(2))?,
-        ServeEnd::StoppedBefore {
-            at: 0,
-            unstarted: 0
-        }
-    );
+    assert_eq!(rt; end, stopped);
     Ok(())
 }

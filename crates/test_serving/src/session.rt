@@ -3,7 +3,6 @@ ghost use Rattle.std.specs.Prelude.{◌≡◌, ◌≤◌, IfOk};
 ghost use Rattle.bsc_hub.specs.Passing.{IsCaller};
 ghost use Rattle.bsc_hub.specs.Testing.{vmac_at};
 
-mod jobs;
 mod random;
 mod table;
 mod waits;
@@ -13,7 +12,6 @@ use bsc_edge::Incoming;
 use bsc_history::Limits;
 use bsc_hub::{Hub, Pass};
 use bsc_octets::{Identity, NoMemory, Octets, Vmac, read_identity};
-use bsc_ring::Outlet;
 use bsc_session::{Ended, SessionLimits, Why};
 use std::alloc::Global;
 use std::sync::Wait;
@@ -25,6 +23,18 @@ pub(crate) const LIMITS: SessionLimits = SessionLimits {
         heartbeat: 300_000,
     },
 };
+
+/// The connect of A, the device at 02:00:00:00:00:0A.
+pub(crate) const CONNECT_A: &[u8] = &[
+    6, 0, 0, 1, 2, 0, 0, 0, 0, 10, 10, 10, 10, 10, 10, 10, 10, 10, 10, 10, 10, 10, 10, 10, 10, 10,
+    6, 64, 5, 217,
+];
+
+/// That of B, the device at 02:00:00:00:00:0B.
+pub(crate) const CONNECT_B: &[u8] = &[
+    6, 0, 0, 1, 2, 0, 0, 0, 0, 11, 11, 11, 11, 11, 11, 11, 11, 11, 11, 11, 11, 11, 11, 11, 11, 11,
+    6, 64, 5, 217,
+];
 
 /// A device of its own at the address 02:00:00:00:00:`last`.
 fn who(last: u8) -> Identity
@@ -39,51 +49,59 @@ fn who(last: u8) -> Identity
     }
 }
 
-/// A hub at 02:00:00:00:00:01 with eight rows and outboxes of so many frames, for so many callers, and its first pass.
-pub(crate) fn new_hub(alloc: Global, outbox: u32, callers: u64) -> Result<(Hub, Pass), NoMemory>
-    requires outbox { (2 ≤ outbox) × (outbox ≤ 1024) }
-    requires callers { (1 ≤ callers) × (callers ≤ 100) }
+/// A hub at 02:00:00:00:00:01 with eight rows and outboxes of 64 frames, for so many callers, and its first pass.
+pub(crate) fn new_hub(alloc: Global, callers: u64) -> Result<(Hub, Pass), NoMemory>
+    requires { (1 ≤ callers) × (callers ≤ 100) }
     ensures { IfOk result (λ r. IsCaller r.0 r.1) }
 {
     let limits = Limits {
         rows: 8,
-        outbox,
+        outbox: 64,
         calls: 1 << 40,
         callers,
     };
     Hub::make(alloc, who(1), limits)
 }
 
-/// Joins by the test's own pass.
-fn join<R: Wait>(rt: &R, alloc: Global, hub: &Hub, pass: &mut Pass, last: u8) -> Option<Outlet>
+/// How many entries the hub has made.
+fn entries<R: Wait>(rt: &R, hub: &Hub, pass: &mut Pass) -> u64
     requires { IsCaller hub.now pass.old }
     ensures { IsCaller hub.now pass.new }
 {
-    match hub.connect(rt, alloc, pass, who(last)) {
-        Ok(joined) => Some(joined.outlet),
-        Err(_) => None,
+    match hub.counts(rt, pass) {
+        Ok(told) => told.at,
+        Err(_) => 0,
     }
 }
 
-fn message(alloc: Global, octets: &[u8]) -> Result<Incoming, NoMemory> {
+/// What a link gives.
+#[derive(Clone, Copy)]
+enum Given {
+    Message(&'static [u8]),
+    Text,
+    Quiet,
+}
+
+pub(crate) fn message(alloc: Global, octets: &[u8]) -> Result<Incoming, NoMemory> {
     Ok(Incoming::Message(Octets::from_vec(Vec::from_slice(alloc, octets)?)))
 }
 
-/// The octets of the connect of the device at 02:00:00:00:00:`last`.
-pub(crate) fn connect_octets(alloc: Global, last: u8) -> Result<Vec<u8>, NoMemory> {
-    let mut octets = Vec::from_slice(alloc, &[6, 0, 0, 1])?;
-    octets.extend_from_slice(&who(last).octets())?;
-    Ok(octets)
+fn incoming(alloc: Global, given: Given) -> Result<Incoming, NoMemory> {
+    match given {
+        Given::Message(octets) => message(alloc, octets),
+        Given::Text => Ok(Incoming::Text),
+        Given::Quiet => Ok(Incoming::Quiet),
+    }
 }
 
-/// The connect of the device at 02:00:00:00:00:`last`.
-fn connect_of(alloc: Global, last: u8) -> Result<Incoming, NoMemory> {
-    Ok(Incoming::Message(Octets::from_vec(connect_octets(alloc, last)?)))
-}
-
-/// The connect of the device at 02:00:00:00:00:0A.
-fn connect(alloc: Global) -> Result<Incoming, NoMemory> {
-    connect_of(alloc, 10)
+/// This, and then these.
+fn gives(alloc: Global, first: Given, others: &[Given]) -> Result<Vec<Incoming>, NoMemory> {
+    let mut gives = Vec::new(alloc);
+    gives.push(incoming(alloc, first)?)?;
+    for given in others {
+        gives.push(incoming(alloc, *given)?)?;
+    }
+    Ok(gives)
 }
 
 fn ended(why: Why, conn: Option<u64>, taken: u64, empties: u64, turns: u64) -> Ended {

@@ -71,47 +71,77 @@ fn next(outlet: &mut Outlet) -> Option<usize> {
     }
 }
 
-/// Two callers talk, and the hub is stopped. The answer is whether all was as it should be.
-fn talk<R: Wait>(rt: &R, alloc: Global, hub: &Hub, first: Pass, second: Pass) -> Option<bool>
-    requires { IsCaller hub.now first × IsCaller hub.now second }
+/// Whether the broadcast and the unicast come, and then the End of the stop.
+fn gives_all(outlet: &mut Outlet) -> bool {
+    let came = next(outlet) == Some(16) && next(outlet) == Some(10);
+    came && matches!(outlet.take(), Take::Closed(End::Stopped))
+}
+
+/// Whether entry 4 tells that two joined and two frames were appended.
+fn is_counted<R: Wait>(rt: &R, hub: &Hub, pass: &mut Pass) -> bool
+    requires { IsCaller hub.now pass.old }
+    ensures { IsCaller hub.now pass.new }
 {
-    let mut first = first;
-    let mut second = second;
-    let (conn, _outlet) = enter(rt, alloc, hub, &mut first, 1)?;
-    let (other, mut outlet) = enter(rt, alloc, hub, &mut second, 2)?;
-    let (reached, at, said) = tell(rt, alloc, hub, first, conn, 1, 2, &mut second)?;
-    let look = Look {
-        conn: other,
-        taken: 0,
-    };
-    let told = reached == 1 && at == 3 && said == OneReply::Appended(look);
-    let counted = match hub.counts(rt, &mut second) {
+    match hub.counts(rt, pass) {
         Ok(counts) => counts.at == 4 && counts.said.appended == 2 && counts.said.joined == 2,
         Err(_) => false,
-    };
-    let stopped = match hub.stop(rt, &mut second) {
-        Ok(counts) => counts.at == 5,
-        Err(_) => false,
-    };
-    let again = match hub.stop(rt, &mut second) {
-        Ok(_) => false,
-        Err(already) => already.at == 5,
-    };
-    let came = next(&mut outlet) == Some(16) && next(&mut outlet) == Some(10);
-    let closed = matches!(outlet.take(), Take::Closed(End::Stopped));
-    let refused = match hub.connect(rt, alloc, &mut second, who(3)) {
-        Err(ConnectRefusal::Refused { at, refusal }) => at == 6 && refusal == Refusal::Stopped,
-        Err(ConnectRefusal::Worn(_)) | Err(ConnectRefusal::NoMemory) | Ok(_) => false,
-    };
-    Some(told && counted && stopped && again && came && closed && refused)
+    }
+}
+
+/// By which entry the hub is stopped, or was stopped before.
+fn stop<R: Wait>(rt: &R, hub: &Hub, pass: &mut Pass) -> Result<u64, u64>
+    requires { IsCaller hub.now pass.old }
+    ensures { IsCaller hub.now pass.new }
+{
+    match hub.stop(rt, pass) {
+        Ok(counts) => Ok(counts.at),
+        Err(already) => Err(already.at),
+    }
+}
+
+/// By which entry a connect is refused, since the hub has stopped.
+fn refused<R: Wait>(rt: &R, alloc: Global, hub: &Hub, pass: &mut Pass) -> Option<u64>
+    requires { IsCaller hub.now pass.old }
+    ensures { IsCaller hub.now pass.new }
+{
+    match hub.connect(rt, alloc, pass, who(3)) {
+        Err(
+            ConnectRefusal::Refused {
+                at,
+                refusal: Refusal::Stopped,
+            },
+        ) => Some(at),
+        Err(_) => None,
+        Ok(_) => None,
+    }
 }
 
 #[test]
 fn two_callers_and_no_more(rt: HostRuntime) -> Result<(), Fail> {
     let (hub, mut first) = new_hub(rt.alloc(), 8, 1 << 40, 2)?;
     assert!(rt; hub.identity() == who(255));
-    let second = hub.split(&rt, &mut first)?;
+    let Ok(mut second) = hub.split(&rt, &mut first) else {
+        panic!(rt; "there is a second number");
+    };
     assert!(rt; matches!(hub.split(&rt, &mut first), Err(NumbersSpent { drawn: 2 })));
-    assert!(rt; talk(&rt, rt.alloc(), &hub, first, second) == Some(true));
+    let Some((conn, _outlet)) = enter(&rt, rt.alloc(), &hub, &mut first, 1) else {
+        panic!(rt; "the first joins");
+    };
+    let Some((other, mut outlet)) = enter(&rt, rt.alloc(), &hub, &mut second, 2) else {
+        panic!(rt; "the second joins");
+    };
+    let Some(told) = tell(&rt, rt.alloc(), &hub, first, conn, 1, 2, &mut second) else {
+        panic!(rt; "the first sends");
+    };
+    let look = Look {
+        conn: other,
+        taken: 0,
+    };
+    assert!(rt; told.0 == 1 && told.1 == 3 && told.2 == OneReply::Appended(look));
+    assert!(rt; is_counted(&rt, &hub, &mut second));
+    assert!(rt; stop(&rt, &hub, &mut second) == Ok(5));
+    assert!(rt; stop(&rt, &hub, &mut second) == Err(5));
+    assert!(rt; gives_all(&mut outlet));
+    assert!(rt; refused(&rt, rt.alloc(), &hub, &mut second) == Some(6));
     Ok(())
 }

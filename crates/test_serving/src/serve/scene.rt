@@ -1,10 +1,12 @@
 //! Links in memory that see each other, and what is noted of a test.
-ghost use Rattle.std.specs.Prelude.{None};
+ghost use Rattle.std.specs.Prelude.{◌≡◌, Err, None};
+ghost use Rattle.bsc_edge.specs.declared.fault.LinkFault.{LinkFault};
+ghost use Rattle.bsc_edge.specs.Told.{IsQuiet};
 
+use crate::session::{CONNECT_A, CONNECT_B};
 use bsc_edge::{Clock, Incoming, Link, LinkFault};
 use bsc_octets::{NoMemory, Octets};
 use std::alloc::Global;
-use std::collections::VecDeque;
 use std::sync::Arc;
 use std::sync::atomic::{AtomicBool, AtomicU64, Ordering};
 
@@ -15,14 +17,10 @@ pub(super) struct Scene {
     accepted: AtomicBool,
     /// A message that the hub carries was put on a link.
     carried: AtomicBool,
-    /// How many sessions were to be started, where that is counted.
-    pub(super) starts: AtomicU64,
     /// How many links were closed with 1001.
     pub(super) away: AtomicU64,
     /// How many sessions ended as PeerClosed.
     pub(super) closed: AtomicU64,
-    /// How many sessions ended as Spent.
-    pub(super) spent: AtomicU64,
 }
 
 impl Scene {
@@ -32,10 +30,8 @@ impl Scene {
             Scene {
                 accepted: AtomicBool::new(false),
                 carried: AtomicBool::new(false),
-                starts: AtomicU64::new(0),
                 away: AtomicU64::new(0),
                 closed: AtomicU64::new(0),
-                spent: AtomicU64::new(0),
             },
         )?)
     }
@@ -60,57 +56,95 @@ pub(super) enum Until {
 }
 
 /// A message, and what comes before it.
-#[derive(Drop)]
-struct Cue {
+#[derive(Clone, Copy)]
+pub(super) struct Cue {
     until: Until,
-    message: Octets,
+    message: &'static [u8],
 }
+
+/// What a link gives, when it closes, and whether it is the later one.
+#[derive(Clone, Copy)]
+pub(super) struct Part {
+    cues: &'static [Cue],
+    closes: Until,
+    is_later: bool,
+}
+
+/// It closes at once.
+pub(super) const CLOSING: Part = Part {
+    cues: &[],
+    closes: Until::Now,
+    is_later: false,
+};
+
+/// It gives a message to the peer of the later link once that was accepted, and closes once the message was carried.
+pub(super) const FIRST: Part = Part {
+    cues: &[
+        Cue {
+            until: Until::Now,
+            message: CONNECT_A,
+        },
+        Cue {
+            until: Until::Accepted,
+            message: &[1, 4, 0, 2, 2, 0, 0, 0, 0, 11, 1, 0],
+        },
+    ],
+    closes: Until::Carried,
+    is_later: false,
+};
+
+/// It closes once the message was put on it.
+pub(super) const LATER: Part = Part {
+    cues: &[Cue {
+        until: Until::Now,
+        message: CONNECT_B,
+    }],
+    closes: Until::Carried,
+    is_later: true,
+};
 
 /// A link that gives its messages and then Closed, each when its time has come, and is Quiet until then.
 #[derive(Drop)]
 pub(super) struct CuedLink {
-    cues: VecDeque<Cue>,
-    closes: Until,
-    is_later: bool,
+    part: Part,
     quiets: u64,
     scene: Arc<Scene>,
 }
 
-impl CuedLink {
-    /// A link without messages.
-    pub(super) fn new(
-        alloc: Global,
-        scene: &Arc<Scene>,
-        is_later: bool,
-        closes: Until,
-    ) -> Result<CuedLink, NoMemory> {
-        Ok(CuedLink {
-            cues: VecDeque::new(alloc),
-            closes,
-            is_later,
+/// Links with these parts.
+pub(super) fn links(
+    alloc: Global,
+    scene: &Arc<Scene>,
+    parts: &[Part],
+) -> Result<Vec<CuedLink>, NoMemory> {
+    let mut links = Vec::new(alloc);
+    for part in parts {
+        let scene = Arc::try_clone(scene)?;
+        links.push(CuedLink {
+            part: *part,
             quiets: 0,
-            scene: Arc::try_clone(scene)?,
-        })
+            scene,
+        })?;
     }
+    Ok(links)
+}
 
-    /// One message more.
-    pub(super) fn gives(
-        &mut self,
-        alloc: Global,
-        until: Until,
-        octets: &[u8],
-    ) -> Result<(), NoMemory> {
-        let message = Octets::from_vec(Vec::from_slice(alloc, octets)?);
-        self.cues.push_back(Cue { until, message })?;
-        Ok(())
+/// A link gives a message, where there is memory for it. A message is never Quiet.
+fn given(alloc: Global, octets: &[u8]) -> Result<Incoming, LinkFault>
+    ensures quiet { IsQuiet result → ⊥ }
+    ensures failed { result ≡ Err LinkFault.Failed → ⊥ }
+{
+    match Vec::from_slice(alloc, octets) {
+        Ok(octets) => Ok(Incoming::Message(Octets::from_vec(octets))),
+        Err(_) => Err(LinkFault::NoMemory),
     }
+}
 
-    /// The time of the next thing.
-    fn next(&self) -> Until {
-        match self.cues.front() {
-            Some(cue) => cue.until,
-            None => self.closes,
-        }
+/// When the next thing comes.
+fn time_of(part: &Part) -> Until {
+    match part.cues {
+        [cue, ..] => cue.until,
+        [] => part.closes,
     }
 }
 
@@ -121,14 +155,17 @@ impl Link for CuedLink {
 
     ghost talk = { λ _. None };
 
-    fn receive(&mut self, _alloc: Global, _wait_ms: u32) -> Result<Incoming, LinkFault> {
-        if !self.scene.has_come(self.next()) {
+    fn receive(&mut self, alloc: Global, _wait_ms: u32) -> Result<Incoming, LinkFault> {
+        if !self.scene.has_come(time_of(&self.part)) {
             self.quiets = self.quiets.saturating_add(1);
             return Ok(Incoming::Quiet);
         }
-        match self.cues.pop_front() {
-            Some(cue) => Ok(Incoming::Message(cue.message)),
-            None => Ok(Incoming::Closed),
+        match self.part.cues {
+            [cue, rest @ ..] => {
+                self.part.cues = rest;
+                given(alloc, cue.message)
+            }
+            [] => Ok(Incoming::Closed),
         }
     }
 
@@ -136,7 +173,7 @@ impl Link for CuedLink {
     fn put(&mut self, _alloc: Global, m: &[u8]) -> Result<(), LinkFault> {
         match m.first() {
             Some(7) => {
-                if self.is_later {
+                if self.part.is_later {
                     self.scene.accepted.store(true, Ordering::SeqCst);
                 }
             }

@@ -19,19 +19,11 @@ struct Watched {
     scene: Arc<Scene>,
 }
 
-/// Works a session off, and notes how it ended.
-fn work_off<R: Wait>(rt: &R, session: &mut Session, scene: &Scene) {
-    session.work(rt);
-    if let Some(ended) = session.ended {
-        match ended.why {
-            Why::PeerClosed => {
-                scene.closed.fetch_add(1, Ordering::SeqCst);
-            }
-            Why::Spent => {
-                scene.spent.fetch_add(1, Ordering::SeqCst);
-            }
-            _ => {}
-        }
+/// Whether a session ended since its peer closed.
+fn was_closed(session: &Session) -> bool {
+    match session.ended {
+        Some(ended) => ended.why == Why::PeerClosed,
+        None => false,
     }
 }
 
@@ -39,7 +31,10 @@ impl Job for Watched {
     ghost works = { λ _ _. ⊤ };
 
     fn work<R: Wait>(&mut self, rt: &R) {
-        work_off(rt, &mut self.session, &self.scene);
+        self.session.work(rt);
+        if was_closed(&self.session) {
+            self.scene.closed.fetch_add(1, Ordering::SeqCst);
+        }
     }
 }
 
@@ -63,19 +58,9 @@ pub(super) fn begin_beside<R: Threads + Wait + Copy + Send + 'static>(
     }
 }
 
-/// Serves a session at once, and comes back when it has ended; for the start with this number, counted from 0, there is no memory.
-pub(super) fn begin_here<R: Wait>(
-    rt: &R,
-    scene: &Scene,
-    lacking: u64,
-    session: Session,
-) -> Result<(), Unstarted<Session>>
+/// There is no memory for a session.
+pub(super) fn begin_none(session: Session) -> Result<(), Unstarted<Session>>
     ensures { GivesBack result session }
 {
-    if scene.starts.fetch_add(1, Ordering::SeqCst) == lacking {
-        return Err(Unstarted::NoMemory(session));
-    }
-    let mut session = session;
-    work_off(rt, &mut session, scene);
-    Ok(())
+    Err(Unstarted::NoMemory(session))
 }

@@ -1,10 +1,15 @@
 //! A session that gets 1,000 messages, drawn at random, beside two connections that take nothing. What is put on its
-//! link, what the two outboxes hold and how many entries are made are compared with a plain reading of the rules.
-use super::{LIMITS, connect, ended, join, message, new_hub, who};
+//! link, what the two outboxes hold and how many entries are made are compared with a plain reading of the rules: a table
+//! of what comes of each kind of message, and what an outbox does that has room, that is full, and that has ended.
+ghost use Rattle.bsc_hub.specs.Passing.{IsCaller};
+
+use super::{CONNECT_A, LIMITS, ended, entries, message, new_hub, who};
 use bsc_edge::{Incoming, MemClock, MemLink, Said};
+use bsc_history::End;
+use bsc_hub::{Hub, Pass};
 use bsc_octets::NoMemory;
 use bsc_ring::{Outlet, Take};
-use bsc_session::{Ended, Why, serve_connection};
+use bsc_session::{Why, serve_connection};
 use std::alloc::Global;
 use std::process::Abort;
 use std::sync::Wait;
@@ -15,158 +20,304 @@ const ROOM: u64 = 64;
 
 const MESSAGES: u16 = 1000;
 
-/// What comes of a message.
+/// A message without its ID: its function, its flags, and the octets after the ID.
 #[derive(Clone, Copy)]
-enum Comes {
-    /// Nothing.
-    Silence,
-    /// A NAK with this code.
-    Nak(u8),
-    /// A Heartbeat-ACK.
-    Ack,
-    /// It is carried to A itself, to B, to C, to B and C, or nowhere.
-    ToA,
-    ToB,
-    ToC,
-    ToAll,
-    Nowhere,
-}
-
-/// A kind of message: function, flags, Destination, the octets after that, and what comes of it.
-#[derive(Clone, Copy)]
-struct Kind<'a> {
+struct Text {
     function: u8,
     flags: u8,
-    to: &'a [u8],
-    rest: &'a [u8],
-    comes: Comes,
+    rest: &'static [u8],
 }
 
-fn kind_of<'a>(function: u8, flags: u8, to: &'a [u8], rest: &'a [u8], comes: Comes) -> Kind<'a> {
+/// Where what comes of a message goes.
+#[derive(Clone, Copy)]
+enum Goes {
+    /// Nothing comes of it.
+    Nowhere,
+    /// It is forwarded, but nobody has its Destination.
+    Unheld,
+    /// It is answered.
+    Back,
+    /// It is forwarded: to A itself, to B, to C, to B and C.
+    Itself,
+    B,
+    C,
+    All,
+}
+
+/// A kind of message, where what comes of it goes, and what that is. Its ID stays.
+#[derive(Clone, Copy)]
+struct Kind {
+    message: Text,
+    goes: Goes,
+    comes: Text,
+}
+
+/// The Connect-Accept of the hub, which has the device 01 at 02:00:00:00:00:01.
+const ACCEPT: Text = Text {
+    function: 7,
+    flags: 0,
+    rest: &[
+        2, 0, 0, 0, 0, 1, 1, 1, 1, 1, 1, 1, 1, 1, 1, 1, 1, 1, 1, 1, 1, 1, 6, 64, 5, 217,
+    ],
+};
+
+/// Nothing.
+const NONE: Text = Text {
+    function: 0,
+    flags: 0,
+    rest: &[],
+};
+
+const KINDS: [Kind; 18] = [
+    // To B, to B, to C, to all, to A itself, and to an address that nobody has.
     Kind {
-        function,
-        flags,
-        to,
-        rest,
-        comes,
-    }
-}
+        message: Text {
+            function: 1,
+            flags: 4,
+            rest: &[2, 0, 0, 0, 0, 11, 1, 0],
+        },
+        goes: Goes::B,
+        comes: Text {
+            function: 1,
+            flags: 8,
+            rest: &[2, 0, 0, 0, 0, 10, 1, 0],
+        },
+    },
+    Kind {
+        message: Text {
+            function: 13,
+            flags: 4,
+            rest: &[2, 0, 0, 0, 0, 11],
+        },
+        goes: Goes::B,
+        comes: Text {
+            function: 13,
+            flags: 8,
+            rest: &[2, 0, 0, 0, 0, 10],
+        },
+    },
+    Kind {
+        message: Text {
+            function: 1,
+            flags: 5,
+            rest: &[2, 0, 0, 0, 0, 12, 0x41, 1, 0],
+        },
+        goes: Goes::C,
+        comes: Text {
+            function: 1,
+            flags: 9,
+            rest: &[2, 0, 0, 0, 0, 10, 0x41, 1, 0],
+        },
+    },
+    Kind {
+        message: Text {
+            function: 1,
+            flags: 4,
+            rest: &[255, 255, 255, 255, 255, 255, 1, 0],
+        },
+        goes: Goes::All,
+        comes: Text {
+            function: 1,
+            flags: 12,
+            rest: &[2, 0, 0, 0, 0, 10, 255, 255, 255, 255, 255, 255, 1, 0],
+        },
+    },
+    Kind {
+        message: Text {
+            function: 1,
+            flags: 4,
+            rest: &[2, 0, 0, 0, 0, 10, 1, 0],
+        },
+        goes: Goes::Itself,
+        comes: Text {
+            function: 1,
+            flags: 8,
+            rest: &[2, 0, 0, 0, 0, 10, 1, 0],
+        },
+    },
+    Kind {
+        message: Text {
+            function: 1,
+            flags: 4,
+            rest: &[2, 0, 0, 0, 0, 13, 1, 0],
+        },
+        goes: Goes::Unheld,
+        comes: NONE,
+    },
+    // A Heartbeat-Request, and four that get a NAK.
+    Kind {
+        message: Text {
+            function: 10,
+            flags: 0,
+            rest: &[],
+        },
+        goes: Goes::Back,
+        comes: Text {
+            function: 11,
+            flags: 0,
+            rest: &[],
+        },
+    },
+    Kind {
+        message: Text {
+            function: 10,
+            flags: 0,
+            rest: &[0xAA],
+        },
+        goes: Goes::Back,
+        comes: Text {
+            function: 0,
+            flags: 0,
+            rest: &[10, 1, 0, 0, 7, 0, 150],
+        },
+    },
+    Kind {
+        message: Text {
+            function: 13,
+            flags: 0,
+            rest: &[],
+        },
+        goes: Goes::Back,
+        comes: Text {
+            function: 0,
+            flags: 0,
+            rest: &[13, 1, 0, 0, 7, 0, 143],
+        },
+    },
+    Kind {
+        message: Text {
+            function: 12,
+            flags: 0,
+            rest: &[0, 0, 1],
+        },
+        goes: Goes::Back,
+        comes: Text {
+            function: 0,
+            flags: 0,
+            rest: &[12, 1, 0, 0, 7, 0, 144],
+        },
+    },
+    Kind {
+        message: Text {
+            function: 1,
+            flags: 20,
+            rest: &[2, 0, 0, 0, 0, 11, 1, 0],
+        },
+        goes: Goes::Back,
+        comes: Text {
+            function: 0,
+            flags: 0,
+            rest: &[1, 1, 0, 0, 7, 0, 145],
+        },
+    },
+    // Those of which nothing comes.
+    Kind {
+        message: Text {
+            function: 1,
+            flags: 0,
+            rest: &[1, 0],
+        },
+        goes: Goes::Nowhere,
+        comes: NONE,
+    },
+    Kind {
+        message: Text {
+            function: 1,
+            flags: 8,
+            rest: &[2, 0, 0, 0, 0, 11, 1, 0],
+        },
+        goes: Goes::Nowhere,
+        comes: NONE,
+    },
+    Kind {
+        message: Text {
+            function: 1,
+            flags: 4,
+            rest: &[2, 0, 0],
+        },
+        goes: Goes::Nowhere,
+        comes: NONE,
+    },
+    Kind {
+        message: Text {
+            function: 11,
+            flags: 1,
+            rest: &[],
+        },
+        goes: Goes::Nowhere,
+        comes: NONE,
+    },
+    Kind {
+        message: Text {
+            function: 6,
+            flags: 0,
+            rest: &[
+                7, 7, 7, 7, 7, 7, 7, 7, 7, 7, 7, 7, 7, 7, 7, 7, 7, 7, 7, 7, 7, 7, 7, 7, 7, 7,
+            ],
+        },
+        goes: Goes::Nowhere,
+        comes: NONE,
+    },
+    Kind {
+        message: Text {
+            function: 9,
+            flags: 0,
+            rest: &[],
+        },
+        goes: Goes::Nowhere,
+        comes: NONE,
+    },
+    Kind {
+        message: Text {
+            function: 4,
+            flags: 0,
+            rest: &[1, 0, 6, 64, 5, 217],
+        },
+        goes: Goes::Nowhere,
+        comes: NONE,
+    },
+];
 
-/// Eighteen kinds.
-fn kind_at<'a>(place: u64) -> Kind<'a> {
-    match place {
-        0 => kind_of(1, 4, &[2, 0, 0, 0, 0, 11], &[1, 0], Comes::ToB),
-        1 => kind_of(13, 4, &[2, 0, 0, 0, 0, 11], &[], Comes::ToB),
-        2 => kind_of(1, 5, &[2, 0, 0, 0, 0, 12], &[0x41, 1, 0], Comes::ToC),
-        3 => kind_of(1, 4, &[2, 0, 0, 0, 0, 13], &[1, 0], Comes::Nowhere),
-        4 => kind_of(1, 4, &[2, 0, 0, 0, 0, 10], &[1, 0], Comes::ToA),
-        5 => kind_of(1, 4, &[255, 255, 255, 255, 255, 255], &[1, 0], Comes::ToAll),
-        6 => kind_of(10, 0, &[], &[], Comes::Ack),
-        7 => kind_of(10, 0, &[], &[0xAA], Comes::Nak(150)),
-        8 => kind_of(13, 0, &[], &[], Comes::Nak(143)),
-        9 => kind_of(12, 0, &[], &[0, 0, 1], Comes::Nak(144)),
-        10 => kind_of(1, 20, &[2, 0, 0, 0, 0, 11], &[1, 0], Comes::Nak(145)),
-        11 => kind_of(1, 0, &[], &[1, 0], Comes::Silence),
-        12 => kind_of(1, 8, &[2, 0, 0, 0, 0, 11], &[1, 0], Comes::Silence),
-        13 => kind_of(1, 4, &[], &[2, 0, 0], Comes::Silence),
-        14 => kind_of(11, 1, &[], &[], Comes::Silence),
-        15 => kind_of(6, 0, &[], &[7; 26], Comes::Silence),
-        16 => kind_of(9, 0, &[], &[], Comes::Silence),
-        _ => kind_of(4, 0, &[], &[1, 0, 6, 64, 5, 217], Comes::Silence),
-    }
-}
-
-/// An outbox that nobody takes from: its frames, how many there are, and whether its connection has ended.
+/// An outbox that nobody took from while the session ran: how many frames it holds by the rules so far, and whether its
+/// connection has ended.
 #[derive(Drop)]
 struct Outbox {
-    frames: Vec<u8>,
+    outlet: Outlet,
     count: u64,
     ended: bool,
 }
 
-/// By a plain reading: what is put on A's link, what B and C hold, how many frames A gets of itself, and how many
-/// forwards are made.
+/// How far the talk of A's link has been read: the numbers drawn, the ID of the next message, what is to be put before
+/// it, what B and C hold, how many frames A got of itself, how many forwards were made, and whether all was so.
 #[derive(Drop)]
-struct Plain {
-    told: Vec<u8>,
+struct Reading {
+    seed: u64,
+    next: u16,
+    due: Option<(Text, u16)>,
     b: Outbox,
     c: Outbox,
     own: u64,
     forwards: u64,
+    is_so: bool,
 }
 
-/// A frame of a broadcast joins an outbox with room, and is missed by a full one.
-fn broadcast(outbox: &mut Outbox, frame: &[u8]) -> Result<(), NoMemory> {
-    if !outbox.ended && outbox.count < ROOM {
-        outbox.frames.extend_from_slice(frame)?;
-        outbox.count += 1;
+/// Whether the octets are those of a text with this ID.
+fn says(octets: &[u8], text: Text, id: u16) -> bool {
+    match octets {
+        [function, flags, high, low, rest @ ..] => {
+            let head = *function == text.function && *flags == text.flags;
+            head && u16::from_be_bytes([*high, *low]) == id && rest == text.rest
+        }
+        _ => false,
     }
-    Ok(())
 }
 
-/// A frame of a unicast joins an outbox with room, and ends the connection of a full one.
-fn unicast(outbox: &mut Outbox, frame: &[u8]) -> Result<(), NoMemory> {
-    if outbox.count >= ROOM {
-        outbox.ended = true;
-    }
-    broadcast(outbox, frame)
-}
-
-/// A message of this kind with this ID.
-fn octets_of(alloc: Global, kind: Kind<'_>, id: u16) -> Result<Vec<u8>, NoMemory> {
+/// The message of a text with this ID.
+fn message_of(alloc: Global, text: Text, id: u16) -> Result<Incoming, NoMemory> {
     let [high, low] = id.to_be_bytes();
-    let mut octets = Vec::from_slice(alloc, &[kind.function, kind.flags, high, low])?;
-    octets.extend_from_slice(kind.to)?;
-    octets.extend_from_slice(kind.rest)?;
-    Ok(octets)
-}
-
-/// What its receivers get: A's address is put in, and a unicast's Destination is left out.
-fn frame_of(alloc: Global, kind: Kind<'_>, id: u16) -> Result<Vec<u8>, NoMemory> {
-    let [high, low] = id.to_be_bytes();
-    let is_broadcast = matches!(kind.comes, Comes::ToAll);
-    let flags = if is_broadcast { 12 } else { kind.flags ^ 12 };
-    let mut octets = Vec::from_slice(alloc, &[kind.function, flags, high, low, 2, 0, 0, 0, 0, 10])?;
-    if is_broadcast {
-        octets.extend_from_slice(kind.to)?;
-    }
-    octets.extend_from_slice(kind.rest)?;
-    Ok(octets)
-}
-
-/// A forward: its frame goes where it should.
-fn carry(plain: &mut Plain, comes: Comes, frame: &[u8]) -> Result<(), NoMemory> {
-    plain.forwards = plain.forwards.saturating_add(1);
-    match comes {
-        Comes::ToA => {
-            plain.own = plain.own.saturating_add(1);
-            Ok(plain.told.extend_from_slice(frame)?)
-        }
-        Comes::ToB => unicast(&mut plain.b, frame),
-        Comes::ToC => unicast(&mut plain.c, frame),
-        Comes::ToAll => {
-            broadcast(&mut plain.b, frame)?;
-            broadcast(&mut plain.c, frame)
-        }
-        _ => Ok(()),
-    }
-}
-
-/// What comes of a message.
-fn read(alloc: Global, plain: &mut Plain, kind: Kind<'_>, id: u16) -> Result<(), NoMemory> {
-    let [high, low] = id.to_be_bytes();
-    match kind.comes {
-        Comes::Silence => Ok(()),
-        Comes::Nak(code) => {
-            let nak = [0, 0, high, low, kind.function, 1, 0, 0, 7, 0, code];
-            Ok(plain.told.extend_from_slice(&nak)?)
-        }
-        Comes::Ack => Ok(plain.told.extend_from_slice(&[11, 0, high, low])?),
-        _ => {
-            let frame = frame_of(alloc, kind, id)?;
-            carry(plain, kind.comes, frame.as_slice())
-        }
-    }
+    let mut octets = Vec::from_slice(alloc, &[text.function, text.flags, high, low])?;
+    octets.extend_from_slice(text.rest)?;
+    message(alloc, octets.as_slice())
 }
 
 /// The next number of the generator.
@@ -175,130 +326,192 @@ fn drawn(seed: u64) -> u64 {
         .wrapping_add(1_442_695_040_888_963_407)
 }
 
-/// A's connect and the messages that are drawn, each of which is read plainly.
-fn draw(alloc: Global, plain: &mut Plain) -> Result<Vec<Incoming>, NoMemory> {
+const SEED: u64 = 20_251_127;
+
+/// The kind that a number draws.
+fn kind_of(seed: u64) -> Kind {
+    let place = ((seed >> 40) % 18) as usize;
+    KINDS[place]
+}
+
+/// A's connect and the messages that are drawn.
+fn draw(alloc: Global) -> Result<Vec<Incoming>, NoMemory> {
     let mut gives = Vec::new(alloc);
-    gives.push(connect(alloc)?)?;
-    let mut seed = 20_251_127u64;
+    gives.push(message(alloc, CONNECT_A)?)?;
+    let mut seed = SEED;
     for id in 0..MESSAGES {
         seed = drawn(seed);
-        let kind = kind_at((seed >> 40) % 18);
-        let octets = octets_of(alloc, kind, id)?;
-        gives.push(message(alloc, octets.as_slice())?)?;
-        read(alloc, plain, kind, id)?;
+        gives.push(message_of(alloc, kind_of(seed).message, id)?)?;
     }
     Ok(gives)
 }
 
-/// The octets of all that was put.
-fn put_in(alloc: Global, talk: &[Said]) -> Result<Vec<u8>, NoMemory> {
-    let mut octets = Vec::new(alloc);
-    for said in talk {
-        if let Said::Put(o, None) = said {
-            octets.extend_from_slice(o.as_slice())?;
+/// Whether the next frame of an outbox is this.
+fn gives(outlet: &mut Outlet, text: Text, id: u16) -> bool {
+    match outlet.take() {
+        Take::Frame(frame) => says(frame.as_slice(), text, id),
+        Take::Empty | Take::Closed(_) => false,
+    }
+}
+
+impl Outbox {
+    fn of(outlet: Outlet) -> Outbox {
+        Outbox {
+            outlet,
+            count: 0,
+            ended: false,
         }
     }
-    Ok(octets)
-}
 
-/// All that an outlet gives.
-fn taken(alloc: Global, outlet: &mut Outlet) -> Result<Outbox, NoMemory> {
-    let mut frames = Vec::new(alloc);
-    let mut ended = false;
-    for _ in 0..=ROOM {
-        match outlet.take() {
-            Take::Frame(frame) => frames.extend_from_slice(frame.as_slice())?,
-            Take::Empty => (),
-            Take::Closed(_) => ended = true,
+    /// A frame of a broadcast joins an outbox with room, and is missed by a full one.
+    fn broadcast(&mut self, text: Text, id: u16) -> bool {
+        if self.ended || self.count >= ROOM {
+            return true;
+        }
+        self.count += 1;
+        gives(&mut self.outlet, text, id)
+    }
+
+    /// A frame of a unicast joins an outbox with room, and ends the connection of a full one.
+    fn unicast(&mut self, text: Text, id: u16) -> bool {
+        if self.count >= ROOM {
+            self.ended = true;
+        }
+        self.broadcast(text, id)
+    }
+
+    /// Whether it gives no frame more, and its End where it has ended.
+    fn is_over(&mut self) -> bool {
+        match self.outlet.take() {
+            Take::Frame(_) => false,
+            Take::Empty => !self.ended,
+            Take::Closed(end) => self.ended && end == End::Full,
         }
     }
-    Ok(Outbox {
-        frames,
-        count: 0,
-        ended,
-    })
 }
 
-/// What came of a session.
-#[derive(Drop)]
-struct Came {
-    ended: Ended,
-    told: Vec<u8>,
-    b: Outbox,
-    c: Outbox,
-    entries: u64,
-}
-
-/// Serves a link that gives this, beside B and C; None where these don't join.
-fn served<R: Wait>(rt: &R, alloc: Global, gives: Vec<Incoming>) -> Result<Option<Came>, NoMemory> {
-    let (hub, mut own) = new_hub(alloc, 64, 4)?;
-    let Some(mut b) = join(rt, alloc, &hub, &mut own, 11) else {
-        return Ok(None);
-    };
-    let Some(mut c) = join(rt, alloc, &hub, &mut own, 12) else {
-        return Ok(None);
-    };
-    let mut link = MemLink::new(alloc, gives, &[]);
-    let mut clock = MemClock::new(alloc, &[]);
-    let ended = serve_connection(
-        rt, alloc, &hub, &mut own, &mut link, &mut clock, &LIMITS, 2000,
-    );
-    let entries = match hub.counts(rt, &mut own) {
-        Ok(told) => told.at,
-        Err(_) => 0,
-    };
-    Ok(Some(Came {
-        ended,
-        told: put_in(alloc, link.talk().unwrap_or(&[]))?,
-        b: taken(alloc, &mut b)?,
-        c: taken(alloc, &mut c)?,
-        entries,
-    }))
-}
-
-fn is_held(came: &Outbox, plain: &Outbox) -> bool {
-    came.frames.as_slice() == plain.frames.as_slice() && came.ended == plain.ended
-}
-
-/// Whether what came is what a plain reading says: the entries are two connects, A's, the forwards, and A's leave.
-fn is_as_read(came: &Came, plain: &Plain) -> bool {
-    came.ended == ended(Why::PeerClosed, Some(3), plain.own, 1001, 1002)
-        && came.told.as_slice() == plain.told.as_slice()
-        && is_held(&came.b, &plain.b)
-        && is_held(&came.c, &plain.c)
-        && came.entries == plain.forwards.saturating_add(4)
-}
-
-fn empty(alloc: Global) -> Outbox {
-    Outbox {
-        frames: Vec::new(alloc),
-        count: 0,
-        ended: false,
+/// Whether a message is forwarded of which what comes goes there.
+fn is_forwarded(goes: Goes) -> bool {
+    match goes {
+        Goes::Nowhere | Goes::Back => false,
+        Goes::Unheld | Goes::Itself | Goes::B | Goes::C | Goes::All => true,
     }
 }
 
-/// Before the first message: the Connect-Accept was put.
-fn accepted(alloc: Global) -> Result<Plain, NoMemory> {
-    let mut told = Vec::from_slice(alloc, &[7, 0, 0, 1])?;
-    told.extend_from_slice(&who(1).octets())?;
-    Ok(Plain {
-        told,
-        b: empty(alloc),
-        c: empty(alloc),
+impl Reading {
+    /// Whether what comes of a message went where it should; what is to be put is due from then on.
+    fn carry(&mut self, goes: Goes, comes: Text, id: u16) -> bool {
+        match goes {
+            Goes::Nowhere | Goes::Unheld => true,
+            Goes::Back => {
+                self.due = Some((comes, id));
+                true
+            }
+            Goes::Itself => {
+                self.own = self.own.saturating_add(1);
+                self.due = Some((comes, id));
+                true
+            }
+            Goes::B => self.b.unicast(comes, id),
+            Goes::C => self.c.unicast(comes, id),
+            Goes::All => {
+                let first = self.b.broadcast(comes, id);
+                self.c.broadcast(comes, id) && first
+            }
+        }
+    }
+
+    /// Reads that a message was given. What was due before it was put by then.
+    fn given(&mut self) {
+        self.seed = drawn(self.seed);
+        let kind = kind_of(self.seed);
+        let id = self.next;
+        self.next = id.wrapping_add(1);
+        if is_forwarded(kind.goes) {
+            self.forwards = self.forwards.saturating_add(1);
+        }
+        let was_put = self.due.is_none();
+        let came = self.carry(kind.goes, kind.comes, id);
+        self.is_so = self.is_so && was_put && came;
+    }
+
+    /// Reads that this was put.
+    fn put(&mut self, octets: &[u8]) {
+        let is_due = match self.due {
+            Some((text, id)) => says(octets, text, id),
+            None => false,
+        };
+        self.due = None;
+        self.is_so = self.is_so && is_due;
+    }
+}
+
+/// Reads the talk of A's link. It begins with the connect, to which the Connect-Accept is due.
+fn read(talk: &[Said], b: Outlet, c: Outlet) -> Reading {
+    let mut reading = Reading {
+        seed: SEED,
+        next: 0,
+        due: Some((ACCEPT, 1)),
+        b: Outbox::of(b),
+        c: Outbox::of(c),
         own: 0,
         forwards: 0,
-    })
+        is_so: true,
+    };
+    if let [Said::Gave(Ok(Incoming::Message(_))), rest @ ..] = talk {
+        for said in rest {
+            match said {
+                Said::Gave(Ok(Incoming::Message(_))) => reading.given(),
+                Said::Put(octets, None) => reading.put(octets.as_slice()),
+                _ => (),
+            }
+        }
+    }
+    reading
+}
+
+/// Joins by the test's own pass.
+fn join<R: Wait>(rt: &R, alloc: Global, hub: &Hub, pass: &mut Pass, last: u8) -> Option<Outlet>
+    requires { IsCaller hub.now pass.old }
+    ensures { IsCaller hub.now pass.new }
+{
+    match hub.connect(rt, alloc, pass, who(last)) {
+        Ok(joined) => Some(joined.outlet),
+        Err(_) => None,
+    }
 }
 
 #[test]
 fn a_thousand_messages(rt: HostRuntime) -> Result<(), Fail> {
     let alloc = rt.alloc();
-    let mut plain = accepted(alloc)?;
-    let gives = draw(alloc, &mut plain)?;
-    let Some(came) = served(&rt, alloc, gives)? else {
-        panic!(rt; "B or C didn't join");
+    let (hub, mut own) = new_hub(alloc, 1)?;
+    let Some(b) = join(&rt, alloc, &hub, &mut own, 11) else {
+        panic!(rt; "B didn't join");
     };
-    assert!(rt; is_as_read(&came, &plain));
-    assert!(rt; plain.b.ended && plain.forwards > 200);
+    let Some(c) = join(&rt, alloc, &hub, &mut own, 12) else {
+        panic!(rt; "C didn't join");
+    };
+    let Ok(gives) = draw(alloc) else {
+        panic!(rt; "no memory");
+    };
+    let mut link = MemLink::new(alloc, gives, &[]);
+    let mut clock = MemClock::new(alloc, &[]);
+    let came = serve_connection(
+        &rt, alloc, &hub, &mut own, &mut link, &mut clock, &LIMITS, 2000,
+    );
+    let mut reading = read(link.talk().unwrap_or(&[]), b, c);
+    assert!(rt; reading.is_so && reading.next == MESSAGES && reading.due.is_none());
+    assert!(rt; reading.b.is_over() && reading.c.is_over());
+    assert_eq!(rt;
+        came,
+        ended(Why::PeerClosed, Some(3), reading.own, 1001, 1002)
+    );
+
+    // Two connects and A's, the forwards, and A's leave.
+    assert_eq!(rt;
+        entries(&rt, &hub, &mut own),
+        reading.forwards.saturating_add(4)
+    );
+    assert!(rt; reading.b.ended && reading.forwards > 200);
     Ok(())
 }

@@ -1,7 +1,6 @@
 //! How long the receives of a session are asked to wait.
-use super::{LIMITS, connect_of, ended, message, new_hub};
+use super::{CONNECT_A, CONNECT_B, Given, LIMITS, ended, gives, new_hub};
 use bsc_edge::{Incoming, Job, Link, LinkFault, MemClock, MemLink};
-use bsc_octets::NoMemory;
 use bsc_session::{SessionJob, Why, serve_connection};
 use std::alloc::Global;
 use std::process::Abort;
@@ -49,44 +48,35 @@ impl<L: Link, J: Job, R: Wait> Link for Noting<L, J, R> {
     }
 }
 
-/// A's connect, and three times nothing.
-fn connect_and_wait(alloc: Global) -> Result<Vec<Incoming>, NoMemory> {
-    let mut gives = Vec::new(alloc);
-    gives.push(connect_of(alloc, 10)?)?;
-    for _ in 0..3 {
-        gives.push(Incoming::Quiet)?;
-    }
-    Ok(gives)
-}
-
-/// B's connect, and 36 unicasts to A.
-fn many_to_a(alloc: Global) -> Result<Vec<Incoming>, NoMemory> {
-    let mut gives = Vec::new(alloc);
-    gives.push(connect_of(alloc, 11)?)?;
-    for id in 2..38u8 {
-        gives.push(message(alloc, &[1, 4, 0, id, 2, 0, 0, 0, 0, 10, 1, 0])?)?;
-    }
-    Ok(gives)
-}
+/// A unicast of B to A.
+const TO_A: Given = Given::Message(&[1, 4, 0, 2, 2, 0, 0, 0, 0, 10, 1, 0]);
 
 /// While A waits B sends it 36 frames. A takes sixteen and sixteen and four of them, and waits only where it found no
 /// more.
 #[test]
 fn frames_that_are_left(rt: HostRuntime) -> Result<(), Fail> {
     let alloc = rt.alloc();
-    let (hub, mut own) = new_hub(alloc, 64, 4)?;
-    let pass = hub.split(&rt, &mut own)?;
+    let (hub, mut own) = new_hub(alloc, 4)?;
+    let Ok(pass) = hub.split(&rt, &mut own) else {
+        panic!(rt; "there is a second number");
+    };
     let Ok(hub) = Arc::new(alloc, hub) else {
         panic!(rt; "no memory");
     };
     let Ok(shared) = Arc::try_clone(&hub) else {
         panic!(rt; "no memory");
     };
-    let other = MemLink::new(alloc, many_to_a(alloc)?, &[]);
+    let Ok(theirs) = gives(alloc, Given::Message(CONNECT_B), &[TO_A; 36]) else {
+        panic!(rt; "no memory");
+    };
+    let Ok(ours) = gives(alloc, Given::Message(CONNECT_A), &[Given::Quiet; 3]) else {
+        panic!(rt; "no memory");
+    };
+    let other = MemLink::new(alloc, theirs, &[]);
     let clock = MemClock::new(alloc, &[]);
     let mut link = Noting {
         rt,
-        link: MemLink::new(alloc, connect_and_wait(alloc)?, &[]),
+        link: MemLink::new(alloc, ours, &[]),
         job: SessionJob::new(alloc, shared, pass, other, clock, LIMITS, 100),
         waits: Vec::new(alloc),
     };

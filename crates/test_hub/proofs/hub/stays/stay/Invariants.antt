@@ -1,5 +1,0 @@
-use Rattle.bsc_hub.specs.Passing.{IsCaller}
-use Rattle.test_hub.proofs.hub.stays.stay.Given as goal
-
-abbrev pub invariant-loop : goal.invariant-loop
-invariant-loop g l = IsCaller l.hub l.pass
