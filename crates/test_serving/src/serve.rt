@@ -13,7 +13,7 @@ use bsc_edge::{MemAcceptor, MemSpawner, Places, Spawner, ThreadSpawner, Unstarte
 use bsc_history::Counts;
 use bsc_hub::{Hub, Pass};
 use bsc_octets::NoMemory;
-use bsc_serve::{ServeEnd, serve_on};
+use bsc_serve::{ServeEnd, ServeTerms, serve_on};
 use std::alloc::Global;
 use std::process::Abort;
 use std::sync::atomic::Ordering;
@@ -60,16 +60,18 @@ fn serve<R: Wait, P: Spawner<Session>>(
     requires can { P.can_start spawner.old }
     ensures { IsCaller (arc_value hub.now) pass.new }
 {
-    let sessions = Some(links.len() as u64);
+    let terms = ServeTerms {
+        limits: LIMITS,
+        turns: TURNS,
+        sessions: Some(links.len() as u64),
+    };
     let mut acceptor = MemAcceptor::new(links, failing);
     serve_on(
         rt,
         alloc,
         hub,
         pass,
-        &LIMITS,
-        TURNS,
-        sessions,
+        &terms,
         &mut Still,
         &mut acceptor,
         spawner,
