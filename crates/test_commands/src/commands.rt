@@ -1,14 +1,15 @@
-//! The statuses of runs, with what stands written after each.
+//! Each status of a run, with what stands written after it.
 mod direct;
 mod loopback;
-mod noding;
 mod process;
-mod serving;
 
 use bsc_commands::run;
-use bsc_edge::{MemAcceptor, MemClock, MemDialer, MemFile, MemFiles, MemLink, MemSpawner};
+use bsc_edge::{
+    Acceptor, Clock, Dialer, Files, Link, MemAcceptor, MemClock, MemDialer, MemFile, MemFiles,
+    MemLink, MemSpawner, Spawner,
+};
 use bsc_hub::Kept;
-use bsc_node_run::MemWords;
+use bsc_node_run::{MemWords, Words};
 use bsc_octets::{NoMemory, Octets};
 use bsc_outside::{MemSink, MemSource};
 use bsc_session::SessionJob;
@@ -33,13 +34,36 @@ const REFUSED: &str = concat!(
     "jump A\n",
 );
 
-/// The words and the script of a run, the reads and the writes that fail, how much the sink takes, and what
-/// it comes to. A read gives 85 octets at most, and the first ends within the last line.
+/// Settings of a hub and of a node, which makes 20 turns at most.
+const SETTINGS: &str = concat!(
+    "[hub]\n",
+    "vmac = \"0200000000FF\"\n",
+    "uuid = \"00112233-4455-6677-8899-aabbccddeeff\"\n",
+    "port = 47808\n",
+    "[node]\n",
+    "vmac = \"02000000000B\"\n",
+    "uuid = \"66666666-7777-8888-9999-aaaaaaaaaaaa\"\n",
+    "primary = \"ws://127.0.0.1:47808/\"\n",
+    "turns = 20\n",
+);
+
+/// The times of a node's turns; each turn after them is at the last.
+const READINGS: &[u64] = &[0, 50, 2049, 2050, 2100];
+
+/// Two lines: one link has no session, and nobody connected.
+const ONE_UNSTARTED: &str = concat!(
+    "unstarted 1\n",
+    "hub counts joined=0 replaced=0 refused=0 unicasts=0 broadcasts=0 appended=0 dropped=0 full=0 missed=0\n",
+);
+
+/// The words of a run, the file `settings`, the script, which stands on standard input and in the file `script`, the calls
+/// that fail of the input and of the acceptor, how much the sink takes, and what the run comes to. A read gives 85 octets at
+/// most, and the first ends within the last line of a script. Three links arrive, and the second session isn't started.
 struct Case {
     words: &'static [&'static str],
+    settings: &'static str,
     script: &'static str,
-    reads: &'static [u64],
-    writes: &'static [u64],
+    failing: &'static [u64],
     room: usize,
     status: u8,
     text: &'static str,
@@ -47,132 +71,118 @@ struct Case {
 
 const REPLAY: &[&str] = &["replay"];
 
-const CASES: [Case; 14] = [
+const HUB: &[&str] = &["hub", "settings", "--sessions", "3"];
+
+const NODE: &[&str] = &["node", "settings", "script"];
+
+const CASES: [Case; 12] = [
     Case {
         words: REPLAY,
+        settings: "",
         script: SCRIPT,
-        reads: &[],
-        writes: &[],
+        failing: &[],
         room: 99,
         status: 0,
         text: "A silent C1\nA silent C1\n",
     },
     Case {
-        words: &[],
-        script: SCRIPT,
-        reads: &[],
-        writes: &[],
-        room: 99,
-        status: 1,
-        text: "fault words\n",
-    },
-    Case {
         words: &["check"],
+        settings: "",
         script: "hub connected 1600 0A000005 AA\n",
-        reads: &[],
-        writes: &[],
+        failing: &[],
         room: 99,
         status: 0,
         text: "nak C10c 000000050A010000070096\n",
     },
     Case {
+        words: HUB,
+        settings: SETTINGS,
+        script: "",
+        failing: &[],
+        room: 200,
+        status: 0,
+        text: ONE_UNSTARTED,
+    },
+    Case {
+        words: NODE,
+        settings: SETTINGS,
+        script: "at 50\nsend 02000000000A 0100\nat 2100\nfinish\n",
+        failing: &[],
+        room: 99,
+        status: 0,
+        text: "nopath 02000000000A\nfinished\n",
+    },
+    Case {
         words: &["replay", "replay"],
+        settings: "",
         script: SCRIPT,
-        reads: &[],
-        writes: &[],
+        failing: &[],
         room: 99,
         status: 1,
         text: "fault words\n",
     },
     Case {
-        words: &["judge"],
-        script: SCRIPT,
-        reads: &[],
-        writes: &[],
-        room: 8,
-        status: 4,
-        text: "fault wo",
-    },
-    Case {
         words: REPLAY,
+        settings: "",
         script: REFUSED,
-        reads: &[],
-        writes: &[],
+        failing: &[],
         room: 99,
         status: 2,
         text: "A silent C1\nfault script line 4\n",
     },
     Case {
         words: REPLAY,
-        script: "",
-        reads: &[],
-        writes: &[],
+        settings: "",
+        script: SCRIPT,
+        failing: &[2],
         room: 99,
-        status: 2,
-        text: "fault script line 1\n",
+        status: 3,
+        text: "A silent C1\nfault read\n",
     },
     Case {
-        words: REPLAY,
-        script: SCRIPT,
-        reads: &[1],
-        writes: &[],
+        words: &["node", "settings", "none"],
+        settings: SETTINGS,
+        script: "finish\n",
+        failing: &[],
         room: 99,
         status: 3,
         text: "fault read\n",
     },
     Case {
         words: REPLAY,
+        settings: "",
         script: SCRIPT,
-        reads: &[2],
-        writes: &[],
-        room: 99,
-        status: 3,
-        text: "A silent C1\nfault read\n",
-    },
-    Case {
-        words: REPLAY,
-        script: SCRIPT,
-        reads: &[],
-        writes: &[1],
-        room: 99,
-        status: 4,
-        text: "",
-    },
-    Case {
-        words: REPLAY,
-        script: SCRIPT,
-        reads: &[],
-        writes: &[],
+        failing: &[],
         room: 20,
         status: 4,
         text: "A silent C1\nA silent",
     },
     Case {
-        words: REPLAY,
-        script: REFUSED,
-        reads: &[],
-        writes: &[2],
+        words: HUB,
+        settings: "[hub]\n",
+        script: "",
+        failing: &[],
         room: 99,
-        status: 4,
-        text: "A silent C1\n",
+        status: 5,
+        text: "fault settings hub.vmac\n",
     },
     Case {
-        words: REPLAY,
-        script: REFUSED,
-        reads: &[],
-        writes: &[],
-        room: 31,
-        status: 4,
-        text: "A silent C1\nfault script line 4",
+        words: HUB,
+        settings: SETTINGS,
+        script: "",
+        failing: &[1],
+        room: 99,
+        status: 6,
+        text: "fault link\n",
     },
     Case {
-        words: REPLAY,
-        script: SCRIPT,
-        reads: &[2],
-        writes: &[],
-        room: 17,
-        status: 4,
-        text: "A silent C1\nfault",
+        words: NODE,
+        settings: SETTINGS,
+        script: "at 2101\nfinish\n",
+        failing: &[],
+        room: 99,
+        status: 8,
+        text: "fault turns\n",
     },
 ];
 
@@ -185,29 +195,57 @@ fn words_of(alloc: Global, words: &[&str]) -> Result<Vec<String>, NoMemory> {
     Ok(all)
 }
 
-/// Files by their paths and their texts.
-fn files_of(alloc: Global, files: &[(&str, &str)]) -> Result<Vec<MemFile>, NoMemory> {
-    let mut all = Vec::new(alloc);
-    for (path, text) in files {
-        all.push(MemFile {
-            path: Octets::from_vec(Vec::from_slice(alloc, path.as_bytes())?),
-            octets: Octets::from_vec(Vec::from_slice(alloc, text.as_bytes())?),
-        })?;
-    }
-    Ok(all)
+/// A file by its path and its text.
+fn file_of(alloc: Global, path: &str, text: &str) -> Result<MemFile, NoMemory> {
+    Ok(MemFile {
+        path: Octets::from_vec(Vec::from_slice(alloc, path.as_bytes())?),
+        octets: Octets::from_vec(Vec::from_slice(alloc, text.as_bytes())?),
+    })
 }
 
-/// The status of a run on these words over a source and a sink, without files or links.
-fn status_of<R: Threads + Wait + Sync>(
+/// The files `settings` and `script`.
+fn files_of(alloc: Global, settings: &str, script: &str) -> Result<MemFiles<'static>, NoMemory> {
+    let mut files = Vec::new(alloc);
+    files.push(file_of(alloc, "settings", settings)?)?;
+    files.push(file_of(alloc, "script", script)?)?;
+    Ok(MemFiles::new(files, &[]))
+}
+
+/// Three links that close at once.
+fn three_links(alloc: Global) -> Result<Vec<MemLink<'static>>, NoMemory> {
+    let mut links = Vec::new(alloc);
+    for _ in 0..3 {
+        links.push(MemLink::new(alloc, Vec::new(alloc), &[]))?;
+    }
+    Ok(links)
+}
+
+/// The status of a run on these words.
+fn status_of<
+    R: Threads + Wait + Sync,
+    F: Files,
+    C: Clock + Drop,
+    W: Words,
+    L: Link + Drop,
+    A: Acceptor<L>,
+    D: Dialer<L>,
+    P: Spawner<SessionJob<L, C>>,
+>(
     rt: &R,
     alloc: Global,
-    case: &Case,
+    words: &[&str],
+    source: &mut MemSource<'_>,
     sink: &mut MemSink<'_>,
-) -> Result<u8, NoMemory> {
-    let words = words_of(alloc, case.words)?;
-    let mut acceptor: MemAcceptor<'_, MemLink<'static>> = MemAcceptor::new(Vec::new(alloc), &[]);
-    let mut spawner: MemSpawner<'_, SessionJob<MemLink<'static>, MemClock<'static>>> =
-        MemSpawner::new(alloc, &[]);
+    files: &mut F,
+    clock: &mut C,
+    random: &mut W,
+    acceptor: &mut A,
+    dialer: &mut D,
+    spawner: &mut P,
+) -> Result<u8, NoMemory>
+    requires { P.can_start spawner.old }
+{
+    let words = words_of(alloc, words)?;
     let mut kept = Kept {
         hub: None,
         pass: None,
@@ -216,24 +254,50 @@ fn status_of<R: Threads + Wait + Sync>(
         rt,
         alloc,
         words.as_slice(),
-        &mut MemSource::in_pieces(case.script.as_bytes(), 85, case.reads),
+        source,
         sink,
-        &mut MemFiles::new(Vec::new(alloc), &[]),
-        &mut MemClock::new(alloc, &[]),
+        files,
+        clock,
+        random,
+        acceptor,
+        dialer,
+        spawner,
+        &mut kept,
+    ))
+}
+
+/// The status of a case, what is written going into the sink.
+fn status_in_memory<R: Threads + Wait + Sync>(
+    rt: &R,
+    alloc: Global,
+    case: &Case,
+    sink: &mut MemSink<'_>,
+) -> Result<u8, NoMemory> {
+    let mut spawner: MemSpawner<'_, SessionJob<MemLink<'static>, MemClock<'static>>> =
+        MemSpawner::new(alloc, &[2]);
+    let mut files = files_of(alloc, case.settings, case.script)?;
+    let mut acceptor = MemAcceptor::new(three_links(alloc)?, case.failing);
+    status_of(
+        rt,
+        alloc,
+        case.words,
+        &mut MemSource::in_pieces(case.script.as_bytes(), 85, case.failing),
+        sink,
+        &mut files,
+        &mut MemClock::new(alloc, READINGS),
         &mut MemWords::new(&[]),
         &mut acceptor,
         &mut MemDialer::new(alloc, Vec::new(alloc), &[]),
         &mut spawner,
-        &mut kept,
-    ))
+    )
 }
 
 #[test]
 fn ends_with_a_status(rt: HostRuntime) -> Result<(), Fail> {
     let alloc = rt.alloc();
     for (at, case) in CASES.iter().enumerate() {
-        let mut sink = MemSink::make(alloc, case.room, case.writes)?;
-        let status = status_of(&rt, alloc, case, &mut sink)?;
+        let mut sink = MemSink::make(alloc, case.room, &[])?;
+        let status = status_in_memory(&rt, alloc, case, &mut sink)?;
         assert_eq!(rt; status, case.status, "in row {at}");
         assert!(rt; sink.held() == case.text.as_bytes(), "in row {at}");
     }

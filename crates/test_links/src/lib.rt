@@ -9,8 +9,6 @@ mod edge;
 #[cfg(test)]
 mod gate;
 #[cfg(test)]
-mod links;
-#[cfg(test)]
 mod live;
 #[cfg(test)]
 mod pace;

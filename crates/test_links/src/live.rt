@@ -43,7 +43,18 @@ fn comes_back<R: Clock + Drop>(rt: &R, stream: &mut LiveStream<R>) -> bool {
     }
 }
 
-/// A ring before the sleep ends the next sleep, and octets are read as they are.
+/// Whether a write runs out of its time, where the peer reads nothing.
+fn runs_late<R: Clock + Drop>(stream: &mut LiveStream<R>) -> bool {
+    for _ in 0..100_000u32 {
+        if let Err(error) = stream.write(&[0u8; 4096]) {
+            return error.kind() == ErrorKind::TimedOut;
+        }
+    }
+    false
+}
+
+/// A ring before the sleep ends the next sleep, and octets are read as they are. What the peer doesn't read runs out of
+/// its time.
 #[test]
 fn a_ring_before_the_sleep_is_kept(rt: HostRuntime) -> Result<(), Fail> {
     let alloc = rt.alloc();
@@ -60,15 +71,7 @@ fn a_ring_before_the_sleep_is_kept(rt: HostRuntime) -> Result<(), Fail> {
     peer.write_all(b"octets")?;
     let mut into = [0u8; 8];
     assert_eq!(rt; stream.read(&mut into)?, 6);
-    // The peer reads nothing: what the system doesn't take runs out of its time.
-    let mut late = false;
-    for _ in 0..100_000u32 {
-        if let Err(error) = stream.write(&[0u8; 4096]) {
-            late = error.kind() == ErrorKind::TimedOut;
-            break;
-        }
-    }
-    assert!(rt; late);
+    assert!(rt; runs_late(&mut stream));
     Ok(())
 }
 

@@ -3,70 +3,60 @@ mod handshakes;
 
 use bsc_edge::{Incoming, Link, LinkFault, MemPatience};
 use bsc_ws::{StreamLink, limits};
-use std::alloc::{AllocError, Global};
+use std::alloc::Global;
 use std::cell::Cell;
 use std::io::{self, ErrorKind, Read, Write};
 use std::test::Fail;
 use tungstenite::{MaskKeys, Role, WebSocket};
 
-/// A peer as a stream in memory. It gives these octets up to a cut, then nothing once, then the rest and its end. It
-/// takes and keeps what is written while there is room, and then fails so.
+/// A peer as a stream in memory. It gives some octets, then nothing once where there are later ones, then these, and its
+/// end. Of what is written it takes the octets that it wants, and more behind them where it says so. It tells how many it
+/// still wants: none any more where it was given just them.
 #[derive(Drop)]
 struct Peer<'a> {
     gives: &'a [u8],
-    cut: Option<usize>,
-    room: usize,
-    full: ErrorKind,
-    alloc: Global,
-    written: &'a Cell<Vec<u8>>,
+    later: &'a [u8],
+    wants: &'a [u8],
+    takes_more: bool,
+    wanting: &'a Cell<usize>,
 }
 
-/// A peer that gives these octets at once, and takes all.
-fn peer_of<'a>(alloc: Global, gives: &'a [u8], written: &'a Cell<Vec<u8>>) -> Peer<'a> {
+/// A peer that gives these octets, cut by a time-out at this place, and wants just those.
+fn peer_of<'a>(gives: &'a [u8], cut: usize, wants: &'a [u8], wanting: &'a Cell<usize>) -> Peer<'a> {
+    wanting.set(wants.len());
+    let (gives, later) = gives.split_at(cut.min(gives.len()));
     Peer {
         gives,
-        cut: None,
-        room: usize::MAX,
-        full: ErrorKind::TimedOut,
-        alloc,
-        written,
+        later,
+        wants,
+        takes_more: false,
+        wanting,
     }
 }
 
 impl Read for Peer<'_> {
     fn read(&mut self, buf: &mut [u8]) -> io::Result<usize> {
-        let most = match self.cut {
-            Some(0) => {
-                self.cut = None;
-                return Err(io::Error::from(ErrorKind::WouldBlock));
-            }
-            Some(cut) => cut,
-            None => usize::MAX,
-        };
-        let n = self.gives.len().min(buf.len()).min(most);
-        let (now, later) = self.gives.split_at(n);
-        buf[..n].copy_from_slice(now);
-        self.gives = later;
-        if let Some(cut) = self.cut {
-            self.cut = Some(cut.saturating_sub(n));
+        if self.gives.is_empty() && !self.later.is_empty() {
+            self.gives = self.later;
+            self.later = &[];
+            return Err(io::Error::from(ErrorKind::WouldBlock));
         }
-        Ok(n)
+        self.gives.read(buf)
     }
 }
 
 impl Write for Peer<'_> {
     fn write(&mut self, buf: &[u8]) -> io::Result<usize> {
-        if self.room < buf.len() {
-            return Err(io::Error::from(self.full));
+        let n = self.wants.len().min(buf.len());
+        let (wanted, left) = self.wants.split_at(n);
+        let (taken, more) = buf.split_at(n);
+        if taken != wanted || !(more.is_empty() || self.takes_more) {
+            self.wanting.set(usize::MAX);
+            return Err(io::Error::from(ErrorKind::WouldBlock));
         }
-        self.room -= buf.len();
-        let mut written = self.written.replace(Vec::new(self.alloc));
-        let kept = written.extend_from_slice(buf);
-        self.written.set(written);
-        match kept {
-            Ok(()) => Ok(buf.len()),
-            Err(_) => Err(io::Error::from(ErrorKind::OutOfMemory)),
-        }
+        self.wants = left;
+        self.wanting.set(left.len());
+        Ok(buf.len())
     }
 
     fn flush(&mut self) -> io::Result<()> {
@@ -95,170 +85,188 @@ fn link_of(
     StreamLink::over(socket, MemPatience::new(alloc, &[]))
 }
 
-/// What a link answers, a letter or the octets a receive, until it is closed or fails.
-fn told<L: Link>(alloc: Global, link: &mut L) -> Result<Vec<u8>, AllocError> {
-    let mut letters = Vec::new(alloc);
+/// What a receive gave, a letter or the octets, and nothing for a Quiet.
+fn given(answer: &Result<Incoming, LinkFault>) -> &[u8] {
+    match answer {
+        Ok(Incoming::Message(m)) => m.as_slice(),
+        Ok(Incoming::Text) => b"T".as_slice(),
+        Ok(Incoming::Quiet) => &[],
+        Ok(Incoming::Closed) => b"C".as_slice(),
+        Err(_) => b"F".as_slice(),
+    }
+}
+
+/// What is left to be answered behind the next answer, if it begins so.
+fn left_of<'a, L: Link>(alloc: Global, link: &mut L, wanted: &'a [u8]) -> Option<&'a [u8]> {
+    let answer = link.receive(alloc, 20);
+    let octets = given(&answer);
+    if wanted.starts_with(octets) {
+        wanted.get(octets.len()..)
+    } else {
+        None
+    }
+}
+
+/// Whether this is what a link answers next.
+fn is_told<L: Link>(alloc: Global, link: &mut L, wanted: &[u8]) -> bool {
+    let mut wanted = wanted;
     for _ in 0..8 {
-        match link.receive(alloc, 20) {
-            Ok(Incoming::Message(m)) => letters.extend_from_slice(m.as_slice())?,
-            Ok(Incoming::Text) => letters.push(b'T')?,
-            Ok(Incoming::Quiet) => letters.push(b'Q')?,
-            Ok(Incoming::Closed) => {
-                letters.push(b'C')?;
-                return Ok(letters);
-            }
-            Err(_) => {
-                letters.push(b'F')?;
-                return Ok(letters);
-            }
+        match left_of(alloc, link, wanted) {
+            Some([]) => return true,
+            Some(left) => wanted = left,
+            None => return false,
         }
     }
-    Ok(letters)
+    false
 }
 
-/// A masked binary frame of 300 octets is the same message wherever a time-out cuts it, and a stream that ends there is a fault.
-#[test]
-fn a_frame_is_the_same_however_it_is_cut(rt: HostRuntime) -> Result<(), Fail> {
-    let alloc = rt.alloc();
-    let written = Cell::new(Vec::new(alloc));
-    let mask = [0x37, 0xFA, 0x21, 0x3D];
-    let mut body = Vec::new(alloc);
-    let mut frame = Vec::from_slice(alloc, &[0x82, 0xFE, 0x01, 0x2C, 0x37, 0xFA, 0x21, 0x3D])?;
-    for i in 0..300usize {
-        body.push((i % 251) as u8)?;
-        frame.push((i % 251) as u8 ^ mask[i % 4])?;
-    }
-    let mut quiet_first = Vec::from_slice(alloc, b"Q")?;
-    quiet_first.extend_from_slice(body.as_slice())?;
-    quiet_first.push(b'F')?;
-    for cut in 0..308 {
-        let mut stream = peer_of(alloc, frame.as_slice(), &written);
-        stream.cut = Some(cut);
-        let mut link = link_of(alloc, stream, Role::Server);
-        assert!(rt;
-            told(alloc, &mut link)?.as_slice() == quiet_first.as_slice(),
-            "{cut}"
-        );
-        let ended = peer_of(alloc, frame.as_slice().get(..cut).unwrap_or(&[]), &written);
-        let mut link = link_of(alloc, ended, Role::Server);
-        assert!(rt;
-            told(alloc, &mut link)?.as_slice() == b"F".as_slice(),
-            "{cut}"
-        );
-    }
-    Ok(())
-}
-
-/// The octets of a peer that are read in this role, the answers, and what is written.
-#[derive(Drop)]
-struct FrameRow {
+/// In which role the octets of a peer are read, these, the answers but for Quiets, and what is written.
+struct Row {
     role: Role,
     gives: &'static [u8],
     answers: &'static [u8],
     writes: &'static [u8],
 }
 
-/// The octets of a client, to which nothing is written.
-fn of_client(gives: &'static [u8], answers: &'static [u8]) -> FrameRow {
-    FrameRow {
+const ROWS: [Row; 12] = [
+    // The masked frame that the standard has for an example (RFC 6455, 5.7), as a text, and whole and cut short as a message.
+    Row {
         role: Role::Server,
-        gives,
-        answers,
+        gives: b"\x81\x85\x37\xFA\x21\x3D\x7F\x9F\x4D\x51\x58\x82\x85\x37\xFA\x21\x3D\x7F\x9F\x4D\x51\x58",
+        answers: b"THelloF",
         writes: b"",
-    }
+    },
+    Row {
+        role: Role::Server,
+        gives: b"\x82\x85\x37\xFA\x21\x3D\x7F\x9F\x4D\x51",
+        answers: b"F",
+        writes: b"",
+    },
+    // Fragments with a ping between them, a pong, and a close with and without a code.
+    Row {
+        role: Role::Server,
+        gives: b"\x02\x81\0\0\0\0a\x89\x81\0\0\0\0p\x80\x81\0\0\0\0b\x8A\x80\0\0\0\0\x88\x80\0\0\0\0",
+        answers: b"abC",
+        writes: b"\x8A\x01p\x88\0",
+    },
+    Row {
+        role: Role::Server,
+        gives: b"\x88\x82\0\0\0\0\x03\xE8",
+        answers: b"C",
+        writes: b"\x88\x02\x03\xE8",
+    },
+    // No mask, a reserved bit, a reserved operation, and a fragment of nothing.
+    Row {
+        role: Role::Server,
+        gives: b"\x82\x01m",
+        answers: b"F",
+        writes: b"",
+    },
+    Row {
+        role: Role::Server,
+        gives: b"\xC2\x81\0\0\0\0m",
+        answers: b"F",
+        writes: b"",
+    },
+    Row {
+        role: Role::Server,
+        gives: b"\x83\x81\0\0\0\0m",
+        answers: b"F",
+        writes: b"",
+    },
+    Row {
+        role: Role::Server,
+        gives: b"\x80\x81\0\0\0\0m",
+        answers: b"F",
+        writes: b"",
+    },
+    // One octet more than the greatest frame.
+    Row {
+        role: Role::Server,
+        gives: b"\x82\xFF\0\0\0\0\0\x02\0\x01\0\0\0\0",
+        answers: b"F",
+        writes: b"",
+    },
+    // The end without a close.
+    Row {
+        role: Role::Server,
+        gives: b"\x8A\x80\0\0\0\0",
+        answers: b"F",
+        writes: b"",
+    },
+    // Of a server, without a mask and with one.
+    Row {
+        role: Role::Client,
+        gives: b"\x82\x01m",
+        answers: b"mF",
+        writes: b"",
+    },
+    Row {
+        role: Role::Client,
+        gives: b"\x82\x81\0\0\0\0m",
+        answers: b"F",
+        writes: b"",
+    },
+];
+
+/// Whether a row is so where a time-out cuts its octets here.
+fn is_so(alloc: Global, row: &Row, cut: usize) -> bool {
+    let wanting = Cell::new(0);
+    let mut link = link_of(
+        alloc,
+        peer_of(row.gives, cut, row.writes, &wanting),
+        row.role,
+    );
+    is_told(alloc, &mut link, row.answers) && wanting.get() == 0
 }
 
-/// Frames of clients and of servers, with the answers and the replies.
+/// Frames of clients and of servers, with the answers and the replies, wherever a time-out cuts them.
 #[test]
 fn frames(rt: HostRuntime) -> Result<(), Fail> {
     let alloc = rt.alloc();
-    let rows = [
-        // Fragments with a ping between them, a pong, and a close with and without a code.
-        FrameRow {
-            role: Role::Server,
-            gives: b"\x02\x81\0\0\0\0a\x89\x81\0\0\0\0p\x80\x81\0\0\0\0b\x8A\x80\0\0\0\0\x88\x80\0\0\0\0",
-            answers: b"QabQC",
-            writes: b"\x8A\x01p\x88\0",
-        },
-        FrameRow {
-            role: Role::Server,
-            gives: b"\x88\x82\0\0\0\0\x03\xE8",
-            answers: b"C",
-            writes: b"\x88\x02\x03\xE8",
-        },
-        of_client(b"\x81\x81\0\0\0\0t\x82\x81\0\0\0\0m", b"TmF"),
-        // No mask, a reserved bit, a reserved operation, and a fragment of nothing.
-        of_client(b"\x82\x01m", b"F"),
-        of_client(b"\xC2\x81\0\0\0\0m", b"F"),
-        of_client(b"\x83\x81\0\0\0\0m", b"F"),
-        of_client(b"\x80\x81\0\0\0\0m", b"F"),
-        // One octet more than the greatest frame.
-        of_client(b"\x82\xFF\0\0\0\0\0\x02\0\x01\0\0\0\0", b"F"),
-        // Of a server, without a mask and with one.
-        FrameRow {
-            role: Role::Client,
-            gives: b"\x82\x01m",
-            answers: b"mF",
-            writes: b"",
-        },
-        FrameRow {
-            role: Role::Client,
-            gives: b"\x82\x81\0\0\0\0m",
-            answers: b"F",
-            writes: b"",
-        },
-    ];
-    for row in &rows {
-        let written = Cell::new(Vec::new(alloc));
-        let mut link = link_of(alloc, peer_of(alloc, row.gives, &written), row.role);
-        assert!(rt; told(alloc, &mut link)?.as_slice() == row.answers);
-        assert!(rt; written.replace(Vec::new(alloc)).as_slice() == row.writes);
+    for (at, row) in ROWS.iter().enumerate() {
+        for cut in 0..row.gives.len() {
+            assert!(rt; is_so(alloc, row, cut), "in row {at}, cut at {cut}");
+        }
     }
     Ok(())
 }
 
-/// What a put and a closing write in this role.
-#[derive(Drop)]
-struct PutRow {
-    role: Role,
-    writes: &'static [u8],
+/// Whether a put and a closing write just this in this role, and a put behind them is a fault.
+fn puts(alloc: Global, role: Role, writes: &[u8]) -> bool {
+    let wanting = Cell::new(0);
+    let mut link = link_of(alloc, peer_of(&[], 0, writes, &wanting), role);
+    let is_put = link.put(alloc, b"abc").is_ok();
+    let is_closed = link.close(alloc, 1008, "idle").is_ok();
+    let is_written = wanting.get() == 0;
+    is_put && is_closed && is_written && link.put(alloc, b"abc") == Err(LinkFault::Failed)
 }
 
-/// A client masks what it puts, and a server doesn't. What the peer doesn't take is a fault.
+/// A client masks what it puts, and a server doesn't.
 #[test]
-fn puts(rt: HostRuntime) -> Result<(), Fail> {
+fn puts_and_closings(rt: HostRuntime) -> Result<(), Fail> {
     let alloc = rt.alloc();
-    let rows = [
-        PutRow {
-            role: Role::Server,
-            writes: b"\x82\x03abc\x88\x06\x03\xF0idle",
-        },
-        PutRow {
-            role: Role::Client,
-            writes: b"\x82\x83\x01\x02\x03\x04```\x88\x86\x01\x02\x03\x04\x02\xF2j`mg",
-        },
-    ];
-    for row in &rows {
-        let written = Cell::new(Vec::new(alloc));
-        let room = row.writes.len();
-        let mut stream = peer_of(alloc, b"", &written);
-        stream.room = room;
-        let mut link = link_of(alloc, stream, row.role);
-        assert_eq!(rt; link.put(alloc, b"abc"), Ok(()));
-        assert_eq!(rt; link.put(alloc, &[0; 64]), Err(LinkFault::Failed));
-        let mut link = link_of(alloc, peer_of(alloc, b"", &written), row.role);
-        assert_eq!(rt; link.close(alloc, 1008, "idle"), Ok(()));
-        assert_eq!(rt; link.put(alloc, b"abc"), Err(LinkFault::Failed));
-        assert!(rt; written.replace(Vec::new(alloc)).as_slice() == row.writes);
-    }
+    assert!(rt; puts(alloc, Role::Server, b"\x82\x03abc\x88\x06\x03\xF0idle"));
+    let masked = b"\x82\x83\x01\x02\x03\x04```\x88\x86\x01\x02\x03\x04\x02\xF2j`mg";
+    assert!(rt; puts(alloc, Role::Client, masked));
     Ok(())
 }
 
-/// A peer that sends pings and takes no replies is read no further once the replies that wait are as many as they may be.
+/// Whether a link gives nothing, so often.
+fn stays_quiet<L: Link>(alloc: Global, link: &mut L, times: u64) -> bool {
+    for _ in 0..times {
+        if !matches!(link.receive(alloc, 20), Ok(Incoming::Quiet)) {
+            return false;
+        }
+    }
+    true
+}
+
+/// A put that the peer doesn't take is a fault. A peer that sends pings and takes no replies is read no further once the
+/// replies that wait are as many as they may be.
 #[test]
 fn what_waits_is_bounded(rt: HostRuntime) -> Result<(), Fail> {
     let alloc = rt.alloc();
-    let written = Cell::new(Vec::new(alloc));
     let mut ping = [0; 131];
     ping[0] = 0x89;
     ping[1] = 0xFD;
@@ -266,13 +274,14 @@ fn what_waits_is_bounded(rt: HostRuntime) -> Result<(), Fail> {
     for _ in 0..2_200 {
         pings.extend_from_slice(&ping)?;
     }
-    let mut stream = peer_of(alloc, pings.as_slice(), &written);
-    stream.room = 0;
-    stream.full = ErrorKind::WouldBlock;
-    let mut link = link_of(alloc, stream, Role::Server);
+    let wanting = Cell::new(0);
+    let mut link = link_of(
+        alloc,
+        peer_of(pings.as_slice(), 0, &[], &wanting),
+        Role::Server,
+    );
+    assert_eq!(rt; link.put(alloc, b"abc"), Err(LinkFault::Failed));
     // The replies to 2,200 pings are 279,400 octets. Were all read, the stream's end would be a fault.
-    for _ in 0..2_300 {
-        assert!(rt; matches!(link.receive(alloc, 20), Ok(Incoming::Quiet)));
-    }
+    assert!(rt; stays_quiet(alloc, &mut link, 2_300));
     Ok(())
 }

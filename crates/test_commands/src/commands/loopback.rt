@@ -1,19 +1,19 @@
 //! A hub over loopback, met by two nodes whose WebSocket (RFC 6455) is written here by hand.
-use crate::commands::process::{Process, ends_so};
+use crate::commands::process::{Process, ends_well, free_port};
 use bsc_edge::Kind;
-use bsc_octets::NoMemory;
 use std::alloc::Global;
-use std::io::{self, Eprint, ErrorKind, Read, Write};
-use std::net::{Ipv4Addr, Net, SocketAddr, TcpListener, TcpStream};
-use std::random::RandomSource;
-use std::sync::Wait;
+use std::io::{self, ErrorKind, Read, Write};
+use std::net::{Ipv4Addr, SocketAddr, TcpStream};
 use std::test::*;
-use std::thread::{self, Threads};
-use std::time::{Clock, Duration};
+use std::thread;
+use std::time::Duration;
 
 /// A handshake with the key that the standard has for an example (RFC 6455, 1.3).
-const HANDSHAKE: &[u8] =
-    b"GET / HTTP/1.1\r\nHost: localhost\r\nUpgrade: websocket\r\nConnection: Upgrade\r\nSec-WebSocket-Key: dGhlIHNhbXBsZSBub25jZQ==\r\nSec-WebSocket-Version: 13\r\nSec-WebSocket-Protocol: hub.bsc.bacnet.org\r\n\r\n";
+const HANDSHAKE: &str = concat!(
+    "GET / HTTP/1.1\r\nHost: localhost\r\nUpgrade: websocket\r\nConnection: Upgrade\r\n",
+    "Sec-WebSocket-Key: dGhlIHNhbXBsZSBub25jZQ==\r\nSec-WebSocket-Version: 13\r\n",
+    "Sec-WebSocket-Protocol: hub.bsc.bacnet.org\r\n\r\n",
+);
 
 /// What the answer to it has among its lines: the standard's answer to that key, and the sub-protocol.
 const AGREED: [&str; 3] = [
@@ -30,9 +30,66 @@ const BINARY: u8 = 0x82;
 
 const CLOSE: u8 = 0x88;
 
-/// What the hub writes at its end: two joined, and each sent the other a message.
-const COUNTS: &str =
-    "hub counts joined=2 replaced=0 refused=0 unicasts=1 broadcasts=1 appended=2 dropped=0 full=0 missed=0\n";
+/// A node's end of a WebSocket over this stream.
+fn shake_hands(alloc: Global, stream: &mut TcpStream) -> io::Result<bool> {
+    stream.set_read_timeout(Some(Duration::from_secs(60)))?;
+    stream.write_all(HANDSHAKE.as_bytes())?;
+    let mut head = String::new(alloc);
+    let mut octet = [0u8; 1];
+    for _ in 0..1_000 {
+        stream.read_exact(&mut octet)?;
+        head.push(char::from(octet[0]))?;
+        if head.ends_with("\r\n\r\n") {
+            break;
+        }
+    }
+    Ok(AGREED.iter().all(|line| head.contains(*line)))
+}
+
+/// A stream to the hub at this port, once it is bound.
+fn open(rt: &HostRuntime, port: u16) -> io::Result<TcpStream> {
+    let at = SocketAddr::from((Ipv4Addr::LOCALHOST, port));
+    for _ in 0..3_000 {
+        if let Ok(stream) = TcpStream::connect(rt, at) {
+            return Ok(stream);
+        }
+        thread::sleep(rt, Duration::from_millis(10));
+    }
+    Err(io::Error::from(ErrorKind::TimedOut))
+}
+
+/// Sends a frame of at most 125 octets, which a client masks.
+fn say(stream: &mut TcpStream, first: u8, octets: &[u8]) -> io::Result<()> {
+    let length = octets.len();
+    if length > 125 {
+        return Err(io::Error::from(ErrorKind::InvalidInput));
+    }
+    let mut frame = [0u8; 131];
+    frame[0] = first;
+    frame[1] = 0x80 | length as u8;
+    frame[2..6].copy_from_slice(&MASK);
+    frame[6..6 + length].copy_from_slice(octets);
+    for at in 0..length {
+        frame[6 + at] ^= MASK[at % 4];
+    }
+    stream.write_all(&frame[..6 + length])
+}
+
+/// Whether the next frame is this, of at most 125 octets, which a server doesn't mask.
+fn hears(stream: &mut TcpStream, first: u8, octets: &[u8]) -> io::Result<bool> {
+    let length = octets.len();
+    if length > 125 {
+        return Err(io::Error::from(ErrorKind::InvalidInput));
+    }
+    let mut head = [0u8; 2];
+    stream.read_exact(&mut head)?;
+    if head != [first, length as u8] {
+        return Ok(false);
+    }
+    let mut came = [0u8; 125];
+    stream.read_exact(&mut came[..length])?;
+    Ok(&came[..length] == octets)
+}
 
 /// Whether a read found the end of a stream. Where the hub's socket goes before the node's answer to a close was read, the
 /// stream is reset.
@@ -43,139 +100,99 @@ fn is_end(read: io::Result<usize>) -> bool {
     }
 }
 
-/// A node's end of a WebSocket.
-#[derive(Drop)]
-struct Node {
-    alloc: Global,
-    stream: TcpStream,
+/// Whether a node that asks to disconnect gets its answer and a close with 1000, and then the stream ends.
+fn leaves(stream: &mut TcpStream) -> io::Result<bool> {
+    say(stream, BINARY, b"\x08\0\0\x04")?;
+    if !hears(stream, BINARY, b"\x09\0\0\x04")? || !hears(stream, CLOSE, b"\x03\xE8")? {
+        return Ok(false);
+    }
+    say(stream, CLOSE, b"\x03\xE8")?;
+    Ok(is_end(stream.read(&mut [0u8; 1])))
 }
 
-impl Node {
-    /// A link to the hub at this port, once it is bound.
-    fn open(rt: &HostRuntime, alloc: Global, port: u16) -> io::Result<Node> {
-        let at = SocketAddr::from((Ipv4Addr::LOCALHOST, port));
-        for _ in 0..3_000 {
-            if let Ok(stream) = TcpStream::connect(rt, at) {
-                return Node::shake_hands(alloc, stream);
-            }
-            thread::sleep(rt, Duration::from_millis(10));
-        }
-        Err(io::Error::from(ErrorKind::TimedOut))
-    }
+/// What one of two nodes says, and what one of them hears then.
+struct Exchange {
+    from: usize,
+    said: &'static [u8],
+    to: usize,
+    heard: &'static [u8],
+}
 
-    /// The link over this stream.
-    fn shake_hands(alloc: Global, mut stream: TcpStream) -> io::Result<Node> {
-        stream.set_read_timeout(Some(Duration::from_secs(60)))?;
-        stream.write_all(HANDSHAKE)?;
-        let mut head = String::new(alloc);
-        let mut octet = [0u8; 1];
-        for _ in 0..1_000 {
-            stream.read_exact(&mut octet)?;
-            head.push(char::from(octet[0]))?;
-            if head.ends_with("\r\n\r\n") {
-                break;
-            }
-        }
-        if AGREED.iter().all(|line| head.contains(*line)) {
-            Ok(Node { alloc, stream })
-        } else {
-            Err(io::Error::from(ErrorKind::InvalidData))
-        }
-    }
+const EXCHANGES: [Exchange; 4] = [
+    Exchange {
+        from: 0,
+        said: b"\x06\0\0\x01\x02\0\0\0\0\x0Athe first node's\x06\x40\x05\xD9",
+        to: 0,
+        heard: b"\x07\0\0\x01\x02\0\0\0\0\xFF\0\x11\x22\x33\x44\x55\x66\x77\x88\x99\xAA\xBB\xCC\xDD\xEE\xFF\x40\0\x05\xD9",
+    },
+    Exchange {
+        from: 1,
+        said: b"\x06\0\0\x01\x02\0\0\0\0\x0Bthe other node's\x06\x40\x05\xD9",
+        to: 1,
+        heard: b"\x07\0\0\x01\x02\0\0\0\0\xFF\0\x11\x22\x33\x44\x55\x66\x77\x88\x99\xAA\xBB\xCC\xDD\xEE\xFF\x40\0\x05\xD9",
+    },
+    // A unicast, and a broadcast.
+    Exchange {
+        from: 0,
+        said: b"\x01\x04\0\x02\x02\0\0\0\0\x0B\x01\x20\xFF\xFF\0\xFF\x10\x08",
+        to: 1,
+        heard: b"\x01\x08\0\x02\x02\0\0\0\0\x0A\x01\x20\xFF\xFF\0\xFF\x10\x08",
+    },
+    Exchange {
+        from: 1,
+        said: b"\x01\x04\0\x03\xFF\xFF\xFF\xFF\xFF\xFF\x01\x20\xFF\xFF\0\xFF\x10\x08",
+        to: 0,
+        heard: b"\x01\x0C\0\x03\x02\0\0\0\0\x0B\xFF\xFF\xFF\xFF\xFF\xFF\x01\x20\xFF\xFF\0\xFF\x10\x08",
+    },
+];
 
-    /// Sends a frame of at most 125 octets, which a client masks.
-    fn put(&mut self, first: u8, octets: &[u8]) -> io::Result<()> {
-        if octets.len() > 125 {
-            return Err(io::Error::from(ErrorKind::InvalidInput));
-        }
-        let mut frame = Vec::from_slice(self.alloc, &[first, 0x80 | octets.len() as u8])?;
-        frame.extend_from_slice(&MASK)?;
-        for (at, octet) in octets.iter().enumerate() {
-            frame.push(*octet ^ MASK[at % 4])?;
-        }
-        self.stream.write_all(frame.as_slice())
+/// Whether this passes between the nodes.
+fn passes(exchange: &Exchange, nodes: &mut [TcpStream; 2]) -> io::Result<bool> {
+    if let Some(from) = nodes.get_mut(exchange.from) {
+        say(from, BINARY, exchange.said)?;
     }
-
-    /// What the next frame has, if it begins so and has at most 125 octets, which a server doesn't mask.
-    fn take(&mut self, first: u8) -> io::Result<Vec<u8>> {
-        let mut head = [0u8; 2];
-        self.stream.read_exact(&mut head)?;
-        if head[0] != first || head[1] > 125 {
-            return Err(io::Error::from(ErrorKind::InvalidData));
-        }
-        let mut octets = vec![in self.alloc; 0u8; usize::from(head[1])]?;
-        self.stream.read_exact(octets.as_mut_slice())?;
-        Ok(octets)
-    }
-
-    /// Sends a message.
-    fn says(&mut self, digits: &str) -> io::Result<()> {
-        match hex::decode(self.alloc, digits) {
-            Ok(octets) => self.put(BINARY, octets.as_slice()),
-            Err(_) => Err(io::Error::from(ErrorKind::InvalidInput)),
-        }
-    }
-
-    /// Whether the next frame is this message.
-    fn hears(&mut self, digits: &str) -> io::Result<bool> {
-        let octets = self.take(BINARY)?;
-        match hex::encode_upper(self.alloc, octets.as_slice()) {
-            Ok(text) => Ok(text.as_str() == digits),
-            Err(_) => Err(io::Error::from(ErrorKind::OutOfMemory)),
-        }
-    }
-
-    /// Whether the next frame is a close with 1000, which is answered, and then the stream ends.
-    fn ends(&mut self) -> io::Result<bool> {
-        let code = self.take(CLOSE)?;
-        self.put(CLOSE, &[0x03, 0xE8])?;
-        let is_over = is_end(self.stream.read(&mut [0u8; 1]));
-        Ok(code.as_slice() == [0x03u8, 0xE8].as_slice() && is_over)
+    match nodes.get_mut(exchange.to) {
+        Some(to) => hears(to, BINARY, exchange.heard),
+        None => Ok(false),
     }
 }
 
 /// Whether two nodes join the hub at this port, send each other a unicast and a broadcast, and leave.
 fn meet(rt: HostRuntime, alloc: Global, port: u16) -> io::Result<bool> {
-    let mut a = Node::open(&rt, alloc, port)?;
-    a.says("0600000102000000000AAAAAAAAAAAAAAAAAAAAAAAAAAAAAAAAA064005D9")?;
-    let a_joined = a.hears("070000010200000000FF00112233445566778899AABBCCDDEEFF400005D9")?;
-    let mut b = Node::open(&rt, alloc, port)?;
-    b.says("0600000102000000000BBBBBBBBBBBBBBBBBBBBBBBBBBBBBBBBB064005D9")?;
-    let b_joined = b.hears("070000010200000000FF00112233445566778899AABBCCDDEEFF400005D9")?;
-    a.says("0104000202000000000B0120FFFF00FF1008")?;
-    let unicast = b.hears("0108000202000000000A0120FFFF00FF1008")?;
-    b.says("01040003FFFFFFFFFFFF0120FFFF00FF1008")?;
-    let broadcast = a.hears("010C000302000000000BFFFFFFFFFFFF0120FFFF00FF1008")?;
-    a.says("08000004")?;
-    let a_left = a.hears("09000004")? && a.ends()?;
-    b.says("08000005")?;
-    let b_left = b.hears("09000005")? && b.ends()?;
-    Ok(a_joined && b_joined && unicast && broadcast && a_left && b_left)
+    let first = open(&rt, port)?;
+    let other = open(&rt, port)?;
+    let mut nodes = [first, other];
+    for node in nodes.iter_mut() {
+        if !shake_hands(alloc, node)? {
+            return Ok(false);
+        }
+    }
+    for exchange in EXCHANGES.iter() {
+        if !passes(exchange, &mut nodes)? {
+            return Ok(false);
+        }
+    }
+    for node in nodes.iter_mut() {
+        if !leaves(node)? {
+            return Ok(false);
+        }
+    }
+    Ok(true)
 }
 
-/// Whether a hub that serves two links at this port ends with status 0, and with these counts.
-fn serves<
-    R: Clock + Net + RandomSource + Threads + Wait + Eprint + Copy + Send + Sync + Drop + 'static,
->(rt: R, alloc: Global, port: u16) -> Result<bool, NoMemory> {
-    let settings = format!(in alloc;
-        "[hub]\nvmac = \"0200000000FF\"\nuuid = \"00112233-4455-6677-8899-aabbccddeeff\"\nport = {port}\n"
-    )?;
-    let hub = Process {
-        words: &["hub", "hub.toml", "--sessions", "2"],
-        files: &[("hub.toml", settings.as_str())],
-        kind: Kind::Hub,
-        accepts_ms: 60_000,
-        status: 0,
-        written: COUNTS,
-    };
-    ends_so(rt, alloc, &hub)
-}
+/// What the hub writes at its end: two joined, and each sent the other a message.
+const COUNTS: &str =
+    "hub counts joined=2 replaced=0 refused=0 unicasts=1 broadcasts=1 appended=2 dropped=0 full=0 missed=0\n";
 
-/// A port at which nothing listens.
-pub(crate) fn free_port(rt: &HostRuntime) -> io::Result<u16> {
-    let listener = TcpListener::bind(rt, SocketAddr::from((Ipv4Addr::LOCALHOST, 0)))?;
-    Ok(listener.local_addr()?.port())
-}
+/// A hub that serves two links.
+const HUB: Process = Process {
+    words: &["hub", "settings", "--sessions", "2"],
+    node: "vmac = \"02000000000A\"\nuuid = \"11111111-2222-3333-4444-555555555555\"\n",
+    script: "",
+    kind: Kind::Hub,
+    begins: COUNTS,
+    ends: COUNTS,
+};
 
 #[test]
 fn two_nodes_meet_at_a_hub(rt: HostRuntime) -> Result<(), Fail> {
@@ -183,7 +200,7 @@ fn two_nodes_meet_at_a_hub(rt: HostRuntime) -> Result<(), Fail> {
     let port = free_port(&rt)?;
     let (served, met) = thread::join(
         &rt,
-        move || -> bool { serves(rt, alloc, port) == Ok(true) },
+        move || -> bool { ends_well(rt, alloc, &HUB, port, port) == Ok(true) },
         move || -> bool {
             match meet(rt, alloc, port) {
                 Ok(met) => met,
