@@ -1,116 +1,119 @@
 //! The verdicts on messages that were worked by hand.
 mod rows;
 
-use crate::words::{octets_of, words_of};
-use bsc_checks::{Check, Place, Verdict, judge};
-use bsc_octets::{NoMemory, Vmac};
-use rows::{FUNCTIONS, OWN, PAYLOADS, PEER, PORT, VERDICTS};
+use crate::words::{RowOctets, is_called};
+use bsc_checks::{Check, Phase, Place, Verdict, judge};
+use bsc_octets::NoMemory;
+use rows::{FUNCTIONS, LONGEST, MESSAGES, OWN, PEER, PORT, VERDICTS};
 use std::alloc::Global;
-use std::test::*;
 
 /// The longest message that is taken.
 const MAX: u16 = 1600;
 
+/// Whether octets have the verdict of these words.
+fn is_judged(alloc: Global, place: &Place, m: &[u8], words: &str) -> bool {
+    match judge(alloc, m, place, MAX) {
+        Ok(verdict) => is_called(&verdict, words),
+        Err(_) => false,
+    }
+}
+
+#[test]
+fn verdicts(rt: HostRuntime) {
+    for (place, digits, words) in VERDICTS.iter() {
+        let is_right = match RowOctets::of(digits) {
+            Some(row) => is_judged(rt.alloc(), place, row.as_slice(), words),
+            None => false,
+        };
+        assert!(rt; is_right, "{digits}: {words}");
+    }
+}
+
 /// A verdict in a letter, as the table of functions has them.
-fn letter_of(verdict: &Verdict) -> char {
+fn letter_of(verdict: &Verdict) -> u8 {
     match verdict {
-        Verdict::Pass(_) => 'P',
-        Verdict::Silent(Check::C13) => '.',
-        Verdict::Nak(Check::C12, _) => 'V',
-        Verdict::Nak(Check::C6, _) => 'U',
-        _ => '?',
+        Verdict::Pass(_) => b'P',
+        Verdict::Silent(Check::C13) => b'.',
+        Verdict::Nak(Check::C12, _) => b'V',
+        Verdict::Nak(Check::C6, _) => b'U',
+        _ => b'?',
     }
 }
 
-/// A whole message with this function. To a node its hub gives the sender, but of the connection itself.
-fn message_of(alloc: Global, place: &Place, function: u8, payload: &str) -> Result<Vec<u8>, Fail> {
-    let passed_on = matches!(place, Place::NodeHub { .. })
-        && !matches!(function, 0x00 | 0x06..=0x0B);
-    let flags = if passed_on { 0x08 } else { 0x00 };
-    let mut m = Vec::from_slice(alloc, &[function, flags, 0x00, 0x01])?;
-    if passed_on {
-        m.extend_from_slice(&PEER.0)?;
+/// The letter of the verdict on octets.
+fn letter_at(alloc: Global, place: &Place, m: &[u8]) -> u8 {
+    match judge(alloc, m, place, MAX) {
+        Ok(verdict) => letter_of(&verdict),
+        Err(_) => b'?',
     }
-    m.extend_from_slice(octets_of(alloc, payload)?.as_slice())?;
-    Ok(m)
 }
 
-/// The letters of all functions at a place.
-fn letters_at(alloc: Global, place: &Place) -> Result<String, Fail> {
-    let mut letters = String::new(alloc);
-    let mut function = 0u8;
-    for payload in PAYLOADS {
-        let m = message_of(alloc, place, function, payload)?;
-        letters.push(letter_of(&judge(alloc, m.as_slice(), place, MAX)?))?;
-        function = function.saturating_add(1);
+/// Whether the verdicts on the messages of all functions have these letters.
+fn are_letters(alloc: Global, place: &Place, letters: &str) -> bool {
+    let passed_on = matches!(place, Place::NodeHub { .. });
+    for ((put, received), letter) in MESSAGES.iter().zip(letters.bytes()) {
+        let digits = if passed_on { received } else { put };
+        let found = match RowOctets::of(digits) {
+            Some(row) => letter_at(alloc, place, row.as_slice()),
+            None => b'?',
+        };
+        if found != letter {
+            return false;
+        }
     }
-    Ok(letters)
+    letters.len() == MESSAGES.len()
 }
 
-#[test]
-fn verdicts(rt: HostRuntime) -> Result<(), Fail> {
-    for (place, digits, wanted) in VERDICTS {
-        let m = octets_of(rt.alloc(), digits)?;
-        let verdict = judge(rt.alloc(), m.as_slice(), &place, MAX)?;
-        assert_eq!(rt;
-            words_of(rt.alloc(), &verdict)?.as_str(),
-            wanted,
-            "{digits}"
-        );
-    }
-    Ok(())
-}
-
-#[test]
-fn functions(rt: HostRuntime) -> Result<(), Fail> {
-    for (phase, letters) in FUNCTIONS {
-        let places = [
-            Place::HubPort { phase },
-            Place::NodeHub { own: OWN, phase },
-            Place::NodeDirect {
-                own: OWN,
-                peer: Some(PEER),
-                phase,
-            },
-            Place::NodeDirect {
-                own: OWN,
+/// Whether the verdicts have these letters at the four places.
+fn are_letters_at_all_places(alloc: Global, phase: Phase, letters: &[&str; 4]) -> bool {
+    let own = OWN;
+    let [port, hub, known, unknown] = letters;
+    let peer = Some(PEER);
+    are_letters(alloc, &Place::HubPort { phase }, port)
+        && are_letters(alloc, &Place::NodeHub { own, phase }, hub)
+        && are_letters(alloc, &Place::NodeDirect { own, peer, phase }, known)
+        && are_letters(
+            alloc,
+            &Place::NodeDirect {
+                own,
                 peer: None,
                 phase,
             },
-        ];
-        for (place, wanted) in places.iter().zip(letters.iter()) {
-            assert_eq!(rt;
-                letters_at(rt.alloc(), place)?.as_str(),
-                *wanted,
-                "{place:?}"
-            );
-        }
-    }
-    Ok(())
+            unknown,
+        )
 }
 
-/// A message to a node with so many octets in all.
-fn long_message(alloc: Global, to: Vmac, length: usize) -> Result<Vec<u8>, NoMemory> {
-    let mut m = Vec::from_slice(alloc, &[0x01, 0x04, 0x00, 0x02])?;
-    m.extend_from_slice(&to.0)?;
+#[test]
+fn functions(rt: HostRuntime) {
+    for (phase, letters) in FUNCTIONS.iter() {
+        assert!(rt;
+            are_letters_at_all_places(rt.alloc(), *phase, letters),
+            "{phase:?}"
+        );
+    }
+}
+
+/// A message with this head and so many octets in all.
+fn long_message(alloc: Global, head: &[u8], length: usize) -> Result<Vec<u8>, NoMemory> {
+    let mut m = Vec::from_slice(alloc, head)?;
     m.resize(length, 0x01)?;
     Ok(m)
 }
 
+/// Whether a message of so many octets has the verdict of these words.
+fn is_judged_by_length(alloc: Global, head: &[u8], length: usize, words: &str) -> bool {
+    match long_message(alloc, head, length) {
+        Ok(m) => is_judged(alloc, &PORT, m.as_slice(), words),
+        Err(_) => false,
+    }
+}
+
 #[test]
-fn longest(rt: HostRuntime) -> Result<(), Fail> {
-    for (to, length, wanted) in [
-        (Vmac::BROADCAST, 1600, "carry"),
-        (Vmac::BROADCAST, 1601, "silent C2"),
-        (OWN, 1600, "carry"),
-    ] {
-        let m = long_message(rt.alloc(), to, length)?;
-        let verdict = judge(rt.alloc(), m.as_slice(), &PORT, MAX)?;
-        assert_eq!(rt;
-            words_of(rt.alloc(), &verdict)?.as_str(),
-            wanted,
-            "{length}"
+fn longest(rt: HostRuntime) {
+    for (head, length, words) in LONGEST.iter() {
+        assert!(rt;
+            is_judged_by_length(rt.alloc(), head, *length, words),
+            "{length}: {words}"
         );
     }
-    Ok(())
 }

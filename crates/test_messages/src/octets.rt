@@ -66,14 +66,19 @@ fn passed_on(alloc: Global, m: &[u8], from: Vmac) -> Result<Option<Octets>, NoMe
     Ok(Some(forwarded(alloc, m, from)?))
 }
 
+/// Whether the hub passes octets of the sender on as these.
+fn is_passed_on(alloc: Global, m: &[u8], wanted: &[u8]) -> bool {
+    match passed_on(alloc, m, SENDER) {
+        Ok(Some(octets)) => octets.as_slice() == wanted,
+        _ => false,
+    }
+}
+
 #[test]
-fn passes_on(rt: HostRuntime) -> Result<(), Fail> {
-    let unicast = passed_on(rt.alloc(), &UNICAST, SENDER)?.ok_or("a unicast is passed on")?;
-    assert_eq!(rt; unicast.as_slice(), UNICAST_OUT.as_slice());
-    let broadcast = passed_on(rt.alloc(), &BROADCAST, SENDER)?.ok_or("a broadcast is passed on")?;
-    assert_eq!(rt; broadcast.as_slice(), BROADCAST_OUT.as_slice());
-    assert!(rt; passed_on(rt.alloc(), &UNICAST_OUT, SENDER)?.is_none());
-    Ok(())
+fn passes_on(rt: HostRuntime) {
+    assert!(rt; is_passed_on(rt.alloc(), &UNICAST, &UNICAST_OUT));
+    assert!(rt; is_passed_on(rt.alloc(), &BROADCAST, &BROADCAST_OUT));
+    assert!(rt; matches!(passed_on(rt.alloc(), &UNICAST_OUT, SENDER), Ok(None)));
 }
 
 #[test]
@@ -109,9 +114,8 @@ fn random_addresses(rt: HostRuntime) {
 fn owns_octets(rt: HostRuntime) -> Result<(), Fail> {
     let octets = Octets::from_vec(Vec::from_slice(rt.alloc(), &UNICAST)?);
     let copy = octets.copy(rt.alloc())?;
-    assert_eq!(rt; copy.len(), 18);
-    assert!(rt; !copy.is_empty());
-    assert_eq!(rt; copy.into_vec().as_slice(), octets.as_slice());
+    assert!(rt; copy.len() == 18 && !copy.is_empty());
+    assert_eq!(rt; copy.into_vec().as_slice(), UNICAST.as_slice());
     Ok(())
 }
 

@@ -3,7 +3,7 @@ ghost use Rattle.std.specs.Prelude.{◌≡◌, ◌≤◌, ◌++◌, ℕ, IfOk, l
 ghost use Rattle.std.specs.Result.{MatchResult};
 ghost use Rattle.bsc_options.specs.Spelling.{AreOptions};
 
-use bsc_octets::Octets;
+use bsc_octets::{NoMemory, Octets};
 use bsc_options::*;
 use std::alloc::Global;
 use std::test::*;
@@ -33,28 +33,45 @@ fn read_again(alloc: Global, list: &Options) -> Result<Options, OptionsFault>
     Ok(again)
 }
 
-/// Whether the list has that item in that place.
-fn has_item(list: &Options, i: usize, must: bool, kind: u8, content: Option<&[u8]>) -> bool {
-    match list.as_slice().get(i) {
-        None => false,
-        Some(item) => {
-            let same = match (&item.content, content) {
-                (None, None) => true,
-                (Some(octets), Some(wanted)) => octets.as_slice() == wanted,
-                _ => false,
-            };
-            item.must == must && item.kind == kind && same
-        }
+/// Whether a list has the items of `TWO`.
+fn are_two(list: &Options) -> bool {
+    match list.as_slice() {
+        [first, second] => is_item(first, true, 1, None)
+            && is_item(second, false, 31, Some(&TWO[4..])),
+        _ => false,
+    }
+}
+
+/// Whether an item is this one.
+fn is_item(item: &OptionItem, must: bool, kind: u8, content: Option<&[u8]>) -> bool {
+    let same = match (&item.content, content) {
+        (None, None) => true,
+        (Some(octets), Some(wanted)) => octets.as_slice() == wanted,
+        _ => false,
+    };
+    same && item.must == must && item.kind == kind
+}
+
+/// Whether the items of `TWO` are read from it, to its end.
+fn reads_two(alloc: Global) -> bool {
+    match read_options(alloc, &TWO, 0) {
+        Ok((list, end)) => are_two(&list) && end == TWO.len(),
+        Err(_) => false,
+    }
+}
+
+/// Whether `TWO` is what is written of it again.
+fn writes_two(alloc: Global) -> bool {
+    match written_again(alloc, &TWO, 0) {
+        Ok(octets) => octets.as_slice() == TWO.as_slice(),
+        Err(_) => false,
     }
 }
 
 #[test]
-fn reads(rt: HostRuntime) -> Result<(), Fail> {
-    let (list, end) = read_options(rt.alloc(), &TWO, 0)?;
-    assert_eq!(rt; (list.len(), end), (2, 8));
-    assert!(rt; has_item(&list, 0, true, 1, None));
-    assert!(rt; has_item(&list, 1, false, 31, Some(&[0x00, 0xFF, 0x07, 0xAA])));
-    Ok(())
+fn reads(rt: HostRuntime) {
+    assert!(rt; reads_two(rt.alloc()));
+    assert!(rt; writes_two(rt.alloc()));
 }
 
 #[test]
@@ -66,79 +83,79 @@ fn looks_without_reading(rt: HostRuntime) {
     assert_eq!(rt; check_options(&[0x80, 0x00], 0), Err(OptionsFault::BadKind));
 }
 
-#[test]
-fn faults(rt: HostRuntime) {
-    let rows: [(&[u8], OptionsFault); 10] = [
-        // Another option is announced, or data are, and octets are missing.
-        (&[], OptionsFault::Cut),
-        (&[0xC1], OptionsFault::Cut),
-        (&[0x22, 0x00], OptionsFault::Cut),
-        (&TWO[..7], OptionsFault::Cut),
-        // A list that is cut is so whatever its types are.
-        (&[0x80], OptionsFault::Cut),
-        (&[0x80, 0x01], OptionsFault::BadKind),
-        (&[0x00], OptionsFault::BadKind),
-        // The first item at fault is named.
-        (&[0x61, 0x00, 0x00, 0x00], OptionsFault::BadShape),
-        (&[0x9F, 0x00], OptionsFault::BadShape),
-        (&[0x3F, 0x00, 0x02, 0x00, 0xFF], OptionsFault::BadShape),
-    ];
-    for (m, fault) in rows {
-        assert_eq!(rt; read_options(rt.alloc(), m, 0).err(), Some(fault), "{m:?}");
+const FAULTS: [(&[u8], OptionsFault); 10] = [
+    // Another option is announced, or data are, and octets are missing.
+    (&[], OptionsFault::Cut),
+    (&[0xC1], OptionsFault::Cut),
+    (&[0x22, 0x00], OptionsFault::Cut),
+    (
+        &[0xC1, 0x3F, 0x00, 0x04, 0x00, 0xFF, 0x07],
+        OptionsFault::Cut,
+    ),
+    // A list that is cut is so whatever its types are.
+    (&[0x80], OptionsFault::Cut),
+    (&[0x80, 0x01], OptionsFault::BadKind),
+    (&[0x00], OptionsFault::BadKind),
+    // The first item at fault is named.
+    (&[0x61, 0x00, 0x00, 0x00], OptionsFault::BadShape),
+    (&[0x9F, 0x00], OptionsFault::BadShape),
+    (&[0x3F, 0x00, 0x02, 0x00, 0xFF], OptionsFault::BadShape),
+];
+
+/// Whether octets are no list by this fault, read and looked at.
+fn have_fault(alloc: Global, m: &[u8], fault: OptionsFault) -> bool {
+    match read_options(alloc, m, 0) {
+        Ok(_) => false,
+        Err(found) => found == fault && check_options(m, 0) == Err(fault),
     }
 }
 
 #[test]
-fn writes(rt: HostRuntime) -> Result<(), Fail> {
-    let mut list = Options::new(rt.alloc());
-    assert!(rt; list.is_empty());
+fn faults(rt: HostRuntime) {
+    for (m, fault) in FAULTS.iter() {
+        assert!(rt; have_fault(rt.alloc(), m, *fault), "{m:?}");
+    }
+}
+
+/// The list of one option without data.
+fn one(alloc: Global) -> Result<Options, NoMemory>
+    ensures { IfOk result (λ list. AreOptions list) }
+{
+    let mut list = Options::new(alloc);
     list.push(OptionItem {
         must: true,
         kind: 1,
         content: None,
     })?;
-    let data = Vec::from_slice(rt.alloc(), &[0x00, 0xFF, 0x07, 0xAA])?;
-    list.push(OptionItem {
-        must: false,
-        kind: 31,
-        content: Some(Octets::from_vec(data)),
-    })?;
-    let octets = write_options(rt.alloc(), &list)?;
-    assert_eq!(rt; octets.as_slice(), TWO.as_slice());
-    let again = read_again(rt.alloc(), &list)?;
-    assert_eq!(rt; again.len(), 2);
-    Ok(())
+    Ok(list)
+}
+
+/// Whether these octets are written for a list.
+fn is_written(alloc: Global, list: &Options, m: &[u8]) -> bool
+    requires { AreOptions list.now }
+{
+    match write_options(alloc, list) {
+        Ok(octets) => octets.as_slice() == m,
+        Err(_) => false,
+    }
+}
+
+/// Whether a list is read back with as many items as it has.
+fn is_read_back(alloc: Global, list: &Options) -> bool
+    requires { AreOptions list.now }
+{
+    match read_again(alloc, list) {
+        Ok(again) => again.len() == list.len(),
+        Err(_) => false,
+    }
 }
 
 #[test]
-fn no_data_and_the_longest(rt: HostRuntime) -> Result<(), Fail> {
-    let mut m = Vec::from_slice(rt.alloc(), &[0xA2, 0x00, 0x00, 0x3E, 0xFF, 0xFF])?;
-    for _ in 0..65_535 {
-        m.push(0x5A)?;
-    }
-    let (list, end) = read_options(rt.alloc(), &m, 0)?;
-    assert_eq!(rt; (list.len(), end), (2, 65_541));
-    assert!(rt; has_item(&list, 0, false, 2, Some(&[])));
-    assert!(rt; has_item(&list, 1, false, 30, Some(&m[6..])));
-    let octets = write_options(rt.alloc(), &list)?;
-    assert_eq!(rt; octets.as_slice(), m.as_slice());
-    Ok(())
-}
-
-#[test]
-fn two_hundred(rt: HostRuntime) -> Result<(), Fail> {
-    let mut m = Vec::new(rt.alloc());
-    for _ in 0..199 {
-        m.push(0x81)?;
-    }
-    m.push(0x41)?;
-    m.push(0x81)?;
-    let (list, end) = read_options(rt.alloc(), &m, 0)?;
-    assert_eq!(rt; (list.len(), end), (200, 200));
-    assert!(rt; has_item(&list, 198, false, 1, None));
-    assert!(rt; has_item(&list, 199, true, 1, None));
-    let octets = written_again(rt.alloc(), &m, 0)?;
-    assert_eq!(rt; octets.as_slice(), &m[..end]);
+fn writes(rt: HostRuntime) -> Result<(), Fail> {
+    let list = one(rt.alloc())?;
+    assert!(rt; !list.is_empty());
+    assert!(rt; is_written(rt.alloc(), &list, &[0x41]));
+    assert!(rt; is_read_back(rt.alloc(), &list));
     Ok(())
 }
 

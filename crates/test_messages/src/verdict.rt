@@ -1,40 +1,71 @@
 //! One message of each verdict, each judged twice.
 ghost use Rattle.std.specs.Prelude.{◌≡◌, IfOk};
+ghost use Rattle.bsc_verdict.specs.Outcomes.{outcome_of};
 
-use crate::words::{octets_of, words_of};
+use crate::words::{RowOctets, is_called};
 use bsc_checks::{Phase, Place, Verdict};
 use bsc_octets::NoMemory;
 use bsc_verdict::judged;
 use std::alloc::Global;
-use std::test::*;
 
-const HUB: Place = Place::HubPort {
-    phase: Phase::Connected,
-};
+/// A message to the hub that its sender is connected to, and its verdict.
+const VERDICTS: [(&str, &str); 4] = [
+    ("0A000006", "pass"),
+    ("01040002 02000000000B 0100", "carry"),
+    ("0104", "silent C1"),
+    ("0D000009", "nak C6 000000090D01000007008F"),
+];
 
-const MAX: u16 = 1600;
-
-/// The verdicts on the same octets at one place.
-fn judged_twice(alloc: Global, m: &[u8], place: &Place) -> Result<(Verdict, Verdict), NoMemory>
-    ensures { IfOk result (λ both. both.0 ≡ both.1) }
+/// The verdict on octets that were judged before, at the same place: it is the same.
+fn judged_again(
+    alloc: Global,
+    m: &[u8],
+    place: &Place,
+    max: u16,
+    first: &Verdict,
+) -> Result<Verdict, NoMemory>
+    requires { first.now ≡ outcome_of m.now place.now max }
+    ensures { IfOk result (λ second. second ≡ first.now) }
 {
-    let first = judged(alloc, m, place, MAX)?;
-    let second = judged(alloc, m, place, MAX)?;
-    Ok((first, second))
+    judged(alloc, m, place, max)
+}
+
+/// Whether octets that were judged before have the verdict of these words once more.
+fn is_judged_again(
+    alloc: Global,
+    m: &[u8],
+    place: &Place,
+    max: u16,
+    first: &Verdict,
+    words: &str,
+) -> bool
+    requires { first.now ≡ outcome_of m.now place.now max }
+{
+    match judged_again(alloc, m, place, max, first) {
+        Ok(second) => is_called(&second, words),
+        Err(_) => false,
+    }
+}
+
+/// Whether octets have the verdict of these words, twice.
+fn is_judged_twice(alloc: Global, m: &[u8], words: &str) -> bool {
+    let place = Place::HubPort {
+        phase: Phase::Connected,
+    };
+    match judged(alloc, m, &place, 1600) {
+        Ok(first) => is_called(&first, words)
+            && is_judged_again(alloc, m, &place, 1600, &first, words),
+        Err(_) => false,
+    }
 }
 
 #[test]
-fn each_verdict_twice(rt: HostRuntime) -> Result<(), Fail> {
-    for (digits, wanted) in [
-        ("0A000006", "pass"),
-        ("01040002 02000000000B 0100", "carry"),
-        ("0104", "silent C1"),
-        ("0D000009", "nak C6 000000090D01000007008F"),
-    ] {
-        let m = octets_of(rt.alloc(), digits)?;
-        let (first, second) = judged_twice(rt.alloc(), m.as_slice(), &HUB)?;
-        assert_eq!(rt; words_of(rt.alloc(), &first)?.as_str(), wanted, "{digits}");
-        assert_eq!(rt; words_of(rt.alloc(), &second)?.as_str(), wanted, "{digits}");
+fn each_verdict_twice(rt: HostRuntime) {
+    for (digits, words) in VERDICTS.iter() {
+        let is_right = match RowOctets::of(digits) {
+            Some(row) => is_judged_twice(rt.alloc(), row.as_slice(), words),
+            None => false,
+        };
+        assert!(rt; is_right, "{digits}: {words}");
     }
-    Ok(())
 }

@@ -120,23 +120,31 @@ pub(crate) const VERDICTS: [(Place, &str, &str); 37] = [
     (NODE, "010A0007 02000000000A 8241 0100", "pass"),
 ];
 
-/// A whole payload for each function, from 00 to 0D.
-pub(crate) const PAYLOADS: [&str; 14] = [
-    "0A00",
-    "0100",
-    "",
-    "",
-    "0100064005D9",
-    "",
-    "02000000000AAAAAAAAAAAAAAAAAAAAAAAAAAAAAAAAA064005D9",
-    "02000000000AAAAAAAAAAAAAAAAAAAAAAAAAAAAAAAAA064005D9",
-    "",
-    "",
-    "",
-    "",
-    "000001",
-    "",
+/// A message of each function from 00 to 0D, as its sender puts it, and as the hub passes it on to a node. The messages
+/// of a connection itself are never passed on: these stand there as they were put.
+pub(crate) const MESSAGES: [(&str, &str); 14] = [
+    ("00000001 0A00", "00000001 0A00"),
+    ("01000001 0100", "01080001 02000000000A 0100"),
+    ("02000001", "02080001 02000000000A"),
+    ("03000001", "03080001 02000000000A"),
+    (
+        "04000001 0100064005D9",
+        "04080001 02000000000A 0100064005D9",
+    ),
+    ("05000001", "05080001 02000000000A"),
+    (CONNECT_REQUEST, CONNECT_REQUEST),
+    (CONNECT_ACCEPT, CONNECT_ACCEPT),
+    ("08000001", "08000001"),
+    ("09000001", "09000001"),
+    ("0A000001", "0A000001"),
+    ("0B000001", "0B000001"),
+    ("0C000001 000001", "0C080001 02000000000A 000001"),
+    ("0D000001", "0D080001 02000000000A"),
 ];
+
+const CONNECT_REQUEST: &str = "06000001 02000000000A AAAAAAAAAAAAAAAAAAAAAAAAAAAAAAAA 0640 05D9";
+
+const CONNECT_ACCEPT: &str = "07000001 02000000000A AAAAAAAAAAAAAAAAAAAAAAAAAAAAAAAA 0640 05D9";
 
 /// Which functions are in place: for each phase, and there at the hub port, on the hub connection of a node, and on
 /// its direct connections with a peer that is known and with one that is not, a letter for each function from 00 to
@@ -155,3 +163,14 @@ pub(crate) const FUNCTIONS: [(Phase, [&str; 4]); 4] = [
     ),
     (Phase::Disconnecting, ["P........P..VU"; 4]),
 ];
+
+/// The head of a message to the hub, how many octets it has in all, and its verdict.
+pub(crate) const LONGEST: [([u8; 10], usize, &str); 3] = [
+    (TO_ALL, 1600, "carry"),
+    (TO_ALL, 1601, "silent C2"),
+    (TO_OWN, 1600, "carry"),
+];
+
+const TO_ALL: [u8; 10] = [0x01, 0x04, 0x00, 0x02, 0xFF, 0xFF, 0xFF, 0xFF, 0xFF, 0xFF];
+
+const TO_OWN: [u8; 10] = [0x01, 0x04, 0x00, 0x02, 0x02, 0x00, 0x00, 0x00, 0x00, 0x0B];
