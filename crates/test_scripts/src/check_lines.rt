@@ -1,13 +1,8 @@
-//! What lines ask, which lines are refused, how verdicts are written, and a whole input.
-ghost use Rattle.bsc_checks.specs.declared.verdict.Verdict.TheVariants.{Silent};
-ghost use Rattle.bsc_frame.specs.declared.check.Check.TheVariants.{C13};
-
-use arrayvec::ArrayVec;
-use bsc_check_lines::{Judge, Line, check_by, put_verdict, read_line};
-use bsc_checks::{Check, Phase, Place, Verdict};
-use bsc_octets::{NoMemory, Vmac};
-use bsc_outside::{MemSink, SureSource};
-use bsc_player::{LineFault, PlayEnd};
+//! What lines ask, and which lines are refused.
+use bsc_check_lines::{Line, read_line};
+use bsc_checks::{Phase, Place};
+use bsc_octets::Vmac;
+use bsc_player::LineFault;
 use std::alloc::Global;
 use std::process::Abort;
 use std::test::*;
@@ -87,86 +82,36 @@ const REFUSED: [&str; 12] = [
     "direct:02000000000A:02000000000B:- connected 1600",
 ];
 
+const NOTHING: [&str; 4] = ["", "  ", "#", " # hub"];
+
+/// Whether a line asks about this.
+fn asks(alloc: Global, case: &Case) -> bool {
+    match read_line(alloc, case.line.as_bytes()) {
+        Ok(
+            Line::Question {
+                place,
+                max,
+                message,
+            },
+        ) => place == case.place && max == case.max && message.as_slice() == case.octets,
+        _ => false,
+    }
+}
+
 #[test]
 fn reads_lines(rt: HostRuntime) {
     for case in &CASES {
-        match read_line(rt.alloc(), case.line.as_bytes()) {
-            Ok(
-                Line::Question {
-                    place,
-                    max,
-                    message,
-                },
-            ) => {
-                assert_eq!(rt; place, case.place, "of {}", case.line);
-                assert_eq!(rt; max, case.max, "of {}", case.line);
-                assert!(rt; message.as_slice() == case.octets, "of {}", case.line);
-            }
-            _ => assert!(rt; false, "a question of {}", case.line),
-        }
+        assert!(rt; asks(rt.alloc(), case), "of {}", case.line);
     }
-    for line in REFUSED {
-        match read_line(rt.alloc(), line.as_bytes()) {
-            Err(LineFault::Refused) => (),
-            _ => assert!(rt; false, "refused: {}", line),
-        }
-    }
-    for line in ["", "  ", "#", " # hub"] {
-        match read_line(rt.alloc(), line.as_bytes()) {
-            Ok(Line::Nothing) => (),
-            _ => assert!(rt; false, "nothing: {}", line),
-        }
-    }
-}
-
-#[test]
-fn writes_verdicts(rt: HostRuntime) -> Result<(), Fail> {
-    let mut text = Vec::new(rt.alloc());
-    put_verdict(&mut text, rt.alloc(), &Verdict::Silent(Check::C10b))?;
-    let mut octets = ArrayVec::new();
-    octets.push(0);
-    octets.push(0xAB);
-    put_verdict(&mut text, rt.alloc(), &Verdict::Nak(Check::C7b, octets))?;
-    assert!(rt; text.as_slice() == b"silent C10b\nnak C7b 00AB\n".as_slice());
-    Ok(())
-}
-
-/// A judge to whom each message is out of place.
-#[derive(Drop)]
-struct Strict;
-
-impl Judge for Strict {
-    ghost verdict_of = { λ m place max. Silent C13 };
-
-    fn judge(&self, _: Global, _: &[u8], _: &Place, _: u16) -> Result<Verdict, NoMemory> {
-        Ok(Verdict::Silent(Check::C13))
-    }
-}
-
-#[test]
-fn plays_checks(rt: HostRuntime) -> Result<(), Fail> {
-    for (input, text, end) in [
-        ("", "", PlayEnd::Done),
-        (
-            "# one\nhub connected 1600 00\n\nhub accept 7",
-            "silent C13\nsilent C13\n",
-            PlayEnd::Done,
-        ),
-        (
-            "hub connected 1600\nhub 1600\n",
-            "silent C13\n",
-            PlayEnd::BadLine { line: 2 },
-        ),
-    ] {
-        let mut sink = MemSink::make(rt.alloc(), 99, &[])?;
-        let mut source = SureSource::in_pieces(input.as_bytes(), 7);
-        assert_eq!(rt;
-            check_by(rt.alloc(), Strict, &mut source, &mut sink),
-            end,
-            "of {}",
-            input
+    for line in &REFUSED {
+        let refused = matches!(
+            read_line(rt.alloc(), line.as_bytes()),
+            Err(LineFault::Refused)
         );
-        assert!(rt; sink.held() == text.as_bytes(), "of {}", input);
+        assert!(rt; refused, "refused: {line}");
     }
-    Ok(())
+    for line in &NOTHING {
+        let nothing = matches!(read_line(rt.alloc(), line.as_bytes()), Ok(Line::Nothing));
+        assert!(rt; nothing, "nothing: {line}");
+    }
 }

@@ -3,103 +3,102 @@ mod echo;
 mod faults;
 
 use crate::player::echo::Echo;
-use bsc_outside::{MemSink, SureSource, WriterSink};
+use bsc_octets::NoMemory;
+use bsc_outside::{MemSink, MemSource};
 use bsc_player::{PlayEnd, end_play, play_lines};
+use std::alloc::Global;
 use std::process::Abort;
 use std::test::*;
 
-/// An input, the text that is written for it, and how it ends.
-struct Case {
+/// An input that is read so many octets at a time, the reads and the writes that fail, how much the sink takes, and what
+/// stands written at which end.
+#[derive(Clone, Copy)]
+pub struct Case {
     input: &'static str,
+    most: usize,
+    reads: &'static [u64],
+    writes: &'static [u64],
+    room: usize,
     text: &'static str,
     end: PlayEnd,
 }
 
-const CASES: [Case; 4] = [
+/// Whether a play comes to its end and its text.
+fn comes_to(alloc: Global, case: &Case) -> Result<bool, NoMemory> {
+    let mut sink = MemSink::make(alloc, case.room, case.writes)?;
+    let mut source = MemSource::in_pieces(case.input.as_bytes(), case.most.max(1), case.reads);
+    let mut language = Echo { begun: false };
+    let end = play_lines(alloc, &mut language, &mut source, &mut sink);
+    Ok(end == case.end && sink.held() == case.text.as_bytes())
+}
+
+/// A play in which nothing fails.
+const SURE: Case = Case {
+    input: "",
+    most: 50,
+    reads: &[],
+    writes: &[],
+    room: 99,
+    text: "",
+    end: PlayEnd::Done,
+};
+
+const CASES: [Case; 5] = [
     Case {
-        input: "",
-        text: "",
         end: PlayEnd::BadLine { line: 1 },
+        ..SURE
+    },
+    Case {
+        input: "begin\na\r\n\nb",
+        most: 1,
+        text: "a\n\nb\n",
+        ..SURE
     },
     Case {
         input: "begin\na\r\n\nb",
         text: "a\n\nb\n",
-        end: PlayEnd::Done,
+        ..SURE
     },
     Case {
         input: "begin\na\nstop\nb\n",
         text: "a\n",
         end: PlayEnd::BadLine { line: 3 },
+        ..SURE
     },
     Case {
         input: "a\nbegin",
-        text: "",
         end: PlayEnd::BadLine { line: 1 },
+        ..SURE
     },
 ];
 
 #[test]
-fn plays(rt: HostRuntime) {
-    for (at, case) in CASES.iter().enumerate() {
-        for most in [1, 50] {
-            let mut held = Vec::new(rt.alloc());
-            let mut source = SureSource::in_pieces(case.input.as_bytes(), most);
-            let mut sink = WriterSink::new(&mut held);
-            let mut language = Echo { begun: false };
-            let end = play_lines(rt.alloc(), &mut language, &mut source, &mut sink);
-            assert_eq!(rt; end, case.end, "in row {at}");
-            assert!(rt; held.as_slice() == case.text.as_bytes(), "in row {at}");
-        }
+fn plays(rt: HostRuntime) -> Result<(), NoMemory> {
+    for case in &CASES {
+        assert!(rt; comes_to(rt.alloc(), case)?, "{}", case.input);
     }
+    Ok(())
 }
 
 /// The end of a play, with the last line and the status of its run.
-struct Last {
-    end: PlayEnd,
-    line: &'static str,
-    status: u8,
-}
-
-const LASTS: [Last; 5] = [
-    Last {
-        end: PlayEnd::Done,
-        line: "",
-        status: 0,
-    },
-    Last {
-        end: PlayEnd::BadLine { line: 12 },
-        line: "fault script line 12\n",
-        status: 2,
-    },
-    Last {
-        end: PlayEnd::ReadFault,
-        line: "fault read\n",
-        status: 3,
-    },
-    Last {
-        end: PlayEnd::WriteFault,
-        line: "",
-        status: 4,
-    },
-    Last {
-        end: PlayEnd::NoMemory,
-        line: "fault memory\n",
-        status: 7,
-    },
+const LASTS: [(PlayEnd, &str, u8); 5] = [
+    (PlayEnd::Done, "", 0),
+    (PlayEnd::BadLine { line: 12 }, "fault script line 12\n", 2),
+    (PlayEnd::ReadFault, "fault read\n", 3),
+    (PlayEnd::WriteFault, "", 4),
+    (PlayEnd::NoMemory, "fault memory\n", 7),
 ];
 
+/// Whether a run whose play ends so has this last line and this status.
+fn ends_with(alloc: Global, end: PlayEnd, line: &str, status: u8) -> Result<bool, NoMemory> {
+    let mut sink = MemSink::make(alloc, 99, &[])?;
+    Ok(end_play(alloc, &mut sink, end) == status && sink.held() == line.as_bytes())
+}
+
 #[test]
-fn ends_with_a_status(rt: HostRuntime) {
-    for (at, case) in LASTS.iter().enumerate() {
-        let Ok(mut sink) = MemSink::make(rt.alloc(), 99, &[]) else {
-            assert!(rt; false, "no memory");
-            return;
-        };
-        assert_eq!(rt;
-            end_play(rt.alloc(), &mut sink, case.end),
-            case.status,
-            "in row {at}"
-        );
-        assert!(rt; sink.held() == case.line.as_bytes(), "in row {at}");
+fn ends_with_a_status(rt: HostRuntime) -> Result<(), NoMemory> {
+    for (end, line, status) in &LASTS {
+        assert!(rt; ends_with(rt.alloc(), *end, *line, *status)?, "{line}");
     }
+    Ok(())
 }

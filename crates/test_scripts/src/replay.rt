@@ -25,7 +25,7 @@ fn replays(rt: HostRuntime) {
     let mut source = SureSource::in_pieces(SCRIPT.as_bytes(), 50);
     let mut sink = WriterSink::new(&mut held);
     let end = replay(rt.alloc(), &mut source, &mut sink);
-    assert_eq!(rt; end, ReplayEnd::BadLine { line: 5 });
+    assert!(rt; end == ReplayEnd::BadLine { line: 5 });
     assert!(rt; held.as_slice() == TEXT.as_bytes());
 }
 
@@ -55,6 +55,6 @@ fn answers_questions(rt: HostRuntime) {
     let mut source = SureSource::in_pieces(QUESTIONS.as_bytes(), 50);
     let mut sink = WriterSink::new(&mut held);
     let end = check(rt.alloc(), &mut source, &mut sink);
-    assert_eq!(rt; end, ReplayEnd::Done);
+    assert!(rt; end == ReplayEnd::Done);
     assert!(rt; held.as_slice() == ANSWERS.as_bytes());
 }

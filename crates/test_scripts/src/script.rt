@@ -10,19 +10,24 @@ use std::alloc::Global;
 use std::process::Abort;
 use std::test::*;
 
-/// A script in two parts, and the text that is written for the second.
-pub struct Case {
-    pub name: &'static str,
-    pub before: &'static str,
+/// The first lines of scripts, and their text.
+pub struct Before {
     pub lines: &'static str,
     pub text: &'static str,
 }
 
-/// The octets of two parts, one after another.
-fn joined(alloc: Global, first: &[u8], second: &[u8]) -> Result<Vec<u8>, NoMemory> {
-    let mut octets = Vec::new(alloc);
-    octets.extend_from_slice(first)?;
-    octets.extend_from_slice(second)?;
+/// The lines of a script behind its first ones, and their text.
+pub struct Case {
+    pub name: &'static str,
+    pub before: &'static Before,
+    pub lines: &'static str,
+    pub text: &'static str,
+}
+
+/// Two texts, one behind the other.
+fn both(alloc: Global, first: &str, second: &str) -> Result<Vec<u8>, NoMemory> {
+    let mut octets = Vec::from_slice(alloc, first.as_bytes())?;
+    octets.extend_from_slice(second.as_bytes())?;
     Ok(octets)
 }
 
@@ -38,26 +43,20 @@ fn played(alloc: Global, script: &[u8]) -> Option<Vec<u8>> {
     }
 }
 
-/// Whether the text of a whole script is that of its first part, and then this.
-fn comes_to(alloc: Global, case: &Case) -> bool {
-    let Ok(script) = joined(alloc, case.before.as_bytes(), case.lines.as_bytes()) else {
-        return false;
-    };
-    let Some(before) = played(alloc, case.before.as_bytes()) else {
-        return false;
-    };
-    let Ok(text) = joined(alloc, before.as_slice(), case.text.as_bytes()) else {
-        return false;
-    };
+/// Whether a script comes to its text.
+fn comes_to(alloc: Global, case: &Case) -> Result<bool, NoMemory> {
+    let script = both(alloc, case.before.lines, case.lines)?;
+    let text = both(alloc, case.before.text, case.text)?;
     match played(alloc, script.as_slice()) {
-        Some(held) => held.as_slice() == text.as_slice(),
-        None => false,
+        Some(held) => Ok(held.as_slice() == text.as_slice()),
+        None => Ok(false),
     }
 }
 
 #[test]
-fn plays(rt: HostRuntime) {
+fn plays(rt: HostRuntime) -> Result<(), NoMemory> {
     for case in &CASES {
-        assert!(rt; comes_to(rt.alloc(), case), "of {}", case.name);
+        assert!(rt; comes_to(rt.alloc(), case)?, "of {}", case.name);
     }
+    Ok(())
 }

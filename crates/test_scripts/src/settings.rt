@@ -1,9 +1,9 @@
 //! Documents, each with the settings that it says or the fault that is named.
-use bsc_octets::{DeviceId, Octets, Vmac};
-use bsc_settings::{NodeSettings, SettingFault, read_settings};
+use bsc_octets::{Octets, Vmac};
+use bsc_settings::{HubSettings, NodeSettings, SettingFault, read_settings};
 use std::alloc::Global;
+use std::process::Abort;
 use std::test::*;
-use uuid::Uuid;
 
 /// The keys that are required.
 const REQUIRED: &str = "[hub]
@@ -60,29 +60,48 @@ primary = \"ws://127.0.0.1:47808/\"
 failover = \"ws://127.0.0.1:47809/\"
 ";
 
-#[test]
-fn gives_the_defaults(rt: HostRuntime) -> Result<(), Fail> {
-    let settings = read_settings(rt.alloc(), REQUIRED.as_bytes())?;
-    assert!(rt; settings.node.is_none());
-    let example = read_settings(rt.alloc(), EXAMPLE.as_bytes())?;
-    assert!(rt; settings.hub == example.hub);
-    let hub = settings.hub.ok_or("a hub")?;
-    let device = Uuid::parse_str("00112233-4455-6677-8899-aabbccddeeff")?;
-    assert!(rt; hub.identity().vmac == Vmac([2, 0, 0, 0, 0, 255]));
-    assert!(rt; hub.identity().device == DeviceId(device));
-    assert_eq!(rt; hub.port(), 47_808);
-    assert_eq!(rt; hub.limits().outbox, 64);
-    assert_eq!(rt; hub.times().heartbeat, 300_000);
-    assert_eq!(rt; hub.turns(), 1 << 40);
-    let nothing = read_settings(rt.alloc(), b"# nothing\n")?;
-    assert!(rt; nothing.hub.is_none() && nothing.node.is_none());
-    Ok(())
+/// The settings of a hub in a document.
+fn hub_of(alloc: Global, text: &str) -> Option<HubSettings> {
+    match read_settings(alloc, text.as_bytes()) {
+        Ok(settings) => settings.hub,
+        Err(_) => None,
+    }
 }
 
 /// The settings of a node in a document.
-fn node_of(alloc: Global, text: &str) -> Result<NodeSettings, Fail> {
-    let settings = read_settings(alloc, text.as_bytes())?;
-    Ok(settings.node.ok_or("a node")?)
+fn node_of(alloc: Global, text: &str) -> Option<NodeSettings> {
+    match read_settings(alloc, text.as_bytes()) {
+        Ok(settings) => settings.node,
+        Err(_) => None,
+    }
+}
+
+/// The device of the hubs.
+const DEVICE: [u8; 16] = [
+    0x00, 0x11, 0x22, 0x33, 0x44, 0x55, 0x66, 0x77, 0x88, 0x99, 0xAA, 0xBB, 0xCC, 0xDD, 0xEE, 0xFF,
+];
+
+/// Whether these are the settings of the hub that is the example.
+fn is_example(hub: Option<HubSettings>) -> bool {
+    match hub {
+        Some(hub) => {
+            hub.identity().vmac == Vmac([2, 0, 0, 0, 0, 255])
+                && *hub.identity().device.0.as_bytes() == DEVICE
+                && hub.port() == 47_808
+                && hub.limits().outbox == 64
+                && hub.times().heartbeat == 300_000
+                && hub.turns() == 1 << 40
+        }
+        None => false,
+    }
+}
+
+#[test]
+fn gives_the_defaults(rt: HostRuntime) {
+    let hub = hub_of(rt.alloc(), REQUIRED);
+    assert!(rt; hub == hub_of(rt.alloc(), EXAMPLE));
+    assert!(rt; is_example(hub));
+    assert!(rt; hub_of(rt.alloc(), "# nothing\n").is_none());
 }
 
 /// Whether the octets are these, which are none where there aren't any.
@@ -95,49 +114,73 @@ fn is_text(octets: &Option<Octets>, text: &str) -> bool {
 
 /// Whether the numbers of a node are those that it has where its document says none.
 fn has_defaults(node: &NodeSettings) -> bool {
-    node.max_bvlc == 16_384
-        && node.max_npdu == 1_497
-        && node.connect_wait_ms == 10_000
-        && node.disconnect_wait_ms == 10_000
-        && node.heartbeat_ms == 300_000
-        && node.least_reconnect_ms == 2_000
-        && node.greatest_reconnect_ms == 30_000
+    [node.max_bvlc, node.max_npdu] == [16_384, 1_497]
+        && [
+            node.connect_wait_ms,
+            node.disconnect_wait_ms,
+            node.heartbeat_ms,
+        ] == [10_000, 10_000, 300_000]
+        && [node.least_reconnect_ms, node.greatest_reconnect_ms] == [2_000, 30_000]
         && node.turns == 1 << 40
 }
 
-/// Whether these are the settings of a node with this last octet of its VMAC, failover, port and URIs of its own, at the
-/// usual hub and with the default numbers.
-fn is_node(node: &NodeSettings, own: u8, failover: &str, port: Option<u16>, uris: &str) -> bool {
+/// A document with a node at the usual hub, with the default numbers.
+struct NodeCase {
+    text: &'static str,
+    /// The last octet of its VMAC.
+    own: u8,
+    failover: &'static str,
+    port: Option<u16>,
+    uris: &'static str,
+}
+
+const NODES: [NodeCase; 3] = [
+    NodeCase {
+        text: NODE_REQUIRED,
+        own: 10,
+        failover: "",
+        port: None,
+        uris: "",
+    },
+    NodeCase {
+        text: OTHER_NODE_EXAMPLE,
+        own: 11,
+        failover: "ws://127.0.0.1:47809/",
+        port: None,
+        uris: "",
+    },
+    NodeCase {
+        text: NODE_EXAMPLE,
+        own: 10,
+        failover: "ws://127.0.0.1:47809/",
+        port: Some(47_810),
+        uris: "ws://127.0.0.1:47810/",
+    },
+];
+
+/// Whether these are the settings of such a node.
+fn is_node(node: &NodeSettings, case: &NodeCase) -> bool {
     has_defaults(node)
-        && node.vmac == Vmac([2, 0, 0, 0, 0, own])
+        && node.vmac == Vmac([2, 0, 0, 0, 0, case.own])
         && node.primary.as_slice() == b"ws://127.0.0.1:47808/".as_slice()
-        && is_text(&node.failover, failover)
-        && node.direct_port == port
-        && is_text(&node.direct_uris, uris)
+        && is_text(&node.failover, case.failover)
+        && node.direct_port == case.port
+        && is_text(&node.direct_uris, case.uris)
 }
 
 /// Whether a document has such a node.
-fn gives(
-    alloc: Global,
-    text: &str,
-    own: u8,
-    failover: &str,
-    port: Option<u16>,
-    uris: &str,
-) -> Result<bool, Fail> {
-    let node = node_of(alloc, text)?;
-    Ok(is_node(&node, own, failover, port, uris))
+fn gives(alloc: Global, case: &NodeCase) -> bool {
+    match node_of(alloc, case.text) {
+        Some(node) => is_node(&node, case),
+        None => false,
+    }
 }
 
 #[test]
-fn gives_a_node(rt: HostRuntime) -> Result<(), Fail> {
-    let alloc = rt.alloc();
-    let failover = "ws://127.0.0.1:47809/";
-    let uris = "ws://127.0.0.1:47810/";
-    assert!(rt; gives(alloc, NODE_REQUIRED, 10, "", None, "")?);
-    assert!(rt; gives(alloc, OTHER_NODE_EXAMPLE, 11, failover, None, "")?);
-    assert!(rt; gives(alloc, NODE_EXAMPLE, 10, failover, Some(47_810), uris)?);
-    Ok(())
+fn gives_a_node(rt: HostRuntime) {
+    for case in &NODES {
+        assert!(rt; gives(rt.alloc(), case), "{}", case.text);
+    }
 }
 
 /// What a fault line would name for a document of these octets; nothing where there are settings.
@@ -147,6 +190,14 @@ fn fault(alloc: Global, text: &[u8]) -> &'static str {
         Err(SettingFault::Key { name }) => name.text(),
         Err(SettingFault::NotToml) => "-",
         Err(SettingFault::NoMemory) => "memory",
+    }
+}
+
+/// The same for a document in two parts.
+fn fault_in(alloc: Global, first: &str, second: &str) -> &'static str {
+    match format!(in alloc; "{first}{second}\n") {
+        Ok(text) => fault(alloc, text.as_bytes()),
+        Err(_) => "memory",
     }
 }
 
@@ -248,11 +299,9 @@ const DOCUMENTS: [(&str, &str, &str); 41] = [
 ];
 
 #[test]
-fn names_the_key(rt: HostRuntime) -> Result<(), Fail> {
+fn names_the_key(rt: HostRuntime) {
     for (first, second, key) in &DOCUMENTS {
-        let text = format!(in rt.alloc(); "{}{}\n", first, second)?;
-        assert_eq!(rt; fault(rt.alloc(), text.as_bytes()), *key, "{}", text);
+        assert_eq!(rt; fault_in(rt.alloc(), *first, *second), *key, "{second}");
     }
     assert_eq!(rt; fault(rt.alloc(), b"# \xFF"), "-");
-    Ok(())
 }

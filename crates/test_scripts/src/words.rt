@@ -2,6 +2,7 @@
 use bsc_octets::NoMemory;
 use bsc_words::{Asked, WordsFault, read_words};
 use std::alloc::Global;
+use std::process::Abort;
 use std::test::*;
 
 /// The words of a line, which a space separates.
@@ -13,64 +14,89 @@ fn words_of(alloc: Global, line: &str) -> Result<Vec<String>, NoMemory> {
     Ok(words)
 }
 
-/// A hub by this path.
-fn served(path: &str, sessions: Option<u64>) -> Asked<'_> {
-    Asked::Hub { path, sessions }
+/// Whether the words of a line ask for this.
+fn ask_for(alloc: Global, line: &str, asked: Asked<'_>) -> Result<bool, NoMemory> {
+    let words = words_of(alloc, line)?;
+    Ok(read_words(alloc, words.as_slice()) == Ok(asked))
 }
 
+/// Whether the words of a line are refused.
+fn are_refused(alloc: Global, line: &str) -> Result<bool, NoMemory> {
+    let words = words_of(alloc, line)?;
+    Ok(read_words(alloc, words.as_slice()) == Err(WordsFault::Refused))
+}
+
+const COMMANDS: [(&str, Asked<'static>); 8] = [
+    ("replay", Asked::Replay),
+    ("check", Asked::Check),
+    (
+        "hub hub.toml",
+        Asked::Hub {
+            path: "hub.toml",
+            sessions: None,
+        },
+    ),
+    (
+        "hub --sessions 1000000 hub.toml",
+        Asked::Hub {
+            path: "hub.toml",
+            sessions: Some(1_000_000),
+        },
+    ),
+    (
+        "hub hub.toml --sessions=3",
+        Asked::Hub {
+            path: "hub.toml",
+            sessions: Some(3),
+        },
+    ),
+    (
+        "hub -- -hub.toml",
+        Asked::Hub {
+            path: "-hub.toml",
+            sessions: None,
+        },
+    ),
+    (
+        "node -- node.toml node.script",
+        Asked::Node {
+            path: "node.toml",
+            script: "node.script",
+        },
+    ),
+    ("load 512", Asked::Load { workers: 512 }),
+];
+
 #[test]
-fn reads_commands(rt: HostRuntime) -> Result<(), Fail> {
-    let run = Asked::Node {
-        path: "node.toml",
-        script: "node.script",
-    };
-    for (line, said) in [
-        ("replay", Asked::Replay),
-        ("check", Asked::Check),
-        ("hub hub.toml", served("hub.toml", None)),
-        (
-            "hub --sessions 1000000 hub.toml",
-            served("hub.toml", Some(1_000_000)),
-        ),
-        ("hub hub.toml --sessions=3", served("hub.toml", Some(3))),
-        ("hub -- -hub.toml", served("-hub.toml", None)),
-        ("node -- node.toml node.script", run),
-        ("load 512", Asked::Load { workers: 512 }),
-    ] {
-        let words = words_of(rt.alloc(), line)?;
-        assert!(rt;
-            read_words(rt.alloc(), words.as_slice()) == Ok(said),
-            "{line}"
-        );
+fn reads_commands(rt: HostRuntime) -> Result<(), NoMemory> {
+    for (line, asked) in &COMMANDS {
+        assert!(rt; ask_for(rt.alloc(), *line, *asked)?, "{line}");
     }
     Ok(())
 }
 
+const REFUSED: [&str; 14] = [
+    "",
+    "serve",
+    "--help",
+    "Hub hub.toml",
+    "replay replay",
+    "hub",
+    "hub hub.toml -h",
+    "hub -hub.toml",
+    "hub hub.toml --session 3",
+    "hub hub.toml --sessions 1000001",
+    "hub hub.toml --sessions 03",
+    "node node.toml",
+    "node node.toml --script node.script",
+    "load 513",
+];
+
 #[test]
-fn refuses_words(rt: HostRuntime) -> Result<(), Fail> {
-    let none = Vec::new(rt.alloc());
-    assert!(rt; read_words(rt.alloc(), none.as_slice()) == Err(WordsFault::Refused));
-    for line in [
-        "",
-        "serve",
-        "--help",
-        "Hub hub.toml",
-        "replay replay",
-        "hub",
-        "hub hub.toml -h",
-        "hub -hub.toml",
-        "hub hub.toml --session 3",
-        "hub hub.toml --sessions 1000001",
-        "hub hub.toml --sessions 03",
-        "node node.toml",
-        "node node.toml --script node.script",
-        "load 513",
-    ] {
-        let words = words_of(rt.alloc(), line)?;
-        assert!(rt;
-            read_words(rt.alloc(), words.as_slice()) == Err(WordsFault::Refused),
-            "{line}"
-        );
+fn refuses_words(rt: HostRuntime) -> Result<(), NoMemory> {
+    assert!(rt; read_words(rt.alloc(), &[]) == Err(WordsFault::Refused));
+    for line in &REFUSED {
+        assert!(rt; are_refused(rt.alloc(), *line)?, "{line}");
     }
     Ok(())
 }

@@ -1,10 +1,88 @@
-//! Worked scripts as a table: a hub line and lines before, the lines that are looked at, and their text.
-use crate::script::Case;
+//! Worked scripts as a table: who has joined before, the lines that are looked at, and their text.
+use crate::script::{Before, Case};
+
+/// A hub.
+const HUB: Before = Before {
+    lines: concat!("hub 0200000000FF 00112233445566778899AABBCCDDEEFF 0640 05D9 256 64\n",),
+    text: "",
+};
+
+/// A hub at which A has joined.
+const ONE: Before = Before {
+    lines: concat!(
+        "hub 0200000000FF 00112233445566778899AABBCCDDEEFF 0640 05D9 256 64\n",
+        "open A\n",
+        "in A 06000001 02000000000A AAAAAAAAAAAAAAAAAAAAAAAAAAAAAAAA 0640 05D9\n",
+    ),
+    text: concat!(
+        "A joined 1\n",
+        "A out 070000010200000000FF00112233445566778899AABBCCDDEEFF064005D9\n",
+    ),
+};
+
+/// A hub at which A and B have joined.
+const TWO: Before = Before {
+    lines: concat!(
+        "hub 0200000000FF 00112233445566778899AABBCCDDEEFF 0640 05D9 256 64\n",
+        "open A\n",
+        "in A 06000001 02000000000A AAAAAAAAAAAAAAAAAAAAAAAAAAAAAAAA 0640 05D9\n",
+        "open B\n",
+        "in B 06000001 02000000000B BBBBBBBBBBBBBBBBBBBBBBBBBBBBBBBB 0640 05D9\n",
+    ),
+    text: concat!(
+        "A joined 1\n",
+        "A out 070000010200000000FF00112233445566778899AABBCCDDEEFF064005D9\n",
+        "B joined 2\n",
+        "B out 070000010200000000FF00112233445566778899AABBCCDDEEFF064005D9\n",
+    ),
+};
+
+/// A hub at which A, B and C have joined.
+const THREE: Before = Before {
+    lines: concat!(
+        "hub 0200000000FF 00112233445566778899AABBCCDDEEFF 0640 05D9 256 64\n",
+        "open A\n",
+        "in A 06000001 02000000000A AAAAAAAAAAAAAAAAAAAAAAAAAAAAAAAA 0640 05D9\n",
+        "open B\n",
+        "in B 06000001 02000000000B BBBBBBBBBBBBBBBBBBBBBBBBBBBBBBBB 0640 05D9\n",
+        "open C\n",
+        "in C 06000001 02000000000C CCCCCCCCCCCCCCCCCCCCCCCCCCCCCCCC 0640 05D9\n",
+    ),
+    text: concat!(
+        "A joined 1\n",
+        "A out 070000010200000000FF00112233445566778899AABBCCDDEEFF064005D9\n",
+        "B joined 2\n",
+        "B out 070000010200000000FF00112233445566778899AABBCCDDEEFF064005D9\n",
+        "C joined 3\n",
+        "C out 070000010200000000FF00112233445566778899AABBCCDDEEFF064005D9\n",
+    ),
+};
+
+/// The same, where an outbox has two places.
+const THREE_WITH_TWO_PLACES: Before = Before {
+    lines: concat!(
+        "hub 0200000000FF 00112233445566778899AABBCCDDEEFF 0640 05D9 256 2\n",
+        "open A\n",
+        "in A 06000001 02000000000A AAAAAAAAAAAAAAAAAAAAAAAAAAAAAAAA 0640 05D9\n",
+        "open B\n",
+        "in B 06000001 02000000000B BBBBBBBBBBBBBBBBBBBBBBBBBBBBBBBB 0640 05D9\n",
+        "open C\n",
+        "in C 06000001 02000000000C CCCCCCCCCCCCCCCCCCCCCCCCCCCCCCCC 0640 05D9\n",
+    ),
+    text: concat!(
+        "A joined 1\n",
+        "A out 070000010200000000FF00112233445566778899AABBCCDDEEFF064005D9\n",
+        "B joined 2\n",
+        "B out 070000010200000000FF00112233445566778899AABBCCDDEEFF064005D9\n",
+        "C joined 3\n",
+        "C out 070000010200000000FF00112233445566778899AABBCCDDEEFF064005D9\n",
+    ),
+};
 
 pub const CASES: [Case; 11] = [
     Case {
         name: "connect",
-        before: concat!("hub 0200000000FF 00112233445566778899AABBCCDDEEFF 0640 05D9 256 64\n",),
+        before: &HUB,
         lines: concat!(
             "open A\n",
             "in A 06000001 02000000000A AAAAAAAAAAAAAAAAAAAAAAAAAAAAAAAA 0640 05D9\n",
@@ -16,15 +94,7 @@ pub const CASES: [Case; 11] = [
     },
     Case {
         name: "takeover",
-        before: concat!(
-            "hub 0200000000FF 00112233445566778899AABBCCDDEEFF 0640 05D9 256 64\n",
-            "open A\n",
-            "in A 06000001 02000000000A AAAAAAAAAAAAAAAAAAAAAAAAAAAAAAAA 0640 05D9\n",
-            "open B\n",
-            "in B 06000001 02000000000B BBBBBBBBBBBBBBBBBBBBBBBBBBBBBBBB 0640 05D9\n",
-            "open C\n",
-            "in C 06000001 02000000000C CCCCCCCCCCCCCCCCCCCCCCCCCCCCCCCC 0640 05D9\n",
-        ),
+        before: &THREE,
         lines: concat!(
             "open A2\n",
             "in A2 06000001 02000000000A AAAAAAAAAAAAAAAAAAAAAAAAAAAAAAAA 0640 05D9\n",
@@ -43,15 +113,7 @@ pub const CASES: [Case; 11] = [
     },
     Case {
         name: "unicast",
-        before: concat!(
-            "hub 0200000000FF 00112233445566778899AABBCCDDEEFF 0640 05D9 256 64\n",
-            "open A\n",
-            "in A 06000001 02000000000A AAAAAAAAAAAAAAAAAAAAAAAAAAAAAAAA 0640 05D9\n",
-            "open B\n",
-            "in B 06000001 02000000000B BBBBBBBBBBBBBBBBBBBBBBBBBBBBBBBB 0640 05D9\n",
-            "open C\n",
-            "in C 06000001 02000000000C CCCCCCCCCCCCCCCCCCCCCCCCCCCCCCCC 0640 05D9\n",
-        ),
+        before: &THREE,
         lines: concat!("in A 01040002 02000000000B 0120FFFF00FF1008\n",),
         text: concat!(
             "A sent 2\n",
@@ -60,15 +122,7 @@ pub const CASES: [Case; 11] = [
     },
     Case {
         name: "broadcast",
-        before: concat!(
-            "hub 0200000000FF 00112233445566778899AABBCCDDEEFF 0640 05D9 256 64\n",
-            "open A\n",
-            "in A 06000001 02000000000A AAAAAAAAAAAAAAAAAAAAAAAAAAAAAAAA 0640 05D9\n",
-            "open B\n",
-            "in B 06000001 02000000000B BBBBBBBBBBBBBBBBBBBBBBBBBBBBBBBB 0640 05D9\n",
-            "open C\n",
-            "in C 06000001 02000000000C CCCCCCCCCCCCCCCCCCCCCCCCCCCCCCCC 0640 05D9\n",
-        ),
+        before: &THREE,
         lines: concat!("in A 01040002 FFFFFFFFFFFF 0120FFFF00FF1008\n",),
         text: concat!(
             "A sentall to=2,3 missed=- skipped=-\n",
@@ -78,15 +132,7 @@ pub const CASES: [Case; 11] = [
     },
     Case {
         name: "full outbox",
-        before: concat!(
-            "hub 0200000000FF 00112233445566778899AABBCCDDEEFF 0640 05D9 256 2\n",
-            "open A\n",
-            "in A 06000001 02000000000A AAAAAAAAAAAAAAAAAAAAAAAAAAAAAAAA 0640 05D9\n",
-            "open B\n",
-            "in B 06000001 02000000000B BBBBBBBBBBBBBBBBBBBBBBBBBBBBBBBB 0640 05D9\n",
-            "open C\n",
-            "in C 06000001 02000000000C CCCCCCCCCCCCCCCCCCCCCCCCCCCCCCCC 0640 05D9\n",
-        ),
+        before: &THREE_WITH_TWO_PLACES,
         lines: concat!(
             "hold B\n",
             "in A 01040002 02000000000B 0100\n",
@@ -106,29 +152,13 @@ pub const CASES: [Case; 11] = [
     },
     Case {
         name: "heartbeat",
-        before: concat!(
-            "hub 0200000000FF 00112233445566778899AABBCCDDEEFF 0640 05D9 256 64\n",
-            "open A\n",
-            "in A 06000001 02000000000A AAAAAAAAAAAAAAAAAAAAAAAAAAAAAAAA 0640 05D9\n",
-            "open B\n",
-            "in B 06000001 02000000000B BBBBBBBBBBBBBBBBBBBBBBBBBBBBBBBB 0640 05D9\n",
-            "open C\n",
-            "in C 06000001 02000000000C CCCCCCCCCCCCCCCCCCCCCCCCCCCCCCCC 0640 05D9\n",
-        ),
+        before: &THREE,
         lines: concat!("in A 0A000005 AA\n", "in A 0A000006\n",),
         text: concat!("A out 000000050A010000070096\n", "A out 0B000006\n",),
     },
     Case {
         name: "disconnect",
-        before: concat!(
-            "hub 0200000000FF 00112233445566778899AABBCCDDEEFF 0640 05D9 256 64\n",
-            "open A\n",
-            "in A 06000001 02000000000A AAAAAAAAAAAAAAAAAAAAAAAAAAAAAAAA 0640 05D9\n",
-            "open B\n",
-            "in B 06000001 02000000000B BBBBBBBBBBBBBBBBBBBBBBBBBBBBBBBB 0640 05D9\n",
-            "open C\n",
-            "in C 06000001 02000000000C CCCCCCCCCCCCCCCCCCCCCCCCCCCCCCCC 0640 05D9\n",
-        ),
+        before: &THREE,
         lines: concat!("in A 08000007\n", "in B 01040002 02000000000A 0100\n",),
         text: concat!(
             "A out 09000007\n",
@@ -139,54 +169,27 @@ pub const CASES: [Case; 11] = [
     },
     Case {
         name: "text",
-        before: concat!(
-            "hub 0200000000FF 00112233445566778899AABBCCDDEEFF 0640 05D9 256 64\n",
-            "open A\n",
-            "in A 06000001 02000000000A AAAAAAAAAAAAAAAAAAAAAAAAAAAAAAAA 0640 05D9\n",
-            "open B\n",
-            "in B 06000001 02000000000B BBBBBBBBBBBBBBBBBBBBBBBBBBBBBBBB 0640 05D9\n",
-            "open C\n",
-            "in C 06000001 02000000000C CCCCCCCCCCCCCCCCCCCCCCCCCCCCCCCC 0640 05D9\n",
-        ),
+        before: &THREE,
         lines: concat!("text A\n",),
         text: concat!("A close 1003\n", "A gone left 0\n",),
     },
     Case {
         name: "drop",
-        before: concat!(
-            "hub 0200000000FF 00112233445566778899AABBCCDDEEFF 0640 05D9 256 64\n",
-            "open A\n",
-            "in A 06000001 02000000000A AAAAAAAAAAAAAAAAAAAAAAAAAAAAAAAA 0640 05D9\n",
-            "open B\n",
-            "in B 06000001 02000000000B BBBBBBBBBBBBBBBBBBBBBBBBBBBBBBBB 0640 05D9\n",
-            "open C\n",
-            "in C 06000001 02000000000C CCCCCCCCCCCCCCCCCCCCCCCCCCCCCCCC 0640 05D9\n",
-            "open D\n",
-        ),
-        lines: concat!("drop A\n", "drop D\n", "open D\n", "text D\n",),
+        before: &THREE,
+        lines: concat!("open D\n", "drop A\n", "drop D\n", "open D\n", "text D\n",),
         text: concat!("A gone left 0\n", "D close 1003\n",),
     },
     Case {
         name: "idle",
-        before: concat!(
-            "hub 0200000000FF 00112233445566778899AABBCCDDEEFF 0640 05D9 256 64\n",
-            "open A\n",
-            "in A 06000001 02000000000A AAAAAAAAAAAAAAAAAAAAAAAAAAAAAAAA 0640 05D9\n",
-        ),
+        before: &ONE,
         lines: concat!("at 599999\n", "at 600000\n",),
         text: concat!("A close 1008 idle\n", "A gone left 0\n",),
     },
     Case {
         name: "stop",
-        before: concat!(
-            "hub 0200000000FF 00112233445566778899AABBCCDDEEFF 0640 05D9 256 64\n",
-            "open A\n",
-            "in A 06000001 02000000000A AAAAAAAAAAAAAAAAAAAAAAAAAAAAAAAA 0640 05D9\n",
-            "open B\n",
-            "in B 06000001 02000000000B BBBBBBBBBBBBBBBBBBBBBBBBBBBBBBBB 0640 05D9\n",
-            "in A 01040002 02000000000B 0120FFFF00FF1008\n",
-        ),
+        before: &TWO,
         lines: concat!(
+            "in A 01040002 02000000000B 0120FFFF00FF1008\n",
             "stop\n",
             "stop\n",
             "open D\n",
@@ -195,6 +198,8 @@ pub const CASES: [Case; 11] = [
             "in B 09000001\n",
         ),
         text: concat!(
+            "A sent 2\n",
+            "B out 0108000202000000000A0120FFFF00FF1008\n",
             "hub counts joined=2 replaced=0 refused=0 unicasts=1 broadcasts=0 appended=1 dropped=0 full=0 missed=0\n",
             "A out 08000001\n",
             "B out 08000001\n",

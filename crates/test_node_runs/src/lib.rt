@@ -1,5 +1,5 @@
-//! Tests of the command `node`: nodes that are run by files of settings and of a script, over links, a clock and random words
-//! in memory.
+//! Tests of a node that is played: nodes that are run by files of settings and of a script, over links, a clock and random
+//! words in memory.
 //!
 //! They stand in a crate of their own, since a crate's own tests have all of its functions proved a second time. `rows` has
 //! the runs, `row` says what one is, and `playing` plays it. `watched` notes what a run does outside.
@@ -8,12 +8,12 @@
 #[cfg(test)]
 mod log;
 #[cfg(test)]
+mod outside;
+#[cfg(test)]
 mod playing;
 #[cfg(test)]
 mod row;
 #[cfg(test)]
 mod rows;
-#[cfg(test)]
-mod tests;
 #[cfg(test)]
 mod watched;

@@ -1,4 +1,4 @@
-use Rattle.bsc_node_pair.proofs.pair.settle.Given as goal
+use Rattle.test_node.proofs.pair.joined.settle.Given as goal
 
 abbrev pub invariant-loop-step : goal.invariant-loop-step
 invariant-loop-step g l = (s : g.L.Language.State) × g.L.Language.stands_for l.hub s

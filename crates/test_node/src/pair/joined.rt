@@ -1,23 +1,19 @@
 //! Two nodes and the hub of a script, joined by lists.
-ghost use Rattle.std.specs.Prelude.{IsTrue, OnOk};
-ghost use Rattle.bsc_node_core.specs.Events.{HasOctets};
+ghost use Rattle.std.specs.Prelude.{OnOk};
 
-use crate::peers::Who;
-use crate::telling::{text_of, write_hex};
+use super::who::Who;
+use crate::nodes::meet;
+use crate::telling::{write_actions, write_hex};
 use bsc_connector::Side;
 use bsc_node::{Action, LinkName, NodeEvent};
 use bsc_node_core::Node;
-use bsc_octets::Octets;
+use bsc_octets::NoMemory;
 use bsc_player::{Language, LineFault};
+use bsc_text::read_octets;
 use std::alloc::Global;
 use std::collections::VecDeque;
-use std::fmt::Write;
 use std::process::Abort;
 use std::str;
-use std::test::Fail;
-
-/// Times are below this.
-const LATEST: u64 = 1_000_000_000;
 
 /// The link to the hub.
 const HUB: LinkName = LinkName::Hub(Side::Primary);
@@ -33,7 +29,7 @@ enum Post {
 
 /// Two nodes, each with its link of their direct connection, and what is under way, oldest first.
 #[derive(Drop)]
-pub struct Pair {
+pub struct Joined {
     a: Node,
     b: Node,
     link_of_a: LinkName,
@@ -41,20 +37,22 @@ pub struct Pair {
     under_way: VecDeque<Post>,
 }
 
-/// Whether an NPDU that is sent has an octet.
-fn has_octets(event: &NodeEvent) -> bool
-    ensures { IsTrue result → HasOctets event.now }
-{
-    match event {
-        NodeEvent::Send { npdu, .. } => !npdu.is_empty(),
-        _ => true,
+/// What a node did is written, a line of all its actions.
+fn write_done(done: &mut String, who: Who, actions: &[Action]) -> Result<(), NoMemory> {
+    if actions.is_empty() {
+        return Ok(());
     }
+    done.push_str(who.name())?;
+    done.push_str(" ")?;
+    write_actions(done, actions)?;
+    done.push_str("\n")?;
+    Ok(())
 }
 
-impl Pair {
+impl Joined {
     /// Both, before they start.
-    pub fn make(alloc: Global) -> Result<Pair, Fail> {
-        Ok(Pair {
+    pub fn make(alloc: Global) -> Result<Joined, NoMemory> {
+        Ok(Joined {
             a: Who::A.node(alloc)?,
             b: Who::B.node(alloc)?,
             link_of_a: HUB,
@@ -78,7 +76,7 @@ impl Pair {
     }
 
     /// An event is to come to a node.
-    pub fn tell(&mut self, who: Who, event: NodeEvent) -> Result<(), Fail> {
+    pub fn tell(&mut self, who: Who, event: NodeEvent) -> Result<(), NoMemory> {
         self.under_way.push_back(Post::Event(who, event))?;
         Ok(())
     }
@@ -90,19 +88,15 @@ impl Pair {
         word: &str,
         who: Who,
         message: &[u8],
-    ) -> Result<(), Fail> {
-        let mut line = String::new(alloc);
-        line.push_str(word)?;
-        line.push_str(" ")?;
-        line.push_str(who.name())?;
-        line.push_str(" ")?;
+    ) -> Result<(), NoMemory> {
+        let mut line = format!(in alloc; "{word} {} ", who.name())?;
         write_hex(&mut line, message)?;
         self.under_way.push_back(Post::Line(line))?;
         Ok(())
     }
 
     /// What a node does is done.
-    fn act(&mut self, alloc: Global, who: Who, action: &Action) -> Result<(), Fail> {
+    fn act(&mut self, alloc: Global, who: Who, action: &Action) -> Result<(), NoMemory> {
         let other = who.other();
         let there = self.link_of(other);
         match action {
@@ -140,36 +134,43 @@ impl Pair {
         who: Who,
         event: &NodeEvent,
         done: &mut String,
-    ) -> Result<(), Fail> {
-        assert!(rt; now < LATEST && has_octets(event));
+    ) -> Result<(), NoMemory> {
         let actions = match who {
-            Who::A => self.a.event(alloc, now, event)?,
-            Who::B => self.b.event(alloc, now, event)?,
+            Who::A => meet(rt, alloc, &mut self.a, now, event)?,
+            Who::B => meet(rt, alloc, &mut self.b, now, event)?,
         };
-        if !actions.as_slice().is_empty() {
-            let text = text_of(alloc, &actions)?;
-            writeln!(done, "{} {}", who.name(), text.as_str())?;
-        }
+        write_done(done, who, actions.as_slice())?;
         for action in actions.as_slice() {
             self.act(alloc, who, action)?;
         }
         Ok(())
     }
 
-    /// What the hub wrote is done.
-    fn hear_hub(&mut self, alloc: Global, text: &[u8]) -> Result<(), Fail> {
-        for line in str::from_utf8(text)?.lines() {
-            let mut words = line.split_whitespace();
-            match (words.next(), words.next(), words.next()) {
-                (Some(name), Some("out"), Some(message)) => {
-                    let message = Octets::from_vec(hex::decode(alloc, message)?);
-                    self.tell(Who::named(name), NodeEvent::Came(HUB, message))?;
-                }
-                (Some(name), Some("close"), _) => {
-                    self.tell(Who::named(name), NodeEvent::Lost(HUB))?;
-                }
-                _ => {}
+    /// A line that the hub wrote is done.
+    fn hear_line(&mut self, alloc: Global, line: &str) -> Result<(), LineFault> {
+        let mut words = line.split_whitespace();
+        match (words.next(), words.next(), words.next()) {
+            (Some(name), Some("out"), Some(digits)) => {
+                let Ok(message) = read_octets(alloc, digits.as_bytes()) else {
+                    return Err(LineFault::Refused);
+                };
+                self.tell(Who::named(name), NodeEvent::Came(HUB, message))?;
             }
+            (Some(name), Some("close"), _) => {
+                self.tell(Who::named(name), NodeEvent::Lost(HUB))?;
+            }
+            _ => {}
+        }
+        Ok(())
+    }
+
+    /// What the hub wrote is done.
+    fn hear_hub(&mut self, alloc: Global, text: &[u8]) -> Result<(), LineFault> {
+        let Ok(text) = str::from_utf8(text) else {
+            return Err(LineFault::Refused);
+        };
+        for line in text.lines() {
+            self.hear_line(alloc, line)?;
         }
         Ok(())
     }
@@ -190,10 +191,10 @@ fn step<L: Language>(
     rt: &impl Abort,
     alloc: Global,
     now: u64,
-    pair: &mut Pair,
+    pair: &mut Joined,
     hub: &mut L,
     done: &mut String,
-) -> Result<bool, Fail>
+) -> Result<bool, LineFault>
     requires { (s : L.State) × L.stands_for hub.old s }
     ensures { OnOk result ((s : L.State) × L.stands_for hub.new s) }
 {
@@ -216,9 +217,9 @@ pub fn settle<L: Language>(
     rt: &impl Abort,
     alloc: Global,
     now: u64,
-    pair: &mut Pair,
+    pair: &mut Joined,
     hub: &mut L,
-) -> Result<String, Fail>
+) -> Result<String, LineFault>
     requires { (s : L.State) × L.stands_for hub.old s }
     ensures { OnOk result ((s : L.State) × L.stands_for hub.new s) }
 {

@@ -1,11 +1,11 @@
 //! What two nodes on a hub are asked to do one after another, and what both do then.
-use crate::peers::Who;
+use super::who::Who;
 use bsc_node::NodeEvent;
 use bsc_octets::{NoMemory, Octets};
 use std::alloc::Global;
 
 /// What a node is asked for: of the other one, beside to start.
-#[derive(Clone, Copy, Debug)]
+#[derive(Clone, Copy)]
 pub enum Wanted {
     Start,
     Npdu([u8; 3]),
@@ -14,7 +14,7 @@ pub enum Wanted {
 }
 
 /// Something that a node is asked for, and what both do until nothing is under way any more, an event a line.
-#[derive(Clone, Copy, Debug)]
+#[derive(Clone, Copy)]
 pub struct Wish {
     pub now: u64,
     pub who: Who,

@@ -1,5 +1,5 @@
 //! An outside of which is noted what is done.
-use crate::log::Log;
+use crate::log::{Deed, Log};
 use bsc_edge::{Clock, Dialer, Incoming, Kind, Link, LinkFault};
 use bsc_octets::NoMemory;
 use std::alloc::Global;
@@ -37,23 +37,6 @@ impl<C: Clock> Clock for Watched<C> {
     }
 }
 
-/// What is noted of a put.
-fn put_text(alloc: Global, name: &str, m: &[u8]) -> Result<String, NoMemory> {
-    match hex::encode_upper(alloc, m) {
-        Ok(digits) => Ok(format!(in alloc; "{name} put {digits}")?),
-        Err(_) => Err(NoMemory),
-    }
-}
-
-/// What is noted of a closing.
-fn close_text(alloc: Global, name: &str, code: u16, reason: &str) -> Result<String, NoMemory> {
-    if reason.is_empty() {
-        Ok(format!(in alloc; "{name} close {code}")?)
-    } else {
-        Ok(format!(in alloc; "{name} close {code} {reason}")?)
-    }
-}
-
 impl<L: Link> Link for Watched<L> {
     ghost faults = { λ l. L.faults l.inner };
 
@@ -66,12 +49,12 @@ impl<L: Link> Link for Watched<L> {
     }
 
     fn put(&mut self, alloc: Global, m: &[u8]) -> Result<(), LinkFault> {
-        self.log.note(put_text(alloc, self.name, m));
+        self.log.note(Deed::Put(self.name, m));
         self.inner.put(alloc, m)
     }
 
     fn close(&mut self, alloc: Global, code: u16, reason: &str) -> Result<(), LinkFault> {
-        self.log.note(close_text(alloc, self.name, code, reason));
+        self.log.note(Deed::Close(self.name, code, reason));
         self.inner.close(alloc, code, reason)
     }
 
@@ -84,21 +67,6 @@ impl<L: Link> Link for Watched<L> {
     }
 }
 
-/// What a link of this kind is for.
-fn kind_text(kind: Kind) -> &'static str {
-    match kind {
-        Kind::Hub => "hub",
-        Kind::Direct => "direct",
-    }
-}
-
-/// What is noted of a dial.
-fn dial_text(alloc: Global, uri: &[u8], kind: Kind) -> Result<String, NoMemory> {
-    let uri = String::from_utf8_lossy(alloc, uri)?;
-    let kind = kind_text(kind);
-    Ok(format!(in alloc; "dial {kind} {uri}")?)
-}
-
 impl<L, D: Dialer<L>> Dialer<L> for Watched<D> {
     ghost faults = { λ d. D.faults d.inner };
 
@@ -107,7 +75,7 @@ impl<L, D: Dialer<L>> Dialer<L> for Watched<D> {
     ghost left = { λ d. D.left d.inner };
 
     fn dial(&mut self, alloc: Global, uri: &[u8], kind: Kind) -> Result<L, LinkFault> {
-        self.log.note(dial_text(alloc, uri, kind));
+        self.log.note(Deed::Dial(kind, uri));
         self.inner.dial(alloc, uri, kind)
     }
 }
