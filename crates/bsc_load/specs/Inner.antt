@@ -1,8 +1,10 @@
 -- What the inner functions of a workload say of each other; no public clause cites any of it.
-use Rattle.std.specs.Prelude.{◌≡◌, ◌⊎◌, ◌≤◌, ◌<◌, ℕ, ◌-◌, ◌^◌, min, nat_lt, true, false, if◌then◌else◌, List, [], ◌∷◌, ◌++◌, length, map, take, count_by, None, Result, Ok, Err, IsTrue, IfOk, IfErr, IsErr, ◌↔◌, ◌+◌, Some, position, ⊤}
-use Rattle.std.specs.List.{AllByRecursion, filter, list_any, range_with_len}
+use Rattle.std.specs.Prelude.{◌≡◌, ◌⊎◌, ◌≤◌, ◌<◌, ◌↔◌, ℕ, ◌+◌, ◌-◌, ◌^◌, min, nat_lt, true, false, if◌then◌else◌, IsTrue, ⊤}
+use Rattle.std.specs.Prelude.{List, [], ◌∷◌, ◌++◌, length, map, take, count_by, position, Some, None, Result, Ok, Err, IfOk, IfErr, IsErr}
+use Rattle.std.specs.List.{AllByRecursion, list_any, range_with_len}
 use Rattle.bsc_octets.specs.declared.identity.Identity.{Identity}
 use Rattle.bsc_octets.specs.declared.vmac.Vmac.{Vmac}
+use Rattle.bsc_history.specs.declared.call.Call.{Call}
 use Rattle.bsc_history.specs.declared.call.Call.TheVariants.{Connect, Forward, Leave}
 use Rattle.bsc_history.specs.declared.counts.Counts.{Counts}
 use Rattle.bsc_history.specs.declared.entry.Entry.{Entry}
@@ -39,7 +41,7 @@ use Rattle.bsc_load.specs.declared.jobs.Work.{Work}
 use Rattle.bsc_load.specs.Frames.{frame, npdu_octets}
 use Rattle.bsc_load.specs.Load.{Loads, ShowsCut, Worker, WorksPart, WorksWhole, all_octets}
 use Rattle.bsc_load.specs.Peers.{receiver, sender}
-use Rattle.bsc_load.specs.Workers.{IsPart, IsWhole, calls, forwards, is_asking, within_64_bits}
+use Rattle.bsc_load.specs.Workers.{IsPart, IsWhole, calls, forwards, within_64_bits}
 
 -- the octets of NPDU that an outlet gave are so many
 abbrev pub IsCounted : Outlet → ℕ → Type 0
@@ -100,6 +102,7 @@ cut_of (Refused at refusal) = Short
 pub record Unjoined (h : Hub) (who : Identity) (p q : Pass) (cut : Cut) : Type 0 where
   pub made : List Entry
   pub calls : (calls made ≡ []) ⊎ (calls made ≡ Connect who ∷ [])
+  pub quiet : joined made ≡ []
   pub goes : Goes h p made q
   pub holds : Holds p q
   pub shows : ShowsBy 1 h (seen q) made cut
@@ -123,11 +126,21 @@ pub record RanBoth (h : Hub) (i s : ℕ) (p q : Pass) (octets : ℕ) : Type 0 wh
   pub first : AreFirst (about_of h) (seen q) conn frames
   pub counted : octets ≡ within_64_bits (npdu_octets frames)
 
+-- what a worker that was cut short calls between its sender's connect and its sender's leave, by its receiver's connection,
+-- where that joined
+abbrev pub inner_calls : ℕ → ℕ → List ℕ → ℕ → ℕ → ℕ → List Call
+inner_calls i s [] n taken empties = take n (Connect (receiver i) ∷ [])
+inner_calls i s (r ∷ others) n taken empties = Connect (receiver i) ∷ take n (forwards i s 1000) ++ Leave r taken empties ∷ []
+
 -- the first of it
 pub record CutBoth (h : Hub) (i s : ℕ) (p q : Pass) (cut : Cut) : Type 0 where
-  pub count : ℕ
+  pub who : List ℕ
+  pub more : ℕ
+  pub taken : ℕ
+  pub empties : ℕ
   pub made : List Entry
-  pub calls : filter is_asking (calls made) ≡ take count (Connect (receiver i) ∷ forwards i s 1000)
+  pub calls : calls made ≡ inner_calls i s who more taken empties
+  pub joined : numbers (joined made) ≡ who
   pub goes : Goes h p made q
   pub owns : IsOwnAs q s (sender i).vmac
   pub shows : ShowsBy 1002 h (seen q) made cut

@@ -15,6 +15,7 @@ use Rattle.bsc_history.specs.declared.mark.Stamped.{Stamped}
 use Rattle.bsc_history.specs.declared.told.AlreadyStopped.{AlreadyStopped}
 use Rattle.bsc_history.specs.declared.told.Told.{Told}
 use Rattle.bsc_history.specs.Counting.{counts}
+use Rattle.bsc_history.specs.Ends.{joined_where}
 use Rattle.bsc_history.specs.Entries.{own}
 use Rattle.bsc_history.specs.Marks.{entries}
 use Rattle.bsc_history.specs.Replies.{is_stopped}
@@ -40,21 +41,24 @@ use Rattle.bsc_storm.specs.declared.works.Cut.TheVariants.{NoMemory, Short}
 use Rattle.bsc_storm.specs.declared.works.Work.{Work}
 use Rattle.bsc_storm.specs.Inner.{Did, Finishes, HasRun, Joins, MayRun, SeesAll, ShowsBy, Splits, StormsFrom, all_short, all_taken_of, any_lacks, came_of, ended_in, ends_as, lacks, short_of, taken_of}
 use Rattle.bsc_storm.specs.Peers.{taken_over}
-use Rattle.bsc_storm.specs.Storms.{LackedMemory, Ran, ShowsCut, Storms, Worker, WorksWhole, in_list, own_in, short_as}
+use Rattle.bsc_storm.specs.Storms.{Crew, LackedMemory, Ran, ShowsCut, Storms, Worker, WorksWhole, in_list, own_in, short_as}
 use Rattle.bsc_storm.specs.Workers.{AreStays, IsPart, IsWhole, ShowsShort, Stay, stay_calls, whole_length}
 use Rattle.bsc_storm.proofs.Forwarding.{part_of_sender}
 use Rattle.bsc_storm.proofs.Stays.{part_of_stays}
 use Rattle.bsc_storm.proofs.Taken.{all_taken, own_two, taken_by, taken_few}
+use Rattle.bsc_storm.proofs.Taking.{at_end}
 use Rattle.bsc_load.specs.Workers.{calls}
 
 -- what a work is as a worker, by the history that was seen in the end
 
 part_of_whole : (sends : Bool) (n : ℕ) (E : List Entry) (t : ℕ) → IsWhole sends n E t → IsPart sends n E
-part_of_whole false n E t w = part_of_stays n w.stays E w.many w.calls
+part_of_whole false n E t w = part_of_stays n E t w
 part_of_whole true n E t w = part_of_sender n E t w
 
 part_of_none : (sends : Bool) (n : ℕ) → IsPart sends n []
-part_of_none sends n = record { sender = 0; count = 0; calls = refl }
+unfolding joined_where
+part_of_none false n = record { stays = []; more = 0; few = omega arith; calls = refl; joined = refl; takes = tt }
+part_of_none true n = record { who = []; more = 0; calls = refl; joined = refl }
 
 -- a worker, of which this is known: its pass, where it got one, what it came to, and the callers that were taken in
 record Known (h : Hub) (sends : Bool) (n : ℕ) (p : Option Pass) (ends : List Ended) (q : Pass) (r : Result ℕ Cut) (x : Worker) : Type 0 where
@@ -175,10 +179,6 @@ taken_whole n E t w = taken_calls E ∙ ap (sum_by taken_by) w.calls ∙ taken_s
 
 -- what the pass took in is what it saw of those callers
 module _ (h : Hub) (p q : Pass) (a b c : Ended) (made : Option Placed) (x : Passed h p (a ∷ b ∷ c ∷ []) made q) where
-  at_end : (xs ys : List Ended) (e : Ended) → get_elem? (xs ++ e ∷ ys) (length xs) ≡ some e
-  at_end [] ys e = refl
-  at_end (y ∷ xs) ys e = at_end xs ys e
-
   own_first : own (entries (seen q)) a.number ≡ a.own
   own_first =
       let sound = x.caller.0.1.1 in
@@ -230,24 +230,22 @@ none_lack false false true e = no_cut _ (sym e)
 
 -- the three, as the pass q knows them in the end
 record Three (h : Hub) (n : ℕ) (p q : Pass) (one other sends : Option Pass) (x y z : Option Work) (made : Option Placed) : Type 0 where
-  pub X : Worker
-  pub Y : Worker
-  pub Z : Worker
-  pub first : Known h false n one (ended_in x) q (came_of x) X
-  pub second : Known h false n other (ended_in y) q (came_of y) Y
-  pub third : Known h true n sends (ended_in z) q (came_of z) Z
-  pub ran : Ran h p q n X Y Z made
+  pub crew : Crew
+  pub first : Known h false n one (ended_in x) q (came_of x) crew.one
+  pub second : Known h false n other (ended_in y) q (came_of y) crew.other
+  pub third : Known h true n sends (ended_in z) q (came_of z) crew.sends
+  pub ran : Ran h p q n crew made
 
 -- what the two took is no more than was appended
-took_few : (h : Hub) (n : ℕ) (p q : Pass) (X Y Z : Worker) (made : Option Placed) → Ran h p q n X Y Z made → (a : WorksWhole false n X) → (b : WorksWhole false n Y) → WorksWhole true n Z → a.ended.number ≢ b.ended.number →
-    X.taken + Y.taken ≤ (counts (entries (seen q))).appended
-took_few h n p q X Y Z made ran a b c apart =
+took_few : (h : Hub) (n : ℕ) (p q : Pass) (w : Crew) (made : Option Placed) → Ran h p q n w made → (a : WorksWhole false n w.one) → (b : WorksWhole false n w.other) → WorksWhole true n w.sends → a.ended.number ≢ b.ended.number →
+    w.one.taken + w.other.taken ≤ (counts (entries (seen q))).appended
+took_few h n p q w made ran a b c apart =
     let H = entries (seen q) in
     let passed : Passed h p (a.ended ∷ b.ended ∷ c.ended ∷ []) made q =
-    lists_as h p q made (in_list X.caller) (in_list Y.caller) (in_list Z.caller) (a.ended ∷ []) (b.ended ∷ []) (c.ended ∷ [])
+    lists_as h p q made (in_list w.one.caller) (in_list w.other.caller) (in_list w.sends.caller) (a.ended ∷ []) (b.ended ∷ []) (c.ended ∷ [])
     (sym (ap in_list a.caller)) (sym (ap in_list b.caller)) (sym (ap in_list c.caller)) ran.passed in
-    let one : all_taken (own H a.ended.number) ≡ X.taken = ap all_taken (own_first h p q a.ended b.ended c.ended made passed) ∙ taken_whole n a.ended.own X.taken a.whole in
-    let two : all_taken (own H b.ended.number) ≡ Y.taken = ap all_taken (own_second h p q a.ended b.ended c.ended made passed) ∙ taken_whole n b.ended.own Y.taken b.whole in
+    let one : all_taken (own H a.ended.number) ≡ w.one.taken = ap all_taken (own_first h p q a.ended b.ended c.ended made passed) ∙ taken_whole n a.ended.own w.one.taken a.whole in
+    let two : all_taken (own H b.ended.number) ≡ w.other.taken = ap all_taken (own_second h p q a.ended b.ended c.ended made passed) ∙ taken_whole n b.ended.own w.other.taken b.whole in
     let both = own_two H a.ended.number b.ended.number apart in
     let few = taken_few (about_of h) H passed.caller.1 in
     omega (arith, one, two, both, few)
@@ -266,9 +264,7 @@ module _ (h : Hub) (n : ℕ) (p m v : Pass) (one other sends : Option Pass) (x y
       let took = ended_in x ++ (ended_in y ++ ended_in z) in
       let all : Passed h p took made q = subst (λ (l : List Ended). Passed h p l made q) (append-nil took) (passed_then h p v q took [] made (passed_then h p m v [] took None split.passed j.passed) last) in
       record {
-        X = kx.0;
-        Y = ky.0;
-        Z = kz.0;
+        crew = record { one = kx.0; other = ky.0; sends = kz.0 };
         first = kx.1;
         second = ky.1;
         third = kz.1;
@@ -284,7 +280,7 @@ module _ (h : Hub) (n : ℕ) (p m v : Pass) (one other sends : Option Pass) (x y
   same_stop q told s = subst (λ k. Passed h v [] (stop_made k told) q) (j.passed.number ∙ split.passed.number) s.passed
 
   -- the two that stay have different numbers
-  numbers_apart : (q : Pass) (made : Option Placed) (t : Three h n p q one other sends x y z made) (a b : Ended) → t.X.caller ≡ Some a → t.Y.caller ≡ Some b → a.number ≢ b.number
+  numbers_apart : (q : Pass) (made : Option Placed) (t : Three h n p q one other sends x y z made) (a b : Ended) → t.crew.one.caller ≡ Some a → t.crew.other.caller ≡ Some b → a.number ≢ b.number
   numbers_apart q made t a b is_a is_b =
       let k = t.first.number a is_a in
       let l = t.second.number b is_b in
@@ -295,9 +291,7 @@ module _ (h : Hub) (n : ℕ) (p m v : Pass) (one other sends : Option Pass) (x y
   some_short q told short is s least =
       let t = three_by q (stop_made (number_of p) told) (same_stop q told s) s.loaded in
       record {
-        x = t.X;
-        y = t.Y;
-        z = t.Z;
+        workers = t.crew;
         told = told;
         ran = t.ran;
         some = least;
@@ -316,28 +310,28 @@ module _ (h : Hub) (n : ℕ) (p m v : Pass) (one other sends : Option Pass) (x y
       let wy = t.second.whole f.1 (omega (arith, none)) in
       let wz = t.third.whole f.2 (omega (arith, none)) in
       let apart = numbers_apart q (stop_made (number_of p) (Ok told)) t wx.0.ended wy.0.ended wx.0.caller wy.0.caller in
-      let few = took_few h n p q t.X t.Y t.Z (stop_made (number_of p) (Ok told)) t.ran wx.0 wy.0 wz.0 apart in
+      let few = took_few h n p q t.crew (stop_made (number_of p) (Ok told)) t.ran wx.0 wy.0 wz.0 apart in
       let same = stop_appends_none h v q told s in
       record {
-        x = t.X;
-        y = t.Y;
-        z = t.Z;
+        workers = t.crew;
         told = told;
         ran = t.ran;
-        whole = (wx.0, wy.0, wz.0);
+        whole = record { one = wx.0; other = wy.0; sends = wz.0 };
         counts = s.due;
-        taken = add_within 0 (taken_of (came_of x)) (taken_of (came_of y)) t.X.taken t.Y.taken wx.1 wy.1;
+        taken = add_within 0 (taken_of (came_of x)) (taken_of (came_of y)) t.crew.one.taken t.crew.other.taken wx.1 wy.1;
         few = omega (arith, few, same);
       }
   none_short q (Err already) fine none s =
       let t = three_by q None s.passed s.loaded in
       let f = none_lack (lacks (came_of x)) (lacks (came_of y)) (lacks (came_of z)) fine in
       record {
-        x = t.X;
-        y = t.Y;
-        z = t.Z;
+        workers = t.crew;
         ran = t.ran;
-        whole = ((t.first.whole f.0 (omega (arith, none))).0, (t.second.whole f.1 (omega (arith, none))).0, (t.third.whole f.2 (omega (arith, none))).0);
+        whole = record {
+          one = (t.first.whole f.0 (omega (arith, none))).0;
+          other = (t.second.whole f.1 (omega (arith, none))).0;
+          sends = (t.third.whole f.2 (omega (arith, none))).0;
+        };
         place = s.place;
       }
 
@@ -349,7 +343,7 @@ module _ (h : Hub) (n : ℕ) (p m v : Pass) (one other sends : Option Pass) (x y
   lacking : LackedMemory h p v n
   lacking =
       let t = three_by v None (passed_none h v j.passed.caller) refl in
-      record { x = t.X; y = t.Y; z = t.Z; ran = t.ran }
+      record { workers = t.crew; ran = t.ran }
 
 pub storms_from : (h : Hub) (n : ℕ) (m q : Pass) (one other sends : Option Pass) (x y z : Option Work) (result : Result StormEnd LoadStop) →
     MayRun h false n one x → MayRun h false n other y → MayRun h true n sends z → Finishes h m q x y z result → StormsFrom h m one other sends n q result

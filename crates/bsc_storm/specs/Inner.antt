@@ -1,8 +1,11 @@
 -- What the inner functions of a storm say of each other; no public clause cites any of it.
-use Rattle.std.specs.Prelude.{◌≡◌, ◌⊎◌, ◌≤◌, ◌<◌, ℕ, ◌+◌, nat_lt, Bool, true, false, ◌||◌, if◌then◌else◌, List, [], ◌∷◌, ◌++◌, length, map, Option, Some, None, Result, Ok, Err, IsTrue, IfSome, ⊤}
+use Rattle.std.specs.Prelude.{◌≡◌, ◌≢◌, ◌⊎◌, ◌≤◌, ◌<◌, ℕ, ◌+◌, nat_lt, Bool, true, false, ◌||◌, if◌then◌else◌, IsTrue, ⊤}
+use Rattle.std.specs.Prelude.{List, [], ◌∷◌, ◌++◌, length, map, Option, Some, None, Result, Ok, Err, IfSome}
 use Rattle.std.specs.List.{list_any, sum_by}
 use Rattle.bsc_history.specs.declared.call.Call.TheVariants.{Connect, Forward, Leave}
 use Rattle.bsc_history.specs.declared.counts.Counts.{Counts}
+use Rattle.bsc_history.specs.declared.ending.End.{End}
+use Rattle.bsc_history.specs.declared.ending.End.TheVariants.{Left}
 use Rattle.bsc_history.specs.declared.entry.Entry.{Entry}
 use Rattle.bsc_history.specs.declared.mark.Stamped.{Stamped}
 use Rattle.bsc_history.specs.declared.told.AlreadyStopped.{AlreadyStopped}
@@ -12,6 +15,8 @@ use Rattle.bsc_history.specs.Counting.{is_refused}
 use Rattle.bsc_history.specs.Ends.{joined}
 use Rattle.bsc_history.specs.Marks.{entries}
 use Rattle.bsc_history.specs.Replies.{numbers}
+use Rattle.bsc_ring.specs.declared.ends.Outlet.{Outlet}
+use Rattle.bsc_ring.specs.Ends.{FoundEnd, empties_of, given}
 use Rattle.bsc_turn.specs.declared.pass.Pass.{Pass}
 use Rattle.bsc_turn.specs.declared.view.Ended.{Ended}
 use Rattle.bsc_turn.specs.Effects.{ended_of}
@@ -32,7 +37,7 @@ use Rattle.bsc_storm.specs.declared.works.Cut.TheVariants.{NoMemory, Short}
 use Rattle.bsc_storm.specs.declared.works.Work.{Work}
 use Rattle.bsc_storm.specs.Peers.{storm_frame, taken_over}
 use Rattle.bsc_storm.specs.Storms.{Storms}
-use Rattle.bsc_storm.specs.Workers.{IsPart, IsWhole, Stay, stay_calls, storm_forwards, whole_length}
+use Rattle.bsc_storm.specs.Workers.{IsPart, IsWhole, Stay, TakesAll, stay_calls, storm_forwards, whole_length}
 
 -- why a worker was cut short whose connect was refused
 abbrev pub cut_of : ConnectRefusal → Cut
@@ -50,6 +55,12 @@ abbrev pub ShowsBy : ℕ → Hub → List Stamped → List Entry → Cut → Typ
 ShowsBy n h S E NoMemory = ⊤
 ShowsBy n h S E Short = IsTrue (list_any (λ e. is_refused e.reply) E) ⊎ ((length E < n) × ((about_of h).limits.calls ≤ length (entries S)))
 
+-- an outlet from which a stay has taken: it gave 64 frames, or fewer until it was found empty once, or until its End was
+abbrev pub TookSome : Outlet → Type 0
+TookSome o =
+    ((length (given o) ≡ 64) × (empties_of o ≡ 0)) ⊎ ((length (given o) < 64) × (empties_of o ≡ 1))
+    ⊎ ((length (given o) < 64) × (empties_of o ≡ 0) × ((e : End) × (e ≢ Left) × FoundEnd o e))
+
 -- one stay: a connect that joined, and a leave
 pub record StaysOnce (h : Hub) (p q : Pass) (taken : ℕ) : Type 0 where
   pub conn : ℕ
@@ -59,12 +70,14 @@ pub record StaysOnce (h : Hub) (p q : Pass) (taken : ℕ) : Type 0 where
   pub joins : first.call ≡ Connect taken_over
   pub leaves : last.call ≡ Leave conn taken empties
   pub who : numbers (joined (first ∷ last ∷ [])) ≡ conn ∷ []
+  pub takes : TakesAll (first ∷ last ∷ [])
   pub goes : Goes h p (first ∷ last ∷ []) q
 
 -- a connect that didn't join, and nothing else
 pub record NoStay (h : Hub) (p q : Pass) (cut : Cut) : Type 0 where
   pub made : List Entry
   pub calls : (calls made ≡ []) ⊎ (calls made ≡ Connect taken_over ∷ [])
+  pub quiet : joined made ≡ []
   pub goes : Goes h p made q
   pub shows : ShowsBy 1 h (seen q) made cut
 
@@ -79,6 +92,7 @@ pub record Stayed (h : Hub) (n : ℕ) (p q : Pass) (all : ℕ) : Type 0 where
   pub made : List Entry
   pub calls : calls made ≡ stay_calls stays
   pub joined : numbers (joined made) ≡ map (λ s. s.conn) stays
+  pub takes : TakesAll made
   pub goes : Goes h p made q
   pub taken : all ≡ within_64_bits (sum_by (λ s. s.taken) stays)
 

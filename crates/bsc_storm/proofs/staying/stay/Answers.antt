@@ -14,4 +14,4 @@ returns-in-Ok g c =
     let j = c.in-Ok.joined in
     stays_once h p m c.leave-told.new.pass j c.take_some.new.outlet c.leave-told.result
     (subst (λ (who : Identity). Passed h p [] (connect_made (number_of p) who (Ok j)) m) c.taken_over.ensures c.in-Ok.ensures.pass)
-    c.leave-told.ensures.pass
+    c.leave-told.ensures.pass c.take_some.ensures.took c.leave-told.ensures.taken c.leave-told.ensures.found
