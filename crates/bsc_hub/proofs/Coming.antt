@@ -14,7 +14,7 @@ use Rattle.bsc_turn.specs.declared.view.Ended.{Ended}
 use Rattle.bsc_turn.specs.Histories.{StartsWith}
 use Rattle.bsc_turn.specs.Passes.{seen}
 use Rattle.bsc_hub.specs.declared.hub.Hub.{Hub}
-use Rattle.bsc_hub.specs.Passing.{IsCaller, Passed, Placed, about_of}
+use Rattle.bsc_hub.specs.Passing.{IsCaller, Placed, Went, about_of}
 use Rattle.bsc_hub.specs.Testing.{AreFirst, CameBy, HasEntered, Keeps, Receives}
 use Rattle.bsc_hub.proofs.Entering.{sent_grows}
 use Rattle.bsc_hub.proofs.Guarding.{parts}
@@ -40,13 +40,13 @@ module _ {Z : Type 0} where
   came_more a S [] one so new = (new, tt)
   came_more a S (first ∷ more) one so new = (so.0, came_more a S more one so.1 new)
 
-  pub keeps_still : (h : Hub) (p q : Pass) (took : List Ended) (made : Option Placed) (came : List (ℕ × Vec (List ℕ) Z)) → Passed h p took made q → Keeps h p came → Keeps h q came
+  pub keeps_still : {drew : ℕ} → (h : Hub) (p q : Pass) (took : List Ended) (made : Option Placed) (came : List (ℕ × Vec (List ℕ) Z)) → Went h p drew took made q → Keeps h p came → Keeps h q came
   keeps_still h p q took made came passed keeps = (passed.caller, came_grows (about_of h) (seen p) (seen q) came passed.grows keeps.1)
 
 -- A receiver has its connection by what its pass has seen after a call that made no entry.
-pub receives_still : (h : Hub) (p q : Pass) (took : List Ended) (c : ℕ) (o : Outlet) → Passed h p took None q → Receives h p c o → Receives h q c o
+pub receives_still : {drew : ℕ} → (h : Hub) (p q : Pass) (took : List Ended) (c : ℕ) (o : Outlet) → Went h p drew took None q → Receives h p c o → Receives h q c o
 receives_still h p q took c o passed has = (passed.caller, own_kept h p q took None c has.0 passed tt has.1, (mark_kept h p q took None c (outlet_mark o) passed has.2.0, has.2.1))
 
-pub entered_still : (h : Hub) (p q : Pass) (took : List Ended) (entered : Option (ℕ × Outlet)) → Passed h p took None q → HasEntered h p entered → HasEntered h q entered
+pub entered_still : {drew : ℕ} → (h : Hub) (p q : Pass) (took : List Ended) (entered : Option (ℕ × Outlet)) → Went h p drew took None q → HasEntered h p entered → HasEntered h q entered
 entered_still h p q took None passed has = tt
 entered_still h p q took (Some x) passed has = receives_still h p q took x.0 x.1 passed has

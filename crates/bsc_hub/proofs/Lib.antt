@@ -1,5 +1,6 @@
 pub mod Guarding
 pub mod Passing
+pub mod Following
 pub mod Owning
 pub mod Entering
 mod Leaves

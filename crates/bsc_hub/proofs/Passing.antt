@@ -1,5 +1,5 @@
 -- The pass clause of a call that entered, and committed an entry or went back.
-use Rattle.std.proofs.Common.{◌≡◌, ◌≤◌, ◌↔◌, ℕ, List, [], ◌∷◌, ◌++◌, length, take, Option, Some, None, refl, ap, sym, ◌∙◌, subst, append_assoc, append-nil}
+use Rattle.std.proofs.Common.{◌≡◌, ◌≤◌, ◌↔◌, ℕ, List, [], ◌∷◌, ◌++◌, length, take, Option, Some, None, refl, ap, sym, ◌∙◌, subst, append_assoc, append-nil, add-zero}
 use Rattle.std.specs.Prelude.{IsTrue}
 use Rattle.bsc_history.specs.declared.entry.Entry.{Entry}
 use Rattle.bsc_history.specs.declared.limits.About.{About}
@@ -12,7 +12,7 @@ use Rattle.bsc_turn.specs.declared.pass.Pass.{Pass}
 use Rattle.bsc_turn.specs.declared.view.View.{View}
 use Rattle.bsc_turn.specs.Effects.{having_seen}
 use Rattle.bsc_turn.specs.Histories.{StartsWith}
-use Rattle.bsc_turn.specs.Passes.{IsPassOf, after_back, after_commit, ended_callers, number_of, seen, view_of}
+use Rattle.bsc_turn.specs.Passes.{IsPassOf, after_back, after_commit, ended_callers, loads_made, number_of, seen, view_of}
 use Rattle.bsc_desk.specs.declared.desk.Desk.{Desk}
 use Rattle.bsc_desk.specs.Standing.{StandsFor}
 use Rattle.bsc_hub.specs.declared.hub.Hub.{Hub}
@@ -36,6 +36,7 @@ passed_with h p q w s at d is pass knows place same begins stands about =
       all_own = ap (own (entries (seen q))) (sym sound.2) ∙ sound.5.0;
       takes_in = ap (λ (v : View). v.ended) knows ∙ ap (λ (v : View). v.ended) same ∙ sym (append-nil (ended_callers p));
       makes = record { before = w.seen; begins = begins; ends = whole; place = place; grew = ap (λ (v : View). v.own) knows ∙ ap (λ (v : View). v.own ++ s.entry ∷ []) same };
+      draws = ap (λ (v : View). v.loads) knows ∙ ap (λ (v : View). v.loads) same ∙ sym (add-zero (loads_made p));
     }
 
 -- The guard with the view w went back.
@@ -50,6 +51,7 @@ passed_back h p q w d is pass knows same begins stands about =
       all_own = ap (own (entries (seen q))) (sym sound.2) ∙ sound.5.0;
       takes_in = ap (λ (v : View). v.ended) knows ∙ ap (λ (v : View). v.ended) same ∙ sym (append-nil (ended_callers p));
       makes = ap (λ (v : View). v.own) knows ∙ ap (λ (v : View). v.own) same;
+      draws = ap (λ (v : View). v.loads) knows ∙ ap (λ (v : View). v.loads) same ∙ sym (add-zero (loads_made p));
     }
 
 -- The history that a call found which committed an entry, and which went back, is all that its guard had seen.

@@ -1,7 +1,7 @@
 -- What each call of a hub says of its pass: the pass clause.
 --
 -- Whatever threads call one hub, their calls stand in one legal history, each once, in the order each caller had seen.
-use Rattle.std.specs.Prelude.{◌≡◌, ℕ, false, List, [], ◌∷◌, ◌++◌, length, take, Option, Some, None, IsTrue, ⊤}
+use Rattle.std.specs.Prelude.{◌≡◌, ℕ, ◌+◌, false, List, [], ◌∷◌, ◌++◌, length, take, Option, Some, None, IsTrue, ⊤}
 use Rattle.bsc_octets.specs.declared.vmac.Vmac.{Vmac}
 use Rattle.bsc_history.specs.declared.entry.Entry.{Entry}
 use Rattle.bsc_history.specs.declared.limits.About.{About}
@@ -14,7 +14,7 @@ use Rattle.bsc_history.specs.Outboxes.{vmac_of}
 use Rattle.bsc_turn.specs.declared.pass.Pass.{Pass}
 use Rattle.bsc_turn.specs.declared.view.Ended.{Ended}
 use Rattle.bsc_turn.specs.Histories.{StartsWith}
-use Rattle.bsc_turn.specs.Passes.{IsPassOf, ended_callers, number_of, own_list, seen}
+use Rattle.bsc_turn.specs.Passes.{IsPassOf, ended_callers, loads_made, number_of, own_list, seen}
 use Rattle.bsc_desk.specs.declared.desk.Desk.{Desk}
 use Rattle.bsc_hub.specs.declared.hub.Hub.{Hub}
 
@@ -57,16 +57,23 @@ abbrev pub Made : Pass → Option Placed → Pass → Type 0
 Made p (Some m) q = MadeOne p m q
 Made p None q = own_list q ≡ own_list p
 
--- The pass clause. A call with the pass p took these callers in, made this entry or none, and left the pass as q: it is
--- of this hub and what it has seen is legal; its number is unchanged; what it has seen begins with what it had seen;
--- its own list is exactly what it has seen of its caller; the callers that ended in it stay, each with its own list.
-pub record Passed (h : Hub) (p : Pass) (took : List Ended) (made : Option Placed) (q : Pass) : Type 0 where
+-- The pass clause. A call with the pass p asked for so many numbers of new callers, took these callers in, made this entry
+-- or none, and left the pass as q: it is of this hub and what it has seen is legal; its number is unchanged; what it has
+-- seen begins with what it had seen; its own list is exactly what it has seen of its caller; the callers that ended in it
+-- stay, each with its own list and its count of loads of the number word; and the loads that were made with it are those
+-- of before and one for each number asked for. So no other caller was made with it.
+pub record Went (h : Hub) (p : Pass) (drew : ℕ) (took : List Ended) (made : Option Placed) (q : Pass) : Type 0 where
   pub caller : IsCaller h q
   pub number : number_of q ≡ number_of p
   pub grows : StartsWith (seen q) (seen p)
   pub all_own : own (entries (seen q)) (number_of q) ≡ own_list q
   pub takes_in : ended_callers q ≡ ended_callers p ++ took
   pub makes : Made p made q
+  pub draws : loads_made q ≡ loads_made p + drew
+
+-- The pass clause of a call that asked for no number, as each call of a hub but a split: it made no caller.
+abbrev pub Passed : Hub → Pass → List Ended → Option Placed → Pass → Type 0
+Passed h p took made q = Went h p 0 took made q
 
 -- The history that a call found, which left its pass as q: all before the entry that it made, or all that the pass has
 -- then seen, where it made none.

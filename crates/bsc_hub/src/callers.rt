@@ -2,8 +2,8 @@
 ghost use Rattle.std.specs.Prelude.{◌≡◌, ◌≢◌, ◌<◌, ◌⊎◌, [], ◌∷◌, None, IfErr, IfOk};
 ghost use Rattle.bsc_turn.specs.Effects.{ended_of};
 ghost use Rattle.bsc_turn.specs.Histories.{IsLonger, StartsWith};
-ghost use Rattle.bsc_turn.specs.Passes.{ended_callers, newest_number, number_of, own_list, seen, view_of};
-ghost use Rattle.bsc_hub.specs.Passing.{IsCaller, Passed, about_of};
+ghost use Rattle.bsc_turn.specs.Passes.{ended_callers, loads_made, newest_number, number_of, own_list, seen, view_of};
+ghost use Rattle.bsc_hub.specs.Passing.{IsCaller, Passed, Went, about_of};
 
 use crate::hub::Hub;
 use bsc_turn::{NumbersSpent, Pass};
@@ -14,9 +14,12 @@ impl Hub {
     /// refused exactly where as many numbers are drawn as there may be callers. No memory is taken.
     pub fn split<R: Wait>(&self, rt: &R, pass: &mut Pass) -> Result<Pass, NumbersSpent>
         requires { IsCaller self.now pass.old }
-        ensures pass { Passed self.now pass.old [] None pass.new }
+
+        // It asks for one number, refused or not.
+        ensures pass { Went self.now pass.old 1 [] None pass.new }
         ensures new { IfOk result (λ p. IsCaller self.now p) }
         ensures seen { IfOk result (λ p. (seen p ≡ seen pass.old) × (own_list p ≡ []) × (ended_callers p ≡ [])) }
+        ensures fresh { IfOk result (λ p. loads_made p ≡ 0) }
         ensures number { IfOk result (λ p. (number_of p ≡ newest_number pass.new)
             × (number_of pass.old < number_of p)) }
         ensures newer { IfOk result (λ p. newest_number pass.old < number_of p) }

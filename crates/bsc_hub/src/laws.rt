@@ -8,16 +8,16 @@ ghost use Rattle.bsc_turn.specs.declared.pass.Pass.{Pass};
 ghost use Rattle.bsc_turn.specs.declared.view.Ended.{Ended};
 ghost use Rattle.bsc_turn.specs.Passes.{seen};
 ghost use Rattle.bsc_hub.specs.declared.hub.Hub.{Hub};
-ghost use Rattle.bsc_hub.specs.Passing.{IsCaller, IsOwnAs, Passed, Placed, StaysBy};
+ghost use Rattle.bsc_hub.specs.Passing.{IsCaller, IsOwnAs, Placed, StaysBy, Went};
 
 /// What is a caller's own by what its pass has seen stays so by each call but its leave, and so does its address.
 pub fn own_stays()
-    ensures { (h : Hub) (p q : Pass) (took : List Ended) (made : Option Placed) (c : ℕ) (v : Vmac) →
-        IsCaller h p → Passed h p took made q → StaysBy made c → IsOwnAs p c v → IsOwnAs q c v }
+    ensures { (h : Hub) (p q : Pass) (drew : ℕ) (took : List Ended) (made : Option Placed) (c : ℕ) (v : Vmac) →
+        IsCaller h p → Went h p drew took made q → StaysBy made c → IsOwnAs p c v → IsOwnAs q c v }
 {}
 
 /// The mark that is kept for a connection stays so.
 pub fn mark_stays()
-    ensures { (h : Hub) (p q : Pass) (took : List Ended) (made : Option Placed) (c : ℕ) (m : Mark) →
-        Passed h p took made q → mark_of (seen p) c ≡ Some m → mark_of (seen q) c ≡ Some m }
+    ensures { (h : Hub) (p q : Pass) (drew : ℕ) (took : List Ended) (made : Option Placed) (c : ℕ) (m : Mark) →
+        Went h p drew took made q → mark_of (seen p) c ≡ Some m → mark_of (seen q) c ≡ Some m }
 {}

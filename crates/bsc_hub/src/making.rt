@@ -1,6 +1,6 @@
 //! A hub begins.
 ghost use Rattle.std.specs.Prelude.{◌≡◌, ◌≤◌, ◌^◌, [], IfOk};
-ghost use Rattle.bsc_turn.specs.Passes.{ended_callers, number_of, own_list, seen};
+ghost use Rattle.bsc_turn.specs.Passes.{ended_callers, loads_made, number_of, own_list, seen};
 ghost use Rattle.bsc_hub.specs.Passing.{IsCaller, about_of};
 
 use crate::hub::Hub;
@@ -33,6 +33,7 @@ impl Hub {
         ensures pass { IfOk result (λ r. IsCaller r.0 r.1) }
         ensures new { IfOk result (λ r. (number_of r.1 ≡ 0) × (seen r.1 ≡ []) × (own_list r.1 ≡ [])
             × (ended_callers r.1 ≡ [])) }
+        ensures fresh { IfOk result (λ r. loads_made r.1 ≡ 0) }
         ensures about { IfOk result (λ r. about_of r.0 ≡ record { hub = hub; limits = limits }) }
     {
         let about = About { hub, limits };

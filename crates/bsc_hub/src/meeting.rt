@@ -1,11 +1,13 @@
 //! Two callers meet: an example of what their passes say when they are joined.
-ghost use Rattle.std.specs.Prelude.{◌≡◌, List, None, IfOk, IsFalse};
+ghost use Rattle.std.specs.Prelude.{◌≡◌, [], ◌∷◌, None, IfOk, IsFalse};
 ghost use Rattle.bsc_octets.specs.Forwarding.{is_broadcast};
 ghost use Rattle.bsc_history.specs.declared.looks.Look.{Look};
 ghost use Rattle.bsc_history.specs.Marks.{entries};
-ghost use Rattle.bsc_turn.specs.declared.view.Ended.{Ended};
-ghost use Rattle.bsc_turn.specs.Passes.{seen};
+ghost use Rattle.bsc_turn.specs.declared.pass.Pass.{Pass};
+ghost use Rattle.bsc_turn.specs.Effects.{ended_of};
+ghost use Rattle.bsc_turn.specs.Passes.{ended_callers, number_of, seen, view_of};
 ghost use Rattle.bsc_desk.specs.declared.forwarding.OneReply.TheVariants.{Appended};
+ghost use Rattle.bsc_hub.specs.Calls.{one_made};
 ghost use Rattle.bsc_hub.specs.Passing.{IsCaller, IsOwnAs, Passed, about_of};
 ghost use Rattle.bsc_hub.specs.Unicasts.{IsThereAlone};
 
@@ -31,7 +33,10 @@ pub fn unicast_is_there<R: Wait>(
     requires own { IsOwnAs sender conn frame.sender }
     requires unicast { IsFalse (is_broadcast frame.message) }
     requires pass { IsCaller hub.now pass.old }
-    ensures pass { (took : List Ended) × Passed hub.now pass.old took None pass.new }
+
+    // The sender's pass made the one call, and as that left it the other took it in.
+    ensures pass { (sent : Pass) × Passed hub.now sender [] (one_made (number_of sender) conn frame.message result) sent
+        × Passed hub.now pass.old (ended_of (view_of sent) ∷ ended_callers sent) None pass.new }
     ensures there { IfOk result (λ t. (look : Look) → t.said ≡ Appended look →
         IsThereAlone (about_of hub.now) (entries (seen pass.new)) t.at look.conn frame) }
 {

@@ -11,6 +11,7 @@ use Rattle.bsc_desk.specs.Entries.{all_looks, all_reply, one_looks, one_reply}
 use Rattle.bsc_hub.specs.declared.hub.Hub.{Hub}
 use Rattle.bsc_hub.specs.Calls.{all_made, one_made}
 use Rattle.bsc_hub.specs.Passing.{IsCaller, Made, Passed, Placed, StaysBy}
+use Rattle.bsc_hub.proofs.Following.{drew_none}
 use Rattle.bsc_hub.proofs.Owning.{owned_kept, mark_kept}
 use Rattle.bsc_hub.proofs.Staying.{all_stays, one_stays}
 use Rattle.bsc_edge.specs.declared.said.Said.{Said}
@@ -32,7 +33,7 @@ own_grew p q None h = h ∙ sym (append-nil (own_list p))
 own_grew p q (Some m) h = h.grew
 
 pub goes_passed : (h : Hub) (p q : Pass) (made : Option Placed) → Passed h p [] made q → Goes h p (entry_made made) q
-goes_passed h p q made k = record { caller = k.caller; number = k.number; sees = k.grows; own = own_grew p q made k.makes; took_in = k.takes_in ∙ append-nil (ended_callers p) }
+goes_passed h p q made k = record { caller = k.caller; number = k.number; sees = k.grows; own = own_grew p q made k.makes; took_in = k.takes_in ∙ append-nil (ended_callers p); draws_none = drew_none h p q [] made k }
 
 pub call_passed : (h : Hub) (p q : Pass) (made : Option Placed) → IsCaller h p → Passed h p [] made q → ((c : ℕ) → StaysBy made c) → Calls h p (entry_made made) q
 call_passed h p q made is k stays = record {
@@ -49,7 +50,7 @@ calls_as h p q E F e k = rw e at k
 
 -- no call was made
 pub goes_nowhere : (h : Hub) (p : Pass) → IsCaller h p → Goes h p [] p
-goes_nowhere h p is = record { caller = is; number = refl; sees = ([], sym (append-nil (seen p))); own = sym (append-nil (own_list p)); took_in = refl }
+goes_nowhere h p is = record { caller = is; number = refl; sees = ([], sym (append-nil (seen p))); own = sym (append-nil (own_list p)); took_in = refl; draws_none = refl }
 
 pub calls_nobody : (h : Hub) (p : Pass) → IsCaller h p → Calls h p [] p
 calls_nobody h p is = record { goes = goes_nowhere h p is; owns = λ c w has. has; marks = λ c m has. has }
@@ -61,6 +62,7 @@ goes_on h p q r E F k l = record {
   sees = (k.sees.0 ++ l.sees.0, l.sees.1 ∙ ap (λ x. x ++ l.sees.0) k.sees.1 ∙ append_assoc (seen p) k.sees.0 l.sees.0);
   own = l.own ∙ ap (λ x. x ++ F) k.own ∙ append_assoc (own_list p) E F;
   took_in = l.took_in ∙ k.took_in;
+  draws_none = l.draws_none ∙ k.draws_none;
 }
 
 -- the connection stays the caller's own

@@ -7,7 +7,7 @@ use Rattle.bsc_history.specs.Marks.{entries}
 use Rattle.bsc_history.specs.Outboxes.{sent}
 use Rattle.bsc_turn.specs.declared.pass.Pass.{Pass}
 use Rattle.bsc_turn.specs.Histories.{StartsWith}
-use Rattle.bsc_turn.specs.Passes.{ended_callers, number_of, own_list, seen}
+use Rattle.bsc_turn.specs.Passes.{ended_callers, loads_made, number_of, own_list, seen}
 use Rattle.bsc_hub.specs.declared.hub.Hub.{Hub}
 use Rattle.bsc_hub.specs.Passing.{IsCaller, about_of}
 use Rattle.bsc_edge.specs.declared.said.Said.{Said}
@@ -29,14 +29,15 @@ abbrev pub received : About → List Entry → Option ℕ → ℕ → List (List
 received a H None taken = []
 received a H (Some c) taken = take taken (sent a H c)
 
--- The pass went on: it is of the hub; its number is unchanged; what it has seen goes on; its own list grew by these; and
--- the callers that ended in it are those that had.
+-- The pass went on: it is of the hub; its number is unchanged; what it has seen goes on; its own list grew by these; the
+-- callers that ended in it are those that had; and it asked for no number, so no other caller was made with it.
 pub record Goes (h : Hub) (p : Pass) (E : List Entry) (q : Pass) : Type 0 where
   pub caller : IsCaller h q
   pub number : number_of q ≡ number_of p
   pub sees : StartsWith (seen q) (seen p)
   pub own : own_list q ≡ own_list p ++ E
   pub took_in : ended_callers q ≡ ended_callers p
+  pub draws_none : loads_made q ≡ loads_made p
 
 -- The hub was worn, by what the pass has then seen: as many calls as it may make are there, besides the Leave of a session
 -- that had joined.

@@ -56,9 +56,9 @@ module _ (a : About) where
 
   -- the second ends in the first, and, in another run, the first in the second
   first_is_left : after_join first_twice second_once
-      ≡ record first_twice { ended = record { number = 1; own = (counted 1).entry ∷ []; seen = counted 0 ∷ counted 1 ∷ [] } ∷ [] }
+      ≡ record first_twice { ended = record { number = 1; own = (counted 1).entry ∷ []; seen = counted 0 ∷ counted 1 ∷ []; loads = 0 } ∷ [] }
   first_is_left = refl
 
   second_is_left : after_join second_once first_twice
-      ≡ record second_once { seen = three; ended = record { number = 0; own = (counted 0).entry ∷ (counted 0).entry ∷ []; seen = three } ∷ [] }
+      ≡ record second_once { seen = three; ended = record { number = 0; own = (counted 0).entry ∷ (counted 0).entry ∷ []; seen = three; loads = 1 } ∷ [] }
   second_is_left = refl

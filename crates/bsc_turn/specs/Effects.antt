@@ -50,7 +50,7 @@ next_pass v =
 
 -- The caller of a view, as one that ended.
 abbrev pub ended_of : View → Ended
-ended_of v = record { number = v.number; own = v.own; seen = v.seen }
+ended_of v = record { number = v.number; own = v.own; seen = v.seen; loads = v.loads }
 
 -- The view after another ended in it: it has seen the longer of the two histories, and keeps the other's
 -- caller and all callers that the other kept.

@@ -33,7 +33,7 @@ seen p = (view_of p).seen
 abbrev pub own_list : Pass → List Entry
 own_list p = (view_of p).own
 
--- The callers whose passes ended in this one, each with its own entries.
+-- The callers whose passes ended in this one, each with its own entries and its count of loads of the number word.
 abbrev pub ended_callers : Pass → List Ended
 ended_callers p = (view_of p).ended
 

@@ -11,6 +11,8 @@ pub struct Ended {
     pub own: LinkedList<Entry>,
     /// As much of the history as it had seen.
     pub seen: LinkedList<Stamped>,
+    /// How many loads of the number word it had made.
+    pub loads: u64,
 }
 
 /// What a seat knows. Contracts speak of it, and no value is made.
