@@ -1,6 +1,6 @@
 -- The end of a workload.
 use Rattle.std.proofs.Common.{◌≡◌, ◌≤◌, ◌<◌, ◌+◌, ◌-◌, inl, inr, ℕ, Bool, true, false, cond, List, [], length, map, Option, None, Result, Ok, Err, refl, ap, sym, ◌∙◌, subst, arith, append-nil}
-use Rattle.std.specs.Prelude.{IsTrue, nat_lt}
+use Rattle.std.specs.Prelude.{IsTrue, min, nat_lt}
 use Rattle.std.specs.List.{range_with_len}
 use Rattle.std.proofs.lemmas.Bool.{ltb-false, ltb-true, or_right}
 use Rattle.std.proofs.lemmas.List.{length-map}
@@ -17,18 +17,19 @@ use Rattle.bsc_turn.specs.declared.view.Ended.{Ended}
 use Rattle.bsc_turn.specs.Passes.{number_of, seen}
 use Rattle.bsc_hub.specs.declared.hub.Hub.{Hub}
 use Rattle.bsc_hub.specs.Calls.{stop_made, stop_stamped}
-use Rattle.bsc_hub.specs.Passing.{Passed, Placed, about_of}
+use Rattle.bsc_hub.specs.Passing.{Passed, Placed, Went, about_of}
+use Rattle.bsc_hub.proofs.Following.{passed_none, passed_then}
 use Rattle.bsc_load.specs.declared.ends.LoadEnd.{LoadEnd}
 use Rattle.bsc_load.specs.declared.ends.LoadStop.{LoadStop}
 use Rattle.bsc_load.specs.declared.ends.LoadStop.TheVariants.{NoMemory as NoMemoryStop, Short as ShortStop}
 use Rattle.bsc_load.specs.declared.jobs.Job.{Job}
 use Rattle.bsc_load.specs.declared.jobs.Sum.{Sum}
 use Rattle.bsc_load.specs.declared.jobs.Work.{Work}
-use Rattle.bsc_load.specs.Inner.{Finishes, HaveRun, Joins, LoadsFrom, Splits, Stops, cut_short, ends_as, indices, job_indices, within_32_bits, work_indices}
+use Rattle.bsc_load.specs.Inner.{Asks, Finishes, HaveRun, Joins, LoadsFrom, Splits, Stops, cut_short, ends_as, indices, job_indices, within_32_bits, work_indices}
 use Rattle.bsc_load.specs.Load.{Loads, Ran, Worker}
 use Rattle.bsc_load.specs.Workers.{within_64_bits}
 use Rattle.bsc_load.proofs.Joining.{all_cut_later, all_took_same}
-use Rattle.bsc_load.proofs.Passing.{passed_none, passed_then}
+use Rattle.bsc_load.proofs.Passing.{went_on}
 
 -- a hub that was told to stop is stopped
 stopped_now : (h : Hub) (m q : Pass) (told : Result (Told Counts) AlreadyStopped) → Stops h m q told → IsTrue (is_stopped (entries (seen q)))
@@ -52,15 +53,19 @@ ran_by h p m v q n js ws sum made split run j last =
     let callers = map (λ (w : Worker). w.caller) xs in
     let many = many_workers xs ws js j.same run.same in
     record {
-      passed = subst (λ (l : List Ended). Passed h p l made q) (append-nil callers) (passed_then h p v q callers [] made (passed_then h p m v [] callers None split.passed j.passed) last);
+      drew = min n (length js + 1);
+      went =
+          subst (λ (l : List Ended). Went h p (min n (length js + 1)) l made q) (append-nil callers)
+          (went_on h p m q (min n (length js + 1)) [] (callers ++ []) made split.went (passed_then h m v q callers [] made j.passed last));
       numbered = j.same ∙ run.same ∙ split.numbered ∙ ap (range_with_len 0) (sym many);
       within = omega (arith, many, split.within);
+      few = omega arith;
       parts = j.parts;
     }
 
 -- a stop's entry has the number of the pass that was given
 same_stop : (h : Hub) (p m v q : Pass) (told : Result (Told Counts) AlreadyStopped) (n : ℕ) (js : List Job) (ws : List Work) (sum : Sum) → Splits h p m n js → Joins h ws m v sum → Stops h v q told → Passed h v [] (stop_made (number_of p) told) q
-same_stop h p m v q told n js ws sum split j s = subst (λ k. Passed h v [] (stop_made k told) q) (j.passed.number ∙ split.passed.number) s.passed
+same_stop h p m v q told n js ws sum split j s = subst (λ k. Passed h v [] (stop_made k told) q) (j.passed.number ∙ split.went.number) s.passed
 
 -- at least one worker was cut short or got no pass
 some_short : (h : Hub) (p m v q : Pass) (n without short : ℕ) (js : List Job) (ws : List Work) (sum : Sum) (told : Result (Told Counts) AlreadyStopped) → n ≤ 512 → without ≡ n - length js → short ≡ within_32_bits (sum.short + without) →
@@ -76,6 +81,7 @@ some_short h p m v q n without short js ws sum told few rest all split run j s s
       count = omega (arith, few, rest, all, many, split.within, j.short, count_by-le-length (λ (w : Worker). w.is_cut) xs);
       cut = all_cut_later h v q xs s.passed.grows j.cut;
       without = λ less. s.loaded ∙ j.loaded ∙ split.spent (omega (arith, less, many));
+      tried = ap (λ (k : ℕ). min n (k + 1)) (sym many);
       stopped = stopped_now h v q told s;
     }
 
@@ -128,8 +134,8 @@ loads_from h m q n without js ws result few rest run f p split =
 
 -- no memory for the threads
 pub loads_unrun : (h : Hub) (m : Pass) (n : ℕ) (js : List Job) → LoadsFrom h m n js m (Err NoMemoryStop)
-loads_unrun h m n js p split = ([], record { passed = split.passed; numbered = refl; within = omega arith; parts = tt })
+loads_unrun h m n js p split = ([], record { drew = min n (length js + 1); went = split.went; numbered = refl; within = omega arith; few = omega arith; parts = tt })
 
 -- no memory for the jobs
-pub loads_unsplit : (h : Hub) (p q : Pass) (n : ℕ) → Passed h p [] None q → Loads h p q n (Err NoMemoryStop)
-loads_unsplit h p q n passed = ([], record { passed = passed; numbered = refl; within = omega arith; parts = tt })
+pub loads_unsplit : (h : Hub) (p q : Pass) (n : ℕ) → Asks h p q n → Loads h p q n (Err NoMemoryStop)
+loads_unsplit h p q n a = ([], record { drew = a.drew; went = a.went; numbered = refl; within = omega arith; few = a.few; parts = tt })

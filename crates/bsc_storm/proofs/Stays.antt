@@ -168,6 +168,7 @@ has_run h sends n p w new r = record {
   caller = r.1.caller;
   number = r.1.number;
   ended = r.1.took_in ∙ new.ended;
+  draws_none = r.1.draws_none ∙ new.fresh;
   did =
       subst (λ (l : List Entry). Did h sends n l (seen w.pass) w.taken)
       (sym (r.1.own ∙ ap (λ (l : List Entry). l ++ r.0) new.own)) r.2;

@@ -21,12 +21,12 @@ use Rattle.bsc_turn.specs.declared.pass.Pass.{Pass}
 use Rattle.bsc_turn.specs.declared.view.Ended.{Ended}
 use Rattle.bsc_turn.specs.Effects.{ended_of}
 use Rattle.bsc_turn.specs.Histories.{StartsWith}
-use Rattle.bsc_turn.specs.Passes.{ended_callers, newest_number, number_of, own_list, seen, view_of}
+use Rattle.bsc_turn.specs.Passes.{ended_callers, loads_made, newest_number, number_of, own_list, seen, view_of}
 use Rattle.bsc_desk.specs.declared.forwarding.OneReply.{OneReply}
 use Rattle.bsc_hub.specs.declared.hub.Hub.{Hub}
 use Rattle.bsc_hub.specs.declared.joined.ConnectRefusal.{ConnectRefusal}
 use Rattle.bsc_hub.specs.declared.joined.ConnectRefusal.TheVariants.{NoMemory as NoMemoryRefusal, Worn as WornRefusal, Refused}
-use Rattle.bsc_hub.specs.Passing.{IsCaller, Passed, about_of}
+use Rattle.bsc_hub.specs.Passing.{IsCaller, Passed, Went, about_of}
 use Rattle.bsc_load.specs.declared.ends.LoadStop.{LoadStop}
 use Rattle.bsc_load.specs.declared.ends.LoadStop.TheVariants.{NoMemory as NoMemoryStop, Short as ShortStop, Stopped}
 use Rattle.bsc_load.specs.Inner.{Goes, Holds, Stops}
@@ -144,17 +144,19 @@ Did h sends rounds E S (Err cut) = IsPart sends rounds E × ShowsBy (whole_lengt
 abbrev pub Runs : Hub → Bool → ℕ → Pass → Pass → Result ℕ Cut → Type 0
 Runs h sends rounds p q result = (made : List Entry) × Goes h p made q × Did h sends rounds made (seen q) result
 
--- a pass for a worker: it made no entry, and nobody ended in it
+-- a pass for a worker: it made no entry and asked for no number, and nobody ended in it
 pub record IsNew (h : Hub) (p : Pass) : Type 0 where
   pub caller : IsCaller h p
   pub own : own_list p ≡ []
   pub ended : ended_callers p ≡ []
+  pub fresh : loads_made p ≡ 0
 
 -- a worker that has run, of this caller: all that its pass made is what the worker did
 pub record HasRun (h : Hub) (sends : Bool) (rounds k : ℕ) (w : Work) : Type 0 where
   pub caller : IsCaller h w.pass
   pub number : number_of w.pass ≡ k
   pub ended : ended_callers w.pass ≡ []
+  pub draws_none : loads_made w.pass ≡ 0
   pub did : Did h sends rounds (own_list w.pass) (seen w.pass) w.taken
 
 -- A pass was split off for a worker, with a greater number than was known; or as many numbers are drawn as there may be.
@@ -163,12 +165,12 @@ HasSplit h p q None = newest_number q ≡ (about_of h).limits.callers
 HasSplit h p q (Some x) = IsNew h x × (newest_number p < number_of x) × (number_of x ≡ newest_number q) × (newest_number q < (about_of h).limits.callers)
 
 pub record SplitsOne (h : Hub) (p q : Pass) (x : Option Pass) : Type 0 where
-  pub passed : Passed h p [] None q
+  pub went : Went h p 1 [] None q
   pub split : HasSplit h p q x
 
 -- passes were split off for three workers, or for the first of them
 pub record Splits (h : Hub) (p q : Pass) (x y z : Option Pass) : Type 0 where
-  pub passed : Passed h p [] None q
+  pub went : Went h p 3 [] None q
   pub one : IfSome x (IsNew h)
   pub other : IfSome y (IsNew h)
   pub sends : IfSome z (IsNew h)

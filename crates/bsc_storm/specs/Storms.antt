@@ -15,7 +15,7 @@ use Rattle.bsc_turn.specs.declared.view.Ended.{Ended}
 use Rattle.bsc_turn.specs.Passes.{newest_number, number_of, seen}
 use Rattle.bsc_hub.specs.declared.hub.Hub.{Hub}
 use Rattle.bsc_hub.specs.Calls.{stop_made}
-use Rattle.bsc_hub.specs.Passing.{Passed, Placed, about_of, found_history}
+use Rattle.bsc_hub.specs.Passing.{Placed, Went, about_of, found_history}
 use Rattle.bsc_load.specs.declared.ends.LoadStop.{LoadStop}
 use Rattle.bsc_load.specs.declared.ends.LoadStop.TheVariants.{NoMemory, Short, Stopped}
 use Rattle.bsc_load.specs.Workers.{within_64_bits}
@@ -38,6 +38,11 @@ abbrev pub own_in : Option Ended → List Entry
 own_in None = []
 own_in (Some e) = e.own
 
+-- how many numbers it asked for
+abbrev pub loads_in : Option Ended → ℕ
+loads_in None = 0
+loads_in (Some e) = e.loads
+
 -- The workers of a storm: two that stay, and the one that sends.
 pub record Crew : Type 0 where
   pub one : Worker
@@ -48,13 +53,18 @@ pub record Crew : Type 0 where
 abbrev pub callers : Crew → List Ended
 callers w = in_list w.one.caller ++ (in_list w.other.caller ++ in_list w.sends.caller)
 
+-- Its entries are its calls as far as it came, and it asked for no number, so it made no other caller.
+pub record WorksPart (sends : Bool) (rounds : ℕ) (w : Worker) : Type 0 where
+  pub part : IsPart sends rounds (own_in w.caller)
+  pub draws_none : loads_in w.caller ≡ 0
+
 -- The callers that a call took in are those of the workers, as far as they got passes, each with its calls as far as it
--- came; and the call made this entry with its own pass, or none.
+-- came. The call asked for three numbers, one for each, and made this entry with its own pass, or none.
 pub record Ran (h : Hub) (p q : Pass) (rounds : ℕ) (w : Crew) (made : Option Placed) : Type 0 where
-  pub passed : Passed h p (callers w) made q
-  pub one : IsPart false rounds (own_in w.one.caller)
-  pub other : IsPart false rounds (own_in w.other.caller)
-  pub sends : IsPart true rounds (own_in w.sends.caller)
+  pub went : Went h p 3 (callers w) made q
+  pub one : WorksPart false rounds w.one
+  pub other : WorksPart false rounds w.other
+  pub sends : WorksPart true rounds w.sends
 
 -- It got a pass, is whole, and wasn't cut short.
 pub record WorksWhole (sends : Bool) (rounds : ℕ) (w : Worker) : Type 0 where
