@@ -1,29 +1,18 @@
 -- What a caller keeps of its own, from call to call.
-use Rattle.std.proofs.Common.{◌≡◌, ℕ, ◌==◌, ◌<◌, true, false, ◌||◌, List, [], ◌∷◌, ◌++◌, length, Option, Some, None, is_some, refl, ap, sym, ◌∙◌, subst, arith, append-nil}
+use Rattle.std.proofs.Common.{◌≡◌, ℕ, true, false, List, [], ◌∷◌, ◌++◌, Option, Some, None, refl, ap, sym, ◌∙◌, subst, append-nil}
 use Rattle.std.specs.List.{list_any}
-use Rattle.std.proofs.lemmas.Bool.{eq-eqb}
-use Rattle.bsc_octets.specs.declared.identity.Identity.{Identity}
 use Rattle.bsc_octets.specs.declared.vmac.Vmac.{Vmac}
-use Rattle.bsc_history.specs.declared.connection.Connection.{Connection}
 use Rattle.bsc_history.specs.declared.entry.Entry.{Entry}
-use Rattle.bsc_history.specs.declared.limits.About.{About}
 use Rattle.bsc_history.specs.declared.mark.Mark.{Mark}
-use Rattle.bsc_history.specs.declared.mark.Stamped.{Stamped}
-use Rattle.bsc_history.specs.declared.reply.Reply.TheVariants.{Joined}
-use Rattle.bsc_history.specs.Ends.{joined, leaves, numbered}
-use Rattle.bsc_history.specs.Entries.{joins}
-use Rattle.bsc_history.specs.Legality.{Legal, is_of}
+use Rattle.bsc_history.specs.Ends.{leaves}
+use Rattle.bsc_history.specs.Legality.{is_of}
 use Rattle.bsc_history.specs.Marks.{entries, mark_of}
-use Rattle.bsc_history.specs.Outboxes.{vmac_in, vmac_of}
-use Rattle.bsc_history.proofs.Fresh.{fresh_joins}
-use Rattle.bsc_history.proofs.Lifting.{join_owned}
-use Rattle.bsc_history.proofs.Marks.{mark_grows, mark_new}
-use Rattle.bsc_history.proofs.More.{entries-more, or_false}
+use Rattle.bsc_history.proofs.Marks.{mark_grows}
+use Rattle.bsc_history.proofs.More.{or_false}
 use Rattle.bsc_turn.specs.declared.pass.Pass.{Pass}
 use Rattle.bsc_turn.specs.declared.view.Ended.{Ended}
 use Rattle.bsc_turn.specs.Histories.{own_of}
 use Rattle.bsc_turn.specs.Passes.{number_of, own_list, seen}
-use Rattle.bsc_desk.specs.Entries.{connect_stamped}
 use Rattle.bsc_hub.specs.declared.hub.Hub.{Hub}
 use Rattle.bsc_hub.specs.Passing.{IsCaller, IsOwn, IsOwnAs, Placed, StaysBy, Went, about_of}
 use Rattle.bsc_hub.proofs.Guarding.{address_lifted, own_lifted}

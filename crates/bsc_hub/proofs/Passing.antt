@@ -1,5 +1,5 @@
 -- The pass clause of a call that entered, and committed an entry or went back.
-use Rattle.std.proofs.Common.{◌≡◌, ◌≤◌, ◌↔◌, ℕ, List, [], ◌∷◌, ◌++◌, length, take, Option, Some, None, refl, ap, sym, ◌∙◌, subst, append_assoc, append-nil, add-zero}
+use Rattle.std.proofs.Common.{◌≡◌, ◌≤◌, ◌↔◌, ℕ, List, [], ◌∷◌, ◌++◌, length, take, None, ap, sym, ◌∙◌, subst, append_assoc, append-nil, add-zero}
 use Rattle.std.specs.Prelude.{IsTrue}
 use Rattle.bsc_history.specs.declared.entry.Entry.{Entry}
 use Rattle.bsc_history.specs.declared.limits.About.{About}
@@ -12,7 +12,7 @@ use Rattle.bsc_turn.specs.declared.pass.Pass.{Pass}
 use Rattle.bsc_turn.specs.declared.view.View.{View}
 use Rattle.bsc_turn.specs.Effects.{having_seen}
 use Rattle.bsc_turn.specs.Histories.{StartsWith}
-use Rattle.bsc_turn.specs.Passes.{IsPassOf, after_back, after_commit, ended_callers, loads_made, number_of, seen, view_of}
+use Rattle.bsc_turn.specs.Passes.{IsPassOf, after_back, after_commit, ended_callers, loads_made, seen, view_of}
 use Rattle.bsc_desk.specs.declared.desk.Desk.{Desk}
 use Rattle.bsc_desk.specs.Standing.{StandsFor}
 use Rattle.bsc_hub.specs.declared.hub.Hub.{Hub}

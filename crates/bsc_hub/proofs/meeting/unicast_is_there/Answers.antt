@@ -2,7 +2,7 @@ use Rattle.bsc_hub.proofs.Entering.{told_there}
 use Rattle.bsc_hub.proofs.meeting.unicast_is_there.Goals as goal
 
 pub returns-clause-pass : goal.returns-clause-pass
-returns-clause-pass g c = (c.forward_one-told.new.pass, (c.forward_one-told.ensures.pass, c.join.ensures.pass))
+returns-clause-pass g c = (c.forward_one-told.new.pass, c.forward_one-told.ensures.pass, c.join.ensures.pass)
 
 pub returns-clause-there : goal.returns-clause-there
 returns-clause-there g c =
