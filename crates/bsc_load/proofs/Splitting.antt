@@ -34,6 +34,9 @@ asked_more h p m q k before one = went_then h p m q k 1 [] [] None before one
 pub asks_so : (h : Hub) (p q : Pass) (n k : ℕ) → k ≤ n → Went h p k [] None q → Asks h p q n
 asks_so h p q n k few went = record { drew = k; few = few; went = went }
 
+pub asks_more : (h : Hub) (p m q : Pass) (n k : ℕ) → k < n → Went h p k [] None m → Went h m 1 [] None q → Asks h p q n
+asks_more h p m q n k less before one = asks_so h p q n (k + 1) (omega (arith, less)) (asked_more h p m q k before one)
+
 -- jobs for all, or for as many as there are numbers for
 pub splits_so : (h : Hub) (p q : Pass) (n k : ℕ) (js : List Job) → k ≡ min n (length js + 1) → Went h p k [] None q → AllByRecursion (IsJob h) js → job_indices js ≡ range_with_len 0 (length js) → length js ≤ n →
     (length js < n → newest_number q ≡ (about_of h).limits.callers) → Splits h p q n js

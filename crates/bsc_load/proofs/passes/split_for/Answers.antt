@@ -3,7 +3,7 @@ use Rattle.std.specs.List.{AllByRecursion}
 use Rattle.bsc_load.specs.declared.jobs.Job.{Job}
 use Rattle.bsc_load.specs.Inner.{IsJob, job_indices}
 use Rattle.bsc_load.proofs.Given.{all_push}
-use Rattle.bsc_load.proofs.Splitting.{asked_more, indices_more}
+use Rattle.bsc_load.proofs.Splitting.{asked_more, asks_more, indices_more}
 use Rattle.bsc_load.proofs.passes.split_for.Goals as goal
 
 pub loop-index-preserved : goal.loop-index-preserved
@@ -22,3 +22,11 @@ loop-index-preserved g c =
       ap job_indices items ∙ indices_more js j k refl inv.2,
       omega (arith, many, inv.3),
     )
+
+pub returns-in-Err-clause-asks : goal.returns-in-Err-clause-asks
+returns-in-Err-clause-asks g c =
+    asks_more c.args.hub.now c.args.pass.now c.loop-index.pass c.split.new.pass c.args.workers c.loop-index.index c.loop-index-test.true c.loop-index.invariant.0 c.split.ensures.pass
+
+pub returns-in_err-push-in-Ok-clause-asks : goal.returns-in_err-push-in-Ok-clause-asks
+returns-in_err-push-in-Ok-clause-asks g c =
+    asks_more c.args.hub.now c.args.pass.now c.loop-index.pass c.split.new.pass c.args.workers c.loop-index.index c.loop-index-test.true c.loop-index.invariant.0 c.split.ensures.pass
