@@ -1,8 +1,6 @@
 -- What a worker does from its receiver's connect to its receiver's leave.
-use Rattle.std.proofs.Common.{◌≡◌, ◌≤◌, ◌<◌, ◌+◌, inr, ℕ, suc, List, [], ◌∷◌, ◌++◌, length, take, Result, Ok, Err, refl, ap, sym, ◌∙◌, arith, append-nil, length-append}
-use Rattle.std.specs.List.{filter}
+use Rattle.std.proofs.Common.{◌≡◌, ◌≤◌, ◌<◌, ◌+◌, inr, ℕ, List, [], ◌∷◌, ◌++◌, length, take, Result, Ok, Err, refl, ap, sym, ◌∙◌, arith, append-nil, length-append}
 use Rattle.std.proofs.lemmas.List.{length-map, map-append}
-use Rattle.std.proofs.lemmas.List.Elements.{filter-append}
 use Rattle.bsc_octets.specs.declared.identity.Identity.{Identity}
 use Rattle.bsc_history.specs.declared.call.Call.{Call}
 use Rattle.bsc_history.specs.declared.call.Call.TheVariants.{Connect, Leave}
@@ -31,9 +29,9 @@ use Rattle.bsc_load.specs.declared.jobs.Cut.{Cut}
 use Rattle.bsc_load.specs.declared.jobs.Cut.TheVariants.{NoMemory, Short}
 use Rattle.bsc_load.specs.Inner.{AfterBoth, Goes, Holds, RanAll, ShowsBy, WasWorn}
 use Rattle.bsc_load.specs.Peers.{receiver, sender}
-use Rattle.bsc_load.specs.Workers.{calls, forwards, is_asking}
+use Rattle.bsc_load.specs.Workers.{calls, forwards}
 use Rattle.bsc_load.proofs.Addresses.{connections_differ}
-use Rattle.bsc_load.proofs.Calls.{asking_forwards, joined-append, length_forwards}
+use Rattle.bsc_load.proofs.Calls.{first_forwards, joined-append, length_forwards}
 use Rattle.bsc_load.proofs.Going.{goes_one, goes_then, holds_by}
 use Rattle.bsc_load.proofs.Unjoined.{longer}
 
@@ -54,12 +52,6 @@ unfolding joined_where
 joined_between E p q who j c o told =
     let x : Connection = record { number = j.conn; caller = number_of p; who = who } in
     ap (λ (l : List Connection). x ∷ l) (joined-append E (leave_entry q c o told ∷ []) ∙ append-nil (joined E))
-
--- and what is asked for among them
-pub asking_between : (E : List Entry) (C : List Call) (e l : Entry) (who : Identity) (c taken empties : ℕ) → e.call ≡ Connect who → l.call ≡ Leave c taken empties → filter is_asking (calls E) ≡ C → filter is_asking (calls (e ∷ E ++ l ∷ [])) ≡ Connect who ∷ C
-asking_between E C e l who c taken empties joins leaves asks =
-    ap (filter is_asking) (calls_between E e l ∙ ap (λ (x : Call). x ∷ calls E ++ l.call ∷ []) joins ∙ ap (λ (x : Call). Connect who ∷ calls E ++ x ∷ []) leaves)
-    ∙ ap (λ (x : List Call). Connect who ∷ x) (filter-append is_asking (calls E) (Leave c taken empties ∷ []) ∙ append-nil (filter is_asking (calls E)) ∙ asks)
 
 -- how many they are
 pub length_between : (E : List Entry) (e l : Entry) → length (e ∷ E ++ l ∷ []) ≡ length E + 2
@@ -115,9 +107,13 @@ after_both h i s p m n q j o told (Err cut) small is mine came its ran left many
     let E = f.made in
     let mid : IsOwnAs m s (sender i).vmac = holds_by h p m (connect_made (number_of p) (receiver i) (Ok j)) is came (connect_stays (number_of p) (receiver i) (Ok j)) s (sender i).vmac mine in
     record {
-      count = suc ran.0;
+      who = j.conn ∷ [];
+      more = ran.0;
+      taken = told.said.taken;
+      empties = empties_of o;
       made = join_entry p (receiver i) j ∷ E ++ leave_entry n j.conn o told ∷ [];
-      calls = asking_between E (take ran.0 (forwards i s 1000)) (join_entry p (receiver i) j) (leave_entry n j.conn o told) (receiver i) j.conn told.said.taken (empties_of o) refl refl (ap (filter is_asking) f.calls ∙ asking_forwards i s ran.0 (omega (arith, ran.1)));
+      calls = calls_between E (join_entry p (receiver i) j) (leave_entry n j.conn o told) ∙ ap (λ (l : List Call). Connect (receiver i) ∷ l ++ Leave j.conn told.said.taken (empties_of o) ∷ []) (f.calls ∙ first_forwards i s ran.0 (omega (arith, ran.1)));
+      joined = ap numbers (joined_between E p n (receiver i) j j.conn o told) ∙ ap (λ (l : List Connection). j.conn ∷ numbers l) f.quiet;
       goes = goes_between h p m n q E (receiver i) j j.conn o told came f.goes left;
       owns = owns_between h i s n q j.conn o told small f.goes.caller (f.holds s (sender i).vmac mid) (f.holds j.conn (receiver i).vmac its) left;
       shows = cut_shows h n q ran.0 E (join_entry p (receiver i) j) (leave_entry n j.conn o told) cut ran.1 (few_made i s ran.0 E f.calls) (longer (seen n) (seen q) left.grows) ran.3;

@@ -1,6 +1,6 @@
 -- Lists of calls and of entries.
-use Rattle.std.proofs.Common.{◌≡◌, ℕ, zero, suc, ◌+◌, ◌≤◌, true, List, [], ◌∷◌, ◌++◌, length, map, take, None, refl, ap, sym, ◌∙◌, append_assoc}
-use Rattle.std.specs.List.{filter, range_with_len}
+use Rattle.std.proofs.Common.{◌≡◌, ℕ, ◌≤◌, true, List, [], ◌∷◌, ◌++◌, length, take, None, refl, ap, sym, ◌∙◌, append_assoc}
+use Rattle.std.specs.List.{filter}
 use Rattle.std.specs.Option.{option_to_list}
 use Rattle.std.proofs.lemmas.List.FromFn.{length-map-range_with_len, take-map-range_with_len}
 use Rattle.bsc_history.specs.declared.call.Call.{Call}
@@ -10,7 +10,7 @@ use Rattle.bsc_history.specs.declared.entry.Entry.{Entry}
 use Rattle.bsc_history.specs.Ends.{joined, joined_where}
 use Rattle.bsc_history.specs.Entries.{connection_of, made_by}
 use Rattle.bsc_load.specs.Frames.{frame}
-use Rattle.bsc_load.specs.Workers.{forwards, is_asking}
+use Rattle.bsc_load.specs.Workers.{forwards}
 
 pub joined-append : (E F : List Entry) → joined (E ++ F) ≡ joined E ++ joined F
 unfolding joined_where
@@ -23,13 +23,9 @@ joined-append (e ∷ E) F =
 pub forward_joins_none : (e : Entry) (s : ℕ) (m : List ℕ) → e.call ≡ Forward s m → connection_of e ≡ None
 forward_joins_none e s m is = ap (λ (c : Call). made_by e.caller c e.reply) is
 
-asking_from : (i s a n : ℕ) → filter is_asking (map (λ k. Forward s (frame i k)) (range_with_len a n)) ≡ map (λ k. Forward s (frame i k)) (range_with_len a n)
-asking_from i s a zero = refl
-asking_from i s a (suc n) = ap (λ (l : List Call). Forward s (frame i a) ∷ l) (asking_from i s (a + 1) n)
-
--- forwards ask, and the first of them are the first of a thousand
-pub asking_forwards : (i s n : ℕ) → n ≤ 1000 → filter is_asking (forwards i s n) ≡ take n (forwards i s 1000)
-asking_forwards i s n few = asking_from i s 0 n ∙ sym (take-map-range_with_len (λ k. Forward s (frame i k)) 0 1000 n few)
+-- the first forwards are the first of a thousand
+pub first_forwards : (i s n : ℕ) → n ≤ 1000 → forwards i s n ≡ take n (forwards i s 1000)
+first_forwards i s n few = sym (take-map-range_with_len (λ k. Forward s (frame i k)) 0 1000 n few)
 
 -- how many there are
 pub length_forwards : (i s n : ℕ) → length (forwards i s n) ≡ n

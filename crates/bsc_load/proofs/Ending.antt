@@ -1,6 +1,6 @@
 -- The end of a workload.
-use Rattle.std.proofs.Common.{◌≡◌, ◌≤◌, ◌<◌, ◌+◌, ◌-◌, inl, inr, ℕ, Bool, true, false, cond, List, [], length, map, Option, None, Result, Ok, Err, refl, ap, sym, ◌∙◌, subst, arith, append-nil}
-use Rattle.std.specs.Prelude.{IsTrue, nat_lt}
+use Rattle.std.proofs.Common.{◌≡◌, ◌≤◌, ◌<◌, ◌+◌, ◌-◌, inl, inr, ℕ, Bool, true, false, cond, List, [], ◌++◌, length, map, Option, None, Result, Ok, Err, refl, ap, sym, ◌∙◌, subst, arith, append-nil}
+use Rattle.std.specs.Prelude.{IsTrue, min, nat_lt}
 use Rattle.std.specs.List.{range_with_len}
 use Rattle.std.proofs.lemmas.Bool.{ltb-false, ltb-true, or_right}
 use Rattle.std.proofs.lemmas.List.{length-map}
@@ -17,18 +17,19 @@ use Rattle.bsc_turn.specs.declared.view.Ended.{Ended}
 use Rattle.bsc_turn.specs.Passes.{number_of, seen}
 use Rattle.bsc_hub.specs.declared.hub.Hub.{Hub}
 use Rattle.bsc_hub.specs.Calls.{stop_made, stop_stamped}
-use Rattle.bsc_hub.specs.Passing.{Passed, Placed, about_of}
+use Rattle.bsc_hub.specs.Passing.{Passed, Placed, Went, about_of}
+use Rattle.bsc_hub.proofs.Following.{passed_none, passed_then}
 use Rattle.bsc_load.specs.declared.ends.LoadEnd.{LoadEnd}
 use Rattle.bsc_load.specs.declared.ends.LoadStop.{LoadStop}
 use Rattle.bsc_load.specs.declared.ends.LoadStop.TheVariants.{NoMemory as NoMemoryStop, Short as ShortStop}
 use Rattle.bsc_load.specs.declared.jobs.Job.{Job}
 use Rattle.bsc_load.specs.declared.jobs.Sum.{Sum}
 use Rattle.bsc_load.specs.declared.jobs.Work.{Work}
-use Rattle.bsc_load.specs.Inner.{Finishes, HaveRun, Joins, LoadsFrom, Splits, Stops, cut_short, ends_as, indices, job_indices, within_32_bits, work_indices}
+use Rattle.bsc_load.specs.Inner.{Asks, Finishes, HaveRun, Joins, LoadsFrom, Splits, Stops, cut_short, ends_as, indices, job_indices, within_32_bits, work_indices}
 use Rattle.bsc_load.specs.Load.{Loads, Ran, Worker}
 use Rattle.bsc_load.specs.Workers.{within_64_bits}
 use Rattle.bsc_load.proofs.Joining.{all_cut_later, all_took_same}
-use Rattle.bsc_load.proofs.Passing.{passed_none, passed_then}
+use Rattle.bsc_load.proofs.Passing.{went_on}
 
 -- a hub that was told to stop is stopped
 stopped_now : (h : Hub) (m q : Pass) (told : Result (Told Counts) AlreadyStopped) → Stops h m q told → IsTrue (is_stopped (entries (seen q)))
@@ -46,21 +47,26 @@ many_workers : (xs : List Worker) (ws : List Work) (js : List Job) → indices x
 many_workers xs ws js a b = sym (length-map xs (λ (x : Worker). x.index)) ∙ ap (λ (l : List ℕ). length l) (a ∙ b) ∙ length-map js (λ (j : Job). j.index)
 
 -- the callers that were taken in, and the entry that was made
-ran_by : (h : Hub) (p m v q : Pass) (n : ℕ) (js : List Job) (ws : List Work) (sum : Sum) (made : Option Placed) → Splits h p m n js → HaveRun h js ws → (j : Joins h ws m v sum) → Passed h v [] made q → Ran h p q n j.workers made
+ran_by : (h : Hub) (p m v q : Pass) (n : ℕ) (js : List Job) (ws : List Work) (sum : Sum) (made : Option Placed) → Splits h p m n js → HaveRun h js ws → (j : Joins h ws m v sum) → Passed h v [] made q → (r : Ran h p q n j.workers made) × (r.drew ≡ min n (length js + 1))
 ran_by h p m v q n js ws sum made split run j last =
     let xs = j.workers in
     let callers = map (λ (w : Worker). w.caller) xs in
     let many = many_workers xs ws js j.same run.same in
-    record {
-      passed = subst (λ (l : List Ended). Passed h p l made q) (append-nil callers) (passed_then h p v q callers [] made (passed_then h p m v [] callers None split.passed j.passed) last);
+    let ran : Ran h p q n xs made = record {
+      drew = min n (length js + 1);
+      went =
+          subst (λ (l : List Ended). Went h p (min n (length js + 1)) l made q) (append-nil callers)
+          (went_on h p m q (min n (length js + 1)) [] (callers ++ []) made split.went (passed_then h m v q callers [] made j.passed last));
       numbered = j.same ∙ run.same ∙ split.numbered ∙ ap (range_with_len 0) (sym many);
       within = omega (arith, many, split.within);
+      few = omega arith;
       parts = j.parts;
-    }
+    } in
+    (ran, refl)
 
 -- a stop's entry has the number of the pass that was given
 same_stop : (h : Hub) (p m v q : Pass) (told : Result (Told Counts) AlreadyStopped) (n : ℕ) (js : List Job) (ws : List Work) (sum : Sum) → Splits h p m n js → Joins h ws m v sum → Stops h v q told → Passed h v [] (stop_made (number_of p) told) q
-same_stop h p m v q told n js ws sum split j s = subst (λ k. Passed h v [] (stop_made k told) q) (j.passed.number ∙ split.passed.number) s.passed
+same_stop h p m v q told n js ws sum split j s = subst (λ k. Passed h v [] (stop_made k told) q) (j.passed.number ∙ split.went.number) s.passed
 
 -- at least one worker was cut short or got no pass
 some_short : (h : Hub) (p m v q : Pass) (n without short : ℕ) (js : List Job) (ws : List Work) (sum : Sum) (told : Result (Told Counts) AlreadyStopped) → n ≤ 512 → without ≡ n - length js → short ≡ within_32_bits (sum.short + without) →
@@ -68,14 +74,16 @@ some_short : (h : Hub) (p m v q : Pass) (n without short : ℕ) (js : List Job) 
 some_short h p m v q n without short js ws sum told few rest all split run j s some =
     let xs = j.workers in
     let many = many_workers xs ws js j.same run.same in
+    let ran = ran_by h p m v q n js ws sum (stop_made (number_of p) told) split run j (same_stop h p m v q told n js ws sum split j s) in
     record {
       workers = xs;
       told = told;
-      ran = ran_by h p m v q n js ws sum (stop_made (number_of p) told) split run j (same_stop h p m v q told n js ws sum split j s);
+      ran = ran.0;
       some = some;
       count = omega (arith, few, rest, all, many, split.within, j.short, count_by-le-length (λ (w : Worker). w.is_cut) xs);
       cut = all_cut_later h v q xs s.passed.grows j.cut;
       without = λ less. s.loaded ∙ j.loaded ∙ split.spent (omega (arith, less, many));
+      tried = ran.1 ∙ ap (λ (k : ℕ). min n (k + 1)) (sym many);
       stopped = stopped_now h v q told s;
     }
 
@@ -90,7 +98,7 @@ none_short h p m v q n without short js ws sum (Ok t) few rest all split run j s
     record {
       workers = xs;
       told = t;
-      ran = ran_by h p m v q n js ws sum (stop_made (number_of p) (Ok t)) split run j (same_stop h p m v q (Ok t) n js ws sum split j s);
+      ran = (ran_by h p m v q n js ws sum (stop_made (number_of p) (Ok t)) split run j (same_stop h p m v q (Ok t) n js ws sum split j s)).0;
       all = omega (arith, none, all, rest, many, split.within, few);
       whole = whole.0;
       counts = s.due;
@@ -103,7 +111,7 @@ none_short h p m v q n without short js ws sum (Err already) few rest all split 
     let whole = j.whole fine zero in
     record {
       workers = xs;
-      ran = ran_by h p m v q n js ws sum None split run j (same_stop h p m v q (Err already) n js ws sum split j s);
+      ran = (ran_by h p m v q n js ws sum None split run j (same_stop h p m v q (Err already) n js ws sum split j s)).0;
       all = omega (arith, none, all, rest, many, split.within, few);
       whole = whole.0;
       place = s.place;
@@ -119,7 +127,7 @@ pub loads_from : (h : Hub) (m q : Pass) (n without : ℕ) (js : List Job) (ws : 
 loads_from h m q n without js ws result few rest run f p split =
     elim f.ends [
       | inl lacks ↦ subst (λ (r : Result LoadEnd LoadStop). Loads h p q n r) (sym lacks.2)
-          (f.joins.workers, subst (λ (x : Pass). Ran h p x n f.joins.workers None) (sym lacks.1) (ran_by h p m f.pass f.pass n js ws f.sum None split run f.joins (passed_none h f.pass f.joins.passed.caller)))
+          (f.joins.workers, subst (λ (x : Pass). Ran h p x n f.joins.workers None) (sym lacks.1) (ran_by h p m f.pass f.pass n js ws f.sum None split run f.joins (passed_none h f.pass f.joins.passed.caller)).0)
       | inr fine ↦ (
           let short = within_32_bits (f.sum.short + without) in
           subst (λ (r : Result LoadEnd LoadStop). Loads h p q n r) (sym fine.1.2)
@@ -128,8 +136,8 @@ loads_from h m q n without js ws result few rest run f p split =
 
 -- no memory for the threads
 pub loads_unrun : (h : Hub) (m : Pass) (n : ℕ) (js : List Job) → LoadsFrom h m n js m (Err NoMemoryStop)
-loads_unrun h m n js p split = ([], record { passed = split.passed; numbered = refl; within = omega arith; parts = tt })
+loads_unrun h m n js p split = ([], record { drew = min n (length js + 1); went = split.went; numbered = refl; within = omega arith; few = omega arith; parts = tt })
 
 -- no memory for the jobs
-pub loads_unsplit : (h : Hub) (p q : Pass) (n : ℕ) → Passed h p [] None q → Loads h p q n (Err NoMemoryStop)
-loads_unsplit h p q n passed = ([], record { passed = passed; numbered = refl; within = omega arith; parts = tt })
+pub loads_unsplit : (h : Hub) (p q : Pass) (n : ℕ) → Asks h p q n → Loads h p q n (Err NoMemoryStop)
+loads_unsplit h p q n a = ([], record { drew = a.drew; went = a.went; numbered = refl; within = omega arith; few = a.few; parts = tt })

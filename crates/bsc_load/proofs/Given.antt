@@ -24,7 +24,10 @@ have_run h (j ∷ js) (w ∷ ws) many each =
       run = (did.1, rest.run);
     }
 
--- one element more
+-- some elements more, and one more
+pub all_append : {X : Type 0} (P : X → Type 0) (xs ys : List X) → AllByRecursion P xs → AllByRecursion P ys → AllByRecursion P (xs ++ ys)
+all_append P [] ys all more = more
+all_append P (x ∷ xs) ys all more = (all.0, all_append P xs ys all.1 more)
+
 pub all_push : {X : Type 0} (P : X → Type 0) (xs : List X) (x : X) → AllByRecursion P xs → P x → AllByRecursion P (xs ++ x ∷ [])
-all_push P [] x all one = (one, tt)
-all_push P (y ∷ ys) x all one = (all.0, all_push P ys x all.1 one)
+all_push P xs x all one = all_append P xs (x ∷ []) all (one, tt)

@@ -2,7 +2,6 @@
 use Rattle.std.proofs.Common.{◌≡◌, ℕ, List, [], ◌∷◌, ◌++◌, Option, Some, None, refl, ap, sym, ◌∙◌, subst, append_assoc, append-nil}
 use Rattle.bsc_history.specs.declared.entry.Entry.{Entry}
 use Rattle.bsc_history.specs.declared.mark.Mark.{Mark}
-use Rattle.bsc_history.specs.declared.mark.Stamped.{Stamped}
 use Rattle.bsc_history.specs.Marks.{mark_of}
 use Rattle.bsc_history.proofs.Marks.{mark_grows}
 use Rattle.bsc_turn.specs.declared.pass.Pass.{Pass}
@@ -10,20 +9,19 @@ use Rattle.bsc_turn.specs.Histories.{StartsWith}
 use Rattle.bsc_turn.specs.Passes.{ended_callers, own_list, seen}
 use Rattle.bsc_hub.specs.declared.hub.Hub.{Hub}
 use Rattle.bsc_hub.specs.Passing.{IsCaller, Passed, Placed, StaysBy}
+use Rattle.bsc_hub.proofs.Following.{drew_none, starts_same, starts_then}
 use Rattle.bsc_hub.proofs.Owning.{owned_kept}
 use Rattle.bsc_load.specs.Inner.{Goes, Holds}
-
-pub starts_then : (F G H : List Stamped) → StartsWith G F → StartsWith H G → StartsWith H F
-starts_then F G H a b = (a.0 ++ b.0, b.1 ∙ ap (λ (l : List Stamped). l ++ b.0) a.1 ∙ append_assoc F a.0 b.0)
 
 -- no call
 pub goes_same : (h : Hub) (p : Pass) → IsCaller h p → Goes h p [] p
 goes_same h p is = record {
   caller = is;
   number = refl;
-  sees = ([], sym (append-nil (seen p)));
+  sees = starts_same (seen p);
   own = sym (append-nil (own_list p));
   took_in = refl;
+  draws_none = refl;
 }
 
 -- some calls, and then others
@@ -34,6 +32,7 @@ goes_then h p m q E F a b = record {
   sees = starts_then (seen p) (seen m) (seen q) a.sees b.sees;
   own = b.own ∙ ap (λ (l : List Entry). l ++ F) a.own ∙ append_assoc (own_list p) E F;
   took_in = b.took_in ∙ a.took_in;
+  draws_none = b.draws_none ∙ a.draws_none;
 }
 
 -- a call that made an entry, and one that made none
@@ -44,6 +43,7 @@ goes_one h p q m x = record {
   sees = x.grows;
   own = x.makes.grew;
   took_in = x.takes_in ∙ append-nil (ended_callers p);
+  draws_none = drew_none h p q [] (Some m) x;
 }
 
 pub goes_none : (h : Hub) (p q : Pass) → Passed h p [] None q → Goes h p [] q
@@ -53,6 +53,7 @@ goes_none h p q x = record {
   sees = x.grows;
   own = x.makes ∙ sym (append-nil (own_list p));
   took_in = x.takes_in ∙ append-nil (ended_callers p);
+  draws_none = drew_none h p q [] None x;
 }
 
 -- a call that is no leave keeps what is the caller's own

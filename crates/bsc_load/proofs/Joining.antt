@@ -15,6 +15,7 @@ use Rattle.bsc_turn.specs.Histories.{StartsWith}
 use Rattle.bsc_turn.specs.Passes.{ended_callers, newest_number, own_list, seen, view_of}
 use Rattle.bsc_hub.specs.declared.hub.Hub.{Hub}
 use Rattle.bsc_hub.specs.Passing.{IsCaller, Passed, about_of}
+use Rattle.bsc_hub.proofs.Following.{passed_none, passed_then}
 use Rattle.bsc_load.specs.declared.jobs.Cut.{Cut}
 use Rattle.bsc_load.specs.declared.jobs.Cut.TheVariants.{NoMemory, Short}
 use Rattle.bsc_load.specs.declared.jobs.Sum.{Sum}
@@ -22,9 +23,8 @@ use Rattle.bsc_load.specs.declared.jobs.Work.{Work}
 use Rattle.bsc_load.specs.Frames.{npdu_octets}
 use Rattle.bsc_load.specs.Inner.{AreFirst, CountsIn, Did, HasRun, Joins, Took, cut_short, within_32_bits, work_indices}
 use Rattle.bsc_load.specs.Load.{ShowsCut, Worker, WorksPart, WorksWhole}
-use Rattle.bsc_load.specs.Workers.{ShowsShort, octets_taken, within_64_bits}
+use Rattle.bsc_load.specs.Workers.{IsPart, ShowsShort, octets_taken, within_64_bits}
 use Rattle.bsc_load.proofs.Given.{all_push}
-use Rattle.bsc_load.proofs.Passing.{passed_none, passed_then}
 use Rattle.bsc_load.proofs.Running.{part_of_whole}
 use Rattle.bsc_load.proofs.Unjoined.{first_later, longer}
 
@@ -106,7 +106,7 @@ known_later h w S T x begins k = record {
 
 -- by its answer
 abbrev KnownBy : Hub → Work → List Stamped → Worker → Result ℕ Cut → Type 0
-KnownBy h w S x r = WorksPart x × (x.is_cut ≡ true → ShowsShort (about_of h) x.caller.own (length (entries S))) × Took (about_of h) S x × Says (about_of h) S x r × (x.index ≡ w.index) × (x.caller ≡ ended_of (view_of w.pass))
+KnownBy h w S x r = IsPart x.index x.caller.own × (x.is_cut ≡ true → ShowsShort (about_of h) x.caller.own (length (entries S))) × Took (about_of h) S x × Says (about_of h) S x r × (x.index ≡ w.index) × (x.caller ≡ ended_of (view_of w.pass))
 
 known_by : (h : Hub) (w : Work) (r : Result ℕ Cut) → Did h w.index (own_list w.pass) (seen w.pass) r → (x : Worker) × KnownBy h w (seen w.pass) x r
 known_by h w (Ok octets) d =
@@ -126,7 +126,8 @@ known_by h w (Err NoMemory) d =
 known : (h : Hub) (w : Work) → HasRun h w → (x : Worker) × Known h w (seen w.pass) x
 known h w run =
     let k = known_by h w w.octets run.did in
-    (k.0, record { part = k.1.0; cut = k.1.1; took = k.1.2; says = k.1.3; index = k.1.4; caller = k.1.5 })
+    let none : k.0.caller.loads ≡ 0 = ap (λ (e : Ended). e.loads) k.1.5 ∙ run.draws_none in
+    (k.0, record { part = record { part = k.1.0; draws_none = none }; cut = k.1.1; took = k.1.2; says = k.1.3; index = k.1.4; caller = k.1.5 })
 
 -- how many were cut short
 

@@ -1,46 +1,11 @@
--- The pass clause of calls that follow one another.
-use Rattle.std.proofs.Common.{◌≡◌, List, [], ◌∷◌, ◌++◌, Option, Some, None, refl, ap, sym, ◌∙◌, append_assoc, append-nil}
-use Rattle.bsc_history.specs.declared.entry.Entry.{Entry}
-use Rattle.bsc_history.specs.Entries.{own}
-use Rattle.bsc_history.specs.Marks.{entries}
+-- The pass clause of a call that asked for numbers, and of calls after it.
+use Rattle.std.proofs.Common.{ℕ, ◌+◌, List, ◌++◌, Option, None, subst, add-zero}
 use Rattle.bsc_turn.specs.declared.pass.Pass.{Pass}
 use Rattle.bsc_turn.specs.declared.view.Ended.{Ended}
-use Rattle.bsc_turn.specs.Histories.{StartsWith}
-use Rattle.bsc_turn.specs.Passes.{ended_callers, own_list, seen}
 use Rattle.bsc_hub.specs.declared.hub.Hub.{Hub}
-use Rattle.bsc_hub.specs.Passing.{IsCaller, Made, Passed, Placed}
-use Rattle.bsc_load.proofs.Going.{starts_then}
+use Rattle.bsc_hub.specs.Passing.{Passed, Placed, Went}
+use Rattle.bsc_hub.proofs.Following.{went_then}
 
-made_then : (p m q : Pass) (made : Option Placed) → own_list m ≡ own_list p → StartsWith (seen m) (seen p) → Made m made q → Made p made q
-made_then p m q None own begins b = b ∙ own
-made_then p m q (Some x) own begins b = record {
-  before = b.before;
-  begins = starts_then (seen p) (seen m) b.before begins b.begins;
-  ends = b.ends;
-  place = b.place;
-  grew = b.grew ∙ ap (λ (l : List Entry). l ++ x.stamped.entry ∷ []) own;
-}
-
--- a call that made no entry, and another after it
-pub passed_then : (h : Hub) (p m q : Pass) (xs ys : List Ended) (made : Option Placed) → Passed h p xs None m → Passed h m ys made q → Passed h p (xs ++ ys) made q
-passed_then h p m q xs ys made a b = record {
-  caller = b.caller;
-  number = b.number ∙ a.number;
-  grows = starts_then (seen p) (seen m) (seen q) a.grows b.grows;
-  all_own = b.all_own;
-  takes_in = b.takes_in ∙ ap (λ (l : List Ended). l ++ ys) a.takes_in ∙ append_assoc (ended_callers p) xs ys;
-  makes = made_then p m q made a.makes a.grows b.makes;
-}
-
--- no call at all
-pub passed_none : (h : Hub) (p : Pass) → IsCaller h p → Passed h p [] None p
-passed_none h p is =
-    let sound = is.0.1.1 in
-    record {
-      caller = is;
-      number = refl;
-      grows = ([], sym (append-nil (seen p)));
-      all_own = ap (own (entries (seen p))) (sym sound.2) ∙ sound.5.0;
-      takes_in = sym (append-nil (ended_callers p));
-      makes = refl;
-    }
+-- calls that asked for none come after it
+pub went_on : (h : Hub) (p m q : Pass) (drew : ℕ) (xs ys : List Ended) (made : Option Placed) → Went h p drew xs None m → Passed h m ys made q → Went h p drew (xs ++ ys) made q
+went_on h p m q drew xs ys made a b = subst (λ (n : ℕ). Went h p n (xs ++ ys) made q) (add-zero drew) (went_then h p m q drew 0 xs ys made a b)

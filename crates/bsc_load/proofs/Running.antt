@@ -1,8 +1,7 @@
 -- What a worker does from its sender's connect to its sender's leave.
-use Rattle.std.proofs.Common.{◌≡◌, ◌≤◌, inl, inr, ℕ, suc, List, [], ◌∷◌, ◌++◌, length, take, Result, Ok, Err, refl, ap, sym, ◌∙◌, subst, arith, append-nil, append_assoc}
-use Rattle.std.specs.List.{filter, list_any}
+use Rattle.std.proofs.Common.{◌≡◌, ◌≤◌, inl, inr, ℕ, List, [], ◌∷◌, ◌++◌, length, take, Result, Ok, Err, refl, ap, sym, ◌∙◌, subst, arith, append_assoc}
+use Rattle.std.specs.List.{list_any}
 use Rattle.std.proofs.lemmas.Bool.{or_left, or_right}
-use Rattle.std.proofs.lemmas.List.Elements.{filter-append}
 use Rattle.std.proofs.lemmas.List.Folds.{list_any-append}
 use Rattle.bsc_history.specs.declared.call.Call.{Call}
 use Rattle.bsc_history.specs.declared.call.Call.TheVariants.{Connect, Leave}
@@ -23,11 +22,11 @@ use Rattle.bsc_hub.specs.Calls.{connect_made, leave_made}
 use Rattle.bsc_hub.specs.Passing.{Passed, about_of}
 use Rattle.bsc_load.specs.declared.jobs.Cut.{Cut}
 use Rattle.bsc_load.specs.declared.jobs.Cut.TheVariants.{NoMemory, Short}
-use Rattle.bsc_load.specs.Inner.{AfterBoth, Did, Goes, Runs, ShowsBy}
+use Rattle.bsc_load.specs.Inner.{AfterBoth, Did, Goes, Runs, ShowsBy, inner_calls}
 use Rattle.bsc_load.specs.Peers.{receiver, sender}
-use Rattle.bsc_load.specs.Workers.{IsPart, IsWhole, calls, forwards, is_asking}
-use Rattle.bsc_load.proofs.Both.{asking_between, calls_between, goes_between, join_entry, joined_between, leave_entry, length_between}
-use Rattle.bsc_load.proofs.Calls.{asking_forwards}
+use Rattle.bsc_load.specs.Workers.{IsPart, IsWhole, calls, calls_up_to, forwards}
+use Rattle.bsc_load.proofs.Both.{calls_between, goes_between, join_entry, joined_between, leave_entry, length_between}
+use Rattle.bsc_load.proofs.Calls.{first_forwards}
 use Rattle.bsc_load.proofs.Unjoined.{first_later, longer}
 
 -- those that were cut short show it by all of their entries
@@ -40,26 +39,35 @@ more_shows h S T E e l Short later so =
       | inr worn ↦ inr (omega (arith, length_between E e l, worn.0), omega (arith, later, worn.1))
     ]
 
--- the calls of a whole worker
-whole_calls : (E : List Entry) (C : List Call) (e l : Entry) (x y : Call) (s taken empties : ℕ) → e.call ≡ x → l.call ≡ Leave s taken empties → taken ≡ 0 → empties ≡ 0 → calls E ≡ C ++ y ∷ [] → calls (e ∷ E ++ l ∷ []) ≡ x ∷ C ++ y ∷ Leave s 0 0 ∷ []
-whole_calls E C e l x y s taken empties joins leaves none never are =
+-- the calls of a worker whose sender joined and left, which took nothing
+pub outer_calls : (E : List Entry) (C : List Call) (e l : Entry) (x : Call) (s taken empties : ℕ) → e.call ≡ x → l.call ≡ Leave s taken empties → taken ≡ 0 → empties ≡ 0 → calls E ≡ C → calls (e ∷ E ++ l ∷ []) ≡ x ∷ C ++ Leave s 0 0 ∷ []
+outer_calls E C e l x s taken empties joins leaves none never are =
     let L = leaves ∙ ap (λ (n : ℕ). Leave s n empties) none ∙ ap (λ (n : ℕ). Leave s 0 n) never in
     calls_between E e l
     ∙ ap (λ (c : Call). c ∷ calls E ++ l.call ∷ []) joins
     ∙ ap (λ (c : Call). x ∷ calls E ++ c ∷ []) L
     ∙ ap (λ (k : List Call). x ∷ k ++ Leave s 0 0 ∷ []) are
-    ∙ ap (λ (k : List Call). x ∷ k) (append_assoc C (y ∷ []) (Leave s 0 0 ∷ []))
+
+-- those of a whole worker
+whole_calls : (C : List Call) (x y z : Call) → x ∷ (C ++ y ∷ []) ++ z ∷ [] ≡ x ∷ C ++ y ∷ z ∷ []
+whole_calls C x y z = ap (λ (k : List Call). x ∷ k) (append_assoc C (y ∷ []) (z ∷ []))
+
+-- those of one that was cut short
+cut_calls : (i s : ℕ) (who : List ℕ) (n taken empties : ℕ) → Connect (sender i) ∷ inner_calls i s who n taken empties ++ Leave s 0 0 ∷ [] ≡ calls_up_to i (s ∷ who) n taken empties
+cut_calls i s [] n taken empties = refl
+cut_calls i s (r ∷ others) n taken empties = whole_calls (Connect (receiver i) ∷ take n (forwards i s 1000)) (Connect (sender i)) (Leave r taken empties) (Leave s 0 0)
 
 -- a whole worker's entries are those of a worker
 pub part_of_whole : (i : ℕ) (E : List Entry) (r taken : ℕ) → IsWhole i E r taken → IsPart i E
 part_of_whole i E r taken w = record {
-  sender = w.sender;
-  count = suc (suc 1000);
+  who = w.sender ∷ r ∷ [];
+  more = 1000;
+  taken = taken;
+  empties = w.empties;
   calls =
-      let F = forwards i w.sender 1000 in
       let ends = Leave r taken w.empties ∷ Leave w.sender 0 0 ∷ [] in
-      ap (filter is_asking) w.calls
-      ∙ ap (λ (k : List Call). Connect (sender i) ∷ Connect (receiver i) ∷ k) (filter-append is_asking F ends ∙ append-nil (filter is_asking F) ∙ asking_forwards i w.sender 1000 (omega arith));
+      w.calls ∙ ap (λ (k : List Call). Connect (sender i) ∷ Connect (receiver i) ∷ k ++ ends) (first_forwards i w.sender 1000 (omega arith));
+  joined = w.joined;
 }
 
 pub after_run : (h : Hub) (i : ℕ) (p m n q : Pass) (j : Joined) (o : Outlet) (told : Told Gone) (result : Result ℕ Cut) →
@@ -79,7 +87,11 @@ after_run h i p m n q j o told (Ok octets) came b new left many =
         whole = record {
           sender = j.conn;
           empties = b.empties;
-          calls = whole_calls E (Connect (receiver i) ∷ forwards i j.conn 1000) e l (Connect (sender i)) (Leave b.conn b.taken b.empties) j.conn told.said.taken (empties_of o) refl refl (many ∙ ap (λ (x : List (List ℕ)). length x) new.0) new.1 b.calls;
+          calls =
+              let C = Connect (receiver i) ∷ forwards i j.conn 1000 in
+              let y = Leave b.conn b.taken b.empties in
+              outer_calls E (C ++ y ∷ []) e l (Connect (sender i)) j.conn told.said.taken (empties_of o) refl refl (many ∙ ap (λ (x : List (List ℕ)). length x) new.0) new.1 b.calls
+              ∙ whole_calls C (Connect (sender i)) y (Leave j.conn 0 0);
           joined = ap numbers (joined_between E p n (sender i) j j.conn o told) ∙ ap (λ (x : List ℕ). j.conn ∷ x) b.joined;
         };
         many = b.many;
@@ -95,9 +107,14 @@ after_run h i p m n q j o told (Err cut) came b new left many =
       goes_between h p m n q E (sender i) j j.conn o told came b.goes left,
       (
         record {
-          sender = j.conn;
-          count = suc b.count;
-          calls = asking_between E (take b.count (Connect (receiver i) ∷ forwards i j.conn 1000)) e l (sender i) j.conn told.said.taken (empties_of o) refl refl b.calls;
+          who = j.conn ∷ b.who;
+          more = b.more;
+          taken = b.taken;
+          empties = b.empties;
+          calls =
+              outer_calls E (inner_calls i j.conn b.who b.more b.taken b.empties) e l (Connect (sender i)) j.conn told.said.taken (empties_of o) refl refl (many ∙ ap (λ (x : List (List ℕ)). length x) new.0) new.1 b.calls
+              ∙ cut_calls i j.conn b.who b.more b.taken b.empties;
+          joined = ap numbers (joined_between E p n (sender i) j j.conn o told) ∙ ap (λ (x : List ℕ). j.conn ∷ x) b.joined;
         },
         more_shows h (seen n) (seen q) E e l cut (longer (seen n) (seen q) left.grows) b.shows,
       ),

@@ -1,17 +1,18 @@
 -- A connect that didn't join, and histories that grow.
 use Rattle.std.proofs.Common.{◌≡◌, ◌≢◌, ◌≤◌, ◌+◌, inl, inr, ℕ, Bool, true, false, cond, List, [], ◌∷◌, ◌++◌, length, take, drop, Some, None, Result, Err, refl, ap, sym, ◌∙◌, arith, append_assoc, length-append, take-append-drop}
-use Rattle.std.specs.Prelude.{nat_le}
-use Rattle.std.specs.List.{filter}
+use Rattle.std.specs.Prelude.{◌⊎◌, nat_le}
 use Rattle.std.proofs.lemmas.Bool.{leb-true}
 use Rattle.std.proofs.Math.Seq.{take-append_seam}
 use Rattle.bsc_octets.specs.declared.identity.Identity.{Identity}
+use Rattle.bsc_history.specs.declared.call.Call.TheVariants.{Connect}
 use Rattle.bsc_history.specs.declared.entry.Entry.{Entry}
 use Rattle.bsc_history.specs.declared.limits.About.{About}
 use Rattle.bsc_history.specs.declared.mark.Stamped.{Stamped}
 use Rattle.bsc_history.specs.declared.reply.Reply.{Reply}
+use Rattle.bsc_history.specs.Ends.{joined_where}
 use Rattle.bsc_history.specs.Marks.{entries}
 use Rattle.bsc_history.specs.Outboxes.{sent}
-use Rattle.bsc_history.specs.Replies.{connect_reply}
+use Rattle.bsc_history.specs.Replies.{connect_reply, numbers}
 use Rattle.bsc_turn.specs.declared.pass.Pass.{Pass}
 use Rattle.bsc_turn.specs.Histories.{StartsWith}
 use Rattle.bsc_turn.specs.Passes.{number_of, seen}
@@ -29,7 +30,7 @@ use Rattle.bsc_load.specs.declared.jobs.Cut.{Cut}
 use Rattle.bsc_load.specs.declared.jobs.Cut.TheVariants.{NoMemory, Short}
 use Rattle.bsc_load.specs.Inner.{AreFirst, CutBoth, Runs, ShowsBy, Unjoined, cut_of}
 use Rattle.bsc_load.specs.Peers.{receiver, sender}
-use Rattle.bsc_load.specs.Workers.{is_asking}
+use Rattle.bsc_load.specs.Workers.{calls}
 use Rattle.bsc_load.proofs.Going.{goes_none, goes_one, holds_by}
 
 -- a history that begins with another is no shorter
@@ -68,9 +69,11 @@ FoundRoom r = r ≢ Err NoMemoryRefusal
 
 pub unjoined : (h : Hub) (p q : Pass) (who : Identity) (refusal : ConnectRefusal) → IsCaller h p → Passed h p [] (connect_made (number_of p) who (Err refusal)) q →
     (FoundRoom (Err refusal) → connect_told (Err refusal) ≡ connect_due (about_of h) (found_history (connect_made (number_of p) who (Err refusal)) q) who) → Unjoined h who p q (cut_of refusal)
+unfolding joined_where
 unjoined h p q who NoMemoryRefusal is x due = record {
   made = [];
   calls = inl refl;
+  quiet = refl;
   goes = goes_none h p q x;
   holds = holds_by h p q None is x (connect_stays (number_of p) who (Err NoMemoryRefusal));
   shows = tt;
@@ -81,6 +84,7 @@ unjoined h p q who (WornRefusal worn) is x due =
     record {
       made = [];
       calls = inl refl;
+      quiet = refl;
       goes = goes_none h p q x;
       holds = holds_by h p q None is x (connect_stays (number_of p) who (Err (WornRefusal worn)));
       shows = inr (omega arith, leb-true (about_of h).limits.calls (length (entries (seen q))) limit);
@@ -88,43 +92,41 @@ unjoined h p q who (WornRefusal worn) is x due =
 unjoined h p q who (Refused at refusal) is x due = record {
   made = (refused_stamped (number_of p) who refusal).entry ∷ [];
   calls = inr refl;
+  quiet = refl;
   goes = goes_one h p q _ x;
   holds = holds_by h p q (connect_made (number_of p) who (Err (Refused at refusal))) is x (connect_stays (number_of p) who (Err (Refused at refusal)));
   shows = inl refl;
 }
 
+-- a connect that didn't join was asked for, or not
+pub asked_or_not : (E : List Entry) (who : Identity) → (calls E ≡ []) ⊎ (calls E ≡ Connect who ∷ []) → (n : ℕ) × (n ≤ 1) × (calls E ≡ take n (Connect who ∷ []))
+asked_or_not E who so = elim so [ inl none ↦ (0, omega arith, none) | inr one ↦ (1, omega arith, one) ]
+
 -- a receiver that didn't join
 pub both_unjoined : (h : Hub) (i s : ℕ) (p q : Pass) (cut : Cut) → IsOwnAs p s (sender i).vmac → Unjoined h (receiver i) p q cut → CutBoth h i s p q cut
 both_unjoined h i s p q cut owns u =
-    elim u.calls [
-      | inl none ↦ record {
-        count = 0;
-        made = u.made;
-        calls = ap (filter is_asking) none;
-        goes = u.goes;
-        owns = u.holds s (sender i).vmac owns;
-        shows = shows_more h 1 1002 (seen q) u.made cut (omega arith) u.shows;
-      }
-      | inr one ↦ record {
-        count = 1;
-        made = u.made;
-        calls = ap (filter is_asking) one;
-        goes = u.goes;
-        owns = u.holds s (sender i).vmac owns;
-        shows = shows_more h 1 1002 (seen q) u.made cut (omega arith) u.shows;
-      }
-    ]
+    let asked = asked_or_not u.made (receiver i) u.calls in
+    record {
+      who = [];
+      more = asked.0;
+      taken = 0;
+      empties = 0;
+      made = u.made;
+      calls = asked.2;
+      joined = ap numbers u.quiet;
+      goes = u.goes;
+      owns = u.holds s (sender i).vmac owns;
+      shows = shows_more h 1 1002 (seen q) u.made cut (omega arith) u.shows;
+    }
 
 -- a sender that didn't join
 pub runs_unjoined : (h : Hub) (i : ℕ) (p q : Pass) (cut : Cut) → Unjoined h (sender i) p q cut → Runs h i p q (Err cut)
-runs_unjoined h i p q cut u = (
-  u.made,
-  u.goes,
-  (
-    elim u.calls [
-      | inl none ↦ record { sender = 0; count = 0; calls = ap (filter is_asking) none }
-      | inr one ↦ record { sender = 0; count = 1; calls = ap (filter is_asking) one }
-    ],
-    shows_more h 1 1004 (seen q) u.made cut (omega arith) u.shows,
-  ),
-)
+runs_unjoined h i p q cut u =
+    let asked = asked_or_not u.made (sender i) u.calls in (
+      u.made,
+      u.goes,
+      (
+        record { who = []; more = asked.0; taken = 0; empties = 0; calls = asked.2; joined = ap numbers u.quiet },
+        shows_more h 1 1004 (seen q) u.made cut (omega arith) u.shows,
+      ),
+    )

@@ -1,8 +1,10 @@
 -- What the inner functions of a workload say of each other; no public clause cites any of it.
-use Rattle.std.specs.Prelude.{◌≡◌, ◌⊎◌, ◌≤◌, ◌<◌, ℕ, ◌-◌, ◌^◌, min, nat_lt, true, false, if◌then◌else◌, List, [], ◌∷◌, ◌++◌, length, map, take, count_by, None, Result, Ok, Err, IsTrue, IfOk, IfErr, IsErr, ◌↔◌, ◌+◌, Some, position, ⊤}
-use Rattle.std.specs.List.{AllByRecursion, filter, list_any, range_with_len}
+use Rattle.std.specs.Prelude.{◌≡◌, ◌⊎◌, ◌≤◌, ◌<◌, ◌↔◌, ℕ, ◌+◌, ◌-◌, ◌^◌, min, nat_lt, true, false, if◌then◌else◌, IsTrue, ⊤}
+use Rattle.std.specs.Prelude.{List, [], ◌∷◌, ◌++◌, length, map, take, count_by, position, Some, None, Result, Ok, Err, IfOk, IfErr, IsErr}
+use Rattle.std.specs.List.{AllByRecursion, list_any, range_with_len}
 use Rattle.bsc_octets.specs.declared.identity.Identity.{Identity}
 use Rattle.bsc_octets.specs.declared.vmac.Vmac.{Vmac}
+use Rattle.bsc_history.specs.declared.call.Call.{Call}
 use Rattle.bsc_history.specs.declared.call.Call.TheVariants.{Connect, Forward, Leave}
 use Rattle.bsc_history.specs.declared.counts.Counts.{Counts}
 use Rattle.bsc_history.specs.declared.entry.Entry.{Entry}
@@ -21,13 +23,13 @@ use Rattle.bsc_ring.specs.declared.ends.Outlet.{Outlet}
 use Rattle.bsc_ring.specs.Ends.{given}
 use Rattle.bsc_turn.specs.declared.pass.Pass.{Pass}
 use Rattle.bsc_turn.specs.Histories.{StartsWith}
-use Rattle.bsc_turn.specs.Passes.{ended_callers, newest_number, number_of, own_list, seen}
+use Rattle.bsc_turn.specs.Passes.{ended_callers, loads_made, newest_number, number_of, own_list, seen}
 use Rattle.bsc_desk.specs.declared.forwarding.OneReply.{OneReply}
 use Rattle.bsc_hub.specs.declared.hub.Hub.{Hub}
 use Rattle.bsc_hub.specs.declared.joined.ConnectRefusal.{ConnectRefusal}
 use Rattle.bsc_hub.specs.declared.joined.ConnectRefusal.TheVariants.{NoMemory as NoMemoryRefusal, Worn as WornRefusal, Refused}
 use Rattle.bsc_hub.specs.Calls.{stop_made}
-use Rattle.bsc_hub.specs.Passing.{IsCaller, IsOwnAs, Passed, about_of, found_history}
+use Rattle.bsc_hub.specs.Passing.{IsCaller, IsOwnAs, Passed, Went, about_of, found_history}
 use Rattle.bsc_load.specs.declared.ends.LoadEnd.{LoadEnd}
 use Rattle.bsc_load.specs.declared.ends.LoadStop.{LoadStop}
 use Rattle.bsc_load.specs.declared.ends.LoadStop.TheVariants.{NoMemory as NoMemoryStop, Short as ShortStop, Stopped}
@@ -39,19 +41,20 @@ use Rattle.bsc_load.specs.declared.jobs.Work.{Work}
 use Rattle.bsc_load.specs.Frames.{frame, npdu_octets}
 use Rattle.bsc_load.specs.Load.{Loads, ShowsCut, Worker, WorksPart, WorksWhole, all_octets}
 use Rattle.bsc_load.specs.Peers.{receiver, sender}
-use Rattle.bsc_load.specs.Workers.{IsPart, IsWhole, calls, forwards, is_asking, within_64_bits}
+use Rattle.bsc_load.specs.Workers.{IsPart, IsWhole, calls, forwards, within_64_bits}
 
 -- the octets of NPDU that an outlet gave are so many
 abbrev pub IsCounted : Outlet → ℕ → Type 0
 IsCounted o octets = octets ≡ within_64_bits (npdu_octets (given o))
 
--- The pass went on, and its own list grew by these.
+-- The pass went on, and its own list grew by these. It asked for no number.
 pub record Goes (h : Hub) (p : Pass) (E : List Entry) (q : Pass) : Type 0 where
   pub caller : IsCaller h q
   pub number : number_of q ≡ number_of p
   pub sees : StartsWith (seen q) (seen p)
   pub own : own_list q ≡ own_list p ++ E
   pub took_in : ended_callers q ≡ ended_callers p
+  pub draws_none : loads_made q ≡ loads_made p
 
 -- what was the caller's own is so still
 abbrev pub Holds : Pass → Pass → Type 0
@@ -100,6 +103,7 @@ cut_of (Refused at refusal) = Short
 pub record Unjoined (h : Hub) (who : Identity) (p q : Pass) (cut : Cut) : Type 0 where
   pub made : List Entry
   pub calls : (calls made ≡ []) ⊎ (calls made ≡ Connect who ∷ [])
+  pub quiet : joined made ≡ []
   pub goes : Goes h p made q
   pub holds : Holds p q
   pub shows : ShowsBy 1 h (seen q) made cut
@@ -123,11 +127,21 @@ pub record RanBoth (h : Hub) (i s : ℕ) (p q : Pass) (octets : ℕ) : Type 0 wh
   pub first : AreFirst (about_of h) (seen q) conn frames
   pub counted : octets ≡ within_64_bits (npdu_octets frames)
 
+-- what a worker that was cut short calls between its sender's connect and its sender's leave, by its receiver's connection,
+-- where that joined
+abbrev pub inner_calls : ℕ → ℕ → List ℕ → ℕ → ℕ → ℕ → List Call
+inner_calls i s [] n taken empties = take n (Connect (receiver i) ∷ [])
+inner_calls i s (r ∷ others) n taken empties = Connect (receiver i) ∷ take n (forwards i s 1000) ++ Leave r taken empties ∷ []
+
 -- the first of it
 pub record CutBoth (h : Hub) (i s : ℕ) (p q : Pass) (cut : Cut) : Type 0 where
-  pub count : ℕ
+  pub who : List ℕ
+  pub more : ℕ
+  pub taken : ℕ
+  pub empties : ℕ
   pub made : List Entry
-  pub calls : filter is_asking (calls made) ≡ take count (Connect (receiver i) ∷ forwards i s 1000)
+  pub calls : calls made ≡ inner_calls i s who more taken empties
+  pub joined : numbers (joined made) ≡ who
   pub goes : Goes h p made q
   pub owns : IsOwnAs q s (sender i).vmac
   pub shows : ShowsBy 1002 h (seen q) made cut
@@ -155,17 +169,19 @@ Did h i E S (Err cut) = IsPart i E × ShowsBy 1004 h S E cut
 abbrev pub Runs : Hub → ℕ → Pass → Pass → Result ℕ Cut → Type 0
 Runs h i p q result = (made : List Entry) × Goes h p made q × Did h i made (seen q) result
 
--- a job has a pass that made no entry, and in which nobody ended
+-- a job has a pass that made no entry and asked for no number, and in which nobody ended
 pub record IsJob (h : Hub) (j : Job) : Type 0 where
   pub caller : IsCaller h j.pass
   pub own : own_list j.pass ≡ []
   pub ended : ended_callers j.pass ≡ []
+  pub fresh : loads_made j.pass ≡ 0
   pub index : j.index < 512
 
 -- a worker that has run: all that its pass made is what the worker did
 pub record HasRun (h : Hub) (w : Work) : Type 0 where
   pub caller : IsCaller h w.pass
   pub ended : ended_callers w.pass ≡ []
+  pub draws_none : loads_made w.pass ≡ 0
   pub did : Did h w.index (own_list w.pass) (seen w.pass) w.octets
 
 -- a job was run
@@ -182,9 +198,15 @@ work_indices ws = map (λ w. w.index) ws
 abbrev pub indices : List Worker → List ℕ
 indices ws = map (λ w. w.index) ws
 
--- jobs were split off for so many workers, or for as many as there are numbers for
+-- the pass asked for at most n numbers, and made no entry
+pub record Asks (h : Hub) (p q : Pass) (n : ℕ) : Type 0 where
+  pub drew : ℕ
+  pub few : drew ≤ n
+  pub went : Went h p drew [] None q
+
+-- jobs were split off for so many workers, or for as many as there are numbers for, and one number more was asked for
 pub record Splits (h : Hub) (p q : Pass) (n : ℕ) (js : List Job) : Type 0 where
-  pub passed : Passed h p [] None q
+  pub went : Went h p (min n (length js + 1)) [] None q
   pub jobs : AllByRecursion (IsJob h) js
   pub numbered : job_indices js ≡ range_with_len 0 (length js)
   pub within : length js ≤ n

@@ -1,5 +1,5 @@
 -- What a workload says of the pass that it was given.
-use Rattle.std.specs.Prelude.{◌≡◌, ◌≤◌, ◌<◌, ℕ, ◌+◌, ◌-◌, Bool, true, false, List, length, map, position, Option, Some, None, Result, Ok, Err, IsTrue}
+use Rattle.std.specs.Prelude.{◌≡◌, ◌≤◌, ◌<◌, ℕ, ◌+◌, ◌-◌, min, Bool, true, false, List, length, map, position, Option, Some, None, Result, Ok, Err, IsTrue}
 use Rattle.std.specs.List.{AllByRecursion, count_by, range_with_len, sum_by}
 use Rattle.bsc_history.specs.declared.counts.Counts.{Counts}
 use Rattle.bsc_history.specs.declared.entry.Entry.{Entry}
@@ -14,7 +14,7 @@ use Rattle.bsc_turn.specs.declared.view.Ended.{Ended}
 use Rattle.bsc_turn.specs.Passes.{newest_number, number_of, seen}
 use Rattle.bsc_hub.specs.declared.hub.Hub.{Hub}
 use Rattle.bsc_hub.specs.Calls.{stop_made}
-use Rattle.bsc_hub.specs.Passing.{Passed, Placed, about_of, found_history}
+use Rattle.bsc_hub.specs.Passing.{Placed, Went, about_of, found_history}
 use Rattle.bsc_load.specs.declared.ends.LoadEnd.{LoadEnd}
 use Rattle.bsc_load.specs.declared.ends.LoadStop.{LoadStop}
 use Rattle.bsc_load.specs.declared.ends.LoadStop.TheVariants.{NoMemory, Short, Stopped}
@@ -29,9 +29,10 @@ pub record Worker : Type 0 where
   pub receiver : ℕ
   pub taken : ℕ
 
--- Its own entries are the first of a worker's.
-abbrev pub WorksPart : Worker → Type 0
-WorksPart w = IsPart w.index w.caller.own
+-- Its own entries are its calls as far as it came, and it asked for no number, so it made no other caller.
+pub record WorksPart (w : Worker) : Type 0 where
+  pub part : IsPart w.index w.caller.own
+  pub draws_none : w.caller.loads ≡ 0
 
 -- They are all of a worker's, and it wasn't cut short.
 abbrev pub WorksWhole : Worker → Type 0
@@ -41,12 +42,15 @@ WorksWhole w = (w.is_cut ≡ false) × IsWhole w.index w.caller.own w.receiver w
 abbrev pub ShowsCut : Hub → Pass → Worker → Type 0
 ShowsCut h q w = w.is_cut ≡ true → ShowsShort (about_of h) w.caller.own (length (entries (seen q)))
 
--- The callers that a call took in, of n workers: those that got a pass, in order, each with the first of its calls; and
--- the call made this entry with its own pass, or none.
+-- The callers that a call took in, of n workers: those that got a pass, in order, each with its calls as far as it came.
+-- The call asked for so many numbers, no fewer than these and at most one for each worker, and made this entry with its own
+-- pass, or none.
 pub record Ran (h : Hub) (p q : Pass) (n : ℕ) (workers : List Worker) (made : Option Placed) : Type 0 where
-  pub passed : Passed h p (map (λ w. w.caller) workers) made q
+  pub drew : ℕ
+  pub went : Went h p drew (map (λ w. w.caller) workers) made q
   pub numbered : map (λ w. w.index) workers ≡ range_with_len 0 (length workers)
-  pub within : length workers ≤ n
+  pub within : length workers ≤ drew
+  pub few : drew ≤ n
   pub parts : AllByRecursion WorksPart workers
 
 -- The octets of NPDU that all receivers took, by the history H.
@@ -65,7 +69,7 @@ pub record HasEnded (h : Hub) (p q : Pass) (n : ℕ) (end : LoadEnd) : Type 0 wh
   pub octets : end.octets ≡ all_octets h (entries (seen q)) workers
 
 -- So many workers were cut short or got no pass, at least one: each that was cut short shows it, and where one got no pass
--- the number word was found at its limit. The hub is stopped.
+-- the number word was found at its limit, and no number was asked for after that. The hub is stopped.
 pub record WasShort (h : Hub) (p q : Pass) (n short : ℕ) : Type 0 where
   pub workers : List Worker
   pub told : Result (Told Counts) AlreadyStopped
@@ -74,6 +78,7 @@ pub record WasShort (h : Hub) (p q : Pass) (n short : ℕ) : Type 0 where
   pub count : short ≡ count_by (λ w. w.is_cut) workers + (n - length workers)
   pub cut : AllByRecursion (ShowsCut h q) workers
   pub without : length workers < n → newest_number q ≡ (about_of h).limits.callers
+  pub tried : ran.drew ≡ min n (length workers + 1)
   pub stopped : IsTrue (is_stopped (entries (seen q)))
 
 -- All workers got a pass and are whole, and the hub had been stopped before, by the entry at this place.

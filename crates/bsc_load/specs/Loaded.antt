@@ -5,7 +5,7 @@ use Rattle.std.specs.Arc.{arc_value}
 use Rattle.bsc_octets.specs.declared.identity.Identity.{Identity}
 use Rattle.bsc_history.specs.declared.limits.About.{About}
 use Rattle.bsc_turn.specs.declared.pass.Pass.{Pass}
-use Rattle.bsc_turn.specs.Passes.{ended_callers, number_of, own_list, seen}
+use Rattle.bsc_turn.specs.Passes.{ended_callers, loads_made, number_of, own_list, seen}
 use Rattle.bsc_hub.specs.declared.hub.Hub.{Hub}
 use Rattle.bsc_hub.specs.declared.kept.Kept.{Kept}
 use Rattle.bsc_hub.specs.Passing.{IsCaller, about_of}
@@ -32,6 +32,7 @@ pub record Loaded {Z : Type 0} (n : ℕ) (kept : Kept) (hub : Arc Hub Z) (result
   pub last : Pass
   pub caller : IsCaller (arc_value hub) first
   pub new : (number_of first ≡ 0) × (seen first ≡ []) × (own_list first ≡ []) × (ended_callers first ≡ [])
+  pub fresh : loads_made first ≡ 0
   pub about : about_of (arc_value hub) ≡ load_about
   pub keeps : kept.pass ≡ Some last
   pub loads : Loads (arc_value hub) first last n result

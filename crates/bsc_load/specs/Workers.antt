@@ -1,6 +1,6 @@
 -- What the workers of a workload ask of a hub, and what they take.
-use Rattle.std.specs.Prelude.{◌≡◌, ◌⊎◌, ◌≤◌, ◌<◌, ℕ, ◌-◌, ◌^◌, min, Bool, true, false, IsTrue, List, [], ◌∷◌, ◌++◌, length, map, take}
-use Rattle.std.specs.List.{filter, list_any, range_with_len}
+use Rattle.std.specs.Prelude.{◌≡◌, ◌⊎◌, ◌≤◌, ◌<◌, ℕ, ◌-◌, ◌^◌, min, IsTrue, List, [], ◌∷◌, ◌++◌, length, map, take}
+use Rattle.std.specs.List.{list_any, range_with_len}
 use Rattle.bsc_history.specs.declared.call.Call.{Call}
 use Rattle.bsc_history.specs.declared.call.Call.TheVariants.{Connect, Forward, Leave}
 use Rattle.bsc_history.specs.declared.entry.Entry.{Entry}
@@ -36,17 +36,24 @@ pub record IsWhole (i : ℕ) (E : List Entry) (r taken : ℕ) : Type 0 where
   pub calls : calls E ≡ all_calls i sender r taken empties
   pub joined : numbers (joined E) ≡ sender ∷ r ∷ []
 
--- whether a call is a connect or a forward
-abbrev pub is_asking : Call → Bool
-is_asking (Connect who) = true
-is_asking (Forward conn frame) = true
-is_asking call = false
+-- The calls of worker i up to where it was cut short, by the connections of its peers that joined, the sender's first. Where
+-- none joined, that is its sender's connect or none; where the sender alone did, it asked for its receiver's connect or not,
+-- and the sender left; where both did, it made the first n of its forwards, and the receiver left, and then the sender.
+abbrev pub calls_up_to : ℕ → List ℕ → ℕ → ℕ → ℕ → List Call
+calls_up_to i [] n taken empties = take n (Connect (sender i) ∷ [])
+calls_up_to i (s ∷ []) n taken empties = Connect (sender i) ∷ take n (Connect (receiver i) ∷ []) ++ Leave s 0 0 ∷ []
+calls_up_to i (s ∷ r ∷ others) n taken empties =
+    Connect (sender i) ∷ Connect (receiver i) ∷ take n (forwards i s 1000) ++ Leave r taken empties ∷ Leave s 0 0 ∷ []
 
--- These are entries of worker i: the connects and forwards among its calls are the first of those that it asks for.
+-- These are the entries of worker i, whole or cut short: exactly its calls up to there. So it made no other entry, and who
+-- joined has left.
 pub record IsPart (i : ℕ) (E : List Entry) : Type 0 where
-  pub sender : ℕ
-  pub count : ℕ
-  pub calls : filter is_asking (calls E) ≡ take count (asks i sender)
+  pub who : List ℕ
+  pub more : ℕ
+  pub taken : ℕ
+  pub empties : ℕ
+  pub calls : calls E ≡ calls_up_to i who more taken empties
+  pub joined : numbers (joined E) ≡ who
 
 -- The entries show that their worker was cut short, where so many entries have been seen: a connect was refused, or they
 -- are fewer than a whole worker's, and the hub had made as many calls as it may.

@@ -1,7 +1,7 @@
 //! A workload on a hub of its own.
 ghost use Rattle.std.specs.Prelude.{◌≡◌, ◌≤◌, [], None, Some, Err, IfOk};
 ghost use Rattle.std.specs.Arc.{arc_value};
-ghost use Rattle.bsc_turn.specs.Passes.{ended_callers, number_of, own_list, seen};
+ghost use Rattle.bsc_turn.specs.Passes.{ended_callers, loads_made, number_of, own_list, seen};
 ghost use Rattle.bsc_hub.specs.Passing.{IsCaller, about_of};
 ghost use Rattle.bsc_load.specs.declared.ends.LoadStop.TheVariants.{NoMemory as NoMemoryStop};
 ghost use Rattle.bsc_load.specs.Load.{Loads};
@@ -37,6 +37,7 @@ fn make_hub(alloc: Global) -> Result<(Arc<Hub>, Pass), NoMemory>
     ensures pass { IfOk result (λ r. IsCaller (arc_value r.0) r.1) }
     ensures new { IfOk result (λ r. (number_of r.1 ≡ 0) × (seen r.1 ≡ []) × (own_list r.1 ≡ [])
         × (ended_callers r.1 ≡ [])) }
+    ensures fresh { IfOk result (λ r. loads_made r.1 ≡ 0) }
     ensures about { IfOk result (λ r. about_of (arc_value r.0) ≡ load_about) }
 {
     let limits = Limits {

@@ -1,8 +1,8 @@
 //! The passes of the workers: each gets one, and each is joined in the end.
-ghost use Rattle.std.specs.Prelude.{◌≡◌, ◌≤◌, [], None, IfOk};
+ghost use Rattle.std.specs.Prelude.{◌≤◌, IfOk};
 ghost use Rattle.std.specs.List.{AllByRecursion};
-ghost use Rattle.bsc_hub.specs.Passing.{IsCaller, Passed};
-ghost use Rattle.bsc_load.specs.Inner.{CountsIn, HasRun, HaveRun, IsJob, Joins, RunsJob, Splits};
+ghost use Rattle.bsc_hub.specs.Passing.{IsCaller};
+ghost use Rattle.bsc_load.specs.Inner.{Asks, CountsIn, HasRun, HaveRun, IsJob, Joins, RunsJob, Splits};
 
 use crate::jobs::{Cut, Job, Sum, Work};
 use crate::worker::run_job;
@@ -23,7 +23,7 @@ pub(crate) fn split_for<R: Wait>(
 ) -> Result<Vec<Job>, NoMemory>
     requires caller { IsCaller hub.now pass.old }
     requires workers { workers ≤ 512 }
-    ensures passed { Passed hub.now pass.old [] None pass.new }
+    ensures asks { Asks hub.now pass.old pass.new workers }
     ensures splits { IfOk result (λ v. Splits hub.now pass.old pass.new workers v.items) }
 {
     let mut jobs = Vec::new(alloc);

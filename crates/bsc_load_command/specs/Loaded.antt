@@ -10,7 +10,7 @@ use Rattle.bsc_load_command.specs.Lines.{SaysLoad}
 
 -- A hub was made for so many workers and is kept, the workload was run on it, and this was written of its end, with this
 -- status.
-pub record RunsLoad {Z : Type 0} (n : ℕ) (kept : Kept) (hub : Arc Hub Z) (s : ℕ) (b b' : Option (List ℕ)) : Type 0 where
+pub record RunsLoad {Z : Type 0} (n : ℕ) (kept : Kept) (hub : Arc Hub Z) (status : ℕ) (before after : Option (List ℕ)) : Type 0 where
   pub end : Result LoadEnd LoadStop
   pub loaded : Loaded n kept hub end
-  pub says : SaysLoad end s b b'
+  pub says : SaysLoad end status before after

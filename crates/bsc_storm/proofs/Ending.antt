@@ -15,6 +15,7 @@ use Rattle.bsc_history.specs.declared.mark.Stamped.{Stamped}
 use Rattle.bsc_history.specs.declared.told.AlreadyStopped.{AlreadyStopped}
 use Rattle.bsc_history.specs.declared.told.Told.{Told}
 use Rattle.bsc_history.specs.Counting.{counts}
+use Rattle.bsc_history.specs.Ends.{joined_where}
 use Rattle.bsc_history.specs.Entries.{own}
 use Rattle.bsc_history.specs.Marks.{entries}
 use Rattle.bsc_history.specs.Replies.{is_stopped}
@@ -26,13 +27,13 @@ use Rattle.bsc_turn.specs.Histories.{StartsWith}
 use Rattle.bsc_turn.specs.Passes.{ended_callers, newest_number, number_of, own_list, seen, view_of}
 use Rattle.bsc_hub.specs.declared.hub.Hub.{Hub}
 use Rattle.bsc_hub.specs.Calls.{stop_made, stop_stamped}
-use Rattle.bsc_hub.specs.Passing.{Passed, Placed, about_of}
+use Rattle.bsc_hub.specs.Passing.{Passed, Placed, Went, about_of}
+use Rattle.bsc_hub.proofs.Following.{passed_none, passed_then, starts_then}
 use Rattle.bsc_load.specs.declared.ends.LoadStop.{LoadStop}
 use Rattle.bsc_load.specs.declared.ends.LoadStop.TheVariants.{Short as ShortStop}
 use Rattle.bsc_load.specs.Inner.{Stops}
 use Rattle.bsc_load.specs.Workers.{within_64_bits}
-use Rattle.bsc_load.proofs.Going.{starts_then}
-use Rattle.bsc_load.proofs.Passing.{passed_none, passed_then}
+use Rattle.bsc_load.proofs.Passing.{went_on}
 use Rattle.bsc_load.proofs.Unjoined.{longer}
 use Rattle.bsc_storm.specs.declared.ends.StormEnd.{StormEnd}
 use Rattle.bsc_storm.specs.declared.works.Cut.{Cut}
@@ -40,26 +41,29 @@ use Rattle.bsc_storm.specs.declared.works.Cut.TheVariants.{NoMemory, Short}
 use Rattle.bsc_storm.specs.declared.works.Work.{Work}
 use Rattle.bsc_storm.specs.Inner.{Did, Finishes, HasRun, Joins, MayRun, SeesAll, ShowsBy, Splits, StormsFrom, all_short, all_taken_of, any_lacks, came_of, ended_in, ends_as, lacks, short_of, taken_of}
 use Rattle.bsc_storm.specs.Peers.{taken_over}
-use Rattle.bsc_storm.specs.Storms.{LackedMemory, Ran, ShowsCut, Storms, Worker, WorksWhole, in_list, own_in, short_as}
+use Rattle.bsc_storm.specs.Storms.{Crew, LackedMemory, Ran, ShowsCut, Storms, Worker, WorksPart, WorksWhole, in_list, short_as}
 use Rattle.bsc_storm.specs.Workers.{AreStays, IsPart, IsWhole, ShowsShort, Stay, stay_calls, whole_length}
 use Rattle.bsc_storm.proofs.Forwarding.{part_of_sender}
 use Rattle.bsc_storm.proofs.Stays.{part_of_stays}
 use Rattle.bsc_storm.proofs.Taken.{all_taken, own_two, taken_by, taken_few}
+use Rattle.bsc_storm.proofs.Taking.{at_end}
 use Rattle.bsc_load.specs.Workers.{calls}
 
 -- what a work is as a worker, by the history that was seen in the end
 
 part_of_whole : (sends : Bool) (n : ℕ) (E : List Entry) (t : ℕ) → IsWhole sends n E t → IsPart sends n E
-part_of_whole false n E t w = part_of_stays n w.stays E w.many w.calls
+part_of_whole false n E t w = part_of_stays n E t w
 part_of_whole true n E t w = part_of_sender n E t w
 
 part_of_none : (sends : Bool) (n : ℕ) → IsPart sends n []
-part_of_none sends n = record { sender = 0; count = 0; calls = refl }
+unfolding joined_where
+part_of_none false n = record { stays = []; more = 0; few = omega arith; calls = refl; joined = refl; takes = tt }
+part_of_none true n = record { who = []; more = 0; calls = refl; joined = refl }
 
 -- a worker, of which this is known: its pass, where it got one, what it came to, and the callers that were taken in
 record Known (h : Hub) (sends : Bool) (n : ℕ) (p : Option Pass) (ends : List Ended) (q : Pass) (r : Result ℕ Cut) (x : Worker) : Type 0 where
   pub callers : in_list x.caller ≡ ends
-  pub part : IsPart sends n (own_in x.caller)
+  pub part : WorksPart sends n x
   pub shows : ShowsCut h q sends n x
   pub short : short_as x.caller x.is_cut ≡ short_of r
   pub whole : lacks r ≡ false → short_of r ≡ 0 → WorksWhole sends n x × (taken_of r ≡ within_64_bits x.taken)
@@ -99,7 +103,7 @@ module _ (h : Hub) (sends : Bool) (n : ℕ) (k : Pass) (w : Work) (q : Pass) (be
     record { caller = Some (ended_of (view_of w.pass)); is_cut = false; taken = d.taken },
     record {
       callers = refl;
-      part = part_of_whole sends n (own_list w.pass) d.taken d.whole;
+      part = record { part = part_of_whole sends n (own_list w.pass) d.taken d.whole; draws_none = run.draws_none };
       shows = record { cut = λ is. no_cut _ is; without = λ is. a_caller _ (ended_of (view_of w.pass)) is };
       short = refl;
       whole = λ fine none. (record { ended = ended_of (view_of w.pass); caller = refl; uncut = refl; whole = d.whole }, d.said);
@@ -110,7 +114,7 @@ module _ (h : Hub) (sends : Bool) (n : ℕ) (k : Pass) (w : Work) (q : Pass) (be
     record { caller = Some (ended_of (view_of w.pass)); is_cut = false; taken = 0 },
     record {
       callers = refl;
-      part = d.0;
+      part = record { part = d.0; draws_none = run.draws_none };
       shows = record { cut = λ is. no_cut _ is; without = λ is. a_caller _ (ended_of (view_of w.pass)) is };
       short = refl;
       whole = λ fine none. no_cut _ (sym fine);
@@ -121,7 +125,7 @@ module _ (h : Hub) (sends : Bool) (n : ℕ) (k : Pass) (w : Work) (q : Pass) (be
     record { caller = Some (ended_of (view_of w.pass)); is_cut = true; taken = 0 },
     record {
       callers = refl;
-      part = d.0;
+      part = record { part = d.0; draws_none = run.draws_none };
       shows = record { cut = λ is. shows_later sends n h (own_list w.pass) (seen w.pass) (seen q) begins d.1; without = λ is. a_caller _ (ended_of (view_of w.pass)) is };
       short = refl;
       whole = λ fine none. cc;
@@ -135,7 +139,7 @@ known_none h sends n q spent = (
   record { caller = None; is_cut = false; taken = 0 },
   record {
     callers = refl;
-    part = part_of_none sends n;
+    part = record { part = part_of_none sends n; draws_none = refl };
     shows = record { cut = λ is. no_cut _ is; without = λ is. spent };
     short = refl;
     whole = λ fine none. cc;
@@ -174,11 +178,7 @@ taken_whole n E t w = taken_calls E ∙ ap (sum_by taken_by) w.calls ∙ taken_s
 -- a caller that a pass took in has all entries of its number
 
 -- what the pass took in is what it saw of those callers
-module _ (h : Hub) (p q : Pass) (a b c : Ended) (made : Option Placed) (x : Passed h p (a ∷ b ∷ c ∷ []) made q) where
-  at_end : (xs ys : List Ended) (e : Ended) → get_elem? (xs ++ e ∷ ys) (length xs) ≡ some e
-  at_end [] ys e = refl
-  at_end (y ∷ xs) ys e = at_end xs ys e
-
+module _ (h : Hub) (p q : Pass) (a b c : Ended) (made : Option Placed) (x : Went h p 3 (a ∷ b ∷ c ∷ []) made q) where
   own_first : own (entries (seen q)) a.number ≡ a.own
   own_first =
       let sound = x.caller.0.1.1 in
@@ -216,11 +216,11 @@ stopped_now h m q (Ok t) s =
     ∙ or_right (is_stopped (entries before)) true refl
 stopped_now h m q (Err already) s = s.refused.0 refl
 
-lists_as : (h : Hub) (p q : Pass) (made : Option Placed) (A B C D E F : List Ended) → D ≡ A → E ≡ B → F ≡ C → Passed h p (A ++ (B ++ C)) made q → Passed h p (D ++ (E ++ F)) made q
+lists_as : (h : Hub) (p q : Pass) (made : Option Placed) (A B C D E F : List Ended) → D ≡ A → E ≡ B → F ≡ C → Went h p 3 (A ++ (B ++ C)) made q → Went h p 3 (D ++ (E ++ F)) made q
 lists_as h p q made A B C D E F one two three x =
-    subst (λ (k : List Ended). Passed h p (D ++ (E ++ k)) made q) (sym three)
-    (subst (λ (k : List Ended). Passed h p (D ++ (k ++ C)) made q) (sym two)
-    (subst (λ (k : List Ended). Passed h p (k ++ (B ++ C)) made q) (sym one) x))
+    subst (λ (k : List Ended). Went h p 3 (D ++ (E ++ k)) made q) (sym three)
+    (subst (λ (k : List Ended). Went h p 3 (D ++ (k ++ C)) made q) (sym two)
+    (subst (λ (k : List Ended). Went h p 3 (k ++ (B ++ C)) made q) (sym one) x))
 
 none_lack : (a b c : Bool) → (a || b || c) ≡ false → (a ≡ false) × (b ≡ false) × (c ≡ false)
 none_lack false false false e = (refl, refl, refl)
@@ -230,24 +230,22 @@ none_lack false false true e = no_cut _ (sym e)
 
 -- the three, as the pass q knows them in the end
 record Three (h : Hub) (n : ℕ) (p q : Pass) (one other sends : Option Pass) (x y z : Option Work) (made : Option Placed) : Type 0 where
-  pub X : Worker
-  pub Y : Worker
-  pub Z : Worker
-  pub first : Known h false n one (ended_in x) q (came_of x) X
-  pub second : Known h false n other (ended_in y) q (came_of y) Y
-  pub third : Known h true n sends (ended_in z) q (came_of z) Z
-  pub ran : Ran h p q n X Y Z made
+  pub crew : Crew
+  pub first : Known h false n one (ended_in x) q (came_of x) crew.one
+  pub second : Known h false n other (ended_in y) q (came_of y) crew.other
+  pub third : Known h true n sends (ended_in z) q (came_of z) crew.sends
+  pub ran : Ran h p q n crew made
 
 -- what the two took is no more than was appended
-took_few : (h : Hub) (n : ℕ) (p q : Pass) (X Y Z : Worker) (made : Option Placed) → Ran h p q n X Y Z made → (a : WorksWhole false n X) → (b : WorksWhole false n Y) → WorksWhole true n Z → a.ended.number ≢ b.ended.number →
-    X.taken + Y.taken ≤ (counts (entries (seen q))).appended
-took_few h n p q X Y Z made ran a b c apart =
+took_few : (h : Hub) (n : ℕ) (p q : Pass) (w : Crew) (made : Option Placed) → Ran h p q n w made → (a : WorksWhole false n w.one) → (b : WorksWhole false n w.other) → WorksWhole true n w.sends → a.ended.number ≢ b.ended.number →
+    w.one.taken + w.other.taken ≤ (counts (entries (seen q))).appended
+took_few h n p q w made ran a b c apart =
     let H = entries (seen q) in
-    let passed : Passed h p (a.ended ∷ b.ended ∷ c.ended ∷ []) made q =
-    lists_as h p q made (in_list X.caller) (in_list Y.caller) (in_list Z.caller) (a.ended ∷ []) (b.ended ∷ []) (c.ended ∷ [])
-    (sym (ap in_list a.caller)) (sym (ap in_list b.caller)) (sym (ap in_list c.caller)) ran.passed in
-    let one : all_taken (own H a.ended.number) ≡ X.taken = ap all_taken (own_first h p q a.ended b.ended c.ended made passed) ∙ taken_whole n a.ended.own X.taken a.whole in
-    let two : all_taken (own H b.ended.number) ≡ Y.taken = ap all_taken (own_second h p q a.ended b.ended c.ended made passed) ∙ taken_whole n b.ended.own Y.taken b.whole in
+    let passed : Went h p 3 (a.ended ∷ b.ended ∷ c.ended ∷ []) made q =
+    lists_as h p q made (in_list w.one.caller) (in_list w.other.caller) (in_list w.sends.caller) (a.ended ∷ []) (b.ended ∷ []) (c.ended ∷ [])
+    (sym (ap in_list a.caller)) (sym (ap in_list b.caller)) (sym (ap in_list c.caller)) ran.went in
+    let one : all_taken (own H a.ended.number) ≡ w.one.taken = ap all_taken (own_first h p q a.ended b.ended c.ended made passed) ∙ taken_whole n a.ended.own w.one.taken a.whole in
+    let two : all_taken (own H b.ended.number) ≡ w.other.taken = ap all_taken (own_second h p q a.ended b.ended c.ended made passed) ∙ taken_whole n b.ended.own w.other.taken b.whole in
     let both = own_two H a.ended.number b.ended.number apart in
     let few = taken_few (about_of h) H passed.caller.1 in
     omega (arith, one, two, both, few)
@@ -264,16 +262,14 @@ module _ (h : Hub) (n : ℕ) (p m v : Pass) (one other sends : Option Pass) (x y
       let ky = known_may h false n other y v q last.grows j.other (λ is. same ∙ split.no_other is) ry in
       let kz = known_may h true n sends z v q last.grows j.sends (λ is. same ∙ split.no_sender is) rz in
       let took = ended_in x ++ (ended_in y ++ ended_in z) in
-      let all : Passed h p took made q = subst (λ (l : List Ended). Passed h p l made q) (append-nil took) (passed_then h p v q took [] made (passed_then h p m v [] took None split.passed j.passed) last) in
+      let all : Went h p 3 took made q = subst (λ (l : List Ended). Went h p 3 l made q) (append-nil took) (went_on h p m q 3 [] (took ++ []) made split.went (passed_then h m v q took [] made j.passed last)) in
       record {
-        X = kx.0;
-        Y = ky.0;
-        Z = kz.0;
+        crew = record { one = kx.0; other = ky.0; sends = kz.0 };
         first = kx.1;
         second = ky.1;
         third = kz.1;
         ran = record {
-          passed = lists_as h p q made (ended_in x) (ended_in y) (ended_in z) (in_list kx.0.caller) (in_list ky.0.caller) (in_list kz.0.caller) kx.1.callers ky.1.callers kz.1.callers all;
+          went = lists_as h p q made (ended_in x) (ended_in y) (ended_in z) (in_list kx.0.caller) (in_list ky.0.caller) (in_list kz.0.caller) kx.1.callers ky.1.callers kz.1.callers all;
           one = kx.1.part;
           other = ky.1.part;
           sends = kz.1.part;
@@ -281,10 +277,10 @@ module _ (h : Hub) (n : ℕ) (p m v : Pass) (one other sends : Option Pass) (x y
       }
 
   same_stop : (q : Pass) (told : Result (Told Counts) AlreadyStopped) → Stops h v q told → Passed h v [] (stop_made (number_of p) told) q
-  same_stop q told s = subst (λ k. Passed h v [] (stop_made k told) q) (j.passed.number ∙ split.passed.number) s.passed
+  same_stop q told s = subst (λ k. Passed h v [] (stop_made k told) q) (j.passed.number ∙ split.went.number) s.passed
 
   -- the two that stay have different numbers
-  numbers_apart : (q : Pass) (made : Option Placed) (t : Three h n p q one other sends x y z made) (a b : Ended) → t.X.caller ≡ Some a → t.Y.caller ≡ Some b → a.number ≢ b.number
+  numbers_apart : (q : Pass) (made : Option Placed) (t : Three h n p q one other sends x y z made) (a b : Ended) → t.crew.one.caller ≡ Some a → t.crew.other.caller ≡ Some b → a.number ≢ b.number
   numbers_apart q made t a b is_a is_b =
       let k = t.first.number a is_a in
       let l = t.second.number b is_b in
@@ -295,9 +291,7 @@ module _ (h : Hub) (n : ℕ) (p m v : Pass) (one other sends : Option Pass) (x y
   some_short q told short is s least =
       let t = three_by q (stop_made (number_of p) told) (same_stop q told s) s.loaded in
       record {
-        x = t.X;
-        y = t.Y;
-        z = t.Z;
+        workers = t.crew;
         told = told;
         ran = t.ran;
         some = least;
@@ -316,28 +310,28 @@ module _ (h : Hub) (n : ℕ) (p m v : Pass) (one other sends : Option Pass) (x y
       let wy = t.second.whole f.1 (omega (arith, none)) in
       let wz = t.third.whole f.2 (omega (arith, none)) in
       let apart = numbers_apart q (stop_made (number_of p) (Ok told)) t wx.0.ended wy.0.ended wx.0.caller wy.0.caller in
-      let few = took_few h n p q t.X t.Y t.Z (stop_made (number_of p) (Ok told)) t.ran wx.0 wy.0 wz.0 apart in
+      let few = took_few h n p q t.crew (stop_made (number_of p) (Ok told)) t.ran wx.0 wy.0 wz.0 apart in
       let same = stop_appends_none h v q told s in
       record {
-        x = t.X;
-        y = t.Y;
-        z = t.Z;
+        workers = t.crew;
         told = told;
         ran = t.ran;
-        whole = (wx.0, wy.0, wz.0);
+        whole = record { one = wx.0; other = wy.0; sends = wz.0 };
         counts = s.due;
-        taken = add_within 0 (taken_of (came_of x)) (taken_of (came_of y)) t.X.taken t.Y.taken wx.1 wy.1;
+        taken = add_within 0 (taken_of (came_of x)) (taken_of (came_of y)) t.crew.one.taken t.crew.other.taken wx.1 wy.1;
         few = omega (arith, few, same);
       }
   none_short q (Err already) fine none s =
       let t = three_by q None s.passed s.loaded in
       let f = none_lack (lacks (came_of x)) (lacks (came_of y)) (lacks (came_of z)) fine in
       record {
-        x = t.X;
-        y = t.Y;
-        z = t.Z;
+        workers = t.crew;
         ran = t.ran;
-        whole = ((t.first.whole f.0 (omega (arith, none))).0, (t.second.whole f.1 (omega (arith, none))).0, (t.third.whole f.2 (omega (arith, none))).0);
+        whole = record {
+          one = (t.first.whole f.0 (omega (arith, none))).0;
+          other = (t.second.whole f.1 (omega (arith, none))).0;
+          sends = (t.third.whole f.2 (omega (arith, none))).0;
+        };
         place = s.place;
       }
 
@@ -349,7 +343,7 @@ module _ (h : Hub) (n : ℕ) (p m v : Pass) (one other sends : Option Pass) (x y
   lacking : LackedMemory h p v n
   lacking =
       let t = three_by v None (passed_none h v j.passed.caller) refl in
-      record { x = t.X; y = t.Y; z = t.Z; ran = t.ran }
+      record { workers = t.crew; ran = t.ran }
 
 pub storms_from : (h : Hub) (n : ℕ) (m q : Pass) (one other sends : Option Pass) (x y z : Option Work) (result : Result StormEnd LoadStop) →
     MayRun h false n one x → MayRun h false n other y → MayRun h true n sends z → Finishes h m q x y z result → StormsFrom h m one other sends n q result

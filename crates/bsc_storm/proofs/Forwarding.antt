@@ -1,10 +1,8 @@
 -- What the sender of a storm does.
 use Rattle.std.specs.Prelude.{⊤}
-use Rattle.std.proofs.Common.{◌≡◌, ◌≤◌, ◌<◌, ◌+◌, ◌*◌, ◌↔◌, IsErr, inl, inr, ℕ, zero, suc, true, List, [], ◌∷◌, ◌++◌, length, map, take, None, Result, Ok, Err, refl, ap, sym, ◌∙◌, subst, arith, append-nil}
-use Rattle.std.specs.List.{filter, range_with_len}
+use Rattle.std.proofs.Common.{◌≡◌, ◌≤◌, ◌<◌, ◌+◌, ◌*◌, ◌↔◌, IsErr, inl, inr, ℕ, true, List, [], ◌∷◌, ◌++◌, length, take, None, Result, Ok, Err, refl, ap, sym, ◌∙◌, subst, arith, append-nil}
 use Rattle.std.specs.Option.{option_to_list}
 use Rattle.std.proofs.lemmas.List.{length-map, map-append}
-use Rattle.std.proofs.lemmas.List.Elements.{filter-append}
 use Rattle.std.proofs.lemmas.List.FromFn.{length-map-range_with_len, map-range_with_len_more, take-map-range_with_len}
 use Rattle.bsc_history.specs.declared.call.Call.{Call}
 use Rattle.bsc_history.specs.declared.call.Call.TheVariants.{Connect, Forward, Leave}
@@ -30,11 +28,12 @@ use Rattle.bsc_hub.specs.Calls.{connect_made, leave_made, one_made, one_stamped}
 use Rattle.bsc_hub.specs.Passing.{IsCaller, Passed, about_of, found_history}
 use Rattle.bsc_hub.proofs.Staying.{one_stays}
 use Rattle.bsc_load.specs.Inner.{Goes, Holds, Unjoined, cut_of as load_cut_of}
-use Rattle.bsc_load.specs.Workers.{calls, is_asking}
-use Rattle.bsc_load.proofs.Both.{asking_between, calls_between, goes_between, join_entry, joined_between, leave_entry, length_between}
+use Rattle.bsc_load.specs.Workers.{calls}
+use Rattle.bsc_load.proofs.Both.{goes_between, join_entry, joined_between, leave_entry, length_between}
 use Rattle.bsc_load.proofs.Calls.{forward_joins_none}
 use Rattle.bsc_load.proofs.Going.{goes_none, goes_one, goes_same, goes_then, holds_by, holds_same, holds_then}
-use Rattle.bsc_load.proofs.Unjoined.{longer}
+use Rattle.bsc_load.proofs.Running.{outer_calls}
+use Rattle.bsc_load.proofs.Unjoined.{asked_or_not, longer}
 use Rattle.bsc_storm.specs.declared.works.Cut.{Cut}
 use Rattle.bsc_storm.specs.declared.works.Cut.TheVariants.{NoMemory, Short}
 use Rattle.bsc_storm.specs.Inner.{Forwards, Runs, Sent, SentAll, ShowsBy, WasWorn, cut_of, goes_on}
@@ -102,27 +101,21 @@ pub sent_went : (h : Hub) (s n : ℕ) (m q : Pass) (result : Result ℕ Cut) →
 sent_went h s n m q (Ok taken) ran = (ran.0.goes.caller, ran.0.goes.sees, ran.0.holds)
 sent_went h s n m q (Err cut) ran = (ran.2.goes.caller, ran.2.goes.sees, ran.2.holds)
 
--- forwards ask
-asking_from : (s a n : ℕ) → filter is_asking (map (λ k. Forward s (storm_frame k)) (range_with_len a n)) ≡ map (λ k. Forward s (storm_frame k)) (range_with_len a n)
-asking_from s a zero = refl
-asking_from s a (suc n) = ap (λ (l : List Call). Forward s (storm_frame a) ∷ l) (asking_from s (a + 1) n)
-
-asking_forwards : (s n m : ℕ) → n ≤ m → filter is_asking (storm_forwards s n) ≡ take n (storm_forwards s m)
-asking_forwards s n m few = asking_from s 0 n ∙ sym (take-map-range_with_len (λ k. Forward s (storm_frame k)) 0 m n few)
+-- the first forwards are the first of more
+first_forwards : (s n m : ℕ) → n ≤ m → storm_forwards s n ≡ take n (storm_forwards s m)
+first_forwards s n m few = sym (take-map-range_with_len (λ k. Forward s (storm_frame k)) 0 m n few)
 
 few_made : (s n : ℕ) (E : List Entry) → calls E ≡ storm_forwards s n → length E ≡ n
 few_made s n E are = sym (length-map E (λ (e : Entry). e.call)) ∙ ap (λ (l : List Call). length l) are ∙ length-map-range_with_len (λ k. Forward s (storm_frame k)) 0 n
 
 -- a whole sender's entries are those of a sender
 pub part_of_sender : (n : ℕ) (E : List Entry) (t : ℕ) → IsSender (2 * n) E t → IsPart true n E
-part_of_sender n E t w =
-    let F = storm_forwards w.sender (2 * n) in
-    let end = Leave w.sender 0 0 ∷ [] in
-    record {
-      sender = w.sender;
-      count = suc (2 * n);
-      calls = ap (filter is_asking) w.calls ∙ ap (λ (k : List Call). Connect storm_sender ∷ k) (filter-append is_asking F end ∙ append-nil (filter is_asking F) ∙ asking_forwards w.sender (2 * n) (2 * n) (omega arith));
-    }
+part_of_sender n E t w = record {
+  who = w.sender ∷ [];
+  more = 2 * n;
+  calls = w.calls ∙ ap (λ (k : List Call). Connect storm_sender ∷ k ++ Leave w.sender 0 0 ∷ []) (first_forwards w.sender (2 * n) (2 * n) (omega arith));
+  joined = w.joined;
+}
 
 -- those that were cut short show it
 cut_shows : (h : Hub) (m q : Pass) (n k : ℕ) (E : List Entry) (e l : Entry) (cut : Cut) → k < 2 * n → length E ≡ k → StartsWith (seen q) (seen m) → WasWorn h m cut → ShowsBy (2 * n + 2) h (seen q) (e ∷ E ++ l ∷ []) cut
@@ -143,11 +136,7 @@ after_send h n p m v q j o told (Ok t) came ran new left many =
         taken = 0;
         whole = record {
           sender = j.conn;
-          calls =
-              calls_between E e l
-              ∙ ap (λ (k : List Call). Connect storm_sender ∷ k ++ Leave j.conn told.said.taken (empties_of o) ∷ []) ran.0.calls
-              ∙ ap (λ (x : ℕ). Connect storm_sender ∷ storm_forwards j.conn (2 * n) ++ Leave j.conn x (empties_of o) ∷ []) none
-              ∙ ap (λ (x : ℕ). Connect storm_sender ∷ storm_forwards j.conn (2 * n) ++ Leave j.conn 0 x ∷ []) new.1;
+          calls = outer_calls E (storm_forwards j.conn (2 * n)) e l (Connect storm_sender) j.conn told.said.taken (empties_of o) refl refl none new.1 ran.0.calls;
           joined = ap numbers (joined_between E p v storm_sender j j.conn o told) ∙ ap (λ (x : List Connection). j.conn ∷ numbers x) ran.0.quiet;
           none = refl;
         };
@@ -158,14 +147,18 @@ after_send h n p m v q j o told (Err cut) came ran new left many =
     let f = ran.2 in
     let E = f.made in
     let e = join_entry p storm_sender j in
-    let l = leave_entry v j.conn o told in (
+    let l = leave_entry v j.conn o told in
+    let none : told.said.taken ≡ 0 = many ∙ ap (λ (x : List (List ℕ)). length x) new.0 in (
       e ∷ E ++ l ∷ [],
       goes_between h p m v q E storm_sender j j.conn o told came f.goes left,
       (
         record {
-          sender = j.conn;
-          count = suc ran.0;
-          calls = asking_between E (take ran.0 (storm_forwards j.conn (2 * n))) e l storm_sender j.conn told.said.taken (empties_of o) refl refl (ap (filter is_asking) f.calls ∙ asking_forwards j.conn ran.0 (2 * n) (omega (arith, ran.1)));
+          who = j.conn ∷ [];
+          more = ran.0;
+          calls =
+              outer_calls E (take ran.0 (storm_forwards j.conn (2 * n))) e l (Connect storm_sender) j.conn told.said.taken (empties_of o) refl refl none new.1
+              (f.calls ∙ first_forwards j.conn ran.0 (2 * n) (omega (arith, ran.1)));
+          joined = ap numbers (joined_between E p v storm_sender j j.conn o told) ∙ ap (λ (x : List Connection). j.conn ∷ numbers x) f.quiet;
         },
         cut_shows h v q n ran.0 E e l cut ran.1 (few_made j.conn ran.0 E f.calls) left.grows ran.3,
       ),
@@ -177,14 +170,12 @@ shows_few h n q E Short so = elim so [ inl refused ↦ inl refused | inr worn �
 
 -- a sender that didn't join
 pub unsent : (h : Hub) (n : ℕ) (p q : Pass) (refusal : ConnectRefusal) → Unjoined h storm_sender p q (load_cut_of refusal) → Runs h true n p q (Err (cut_of refusal))
-unsent h n p q refusal u = (
-  u.made,
-  u.goes,
-  (
-    elim u.calls [
-      | inl none ↦ record { sender = 0; count = 0; calls = ap (filter is_asking) none }
-      | inr one ↦ record { sender = 0; count = 1; calls = ap (filter is_asking) one }
-    ],
-    shows_few h n q u.made (cut_of refusal) (shows_own h (seen q) u.made refusal u.shows),
-  ),
-)
+unsent h n p q refusal u =
+    let asked = asked_or_not u.made storm_sender u.calls in (
+      u.made,
+      u.goes,
+      (
+        record { who = []; more = asked.0; calls = asked.2; joined = ap numbers u.quiet },
+        shows_few h n q u.made (cut_of refusal) (shows_own h (seen q) u.made refusal u.shows),
+      ),
+    )

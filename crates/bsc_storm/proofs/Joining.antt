@@ -7,8 +7,7 @@ use Rattle.bsc_turn.specs.Histories.{StartsWith}
 use Rattle.bsc_turn.specs.Passes.{ended_callers, newest_number, seen, view_of}
 use Rattle.bsc_hub.specs.declared.hub.Hub.{Hub}
 use Rattle.bsc_hub.specs.Passing.{IsCaller, Passed}
-use Rattle.bsc_load.proofs.Going.{starts_then}
-use Rattle.bsc_load.proofs.Passing.{passed_none, passed_then}
+use Rattle.bsc_hub.proofs.Following.{passed_none, passed_then, starts_then}
 use Rattle.bsc_storm.specs.declared.works.Work.{Work}
 use Rattle.bsc_storm.specs.Inner.{Joins, JoinsOne, MayJoin, SeesAll, ended_in}
 

@@ -1,4 +1,5 @@
 pub mod Taken
+pub mod Taking
 pub mod Stays
 pub mod Forwarding
 pub mod Splitting

@@ -5,7 +5,7 @@ use Rattle.bsc_turn.specs.declared.pass.Pass.{Pass}
 use Rattle.bsc_turn.specs.Passes.{newest_number, number_of}
 use Rattle.bsc_hub.specs.declared.hub.Hub.{Hub}
 use Rattle.bsc_hub.specs.Passing.{about_of}
-use Rattle.bsc_load.proofs.Passing.{passed_then}
+use Rattle.bsc_hub.proofs.Following.{went_then}
 use Rattle.bsc_storm.specs.Inner.{HasSplit, IsNew, Splits, SplitsOne}
 
 -- a pass that was split off is new
@@ -40,7 +40,7 @@ pub splits_three : (h : Hub) (p m n q : Pass) (x y z : Option Pass) → SplitsOn
 splits_three h p m n q x y z one other sends =
     let no_one : x ≡ None → newest_number n ≡ (about_of h).limits.callers = λ is. spent_still h m n y other.split (spent_of h p m x one.split is) in
     record {
-      passed = passed_then h p n q [] [] None (passed_then h p m n [] [] None one.passed other.passed) sends.passed;
+      went = went_then h p n q 2 1 [] [] None (went_then h p m n 1 1 [] [] None one.went other.went) sends.went;
       one = new_of h p m x one.split;
       other = new_of h m n y other.split;
       sends = new_of h n q z sends.split;

@@ -1,14 +1,14 @@
 -- The stays of a worker that takes over.
-use Rattle.std.proofs.Common.{◌≡◌, ◌≤◌, ◌<◌, ◌+◌, ◌*◌, inl, inr, ℕ, zero, suc, Bool, false, List, [], ◌∷◌, ◌++◌, length, map, replicate, take, Option, Some, None, Result, Ok, Err, refl, ap, sym, ◌∙◌, subst, arith, append-nil, length-append}
-use Rattle.std.specs.List.{filter, list_any, sum_by}
+use Rattle.std.proofs.Common.{◌≡◌, ◌<◌, ◌+◌, ◌*◌, inl, inr, ℕ, Bool, false, List, [], ◌∷◌, ◌++◌, length, map, Option, Some, None, Result, Ok, Err, refl, ap, sym, ◌∙◌, subst, arith, append-nil, length-append}
+use Rattle.std.specs.List.{list_any, sum_by}
 use Rattle.std.proofs.lemmas.Bool.{or_right}
 use Rattle.std.proofs.lemmas.List.{length-map, map-append}
-use Rattle.std.proofs.lemmas.List.Elements.{filter-append}
 use Rattle.std.proofs.lemmas.List.Folds.{list_any-append}
 use Rattle.std.proofs.lemmas.List.Sums.{sum_by_push}
 use Rattle.bsc_history.specs.declared.call.Call.{Call}
 use Rattle.bsc_history.specs.declared.call.Call.TheVariants.{Connect, Leave}
 use Rattle.bsc_history.specs.declared.connection.Connection.{Connection}
+use Rattle.bsc_history.specs.declared.ending.End.{End}
 use Rattle.bsc_history.specs.declared.entry.Entry.{Entry}
 use Rattle.bsc_history.specs.declared.mark.Stamped.{Stamped}
 use Rattle.bsc_history.specs.declared.told.Told.{Told}
@@ -16,7 +16,7 @@ use Rattle.bsc_history.specs.Counting.{is_refused}
 use Rattle.bsc_history.specs.Ends.{joined, joined_where}
 use Rattle.bsc_history.specs.Replies.{numbers}
 use Rattle.bsc_ring.specs.declared.ends.Outlet.{Outlet}
-use Rattle.bsc_ring.specs.Ends.{empties_of}
+use Rattle.bsc_ring.specs.Ends.{FoundEnd, empties_of, given}
 use Rattle.bsc_turn.specs.declared.pass.Pass.{Pass}
 use Rattle.bsc_turn.specs.Passes.{number_of, seen}
 use Rattle.bsc_desk.specs.declared.leaving.Gone.{Gone}
@@ -27,16 +27,19 @@ use Rattle.bsc_hub.specs.declared.joined.Joined.{Joined}
 use Rattle.bsc_hub.specs.Calls.{connect_made, leave_made}
 use Rattle.bsc_hub.specs.Passing.{IsCaller, Passed}
 use Rattle.bsc_load.specs.Inner.{Unjoined, cut_of as load_cut_of, ShowsBy as LoadShowsBy}
-use Rattle.bsc_load.specs.Workers.{calls, is_asking, within_64_bits}
+use Rattle.bsc_load.specs.Workers.{calls, within_64_bits}
 use Rattle.bsc_load.proofs.Both.{goes_between, join_entry, joined_between, leave_entry}
 use Rattle.bsc_load.proofs.Calls.{joined-append}
+use Rattle.bsc_load.proofs.Given.{all_append}
 use Rattle.bsc_load.proofs.Going.{goes_same, goes_then}
+use Rattle.bsc_load.proofs.Unjoined.{asked_or_not}
 use Rattle.bsc_storm.specs.declared.works.Cut.{Cut}
 use Rattle.bsc_storm.specs.declared.works.Cut.TheVariants.{NoMemory, Short}
 use Rattle.bsc_storm.specs.declared.works.Work.{Work}
-use Rattle.bsc_storm.specs.Inner.{Did, HasRun, IsNew, MayRun, NoStay, Runs, ShowsBy, Stayed, StayedOften, StaysOnce, WasCut, cut_of}
+use Rattle.bsc_storm.specs.Inner.{Did, HasRun, IsNew, MayRun, NoStay, Runs, ShowsBy, Stayed, StayedOften, StaysOnce, TookSome, WasCut, cut_of}
 use Rattle.bsc_storm.specs.Peers.{taken_over}
-use Rattle.bsc_storm.specs.Workers.{IsPart, Stay, stay_calls}
+use Rattle.bsc_storm.specs.Workers.{AreStays, HasTaken, IsPart, Stay, stay_calls}
+use Rattle.bsc_storm.proofs.Taking.{has_taken, takes_unjoined}
 
 -- the sign of a refused connect
 pub shows_own : (h : Hub) (S : List Stamped) (E : List Entry) (refusal : ConnectRefusal) → LoadShowsBy 1 h S E (load_cut_of refusal) → ShowsBy 1 h S E (cut_of refusal)
@@ -45,11 +48,12 @@ shows_own h S E (WornRefusal worn) so = so
 shows_own h S E (Refused at refusal) so = so
 
 pub no_stay : (h : Hub) (p q : Pass) (refusal : ConnectRefusal) → Unjoined h taken_over p q (load_cut_of refusal) → NoStay h p q (cut_of refusal)
-no_stay h p q refusal u = record { made = u.made; calls = u.calls; goes = u.goes; shows = shows_own h (seen q) u.made refusal u.shows }
+no_stay h p q refusal u = record { made = u.made; calls = u.calls; quiet = u.quiet; goes = u.goes; shows = shows_own h (seen q) u.made refusal u.shows }
 
-pub stays_once : (h : Hub) (p m q : Pass) (j : Joined) (o : Outlet) (told : Told Gone) → Passed h p [] (connect_made (number_of p) taken_over (Ok j)) m → Passed h m [] (leave_made (number_of m) j.conn (empties_of o) told) q → StaysOnce h p q told.said.taken
+pub stays_once : (h : Hub) (p m q : Pass) (j : Joined) (o : Outlet) (told : Told Gone) → Passed h p [] (connect_made (number_of p) taken_over (Ok j)) m → Passed h m [] (leave_made (number_of m) j.conn (empties_of o) told) q →
+    TookSome o → told.said.taken ≡ length (given o) → ((e : End) → FoundEnd o e → told.said.ending ≡ e) → StaysOnce h p q told.said.taken
 unfolding joined_where
-stays_once h p m q j o told came left = record {
+stays_once h p m q j o told came left took many ends = record {
   conn = j.conn;
   empties = empties_of o;
   first = join_entry p taken_over j;
@@ -57,6 +61,7 @@ stays_once h p m q j o told came left = record {
   joins = refl;
   leaves = refl;
   who = ap numbers (joined_between [] p m taken_over j j.conn o told);
+  takes = (tt, (has_taken o j.conn told.said took many ends, tt));
   goes = goes_between h p m m q [] taken_over j j.conn o told came (goes_same h m came.caller) left;
 }
 
@@ -68,26 +73,13 @@ stay_calls_push : (xs : List Stay) (s : Stay) → stay_calls (xs ++ s ∷ []) �
 stay_calls_push [] s = refl
 stay_calls_push (x ∷ xs) s = ap (λ (l : List Call). Connect taken_over ∷ Leave x.conn x.taken x.empties ∷ l) (stay_calls_push xs s)
 
-asking_stays : (xs : List Stay) → filter is_asking (stay_calls xs) ≡ replicate (length xs) (Connect taken_over)
-asking_stays [] = refl
-asking_stays (x ∷ xs) = ap (λ (l : List Call). Connect taken_over ∷ l) (asking_stays xs)
-
 length_stays : (xs : List Stay) → length (stay_calls xs) ≡ 2 * length xs
 length_stays [] = refl
 length_stays (x ∷ xs) = (let k = length_stays xs in omega (arith, k))
 
-take_same : (k n : ℕ) (c : Call) → k ≤ n → take k (replicate n c) ≡ replicate k c
-take_same zero n c few = refl
-take_same (suc k) zero c few = absurd (omega (arith, few))
-take_same (suc k) (suc n) c few = ap (λ (l : List Call). c ∷ l) (take_same k n c (omega (arith, few)))
-
-one_more : (k : ℕ) (c : Call) → replicate k c ++ c ∷ [] ≡ replicate (suc k) c
-one_more zero c = refl
-one_more (suc k) c = ap (λ (l : List Call). c ∷ l) (one_more k c)
-
 pub stayed_none : (h : Hub) (p : Pass) → IsCaller h p → Stayed h 0 p p 0
 unfolding joined_where
-stayed_none h p is = record { stays = []; many = refl; made = []; calls = refl; joined = refl; goes = goes_same h p is; taken = refl }
+stayed_none h p is = record { stays = []; many = refl; made = []; calls = refl; joined = refl; takes = tt; goes = goes_same h p is; taken = refl }
 
 pub stayed_more : (h : Hub) (k : ℕ) (p m q : Pass) (all more total : ℕ) → Stayed h k p m all → StaysOnce h m q more → total ≡ within_64_bits (all + more) → Stayed h (k + 1) p q total
 stayed_more h k p m q all more total s o is =
@@ -110,6 +102,7 @@ stayed_more h k p m q all more total s o is =
           ∙ ap (λ (l : List ℕ). l ++ numbers (joined two)) s.joined
           ∙ ap (λ (l : List ℕ). conns s.stays ++ l) o.who
           ∙ sym (map-append (λ (s : Stay). s.conn) s.stays (x ∷ []));
+      takes = all_append (λ (e : Entry). HasTaken e.call e.reply) s.made two s.takes o.takes;
       goes = goes_then h p m q s.made two s.goes o.goes;
       taken = sum ∙ ap within_64_bits (sym (sum_by_push (λ (s : Stay). s.taken) s.stays x));
     }
@@ -125,36 +118,37 @@ shows_after h n k S E F Short long less so =
 
 pub stayed_cut : (h : Hub) (n k : ℕ) (p m q : Pass) (all : ℕ) (cut : Cut) → k < n → Stayed h k p m all → NoStay h m q cut → WasCut h false n p q cut
 stayed_cut h n k p m q all cut less s u =
-    let C = Connect taken_over in
     let long : length s.made ≡ 2 * k =
     sym (length-map s.made (λ (e : Entry). e.call)) ∙ ap (λ (l : List Call). length l) s.calls ∙ length_stays s.stays ∙ ap (λ (n : ℕ). 2 * n) s.many in
-    let before : filter is_asking (calls s.made) ≡ replicate k C = ap (filter is_asking) s.calls ∙ asking_stays s.stays ∙ ap (λ (n : ℕ). replicate n C) s.many in
-    let parts : filter is_asking (calls (s.made ++ u.made)) ≡ replicate k C ++ filter is_asking (calls u.made) =
-    ap (filter is_asking) (map-append (λ (e : Entry). e.call) s.made u.made) ∙ filter-append is_asking (calls s.made) (calls u.made)
-    ∙ ap (λ (l : List Call). l ++ filter is_asking (calls u.made)) before in
+    let asked = asked_or_not u.made taken_over u.calls in
     record {
       made = s.made ++ u.made;
-      part = elim u.calls [
-        | inl none ↦ record {
-          sender = 0;
-          count = k;
-          calls = parts ∙ ap (λ (l : List Call). replicate k C ++ filter is_asking l) none ∙ append-nil (replicate k C) ∙ sym (take_same k n C (omega (arith, less)));
-        }
-        | inr one ↦ record {
-          sender = 0;
-          count = suc k;
-          calls = parts ∙ ap (λ (l : List Call). replicate k C ++ filter is_asking l) one ∙ one_more k C ∙ sym (take_same (suc k) n C (omega (arith, less)));
-        }
-      ];
+      part = record {
+        stays = s.stays;
+        more = asked.0;
+        few = omega (arith, s.many, less, asked.1);
+        calls =
+            map-append (λ (e : Entry). e.call) s.made u.made
+            ∙ ap (λ (l : List Call). l ++ calls u.made) s.calls
+            ∙ ap (λ (l : List Call). stay_calls s.stays ++ l) asked.2;
+        joined =
+            ap numbers (joined-append s.made u.made ∙ ap (λ (l : List Connection). joined s.made ++ l) u.quiet ∙ append-nil (joined s.made)) ∙ s.joined;
+        takes = all_append (λ (e : Entry). HasTaken e.call e.reply) s.made u.made s.takes (takes_unjoined u.made taken_over u.calls);
+      };
       goes = goes_then h p m q s.made u.made s.goes u.goes;
       shows = shows_after h n k (seen q) s.made u.made cut long less u.shows;
     }
 
 -- a whole worker's entries are those of a worker
-pub part_of_stays : (n : ℕ) (xs : List Stay) (E : List Entry) → length xs ≡ n → calls E ≡ stay_calls xs → IsPart false n E
-part_of_stays n xs E many are =
-    let C = Connect taken_over in
-    record { sender = 0; count = n; calls = ap (filter is_asking) are ∙ asking_stays xs ∙ ap (λ (m : ℕ). replicate m C) many ∙ sym (take_same n n C (omega arith)) }
+pub part_of_stays : (n : ℕ) (E : List Entry) (t : ℕ) → AreStays n E t → IsPart false n E
+part_of_stays n E t w = record {
+  stays = w.stays;
+  more = 0;
+  few = omega (arith, w.many);
+  calls = w.calls ∙ sym (append-nil (stay_calls w.stays));
+  joined = w.joined;
+  takes = w.takes;
+}
 
 pub stays_run : (h : Hub) (n : ℕ) (p q : Pass) (result : Result ℕ Cut) → StayedOften h n p q result → Runs h false n p q result
 stays_run h n p q (Ok all) s = (
@@ -162,7 +156,7 @@ stays_run h n p q (Ok all) s = (
   s.goes,
   record {
     taken = sum_by (λ (x : Stay). x.taken) s.stays;
-    whole = record { stays = s.stays; many = s.many; calls = s.calls; joined = s.joined; taken = refl };
+    whole = record { stays = s.stays; many = s.many; calls = s.calls; joined = s.joined; takes = s.takes; taken = refl };
     said = s.taken;
   },
 )
@@ -174,6 +168,7 @@ has_run h sends n p w new r = record {
   caller = r.1.caller;
   number = r.1.number;
   ended = r.1.took_in ∙ new.ended;
+  draws_none = r.1.draws_none ∙ new.fresh;
   did =
       subst (λ (l : List Entry). Did h sends n l (seen w.pass) w.taken)
       (sym (r.1.own ∙ ap (λ (l : List Entry). l ++ r.0) new.own)) r.2;

@@ -1,8 +1,11 @@
 -- What the inner functions of a storm say of each other; no public clause cites any of it.
-use Rattle.std.specs.Prelude.{◌≡◌, ◌⊎◌, ◌≤◌, ◌<◌, ℕ, ◌+◌, nat_lt, Bool, true, false, ◌||◌, if◌then◌else◌, List, [], ◌∷◌, ◌++◌, length, map, Option, Some, None, Result, Ok, Err, IsTrue, IfSome, ⊤}
+use Rattle.std.specs.Prelude.{◌≡◌, ◌≢◌, ◌⊎◌, ◌≤◌, ◌<◌, ℕ, ◌+◌, nat_lt, Bool, true, false, ◌||◌, if◌then◌else◌, IsTrue, ⊤}
+use Rattle.std.specs.Prelude.{List, [], ◌∷◌, ◌++◌, length, map, Option, Some, None, Result, Ok, Err, IfSome}
 use Rattle.std.specs.List.{list_any, sum_by}
 use Rattle.bsc_history.specs.declared.call.Call.TheVariants.{Connect, Forward, Leave}
 use Rattle.bsc_history.specs.declared.counts.Counts.{Counts}
+use Rattle.bsc_history.specs.declared.ending.End.{End}
+use Rattle.bsc_history.specs.declared.ending.End.TheVariants.{Left}
 use Rattle.bsc_history.specs.declared.entry.Entry.{Entry}
 use Rattle.bsc_history.specs.declared.mark.Stamped.{Stamped}
 use Rattle.bsc_history.specs.declared.told.AlreadyStopped.{AlreadyStopped}
@@ -12,16 +15,18 @@ use Rattle.bsc_history.specs.Counting.{is_refused}
 use Rattle.bsc_history.specs.Ends.{joined}
 use Rattle.bsc_history.specs.Marks.{entries}
 use Rattle.bsc_history.specs.Replies.{numbers}
+use Rattle.bsc_ring.specs.declared.ends.Outlet.{Outlet}
+use Rattle.bsc_ring.specs.Ends.{FoundEnd, empties_of, given}
 use Rattle.bsc_turn.specs.declared.pass.Pass.{Pass}
 use Rattle.bsc_turn.specs.declared.view.Ended.{Ended}
 use Rattle.bsc_turn.specs.Effects.{ended_of}
 use Rattle.bsc_turn.specs.Histories.{StartsWith}
-use Rattle.bsc_turn.specs.Passes.{ended_callers, newest_number, number_of, own_list, seen, view_of}
+use Rattle.bsc_turn.specs.Passes.{ended_callers, loads_made, newest_number, number_of, own_list, seen, view_of}
 use Rattle.bsc_desk.specs.declared.forwarding.OneReply.{OneReply}
 use Rattle.bsc_hub.specs.declared.hub.Hub.{Hub}
 use Rattle.bsc_hub.specs.declared.joined.ConnectRefusal.{ConnectRefusal}
 use Rattle.bsc_hub.specs.declared.joined.ConnectRefusal.TheVariants.{NoMemory as NoMemoryRefusal, Worn as WornRefusal, Refused}
-use Rattle.bsc_hub.specs.Passing.{IsCaller, Passed, about_of}
+use Rattle.bsc_hub.specs.Passing.{IsCaller, Passed, Went, about_of}
 use Rattle.bsc_load.specs.declared.ends.LoadStop.{LoadStop}
 use Rattle.bsc_load.specs.declared.ends.LoadStop.TheVariants.{NoMemory as NoMemoryStop, Short as ShortStop, Stopped}
 use Rattle.bsc_load.specs.Inner.{Goes, Holds, Stops}
@@ -32,7 +37,7 @@ use Rattle.bsc_storm.specs.declared.works.Cut.TheVariants.{NoMemory, Short}
 use Rattle.bsc_storm.specs.declared.works.Work.{Work}
 use Rattle.bsc_storm.specs.Peers.{storm_frame, taken_over}
 use Rattle.bsc_storm.specs.Storms.{Storms}
-use Rattle.bsc_storm.specs.Workers.{IsPart, IsWhole, Stay, stay_calls, storm_forwards, whole_length}
+use Rattle.bsc_storm.specs.Workers.{IsPart, IsWhole, Stay, TakesAll, stay_calls, storm_forwards, whole_length}
 
 -- why a worker was cut short whose connect was refused
 abbrev pub cut_of : ConnectRefusal → Cut
@@ -50,6 +55,12 @@ abbrev pub ShowsBy : ℕ → Hub → List Stamped → List Entry → Cut → Typ
 ShowsBy n h S E NoMemory = ⊤
 ShowsBy n h S E Short = IsTrue (list_any (λ e. is_refused e.reply) E) ⊎ ((length E < n) × ((about_of h).limits.calls ≤ length (entries S)))
 
+-- an outlet from which a stay has taken: it gave 64 frames, or fewer until it was found empty once, or until its End was
+abbrev pub TookSome : Outlet → Type 0
+TookSome o =
+    ((length (given o) ≡ 64) × (empties_of o ≡ 0)) ⊎ ((length (given o) < 64) × (empties_of o ≡ 1))
+    ⊎ ((length (given o) < 64) × (empties_of o ≡ 0) × ((e : End) × (e ≢ Left) × FoundEnd o e))
+
 -- one stay: a connect that joined, and a leave
 pub record StaysOnce (h : Hub) (p q : Pass) (taken : ℕ) : Type 0 where
   pub conn : ℕ
@@ -59,12 +70,14 @@ pub record StaysOnce (h : Hub) (p q : Pass) (taken : ℕ) : Type 0 where
   pub joins : first.call ≡ Connect taken_over
   pub leaves : last.call ≡ Leave conn taken empties
   pub who : numbers (joined (first ∷ last ∷ [])) ≡ conn ∷ []
+  pub takes : TakesAll (first ∷ last ∷ [])
   pub goes : Goes h p (first ∷ last ∷ []) q
 
 -- a connect that didn't join, and nothing else
 pub record NoStay (h : Hub) (p q : Pass) (cut : Cut) : Type 0 where
   pub made : List Entry
   pub calls : (calls made ≡ []) ⊎ (calls made ≡ Connect taken_over ∷ [])
+  pub quiet : joined made ≡ []
   pub goes : Goes h p made q
   pub shows : ShowsBy 1 h (seen q) made cut
 
@@ -79,6 +92,7 @@ pub record Stayed (h : Hub) (n : ℕ) (p q : Pass) (all : ℕ) : Type 0 where
   pub made : List Entry
   pub calls : calls made ≡ stay_calls stays
   pub joined : numbers (joined made) ≡ map (λ s. s.conn) stays
+  pub takes : TakesAll made
   pub goes : Goes h p made q
   pub taken : all ≡ within_64_bits (sum_by (λ s. s.taken) stays)
 
@@ -130,17 +144,19 @@ Did h sends rounds E S (Err cut) = IsPart sends rounds E × ShowsBy (whole_lengt
 abbrev pub Runs : Hub → Bool → ℕ → Pass → Pass → Result ℕ Cut → Type 0
 Runs h sends rounds p q result = (made : List Entry) × Goes h p made q × Did h sends rounds made (seen q) result
 
--- a pass for a worker: it made no entry, and nobody ended in it
+-- a pass for a worker: it made no entry and asked for no number, and nobody ended in it
 pub record IsNew (h : Hub) (p : Pass) : Type 0 where
   pub caller : IsCaller h p
   pub own : own_list p ≡ []
   pub ended : ended_callers p ≡ []
+  pub fresh : loads_made p ≡ 0
 
 -- a worker that has run, of this caller: all that its pass made is what the worker did
 pub record HasRun (h : Hub) (sends : Bool) (rounds k : ℕ) (w : Work) : Type 0 where
   pub caller : IsCaller h w.pass
   pub number : number_of w.pass ≡ k
   pub ended : ended_callers w.pass ≡ []
+  pub draws_none : loads_made w.pass ≡ 0
   pub did : Did h sends rounds (own_list w.pass) (seen w.pass) w.taken
 
 -- A pass was split off for a worker, with a greater number than was known; or as many numbers are drawn as there may be.
@@ -149,12 +165,12 @@ HasSplit h p q None = newest_number q ≡ (about_of h).limits.callers
 HasSplit h p q (Some x) = IsNew h x × (newest_number p < number_of x) × (number_of x ≡ newest_number q) × (newest_number q < (about_of h).limits.callers)
 
 pub record SplitsOne (h : Hub) (p q : Pass) (x : Option Pass) : Type 0 where
-  pub passed : Passed h p [] None q
+  pub went : Went h p 1 [] None q
   pub split : HasSplit h p q x
 
 -- passes were split off for three workers, or for the first of them
 pub record Splits (h : Hub) (p q : Pass) (x y z : Option Pass) : Type 0 where
-  pub passed : Passed h p [] None q
+  pub went : Went h p 3 [] None q
   pub one : IfSome x (IsNew h)
   pub other : IfSome y (IsNew h)
   pub sends : IfSome z (IsNew h)

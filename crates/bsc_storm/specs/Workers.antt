@@ -1,14 +1,18 @@
 -- What the three workers of a storm ask of a hub.
-use Rattle.std.specs.Prelude.{◌≡◌, ◌⊎◌, ◌≤◌, ◌<◌, ℕ, ◌+◌, ◌*◌, Bool, true, false, IsTrue, List, [], ◌∷◌, ◌++◌, length, map, replicate, take}
-use Rattle.std.specs.List.{filter, list_any, range_with_len, sum_by}
+use Rattle.std.specs.Prelude.{◌≡◌, ◌≢◌, ◌⊎◌, ◌≤◌, ◌<◌, ℕ, ◌+◌, ◌*◌, Bool, true, false, IsTrue, List, [], ◌∷◌, ◌++◌, length, map, take, ⊤}
+use Rattle.std.specs.List.{AllByRecursion, list_any, range_with_len, sum_by}
 use Rattle.bsc_history.specs.declared.call.Call.{Call}
 use Rattle.bsc_history.specs.declared.call.Call.TheVariants.{Connect, Forward, Leave}
+use Rattle.bsc_history.specs.declared.ending.End.{End}
+use Rattle.bsc_history.specs.declared.ending.End.TheVariants.{Left}
 use Rattle.bsc_history.specs.declared.entry.Entry.{Entry}
 use Rattle.bsc_history.specs.declared.limits.About.{About}
+use Rattle.bsc_history.specs.declared.reply.Reply.{Reply}
+use Rattle.bsc_history.specs.declared.reply.Reply.TheVariants.{Gone}
 use Rattle.bsc_history.specs.Counting.{is_refused}
 use Rattle.bsc_history.specs.Ends.{joined}
 use Rattle.bsc_history.specs.Replies.{numbers}
-use Rattle.bsc_load.specs.Workers.{calls, is_asking}
+use Rattle.bsc_load.specs.Workers.{calls}
 use Rattle.bsc_storm.specs.Peers.{storm_frame, storm_sender, taken_over}
 
 -- One stay: its connection, how many frames its outlet gave, and how often it found its outbox empty.
@@ -22,13 +26,38 @@ abbrev pub stay_calls : List Stay → List Call
 stay_calls [] = []
 stay_calls (s ∷ stays) = Connect taken_over ∷ Leave s.conn s.taken s.empties ∷ stay_calls stays
 
+-- A leave was told that the connection had ended before, other than by it, and that so many frames were taken.
+abbrev pub WasEnded : Reply → ℕ → Type 0
+WasEnded told taken = (ending : End) × (ending ≢ Left) × (told ≡ Gone ending taken)
+
+-- Before a leave its outlet gave 64 frames, or fewer until its outbox was found empty once, or until the End was found that
+-- the leave is then told.
+abbrev pub HasTaken : Call → Reply → Type 0
+HasTaken (Leave conn taken empties) told =
+    ((taken ≡ 64) × (empties ≡ 0)) ⊎ ((taken < 64) × (empties ≡ 1)) ⊎ ((taken < 64) × (empties ≡ 0) × WasEnded told taken)
+HasTaken call told = ⊤
+
+-- Each leave among some entries is such a leave.
+abbrev pub TakesAll : List Entry → Type 0
+TakesAll E = AllByRecursion (λ e. HasTaken e.call e.reply) E
+
 -- These are the entries of a whole worker of so many stays, whose outlets gave so many frames.
 pub record AreStays (rounds : ℕ) (E : List Entry) (frames : ℕ) : Type 0 where
   pub stays : List Stay
   pub many : length stays ≡ rounds
   pub calls : calls E ≡ stay_calls stays
   pub joined : numbers (joined E) ≡ map (λ s. s.conn) stays
+  pub takes : TakesAll E
   pub taken : frames ≡ sum_by (λ s. s.taken) stays
+
+-- These are the entries of such a worker, whole or cut short: exactly some stays, and maybe a connect that didn't join.
+pub record AreSomeStays (rounds : ℕ) (E : List Entry) : Type 0 where
+  pub stays : List Stay
+  pub more : ℕ
+  pub few : length stays + more ≤ rounds
+  pub calls : calls E ≡ stay_calls stays ++ take more (Connect taken_over ∷ [])
+  pub joined : numbers (joined E) ≡ map (λ s. s.conn) stays
+  pub takes : TakesAll E
 
 -- The first n forwards of the sender, by its connection.
 abbrev pub storm_forwards : ℕ → ℕ → List Call
@@ -41,6 +70,19 @@ pub record IsSender (n : ℕ) (E : List Entry) (frames : ℕ) : Type 0 where
   pub joined : numbers (joined E) ≡ sender ∷ []
   pub none : frames ≡ 0
 
+-- The calls of a sender of n unicasts up to where it was cut short, by its connection, if it joined: its connect or none,
+-- where it didn't, and else its connect, the first k of its unicasts, and its leave.
+abbrev pub calls_up_to : ℕ → List ℕ → ℕ → List Call
+calls_up_to n [] k = take k (Connect storm_sender ∷ [])
+calls_up_to n (s ∷ others) k = Connect storm_sender ∷ take k (storm_forwards s n) ++ Leave s 0 0 ∷ []
+
+-- These are the entries of such a sender, whole or cut short: exactly its calls up to there.
+pub record IsSomeSender (n : ℕ) (E : List Entry) : Type 0 where
+  pub who : List ℕ
+  pub more : ℕ
+  pub calls : calls E ≡ calls_up_to n who more
+  pub joined : numbers (joined E) ≡ who
+
 -- These are all entries of a worker that stays, or of the one that sends.
 abbrev pub IsWhole : Bool → ℕ → List Entry → ℕ → Type 0
 IsWhole false rounds E taken = AreStays rounds E taken
@@ -51,16 +93,10 @@ abbrev pub whole_length : Bool → ℕ → ℕ
 whole_length false rounds = 2 * rounds
 whole_length true rounds = 2 * rounds + 2
 
--- What such a worker asks for, where the sender is connection s: its connects and forwards.
-abbrev pub asks : Bool → ℕ → ℕ → List Call
-asks false rounds s = replicate rounds (Connect taken_over)
-asks true rounds s = Connect storm_sender ∷ storm_forwards s (2 * rounds)
-
--- These are entries of such a worker: the connects and forwards among its calls are the first of those it asks for.
-pub record IsPart (sends : Bool) (rounds : ℕ) (E : List Entry) : Type 0 where
-  pub sender : ℕ
-  pub count : ℕ
-  pub calls : filter is_asking (calls E) ≡ take count (asks sends rounds sender)
+-- These are the entries of such a worker, whole or cut short. It made no other, and who joined has left.
+abbrev pub IsPart : Bool → ℕ → List Entry → Type 0
+IsPart false rounds E = AreSomeStays rounds E
+IsPart true rounds E = IsSomeSender (2 * rounds) E
 
 -- The entries show that their worker was cut short, where so many entries have been seen: a connect was refused, or they
 -- are fewer than a whole worker's, and the hub had made as many calls as it may.

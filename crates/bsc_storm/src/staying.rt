@@ -1,8 +1,8 @@
 //! What a worker does that takes over: it stays again and again.
 ghost use Rattle.std.specs.Prelude.{◌≡◌};
-ghost use Rattle.bsc_ring.specs.Ends.{outlet_mark};
+ghost use Rattle.bsc_ring.specs.Ends.{IsNewOutlet, outlet_mark};
 ghost use Rattle.bsc_hub.specs.Passing.{IsCaller};
-ghost use Rattle.bsc_storm.specs.Inner.{AfterStay, StayedOften, cut_of};
+ghost use Rattle.bsc_storm.specs.Inner.{AfterStay, StayedOften, TookSome, cut_of};
 
 use crate::peers::taken_over;
 use crate::works::Cut;
@@ -27,13 +27,15 @@ pub(crate) fn cut_of(refusal: ConnectRefusal) -> Cut
 
 /// Takes at most 64 times, and ends where the outlet is empty or closed.
 fn take_some(outlet: &mut Outlet)
-    ensures { outlet_mark outlet.new ≡ outlet_mark outlet.old }
+    requires { IsNewOutlet outlet.old }
+    ensures took { TookSome outlet.new }
+    ensures mark { outlet_mark outlet.new ≡ outlet_mark outlet.old }
 {
-    for _ in 0..TAKES {
+    for k in 0..TAKES {
         match outlet.take() {
-            Take::Frame(_) => (),
+            Take::Frame(_frame) => (),
             Take::Empty => return,
-            Take::Closed(_) => return,
+            Take::Closed(_end) => return,
         }
     }
 }

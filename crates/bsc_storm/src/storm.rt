@@ -2,7 +2,8 @@
 ghost use Rattle.std.specs.Prelude.{◌≡◌, ◌≤◌, IfSome};
 ghost use Rattle.bsc_hub.specs.Passing.{IsCaller};
 ghost use Rattle.bsc_load.specs.Inner.{Stops};
-ghost use Rattle.bsc_storm.specs.Inner.{Answers, Finishes, IsNew, Joins, JoinsOne, MayJoin, Splits, SplitsOne, StormsFrom, answer, came_of, lacks, short_of, taken_of};
+ghost use Rattle.bsc_storm.specs.Inner.{Answers, Finishes, IsNew, Joins, JoinsOne, MayJoin, Splits, SplitsOne, StormsFrom};
+ghost use Rattle.bsc_storm.specs.Inner.{answer, came_of, lacks, short_of, taken_of};
 ghost use Rattle.bsc_storm.specs.Storms.{Storms};
 
 use crate::ends::StormEnd;
