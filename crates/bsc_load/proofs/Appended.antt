@@ -1,7 +1,7 @@
 -- What entered all outboxes of a legal history together is what its counts name as appended.
-use Rattle.std.proofs.Common.{◌≡◌, ◌≢◌, ◌≤◌, ◌<◌, ◌+◌, inl, inr, ℕ, zero, suc, ◌==◌, Bool, true, false, not, ◌&&◌, ◌||◌, cond, List, [], ◌∷◌, ◌++◌, length, drop, get_or, map, filter, find, Option, Some, None, MatchOption, is_none, option_to_list, refl, ap, sym, ◌∙◌, subst, arith, append-nil, length-append, add-zero}
+use Rattle.std.proofs.Common.{◌≡◌, ◌≢◌, ◌≤◌, ◌<◌, ◌+◌, inl, inr, ℕ, zero, suc, ◌==◌, Bool, true, false, not, ◌&&◌, ◌||◌, cond, List, [], ◌∷◌, ◌++◌, length, drop, get_or, filter, find, Option, Some, None, MatchOption, is_none, option_to_list, refl, ap, sym, ◌∙◌, subst, arith, append-nil, length-append, add-zero}
 use Rattle.std.specs.Prelude.{nat_le}
-use Rattle.std.specs.List.{AllByRecursion, count_by, list_any, range_with_len, sum_by}
+use Rattle.std.specs.List.{AllByRecursion, count_by, range_with_len, sum_by}
 use Rattle.std.proofs.lemmas.Bool.{eq-eqb, eqb-true, ne_eqb}
 use Rattle.std.proofs.lemmas.List.Sums.{sum_by-cons, sum_by_push}
 use Rattle.bsc_octets.specs.declared.identity.Identity.{Identity}
@@ -17,7 +17,7 @@ use Rattle.bsc_history.specs.declared.limits.About.{About}
 use Rattle.bsc_history.specs.declared.looks.Look.{Look}
 use Rattle.bsc_history.specs.declared.reply.Refusal.TheVariants.{Stopped as RefusedStopped, Duplicate, TableFull}
 use Rattle.bsc_history.specs.declared.reply.Reply.{Reply}
-use Rattle.bsc_history.specs.declared.reply.Reply.TheVariants.{Joined, Refused, Appended, Closed, Skipped, NotCurrent, Stopped}
+use Rattle.bsc_history.specs.declared.reply.Reply.TheVariants.{Joined, Refused, Appended, Closed, Skipped, Stopped}
 use Rattle.bsc_history.specs.Counting.{appended_in, counts}
 use Rattle.bsc_history.specs.Ends.{ended, first_end, joined, joined_where, live, unleft}
 use Rattle.bsc_history.specs.Entries.{connection_of, made_by, moment}
@@ -27,7 +27,7 @@ use Rattle.bsc_history.specs.Legality.{Lawful, Legal}
 use Rattle.bsc_history.specs.Outboxes.{added, added_by, is_found_full, is_too_long, meant, means, out_of, sent}
 use Rattle.bsc_history.specs.Replies.{broadcast_reply, connect_reply, forward_reply, is_stopped, numbers, number_of, refused_as_held, reply, rival, unicast_reply, unless_ended}
 use Rattle.bsc_history.proofs.Fresh.{fresh_sent}
-use Rattle.bsc_history.proofs.Lists.{Apart-filter, In, In-append, In-filter, In-option, find_says}
+use Rattle.bsc_history.proofs.Lists.{Apart-filter, In, In-append, In-filter, find_says}
 use Rattle.bsc_history.proofs.More.{along, counts-more, joined-more, sent-more}
 use Rattle.bsc_history.proofs.Named.{adds_as_named}
 use Rattle.bsc_history.proofs.Numbers.{live_numbers}

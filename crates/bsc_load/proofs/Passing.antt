@@ -1,5 +1,5 @@
 -- The pass clause of a call that asked for numbers, and of calls after it.
-use Rattle.std.proofs.Common.{ℕ, ◌+◌, List, ◌++◌, Option, None, subst, add-zero}
+use Rattle.std.proofs.Common.{ℕ, List, ◌++◌, Option, None, subst, add-zero}
 use Rattle.bsc_turn.specs.declared.pass.Pass.{Pass}
 use Rattle.bsc_turn.specs.declared.view.Ended.{Ended}
 use Rattle.bsc_hub.specs.declared.hub.Hub.{Hub}
