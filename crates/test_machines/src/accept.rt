@@ -6,17 +6,17 @@ mod reading;
 mod rows;
 mod telling;
 
-use arrayvec::ArrayVec;
+use crate::messages::{Came, Does};
+use crate::peers::hub;
 use bsc_accept::{Accepting, Closing, Step, Times};
-use bsc_checks::{Check, Verdict};
+use bsc_checks::Verdict;
 use bsc_history::{End, Refusal};
 use bsc_octets::Identity;
 use reading::Reading;
-use rows::{ASKING, CONNECTED, HUB_TIMES, JOIN, Row};
+use rows::{ASKING, CLOSINGS, CONNECTED, HUB_TIMES, JOIN, JOINED, NOT_JOINED, Row};
 use std::alloc::Global;
 use std::process::Abort;
-use std::test::Fail;
-use telling::{Does, Machine, Told, done, hub};
+use telling::{Machine, Told};
 
 /// A machine that was started, asked, and joined: it is connected.
 fn connected(own: Identity, times: Times, now: u64, request: &Verdict) -> Option<Accepting>
@@ -34,74 +34,53 @@ fn connected(own: Identity, times: Times, now: u64, request: &Verdict) -> Option
 
 fn run(rt: &impl Abort, alloc: Global, machine: &mut Machine, rows: &[Row]) {
     for (now, told, want) in rows {
-        let step = machine.tell(rt, alloc, *now, *told);
-        assert_eq!(rt; done(&step), *want, "at {now}, told {told:?}");
+        assert!(rt;
+            machine.does(alloc, *now, *told) == Some(*want),
+            "at {now}: {want:?}"
+        );
     }
 }
 
 #[test]
 fn machines_make_the_worked_steps(rt: HostRuntime) {
-    let alloc = rt.alloc();
-    for rows in ASKING {
+    for rows in ASKING.iter() {
         let mut machine = Machine::start(hub(), HUB_TIMES, 0);
-        run(&rt, alloc, &mut machine, rows);
+        run(&rt, rt.alloc(), &mut machine, rows);
     }
-    for rows in CONNECTED {
+    for rows in CONNECTED.iter() {
         let mut machine = Machine::start(hub(), HUB_TIMES, 0);
-        run(&rt, alloc, &mut machine, &JOIN);
-        run(&rt, alloc, &mut machine, rows);
+        run(&rt, rt.alloc(), &mut machine, &JOIN);
+        run(&rt, rt.alloc(), &mut machine, rows);
+    }
+}
+
+/// Whether a machine puts these octets where it is told something.
+fn puts(alloc: Global, machine: &mut Machine, told: Told, wanted: &[u8]) -> bool {
+    match machine.tell(alloc, 1, told) {
+        Some(Step::Reply(octets)) => octets.as_slice() == wanted,
+        Some(Step::ReplyClose(octets, _)) => octets.as_slice() == wanted,
+        _ => false,
     }
 }
 
 #[test]
-fn replies_have_the_octets_of_the_worked_scripts(rt: HostRuntime) -> Result<(), Fail> {
-    let alloc = rt.alloc();
-    let mut machine = Machine::start(hub(), HUB_TIMES, 0);
-    assert_eq!(rt;
-        machine.tell(&rt, alloc, 0, Told::Request(1)),
-        Step::Ask(hub())
-    );
-    let mut other = machine;
-    let accept = [
-        0x07, 0x00, 0x00, 0x01, 2, 0, 0, 0, 0, 0xFF, 0x00, 0x11, 0x22, 0x33, 0x44, 0x55, 0x66,
-        0x77, 0x88, 0x99, 0xAA, 0xBB, 0xCC, 0xDD, 0xEE, 0xFF, 0x06, 0x40, 0x05, 0xD9,
-    ];
-    let nak = [
-        0x00, 0x00, 0x00, 0x01, 0x06, 0x01, 0x00, 0x00, 0x07, 0x00, 0x97,
-    ];
-    let duplicate = Told::NotJoined(Refusal::Duplicate { holder: Some(1) });
-    for (told, octets) in [
-        (Told::Joined, accept.as_slice()),
-        (Told::Heartbeat(6), [0x0B, 0x00, 0x00, 0x06].as_slice()),
-        (
-            Told::Ended(End::Stopped),
-            [0x08, 0x00, 0x00, 0x01].as_slice(),
-        ),
-    ] {
-        let step = machine.tell(&rt, alloc, 1, told);
-        assert_eq!(rt; step, Step::Reply(ArrayVec::try_from(octets)?));
+fn replies_have_the_octets_of_the_worked_scripts(rt: HostRuntime) {
+    for rows in [JOINED.as_slice(), NOT_JOINED.as_slice()] {
+        let mut machine = Machine::start(hub(), HUB_TIMES, 0);
+        run(&rt, rt.alloc(), &mut machine, &JOIN[..1]);
+        for (told, octets) in rows {
+            assert!(rt; puts(rt.alloc(), &mut machine, *told, octets), "{octets:?}");
+        }
     }
-    let step = other.tell(&rt, alloc, 1, duplicate);
-    let octets = ArrayVec::try_from(nak.as_slice())?;
-    assert_eq!(rt; step, Step::ReplyClose(octets, Closing::NORMAL));
-    Ok(())
 }
 
 #[test]
 fn reasons_have_their_texts(rt: HostRuntime) {
-    for (closing, code, text) in [
-        (Closing::NORMAL, 1000, ""),
-        (Closing::GOING_AWAY, 1001, ""),
-        (Closing::NOT_BINARY, 1003, ""),
-        (Closing::TABLE_FULL, 1008, "table full"),
-        (Closing::HUB_WORN, 1008, "hub worn"),
-        (Closing::CONNECT_WAIT, 1008, "connect wait"),
-        (Closing::IDLE, 1008, "idle"),
-        (Closing::OUTBOX_FULL, 1008, "outbox full"),
-        (Closing::WRONG_PEER, 1008, "wrong peer"),
-        (Closing::NO_MEMORY, 1011, "no memory"),
-    ] {
-        assert_eq!(rt; (closing.code, closing.reason.text()), (code, text));
+    for (closing, code, text) in CLOSINGS.iter() {
+        assert!(rt;
+            closing.code == *code && closing.reason.text() == *text,
+            "{code} {text}"
+        );
     }
 }
 
@@ -116,18 +95,19 @@ fn drawn(seed: &mut u64, below: u64) -> u64
     (*seed >> 33) % below
 }
 
+/// Something that is told, drawn.
 fn something(seed: &mut u64) -> Told {
     let id = if drawn(seed, 2) == 0 { 1 } else { 2 };
     match drawn(seed, 18) {
-        0 => Told::Request(id),
-        1 => Told::Heartbeat(id),
-        2 => Told::Disconnect(id),
-        3 => Told::DisconnectAck(id),
-        4 => Told::Result(0x08, id),
-        5 => Told::Result(0x06, id),
-        6 => Told::Refused(id),
-        7 => Told::Silence,
-        8 => Told::Carried,
+        0 => Told::Came(Came::Request(id)),
+        1 => Told::Came(Came::Heartbeat(id)),
+        2 => Told::Came(Came::Disconnect(id)),
+        3 => Told::Came(Came::DisconnectAck(id)),
+        4 => Told::Came(Came::Nak(0x08, id)),
+        5 => Told::Came(Came::Nak(0x06, id)),
+        6 => Told::Came(Came::Refused(id)),
+        7 => Told::Came(Came::Silence),
+        8 => Told::Came(Came::Carried),
         9 => Told::NotJoined(Refusal::Duplicate { holder: None }),
         10 => Told::NotJoined(Refusal::TableFull { rows: 1 }),
         11 => Told::NotJoined(Refusal::Stopped),
@@ -139,40 +119,83 @@ fn something(seed: &mut u64) -> Told {
     }
 }
 
-#[test]
-fn ten_thousand_events_give_the_steps_of_the_second_reading(rt: HostRuntime) {
-    let alloc = rt.alloc();
-    let times = Times {
-        connect_wait: 60,
-        disconnect_wait: 40,
-        heartbeat: 4,
-    };
-    let (mut events, mut idle) = (0u32, 0u32);
-    for start in [1, 20, 300, 4_000] {
-        let mut seed = start;
-        let mut now = 0u64;
-        let mut machine = Machine::start(hub(), times, now);
-        let mut reading = Reading::start(times, now);
-        for _ in 0..8_000 {
-            let told = something(&mut seed);
-            if machine.may_come(told) {
-                let leap = if drawn(&mut seed, 8) == 0 { 50 } else { 8 };
-                now = now.saturating_add(drawn(&mut seed, leap));
-                let does = done(&machine.tell(&rt, alloc, now, told));
-                assert_eq!(rt; does, reading.step(now, told), "at {now}, told {told:?}");
-                events = events.saturating_add(1);
-                if does == Does::Closes(Closing::IDLE) {
-                    idle = idle.saturating_add(1);
-                }
-            }
-            if reading.over {
-                machine = Machine::start(hub(), times, now);
-                reading = Reading::start(times, now);
+/// Short waits, so that some of them pass.
+const TIMES: Times = Times {
+    connect_wait: 60,
+    disconnect_wait: 40,
+    heartbeat: 4,
+};
+
+/// A machine and a reader of the rules, who are told the same.
+#[derive(Clone, Copy)]
+struct Course {
+    machine: Machine,
+    reading: Reading,
+    now: u64,
+    seed: u64,
+    /// How many events there were.
+    events: u32,
+    /// How many of them closed an idle machine.
+    idle: u32,
+}
+
+impl Course {
+    fn start(seed: u64) -> Course {
+        Course {
+            machine: Machine::start(hub(), TIMES, 0),
+            reading: Reading::start(TIMES, 0),
+            now: 0,
+            seed,
+            events: 0,
+            idle: 0,
+        }
+    }
+
+    /// A while passes.
+    fn pass(&mut self) {
+        let leap = if drawn(&mut self.seed, 8) == 0 { 50 } else { 8 };
+        self.now = self.now.saturating_add(drawn(&mut self.seed, leap));
+    }
+
+    /// What the machine did is counted.
+    fn count(&mut self, does: Does) {
+        self.events = self.events.saturating_add(1);
+        if does == Does::Closes(Closing::IDLE) {
+            self.idle = self.idle.saturating_add(1);
+        }
+    }
+
+    /// Both begin anew, where it is over.
+    fn begin(&mut self) {
+        if self.reading.over {
+            self.machine = Machine::start(hub(), TIMES, self.now);
+            self.reading = Reading::start(TIMES, self.now);
+        }
+    }
+
+    /// Something is told to both, where it may come. Whether they do the same.
+    fn go_on(&mut self, alloc: Global) -> bool {
+        let told = something(&mut self.seed);
+        self.pass();
+        match self.machine.does(alloc, self.now, told) {
+            None => true,
+            Some(does) => {
+                let same = self.reading.step(self.now, told) == does;
+                self.count(does);
+                self.begin();
+                same
             }
         }
     }
-    assert!(rt;
-        events >= 10_000 && idle >= 20,
-        "{events} events, {idle} of them idle"
-    );
+}
+
+#[test]
+fn ten_thousand_events_give_the_steps_of_the_second_reading(rt: HostRuntime) {
+    for seed in [1, 20, 300, 4_000] {
+        let mut course = Course::start(seed);
+        for turn in 0..8_000 {
+            assert!(rt; course.go_on(rt.alloc()), "seed {seed}, turn {turn}");
+        }
+        assert!(rt; course.events >= 2_500 && course.idle >= 5, "seed {seed}");
+    }
 }

@@ -8,7 +8,6 @@ use ConnectorEvent::{Connected, Failed, Lost, Start, Tick};
 use Side::{Failover, Primary};
 use bsc_connector::{Connector, ConnectorEvent, ConnectorStep, HubUse, Side, Waits};
 use reading::Reading;
-use std::process::Abort;
 
 /// Whether this may be told to a connector.
 fn may_come(connector: &Connector, event: ConnectorEvent) -> bool
@@ -21,16 +20,15 @@ fn may_come(connector: &Connector, event: ConnectorEvent) -> bool
     }
 }
 
-fn tell(
-    rt: &impl Abort,
-    connector: &mut Connector,
-    now: u64,
-    event: ConnectorEvent,
-) -> ConnectorStep
+/// The step of a connector that is told something, where it may be told that.
+fn tell(connector: &mut Connector, now: u64, event: ConnectorEvent) -> Option<ConnectorStep>
     requires { now < 2 ^ 62 }
 {
-    assert!(rt; may_come(connector, event));
-    connector.event(now, event)
+    if may_come(connector, event) {
+        Some(connector.event(now, event))
+    } else {
+        None
+    }
 }
 
 const NOTHING: ConnectorStep = ConnectorStep {
@@ -99,6 +97,12 @@ const FAILS: [Row; 12] = [
     (30_000, Tick, DIALS_PRIMARY, HubUse::NoHub),
 ];
 
+/// Whether a connector does what a row says.
+fn does(connector: &mut Connector, row: &Row) -> bool {
+    let (now, event, want, used) = *row;
+    tell(connector, u64::from(now), event) == Some(want) && connector.hub_use() == used
+}
+
 #[test]
 fn connectors_make_the_worked_steps(rt: HostRuntime) {
     for rows in [
@@ -107,26 +111,40 @@ fn connectors_make_the_worked_steps(rt: HostRuntime) {
         FAILS.as_slice(),
     ] {
         let mut connector = Connector::make(true, 2_000, 30_000);
-        for (now, event, want, used) in rows {
-            let step = tell(&rt, &mut connector, u64::from(*now), *event);
-            assert_eq!(rt;
-                (step, connector.hub_use()),
-                (*want, *used),
-                "at {now}: {event:?}"
-            );
+        for row in rows {
+            assert!(rt; does(&mut connector, row), "at {}", row.0);
         }
     }
 }
 
-const EVENTS: [ConnectorEvent; 7] = [
-    Connected(Primary),
-    Connected(Failover),
-    Failed(Primary),
-    Failed(Failover),
-    Lost(Primary),
-    Lost(Failover),
-    Tick,
-];
+/// The k-th of the events of a course, round and round.
+fn nth(k: u32) -> ConnectorEvent {
+    match k % 7 {
+        0 => Connected(Primary),
+        1 => Connected(Failover),
+        2 => Failed(Primary),
+        3 => Failed(Failover),
+        4 => Lost(Primary),
+        5 => Lost(Failover),
+        _ => Tick,
+    }
+}
+
+/// How many orders of four events there are.
+const ORDERS: u32 = 2_401;
+
+/// What a connector is told at a turn of a course: the start, four events in this order, and a tick behind each and at
+/// the end.
+fn event_at(order: u32, turn: u32) -> ConnectorEvent {
+    match turn {
+        0 => Start,
+        1 => nth(order),
+        3 => nth(order / 7),
+        5 => nth(order / 49),
+        7 => nth(order / 343),
+        _ => Tick,
+    }
+}
 
 /// The time of a turn, with 70 ms between two turns.
 fn time_of(turn: u32) -> u64
@@ -135,8 +153,20 @@ fn time_of(turn: u32) -> u64
     70 * u64::from(turn)
 }
 
-/// Tells a connector and a reader of the rules each event of a list that may come, 70 ms apart.
-fn follow(rt: &impl Abort, failover: bool, events: &[ConnectorEvent]) {
+/// Whether a connector and a reader of the rules do the same at a turn, where that may come.
+fn agree(
+    connector: &mut Connector,
+    reading: &mut Reading,
+    turn: u32,
+    event: ConnectorEvent,
+) -> bool {
+    let now = time_of(turn);
+    tell(connector, now, event) == reading.tell(now, event)
+        && connector.hub_use() == reading.hub_use()
+}
+
+/// Whether a connector follows the rules in a course.
+fn follows(failover: bool, order: u32) -> bool {
     let waits = Waits {
         failover,
         least: 100,
@@ -144,45 +174,21 @@ fn follow(rt: &impl Abort, failover: bool, events: &[ConnectorEvent]) {
     };
     let mut connector = Connector::make(failover, waits.least, waits.greatest);
     let mut reading = Reading::start(waits);
-    let mut turn = 0u32;
-    for event in events {
-        turn = turn.saturating_add(1);
-        assert_eq!(rt; may_come(&connector, *event), reading.may_come(*event));
-        if may_come(&connector, *event) {
-            let step = tell(rt, &mut connector, time_of(turn), *event);
-            assert_eq!(rt;
-                step,
-                reading.event(time_of(turn), *event),
-                "turn {turn}: {events:?}"
-            );
-            assert_eq!(rt;
-                connector.hub_use(),
-                reading.hub_use(),
-                "turn {turn}: {events:?}"
-            );
+    for turn in 0..12 {
+        if !agree(&mut connector, &mut reading, turn, event_at(order, turn)) {
+            return false;
         }
     }
+    true
 }
 
 #[test]
 fn every_order_of_four_events_gives_the_steps_of_the_second_reading(rt: HostRuntime) {
-    for failover in [true, false] {
-        for first in EVENTS {
-            for second in EVENTS {
-                for third in EVENTS {
-                    for last in EVENTS {
-                        follow(
-                            &rt,
-                            failover,
-                            &[
-                                Start, first, Tick, second, Tick, third, Tick, last, Tick, Tick,
-                                Tick, Tick,
-                            ],
-                        );
-                    }
-                }
-            }
-        }
+    for order in 0..ORDERS {
+        assert!(rt;
+            follows(true, order) && follows(false, order),
+            "order {order}"
+        );
     }
 }
 
@@ -193,11 +199,4 @@ fn start_badly(failover: bool) -> ConnectorStep
     let mut connector = Connector::make(failover, 2_000, 30_000);
     let _start = connector.event(0, Start);
     connector.event(100, Failed(Primary))
-}
-
-#[test]
-fn a_failover_is_dialled_where_there_is_one(rt: HostRuntime) {
-    for failover in [true, false] {
-        assert_eq!(rt; start_badly(failover).dial_failover, failover);
-    }
 }

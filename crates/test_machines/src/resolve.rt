@@ -22,71 +22,91 @@ fn ask_and_answer(resolve: &mut Resolve, now: u64, id: u16, v: Vmac, uris: Octet
     }
 }
 
-fn expect_uris(rt: &impl Abort, resolve: &Resolve, v: Vmac, text: &str) {
-    match resolve.uris(v) {
-        Some(uris) => assert_eq!(rt; uris.as_slice(), text.as_bytes()),
-        None => assert!(rt; false, "no URIs are learnt"),
+/// Hands in an answer. Whether it counted; none where there is no memory for it.
+fn answer(alloc: Global, resolve: &mut Resolve, id: u16, v: Vmac, text: &str) -> Option<bool> {
+    match octets(alloc, text) {
+        Ok(uris) => Some(resolve.answered(id, v, uris)),
+        Err(_) => None,
     }
+}
+
+/// Whether these URIs are learnt of a VMAC.
+fn has_uris(resolve: &Resolve, v: Vmac, text: &str) -> bool {
+    match resolve.uris(v) {
+        Some(uris) => uris.as_slice() == text.as_bytes(),
+        None => false,
+    }
+}
+
+/// A question waits for its answer, and another is asked behind its wait.
+fn waits(rt: &impl Abort, resolve: &mut Resolve, v: Vmac) {
+    assert!(rt; resolve.ask(100, 7, v) == Ok(()));
+    resolve.tick(10_099);
+    assert!(rt; resolve.ask(10_099, 8, v) == Err(AskRefusal::Pending { id: 7 }));
+    resolve.tick(10_100);
+    assert!(rt; !resolve.refused(7, v), "the wait has passed");
+    assert!(rt; resolve.ask(10_100, 9, v) == Ok(()));
+}
+
+/// Answers of another peer and to another question don't count, and the right one does.
+fn learns(rt: &impl Abort, alloc: Global, resolve: &mut Resolve, v: Vmac) {
+    assert!(rt; answer(alloc, resolve, 9, address(11), "ws://b") == Some(false));
+    assert!(rt; answer(alloc, resolve, 8, v, "ws://b") == Some(false));
+    assert!(rt; resolve.uris(v).is_none());
+    assert!(rt; answer(alloc, resolve, 9, v, "ws://a") == Some(true));
+    assert!(rt; has_uris(resolve, v, "ws://a"));
+}
+
+/// What is learnt stays through a question that is refused.
+fn keeps(rt: &impl Abort, resolve: &mut Resolve, v: Vmac) {
+    assert!(rt; resolve.ask(20_000, 10, v) == Ok(()));
+    assert!(rt; has_uris(resolve, v, "ws://a"));
+    assert!(rt; resolve.refused(10, v));
+    assert!(rt; !resolve.refused(10, v), "it was dropped");
+    assert!(rt; has_uris(resolve, v, "ws://a"));
 }
 
 #[test]
 fn a_course_of_questions(rt: HostRuntime) -> Result<(), Fail> {
-    let (a, b) = (address(10), address(11));
+    let v = address(10);
+    let uris = octets(rt.alloc(), "")?;
     let mut resolve = Resolve::make(rt.alloc(), 10_000)?;
-    assert_eq!(rt; resolve.ask(100, 7, a), Ok(()));
-    resolve.tick(10_099);
-    assert_eq!(rt;
-        resolve.ask(10_099, 8, a),
-        Err(AskRefusal::Pending { id: 7 })
-    );
-    resolve.tick(10_100);
-    assert!(rt; !resolve.refused(7, a), "the wait has passed");
-    assert_eq!(rt; resolve.ask(10_100, 9, a), Ok(()));
-    assert!(rt;
-        !resolve.answered(9, b, octets(rt.alloc(), "ws://b")?),
-        "another peer"
-    );
-    assert!(rt;
-        !resolve.answered(8, a, octets(rt.alloc(), "ws://b")?),
-        "another Message ID"
-    );
-    assert!(rt; resolve.uris(a).is_none());
-    assert!(rt; resolve.answered(9, a, octets(rt.alloc(), "ws://a")?));
-    expect_uris(&rt, &resolve, a, "ws://a");
-    assert_eq!(rt; resolve.ask(20_000, 10, a), Ok(()));
-    expect_uris(&rt, &resolve, a, "ws://a");
-    assert!(rt; resolve.refused(10, a));
-    assert!(rt; !resolve.refused(10, a), "it was dropped");
-    expect_uris(&rt, &resolve, a, "ws://a");
-    assert!(rt; ask_and_answer(&mut resolve, 30_000, 11, a, octets(rt.alloc(), "")?));
-    expect_uris(&rt, &resolve, a, "");
+    waits(&rt, &mut resolve, v);
+    learns(&rt, rt.alloc(), &mut resolve, v);
+    keeps(&rt, &mut resolve, v);
+    assert!(rt; ask_and_answer(&mut resolve, 30_000, 11, v, uris));
+    assert!(rt; has_uris(&resolve, v, ""));
     Ok(())
+}
+
+/// As many VMACs are asked for as are held at most, and one more.
+fn fills(rt: &impl Abort, resolve: &mut Resolve) {
+    for k in 0..256 {
+        assert!(rt; resolve.ask(0, k, address(k)) == Ok(()));
+    }
+    assert!(rt; resolve.ask(0, 256, address(256)) == Err(AskRefusal::Full { held: 256 }));
+    assert!(rt; resolve.ask(0, 256, address(5)) == Err(AskRefusal::Pending { id: 5 }));
+}
+
+/// A VMAC whose question is refused is held no more, and one of which URIs are learnt is.
+fn lets_go(rt: &impl Abort, alloc: Global, resolve: &mut Resolve) {
+    assert!(rt; answer(alloc, resolve, 5, address(5), "ws://5") == Some(true));
+    assert!(rt; resolve.ask(1, 256, address(5)) == Ok(()));
+    assert!(rt; resolve.refused(9, address(9)));
+    assert!(rt; resolve.ask(1, 257, address(256)) == Ok(()));
+    resolve.tick(10_000);
+    assert!(rt;
+        answer(alloc, resolve, 4, address(4), "ws://4") == Some(false),
+        "it was dropped"
+    );
+    assert!(rt; answer(alloc, resolve, 256, address(5), "ws://6") == Some(true));
+    assert!(rt; has_uris(resolve, address(5), "ws://6"));
 }
 
 #[test]
 fn at_most_256_vmacs(rt: HostRuntime) -> Result<(), Fail> {
     let mut resolve = Resolve::make(rt.alloc(), 10_000)?;
-    for k in 0..256 {
-        assert_eq!(rt; resolve.ask(0, k, address(k)), Ok(()));
-    }
-    assert_eq!(rt;
-        resolve.ask(0, 256, address(256)),
-        Err(AskRefusal::Full { held: 256 })
-    );
-    assert_eq!(rt;
-        resolve.ask(0, 256, address(5)),
-        Err(AskRefusal::Pending { id: 5 })
-    );
-    assert!(rt; resolve.answered(5, address(5), octets(rt.alloc(), "ws://5")?));
-    assert_eq!(rt; resolve.ask(1, 256, address(5)), Ok(()));
-    assert!(rt; resolve.refused(9, address(9)));
-    assert_eq!(rt; resolve.ask(1, 257, address(256)), Ok(()));
-    resolve.tick(10_000);
-    assert!(rt;
-        !resolve.answered(4, address(4), octets(rt.alloc(), "ws://4")?),
-        "it was dropped"
-    );
-    assert!(rt; resolve.answered(256, address(5), octets(rt.alloc(), "ws://6")?));
-    expect_uris(&rt, &resolve, address(5), "ws://6");
+    fills(&rt, &mut resolve);
+    lets_go(&rt, rt.alloc(), &mut resolve);
     Ok(())
 }

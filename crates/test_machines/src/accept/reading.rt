@@ -1,10 +1,11 @@
 //! The rules of an accepting peer read a second time: another form than the machine's.
-use crate::accept::telling::{Does, Told};
+use crate::accept::telling::Told;
+use crate::messages::{Came, Does};
 use bsc_accept::{Closing, Times};
 use bsc_history::{End, Refusal};
 
 /// What a reader of the rules would note down.
-#[derive(Drop)]
+#[derive(Clone, Copy)]
 pub struct Reading {
     times: Times,
     /// When it started.
@@ -58,21 +59,30 @@ impl Reading {
     /// What is done at a time when this is told.
     pub fn step(&mut self, now: u64, told: Told) -> Does {
         match told {
+            Told::Came(came) => {
+                self.heard = now;
+                self.message(came)
+            }
             Told::Joined => {
                 self.joined = true;
-                return Does::Puts(0x07, self.request);
+                Does::Puts(0x07, self.request)
             }
-            Told::NotJoined(refusal) => return self.not_joined(refusal),
-            Told::Ended(End::Full) => return self.closes(Closing::OUTBOX_FULL),
-            Told::Ended(_) => return self.says_bye(now, 1),
-            Told::Finish(id) if self.is_connected() => return self.says_bye(now, id),
-            Told::Finish(_) if self.joined => return Does::Nothing,
-            Told::Finish(_) => return self.closes(Closing::NORMAL),
-            Told::Tick => return self.tick(now),
-            _ => {}
+            Told::NotJoined(refusal) => self.not_joined(refusal),
+            Told::Ended(End::Full) => self.closes(Closing::OUTBOX_FULL),
+            Told::Ended(_) => self.says_bye(now, 1),
+            Told::Finish(id) => self.finish(now, id),
+            Told::Tick => self.tick(now),
         }
-        self.heard = now;
-        self.message(told)
+    }
+
+    fn finish(&mut self, now: u64, id: u16) -> Does {
+        if self.is_connected() {
+            self.says_bye(now, id)
+        } else if self.joined {
+            Does::Nothing
+        } else {
+            self.closes(Closing::NORMAL)
+        }
     }
 
     fn not_joined(&mut self, refusal: Refusal) -> Does {
@@ -84,20 +94,20 @@ impl Reading {
         }
     }
 
-    fn message(&mut self, told: Told) -> Does {
-        match told {
-            Told::Refused(id) => Does::Puts(0x00, id),
-            Told::Carried => Does::Carries,
-            Told::Request(id) if !self.joined => {
+    fn message(&mut self, came: Came) -> Does {
+        match came {
+            Came::Refused(id) => Does::Puts(0x00, id),
+            Came::Carried => Does::Carries,
+            Came::Request(id) if !self.joined => {
                 self.request = id;
                 Does::Asks
             }
-            Told::Heartbeat(id) if self.is_connected() => Does::Puts(0x0B, id),
-            Told::Disconnect(id) if self.is_connected() => {
+            Came::Heartbeat(id) if self.is_connected() => Does::Puts(0x0B, id),
+            Came::Disconnect(id) if self.is_connected() => {
                 self.over = true;
                 Does::PutsAndCloses(0x09, id, Closing::NORMAL)
             }
-            Told::DisconnectAck(id) | Told::Result(0x08, id) if self.is_awaited(id) => {
+            Came::DisconnectAck(id) | Came::Nak(0x08, id) if self.is_awaited(id) => {
                 self.closes(Closing::NORMAL)
             }
             _ => Does::Nothing,

@@ -71,8 +71,17 @@ impl Reading {
         }
     }
 
+    /// What is done at a time when this is told, where it may be.
+    pub fn tell(&mut self, now: u64, event: ConnectorEvent) -> Option<ConnectorStep> {
+        if self.may_come(event) {
+            Some(self.event(now, event))
+        } else {
+            None
+        }
+    }
+
     /// Whether this may be told.
-    pub fn may_come(&self, event: ConnectorEvent) -> bool {
+    fn may_come(&self, event: ConnectorEvent) -> bool {
         match event {
             ConnectorEvent::Connected(Side::Primary) | ConnectorEvent::Failed(Side::Primary) => {
                 self.primary.under_way
@@ -87,7 +96,7 @@ impl Reading {
     }
 
     /// What is done at a time when this is told.
-    pub fn event(&mut self, now: u64, event: ConnectorEvent) -> ConnectorStep {
+    fn event(&mut self, now: u64, event: ConnectorEvent) -> ConnectorStep {
         let mut step = ConnectorStep {
             dial_primary: false,
             dial_failover: false,
