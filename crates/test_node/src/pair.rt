@@ -10,7 +10,6 @@ use bsc_script::Script;
 use joined::{Joined, carry_out, settle};
 use std::alloc::Global;
 use std::process::Abort;
-use std::test::Fail;
 use wishes::WISHES;
 
 /// The hub's line in its script.
@@ -35,11 +34,10 @@ fn ask_for_all<L: Language>(
 }
 
 #[test]
-fn two_nodes_exchange_npdus_over_the_hub_and_go_direct(rt: HostRuntime) -> Result<(), Fail> {
+fn two_nodes_exchange_npdus_over_the_hub_and_go_direct(rt: HostRuntime) -> Result<(), LineFault> {
     let alloc = rt.alloc();
     let mut hub = Script::new();
     carry_out(alloc, &mut hub, HUB)?;
     let mut pair = Joined::make(alloc)?;
-    ask_for_all(&rt, alloc, &mut pair, &mut hub)?;
-    Ok(())
+    ask_for_all(&rt, alloc, &mut pair, &mut hub)
 }

@@ -10,7 +10,6 @@ use bsc_text::{OctetsFault, read_octets};
 use rows::SCENES;
 use std::alloc::Global;
 use std::process::Abort;
-use std::test::Fail;
 
 /// What comes to a node, with octets as digits.
 #[derive(Clone, Copy)]
@@ -105,7 +104,7 @@ fn play_scene(rt: &impl Abort, alloc: Global, scene: &Scene) -> Result<(), Octet
 }
 
 #[test]
-fn nodes_play_the_worked_scenes(rt: HostRuntime) -> Result<(), Fail> {
+fn nodes_play_the_worked_scenes(rt: HostRuntime) -> Result<(), OctetsFault> {
     for scene in SCENES.as_slice() {
         play_scene(&rt, rt.alloc(), scene)?;
     }
