@@ -1,6 +1,6 @@
 //! A plain hub of one thread, to be measured beside `bsc_desk`: std's maps and queues, nothing proved.
 //!
-//! It does what `bsc_desk_bench` does with the same members and messages, and writes the same lines. Built by
+//! It does what `bench_hub desk` does with the same members and messages, and writes the same lines. Built by
 //! `rustc -O bench/plain/desk.rs`; see `bench/measure-desk`.
 
 use std::collections::{HashMap, VecDeque};

@@ -1,7 +1,7 @@
 //! A plain hub behind one `Mutex`, to be measured beside `bsc_hub`: a `HashMap` of connections by VMAC and one by
 //! their numbers, a `VecDeque` an outbox, nothing proved.
 //!
-//! It does what `bsc_hub_bench` does with the same members and messages, and writes the same lines. The threads
+//! It does what `bench_hub hub` does with the same members and messages, and writes the same lines. The threads
 //! stand in a circle. Each sends unicasts to the next and takes those of the one before, and is at most eight
 //! frames ahead of what it took. Built by `rustc -O bench/plain/hub.rs`; see `bench/measure-hub`.
 

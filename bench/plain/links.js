@@ -1,6 +1,6 @@
 // Messages over loopback by node-ws, to be measured beside the links of bsc_ws: links.js URI N OCTETS
 //
-// It does what `bsc_ws_bench URI N OCTETS` does, and writes the same lines: it puts N messages of so many octets to a
+// It does what `bench_links loopback URI N OCTETS` does, and writes the same lines: it puts N messages of so many octets to a
 // server that puts them back, 16 at a time, and compares what comes back. The rate goes to standard error.
 'use strict';
 

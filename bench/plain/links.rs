@@ -1,7 +1,7 @@
 //! Plain framing (RFC 6455, section 5.2), to be measured beside the links of `bsc_ws`: heads and masks by hand, nothing
 //! proved. It has a hub's end alone, which receives masked frames and puts unmasked ones.
 //!
-//! It does what `bsc_ws_bench` does with the same messages over the same stream in memory, and writes the same lines. It
+//! It does what `bench_links memory` does with the same messages over the same stream in memory, and writes the same lines. It
 //! takes binary messages in one frame, refuses everything else, and has no handshake, no pings and no closing. Built by
 //! `rustc -O bench/plain/links.rs`; see `bench/measure-links`.
 
