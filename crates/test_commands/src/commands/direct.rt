@@ -78,20 +78,18 @@ fn a_direct_connection_outlives_the_hub(rt: HostRuntime) -> Result<(), Fail> {
     let hub_port = free_port(&rt)?;
     let port = free_port(&rt)?;
     let other_port = free_port(&rt)?;
-    let (hub, (node, other)) = thread::join(
+    let Ok(hub) = thread::spawn(&rt, move || -> bool {
+        ends_well(rt, alloc, &HUB, hub_port, port) == Ok(true)
+    }) else {
+        assert!(rt; false);
+        return Ok(());
+    };
+    let (node, other) = thread::join(
         &rt,
-        move || -> bool { ends_well(rt, alloc, &HUB, hub_port, port) == Ok(true) },
-        move || -> (bool, bool) {
-            thread::join(
-                &rt,
-                move || -> bool { ends_well(rt, alloc, &NODE, hub_port, port) == Ok(true) },
-                move || -> bool {
-                    ends_well(rt, alloc, &OTHER_NODE, hub_port, other_port) == Ok(true)
-                },
-            )
-        },
+        move || -> bool { ends_well(rt, alloc, &NODE, hub_port, port) == Ok(true) },
+        move || -> bool { ends_well(rt, alloc, &OTHER_NODE, hub_port, other_port) == Ok(true) },
     );
-    assert!(rt; hub);
+    assert!(rt; hub.join(&rt));
     assert!(rt; node);
     assert!(rt; other);
     Ok(())
