@@ -10,26 +10,37 @@ use std::sync::Wait;
 use std::test::Fail;
 use std::thread::Threads;
 
-/// What so many workers come to.
-fn whole(workers: u32) -> LoadEnd
-    requires { workers ≤ 512 }
-{
-    let all = u64::from(workers);
-    LoadEnd {
-        counts: Counts {
-            joined: 2 * all,
-            replaced: 0,
-            refused: 0,
-            unicasts: 1_000 * all,
-            broadcasts: 0,
-            appended: 1_000 * all,
-            dropped: 0,
-            full: 0,
-            missed: 0,
-        },
-        octets: 32_020 * all,
-    }
-}
+/// What a worker comes to.
+const ONE: LoadEnd = LoadEnd {
+    counts: Counts {
+        joined: 2,
+        replaced: 0,
+        refused: 0,
+        unicasts: 1_000,
+        broadcasts: 0,
+        appended: 1_000,
+        dropped: 0,
+        full: 0,
+        missed: 0,
+    },
+    octets: 32_020,
+};
+
+/// What four do.
+const FOUR: LoadEnd = LoadEnd {
+    counts: Counts {
+        joined: 8,
+        replaced: 0,
+        refused: 0,
+        unicasts: 4_000,
+        broadcasts: 0,
+        appended: 4_000,
+        dropped: 0,
+        full: 0,
+        missed: 0,
+    },
+    octets: 128_080,
+};
 
 /// A workload of so many workers at a new hub for so many rows and calls, which may have been stopped.
 fn loaded<R: Threads + Wait + Sync>(
@@ -54,13 +65,12 @@ fn loaded<R: Threads + Wait + Sync>(
 #[test]
 fn four_workers_and_one(rt: HostRuntime) -> Result<(), Fail> {
     let alloc = rt.alloc();
-    assert!(rt; loaded(&rt, alloc, 1_024, 1 << 20, false, 4) == Ok(whole(4)));
-    assert!(rt; whole(4).octets == 128_080);
+    assert!(rt; loaded(&rt, alloc, 1_024, 1 << 20, false, 4) == Ok(FOUR));
     let mut kept = Kept {
         hub: None,
         pass: None,
     };
-    assert!(rt; load(&rt, alloc, 1, &mut kept) == Ok(whole(1)));
+    assert!(rt; load(&rt, alloc, 1, &mut kept) == Ok(ONE));
     Ok(())
 }
 

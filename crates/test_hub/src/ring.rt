@@ -1,7 +1,6 @@
-//! A ring of two slots step by step, the two ends in two threads, and what callers can rely on.
-ghost use Rattle.std.specs.Prelude.{◌≡◌, ◌+◌, ◌<◌, ◌^◌, ◌++◌, [], ◌∷◌, length, true, IfOk, Some, None};
-ghost use Rattle.bsc_history.specs.declared.ending.End.{End};
-ghost use Rattle.bsc_ring.specs.Ends.{capacity_of, ending_of, given, inlet_mark, known_end, known_pushed, knows_all, outlet_mark, pushed};
+//! A ring of two slots step by step, and the two ends in two threads.
+ghost use Rattle.std.specs.Prelude.{◌≡◌, ◌<◌, ◌^◌, ◌++◌, [], ◌∷◌, length, true, IfOk, None};
+ghost use Rattle.bsc_ring.specs.Ends.{ending_of, given, inlet_mark, known_pushed, knows_all, outlet_mark, pushed};
 
 use bsc_history::End;
 use bsc_octets::{NoMemory, Octets};
@@ -142,73 +141,5 @@ fn across<R: Threads + Wait + Sync>(
 fn all_come_in_order(rt: HostRuntime) -> Result<(), Fail> {
     let (in_order, remains) = across(&rt, rt.alloc(), 10_000)?;
     assert!(rt; in_order && remains.taken == 10_000 && remains.left == 0);
-    Ok(())
-}
-
-/// After the two ends met, a take gives a frame where one is left.
-fn next_after_meet(inlet: &mut Inlet, outlet: &mut Outlet) -> Octets
-    requires mark { inlet_mark inlet.old ≡ outlet_mark outlet.old }
-    requires more { length (given outlet.old) < length (pushed inlet.old) }
-{
-    inlet.meet(outlet);
-    match outlet.take() {
-        Take::Frame(frame) => frame,
-        Take::Empty | Take::Closed(_) => unreachable!(),
-    }
-}
-
-/// After the two ends met, a ring with room takes a frame. Where they meet again before a take, the load was
-/// the very number of items taken.
-fn push_between_meets(inlet: &mut Inlet, outlet: &mut Outlet, frame: Octets) -> u64
-    requires mark { inlet_mark inlet.old ≡ outlet_mark outlet.old }
-    requires open { (ending_of inlet.old ≡ None) × (length (pushed inlet.old) < 2 ^ 63) }
-    requires room { length (pushed inlet.old) < length (given outlet.old) + capacity_of inlet.old }
-    ensures exact { result ≡ length (given outlet.old) }
-    ensures adds { pushed inlet.new ≡ pushed inlet.old ++ frame ∷ [] }
-    ensures none { given outlet.new ≡ given outlet.old }
-    ensures mark { inlet_mark inlet.new ≡ outlet_mark outlet.new }
-{
-    inlet.meet(outlet);
-    match inlet.push(frame) {
-        Ok(head) => {
-            inlet.meet(outlet);
-            head
-        }
-        Err(_) => unreachable!(),
-    }
-}
-
-/// After the two ends met, a finished ring whose items are taken is closed.
-fn closed_after_meet(inlet: &mut Inlet, outlet: &mut Outlet) -> End
-    requires mark { inlet_mark inlet.old ≡ outlet_mark outlet.old }
-    requires none { given outlet.old ≡ pushed inlet.old }
-    requires finished { (e : End) × (ending_of inlet.old ≡ Some e) }
-    ensures { ending_of inlet.old ≡ Some result }
-{
-    inlet.meet(outlet);
-    match outlet.take() {
-        Take::Closed(end) => end,
-        Take::Empty | Take::Frame(_) => unreachable!(),
-    }
-}
-
-/// Once closed, it is closed again with the same End.
-fn closed_again(outlet: &mut Outlet) -> End
-    requires { (knows_all outlet.old ≡ true) × (given outlet.old ≡ known_pushed outlet.old) }
-    ensures { (e : End) → known_end outlet.old ≡ Some e → result ≡ e }
-{
-    match outlet.take() {
-        Take::Closed(end) => end,
-        Take::Frame(_) | Take::Empty => unreachable!(),
-    }
-}
-
-#[test]
-fn after_meeting(rt: HostRuntime) -> Result<(), Fail> {
-    let (mut inlet, mut outlet) = make(rt.alloc(), 2)?;
-    let head = push_between_meets(&mut inlet, &mut outlet, frame(rt.alloc(), 7)?);
-    assert!(rt; head == 0);
-    let octets = next_after_meet(&mut inlet, &mut outlet);
-    assert!(rt; says(&octets, 7));
     Ok(())
 }

@@ -8,7 +8,6 @@ use crate::crossing::{is_sent, is_shared};
 use bsc_history::{About, Limits, Makes, Stands};
 use bsc_octets::read_identity;
 use bsc_turn::{Guard, NumbersSpent, Pass, Turn, two_callers};
-use std::alloc::Global;
 use std::marker::Brand;
 use std::sync::Wait;
 use std::test::Fail;

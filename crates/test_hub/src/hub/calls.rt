@@ -3,13 +3,27 @@ ghost use Rattle.bsc_hub.specs.Passing.{IsCaller, IsOwnAs};
 ghost use Rattle.bsc_hub.specs.Testing.{vmac_at};
 
 use super::{address, enter, new_hub, who};
-use bsc_desk::{AllReply, OneReply, prepare};
-use bsc_history::{End, Look, Refusal};
+use bsc_desk::{AllRefusal, AllReply, OneReply, prepare};
+use bsc_history::{End, Look, Refusal, Told};
 use bsc_hub::{ConnectRefusal, Hub, NumbersSpent, Pass, unicast_is_there};
 use bsc_ring::{Outlet, Take};
 use std::alloc::Global;
 use std::sync::Wait;
 use std::test::Fail;
+
+/// To how many a broadcast was sent.
+fn reached(told: Result<Told<AllReply>, AllRefusal>) -> Option<usize> {
+    match told {
+        Ok(
+            Told {
+                said: AllReply::Sent { to, .. },
+                ..
+            },
+        ) => Some(to.len()),
+        Ok(_) => None,
+        Err(_) => None,
+    }
+}
 
 /// Broadcasts, and says to how many.
 fn tell_all<R: Wait>(
@@ -27,13 +41,8 @@ fn tell_all<R: Wait>(
     let Ok(frame) = prepare(alloc, &message, address(from)) else {
         return None;
     };
-    match hub.forward_all(rt, alloc, pass, conn, &frame) {
-        Ok(told) => match told.said {
-            AllReply::Sent { to, .. } => Some(to.len()),
-            AllReply::NotCurrent { .. } | AllReply::Stopped => None,
-        },
-        Err(_) => None,
-    }
+    let told = hub.forward_all(rt, alloc, pass, conn, &frame);
+    reached(told)
 }
 
 /// Broadcasts, and then sends a unicast to `to`. Another caller takes the pass in.

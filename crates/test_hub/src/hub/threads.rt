@@ -52,17 +52,21 @@ struct Done {
 
 /// A frame that came. One that is no unicast of a sender is noted as of none.
 fn came(conn: u64, at: u64, frame: &Octets) -> Note {
-    let (from, id) = match frame.as_slice() {
-        [1, 8, high, low, 2, 0, 0, 0, 0, from] => (*from, u16::from_be_bytes([*high, *low])),
-        _ => (0, 0),
-    };
-    Note {
+    let octets = frame.as_slice();
+    let mut note = Note {
         what: What::Came,
         conn,
         at,
-        from,
-        id,
+        from: 0,
+        id: 0,
+    };
+    if let [_function, _flags, high, low, .., from] = octets {
+        if octets == [1, 8, *high, *low, 2, 0, 0, 0, 0, *from].as_slice() {
+            note.from = *from;
+            note.id = u16::from_be_bytes([*high, *low]);
+        }
     }
+    note
 }
 
 /// A unicast, if it was told as appended.
@@ -134,8 +138,8 @@ fn receive<R: Wait>(rt: &R, alloc: Global, hub: &Hub, pass: Pass) -> Done
     unreachable!()
 }
 
-/// Sends unicast `id`.
-fn send<R: Wait>(
+/// Sends unicast `id`, once.
+fn send_once<R: Wait>(
     rt: &R,
     alloc: Global,
     hub: &Hub,
@@ -173,7 +177,7 @@ fn insist<R: Wait>(
     let mut calls = 0u64;
     for _ in rt.forever() {
         calls = calls.saturating_add(1);
-        if let Some(note) = send(rt, alloc, hub, pass, conn, from, id) {
+        if let Some(note) = send_once(rt, alloc, hub, pass, conn, from, id) {
             let _memory = notes.push(note);
             return calls;
         }
@@ -182,20 +186,56 @@ fn insist<R: Wait>(
     unreachable!()
 }
 
-/// Joins, and sends all its unicasts.
-fn send_all<R: Wait>(rt: &R, alloc: Global, hub: &Hub, pass: Pass, from: u8) -> Done
+/// Sends all unicasts of a connection, and answers how many calls that took.
+fn send_all<R: Wait>(
+    rt: &R,
+    alloc: Global,
+    hub: &Hub,
+    pass: &mut Pass,
+    conn: u64,
+    from: u8,
+    notes: &mut Vec<Note>,
+) -> u64
+    requires { IsCaller hub.now pass.old × IsOwnAs pass.old conn (vmac_at from) }
+    ensures { IsCaller hub.now pass.new }
+{
+    let mut calls = 0u64;
+    for id in 0..EACH {
+        let more = insist(rt, alloc, hub, pass, conn, from, id, notes);
+        calls = calls.saturating_add(more);
+    }
+    calls
+}
+
+/// Joins, and sends.
+fn join_and_send<R: Wait>(
+    rt: &R,
+    alloc: Global,
+    hub: &Hub,
+    pass: &mut Pass,
+    from: u8,
+    notes: &mut Vec<Note>,
+) -> u64
+    requires { IsCaller hub.now pass.old }
+    ensures { IsCaller hub.now pass.new }
+{
+    match enter(rt, alloc, hub, pass, from) {
+        Some((conn, _outlet)) => {
+            let calls = send_all(rt, alloc, hub, pass, conn, from, notes);
+            calls.saturating_add(1)
+        }
+        None => 1,
+    }
+}
+
+/// What a thread comes to that sends.
+fn send<R: Wait>(rt: &R, alloc: Global, hub: &Hub, pass: Pass, from: u8) -> Done
     requires { IsCaller hub.now pass }
     ensures { IsCaller hub.now result.pass }
 {
     let mut pass = pass;
-    let mut calls = 1u64;
     let mut notes = Vec::new(alloc);
-    if let Some((conn, _outlet)) = enter(rt, alloc, hub, &mut pass, from) {
-        for id in 0..EACH {
-            let more = insist(rt, alloc, hub, &mut pass, conn, from, id, &mut notes);
-            calls = calls.saturating_add(more);
-        }
-    }
+    let calls = join_and_send(rt, alloc, hub, &mut pass, from, &mut notes);
     Done { pass, calls, notes }
 }
 
@@ -207,7 +247,7 @@ fn run<R: Wait>(rt: &R, alloc: Global, hub: &Hub, pass: Pass, last: u8) -> Done
     if last == RECEIVERS {
         receive(rt, alloc, hub, pass)
     } else {
-        send_all(rt, alloc, hub, pass, last)
+        send(rt, alloc, hub, pass, last)
     }
 }
 

@@ -1,7 +1,7 @@
 use Rattle.bsc_hub.specs.Testing.{vmac_at}
 use Rattle.bsc_hub.proofs.Owning.{owned_kept}
 use Rattle.bsc_hub.proofs.Staying.{one_stays}
-use Rattle.test_hub.proofs.hub.threads.send.Goals as goal
+use Rattle.test_hub.proofs.hub.threads.send_once.Goals as goal
 
 pub returns : goal.returns
 returns g c =
