@@ -1,7 +1,7 @@
 //! Playing the runs, each compared with what is to come of it.
 use crate::outside::Outside;
 use crate::row::Row;
-use crate::rows::{ENDED, HUBS, PEERS, REFUSED, RENEWED, row_of};
+use crate::rows::{ENDED, HUBS, PEERS, REFUSED, RENEWED};
 use bsc_node_command::{NodeWords, run_node_files};
 use bsc_octets::NoMemory;
 use std::alloc::Global;
@@ -75,12 +75,5 @@ fn runs_that_end_early(rt: HostRuntime) -> Result<(), NoMemory> {
 
 #[test]
 fn commands_that_are_refused(rt: HostRuntime) -> Result<(), NoMemory> {
-    for refused in REFUSED.as_slice() {
-        assert!(rt;
-            comes_to(rt.alloc(), &row_of(refused))?,
-            "{}",
-            refused.shows
-        );
-    }
-    Ok(())
+    play_all(&rt, rt.alloc(), REFUSED.as_slice())
 }

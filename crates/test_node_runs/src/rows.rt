@@ -8,5 +8,5 @@ mod renewed;
 pub use ended::ENDED;
 pub use hubs::HUBS;
 pub use peers::PEERS;
-pub use refused::{REFUSED, row_of};
+pub use refused::REFUSED;
 pub use renewed::RENEWED;

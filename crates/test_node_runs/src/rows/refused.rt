@@ -2,31 +2,6 @@
 use super::hubs::{SETTINGS, SETTINGS_DIRECT};
 use crate::row::{ALONE, Failing, NOTHING, Row};
 
-/// A command that is refused.
-#[derive(Clone, Copy)]
-pub struct Refused {
-    /// What is shown by it.
-    pub shows: &'static str,
-    pub settings: &'static str,
-    pub script: &'static str,
-    pub failing: Failing,
-    pub status: u8,
-    pub written: &'static str,
-}
-
-/// The run of a command that is refused: nobody is dialled, and no port is bound.
-pub fn row_of(refused: &Refused) -> Row {
-    Row {
-        shows: refused.shows,
-        settings: refused.settings,
-        script: refused.script,
-        failing: refused.failing,
-        status: refused.status,
-        written: refused.written,
-        ..ALONE
-    }
-}
-
 /// The settings of B, with a hub that has more rows than one may have.
 const HUB_ROWS: &str = concat!(
     "[hub]\n",
@@ -79,117 +54,114 @@ const FIRST_ACCEPT: Failing = Failing {
     ..NOTHING
 };
 
-pub const REFUSED: [Refused; 14] = [
-    Refused {
+pub const REFUSED: [Row; 14] = [
+    Row {
         shows: "a line that is no line of a script",
         settings: SETTINGS_DIRECT,
         script: "at 20\nfinis\n",
-        failing: NOTHING,
         status: 2,
         written: "fault script line 2\n",
+        ..ALONE
     },
-    Refused {
+    Row {
         shows: "a time before the one before",
         settings: SETTINGS,
         script: "# times\nat 20\n\nat 19\nfinish\n",
-        failing: NOTHING,
         status: 2,
         written: "fault script line 4\n",
+        ..ALONE
     },
-    Refused {
+    Row {
         shows: "a script without a last line",
         settings: SETTINGS,
         script: "resolve 02000000000A\n",
-        failing: NOTHING,
         status: 2,
         written: "fault script line 2\n",
+        ..ALONE
     },
-    Refused {
+    Row {
         shows: "a document that is no TOML",
         settings: "[node\n",
-        script: "finish\n",
-        failing: NOTHING,
         status: 5,
         written: "fault settings -\n",
+        ..ALONE
     },
-    Refused {
+    Row {
         shows: "a document without the table of nodes",
         settings: "# nothing\n",
-        script: "finish\n",
-        failing: NOTHING,
         status: 5,
         written: "fault settings node\n",
+        ..ALONE
     },
-    Refused {
+    Row {
         shows: "a key that is required",
         settings: "[node]\nvmac = \"02000000000B\"\n",
-        script: "finish\n",
-        failing: NOTHING,
         status: 5,
         written: "fault settings node.uuid\n",
+        ..ALONE
     },
-    Refused {
+    Row {
         shows: "too many rows of a hub",
         settings: HUB_ROWS,
-        script: "finish\n",
-        failing: NOTHING,
         status: 5,
         written: "fault settings hub.rows\n",
+        ..ALONE
     },
-    Refused {
+    Row {
         shows: "limits of a hub that are too great together",
         settings: HUB_PRODUCT,
-        script: "finish\n",
-        failing: NOTHING,
         status: 5,
         written: "fault settings hub.product\n",
+        ..ALONE
     },
-    Refused {
+    Row {
         shows: "a fault of the settings comes before one of the script",
         settings: HUB_ROWS,
         script: "finis\n",
-        failing: NOTHING,
         status: 5,
         written: "fault settings hub.rows\n",
+        ..ALONE
     },
-    Refused {
+    Row {
         shows: "settings that can't be read",
         settings: SETTINGS,
-        script: "finish\n",
         failing: FIRST_LOAD,
         status: 3,
         written: "fault read\n",
+        ..ALONE
     },
-    Refused {
+    Row {
         shows: "a script that can't be read",
         settings: SETTINGS,
-        script: "finish\n",
         failing: SECOND_LOAD,
         status: 3,
         written: "fault read\n",
+        ..ALONE
     },
-    Refused {
+    Row {
         shows: "a port that is taken",
         settings: SETTINGS_DIRECT,
-        script: "finish\n",
         failing: FIRST_ACCEPT,
         status: 6,
         written: "fault link\n",
+        ..ALONE
     },
-    Refused {
+    Row {
         shows: "a bad script comes before a port that is taken",
         settings: SETTINGS_DIRECT,
         script: "\n",
         failing: FIRST_ACCEPT,
         status: 2,
         written: "fault script line 2\n",
+        ..ALONE
     },
-    Refused {
+    Row {
         shows: "a last line that can't be written",
         settings: SETTINGS,
         script: "finis\n",
         failing: FIRST_WRITE,
         status: 4,
         written: "",
+        ..ALONE
     },
 ];
