@@ -5,7 +5,7 @@ use Rattle.bsc_replay.specs.Checks.{check_of}
 use Rattle.bsc_words.specs.declared.asked.Asked.{Asked}
 use Rattle.bsc_words.specs.declared.fault.WordsFault.{WordsFault}
 use Rattle.bsc_words.specs.declared.fault.WordsFault.TheVariants.{Refused}
-use Rattle.bsc_words.specs.Words.{AskedOf, asked_by, check, node, replay, seen}
+use Rattle.bsc_words.specs.Words.{AskedOf, asked_by, check, hub, node, replay, seen}
 use Rattle.bsc_commands.proofs.Reading.{ran_out, unread, workers_fit}
 use Rattle.bsc_commands.proofs.running.run.Goals as goal
 
@@ -20,6 +20,12 @@ pub run_asked-requires-clause-workers : goal.run_asked-requires-clause-workers
 run_asked-requires-clause-workers g c κs within n named =
     let words = map string_bytes c.args.words.now in
     workers_fit words (seen c.in-Ok.asked) n (said (asked_by words) c.read_words.result c.in-Ok.asked c.in-Ok.is c.read_words.ensures.ok) named
+
+pub returns-in-Ok-clause-hub : goal.returns-in-Ok-clause-hub
+returns-in-Ok-clause-hub g c path sessions made named kept =
+    let read = asked_by (map string_bytes c.args.words.now) in
+    let asked = said read c.read_words.result c.in-Ok.asked c.in-Ok.is c.read_words.ensures.ok in
+    c.run_asked.ensures.hub path sessions made (asks_same read (seen c.in-Ok.asked) (hub path sessions) asked named) kept
 
 pub returns-in-Ok-clause-node : goal.returns-in-Ok-clause-node
 returns-in-Ok-clause-node g c path script named =

@@ -2,7 +2,7 @@ use Rattle.std.proofs.Common.{◌≡◌, ℕ, List, Option, Ok, map, ap, sym, �
 use Rattle.clap.specs.Words.{Text}
 use Rattle.bsc_settings.specs.declared.hub.HubSettings.{HubSettings}
 use Rattle.bsc_hub_command.specs.Served.{HubWorld, Runs}
-use Rattle.bsc_hub_command.specs.Settled.{IsSettled}
+use Rattle.bsc_hub_command.specs.Settled.{IsSettled, Unsettled}
 use Rattle.bsc_node_run.specs.declared.due.Due.{Due}
 use Rattle.bsc_node_run.specs.Scripts.{script_of, wish_of}
 use Rattle.bsc_node_runs.specs.Courses.{FinishCame}
@@ -23,6 +23,14 @@ returns-in-Hub-clause-hub g c path sessions made named kept =
     of_hub (λ (p : Text) (n : Option ℕ). (v : HubSettings) × IsSettled (g.F.Files.holds c.args.files.now p) v
     × Runs v n c.run_hub.new.kept before after c.run_hub.result)
     c.in-Hub.path.now path c.in-Hub.sessions sessions (sym (ap seen c.in-Hub.is) ∙ named) (c.run_hub.ensures.runs made kept)
+
+pub returns-in-Hub-clause-no_hub : goal.returns-in-Hub-clause-no_hub
+returns-in-Hub-clause-no_hub g c path sessions named none =
+    let F = g.F.Files in
+    let K = g.K.Sink in
+    of_hub (λ (p : Text) (n : Option ℕ). Unsettled (F.holds c.args.files.now p) (F.faults c.args.files.now) (F.faults c.run_hub.new.files)
+    c.run_hub.result (K.held c.args.sink.now) (K.held c.run_hub.new.sink))
+    c.in-Hub.path.now path c.in-Hub.sessions sessions (sym (ap seen c.in-Hub.is) ∙ named) (c.run_hub.ensures.unmade none)
 
 pub returns-in-Node-clause-node : goal.returns-in-Node-clause-node
 returns-in-Node-clause-node g c path script named =
