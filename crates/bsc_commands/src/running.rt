@@ -80,20 +80,52 @@ fn run_asked<
     ensures hub { (path : Text) (sessions : Option ℕ) (made : _) → seen asked.entry ≡ hub path sessions → kept.new.hub ≡ Some made →
         (v : HubSettings) × IsSettled (F.holds files.old path) v
         × Runs v sessions kept.new
-        (record { links = A.left acceptor.old; port = A.bound acceptor.old; faults = A.faults acceptor.old; jobs = P.jobs spawner.old;
-            since = P.since spawner.old; unstarted = P.faults spawner.old; written = K.held sink.old })
-        (record { links = A.left acceptor.new; port = A.bound acceptor.new; faults = A.faults acceptor.new; jobs = P.jobs spawner.new;
-            since = P.since spawner.new; unstarted = P.faults spawner.new; written = K.held sink.new }) result }
+        (record {
+          links = A.left acceptor.old;
+          port = A.bound acceptor.old;
+          faults = A.faults acceptor.old;
+          jobs = P.jobs spawner.old;
+          since = P.since spawner.old;
+          unstarted = P.faults spawner.old;
+          written = K.held sink.old;
+        })
+        (record {
+          links = A.left acceptor.new;
+          port = A.bound acceptor.new;
+          faults = A.faults acceptor.new;
+          jobs = P.jobs spawner.new;
+          since = P.since spawner.new;
+          unstarted = P.faults spawner.new;
+          written = K.held sink.new;
+        }) result }
     ensures no_hub { (path : Text) (sessions : Option ℕ) → seen asked.entry ≡ hub path sessions → kept.new.hub ≡ None →
         Unsettled (F.holds files.old path) (F.faults files.old) (F.faults files.new) result (K.held sink.old) (K.held sink.new) }
     ensures no_hub_untouched { (path : Text) (sessions : Option ℕ) → seen asked.entry ≡ hub path sessions → kept.new.hub ≡ None →
         (kept.new ≡ kept.old) × (clock.new ≡ clock.old) × (acceptor.new ≡ acceptor.old) × (spawner.new ≡ spawner.old) }
     ensures node { (path script : Text) → seen asked.entry ≡ node path script →
         RunsFiles L.talk (F.holds files.old path) (F.holds files.old script)
-        (record { unread = F.faults files.old; beside = record { dialled = D.calls dialer.old; links = A.left acceptor.old; port = A.bound acceptor.old;
-            faults = A.faults acceptor.old; readings = C.readings clock.old; written = K.held sink.old } })
-        (record { unread = F.faults files.new; beside = record { dialled = D.calls dialer.new; links = A.left acceptor.new; port = A.bound acceptor.new;
-            faults = A.faults acceptor.new; readings = C.readings clock.new; written = K.held sink.new } }) result }
+        (record {
+          unread = F.faults files.old;
+          beside = record {
+            dialled = D.calls dialer.old;
+            links = A.left acceptor.old;
+            port = A.bound acceptor.old;
+            faults = A.faults acceptor.old;
+            readings = C.readings clock.old;
+            written = K.held sink.old;
+          };
+        })
+        (record {
+          unread = F.faults files.new;
+          beside = record {
+            dialled = D.calls dialer.new;
+            links = A.left acceptor.new;
+            port = A.bound acceptor.new;
+            faults = A.faults acceptor.new;
+            readings = C.readings clock.new;
+            written = K.held sink.new;
+          };
+        }) result }
     ensures finished { (path script : Text) → seen asked.entry ≡ node path script → result ≡ 0 → (o : List ℕ) × F.holds files.old script o
         × (lines : List Due) × (script_of o ≡ Ok (map wish_of lines)) × FinishCame lines (C.readings clock.old) (C.readings clock.new) }
     ensures load { (n : ℕ) (made : _) → seen asked.entry ≡ load n → kept.new.hub ≡ Some made →
@@ -109,10 +141,26 @@ fn run_asked<
     ensures source { (seen asked.entry ≡ replay) ⊎ (seen asked.entry ≡ check) → result ≡ 3 →
         HasRisen (S.faults source.old) (S.faults source.new) }
     ensures untouched { TouchesOnly (Some (seen asked.entry))
-        (record { source = source.old; files = files.old; clock = clock.old; random = random.old; acceptor = acceptor.old;
-            dialer = dialer.old; spawner = spawner.old; kept = kept.old })
-        (record { source = source.new; files = files.new; clock = clock.new; random = random.new; acceptor = acceptor.new;
-            dialer = dialer.new; spawner = spawner.new; kept = kept.new }) }
+        (record {
+          source = source.old;
+          files = files.old;
+          clock = clock.old;
+          random = random.old;
+          acceptor = acceptor.old;
+          dialer = dialer.old;
+          spawner = spawner.old;
+          kept = kept.old;
+        })
+        (record {
+          source = source.new;
+          files = files.new;
+          clock = clock.new;
+          random = random.new;
+          acceptor = acceptor.new;
+          dialer = dialer.new;
+          spawner = spawner.new;
+          kept = kept.new;
+        }) }
     ensures statuses { EndsBy (Some (seen asked.entry)) result }
     ensures read { result ≡ 3 → HasRisen (S.faults source.old) (S.faults source.new) ⊎ HasRisen (F.faults files.old) (F.faults files.new) }
     ensures write { result ≡ 4 → HasRisen (K.faults sink.old) (K.faults sink.new) }
@@ -193,10 +241,24 @@ pub fn run<
     ensures hub { (path : Text) (sessions : Option ℕ) (made : _) → asked_by (map string_bytes words.now) ≡ Some (hub path sessions) →
         kept.new.hub ≡ Some made → (v : HubSettings) × IsSettled (F.holds files.old path) v
         × Runs v sessions kept.new
-        (record { links = A.left acceptor.old; port = A.bound acceptor.old; faults = A.faults acceptor.old; jobs = P.jobs spawner.old;
-            since = P.since spawner.old; unstarted = P.faults spawner.old; written = K.held sink.old })
-        (record { links = A.left acceptor.new; port = A.bound acceptor.new; faults = A.faults acceptor.new; jobs = P.jobs spawner.new;
-            since = P.since spawner.new; unstarted = P.faults spawner.new; written = K.held sink.new }) result }
+        (record {
+          links = A.left acceptor.old;
+          port = A.bound acceptor.old;
+          faults = A.faults acceptor.old;
+          jobs = P.jobs spawner.old;
+          since = P.since spawner.old;
+          unstarted = P.faults spawner.old;
+          written = K.held sink.old;
+        })
+        (record {
+          links = A.left acceptor.new;
+          port = A.bound acceptor.new;
+          faults = A.faults acceptor.new;
+          jobs = P.jobs spawner.new;
+          since = P.since spawner.new;
+          unstarted = P.faults spawner.new;
+          written = K.held sink.new;
+        }) result }
     ensures no_hub { (path : Text) (sessions : Option ℕ) → asked_by (map string_bytes words.now) ≡ Some (hub path sessions) → kept.new.hub ≡ None →
         Unsettled (F.holds files.old path) (F.faults files.old) (F.faults files.new) result (K.held sink.old) (K.held sink.new) }
     ensures no_hub_untouched { (path : Text) (sessions : Option ℕ) → asked_by (map string_bytes words.now) ≡ Some (hub path sessions) →
@@ -206,10 +268,28 @@ pub fn run<
     // Of the words of a node: what became of it, by its settings and its script as they were in their files.
     ensures node { (path script : Text) → asked_by (map string_bytes words.now) ≡ Some (node path script) →
         RunsFiles L.talk (F.holds files.old path) (F.holds files.old script)
-        (record { unread = F.faults files.old; beside = record { dialled = D.calls dialer.old; links = A.left acceptor.old; port = A.bound acceptor.old;
-            faults = A.faults acceptor.old; readings = C.readings clock.old; written = K.held sink.old } })
-        (record { unread = F.faults files.new; beside = record { dialled = D.calls dialer.new; links = A.left acceptor.new; port = A.bound acceptor.new;
-            faults = A.faults acceptor.new; readings = C.readings clock.new; written = K.held sink.new } }) result }
+        (record {
+          unread = F.faults files.old;
+          beside = record {
+            dialled = D.calls dialer.old;
+            links = A.left acceptor.old;
+            port = A.bound acceptor.old;
+            faults = A.faults acceptor.old;
+            readings = C.readings clock.old;
+            written = K.held sink.old;
+          };
+        })
+        (record {
+          unread = F.faults files.new;
+          beside = record {
+            dialled = D.calls dialer.new;
+            links = A.left acceptor.new;
+            port = A.bound acceptor.new;
+            faults = A.faults acceptor.new;
+            readings = C.readings clock.new;
+            written = K.held sink.new;
+          };
+        }) result }
 
     // Status 0 comes of the words of a node only once the time of its script's `finish` has passed, from the first reading of
     // the clock to the last.
@@ -238,10 +318,26 @@ pub fn run<
     // What the command that is asked for doesn't use is as it was: all, where none is. Only its own statuses come of it; status 1
     // of words that ask for nothing alone.
     ensures untouched { TouchesOnly (asked_by (map string_bytes words.now))
-        (record { source = source.old; files = files.old; clock = clock.old; random = random.old; acceptor = acceptor.old;
-            dialer = dialer.old; spawner = spawner.old; kept = kept.old })
-        (record { source = source.new; files = files.new; clock = clock.new; random = random.new; acceptor = acceptor.new;
-            dialer = dialer.new; spawner = spawner.new; kept = kept.new }) }
+        (record {
+          source = source.old;
+          files = files.old;
+          clock = clock.old;
+          random = random.old;
+          acceptor = acceptor.old;
+          dialer = dialer.old;
+          spawner = spawner.old;
+          kept = kept.old;
+        })
+        (record {
+          source = source.new;
+          files = files.new;
+          clock = clock.new;
+          random = random.new;
+          acceptor = acceptor.new;
+          dialer = dialer.new;
+          spawner = spawner.new;
+          kept = kept.new;
+        }) }
     ensures statuses { EndsBy (asked_by (map string_bytes words.now)) result }
 
     // Faults of the source, the files, the sink and the acceptor are counted. Where an input is played, status 3 is the source's.

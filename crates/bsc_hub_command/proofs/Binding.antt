@@ -29,7 +29,7 @@ module _ {L C : Type 0} where
   bound_so v sessions k before after links told s end terms port asked same bound stays left serving says =
       let first : ServeWorld L C = record (with_pass k.first before) { links = links } in
       let b : Serving k.hub (terms_of v sessions) first (with_pass k.last after) end =
-          subst (λ (t : ServeTerms). Serving k.hub t first (with_pass k.last after) end) asked serving in
+      subst (λ (t : ServeTerms). Serving k.hub t first (with_pass k.last after) end) asked serving in
       record {
         end = end;
         bound = tells_still told after.port (Some v.port) (subst (λ (n : ℕ). Tells told (Some n)) same bound) stays;

@@ -89,10 +89,24 @@ pub fn run_hub<
     // Once a hub is made, its settings are those of the file, and this is what became of it.
     ensures runs { (hub : _) → kept.new.hub ≡ Some hub → (v : HubSettingsType) × IsSettled (F.holds files.old words.entry.path.now) v
         × Runs v words.entry.sessions kept.new
-        (record { links = A.left acceptor.old; port = A.bound acceptor.old; faults = A.faults acceptor.old; jobs = P.jobs spawner.old;
-            since = P.since spawner.old; unstarted = P.faults spawner.old; written = K.held sink.old })
-        (record { links = A.left acceptor.new; port = A.bound acceptor.new; faults = A.faults acceptor.new; jobs = P.jobs spawner.new;
-            since = P.since spawner.new; unstarted = P.faults spawner.new; written = K.held sink.new }) result }
+        (record {
+          links = A.left acceptor.old;
+          port = A.bound acceptor.old;
+          faults = A.faults acceptor.old;
+          jobs = P.jobs spawner.old;
+          since = P.since spawner.old;
+          unstarted = P.faults spawner.old;
+          written = K.held sink.old;
+        })
+        (record {
+          links = A.left acceptor.new;
+          port = A.bound acceptor.new;
+          faults = A.faults acceptor.new;
+          jobs = P.jobs spawner.new;
+          since = P.since spawner.new;
+          unstarted = P.faults spawner.new;
+          written = K.held sink.new;
+        }) result }
 
     // Where none is made, the file wasn't read, its settings were refused, or memory ran out; and nothing was touched but the
     // files and the sink.

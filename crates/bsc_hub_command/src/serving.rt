@@ -100,15 +100,43 @@ fn serve_hub<
     requires can { P.can_start spawner.old }
     requires pass { IsCaller (arc_value hub.now) pass.old }
     ensures went { NotBound (record { hub = arc_value hub.now; first = pass.old; last = pass.new })
-        (record { links = A.left acceptor.old; port = A.bound acceptor.old; faults = A.faults acceptor.old; jobs = P.jobs spawner.old;
-            since = P.since spawner.old; unstarted = P.faults spawner.old; written = K.held sink.old })
-        (record { links = A.left acceptor.new; port = A.bound acceptor.new; faults = A.faults acceptor.new; jobs = P.jobs spawner.new;
-            since = P.since spawner.new; unstarted = P.faults spawner.new; written = K.held sink.new }) result
+        (record {
+          links = A.left acceptor.old;
+          port = A.bound acceptor.old;
+          faults = A.faults acceptor.old;
+          jobs = P.jobs spawner.old;
+          since = P.since spawner.old;
+          unstarted = P.faults spawner.old;
+          written = K.held sink.old;
+        })
+        (record {
+          links = A.left acceptor.new;
+          port = A.bound acceptor.new;
+          faults = A.faults acceptor.new;
+          jobs = P.jobs spawner.new;
+          since = P.since spawner.new;
+          unstarted = P.faults spawner.new;
+          written = K.held sink.new;
+        }) result
         ⊎ Bound (record { hub = arc_value hub.now; first = pass.old; last = pass.new }) settings.now sessions
-        (record { links = A.left acceptor.old; port = A.bound acceptor.old; faults = A.faults acceptor.old; jobs = P.jobs spawner.old;
-            since = P.since spawner.old; unstarted = P.faults spawner.old; written = K.held sink.old })
-        (record { links = A.left acceptor.new; port = A.bound acceptor.new; faults = A.faults acceptor.new; jobs = P.jobs spawner.new;
-            since = P.since spawner.new; unstarted = P.faults spawner.new; written = K.held sink.new }) result }
+        (record {
+          links = A.left acceptor.old;
+          port = A.bound acceptor.old;
+          faults = A.faults acceptor.old;
+          jobs = P.jobs spawner.old;
+          since = P.since spawner.old;
+          unstarted = P.faults spawner.old;
+          written = K.held sink.old;
+        })
+        (record {
+          links = A.left acceptor.new;
+          port = A.bound acceptor.new;
+          faults = A.faults acceptor.new;
+          jobs = P.jobs spawner.new;
+          since = P.since spawner.new;
+          unstarted = P.faults spawner.new;
+          written = K.held sink.new;
+        }) result }
     ensures write { result ≡ 4 → HasRisen (K.faults sink.old) (K.faults sink.new) }
     ensures link { result ≡ 6 → HasRisen (A.faults acceptor.old) (A.faults acceptor.new) }
     ensures not_read { (result ≡ 0) ⊎ (result ≡ 4) ⊎ (result ≡ 6) ⊎ (result ≡ 7) }
@@ -151,10 +179,24 @@ pub fn serve<
     // Once a hub is made, it and its pass are kept, and this is what became of it.
     ensures runs { (hub : _) → kept.new.hub ≡ Some hub →
         Runs settings.now sessions kept.new
-        (record { links = A.left acceptor.old; port = A.bound acceptor.old; faults = A.faults acceptor.old; jobs = P.jobs spawner.old;
-            since = P.since spawner.old; unstarted = P.faults spawner.old; written = K.held sink.old })
-        (record { links = A.left acceptor.new; port = A.bound acceptor.new; faults = A.faults acceptor.new; jobs = P.jobs spawner.new;
-            since = P.since spawner.new; unstarted = P.faults spawner.new; written = K.held sink.new }) result }
+        (record {
+          links = A.left acceptor.old;
+          port = A.bound acceptor.old;
+          faults = A.faults acceptor.old;
+          jobs = P.jobs spawner.old;
+          since = P.since spawner.old;
+          unstarted = P.faults spawner.old;
+          written = K.held sink.old;
+        })
+        (record {
+          links = A.left acceptor.new;
+          port = A.bound acceptor.new;
+          faults = A.faults acceptor.new;
+          jobs = P.jobs spawner.new;
+          since = P.since spawner.new;
+          unstarted = P.faults spawner.new;
+          written = K.held sink.new;
+        }) result }
 
     // Where none is made there was no memory, and nothing was touched but the sink.
     ensures unmade { kept.new.hub ≡ None → RanOut result (K.held sink.old) (K.held sink.new) }

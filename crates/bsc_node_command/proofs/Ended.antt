@@ -55,8 +55,12 @@ module _ {L : Type 0} (talk : L → Option (List Said)) where
   pub finished_so : (v : NodeSettings) (script : List ℕ) (before after : NodeWorld L) (s : ℕ)
       → Comes talk v script before after s → s ≡ 0 → (lines : List Due) × (script_of script ≡ Ok (map wish_of lines)) × FinishCame lines before.readings after.readings
   finished_so v script before after s (inl k) is = absurd (none_fails v script before after s k.3 is)
-  finished_so v script before after s (inr r) is = (r.lines, r.reads, over_of v script r.lines r.last r.end before.dialled after.dialled r.left after.links before.readings after.readings s
-    before.written r.written after.written r.reads r.run r.says is)
+  finished_so v script before after s (inr r) is = (
+    r.lines,
+    r.reads,
+    over_of v script r.lines r.last r.end before.dialled after.dialled r.left after.links before.readings after.readings s
+        before.written r.written after.written r.reads r.run r.says is,
+  )
 
   script_finished : (v : NodeSettings) (holds : List ℕ → Type 0) (before after : CommandWorld L) (s : ℕ)
       → RunsScript talk v holds before after s → s ≡ 0 → (script : List ℕ) × holds script × (lines : List Due) × (script_of script ≡ Ok (map wish_of lines)) × FinishCame lines before.beside.readings after.beside.readings

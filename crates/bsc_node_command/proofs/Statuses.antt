@@ -64,4 +64,4 @@ module _ {L : Type 0} (talk : L → Option (List Said)) where
   pub spent_so : (v : NodeSettings) (script : List ℕ) (before after : NodeWorld L) (s : ℕ) → Comes talk v script before after s → s ≡ 8 → (times : List ℕ) × Grows before.readings after.readings times × (length times ≡ v.turns)
   spent_so v script before after s (inl k) is = absurd (none_spent v script before after s k.3 is)
   spent_so v script before after s (inr r) is = spent_turns v r.lines r.last r.end before.dialled after.dialled r.left after.links before.readings after.readings s before.written r.written
-    after.written r.run r.says is
+      after.written r.run r.says is

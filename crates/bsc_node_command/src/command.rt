@@ -100,10 +100,28 @@ fn run_script<K: Sink, F: Files, C: Clock, W: Words, L: Link + Drop, A: Acceptor
     dialer: &mut D,
 ) -> u8
     ensures runs { RunsScript L.talk settings.now (F.holds files.old path.now)
-        (record { unread = F.faults files.old; beside = record { dialled = D.calls dialer.old; links = A.left acceptor.old; port = A.bound acceptor.old;
-            faults = A.faults acceptor.old; readings = C.readings clock.old; written = K.held sink.old } })
-        (record { unread = F.faults files.new; beside = record { dialled = D.calls dialer.new; links = A.left acceptor.new; port = A.bound acceptor.new;
-            faults = A.faults acceptor.new; readings = C.readings clock.new; written = K.held sink.new } }) result }
+        (record {
+          unread = F.faults files.old;
+          beside = record {
+            dialled = D.calls dialer.old;
+            links = A.left acceptor.old;
+            port = A.bound acceptor.old;
+            faults = A.faults acceptor.old;
+            readings = C.readings clock.old;
+            written = K.held sink.old;
+          };
+        })
+        (record {
+          unread = F.faults files.new;
+          beside = record {
+            dialled = D.calls dialer.new;
+            links = A.left acceptor.new;
+            port = A.bound acceptor.new;
+            faults = A.faults acceptor.new;
+            readings = C.readings clock.new;
+            written = K.held sink.new;
+          };
+        }) result }
     ensures read { result ≡ 3 → HasRisen (F.faults files.old) (F.faults files.new) }
     ensures write { result ≡ 4 → HasRisen (K.faults sink.old) (K.faults sink.new) }
     ensures link { result ≡ 6 → HasRisen (A.faults acceptor.old) (A.faults acceptor.new) }
@@ -146,10 +164,28 @@ pub fn run_node_files<
 ) -> u8
     // The file of settings wasn't read or was refused; or a node of them was run by the script, where that was read.
     ensures runs { RunsFiles L.talk (F.holds files.old words.entry.path.now) (F.holds files.old words.entry.script.now)
-        (record { unread = F.faults files.old; beside = record { dialled = D.calls dialer.old; links = A.left acceptor.old; port = A.bound acceptor.old;
-            faults = A.faults acceptor.old; readings = C.readings clock.old; written = K.held sink.old } })
-        (record { unread = F.faults files.new; beside = record { dialled = D.calls dialer.new; links = A.left acceptor.new; port = A.bound acceptor.new;
-            faults = A.faults acceptor.new; readings = C.readings clock.new; written = K.held sink.new } }) result }
+        (record {
+          unread = F.faults files.old;
+          beside = record {
+            dialled = D.calls dialer.old;
+            links = A.left acceptor.old;
+            port = A.bound acceptor.old;
+            faults = A.faults acceptor.old;
+            readings = C.readings clock.old;
+            written = K.held sink.old;
+          };
+        })
+        (record {
+          unread = F.faults files.new;
+          beside = record {
+            dialled = D.calls dialer.new;
+            links = A.left acceptor.new;
+            port = A.bound acceptor.new;
+            faults = A.faults acceptor.new;
+            readings = C.readings clock.new;
+            written = K.held sink.new;
+          };
+        }) result }
 
     // Status 0 comes only once the time of the script's `finish` has passed, from the first reading of the clock to the last.
     ensures finished { result ≡ 0 → (script : List ℕ) × F.holds files.old words.entry.script.now script

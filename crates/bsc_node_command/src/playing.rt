@@ -67,10 +67,22 @@ fn run_made<K: Sink, C: Clock, W: Words, L: Link + Drop, A: Acceptor<L>, D: Dial
         script_of script ≡ Ok (map wish_of lines.now) → Stays links (A.left acceptor.old) →
         IsBoundBy settings.now.direct_port port (A.bound acceptor.old) →
         Ran L.talk settings.now script
-        (record { dialled = D.calls dialer.old; links = links; port = port; faults = faults; readings = C.readings clock.old;
-            written = K.held sink.old })
-        (record { dialled = D.calls dialer.new; links = A.left acceptor.new; port = A.bound acceptor.new;
-            faults = A.faults acceptor.new; readings = C.readings clock.new; written = K.held sink.new }) result }
+        (record {
+          dialled = D.calls dialer.old;
+          links = links;
+          port = port;
+          faults = faults;
+          readings = C.readings clock.old;
+          written = K.held sink.old;
+        })
+        (record {
+          dialled = D.calls dialer.new;
+          links = A.left acceptor.new;
+          port = A.bound acceptor.new;
+          faults = A.faults acceptor.new;
+          readings = C.readings clock.new;
+          written = K.held sink.new;
+        }) result }
     ensures write { result ≡ 4 → HasRisen (K.faults sink.old) (K.faults sink.new) }
     ensures link { result ≡ 6 → HasRisen (A.faults acceptor.old) (A.faults acceptor.new) }
     ensures statuses { (result ≡ 0) ⊎ (result ≡ 4) ⊎ (result ≡ 6) ⊎ (result ≡ 7) ⊎ (result ≡ 8) }
@@ -106,10 +118,22 @@ fn run_lines<K: Sink, C: Clock, W: Words, L: Link + Drop, A: Acceptor<L>, D: Dia
 ) -> u8
     ensures comes { (script : List ℕ) → script_of script ≡ Ok (map wish_of lines.now) →
         Comes L.talk settings.now script
-        (record { dialled = D.calls dialer.old; links = A.left acceptor.old; port = A.bound acceptor.old;
-            faults = A.faults acceptor.old; readings = C.readings clock.old; written = K.held sink.old })
-        (record { dialled = D.calls dialer.new; links = A.left acceptor.new; port = A.bound acceptor.new;
-            faults = A.faults acceptor.new; readings = C.readings clock.new; written = K.held sink.new }) result }
+        (record {
+          dialled = D.calls dialer.old;
+          links = A.left acceptor.old;
+          port = A.bound acceptor.old;
+          faults = A.faults acceptor.old;
+          readings = C.readings clock.old;
+          written = K.held sink.old;
+        })
+        (record {
+          dialled = D.calls dialer.new;
+          links = A.left acceptor.new;
+          port = A.bound acceptor.new;
+          faults = A.faults acceptor.new;
+          readings = C.readings clock.new;
+          written = K.held sink.new;
+        }) result }
     ensures write { result ≡ 4 → HasRisen (K.faults sink.old) (K.faults sink.new) }
     ensures link { result ≡ 6 → HasRisen (A.faults acceptor.old) (A.faults acceptor.new) }
     ensures statuses { (result ≡ 0) ⊎ (result ≡ 4) ⊎ (result ≡ 6) ⊎ (result ≡ 7) ⊎ (result ≡ 8) }
@@ -139,10 +163,22 @@ fn run_text<K: Sink, C: Clock, W: Words, L: Link + Drop, A: Acceptor<L>, D: Dial
     dialer: &mut D,
 ) -> u8
     ensures comes { Comes L.talk settings.now script.now
-        (record { dialled = D.calls dialer.old; links = A.left acceptor.old; port = A.bound acceptor.old;
-            faults = A.faults acceptor.old; readings = C.readings clock.old; written = K.held sink.old })
-        (record { dialled = D.calls dialer.new; links = A.left acceptor.new; port = A.bound acceptor.new;
-            faults = A.faults acceptor.new; readings = C.readings clock.new; written = K.held sink.new }) result }
+        (record {
+          dialled = D.calls dialer.old;
+          links = A.left acceptor.old;
+          port = A.bound acceptor.old;
+          faults = A.faults acceptor.old;
+          readings = C.readings clock.old;
+          written = K.held sink.old;
+        })
+        (record {
+          dialled = D.calls dialer.new;
+          links = A.left acceptor.new;
+          port = A.bound acceptor.new;
+          faults = A.faults acceptor.new;
+          readings = C.readings clock.new;
+          written = K.held sink.new;
+        }) result }
     ensures write { result ≡ 4 → HasRisen (K.faults sink.old) (K.faults sink.new) }
     ensures link { result ≡ 6 → HasRisen (A.faults acceptor.old) (A.faults acceptor.new) }
     ensures statuses { (result ≡ 0) ⊎ (result ≡ 2) ⊎ (result ≡ 4) ⊎ (result ≡ 6) ⊎ (result ≡ 7) ⊎ (result ≡ 8) }
@@ -188,10 +224,22 @@ pub fn run_node<K: Sink, C: Clock, W: Words, L: Link + Drop, A: Acceptor<L>, D: 
 ) -> u8
     // Either no node was run, and nothing was dialled; or a node of the settings was, to its end or to a fault.
     ensures comes { Comes L.talk settings.now script.now
-        (record { dialled = D.calls dialer.old; links = A.left acceptor.old; port = A.bound acceptor.old;
-            faults = A.faults acceptor.old; readings = C.readings clock.old; written = K.held sink.old })
-        (record { dialled = D.calls dialer.new; links = A.left acceptor.new; port = A.bound acceptor.new;
-            faults = A.faults acceptor.new; readings = C.readings clock.new; written = K.held sink.new }) result }
+        (record {
+          dialled = D.calls dialer.old;
+          links = A.left acceptor.old;
+          port = A.bound acceptor.old;
+          faults = A.faults acceptor.old;
+          readings = C.readings clock.old;
+          written = K.held sink.old;
+        })
+        (record {
+          dialled = D.calls dialer.new;
+          links = A.left acceptor.new;
+          port = A.bound acceptor.new;
+          faults = A.faults acceptor.new;
+          readings = C.readings clock.new;
+          written = K.held sink.new;
+        }) result }
 
     // Status 2 comes only of a script with a bad line, and such a script comes to no other, but where the write of the last
     // line failed or memory ran out.

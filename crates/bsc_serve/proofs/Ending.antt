@@ -109,7 +109,7 @@ module _ {L C : Type 0} where
       let under : unstarted_of t.arrivals < 2 ^ 64 = omega (arith, few, small) in
       let came = all_came terms.sessions (length t.arrivals) t.remains in
       let a : Answered h m.pass q terms.sessions t.arrivals end =
-          answered h m.pass q u terms.sessions t.arrivals end came (counted_so u (unstarted_of t.arrivals) t.counted under) s in
+      answered h m.pass q u terms.sessions t.arrivals end came (counted_so u (unstarted_of t.arrivals) t.counted under) s in
       let callers : List EndedCaller = callers_of t.arrivals in
       let made : Option Placed = stop_made (number_of w.pass) a.stop in
       record {

@@ -127,11 +127,11 @@ module _ {L C : Type 0} where
       let one : length (more ++ a ∷ []) ≡ length more + 1 = length-append more (a ∷ []) in
       let callers : callers_of (more ++ a ∷ []) ≡ callers_of more ++ caller_in r.fate = callers-more more a in
       let many : length (callers_of (more ++ a ∷ [])) ≡ length (callers_of more) + length (caller_in r.fate) =
-          ap (λ (xs : List EndedCaller). length xs) callers ∙ length-append (callers_of more) (caller_in r.fate) in
+      ap (λ (xs : List EndedCaller). length xs) callers ∙ length-append (callers_of more) (caller_in r.fate) in
       let unstarted_so : unstarted_of (more ++ a ∷ []) ≡ unstarted_of more + one_unless is_started =
-          unstarted-more more a ∙ ap (λ k. unstarted_of more + k) r.counts in
+      unstarted-more more a ∙ ap (λ k. unstarted_of more + k) r.counts in
       let went : Went h p (length more + 1) (callers_of more ++ caller_in r.fate) None q =
-          went_then h p n q (length more) 1 (callers_of more) (caller_in r.fate) None t.went r.went in
+      went_then h p n q (length more) 1 (callers_of more) (caller_in r.fate) None t.went r.went in
       record {
         arrivals = more ++ a ∷ [];
         left = subst (λ xs. Loses w.links v.links xs) (sym (links-more more a))

@@ -46,11 +46,21 @@ fn take_next<
     ensures again { P.can_start spawner.new }
     ensures taken { (first : ServeWorld L C) →
         Taken (arc_value hub.now) terms.now first
-        (record { pass = pass.old; links = A.left acceptor.old; jobs = P.jobs spawner.old; since = P.since spawner.old;
-            unstarted = P.faults spawner.old }) tally.old →
+        (record {
+          pass = pass.old;
+          links = A.left acceptor.old;
+          jobs = P.jobs spawner.old;
+          since = P.since spawner.old;
+          unstarted = P.faults spawner.old;
+        }) tally.old →
         TakesOn (arc_value hub.now) terms.now first
-        (record { pass = pass.new; links = A.left acceptor.new; jobs = P.jobs spawner.new; since = P.since spawner.new;
-            unstarted = P.faults spawner.new }) tally.new result }
+        (record {
+          pass = pass.new;
+          links = A.left acceptor.new;
+          jobs = P.jobs spawner.new;
+          since = P.since spawner.new;
+          unstarted = P.faults spawner.new;
+        }) tally.new result }
     ensures bound { Stays (A.bound acceptor.old) (A.bound acceptor.new) }
     ensures later { A.faults acceptor.old ≤ A.faults acceptor.new }
     ensures failed { result ≡ Some Halt.AcceptFault → HasRisen (A.faults acceptor.old) (A.faults acceptor.new) }
@@ -92,10 +102,20 @@ pub(crate) fn accept_all<
     requires pass { IsCaller (arc_value hub.now) pass.old }
     ensures again { P.can_start spawner.new }
     ensures accepts { Accepts (arc_value hub.now) terms.now
-        (record { pass = pass.old; links = A.left acceptor.old; jobs = P.jobs spawner.old; since = P.since spawner.old;
-            unstarted = P.faults spawner.old })
-        (record { pass = pass.new; links = A.left acceptor.new; jobs = P.jobs spawner.new; since = P.since spawner.new;
-            unstarted = P.faults spawner.new }) result }
+        (record {
+          pass = pass.old;
+          links = A.left acceptor.old;
+          jobs = P.jobs spawner.old;
+          since = P.since spawner.old;
+          unstarted = P.faults spawner.old;
+        })
+        (record {
+          pass = pass.new;
+          links = A.left acceptor.new;
+          jobs = P.jobs spawner.new;
+          since = P.since spawner.new;
+          unstarted = P.faults spawner.new;
+        }) result }
     ensures fits { (n : ℕ) → terms.now.sessions ≡ Some n → n < 2 ^ 64 }
     ensures bound { Stays (A.bound acceptor.old) (A.bound acceptor.new) }
     ensures later { A.faults acceptor.old ≤ A.faults acceptor.new }

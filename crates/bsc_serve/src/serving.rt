@@ -89,10 +89,20 @@ pub fn serve_on<
 
     // What became of the links, which jobs were taken, and what the hub was told.
     ensures serving { Serving (arc_value hub.now) terms.now
-        (record { pass = pass.old; links = A.left acceptor.old; jobs = P.jobs spawner.old; since = P.since spawner.old;
-            unstarted = P.faults spawner.old })
-        (record { pass = pass.new; links = A.left acceptor.new; jobs = P.jobs spawner.new; since = P.since spawner.new;
-            unstarted = P.faults spawner.new }) result }
+        (record {
+          pass = pass.old;
+          links = A.left acceptor.old;
+          jobs = P.jobs spawner.old;
+          since = P.since spawner.old;
+          unstarted = P.faults spawner.old;
+        })
+        (record {
+          pass = pass.new;
+          links = A.left acceptor.new;
+          jobs = P.jobs spawner.new;
+          since = P.since spawner.new;
+          unstarted = P.faults spawner.new;
+        }) result }
 
     // The pass is still one of the hub.
     ensures caller { IsCaller (arc_value hub.now) pass.new }
@@ -104,9 +114,7 @@ pub fn serve_on<
     ensures failed { result ≡ ServeEnd.AcceptFault → HasRisen (A.faults acceptor.old) (A.faults acceptor.new) }
     ensures later { A.faults acceptor.old ≤ A.faults acceptor.new }
 {
-    match accept_all(
-        rt, alloc, hub, pass, terms, clock, acceptor, spawner,
-    ) {
+    match accept_all(rt, alloc, hub, pass, terms, clock, acceptor, spawner) {
         Ok(unstarted) => {
             spawner.gather(rt);
             finish(rt, hub, pass, unstarted, spawner)

@@ -11,5 +11,5 @@ returns-in-Ok-clause-runs g c hub is =
       c.in-Ok.settings,
       c.in-Ok.ensures.settled.0,
       subst (λ (t : Option (List ℕ)). Runs c.in-Ok.settings c.args.words.sessions c.serve.new.kept (before t) after c.serve.result)
-      c.in-Ok.ensures.settled.1 (c.serve.ensures.runs hub is),
+          c.in-Ok.ensures.settled.1 (c.serve.ensures.runs hub is),
     )

@@ -15,7 +15,7 @@ returns-in-Ok-clause-runs g c =
       c.as_slice.result.now,
       held,
       subst (λ (t : Option (List ℕ)). Comes g.L.Link.talk c.args.settings.now c.as_slice.result.now (before t) after c.run_node.result)
-      c.in-Ok.ensures.given.1 c.run_node.ensures.comes,
+          c.in-Ok.ensures.given.1 c.run_node.ensures.comes,
     )
 
 pub returns-in-Err-clause-runs : goal.returns-in-Err-clause-runs
