@@ -55,25 +55,25 @@ fn play_all(rt: &impl Abort, alloc: Global, rows: &[Row]) -> Result<(), NoMemory
 
 #[test]
 fn nodes_at_hubs(rt: HostRuntime) -> Result<(), NoMemory> {
-    play_all(&rt, rt.alloc(), HUBS.as_slice())
+    play_all(&rt, rt.alloc(), HUBS)
 }
 
 #[test]
 fn nodes_with_direct_connections(rt: HostRuntime) -> Result<(), NoMemory> {
-    play_all(&rt, rt.alloc(), PEERS.as_slice())
+    play_all(&rt, rt.alloc(), PEERS)
 }
 
 #[test]
 fn nodes_that_are_refused_as_duplicates(rt: HostRuntime) -> Result<(), NoMemory> {
-    play_all(&rt, rt.alloc(), RENEWED.as_slice())
+    play_all(&rt, rt.alloc(), RENEWED)
 }
 
 #[test]
 fn runs_that_end_early(rt: HostRuntime) -> Result<(), NoMemory> {
-    play_all(&rt, rt.alloc(), ENDED.as_slice())
+    play_all(&rt, rt.alloc(), ENDED)
 }
 
 #[test]
 fn commands_that_are_refused(rt: HostRuntime) -> Result<(), NoMemory> {
-    play_all(&rt, rt.alloc(), REFUSED.as_slice())
+    play_all(&rt, rt.alloc(), REFUSED)
 }

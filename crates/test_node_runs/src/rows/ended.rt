@@ -25,7 +25,7 @@ const CONNECTED: &str = concat!(
     "10 hub put 0600000102000000000BBBBBBBBBBBBBBBBBBBBBBBBBBBBBBBBB064005D9\n",
 );
 
-pub const ENDED: [Row; 3] = [
+pub const ENDED: &[Row] = &[
     Row {
         shows: "an acceptor that fails in the second turn",
         settings: SETTINGS_DIRECT,

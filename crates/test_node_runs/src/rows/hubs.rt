@@ -47,7 +47,7 @@ const FIRST_DIAL: Failing = Failing {
     ..NOTHING
 };
 
-pub const HUBS: [Row; 6] = [
+pub const HUBS: &[Row] = &[
     Row {
         shows: "a hub that accepts, and doesn't answer the leave within its wait",
         settings: SETTINGS,

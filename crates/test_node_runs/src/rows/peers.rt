@@ -7,7 +7,7 @@ const ACCEPT_SHORT: Gives = Gives::Message(
     "070000010200000000FF00112233445566778899AABBCCDDEEFF06400002",
 );
 
-pub const PEERS: [Row; 5] = [
+pub const PEERS: &[Row] = &[
     Row {
         shows: "what a node with direct connections answers",
         settings: SETTINGS_DIRECT,

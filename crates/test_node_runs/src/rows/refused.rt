@@ -54,7 +54,7 @@ const FIRST_ACCEPT: Failing = Failing {
     ..NOTHING
 };
 
-pub const REFUSED: [Row; 14] = [
+pub const REFUSED: &[Row] = &[
     Row {
         shows: "a line that is no line of a script",
         settings: SETTINGS_DIRECT,

@@ -88,7 +88,7 @@ const REFUSALS: [Peer; 9] = [
     },
 ];
 
-pub const RENEWED: [Row; 3] = [
+pub const RENEWED: &[Row] = &[
     Row {
         shows: "a node that is refused as a duplicate connects under the VMAC that it draws",
         settings: SETTINGS_A,
