@@ -6,5 +6,4 @@ pub mod Entering
 mod Leaves
 pub mod Joinings
 pub mod Staying
-pub mod Coming
 pub mod Unique
