@@ -9,7 +9,10 @@ use std::sync::Wait;
 use std::test::Fail;
 use std::thread::Threads;
 
-/// A storm of 500 rounds at a new hub for so many calls and callers, which may have been stopped.
+/// So many rounds that each worker takes longer than a slice of a processor, so that they meet on a busy machine too.
+const ROUNDS: u32 = 30_000;
+
+/// A storm at a new hub for so many calls and callers, which may have been stopped.
 fn stormed<R: Threads + Wait + Sync>(
     rt: &R,
     alloc: Global,
@@ -24,14 +27,14 @@ fn stormed<R: Threads + Wait + Sync>(
         return Err(LoadStop::NoMemory);
     };
     stop_if(rt, &hub, &mut pass, stopped);
-    storm_on(rt, alloc, &hub, &mut pass, 500)
+    storm_on(rt, alloc, &hub, &mut pass, ROUNDS)
 }
 
 /// Whether each of three workers made its calls. They leave as they came, so that nobody is refused.
 fn is_whole(end: StormEnd) -> bool {
     let counts = end.counts;
-    let joined = counts.joined == 1_001 && counts.refused == 0;
-    let sent = counts.unicasts == 1_000 && counts.broadcasts == 0;
+    let joined = counts.joined == 60_001 && counts.refused == 0;
+    let sent = counts.unicasts == 60_000 && counts.broadcasts == 0;
     joined && sent && end.taken <= counts.appended
 }
 
