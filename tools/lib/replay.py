@@ -1,0 +1,346 @@
+"""Reads a script and the text that `bsc replay` writes for it as a course. docs/SCRIPTS.md has both languages.
+
+The text doesn't say which line of the script a line of it belongs to. It follows from their order: what a line of the
+script comes to stands before what the next one does, its own lines first, then what is taken from the outboxes. For that
+the reader keeps of each name whether it has joined, is held, or was asked to disconnect. It judges no message, and makes
+no line of the text: it only sorts them.
+"""
+from collections import deque
+
+import message as octets
+from course import Arrow, BadText, Change, Course, Line, Mark, Note, Time
+from message import Message, count, digits_of, name_of, octets_in, told_of, words_of_checks
+
+HUB = "hub"
+NAMED = 3  # how many names a remark has before it says how many more there are
+WAITS = {"1008 connect wait": 10_000, "1008 idle": 600_000, "1000": 10_000}  # after which the clock closes a name
+
+
+class Peer:
+    """An open name: its connection, whether that has ended, and since when its waits last."""
+
+    def __init__(self, now):
+        self.connection = None
+        self.ended = False
+        self.held = False
+        self.asked = None  # the Message ID by which it was asked to disconnect
+        self.since = {"1008 connect wait": now, "1008 idle": now}
+
+    def state(self):
+        if self.connection is None or self.ended:
+            return "open"
+        return "held" if self.held else "joined"
+
+
+def lines_of(text):
+    """The lines of an input as lists of words: only spaces stand between words, and one CR may stand before an LF."""
+    lines = text.split("\n")
+    lines = [it.removesuffix("\r") for it in lines[:-1]] + lines[-1:]
+    return [[word for word in it.split(" ") if word] for it in lines]
+
+
+def list_of(names):
+    """Names in words, the first few of them where they are many."""
+    left = len(names) - NAMED
+    if left > 1:
+        return f"{', '.join(names[:NAMED])} and {left} more"
+    return " and ".join(filter(None, [", ".join(names[:-1]), names[-1]])) if names else "nobody"
+
+
+class Reader:
+    def __init__(self, text):
+        self.text = deque(it for it in lines_of(text) if it)
+        self.number_in_text = 0
+        self.records = []
+        self.lines = {}
+        self.open = {}
+        self.names = {}  # the name of each connection
+        self.now = 0
+        self.checks = words_of_checks()
+
+    # The text.
+
+    def next_is(self, name, *words):
+        """Whether the next line of the text is of this name, and goes on with one of these words."""
+        line = self.text[0] if self.text else [""]
+        return line[0] == name and (not words or line[1:2] and line[1] in words)
+
+    def take(self, name, *words):
+        """The words of the next line behind its name. It has to be of this name, and go on with one of these words."""
+        if not self.next_is(name, *words):
+            found = " ".join(self.text[0])[:60] if self.text else "nothing"
+            raise BadText(f"{name} {' or '.join(words)} is due, and line {self.number_in_text + 1} of the text has: {found}")
+        self.number_in_text += 1
+        return self.text.popleft()[1:]
+
+    # Records.
+
+    def add(self, *records):
+        self.records.extend(records)
+
+    def change(self, name):
+        self.add(Change(name, self.open[name].state() if name in self.open else "away"))
+
+    def end(self, connection, words):
+        """A connection has ended: its name isn't joined any more."""
+        name = self.names[connection]
+        peer = self.open.get(name)
+        if peer and peer.connection == connection:
+            peer.ended = True
+            self.add(Mark(name, words, "refused"))
+            self.change(name)
+
+    def send(self, start, end, message, said="", fate="came"):
+        self.add(Arrow(start, end, name_of(message), told_of(message), said, fate, octets=digits_of(message.octets)))
+
+    def take_out(self, name):
+        """A message that the hub puts."""
+        message = Message(octets_in(self.take(name, "out")[1:]))
+        is_nak = message.function == octets.RESULT
+        self.send(HUB, name, message, fate="refused" if is_nak else "came")
+        if message.function == octets.DISCONNECT_REQUEST and not message.origin:
+            self.open[name].asked = message.id
+            self.open[name].since["1000"] = self.now
+        return message
+
+    def take_gone(self, name):
+        """What a connection came to, where one leaves."""
+        if not self.next_is(name, "gone"):
+            return ""
+        _, ending, taken = self.take(name, "gone")
+        return f"connection {self.open[name].connection} leaves as {ending}, with {count(int(taken), 'frame')} taken"
+
+    def take_close(self, name):
+        """The hub closes a WebSocket."""
+        code = " ".join(self.take(name, "close")[1:])
+        self.add(Arrow(HUB, name, f"closes with {code}", said=self.take_gone(name), closes=True))
+        self.leave(name)
+
+    def leave(self, name):
+        del self.open[name]
+        self.change(name)
+
+    # What the outboxes are emptied to, of all names that aren't held.
+
+    def is_of_outbox(self, line):
+        name, what, *words = line
+        if what == "out":
+            message = Message(octets_in(words))
+            return bool(message.origin) or message.function == octets.DISCONNECT_REQUEST
+        return what == "close" and words == ["1008", "outbox", "full"]
+
+    def empty(self):
+        while self.text and len(self.text[0]) > 2:
+            name = self.text[0][0]
+            if name not in self.open or self.open[name].held or not self.is_of_outbox(self.text[0]):
+                break
+            if self.next_is(name, "out"):
+                self.take_out(name)
+            else:
+                self.take_close(name)
+
+    # The lines of a script.
+
+    def hub(self, vmac, *_):
+        self.lines[HUB] = Line(HUB, vmac.upper(), is_hub=True)
+
+    def opens(self, name):
+        self.open[name] = Peer(self.now)
+        self.lines.setdefault(name, Line(name))
+        self.change(name)
+
+    def binary(self, name, *words):
+        message = Message(octets_in(words))
+        peer = self.open[name]
+        peer.since["1008 idle"] = self.now
+        if peer.asked is not None and self.is_done_without_reply(name, message):
+            return
+        if self.next_is(name, "out"):
+            self.send(name, HUB, message)
+            if self.take_out(name).function == octets.DISCONNECT_ACK:
+                self.take_close(name)
+            return
+        said, *words = self.take(name, "silent", *self.replies)
+        if said == "silent":
+            self.send(name, HUB, message, f"met with silence: {words[0]}, {self.checks.get(words[0], 'a check fails')}", "lost")
+        else:
+            self.replies[said](self, name, message, words)
+
+    def is_done_without_reply(self, name, message):
+        """Of a name that was asked to disconnect: the answer to that closes, and another answer does nothing."""
+        answers = message.function in (octets.RESULT, octets.DISCONNECT_ACK)
+        if not answers or message.flags or not message.is_whole() or self.next_is(name, "silent"):
+            return False
+        is_for_it = message.function == octets.DISCONNECT_ACK or message.payload[0] == octets.DISCONNECT_REQUEST
+        if is_for_it and message.id == self.open[name].asked:
+            self.send(name, HUB, message)
+            self.take_close(name)
+        else:
+            self.send(name, HUB, message, "nothing is done about it")
+        return True
+
+    def joined(self, name, message, words):
+        connection, replaced = words[0], words[2:]
+        self.open[name].connection = connection
+        self.names[connection] = name
+        told = f", and replaces connection {replaced[0]} ({self.names[replaced[0]]})" if replaced else ""
+        self.lines[name] = Line(name, digits_of(message.field("VMAC")))
+        self.send(name, HUB, message, f"joins as connection {connection}{told}")
+        self.change(name)
+        if replaced:
+            self.end(replaced[0], f"connection {replaced[0]} ends: replaced")
+        self.take_out(name)
+
+    def refused(self, name, message, why):
+        self.send(name, HUB, message, f"refused: {why}", "refused")
+        if self.next_is(name, "out"):
+            self.take_out(name)
+        self.take_close(name)
+
+    def duplicate(self, name, message, words):
+        holder = "the hub itself" if words[0] == HUB else f"connection {words[0]} ({self.names[words[0]]})"
+        self.refused(name, message, f"{holder} has this VMAC")
+
+    def tablefull(self, name, message, words):
+        self.refused(name, message, f"the table is full, of {count(int(words[0]), 'row')}")
+
+    def stopped(self, name, message, _):
+        if self.open[name].connection is None:
+            self.refused(name, message, "the hub has stopped")
+        else:
+            self.dropped(name, message, "the hub has stopped")
+
+    def worn(self, name, message, _):
+        self.refused(name, message, "the hub is worn")
+
+    def dropped(self, name, message, why):
+        self.send(name, HUB, message, f"dropped: {why}", "lost")
+
+    def sent(self, name, message, words):
+        self.send(name, HUB, message, f"into the outbox of {self.names[words[0]]}")
+
+    def full(self, name, message, words):
+        self.dropped(name, message, f"the outbox of {self.names[words[0]]} is full")
+        self.end(words[0], f"connection {words[0]} ends: full")
+
+    def long(self, name, message, words):
+        self.dropped(name, message, f"it is longer than {self.names[words[0]]} takes")
+
+    def noholder(self, name, message, _):
+        self.dropped(name, message, f"nobody holds {digits_of(message.destination)}")
+
+    def notcurrent(self, name, message, words):
+        self.dropped(name, message, f"its connection has ended: {words[0]}")
+
+    def sentall(self, name, message, words):
+        lists = dict(it.split("=") for it in words)
+        to, missed, skipped = ([self.names[it] for it in lists[of].split(",") if it != "-"] for of in ("to", "missed", "skipped"))
+        if not to:
+            self.dropped(name, message, "it joins no outbox")
+        else:
+            self.send(name, HUB, message, f"into the outbox{'es' if len(to) > 1 else ''} of {list_of(to)}")
+        for names, what, why in ((missed, "missed", "the outbox is full"), (skipped, "skipped", "too long for it")):
+            if len(names) > NAMED:
+                self.add(Mark(HUB, f"{what} by {list_of(names)}: {why}", "lost"))
+            else:
+                self.add(*(Arrow(HUB, it, f"{what}: {why}", f"ID {message.id}", fate="lost") for it in names))
+
+    replies = {it.__name__: it for it in (
+        joined, duplicate, tablefull, stopped, worn, sent, full, long, noholder, notcurrent, sentall)}
+
+    def textual(self, name):
+        self.add(Arrow(name, HUB, "a text message", fate="lost"))
+        self.take_close(name)
+
+    def drop(self, name):
+        self.add(Arrow(name, HUB, "closes its WebSocket", said=self.take_gone(name), closes=True))
+        self.leave(name)
+
+    def hold(self, name):
+        self.open[name].held = True
+        self.add(Mark(name, "held: its outbox isn't emptied"))
+        self.change(name)
+
+    def free(self, name):
+        self.open[name].held = False
+        self.add(Mark(name, "freed: its outbox is emptied"))
+        self.change(name)
+
+    def at(self, ms):
+        self.now = int(ms)
+        self.add(Time(self.now))
+        while self.text and self.text[0][1:2] == ["close"] and self.is_of_clock(self.text[0]):
+            self.take_close(self.text[0][0])
+
+    def is_of_clock(self, line):
+        """Whether a line closes a name whose wait has passed by now."""
+        code = " ".join(line[2:])
+        since = self.open[line[0]].since.get(code) if line[0] in self.open else None
+        return since is not None and since + WAITS[code] <= self.now
+
+    def stop(self):
+        words = self.take(HUB, "counts", "stopped")
+        if words[0] == "stopped":
+            self.add(Mark(HUB, "told to stop: it has stopped already", "refused"))
+            return
+        self.add(Mark(HUB, f"stops: {self.counted(words[1:])}"))
+        for name, peer in self.open.items():
+            if peer.connection is not None:
+                peer.ended = True
+                self.change(name)
+
+    def counts(self):
+        words = self.take(HUB, "counts", "worn")
+        told = "no counts: it is worn" if words[0] == "worn" else f"counts: {self.counted(words[1:])}"
+        self.add(Mark(HUB, told))
+
+    @staticmethod
+    def counted(words):
+        pairs = [it.split("=") for it in words]
+        return ", ".join(f"{n} {what}" for what, n in pairs if n != "0") or "nothing"
+
+    does = {"hub": hub, "open": opens, "in": binary, "text": textual, "drop": drop, "hold": hold, "free": free,
+            "at": at, "stop": stop, "counts": counts}
+
+    def line(self, words):
+        self.does[words[0]](self, *words[1:])
+        self.empty()
+
+
+def fault_of(line, number):
+    """What a last line says, where the text ends with it at this line of the script."""
+    if line[:2] in (["fault", "read"], ["fault", "memory"]):
+        return f"The text ends here, with {' '.join(line)}."
+    if line == ["fault", "script", "line", str(number)]:
+        return f"Line {number} is refused, and the script ends with it."
+    return None
+
+
+def read(script, text):
+    """The course of a script, by the text that was written for it."""
+    reader = Reader(text)
+    captions = []
+    remark = []
+    lines = lines_of(script)
+    for number, words in enumerate([*lines, []], 1):
+        fault = reader.text and fault_of(reader.text[0], number)
+        is_remark = bool(words) and words[0].startswith("#")
+        if remark and (fault or not is_remark):
+            captions.append(" ".join(remark)) if not reader.lines else reader.add(Note(" ".join(remark)))
+            remark = []
+        if fault:
+            reader.add(Note(fault))
+            reader.text.popleft()
+            break
+        if is_remark:
+            remark.append(" ".join(words).lstrip("# "))
+        elif words:
+            try:
+                reader.line(words)
+            except BadText as bad:
+                raise BadText(f"line {number} of the script: {bad}") from None
+            except (KeyError, ValueError, TypeError, IndexError):
+                raise BadText(f"line {number} of the script is no line of a script, or the text isn't what it comes to") from None
+    if reader.text:
+        raise BadText(f"line {reader.number_in_text + 1} of the text belongs to no line of the script: {' '.join(reader.text[0])[:60]}")
+    return Course(" ".join(captions), list(reader.lines.values()), reader.records)
