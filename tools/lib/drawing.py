@@ -12,6 +12,8 @@ FOOT = 24
 SMALL = 11  # the size of text but names
 WIDE = 0.56  # of its size, what a letter of it takes
 ROWS = 100  # on a page
+FEW = 20  # rows that need no names below them
+DIGITS = 128  # what is shown of a message where the pointer rests on it
 
 STYLE = """
 text { font: 12px "Helvetica Neue", Helvetica, Arial, "Liberation Sans", sans-serif; fill: #1f2328; }
@@ -23,6 +25,7 @@ text { font: 12px "Helvetica Neue", Helvetica, Arial, "Liberation Sans", sans-se
 .head { fill: #eef2f6; stroke: #8c959f; }
 .hub { fill: #dfeafa; stroke: #4a78b8; }
 .line { stroke: #8c959f; stroke-dasharray: 2 3; }
+.axis { stroke: #4a78b8; stroke-width: 1.5; }
 .band { fill: #9cc3f0; }
 .held { fill: #f0c36a; }
 .arrow { stroke: #24579c; fill: none; stroke-width: 1.3; }
@@ -44,6 +47,7 @@ text { font: 12px "Helvetica Neue", Helvetica, Arial, "Liberation Sans", sans-se
   .head { fill: #1c232c; stroke: #6e7781; }
   .hub { fill: #16263d; stroke: #5b8fd6; }
   .line { stroke: #6e7781; }
+  .axis { stroke: #5b8fd6; }
   .band { fill: #2f5f9e; }
   .held { fill: #8f6a17; }
   .arrow { stroke: #79b0f5; }
@@ -144,7 +148,8 @@ class Drawing:
         state, since = self.states[name]
         x = self.places[name]
         if state != "away" and end > since:
-            self.behind.append(f'<path class="line" d="M{x:g} {since:g}V{end:g}"/>')
+            kind = "axis" if name in self.hubs else "line"
+            self.behind.append(f'<path class="{kind}" d="M{x:g} {since:g}V{end:g}"/>')
         if state in ("joined", "held") and end > since:
             kind = "held" if state == "held" else "band"
             self.behind.append(f'<rect class="{kind}" x="{x - 3:g}" y="{since:g}" width="6" height="{end - since:g}"/>')
@@ -174,7 +179,8 @@ class Drawing:
         y = self.height = y + 22 + max(0, 15 * (len(said) - 2) / 2)
         kind = "closes" if it.closes else {"came": "arrow", "lost": "lost", "refused": "refused"}[it.fate]
         stop = end - side * (22 if it.fate == "lost" else 5)
-        title = f"<title>{escape(it.octets)}</title>" if it.octets else ""
+        octets = it.octets if len(it.octets) <= DIGITS else f"{it.octets[:DIGITS]} .. {len(it.octets) // 2:,} octets"
+        title = f"<title>{escape(octets)}</title>" if octets else ""
         self.put(f'<g>{title}<path class="{kind}" d="M{start + side * 4:g} {y:g}H{stop - side * 6:g}"/>')
         if it.fate == "lost":
             self.cross(stop, y)
@@ -262,6 +268,10 @@ class Drawing:
         y += 8
         for name in self.states:
             self.stretch(name, y)
+        if row - self.first > FEW:
+            for it in self.lines:
+                self.text(self.places[it.name], y + 14, it.name, "name", "middle")
+            y += 14
         y = self.left_out(y)
         width, height = self.right + 8, y + FOOT
         return "\n".join([

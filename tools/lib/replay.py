@@ -7,13 +7,19 @@ no line of the text: it only sorts them.
 """
 from collections import deque
 
-import message as octets
 from course import Arrow, BadText, Change, Course, Line, Mark, Note, Time
-from message import Message, count, digits_of, name_of, octets_in, told_of, words_of_checks
+from message import (DISCONNECT_ACK, DISCONNECT_REQUEST, RESULT, Message, count, digits_of, name_of, octets_in, told_of,
+                     words_of_checks)
 
 HUB = "hub"
+SHOWN = 60  # what is shown of a line that doesn't belong there
+CUT_SHORT = (["fault", "read"], ["fault", "memory"])  # the last lines of a run that wasn't made to its end
 NAMED = 3  # how many names a remark has before it says how many more there are
 WAITS = {"1008 connect wait": 10_000, "1008 idle": 600_000, "1000": 10_000}  # after which the clock closes a name
+
+
+class TextEnds(Exception):
+    """The text ends before what a line of the script comes to."""
 
 
 class Peer:
@@ -41,10 +47,8 @@ def lines_of(text):
 
 def list_of(names):
     """Names in words, the first few of them where they are many."""
-    left = len(names) - NAMED
-    if left > 1:
-        return f"{', '.join(names[:NAMED])} and {left} more"
-    return " and ".join(filter(None, [", ".join(names[:-1]), names[-1]])) if names else "nobody"
+    shown = names if len(names) <= NAMED + 1 else [*names[:NAMED], f"{len(names) - NAMED} more"]
+    return " and ".join(filter(None, [", ".join(shown[:-1]), shown[-1]]))
 
 
 class Reader:
@@ -67,11 +71,15 @@ class Reader:
 
     def take(self, name, *words):
         """The words of the next line behind its name. It has to be of this name, and go on with one of these words."""
+        if not self.text or self.text[0][:2] in CUT_SHORT:
+            raise TextEnds
         if not self.next_is(name, *words):
-            found = " ".join(self.text[0])[:60] if self.text else "nothing"
-            raise BadText(f"{name} {' or '.join(words)} is due, and line {self.number_in_text + 1} of the text has: {found}")
+            raise BadText(f"a line of {name} is due, and line {self.number_in_text + 1} of the text is: {self.next_words()}")
         self.number_in_text += 1
         return self.text.popleft()[1:]
+
+    def next_words(self):
+        return " ".join(self.text[0])[:SHOWN]
 
     # Records.
 
@@ -96,9 +104,9 @@ class Reader:
     def take_out(self, name):
         """A message that the hub puts."""
         message = Message(octets_in(self.take(name, "out")[1:]))
-        is_nak = message.function == octets.RESULT
+        is_nak = message.function == RESULT
         self.send(HUB, name, message, fate="refused" if is_nak else "came")
-        if message.function == octets.DISCONNECT_REQUEST and not message.origin:
+        if message.function == DISCONNECT_REQUEST and not message.origin:
             self.open[name].asked = message.id
             self.open[name].since["1000"] = self.now
         return message
@@ -126,7 +134,7 @@ class Reader:
         name, what, *words = line
         if what == "out":
             message = Message(octets_in(words))
-            return bool(message.origin) or message.function == octets.DISCONNECT_REQUEST
+            return bool(message.origin) or message.function == DISCONNECT_REQUEST
         return what == "close" and words == ["1008", "outbox", "full"]
 
     def empty(self):
@@ -157,7 +165,7 @@ class Reader:
             return
         if self.next_is(name, "out"):
             self.send(name, HUB, message)
-            if self.take_out(name).function == octets.DISCONNECT_ACK:
+            if self.take_out(name).function == DISCONNECT_ACK:
                 self.take_close(name)
             return
         said, *words = self.take(name, "silent", *self.replies)
@@ -168,10 +176,10 @@ class Reader:
 
     def is_done_without_reply(self, name, message):
         """Of a name that was asked to disconnect: the answer to that closes, and another answer does nothing."""
-        answers = message.function in (octets.RESULT, octets.DISCONNECT_ACK)
+        answers = message.function in (RESULT, DISCONNECT_ACK)
         if not answers or message.flags or not message.is_whole() or self.next_is(name, "silent"):
             return False
-        is_for_it = message.function == octets.DISCONNECT_ACK or message.payload[0] == octets.DISCONNECT_REQUEST
+        is_for_it = message.function == DISCONNECT_ACK or message.payload[0] == DISCONNECT_REQUEST
         if is_for_it and message.id == self.open[name].asked:
             self.send(name, HUB, message)
             self.take_close(name)
@@ -307,40 +315,38 @@ class Reader:
         self.empty()
 
 
-def fault_of(line, number):
-    """What a last line says, where the text ends with it at this line of the script."""
-    if line[:2] in (["fault", "read"], ["fault", "memory"]):
-        return f"The text ends here, with {' '.join(line)}."
-    if line == ["fault", "script", "line", str(number)]:
-        return f"Line {number} is refused, and the script ends with it."
-    return None
+def read_line(reader, number, words):
+    try:
+        reader.line(words)
+    except BadText as bad:
+        raise BadText(f"line {number} of the script: {bad}") from None
+    except (KeyError, ValueError, TypeError, IndexError):
+        raise BadText(f"line {number} of the script is no line of a script, or the text isn't what it comes to") from None
 
 
 def read(script, text):
     """The course of a script, by the text that was written for it."""
     reader = Reader(text)
-    captions = []
-    remark = []
-    lines = lines_of(script)
-    for number, words in enumerate([*lines, []], 1):
-        fault = reader.text and fault_of(reader.text[0], number)
+    captions, remark = [], []
+    for number, words in enumerate([*lines_of(script), []], 1):
         is_remark = bool(words) and words[0].startswith("#")
-        if remark and (fault or not is_remark):
-            captions.append(" ".join(remark)) if not reader.lines else reader.add(Note(" ".join(remark)))
-            remark = []
-        if fault:
-            reader.add(Note(fault))
-            reader.text.popleft()
-            break
         if is_remark:
             remark.append(" ".join(words).lstrip("# "))
-        elif words:
+        elif remark:
+            # What stands above the hub line is said of the whole.
+            captions.append(" ".join(remark)) if not reader.lines else reader.add(Note(" ".join(remark)))
+            remark = []
+        if reader.text and reader.text[0] == ["fault", "script", "line", str(number)]:
+            reader.add(Note(f"Line {number} is refused, and the script ends with it."))
+            reader.text.clear()
+            break
+        if words and not is_remark:
             try:
-                reader.line(words)
-            except BadText as bad:
-                raise BadText(f"line {number} of the script: {bad}") from None
-            except (KeyError, ValueError, TypeError, IndexError):
-                raise BadText(f"line {number} of the script is no line of a script, or the text isn't what it comes to") from None
+                read_line(reader, number, words)
+            except TextEnds:
+                reader.add(Note(f"The text ends here, at line {number} of the script."))
+                reader.text.clear()
+                break
     if reader.text:
-        raise BadText(f"line {reader.number_in_text + 1} of the text belongs to no line of the script: {' '.join(reader.text[0])[:60]}")
+        raise BadText(f"line {reader.number_in_text + 1} of the text belongs to no line of the script: {reader.next_words()}")
     return Course(" ".join(captions), list(reader.lines.values()), reader.records)
