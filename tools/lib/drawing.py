@@ -1,4 +1,5 @@
 """Draws a course as an SVG: a line a peer and one a hub, an arrow a message, from top to bottom."""
+import textwrap
 from html import escape
 from math import ceil
 
@@ -63,13 +64,7 @@ text { font: 12px "Helvetica Neue", Helvetica, Arial, "Liberation Sans", sans-se
 
 def wrapped(words, width):
     """Words in lines that are about as wide as that."""
-    longest = int(width / (SMALL * WIDE))
-    lines = [""]
-    for word in words.split():
-        if lines[-1] and len(lines[-1]) + 1 + len(word) > longest:
-            lines.append("")
-        lines[-1] = f"{lines[-1]} {word}".strip()
-    return lines
+    return textwrap.wrap(words, int(width / (SMALL * WIDE)), break_on_hyphens=False)
 
 
 def time_words(ms):
@@ -175,8 +170,8 @@ class Drawing:
         peer, hub = (it.end, it.start) if it.start in self.hubs else (it.start, it.end)
         inward = 1 if self.places[hub] > self.places[peer] else -1
         middle = self.places[peer] + inward * GAP / 2
-        said = wrapped(it.said, GAP - 30) if it.said else []
-        y = self.height = y + 22 + max(0, 15 * (len(said) - 2) / 2)
+        said = wrapped(it.said, GAP - 30)
+        y = self.height = y + 22 + 15 * max(0, (len(said) - 2) / 2)
         kind = "closes" if it.closes else {"came": "arrow", "lost": "lost", "refused": "refused"}[it.fate]
         stop = end - side * (22 if it.fate == "lost" else 5)
         octets = it.octets if len(it.octets) <= DIGITS else f"{it.octets[:DIGITS]} .. {len(it.octets) // 2:,} octets"
@@ -188,12 +183,12 @@ class Drawing:
             tip = {"arrow": "tip", "closes": "tip-closes", "refused": "tip-refused"}[kind]
             self.put(f'<path class="{tip}" d="M{stop:g} {y:g}l{-9 * side} -4.5v9z"/>')
         self.text(middle, y - 6, it.words, "words", "middle")
-        if it.under:
-            self.text(middle, y + 14, it.under, "small", "middle")
+        under = wrapped(it.under, GAP - 20)
+        self.paragraph(middle, y + 15, under, "small", "middle")
         self.put("</g>")
         bad = "small bad" if it.fate != "came" else "small"
         self.paragraph(self.places[hub] + inward * 12, y + 4 - 7.5 * (len(said) - 1), said, bad, "start" if inward > 0 else "end")
-        return y + 22 + max(0, 15 * (len(said) - 2) / 2)
+        return y + 22 + 15 * max(0, len(under) - 1, (len(said) - 2) / 2)
 
     def mark(self, it, y):
         x = self.places[it.at]
@@ -228,7 +223,7 @@ class Drawing:
         y = 26
         title = self.title if self.pages == 1 else f"{self.title}, page {self.page} of {self.pages}"
         self.text(12, y, title, "title")
-        caption = wrapped(self.course.caption, self.right - 24) if self.course.caption else []
+        caption = wrapped(self.course.caption, self.right - 24)
         self.paragraph(12, y + 20, caption)
         y += 15 * len(caption) + 14
         for it in self.lines:
