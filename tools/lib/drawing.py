@@ -97,7 +97,7 @@ class Drawing:
         self.pages = max(1, ceil(sum(map(is_row, course.records)) / rows))
         self.page = page
         self.first, self.end = (page - 1) * rows, page * rows
-        self.hubs = {it.name for it in course.lines if it.is_hub}
+        self.hubs = [it.name for it in course.lines if it.is_hub]
         shown = self.names_of_page()
         self.lines = [it for it in ordered(course.lines) if it.is_hub or it.name in shown]
         self.left = SIDE + (CLOCK if any(isinstance(it, Time) for it in course.records) else 0)
