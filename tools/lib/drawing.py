@@ -23,6 +23,7 @@ text { font: 12px "Helvetica Neue", Helvetica, Arial, "Liberation Sans", sans-se
 .title { font-size: 15px; font-weight: 600; }
 .bad { fill: #b3261e; }
 .paper { fill: #ffffff; }
+.note { fill: #f3f5f7; }
 .head { fill: #eef2f6; stroke: #8c959f; }
 .hub { fill: #dfeafa; stroke: #4a78b8; }
 .line { stroke: #8c959f; stroke-dasharray: 2 3; }
@@ -45,6 +46,7 @@ text { font: 12px "Helvetica Neue", Helvetica, Arial, "Liberation Sans", sans-se
   .small { fill: #9da7b3; }
   .bad { fill: #ff8f87; }
   .paper { fill: #0d1117; }
+  .note { fill: #1a2029; }
   .head { fill: #1c232c; stroke: #6e7781; }
   .hub { fill: #16263d; stroke: #5b8fd6; }
   .line { stroke: #6e7781; }
@@ -68,7 +70,9 @@ def wrapped(words, width):
 
 
 def time_words(ms):
-    return f"{ms} ms" if ms < 1000 else f"{ms // 1000:,}.{ms % 1000:03} s"
+    if ms < 1000:
+        return f"{ms} ms"
+    return f"{ms // 1000:,}.{ms % 1000:03}".rstrip("0").rstrip(".") + " s"
 
 
 def ordered(lines):
@@ -208,9 +212,11 @@ class Drawing:
 
     def note(self, it, y):
         lines = wrapped(it.words, self.right - 24)
+        bottom = y + 15 * len(lines) + 10
+        self.put(f'<rect class="note" x="4" y="{y + 4:g}" width="{self.right:g}" height="{bottom - y - 4:g}" rx="3"/>')
         self.paragraph(12, y + 18, lines)
         self.height = y
-        return y + 15 * len(lines) + 10
+        return bottom
 
     def row(self, record, y):
         kinds = {Arrow: self.arrow, Mark: self.mark, Time: self.time, Note: self.note}
@@ -225,7 +231,7 @@ class Drawing:
         self.text(12, y, title, "title")
         caption = wrapped(self.course.caption, self.right - 24)
         self.paragraph(12, y + 20, caption)
-        y += 15 * len(caption) + 14
+        y += 15 * len(caption) + 16
         for it in self.lines:
             x = self.places[it.name]
             self.put(f'<rect class="{"hub" if it.is_hub else "head"}" x="{x - 62:g}" y="{y}" width="124" height="{HEAD}" rx="6"/>')

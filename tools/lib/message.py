@@ -216,7 +216,7 @@ def told_of(message):
             code = number(message.field("error code"))
             told.append(ERROR_CODES.get(code, f"error code {code}"))
     elif message.function == NPDU:
-        told.append(count(len(message.payload), "octet"))
+        told.append(f"NPDU of {count(len(message.payload), 'octet')}")
     elif message.function in (CONNECT_REQUEST, CONNECT_ACCEPT):
         device = digits_of(message.field("Device UUID"))
         told.append(f"VMAC {digits_of(message.field('VMAC'))}, device {device[:4]}..{device[-4:]}")

@@ -116,7 +116,7 @@ class Reader:
         if not self.next_is(name, "gone"):
             return ""
         _, ending, taken = self.take(name, "gone")
-        return f"connection {self.open[name].connection} leaves as {ending}, with {count(int(taken), 'frame')} taken"
+        return f"connection {self.open[name].connection} leaves: {ending}, {taken} taken"
 
     def take_close(self, name):
         """The hub closes a WebSocket."""
@@ -305,7 +305,7 @@ class Reader:
     @staticmethod
     def counted(words):
         pairs = [it.split("=") for it in words]
-        return ", ".join(f"{n} {what}" for what, n in pairs if n != "0") or "nothing"
+        return ", ".join(f"{what} {n}" for what, n in pairs if n != "0") or "nothing"
 
     does = {"hub": hub, "open": opens, "in": binary, "text": textual, "drop": drop, "hold": hold, "free": free,
             "at": at, "stop": stop, "counts": counts}
