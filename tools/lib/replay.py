@@ -12,6 +12,7 @@ from message import (DISCONNECT_ACK, DISCONNECT_REQUEST, RESULT, Message, count,
                      words_of_checks)
 
 HUB = "hub"
+NO_BREAK = "\N{NO-BREAK SPACE}"
 SHOWN = 60  # what is shown of a line that doesn't belong there
 CUT_SHORT = (["fault", "read"], ["fault", "memory"])  # the last lines of a run that wasn't made to its end
 NAMED = 3  # how many names a remark has before it says how many more there are
@@ -304,8 +305,7 @@ class Reader:
 
     @staticmethod
     def counted(words):
-        pairs = [it.split("=") for it in words]
-        return ", ".join(f"{what} {n}" for what, n in pairs if n != "0") or "nothing"
+        return ", ".join(it.replace("=", NO_BREAK) for it in words if not it.endswith("=0")) or "nothing"
 
     does = {"hub": hub, "open": opens, "in": binary, "text": textual, "drop": drop, "hold": hold, "free": free,
             "at": at, "stop": stop, "counts": counts}
