@@ -21,6 +21,8 @@ ERROR_CODES = {
     150: "UNEXPECTED_DATA", 151: "NODE_DUPLICATE_VMAC",
 }
 BEHIND = "behind the payload"
+NO_VALUE = "out of range"
+NO_TEXT = "no UTF-8"
 
 
 class Field(NamedTuple):
@@ -78,7 +80,7 @@ def words_of_text(octets):
     try:
         text = octets.decode("utf-8")
     except UnicodeDecodeError:
-        return "no UTF-8"
+        return NO_TEXT
     return f'"{text}"' if text.isprintable() else f"text of {count(len(text), 'character')}"
 
 
@@ -117,6 +119,10 @@ class Message:
     def is_whole(self):
         """Whether no octets are missing and none too many."""
         return not self.missing and self.fields[-1].name != BEHIND
+
+    def is_in_range(self):
+        """Whether each value with a name has one, and each text is UTF-8."""
+        return all(it.words not in (NO_VALUE, NO_TEXT) for it in self.fields)
 
     def field(self, name):
         """The octets of the first field of this name, or none."""
@@ -162,8 +168,8 @@ class Message:
         elif self.function == RESOLUTION_ACK:
             self.take_rest("URIs", words_of_text)
         elif self.function == ADVERTISEMENT:
-            self.take("hub status", 1, lambda it: HUB_STATUS[it[0]] if it[0] < 3 else "out of range")
-            self.take("accepts direct", 1, lambda it: ("no", "yes")[it[0]] if it[0] < 2 else "out of range")
+            self.take("hub status", 1, lambda it: HUB_STATUS[it[0]] if it[0] < 3 else NO_VALUE)
+            self.take("accepts direct", 1, lambda it: ("no", "yes")[it[0]] if it[0] < 2 else NO_VALUE)
             self.read_lengths()
         elif self.function in (CONNECT_REQUEST, CONNECT_ACCEPT):
             self.take("VMAC", 6, words_of_vmac)
@@ -178,7 +184,7 @@ class Message:
 
     def read_result(self):
         self.take("function answered", 1, lambda it: function_name(it[0]))
-        code = self.take("result code", 1, lambda it: ("ACK", "NAK")[it[0]] if it[0] < 2 else "out of range")[0]
+        code = self.take("result code", 1, lambda it: ("ACK", "NAK")[it[0]] if it[0] < 2 else NO_VALUE)[0]
         if code == 1:
             self.take("header marker", 1, lambda it: words_of_marker(it) if it[0] else "no option is at fault")
             self.take("error class", 2, lambda it: named(ERROR_CLASSES, it))

@@ -2,7 +2,7 @@
 
 The text doesn't say which line of the script a line of it belongs to. It follows from their order: what a line of the
 script comes to stands before what the next one does, its own lines first, then what is taken from the outboxes. For that
-the reader keeps of each name whether it has joined, is held, or was asked to disconnect. It judges no message, and makes
+the reader keeps of each name whether it has joined, is held, or was asked to disconnect, and since when it waits. It makes
 no line of the text: it only sorts them.
 """
 from collections import deque
@@ -61,6 +61,7 @@ class Reader:
         self.open = {}
         self.names = {}  # the name of each connection
         self.now = 0
+        self.longest = 0  # that the hub takes
         self.checks = words_of_checks()
 
     # The text.
@@ -150,7 +151,8 @@ class Reader:
 
     # The lines of a script.
 
-    def hub(self, vmac, *_):
+    def hub(self, vmac, _, longest, *__):
+        self.longest = int(longest, 16)
         self.lines[HUB] = Line(HUB, vmac.upper(), is_hub=True)
 
     def opens(self, name):
@@ -177,8 +179,7 @@ class Reader:
 
     def is_done_without_reply(self, name, message):
         """Of a name that was asked to disconnect: the answer to that closes, and another answer does nothing."""
-        answers = message.function in (RESULT, DISCONNECT_ACK)
-        if not answers or message.flags or not message.is_whole() or self.next_is(name, "silent"):
+        if not self.is_answer(message) or message.flags and self.next_is(name, "silent"):
             return False
         is_for_it = message.function == DISCONNECT_ACK or message.payload[0] == DISCONNECT_REQUEST
         if is_for_it and message.id == self.open[name].asked:
@@ -187,6 +188,11 @@ class Reader:
         else:
             self.send(name, HUB, message, "nothing is done about it")
         return True
+
+    def is_answer(self, message):
+        """Whether a name that was asked to disconnect may answer so. Of one with destination options the text says it."""
+        is_one = message.function in (RESULT, DISCONNECT_ACK) and message.flags in (0x00, 0x02)
+        return is_one and message.is_whole() and message.is_in_range() and len(message.octets) <= self.longest
 
     def joined(self, name, message, words):
         connection, replaced = words[0], words[2:]
