@@ -79,9 +79,9 @@ pub filed_more : {S : Type 0} (members : List Member) (i : ℕ) (m : Member) (gr
     → FiledTo i members groups places → FiledTo (i + 1) members now after
 filed_more members i m groups now places after place within at stays is files before = λ v.
     let found = found_more v members i m within at in
-    let told = next groups now m place stays (named m.group (slice_get now place) is) (find (λ x. same_vmac x.vmac v) (take i members)) (filed_at places v) (same_vmac m.vmac v) (before v) in
+    let here = next groups now m place stays (named m.group (slice_get now place) is) (find (λ x. same_vmac x.vmac v) (take i members)) (filed_at places v) (same_vmac m.vmac v) (before v) in
     subst (λ (o : Option Member). KeepsGroup now o (filed_at after v)) (sym found)
-      (subst (λ (q : Option ℕ). KeepsGroup now (option_or (find (λ x. same_vmac x.vmac v) (take i members)) (cond (same_vmac m.vmac v) (Some m) None)) q) (sym (files v)) told)
+      (subst (λ (q : Option ℕ). KeepsGroup now (option_or (find (λ x. same_vmac x.vmac v) (take i members)) (cond (same_vmac m.vmac v) (Some m) None)) q) (sym (files v)) here)
 
 -- ---- all of them
 

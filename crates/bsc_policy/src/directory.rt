@@ -21,9 +21,10 @@ fn file(places: &mut HashMap<Key, usize>, v: Vmac, place: usize) -> Result<(), N
     ensures { OnOk result (Files places.old places.new v place) }
 {
     let key = Key(v.0);
-    if !places.contains_key(&key) {
-        places.insert(key, place)?;
+    if places.contains_key(&key) {
+        return Ok(());
     }
+    places.insert(key, place)?;
     Ok(())
 }
 
@@ -47,6 +48,7 @@ impl Directory {
     pub(crate) fn place(&self, v: Vmac) -> Option<usize>
         ensures { result ≡ filed_at self.now.places v }
     {
-        self.places.get(&Key(v.0)).copied()
+        let key = Key(v.0);
+        self.places.get(&key).copied()
     }
 }

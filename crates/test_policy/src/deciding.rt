@@ -1,7 +1,7 @@
 //! Decisions worked by hand, and who is admitted.
 use crate::peers::{address, device, peer};
 use Decision::{Allowed, Denied};
-use bsc_octets::Vmac;
+use bsc_octets::{Identity, Vmac};
 use bsc_policy::{Decision, Policy, PolicyFault};
 use std::alloc::Global;
 use std::process::Abort;
@@ -55,6 +55,17 @@ fn of_five(alloc: Global) -> Result<Policy, PolicyFault> {
     Ok(policy)
 }
 
+/// Controllers don't write to operators; all else may go.
+fn of_two_groups(alloc: Global, a: Identity, c: Identity) -> Result<Policy, PolicyFault> {
+    let mut policy = Policy::make(alloc);
+    policy.member(a.device, a.vmac, "ctl")?;
+    policy.member(c.device, c.vmac, "ops")?;
+    policy.rule(false, "ctl", "ops")?;
+    policy.rule(true, "*", "*")?;
+    policy.settle()?;
+    Ok(policy)
+}
+
 fn decides_as_worked(rt: &impl Abort, policy: &Policy) {
     for (from, to, decision) in &DECISIONS {
         assert_eq!(rt; policy.decides(address(*from), address(*to)), *decision);
@@ -68,6 +79,14 @@ fn decides_by_the_first_rule_that_applies(rt: HostRuntime) -> Result<(), Fail> {
     decides_as_worked(&rt, &policy);
     policy.settle()?;
     decides_as_worked(&rt, &policy);
+    Ok(())
+}
+
+#[test]
+fn controllers_dont_write_to_operators(rt: HostRuntime) -> Result<(), Fail> {
+    let policy = of_two_groups(rt.alloc(), peer(A, A), peer(C, C))?;
+    assert_eq!(rt; policy.decides(address(A), address(C)), Denied { rule: 1 });
+    assert_eq!(rt; policy.decides(address(C), address(A)), Allowed { rule: 2 });
     Ok(())
 }
 
