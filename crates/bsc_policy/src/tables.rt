@@ -37,12 +37,12 @@ impl Tables {
         ensures { (members : List Member) (rules : List Rule) → AreTablesOf members rules self.now →
             result ≡ number_between rules (group_of members from) (group_of members to) }
     {
-        let Some(from) = self.directory.place(from) else {
-            return 0;
-        };
-        let Some(to) = self.directory.place(to) else {
-            return 0;
-        };
-        number_at(&self.numbers, from, to)
+        match self.directory.place(from) {
+            Some(row) => match self.directory.place(to) {
+                Some(place) => number_at(&self.numbers, row, place),
+                None => 0,
+            },
+            None => 0,
+        }
     }
 }
