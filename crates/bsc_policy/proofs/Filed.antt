@@ -81,7 +81,7 @@ filed_more members i m groups now places after place within at stays is files be
     let found = found_more v members i m within at in
     let here = next groups now m place stays (named m.group (slice_get now place) is) (find (λ x. same_vmac x.vmac v) (take i members)) (filed_at places v) (same_vmac m.vmac v) (before v) in
     subst (λ (o : Option Member). KeepsGroup now o (filed_at after v)) (sym found)
-      (subst (λ (q : Option ℕ). KeepsGroup now (option_or (find (λ x. same_vmac x.vmac v) (take i members)) (cond (same_vmac m.vmac v) (Some m) None)) q) (sym (files v)) here)
+    (subst (λ (q : Option ℕ). KeepsGroup now (option_or (find (λ x. same_vmac x.vmac v) (take i members)) (cond (same_vmac m.vmac v) (Some m) None)) q) (sym (files v)) here)
 
 -- ---- all of them
 
@@ -95,4 +95,4 @@ pub filed_all : {S : Type 0} (members : List Member) (i : ℕ) (groups : List (L
     → (v : Vmac) → group_at groups (filed_at places v) ≡ group_of members v
 filed_all members i groups places past filed = λ v.
     told groups (find (λ m. same_vmac m.vmac v) members) (filed_at places v)
-      (subst (λ (l : List Member). KeepsGroup groups (find (λ m. same_vmac m.vmac v) l) (filed_at places v)) (take_all i members past) (filed v))
+    (subst (λ (l : List Member). KeepsGroup groups (find (λ m. same_vmac m.vmac v) l) (filed_at places v)) (take_all i members past) (filed v))

@@ -47,7 +47,11 @@ fn add(alloc: Global, groups: &mut Vec<Octets>, name: &[u8]) -> Result<usize, No
 }
 
 /// Where a group stands. It is added where it isn't there yet, and all others stay where they are.
-pub(crate) fn place_of(alloc: Global, groups: &mut Vec<Octets>, name: &[u8]) -> Result<usize, NoMemory>
+pub(crate) fn place_of(
+    alloc: Global,
+    groups: &mut Vec<Octets>,
+    name: &[u8],
+) -> Result<usize, NoMemory>
     ensures place { IfOk result (λ i. IsTrue (is_group name.now (slice_get groups.new.items i))) }
     ensures stays { (i : ℕ) (g : List ℕ) → slice_get groups.old.items i ≡ Some g → slice_get groups.new.items i ≡ Some g }
 {

@@ -66,9 +66,13 @@ pub(crate) fn decided_by(rules: &[Rule], number: u16) -> Decision
     }
     match rules.get(number as usize - 1) {
         Some(rule) => if rule.allows {
-            Decision::Allowed { rule: number as u32 }
+            Decision::Allowed {
+                rule: number as u32,
+            }
         } else {
-            Decision::Denied { rule: number as u32 }
+            Decision::Denied {
+                rule: number as u32,
+            }
         },
         None => Decision::Denied { rule: 0 },
     }

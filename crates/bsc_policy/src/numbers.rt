@@ -21,7 +21,12 @@ pub(crate) fn number_at(rows: &[Vec<u16>], row: usize, place: usize) -> u16
 }
 
 /// The numbers of the first rules that apply from one group to each.
-fn row_of(alloc: Global, rules: &[Rule], groups: &[Octets], from: &[u8]) -> Result<Vec<u16>, NoMemory>
+fn row_of(
+    alloc: Global,
+    rules: &[Rule],
+    groups: &[Octets],
+    from: &[u8],
+) -> Result<Vec<u16>, NoMemory>
     requires { length rules.now ≤ 256 }
     ensures { IfOk result (λ row. row.items ≡ row_of rules.now groups.now from.now) }
 {
@@ -33,7 +38,11 @@ fn row_of(alloc: Global, rules: &[Rule], groups: &[Octets], from: &[u8]) -> Resu
 }
 
 /// The numbers of the first rules that apply from each group to each.
-pub(crate) fn rows_of(alloc: Global, rules: &[Rule], groups: &[Octets]) -> Result<Vec<Vec<u16>>, NoMemory>
+pub(crate) fn rows_of(
+    alloc: Global,
+    rules: &[Rule],
+    groups: &[Octets],
+) -> Result<Vec<Vec<u16>>, NoMemory>
     requires { length rules.now ≤ 256 }
     ensures { IfOk result (λ rows. map (λ r. r.items) rows.items ≡ rows_of rules.now groups.now) }
 {

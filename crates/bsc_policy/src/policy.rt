@@ -77,7 +77,9 @@ impl Policy {
             return Err(PolicyFault::Full { held: 1024 });
         }
         if let Some(place) = taken_at(&self.members, vmac, &device) {
-            return Err(PolicyFault::Twice { member: place as u32 });
+            return Err(PolicyFault::Twice {
+                member: place as u32,
+            });
         }
         let name = copy_of(self.alloc, group.as_bytes())?;
         self.tables = None;

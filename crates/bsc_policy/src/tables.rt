@@ -23,7 +23,11 @@ impl Tables {
     ghost use Rattle.bsc_policy.specs.Tables.{AreTablesOf};
 
     /// The tables of these members and rules.
-    pub(crate) fn make(alloc: Global, members: &[Member], rules: &[Rule]) -> Result<Tables, NoMemory>
+    pub(crate) fn make(
+        alloc: Global,
+        members: &[Member],
+        rules: &[Rule],
+    ) -> Result<Tables, NoMemory>
         requires { length rules.now ≤ 256 }
         ensures { IfOk result (AreTablesOf members.now rules.now) }
     {
