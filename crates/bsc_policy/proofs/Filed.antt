@@ -1,5 +1,5 @@
 -- Places that are filed under addresses, member by member.
-use Rattle.std.proofs.Common.{◌≡◌, ◌≤◌, ◌<◌, ◌+◌, ℕ, zero, suc, Bool, true, false, cond, if◌then◌else◌, nat_eq, List, [], ◌∷◌, ◌++◌, length, take, get_or, find, slice_get, Option, Some, None, is_some, HashMap, refl, ap, sym, subst, ◌∙◌, arith, take-suc, take_all}
+use Rattle.std.proofs.Common.{◌≡◌, ◌≤◌, ◌<◌, ◌+◌, ℕ, suc, Bool, true, false, cond, if◌then◌else◌, nat_eq, List, [], ◌∷◌, ◌++◌, length, take, get_or, find, slice_get, Option, Some, None, is_some, HashMap, refl, ap, sym, subst, ◌∙◌, arith, take-suc, take_all}
 use Rattle.std.specs.Prelude.{⊤}
 use Rattle.std.specs.Cmp.Lexicographic.{pointwise, bytes_decides}
 use Rattle.std.specs.HashMap.{get_by}

@@ -9,10 +9,15 @@ use std::test::*;
 
 /// The addresses of two controllers, an operator and two devices of a laboratory, and one that no member has.
 const A: u16 = 0x0A;
+
 const B: u16 = 0x0B;
+
 const C: u16 = 0x0C;
+
 const D: u16 = 0x0D;
+
 const E: u16 = 0x0E;
+
 const NOBODY: u16 = 0x0F;
 
 /// A sender, a receiver, and what is decided.
@@ -70,7 +75,10 @@ fn decides_as_worked(rt: &impl Abort, policy: &Policy) {
     for (from, to, decision) in &DECISIONS {
         assert_eq!(rt; policy.decides(address(*from), address(*to)), *decision);
     }
-    assert_eq!(rt; policy.decides(address(A), Vmac::BROADCAST), Denied { rule: 0 });
+    assert_eq!(rt;
+        policy.decides(address(A), Vmac::BROADCAST),
+        Denied { rule: 0 }
+    );
 }
 
 #[test]
@@ -99,9 +107,15 @@ fn a_rule_more_counts_before_it_is_settled_and_after(rt: HostRuntime) -> Result<
     policy.settle()?;
     assert_eq!(rt; policy.decides(address(D), address(C)), Allowed { rule: 6 });
     policy.member(device(NOBODY), address(NOBODY), "ctl")?;
-    assert_eq!(rt; policy.decides(address(NOBODY), address(A)), Allowed { rule: 4 });
+    assert_eq!(rt;
+        policy.decides(address(NOBODY), address(A)),
+        Allowed { rule: 4 }
+    );
     policy.settle()?;
-    assert_eq!(rt; policy.decides(address(NOBODY), address(A)), Allowed { rule: 4 });
+    assert_eq!(rt;
+        policy.decides(address(NOBODY), address(A)),
+        Allowed { rule: 4 }
+    );
     Ok(())
 }
 
@@ -123,9 +137,15 @@ fn a_device_is_admitted_under_its_own_address(rt: HostRuntime) -> Result<(), Fai
     let policy = of_five(rt.alloc())?;
     assert!(rt; policy.admits(&peer(A, A)));
     assert!(rt; policy.admits(&peer(E, E)));
-    assert!(rt; !policy.admits(&peer(B, A)), "the address of another member");
+    assert!(rt;
+        !policy.admits(&peer(B, A)),
+        "the address of another member"
+    );
     assert!(rt; !policy.admits(&peer(NOBODY, A)), "an address of nobody");
-    assert!(rt; !policy.admits(&peer(A, NOBODY)), "a device that isn't written");
+    assert!(rt;
+        !policy.admits(&peer(A, NOBODY)),
+        "a device that isn't written"
+    );
     Ok(())
 }
 
