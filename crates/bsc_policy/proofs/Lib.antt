@@ -1,0 +1,4 @@
+mod WorkedDecisions
+pub mod Standing
+pub mod Filed
+pub mod Numbered

@@ -1,0 +1,4 @@
+pub mod Decisions
+pub mod Writing
+pub mod Filing
+pub mod Tables
