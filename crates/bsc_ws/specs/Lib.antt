@@ -1,4 +1,5 @@
 pub mod Limits
 pub mod Receiving
+pub mod Sending
 pub mod Protocols
 pub mod Targets

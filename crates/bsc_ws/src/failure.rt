@@ -1,5 +1,6 @@
 //! What errors of a socket come to.
 ghost use Rattle.bsc_ws.specs.Receiving.{Fails};
+ghost use Rattle.bsc_ws.specs.Sending.{FaultOf};
 
 use bsc_edge::{Incoming, LinkFault};
 use std::io::ErrorKind;
@@ -24,7 +25,9 @@ pub(crate) fn failure(error: Error) -> Result<Incoming, LinkFault>
 }
 
 /// What a handshake, a put or a closing answers where it failed by this.
-pub(crate) fn fault_of(error: Error) -> LinkFault {
+pub(crate) fn fault_of(error: Error) -> LinkFault
+    ensures { FaultOf error result }
+{
     match error {
         Error::OutOfMemory => LinkFault::NoMemory,
         _ => LinkFault::Failed,

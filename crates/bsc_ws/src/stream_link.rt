@@ -1,10 +1,11 @@
 //! Links over any stream.
-ghost use Rattle.std.specs.Prelude.{◌≡◌, ◌≤◌, ◌⊎◌, [], ◌∷◌, Some, None, Ok, Err, OnOk, ⊤};
+ghost use Rattle.std.specs.Prelude.{◌≡◌, ◌≤◌, ◌⊎◌, [], ◌∷◌, Some, None, Ok, Err, OnOk, IfErr, ⊤};
 ghost use Rattle.bsc_edge.specs.Told.{Grows, IsQuiet, fault_in};
 ghost use Rattle.bsc_edge.specs.declared.fault.LinkFault.{LinkFault};
 ghost use Rattle.bsc_edge.specs.declared.said.Said.{Said};
 ghost use Rattle.bsc_outside.specs.Faults.{HasRisen};
 ghost use Rattle.bsc_ws.specs.Receiving.{Answers, Receives, HasReplied, IsUnset};
+ghost use Rattle.bsc_ws.specs.Sending.{FaultOf, Unsent};
 ghost use Rattle.tungstenite.specs.Connection.{write_step, close_step};
 ghost use Rattle.tungstenite.specs.Content.{binary};
 ghost use Rattle.tungstenite.specs.Socket.{Writes};
@@ -89,6 +90,7 @@ impl<T: Read + Write + Drop, W: Patience + Drop, K: MaskKeys + Drop> StreamLink<
 
     /// What an error of a write comes to.
     fn unsent(&mut self, error: Error) -> LinkFault
+        ensures fault { FaultOf error result }
         ensures socket { self.new.socket ≡ self.old.socket }
         ensures later { self.old.faults ≤ self.new.faults }
         ensures failed { result ≡ LinkFault.Failed → HasRisen self.old.faults self.new.faults }
@@ -133,6 +135,8 @@ impl<T: Read + Write + Drop, W: Patience + Drop, K: MaskKeys + Drop> Link for St
         // One binary frame of these octets goes to the stream, and nothing waits behind it.
         ensures sent { OnOk result (Writes T.contents self.old.socket self.new.socket (write_step self.old.socket.conn (binary m.now))) }
         ensures empty { OnOk result (self.new.socket.output ≡ []) }
+        // Where it fails, nothing goes but some octets of this frame.
+        ensures unsent { IfErr result (Unsent T.contents self.old.socket self.new.socket (write_step self.old.socket.conn (binary m.now))) }
         ensures later { self.old.faults ≤ self.new.faults }
         ensures failed { result ≡ Err LinkFault.Failed → HasRisen self.old.faults self.new.faults }
         ensures quiets { self.old.quiets ≤ self.new.quiets }
@@ -153,6 +157,8 @@ impl<T: Read + Write + Drop, W: Patience + Drop, K: MaskKeys + Drop> Link for St
         ensures sent { OnOk result (Writes T.contents self.old.socket self.new.socket
             (close_step self.old.socket.conn (Some (close_code_of code, reason.now)))) }
         ensures empty { OnOk result (self.new.socket.output ≡ []) }
+        // Where there is no memory, nothing goes.
+        ensures unsent { result ≡ Err LinkFault.NoMemory → self.new.socket ≡ self.old.socket }
         ensures later { self.old.faults ≤ self.new.faults }
         ensures failed { result ≡ Err LinkFault.Failed → HasRisen self.old.faults self.new.faults }
         ensures quiets { self.old.quiets ≤ self.new.quiets }
