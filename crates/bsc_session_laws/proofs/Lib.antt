@@ -1,0 +1,7 @@
+mod Verdicts
+mod Turning
+mod Courses
+mod Forwarding
+mod Connecting
+mod Accepting
+pub mod WorkedLaws
