@@ -25,7 +25,7 @@ use Rattle.bsc_accept.specs.Steps.{ask_step, connected_step, message_step, norma
 use Rattle.bsc_session.specs.declared.ended.Ended.{Ended}
 use Rattle.bsc_session.specs.declared.stop.Stop.{Stop}
 use Rattle.bsc_session.specs.Answering.{IsHearing, called, calls_hub, entries_hearing, forwarded_by, stop_hearing, stop_message}
-use Rattle.bsc_session.specs.Causes.{answer_in, judged_in, last_answer, last_judged}
+use Rattle.bsc_session.specs.Causes.{answer_in, judged_in}
 use Rattle.bsc_session.specs.Course.{EachTurn, GoesOn, all_turns, and_last, entries_of, shares}
 use Rattle.bsc_session.specs.Judging.{verdict_on}
 use Rattle.bsc_session.specs.Receiving.{Answer, replies, worn, no_memory, Hearing}
@@ -34,7 +34,7 @@ use Rattle.bsc_session.specs.Stops.{stop_at}
 use Rattle.bsc_session.specs.Taking.{opened, stop_before}
 use Rattle.bsc_session.specs.Talk.{Session, leaving}
 use Rattle.bsc_session.specs.Turns.{IsHearingIf, IsTurn, Turn, after, entries_after, entries_in, said_in, stop_after}
-use Rattle.bsc_session_laws.specs.Laws.{ConnectsAreAsked, MadeNone}
+use Rattle.bsc_session_laws.specs.Laws.{ConnectsAreAsked, IsUnconnected}
 use Rattle.bsc_session_laws.specs.Messages.{asked, asked_by, connected, connected_in, message_after, message_by, message_in, messages_of}
 use Rattle.bsc_session_laws.proofs.Courses.{all_as, all_but, mapped_shares}
 use Rattle.bsc_session_laws.proofs.Forwarding.{Lacks, lacks_last, lacks_none}
@@ -42,8 +42,8 @@ use Rattle.bsc_session_laws.proofs.Turning.{Joins, Waits, at, first_none, hearin
 use Rattle.bsc_session_laws.proofs.Verdicts.{asked_awaiting}
 
 -- why a Connect may be lacking: the hub made no entry, or there was no memory to judge
-abbrev NoConnect : Option Answer → Bool → Type 0
-NoConnect answer judged = MadeNone answer ⊎ (judged ≡ false)
+abbrev NoConnect : Option Answer → Bool → Identity → Type 0
+NoConnect answer judged who = ((answer ≡ Some worn) ⊎ (answer ≡ Some no_memory)) ⊎ (judged ≡ false)
 
 -- ---- a hearing
 
@@ -63,12 +63,12 @@ no_connect v s Carry m (Some (replies looks reply)) isnt = forwards_connect_none
 no_connect v s (Close c) m answer isnt = refl
 no_connect v s Nothing m answer isnt = refl
 
-not_asked_connected : (id : ℕ) (body : Body) (who : Identity) → connected_step id body ≡ Ask who → ⊥
+pub not_asked_connected : (id : ℕ) (body : Body) (who : Identity) → connected_step id body ≡ Ask who → ⊥
 not_asked_connected id HeartbeatRequest who e = cc
 not_asked_connected id DisconnectRequest who e = cc
 not_asked_connected id body who e = cc
 
-not_asked_parting : (b : Bool) (who : Identity) → cond b (Close normal) Nothing ≡ Ask who → ⊥
+pub not_asked_parting : (b : Bool) (who : Identity) → cond b (Close normal) Nothing ≡ Ask who → ⊥
 not_asked_parting true who e = cc
 not_asked_parting false who e = cc
 
@@ -92,8 +92,8 @@ asked_made : (v : Terms) (s x : Standing) (m : List ℕ) (who : Identity) (answe
     → Lacks (NoConnect answer true) (stop_message v x (Ask who) answer fault) (who ∷ []) (connected (called v s (Ask who) (Ok (Message m)) answer))
 asked_made v s x m who None fault h = cc
 asked_made v s x m who (Some (replies looks reply)) fault h = inl refl
-asked_made v s x m who (Some worn) fault h = inr (inl (inl refl), (λ e. cc), (who, refl, refl))
-asked_made v s x m who (Some no_memory) fault h = inr (inl (inr refl), (λ e. cc), (who, refl, refl))
+asked_made v s x m who (Some worn) fault h = inr (who, inl (inl refl), (λ e. cc), refl, refl)
+asked_made v s x m who (Some no_memory) fault h = inr (who, inl (inr refl), (λ e. cc), refl, refl)
 
 passed_connects : (v : Terms) (s x : Standing) (m : List ℕ) (answer : Option Answer) (fault : Option LinkFault) (msg : Bvlc) (o : Option Identity) → who_asks msg.body ≡ o → ((who : Identity) → o ≡ Some who → standing s.events ≡ awaiting_request)
     → is_some answer ≡ calls_hub (passed_step (standing s.events) msg)
@@ -116,7 +116,7 @@ verdict_connects v s x m answer fault (Nak check octets) is calls = inl refl
 -- a message that asks, and for the judging of which memory was wanting
 unjudged : (answer : Option Answer) (stop : Stop) (msg : Bvlc) (o : Option Identity) → Lacks (NoConnect answer false) (Some stop) (option_to_list o ++ []) []
 unjudged answer stop msg None = inl refl
-unjudged answer stop msg (Some who) = inr (inr refl, (λ e. cc), (who, refl, refl))
+unjudged answer stop msg (Some who) = inr (who, inr refl, (λ e. cc), refl, refl)
 
 hearing_connects : (v : Terms) (s : Standing) (now : ℕ) (given : Result Incoming LinkFault) (judged : Bool) (answer : Option Answer) (fault : Option LinkFault) → IsHearing v s now (hearing given judged answer fault)
     → Lacks (NoConnect answer judged) (stop_hearing v s now (hearing given judged answer fault)) (asked (message_by v s given)) (connected (entries_hearing v s now (hearing given judged answer fault)))
@@ -135,7 +135,7 @@ hearing_connects v s now (Ok (Message m)) true answer fault is = verdict_connect
 -- ---- a turn
 
 turn_connects : (v : Terms) (s : Standing) (t : Turn) → IsTurn v s t
-    → Lacks (NoConnect (last_answer (Some t)) (last_judged (Some t))) (stop_after v (opened s t.opening) t.opening.reading t.hearing) (asked (message_in v s t)) (connected (entries_in v s t))
+    → Lacks (IsUnconnected (Some t)) (stop_after v (opened s t.opening) t.opening.reading t.hearing) (asked (message_in v s t)) (connected (entries_in v s t))
 turn_connects v s t is = by t.hearing is.hearing
   where
     by : (h : Option Hearing) → IsHearingIf v (opened s t.opening) t.opening.reading h
@@ -210,7 +210,6 @@ pub connects_are_asked : (v : Terms) (T : List Said) (R : List ℕ) (E : List En
 connects_are_asked v T R E frames ended x =
     let c = x.course in
     let G = λ (v : Terms) (s : Standing) (t : Turn). connected (entries_in v s t) in
-    let N = λ (last : Option Turn). NoConnect (last_answer last) (last_judged last) in
     let all : asked (messages_of c) ≡ shares Asks v begun (all_turns c) = mapped_shares (λ m. asked_by m.verdict) message_in v begun (all_turns c) in
     let left = leaving v.caller ended.conn ended.taken ended.empties x.reply in
     let done : connected E ≡ shares G v begun (all_turns c) =
@@ -218,11 +217,11 @@ connects_are_asked v T R E frames ended x =
     ∙ ap (λ (l : List Identity). connected (entries_of c) ++ l) (leaves_connect_none v.caller ended.conn ended.taken ended.empties x.reply)
     ∙ append-nil (connected (entries_of c)) ∙ mapped_shares (λ (e : Entry). connected_in e.call) entries_in v begun (all_turns c) in
     record {
-      made = all_as (N c.last) (asked (messages_of c)) (connected E) (shares Asks v begun (all_turns c)) (shares G v begun (all_turns c)) all done
+      made = all_as (IsUnconnected c.last) (asked (messages_of c)) (connected E) (shares Asks v begun (all_turns c)) (shares G v begun (all_turns c)) all done
           (all_but Asks G v
-          (λ s t tied is on. lacks_none (N (Some t)) (stop_after v (opened s t.opening) t.opening.reading t.hearing) (Asks v s t) (G v s t) (turn_connects v s t is) (first_none (stop_before v s t.opening) (stop_after v (opened s t.opening) t.opening.reading t.hearing) on).1)
-          N
-          (λ s t tied is. lacks_last (N (Some t)) (stop_after v (opened s t.opening) t.opening.reading t.hearing) (Asks v s t) (G v s t) (turn_connects v s t is))
+          (λ s t tied is on. lacks_none (IsUnconnected (Some t)) (stop_after v (opened s t.opening) t.opening.reading t.hearing) (Asks v s t) (G v s t) (turn_connects v s t is) (first_none (stop_before v s t.opening) (stop_after v (opened s t.opening) t.opening.reading t.hearing) on).1)
+          IsUnconnected
+          (λ s t tied is. lacks_last (IsUnconnected (Some t)) (stop_after v (opened s t.opening) t.opening.reading t.hearing) (Asks v s t) (G v s t) (turn_connects v s t is))
           begun c.went_on c.last tied_begun c.turns c.goes_on);
       once = subst (λ (ws : List Identity). length ws ≤ 1) (sym all) (asks_once v begun c.went_on c.last refl c.turns c.goes_on);
     }

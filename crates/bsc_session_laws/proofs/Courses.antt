@@ -35,7 +35,7 @@ module _ {A : Type 0} (f g : Share A) (v : Terms) (goes : (s : Standing) (t : Tu
       ∙ ap (λ (l : List A). g v s t ++ l) (same_shares (after v s t) ts (tied_after v s t k) is.1 on.1)
 
   -- and all turns do, but for what the last one lacks
-  pub all_but : (N : Option Turn → Type 0) → ((s : Standing) (t : Turn) → Tied s → IsTurn v s t → AreAllBut (N (Some t)) (f v s t) (g v s t))
+  pub all_but : (N : Option Turn → A → Type 0) → ((s : Standing) (t : Turn) → Tied s → IsTurn v s t → AreAllBut (N (Some t)) (f v s t) (g v s t))
       → (s : Standing) (ts : List Turn) (last : Option Turn) → Tied s → EachTurn IsTurn v s (and_last ts last) → EachTurn GoesOn v s ts
       → AreAllBut (N last) (shares f v s (and_last ts last)) (shares g v s (and_last ts last))
   all_but N ends s ts None k is on = inl (same_shares s ts k is on)
@@ -53,13 +53,11 @@ module _ {A : Type 0} (f g : Share A) (v : Terms) (goes : (s : Standing) (t : Tu
           )
       by (inr r) = inr (
         r.0,
-        (
-          r.1.0,
-          shares-more f v s ts t ∙ ap (λ (l : List A). l ++ f v (standing v s ts) t) front ∙ ap (λ (l : List A). shares g v s ts ++ l) r.1.1
-              ∙ sym (append_assoc (shares g v s ts) (g v (standing v s ts) t) (r.1.0 ∷ [])) ∙ ap (λ (l : List A). l ++ r.1.0 ∷ []) (sym (shares-more g v s ts t)),
-        ),
+        r.1,
+        shares-more f v s ts t ∙ ap (λ (l : List A). l ++ f v (standing v s ts) t) front ∙ ap (λ (l : List A). shares g v s ts ++ l) r.2
+            ∙ sym (append_assoc (shares g v s ts) (g v (standing v s ts) t) (r.0 ∷ [])) ∙ ap (λ (l : List A). l ++ r.0 ∷ []) (sym (shares-more g v s ts t)),
       )
 
-pub all_as : {A : Type 0} (N : Type 0) (all made every done : List A) → all ≡ every → made ≡ done → AreAllBut N every done → AreAllBut N all made
+pub all_as : {A : Type 0} (N : A → Type 0) (all made every done : List A) → all ≡ every → made ≡ done → AreAllBut N every done → AreAllBut N all made
 all_as N all made every done a m (inl e) = inl (a ∙ e ∙ sym m)
-all_as {A} N all made every done a m (inr r) = inr (r.0, (r.1.0, a ∙ r.1.1 ∙ ap (λ (l : List A). l ++ r.1.0 ∷ []) (sym m)))
+all_as {A} N all made every done a m (inr r) = inr (r.0, r.1, a ∙ r.2 ∙ ap (λ (l : List A). l ++ r.0 ∷ []) (sym m))

@@ -3,5 +3,6 @@ mod Turning
 mod Courses
 mod Forwarding
 mod Connecting
+mod Owning
 mod Accepting
 pub mod WorkedLaws

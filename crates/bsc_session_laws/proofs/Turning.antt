@@ -88,7 +88,7 @@ opened_in s o =
 pub tied_opened : (s : Standing) (o : Opening) → Tied s → Tied (opened s o)
 tied_opened s o tied = (let k = opened_in s o in k.0 ∙ tied ∙ ap is_some (sym k.1))
 
-heard_in : (v : Terms) (s : Standing) (now : ℕ) (judged : Bool) (given : Result Incoming LinkFault) → (is_in (heard v s now judged given) ≡ is_in s) × ((heard v s now judged given).conn ≡ s.conn)
+pub heard_in : (v : Terms) (s : Standing) (now : ℕ) (judged : Bool) (given : Result Incoming LinkFault) → (is_in (heard v s now judged given) ≡ is_in s) × ((heard v s now judged given).conn ≡ s.conn)
 heard_in v s now true (Ok (Message m)) = (told_in s (Came now (verdict_on v s m)) refl, refl)
 heard_in v s now true (Ok Closed) = (refl, refl)
 heard_in v s now true (Ok Text) = (refl, refl)

@@ -1,4 +1,4 @@
-use Rattle.bsc_session_laws.proofs.Forwarding.{forwards_are_carried}
+use Rattle.bsc_session_laws.proofs.Owning.{forwards_are_carried}
 use Rattle.bsc_session_laws.proofs.laws.forwards_are_carried.Goals as goal
 
 pub returns : goal.returns
