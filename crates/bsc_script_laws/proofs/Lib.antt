@@ -8,3 +8,4 @@ pub mod Sound
 pub mod Keeping
 pub mod Resting
 pub mod OneHub
+mod WorkedScripts

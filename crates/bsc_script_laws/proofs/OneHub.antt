@@ -13,8 +13,8 @@ use Rattle.bsc_script.specs.States.{State, new_hub}
 use Rattle.bsc_script.specs.Carrying.{Outcome}
 use Rattle.bsc_script.specs.Emptying.{is_connected, unwritten_after}
 use Rattle.bsc_script.specs.Running.{line_outcome, run_line}
-use Rattle.bsc_script.specs.Laws.{WritesInOrder, WritesAll, after_lines}
-use Rattle.bsc_script_laws.proofs.Adding.{none_after, same_some, state_of, then_emptied}
+use Rattle.bsc_script.specs.Laws.{IsOfOneHub, WritesInOrder, WritesAll, after_lines}
+use Rattle.bsc_script_laws.proofs.Adding.{callers_after, none_after, same_some, state_of, then_emptied}
 use Rattle.bsc_script_laws.proofs.Keeping.{outcome_sound}
 use Rattle.bsc_script_laws.proofs.Looking.{drop-front}
 use Rattle.bsc_script_laws.proofs.Resting.{AtRest, emptied_rests}
@@ -53,7 +53,7 @@ after_rests a lines s e = some_rests lines (new_hub a) s (new_rests a) e
 -- ---- the frames
 
 -- what was written for a peer is the first part of what entered its outbox
-pub in_order_of : (s : State) → IsSound s → AllByRecursion (WritesInOrder s) s.peers
+in_order_of : (s : State) → IsSound s → AllByRecursion (WritesInOrder s) s.peers
 in_order_of s h = all_from_In (WritesInOrder s) s.peers (λ k m. (h.peers k m).begins)
 
 nothing_there : (l : List (List ℕ)) → (length l == 0) ≡ true → l ≡ []
@@ -74,7 +74,18 @@ none_waits false h n x p q f = absurd (true≢false (sym p))
 none_waits true true n x p q f = absurd (true≢false q)
 
 -- and all of it, where the peer is connected and not held
-pub whole_of : (s : State) → AtRest s → AllByRecursion (WritesAll s) s.peers
+whole_of : (s : State) → AtRest s → AllByRecursion (WritesAll s) s.peers
 whole_of s h = all_from_In (WritesAll s) s.peers (λ k m c is on_line free.
     all_written (sent s.about s.history c) k.frames ((h.sound.peers k m).begins c is)
     (none_waits (is_connected (phase k.events)) k.held (length (unwritten_after s.about s.history k c) == 0) (is_some (ended s.history c)) (ap is_connected on_line) free (h.rests k c m is)))
+
+-- After any lines of a new hub.
+pub one_hub : (a : About) (lines : List Line) (s : State) → after_lines (Some (new_hub a)) lines ≡ Some s → IsOfOneHub s
+one_hub a lines s e =
+    let h = after_rests a lines s e in
+    record {
+      legal = h.sound.legal;
+      callers = callers_after lines (new_hub a) s tt e;
+      in_order = in_order_of s h.sound;
+      whole = whole_of s h;
+    }
