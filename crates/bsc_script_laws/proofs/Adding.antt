@@ -157,16 +157,16 @@ all_emptied_added P plain a H (x ∷ xs) o h = all_emptied_added P plain a H xs 
 
 -- ---- a line
 
-same_some : {A : Type 0} (x y : A) → Some x ≡ Some y → x ≡ y
+pub same_some : {A : Type 0} (x y : A) → Some x ≡ Some y → x ≡ y
 same_some x y e = cc
 
 -- what is accepted on a condition
-accepted : (b : Bool) (x o : Outcome) → cond b (Some x) None ≡ Some o → x ≡ o
+pub accepted : (b : Bool) (x o : Outcome) → cond b (Some x) None ≡ Some o → x ≡ o
 accepted true x o e = same_some x o e
 accepted false x o e = cc
 
 -- what is done to the peer of a name
-of_name : (f : Peer → Outcome) (p : Option Peer) (o : Outcome) → option_map f p ≡ Some o → (k : Peer) × (p ≡ Some k) × (f k ≡ o)
+pub of_name : (f : Peer → Outcome) (p : Option Peer) (o : Outcome) → option_map f p ≡ Some o → (k : Peer) × (p ≡ Some k) × (f k ≡ o)
 of_name f None o e = cc
 of_name f (Some k) o e = (k, refl, same_some (f k) o e)
 
@@ -205,7 +205,7 @@ outcome_added P plain s f Counts o e =
     as_outcome P s.about s.history (says_counts s) o (same_some (says_counts s) o e)
     (either_added P s.about s.history (is_worn s) (writes (hub_says (codes "worn")) (quietly s)) (writes (hub_says (counts_words (counts s.history))) (quietly (called s Count))) (nothing_added P s) (call_added P s Count (plain (entry_in s Count) refl refl)))
 
-then_emptied : (p : Option Outcome) (o : Outcome) → option_map emptied p ≡ Some o → (u : Outcome) × (p ≡ Some u) × (emptied u ≡ o)
+pub then_emptied : (p : Option Outcome) (o : Outcome) → option_map emptied p ≡ Some o → (u : Outcome) × (p ≡ Some u) × (emptied u ≡ o)
 then_emptied None o e = cc
 then_emptied (Some u) o e = (u, refl, same_some (emptied u) o e)
 
@@ -229,12 +229,12 @@ line_callers s line o e h =
     subst (λ (l : List Entry). AllByRecursion IsOfCaller0 l) (sym a.behind) (all-push IsOfCaller0 s.history a.more h a.each)
 
 -- After some lines all entries are caller 0's, if all before them were.
-none_after : (lines : List Line) (u : State) → after_lines None lines ≡ Some u → ⊥
+pub none_after : (lines : List Line) (u : State) → after_lines None lines ≡ Some u → ⊥
 none_after [] u e = cc
 none_after (line ∷ lines) u e = none_after lines u e
 
 -- what stands after a line that comes to this
-abbrev state_of : Option Outcome → Option State
+abbrev pub state_of : Option Outcome → Option State
 state_of p = elim p [ None ↦ None | Some o ↦ Some o.state ]
 
 callers_by : (s u : State) (line : Line) (lines : List Line) (p : Option Outcome) → run_line s line ≡ p → AllByRecursion IsOfCaller0 s.history

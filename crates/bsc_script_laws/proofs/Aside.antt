@@ -1,5 +1,5 @@
 -- Nothing is written in a line under a name that isn't open.
-use Rattle.std.proofs.Common.{◌≡◌, ◌≢◌, ℕ, nat_le, nat_lt, Bool, true, false, not, ◌&&◌, cond, List, [], ◌∷◌, ◌++◌, codes, filter, find, flat_map, fold, length, map, Option, Some, None, is_some, option_map, refl, ap, sym, ◌∙◌, subst, true≢false}
+use Rattle.std.proofs.Common.{◌≡◌, ◌≢◌, ℕ, nat_le, nat_lt, Bool, true, false, not, ◌&&◌, cond, List, [], ◌∷◌, ◌++◌, codes, filter, find, flat_map, fold, length, map, Option, Some, None, is_some, refl, ap, sym, ◌∙◌, subst, true≢false}
 use Rattle.std.specs.List.{AllByRecursion}
 use Rattle.bsc_octets.specs.declared.identity.Identity.{Identity}
 use Rattle.bsc_history.specs.declared.connection.Connection.{Connection}
@@ -29,6 +29,7 @@ use Rattle.bsc_script.specs.Running.{most_names, hub_says, gets_text, holds, lat
 use Rattle.bsc_script.proofs.Pairs.{all-push}
 use Rattle.bsc_script.proofs.Peers.{name_same, has_conn}
 use Rattle.bsc_history.proofs.Lists.{In_from_all, all_from_In, In-filter}
+use Rattle.bsc_script_laws.proofs.Adding.{accepted, of_name, same_some, then_emptied}
 use Rattle.bsc_script_laws.proofs.Looking.{found_name}
 
 -- these lines are of other names
@@ -87,9 +88,6 @@ leaving_aside n s k (Some c) other h = record { lines = (other, tt); others = wi
 
 ends_aside : (n : List ℕ) (s : State) (k : Peer) → k.name ≢ n → AreOthers n s → IsAside n (ends s k)
 ends_aside n s k other h = leaving_aside n s k k.conn other h
-
-closed_aside : (n : List ℕ) (s : State) (k : Peer) (words : List ℕ) → k.name ≢ n → AreOthers n s → IsAside n (record { state = (ends s k).state; said = says k.name words ∷ (ends s k).said })
-closed_aside n s k words other h = writes_aside n (says k.name words) (ends s k) other (ends_aside n s k other h)
 
 does_aside : (n : List ℕ) (s : State) (k : Peer) (x : Step) → k.name ≢ n → AreOthers n s → IsAside n (does s k x)
 does_aside n s k (Ask who) other h = quiet_aside n s h
@@ -212,17 +210,6 @@ emptied_aside n o h = all_emptied_aside n (in_order_of_joining o.state) o (in_or
 
 -- ---- a line
 
-same_some : {A : Type 0} (x y : A) → Some x ≡ Some y → x ≡ y
-same_some x y e = cc
-
-accepted : (b : Bool) (x o : Outcome) → cond b (Some x) None ≡ Some o → x ≡ o
-accepted true x o e = same_some x o e
-accepted false x o e = cc
-
-of_name : (f : Peer → Outcome) (p : Option Peer) (o : Outcome) → option_map f p ≡ Some o → (k : Peer) × (p ≡ Some k) × (f k ≡ o)
-of_name f None o e = cc
-of_name f (Some k) o e = (k, refl, same_some (f k) o e)
-
 as_aside : (n : List ℕ) (x o : Outcome) → x ≡ o → IsAside n x → IsAside n o
 as_aside n x o e h = subst (λ (u : Outcome). IsAside n u) e h
 
@@ -294,10 +281,6 @@ outcome_aside n s line o own closed = by line
         as_aside n (says_counts s) o (same_some (says_counts s) o e)
         (either_aside n (is_worn s) (writes (hub_says (codes "worn")) (quietly s)) (writes (hub_says (counts_words (counts s.history))) (quietly (called s Count)))
         (record { lines = ((λ e. own (sym e)), tt); others = h }) (record { lines = ((λ e. own (sym e)), tt); others = h }))
-
-then_emptied : (p : Option Outcome) (o : Outcome) → option_map emptied p ≡ Some o → (u : Outcome) × (p ≡ Some u) × (emptied u ≡ o)
-then_emptied None o e = cc
-then_emptied (Some u) o e = (u, refl, same_some (emptied u) o e)
 
 pub line_aside : (n : List ℕ) (s : State) (line : Line) (o : Outcome) → n ≢ codes "hub" → is_open s n ≡ false → run_line s line ≡ Some o → AreAside n o.said
 unfolding run_line

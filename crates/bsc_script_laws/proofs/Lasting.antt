@@ -1,5 +1,5 @@
 -- After the close of a name only the word that its connection is gone is written under it.
-use Rattle.std.proofs.Common.{◌≡◌, ◌≢◌, ◌⊎◌, inl, inr, ℕ, nat_le, nat_lt, Bool, true, false, not, ◌&&◌, cond, List, [], ◌∷◌, ◌++◌, codes, filter, flat_map, fold, length, map, Option, Some, None, option_map, refl, ap, sym, ◌∙◌, subst, append_assoc, append-nil, true≢false}
+use Rattle.std.proofs.Common.{◌≡◌, ◌≢◌, ◌⊎◌, inl, inr, ℕ, nat_le, nat_lt, Bool, true, false, not, ◌&&◌, cond, List, [], ◌∷◌, ◌++◌, codes, filter, flat_map, fold, length, map, Option, Some, None, refl, ap, sym, ◌∙◌, subst, append_assoc, append-nil, true≢false}
 use Rattle.std.specs.Prelude.{⊤}
 use Rattle.std.specs.List.{AllByRecursion}
 use Rattle.bsc_octets.specs.declared.identity.Identity.{Identity}
@@ -43,7 +43,7 @@ use Rattle.bsc_script.specs.Laws.{is_close, is_gone, EndsByClosing}
 use Rattle.bsc_script.proofs.Pairs.{all-push}
 use Rattle.bsc_script.proofs.Peers.{name_same, same_name, has_conn}
 use Rattle.bsc_history.proofs.Lists.{In as Within, In_from_all, all_from_In, In-filter}
-use Rattle.bsc_script_laws.proofs.Adding.{nothing_added, all_emptied_added}
+use Rattle.bsc_script_laws.proofs.Adding.{accepted, all_emptied_added, nothing_added, of_name, same_some, then_emptied}
 use Rattle.bsc_script_laws.proofs.Aside.{AreAside, IsOther, AreOthers, IsAside, tells_aside, empties_aside, in_order_others, none_of}
 
 -- ---- lines
@@ -292,7 +292,7 @@ emptied_so_far n (x ∷ xs) o one h =
 
 -- ---- a name is open once at most
 
-name_kept : (j p : Peer) (b : Bool) → is_named j.name p ≡ b → (cond b j p).name ≡ p.name
+pub name_kept : (j p : Peer) (b : Bool) → is_named j.name p ≡ b → (cond b j p).name ≡ p.name
 name_kept j p true is = sym (same_name p.name j.name is)
 name_kept j p false is = refl
 
@@ -397,17 +397,6 @@ only_so_far : (n : List ℕ) (k : Peer) (o : Outcome) → EndsOnly n k o → SoF
 only_so_far n k o (inl f) = inl f
 only_so_far n k o (inr g) = inr (g.1, tt)
 
-same_some : {A : Type 0} (x y : A) → Some x ≡ Some y → x ≡ y
-same_some x y e = cc
-
-accepted : (b : Bool) (x o : Outcome) → cond b (Some x) None ≡ Some o → x ≡ o
-accepted true x o e = same_some x o e
-accepted false x o e = cc
-
-of_name : (f : Peer → Outcome) (p : Option Peer) (o : Outcome) → option_map f p ≡ Some o → (k : Peer) × (p ≡ Some k) × (f k ≡ o)
-of_name f None o e = cc
-of_name f (Some k) o e = (k, refl, same_some (f k) o e)
-
 as_fit : (n : List ℕ) (x o : Outcome) → x ≡ o → IsFit n x → IsFit n o
 as_fit n x o e h = subst (IsFit n) e h
 
@@ -483,7 +472,7 @@ abbrev pub joined_peers : List Peer → List Connection → List Peer
 joined_peers ks [] = []
 joined_peers ks (c ∷ cs) = filter (has_joined_as c.number) ks ++ joined_peers ks cs
 
-peers_joined : (ks : List Peer) (cs : List Connection) → peers_on (in_order ks cs) ≡ joined_peers ks cs
+pub peers_joined : (ks : List Peer) (cs : List Connection) → peers_on (in_order ks cs) ≡ joined_peers ks cs
 peers_joined ks [] = refl
 peers_joined ks (c ∷ cs) =
     peers_append (map (λ (k : Peer). record { conn = c.number; peer = k }) (filter (has_joined_as c.number) ks)) (in_order ks cs)
@@ -517,7 +506,7 @@ none_joined n c o ks (d ∷ cs) is h a =
     a.0 (one_number c d.number (sym is ∙ sym (In_from_all (λ (q : Peer). q.name ≡ n → q.conn ≡ o) p ks h f.0 e) ∙ has_conn d.number p f.1)))))
     (none_joined n c o ks cs is h a.1)
 
-one_joined : (n : List ℕ) (ks : List Peer) (cs : List Connection) → AtMostOne n ks → Apart (λ (c : Connection). c.number) cs → AtMostOne n (joined_peers ks cs)
+pub one_joined : (n : List ℕ) (ks : List Peer) (cs : List Connection) → AtMostOne n ks → Apart (λ (c : Connection). c.number) cs → AtMostOne n (joined_peers ks cs)
 one_joined n ks [] h a = tt
 one_joined n ks (c ∷ cs) h a =
     one_append n (filter (has_joined_as c.number) ks) (joined_peers ks cs) (one_filtered n (has_joined_as c.number) ks h) (one_joined n ks cs h a.1)
@@ -551,17 +540,13 @@ emptied_ends n a u legal fit =
     let one = subst (AtMostOne n) (sym (peers_joined u.state.peers (unleft u.state.history))) (one_joined n u.state.peers (unleft u.state.history) fit.one (numbers_are_new a u.state.history before)) in
     so_far_ends n (emptied u) (emptied_so_far n xs u one (before_emptied n u fit.lines))
 
-apart_one : (n : List ℕ) (ks : List Peer) → Apart name_of ks → AtMostOne n ks
+pub apart_one : (n : List ℕ) (ks : List Peer) → Apart name_of ks → AtMostOne n ks
 apart_one n [] h = tt
 apart_one n (p ∷ ks) h = ((λ e. others ks h.0 e), apart_one n ks h.1)
   where
     others : (js : List Peer) → AllByRecursion (λ q. name_of p ≢ name_of q) js → p.name ≡ n → AllByRecursion (λ (q : Peer). q.name ≢ n) js
     others [] a e = tt
     others (j ∷ js) a e = ((λ f. a.0 (e ∙ sym f)), others js a.1 e)
-
-then_emptied : (p : Option Outcome) (o : Outcome) → option_map emptied p ≡ Some o → (u : Outcome) × (p ≡ Some u) × (emptied u ≡ o)
-then_emptied None o e = cc
-then_emptied (Some u) o e = (u, refl, same_some (emptied u) o e)
 
 pub line_ends : (n : List ℕ) (a : About) (s : State) → Apart name_of s.peers → (line : Line) (o : Outcome) → Legal a o.state.history → run_line s line ≡ Some o → EndsByClosing n o.said
 unfolding run_line

@@ -16,10 +16,7 @@ use Rattle.bsc_script.specs.Holding.{name_of}
 use Rattle.bsc_script.specs.Running.{run_line}
 use Rattle.bsc_script.specs.Laws.{LooksAtWritten}
 use Rattle.bsc_script.proofs.Peers.{same_name}
-use Rattle.bsc_script_laws.proofs.Adding.{Adds, line_added}
-
-same_some : {A : Type 0} (x y : A) → Some x ≡ Some y → x ≡ y
-same_some x y e = cc
+use Rattle.bsc_script_laws.proofs.Adding.{Adds, line_added, same_some}
 
 -- ---- the peer of a name
 
@@ -87,7 +84,7 @@ told_written s name k e c apart is =
 
 -- ---- the looks of a line
 
-all_found : (s t : State) (cs : List ℕ) → ((c : ℕ) → written_for t c ≡ written_for s c) → AllByRecursion (λ (l : Look). l.taken ≡ written_for s l.conn) (map (λ c. record { conn = c; taken = written_for t c }) cs)
+pub all_found : (s t : State) (cs : List ℕ) → ((c : ℕ) → written_for t c ≡ written_for s c) → AllByRecursion (λ (l : Look). l.taken ≡ written_for s l.conn) (map (λ c. record { conn = c; taken = written_for t c }) cs)
 all_found s t [] h = tt
 all_found s t (c ∷ cs) h = (h c, all_found s t cs h)
 

@@ -1,62 +1,60 @@
--- What a hub that stands for a state says of the history and of the frames.
+-- What the history and the frames are after any lines.
 use Rattle.std.proofs.Common.{◌≡◌, ℕ, ◌==◌, Bool, true, false, not, ◌&&◌, ◌||◌, List, [], ◌∷◌, ◌++◌, length, drop, Option, Some, None, is_some, true≢false, refl, ap, sym, ◌∙◌, subst, append-nil}
 use Rattle.std.specs.List.{AllByRecursion}
 use Rattle.std.proofs.lemmas.Bool.{eqb-true}
 use Rattle.bsc_history.specs.declared.limits.About.{About}
-use Rattle.bsc_history.specs.declared.entry.Entry.{Entry}
-use Rattle.bsc_history.specs.Ends.{ended}
-use Rattle.bsc_history.specs.Legality.{Legal}
-use Rattle.bsc_history.specs.Marks.{entries}
+use Rattle.bsc_history.specs.Ends.{ended, joined_where}
 use Rattle.bsc_history.specs.Outboxes.{sent}
+use Rattle.bsc_history.proofs.Lists.{all_from_In}
 use Rattle.bsc_ring.specs.Lists.{StartsWith}
-use Rattle.bsc_desk.specs.declared.desk.Desk.{Desk}
-use Rattle.bsc_history.specs.declared.mark.Stamped.{Stamped}
-use Rattle.bsc_checks.specs.declared.phase.Phase.TheVariants.{Connected}
 use Rattle.bsc_accept.specs.Past.{phase}
-use Rattle.bsc_script.specs.declared.peer.Joined.{Joined}
-use Rattle.bsc_script.specs.declared.peer.Peer.{Peer as KeptPeer}
-use Rattle.bsc_script.specs.declared.script_hub.ScriptHub.{ScriptHub}
-use Rattle.bsc_script.specs.States.{State, Peer}
+use Rattle.bsc_script.specs.declared.line.Line.{Line}
+use Rattle.bsc_script.specs.States.{State, new_hub}
+use Rattle.bsc_script.specs.Carrying.{Outcome}
 use Rattle.bsc_script.specs.Emptying.{is_connected, unwritten_after}
-use Rattle.bsc_script.specs.Settled.{IsSettledBut}
-use Rattle.bsc_script.specs.Holding.{Pairs, IsJoinedIf, IsPeer, StandsAs, Holds, kept_in}
-use Rattle.bsc_script.specs.Laws.{WritesInOrder, WritesAll}
+use Rattle.bsc_script.specs.Running.{line_outcome, run_line}
+use Rattle.bsc_script.specs.Laws.{IsOfOneHub, WritesInOrder, WritesAll, after_lines}
+use Rattle.bsc_script_laws.proofs.Adding.{callers_after, none_after, same_some, state_of, then_emptied}
+use Rattle.bsc_script_laws.proofs.Keeping.{outcome_sound}
+use Rattle.bsc_script_laws.proofs.Looking.{drop-front}
+use Rattle.bsc_script_laws.proofs.Resting.{AtRest, emptied_rests}
+use Rattle.bsc_script_laws.proofs.Sound.{IsSound}
 
--- The history is legal.
-pub legal_of : (t : ScriptHub) (s : State) → StandsAs t s → Legal s.about s.history
-legal_of t s h = subst (λ (H : List Entry). Legal s.about H) h.history (subst (λ (a : About). Legal a (entries h.marked)) h.about h.stands.legal)
+-- ---- after any lines
 
--- ---- in order
+-- a new hub has no peers and no history
+new_rests : (a : About) → AtRest (new_hub a)
+unfolding joined_where
+new_rests a = record {
+  sound = record { legal = record { lawful = tt }; apart = tt; peers = λ k m. absurd m; conns = λ k j c m n e f. absurd m; joined = λ c there. cc };
+  rests = λ k c m e. absurd m;
+}
 
--- what the outlet of a peer gave is the first part of what entered its outbox
-joined_in_order : (d : Desk) (S : List Stamped) (k : Peer) (o : Option Joined) (c : ℕ) → IsJoinedIf d S k o → k.conn ≡ Some c → StartsWith (sent d.about (entries S) c) k.frames
-joined_in_order d S k None c h e = (let nothing : None ≡ Some c = sym h.0 ∙ e in cc)
-joined_in_order d S k (Some j) c h e =
-    let same : j.conn ≡ c = one j.conn c (sym h.0 ∙ e) in
-    subst (λ (n : ℕ). StartsWith (sent d.about (entries S) n) k.frames) same
-    (subst (λ (l : List (List ℕ)). StartsWith (sent d.about (entries S) j.conn) l) h.1.frames h.1.outlet.begins)
-  where
-    one : (a b : ℕ) → Some a ≡ Some b → a ≡ b
-    one a b e = cc
+-- A line leaves a state at rest.
+pub line_rests : (s : State) → AtRest s → (line : Line) (o : Outcome) → run_line s line ≡ Some o → AtRest o.state
+unfolding run_line
+line_rests s h line o e =
+    let u = then_emptied (line_outcome s line) o e in
+    subst (λ (w : Outcome). AtRest w.state) u.2 (emptied_rests u.0 (outcome_sound s h.sound line u.0 u.1))
 
-all_in_order : (d : Desk) (S : List Stamped) (a : About) (H : List Entry) (ks : List Peer) (es : List (List ℕ × KeptPeer)) → d.about ≡ a → entries S ≡ H → Pairs (IsPeer d S) ks es
-    → AllByRecursion (λ (k : Peer). (c : ℕ) → k.conn ≡ Some c → StartsWith (sent a H c) k.frames) ks
-all_in_order d S a H [] es about history p = tt
-all_in_order d S a H (k ∷ ks) [] about history p = absurd p
-all_in_order d S a H (k ∷ ks) (e ∷ es) about history p = (
-  (λ c is. subst (λ (b : About). StartsWith (sent b H c) k.frames) about
-      (subst (λ (G : List Entry). StartsWith (sent d.about G c) k.frames) history (joined_in_order d S k e.1.joined c p.0.joined is))),
-  all_in_order d S a H ks es about history p.1,
-)
+rests_by : (s u : State) (line : Line) (lines : List Line) (p : Option Outcome) → run_line s line ≡ p → AtRest s → ((t : State) → AtRest t → after_lines (Some t) lines ≡ Some u → AtRest u)
+    → after_lines (state_of p) lines ≡ Some u → AtRest u
+rests_by s u line lines None is h later e = absurd (none_after lines u e)
+rests_by s u line lines (Some o) is h later e = later o.state (line_rests s h line o is) e
 
-pub in_order_of : (t : ScriptHub) (s : State) → StandsAs t s → AllByRecursion (WritesInOrder s) s.peers
-in_order_of t s h = all_in_order t.desk h.marked s.about s.history s.peers (kept_in t) h.about h.history h.peers
+some_rests : (lines : List Line) (s u : State) → AtRest s → after_lines (Some s) lines ≡ Some u → AtRest u
+some_rests [] s u h e = subst AtRest (same_some s u e) h
+some_rests (line ∷ lines) s u h e = rests_by s u line lines (run_line s line) refl h (λ t g f. some_rests lines t u g f) e
 
--- ---- all of it
+-- After any lines of a new hub, the state is at rest.
+pub after_rests : (a : About) (lines : List Line) (s : State) → after_lines (Some (new_hub a)) lines ≡ Some s → AtRest s
+after_rests a lines s e = some_rests lines (new_hub a) s (new_rests a) e
 
-drop-front : (front rest : List (List ℕ)) → drop (length front) (front ++ rest) ≡ rest
-drop-front [] rest = refl
-drop-front (x ∷ front) rest = drop-front front rest
+-- ---- the frames
+
+-- what was written for a peer is the first part of what entered its outbox
+in_order_of : (s : State) → IsSound s → AllByRecursion (WritesInOrder s) s.peers
+in_order_of s h = all_from_In (WritesInOrder s) s.peers (λ k m. (h.peers k m).begins)
 
 nothing_there : (l : List (List ℕ)) → (length l == 0) ≡ true → l ≡ []
 nothing_there [] h = refl
@@ -69,24 +67,25 @@ all_written whole front w none =
     sym (w.1 ∙ ap (λ (l : List (List ℕ)). front ++ l) rest ∙ append-nil front)
 
 -- an outbox that isn't to be emptied, of a peer that is connected and not held, has nothing that is unwritten
-none_waits : (connected held none is_ended : Bool) → connected ≡ true → held ≡ false → (connected && not held && (not none || is_ended) ≡ true → ⊥) → none ≡ true
+none_waits : (on_line held none is_ended : Bool) → on_line ≡ true → held ≡ false → (on_line && not held && (not none || is_ended)) ≡ false → none ≡ true
 none_waits true false true x p q f = refl
-none_waits true false false x p q f = absurd (f refl)
+none_waits true false false x p q f = absurd (true≢false f)
 none_waits false h n x p q f = absurd (true≢false (sym p))
 none_waits true true n x p q f = absurd (true≢false q)
 
-settled_whole : (a : About) (H : List Entry) (k : Peer) → IsSettledBut [] a H k → ((c : ℕ) → k.conn ≡ Some c → StartsWith (sent a H c) k.frames)
-    → (c : ℕ) → k.conn ≡ Some c → phase k.events ≡ Connected → k.held ≡ false → k.frames ≡ sent a H c
-settled_whole a H k settled order c is connected free =
-    all_written (sent a H c) k.frames (order c is)
-    (none_waits (is_connected (phase k.events)) k.held (length (unwritten_after a H k c) == 0) (is_some (ended H c)) (ap is_connected connected) free
-    (λ waits. true≢false (sym (settled.emptied c is waits))))
+-- and all of it, where the peer is connected and not held
+whole_of : (s : State) → AtRest s → AllByRecursion (WritesAll s) s.peers
+whole_of s h = all_from_In (WritesAll s) s.peers (λ k m c is on_line free.
+    all_written (sent s.about s.history c) k.frames ((h.sound.peers k m).begins c is)
+    (none_waits (is_connected (phase k.events)) k.held (length (unwritten_after s.about s.history k c) == 0) (is_some (ended s.history c)) (ap is_connected on_line) free (h.rests k c m is)))
 
-all_whole : (a : About) (H : List Entry) (ks : List Peer) → AllByRecursion (IsSettledBut [] a H) ks
-    → AllByRecursion (λ (k : Peer). (c : ℕ) → k.conn ≡ Some c → StartsWith (sent a H c) k.frames) ks
-    → AllByRecursion (λ (k : Peer). (c : ℕ) → k.conn ≡ Some c → phase k.events ≡ Connected → k.held ≡ false → k.frames ≡ sent a H c) ks
-all_whole a H [] s o = tt
-all_whole a H (k ∷ ks) s o = (settled_whole a H k s.0 o.0, all_whole a H ks s.1 o.1)
-
-pub whole_of : (t : ScriptHub) (s : State) → Holds t s → AllByRecursion (WritesAll s) s.peers
-whole_of t s h = all_whole s.about s.history s.peers h.1.peers (in_order_of t s h.0)
+-- After any lines of a new hub.
+pub one_hub : (a : About) (lines : List Line) (s : State) → after_lines (Some (new_hub a)) lines ≡ Some s → IsOfOneHub s
+one_hub a lines s e =
+    let h = after_rests a lines s e in
+    record {
+      legal = h.sound.legal;
+      callers = callers_after lines (new_hub a) s tt e;
+      in_order = in_order_of s h.sound;
+      whole = whole_of s h;
+    }

@@ -1,5 +1,5 @@
 -- The frames that are new of a name stand together in the text of the line, in order.
-use Rattle.std.proofs.Common.{◌≡◌, ◌≢◌, ℕ, nat_le, nat_lt, Bool, true, false, not, ◌&&◌, cond, List, [], ◌∷◌, ◌++◌, codes, drop, filter, find, flat_map, fold, length, map, Option, Some, None, is_some, option_map, refl, ap, sym, ◌∙◌, subst, append_assoc, append-nil, true≢false}
+use Rattle.std.proofs.Common.{◌≡◌, ◌≢◌, ℕ, nat_le, nat_lt, Bool, true, false, not, ◌&&◌, cond, List, [], ◌∷◌, ◌++◌, codes, drop, filter, find, flat_map, fold, length, map, Option, Some, None, is_some, refl, ap, sym, ◌∙◌, subst, append_assoc, append-nil, true≢false}
 use Rattle.std.specs.List.{AllByRecursion}
 use Rattle.bsc_octets.specs.declared.identity.Identity.{Identity}
 use Rattle.bsc_history.specs.declared.connection.Connection.{Connection}
@@ -30,6 +30,7 @@ use Rattle.bsc_script.specs.Laws.{AreWritten}
 use Rattle.bsc_script.proofs.Pairs.{all-push}
 use Rattle.bsc_script.proofs.Peers.{name_same, same_name, other_name}
 use Rattle.bsc_history.proofs.Lists.{In_from_all, all_from_In, In-filter}
+use Rattle.bsc_script_laws.proofs.Adding.{accepted, of_name, same_some, then_emptied}
 use Rattle.bsc_script_laws.proofs.Looking.{IsAloneIn, alone_in, found_name, drop-front}
 
 -- a peer of this name has these frames
@@ -61,9 +62,6 @@ frames_put n F j (p ∷ ks) name frames = (by (is_named j.name p) refl, frames_p
 
 frames_without : (n m : List ℕ) (F : List (List ℕ)) (s : State) → HaveFrames n F s → HaveFrames n F (without_name m s)
 frames_without n m F s h = all_from_In (HasFrames n F) (filter (λ p. not (is_named m p)) s.peers) (λ p i. In_from_all (HasFrames n F) p s.peers h (In-filter (λ q. not (is_named m q)) p s.peers i).0)
-
-same_some : {A : Type 0} (x y : A) → Some x ≡ Some y → x ≡ y
-same_some x y e = cc
 
 -- who is found is one of them
 found_frames : (n m : List ℕ) (F : List (List ℕ)) (k : Peer) (ks : List Peer) → AllByRecursion (HasFrames n F) ks → find (is_named m) ks ≡ Some k → HasFrames n F k
@@ -141,14 +139,6 @@ receives_frames n F s k m has h =
 ticks_frames : (n : List ℕ) (F : List (List ℕ)) (ks : List Peer) (o : Outcome) → AllByRecursion (HasFrames n F) ks → HaveFrames n F o.state → HaveFrames n F (fold ticks_one o ks).state
 ticks_frames n F [] o have h = h
 ticks_frames n F (k ∷ ks) o have h = ticks_frames n F ks (ticks_one o k) have.1 (tells_frames n F o.state k (Tick o.state.clock) have.0 h)
-
-accepted : (b : Bool) (x o : Outcome) → cond b (Some x) None ≡ Some o → x ≡ o
-accepted true x o e = same_some x o e
-accepted false x o e = cc
-
-of_name : (f : Peer → Outcome) (p : Option Peer) (o : Outcome) → option_map f p ≡ Some o → (k : Peer) × (p ≡ Some k) × (f k ≡ o)
-of_name f None o e = cc
-of_name f (Some k) o e = (k, refl, same_some (f k) o e)
 
 as_frames : (n : List ℕ) (F : List (List ℕ)) (x o : Outcome) → x ≡ o → HaveFrames n F x.state → HaveFrames n F o.state
 as_frames n F x o e h = subst (λ (u : Outcome). HaveFrames n F u.state) e h
@@ -363,10 +353,6 @@ are_written : (n : List ℕ) (k j : Peer) (said : List Said) → j.name ≡ n �
 are_written n k j said name h =
     let new : drop (length k.frames) j.frames ≡ h.new = ap (drop (length k.frames)) h.frames ∙ drop-front k.frames h.new in
     (h.head, h.tail, h.text ∙ ap (λ (m : List ℕ). h.head ++ frame_lines m h.new ++ h.tail) (sym name) ∙ ap (λ (l : List (List ℕ)). h.head ++ frame_lines j.name l ++ h.tail) (sym new))
-
-then_emptied : (p : Option Outcome) (o : Outcome) → option_map emptied p ≡ Some o → (u : Outcome) × (p ≡ Some u) × (emptied u ≡ o)
-then_emptied None o e = cc
-then_emptied (Some u) o e = (u, refl, same_some (emptied u) o e)
 
 pub line_written : (s : State) → Apart name_of s.peers → (line : Line) (o : Outcome) → run_line s line ≡ Some o → (name : List ℕ) (k j : Peer) → peer_of s name ≡ Some k → peer_of o.state name ≡ Some j → AreWritten k j o.said
 unfolding run_line

@@ -1,20 +1,18 @@
-//! What holds of each script that is played, carried by functions that do nothing.
+//! What holds of each script, played or only read, carried by functions that do nothing.
 ghost use Rattle.std.specs.Prelude.{◌≡◌, List, Some};
 ghost use Rattle.bsc_history.specs.declared.limits.About.{About};
 ghost use Rattle.bsc_script.specs.declared.line.Line.{Line};
-ghost use Rattle.bsc_script.specs.declared.script_hub.ScriptHub.{ScriptHub};
 ghost use Rattle.bsc_script.specs.States.{State, new_hub};
 ghost use Rattle.bsc_script.specs.Carrying.{Outcome};
 ghost use Rattle.bsc_script.specs.Running.{run_line};
-ghost use Rattle.bsc_script.specs.Holding.{Holds};
 ghost use Rattle.bsc_script.specs.Laws.{IsOfOneHub, GoesOn, after_lines};
 
-/// After any lines that a hub carried out, the calls that they made are a legal history of caller 0, and the frames
+/// After any lines that a new hub accepts, the calls that they made are a legal history of caller 0, and the frames
 /// that were written for each open name are the first ones that entered its outbox, in order: all of them where it is
 /// connected and not held.
 pub fn a_script_is_of_one_hub()
-    ensures { (t : ScriptHub) (about : About) (lines : List Line) (s : State) →
-        after_lines (Some (new_hub about)) lines ≡ Some s → Holds t s → IsOfOneHub s }
+    ensures { (about : About) (lines : List Line) (s : State) →
+        after_lines (Some (new_hub about)) lines ≡ Some s → IsOfOneHub s }
 {}
 
 /// The calls that one more line makes stand behind those before, and each of their looks finds how many frames had
@@ -22,6 +20,6 @@ pub fn a_script_is_of_one_hub()
 /// close of a name only that its connection is gone. The frames that it writes for a name stand together in its text,
 /// in the order in which they entered the outbox.
 pub fn a_line_goes_on()
-    ensures { (t n : ScriptHub) (s : State) (line : Line) (o : Outcome) →
-        Holds t s → run_line s line ≡ Some o → Holds n o.state → GoesOn s o }
+    ensures { (about : About) (lines : List Line) (s : State) (line : Line) (o : Outcome) →
+        after_lines (Some (new_hub about)) lines ≡ Some s → run_line s line ≡ Some o → GoesOn s o }
 {}

@@ -1,0 +1,226 @@
+-- What a session forwards is what came and is to be carried on; and the messages that are judged are those given.
+use Rattle.std.proofs.Common.{◌≡◌, ◌≢◌, ◌⊎◌, inl, inr, ℕ, Bool, true, false, cond, List, [], ◌∷◌, ◌++◌, map, Option, Some, None, Result, Ok, Err, is_some, refl, ap, sym, ◌∙◌, append-nil}
+use Rattle.std.proofs.lemmas.Grind.{flat_map-append}
+use Rattle.std.proofs.lemmas.List.{map-append}
+use Rattle.bsc_octets.specs.declared.identity.Identity.{Identity}
+use Rattle.bsc_frame.specs.declared.body.Body.{Body}
+use Rattle.bsc_frame.specs.declared.body.Body.TheVariants.{DisconnectRequest, HeartbeatRequest}
+use Rattle.bsc_frame.specs.declared.message.Message.{Message as Bvlc}
+use Rattle.bsc_history.specs.declared.ending.End.{End}
+use Rattle.bsc_history.specs.declared.entry.Entry.{Entry}
+use Rattle.bsc_history.specs.declared.looks.Look.{Look}
+use Rattle.bsc_history.specs.declared.reply.Reply.{Reply}
+use Rattle.bsc_checks.specs.declared.phase.Phase.TheVariants.{Connected}
+use Rattle.bsc_checks.specs.declared.verdict.Verdict.{Verdict}
+use Rattle.bsc_checks.specs.declared.verdict.Verdict.TheVariants.{Pass, Carry as Carried, Silent, Nak}
+use Rattle.bsc_edge.specs.declared.fault.LinkFault.{LinkFault}
+use Rattle.bsc_edge.specs.declared.incoming.Incoming.{Incoming}
+use Rattle.bsc_edge.specs.declared.incoming.Incoming.TheVariants.{Closed, Message, Quiet, Text}
+use Rattle.bsc_edge.specs.declared.said.Said.{Said}
+use Rattle.bsc_edge.specs.declared.said.Said.TheVariants.{Gave}
+use Rattle.bsc_accept.specs.declared.closing.Closing.{Closing}
+use Rattle.bsc_accept.specs.declared.step.Step.{Step}
+use Rattle.bsc_accept.specs.declared.step.Step.TheVariants.{Ask, Reply as ReplyStep, ReplyClose, Carry, Close, Nothing}
+use Rattle.bsc_accept.specs.Messages.{is_farewell_answer, who_asks}
+use Rattle.bsc_accept.specs.Past.{Standing as MachineStanding, awaiting_request, connected, disconnecting, phase, phase_named, standing}
+use Rattle.bsc_accept.specs.Steps.{ask_step, connected_step, message_step, normal, passed_step}
+use Rattle.bsc_session.specs.declared.ended.Ended.{Ended}
+use Rattle.bsc_session.specs.declared.stop.Stop.{Stop}
+use Rattle.bsc_session.specs.Answering.{IsHearing, called, calls_hub, entries_hearing, forwarded_by, last_step, stop_hearing, stop_message}
+use Rattle.bsc_session.specs.Causes.{answer_in, given_in}
+use Rattle.bsc_session.specs.Course.{all_turns, entries_of, said_closing, shares}
+use Rattle.bsc_session.specs.Inner.{Tied, has_joined}
+use Rattle.bsc_session.specs.Judging.{verdict_on}
+use Rattle.bsc_session.specs.Puts.{octets_in, puts}
+use Rattle.bsc_session.specs.Receiving.{Answer, replies, worn, no_memory, Hearing}
+use Rattle.bsc_session.specs.Standings.{Standing, Terms, begun}
+use Rattle.bsc_session.specs.Taking.{opened, put_first, stop_before}
+use Rattle.bsc_session.specs.Talk.{Session, leaving}
+use Rattle.bsc_session.specs.Turns.{IsHearingIf, IsTurn, Turn, after, entries_after, entries_in, said_after, said_in, stop_after}
+use Rattle.bsc_session_laws.specs.Laws.{AreAllBut, IsUnentered}
+use Rattle.bsc_session_laws.specs.Messages.{JudgedMessage, carried, carried_by, forwarded, forwarded_in, given_by, given_in as given_by_link, message_after, message_by, message_in, messages_of}
+use Rattle.bsc_session_laws.proofs.Courses.{all_as, all_but, mapped_shares}
+use Rattle.bsc_session_laws.proofs.Turning.{at, first_none, hearing, tied_begun, tied_opened}
+use Rattle.bsc_session_laws.proofs.Verdicts.{carried_connected}
+
+-- ---- one of them is lacking
+
+-- The one list is the other; or it has one element and the other none, for which there is a cause, and then the session
+-- stops.
+abbrev pub Lacks : {A : Type 0} → (A → Type 0) → Option Stop → List A → List A → Type 0
+Lacks {A} Cause stop all made = (all ≡ made) ⊎ ((x : A) × Cause x × (stop ≢ None) × (all ≡ x ∷ []) × (made ≡ []))
+
+pub lacks_none : {A : Type 0} (Cause : A → Type 0) (stop : Option Stop) (all made : List A) → Lacks Cause stop all made → stop ≡ None → all ≡ made
+lacks_none Cause stop all made (inl e) none = e
+lacks_none Cause stop all made (inr r) none = absurd (r.2 none)
+
+pub lacks_last : {A : Type 0} (Cause : A → Type 0) (stop : Option Stop) (all made : List A) → Lacks Cause stop all made → AreAllBut Cause all made
+lacks_last Cause stop all made (inl e) = inl e
+lacks_last {A} Cause stop all made (inr r) = inr (r.0, r.1, r.3 ∙ ap (λ (l : List A). l ++ r.0 ∷ []) (sym r.4))
+
+-- the hub made no entry, and the message was given
+abbrev Unentered : Result Incoming LinkFault → Option Answer → List ℕ → Type 0
+Unentered given answer m = (Some given ≡ Some (Ok (Message m))) × ((answer ≡ Some worn) ⊎ (answer ≡ Some no_memory))
+
+-- ---- a hearing
+
+-- a step that doesn't carry makes no Forward
+no_forward : (v : Terms) (s : Standing) (st : Step) (given : Result Incoming LinkFault) (answer : Option Answer) → (st ≡ Carry → ⊥) → forwarded (called v s st given answer) ≡ []
+no_forward v s (Ask who) given None isnt = refl
+no_forward v s (Ask who) given (Some worn) isnt = refl
+no_forward v s (Ask who) given (Some no_memory) isnt = refl
+no_forward v s (Ask who) given (Some (replies looks reply)) isnt = refl
+no_forward v s (ReplyStep octets) given answer isnt = refl
+no_forward v s (ReplyClose octets c) given answer isnt = refl
+no_forward v s Carry given answer isnt = absurd (isnt refl)
+no_forward v s (Close c) given answer isnt = refl
+no_forward v s Nothing given answer isnt = refl
+
+not_carried_asked : (o : Option Identity) → ask_step o ≡ Carry → ⊥
+not_carried_asked None e = cc
+not_carried_asked (Some w) e = cc
+
+not_carried_connected : (id : ℕ) (body : Body) → connected_step id body ≡ Carry → ⊥
+not_carried_connected id HeartbeatRequest e = cc
+not_carried_connected id DisconnectRequest e = cc
+not_carried_connected id body e = cc
+
+not_carried_parting : (b : Bool) → cond b (Close normal) Nothing ≡ Carry → ⊥
+not_carried_parting true e = cc
+not_carried_parting false e = cc
+
+-- what passes isn't carried
+passed_not_carried : (g : MachineStanding) (msg : Bvlc) → passed_step g msg ≡ Carry → ⊥
+passed_not_carried awaiting_request msg e = not_carried_asked (who_asks msg.body) e
+passed_not_carried connected msg e = not_carried_connected msg.id msg.body e
+passed_not_carried (disconnecting f) msg e = not_carried_parting (is_farewell_answer f.id msg) e
+
+-- who is connected has a connection
+connected_in : (g : MachineStanding) → phase_named g ≡ Connected → has_joined g ≡ true
+connected_in awaiting_request h = cc
+connected_in connected h = refl
+connected_in (disconnecting f) h = refl
+
+made : (v : Terms) (c : Option ℕ) (m : List ℕ) (looks : List Look) (reply : Reply) → is_some c ≡ true → m ∷ [] ≡ forwarded (forwarded_by v c m looks reply)
+made v None m looks reply h = cc
+made v (Some c) m looks reply h = refl
+
+-- what is carried is forwarded, where the hub makes an entry
+carried_made : (v : Terms) (s x : Standing) (m : List ℕ) (answer : Option Answer) (fault : Option LinkFault) → is_some s.conn ≡ true → is_some answer ≡ true
+    → Lacks (Unentered (Ok (Message m)) answer) (stop_message v x Carry answer fault) (m ∷ []) (forwarded (called v s Carry (Ok (Message m)) answer))
+carried_made v s x m None fault own h = cc
+carried_made v s x m (Some (replies looks reply)) fault own h = inl (made v s.conn m looks reply own)
+carried_made v s x m (Some worn) fault own h = inr (m, (refl, inl refl), (λ e. cc), refl, refl)
+carried_made v s x m (Some no_memory) fault own h = inr (m, (refl, inr refl), (λ e. cc), refl, refl)
+
+verdict_forwards : (v : Terms) (s x : Standing) (m : List ℕ) (answer : Option Answer) (fault : Option LinkFault) → Tied s → (w : Verdict) → verdict_on v s m ≡ w → is_some answer ≡ calls_hub (message_step (standing s.events) w)
+    → Lacks (Unentered (Ok (Message m)) answer) (stop_message v x (message_step (standing s.events) w) answer fault) (carried_by m w ++ []) (forwarded (called v s (message_step (standing s.events) w) (Ok (Message m)) answer))
+verdict_forwards v s x m answer fault tied (Pass msg) is calls = inl (sym (no_forward v s (passed_step (standing s.events) msg) (Ok (Message m)) answer (passed_not_carried (standing s.events) msg)))
+verdict_forwards v s x m answer fault tied (Carried envelope) is calls =
+    carried_made v s x m answer fault (sym tied ∙ connected_in (standing s.events) (carried_connected m (phase s.events) v.hub.max_bvlc envelope is)) calls
+verdict_forwards v s x m answer fault tied (Silent check) is calls = inl refl
+verdict_forwards v s x m answer fault tied (Nak check octets) is calls = inl refl
+
+hearing_forwards : (v : Terms) (s : Standing) (now : ℕ) (given : Result Incoming LinkFault) (judged : Bool) (answer : Option Answer) (fault : Option LinkFault) → Tied s → IsHearing v s now (hearing given judged answer fault)
+    → Lacks (Unentered given answer) (stop_hearing v s now (hearing given judged answer fault)) (carried (message_by v s given)) (forwarded (entries_hearing v s now (hearing given judged answer fault)))
+hearing_forwards v s now (Err f) true answer fault tied is = inl refl
+hearing_forwards v s now (Err f) false answer fault tied is = inl refl
+hearing_forwards v s now (Ok Closed) true answer fault tied is = inl refl
+hearing_forwards v s now (Ok Closed) false answer fault tied is = inl refl
+hearing_forwards v s now (Ok Text) true answer fault tied is = inl refl
+hearing_forwards v s now (Ok Text) false answer fault tied is = inl refl
+hearing_forwards v s now (Ok Quiet) true answer fault tied is = inl refl
+hearing_forwards v s now (Ok Quiet) false answer fault tied is = inl refl
+hearing_forwards v s now (Ok (Message m)) false answer fault tied is = inl (ap (λ (w : Verdict). carried_by m w ++ []) is.memory.1)
+hearing_forwards v s now (Ok (Message m)) true answer fault tied is = verdict_forwards v s (at s now (verdict_on v s m)) m answer fault tied (verdict_on v s m) refl is.calls
+
+-- ---- a turn
+
+abbrev UnenteredIn : Option Hearing → List ℕ → Type 0
+UnenteredIn h m = (given_in h ≡ Some (Ok (Message m))) × ((answer_in h ≡ Some worn) ⊎ (answer_in h ≡ Some no_memory))
+
+turn_forwards : (v : Terms) (s : Standing) (t : Turn) → Tied s → IsTurn v s t
+    → Lacks (IsUnentered (Some t)) (stop_after v (opened s t.opening) t.opening.reading t.hearing) (carried (message_in v s t)) (forwarded (entries_in v s t))
+turn_forwards v s t tied is = by t.hearing is.hearing
+  where
+    by : (h : Option Hearing) → IsHearingIf v (opened s t.opening) t.opening.reading h
+        → Lacks (UnenteredIn h) (stop_after v (opened s t.opening) t.opening.reading h) (carried (message_after v (opened s t.opening) h)) (forwarded (entries_after v (opened s t.opening) t.opening.reading h))
+    by None heard = inl refl
+    by (Some h) heard = hearing_forwards v (opened s t.opening) t.opening.reading h.given h.judged h.answer h.fault (tied_opened s t.opening tied) heard
+
+-- ---- a session
+
+leaves_forward_none : (caller : ℕ) (c : Option ℕ) (taken empties : ℕ) (e : End) → forwarded (leaving caller c taken empties e) ≡ []
+leaves_forward_none caller None taken empties e = refl
+leaves_forward_none caller (Some c) taken empties e = refl
+
+pub forwards_made : (v : Terms) (T : List Said) (R : List ℕ) (E : List Entry) (frames : List (List ℕ)) (ended : Ended) (x : Session v T R E frames ended)
+    → AreAllBut (IsUnentered x.course.last) (carried (messages_of x.course)) (forwarded E)
+forwards_made v T R E frames ended x =
+    let c = x.course in
+    let F = λ (v : Terms) (s : Standing) (t : Turn). carried (message_in v s t) in
+    let G = λ (v : Terms) (s : Standing) (t : Turn). forwarded (entries_in v s t) in
+    let all : carried (messages_of c) ≡ shares F v begun (all_turns c) = mapped_shares (λ m. carried_by m.octets m.verdict) message_in v begun (all_turns c) in
+    let left = leaving v.caller ended.conn ended.taken ended.empties x.reply in
+    let done : forwarded E ≡ shares G v begun (all_turns c) =
+    ap forwarded x.entries ∙ flat_map-append (λ (e : Entry). forwarded_in e.call) (entries_of c) left
+    ∙ ap (λ (l : List (List ℕ)). forwarded (entries_of c) ++ l) (leaves_forward_none v.caller ended.conn ended.taken ended.empties x.reply)
+    ∙ append-nil (forwarded (entries_of c)) ∙ mapped_shares (λ (e : Entry). forwarded_in e.call) entries_in v begun (all_turns c) in
+    all_as (IsUnentered c.last) (carried (messages_of c)) (forwarded E) (shares F v begun (all_turns c)) (shares G v begun (all_turns c)) all done
+    (all_but F G v
+    (λ s t tied is on. lacks_none (IsUnentered (Some t)) (stop_after v (opened s t.opening) t.opening.reading t.hearing) (F v s t) (G v s t) (turn_forwards v s t tied is) (first_none (stop_before v s t.opening) (stop_after v (opened s t.opening) t.opening.reading t.hearing) on).1)
+    IsUnentered
+    (λ s t tied is. lacks_last (IsUnentered (Some t)) (stop_after v (opened s t.opening) t.opening.reading t.hearing) (F v s t) (G v s t) (turn_forwards v s t tied is))
+    begun c.went_on c.last tied_begun c.turns c.goes_on)
+
+-- ---- the messages that are judged
+
+puts_give_none : (os : List (List ℕ)) (fault : Option LinkFault) → given_by_link (puts os fault) ≡ []
+puts_give_none [] fault = refl
+puts_give_none (o ∷ []) fault = refl
+puts_give_none (o ∷ (p ∷ os)) fault = puts_give_none (p ∷ os) fault
+
+closing_gives_none : (c : Option Closing) → given_by_link (said_closing c) ≡ []
+closing_gives_none None = refl
+closing_gives_none (Some c) = refl
+
+-- the octets of a message
+abbrev octets : JudgedMessage → List ℕ
+octets m = m.octets
+
+given_once : (v : Terms) (s : Standing) (given : Result Incoming LinkFault) → given_by (Gave given) ≡ map octets (message_by v s given)
+given_once v s (Err f) = refl
+given_once v s (Ok Closed) = refl
+given_once v s (Ok Text) = refl
+given_once v s (Ok Quiet) = refl
+given_once v s (Ok (Message m)) = refl
+
+hearing_gives : (v : Terms) (s : Standing) (now : ℕ) (h : Option Hearing) → given_by_link (said_after v s now h) ≡ map octets (message_after v s h)
+hearing_gives v s now None = refl
+hearing_gives v s now (Some h) =
+    ap (λ (l : List (List ℕ)). given_by (Gave h.given) ++ l) (puts_give_none (octets_in (last_step v s now h)) h.fault)
+    ∙ append-nil (given_by (Gave h.given)) ∙ given_once v s h.given
+
+turn_gives : (v : Terms) (s : Standing) (t : Turn) → given_by_link (said_in v s t) ≡ map octets (message_in v s t)
+turn_gives v s t =
+    flat_map-append given_by (puts (put_first v s t.opening) t.opening.fault) (said_after v (opened s t.opening) t.opening.reading t.hearing)
+    ∙ ap (λ (l : List (List ℕ)). l ++ given_by_link (said_after v (opened s t.opening) t.opening.reading t.hearing)) (puts_give_none (put_first v s t.opening) t.opening.fault)
+    ∙ hearing_gives v (opened s t.opening) t.opening.reading t.hearing
+
+turns_give : (v : Terms) (s : Standing) (ts : List Turn) → given_by_link (shares said_in v s ts) ≡ map octets (shares message_in v s ts)
+turns_give v s [] = refl
+turns_give v s (t ∷ ts) =
+    flat_map-append given_by (said_in v s t) (shares said_in v (after v s t) ts)
+    ∙ ap (λ (l : List (List ℕ)). l ++ given_by_link (shares said_in v (after v s t) ts)) (turn_gives v s t)
+    ∙ ap (λ (l : List (List ℕ)). map octets (message_in v s t) ++ l) (turns_give v (after v s t) ts)
+    ∙ sym (map-append octets (message_in v s t) (shares message_in v (after v s t) ts))
+
+pub messages_are_given : (v : Terms) (T : List Said) (R : List ℕ) (E : List Entry) (frames : List (List ℕ)) (ended : Ended) (x : Session v T R E frames ended)
+    → map (λ m. m.octets) (messages_of x.course) ≡ given_by_link T
+messages_are_given v T R E frames ended x =
+    let c = x.course in
+    sym (
+    ap given_by_link x.talk ∙ flat_map-append given_by (shares said_in v begun (all_turns c)) (said_closing c.stop.closing)
+    ∙ ap (λ (l : List (List ℕ)). given_by_link (shares said_in v begun (all_turns c)) ++ l) (closing_gives_none c.stop.closing)
+    ∙ append-nil (given_by_link (shares said_in v begun (all_turns c))) ∙ turns_give v begun (all_turns c)
+    )

@@ -1,0 +1,8 @@
+mod Verdicts
+mod Turning
+mod Courses
+mod Forwarding
+mod Connecting
+mod Owning
+mod Accepting
+pub mod WorkedLaws

@@ -1,0 +1,294 @@
+-- Who has joined, from turn to turn, and what a turn comes to before anybody has.
+use Rattle.std.proofs.Common.{◌≡◌, ◌⊎◌, inl, inr, ℕ, Bool, true, false, cond, List, [], ◌∷◌, ◌++◌, length, Option, Some, None, Result, Ok, Err, is_some, option_to_list, refl, ap, sym, ◌∙◌, subst}
+use Rattle.std.proofs.lemmas.Bool.{both_ways}
+use Rattle.bsc_octets.specs.declared.identity.Identity.{Identity}
+use Rattle.bsc_frame.specs.declared.message.Message.{Message as Bvlc}
+use Rattle.bsc_frame.specs.Spelling.{spelling}
+use Rattle.bsc_history.specs.declared.ending.End.{End}
+use Rattle.bsc_history.specs.declared.reply.Refusal.{Refusal}
+use Rattle.bsc_history.specs.declared.reply.Refusal.TheVariants.{Stopped, Duplicate, TableFull}
+use Rattle.bsc_history.specs.declared.reply.Reply.TheVariants.{Joined, Refused, Appended, Closed as ClosedReply, Skipped, NoHolder, SentAll, NotCurrent, Stopped as StoppedReply, Gone, Counted}
+use Rattle.bsc_checks.specs.declared.phase.Phase.TheVariants.{AwaitingRequest}
+use Rattle.bsc_checks.specs.declared.verdict.Verdict.{Verdict}
+use Rattle.bsc_checks.specs.declared.verdict.Verdict.TheVariants.{Pass, Carry as Carried, Silent, Nak}
+use Rattle.bsc_edge.specs.declared.fault.LinkFault.{LinkFault}
+use Rattle.bsc_edge.specs.declared.incoming.Incoming.{Incoming}
+use Rattle.bsc_edge.specs.declared.incoming.Incoming.TheVariants.{Closed, Message, Quiet, Text}
+use Rattle.bsc_edge.specs.declared.said.Said.{Said}
+use Rattle.bsc_edge.specs.declared.said.Said.TheVariants.{Gave, Put}
+use Rattle.bsc_accept.specs.declared.event.Event.{Event}
+use Rattle.bsc_accept.specs.declared.event.Event.TheVariants.{Message as Came, Joined as JoinedEvent, Refused as RefusedEvent, Ended, Tick}
+use Rattle.bsc_accept.specs.declared.farewell.Farewell.{Farewell}
+use Rattle.bsc_accept.specs.declared.step.Step.{Step}
+use Rattle.bsc_accept.specs.declared.step.Step.TheVariants.{Ask}
+use Rattle.bsc_accept.specs.Kept.{moved}
+use Rattle.bsc_accept.specs.Messages.{connect_accept, who_asks}
+use Rattle.bsc_accept.specs.Past.{Standing as MachineStanding, awaiting_request, connected, disconnecting, farewell_at, is_joined, phase, phase_named, standing, until_farewell}
+use Rattle.bsc_accept.specs.Steps.{asked_id, ask_step, message_step, passed_step, refused_step}
+use Rattle.bsc_accept.proofs.Looking.{standing-more}
+use Rattle.bsc_session.specs.declared.stop.Stop.{Stop}
+use Rattle.bsc_session.specs.declared.why.Why.{Why}
+use Rattle.bsc_session.specs.declared.why.Why.TheVariants.{Refused as WhyRefused}
+use Rattle.bsc_session.specs.Answering.{Fits, IsHearing, after_hearing, answered, calls_hub, last_wanted, said_hearing, stands_heard, stop_hearing, stop_message, step_of}
+use Rattle.bsc_session.specs.Course.{GoesOn}
+use Rattle.bsc_session.specs.Inner.{Tied, has_joined}
+use Rattle.bsc_session.specs.Judging.{heard, verdict_on}
+use Rattle.bsc_session.specs.Puts.{octets_in, puts}
+use Rattle.bsc_session.specs.Reading.{started, ticked}
+use Rattle.bsc_session.specs.Receiving.{Answer, replies, worn, no_memory, Hearing, received_one}
+use Rattle.bsc_session.specs.Standings.{Standing, Terms, begun, is_connected, is_phase_connected, told}
+use Rattle.bsc_session.specs.Stops.{closes, closing_in, first_of, stop_if}
+use Rattle.bsc_session.specs.Taking.{Looks, Opening, end_step, end_told, opened, put_first, stop_before}
+use Rattle.bsc_session.specs.Turns.{IsHearingIf, IsTurn, Turn, after, said_after, said_in, stands_after, stop_after}
+use Rattle.bsc_session_laws.specs.Messages.{JudgedMessage, asked, message_after, message_by, message_in}
+use Rattle.bsc_session_laws.proofs.Verdicts.{asked_awaiting}
+
+-- ---- who has joined
+
+-- whether the machine has joined, by where the session stands
+abbrev pub is_in : Standing → Bool
+is_in s = has_joined (standing s.events)
+
+until_in : (o : Option Farewell) → has_joined (until_farewell o) ≡ true
+until_in None = refl
+until_in (Some f) = refl
+
+moved_in : (g : MachineStanding) (e : Event) → is_joined e ≡ false → has_joined (moved g e) ≡ has_joined g
+moved_in awaiting_request e h = ap (λ (b : Bool). has_joined (cond b connected awaiting_request)) h
+moved_in connected e h = until_in (farewell_at e)
+moved_in (disconnecting f) e h = refl
+
+joined_in : (g : MachineStanding) → has_joined (moved g JoinedEvent) ≡ true
+joined_in awaiting_request = refl
+joined_in connected = refl
+joined_in (disconnecting f) = refl
+
+-- an event that isn't a joining changes nothing of it
+told_in : (s : Standing) (e : Event) → is_joined e ≡ false → is_in (told s e) ≡ is_in s
+told_in s e h = ap has_joined (standing-more s.events e) ∙ moved_in (standing s.events) e h
+
+told_joined_in : (s : Standing) → is_in (told s JoinedEvent) ≡ true
+told_joined_in s = ap has_joined (standing-more s.events JoinedEvent) ∙ joined_in (standing s.events)
+
+-- ---- a connection, exactly where the machine has joined
+
+pub tied_begun : Tied begun
+tied_begun = refl
+
+met_in : (s : Standing) (now : ℕ) (met : Option End) → (is_in (end_told s now met) ≡ is_in s) × ((end_told s now met).conn ≡ s.conn)
+met_in s now None = (refl, refl)
+met_in s now (Some e) = (told_in s (Ended now e) refl, refl)
+
+-- an opening changes nothing of it
+pub opened_in : (s : Standing) (o : Opening) → (is_in (opened s o) ≡ is_in s) × ((opened s o).conn ≡ s.conn)
+opened_in s o =
+    let m = met_in (ticked s o.reading) o.reading o.met in
+    (m.0 ∙ told_in (started s o.reading) (Tick o.reading) refl, m.1)
+
+pub tied_opened : (s : Standing) (o : Opening) → Tied s → Tied (opened s o)
+tied_opened s o tied = (let k = opened_in s o in k.0 ∙ tied ∙ ap is_some (sym k.1))
+
+pub heard_in : (v : Terms) (s : Standing) (now : ℕ) (judged : Bool) (given : Result Incoming LinkFault) → (is_in (heard v s now judged given) ≡ is_in s) × ((heard v s now judged given).conn ≡ s.conn)
+heard_in v s now true (Ok (Message m)) = (told_in s (Came now (verdict_on v s m)) refl, refl)
+heard_in v s now true (Ok Closed) = (refl, refl)
+heard_in v s now true (Ok Text) = (refl, refl)
+heard_in v s now true (Ok Quiet) = (refl, refl)
+heard_in v s now true (Err fault) = (refl, refl)
+heard_in v s now false given = (refl, refl)
+
+tied_answered : (s : Standing) (st : Step) (a : Option Answer) → Tied s → Tied (answered s st a)
+tied_answered s (Ask who) (Some (replies l (Joined c r))) k = told_joined_in s
+tied_answered s (Ask who) (Some (replies l (Refused r))) k = told_in s (RefusedEvent r) refl ∙ k
+tied_answered s st a k = k
+
+tied_heard : (v : Terms) (s : Standing) (now : ℕ) (h : Option Hearing) → Tied s → Tied (stands_after v s now h)
+tied_heard v s now None k = k
+tied_heard v s now (Some h) k = (let i = heard_in v s now h.judged h.given in tied_answered (stands_heard v s now h) (step_of v s now h) h.answer (i.0 ∙ k ∙ ap is_some (sym i.1)))
+
+-- A session is tied after a turn, where it was before.
+pub tied_after : (v : Terms) (s : Standing) (t : Turn) → Tied s → Tied (after v s t)
+tied_after v s t k = tied_heard v (opened s t.opening) t.opening.reading t.hearing (tied_opened s t.opening k)
+
+-- ---- how a turn goes on
+
+pub first_none : (a b : Option Stop) → first_of a b ≡ None → (a ≡ None) × (b ≡ None)
+first_none None b h = (refl, h)
+first_none (Some s) b h = cc
+
+pub fault_none : (f : Option LinkFault) → stop_if f ≡ None → f ≡ None
+fault_none None h = refl
+fault_none (Some f) h = cc
+
+closes_none : (why : Why) (r : Refusal) (id : ℕ) → closes why (closing_in (refused_step id r)) ≡ None → ⊥
+closes_none why (Duplicate holder) id h = cc
+closes_none why (TableFull rows) id h = cc
+closes_none why Stopped id h = cc
+
+-- ---- before anybody has joined
+
+pub awaits : (g : MachineStanding) → has_joined g ≡ false → g ≡ awaiting_request
+awaits awaiting_request h = refl
+awaits connected h = cc
+awaits (disconnecting f) h = cc
+
+unconnected : (g : MachineStanding) → has_joined g ≡ false → is_phase_connected (phase_named g) ≡ false
+unconnected awaiting_request h = refl
+unconnected connected h = cc
+unconnected (disconnecting f) h = cc
+
+-- nothing is taken from the outlet then, and no End is met
+pub takes_none : (v : Terms) (s : Standing) (o : Opening) → is_in s ≡ false → Looks v s o.reading ⊎ ((o.frames ≡ []) × (o.met ≡ None)) → (o.frames ≡ []) × (o.met ≡ None)
+takes_none v s o out (inl looks) = absurd (both_ways (is_connected (ticked s o.reading)) (unconnected (standing (ticked s o.reading).events) (told_in (started s o.reading) (Tick o.reading) refl ∙ out)) looks.0)
+takes_none v s o out (inr none) = none
+
+nothing_put : (v : Terms) (s : Standing) (o : Opening) → o.frames ≡ [] → o.met ≡ None → puts (put_first v s o) o.fault ≡ []
+nothing_put v s o none unmet =
+    ap (λ (l : List (List ℕ)). puts (l ++ octets_in (end_step v (ticked s o.reading) o.reading o.met)) o.fault) none
+    ∙ ap (λ (e : Option End). puts ([] ++ octets_in (end_step v (ticked s o.reading) o.reading e)) o.fault) unmet
+
+-- By what was said, who asked joins, and the Connect-Accept is put.
+pub record Joins (v : Terms) (ms : List JudgedMessage) (said : List Said) (next : Standing) : Type 0 where
+  pub request : List ℕ
+  pub id : ℕ
+  pub said_so : said ≡ Gave (Ok (Message request)) ∷ Put (spelling (connect_accept id v.hub)) None ∷ []
+  pub joined : is_in next ≡ true
+  pub one : length (asked ms) ≡ 1
+
+-- Nobody asks, and nobody has joined still.
+abbrev pub Waits : List JudgedMessage → Standing → Type 0
+Waits ms next = (is_in next ≡ false) × (asked ms ≡ [])
+
+-- One of the two.
+abbrev pub Goes : Terms → List JudgedMessage → List Said → Standing → Type 0
+Goes v ms said next = Waits ms next ⊎ Joins v ms said next
+
+-- a message with a verdict, and where the session stands once the machine was told
+abbrev pub message : List ℕ → Verdict → List JudgedMessage
+message m w = record { octets = m; verdict = w } ∷ []
+
+abbrev pub at : Standing → ℕ → Verdict → Standing
+at s now w = received_one (told s (Came now w))
+
+-- what comes of a message, by the step that the machine wants
+abbrev GoesBy : Terms → Standing → ℕ → List ℕ → Option Answer → Option LinkFault → Verdict → Step → Type 0
+GoesBy v s now m answer fault w st =
+    Fits st answer → is_some answer ≡ calls_hub st → stop_message v (at s now w) st answer fault ≡ None
+    → Goes v (message m w) (Gave (Ok (Message m)) ∷ puts (octets_in (last_wanted v (at s now w) st answer)) fault) (answered (at s now w) st answer)
+
+module _ (v : Terms) (s : Standing) (now : ℕ) (m : List ℕ) (fault : Option LinkFault) (out : is_in s ≡ false) where
+  -- who asks joins, where the session goes on
+  ask_goes : (msg : Bvlc) (who : Identity) → who_asks msg.body ≡ Some who → (answer : Option Answer) → GoesBy v s now m answer fault (Pass msg) (Ask who)
+  ask_goes msg who asks None fits calls stop = cc
+  ask_goes msg who asks (Some worn) fits calls stop = cc
+  ask_goes msg who asks (Some no_memory) fits calls stop = cc
+  ask_goes msg who asks (Some (replies looks (Joined c replaced))) fits calls stop = inr (record {
+    request = m;
+    id = asked_id (at s now (Pass msg)).events;
+    said_so = ap (λ (f : Option LinkFault). Gave (Ok (Message m)) ∷ Put (spelling (connect_accept (asked_id (at s now (Pass msg)).events) v.hub)) f ∷ []) (fault_none fault (first_none (stop_if fault) None stop).0);
+    joined = told_joined_in (at s now (Pass msg));
+    one = ap (λ (o : Option Identity). length (option_to_list o ++ [])) asks;
+  })
+  ask_goes msg who asks (Some (replies looks (Refused r))) fits calls stop =
+      absurd (closes_none (WhyRefused r) r (asked_id (at s now (Pass msg)).events) (first_none (stop_if fault) (closes (WhyRefused r) (closing_in (refused_step (asked_id (at s now (Pass msg)).events) r))) stop).1)
+  ask_goes msg who asks (Some (replies looks (Appended c))) fits calls stop = absurd fits
+  ask_goes msg who asks (Some (replies looks (ClosedReply c))) fits calls stop = absurd fits
+  ask_goes msg who asks (Some (replies looks (Skipped c))) fits calls stop = absurd fits
+  ask_goes msg who asks (Some (replies looks NoHolder)) fits calls stop = absurd fits
+  ask_goes msg who asks (Some (replies looks (SentAll to missed skipped))) fits calls stop = absurd fits
+  ask_goes msg who asks (Some (replies looks (NotCurrent e))) fits calls stop = absurd fits
+  ask_goes msg who asks (Some (replies looks StoppedReply)) fits calls stop = absurd fits
+  ask_goes msg who asks (Some (replies looks (Gone e taken))) fits calls stop = absurd fits
+  ask_goes msg who asks (Some (replies looks (Counted k))) fits calls stop = absurd fits
+
+  asked_goes : (msg : Bvlc) (o : Option Identity) → who_asks msg.body ≡ o → (answer : Option Answer) → GoesBy v s now m answer fault (Pass msg) (ask_step o)
+  asked_goes msg None asks answer fits calls stop = inl (told_in s (Came now (Pass msg)) refl ∙ out, ap (λ (o : Option Identity). option_to_list o ++ []) asks)
+  asked_goes msg (Some who) asks answer fits calls stop = ask_goes msg who asks answer fits calls stop
+
+  verdict_goes : (w : Verdict) (answer : Option Answer) → GoesBy v s now m answer fault w (message_step (standing s.events) w)
+  verdict_goes (Pass msg) answer fits calls stop =
+      subst (λ (st : Step). GoesBy v s now m answer fault (Pass msg) st) (sym (ap (λ g. passed_step g msg) (awaits (standing s.events) out))) (asked_goes msg (who_asks msg.body) refl answer) fits calls stop
+  verdict_goes (Carried envelope) answer fits calls stop = inl (told_in s (Came now (Carried envelope)) refl ∙ out, refl)
+  verdict_goes (Silent check) answer fits calls stop = inl (told_in s (Came now (Silent check)) refl ∙ out, refl)
+  verdict_goes (Nak check octets) answer fits calls stop = inl (told_in s (Came now (Nak check octets)) refl ∙ out, refl)
+
+abbrev pub hearing : Result Incoming LinkFault → Bool → Option Answer → Option LinkFault → Hearing
+hearing given judged answer fault = record { given = given; judged = judged; answer = answer; fault = fault }
+
+hearing_goes : (v : Terms) (s : Standing) (now : ℕ) (given : Result Incoming LinkFault) (judged : Bool) (answer : Option Answer) (fault : Option LinkFault) → is_in s ≡ false
+    → IsHearing v s now (hearing given judged answer fault) → stop_hearing v s now (hearing given judged answer fault) ≡ None
+    → Goes v (message_by v s given) (said_hearing v s now (hearing given judged answer fault)) (after_hearing v s now (hearing given judged answer fault))
+hearing_goes v s now (Err f) judged answer fault out is stop = cc
+hearing_goes v s now (Ok Closed) judged answer fault out is stop = cc
+hearing_goes v s now (Ok Text) judged answer fault out is stop = cc
+hearing_goes v s now (Ok Quiet) true answer fault out is stop = inl (out, refl)
+hearing_goes v s now (Ok Quiet) false answer fault out is stop = inl (out, refl)
+hearing_goes v s now (Ok (Message m)) false answer fault out is stop = cc
+hearing_goes v s now (Ok (Message m)) true answer fault out is stop = verdict_goes v s now m fault out (verdict_on v s m) answer is.fits is.calls stop
+
+-- A turn that goes on before anybody has joined.
+pub turn_goes : (v : Terms) (s : Standing) (t : Turn) → is_in s ≡ false → IsTurn v s t → GoesOn v s t → Goes v (message_in v s t) (said_in v s t) (after v s t)
+turn_goes v s t out is goes = by t.hearing is.hearing (first_none (stop_before v s t.opening) (stop_after v (opened s t.opening) t.opening.reading t.hearing) goes).1
+  where
+    o : Opening
+    o = t.opening
+
+    still : is_in (opened s o) ≡ false
+    still = (opened_in s o).0 ∙ out
+
+    none : puts (put_first v s o) o.fault ≡ []
+    none = (let two = takes_none v s o out is.opening.takes in nothing_put v s o two.0 two.1)
+
+    behind : (h : Hearing) → Goes v (message_by v (opened s o) h.given) (said_hearing v (opened s o) o.reading h) (after_hearing v (opened s o) o.reading h)
+        → Goes v (message_by v (opened s o) h.given) (puts (put_first v s o) o.fault ++ said_hearing v (opened s o) o.reading h) (after_hearing v (opened s o) o.reading h)
+    behind h (inl w) = inl w
+    behind h (inr j) = inr (record { request = j.request; id = j.id; said_so = ap (λ (l : List Said). l ++ said_hearing v (opened s o) o.reading h) none ∙ j.said_so; joined = j.joined; one = j.one })
+
+    by : (hh : Option Hearing) → IsHearingIf v (opened s o) o.reading hh → stop_after v (opened s o) o.reading hh ≡ None
+        → Goes v (message_after v (opened s o) hh) (puts (put_first v s o) o.fault ++ said_after v (opened s o) o.reading hh) (stands_after v (opened s o) o.reading hh)
+    by None heard stop = inl (still, refl)
+    by (Some h) heard stop = behind h (hearing_goes v (opened s o) o.reading h.given h.judged h.answer h.fault still heard stop)
+
+-- ---- once somebody has joined
+
+answered_in : (s : Standing) (st : Step) (a : Option Answer) → is_in s ≡ true → is_in (answered s st a) ≡ true
+answered_in s (Ask who) (Some (replies l (Joined c r))) h = told_joined_in s
+answered_in s (Ask who) (Some (replies l (Refused r))) h = told_in s (RefusedEvent r) refl ∙ h
+answered_in s st a h = h
+
+stays_heard : (v : Terms) (s : Standing) (now : ℕ) (h : Option Hearing) → is_in s ≡ true → is_in (stands_after v s now h) ≡ true
+stays_heard v s now None k = k
+stays_heard v s now (Some h) k = answered_in (stands_heard v s now h) (step_of v s now h) h.answer ((heard_in v s now h.judged h.given).0 ∙ k)
+
+-- it stays so
+pub stays_in : (v : Terms) (s : Standing) (t : Turn) → is_in s ≡ true → is_in (after v s t) ≡ true
+stays_in v s t h = stays_heard v (opened s t.opening) t.opening.reading t.hearing ((opened_in s t.opening).0 ∙ h)
+
+joined_not_awaiting : (g : MachineStanding) → has_joined g ≡ true → phase_named g ≡ AwaitingRequest → ⊥
+joined_not_awaiting awaiting_request h p = cc
+joined_not_awaiting connected h p = cc
+joined_not_awaiting (disconnecting f) h p = cc
+
+none_asks : (o : Option Identity) → ((who : Identity) → o ≡ Some who → ⊥) → option_to_list o ++ [] ≡ []
+none_asks None h = refl
+none_asks (Some who) h = absurd (h who refl)
+
+asks_none : (v : Terms) (s : Standing) (m : List ℕ) (w : Verdict) → verdict_on v s m ≡ w → is_in s ≡ true → asked (message m w) ≡ []
+asks_none v s m (Pass msg) is h = none_asks (who_asks msg.body) (λ who asks. joined_not_awaiting (standing s.events) h (asked_awaiting m (phase s.events) v.hub.max_bvlc msg who is asks))
+asks_none v s m (Carried envelope) is h = refl
+asks_none v s m (Silent check) is h = refl
+asks_none v s m (Nak check octets) is h = refl
+
+given_asks_none : (v : Terms) (s : Standing) (given : Result Incoming LinkFault) → is_in s ≡ true → asked (message_by v s given) ≡ []
+given_asks_none v s (Ok (Message m)) h = asks_none v s m (verdict_on v s m) refl h
+given_asks_none v s (Ok Closed) h = refl
+given_asks_none v s (Ok Text) h = refl
+given_asks_none v s (Ok Quiet) h = refl
+given_asks_none v s (Err fault) h = refl
+
+-- nobody asks
+pub in_asks_none : (v : Terms) (s : Standing) (t : Turn) → is_in s ≡ true → asked (message_in v s t) ≡ []
+in_asks_none v s t h = by t.hearing
+  where
+    by : (hh : Option Hearing) → asked (message_after v (opened s t.opening) hh) ≡ []
+    by None = refl
+    by (Some k) = given_asks_none v (opened s t.opening) k.given ((opened_in s t.opening).0 ∙ h)

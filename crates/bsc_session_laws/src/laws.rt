@@ -1,0 +1,34 @@
+//! What holds of each session, carried by functions that do nothing.
+ghost use Rattle.std.specs.Prelude.{ℕ, List};
+ghost use Rattle.bsc_history.specs.declared.entry.Entry.{Entry};
+ghost use Rattle.bsc_edge.specs.declared.said.Said.{Said};
+ghost use Rattle.bsc_session.specs.declared.ended.Ended.{Ended};
+ghost use Rattle.bsc_session.specs.Standings.{Terms};
+ghost use Rattle.bsc_session.specs.Talk.{Session};
+ghost use Rattle.bsc_session_laws.specs.Laws.{ConnectsAreAsked, ForwardsAreCarried, FramesFollowAccept, MessagesAreGiven};
+
+/// The messages of a session that are judged are those that its link gave, in order.
+pub fn messages_are_given()
+    ensures { (v : Terms) (T : List Said) (R : List ℕ) (E : List Entry) (frames : List (List ℕ)) (ended : Ended) →
+        (x : Session v T R E frames ended) → MessagesAreGiven v T x.course }
+{}
+
+/// The Forwards of a session are the messages that came and are to be carried on, in order: all of them, or all but the last
+/// thing that the link gave, where the hub was worn or memory ran out in its call. All are of the session's connection.
+pub fn forwards_are_carried()
+    ensures { (v : Terms) (T : List Said) (R : List ℕ) (E : List Entry) (frames : List (List ℕ)) (ended : Ended) →
+        (x : Session v T R E frames ended) → ForwardsAreCarried v E ended x.course }
+{}
+
+/// The Connects of a session are for those who asked to connect, in order: all of them, or all but the last where the hub
+/// was worn or memory ran out. One asked at most.
+pub fn connects_are_asked()
+    ensures { (v : Terms) (T : List Said) (R : List ℕ) (E : List Entry) (frames : List (List ℕ)) (ended : Ended) →
+        (x : Session v T R E frames ended) → ConnectsAreAsked v E x.course }
+{}
+
+/// A session that takes frames has put the Connect-Accept before it takes the first.
+pub fn frames_follow_accept()
+    ensures { (v : Terms) (T : List Said) (R : List ℕ) (E : List Entry) (frames : List (List ℕ)) (ended : Ended) →
+        (x : Session v T R E frames ended) → FramesFollowAccept v T frames x.course }
+{}
