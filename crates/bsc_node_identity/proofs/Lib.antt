@@ -9,6 +9,7 @@ pub mod Theirs
 pub mod Followed
 pub mod Settled
 pub mod Events
+pub mod Timely
 pub mod Peers
 pub mod Carried
 pub mod Leading

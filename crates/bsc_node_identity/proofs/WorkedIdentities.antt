@@ -10,7 +10,7 @@ use Rattle.bsc_frame.specs.declared.body.Body.{Body}
 use Rattle.bsc_frame.specs.declared.body.Body.TheVariants.{Npdu, AddressResolution, AddressResolutionAck, ConnectRequest, ConnectAccept}
 use Rattle.bsc_frame.specs.Spelling.{spelling}
 use Rattle.bsc_connector.specs.declared.side.Side.TheVariants.{Primary}
-use Rattle.bsc_checks.specs.declared.phase.Phase.TheVariants.{Connected}
+use Rattle.bsc_checks.specs.declared.phase.Phase.TheVariants.{AwaitingRequest, Connected}
 use Rattle.bsc_checks.specs.declared.place.Place.TheVariants.{NodeHub, NodeDirect}
 use Rattle.bsc_checks.specs.declared.verdict.Verdict.TheVariants.{Pass}
 use Rattle.bsc_verdict.specs.Outcomes.{outcome_of}
@@ -26,7 +26,7 @@ use Rattle.bsc_node.specs.declared.note.Note.TheVariants.{DirectUp}
 use Rattle.bsc_node.specs.declared.action.Action.TheVariants.{Put, Tell}
 use Rattle.bsc_node.specs.Logs.{Made}
 use Rattle.bsc_node.specs.Links.{begins, peer}
-use Rattle.bsc_node.specs.Ways.{established_peer, learnt}
+use Rattle.bsc_node.specs.Ways.{way, established_peer, learnt}
 use Rattle.bsc_node.specs.Node.{goes_on, log, actions}
 use Rattle.bsc_node.specs.Conditions.{may_all_come}
 use Rattle.bsc_node.proofs.OnLiterals.{node_on_literals}
@@ -153,14 +153,33 @@ dialled_has_its_peer = refl
 
 -- ---- NPDUs
 
-for_one : outcome_of (out (message_octets 5 (Some (address 0x0B)) (Npdu (1 ∷ 2 ∷ []))) (address 0x0A)) (NodeHub (address 0x0B) Connected) 1600 ≡ Pass (passed_on 5 (address 0x0A) (address 0x0B) (1 ∷ 2 ∷ []))
+-- One to the other goes over the slot, and one for all over the hub.
+way_to_it : way (address 0x0A) (log the_node dialled) ≡ Some (record { link = Direct 0; dest = None })
+unfolding node_on_literals
+way_to_it = refl
+
+way_to_all : way broadcast (log the_node dialled) ≡ Some (record { link = Hub Primary; dest = Some broadcast })
+unfolding node_on_literals
+way_to_all = refl
+
+for_one : outcome_of (out (message_octets 5 (Some (address 0x0B)) (Npdu (1 ∷ 2 ∷ []))) (address 0x0A)) (NodeHub (address 0x0B) Connected) 1600 ≡ Pass (passed_on 5 (address 0x0A) (address 0x0B) (Npdu (1 ∷ 2 ∷ [])))
 unfolding node_on_literals out
 for_one = refl
 
-for_all : outcome_of (out (message_octets 5 (Some broadcast) (Npdu (1 ∷ 2 ∷ []))) (address 0x0A)) (NodeHub (address 0x0B) Connected) 1600 ≡ Pass (passed_on 5 (address 0x0A) broadcast (1 ∷ 2 ∷ []))
+for_all : outcome_of (out (message_octets 5 (Some broadcast) (Npdu (1 ∷ 2 ∷ []))) (address 0x0A)) (NodeHub (address 0x0B) Connected) 1600 ≡ Pass (passed_on 5 (address 0x0A) broadcast (Npdu (1 ∷ 2 ∷ [])))
 unfolding node_on_literals out
 for_all = refl
 
 plainly : outcome_of (message_octets 5 None (Npdu (1 ∷ 2 ∷ []))) (NodeDirect (address 0x0B) (Some (address 0x0A)) Connected) 1600 ≡ Pass (message 5 None (Npdu (1 ∷ 2 ∷ [])))
 unfolding node_on_literals
 plainly = refl
+
+-- ---- and other messages
+
+uris_on_their_way : outcome_of (out (message_octets 5 (Some (address 0x0B)) (AddressResolutionAck own_uris)) (address 0x0A)) (NodeHub (address 0x0B) Connected) 1600 ≡ Pass (passed_on 5 (address 0x0A) (address 0x0B) (AddressResolutionAck own_uris))
+unfolding node_on_literals out
+uris_on_their_way = refl
+
+a_request : outcome_of (spelling (connect_request 5 other)) (NodeDirect (address 0x0B) None AwaitingRequest) 1600 ≡ Pass (connect_request 5 other)
+unfolding node_on_literals
+a_request = refl

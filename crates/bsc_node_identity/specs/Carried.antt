@@ -1,11 +1,11 @@
--- Where an NPDU goes, and what comes of it: over a hub, and over a direct connection.
-use Rattle.std.specs.Prelude.{◌≡◌, ◌<◌, ◌^◌, ℕ, List, length, Option, Some, None, if◌then◌else◌}
+-- What comes of a message that was put, and where one goes: over a hub, and over a direct connection.
+use Rattle.std.specs.Prelude.{◌≡◌, ◌<◌, ◌^◌, ℕ, length, Option, Some, None, if◌then◌else◌}
 use Rattle.bsc_octets.specs.declared.vmac.Vmac.{Vmac}
 use Rattle.bsc_octets.specs.declared.identity.Identity.{Identity}
 use Rattle.bsc_octets.specs.Addresses.{same_vmac, broadcast}
 use Rattle.bsc_octets.specs.Forwarding.{out}
 use Rattle.bsc_frame.specs.declared.message.Message.{Message}
-use Rattle.bsc_frame.specs.declared.body.Body.TheVariants.{Npdu}
+use Rattle.bsc_frame.specs.declared.body.Body.{Body}
 use Rattle.bsc_checks.specs.declared.place.Place.{Place}
 use Rattle.bsc_checks.specs.declared.verdict.Verdict.TheVariants.{Pass}
 use Rattle.bsc_verdict.specs.Outcomes.{outcome_of}
@@ -19,21 +19,21 @@ use Rattle.bsc_node.specs.Ways.{Way, way, established_peer}
 abbrev pub dest_out : Vmac → Option Vmac
 dest_out dest = if same_vmac dest broadcast then Some broadcast else None
 
--- An NPDU as the hub passes it on from v: it has v as the Originating Virtual Address.
-abbrev pub passed_on : ℕ → Vmac → Vmac → List ℕ → Message
-passed_on id v dest npdu = record (message id (dest_out dest) (Npdu npdu)) { origin = Some v }
+-- A message with this body as the hub passes it on from v: it has v as the Originating Virtual Address.
+abbrev pub passed_on : ℕ → Vmac → Vmac → Body → Message
+passed_on id v dest body = record (message id (dest_out dest) body) { origin = Some v }
 
--- At each place where an NPDU passes that the hub passed on, it is that NPDU, from its sender, to all or to the one.
-abbrev pub PassedOnIsWhatWasPut : Type 0
-PassedOnIsWhatWasPut =
-    (id : ℕ) (v dest : Vmac) (npdu : List ℕ) (place : Place) (max : ℕ) (msg : Message) → id < 2 ^ 16 → length v.0 ≡ 6 → length dest.0 ≡ 6
-    → outcome_of (out (message_octets id (Some dest) (Npdu npdu)) v) place max ≡ Pass msg → msg ≡ passed_on id v dest npdu
+-- What passes, at any place, of a message with this body that the hub passed on is that message, from its sender, to all or
+-- to the one.
+abbrev pub IsCarriedOn : Body → Type 0
+IsCarriedOn body =
+    (id : ℕ) (v dest : Vmac) (place : Place) (max : ℕ) (msg : Message) → id < 2 ^ 16 → length v.0 ≡ 6 → length dest.0 ≡ 6
+    → outcome_of (out (message_octets id (Some dest) body) v) place max ≡ Pass msg → msg ≡ passed_on id v dest body
 
--- At each place where an NPDU passes that was put without addresses, it is that NPDU, without addresses.
-abbrev pub PlainIsWhatWasPut : Type 0
-PlainIsWhatWasPut =
-    (id : ℕ) (npdu : List ℕ) (place : Place) (max : ℕ) (msg : Message) → id < 2 ^ 16
-    → outcome_of (message_octets id None (Npdu npdu)) place max ≡ Pass msg → msg ≡ message id None (Npdu npdu)
+-- What passes, at any place, of a message with this body that was put without addresses is that message.
+abbrev pub IsCarriedPlainly : Body → Type 0
+IsCarriedPlainly body =
+    (id : ℕ) (place : Place) (max : ℕ) (msg : Message) → id < 2 ^ 16 → outcome_of (message_octets id None body) place max ≡ Pass msg → msg ≡ message id None body
 
 -- ---- where it goes
 

@@ -5,8 +5,11 @@ use Rattle.bsc_octets.specs.declared.identity.Identity.{Identity}
 use Rattle.bsc_frame.specs.declared.message.Message.{Message}
 use Rattle.bsc_frame.specs.declared.body.Body.{Body}
 use Rattle.bsc_frame.specs.declared.body.Body.TheVariants.{ConnectRequest, ConnectAccept}
+use Rattle.bsc_frame.specs.Payloads.{IsNode}
 use Rattle.bsc_frame.specs.Spelling.{spelling}
+use Rattle.bsc_checks.specs.declared.place.Place.{Place}
 use Rattle.bsc_checks.specs.declared.verdict.Verdict.TheVariants.{Pass}
+use Rattle.bsc_verdict.specs.Outcomes.{outcome_of}
 use Rattle.bsc_accept.specs.Messages.{connect_accept}
 use Rattle.bsc_initiate.specs.Messages.{connect_request}
 use Rattle.bsc_direct.specs.declared.call.SlotCall.TheVariants.{Up}
@@ -50,6 +53,14 @@ abbrev pub named_by : Body → Option Identity
 named_by (ConnectRequest who) = Some who
 named_by (ConnectAccept who) = Some who
 named_by body = None
+
+-- What passes of a Connect-Request or a Connect-Accept names whose it is, at each place.
+abbrev pub ConnectsNameTheirPeer : Type 0
+ConnectsNameTheirPeer = (who : Identity) (o : List ℕ) (place : Place) (max : ℕ) (msg : Message) → IsNode who → IsConnectOf who o → outcome_of o place max ≡ Pass msg → named_by msg.body ≡ Some who
+
+-- What passes of other octets names nobody.
+abbrev pub OthersNameNobody : Type 0
+OthersNameNobody = (o : List ℕ) (place : Place) (max : ℕ) (msg : Message) → is_connect o ≡ false → outcome_of o place max ≡ Pass msg → named_by msg.body ≡ None
 
 -- By this event, behind the log L, a message comes over the link that passes and names its peer.
 abbrev pub IsNamedAt : Made → Log → TimedEvent → LinkName → Identity → Type 0

@@ -1,8 +1,10 @@
 //! Laws of identities in the definition of a node, each carried by a function that does nothing.
+ghost use Rattle.std.specs.Prelude.{ℕ, List};
+ghost use Rattle.bsc_frame.specs.declared.body.Body.TheVariants.{Npdu, AddressResolutionAck};
 ghost use Rattle.bsc_node.specs.Logs.{Made};
-ghost use Rattle.bsc_node_identity.specs.Naming.{NamesItself, SlotsComeUpAsNamed, SlotsHaveWhoNamedItself, PeersNamedThemselves, BegunIsNotEstablished, SlotsHaveTheirPeers};
+ghost use Rattle.bsc_node_identity.specs.Naming.{NamesItself, SlotsComeUpAsNamed, SlotsHaveWhoNamedItself, PeersNamedThemselves, BegunIsNotEstablished, SlotsHaveTheirPeers, ConnectsNameTheirPeer, OthersNameNobody};
 ghost use Rattle.bsc_node_identity.specs.Resolving.{LearnsWhatWasAnswered, TellsItsOwnUris};
-ghost use Rattle.bsc_node_identity.specs.Carried.{PassedOnIsWhatWasPut, PlainIsWhatWasPut, WaysLeadThere};
+ghost use Rattle.bsc_node_identity.specs.Carried.{IsCarriedOn, IsCarriedPlainly, WaysLeadThere};
 
 /// Each Connect-Request and Connect-Accept that a node puts has its own identity, with the VMAC that it then has.
 pub fn names_itself()
@@ -44,10 +46,22 @@ pub fn tells_its_own_uris()
     ensures { (a : Made) → TellsItsOwnUris a }
 {}
 
+/// What passes of a Connect-Request or a Connect-Accept names whose it is, and what passes of other octets names nobody.
+pub fn connects_name_their_peer()
+    ensures named { ConnectsNameTheirPeer }
+    ensures others { OthersNameNobody }
+{}
+
 /// What passes of an NPDU is that NPDU: as the hub passed it on, with its sender, and as it was put without addresses.
 pub fn npdus_are_carried()
-    ensures passed_on { PassedOnIsWhatWasPut }
-    ensures plain { PlainIsWhatWasPut }
+    ensures passed_on { (npdu : List ℕ) → IsCarriedOn (Npdu npdu) }
+    ensures plain { (npdu : List ℕ) → IsCarriedPlainly (Npdu npdu) }
+{}
+
+/// What passes of an Address-Resolution-ACK is that ACK: as the hub passed it on, with its sender, and without addresses.
+pub fn uris_are_carried()
+    ensures passed_on { (uris : List ℕ) → IsCarriedOn (AddressResolutionAck uris) }
+    ensures plain { (uris : List ℕ) → IsCarriedPlainly (AddressResolutionAck uris) }
 {}
 
 /// The way of a message leads to its destination: over a hub connection with it, or over a slot that is established with it.

@@ -1,5 +1,5 @@
-use Rattle.bsc_node_identity.proofs.Carried.{passed_on_is_what_was_put, plain_is_what_was_put}
+use Rattle.bsc_node_identity.proofs.Carried.{npdus_on, npdus_plainly}
 use Rattle.bsc_node_identity.proofs.laws.npdus_are_carried.Goals as goal
 
 pub returns : goal.returns
-returns c = record { passed_on = passed_on_is_what_was_put; plain = plain_is_what_was_put }
+returns c = record { passed_on = npdus_on; plain = npdus_plainly }
