@@ -1,0 +1,6 @@
+pub mod Standing
+pub mod Rows
+pub mod Sameness
+pub mod Deciding
+pub mod Following
+pub mod Bounds
