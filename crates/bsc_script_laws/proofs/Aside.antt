@@ -70,9 +70,6 @@ without_others n m s h = all_from_In (IsOther n) (filter (λ p. not (is_named m 
 quiet_aside : (n : List ℕ) (s : State) → AreOthers n s → IsAside n (quietly s)
 quiet_aside n s h = record { lines = tt; others = h }
 
-writes_aside : (n : List ℕ) (l : Said) (o : Outcome) → l.name ≢ n → IsAside n o → IsAside n (record { state = o.state; said = l ∷ o.said })
-writes_aside n l o other h = record { lines = (other, h.lines); others = h.others }
-
 more_aside : (n : List ℕ) (ls : List Said) (o : Outcome) → AreAside n ls → IsAside n o → IsAside n (record { state = o.state; said = ls ++ o.said })
 more_aside n ls o before h = record { lines = all-push (λ (l : Said). l.name ≢ n) ls o.said before h.lines; others = h.others }
 

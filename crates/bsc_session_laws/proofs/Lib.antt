@@ -5,4 +5,4 @@ mod Forwarding
 mod Connecting
 mod Owning
 mod Accepting
-pub mod WorkedLaws
+mod WorkedLaws

@@ -40,7 +40,7 @@ gets_back = record { opening = record { reading = 0; frames = back ∷ []; met =
 abbrev turns : List Turn
 turns = joins ∷ forwards_to 1 to_itself Appended ∷ gets_back ∷ []
 
-pub a_hears_itself : Session terms talk (0 ∷ 0 ∷ 0 ∷ []) made (back ∷ []) over
+a_hears_itself : Session terms talk (0 ∷ 0 ∷ 0 ∷ []) made (back ∷ []) over
 unfolding verdict_on_literals
 a_hears_itself = told_by terms (record {
   went_on = (joins ∷ forwards_to 1 to_itself Appended ∷ []);
