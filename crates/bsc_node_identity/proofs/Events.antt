@@ -9,10 +9,10 @@ use Rattle.bsc_octets.specs.declared.identity.Identity.{Identity}
 use Rattle.bsc_direct.specs.declared.call.SlotCall.TheVariants.{Up}
 use Rattle.bsc_direct.proofs.OneMore.{some_none, both_ways, some_same}
 use Rattle.bsc_node.specs.declared.link_name.LinkName.{LinkName}
-use Rattle.bsc_node.specs.declared.link_name.LinkName.TheVariants.{Direct}
+use Rattle.bsc_node.specs.declared.link_name.LinkName.TheVariants.{Hub, Direct}
 use Rattle.bsc_node.specs.declared.timed_event.TimedEvent.{TimedEvent}
 use Rattle.bsc_node.specs.declared.action.Action.{Action}
-use Rattle.bsc_node.specs.declared.action.Action.TheVariants.{Put}
+use Rattle.bsc_node.specs.declared.action.Action.TheVariants.{Put, Dial}
 use Rattle.bsc_node.specs.Logs.{Made, Line, came, did, slot, Log, own_vmac, own, action_of}
 use Rattle.bsc_node.specs.Links.{begins, is_there, start, peer, verdict, was_taken, hears}
 use Rattle.bsc_node.specs.Ways.{established_peer, learnt}
@@ -29,7 +29,7 @@ use Rattle.bsc_node.specs.declared.node_event.NodeEvent.TheVariants.{Came}
 use Rattle.bsc_node.specs.Receiving.{sender}
 use Rattle.bsc_node.proofs.Lasting.{event_fits}
 use Rattle.bsc_node_identity.specs.Naming.{IsConnectOf, PutsAs, NamesItself, IsNamedAt, IsUpAsNamed, SlotsComeUpAsNamed, WasNamed, PeersNamedThemselves, SlotsHaveWhoNamedItself, BegunIsNotEstablished, named_by}
-use Rattle.bsc_node_identity.specs.Resolving.{IsAnsweredAt, WasAnswered, LearnsWhatWasAnswered, TellsUris, TellsItsOwnUris}
+use Rattle.bsc_node_identity.specs.Resolving.{IsAnsweredAt, WasAnswered, LearnsWhatWasAnswered, TellsUris, TellsItsOwnUris, DialsKnown, DialsWhatItKnows}
 use Rattle.bsc_node_identity.proofs.Each.{EachHas, keeps, each-action, each-line}
 use Rattle.bsc_node_identity.proofs.Reasons.{is_beginning, Why, WhyBegun, was_open}
 use Rattle.bsc_node_identity.proofs.Followed.{each-why, has-heard}
@@ -338,3 +338,15 @@ pub tells_its_own_uris : (a : Made) → TellsItsOwnUris a
 tells_its_own_uris a L e may =
     subst (λ (lines : List Line). AllByRecursion (TellsUris a.limits.uris) (filter_map action_of lines)) (sym (goes_on-is a L e))
     (each-action (Why a L e) (λ N. ⊤) (TellsUris a.limits.uris) (λ N m why n. tt) (tells_uris a L e) (with_event L e) (follows a e.event (with_event L e)) (each-why a L e may) tt)
+
+-- ---- dialling
+
+dials_known : (a : Made) (L : Log) (e : TimedEvent) (N : Log) (action : Action) → Why a L e N (did action) → ⊤ → DialsKnown a (with_event L e) action
+dials_known a L e N (Dial (Hub s) uri) why n = why
+dials_known a L e N (Dial (Direct k) uri) why n = why.1
+dials_known a L e N action why n = tt
+
+pub dials_what_it_knows : (a : Made) → DialsWhatItKnows a
+dials_what_it_knows a L e may =
+    subst (λ (lines : List Line). AllByRecursion (DialsKnown a (with_event L e)) (filter_map action_of lines)) (sym (goes_on-is a L e))
+    (each-action (Why a L e) (λ N. ⊤) (DialsKnown a (with_event L e)) (λ N m why n. tt) (dials_known a L e) (with_event L e) (follows a e.event (with_event L e)) (each-why a L e may) tt)

@@ -1,6 +1,7 @@
 -- Each line that follows from an event that may come has its reason.
 use Rattle.std.proofs.Common.{◌≡◌, inl, inr, ℕ, Bool, true, false, not, ◌&&◌, List, [], ◌∷◌, ◌++◌, Option, Some, None, refl, ap, sym, ◌∙◌, subst}
-use Rattle.std.specs.Prelude.{◌==◌, IsTrue, nat_lt}
+use Rattle.std.specs.Prelude.{◌==◌, IsTrue, nat_lt, slice_get}
+use Rattle.std.specs.Option.{option_and_then}
 use Rattle.bsc_octets.specs.declared.vmac.Vmac.{Vmac}
 use Rattle.bsc_octets.specs.declared.identity.Identity.{Identity}
 use Rattle.bsc_connector.specs.declared.side.Side.{Side}
@@ -33,7 +34,7 @@ use Rattle.bsc_node.specs.declared.action.Action.TheVariants.{Dial, Take, Refuse
 use Rattle.bsc_node.specs.Logs.{Made, came, did, slot, initiating, accepting, resolution, is_finishing, Log, Rule, nothing, in_order, either, where_found, does, tells, now, next_id}
 use Rattle.bsc_node.specs.Links.{is_over_by_event, is_there, none_there, was_taken, start, accepting_events, peer, verdict, by_machine, opens, hears, Outcome, puts, meets, is_refused, passes_up, outcome}
 use Rattle.bsc_node.specs.Hubs.{is_tried}
-use Rattle.bsc_node.specs.Ways.{free_slot, wanted, next_uri, established, learnt, uris_to_dial, awaits, awaits_peer, establish, slots_see, resolution_sees}
+use Rattle.bsc_node.specs.Ways.{free_slot, wanted, next_uri, established, learnt, uris_to_dial, awaits, awaits_peer, establish, slots_see, resolution_sees, tries}
 use Rattle.bsc_node.specs.Ending.{carries_out_by, carries_out, tells_connector, ends, closes_link}
 use Rattle.bsc_node.specs.Messages.{duplicate_vmac_code}
 use Rattle.bsc_node.specs.Meeting.{joins, wrong_peer, finishes_replaced, comes_up, meets_dialled, meets_taken, meets_slot, meets_direct, meets_peer, is_hub, tells_refusal, may_draw, is_refused_by, renewals, renews, keeps_vmac}
@@ -60,8 +61,8 @@ use Rattle.bsc_node_identity.proofs.OneMore.{open-stays, claimed-alone}
 use Rattle.bsc_node_identity.proofs.Reasons.{was_open, Unmet, Sides, is_beginning, Why, WhyPut, why-still}
 
 -- A still rule's lines have their reasons.
-still-has : (a : Made) (L : Log) (e : TimedEvent) (rule : Rule) → Still rule → (N : Log) → EachHas (Why a L e) N (rule N)
-still-has a L e rule s N = each-test (Why a L e) is_still (why-still a L e) N (rule N) (s N)
+still-has : (a : Made) (L : Log) (e : TimedEvent) (rule : Rule) → Still a rule → (N : Log) → EachHas (Why a L e) N (rule N)
+still-has a L e rule s N = each-test (Why a L e) (is_still a) (why-still a L e) N (rule N) (s N)
 
 -- ---- a link that is told something is there, and open, as it was
 
@@ -160,8 +161,8 @@ has_accepts a L e k who replaced N named there opened taken theirs =
 has_meets_taken : (a : Made) (L : Log) (e : TimedEvent) (k : ℕ) (who : Identity) (answer : Establish) (N : Log) → IsNamedAt a L e (Direct k) who → is_there (Direct k) N ≡ true → was_open (Direct k) N ≡ true → was_taken (Direct k) N ≡ true → IsTheirs L N k who
     → EachHas (Why a L e) N (meets_taken a k who answer N)
 has_meets_taken a L e k who (IsUp replaced) N named there opened taken theirs = has_accepts a L e k who replaced N named there opened taken theirs
-has_meets_taken a L e k who (Duplicate holder) N named there opened taken theirs = each-test (Why a L e) is_still (why-still a L e) N (meets_taken a k who (Duplicate holder) N) (still-refused a k N taken)
-has_meets_taken a L e k who (WrongPeer v) N named there opened taken theirs = each-test (Why a L e) is_still (why-still a L e) N (meets_taken a k who (WrongPeer v) N) (still-refused a k N taken)
+has_meets_taken a L e k who (Duplicate holder) N named there opened taken theirs = each-test (Why a L e) (is_still a) (why-still a L e) N (meets_taken a k who (Duplicate holder) N) (still-refused a k N taken)
+has_meets_taken a L e k who (WrongPeer v) N named there opened taken theirs = each-test (Why a L e) (is_still a) (why-still a L e) N (meets_taken a k who (WrongPeer v) N) (still-refused a k N taken)
 
 has_meets_hub : (a : Made) (L : Log) (e : TimedEvent) (s : Side) (who : Identity) (N : Log) → EachHas (Why a L e) N (meets_peer a (Hub s) who N)
 has_meets_hub a L e s who N =
@@ -201,7 +202,7 @@ has_is_refused_by a L e name origin code N =
 has_answers_by : (a : Made) (L : Log) (e : TimedEvent) (name : LinkName) (msg : Message) (N : Log) (own : Option (List ℕ)) → a.limits.uris ≡ own → EachHas (Why a L e) N (answers_by name msg own N)
 has_answers_by a L e name msg N (Some uris) is = ((λ g. (uris, msg.id, answer_dest name msg, is, refl), λ g. cc), tt)
 has_answers_by a L e name msg N None is =
-    still-has a L e (answers_by name msg None) (pass-when is_still (λ M. not (is_for_all msg)) (answers name msg msg.id (nak 0x02 not_supported_code)) (λ M. refl)) N
+    still-has a L e (answers_by name msg None) (pass-when (is_still a) (λ M. not (is_for_all msg)) (answers name msg msg.id (nak 0x02 not_supported_code)) (λ M. refl)) N
 
 has_learns : (a : Made) (L : Log) (e : TimedEvent) (msg : Message) (uris : List ℕ) (v : Vmac) (N : Log) → IsAnsweredAt a L e v uris → EachHas (Why a L e) N (learns a msg uris v N)
 has_learns a L e msg uris v N answered =
@@ -253,13 +254,18 @@ has-came a L e name o is there opened =
 
 -- ---- direct connections begin
 
+next_known : (k : ℕ) (M : Log) (uri : List ℕ) (o : Option Vmac) → option_and_then (λ v. slice_get (uris_to_dial v M) (tries k M)) o ≡ Some uri → (v : Vmac) × (place : ℕ) × (slice_get (uris_to_dial v M) place ≡ Some uri)
+next_known k M uri None h = cc
+next_known k M uri (Some v) h = (v, tries k M, h)
+
 has_dial_fails : (a : Made) (L : Log) (e : TimedEvent) (name : LinkName) → e.event ≡ DialFailed name → EachHas (Why a L e) (with_event L e) (dial_fails a name (with_event L e))
 has_dial_fails a L e (Hub s) is = still-has a L e (ends a (Hub s)) (still-ends a (Hub s)) (with_event L e)
 has_dial_fails a L e (Direct k) is =
-    each-some (Why a L e) (next_uri k (with_event L e)) (λ uri. does (Dial (Direct k) uri)) given_up (with_event L e) (λ uri found. ((ap is_beginning is, inr (is, refl)), tt))
+    each-some (Why a L e) (next_uri k (with_event L e)) (λ uri. does (Dial (Direct k) uri)) given_up (with_event L e)
+    (λ uri found. (((ap is_beginning is, inr (is, refl)), next_known k (with_event L e) uri (wanted k (with_event L e)) found), tt))
     (still-has a L e given_up
-    (pass-in_order is_still (where_found (wanted k) (λ v. tells (NoDirect v)) nothing ∷ ends a (Direct k) ∷ [])
-    (pass-found is_still (wanted k) (λ v. tells (NoDirect v)) nothing (λ v N. refl) (pass-nothing is_still), (still-ends a (Direct k), tt))) (with_event L e))
+    (pass-in_order (is_still a) (where_found (wanted k) (λ v. tells (NoDirect v)) nothing ∷ ends a (Direct k) ∷ [])
+    (pass-found (is_still a) (wanted k) (λ v. tells (NoDirect v)) nothing (λ v N. refl) (pass-nothing (is_still a)), (still-ends a (Direct k), tt))) (with_event L e))
   where
     given_up : Rule
     given_up = in_order (where_found (wanted k) (λ v. tells (NoDirect v)) nothing ∷ ends a (Direct k) ∷ [])
@@ -271,18 +277,18 @@ has_arrives a L e is =
     (each-last (Why a L e) (does (Take (Direct k))) (with_event L e ++ slot (Claim k None) ∷ []) ((ap is_beginning is, inl (claimed-alone k (with_event L e) None)), tt)))
     (tt, tt)
 
-has_dials_first : (a : Made) (L : Log) (e : TimedEvent) (v : Vmac) → e.event ≡ DirectTo v → (k : ℕ) (uris : List (List ℕ)) → EachHas (Why a L e) (with_event L e) (dials_first v k uris (with_event L e))
-has_dials_first a L e v is k [] = (tt, tt)
-has_dials_first a L e v is k (uri ∷ uris) =
+has_dials_first : (a : Made) (L : Log) (e : TimedEvent) (v : Vmac) → e.event ≡ DirectTo v → (k : ℕ) (uris : List (List ℕ)) → uris_to_dial v (with_event L e) ≡ uris → EachHas (Why a L e) (with_event L e) (dials_first v k uris (with_event L e))
+has_dials_first a L e v is k [] known = (tt, tt)
+has_dials_first a L e v is k (uri ∷ uris) known =
     each-cons (Why a L e) (slots_see (Claim k (Some v))) (does (Dial (Direct k) uri) ∷ []) (with_event L e) (tt, tt)
-    (each-last (Why a L e) (does (Dial (Direct k) uri)) (with_event L e ++ slot (Claim k (Some v)) ∷ []) ((ap is_beginning is, inl (claimed-alone k (with_event L e) (Some v))), tt))
+    (each-last (Why a L e) (does (Dial (Direct k) uri)) (with_event L e ++ slot (Claim k (Some v)) ∷ []) (((ap is_beginning is, inl (claimed-alone k (with_event L e) (Some v))), (v, 0, ap (λ (us : List (List ℕ)). slice_get us 0) known)), tt))
 
 has_directs : (a : Made) (L : Log) (e : TimedEvent) (v : Vmac) → e.event ≡ DirectTo v → EachHas (Why a L e) (with_event L e) (directs v (with_event L e))
 has_directs a L e v is =
     each-some (Why a L e) (established v M) (λ k. nothing) (where_found (learnt v) (λ text. where_found free_slot (λ k N. dials_first v k (uris_to_dial v N) N) (tells SlotsFull)) (tells (NoUris v))) M
     (λ k found. tt)
     (each-some (Why a L e) (learnt v M) (λ text. where_found free_slot (λ k N. dials_first v k (uris_to_dial v N) N) (tells SlotsFull)) (tells (NoUris v)) M
-    (λ text found. each-some (Why a L e) (free_slot M) (λ k N. dials_first v k (uris_to_dial v N) N) (tells SlotsFull) M (λ k free. has_dials_first a L e v is k (uris_to_dial v M)) (tt, tt)) (tt, tt))
+    (λ text found. each-some (Why a L e) (free_slot M) (λ k N. dials_first v k (uris_to_dial v N) N) (tells SlotsFull) M (λ k free. has_dials_first a L e v is k (uris_to_dial v M) refl) (tt, tt)) (tt, tt))
   where
     M : Log
     M = with_event L e
@@ -314,10 +320,10 @@ module _ (a : Made) (L : Log) (e : TimedEvent) (may : IsTrue (may_come L e)) whe
   follow (CameText name) is = still-has a L e (closes_link a name (closing 1003 Nothing)) (still-closes_link a name (closing 1003 Nothing)) (with_event L e)
   follow (Lost name) is = still-has a L e (ends a name) (still-ends a name) (with_event L e)
   follow Tick is = still-has a L e (time_passes a) (still-time_passes a) (with_event L e)
-  follow (Send dest npdu) is = still-has a L e (sends dest npdu) (still-sends dest npdu) (with_event L e)
+  follow (Send dest npdu) is = still-has a L e (sends dest npdu) (still-sends a dest npdu) (with_event L e)
   follow (Resolve v) is = still-has a L e (resolves a v) (still-resolves a v) (with_event L e)
   follow (DirectTo v) is = has_directs a L e v is
-  follow (Solicit v) is = still-has a L e (solicits v) (still-solicits v) (with_event L e)
+  follow (Solicit v) is = still-has a L e (solicits v) (still-solicits a v) (with_event L e)
   follow Finish is = still-has a L e (is_to_end a) (still-is_to_end a) (with_event L e)
   follow (Random w) is = still-has a L e (renews a) (still-renews a) (with_event L e)
   follow NoRandom is = still-has a L e (keeps_vmac a) (still-keeps_vmac a) (with_event L e)

@@ -60,7 +60,7 @@ begun_same taken L e N j k false is h why = cc
 
 -- A line by which a slot's link begins has the reason for that.
 pub begun-why : (a : Made) (L : Log) (e : TimedEvent) (N : Log) (m : Line) (k : ℕ) → begins (Direct k) m ≡ true → Why a L e N m → WhyBegun L e N k
-begun-why a L e N (did (Dial (Direct j) uri)) k b why = begun_same false L e N j k (j == k) refl b why
+begun-why a L e N (did (Dial (Direct j) uri)) k b why = begun_same false L e N j k (j == k) refl b why.0
 begun-why a L e N (did (Take (Direct j))) k b why = begun_same true L e N j k (j == k) refl b why
 begun-why a L e N (did (Take (Hub s))) k b why = absurd why
 begun-why a L e N m k b why = cc

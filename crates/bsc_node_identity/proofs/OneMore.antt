@@ -1,6 +1,7 @@
 -- What a log says once one line more stands in it.
 use Rattle.std.proofs.Common.{◌≡◌, ◌≤◌, ℕ, ◌+◌, ◌-◌, Bool, true, false, cond, ◌||◌, List, [], ◌∷◌, ◌++◌, length, take, Option, Some, None, is_some, refl, ap, sym, ◌∙◌, subst, arith, length-append}
 use Rattle.std.specs.Prelude.{◌==◌, filter_map, unwrap_or}
+use Rattle.std.specs.List.{list_any}
 use Rattle.std.specs.Option.{option_or}
 use Rattle.std.proofs.lemmas.List.{append-nil, take-append-le, take_at}
 use Rattle.std.proofs.lemmas.List.Elements.{filter_map-append}
@@ -15,8 +16,9 @@ use Rattle.bsc_direct.specs.Slots as Slots
 use Rattle.bsc_direct.proofs.OneMore.{peer-cleared}
 use Rattle.bsc_resolve.specs.declared.call.ResolveCall.{ResolveCall}
 use Rattle.bsc_node.specs.declared.link_name.LinkName.{LinkName}
-use Rattle.bsc_node.specs.Logs.{Made, Line, slot, initiating, resolution, Log, renewal_of, own_vmac}
-use Rattle.bsc_node.specs.Links.{same_link, begins, life, was_taken, initiating_event, accepting_event, initiating_events, accepting_events}
+use Rattle.bsc_node.specs.declared.action.Action.{Action}
+use Rattle.bsc_node.specs.Logs.{Made, Line, did, slot, initiating, resolution, Log, renewal_of, own_vmac, action_of}
+use Rattle.bsc_node.specs.Links.{same_link, begins, life, was_taken, initiating_event, accepting_event, initiating_events, accepting_events, begins_by}
 use Rattle.bsc_node.specs.Ways.{slot_call_of, slot_calls, established_peer, resolve_call_of, resolve_calls}
 use Rattle.bsc_node.specs.Conditions.{has_opened}
 use Rattle.bsc_node.proofs.Told.{life-more}
@@ -125,3 +127,11 @@ resolve_calls-same L m h = filter_same resolve_call_of L m h
 
 pub resolve_calls-more : (L : Log) (call : ResolveCall) → resolve_calls (L ++ resolution call ∷ []) ≡ resolve_calls L ++ call ∷ []
 resolve_calls-more L call = filter_map-append resolve_call_of L (resolution call ∷ [])
+
+-- ---- which links begin
+
+-- A link begins by some lines exactly where it does by one of their actions.
+pub begins-acts : (name : LinkName) (lines : List Line) → list_any (begins name) lines ≡ list_any (λ (action : Action). is_some (begins_by name action)) (filter_map action_of lines)
+begins-acts name [] = refl
+begins-acts name (did action ∷ lines) = ap (λ (b : Bool). is_some (begins_by name action) || b) (begins-acts name lines)
+begins-acts name (m ∷ lines) = begins-acts name lines

@@ -1,6 +1,8 @@
 -- Why a line stands in the log: for each line that follows from an event, what is known of it where it stands.
-use Rattle.std.proofs.Common.{◌≡◌, ◌⊎◌, ℕ, Bool, true, false, not, ◌&&◌, ◌||◌, List, Some, None, refl}
-use Rattle.std.specs.Prelude.{⊤}
+use Rattle.std.proofs.Common.{◌≡◌, ◌⊎◌, ℕ, Bool, true, false, not, ◌&&◌, ◌||◌, List, Some, None, refl, sym}
+use Rattle.std.specs.Prelude.{⊤, [], unwrap_or}
+use Rattle.std.specs.Cmp.Lexicographic.{same_text}
+use Rattle.bsc_connector.specs.declared.side.Side.TheVariants.{Primary, Failover}
 use Rattle.bsc_checks.specs.declared.verdict.Verdict.{Verdict}
 use Rattle.bsc_resolve.specs.declared.call.ResolveCall.{ResolveCall}
 use Rattle.bsc_resolve.specs.declared.call.ResolveCall.TheVariants.{Answered}
@@ -26,7 +28,7 @@ use Rattle.bsc_node.specs.Ways.{established_peer}
 use Rattle.bsc_node.specs.Conditions.{has_opened}
 use Rattle.bsc_node.specs.Laws.{with_event}
 use Rattle.bsc_node_identity.specs.Naming.{is_connect, IsConnectOf, IsNamedAt}
-use Rattle.bsc_node_identity.specs.Resolving.{is_uris, IsAnswerOf, IsAnsweredAt}
+use Rattle.bsc_node_identity.specs.Resolving.{DialsKnown, is_uris, IsAnswerOf, IsAnsweredAt}
 use Rattle.bsc_node_identity.proofs.Tame.{is_tame}
 use Rattle.bsc_node_identity.proofs.Still.{is_still_told, is_still_heard, is_still_call, is_still_answer, is_still_action, is_still}
 
@@ -91,7 +93,8 @@ WhyBegun L e N k = (is_beginning e.event ≡ true) × ((established_peer k N ≡
 
 abbrev pub WhyDone : Made → Log → TimedEvent → Log → Action → Type 0
 WhyDone a L e N (Put name o) = WhyPut a N name o
-WhyDone a L e N (Dial (Direct k) uri) = WhyBegun L e N k
+WhyDone a L e N (Dial (Hub s) uri) = DialsKnown a (with_event L e) (Dial (Hub s) uri)
+WhyDone a L e N (Dial (Direct k) uri) = WhyBegun L e N k × DialsKnown a (with_event L e) (Dial (Direct k) uri)
 WhyDone a L e N (Take (Hub s)) = ⊥
 WhyDone a L e N (Take (Direct k)) = WhyBegun L e N k
 WhyDone a L e N Draw = none_there N ≡ true
@@ -142,15 +145,16 @@ why_answer : (a : Made) (L : Log) (e : TimedEvent) (call : ResolveCall) → is_s
 why_answer a L e (Answered id v uris) h = cc
 why_answer a L e call h = tt
 
-why_done : (a : Made) (L : Log) (e : TimedEvent) (N : Log) (action : Action) → is_still_action action ≡ true → WhyDone a L e N action
+why_done : (a : Made) (L : Log) (e : TimedEvent) (N : Log) (action : Action) → is_still_action a action ≡ true → WhyDone a L e N action
 why_done a L e N (Put name o) h = why-tame a N name o h
 why_done a L e N (Dial (Direct k) uri) h = cc
-why_done a L e N (Dial (Hub s) uri) h = tt
+why_done a L e N (Dial (Hub Primary) uri) h = same_text uri a.limits.primary (sym h)
+why_done a L e N (Dial (Hub Failover) uri) h = same_text uri (unwrap_or a.limits.failover []) (sym h)
 why_done a L e N (Take name) h = cc
 why_done a L e N Draw h = cc
 why_done a L e N action h = tt
 
-pub why-still : (a : Made) (L : Log) (e : TimedEvent) (N : Log) (m : Line) → is_still m ≡ true → Why a L e N m
+pub why-still : (a : Made) (L : Log) (e : TimedEvent) (N : Log) (m : Line) → is_still a m ≡ true → Why a L e N m
 why-still a L e N (came other) h = cc
 why-still a L e N (initiating name call) h = why_told a L e N name call h
 why-still a L e N (accepting name call) h = why_heard a L e N name call h

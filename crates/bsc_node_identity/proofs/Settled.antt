@@ -108,6 +108,10 @@ keep-vmac a L e N m why v name there = by (begins name m) refl
     by true b = ap (own_vmac a) (until-begun (begins name) N m b) ∙ sym same
     by false b = ap (own_vmac a) (until-other (begins name) N m b) ∙ v name (there-before name N m b there) ∙ sym same
 
+-- An event that brings no word leaves the node's VMAC as it was.
+pub vmac-goes_on : (a : Made) (L : Log) (e : TimedEvent) → IsTrue (may_come L e) → renewal_in e.event ≡ None → own_vmac a (L ++ goes_on a e L) ≡ own_vmac a L
+vmac-goes_on a L e may none = kept a L e may (λ (N : Log). own_vmac a N ≡ own_vmac a L) (λ N m why h. own_vmac-same a N m (renewal_none a L e N m why) ∙ h) (own_vmac-same a L (came e) none)
+
 brings_by : (ev : NodeEvent) (v : Vmac) → renewal_in ev ≡ Some v → brings_word ev ≡ true
 brings_by (Random w) v h = refl
 brings_by ev v h = cc

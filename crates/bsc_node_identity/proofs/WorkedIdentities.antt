@@ -23,7 +23,7 @@ use Rattle.bsc_node.specs.declared.node_event.NodeEvent.{NodeEvent}
 use Rattle.bsc_node.specs.declared.node_event.NodeEvent.TheVariants.{Start, Opened, Arrived, Came, Tick, Resolve, DirectTo, Random}
 use Rattle.bsc_node.specs.declared.timed_event.TimedEvent.{TimedEvent}
 use Rattle.bsc_node.specs.declared.note.Note.TheVariants.{DirectUp}
-use Rattle.bsc_node.specs.declared.action.Action.TheVariants.{Put, Tell}
+use Rattle.bsc_node.specs.declared.action.Action.TheVariants.{Dial, Put, Tell}
 use Rattle.bsc_node.specs.Logs.{Made}
 use Rattle.bsc_node.specs.Links.{begins, peer}
 use Rattle.bsc_node.specs.Ways.{way, established_peer, learnt}
@@ -134,6 +134,14 @@ has_learnt = refl
 tells_its_uris : actions the_node (connects ++ hears_from 20 9 AddressResolution ∷ []) ≡ Put (Hub Primary) (message_octets 9 (Some (address 0x0A)) (AddressResolutionAck own_uris)) ∷ []
 unfolding node_on_literals
 tells_its_uris = refl
+
+dials_its_hub : actions the_node (at 0 Start ∷ []) ≡ Dial (Hub Primary) (codes "ws://p/") ∷ []
+unfolding node_on_literals
+dials_its_hub = refl
+
+dials_what_it_learnt : actions the_node (learns ++ at 30 (DirectTo (address 0x0A)) ∷ []) ≡ Dial (Direct 0) (codes "ws://a/") ∷ []
+unfolding node_on_literals
+dials_what_it_learnt = refl
 
 -- The slot that dials by them has the peer that accepts.
 abbrev dialled : List TimedEvent

@@ -1,19 +1,21 @@
--- Which URIs a node has learnt, and which it tells.
-use Rattle.std.specs.Prelude.{◌≡◌, ℕ, ◌==◌, Bool, true, IsTrue, List, ◌++◌, slice_index, Option, Some, ⊤}
+-- Which URIs a node has learnt, which it tells, and which it dials.
+use Rattle.std.specs.Prelude.{◌≡◌, ℕ, ◌==◌, Bool, true, IsTrue, List, ◌++◌, slice_index, Option, Some, ⊤, [], slice_get, unwrap_or}
 use Rattle.std.specs.List.{AllByRecursion}
 use Rattle.bsc_octets.specs.declared.vmac.Vmac.{Vmac}
 use Rattle.bsc_frame.specs.declared.message.Message.{Message}
 use Rattle.bsc_frame.specs.declared.body.Body.TheVariants.{AddressResolutionAck}
 use Rattle.bsc_checks.specs.declared.verdict.Verdict.TheVariants.{Pass}
 use Rattle.bsc_node.specs.Messages.{message_octets}
+use Rattle.bsc_connector.specs.declared.side.Side.TheVariants.{Primary, Failover}
 use Rattle.bsc_node.specs.declared.link_name.LinkName.{LinkName}
+use Rattle.bsc_node.specs.declared.link_name.LinkName.TheVariants.{Hub, Direct}
 use Rattle.bsc_node.specs.declared.node_event.NodeEvent.TheVariants.{Came}
 use Rattle.bsc_node.specs.declared.timed_event.TimedEvent.{TimedEvent}
 use Rattle.bsc_node.specs.declared.action.Action.{Action}
-use Rattle.bsc_node.specs.declared.action.Action.TheVariants.{Put}
+use Rattle.bsc_node.specs.declared.action.Action.TheVariants.{Dial, Put}
 use Rattle.bsc_node.specs.Logs.{Made, Line, Log}
 use Rattle.bsc_node.specs.Links.{verdict}
-use Rattle.bsc_node.specs.Ways.{learnt}
+use Rattle.bsc_node.specs.Ways.{learnt, uris_to_dial}
 use Rattle.bsc_node.specs.Receiving.{sender}
 use Rattle.bsc_node.specs.Node.{goes_on, actions_at, log}
 use Rattle.bsc_node.specs.Conditions.{may_come, may_all_come}
@@ -54,3 +56,17 @@ TellsUris own action = ⊤
 -- An Address-Resolution-ACK that a node puts has its own URIs.
 abbrev pub TellsItsOwnUris : Made → Type 0
 TellsItsOwnUris a = (L : Log) (e : TimedEvent) → IsTrue (may_come L e) → AllByRecursion (TellsUris a.limits.uris) (actions_at a L e)
+
+-- ---- dialling
+
+-- A dial goes to the URI that the node was made with for the hub, or for a slot to one of those that it has learnt of some
+-- VMAC.
+abbrev pub DialsKnown : Made → Log → Action → Type 0
+DialsKnown a L (Dial (Hub Primary) uri) = uri ≡ a.limits.primary
+DialsKnown a L (Dial (Hub Failover) uri) = uri ≡ unwrap_or a.limits.failover []
+DialsKnown a L (Dial (Direct k) uri) = (v : Vmac) × (place : ℕ) × (slice_get (uris_to_dial v L) place ≡ Some uri)
+DialsKnown a L action = ⊤
+
+-- A node dials its hubs by the URIs that it was made with, and for direct connections URIs that it has learnt.
+abbrev pub DialsWhatItKnows : Made → Type 0
+DialsWhatItKnows a = (L : Log) (e : TimedEvent) → IsTrue (may_come L e) → AllByRecursion (DialsKnown a (with_event L e)) (actions_at a L e)

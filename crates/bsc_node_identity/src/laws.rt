@@ -3,8 +3,13 @@ ghost use Rattle.std.specs.Prelude.{ℕ, List};
 ghost use Rattle.bsc_frame.specs.declared.body.Body.TheVariants.{Npdu, AddressResolutionAck};
 ghost use Rattle.bsc_node.specs.Logs.{Made};
 ghost use Rattle.bsc_node_identity.specs.Naming.{NamesItself, SlotsComeUpAsNamed, SlotsHaveWhoNamedItself, PeersNamedThemselves, BegunIsNotEstablished, SlotsHaveTheirPeers, ConnectsNameTheirPeer, OthersNameNobody};
-ghost use Rattle.bsc_node_identity.specs.Resolving.{LearnsWhatWasAnswered, TellsItsOwnUris};
+ghost use Rattle.bsc_node_identity.specs.Resolving.{LearnsWhatWasAnswered, TellsItsOwnUris, DialsWhatItKnows};
 ghost use Rattle.bsc_node_identity.specs.Carried.{IsCarriedOn, IsCarriedPlainly, WaysLeadThere};
+
+/// A node dials its hubs by the URIs that it was made with, and for direct connections URIs that it has learnt.
+pub fn dials_what_it_knows()
+    ensures { (a : Made) → DialsWhatItKnows a }
+{}
 
 /// Each Connect-Request and Connect-Accept that a node puts has its own identity, with the VMAC that it then has.
 pub fn names_itself()

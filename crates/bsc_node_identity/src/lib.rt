@@ -7,7 +7,8 @@
 mod laws;
 
 pub use laws::{
-    begun_is_not_established, connects_name_their_peer, learns_what_was_answered, names_itself,
-    npdus_are_carried, peers_named_themselves, slots_come_up_as_named, slots_have_their_peers,
-    slots_have_who_named_itself, tells_its_own_uris, uris_are_carried, ways_lead_there,
+    begun_is_not_established, connects_name_their_peer, dials_what_it_knows,
+    learns_what_was_answered, names_itself, npdus_are_carried, peers_named_themselves,
+    slots_come_up_as_named, slots_have_their_peers, slots_have_who_named_itself,
+    tells_its_own_uris, uris_are_carried, ways_lead_there,
 };
