@@ -1,6 +1,6 @@
 -- The bounds of a state hold after an entry that is accepted, which has a row to join at.
-use Rattle.std.proofs.Common.{◌≡◌, ◌≢◌, inl, inr, ℕ, suc, ◌+◌, ◌*◌, ◌^◌, ◌<◌, ◌≤◌, ◌==◌, nat_le, nat_lt, Bool, true, false, not, ◌&&◌, ◌||◌, cond, List, [], ◌∷◌, ◌++◌, length, map, filter, find, Option, Some, None, is_none, option_to_list, refl, ap, sym, ◌∙◌, subst, arith}
-use Rattle.std.specs.List.{list_all, list_any}
+use Rattle.std.proofs.Common.{◌≡◌, inl, inr, ℕ, suc, ◌+◌, ◌*◌, ◌^◌, ◌<◌, ◌≤◌, ◌==◌, nat_le, nat_lt, Bool, true, false, not, ◌&&◌, ◌||◌, cond, List, [], ◌∷◌, ◌++◌, length, map, filter, Option, Some, None, is_none, option_to_list, refl, ap, sym, ◌∙◌, subst, arith}
+use Rattle.std.specs.List.{list_all}
 use Rattle.std.proofs.lemmas.Bool.{and_from, and_parts, both_ways, cases_lt, le-leb, leb-true, lt-ltb, ltb-true, ne_eqb}
 use Rattle.bsc_octets.specs.Forwarding.{destination, has_route, is_broadcast}
 use Rattle.bsc_history.specs.declared.call.Call.{Call}
@@ -11,7 +11,7 @@ use Rattle.bsc_history.specs.declared.ending.End.{End}
 use Rattle.bsc_history.specs.declared.entry.Entry.{Entry}
 use Rattle.bsc_history.specs.declared.looks.Look.{Look}
 use Rattle.bsc_history.specs.declared.reply.Reply.{Reply}
-use Rattle.bsc_history.specs.declared.reply.Reply.TheVariants.{Joined, Appended, Closed, Skipped, SentAll, Stopped}
+use Rattle.bsc_history.specs.declared.reply.Reply.TheVariants.{Joined, Appended, Closed, Skipped, Stopped}
 use Rattle.bsc_history.specs.Counting.{appended_in, counts_of, missed_in, one_if, plus}
 use Rattle.bsc_history.specs.Entries.{connection_of, made_by}
 use Rattle.bsc_history.specs.Ends.{leaves}
@@ -20,9 +20,9 @@ use Rattle.bsc_history.specs.Replies.{unless_ended}
 use Rattle.bsc_legality.specs.declared.row.Row.{Row}
 use Rattle.bsc_legality.specs.declared.legality.Legality.{Legality}
 use Rattle.bsc_legality.specs.Bounds.{AreAtMost, HasRoute}
-use Rattle.bsc_legality.specs.Deciding.{accepts, all_due, all_entered, all_looked, all_missed, can_all, connect_due, conns, due, fares_so, first_reply, is_full_at, is_long_at, is_meant_with, is_of_in, looks_due, may_call_in, one_due, one_looked, says_due, sent_due, sent_looked, size_in}
+use Rattle.bsc_legality.specs.Deciding.{accepts, all_due, all_looked, can_all, conns, due, fares_so, first_reply, is_full_at, is_long_at, is_meant_with, is_of_in, looks_due, may_call_in, one_due, one_looked, says_due, sent_due, sent_looked, size_in}
 use Rattle.bsc_legality.specs.Following.{NamesOnce, new_row, once, row_after, rows_after}
-use Rattle.bsc_legality.specs.Rows.{can_find_at, end_in, holder_in, number, rising, row_of}
+use Rattle.bsc_legality.specs.Rows.{end_in, holder_in, number, rising, row_of}
 use Rattle.bsc_legality.specs.Sameness.{same_numbers, same_reply}
 use Rattle.bsc_legality.proofs.Numbers.{below, rising_parts}
 use Rattle.bsc_legality.proofs.Sameness.{numbers_same, reply_same}

@@ -1,7 +1,7 @@
 -- Rows that change: all of them, or the one of a number.
-use Rattle.std.proofs.Common.{◌≡◌, ◌≢◌, ℕ, zero, suc, ◌+◌, ◌^◌, ◌<◌, ◌≤◌, ◌==◌, nat_lt, Bool, true, false, not, ◌&&◌, ◌||◌, cond, List, [], ◌∷◌, ◌++◌, length, map, filter, fold, get_or, take, Option, Some, None, refl, ap, sym, ◌∙◌, subst, arith}
+use Rattle.std.proofs.Common.{◌≡◌, ℕ, zero, suc, ◌+◌, ◌^◌, ◌<◌, ◌≤◌, ◌==◌, nat_lt, Bool, true, false, not, ◌&&◌, ◌||◌, cond, List, [], ◌∷◌, length, map, filter, get_or, take, Option, Some, None, refl, ap, sym, ◌∙◌, subst, arith}
 use Rattle.std.proofs.Math.ListN.{set}
-use Rattle.std.specs.List.{list_all, list_any, position, AllByRecursion}
+use Rattle.std.specs.List.{list_all, position, AllByRecursion}
 use Rattle.std.specs.Option.{option_map, option_or}
 use Rattle.std.proofs.lemmas.Bool.{and_from, and_parts, eq-eqb, eqb-true, ne_eqb, ltb-true, lt-ltb}
 use Rattle.std.proofs.lemmas.List.{get_or_default, take_more}
@@ -17,14 +17,14 @@ use Rattle.bsc_history.specs.declared.looks.Look.{Look}
 use Rattle.bsc_history.specs.declared.reply.Reply.{Reply}
 use Rattle.bsc_history.specs.declared.reply.Reply.TheVariants.{Joined, Refused, Appended, Closed, Skipped, NoHolder, SentAll, NotCurrent, Stopped, Gone, Counted}
 use Rattle.bsc_history.specs.Counting.{one_if}
-use Rattle.bsc_history.specs.Ends.{end_by, end_by_call, end_by_reply, is_leave}
-use Rattle.bsc_history.specs.Laws.{is_among, names}
+use Rattle.bsc_history.specs.Ends.{end_by_call, end_by_reply, is_leave}
+use Rattle.bsc_history.specs.Laws.{is_among}
 use Rattle.bsc_history.specs.Outboxes.{newer}
 use Rattle.bsc_history.proofs.More.{or_false}
 use Rattle.bsc_legality.specs.declared.row.Row.{Row}
 use Rattle.bsc_legality.specs.Following.{added_to, closed_as, given, once, row_after, seen}
 use Rattle.bsc_legality.specs.Rows.{has_number, rising}
-use Rattle.bsc_legality.proofs.Numbers.{below, others, rising_parts}
+use Rattle.bsc_legality.proofs.Numbers.{others, rising_parts}
 use Rattle.bsc_legality.proofs.Places.{position-cons}
 
 -- a row of these parts

@@ -1,6 +1,6 @@
 -- A state tells exactly which entries are lawful after the history that it stands for.
 use Rattle.std.proofs.Common.{◌≡◌, ◌↔◌, inl, inr, ℕ, ◌-◌, ◌==◌, Bool, true, false, not, ◌&&◌, ◌||◌, cond, nat_le, nat_lt, List, [], ◌∷◌, ◌++◌, length, map, filter, find, Option, Some, None, is_none, unwrap_or, option_to_list, MatchOption, IsTrue, refl, ap, sym, ◌∙◌, subst}
-use Rattle.std.specs.List.{list_any, list_all, AllByRecursion}
+use Rattle.std.specs.List.{list_any, list_all}
 use Rattle.std.specs.Option.{option_map}
 use Rattle.std.proofs.lemmas.Bool.{and_from, and_parts, both_ways, eq-eqb, eqb-true, or_left, or_right}
 use Rattle.std.proofs.lemmas.List.{length-map}
@@ -15,12 +15,10 @@ use Rattle.bsc_history.specs.declared.ending.End.{End}
 use Rattle.bsc_history.specs.declared.ending.End.TheVariants.{Left}
 use Rattle.bsc_history.specs.declared.entry.Entry.{Entry}
 use Rattle.bsc_history.specs.declared.looks.Look.{Look}
-use Rattle.bsc_history.specs.declared.reply.Reply.{Reply}
 use Rattle.bsc_history.specs.declared.reply.Reply.TheVariants.{Appended, Closed, Counted, Gone, SentAll, Skipped, Stopped}
 use Rattle.bsc_history.specs.Entries.{moment}
 use Rattle.bsc_history.specs.Ends.{ended, joined, live, unleft}
 use Rattle.bsc_history.specs.Holders.{holder}
-use Rattle.bsc_history.specs.Laws.{Apart}
 use Rattle.bsc_history.specs.Legality.{can_find, is_of, looks_at, may_call, Lawful, Legal}
 use Rattle.bsc_history.specs.Outboxes.{finds_full, is_found_full, is_too_long, looked, meant, means, out_of, sent, vmac_in, vmac_of}
 use Rattle.bsc_history.specs.Replies.{broadcast_reply, connect_reply, forward_reply, is_stopped, number_of, numbers, reply, rival, unicast_reply, unless_ended}
@@ -30,11 +28,11 @@ use Rattle.bsc_history.proofs.Named.{meant-unicast}
 use Rattle.bsc_history.proofs.Numbers.{live_numbers}
 use Rattle.bsc_legality.specs.declared.row.Row.{Row}
 use Rattle.bsc_legality.specs.declared.legality.Legality.{Legality}
-use Rattle.bsc_legality.specs.Deciding.{accepts, all_due, all_entered, all_looked, all_missed, all_skipped, can_all, connect_due, conns, due, fares_so, is_full_at, is_long_at, is_meant_with, is_of_in, looks_due, may_call_in, one_due, one_looked, sent_due, sent_looked, size_in}
-use Rattle.bsc_legality.specs.Rows.{can_find_at, connection, device_in, end_in, finds_full_at, has_number, holder_in, is_open, is_open_with, number, row_of}
+use Rattle.bsc_legality.specs.Deciding.{accepts, all_due, all_looked, can_all, connect_due, conns, due, fares_so, is_full_at, is_long_at, is_meant_with, is_of_in, looks_due, may_call_in, one_due, one_looked, sent_due, sent_looked, size_in}
+use Rattle.bsc_legality.specs.Rows.{can_find_at, connection, end_in, finds_full_at, has_number, holder_in, is_open_with, number, row_of}
 use Rattle.bsc_legality.specs.Sameness.{same_numbers, same_reply}
 use Rattle.bsc_legality.specs.Standing.{IsRowOf, StandsFor}
-use Rattle.bsc_legality.proofs.Fared.{filter_alike, filter_both, split}
+use Rattle.bsc_legality.proofs.Fared.{filter_both, split}
 use Rattle.bsc_legality.proofs.Histories.{joined_counted, vmac_unleft}
 use Rattle.bsc_legality.proofs.Live.{In-map, any_row, live_found, live_rows, meant_rows}
 use Rattle.bsc_legality.proofs.Sameness.{numbers_same, numbers_self, reply_same, reply_self}

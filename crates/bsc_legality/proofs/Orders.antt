@@ -1,13 +1,13 @@
 -- Lists in an order, and connections that stand in the order of their numbers.
-use Rattle.std.proofs.Common.{◌≡◌, ◌<◌, ◌+◌, ℕ, Bool, true, false, not, cond, List, [], ◌∷◌, ◌++◌, length, filter, Option, Some, None, option_to_list, refl, sym, subst, arith, append-nil}
+use Rattle.std.proofs.Common.{◌≡◌, ◌<◌, Bool, true, false, not, cond, List, [], ◌∷◌, ◌++◌, filter, Option, Some, None, option_to_list, refl, arith, append-nil}
 use Rattle.std.specs.Bool.{⊤}
 use Rattle.std.specs.List.{AllByRecursion}
 use Rattle.bsc_history.specs.declared.limits.About.{About}
 use Rattle.bsc_history.specs.declared.connection.Connection.{Connection}
 use Rattle.bsc_history.specs.declared.entry.Entry.{Entry}
-use Rattle.bsc_history.specs.Entries.{connection_of, moment}
-use Rattle.bsc_history.specs.Ends.{joined, joined_where, leaves, unleft}
-use Rattle.bsc_history.specs.Legality.{Lawful, Legal}
+use Rattle.bsc_history.specs.Entries.{connection_of}
+use Rattle.bsc_history.specs.Ends.{joined_where, leaves, unleft}
+use Rattle.bsc_history.specs.Legality.{Legal}
 use Rattle.bsc_history.proofs.Lists.{In, In-filter, all_from_In}
 use Rattle.bsc_history.proofs.More.{along, unleft-more}
 use Rattle.bsc_history.proofs.Uniqueness.{comes}

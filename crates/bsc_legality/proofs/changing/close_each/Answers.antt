@@ -1,6 +1,5 @@
 use Rattle.std.proofs.Common.{◌≡◌, ◌∙◌, Option, Some, ap, arith, get_or, length, sym}
 use Rattle.bsc_history.specs.declared.ending.End.{End}
-use Rattle.bsc_legality.specs.declared.row.Row.{Row}
 use Rattle.bsc_legality.specs.Following.{closed_as}
 use Rattle.bsc_legality.proofs.Changes.{changed_all, changed_next, row_with}
 use Rattle.bsc_legality.proofs.changing.close_each.Goals as goal

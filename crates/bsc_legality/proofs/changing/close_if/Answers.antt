@@ -1,4 +1,4 @@
-use Rattle.std.proofs.Common.{◌∙◌, ℕ, Bool, Option, None, Some, ap, cond, sym}
+use Rattle.std.proofs.Common.{◌∙◌, ℕ, Option, None, Some, ap, cond}
 use Rattle.bsc_history.specs.Ends.{is_one}
 use Rattle.bsc_legality.specs.Following.{closed_as}
 use Rattle.bsc_legality.proofs.Changes.{closed_none, map_each}

@@ -1,6 +1,5 @@
-use Rattle.std.proofs.Common.{◌∙◌, ◌+◌, not, sym, subst, ℕ}
-use Rattle.bsc_legality.specs.declared.row.Row.{Row}
-use Rattle.bsc_legality.specs.Deciding.{conns, is_long_at, is_meant_with}
+use Rattle.std.proofs.Common.{◌∙◌, ◌+◌, sym, subst, ℕ}
+use Rattle.bsc_legality.specs.Deciding.{is_long_at, is_meant_with}
 use Rattle.bsc_legality.specs.Rows.{number}
 use Rattle.bsc_legality.proofs.Matches.{Matches, matched, passed_over}
 use Rattle.bsc_legality.proofs.matching.are_skipped.Goals.{then-is_skipped+else-not-stands_at, else-is_skipped}

@@ -1,6 +1,4 @@
-use Rattle.std.proofs.Common.{not}
-use Rattle.bsc_legality.specs.declared.row.Row.{Row}
-use Rattle.bsc_legality.specs.Deciding.{conns, is_long_at, is_meant_with}
+use Rattle.bsc_legality.specs.Deciding.{is_long_at, is_meant_with}
 use Rattle.bsc_legality.specs.Rows.{number}
 use Rattle.bsc_legality.proofs.Matches.{Matches}
 use Rattle.bsc_legality.proofs.matching.are_skipped.Given as goal

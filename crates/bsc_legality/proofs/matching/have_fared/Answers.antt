@@ -1,4 +1,4 @@
-use Rattle.std.proofs.Common.{◌∙◌, ◌+◌, not, sym, subst, ℕ}
+use Rattle.std.proofs.Common.{◌∙◌, ◌+◌, sym, subst, ℕ}
 use Rattle.bsc_history.specs.declared.looks.Look.{Look}
 use Rattle.bsc_legality.specs.Deciding.{fares_so}
 use Rattle.bsc_legality.proofs.Matches.{Matches, matched_at, passed_over_at}

@@ -1,4 +1,3 @@
-use Rattle.std.proofs.Common.{not}
 use Rattle.bsc_history.specs.declared.looks.Look.{Look}
 use Rattle.bsc_legality.specs.Deciding.{fares_so}
 use Rattle.bsc_legality.proofs.Matches.{Matches}
