@@ -1,6 +1,6 @@
-//! Measures messages: how they are read and written, judged, and come to a node.
+//! Measures messages: how they are read and written, judged, decided on by a policy, and come to a node.
 //!
-//! The first word says what is measured, each in the module of that name: `frame`, `checks` or `node`. The second says how
+//! The first word says what is measured, each in the module of that name: `frame`, `checks`, `policy` or `node`. The second says how
 //! many rounds, and of `node` the third how many of the second node. With no words all are measured, shortly. Each answer
 //! is looked at before its time is told: what came goes to standard output, rates and times to standard error.
 #![tactic(auto)]
@@ -8,6 +8,7 @@
 mod checks;
 mod frame;
 mod node;
+mod policy;
 
 use bench_shared::words_of;
 use std::alloc::Global;
@@ -33,6 +34,7 @@ fn measure<R: Clock + Print + Eprint>(
     match what {
         "frame" => frame::measure(rt, alloc, rounds)?,
         "checks" => checks::measure(rt, alloc, rounds)?,
+        "policy" => policy::measure(rt, alloc, rounds)?,
         "node" => node::measure(rt, alloc, rounds, FEW)?,
         _ => return Ok(false),
     }
@@ -63,6 +65,7 @@ fn work<R: Clock + Print + Eprint>(rt: &R, alloc: Global, words: &[String]) -> i
         [] => {
             measure(rt, alloc, "frame", FEW)?;
             measure(rt, alloc, "checks", FEW)?;
+            measure(rt, alloc, "policy", FEW)?;
             measure(rt, alloc, "node", FEW)
         }
         [what] => measure(rt, alloc, what.as_str(), FEW),
@@ -85,7 +88,7 @@ fn main(rt: HostRuntime) -> ExitCode {
         Ok(true) => ExitCode::SUCCESS,
         Ok(false) => {
             let _ = eprintln!(rt;
-                "words: frame ROUNDS, checks ROUNDS, node ROUNDS, or node ROUNDS ROUNDS; without a number it is short, with no words all"
+                "words: frame ROUNDS, checks ROUNDS, policy ROUNDS, node ROUNDS, or node ROUNDS ROUNDS; without a number it is short, with no words all"
             );
             ExitCode::FAILURE
         }

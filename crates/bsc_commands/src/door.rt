@@ -5,7 +5,7 @@ use bsc_edge::{Acceptor, Arrived, Failed, FileFault, Files, Kind, LinkFault};
 use bsc_gate::{AcceptedLink, Gate};
 use bsc_live::Bells;
 use bsc_octets::{Octets, Vmac};
-use bsc_settings::{Settings, read_settings};
+use bsc_settings::{KeyName, PolicyRefusal, SettingFault, Settings, read_settings, refusal_of};
 use std::alloc::Global;
 use std::cell::Cell;
 use std::io::{self, Eprint};
@@ -17,20 +17,43 @@ use std::time::Clock;
 /// At most so many handshakes are at work.
 const PLACES: usize = 256;
 
-/// Whose door it is, a hub's or a node's, once its settings were read.
-pub type Owner = Rc<Cell<Option<Vmac>>>;
+/// What is noted of settings when they are read, to be told on standard error.
+#[derive(Clone, Copy)]
+pub struct Noted {
+    /// Whose door it is, a hub's or a node's.
+    pub owner: Option<Vmac>,
+    /// Whether they have a policy.
+    pub guarded: bool,
+    /// Why their policy is refused, where it is.
+    pub refusal: Option<PolicyRefusal>,
+}
 
-/// Files that note whose settings they give: those of a hub or of a node, by the kind of the links at its door.
+impl Noted {
+    /// Nothing was read yet.
+    pub fn nothing() -> Noted {
+        Noted {
+            owner: None,
+            guarded: false,
+            refusal: None,
+        }
+    }
+}
+
+/// What was noted, for all that tell of it.
+pub type Notes = Rc<Cell<Noted>>;
+
+/// Files that note what is to be told of the settings that they give: those of a hub or of a node, by the kind of the links
+/// at its door.
 #[derive(Drop)]
 pub struct NotingFiles<F> {
     files: F,
     kind: Kind,
-    owner: Owner,
+    notes: Notes,
 }
 
 impl<F> NotingFiles<F> {
-    pub fn new(files: F, kind: Kind, owner: Owner) -> NotingFiles<F> {
-        NotingFiles { files, kind, owner }
+    pub fn new(files: F, kind: Kind, notes: Notes) -> NotingFiles<F> {
+        NotingFiles { files, kind, notes }
     }
 }
 
@@ -42,6 +65,26 @@ fn owner_in(settings: &Settings, kind: Kind) -> Option<Vmac> {
     }
 }
 
+/// What is to be noted of a file, where it has settings.
+fn noted_of(alloc: Global, kind: Kind, text: &[u8]) -> Option<Noted> {
+    match read_settings(alloc, text) {
+        Ok(settings) => Some(Noted {
+            owner: Some(owner_in(&settings, kind)?),
+            guarded: settings.policy.is_some(),
+            refusal: None,
+        }),
+        Err(
+            SettingFault::Key {
+                name: KeyName::PolicyMember | KeyName::PolicyRule,
+            },
+        ) => Some(Noted {
+            refusal: refusal_of(alloc, text),
+            ..Noted::nothing()
+        }),
+        Err(_) => None,
+    }
+}
+
 impl<F: Files> Files for NotingFiles<F> {
     ghost faults = { λ n. F.faults n.files };
 
@@ -49,10 +92,8 @@ impl<F: Files> Files for NotingFiles<F> {
 
     fn load(&mut self, alloc: Global, path: &str) -> Result<Octets, FileFault> {
         let text = self.files.load(alloc, path)?;
-        if let Ok(settings) = read_settings(alloc, text.as_slice()) {
-            if let Some(vmac) = owner_in(&settings, self.kind) {
-                self.owner.set(Some(vmac));
-            }
+        if let Some(noted) = noted_of(alloc, self.kind, text.as_slice()) {
+            self.notes.set(noted);
         }
         Ok(text)
     }
@@ -64,19 +105,19 @@ pub struct Door<R: Clock + Net + Wait + Eprint + Copy + Drop> {
     rt: R,
     alloc: Global,
     kind: Kind,
-    owner: Owner,
+    notes: Notes,
     gate: Option<Gate<R>>,
     faults: u64,
     quiets: u64,
 }
 
 impl<R: Clock + Net + Wait + Eprint + Copy + Drop> Door<R> {
-    pub fn new(rt: R, alloc: Global, kind: Kind, owner: Owner) -> Door<R> {
+    pub fn new(rt: R, alloc: Global, kind: Kind, notes: Notes) -> Door<R> {
         Door {
             rt,
             alloc,
             kind,
-            owner,
+            notes,
             gate: None,
             faults: 0,
             quiets: 0,
@@ -102,9 +143,18 @@ fn open<R: Clock + Net + Wait + Copy + Drop>(
     }
 }
 
+/// Tells on standard error that a hub has a policy in its settings, and doesn't keep to it.
+fn tell_policy<R: Eprint>(rt: &R, kind: Kind, noted: Noted) {
+    if noted.guarded && kind == Kind::Hub {
+        let _ = eprintln!(rt;
+            "bsc: the policy in these settings isn't kept to yet: any device may join, and send to any other"
+        );
+    }
+}
+
 /// Tells on standard error who takes links of this kind at this port.
-fn tell_open<R: Eprint>(rt: &R, kind: Kind, port: u16, owner: Option<Vmac>) {
-    let [a, b, c, d, e, f] = match owner {
+fn tell_open<R: Eprint>(rt: &R, kind: Kind, port: u16, noted: Noted) {
+    let [a, b, c, d, e, f] = match noted.owner {
         Some(vmac) => vmac.0,
         None => [0; 6],
     };
@@ -129,7 +179,8 @@ impl<R: Clock + Net + Wait + Eprint + Copy + Drop> Acceptor<AcceptedLink<R>> for
     fn bind(&mut self, port: u16) -> Result<(), Failed> {
         match open(self.rt, self.alloc, self.kind, port) {
             Ok(gate) => {
-                tell_open(&self.rt, self.kind, port, self.owner.get());
+                tell_policy(&self.rt, self.kind, self.notes.get());
+                tell_open(&self.rt, self.kind, port, self.notes.get());
                 self.gate = Some(gate);
                 Ok(())
             }

@@ -10,7 +10,7 @@ mod links;
 mod playing;
 mod running;
 
-pub use door::{Door, NotingFiles, Owner};
+pub use door::{Door, Noted, Notes, NotingFiles};
 pub use links::{DialledLink, RealLink, real_dialer};
 pub use playing::{Command, play};
 pub use running::run;

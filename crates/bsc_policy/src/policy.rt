@@ -1,5 +1,5 @@
 //! A policy over groups of devices.
-ghost use Rattle.std.specs.Prelude.{◌≡◌, ◌≢◌, ◌≤◌, ◌<◌, ◌↔◌, ℕ, [], ◌∷◌, ◌++◌, length, position, Some, IfSome, Err, OnOk, OnErr};
+ghost use Rattle.std.specs.Prelude.{◌≡◌, ◌≢◌, ◌≤◌, ◌<◌, ◌↔◌, ℕ, [], ◌∷◌, ◌++◌, length, position, Some, IfSome, IsSome, Err, OnOk, OnErr};
 ghost use Rattle.std.proofs.Props.{props};
 ghost use Rattle.bsc_policy.specs.declared.fault.PolicyFault.{PolicyFault};
 ghost use Rattle.bsc_policy.specs.Decisions.{decided_of, group_of, is_admitted, number_between};
@@ -116,6 +116,7 @@ impl Policy {
 
     /// Makes the tables by which decisions cost the same from now on. What is decided stays as it is.
     pub fn settle(&mut self) -> Result<(), NoMemory>
+        ensures settled { OnOk result (IsSome self.new.tables) }
         ensures members { self.new.members.items ≡ self.old.members.items }
         ensures rules { self.new.rules.items ≡ self.old.rules.items }
     {

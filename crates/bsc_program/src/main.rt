@@ -2,10 +2,10 @@
 //!
 //! All that the program does is `run` of `bsc_commands`. `main` hands it standard input and output, the files, the clock,
 //! the random octets, the links and the threads of the machine that it is on, and says on standard error where to find
-//! how it is called, if its words are refused.
+//! how it is called, if its words are refused, and why a policy is, if it is.
 #![tactic(auto)]
 
-use bsc_commands::{Door, NotingFiles, RealLink, real_dialer, run};
+use bsc_commands::{Door, Noted, NotingFiles, RealLink, real_dialer, run};
 use bsc_edge::{Disk, Kind, Monotonic, Places, ThreadSpawner, Unstarted, launch};
 use bsc_hub::Kept;
 use bsc_links::{PeerAcceptor, PeerDialer};
@@ -73,14 +73,14 @@ fn main(rt: HostRuntime) -> ExitCode {
             // A word that isn't UTF-8 names no command. The run is given no words then, which are refused too.
         }
     }
-    let (Ok(owner), Ok(places), Ok(dialer)) = (
-        Rc::new(alloc, Cell::new(None)),
+    let (Ok(notes), Ok(places), Ok(dialer)) = (
+        Rc::new(alloc, Cell::new(Noted::nothing())),
         Places::make(alloc, SESSIONS),
         real_dialer(rt, alloc),
     ) else {
         return ExitCode::from(out_of_memory(&mut sink));
     };
-    let Ok(noted) = owner.clone() else {
+    let (Ok(of_files), Ok(of_door)) = (notes.clone(), notes.clone()) else {
         return ExitCode::from(out_of_memory(&mut sink));
     };
     let begin = move |alloc: Global, places: &Arc<Places>, job: Job| -> Result<(), Unstarted<Job>> {
@@ -96,11 +96,11 @@ fn main(rt: HostRuntime) -> ExitCode {
     let (Ok(of_clock), Ok(of_acceptor)) = (pace.another(), pace.another()) else {
         return ExitCode::from(out_of_memory(&mut sink));
     };
-    let mut files = NotingFiles::new(Disk::new(rt), kind, noted);
+    let mut files = NotingFiles::new(Disk::new(rt), kind, of_files);
     let mut clock = PacedClock::new(Monotonic::new(rt), rt, of_clock);
     let mut random = RandomWords::new(rt);
     let mut acceptor = PacedAcceptor::new(
-        PeerAcceptor::new(Door::new(rt, alloc, kind, owner)),
+        PeerAcceptor::new(Door::new(rt, alloc, kind, of_door)),
         of_acceptor,
     );
     let mut dialer = PacedDialer::new(PeerDialer::new(dialer), pace);
@@ -127,6 +127,9 @@ fn main(rt: HostRuntime) -> ExitCode {
         let _ = eprintln!(rt;
             "bsc: these words are no command; ./bsc --help in the repository says how to call it"
         );
+    }
+    if let Some(refusal) = notes.get().refusal {
+        let _ = eprintln!(rt; "bsc: {refusal}");
     }
     ExitCode::from(status)
 }

@@ -1,11 +1,12 @@
 -- What a document is, and the tables and keys that it has.
 use Rattle.std.specs.Prelude.{◌≡◌, ℕ, Bool, true, false, ◌&&◌, ◌||◌, List, [], ◌∷◌, codes, IsUtf8, Option, Some, None, option_and_then, is_some}
 use Rattle.std.specs.List.{list_all}
-use Rattle.toml.specs.Data.{Data, Members, no_members, member, as_table, get_member}
+use Rattle.toml.specs.Data.{Data, Items, Members, no_members, member, as_array, as_table, get_member}
 use Rattle.toml.specs.Parse.{parse_document}
 use Rattle.bsc_text.specs.Lines.{same_octets}
-use Rattle.bsc_settings.specs.Table.{Row, hub_table, node_table, least_reconnect_row}
+use Rattle.bsc_settings.specs.Table.{Row, hub_table, node_table, least_reconnect_row, member_table, rule_table}
 use Rattle.bsc_settings.specs.Values.{Value, number, value_at}
+use Rattle.bsc_settings.specs.Policies.{listed}
 
 -- Octets are a TOML document: UTF-8, and a text that the grammar of TOML gives these tables and keys.
 abbrev pub IsDocument : List ℕ → Members → Type 0
@@ -18,6 +19,10 @@ hub_of doc = option_and_then as_table (get_member (codes "hub") doc)
 -- The table `node` of a document, where it has it.
 abbrev pub node_of : Members → Option Members
 node_of doc = option_and_then as_table (get_member (codes "node") doc)
+
+-- The table `policy` of a document, where it has it.
+abbrev pub policy_of : Members → Option Members
+policy_of doc = option_and_then as_table (get_member (codes "policy") doc)
 
 -- the keys of a table
 abbrev pub keys_of : Members → List (List ℕ)
@@ -52,10 +57,33 @@ is_known rows (Some value) = is_known_table rows (as_table value)
     is_known_table rows None = false
     is_known_table rows (Some table) = has_keys_of (rows table) table
 
--- Whether a document has nothing unknown: nothing but the tables `hub` and `node`, and in each nothing but keys of its
--- table of keys.
+-- whether what stands at a key, where something does, is a list of tables, each with no keys but those of these rows
+abbrev pub is_known_list : List Row → Option Data → Bool
+is_known_list rows None = true
+is_known_list rows (Some value) = are_known (as_array value)
+  where
+    are_known : Option Items → Bool
+    are_known None = false
+    are_known (Some items) = list_all (λ it. is_known (λ _. rows) (Some it)) (listed items)
+
+-- whether `policy`, where something stands there, is a table with nothing but lists of members and of rules, and in each of
+-- them nothing but keys of its table of keys
+abbrev pub is_known_policy : Option Data → Bool
+is_known_policy None = true
+is_known_policy (Some value) = is_known_table (as_table value)
+  where
+    is_known_table : Option Members → Bool
+    is_known_table None = false
+    is_known_table (Some table) =
+        list_all (λ key. same_octets key (codes "member") || same_octets key (codes "rule")) (keys_of table)
+        && is_known_list member_table (get_member (codes "member") table)
+        && is_known_list rule_table (get_member (codes "rule") table)
+
+-- Whether a document has nothing unknown: nothing but the tables `hub`, `node` and `policy`, in the first two nothing but
+-- keys of its table of keys, and in `policy` nothing but members and rules, each with nothing but keys of theirs.
 abbrev pub has_known_alone : Members → Bool
 has_known_alone doc =
-    list_all (λ key. same_octets key (codes "hub") || same_octets key (codes "node")) (keys_of doc)
+    list_all (λ key. same_octets key (codes "hub") || same_octets key (codes "node") || same_octets key (codes "policy")) (keys_of doc)
     && is_known (λ _. hub_table) (get_member (codes "hub") doc)
     && is_known node_rows_of (get_member (codes "node") doc)
+    && is_known_policy (get_member (codes "policy") doc)

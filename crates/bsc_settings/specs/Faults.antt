@@ -1,13 +1,14 @@
 -- The first fault of a document.
-use Rattle.std.specs.Prelude.{◌≡◌, ⊤, ℕ, ◌*◌, nat_le, Bool, List, [], ◌∷◌, if◌then◌else◌, Option, Some, None, is_some}
+use Rattle.std.specs.Prelude.{◌≡◌, ⊤, ◌*◌, nat_le, Bool, List, [], ◌∷◌, if◌then◌else◌, Option, Some, None, is_some}
 use Rattle.toml.specs.Data.{Members}
 use Rattle.bsc_settings.specs.declared.key.KeyName.{KeyName}
-use Rattle.bsc_settings.specs.declared.key.KeyName.TheVariants.{HubProduct, Unknown}
+use Rattle.bsc_settings.specs.declared.key.KeyName.TheVariants.{PolicyMember, PolicyRule, HubProduct, Unknown}
 use Rattle.bsc_settings.specs.declared.fault.SettingFault.{SettingFault}
 use Rattle.bsc_settings.specs.declared.fault.SettingFault.TheVariants.{NotToml, Key, NoMemory}
 use Rattle.bsc_settings.specs.Table.{Row, hub_table, rows_row, outbox_row, max_bvlc_row, most_octets}
 use Rattle.bsc_settings.specs.Values.{value_at}
-use Rattle.bsc_settings.specs.Documents.{hub_of, node_of, amount, node_rows_of, has_known_alone}
+use Rattle.bsc_settings.specs.Documents.{hub_of, node_of, amount, policy_of, node_rows_of, has_known_alone}
+use Rattle.bsc_settings.specs.Policies.{members_in, rules_in}
 
 -- The first key whose row has no value in a table: a wrong value stands there, or nothing does and it has no default.
 abbrev pub first_at_fault : List Row → Members → Option KeyName
@@ -40,12 +41,20 @@ abbrev pub product_fault : Option Members → Option KeyName
 product_fault None = None
 product_fault (Some table) = unless (has_small_product table) HubProduct
 
+-- the fault of a policy, where the document has the table `policy`: that of its members, then that of its rules
+abbrev pub policy_fault : Option Members → Option KeyName
+policy_fault None = None
+policy_fault (Some table) =
+    unless (is_some (members_in table)) PolicyMember before unless (is_some (rules_in table)) PolicyRule
+
 -- The first fault of a document: the keys of `hub` in the order of their table, those of `node` in the order of theirs,
--- then the product of the limits, then a key or a table that settings don't have.
+-- then the members of `policy`, then its rules, then the product of the limits, then a key or a table that settings don't
+-- have.
 abbrev pub fault_of : Members → Option KeyName
 fault_of doc =
     fault_in (λ _. hub_table) (hub_of doc)
     before fault_in node_rows_of (node_of doc)
+    before policy_fault (policy_of doc)
     before product_fault (hub_of doc)
     before unless (has_known_alone doc) Unknown
 

@@ -1,6 +1,8 @@
 pub mod Table
 pub mod Uris
+pub mod Groups
 pub mod Values
+pub mod Policies
 pub mod Documents
 pub mod Faults
 pub mod Fields
@@ -8,3 +10,4 @@ pub mod Parts
 pub mod Names
 pub mod Rows
 pub mod Steps
+pub mod Lists

@@ -1,7 +1,9 @@
--- What each key is called in a fault line.
+-- What each key is called in a fault line, and which key it is where a policy is refused.
 use Rattle.std.specs.Prelude.{ℕ, List, codes}
 use Rattle.bsc_settings.specs.declared.key.KeyName.{KeyName}
-use Rattle.bsc_settings.specs.declared.key.KeyName.TheVariants.{HubVmac, HubUuid, HubPort, HubMaxBvlc, HubMaxNpdu, HubRows, HubOutbox, HubConnectWaitMs, HubDisconnectWaitMs, HubHeartbeatMs, HubTurns, NodeVmac, NodeUuid, NodePrimary, NodeFailover, NodeDirectPort, NodeDirectUris, NodeMaxBvlc, NodeMaxNpdu, NodeConnectWaitMs, NodeDisconnectWaitMs, NodeHeartbeatMs, NodeLeastReconnectMs, NodeGreatestReconnectMs, NodeTurns, HubProduct, Unknown}
+use Rattle.bsc_settings.specs.declared.key.KeyName.TheVariants.{HubVmac, HubUuid, HubPort, HubMaxBvlc, HubMaxNpdu, HubRows, HubOutbox, HubConnectWaitMs, HubDisconnectWaitMs, HubHeartbeatMs, HubTurns, NodeVmac, NodeUuid, NodePrimary, NodeFailover, NodeDirectPort, NodeDirectUris, NodeMaxBvlc, NodeMaxNpdu, NodeConnectWaitMs, NodeDisconnectWaitMs, NodeHeartbeatMs, NodeLeastReconnectMs, NodeGreatestReconnectMs, NodeTurns, PolicyMember, PolicyRule, HubProduct, Unknown}
+use Rattle.bsc_settings.specs.declared.refusal.PolicyRefusal.{PolicyRefusal}
+use Rattle.bsc_settings.specs.declared.refusal.PolicyRefusal.TheVariants.{MemberList, Member, RuleList, Rule}
 
 abbrev pub name_of : KeyName → List ℕ
 name_of HubVmac = codes "hub.vmac"
@@ -29,5 +31,14 @@ name_of NodeHeartbeatMs = codes "node.heartbeat_ms"
 name_of NodeLeastReconnectMs = codes "node.least_reconnect_ms"
 name_of NodeGreatestReconnectMs = codes "node.greatest_reconnect_ms"
 name_of NodeTurns = codes "node.turns"
+name_of PolicyMember = codes "policy.member"
+name_of PolicyRule = codes "policy.rule"
 name_of HubProduct = codes "hub.product"
 name_of Unknown = codes "unknown"
+
+-- The key at fault where a policy is refused: its list of members, or that of rules.
+abbrev pub key_of : PolicyRefusal → KeyName
+key_of MemberList = PolicyMember
+key_of (Member entry fault) = PolicyMember
+key_of RuleList = PolicyRule
+key_of (Rule entry fault) = PolicyRule

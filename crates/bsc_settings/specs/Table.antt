@@ -3,15 +3,19 @@ use Rattle.std.specs.Prelude.{ℕ, ◌≤◌, Bool, true, false, not, ◌||◌, 
 use Rattle.bsc_octets.specs.declared.vmac.Vmac.{Vmac}
 use Rattle.bsc_octets.specs.Addresses.{same_vmac, zero_vmac, broadcast}
 use Rattle.bsc_settings.specs.declared.key.KeyName.{KeyName}
-use Rattle.bsc_settings.specs.declared.key.KeyName.TheVariants.{HubVmac, HubUuid, HubPort, HubMaxBvlc, HubMaxNpdu, HubRows, HubOutbox, HubConnectWaitMs, HubDisconnectWaitMs, HubHeartbeatMs, HubTurns, NodeVmac, NodeUuid, NodePrimary, NodeFailover, NodeDirectPort, NodeDirectUris, NodeMaxBvlc, NodeMaxNpdu, NodeConnectWaitMs, NodeDisconnectWaitMs, NodeHeartbeatMs, NodeLeastReconnectMs, NodeGreatestReconnectMs, NodeTurns}
+use Rattle.bsc_settings.specs.declared.key.KeyName.TheVariants.{HubVmac, HubUuid, HubPort, HubMaxBvlc, HubMaxNpdu, HubRows, HubOutbox, HubConnectWaitMs, HubDisconnectWaitMs, HubHeartbeatMs, HubTurns, NodeVmac, NodeUuid, NodePrimary, NodeFailover, NodeDirectPort, NodeDirectUris, NodeMaxBvlc, NodeMaxNpdu, NodeConnectWaitMs, NodeDisconnectWaitMs, NodeHeartbeatMs, NodeLeastReconnectMs, NodeGreatestReconnectMs, NodeTurns, PolicyMember, PolicyRule}
 
 -- What a key takes: the text of an address that names one node, the text of a device UUID, the text of the URI of a hub,
--- the text of URIs with one space between two, an integer from the first number to the second, or nothing at all.
+-- the text of URIs with one space between two, the name of a group, a group or `*`, `allow` or `deny`, an integer from the
+-- first number to the second, or nothing at all.
 pub data Kind : Type 0 where
   address : Kind
   device : Kind
   hub_uri : Kind
   uris : Kind
+  group : Kind
+  group_or_all : Kind
+  allow_or_deny : Kind
   integer : ℕ → ℕ → Kind
   nothing : Kind
 
@@ -132,6 +136,36 @@ node_table accepts least =
     node_vmac_row ∷ node_uuid_row ∷ primary_row ∷ failover_row ∷ direct_port_row ∷ direct_uris_row accepts
     ∷ node_max_bvlc_row ∷ node_max_npdu_row ∷ node_connect_wait_row ∷ node_disconnect_wait_row ∷ node_heartbeat_row
     ∷ least_reconnect_row ∷ greatest_reconnect_row least ∷ node_turns_row ∷ []
+
+-- The rows of a member of the table `policy`. A fault of one is a fault of the list of members.
+abbrev pub member_device_row : Row
+member_device_row = row PolicyMember (codes "device") device required
+
+abbrev pub member_vmac_row : Row
+member_vmac_row = row PolicyMember (codes "vmac") address required
+
+abbrev pub member_group_row : Row
+member_group_row = row PolicyMember (codes "group") group required
+
+-- The keys of a member.
+abbrev pub member_table : List Row
+member_table =
+    member_device_row ∷ member_vmac_row ∷ member_group_row ∷ []
+
+-- The rows of a rule of the table `policy`. A fault of one is a fault of the list of rules.
+abbrev pub rule_do_row : Row
+rule_do_row = row PolicyRule (codes "do") allow_or_deny required
+
+abbrev pub rule_from_row : Row
+rule_from_row = row PolicyRule (codes "from") group_or_all required
+
+abbrev pub rule_to_row : Row
+rule_to_row = row PolicyRule (codes "to") group_or_all required
+
+-- The keys of a rule.
+abbrev pub rule_table : List Row
+rule_table =
+    rule_do_row ∷ rule_from_row ∷ rule_to_row ∷ []
 
 -- The most octets that all outboxes may hold together: 2^30. So many are the rows, times the frames of an outbox,
 -- times the longest message.

@@ -4,15 +4,17 @@ use Rattle.toml.specs.Data.{Data, Members, get_member, as_str, as_integer}
 use Rattle.bsc_octets.specs.declared.vmac.Vmac.{Vmac}
 use Rattle.bsc_octets.specs.declared.device_id.DeviceId.{DeviceId}
 use Rattle.bsc_text.specs.Grammar.{vmac_of_word, device_of_word}
-use Rattle.bsc_settings.specs.Table.{Kind, address, device, hub_uri, uris, integer, nothing, Default, required, absent, or_else, Row, is_node_address}
+use Rattle.bsc_settings.specs.Table.{Kind, address, device, hub_uri, uris, group, group_or_all, allow_or_deny, integer, nothing, Default, required, absent, or_else, Row, is_node_address}
 use Rattle.bsc_settings.specs.Uris.{is_hub_uri, are_uris}
+use Rattle.bsc_settings.specs.Groups.{is_group, is_group_or_all, allows_of}
 
--- A value of the settings: an address, a device UUID, a number, a text, or that there is none.
+-- A value of the settings: an address, a device UUID, a number, a text, whether a rule allows, or that there is none.
 pub data Value : Type 0 where
   vmac : Vmac → Value
   uuid : DeviceId → Value
   number : ℕ → Value
   text : List ℕ → Value
+  allows : Bool → Value
   missing : Value
 
 -- a number that may be missing
@@ -31,12 +33,16 @@ natural (Some (pos n)) = Some n
 natural other = None
 
 -- What a value of a TOML document says to a key of this kind: a text of twelve hexadecimal digits says an address, a
--- text that is a UUID a device, an integer that isn't negative a number, and a text itself.
+-- text that is a UUID a device, an integer that isn't negative a number, `allow` and `deny` whether a rule allows, and a
+-- text itself.
 abbrev pub said : Kind → Data → Option Value
 said address value = option_map vmac (option_and_then vmac_of_word (as_str value))
 said device value = option_map uuid (option_and_then device_of_word (as_str value))
 said hub_uri value = option_map text (as_str value)
 said uris value = option_map text (as_str value)
+said group value = option_map text (as_str value)
+said group_or_all value = option_map text (as_str value)
+said allow_or_deny value = option_map allows (option_and_then allows_of (as_str value))
 said (integer least greatest) value = option_map number (natural (as_integer value))
 said nothing value = None
 
@@ -47,6 +53,9 @@ takes address (vmac v) = is_node_address v
 takes device (uuid u) = true
 takes hub_uri (text o) = is_hub_uri o
 takes uris (text o) = are_uris o
+takes group (text o) = is_group o
+takes group_or_all (text o) = is_group_or_all o
+takes allow_or_deny (allows b) = true
 takes (integer least greatest) (number n) = nat_le least n && nat_le n greatest
 takes kind value = false
 

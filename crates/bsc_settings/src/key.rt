@@ -54,6 +54,10 @@ pub enum KeyName {
     NodeGreatestReconnectMs,
     /// How many turns a node makes at most.
     NodeTurns,
+    /// The members of the policy: a list, each with a device, an address and a group.
+    PolicyMember,
+    /// The rules of the policy: a list, each with what it does and its two groups.
+    PolicyRule,
     /// The product of the rows, the outbox and the Maximum BVLC Length: more octets than the outboxes may hold.
     HubProduct,
     /// A key or a table that settings don't have.

@@ -5,9 +5,10 @@ ghost use Rattle.std.specs.List.{list_all};
 ghost use Rattle.toml.specs.Data.{get_member};
 ghost use Rattle.toml.specs.View.{table_view};
 ghost use Rattle.bsc_settings.specs.Table.{hub_table, node_table};
-ghost use Rattle.bsc_settings.specs.Documents.{has_key, hub_of, node_of, node_rows_of, is_known, has_known_alone};
+ghost use Rattle.bsc_settings.specs.Documents.{has_key, hub_of, node_of, policy_of, node_rows_of, is_known, is_known_policy, has_known_alone};
 ghost use Rattle.bsc_text.specs.Lines.{same_octets};
 
+use crate::known_policy::has_policy_keys;
 use crate::node_rows::{
     DIRECT_PORT, DIRECT_URIS, FAILOVER, GREATEST_RECONNECT_MS, LEAST_RECONNECT_MS,
     NODE_CONNECT_WAIT_MS, NODE_DISCONNECT_WAIT_MS, NODE_HEARTBEAT_MS, NODE_MAX_BVLC, NODE_MAX_NPDU,
@@ -25,6 +26,9 @@ const HUB: &str = "hub";
 /// What a document calls the table of a node.
 const NODE: &str = "node";
 
+/// What a document calls the table of the policy.
+const POLICY: &str = "policy";
+
 /// The table `hub` of a document, where it has it.
 pub(crate) fn hub_of(doc: &Table) -> Option<&Table>
     ensures { option_map (λ t. table_view t.now) result ≡ hub_of (table_view doc.now) }
@@ -40,6 +44,16 @@ pub(crate) fn node_of(doc: &Table) -> Option<&Table>
     ensures { option_map (λ t. table_view t.now) result ≡ node_of (table_view doc.now) }
 {
     match doc.get(NODE) {
+        Some(value) => value.as_table(),
+        None => None,
+    }
+}
+
+/// The table `policy` of a document, where it has it.
+pub(crate) fn policy_of(doc: &Table) -> Option<&Table>
+    ensures { option_map (λ t. table_view t.now) result ≡ policy_of (table_view doc.now) }
+{
+    match doc.get(POLICY) {
         Some(value) => value.as_table(),
         None => None,
     }
@@ -96,13 +110,12 @@ fn has_node_keys(table: &Table) -> bool
     table.keys().all(|key| is_node_key(key.as_str()))
 }
 
-/// Whether a document has no keys but `hub` and `node`.
+/// Whether a document has no keys but `hub`, `node` and `policy`.
 fn has_tables_alone(doc: &Table) -> bool
     ensures { result ≡ list_all (λ key. same_octets (string_bytes key) (codes "hub")
-        || same_octets (string_bytes key) (codes "node")) (keys doc.now) }
+        || same_octets (string_bytes key) (codes "node") || same_octets (string_bytes key) (codes "policy")) (keys doc.now) }
 {
-    doc.keys()
-        .all(|key| key.as_str() == HUB || key.as_str() == NODE)
+    doc.keys().all(|key| key.as_str() == HUB || key.as_str() == NODE || key.as_str() == POLICY)
 }
 
 /// Whether `hub`, where a document has it, is a table with nothing but keys of the table of keys.
@@ -131,7 +144,20 @@ fn is_node_known(doc: &Table) -> bool
     }
 }
 
-/// Whether a document has nothing but the tables `hub` and `node`, and in each nothing but keys of its table of keys.
+/// Whether `policy`, where a document has it, is a table with nothing but members and rules, and nothing but keys of theirs.
+fn is_policy_known(doc: &Table) -> bool
+    ensures { result ≡ is_known_policy (get_member (codes "policy") (table_view doc.now)) }
+{
+    let Some(value) = doc.get(POLICY) else {
+        return true;
+    };
+    match value.as_table() {
+        Some(table) => has_policy_keys(table),
+        None => false,
+    }
+}
+
+/// Whether a document has nothing but the tables `hub`, `node` and `policy`, and in each nothing but what belongs there.
 pub(crate) fn has_known_alone(doc: &Table) -> bool
     ensures { result ≡ has_known_alone (table_view doc.now) }
 {
@@ -141,5 +167,8 @@ pub(crate) fn has_known_alone(doc: &Table) -> bool
     if !is_hub_known(doc) {
         return false;
     }
-    is_node_known(doc)
+    if !is_node_known(doc) {
+        return false;
+    }
+    is_policy_known(doc)
 }

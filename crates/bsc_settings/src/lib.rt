@@ -1,26 +1,33 @@
 //! What is settled before a hub or a node starts, read from a TOML document.
 //!
-//! Start at `specs/Table.antt`, the tables of keys: what each takes, and its default. `specs/Faults.antt` says which
-//! key of a document is named as the first at fault, and `specs/Fields.antt` which settings a document without a fault
-//! says. `reading` has `read_settings`, which is held to both.
+//! Start at `specs/Table.antt`, the tables of keys: what each takes, and its default. `specs/Policies.antt` says which policy
+//! a document has, `specs/Faults.antt` which key of it is named as the first at fault, and `specs/Fields.antt` which settings
+//! a document without a fault says. `reading` has `read_settings`, which is held to both.
 #![tactic(auto)]
 
 mod fault;
+mod groups;
 mod hub;
 mod hub_said;
 mod hub_table;
 mod key;
 mod known;
+mod known_policy;
 mod naming;
 mod node;
 mod node_parts;
 mod node_rows;
 mod node_table;
 mod parts;
+mod policy_rows;
+mod policy_table;
 mod reading;
+mod refusal;
+mod refused_key;
 mod rows;
 mod running;
 mod settings;
+mod unread;
 mod uris;
 mod values;
 
@@ -28,5 +35,6 @@ pub use fault::SettingFault;
 pub use hub::HubSettings;
 pub use key::KeyName;
 pub use node::NodeSettings;
-pub use reading::read_settings;
+pub use reading::{read_settings, refusal_of};
+pub use refusal::{EntryFault, PolicyRefusal};
 pub use settings::Settings;

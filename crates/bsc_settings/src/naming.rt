@@ -6,7 +6,8 @@ use crate::key::KeyName;
 use std::fmt::{self, Display, Formatter, Write};
 
 impl KeyName {
-    /// The name of the key: its table, a full stop, and its word; `hub.product` for the product of the limits,
+    /// The name of the key: its table, a full stop, and its word; `policy.member` and `policy.rule` for all that is at fault in
+    /// these lists, `hub.product` for the product of the limits,
     /// and `unknown` for what settings don't have.
     pub fn text(self) -> &'static str
         ensures { result.now ≡ name_of self }
@@ -37,6 +38,8 @@ impl KeyName {
             KeyName::NodeLeastReconnectMs => "node.least_reconnect_ms",
             KeyName::NodeGreatestReconnectMs => "node.greatest_reconnect_ms",
             KeyName::NodeTurns => "node.turns",
+            KeyName::PolicyMember => "policy.member",
+            KeyName::PolicyRule => "policy.rule",
             KeyName::HubProduct => "hub.product",
             KeyName::Unknown => "unknown",
         }

@@ -3,10 +3,11 @@ ghost use Rattle.std.specs.Prelude.{◌≡◌, ◌≤◌, Some, None, IfOk, IfEr
 ghost use Rattle.toml.specs.Data.{as_str, as_integer, get_member};
 ghost use Rattle.toml.specs.View.{table_view};
 ghost use Rattle.bsc_settings.specs.Rows.{number_row, optional_number_row, text_row, optional_text_row, uris_row};
-ghost use Rattle.bsc_settings.specs.Table.{address, device, hub_uri, uris, is_node_address, IsNodeAddress};
+ghost use Rattle.bsc_settings.specs.Table.{address, device, hub_uri, uris, group, group_or_all, allow_or_deny, is_node_address, IsNodeAddress};
 ghost use Rattle.bsc_settings.specs.Uris.{IsHubUri, AreUris};
-ghost use Rattle.bsc_settings.specs.Values.{vmac, uuid, number, number_if, text, text_if, natural, given, value_at};
+ghost use Rattle.bsc_settings.specs.Values.{vmac, uuid, number, number_if, text, text_if, allows, natural, given, value_at};
 
+use crate::groups::{allows_of, is_group, is_group_or_all};
 use crate::key::KeyName;
 use crate::rows::{NumberRow, TextRow};
 use crate::uris::{are_uris, is_hub_uri};
@@ -173,5 +174,44 @@ pub(crate) fn read_uris<'a>(
     match text_at(table, row.word) {
         Some(text) if are_uris(text.as_bytes()) => Ok(Some(text)),
         _ => Err(row.key),
+    }
+}
+
+/// The name of a group, or the key that is at fault.
+pub(crate) fn read_group<'a>(table: &'a Table, row: TextRow) -> Result<&'a str, KeyName>
+    ensures ok { IfOk result (λ t. value_at (text_row group row) (table_view table.now) ≡ Some (text t.now)) }
+    ensures err { IfErr result (λ key. (key ≡ row.key)
+        × (value_at (text_row group row) (table_view table.now) ≡ None)) }
+{
+    match text_at(table, row.word) {
+        Some(name) if is_group(name.as_bytes()) => Ok(name),
+        _ => Err(row.key),
+    }
+}
+
+/// The side of a rule, or the key that is at fault.
+pub(crate) fn read_side<'a>(table: &'a Table, row: TextRow) -> Result<&'a str, KeyName>
+    ensures ok { IfOk result (λ t. value_at (text_row group_or_all row) (table_view table.now) ≡ Some (text t.now)) }
+    ensures err { IfErr result (λ key. (key ≡ row.key)
+        × (value_at (text_row group_or_all row) (table_view table.now) ≡ None)) }
+{
+    match text_at(table, row.word) {
+        Some(side) if is_group_or_all(side.as_bytes()) => Ok(side),
+        _ => Err(row.key),
+    }
+}
+
+/// Whether a rule allows, or the key that is at fault.
+pub(crate) fn read_allows(table: &Table, row: TextRow) -> Result<bool, KeyName>
+    ensures ok { IfOk result (λ b. value_at (text_row allow_or_deny row) (table_view table.now) ≡ Some (allows b)) }
+    ensures err { IfErr result (λ key. (key ≡ row.key)
+        × (value_at (text_row allow_or_deny row) (table_view table.now) ≡ None)) }
+{
+    let Some(text) = text_at(table, row.word) else {
+        return Err(row.key);
+    };
+    match allows_of(text.as_bytes()) {
+        Some(allows) => Ok(allows),
+        None => Err(row.key),
     }
 }

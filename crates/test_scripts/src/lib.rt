@@ -14,6 +14,8 @@ mod outside;
 #[cfg(test)]
 mod player;
 #[cfg(test)]
+mod policies;
+#[cfg(test)]
 mod replay;
 #[cfg(test)]
 mod script;

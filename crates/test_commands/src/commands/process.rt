@@ -1,6 +1,6 @@
 //! A run of the program over sockets and threads, with its files and what it writes in memory.
 use crate::commands::{files_of, status_of};
-use bsc_commands::{Door, RealLink, real_dialer};
+use bsc_commands::{Door, Noted, RealLink, real_dialer};
 use bsc_edge::{Kind, MemFiles, Monotonic, Places, ThreadSpawner, Unstarted, launch};
 use bsc_links::{PeerAcceptor, PeerDialer};
 use bsc_node_command::RandomWords;
@@ -63,8 +63,8 @@ fn status_over_sockets<
         Unstarted<Session<R>>,
     > { launch(&rt, alloc, places, job) };
     let mut spawner = ThreadSpawner::new(begin, Places::make(alloc, 8)?);
-    let owner = Rc::new(alloc, Cell::new(None))?;
-    let mut acceptor = PeerAcceptor::new(Door::new(rt, alloc, process.kind, owner));
+    let notes = Rc::new(alloc, Cell::new(Noted::nothing()))?;
+    let mut acceptor = PeerAcceptor::new(Door::new(rt, alloc, process.kind, notes));
     let mut dialer = PeerDialer::new(real_dialer(rt, alloc)?);
     status_of(
         &rt,
