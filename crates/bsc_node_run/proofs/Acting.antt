@@ -1,12 +1,10 @@
 -- What one action comes to, from what its steps did.
-use Rattle.std.proofs.Common.{◌≡◌, inl, inr, ℕ, ◌<◌, ◌≤◌, ◌==◌, zero, suc, Bool, true, false, ◌&&◌, if◌then◌else◌, List, [], ◌∷◌, ◌++◌, length, Option, Some, None, Result, Ok, Err, OnOk, refl, ap, sym, ◌∙◌, subst, arith, slice_get, slice_set}
+use Rattle.std.proofs.Common.{◌≡◌, inl, inr, ℕ, ◌<◌, ◌≤◌, ◌==◌, zero, suc, Bool, true, false, ◌&&◌, if◌then◌else◌, List, [], ◌∷◌, length, Option, Some, None, Result, Ok, Err, OnOk, refl, ap, sym, ◌∙◌, subst, arith, slice_get, slice_set}
 use Rattle.std.proofs.lemmas.Bool.{eqb-true, false≢true, lt-ltb}
 use Rattle.std.proofs.lemmas.Option.{slice_get-get_or, slice_get_past}
 use Rattle.std.proofs.lemmas.List.{get_or-set_same, length-set}
 use Rattle.bsc_connector.specs.declared.side.Side.TheVariants.{Primary, Failover}
-use Rattle.bsc_edge.specs.declared.fault.LinkFault.TheVariants.{Failed}
 use Rattle.bsc_edge.specs.declared.said.Said.{Said}
-use Rattle.bsc_edge.specs.declared.said.Said.TheVariants.{Put}
 use Rattle.bsc_edge.specs.Told.{Grows}
 use Rattle.bsc_accept.specs.declared.closing.Closing.{Closing}
 use Rattle.bsc_node.specs.declared.link_name.LinkName.{LinkName}
@@ -14,9 +12,9 @@ use Rattle.bsc_node.specs.declared.link_name.LinkName.TheVariants.{Hub, Direct}
 use Rattle.bsc_node.specs.Links.{same_link}
 use Rattle.bsc_node_run.specs.declared.news.Change.TheVariants.{Opened, DialFailed, Lost}
 use Rattle.bsc_node_run.specs.Worlds.{World, Same, with_link, with_news, with_over, without_arrived, forgets, link_among, link_if, is_name}
-use Rattle.bsc_node_run.specs.Performing.{Dials, Takes, Refuses, IsClosed, Puts, Closes, kind_of}
+use Rattle.bsc_node_run.specs.Performing.{Dials, IsAnswered, Takes, Refuses, IsClosed, Puts, Closes, kind_of}
 use Rattle.bsc_node_run.specs.Putting.{PutsOut}
-use Rattle.bsc_node_run.proofs.Worlds.{same_then, on_link, on_news, on_over, link_news, link_again, ends_so, closed_so, closed_none, none_kept}
+use Rattle.bsc_node_run.proofs.Worlds.{same_then, on_link, on_news, on_over, link_news, link_again, closed_so, closed_none, none_kept}
 
 pub on_ok : {T E P Q : Type 0} (r : Result T E) → (P → Q) → OnOk r P → OnOk r Q
 on_ok (Ok x) f p = f p
@@ -62,13 +60,15 @@ module _ {L : Type 0} where
 
   -- ---- dials
 
-  pub dials_ok : (name : LinkName) (uri : List ℕ) (w x v : World L) (l : L) → Grows w.dialled v.dialled (record { uri = uri; kind = kind_of name; came = true } ∷ [])
+  pub dials_ok : (name : LinkName) (uri : List ℕ) (w x v : World L) (l : L)
+      → Grows w.dialled.calls v.dialled.calls (record { uri = uri; kind = kind_of name; came = true } ∷ []) → IsAnswered (Some l) w.dialled v.dialled
       → Same x (with_link name (Some l) (record w { dialled = v.dialled })) → Same v (with_news name Opened x) → Dials name uri w v
-  dials_ok name uri w x v l g s t = (Some l, g, link_news (record w { dialled = v.dialled }) x v name (Some l) Opened s t)
+  dials_ok name uri w x v l g a s t = (Some l, g, a, link_news (record w { dialled = v.dialled }) x v name (Some l) Opened s t)
 
-  pub dials_failed : (name : LinkName) (uri : List ℕ) (w v : World L) → Grows w.dialled v.dialled (record { uri = uri; kind = kind_of name; came = false } ∷ [])
+  pub dials_failed : (name : LinkName) (uri : List ℕ) (w v : World L)
+      → Grows w.dialled.calls v.dialled.calls (record { uri = uri; kind = kind_of name; came = false } ∷ []) → IsAnswered None w.dialled v.dialled
       → Same v (with_news name DialFailed (record w { dialled = v.dialled })) → Dials name uri w v
-  dials_failed name uri w v g t = (None, g, t)
+  dials_failed name uri w v g a t = (None, g, a, t)
 
   -- ---- the link that arrived
 

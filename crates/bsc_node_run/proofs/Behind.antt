@@ -1,5 +1,5 @@
 -- What stands behind one line more, and behind one piece more.
-use Rattle.std.proofs.Common.{◌≡◌, ℕ, ◌+◌, ◌≤◌, ◌<◌, ◌⊎◌, inl, inr, Bool, true, false, not, nat_le, ◌&&◌, ◌||◌, if◌then◌else◌, List, [], ◌∷◌, ◌++◌, map, length, refl, ap, sym, ◌∙◌, append_assoc, append-nil, length-append, arith, Option, Some, None, Result, Ok, Err, IfOk, OnOk}
+use Rattle.std.proofs.Common.{◌≡◌, ℕ, ◌+◌, ◌≤◌, Bool, true, false, not, nat_le, ◌&&◌, ◌||◌, if◌then◌else◌, List, [], ◌∷◌, ◌++◌, map, length, refl, ap, sym, ◌∙◌, append_assoc, append-nil, length-append, arith, Some, None, Result, Ok, Err, IfOk, OnOk}
 use Rattle.std.specs.List.{concat, fold}
 use Rattle.std.proofs.lemmas.Bool.Decides.{nat_tests}
 use Rattle.std.proofs.lemmas.List.{map-append}
@@ -12,7 +12,7 @@ use Rattle.bsc_node_run.specs.declared.due.Due.{Due}
 use Rattle.bsc_node_run.specs.declared.line.Line.{Line}
 use Rattle.bsc_node_run.specs.declared.line.Line.TheVariants.{Nothing, At, Ask}
 use Rattle.bsc_node_run.specs.Saying.{line_of}
-use Rattle.bsc_node_run.specs.Scripts.{Wish, wish_of, asked_from, first_bad, fits_behind, has_finish, is_finish, lines_in, may_follow, may_say, meant_by, script_of, time_after, time_by}
+use Rattle.bsc_node_run.specs.Scripts.{Wish, wish_of, asked_from, first_bad, fits_behind, has_finish, is_finish, lines_in, may_follow, script_of, time_after, time_by}
 use Rattle.bsc_node_run.specs.Reading.{Kept}
 
 pub on_ok : {T E P Q : Type 0} (r : Result T E) → OnOk r P → (P → Q) → OnOk r Q
@@ -68,16 +68,6 @@ follows_at at ended asked lines ms k going le = (
   },
 )
 
-pub refuses_early : (at : ℕ) (ended : Bool) (asked : List Wish) (lines : List Line) (ms : ℕ) → Kept at ended asked lines → ms < at → may_follow lines (At ms) ≡ false
-refuses_early at ended asked lines ms k less = may_not (has_finish lines) (time_by lines) ms (omega (arith, k.time))
-  where
-    may_not : (finish : Bool) (by ms : ℕ) → ms < by → (not finish && nat_le by ms) ≡ false
-    may_not true by ms h = refl
-    may_not false by ms h = grind (arith, nat_tests)
-
-pub refuses_ended : (at : ℕ) (ended : Bool) (asked : List Wish) (lines : List Line) (ms : ℕ) → Kept at ended asked lines → ended ≡ true → may_follow lines (At ms) ≡ false
-refuses_ended at ended asked lines ms k over = rw (sym k.finish ∙ over) refl
-
 -- what is asked
 pub follows_ask : (at : ℕ) (ended : Bool) (asked : List Wish) (lines : List Line) (event : NodeEvent) → Kept at ended asked lines → ended ≡ false → (may_follow lines (Ask event) ≡ true) × Kept at (is_finish (Ask event)) (asked ++ record { at = at; event = event } ∷ []) (lines ++ Ask event ∷ [])
 follows_ask at ended asked lines event k going =
@@ -98,9 +88,6 @@ asked_more at finish asked all d lines event same more k =
     let wishes : map wish_of all ≡ map wish_of asked ++ wish_of d ∷ [] = ap (map wish_of) more ∙ map-append wish_of asked (d ∷ []) in
     (k.0, rw (same, wishes) k.1)
 
-pub refuses_ask : (at : ℕ) (ended : Bool) (asked : List Wish) (lines : List Line) (event : NodeEvent) → Kept at ended asked lines → ended ≡ true → may_follow lines (Ask event) ≡ false
-refuses_ask at ended asked lines event k over = ap not (sym k.finish ∙ over)
-
 -- ---- one piece more
 
 in_piece : (piece : List ℕ) (l : Line) → line_of (line_in piece) ≡ Some l → lines_in (piece ∷ []) ≡ l ∷ []
@@ -117,21 +104,6 @@ fits_piece pieces piece before l count small says may =
 pub kept_piece : (at : ℕ) (ended : Bool) (asked : List Wish) (pieces : List (List ℕ)) (piece : List ℕ) (l : Line) → line_of (line_in piece) ≡ Some l → Kept at ended asked (lines_in pieces ++ l ∷ []) → Kept at ended asked (lines_in (pieces ++ piece ∷ []))
 kept_piece at ended asked pieces piece l says k = rw (lines-more pieces piece l says) k
 
-pub big_piece : (pieces : List (List ℕ)) (piece : List ℕ) (before : ℕ) → before ≡ length (concat pieces) → is_too_big before piece ≡ true → fits_behind pieces piece ≡ false
-big_piece pieces piece before count big =
-    let too : is_too_big (length (concat pieces)) piece ≡ true = ap (λ (n : ℕ). is_too_big n piece) (sym count) ∙ big in
-    rw too refl
-
-silent : (b : Bool) → (b && false) ≡ false
-silent true = refl
-silent false = refl
-
-pub formless_piece : (pieces : List (List ℕ)) (piece : List ℕ) → line_of (line_in piece) ≡ None → fits_behind pieces piece ≡ false
-formless_piece pieces piece none = rw none (silent (not (is_too_big (length (concat pieces)) piece)))
-
-pub unfit_piece : (pieces : List (List ℕ)) (piece : List ℕ) (l : Line) → line_of (line_in piece) ≡ Some l → may_follow (lines_in pieces) l ≡ false → fits_behind pieces piece ≡ false
-unfit_piece pieces piece l says may_not = rw (says, may_not) (silent (not (is_too_big (length (concat pieces)) piece)))
-
 -- ---- a script that was read so far
 
 -- What is left of a script, and what is known of the pieces that were read.
@@ -142,16 +114,6 @@ pub record ReadSoFar (octets left : List ℕ) (before line at : ℕ) (ended : Bo
   pub number : line ≡ length done + 1
   pub good : first_bad [] (pieces_of octets) ≡ first_bad done (pieces_of left)
   pub kept : Kept at ended asked (lines_in done)
-
-pub read_none : (octets : List ℕ) → ReadSoFar octets octets 0 1 0 false []
-read_none octets = record {
-  done = [];
-  parts = refl;
-  count = refl;
-  number = refl;
-  good = refl;
-  kept = record { time = refl; finish = refl; all = refl };
-}
 
 good-more : (done : List (List ℕ)) (piece : List ℕ) (pieces after : List (List ℕ)) → pieces ≡ piece ∷ after → fits_behind done piece ≡ true → first_bad done pieces ≡ first_bad (done ++ piece ∷ []) after
 good-more done piece pieces after cut fits = rw (cut, fits) refl

@@ -1,5 +1,5 @@
 -- Nothing that a node does makes more news due in the same turn.
-use Rattle.std.proofs.Common.{◌≡◌, ◌≤◌, ◌<◌, ◌+◌, inl, inr, ℕ, Bool, true, false, not, List, [], ◌∷◌, ◌++◌, length, filter, Option, Some, None, refl, ap, sym, ◌∙◌, subst, arith}
+use Rattle.std.proofs.Common.{◌≡◌, ◌≤◌, ◌+◌, inl, inr, ℕ, Bool, true, false, not, List, [], ◌∷◌, length, filter, Option, Some, None, refl, ap, arith}
 use Rattle.std.proofs.lemmas.List.Filters.{length-filter_both}
 use Rattle.bsc_edge.specs.declared.said.Said.{Said}
 use Rattle.bsc_accept.specs.declared.closing.Closing.{Closing}
@@ -8,7 +8,7 @@ use Rattle.bsc_node.specs.declared.node_event.NodeEvent.{NodeEvent}
 use Rattle.bsc_node.specs.declared.action.Action.{Action}
 use Rattle.bsc_node.specs.declared.action.Action.TheVariants.{Dial, Take, Refuse, Put, Close, Deliver, Tell, Draw}
 use Rattle.bsc_node_run.specs.declared.news.News.{News}
-use Rattle.bsc_node_run.specs.Worlds.{World, Same, is_of, without}
+use Rattle.bsc_node_run.specs.Worlds.{World, is_of, without}
 use Rattle.bsc_node_run.specs.Performing.{Dials, Takes, Refuses, Puts, Closes, Does, Carries}
 use Rattle.bsc_node_run.specs.Turning.{Answers, Gives, draws}
 
@@ -27,8 +27,8 @@ one_more xs ys n e = (let k = ap length e in omega (arith, k))
 
 module _ {L : Type 0} where
   dials_fewer : (name : LinkName) (uri : List ℕ) (w v : World L) → Dials name uri w v → length v.due ≤ length w.due
-  dials_fewer name uri w v (None, g, s) = as_many v.due w.due s.due
-  dials_fewer name uri w v (Some l, g, s) = as_many v.due w.due s.due
+  dials_fewer name uri w v (None, g, came, s) = as_many v.due w.due s.due
+  dials_fewer name uri w v (Some l, g, came, s) = as_many v.due w.due s.due
 
   takes_fewer : (name : LinkName) (o : Option L) (w v : World L) → Takes name o w v → length v.due ≤ length w.due
   takes_fewer name None w v s = as_many v.due w.due s.due

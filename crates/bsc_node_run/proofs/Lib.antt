@@ -10,3 +10,4 @@ pub mod Behind
 pub mod Told
 pub mod Asked
 pub mod WorkedScripts
+pub mod Stops

@@ -34,18 +34,6 @@ module _ {L : Type 0} where
   pub emptied : (w : World L) (due : List News) → w.due ≡ due → Same (record w { due = due }) w
   emptied w due e = record { link = λ name. refl; arrived = refl; over = refl; due = sym e; waiting = refl; finished = refl; dialled = refl; held = refl }
 
-  pub same_as : (a b : World L) → Same a b → Same b a
-  same_as a b s = record {
-    link = λ name. sym (s.link name);
-    arrived = sym s.arrived;
-    over = sym s.over;
-    due = sym s.due;
-    waiting = sym s.waiting;
-    finished = sym s.finished;
-    dialled = sym s.dialled;
-    held = sym s.held;
-  }
-
   -- a link that isn't there isn't open
   none_open : (name : LinkName) (w : World L) → w.link name ≡ None → is_open name w ≡ false
   none_open name w e = ap (λ (o : Option L). is_some o && not (list_any (is_of name) w.waiting)) e
@@ -80,9 +68,6 @@ module _ {L : Type 0} (talk : L → Option (List Said)) where
   pub received : (name : LinkName) (k l : L) (given : Result Incoming LinkFault) (e : Option NodeEvent) (w v : World L) → Some k ≡ w.link name
       → WasGiven given → Grows (talk k) (talk l) (Gave given ∷ []) → e ≡ told_of name given → Same v (left_by name l given w) → Received talk name (w.link name) e w v
   received name k l given e w v is ok g told s = subst (λ (o : Option L). Received talk name o e w v) is (l, given, ok, g, told, s)
-
-  pub received_none : (name : LinkName) (e : Option NodeEvent) (w v : World L) → None ≡ w.link name → e ≡ None → Received talk name (w.link name) e w v
-  received_none name e w v is none = subst (λ (o : Option L). Received talk name o e w v) is none
 
 module _ {N L : Type 0} (goes : N → ℕ → NodeEvent → List Action → N → Type 0) (talk : L → Option (List Said)) (now : ℕ) where
   -- ---- what is heard

@@ -1,13 +1,12 @@
 -- Worlds that have the same, and how they change.
-use Rattle.std.proofs.Common.{◌≡◌, Bool, true, false, ◌&&◌, if◌then◌else◌, List, [], ◌∷◌, ◌++◌, Option, Some, None, refl, ap, sym, ◌∙◌}
+use Rattle.std.proofs.Common.{◌≡◌, Bool, true, false, ◌&&◌, if◌then◌else◌, List, [], ◌∷◌, ◌++◌, Option, None, refl, ap, sym, ◌∙◌}
 use Rattle.std.proofs.lemmas.Bool.{eqb-true, false≢true}
 use Rattle.bsc_connector.specs.declared.side.Side.TheVariants.{Primary, Failover}
 use Rattle.bsc_node.specs.declared.link_name.LinkName.{LinkName}
 use Rattle.bsc_node.specs.declared.link_name.LinkName.TheVariants.{Hub, Direct}
 use Rattle.bsc_node.specs.Links.{same_link}
 use Rattle.bsc_node_run.specs.declared.news.Change.{Change}
-use Rattle.bsc_node_run.specs.declared.news.Change.TheVariants.{Lost}
-use Rattle.bsc_node_run.specs.Worlds.{World, Same, with_link, with_news, with_over, forgets, ends, is_name, without}
+use Rattle.bsc_node_run.specs.Worlds.{World, Same, with_link, with_news, with_over, forgets, ends, is_name}
 
 same_link-is : (name other : LinkName) → same_link name other ≡ true → name ≡ other
 same_link-is (Hub Primary) (Hub Primary) h = refl
@@ -71,18 +70,6 @@ module _ {L : Type 0} where
     held = s.held;
   }
 
-  pub on_forgets : (a b : World L) (name : LinkName) → Same a b → Same (forgets name a) (forgets name b)
-  on_forgets a b name s = record {
-    link = s.link;
-    arrived = s.arrived;
-    over = s.over;
-    due = ap (without name) s.due;
-    waiting = ap (without name) s.waiting;
-    finished = s.finished;
-    dialled = s.dialled;
-    held = s.held;
-  }
-
   -- A link comes, and something is new of it.
   pub link_news : (a b c : World L) (name : LinkName) (l : Option L) (change : Change) → Same b (with_link name l a) → Same c (with_news name change b) → Same c (with_news name change (with_link name l a))
   link_news a b c name l change s t = same_then c (with_news name change b) (with_news name change (with_link name l a)) t (on_news b (with_link name l a) name change s)
@@ -103,9 +90,6 @@ module _ {L : Type 0} where
   -- A link is taken out, and it was lost.
   pub ends_so : (a b c : World L) (name : LinkName) (l : L) → Same b (with_link name None a) → Same c (with_over l b) → Same c (ends name l a)
   ends_so a b c name l s t = same_then c (with_over l b) (ends name l a) t (on_over b (with_link name None a) l s)
-
-  pub lost_so : (a b c e : World L) (name : LinkName) (l : L) → Same b (with_link name None a) → Same c (with_over l b) → Same e (with_news name Lost c) → Same e (with_news name Lost (ends name l a))
-  lost_so a b c e name l s t u = same_then e (with_news name Lost c) (with_news name Lost (ends name l a)) u (on_news c (ends name l a) name Lost (ends_so a b c name l s t))
 
   -- A link is closed, of which nothing new is told any more.
   pub closed_so : (a b c e : World L) (name : LinkName) (l : L) → Same b (forgets name a) → Same c (with_link name None b) → Same e (with_over l c) → Same e (ends name l (forgets name a))

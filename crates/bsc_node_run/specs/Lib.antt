@@ -10,3 +10,4 @@ pub mod Saying
 pub mod Scripts
 pub mod Reading
 pub mod Drawing
+pub mod Stopping

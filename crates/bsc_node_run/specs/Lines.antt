@@ -7,7 +7,9 @@ use Rattle.bsc_connector.specs.declared.hub_use.HubUse.{HubUse}
 use Rattle.bsc_connector.specs.declared.hub_use.HubUse.TheVariants.{NoHub, Primary, Failover}
 use Rattle.bsc_node.specs.declared.delivered.Delivered.{Delivered}
 use Rattle.bsc_node.specs.declared.note.Note.{Note}
-use Rattle.bsc_node.specs.declared.note.Note.TheVariants.{HubNow, Uris, DirectUp, DirectDown, NoPath, TooLong, NoUris, SlotsFull, AsksFull, AskPending, NoDirect, Advert as Advertised, Nak, Renewed, NoRandom, Finished}
+use Rattle.bsc_node.specs.declared.note.Note.TheVariants.{HubNow, Uris, DirectUp, DirectDown, NoPath, TooLong, NoUris}
+use Rattle.bsc_node.specs.declared.note.Note.TheVariants.{SlotsFull, AsksFull, AskPending, NoDirect, Advert as Advertised, Nak}
+use Rattle.bsc_node.specs.declared.note.Note.TheVariants.{Renewed, NoRandom, Finished}
 
 -- octets behind a space, where there are any
 abbrev pub behind_space : List ℕ → List ℕ

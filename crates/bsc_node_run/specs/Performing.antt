@@ -1,12 +1,13 @@
 -- What a node's actions do to the outside.
-use Rattle.std.specs.Prelude.{◌≡◌, ℕ, ◌⊎◌, Bool, true, false, ◌||◌, List, [], ◌∷◌, ◌++◌, Option, Some, None, is_some}
+use Rattle.std.specs.Prelude.{◌≤◌, ℕ, ◌⊎◌, Bool, true, false, ◌||◌, List, [], ◌∷◌, Option, Some, None, is_some, Ok, Err}
 use Rattle.std.specs.Io.KnownBytes.{Appends}
-use Rattle.bsc_edge.specs.declared.dialled.Dialled.{Dialled}
+use Rattle.bsc_outside.specs.Faults.{HasRisen}
 use Rattle.bsc_edge.specs.declared.fault.LinkFault.TheVariants.{Failed}
 use Rattle.bsc_edge.specs.declared.kind.Kind.{Kind}
 use Rattle.bsc_edge.specs.declared.kind.Kind.TheVariants.{Hub as HubKind, Direct as DirectKind}
 use Rattle.bsc_edge.specs.declared.said.Said.{Said}
 use Rattle.bsc_edge.specs.declared.said.Said.TheVariants.{Put as SaidPut, Closed}
+use Rattle.bsc_edge.specs.Dialling.{Takes as LeavesBehind}
 use Rattle.bsc_edge.specs.Told.{Grows}
 use Rattle.bsc_accept.specs.declared.closing.Closing.{Closing}
 use Rattle.bsc_accept.specs.Reasons.{reason_text}
@@ -18,7 +19,7 @@ use Rattle.bsc_node.specs.declared.action.Action.{Action}
 use Rattle.bsc_node.specs.declared.action.Action.TheVariants.{Dial, Take, Refuse, Put, Close, Deliver, Tell, Draw}
 use Rattle.bsc_node_run.specs.declared.news.Change.TheVariants.{Opened, DialFailed, Lost}
 use Rattle.bsc_node_run.specs.Lines.{note_line, delivered_line}
-use Rattle.bsc_node_run.specs.Worlds.{World, Same, with_link, with_news, forgets, ends, with_over}
+use Rattle.bsc_node_run.specs.Worlds.{Dialling, World, Same, with_link, with_news, forgets, ends, with_over}
 
 -- what a link of this name is for
 abbrev pub kind_of : LinkName → Kind
@@ -43,9 +44,16 @@ module _ {L : Type 0} where
   after_dial name (Some l) w = with_news name Opened (with_link name (Some l) w)
   after_dial name None w = with_news name DialFailed w
 
-  -- A URI is dialled, once. Where a link comes, it is the link of that name.
+  -- What the dialer answered: a link, which stood first of those that it had left; or it failed, and its count of faults rose.
+  abbrev pub IsAnswered : Option L → Dialling L → Dialling L → Type 0
+  IsAnswered (Some l) d e = LeavesBehind d.left e.left (Ok l) × (d.faults ≤ e.faults)
+  IsAnswered None d e = LeavesBehind d.left e.left (Err Failed) × HasRisen d.faults e.faults
+
+  -- A URI is dialled, once. Where a link comes, it is the link of that name. That the dial failed is new only where it did.
   abbrev pub Dials : LinkName → List ℕ → World L → World L → Type 0
-  Dials name uri w v = (l : Option L) × Grows w.dialled v.dialled (record { uri = uri; kind = kind_of name; came = is_some l } ∷ [])
+  Dials name uri w v = (l : Option L)
+      × Grows w.dialled.calls v.dialled.calls (record { uri = uri; kind = kind_of name; came = is_some l } ∷ [])
+      × IsAnswered l w.dialled v.dialled
       × Same v (record (after_dial name l w) { dialled = v.dialled })
 
   -- ---- the link that arrived

@@ -1,6 +1,5 @@
 -- A whole run of a node: its turns.
 use Rattle.std.specs.Prelude.{◌≡◌, ◌≤◌, ◌<◌, ◌^◌, ℕ, Bool, true, false, List, [], ◌∷◌, Option, Some, None, length, unwrap_or, ⊤}
-use Rattle.bsc_edge.specs.declared.dialled.Dialled.{Dialled}
 use Rattle.bsc_edge.specs.declared.said.Said.{Said}
 use Rattle.bsc_edge.specs.Told.{Grows}
 use Rattle.bsc_node.specs.declared.link_name.LinkName.{LinkName}
@@ -10,16 +9,16 @@ use Rattle.bsc_node_run.specs.declared.due.Due.{Due}
 use Rattle.bsc_node_run.specs.declared.run_end.RunEnd.{RunEnd}
 use Rattle.bsc_node_run.specs.declared.run_end.RunEnd.TheVariants.{Finished, Spent}
 use Rattle.bsc_node_run.specs.Turning.{Turn}
-use Rattle.bsc_node_run.specs.Worlds.{World, Same}
+use Rattle.bsc_node_run.specs.Worlds.{Dialling, World, Same}
 
--- No links, and nothing new: this was dialled and written before.
-pub record IsEmpty {L : Type 0} (calls : Option (List Dialled)) (text : Option (List ℕ)) (w : World L) : Type 0 where
+-- No links, and nothing new: this is the dialer, and this was written before.
+pub record IsEmpty {L : Type 0} (before : Dialling L) (text : Option (List ℕ)) (w : World L) : Type 0 where
   pub link : (name : LinkName) → w.link name ≡ None
   pub arrived : w.arrived ≡ None
   pub due : w.due ≡ []
   pub waiting : w.waiting ≡ []
   pub finished : w.finished ≡ false
-  pub dialled : w.dialled ≡ calls
+  pub dialled : w.dialled ≡ before
   pub held : w.held ≡ text
 
 -- How a run ends whose turns were made at these times: with the turn in which the node told that it has ended, or after
@@ -43,8 +42,8 @@ module _ {N L : Type 0} (goes : N → ℕ → NodeEvent → List Action → N �
       × Turn goes talk now start script rest listens n w left p x mid × Turns times (Some (unwrap_or start now)) rest p x mid m v left'
 
   -- A whole run.
-  pub record Run (end : RunEnd) (turns : ℕ) (script : List Due) (n : N) (dialled : Option (List Dialled)) (held : Option (List ℕ))
-      (left : Option (List L)) (told : Option (List ℕ)) (m : N) (dialled' : Option (List Dialled)) (held' : Option (List ℕ))
+  pub record Run (end : RunEnd) (turns : ℕ) (script : List Due) (n : N) (dialled : Dialling L) (held : Option (List ℕ))
+      (left : Option (List L)) (told : Option (List ℕ)) (m : N) (dialled' : Dialling L) (held' : Option (List ℕ))
       (left' : Option (List L)) (told' : Option (List ℕ)) : Type 0 where
     pub times : List ℕ
     pub first : World L

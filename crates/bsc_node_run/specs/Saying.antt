@@ -1,5 +1,5 @@
 -- What a line of a node's script says.
-use Rattle.std.specs.Prelude.{ℕ, nat_eq, Bool, true, not, ◌||◌, if◌then◌else◌, List, [], ◌∷◌, length, codes, Option, Some, None}
+use Rattle.std.specs.Prelude.{ℕ, nat_eq, ◌||◌, if◌then◌else◌, List, [], ◌∷◌, length, codes, Option, Some, None}
 use Rattle.std.specs.Option.{option_map}
 use Rattle.bsc_octets.specs.declared.vmac.Vmac.{Vmac}
 use Rattle.bsc_octets.specs.Addresses.{same_vmac, zero_vmac, broadcast}

@@ -1,5 +1,6 @@
 -- What the script of a node means: what it asks of the node and when, or which of its lines is the first bad one.
-use Rattle.std.specs.Prelude.{ℕ, ◌+◌, nat_le, Bool, true, false, not, ◌&&◌, if◌then◌else◌, List, [], ◌∷◌, ◌++◌, length, fold, filter_map, Option, Some, None, Result, Ok, Err}
+use Rattle.std.specs.Prelude.{ℕ, ◌+◌, nat_le, Bool, true, false, not, ◌&&◌, if◌then◌else◌, List, [], ◌∷◌, ◌++◌, length, fold}
+use Rattle.std.specs.Prelude.{filter_map, Option, Some, None, Result, Ok, Err}
 use Rattle.std.specs.List.{concat, list_any}
 use Rattle.bsc_text.specs.Lines.{pieces_of, line_in, is_too_big}
 use Rattle.bsc_node.specs.declared.node_event.NodeEvent.{NodeEvent}

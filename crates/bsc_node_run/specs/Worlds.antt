@@ -10,10 +10,21 @@ use Rattle.bsc_node_run.specs.declared.news.Change.{Change}
 use Rattle.bsc_node_run.specs.declared.news.News.{News}
 use Rattle.bsc_node_run.specs.declared.link_set.LinkSet.{LinkSet}
 
+-- What there is of a dialer at a moment: what it was asked for, and the links that it has left, as far as that is told; and
+-- its count of faults.
+pub record Dialling (L : Type 0) : Type 0 where
+  pub calls : Option (List Dialled)
+  pub left : Option (List L)
+  pub faults : ℕ
+
+-- that of a dialer, by what dialers of its type tell
+abbrev pub dialling : {D L : Type 0} → (D → Option (List Dialled)) → (D → Option (List L)) → (D → ℕ) → D → Dialling L
+dialling calls left faults d = record { calls = calls d; left = left d; faults = faults d }
+
 -- The link of each name, where there is one; the link that arrived and wasn't taken or refused yet; the links
 -- that were taken out in this turn; what is new of links and is told to the node in this turn, and what is told in the
--- next, the oldest first; whether the node told that it has ended; what was dialled, and what was written, as far as
--- that is told.
+-- next, the oldest first; whether the node told that it has ended; what there is of the dialer; and what was written, as
+-- far as that is told.
 pub record World (L : Type 0) : Type 0 where
   pub link : LinkName → Option L
   pub arrived : Option L
@@ -21,7 +32,7 @@ pub record World (L : Type 0) : Type 0 where
   pub due : List News
   pub waiting : List News
   pub finished : Bool
-  pub dialled : Option (List Dialled)
+  pub dialled : Dialling L
   pub held : Option (List ℕ)
 
 -- Two worlds have the same.
@@ -95,7 +106,7 @@ link_among (Direct k) p f slots = link_if (slice_get slots k)
 abbrev pub link_in : {L : Type 0} → LinkSet L → LinkName → Option L
 link_in s name = link_among name s.primary s.failover s.slots.items
 
-abbrev pub world_of : {L : Type 0} → LinkSet L → Option (List Dialled) → Option (List ℕ) → World L
+abbrev pub world_of : {L : Type 0} → LinkSet L → Dialling L → Option (List ℕ) → World L
 world_of s dialled held = record {
   link = λ name. link_in s name;
   arrived = s.arrived;

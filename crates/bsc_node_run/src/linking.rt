@@ -1,10 +1,11 @@
 //! The links of a node by their names.
-ghost use Rattle.std.specs.Prelude.{◌≡◌, not, [], ◌∷◌, ◌++◌, true, false, None, Option, is_some, ◌&&◌, OnOk, IfOk, List, ℕ, ◌<◌, vec_len, slice_get, slice_set};
+ghost use Rattle.std.specs.Prelude.{◌≡◌, not, [], ◌∷◌, ◌++◌, true, false, None, Option, is_some, ◌&&◌, OnOk, IfOk};
+ghost use Rattle.std.specs.Prelude.{List, ℕ, ◌<◌, vec_len, slice_get, slice_set};
 ghost use Rattle.std.specs.List.{list_any};
-ghost use Rattle.bsc_edge.specs.declared.dialled.Dialled.{Dialled};
 ghost use Rattle.bsc_node.specs.declared.link_name.LinkName.{LinkName as LinkNameType};
 ghost use Rattle.bsc_node.specs.Links.{same_link};
-ghost use Rattle.bsc_node_run.specs.Worlds.{World, Same, begun, forgets, is_of, is_open, link_if, link_in, with_link, with_news, with_over, without, without_arrived, world_of};
+ghost use Rattle.bsc_node_run.specs.Worlds.{Dialling, World, Same, begun, forgets, is_of, is_open, link_if, link_in};
+ghost use Rattle.bsc_node_run.specs.Worlds.{with_link, with_news, with_over, without, without_arrived, world_of};
 
 use crate::link_set::LinkSet;
 use crate::news::{Change, News};
@@ -82,7 +83,7 @@ impl<L: Drop> LinkSet<L> {
     /// Puts a link in the place of a name, and gives the one that was there.
     pub(crate) fn replace(&mut self, name: LinkName, link: Option<L>) -> Option<L>
         ensures old { result ≡ link_in self.old name }
-        ensures new { (d : Option (List Dialled)) (h : Option (List ℕ)) →
+        ensures new { (d : Dialling L) (h : Option (List ℕ)) →
             Same (world_of self.new d h) (with_link name link (world_of self.old d h)) }
     {
         match name {
@@ -99,7 +100,7 @@ impl<L: Drop> LinkSet<L> {
     /// Takes the link that arrived.
     pub(crate) fn take_arrived(&mut self) -> Option<L>
         ensures old { result ≡ self.old.arrived }
-        ensures new { (d : Option (List Dialled)) (h : Option (List ℕ)) →
+        ensures new { (d : Dialling L) (h : Option (List ℕ)) →
             Same (world_of self.new d h) (without_arrived (world_of self.old d h)) }
     {
         self.arrived.take()
@@ -128,14 +129,14 @@ impl<L: Drop> LinkSet<L> {
 
     /// Whether the link of a name is there, and the node was told so.
     pub(crate) fn is_open(&self, name: LinkName) -> bool
-        ensures { (d : Option (List Dialled)) (h : Option (List ℕ)) → result ≡ is_open name (world_of self.now d h) }
+        ensures { (d : Dialling L) (h : Option (List ℕ)) → result ≡ is_open name (world_of self.now d h) }
     {
         self.is_there(name) && !self.is_opening(name)
     }
 
     /// A link was taken out.
     pub(crate) fn end(&mut self, link: L) -> Result<(), NoMemory>
-        ensures { OnOk result ((d : Option (List Dialled)) (h : Option (List ℕ)) →
+        ensures { OnOk result ((d : Dialling L) (h : Option (List ℕ)) →
             Same (world_of self.new d h) (with_over link (world_of self.old d h))) }
     {
         match self.over.push(link) {
@@ -146,7 +147,7 @@ impl<L: Drop> LinkSet<L> {
 
     /// Something is new of a link.
     pub(crate) fn note(&mut self, link: LinkName, change: Change) -> Result<(), NoMemory>
-        ensures { OnOk result ((d : Option (List Dialled)) (h : Option (List ℕ)) →
+        ensures { OnOk result ((d : Dialling L) (h : Option (List ℕ)) →
             Same (world_of self.new d h) (with_news link change (world_of self.old d h))) }
     {
         match self.waiting.push_back(News { link, change }) {
@@ -157,7 +158,7 @@ impl<L: Drop> LinkSet<L> {
 
     /// What is new of a link isn't told any more.
     pub(crate) fn forget(&mut self, name: LinkName)
-        ensures { (d : Option (List Dialled)) (h : Option (List ℕ)) →
+        ensures { (d : Dialling L) (h : Option (List ℕ)) →
             Same (world_of self.new d h) (forgets name (world_of self.old d h)) }
     {
         drop_of(name, &mut self.due);
@@ -166,7 +167,7 @@ impl<L: Drop> LinkSet<L> {
 
     /// A turn begins: what is new by now is told in it, and the links that were taken out before are dropped.
     pub(crate) fn begin_turn(&mut self, alloc: Global)
-        ensures { (d : Option (List Dialled)) (h : Option (List ℕ)) →
+        ensures { (d : Dialling L) (h : Option (List ℕ)) →
             Same (world_of self.new d h) (begun (world_of self.old d h)) }
     {
         self.over.clear();

@@ -1,13 +1,15 @@
 //! Carrying out what a node does.
-ghost use Rattle.std.specs.Prelude.{◌≡◌, ◌≢◌, ◌≤◌, Err, List, ℕ, OnOk, Option};
-ghost use Rattle.bsc_outside.specs.Faults.{HasRisen};
-ghost use Rattle.bsc_edge.specs.declared.dialled.Dialled.{Dialled};
+ghost use Rattle.std.specs.Prelude.{◌≡◌, ◌≢◌, ◌≤◌, Err, List, ℕ, OnErr, OnOk, Option};
+ghost use Rattle.bsc_outside.specs.Faults.{HasRisen, PutsPrefix};
+ghost use Rattle.bsc_node.specs.declared.action.Action.TheVariants.{Dial};
 ghost use Rattle.bsc_node_run.specs.declared.halt.Halt.{Halt as HaltType};
 ghost use Rattle.bsc_node_run.specs.Lines.{delivered_line, note_line};
 ghost use Rattle.bsc_node_run.specs.declared.news.Change.TheVariants.{Lost};
 ghost use Rattle.bsc_node_run.specs.Putting.{PutsOut};
-ghost use Rattle.bsc_node_run.specs.Performing.{Carries, Closes, Dials, Does, IsClosed, Puts, Refuses, Takes, Tells, Writes, is_end, kind_of};
-ghost use Rattle.bsc_node_run.specs.Worlds.{Same, link_in, with_news, with_over, world_of};
+ghost use Rattle.bsc_node_run.specs.Performing.{Carries, Closes, Dials, Does, IsClosed, Puts, Refuses, Takes, Tells};
+ghost use Rattle.bsc_node_run.specs.Performing.{Writes, is_end, kind_of};
+ghost use Rattle.bsc_node_run.specs.Stopping.{Breaks, DoesPart};
+ghost use Rattle.bsc_node_run.specs.Worlds.{Dialling, Same, dialling, link_in, with_news, with_over, world_of};
 ghost use Rattle.std.specs.Io.KnownBytes.{Appends};
 
 use crate::halt::Halt;
@@ -39,8 +41,12 @@ fn dial<L: Link + Drop, D: Dialer<L>>(
     name: LinkName,
     uri: &[u8],
 ) -> Result<(), NoMemory>
-    ensures { OnOk result ((h : Option (List ℕ)) →
-        Dials name uri.now (world_of set.old (D.calls dialer.old) h) (world_of set.new (D.calls dialer.new) h)) }
+    ensures dials { OnOk result ((h : Option (List ℕ)) →
+        Dials name uri.now (world_of set.old (dialling D.calls D.left D.faults dialer.old) h)
+        (world_of set.new (dialling D.calls D.left D.faults dialer.new) h)) }
+    ensures part { OnErr result ((h : Option (List ℕ)) →
+        DoesPart (Dial name uri.now) (world_of set.old (dialling D.calls D.left D.faults dialer.old) h)
+        (world_of set.new (dialling D.calls D.left D.faults dialer.new) h)) }
 {
     match dialer.dial(alloc, uri, kind_of(name)) {
         Ok(link) => {
@@ -54,7 +60,8 @@ fn dial<L: Link + Drop, D: Dialer<L>>(
 
 /// The link that arrived gets a name.
 fn take<L: Link + Drop>(set: &mut LinkSet<L>, name: LinkName)
-    ensures { (d : Option (List Dialled)) (h : Option (List ℕ)) → Takes name set.old.arrived (world_of set.old d h) (world_of set.new d h) }
+    ensures { (d : Dialling L) (h : Option (List ℕ)) →
+        Takes name set.old.arrived (world_of set.old d h) (world_of set.new d h) }
 {
     match set.take_arrived() {
         Some(link) => {
@@ -71,7 +78,7 @@ fn close_link<L: Link + Drop>(
     link: L,
     closing: Closing,
 ) -> Result<(), NoMemory>
-    ensures { OnOk result ((d : Option (List Dialled)) (h : Option (List ℕ)) →
+    ensures { OnOk result ((d : Dialling L) (h : Option (List ℕ)) →
         (m : L) × IsClosed L.talk closing link m × Same (world_of set.new d h) (with_over m (world_of set.old d h))) }
 {
     let mut link = link;
@@ -85,7 +92,7 @@ fn refuse<L: Link + Drop>(
     set: &mut LinkSet<L>,
     closing: Closing,
 ) -> Result<(), NoMemory>
-    ensures { OnOk result ((d : Option (List Dialled)) (h : Option (List ℕ)) →
+    ensures { OnOk result ((d : Dialling L) (h : Option (List ℕ)) →
         Refuses L.talk closing set.old.arrived (world_of set.old d h) (world_of set.new d h)) }
 {
     match set.take_arrived() {
@@ -96,7 +103,7 @@ fn refuse<L: Link + Drop>(
 
 /// A link that was taken out is lost.
 fn lose<L: Link + Drop>(set: &mut LinkSet<L>, name: LinkName, link: L) -> Result<(), NoMemory>
-    ensures { OnOk result ((d : Option (List Dialled)) (h : Option (List ℕ)) →
+    ensures { OnOk result ((d : Dialling L) (h : Option (List ℕ)) →
         Same (world_of set.new d h) (with_news name Lost (with_over link (world_of set.old d h)))) }
 {
     set.end(link)?;
@@ -111,7 +118,7 @@ fn put_on<L: Link + Drop>(
     link: L,
     octets: &[u8],
 ) -> Result<(), NoMemory>
-    ensures { OnOk result ((d : Option (List Dialled)) (h : Option (List ℕ)) →
+    ensures { OnOk result ((d : Dialling L) (h : Option (List ℕ)) →
         PutsOut L.talk name octets.now link (world_of set.old d h) (world_of set.new d h)) }
 {
     let mut link = link;
@@ -132,7 +139,7 @@ fn put<L: Link + Drop>(
     name: LinkName,
     octets: &[u8],
 ) -> Result<(), NoMemory>
-    ensures { OnOk result ((d : Option (List Dialled)) (h : Option (List ℕ)) →
+    ensures { OnOk result ((d : Dialling L) (h : Option (List ℕ)) →
         Puts L.talk name octets.now (link_in set.old name) (world_of set.old d h) (world_of set.new d h)) }
 {
     match set.replace(name, None) {
@@ -148,7 +155,7 @@ fn close<L: Link + Drop>(
     name: LinkName,
     closing: Closing,
 ) -> Result<(), NoMemory>
-    ensures { OnOk result ((d : Option (List Dialled)) (h : Option (List ℕ)) →
+    ensures { OnOk result ((d : Dialling L) (h : Option (List ℕ)) →
         Closes L.talk name closing (link_in set.old name) (world_of set.old d h) (world_of set.new d h)) }
 {
     set.forget(name);
@@ -161,6 +168,7 @@ fn close<L: Link + Drop>(
 /// Writes a text.
 fn write<K: Sink>(sink: &mut K, text: &[u8]) -> Result<(), Halt>
     ensures writes { OnOk result (Appends (K.held sink.old) (K.held sink.new) text.now) }
+    ensures part { OnErr result (PutsPrefix (K.held sink.old) (K.held sink.new) text.now) }
     ensures failed { result ≡ Err HaltType.WriteFault → HasRisen (K.faults sink.old) (K.faults sink.new) }
     ensures later { K.faults sink.old ≤ K.faults sink.new }
     ensures accepts { result ≢ Err HaltType.AcceptFault }
@@ -174,6 +182,7 @@ fn write<K: Sink>(sink: &mut K, text: &[u8]) -> Result<(), Halt>
 /// Writes what a node delivers.
 fn deliver<K: Sink>(alloc: Global, sink: &mut K, delivered: &Delivered) -> Result<(), Halt>
     ensures writes { OnOk result (Appends (K.held sink.old) (K.held sink.new) (delivered_line delivered.now)) }
+    ensures part { OnErr result (PutsPrefix (K.held sink.old) (K.held sink.new) (delivered_line delivered.now)) }
     ensures failed { result ≡ Err HaltType.WriteFault → HasRisen (K.faults sink.old) (K.faults sink.new) }
     ensures later { K.faults sink.old ≤ K.faults sink.new }
     ensures accepts { result ≢ Err HaltType.AcceptFault }
@@ -213,8 +222,9 @@ fn tell<K: Sink, L: Link + Drop>(
     sink: &mut K,
     note: &Note,
 ) -> Result<(), Halt>
-    ensures tells { OnOk result ((d : Option (List Dialled)) →
+    ensures tells { OnOk result ((d : Dialling L) →
         Tells L.talk note.now (world_of set.old d (K.held sink.old)) (world_of set.new d (K.held sink.new))) }
+    ensures part { OnErr result (PutsPrefix (K.held sink.old) (K.held sink.new) (note_line note.now)) }
     ensures failed { result ≡ Err HaltType.WriteFault → HasRisen (K.faults sink.old) (K.faults sink.new) }
     ensures later { K.faults sink.old ≤ K.faults sink.new }
     ensures accepts { result ≢ Err HaltType.AcceptFault }
@@ -233,8 +243,12 @@ fn carry_out<K: Sink, L: Link + Drop, D: Dialer<L>>(
     dialer: &mut D,
     action: &Action,
 ) -> Result<(), Halt>
-    ensures does { OnOk result (Does L.talk action.now (world_of set.old (D.calls dialer.old) (K.held sink.old))
-        (world_of set.new (D.calls dialer.new) (K.held sink.new))) }
+    ensures does { OnOk result (Does L.talk action.now
+        (world_of set.old (dialling D.calls D.left D.faults dialer.old) (K.held sink.old))
+        (world_of set.new (dialling D.calls D.left D.faults dialer.new) (K.held sink.new))) }
+    ensures part { OnErr result (DoesPart action.now
+        (world_of set.old (dialling D.calls D.left D.faults dialer.old) (K.held sink.old))
+        (world_of set.new (dialling D.calls D.left D.faults dialer.new) (K.held sink.new))) }
     ensures failed { result ≡ Err HaltType.WriteFault → HasRisen (K.faults sink.old) (K.faults sink.new) }
     ensures later { K.faults sink.old ≤ K.faults sink.new }
     ensures accepts { result ≢ Err HaltType.AcceptFault }
@@ -260,8 +274,14 @@ pub fn perform<K: Sink, L: Link + Drop, D: Dialer<L>>(
     sink: &mut K,
     dialer: &mut D,
 ) -> Result<(), Halt>
-    ensures carries { OnOk result (Carries L.talk actions.now (world_of set.old (D.calls dialer.old) (K.held sink.old))
-        (world_of set.new (D.calls dialer.new) (K.held sink.new))) }
+    ensures carries { OnOk result (Carries L.talk actions.now
+        (world_of set.old (dialling D.calls D.left D.faults dialer.old) (K.held sink.old))
+        (world_of set.new (dialling D.calls D.left D.faults dialer.new) (K.held sink.new))) }
+
+    // Where it ends by a fault, the first ones were carried out, and the next in part.
+    ensures breaks { OnErr result (Breaks L.talk actions.now
+        (world_of set.old (dialling D.calls D.left D.faults dialer.old) (K.held sink.old))
+        (world_of set.new (dialling D.calls D.left D.faults dialer.new) (K.held sink.new))) }
     ensures failed { result ≡ Err HaltType.WriteFault → HasRisen (K.faults sink.old) (K.faults sink.new) }
     ensures later { K.faults sink.old ≤ K.faults sink.new }
     ensures accepts { result ≢ Err HaltType.AcceptFault }

@@ -1,5 +1,6 @@
 //! Reading the script of a node.
-ghost use Rattle.std.specs.Prelude.{◌≡◌, ◌≢◌, ◌+◌, ◌<◌, ◌≤◌, ◌++◌, ◌∷◌, [], length, slice_index, map, MatchOption, true, false, Ok, Err, IfOk, OnOk, ℕ, List};
+ghost use Rattle.std.specs.Prelude.{◌≡◌, ◌≢◌, ◌+◌, ◌<◌, ◌≤◌, ◌++◌, ◌∷◌, [], length, slice_index, map, MatchOption};
+ghost use Rattle.std.specs.Prelude.{true, false, Ok, Err, IfOk, OnOk, ℕ, List};
 ghost use Rattle.std.specs.List.{concat};
 ghost use Rattle.bsc_text.specs.Lines.{is_too_big, line_in, pieces_of};
 ghost use Rattle.bsc_node_run.specs.declared.line.Line.{Line as LineType};
@@ -160,7 +161,8 @@ impl Reading {
         requires { before ≤ 1099511627776 }
         ensures taken { OnOk result ((pieces : List (List ℕ)) → before ≡ length (concat pieces) →
             Kept self.old.at self.old.ended (map wish_of self.old.lines.items) (lines_in pieces) →
-            (fits_behind pieces piece.now ≡ true) × Kept self.new.at self.new.ended (map wish_of self.new.lines.items) (lines_in (pieces ++ piece.now ∷ []))) }
+            (fits_behind pieces piece.now ≡ true)
+            × Kept self.new.at self.new.ended (map wish_of self.new.lines.items) (lines_in (pieces ++ piece.now ∷ []))) }
         ensures fits { OnOk result (before + length piece.now ≤ 1099511627776) }
         ensures refused { result ≡ Err IsRefused → (pieces : List (List ℕ)) → before ≡ length (concat pieces) →
             Kept self.old.at self.old.ended (map wish_of self.old.lines.items) (lines_in pieces) → fits_behind pieces piece.now ≡ false }

@@ -1,10 +1,12 @@
 //! A whole run of a node.
-ghost use Rattle.std.specs.Prelude.{◌≡◌, ◌≤◌, Err, IfOk};
+ghost use Rattle.std.specs.Prelude.{◌≡◌, ◌≤◌, Err, IfOk, OnErr};
 ghost use Rattle.bsc_outside.specs.Faults.{HasRisen};
 ghost use Rattle.bsc_edge.specs.Told.{Stays};
 ghost use Rattle.bsc_node_run.specs.declared.halt.Halt.{Halt as HaltType};
 ghost use Rattle.bsc_node_run.specs.Drawing.{GoesDrawing, at_rest};
 ghost use Rattle.bsc_node_run.specs.Running.{Run};
+ghost use Rattle.bsc_node_run.specs.Stopping.{RunFails};
+ghost use Rattle.bsc_node_run.specs.Worlds.{dialling};
 
 use crate::due::Due;
 use crate::halt::Halt;
@@ -32,8 +34,17 @@ pub fn run_node<N: Core, K: Sink, C: Clock, W: Words, L: Link + Drop, A: Accepto
     acceptor: &mut A,
     dialer: &mut D,
 ) -> Result<RunEnd, Halt>
-    ensures runs { IfOk result (λ end. Run (GoesDrawing N.goes W.gives W.faults) L.talk listens end turns script.now (at_rest node.old random.old) (D.calls dialer.old) (K.held sink.old) (A.left acceptor.old) (C.readings clock.old)
-        (at_rest node.new random.new) (D.calls dialer.new) (K.held sink.new) (A.left acceptor.new) (C.readings clock.new)) }
+    ensures runs { IfOk result (λ end. Run (GoesDrawing N.goes W.gives W.faults) L.talk listens end turns script.now
+        (at_rest node.old random.old) (dialling D.calls D.left D.faults dialer.old) (K.held sink.old)
+        (A.left acceptor.old) (C.readings clock.old)
+        (at_rest node.new random.new) (dialling D.calls D.left D.faults dialer.new) (K.held sink.new)
+        (A.left acceptor.new) (C.readings clock.new)) }
+
+    // Where it ends by a fault, what was done is as in a run up to there, and one action more in part.
+    ensures fails { OnErr result (RunFails (GoesDrawing N.goes W.gives W.faults) L.talk listens turns script.now
+        (at_rest node.old random.old) (dialling D.calls D.left D.faults dialer.old) (K.held sink.old)
+        (A.left acceptor.old) (C.readings clock.old)
+        (dialling D.calls D.left D.faults dialer.new) (K.held sink.new) (A.left acceptor.new) (C.readings clock.new)) }
     ensures write { result ≡ Err HaltType.WriteFault → HasRisen (K.faults sink.old) (K.faults sink.new) }
     ensures accept { result ≡ Err HaltType.AcceptFault → HasRisen (A.faults acceptor.old) (A.faults acceptor.new) }
     ensures writes_later { K.faults sink.old ≤ K.faults sink.new }

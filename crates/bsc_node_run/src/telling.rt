@@ -1,12 +1,14 @@
 //! Telling a node what came, and carrying out what it does.
-ghost use Rattle.std.specs.Prelude.{◌≡◌, ◌≢◌, ◌<◌, ◌≤◌, ◌^◌, true, Err, IfOk, OnOk, IsTrue};
+ghost use Rattle.std.specs.Prelude.{◌≡◌, ◌≢◌, ◌<◌, ◌≤◌, ◌^◌, true, Err, IfOk, OnErr, OnOk, IsTrue};
 ghost use Rattle.bsc_outside.specs.Faults.{HasRisen};
+ghost use Rattle.bsc_node.specs.declared.node_event.NodeEvent.{NodeEvent as NodeEventType};
 ghost use Rattle.bsc_node.specs.Conditions.{brings_word};
 ghost use Rattle.bsc_node_run.specs.declared.halt.Halt.{Halt as HaltType};
 ghost use Rattle.bsc_node_run.specs.Drawing.{Draws, GoesDrawing, at_rest};
 ghost use Rattle.bsc_node_run.specs.Turning.{Answers, Gives, draws};
 ghost use Rattle.bsc_node_run.specs.Performing.{Carries, is_draw};
-ghost use Rattle.bsc_node_run.specs.Worlds.{world_of};
+ghost use Rattle.bsc_node_run.specs.Stopping.{GiveStops, StopsAt};
+ghost use Rattle.bsc_node_run.specs.Worlds.{dialling, world_of};
 ghost use Rattle.bsc_node_run.specs.Requests.{has_octets};
 
 use crate::halt::Halt;
@@ -67,7 +69,12 @@ fn tell<N: Core, K: Sink, L: Link + Drop, D: Dialer<L>>(
     requires time { now < 2 ^ 62 }
     requires octets { has_octets event.now ≡ true }
     ensures goes { IfOk result (λ actions. N.goes node.old now event.now actions.items node.new) }
-    ensures carries { IfOk result (λ actions. Carries L.talk actions.items (world_of set.old (D.calls dialer.old) (K.held sink.old)) (world_of set.new (D.calls dialer.new) (K.held sink.new))) }
+    ensures carries { IfOk result (λ actions. Carries L.talk actions.items
+        (world_of set.old (dialling D.calls D.left D.faults dialer.old) (K.held sink.old))
+        (world_of set.new (dialling D.calls D.left D.faults dialer.new) (K.held sink.new))) }
+    ensures stops { OnErr result (StopsAt N.goes L.talk now event.now node.old
+        (world_of set.old (dialling D.calls D.left D.faults dialer.old) (K.held sink.old))
+        (world_of set.new (dialling D.calls D.left D.faults dialer.new) (K.held sink.new))) }
     ensures failed { result ≡ Err HaltType.WriteFault → HasRisen (K.faults sink.old) (K.faults sink.new) }
     ensures later { K.faults sink.old ≤ K.faults sink.new }
     ensures accepts { result ≢ Err HaltType.AcceptFault }
@@ -88,8 +95,14 @@ fn tell_word<N: Core, K: Sink, W: Words, L: Link + Drop, D: Dialer<L>>(
     now: u64,
 ) -> Result<(), Halt>
     requires { now < 2 ^ 62 }
-    ensures answers { OnOk result (Answers (GoesDrawing N.goes W.gives W.faults) L.talk now true (record { node = node.old; words = random.old; awaits = true })
-        (world_of set.old (D.calls dialer.old) (K.held sink.old)) (at_rest node.new random.new) (world_of set.new (D.calls dialer.new) (K.held sink.new))) }
+    ensures answers { OnOk result (Answers (GoesDrawing N.goes W.gives W.faults) L.talk now true
+        (record { node = node.old; words = random.old; awaits = true })
+        (world_of set.old (dialling D.calls D.left D.faults dialer.old) (K.held sink.old))
+        (at_rest node.new random.new) (world_of set.new (dialling D.calls D.left D.faults dialer.new) (K.held sink.new))) }
+    ensures stops { OnErr result ((word : NodeEventType) × IsTrue (brings_word word) × StopsAt (GoesDrawing N.goes W.gives W.faults) L.talk now word
+        (record { node = node.old; words = random.old; awaits = true })
+        (world_of set.old (dialling D.calls D.left D.faults dialer.old) (K.held sink.old))
+        (world_of set.new (dialling D.calls D.left D.faults dialer.new) (K.held sink.new))) }
     ensures failed { result ≡ Err HaltType.WriteFault → HasRisen (K.faults sink.old) (K.faults sink.new) }
     ensures later { K.faults sink.old ≤ K.faults sink.new }
     ensures accepts { result ≢ Err HaltType.AcceptFault }
@@ -114,8 +127,12 @@ pub(crate) fn give<N: Core, K: Sink, W: Words, L: Link + Drop, D: Dialer<L>>(
 ) -> Result<(), Halt>
     requires time { now < 2 ^ 62 }
     requires octets { has_octets event.now ≡ true }
-    ensures gives { OnOk result (Gives (GoesDrawing N.goes W.gives W.faults) L.talk now event.now (at_rest node.old random.old) (world_of set.old (D.calls dialer.old) (K.held sink.old))
-        (at_rest node.new random.new) (world_of set.new (D.calls dialer.new) (K.held sink.new))) }
+    ensures gives { OnOk result (Gives (GoesDrawing N.goes W.gives W.faults) L.talk now event.now
+        (at_rest node.old random.old) (world_of set.old (dialling D.calls D.left D.faults dialer.old) (K.held sink.old))
+        (at_rest node.new random.new) (world_of set.new (dialling D.calls D.left D.faults dialer.new) (K.held sink.new))) }
+    ensures stops { OnErr result (GiveStops (GoesDrawing N.goes W.gives W.faults) L.talk now event.now
+        (at_rest node.old random.old) (world_of set.old (dialling D.calls D.left D.faults dialer.old) (K.held sink.old))
+        (world_of set.new (dialling D.calls D.left D.faults dialer.new) (K.held sink.new))) }
     ensures failed { result ≡ Err HaltType.WriteFault → HasRisen (K.faults sink.old) (K.faults sink.new) }
     ensures later { K.faults sink.old ≤ K.faults sink.new }
     ensures accepts { result ≢ Err HaltType.AcceptFault }

@@ -1,7 +1,8 @@
 //! The lines that a node writes.
 ghost use Rattle.std.specs.Prelude.{◌≡◌, ◌++◌, IfOk, codes, decimal};
 ghost use Rattle.hex.specs.Hex.{encode_upper};
-ghost use Rattle.bsc_node_run.specs.Lines.{advert_line, behind_space, delivered_line, field, hub_line, line, line_of, nak_line, note_line, reach, uris_line, whose};
+ghost use Rattle.bsc_node_run.specs.Lines.{advert_line, behind_space, delivered_line, field, hub_line, line, line_of};
+ghost use Rattle.bsc_node_run.specs.Lines.{nak_line, note_line, reach, uris_line, whose};
 
 use bsc_connector::HubUse;
 use bsc_frame::Advert;

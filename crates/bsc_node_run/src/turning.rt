@@ -1,7 +1,7 @@
 //! One turn of a node.
-ghost use Rattle.std.specs.Prelude.{◌≡◌, ◌≢◌, ◌<◌, ◌≤◌, ◌^◌, ◌∷◌, ◌++◌, [], true, Err, IfSome, IfOk, OnOk, List, ℕ, Option, Some};
+ghost use Rattle.std.specs.Prelude.{◌≡◌, ◌≢◌, ◌<◌, ◌≤◌, ◌^◌, ◌∷◌, ◌++◌, [], true, Err, IfSome, IfOk, OnErr, OnOk};
+ghost use Rattle.std.specs.Prelude.{List, ℕ, Option, Some};
 ghost use Rattle.bsc_outside.specs.Faults.{HasRisen};
-ghost use Rattle.bsc_edge.specs.declared.dialled.Dialled.{Dialled};
 ghost use Rattle.bsc_edge.specs.Told.{Grows, Stays};
 ghost use Rattle.bsc_node.specs.declared.node_event.NodeEvent.TheVariants.{Lost as LostEvent};
 ghost use Rattle.bsc_node_run.specs.declared.due.Due.{Due as DueType};
@@ -10,8 +10,10 @@ ghost use Rattle.bsc_node_run.specs.declared.news.News.{News as NewsType};
 ghost use Rattle.bsc_node_run.specs.Drawing.{GoesDrawing, at_rest};
 ghost use Rattle.bsc_node_run.specs.Receiving.{Received};
 ghost use Rattle.bsc_node_run.specs.Requests.{has_octets};
-ghost use Rattle.bsc_node_run.specs.Turning.{Admits, AreDue, GivesLines, GivesNews, Hears, HearsEach, IsNotDue, Starts, Turn, event_of, names, passed_by, slots_from};
-ghost use Rattle.bsc_node_run.specs.Worlds.{Same, link_in, with_over, world_of};
+ghost use Rattle.bsc_node_run.specs.Stopping.{AdmitStops, EachStop, HearStops, LinesStop, NewsStop, StartStops, TurnStops};
+ghost use Rattle.bsc_node_run.specs.Turning.{Admits, AreDue, GivesLines, GivesNews, Hears, HearsEach, IsNotDue};
+ghost use Rattle.bsc_node_run.specs.Turning.{Starts, Turn, event_of, names, passed_by, slots_from};
+ghost use Rattle.bsc_node_run.specs.Worlds.{Dialling, Same, dialling, link_in, with_over, world_of};
 
 use crate::due::Due;
 use crate::halt::Halt;
@@ -56,8 +58,12 @@ fn give_news<N: Core, K: Sink, W: Words, L: Link + Drop, D: Dialer<L>>(
     now: u64,
 ) -> Result<(), Halt>
     requires { now < 2 ^ 62 }
-    ensures gives { OnOk result ((news : List NewsType) × GivesNews (GoesDrawing N.goes W.gives W.faults) L.talk now news (at_rest node.old random.old) (world_of set.old (D.calls dialer.old) (K.held sink.old))
-        (at_rest node.new random.new) (world_of set.new (D.calls dialer.new) (K.held sink.new))) }
+    ensures gives { OnOk result ((news : List NewsType) × GivesNews (GoesDrawing N.goes W.gives W.faults) L.talk now news
+        (at_rest node.old random.old) (world_of set.old (dialling D.calls D.left D.faults dialer.old) (K.held sink.old))
+        (at_rest node.new random.new) (world_of set.new (dialling D.calls D.left D.faults dialer.new) (K.held sink.new))) }
+    ensures stops { OnErr result ((news : List NewsType) × NewsStop (GoesDrawing N.goes W.gives W.faults) L.talk now news
+        (at_rest node.old random.old) (world_of set.old (dialling D.calls D.left D.faults dialer.old) (K.held sink.old))
+        (world_of set.new (dialling D.calls D.left D.faults dialer.new) (K.held sink.new))) }
     ensures failed { result ≡ Err HaltType.WriteFault → HasRisen (K.faults sink.old) (K.faults sink.new) }
     ensures later { K.faults sink.old ≤ K.faults sink.new }
     ensures accepts { result ≢ Err HaltType.AcceptFault }
@@ -81,9 +87,15 @@ fn give_due<'a, N: Core, K: Sink, W: Words, L: Link + Drop, D: Dialer<L>>(
     script: &'a [Due],
 ) -> Result<&'a [Due], Halt>
     requires { now < 2 ^ 62 }
-    ensures gives { IfOk result (λ rest. (lines : List DueType) × (script.now ≡ lines ++ rest.now) × AreDue passed lines × IsNotDue passed rest.now
-        × GivesLines (GoesDrawing N.goes W.gives W.faults) L.talk now lines (at_rest node.old random.old) (world_of set.old (D.calls dialer.old) (K.held sink.old))
-        (at_rest node.new random.new) (world_of set.new (D.calls dialer.new) (K.held sink.new))) }
+    ensures gives { IfOk result (λ rest. (lines : List DueType)
+        × (script.now ≡ lines ++ rest.now) × AreDue passed lines × IsNotDue passed rest.now
+        × GivesLines (GoesDrawing N.goes W.gives W.faults) L.talk now lines
+        (at_rest node.old random.old) (world_of set.old (dialling D.calls D.left D.faults dialer.old) (K.held sink.old))
+        (at_rest node.new random.new) (world_of set.new (dialling D.calls D.left D.faults dialer.new) (K.held sink.new))) }
+    ensures stops { OnErr result ((lines rest : List DueType) × (script.now ≡ lines ++ rest) × AreDue passed lines
+        × LinesStop (GoesDrawing N.goes W.gives W.faults) L.talk now lines
+        (at_rest node.old random.old) (world_of set.old (dialling D.calls D.left D.faults dialer.old) (K.held sink.old))
+        (world_of set.new (dialling D.calls D.left D.faults dialer.new) (K.held sink.new))) }
     ensures failed { result ≡ Err HaltType.WriteFault → HasRisen (K.faults sink.old) (K.faults sink.new) }
     ensures later { K.faults sink.old ≤ K.faults sink.new }
     ensures accepts { result ≢ Err HaltType.AcceptFault }
@@ -106,7 +118,7 @@ fn lose<L: Link + Drop>(
     link: L,
 ) -> Result<Option<NodeEvent>, NoMemory>
     ensures octets { IfOk result (λ e. IfSome e (λ event. has_octets event ≡ true)) }
-    ensures ended { IfOk result (λ e. (e ≡ Some (LostEvent name)) × ((d : Option (List Dialled)) (h : Option (List ℕ)) →
+    ensures ended { IfOk result (λ e. (e ≡ Some (LostEvent name)) × ((d : Dialling L) (h : Option (List ℕ)) →
         Same (world_of set.new d h) (with_over link (world_of set.old d h)))) }
 {
     set.end(link)?;
@@ -120,7 +132,7 @@ fn receive<L: Link + Drop>(
     name: LinkName,
 ) -> Result<Option<NodeEvent>, NoMemory>
     ensures octets { IfOk result (λ e. IfSome e (λ event. has_octets event ≡ true)) }
-    ensures received { IfOk result (λ e. (d : Option (List Dialled)) (h : Option (List ℕ)) →
+    ensures received { IfOk result (λ e. (d : Dialling L) (h : Option (List ℕ)) →
         Received L.talk name (link_in set.old name) e (world_of set.old d h) (world_of set.new d h)) }
 {
     let Some(link) = set.replace(name, None) else {
@@ -158,8 +170,12 @@ fn hear<N: Core, K: Sink, W: Words, L: Link + Drop, D: Dialer<L>>(
     name: LinkName,
 ) -> Result<(), Halt>
     requires { now < 2 ^ 62 }
-    ensures hears { OnOk result (Hears (GoesDrawing N.goes W.gives W.faults) L.talk now name (at_rest node.old random.old) (world_of set.old (D.calls dialer.old) (K.held sink.old))
-        (at_rest node.new random.new) (world_of set.new (D.calls dialer.new) (K.held sink.new))) }
+    ensures hears { OnOk result (Hears (GoesDrawing N.goes W.gives W.faults) L.talk now name
+        (at_rest node.old random.old) (world_of set.old (dialling D.calls D.left D.faults dialer.old) (K.held sink.old))
+        (at_rest node.new random.new) (world_of set.new (dialling D.calls D.left D.faults dialer.new) (K.held sink.new))) }
+    ensures stops { OnErr result (HearStops (GoesDrawing N.goes W.gives W.faults) L.talk now name
+        (at_rest node.old random.old) (world_of set.old (dialling D.calls D.left D.faults dialer.old) (K.held sink.old))
+        (world_of set.new (dialling D.calls D.left D.faults dialer.new) (K.held sink.new))) }
     ensures failed { result ≡ Err HaltType.WriteFault → HasRisen (K.faults sink.old) (K.faults sink.new) }
     ensures later { K.faults sink.old ≤ K.faults sink.new }
     ensures accepts { result ≢ Err HaltType.AcceptFault }
@@ -184,8 +200,12 @@ fn hear_slots<N: Core, K: Sink, W: Words, L: Link + Drop, D: Dialer<L>>(
     now: u64,
 ) -> Result<(), Halt>
     requires { now < 2 ^ 62 }
-    ensures hears { OnOk result (HearsEach (GoesDrawing N.goes W.gives W.faults) L.talk now (slots_from 64 0) (at_rest node.old random.old) (world_of set.old (D.calls dialer.old) (K.held sink.old))
-        (at_rest node.new random.new) (world_of set.new (D.calls dialer.new) (K.held sink.new))) }
+    ensures hears { OnOk result (HearsEach (GoesDrawing N.goes W.gives W.faults) L.talk now (slots_from 64 0)
+        (at_rest node.old random.old) (world_of set.old (dialling D.calls D.left D.faults dialer.old) (K.held sink.old))
+        (at_rest node.new random.new) (world_of set.new (dialling D.calls D.left D.faults dialer.new) (K.held sink.new))) }
+    ensures stops { OnErr result (EachStop (GoesDrawing N.goes W.gives W.faults) L.talk now (slots_from 64 0)
+        (at_rest node.old random.old) (world_of set.old (dialling D.calls D.left D.faults dialer.old) (K.held sink.old))
+        (world_of set.new (dialling D.calls D.left D.faults dialer.new) (K.held sink.new))) }
     ensures failed { result ≡ Err HaltType.WriteFault → HasRisen (K.faults sink.old) (K.faults sink.new) }
     ensures later { K.faults sink.old ≤ K.faults sink.new }
     ensures accepts { result ≢ Err HaltType.AcceptFault }
@@ -216,8 +236,12 @@ fn hear_all<N: Core, K: Sink, W: Words, L: Link + Drop, D: Dialer<L>>(
     now: u64,
 ) -> Result<(), Halt>
     requires { now < 2 ^ 62 }
-    ensures hears { OnOk result (HearsEach (GoesDrawing N.goes W.gives W.faults) L.talk now names (at_rest node.old random.old) (world_of set.old (D.calls dialer.old) (K.held sink.old))
-        (at_rest node.new random.new) (world_of set.new (D.calls dialer.new) (K.held sink.new))) }
+    ensures hears { OnOk result (HearsEach (GoesDrawing N.goes W.gives W.faults) L.talk now names
+        (at_rest node.old random.old) (world_of set.old (dialling D.calls D.left D.faults dialer.old) (K.held sink.old))
+        (at_rest node.new random.new) (world_of set.new (dialling D.calls D.left D.faults dialer.new) (K.held sink.new))) }
+    ensures stops { OnErr result (EachStop (GoesDrawing N.goes W.gives W.faults) L.talk now names
+        (at_rest node.old random.old) (world_of set.old (dialling D.calls D.left D.faults dialer.old) (K.held sink.old))
+        (world_of set.new (dialling D.calls D.left D.faults dialer.new) (K.held sink.new))) }
     ensures failed { result ≡ Err HaltType.WriteFault → HasRisen (K.faults sink.old) (K.faults sink.new) }
     ensures later { K.faults sink.old ≤ K.faults sink.new }
     ensures accepts { result ≢ Err HaltType.AcceptFault }
@@ -259,8 +283,15 @@ fn admit<N: Core, K: Sink, W: Words, L: Link + Drop, A: Acceptor<L>, D: Dialer<L
     listens: bool,
 ) -> Result<(), Halt>
     requires { now < 2 ^ 62 }
-    ensures admits { OnOk result (Admits (GoesDrawing N.goes W.gives W.faults) L.talk now listens (at_rest node.old random.old) (world_of set.old (D.calls dialer.old) (K.held sink.old)) (A.left acceptor.old)
-        (at_rest node.new random.new) (world_of set.new (D.calls dialer.new) (K.held sink.new)) (A.left acceptor.new)) }
+    ensures admits { OnOk result (Admits (GoesDrawing N.goes W.gives W.faults) L.talk now listens
+        (at_rest node.old random.old)
+        (world_of set.old (dialling D.calls D.left D.faults dialer.old) (K.held sink.old)) (A.left acceptor.old)
+        (at_rest node.new random.new)
+        (world_of set.new (dialling D.calls D.left D.faults dialer.new) (K.held sink.new)) (A.left acceptor.new)) }
+    ensures stops { OnErr result (AdmitStops (GoesDrawing N.goes W.gives W.faults) L.talk now listens
+        (at_rest node.old random.old)
+        (world_of set.old (dialling D.calls D.left D.faults dialer.old) (K.held sink.old)) (A.left acceptor.old)
+        (world_of set.new (dialling D.calls D.left D.faults dialer.new) (K.held sink.new)) (A.left acceptor.new)) }
     ensures failed { result ≡ Err HaltType.WriteFault → HasRisen (K.faults sink.old) (K.faults sink.new) }
     ensures later { K.faults sink.old ≤ K.faults sink.new }
     ensures accept { result ≡ Err HaltType.AcceptFault → HasRisen (A.faults acceptor.old) (A.faults acceptor.new) }
@@ -302,8 +333,12 @@ fn begin<N: Core, K: Sink, W: Words, L: Link + Drop, D: Dialer<L>>(
     start: Option<u64>,
 ) -> Result<(), Halt>
     requires { now < 2 ^ 62 }
-    ensures starts { OnOk result (Starts (GoesDrawing N.goes W.gives W.faults) L.talk now start (at_rest node.old random.old) (world_of set.old (D.calls dialer.old) (K.held sink.old))
-        (at_rest node.new random.new) (world_of set.new (D.calls dialer.new) (K.held sink.new))) }
+    ensures starts { OnOk result (Starts (GoesDrawing N.goes W.gives W.faults) L.talk now start
+        (at_rest node.old random.old) (world_of set.old (dialling D.calls D.left D.faults dialer.old) (K.held sink.old))
+        (at_rest node.new random.new) (world_of set.new (dialling D.calls D.left D.faults dialer.new) (K.held sink.new))) }
+    ensures stops { OnErr result (StartStops (GoesDrawing N.goes W.gives W.faults) L.talk now start
+        (at_rest node.old random.old) (world_of set.old (dialling D.calls D.left D.faults dialer.old) (K.held sink.old))
+        (world_of set.new (dialling D.calls D.left D.faults dialer.new) (K.held sink.new))) }
     ensures failed { result ≡ Err HaltType.WriteFault → HasRisen (K.faults sink.old) (K.faults sink.new) }
     ensures later { K.faults sink.old ≤ K.faults sink.new }
     ensures accepts { result ≢ Err HaltType.AcceptFault }
@@ -358,8 +393,18 @@ pub fn node_turn<
     acceptor: &mut A,
     dialer: &mut D,
 ) -> Result<(u64, &'a [Due]), Halt>
-    ensures turns { IfOk result (λ r. Turn (GoesDrawing N.goes W.gives W.faults) L.talk r.0 start script.now r.1.now listens (at_rest node.old random.old) (world_of set.old (D.calls dialer.old) (K.held sink.old)) (A.left acceptor.old)
-        (at_rest node.new random.new) (world_of set.new (D.calls dialer.new) (K.held sink.new)) (A.left acceptor.new)) }
+    ensures turns { IfOk result (λ r. Turn (GoesDrawing N.goes W.gives W.faults) L.talk r.0 start script.now r.1.now listens
+        (at_rest node.old random.old)
+        (world_of set.old (dialling D.calls D.left D.faults dialer.old) (K.held sink.old)) (A.left acceptor.old)
+        (at_rest node.new random.new)
+        (world_of set.new (dialling D.calls D.left D.faults dialer.new) (K.held sink.new)) (A.left acceptor.new)) }
+
+    // Where it ends by a fault, its parts went through in this order, up to the one in which it stopped.
+    ensures stops { OnErr result ((t : ℕ) × Grows (C.readings clock.old) (C.readings clock.new) (t ∷ []) × (t < 2 ^ 62)
+        × (C.newest clock.old ≤ t) × TurnStops (GoesDrawing N.goes W.gives W.faults) L.talk t start script.now listens
+        (at_rest node.old random.old)
+        (world_of set.old (dialling D.calls D.left D.faults dialer.old) (K.held sink.old)) (A.left acceptor.old)
+        (world_of set.new (dialling D.calls D.left D.faults dialer.new) (K.held sink.new)) (A.left acceptor.new)) }
     ensures reading { IfOk result (λ r. Grows (C.readings clock.old) (C.readings clock.new) (r.0 ∷ [])) }
     ensures below { IfOk result (λ r. r.0 < 2 ^ 62) }
 

@@ -26,7 +26,7 @@ use Rattle.bsc_node.proofs.Lasting.{LetsMessages, pass-sends}
 use Rattle.bsc_node_laws.proofs.There.{same_link-symmetric}
 use Rattle.bsc_node_run.specs.declared.news.Change.TheVariants.{DialFailed as DidntOpen}
 use Rattle.bsc_node_run.specs.declared.news.News.{News}
-use Rattle.bsc_node_run.specs.Worlds.{World, Same, without, forgets}
+use Rattle.bsc_node_run.specs.Worlds.{Dialling, World, Same, without, forgets}
 use Rattle.bsc_node_run.specs.Performing.{Takes, Refuses, Puts, Closes, Does, Carries, is_draw, after_dial}
 use Rattle.bsc_node_run.specs.Turning.{Answers, Gives, draws}
 use Rattle.bsc_node_runs.specs.Courses.{Goes}
@@ -114,7 +114,7 @@ pub record Stands {L : Type 0} (all : List Dialled) (n : Log) (w : World L) (s :
   pub arrived : w.arrived ≡ None
   pub due : w.due ≡ map failure s.failed
   pub waiting : w.waiting ≡ map failure s.dialled
-  pub calls : NoneComes all w.dialled
+  pub calls : NoneComes all w.dialled.calls
 
 module _ {L : Type 0} (talk : L → Option (List Said)) (all : List Dialled) where
   pub stays : (n m : Log) (w v : World L) (s : Alone) → m ≡ n → Same v w → Stands all n w s → Stands all m v s
@@ -124,13 +124,13 @@ module _ {L : Type 0} (talk : L → Option (List Said)) (all : List Dialled) whe
     arrived = same.arrived ∙ h.arrived;
     due = same.due ∙ h.due;
     waiting = same.waiting ∙ h.waiting;
-    calls = subst (NoneComes all) (sym same.dialled) h.calls;
+    calls = subst (λ (d : Dialling L). NoneComes all d.calls) (sym same.dialled) h.calls;
   }
 
   -- ---- actions
 
   -- A dial that gives no link: that it failed is new.
-  dials_none : (name : LinkName) (uri : List ℕ) (l : Option L) (n : Log) (w v : World L) (s : Alone) → (is_some l ≡ false) × NoneComes all v.dialled
+  dials_none : (name : LinkName) (uri : List ℕ) (l : Option L) (n : Log) (w v : World L) (s : Alone) → (is_some l ≡ false) × NoneComes all v.dialled.calls
       → Same v (record (after_dial name l w) { dialled = v.dialled }) → Stands all n w s → Stands all n v (after_action s (Dial name uri))
   dials_none name uri (Some l) n w v s (came, calls) same h = cc
   dials_none name uri None n w v s (came, calls) same h = record {
@@ -150,7 +150,7 @@ module _ {L : Type 0} (talk : L → Option (List Said)) (all : List Dialled) whe
     arrived = same.arrived ∙ h.arrived;
     due = same.due ∙ ap (without name) h.due ∙ without_failures name s.failed;
     waiting = same.waiting ∙ ap (without name) h.waiting ∙ without_failures name s.dialled;
-    calls = subst (NoneComes all) (sym same.dialled) h.calls;
+    calls = subst (λ (d : Dialling L). NoneComes all d.calls) (sym same.dialled) h.calls;
   }
 
   writes_stand : (n : Log) (w v : World L) (s : Alone) (held : Option (List ℕ)) (done : Bool) → Same v (record w { held = held; finished = done }) → Stands all n w s → Stands all n v s
@@ -160,12 +160,12 @@ module _ {L : Type 0} (talk : L → Option (List Said)) (all : List Dialled) whe
     arrived = same.arrived ∙ h.arrived;
     due = same.due ∙ h.due;
     waiting = same.waiting ∙ h.waiting;
-    calls = subst (NoneComes all) (sym same.dialled) h.calls;
+    calls = subst (λ (d : Dialling L). NoneComes all d.calls) (sym same.dialled) h.calls;
   }
 
   -- Of the other actions only what is written shows.
-  does_stands : (action : Action) (n : Log) (w v : World L) (s : Alone) → Does talk action w v → LeadsTo all v.dialled → Stands all n w s → Stands all n v (after_action s action)
-  does_stands (Dial name uri) n w v s (l, g, same) later h = dials_none name uri l n w v s (none_comes all w.dialled v.dialled _ h.calls g later) same h
+  does_stands : (action : Action) (n : Log) (w v : World L) (s : Alone) → Does talk action w v → LeadsTo all v.dialled.calls → Stands all n w s → Stands all n v (after_action s action)
+  does_stands (Dial name uri) n w v s (l, g, answered, same) later h = dials_none name uri l n w v s (none_comes all w.dialled.calls v.dialled.calls _ h.calls g later) same h
   does_stands (Take name) n w v s d later h = stays n n w v s refl (subst (λ (o : Option L). Takes name o w v) h.arrived d) h
   does_stands (Refuse c) n w v s d later h = stays n n w v s refl (subst (λ (o : Option L). Refuses talk c o w v) h.arrived d) h
   does_stands (Put name o) n w v s d later h = stays n n w v s refl (subst (λ (l : Option L). Puts talk name o l w v) (h.link name) d) h
@@ -174,7 +174,7 @@ module _ {L : Type 0} (talk : L → Option (List Said)) (all : List Dialled) whe
   does_stands (Tell note) n w v s (g, same) later h = writes_stand n w v s v.held _ same h
   does_stands Draw n w v s same later h = stays n n w v s refl same h
 
-  carries_stands : (actions : List Action) (n : Log) (w v : World L) (s : Alone) → Carries talk actions w v → LeadsTo all v.dialled → Stands all n w s → Stands all n v (fold after_action s actions)
+  carries_stands : (actions : List Action) (n : Log) (w v : World L) (s : Alone) → Carries talk actions w v → LeadsTo all v.dialled.calls → Stands all n w s → Stands all n v (fold after_action s actions)
   carries_stands [] n w v s same later h = stays n n w v s refl same h
   carries_stands (action ∷ actions) n w v s (x, d, c) later h =
       carries_stands actions n x v (after_action s action) c later (does_stands action n w x s d (carries_back talk all actions x v c later) h)
@@ -186,7 +186,7 @@ module _ {L : Type 0} (talk : L → Option (List Said)) (all : List Dialled) whe
   answers_none false a now n m w v e g = g
 
   -- The node is told what brings no message.
-  pub gives_stands : (a : Made) (now : ℕ) (e : NodeEvent) (n m : Log) (w v : World L) (s : Alone) → is_came e ≡ false → Gives (Goes a) talk now e n w m v → LeadsTo all v.dialled
+  pub gives_stands : (a : Made) (now : ℕ) (e : NodeEvent) (n m : Log) (w v : World L) (s : Alone) → is_came e ≡ false → Gives (Goes a) talk now e n w m v → LeadsTo all v.dialled.calls
       → Stands all n w s → Stands all m v (told a now s e)
   gives_stands a now e n m w v s quiet (actions, p, x, (may, is, on), c, answers) later h =
       let at : TimedEvent = record { now = now; event = e } in
@@ -202,4 +202,4 @@ module _ {L : Type 0} (talk : L → Option (List Said)) (all : List Dialled) whe
       } in
       stays p m x v (told a now s e) last.0 last.1
       (carries_stands (actions_at a s.log at) p w x (record s { log = s.log ++ goes_on a at s.log }) (subst (λ (done : List Action). Carries talk done w x) acts c)
-      (subst (LeadsTo all) last.1.dialled later) reached)
+      (subst (λ (d : Dialling L). LeadsTo all d.calls) last.1.dialled later) reached)

@@ -17,7 +17,7 @@ use Rattle.bsc_node.specs.declared.action.Action.{Action}
 use Rattle.bsc_node.specs.declared.action.Action.TheVariants.{Dial, Take, Refuse, Put, Close, Deliver, Tell, Draw}
 use Rattle.bsc_node_run.specs.declared.due.Due.{Due}
 use Rattle.bsc_node_run.specs.declared.news.News.{News}
-use Rattle.bsc_node_run.specs.Worlds.{World, is_open, with_link, ends}
+use Rattle.bsc_node_run.specs.Worlds.{Dialling, World, is_open, with_link, ends}
 use Rattle.bsc_node_run.specs.Performing.{Takes, Refuses, Puts, Closes, Does, Carries}
 use Rattle.bsc_node_run.specs.Turning.{Answers, Gives, GivesNews, GivesLines, GivesIn, HearsOf, HearsIf, HearsEach, Admits, Starts, Turn, draws, event_of, names as all_names}
 use Rattle.bsc_node_run.specs.Running.{Turns}
@@ -37,10 +37,10 @@ StillLeft {L} links o = (left : List L) × (o ≡ Some left) × (length links �
 
 module _ {L : Type 0} (talk : L → Option (List Said)) (all : List Dialled) where
   abbrev Later : World L → Type 0
-  Later w = LeadsTo all w.dialled
+  Later w = LeadsTo all w.dialled.calls
 
   as_before : (v w : World L) → v.dialled ≡ w.dialled → Later v → Later w
-  as_before v w e h = subst (LeadsTo all) e h
+  as_before v w e h = subst (λ (d : Dialling L). LeadsTo all d.calls) e h
 
   -- ---- actions
 
@@ -62,7 +62,7 @@ module _ {L : Type 0} (talk : L → Option (List Said)) (all : List Dialled) whe
   closes_back name c (Some l) w v (m, k, s) h = as_before v w s.dialled h
 
   does_back : (action : Action) (w v : World L) → Does talk action w v → Later v → Later w
-  does_back (Dial name uri) w v (l, g, s) h = leads_back all w.dialled v.dialled _ g h
+  does_back (Dial name uri) w v (l, g, came, s) h = leads_back all w.dialled.calls v.dialled.calls _ g h
   does_back (Take name) w v d h = takes_back name w.arrived w v d h
   does_back (Refuse c) w v d h = refuses_back c w.arrived w v d h
   does_back (Put name o) w v d h = puts_back name o (w.link name) w v d h
@@ -77,7 +77,7 @@ module _ {L : Type 0} (talk : L → Option (List Said)) (all : List Dialled) whe
 
 module _ {N L : Type 0} (goes : N → ℕ → NodeEvent → List Action → N → Type 0) (talk : L → Option (List Said)) (all : List Dialled) (now : ℕ) where
   abbrev Later_on : World L → Type 0
-  Later_on w = LeadsTo all w.dialled
+  Later_on w = LeadsTo all w.dialled.calls
 
   -- ---- one event
 
@@ -162,7 +162,7 @@ module _ {N L : Type 0} (goes : N → ℕ → NodeEvent → List Action → N �
   -- ---- turns
 
   pub turns_back : (all : List Dialled) (listens : Bool) (times : List ℕ) (start : Option ℕ) (script : List Due) (n m : N) (w v : World L) (left left' : Option (List L))
-      → Turns goes talk listens times start script n w left m v left' → LeadsTo all v.dialled → LeadsTo all w.dialled
+      → Turns goes talk listens times start script n w left m v left' → LeadsTo all v.dialled.calls → LeadsTo all w.dialled.calls
   turns_back all listens [] start script n m w v left left' (e, s, k) h = as_before talk all v w s.dialled h
   turns_back all listens (now ∷ times) start script n m w v left left' (rest, p, x, mid, going, t, k) h =
       turn_back goes talk all now start script rest listens n p w x left mid t (turns_back all listens times (Some (unwrap_or start now)) rest p m x v mid left' k h)

@@ -23,7 +23,7 @@ use Rattle.bsc_node.proofs.Following.{is_came, and_left, and_right}
 use Rattle.bsc_node_run.specs.declared.due.Due.{Due}
 use Rattle.bsc_node_run.specs.declared.news.News.{News}
 use Rattle.bsc_node_run.specs.Requests.{is_asked}
-use Rattle.bsc_node_run.specs.Worlds.{World, Same, is_of, is_open, begun}
+use Rattle.bsc_node_run.specs.Worlds.{Dialling, World, Same, is_of, is_open, begun}
 use Rattle.bsc_node_run.specs.Turning.{Gives, GivesNews, GivesLines, HearsIf, HearsEach, Admits, Starts, Turn, AreDue, IsNotDue, event_of, names as all_names, passed_by}
 use Rattle.bsc_node_runs.specs.Courses.{Goes}
 use Rattle.bsc_node_runs.specs.Alone.{Alone, after_action, told, told_oldest, told_failed, turn, due_by, not_due_by}
@@ -103,7 +103,7 @@ module _ {L : Type 0} (a : Made) (talk : L → Option (List Said)) (all : List D
 
   -- What is new first is that the oldest of those dials failed.
   oldest_stands : (one : News) (rest : List News) (n p : Log) (w x : World L) (s : Alone) → w.due ≡ one ∷ rest → Gives (Goes a) talk now (event_of one) n (record w { due = rest }) p x
-      → LeadsTo all x.dialled → Stands all n w s → Stands all p x (told_oldest a now s)
+      → LeadsTo all x.dialled.calls → Stands all n w s → Stands all p x (told_oldest a now s)
   oldest_stands one rest n p w x s due g later h = by s.failed refl
     where
       by : (names : List LinkName) → s.failed ≡ names → Stands all p x (told_oldest a now s)
@@ -118,7 +118,7 @@ module _ {L : Type 0} (a : Made) (talk : L → Option (List Said)) (all : List D
           (record { log = h.log; link = h.link; arrived = h.arrived; due = others; waiting = h.waiting; calls = h.calls }))
 
   -- All that is new is that those dials failed.
-  news_stands : (news : List News) (k : ℕ) (n m : Log) (w v : World L) (s : Alone) → length s.failed ≤ k → GivesNews (Goes a) talk now news n w m v → LeadsTo all v.dialled
+  news_stands : (news : List News) (k : ℕ) (n m : Log) (w v : World L) (s : Alone) → length s.failed ≤ k → GivesNews (Goes a) talk now news n w m v → LeadsTo all v.dialled.calls
       → Stands all n w s → Stands all m v (told_failed a now k s)
   news_stands [] k n m w v s few (none, e, same) later h =
       subst (λ (t : Alone). Stands all m v t) (sym (none_told a now k s (no_news s.failed (sym h.due ∙ none)))) (stays talk all n m w v s e same h)
@@ -136,7 +136,7 @@ module _ {L : Type 0} (a : Made) (talk : L → Option (List Said)) (all : List D
   asked_quiet e h = refl
 
   lines_stand : (lines : List Due) (n m : Log) (w v : World L) (s : Alone) → all_asked lines ≡ true → GivesLines (Goes a) talk now lines n w m v
-      → LeadsTo all v.dialled → Stands all n w s → Stands all m v (fold (told a now) s (map (λ (d : Due). d.event) lines))
+      → LeadsTo all v.dialled.calls → Stands all n w s → Stands all m v (fold (told a now) s (map (λ (d : Due). d.event) lines))
   lines_stand [] n m w v s asked (e, same) later h = stays talk all n m w v s e same h
   lines_stand (d ∷ lines) n m w v s asked (p, x, g, k) later h =
       lines_stand lines p m x v (told a now s d.event) (and_right (is_asked d.event) (all_asked lines) asked) k later
@@ -187,7 +187,7 @@ module _ {L : Type 0} (a : Made) (talk : L → Option (List Said)) (all : List D
     arrived = same.arrived ∙ h.arrived;
     due = same.due ∙ h.waiting;
     waiting = same.waiting;
-    calls = subst (NoneComes all) (sym same.dialled) h.calls;
+    calls = subst (λ (d : Dialling L). NoneComes all d.calls) (sym same.dialled) h.calls;
   }
 
   -- After a turn it is the node alone, at the same time and with the same lines.
@@ -198,7 +198,7 @@ module _ {L : Type 0} (a : Made) (talk : L → Option (List Said)) (all : List D
     pub asked : all_asked rest ≡ true
 
   -- The node starts, in the first turn, and time has passed.
-  ticks_stand : (start : Option ℕ) (n n1 m : Log) (w w1 v : World L) (s : Alone) → Starts (Goes a) talk now start n w n1 w1 → Gives (Goes a) talk now Tick n1 w1 m v → LeadsTo all v.dialled
+  ticks_stand : (start : Option ℕ) (n n1 m : Log) (w w1 v : World L) (s : Alone) → Starts (Goes a) talk now start n w n1 w1 → Gives (Goes a) talk now Tick n1 w1 m v → LeadsTo all v.dialled.calls
       → Stands all n w s → Stands all m v (fold (told a now) s (first_events start))
   ticks_stand None n n1 m w w1 v s g t later h =
       gives_stands talk all a now Tick n1 m w1 v (told a now s Start) refl t later
@@ -206,7 +206,7 @@ module _ {L : Type 0} (a : Made) (talk : L → Option (List Said)) (all : List D
   ticks_stand (Some start) n n1 m w w1 v s (e, same) t later h = gives_stands talk all a now Tick n1 m w1 v s refl t later (stays talk all n n1 w w1 s e same h)
 
   pub turn_stands : (start : Option ℕ) (script rest : List Due) (listens : Bool) (n m : Log) (w v : World L) (left left' : Option (List L)) (links : List L) (s : Alone)
-      → all_asked script ≡ true → Turn (Goes a) talk now start script rest listens n w left m v left' → LeadsTo all v.dialled
+      → all_asked script ≡ true → Turn (Goes a) talk now start script rest listens n w left m v left' → LeadsTo all v.dialled.calls
       → left ≡ Some links → StillLeft links left' → Stands all n w s → Turned start script rest links m v left' s
   turn_stands start script rest listens n m w v left left' links s asked t later is still h =
       let before5 = admits_back (Goes a) talk all now listens t.n5 m t.w5 v left left' t.admits later in

@@ -204,7 +204,7 @@ module _ {L : Type 0} (talk : L → Option (List Said)) where
 
   -- An action that may stand in the log keeps all links in agreement.
   pub does_keeps : (action : Action) (w v : World L) (M : Log) → MayStand M (did action) → Does talk action w v → Agrees w M → Agrees v (M ++ did action ∷ [])
-  does_keeps (Dial name uri) w v M may d A = dial_keeps name uri w v M may.0 (dial_named name uri may.1) d.0 d.2 A
+  does_keeps (Dial name uri) w v M may d A = dial_keeps name uri w v M may.0 (dial_named name uri may.1) d.0 d.3 A
   does_keeps (Take name) w v M may d A = absurd may
   does_keeps (Refuse c) w v M may d A = agrees-alike v w (M ++ did (Refuse c) ∷ []) (refuses_alike c w.arrived w v d) (agrees-did (Refuse c) w M (λ name. refl) (λ name. refl) A)
   does_keeps (Put name o) w v M may d A = puts_keeps name o w v M (w.link name) refl d A
@@ -262,7 +262,7 @@ module _ {L : Type 0} (talk : L → Option (List Said)) where
   closes_due name c (Some l) w v (m, g, s) = s.due
 
   does_due : (action : Action) (w v : World L) → Does talk action w v → w.due ≡ [] → v.due ≡ []
-  does_due (Dial name uri) w v d h = dials_due name d.0 w v d.2 ∙ h
+  does_due (Dial name uri) w v d h = dials_due name d.0 w v d.3 ∙ h
   does_due (Take name) w v d h = takes_due name w.arrived w v d ∙ h
   does_due (Refuse c) w v d h = (refuses_alike c w.arrived w v d).due ∙ h
   does_due (Put name o) w v d h = puts_due name o (w.link name) w v d ∙ h

@@ -3,9 +3,13 @@ pub mod Same
 pub mod Carrying
 pub mod News
 pub mod Coming
+pub mod Beside
+pub mod Mapping
 pub mod Lifting
 pub mod Turning
 pub mod Courses
+pub mod Stopping
+pub mod StopsMapping
 pub mod Saying
 pub mod AloneBack
 pub mod AloneActing

@@ -23,8 +23,8 @@ use Rattle.bsc_node_run.specs.Performing.{Carries}
 use Rattle.bsc_node_run.specs.Turning.{Answers, Gives, GivesIn}
 use Rattle.bsc_node_run.specs.Turning as Turning
 use Rattle.bsc_node_run.specs.Worlds.{World, Same}
-use Rattle.bsc_node_runs.specs.Courses.{Goes}
 use Rattle.bsc_node_runs.proofs.Agreeing.{Agrees}
+use Rattle.bsc_node_runs.proofs.Beside.{Both, beside, beside_same}
 use Rattle.bsc_node_runs.proofs.Same.{agrees-same}
 use Rattle.bsc_node_runs.proofs.Carrying.{carries_due}
 use Rattle.bsc_node_runs.proofs.News.{event_keeps}
@@ -62,11 +62,6 @@ pub no_word : (b w : Bool) → b ≡ false → w ≡ false → (if b then w else
 no_word false false p q = refl
 no_word false true p q = cc
 no_word true w p q = cc
-
-the_word : (b w : Bool) → b ≡ true → w ≡ true → (if b then w else not w) ≡ true
-the_word true true p q = refl
-the_word true false p q = cc
-the_word false w p q = cc
 
 -- An event may come at a time, where that isn't before the log's.
 pub may_at : (M : Log) (t : ℕ) (e : NodeEvent) → t < 2 ^ 62 → now M ≤ t
@@ -126,7 +121,7 @@ module _ {N L : Type 0} (goes : N → ℕ → NodeEvent → List Action → N �
 
   -- ---- one event
 
-  after : (n p : N) (w x : World L) (M : Log) (e : NodeEvent) (actions : List Action) → Given n w M e → goes n t e actions p → Carries talk actions w x
+  pub after : (n p : N) (w x : World L) (M : Log) (e : NodeEvent) (actions : List Action) → Given n w M e → goes n t e actions p → Carries talk actions w x
       → (actions ≡ actions_at a M (at t e)) × After p x (M ++ goes_on a (at t e) M)
   after n p w x M e actions r g c = (
     s.0,
@@ -170,7 +165,7 @@ module _ {N L : Type 0} (goes : N → ℕ → NodeEvent → List Action → N �
 
   -- ---- the word that it draws
 
-  ready_word : (n : N) (w : World L) (M : Log) (e : NodeEvent) → After n w M → awaits_word M ≡ true → IsTrue (brings_word e) → Given n w M e
+  pub ready_word : (n : N) (w : World L) (M : Log) (e : NodeEvent) → After n w M → awaits_word M ≡ true → IsTrue (brings_word e) → Given n w M e
   ready_word n w M (Random word) s h b =
       ready_plain n w w M (Random word) s (may_at M t (Random word) below s.time h refl) refl (event_keeps w M (at t (Random word)) (λ name. refl) s.agrees) (λ no. cc)
   ready_word n w M NoRandom s h b =
@@ -179,10 +174,10 @@ module _ {N L : Type 0} (goes : N → ℕ → NodeEvent → List Action → N �
 
   -- A word that was drawn comes next, and then none is awaited.
   answered : (b : Bool) (n m : N) (w v : World L) (M : Log) → After n w M → awaits_word M ≡ b → Answers goes talk t b n w m v
-      → (K : Log) × Answers (Goes a) talk t b M w K v × Held m v K
-  answered false n m w v M s h (is, same) = (M, (refl, same), (stood_same a Stands t P n m w v M is same s, h))
+      → (K : Log) × Answers (Both goes a) talk t b (beside n M) w (beside m K) v × Held m v K
+  answered false n m w v M s h (is, same) = (M, (beside_same n m M is, same), (stood_same a Stands t P n m w v M is same s, h))
   answered true n m w v M s h (word, actions, b, g, c) =
-      (M ++ goes_on a (at t word) M, (word, actions, b, (r.may, k.0, refl), c), (k.1, word_settles a M (at t word) r.may b))
+      (M ++ goes_on a (at t word) M, (word, actions, b, (g, (r.may, k.0, refl)), c), (k.1, word_settles a M (at t word) r.may b))
     where
       r : Given n w M word
       r = ready_word n w M word s h b
@@ -194,19 +189,19 @@ module _ {N L : Type 0} (goes : N → ℕ → NodeEvent → List Action → N �
 
   -- An event that is ready is given, and what it draws.
   pub gives : (n m : N) (w v : World L) (M : Log) (e : NodeEvent) → Given n w M e → Gives goes talk t e n w m v
-      → (K : Log) × Gives (Goes a) talk t e M w K v × Held m v K
+      → (K : Log) × Gives (Both goes a) talk t e (beside n M) w (beside m K) v × Held m v K
   gives n m w v M e r (actions, p, x, g, c, h) =
-      (q.0, (actions, M ++ goes_on a (at t e) M, x, (r.may, k.0, refl), c, q.1), q.2)
+      (q.0, (actions, beside p (M ++ goes_on a (at t e) M), x, (g, (r.may, k.0, refl)), c, q.1), q.2)
     where
       k : (actions ≡ actions_at a M (at t e)) × After p x (M ++ goes_on a (at t e) M)
       k = after n p w x M e actions r g c
 
-      q : (K : Log) × Answers (Goes a) talk t (Turning.draws actions) (M ++ goes_on a (at t e) M) x K v × Held m v K
+      q : (K : Log) × Answers (Both goes a) talk t (Turning.draws actions) (beside p (M ++ goes_on a (at t e) M)) x (beside m K) v × Held m v K
       q = answered (Turning.draws actions) p m x v (M ++ goes_on a (at t e) M) k.1 (draws_at a M (at t e) r.may ∙ sym (ap (list_any draws) k.0) ∙ draws-same actions) h
 
   -- In a world like this one.
   pub gives_in : (n m : N) (w v : World L) (M : Log) (e : NodeEvent) → ((x : World L) → Same x w → Given n x M e) → GivesIn goes talk t e n w m v
-      → (K : Log) × GivesIn (Goes a) talk t e M w K v × Held m v K
+      → (K : Log) × GivesIn (Both goes a) talk t e (beside n M) w (beside m K) v × Held m v K
   gives_in n m w v M e r (x, same, g) = let q = gives n m x v M e (r x same) g in (q.0, (x, same, q.1), q.2)
 
 module _ {N L : Type 0} (goes : N → ℕ → NodeEvent → List Action → N → Type 0) (talk : L → Option (List Said)) (t : ℕ) where

@@ -1,5 +1,5 @@
 -- The log of a node to which no link comes, over a whole run.
-use Rattle.std.proofs.Common.{◌≡◌, ◌-◌, ℕ, Bool, true, List, [], ◌∷◌, ◌++◌, Option, Some, None, refl, sym, ◌∙◌, subst, append-nil, arith}
+use Rattle.std.proofs.Common.{◌≡◌, ◌-◌, ℕ, Bool, true, List, [], ◌∷◌, ◌++◌, Option, Some, None, refl, ap, sym, ◌∙◌, subst, append-nil, arith}
 use Rattle.std.specs.List.{list_all}
 use Rattle.bsc_edge.specs.declared.dialled.Dialled.{Dialled}
 use Rattle.bsc_edge.specs.declared.said.Said.{Said}
@@ -8,7 +8,7 @@ use Rattle.bsc_node.specs.Logs.{Made, Log}
 use Rattle.bsc_node_run.specs.declared.due.Due.{Due}
 use Rattle.bsc_node_run.specs.declared.run_end.RunEnd.{RunEnd}
 use Rattle.bsc_node_run.specs.Requests.{is_asked}
-use Rattle.bsc_node_run.specs.Worlds.{World}
+use Rattle.bsc_node_run.specs.Worlds.{Dialling, World}
 use Rattle.bsc_node_run.specs.Running.{Turns, Run}
 use Rattle.bsc_node_runs.specs.Courses.{Goes}
 use Rattle.bsc_node_runs.specs.Alone.{Alone, turn, turns_from, due_by, not_due_by, alone, NoLinkCame}
@@ -19,7 +19,7 @@ use Rattle.bsc_node_runs.proofs.AloneTurning.{all_asked, first_events, turn_stan
 module _ {L : Type 0} (a : Made) (talk : L → Option (List Said)) (all : List Dialled) (links : List L) (listens : Bool) where
   -- Turns after the first, which was at this time.
   turns_stand : (start : ℕ) (times : List ℕ) (script : List Due) (n m : Log) (w v : World L) (left left' : Option (List L)) (s : Alone)
-      → all_asked script ≡ true → Turns (Goes a) talk listens times (Some start) script n w left m v left' → LeadsTo all v.dialled
+      → all_asked script ≡ true → Turns (Goes a) talk listens times (Some start) script n w left m v left' → LeadsTo all v.dialled.calls
       → left ≡ Some links → StillLeft links left' → Stands all n w s → Stands all m v (turns_from a start script times s)
   turns_stand start [] script n m w v left left' s asked (e, same, k) later is still h = stays talk all n m w v s e same h
   turns_stand start (now ∷ times) script n m w v left left' s asked (rest, p, x, mid, going, t, k) later is still h =
@@ -35,7 +35,7 @@ module _ {L : Type 0} (a : Made) (talk : L → Option (List Said)) (all : List D
 
   -- All turns.
   run_stands : (times : List ℕ) (script : List Due) (m : Log) (w v : World L) (left left' : Option (List L)) → all_asked script ≡ true
-      → Turns (Goes a) talk listens times None script [] w left m v left' → LeadsTo all v.dialled → left ≡ Some links → StillLeft links left'
+      → Turns (Goes a) talk listens times None script [] w left m v left' → LeadsTo all v.dialled.calls → left ≡ Some links → StillLeft links left'
       → Stands all [] w (record { log = []; failed = []; dialled = [] }) → m ≡ alone a script times
   run_stands [] script m w v left left' asked (e, same, k) later is still h = e
   run_stands (now ∷ times) script m w v left left' asked (rest, p, x, mid, going, t, k) later is still h =
@@ -51,20 +51,20 @@ module _ {L : Type 0} (a : Made) (talk : L → Option (List Said)) (all : List D
 -- The log of a node to which no link comes is the one that is worked out from the readings of the clock and its script alone.
 pub lonely : {L : Type 0} (a : Made) (talk : L → Option (List Said)) (listens : Bool) (end : RunEnd) (turns : ℕ) (script : List Due)
     → list_all (λ (d : Due). is_asked d.event) script ≡ true
-    → (c c' : Option (List Dialled)) (b b' : Option (List ℕ)) (l l' : Option (List L)) (t t' : Option (List ℕ)) (M : Log)
-    → Run (Goes a) talk listens end turns script [] c b l t M c' b' l' t' → NoLinkCame c c' l l' → (times : List ℕ) × Grows t t' times × (M ≡ alone a script times)
-lonely a talk listens end turns script asked c c' b b' l l' t t' M r none =
+    → (c c' : Dialling L) (b b' : Option (List ℕ)) (l l' : Option (List L)) (t t' : Option (List ℕ)) (M : Log)
+    → Run (Goes a) talk listens end turns script [] c b l t M c' b' l' t' → NoLinkCame c.calls c'.calls l l' → (times : List ℕ) × Grows t t' times × (M ≡ alone a script times)
+lonely {L = L} a talk listens end turns script asked c c' b b' l l' t t' M r none =
     let all : List Dialled = none.before ++ none.calls in (
       r.times,
       r.readings,
       run_stands a talk all none.links listens r.times script M r.first r.last l l' asked r.went
-          (subst (LeadsTo all) (sym (r.dials ∙ none.tells)) ([], sym (append-nil all))) none.arrived (none.links, none.stays, omega arith)
+          (subst (LeadsTo all) (sym (ap (λ (d : Dialling L). d.calls) r.dials ∙ none.tells)) ([], sym (append-nil all))) none.arrived (none.links, none.stays, omega arith)
           (record {
             log = refl;
             link = r.empty.link;
             arrived = r.empty.arrived;
             due = r.empty.due;
             waiting = r.empty.waiting;
-            calls = subst (NoneComes all) (sym (r.empty.dialled ∙ none.told)) (none.calls, refl, none.none);
+            calls = subst (NoneComes all) (sym (ap (λ (d : Dialling L). d.calls) r.empty.dialled ∙ none.told)) (none.calls, refl, none.none);
           }),
     )

@@ -2,7 +2,6 @@
 use Rattle.std.proofs.Common.{◌≡◌, ◌⊎◌, inl, inr, ℕ, Bool, true, false, not, ◌||◌, ◌&&◌, List, [], ◌∷◌, ◌++◌, Option, Some, None, is_some, refl, ap, sym, ◌∙◌, subst}
 use Rattle.std.specs.List.{list_any}
 use Rattle.std.proofs.lemmas.List.{append-nil}
-use Rattle.bsc_edge.specs.declared.dialled.Dialled.{Dialled}
 use Rattle.bsc_initiate.specs.declared.event.InitEvent.TheVariants.{Opened as MachineOpened}
 use Rattle.bsc_node.specs.declared.link_name.LinkName.{LinkName}
 use Rattle.bsc_node.specs.declared.node_event.NodeEvent.{NodeEvent}
@@ -10,7 +9,7 @@ use Rattle.bsc_node.specs.declared.node_event.NodeEvent.TheVariants.{DialFailed,
 use Rattle.bsc_node.specs.declared.timed_event.TimedEvent.{TimedEvent}
 use Rattle.bsc_node.specs.Logs.{Line, came, initiating, Log, now, next_id}
 use Rattle.bsc_node.specs.Links.{same_link, is_over_by_event, is_there, was_taken}
-use Rattle.bsc_node.specs.Conditions.{has_opened, brings_word, fits as may_fit, is_open as is_open_in}
+use Rattle.bsc_node.specs.Conditions.{has_opened, fits as may_fit, is_open as is_open_in}
 use Rattle.bsc_node.specs.Laws.{with_event}
 use Rattle.bsc_node.proofs.Following.{and_left, and_right, not_true}
 use Rattle.bsc_node.proofs.Told.{same_link-self}
@@ -22,7 +21,7 @@ use Rattle.bsc_node_run.specs.declared.news.News.{News}
 use Rattle.bsc_node_run.specs.Requests.{is_asked}
 use Rattle.bsc_node_run.specs.Running.{IsEmpty}
 use Rattle.bsc_node_run.specs.Turning.{event_of}
-use Rattle.bsc_node_run.specs.Worlds.{World, is_name, is_of, with_link, begun, ends, is_open}
+use Rattle.bsc_node_run.specs.Worlds.{Dialling, World, is_name, is_of, with_link, begun, ends, is_open}
 use Rattle.bsc_node_runs.proofs.Agreeing.{changes_of, news_in, AgreesBy, Agrees}
 use Rattle.bsc_node_runs.proofs.Same.{changes-here, changes-other, changes-none, named, stands_open, agrees_as, agrees_like}
 use Rattle.bsc_node_runs.proofs.Same.{ApartIn, line-apart, agrees-alike, agrees-quiet, Apart, touches, link-here, apart-link}
@@ -35,11 +34,6 @@ pub asked-ends : (e : NodeEvent) → is_asked e ≡ true → (name : LinkName) �
 asked-ends (DialFailed other) h name = cc
 asked-ends (Lost other) h name = cc
 asked-ends e h name = refl
-
-pub word-ends : (e : NodeEvent) → brings_word e ≡ true → (name : LinkName) → is_over_by_event name e ≡ false
-word-ends (DialFailed other) h name = cc
-word-ends (Lost other) h name = cc
-word-ends e h name = refl
 
 -- An event that ends this link alone.
 ends-apart : (name : LinkName) (M : Log) (e : TimedEvent) → ((other : LinkName) → is_over_by_event other e.event ≡ same_link name other) → ApartIn name M (M ++ came e ∷ [])
@@ -232,7 +226,7 @@ module _ {L : Type 0} where
 
   -- ---- the first world
 
-  pub empty_agrees : (calls : Option (List Dialled)) (text : Option (List ℕ)) (w : World L) → IsEmpty calls text w → Agrees w []
+  pub empty_agrees : (calls : Dialling L) (text : Option (List ℕ)) (w : World L) → IsEmpty calls text w → Agrees w []
   empty_agrees calls text w E = record {
     links = λ name is. agrees_as false (stands_open name []) None [] w [] name refl refl (E.link name) (ap (changes_of name) quiet) (refl, refl);
     others = λ name isnt. E.link name;

@@ -1,12 +1,12 @@
 -- What a run has written and dialled is what its node told, delivered and dialled, by its log; and a run that ended since
 -- the node told that it has ended has that in its log.
-use Rattle.std.proofs.Common.{◌≡◌, ℕ, Bool, true, false, ◌||◌, inl, inr, List, [], ◌∷◌, ◌++◌, Option, Some, None, Result, Ok, Err, refl, ap, sym, ◌∙◌, subst, arith, unwrap_or}
+use Rattle.std.proofs.Common.{◌≡◌, ℕ, Bool, true, false, ◌||◌, inl, inr, List, [], ◌∷◌, ◌++◌, Option, Some, None, Result, Ok, Err, refl, ap, sym, ◌∙◌, subst, unwrap_or}
 use Rattle.std.specs.Prelude.{map, filter_map}
 use Rattle.std.specs.Io.KnownBytes.{Appends}
-use Rattle.std.specs.List.{concat, list_any, Contains}
+use Rattle.std.specs.List.{concat, list_any}
 use Rattle.std.proofs.KnownBytes.{Appends-nil, Appends-trans}
 use Rattle.std.proofs.lemmas.List.{append_assoc, append-nil, map-append}
-use Rattle.std.proofs.lemmas.List.Elements.{filter_map-append, Contains-append_left, Contains-append_right}
+use Rattle.std.proofs.lemmas.List.Elements.{filter_map-append}
 use Rattle.std.proofs.lemmas.List.Folds.{concat-append, list_any-append}
 use Rattle.bsc_edge.specs.declared.dialled.Dialled.{Dialled}
 use Rattle.bsc_edge.specs.declared.fault.LinkFault.{LinkFault}
@@ -19,8 +19,6 @@ use Rattle.bsc_accept.specs.declared.closing.Closing.{Closing}
 use Rattle.bsc_node.specs.declared.link_name.LinkName.{LinkName}
 use Rattle.bsc_node.specs.declared.node_event.NodeEvent.{NodeEvent}
 use Rattle.bsc_node.specs.declared.node_event.NodeEvent.TheVariants.{Start, Arrived, Came, CameText, Lost, Tick}
-use Rattle.bsc_node.specs.declared.note.Note.{Note}
-use Rattle.bsc_node.specs.declared.note.Note.TheVariants.{Finished}
 use Rattle.bsc_node.specs.declared.action.Action.{Action}
 use Rattle.bsc_node.specs.declared.action.Action.TheVariants.{Dial, Take, Refuse, Put, Close, Deliver, Tell, Draw}
 use Rattle.bsc_node.specs.Logs.{Made, Line, Log, action_of}
@@ -33,29 +31,10 @@ use Rattle.bsc_node_run.specs.Lines.{delivered_line, note_line}
 use Rattle.bsc_node_run.specs.Performing.{Carries, Does, Closes, Puts, Refuses, Takes, after_dial, is_end}
 use Rattle.bsc_node_run.specs.Running.{Run, Turns, EndsSo}
 use Rattle.bsc_node_run.specs.Turning.{Admits, Answers, Gives, GivesIn, GivesLines, GivesNews, HearsEach, HearsIf, HearsOf, Starts, Turn, draws, event_of, names}
-use Rattle.bsc_node_run.specs.Worlds.{World, Same, begun, ends, is_open, with_link}
+use Rattle.bsc_node_run.specs.Worlds.{Dialling, World, Same, begun, ends, is_open, with_link}
 use Rattle.bsc_node_run.proofs.Runs.{grows_none, grows_then}
 use Rattle.bsc_node_runs.specs.Courses.{Goes}
 use Rattle.bsc_node_runs.specs.Said.{AreDialled, EndsAsTold, IsSaid, done_in, line_by, tells_end, uri_by}
-
--- ---- that a node tells that it has ended
-
-end_note : (note : Note) → is_end note ≡ true → note ≡ Finished
-end_note Finished h = refl
-end_note note h = cc
-
-end_action : (action : Action) → tells_end action ≡ true → action ≡ Tell Finished
-end_action (Tell note) h = ap Tell (end_note note h)
-end_action action h = cc
-
-first_or_later : (action : Action) (actions : List Action) (p : Bool) → tells_end action ≡ p → (p || list_any tells_end actions) ≡ true
-    → (list_any tells_end actions ≡ true → Contains actions (Tell Finished)) → Contains (action ∷ actions) (Tell Finished)
-first_or_later action actions true e h later = Contains-append_left (action ∷ []) actions (Tell Finished) (0, omega arith, end_action action e)
-first_or_later action actions false e h later = Contains-append_right (action ∷ []) actions (Tell Finished) (later h)
-
-end_among : (actions : List Action) → list_any tells_end actions ≡ true → Contains actions (Tell Finished)
-end_among [] h = cc
-end_among (action ∷ actions) h = first_or_later action actions (tells_end action) refl h (end_among actions)
 
 -- ---- what is written and dialled between two moments
 
@@ -93,7 +72,7 @@ or_none false = refl
 module _ {L : Type 0} where
   -- What these actions say was written and dialled, and that the node has ended was told by them or before.
   abbrev pub SaysIn : List Action → World L → World L → Type 0
-  SaysIn actions w v = Appends w.held v.held (concat (map line_by actions)) × AreDialled w.dialled v.dialled (filter_map uri_by actions)
+  SaysIn actions w v = Appends w.held v.held (concat (map line_by actions)) × AreDialled w.dialled.calls v.dialled.calls (filter_map uri_by actions)
       × (v.finished ≡ (list_any tells_end actions || w.finished))
 
   -- The same was written, dialled and told of the end as before.
@@ -104,12 +83,12 @@ module _ {L : Type 0} where
   still-same w v s = (s.held, s.dialled, s.finished)
 
   says-none : (w v : World L) → Still w v → SaysIn [] w v
-  says-none w v e = (none_written w.held v.held e.0, none_dialled w.dialled v.dialled e.1, e.2)
+  says-none w v e = (none_written w.held v.held e.0, none_dialled w.dialled.calls v.dialled.calls (ap (λ (d : Dialling L). d.calls) e.1), e.2)
 
   says-then : (xs ys : List Action) (w x v : World L) → SaysIn xs w x → SaysIn ys x v → SaysIn (xs ++ ys) w v
   says-then xs ys w x v a b = (
     both_written xs ys w.held x.held v.held a.0 b.0,
-    both_dialled xs ys w.dialled x.dialled v.dialled a.1 b.1,
+    both_dialled xs ys w.dialled.calls x.dialled.calls v.dialled.calls a.1 b.1,
     b.2 ∙ ap (λ (p : Bool). list_any tells_end ys || p) a.2 ∙ or_later (list_any tells_end xs) (list_any tells_end ys) w.finished
         ∙ ap (λ (p : Bool). p || w.finished) (sym (list_any-append tells_end xs ys)),
   )
@@ -139,16 +118,16 @@ module _ {L : Type 0} (talk : L → Option (List Said)) where
   closes-still name c (Some l) w v (m, closed, s) = (s.held, s.dialled, s.finished)
 
   does-says : (action : Action) (w v : World L) → Does talk action w v → SaysIn (action ∷ []) w v
-  does-says (Dial name uri) w v (l, g, s) =
+  does-says (Dial name uri) w v (l, g, came, s) =
       let e = dials-still name l w v s in
       (none_written w.held v.held e.0, (_ ∷ [], g, refl), e.1)
   does-says (Take name) w v d = says-none w v (takes-still name w.arrived w v d)
   does-says (Refuse c) w v d = says-none w v (refuses-still c w.arrived w v d)
   does-says (Put name o) w v d = says-none w v (puts-still name o (w.link name) w v d)
   does-says (Close name c) w v d = says-none w v (closes-still name c (w.link name) w v d)
-  does-says (Deliver d) w v (a, s) = (subst (Appends w.held v.held) (sym (append-nil (delivered_line d))) a, none_dialled w.dialled v.dialled s.dialled, s.finished)
+  does-says (Deliver d) w v (a, s) = (subst (Appends w.held v.held) (sym (append-nil (delivered_line d))) a, none_dialled w.dialled.calls v.dialled.calls (ap (λ (d : Dialling L). d.calls) s.dialled), s.finished)
   does-says (Tell note) w v (a, s) =
-      (subst (Appends w.held v.held) (sym (append-nil (note_line note))) a, none_dialled w.dialled v.dialled s.dialled, s.finished ∙ ap (λ (p : Bool). p || w.finished) (sym (or_none (is_end note))))
+      (subst (Appends w.held v.held) (sym (append-nil (note_line note))) a, none_dialled w.dialled.calls v.dialled.calls (ap (λ (d : Dialling L). d.calls) s.dialled), s.finished ∙ ap (λ (p : Bool). p || w.finished) (sym (or_none (is_end note))))
   does-says Draw w v s = says-none w v (still-same w v s)
 
   -- What is carried out says what its actions say.
@@ -244,9 +223,6 @@ module _ {L : Type 0} (a : Made) (talk : L → Option (List Said)) (now : ℕ) w
 
 -- ---- a run
 
-has_ended : (end : RunEnd) (turns : ℕ) (times : List ℕ) (finished : Bool) → end ≡ HasFinished → EndsSo end turns times finished → finished ≡ true
-has_ended end turns times finished is e = subst (λ (x : RunEnd). EndsSo x turns times finished) is e
-
 module _ {L : Type 0} (a : Made) (talk : L → Option (List Said)) (listens : Bool) where
   turns-between : (times : List ℕ) (start : Option ℕ) (script : List Due) (M : Log) (w : World L) (left : Option (List L)) (N : Log) (v : World L) (left' : Option (List L))
       → Turns (Goes a) talk listens times start script M w left N v left' → SaysBetween M w N v
@@ -256,15 +232,15 @@ module _ {L : Type 0} (a : Made) (talk : L → Option (List Said)) (listens : Bo
       (turns-between times (Some (unwrap_or start now)) rest P x mid N v left' later)
 
   -- What the whole log of a run says.
-  ran : (end : RunEnd) (turns : ℕ) (script : List Due) (c c' : Option (List Dialled)) (b b' : Option (List ℕ)) (l l' : Option (List L)) (t t' : Option (List ℕ)) (M : Log)
+  ran : (end : RunEnd) (turns : ℕ) (script : List Due) (c c' : Dialling L) (b b' : Option (List ℕ)) (l l' : Option (List L)) (t t' : Option (List ℕ)) (M : Log)
       → (r : Run (Goes a) talk listens end turns script [] c b l t M c' b' l' t') → SaysIn (done_in M) r.first r.last
   ran end turns script c c' b b' l l' t t' M r =
       let s = turns-between r.times None script [] r.first l M r.last l' r.went in
       subst (λ (N : Log). SaysIn (done_in N) r.first r.last) (sym s.1) s.2
 
   -- What a run has written and dialled is what its node told, delivered and dialled, by its log.
-  pub said : (end : RunEnd) (turns : ℕ) (script : List Due) (c c' : Option (List Dialled)) (b b' : Option (List ℕ)) (l l' : Option (List L)) (t t' : Option (List ℕ)) (M : Log)
-      → Run (Goes a) talk listens end turns script [] c b l t M c' b' l' t' → IsSaid M c c' b b'
+  pub said : (end : RunEnd) (turns : ℕ) (script : List Due) (c c' : Dialling L) (b b' : Option (List ℕ)) (l l' : Option (List L)) (t t' : Option (List ℕ)) (M : Log)
+      → Run (Goes a) talk listens end turns script [] c b l t M c' b' l' t' → IsSaid M c.calls c'.calls b b'
   said end turns script c c' b b' l l' t t' M r =
       let s = ran end turns script c c' b b' l l' t t' M r in
       record {
@@ -272,16 +248,8 @@ module _ {L : Type 0} (a : Made) (talk : L → Option (List Said)) (listens : Bo
         calls = rw (← r.empty.dialled, ← r.dials) s.1;
       }
 
-  -- A run that ended with the turn in which the node told that it has ended has that in the node's log.
-  pub finished_is_written : (end : RunEnd) (turns : ℕ) (script : List Due) (c c' : Option (List Dialled)) (b b' : Option (List ℕ)) (l l' : Option (List L)) (t t' : Option (List ℕ)) (M : Log)
-      → Run (Goes a) talk listens end turns script [] c b l t M c' b' l' t' → end ≡ HasFinished → Contains (done_in M) (Tell Finished)
-  finished_is_written end turns script c c' b b' l l' t t' M r is =
-      let s = ran end turns script c c' b b' l l' t t' M r in
-      end_among (done_in M)
-      (sym (or_none (list_any tells_end (done_in M))) ∙ ap (λ (p : Bool). list_any tells_end (done_in M) || p) (sym r.empty.finished) ∙ sym s.2 ∙ has_ended end turns r.times r.last.finished is r.ends)
-
   -- A run is finished where its node told that it has ended, and spent where it didn't.
-  pub ends_as_told : (end : RunEnd) (turns : ℕ) (script : List Due) (c c' : Option (List Dialled)) (b b' : Option (List ℕ)) (l l' : Option (List L)) (t t' : Option (List ℕ)) (M : Log)
+  pub ends_as_told : (end : RunEnd) (turns : ℕ) (script : List Due) (c c' : Dialling L) (b b' : Option (List ℕ)) (l l' : Option (List L)) (t t' : Option (List ℕ)) (M : Log)
       → Run (Goes a) talk listens end turns script [] c b l t M c' b' l' t' → EndsAsTold end M
   ends_as_told end turns script c c' b b' l l' t t' M r = by end r.ends
     where

@@ -4,6 +4,7 @@ use Rattle.std.specs.Prelude.{◌^◌, IsTrue}
 use Rattle.std.specs.List.{Contains, list_all}
 use Rattle.std.proofs.lemmas.List.Elements.{Contains-append_left, Contains-append_right}
 use Rattle.std.proofs.lemmas.List.Folds.{list_all-append}
+use Rattle.std.proofs.lemmas.Option.{same_Some}
 use Rattle.bsc_edge.specs.declared.fault.LinkFault.{LinkFault}
 use Rattle.bsc_edge.specs.declared.fault.LinkFault.TheVariants.{Failed, NoMemory}
 use Rattle.bsc_edge.specs.declared.incoming.Incoming.{Incoming}
@@ -27,11 +28,12 @@ use Rattle.bsc_node_run.specs.declared.due.Due.{Due}
 use Rattle.bsc_node_run.specs.declared.news.Change.{Change}
 use Rattle.bsc_node_run.specs.declared.news.Change.TheVariants.{Opened as DidOpen, DialFailed as DidntOpen, Lost as WasLost}
 use Rattle.bsc_node_run.specs.declared.news.News.{News}
+use Rattle.bsc_node_run.specs.Receiving.{WasGiven, left_by, told_of}
 use Rattle.bsc_node_run.specs.Requests.{is_asked}
 use Rattle.bsc_node_run.specs.Turning.{event_of, names, passed_by, AreDue, Gives, GivesIn, GivesNews, GivesLines, HearsOf, HearsIf, Hears, HearsEach, Admits, Starts, Turn}
 use Rattle.bsc_node_run.specs.Worlds.{World, Same, begun, ends, is_name, is_open, with_link}
-use Rattle.bsc_node_runs.specs.Courses.{Goes}
 use Rattle.bsc_node_runs.proofs.Agreeing.{Agrees}
+use Rattle.bsc_node_runs.proofs.Beside.{Both, beside, beside_same}
 use Rattle.bsc_node_runs.proofs.Same.{agrees-same}
 use Rattle.bsc_node_runs.proofs.News.{begun_keeps, news_may, news_keeps, event_keeps, hears_may, hears_keeps, lost_keeps, asked-ends}
 use Rattle.bsc_node_runs.proofs.Coming.{goes_keeps, admits_keeps}
@@ -89,7 +91,7 @@ asked_finish : (t : ℕ) (e : NodeEvent) → is_finish (came (at t e)) ≡ true 
 asked_finish t Finish h = refl
 asked_finish t e h = cc
 
-contains_first : (d : Due) (lines : List Due) → Contains (d ∷ lines) d
+pub contains_first : (d : Due) (lines : List Due) → Contains (d ∷ lines) d
 contains_first d lines = (0, omega arith, refl)
 
 pub no_true : (P : Type 0) (b : Bool) → b ≡ false → b ≡ true → P
@@ -117,39 +119,44 @@ module _ {N L : Type 0} (goes : N → ℕ → NodeEvent → List Action → N �
 
   -- ---- what is new of its links
 
-  given_news : (news : List News) (n m : N) (w v : World L) (M : Log) → Held n w M → GivesNews goes talk t news n w m v
-      → (K : Log) × GivesNews (Goes a) talk t news M w K v × Held m v K × (v.due ≡ [])
-  given_news [] n m w v M h (due, is, same) = (M, (due, refl, same), held_same n m w v M is same h, same.due ∙ due)
+  pub ready_news : (news : News) (rest : List News) (n : N) (w : World L) (M : Log) → Held n w M → w.due ≡ news ∷ rest
+      → Ready a Stands t P talk n (record w { due = rest }) M (event_of news)
+  ready_news news rest n w M h is =
+      ready_of goes talk a Stands steps t below P n w (record w { due = rest }) M (event_of news) h.0
+      (may_between n w M (event_of news) h (news_may news rest w M is h.0.agrees) (news_no_word news.link news.change))
+      (news_no_arrival news.link news.change) (news_keeps news rest w M (at t (event_of news)) refl is h.0.agrees)
+      (no_true P (is_finish (came (at t (event_of news)))) (news_no_finish t news.link news.change))
+
+  pub given_news : (news : List News) (n m : N) (w v : World L) (M : Log) → Held n w M → GivesNews goes talk t news n w m v
+      → (K : Log) × GivesNews (Both goes a) talk t news (beside n M) w (beside m K) v × Held m v K × (v.due ≡ [])
+  given_news [] n m w v M h (due, is, same) = (M, (due, beside_same n m M is, same), held_same n m w v M is same h, same.due ∙ due)
   given_news (news ∷ more) n m w v M h (rest, p, x, is, g, k) =
-      let q : (K : Log) × Gives (Goes a) talk t (event_of news) M (record w { due = rest }) K x × Held p x K =
-      gives goes talk a Stands steps t below P n p (record w { due = rest }) x M (event_of news) ready g in
-      let r : (K : Log) × GivesNews (Goes a) talk t more q.0 x K v × Held m v K × (v.due ≡ []) = given_news more p m x v q.0 q.2 k in
-      (r.0, (rest, q.0, x, is, q.1, r.1), r.2, r.3)
-    where
-      ready : Ready a Stands t P talk n (record w { due = rest }) M (event_of news)
-      ready =
-          ready_of goes talk a Stands steps t below P n w (record w { due = rest }) M (event_of news) h.0
-          (may_between n w M (event_of news) h (news_may news rest w M is h.0.agrees) (news_no_word news.link news.change))
-          (news_no_arrival news.link news.change) (news_keeps news rest w M (at t (event_of news)) refl is h.0.agrees)
-          (no_true P (is_finish (came (at t (event_of news)))) (news_no_finish t news.link news.change))
+      let q : (K : Log) × Gives (Both goes a) talk t (event_of news) (beside n M) (record w { due = rest }) (beside p K) x × Held p x K =
+      gives goes talk a Stands steps t below P n p (record w { due = rest }) x M (event_of news) (ready_news news rest n w M h is) g in
+      let r : (K : Log) × GivesNews (Both goes a) talk t more (beside p q.0) x (beside m K) v × Held m v K × (v.due ≡ []) = given_news more p m x v q.0 q.2 k in
+      (r.0, (rest, beside p q.0, x, is, q.1, r.1), r.2, r.3)
 
   -- ---- the script
 
-  given_lines : (passed : ℕ) (lines : List Due) → list_all asks lines ≡ true → AreDue passed lines
+  pub ready_line : (passed : ℕ) (d : Due) → is_asked d.event ≡ true → d.at ≤ passed → (d.event ≡ Finish → d.at ≤ passed → P)
+      → (n : N) (w : World L) (M : Log) → Held n w M → Ready a Stands t P talk n w M d.event
+  ready_line passed d here due over n w M h =
+      ready_between n w w M d.event h (asked_fits M d.event here) (asked_no_word d.event here) (asked_plain d.event here)
+      (event_keeps w M (at t d.event) (asked-ends d.event here) h.0.agrees) (λ finish. over (asked_finish t d.event finish) due)
+
+  pub given_lines : (passed : ℕ) (lines : List Due) → list_all asks lines ≡ true → AreDue passed lines
       → ((d : Due) → Contains lines d → d.event ≡ Finish → d.at ≤ passed → P)
       → (n m : N) (w v : World L) (M : Log) → Held n w M → w.due ≡ [] → GivesLines goes talk t lines n w m v
-      → (K : Log) × GivesLines (Goes a) talk t lines M w K v × Held m v K × (v.due ≡ [])
-  given_lines passed [] asked due over n m w v M h none (is, same) = (M, (refl, same), held_same n m w v M is same h, same.due ∙ none)
+      → (K : Log) × GivesLines (Both goes a) talk t lines (beside n M) w (beside m K) v × Held m v K × (v.due ≡ [])
+  given_lines passed [] asked due over n m w v M h none (is, same) = (M, (beside_same n m M is, same), held_same n m w v M is same h, same.due ∙ none)
   given_lines passed (d ∷ lines) asked due over n m w v M h none (p, x, g, k) =
-      let q : (K : Log) × Gives (Goes a) talk t d.event M w K x × Held p x K =
+      let q : (K : Log) × Gives (Both goes a) talk t d.event (beside n M) w (beside p K) x × Held p x K =
       gives goes talk a Stands steps t below P n p w x M d.event
-      (ready_between n w w M d.event h (asked_fits M d.event here) (asked_no_word d.event here) (asked_plain d.event here)
-      (event_keeps w M (at t d.event) (asked-ends d.event here) h.0.agrees)
-      (λ finish. over d (contains_first d lines) (asked_finish t d.event finish) due.0)) g in
-      let r : (K : Log) × GivesLines (Goes a) talk t lines q.0 x K v × Held m v K × (v.due ≡ []) =
+      (ready_line passed d here due.0 (over d (contains_first d lines)) n w M h) g in
+      let r : (K : Log) × GivesLines (Both goes a) talk t lines (beside p q.0) x (beside m K) v × Held m v K × (v.due ≡ []) =
       given_lines passed lines (and_right (is_asked d.event) (list_all asks lines) asked) due.1
       (λ e c. over e (Contains-append_right (d ∷ []) lines e c)) p m x v q.0 q.2 (gives_due goes talk t d.event n p w x g none) k in
-      (r.0, (q.0, x, q.1, r.1), r.2, r.3)
+      (r.0, (beside p q.0, x, q.1, r.1), r.2, r.3)
     where
       here : is_asked d.event ≡ true
       here = and_left (is_asked d.event) (list_all asks lines) asked
@@ -157,39 +164,64 @@ module _ {N L : Type 0} (goes : N → ℕ → NodeEvent → List Action → N �
   -- ---- what comes
 
   -- a link that is open, and what it gave
-  record Hearing (name : LinkName) (k : L) (n : N) (w : World L) (M : Log) : Type 0 where
-    held : Held n w M
-    named : is_name name ≡ true
-    none : w.due ≡ []
-    up : is_open name w ≡ true
-    is : w.link name ≡ Some k
+  pub record Hearing (name : LinkName) (k : L) (n : N) (w : World L) (M : Log) : Type 0 where
+    pub held : Held n w M
+    pub named : is_name name ≡ true
+    pub none : w.due ≡ []
+    pub up : is_open name w ≡ true
+    pub is : w.link name ≡ Some k
+
+  ready_message : (name : LinkName) (k l : L) (e : NodeEvent) (n : N) (w x : World L) (M : Log) → Hearing name k n w M → fits M e ≡ true → brings_word e ≡ false → is_plain e ≡ true
+      → ((other : LinkName) → is_over_by_event other e ≡ false) → (is_finish (came (at t e)) ≡ true → P) → Same x (with_link name (Some l) w) → Ready a Stands t P talk n x M e
+  ready_message name k l e n w x M h f wordless plain lasts asks same =
+      ready_between n w x M e h.held f wordless plain
+      (event_keeps x M (at t e) lasts (agrees-same x (with_link name (Some l) w) M same (hears_keeps name k l w M h.named h.is h.held.0.agrees))) asks
+
+  ready_lost : (name : LinkName) (k l : L) (n : N) (w x : World L) (M : Log) → Hearing name k n w M → Same x (ends name l w) → Ready a Stands t P talk n x M (Lost name)
+  ready_lost name k l n w x M h same =
+      ready_between n w x M (Lost name) h.held (hears_may name w M h.named h.none h.up h.held.0.agrees).1 refl refl
+      (agrees-same x (ends name l w) (with_event M (at t (Lost name))) same (lost_keeps name l w M (at t (Lost name)) refl h.named h.none h.up h.held.0.agrees)) (λ no. cc)
+
+  -- What is told of what a link gave is ready.
+  pub ready_heard : (name : LinkName) (k l : L) (given : Result Incoming LinkFault) (e : NodeEvent) (n : N) (w x : World L) (M : Log) → Hearing name k n w M
+      → WasGiven given → Some e ≡ told_of name given → Same x (left_by name l given w) → Ready a Stands t P talk n x M e
+  ready_heard name k l (Ok (Message o)) e n w x M h ok told same =
+      subst (Ready a Stands t P talk n x M) (sym (same_Some e (Came name o) told))
+      (ready_message name k l (Came name o) n w x M h (hears_may name w M h.named h.none h.up h.held.0.agrees).0 refl refl (λ other. refl) (λ no. cc) same)
+  ready_heard name k l (Ok Text) e n w x M h ok told same =
+      subst (Ready a Stands t P talk n x M) (sym (same_Some e (CameText name) told))
+      (ready_message name k l (CameText name) n w x M h (hears_may name w M h.named h.none h.up h.held.0.agrees).0 refl refl (λ other. refl) (λ no. cc) same)
+  ready_heard name k l (Ok Quiet) e n w x M h ok told same = cc
+  ready_heard name k l (Ok Closed) e n w x M h ok told same =
+      subst (Ready a Stands t P talk n x M) (sym (same_Some e (Lost name) told)) (ready_lost name k l n w x M h same)
+  ready_heard name k l (Err Failed) e n w x M h ok told same =
+      subst (Ready a Stands t P talk n x M) (sym (same_Some e (Lost name) told)) (ready_lost name k l n w x M h same)
+  ready_heard name k l (Err NoMemory) e n w x M h ok told same = absurd ok
 
   heard_message : (name : LinkName) (k l : L) (e : NodeEvent) (n m : N) (w v : World L) (M : Log) → Hearing name k n w M → fits M e ≡ true → brings_word e ≡ false → is_plain e ≡ true
       → ((other : LinkName) → is_over_by_event other e ≡ false) → (is_finish (came (at t e)) ≡ true → P) → GivesIn goes talk t e n (with_link name (Some l) w) m v
-      → (K : Log) × GivesIn (Goes a) talk t e M (with_link name (Some l) w) K v × Held m v K × (v.due ≡ [])
+      → (K : Log) × GivesIn (Both goes a) talk t e (beside n M) (with_link name (Some l) w) (beside m K) v × Held m v K × (v.due ≡ [])
   heard_message name k l e n m w v M h f wordless plain lasts asks g = (q.0, q.1, q.2, gives_in_due goes talk t e n m (with_link name (Some l) w) v g h.none)
     where
-      q : (K : Log) × GivesIn (Goes a) talk t e M (with_link name (Some l) w) K v × Held m v K
+      q : (K : Log) × GivesIn (Both goes a) talk t e (beside n M) (with_link name (Some l) w) (beside m K) v × Held m v K
       q = gives_in goes talk a Stands steps t below P n m (with_link name (Some l) w) v M e
-          (λ x same. ready_between n w x M e h.held f wordless plain
-          (event_keeps x M (at t e) lasts (agrees-same x (with_link name (Some l) w) M same (hears_keeps name k l w M h.named h.is h.held.0.agrees))) asks) g
+          (λ x same. ready_message name k l e n w x M h f wordless plain lasts asks same) g
 
   heard_lost : (name : LinkName) (k l : L) (n m : N) (w v : World L) (M : Log) → Hearing name k n w M → GivesIn goes talk t (Lost name) n (ends name l w) m v
-      → (K : Log) × GivesIn (Goes a) talk t (Lost name) M (ends name l w) K v × Held m v K × (v.due ≡ [])
+      → (K : Log) × GivesIn (Both goes a) talk t (Lost name) (beside n M) (ends name l w) (beside m K) v × Held m v K × (v.due ≡ [])
   heard_lost name k l n m w v M h g = (q.0, q.1, q.2, gives_in_due goes talk t (Lost name) n m (ends name l w) v g h.none)
     where
-      q : (K : Log) × GivesIn (Goes a) talk t (Lost name) M (ends name l w) K v × Held m v K
+      q : (K : Log) × GivesIn (Both goes a) talk t (Lost name) (beside n M) (ends name l w) (beside m K) v × Held m v K
       q = gives_in goes talk a Stands steps t below P n m (ends name l w) v M (Lost name)
-          (λ x same. ready_between n w x M (Lost name) h.held (hears_may name w M h.named h.none h.up h.held.0.agrees).1 refl refl
-          (agrees-same x (ends name l w) (with_event M (at t (Lost name))) same (lost_keeps name l w M (at t (Lost name)) refl h.named h.none h.up h.held.0.agrees)) (λ no. cc)) g
+          (λ x same. ready_lost name k l n w x M h same) g
 
   heard_of : (name : LinkName) (k l : L) (given : Result Incoming LinkFault) (n m : N) (w v : World L) (M : Log) → Hearing name k n w M → HearsOf goes talk t name l given n w m v
-      → (K : Log) × HearsOf (Goes a) talk t name l given M w K v × Held m v K × (v.due ≡ [])
+      → (K : Log) × HearsOf (Both goes a) talk t name l given (beside n M) w (beside m K) v × Held m v K × (v.due ≡ [])
   heard_of name k l (Ok (Message o)) n m w v M h g =
       heard_message name k l (Came name o) n m w v M h (hears_may name w M h.named h.none h.up h.held.0.agrees).0 refl refl (λ other. refl) (λ no. cc) g
   heard_of name k l (Ok Text) n m w v M h g =
       heard_message name k l (CameText name) n m w v M h (hears_may name w M h.named h.none h.up h.held.0.agrees).0 refl refl (λ other. refl) (λ no. cc) g
-  heard_of name k l (Ok Quiet) n m w v M h (is, same) = (M, (refl, same), quiet, same.due ∙ h.none)
+  heard_of name k l (Ok Quiet) n m w v M h (is, same) = (M, (beside_same n m M is, same), quiet, same.due ∙ h.none)
     where
       quiet : Held m v M
       quiet = (
@@ -206,29 +238,29 @@ module _ {N L : Type 0} (goes : N → ℕ → NodeEvent → List Action → N �
   heard_of name k l (Err Failed) n m w v M h g = heard_lost name k l n m w v M h g
   heard_of name k l (Err NoMemory) n m w v M h g = absurd g
 
-  heard_if : (name : LinkName) (b : Bool) (n m : N) (w v : World L) (M : Log) → Held n w M → is_name name ≡ true → w.due ≡ [] → is_open name w ≡ b → HearsIf goes talk t name b n w m v
-      → (K : Log) × HearsIf (Goes a) talk t name b M w K v × Held m v K × (v.due ≡ [])
-  heard_if name false n m w v M h named none up (is, same) = (M, (refl, same), held_same n m w v M is same h, same.due ∙ none)
+  pub heard_if : (name : LinkName) (b : Bool) (n m : N) (w v : World L) (M : Log) → Held n w M → is_name name ≡ true → w.due ≡ [] → is_open name w ≡ b → HearsIf goes talk t name b n w m v
+      → (K : Log) × HearsIf (Both goes a) talk t name b (beside n M) w (beside m K) v × Held m v K × (v.due ≡ [])
+  heard_if name false n m w v M h named none up (is, same) = (M, (beside_same n m M is, same), held_same n m w v M is same h, same.due ∙ none)
   heard_if name true n m w v M h named none up (k, l, given, is, grows, g) =
       let q = heard_of name k l given n m w v M (record { held = h; named = named; none = none; up = up; is = is }) g in
       (q.0, (k, l, given, is, grows, q.1), q.2, q.3)
 
-  heard_each : (links : List LinkName) (n m : N) (w v : World L) (M : Log) → list_all is_name links ≡ true → Held n w M → w.due ≡ [] → HearsEach goes talk t links n w m v
-      → (K : Log) × HearsEach (Goes a) talk t links M w K v × Held m v K × (v.due ≡ [])
-  heard_each [] n m w v M named h none (is, same) = (M, (refl, same), held_same n m w v M is same h, same.due ∙ none)
+  pub heard_each : (links : List LinkName) (n m : N) (w v : World L) (M : Log) → list_all is_name links ≡ true → Held n w M → w.due ≡ [] → HearsEach goes talk t links n w m v
+      → (K : Log) × HearsEach (Both goes a) talk t links (beside n M) w (beside m K) v × Held m v K × (v.due ≡ [])
+  heard_each [] n m w v M named h none (is, same) = (M, (beside_same n m M is, same), held_same n m w v M is same h, same.due ∙ none)
   heard_each (name ∷ links) n m w v M named h none (p, x, g, k) =
-      let q : (K : Log) × Hears (Goes a) talk t name M w K x × Held p x K × (x.due ≡ []) =
+      let q : (K : Log) × Hears (Both goes a) talk t name (beside n M) w (beside p K) x × Held p x K × (x.due ≡ []) =
       heard_if name (is_open name w) n p w x M h (and_left (is_name name) (list_all is_name links) named) none refl g in
-      let r : (K : Log) × HearsEach (Goes a) talk t links q.0 x K v × Held m v K × (v.due ≡ []) =
+      let r : (K : Log) × HearsEach (Both goes a) talk t links (beside p q.0) x (beside m K) v × Held m v K × (v.due ≡ []) =
       heard_each links p m x v q.0 (and_right (is_name name) (list_all is_name links) named) q.2 q.3 k in
-      (r.0, (q.0, x, q.1, r.1), r.2, r.3)
+      (r.0, (beside p q.0, x, q.1, r.1), r.2, r.3)
 
   -- ---- a link that arrives
 
   arrived_keeps : (w : World L) (l : L) (M : Log) → Agrees w M → Agrees (record w { arrived = Some l }) M
   arrived_keeps w l M g = record { links = g.links; others = g.others; named = g.named; finished = g.finished }
 
-  ready_arrived : (n : N) (w : World L) (l : L) (M : Log) → Held n w M → Ready a Stands t P talk n (record w { arrived = Some l }) M Arrived
+  pub ready_arrived : (n : N) (w : World L) (l : L) (M : Log) → Held n w M → Ready a Stands t P talk n (record w { arrived = Some l }) M Arrived
   ready_arrived n w l M h = record {
     stands = h.0.stands;
     may = may;
@@ -247,9 +279,9 @@ module _ {N L : Type 0} (goes : N → ℕ → NodeEvent → List Action → N �
       b = brings a M (at t Arrived) h.0.between may
 
   admitted : (listens : Bool) (n m : N) (w v : World L) (left left' : Option (List L)) (M : Log) → Held n w M → w.due ≡ [] → Admits goes talk t listens n w left m v left'
-      → (K : Log) × Admits (Goes a) talk t listens M w left K v left' × Held m v K × (v.due ≡ [])
-  admitted false n m w v left left' M h none (is, same, leaves) = (M, (refl, same, leaves), held_same n m w v M is same h, same.due ∙ none)
-  admitted true n m w v left left' M h none (inl (is, same, leaves)) = (M, inl (refl, same, leaves), held_same n m w v M is same h, same.due ∙ none)
+      → (K : Log) × Admits (Both goes a) talk t listens (beside n M) w left (beside m K) v left' × Held m v K × (v.due ≡ [])
+  admitted false n m w v left left' M h none (is, same, leaves) = (M, (beside_same n m M is, same, leaves), held_same n m w v M is same h, same.due ∙ none)
+  admitted true n m w v left left' M h none (inl (is, same, leaves)) = (M, inl (beside_same n m M is, same, leaves), held_same n m w v M is same h, same.due ∙ none)
   admitted true n m w v left left' M h none (inr (l, leaves, g)) =
       let q = gives goes talk a Stands steps t below P n m (record w { arrived = Some l }) v M Arrived (ready_arrived n w l M h) g in
       (q.0, inr (l, leaves, q.1), q.2, gives_due goes talk t Arrived n m (record w { arrived = Some l }) v g none)
@@ -257,28 +289,28 @@ module _ {N L : Type 0} (goes : N → ℕ → NodeEvent → List Action → N �
   -- ---- a turn
 
   -- the first event of all: the node starts
-  pub started : (n m : N) (w v : World L) → Stands n [] → Agrees w [] → Starts goes talk t None n w m v
-      → (K : Log) × Starts (Goes a) talk t None [] w K v × Held m v K
-  started n m w v s agrees g = gives goes talk a Stands steps t below P n m w v [] Start ready g
+  pub ready_start : (n : N) (w : World L) → Stands n [] → Agrees w [] → Ready a Stands t P talk n w [] Start
+  ready_start n w s agrees = record {
+    stands = s;
+    may = may_at [] t Start below (omega arith) refl refl;
+    brings = b.0;
+    between = b.1;
+    keeps = λ x c. goes_keeps talk a [] (at t Start) w x b.0 (event_keeps w [] (at t Start) (λ name. refl) agrees) c;
+    by = λ no. cc;
+    asks = λ no. cc;
+  }
     where
       b : Brings a [] (at t Start) Start × Between a (goes_on a (at t Start) [])
       b = begins a (at t Start) refl
 
-      ready : Ready a Stands t P talk n w [] Start
-      ready = record {
-        stands = s;
-        may = may_at [] t Start below (omega arith) refl refl;
-        brings = b.0;
-        between = b.1;
-        keeps = λ x c. goes_keeps talk a [] (at t Start) w x b.0 (event_keeps w [] (at t Start) (λ name. refl) agrees) c;
-        by = λ no. cc;
-        asks = λ no. cc;
-      }
+  pub started : (n m : N) (w v : World L) → Stands n [] → Agrees w [] → Starts goes talk t None n w m v
+      → (K : Log) × Starts (Both goes a) talk t None (beside n []) w (beside m K) v × Held m v K
+  started n m w v s agrees g = gives goes talk a Stands steps t below P n m w v [] Start (ready_start n w s agrees) g
 
   -- in a turn after the first
   pub goes_on_later : (start : ℕ) (n m : N) (w x v : World L) (M : Log) → Held n w M → w.due ≡ [] → Same x (begun w) → Starts goes talk t (Some start) n x m v
-      → (K : Log) × Starts (Goes a) talk t (Some start) M x K v × Held m v K
-  goes_on_later start n m w x v M h none same (is, stays) = (M, (refl, stays), held_same n m x v M is stays begins)
+      → (K : Log) × Starts (Both goes a) talk t (Some start) (beside n M) x (beside m K) v × Held m v K
+  goes_on_later start n m w x v M h none same (is, stays) = (M, (beside_same n m M is, stays), held_same n m x v M is stays begins)
     where
       begins : Held n x M
       begins = (
@@ -292,12 +324,15 @@ module _ {N L : Type 0} (goes : N → ℕ → NodeEvent → List Action → N �
         h.1,
       )
 
+  pub ready_tick : (n : N) (w : World L) (M : Log) → Held n w M → Ready a Stands t P talk n w M Tick
+  ready_tick n w M h = ready_between n w w M Tick h refl refl refl (event_keeps w M (at t Tick) (λ name. refl) h.0.agrees) (λ no. cc)
+
   -- A turn whose start is lifted is lifted whole.
   pub turn : (start : Option ℕ) (script rest : List Due) (listens : Bool) (n m : N) (w v : World L) (left left' : Option (List L)) (M : Log)
-      → ((p : N) (x y : World L) → Same x (begun w) → Starts goes talk t start n x p y → (K : Log) × Starts (Goes a) talk t start M x K y × Held p y K)
+      → ((p : N) (x y : World L) → Same x (begun w) → Starts goes talk t start n x p y → (K : Log) × Starts (Both goes a) talk t start (beside n M) x (beside p K) y × Held p y K)
       → list_all asks script ≡ true → ((d : Due) → Contains script d → d.event ≡ Finish → d.at ≤ passed_by start t → P)
       → Turn goes talk t start script rest listens n w left m v left'
-      → (K : Log) × Turn (Goes a) talk t start script rest listens M w left K v left' × Held m v K × (v.due ≡ [])
+      → (K : Log) × Turn (Both goes a) talk t start script rest listens (beside n M) w left (beside m K) v left' × Held m v K × (v.due ≡ [])
   turn start script rest listens n m w v left left' M first asked over g = (
     q6.0,
     record {
@@ -309,11 +344,11 @@ module _ {N L : Type 0} (goes : N → ℕ → NodeEvent → List Action → N �
       w3 = g.w3;
       w4 = g.w4;
       w5 = g.w5;
-      n1 = q1.0;
-      n2 = q2.0;
-      n3 = q3.0;
-      n4 = q4.0;
-      n5 = q5.0;
+      n1 = beside g.n1 q1.0;
+      n2 = beside g.n2 q2.0;
+      n3 = beside g.n3 q3.0;
+      n4 = beside g.n4 q4.0;
+      n5 = beside g.n5 q5.0;
       begins = g.begins;
       starts = q1.1;
       ticks = q2.1;
@@ -329,25 +364,25 @@ module _ {N L : Type 0} (goes : N → ℕ → NodeEvent → List Action → N �
     q6.3,
   )
     where
-      q1 : (K : Log) × Starts (Goes a) talk t start M g.w0 K g.w1 × Held g.n1 g.w1 K
+      q1 : (K : Log) × Starts (Both goes a) talk t start (beside n M) g.w0 (beside g.n1 K) g.w1 × Held g.n1 g.w1 K
       q1 = first g.n1 g.w0 g.w1 g.begins g.starts
 
-      q2 : (K : Log) × Gives (Goes a) talk t Tick q1.0 g.w1 K g.w2 × Held g.n2 g.w2 K
+      q2 : (K : Log) × Gives (Both goes a) talk t Tick (beside g.n1 q1.0) g.w1 (beside g.n2 K) g.w2 × Held g.n2 g.w2 K
       q2 = gives goes talk a Stands steps t below P g.n1 g.n2 g.w1 g.w2 q1.0 Tick
-          (ready_between g.n1 g.w1 g.w1 q1.0 Tick q1.2 refl refl refl (event_keeps g.w1 q1.0 (at t Tick) (λ name. refl) q1.2.0.agrees) (λ no. cc)) g.ticks
+          (ready_tick g.n1 g.w1 q1.0 q1.2) g.ticks
 
-      q3 : (K : Log) × GivesNews (Goes a) talk t g.news q2.0 g.w2 K g.w3 × Held g.n3 g.w3 K × (g.w3.due ≡ [])
+      q3 : (K : Log) × GivesNews (Both goes a) talk t g.news (beside g.n2 q2.0) g.w2 (beside g.n3 K) g.w3 × Held g.n3 g.w3 K × (g.w3.due ≡ [])
       q3 = given_news g.news g.n2 g.n3 g.w2 g.w3 q2.0 q2.2 g.told
 
-      q4 : (K : Log) × GivesLines (Goes a) talk t g.lines q3.0 g.w3 K g.w4 × Held g.n4 g.w4 K × (g.w4.due ≡ [])
+      q4 : (K : Log) × GivesLines (Both goes a) talk t g.lines (beside g.n3 q3.0) g.w3 (beside g.n4 K) g.w4 × Held g.n4 g.w4 K × (g.w4.due ≡ [])
       q4 = given_lines (passed_by start t) g.lines
           (and_left (list_all asks g.lines) (list_all asks rest)
           (sym (ap (list_all asks) g.parts ∙ list_all-append asks g.lines rest) ∙ asked))
           g.due (λ d c. over d (subst (λ (lines : List Due). Contains lines d) (sym g.parts) (Contains-append_left g.lines rest d c)))
           g.n3 g.n4 g.w3 g.w4 q3.0 q3.2 q3.3 g.given
 
-      q5 : (K : Log) × HearsEach (Goes a) talk t names q4.0 g.w4 K g.w5 × Held g.n5 g.w5 K × (g.w5.due ≡ [])
+      q5 : (K : Log) × HearsEach (Both goes a) talk t names (beside g.n4 q4.0) g.w4 (beside g.n5 K) g.w5 × Held g.n5 g.w5 K × (g.w5.due ≡ [])
       q5 = heard_each names g.n4 g.n5 g.w4 g.w5 q4.0 refl q4.2 q4.3 g.heard
 
-      q6 : (K : Log) × Admits (Goes a) talk t listens q5.0 g.w5 left K v left' × Held m v K × (v.due ≡ [])
+      q6 : (K : Log) × Admits (Both goes a) talk t listens (beside g.n5 q5.0) g.w5 left (beside m K) v left' × Held m v K × (v.due ≡ [])
       q6 = admitted listens g.n5 m g.w5 v left left' q5.0 q5.2 q5.3 g.admits

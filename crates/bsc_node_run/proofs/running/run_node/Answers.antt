@@ -1,8 +1,9 @@
-use Rattle.std.proofs.Common.{arith, refl, None, Some, ◌∷◌, [], ◌++◌, unwrap_or}
+use Rattle.std.proofs.Common.{arith, inl, inr, refl, None, Some, ◌∷◌, [], ◌++◌, unwrap_or}
 use Rattle.bsc_node_run.specs.Drawing.{GoesDrawing, at_rest}
-use Rattle.bsc_node_run.specs.Worlds.{world_of}
+use Rattle.bsc_node_run.specs.Worlds.{dialling, world_of}
 use Rattle.bsc_node_run.proofs.Runs.{grows_none, grows_then, one_longer, rise_all, rise_before, rise_more, turns_all, turns_more}
 use Rattle.bsc_node_run.proofs.Told.{stays_same, stays_then}
+use Rattle.bsc_node_run.proofs.Stops.{at_err, rise_now, stops_more, stops_now}
 use Rattle.bsc_node_run.proofs.running.run_node.Goals as goal
 
 pub loop-made-init : goal.loop-made-init
@@ -12,6 +13,7 @@ loop-made-init g c = record {
   count = refl;
   going = c.in_ok-set.ensures.finished;
   turns = λ more m v left k. k;
+  stops = λ more v left k. k;
   rise = λ more r. rise_before 0 (g.C.Clock.newest c.args.clock.now) more (omega arith) r;
   writes_later = omega arith;
   links_later = omega arith;
@@ -21,8 +23,8 @@ loop-made-init g c = record {
 pub returns-then-set-clause-runs : goal.returns-then-set-clause-runs
 returns-then-set-clause-runs g c = record {
   times = c.loop-made.invariant.times ++ c.in_ok-now.now ∷ [];
-  first = world_of c.in_ok-set.set (g.D.Dialer.calls c.args.dialer.now) (g.K.Sink.held c.args.sink.now);
-  last = (world_of c.node_turn.new.set (g.D.Dialer.calls c.node_turn.new.dialer) (g.K.Sink.held c.node_turn.new.sink));
+  first = world_of c.in_ok-set.set (dialling g.D.Dialer.calls g.D.Dialer.left g.D.Dialer.faults c.args.dialer.now) (g.K.Sink.held c.args.sink.now);
+  last = (world_of c.node_turn.new.set (dialling g.D.Dialer.calls g.D.Dialer.left g.D.Dialer.faults c.node_turn.new.dialer) (g.K.Sink.held c.node_turn.new.sink));
   empty = record {
     link = c.in_ok-set.ensures.links;
     arrived = c.in_ok-set.ensures.arrived;
@@ -32,11 +34,11 @@ returns-then-set-clause-runs g c = record {
     dialled = refl;
     held = refl;
   };
-  went = turns_all (GoesDrawing g.N.Core.goes g.W.Words.gives g.W.Words.faults) g.L.Link.talk c.args.listens None c.args.script.now (at_rest c.args.node.now c.args.random.now) (world_of c.in_ok-set.set (g.D.Dialer.calls c.args.dialer.now) (g.K.Sink.held c.args.sink.now)) (g.A.Acceptor.left c.args.acceptor.now)
-      (c.loop-made.invariant.times ++ c.in_ok-now.now ∷ []) (Some (unwrap_or c.loop-made.start c.in_ok-now.now)) c.in_ok-now.rest.now (at_rest c.node_turn.new.node c.node_turn.new.random) (world_of c.node_turn.new.set (g.D.Dialer.calls c.node_turn.new.dialer) (g.K.Sink.held c.node_turn.new.sink)) (g.A.Acceptor.left c.node_turn.new.acceptor)
-      (turns_more (GoesDrawing g.N.Core.goes g.W.Words.gives g.W.Words.faults) g.L.Link.talk c.args.listens None c.args.script.now (at_rest c.args.node.now c.args.random.now) (world_of c.in_ok-set.set (g.D.Dialer.calls c.args.dialer.now) (g.K.Sink.held c.args.sink.now)) (g.A.Acceptor.left c.args.acceptor.now)
+  went = turns_all (GoesDrawing g.N.Core.goes g.W.Words.gives g.W.Words.faults) g.L.Link.talk c.args.listens None c.args.script.now (at_rest c.args.node.now c.args.random.now) (world_of c.in_ok-set.set (dialling g.D.Dialer.calls g.D.Dialer.left g.D.Dialer.faults c.args.dialer.now) (g.K.Sink.held c.args.sink.now)) (g.A.Acceptor.left c.args.acceptor.now)
+      (c.loop-made.invariant.times ++ c.in_ok-now.now ∷ []) (Some (unwrap_or c.loop-made.start c.in_ok-now.now)) c.in_ok-now.rest.now (at_rest c.node_turn.new.node c.node_turn.new.random) (world_of c.node_turn.new.set (dialling g.D.Dialer.calls g.D.Dialer.left g.D.Dialer.faults c.node_turn.new.dialer) (g.K.Sink.held c.node_turn.new.sink)) (g.A.Acceptor.left c.node_turn.new.acceptor)
+      (turns_more (GoesDrawing g.N.Core.goes g.W.Words.gives g.W.Words.faults) g.L.Link.talk c.args.listens None c.args.script.now (at_rest c.args.node.now c.args.random.now) (world_of c.in_ok-set.set (dialling g.D.Dialer.calls g.D.Dialer.left g.D.Dialer.faults c.args.dialer.now) (g.K.Sink.held c.args.sink.now)) (g.A.Acceptor.left c.args.acceptor.now)
       c.loop-made.invariant.times c.in_ok-now.now c.loop-made.start c.loop-made.left.now c.in_ok-now.rest.now (at_rest c.loop-made.node c.loop-made.random) (at_rest c.node_turn.new.node c.node_turn.new.random)
-      (world_of c.loop-made.set (g.D.Dialer.calls c.loop-made.dialer) (g.K.Sink.held c.loop-made.sink)) (world_of c.node_turn.new.set (g.D.Dialer.calls c.node_turn.new.dialer) (g.K.Sink.held c.node_turn.new.sink)) (g.A.Acceptor.left c.loop-made.acceptor) (g.A.Acceptor.left c.node_turn.new.acceptor)
+      (world_of c.loop-made.set (dialling g.D.Dialer.calls g.D.Dialer.left g.D.Dialer.faults c.loop-made.dialer) (g.K.Sink.held c.loop-made.sink)) (world_of c.node_turn.new.set (dialling g.D.Dialer.calls g.D.Dialer.left g.D.Dialer.faults c.node_turn.new.dialer) (g.K.Sink.held c.node_turn.new.sink)) (g.A.Acceptor.left c.loop-made.acceptor) (g.A.Acceptor.left c.node_turn.new.acceptor)
       c.loop-made.invariant.turns c.loop-made.invariant.going c.in_ok-now.ensures.turns);
   dials = refl;
   holds = refl;
@@ -55,11 +57,16 @@ loop-made-preserved g c = record {
       c.loop-made.invariant.readings c.in_ok-now.ensures.reading;
   count = one_longer c.loop-made.invariant.times c.in_ok-now.now c.loop-made.made c.loop-made.invariant.count;
   going = c.if-set.false;
-  turns = λ more m v left k. turns_more (GoesDrawing g.N.Core.goes g.W.Words.gives g.W.Words.faults) g.L.Link.talk c.args.listens None c.args.script.now (at_rest c.args.node.now c.args.random.now) (world_of c.in_ok-set.set (g.D.Dialer.calls c.args.dialer.now) (g.K.Sink.held c.args.sink.now)) (g.A.Acceptor.left c.args.acceptor.now)
+  turns = λ more m v left k. turns_more (GoesDrawing g.N.Core.goes g.W.Words.gives g.W.Words.faults) g.L.Link.talk c.args.listens None c.args.script.now (at_rest c.args.node.now c.args.random.now) (world_of c.in_ok-set.set (dialling g.D.Dialer.calls g.D.Dialer.left g.D.Dialer.faults c.args.dialer.now) (g.K.Sink.held c.args.sink.now)) (g.A.Acceptor.left c.args.acceptor.now)
       c.loop-made.invariant.times c.in_ok-now.now c.loop-made.start c.loop-made.left.now c.in_ok-now.rest.now (at_rest c.loop-made.node c.loop-made.random) (at_rest c.node_turn.new.node c.node_turn.new.random)
-      (world_of c.loop-made.set (g.D.Dialer.calls c.loop-made.dialer) (g.K.Sink.held c.loop-made.sink)) (world_of c.node_turn.new.set (g.D.Dialer.calls c.node_turn.new.dialer) (g.K.Sink.held c.node_turn.new.sink)) (g.A.Acceptor.left c.loop-made.acceptor) (g.A.Acceptor.left c.node_turn.new.acceptor)
+      (world_of c.loop-made.set (dialling g.D.Dialer.calls g.D.Dialer.left g.D.Dialer.faults c.loop-made.dialer) (g.K.Sink.held c.loop-made.sink)) (world_of c.node_turn.new.set (dialling g.D.Dialer.calls g.D.Dialer.left g.D.Dialer.faults c.node_turn.new.dialer) (g.K.Sink.held c.node_turn.new.sink)) (g.A.Acceptor.left c.loop-made.acceptor) (g.A.Acceptor.left c.node_turn.new.acceptor)
       c.loop-made.invariant.turns c.loop-made.invariant.going c.in_ok-now.ensures.turns
       more m v left (rw c.unwrap_or.ensures at k);
+  stops = λ more v left k. stops_more (GoesDrawing g.N.Core.goes g.W.Words.gives g.W.Words.faults) g.L.Link.talk c.args.listens None c.args.script.now (at_rest c.args.node.now c.args.random.now) (world_of c.in_ok-set.set (dialling g.D.Dialer.calls g.D.Dialer.left g.D.Dialer.faults c.args.dialer.now) (g.K.Sink.held c.args.sink.now)) (g.A.Acceptor.left c.args.acceptor.now)
+      c.loop-made.invariant.times c.in_ok-now.now c.loop-made.start c.loop-made.left.now c.in_ok-now.rest.now (at_rest c.loop-made.node c.loop-made.random) (at_rest c.node_turn.new.node c.node_turn.new.random)
+      (world_of c.loop-made.set (dialling g.D.Dialer.calls g.D.Dialer.left g.D.Dialer.faults c.loop-made.dialer) (g.K.Sink.held c.loop-made.sink)) (world_of c.node_turn.new.set (dialling g.D.Dialer.calls g.D.Dialer.left g.D.Dialer.faults c.node_turn.new.dialer) (g.K.Sink.held c.node_turn.new.sink)) (g.A.Acceptor.left c.loop-made.acceptor) (g.A.Acceptor.left c.node_turn.new.acceptor)
+      c.loop-made.invariant.stops c.loop-made.invariant.going c.in_ok-now.ensures.turns
+      more v left (rw c.unwrap_or.ensures at k);
   rise = rise_more 0 c.loop-made.invariant.times (g.C.Clock.newest c.loop-made.clock) c.in_ok-now.now (g.C.Clock.newest c.node_turn.new.clock)
       c.loop-made.invariant.rise c.in_ok-now.ensures.rises c.in_ok-now.ensures.below c.in_ok-now.ensures.newest;
   writes_later = omega (arith, c.loop-made.invariant.writes_later, c.node_turn.ensures.later);
@@ -70,8 +77,8 @@ loop-made-preserved g c = record {
 pub returns-clause-runs : goal.returns-clause-runs
 returns-clause-runs g c = record {
   times = c.loop-made.invariant.times;
-  first = world_of c.in_ok-set.set (g.D.Dialer.calls c.args.dialer.now) (g.K.Sink.held c.args.sink.now);
-  last = (world_of c.loop-made.set (g.D.Dialer.calls c.loop-made.dialer) (g.K.Sink.held c.loop-made.sink));
+  first = world_of c.in_ok-set.set (dialling g.D.Dialer.calls g.D.Dialer.left g.D.Dialer.faults c.args.dialer.now) (g.K.Sink.held c.args.sink.now);
+  last = (world_of c.loop-made.set (dialling g.D.Dialer.calls g.D.Dialer.left g.D.Dialer.faults c.loop-made.dialer) (g.K.Sink.held c.loop-made.sink));
   empty = record {
     link = c.in_ok-set.ensures.links;
     arrived = c.in_ok-set.ensures.arrived;
@@ -81,8 +88,8 @@ returns-clause-runs g c = record {
     dialled = refl;
     held = refl;
   };
-  went = turns_all (GoesDrawing g.N.Core.goes g.W.Words.gives g.W.Words.faults) g.L.Link.talk c.args.listens None c.args.script.now (at_rest c.args.node.now c.args.random.now) (world_of c.in_ok-set.set (g.D.Dialer.calls c.args.dialer.now) (g.K.Sink.held c.args.sink.now)) (g.A.Acceptor.left c.args.acceptor.now)
-      c.loop-made.invariant.times c.loop-made.start c.loop-made.left.now (at_rest c.loop-made.node c.loop-made.random) (world_of c.loop-made.set (g.D.Dialer.calls c.loop-made.dialer) (g.K.Sink.held c.loop-made.sink)) (g.A.Acceptor.left c.loop-made.acceptor)
+  went = turns_all (GoesDrawing g.N.Core.goes g.W.Words.gives g.W.Words.faults) g.L.Link.talk c.args.listens None c.args.script.now (at_rest c.args.node.now c.args.random.now) (world_of c.in_ok-set.set (dialling g.D.Dialer.calls g.D.Dialer.left g.D.Dialer.faults c.args.dialer.now) (g.K.Sink.held c.args.sink.now)) (g.A.Acceptor.left c.args.acceptor.now)
+      c.loop-made.invariant.times c.loop-made.start c.loop-made.left.now (at_rest c.loop-made.node c.loop-made.random) (world_of c.loop-made.set (dialling g.D.Dialer.calls g.D.Dialer.left g.D.Dialer.faults c.loop-made.dialer) (g.K.Sink.held c.loop-made.sink)) (g.A.Acceptor.left c.loop-made.acceptor)
       c.loop-made.invariant.turns;
   dials = refl;
   holds = refl;
@@ -90,3 +97,36 @@ returns-clause-runs g c = record {
   rise = rise_all 0 c.loop-made.invariant.times (g.C.Clock.newest c.loop-made.clock) c.loop-made.invariant.rise;
   ends = (omega (arith, c.loop-made.invariant.count, c.loop-made-test.false, c.loop-made.auto.made-end), c.loop-made.invariant.going);
 }
+
+pub returns-in_err-set-clause-fails : goal.returns-in_err-set-clause-fails
+returns-in_err-set-clause-fails g c =
+    at_err _ (inl (refl, refl, refl, refl))
+
+pub returns-in_err-now-clause-fails : goal.returns-in_err-now-clause-fails
+returns-in_err-now-clause-fails g c =
+    let k = c.in_err-now.ensures.stops in
+    at_err _ (inr (
+    record {
+      times = c.loop-made.invariant.times ++ k.0 ∷ [];
+      first = (world_of c.in_ok-set.set (dialling g.D.Dialer.calls g.D.Dialer.left g.D.Dialer.faults c.args.dialer.now) (g.K.Sink.held c.args.sink.now));
+      last = (world_of c.node_turn.new.set (dialling g.D.Dialer.calls g.D.Dialer.left g.D.Dialer.faults c.node_turn.new.dialer) (g.K.Sink.held c.node_turn.new.sink));
+      empty = record {
+        link = c.in_ok-set.ensures.links;
+        arrived = c.in_ok-set.ensures.arrived;
+        due = c.in_ok-set.ensures.due;
+        waiting = c.in_ok-set.ensures.waiting;
+        finished = c.in_ok-set.ensures.finished;
+        dialled = refl;
+        held = refl;
+      };
+      went = stops_now (GoesDrawing g.N.Core.goes g.W.Words.gives g.W.Words.faults) g.L.Link.talk c.args.listens None c.args.script.now (at_rest c.args.node.now c.args.random.now) (world_of c.in_ok-set.set (dialling g.D.Dialer.calls g.D.Dialer.left g.D.Dialer.faults c.args.dialer.now) (g.K.Sink.held c.args.sink.now)) (g.A.Acceptor.left c.args.acceptor.now)
+          c.loop-made.invariant.times k.0 c.loop-made.start c.loop-made.left.now (at_rest c.loop-made.node c.loop-made.random) (world_of c.loop-made.set (dialling g.D.Dialer.calls g.D.Dialer.left g.D.Dialer.faults c.loop-made.dialer) (g.K.Sink.held c.loop-made.sink)) (world_of c.node_turn.new.set (dialling g.D.Dialer.calls g.D.Dialer.left g.D.Dialer.faults c.node_turn.new.dialer) (g.K.Sink.held c.node_turn.new.sink))
+          (g.A.Acceptor.left c.loop-made.acceptor) (g.A.Acceptor.left c.node_turn.new.acceptor) c.loop-made.invariant.stops c.loop-made.invariant.going k.4;
+      dials = refl;
+      holds = refl;
+      readings = grows_then (g.C.Clock.readings c.args.clock.now) (g.C.Clock.readings c.loop-made.clock) (g.C.Clock.readings c.node_turn.new.clock) c.loop-made.invariant.times (k.0 ∷ [])
+          c.loop-made.invariant.readings k.1;
+      rise = rise_now 0 c.loop-made.invariant.times (g.C.Clock.newest c.loop-made.clock) k.0 c.loop-made.invariant.rise k.3 k.2;
+      within = omega (arith, one_longer c.loop-made.invariant.times k.0 c.loop-made.made c.loop-made.invariant.count, c.loop-made-test.true);
+    }
+    ))

@@ -2,7 +2,8 @@ use Rattle.std.proofs.Common.{◌≡◌, ◌≤◌, ℕ, false, List, Option, No
 use Rattle.bsc_edge.specs.Told.{Grows, Stays}
 use Rattle.bsc_node_run.specs.Drawing.{GoesDrawing, at_rest}
 use Rattle.bsc_node_run.specs.Running.{DontFall, Turns}
-use Rattle.bsc_node_run.specs.Worlds.{World, world_of}
+use Rattle.bsc_node_run.specs.Stopping.{TurnsStop}
+use Rattle.bsc_node_run.specs.Worlds.{World, dialling, world_of}
 use Rattle.bsc_node_run.proofs.running.run_node.Given as goal
 
 -- Turns were made at these times, and turns from here on go on with them, as do readings that don't fall.
@@ -13,8 +14,11 @@ invariant-loop-made g l = record {
   count : length times ≡ l.made;
   going : l.set.finished ≡ false;
   turns : (more : List ℕ) (m : _) (v : World _) (left : Option (List _))
-      → Turns (GoesDrawing g.N.Core.goes g.W.Words.gives g.W.Words.faults) g.L.Link.talk l.listens more l.start l.left (at_rest l.node l.random) (world_of l.set (g.D.Dialer.calls l.dialer) (g.K.Sink.held l.sink)) (g.A.Acceptor.left l.acceptor) m v left
-      → Turns (GoesDrawing g.N.Core.goes g.W.Words.gives g.W.Words.faults) g.L.Link.talk l.listens (times ++ more) None l.initial.left (at_rest l.initial.node l.initial.random) (world_of l.initial.set (g.D.Dialer.calls l.initial.dialer) (g.K.Sink.held l.initial.sink)) (g.A.Acceptor.left l.initial.acceptor) m v left;
+      → Turns (GoesDrawing g.N.Core.goes g.W.Words.gives g.W.Words.faults) g.L.Link.talk l.listens more l.start l.left (at_rest l.node l.random) (world_of l.set (dialling g.D.Dialer.calls g.D.Dialer.left g.D.Dialer.faults l.dialer) (g.K.Sink.held l.sink)) (g.A.Acceptor.left l.acceptor) m v left
+      → Turns (GoesDrawing g.N.Core.goes g.W.Words.gives g.W.Words.faults) g.L.Link.talk l.listens (times ++ more) None l.initial.left (at_rest l.initial.node l.initial.random) (world_of l.initial.set (dialling g.D.Dialer.calls g.D.Dialer.left g.D.Dialer.faults l.initial.dialer) (g.K.Sink.held l.initial.sink)) (g.A.Acceptor.left l.initial.acceptor) m v left;
+  stops : (more : List ℕ) (v : World _) (left : Option (List _))
+      → TurnsStop (GoesDrawing g.N.Core.goes g.W.Words.gives g.W.Words.faults) g.L.Link.talk l.listens more l.start l.left (at_rest l.node l.random) (world_of l.set (dialling g.D.Dialer.calls g.D.Dialer.left g.D.Dialer.faults l.dialer) (g.K.Sink.held l.sink)) (g.A.Acceptor.left l.acceptor) v left
+      → TurnsStop (GoesDrawing g.N.Core.goes g.W.Words.gives g.W.Words.faults) g.L.Link.talk l.listens (times ++ more) None l.initial.left (at_rest l.initial.node l.initial.random) (world_of l.initial.set (dialling g.D.Dialer.calls g.D.Dialer.left g.D.Dialer.faults l.initial.dialer) (g.K.Sink.held l.initial.sink)) (g.A.Acceptor.left l.initial.acceptor) v left;
   rise : (more : List ℕ) → DontFall (g.C.Clock.newest l.clock) more → DontFall 0 (times ++ more);
   writes_later : g.K.Sink.faults l.initial.sink ≤ g.K.Sink.faults l.sink;
   links_later : g.A.Acceptor.faults l.initial.acceptor ≤ g.A.Acceptor.faults l.acceptor;

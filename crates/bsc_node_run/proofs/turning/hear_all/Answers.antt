@@ -1,19 +1,39 @@
+use Rattle.std.proofs.Common.{inl, inr}
 use Rattle.bsc_node_run.specs.Drawing.{at_rest}
-use Rattle.bsc_node_run.specs.Worlds.{world_of}
+use Rattle.bsc_node_run.specs.Worlds.{dialling, world_of}
 use Rattle.bsc_node_run.proofs.Acting.{on_ok}
+use Rattle.bsc_node_run.proofs.Stops.{at_err, on_err}
 use Rattle.bsc_node_run.proofs.turning.hear_all.Goals as goal
 
 pub returns-clause-hears : goal.returns-clause-hears
 returns-clause-hears g c = on_ok c.hear_slots.result
     (λ k. (
       at_rest c.hear.new.node c.hear.new.random,
-      (world_of c.hear.new.set (g.D.Dialer.calls c.hear.new.dialer) (g.K.Sink.held c.hear.new.sink)),
+      (world_of c.hear.new.set (dialling g.D.Dialer.calls g.D.Dialer.left g.D.Dialer.faults c.hear.new.dialer) (g.K.Sink.held c.hear.new.sink)),
       c.in_ok-hear.ensures.hears,
       (
         at_rest c.hear-2.new.node c.hear-2.new.random,
-        (world_of c.hear-2.new.set (g.D.Dialer.calls c.hear-2.new.dialer) (g.K.Sink.held c.hear-2.new.sink)),
+        (world_of c.hear-2.new.set (dialling g.D.Dialer.calls g.D.Dialer.left g.D.Dialer.faults c.hear-2.new.dialer) (g.K.Sink.held c.hear-2.new.sink)),
         c.in_ok-hear-2.ensures.hears,
         k,
       ),
     ))
     c.hear_slots.ensures.hears
+
+pub returns-in_err-hear-clause-stops : goal.returns-in_err-hear-clause-stops
+returns-in_err-hear-clause-stops g c =
+    at_err _ (inl c.in_err-hear.ensures.stops)
+
+pub returns-in_err-hear-2-clause-stops : goal.returns-in_err-hear-2-clause-stops
+returns-in_err-hear-2-clause-stops g c =
+    at_err _ (inr (at_rest c.hear.new.node c.hear.new.random, (world_of c.hear.new.set (dialling g.D.Dialer.calls g.D.Dialer.left g.D.Dialer.faults c.hear.new.dialer) (g.K.Sink.held c.hear.new.sink)), c.in_ok-hear.ensures.hears, inl c.in_err-hear-2.ensures.stops))
+
+pub returns-clause-stops : goal.returns-clause-stops
+returns-clause-stops g c = on_err c.hear_slots.result
+    (λ k. inr (
+      at_rest c.hear.new.node c.hear.new.random,
+      (world_of c.hear.new.set (dialling g.D.Dialer.calls g.D.Dialer.left g.D.Dialer.faults c.hear.new.dialer) (g.K.Sink.held c.hear.new.sink)),
+      c.in_ok-hear.ensures.hears,
+      inr (at_rest c.hear-2.new.node c.hear-2.new.random, (world_of c.hear-2.new.set (dialling g.D.Dialer.calls g.D.Dialer.left g.D.Dialer.faults c.hear-2.new.dialer) (g.K.Sink.held c.hear-2.new.sink)), c.in_ok-hear-2.ensures.hears, k),
+    ))
+    c.hear_slots.ensures.stops

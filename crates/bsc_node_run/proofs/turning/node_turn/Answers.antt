@@ -1,23 +1,26 @@
-use Rattle.bsc_node_run.specs.Drawing.{at_rest}
-use Rattle.bsc_node_run.specs.Worlds.{world_of}
+use Rattle.std.proofs.Common.{inl, inr, refl}
+use Rattle.bsc_node_run.specs.Drawing.{GoesDrawing, at_rest}
+use Rattle.bsc_node_run.specs.Stopping.{TurnStops}
+use Rattle.bsc_node_run.specs.Worlds.{dialling, world_of}
+use Rattle.bsc_node_run.proofs.Stops.{Stopped, at_err}
 use Rattle.bsc_node_run.proofs.turning.node_turn.Goals as goal
 
 pub returns-clause-turns : goal.returns-clause-turns
 returns-clause-turns g c = record {
   news = c.in_ok-give_news.ensures.gives.0;
   lines = c.in_ok-left.ensures.gives.0;
-  w0 = world_of c.begin_turn.new.self (g.D.Dialer.calls c.args.dialer.now) (g.K.Sink.held c.args.sink.now);
-  w1 = (world_of c.begin.new.set (g.D.Dialer.calls c.begin.new.dialer) (g.K.Sink.held c.begin.new.sink));
-  w2 = (world_of c.give.new.set (g.D.Dialer.calls c.give.new.dialer) (g.K.Sink.held c.give.new.sink));
-  w3 = (world_of c.give_news.new.set (g.D.Dialer.calls c.give_news.new.dialer) (g.K.Sink.held c.give_news.new.sink));
-  w4 = (world_of c.give_due.new.set (g.D.Dialer.calls c.give_due.new.dialer) (g.K.Sink.held c.give_due.new.sink));
-  w5 = (world_of c.hear_all.new.set (g.D.Dialer.calls c.hear_all.new.dialer) (g.K.Sink.held c.hear_all.new.sink));
+  w0 = world_of c.begin_turn.new.self (dialling g.D.Dialer.calls g.D.Dialer.left g.D.Dialer.faults c.args.dialer.now) (g.K.Sink.held c.args.sink.now);
+  w1 = (world_of c.begin.new.set (dialling g.D.Dialer.calls g.D.Dialer.left g.D.Dialer.faults c.begin.new.dialer) (g.K.Sink.held c.begin.new.sink));
+  w2 = (world_of c.give.new.set (dialling g.D.Dialer.calls g.D.Dialer.left g.D.Dialer.faults c.give.new.dialer) (g.K.Sink.held c.give.new.sink));
+  w3 = (world_of c.give_news.new.set (dialling g.D.Dialer.calls g.D.Dialer.left g.D.Dialer.faults c.give_news.new.dialer) (g.K.Sink.held c.give_news.new.sink));
+  w4 = (world_of c.give_due.new.set (dialling g.D.Dialer.calls g.D.Dialer.left g.D.Dialer.faults c.give_due.new.dialer) (g.K.Sink.held c.give_due.new.sink));
+  w5 = (world_of c.hear_all.new.set (dialling g.D.Dialer.calls g.D.Dialer.left g.D.Dialer.faults c.hear_all.new.dialer) (g.K.Sink.held c.hear_all.new.sink));
   n1 = at_rest c.begin.new.node c.begin.new.random;
   n2 = at_rest c.give.new.node c.give.new.random;
   n3 = at_rest c.give_news.new.node c.give_news.new.random;
   n4 = at_rest c.give_due.new.node c.give_due.new.random;
   n5 = at_rest c.hear_all.new.node c.hear_all.new.random;
-  begins = c.begin_turn.ensures (g.D.Dialer.calls c.args.dialer.now) (g.K.Sink.held c.args.sink.now);
+  begins = c.begin_turn.ensures (dialling g.D.Dialer.calls g.D.Dialer.left g.D.Dialer.faults c.args.dialer.now) (g.K.Sink.held c.args.sink.now);
   starts = c.in_ok-begin.ensures.starts;
   ticks = c.in_ok-give.ensures.gives;
   told = c.in_ok-give_news.ensures.gives.1;
@@ -28,3 +31,211 @@ returns-clause-turns g c = record {
   heard = c.in_ok-hear_all.ensures.hears;
   admits = c.in_ok-admit.ensures.admits;
 }
+
+pub returns-in_err-begin-clause-stops : goal.returns-in_err-begin-clause-stops
+returns-in_err-begin-clause-stops g c =
+    let w0 = world_of c.begin_turn.new.self (dialling g.D.Dialer.calls g.D.Dialer.left g.D.Dialer.faults c.args.dialer.now) (g.K.Sink.held c.args.sink.now) in
+    let begins = c.begin_turn.ensures (dialling g.D.Dialer.calls g.D.Dialer.left g.D.Dialer.faults c.args.dialer.now) (g.K.Sink.held c.args.sink.now) in
+    at_err {P = Stopped g.C.Clock.readings g.C.Clock.newest c.args.clock.now c.now-now.new.self
+    (λ t. TurnStops (GoesDrawing g.N.Core.goes g.W.Words.gives g.W.Words.faults) g.L.Link.talk t c.args.start c.args.script.now c.args.listens (at_rest c.args.node.now c.args.random.now)
+    (world_of c.args.set.now (dialling g.D.Dialer.calls g.D.Dialer.left g.D.Dialer.faults c.args.dialer.now) (g.K.Sink.held c.args.sink.now)) (g.A.Acceptor.left c.args.acceptor.now)
+    (world_of c.begin.new.set (dialling g.D.Dialer.calls g.D.Dialer.left g.D.Dialer.faults c.begin.new.dialer) (g.K.Sink.held c.begin.new.sink)) (g.A.Acceptor.left c.args.acceptor.now))} _
+    ((c.now-now.result, c.now-now.ensures.told, c.now-now.ensures.below, c.now-now.ensures.rises, (w0, begins, inl (c.in_err-begin.ensures.stops, refl))))
+
+pub returns-in_err-give-clause-stops : goal.returns-in_err-give-clause-stops
+returns-in_err-give-clause-stops g c =
+    let w0 = world_of c.begin_turn.new.self (dialling g.D.Dialer.calls g.D.Dialer.left g.D.Dialer.faults c.args.dialer.now) (g.K.Sink.held c.args.sink.now) in
+    let begins = c.begin_turn.ensures (dialling g.D.Dialer.calls g.D.Dialer.left g.D.Dialer.faults c.args.dialer.now) (g.K.Sink.held c.args.sink.now) in
+    at_err {P = Stopped g.C.Clock.readings g.C.Clock.newest c.args.clock.now c.now-now.new.self
+    (λ t. TurnStops (GoesDrawing g.N.Core.goes g.W.Words.gives g.W.Words.faults) g.L.Link.talk t c.args.start c.args.script.now c.args.listens (at_rest c.args.node.now c.args.random.now)
+    (world_of c.args.set.now (dialling g.D.Dialer.calls g.D.Dialer.left g.D.Dialer.faults c.args.dialer.now) (g.K.Sink.held c.args.sink.now)) (g.A.Acceptor.left c.args.acceptor.now)
+    (world_of c.give.new.set (dialling g.D.Dialer.calls g.D.Dialer.left g.D.Dialer.faults c.give.new.dialer) (g.K.Sink.held c.give.new.sink)) (g.A.Acceptor.left c.args.acceptor.now))} _
+    ((
+      c.now-now.result,
+      c.now-now.ensures.told,
+      c.now-now.ensures.below,
+      c.now-now.ensures.rises,
+      (
+        w0,
+        begins,
+        inr (
+          at_rest c.begin.new.node c.begin.new.random,
+          (world_of c.begin.new.set (dialling g.D.Dialer.calls g.D.Dialer.left g.D.Dialer.faults c.begin.new.dialer) (g.K.Sink.held c.begin.new.sink)),
+          c.in_ok-begin.ensures.starts,
+          inl (c.in_err-give.ensures.stops, refl),
+        ),
+      ),
+    ))
+
+pub returns-in_err-give_news-clause-stops : goal.returns-in_err-give_news-clause-stops
+returns-in_err-give_news-clause-stops g c =
+    let w0 = world_of c.begin_turn.new.self (dialling g.D.Dialer.calls g.D.Dialer.left g.D.Dialer.faults c.args.dialer.now) (g.K.Sink.held c.args.sink.now) in
+    let begins = c.begin_turn.ensures (dialling g.D.Dialer.calls g.D.Dialer.left g.D.Dialer.faults c.args.dialer.now) (g.K.Sink.held c.args.sink.now) in
+    at_err {P = Stopped g.C.Clock.readings g.C.Clock.newest c.args.clock.now c.now-now.new.self
+    (λ t. TurnStops (GoesDrawing g.N.Core.goes g.W.Words.gives g.W.Words.faults) g.L.Link.talk t c.args.start c.args.script.now c.args.listens (at_rest c.args.node.now c.args.random.now)
+    (world_of c.args.set.now (dialling g.D.Dialer.calls g.D.Dialer.left g.D.Dialer.faults c.args.dialer.now) (g.K.Sink.held c.args.sink.now)) (g.A.Acceptor.left c.args.acceptor.now)
+    (world_of c.give_news.new.set (dialling g.D.Dialer.calls g.D.Dialer.left g.D.Dialer.faults c.give_news.new.dialer) (g.K.Sink.held c.give_news.new.sink)) (g.A.Acceptor.left c.args.acceptor.now))} _
+    ((
+      c.now-now.result,
+      c.now-now.ensures.told,
+      c.now-now.ensures.below,
+      c.now-now.ensures.rises,
+      (
+        w0,
+        begins,
+        inr (
+          at_rest c.begin.new.node c.begin.new.random,
+          (world_of c.begin.new.set (dialling g.D.Dialer.calls g.D.Dialer.left g.D.Dialer.faults c.begin.new.dialer) (g.K.Sink.held c.begin.new.sink)),
+          c.in_ok-begin.ensures.starts,
+          inr (
+            at_rest c.give.new.node c.give.new.random,
+            (world_of c.give.new.set (dialling g.D.Dialer.calls g.D.Dialer.left g.D.Dialer.faults c.give.new.dialer) (g.K.Sink.held c.give.new.sink)),
+            c.in_ok-give.ensures.gives,
+            (c.in_err-give_news.ensures.stops.0, inl (c.in_err-give_news.ensures.stops.1, refl)),
+          ),
+        ),
+      ),
+    ))
+
+pub returns-in_err-left-clause-stops : goal.returns-in_err-left-clause-stops
+returns-in_err-left-clause-stops g c =
+    let w0 = world_of c.begin_turn.new.self (dialling g.D.Dialer.calls g.D.Dialer.left g.D.Dialer.faults c.args.dialer.now) (g.K.Sink.held c.args.sink.now) in
+    let begins = c.begin_turn.ensures (dialling g.D.Dialer.calls g.D.Dialer.left g.D.Dialer.faults c.args.dialer.now) (g.K.Sink.held c.args.sink.now) in
+    at_err {P = Stopped g.C.Clock.readings g.C.Clock.newest c.args.clock.now c.now-now.new.self
+    (λ t. TurnStops (GoesDrawing g.N.Core.goes g.W.Words.gives g.W.Words.faults) g.L.Link.talk t c.args.start c.args.script.now c.args.listens (at_rest c.args.node.now c.args.random.now)
+    (world_of c.args.set.now (dialling g.D.Dialer.calls g.D.Dialer.left g.D.Dialer.faults c.args.dialer.now) (g.K.Sink.held c.args.sink.now)) (g.A.Acceptor.left c.args.acceptor.now)
+    (world_of c.give_due.new.set (dialling g.D.Dialer.calls g.D.Dialer.left g.D.Dialer.faults c.give_due.new.dialer) (g.K.Sink.held c.give_due.new.sink)) (g.A.Acceptor.left c.args.acceptor.now))} _
+    ((
+      c.now-now.result,
+      c.now-now.ensures.told,
+      c.now-now.ensures.below,
+      c.now-now.ensures.rises,
+      (
+        w0,
+        begins,
+        inr (
+          at_rest c.begin.new.node c.begin.new.random,
+          (world_of c.begin.new.set (dialling g.D.Dialer.calls g.D.Dialer.left g.D.Dialer.faults c.begin.new.dialer) (g.K.Sink.held c.begin.new.sink)),
+          c.in_ok-begin.ensures.starts,
+          inr (
+            at_rest c.give.new.node c.give.new.random,
+            (world_of c.give.new.set (dialling g.D.Dialer.calls g.D.Dialer.left g.D.Dialer.faults c.give.new.dialer) (g.K.Sink.held c.give.new.sink)),
+            c.in_ok-give.ensures.gives,
+            (
+              c.in_ok-give_news.ensures.gives.0,
+              inr (
+                at_rest c.give_news.new.node c.give_news.new.random,
+                (world_of c.give_news.new.set (dialling g.D.Dialer.calls g.D.Dialer.left g.D.Dialer.faults c.give_news.new.dialer) (g.K.Sink.held c.give_news.new.sink)),
+                c.in_ok-give_news.ensures.gives.1,
+                (c.in_err-left.ensures.stops.0, c.in_err-left.ensures.stops.1, c.in_err-left.ensures.stops.2, rw c.passed_by.ensures at c.in_err-left.ensures.stops.3, inl (c.in_err-left.ensures.stops.4, refl)),
+              ),
+            ),
+          ),
+        ),
+      ),
+    ))
+
+pub returns-in_err-hear_all-clause-stops : goal.returns-in_err-hear_all-clause-stops
+returns-in_err-hear_all-clause-stops g c =
+    let w0 = world_of c.begin_turn.new.self (dialling g.D.Dialer.calls g.D.Dialer.left g.D.Dialer.faults c.args.dialer.now) (g.K.Sink.held c.args.sink.now) in
+    let begins = c.begin_turn.ensures (dialling g.D.Dialer.calls g.D.Dialer.left g.D.Dialer.faults c.args.dialer.now) (g.K.Sink.held c.args.sink.now) in
+    at_err {P = Stopped g.C.Clock.readings g.C.Clock.newest c.args.clock.now c.now-now.new.self
+    (λ t. TurnStops (GoesDrawing g.N.Core.goes g.W.Words.gives g.W.Words.faults) g.L.Link.talk t c.args.start c.args.script.now c.args.listens (at_rest c.args.node.now c.args.random.now)
+    (world_of c.args.set.now (dialling g.D.Dialer.calls g.D.Dialer.left g.D.Dialer.faults c.args.dialer.now) (g.K.Sink.held c.args.sink.now)) (g.A.Acceptor.left c.args.acceptor.now)
+    (world_of c.hear_all.new.set (dialling g.D.Dialer.calls g.D.Dialer.left g.D.Dialer.faults c.hear_all.new.dialer) (g.K.Sink.held c.hear_all.new.sink)) (g.A.Acceptor.left c.args.acceptor.now))} _
+    ((
+      c.now-now.result,
+      c.now-now.ensures.told,
+      c.now-now.ensures.below,
+      c.now-now.ensures.rises,
+      (
+        w0,
+        begins,
+        inr (
+          at_rest c.begin.new.node c.begin.new.random,
+          (world_of c.begin.new.set (dialling g.D.Dialer.calls g.D.Dialer.left g.D.Dialer.faults c.begin.new.dialer) (g.K.Sink.held c.begin.new.sink)),
+          c.in_ok-begin.ensures.starts,
+          inr (
+            at_rest c.give.new.node c.give.new.random,
+            (world_of c.give.new.set (dialling g.D.Dialer.calls g.D.Dialer.left g.D.Dialer.faults c.give.new.dialer) (g.K.Sink.held c.give.new.sink)),
+            c.in_ok-give.ensures.gives,
+            (
+              c.in_ok-give_news.ensures.gives.0,
+              inr (
+                at_rest c.give_news.new.node c.give_news.new.random,
+                (world_of c.give_news.new.set (dialling g.D.Dialer.calls g.D.Dialer.left g.D.Dialer.faults c.give_news.new.dialer) (g.K.Sink.held c.give_news.new.sink)),
+                c.in_ok-give_news.ensures.gives.1,
+                (
+                  c.in_ok-left.ensures.gives.0,
+                  c.in_ok-left.left.now,
+                  c.in_ok-left.ensures.gives.1,
+                  rw c.passed_by.ensures at c.in_ok-left.ensures.gives.2,
+                  inr (
+                    at_rest c.give_due.new.node c.give_due.new.random,
+                    (world_of c.give_due.new.set (dialling g.D.Dialer.calls g.D.Dialer.left g.D.Dialer.faults c.give_due.new.dialer) (g.K.Sink.held c.give_due.new.sink)),
+                    rw c.passed_by.ensures at c.in_ok-left.ensures.gives.3,
+                    c.in_ok-left.ensures.gives.4,
+                    inl (c.in_err-hear_all.ensures.stops, refl),
+                  ),
+                ),
+              ),
+            ),
+          ),
+        ),
+      ),
+    ))
+
+pub returns-in_err-admit-clause-stops : goal.returns-in_err-admit-clause-stops
+returns-in_err-admit-clause-stops g c =
+    let w0 = world_of c.begin_turn.new.self (dialling g.D.Dialer.calls g.D.Dialer.left g.D.Dialer.faults c.args.dialer.now) (g.K.Sink.held c.args.sink.now) in
+    let begins = c.begin_turn.ensures (dialling g.D.Dialer.calls g.D.Dialer.left g.D.Dialer.faults c.args.dialer.now) (g.K.Sink.held c.args.sink.now) in
+    at_err {P = Stopped g.C.Clock.readings g.C.Clock.newest c.args.clock.now c.now-now.new.self
+    (λ t. TurnStops (GoesDrawing g.N.Core.goes g.W.Words.gives g.W.Words.faults) g.L.Link.talk t c.args.start c.args.script.now c.args.listens (at_rest c.args.node.now c.args.random.now)
+    (world_of c.args.set.now (dialling g.D.Dialer.calls g.D.Dialer.left g.D.Dialer.faults c.args.dialer.now) (g.K.Sink.held c.args.sink.now)) (g.A.Acceptor.left c.args.acceptor.now)
+    (world_of c.admit.new.set (dialling g.D.Dialer.calls g.D.Dialer.left g.D.Dialer.faults c.admit.new.dialer) (g.K.Sink.held c.admit.new.sink)) (g.A.Acceptor.left c.admit.new.acceptor))} _
+    ((
+      c.now-now.result,
+      c.now-now.ensures.told,
+      c.now-now.ensures.below,
+      c.now-now.ensures.rises,
+      (
+        w0,
+        begins,
+        inr (
+          at_rest c.begin.new.node c.begin.new.random,
+          (world_of c.begin.new.set (dialling g.D.Dialer.calls g.D.Dialer.left g.D.Dialer.faults c.begin.new.dialer) (g.K.Sink.held c.begin.new.sink)),
+          c.in_ok-begin.ensures.starts,
+          inr (
+            at_rest c.give.new.node c.give.new.random,
+            (world_of c.give.new.set (dialling g.D.Dialer.calls g.D.Dialer.left g.D.Dialer.faults c.give.new.dialer) (g.K.Sink.held c.give.new.sink)),
+            c.in_ok-give.ensures.gives,
+            (
+              c.in_ok-give_news.ensures.gives.0,
+              inr (
+                at_rest c.give_news.new.node c.give_news.new.random,
+                (world_of c.give_news.new.set (dialling g.D.Dialer.calls g.D.Dialer.left g.D.Dialer.faults c.give_news.new.dialer) (g.K.Sink.held c.give_news.new.sink)),
+                c.in_ok-give_news.ensures.gives.1,
+                (
+                  c.in_ok-left.ensures.gives.0,
+                  c.in_ok-left.left.now,
+                  c.in_ok-left.ensures.gives.1,
+                  rw c.passed_by.ensures at c.in_ok-left.ensures.gives.2,
+                  inr (
+                    at_rest c.give_due.new.node c.give_due.new.random,
+                    (world_of c.give_due.new.set (dialling g.D.Dialer.calls g.D.Dialer.left g.D.Dialer.faults c.give_due.new.dialer) (g.K.Sink.held c.give_due.new.sink)),
+                    rw c.passed_by.ensures at c.in_ok-left.ensures.gives.3,
+                    c.in_ok-left.ensures.gives.4,
+                    inr (
+                      at_rest c.hear_all.new.node c.hear_all.new.random,
+                      (world_of c.hear_all.new.set (dialling g.D.Dialer.calls g.D.Dialer.left g.D.Dialer.faults c.hear_all.new.dialer) (g.K.Sink.held c.hear_all.new.sink)),
+                      c.in_ok-hear_all.ensures.hears,
+                      c.in_err-admit.ensures.stops,
+                    ),
+                  ),
+                ),
+              ),
+            ),
+          ),
+        ),
+      ),
+    ))

@@ -1,4 +1,4 @@
-use Rattle.std.proofs.Common.{refl, Option, Some, None, Ok, Err}
+use Rattle.std.proofs.Common.{refl, Some, None, Ok, Err}
 use Rattle.bsc_edge.specs.declared.fault.LinkFault.TheVariants.{Failed}
 use Rattle.bsc_edge.specs.declared.incoming.Incoming.TheVariants.{Message, Text, Quiet, Closed}
 use Rattle.bsc_node.specs.declared.node_event.NodeEvent.TheVariants.{Came, CameText}

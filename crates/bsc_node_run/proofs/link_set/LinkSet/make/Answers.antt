@@ -1,4 +1,4 @@
-use Rattle.std.proofs.Common.{rules, tests, refl, sym, ◌∙◌, ap, take}
+use Rattle.std.proofs.Common.{rules, tests}
 use Rattle.bsc_node_run.proofs.Slots.{no_links, no_slots}
 use Rattle.bsc_node_run.proofs.link_set.LinkSet.make.Goals as goal
 

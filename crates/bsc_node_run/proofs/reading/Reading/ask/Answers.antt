@@ -1,5 +1,4 @@
-use Rattle.std.proofs.Common.{List, map, ◌∷◌, [], ◌++◌, sym, ap, ◌∙◌}
-use Rattle.bsc_node_run.specs.declared.line.Line.TheVariants.{Ask}
+use Rattle.std.proofs.Common.{map}
 use Rattle.bsc_node_run.specs.Scripts.{wish_of}
 use Rattle.bsc_node_run.proofs.Behind.{asked_more, follows_ask, on_ok}
 use Rattle.bsc_node_run.proofs.reading.Reading.ask.Goals as goal

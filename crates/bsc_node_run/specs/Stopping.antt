@@ -1,0 +1,156 @@
+-- A run that a fault stops: what was done up to there. What came before the fault is as in any run, and one action at most was
+-- carried out in part.
+use Rattle.std.specs.Prelude.{◌≡◌, ◌≤◌, ℕ, ◌⊎◌, Bool, true, false, IsTrue, List, [], ◌∷◌, ◌++◌, Option, Some, None, Result, Ok, Err}
+use Rattle.std.specs.Prelude.{length, unwrap_or}
+use Rattle.bsc_outside.specs.Faults.{PutsPrefix}
+use Rattle.bsc_edge.specs.declared.arrived.Arrived.TheVariants.{Link}
+use Rattle.bsc_edge.specs.declared.fault.LinkFault.{LinkFault}
+use Rattle.bsc_edge.specs.declared.said.Said.{Said}
+use Rattle.bsc_edge.specs.Dialling.{dialled, Takes as LeavesBehind}
+use Rattle.bsc_edge.specs.Told.{Grows, Leaves}
+use Rattle.bsc_node.specs.declared.link_name.LinkName.{LinkName}
+use Rattle.bsc_node.specs.declared.node_event.NodeEvent.{NodeEvent}
+use Rattle.bsc_node.specs.declared.node_event.NodeEvent.TheVariants.{Start, Arrived, Tick}
+use Rattle.bsc_node.specs.declared.action.Action.{Action}
+use Rattle.bsc_node.specs.declared.action.Action.TheVariants.{Dial, Deliver, Tell}
+use Rattle.bsc_node.specs.Conditions.{brings_word}
+use Rattle.bsc_node_run.specs.declared.due.Due.{Due}
+use Rattle.bsc_node_run.specs.declared.news.News.{News}
+use Rattle.bsc_node_run.specs.Lines.{note_line, delivered_line}
+use Rattle.bsc_node_run.specs.Performing.{Carries, Does, kind_of}
+use Rattle.bsc_node_run.specs.Receiving.{Received}
+use Rattle.bsc_node_run.specs.Running.{DontFall, IsEmpty}
+use Rattle.bsc_node_run.specs.Turning.{AreDue, Gives, GivesLines, GivesNews, Hears, HearsEach, IsNotDue, Starts, Turn}
+use Rattle.bsc_node_run.specs.Turning.{draws, event_of, names, passed_by}
+use Rattle.bsc_node_run.specs.Worlds.{Dialling, World, Same, begun, is_open}
+
+module _ {L : Type 0} where
+  -- Nothing was dialled or written.
+  abbrev pub IsStill : World L → World L → Type 0
+  IsStill w v = (v.dialled ≡ w.dialled) × (v.held ≡ w.held)
+
+  -- A first part of a text was written.
+  abbrev pub WritesPart : List ℕ → World L → World L → Type 0
+  WritesPart text w v = (v.dialled ≡ w.dialled) × PutsPrefix w.held v.held text
+
+  -- An action was carried out in part: a URI was dialled once, and what the dialer answered may have come to nothing; or a
+  -- first part of a line was written. Any other action dials and writes nothing.
+  abbrev pub DoesPart : Action → World L → World L → Type 0
+  DoesPart (Dial name uri) w v = (given : Result L LinkFault)
+      × Grows w.dialled.calls v.dialled.calls (dialled uri (kind_of name) given ∷ [])
+      × LeavesBehind w.dialled.left v.dialled.left given × (v.held ≡ w.held)
+  DoesPart (Deliver d) w v = WritesPart (delivered_line d) w v
+  DoesPart (Tell note) w v = WritesPart (note_line note) w v
+  DoesPart action w v = IsStill w v
+
+module _ {L : Type 0} (talk : L → Option (List Said)) where
+  -- Actions, of which the first ones were carried out, and the next in part.
+  abbrev pub Breaks : List Action → World L → World L → Type 0
+  Breaks [] w v = ⊥
+  Breaks (a ∷ actions) w v = DoesPart a w v ⊎ ((m : World L) × Does talk a w m × Breaks actions m v)
+
+module _ {N L : Type 0} (goes : N → ℕ → NodeEvent → List Action → N → Type 0) (talk : L → Option (List Said)) (now : ℕ) where
+  -- ---- one event
+
+  -- The node had no memory for it; or what it does at it was broken off.
+  abbrev pub StopsAt : NodeEvent → N → World L → World L → Type 0
+  StopsAt e n w v = Same v w ⊎ ((actions : List Action) × (p : N) × goes n now e actions p × Breaks talk actions w v)
+
+  -- It stopped at this event, or at the word that was drawn by it.
+  abbrev pub GiveStops : NodeEvent → N → World L → World L → Type 0
+  GiveStops e n w v = StopsAt e n w v
+      ⊎ ((actions : List Action) × (p : N) × (x : World L) × (word : NodeEvent) × goes n now e actions p × Carries talk actions w x
+      × (draws actions ≡ true) × IsTrue (brings_word word) × StopsAt word p x v)
+
+  -- ---- the parts of a turn
+
+  -- It stopped at one of these.
+  abbrev pub NewsStop : List News → N → World L → World L → Type 0
+  NewsStop [] n w v = ⊥
+  NewsStop (one ∷ more) n w v = (rest : List News) × (w.due ≡ one ∷ rest)
+      × (GiveStops (event_of one) n (record w { due = rest }) v
+      ⊎ ((p : N) × (x : World L) × Gives goes talk now (event_of one) n (record w { due = rest }) p x × NewsStop more p x v))
+
+  abbrev pub LinesStop : List Due → N → World L → World L → Type 0
+  LinesStop [] n w v = ⊥
+  LinesStop (d ∷ lines) n w v = GiveStops d.event n w v
+      ⊎ ((p : N) × (x : World L) × Gives goes talk now d.event n w p x × LinesStop lines p x v)
+
+  -- There was no memory for what a link gave; or it stopped at that.
+  abbrev pub HearStops : LinkName → N → World L → World L → Type 0
+  HearStops name n w v = (is_open name w ≡ true)
+      × (IsStill w v ⊎ ((e : NodeEvent) × (x : World L) × Received talk name (w.link name) (Some e) w x × GiveStops e n x v))
+
+  abbrev pub EachStop : List LinkName → N → World L → World L → Type 0
+  EachStop [] n w v = ⊥
+  EachStop (name ∷ names) n w v = HearStops name n w v
+      ⊎ ((p : N) × (x : World L) × Hears goes talk now name n w p x × EachStop names p x v)
+
+  -- The acceptor failed, or there was no memory for what it gave; or it stopped at the link that arrived.
+  abbrev pub AdmitStops : Bool → N → World L → Option (List L) → World L → Option (List L) → Type 0
+  AdmitStops false n w left v left' = ⊥
+  AdmitStops true n w left v left' = ((fault : LinkFault) × Same v w × Leaves left left' (Err fault))
+      ⊎ ((l : L) × Leaves left left' (Ok (Link l)) × GiveStops Arrived n (record w { arrived = Some l }) v)
+
+  abbrev pub StartStops : Option ℕ → N → World L → World L → Type 0
+  StartStops None n w v = GiveStops Start n w v
+  StartStops (Some start) n w v = ⊥
+
+  -- ---- a turn, from each of its parts on: it stopped there, or that went through
+
+  abbrev pub StopsFromLinks : Bool → N → World L → Option (List L) → World L → Option (List L) → Type 0
+  StopsFromLinks listens n w left v left' = (EachStop names n w v × (left' ≡ left))
+      ⊎ ((p : N) × (x : World L) × HearsEach goes talk now names n w p x × AdmitStops listens p x left v left')
+
+  abbrev pub StopsFromLines : ℕ → List Due → Bool → N → World L → Option (List L) → World L → Option (List L) → Type 0
+  StopsFromLines passed script listens n w left v left' = (lines rest : List Due) × (script ≡ lines ++ rest) × AreDue passed lines
+      × ((LinesStop lines n w v × (left' ≡ left))
+      ⊎ ((p : N) × (x : World L) × IsNotDue passed rest × GivesLines goes talk now lines n w p x
+      × StopsFromLinks listens p x left v left'))
+
+  abbrev pub StopsFromNews : ℕ → List Due → Bool → N → World L → Option (List L) → World L → Option (List L) → Type 0
+  StopsFromNews passed script listens n w left v left' = (news : List News)
+      × ((NewsStop news n w v × (left' ≡ left))
+      ⊎ ((p : N) × (x : World L) × GivesNews goes talk now news n w p x × StopsFromLines passed script listens p x left v left'))
+
+  abbrev pub StopsFromTick : ℕ → List Due → Bool → N → World L → Option (List L) → World L → Option (List L) → Type 0
+  StopsFromTick passed script listens n w left v left' = (GiveStops Tick n w v × (left' ≡ left))
+      ⊎ ((p : N) × (x : World L) × Gives goes talk now Tick n w p x × StopsFromNews passed script listens p x left v left')
+
+  -- A turn that stopped: its parts in their order, up to where it did.
+  abbrev pub TurnStops : Option ℕ → List Due → Bool → N → World L → Option (List L) → World L → Option (List L) → Type 0
+  TurnStops start script listens n w left v left' = (o : World L) × Same o (begun w)
+      × ((StartStops start n o v × (left' ≡ left))
+      ⊎ ((p : N) × (x : World L) × Starts goes talk now start n o p x
+      × StopsFromTick (passed_by start now) script listens p x left v left'))
+
+module _ {N L : Type 0} (goes : N → ℕ → NodeEvent → List Action → N → Type 0) (talk : L → Option (List Said)) (listens : Bool) where
+  -- Turns at these times, of which the last stopped.
+  abbrev pub TurnsStop : List ℕ → Option ℕ → List Due → N → World L → Option (List L) → World L → Option (List L) → Type 0
+  TurnsStop [] start script n w left v left' = ⊥
+  TurnsStop (now ∷ times) start script n w left v left' = (w.finished ≡ false)
+      × (((times ≡ []) × TurnStops goes talk now start script listens n w left v left')
+      ⊎ ((rest : List Due) × (p : N) × (x : World L) × (mid : Option (List L))
+      × Turn goes talk now start script rest listens n w left p x mid
+      × TurnsStop times (Some (unwrap_or start now)) rest p x mid v left'))
+
+  -- A run that a fault stopped in one of its turns.
+  pub record RunStops (turns : ℕ) (script : List Due) (n : N) (dialled : Dialling L) (held : Option (List ℕ)) (left : Option (List L))
+      (told : Option (List ℕ)) (dialled' : Dialling L) (held' : Option (List ℕ)) (left' : Option (List L)) (told' : Option (List ℕ)) : Type 0 where
+    pub times : List ℕ
+    pub first : World L
+    pub last : World L
+    pub empty : IsEmpty dialled held first
+    pub went : TurnsStop times None script n first left last left'
+    pub dials : last.dialled ≡ dialled'
+    pub holds : last.held ≡ held'
+    pub readings : Grows told told' times
+    pub rise : DontFall 0 times
+    pub within : length times ≤ turns
+
+  -- A run that ended by a fault: before its first turn, for want of memory, or in a turn.
+  abbrev pub RunFails : ℕ → List Due → N → Dialling L → Option (List ℕ) → Option (List L) → Option (List ℕ)
+      → Dialling L → Option (List ℕ) → Option (List L) → Option (List ℕ) → Type 0
+  RunFails turns script n dialled held left told dialled' held' left' told' =
+      ((dialled' ≡ dialled) × (held' ≡ held) × (left' ≡ left) × (told' ≡ told))
+      ⊎ RunStops turns script n dialled held left told dialled' held' left' told'
