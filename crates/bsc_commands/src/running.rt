@@ -13,6 +13,7 @@ ghost use Rattle.bsc_load_command.specs.Loaded.{RunsLoad};
 ghost use Rattle.bsc_node_command.specs.Comes.{RunsFiles};
 ghost use Rattle.bsc_node_run.specs.declared.due.Due.{Due};
 ghost use Rattle.bsc_node_run.specs.Scripts.{script_of, wish_of};
+ghost use Rattle.bsc_node_run.specs.Worlds.{dialling};
 ghost use Rattle.bsc_node_runs.specs.Courses.{FinishCame};
 ghost use Rattle.bsc_words.specs.declared.fault.WordsFault.TheVariants as words_fault;
 ghost use Rattle.bsc_words.specs.Words.{asked_by, check, hub, load, node, replay, seen};
@@ -103,26 +104,28 @@ fn run_asked<
     ensures no_hub_untouched { (path : Text) (sessions : Option ℕ) → seen asked.entry ≡ hub path sessions → kept.new.hub ≡ None →
         (kept.new ≡ kept.old) × (clock.new ≡ clock.old) × (acceptor.new ≡ acceptor.old) × (spawner.new ≡ spawner.old) }
     ensures node { (path script : Text) → seen asked.entry ≡ node path script →
-        RunsFiles L.talk (F.holds files.old path) (F.holds files.old script)
+        RunsFiles L.talk W.gives W.faults (F.holds files.old path) (F.holds files.old script)
         (record {
           unread = F.faults files.old;
           beside = record {
-            dialled = D.calls dialer.old;
+            dialled = dialling D.calls D.left D.faults dialer.old;
             links = A.left acceptor.old;
             port = A.bound acceptor.old;
             faults = A.faults acceptor.old;
             readings = C.readings clock.old;
+            random = random.old;
             written = K.held sink.old;
           };
         })
         (record {
           unread = F.faults files.new;
           beside = record {
-            dialled = D.calls dialer.new;
+            dialled = dialling D.calls D.left D.faults dialer.new;
             links = A.left acceptor.new;
             port = A.bound acceptor.new;
             faults = A.faults acceptor.new;
             readings = C.readings clock.new;
+            random = random.new;
             written = K.held sink.new;
           };
         }) result }
@@ -267,26 +270,28 @@ pub fn run<
 
     // Of the words of a node: what became of it, by its settings and its script as they were in their files.
     ensures node { (path script : Text) → asked_by (map string_bytes words.now) ≡ Some (node path script) →
-        RunsFiles L.talk (F.holds files.old path) (F.holds files.old script)
+        RunsFiles L.talk W.gives W.faults (F.holds files.old path) (F.holds files.old script)
         (record {
           unread = F.faults files.old;
           beside = record {
-            dialled = D.calls dialer.old;
+            dialled = dialling D.calls D.left D.faults dialer.old;
             links = A.left acceptor.old;
             port = A.bound acceptor.old;
             faults = A.faults acceptor.old;
             readings = C.readings clock.old;
+            random = random.old;
             written = K.held sink.old;
           };
         })
         (record {
           unread = F.faults files.new;
           beside = record {
-            dialled = D.calls dialer.new;
+            dialled = dialling D.calls D.left D.faults dialer.new;
             links = A.left acceptor.new;
             port = A.bound acceptor.new;
             faults = A.faults acceptor.new;
             readings = C.readings clock.new;
+            random = random.new;
             written = K.held sink.new;
           };
         }) result }

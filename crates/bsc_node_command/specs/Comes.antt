@@ -1,7 +1,6 @@
 -- What running a node by its settings comes to.
-use Rattle.std.specs.Prelude.{◌≡◌, ℕ, ◌⊎◌, List, [], map, Option, Some, None, is_some, Result, Ok, Err, IfOk}
+use Rattle.std.specs.Prelude.{◌≡◌, ℕ, ◌⊎◌, List, [], map, Option, Some, None, is_some, Result, Ok, Err, IfErr, IfOk}
 use Rattle.bsc_outside.specs.Faults.{HasRisen}
-use Rattle.bsc_edge.specs.declared.dialled.Dialled.{Dialled}
 use Rattle.bsc_edge.specs.declared.said.Said.{Said}
 use Rattle.bsc_edge.specs.Told.{Grows, Stays, Tells}
 use Rattle.bsc_player.specs.LastLines.{EndsWith, RanOut, script_line}
@@ -15,8 +14,11 @@ use Rattle.bsc_node_core.specs.Node.{Answers}
 use Rattle.bsc_node_run.specs.declared.due.Due.{Due}
 use Rattle.bsc_node_run.specs.declared.halt.Halt.{Halt}
 use Rattle.bsc_node_run.specs.declared.run_end.RunEnd.{RunEnd}
+use Rattle.bsc_node_run.specs.Drawing.{GoesDrawing, at_rest}
 use Rattle.bsc_node_run.specs.Running.{Run}
 use Rattle.bsc_node_run.specs.Scripts.{script_of, wish_of}
+use Rattle.bsc_node_run.specs.Stopping.{RunFails}
+use Rattle.bsc_node_run.specs.Worlds.{Dialling}
 use Rattle.bsc_node_runs.specs.Alone.{NoLinkCame, alone}
 use Rattle.bsc_node_runs.specs.Courses.{Goes}
 use Rattle.bsc_node_runs.specs.Said.{EndsAsTold, IsSaid}
@@ -47,44 +49,53 @@ abbrev pub IsBoundBy : Option ℕ → Option (Option ℕ) → Option (Option ℕ
 IsBoundBy (Some port) p p' = Tells p' (Some port)
 IsBoundBy None p p' = Stays p p'
 
--- What there is outside a node that is run, at a moment, each as far as it is told: what was dialled; the links that the
--- acceptor has left, the port that it is bound to, and its count of faults; the readings of the clock; and what was written.
-pub record NodeWorld (L : Type 0) : Type 0 where
-  pub dialled : Option (List Dialled)
+-- What there is outside a node that is run, at a moment, each as far as it is told: the dialer; the links that the acceptor
+-- has left, the port that it is bound to, and its count of faults; the readings of the clock; who draws its random words; and
+-- what was written.
+pub record NodeWorld (L W : Type 0) : Type 0 where
+  pub dialled : Dialling L
   pub links : Option (List L)
   pub port : Option (Option ℕ)
   pub faults : ℕ
   pub readings : Option (List ℕ)
+  pub random : W
   pub written : Option (List ℕ)
 
 -- The same outside the command, and the files' count of faults.
-pub record CommandWorld (L : Type 0) : Type 0 where
-  pub beside : NodeWorld L
+pub record CommandWorld (L W : Type 0) : Type 0 where
+  pub beside : NodeWorld L W
   pub unread : ℕ
 
-module _ {L : Type 0} where
+module _ {L W : Type 0} where
   -- No node was run: a line of the script is the first bad one, and no port was bound; or the script is good, the port wasn't
   -- bound, and the acceptor's count of faults rose; or memory ran out, before the port was bound or after.
-  abbrev pub NotRun : NodeSettings → List ℕ → NodeWorld L → NodeWorld L → ℕ → Type 0
+  abbrev pub NotRun : NodeSettings → List ℕ → NodeWorld L W → NodeWorld L W → ℕ → Type 0
   NotRun v script before after s =
       ((n : ℕ) × (script_of script ≡ Err n) × Stays before.port after.port × Says s 2 before.written after.written (script_line n))
       ⊎ ((lines : List Due) × (script_of script ≡ Ok (map wish_of lines)) × HasRisen before.faults after.faults
       × EndsWith s 6 before.written after.written link_line)
       ⊎ ((Stays before.port after.port ⊎ IsBoundBy v.direct_port before.port after.port) × RanOut s before.written after.written)
 
+  -- Nothing was dialled, no link was taken, the clock wasn't read, and no word was drawn.
+  pub record IsIdle (before after : NodeWorld L W) : Type 0 where
+    pub dialled : after.dialled ≡ before.dialled
+    pub links : Stays before.links after.links
+    pub readings : after.readings ≡ before.readings
+    pub random : after.random ≡ before.random
+
   -- Nothing was touched but the output.
-  abbrev pub IsUntouched : NodeWorld L → NodeWorld L → Type 0
+  abbrev pub IsUntouched : NodeWorld L W → NodeWorld L W → Type 0
   IsUntouched before after = after ≡ record before { written = after.written }
 
-module _ {L : Type 0} (talk : L → Option (List Said)) where
+module _ {L W : Type 0} (talk : L → Option (List Said)) (gives : W → Option ℕ → W → Type 0) (failed : W → ℕ) where
   -- A node of the settings to which nothing had come was run, with the lines of the script, and the acceptor is bound by the
   -- settings. A run that came to its end was a whole run of a node as its definition has it: each event that came to it is
-  -- one that may come, and what was done is what the definition asks for. It made as many turns as the settings allow at
-  -- most, and accepts links exactly where they have a port. What the node of that log told is what was written, and what it
+  -- one that may come, what was done is what the definition asks for, and each word that the node drew was drawn there. It
+  -- made as many turns as the settings allow at most, and accepts links exactly where they have a port. What the node of that log told is what was written, and what it
   -- dialled is what was dialled; it told that it has ended exactly where the run is finished. Where no link came, the
-  -- log is that of a node alone, by the readings of the clock and the lines of the script. What the run wrote stands before
-  -- what is written of its end.
-  pub record Ran (v : NodeSettings) (script : List ℕ) (before after : NodeWorld L) (s : ℕ) : Type 0 where
+  -- log is that of a node alone, by the readings of the clock and the lines of the script. A run that a fault ended is such a
+  -- run up to there, with one action more in part. What the run wrote stands before what is written of its end.
+  pub record Ran (v : NodeSettings) (script : List ℕ) (before after : NodeWorld L W) (s : ℕ) : Type 0 where
     pub lines : List Due
     pub reads : script_of script ≡ Ok (map wish_of lines)
     pub last : Log
@@ -93,30 +104,33 @@ module _ {L : Type 0} (talk : L → Option (List Said)) where
     pub written : Option (List ℕ)
     pub bound : IsBoundBy v.direct_port before.port after.port
     pub stays : Stays before.links left
-    pub run : IfOk end (λ e. Run (Goes (made_by v)) talk (is_some v.direct_port) e v.turns lines [] before.dialled before.written
-        left before.readings last after.dialled written after.links after.readings)
-    pub said : IfOk end (λ e. IsSaid last before.dialled after.dialled before.written written × EndsAsTold e last)
-    pub lonely : IfOk end (λ e. NoLinkCame before.dialled after.dialled left after.links
+    pub run : IfOk end (λ e. Run (GoesDrawing (Goes (made_by v)) gives failed) talk (is_some v.direct_port) e v.turns lines
+        (at_rest [] before.random) before.dialled before.written left before.readings
+        (at_rest last after.random) after.dialled written after.links after.readings)
+    pub fails : IfErr end (λ halt. RunFails (GoesDrawing (Goes (made_by v)) gives failed) talk (is_some v.direct_port) v.turns lines
+        (at_rest [] before.random) before.dialled before.written left before.readings
+        after.dialled written after.links after.readings)
+    pub said : IfOk end (λ e. IsSaid last before.dialled.calls after.dialled.calls before.written written × EndsAsTold e last)
+    pub lonely : IfOk end (λ e. NoLinkCame before.dialled.calls after.dialled.calls left after.links
         → (times : List ℕ) × Grows before.readings after.readings times × (last ≡ alone (made_by v) lines times))
     pub says : SaysEnd end s written after.written
 
-  -- Either no node was run, nothing was dialled, no link was taken and the clock wasn't read; or a node was run.
-  abbrev pub Comes : NodeSettings → List ℕ → NodeWorld L → NodeWorld L → ℕ → Type 0
+  -- Either no node was run, nothing was dialled, no link was taken, the clock wasn't read and no word was drawn; or a node
+  -- was run.
+  abbrev pub Comes : NodeSettings → List ℕ → NodeWorld L W → NodeWorld L W → ℕ → Type 0
   Comes v script before after s =
-      ((after.dialled ≡ before.dialled) × (after.readings ≡ before.readings) × Stays before.links after.links
-      × NotRun v script before after s)
-      ⊎ Ran v script before after s
+      (IsIdle before after × NotRun v script before after s) ⊎ Ran v script before after s
 
   -- Either the script wasn't read, and nothing was touched; or a node of these settings came to this by the script that the
   -- file has.
-  abbrev pub RunsScript : NodeSettings → (List ℕ → Type 0) → CommandWorld L → CommandWorld L → ℕ → Type 0
+  abbrev pub RunsScript : NodeSettings → (List ℕ → Type 0) → CommandWorld L W → CommandWorld L W → ℕ → Type 0
   RunsScript v holds before after s =
       (IsUntouched before.beside after.beside × Unread before.unread after.unread s before.beside.written after.beside.written)
       ⊎ ((script : List ℕ) × holds script × Comes v script before.beside after.beside s)
 
   -- Either there are no settings of a node in the file, and nothing was touched; or this became of the node of them, by the
   -- script in the other file, of which `scripted` says what it has.
-  abbrev pub RunsFiles : (List ℕ → Type 0) → (List ℕ → Type 0) → CommandWorld L → CommandWorld L → ℕ → Type 0
+  abbrev pub RunsFiles : (List ℕ → Type 0) → (List ℕ → Type 0) → CommandWorld L W → CommandWorld L W → ℕ → Type 0
   RunsFiles settled scripted before after s =
       (IsUntouched before.beside after.beside
       × Unsettled settled before.unread after.unread s before.beside.written after.beside.written)

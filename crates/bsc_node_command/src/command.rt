@@ -3,6 +3,7 @@ ghost use Rattle.std.specs.Prelude.{◌≡◌, ◌≤◌, ◌⊎◌, map, Ok, If
 ghost use Rattle.bsc_outside.specs.Faults.{HasRisen};
 ghost use Rattle.bsc_node_run.specs.declared.due.Due.{Due};
 ghost use Rattle.bsc_node_run.specs.Scripts.{script_of, wish_of};
+ghost use Rattle.bsc_node_run.specs.Worlds.{dialling};
 ghost use Rattle.bsc_node_runs.specs.Courses.{FinishCame};
 ghost use Rattle.bsc_node_command.specs.Lines.{Says, settings_line};
 ghost use Rattle.bsc_node_command.specs.Settled.{IsSettled, Unread, Unsettled};
@@ -99,26 +100,28 @@ fn run_script<K: Sink, F: Files, C: Clock, W: Words, L: Link + Drop, A: Acceptor
     acceptor: &mut A,
     dialer: &mut D,
 ) -> u8
-    ensures runs { RunsScript L.talk settings.now (F.holds files.old path.now)
+    ensures runs { RunsScript L.talk W.gives W.faults settings.now (F.holds files.old path.now)
         (record {
           unread = F.faults files.old;
           beside = record {
-            dialled = D.calls dialer.old;
+            dialled = dialling D.calls D.left D.faults dialer.old;
             links = A.left acceptor.old;
             port = A.bound acceptor.old;
             faults = A.faults acceptor.old;
             readings = C.readings clock.old;
+            random = random.old;
             written = K.held sink.old;
           };
         })
         (record {
           unread = F.faults files.new;
           beside = record {
-            dialled = D.calls dialer.new;
+            dialled = dialling D.calls D.left D.faults dialer.new;
             links = A.left acceptor.new;
             port = A.bound acceptor.new;
             faults = A.faults acceptor.new;
             readings = C.readings clock.new;
+            random = random.new;
             written = K.held sink.new;
           };
         }) result }
@@ -163,26 +166,29 @@ pub fn run_node_files<
     dialer: &mut D,
 ) -> u8
     // The file of settings wasn't read or was refused; or a node of them was run by the script, where that was read.
-    ensures runs { RunsFiles L.talk (F.holds files.old words.entry.path.now) (F.holds files.old words.entry.script.now)
+    ensures runs { RunsFiles L.talk W.gives W.faults
+        (F.holds files.old words.entry.path.now) (F.holds files.old words.entry.script.now)
         (record {
           unread = F.faults files.old;
           beside = record {
-            dialled = D.calls dialer.old;
+            dialled = dialling D.calls D.left D.faults dialer.old;
             links = A.left acceptor.old;
             port = A.bound acceptor.old;
             faults = A.faults acceptor.old;
             readings = C.readings clock.old;
+            random = random.old;
             written = K.held sink.old;
           };
         })
         (record {
           unread = F.faults files.new;
           beside = record {
-            dialled = D.calls dialer.new;
+            dialled = dialling D.calls D.left D.faults dialer.new;
             links = A.left acceptor.new;
             port = A.bound acceptor.new;
             faults = A.faults acceptor.new;
             readings = C.readings clock.new;
+            random = random.new;
             written = K.held sink.new;
           };
         }) result }

@@ -7,6 +7,7 @@ ghost use Rattle.bsc_node_run.specs.declared.halt.Halt.{Halt as HaltType};
 ghost use Rattle.bsc_node_command.specs.Lines.{SaysEnd};
 ghost use Rattle.bsc_node_run.specs.declared.due.Due.{Due};
 ghost use Rattle.bsc_node_run.specs.Scripts.{script_of, wish_of};
+ghost use Rattle.bsc_node_run.specs.Worlds.{dialling};
 ghost use Rattle.bsc_node_runs.specs.Courses.{FinishCame};
 ghost use Rattle.bsc_node_command.specs.Comes.{Comes, IsBoundBy, Ran, made_by};
 
@@ -66,21 +67,23 @@ fn run_made<K: Sink, C: Clock, W: Words, L: Link + Drop, A: Acceptor<L>, D: Dial
     ensures ran { (script : List ℕ) (links : Option (List L)) (port : Option (Option ℕ)) (faults : ℕ) →
         script_of script ≡ Ok (map wish_of lines.now) → Stays links (A.left acceptor.old) →
         IsBoundBy settings.now.direct_port port (A.bound acceptor.old) →
-        Ran L.talk settings.now script
+        Ran L.talk W.gives W.faults settings.now script
         (record {
-          dialled = D.calls dialer.old;
+          dialled = dialling D.calls D.left D.faults dialer.old;
           links = links;
           port = port;
           faults = faults;
           readings = C.readings clock.old;
+          random = random.old;
           written = K.held sink.old;
         })
         (record {
-          dialled = D.calls dialer.new;
+          dialled = dialling D.calls D.left D.faults dialer.new;
           links = A.left acceptor.new;
           port = A.bound acceptor.new;
           faults = A.faults acceptor.new;
           readings = C.readings clock.new;
+          random = random.new;
           written = K.held sink.new;
         }) result }
     ensures write { result ≡ 4 → HasRisen (K.faults sink.old) (K.faults sink.new) }
@@ -117,21 +120,23 @@ fn run_lines<K: Sink, C: Clock, W: Words, L: Link + Drop, A: Acceptor<L>, D: Dia
     dialer: &mut D,
 ) -> u8
     ensures comes { (script : List ℕ) → script_of script ≡ Ok (map wish_of lines.now) →
-        Comes L.talk settings.now script
+        Comes L.talk W.gives W.faults settings.now script
         (record {
-          dialled = D.calls dialer.old;
+          dialled = dialling D.calls D.left D.faults dialer.old;
           links = A.left acceptor.old;
           port = A.bound acceptor.old;
           faults = A.faults acceptor.old;
           readings = C.readings clock.old;
+          random = random.old;
           written = K.held sink.old;
         })
         (record {
-          dialled = D.calls dialer.new;
+          dialled = dialling D.calls D.left D.faults dialer.new;
           links = A.left acceptor.new;
           port = A.bound acceptor.new;
           faults = A.faults acceptor.new;
           readings = C.readings clock.new;
+          random = random.new;
           written = K.held sink.new;
         }) result }
     ensures write { result ≡ 4 → HasRisen (K.faults sink.old) (K.faults sink.new) }
@@ -162,21 +167,23 @@ fn run_text<K: Sink, C: Clock, W: Words, L: Link + Drop, A: Acceptor<L>, D: Dial
     acceptor: &mut A,
     dialer: &mut D,
 ) -> u8
-    ensures comes { Comes L.talk settings.now script.now
+    ensures comes { Comes L.talk W.gives W.faults settings.now script.now
         (record {
-          dialled = D.calls dialer.old;
+          dialled = dialling D.calls D.left D.faults dialer.old;
           links = A.left acceptor.old;
           port = A.bound acceptor.old;
           faults = A.faults acceptor.old;
           readings = C.readings clock.old;
+          random = random.old;
           written = K.held sink.old;
         })
         (record {
-          dialled = D.calls dialer.new;
+          dialled = dialling D.calls D.left D.faults dialer.new;
           links = A.left acceptor.new;
           port = A.bound acceptor.new;
           faults = A.faults acceptor.new;
           readings = C.readings clock.new;
+          random = random.new;
           written = K.held sink.new;
         }) result }
     ensures write { result ≡ 4 → HasRisen (K.faults sink.old) (K.faults sink.new) }
@@ -223,21 +230,23 @@ pub fn run_node<K: Sink, C: Clock, W: Words, L: Link + Drop, A: Acceptor<L>, D: 
     dialer: &mut D,
 ) -> u8
     // Either no node was run, and nothing was dialled; or a node of the settings was, to its end or to a fault.
-    ensures comes { Comes L.talk settings.now script.now
+    ensures comes { Comes L.talk W.gives W.faults settings.now script.now
         (record {
-          dialled = D.calls dialer.old;
+          dialled = dialling D.calls D.left D.faults dialer.old;
           links = A.left acceptor.old;
           port = A.bound acceptor.old;
           faults = A.faults acceptor.old;
           readings = C.readings clock.old;
+          random = random.old;
           written = K.held sink.old;
         })
         (record {
-          dialled = D.calls dialer.new;
+          dialled = dialling D.calls D.left D.faults dialer.new;
           links = A.left acceptor.new;
           port = A.bound acceptor.new;
           faults = A.faults acceptor.new;
           readings = C.readings clock.new;
+          random = random.new;
           written = K.held sink.new;
         }) result }
 
