@@ -10,4 +10,6 @@ mod calls;
 #[cfg(test)]
 mod entries;
 #[cfg(test)]
+mod judging;
+#[cfg(test)]
 mod unicasts;
