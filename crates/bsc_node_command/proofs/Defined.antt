@@ -67,8 +67,7 @@ module _ {L W : Type 0} (talk : L → Option (List Said)) (gives : W → Option 
       → (M : Log) × IfOk end (λ e. Run (GoesDrawing (Goes (made_by v)) gives failed) talk (is_some v.direct_port) e v.turns lines (at_rest [] u) c b l t (at_rest M u') c' b' l' t')
   by_definition v script lines first last u u' (Ok end) c c' l l' t t' b b' reads made run =
       let two = lifted (GoesDrawing AnswersAt gives failed) (made_by v) (λ n (M : Log). StandsFor n.node.node (made_by v) M) (drawing_steps gives failed (made_by v))
-      talk (is_some v.direct_port) end v.turns lines (asked_of script lines reads) (at_rest first u) (at_rest last u') c c' b b' l l' t t' made run in
-      (
+      talk (is_some v.direct_port) end v.turns lines (asked_of script lines reads) (at_rest first u) (at_rest last u') c c' b b' l l' t t' made run in (
         two.0,
         run_map (Both (GoesDrawing AnswersAt gives failed) (made_by v)) (GoesDrawing (Goes (made_by v)) gives failed) log_beside
             (log_draws AnswersAt gives failed (made_by v)) talk (is_some v.direct_port) end v.turns lines
