@@ -17,7 +17,7 @@ use bsc_node_run::Words;
 use bsc_octets::Octets;
 use bsc_outside::Sink;
 use bsc_player::{end_with, out_of_memory};
-use bsc_settings::{NodeSettings, SettingFault, read_settings};
+use bsc_settings::{NodeSettings, SettingFault, Settings, read_settings};
 use std::alloc::Global;
 
 /// Ends a run whose settings are refused.
@@ -78,10 +78,17 @@ fn load_settings<K: Sink, F: Files>(
         Err(FileFault::NoMemory) => return Err(out_of_memory(sink)),
     };
     match read_settings(alloc, text.as_slice()) {
-        Ok(settings) => match settings.node {
-            Some(node) => Ok(node),
-            None => Err(refuse(alloc, sink, "node")),
-        },
+        Ok(settings) => {
+            let Settings {
+                hub: _hub,
+                node,
+                policy: _policy,
+            } = settings;
+            match node {
+                Some(node) => Ok(node),
+                None => Err(refuse(alloc, sink, "node")),
+            }
+        }
         Err(SettingFault::NotToml) => Err(refuse(alloc, sink, "-")),
         Err(SettingFault::Key { name }) => Err(refuse(alloc, sink, name.text())),
         Err(SettingFault::NoMemory) => Err(out_of_memory(sink)),
