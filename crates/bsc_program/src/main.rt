@@ -80,7 +80,10 @@ fn main(rt: HostRuntime) -> ExitCode {
     ) else {
         return ExitCode::from(out_of_memory(&mut sink));
     };
-    let (Ok(of_files), Ok(of_door)) = (notes.clone(), notes.clone()) else {
+    let Ok(of_files) = notes.clone() else {
+        return ExitCode::from(out_of_memory(&mut sink));
+    };
+    let Ok(of_door) = notes.clone() else {
         return ExitCode::from(out_of_memory(&mut sink));
     };
     let begin = move |alloc: Global, places: &Arc<Places>, job: Job| -> Result<(), Unstarted<Job>> {
