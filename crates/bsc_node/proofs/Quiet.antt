@@ -22,7 +22,7 @@ use Rattle.bsc_node.specs.declared.note.Note.{Note}
 use Rattle.bsc_node.specs.declared.note.Note.TheVariants.{HubNow, DirectDown, Finished, Renewed, NoRandom}
 use Rattle.bsc_node.specs.declared.action.Action.{Action}
 use Rattle.bsc_node.specs.declared.action.Action.TheVariants.{Dial, Take, Put, Close, Deliver, Draw}
-use Rattle.bsc_node.specs.Logs.{Made, Line, did, slot, initiating, accepting, Log, Rule, nothing, in_order, either, when, where_found, does, tells, own_vmac, now, next_id, is_finishing}
+use Rattle.bsc_node.specs.Logs.{Made, Line, did, slot, initiating, accepting, Log, Rule, nothing, in_order, either, when, where_found, does, tells, own_vmac, now, next_id, is_finishing, came}
 use Rattle.bsc_node.specs.Links.{is_there, none_there, was_taken, start, initiating_events, accepting_events, by_machine, ticks, finishes, Outcome, puts, puts_and_closes, closes, meets, is_refused, passes_up, keeps_still, outcome}
 use Rattle.bsc_node.specs.Hubs.{hub_use, hub_use_before, is_up, is_tried, is_dropped, newest_step, told, same_use}
 use Rattle.bsc_node.specs.Ways.{established_peer, slots_see}
@@ -48,6 +48,7 @@ is_quiet_call call = true
 abbrev pub is_quiet : Line → Bool
 is_quiet (did action) = is_quiet_action action
 is_quiet (slot call) = is_quiet_call call
+is_quiet (came e) = false
 is_quiet m = true
 
 -- Whatever the log, nothing of that comes about.

@@ -34,3 +34,4 @@ pub mod Obeyed
 pub mod Meets
 pub mod Placing
 pub mod Ticking
+pub mod LinkStages

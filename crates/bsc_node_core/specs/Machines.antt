@@ -1,5 +1,5 @@
 -- What is kept of the machine of a link.
-use Rattle.std.specs.Prelude.{Bool, true, false, if◌then◌else◌, Option, Some, None, unwrap_or}
+use Rattle.std.specs.Prelude.{Bool, true, false, if◌then◌else◌, Option, Some, None, is_none, is_some, unwrap_or}
 use Rattle.bsc_octets.specs.declared.identity.Identity.{Identity}
 use Rattle.bsc_checks.specs.declared.phase.Phase.{Phase}
 use Rattle.bsc_checks.specs.declared.phase.Phase.TheVariants.{AwaitingAccept}
@@ -44,6 +44,17 @@ is_fit (Asked m) = is_asked m.stage
 abbrev pub says_there : Machine → Bool
 says_there Gone = false
 says_there m = true
+
+-- whether the link is under way: it was dialled, and its WebSocket hasn't opened
+abbrev pub says_dialling : Machine → Bool
+says_dialling (Dialled m) = is_none (InitiatingStanding.phase_of m)
+says_dialling m = false
+
+-- whether the link is open: it was taken, or its WebSocket has opened
+abbrev pub says_open : Machine → Bool
+says_open (Dialled m) = is_some (InitiatingStanding.phase_of m)
+says_open (Taken m) = true
+says_open m = false
 
 -- Whether a machine may be told something, or isn't there: it is neither over, nor has it asked.
 abbrev pub is_at_rest : Machine → Bool
