@@ -1,0 +1,15 @@
+pub mod Settings
+pub mod Traffic
+pub mod Worlds
+pub mod Changes
+pub mod Outboxes
+pub mod HubCalls
+pub mod HubSides
+pub mod Taking
+pub mod NodeSides
+pub mod Dialling
+pub mod NodeEvents
+pub mod Arriving
+pub mod Refusals
+pub mod Networks
+pub mod Courses

@@ -1,0 +1,28 @@
+-- The laws on what comes down from hubs, on what nodes put, on who names itself, and on who is connected.
+use Rattle.bsc_network.specs.Networks.{world}
+use Rattle.bsc_network.proofs.Places.{all-mapped}
+use Rattle.bsc_network_laws.specs.Deliveries.{Sends}
+use Rattle.bsc_network_laws.specs.Carried.{DownIsTaken, TakenComesDown, PutBySend, PutsWhatWasSent}
+use Rattle.bsc_network_laws.specs.Naming.{NamesAreRight}
+use Rattle.bsc_network_laws.specs.Connecting.{ConnectionsAreOfDiallers, ConnectionsJoinedByTheirLinks}
+use Rattle.bsc_network_laws.proofs.Taken.{LinkFits}
+use Rattle.bsc_network_laws.proofs.SentOnLinks.{LinkSent}
+use Rattle.bsc_network_laws.proofs.Running.{runs}
+
+pub taken_comes_down : TakenComesDown
+taken_comes_down added steps course =
+    let w = world added steps in
+    all-mapped (LinkFits w.hubs) (DownIsTaken w) (λ link fits j h is at. (fits j h is at).down) w.links (runs added steps course).2.sides
+
+pub puts_what_was_sent : PutsWhatWasSent
+puts_what_was_sent added steps course =
+    all-mapped (LinkSent (Sends steps)) (PutBySend steps) (λ link sent. record { up = sent.up; down = sent.down }) (world added steps).links (runs added steps course).2.sent
+
+pub names_are_right : NamesAreRight
+names_are_right added steps course = (runs added steps course).2.named.links
+
+pub connections_are_of_diallers : ConnectionsAreOfDiallers
+connections_are_of_diallers added steps course = (runs added steps course).2.diallers
+
+pub connections_joined_by_their_links : ConnectionsJoinedByTheirLinks
+connections_joined_by_their_links added steps course l j h link c here leads at conn = (runs added steps course).2.joins l j h link c (record { hub = at; link = here; leads = leads }) conn

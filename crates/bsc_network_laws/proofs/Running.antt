@@ -1,0 +1,156 @@
+-- What holds of each network after any steps that may be made.
+use Rattle.std.proofs.Common.{◌≡◌, ◌≤◌, ◌<◌, ℕ, List, [], ◌∷◌, ◌++◌, Some, refl, ap, sym, subst, ◌∙◌, append_assoc, arith}
+use Rattle.std.specs.Prelude.{◌+◌, ◌^◌, fold, length, map, slice_get}
+use Rattle.std.specs.List.{AllByRecursion}
+use Rattle.std.proofs.lemmas.List.{length-append}
+use Rattle.std.proofs.lemmas.Option.{slice_get-map}
+use Rattle.bsc_octets.specs.declared.vmac.Vmac.{Vmac}
+use Rattle.bsc_node.specs.declared.node_event.NodeEvent.TheVariants.{Send}
+use Rattle.bsc_node.specs.Logs.{Made}
+use Rattle.bsc_history.specs.declared.limits.About.{About}
+use Rattle.bsc_node_identity.proofs.Peers.{knit-at_first}
+use Rattle.bsc_node_identity.proofs.Timely.{Timely}
+use Rattle.bsc_network.specs.declared.world_step.WorldStep.TheVariants.{Node as OfNode}
+use Rattle.bsc_network.specs.declared.timed_step.TimedStep.{TimedStep}
+use Rattle.bsc_network.specs.Settings.{Added, hubs, nodes}
+use Rattle.bsc_network.specs.Worlds.{World, Link, Node, new_hub, new_node, new_world}
+use Rattle.bsc_network.specs.Outboxes.{frames_of}
+use Rattle.bsc_network.specs.Networks.{makes, world}
+use Rattle.bsc_network.specs.Courses.{MayMake, MayMakeAll, IsCourse}
+use Rattle.bsc_network.proofs.Places.{found-in}
+use Rattle.bsc_network_laws.specs.Carrying.{Sendings}
+use Rattle.bsc_network_laws.specs.Deliveries.{Sends}
+use Rattle.bsc_network_laws.specs.Naming.{Cast, cast_of}
+use Rattle.bsc_network_laws.proofs.Stepping.{begun, done}
+use Rattle.bsc_network_laws.proofs.Ways.{WaysFit, ways_fit}
+use Rattle.bsc_network_laws.proofs.Holding.{EndOf, HoldsFit, holds_fit, keep-others}
+use Rattle.bsc_network_laws.specs.Connecting.{JoinsDiallers}
+use Rattle.bsc_network_laws.proofs.Joins.{SidesJoined, sides_joined}
+use Rattle.bsc_network_laws.proofs.Diallers.{Inv, inv-same, IsFit, kept-names, diallers_stay, nodes_fit}
+use Rattle.bsc_history.specs.Ends.{joined_where}
+use Rattle.bsc_network_laws.proofs.Timing.{AllTimely, all_timely, at-done}
+use Rattle.bsc_network_laws.proofs.Taken.{SidesFit, down_is_taken}
+use Rattle.bsc_network_laws.proofs.Knowing.{knows-begun, kept-step}
+use Rattle.bsc_network_laws.proofs.Casting.{Stays, Casts, casts-same, KnowsAll, kept-all, casts-done}
+use Rattle.bsc_network_laws.proofs.Named.{OutboxesNameNobody, Named, named-same, named_stays}
+use Rattle.bsc_network_laws.proofs.SentOnLinks.{AllSent, IsCounted, sent_stays}
+
+-- What holds after so many steps, the last of which was at the time T.
+pub record Runs (cast : Cast) (S : Sendings) (T place : ℕ) (w : World) : Type 0 where
+  pub place_is : w.steps ≡ place
+  pub ways : AllByRecursion WaysFit w.links
+  pub holds : HoldsFit w
+  pub timely : AllTimely T w
+  pub sides : SidesFit w
+  pub sent : AllSent S w
+  pub casts : Casts cast w
+  pub named : Named cast w
+  pub diallers : Inv cast w
+  pub joins : SidesJoined w
+
+sent-makes : (cast : Cast) (S : Sendings) (T : ℕ) (w : World) (t : TimedStep) → Runs cast S T w.steps w → T ≤ t.now → t.now < 2 ^ 62 → IsCounted S w.steps t.step → AllSent S (makes w t)
+sent-makes cast S T w t r after below sends =
+    kept-step (AllSent S) t w.steps (sent_stays S t.now w.steps t.step sends) w (knows-begun T w t after below r.timely r.holds r.sides) r.sent
+
+-- all that is known at the beginning of a step
+known : (cast : Cast) (S : Sendings) (T : ℕ) (w : World) (t : TimedStep) → Runs cast S T w.steps w → T ≤ t.now → t.now < 2 ^ 62 → KnowsAll cast t.now w.steps (begun w t)
+known cast S T w t r after below = (knows-begun T w t after below r.timely r.holds r.sides, casts-same cast w (begun w t) refl refl r.casts)
+
+named-done : (cast : Cast) (S : Sendings) (T : ℕ) (w : World) (t : TimedStep) → Runs cast S T w.steps w → T ≤ t.now → t.now < 2 ^ 62 → Named cast (done w t)
+named-done cast S T w t r after below = kept-all cast (Named cast) t w.steps (named_stays cast t.now w.steps t.step) w (known cast S T w t r after below) (named-same cast w (begun w t) refl refl r.named)
+
+dialled-done : (cast : Cast) → IsFit cast → (S : Sendings) (T : ℕ) (w : World) (t : TimedStep) → Runs cast S T w.steps w → T ≤ t.now → t.now < 2 ^ 62 → Inv cast (done w t)
+dialled-done cast fit S T w t r after below =
+    kept-names cast (Inv cast) t w.steps (diallers_stay cast fit t.now w.steps t.step) w (known cast S T w t r after below, named-same cast w (begun w t) refl refl r.named)
+    (inv-same cast w (begun w t) (keep-others w (begun w t) refl refl) refl r.diallers)
+
+one_step : (cast : Cast) → IsFit cast → (S : Sendings) (T : ℕ) (w : World) (t : TimedStep) → Runs cast S T w.steps w → T ≤ t.now → t.now < 2 ^ 62 → IsCounted S w.steps t.step → Runs cast S t.now (w.steps + 1) (makes w t)
+one_step cast fit S T w t r after below sends = record {
+  place_is = ap (λ n. n + 1) (at-done T w t after below r.timely).steps;
+  ways = ways_fit w t r.ways;
+  holds = (holds_fit w t).holds r.holds;
+  timely = all_timely T w t after below r.timely;
+  sides = down_is_taken w t r.holds r.sides;
+  sent = sent-makes cast S T w t r after below sends;
+  casts = casts-same cast (done w t) (makes w t) refl refl (casts-done cast t w.steps w (known cast S T w t r after below));
+  named = named-same cast (done w t) (makes w t) refl refl (named-done cast S T w t r after below);
+  joins = sides_joined w t r.joins;
+  diallers = inv-same cast (done w t) (makes w t) (keep-others (done w t) (makes w t) refl refl) refl (dialled-done cast fit S T w t r after below);
+}
+
+-- the step at its place among all steps
+step-at : (before : List TimedStep) (t : TimedStep) (ts : List TimedStep) → slice_get (map (λ x. x.step) (before ++ t ∷ ts)) (length before) ≡ Some t.step
+step-at [] t ts = refl
+step-at (x ∷ before) t ts = step-at before t ts
+
+one_longer : (before : List TimedStep) (t : TimedStep) → length before + 1 ≡ length (before ++ t ∷ [])
+one_longer before t = sym (length-append before (t ∷ []))
+
+runs-makes : (cast : Cast) → IsFit cast → (S : Sendings) (T place : ℕ) (w : World) (t : TimedStep) → Runs cast S T place w → T ≤ t.now → t.now < 2 ^ 62 → IsCounted S place t.step → Runs cast S t.now (place + 1) (makes w t)
+runs-makes cast fit S T place w t r after below sends =
+    subst (λ p. Runs cast S t.now (p + 1) (makes w t)) r.place_is
+    (one_step cast fit S T w t (subst (λ p. Runs cast S T p w) (sym r.place_is) r) after below (subst (λ p. IsCounted S p t.step) (sym r.place_is) sends))
+
+-- after the steps before, and then the others
+runs-on : (cast : Cast) → IsFit cast → (steps before ts : List TimedStep) (T : ℕ) (w : World) → steps ≡ before ++ ts → Runs cast (Sends steps) T (length before) w → MayMakeAll T ts → (U : ℕ) × (place : ℕ) × Runs cast (Sends steps) U place (fold makes w ts)
+runs-on cast fit steps before [] T w is r may = (T, length before, r)
+runs-on cast fit steps before (t ∷ ts) T w is r may =
+    let first : MayMake T t = may.0 in
+    let sends = λ (k : ℕ) (dest : Vmac) (npdu : List ℕ) (own : t.step ≡ OfNode k (Send dest npdu)).
+    ap (λ (xs : List TimedStep). slice_get (map (λ x. x.step) xs) (length before)) is ∙ step-at before t ts ∙ ap Some own in
+    let next = runs-makes cast fit (Sends steps) T (length before) w t r first.later first.in_range sends in
+    runs-on cast fit steps (before ++ t ∷ []) ts t.now (makes w t) (is ∙ sym (append_assoc before (t ∷ []) ts))
+    (subst (λ p. Runs cast (Sends steps) t.now p (makes w t)) (one_longer before t) next) may.1
+
+timely-new : (ms : List Made) → AllByRecursion (λ (n : Node). Timely 0 n.log) (map new_node ms)
+timely-new [] = tt
+timely-new (a ∷ ms) = (record { time = omega arith; word = refl }, timely-new ms)
+
+holds-new : (added : List Added) → HoldsFit (new_world added)
+holds-new added k n here =
+    let made = found-in new_node (slice_get (nodes added) k) n (sym (slice_get-map new_node (nodes added) k) ∙ here) in
+    subst (λ (m : Node). AllByRecursion (EndOf (new_world added) k) m.holds) made.2 tt
+
+map-made : {A B : Type 0} (f : A → B) (g : B → A) → ((x : A) → g (f x) ≡ x) → (xs : List A) → map g (map f xs) ≡ xs
+map-made f g back [] = refl
+map-made f g back (x ∷ xs) = ap (λ y. y ∷ map g (map f xs)) (back x) ∙ ap (λ ys. x ∷ ys) (map-made f g back xs)
+
+stays-new : (ms : List Made) → AllByRecursion (λ (n : Node). Stays n.made n.log) (map new_node ms)
+stays-new [] = tt
+stays-new (a ∷ ms) = (record { knit = knit-at_first a; vmac = refl }, stays-new ms)
+
+casts-new : (added : List Added) → Casts (cast_of added) (new_world added)
+casts-new added = record { hubs = map-made new_hub (λ h. h.about) (λ a. refl) (hubs added); nodes = map-made new_node (λ n. n.made) (λ a. refl) (nodes added); stays = stays-new (nodes added) }
+
+nothing-entered : (a : About) → OutboxesNameNobody (new_hub a)
+unfolding frames_of
+nothing-entered a c = tt
+
+joined-new : (cast : Cast) (w : World) (abouts : List About) → AllByRecursion (JoinsDiallers cast w) (map new_hub abouts)
+unfolding joined_where
+joined-new cast w [] = tt
+joined-new cast w (a ∷ rest) = (tt, joined-new cast w rest)
+
+outboxes-new : (as_made : List About) → AllByRecursion OutboxesNameNobody (map new_hub as_made)
+outboxes-new [] = tt
+outboxes-new (a ∷ rest) = (nothing-entered a, outboxes-new rest)
+
+no_link : (l : ℕ) (k : Link) → slice_get [] l ≡ Some k → ⊥
+no_link l k h = cc
+
+-- Each network, after any steps that may be made.
+pub runs : (added : List Added) (steps : List TimedStep) → IsCourse added steps → (T : ℕ) × (place : ℕ) × Runs (cast_of added) (Sends steps) T place (world added steps)
+runs added steps course =
+    runs-on (cast_of added) (nodes_fit added course.added_all) steps [] steps 0 (new_world added) refl
+    (record {
+      place_is = refl;
+      ways = tt;
+      holds = holds-new added;
+      timely = timely-new (nodes added);
+      sides = tt;
+      sent = tt;
+      casts = casts-new added;
+      named = record { links = tt; outboxes = outboxes-new (hubs added) };
+      joins = λ l j h k c side conn. absurd (no_link l k side.link);
+      diallers = joined-new (cast_of added) (new_world added) (hubs added);
+    }) course.made_all

@@ -1,0 +1,6 @@
+pub mod Ends
+pub mod Carrying
+pub mod Deliveries
+pub mod Carried
+pub mod Naming
+pub mod Connecting

@@ -1,0 +1,12 @@
+//! Laws of whole networks, by the definition in `bsc_network`: where each NPDU that is delivered came from, and that none is
+//! delivered twice to one node.
+//!
+//! Start at `specs/Deliveries.antt`; `laws` has what is proved.
+#![tactic(auto)]
+
+mod laws;
+
+pub use laws::{
+    connections_are_of_diallers, connections_joined_by_their_links, names_are_right,
+    puts_what_was_sent, taken_comes_down,
+};

@@ -1,0 +1,8 @@
+pub mod OnLiterals
+mod Playing
+mod WorkedScripts
+mod WorkedExamples
+mod WorkedCourse
+pub mod Held
+pub mod Growing
+pub mod Stepping

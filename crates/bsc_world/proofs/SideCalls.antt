@@ -1,0 +1,403 @@
+-- What the sessions at a hub's sides hear and do leaves of a world.
+use Rattle.std.proofs.Common.{◌≡◌, ◌≢◌, ◌≤◌, ◌⊎◌, inl, inr, ℕ, zero, suc, Bool, true, false, cond, List, [], ◌∷◌, ◌++◌, length, set, slice_get, Option, Some, None, true≢false, refl, ap, sym, ◌∙◌, subst}
+use Rattle.std.specs.Option.{option_map}
+use Rattle.bsc_direct.proofs.OneMore.{some_same}
+use Rattle.bsc_octets.specs.declared.identity.Identity.{Identity}
+use Rattle.bsc_history.specs.declared.call.Call.{Call}
+use Rattle.bsc_history.specs.declared.call.Call.TheVariants.{Connect, Forward}
+use Rattle.bsc_history.specs.declared.ending.End.{End}
+use Rattle.bsc_history.specs.declared.ending.End.TheVariants.{Left, Replaced, Full, Stopped}
+use Rattle.bsc_history.specs.declared.mark.Stamped.{Stamped}
+use Rattle.bsc_history.specs.declared.reply.Refusal.{Refusal}
+use Rattle.bsc_history.specs.declared.reply.Refusal.TheVariants.{Stopped as HubStopped, Duplicate, TableFull}
+use Rattle.bsc_history.specs.declared.reply.Reply.{Reply as ReplyOf}
+use Rattle.bsc_desk.specs.declared.desk.Desk.{Desk}
+use Rattle.bsc_checks.specs.declared.phase.Phase.TheVariants.{AwaitingRequest}
+use Rattle.bsc_accept.specs.declared.accepting.Accepting.{Accepting}
+use Rattle.bsc_accept.specs.declared.start.Start.{Start}
+use Rattle.bsc_accept.specs.declared.event.Event.{Event}
+use Rattle.bsc_accept.specs.declared.event.Event.TheVariants.{Joined, Refused, Ended}
+use Rattle.bsc_accept.specs.declared.step.Step.{Step}
+use Rattle.bsc_accept.specs.declared.step.Step.TheVariants.{Ask, Reply, ReplyClose, Carry, Close, Nothing}
+use Rattle.bsc_accept.specs.Past.{Standing, awaiting_request, connected, disconnecting, standing, phase_named}
+use Rattle.bsc_accept.specs.Kept.{moved}
+use Rattle.bsc_accept.specs.Steps.{step, closes as is_closing, ended_step, refused_step}
+use Rattle.bsc_accept.specs.Standing.{StandsFor as MachineStandsFor, AwaitsAnswer, IsConnected, LeftBy, is_open, phase_of}
+use Rattle.bsc_accept.proofs.Looking.{standing-more}
+use Rattle.bsc_script.proofs.Outboxes.{open_phase}
+use Rattle.bsc_script.proofs.Settling.{connected_standing}
+use Rattle.bsc_node.specs.declared.link_name.LinkName.{LinkName}
+use Rattle.bsc_network.specs.declared.target.Target.{Target}
+use Rattle.bsc_network.specs.declared.target.Target.TheVariants.{Hub as ToHub, Node as ToNode}
+use Rattle.bsc_network.specs.declared.way.Way.TheVariants.{Down}
+use Rattle.bsc_network.specs.declared.parcel.Content.{Content}
+use Rattle.bsc_network.specs.declared.parcel.Content.TheVariants.{Message, Closed}
+use Rattle.bsc_world.specs.declared.kept_link.KeptConn.{KeptConn}
+use Rattle.bsc_world.specs.declared.kept_link.KeptLink.{KeptLink}
+use Rattle.bsc_world.specs.declared.kept_link.KeptSide.{KeptSide}
+use Rattle.bsc_world.specs.declared.world.World.{World as KeptWorld}
+use Rattle.bsc_network.specs.Traffic.{and_then}
+use Rattle.bsc_network.specs.Worlds.{World, Hub, HubSide, Link, hub_at, link_at}
+use Rattle.bsc_network.specs.Changes.{Change, by_target, in_order, of_hub, puts_at, puts_now, unchanged, with_found, with_link, with_traffic}
+use Rattle.bsc_network.specs.HubSides.{carries_out, closes, leaves, of_side, start, step_at, tells, told, unless_over}
+use Rattle.bsc_world.specs.Kept.{IsConnKept, IsConnKeptIf, IsLinkKept, IsReady, IsSideKept, IsSideKeptIf}
+use Rattle.bsc_world.specs.Standing.{AreReadyBut, StandsAs}
+use Rattle.bsc_world.specs.Becoming.{Became, Goes, HasSide, Keeps, Stands, ends}
+use Rattle.bsc_world.specs.Sides.{IsReadyBy, IsSideOf, KeepsSides}
+use Rattle.bsc_world.specs.SideCalls.{Finds, HasNoSession, HasSession, Tells, asks}
+use Rattle.bsc_network.proofs.Places.{get-changed, get-set_here, get-set_other}
+use Rattle.bsc_world.proofs.Spots.{LinkChange, link_changed}
+use Rattle.bsc_world.proofs.Goings.{at_clock, became_as, became_both, became_same, busy_more, goes_both, settles}
+use Rattle.bsc_world.proofs.LinkWays.{link_there, map-changed}
+use Rattle.bsc_world.proofs.OfSides.{no_link_at, of_side_is, of_side_node, of_side_none, side_at, unless_over_gone, unless_over_is}
+use Rattle.bsc_world.proofs.LeaveCalls.{OnLink}
+
+-- ---- sessions
+
+of_side_no_hub : (w : World) (l j : ℕ) (link : Link) (change : ℕ → Hub → Link → Change) → link_at w l ≡ Some link → link.to ≡ ToHub j → hub_at w j ≡ None → of_side l change w ≡ w
+of_side_no_hub w l j link change there to hub =
+    let at_hub = λ (x : Link) (i : ℕ). of_hub i (λ y. change i y x) in
+    ap (λ (o : Option Link). with_found o (λ (x : Link). by_target x.to (at_hub x) (λ n. unchanged)) w) there
+    ∙ ap (λ (t : Target). by_target t (at_hub link) (λ n. unchanged) w) to
+    ∙ ap (λ (o : Option Hub). with_found o (λ (y : Hub). change j y link) w) hub
+
+abbrev NothingDone : World → ℕ → Type 0
+NothingDone w l = (change : Change) → unless_over l change w ≡ w
+
+-- a session lasts, or none of its changes changes anything
+pub session_or_none : (w : World) (l : ℕ) → HasSession w l ⊎ ((change : Change) → unless_over l change w ≡ w)
+session_or_none w l = by (link_at w l) refl
+  where
+    over : (j : ℕ) (h : Hub) (x : Link) → link_at w l ≡ Some x → x.to ≡ ToHub j → hub_at w j ≡ Some h → (b : Bool) → x.side.is_over ≡ b → HasSession w l ⊎ NothingDone w l
+    over j h x at to hub true is = inr (λ change. unless_over_gone w l j h x change at to hub is)
+    over j h x at to hub false is = inl (j, h, x, record { there = at; to = to; hub = hub; lasts = is })
+
+    at_hub : (j : ℕ) (x : Link) → link_at w l ≡ Some x → x.to ≡ ToHub j → (o : Option Hub) → hub_at w j ≡ o → HasSession w l ⊎ NothingDone w l
+    at_hub j x at to None none = inr (λ change. of_side_no_hub w l j x (λ i y z. cond z.side.is_over unchanged change) at to none)
+    at_hub j x at to (Some h) hub = over j h x at to hub x.side.is_over refl
+
+    leads : (x : Link) → link_at w l ≡ Some x → (y : Target) → x.to ≡ y → HasSession w l ⊎ NothingDone w l
+    leads x at (ToNode k) to = inr (λ change. of_side_node w l k x (λ i y z. cond z.side.is_over unchanged change) at to)
+    leads x at (ToHub j) to = at_hub j x at to (hub_at w j) refl
+
+    by : (o : Option Link) → link_at w l ≡ o → HasSession w l ⊎ NothingDone w l
+    by None at = inr (λ change. of_side_none w l (λ i y z. cond z.side.is_over unchanged change) at)
+    by (Some x) at = leads x at x.to refl
+
+pub unless_none : (w : World) (l : ℕ) (change : Change) → HasNoSession w l → unless_over l change w ≡ w
+unless_none w l change none =
+    elim (session_or_none w l) [
+      | inl x ↦ absurd (none x.0 x.1 x.2 x.3)
+      | inr same ↦ same change
+    ]
+
+unless_unchanged : (l : ℕ) (w : World) → unless_over l unchanged w ≡ w
+unless_unchanged l w =
+    elim (session_or_none w l) [
+      | inl x ↦ unless_over_is w l x.0 x.1 x.2 unchanged x.3
+      | inr same ↦ same unchanged
+    ]
+
+-- two changes of a session are one, where the first leaves it lasting
+pub unless_then : (l : ℕ) (f g : Change) (w : World) → ((j : ℕ) (h : Hub) (x : Link) → IsSideOf w l j h x → HasSession (f w) l) → unless_over l g (unless_over l f w) ≡ unless_over l (λ v. g (f v)) w
+unless_then l f g w keeps =
+    elim (session_or_none w l) [
+      | inl x ↦ (let y = keeps x.0 x.1 x.2 x.3 in
+          ap (unless_over l g) (unless_over_is w l x.0 x.1 x.2 f x.3)
+          ∙ unless_over_is (f w) l y.0 y.1 y.2 g y.3
+          ∙ sym (unless_over_is w l x.0 x.1 x.2 (λ v. g (f v)) x.3))
+      | inr same ↦ ap (unless_over l g) (same f) ∙ same g ∙ sym (same (λ v. g (f v)))
+    ]
+
+-- a session lasts on where its link is another
+pub side_with : (w : World) (l j : ℕ) (h : Hub) (x : Link) (f : Link → Link) → IsSideOf w l j h x → (f x).to ≡ x.to → (f x).side.is_over ≡ x.side.is_over → IsSideOf (with_link l f w) l j h (f x)
+side_with w l j h x f p to over = record {
+  there = get-changed l f w.links ∙ ap (option_map f) p.there;
+  to = to ∙ p.to;
+  hub = p.hub;
+  lasts = over ∙ p.lasts;
+}
+
+pub put_session : (w : World) (l j : ℕ) (h : Hub) (x : Link) (place : ℕ) (content : Content) → IsSideOf w l j h x → HasSession (puts_at l Down place content w) l
+put_session w l j h x place content p = (let f = with_traffic Down (and_then (record { content = content; sent_at = place })) in (j, h, f x, side_with w l j h x f p refl refl))
+
+-- there is none where no link is kept
+pub past_session : (t : KeptWorld) (l : ℕ) → length t.links.items ≤ l → (F : List LinkName) (b : Option ℕ) (w : World) → StandsAs t F b w → HasNoSession w l
+past_session t l past F b w s j h x p = (let bad : None ≡ Some x = sym (no_link_at t F b w l s past) ∙ p.there in cc)
+
+-- nor where no side of a hub is kept
+pub alone_session : (t : KeptWorld) (l : ℕ) (kept : KeptLink) → slice_get t.links.items l ≡ Some kept → ((j : ℕ) → kept.to ≡ ToHub j → kept.side ≡ None) → (F : List LinkName) (b : Option ℕ) (w : World) → StandsAs t F b w → HasNoSession w l
+alone_session t l kept was none F b w s j h x p =
+    let y = link_there t F b w l kept s was in
+    let same : y.0 ≡ x = some_same y.0 x (sym y.1 ∙ p.there) in
+    let to : kept.to ≡ ToHub j = y.2.to ∙ ap (λ (z : Link). z.to) same ∙ p.to in
+    let a = s.hubs j h p.hub in
+    let over : x.side.is_over ≡ true = subst (IsSideKeptIf l h a.marks a.kept.desk x) (none j to) (a.sides l x kept p.there p.to was) in
+    true≢false (sym over ∙ p.lasts)
+
+pub kept_session : (t : KeptWorld) (l j : ℕ) (kept : KeptLink) (side : KeptSide) → slice_get t.links.items l ≡ Some kept → kept.to ≡ ToHub j → kept.side ≡ Some side → (F : List LinkName) (b : Option ℕ) (w : World) → StandsAs t F b w → HasSession w l
+kept_session t l j kept side was to is F b w s =
+    let x = side_at t F b w l j kept s was to in
+    let k : IsSideKept l x.hub x.at.marks x.at.kept.desk x.link side = subst (IsSideKeptIf l x.hub x.at.marks x.at.kept.desk x.link) is x.side in
+    (j, x.hub, x.link, record { there = x.there; to = x.to; hub = x.hub_there; lasts = k.lasts })
+
+-- ---- what is put
+
+pub put_goes_on : (t u : KeptWorld) (l : ℕ) (f : Change) → Finds true t l → Keeps f t u → Keeps (unless_over l f) t u
+put_goes_on t u l f finds p b F w at s = (let x = finds F b w s in became_as t u F b w (f w) (unless_over l f w) (sym (unless_over_is w l x.0 x.1 x.2 f x.3)) (p b F w at s))
+
+pub put_nothing : (t : KeptWorld) (l : ℕ) (f : Change) → Finds false t l → Keeps (unless_over l f) t t
+put_nothing t l f finds b F w at s = became_as t t F b w w (unless_over l f w) (sym (unless_none w l f (finds F b w s))) (became_same t t F b w refl refl refl refl refl refl s)
+
+then_closes : (t u v : KeptWorld) (l : ℕ) (content : Content) (g : Change) → Keeps (unless_over l (puts_now l Down content)) t u → Goes (Some l) None (unless_over l g) u v → Goes (Some l) None (unless_over l (λ w. g (puts_now l Down content w))) t v
+then_closes t u v l content g p q F w at s =
+    became_as t v F None w (unless_over l g (unless_over l (puts_now l Down content) w)) (unless_over l (λ y. g (puts_now l Down content y)) w)
+    (unless_then l (puts_now l Down content) g w (λ j h x i. put_session w l j h x w.steps content i))
+    (goes_both (Some l) (Some l) None (unless_over l (puts_now l Down content)) (unless_over l g) t u v (p (Some l)) q F w at s)
+
+pub close_goes : (t u v : KeptWorld) (l : ℕ) → Keeps (unless_over l (puts_now l Down Closed)) t u → Goes (Some l) None (unless_over l (leaves l)) u v → Goes (Some l) None (unless_over l (closes l)) t v
+close_goes t u v l p q = then_closes t u v l Closed (leaves l) p q
+
+pub reply_close_goes : (t u v : KeptWorld) (l : ℕ) (octets : List ℕ) → Keeps (unless_over l (puts_now l Down (Message octets))) t u → Goes (Some l) None (unless_over l (closes l)) u v
+    → Goes (Some l) None (unless_over l (in_order (puts_now l Down (Message octets) ∷ closes l ∷ []))) t v
+reply_close_goes t u v l octets p q = then_closes t u v l (Message octets) (closes l) p q
+
+-- ---- ready sides
+
+pub open_by : (s : Step) (m : Accepting) → LeftBy s m → is_closing s ≡ false → asks s ≡ false → is_open m.stage ≡ true
+open_by (Ask who) m h c a = absurd (true≢false a)
+open_by (Reply octets) m h c a = h
+open_by (ReplyClose octets x) m h c a = absurd (true≢false c)
+open_by Carry m h c a = h
+open_by (Close x) m h c a = absurd (true≢false c)
+open_by Nothing m h c a = h
+
+pub ready_by : (s : Step) → is_closing s ≡ false → asks s ≡ false → (side : KeptSide) → IsReadyBy s side → IsReady side
+ready_by s c a side r = record { waits = open_by s side.machine r.left c a; asked = r.asked c }
+
+pub kept_ready : (t u : KeptWorld) (l : ℕ) (s : Step) → is_closing s ≡ false → asks s ≡ false → HasSide t l (λ side. IsReadyBy s side) → KeepsSides t u → HasSide u l IsReady
+kept_ready t u l s c a ready keeps kept side got is = (let b = keeps l kept got in ready_by s c a side (ready b.0 side b.1 (sym b.2 ∙ is)))
+
+pub still_ready : (t : KeptWorld) (l : ℕ) (s : Step) → is_closing s ≡ false → asks s ≡ false → HasSide t l (λ side. IsReadyBy s side) → HasSide t l IsReady
+still_ready t l s c a ready kept side got is = ready_by s c a side (ready kept side got is)
+
+became_settled : (t u : KeptWorld) (F : List LinkName) (l : ℕ) (w v : World) → Became t u F (Some l) w v → HasSide u l IsReady → Became t u F None w v
+became_settled t u F l w v p ready = record { clock = p.clock; spent = p.spent; now = p.now; steps = p.steps; links = p.links; delivered = p.delivered; stands = settles u F l v p.stands ready }
+
+pub reply_goes : (t u : KeptWorld) (l : ℕ) (f : Change) → Keeps (unless_over l f) t u → HasSide u l IsReady → Goes (Some l) None (unless_over l f) t u
+reply_goes t u l f p ready F w at s = became_settled t u F l w (unless_over l f w) (p (Some l) F w at s) ready
+
+pub idle_goes : (t : KeptWorld) (l : ℕ) → HasSide t l IsReady → Goes (Some l) None (unless_over l unchanged) t t
+idle_goes t l ready F w at s =
+    became_settled t t F l w (unless_over l unchanged w)
+    (became_as t t F (Some l) w w (unless_over l unchanged w) (sym (unless_unchanged l w)) (became_same t t F (Some l) w refl refl refl refl refl refl s)) ready
+
+-- ---- what a machine is told
+
+abbrev hears : Event → Link → Link
+hears e link = record link { side = record link.side { events = link.side.events ++ e ∷ [] } }
+
+conn_told : (l : ℕ) (h : Hub) (S : List Stamped) (d : Desk) (s : HubSide) (events : List Event) (o : Option KeptConn) → IsConnKeptIf l h S d s o → IsConnKeptIf l h S d (record s { events = events }) o
+conn_told l h S d s events None k = k
+conn_told l h S d s events (Some c) k = record {
+  conn = k.conn;
+  joiner = k.joiner;
+  address = k.address;
+  marked = k.marked;
+  outlet = k.outlet;
+  taken = k.taken;
+  empties = k.empties;
+  known = k.known;
+  places = k.places;
+}
+
+side_told : (l : ℕ) (h : Hub) (S : List Stamped) (d : Desk) (link : Link) (e : Event) (s : Step) (old new : KeptLink) → Tells s e old new → IsSideKeptIf l h S d link old.side → IsSideKeptIf l h S d (hears e link) new.side
+side_told l h S d link e s old new p k =
+    let was : IsSideKept l h S d link p.was = subst (IsSideKeptIf l h S d link) p.there k in
+    let a = p.answers (start h link) link.side.events was.machine in
+    let made : IsSideKept l h S d (hears e link) (record p.was { machine = p.machine }) = record {
+      lasts = was.lasts;
+      machine = a.1;
+      joined = conn_told l h S d link.side (link.side.events ++ e ∷ []) p.was.joined was.joined;
+    } in
+    let held : IsSideKeptIf l h S d (hears e link) (Some (record p.was { machine = p.machine })) = made in
+    subst (λ (y : KeptLink). IsSideKeptIf l h S d (hears e link) y.side) (sym p.becomes) held
+
+told_kept : (link : Link) (e : Event) (s : Step) (old new : KeptLink) → Tells s e old new → IsLinkKept link old → IsLinkKept (hears e link) new
+told_kept link e s old new p k =
+    let made : IsLinkKept (hears e link) (record old { side = Some (record p.was { machine = p.machine }) }) = record {
+      from = k.from;
+      to = k.to;
+      lost = k.lost;
+      ways = λ z. record { up = (k.ways z).up; down = (k.ways z).down };
+    } in
+    subst (IsLinkKept (hears e link)) (sym p.becomes) made
+
+others_ready : (t u : KeptWorld) (l : ℕ) (after : KeptLink) → u.links.items ≡ set t.links.items l after → AreReadyBut (Some l) t → AreReadyBut (Some l) u
+others_ready t u l after links ready m k side other got is =
+    ready m k side other (sym (ap (λ xs. slice_get xs m) links ∙ get-set_other t.links.items l m after (λ e. other (ap Some e))) ∙ got) is
+
+-- A machine was told an event, and made this step.
+pub record IsTold (t u : KeptWorld) (F : List LinkName) (w : World) (l : ℕ) (s : Step) (e : Event) : Type 0 where
+  pub hub : ℕ
+  pub h : Hub
+  pub link : Link
+  pub side : IsSideOf w l hub h link
+  pub is : s ≡ step_at h link e
+  pub became : Became t u F (Some l) w (told l e w)
+
+pub is_told : (t u : KeptWorld) (F : List LinkName) (w : World) (l : ℕ) (kept after : KeptLink) (s : Step) (e : Event) → slice_get t.links.items l ≡ Some kept → OnLink t u l after → u.hubs.items ≡ t.hubs.items → Tells s e kept after → StandsAs t F (Some l) w → IsTold t u F w l s e
+is_told t u F w l kept after s e was o hubs p st =
+    let x = side_at t F (Some l) w l p.hub kept st was p.to in
+    let k : IsSideKept l x.hub x.at.marks x.at.kept.desk x.link p.was = subst (IsSideKeptIf l x.hub x.at.marks x.at.kept.desk x.link) p.there x.side in
+    let a = p.answers (start x.hub x.link) x.link.side.events k.machine in
+    let f = hears e in
+    let change : LinkChange t u w l f x.link kept after = record {
+      here = x.there;
+      was = was;
+      made = o.made;
+      hubs = hubs;
+      nodes = o.nodes;
+      links = o.links;
+      to = refl;
+      link_kept = told_kept x.link e s kept after p x.link_kept;
+      side = λ j h S d to q. side_told l h S d x.link e s kept after p q;
+      owner = λ c q r. (q, r);
+    } in
+    record {
+      hub = p.hub;
+      h = x.hub;
+      link = x.link;
+      side = record { there = x.there; to = x.to; hub = x.hub_there; lasts = k.lasts };
+      is = a.0;
+      became = record {
+        clock = o.clock;
+        spent = o.spent;
+        now = refl;
+        steps = refl;
+        links = map-changed ends f (λ y. refl) l w.links;
+        delivered = refl;
+        stands = link_changed t u F (Some l) (Some l) w l f x.link kept after change st (others_ready t u l after o.links st.ready);
+      };
+    }
+
+pub told_side : (P : KeptSide → Type 0) (t : KeptWorld) (l : ℕ) (kept after : KeptLink) (s : Step) (e : Event) → slice_get t.links.items l ≡ Some kept → (p : Tells s e kept after) → P (record p.was { machine = p.machine })
+    → (k : KeptLink) (side : KeptSide) → slice_get (set t.links.items l after) l ≡ Some k → k.side ≡ Some side → P side
+told_side P t l kept after s e was p holds k side got is =
+    let new : KeptSide = record p.was { machine = p.machine } in
+    let k_is : k ≡ after = some_same k after (sym got ∙ get-set_here t.links.items l kept after was) in
+    let side_is : side ≡ new = some_same side new (sym is ∙ ap (λ (y : KeptLink). y.side) (k_is ∙ p.becomes)) in
+    subst P (sym side_is) holds
+
+pub told_stands : (t u : KeptWorld) (l : ℕ) (kept after : KeptLink) (s : Step) (e : Event) → slice_get t.links.items l ≡ Some kept → OnLink t u l after → u.hubs.items ≡ t.hubs.items → Tells s e kept after → Stands (Some l) t → Stands (Some l) u
+told_stands t u l kept after s e was o hubs p (F, w, at, st) = (let i = is_told t u F w l kept after s e was o hubs p st in (F, told l e w, at_clock t u F (Some l) w (told l e w) at i.became, i.became.stands))
+
+-- Its step is carried out.
+pub tells_goes : (t u v : KeptWorld) (l : ℕ) (kept after : KeptLink) (s : Step) (e : Event) → slice_get t.links.items l ≡ Some kept → OnLink t u l after → u.hubs.items ≡ t.hubs.items → Tells s e kept after → Goes (Some l) None (unless_over l (carries_out l s)) u v
+    → Goes (Some l) None (unless_over l (tells l e)) t v
+tells_goes t u v l kept after s e was o hubs p q F w at st =
+    let i = is_told t u F w l kept after s e was o hubs p st in
+    let next : IsSideOf (told l e w) l i.hub i.h (hears e i.link) = side_with w l i.hub i.h i.link (hears e) i.side refl refl in
+    became_as t v F None w (unless_over l (carries_out l s) (told l e w)) (unless_over l (tells l e) w)
+    (unless_over_is (told l e w) l i.hub i.h (hears e i.link) (carries_out l s) next
+    ∙ ap (λ (y : Step). carries_out l y (told l e w)) i.is
+    ∙ sym (of_side_is w l i.hub i.h i.link (λ j h x. in_order (told l e ∷ carries_out l (step_at h x e) ∷ [])) i.side.there i.side.to i.side.hub)
+    ∙ sym (unless_over_is w l i.hub i.h i.link (tells l e) i.side))
+    (became_both t u v F (Some l) None w (told l e w) (unless_over l (carries_out l s) (told l e w)) i.became (q F (told l e w) (at_clock t u F (Some l) w (told l e w) at i.became) i.became.stands))
+
+-- ---- nobody hears
+
+set-same : {A : Type 0} (xs : List A) (i : ℕ) (x : A) → slice_get xs i ≡ Some x → set xs i x ≡ xs
+set-same [] i x h = cc
+set-same (y ∷ xs) zero x h = ap (λ z. z ∷ xs) (sym (some_same y x h))
+set-same (y ∷ xs) (suc i) x h = ap (λ ys. y ∷ ys) (set-same xs i x h)
+
+pub same_after : (t u : KeptWorld) (l : ℕ) (kept after : KeptLink) → slice_get t.links.items l ≡ Some kept → OnLink t u l after → u.hubs.items ≡ t.hubs.items → after ≡ kept → (F : List LinkName) (b : Option ℕ) (w : World) → StandsAs t F b w → Became t u F b w w
+same_after t u l kept after was o hubs same F b w s = became_same t u F b w o.clock o.spent o.made hubs o.nodes (o.links ∙ ap (set t.links.items l) same ∙ set-same t.links.items l kept was) s
+
+pub same_stands : (t u : KeptWorld) (l : ℕ) (kept after : KeptLink) → slice_get t.links.items l ≡ Some kept → OnLink t u l after → u.hubs.items ≡ t.hubs.items → after ≡ kept → (b : Option ℕ) → Stands b t → Stands b u
+same_stands t u l kept after was o hubs same b (F, w, at, s) = (let p = same_after t u l kept after was o hubs same F b w s in (F, w, at ∙ sym o.clock, p.stands))
+
+-- the session isn't there, and is let go
+pub left_goes : (t u : KeptWorld) (l : ℕ) (change : Change) → ((F : List LinkName) (b : Option ℕ) (w : World) → StandsAs t F b w → HasNoSession w l) → Goes (Some l) None (unless_over l (leaves l)) t u → Goes (Some l) None (unless_over l change) t u
+left_goes t u l change none p F w at s =
+    let n = none F (Some l) w s in
+    became_as t u F None w (unless_over l (leaves l) w) (unless_over l change w) (unless_none w l (leaves l) n ∙ sym (unless_none w l change n)) (p F w at s)
+
+pub same_left_goes : (t u v : KeptWorld) (l : ℕ) (change : Change) (kept after : KeptLink) → slice_get t.links.items l ≡ Some kept → OnLink t u l after → u.hubs.items ≡ t.hubs.items → after ≡ kept → ((j : ℕ) → kept.to ≡ ToHub j → kept.side ≡ None)
+    → Goes (Some l) None (unless_over l (leaves l)) u v → Goes (Some l) None (unless_over l change) t v
+same_left_goes t u v l change kept after was o hubs same none p F w at s =
+    let n = alone_session t l kept was none F (Some l) w s in
+    let first = same_after t u l kept after was o hubs same F (Some l) w s in
+    became_as t v F None w (unless_over l (leaves l) w) (unless_over l change w) (unless_none w l (leaves l) n ∙ sym (unless_none w l change n))
+    (became_both t u v F (Some l) None w w (unless_over l (leaves l) w) first (p F w (at ∙ sym o.clock) first.stands))
+
+-- ---- which steps they are
+
+pub machine_told : (t : KeptWorld) (l : ℕ) (kept after : KeptLink) (s : Step) (e : Event) → slice_get t.links.items l ≡ Some kept → (p : Tells s e kept after) → Stands (Some l) t
+    → (i : Start) × (E : List Event) × MachineStandsFor p.was.machine i E × (s ≡ step i E e) × MachineStandsFor p.machine i (E ++ e ∷ [])
+machine_told t l kept after s e was p (F, w, at, st) =
+    let x = side_at t F (Some l) w l p.hub kept st was p.to in
+    let k : IsSideKept l x.hub x.at.marks x.at.kept.desk x.link p.was = subst (IsSideKeptIf l x.hub x.at.marks x.at.kept.desk x.link) p.there x.side in
+    let a = p.answers (start x.hub x.link) x.link.side.events k.machine in
+    (start x.hub x.link, x.link.side.events, k.machine, a.0, a.1)
+
+awaits_not : (g : Standing) → phase_named (moved g Joined) ≡ AwaitingRequest → ⊥
+awaits_not awaiting_request e = cc
+awaits_not connected e = cc
+awaits_not (disconnecting f) e = cc
+
+pub joined_ready : (t : KeptWorld) (l : ℕ) (kept after : KeptLink) (s : Step) → slice_get t.links.items l ≡ Some kept → (p : Tells s Joined kept after) → Stands (Some l) t → (asks s ≡ false) × IsReadyBy s (record p.was { machine = p.machine })
+joined_ready t l kept after s was p st =
+    let x = machine_told t l kept after s Joined was p st in
+    let no : asks s ≡ false = ap asks x.3 in (
+      no,
+      record {
+        left = p.left;
+        asked = λ c j has waits. awaits_not (standing x.1) (ap phase_named (sym (standing-more x.1 Joined)) ∙ sym (open_phase p.machine x.0 (x.1 ++ Joined ∷ []) x.4 (open_by s p.machine p.left c no)) ∙ waits);
+      },
+    )
+
+refused_asks : (id : ℕ) (refusal : Refusal) → asks (refused_step id refusal) ≡ false
+refused_asks id (Duplicate holder) = refl
+refused_asks id (TableFull rows) = refl
+refused_asks id HubStopped = refl
+
+pub refused_ready : (t : KeptWorld) (l : ℕ) (kept after : KeptLink) (s : Step) (refusal : Refusal) → slice_get t.links.items l ≡ Some kept → (p : Tells s (Refused refusal) kept after) → Stands (Some l) t → p.was.joined ≡ None → (asks s ≡ false) × IsReadyBy s (record p.was { machine = p.machine })
+refused_ready t l kept after s refusal was p st alone =
+    let x = machine_told t l kept after s (Refused refusal) was p st in (
+      ap asks x.3 ∙ refused_asks _ refusal,
+      record { left = p.left; asked = λ c j has waits. (let bad : None ≡ Some j = sym alone ∙ has in cc) },
+    )
+
+ended_asks : (ending : End) → asks (ended_step ending) ≡ false
+ended_asks Left = refl
+ended_asks Replaced = refl
+ended_asks Full = refl
+ended_asks Stopped = refl
+
+parted : (now : ℕ) (ending : End) → is_closing (ended_step ending) ≡ false → ending ≢ Left → phase_named (moved connected (Ended now ending)) ≡ AwaitingRequest → ⊥
+parted now Left c l e = l refl
+parted now Replaced c l e = cc
+parted now Full c l e = true≢false c
+parted now Stopped c l e = cc
+
+pub ended_ready : (t : KeptWorld) (l : ℕ) (kept after : KeptLink) (s : Step) (now : ℕ) (ending : End) → slice_get t.links.items l ≡ Some kept → (p : Tells s (Ended now ending) kept after) → Stands (Some l) t → IsConnected p.was.machine → ending ≢ Left → (asks s ≡ false) × IsReadyBy s (record p.was { machine = p.machine })
+ended_ready t l kept after s now ending was p st at named =
+    let e = Ended now ending in
+    let x = machine_told t l kept after s e was p st in
+    let no : asks s ≡ false = ap asks x.3 ∙ ended_asks ending in
+    let g : standing x.1 ≡ connected = connected_standing p.was.machine x.0 x.1 x.2 at in (
+      no,
+      record {
+        left = p.left;
+        asked = λ c j has waits. parted now ending (sym (ap is_closing x.3) ∙ c) named
+            (ap (λ (y : Standing). phase_named (moved y e)) (sym g) ∙ ap phase_named (sym (standing-more x.1 e)) ∙ sym (open_phase p.machine x.0 (x.1 ++ e ∷ []) x.4 (open_by s p.machine p.left c no)) ∙ waits);
+      },
+    )
+
+pub busy_stands : (t : KeptWorld) (l : ℕ) → Stands None t → Stands (Some l) t
+busy_stands t l (F, w, at, s) = (F, w, at, busy_more t F l w s)
+
+pub ended_goes : (t v : KeptWorld) (l : ℕ) (ending : End) → Goes (Some l) None (unless_over l (tells l (Ended t.clock ending))) t v → (F : List LinkName) (w : World) → w.now ≡ t.clock → StandsAs t F None w → Became t v F None w (unless_over l (tells l (Ended w.now ending)) w)
+ended_goes t v l ending p F w at s = subst (λ (n : ℕ). Became t v F None w (unless_over l (tells l (Ended n ending)) w)) (sym at) (p F w at (busy_more t F l w s))

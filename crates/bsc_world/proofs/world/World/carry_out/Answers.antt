@@ -1,0 +1,65 @@
+use Rattle.std.proofs.Common.{◌≡◌, false, inl, inr, List, ℕ, Some, None, Result, Ok, Err, OnOk, true≢false, refl, sym, ap, ◌∙◌, subst}
+use Rattle.bsc_script.proofs.Answered.{on_ok}
+use Rattle.bsc_accept.specs.declared.step.Step.{Step}
+use Rattle.bsc_accept.specs.Steps.{closes as is_closing}
+use Rattle.bsc_network.specs.declared.way.Way.TheVariants.{Down}
+use Rattle.bsc_network.specs.declared.parcel.Content.TheVariants.{Message}
+use Rattle.bsc_network.specs.Changes.{puts_now}
+use Rattle.bsc_network.specs.HubSides.{carries_out, unless_over}
+use Rattle.bsc_world.specs.Becoming.{Goes, Keeps}
+use Rattle.bsc_world.specs.SideCalls.{asks}
+use Rattle.bsc_world.proofs.Goings.{stands_goes}
+use Rattle.bsc_world.proofs.SideCalls.{idle_goes, kept_ready, reply_close_goes, reply_goes, still_ready}
+use Rattle.bsc_world.proofs.world.World.carry_out.Goals as goal
+
+both_ok : {X E P Q R : Type 0} (r : Result X E) → (P → Q → R) → OnOk r P → OnOk r Q → OnOk r R
+both_ok (Ok x) f a b = f a b
+both_ok (Err e) f a b = a
+
+pub returns-in_ok-message-in-Reply : goal.returns-in_ok-message-in-Reply
+returns-in_ok-message-in-Reply c =
+    let t = c.args.self.now in
+    let u = c.put_down.new.self in
+    let l = c.args.link in
+    let is = c.in-Reply.is in
+    let same : c.in_ok-message-in-Reply.message ≡ c.in-Reply.octets.items = c.in_ok-message-in-Reply.ensures ∙ c.as_slice.ensures.value in
+    subst (λ st. OnOk c.put_down.result (Goes (Some l) None (unless_over l (carries_out l st)) t u)) (sym is)
+    (both_ok c.put_down.result (λ sides goes. reply_goes t u l (puts_now l Down (Message c.in-Reply.octets.items)) (subst (λ m. Keeps (unless_over l (puts_now l Down (Message m))) t u) same goes) (kept_ready t u l c.args.step (ap is_closing is) c.requires.no_ask c.requires.left sides))
+    c.put_down.ensures.sides c.put_down.ensures.goes)
+
+pub close-requires : goal.close-requires
+close-requires c =
+    let l = c.args.link in
+    record { some = stands_goes (Some l) (Some l) (unless_over l (puts_now l Down (Message c.in_ok-message-in-ReplyClose.message))) c.args.self.now c.put_down-in-ReplyClose.new.self (c.in_ok-put_down-in-ReplyClose.ensures.goes (Some l)) c.requires.some }
+
+pub returns-in_ok-put_down-in-ReplyClose : goal.returns-in_ok-put_down-in-ReplyClose
+returns-in_ok-put_down-in-ReplyClose c =
+    let t = c.args.self.now in
+    let u = c.put_down-in-ReplyClose.new.self in
+    let l = c.args.link in
+    let is = c.in-ReplyClose.is in
+    let same : c.in_ok-message-in-ReplyClose.message ≡ c.in-ReplyClose.octets.items = c.in_ok-message-in-ReplyClose.ensures ∙ c.as_slice-in-ReplyClose.ensures.value in
+    let goes = subst (λ m. Keeps (unless_over l (puts_now l Down (Message m))) t u) same c.in_ok-put_down-in-ReplyClose.ensures.goes in
+    subst (λ st. OnOk c.close.result (Goes (Some l) None (unless_over l (carries_out l st)) t c.close.new.self)) (sym is)
+    (on_ok c.close.result (reply_close_goes t u c.close.new.self l c.in-ReplyClose.octets.items goes) c.close.ensures)
+
+pub returns-in-Close : goal.returns-in-Close
+returns-in-Close c =
+    let t = c.args.self.now in
+    let l = c.args.link in
+    subst (λ st. OnOk c.close-in-Close.result (Goes (Some l) None (unless_over l (carries_out l st)) t c.close-in-Close.new.self)) (sym c.in-Close.is) c.close-in-Close.ensures
+
+pub returns-in-Ask : goal.returns-in-Ask
+returns-in-Ask c =
+    let t = c.args.self.now in
+    let l = c.args.link in
+    elim c.in-Ask.is [
+      | inl a ↦ absurd (true≢false (ap asks (sym a.1) ∙ c.requires.no_ask))
+      | inr a ↦ elim a [
+        | inl e ↦ subst (λ st. Goes (Some l) None (unless_over l (carries_out l st)) t t) (sym e) (idle_goes t l (still_ready t l c.args.step (ap is_closing e) c.requires.no_ask c.requires.left))
+        | inr e ↦ subst (λ st. Goes (Some l) None (unless_over l (carries_out l st)) t t) (sym e) (idle_goes t l (still_ready t l c.args.step (ap is_closing e) c.requires.no_ask c.requires.left))
+      ]
+    ]
+
+pub close-requires-in-Close : goal.close-requires-in-Close
+close-requires-in-Close c = record { some = c.requires.some }

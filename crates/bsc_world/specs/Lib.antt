@@ -1,0 +1,14 @@
+pub mod HubEntries
+pub mod Passing
+pub mod Kept
+pub mod Standing
+pub mod Becoming
+pub mod Sides
+pub mod SideCalls
+pub mod Takes
+pub mod Puts
+pub mod Coming
+pub mod Fronts
+pub mod Stepping
+pub mod Fresh
+pub mod DeskCalls

@@ -1,0 +1,89 @@
+-- What the calls of a hub and the steps of its sides say: words of inner functions.
+use Rattle.std.specs.Prelude.{◌≡◌, ◌≢◌, ℕ, ◌+◌, true, false, List, [], ◌∷◌, ◌++◌, slice_get, Option, Some, None, ⊤}
+use Rattle.bsc_octets.specs.declared.identity.Identity.{Identity}
+use Rattle.bsc_octets.specs.Addresses.{same_vmac, zero_vmac, broadcast}
+use Rattle.bsc_octets.specs.Forwarding.{has_route}
+use Rattle.bsc_history.specs.declared.call.Call.TheVariants.{Connect, Forward}
+use Rattle.bsc_history.specs.declared.reply.Reply.TheVariants.{Joined as JoinedReply, Refused as RefusedReply}
+use Rattle.bsc_checks.specs.declared.phase.Phase.TheVariants.{AwaitingRequest}
+use Rattle.bsc_accept.specs.declared.event.Event.TheVariants.{Message as Came}
+use Rattle.bsc_accept.specs.declared.step.Step.{Step}
+use Rattle.bsc_accept.specs.declared.step.Step.TheVariants.{Ask, Carry}
+use Rattle.bsc_accept.specs.Standing.{LeftBy, phase_of}
+use Rattle.bsc_accept.specs.Steps.{closes}
+use Rattle.bsc_node.specs.declared.link_name.LinkName.{LinkName}
+use Rattle.bsc_network.specs.declared.target.Target.TheVariants.{Hub as ToHub}
+use Rattle.bsc_world.specs.declared.asked.Asked.{Asked}
+use Rattle.bsc_world.specs.declared.asked.Asked.TheVariants.{Worn as AskedWorn, Joined as AskedJoined, Refused as AskedRefused}
+use Rattle.bsc_world.specs.declared.passed.Passed.{Passed}
+use Rattle.bsc_world.specs.declared.passed.Passed.TheVariants.{Alone, Worn as PassedWorn, Made}
+use Rattle.bsc_world.specs.declared.kept_link.KeptConn.{KeptConn}
+use Rattle.bsc_world.specs.declared.kept_link.KeptLink.{KeptLink}
+use Rattle.bsc_world.specs.declared.kept_link.KeptSide.{KeptSide}
+use Rattle.bsc_world.specs.declared.world.World.{World as KeptWorld}
+use Rattle.bsc_network.specs.Worlds.{World, Hub, Link, hub_at, link_at}
+use Rattle.bsc_network.specs.Changes.{with_side}
+use Rattle.bsc_network.specs.HubCalls.{called, is_worn, reply_in}
+use Rattle.bsc_network.specs.HubSides.{told, step_at, verdict_on}
+use Rattle.bsc_world.specs.Becoming.{Became}
+
+-- Link l leads to hub j, and its session lasts.
+pub record IsSideOf (w : World) (l j : ℕ) (h : Hub) (link : Link) : Type 0 where
+  pub there : link_at w l ≡ Some link
+  pub to : link.to ≡ ToHub j
+  pub hub : hub_at w j ≡ Some h
+  pub lasts : link.side.is_over ≡ false
+
+-- ---- calls
+
+-- What a connect comes to: it was worn and nothing changed, or its entry was made, and where who asked joined its side has
+-- the connection.
+abbrev pub WasAsked : Asked → KeptWorld → KeptWorld → List LinkName → World → ℕ → Hub → ℕ → ℕ → Identity → Type 0
+WasAsked AskedWorn old new failed w j h l place who = (is_worn h ≡ true) × (new ≡ old)
+WasAsked AskedJoined old new failed w j h l place who =
+    (is_worn h ≡ false) × ((conn : ℕ) × (replaced : Option ℕ) × (reply_in w h (Connect who) ≡ JoinedReply conn replaced)
+    × Became old new failed (Some l) w (with_side l (λ s. record s { conn = Some conn }) (called j l place (Connect who) w)))
+WasAsked (AskedRefused refusal) old new failed w j h l place who =
+    (is_worn h ≡ false) × (reply_in w h (Connect who) ≡ RefusedReply refusal)
+    × Became old new failed (Some l) w (called j l place (Connect who) w)
+
+-- What a forward comes to: the side hasn't joined, or it was worn, and nothing changed; or its entry was made.
+abbrev pub WasPassed : Passed → KeptWorld → KeptWorld → List LinkName → World → ℕ → Hub → Link → ℕ → ℕ → List ℕ → Type 0
+WasPassed Alone old new failed w j h link l place m = (link.side.conn ≡ None) × (new ≡ old)
+WasPassed PassedWorn old new failed w j h link l place m = ((c : ℕ) × (link.side.conn ≡ Some c)) × (is_worn h ≡ true) × (new ≡ old)
+WasPassed Made old new failed w j h link l place m =
+    (c : ℕ) × (link.side.conn ≡ Some c) × (is_worn h ≡ false) × Became old new failed None w (called j l place (Forward c m) w)
+
+-- ---- machines
+
+-- How a step leaves a side: its machine as the step does, and a side that has joined doesn't wait for a Connect-Request, but
+-- where the session is to be over.
+pub record IsReadyBy (step : Step) (side : KeptSide) : Type 0 where
+  pub left : LeftBy step side.machine
+  pub asked : closes step ≡ false → (joined : KeptConn) → side.joined ≡ Some joined → phase_of side.machine ≡ AwaitingRequest → ⊥
+
+-- What is known of a step that a message led to: who asks has an address of a node, and the side hasn't joined; and what is
+-- carried has a route.
+abbrev pub AsksOf : List ℕ → KeptSide → Step → Type 0
+AsksOf m side (Ask who) = (same_vmac who.vmac zero_vmac ≡ false) × (same_vmac who.vmac broadcast ≡ false) × (side.joined ≡ None)
+AsksOf m side Carry = has_route m ≡ true
+AsksOf m side step = ⊤
+
+-- What a message comes to at a side: nothing where there is none, or the step of its machine, which was told it.
+abbrev pub Heard : Option Step → ℕ → List ℕ → KeptWorld → KeptWorld → List LinkName → World → Type 0
+Heard None l m old new failed w = ((j : ℕ) (h : Hub) (link : Link) → IsSideOf w l j h link → ⊥) × (new ≡ old)
+Heard (Some step) l m old new failed w =
+    (j : ℕ) × (h : Hub) × (link : Link) × IsSideOf w l j h link
+    × (step ≡ step_at h link (Came w.now (verdict_on h link m)))
+    × Became old new failed (Some l) w (told l (Came w.now (verdict_on h link m)) w)
+
+-- The sides of all links keep their machines and what they have once they joined: those that are there after were there before.
+abbrev pub KeepsSides : KeptWorld → KeptWorld → Type 0
+KeepsSides old new = (l : ℕ) (kept : KeptLink) → slice_get new.links.items l ≡ Some kept
+    → (before : KeptLink) × (slice_get old.links.items l ≡ Some before) × (kept.side ≡ before.side)
+
+-- The side of link l keeps its machine.
+abbrev pub KeepsMachine : ℕ → KeptWorld → KeptWorld → Type 0
+KeepsMachine l old new = (kept : KeptLink) (side : KeptSide) → slice_get new.links.items l ≡ Some kept → kept.side ≡ Some side
+    → (before : KeptLink) × (was : KeptSide) × (slice_get old.links.items l ≡ Some before) × (before.side ≡ Some was)
+    × (side.machine ≡ was.machine)

@@ -1,0 +1,15 @@
+//! What a world keeps of a hub.
+use bsc_desk::Desk;
+use bsc_history::About;
+use bsc_octets::Octets;
+
+/// A hub: its identity and limits, its desk, its URI, which link joined as each of its connections, which are numbered from
+/// 1, and whether it has stopped.
+#[derive(Drop)]
+pub(crate) struct KeptHub {
+    pub(crate) about: About,
+    pub(crate) desk: Desk,
+    pub(crate) uri: Octets,
+    pub(crate) joined_by: Vec<u32>,
+    pub(crate) has_stopped: bool,
+}
