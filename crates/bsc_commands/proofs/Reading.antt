@@ -16,9 +16,9 @@ use Rattle.bsc_player.specs.Ends.{lines_read}
 use Rattle.bsc_player.proofs.Ran.{tells}
 use Rattle.bsc_audit.specs.declared.audit_end.AuditEnd.TheVariants as audit_end
 use Rattle.bsc_audit_command.specs.Audits.{RunsAudit}
-use Rattle.bsc_words.specs.Commands.{replay_app, check_app, audit_app, hub_app, node_app, load_app}
-use Rattle.bsc_words.specs.Words.{AskedOf, replay, check, audit, hub, node, load, value_of, up_to, sessions_of, hub_of, node_of, load_of, unless}
-use Rattle.bsc_words.specs.Words.{replay_asked, check_asked, audit_asked, hub_asked, node_asked, load_asked, run_of, asked_by}
+use Rattle.bsc_words.specs.Commands.{replay_app, simulate_app, check_app, audit_app, hub_app, node_app, load_app}
+use Rattle.bsc_words.specs.Words.{AskedOf, replay, simulate, check, audit, hub, node, load, value_of, up_to, sessions_of, hub_of, node_of, load_of, unless}
+use Rattle.bsc_words.specs.Words.{replay_asked, simulate_asked, check_asked, audit_asked, hub_asked, node_asked, load_asked, run_of, asked_by}
 
 -- words that ask for something don't ask for nothing
 pub asks : (read : Option AskedOf) (a : AskedOf) → read ≡ Some a → read ≡ None → ⊥
@@ -102,11 +102,13 @@ fits_asked [] = tt
 fits_asked (name ∷ words) =
     fits_chosen (same_octets name (codes "replay")) (replay_asked (name ∷ words)) _
     (fits_unless (fault_of replay_app (name ∷ words)) (Some replay) tt)
+    (fits_chosen (same_octets name (codes "simulate")) (simulate_asked (name ∷ words)) _
+    (fits_unless (fault_of simulate_app (name ∷ words)) (Some simulate) tt)
     (fits_chosen (same_octets name (codes "check")) (check_asked (name ∷ words)) _
     (fits_unless (fault_of check_app (name ∷ words)) (Some check) tt)
     (fits_chosen (same_octets name (codes "audit")) (audit_asked (name ∷ words)) (run_of name (name ∷ words))
     (fits_unless (fault_of audit_app (name ∷ words)) (Some audit) tt)
-    (fits_run name (name ∷ words))))
+    (fits_run name (name ∷ words)))))
 
 pub workers_fit : (words : List Text) (a : AskedOf) (n : ℕ) → asked_by words ≡ Some a → a ≡ load n → (1 ≤ n) × (n ≤ 512)
 workers_fit words a n is named = subst Fits (is ∙ ap Some named) (fits_asked words)

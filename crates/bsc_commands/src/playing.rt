@@ -8,6 +8,7 @@ ghost use Rattle.bsc_commands.specs.Commands.{played_by};
 use bsc_outside::{Sink, Source};
 use bsc_player::end_play;
 use bsc_replay::{ReplayEnd, check, replay};
+use bsc_simulate::simulate;
 use std::alloc::Global;
 
 /// A command that plays its input.
@@ -15,6 +16,8 @@ use std::alloc::Global;
 pub enum Command {
     /// `replay`: plays a script.
     Replay,
+    /// `simulate`: plays the script of a network.
+    Simulate,
     /// `check`: answers lines with the verdicts on messages.
     Check,
 }
@@ -35,6 +38,7 @@ fn play_command<S: Source, K: Sink>(
 {
     match command {
         Command::Replay => replay(alloc, source, sink),
+        Command::Simulate => simulate(alloc, source, sink),
         Command::Check => check(alloc, source, sink),
     }
 }

@@ -6,6 +6,7 @@ ghost use Rattle.bsc_player.specs.LastLines.{EndsWith, RanOut, words_line};
 ghost use Rattle.bsc_player.specs.Statuses.{StatusTells};
 ghost use Rattle.bsc_script.specs.Scripts.{replay_of};
 ghost use Rattle.bsc_replay.specs.Checks.{check_of};
+ghost use Rattle.bsc_simulate.specs.Scripts.{simulate_of};
 ghost use Rattle.bsc_audit_command.specs.Audits.{RunsAudit};
 ghost use Rattle.bsc_settings.specs.declared.hub.HubSettings.{HubSettings};
 ghost use Rattle.bsc_hub_command.specs.Served.{Runs};
@@ -17,7 +18,7 @@ ghost use Rattle.bsc_node_run.specs.Scripts.{script_of, wish_of};
 ghost use Rattle.bsc_node_run.specs.Worlds.{dialling};
 ghost use Rattle.bsc_node_runs.specs.Courses.{FinishCame};
 ghost use Rattle.bsc_words.specs.declared.fault.WordsFault.TheVariants as words_fault;
-ghost use Rattle.bsc_words.specs.Words.{asked_by, audit, check, hub, load, node, replay, seen};
+ghost use Rattle.bsc_words.specs.Words.{asked_by, audit, check, hub, load, node, replay, seen, simulate};
 ghost use Rattle.bsc_commands.specs.Outside.{TouchesOnly};
 ghost use Rattle.bsc_commands.specs.Statuses.{EndsBy};
 
@@ -140,12 +141,16 @@ fn run_asked<
     ensures replayed { (o t : List ℕ) → seen asked.entry ≡ replay → S.left source.old ≡ Some o → K.held sink.old ≡ Some t →
         StatusTells replay_of result o t (S.left source.new) (K.held sink.new)
         (S.faults source.old) (S.faults source.new) }
+    ensures simulated { (o t : List ℕ) → seen asked.entry ≡ simulate → S.left source.old ≡ Some o → K.held sink.old ≡ Some t →
+        StatusTells simulate_of result o t (S.left source.new) (K.held sink.new)
+        (S.faults source.old) (S.faults source.new) }
     ensures checked { (o t : List ℕ) → seen asked.entry ≡ check → S.left source.old ≡ Some o → K.held sink.old ≡ Some t →
         StatusTells check_of result o t (S.left source.new) (K.held sink.new)
         (S.faults source.old) (S.faults source.new) }
     ensures audited { (o : List ℕ) → seen asked.entry ≡ audit → S.left source.old ≡ Some o →
         RunsAudit o (S.left source.new) result (K.held sink.old) (K.held sink.new) }
-    ensures source { (seen asked.entry ≡ replay) ⊎ (seen asked.entry ≡ check) ⊎ (seen asked.entry ≡ audit) → result ≡ 3 →
+    ensures source { (seen asked.entry ≡ replay) ⊎ (seen asked.entry ≡ simulate) ⊎ (seen asked.entry ≡ check) ⊎ (seen asked.entry ≡ audit) →
+        result ≡ 3 →
         HasRisen (S.faults source.old) (S.faults source.new) }
     ensures untouched { TouchesOnly (Some (seen asked.entry))
         (record {
@@ -175,6 +180,7 @@ fn run_asked<
 {
     match asked {
         Asked::Replay => play(alloc, Command::Replay, source, sink),
+        Asked::Simulate => play(alloc, Command::Simulate, source, sink),
         Asked::Check => play(alloc, Command::Check, source, sink),
         Asked::Audit => run_audit(alloc, source, sink),
         Asked::Hub { path, sessions } => run_hub(
@@ -319,6 +325,9 @@ pub fn run<
     ensures replayed { (o t : List ℕ) → asked_by (map string_bytes words.now) ≡ Some replay →
         S.left source.old ≡ Some o → K.held sink.old ≡ Some t → StatusTells replay_of result o t (S.left source.new) (K.held sink.new)
         (S.faults source.old) (S.faults source.new) }
+    ensures simulated { (o t : List ℕ) → asked_by (map string_bytes words.now) ≡ Some simulate →
+        S.left source.old ≡ Some o → K.held sink.old ≡ Some t → StatusTells simulate_of result o t (S.left source.new) (K.held sink.new)
+        (S.faults source.old) (S.faults source.new) }
     ensures checked { (o t : List ℕ) → asked_by (map string_bytes words.now) ≡ Some check →
         S.left source.old ≡ Some o → K.held sink.old ≡ Some t → StatusTells check_of result o t (S.left source.new) (K.held sink.new)
         (S.faults source.old) (S.faults source.new) }
@@ -358,8 +367,8 @@ pub fn run<
 
     // Faults of the source, the files, the sink and the acceptor are counted. Where an input is played or audited, status 3 is the
     // source's.
-    ensures source { (asked_by (map string_bytes words.now) ≡ Some replay) ⊎ (asked_by (map string_bytes words.now) ≡ Some check)
-        ⊎ (asked_by (map string_bytes words.now) ≡ Some audit) →
+    ensures source { (asked_by (map string_bytes words.now) ≡ Some replay) ⊎ (asked_by (map string_bytes words.now) ≡ Some simulate)
+        ⊎ (asked_by (map string_bytes words.now) ≡ Some check) ⊎ (asked_by (map string_bytes words.now) ≡ Some audit) →
         result ≡ 3 → HasRisen (S.faults source.old) (S.faults source.new) }
     ensures read { result ≡ 3 → HasRisen (S.faults source.old) (S.faults source.new) ⊎ HasRisen (F.faults files.old) (F.faults files.new) }
     ensures write { result ≡ 4 → HasRisen (K.faults sink.old) (K.faults sink.new) }

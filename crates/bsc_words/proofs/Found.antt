@@ -4,9 +4,9 @@ use Rattle.std.proofs.lemmas.Bool.{and_parts}
 use Rattle.clap.specs.Words.{App, Kinds, Row, Text, fault_of, first_of, is_simple, is_simple_and_free, matches_of}
 use Rattle.clap.specs.Faults.{is_free_app}
 use Rattle.clap.specs.Simple.{built}
-use Rattle.bsc_words.specs.Commands.{replay_app, check_app, audit_app, hub_app, node_app, load_app}
-use Rattle.bsc_words.specs.Words.{AskedOf, replay, check, audit, hub_of, node_of, load_of, unless}
-use Rattle.bsc_words.specs.Words.{replay_asked, check_asked, audit_asked, hub_asked, node_asked, load_asked}
+use Rattle.bsc_words.specs.Commands.{replay_app, simulate_app, check_app, audit_app, hub_app, node_app, load_app}
+use Rattle.bsc_words.specs.Words.{AskedOf, replay, simulate, check, audit, hub_of, node_of, load_of, unless}
+use Rattle.bsc_words.specs.Words.{replay_asked, simulate_asked, check_asked, audit_asked, hub_asked, node_asked, load_asked}
 
 pub simple_of : (app : App) → is_simple_and_free app ≡ true → is_simple app ≡ true
 simple_of app h = (and_parts (is_simple app) (is_free_app (built app)) h).0
@@ -67,6 +67,12 @@ module _ (app : App) (words : List Text) where
 
   pub replay_fine : app ≡ replay_app → fault_of app words ≡ [] → replay_asked words ≡ Some replay
   replay_fine is fine = asked_if_fine _ _ (sym (ap (λ a. fault_of a words) is) ∙ fine)
+
+  pub simulate_faulty : app ≡ simulate_app → fault_of app words ≢ [] → simulate_asked words ≡ None
+  simulate_faulty is faulty = none_if_faulty _ _ (other_fault simulate_app is faulty)
+
+  pub simulate_fine : app ≡ simulate_app → fault_of app words ≡ [] → simulate_asked words ≡ Some simulate
+  simulate_fine is fine = asked_if_fine _ _ (sym (ap (λ a. fault_of a words) is) ∙ fine)
 
   pub check_faulty : app ≡ check_app → fault_of app words ≢ [] → check_asked words ≡ None
   check_faulty is faulty = none_if_faulty _ _ (other_fault check_app is faulty)

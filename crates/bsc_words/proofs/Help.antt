@@ -4,7 +4,7 @@ use Rattle.std.specs.Prelude.{if◌then◌else◌}
 use Rattle.clap.specs.Words.{Text}
 use Rattle.clap.proofs.OnLiterals.{clap_on_literals}
 use Rattle.bsc_text.specs.Lines.{same_octets}
-use Rattle.bsc_words.specs.Words.{AskedOf, replay, check, audit, replay_asked, check_asked, audit_asked, hub_asked, node_asked, load_asked, asked_by}
+use Rattle.bsc_words.specs.Words.{AskedOf, replay, simulate, check, audit, replay_asked, simulate_asked, check_asked, audit_asked, hub_asked, node_asked, load_asked, asked_by}
 
 -- a choice of nothings is nothing
 no_choice : (b : Bool) (x y : Option AskedOf) → x ≡ None → y ≡ None → (if b then x else y) ≡ None
@@ -13,18 +13,23 @@ no_choice false x y p q = q
 
 -- nothing is asked for, whatever the first word is, where each command asks for nothing
 none_asked : (name : Text) (words : List Text) → replay_asked (name ∷ words) ≡ None
-    → check_asked (name ∷ words) ≡ None → audit_asked (name ∷ words) ≡ None → hub_asked (name ∷ words) ≡ None
+    → simulate_asked (name ∷ words) ≡ None → check_asked (name ∷ words) ≡ None → audit_asked (name ∷ words) ≡ None → hub_asked (name ∷ words) ≡ None
     → node_asked (name ∷ words) ≡ None → load_asked (name ∷ words) ≡ None → asked_by (name ∷ words) ≡ None
-none_asked name words r c a h n l =
+none_asked name words r s c a h n l =
     no_choice (same_octets name (codes "replay")) _ _ r
+    (no_choice (same_octets name (codes "simulate")) _ _ s
     (no_choice (same_octets name (codes "check")) _ _ c
     (no_choice (same_octets name (codes "audit")) _ _ a
     (no_choice (same_octets name (codes "hub")) _ _ h
-    (no_choice (same_octets name (codes "node")) _ _ n (no_choice (same_octets name (codes "load")) _ _ l refl)))))
+    (no_choice (same_octets name (codes "node")) _ _ n (no_choice (same_octets name (codes "load")) _ _ l refl))))))
 
 long_replay : (name : Text) (words : List Text) → replay_asked (name ∷ codes "--help" ∷ words) ≡ None
 unfolding clap_on_literals
 long_replay name words = refl
+
+long_simulate : (name : Text) (words : List Text) → simulate_asked (name ∷ codes "--help" ∷ words) ≡ None
+unfolding clap_on_literals
+long_simulate name words = refl
 
 long_check : (name : Text) (words : List Text) → check_asked (name ∷ codes "--help" ∷ words) ≡ None
 unfolding clap_on_literals
@@ -50,6 +55,10 @@ short_replay : (name : Text) (words : List Text) → replay_asked (name ∷ code
 unfolding clap_on_literals
 short_replay name words = refl
 
+short_simulate : (name : Text) (words : List Text) → simulate_asked (name ∷ codes "-h" ∷ words) ≡ None
+unfolding clap_on_literals
+short_simulate name words = refl
+
 short_check : (name : Text) (words : List Text) → check_asked (name ∷ codes "-h" ∷ words) ≡ None
 unfolding clap_on_literals
 short_check name words = refl
@@ -72,10 +81,10 @@ short_load name words = refl
 
 pub long_help : (name : Text) (words : List Text) → asked_by (name ∷ codes "--help" ∷ words) ≡ None
 long_help name words =
-    none_asked name (codes "--help" ∷ words) (long_replay name words) (long_check name words) (long_audit name words)
+    none_asked name (codes "--help" ∷ words) (long_replay name words) (long_simulate name words) (long_check name words) (long_audit name words)
     (long_hub name words) (long_node name words) (long_load name words)
 
 pub short_help : (name : Text) (words : List Text) → asked_by (name ∷ codes "-h" ∷ words) ≡ None
 short_help name words =
-    none_asked name (codes "-h" ∷ words) (short_replay name words) (short_check name words) (short_audit name words)
+    none_asked name (codes "-h" ∷ words) (short_replay name words) (short_simulate name words) (short_check name words) (short_audit name words)
     (short_hub name words) (short_node name words) (short_load name words)

@@ -5,9 +5,9 @@ use Rattle.clap.specs.Walk.{Held, Walk, arg_by_id, arg_by_index, nothing_held, o
 use Rattle.clap.specs.Faults.{step_fault, turn_fault}
 use Rattle.clap.specs.declared.error.kind.ErrorKind.TheVariants.{UnknownArgument}
 use Rattle.clap.proofs.OnLiterals.{clap_on_literals}
-use Rattle.bsc_words.specs.Commands.{replay_app, check_app, audit_app, hub_app, node_app, load_app}
-use Rattle.bsc_words.specs.Words.{AskedOf, replay, check, audit, hub, node, load, sessions_of, workers_of, hub_of, node_of, load_of}
-use Rattle.bsc_words.specs.Words.{replay_asked, check_asked, audit_asked, hub_asked, node_asked, load_asked}
+use Rattle.bsc_words.specs.Commands.{replay_app, simulate_app, check_app, audit_app, hub_app, node_app, load_app}
+use Rattle.bsc_words.specs.Words.{AskedOf, replay, simulate, check, audit, hub, node, load, sessions_of, workers_of, hub_of, node_of, load_of}
+use Rattle.bsc_words.specs.Words.{replay_asked, simulate_asked, check_asked, audit_asked, hub_asked, node_asked, load_asked}
 use Rattle.bsc_words.specs.Listed.{has_hyphen}
 use Rattle.bsc_words.proofs.Steps.{at, awaiting, asked_from, walks_on, stops, plain_walked, plain_turn, value_walked, value_turn}
 
@@ -15,7 +15,7 @@ use Rattle.bsc_words.proofs.Steps.{at, awaiting, asked_from, walks_on, stops, pl
 abbrev pending : List Row → Text → Text → Held
 pending rows id word = record { rows = rows; pending = Some (id, word ∷ []); skip = 0 }
 
--- ---- `replay`, `check` and `audit` take no word
+-- ---- `replay`, `simulate`, `check` and `audit` take no word
 
 abbrev replay_shape : Shape
 replay_shape = (built replay_app).top
@@ -34,6 +34,24 @@ pub replay_more : (name word : Text) (words : List Text) → has_hyphen word ≡
 replay_more name word words h =
     replay_from name (word ∷ words)
     ∙ stops replay_shape (λ rows. Some replay) (at nothing_held 1) word words UnknownArgument [] (plain_turn replay_shape nothing_held 1 word h ∙ replay_stray)
+
+abbrev simulate_shape : Shape
+simulate_shape = (built simulate_app).top
+
+simulate_from : (name : Text) (words : List Text) → simulate_asked (name ∷ words) ≡ asked_from simulate_shape (λ rows. Some simulate) (at nothing_held 1) words
+simulate_from name words = refl
+
+pub simulate_alone : (name : Text) → simulate_asked (name ∷ []) ≡ Some simulate
+unfolding clap_on_literals
+simulate_alone name = refl
+
+simulate_stray : step_fault simulate_shape 1 nothing_held value ≡ UnknownArgument ∷ []
+simulate_stray = refl
+
+pub simulate_more : (name word : Text) (words : List Text) → has_hyphen word ≡ false → simulate_asked (name ∷ word ∷ words) ≡ None
+simulate_more name word words h =
+    simulate_from name (word ∷ words)
+    ∙ stops simulate_shape (λ rows. Some simulate) (at nothing_held 1) word words UnknownArgument [] (plain_turn simulate_shape nothing_held 1 word h ∙ simulate_stray)
 
 abbrev check_shape : Shape
 check_shape = (built check_app).top

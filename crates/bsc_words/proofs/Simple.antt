@@ -2,11 +2,15 @@
 use Rattle.std.proofs.Common.{◌≡◌, true, refl}
 use Rattle.clap.proofs.OnLiterals.{clap_on_literals}
 use Rattle.clap.specs.Words.{is_simple_and_free}
-use Rattle.bsc_words.specs.Commands.{replay_app, check_app, audit_app, hub_app, node_app, load_app}
+use Rattle.bsc_words.specs.Commands.{replay_app, simulate_app, check_app, audit_app, hub_app, node_app, load_app}
 
 pub replay-simple : is_simple_and_free replay_app ≡ true
 unfolding clap_on_literals
 replay-simple = refl
+
+pub simulate-simple : is_simple_and_free simulate_app ≡ true
+unfolding clap_on_literals
+simulate-simple = refl
 
 pub check-simple : is_simple_and_free check_app ≡ true
 unfolding clap_on_literals

@@ -8,10 +8,11 @@ use Rattle.std.specs.Cmp.Lexicographic.{bytes_decides}
 use Rattle.clap.specs.Words.{Text}
 use Rattle.bsc_text.specs.Grammar.{is_digit, has_leading_zero, decimal_value, number_of}
 use Rattle.bsc_text.specs.Lines.{same_octets}
-use Rattle.bsc_words.specs.Words.{AskedOf, replay, check, audit, hub, node, load, up_to, sessions_of, workers_of}
-use Rattle.bsc_words.specs.Words.{replay_asked, check_asked, audit_asked, hub_asked, node_asked, load_asked, asked_by}
+use Rattle.bsc_words.specs.Words.{AskedOf, replay, simulate, check, audit, hub, node, load, up_to, sessions_of, workers_of}
+use Rattle.bsc_words.specs.Words.{replay_asked, simulate_asked, check_asked, audit_asked, hub_asked, node_asked, load_asked, asked_by}
 use Rattle.bsc_words.specs.Listed.{has_hyphen, have_no_hyphen, has_plain_paths, listed, listed_alone, listed_hub, listed_node, listed_load}
-use Rattle.bsc_words.proofs.Plain.{replay_alone, replay_more, check_alone, check_more, audit_alone, audit_more, hub_none, hub_one, hub_more, hub_served}
+use Rattle.bsc_words.proofs.Plain.{replay_alone, replay_more, simulate_alone, simulate_more, check_alone, check_more, audit_alone, audit_more}
+use Rattle.bsc_words.proofs.Plain.{hub_none, hub_one, hub_more, hub_served}
 use Rattle.bsc_words.proofs.Plain.{node_none, node_one, node_two, node_more, load_none, load_one, load_more}
 
 -- two choices by one test
@@ -30,6 +31,10 @@ rest_plain word words h = (and_parts (not (has_hyphen word)) (have_no_hyphen wor
 replay_plain : (name : Text) (words : List Text) → have_no_hyphen words ≡ true → replay_asked (name ∷ words) ≡ listed_alone replay words
 replay_plain name [] h = replay_alone name
 replay_plain name (word ∷ words) h = replay_more name word words (first_plain word words h)
+
+simulate_plain : (name : Text) (words : List Text) → have_no_hyphen words ≡ true → simulate_asked (name ∷ words) ≡ listed_alone simulate words
+simulate_plain name [] h = simulate_alone name
+simulate_plain name (word ∷ words) h = simulate_more name word words (first_plain word words h)
 
 check_plain : (name : Text) (words : List Text) → have_no_hyphen words ≡ true → check_asked (name ∷ words) ≡ listed_alone check words
 check_plain name [] h = check_alone name
@@ -74,11 +79,12 @@ load_plain name (word ∷ next ∷ words) h =
 pub plain_listed : (name : Text) (words : List Text) → have_no_hyphen words ≡ true → asked_by (name ∷ words) ≡ listed (name ∷ words)
 plain_listed name words h =
     chosen (same_octets name (codes "replay")) _ _ _ _ (replay_plain name words h)
+    (chosen (same_octets name (codes "simulate")) _ _ _ _ (simulate_plain name words h)
     (chosen (same_octets name (codes "check")) _ _ _ _ (check_plain name words h)
     (chosen (same_octets name (codes "audit")) _ _ _ _ (audit_plain name words h)
     (chosen (same_octets name (codes "hub")) _ _ _ _ (hub_plain name words h)
     (chosen (same_octets name (codes "node")) _ _ _ _ (node_plain name words h)
-    (chosen (same_octets name (codes "load")) _ _ _ _ (load_plain name words h) refl)))))
+    (chosen (same_octets name (codes "load")) _ _ _ _ (load_plain name words h) refl))))))
 
 -- ---- lists of a command and all that it takes
 
@@ -121,6 +127,10 @@ chosen_good false x x' y y' p q s h = q s h
 replay_good : (name : Text) (words : List Text) → is_some (listed_alone replay words) ≡ true → replay_asked (name ∷ words) ≡ listed_alone replay words
 replay_good name [] s = replay_alone name
 replay_good name (word ∷ words) s = absurd (true≢false (sym s))
+
+simulate_good : (name : Text) (words : List Text) → is_some (listed_alone simulate words) ≡ true → simulate_asked (name ∷ words) ≡ listed_alone simulate words
+simulate_good name [] s = simulate_alone name
+simulate_good name (word ∷ words) s = absurd (true≢false (sym s))
 
 check_good : (name : Text) (words : List Text) → is_some (listed_alone check words) ≡ true → check_asked (name ∷ words) ≡ listed_alone check words
 check_good name [] s = check_alone name
@@ -172,11 +182,12 @@ listed_good : (words : List Text) → is_some (listed words) ≡ true → plain_
 listed_good [] s h = refl
 listed_good (name ∷ words) s h =
     chosen_good (same_octets name (codes "replay")) (listed_alone replay words) _ _ _ (λ t i. replay_good name words t)
+    (chosen_good (same_octets name (codes "simulate")) (listed_alone simulate words) _ _ _ (λ t i. simulate_good name words t)
     (chosen_good (same_octets name (codes "check")) (listed_alone check words) _ _ _ (λ t i. check_good name words t)
     (chosen_good (same_octets name (codes "audit")) (listed_alone audit words) _ _ _ (λ t i. audit_good name words t)
     (chosen_good (same_octets name (codes "hub")) (listed_hub words) _ _ _ (hub_good name words)
     (chosen_good (same_octets name (codes "node")) (listed_node words) _ _ _ (node_good name words)
-    (chosen_good (same_octets name (codes "load")) (listed_load words) _ _ _ (λ t i. load_good name words t) (λ t i. refl)))))) s h
+    (chosen_good (same_octets name (codes "load")) (listed_load words) _ _ _ (λ t i. load_good name words t) (λ t i. refl))))))) s h
 
 pub listed_taken : (words : List Text) (asked : AskedOf) → listed words ≡ Some asked → has_plain_paths asked ≡ true → asked_by words ≡ Some asked
 listed_taken words asked is plain = listed_good words (ap (λ o. is_some o) is) (ap plain_in is ∙ plain) ∙ is

@@ -1,9 +1,9 @@
 -- Words, worked by hand.
 use Rattle.std.proofs.Common.{◌≡◌, codes, [], ◌∷◌, Some, None, refl}
 use Rattle.clap.proofs.OnLiterals.{clap_on_literals}
-use Rattle.bsc_words.specs.Words.{replay, check, audit, hub, node, load, asked_by}
+use Rattle.bsc_words.specs.Words.{replay, simulate, check, audit, hub, node, load, asked_by}
 
--- a script, lines, and journals
+-- scripts, lines, and journals
 replays : asked_by (codes "replay" ∷ []) ≡ Some replay
 unfolding clap_on_literals
 replays = refl
@@ -15,6 +15,14 @@ replays_more = refl
 replays_to_the_end : asked_by (codes "replay" ∷ codes "--" ∷ []) ≡ Some replay
 unfolding clap_on_literals
 replays_to_the_end = refl
+
+simulates : asked_by (codes "simulate" ∷ []) ≡ Some simulate
+unfolding clap_on_literals
+simulates = refl
+
+simulates_a_file : asked_by (codes "simulate" ∷ codes "a" ∷ []) ≡ None
+unfolding clap_on_literals
+simulates_a_file = refl
 
 checks : asked_by (codes "check" ∷ []) ≡ Some check
 unfolding clap_on_literals

@@ -1,4 +1,4 @@
--- The commands as arguments of `clap`: `replay`, `check`, `audit`, `hub PATH [--sessions N]`, `node PATH SCRIPT`, `load N`.
+-- The commands as arguments of `clap`: `replay`, `simulate`, `check`, `audit`, `hub PATH [--sessions N]`, `node PATH SCRIPT`, `load N`.
 use Rattle.std.specs.Prelude.{true, codes, Some}
 use Rattle.clap.specs.Words.{App, Rule, Text, new_app, new_rule, with_rule}
 
@@ -12,6 +12,9 @@ option name = record (new_rule name) { long = Some name }
 
 abbrev pub replay_app : App
 replay_app = new_app (codes "replay")
+
+abbrev pub simulate_app : App
+simulate_app = new_app (codes "simulate")
 
 abbrev pub check_app : App
 check_app = new_app (codes "check")

@@ -3,15 +3,16 @@ use Rattle.std.specs.Prelude.{ℕ, nat_le, ◌&&◌, if◌then◌else◌, List, 
 use Rattle.clap.specs.Words.{App, Kinds, Text, fault_of, first_of, matches_of}
 use Rattle.bsc_text.specs.Grammar.{number_of}
 use Rattle.bsc_text.specs.Lines.{same_octets}
-use Rattle.bsc_words.specs.Commands.{replay_app, check_app, audit_app, hub_app, node_app, load_app}
+use Rattle.bsc_words.specs.Commands.{replay_app, simulate_app, check_app, audit_app, hub_app, node_app, load_app}
 use Rattle.bsc_words.specs.declared.asked.Asked.{Asked}
-use Rattle.bsc_words.specs.declared.asked.Asked.TheVariants.{Replay, Check, Audit, Hub, Node, Load}
+use Rattle.bsc_words.specs.declared.asked.Asked.TheVariants.{Replay, Simulate, Check, Audit, Hub, Node, Load}
 
--- What words may ask for: a script is played; lines are checked; journals are audited; a hub is served by the settings at a
--- path, until so many links have ended or for ever; a node is run by the settings at a path and the script at another; or a
--- workload is run by so many workers.
+-- What words may ask for: a script of one hub is played, or one of a network; lines are checked; journals are audited; a hub
+-- is served by the settings at a path, until so many links have ended or for ever; a node is run by the settings at a path
+-- and the script at another; or a workload is run by so many workers.
 pub data AskedOf : Type 0 where
   replay : AskedOf
+  simulate : AskedOf
   check : AskedOf
   audit : AskedOf
   hub : Text → Option ℕ → AskedOf
@@ -61,6 +62,9 @@ unless (kind ∷ kinds) asked = None
 abbrev pub replay_asked : List Text → Option AskedOf
 replay_asked words = unless (fault_of replay_app words) (Some replay)
 
+abbrev pub simulate_asked : List Text → Option AskedOf
+simulate_asked words = unless (fault_of simulate_app words) (Some simulate)
+
 abbrev pub check_asked : List Text → Option AskedOf
 check_asked words = unless (fault_of check_app words) (Some check)
 
@@ -90,6 +94,7 @@ run_of name words =
 abbrev pub asked_of : Text → List Text → Option AskedOf
 asked_of name words =
     if same_octets name (codes "replay") then replay_asked words
+    else if same_octets name (codes "simulate") then simulate_asked words
     else if same_octets name (codes "check") then check_asked words
     else if same_octets name (codes "audit") then audit_asked words
     else run_of name words
@@ -103,6 +108,7 @@ asked_by (name ∷ words) = asked_of name (name ∷ words)
 -- what an answer asks for
 abbrev pub seen : Asked → AskedOf
 seen Replay = replay
+seen Simulate = simulate
 seen Check = check
 seen Audit = audit
 seen (Hub path sessions) = hub path.now sessions

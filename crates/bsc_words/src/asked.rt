@@ -5,6 +5,8 @@
 pub enum Asked<'a> {
     /// `replay`: plays a script.
     Replay,
+    /// `simulate`: plays the script of a network.
+    Simulate,
     /// `check`: answers lines with the verdicts on messages.
     Check,
     /// `audit`: says whether journals tell one legal history of one hub.

@@ -3,7 +3,7 @@ ghost use Rattle.std.specs.Prelude.{◌≡◌, ◌≢◌, [], Some, None, Err, t
 ghost use Rattle.clap.specs.Words.{app_of, fault_of, first_of, found_of, is_simple_and_free, matches_of, rows_of};
 ghost use Rattle.bsc_words.specs.declared.fault.WordsFault.TheVariants as words_fault;
 ghost use Rattle.bsc_words.specs.Words.{sessions_of, workers_of, hub_of, node_of, load_of, run_of, asked_by, seen};
-ghost use Rattle.bsc_words.specs.Words.{replay_asked, check_asked, audit_asked, hub_asked, node_asked, load_asked};
+ghost use Rattle.bsc_words.specs.Words.{replay_asked, simulate_asked, check_asked, audit_asked, hub_asked, node_asked, load_asked};
 
 use crate::arguments::{hub_arguments, load_arguments, no_arguments, node_arguments};
 use crate::asked::Asked;
@@ -109,6 +109,15 @@ fn read_replay<'a>(alloc: Global, words: &'a [String]) -> Result<Asked<'a>, Word
     Ok(Asked::Replay)
 }
 
+/// The command `simulate`, if that is what the words say.
+fn read_simulate<'a>(alloc: Global, words: &'a [String]) -> Result<Asked<'a>, WordsFault>
+    ensures ok { IfOk result (λ a. simulate_asked (map string_bytes words.entry.now) ≡ Some (seen a)) }
+    ensures refused { result ≡ Err words_fault.Refused → simulate_asked (map string_bytes words.entry.now) ≡ None }
+{
+    parse(no_arguments(alloc, "simulate"), words)?;
+    Ok(Asked::Simulate)
+}
+
 /// The command `check`, if that is what the words say.
 fn read_check<'a>(alloc: Global, words: &'a [String]) -> Result<Asked<'a>, WordsFault>
     ensures ok { IfOk result (λ a. check_asked (map string_bytes words.entry.now) ≡ Some (seen a)) }
@@ -182,8 +191,8 @@ fn read_run<'a>(alloc: Global, name: &[u8], words: &'a [String]) -> Result<Asked
 
 /// What the words of the program ask for, the program's own name not among them.
 ///
-/// The first word is `replay`, `check`, `audit`, `hub`, `node` or `load`, and the words after it are read by `clap` as the
-/// arguments of that command: `hub` takes a path, and `--sessions` with a number from 1 to 1,000,000; `node` a path and the
+/// The first word is `replay`, `simulate`, `check`, `audit`, `hub`, `node` or `load`, and the words after it are read by
+/// `clap` as the arguments of that command: `hub` takes a path, and `--sessions` with a number from 1 to 1,000,000; `node` a path and the
 /// path of a script; `load` a number from 1 to 512; the others take none. A call for help is refused.
 ///
 /// | error | when it comes |
@@ -203,6 +212,9 @@ pub fn read_words<'a>(alloc: Global, words: &'a [String]) -> Result<Asked<'a>, W
     let name = name.as_bytes();
     if name == b"replay".as_slice() {
         return read_replay(alloc, words);
+    }
+    if name == b"simulate".as_slice() {
+        return read_simulate(alloc, words);
     }
     if name == b"check".as_slice() {
         return read_check(alloc, words);

@@ -19,6 +19,21 @@ use std::sync::Wait;
 use std::test::*;
 use std::thread::Threads;
 
+/// The script of a network whose one node starts.
+const STEPS: &str = concat!(
+    "hub 0200000000FF 00112233445566778899AABBCCDDEEFF 0640 05D9\n",
+    "node 02000000000A AAAAAAAAAAAAAAAAAAAAAAAAAAAAAAAA\n",
+    "start 0\n",
+);
+
+/// One in which it is to start twice.
+const STARTS_TWICE: &str = concat!(
+    "hub 0200000000FF 00112233445566778899AABBCCDDEEFF 0640 05D9\n",
+    "node 02000000000A AAAAAAAAAAAAAAAAAAAAAAAAAAAAAAAA\n",
+    "start 0\n",
+    "start 0\n",
+);
+
 /// A journal of two entries.
 const JOURNAL: &str = concat!(
     "hub 0200000000FF 00112233445566778899AABBCCDDEEFF 0640 05D9 256 64 4503599627370496\n",
@@ -84,13 +99,15 @@ struct Case {
 
 const REPLAY: &[&str] = &["replay"];
 
+const SIMULATE: &[&str] = &["simulate"];
+
 const AUDIT: &[&str] = &["audit"];
 
 const HUB: &[&str] = &["hub", "settings", "--sessions", "3"];
 
 const NODE: &[&str] = &["node", "settings", "script"];
 
-const CASES: [Case; 14] = [
+const CASES: [Case; 16] = [
     Case {
         words: REPLAY,
         settings: "",
@@ -99,6 +116,15 @@ const CASES: [Case; 14] = [
         room: 99,
         status: 0,
         text: "A silent C1\nA silent C1\n",
+    },
+    Case {
+        words: SIMULATE,
+        settings: "",
+        script: STEPS,
+        failing: &[],
+        room: 99,
+        status: 0,
+        text: "link 0 0 hub 0\n",
     },
     Case {
         words: &["check"],
@@ -153,6 +179,15 @@ const CASES: [Case; 14] = [
         room: 99,
         status: 2,
         text: "A silent C1\nfault script line 4\n",
+    },
+    Case {
+        words: SIMULATE,
+        settings: "",
+        script: STARTS_TWICE,
+        failing: &[],
+        room: 99,
+        status: 2,
+        text: "link 0 0 hub 0\nfault script line 4\n",
     },
     Case {
         words: REPLAY,

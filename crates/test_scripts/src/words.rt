@@ -26,8 +26,9 @@ fn are_refused(alloc: Global, line: &str) -> Result<bool, NoMemory> {
     Ok(read_words(alloc, words.as_slice()) == Err(WordsFault::Refused))
 }
 
-const COMMANDS: [(&str, Asked<'static>); 9] = [
+const COMMANDS: [(&str, Asked<'static>); 10] = [
     ("replay", Asked::Replay),
+    ("simulate", Asked::Simulate),
     ("check", Asked::Check),
     ("audit", Asked::Audit),
     (
@@ -76,12 +77,13 @@ fn reads_commands(rt: HostRuntime) -> Result<(), NoMemory> {
     Ok(())
 }
 
-const REFUSED: [&str; 15] = [
+const REFUSED: [&str; 16] = [
     "",
     "serve",
     "--help",
     "Hub hub.toml",
     "replay replay",
+    "simulate network.steps",
     "audit hub.journal",
     "hub",
     "hub hub.toml -h",

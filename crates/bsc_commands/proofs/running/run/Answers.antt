@@ -2,10 +2,11 @@ use Rattle.std.proofs.Common.{◌≡◌, Some, Result, Err, Ok, IfOk, Option, ap
 use Rattle.std.specs.Prelude.{string_bytes}
 use Rattle.bsc_script.specs.Scripts.{replay_of}
 use Rattle.bsc_replay.specs.Checks.{check_of}
+use Rattle.bsc_simulate.specs.Scripts.{simulate_of}
 use Rattle.bsc_words.specs.declared.asked.Asked.{Asked}
 use Rattle.bsc_words.specs.declared.fault.WordsFault.{WordsFault}
 use Rattle.bsc_words.specs.declared.fault.WordsFault.TheVariants.{Refused}
-use Rattle.bsc_words.specs.Words.{AskedOf, asked_by, audit, check, hub, node, replay, seen}
+use Rattle.bsc_words.specs.Words.{AskedOf, asked_by, audit, check, hub, node, replay, seen, simulate}
 use Rattle.bsc_commands.proofs.Reading.{ran_out, unaudited, unread, workers_fit}
 use Rattle.bsc_commands.proofs.running.run.Goals as goal
 
@@ -39,6 +40,14 @@ returns-in-Err-clause-replayed g c o t named left held =
     let out = ran_out c.in-Err.fault (asked_by (map string_bytes c.args.words.now)) replay c.end_unasked.result
     (g.K.Sink.held c.args.sink.now) (g.K.Sink.held c.end_unasked.new.sink) none c.end_unasked.ensures.ran_out named in
     unread replay_of c.end_unasked.result o t (g.S.Source.left c.args.source.now) (g.K.Sink.held c.args.sink.now) (g.K.Sink.held c.end_unasked.new.sink)
+    (g.S.Source.faults c.args.source.now) (g.S.Source.faults c.args.source.now) left held out
+
+pub returns-in-Err-clause-simulated : goal.returns-in-Err-clause-simulated
+returns-in-Err-clause-simulated g c o t named left held =
+    let none = λ (e : c.in-Err.fault ≡ Refused). c.read_words.ensures.refused (c.in-Err.is ∙ ap Err e) in
+    let out = ran_out c.in-Err.fault (asked_by (map string_bytes c.args.words.now)) simulate c.end_unasked.result
+    (g.K.Sink.held c.args.sink.now) (g.K.Sink.held c.end_unasked.new.sink) none c.end_unasked.ensures.ran_out named in
+    unread simulate_of c.end_unasked.result o t (g.S.Source.left c.args.source.now) (g.K.Sink.held c.args.sink.now) (g.K.Sink.held c.end_unasked.new.sink)
     (g.S.Source.faults c.args.source.now) (g.S.Source.faults c.args.source.now) left held out
 
 pub returns-in-Err-clause-checked : goal.returns-in-Err-clause-checked
