@@ -3,7 +3,7 @@
 //!
 //! What a script comes to is `simulate_of` in `specs/Scripts.antt`: start there. What a line says is `line_of` in
 //! `specs/Lines.antt`, and the lines that are written are in `specs/Written.antt`. What a step does in the network, and which
-//! is refused, are definitions of `bsc_world`. `simulate` (`src/simulating.rt`) plays a script; the loop that reads, cuts
+//! is refused, are definitions of `bsc_network`. `simulate` (`src/simulating.rt`) plays a script; the loop that reads, cuts
 //! lines, collects text and writes it is `play_lines` of `bsc_player`.
 #![tactic(auto)]
 
