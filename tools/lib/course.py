@@ -45,13 +45,19 @@ class Time(NamedTuple):
     ms: int
 
 
+class Place(NamedTuple):
+    """The number of the step or the entry that what follows belongs to. It stands at the left of the next row."""
+
+    number: int
+
+
 class Note(NamedTuple):
     """A remark, and no event."""
 
     words: str
 
 
-Record = Union[Arrow, Mark, Change, Time, Note]
+Record = Union[Arrow, Mark, Change, Time, Place, Note]
 
 
 class Course(NamedTuple):

@@ -52,6 +52,11 @@ def list_of(names):
     return " and ".join(filter(None, [", ".join(shown[:-1]), shown[-1]]))
 
 
+def counted(words):
+    """The counts of a hub, but for those of nothing."""
+    return ", ".join(it.replace("=", NO_BREAK) for it in words if not it.endswith("=0")) or "nothing"
+
+
 class Reader:
     def __init__(self, text):
         self.text = deque(it for it in lines_of(text) if it)
@@ -298,7 +303,7 @@ class Reader:
         if words[0] == "stopped":
             self.add(Mark(HUB, "told to stop: it has stopped already", "refused"))
             return
-        self.add(Mark(HUB, f"stops: {self.counted(words[1:])}"))
+        self.add(Mark(HUB, f"stops: {counted(words[1:])}"))
         for name, peer in self.open.items():
             if peer.connection is not None:
                 peer.ended = True
@@ -306,12 +311,8 @@ class Reader:
 
     def counts(self):
         words = self.take(HUB, "counts", "worn")
-        told = "no counts: it is worn" if words[0] == "worn" else f"counts: {self.counted(words[1:])}"
+        told = "no counts: it is worn" if words[0] == "worn" else f"counts: {counted(words[1:])}"
         self.add(Mark(HUB, told))
-
-    @staticmethod
-    def counted(words):
-        return ", ".join(it.replace("=", NO_BREAK) for it in words if not it.endswith("=0")) or "nothing"
 
     does = {"hub": hub, "open": opens, "in": binary, "text": textual, "drop": drop, "hold": hold, "free": free,
             "at": at, "stop": stop, "counts": counts}
@@ -330,9 +331,8 @@ def read_line(reader, number, words):
         raise BadText(f"line {number} of the script is no line of a script, or the text isn't what it comes to") from None
 
 
-def read(script, text):
-    """The course of a script, by the text that was written for it."""
-    reader = Reader(text)
+def course_of(reader, script):
+    """The course of a script, by a reader that has the text that was written for it."""
     captions, remark = [], []
     for number, words in enumerate([*lines_of(script), []], 1):
         is_remark = bool(words) and words[0].startswith("#")
@@ -356,3 +356,8 @@ def read(script, text):
     if reader.text:
         raise BadText(f"line {reader.number_in_text + 1} of the text belongs to no line of the script: {reader.next_words()}")
     return Course(" ".join(captions), list(reader.lines.values()), reader.records)
+
+
+def read(script, text):
+    """The course of a script, by the text that was written for it."""
+    return course_of(Reader(text), script)
