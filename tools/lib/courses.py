@@ -2,11 +2,12 @@
 the rules that `network` follows. With them it is seen whether the program comes to the same."""
 import random
 
-from message import digits_of
+from message import BROADCAST, digits_of
 from network import DOWN, UP, Network
 from node import Identity
 from simulate import written
 
+OFTEN = ("send",) * 6 + ("tick", "tick", "resolve", "resolve", "direct", "solicit")
 WAITS = (1, 1_000, 2_000, 4_000, 10_000, 30_000, 300_000, 600_000)
 
 
@@ -27,14 +28,16 @@ def added(chance, network):
 
 
 def some_vmac(chance, network):
-    return digits_of(chance.choice([b"\xFF" * 6, bytes([2, 0, 0, 0, 0, 0x77]), network.hubs[0].who.vmac] + [it.who.vmac for it in network.nodes] * 4))
+    rare = [BROADCAST, bytes([2, 0, 0, 0, 0, 0x77]), network.hubs[0].who.vmac]
+    return digits_of(chance.choice(rare + [it.who.vmac for it in network.nodes] * 4))
 
 
 def some_step(chance, network):
     """A line that makes a step, most often one that lets something arrive."""
     links = [it for it in network.links if not it.lost]
     moves = [f"{way} {it.number}" for it in links for way in (UP, DOWN) if it.ways[way]]
-    moves += [f"take {it.number}" for it in links if it.has_outbox() and (it.connection.outbox or it.connection.end or chance.random() < 0.02)]
+    outboxes = [it for it in links if it.has_outbox()]
+    moves += [f"take {it.number}" for it in outboxes if it.connection.outbox or it.connection.end or chance.random() < 0.02]
     if moves and chance.random() < 0.75:
         return chance.choice(moves)
     if links and chance.random() < 0.06:
@@ -48,7 +51,7 @@ def some_step(chance, network):
     learnt = list(network.nodes[number].learnt)
     if learnt and chance.random() < 0.2:
         return f"direct {number} {digits_of(chance.choice(learnt))}"
-    what = chance.choice(("send",) * 6 + ("tick", "tick", "resolve", "resolve", "direct", "solicit") + ("finish",) * (chance.random() < 0.1))
+    what = "finish" if chance.random() < 0.01 else chance.choice(OFTEN)
     if what in ("tick", "finish"):
         return f"{what} {number}"
     npdu = digits_of(bytes([chance.randrange(256)]) * chance.choice((1, 2, 2, 2, 60, 1490, 1497))) if what == "send" else ""

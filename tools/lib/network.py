@@ -9,7 +9,7 @@ Each step leaves `news`: what came about, one after the other, as tuples that be
 from collections import deque
 from typing import NamedTuple
 
-from message import BROADCAST, CONNECT_ACCEPT, CONNECT_REQUEST, DISCONNECT_ACK, DISCONNECT_REQUEST, RESULT, Message, digits_of
+from message import BROADCAST, CONNECT_ACCEPT, CONNECT_REQUEST, DISCONNECT_ACK, DISCONNECT_REQUEST, RESULT, Message, digits_of, octets_in
 from node import HEARTBEAT_ACK, HEARTBEAT_REQUEST, Node, identity_in, is_farewell, message, nak
 
 UP, DOWN = "up", "down"
@@ -224,7 +224,8 @@ class Network:
         node = self.nodes[int(number)] if int(number) < len(self.nodes) else None
         if not node or node.started == (what == "start"):
             return False
-        self.comes(node, node.does[what], *map(bytes.fromhex, words))
+        octets = [octets_in(it) for it in (words[:1], words[1:]) if it]
+        self.comes(node, node.does[what], *octets)
         return True
 
     def link_at(self, number):

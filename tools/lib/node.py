@@ -5,8 +5,8 @@ is whole, and only its phase may be the wrong one for it."""
 from dataclasses import dataclass
 from typing import NamedTuple, Optional
 
-from message import (ADVERTISEMENT, BROADCAST, CONNECT_ACCEPT, CONNECT_REQUEST, DISCONNECT_ACK, DISCONNECT_REQUEST, NPDU, RESOLUTION_ACK, RESULT,
-                     Message, digits_of, function_name, number)
+from message import (ADVERTISEMENT, BROADCAST, CONNECT_ACCEPT, CONNECT_REQUEST, DISCONNECT_ACK, DISCONNECT_REQUEST, NPDU,
+                     RESOLUTION_ACK, RESULT, Message, digits_of, function_name, number)
 
 RESOLUTION, SOLICITATION, HEARTBEAT_REQUEST, HEARTBEAT_ACK = 2, 5, 10, 11
 RESPONSES = (RESULT, RESOLUTION_ACK, CONNECT_ACCEPT, DISCONNECT_ACK, HEARTBEAT_ACK)
@@ -277,7 +277,7 @@ class Node:
                 self.connector("connected", name)
             return
         slot, who = self.slots[name], machine.peer
-        others = [it for key, it in self.slots.items() if key != name and it.peer]
+        others = [it for it in self.slots.values() if it is not slot and it.peer]
         is_wrong = slot.wanted and slot.wanted != who.vmac
         is_double = who.vmac == self.who.vmac or any(it.peer.vmac == who.vmac and it.peer.device != who.device for it in others)
         if name in self.taken and is_double:
@@ -289,12 +289,12 @@ class Node:
             if name in self.taken:
                 machine.phase = "connected"
                 self.put(name, message(CONNECT_ACCEPT, machine.id, self.who.octets()))
-            replaced = next((key for key, it in self.slots.items() if key != name and it.peer and it.peer.device == who.device), None)
             slot.peer = who
             self.tell(f"direct connection to {digits_of(who.vmac)} is up")
-            if replaced is not None:
-                self.slots[replaced].peer = None
-                self.finish_link(replaced)
+            for key, it in list(self.slots.items()):
+                if it is not slot and it.peer and it.peer.device == who.device:
+                    it.peer = None
+                    self.finish_link(key)
 
     # What is for the node.
 
@@ -372,8 +372,8 @@ class Node:
     def put_own(self, path, function, payload=b""):
         self.put(path[0], message(function, self.next_id(), payload, destination=path[1]))
 
-    def send(self, vmac, *octets):
-        npdu, path = b"".join(octets), self.path(vmac)
+    def send(self, vmac, npdu):
+        path = self.path(vmac)
         peer = self.there[path[0]].peer if path else None
         if path and (len(npdu) > peer.longest_npdu or 4 + len(path[1]) + len(npdu) > peer.longest):
             self.tell(f"too long for {digits_of(vmac)}", "lost")

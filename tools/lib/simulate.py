@@ -130,7 +130,10 @@ class Reader:
             else:
                 self.drops(f"it is longer than {names_of(skipped)} takes" if skipped else f"the outbox of {names_of(full)} is full")
             return
-        self.comes_of(f"into the outbox{'es' if len(to) > 1 else ''} of {names_of(to)}" if to else "dropped: it joins no outbox", "came" if to else "lost")
+        if to:
+            self.comes_of(f"into the outbox{'es' if len(to) > 1 else ''} of {names_of(to)}")
+        else:
+            self.drops("it joins no outbox")
         for connections, words in ((full, "missed: the outbox is full"), (skipped, "skipped: too long for it")):
             if len(connections) > NAMED:
                 self.add(Mark(self.way[1].name, f"{words}: {names_of(connections)}", "lost"))
@@ -155,7 +158,8 @@ class Reader:
             self.add(Mark(hub, words))
 
     def ended(self, connection, why):
-        self.add(Mark(connection.link.target.name, f"connection {connection.number} ({connection.link.source.name}) ends: {why}", "refused"))
+        words = f"connection {connection.number} ({connection.link.source.name}) ends: {why}"
+        self.add(Mark(connection.link.target.name, words, "refused"))
 
     def tells(self, node, words, fate):
         self.add(Mark(node.name, words, fate))
@@ -166,7 +170,8 @@ class Reader:
         self.add(Change(node.name, "joined" if hub else "open"))
 
     def delivers(self, node, place, sender, is_for_all, npdu):
-        self.add(Mark(node.name, f"delivers what place {place} sent{' to all' if is_for_all else ''}: {short(digits_of(npdu))}, of {digits_of(sender)}"))
+        words = f"delivers what place {place} sent{' to all' if is_for_all else ''}"
+        self.add(Mark(node.name, f"{words}: {short(digits_of(npdu))}, of {digits_of(sender)}"))
 
     def takes(self, connection, frame):
         hub, whose = connection.link.target.name, f"the outbox of {connection.link.source.name}, link {connection.link.number}"
