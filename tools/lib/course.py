@@ -1,6 +1,9 @@
 """A course: what happened between peers and hubs, as plain records in their order. A reader of a format makes them, and
 `drawing` draws them; neither knows of the other."""
+import re
 from typing import NamedTuple, Union
+
+NO_BREAK = "\N{NO-BREAK SPACE}"
 
 
 class Line(NamedTuple):
@@ -64,6 +67,11 @@ class Course(NamedTuple):
     caption: str
     lines: list[Line]
     records: list[Record]
+
+
+def tied(words):
+    """Words in which a number stays with what it is the number of."""
+    return re.sub(r"\b(caller|connection|hub|ID|link|node|place) (\d)", rf"\1{NO_BREAK}\2", words)
 
 
 class BadText(Exception):

@@ -65,8 +65,8 @@ text { font: 12px "Helvetica Neue", Helvetica, Arial, "Liberation Sans", sans-se
 
 
 def wrapped(words, width):
-    """Words in lines that are about as wide as that."""
-    return textwrap.wrap(words, int(width / (SMALL * WIDE)), break_on_hyphens=False)
+    """Words in lines that are about as wide as that. Where they have line ends they are cut there too."""
+    return [it for line in words.split("\n") for it in textwrap.wrap(line, int(width / (SMALL * WIDE)), break_on_hyphens=False)]
 
 
 def time_words(ms):
@@ -232,6 +232,8 @@ class Drawing:
         caption = wrapped(self.course.caption, self.right - 24)
         self.paragraph(12, y + 20, caption)
         y += 15 * len(caption) + 16
+        if any(isinstance(it, Place) for it in self.course.records):
+            self.text(CLOCK - 12, y + 27, "place", "small", "end")
         for it in self.lines:
             x = self.places[it.name]
             self.put(f'<rect class="{"hub" if it.is_hub else "head"}" x="{x - 62:g}" y="{y}" width="124" height="{HEAD}" rx="6"/>')

@@ -5,7 +5,7 @@ have this history is for `bsc audit` to say. Places that no entry has are marked
 import re
 from typing import NamedTuple
 
-from course import Arrow, BadText, Change, Course, Line, Mark, Note, Place
+from course import Arrow, BadText, Change, Course, Line, Mark, Note, Place, tied
 from message import Message, count, digits_of, name_of, octets_in, told_of
 from replay import HUB, NAMED, SHOWN, counted, list_of
 
@@ -80,11 +80,16 @@ class Reader:
     def add(self, *records):
         self.records.extend(records)
 
+    def arrow(self, start, end, words, under="", said="", fate="came", **more):
+        self.add(Arrow(start, end, words, tied(under), tied(said), fate, **more))
+
     def line_of(self, connection):
-        """The name of the line of a connection. Where no entry tells of its connect, the line has no words."""
+        """The name of the line of a connection. Where no entry tells of its connect it has no words, and is drawn from here."""
         name = f"connection {connection}"
         entry = self.joined.get(connection)
-        self.lines.setdefault(name, Line(name, entry.words[0][:12] if entry else ""))
+        if name not in self.lines:
+            self.lines[name] = Line(name, entry.words[0][:12] if entry else "")
+            self.add(*([] if entry else [Change(name, "open")]))
         return name
 
     def lines_of(self, connections):
@@ -94,7 +99,7 @@ class Reader:
         if connection in self.live:
             self.live.remove(connection)
         name = self.line_of(connection)
-        self.add(Mark(name, f"ends: {why}", "refused"), Change(name, "open"))
+        self.add(Mark(name, tied(f"ends: {why}"), "refused"), Change(name, "open"))
 
     # Entries.
 
@@ -106,7 +111,7 @@ class Reader:
         under = f"VMAC {digits_of(who[:6])}, device {digits_of(who[6:8])}..{digits_of(who[20:22])}"
         if said == "joined":
             self.add(Change(name, "open"))
-            self.add(Arrow(name, HUB, "connect", f"{under}, of caller {it.caller}", f"joins as connection {words[0]}", octets=it.words[0]))
+            self.arrow(name, HUB, "connect", f"{under}\nof caller {it.caller}", f"joins as connection {words[0]}", octets=it.words[0])
             self.add(Change(name, "joined"))
             self.live.append(words[0])
             if len(words) > 1:
@@ -115,7 +120,7 @@ class Reader:
         why = {"duplicate": lambda: "the hub itself has this VMAC" if words == [HUB] else f"connection {words[0]} has this VMAC",
                "tablefull": lambda: f"the table is full, of {count(int(words[0]), 'row')}",
                "stopped": lambda: "the hub has stopped"}[said]()
-        self.add(Arrow(name, HUB, "connect", under, f"refused: {why}", "refused", octets=it.words[0]))
+        self.arrow(name, HUB, "connect", under, f"refused: {why}", "refused", octets=it.words[0])
 
     def forward(self, it):
         connection, octets, _, looks, said, *words = it.words
@@ -132,7 +137,7 @@ class Reader:
             why = None if to else lambda: "it joins no outbox"
         name = self.line_of(connection)
         fate = "lost" if why else "came"
-        self.add(Arrow(name, HUB, name_of(message), told_of(message), f"dropped: {why()}" if why else "", fate, octets=octets))
+        self.arrow(name, HUB, name_of(message), told_of(message), f"dropped: {why()}" if why else "", fate, octets=octets)
         self.outboxes(to, "into its outbox", "came", taken)
         self.outboxes(missed, "missed: the outbox is full", "lost", taken)
         self.outboxes(skipped, "skipped: too long for it", "lost", taken)
@@ -143,11 +148,11 @@ class Reader:
         """What becomes of a message at some outboxes: an arrow each, or a remark where they are many."""
         names = self.lines_of(connections)
         if len(names) > NAMED:
-            self.add(Mark(HUB, f"{words}: {list_of(names)}", fate))
+            self.add(Mark(HUB, tied(f"{words}: {list_of(names)}"), fate))
             return
         for connection, name in zip(connections, names):
             found = f"{taken[connection]} taken from it before" if connection in taken else ""
-            self.add(Arrow(HUB, name, words, found, fate=fate))
+            self.arrow(HUB, name, words, found, fate=fate)
 
     def leave(self, it):
         connection, taken, empties, _, ending, _ = it.words
@@ -155,7 +160,8 @@ class Reader:
         if connection in self.live:
             self.live.remove(connection)
         said = f"gone: {ending}, {count(int(taken), 'frame')} taken, and found empty {count(int(empties), 'time')}"
-        self.add(Arrow(name, HUB, "leave", said=said, closes=True), Change(name, "away"))
+        self.arrow(name, HUB, "leave", said=said, closes=True)
+        self.add(Change(name, "away"))
 
     def stop(self, it):
         self.add(Mark(HUB, f"stops: {counted(it.words[1:])}"))

@@ -7,12 +7,11 @@ no line of the text: it only sorts them.
 """
 from collections import deque
 
-from course import Arrow, BadText, Change, Course, Line, Mark, Note, Time
+from course import NO_BREAK, Arrow, BadText, Change, Course, Line, Mark, Note, Time
 from message import (DISCONNECT_ACK, DISCONNECT_REQUEST, RESULT, Message, count, digits_of, name_of, octets_in, told_of,
                      words_of_checks)
 
 HUB = "hub"
-NO_BREAK = "\N{NO-BREAK SPACE}"
 SHOWN = 60  # what is shown of a line that doesn't belong there
 CUT_SHORT = (["fault", "read"], ["fault", "memory"])  # the last lines of a run that wasn't made to its end
 NAMED = 3  # how many names a remark has before it says how many more there are

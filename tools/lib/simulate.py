@@ -5,7 +5,7 @@ follows from the rules of nodes and hubs, which `network` follows. Where the tex
 rules come to, it is refused."""
 from collections import deque
 
-from course import Arrow, BadText, Change, Course, Line, Mark, Note, Place, Time
+from course import Arrow, BadText, Change, Line, Mark, Note, Place, Time, tied
 from message import Message, count, digits_of, name_of, octets_in, told_of
 from network import DOWN, UP, Hub, Network
 from node import PRIMARY, Identity
@@ -14,7 +14,7 @@ from replay import CUT_SHORT, NAMED, SHOWN, TextEnds, course_of, lines_of, list_
 OWN = {"start": "starts", "tick": "is told the time", "finish": "is to end", "send": "sends {npdu} to {vmac}",
        "resolve": "asks for the URIs of {vmac}", "direct": "wants a direct connection to {vmac}",
        "solicit": "asks {vmac} for an Advertisement"}
-DIGITS = 32  # what is shown of an NPDU
+DIGITS = 24  # what is shown of an NPDU
 
 
 def short(digits):
@@ -31,6 +31,10 @@ def words_of(parcel):
         told = Message(parcel.octets)
         return name_of(told), told_of(told)
     return {"opened": "the WebSocket has opened", "arrived": "a peer has dialled", "closed": f"closes with {parcel.words}"}[parcel.what], ""
+
+
+def is_nak(parcel):
+    return parcel.what == "message" and Message(parcel.octets).field("result code") == b"\1"
 
 
 def number_of(node):
@@ -81,25 +85,30 @@ class Reader:
         """An arrow, or a remark where a node has both ends."""
         self.arrow = len(self.records)
         if start is end:
-            self.add(Mark(start.name, f"{words}, by itself. {under}", fate))
+            self.add(Mark(start.name, tied(f"{words}, by itself\n{under}"), fate))
         else:
             self.add(Arrow(start.name, end.name, words, under, said, fate, is_quiet, octets))
+
+    def mark(self, name, words, fate="came"):
+        self.add(Mark(name, tied(words), fate))
 
     def comes_of(self, words, fate="came"):
         """What comes of the message that arrived."""
         arrow = self.records[self.arrow]
         if isinstance(arrow, Arrow) and isinstance(self.way[1], Hub):
-            self.records[self.arrow] = arrow._replace(said=words, fate=fate)
+            self.records[self.arrow] = arrow._replace(said=tied(words), fate=arrow.fate if fate == "came" else fate)
             return
         if fate == "lost":
             self.records[self.arrow] = arrow._replace(fate=fate)
-        self.add(Mark(self.way[1].name, words, fate))
+        self.mark(self.way[1].name, words, fate)
 
     def show(self, link, way, parcel, fate="came"):
         """What stands at the front of a way, as an arrow from who put it."""
         self.way = (link.source, link.target) if way == UP else (link.target, link.source)
         words, told = words_of(parcel)
-        under = f"link {link.number}, place {parcel.place}" + (f": {told}" if told else "")
+        if fate == "came" and is_nak(parcel):
+            fate = "refused"
+        under = f"link {link.number}, place {parcel.place}\n{told}".strip()
         self.send(*self.way, words, under, fate=fate, is_quiet=parcel.what != "message" and fate == "came", octets=digits_of(parcel.octets))
 
     # News.
@@ -108,7 +117,7 @@ class Reader:
         if isinstance(link.target, Hub):
             self.send(link.source, link.target, "dials", f"link {link.number}", is_quiet=True)
         else:
-            self.add(Mark(link.source.name, f"dials {link.target.name}: link {link.number}"))
+            self.mark(link.source.name, f"dials {link.target.name}: link {link.number}")
 
     def arrives(self, link, way, parcel):
         self.show(link, way, parcel)
@@ -136,7 +145,7 @@ class Reader:
             self.drops("it joins no outbox")
         for connections, words in ((full, "missed: the outbox is full"), (skipped, "skipped: too long for it")):
             if len(connections) > NAMED:
-                self.add(Mark(self.way[1].name, f"{words}: {names_of(connections)}", "lost"))
+                self.mark(self.way[1].name, f"{words}: {names_of(connections)}", "lost")
             else:
                 self.add(*(Arrow(self.way[1].name, it.link.source.name, words, fate="lost") for it in connections))
 
@@ -153,32 +162,32 @@ class Reader:
         hub, newest = connection.link.target.name, self.records[-1]
         words = f"connection {connection.number} leaves" + ("" if connection.end == "left" else f": {connection.end}")
         if isinstance(newest, Arrow) and newest.end == hub and newest.fate == "came" and not newest.said:
-            self.records[-1] = newest._replace(said=words)
+            self.records[-1] = newest._replace(said=tied(words))
         else:
-            self.add(Mark(hub, words))
+            self.mark(hub, words)
 
     def ended(self, connection, why):
         words = f"connection {connection.number} ({connection.link.source.name}) ends: {why}"
-        self.add(Mark(connection.link.target.name, words, "refused"))
+        self.mark(connection.link.target.name, words, "refused")
 
     def tells(self, node, words, fate):
-        self.add(Mark(node.name, words, fate))
+        self.mark(node.name, words, fate)
 
     def uses(self, node, side):
         hub = None if side is None else "hub 0" if side == PRIMARY else "hub 1"
-        self.add(Mark(node.name, f"its hub is {hub}" if hub else "has no hub", "came" if hub else "lost"))
+        self.mark(node.name, f"its hub is {hub}" if hub else "has no hub", "came" if hub else "lost")
         self.add(Change(node.name, "joined" if hub else "open"))
 
     def delivers(self, node, place, sender, is_for_all, npdu):
         words = f"delivers what place {place} sent{' to all' if is_for_all else ''}"
-        self.add(Mark(node.name, f"{words}: {short(digits_of(npdu))}, of {digits_of(sender)}"))
+        self.mark(node.name, f"{words}: {short(digits_of(npdu))}, of {digits_of(sender)}")
 
     def takes(self, connection, frame):
-        hub, whose = connection.link.target.name, f"the outbox of {connection.link.source.name}, link {connection.link.number}"
+        hub, whose = connection.link.target.name, f"the outbox of {connection.link.source.name} (link {connection.link.number})"
         if frame:
-            self.add(Mark(hub, f"takes place {frame.place} from {whose}"))
+            self.mark(hub, f"takes what place {frame.place} sent from {whose}")
         else:
-            self.add(Mark(hub, f"finds {whose}, empty" + (f"; its connection has ended: {connection.end}" if connection.end else "")))
+            self.mark(hub, f"finds {whose} empty" + (f"; its connection has ended: {connection.end}" if connection.end else ""))
 
     def loses(self, link):
         carried = [(way, parcel) for way in (UP, DOWN) for parcel in link.ways[way]]
@@ -186,10 +195,10 @@ class Reader:
         for way, parcel in carried[:NAMED]:
             self.show(link, way, parcel, "lost")
         if len(carried) > NAMED:
-            self.add(Mark(link.source.name, f"and {len(carried) - NAMED} more on this link", "lost"))
+            self.mark(link.source.name, f"and {len(carried) - NAMED} more on this link", "lost")
 
     def stops(self, hub):
-        self.add(Mark(hub.name, "stops"))
+        self.mark(hub.name, "stops")
 
     shows = {"dials": dials, "arrives": arrives, "joins": joins, "refuses": refuses, "drops": drops, "forwards": forwards,
              "dropped": dropped, "silent": silent, "left": left, "ends": ended, "tells": tells, "uses": uses,
@@ -226,7 +235,7 @@ class Reader:
         if words[0] in OWN:
             name = self.network.nodes[int(words[1])].name
             vmac, npdu = "".join(words[2:3]).upper(), short("".join(words[3:]).upper())
-            self.add(Mark(name, OWN[words[0]].format(vmac="all" if vmac == "F" * 12 else vmac, npdu=npdu)))
+            self.mark(name, OWN[words[0]].format(vmac="all" if vmac == "F" * 12 else vmac, npdu=npdu))
         if words[0] == "start":
             self.add(Change(name, "open"))
         for what, *rest in self.network.news:
