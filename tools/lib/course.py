@@ -1,6 +1,9 @@
 """A course: what happened between peers and hubs, as plain records in their order. A reader of a format makes them, and
 `drawing` draws them; neither knows of the other."""
+import re
 from typing import NamedTuple, Union
+
+NO_BREAK = "\N{NO-BREAK SPACE}"
 
 
 class Line(NamedTuple):
@@ -45,19 +48,30 @@ class Time(NamedTuple):
     ms: int
 
 
+class Place(NamedTuple):
+    """The number of the step or the entry that what follows belongs to. It stands at the left of the next row."""
+
+    number: int
+
+
 class Note(NamedTuple):
     """A remark, and no event."""
 
     words: str
 
 
-Record = Union[Arrow, Mark, Change, Time, Note]
+Record = Union[Arrow, Mark, Change, Time, Place, Note]
 
 
 class Course(NamedTuple):
     caption: str
     lines: list[Line]
     records: list[Record]
+
+
+def tied(words):
+    """Words in which a number stays with what it is the number of."""
+    return re.sub(r"\b(caller|connection|hub|ID|link|node|place) (\d)", rf"\1{NO_BREAK}\2", words)
 
 
 class BadText(Exception):

@@ -3,11 +3,11 @@ import textwrap
 from html import escape
 from math import ceil
 
-from course import Arrow, Change, Mark, Note, Time
+from course import Arrow, Change, Mark, Note, Place, Time
 
 GAP = 280  # between two lines
 SIDE = 76  # beside the outer lines: half of a head
-CLOCK = 84  # on the left, where the course has times
+CLOCK = 84  # on the left, where the course has times or places
 HEAD = 44
 FOOT = 24
 SMALL = 11  # the size of text but names
@@ -65,8 +65,8 @@ text { font: 12px "Helvetica Neue", Helvetica, Arial, "Liberation Sans", sans-se
 
 
 def wrapped(words, width):
-    """Words in lines that are about as wide as that."""
-    return textwrap.wrap(words, int(width / (SMALL * WIDE)), break_on_hyphens=False)
+    """Words in lines that are about as wide as that. Where they have line ends they are cut there too."""
+    return [it for line in words.split("\n") for it in textwrap.wrap(line, int(width / (SMALL * WIDE)), break_on_hyphens=False)]
 
 
 def time_words(ms):
@@ -84,7 +84,7 @@ def ordered(lines):
 
 
 def is_row(record):
-    return not isinstance(record, Change)
+    return not isinstance(record, (Change, Place))
 
 
 def names_in(record):
@@ -104,7 +104,7 @@ class Drawing:
         self.hubs = [it.name for it in course.lines if it.is_hub]
         shown = self.names_of_page()
         self.lines = [it for it in ordered(course.lines) if it.is_hub or it.name in shown]
-        self.left = SIDE + (CLOCK if any(isinstance(it, Time) for it in course.records) else 0)
+        self.left = SIDE + (CLOCK if any(isinstance(it, (Time, Place)) for it in course.records) else 0)
         self.places = {it.name: self.left + GAP * n for n, it in enumerate(self.lines)}
         last = self.lines[-1] if self.lines else None
         self.right = max(2 * GAP, self.left + GAP * (len(self.lines) - 1) + (GAP if last and last.is_hub else SIDE))
@@ -232,6 +232,8 @@ class Drawing:
         caption = wrapped(self.course.caption, self.right - 24)
         self.paragraph(12, y + 20, caption)
         y += 15 * len(caption) + 16
+        if any(isinstance(it, Place) for it in self.course.records):
+            self.text(CLOCK - 12, y + 27, "place", "small", "end")
         for it in self.lines:
             x = self.places[it.name]
             self.put(f'<rect class="{"hub" if it.is_hub else "head"}" x="{x - 62:g}" y="{y}" width="124" height="{HEAD}" rx="6"/>')
@@ -252,8 +254,11 @@ class Drawing:
         self.states = {it: ("open", y) for it in self.hubs}
         y += 6
         row = 0
+        place = None  # that of the next row
         for record in self.course.records:
-            if isinstance(record, Change):
+            if isinstance(record, Place):
+                place = record.number
+            elif isinstance(record, Change):
                 if record.line not in self.places:
                     continue
                 if row <= self.first and self.page > 1:
@@ -263,6 +268,9 @@ class Drawing:
             elif row < self.end:
                 if row >= self.first:
                     y = self.row(record, y)
+                    if place is not None:
+                        self.text(CLOCK - 12, self.height + 4, f"{place:,}", "small", "end")
+                place = None
                 row += 1
             else:
                 break

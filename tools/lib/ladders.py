@@ -1,15 +1,31 @@
-"""The ladders that the pages show, each of a script in examples/ and the text that stands beside it."""
+"""The ladders that the pages show, each of an example and, where it is a script, of the text that stands beside it."""
 from pathlib import Path
 
 import drawing
+import journal
 import replay
+import simulate
 
 TOP = Path(__file__).resolve().parents[2]
+EXAMPLES = TOP / "examples"
 FOLDER = TOP / "docs/ladders"
-NAMES = ("unicast", "takeover", "full", "missed", "waits")
+NAMES = ("unicast.script", "takeover.script", "full.script", "missed.script", "waits.script", "two-hubs.steps", "everycall.journal")
+SCRIPTS = {".script": replay.read, ".steps": simulate.read}
+
+
+def text_of(path):
+    return path.read_bytes().decode("utf-8")
 
 
 def drawn(name):
     """The ladder of an example."""
-    script, text = ((TOP / f"examples/{name}.{kind}").read_bytes().decode("utf-8") for kind in ("script", "out"))
-    return drawing.Drawing(replay.read(script, text), name).svg()
+    path = EXAMPLES / name
+    text = text_of(path)
+    read = SCRIPTS.get(path.suffix)
+    course = read(text, text_of(path.with_suffix(".out"))) if read else journal.read([(name, text)])
+    return drawing.Drawing(course, path.stem).svg()
+
+
+def kept(name):
+    """Where the ladder of an example is kept."""
+    return FOLDER / f"{Path(name).stem}.svg"

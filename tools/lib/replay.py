@@ -7,12 +7,11 @@ no line of the text: it only sorts them.
 """
 from collections import deque
 
-from course import Arrow, BadText, Change, Course, Line, Mark, Note, Time
+from course import NO_BREAK, Arrow, BadText, Change, Course, Line, Mark, Note, Time
 from message import (DISCONNECT_ACK, DISCONNECT_REQUEST, RESULT, Message, count, digits_of, name_of, octets_in, told_of,
                      words_of_checks)
 
 HUB = "hub"
-NO_BREAK = "\N{NO-BREAK SPACE}"
 SHOWN = 60  # what is shown of a line that doesn't belong there
 CUT_SHORT = (["fault", "read"], ["fault", "memory"])  # the last lines of a run that wasn't made to its end
 NAMED = 3  # how many names a remark has before it says how many more there are
@@ -50,6 +49,11 @@ def list_of(names):
     """Names in words, the first few of them where they are many."""
     shown = names if len(names) <= NAMED + 1 else [*names[:NAMED], f"{len(names) - NAMED} more"]
     return " and ".join(filter(None, [", ".join(shown[:-1]), shown[-1]]))
+
+
+def counted(words):
+    """The counts of a hub, but for those of nothing."""
+    return ", ".join(it.replace("=", NO_BREAK) for it in words if not it.endswith("=0")) or "nothing"
 
 
 class Reader:
@@ -298,7 +302,7 @@ class Reader:
         if words[0] == "stopped":
             self.add(Mark(HUB, "told to stop: it has stopped already", "refused"))
             return
-        self.add(Mark(HUB, f"stops: {self.counted(words[1:])}"))
+        self.add(Mark(HUB, f"stops: {counted(words[1:])}"))
         for name, peer in self.open.items():
             if peer.connection is not None:
                 peer.ended = True
@@ -306,12 +310,8 @@ class Reader:
 
     def counts(self):
         words = self.take(HUB, "counts", "worn")
-        told = "no counts: it is worn" if words[0] == "worn" else f"counts: {self.counted(words[1:])}"
+        told = "no counts: it is worn" if words[0] == "worn" else f"counts: {counted(words[1:])}"
         self.add(Mark(HUB, told))
-
-    @staticmethod
-    def counted(words):
-        return ", ".join(it.replace("=", NO_BREAK) for it in words if not it.endswith("=0")) or "nothing"
 
     does = {"hub": hub, "open": opens, "in": binary, "text": textual, "drop": drop, "hold": hold, "free": free,
             "at": at, "stop": stop, "counts": counts}
@@ -330,9 +330,8 @@ def read_line(reader, number, words):
         raise BadText(f"line {number} of the script is no line of a script, or the text isn't what it comes to") from None
 
 
-def read(script, text):
-    """The course of a script, by the text that was written for it."""
-    reader = Reader(text)
+def course_of(reader, script):
+    """The course of a script, by a reader that has the text that was written for it."""
     captions, remark = [], []
     for number, words in enumerate([*lines_of(script), []], 1):
         is_remark = bool(words) and words[0].startswith("#")
@@ -356,3 +355,8 @@ def read(script, text):
     if reader.text:
         raise BadText(f"line {reader.number_in_text + 1} of the text belongs to no line of the script: {reader.next_words()}")
     return Course(" ".join(captions), list(reader.lines.values()), reader.records)
+
+
+def read(script, text):
+    """The course of a script, by the text that was written for it."""
+    return course_of(Reader(text), script)
