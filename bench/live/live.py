@@ -56,13 +56,15 @@ class Bench:
         return subprocess.run(call, stderr=subprocess.DEVNULL).returncode == 0
 
     def add_peers(self):
-        """The relays whose libraries are installed."""
+        """The relays whose libraries are installed, and the relay that has the hub's own shape."""
         node = shutil.which("node") or shutil.which("nodejs")
         library = "require('./interop/websocket/messages.js').library()"
         if node and subprocess.run([node, "-e", library], cwd=ROOT, stderr=subprocess.DEVNULL).returncode == 0:
             self.hubs["node-ws"] = [node, str(HERE / "relay.js")]
         if self.compile("relay", "-lwebsockets"):
             self.hubs["libwebsockets"] = [str(self.work / "relay")]
+        if self.compile("limit"):
+            self.hubs["limit"] = [str(self.work / "limit")]
 
     def start(self, kind, links):
         return Hub(self, kind, links)
