@@ -495,9 +495,9 @@ or_none true = refl
 or_none false = refl
 
 -- What is answered where a connect is refused.
-pub refused_in : (S : List Stamped) (l : ℕ) (who : Identity) (m : Mark) (r : Refusal) (old new : KeptHub) → DeskStandsFor new.desk (S ++ connect_stamped l who m (RefusedReply r) ∷ []) → new.desk.about ≡ old.desk.about → new.about ≡ old.about → new.uri ≡ old.uri → new.joined_by.items ≡ old.joined_by.items → new.has_stopped ≡ old.has_stopped → ((c : ℕ) → known_of new.desk c ≡ known_of old.desk c) → Some (RefusedReply r) ≡ connect_due old.desk.about (entries_of S) who
+pub refused_in : (S : List Stamped) (l : ℕ) (who : Identity) (m : Mark) (r : Refusal) (old new : KeptHub) → DeskStandsFor new.desk (S ++ connect_stamped l who m (RefusedReply r) ∷ []) → new.desk.about ≡ old.desk.about → new.about ≡ old.about → new.uri ≡ old.uri → new.has_stopped ≡ old.has_stopped → ((c : ℕ) → known_of new.desk c ≡ known_of old.desk c) → Some (RefusedReply r) ≡ connect_due old.desk.about (entries_of S) who
     → (nat_le old.desk.about.limits.calls (length S) ≡ false) × HasRefused S l who r old new
-refused_in S l who m r old new stands desk_about about uri joins stops known due = (
+refused_in S l who m r old new stands desk_about about uri stops known due = (
   ap (nat_le old.desk.about.limits.calls) (sym (length-map S (λ s. s.entry))) ∙ due_fresh (nat_le old.desk.about.limits.calls (length (entries_of S))) (RefusedReply r) (connect_reply old.desk.about (entries_of S) who) due,
   record {
     mark = m;
@@ -506,7 +506,6 @@ refused_in S l who m r old new stands desk_about about uri joins stops known due
       desk_about = desk_about;
       about = about;
       uri = uri;
-      joined = joins ∙ sym (append-nil old.joined_by.items);
       stopped = stops ∙ or_none old.has_stopped;
     };
     known = known;

@@ -12,7 +12,6 @@ pub mod Arrivals
 pub mod Refused
 pub mod Stepped
 pub mod Entering
-pub mod HubSpots
 pub mod Additions
 pub mod OneHub
 pub mod OfSides
@@ -27,3 +26,4 @@ pub mod ConnectCalls
 pub mod SideMeetings
 pub mod ForwardCalls
 pub mod NextFrames
+pub mod TakeCalls

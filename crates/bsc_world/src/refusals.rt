@@ -45,7 +45,7 @@ fn unless(holds: bool, refusal: StepRefusal) -> Option<StepRefusal>
 }
 
 /// Whether a hub's side has joined, and its machine is in Connected, while the session lasts.
-fn may_take(side: &Option<KeptSide>) -> bool
+pub(crate) fn may_take(side: &Option<KeptSide>) -> bool
     ensures { result ≡ takes_in side.now }
 {
     match side {
