@@ -1,6 +1,6 @@
 use Rattle.std.proofs.Common.{refl}
 use Rattle.bsc_ring.specs.Ends.{inlet_mark}
-use Rattle.bsc_world.proofs.ConnectCalls.{refused_in}
+use Rattle.bsc_world.proofs.RefusedConnects.{refused_in}
 use Rattle.bsc_world.proofs.kept_hub.KeptHub.connect.Goals as goal
 
 pub returns : goal.returns
