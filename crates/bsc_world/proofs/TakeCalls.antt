@@ -192,7 +192,7 @@ record FitsTaken (h : Hub) (c : ℕ) (k : KeptConn) (old new : HubSide) : Type 0
   pub places : k.places.items ≡ drop new.taken (places_of (frames h c))
 
 module _ (t u : KeptWorld) (F : List LinkName) (w : World) (l j : ℕ) (kept after : KeptLink) (n : Desk) (took : Took) (was : slice_get t.links.items l ≡ Some kept) (o : OnLink t u l after) (to : kept.to ≡ ToHub j) (s : StandsAs t F None w)
-  (x : SideAt t w l j kept) (hubs : u.hubs.items ≡ set t.hubs.items j (record x.at.kept { desk = n })) (g : SideTook took x.at.kept.desk n kept after) where
+    (x : SideAt t w l j kept) (hubs : u.hubs.items ≡ set t.hubs.items j (record x.at.kept { desk = n })) (g : SideTook took x.at.kept.desk n kept after) where
   side_then : IsSideKept l x.hub x.at.marks x.at.kept.desk x.link g.was
   side_then = subst (IsSideKeptIf l x.hub x.at.marks x.at.kept.desk x.link) g.there x.side
 
