@@ -23,6 +23,7 @@ pub mod SideConnects
 pub mod TakesOne
 pub mod SideHears
 pub mod ConnectCalls
+pub mod DeskConnects
 pub mod SideMeetings
 pub mod ForwardCalls
 pub mod NextFrames

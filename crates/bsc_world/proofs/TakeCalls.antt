@@ -1,10 +1,11 @@
 -- The hub's side of a link takes from the outbox of its connection.
-use Rattle.std.proofs.Common.{◌≡◌, ◌≢◌, ℕ, ◌+◌, ◌==◌, ◌&&◌, Bool, true, false, not, cond, List, [], ◌∷◌, ◌++◌, length, drop, set, slice_get, Option, Some, None, true≢false, refl, ap, sym, ◌∙◌, subst, length-append, length-set}
+use Rattle.std.proofs.Common.{◌≡◌, ◌≢◌, ◌<◌, ◌⊎◌, inl, inr, ℕ, ◌+◌, ◌==◌, ◌&&◌, Bool, true, false, not, cond, List, [], ◌∷◌, ◌++◌, length, drop, set, get_or, slice_get, Option, Some, None, true≢false, refl, ap, sym, ◌∙◌, subst, length-append, length-set}
 use Rattle.std.specs.Prelude.{IfSome, is_some}
 use Rattle.std.specs.List.{list_any}
 use Rattle.std.specs.Option.{option_map}
 use Rattle.std.proofs.lemmas.Bool.{and_parts}
 use Rattle.std.proofs.lemmas.List.{drop-drop}
+use Rattle.std.proofs.lemmas.Option.{slice_get_read}
 use Rattle.bsc_direct.proofs.OneMore.{some_same}
 use Rattle.bsc_node.specs.declared.link_name.LinkName.{LinkName}
 use Rattle.bsc_history.specs.declared.limits.About.{About}
@@ -27,7 +28,7 @@ use Rattle.bsc_desk.specs.Rows.{known_of}
 use Rattle.bsc_accept.specs.declared.start.Start.{Start}
 use Rattle.bsc_accept.specs.declared.event.Event.TheVariants.{Ended}
 use Rattle.bsc_accept.specs.Past.{phase}
-use Rattle.bsc_accept.specs.Standing.{StandsFor as MachineStandsFor, IsConnected}
+use Rattle.bsc_accept.specs.Standing.{StandsFor as MachineStandsFor, IsConnected, phase_of}
 use Rattle.bsc_script.specs.States.{default_times}
 use Rattle.bsc_script.specs.Emptying.{empties_after, is_connected}
 use Rattle.bsc_script.proofs.Meetings.{own_any}
@@ -54,6 +55,7 @@ use Rattle.bsc_world.specs.declared.world.World.{World as KeptWorld}
 use Rattle.bsc_world.specs.Kept.{IsConnKept, IsConnKeptIf, IsHubKept, IsLinkKept, IsReady, IsSideKept, IsSideKeptIf, places_of, takes_in}
 use Rattle.bsc_world.specs.Standing.{AreReadyBut, IsHubAt, StandsAs}
 use Rattle.bsc_world.specs.Becoming.{Became, BecomesWhere, HasSide, Keeps, Stands, ends}
+use Rattle.bsc_world.specs.HubEntries.{LeadsTo}
 use Rattle.bsc_world.specs.Sides.{IsSideOf}
 use Rattle.bsc_world.specs.Takes.{LinkTook, MayTake, OwnsOutlet, SideTook, StaysMet, TookAt, TookOne, WasTaken}
 use Rattle.bsc_network.proofs.Places.{get-changed, get-other, get-set_here, get-set_other, length-changed, one_or_two}
@@ -62,7 +64,7 @@ use Rattle.bsc_world.proofs.LeaveCalls.{OnLink, changed-same}
 use Rattle.bsc_world.proofs.LinkWays.{link_there, map-changed}
 use Rattle.bsc_world.proofs.NextFrames.{next_frame, no_frame}
 use Rattle.bsc_world.proofs.OfSides.{SideAt, got-at, of_side_is, side_at, unless_over_is}
-use Rattle.bsc_world.proofs.OneHub.{HubChange, SameKept, SameLink, hub_changed, same_kept, same_link}
+use Rattle.bsc_world.proofs.OneHub.{HubChange, SameKept, SameLink, hub_changed, read_there, same_kept, same_link}
 use Rattle.bsc_world.proofs.QuietEntries.{legal_at, one_owner}
 use Rattle.bsc_world.proofs.Refused.{outbox_kept}
 use Rattle.bsc_world.proofs.SideMeetings.{side_desk}
@@ -148,12 +150,34 @@ may_take_from t l j kept hub (F, w, at, s) was to there side k is joined =
     (a.marks, subst (λ (y : KeptHub). OwnsOutlet y.desk a.marks k) same (owns_at l j x.hub a.marks a.kept x.link.side k a.hub q))
 
 -- The machine of a side that took is in Connected.
-pub side_connected : (u : KeptWorld) (l : ℕ) (r : Option Took) (d n : Desk) (kept after : KeptLink) → LinkTook r d n kept after → slice_get u.links.items l ≡ Some after → IfSome r (λ took. HasSide u l (λ side. IsConnected side.machine))
-side_connected u l None d n kept after g here = tt
-side_connected u l (Some took) d n kept after g here = λ k side got is. (
-    let k_is : k ≡ after = some_same k after (sym got ∙ here) in
+pub side_connected : (ls : List KeptLink) (l : ℕ) (r : Option Took) (d n : Desk) (kept after : KeptLink) → LinkTook r d n kept after → slice_get ls l ≡ Some kept → IfSome r (λ took. (k : KeptLink) (side : KeptSide) → slice_get (set ls l after) l ≡ Some k → k.side ≡ Some side → IsConnected side.machine)
+side_connected ls l None d n kept after g was = tt
+side_connected ls l (Some took) d n kept after g was = λ k side got is. (
+    let k_is : k ≡ after = some_same k after (sym got ∙ get-set_here ls l kept after was) in
     let side_is : side ≡ record g.was { joined = Some g.after } = some_same side (record g.was { joined = Some g.after }) (sym is ∙ ap (λ (y : KeptLink). y.side) (k_is ∙ g.becomes)) in
     subst (λ (y : KeptSide). IsConnected y.machine) (sym side_is) g.connected)
+
+-- ---- what is read
+
+-- A side that took once, where it might.
+pub side_took : (old : KeptLink) (side : KeptSide) (before after : KeptConn) (took : Took) (d n : Desk) (may : Bool) → old.side ≡ Some side → side.joined ≡ Some before → may ≡ takes_in old.side → may ≡ true → ((S : List Stamped) → OwnsOutlet d S before → TookOne S took d n before after)
+    → SideTook took d n old (record old { side = Some (record side { joined = Some after }) })
+side_took old side before after took d n may is joined same allowed takes = record {
+  was = side;
+  there = is;
+  connected = connected_only (phase_of side.machine) (and_parts (is_some side.joined) (is_connected (phase_of side.machine)) (ap takes_in (sym is) ∙ sym same ∙ allowed)).1;
+  before = before;
+  joined = joined;
+  after = after;
+  takes = takes;
+  becomes = refl;
+}
+
+pub hub_there : (t : KeptWorld) (j : ℕ) (hub : KeptHub) → j < length t.hubs.items → hub ≡ get_or t.hubs.items j hub → slice_get t.hubs.items j ≡ Some hub
+hub_there t j hub within read = slice_get_read t.hubs.items (length t.hubs.items) j hub refl within read
+
+pub leads_there : (t : KeptWorld) (l j : ℕ) (kept : KeptLink) → LeadsTo t l j → kept ≡ get_or t.links.items l kept → kept.to ≡ ToHub j
+leads_there t l j kept q read = ap (λ (y : KeptLink). y.to) (some_same kept q.kept (sym (read_there t.links.items l q.kept kept q.there read) ∙ q.there)) ∙ q.to
 
 -- ---- the world then
 
@@ -168,7 +192,7 @@ record FitsTaken (h : Hub) (c : ℕ) (k : KeptConn) (old new : HubSide) : Type 0
   pub places : k.places.items ≡ drop new.taken (places_of (frames h c))
 
 module _ (t u : KeptWorld) (F : List LinkName) (w : World) (l j : ℕ) (kept after : KeptLink) (n : Desk) (took : Took) (was : slice_get t.links.items l ≡ Some kept) (o : OnLink t u l after) (to : kept.to ≡ ToHub j) (s : StandsAs t F None w)
-  (x : SideAt t w l j kept) (hubs : u.hubs.items ≡ set t.hubs.items j (record x.at.kept { desk = n })) (g : SideTook took x.at.kept.desk n kept after) where
+    (x : SideAt t w l j kept) (hubs : u.hubs.items ≡ set t.hubs.items j (record x.at.kept { desk = n })) (g : SideTook took x.at.kept.desk n kept after) where
   side_then : IsSideKept l x.hub x.at.marks x.at.kept.desk x.link g.was
   side_then = subst (IsSideKeptIf l x.hub x.at.marks x.at.kept.desk x.link) g.there x.side
 

@@ -109,7 +109,12 @@ impl World {
         ensures { OnOk result (BecomesWhere (λ w. refusal w (WorldStep.Take link) ≡ None) (takes link) self.old self.new) }
     {
         match self.take_from(link) {
-            Some(Took::Frame(frame, place)) => self.put(link, Way::Down, place, Content::Message(frame)),
+            Some(Took::Frame(frame, place)) => self.put(
+                link,
+                Way::Down,
+                place,
+                Content::Message(frame),
+            ),
             Some(Took::Closed(ending)) => self.tell_ended(alloc, link, ending),
             Some(Took::Empty) => Ok(()),
             None => Ok(()),
