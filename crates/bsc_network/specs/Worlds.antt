@@ -75,6 +75,7 @@ pub record Node : Type 0 where
 
 -- ---- the network
 
+-- What stands after some steps.
 pub record World : Type 0 where
   -- the time of the newest step, in milliseconds
   pub now : ℕ

@@ -1,10 +1,10 @@
 -- Calls for help.
-use Rattle.std.proofs.Common.{◌≡◌, Bool, true, false, codes, List, [], ◌∷◌, Option, Some, None, refl}
+use Rattle.std.proofs.Common.{◌≡◌, Bool, true, false, codes, List, ◌∷◌, Option, None, refl}
 use Rattle.std.specs.Prelude.{if◌then◌else◌}
 use Rattle.clap.specs.Words.{Text}
 use Rattle.clap.proofs.OnLiterals.{clap_on_literals}
 use Rattle.bsc_text.specs.Lines.{same_octets}
-use Rattle.bsc_words.specs.Words.{AskedOf, replay, simulate, check, audit, replay_asked, simulate_asked, check_asked, audit_asked, hub_asked, node_asked, load_asked, asked_by}
+use Rattle.bsc_words.specs.Words.{AskedOf, replay_asked, simulate_asked, check_asked, audit_asked, hub_asked, node_asked, load_asked, asked_by}
 
 -- a choice of nothings is nothing
 no_choice : (b : Bool) (x y : Option AskedOf) → x ≡ None → y ≡ None → (if b then x else y) ≡ None

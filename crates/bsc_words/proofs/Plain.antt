@@ -1,6 +1,6 @@
 -- What `clap` makes of words that begin with no hyphen, as those of each command.
-use Rattle.std.proofs.Common.{◌≡◌, ◌∙◌, ℕ, Bool, false, codes, List, [], ◌∷◌, Option, Some, None, option_map, refl}
-use Rattle.clap.specs.Words.{Kinds, Row, Shape, Text, built, first_of}
+use Rattle.std.proofs.Common.{◌≡◌, ◌∙◌, false, codes, List, [], ◌∷◌, Option, Some, None, option_map, refl}
+use Rattle.clap.specs.Words.{Row, Shape, Text, built, first_of}
 use Rattle.clap.specs.Walk.{Held, Walk, arg_by_id, arg_by_index, nothing_held, option_word, to_positional, value, walked}
 use Rattle.clap.specs.Faults.{step_fault, turn_fault}
 use Rattle.clap.specs.declared.error.kind.ErrorKind.TheVariants.{UnknownArgument}

@@ -1,5 +1,5 @@
 -- How `clap` walks over words, one at a time, where a command has no subcommands.
-use Rattle.std.proofs.Common.{◌≡◌, ◌∙◌, ℕ, Bool, true, false, List, [], ◌∷◌, fold, Option, Some, None, is_some, refl, ap, ap₂}
+use Rattle.std.proofs.Common.{◌≡◌, ◌∙◌, ℕ, false, List, [], ◌∷◌, fold, Option, None, is_some, refl, ap, ap₂}
 use Rattle.clap.specs.Words.{App, Kinds, Row, Rule, Shape, Text}
 use Rattle.clap.specs.Lexer.{strip_byte}
 use Rattle.clap.specs.Kinds.{or_else}

@@ -8,7 +8,7 @@ use Rattle.std.specs.Cmp.Lexicographic.{bytes_decides}
 use Rattle.clap.specs.Words.{Text}
 use Rattle.bsc_text.specs.Grammar.{is_digit, has_leading_zero, decimal_value, number_of}
 use Rattle.bsc_text.specs.Lines.{same_octets}
-use Rattle.bsc_words.specs.Words.{AskedOf, replay, simulate, check, audit, hub, node, load, up_to, sessions_of, workers_of}
+use Rattle.bsc_words.specs.Words.{AskedOf, replay, simulate, check, audit, hub, load, up_to, sessions_of, workers_of}
 use Rattle.bsc_words.specs.Words.{replay_asked, simulate_asked, check_asked, audit_asked, hub_asked, node_asked, load_asked, asked_by}
 use Rattle.bsc_words.specs.Listed.{has_hyphen, have_no_hyphen, has_plain_paths, listed, listed_alone, listed_hub, listed_node, listed_load}
 use Rattle.bsc_words.proofs.Plain.{replay_alone, replay_more, simulate_alone, simulate_more, check_alone, check_more, audit_alone, audit_more}

@@ -1,5 +1,5 @@
 -- The lists of words that name a command and all that it takes, in one order, and the words that `clap` takes for no option.
-use Rattle.std.specs.Prelude.{ℕ, ◌==◌, Bool, true, false, not, ◌&&◌, if◌then◌else◌, List, [], ◌∷◌, codes, Option, Some, None, option_map}
+use Rattle.std.specs.Prelude.{◌==◌, Bool, true, false, not, ◌&&◌, if◌then◌else◌, List, [], ◌∷◌, codes, Option, Some, None, option_map}
 use Rattle.clap.specs.Words.{Text}
 use Rattle.bsc_text.specs.Lines.{same_octets}
 use Rattle.bsc_words.specs.Words.{AskedOf, replay, simulate, check, audit, hub, node, load, sessions_of, workers_of}

@@ -485,30 +485,3 @@ asked_never t b l i one two (F, w, at, s) q read also fresh worn =
     let no : nat_le a.kept.desk.about.limits.calls (length a.marks) ≡ false = subst (λ (z : KeptHub). nat_le z.desk.about.limits.calls (length a.marks) ≡ false) (sym first) (fresh a.marks (subst (λ (z : KeptHub). DeskStandsFor z.desk a.marks) first a.hub.desk)) in
     let yes : nat_le a.kept.desk.about.limits.calls (length a.marks) ≡ true = subst (λ (z : KeptHub). nat_le z.desk.about.limits.calls (length a.marks) ≡ true) (sym second) (worn a.marks (subst (λ (z : KeptHub). DeskStandsFor z.desk a.marks) second a.hub.desk)) in
     both_ways (nat_le a.kept.desk.about.limits.calls (length a.marks)) no yes
-
-due_fresh : (b : Bool) (r q : Reply) → Some r ≡ cond b None (Some q) → b ≡ false
-due_fresh true r q e = cc
-due_fresh false r q e = refl
-
-or_none : (b : Bool) → b ≡ (b || false)
-or_none true = refl
-or_none false = refl
-
--- What is answered where a connect is refused.
-pub refused_in : (S : List Stamped) (l : ℕ) (who : Identity) (m : Mark) (r : Refusal) (old new : KeptHub) → DeskStandsFor new.desk (S ++ connect_stamped l who m (RefusedReply r) ∷ []) → new.desk.about ≡ old.desk.about → new.about ≡ old.about → new.uri ≡ old.uri → new.joined_by.items ≡ old.joined_by.items → new.has_stopped ≡ old.has_stopped → ((c : ℕ) → known_of new.desk c ≡ known_of old.desk c) → Some (RefusedReply r) ≡ connect_due old.desk.about (entries_of S) who
-    → (nat_le old.desk.about.limits.calls (length S) ≡ false) × HasRefused S l who r old new
-refused_in S l who m r old new stands desk_about about uri joins stops known due = (
-  ap (nat_le old.desk.about.limits.calls) (sym (length-map S (λ s. s.entry))) ∙ due_fresh (nat_le old.desk.about.limits.calls (length (entries_of S))) (RefusedReply r) (connect_reply old.desk.about (entries_of S) who) due,
-  record {
-    mark = m;
-    entered = record {
-      stands = stands;
-      desk_about = desk_about;
-      about = about;
-      uri = uri;
-      joined = joins ∙ sym (append-nil old.joined_by.items);
-      stopped = stops ∙ or_none old.has_stopped;
-    };
-    known = known;
-  },
-)

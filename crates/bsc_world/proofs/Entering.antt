@@ -136,17 +136,14 @@ stays_quiet m h S d n s k x place p stays behind known nothing = record {
 
 -- ---- the hub
 
--- A hub is kept with an entry more, by which nobody joined and which is no stop.
+-- A hub is kept with an entry more.
 pub hub_more : (j : ℕ) (h : Hub) (S : List Stamped) (kept after : KeptHub) (x : Stamped) (place : ℕ) → IsHubKept j h S kept → DeskStandsFor after.desk (S ++ x ∷ []) → after.desk.about ≡ kept.desk.about → after.about ≡ kept.about → after.uri ≡ kept.uri
-    → after.joined_by.items ≡ kept.joined_by.items ++ map (λ (y : Connection). y.caller) (option_to_list (connection_of x.entry)) → after.has_stopped ≡ (kept.has_stopped || stops x.entry) → IsHubKept j (with_entry h x.entry place) (S ++ x ∷ []) after
-hub_more j h S kept after x place k stands about own uri joined_so stopped = record {
+    → after.has_stopped ≡ (kept.has_stopped || stops x.entry) → IsHubKept j (with_entry h x.entry place) (S ++ x ∷ []) after
+hub_more j h S kept after x place k stands about own uri stopped = record {
   about = about ∙ k.about;
   own = own ∙ k.own;
   calls = entries-more S x ∙ ap (λ l. l ++ x.entry ∷ []) k.calls ∙ sym (history-more h x.entry place);
   desk = stands;
   uri = uri ∙ k.uri;
-  callers = joined_so ∙ ap (λ l. l ++ map (λ (y : Connection). y.caller) (option_to_list (connection_of x.entry))) k.callers
-      ∙ sym (map-append (λ (y : Connection). y.caller) (joined (history h)) (option_to_list (connection_of x.entry)))
-      ∙ ap (map (λ (y : Connection). y.caller)) (sym (joined-more (history h) x.entry) ∙ ap joined (sym (history-more h x.entry place)));
   stopped = stopped ∙ ap (λ b. b || stops x.entry) k.stopped ∙ sym (is_stopped-more (history h) x.entry) ∙ ap is_stopped (sym (history-more h x.entry place));
 }

@@ -36,10 +36,9 @@ use Rattle.bsc_world.specs.declared.world.World.{World as KeptWorld}
 use Rattle.bsc_network.specs.Worlds.{World, Hub, HubSide, Link, history, hub_at, link_at}
 use Rattle.bsc_network.specs.Changes.{changed_at, in_order, with_link, with_side}
 use Rattle.bsc_network.specs.HubCalls.{called, entry_in}
-use Rattle.bsc_world.specs.HubEntries.{HasLeft, LetsGo}
+use Rattle.bsc_world.specs.HubEntries.{HasLeft, LetsGo, MayLeave}
 use Rattle.bsc_network.specs.HubSides.{leaves, leaves_as, of_side, unless_over}
 use Rattle.bsc_world.specs.Sides.{IsSideOf}
-use Rattle.bsc_world.specs.DeskCalls.{MayLeave}
 use Rattle.bsc_world.specs.Kept.{IsConnKept, IsConnKeptIf, IsLinkKept, IsSideKept, IsSideKeptIf, IsWayKept}
 use Rattle.bsc_world.specs.Standing.{AreReadyBut, IsHubAt, IsJoinedBy, StandsAs}
 use Rattle.bsc_world.specs.Becoming.{Became, Goes, Stands, ends}
@@ -50,7 +49,7 @@ use Rattle.bsc_world.proofs.LinkWays.{link_there, map-changed}
 use Rattle.bsc_world.proofs.Entering.{history-more, with_entry}
 use Rattle.bsc_world.proofs.OneHub.{HubChange, SameKept, SameLink, hub_changed, read_there, same_kept, same_link}
 use Rattle.bsc_world.proofs.OfSides.{SideAt, no_link_at, of_side_is, of_side_node, of_side_none, side_at, unless_over_gone, unless_over_is}
-use Rattle.bsc_world.proofs.QuietEntries.{IsQuiet, entry_is, hub_entered, lawful_at, legal_at, side_quiet}
+use Rattle.bsc_world.proofs.QuietEntries.{IsQuiet, entry_is, hub_entered, lawful_at, legal_at, one_owner, side_quiet}
 
 -- ---- the side is let go
 
@@ -62,7 +61,7 @@ pub record OnLink (t u : KeptWorld) (l : ℕ) (after : KeptLink) : Type 0 where
   pub nodes : u.nodes.items ≡ t.nodes.items
   pub links : u.links.items ≡ set t.links.items l after
 
-changed-same : {A : Type 0} (l : ℕ) (xs : List A) → changed_at l (λ x. x) xs ≡ xs
+pub changed-same : {A : Type 0} (l : ℕ) (xs : List A) → changed_at l (λ x. x) xs ≡ xs
 changed-same l [] = refl
 changed-same zero (x ∷ xs) = refl
 changed-same (suc l) (x ∷ xs) = ap (λ ys. x ∷ ys) (changed-same l xs)
@@ -212,16 +211,6 @@ leave_alone t u l j side k kept after was o hubs g to some none F w at s =
 leave_adds_none : (h : Hub) (l c empties : ℕ) (gone : Gone) (b : ℕ) → added h.about (moment (history h) (leave_entry l c empties gone)) (sent h.about (history h) b) b ≡ []
 unfolding added_by
 leave_adds_none h l c empties gone b = refl
-
--- one link alone has joined as c
-one_owner : (a : About) (H : List Entry) (l m c : ℕ) → Legal a H → is_of H l c ≡ true → is_of H m c ≡ true → l ≡ m
-one_owner a H l m c legal p q =
-    let v = any_gives (λ (x : Connection). (x.number == c) && (x.caller == l)) (unleft H) p in
-    let r = any_gives (λ (x : Connection). (x.number == c) && (x.caller == m)) (unleft H) q in
-    let v2 = and_parts (v.0.number == c) (v.0.caller == l) v.2 in
-    let r2 = and_parts (r.0.number == c) (r.0.caller == m) r.2 in
-    let same : v.0 ≡ r.0 = same_one (λ (x : Connection). x.number) v.0 r.0 (unleft H) (numbers_are_new a H legal) v.1 r.1 (eqb-true v.0.number c v2.0 ∙ sym (eqb-true r.0.number c r2.0)) in
-    sym (eqb-true v.0.caller l v2.1) ∙ ap (λ (x : Connection). x.caller) same ∙ eqb-true r.0.caller m r2.1
 
 -- who hasn't left after a leave hadn't before, and isn't the one that left
 left_is_of : (h : Hub) (l c empties : ℕ) (gone : Gone) (place m b : ℕ) → is_of (history (with_entry h (leave_entry l c empties gone) place)) m b ≡ true → (is_of (history h) m b ≡ true) × (c ≢ b)

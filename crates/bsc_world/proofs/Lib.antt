@@ -12,7 +12,6 @@ pub mod Arrivals
 pub mod Refused
 pub mod Stepped
 pub mod Entering
-pub mod HubSpots
 pub mod Additions
 pub mod OneHub
 pub mod OfSides
@@ -24,6 +23,8 @@ pub mod SideConnects
 pub mod TakesOne
 pub mod SideHears
 pub mod ConnectCalls
+pub mod DeskConnects
 pub mod SideMeetings
 pub mod ForwardCalls
 pub mod NextFrames
+pub mod TakeCalls

@@ -41,7 +41,7 @@ use Rattle.bsc_world.specs.Kept.{IsConnKept, IsConnKeptIf, IsHubKept, IsSideKept
 use Rattle.bsc_world.specs.Standing.{IsHubAt}
 use Rattle.bsc_network.proofs.Places.{get-set_here, get-set_other, got-beside, got-within, one_or_two}
 use Rattle.bsc_world.proofs.Entering.{conn_more, history-more}
-use Rattle.bsc_world.proofs.QuietEntries.{legal_at}
+use Rattle.bsc_world.proofs.QuietEntries.{legal_at, one_owner}
 
 -- ---- another desk
 
@@ -63,7 +63,8 @@ conn_desk_if : (m : ℕ) (h : Hub) (S : List Stamped) (d n : Desk) (s : HubSide)
 conn_desk_if m h S d n s None known p = p
 conn_desk_if m h S d n s (Some k) known p = conn_desk m h S d n s k (known k.conn p.joiner) p
 
-side_desk : (m : ℕ) (h : Hub) (S : List Stamped) (d n : Desk) (link : Link) (o : Option KeptSide) → ((c : ℕ) → is_of (history h) m c ≡ true → known_of n c ≡ known_of d c) → IsSideKeptIf m h S d link o → IsSideKeptIf m h S n link o
+-- nor does what is kept of a side
+pub side_desk : (m : ℕ) (h : Hub) (S : List Stamped) (d n : Desk) (link : Link) (o : Option KeptSide) → ((c : ℕ) → is_of (history h) m c ≡ true → known_of n c ≡ known_of d c) → IsSideKeptIf m h S d link o → IsSideKeptIf m h S n link o
 side_desk m h S d n link None known p = p
 side_desk m h S d n link (Some side) known p = record { lasts = p.lasts; machine = p.machine; joined = conn_desk_if m h S d n link.side side.joined known p.joined }
 
@@ -178,16 +179,6 @@ met_end j d n place passing k after to q = record {
   machine = λ s is. side_before d n place passing k.side after.side s q.side is;
 }
 
--- one link alone has joined as c
-one_owner : (a : About) (H : List Entry) (l m c : ℕ) → Legal a H → is_of H l c ≡ true → is_of H m c ≡ true → l ≡ m
-one_owner a H l m c legal p q =
-    let v = any_gives (λ (x : Connection). (x.number == c) && (x.caller == l)) (unleft H) p in
-    let r = any_gives (λ (x : Connection). (x.number == c) && (x.caller == m)) (unleft H) q in
-    let v2 = and_parts (v.0.number == c) (v.0.caller == l) v.2 in
-    let r2 = and_parts (r.0.number == c) (r.0.caller == m) r.2 in
-    let same : v.0 ≡ r.0 = same_one (λ (x : Connection). x.number) v.0 r.0 (unleft H) (numbers_are_new a H legal) v.1 r.1 (eqb-true v.0.number c v2.0 ∙ sym (eqb-true r.0.number c r2.0)) in
-    sym (eqb-true v.0.caller l v2.1) ∙ ap (λ (x : Connection). x.caller) same ∙ eqb-true r.0.caller m r2.1
-
 abbrev MayMeetConn : Desk → KeptConn → Type 0
 MayMeetConn d c = HasRow d c.conn × IsMarkOf d c.conn (outlet_mark c.outlet)
 
@@ -290,8 +281,8 @@ module _ (t u : KeptWorld) (w : World) (j : ℕ) (h : Hub) (a : IsHubAt t w j h)
 
   -- The side of link i met the hub.
   pub midway_meet : (v : KeptWorld) (k after : KeptLink) (kept hub_after : KeptHub) → slice_get u.links.items i ≡ Some k → k.to ≡ ToHub j → slice_get u.hubs.items j ≡ Some kept → v.clock ≡ u.clock → v.made ≡ u.made → v.spent ≡ u.spent → v.nodes.items ≡ u.nodes.items → v.hubs.items ≡ set u.hubs.items j hub_after → v.links.items ≡ set u.links.items i after
-      → hub_after.about ≡ kept.about → hub_after.uri ≡ kept.uri → hub_after.joined_by.items ≡ kept.joined_by.items → hub_after.has_stopped ≡ kept.has_stopped → LinkMet kept.desk hub_after.desk passing place k after → Midway t v w j h a e place passing (i + 1)
-  midway_meet v k after kept hub_after was to there clock made spent nodes hubs links own uri callers stopped q =
+      → hub_after.about ≡ kept.about → hub_after.uri ≡ kept.uri → hub_after.has_stopped ≡ kept.has_stopped → LinkMet kept.desk hub_after.desk passing place k after → Midway t v w j h a e place passing (i + 1)
+  midway_meet v k after kept hub_after was to there clock made spent nodes hubs links own uri stopped q =
       let same : g.kept ≡ kept = some_same g.kept kept (sym g.there ∙ there) in
       let p : IsHubKept j (hub_then h e place) marks_then kept = subst (IsHubKept j (hub_then h e place) marks_then) same g.hub in
       let n = hub_after.desk in
@@ -307,7 +298,6 @@ module _ (t u : KeptWorld) (w : World) (j : ℕ) (h : Hub) (a : IsHubAt t w j h)
         calls = p.calls;
         desk = stands;
         uri = uri ∙ p.uri;
-        callers = callers ∙ p.callers;
         stopped = stopped ∙ p.stopped;
       } in
       let legal_now : Legal h.about (history (hub_then h e place)) = legal_at j (hub_then h e place) marks_then hub_after hub_now in

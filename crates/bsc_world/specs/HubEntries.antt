@@ -1,18 +1,17 @@
 -- What the calls of one hub say: words of inner functions.
-use Rattle.std.specs.Prelude.{◌≡◌, ◌≢◌, ◌<◌, ℕ, nat_le, true, false, ◌||◌, List, [], ◌∷◌, ◌++◌, length, map, slice_get, Option, Some, None}
-use Rattle.std.specs.Option.{option_to_list}
+use Rattle.std.specs.Prelude.{◌≡◌, ◌≢◌, ◌<◌, ℕ, nat_le, true, false, ◌||◌, List, [], ◌∷◌, ◌++◌, length, slice_get, Option, Some, None}
 use Rattle.bsc_octets.specs.declared.identity.Identity.{Identity}
-use Rattle.bsc_history.specs.declared.connection.Connection.{Connection}
 use Rattle.bsc_history.specs.declared.counts.Counts.{Counts}
 use Rattle.bsc_history.specs.declared.mark.Mark.{Mark}
 use Rattle.bsc_history.specs.declared.mark.Stamped.{Stamped}
 use Rattle.bsc_history.specs.declared.reply.Refusal.{Refusal}
 use Rattle.bsc_history.specs.declared.reply.Reply.TheVariants.{Joined as JoinedReply, Refused as RefusedReply}
-use Rattle.bsc_history.specs.Entries.{connection_of, stops}
+use Rattle.bsc_history.specs.Entries.{stops}
 use Rattle.bsc_ring.specs.Ends.{IsNewOutlet, empties_of, given, outlet_mark}
+use Rattle.bsc_desk.specs.declared.desk.Desk.{Desk}
 use Rattle.bsc_desk.specs.declared.leaving.Gone.{Gone}
 use Rattle.bsc_desk.specs.Entries.{connect_stamped, leave_entry, plain, stop_entry}
-use Rattle.bsc_desk.specs.Rows.{known_of}
+use Rattle.bsc_desk.specs.Rows.{IsMarkOf, IsRowBy, known_of}
 use Rattle.bsc_desk.specs.Standing.{StandsFor as DeskStandsFor}
 use Rattle.bsc_node.specs.declared.link_name.LinkName.{LinkName}
 use Rattle.bsc_network.specs.declared.target.Target.TheVariants.{Hub as ToHub}
@@ -34,7 +33,6 @@ pub record HasEntered (S : List Stamped) (x : Stamped) (old new : KeptHub) : Typ
   pub desk_about : new.desk.about ≡ old.desk.about
   pub about : new.about ≡ old.about
   pub uri : new.uri ≡ old.uri
-  pub joined : new.joined_by.items ≡ old.joined_by.items ++ map (λ (y : Connection). y.caller) (option_to_list (connection_of x.entry))
   pub stopped : new.has_stopped ≡ (old.has_stopped || stops x.entry)
 
 -- The hub stopped, and knows as much as before of what was taken from its outboxes.
@@ -52,6 +50,10 @@ pub record LetsGo (side : Option KeptSide) (old new : KeptLink) : Type 0 where
   pub up : new.up ≡ old.up
   pub down : new.down ≡ old.down
   pub lost : new.is_lost ≡ old.is_lost
+
+-- The connection may leave: link l joined it, it hasn't left, and its outlet has the mark of its inlet.
+abbrev pub MayLeave : Desk → ℕ → KeptConn → Type 0
+MayLeave d l k = IsRowBy d l k.conn × IsMarkOf d k.conn (outlet_mark k.outlet)
 
 -- The connection that link l joined has left, with as many frames as its outlet gave.
 pub record HasLeft (S : List Stamped) (l : ℕ) (k : KeptConn) (old new : KeptHub) : Type 0 where

@@ -2,7 +2,6 @@
 use Rattle.std.specs.Prelude.{◌≡◌, ◌≤◌, ℕ, Bool, true, false, ◌&&◌, is_some, List, drop, length, map, Option, Some, None}
 use Rattle.std.specs.List.{AllByRecursion}
 use Rattle.bsc_history.specs.declared.mark.Stamped.{Stamped}
-use Rattle.bsc_history.specs.Ends.{joined}
 use Rattle.bsc_history.specs.Legality.{is_of}
 use Rattle.bsc_history.specs.Marks.{entries as entries_of, mark_of}
 use Rattle.bsc_history.specs.Outboxes.{vmac_of}
@@ -34,14 +33,13 @@ use Rattle.bsc_network.specs.Refusals.{has_started}
 
 -- ---- hubs
 
--- Hub j is kept so: its desk stands for its history with these marks, and the links that joined are those of its callers.
+-- Hub j is kept so: its desk stands for its history with these marks.
 pub record IsHubKept (j : ℕ) (h : Hub) (S : List Stamped) (kept : KeptHub) : Type 0 where
   pub about : kept.desk.about ≡ h.about
   pub own : kept.about ≡ h.about
   pub calls : entries_of S ≡ history h
   pub desk : DeskStandsFor kept.desk S
   pub uri : kept.uri ≡ hub_uri j
-  pub callers : kept.joined_by.items ≡ map (λ x. x.caller) (joined (history h))
   pub stopped : kept.has_stopped ≡ is_stopped (history h)
 
 -- ---- nodes

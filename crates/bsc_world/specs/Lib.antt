@@ -11,4 +11,3 @@ pub mod Coming
 pub mod Fronts
 pub mod Stepping
 pub mod Fresh
-pub mod DeskCalls

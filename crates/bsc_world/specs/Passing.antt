@@ -103,7 +103,8 @@ pub record SameEnd (j : ℕ) (k after : KeptLink) : Type 0 where
   pub down : after.down ≡ k.down
   pub lost : after.is_lost ≡ k.is_lost
   pub apart : k.to ≢ ToHub j → after.side ≡ k.side
-  pub machine : (s : KeptSide) → after.side ≡ Some s → (was : KeptSide) × (k.side ≡ Some was) × (s.machine ≡ was.machine) × ((c : KeptConn) → s.joined ≡ Some c → (b : KeptConn) × (was.joined ≡ Some b))
+  pub machine : (s : KeptSide) → after.side ≡ Some s
+      → (was : KeptSide) × (k.side ≡ Some was) × (s.machine ≡ was.machine) × ((c : KeptConn) → s.joined ≡ Some c → (b : KeptConn) × (was.joined ≡ Some b))
 
 -- a hub with an entry more, of a message with this place
 abbrev pub hub_then : Hub → Entry → ℕ → Hub
@@ -130,7 +131,8 @@ pub record Midway (t u : KeptWorld) (w : World) (j : ℕ) (h : Hub) (a : IsHubAt
   pub others : (n : ℕ) → j ≢ n → slice_get u.hubs.items n ≡ slice_get t.hubs.items n
   pub link_count : length u.links.items ≡ length t.links.items
   pub same : (m : ℕ) (k after : KeptLink) → slice_get t.links.items m ≡ Some k → slice_get u.links.items m ≡ Some after → SameEnd j k after
-  pub done : (m : ℕ) (x : Link) (k : KeptLink) → m < i → link_at w m ≡ Some x → x.to ≡ ToHub j → slice_get u.links.items m ≡ Some k → IsSideKeptIf m (hub_then h e place) (a.marks ++ plain e ∷ []) kept.desk x k.side
+  pub done : (m : ℕ) (x : Link) (k : KeptLink) → m < i → link_at w m ≡ Some x → x.to ≡ ToHub j → slice_get u.links.items m ≡ Some k
+      → IsSideKeptIf m (hub_then h e place) (a.marks ++ plain e ∷ []) kept.desk x k.side
   pub rest : (m : ℕ) → i ≤ m → slice_get u.links.items m ≡ slice_get t.links.items m
 
 -- the same, for whatever world it was before the call
@@ -138,7 +140,8 @@ abbrev pub MidwaySome : KeptWorld → ℕ → ℕ → Passing → ℕ → Type 0
 MidwaySome u j place passing i = (t : KeptWorld) × (w : World) × (h : Hub) × (a : IsHubAt t w j h) × (e : Entry) × Midway t u w j h a e place passing i
 
 abbrev pub MidwayTo : KeptWorld → KeptWorld → ℕ → ℕ → Passing → ℕ → ℕ → Type 0
-MidwayTo old new j place passing i k = (t : KeptWorld) (w : World) (h : Hub) (a : IsHubAt t w j h) (e : Entry) → Midway t old w j h a e place passing i → Midway t new w j h a e place passing k
+MidwayTo old new j place passing i k = (t : KeptWorld) (w : World) (h : Hub) (a : IsHubAt t w j h) (e : Entry)
+    → Midway t old w j h a e place passing i → Midway t new w j h a e place passing k
 
 -- The connection that a link has joined as, and the address that it joined with.
 abbrev pub ConnIs : Option (ℕ × Vmac) → KeptLink → Type 0

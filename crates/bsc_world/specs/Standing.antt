@@ -1,5 +1,5 @@
 -- For which network a world stands, and what a step of it answers.
-use Rattle.std.specs.Prelude.{◌≡◌, ◌≢◌, ◌≤◌, ◌<◌, ℕ, List, [], ◌∷◌, ◌++◌, length, slice_get, Bool, true, false, Option, Some, None, Result, Ok, Err, ⊤}
+use Rattle.std.specs.Prelude.{◌≡◌, ◌≢◌, ◌≤◌, ◌<◌, ℕ, List, [], ◌∷◌, ◌++◌, length, slice_get, Bool, true, false, Option, Some, None, Result, Ok, Err}
 use Rattle.std.specs.List.{AllByRecursion}
 use Rattle.bsc_history.specs.declared.mark.Stamped.{Stamped}
 use Rattle.bsc_history.specs.Legality.{is_of}
@@ -39,10 +39,11 @@ steps_made t = t.made
 abbrev pub is_spent : KeptWorld → Bool
 is_spent t = t.spent
 
--- How many hubs and nodes there are.
+-- How many hubs there are.
 abbrev pub hub_count : KeptWorld → ℕ
 hub_count t = length t.hubs.items
 
+-- How many nodes there are.
 abbrev pub node_count : KeptWorld → ℕ
 node_count t = length t.nodes.items
 
@@ -121,10 +122,11 @@ StandsForSome t = (added : List Added) × (steps : List TimedStep) × StandsFor 
 abbrev pub timed : KeptWorld → WorldStep → TimedStep
 timed t step = record { now = t.clock; step = step }
 
--- What is answered to a step after these: what the network adds, where it isn't refused, and else why it is.
+-- What is answered to a step after these: what the network adds, where it isn't refused, and else why it is. Memory may be
+-- wanting where it isn't refused.
 abbrev pub Says : World → TimedStep → Result StepDone StepRefusal → Type 0
 Says w t (Ok done) = (refusal w t.step ≡ None) × (done.dialled ≡ dialled_at w t) × (done.deliveries ≡ delivered_at w t)
-Says w t (Err NoMemory) = ⊤
+Says w t (Err NoMemory) = refusal w t.step ≡ None
 Says w t (Err refused) = refusal w t.step ≡ Some refused
 
 -- What a step leaves, by its answer: one that found no memory spends the world, and after any other the world stands for

@@ -1,5 +1,5 @@
 -- A take from an outbox, as a world keeps it: words of inner functions.
-use Rattle.std.specs.Prelude.{◌≡◌, ◌≢◌, ◌==◌, ℕ, true, List, [], ◌∷◌, ◌++◌, drop, length, slice_get, Option, Some, None}
+use Rattle.std.specs.Prelude.{◌≡◌, ◌≢◌, ◌==◌, ℕ, ◌+◌, true, false, List, [], ◌∷◌, ◌++◌, drop, length, slice_get, Option, Some, None}
 use Rattle.std.specs.List.{list_any}
 use Rattle.bsc_history.specs.declared.mark.Stamped.{Stamped}
 use Rattle.bsc_history.specs.declared.ending.End.{End}
@@ -12,10 +12,23 @@ use Rattle.bsc_desk.specs.declared.desk.Desk.{Desk}
 use Rattle.bsc_desk.specs.Meetings.{IsOutletOf, KnowsOutbox}
 use Rattle.bsc_desk.specs.Rows.{known_of, row_of}
 use Rattle.bsc_desk.specs.Standing.{StandsFor}
+use Rattle.bsc_accept.specs.Standing.{IsConnected}
 use Rattle.bsc_script.specs.Emptying.{empties_after}
+use Rattle.bsc_node.specs.declared.link_name.LinkName.{LinkName}
+use Rattle.bsc_network.specs.declared.world_step.WorldStep.TheVariants.{Take}
+use Rattle.bsc_network.specs.Worlds.{World, Hub, Link, history}
+use Rattle.bsc_network.specs.Outboxes.{at_place, frames}
+use Rattle.bsc_network.specs.Changes.{with_side}
+use Rattle.bsc_network.specs.Refusals.{refusal}
 use Rattle.bsc_world.specs.declared.kept_link.KeptConn.{KeptConn}
+use Rattle.bsc_world.specs.declared.kept_link.KeptLink.{KeptLink}
+use Rattle.bsc_world.specs.declared.kept_link.KeptSide.{KeptSide}
 use Rattle.bsc_world.specs.declared.taking.Took.{Took}
 use Rattle.bsc_world.specs.declared.taking.Took.TheVariants.{Frame, Empty, Closed}
+use Rattle.bsc_world.specs.declared.world.World.{World as KeptWorld}
+use Rattle.bsc_world.specs.Kept.{takes_in}
+use Rattle.bsc_world.specs.Sides.{IsSideOf}
+use Rattle.bsc_world.specs.Becoming.{Became}
 
 -- The outlet of a connection is that of its inlet, and the connection hasn't left.
 pub record OwnsOutlet (d : Desk) (S : List Stamped) (k : KeptConn) : Type 0 where
@@ -74,3 +87,44 @@ abbrev pub TookOne : List Stamped → Took → Desk → Desk → KeptConn → Ke
 TookOne S (Frame frame place) d n i j = TookNext S frame place d n i j
 TookOne S Empty d n i j = TookNone S None d n i j
 TookOne S (Closed ending) d n i j = TookNone S (Some ending) d n i j
+
+-- ---- by the side of a link
+
+-- The outlet of a side that has joined is that of its connection.
+abbrev pub MayTake : Desk → KeptLink → Type 0
+MayTake d link = (side : KeptSide) (k : KeptConn) → link.side ≡ Some side → side.joined ≡ Some k → (S : List Stamped) × OwnsOutlet d S k
+
+-- A side that has joined and is in Connected took once; all else of its link is as it was.
+pub record SideTook (took : Took) (d n : Desk) (old new : KeptLink) : Type 0 where
+  pub was : KeptSide
+  pub there : old.side ≡ Some was
+  pub connected : IsConnected was.machine
+  pub before : KeptConn
+  pub joined : was.joined ≡ Some before
+  pub after : KeptConn
+  pub takes : (S : List Stamped) → OwnsOutlet d S before → TookOne S took d n before after
+  pub becomes : new ≡ record old { side = Some (record was { joined = Some after }) }
+
+-- What the side of a link took: nothing where it may not take.
+abbrev pub LinkTook : Option Took → Desk → Desk → KeptLink → KeptLink → Type 0
+LinkTook None d n old new = (takes_in old.side ≡ false) × (n ≡ d) × (new ≡ old)
+LinkTook (Some took) d n old new = SideTook took d n old new
+
+-- What a take from the outbox of connection c comes to, by its answer: the next frame with its place, or nothing, and then
+-- how the connection has ended.
+abbrev pub TookAt : Took → KeptWorld → KeptWorld → List LinkName → World → ℕ → Hub → Link → ℕ → Type 0
+TookAt (Frame frame place) old new failed w l h link c =
+    (slice_get (frames h c) link.side.taken ≡ Some (at_place place frame))
+    × Became old new failed None w (with_side l (λ s. record s { taken = s.taken + 1 }) w)
+TookAt Empty old new failed w l h link c =
+    (slice_get (frames h c) link.side.taken ≡ None) × (ended (history h) c ≡ None)
+    × Became old new failed None w (with_side l (λ s. record s { empties = empties_after None s.empties }) w)
+TookAt (Closed ending) old new failed w l h link c =
+    (slice_get (frames h c) link.side.taken ≡ None) × (ended (history h) c ≡ Some ending) × (ending ≢ Left)
+    × Became old new failed None w w
+
+-- What a take of the side of link l comes to: nothing where the take is refused.
+abbrev pub WasTaken : Option Took → KeptWorld → KeptWorld → List LinkName → World → ℕ → Type 0
+WasTaken None old new failed w l = refusal w (Take l) ≢ None
+WasTaken (Some took) old new failed w l =
+    (j : ℕ) × (h : Hub) × (link : Link) × (c : ℕ) × IsSideOf w l j h link × (link.side.conn ≡ Some c) × TookAt took old new failed w l h link c

@@ -64,7 +64,6 @@ fn new_hub(alloc: Global, number: u64, hub: Identity, limits: Limits) -> Result<
         about: About { hub, limits },
         desk: Desk::make(alloc, hub, limits)?,
         uri: hub_uri(alloc, number)?,
-        joined_by: Vec::new(alloc),
         has_stopped: false,
     })
 }

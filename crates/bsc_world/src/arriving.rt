@@ -62,7 +62,8 @@ impl KeptLink {
 impl World {
     /// Under which name a node has the end of a link that hears by a way.
     fn name_at(&self, node: u32, link: u32, way: Way) -> Option<LinkName>
-        ensures found { (F : List NameOf) (b : Option ℕ) (w : WorldOf) (n : Node) → StandsAs self.now F b w → node_at w node ≡ Some n → result ≡ name_of link way n }
+        ensures found { (F : List NameOf) (b : Option ℕ) (w : WorldOf) (n : Node) → StandsAs self.now F b w
+            → node_at w node ≡ Some n → result ≡ name_of link way n }
         ensures named { IfSome result (λ name. is_name name ≡ true) }
     {
         match self.nodes.get(node as usize) {
@@ -116,9 +117,11 @@ impl World {
 
     /// Takes the front of a way, where there is one, of a link that isn't lost.
     fn take_front(&mut self, link: u32, way: Way) -> Option<Parcel>
-        ensures front { (F : List NameOf) (w : WorldOf) (at : Link) → w.now ≡ self.old.clock → StandsAs self.old F None w → link_at w link ≡ Some at → at.is_lost ≡ false
+        ensures front { (F : List NameOf) (w : WorldOf) (at : Link) → w.now ≡ self.old.clock → StandsAs self.old F None w
+            → link_at w link ≡ Some at → at.is_lost ≡ false
             → (result ≡ front (traffic way at)) × Became self.old self.new F None w (with_link link (with_traffic way (front_gone result)) w) }
-        ensures lasts { IfSome result (λ parcel. (F : List NameOf) (w : WorldOf) (at : Link) → StandsAs self.old F None w → link_at w link ≡ Some at → at.is_lost ≡ false) }
+        ensures lasts { IfSome result (λ parcel. (F : List NameOf) (w : WorldOf) (at : Link) → StandsAs self.old F None w
+            → link_at w link ≡ Some at → at.is_lost ≡ false) }
     {
         let place = link as usize;
         if self.links.len() <= place {
@@ -153,7 +156,8 @@ impl World {
         requires time { self.old.clock < 2 ^ 62 }
         requires none { doing.old.failed.items ≡ [] }
         requires some { StandsDoing self.old doing.old }
-        ensures does { OnOk result (Does (by_target to (λ j. reaches_hub link parcel) (reaches_node link Way.Up parcel)) self.old doing.old self.new doing.new) }
+        ensures does { OnOk result (Does (by_target to (λ j. reaches_hub link parcel) (reaches_node link Way.Up parcel))
+            self.old doing.old self.new doing.new) }
         ensures none { OnOk result (doing.new.failed.items ≡ []) }
     {
         match to {

@@ -10,8 +10,7 @@ ghost use Rattle.bsc_desk.specs.Standing.{StandsFor as DeskStandsFor};
 ghost use Rattle.bsc_node.specs.declared.link_name.LinkName.{LinkName as NameOf};
 ghost use Rattle.bsc_network.specs.Worlds.{World as WorldOf, Hub, Link as LinkOf, history, hub_at};
 ghost use Rattle.bsc_network.specs.HubCalls.{called, no_link};
-ghost use Rattle.bsc_world.specs.DeskCalls.{MayLeave};
-ghost use Rattle.bsc_world.specs.HubEntries.{HasLeft, HasStopped, IsAsked, IsSeated, LeadsNowhere, LeadsTo, LetsGo};
+ghost use Rattle.bsc_world.specs.HubEntries.{HasLeft, HasStopped, IsAsked, IsSeated, LeadsNowhere, LeadsTo, LetsGo, MayLeave};
 ghost use Rattle.bsc_network.specs.HubSides.{leaves, unless_over};
 ghost use Rattle.bsc_world.specs.Standing.{StandsAs};
 ghost use Rattle.bsc_world.specs.Becoming.{Became, Goes, HasSide, Stands};
@@ -63,7 +62,6 @@ impl KeptHub {
         let (inlet, outlet) = make(alloc, self.about.limits.outbox)?;
         match self.desk.connect(link as u64, who, inlet) {
             Ok(row) => {
-                self.joined_by.push(link)?;
                 Ok(HubAsked::Joined(KeptConn {
                     conn: row.conn,
                     vmac,
@@ -135,7 +133,7 @@ impl KeptLink {
 
 impl World {
     /// The hub that a link leads to.
-    fn hub_of(&self, link: u32) -> Option<u32>
+    pub(crate) fn hub_of(&self, link: u32) -> Option<u32>
         ensures some { IfSome result (λ j. LeadsTo self.now link j) }
         ensures none { result ≡ None → LeadsNowhere self.now link }
     {

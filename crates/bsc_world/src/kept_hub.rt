@@ -3,13 +3,11 @@ use bsc_desk::Desk;
 use bsc_history::About;
 use bsc_octets::Octets;
 
-/// A hub: its identity and limits, its desk, its URI, which link joined as each of its connections, which are numbered from
-/// 1, and whether it has stopped.
+/// A hub: its identity and limits, its desk, its URI, and whether it has stopped.
 #[derive(Drop)]
 pub(crate) struct KeptHub {
     pub(crate) about: About,
     pub(crate) desk: Desk,
     pub(crate) uri: Octets,
-    pub(crate) joined_by: Vec<u32>,
     pub(crate) has_stopped: bool,
 }

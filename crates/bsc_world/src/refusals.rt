@@ -2,7 +2,8 @@
 ghost use Rattle.std.specs.Prelude.{◌≡◌, ◌==◌, ◌&&◌, if◌then◌else◌, not, ℕ, true, Some, None, List, Option, length};
 ghost use Rattle.bsc_node.specs.declared.link_name.LinkName.{LinkName as NameOf};
 ghost use Rattle.bsc_network.specs.Worlds.{World as WorldOf, Node, hub_at, link_at, node_at};
-ghost use Rattle.bsc_network.specs.Refusals.{has_front, has_outbox, is_own, is_timely, leads_to_hub, refusal, refuses_event, refuses_link, refuses_stop, unless};
+ghost use Rattle.bsc_network.specs.Refusals.{has_front, has_outbox, is_own, is_timely, leads_to_hub, refusal};
+ghost use Rattle.bsc_network.specs.Refusals.{refuses_event, refuses_link, refuses_stop, unless};
 ghost use Rattle.bsc_world.specs.Kept.{IsNodeKept, takes_in};
 ghost use Rattle.bsc_world.specs.Puts.{waiting};
 ghost use Rattle.bsc_world.specs.Standing.{StandsAs};
@@ -45,7 +46,7 @@ fn unless(holds: bool, refusal: StepRefusal) -> Option<StepRefusal>
 }
 
 /// Whether a hub's side has joined, and its machine is in Connected, while the session lasts.
-fn may_take(side: &Option<KeptSide>) -> bool
+pub(crate) fn may_take(side: &Option<KeptSide>) -> bool
     ensures { result ≡ takes_in side.now }
 {
     match side {

@@ -17,7 +17,7 @@ struct Case {
     end: PlayEnd,
 }
 
-const CASES: [Case; 12] = [
+const CASES: [Case; 19] = [
     Case {
         name: "two-nodes",
         script: concat!(
@@ -332,6 +332,82 @@ const CASES: [Case; 12] = [
             "start 0\n",
         ),
         text: concat!("link 0 0 hub 0\n",),
+        end: PlayEnd::BadLine { line: 4 },
+    },
+    Case {
+        name: "a tick before the start",
+        script: concat!(
+            "hub 0200000000FF 00112233445566778899AABBCCDDEEFF 0640 05D9\n",
+            "node 02000000000A AAAAAAAAAAAAAAAAAAAAAAAAAAAAAAAA\n",
+            "tick 0\n",
+        ),
+        text: "",
+        end: PlayEnd::BadLine { line: 3 },
+    },
+    Case {
+        name: "no such node",
+        script: concat!(
+            "hub 0200000000FF 00112233445566778899AABBCCDDEEFF 0640 05D9\n",
+            "node 02000000000A AAAAAAAAAAAAAAAAAAAAAAAAAAAAAAAA\n",
+            "start 1\n",
+        ),
+        text: "",
+        end: PlayEnd::BadLine { line: 3 },
+    },
+    Case {
+        name: "no such link",
+        script: concat!(
+            "hub 0200000000FF 00112233445566778899AABBCCDDEEFF 0640 05D9\n",
+            "node 02000000000A AAAAAAAAAAAAAAAAAAAAAAAAAAAAAAAA\n",
+            "start 0\n",
+            "down 1\n",
+        ),
+        text: concat!("link 0 0 hub 0\n",),
+        end: PlayEnd::BadLine { line: 4 },
+    },
+    Case {
+        name: "a link that is lost",
+        script: concat!(
+            "hub 0200000000FF 00112233445566778899AABBCCDDEEFF 0640 05D9\n",
+            "node 02000000000A AAAAAAAAAAAAAAAAAAAAAAAAAAAAAAAA\n",
+            "start 0\n",
+            "lose 0\n",
+            "up 0\n",
+        ),
+        text: concat!("link 0 0 hub 0\n",),
+        end: PlayEnd::BadLine { line: 5 },
+    },
+    Case {
+        name: "a take before the join",
+        script: concat!(
+            "hub 0200000000FF 00112233445566778899AABBCCDDEEFF 0640 05D9\n",
+            "node 02000000000A AAAAAAAAAAAAAAAAAAAAAAAAAAAAAAAA\n",
+            "start 0\n",
+            "down 0\n",
+            "take 0\n",
+        ),
+        text: concat!("link 0 0 hub 0\n",),
+        end: PlayEnd::BadLine { line: 5 },
+    },
+    Case {
+        name: "no such hub",
+        script: concat!(
+            "hub 0200000000FF 00112233445566778899AABBCCDDEEFF 0640 05D9\n",
+            "node 02000000000A AAAAAAAAAAAAAAAAAAAAAAAAAAAAAAAA\n",
+            "stop 1\n",
+        ),
+        text: "",
+        end: PlayEnd::BadLine { line: 3 },
+    },
+    Case {
+        name: "a second stop",
+        script: concat!(
+            "hub 0200000000FF 00112233445566778899AABBCCDDEEFF 0640 05D9\n",
+            "node 02000000000A AAAAAAAAAAAAAAAAAAAAAAAAAAAAAAAA\n",
+            "stop 0\n",
+            "stop 0\n",
+        ),
+        text: "",
         end: PlayEnd::BadLine { line: 4 },
     },
     Case {

@@ -25,4 +25,4 @@ returns-in-Ok-clause-clock c =
     made_clock c.args.self.now c.make_step.new.self c.args.step.now c.in-Ok.done c.requires.some c.requires.may made
 
 pub returns-in-Err-clause-answers : goal.returns-in-Err-clause-answers
-returns-in-Err-clause-answers c = λ added steps f. (tt, refl)
+returns-in-Err-clause-answers c = λ added steps f. (sym (c.requires.may [] (world added steps) f.kept), refl)

@@ -31,7 +31,7 @@ returns-then-at-hub c =
     let was = slice_get_read u.links.items (length u.links.items) c.args.link k refl c.requires.link c.index_mut-kept.ensures.value in
     let there = slice_get_read u.hubs.items (length u.hubs.items) c.args.hub hub refl c.requires.hub c.index_mut-hub_kept.ensures.value in
     let to : k.to ≡ ToHub c.args.hub = ap (λ (y : KeptLink). y.to) (some_same k x (sym was ∙ first)) ∙ c.in-Hub.is ∙ ap ToHub c.if-at-hub.true in
-    on_ok c.meet.result (λ p t w h a e g. midway_meet t u w c.args.hub h a e c.args.place c.args.passing.now c.args.link g _ k c.meet.new.self hub (record hub { desk = c.meet.new.desk }) was to there refl refl refl refl refl refl refl refl refl refl p) c.meet.ensures
+    on_ok c.meet.result (λ p t w h a e g. midway_meet t u w c.args.hub h a e c.args.place c.args.passing.now c.args.link g _ k c.meet.new.self hub (record hub { desk = c.meet.new.desk }) was to there refl refl refl refl refl refl refl refl refl p) c.meet.ensures
 
 pub returns-else-at-hub : goal.returns-else-at-hub
 returns-else-at-hub c t w h a e g =
