@@ -360,15 +360,17 @@ fn says_that_a_list_is_none(rt: HostRuntime) -> Result<(), Fail> {
     Ok(())
 }
 
-/// A document with so many members.
+/// A document with so many members, in one array.
 fn members(alloc: Global, count: u32) -> Result<String, AllocError> {
     let mut text = String::new(alloc);
+    text.push_str("policy.member = [\n")?;
     for n in 0..count {
         let member = format!(in alloc;
-            "[[policy.member]]\ndevice = '{n:032X}'\nvmac = '02{n:010X}'\ngroup = 'all'\n"
+            "{{device = '{n:032X}', vmac = '02{n:010X}', group = 'all'}},\n"
         )?;
         text.push_str(member.as_str())?;
     }
+    text.push_str("]\n")?;
     Ok(text)
 }
 
