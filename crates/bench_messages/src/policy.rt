@@ -1,5 +1,6 @@
 //! How long `decides` of `bsc_policy` takes: of two members, and of as many members and rules as a policy takes, in 16 groups
-//! and each in a group of its own; beside the same policy where it isn't settled, which looks at members and rules one by one.
+//! and each in a group of its own, and with as many classes of groups as rules can make; beside the same policy where it isn't
+//! settled, which looks at members and rules one by one.
 use crate::no_memory;
 use bench_shared::tenths;
 use bsc_octets::{DeviceId, Vmac};
@@ -20,12 +21,14 @@ fn device(n: u32) -> DeviceId {
     DeviceId(Uuid::from_bytes(u128::from(n).to_be_bytes()))
 }
 
-/// How much a policy has. The last rule allows all, and the others apply to nobody.
+/// How much a policy has. Members are a power of two. The last rule allows all, and the others apply to nobody; or, where
+/// groups are named, each of the others names one more on both sides.
 #[derive(Clone, Copy)]
 struct Size {
     members: u32,
     groups: u32,
     rules: u32,
+    named: bool,
 }
 
 /// A member of the group with a number.
@@ -36,24 +39,56 @@ fn add_member(alloc: Global, policy: &mut Policy, n: u32, group: u32) -> Result<
     }
 }
 
+/// The rule with a number that isn't the last. Where groups are named, it names those of the members 4n and 4n + 2.
+fn add_rule(alloc: Global, policy: &mut Policy, n: u32, named: bool) -> Result<(), PolicyFault> {
+    if !named {
+        return policy.rule(false, "nobody", "*");
+    }
+    let first = n.wrapping_mul(4);
+    let Ok(from) = format!(in alloc; "group{first}") else {
+        return Err(PolicyFault::NoMemory);
+    };
+    let second = first.wrapping_add(2);
+    match format!(in alloc; "group{second}") {
+        Ok(to) => policy.rule(false, from.as_str(), to.as_str()),
+        Err(_) => Err(PolicyFault::NoMemory),
+    }
+}
+
 /// A policy of this size, which isn't settled.
 fn policy_of(alloc: Global, size: Size) -> Result<Policy, PolicyFault> {
     let mut policy = Policy::make(alloc);
     for n in 0..size.members {
         add_member(alloc, &mut policy, n, n % size.groups.max(1))?;
     }
-    for _rule in 1..size.rules {
-        policy.rule(false, "nobody", "*")?;
+    for rule in 1..size.rules {
+        add_rule(alloc, &mut policy, rule.wrapping_sub(1), size.named)?;
     }
     policy.rule(true, "*", "*")?;
     Ok(policy)
 }
 
-/// One round: whether what goes between two members is allowed by the last rule. Both are others in each round, far from
-/// those of the round before.
+/// Who sends and who receives in a round. Both are others in each round, far from those of the round before, and in time each
+/// of them sends to each. Nothing is divided by a number that isn't known, which would take as long as a third of a decision.
+fn pair(size: Size, n: u32) -> (u32, u32) {
+    let last = size.members.saturating_sub(1);
+    let from = n.wrapping_mul(617) & last;
+    let to = n.wrapping_mul(389).wrapping_add(n >> 10) & last;
+    (from, to)
+}
+
+/// The same where groups are named: members of the groups that rules name as senders, and those that they name as receivers,
+/// and one more of each. No rule but the last is for two that are taken together.
+fn named_pair(n: u32) -> (u32, u32) {
+    let from = n.wrapping_mul(97) & 255;
+    let further = 1 + (n >> 8) % 255;
+    let to = (from + further) & 255;
+    (4 * from, 4 * to + 2)
+}
+
+/// One round: whether what goes between two members is allowed by the last rule.
 fn round(policy: &Policy, size: Size, n: u32) -> bool {
-    let from = n.wrapping_mul(617) % size.members.max(1);
-    let to = n.wrapping_mul(389) % size.members.max(1);
+    let (from, to) = if size.named { named_pair(n) } else { pair(size, n) };
     policy.decides(address(from), address(to)) == Decision::Allowed { rule: size.rules }
 }
 
@@ -117,18 +152,28 @@ const TWO: Size = Size {
     members: 2,
     groups: 2,
     rules: 1,
+    named: false,
 };
 
 const MOST: Size = Size {
     members: 1024,
     groups: 16,
     rules: 256,
+    named: false,
 };
 
 const APART: Size = Size {
     members: 1024,
     groups: 1024,
     rules: 256,
+    named: false,
+};
+
+const NAMED: Size = Size {
+    members: 1024,
+    groups: 1024,
+    rules: 256,
+    named: true,
 };
 
 /// So many rounds of each; of one that isn't settled a hundredth.
@@ -151,6 +196,13 @@ pub(crate) fn measure<R: Clock + Print + Eprint>(
         alloc,
         "1024 members in 1024 groups, 256 rules",
         APART,
+        rounds,
+    )?;
+    measure_settled(
+        rt,
+        alloc,
+        "1024 members in 1024 groups, 256 rules that name 510",
+        NAMED,
         rounds,
     )?;
     measure_listed(rt, alloc, "2 members, 1 rule, one by one", TWO, few)?;

@@ -1,4 +1,6 @@
 mod WorkedDecisions
-pub mod Standing
+mod WorkedClasses
 pub mod Filed
-pub mod Numbered
+pub mod Named
+pub mod Covered
+pub mod Told

@@ -1,54 +1,57 @@
-//! Who is in which group, found by the address.
+//! Who is in which classes, found by the address.
 ghost use Rattle.std.specs.Prelude.{◌≡◌, IfOk, OnOk};
 ghost use Rattle.bsc_policy.specs.Filing.{Files, filed_at};
 
-use crate::groups::place_of;
+use crate::classes::Classes;
 use crate::key::Key;
 use crate::member::Member;
-use bsc_octets::{NoMemory, Octets, Vmac};
+use crate::names::Names;
+use bsc_octets::{NoMemory, Vmac};
 use std::alloc::Global;
 use std::collections::HashMap;
 
-/// The groups of all members, and by a member's address the place where its group stands among them.
+/// By a member's address the classes of its group.
 #[derive(Drop)]
 pub(crate) struct Directory {
-    pub(crate) groups: Vec<Octets>,
-    pub(crate) places: HashMap<Key, usize>,
+    pub(crate) filed: HashMap<Key, Classes>,
 }
 
-/// Files a place under an address, unless one is filed there.
-fn file(places: &mut HashMap<Key, usize>, v: Vmac, place: usize) -> Result<(), NoMemory>
-    ensures { OnOk result (Files places.old places.new v place) }
+/// Files classes under an address, unless some are filed there.
+fn file(filed: &mut HashMap<Key, Classes>, v: Vmac, classes: Classes) -> Result<(), NoMemory>
+    ensures { OnOk result (Files filed.old filed.new v classes) }
 {
     let key = Key(v.0);
-    if places.contains_key(&key) {
+    if filed.contains_key(&key) {
         return Ok(());
     }
-    places.insert(key, place)?;
+    filed.insert(key, classes)?;
     Ok(())
 }
 
 impl Directory {
-    ghost use Rattle.bsc_policy.specs.Tables.{TellsGroups};
+    ghost use Rattle.bsc_policy.specs.Tables.{TellsClasses};
 
     /// The directory of these members.
-    pub(crate) fn make(alloc: Global, members: &[Member]) -> Result<Directory, NoMemory>
-        ensures { IfOk result (TellsGroups members.now) }
+    pub(crate) fn make(
+        alloc: Global,
+        members: &[Member],
+        names: &Names,
+    ) -> Result<Directory, NoMemory>
+        ensures { IfOk result (TellsClasses members.now names.now) }
     {
-        let mut groups = Vec::new(alloc);
-        let mut places = HashMap::with_capacity(alloc, members.len())?;
+        let mut filed = HashMap::with_capacity(alloc, members.len())?;
         for member in members {
-            let place = place_of(alloc, &mut groups, member.group.as_slice())?;
-            file(&mut places, member.vmac, place)?;
+            let classes = names.classes(member.group.as_slice());
+            file(&mut filed, member.vmac, classes)?;
         }
-        Ok(Directory { groups, places })
+        Ok(Directory { filed })
     }
 
-    /// The place of the group of the member that has an address.
-    pub(crate) fn place(&self, v: Vmac) -> Option<usize>
-        ensures { result ≡ filed_at self.now.places v }
+    /// The classes of the group of the member that has an address.
+    pub(crate) fn classes(&self, v: Vmac) -> Option<Classes>
+        ensures { result ≡ filed_at self.now.filed v }
     {
         let key = Key(v.0);
-        self.places.get(&key).copied()
+        self.filed.get(&key).copied()
     }
 }

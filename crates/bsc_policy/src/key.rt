@@ -1,12 +1,13 @@
 //! Addresses as keys of a map.
-ghost use Rattle.std.specs.Prelude.{ℕ, List, [], ◌∷◌, nat_eq};
+ghost use Rattle.std.specs.Prelude.{ℕ, List, [], ◌∷◌, ◌++◌, nat_eq};
 ghost use Rattle.std.specs.Cmp.{partial_equiv_from_equiv, on_per, on_equiv};
 ghost use Rattle.std.specs.Cmp.Lexicographic.{pointwise, bytes_decides, nat_list_eq_equiv};
 ghost use Rattle.std.proofs.Common.{ap};
 
 use std::hash::{Hash, Hasher};
 
-/// An address as a key. Its six octets are hashed in one step, and not one by one as those of an array are.
+/// An address as a key. Its six octets are hashed in one step, and not one by one as those of an array are; two zeros stand
+/// behind them, so that they are read as two words that don't overlap, which is quicker.
 #[derive(Clone, Copy)]
 pub(crate) struct Key(pub(crate) [u8; 6]);
 
@@ -25,11 +26,12 @@ impl Eq for Key {
 }
 
 impl Hash for Key {
-    ghost hash_input = { λ x. x.0 ∷ [] };
+    ghost hash_input = { λ x. (x.0 ++ 0 ∷ 0 ∷ []) ∷ [] };
 
-    ghost respects_eq = { λ x y same. ap (λ (octets : List ℕ). octets ∷ []) ((bytes_decides x.0 y.0).0 same) };
+    ghost respects_eq = { λ x y same. ap (λ (octets : List ℕ). (octets ++ 0 ∷ 0 ∷ []) ∷ []) ((bytes_decides x.0 y.0).0 same) };
 
     fn hash<H: Hasher>(&self, state: &mut H) {
-        state.write(&self.0);
+        let [a, b, c, d, e, f] = self.0;
+        state.write(&[a, b, c, d, e, f, 0, 0]);
     }
 }

@@ -5,13 +5,14 @@
 //! and no decision depends on them.
 #![tactic(auto)]
 
+mod classes;
 mod decision;
 mod directory;
 mod fault;
-mod groups;
 mod key;
 mod looking;
 mod member;
+mod names;
 mod numbers;
 mod policy;
 mod rule;

@@ -1,4 +1,4 @@
-//! The numbers of the rules that decide, for each two groups.
+//! The numbers of the rules that decide, for each two classes.
 ghost use Rattle.std.specs.Prelude.{◌≡◌, ◌≤◌, IfOk, length, map, slice_get};
 ghost use Rattle.bsc_policy.specs.Filing.{number_in, row_of, rows_of};
 
@@ -8,11 +8,11 @@ use bsc_octets::{NoMemory, Octets};
 use std::alloc::Global;
 
 /// The number at a place of a row. It is 0 where there is none.
-pub(crate) fn number_at(rows: &[Vec<u16>], row: usize, place: usize) -> u16
+pub(crate) fn number_at(rows: &[Vec<u16>], row: u16, place: u16) -> u16
     ensures { result ≡ number_in (slice_get (map (λ r. r.items) rows.now) row) place }
 {
-    match rows.get(row) {
-        Some(row) => match row.get(place) {
+    match rows.get(usize::from(row)) {
+        Some(row) => match row.get(usize::from(place)) {
             Some(number) => *number,
             None => 0,
         },
@@ -20,35 +20,31 @@ pub(crate) fn number_at(rows: &[Vec<u16>], row: usize, place: usize) -> u16
     }
 }
 
-/// The numbers of the first rules that apply from one group to each.
-fn row_of(
-    alloc: Global,
-    rules: &[Rule],
-    groups: &[Octets],
-    from: &[u8],
-) -> Result<Vec<u16>, NoMemory>
+/// The numbers of the first rules that apply from one group to each of these.
+fn row_of(alloc: Global, rules: &[Rule], tos: &[Octets], from: &[u8]) -> Result<Vec<u16>, NoMemory>
     requires { length rules.now ≤ 256 }
-    ensures { IfOk result (λ row. row.items ≡ row_of rules.now groups.now from.now) }
+    ensures { IfOk result (λ row. row.items ≡ row_of rules.now tos.now from.now) }
 {
-    let mut row = Vec::with_capacity(alloc, groups.len())?;
-    for to in groups {
+    let mut row = Vec::with_capacity(alloc, tos.len())?;
+    for to in tos {
         row.push(number_of(rules, from, to.as_slice()))?;
     }
     Ok(row)
 }
 
-/// The numbers of the first rules that apply from each group to each.
+/// The numbers of the first rules that apply from each of some groups to each of others.
 pub(crate) fn rows_of(
     alloc: Global,
     rules: &[Rule],
-    groups: &[Octets],
+    froms: &[Octets],
+    tos: &[Octets],
 ) -> Result<Vec<Vec<u16>>, NoMemory>
     requires { length rules.now ≤ 256 }
-    ensures { IfOk result (λ rows. map (λ r. r.items) rows.items ≡ rows_of rules.now groups.now) }
+    ensures { IfOk result (λ rows. map (λ r. r.items) rows.items ≡ rows_of rules.now froms.now tos.now) }
 {
-    let mut rows = Vec::with_capacity(alloc, groups.len())?;
-    for from in groups {
-        rows.push(row_of(alloc, rules, groups, from.as_slice())?)?;
+    let mut rows = Vec::with_capacity(alloc, froms.len())?;
+    for from in froms {
+        rows.push(row_of(alloc, rules, tos, from.as_slice())?)?;
     }
     Ok(rows)
 }

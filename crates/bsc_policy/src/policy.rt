@@ -8,9 +8,9 @@ ghost use Rattle.bsc_policy.specs.Writing.{is_taken_by};
 
 use crate::decision::Decision;
 use crate::fault::PolicyFault;
-use crate::groups::copy_of;
 use crate::looking::{decided_by, member_at, number_between, taken_at};
 use crate::member::Member;
+use crate::names::copy_of;
 use crate::rule::Rule;
 use crate::tables::Tables;
 use bsc_octets::{DeviceId, Identity, NoMemory, Octets, Vmac};

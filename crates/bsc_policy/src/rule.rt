@@ -5,7 +5,7 @@ ghost use Rattle.bsc_policy.specs.Decisions.{applies, covers};
 use bsc_octets::Octets;
 
 /// The side of a rule that covers every group.
-const ANY: &str = "*";
+pub(crate) const ANY: &str = "*";
 
 /// A rule: it allows or denies what goes from the members of one group to those of another. A side that is `*` covers
 /// every group.

@@ -3,12 +3,13 @@ ghost use Rattle.std.specs.Prelude.{◌≤◌, IfOk, length};
 
 use crate::directory::Directory;
 use crate::member::Member;
+use crate::names::Names;
 use crate::numbers::{number_at, rows_of};
 use crate::rule::Rule;
 use bsc_octets::{NoMemory, Vmac};
 use std::alloc::Global;
 
-/// The groups by the addresses of their members, and for each two groups the number of the rule that decides.
+/// The classes by the addresses of members, and for each two classes the number of the rule that decides.
 #[derive(Drop)]
 pub(crate) struct Tables {
     pub(crate) directory: Directory,
@@ -16,11 +17,8 @@ pub(crate) struct Tables {
 }
 
 impl Tables {
-    ghost use Rattle.std.specs.Prelude.{◌≡◌, List};
-    ghost use Rattle.bsc_policy.specs.declared.member.Member.{Member};
-    ghost use Rattle.bsc_policy.specs.declared.rule.Rule.{Rule};
-    ghost use Rattle.bsc_policy.specs.Decisions.{group_of, number_between};
-    ghost use Rattle.bsc_policy.specs.Tables.{AreTablesOf};
+    ghost use Rattle.std.specs.Prelude.{◌≡◌};
+    ghost use Rattle.bsc_policy.specs.Tables.{AreTablesOf, number_told};
 
     /// The tables of these members and rules.
     pub(crate) fn make(
@@ -31,19 +29,19 @@ impl Tables {
         requires { length rules.now ≤ 256 }
         ensures { IfOk result (AreTablesOf members.now rules.now) }
     {
-        let directory = Directory::make(alloc, members)?;
-        let numbers = rows_of(alloc, rules, directory.groups.as_slice())?;
+        let names = Names::make(alloc, rules)?;
+        let directory = Directory::make(alloc, members, &names)?;
+        let numbers = rows_of(alloc, rules, &names.froms, &names.tos)?;
         Ok(Tables { directory, numbers })
     }
 
     /// The number of the rule that decides what goes from one address to another.
     pub(crate) fn number(&self, from: Vmac, to: Vmac) -> u16
-        ensures { (members : List Member) (rules : List Rule) → AreTablesOf members rules self.now →
-            result ≡ number_between rules (group_of members from) (group_of members to) }
+        ensures { result ≡ number_told self.now from to }
     {
-        match self.directory.place(from) {
-            Some(row) => match self.directory.place(to) {
-                Some(place) => number_at(&self.numbers, row, place),
+        match self.directory.classes(from) {
+            Some(sender) => match self.directory.classes(to) {
+                Some(receiver) => number_at(&self.numbers, sender.from, receiver.to),
                 None => 0,
             },
             None => 0,

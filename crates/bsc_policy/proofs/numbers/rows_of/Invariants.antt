@@ -3,4 +3,4 @@ use Rattle.bsc_policy.specs.Filing.{row_of}
 use Rattle.bsc_policy.proofs.numbers.rows_of.Given as goal
 
 abbrev pub invariant-loop-from : goal.invariant-loop-from
-invariant-loop-from l = map (λ r. r.items) l.rows.items ≡ map (λ from. row_of l.rules l.groups from) (take l.from-index l.groups)
+invariant-loop-from l = map (λ r. r.items) l.rows.items ≡ map (λ from. row_of l.rules l.tos from) (take l.from-index l.froms)
