@@ -1,5 +1,5 @@
 -- A world to which a hub or a node was added stands for a network with one more.
-use Rattle.std.proofs.Common.{◌≡◌, ◌≢◌, ◌≤◌, ◌<◌, ◌⊎◌, inl, inr, ℕ, ◌+◌, false, true, List, [], ◌∷◌, ◌++◌, length, map, slice_get, Option, Some, None, refl, ap, sym, ◌∙◌, subst, arith, append_assoc, append-nil, length-append}
+use Rattle.std.proofs.Common.{◌≡◌, ◌≤◌, ◌<◌, ◌⊎◌, inl, inr, ℕ, ◌+◌, true, List, [], ◌∷◌, ◌++◌, length, map, slice_get, Some, refl, ap, sym, ◌∙◌, subst, arith, append_assoc, append-nil, length-append}
 use Rattle.std.proofs.lemmas.List.{length-map, map-append}
 use Rattle.std.specs.Prelude.{Bool}
 use Rattle.bsc_octets.specs.declared.identity.Identity.{Identity}
@@ -14,10 +14,10 @@ use Rattle.bsc_world.specs.declared.kept_hub.KeptHub.{KeptHub}
 use Rattle.bsc_world.specs.declared.kept_node.KeptNode.{KeptNode}
 use Rattle.bsc_world.specs.declared.world.World.{World as KeptWorld}
 use Rattle.bsc_network.specs.Settings.{Added, hub, node, hubs, nodes, nodes_after, settings, and_hub, and_node}
-use Rattle.bsc_network.specs.Worlds.{World, Hub, Node, Link, history, new_hub, new_node, new_world, hub_at, node_at}
+use Rattle.bsc_network.specs.Worlds.{World, Hub, Node, history, new_hub, new_node, new_world}
 use Rattle.bsc_network.specs.Courses.{MayAdd, MayAddAll}
 use Rattle.bsc_world.specs.Kept.{IsHubKept, IsNodeKept, IsCalm}
-use Rattle.bsc_world.specs.Standing.{StandsFor, StandsAs, IsHubAt, IsNodeAt}
+use Rattle.bsc_world.specs.Standing.{StandsFor, IsHubAt, IsNodeAt}
 use Rattle.bsc_network.proofs.Places.{got-last, got-last_of, got-longer}
 
 -- ---- what was added

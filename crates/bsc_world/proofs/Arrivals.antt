@@ -1,5 +1,5 @@
 -- What arrives, and what is lost, at the world that keeps a network.
-use Rattle.std.proofs.Common.{◌≡◌, ◌≢◌, ◌≤◌, ◌<◌, ◌⊎◌, inl, inr, ℕ, zero, suc, ◌+◌, true, false, Bool, cond, List, [], ◌∷◌, ◌++◌, length, slice_get, Option, Some, None, refl, ap, sym, ◌∙◌, subst, arith}
+use Rattle.std.proofs.Common.{◌≡◌, ℕ, true, false, Bool, List, [], ◌∷◌, slice_get, Option, Some, None, refl, ap, sym, ◌∙◌, subst}
 use Rattle.std.specs.Prelude.{is_some, if◌then◌else◌}
 use Rattle.std.specs.Option.{option_map}
 use Rattle.bsc_direct.proofs.OneMore.{some_same}
@@ -12,7 +12,6 @@ use Rattle.bsc_network.specs.declared.target.Target.TheVariants.{Hub as ToHub, N
 use Rattle.bsc_network.specs.declared.way.Way.{Way}
 use Rattle.bsc_network.specs.declared.way.Way.TheVariants.{Up, Down}
 use Rattle.bsc_network.specs.declared.parcel.Parcel.{Parcel}
-use Rattle.bsc_network.specs.declared.step_refusal.StepRefusal.{StepRefusal}
 use Rattle.bsc_network.specs.declared.step_refusal.StepRefusal.TheVariants.{NoLink, NothingThere}
 use Rattle.bsc_world.specs.declared.world.World.{World as KeptWorld}
 use Rattle.bsc_network.specs.declared.world_step.WorldStep.TheVariants.{Arrive}
@@ -21,16 +20,15 @@ use Rattle.bsc_network.specs.Worlds.{World, Hub, Node, Link, hub_at, link_at, no
 use Rattle.bsc_network.specs.Changes.{Change, by_target, in_order, unchanged, with_found, with_link, with_traffic}
 use Rattle.bsc_network.specs.NodeSides.{name_of}
 use Rattle.bsc_network.specs.NodeEvents.{comes, comes_once, hears_all_failures, most_failures}
-use Rattle.bsc_network.specs.HubSides.{leaves, of_side, unless_over}
+use Rattle.bsc_network.specs.HubSides.{leaves, unless_over}
 use Rattle.bsc_network.specs.Arriving.{arrives, event_of, is_lost, loses, reaches, reaches_node}
 use Rattle.bsc_network.specs.Refusals.{has_front, refusal, refuses_link, unless}
 use Rattle.bsc_world.specs.Fronts.{HasEnds, ends_pair, front_gone, reaches_from}
 use Rattle.bsc_world.specs.Standing.{StandsAs}
 use Rattle.bsc_world.specs.declared.kept_link.KeptLink.{KeptLink}
 use Rattle.std.specs.Prelude.{IfSome}
-use Rattle.bsc_world.specs.Kept.{IsLinkKept}
 use Rattle.bsc_world.proofs.LinkWays.{link_there}
-use Rattle.bsc_world.specs.Becoming.{Became, Becomes, Did, Does, DoesWhere, Goes, IsToldSince, Keeps, StandsDoing}
+use Rattle.bsc_world.specs.Becoming.{Became, Becomes, Did, Does, DoesWhere, Goes, Keeps, StandsDoing}
 use Rattle.bsc_world.proofs.Goings.{busy_more, did_both, did_became, did_clock}
 use Rattle.bsc_world.proofs.Doings.{did_same}
 

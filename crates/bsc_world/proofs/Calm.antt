@@ -1,6 +1,6 @@
 -- Between two events no node awaits a word, and none has met a time that is still to come; so each event of a step may come.
-use Rattle.std.proofs.Common.{◌≡◌, ◌≤◌, ◌<◌, ◌⊎◌, inl, inr, ℕ, Bool, true, false, not, cond, ◌&&◌, List, [], ◌∷◌, ◌++◌, Option, Some, None, refl, ap, sym, subst, arith, ◌∙◌, append-nil, append_assoc}
-use Rattle.std.specs.Prelude.{◌^◌, nat_le, nat_lt, IsTrue, if◌then◌else◌, map, slice_get, unwrap_or, ⊤}
+use Rattle.std.proofs.Common.{◌≡◌, ◌≤◌, ◌<◌, ℕ, Bool, true, false, not, ◌&&◌, List, [], ◌∷◌, ◌++◌, Option, None, refl, ap, sym, subst, arith, ◌∙◌, append-nil, append_assoc}
+use Rattle.std.specs.Prelude.{◌^◌, nat_le, nat_lt, IsTrue, if◌then◌else◌, map, unwrap_or}
 use Rattle.std.specs.List.{list_all, list_any}
 use Rattle.std.specs.Option.{option_map, option_or}
 use Rattle.std.proofs.lemmas.Bool.{le-leb, lt-ltb}
@@ -9,11 +9,11 @@ use Rattle.bsc_connector.proofs.BackLemmas.{newest_of-more}
 use Rattle.bsc_initiate.specs.declared.event.InitEvent.TheVariants.{Message as InitMessage}
 use Rattle.bsc_accept.specs.declared.event.Event.TheVariants.{Message as AcceptMessage}
 use Rattle.bsc_node.specs.declared.link_name.LinkName.{LinkName}
-use Rattle.bsc_node.specs.declared.action.Action.TheVariants.{Draw, Put, Close}
+use Rattle.bsc_node.specs.declared.action.Action.TheVariants.{Put, Close}
 use Rattle.bsc_node.specs.declared.node_event.NodeEvent.{NodeEvent}
-use Rattle.bsc_node.specs.declared.node_event.NodeEvent.TheVariants.{Opened, Came, Send, NoRandom, Random}
+use Rattle.bsc_node.specs.declared.node_event.NodeEvent.TheVariants.{Opened, Came, Send, NoRandom}
 use Rattle.bsc_node.specs.declared.timed_event.TimedEvent.{TimedEvent}
-use Rattle.bsc_node.specs.Logs.{Made, Line, came, did, Log, event_of, now, in_order, does}
+use Rattle.bsc_node.specs.Logs.{Made, Line, came, Log, event_of, now, in_order, does}
 use Rattle.bsc_node.specs.Links.{was_taken, by_machine, hears, verdict, Outcome, puts, puts_and_closes, closes, meets, is_refused, passes_up, keeps_still, outcome}
 use Rattle.bsc_node.specs.Ending.{carries_out_by, ends, closes_link}
 use Rattle.bsc_node.specs.Events.{obeys_by, obeys, follows}
@@ -21,13 +21,13 @@ use Rattle.bsc_node.specs.Node.{goes_on, actions_at}
 use Rattle.bsc_node.specs.Laws.{with_event, draws}
 use Rattle.bsc_node.specs.Conditions.{fits, may_come, awaits_word, brings_word}
 use Rattle.bsc_node.proofs.Order.{in_order-brought, in_order-cons}
-use Rattle.bsc_node.proofs.Passing.{Passes, both, pass-in_order, pass-nothing}
-use Rattle.bsc_node.proofs.Quiet.{is_quiet, quiet-ends, quiet-closes_link}
+use Rattle.bsc_node.proofs.Passing.{Passes, pass-in_order, pass-nothing}
+use Rattle.bsc_node.proofs.Quiet.{quiet-ends, quiet-closes_link}
 use Rattle.bsc_node.proofs.Heard.{LetsQuiet, lets-rule, pass-meets_peer, pass-is_refused_by, pass-two-then}
 use Rattle.bsc_node.proofs.Lasting.{LetsMessages, pass-takes_body, pass-sends}
 use Rattle.bsc_node.proofs.Following.{pass-follows, opened-dialled, goes_on-is, and_left, and_right}
 use Rattle.bsc_node_laws.proofs.Drawn.{draws_at, word_settles}
-use Rattle.bsc_network.specs.NodeEvents.{with_answer, brings_about}
+use Rattle.bsc_network.specs.NodeEvents.{brings_about}
 use Rattle.bsc_world.specs.Kept.{IsCalm}
 
 -- ---- no event follows from one

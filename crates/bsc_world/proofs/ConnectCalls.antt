@@ -1,5 +1,5 @@
 -- The hub's side of a link asks its hub to be accepted.
-use Rattle.std.proofs.Common.{◌≡◌, ◌≢◌, ◌≤◌, ◌<◌, ◌==◌, ◌&&◌, ◌||◌, ◌⊎◌, inl, inr, ℕ, zero, suc, ◌+◌, nat_le, Bool, true, false, not, cond, List, [], ◌∷◌, ◌++◌, length, map, drop, find, filter, set, get_or, slice_get, Option, Some, None, is_some, option_to_list, refl, ap, sym, ◌∙◌, subst, arith, length-set, append-nil}
+use Rattle.std.proofs.Common.{◌≡◌, ◌≢◌, ◌≤◌, ◌<◌, ◌==◌, ◌&&◌, ◌||◌, ◌⊎◌, inl, inr, ℕ, zero, suc, nat_le, Bool, true, false, not, cond, List, [], ◌∷◌, ◌++◌, length, drop, find, filter, set, get_or, slice_get, Option, Some, None, is_some, option_to_list, refl, ap, sym, ◌∙◌, subst, arith, length-set, append-nil}
 use Rattle.std.specs.List.{list_any}
 use Rattle.std.specs.Option.{option_map, option_or}
 use Rattle.std.proofs.lemmas.List.{length-map}
@@ -14,14 +14,12 @@ use Rattle.bsc_history.specs.declared.call.Call.TheVariants.{Connect}
 use Rattle.bsc_history.specs.declared.connection.Connection.{Connection}
 use Rattle.bsc_history.specs.declared.ending.End.{End}
 use Rattle.bsc_history.specs.declared.entry.Entry.{Entry}
-use Rattle.bsc_history.specs.declared.mark.Mark.{Mark}
 use Rattle.bsc_history.specs.declared.mark.Stamped.{Stamped}
-use Rattle.bsc_history.specs.Replies.{connect_reply}
 use Rattle.bsc_history.specs.declared.reply.Refusal.{Refusal}
 use Rattle.bsc_history.specs.declared.reply.Reply.{Reply}
 use Rattle.bsc_history.specs.declared.reply.Reply.TheVariants.{Joined as JoinedReply, Refused as RefusedReply}
 use Rattle.bsc_history.specs.Entries.{connection_of, joins, moment}
-use Rattle.bsc_history.specs.Ends.{ended, joined, leaves, numbered, unleft}
+use Rattle.bsc_history.specs.Ends.{joined, leaves, numbered, unleft}
 use Rattle.bsc_history.specs.Legality.{Lawful, Legal, is_of}
 use Rattle.bsc_history.specs.Marks.{entries as entries_of}
 use Rattle.bsc_history.specs.Outboxes.{added, added_by, looked, sent, vmac_in, vmac_of}
@@ -33,31 +31,31 @@ use Rattle.bsc_history.proofs.Named.{unleft_joined}
 use Rattle.bsc_history.proofs.Parts.{numbered_joined}
 use Rattle.bsc_history.proofs.Uniqueness.{comes}
 use Rattle.bsc_ring.specs.declared.ends.Outlet.{Outlet}
-use Rattle.bsc_ring.specs.Ends.{FoundEnd, IsNewOutlet, empties_of, given, outlet_mark}
+use Rattle.bsc_ring.specs.Ends.{FoundEnd, IsNewOutlet, given, outlet_mark}
 use Rattle.bsc_desk.specs.declared.desk.Desk.{Desk}
 use Rattle.bsc_desk.specs.declared.row.Row.{Row}
-use Rattle.bsc_desk.specs.Entries.{connect_due, connect_entry, connect_stamped}
+use Rattle.bsc_desk.specs.Entries.{connect_entry, connect_stamped}
 use Rattle.bsc_desk.specs.Live.{connection, known_in}
 use Rattle.bsc_desk.specs.Meetings.{IsOutletOf}
 use Rattle.bsc_desk.specs.Rows.{known_of}
 use Rattle.bsc_desk.specs.Standing.{StandsFor as DeskStandsFor}
 use Rattle.bsc_desk.proofs.LiveRows.{any_row}
 use Rattle.bsc_desk.proofs.Rowed.{joined_mark}
-use Rattle.bsc_world.specs.declared.asked.Asked.TheVariants.{Worn as AskedWorn, Joined as AskedJoined, Refused as AskedRefused}
+use Rattle.bsc_world.specs.declared.asked.Asked.TheVariants.{Joined as AskedJoined, Refused as AskedRefused}
 use Rattle.bsc_network.specs.declared.target.Target.TheVariants.{Hub as ToHub, Node as ToNode}
 use Rattle.bsc_world.specs.declared.kept_hub.KeptHub.{KeptHub}
 use Rattle.bsc_world.specs.declared.kept_link.KeptConn.{KeptConn}
 use Rattle.bsc_world.specs.declared.kept_link.KeptLink.{KeptLink}
 use Rattle.bsc_world.specs.declared.kept_link.KeptSide.{KeptSide}
 use Rattle.bsc_world.specs.declared.world.World.{World as KeptWorld}
-use Rattle.bsc_network.specs.Worlds.{World, Hub, HubSide, Link, history, hub_at, link_at}
+use Rattle.bsc_network.specs.Worlds.{World, Hub, Link, history, hub_at, link_at}
 use Rattle.bsc_network.specs.Changes.{changed_at, with_side}
 use Rattle.bsc_network.specs.Outboxes.{frames}
 use Rattle.bsc_network.specs.HubCalls.{called, entry_in, is_worn, reply_in}
 use Rattle.bsc_world.specs.HubEntries.{HasJoined, HasRefused, IsSeated, LeadsNowhere, LeadsTo}
 use Rattle.bsc_world.specs.Sides.{IsSideOf, KeepsMachine, WasAsked}
-use Rattle.bsc_world.specs.Kept.{IsConnKept, IsConnKeptIf, IsHubKept, IsLinkKept, IsSideKept, IsSideKeptIf, places_of}
-use Rattle.bsc_world.specs.Standing.{AreReadyBut, IsHubAt, IsJoinedBy, StandsAs}
+use Rattle.bsc_world.specs.Kept.{IsConnKept, IsConnKeptIf, IsHubKept, IsSideKept, IsSideKeptIf, places_of}
+use Rattle.bsc_world.specs.Standing.{AreReadyBut, IsHubAt, StandsAs}
 use Rattle.bsc_world.specs.Becoming.{Became, HasSide, Stands, ends}
 use Rattle.bsc_network.proofs.Places.{get-changed, get-other, get-set_here, get-set_other, length-changed, one_or_two}
 use Rattle.bsc_world.proofs.LinkWays.{link_there, map-changed}

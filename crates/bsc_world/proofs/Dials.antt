@@ -1,9 +1,9 @@
 -- Where a dial leads, and the link that is made.
-use Rattle.std.proofs.Common.{◌≡◌, ◌≢◌, ◌≤◌, ◌<◌, ◌⊎◌, inl, inr, ℕ, zero, suc, ◌+◌, true, false, Bool, List, [], ◌∷◌, ◌++◌, length, map, drop, set, slice_get, position, Option, Some, None, refl, ap, sym, ◌∙◌, subst, arith, length-append}
+use Rattle.std.proofs.Common.{◌≡◌, ◌≤◌, ◌<◌, ◌⊎◌, inl, inr, ℕ, zero, suc, ◌+◌, true, false, Bool, List, [], ◌∷◌, ◌++◌, length, map, drop, slice_get, position, Option, Some, None, refl, ap, sym, ◌∙◌, subst, arith, length-append}
 use Rattle.std.specs.Prelude.{nat_lt}
-use Rattle.std.specs.List.{AllByRecursion, range_with_len}
+use Rattle.std.specs.List.{range_with_len}
 use Rattle.std.specs.Option.{option_map, option_or}
-use Rattle.std.proofs.lemmas.List.{drop-append-le, length-drop, map-append}
+use Rattle.std.proofs.lemmas.List.{drop-append-le, length-drop}
 use Rattle.std.proofs.lemmas.Bool.{lt-ltb, ltb-true}
 use Rattle.std.proofs.lemmas.List.FromFn.{length-map-range_with_len}
 use Rattle.bsc_direct.proofs.OneMore.{some_same}
@@ -13,7 +13,6 @@ use Rattle.bsc_accept.specs.Standing.{StandsFor as MachineStandsFor}
 use Rattle.bsc_script.specs.States.{default_times}
 use Rattle.bsc_script.proofs.Pairs.{position-same, position-gives}
 use Rattle.bsc_node.specs.declared.link_name.LinkName.{LinkName}
-use Rattle.bsc_node_core.specs.Tables.{is_name}
 use Rattle.bsc_network.specs.declared.dialled.Dialled.{Dialled}
 use Rattle.bsc_world.specs.declared.doing.Doing.{Doing}
 use Rattle.bsc_network.specs.declared.target.Target.{Target}
@@ -26,14 +25,14 @@ use Rattle.bsc_world.specs.declared.kept_link.KeptSide.{KeptSide}
 use Rattle.bsc_world.specs.declared.kept_node.KeptNode.{KeptNode}
 use Rattle.bsc_world.specs.declared.world.World.{World as KeptWorld}
 use Rattle.bsc_network.specs.Settings.{hub_uri}
-use Rattle.bsc_network.specs.Worlds.{World, Hub, Node, Link, hub_at, link_at}
+use Rattle.bsc_network.specs.Worlds.{World, Hub, Node, Link, hub_at}
 use Rattle.bsc_network.specs.Dialling.{dials, dials_to, fails, first_down, first_up, hub_with, if_room, is_uri, leads_to, new_link, node_with, same_uri, target_of}
 use Rattle.bsc_network.specs.NodeSides.{holds}
 use Rattle.bsc_network.specs.Networks.{dialled_from}
 use Rattle.bsc_world.specs.Kept.{IsLinkKept, IsConnKeptIf, IsSideKeptIf, IsReady}
-use Rattle.bsc_world.specs.Fresh.{IsNewLink, IsNewSideTo, MakesLink, MayDial}
-use Rattle.bsc_world.specs.Standing.{AreReadyBut, AreSidesKept, IsJoinedBy, IsLinkAt, StandsAs}
-use Rattle.bsc_world.specs.Becoming.{Became, Did, Does, DoesWhere, IsToldSince, Keeps}
+use Rattle.bsc_world.specs.Fresh.{IsNewLink, MakesLink, MayDial}
+use Rattle.bsc_world.specs.Standing.{AreSidesKept, IsLinkAt, StandsAs}
+use Rattle.bsc_world.specs.Becoming.{Became, Did, Does, DoesWhere, Keeps}
 use Rattle.bsc_network.proofs.Places.{got-beside, got-last, got-last_of, got-longer, got-within}
 use Rattle.bsc_world.proofs.Goings.{did_both, did_became}
 

@@ -1,17 +1,16 @@
 -- What is done at a step, piece by piece.
-use Rattle.std.proofs.Common.{◌≡◌, ◌≢◌, ◌≤◌, ◌<◌, ◌⊎◌, inl, inr, ℕ, zero, suc, ◌+◌, true, false, Bool, List, [], ◌∷◌, ◌++◌, length, map, drop, set, slice_get, Option, Some, None, refl, ap, sym, ◌∙◌, subst, arith, length-append, append-nil}
-use Rattle.std.specs.Prelude.{fold, filter_map, if◌then◌else◌}
+use Rattle.std.proofs.Common.{◌≡◌, ℕ, zero, suc, true, false, Bool, List, [], ◌∷◌, ◌++◌, length, map, drop, Option, Some, None, refl, ap, sym, ◌∙◌, subst, arith, length-append, append-nil}
+use Rattle.std.specs.Prelude.{if◌then◌else◌}
 use Rattle.std.specs.List.{AllByRecursion}
 use Rattle.std.specs.Option.{option_map}
 use Rattle.bsc_direct.proofs.OneMore.{some_same}
-use Rattle.std.proofs.lemmas.List.{drop-append-le, length-map, map-append}
+use Rattle.std.proofs.lemmas.List.{drop-append-le, map-append}
 use Rattle.std.proofs.lemmas.List.Sums.{fold-append}
 use Rattle.bsc_node.specs.declared.delivered.Delivered.{Delivered}
 use Rattle.bsc_node.specs.declared.link_name.LinkName.{LinkName}
 use Rattle.bsc_node.specs.declared.node_event.NodeEvent.{NodeEvent}
 use Rattle.bsc_node.specs.declared.node_event.NodeEvent.TheVariants.{DialFailed}
 use Rattle.bsc_node.specs.declared.action.Action.{Action}
-use Rattle.bsc_node.specs.Logs.{action_of}
 use Rattle.bsc_node.specs.Conditions.{fits}
 use Rattle.bsc_node_core.specs.Tables.{is_name}
 use Rattle.bsc_network.specs.declared.arrival.Arrival.{Arrival}
@@ -23,10 +22,10 @@ use Rattle.bsc_network.specs.Changes.{Change, in_order, unchanged, with_found, w
 use Rattle.bsc_network.specs.Dialling.{fails}
 use Rattle.bsc_network.specs.NodeEvents.{carries_out, comes, comes_once, delivers, forgets_failure, hears, hears_all_failures, hears_failures, most_failures}
 use Rattle.bsc_world.specs.Standing.{StandsAs}
-use Rattle.bsc_world.specs.Becoming.{Became, Becomes, Did, Does, IsToldSince, Keeps, Stands, StandsDoing}
+use Rattle.bsc_world.specs.Becoming.{Becomes, Did, Does, IsToldSince, Keeps, Stands, StandsDoing}
 use Rattle.bsc_world.specs.Coming.{Hears, HearsAt, HearsIf, deliveries_by, lines_of}
 use Rattle.bsc_network.proofs.Places.{all-one_more}
-use Rattle.bsc_world.proofs.Spots.{SameParts, stands_moved}
+use Rattle.bsc_world.proofs.Spots.{stands_moved}
 use Rattle.bsc_world.proofs.Goings.{did_both, did_became, did_clock, does_both}
 
 -- ---- changes of which no more is told

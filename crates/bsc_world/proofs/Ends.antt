@@ -1,6 +1,6 @@
 -- The ends that a node has: what is found among its holds, and what it has from now on.
-use Rattle.std.proofs.Common.{◌≡◌, ◌≢◌, ◌≤◌, ◌<◌, ◌⊎◌, inl, inr, ℕ, zero, suc, ◌+◌, ◌-◌, Bool, true, false, cond, List, [], ◌∷◌, ◌++◌, length, map, take, find, set, get_or, slice_get, Option, Some, None, refl, ap, sym, ◌∙◌, subst, arith}
-use Rattle.std.specs.List.{AllByRecursion, range_with_len}
+use Rattle.std.proofs.Common.{◌≡◌, ◌≤◌, ◌<◌, ℕ, zero, suc, ◌+◌, ◌-◌, Bool, true, false, cond, List, [], ◌∷◌, ◌++◌, length, map, take, find, set, get_or, slice_get, Option, Some, None, refl, ap, sym, ◌∙◌, subst, arith}
+use Rattle.std.specs.List.{range_with_len}
 use Rattle.std.specs.Option.{option_and_then}
 use Rattle.std.proofs.lemmas.List.{take_more}
 use Rattle.bsc_connector.specs.declared.side.Side.TheVariants.{Primary, Failover}
@@ -18,7 +18,7 @@ use Rattle.bsc_world.specs.declared.kept_node.KeptNode.{KeptNode}
 use Rattle.bsc_network.specs.declared.parcel.Content.{Content}
 use Rattle.bsc_world.specs.declared.world.World.{World as KeptWorld}
 use Rattle.bsc_network.specs.Worlds.{World, Node, node_at}
-use Rattle.bsc_network.specs.Changes.{Change, changed_at, with_node, with_found}
+use Rattle.bsc_network.specs.Changes.{Change, changed_at, with_found}
 use Rattle.bsc_network.specs.NodeSides.{hold_of, holds, puts_by, puts_on}
 use Rattle.bsc_world.specs.Kept.{IsNodeKept, IsCalm}
 use Rattle.bsc_world.specs.Standing.{IsNodeAt, StandsAs}

@@ -1,28 +1,24 @@
 -- What an entry more leaves of the sides that have joined: who isn't meant by it is kept as before, and who gains a frame
 -- gains its place.
-use Rattle.std.proofs.Common.{◌≡◌, ◌≢◌, ◌≤◌, ◌<◌, ◌⊎◌, inl, inr, ℕ, zero, suc, ◌+◌, ◌==◌, true, false, Bool, cond, List, [], ◌∷◌, ◌++◌, length, map, drop, Option, Some, None, refl, ap, sym, ◌∙◌, subst, arith, length-append, append_assoc, append-nil}
+use Rattle.std.proofs.Common.{◌≡◌, ◌≤◌, ℕ, true, false, cond, List, [], ◌∷◌, ◌++◌, length, map, drop, Option, Some, None, refl, ap, sym, ◌∙◌, subst, arith, length-append, append_assoc, append-nil}
 use Rattle.std.specs.Prelude.{◌||◌}
 use lib.ListN.{get_elem?}
-use Rattle.std.specs.List.{AllByRecursion, list_any}
-use Rattle.std.specs.Option.{option_or, option_to_list}
+use Rattle.std.specs.List.{list_any}
+use Rattle.std.specs.Option.{option_or}
 use Rattle.std.proofs.lemmas.List.{drop-append-le, length-map, map-append}
-use Rattle.bsc_history.specs.declared.limits.About.{About}
-use Rattle.bsc_history.specs.declared.connection.Connection.{Connection}
-use Rattle.bsc_history.specs.declared.ending.End.{End}
 use Rattle.bsc_history.specs.declared.entry.Entry.{Entry}
 use Rattle.bsc_history.specs.declared.mark.Stamped.{Stamped}
-use Rattle.bsc_history.specs.Entries.{connection_of, joins, moment, stops}
-use Rattle.bsc_history.specs.Ends.{end_by, ended, joined, leaves}
+use Rattle.bsc_history.specs.Entries.{joins, moment, stops}
+use Rattle.bsc_history.specs.Ends.{end_by, joined, leaves}
 use Rattle.bsc_history.specs.Legality.{Lawful, Legal, is_of}
-use Rattle.bsc_history.specs.Marks.{entries as entries_of, mark_of}
-use Rattle.bsc_history.specs.Outboxes.{added, looked, newer, sent, vmac_of}
+use Rattle.bsc_history.specs.Marks.{mark_of}
+use Rattle.bsc_history.specs.Outboxes.{added, looked, sent, vmac_of}
 use Rattle.bsc_history.specs.Replies.{is_stopped}
 use Rattle.bsc_history.proofs.Lifting.{own_joined}
 use Rattle.bsc_history.proofs.Marks.{mark_grows}
-use Rattle.bsc_history.proofs.More.{ended-more, entries-more, is_stopped-more, joined-more, looked-more, sent-more}
+use Rattle.bsc_history.proofs.More.{ended-more, entries-more, is_stopped-more, sent-more}
 use Rattle.bsc_history.proofs.Parts.{vmac_stays}
-use Rattle.bsc_ring.specs.declared.ends.Outlet.{Outlet}
-use Rattle.bsc_ring.specs.Ends.{FoundEnd, empties_of, found, given, outlet_mark}
+use Rattle.bsc_ring.specs.Ends.{empties_of, found, given, outlet_mark}
 use Rattle.bsc_accept.specs.Standing.{StandsFor as MachineStandsFor}
 use Rattle.bsc_desk.specs.declared.desk.Desk.{Desk}
 use Rattle.bsc_desk.specs.Meetings.{IsOutletOf}
@@ -32,10 +28,10 @@ use Rattle.bsc_script.proofs.Touched.{is_of_same}
 use Rattle.bsc_world.specs.declared.kept_hub.KeptHub.{KeptHub}
 use Rattle.bsc_world.specs.declared.kept_link.KeptConn.{KeptConn}
 use Rattle.bsc_world.specs.declared.kept_link.KeptSide.{KeptSide}
-use Rattle.bsc_network.specs.Worlds.{Hub, HubSide, Link, Posted, entries, history}
+use Rattle.bsc_network.specs.Worlds.{Hub, HubSide, Link, history}
 use Rattle.bsc_network.specs.HubSides.{start}
-use Rattle.bsc_network.specs.Outboxes.{Frame, at_place, frames, frames_by, frames_of}
-use Rattle.bsc_world.specs.Kept.{IsConnKept, IsConnKeptIf, IsHubKept, IsSideKept, IsSideKeptIf, places_of}
+use Rattle.bsc_network.specs.Outboxes.{at_place, frames, frames_by}
+use Rattle.bsc_world.specs.Kept.{IsConnKept, IsConnKeptIf, IsHubKept, IsSideKept, places_of}
 use Rattle.bsc_network.proofs.Frames.{frames-more, octets-frames}
 
 -- a hub with an entry more

@@ -1,5 +1,5 @@
 -- A message is passed on.
-use Rattle.std.proofs.Common.{◌≡◌, ◌≢◌, ◌≤◌, ◌<◌, ◌==◌, ◌&&◌, ◌||◌, ◌⊎◌, inl, inr, ℕ, zero, suc, ◌+◌, nat_le, Bool, true, false, not, cond, List, [], ◌∷◌, ◌++◌, length, map, find, filter, set, get_or, slice_get, Option, Some, None, MatchOption, refl, ap, sym, ◌∙◌, subst, arith, length-set}
+use Rattle.std.proofs.Common.{◌≡◌, ◌≤◌, ◌<◌, ◌==◌, ◌&&◌, ◌||◌, inl, inr, ℕ, nat_le, Bool, true, false, not, cond, List, [], ◌∷◌, ◌++◌, length, map, find, filter, get_or, slice_get, Option, Some, None, MatchOption, refl, ap, sym, ◌∙◌, subst, arith, length-set}
 use Rattle.std.specs.List.{AllByRecursion, list_any}
 use Rattle.std.proofs.lemmas.Bool.{and_from, both_ways, eq-eqb, eqb-true, or_cases, or_left, or_right}
 use Rattle.bsc_octets.specs.declared.vmac.Vmac.{Vmac}
@@ -12,16 +12,15 @@ use Rattle.bsc_history.specs.declared.connection.Connection.{Connection}
 use Rattle.bsc_history.specs.declared.entry.Entry.{Entry}
 use Rattle.bsc_history.specs.declared.looks.Look.{Look}
 use Rattle.bsc_history.specs.declared.mark.Stamped.{Stamped}
-use Rattle.bsc_history.specs.Entries.{made_by, moment}
+use Rattle.bsc_history.specs.Entries.{made_by}
 use Rattle.bsc_history.specs.Ends.{is_leave, joined, live, numbered, unleft}
 use Rattle.bsc_history.specs.Laws.{is_among}
-use Rattle.bsc_history.specs.Legality.{Lawful, Legal, is_of, looks_at}
+use Rattle.bsc_history.specs.Legality.{Legal, is_of, looks_at}
 use Rattle.bsc_history.specs.Marks.{entries as entries_of}
 use Rattle.bsc_history.specs.Outboxes.{is_too_long, looked, meant, means, out_of, vmac_of}
 use Rattle.bsc_history.specs.Replies.{numbers}
 use Rattle.bsc_history.proofs.Lists.{In, In_from_all, all_from_In, any_In, any_gives, find_says, same_one}
 use Rattle.bsc_history.proofs.More.{unleft-same}
-use Rattle.bsc_ring.specs.Ends.{given}
 use Rattle.bsc_accept.specs.Standing.{IsOpen, phase_of}
 use Rattle.bsc_desk.specs.declared.desk.Desk.{Desk}
 use Rattle.bsc_desk.specs.declared.row.Row.{Row}
@@ -42,18 +41,17 @@ use Rattle.bsc_world.specs.declared.kept_link.KeptLink.{KeptLink}
 use Rattle.bsc_world.specs.declared.kept_link.KeptSide.{KeptSide}
 use Rattle.bsc_world.specs.declared.world.World.{World as KeptWorld}
 use Rattle.bsc_network.specs.Worlds.{World, Hub, Link, history, hub_at, link_at}
-use Rattle.bsc_network.specs.HubCalls.{called, entry_in, is_worn, looks_in, taken_by, taken_from, taken_over}
-use Rattle.bsc_world.specs.HubEntries.{HasEntered, LeadsTo}
+use Rattle.bsc_network.specs.HubCalls.{called, entry_in, looks_in, taken_by, taken_from, taken_over}
+use Rattle.bsc_world.specs.HubEntries.{LeadsTo}
 use Rattle.bsc_world.specs.Passing.{HasForwarded, Midway, MidwaySome, MidwayTo, SameEnd}
 use Rattle.bsc_world.specs.Sides.{IsSideOf, WasPassed}
-use Rattle.bsc_world.specs.Kept.{IsConnKept, IsConnKeptIf, IsReady, IsSideKept, IsSideKeptIf}
-use Rattle.bsc_world.specs.Standing.{AreReadyBut, IsHubAt, IsJoinedBy, StandsAs}
+use Rattle.bsc_world.specs.Kept.{IsConnKept, IsConnKeptIf, IsSideKept, IsSideKeptIf}
+use Rattle.bsc_world.specs.Standing.{AreReadyBut, IsHubAt, StandsAs}
 use Rattle.bsc_world.specs.Becoming.{Became, Stands}
 use Rattle.bsc_network.proofs.Places.{get-set_here, get-set_other, got-beside, got-within}
 use Rattle.bsc_world.proofs.Entering.{history-more, with_entry}
-use Rattle.bsc_world.proofs.LinkWays.{link_there}
-use Rattle.bsc_world.proofs.OneHub.{HubChange, SameKept, SameLink, hub_changed, read_there, same_link}
-use Rattle.bsc_world.proofs.OfSides.{SideAt, got-at, side_at}
+use Rattle.bsc_world.proofs.OneHub.{HubChange, SameLink, hub_changed, read_there, same_link}
+use Rattle.bsc_world.proofs.OfSides.{got-at, side_at}
 use Rattle.bsc_world.proofs.QuietEntries.{entry_is, hub_entered, lawful_at, legal_at}
 use Rattle.bsc_world.proofs.StopCalls.{OnHub}
 use Rattle.bsc_world.proofs.ConnectCalls.{hub_is, target_at, worn_as}

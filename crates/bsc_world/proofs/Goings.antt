@@ -1,11 +1,9 @@
 -- How changes that a world goes through are put together.
-use Rattle.std.proofs.Common.{◌≡◌, ◌≢◌, ◌≤◌, ◌⊎◌, inl, inr, ℕ, zero, suc, ◌+◌, true, false, List, [], ◌∷◌, ◌++◌, length, map, drop, slice_get, Option, Some, None, refl, ap, sym, ◌∙◌, subst, arith}
+use Rattle.std.proofs.Common.{◌≡◌, ◌≢◌, ◌≤◌, inl, inr, ℕ, zero, suc, ◌+◌, List, [], ◌∷◌, length, map, drop, slice_get, Option, Some, None, refl, ap, sym, ◌∙◌, subst}
 use Rattle.std.proofs.lemmas.List.{length-map}
 use Rattle.bsc_node.specs.declared.link_name.LinkName.{LinkName}
 use Rattle.bsc_network.specs.declared.dialled.Dialled.{Dialled}
 use Rattle.bsc_world.specs.declared.doing.Doing.{Doing}
-use Rattle.bsc_world.specs.declared.kept_link.KeptLink.{KeptLink}
-use Rattle.bsc_world.specs.declared.kept_link.KeptSide.{KeptSide}
 use Rattle.bsc_world.specs.declared.world.World.{World as KeptWorld}
 use Rattle.bsc_network.specs.Worlds.{World, Link}
 use Rattle.bsc_network.specs.Changes.{Change}

@@ -1,20 +1,18 @@
 -- What a node has heard, by what its core answers.
-use Rattle.std.proofs.Common.{◌≡◌, ◌≢◌, ◌≤◌, ◌<◌, ◌⊎◌, inl, inr, ℕ, zero, suc, ◌+◌, ◌||◌, ◌&&◌, ◌==◌, Bool, true, false, not, cond, List, [], ◌∷◌, ◌++◌, length, set, slice_get, Option, Some, None, refl, ap, sym, ◌∙◌, subst, arith, append_assoc}
+use Rattle.std.proofs.Common.{◌≡◌, ◌≤◌, ◌<◌, ℕ, zero, suc, ◌+◌, ◌||◌, ◌&&◌, ◌==◌, Bool, true, false, List, [], ◌∷◌, ◌++◌, length, set, slice_get, Some, None, refl, ap, sym, ◌∙◌, subst, arith, append_assoc}
 use Rattle.std.specs.Prelude.{◌^◌, IsTrue, nat_lt, filter_map, map, if◌then◌else◌}
 use Rattle.std.specs.List.{AllByRecursion, list_all, list_any, range_with_len}
 use Rattle.std.proofs.lemmas.Bool.{eqb-true, lt-ltb}
 use Rattle.std.proofs.lemmas.List.Folds.{list_any-append}
 use Rattle.bsc_direct.specs.Slots.{slots}
-use Rattle.bsc_direct.proofs.OneMore.{some_same}
 use Rattle.bsc_node.specs.declared.link_name.LinkName.{LinkName}
 use Rattle.bsc_node.specs.declared.link_name.LinkName.TheVariants.{Hub, Direct}
 use Rattle.bsc_node.specs.declared.node_event.NodeEvent.{NodeEvent}
-use Rattle.bsc_node.specs.declared.node_event.NodeEvent.TheVariants.{Start, Opened, NoRandom}
+use Rattle.bsc_node.specs.declared.node_event.NodeEvent.TheVariants.{Start, NoRandom}
 use Rattle.bsc_node.specs.declared.timed_event.TimedEvent.{TimedEvent}
 use Rattle.bsc_node.specs.declared.action.Action.{Action}
 use Rattle.bsc_node.specs.declared.action.Action.TheVariants.{Dial, Take}
 use Rattle.bsc_node.specs.Logs.{Made, Line, came, did, Log, action_of, in_order}
-use Rattle.bsc_node.specs.Links.{was_taken}
 use Rattle.bsc_node.specs.Node.{goes_on, actions_at}
 use Rattle.bsc_node.specs.Events.{follows}
 use Rattle.bsc_node.specs.Laws.{draws, with_event}
@@ -23,18 +21,14 @@ use Rattle.bsc_node.specs.Soundness.{begins_in_slots, is_in_slots}
 use Rattle.bsc_node.proofs.Following.{opened-dialled, goes_on-is}
 use Rattle.bsc_node_core.specs.declared.node.Node.{Node as Core}
 use Rattle.bsc_node_core.specs.Node.{StandsFor as CoreStandsFor, Answers}
-use Rattle.bsc_node_core.specs.Tables.{is_name}
 use Rattle.bsc_world.specs.declared.kept_node.KeptNode.{KeptNode}
 use Rattle.bsc_world.specs.declared.world.World.{World as KeptWorld}
-use Rattle.bsc_network.specs.Worlds.{World, Node, node_at}
-use Rattle.bsc_network.specs.Changes.{with_node}
-use Rattle.bsc_network.specs.NodeEvents.{with_answer, brings_about}
+use Rattle.bsc_network.specs.Worlds.{World, Node}
 use Rattle.bsc_world.specs.Kept.{IsCalm, IsNodeKept}
 use Rattle.bsc_world.specs.Standing.{StandsAs}
-use Rattle.bsc_world.specs.Becoming.{Became}
 use Rattle.bsc_world.specs.Coming.{BeginsNamed, HasHeard, Hears, HearsAt, HearsIf, is_start_event, lines_of, with_lines}
 use Rattle.bsc_world.proofs.Calm.{no_event, calm_then, lines-one, lines-two, may_then, no_word_then, none-follows, now_then}
-use Rattle.bsc_world.proofs.Ends.{node_there, node_kept, no_node_there}
+use Rattle.bsc_world.proofs.Ends.{node_there, no_node_there}
 use Rattle.bsc_world.proofs.Goings.{became_same}
 use Rattle.bsc_world.proofs.Spots.{NodeChange, node_changed}
 use Rattle.bsc_node_laws.proofs.Drawn.{draws_at}

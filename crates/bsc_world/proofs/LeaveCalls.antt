@@ -1,12 +1,11 @@
 -- The session at the hub's side of a link is over.
-use Rattle.std.proofs.Common.{◌≡◌, ◌≢◌, ◌≤◌, ◌<◌, ◌==◌, ◌&&◌, ◌⊎◌, inl, inr, ℕ, zero, suc, Bool, true, false, not, cond, List, [], ◌∷◌, ◌++◌, length, map, filter, set, get_or, slice_get, Option, Some, None, refl, ap, sym, ◌∙◌, subst, length-set, append-nil}
+use Rattle.std.proofs.Common.{◌≡◌, ◌≢◌, ◌≤◌, ◌==◌, ◌&&◌, inl, inr, ℕ, zero, suc, true, not, List, [], ◌∷◌, ◌++◌, length, filter, set, get_or, slice_get, Option, Some, None, refl, ap, sym, ◌∙◌, subst, length-set, append-nil}
 use Rattle.std.specs.List.{list_any}
 use Rattle.std.specs.Option.{option_map}
 use Rattle.std.proofs.lemmas.Option.{slice_get_past}
 use Rattle.std.proofs.lemmas.Bool.{and_parts, both_ways, eq-eqb, eqb-true, false_from_ne_true}
 use Rattle.bsc_direct.proofs.OneMore.{some_same}
 use Rattle.bsc_node.specs.declared.link_name.LinkName.{LinkName}
-use Rattle.bsc_history.specs.declared.limits.About.{About}
 use Rattle.bsc_history.specs.declared.call.Call.{Call}
 use Rattle.bsc_history.specs.declared.call.Call.TheVariants.{Leave}
 use Rattle.bsc_history.specs.declared.connection.Connection.{Connection}
@@ -14,12 +13,10 @@ use Rattle.bsc_history.specs.declared.entry.Entry.{Entry}
 use Rattle.bsc_history.specs.declared.mark.Stamped.{Stamped}
 use Rattle.bsc_history.specs.Entries.{moment}
 use Rattle.bsc_history.specs.Ends.{unleft}
-use Rattle.bsc_history.specs.Legality.{Legal, is_of}
-use Rattle.bsc_history.specs.Marks.{mark_of}
+use Rattle.bsc_history.specs.Legality.{is_of}
 use Rattle.bsc_history.specs.Outboxes.{added, added_by, sent}
-use Rattle.bsc_history.proofs.Lists.{In, In-filter, any_In, any_gives, same_one}
+use Rattle.bsc_history.proofs.Lists.{In-filter, any_In, any_gives}
 use Rattle.bsc_history.proofs.More.{looked-more, unleft-more}
-use Rattle.bsc_history.proofs.Numbers.{numbers_are_new}
 use Rattle.bsc_ring.specs.Ends.{empties_of, outlet_mark}
 use Rattle.bsc_desk.specs.declared.desk.Desk.{Desk}
 use Rattle.bsc_desk.specs.declared.leaving.Gone.{Gone}
@@ -33,14 +30,14 @@ use Rattle.bsc_world.specs.declared.kept_link.KeptConn.{KeptConn}
 use Rattle.bsc_world.specs.declared.kept_link.KeptLink.{KeptLink}
 use Rattle.bsc_world.specs.declared.kept_link.KeptSide.{KeptSide}
 use Rattle.bsc_world.specs.declared.world.World.{World as KeptWorld}
-use Rattle.bsc_network.specs.Worlds.{World, Hub, HubSide, Link, history, hub_at, link_at}
+use Rattle.bsc_network.specs.Worlds.{World, Hub, Link, history, link_at}
 use Rattle.bsc_network.specs.Changes.{changed_at, in_order, with_link, with_side}
 use Rattle.bsc_network.specs.HubCalls.{called, entry_in}
 use Rattle.bsc_world.specs.HubEntries.{HasLeft, LetsGo, MayLeave}
-use Rattle.bsc_network.specs.HubSides.{leaves, leaves_as, of_side, unless_over}
+use Rattle.bsc_network.specs.HubSides.{leaves, leaves_as, unless_over}
 use Rattle.bsc_world.specs.Sides.{IsSideOf}
 use Rattle.bsc_world.specs.Kept.{IsConnKept, IsConnKeptIf, IsLinkKept, IsSideKept, IsSideKeptIf, IsWayKept}
-use Rattle.bsc_world.specs.Standing.{AreReadyBut, IsHubAt, IsJoinedBy, StandsAs}
+use Rattle.bsc_world.specs.Standing.{AreReadyBut, IsHubAt, StandsAs}
 use Rattle.bsc_world.specs.Becoming.{Became, Goes, Stands, ends}
 use Rattle.bsc_network.proofs.Places.{get-changed, get-other, get-set_here, get-set_other, length-changed, one_or_two}
 use Rattle.bsc_world.proofs.Spots.{LinkChange, link_changed}

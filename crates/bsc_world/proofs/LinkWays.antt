@@ -1,5 +1,5 @@
 -- What joins a way, and what is taken from its front: the link is kept as the network has it.
-use Rattle.std.proofs.Common.{◌≡◌, ◌≢◌, ◌≤◌, ◌<◌, ◌⊎◌, inl, inr, ℕ, zero, suc, ◌+◌, true, false, List, [], ◌∷◌, ◌++◌, length, map, drop, set, slice_get, Option, Some, None, refl, ap, sym, ◌∙◌, subst, arith, length-append}
+use Rattle.std.proofs.Common.{◌≡◌, ◌≤◌, ℕ, zero, suc, true, false, List, [], ◌∷◌, ◌++◌, length, map, drop, set, slice_get, Option, Some, None, refl, ap, sym, ◌∙◌, subst, arith, length-append}
 use Rattle.std.proofs.lemmas.List.{drop-append-le, drop-drop}
 use Rattle.bsc_direct.proofs.OneMore.{some_same}
 use Rattle.bsc_history.specs.declared.mark.Stamped.{Stamped}
@@ -7,7 +7,6 @@ use Rattle.bsc_accept.specs.Standing.{StandsFor as MachineStandsFor}
 use Rattle.bsc_script.specs.States.{default_times}
 use Rattle.bsc_desk.specs.declared.desk.Desk.{Desk}
 use Rattle.bsc_node.specs.declared.link_name.LinkName.{LinkName}
-use Rattle.bsc_network.specs.declared.target.Target.TheVariants.{Hub as ToHub}
 use Rattle.bsc_network.specs.declared.way.Way.{Way}
 use Rattle.bsc_network.specs.declared.way.Way.TheVariants.{Up, Down}
 use Rattle.bsc_network.specs.declared.parcel.Content.{Content}
@@ -15,11 +14,11 @@ use Rattle.bsc_network.specs.declared.parcel.Parcel.{Parcel}
 use Rattle.bsc_world.specs.declared.kept_link.KeptLink.{KeptLink}
 use Rattle.bsc_world.specs.declared.kept_link.KeptSide.{KeptSide}
 use Rattle.bsc_world.specs.declared.world.World.{World as KeptWorld}
-use Rattle.bsc_network.specs.Traffic.{Traffic, front, and_then, without_front}
+use Rattle.bsc_network.specs.Traffic.{Traffic, front, and_then}
 use Rattle.bsc_network.specs.Worlds.{World, Hub, HubSide, Link, link_at, traffic}
 use Rattle.bsc_network.specs.Changes.{changed_at, with_link, with_traffic, puts_at, puts_now}
 use Rattle.bsc_world.specs.Kept.{IsWayKept, IsLinkKept, IsSideKeptIf, IsConnKeptIf}
-use Rattle.bsc_world.specs.Puts.{IsPut, waiting}
+use Rattle.bsc_world.specs.Puts.{IsPut}
 use Rattle.bsc_world.specs.Fronts.{IsLost, TakesFront, front_gone}
 use Rattle.bsc_world.specs.Standing.{IsLinkAt, StandsAs}
 use Rattle.bsc_world.specs.Becoming.{ends, Became, Keeps}

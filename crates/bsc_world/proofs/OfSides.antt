@@ -1,11 +1,9 @@
 -- What is found for a link: the hub that it leads to, and the change that is made then.
-use Rattle.std.proofs.Common.{◌≡◌, ◌≤◌, ◌<◌, ℕ, zero, suc, Bool, true, false, cond, List, [], ◌∷◌, length, slice_get, Option, Some, None, refl, ap, sym, ◌∙◌, subst, arith}
+use Rattle.std.proofs.Common.{◌≡◌, ◌≤◌, ◌<◌, ℕ, zero, suc, Bool, true, cond, List, [], ◌∷◌, length, slice_get, Option, Some, None, refl, ap, sym, ◌∙◌, subst, arith}
 use Rattle.std.proofs.lemmas.Option.{slice_get_past}
-use Rattle.bsc_direct.proofs.OneMore.{some_same}
 use Rattle.bsc_node.specs.declared.link_name.LinkName.{LinkName}
 use Rattle.bsc_network.specs.declared.target.Target.{Target}
 use Rattle.bsc_network.specs.declared.target.Target.TheVariants.{Hub as ToHub, Node as ToNode}
-use Rattle.bsc_world.specs.declared.kept_hub.KeptHub.{KeptHub}
 use Rattle.bsc_world.specs.declared.kept_link.KeptLink.{KeptLink}
 use Rattle.bsc_world.specs.declared.world.World.{World as KeptWorld}
 use Rattle.bsc_network.specs.Worlds.{World, Hub, Link, hub_at, link_at}
@@ -13,7 +11,7 @@ use Rattle.bsc_network.specs.Changes.{Change, by_target, of_hub, unchanged, with
 use Rattle.bsc_network.specs.HubSides.{of_side, unless_over}
 use Rattle.bsc_world.specs.Sides.{IsSideOf}
 use Rattle.bsc_world.specs.Kept.{IsLinkKept, IsSideKeptIf}
-use Rattle.bsc_world.specs.Standing.{IsHubAt, IsLinkAt, StandsAs}
+use Rattle.bsc_world.specs.Standing.{IsHubAt, StandsAs}
 use Rattle.bsc_world.proofs.LinkWays.{link_there}
 
 -- ---- the definition

@@ -1,6 +1,6 @@
 -- What a world is kept by, once an entry joined the history of one hub, and sides of links that lead to it have changed: all
 -- else is as it was.
-use Rattle.std.proofs.Common.{◌≡◌, ◌≢◌, ◌≤◌, ◌<◌, ◌⊎◌, inl, inr, ℕ, suc, ◌+◌, true, false, List, [], ◌∷◌, ◌++◌, length, get_or, slice_get, Option, Some, None, refl, ap, sym, ◌∙◌, subst}
+use Rattle.std.proofs.Common.{◌≡◌, ◌≢◌, ◌≤◌, ◌<◌, inl, inr, ℕ, false, List, length, get_or, slice_get, Option, Some, refl, ap, sym, ◌∙◌, subst}
 use Rattle.std.specs.Option.{option_map}
 use Rattle.std.proofs.lemmas.Option.{get_or_from_slice_get}
 use Rattle.bsc_direct.proofs.OneMore.{some_same}
@@ -8,10 +8,10 @@ use Rattle.bsc_node.specs.declared.link_name.LinkName.{LinkName}
 use Rattle.bsc_network.specs.declared.target.Target.TheVariants.{Hub as ToHub}
 use Rattle.bsc_world.specs.declared.kept_link.KeptLink.{KeptLink}
 use Rattle.bsc_world.specs.declared.world.World.{World as KeptWorld}
-use Rattle.bsc_network.specs.Worlds.{World, Hub, Node, Link, hub_at, node_at, link_at}
+use Rattle.bsc_network.specs.Worlds.{World, Hub, Link, hub_at, link_at}
 use Rattle.bsc_network.specs.Changes.{changed_at}
-use Rattle.bsc_world.specs.Kept.{IsLinkKept, IsWayKept, IsCalm, IsSideKeptIf}
-use Rattle.bsc_world.specs.Standing.{IsJoinedBy, IsHubAt, IsNodeAt, IsLinkAt, AreReadyBut, StandsAs}
+use Rattle.bsc_world.specs.Kept.{IsWayKept, IsCalm, IsSideKeptIf}
+use Rattle.bsc_world.specs.Standing.{IsHubAt, IsLinkAt, AreReadyBut, StandsAs}
 use Rattle.bsc_network.proofs.Places.{one_or_two, get-changed, get-other, got-beside, length-changed}
 
 -- what was read at a place where something stands is what stands there

@@ -1,10 +1,9 @@
 -- Why a step is refused, by what is kept.
-use Rattle.std.proofs.Common.{◌≡◌, ◌≢◌, ◌≤◌, ◌<◌, ℕ, zero, suc, ◌+◌, ◌==◌, ◌&&◌, true, false, not, Bool, cond, List, [], ◌∷◌, length, drop, slice_get, Option, Some, None, refl, ap, sym, ◌∙◌, subst, arith}
+use Rattle.std.proofs.Common.{◌≡◌, ◌≤◌, ◌<◌, ℕ, zero, suc, ◌==◌, ◌&&◌, true, false, not, Bool, List, [], ◌∷◌, length, drop, slice_get, Option, Some, None, refl, ap, sym, ◌∙◌, subst, arith}
 use Rattle.std.specs.Prelude.{is_some, if◌then◌else◌}
 use Rattle.std.proofs.lemmas.Bool.{ne_eqb}
 use Rattle.bsc_direct.proofs.OneMore.{some_same}
 use Rattle.bsc_history.specs.declared.mark.Stamped.{Stamped}
-use Rattle.bsc_history.specs.Replies.{is_stopped}
 use Rattle.bsc_desk.specs.declared.desk.Desk.{Desk}
 use Rattle.bsc_accept.specs.Past.{phase}
 use Rattle.bsc_accept.specs.Standing.{phase_of}
@@ -26,7 +25,7 @@ use Rattle.bsc_network.specs.declared.step_refusal.StepRefusal.{StepRefusal}
 use Rattle.bsc_network.specs.declared.step_refusal.StepRefusal.TheVariants.{NoNode, NotNow, NoLink, NothingThere, NoHub, AlreadyStopped}
 use Rattle.bsc_world.specs.declared.world.World.{World as KeptWorld}
 use Rattle.bsc_network.specs.Traffic.{Traffic, front}
-use Rattle.bsc_network.specs.Worlds.{World, Hub, Node, Link, history, hub_at, link_at, node_at}
+use Rattle.bsc_network.specs.Worlds.{World, Hub, Node, Link, hub_at, link_at, node_at}
 use Rattle.bsc_network.specs.Taking.{may_take}
 use Rattle.bsc_network.specs.HubSides.{start}
 use Rattle.bsc_network.specs.Refusals.{has_front, has_outbox, is_own, is_timely, leads_to_hub, refuses_event, refuses_link, refuses_stop, unless}

@@ -2,15 +2,11 @@
 use Rattle.std.proofs.Common.{◌≡◌, ◌≢◌, ◌≤◌, ◌⊎◌, inl, inr, ℕ, zero, suc, Bool, true, false, cond, List, [], ◌∷◌, ◌++◌, length, set, slice_get, Option, Some, None, true≢false, refl, ap, sym, ◌∙◌, subst}
 use Rattle.std.specs.Option.{option_map}
 use Rattle.bsc_direct.proofs.OneMore.{some_same}
-use Rattle.bsc_octets.specs.declared.identity.Identity.{Identity}
-use Rattle.bsc_history.specs.declared.call.Call.{Call}
-use Rattle.bsc_history.specs.declared.call.Call.TheVariants.{Connect, Forward}
 use Rattle.bsc_history.specs.declared.ending.End.{End}
 use Rattle.bsc_history.specs.declared.ending.End.TheVariants.{Left, Replaced, Full, Stopped}
 use Rattle.bsc_history.specs.declared.mark.Stamped.{Stamped}
 use Rattle.bsc_history.specs.declared.reply.Refusal.{Refusal}
 use Rattle.bsc_history.specs.declared.reply.Refusal.TheVariants.{Stopped as HubStopped, Duplicate, TableFull}
-use Rattle.bsc_history.specs.declared.reply.Reply.{Reply as ReplyOf}
 use Rattle.bsc_desk.specs.declared.desk.Desk.{Desk}
 use Rattle.bsc_checks.specs.declared.phase.Phase.TheVariants.{AwaitingRequest}
 use Rattle.bsc_accept.specs.declared.accepting.Accepting.{Accepting}
@@ -22,7 +18,7 @@ use Rattle.bsc_accept.specs.declared.step.Step.TheVariants.{Ask, Reply, ReplyClo
 use Rattle.bsc_accept.specs.Past.{Standing, awaiting_request, connected, disconnecting, standing, phase_named}
 use Rattle.bsc_accept.specs.Kept.{moved}
 use Rattle.bsc_accept.specs.Steps.{step, closes as is_closing, ended_step, refused_step}
-use Rattle.bsc_accept.specs.Standing.{StandsFor as MachineStandsFor, AwaitsAnswer, IsConnected, LeftBy, is_open, phase_of}
+use Rattle.bsc_accept.specs.Standing.{StandsFor as MachineStandsFor, IsConnected, LeftBy, is_open}
 use Rattle.bsc_accept.proofs.Looking.{standing-more}
 use Rattle.bsc_script.proofs.Outboxes.{open_phase}
 use Rattle.bsc_script.proofs.Settling.{connected_standing}
@@ -40,7 +36,7 @@ use Rattle.bsc_network.specs.Traffic.{and_then}
 use Rattle.bsc_network.specs.Worlds.{World, Hub, HubSide, Link, hub_at, link_at}
 use Rattle.bsc_network.specs.Changes.{Change, by_target, in_order, of_hub, puts_at, puts_now, unchanged, with_found, with_link, with_traffic}
 use Rattle.bsc_network.specs.HubSides.{carries_out, closes, leaves, of_side, start, step_at, tells, told, unless_over}
-use Rattle.bsc_world.specs.Kept.{IsConnKept, IsConnKeptIf, IsLinkKept, IsReady, IsSideKept, IsSideKeptIf}
+use Rattle.bsc_world.specs.Kept.{IsConnKeptIf, IsLinkKept, IsReady, IsSideKept, IsSideKeptIf}
 use Rattle.bsc_world.specs.Standing.{AreReadyBut, StandsAs}
 use Rattle.bsc_world.specs.Becoming.{Became, Goes, HasSide, Keeps, Stands, ends}
 use Rattle.bsc_world.specs.Sides.{IsReadyBy, IsSideOf, KeepsSides}

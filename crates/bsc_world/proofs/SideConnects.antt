@@ -1,5 +1,5 @@
 -- What a connect and a forward of a hub's side leave of a world.
-use Rattle.std.proofs.Common.{◌≡◌, ◌⊎◌, inl, inr, ℕ, Bool, true, false, cond, List, [], ◌∷◌, ◌++◌, slice_get, Option, Some, None, true≢false, refl, ap, sym, ◌∙◌, subst}
+use Rattle.std.proofs.Common.{◌≡◌, ℕ, true, false, cond, List, Option, Some, None, true≢false, refl, ap, sym, ◌∙◌, subst}
 use Rattle.std.specs.Option.{option_map}
 use Rattle.bsc_octets.specs.declared.identity.Identity.{Identity}
 use Rattle.bsc_history.specs.declared.call.Call.{Call}
@@ -16,18 +16,17 @@ use Rattle.bsc_world.specs.declared.asked.Asked.TheVariants.{Worn as AskedWorn, 
 use Rattle.bsc_world.specs.declared.passed.Passed.{Passed}
 use Rattle.bsc_world.specs.declared.passed.Passed.TheVariants.{Alone, Worn as PassedWorn, Made}
 use Rattle.bsc_world.specs.declared.kept_link.KeptConn.{KeptConn}
-use Rattle.bsc_world.specs.declared.kept_link.KeptLink.{KeptLink}
 use Rattle.bsc_world.specs.declared.kept_link.KeptSide.{KeptSide}
 use Rattle.bsc_world.specs.declared.world.World.{World as KeptWorld}
-use Rattle.bsc_network.specs.Worlds.{World, Hub, HubSide, Link, hub_at, link_at}
-use Rattle.bsc_network.specs.Changes.{Change, with_found, with_link, with_side}
+use Rattle.bsc_network.specs.Worlds.{World, Hub, HubSide, Link}
+use Rattle.bsc_network.specs.Changes.{Change, with_found, with_side}
 use Rattle.bsc_network.specs.HubCalls.{called, entry_in, is_worn, reply_in}
 use Rattle.bsc_network.specs.HubSides.{closes, connects, forwards, gets_reply, joins_by, tells, unless_over}
 use Rattle.bsc_world.specs.Kept.{IsConnKeptIf, IsSideKept, IsSideKeptIf}
 use Rattle.bsc_world.specs.Standing.{StandsAs}
 use Rattle.bsc_world.specs.Becoming.{Became, Becomes, Goes, HasSide, Stands}
 use Rattle.bsc_world.specs.Sides.{IsSideOf, KeepsMachine, WasAsked, WasPassed}
-use Rattle.bsc_world.specs.SideCalls.{Finds, HasSession}
+use Rattle.bsc_world.specs.SideCalls.{Finds}
 use Rattle.bsc_network.proofs.Places.{get-changed}
 use Rattle.bsc_world.proofs.Entering.{with_entry}
 use Rattle.bsc_world.proofs.Goings.{at_clock, became_as, became_both, became_same, busy_more}

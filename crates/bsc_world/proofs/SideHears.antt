@@ -5,7 +5,6 @@ use Rattle.bsc_direct.proofs.OneMore.{some_same}
 use Rattle.bsc_octets.specs.declared.identity.Identity.{Identity}
 use Rattle.bsc_octets.specs.declared.envelope.Envelope.{Envelope}
 use Rattle.bsc_octets.specs.Addresses.{zero_vmac, broadcast}
-use Rattle.bsc_octets.specs.Forwarding.{has_route}
 use Rattle.bsc_frame.specs.declared.body.Body.{Body}
 use Rattle.bsc_frame.specs.declared.body.Body.TheVariants.{HeartbeatRequest, DisconnectRequest}
 use Rattle.bsc_frame.specs.declared.message.Message.{Message}
@@ -22,7 +21,7 @@ use Rattle.bsc_accept.specs.declared.step.Step.{Step}
 use Rattle.bsc_accept.specs.declared.step.Step.TheVariants.{Ask, Reply, ReplyClose, Carry, Close, Nothing}
 use Rattle.bsc_accept.specs.Messages.{who_asks, is_farewell_answer}
 use Rattle.bsc_accept.specs.Past.{Standing, awaiting_request, connected, disconnecting, standing, phase, phase_named}
-use Rattle.bsc_accept.specs.Steps.{closes as is_closing, message_step, ask_step, connected_step, normal}
+use Rattle.bsc_accept.specs.Steps.{message_step, ask_step, connected_step, normal}
 use Rattle.bsc_accept.specs.Standing.{StandsFor as MachineStandsFor, IsOpen, IsOver, phase_of, is_open}
 use Rattle.bsc_verdict.specs.Outcomes.{outcome_of}
 use Rattle.bsc_script.proofs.Judging.{routed, asking_node, other_vmac}
@@ -35,7 +34,7 @@ use Rattle.bsc_world.specs.declared.kept_link.KeptConn.{KeptConn}
 use Rattle.bsc_world.specs.declared.kept_link.KeptLink.{KeptLink}
 use Rattle.bsc_world.specs.declared.kept_link.KeptSide.{KeptSide}
 use Rattle.bsc_world.specs.declared.world.World.{World as KeptWorld}
-use Rattle.bsc_network.specs.Worlds.{World, Hub, Link}
+use Rattle.bsc_network.specs.Worlds.{World, Link}
 use Rattle.bsc_network.specs.Changes.{Change, in_order}
 use Rattle.bsc_network.specs.HubSides.{acts_on, carries_out, hears as hears_at, receives, start, step_at, told, unless_over, verdict_on}
 use Rattle.bsc_world.specs.Kept.{IsReady, IsSideKept, IsSideKeptIf}

@@ -1,23 +1,17 @@
 -- The sides of a hub meet it, one after the other, once it has passed a message on.
-use Rattle.std.proofs.Common.{◌≡◌, ◌≢◌, ◌≤◌, ◌<◌, ◌==◌, ◌&&◌, ◌⊎◌, inl, inr, ℕ, zero, suc, ◌+◌, Bool, true, false, cond, List, [], ◌∷◌, ◌++◌, length, map, set, slice_get, Option, Some, None, refl, ap, sym, ◌∙◌, subst, arith, length-set}
-use Rattle.std.specs.List.{list_any}
-use Rattle.std.proofs.lemmas.Bool.{and_parts, eqb-true}
+use Rattle.std.proofs.Common.{◌≡◌, ◌≢◌, ◌≤◌, ◌<◌, inl, inr, ℕ, ◌+◌, Bool, true, false, cond, List, [], ◌∷◌, ◌++◌, length, map, set, slice_get, Option, Some, None, refl, ap, sym, ◌∙◌, subst, arith, length-set}
 use Rattle.bsc_direct.proofs.OneMore.{some_same}
-use Rattle.bsc_history.specs.declared.limits.About.{About}
 use Rattle.bsc_history.specs.declared.call.Call.TheVariants.{Forward}
-use Rattle.bsc_history.specs.declared.connection.Connection.{Connection}
 use Rattle.bsc_history.specs.declared.entry.Entry.{Entry}
 use Rattle.bsc_history.specs.declared.mark.Stamped.{Stamped}
 use Rattle.bsc_history.specs.Entries.{moment}
-use Rattle.bsc_history.specs.Ends.{is_leave, leaves, unleft}
+use Rattle.bsc_history.specs.Ends.{is_leave}
 use Rattle.bsc_history.specs.Laws.{is_among, names}
 use Rattle.bsc_history.specs.Legality.{Lawful, Legal, is_of}
 use Rattle.bsc_history.specs.Marks.{entries as entries_of}
 use Rattle.bsc_history.specs.Outboxes.{added, looked, out_of, sent}
-use Rattle.bsc_history.proofs.Lists.{any_gives, same_one}
 use Rattle.bsc_history.proofs.Marks.{mark_grows}
 use Rattle.bsc_history.proofs.Named.{adds_as_named}
-use Rattle.bsc_history.proofs.Numbers.{numbers_are_new}
 use Rattle.bsc_ring.specs.Ends.{given, outlet_mark}
 use Rattle.bsc_desk.specs.declared.desk.Desk.{Desk}
 use Rattle.bsc_desk.specs.Entries.{plain}
@@ -39,7 +33,7 @@ use Rattle.bsc_network.specs.HubSides.{start}
 use Rattle.bsc_world.specs.Passing.{ConnMet, ConnMetIf, LinkMet, MayMeet, Midway, SameEnd, SideMetIf, gains, hub_then, receivers}
 use Rattle.bsc_world.specs.Kept.{IsConnKept, IsConnKeptIf, IsHubKept, IsSideKept, IsSideKeptIf}
 use Rattle.bsc_world.specs.Standing.{IsHubAt}
-use Rattle.bsc_network.proofs.Places.{get-set_here, get-set_other, got-beside, got-within, one_or_two}
+use Rattle.bsc_network.proofs.Places.{get-set_here, get-set_other, got-beside, one_or_two}
 use Rattle.bsc_world.proofs.Entering.{conn_more, history-more}
 use Rattle.bsc_world.proofs.QuietEntries.{legal_at, one_owner}
 

@@ -1,5 +1,5 @@
 -- What a world is kept by, once one link, one node or one hub of it is changed: all others are as they were.
-use Rattle.std.proofs.Common.{◌≡◌, ◌≢◌, ◌≤◌, ◌<◌, ◌⊎◌, inl, inr, ℕ, suc, ◌+◌, true, false, List, [], ◌∷◌, ◌++◌, length, set, slice_get, Option, Some, None, refl, ap, sym, ◌∙◌, subst, arith, length-set}
+use Rattle.std.proofs.Common.{◌≡◌, ◌≢◌, ◌≤◌, ◌<◌, ◌⊎◌, inl, inr, ℕ, true, false, List, length, set, slice_get, Option, Some, refl, ap, sym, ◌∙◌, subst, arith, length-set}
 use Rattle.std.specs.List.{AllByRecursion}
 use Rattle.std.specs.Option.{option_map}
 use Rattle.bsc_node_core.specs.Tables.{is_name}
@@ -7,15 +7,14 @@ use Rattle.bsc_direct.proofs.OneMore.{some_same}
 use Rattle.bsc_history.specs.declared.mark.Stamped.{Stamped}
 use Rattle.bsc_desk.specs.declared.desk.Desk.{Desk}
 use Rattle.bsc_node.specs.declared.link_name.LinkName.{LinkName}
-use Rattle.bsc_network.specs.declared.target.Target.{Target}
 use Rattle.bsc_network.specs.declared.target.Target.TheVariants.{Hub as ToHub}
 use Rattle.bsc_world.specs.declared.kept_link.KeptLink.{KeptLink}
 use Rattle.bsc_world.specs.declared.kept_node.KeptNode.{KeptNode}
 use Rattle.bsc_world.specs.declared.world.World.{World as KeptWorld}
-use Rattle.bsc_network.specs.Worlds.{World, Hub, Node, Link, hub_at, node_at, link_at}
-use Rattle.bsc_network.specs.Changes.{changed_at, with_hub, with_node, with_link}
+use Rattle.bsc_network.specs.Worlds.{World, Hub, Node, Link, node_at, link_at}
+use Rattle.bsc_network.specs.Changes.{changed_at, with_node, with_link}
 use Rattle.bsc_world.specs.Kept.{IsNodeKept, IsCalm, IsLinkKept, IsSideKeptIf}
-use Rattle.bsc_world.specs.Standing.{IsJoinedBy, IsHubAt, IsNodeAt, IsLinkAt, AreReadyBut, AreSidesKept, StandsAs}
+use Rattle.bsc_world.specs.Standing.{IsJoinedBy, IsNodeAt, IsLinkAt, AreReadyBut, AreSidesKept, StandsAs}
 use Rattle.bsc_network.proofs.Places.{one_or_two, get-changed, get-other, get-set_here, get-set_other, length-changed}
 
 -- ---- the whole

@@ -1,6 +1,6 @@
 -- A step, made or refused: the world stands for one step more.
-use Rattle.std.proofs.Common.{◌≡◌, ◌≢◌, ◌≤◌, ◌<◌, ℕ, zero, suc, ◌+◌, true, false, Bool, List, [], ◌∷◌, ◌++◌, length, drop, Option, Some, None, refl, ap, sym, ◌∙◌, subst, arith}
-use Rattle.std.specs.Prelude.{◌^◌, ◌&&◌, not, if◌then◌else◌, Result, Ok, Err, fold}
+use Rattle.std.proofs.Common.{◌≡◌, ◌<◌, ℕ, ◌+◌, true, false, Bool, List, [], ◌∷◌, ◌++◌, length, drop, Option, Some, None, refl, ap, sym, ◌∙◌, subst, arith}
+use Rattle.std.specs.Prelude.{◌^◌, ◌&&◌, not, if◌then◌else◌, Ok, Err}
 use Rattle.std.proofs.lemmas.List.Sums.{fold-append}
 use Rattle.bsc_history.specs.Replies.{is_stopped}
 use Rattle.bsc_node.specs.declared.link_name.LinkName.{LinkName}
@@ -16,13 +16,13 @@ use Rattle.bsc_network.specs.Settings.{Added}
 use Rattle.bsc_network.specs.Worlds.{World, Hub, Node, Link, history, hub_at, link_at, new_world, node_at}
 use Rattle.bsc_network.specs.Networks.{at_time, counts_step, dialled_from, does, does_unless, makes, world}
 use Rattle.bsc_network.specs.Refusals.{has_front, has_outbox, is_own, is_timely, refusal, refuses_event, refuses_link, refuses_stop, unless}
-use Rattle.bsc_network.specs.Courses.{HasContent, IsCourse, MayMake, MayMakeAll, end_time}
+use Rattle.bsc_network.specs.Courses.{HasContent, MayMake, MayMakeAll, end_time}
 use Rattle.bsc_world.specs.Stepping.{IsMade, IsOwnStep, Made}
 use Rattle.bsc_node.specs.declared.node_event.NodeEvent.TheVariants.{Start, Tick, Send, Resolve, DirectTo, Solicit, Finish, Opened, DialFailed, Arrived, Came, CameText, Lost, Random, NoRandom}
 use Rattle.bsc_history.specs.declared.call.Call.TheVariants.{Stop as StopCall}
 use Rattle.bsc_world.specs.declared.doing.Doing.{Doing}
 use Rattle.bsc_network.specs.Changes.{Change}
-use Rattle.bsc_network.specs.HubCalls.{called, no_link}
+use Rattle.bsc_network.specs.HubCalls.{called}
 use Rattle.bsc_world.specs.Coming.{MayBring}
 use Rattle.bsc_world.specs.Becoming.{Became, BecomesWhere, Did, Does, DoesWhere, IsToldSince, StandsDoing}
 use Rattle.bsc_world.proofs.Goings.{did_became}

@@ -1,5 +1,5 @@
 -- A hub of a network stops.
-use Rattle.std.proofs.Common.{◌≡◌, ◌≢◌, ◌≤◌, ◌==◌, ◌&&◌, ℕ, true, false, List, [], ◌∷◌, ◌++◌, length, set, get_or, slice_get, Option, Some, None, refl, ap, sym, ◌∙◌, subst, length-set}
+use Rattle.std.proofs.Common.{◌≡◌, ◌==◌, ◌&&◌, ℕ, true, false, List, [], ◌∷◌, ◌++◌, length, set, get_or, slice_get, Some, None, refl, ap, sym, ◌∙◌, subst, length-set}
 use Rattle.std.specs.List.{list_any}
 use Rattle.bsc_direct.proofs.OneMore.{some_same}
 use Rattle.bsc_node.specs.declared.link_name.LinkName.{LinkName}
@@ -20,13 +20,11 @@ use Rattle.bsc_desk.specs.Entries.{plain, stop_entry}
 use Rattle.bsc_desk.specs.Rows.{known_of}
 use Rattle.bsc_desk.specs.Standing.{StandsFor as DeskStandsFor}
 use Rattle.bsc_world.specs.declared.kept_hub.KeptHub.{KeptHub}
-use Rattle.bsc_world.specs.declared.kept_link.KeptLink.{KeptLink}
 use Rattle.bsc_world.specs.declared.world.World.{World as KeptWorld}
-use Rattle.bsc_network.specs.Worlds.{World, Hub, Link, history, hub_at, link_at}
+use Rattle.bsc_network.specs.Worlds.{World, Hub, history, hub_at}
 use Rattle.bsc_network.specs.HubCalls.{called, entry_in, no_link}
 use Rattle.bsc_world.specs.HubEntries.{HasStopped}
-use Rattle.bsc_world.specs.Kept.{IsSideKeptIf}
-use Rattle.bsc_world.specs.Standing.{IsHubAt, IsJoinedBy, StandsAs}
+use Rattle.bsc_world.specs.Standing.{IsHubAt, StandsAs}
 use Rattle.bsc_world.specs.Becoming.{Became}
 use Rattle.bsc_network.proofs.Places.{get-set_here, get-set_other}
 use Rattle.bsc_world.proofs.Entering.{history-more, with_entry}

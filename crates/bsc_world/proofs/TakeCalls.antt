@@ -1,7 +1,6 @@
 -- The hub's side of a link takes from the outbox of its connection.
-use Rattle.std.proofs.Common.{◌≡◌, ◌≢◌, ◌<◌, ◌⊎◌, inl, inr, ℕ, ◌+◌, ◌==◌, ◌&&◌, Bool, true, false, not, cond, List, [], ◌∷◌, ◌++◌, length, drop, set, get_or, slice_get, Option, Some, None, true≢false, refl, ap, sym, ◌∙◌, subst, length-append, length-set}
+use Rattle.std.proofs.Common.{◌≡◌, ◌≢◌, ◌<◌, inl, inr, ℕ, ◌+◌, ◌&&◌, Bool, true, false, not, cond, List, [], ◌∷◌, length, drop, set, get_or, slice_get, Option, Some, None, true≢false, refl, ap, sym, ◌∙◌, subst, length-append, length-set}
 use Rattle.std.specs.Prelude.{IfSome, is_some}
-use Rattle.std.specs.List.{list_any}
 use Rattle.std.specs.Option.{option_map}
 use Rattle.std.proofs.lemmas.Bool.{and_parts}
 use Rattle.std.proofs.lemmas.List.{drop-drop}
@@ -13,11 +12,11 @@ use Rattle.bsc_history.specs.declared.entry.Entry.{Entry}
 use Rattle.bsc_history.specs.declared.ending.End.{End}
 use Rattle.bsc_history.specs.declared.ending.End.TheVariants.{Left}
 use Rattle.bsc_history.specs.declared.mark.Stamped.{Stamped}
-use Rattle.bsc_history.specs.Ends.{ended, unleft}
+use Rattle.bsc_history.specs.Ends.{ended}
 use Rattle.bsc_history.specs.Legality.{is_of}
 use Rattle.bsc_history.specs.Marks.{entries as entries_of, mark_of}
 use Rattle.bsc_history.specs.Outboxes.{sent, vmac_of}
-use Rattle.bsc_ring.specs.Ends.{empties_of, given, outlet_mark}
+use Rattle.bsc_ring.specs.Ends.{empties_of, given}
 use Rattle.bsc_ring.specs.Lists.{StartsWith}
 use Rattle.bsc_checks.specs.declared.phase.Phase.{Phase}
 use Rattle.bsc_checks.specs.declared.phase.Phase.TheVariants.{Connected}
@@ -34,14 +33,13 @@ use Rattle.bsc_script.specs.Emptying.{empties_after, is_connected}
 use Rattle.bsc_script.proofs.Meetings.{own_any}
 use Rattle.bsc_network.specs.declared.target.Target.{Target}
 use Rattle.bsc_network.specs.declared.target.Target.TheVariants.{Hub as ToHub, Node as ToNode}
-use Rattle.bsc_network.specs.declared.step_refusal.StepRefusal.{StepRefusal}
 use Rattle.bsc_network.specs.declared.step_refusal.StepRefusal.TheVariants.{NoLink, NothingThere}
 use Rattle.bsc_network.specs.declared.way.Way.TheVariants.{Down}
 use Rattle.bsc_network.specs.declared.parcel.Content.TheVariants.{Message}
 use Rattle.bsc_network.specs.declared.world_step.WorldStep.TheVariants.{Take}
-use Rattle.bsc_network.specs.Worlds.{World, Hub, HubSide, Link, history, hub_at, link_at}
+use Rattle.bsc_network.specs.Worlds.{World, Hub, HubSide, Link, history, link_at}
 use Rattle.bsc_network.specs.Outboxes.{Frame as FrameOf, at_place, frames}
-use Rattle.bsc_network.specs.Changes.{changed_at, puts_at, with_found, with_link, with_side}
+use Rattle.bsc_network.specs.Changes.{puts_at, with_found, with_side}
 use Rattle.bsc_network.specs.HubSides.{start, tells, unless_over}
 use Rattle.bsc_network.specs.Taking.{may_take, takes, takes_next}
 use Rattle.bsc_network.specs.Refusals.{has_outbox, leads_to_hub, refusal, refuses_link, unless}
@@ -54,7 +52,7 @@ use Rattle.bsc_world.specs.declared.taking.Took.TheVariants.{Frame, Empty, Close
 use Rattle.bsc_world.specs.declared.world.World.{World as KeptWorld}
 use Rattle.bsc_world.specs.Kept.{IsConnKept, IsConnKeptIf, IsHubKept, IsLinkKept, IsReady, IsSideKept, IsSideKeptIf, places_of, takes_in}
 use Rattle.bsc_world.specs.Standing.{AreReadyBut, IsHubAt, StandsAs}
-use Rattle.bsc_world.specs.Becoming.{Became, BecomesWhere, HasSide, Keeps, Stands, ends}
+use Rattle.bsc_world.specs.Becoming.{Became, BecomesWhere, Keeps, Stands, ends}
 use Rattle.bsc_world.specs.HubEntries.{LeadsTo}
 use Rattle.bsc_world.specs.Sides.{IsSideOf}
 use Rattle.bsc_world.specs.Takes.{LinkTook, MayTake, OwnsOutlet, SideTook, StaysMet, TookAt, TookOne, WasTaken}

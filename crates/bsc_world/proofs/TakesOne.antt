@@ -1,12 +1,10 @@
 -- A take from an outbox: what its outlet gave, and what the desk knows of it.
-use Rattle.std.proofs.Common.{◌≡◌, ◌≢◌, ℕ, ◌+◌, ◌==◌, true, drop, slice_get, List, [], ◌∷◌, ◌++◌, length, Option, Some, None, refl, ap, sym, ◌∙◌, subst, arith, append-nil, length-append}
-use Rattle.std.specs.List.{list_any}
-use Rattle.bsc_direct.proofs.OneMore.{some_same}
+use Rattle.std.proofs.Common.{◌≡◌, ◌≢◌, ℕ, ◌+◌, drop, slice_get, List, [], ◌∷◌, ◌++◌, length, Option, Some, None, refl, ap, sym, ◌∙◌, subst, arith, append-nil, length-append}
 use Rattle.bsc_history.specs.declared.ending.End.{End}
 use Rattle.bsc_history.specs.declared.ending.End.TheVariants.{Left}
 use Rattle.bsc_history.specs.declared.mark.Stamped.{Stamped}
-use Rattle.bsc_history.specs.Ends.{ended, unleft}
-use Rattle.bsc_history.specs.Marks.{entries, mark_of}
+use Rattle.bsc_history.specs.Ends.{ended}
+use Rattle.bsc_history.specs.Marks.{entries}
 use Rattle.bsc_history.specs.Outboxes.{sent}
 use Rattle.bsc_ring.specs.declared.ends.Outlet.{Outlet}
 use mathlib.Core.Option.{some}
@@ -18,8 +16,7 @@ use Rattle.bsc_ring.specs.Ends.{GaveAll, Took, found, given, empties_of, outlet_
 use Rattle.bsc_ring.specs.Lists.{StartsWith}
 use Rattle.bsc_desk.specs.declared.desk.Desk.{Desk}
 use Rattle.bsc_desk.specs.Meetings.{IsOutletOf, KnowsOutbox}
-use Rattle.bsc_desk.specs.Rows.{HasRow, IsMarkOf, known_of, row_of}
-use Rattle.bsc_desk.specs.Standing.{StandsFor}
+use Rattle.bsc_desk.specs.Rows.{HasRow, IsMarkOf, known_of}
 use Rattle.bsc_desk.proofs.Rowed.{has_unleft, is_mark_of}
 use Rattle.bsc_script.specs.Emptying.{empties_after}
 use Rattle.bsc_world.specs.declared.kept_link.KeptConn.{KeptConn}

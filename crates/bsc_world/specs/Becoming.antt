@@ -1,5 +1,5 @@
 -- What inner functions say: whatever network a world was kept at, it is kept at the changed one.
-use Rattle.std.specs.Prelude.{◌≡◌, ◌≢◌, ◌≤◌, ℕ, List, length, drop, map, slice_get, Option, Some, None}
+use Rattle.std.specs.Prelude.{◌≡◌, ◌≤◌, ℕ, List, length, drop, map, slice_get, Option, Some, None}
 use Rattle.bsc_node.specs.declared.link_name.LinkName.{LinkName}
 use Rattle.bsc_world.specs.declared.doing.Doing.{Doing}
 use Rattle.bsc_network.specs.declared.target.Target.{Target}

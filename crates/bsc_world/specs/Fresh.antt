@@ -1,5 +1,5 @@
 -- A link as it is kept when it is made: words of inner functions.
-use Rattle.std.specs.Prelude.{◌≡◌, ◌<◌, ℕ, false, List, [], ◌∷◌, ◌++◌, length, slice_get, Option, Some, None}
+use Rattle.std.specs.Prelude.{◌≡◌, ◌<◌, ℕ, false, [], ◌∷◌, ◌++◌, length, slice_get, Option, Some, None}
 use Rattle.bsc_accept.specs.Standing.{StandsFor as MachineStandsFor, IsOpen}
 use Rattle.bsc_script.specs.States.{default_times}
 use Rattle.bsc_network.specs.declared.target.Target.{Target}

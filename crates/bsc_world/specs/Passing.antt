@@ -1,5 +1,5 @@
 -- What a forward leaves of a hub, and of the sides that meet it then: words of inner functions.
-use Rattle.std.specs.Prelude.{◌≡◌, ◌≢◌, ◌<◌, ◌≤◌, ◌==◌, ℕ, nat_le, Bool, true, false, if◌then◌else◌, List, [], ◌∷◌, ◌++◌, length, slice_get, Option, Some, None}
+use Rattle.std.specs.Prelude.{◌≡◌, ◌≢◌, ◌<◌, ◌≤◌, ℕ, nat_le, true, false, if◌then◌else◌, List, [], ◌∷◌, ◌++◌, length, slice_get, Option, Some, None}
 use Rattle.std.specs.List.{AllByRecursion}
 use Rattle.bsc_octets.specs.declared.vmac.Vmac.{Vmac}
 use Rattle.bsc_history.specs.declared.call.Call.TheVariants.{Forward}
@@ -25,7 +25,7 @@ use Rattle.bsc_world.specs.declared.kept_link.KeptConn.{KeptConn}
 use Rattle.bsc_world.specs.declared.kept_link.KeptLink.{KeptLink}
 use Rattle.bsc_world.specs.declared.kept_link.KeptSide.{KeptSide}
 use Rattle.bsc_world.specs.declared.world.World.{World as KeptWorld}
-use Rattle.bsc_network.specs.Worlds.{World, Hub, Link, Posted, history, link_at}
+use Rattle.bsc_network.specs.Worlds.{World, Hub, Link, history, link_at}
 use Rattle.bsc_world.specs.HubEntries.{HasEntered}
 use Rattle.bsc_world.specs.Kept.{IsHubKept, IsSideKeptIf}
 use Rattle.bsc_world.specs.Standing.{IsHubAt}

@@ -1,5 +1,5 @@
 -- What a step that isn't refused leaves: words of inner functions.
-use Rattle.std.specs.Prelude.{◌≡◌, ℕ, true, List, [], length, drop, None, ⊤}
+use Rattle.std.specs.Prelude.{◌≡◌, true, [], length, drop, None, ⊤}
 use Rattle.bsc_world.specs.declared.step_done.StepDone.{StepDone}
 use Rattle.bsc_network.specs.declared.world_step.WorldStep.{WorldStep}
 use Rattle.bsc_network.specs.declared.world_step.WorldStep.TheVariants.{Node as OfNode}

@@ -1,5 +1,4 @@
-use Rattle.std.proofs.Common.{◌≡◌, slice_get, Some, None, refl, sym, ◌∙◌}
-use Rattle.bsc_world.proofs.TakesOne.{met_owns, owns_meets, took_closed, took_empty, took_frame, took_owns}
+use Rattle.bsc_world.proofs.TakesOne.{owns_meets, took_closed, took_empty, took_owns}
 use Rattle.bsc_world.proofs.taking.take_once.Goals as goal
 
 pub meet-requires-clause-row : goal.meet-requires-clause-row

@@ -1,4 +1,3 @@
-use Rattle.std.proofs.Common.{refl}
 use Rattle.bsc_world.proofs.TakeCalls.{side_took}
 use Rattle.bsc_world.proofs.kept_link.KeptLink.take.Goals as goal
 

@@ -1,8 +1,7 @@
-use Rattle.std.proofs.Common.{◌≡◌, true, false, List, refl, ap, ◌∙◌, subst, sym}
+use Rattle.std.proofs.Common.{◌≡◌, true, false, refl, ap, ◌∙◌, subst, sym}
 use Rattle.std.specs.List.{list_any}
 use Rattle.bsc_script.proofs.Answered.{if_ok}
 use Rattle.bsc_node.specs.declared.timed_event.TimedEvent.{TimedEvent}
-use Rattle.bsc_node.specs.declared.action.Action.{Action}
 use Rattle.bsc_node.specs.Laws.{draws}
 use Rattle.bsc_node_core.specs.Node.{Answers}
 use Rattle.bsc_world.specs.Coming.{HasHeard}

@@ -1,4 +1,4 @@
-use Rattle.std.proofs.Common.{◌≡◌, OnOk, Some, None, refl, sym, ap, ◌∙◌, subst}
+use Rattle.std.proofs.Common.{OnOk, Some, None, sym, ap, subst}
 use Rattle.bsc_script.proofs.Answered.{on_ok}
 use Rattle.bsc_accept.specs.Steps.{closes as is_closing}
 use Rattle.bsc_accept.specs.Standing.{LeftBy}

@@ -1,4 +1,4 @@
-use Rattle.std.proofs.Common.{◌≡◌, false, List, Option, Some, None, IfSome, ap, sym, ◌∙◌, subst, arith}
+use Rattle.std.proofs.Common.{◌≡◌, false, List, Option, Some, None, IfSome, sym, ◌∙◌, subst, arith}
 use Rattle.bsc_script.proofs.Answered.{on_ok}
 use Rattle.bsc_node.specs.declared.link_name.LinkName.{LinkName}
 use Rattle.bsc_network.specs.declared.parcel.Parcel.{Parcel}

@@ -1,4 +1,4 @@
-use Rattle.std.proofs.Common.{◌≡◌, ◌<◌, length, refl, sym, ◌∙◌, subst, arith}
+use Rattle.std.proofs.Common.{refl, sym, ◌∙◌, subst, arith}
 use Rattle.bsc_world.specs.HubEntries.{IsAsked}
 use Rattle.bsc_world.proofs.ConnectCalls.{about_at, asked_joined, asked_never, asked_refused, asked_worn, machine_seated}
 use Rattle.bsc_world.proofs.OneHub.{read_there}

@@ -1,4 +1,4 @@
-use Rattle.std.proofs.Common.{◌≡◌, refl, sym, ◌∙◌, subst}
+use Rattle.std.proofs.Common.{refl, sym, ◌∙◌, subst}
 use Rattle.bsc_world.specs.Passing.{IsForwarded}
 use Rattle.bsc_world.proofs.ConnectCalls.{about_at, asked_never}
 use Rattle.bsc_world.proofs.ForwardCalls.{may_forward, may_meet_each, passed_alone, passed_made, passed_worn}

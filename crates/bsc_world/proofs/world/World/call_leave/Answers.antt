@@ -1,8 +1,6 @@
-use Rattle.std.proofs.Common.{◌≡◌, ◌≤◌, ◌<◌, length, slice_get, Some, None, refl, sym, ◌∙◌, arith}
+use Rattle.std.proofs.Common.{◌≡◌, ◌≤◌, ◌<◌, length, Some, None, refl, sym, ◌∙◌, arith}
 use Rattle.std.proofs.lemmas.Option.{slice_get_read}
 use Rattle.bsc_network.specs.declared.target.Target.TheVariants.{Hub as ToHub, Node as ToNode}
-use Rattle.bsc_world.specs.declared.kept_link.KeptConn.{KeptConn}
-use Rattle.bsc_world.specs.declared.kept_link.KeptSide.{KeptSide}
 use Rattle.bsc_world.proofs.LeaveCalls.{leave_alone, leave_astray, leave_gone, leave_joined, leave_node, leave_nowhere, may_leave}
 use Rattle.bsc_world.proofs.world.World.call_leave.Goals as goal
 

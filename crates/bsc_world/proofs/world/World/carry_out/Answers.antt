@@ -1,6 +1,5 @@
-use Rattle.std.proofs.Common.{◌≡◌, false, inl, inr, List, ℕ, Some, None, Result, Ok, Err, OnOk, true≢false, refl, sym, ap, ◌∙◌, subst}
+use Rattle.std.proofs.Common.{◌≡◌, inl, inr, Some, None, Result, Ok, Err, OnOk, true≢false, sym, ap, ◌∙◌, subst}
 use Rattle.bsc_script.proofs.Answered.{on_ok}
-use Rattle.bsc_accept.specs.declared.step.Step.{Step}
 use Rattle.bsc_accept.specs.Steps.{closes as is_closing}
 use Rattle.bsc_network.specs.declared.way.Way.TheVariants.{Down}
 use Rattle.bsc_network.specs.declared.parcel.Content.TheVariants.{Message}

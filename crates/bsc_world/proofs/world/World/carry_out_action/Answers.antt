@@ -1,7 +1,6 @@
-use Rattle.std.proofs.Common.{ap, subst, sym, List, ℕ, OnOk}
+use Rattle.std.proofs.Common.{subst, sym, List, ℕ, OnOk}
 use Rattle.bsc_script.proofs.Answered.{on_ok}
 use Rattle.bsc_node.specs.declared.action.Action.{Action}
-use Rattle.bsc_node.specs.declared.action.Action.TheVariants.{Dial, Take, Refuse, Put, Close, Deliver, Tell, Draw}
 use Rattle.bsc_network.specs.declared.parcel.Content.TheVariants.{Message, Closed}
 use Rattle.bsc_network.specs.Changes.{with_found}
 use Rattle.bsc_network.specs.Dialling.{dials_to, leads_to}

@@ -1,4 +1,4 @@
-use Rattle.std.proofs.Common.{Option, None, Some, sym, ◌∙◌, ap, refl, arith}
+use Rattle.std.proofs.Common.{arith}
 use Rattle.bsc_script.proofs.Answered.{on_ok}
 use Rattle.bsc_network.specs.NodeEvents.{comes_once, most_failures}
 use Rattle.bsc_world.proofs.Doings.{comes_does, does_clock, found_node, stands_doing}

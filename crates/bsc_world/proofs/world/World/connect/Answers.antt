@@ -1,6 +1,5 @@
-use Rattle.std.proofs.Common.{Some, subst}
+use Rattle.std.proofs.Common.{subst}
 use Rattle.bsc_script.proofs.Answered.{on_ok}
-use Rattle.bsc_world.specs.declared.asked.Asked.TheVariants.{Worn, Joined, Refused}
 use Rattle.bsc_network.specs.HubSides.{connects}
 use Rattle.bsc_world.specs.SideCalls.{Finds}
 use Rattle.bsc_world.proofs.SideCalls.{left_goes}

@@ -1,17 +1,15 @@
 use Rattle.std.proofs.Common.{◌≡◌, None, OnOk, sym, subst}
 use Rattle.bsc_script.proofs.Answered.{on_ok}
 use Rattle.bsc_network.specs.declared.world_step.WorldStep.{WorldStep}
-use Rattle.bsc_network.specs.declared.world_step.WorldStep.TheVariants.{Node as OfNode, Arrive, Lose, Take, Stop}
-use Rattle.bsc_network.specs.Arriving.{is_lost}
+use Rattle.bsc_network.specs.declared.world_step.WorldStep.TheVariants.{Take}
 use Rattle.bsc_network.specs.HubCalls.{no_link}
 use Rattle.bsc_network.specs.Networks.{does}
-use Rattle.bsc_network.specs.NodeEvents.{comes}
 use Rattle.bsc_network.specs.Refusals.{refusal}
 use Rattle.bsc_world.specs.Stepping.{IsOwnStep}
 use Rattle.bsc_network.specs.Taking.{takes}
 use Rattle.bsc_world.specs.Becoming.{DoesWhere}
 use Rattle.bsc_world.proofs.Doings.{stands_quiet}
-use Rattle.bsc_world.proofs.Stepped.{own_brings, stop_does, take_does, where_does}
+use Rattle.bsc_world.proofs.Stepped.{own_brings, stop_does, take_does}
 use Rattle.bsc_world.proofs.world.World.does.Goals as goal
 
 pub come-requires-clause-brings : goal.come-requires-clause-brings

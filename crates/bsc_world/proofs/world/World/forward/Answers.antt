@@ -1,4 +1,4 @@
-use Rattle.std.proofs.Common.{Some, subst}
+use Rattle.std.proofs.Common.{subst}
 use Rattle.bsc_script.proofs.Answered.{on_ok}
 use Rattle.bsc_network.specs.HubSides.{forwards}
 use Rattle.bsc_world.specs.SideCalls.{Finds}

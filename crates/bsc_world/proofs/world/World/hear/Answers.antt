@@ -1,8 +1,7 @@
-use Rattle.std.proofs.Common.{◌≡◌, ◌<◌, ◌≤◌, true, false, length, refl, arith, ap, ◌∙◌, subst, sym}
+use Rattle.std.proofs.Common.{◌≡◌, ◌<◌, ◌≤◌, true, length, refl, arith, ◌∙◌, subst, sym}
 use Rattle.bsc_direct.proofs.OneMore.{some_same}
 use Rattle.bsc_script.proofs.Answered.{if_ok}
 use Rattle.bsc_node.specs.Conditions.{fits}
-use Rattle.bsc_world.specs.declared.kept_node.KeptNode.{KeptNode}
 use Rattle.bsc_world.specs.Kept.{IsNodeKept, IsCalm}
 use Rattle.bsc_world.specs.Coming.{Hears}
 use Rattle.bsc_world.proofs.Ends.{node_there}

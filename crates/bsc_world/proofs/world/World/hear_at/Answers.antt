@@ -1,4 +1,4 @@
-use Rattle.std.proofs.Common.{◌≡◌, ◌≤◌, ◌<◌, length, refl, sym, subst, arith}
+use Rattle.std.proofs.Common.{◌≤◌, ◌<◌, length, refl, sym, subst, arith}
 use Rattle.std.proofs.lemmas.Option.{slice_get_read}
 use Rattle.bsc_checks.specs.declared.place.Place.TheVariants.{HubPort}
 use Rattle.bsc_checks.specs.Verdicts.{Judged}

@@ -1,4 +1,4 @@
-use Rattle.std.proofs.Common.{◌≡◌, true, Option, Some, None, IfSome, refl, sym, ◌∙◌, subst}
+use Rattle.std.proofs.Common.{◌≡◌, true, IfSome, refl, sym, ◌∙◌, subst}
 use Rattle.bsc_node_core.specs.Tables.{is_name}
 use Rattle.bsc_script.proofs.Answered.{on_ok}
 use Rattle.bsc_world.proofs.Arrivals.{lose_event, lose_nothing}

@@ -1,4 +1,4 @@
-use Rattle.std.proofs.Common.{◌≡◌, true, Some, None, ap, sym, ◌∙◌, refl, arith}
+use Rattle.std.proofs.Common.{true, arith}
 use Rattle.bsc_script.proofs.Answered.{on_ok}
 use Rattle.bsc_network.specs.declared.way.Way.TheVariants.{Down}
 use Rattle.bsc_network.specs.Worlds.{link_at}

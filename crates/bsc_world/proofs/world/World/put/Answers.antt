@@ -1,4 +1,4 @@
-use Rattle.std.proofs.Common.{◌≡◌, ◌<◌, ◌≤◌, length, refl, arith}
+use Rattle.std.proofs.Common.{◌<◌, ◌≤◌, length, refl, arith}
 use Rattle.bsc_script.proofs.Answered.{on_ok}
 use Rattle.bsc_world.proofs.LinkWays.{put_goes, put_lost, put_nowhere}
 use Rattle.bsc_world.proofs.Lookups.{got_read, keeps_sides}

@@ -1,4 +1,4 @@
-use Rattle.std.proofs.Common.{Some, None, OnOk, sym, subst}
+use Rattle.std.proofs.Common.{OnOk, sym, subst}
 use Rattle.bsc_script.proofs.Answered.{on_ok}
 use Rattle.bsc_network.specs.declared.target.Target.{Target}
 use Rattle.bsc_network.specs.declared.way.Way.TheVariants.{Up}

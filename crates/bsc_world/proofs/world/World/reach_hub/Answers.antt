@@ -1,6 +1,5 @@
-use Rattle.std.proofs.Common.{◌≡◌, ℕ, List, Some, None, OnOk, refl, sym, ◌∙◌, subst}
+use Rattle.std.proofs.Common.{ℕ, List, None, OnOk, refl, sym, subst}
 use Rattle.bsc_network.specs.declared.parcel.Content.{Content}
-use Rattle.bsc_network.specs.Changes.{Change, unchanged}
 use Rattle.bsc_network.specs.HubSides.{leaves, receives, unless_over}
 use Rattle.bsc_network.specs.Arriving.{reaches_side}
 use Rattle.bsc_world.specs.Becoming.{Became, Becomes}

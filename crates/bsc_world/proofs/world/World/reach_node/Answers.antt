@@ -1,4 +1,4 @@
-use Rattle.std.proofs.Common.{◌≡◌, Option, Some, None, IfSome, sym, ◌∙◌, subst}
+use Rattle.std.proofs.Common.{IfSome, sym, ◌∙◌, subst}
 use Rattle.bsc_script.proofs.Answered.{on_ok}
 use Rattle.bsc_world.specs.Coming.{MayBring}
 use Rattle.bsc_world.proofs.Arrivals.{reach_event, reach_nothing}

@@ -1,7 +1,5 @@
-use Rattle.std.proofs.Common.{IfSome, Option, Some, None, subst}
+use Rattle.std.proofs.Common.{IfSome, subst}
 use Rattle.bsc_script.proofs.Answered.{on_ok}
-use Rattle.bsc_accept.specs.declared.step.Step.{Step}
-use Rattle.bsc_node.specs.declared.link_name.LinkName.{LinkName}
 use Rattle.bsc_world.proofs.SideHears.{Listens, heard_stands, receives_goes, receives_nothing}
 use Rattle.bsc_world.specs.Becoming.{HasSide}
 use Rattle.bsc_world.specs.SideCalls.{IsFor, IsReadyFor}

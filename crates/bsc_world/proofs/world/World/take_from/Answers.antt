@@ -1,4 +1,4 @@
-use Rattle.std.proofs.Common.{◌≡◌, slice_get, Some, refl, sym, ◌∙◌}
+use Rattle.std.proofs.Common.{refl}
 use Rattle.bsc_world.proofs.OneHub.{read_there}
 use Rattle.bsc_world.proofs.TakeCalls.{hub_there, leads_there, may_take_from, side_connected, taken_nowhere, was_taken}
 use Rattle.bsc_world.proofs.world.World.take_from.Goals as goal

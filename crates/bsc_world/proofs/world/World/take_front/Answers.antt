@@ -1,4 +1,4 @@
-use Rattle.std.proofs.Common.{◌≡◌, ◌<◌, ◌≤◌, length, refl, arith, subst, ◌∙◌}
+use Rattle.std.proofs.Common.{◌<◌, ◌≤◌, length, refl, arith, subst, ◌∙◌}
 use Rattle.bsc_world.proofs.Arrivals.{if_some, lost_here, not_both}
 use Rattle.bsc_world.proofs.LinkWays.{front_taken}
 use Rattle.bsc_world.proofs.Lookups.{beyond, got_read, nothing_found}

@@ -1,13 +1,11 @@
-use Rattle.std.proofs.Common.{◌≡◌, ◌≤◌, ◌<◌, length, slice_get, Some, None, refl, sym, ◌∙◌, subst, arith}
+use Rattle.std.proofs.Common.{◌≤◌, ◌<◌, length, None, refl, sym, subst, arith}
 use Rattle.std.proofs.lemmas.Option.{slice_get_read}
 use Rattle.bsc_script.proofs.Answered.{on_ok}
 use Rattle.bsc_accept.specs.declared.event.Event.TheVariants.{Ended}
-use Rattle.bsc_world.specs.declared.kept_link.KeptLink.{KeptLink}
 use Rattle.bsc_network.specs.HubSides.{tells, unless_over}
 use Rattle.bsc_world.specs.Sides.{IsReadyBy}
 use Rattle.bsc_world.specs.SideCalls.{Hears, Tells}
 use Rattle.bsc_world.proofs.Goings.{became_as, became_same}
-use Rattle.bsc_world.proofs.LeaveCalls.{OnLink}
 use Rattle.bsc_world.proofs.SideCalls.{alone_session, busy_stands, ended_goes, ended_ready, past_session, same_after, tells_goes, told_side, told_stands, unless_none}
 use Rattle.bsc_world.proofs.world.World.tell_ended.Goals as goal
 
