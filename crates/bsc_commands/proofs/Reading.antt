@@ -1,5 +1,5 @@
 -- What words ask for, and how what is asked for ends.
-use Rattle.std.proofs.Common.{◌≡◌, ℕ, ◌≤◌, Bool, true, false, nat_le, ◌&&◌, List, [], ◌∷◌, Option, Some, None, option_map, codes, refl, ap, subst, sym, ◌∙◌, append-nil, arith}
+use Rattle.std.proofs.Common.{◌≡◌, ℕ, ◌≤◌, Bool, true, false, nat_le, ◌&&◌, List, [], ◌∷◌, Option, Some, None, option_map, codes, inr, refl, ap, subst, sym, ◌∙◌, append-nil, arith}
 use Rattle.std.proofs.lemmas.Bool.{and_parts, leb-true}
 use Rattle.std.specs.Prelude.{⊤, if◌then◌else◌}
 use Rattle.clap.specs.Words.{Kinds, Text, fault_of}
@@ -14,9 +14,11 @@ use Rattle.bsc_player.specs.LastLines.{RanOut}
 use Rattle.bsc_player.specs.Statuses.{StatusTells}
 use Rattle.bsc_player.specs.Ends.{lines_read}
 use Rattle.bsc_player.proofs.Ran.{tells}
-use Rattle.bsc_words.specs.Commands.{replay_app, check_app, hub_app, node_app, load_app}
-use Rattle.bsc_words.specs.Words.{AskedOf, replay, check, hub, node, load, value_of, up_to, sessions_of, hub_of, node_of, load_of, unless}
-use Rattle.bsc_words.specs.Words.{replay_asked, check_asked, hub_asked, node_asked, load_asked, run_of, asked_by}
+use Rattle.bsc_audit.specs.declared.audit_end.AuditEnd.TheVariants as audit_end
+use Rattle.bsc_audit_command.specs.Audits.{RunsAudit}
+use Rattle.bsc_words.specs.Commands.{replay_app, check_app, audit_app, hub_app, node_app, load_app}
+use Rattle.bsc_words.specs.Words.{AskedOf, replay, check, audit, hub, node, load, value_of, up_to, sessions_of, hub_of, node_of, load_of, unless}
+use Rattle.bsc_words.specs.Words.{replay_asked, check_asked, audit_asked, hub_asked, node_asked, load_asked, run_of, asked_by}
 
 -- words that ask for something don't ask for nothing
 pub asks : (read : Option AskedOf) (a : AskedOf) → read ≡ Some a → read ≡ None → ⊥
@@ -100,9 +102,11 @@ fits_asked [] = tt
 fits_asked (name ∷ words) =
     fits_chosen (same_octets name (codes "replay")) (replay_asked (name ∷ words)) _
     (fits_unless (fault_of replay_app (name ∷ words)) (Some replay) tt)
-    (fits_chosen (same_octets name (codes "check")) (check_asked (name ∷ words)) (run_of name (name ∷ words))
+    (fits_chosen (same_octets name (codes "check")) (check_asked (name ∷ words)) _
     (fits_unless (fault_of check_app (name ∷ words)) (Some check) tt)
-    (fits_run name (name ∷ words)))
+    (fits_chosen (same_octets name (codes "audit")) (audit_asked (name ∷ words)) (run_of name (name ∷ words))
+    (fits_unless (fault_of audit_app (name ∷ words)) (Some audit) tt)
+    (fits_run name (name ∷ words))))
 
 pub workers_fit : (words : List Text) (a : AskedOf) (n : ℕ) → asked_by words ≡ Some a → a ≡ load n → (1 ≤ n) × (n ≤ 512)
 workers_fit words a n is named = subst Fits (is ∙ ap Some named) (fits_asked words)
@@ -118,3 +122,7 @@ module _ (p : List ℕ → Played) (s : ℕ) (o t : List ℕ) (left before after
       tells p s o t left before after f f' play_end.NoMemory (λ h. cc)
       (record { taken = record { read = []; rest = o; parts = refl; remains = is }; written = nothing before t (p (lines_read [] o)).text held })
       ran
+
+-- and before the journals were
+pub unaudited : (s : ℕ) (o : List ℕ) (left before after : Option (List ℕ)) → RanOut s before after → RunsAudit o left s before after
+unaudited s o left before after ran = record { end = audit_end.NoMemory; answers = tt; legal = λ n audited. inr (inr refl); says = ran }

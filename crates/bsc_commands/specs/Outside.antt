@@ -1,7 +1,7 @@
 -- What the program is handed beside its words and its output, and what a command leaves of it as it was.
 use Rattle.std.specs.Prelude.{◌≡◌, Option, Some, None}
 use Rattle.bsc_hub.specs.declared.kept.Kept.{Kept}
-use Rattle.bsc_words.specs.Words.{AskedOf, check, hub, load, node, replay}
+use Rattle.bsc_words.specs.Words.{AskedOf, audit, check, hub, load, node, replay}
 
 pub record Outside (S F C W A D P : Type 0) : Type 0 where
   pub source : S
@@ -19,6 +19,7 @@ module _ {S F C W A D P : Type 0} where
   TouchesOnly None x y = y ≡ x
   TouchesOnly (Some replay) x y = y ≡ record x { source = y.source }
   TouchesOnly (Some check) x y = y ≡ record x { source = y.source }
+  TouchesOnly (Some audit) x y = y ≡ record x { source = y.source }
   TouchesOnly (Some (hub path sessions)) x y =
       y ≡ record x { files = y.files; clock = y.clock; acceptor = y.acceptor; spawner = y.spawner; kept = y.kept }
   TouchesOnly (Some (node path script)) x y =

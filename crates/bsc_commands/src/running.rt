@@ -6,6 +6,7 @@ ghost use Rattle.bsc_player.specs.LastLines.{EndsWith, RanOut, words_line};
 ghost use Rattle.bsc_player.specs.Statuses.{StatusTells};
 ghost use Rattle.bsc_script.specs.Scripts.{replay_of};
 ghost use Rattle.bsc_replay.specs.Checks.{check_of};
+ghost use Rattle.bsc_audit_command.specs.Audits.{RunsAudit};
 ghost use Rattle.bsc_settings.specs.declared.hub.HubSettings.{HubSettings};
 ghost use Rattle.bsc_hub_command.specs.Served.{Runs};
 ghost use Rattle.bsc_hub_command.specs.Settled.{IsSettled, Unsettled};
@@ -16,11 +17,12 @@ ghost use Rattle.bsc_node_run.specs.Scripts.{script_of, wish_of};
 ghost use Rattle.bsc_node_run.specs.Worlds.{dialling};
 ghost use Rattle.bsc_node_runs.specs.Courses.{FinishCame};
 ghost use Rattle.bsc_words.specs.declared.fault.WordsFault.TheVariants as words_fault;
-ghost use Rattle.bsc_words.specs.Words.{asked_by, check, hub, load, node, replay, seen};
+ghost use Rattle.bsc_words.specs.Words.{asked_by, audit, check, hub, load, node, replay, seen};
 ghost use Rattle.bsc_commands.specs.Outside.{TouchesOnly};
 ghost use Rattle.bsc_commands.specs.Statuses.{EndsBy};
 
 use crate::playing::{Command, play};
+use bsc_audit_command::run_audit;
 use bsc_edge::{Acceptor, Clock, Dialer, Files, Link, Spawner};
 use bsc_hub::Kept;
 use bsc_hub_command::{HubWords, run_hub};
@@ -49,7 +51,7 @@ fn end_unasked<K: Sink>(sink: &mut K, fault: WordsFault) -> u8
     }
 }
 
-/// Does what is asked for: serves a hub, runs a node or a workload, or plays the source.
+/// Does what is asked for: serves a hub, runs a node or a workload, or plays or audits the source.
 fn run_asked<
     R: Threads + Wait + Sync,
     S: Source,
@@ -141,7 +143,9 @@ fn run_asked<
     ensures checked { (o t : List ℕ) → seen asked.entry ≡ check → S.left source.old ≡ Some o → K.held sink.old ≡ Some t →
         StatusTells check_of result o t (S.left source.new) (K.held sink.new)
         (S.faults source.old) (S.faults source.new) }
-    ensures source { (seen asked.entry ≡ replay) ⊎ (seen asked.entry ≡ check) → result ≡ 3 →
+    ensures audited { (o : List ℕ) → seen asked.entry ≡ audit → S.left source.old ≡ Some o →
+        RunsAudit o (S.left source.new) result (K.held sink.old) (K.held sink.new) }
+    ensures source { (seen asked.entry ≡ replay) ⊎ (seen asked.entry ≡ check) ⊎ (seen asked.entry ≡ audit) → result ≡ 3 →
         HasRisen (S.faults source.old) (S.faults source.new) }
     ensures untouched { TouchesOnly (Some (seen asked.entry))
         (record {
@@ -172,6 +176,7 @@ fn run_asked<
     match asked {
         Asked::Replay => play(alloc, Command::Replay, source, sink),
         Asked::Check => play(alloc, Command::Check, source, sink),
+        Asked::Audit => run_audit(alloc, source, sink),
         Asked::Hub { path, sessions } => run_hub(
             rt,
             alloc,
@@ -198,11 +203,12 @@ fn run_asked<
 }
 
 /// Runs the program on its words, the program's own name not among them, and answers its status: serves a hub, runs a
-/// node or a workload, or plays the source.
+/// node or a workload, or plays or audits the source.
 ///
 /// | status | cause | last line written |
 /// |---|---|---|
 /// | 0 | the input was read to its end and its text was written; the sessions of the hub, the node, or all workers have ended | none of its own |
+/// | 0 | the journals tell a legal history of n entries | `legal n` |
 /// | 1 | the words are no command | `fault words` |
 /// | 2 | line n of the input, or of the node's script, is refused | `fault script line n` |
 /// | 3 | a read of the source, of the settings or of the node's script failed | `fault read` |
@@ -212,6 +218,7 @@ fn run_asked<
 /// | 7 | memory ran out | `fault memory`, tried once |
 /// | 8 | the node made as many turns as its settings allow | `fault turns` |
 /// | 9 | workers of a workload were cut short | `fault load` |
+/// | 10 | the journals tell no legal history of one hub: there are n hub lines; place p stands twice, or is missing; the entry at p isn't legal | `hubs n`, `twice p`, `missing p`, `illegal p` |
 pub fn run<
     R: Threads + Wait + Sync,
     S: Source,
@@ -316,6 +323,10 @@ pub fn run<
         S.left source.old ≡ Some o → K.held sink.old ≡ Some t → StatusTells check_of result o t (S.left source.new) (K.held sink.new)
         (S.faults source.old) (S.faults source.new) }
 
+    // Of the words of an audit, what it answered of the source's octets, and what was written of that.
+    ensures audited { (o : List ℕ) → asked_by (map string_bytes words.now) ≡ Some audit → S.left source.old ≡ Some o →
+        RunsAudit o (S.left source.new) result (K.held sink.old) (K.held sink.new) }
+
     // Where the words ask for nothing, the last line that is written is that of the words, or there was no memory to read them.
     ensures other_words { asked_by (map string_bytes words.now) ≡ None →
         EndsWith result 1 (K.held sink.old) (K.held sink.new) words_line ⊎ RanOut result (K.held sink.old) (K.held sink.new) }
@@ -345,8 +356,10 @@ pub fn run<
         }) }
     ensures statuses { EndsBy (asked_by (map string_bytes words.now)) result }
 
-    // Faults of the source, the files, the sink and the acceptor are counted. Where an input is played, status 3 is the source's.
-    ensures source { (asked_by (map string_bytes words.now) ≡ Some replay) ⊎ (asked_by (map string_bytes words.now) ≡ Some check) →
+    // Faults of the source, the files, the sink and the acceptor are counted. Where an input is played or audited, status 3 is the
+    // source's.
+    ensures source { (asked_by (map string_bytes words.now) ≡ Some replay) ⊎ (asked_by (map string_bytes words.now) ≡ Some check)
+        ⊎ (asked_by (map string_bytes words.now) ≡ Some audit) →
         result ≡ 3 → HasRisen (S.faults source.old) (S.faults source.new) }
     ensures read { result ≡ 3 → HasRisen (S.faults source.old) (S.faults source.new) ⊎ HasRisen (F.faults files.old) (F.faults files.new) }
     ensures write { result ≡ 4 → HasRisen (K.faults sink.old) (K.faults sink.new) }

@@ -4,9 +4,9 @@ use Rattle.std.proofs.lemmas.Bool.{and_parts}
 use Rattle.clap.specs.Words.{App, Kinds, Row, Text, fault_of, first_of, is_simple, is_simple_and_free, matches_of}
 use Rattle.clap.specs.Faults.{is_free_app}
 use Rattle.clap.specs.Simple.{built}
-use Rattle.bsc_words.specs.Commands.{replay_app, check_app, hub_app, node_app, load_app}
-use Rattle.bsc_words.specs.Words.{AskedOf, replay, check, hub_of, node_of, load_of, unless}
-use Rattle.bsc_words.specs.Words.{replay_asked, check_asked, hub_asked, node_asked, load_asked}
+use Rattle.bsc_words.specs.Commands.{replay_app, check_app, audit_app, hub_app, node_app, load_app}
+use Rattle.bsc_words.specs.Words.{AskedOf, replay, check, audit, hub_of, node_of, load_of, unless}
+use Rattle.bsc_words.specs.Words.{replay_asked, check_asked, audit_asked, hub_asked, node_asked, load_asked}
 
 pub simple_of : (app : App) → is_simple_and_free app ≡ true → is_simple app ≡ true
 simple_of app h = (and_parts (is_simple app) (is_free_app (built app)) h).0
@@ -73,3 +73,9 @@ module _ (app : App) (words : List Text) where
 
   pub check_fine : app ≡ check_app → fault_of app words ≡ [] → check_asked words ≡ Some check
   check_fine is fine = asked_if_fine _ _ (sym (ap (λ a. fault_of a words) is) ∙ fine)
+
+  pub audit_faulty : app ≡ audit_app → fault_of app words ≢ [] → audit_asked words ≡ None
+  audit_faulty is faulty = none_if_faulty _ _ (other_fault audit_app is faulty)
+
+  pub audit_fine : app ≡ audit_app → fault_of app words ≡ [] → audit_asked words ≡ Some audit
+  audit_fine is fine = asked_if_fine _ _ (sym (ap (λ a. fault_of a words) is) ∙ fine)

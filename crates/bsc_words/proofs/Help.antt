@@ -4,7 +4,7 @@ use Rattle.std.specs.Prelude.{if◌then◌else◌}
 use Rattle.clap.specs.Words.{Text}
 use Rattle.clap.proofs.OnLiterals.{clap_on_literals}
 use Rattle.bsc_text.specs.Lines.{same_octets}
-use Rattle.bsc_words.specs.Words.{AskedOf, replay, check, replay_asked, check_asked, hub_asked, node_asked, load_asked, asked_by}
+use Rattle.bsc_words.specs.Words.{AskedOf, replay, check, audit, replay_asked, check_asked, audit_asked, hub_asked, node_asked, load_asked, asked_by}
 
 -- a choice of nothings is nothing
 no_choice : (b : Bool) (x y : Option AskedOf) → x ≡ None → y ≡ None → (if b then x else y) ≡ None
@@ -13,13 +13,14 @@ no_choice false x y p q = q
 
 -- nothing is asked for, whatever the first word is, where each command asks for nothing
 none_asked : (name : Text) (words : List Text) → replay_asked (name ∷ words) ≡ None
-    → check_asked (name ∷ words) ≡ None → hub_asked (name ∷ words) ≡ None → node_asked (name ∷ words) ≡ None
-    → load_asked (name ∷ words) ≡ None → asked_by (name ∷ words) ≡ None
-none_asked name words r c h n l =
+    → check_asked (name ∷ words) ≡ None → audit_asked (name ∷ words) ≡ None → hub_asked (name ∷ words) ≡ None
+    → node_asked (name ∷ words) ≡ None → load_asked (name ∷ words) ≡ None → asked_by (name ∷ words) ≡ None
+none_asked name words r c a h n l =
     no_choice (same_octets name (codes "replay")) _ _ r
     (no_choice (same_octets name (codes "check")) _ _ c
+    (no_choice (same_octets name (codes "audit")) _ _ a
     (no_choice (same_octets name (codes "hub")) _ _ h
-    (no_choice (same_octets name (codes "node")) _ _ n (no_choice (same_octets name (codes "load")) _ _ l refl))))
+    (no_choice (same_octets name (codes "node")) _ _ n (no_choice (same_octets name (codes "load")) _ _ l refl)))))
 
 long_replay : (name : Text) (words : List Text) → replay_asked (name ∷ codes "--help" ∷ words) ≡ None
 unfolding clap_on_literals
@@ -28,6 +29,10 @@ long_replay name words = refl
 long_check : (name : Text) (words : List Text) → check_asked (name ∷ codes "--help" ∷ words) ≡ None
 unfolding clap_on_literals
 long_check name words = refl
+
+long_audit : (name : Text) (words : List Text) → audit_asked (name ∷ codes "--help" ∷ words) ≡ None
+unfolding clap_on_literals
+long_audit name words = refl
 
 long_hub : (name : Text) (words : List Text) → hub_asked (name ∷ codes "--help" ∷ words) ≡ None
 unfolding clap_on_literals
@@ -49,6 +54,10 @@ short_check : (name : Text) (words : List Text) → check_asked (name ∷ codes 
 unfolding clap_on_literals
 short_check name words = refl
 
+short_audit : (name : Text) (words : List Text) → audit_asked (name ∷ codes "-h" ∷ words) ≡ None
+unfolding clap_on_literals
+short_audit name words = refl
+
 short_hub : (name : Text) (words : List Text) → hub_asked (name ∷ codes "-h" ∷ words) ≡ None
 unfolding clap_on_literals
 short_hub name words = refl
@@ -63,10 +72,10 @@ short_load name words = refl
 
 pub long_help : (name : Text) (words : List Text) → asked_by (name ∷ codes "--help" ∷ words) ≡ None
 long_help name words =
-    none_asked name (codes "--help" ∷ words) (long_replay name words) (long_check name words) (long_hub name words) (long_node name words)
-    (long_load name words)
+    none_asked name (codes "--help" ∷ words) (long_replay name words) (long_check name words) (long_audit name words)
+    (long_hub name words) (long_node name words) (long_load name words)
 
 pub short_help : (name : Text) (words : List Text) → asked_by (name ∷ codes "-h" ∷ words) ≡ None
 short_help name words =
-    none_asked name (codes "-h" ∷ words) (short_replay name words) (short_check name words) (short_hub name words) (short_node name words)
-    (short_load name words)
+    none_asked name (codes "-h" ∷ words) (short_replay name words) (short_check name words) (short_audit name words)
+    (short_hub name words) (short_node name words) (short_load name words)

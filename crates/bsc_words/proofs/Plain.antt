@@ -5,9 +5,9 @@ use Rattle.clap.specs.Walk.{Held, Walk, arg_by_id, arg_by_index, nothing_held, o
 use Rattle.clap.specs.Faults.{step_fault, turn_fault}
 use Rattle.clap.specs.declared.error.kind.ErrorKind.TheVariants.{UnknownArgument}
 use Rattle.clap.proofs.OnLiterals.{clap_on_literals}
-use Rattle.bsc_words.specs.Commands.{replay_app, check_app, hub_app, node_app, load_app}
-use Rattle.bsc_words.specs.Words.{AskedOf, replay, check, hub, node, load, sessions_of, workers_of, hub_of, node_of, load_of}
-use Rattle.bsc_words.specs.Words.{replay_asked, check_asked, hub_asked, node_asked, load_asked}
+use Rattle.bsc_words.specs.Commands.{replay_app, check_app, audit_app, hub_app, node_app, load_app}
+use Rattle.bsc_words.specs.Words.{AskedOf, replay, check, audit, hub, node, load, sessions_of, workers_of, hub_of, node_of, load_of}
+use Rattle.bsc_words.specs.Words.{replay_asked, check_asked, audit_asked, hub_asked, node_asked, load_asked}
 use Rattle.bsc_words.specs.Listed.{has_hyphen}
 use Rattle.bsc_words.proofs.Steps.{at, awaiting, asked_from, walks_on, stops, plain_walked, plain_turn, value_walked, value_turn}
 
@@ -15,7 +15,7 @@ use Rattle.bsc_words.proofs.Steps.{at, awaiting, asked_from, walks_on, stops, pl
 abbrev pending : List Row → Text → Text → Held
 pending rows id word = record { rows = rows; pending = Some (id, word ∷ []); skip = 0 }
 
--- ---- `replay` and `check` take no word
+-- ---- `replay`, `check` and `audit` take no word
 
 abbrev replay_shape : Shape
 replay_shape = (built replay_app).top
@@ -52,6 +52,24 @@ pub check_more : (name word : Text) (words : List Text) → has_hyphen word ≡ 
 check_more name word words h =
     check_from name (word ∷ words)
     ∙ stops check_shape (λ rows. Some check) (at nothing_held 1) word words UnknownArgument [] (plain_turn check_shape nothing_held 1 word h ∙ check_stray)
+
+abbrev audit_shape : Shape
+audit_shape = (built audit_app).top
+
+audit_from : (name : Text) (words : List Text) → audit_asked (name ∷ words) ≡ asked_from audit_shape (λ rows. Some audit) (at nothing_held 1) words
+audit_from name words = refl
+
+pub audit_alone : (name : Text) → audit_asked (name ∷ []) ≡ Some audit
+unfolding clap_on_literals
+audit_alone name = refl
+
+audit_stray : step_fault audit_shape 1 nothing_held value ≡ UnknownArgument ∷ []
+audit_stray = refl
+
+pub audit_more : (name word : Text) (words : List Text) → has_hyphen word ≡ false → audit_asked (name ∷ word ∷ words) ≡ None
+audit_more name word words h =
+    audit_from name (word ∷ words)
+    ∙ stops audit_shape (λ rows. Some audit) (at nothing_held 1) word words UnknownArgument [] (plain_turn audit_shape nothing_held 1 word h ∙ audit_stray)
 
 -- ---- `load` takes one word
 

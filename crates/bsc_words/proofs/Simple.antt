@@ -2,7 +2,7 @@
 use Rattle.std.proofs.Common.{◌≡◌, true, refl}
 use Rattle.clap.proofs.OnLiterals.{clap_on_literals}
 use Rattle.clap.specs.Words.{is_simple_and_free}
-use Rattle.bsc_words.specs.Commands.{replay_app, check_app, hub_app, node_app, load_app}
+use Rattle.bsc_words.specs.Commands.{replay_app, check_app, audit_app, hub_app, node_app, load_app}
 
 pub replay-simple : is_simple_and_free replay_app ≡ true
 unfolding clap_on_literals
@@ -11,6 +11,10 @@ replay-simple = refl
 pub check-simple : is_simple_and_free check_app ≡ true
 unfolding clap_on_literals
 check-simple = refl
+
+pub audit-simple : is_simple_and_free audit_app ≡ true
+unfolding clap_on_literals
+audit-simple = refl
 
 pub hub-simple : is_simple_and_free hub_app ≡ true
 unfolding clap_on_literals

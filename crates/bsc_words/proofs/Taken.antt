@@ -8,10 +8,10 @@ use Rattle.std.specs.Cmp.Lexicographic.{bytes_decides}
 use Rattle.clap.specs.Words.{Text}
 use Rattle.bsc_text.specs.Grammar.{is_digit, has_leading_zero, decimal_value, number_of}
 use Rattle.bsc_text.specs.Lines.{same_octets}
-use Rattle.bsc_words.specs.Words.{AskedOf, replay, check, hub, node, load, up_to, sessions_of, workers_of}
-use Rattle.bsc_words.specs.Words.{replay_asked, check_asked, hub_asked, node_asked, load_asked, asked_by}
+use Rattle.bsc_words.specs.Words.{AskedOf, replay, check, audit, hub, node, load, up_to, sessions_of, workers_of}
+use Rattle.bsc_words.specs.Words.{replay_asked, check_asked, audit_asked, hub_asked, node_asked, load_asked, asked_by}
 use Rattle.bsc_words.specs.Listed.{has_hyphen, have_no_hyphen, has_plain_paths, listed, listed_alone, listed_hub, listed_node, listed_load}
-use Rattle.bsc_words.proofs.Plain.{replay_alone, replay_more, check_alone, check_more, hub_none, hub_one, hub_more, hub_served}
+use Rattle.bsc_words.proofs.Plain.{replay_alone, replay_more, check_alone, check_more, audit_alone, audit_more, hub_none, hub_one, hub_more, hub_served}
 use Rattle.bsc_words.proofs.Plain.{node_none, node_one, node_two, node_more, load_none, load_one, load_more}
 
 -- two choices by one test
@@ -34,6 +34,10 @@ replay_plain name (word ∷ words) h = replay_more name word words (first_plain 
 check_plain : (name : Text) (words : List Text) → have_no_hyphen words ≡ true → check_asked (name ∷ words) ≡ listed_alone check words
 check_plain name [] h = check_alone name
 check_plain name (word ∷ words) h = check_more name word words (first_plain word words h)
+
+audit_plain : (name : Text) (words : List Text) → have_no_hyphen words ≡ true → audit_asked (name ∷ words) ≡ listed_alone audit words
+audit_plain name [] h = audit_alone name
+audit_plain name (word ∷ words) h = audit_more name word words (first_plain word words h)
 
 no_option : (word : Text) → has_hyphen word ≡ false → same_octets word (codes "--sessions") ≡ false
 no_option [] h = refl
@@ -71,9 +75,10 @@ pub plain_listed : (name : Text) (words : List Text) → have_no_hyphen words �
 plain_listed name words h =
     chosen (same_octets name (codes "replay")) _ _ _ _ (replay_plain name words h)
     (chosen (same_octets name (codes "check")) _ _ _ _ (check_plain name words h)
+    (chosen (same_octets name (codes "audit")) _ _ _ _ (audit_plain name words h)
     (chosen (same_octets name (codes "hub")) _ _ _ _ (hub_plain name words h)
     (chosen (same_octets name (codes "node")) _ _ _ _ (node_plain name words h)
-    (chosen (same_octets name (codes "load")) _ _ _ _ (load_plain name words h) refl))))
+    (chosen (same_octets name (codes "load")) _ _ _ _ (load_plain name words h) refl)))))
 
 -- ---- lists of a command and all that it takes
 
@@ -121,6 +126,10 @@ check_good : (name : Text) (words : List Text) → is_some (listed_alone check w
 check_good name [] s = check_alone name
 check_good name (word ∷ words) s = absurd (true≢false (sym s))
 
+audit_good : (name : Text) (words : List Text) → is_some (listed_alone audit words) ≡ true → audit_asked (name ∷ words) ≡ listed_alone audit words
+audit_good name [] s = audit_alone name
+audit_good name (word ∷ words) s = absurd (true≢false (sym s))
+
 mapped_plain : (path : Text) (o : Option ℕ) → is_some (option_map (λ n. hub path (Some n)) o) ≡ true → plain_in (option_map (λ n. hub path (Some n)) o) ≡ true
     → has_hyphen path ≡ false
 mapped_plain path None s h = absurd (true≢false (sym s))
@@ -164,9 +173,10 @@ listed_good [] s h = refl
 listed_good (name ∷ words) s h =
     chosen_good (same_octets name (codes "replay")) (listed_alone replay words) _ _ _ (λ t i. replay_good name words t)
     (chosen_good (same_octets name (codes "check")) (listed_alone check words) _ _ _ (λ t i. check_good name words t)
+    (chosen_good (same_octets name (codes "audit")) (listed_alone audit words) _ _ _ (λ t i. audit_good name words t)
     (chosen_good (same_octets name (codes "hub")) (listed_hub words) _ _ _ (hub_good name words)
     (chosen_good (same_octets name (codes "node")) (listed_node words) _ _ _ (node_good name words)
-    (chosen_good (same_octets name (codes "load")) (listed_load words) _ _ _ (λ t i. load_good name words t) (λ t i. refl))))) s h
+    (chosen_good (same_octets name (codes "load")) (listed_load words) _ _ _ (λ t i. load_good name words t) (λ t i. refl)))))) s h
 
 pub listed_taken : (words : List Text) (asked : AskedOf) → listed words ≡ Some asked → has_plain_paths asked ≡ true → asked_by words ≡ Some asked
 listed_taken words asked is plain = listed_good words (ap (λ o. is_some o) is) (ap plain_in is ∙ plain) ∙ is

@@ -1,9 +1,9 @@
 -- Words, worked by hand.
 use Rattle.std.proofs.Common.{◌≡◌, codes, [], ◌∷◌, Some, None, refl}
 use Rattle.clap.proofs.OnLiterals.{clap_on_literals}
-use Rattle.bsc_words.specs.Words.{replay, check, hub, node, load, asked_by}
+use Rattle.bsc_words.specs.Words.{replay, check, audit, hub, node, load, asked_by}
 
--- a script, and lines
+-- a script, lines, and journals
 replays : asked_by (codes "replay" ∷ []) ≡ Some replay
 unfolding clap_on_literals
 replays = refl
@@ -19,6 +19,14 @@ replays_to_the_end = refl
 checks : asked_by (codes "check" ∷ []) ≡ Some check
 unfolding clap_on_literals
 checks = refl
+
+audits : asked_by (codes "audit" ∷ []) ≡ Some audit
+unfolding clap_on_literals
+audits = refl
+
+audits_a_file : asked_by (codes "audit" ∷ codes "a" ∷ []) ≡ None
+unfolding clap_on_literals
+audits_a_file = refl
 
 -- a hub, in each order of its words
 serves : asked_by (codes "hub" ∷ codes "a" ∷ []) ≡ Some (hub (codes "a") None)

@@ -1,4 +1,4 @@
--- The commands as arguments of `clap`: `replay`, `check`, `hub PATH [--sessions N]`, `node PATH SCRIPT`, `load N`.
+-- The commands as arguments of `clap`: `replay`, `check`, `audit`, `hub PATH [--sessions N]`, `node PATH SCRIPT`, `load N`.
 use Rattle.std.specs.Prelude.{true, codes, Some}
 use Rattle.clap.specs.Words.{App, Rule, Text, new_app, new_rule, with_rule}
 
@@ -15,6 +15,9 @@ replay_app = new_app (codes "replay")
 
 abbrev pub check_app : App
 check_app = new_app (codes "check")
+
+abbrev pub audit_app : App
+audit_app = new_app (codes "audit")
 
 abbrev pub hub_app : App
 hub_app = with_rule (with_rule (new_app (codes "hub")) (required (codes "path"))) (option (codes "sessions"))

@@ -2,7 +2,7 @@
 use Rattle.std.specs.Prelude.{ℕ, ◌==◌, Bool, true, false, not, ◌&&◌, if◌then◌else◌, List, [], ◌∷◌, codes, Option, Some, None, option_map}
 use Rattle.clap.specs.Words.{Text}
 use Rattle.bsc_text.specs.Lines.{same_octets}
-use Rattle.bsc_words.specs.Words.{AskedOf, replay, check, hub, node, load, sessions_of, workers_of}
+use Rattle.bsc_words.specs.Words.{AskedOf, replay, check, audit, hub, node, load, sessions_of, workers_of}
 
 -- whether a word begins with a hyphen
 abbrev pub has_hyphen : Text → Bool
@@ -40,12 +40,13 @@ abbrev pub listed_of : Text → List Text → Option AskedOf
 listed_of name words =
     if same_octets name (codes "replay") then listed_alone replay words
     else if same_octets name (codes "check") then listed_alone check words
+    else if same_octets name (codes "audit") then listed_alone audit words
     else if same_octets name (codes "hub") then listed_hub words
     else if same_octets name (codes "node") then listed_node words
     else if same_octets name (codes "load") then listed_load words
     else None
 
--- What exactly the lists `replay`, `check`, `hub PATH`, `hub PATH --sessions N`, `node PATH SCRIPT` and `load N` ask for.
+-- What exactly the lists `replay`, `check`, `audit`, `hub PATH`, `hub PATH --sessions N`, `node PATH SCRIPT` and `load N` ask for.
 abbrev pub listed : List Text → Option AskedOf
 listed [] = None
 listed (name ∷ words) = listed_of name words

@@ -3,16 +3,17 @@ use Rattle.std.specs.Prelude.{ℕ, nat_le, ◌&&◌, if◌then◌else◌, List, 
 use Rattle.clap.specs.Words.{App, Kinds, Text, fault_of, first_of, matches_of}
 use Rattle.bsc_text.specs.Grammar.{number_of}
 use Rattle.bsc_text.specs.Lines.{same_octets}
-use Rattle.bsc_words.specs.Commands.{replay_app, check_app, hub_app, node_app, load_app}
+use Rattle.bsc_words.specs.Commands.{replay_app, check_app, audit_app, hub_app, node_app, load_app}
 use Rattle.bsc_words.specs.declared.asked.Asked.{Asked}
-use Rattle.bsc_words.specs.declared.asked.Asked.TheVariants.{Replay, Check, Hub, Node, Load}
+use Rattle.bsc_words.specs.declared.asked.Asked.TheVariants.{Replay, Check, Audit, Hub, Node, Load}
 
--- What words may ask for: a script is played; lines are checked; a hub is served by the settings at a path, until so many
--- links have ended or for ever; a node is run by the settings at a path and the script at another; or a workload is run by
--- so many workers.
+-- What words may ask for: a script is played; lines are checked; journals are audited; a hub is served by the settings at a
+-- path, until so many links have ended or for ever; a node is run by the settings at a path and the script at another; or a
+-- workload is run by so many workers.
 pub data AskedOf : Type 0 where
   replay : AskedOf
   check : AskedOf
+  audit : AskedOf
   hub : Text → Option ℕ → AskedOf
   node : Text → Text → AskedOf
   load : ℕ → AskedOf
@@ -63,6 +64,9 @@ replay_asked words = unless (fault_of replay_app words) (Some replay)
 abbrev pub check_asked : List Text → Option AskedOf
 check_asked words = unless (fault_of check_app words) (Some check)
 
+abbrev pub audit_asked : List Text → Option AskedOf
+audit_asked words = unless (fault_of audit_app words) (Some audit)
+
 abbrev pub hub_asked : List Text → Option AskedOf
 hub_asked words =
     unless (fault_of hub_app words) (hub_of (value_of hub_app words (codes "path")) (value_of hub_app words (codes "sessions")))
@@ -87,6 +91,7 @@ abbrev pub asked_of : Text → List Text → Option AskedOf
 asked_of name words =
     if same_octets name (codes "replay") then replay_asked words
     else if same_octets name (codes "check") then check_asked words
+    else if same_octets name (codes "audit") then audit_asked words
     else run_of name words
 
 -- What words ask for: the first names a command, and `clap` takes all of them as that command and its arguments. They ask
@@ -99,6 +104,7 @@ asked_by (name ∷ words) = asked_of name (name ∷ words)
 abbrev pub seen : Asked → AskedOf
 seen Replay = replay
 seen Check = check
+seen Audit = audit
 seen (Hub path sessions) = hub path.now sessions
 seen (Node path script) = node path.now script.now
 seen (Load workers) = load workers

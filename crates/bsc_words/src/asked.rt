@@ -7,6 +7,8 @@ pub enum Asked<'a> {
     Replay,
     /// `check`: answers lines with the verdicts on messages.
     Check,
+    /// `audit`: says whether journals tell one legal history of one hub.
+    Audit,
     /// `hub PATH`, `hub PATH --sessions N`: serves a hub.
     Hub {
         /// Where the settings are.

@@ -3,7 +3,7 @@ ghost use Rattle.std.specs.Prelude.{◌≡◌, ◌≢◌, [], Some, None, Err, t
 ghost use Rattle.clap.specs.Words.{app_of, fault_of, first_of, found_of, is_simple_and_free, matches_of, rows_of};
 ghost use Rattle.bsc_words.specs.declared.fault.WordsFault.TheVariants as words_fault;
 ghost use Rattle.bsc_words.specs.Words.{sessions_of, workers_of, hub_of, node_of, load_of, run_of, asked_by, seen};
-ghost use Rattle.bsc_words.specs.Words.{replay_asked, check_asked, hub_asked, node_asked, load_asked};
+ghost use Rattle.bsc_words.specs.Words.{replay_asked, check_asked, audit_asked, hub_asked, node_asked, load_asked};
 
 use crate::arguments::{hub_arguments, load_arguments, no_arguments, node_arguments};
 use crate::asked::Asked;
@@ -118,6 +118,15 @@ fn read_check<'a>(alloc: Global, words: &'a [String]) -> Result<Asked<'a>, Words
     Ok(Asked::Check)
 }
 
+/// The command `audit`, if that is what the words say.
+fn read_audit<'a>(alloc: Global, words: &'a [String]) -> Result<Asked<'a>, WordsFault>
+    ensures ok { IfOk result (λ a. audit_asked (map string_bytes words.entry.now) ≡ Some (seen a)) }
+    ensures refused { result ≡ Err words_fault.Refused → audit_asked (map string_bytes words.entry.now) ≡ None }
+{
+    parse(no_arguments(alloc, "audit"), words)?;
+    Ok(Asked::Audit)
+}
+
 /// The command `hub`, if that is what the words say.
 fn read_hub<'a>(alloc: Global, words: &'a [String]) -> Result<Asked<'a>, WordsFault>
     ensures ok { IfOk result (λ a. hub_asked (map string_bytes words.entry.now) ≡ Some (seen a)) }
@@ -173,9 +182,9 @@ fn read_run<'a>(alloc: Global, name: &[u8], words: &'a [String]) -> Result<Asked
 
 /// What the words of the program ask for, the program's own name not among them.
 ///
-/// The first word is `replay`, `check`, `hub`, `node` or `load`, and the words after it are read by `clap` as the arguments
-/// of that command: `hub` takes a path, and `--sessions` with a number from 1 to 1,000,000; `node` a path and the path of a
-/// script; `load` a number from 1 to 512; the other two take none. A call for help is refused.
+/// The first word is `replay`, `check`, `audit`, `hub`, `node` or `load`, and the words after it are read by `clap` as the
+/// arguments of that command: `hub` takes a path, and `--sessions` with a number from 1 to 1,000,000; `node` a path and the
+/// path of a script; `load` a number from 1 to 512; the others take none. A call for help is refused.
 ///
 /// | error | when it comes |
 /// |---|---|
@@ -197,6 +206,9 @@ pub fn read_words<'a>(alloc: Global, words: &'a [String]) -> Result<Asked<'a>, W
     }
     if name == b"check".as_slice() {
         return read_check(alloc, words);
+    }
+    if name == b"audit".as_slice() {
+        return read_audit(alloc, words);
     }
     read_run(alloc, name, words)
 }

@@ -19,6 +19,19 @@ use std::sync::Wait;
 use std::test::*;
 use std::thread::Threads;
 
+/// A journal of two entries.
+const JOURNAL: &str = concat!(
+    "hub 0200000000FF 00112233445566778899AABBCCDDEEFF 0640 05D9 256 64 4503599627370496\n",
+    "0 1 connect 02000000000AAAAAAAAAAAAAAAAAAAAAAAAAAAAAAAAA064005D9 joined 1\n",
+    "1 1 leave 1 0 0 gone left 0\n",
+);
+
+/// The same without the first entry.
+const LACKING: &str = concat!(
+    "hub 0200000000FF 00112233445566778899AABBCCDDEEFF 0640 05D9 256 64 4503599627370496\n",
+    "1 1 leave 1 0 0 gone left 0\n",
+);
+
 const SCRIPT: &str = concat!(
     "hub 0200000000FF 00112233445566778899AABBCCDDEEFF 0640 05D9 256 64\n",
     "open A\n",
@@ -71,11 +84,13 @@ struct Case {
 
 const REPLAY: &[&str] = &["replay"];
 
+const AUDIT: &[&str] = &["audit"];
+
 const HUB: &[&str] = &["hub", "settings", "--sessions", "3"];
 
 const NODE: &[&str] = &["node", "settings", "script"];
 
-const CASES: [Case; 12] = [
+const CASES: [Case; 14] = [
     Case {
         words: REPLAY,
         settings: "",
@@ -93,6 +108,15 @@ const CASES: [Case; 12] = [
         room: 99,
         status: 0,
         text: "nak C10c 000000050A010000070096\n",
+    },
+    Case {
+        words: AUDIT,
+        settings: "",
+        script: JOURNAL,
+        failing: &[],
+        room: 99,
+        status: 0,
+        text: "legal 2\n",
     },
     Case {
         words: HUB,
@@ -183,6 +207,15 @@ const CASES: [Case; 12] = [
         room: 99,
         status: 8,
         text: "fault turns\n",
+    },
+    Case {
+        words: AUDIT,
+        settings: "",
+        script: LACKING,
+        failing: &[],
+        room: 99,
+        status: 10,
+        text: "missing 0\n",
     },
 ];
 

@@ -26,9 +26,10 @@ fn are_refused(alloc: Global, line: &str) -> Result<bool, NoMemory> {
     Ok(read_words(alloc, words.as_slice()) == Err(WordsFault::Refused))
 }
 
-const COMMANDS: [(&str, Asked<'static>); 8] = [
+const COMMANDS: [(&str, Asked<'static>); 9] = [
     ("replay", Asked::Replay),
     ("check", Asked::Check),
+    ("audit", Asked::Audit),
     (
         "hub hub.toml",
         Asked::Hub {
@@ -75,12 +76,13 @@ fn reads_commands(rt: HostRuntime) -> Result<(), NoMemory> {
     Ok(())
 }
 
-const REFUSED: [&str; 14] = [
+const REFUSED: [&str; 15] = [
     "",
     "serve",
     "--help",
     "Hub hub.toml",
     "replay replay",
+    "audit hub.journal",
     "hub",
     "hub hub.toml -h",
     "hub -hub.toml",

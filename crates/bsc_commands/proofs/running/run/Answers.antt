@@ -5,8 +5,8 @@ use Rattle.bsc_replay.specs.Checks.{check_of}
 use Rattle.bsc_words.specs.declared.asked.Asked.{Asked}
 use Rattle.bsc_words.specs.declared.fault.WordsFault.{WordsFault}
 use Rattle.bsc_words.specs.declared.fault.WordsFault.TheVariants.{Refused}
-use Rattle.bsc_words.specs.Words.{AskedOf, asked_by, check, hub, node, replay, seen}
-use Rattle.bsc_commands.proofs.Reading.{ran_out, unread, workers_fit}
+use Rattle.bsc_words.specs.Words.{AskedOf, asked_by, audit, check, hub, node, replay, seen}
+use Rattle.bsc_commands.proofs.Reading.{ran_out, unaudited, unread, workers_fit}
 use Rattle.bsc_commands.proofs.running.run.Goals as goal
 
 said : (read : Option AskedOf) (answer : Result Asked WordsFault) (a : Asked) → answer ≡ Ok a → IfOk answer (λ x. read ≡ Some (seen x)) → read ≡ Some (seen a)
@@ -48,6 +48,13 @@ returns-in-Err-clause-checked g c o t named left held =
     (g.K.Sink.held c.args.sink.now) (g.K.Sink.held c.end_unasked.new.sink) none c.end_unasked.ensures.ran_out named in
     unread check_of c.end_unasked.result o t (g.S.Source.left c.args.source.now) (g.K.Sink.held c.args.sink.now) (g.K.Sink.held c.end_unasked.new.sink)
     (g.S.Source.faults c.args.source.now) (g.S.Source.faults c.args.source.now) left held out
+
+pub returns-in-Err-clause-audited : goal.returns-in-Err-clause-audited
+returns-in-Err-clause-audited g c o named left =
+    let none = λ (e : c.in-Err.fault ≡ Refused). c.read_words.ensures.refused (c.in-Err.is ∙ ap Err e) in
+    unaudited c.end_unasked.result o (g.S.Source.left c.args.source.now) (g.K.Sink.held c.args.sink.now) (g.K.Sink.held c.end_unasked.new.sink)
+    (ran_out c.in-Err.fault (asked_by (map string_bytes c.args.words.now)) audit c.end_unasked.result
+    (g.K.Sink.held c.args.sink.now) (g.K.Sink.held c.end_unasked.new.sink) none c.end_unasked.ensures.ran_out named)
 
 pub returns-in-Err-clause-finished : goal.returns-in-Err-clause-finished
 returns-in-Err-clause-finished g c path script named is =

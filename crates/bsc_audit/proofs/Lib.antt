@@ -1,0 +1,15 @@
+pub mod Snoc
+pub mod Spots
+pub mod SoFar
+pub mod Bad
+pub mod SortedOut
+pub mod InOrder
+pub mod Within
+pub mod InTurn
+pub mod Verdict
+pub mod Stopping
+pub mod SayAgain
+pub mod Counts
+pub mod OneHistory
+pub mod Believed
+mod WorkedJournals

@@ -1,0 +1,4 @@
+pub mod Verdicts
+pub mod Hearing
+pub mod Taking
+pub mod Judging

@@ -1,0 +1,33 @@
+//! The audit.
+ghost use Rattle.std.specs.Prelude.{◌≡◌, ◌≤◌, ℕ, List, Some};
+ghost use Rattle.bsc_outside.specs.Faults.{HasRisen};
+ghost use Rattle.bsc_journal.specs.Journals.{Audited};
+ghost use Rattle.bsc_audit.specs.Verdicts.{AnswersOf, IsLegalOrNothing};
+
+use crate::audit_end::AuditEnd;
+use crate::judging::judge;
+use crate::taking::take_in;
+use bsc_outside::Source;
+use std::alloc::Global;
+
+/// Audits journals: what the lines of all callers of a hub come to, put one after another in any order.
+///
+/// It reads the source to its end, or up to the first line that is bad, and keeps what it reads: at most 2^28 octets and
+/// one, 16 octets for each entry, and less than 100 kB for the history. No line may have more than 300,000 octets.
+pub fn audit<S: Source>(alloc: Global, source: &mut S) -> AuditEnd
+    // What the answer says of the octets that the source had.
+    ensures tells { (o : List ℕ) → S.left source.old ≡ Some o → AnswersOf result o (S.left source.new) }
+
+    // Journals that may be believed are told to be legal, but for a failed read or want of memory.
+    ensures legal { (o : List ℕ) (entries : ℕ) → S.left source.old ≡ Some o → Audited o entries →
+        IsLegalOrNothing entries result }
+
+    // A read failed only where the source says so.
+    ensures fault { result ≡ AuditEnd.ReadFault → HasRisen (S.faults source.old) (S.faults source.new) }
+    ensures later { S.faults source.old ≤ S.faults source.new }
+{
+    match take_in(alloc, source) {
+        Ok(journals) => judge(alloc, journals),
+        Err(end) => end,
+    }
+}

@@ -1,0 +1,100 @@
+//! Where lines end, and which are too big.
+ghost use Rattle.std.specs.Prelude.{◌≡◌, ◌≢◌, ◌+◌, ◌≤◌, ◌<◌, ◌⊎◌, ℕ, List, [], ◌∷◌, ◌++◌, length, take, drop, slice_index, MatchOption, true, false};
+ghost use Rattle.bsc_text.specs.Lines.{BeginsLine, has_no_lf, line_in};
+ghost use Rattle.bsc_journal.specs.Good.{is_too_big};
+
+use memchr::memchr;
+
+/// The most octets that a line may have.
+const MAX_LINE_LEN: usize = 300_000;
+
+/// The most octets that all journals may have together: 2^28.
+const MAX_LEN: usize = 268_435_456;
+
+/// The octets from one place to another.
+pub(crate) fn between(octets: &[u8], from: usize, to: usize) -> &[u8]
+    requires order { from ≤ to }
+    requires within { to ≤ length octets.now }
+    ensures { result.now ≡ drop from (take to octets.now) }
+{
+    &octets[from..to]
+}
+
+/// The octets from one place on.
+pub(crate) fn after(octets: &[u8], from: usize) -> &[u8]
+    requires { from ≤ length octets.now }
+    ensures { result.now ≡ drop from octets.now }
+{
+    &octets[from..]
+}
+
+/// The octets in front of the last one, where the last one is `last`.
+fn before_last(octets: &[u8], last: u8) -> Option<&[u8]>
+    ensures { MatchOption result
+        ((front : List ℕ) → octets.now ≢ front ++ last ∷ [])
+        (λ front. octets.now ≡ front.now ++ last ∷ []) }
+{
+    octets.strip_suffix(&[last])
+}
+
+/// The line that a piece holds: the piece without its LF and the one CR before it.
+pub(crate) fn line_in(piece: &[u8]) -> &[u8]
+    ensures line { result.now ≡ line_in piece.now }
+    ensures within { length result.now ≤ length piece.now }
+{
+    match before_last(piece, b'\n') {
+        None => piece,
+        Some(front) => match before_last(front, b'\r') {
+            None => front,
+            Some(line) => line,
+        },
+    }
+}
+
+/// Whether a piece that stands after `before` octets is too big.
+pub(crate) fn is_too_big(before: usize, piece: &[u8]) -> bool
+    requires { before ≤ 268435456 }
+    ensures big { result ≡ is_too_big before piece.now }
+    ensures fits { result ≡ false → before + length piece.now ≤ 268435456 }
+{
+    line_in(piece).len() > MAX_LINE_LEN || MAX_LEN - before < piece.len()
+}
+
+/// Whether `len` octets without an LF are already too many: then each piece that begins with them is too big.
+pub(crate) fn cannot_fit(before: usize, len: usize) -> bool
+    requires { before ≤ 268435456 }
+    ensures cannot { result ≡ true → (300001 < len) ⊎ (268435456 < before + len) }
+    ensures may { result ≡ false → before + len ≤ 268435456 }
+{
+    len > MAX_LINE_LEN + 1 || MAX_LEN - before < len
+}
+
+/// How many octets more may be read behind `len`: as many as all journals may have, and one that is past them.
+pub(crate) fn room_behind(len: usize) -> usize
+    requires { len ≤ 268435456 }
+    ensures { result + len ≡ 268435457 }
+{
+    MAX_LEN + 1 - len
+}
+
+/// How many octets stand in front of the first LF; all of them, where there is none.
+fn lf_at(octets: &[u8]) -> usize
+    ensures within { result ≤ length octets.now }
+    ensures before { (k : ℕ) → k < result → slice_index octets.now k ≢ 10 }
+    ensures found { result < length octets.now → slice_index octets.now result ≡ 10 }
+{
+    match memchr(b'\n', octets) {
+        Some(n) => n,
+        None => octets.len(),
+    }
+}
+
+/// How many octets stand in front of the first LF, where there is one.
+pub(crate) fn first_lf(octets: &[u8]) -> Option<usize>
+    ensures { MatchOption result
+        (has_no_lf octets.now ≡ true)
+        (λ n. BeginsLine n octets.now) }
+{
+    let n = lf_at(octets);
+    if n < octets.len() { Some(n) } else { None }
+}

@@ -1,0 +1,5 @@
+pub mod Lines
+pub mod Saying
+pub mod Journals
+pub mod Good
+pub mod Reading

@@ -1,0 +1,109 @@
+//! Calls and their looks, put at the end of a line.
+ghost use Rattle.std.specs.Prelude.{◌≡◌, ◌++◌, flat_map, IfOk, codes};
+ghost use Rattle.hex.specs.Hex.{encode_upper};
+ghost use Rattle.bsc_octets.specs.Identities.{identity_octets};
+ghost use Rattle.bsc_history.specs.declared.call.Call.TheVariants.{Forward};
+ghost use Rattle.bsc_journal.specs.Lines.{call_text, look_text, looks_text, then_number};
+
+use crate::texts::{put_hex, put_number, put_then, put_words};
+use bsc_history::{Call, Look};
+use bsc_octets::{Identity, NoMemory};
+use std::alloc::Global;
+
+/// A look: the connection, and how many frames were found taken.
+fn put_look(text: &mut Vec<u8>, alloc: Global, look: Look) -> Result<(), NoMemory>
+    ensures { IfOk result (λ _. text.new.items ≡ text.old.items ++ look_text look) }
+{
+    put_number(text, alloc, look.conn)?;
+    put_words(text, ":")?;
+    put_number(text, alloc, look.taken)
+}
+
+/// Looks behind commas.
+fn put_more_looks(text: &mut Vec<u8>, alloc: Global, looks: &[Look]) -> Result<(), NoMemory>
+    ensures { IfOk result (λ _. text.new.items ≡ text.old.items ++ flat_map (λ l. codes "," ++ look_text l) looks.now) }
+{
+    for look in looks.iter() {
+        put_words(text, ",")?;
+        put_look(text, alloc, *look)?;
+    }
+    Ok(())
+}
+
+/// Looks with commas between.
+fn put_looks(text: &mut Vec<u8>, alloc: Global, looks: &[Look]) -> Result<(), NoMemory>
+    ensures { IfOk result (λ _. text.new.items ≡ text.old.items ++ looks_text looks.now) }
+{
+    match looks {
+        [] => put_words(text, "-"),
+        [first, more @ ..] => {
+            put_look(text, alloc, *first)?;
+            put_more_looks(text, alloc, more)
+        }
+    }
+}
+
+/// A connect.
+fn put_connect(text: &mut Vec<u8>, alloc: Global, who: &Identity) -> Result<(), NoMemory>
+    ensures { IfOk result (λ _. text.new.items ≡ text.old.items ++ (codes "connect " ++ encode_upper (identity_octets who.now))) }
+{
+    put_words(text, "connect ")?;
+    put_hex(text, alloc, &who.octets())
+}
+
+/// A forward, with its looks.
+fn put_forward(
+    text: &mut Vec<u8>,
+    alloc: Global,
+    conn: u64,
+    frame: &[u8],
+    looks: &[Look],
+) -> Result<(), NoMemory>
+    ensures { IfOk result (λ _. text.new.items ≡ text.old.items ++ call_text (Forward conn frame.now) looks.now) }
+{
+    put_words(text, "forward")?;
+    put_then(text, alloc, conn)?;
+    put_words(text, " ")?;
+    put_hex(text, alloc, frame)?;
+    put_words(text, " looks ")?;
+    put_looks(text, alloc, looks)
+}
+
+/// A leave.
+fn put_leave(
+    text: &mut Vec<u8>,
+    alloc: Global,
+    conn: u64,
+    taken: u64,
+    empties: u64,
+) -> Result<(), NoMemory>
+    ensures { IfOk result (λ _. text.new.items
+        ≡ text.old.items ++ (codes "leave" ++ (then_number conn ++ (then_number taken ++ then_number empties)))) }
+{
+    put_words(text, "leave")?;
+    put_then(text, alloc, conn)?;
+    put_then(text, alloc, taken)?;
+    put_then(text, alloc, empties)
+}
+
+/// A call, with its looks where it is a forward.
+pub(crate) fn put_call(
+    text: &mut Vec<u8>,
+    alloc: Global,
+    call: &Call,
+    looks: &[Look],
+) -> Result<(), NoMemory>
+    ensures { IfOk result (λ _. text.new.items ≡ text.old.items ++ call_text call.now looks.now) }
+{
+    match call {
+        Call::Connect { who } => put_connect(text, alloc, who),
+        Call::Forward { conn, frame } => put_forward(text, alloc, *conn, frame.as_slice(), looks),
+        Call::Leave {
+            conn,
+            taken,
+            empties,
+        } => put_leave(text, alloc, *conn, *taken, *empties),
+        Call::Stop => put_words(text, "stop"),
+        Call::Count => put_words(text, "count"),
+    }
+}

@@ -1,0 +1,56 @@
+//! Words, numbers and octets, put at the end of a text.
+ghost use Rattle.std.specs.Prelude.{◌≡◌, ◌++◌, IfOk, decimal};
+ghost use Rattle.hex.specs.Hex.{encode_upper};
+ghost use Rattle.bsc_script.specs.Texts.{numbered_word};
+ghost use Rattle.bsc_journal.specs.Lines.{then_number};
+
+use bsc_octets::NoMemory;
+use std::alloc::Global;
+
+/// Puts words of text.
+pub(crate) fn put_words(text: &mut Vec<u8>, words: &str) -> Result<(), NoMemory>
+    ensures { IfOk result (λ _. text.new.items ≡ text.old.items ++ words.now) }
+{
+    text.extend_from_slice(words.as_bytes())?;
+    Ok(())
+}
+
+/// Puts a number in decimal digits.
+pub(crate) fn put_number(text: &mut Vec<u8>, alloc: Global, n: u64) -> Result<(), NoMemory>
+    ensures { IfOk result (λ _. text.new.items ≡ text.old.items ++ decimal n) }
+{
+    let digits = format!(in alloc; "{n}")?;
+    put_words(text, digits.as_str())
+}
+
+/// Puts a number behind a space.
+pub(crate) fn put_then(text: &mut Vec<u8>, alloc: Global, n: u64) -> Result<(), NoMemory>
+    ensures { IfOk result (λ _. text.new.items ≡ text.old.items ++ then_number n) }
+{
+    put_words(text, " ")?;
+    put_number(text, alloc, n)
+}
+
+/// Puts a word, and a number behind it.
+pub(crate) fn put_numbered(
+    text: &mut Vec<u8>,
+    alloc: Global,
+    word: &str,
+    n: u64,
+) -> Result<(), NoMemory>
+    ensures { IfOk result (λ _. text.new.items ≡ text.old.items ++ numbered_word word.now n) }
+{
+    put_words(text, word)?;
+    put_words(text, " ")?;
+    put_number(text, alloc, n)
+}
+
+/// Puts octets as hexadecimal digits, with letters in upper case.
+pub(crate) fn put_hex(text: &mut Vec<u8>, alloc: Global, octets: &[u8]) -> Result<(), NoMemory>
+    ensures { IfOk result (λ _. text.new.items ≡ text.old.items ++ encode_upper octets.now) }
+{
+    let Ok(digits) = hex::encode_upper(alloc, octets) else {
+        return Err(NoMemory);
+    };
+    put_words(text, digits.as_str())
+}
