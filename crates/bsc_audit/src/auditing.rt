@@ -12,8 +12,8 @@ use std::alloc::Global;
 
 /// Audits journals: what the lines of all callers of a hub come to, put one after another in any order.
 ///
-/// It reads the source to its end, or up to the first line that is bad, and keeps what it reads: at most 2^28 octets,
-/// 16 octets for each entry, and less than 100 kB for the history. No line may have more than 300,000 octets.
+/// It reads the source to its end, or up to the first line that is bad, and keeps what it reads: at most 2^28 octets and
+/// one, 16 octets for each entry, and less than 100 kB for the history. No line may have more than 300,000 octets.
 pub fn audit<S: Source>(alloc: Global, source: &mut S) -> AuditEnd
     // What the answer says of the octets that the source had.
     ensures tells { (o : List ℕ) → S.left source.old ≡ Some o → AnswersOf result o (S.left source.new) }

@@ -69,6 +69,14 @@ pub(crate) fn cannot_fit(before: usize, len: usize) -> bool
     len > MAX_LINE_LEN + 1 || MAX_LEN - before < len
 }
 
+/// How many octets more may be read behind `len`: as many as all journals may have, and one that is past them.
+pub(crate) fn room_behind(len: usize) -> usize
+    requires { len ≤ 268435456 }
+    ensures { result + len ≡ 268435457 }
+{
+    MAX_LEN + 1 - len
+}
+
 /// How many octets stand in front of the first LF; all of them, where there is none.
 fn lf_at(octets: &[u8]) -> usize
     ensures within { result ≤ length octets.now }

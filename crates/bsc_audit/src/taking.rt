@@ -1,5 +1,5 @@
 //! Taking in journals: all that a source has is read and kept, and each line is heard as it comes.
-ghost use Rattle.std.specs.Prelude.{◌≡◌, ◌≤◌, ◌⊎◌, ℕ, List, [], ◌++◌, length, drop, true, false, Some, IfOk, IfErr, OnOk, Ok, Err};
+ghost use Rattle.std.specs.Prelude.{◌≡◌, ◌≤◌, ◌<◌, ◌⊎◌, ℕ, List, [], ◌++◌, length, drop, true, false, Some, IfOk, IfErr, OnOk, Ok, Err};
 ghost use Rattle.std.specs.Io.KnownBytes.{Consumes, IsAtEnd};
 ghost use Rattle.bsc_text.specs.Lines.{has_no_lf};
 ghost use Rattle.bsc_outside.specs.Faults.{HasRisen};
@@ -8,6 +8,7 @@ ghost use Rattle.bsc_audit.specs.Taking.{ReadsMore, StopsAtEnd, StopsWithin, end
 ghost use Rattle.bsc_audit.specs.Verdicts.{AnswersOf};
 
 use crate::audit_end::AuditEnd;
+use crate::cutting::room_behind;
 use crate::heard::Heard;
 use crate::hearing::{hear_last, hear_whole, nothing_heard};
 use crate::room::room_for;
@@ -49,20 +50,24 @@ fn keep(octets: &mut Vec<u8>, more: &[u8]) -> Result<(), AuditEnd>
     Ok(())
 }
 
-/// Reads the next octets behind those that were read, and says whether there were any. `chunk` is room for them.
+/// Reads the next octets behind those that were read, and says whether there were any. `chunk` is room for them, of which
+/// no more is used than all journals may have, and one octet past them. So no more is ever kept.
 fn read_more<S: Source>(
     source: &mut S,
     octets: &mut Vec<u8>,
     chunk: &mut Vec<u8>,
 ) -> Result<bool, AuditEnd>
-    requires { length chunk.old.items ≡ 65536 }
-    ensures chunk { length chunk.new.items ≡ 65536 }
+    requires room { 0 < length chunk.old.items }
+    requires fits { length octets.old.items ≤ 268435456 }
+    ensures room { 0 < length chunk.new.items }
+    ensures within { OnOk result (length octets.new.items ≤ 268435457) }
     ensures more { result ≡ Ok true → ReadsMore (S.left source.old) (S.left source.new) octets.old.items octets.new.items }
     ensures end { result ≡ Ok false → (octets.new.items ≡ octets.old.items) × Consumes (S.left source.old) (S.left source.new) [] × IsAtEnd (S.left source.new) }
     ensures stopped { IfErr result (λ e. (e ≡ AuditEnd.ReadFault) ⊎ (e ≡ AuditEnd.NoMemory)) }
     ensures fault { result ≡ Err AuditEnd.ReadFault → HasRisen (S.faults source.old) (S.faults source.new) }
     ensures later { S.faults source.old ≤ S.faults source.new }
 {
+    chunk.truncate(room_behind(octets.len()));
     let n = match source.read(chunk.as_mut_slice()) {
         Ok(n) => n,
         Err(Failed) => return Err(AuditEnd::ReadFault),

@@ -2,10 +2,22 @@
 ghost use Rattle.std.specs.Prelude.{◌≡◌, ◌⊎◌, ◌++◌, ℕ, List};
 ghost use Rattle.bsc_history.specs.declared.limits.About.{About};
 ghost use Rattle.bsc_history.specs.declared.entry.Entry.{Entry};
+ghost use Rattle.bsc_journal.specs.declared.said.Said.{Said};
 ghost use Rattle.bsc_journal.specs.Journals.{Audited, Tells};
+ghost use Rattle.bsc_journal.specs.Saying.{IsLineOf, Says};
 ghost use Rattle.bsc_audit.specs.declared.audit_end.AuditEnd.{AuditEnd};
 ghost use Rattle.bsc_audit.specs.Verdicts.{AuditsTo};
 ghost use Rattle.bsc_audit_laws.specs.Laws.{EndsWithLine, SaysNothing};
+
+/// A line is that of one entry, at one place.
+pub fn one_entry()
+    ensures { (l : List ℕ) (place other : ℕ) (e f : Entry) → IsLineOf l place e → IsLineOf l other f → (place ≡ other) × (e ≡ f) }
+{}
+
+/// A line says one thing.
+pub fn one_saying()
+    ensures { (l : List ℕ) (s t : Said) → Says l s → Says l t → s ≡ t }
+{}
 
 /// Journals may be put one after another in any order, where each ends with the end of its last line.
 pub fn any_order()

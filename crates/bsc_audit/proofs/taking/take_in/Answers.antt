@@ -87,5 +87,5 @@ reading-preserved g c =
       heard = subst (λ (x : List ℕ). HasHeard x c.go_on.new.heard) (sym more.grown) (heard_more old more.chunk c.go_on.new.heard heard);
       read = subst (λ (x : List ℕ). Consumes (g.S.Source.left c.args.source.now) (g.S.Source.left c.read_more.new.source) x) (sym more.grown) (consumes_both (g.S.Source.left c.args.source.now) (g.S.Source.left c.reading.source) (g.S.Source.left c.read_more.new.source) old more.chunk c.reading.invariant.read more.read);
       later = (let before = c.reading.invariant.later in let now = c.read_more.ensures.later in omega (arith, before, now));
-      room = c.read_more.ensures.chunk;
+      room = c.read_more.ensures.room;
     }

@@ -1,5 +1,5 @@
 -- What was read so far was heard; a read that gives octets leaves less to be read.
-use Rattle.std.proofs.Common.{◌≡◌, ◌≤◌, ◌-◌, length}
+use Rattle.std.proofs.Common.{◌≤◌, ◌<◌, ◌-◌, length}
 use Rattle.std.specs.Io.KnownBytes.{Consumes}
 use Rattle.bsc_audit.specs.Hearing.{HasHeard}
 use Rattle.bsc_audit.proofs.taking.take_in.Given as goal
@@ -9,7 +9,7 @@ invariant-reading g l = record {
   heard : HasHeard l.octets.items l.heard;
   read : Consumes (g.S.Source.left l.fn.source) (g.S.Source.left l.source) l.octets.items;
   later : g.S.Source.faults l.fn.source ≤ g.S.Source.faults l.source;
-  room : length l.chunk.items ≡ 65536;
+  room : 0 < length l.chunk.items;
 }
 
 abbrev pub decreases-reading : goal.decreases-reading
