@@ -69,7 +69,7 @@ fn policy_of(alloc: Global, size: Size) -> Result<Policy, PolicyFault> {
 }
 
 /// Who sends and who receives in a round. Both are others in each round, far from those of the round before, and in time each
-/// of them sends to each. Nothing is divided by a number that isn't known, which would take as long as a third of a decision.
+/// of them sends to each. Nothing is divided by a number that isn't known beforehand, which takes long.
 fn pair(size: Size, n: u32) -> (u32, u32) {
     let last = size.members.saturating_sub(1);
     let from = n.wrapping_mul(617) & last;
@@ -88,7 +88,11 @@ fn named_pair(n: u32) -> (u32, u32) {
 
 /// One round: whether what goes between two members is allowed by the last rule.
 fn round(policy: &Policy, size: Size, n: u32) -> bool {
-    let (from, to) = if size.named { named_pair(n) } else { pair(size, n) };
+    let (from, to) = if size.named {
+        named_pair(n)
+    } else {
+        pair(size, n)
+    };
     policy.decides(address(from), address(to)) == Decision::Allowed { rule: size.rules }
 }
 
