@@ -1,9 +1,10 @@
 pub mod Moves
 pub mod Acting
 pub mod Sides
+pub mod Beside
+pub mod Whole
 pub mod Making
 pub mod Stepping
-pub mod Beside
 pub mod Ways
 pub mod Holding
 pub mod Timing
@@ -20,6 +21,15 @@ pub mod OwnNames
 pub mod Named
 pub mod Diallers
 pub mod Joins
+pub mod Callers
+pub mod Looks
+pub mod Numbering
+pub mod Lawfully
+pub mod Legally
+pub mod Passing
+pub mod Histories
+pub mod ComingDown
+pub mod FromHubs
 pub mod Running
 pub mod Carried
 mod WorkedCourse

@@ -18,15 +18,15 @@ use Rattle.bsc_network.specs.declared.way.Way.{Way}
 use Rattle.bsc_network.specs.declared.way.Way.TheVariants.{Up, Down}
 use Rattle.bsc_network.specs.declared.parcel.Parcel.{Parcel}
 use Rattle.bsc_network.specs.declared.parcel.Content.TheVariants.{Message, Closed}
-use Rattle.bsc_network.specs.Worlds.{World, Hub, HubSide, Link, history, traffic}
+use Rattle.bsc_network.specs.Worlds.{World, Hub, HubSide, Link, history, traffic, link_at}
 use Rattle.bsc_network.specs.Outboxes.{Frame, frames}
 use Rattle.bsc_network.specs.Changes.{Change, in_order, with_found, with_side, puts_now}
 use Rattle.bsc_network.specs.HubCalls.{called, is_worn, reply_in}
 use Rattle.bsc_network.specs.HubSides.{leaves_as, leaves, closes, start, step_at, told, carries_out, tells, gets_reply, joins_by, connects, forwards, verdict_on, acts_on, hears, receives}
 use Rattle.bsc_network.specs.Taking.{takes_next, takes}
 use Rattle.bsc_network.proofs.Places.{kept-at}
-use Rattle.bsc_network_laws.proofs.Moves.{IsSide, HasArrived, IsJudged, IsWanted, IsSaid, says_joined, Lets}
-use Rattle.bsc_network_laws.proofs.Sides.{lets-at, lets-of_side, side-side, side-puts, side-called, with_call}
+use Rattle.bsc_network_laws.proofs.Moves.{HasSide, IsSide, HasArrived, IsJudged, IsWanted, IsTold, IsSaid, says_joined, LetsWhole as Lets}
+use Rattle.bsc_network_laws.proofs.Sides.{lets-at, lets-of_side, going_on, side-side, side-puts, side-called, with_call}
 
 -- ---- what is found, and what is chosen
 
@@ -44,15 +44,15 @@ chosen_world R false w first second f g = g refl
 
 -- ---- the end of a session
 
-lets-leaves_as : (D : WorldStep) (R : World → World → Type 0) → Lets D R → (w : World) (l j : ℕ) (h : Hub) (k : Link) (c : Option ℕ) → IsSide w l j h k → k.side.conn ≡ c → R w (leaves_as j l k.side c w)
-lets-leaves_as D R M w l j h k None side conn = M.none w
+lets-leaves_as : (D : WorldStep) (R : World → World → Type 0) → Lets D R → (w : World) (l j : ℕ) (h : Hub) (k : Link) (c : Option ℕ) → IsSide w l j h k → k.side.conn ≡ c
+    → R w (with_side l (λ s. record s { is_over = true }) (leaves_as j l k.side c w))
+lets-leaves_as D R M w l j h k None side conn = M.each.over w l j h k side conn
 lets-leaves_as D R M w l j h k (Some c) side conn = M.each.leaves w l j h k c side conn
 
 pub lets-leaves : (D : WorldStep) (R : World → World → Type 0) → Lets D R → (w : World) (l j : ℕ) (h : Hub) (k : Link) → IsSide w l j h k → R w (leaves l w)
 lets-leaves D R M w l j h k side =
-    let left = leaves_as j l k.side k.side.conn w in
     lets-at R w w l j h k (λ j h link. in_order (leaves_as j l link.side link.side.conn ∷ with_side l (λ s. record s { is_over = true }) ∷ [])) side
-    (M.then w left (with_side l (λ s. record s { is_over = true }) left) (lets-leaves_as D R M w l j h k k.side.conn side refl) (M.each.over left l))
+    (lets-leaves_as D R M w l j h k k.side.conn side refl)
 
 pub lets-closes : (D : WorldStep) (R : World → World → Type 0) → Lets D R → (w : World) (l j : ℕ) (h : Hub) (k : Link) → IsSide w l j h k → R w (closes l w)
 lets-closes D R M w l j h k side =
@@ -78,9 +78,13 @@ lets-tells D R M w l j h k e other judged side =
     let v = told l e w in
     lets-at R w w l j h k (λ j h link. in_order (told l e ∷ carries_out l (step_at h link e) ∷ [])) side
     (M.then w v (carries_out l (step_at h k e) v) (M.each.tells w l j h k e other side)
-    (lets-carries_out D R M v l j h _ (step_at h k e) (side-side w l j h k (with_event e) side) (start h k, k.side.events, e, refl, judged, refl)))
+    (lets-carries_out D R M v l j h _ (step_at h k e) (side-side w l j h k (with_event e) refl side) (start h k, k.side.events, e, refl, judged, refl)))
 
 -- ---- a connect and a forward
+
+-- what the machine wants, where the hub isn't worn
+said_fresh : (h : Hub) (k : Link) (m : List ℕ) (st : Step) → IsTold h k m st → is_worn h ≡ false → IsSaid h k m st
+said_fresh h k m st said fresh = record { started = said.started; own = said.own; events = said.events; time = said.time; is = said.is; told = said.told; fresh = fresh }
 
 lets-joined : (D : WorldStep) (R : World → World → Type 0) → Lets D R → (w : World) (l j place : ℕ) (h : Hub) (k : Link) (m : List ℕ) (who : Identity) (c : ℕ) (replaced : Option ℕ) → IsSide w l j h k
     → HasArrived w l Up (record { content = Message m; sent_at = place }) → IsSaid h k m (Ask who) → reply_in w h (Connect who) ≡ Joined c replaced
@@ -89,12 +93,12 @@ lets-joined D R M w l j place h k m who c replaced side arrived said is =
     let entered = called j l place (Connect who) w in
     let v = with_side l (λ s. record s { conn = Some c }) entered in
     let g = with_call w l place (Connect who) h in
-    let at_v : IsSide v l j g (record k { side = record k.side { conn = Some c } }) = side-side entered l j g k (λ s. record s { conn = Some c }) (side-called w l j place h k (Connect who) side) in
+    let at_v : IsSide v l j g (record k { side = record k.side { conn = Some c } }) = side-side entered l j g k (λ s. record s { conn = Some c }) refl (side-called w l j place h k (Connect who) side) in
     let u = told l HasJoined v in
     let st = step_at g (record k { side = record k.side { conn = Some c } }) HasJoined in
     lets-at R w v l j g (record k { side = record k.side { conn = Some c } }) (λ j h link. in_order (told l HasJoined ∷ carries_out l (step_at h link HasJoined) ∷ [])) at_v
     (M.then w u (carries_out l st u) (M.each.joins w l j place h k m who c replaced side arrived said is)
-    (lets-carries_out D R M u l j g _ st (side-side v l j g _ (with_event HasJoined) at_v) (start g k, k.side.events, HasJoined, refl, tt, refl)))
+    (lets-carries_out D R M u l j g _ st (side-side v l j g _ (with_event HasJoined) refl at_v) (start g k, k.side.events, HasJoined, refl, tt, refl)))
 
 lets-gets_reply : (D : WorldStep) (R : World → World → Type 0) → Lets D R → (w : World) (l j place : ℕ) (h : Hub) (k : Link) (m : List ℕ) (who : Identity) (r : Reply) → IsSide w l j h k
     → HasArrived w l Up (record { content = Message m; sent_at = place }) → IsSaid h k m (Ask who) → reply_in w h (Connect who) ≡ r → R w (gets_reply l r (called j l place (Connect who) w))
@@ -106,30 +110,30 @@ lets-gets_reply D R M w l j place h k m who (Refused refusal) side arrived said 
 lets-gets_reply D R M w l j place h k m who r side arrived said is = M.each.asks w l j place h k m who side arrived said (ap says_joined is)
 
 lets-connects : (D : WorldStep) (R : World → World → Type 0) → Lets D R → (w : World) (l j place : ℕ) (h : Hub) (k : Link) (m : List ℕ) (who : Identity) → IsSide w l j h k
-    → HasArrived w l Up (record { content = Message m; sent_at = place }) → IsSaid h k m (Ask who) → R w (connects l place who w)
+    → HasArrived w l Up (record { content = Message m; sent_at = place }) → IsTold h k m (Ask who) → R w (connects l place who w)
 lets-connects D R M w l j place h k m who side arrived said =
     lets-at R w w l j h k (λ j h link w. (if is_worn h then closes l else joins_by j l place who (reply_in w h (Connect who))) w) side
     (chosen R (is_worn h) (closes l) (joins_by j l place who (reply_in w h (Connect who))) w
     (λ worn. lets-closes D R M w l j h k side)
-    (λ fresh. lets-gets_reply D R M w l j place h k m who (reply_in w h (Connect who)) side arrived said refl))
+    (λ fresh. lets-gets_reply D R M w l j place h k m who (reply_in w h (Connect who)) side arrived (said_fresh h k m (Ask who) said fresh) refl))
 
 lets-forwards : (D : WorldStep) (R : World → World → Type 0) → Lets D R → (w : World) (l j place : ℕ) (h : Hub) (k : Link) (m : List ℕ) → IsSide w l j h k
-    → HasArrived w l Up (record { content = Message m; sent_at = place }) → IsSaid h k m Carry → R w (forwards l place m w)
+    → HasArrived w l Up (record { content = Message m; sent_at = place }) → IsTold h k m Carry → R w (forwards l place m w)
 lets-forwards D R M w l j place h k m side arrived said =
     lets-at R w w l j h k (λ j h link. with_found link.side.conn (λ c. if is_worn h then closes l else called j l place (Forward c m))) side
     (found R k.side.conn (λ c. if is_worn h then closes l else called j l place (Forward c m)) w (M.none w) (λ c conn.
     chosen R (is_worn h) (closes l) (called j l place (Forward c m)) w
     (λ worn. lets-closes D R M w l j h k side)
-    (λ fresh. M.each.forwards w l j place h k m c side conn arrived said)))
+    (λ fresh. M.each.forwards w l j place h k m c side conn arrived (said_fresh h k m Carry said fresh))))
 
 -- ---- a message
 
 -- what the machine wants is what it wants at some event
-pub wanted_at : (h : Hub) (k : Link) (m : List ℕ) (st : Step) → IsSaid h k m st → IsWanted h.about st
+pub wanted_at : (h : Hub) (k : Link) (m : List ℕ) (st : Step) → IsTold h k m st → IsWanted h.about st
 wanted_at h k m st said = (said.started, said.events, CameToHub said.time _, said.own, (m, HubPort (phase said.events), h.about.hub.max_bvlc, refl), said.is)
 
 lets-acts_on : (D : WorldStep) (R : World → World → Type 0) → Lets D R → (w : World) (l j place : ℕ) (h : Hub) (k : Link) (m : List ℕ) (st : Step) → IsSide w l j h k
-    → HasArrived w l Up (record { content = Message m; sent_at = place }) → IsSaid h k m st → R w (acts_on l place m st w)
+    → HasArrived w l Up (record { content = Message m; sent_at = place }) → IsTold h k m st → R w (acts_on l place m st w)
 lets-acts_on D R M w l j place h k m (Ask who) side arrived said = lets-connects D R M w l j place h k m who side arrived said
 lets-acts_on D R M w l j place h k m Carry side arrived said = lets-forwards D R M w l j place h k m side arrived said
 lets-acts_on D R M w l j place h k m st side arrived said = lets-carries_out D R M w l j h k st side (wanted_at h k m st said)
@@ -156,7 +160,7 @@ lets-receives D R M w l j place h k m side arrived =
     lets-at R w w l j h k (λ j h link w. hears l place m (CameToHub w.now (verdict_on h link m)) w) side
     (lets-at R w w l j h k (λ j h link. in_order (told l e ∷ acts_on l place m (step_at h link e) ∷ [])) side
     (M.then w v (acts_on l place m (step_at h k e) v) (M.each.tells w l j h k e refl side)
-    (lets-acts_on D R M v l j place h (record k { side = with_event e k.side }) m (step_at h k e) (side-side w l j h k (with_event e) side) (arrived-told w l l Up e (record { content = Message m; sent_at = place }) arrived)
+    (lets-acts_on D R M v l j place h (record k { side = with_event e k.side }) m (step_at h k e) (side-side w l j h k (with_event e) refl side) (arrived-told w l l Up e (record { content = Message m; sent_at = place }) arrived)
     (record { started = start h k; own = refl; events = k.side.events; time = w.now; is = refl; told = refl }))))
 
 -- ---- a take
@@ -167,8 +171,8 @@ lets-takes_next D R M w l j h k c (Some f) ending side conn is = M.each.takes w 
 lets-takes_next D R M w l j h k c None (Some ending) side conn is = lets-tells D R M w l j h k (Ended w.now ending) refl tt side
 lets-takes_next D R M w l j h k c None None side conn is = M.each.empty w l
 
-pub lets-takes : (D : WorldStep) (R : World → World → Type 0) → Lets D R → (w : World) (l : ℕ) → R w (takes l w)
-lets-takes D R M w l =
+pub lets-takes : (D : WorldStep) (R : World → World → Type 0) → Lets D R → (w : World) (l : ℕ) → ((k : Link) → link_at w l ≡ Some k → k.side.is_over ≡ false) → R w (takes l w)
+lets-takes D R M w l going =
     lets-of_side R w l (λ j h link. with_found link.side.conn (λ c. takes_next l (slice_get (frames h c) link.side.taken) (ended (history h) c))) (M.none w) (λ j h k side.
     found R k.side.conn (λ c. takes_next l (slice_get (frames h c) k.side.taken) (ended (history h) c)) w (M.none w) (λ c conn.
-    lets-takes_next D R M w l j h k c (slice_get (frames h c) k.side.taken) (ended (history h) c) side conn refl))
+    lets-takes_next D R M w l j h k c (slice_get (frames h c) k.side.taken) (ended (history h) c) (going_on w l j h k side (going k side.link)) conn refl))

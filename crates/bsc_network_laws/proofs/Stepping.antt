@@ -1,15 +1,17 @@
 -- What holds of each move holds of each step of a network.
 use Rattle.std.proofs.Common.{◌≡◌, inl, inr, ℕ, zero, suc, Bool, true, false, not, List, [], ◌∷◌, Option, Some, None, refl, ap, sym, arith, ◌∙◌}
-use Rattle.std.specs.Prelude.{◌+◌, ◌&&◌, if◌then◌else◌}
+use Rattle.std.specs.Prelude.{◌+◌, ◌&&◌, if◌then◌else◌, is_some}
 use Rattle.std.specs.Option.{option_map}
 use Rattle.bsc_direct.proofs.OneMore.{some_same}
 use Rattle.bsc_history.specs.declared.call.Call.TheVariants.{Stop as StopCall}
 use Rattle.bsc_history.specs.Replies.{is_stopped}
+use Rattle.bsc_accept.specs.Past.{phase}
+use Rattle.bsc_script.specs.Emptying.{is_connected}
 use Rattle.bsc_node.specs.declared.link_name.LinkName.{LinkName}
 use Rattle.bsc_node.specs.declared.node_event.NodeEvent.{NodeEvent}
 use Rattle.bsc_node.specs.declared.node_event.NodeEvent.TheVariants.{DialFailed, Lost}
 use Rattle.bsc_node.specs.Conditions.{fits}
-use Rattle.bsc_node.proofs.Following.{and_left}
+use Rattle.bsc_node.proofs.Following.{and_left, and_right}
 use Rattle.bsc_network.specs.declared.way.Way.{Way}
 use Rattle.bsc_network.specs.declared.way.Way.TheVariants.{Up, Down}
 use Rattle.bsc_network.specs.declared.target.Target.{Target}
@@ -22,7 +24,7 @@ use Rattle.bsc_network.specs.declared.world_step.WorldStep.{WorldStep}
 use Rattle.bsc_network.specs.declared.world_step.WorldStep.TheVariants.{Node as OfNode, Arrive, Lose, Take, Stop}
 use Rattle.bsc_network.specs.declared.timed_step.TimedStep.{TimedStep}
 use Rattle.bsc_network.specs.declared.step_refusal.StepRefusal.{StepRefusal}
-use Rattle.bsc_network.specs.declared.step_refusal.StepRefusal.TheVariants.{NotNow, AlreadyStopped}
+use Rattle.bsc_network.specs.declared.step_refusal.StepRefusal.TheVariants.{NotNow, NoLink, NothingThere, AlreadyStopped}
 use Rattle.bsc_network.specs.Traffic.{Traffic, front, without_front}
 use Rattle.bsc_network.specs.Worlds.{World, Hub, Node, Link, history, traffic, hub_at, node_at, link_at}
 use Rattle.bsc_network.specs.Changes.{Change, unchanged, in_order, with_found, with_link, with_traffic, by_target}
@@ -31,12 +33,13 @@ use Rattle.bsc_network.specs.HubSides.{leaves, unless_over}
 use Rattle.bsc_network.specs.NodeSides.{name_of}
 use Rattle.bsc_network.specs.NodeEvents.{hears, comes_once, forgets_failure, hears_failures, hears_all_failures, most_failures, comes}
 use Rattle.bsc_network.specs.Arriving.{event_of, reaches_node, reaches_side, reaches_hub, reaches, arrives, loses, is_lost}
-use Rattle.bsc_network.specs.Refusals.{unless, is_own, is_timely, refuses_event, refuses_stop, refusal}
+use Rattle.bsc_network.specs.Refusals.{unless, is_own, is_timely, refuses_event, refuses_link, leads_to_hub, has_outbox, refuses_stop, refusal}
 use Rattle.bsc_network.specs.Networks.{does, does_unless, at_time, makes}
 use Rattle.bsc_network.proofs.Places.{kept-at, get-changed}
 use Rattle.bsc_network_laws.specs.Ends.{receiver}
-use Rattle.bsc_network_laws.proofs.Moves.{IsSide, HasArrived, IsHeardBy, Comes, Lets}
-use Rattle.bsc_network_laws.proofs.Sides.{lets-of_side}
+use Rattle.bsc_network_laws.proofs.Moves.{IsSide, HasArrived, IsHeardBy, Comes, Lets as LetsEach, LetsWhole as Lets}
+use Rattle.bsc_network_laws.proofs.Sides.{lets-of_side, going_on}
+use Rattle.bsc_network_laws.proofs.Whole.{as_whole}
 use Rattle.bsc_network_laws.proofs.Making.{found, chosen, lets-leaves, lets-receives, lets-takes}
 
 -- ---- an event comes to a node
@@ -78,7 +81,7 @@ lets-reaches_hub : (D : WorldStep) (R : World → World → Type 0) → Lets D R
     → R w (reaches_hub l (record { content = content; sent_at = place }) w)
 lets-reaches_hub D R M w l content place came =
     lets-of_side R w l (λ j h link. if link.side.is_over then unchanged else reaches_side l place content) (M.none w) (λ j h k side.
-    chosen R k.side.is_over unchanged (reaches_side l place content) w (λ over. M.none w) (λ goes. by content j h k side came))
+    chosen R k.side.is_over unchanged (reaches_side l place content) w (λ over. M.none w) (λ goes. by content j h k (going_on w l j h k side goes) came))
   where
     by : (content : Content) (j : ℕ) (h : Hub) (k : Link) → IsSide w l j h k → HasArrived w l Up (record { content = content; sent_at = place }) → R w (reaches_side l place content w)
     by (Message o) j h k side came = lets-receives D R M w l j place h k o side came
@@ -142,7 +145,7 @@ lets-loses D R M w l way k =
 lets-side_lost : (D : WorldStep) (R : World → World → Type 0) → Lets D R → (w : World) (l : ℕ) → R w (unless_over l (leaves l) w)
 lets-side_lost D R M w l =
     lets-of_side R w l (λ j h link. if link.side.is_over then unchanged else leaves l) (M.none w) (λ j h k side.
-    chosen R k.side.is_over unchanged (leaves l) w (λ over. M.none w) (λ goes. lets-leaves D R M w l j h k side))
+    chosen R k.side.is_over unchanged (leaves l) w (λ over. M.none w) (λ goes. lets-leaves D R M w l j h k (going_on w l j h k side goes)))
 
 lets-is_lost : (D : WorldStep) (R : World → World → Type 0) → Lets D R → (w : World) (l : ℕ) → R w (is_lost l w)
 lets-is_lost D R M w l =
@@ -172,11 +175,31 @@ lets-stop D R M w j (Some hub) at h = by (is_stopped (history hub)) refl h
     by true is g = cc
     by false is g = M.each.stops w j hub at is
 
+not_not : (b : Bool) → not b ≡ true → b ≡ false
+not_not false h = refl
+not_not true h = cc
+
+-- who takes has a session that isn't over
+takes_going : (o : Option Link) (k : Link) → refuses_link has_outbox o ≡ None → o ≡ Some k → k.side.is_over ≡ false
+takes_going None k h is = cc
+takes_going (Some x) k h is = at_lost x.is_lost h
+  where
+    at_outbox : (b : Bool) → has_outbox x ≡ b → unless b NothingThere ≡ None → k.side.is_over ≡ false
+    at_outbox false has g = cc
+    at_outbox true has g =
+        let s = x.side in
+        let may = and_right (leads_to_hub x.to) (is_some s.conn && is_connected (phase s.events) && not s.is_over) has in
+        ap (λ (y : Link). y.side.is_over) (sym (some_same x k is)) ∙ not_not s.is_over (and_right (is_some s.conn && is_connected (phase s.events)) (not s.is_over) may)
+
+    at_lost : (b : Bool) → (if b then Some NoLink else unless (has_outbox x) NothingThere) ≡ None → k.side.is_over ≡ false
+    at_lost true g = cc
+    at_lost false g = at_outbox (has_outbox x) refl g
+
 lets-does : (D : WorldStep) (R : World → World → Type 0) → Lets D R → (w : World) → refusal w D ≡ None → R w (does D w)
 lets-does (OfNode k e) R M w h = lets-comes (OfNode k e) R M w k None e (λ n here. inl (refl, own_event (node_at w k) n e h here))
 lets-does (Arrive l way) R M w h = lets-arrives (Arrive l way) R M w l way
 lets-does (Lose l) R M w h = lets-is_lost (Lose l) R M w l
-lets-does (Take l) R M w h = lets-takes (Take l) R M w l
+lets-does (Take l) R M w h = lets-takes (Take l) R M w l (λ k here. takes_going (link_at w l) k h here)
 lets-does (Stop j) R M w h = lets-stop (Stop j) R M w j (hub_at w j) refl h
 
 lets-unless : (D : WorldStep) (R : World → World → Type 0) → Lets D R → (w : World) (o : Option StepRefusal) → refusal w D ≡ o → R w (does_unless o D w)
@@ -197,10 +220,14 @@ refusal-begun w now (Lose l) = refl
 refusal-begun w now (Take l) = refl
 refusal-begun w now (Stop j) = refl
 
--- What holds of each move holds of what a step does.
-pub lets-step : (R : World → World → Type 0) (t : TimedStep) → Lets t.step R → (w : World) → R (begun w t) (done w t)
-lets-step R t M w = lets-unless t.step R M (begun w t) (refusal w t.step) (refusal-begun w t.now t.step)
+-- What holds of each move holds of what a step does, where the end of a session is one move.
+pub whole-step : (R : World → World → Type 0) (t : TimedStep) → Lets t.step R → (w : World) → R (begun w t) (done w t)
+whole-step R t M w = lets-unless t.step R M (begun w t) (refusal w t.step) (refusal-begun w t.now t.step)
+
+-- So it is of each move.
+pub lets-step : (R : World → World → Type 0) (t : TimedStep) → LetsEach t.step R → (w : World) → R (begun w t) (done w t)
+lets-step R t M w = whole-step R t (as_whole t.step R M) w
 
 -- And of the step, where it does of its being counted.
-pub lets-makes : (R : World → World → Type 0) (t : TimedStep) → Lets t.step R → ((u : World) → R u (record u { steps = u.steps + 1 })) → (w : World) → R (begun w t) (makes w t)
+pub lets-makes : (R : World → World → Type 0) (t : TimedStep) → LetsEach t.step R → ((u : World) → R u (record u { steps = u.steps + 1 })) → (w : World) → R (begun w t) (makes w t)
 lets-makes R t M counts w = M.then (begun w t) (done w t) (makes w t) (lets-step R t M w) (counts (done w t))
