@@ -1,8 +1,7 @@
 -- After each step, a connection of a hub joined by a link that leads to this hub, whose side has that connection.
-use Rattle.std.proofs.Common.{◌≡◌, ◌⊎◌, inl, inr, ℕ, zero, suc, Bool, true, false, List, [], ◌∷◌, ◌++◌, map, Option, Some, None, option_to_list, refl, ap, sym, subst, ◌∙◌}
-use Rattle.std.specs.Prelude.{◌+◌, slice_get, is_some, ⊤}
+use Rattle.std.proofs.Common.{◌≡◌, ◌⊎◌, inl, inr, ℕ, zero, suc, true, false, List, [], ◌∷◌, ◌++◌, Option, Some, None, option_to_list, refl, ap, sym, subst, ◌∙◌}
+use Rattle.std.specs.Prelude.{◌+◌, slice_get, ⊤}
 use Rattle.std.specs.List.{AllByRecursion}
-use Rattle.std.specs.Option.{option_map}
 use Rattle.std.proofs.lemmas.List.{map-append}
 use Rattle.bsc_direct.proofs.OneMore.{some_same}
 use Rattle.bsc_octets.specs.declared.identity.Identity.{Identity}
@@ -20,7 +19,6 @@ use Rattle.bsc_node.specs.declared.link_name.LinkName.{LinkName}
 use Rattle.bsc_network.specs.declared.world_step.WorldStep.{WorldStep}
 use Rattle.bsc_network.specs.declared.way.Way.{Way}
 use Rattle.bsc_network.specs.declared.way.Way.TheVariants.{Up, Down}
-use Rattle.bsc_network.specs.declared.target.Target.TheVariants.{Hub as ToHub}
 use Rattle.bsc_network.specs.declared.hold.Hold.{Hold}
 use Rattle.bsc_network.specs.declared.arrival.Arrival.{Arrival}
 use Rattle.bsc_network.specs.declared.parcel.Content.{Content}

@@ -1,21 +1,17 @@
 -- An NPDU on the way down from a hub was passed on to the connection that joined by this link.
-use Rattle.std.proofs.Common.{◌≡◌, ℕ, zero, suc, Bool, true, false, cond, List, [], ◌∷◌, ◌++◌, filter, Option, Some, None, refl, ap, sym, subst, ◌∙◌}
-use Rattle.std.specs.Prelude.{take, slice_get}
+use Rattle.std.proofs.Common.{◌≡◌, ℕ, zero, suc, true, List, [], ◌∷◌, ◌++◌, Option, Some, None, refl, ap, sym, subst, ◌∙◌}
+use Rattle.std.specs.Prelude.{take}
 use Rattle.std.specs.List.{AllByRecursion}
 use Rattle.std.proofs.lemmas.List.{map-append}
-use Rattle.bsc_octets.specs.declared.vmac.Vmac.{Vmac}
 use Rattle.bsc_history.specs.declared.connection.Connection.{Connection}
 use Rattle.bsc_history.specs.declared.entry.Entry.{Entry}
 use Rattle.bsc_history.specs.Ends.{joined, live}
 use Rattle.bsc_history.proofs.Lists.{In}
 use Rattle.bsc_history.specs.Legality.{Legal}
-use Rattle.bsc_network.specs.declared.target.Target.TheVariants.{Hub as ToHub}
-use Rattle.bsc_network.specs.Worlds.{World, Hub, Link, Posted, entries, history, hub_at, link_at}
+use Rattle.bsc_network.specs.Worlds.{World, Hub, Posted, entries, history}
 use Rattle.bsc_network.specs.Outboxes.{Frame, frames}
 use Rattle.bsc_network.proofs.Places.{all-mapped, all-at}
-use Rattle.bsc_network_laws.specs.Ends.{messages}
 use Rattle.bsc_network_laws.specs.Carrying.{Sendings, is_npdu, npdus, taken_of}
-use Rattle.bsc_network_laws.specs.Connecting.{HasJoinedBy}
 use Rattle.bsc_network_laws.specs.Passing.{IsPassedOn, IsPassedTo, IsPassedBy, PassesOn, ComesDown}
 use Rattle.bsc_network_laws.proofs.Taken.{SidesFit, LinkFits}
 use Rattle.bsc_network_laws.proofs.Joins.{SidesJoined}

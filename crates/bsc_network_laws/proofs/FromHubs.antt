@@ -1,14 +1,13 @@
 -- What is delivered of an NPDU that came down from a hub came by this hub, as the theorem says it.
-use Rattle.std.proofs.Common.{◌≡◌, ◌<◌, ℕ, zero, suc, Bool, true, false, not, cond, List, [], ◌∷◌, length, Option, Some, None, refl, ap, sym, subst, ◌∙◌, arith}
-use Rattle.std.specs.Prelude.{◌==◌, ◌^◌, slice_get}
+use Rattle.std.proofs.Common.{◌≡◌, ◌<◌, ℕ, Bool, true, false, not, cond, List, [], ◌∷◌, length, Option, Some, None, refl, ap, sym, subst, ◌∙◌, arith}
+use Rattle.std.specs.Prelude.{◌==◌, ◌^◌}
 use Rattle.std.specs.Option.{option_map, option_or}
 use Rattle.bsc_direct.proofs.OneMore.{some_same}
 use Rattle.bsc_octets.specs.declared.vmac.Vmac.{Vmac}
 use Rattle.bsc_octets.specs.declared.identity.Identity.{Identity}
 use Rattle.bsc_octets.specs.Addresses.{broadcast, same_vmac}
-use Rattle.bsc_octets.specs.Forwarding.{destination, is_broadcast, out}
+use Rattle.bsc_octets.specs.Forwarding.{destination, out}
 use Rattle.bsc_frame.specs.declared.message.Message.{Message}
-use Rattle.bsc_frame.specs.declared.body.Body.{Body}
 use Rattle.bsc_frame.specs.declared.body.Body.TheVariants.{Npdu}
 use Rattle.bsc_verdict.specs.Outcomes.{outcome_of}
 use Rattle.bsc_checks.specs.declared.verdict.Verdict.TheVariants.{Pass}
@@ -19,7 +18,6 @@ use Rattle.bsc_node.specs.declared.delivered.Delivered.{Delivered}
 use Rattle.bsc_node.specs.declared.link_name.LinkName.{LinkName}
 use Rattle.bsc_node.specs.declared.link_name.LinkName.TheVariants.{Hub as OfHub, Direct}
 use Rattle.bsc_node.specs.declared.timed_event.TimedEvent.{TimedEvent}
-use Rattle.bsc_node.specs.declared.node_event.NodeEvent.{NodeEvent}
 use Rattle.bsc_node.specs.declared.node_event.NodeEvent.TheVariants.{Came}
 use Rattle.bsc_node.specs.declared.action.Action.TheVariants.{Deliver}
 use Rattle.bsc_node.specs.Links.{place as place_of, peer}
@@ -35,7 +33,7 @@ use Rattle.bsc_network.specs.Outboxes.{Frame}
 use Rattle.bsc_network.proofs.Places.{found-in}
 use Rattle.bsc_network_laws.specs.Carrying.{Sendings}
 use Rattle.bsc_network_laws.specs.Deliveries.{IsFor, CameByHub}
-use Rattle.bsc_network_laws.specs.Passing.{IsPassedOn, IsPassedBy}
+use Rattle.bsc_network_laws.specs.Passing.{IsPassedBy}
 use Rattle.bsc_network_laws.proofs.Acting.{Among}
 use Rattle.bsc_network_laws.proofs.Sent.{only}
 

@@ -9,7 +9,7 @@ use Rattle.bsc_network_laws.specs.Connecting.{JoinByLinks}
 use Rattle.bsc_network_laws.specs.Passing.{PassesOn}
 use Rattle.bsc_network_laws.proofs.Moves.{Lets, LetsWhole}
 use Rattle.bsc_network_laws.proofs.Stepping.{begun, done, lets-step, whole-step}
-use Rattle.bsc_network_laws.proofs.Beside.{Keeps, KeepsGiven, KeepsBoth, each-as, both, beside, together}
+use Rattle.bsc_network_laws.proofs.Beside.{Keeps, KeepsGiven, KeepsBoth, each-as, both, together}
 use Rattle.bsc_network_laws.proofs.Whole.{as_whole, whole_each, beside_whole, together_whole}
 use Rattle.bsc_network_laws.proofs.Knowing.{Knows}
 use Rattle.bsc_network_laws.proofs.Casting.{KnowsAll, knows_all}

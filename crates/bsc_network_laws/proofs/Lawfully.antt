@@ -1,5 +1,5 @@
 -- The entry of a call that may be made is lawful: each of its looks finds what was taken, and that it can find.
-use Rattle.std.proofs.Common.{◌≡◌, ◌≤◌, ℕ, ◌==◌, nat_le, nat_lt, Bool, true, false, not, ◌&&◌, List, [], ◌∷◌, ◌++◌, find, length, map, Option, Some, None, MatchOption, refl, ap, sym, subst, ◌∙◌, arith}
+use Rattle.std.proofs.Common.{◌≡◌, ◌≤◌, ℕ, ◌==◌, nat_le, nat_lt, true, false, not, List, [], ◌∷◌, length, map, Option, Some, None, MatchOption, refl, ap, sym, subst, ◌∙◌, arith}
 use Rattle.std.specs.List.{list_all}
 use Rattle.std.proofs.lemmas.Bool.{and_from, and_parts, both_ways, eq-eqb, eqb-true, false_from_ne_true, le-leb, leb-false, lt-ltb}
 use Rattle.std.proofs.lemmas.List.{length-map}
@@ -15,10 +15,9 @@ use Rattle.bsc_history.specs.Legality.{Lawful, Legal, looks_at, can_find, may_ca
 use Rattle.bsc_history.specs.Outboxes.{looked, sent}
 use Rattle.bsc_history.proofs.Lists.{In, In_from_all, any_gives, find_says, same_one}
 use Rattle.bsc_history.proofs.Uniqueness.{vmac_same}
-use Rattle.bsc_direct.proofs.OneMore.{some_same}
 use Rattle.bsc_network.specs.Worlds.{World, Hub, Link, Posted, history, hub_at, link_at}
 use Rattle.bsc_network.specs.Outboxes.{Frame, frames}
-use Rattle.bsc_network.specs.HubCalls.{taken_over, taken_by, taken_from, looks_in, entry_in, is_worn}
+use Rattle.bsc_network.specs.HubCalls.{taken_over, taken_by, taken_from, entry_in, is_worn}
 use Rattle.bsc_network.proofs.Frames.{octets-frames}
 use Rattle.bsc_network.proofs.Places.{all-at}
 use Rattle.bsc_network_laws.specs.Connecting.{is_conn, HasJoinedBy, IsOfLink, JoinByLinks}
@@ -102,8 +101,7 @@ not_worn h fresh =
 
 -- Who can say who it is has an address that a node may have.
 pub node_address : (who : Identity) → IsNode who → (not (same_vmac who.vmac zero_vmac) ≡ true) × (not (same_vmac who.vmac broadcast) ≡ true)
-node_address who node =
-    (
-      ap not (false_from_ne_true (same_vmac who.vmac zero_vmac) (λ is. node.reserved (vmac_same who.vmac zero_vmac is))),
-      ap not (false_from_ne_true (same_vmac who.vmac broadcast) (λ is. node.broadcast (vmac_same who.vmac broadcast is))),
-    )
+node_address who node = (
+  ap not (false_from_ne_true (same_vmac who.vmac zero_vmac) (λ is. node.reserved (vmac_same who.vmac zero_vmac is))),
+  ap not (false_from_ne_true (same_vmac who.vmac broadcast) (λ is. node.broadcast (vmac_same who.vmac broadcast is))),
+)

@@ -1,5 +1,5 @@
 -- After each step, the history of each hub is legal; and the connection of a side whose session isn't over hasn't left.
-use Rattle.std.proofs.Common.{◌≡◌, ◌≢◌, ◌⊎◌, inl, inr, ℕ, ◌==◌, nat_lt, Bool, true, false, not, ◌&&◌, List, [], ◌∷◌, ◌++◌, length, Option, Some, None, refl, ap, sym, subst, ◌∙◌}
+use Rattle.std.proofs.Common.{◌≡◌, ◌≢◌, ◌⊎◌, inl, inr, ℕ, ◌==◌, nat_lt, true, false, not, ◌&&◌, List, [], ◌∷◌, ◌++◌, length, Option, Some, None, refl, ap, sym, subst, ◌∙◌}
 use Rattle.std.specs.Prelude.{◌+◌, slice_get, ⊤}
 use Rattle.std.specs.Option.{option_map}
 use Rattle.std.specs.List.{AllByRecursion}
@@ -8,13 +8,10 @@ use Rattle.bsc_direct.proofs.OneMore.{some_same}
 use Rattle.bsc_octets.specs.declared.identity.Identity.{Identity}
 use Rattle.bsc_octets.specs.Addresses.{same_vmac, zero_vmac, broadcast}
 use Rattle.bsc_octets.specs.Forwarding.{has_route}
-use Rattle.bsc_frame.specs.Payloads.{IsNode}
 use Rattle.bsc_history.specs.declared.call.Call.{Call}
 use Rattle.bsc_history.specs.declared.call.Call.TheVariants.{Connect, Forward, Leave, Stop as StopCall}
-use Rattle.bsc_history.specs.declared.connection.Connection.{Connection}
-use Rattle.bsc_history.specs.declared.reply.Reply.{Reply}
 use Rattle.bsc_history.specs.declared.reply.Reply.TheVariants.{Joined}
-use Rattle.bsc_history.specs.Entries.{connection_of, made_by, moment}
+use Rattle.bsc_history.specs.Entries.{made_by, moment}
 use Rattle.bsc_history.specs.Ends.{is_leave}
 use Rattle.bsc_history.specs.Legality.{Lawful, Legal, can_find, is_of, may_call}
 use Rattle.bsc_history.specs.Replies.{is_stopped}
@@ -37,21 +34,19 @@ use Rattle.bsc_network.specs.declared.parcel.Content.{Content}
 use Rattle.bsc_network.specs.declared.parcel.Content.TheVariants.{Message, Closed}
 use Rattle.bsc_network.specs.Traffic.{Traffic}
 use Rattle.bsc_network.specs.Worlds.{World, Hub, HubSide, Node, Link, history, hub_at, node_at, link_at}
-use Rattle.bsc_network.specs.Changes.{changed_at, with_found, with_hub, with_link, with_side, with_traffic}
+use Rattle.bsc_network.specs.Changes.{with_found, with_link, with_side, with_traffic}
 use Rattle.bsc_network.specs.HubCalls.{called, entry_in, no_link, reply_in}
-use Rattle.bsc_network.specs.HubSides.{told}
 use Rattle.bsc_network.specs.NodeSides.{other_way, hold_of, puts_on, puts_by}
 use Rattle.bsc_network.specs.Dialling.{dials, new_link}
 use Rattle.bsc_network.proofs.Places.{all-changed_here, all-at, got-changed, got-last_of, get-changed, get-other, one_or_two}
 use Rattle.bsc_network_laws.specs.Naming.{Cast, identity_in}
-use Rattle.bsc_network_laws.specs.Connecting.{HasJoinedBy, JoinByLinks, HubsAreLegal}
-use Rattle.bsc_network_laws.proofs.Moves.{HasSide, IsSide, HasArrived, IsSaid, says_joined, EachWhole}
+use Rattle.bsc_network_laws.specs.Connecting.{JoinByLinks, HubsAreLegal}
+use Rattle.bsc_network_laws.proofs.Moves.{IsSide, HasArrived, IsSaid, EachWhole}
 use Rattle.bsc_network_laws.proofs.Acting.{LetsActs, lets-hears}
 use Rattle.bsc_network_laws.proofs.Sides.{side_of, with_call}
 use Rattle.bsc_network_laws.proofs.Beside.{Keeps, KeepsGiven}
-use Rattle.bsc_network_laws.proofs.Casting.{Casts}
 use Rattle.bsc_network_laws.proofs.Diallers.{IsFit, KnowsNames, asks_right}
-use Rattle.bsc_network_laws.proofs.Named.{Named, arrived-up}
+use Rattle.bsc_network_laws.proofs.Named.{arrived-up}
 use Rattle.bsc_network_laws.proofs.Joins.{SidesJoined}
 use Rattle.bsc_network_laws.proofs.Callers.{history-called}
 use Rattle.bsc_network_laws.proofs.Looks.{LooksFit}

@@ -5,7 +5,6 @@ use Rattle.std.proofs.lemmas.Bool.{eqb-true}
 use Rattle.bsc_history.specs.declared.call.Call.{Call}
 use Rattle.bsc_history.specs.declared.call.Call.TheVariants.{Connect}
 use Rattle.bsc_history.specs.declared.connection.Connection.{Connection}
-use Rattle.bsc_history.specs.declared.looks.Look.{Look}
 use Rattle.bsc_history.specs.Ends.{joined, numbered}
 use Rattle.bsc_history.specs.Entries.{connection_of}
 use Rattle.bsc_history.specs.Legality.{looks_at}
@@ -20,7 +19,7 @@ use Rattle.bsc_network.specs.declared.arrival.Arrival.{Arrival}
 use Rattle.bsc_network.specs.declared.parcel.Content.{Content}
 use Rattle.bsc_network.specs.declared.parcel.Content.TheVariants.{Message, Closed}
 use Rattle.bsc_network.specs.Traffic.{Traffic}
-use Rattle.bsc_network.specs.Worlds.{World, Hub, HubSide, Node, Link, history, hub_at, node_at, link_at}
+use Rattle.bsc_network.specs.Worlds.{World, Hub, HubSide, Node, Link, history, hub_at, node_at}
 use Rattle.bsc_network.specs.Changes.{changed_at, with_found, with_link, with_side, with_traffic}
 use Rattle.bsc_network.specs.HubCalls.{taken_over, taken_by, taken_from, called, entry_in}
 use Rattle.bsc_network.specs.NodeSides.{other_way, hold_of, puts_on, puts_by}

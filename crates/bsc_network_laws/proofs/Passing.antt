@@ -1,7 +1,7 @@
 -- After each step, each NPDU in an outbox was passed on to its connection: it is that of a Send of the node that dialled the
 -- sender's link, and meant for a connection that was live then.
-use Rattle.std.proofs.Common.{◌≡◌, ◌⊎◌, inl, inr, ℕ, ◌==◌, nat_le, Bool, true, false, not, cond, ◌&&◌, ◌||◌, List, [], ◌∷◌, ◌++◌, filter, find, length, map, Option, Some, None, MatchOption, is_some, refl, ap, sym, subst, ◌∙◌, append_assoc, arith}
-use Rattle.std.specs.Prelude.{◌+◌, slice_get, ⊤}
+use Rattle.std.proofs.Common.{◌≡◌, ◌⊎◌, inl, inr, ℕ, ◌==◌, nat_le, Bool, true, false, not, cond, ◌&&◌, ◌||◌, List, [], ◌∷◌, ◌++◌, filter, length, map, Option, Some, None, MatchOption, is_some, refl, ap, sym, subst, ◌∙◌, append_assoc}
+use Rattle.std.specs.Prelude.{slice_get, ⊤}
 use Rattle.std.specs.Option.{option_map}
 use Rattle.std.specs.List.{AllByRecursion, list_any}
 use Rattle.std.proofs.lemmas.Bool.{and_parts, both_ways, eqb-true, eq-eqb}
@@ -34,7 +34,6 @@ use Rattle.bsc_node.specs.declared.link_name.LinkName.{LinkName}
 use Rattle.bsc_network.specs.declared.world_step.WorldStep.{WorldStep}
 use Rattle.bsc_network.specs.declared.way.Way.TheVariants.{Up}
 use Rattle.bsc_network.specs.declared.arrival.Arrival.{Arrival}
-use Rattle.bsc_network.specs.declared.parcel.Parcel.{Parcel}
 use Rattle.bsc_network.specs.declared.parcel.Content.TheVariants.{Message, Closed}
 use Rattle.bsc_network.specs.declared.parcel.Content.{Content}
 use Rattle.bsc_network.specs.declared.hold.Hold.{Hold}
@@ -46,13 +45,13 @@ use Rattle.bsc_network.specs.NodeEvents.{hears}
 use Rattle.bsc_network.specs.Outboxes.{Frame, at_place, frames, frames_by}
 use Rattle.bsc_network.proofs.Frames.{frames-more}
 use Rattle.bsc_network.proofs.Places.{all-mapped, all-joined, all-at, got-changed}
-use Rattle.bsc_network_laws.specs.Ends.{message_of, messages}
+use Rattle.bsc_network_laws.specs.Ends.{messages}
 use Rattle.bsc_network_laws.specs.Carrying.{Sendings, is_npdu, npdus, IsSentBy}
 use Rattle.bsc_network_laws.specs.Naming.{Cast}
 use Rattle.bsc_network_laws.specs.Connecting.{is_conn, HasJoinedBy}
 use Rattle.bsc_network_laws.specs.Passing.{IsPassedOn, IsPassedTo, PassesOn}
-use Rattle.bsc_network_laws.proofs.Moves.{IsSide, HasArrived, IsSaid, Comes, Lets, EachWhole}
-use Rattle.bsc_network_laws.proofs.Acting.{goes_on_in, EachAct, LetsActs, lets-hears}
+use Rattle.bsc_network_laws.proofs.Moves.{IsSide, HasArrived, IsSaid, Lets, EachWhole}
+use Rattle.bsc_network_laws.proofs.Acting.{LetsActs, lets-hears}
 use Rattle.bsc_network_laws.proofs.Sides.{side_of, with_call}
 use Rattle.bsc_network_laws.proofs.Beside.{Keeps, KeepsGiven}
 use Rattle.bsc_network_laws.proofs.Holding.{Keep}
@@ -281,28 +280,31 @@ passes-forwards cast S T place w l j p h k m d side conn arrival said known c =
         let to = In-filter (means m d) taker.0 (live H) taker.1 in
         let number : taker.0.number ≡ c = eqb-true taker.0.number c (and_parts (taker.0.number == c) (not (is_too_long (out_of H d m) taker.0 || is_found_full h.about (sent h.about H c) looks c)) taker.2).0 in
         let caller : sender.0.caller ≡ l = joined_by h l d sender.0 legal (known.sides.joined l j h k d (side_of w l j h k side) conn) from_joined from.1 in
-        let up = with_dest S k.from p m route (sent-up S w l p k m side.link arrival known.sent (sym (npdu-out m (vmac_of H d)) ∙ is)) in
-        (taker.0, number, record {
-          before = h.posted;
-          forward = new;
-          later = [];
-          split = refl;
-          from = sender.0;
-          frame = m;
-          call = ap (λ n. Forward n m) (sym from.1);
-          place = refl;
-          sender_live = numbered_so sender.0 (live H) (live_numbers h.about H legal) from.0;
-          receiver_live = numbered_so taker.0 (live H) (live_numbers h.about H legal) to.0;
-          meant = ap (λ n. means m n taker.0) from.1 ∙ to.1;
-          octets = ap (λ o. out m (vmac_in o)) (ap (λ n. numbered n (joined H)) (sym from.1) ∙ numbered_so sender.0 (joined H) (joined_numbers h.about H legal) from_joined);
-          sender = k.from;
-          dialled = ap (λ n. option_map (λ (x : Link). x.from) (link_at w n)) caller ∙ ap (option_map (λ (x : Link). x.from)) side.link;
-          dest = up.0;
-          npdu = up.1;
-          id = up.2;
-          sends = up.3;
-          carried = up.4;
-        })
+        let up = with_dest S k.from p m route (sent-up S w l p k m side.link arrival known.sent (sym (npdu-out m (vmac_of H d)) ∙ is)) in (
+          taker.0,
+          number,
+          record {
+            before = h.posted;
+            forward = new;
+            later = [];
+            split = refl;
+            from = sender.0;
+            frame = m;
+            call = ap (λ n. Forward n m) (sym from.1);
+            place = refl;
+            sender_live = numbered_so sender.0 (live H) (live_numbers h.about H legal) from.0;
+            receiver_live = numbered_so taker.0 (live H) (live_numbers h.about H legal) to.0;
+            meant = ap (λ n. means m n taker.0) from.1 ∙ to.1;
+            octets = ap (λ o. out m (vmac_in o)) (ap (λ n. numbered n (joined H)) (sym from.1) ∙ numbered_so sender.0 (joined H) (joined_numbers h.about H legal) from_joined);
+            sender = k.from;
+            dialled = ap (λ n. option_map (λ (x : Link). x.from) (link_at w n)) caller ∙ ap (option_map (λ (x : Link). x.from)) side.link;
+            dest = up.0;
+            npdu = up.1;
+            id = up.2;
+            sends = up.3;
+            carried = up.4;
+          },
+        )
 
 -- ---- the moves
 

@@ -1,5 +1,5 @@
 -- What holds of each move holds where the end of a session is one move; and what is kept there, where another thing holds.
-use Rattle.std.proofs.Common.{ℕ, true}
+use Rattle.std.proofs.Common.{true}
 use Rattle.bsc_history.specs.declared.call.Call.TheVariants.{Leave}
 use Rattle.bsc_network.specs.declared.world_step.WorldStep.{WorldStep}
 use Rattle.bsc_network.specs.Worlds.{World, HubSide}

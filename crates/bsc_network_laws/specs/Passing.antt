@@ -65,7 +65,9 @@ IsPassedBy S w posted l f = (to : Connection) × (to.caller ≡ l) × IsPassedOn
 
 -- Each NPDU on the way down from a hub was passed on to the connection that joined by this link.
 abbrev pub ComesDown : Sendings → World → Type 0
-ComesDown S w = (l j : ℕ) (h : Hub) (link : Link) → link_at w l ≡ Some link → link.to ≡ ToHub j → hub_at w j ≡ Some h → AllByRecursion (IsPassedBy S w h.posted l) (npdus (messages link.down))
+ComesDown S w =
+    (l j : ℕ) (h : Hub) (link : Link) → link_at w l ≡ Some link → link.to ≡ ToHub j → hub_at w j ≡ Some h
+    → AllByRecursion (IsPassedBy S w h.posted l) (npdus (messages link.down))
 
 -- So it is in every network, whatever steps are made.
 abbrev pub WhatComesDownWasSent : Type 0
