@@ -20,6 +20,14 @@ pub mod OwnNames
 pub mod Named
 pub mod Diallers
 pub mod Joins
+pub mod Lasting
+pub mod Brought
+pub mod MadeWell
+pub mod OtherEnds
+pub mod DirectLinks
+pub mod Directly
+pub mod CameDirectly
+pub mod Sources
 pub mod Running
 pub mod Carried
 mod WorkedCourse

@@ -4,3 +4,4 @@ pub mod Deliveries
 pub mod Carried
 pub mod Naming
 pub mod Connecting
+pub mod Peers

@@ -8,5 +8,5 @@ mod laws;
 
 pub use laws::{
     connections_are_of_diallers, connections_joined_by_their_links, names_are_right,
-    puts_what_was_sent, taken_comes_down,
+    peers_are_there, puts_what_was_sent, taken_comes_down,
 };
