@@ -30,6 +30,14 @@ pub mod Passing
 pub mod Histories
 pub mod ComingDown
 pub mod FromHubs
+pub mod Lasting
+pub mod Brought
+pub mod MadeWell
+pub mod OtherEnds
+pub mod DirectLinks
+pub mod Directly
+pub mod CameDirectly
+pub mod Sources
 pub mod Running
 pub mod Carried
 mod WorkedCourse

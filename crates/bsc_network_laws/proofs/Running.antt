@@ -13,7 +13,7 @@ use Rattle.bsc_node_identity.proofs.Timely.{Timely}
 use Rattle.bsc_network.specs.declared.world_step.WorldStep.TheVariants.{Node as OfNode}
 use Rattle.bsc_network.specs.declared.timed_step.TimedStep.{TimedStep}
 use Rattle.bsc_network.specs.Settings.{Added, hubs, nodes}
-use Rattle.bsc_network.specs.Worlds.{World, Hub, Link, Node, history, new_hub, new_node, new_world}
+use Rattle.bsc_network.specs.Worlds.{World, Hub, Link, Node, history, new_hub, new_node, new_world, node_at}
 use Rattle.bsc_network.specs.Outboxes.{frames, frames_of}
 use Rattle.bsc_network.specs.HubCalls.{taken_from}
 use Rattle.bsc_network.specs.Networks.{makes, world}
@@ -33,7 +33,7 @@ use Rattle.bsc_network_laws.proofs.Callers.{by-still}
 use Rattle.bsc_network_laws.proofs.Legally.{Legally, legally-same}
 use Rattle.bsc_network_laws.proofs.Passing.{KnowsHistories, passes-still}
 use Rattle.bsc_network_laws.proofs.Histories.{histories-done, passes-done}
-use Rattle.bsc_network_laws.proofs.Diallers.{Inv, inv-same, IsFit, kept-names, diallers_stay, nodes_fit}
+use Rattle.bsc_network_laws.proofs.Diallers.{Inv, inv-same, IsFit, KnowsNames, kept-names, diallers_stay, nodes_fit}
 use Rattle.bsc_history.specs.Ends.{joined, joined_where}
 use Rattle.bsc_history.specs.Legality.{Legal}
 use Rattle.bsc_history.specs.Outboxes.{looked}
@@ -43,6 +43,14 @@ use Rattle.bsc_network_laws.proofs.Knowing.{knows-begun, kept-step}
 use Rattle.bsc_network_laws.proofs.Casting.{Stays, Casts, casts-same, KnowsAll, kept-all, casts-done}
 use Rattle.bsc_network_laws.proofs.Named.{OutboxesNameNobody, Named, named-same, named_stays}
 use Rattle.bsc_network_laws.proofs.SentOnLinks.{AllSent, IsCounted, sent_stays}
+use Rattle.bsc_direct.proofs.OneMore.{some_none}
+use Rattle.bsc_node.specs.declared.link_name.LinkName.TheVariants.{Direct}
+use Rattle.bsc_node.specs.Links.{peer}
+use Rattle.bsc_network_laws.proofs.Lasting.{lasts-same}
+use Rattle.bsc_network_laws.proofs.MadeWell.{MadeWell, made_well}
+use Rattle.bsc_network_laws.proofs.OtherEnds.{LeadsToHub, EndsRight, ends-same, ends_stay, kept-ends}
+use Rattle.bsc_network_laws.proofs.DirectLinks.{AllDirect, direct-same}
+use Rattle.bsc_network_laws.proofs.Directly.{direct_stays}
 
 -- What holds after so many steps, the last of which was at the time T.
 pub record Runs (cast : Cast) (S : Sendings) (T place : ℕ) (w : World) : Type 0 where
@@ -60,6 +68,9 @@ pub record Runs (cast : Cast) (S : Sendings) (T place : ℕ) (w : World) : Type 
   pub looks : LooksFit w
   pub legally : Legally w
   pub passes : PassesOn S w
+  pub made : MadeWell cast
+  pub ends : EndsRight cast w
+  pub direct : AllDirect S cast w
 
 sent-makes : (cast : Cast) (S : Sendings) (T : ℕ) (w : World) (t : TimedStep) → Runs cast S T w.steps w → T ≤ t.now → t.now < 2 ^ 62 → IsCounted S w.steps t.step → AllSent S (makes w t)
 sent-makes cast S T w t r after below sends =
@@ -97,6 +108,20 @@ passes-makes : (cast : Cast) → IsFit cast → (S : Sendings) (T : ℕ) (w : Wo
 passes-makes cast fit S T w t r after below sends =
     passes-still S (done w t) (makes w t) refl refl refl (passes-done cast fit S t w.steps sends w (histories cast S T w t r after below) (passes-still S w (begun w t) refl refl refl r.passes))
 
+names-begun : (cast : Cast) (S : Sendings) (T : ℕ) (w : World) (t : TimedStep) → Runs cast S T w.steps w → T ≤ t.now → t.now < 2 ^ 62 → KnowsNames cast t.now w.steps (begun w t)
+names-begun cast S T w t r after below = (known cast S T w t r after below, named-same cast w (begun w t) refl refl r.named)
+
+ends-begun : (cast : Cast) (S : Sendings) (T : ℕ) (w : World) (t : TimedStep) → Runs cast S T w.steps w → EndsRight cast (begun w t)
+ends-begun cast S T w t r = ends-same cast w (begun w t) (lasts-same w (begun w t) refl refl refl) refl r.ends
+
+ends-done : (cast : Cast) (S : Sendings) (T : ℕ) (w : World) (t : TimedStep) → Runs cast S T w.steps w → T ≤ t.now → t.now < 2 ^ 62 → EndsRight cast (done w t)
+ends-done cast S T w t r after below = kept-names cast (EndsRight cast) t w.steps (ends_stay cast r.made t.now w.steps t.step) w (names-begun cast S T w t r after below) (ends-begun cast S T w t r)
+
+direct-done : (cast : Cast) (S : Sendings) (T : ℕ) (w : World) (t : TimedStep) → Runs cast S T w.steps w → T ≤ t.now → t.now < 2 ^ 62 → IsCounted S w.steps t.step → AllDirect S cast (done w t)
+direct-done cast S T w t r after below sends =
+    kept-ends cast r.made (AllDirect S cast) t w.steps (direct_stays S cast r.made t.now w.steps t.step sends) w (names-begun cast S T w t r after below, ends-begun cast S T w t r)
+    (direct-same S cast w (begun w t) (lasts-same w (begun w t) refl refl refl) refl r.direct)
+
 one_step : (cast : Cast) → IsFit cast → (S : Sendings) (T : ℕ) (w : World) (t : TimedStep) → Runs cast S T w.steps w → T ≤ t.now → t.now < 2 ^ 62 → IsCounted S w.steps t.step → Runs cast S t.now (w.steps + 1) (makes w t)
 one_step cast fit S T w t r after below sends = record {
   place_is = ap (λ n. n + 1) (at-done T w t after below r.timely).steps;
@@ -112,6 +137,9 @@ one_step cast fit S T w t r after below sends = record {
   looks = looks-same (done w t) (makes w t) refl refl (histories-makes cast fit S T w t r after below sends).sides.looks;
   legally = legally-same (done w t) (makes w t) refl refl (histories-makes cast fit S T w t r after below sends).legally;
   passes = passes-makes cast fit S T w t r after below sends;
+  made = r.made;
+  ends = ends-same cast (done w t) (makes w t) (lasts-same (done w t) (makes w t) refl refl refl) refl (ends-done cast S T w t r after below);
+  direct = direct-same S cast (done w t) (makes w t) (lasts-same (done w t) (makes w t) refl refl refl) refl (direct-done cast S T w t r after below sends);
   diallers = inv-same cast (done w t) (makes w t) (keep-others (done w t) (makes w t) refl refl) refl (dialled-done cast fit S T w t r after below);
 }
 
@@ -194,6 +222,16 @@ legal-new : (abouts : List About) → AllByRecursion (λ (h : Hub). Legal h.abou
 legal-new [] = tt
 legal-new (a ∷ rest) = (record { lawful = tt }, legal-new rest)
 
+-- at first no node has an end, nor a peer
+ends-new : (added : List Added) → EndsRight (cast_of added) (new_world added)
+ends-new added = record {
+  hubs = λ k n here. let made = at_first k n here in subst (λ (m : Node). AllByRecursion (LeadsToHub (new_world added)) m.holds) made.1 tt;
+  peers = λ k n s who here is. let made = at_first k n here in some_none who (sym is ∙ ap (λ (m : Node). peer m.log (Direct s)) (sym made.1));
+}
+  where
+    at_first : (k : ℕ) (n : Node) → node_at (new_world added) k ≡ Some n → (m : Made) × (new_node m ≡ n)
+    at_first k n here = let made = found-in new_node (slice_get (nodes added) k) n (sym (slice_get-map new_node (nodes added) k) ∙ here) in (made.0, made.2)
+
 no_link : (l : ℕ) (k : Link) → slice_get [] l ≡ Some k → ⊥
 no_link l k h = cc
 
@@ -215,5 +253,8 @@ runs added steps course =
       looks = looks-new added;
       legally = record { legal = legal-new (hubs added); stay = λ l j h k c side conn. absurd (no_link l k side.link) };
       passes = passes-new (Sends steps) added;
+      made = made_well added course.added_all;
+      ends = ends-new added;
+      direct = λ l x way k j d. absurd (no_link l x d.link);
       diallers = joined-new (cast_of added) (new_world added) (hubs added);
     }) course.made_all

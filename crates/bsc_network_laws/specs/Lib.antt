@@ -5,3 +5,4 @@ pub mod Carried
 pub mod Naming
 pub mod Connecting
 pub mod Passing
+pub mod Peers

@@ -3,6 +3,7 @@ ghost use Rattle.bsc_network_laws.specs.Carried.{TakenComesDown, PutsWhatWasSent
 ghost use Rattle.bsc_network_laws.specs.Naming.{NamesAreRight};
 ghost use Rattle.bsc_network_laws.specs.Connecting.{ConnectionsAreOfDiallers, ConnectionsJoinedByTheirLinks, ConnectionsJoinByLinks, HistoriesAreLegal};
 ghost use Rattle.bsc_network_laws.specs.Passing.{OutboxesHaveWhatWasSent, WhatComesDownWasSent};
+ghost use Rattle.bsc_network_laws.specs.Peers.{PeersAreThere};
 
 /// The NPDUs on the way down from a hub are those that were taken from the outbox of its link's connection, in order, each
 /// once, with its place.
@@ -49,4 +50,9 @@ pub fn outboxes_have_what_was_sent()
 /// Each NPDU on the way down from a hub was passed on so to the connection that joined by this link.
 pub fn what_comes_down_was_sent()
     ensures { WhatComesDownWasSent }
+{}
+
+/// The peer with which a slot is established is the node or the hub at the other end of the slot's link.
+pub fn peers_are_there()
+    ensures { PeersAreThere }
 {}
