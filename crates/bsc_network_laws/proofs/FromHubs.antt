@@ -10,6 +10,7 @@ use Rattle.bsc_octets.specs.Forwarding.{destination, out}
 use Rattle.bsc_frame.specs.declared.message.Message.{Message}
 use Rattle.bsc_frame.specs.declared.body.Body.TheVariants.{Npdu}
 use Rattle.bsc_verdict.specs.Outcomes.{outcome_of}
+use Rattle.bsc_checks.specs.declared.place.Place.{Place}
 use Rattle.bsc_checks.specs.declared.verdict.Verdict.TheVariants.{Pass}
 use Rattle.bsc_history.specs.declared.connection.Connection.{Connection}
 use Rattle.bsc_history.specs.Outboxes.{means}
@@ -75,9 +76,6 @@ pub record IsDeliveredSo (from dest : Vmac) (npdu : List ℕ) (d : Delivered) : 
   pub npdu_is : d.npdu ≡ npdu
   pub for_all : d.broadcast ≡ same_vmac dest broadcast
 
-same_deliver : (d e : Delivered) → Deliver d ≡ Deliver e → d ≡ e
-same_deliver d e h = cc
-
 same_npdu : (x y : List ℕ) → Npdu x ≡ Npdu y → x ≡ y
 same_npdu x y h = cc
 
@@ -96,22 +94,16 @@ for_all_out dest = by (same_vmac dest broadcast)
     by true = vmac_refl broadcast broadcast refl
     by false = refl
 
--- An NPDU that a hub passed on is delivered so.
-pub delivered_so : (a : Made) (L : Log) (e : TimedEvent) (name : LinkName) (o : List ℕ) (d : Delivered) (id : ℕ) (v dest : Vmac) (npdu : List ℕ) → e.event ≡ Came name o → o ≡ out (message_octets id (Some dest) (Npdu npdu)) v
-    → id < 2 ^ 16 → length v.0 ≡ 6 → length dest.0 ≡ 6 → IsDeliveredOnce a L e → Among (Deliver d) (delivered_at a L e) → IsDeliveredSo v dest npdu d
-delivered_so a L e name o d id v dest npdu came is small whole six_dest (link, heard, msg, content, from, event, passes, body, sent_by, deliveries) among =
-    let octets : heard ≡ out (message_octets id (Some dest) (Npdu npdu)) v = same_octets name link o heard (sym came ∙ event) ∙ is in
-    let said : msg ≡ passed_on id v dest (Npdu npdu) =
-    npdus_on npdu id v dest (place_of a (with_event L e) link) a.own.max_bvlc msg small whole six_dest (subst (λ m. outcome_of m (place_of a (with_event L e) link) a.own.max_bvlc ≡ Pass msg) octets passes) in
-    let delivered : d ≡ delivery msg content from = same_deliver d _ (only (Deliver d) (Deliver (delivery msg content from)) (subst (Among (Deliver d)) deliveries among)) in
+-- What passed of a frame that a hub passed on is delivered so.
+pub passed_so : (name : LinkName) (msg : Message) (L : Log) (at : Place) (max id : ℕ) (v dest : Vmac) (npdu content : List ℕ) (from : Vmac) → id < 2 ^ 16 → length v.0 ≡ 6 → length dest.0 ≡ 6
+    → outcome_of (out (message_octets id (Some dest) (Npdu npdu)) v) at max ≡ Pass msg → msg.body ≡ Npdu content → sender name msg L ≡ Some from → IsDeliveredSo v dest npdu (delivery msg content from)
+passed_so name msg L at max id v dest npdu content from small whole six_dest passes body sent_by =
+    let said : msg ≡ passed_on id v dest (Npdu npdu) = npdus_on npdu id v dest at max msg small whole six_dest passes in
     record {
-      from_is = ap (λ (x : Delivered). x.from) delivered ∙ from_origin link msg (with_heard a L e link heard) v from (ap (λ (m : Message). m.origin) said) sent_by;
-      npdu_is = ap (λ (x : Delivered). x.npdu) delivered ∙ same_npdu content npdu (sym body ∙ ap (λ (m : Message). m.body) said);
-      for_all = ap (λ (x : Delivered). x.broadcast) delivered ∙ ap is_for_all said ∙ for_all_out dest;
+      from_is = from_origin name msg L v from (ap (λ (m : Message). m.origin) said) sent_by;
+      npdu_is = same_npdu content npdu (sym body ∙ ap (λ (m : Message). m.body) said);
+      for_all = ap is_for_all said ∙ for_all_out dest;
     }
-  where
-    same_octets : (name link : LinkName) (o heard : List ℕ) → Came name o ≡ Came link heard → heard ≡ o
-    same_octets name link o heard h = cc
 
 -- ---- by a hub
 

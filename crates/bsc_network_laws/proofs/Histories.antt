@@ -26,14 +26,14 @@ use Rattle.bsc_network_laws.proofs.Passing.{KnowsHistories, passes}
 -- ---- what moves keep, in other words
 
 -- two things that each move keeps
-keeps_both : (D : WorldStep) (P Q : World → Type 0) → Lets D (Keeps P) → Lets D (Keeps Q) → Lets D (Keeps (λ u. P u × Q u))
+pub keeps_both : (D : WorldStep) (P Q : World → Type 0) → Lets D (Keeps P) → Lets D (Keeps Q) → Lets D (Keeps (λ u. P u × Q u))
 keeps_both D P Q M N = record {
   none = λ w p. p;
   then = λ u v w f g p. g (f p);
   each = each-as D (λ u v. Keeps P u v × Keeps Q u v) (Keeps (λ u. P u × Q u)) (λ u v f p. (f.0 p.0, f.1 p.1)) (both D (Keeps P) (Keeps Q) M N).each;
 }
 
-keeps_as : (D : WorldStep) (P Q : World → Type 0) → ((w : World) → P w → Q w) → ((w : World) → Q w → P w) → Lets D (Keeps P) → Lets D (Keeps Q)
+pub keeps_as : (D : WorldStep) (P Q : World → Type 0) → ((w : World) → P w → Q w) → ((w : World) → Q w → P w) → Lets D (Keeps P) → Lets D (Keeps Q)
 keeps_as D P Q to from M = record {
   none = λ w q. q;
   then = λ u v w f g q. g (f q);
@@ -66,7 +66,7 @@ knows_sent cast S T place D sends =
     (each-as D (KeepsGiven (Knows T place) (AllSent S)) (KeepsGiven (KnowsSides cast T place) (AllSent S)) (λ u v f p. f p.names.0.0) (sent_stays S T place D sends))
 
 -- with the histories
-whole_as : (D : WorldStep) (P Q : World → Type 0) → ((w : World) → P w → Q w) → ((w : World) → Q w → P w) → LetsWhole D (Keeps P) → LetsWhole D (Keeps Q)
+pub whole_as : (D : WorldStep) (P Q : World → Type 0) → ((w : World) → P w → Q w) → ((w : World) → Q w → P w) → LetsWhole D (Keeps P) → LetsWhole D (Keeps Q)
 whole_as D P Q to from M = record {
   none = λ w q. q;
   then = λ u v w f g q. g (f q);

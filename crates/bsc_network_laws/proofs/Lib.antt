@@ -38,6 +38,8 @@ pub mod DirectLinks
 pub mod Directly
 pub mod CameDirectly
 pub mod Sources
+pub mod HubsThere
+pub mod BothSources
 pub mod Running
 pub mod Carried
 mod WorkedCourse

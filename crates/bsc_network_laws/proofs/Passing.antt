@@ -1,7 +1,7 @@
 -- After each step, each NPDU in an outbox was passed on to its connection: it is that of a Send of the node that dialled the
 -- sender's link, and meant for a connection that was live then.
-use Rattle.std.proofs.Common.{◌≡◌, ◌⊎◌, inl, inr, ℕ, ◌==◌, nat_le, Bool, true, false, not, cond, ◌&&◌, ◌||◌, List, [], ◌∷◌, ◌++◌, filter, length, map, Option, Some, None, MatchOption, is_some, refl, ap, sym, subst, ◌∙◌, append_assoc}
-use Rattle.std.specs.Prelude.{slice_get, ⊤}
+use Rattle.std.proofs.Common.{◌≡◌, ◌<◌, ◌⊎◌, inl, inr, ℕ, ◌==◌, nat_le, Bool, true, false, not, cond, ◌&&◌, ◌||◌, List, [], ◌∷◌, ◌++◌, filter, length, map, Option, Some, None, MatchOption, is_some, refl, ap, sym, subst, ◌∙◌, append_assoc}
+use Rattle.std.specs.Prelude.{◌^◌, slice_get, ⊤}
 use Rattle.std.specs.Option.{option_map}
 use Rattle.std.specs.List.{AllByRecursion, list_any}
 use Rattle.std.proofs.lemmas.Bool.{and_parts, both_ways, eqb-true, eq-eqb}
@@ -116,6 +116,7 @@ passed_later S u v dialled posted grown later to f p split = record {
   dest = p.dest;
   npdu = p.npdu;
   id = p.id;
+  small = p.small;
   sends = p.sends;
   carried = p.carried;
 }
@@ -204,9 +205,9 @@ sent-up S w l place k m here arrival all is =
 
 -- what is to be carried has the destination
 with_dest : (S : Sendings) (k place : ℕ) (m : List ℕ) → has_route m ≡ true → IsSentBy S k (record { octets = m; sent_at = place })
-    → (dest : Vmac) × (npdu : List ℕ) × (id : ℕ) × S place k dest npdu × (m ≡ message_octets id (Some dest) (Npdu npdu))
-with_dest S k place m route (dest, npdu, id, to, sends, octets, inl is) = (dest, npdu, id, sends, octets ∙ ap (λ o. message_octets id o (Npdu npdu)) is)
-with_dest S k place m route (dest, npdu, id, to, sends, octets, inr is) = absurd (none (ap has_route (sym (octets ∙ ap (λ o. message_octets id o (Npdu npdu)) is)) ∙ route))
+    → (dest : Vmac) × (npdu : List ℕ) × (id : ℕ) × S place k dest npdu × (m ≡ message_octets id (Some dest) (Npdu npdu)) × (id < 2 ^ 16)
+with_dest S k place m route (dest, npdu, id, to, sends, octets, inl is, small) = (dest, npdu, id, sends, octets ∙ ap (λ o. message_octets id o (Npdu npdu)) is, small)
+with_dest S k place m route (dest, npdu, id, to, sends, octets, inr is, small) = absurd (none (ap has_route (sym (octets ∙ ap (λ o. message_octets id o (Npdu npdu)) is)) ∙ route))
   where
     none : has_route (message_octets id None (Npdu npdu)) ≡ true → ⊥
     none h = absurd (both_ways (announces_dest (flags_in (message_octets id None (Npdu npdu)))) refl (announced (message_octets id None (Npdu npdu)) h))
@@ -301,6 +302,7 @@ passes-forwards cast S T place w l j p h k m d side conn arrival said known c =
             dest = up.0;
             npdu = up.1;
             id = up.2;
+          small = up.5;
             sends = up.3;
             carried = up.4;
           },

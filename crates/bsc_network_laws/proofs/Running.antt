@@ -37,6 +37,9 @@ use Rattle.bsc_network_laws.proofs.Diallers.{Inv, inv-same, IsFit, KnowsNames, k
 use Rattle.bsc_history.specs.Ends.{joined, joined_where}
 use Rattle.bsc_history.specs.Legality.{Legal}
 use Rattle.bsc_history.specs.Outboxes.{looked}
+use Rattle.bsc_network_laws.proofs.HubsThere.{HubsThere, hubs_there}
+use Rattle.bsc_network_laws.proofs.Sources.{AllFrom, KnowsSources, from-same}
+use Rattle.bsc_network_laws.proofs.BothSources.{AreWhole, KnowsHubs, sources-done}
 use Rattle.bsc_network_laws.proofs.Timing.{AllTimely, all_timely, at-done}
 use Rattle.bsc_network_laws.proofs.Taken.{SidesFit, down_is_taken}
 use Rattle.bsc_network_laws.proofs.Knowing.{knows-begun, kept-step}
@@ -71,6 +74,8 @@ pub record Runs (cast : Cast) (S : Sendings) (T place : ℕ) (w : World) : Type 
   pub made : MadeWell cast
   pub ends : EndsRight cast w
   pub direct : AllDirect S cast w
+  pub there : HubsThere w
+  pub from : AreWhole S → AllFrom S w
 
 sent-makes : (cast : Cast) (S : Sendings) (T : ℕ) (w : World) (t : TimedStep) → Runs cast S T w.steps w → T ≤ t.now → t.now < 2 ^ 62 → IsCounted S w.steps t.step → AllSent S (makes w t)
 sent-makes cast S T w t r after below sends =
@@ -122,6 +127,24 @@ direct-done cast S T w t r after below sends =
     kept-ends cast r.made (AllDirect S cast) t w.steps (direct_stays S cast r.made t.now w.steps t.step sends) w (names-begun cast S T w t r after below, ends-begun cast S T w t r)
     (direct-same S cast w (begun w t) (lasts-same w (begun w t) refl refl refl) refl r.direct)
 
+-- all of that at the beginning of a step
+sources-begun : (cast : Cast) (S : Sendings) (T : ℕ) (w : World) (t : TimedStep) → Runs cast S T w.steps w → T ≤ t.now → t.now < 2 ^ 62 → KnowsSources S cast t.now w.steps (KnowsHubs cast S t.now w.steps) (begun w t)
+sources-begun cast S T w t r after below = (
+  (names-begun cast S T w t r after below, ends-begun cast S T w t r),
+  direct-same S cast w (begun w t) (lasts-same w (begun w t) refl refl refl) refl r.direct,
+  record {
+    histories = histories cast S T w t r after below;
+    passes = passes-still S w (begun w t) refl refl refl r.passes;
+    there = record { within = r.there.within };
+    diallers = inv-same cast w (begun w t) (keep-others w (begun w t) refl refl) refl r.diallers;
+  },
+)
+
+from-makes : (cast : Cast) → IsFit cast → (S : Sendings) (T : ℕ) (w : World) (t : TimedStep) → Runs cast S T w.steps w → T ≤ t.now → t.now < 2 ^ 62 → IsCounted S w.steps t.step → AreWhole S → AllFrom S (makes w t)
+from-makes cast fit S T w t r after below sends whole =
+    from-same S (done w t) (makes w t) (lasts-same (done w t) (makes w t) refl refl refl) refl
+    (sources-done cast fit r.made S whole t w.steps sends w (sources-begun cast S T w t r after below) (from-same S w (begun w t) (lasts-same w (begun w t) refl refl refl) refl (r.from whole)))
+
 one_step : (cast : Cast) → IsFit cast → (S : Sendings) (T : ℕ) (w : World) (t : TimedStep) → Runs cast S T w.steps w → T ≤ t.now → t.now < 2 ^ 62 → IsCounted S w.steps t.step → Runs cast S t.now (w.steps + 1) (makes w t)
 one_step cast fit S T w t r after below sends = record {
   place_is = ap (λ n. n + 1) (at-done T w t after below r.timely).steps;
@@ -140,6 +163,8 @@ one_step cast fit S T w t r after below sends = record {
   made = r.made;
   ends = ends-same cast (done w t) (makes w t) (lasts-same (done w t) (makes w t) refl refl refl) refl (ends-done cast S T w t r after below);
   direct = direct-same S cast (done w t) (makes w t) (lasts-same (done w t) (makes w t) refl refl refl) refl (direct-done cast S T w t r after below sends);
+  there = hubs_there w t r.there;
+  from = from-makes cast fit S T w t r after below sends;
   diallers = inv-same cast (done w t) (makes w t) (keep-others (done w t) (makes w t) refl refl) refl (dialled-done cast fit S T w t r after below);
 }
 
@@ -256,5 +281,7 @@ runs added steps course =
       made = made_well added course.added_all;
       ends = ends-new added;
       direct = λ l x way k j d. absurd (no_link l x d.link);
+      there = record { within = λ l j x here leads. absurd (no_link l x here) };
+      from = λ whole. tt;
       diallers = joined-new (cast_of added) (new_world added) (hubs added);
     }) course.made_all

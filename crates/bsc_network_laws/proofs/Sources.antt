@@ -190,7 +190,7 @@ each_act S cast T place k w by = record {
 abbrev pub KnowsSources : Sendings → Cast → ℕ → ℕ → (World → Type 0) → World → Type 0
 KnowsSources S cast T place More u = KnowsEnds cast T place u × AllDirect S cast u × More u
 
-from-hears : (S : Sendings) (cast : Cast) (T place : ℕ) (D : WorldStep) (More : World → Type 0) (w : World) (k : ℕ) (n : Node) (by : Option Arrival) (e : NodeEvent) → HubsPart S w k n by e → node_at w k ≡ Some n → Comes D w k n by e
+pub from-hears : (S : Sendings) (cast : Cast) (T place : ℕ) (D : WorldStep) (More : World → Type 0) (w : World) (k : ℕ) (n : Node) (by : Option Arrival) (e : NodeEvent) → HubsPart S w k n by e → node_at w k ≡ Some n → Comes D w k n by e
     → fits n.log e ≡ true → KeepsGiven (KnowsSources S cast T place More) (AllFrom S) w (hears k by (at_once w.now e) n w)
 from-hears S cast T place D More w k n by e hubs here come fit m i =
     (acts-after cast T place D k w n by e (IsSourced S w k by) (Within S w) here come fit (each_act S cast T place k w by) m.0.0.0

@@ -1,5 +1,5 @@
 -- What hubs pass on: NPDUs of Sends, to those that are connected then.
-use Rattle.std.specs.Prelude.{◌≡◌, ℕ, true, List, ◌∷◌, ◌++◌, Some}
+use Rattle.std.specs.Prelude.{◌≡◌, ◌<◌, ◌^◌, ℕ, true, List, ◌∷◌, ◌++◌, Some}
 use Rattle.std.specs.Option.{option_map}
 use Rattle.std.specs.List.{AllByRecursion}
 use Rattle.bsc_octets.specs.declared.vmac.Vmac.{Vmac}
@@ -42,6 +42,7 @@ pub record IsPassedOn (S : Sendings) (w : World) (posted : List Posted) (to : Co
   pub dest : Vmac
   pub npdu : List ℕ
   pub id : ℕ
+  pub small : id < 2 ^ 16
   pub sends : S f.sent_at sender dest npdu
   pub carried : frame ≡ message_octets id (Some dest) (Npdu npdu)
 
