@@ -23,7 +23,9 @@ JoinsDiallers cast w h = AllByRecursion (IsOfDialler cast w) (joined (history h)
 
 -- So it is in every network, whatever steps are made.
 abbrev pub ConnectionsAreOfDiallers : Type 0
-ConnectionsAreOfDiallers = (added : List Added) (steps : List TimedStep) → IsCourse added steps → AllByRecursion (JoinsDiallers (cast_of added) (world added steps)) (world added steps).hubs
+ConnectionsAreOfDiallers =
+    (added : List Added) (steps : List TimedStep) → IsCourse added steps
+    → AllByRecursion (JoinsDiallers (cast_of added) (world added steps)) (world added steps).hubs
 
 -- ---- the connections of sides
 
@@ -36,7 +38,8 @@ HasJoinedBy h l c = list_any (is_conn l c) (joined (history h)) ≡ true
 
 -- Where the hub's side of a link has a connection, that connection joined the hub by the link's call.
 abbrev pub SidesHaveJoined : World → Type 0
-SidesHaveJoined w = (l j : ℕ) (h : Hub) (link : Link) (c : ℕ) → link_at w l ≡ Some link → link.to ≡ ToHub j → hub_at w j ≡ Some h → link.side.conn ≡ Some c → HasJoinedBy h l c
+SidesHaveJoined w =
+    (l j : ℕ) (h : Hub) (link : Link) (c : ℕ) → link_at w l ≡ Some link → link.to ≡ ToHub j → hub_at w j ≡ Some h → link.side.conn ≡ Some c → HasJoinedBy h l c
 
 -- So it is in every network, whatever steps are made.
 abbrev pub ConnectionsJoinedByTheirLinks : Type 0
