@@ -3,6 +3,7 @@ use Rattle.std.proofs.Common.{◌≡◌, ◌<◌, inl, ℕ, true, List, [], ◌�
 use Rattle.std.specs.Prelude.{◌^◌, length, slice_get}
 use Rattle.std.specs.List.{AllByRecursion}
 use Rattle.std.proofs.lemmas.List.{map-append}
+use Rattle.std.proofs.lemmas.Option.{slice_get-map}
 use Rattle.bsc_direct.proofs.OneMore.{some_same}
 use Rattle.bsc_octets.specs.declared.vmac.Vmac.{Vmac}
 use Rattle.bsc_octets.specs.Forwarding.{out}
@@ -16,13 +17,14 @@ use Rattle.bsc_history.specs.Ends.{joined, live}
 use Rattle.bsc_history.proofs.Lists.{In, In_from_all}
 use Rattle.bsc_node.specs.declared.link_name.LinkName.{LinkName}
 use Rattle.bsc_node.specs.declared.node_event.NodeEvent.{NodeEvent}
-use Rattle.bsc_node.specs.declared.node_event.NodeEvent.TheVariants.{Came}
+use Rattle.bsc_node.specs.declared.node_event.NodeEvent.TheVariants.{Came, Send}
 use Rattle.bsc_node.specs.Laws.{with_event, with_heard, delivery}
 use Rattle.bsc_node.specs.Links.{verdict, place as place_at}
 use Rattle.bsc_node.specs.Receiving.{sender}
 use Rattle.bsc_node.specs.Conditions.{fits}
 use Rattle.bsc_node_identity.proofs.Carried.{passed-said}
 use Rattle.bsc_network.specs.declared.world_step.WorldStep.{WorldStep}
+use Rattle.bsc_network.specs.declared.world_step.WorldStep.TheVariants.{Node as OfNode}
 use Rattle.bsc_network.specs.declared.timed_step.TimedStep.{TimedStep}
 use Rattle.bsc_network.specs.declared.world_delivery.WorldDelivery.{WorldDelivery}
 use Rattle.bsc_network.specs.declared.way.Way.{Way}
@@ -31,7 +33,8 @@ use Rattle.bsc_network.specs.declared.target.Target.TheVariants.{Hub as ToHub, N
 use Rattle.bsc_network.specs.declared.arrival.Arrival.{Arrival}
 use Rattle.bsc_network.specs.Worlds.{World, Hub, Node, Link, Posted, entries, history, traffic, hub_at, node_at, link_at}
 use Rattle.bsc_network.specs.Outboxes.{Frame}
-use Rattle.bsc_network.proofs.Places.{all-at}
+use Rattle.bsc_network.proofs.Places.{all-at, found-in}
+use Rattle.bsc_network_laws.specs.Deliveries.{Sends, IsWhole, HasAddress}
 use Rattle.bsc_network_laws.specs.Ends.{receiver, putter, messages}
 use Rattle.bsc_network_laws.specs.Carrying.{Sendings, is_npdu}
 use Rattle.bsc_network_laws.specs.Naming.{Cast, identity_in}
@@ -64,6 +67,12 @@ use Rattle.bsc_network_laws.proofs.Sources.{IsFrom, AllFrom, HubsPart, KnowsSour
 -- Each Send is to an address of six octets.
 abbrev pub AreWhole : Sendings → Type 0
 AreWhole S = (place k : ℕ) (dest : Vmac) (npdu : List ℕ) → S place k dest npdu → length dest.0 ≡ 6
+
+-- So it is with steps in which what is sent goes to such an address.
+pub sends_whole : (steps : List TimedStep) → AllByRecursion HasAddress steps → AreWhole (Sends steps)
+sends_whole steps all place k dest npdu sent =
+    let there = found-in (λ (t : TimedStep). t.step) (slice_get steps place) (OfNode k (Send dest npdu)) (sym (slice_get-map (λ (t : TimedStep). t.step) steps place) ∙ sent) in
+    subst IsWhole there.2 (all-at HasAddress steps place there.0 all there.1)
 
 -- what is known besides, of hubs
 pub record KnowsHubs (cast : Cast) (S : Sendings) (T place : ℕ) (w : World) : Type 0 where

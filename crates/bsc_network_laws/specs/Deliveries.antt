@@ -1,5 +1,5 @@
 -- What holds of every network: where each NPDU that is delivered came from.
-use Rattle.std.specs.Prelude.{◌≡◌, ◌≢◌, ◌⊎◌, ℕ, Bool, true, false, List, [], ◌∷◌, ◌++◌, map, slice_get, Some, ⊤}
+use Rattle.std.specs.Prelude.{◌≡◌, ◌≢◌, ◌⊎◌, ℕ, Bool, true, false, List, [], ◌∷◌, ◌++◌, length, map, slice_get, Some, ⊤}
 use Rattle.std.specs.List.{AllByRecursion}
 use Rattle.bsc_octets.specs.declared.identity.Identity.{Identity}
 use Rattle.bsc_octets.specs.declared.vmac.Vmac.{Vmac}
@@ -13,6 +13,7 @@ use Rattle.bsc_node.specs.Logs.{Line, Log}
 use Rattle.bsc_node.specs.Ways.{established_peer}
 use Rattle.bsc_network.specs.declared.way.Way.{Way}
 use Rattle.bsc_network.specs.declared.target.Target.TheVariants.{Node as ToNode}
+use Rattle.bsc_network.specs.declared.world_step.WorldStep.{WorldStep}
 use Rattle.bsc_network.specs.declared.world_step.WorldStep.TheVariants.{Node as OfNode}
 use Rattle.bsc_network.specs.declared.timed_step.TimedStep.{TimedStep}
 use Rattle.bsc_network.specs.declared.world_delivery.WorldDelivery.{WorldDelivery}
@@ -124,3 +125,20 @@ pub record DeliversWhatWasSent (added : List Added) (steps : List TimedStep) : T
 -- So it is in every network, whatever steps are made.
 abbrev pub NetworksDeliverWhatWasSent : Type 0
 NetworksDeliverWhatWasSent = (added : List Added) (steps : List TimedStep) → IsCourse added steps → DeliversWhatWasSent added steps
+
+-- ---- the first half of it
+
+-- What is sent goes to an address of six octets.
+abbrev pub IsWhole : WorldStep → Type 0
+IsWhole (OfNode k (Send dest npdu)) = length dest.0 ≡ 6
+IsWhole step = ⊤
+
+abbrev pub HasAddress : TimedStep → Type 0
+HasAddress t = IsWhole t.step
+
+-- In every network, whatever steps are made in which what is sent goes to such an address, each delivery comes from the Send at
+-- its place.
+abbrev pub DeliveriesComeFromSends : Type 0
+DeliveriesComeFromSends =
+    (added : List Added) (steps : List TimedStep) → IsCourse added steps → AllByRecursion HasAddress steps
+    → AllByRecursion (IsFromItsSend steps (world added steps)) (deliveries added steps)

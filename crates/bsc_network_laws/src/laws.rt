@@ -1,4 +1,5 @@
 //! Laws of whole networks, each carried by a function that does nothing.
+ghost use Rattle.bsc_network_laws.specs.Deliveries.{DeliveriesComeFromSends};
 ghost use Rattle.bsc_network_laws.specs.Carried.{TakenComesDown, PutsWhatWasSent};
 ghost use Rattle.bsc_network_laws.specs.Naming.{NamesAreRight};
 ghost use Rattle.bsc_network_laws.specs.Connecting.{ConnectionsAreOfDiallers, ConnectionsJoinedByTheirLinks, ConnectionsJoinByLinks, HistoriesAreLegal};
@@ -55,4 +56,10 @@ pub fn what_comes_down_was_sent()
 /// The peer with which a slot is established is the node or the hub at the other end of the slot's link.
 pub fn peers_are_there()
     ensures { PeersAreThere }
+{}
+
+/// Where what is sent goes to addresses of six octets, each delivery comes from the Send at its place: that of its NPDU, by the
+/// node that was connected to a hub under the address that is delivered, or that is at the other end of a direct connection.
+pub fn deliveries_come_from_sends()
+    ensures { DeliveriesComeFromSends }
 {}
