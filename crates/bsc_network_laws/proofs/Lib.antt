@@ -1,9 +1,10 @@
 pub mod Moves
 pub mod Acting
+pub mod Beside
+pub mod Beginning
 pub mod Sides
 pub mod Making
 pub mod Stepping
-pub mod Beside
 pub mod Ways
 pub mod Holding
 pub mod Timing
@@ -20,6 +21,15 @@ pub mod OwnNames
 pub mod Named
 pub mod Diallers
 pub mod Joins
+pub mod Growing
+pub mod AtMost
+pub mod Placed
+pub mod PutOnce
+pub mod Receipts
+pub mod ForwardedOnce
+pub mod OutboxOnce
+pub mod HubsThere
+pub mod ComeOnce
 pub mod Running
 pub mod Carried
 mod WorkedCourse

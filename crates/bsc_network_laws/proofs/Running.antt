@@ -13,15 +13,15 @@ use Rattle.bsc_node_identity.proofs.Timely.{Timely}
 use Rattle.bsc_network.specs.declared.world_step.WorldStep.TheVariants.{Node as OfNode}
 use Rattle.bsc_network.specs.declared.timed_step.TimedStep.{TimedStep}
 use Rattle.bsc_network.specs.Settings.{Added, hubs, nodes}
-use Rattle.bsc_network.specs.Worlds.{World, Link, Node, new_hub, new_node, new_world}
-use Rattle.bsc_network.specs.Outboxes.{frames_of}
+use Rattle.bsc_network.specs.Worlds.{World, Hub, Link, Node, Posted, new_hub, new_node, new_world}
+use Rattle.bsc_network.specs.Outboxes.{Frame, frames_of}
 use Rattle.bsc_network.specs.Networks.{makes, world}
 use Rattle.bsc_network.specs.Courses.{MayMake, MayMakeAll, IsCourse}
 use Rattle.bsc_network.proofs.Places.{found-in}
 use Rattle.bsc_network_laws.specs.Carrying.{Sendings}
 use Rattle.bsc_network_laws.specs.Deliveries.{Sends}
 use Rattle.bsc_network_laws.specs.Naming.{Cast, cast_of}
-use Rattle.bsc_network_laws.proofs.Stepping.{begun, done}
+use Rattle.bsc_network_laws.proofs.Stepping.{begun, done, lets-step_from}
 use Rattle.bsc_network_laws.proofs.Ways.{WaysFit, ways_fit}
 use Rattle.bsc_network_laws.proofs.Holding.{EndOf, HoldsFit, holds_fit, keep-others}
 use Rattle.bsc_network_laws.specs.Connecting.{JoinsDiallers}
@@ -30,10 +30,16 @@ use Rattle.bsc_network_laws.proofs.Diallers.{Inv, inv-same, IsFit, kept-names, d
 use Rattle.bsc_history.specs.Ends.{joined_where}
 use Rattle.bsc_network_laws.proofs.Timing.{AllTimely, all_timely, at-done}
 use Rattle.bsc_network_laws.proofs.Taken.{SidesFit, down_is_taken}
-use Rattle.bsc_network_laws.proofs.Knowing.{knows-begun, kept-step}
+use Rattle.bsc_network_laws.proofs.Beside.{Keeps}
+use Rattle.bsc_network_laws.proofs.Knowing.{knows-begun, kept-step, kept-from}
 use Rattle.bsc_network_laws.proofs.Casting.{Stays, Casts, casts-same, KnowsAll, kept-all, casts-done}
 use Rattle.bsc_network_laws.proofs.Named.{OutboxesNameNobody, Named, named-same, named_stays}
 use Rattle.bsc_network_laws.proofs.SentOnLinks.{AllSent, IsCounted, sent_stays}
+use Rattle.bsc_network_laws.proofs.Placed.{PutAt}
+use Rattle.bsc_network_laws.proofs.PutOnce.{ArePutOnce, PutBefore, OnePut, one_of-none, one_stays}
+use Rattle.bsc_network_laws.proofs.Receipts.{HasReceipts, receipts-same, receipts_stay}
+use Rattle.bsc_network_laws.proofs.ForwardedOnce.{ForwardAt, ForwardsFit, forwards-same, forwards_fit}
+use Rattle.bsc_network_laws.proofs.HubsThere.{HubsThere, hubs_there}
 
 -- What holds after so many steps, the last of which was at the time T.
 pub record Runs (cast : Cast) (S : Sendings) (T place : ℕ) (w : World) : Type 0 where
@@ -47,6 +53,11 @@ pub record Runs (cast : Cast) (S : Sendings) (T place : ℕ) (w : World) : Type 
   pub named : Named cast w
   pub diallers : Inv cast w
   pub joins : SidesJoined w
+  pub put_before : PutBefore place w
+  pub put_once : ArePutOnce w
+  pub receipts : HasReceipts w
+  pub forwards : ForwardsFit w
+  pub hubs_there : HubsThere w
 
 sent-makes : (cast : Cast) (S : Sendings) (T : ℕ) (w : World) (t : TimedStep) → Runs cast S T w.steps w → T ≤ t.now → t.now < 2 ^ 62 → IsCounted S w.steps t.step → AllSent S (makes w t)
 sent-makes cast S T w t r after below sends =
@@ -64,6 +75,21 @@ dialled-done cast fit S T w t r after below =
     kept-names cast (Inv cast) t w.steps (diallers_stay cast fit t.now w.steps t.step) w (known cast S T w t r after below, named-same cast w (begun w t) refl refl r.named)
     (inv-same cast w (begun w t) (keep-others w (begun w t) refl refl) refl r.diallers)
 
+one_put : (cast : Cast) (S : Sendings) (T : ℕ) (w : World) (t : TimedStep) → Runs cast S T w.steps w → T ≤ t.now → t.now < 2 ^ 62 → OnePut w.steps (done w t)
+one_put cast S T w t r after below =
+    kept-from (OnePut w.steps) t w.steps w (one_stays t.now w.steps (begun w t) t.step refl r.put_before r.put_once) (knows-begun T w t after below r.timely r.holds r.sides)
+    (one_of-none w.steps (begun w t) r.put_before r.put_once)
+
+receipts-done : (cast : Cast) (S : Sendings) (T : ℕ) (w : World) (t : TimedStep) → Runs cast S T w.steps w → T ≤ t.now → t.now < 2 ^ 62 → HasReceipts (done w t)
+receipts-done cast S T w t r after below =
+    let begin : HasReceipts (begun w t) = receipts-same w (begun w t) refl refl r.receipts in
+    kept-from HasReceipts t w.steps w (receipts_stay t.now w.steps (begun w t) t.step begin) (knows-begun T w t after below r.timely r.holds r.sides) begin
+
+forwards-done : (cast : Cast) (S : Sendings) (T : ℕ) (w : World) (t : TimedStep) → Runs cast S T w.steps w → ForwardsFit (done w t)
+forwards-done cast S T w t r =
+    let begin : ForwardsFit (begun w t) = forwards-same w (begun w t) refl refl r.forwards in
+    lets-step_from (Keeps ForwardsFit) t w (forwards_fit (begun w t) t.step r.put_once begin) begin
+
 one_step : (cast : Cast) → IsFit cast → (S : Sendings) (T : ℕ) (w : World) (t : TimedStep) → Runs cast S T w.steps w → T ≤ t.now → t.now < 2 ^ 62 → IsCounted S w.steps t.step → Runs cast S t.now (w.steps + 1) (makes w t)
 one_step cast fit S T w t r after below sends = record {
   place_is = ap (λ n. n + 1) (at-done T w t after below r.timely).steps;
@@ -75,6 +101,11 @@ one_step cast fit S T w t r after below sends = record {
   casts = casts-same cast (done w t) (makes w t) refl refl (casts-done cast t w.steps w (known cast S T w t r after below));
   named = named-same cast (done w t) (makes w t) refl refl (named-done cast S T w t r after below);
   joins = sides_joined w t r.joins;
+  put_before = (one_put cast S T w t r after below).before;
+  put_once = (one_put cast S T w t r after below).once;
+  receipts = receipts-same (done w t) (makes w t) refl refl (receipts-done cast S T w t r after below);
+  forwards = forwards-same (done w t) (makes w t) refl refl (forwards-done cast S T w t r);
+  hubs_there = hubs_there w t r.hubs_there;
   diallers = inv-same cast (done w t) (makes w t) (keep-others (done w t) (makes w t) refl refl) refl (dialled-done cast fit S T w t r after below);
 }
 
@@ -138,6 +169,18 @@ outboxes-new (a ∷ rest) = (nothing-entered a, outboxes-new rest)
 no_link : (l : ℕ) (k : Link) → slice_get [] l ≡ Some k → ⊥
 no_link l k h = cc
 
+no_posted : (p : ℕ) (q : Posted) → slice_get [] p ≡ Some q → ⊥
+no_posted p q h = cc
+
+-- no hub was handed in anything
+forwards-new : (as_made : List About) (w : World) → w.hubs ≡ map new_hub as_made → ForwardsFit w
+forwards-new as_made w is = record { sources = λ j p f at. absurd (none j p f at); once = λ i p f j q g a b same. absurd (none i p f a) }
+  where
+    none : (j p : ℕ) (f : Frame) → ForwardAt w j p f → ⊥
+    none j p f at =
+        let made = found-in new_hub (slice_get as_made j) at.hub (sym (slice_get-map new_hub as_made j) ∙ ap (λ (hs : List Hub). slice_get hs j) (sym is) ∙ at.here) in
+        no_posted p at.posted (ap (λ (h : Hub). slice_get h.posted p) made.2 ∙ at.at)
+
 -- Each network, after any steps that may be made.
 pub runs : (added : List Added) (steps : List TimedStep) → IsCourse added steps → (T : ℕ) × (place : ℕ) × Runs (cast_of added) (Sends steps) T place (world added steps)
 runs added steps course =
@@ -152,5 +195,10 @@ runs added steps course =
       casts = casts-new added;
       named = record { links = tt; outboxes = outboxes-new (hubs added) };
       joins = λ l j h k c side conn. absurd (no_link l k side.link);
+      put_before = λ l way i f p. absurd (no_link l p.0 p.1);
+      put_once = λ l way i f m on j g p q same. absurd (no_link l p.0 p.1);
+      receipts = ([], tt);
+      forwards = forwards-new (hubs added) (new_world added) refl;
+      hubs_there = record { within = λ l j x here leads. absurd (no_link l x here) };
       diallers = joined-new (cast_of added) (new_world added) (hubs added);
     }) course.made_all
