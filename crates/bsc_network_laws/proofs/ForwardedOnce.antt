@@ -32,7 +32,7 @@ use Rattle.bsc_network_laws.proofs.Acting.{goes_on_in, LetsActs, lets-hears}
 use Rattle.bsc_network_laws.proofs.Beside.{Keeps}
 use Rattle.bsc_network_laws.proofs.Beginning.{after_arrival, HasJustCome, EachFrom, LetsFrom}
 use Rattle.bsc_network_laws.proofs.Sides.{with_call}
-use Rattle.bsc_network_laws.proofs.Growing.{LinkGrows, Grows, grows-then, grows-same, grows-side, grows-arrives, grows-acts, grows}
+use Rattle.bsc_network_laws.proofs.Growing.{stays-at, LinkGrows, Grows, grows-then, grows-same, grows-side, grows-arrives, grows-acts, grows}
 use Rattle.bsc_network_laws.proofs.Placed.{StandsAt, PutAt, AddsNone, none-then, none-side, none-arrives}
 use Rattle.bsc_network_laws.proofs.PutOnce.{IsOne, ArePutOnce, once-kept}
 
@@ -81,7 +81,7 @@ source-on u v g j f s =
     let there = g.grown s.number s.link s.here in
     let less = s.arrived in
     let more = (there.2.ways Up).arrived in
-    record { number = s.number; index = s.index; link = there.0; here = there.1; leads = there.2.to ∙ s.leads; stands = (there.2.ways Up).stays s.index _ s.stands; arrived = omega arith }
+    record { number = s.number; index = s.index; link = there.0; here = there.1; leads = there.2.to ∙ s.leads; stands = stays-at s.link.up there.0.up (there.2.ways Up) s.index _ s.stands; arrived = omega arith }
 
 -- no forward is added
 abbrev HandsNone : World → World → Type 0
@@ -212,7 +212,7 @@ fit-forwards B put_once at_first w l j place h k m c side came (e, start) = reco
         let s = at_first.sources i p f (old_in i p f at) in
         let t = (told-grows B w l e start).grown s.number s.link s.here in
         let one = told-once B w l e start put_once s.number Up s.index f l Up came.place g
-        (t.0, t.1, record { stands = (t.2.ways Up).stays s.index _ s.stands; npdu = at.is_forward.npdu; node = t.0.from; putter_is = refl })
+        (t.0, t.1, record { stands = stays-at s.link.up t.0.up (t.2.ways Up) s.index _ s.stands; npdu = at.is_forward.npdu; node = t.0.from; putter_is = refl })
         (k, side.link, record { stands = stands_at g octets sent; npdu = npdu; node = k.from; putter_is = refl }) same in
         let there : link_at B l ≡ Some s.link = ap (λ (n : ℕ). link_at B n) (sym one.link) ∙ s.here in
         let now : k ≡ told_of e s.link = some_same k (told_of e s.link) (sym side.link ∙ told-link B w l e start s.link there) in

@@ -1,5 +1,5 @@
 -- Ways only grow: what stands on one stays at its index, no less has arrived, and no link changes its ends.
-use Rattle.std.proofs.Common.{◌≡◌, ◌≢◌, ◌≤◌, ◌⊎◌, inl, inr, ℕ, true, List, [], ◌∷◌, ◌++◌, Option, Some, None, refl, ap, sym, subst, ◌∙◌, arith}
+use Rattle.std.proofs.Common.{◌≡◌, ◌≢◌, ◌≤◌, ◌⊎◌, inl, inr, ℕ, true, List, [], ◌∷◌, ◌++◌, Option, Some, None, refl, ap, sym, subst, ◌∙◌, arith, append_assoc, append-nil}
 use Rattle.std.specs.Prelude.{◌+◌, slice_get, ⊤}
 use Rattle.std.specs.Option.{option_map}
 use Rattle.bsc_history.specs.declared.call.Call.TheVariants.{Connect}
@@ -25,20 +25,29 @@ use Rattle.bsc_network_laws.proofs.Acting.{LetsActs, lets-hears}
 -- ---- one way, and one link
 
 pub record Longer (s t : Traffic) : Type 0 where
-  pub stays : (i : ℕ) (x : Parcel) → slice_get s.put i ≡ Some x → slice_get t.put i ≡ Some x
+  pub more : List Parcel
+  pub put : t.put ≡ s.put ++ more
   pub arrived : s.arrived ≤ t.arrived
 
+-- what stands there does so still
+pub stays-at : (s t : Traffic) → Longer s t → (i : ℕ) (x : Parcel) → slice_get s.put i ≡ Some x → slice_get t.put i ≡ Some x
+stays-at s t g i x h = ap (λ (xs : List Parcel). slice_get xs i) g.put ∙ got-longer s.put g.more i x h
+
 pub longer-none : (t : Traffic) → Longer t t
-longer-none t = record { stays = λ i x h. h; arrived = omega arith }
+longer-none t = record { more = []; put = sym (append-nil t.put); arrived = omega arith }
 
 pub longer-then : (r s t : Traffic) → Longer r s → Longer s t → Longer r t
-longer-then r s t f g = record { stays = λ i x h. g.stays i x (f.stays i x h); arrived = (let a = f.arrived in let b = g.arrived in omega arith) }
+longer-then r s t f g = record {
+  more = f.more ++ g.more;
+  put = g.put ∙ ap (λ (xs : List Parcel). xs ++ g.more) f.put ∙ append_assoc r.put f.more g.more;
+  arrived = (let a = f.arrived in let b = g.arrived in omega arith);
+}
 
 longer-put : (x : Parcel) (t : Traffic) → Longer t (and_then x t)
-longer-put x t = record { stays = λ i y h. got-longer t.put (x ∷ []) i y h; arrived = omega arith }
+longer-put x t = record { more = x ∷ []; put = refl; arrived = omega arith }
 
 longer-arrived : (t : Traffic) → Longer t (without_front t)
-longer-arrived t = record { stays = λ i y h. h; arrived = omega arith }
+longer-arrived t = record { more = []; put = sym (append-nil t.put); arrived = omega arith }
 
 pub record LinkGrows (x y : Link) : Type 0 where
   pub from : y.from ≡ x.from

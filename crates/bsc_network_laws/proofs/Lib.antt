@@ -30,6 +30,7 @@ pub mod ForwardedOnce
 pub mod OutboxOnce
 pub mod HubsThere
 pub mod ComeOnce
+pub mod Standing
 pub mod Running
 pub mod Carried
 mod WorkedCourse

@@ -24,6 +24,7 @@ use Rattle.bsc_node.specs.declared.action.Action.TheVariants.{Deliver}
 use Rattle.bsc_node.specs.Conditions.{fits, may_come}
 use Rattle.bsc_node.specs.Laws.{with_event, with_heard, delivers_npdu, delivered_at, delivery, IsDeliveredOnce}
 use Rattle.bsc_node.specs.Links.{verdict, place}
+use Rattle.bsc_node.specs.Receiving.{sender}
 use Rattle.bsc_node.specs.Logs.{Made, Log, action_of}
 use Rattle.bsc_node.specs.Node.{actions_at}
 use Rattle.bsc_node.proofs.Delivering.{delivers_what_came}
@@ -57,7 +58,7 @@ use Rattle.bsc_network_laws.proofs.Beginning.{after_arrival, ComesFirst, EachFro
 use Rattle.bsc_network_laws.proofs.Stepping.{traffic-with}
 use Rattle.bsc_network_laws.proofs.Timing.{no_word_comes}
 use Rattle.bsc_network_laws.proofs.Knowing.{Knows}
-use Rattle.bsc_network_laws.proofs.Growing.{LinkGrows, Grows, grows-none, grows-then, grows-same, grows-arrives, grows-acts, grows}
+use Rattle.bsc_network_laws.proofs.Growing.{stays-at, LinkGrows, Grows, grows-none, grows-then, grows-same, grows-arrives, grows-acts, grows}
 use Rattle.bsc_network_laws.proofs.AtMost.{Fails, AtMostOne, acts-none, acts-once, at_most-one}
 use Rattle.bsc_network_laws.proofs.Placed.{StandsAt}
 use Rattle.bsc_network_laws.proofs.PutOnce.{IsOne}
@@ -103,7 +104,7 @@ heard-on Down x y g = ap ToNode g.from
 pub heard_at-on : (u v : World) → Grows u v → (l : ℕ) (way : Way) (i : ℕ) (o : List ℕ) (place k : ℕ) → HeardAt u l way i o place k → HeardAt v l way i o place k
 heard_at-on u v g l way i o place k h =
     let there = g.grown l h.at h.here in
-    record { at = there.0; here = there.1; stands = (there.2.ways way).stays i _ h.stands; npdu = h.npdu; heard = heard-on way h.at there.0 there.2 ∙ h.heard }
+    record { at = there.0; here = there.1; stands = stays-at (traffic way h.at) (traffic way there.0) (there.2.ways way) i _ h.stands; npdu = h.npdu; heard = heard-on way h.at there.0 there.2 ∙ h.heard }
 
 receipt-on : (u v : World) → Grows u v → (d : WorldDelivery) (r : Receipt) → IsReceipt u d r → IsReceipt v d r
 receipt-on u v g d r is =
@@ -113,7 +114,7 @@ receipt-on u v g d r is =
     let more = (there.2.ways r.way).arrived in
     record {
       octets = is.octets;
-      is_heard = record { at = there.0; here = there.1; stands = (there.2.ways r.way).stays r.index _ h.stands; npdu = h.npdu; heard = heard-on r.way h.at there.0 there.2 ∙ h.heard };
+      is_heard = record { at = there.0; here = there.1; stands = stays-at (traffic r.way h.at) (traffic r.way there.0) (there.2.ways r.way) r.index _ h.stands; npdu = h.npdu; heard = heard-on r.way h.at there.0 there.2 ∙ h.heard };
       arrived = omega arith;
     }
 
@@ -199,18 +200,23 @@ passed-npdu o place max msg npdu passed body = by (is_npdu o) refl
 pub record IsOfCame (a : Made) (L : Log) (e : TimedEvent) (x : Action) : Type 0 where
   pub name : LinkName
   pub octets : List ℕ
+  pub message : FrameMessage
+  pub content : List ℕ
+  pub from : Vmac
   pub event : e.event ≡ Came name octets
+  pub passed : verdict a (with_event L e) name octets ≡ Pass message
+  pub body : message.body ≡ Npdu content
+  pub from_is : sender name message (with_heard a L e name octets) ≡ Some from
   pub npdu : is_npdu octets ≡ true
-  pub delivered : Delivered
-  pub is : x ≡ Deliver delivered
+  pub is : x ≡ Deliver (delivery message content from)
 
 deliver-law : (a : Made) (L : Log) (e : TimedEvent) → IsTrue (may_come L e) → AtMostOne delivers_npdu (IsOfCame a L e) (actions_at a L e)
 deliver-law a L e may = by (delivers_what_came a L e may)
   where
     by : (delivered_at a L e ≡ []) ⊎ IsDeliveredOnce a L e → AtMostOne delivers_npdu (IsOfCame a L e) (actions_at a L e)
     by (inl none) = inl none
-    by (inr (name, o, msg, npdu, from, event, passed, body, sender, is)) =
-        inr (_, is, record { name = name; octets = o; event = event; npdu = passed-npdu o (place a (with_event L e) name) a.own.max_bvlc msg npdu passed body; delivered = delivery msg npdu from; is = refl })
+    by (inr (name, o, msg, npdu, from, event, passed, body, from_is, is)) =
+        inr (_, is, record { name = name; octets = o; message = msg; content = npdu; from = from; event = event; passed = passed; body = body; from_is = from_is; npdu = passed-npdu o (place a (with_event L e) name) a.own.max_bvlc msg npdu passed body; is = refl })
 
 deliver-never : (a : Made) (M : Log) (x : TimedEvent) (action : Action) → x.event ≡ NoRandom → IsOfCame a M x action → ⊥
 deliver-never a M x action is of = no of.name of.octets (sym is ∙ of.event)
@@ -218,7 +224,7 @@ deliver-never a M x action is of = no of.name of.octets (sym is ∙ of.event)
     no : (name : LinkName) (o : List ℕ) → NoRandom ≡ Came name o → ⊥
     no name o h = cc
 
-delivers-at_most : (T place : ℕ) (D : WorldStep) (w : World) (k : ℕ) (n : Node) (by : Option Arrival) (e : NodeEvent) → node_at w k ≡ Some n → Comes D w k n by e → fits n.log e ≡ true → Knows T place w
+pub delivers-at_most : (T place : ℕ) (D : WorldStep) (w : World) (k : ℕ) (n : Node) (by : Option Arrival) (e : NodeEvent) → node_at w k ≡ Some n → Comes D w k n by e → fits n.log e ≡ true → Knows T place w
     → AtMostOne delivers_npdu (IsOfCame n.made n.log (record { now = w.now; event = e })) (filter_map action_of (brings_about n.made (record { now = w.now; event = e }) n.log))
 delivers-at_most T place D w k n by e here come fit known =
     at_most-one delivers_npdu IsOfCame w.now n.made n.log e (subst (λ t. t < 2 ^ 62) (sym known.at.now) known.at.below)
@@ -226,7 +232,7 @@ delivers-at_most T place D w k n by e here come fit known =
     (deliver-law n.made) (deliver-never n.made)
 
 -- what came over a link is the message that arrived
-came_is : (content : Content) (held : Option LinkName) (name : LinkName) (o : List ℕ) → event_of content held ≡ Some (Came name o) → content ≡ Message o
+pub came_is : (content : Content) (held : Option LinkName) (name : LinkName) (o : List ℕ) → event_of content held ≡ Some (Came name o) → content ≡ Message o
 came_is Arrived held name o h = cc
 came_is Opened (Some n) name o h = cc
 came_is (Message m) (Some n) name o h = cc
@@ -235,7 +241,7 @@ came_is Opened None name o h = cc
 came_is (Message m) None name o h = cc
 came_is Closed None name o h = cc
 
-not_came : (D : WorldStep) (w : World) (k : ℕ) (n : Node) (e : NodeEvent) (name : LinkName) (o : List ℕ) → Comes D w k n None e → e ≡ Came name o → ⊥
+pub not_came : (D : WorldStep) (w : World) (k : ℕ) (n : Node) (e : NodeEvent) (name : LinkName) (o : List ℕ) → Comes D w k n None e → e ≡ Came name o → ⊥
 not_came D w k n e name o (inl own) is = no (sym (ap is_own is) ∙ own.1)
   where
     no : false ≡ true → ⊥
@@ -356,7 +362,7 @@ receipts-hears T place B D at_first w k n by e here come fit first known has = a
     one x of (Some a) (content, heard, came, brought) first is =
         acts-once k (Some a) delivers_npdu Up_to HasReceipts (keeps (Some a) Up_to up_to-kept) (keeps (Some a) HasReceipts receipts-kept) x
         (λ u p. subst (λ (y : Action). HasReceipts (carries_out k (Some a) y u)) (sym of.is)
-        (delivered_one a content came of.octets of.delivered (came_is content (name_of a.link a.way n) of.name of.octets (brought ∙ ap Some of.event)) of.npdu heard first u p))
+        (delivered_one a content came of.octets (delivery of.message of.content of.from) (came_is content (name_of a.link a.way n) of.name of.octets (brought ∙ ap Some of.event)) of.npdu heard first u p))
         actions logged is (up_to-kept w logged (grows-same w logged refl, refl) (begins a first))
 
     at : AtMostOne delivers_npdu (IsOfCame n.made n.log event) actions → HasReceipts (hears k by event n w)
