@@ -3,6 +3,7 @@ pub mod Acting
 pub mod Beside
 pub mod Beginning
 pub mod Sides
+pub mod Whole
 pub mod Making
 pub mod Stepping
 pub mod Ways
@@ -21,6 +22,23 @@ pub mod OwnNames
 pub mod Named
 pub mod Diallers
 pub mod Joins
+pub mod Callers
+pub mod Looks
+pub mod Numbering
+pub mod Lawfully
+pub mod Legally
+pub mod Passing
+pub mod Histories
+pub mod ComingDown
+pub mod FromHubs
+pub mod Lasting
+pub mod Brought
+pub mod MadeWell
+pub mod OtherEnds
+pub mod DirectLinks
+pub mod Directly
+pub mod CameDirectly
+pub mod Sources
 pub mod Growing
 pub mod AtMost
 pub mod Placed
@@ -30,8 +48,8 @@ pub mod ForwardedOnce
 pub mod OutboxOnce
 pub mod HubsThere
 pub mod ComeOnce
-pub mod Standing
 pub mod Running
+pub mod DeliveredOnce
 pub mod Carried
 mod WorkedCourse
 mod WorkedSource

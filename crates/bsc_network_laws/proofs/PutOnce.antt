@@ -236,7 +236,7 @@ one_stays T place B D steps before once = record {
   forwards = λ w l j p h k o c side conn came said now m. one-kept place w _ (none-same w _ refl refl);
   takes = λ w l j h k c f side conn is m.
       let v = with_side l (λ x. record x { taken = x.taken + 1 }) w in
-      let there = side-side w l j h k (λ x. record x { taken = x.taken + 1 }) side in
+      let there = side-side w l j h k (λ x. record x { taken = x.taken + 1 }) refl side in
       one-kept place w _ (none-then w v _ (none-side w l _) (none-from_hub v l j _ (record { content = Message f.octets; sent_at = f.sent_at }) there.link there.leads));
   hears = λ w k n by e here come fit first. one-hears T place B D steps before once w k n by e here come fit first;
   forgets = λ w later m. one-kept place w _ (none-same w _ refl refl);

@@ -116,6 +116,10 @@ abbrev pub Apart : List WorldDelivery → Type 0
 Apart [] = ⊤
 Apart (d ∷ ds) = AllByRecursion (AreApart d) ds × Apart ds
 
+-- So it is in every network, whatever steps are made.
+abbrev pub NoneIsDeliveredTwice : Type 0
+NoneIsDeliveredTwice = (added : List Added) (steps : List TimedStep) → IsCourse added steps → Apart (deliveries added steps)
+
 -- Each delivery comes from the Send at its place, and none is of the Send and to the node of another.
 pub record DeliversWhatWasSent (added : List Added) (steps : List TimedStep) : Type 0 where
   pub each : AllByRecursion (IsFromItsSend steps (world added steps)) (deliveries added steps)
