@@ -1,7 +1,8 @@
 pub mod Moves
 pub mod Acting
-pub mod Sides
 pub mod Beside
+pub mod Beginning
+pub mod Sides
 pub mod Whole
 pub mod Making
 pub mod Stepping
@@ -38,9 +39,19 @@ pub mod DirectLinks
 pub mod Directly
 pub mod CameDirectly
 pub mod Sources
+pub mod Growing
+pub mod AtMost
+pub mod Placed
+pub mod PutOnce
+pub mod Receipts
+pub mod ForwardedOnce
+pub mod OutboxOnce
 pub mod HubsThere
+pub mod ComeOnce
 pub mod BothSources
 pub mod Running
+pub mod DeliveredOnce
 pub mod Carried
+pub mod Delivered
 mod WorkedCourse
 mod WorkedSource

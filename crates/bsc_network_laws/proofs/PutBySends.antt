@@ -54,7 +54,7 @@ way_dest L v ByNone w h = cc
 
 -- ---- a Send comes only as the step's own event
 
-not_sent : (content : Content) (name : Option LinkName) (dest : Vmac) (npdu : List ℕ) → event_of content name ≡ Some (Send dest npdu) → ⊥
+pub not_sent : (content : Content) (name : Option LinkName) (dest : Vmac) (npdu : List ℕ) → event_of content name ≡ Some (Send dest npdu) → ⊥
 not_sent Arrived name dest npdu h = cc
 not_sent Opened (Some name) dest npdu h = cc
 not_sent (Message o) (Some name) dest npdu h = cc

@@ -13,8 +13,8 @@ use Rattle.bsc_node_identity.proofs.Timely.{Timely}
 use Rattle.bsc_network.specs.declared.world_step.WorldStep.TheVariants.{Node as OfNode}
 use Rattle.bsc_network.specs.declared.timed_step.TimedStep.{TimedStep}
 use Rattle.bsc_network.specs.Settings.{Added, hubs, nodes}
-use Rattle.bsc_network.specs.Worlds.{World, Hub, Link, Node, history, new_hub, new_node, new_world, node_at}
-use Rattle.bsc_network.specs.Outboxes.{frames, frames_of}
+use Rattle.bsc_network.specs.Worlds.{World, Hub, Link, Node, Posted, history, new_hub, new_node, new_world, node_at}
+use Rattle.bsc_network.specs.Outboxes.{Frame, frames, frames_of}
 use Rattle.bsc_network.specs.HubCalls.{taken_from}
 use Rattle.bsc_network.specs.Networks.{makes, world}
 use Rattle.bsc_network.specs.Courses.{MayMake, MayMakeAll, IsCourse}
@@ -22,7 +22,7 @@ use Rattle.bsc_network.proofs.Places.{found-in}
 use Rattle.bsc_network_laws.specs.Carrying.{Sendings, npdus}
 use Rattle.bsc_network_laws.specs.Deliveries.{Sends}
 use Rattle.bsc_network_laws.specs.Naming.{Cast, cast_of}
-use Rattle.bsc_network_laws.proofs.Stepping.{begun, done}
+use Rattle.bsc_network_laws.proofs.Stepping.{begun, done, lets-step_from}
 use Rattle.bsc_network_laws.proofs.Ways.{WaysFit, ways_fit}
 use Rattle.bsc_network_laws.proofs.Holding.{EndOf, HoldsFit, holds_fit, keep-others}
 use Rattle.bsc_network_laws.specs.Connecting.{IsOfLink, JoinByLinks, JoinsDiallers}
@@ -42,7 +42,8 @@ use Rattle.bsc_network_laws.proofs.Sources.{AllFrom, KnowsSources, from-same}
 use Rattle.bsc_network_laws.proofs.BothSources.{AreWhole, KnowsHubs, sources-done}
 use Rattle.bsc_network_laws.proofs.Timing.{AllTimely, all_timely, at-done}
 use Rattle.bsc_network_laws.proofs.Taken.{SidesFit, down_is_taken}
-use Rattle.bsc_network_laws.proofs.Knowing.{knows-begun, kept-step}
+use Rattle.bsc_network_laws.proofs.Beside.{Keeps}
+use Rattle.bsc_network_laws.proofs.Knowing.{knows-begun, kept-step, kept-from}
 use Rattle.bsc_network_laws.proofs.Casting.{Stays, Casts, casts-same, KnowsAll, kept-all, casts-done}
 use Rattle.bsc_network_laws.proofs.Named.{OutboxesNameNobody, Named, named-same, named_stays}
 use Rattle.bsc_network_laws.proofs.SentOnLinks.{AllSent, IsCounted, sent_stays}
@@ -54,6 +55,11 @@ use Rattle.bsc_network_laws.proofs.MadeWell.{MadeWell, made_well}
 use Rattle.bsc_network_laws.proofs.OtherEnds.{LeadsToHub, EndsRight, ends-same, ends_stay, kept-ends}
 use Rattle.bsc_network_laws.proofs.DirectLinks.{AllDirect, direct-same}
 use Rattle.bsc_network_laws.proofs.Directly.{direct_stays}
+use Rattle.bsc_network_laws.proofs.Placed.{PutAt}
+use Rattle.bsc_network_laws.proofs.PutOnce.{ArePutOnce, PutBefore, OnePut, one_of-none, one_stays}
+use Rattle.bsc_network_laws.proofs.Receipts.{HasReceipts, receipts-same, receipts_stay}
+use Rattle.bsc_network_laws.proofs.ForwardedOnce.{ForwardAt, ForwardsFit, forwards-same, forwards_fit}
+use Rattle.bsc_network_laws.proofs.HubsThere.{HubsThere, hubs_there}
 
 -- What holds after so many steps, the last of which was at the time T.
 pub record Runs (cast : Cast) (S : Sendings) (T place : ℕ) (w : World) : Type 0 where
@@ -74,6 +80,10 @@ pub record Runs (cast : Cast) (S : Sendings) (T place : ℕ) (w : World) : Type 
   pub made : MadeWell cast
   pub ends : EndsRight cast w
   pub direct : AllDirect S cast w
+  pub put_before : PutBefore place w
+  pub put_once : ArePutOnce w
+  pub receipts : HasReceipts w
+  pub forwards : ForwardsFit w
   pub there : HubsThere w
   pub from : AreWhole S → AllFrom S w
 
@@ -145,6 +155,21 @@ from-makes cast fit S T w t r after below sends whole =
     from-same S (done w t) (makes w t) (lasts-same (done w t) (makes w t) refl refl refl) refl
     (sources-done cast fit r.made S whole t w.steps sends w (sources-begun cast S T w t r after below) (from-same S w (begun w t) (lasts-same w (begun w t) refl refl refl) refl (r.from whole)))
 
+one_put : (cast : Cast) (S : Sendings) (T : ℕ) (w : World) (t : TimedStep) → Runs cast S T w.steps w → T ≤ t.now → t.now < 2 ^ 62 → OnePut w.steps (done w t)
+one_put cast S T w t r after below =
+    kept-from (OnePut w.steps) t w.steps w (one_stays t.now w.steps (begun w t) t.step refl r.put_before r.put_once) (knows-begun T w t after below r.timely r.holds r.sides)
+    (one_of-none w.steps (begun w t) r.put_before r.put_once)
+
+receipts-done : (cast : Cast) (S : Sendings) (T : ℕ) (w : World) (t : TimedStep) → Runs cast S T w.steps w → T ≤ t.now → t.now < 2 ^ 62 → HasReceipts (done w t)
+receipts-done cast S T w t r after below =
+    let begin : HasReceipts (begun w t) = receipts-same w (begun w t) refl refl r.receipts in
+    kept-from HasReceipts t w.steps w (receipts_stay t.now w.steps (begun w t) t.step begin) (knows-begun T w t after below r.timely r.holds r.sides) begin
+
+forwards-done : (cast : Cast) (S : Sendings) (T : ℕ) (w : World) (t : TimedStep) → Runs cast S T w.steps w → ForwardsFit (done w t)
+forwards-done cast S T w t r =
+    let begin : ForwardsFit (begun w t) = forwards-same w (begun w t) refl refl r.forwards in
+    lets-step_from (Keeps ForwardsFit) t w (forwards_fit (begun w t) t.step r.put_once begin) begin
+
 one_step : (cast : Cast) → IsFit cast → (S : Sendings) (T : ℕ) (w : World) (t : TimedStep) → Runs cast S T w.steps w → T ≤ t.now → t.now < 2 ^ 62 → IsCounted S w.steps t.step → Runs cast S t.now (w.steps + 1) (makes w t)
 one_step cast fit S T w t r after below sends = record {
   place_is = ap (λ n. n + 1) (at-done T w t after below r.timely).steps;
@@ -163,6 +188,10 @@ one_step cast fit S T w t r after below sends = record {
   made = r.made;
   ends = ends-same cast (done w t) (makes w t) (lasts-same (done w t) (makes w t) refl refl refl) refl (ends-done cast S T w t r after below);
   direct = direct-same S cast (done w t) (makes w t) (lasts-same (done w t) (makes w t) refl refl refl) refl (direct-done cast S T w t r after below sends);
+  put_before = (one_put cast S T w t r after below).before;
+  put_once = (one_put cast S T w t r after below).once;
+  receipts = receipts-same (done w t) (makes w t) refl refl (receipts-done cast S T w t r after below);
+  forwards = forwards-same (done w t) (makes w t) refl refl (forwards-done cast S T w t r);
   there = hubs_there w t r.there;
   from = from-makes cast fit S T w t r after below sends;
   diallers = inv-same cast (done w t) (makes w t) (keep-others (done w t) (makes w t) refl refl) refl (dialled-done cast fit S T w t r after below);
@@ -260,6 +289,18 @@ ends-new added = record {
 no_link : (l : ℕ) (k : Link) → slice_get [] l ≡ Some k → ⊥
 no_link l k h = cc
 
+no_posted : (p : ℕ) (q : Posted) → slice_get [] p ≡ Some q → ⊥
+no_posted p q h = cc
+
+-- no hub was handed in anything
+forwards-new : (as_made : List About) (w : World) → w.hubs ≡ map new_hub as_made → ForwardsFit w
+forwards-new as_made w is = record { sources = λ j p f at. absurd (none j p f at); once = λ i p f j q g a b same. absurd (none i p f a) }
+  where
+    none : (j p : ℕ) (f : Frame) → ForwardAt w j p f → ⊥
+    none j p f at =
+        let made = found-in new_hub (slice_get as_made j) at.hub (sym (slice_get-map new_hub as_made j) ∙ ap (λ (hs : List Hub). slice_get hs j) (sym is) ∙ at.here) in
+        no_posted p at.posted (ap (λ (h : Hub). slice_get h.posted p) made.2 ∙ at.at)
+
 -- Each network, after any steps that may be made.
 pub runs : (added : List Added) (steps : List TimedStep) → IsCourse added steps → (T : ℕ) × (place : ℕ) × Runs (cast_of added) (Sends steps) T place (world added steps)
 runs added steps course =
@@ -281,6 +322,10 @@ runs added steps course =
       made = made_well added course.added_all;
       ends = ends-new added;
       direct = λ l x way k j d. absurd (no_link l x d.link);
+      put_before = λ l way i f p. absurd (no_link l p.0 p.1);
+      put_once = λ l way i f m on j g p q same. absurd (no_link l p.0 p.1);
+      receipts = ([], tt);
+      forwards = forwards-new (hubs added) (new_world added) refl;
       there = record { within = λ l j x here leads. absurd (no_link l x here) };
       from = λ whole. tt;
       diallers = joined-new (cast_of added) (new_world added) (hubs added);

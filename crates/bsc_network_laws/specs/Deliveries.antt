@@ -117,16 +117,9 @@ abbrev pub Apart : List WorldDelivery → Type 0
 Apart [] = ⊤
 Apart (d ∷ ds) = AllByRecursion (AreApart d) ds × Apart ds
 
--- Each delivery comes from the Send at its place, and none is of the Send and to the node of another.
-pub record DeliversWhatWasSent (added : List Added) (steps : List TimedStep) : Type 0 where
-  pub each : AllByRecursion (IsFromItsSend steps (world added steps)) (deliveries added steps)
-  pub once : Apart (deliveries added steps)
-
 -- So it is in every network, whatever steps are made.
-abbrev pub NetworksDeliverWhatWasSent : Type 0
-NetworksDeliverWhatWasSent = (added : List Added) (steps : List TimedStep) → IsCourse added steps → DeliversWhatWasSent added steps
-
--- ---- the first half of it
+abbrev pub NoneIsDeliveredTwice : Type 0
+NoneIsDeliveredTwice = (added : List Added) (steps : List TimedStep) → IsCourse added steps → Apart (deliveries added steps)
 
 -- What is sent goes to an address of six octets.
 abbrev pub IsWhole : WorldStep → Type 0
@@ -136,9 +129,11 @@ IsWhole step = ⊤
 abbrev pub HasAddress : TimedStep → Type 0
 HasAddress t = IsWhole t.step
 
--- In every network, whatever steps are made in which what is sent goes to such an address, each delivery comes from the Send at
--- its place.
-abbrev pub DeliveriesComeFromSends : Type 0
-DeliveriesComeFromSends =
-    (added : List Added) (steps : List TimedStep) → IsCourse added steps → AllByRecursion HasAddress steps
-    → AllByRecursion (IsFromItsSend steps (world added steps)) (deliveries added steps)
+-- Each delivery comes from the Send at its place, and none is of the Send and to the node of another.
+pub record DeliversWhatWasSent (added : List Added) (steps : List TimedStep) : Type 0 where
+  pub each : AllByRecursion (IsFromItsSend steps (world added steps)) (deliveries added steps)
+  pub once : Apart (deliveries added steps)
+
+-- So it is in every network, whatever steps are made in which what is sent goes to addresses of six octets.
+abbrev pub NetworksDeliverWhatWasSent : Type 0
+NetworksDeliverWhatWasSent = (added : List Added) (steps : List TimedStep) → IsCourse added steps → AllByRecursion HasAddress steps → DeliversWhatWasSent added steps

@@ -1,5 +1,5 @@
 //! Laws of whole networks, each carried by a function that does nothing.
-ghost use Rattle.bsc_network_laws.specs.Deliveries.{DeliveriesComeFromSends};
+ghost use Rattle.bsc_network_laws.specs.Deliveries.{NoneIsDeliveredTwice, NetworksDeliverWhatWasSent};
 ghost use Rattle.bsc_network_laws.specs.Carried.{TakenComesDown, PutsWhatWasSent};
 ghost use Rattle.bsc_network_laws.specs.Naming.{NamesAreRight};
 ghost use Rattle.bsc_network_laws.specs.Connecting.{ConnectionsAreOfDiallers, ConnectionsJoinedByTheirLinks, ConnectionsJoinByLinks, HistoriesAreLegal};
@@ -58,8 +58,14 @@ pub fn peers_are_there()
     ensures { PeersAreThere }
 {}
 
-/// Where what is sent goes to addresses of six octets, each delivery comes from the Send at its place: that of its NPDU, by the
-/// node that was connected to a hub under the address that is delivered, or that is at the other end of a direct connection.
-pub fn deliveries_come_from_sends()
-    ensures { DeliveriesComeFromSends }
+/// No two deliveries are of one Send and to one node.
+pub fn none_is_delivered_twice()
+    ensures { NoneIsDeliveredTwice }
+{}
+
+/// Where what is sent goes to addresses of six octets, a network delivers what was sent. Each delivery comes from the Send at its
+/// place: its node sent that very NPDU, and was connected to a hub under the address that is delivered when the hub passed it
+/// on, or is at the other end of a direct connection over which it came. No two deliveries are of one Send and to one node.
+pub fn networks_deliver_what_was_sent()
+    ensures { NetworksDeliverWhatWasSent }
 {}
