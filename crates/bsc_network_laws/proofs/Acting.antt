@@ -51,7 +51,7 @@ if_some : (k : ℕ) (by : Option Arrival) (Known : Action → Type 0) (R : World
 if_some k by Known R M None change w f = M.none w
 if_some k by Known R M (Some a) change w f = f a refl
 
-acts_one : (k : ℕ) (by : Option Arrival) (Known : Action → Type 0) (R : World → World → Type 0) → LetsActs k by Known R → (w : World) (action : Action) → Known action → R w (carries_out k by action w)
+pub acts_one : (k : ℕ) (by : Option Arrival) (Known : Action → Type 0) (R : World → World → Type 0) → LetsActs k by Known R → (w : World) (action : Action) → Known action → R w (carries_out k by action w)
 acts_one k by Known R M w (Dial name uri) known = dials_by k by Known R M name uri (leads_to w uri) w known refl
 acts_one k by Known R M w (Take name) known = if_some k by Known R M by (takes_as k name) w (λ a is. M.each.takes w name a is known)
 acts_one k by Known R M w (Refuse closing) known = if_some k by Known R M by refuses w (λ a is. M.each.refuses_it w a is)

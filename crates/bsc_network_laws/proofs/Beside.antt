@@ -134,7 +134,7 @@ acts-both k by Known R Q M N = record {
   };
 }
 
-acts-beside : (k : ℕ) (by : Option Arrival) (Known : Action → Type 0) (P Inv : World → Type 0) → LetsActs k by (λ action. ⊤) (Keeps P) → EachAct k by Known (KeepsGiven P Inv) → LetsActs k by Known (KeepsBoth P Inv)
+pub acts-beside : (k : ℕ) (by : Option Arrival) (Known : Action → Type 0) (P Inv : World → Type 0) → LetsActs k by (λ action. ⊤) (Keeps P) → EachAct k by Known (KeepsGiven P Inv) → LetsActs k by Known (KeepsBoth P Inv)
 acts-beside k by Known P Inv M N = record {
   none = λ w p. (p, λ i. i);
   then = λ u v w f g p. let a = f p in let b = g a.0 in (b.0, λ i. b.1 (a.1 i));

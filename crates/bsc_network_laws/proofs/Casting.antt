@@ -92,7 +92,7 @@ casts-holds cast k h w c = record {
 pub stays-on : (a : Made) (T : ℕ) (e : NodeEvent) (M : Log) (x : TimedEvent) → IsOf T e M x → Stays a M → Stays a (M ++ goes_on a x M)
 stays-on a T e M x of s = record { knit = knit-goes_on a M x s.knit of.may; vmac = vmac-goes_on a M x of.may of.wordless ∙ s.vmac }
 
-casts-log : (cast : Cast) (T place : ℕ) (D : WorldStep) (k : ℕ) (n : Node) (by : Option Arrival) (e : NodeEvent) (w : World) → node_at w k ≡ Some n → Comes D w k n by e → fits n.log e ≡ true → Knows T place w
+pub casts-log : (cast : Cast) (T place : ℕ) (D : WorldStep) (k : ℕ) (n : Node) (by : Option Arrival) (e : NodeEvent) (w : World) → node_at w k ≡ Some n → Comes D w k n by e → fits n.log e ≡ true → Knows T place w
     → Casts cast w → Casts cast (goes_on_in k (record { now = w.now; event = e }) w)
 casts-log cast T place D k n by e w here come fit known c = record {
   hubs = c.hubs;

@@ -138,7 +138,7 @@ from_heard (Some x) k h = ap Some (same_node x.from k (some_same (ToNode x.from)
     same_node : (i k : ℕ) → ToNode i ≡ ToNode k → i ≡ k
     same_node i k h = cc
 
-dialled-on : (u v : World) → Keep u v → (l k : ℕ) → option_map (λ (x : Link). x.from) (link_at u l) ≡ Some k → option_map (λ (x : Link). x.from) (link_at v l) ≡ Some k
+pub dialled-on : (u v : World) → Keep u v → (l k : ℕ) → option_map (λ (x : Link). x.from) (link_at u l) ≡ Some k → option_map (λ (x : Link). x.from) (link_at v l) ≡ Some k
 dialled-on u v kept l k is = from_heard (link_at v l) k (kept.ends l Down k (heard_from (link_at u l) k is))
 
 joins-on : (cast : Cast) (u v : World) → Keep u v → (h : Hub) → JoinsDiallers cast u h → JoinsDiallers cast v h

@@ -65,10 +65,10 @@ among-both x (y ∷ xs) ys (inr later) = next (among-both x xs ys later)
     next (inl g) = inl (inr g)
     next (inr g) = inr g
 
-actions-one : (a : Made) (e : TimedEvent) (L : Log) → filter_map action_of (in_order (goes_on a e ∷ []) L) ≡ actions_at a L e
+pub actions-one : (a : Made) (e : TimedEvent) (L : Log) → filter_map action_of (in_order (goes_on a e ∷ []) L) ≡ actions_at a L e
 actions-one a e L = ap (filter_map action_of) (brought-one a e L)
 
-actions-two : (a : Made) (e r : TimedEvent) (L : Log) → filter_map action_of (in_order (goes_on a e ∷ goes_on a r ∷ []) L) ≡ actions_at a L e ++ actions_at a (L ++ goes_on a e L) r
+pub actions-two : (a : Made) (e r : TimedEvent) (L : Log) → filter_map action_of (in_order (goes_on a e ∷ goes_on a r ∷ []) L) ≡ actions_at a L e ++ actions_at a (L ++ goes_on a e L) r
 actions-two a e r L =
     ap (filter_map action_of) (brought-two a e r L)
     ∙ filter_map-append action_of (goes_on a e L) (goes_on a r (L ++ goes_on a e L))

@@ -33,14 +33,14 @@ use Rattle.bsc_network.specs.NodeSides.{other_way, hold_of, puts_on, puts_by}
 use Rattle.bsc_network.specs.Dialling.{dials, new_link}
 use Rattle.bsc_network.proofs.Places.{got-changed, got-last_of, get-changed}
 use Rattle.bsc_network_laws.specs.Connecting.{is_conn, HasJoinedBy}
-use Rattle.bsc_network_laws.proofs.Moves.{IsSide, Lets}
+use Rattle.bsc_network_laws.proofs.Moves.{HasSide, IsSide, Lets}
 use Rattle.bsc_network_laws.proofs.Acting.{LetsActs, lets-hears}
 use Rattle.bsc_network_laws.proofs.Sides.{with_call}
 use Rattle.bsc_network_laws.proofs.Stepping.{begun, lets-makes}
 
 -- Where a side has a connection, it joined by its link.
 abbrev pub SidesJoined : World → Type 0
-SidesJoined w = (l j : ℕ) (h : Hub) (k : Link) (c : ℕ) → IsSide w l j h k → k.side.conn ≡ Some c → HasJoinedBy h l c
+SidesJoined w = (l j : ℕ) (h : Hub) (k : Link) (c : ℕ) → HasSide w l j h k → k.side.conn ≡ Some c → HasJoinedBy h l c
 
 abbrev Keep : World → World → Type 0
 Keep u v = SidesJoined u → SidesJoined v
@@ -63,7 +63,7 @@ joined-way w l Down f = joined-link w l (with_traffic Down f) (λ x. refl) (λ x
 joined-side : (w : World) (l : ℕ) (f : HubSide → HubSide) → ((s : HubSide) → (f s).conn ≡ s.conn) → Keep w (with_side l f w)
 joined-side w l f same = joined-link w l (λ link. record link { side = f link.side }) (λ x. refl) (λ x. same x.side)
 
-joined-same : (u v : World) → v.links ≡ u.links → v.hubs ≡ u.hubs → Keep u v
+pub joined-same : (u v : World) → v.links ≡ u.links → v.hubs ≡ u.hubs → Keep u v
 joined-same u v links hubs s l j h k c side conn =
     s l j h k c (record { hub = ap (λ (hs : List Hub). slice_get hs j) (sym hubs) ∙ side.hub; link = ap (λ (ls : List Link). slice_get ls l) (sym links) ∙ side.link; leads = side.leads }) conn
 

@@ -10,8 +10,9 @@ use Rattle.bsc_network.specs.declared.arrival.Arrival.{Arrival}
 use Rattle.bsc_network.specs.Worlds.{World, Node, node_at}
 use Rattle.bsc_network_laws.proofs.Moves.{Comes, Each, Lets}
 use Rattle.bsc_network_laws.proofs.Acting.{goes_on_in, LetsActs}
-use Rattle.bsc_network_laws.proofs.Stepping.{begun, done, lets-step}
+use Rattle.bsc_network_laws.proofs.Stepping.{begun, done, lets-step, lets-step_from}
 use Rattle.bsc_network_laws.proofs.Beside.{Keeps, KeepsGiven, KeepsBoth, each-as, both, beside, acts-both}
+use Rattle.bsc_network_laws.proofs.Beginning.{EachFrom, lets-from, beside-from}
 use Rattle.bsc_network_laws.proofs.Holding.{HoldsFit, keep-none, keep-then, keep-log, keep-others}
 use Rattle.bsc_network_laws.proofs.Holding as Holding
 use Rattle.bsc_network_laws.proofs.Timing.{AllTimely, At, at-log, at-begun}
@@ -89,3 +90,8 @@ knows-begun T w t after below timely holds sides = record { at = at-begun T w t 
 -- What each move keeps where this is known, a step keeps.
 pub kept-step : (Inv : World → Type 0) (t : TimedStep) (place : ℕ) → Each t.step (KeepsGiven (Knows t.now place) Inv) → (w : World) → Knows t.now place (begun w t) → Inv (begun w t) → Inv (done w t)
 kept-step Inv t place N w known = (lets-step (KeepsBoth (Knows t.now place) Inv) t (beside t.step (Knows t.now place) Inv (knows t.now place t.step) N) w known).1
+
+-- The same, of what each move keeps of a step that began so.
+pub kept-from : (Inv : World → Type 0) (t : TimedStep) (place : ℕ) (w : World) → EachFrom (begun w t) t.step (KeepsGiven (Knows t.now place) Inv) → Knows t.now place (begun w t) → Inv (begun w t) → Inv (done w t)
+kept-from Inv t place w N known =
+    (lets-step_from (KeepsBoth (Knows t.now place) Inv) t w (beside-from (begun w t) t.step (Knows t.now place) Inv (lets-from (begun w t) t.step (Keeps (Knows t.now place)) (knows t.now place t.step)) N) known).1

@@ -1,6 +1,6 @@
 -- Each NPDU that node k puts at an event is that of a Send of its own, in this very step.
-use Rattle.std.proofs.Common.{◌≡◌, ◌<◌, ◌⊎◌, inl, inr, ℕ, Bool, true, false, List, [], ◌∷◌, ◌++◌, Option, Some, None, refl, ap, sym, subst, ◌∙◌}
-use Rattle.std.specs.Prelude.{◌^◌, IsTrue, if◌then◌else◌, filter_map, map}
+use Rattle.std.proofs.Common.{◌≡◌, ◌<◌, ◌⊎◌, inl, inr, ℕ, Bool, true, false, List, [], ◌∷◌, ◌++◌, Option, Some, None, refl, ap, sym, subst, ◌∙◌, arith}
+use Rattle.std.specs.Prelude.{◌^◌, ◌%◌, IsTrue, if◌then◌else◌, filter_map, map}
 use Rattle.std.specs.List.{list_any}
 use Rattle.std.specs.Option.{option_map}
 use Rattle.std.proofs.lemmas.List.Elements.{filter_map-append}
@@ -54,7 +54,7 @@ way_dest L v ByNone w h = cc
 
 -- ---- a Send comes only as the step's own event
 
-not_sent : (content : Content) (name : Option LinkName) (dest : Vmac) (npdu : List ℕ) → event_of content name ≡ Some (Send dest npdu) → ⊥
+pub not_sent : (content : Content) (name : Option LinkName) (dest : Vmac) (npdu : List ℕ) → event_of content name ≡ Some (Send dest npdu) → ⊥
 not_sent Arrived name dest npdu h = cc
 not_sent Opened (Some name) dest npdu h = cc
 not_sent (Message o) (Some name) dest npdu h = cc
@@ -88,6 +88,9 @@ actions-two a e r L =
     ap (filter_map action_of) (brought-two a e r L)
     ∙ filter_map-append action_of (goes_on a e L) (goes_on a r (L ++ goes_on a e L))
 
+small_id : (n : ℕ) → n % 65536 < 2 ^ 16
+small_id n = omega arith
+
 -- ---- an NPDU that is put
 
 -- It is that of a Send, which is the step's own event.
@@ -114,6 +117,7 @@ put_is_sent S place T D w k n by e name o below calm come fit sends among npdu =
       sends s.dest s.npdu (sent_is_own D w k n by e s.dest s.npdu come s.event),
       s.octets,
       way_dest (with_event n.log event) s.dest (path (slot_calls (with_event n.log event)) (hub_use (with_event n.log event)) s.dest) s.path s.by,
+      small_id _,
     )
 
     first : Among (Put name o) (actions_at n.made n.log event) → IsSentBy S k (record { octets = o; sent_at = place })

@@ -13,27 +13,53 @@ use Rattle.bsc_node_identity.proofs.Timely.{Timely}
 use Rattle.bsc_network.specs.declared.world_step.WorldStep.TheVariants.{Node as OfNode}
 use Rattle.bsc_network.specs.declared.timed_step.TimedStep.{TimedStep}
 use Rattle.bsc_network.specs.Settings.{Added, hubs, nodes}
-use Rattle.bsc_network.specs.Worlds.{World, Link, Node, new_hub, new_node, new_world}
-use Rattle.bsc_network.specs.Outboxes.{frames_of}
+use Rattle.bsc_network.specs.Worlds.{World, Hub, Link, Node, Posted, history, new_hub, new_node, new_world, node_at}
+use Rattle.bsc_network.specs.Outboxes.{Frame, frames, frames_of}
+use Rattle.bsc_network.specs.HubCalls.{taken_from}
 use Rattle.bsc_network.specs.Networks.{makes, world}
 use Rattle.bsc_network.specs.Courses.{MayMake, MayMakeAll, IsCourse}
 use Rattle.bsc_network.proofs.Places.{found-in}
-use Rattle.bsc_network_laws.specs.Carrying.{Sendings}
+use Rattle.bsc_network_laws.specs.Carrying.{Sendings, npdus}
 use Rattle.bsc_network_laws.specs.Deliveries.{Sends}
 use Rattle.bsc_network_laws.specs.Naming.{Cast, cast_of}
-use Rattle.bsc_network_laws.proofs.Stepping.{begun, done}
+use Rattle.bsc_network_laws.proofs.Stepping.{begun, done, lets-step_from}
 use Rattle.bsc_network_laws.proofs.Ways.{WaysFit, ways_fit}
 use Rattle.bsc_network_laws.proofs.Holding.{EndOf, HoldsFit, holds_fit, keep-others}
-use Rattle.bsc_network_laws.specs.Connecting.{JoinsDiallers}
-use Rattle.bsc_network_laws.proofs.Joins.{SidesJoined, sides_joined}
-use Rattle.bsc_network_laws.proofs.Diallers.{Inv, inv-same, IsFit, kept-names, diallers_stay, nodes_fit}
-use Rattle.bsc_history.specs.Ends.{joined_where}
+use Rattle.bsc_network_laws.specs.Connecting.{IsOfLink, JoinByLinks, JoinsDiallers}
+use Rattle.bsc_network_laws.specs.Passing.{IsPassedTo, PassesOn}
+use Rattle.bsc_network_laws.proofs.Joins.{SidesJoined, joined-same, sides_joined}
+use Rattle.bsc_network_laws.proofs.Looks.{LooksFit, looks-same}
+use Rattle.bsc_network_laws.proofs.Callers.{by-still}
+use Rattle.bsc_network_laws.proofs.Legally.{Legally, legally-same}
+use Rattle.bsc_network_laws.proofs.Passing.{KnowsHistories, passes-still}
+use Rattle.bsc_network_laws.proofs.Histories.{histories-done, passes-done}
+use Rattle.bsc_network_laws.proofs.Diallers.{Inv, inv-same, IsFit, KnowsNames, kept-names, diallers_stay, nodes_fit}
+use Rattle.bsc_history.specs.Ends.{joined, joined_where}
+use Rattle.bsc_history.specs.Legality.{Legal}
+use Rattle.bsc_history.specs.Outboxes.{looked}
+use Rattle.bsc_network_laws.proofs.HubsThere.{HubsThere, hubs_there}
+use Rattle.bsc_network_laws.proofs.Sources.{AllFrom, KnowsSources, from-same}
+use Rattle.bsc_network_laws.proofs.BothSources.{AreWhole, KnowsHubs, sources-done}
 use Rattle.bsc_network_laws.proofs.Timing.{AllTimely, all_timely, at-done}
 use Rattle.bsc_network_laws.proofs.Taken.{SidesFit, down_is_taken}
-use Rattle.bsc_network_laws.proofs.Knowing.{knows-begun, kept-step}
+use Rattle.bsc_network_laws.proofs.Beside.{Keeps}
+use Rattle.bsc_network_laws.proofs.Knowing.{knows-begun, kept-step, kept-from}
 use Rattle.bsc_network_laws.proofs.Casting.{Stays, Casts, casts-same, KnowsAll, kept-all, casts-done}
 use Rattle.bsc_network_laws.proofs.Named.{OutboxesNameNobody, Named, named-same, named_stays}
 use Rattle.bsc_network_laws.proofs.SentOnLinks.{AllSent, IsCounted, sent_stays}
+use Rattle.bsc_direct.proofs.OneMore.{some_none}
+use Rattle.bsc_node.specs.declared.link_name.LinkName.TheVariants.{Direct}
+use Rattle.bsc_node.specs.Links.{peer}
+use Rattle.bsc_network_laws.proofs.Lasting.{lasts-same}
+use Rattle.bsc_network_laws.proofs.MadeWell.{MadeWell, made_well}
+use Rattle.bsc_network_laws.proofs.OtherEnds.{LeadsToHub, EndsRight, ends-same, ends_stay, kept-ends}
+use Rattle.bsc_network_laws.proofs.DirectLinks.{AllDirect, direct-same}
+use Rattle.bsc_network_laws.proofs.Directly.{direct_stays}
+use Rattle.bsc_network_laws.proofs.Placed.{PutAt}
+use Rattle.bsc_network_laws.proofs.PutOnce.{ArePutOnce, PutBefore, OnePut, one_of-none, one_stays}
+use Rattle.bsc_network_laws.proofs.Receipts.{HasReceipts, receipts-same, receipts_stay}
+use Rattle.bsc_network_laws.proofs.ForwardedOnce.{ForwardAt, ForwardsFit, forwards-same, forwards_fit}
+use Rattle.bsc_network_laws.proofs.HubsThere.{HubsThere, hubs_there}
 
 -- What holds after so many steps, the last of which was at the time T.
 pub record Runs (cast : Cast) (S : Sendings) (T place : ℕ) (w : World) : Type 0 where
@@ -47,6 +73,19 @@ pub record Runs (cast : Cast) (S : Sendings) (T place : ℕ) (w : World) : Type 
   pub named : Named cast w
   pub diallers : Inv cast w
   pub joins : SidesJoined w
+  pub by_links : JoinByLinks w
+  pub looks : LooksFit w
+  pub legally : Legally w
+  pub passes : PassesOn S w
+  pub made : MadeWell cast
+  pub ends : EndsRight cast w
+  pub direct : AllDirect S cast w
+  pub put_before : PutBefore place w
+  pub put_once : ArePutOnce w
+  pub receipts : HasReceipts w
+  pub forwards : ForwardsFit w
+  pub there : HubsThere w
+  pub from : AreWhole S → AllFrom S w
 
 sent-makes : (cast : Cast) (S : Sendings) (T : ℕ) (w : World) (t : TimedStep) → Runs cast S T w.steps w → T ≤ t.now → t.now < 2 ^ 62 → IsCounted S w.steps t.step → AllSent S (makes w t)
 sent-makes cast S T w t r after below sends =
@@ -64,6 +103,73 @@ dialled-done cast fit S T w t r after below =
     kept-names cast (Inv cast) t w.steps (diallers_stay cast fit t.now w.steps t.step) w (known cast S T w t r after below, named-same cast w (begun w t) refl refl r.named)
     (inv-same cast w (begun w t) (keep-others w (begun w t) refl refl) refl r.diallers)
 
+-- what is known of sides and histories at the beginning of a step
+histories : (cast : Cast) (S : Sendings) (T : ℕ) (w : World) (t : TimedStep) → Runs cast S T w.steps w → T ≤ t.now → t.now < 2 ^ 62 → KnowsHistories cast S t.now w.steps (begun w t)
+histories cast S T w t r after below = record {
+  sides = record {
+    names = (known cast S T w t r after below, named-same cast w (begun w t) refl refl r.named);
+    by_links = by-still w (begun w t) refl refl r.by_links;
+    looks = looks-same w (begun w t) refl refl r.looks;
+    joined = joined-same w (begun w t) refl refl r.joins;
+  };
+  legally = legally-same w (begun w t) refl refl r.legally;
+  sent = r.sent;
+}
+
+histories-makes : (cast : Cast) → IsFit cast → (S : Sendings) (T : ℕ) (w : World) (t : TimedStep) → Runs cast S T w.steps w → T ≤ t.now → t.now < 2 ^ 62 → IsCounted S w.steps t.step → KnowsHistories cast S t.now w.steps (done w t)
+histories-makes cast fit S T w t r after below sends = histories-done cast fit S t w.steps sends w (histories cast S T w t r after below)
+
+passes-makes : (cast : Cast) → IsFit cast → (S : Sendings) (T : ℕ) (w : World) (t : TimedStep) → Runs cast S T w.steps w → T ≤ t.now → t.now < 2 ^ 62 → IsCounted S w.steps t.step → PassesOn S (makes w t)
+passes-makes cast fit S T w t r after below sends =
+    passes-still S (done w t) (makes w t) refl refl refl (passes-done cast fit S t w.steps sends w (histories cast S T w t r after below) (passes-still S w (begun w t) refl refl refl r.passes))
+
+names-begun : (cast : Cast) (S : Sendings) (T : ℕ) (w : World) (t : TimedStep) → Runs cast S T w.steps w → T ≤ t.now → t.now < 2 ^ 62 → KnowsNames cast t.now w.steps (begun w t)
+names-begun cast S T w t r after below = (known cast S T w t r after below, named-same cast w (begun w t) refl refl r.named)
+
+ends-begun : (cast : Cast) (S : Sendings) (T : ℕ) (w : World) (t : TimedStep) → Runs cast S T w.steps w → EndsRight cast (begun w t)
+ends-begun cast S T w t r = ends-same cast w (begun w t) (lasts-same w (begun w t) refl refl refl) refl r.ends
+
+ends-done : (cast : Cast) (S : Sendings) (T : ℕ) (w : World) (t : TimedStep) → Runs cast S T w.steps w → T ≤ t.now → t.now < 2 ^ 62 → EndsRight cast (done w t)
+ends-done cast S T w t r after below = kept-names cast (EndsRight cast) t w.steps (ends_stay cast r.made t.now w.steps t.step) w (names-begun cast S T w t r after below) (ends-begun cast S T w t r)
+
+direct-done : (cast : Cast) (S : Sendings) (T : ℕ) (w : World) (t : TimedStep) → Runs cast S T w.steps w → T ≤ t.now → t.now < 2 ^ 62 → IsCounted S w.steps t.step → AllDirect S cast (done w t)
+direct-done cast S T w t r after below sends =
+    kept-ends cast r.made (AllDirect S cast) t w.steps (direct_stays S cast r.made t.now w.steps t.step sends) w (names-begun cast S T w t r after below, ends-begun cast S T w t r)
+    (direct-same S cast w (begun w t) (lasts-same w (begun w t) refl refl refl) refl r.direct)
+
+-- all of that at the beginning of a step
+sources-begun : (cast : Cast) (S : Sendings) (T : ℕ) (w : World) (t : TimedStep) → Runs cast S T w.steps w → T ≤ t.now → t.now < 2 ^ 62 → KnowsSources S cast t.now w.steps (KnowsHubs cast S t.now w.steps) (begun w t)
+sources-begun cast S T w t r after below = (
+  (names-begun cast S T w t r after below, ends-begun cast S T w t r),
+  direct-same S cast w (begun w t) (lasts-same w (begun w t) refl refl refl) refl r.direct,
+  record {
+    histories = histories cast S T w t r after below;
+    passes = passes-still S w (begun w t) refl refl refl r.passes;
+    there = record { within = r.there.within };
+    diallers = inv-same cast w (begun w t) (keep-others w (begun w t) refl refl) refl r.diallers;
+  },
+)
+
+from-makes : (cast : Cast) → IsFit cast → (S : Sendings) (T : ℕ) (w : World) (t : TimedStep) → Runs cast S T w.steps w → T ≤ t.now → t.now < 2 ^ 62 → IsCounted S w.steps t.step → AreWhole S → AllFrom S (makes w t)
+from-makes cast fit S T w t r after below sends whole =
+    from-same S (done w t) (makes w t) (lasts-same (done w t) (makes w t) refl refl refl) refl
+    (sources-done cast fit r.made S whole t w.steps sends w (sources-begun cast S T w t r after below) (from-same S w (begun w t) (lasts-same w (begun w t) refl refl refl) refl (r.from whole)))
+
+one_put : (cast : Cast) (S : Sendings) (T : ℕ) (w : World) (t : TimedStep) → Runs cast S T w.steps w → T ≤ t.now → t.now < 2 ^ 62 → OnePut w.steps (done w t)
+one_put cast S T w t r after below =
+    kept-from (OnePut w.steps) t w.steps w (one_stays t.now w.steps (begun w t) t.step refl r.put_before r.put_once) (knows-begun T w t after below r.timely r.holds r.sides)
+    (one_of-none w.steps (begun w t) r.put_before r.put_once)
+
+receipts-done : (cast : Cast) (S : Sendings) (T : ℕ) (w : World) (t : TimedStep) → Runs cast S T w.steps w → T ≤ t.now → t.now < 2 ^ 62 → HasReceipts (done w t)
+receipts-done cast S T w t r after below =
+    let begin : HasReceipts (begun w t) = receipts-same w (begun w t) refl refl r.receipts in
+    kept-from HasReceipts t w.steps w (receipts_stay t.now w.steps (begun w t) t.step begin) (knows-begun T w t after below r.timely r.holds r.sides) begin
+
+forwards-done : (cast : Cast) (S : Sendings) (T : ℕ) (w : World) (t : TimedStep) → Runs cast S T w.steps w → ForwardsFit (done w t)
+forwards-done cast S T w t r =
+    let begin : ForwardsFit (begun w t) = forwards-same w (begun w t) refl refl r.forwards in
+    lets-step_from (Keeps ForwardsFit) t w (forwards_fit (begun w t) t.step r.put_once begin) begin
+
 one_step : (cast : Cast) → IsFit cast → (S : Sendings) (T : ℕ) (w : World) (t : TimedStep) → Runs cast S T w.steps w → T ≤ t.now → t.now < 2 ^ 62 → IsCounted S w.steps t.step → Runs cast S t.now (w.steps + 1) (makes w t)
 one_step cast fit S T w t r after below sends = record {
   place_is = ap (λ n. n + 1) (at-done T w t after below r.timely).steps;
@@ -75,6 +181,19 @@ one_step cast fit S T w t r after below sends = record {
   casts = casts-same cast (done w t) (makes w t) refl refl (casts-done cast t w.steps w (known cast S T w t r after below));
   named = named-same cast (done w t) (makes w t) refl refl (named-done cast S T w t r after below);
   joins = sides_joined w t r.joins;
+  by_links = by-still (done w t) (makes w t) refl refl (histories-makes cast fit S T w t r after below sends).sides.by_links;
+  looks = looks-same (done w t) (makes w t) refl refl (histories-makes cast fit S T w t r after below sends).sides.looks;
+  legally = legally-same (done w t) (makes w t) refl refl (histories-makes cast fit S T w t r after below sends).legally;
+  passes = passes-makes cast fit S T w t r after below sends;
+  made = r.made;
+  ends = ends-same cast (done w t) (makes w t) (lasts-same (done w t) (makes w t) refl refl refl) refl (ends-done cast S T w t r after below);
+  direct = direct-same S cast (done w t) (makes w t) (lasts-same (done w t) (makes w t) refl refl refl) refl (direct-done cast S T w t r after below sends);
+  put_before = (one_put cast S T w t r after below).before;
+  put_once = (one_put cast S T w t r after below).once;
+  receipts = receipts-same (done w t) (makes w t) refl refl (receipts-done cast S T w t r after below);
+  forwards = forwards-same (done w t) (makes w t) refl refl (forwards-done cast S T w t r);
+  there = hubs_there w t r.there;
+  from = from-makes cast fit S T w t r after below sends;
   diallers = inv-same cast (done w t) (makes w t) (keep-others (done w t) (makes w t) refl refl) refl (dialled-done cast fit S T w t r after below);
 }
 
@@ -135,8 +254,52 @@ outboxes-new : (as_made : List About) → AllByRecursion OutboxesNameNobody (map
 outboxes-new [] = tt
 outboxes-new (a ∷ rest) = (nothing-entered a, outboxes-new rest)
 
+-- no hub has a connection at first, and all its outboxes are empty
+hub-new : (added : List Added) (j : ℕ) (h : Hub) → slice_get (new_world added).hubs j ≡ Some h → (a : About) × (h ≡ new_hub a)
+hub-new added j h at =
+    let made = found-in new_hub (slice_get (hubs added) j) h (sym (slice_get-map new_hub (hubs added) j) ∙ at) in
+    (made.0, sym made.2)
+
+by_links-new : (added : List Added) → JoinByLinks (new_world added)
+unfolding joined_where
+by_links-new added j h at = let made = hub-new added j h at in subst (λ (x : Hub). AllByRecursion (IsOfLink (new_world added) j) (joined (history x))) (sym made.1) tt
+
+looks-new : (added : List Added) → LooksFit (new_world added)
+unfolding joined_where looked
+looks-new added j h c at = let made = hub-new added j h at in subst (λ (x : Hub). looked (history x) c ≤ taken_from (new_world added) x c) (sym made.1) (omega arith)
+
+passes-new : (S : Sendings) (added : List Added) → PassesOn S (new_world added)
+unfolding frames_of
+passes-new S added j h c at = let made = hub-new added j h at in subst (λ (x : Hub). AllByRecursion (IsPassedTo S (new_world added) x.posted c) (npdus (frames x c))) (sym made.1) tt
+
+legal-new : (abouts : List About) → AllByRecursion (λ (h : Hub). Legal h.about (history h)) (map new_hub abouts)
+legal-new [] = tt
+legal-new (a ∷ rest) = (record { lawful = tt }, legal-new rest)
+
+-- at first no node has an end, nor a peer
+ends-new : (added : List Added) → EndsRight (cast_of added) (new_world added)
+ends-new added = record {
+  hubs = λ k n here. let made = at_first k n here in subst (λ (m : Node). AllByRecursion (LeadsToHub (new_world added)) m.holds) made.1 tt;
+  peers = λ k n s who here is. let made = at_first k n here in some_none who (sym is ∙ ap (λ (m : Node). peer m.log (Direct s)) (sym made.1));
+}
+  where
+    at_first : (k : ℕ) (n : Node) → node_at (new_world added) k ≡ Some n → (m : Made) × (new_node m ≡ n)
+    at_first k n here = let made = found-in new_node (slice_get (nodes added) k) n (sym (slice_get-map new_node (nodes added) k) ∙ here) in (made.0, made.2)
+
 no_link : (l : ℕ) (k : Link) → slice_get [] l ≡ Some k → ⊥
 no_link l k h = cc
+
+no_posted : (p : ℕ) (q : Posted) → slice_get [] p ≡ Some q → ⊥
+no_posted p q h = cc
+
+-- no hub was handed in anything
+forwards-new : (as_made : List About) (w : World) → w.hubs ≡ map new_hub as_made → ForwardsFit w
+forwards-new as_made w is = record { sources = λ j p f at. absurd (none j p f at); once = λ i p f j q g a b same. absurd (none i p f a) }
+  where
+    none : (j p : ℕ) (f : Frame) → ForwardAt w j p f → ⊥
+    none j p f at =
+        let made = found-in new_hub (slice_get as_made j) at.hub (sym (slice_get-map new_hub as_made j) ∙ ap (λ (hs : List Hub). slice_get hs j) (sym is) ∙ at.here) in
+        no_posted p at.posted (ap (λ (h : Hub). slice_get h.posted p) made.2 ∙ at.at)
 
 -- Each network, after any steps that may be made.
 pub runs : (added : List Added) (steps : List TimedStep) → IsCourse added steps → (T : ℕ) × (place : ℕ) × Runs (cast_of added) (Sends steps) T place (world added steps)
@@ -152,5 +315,18 @@ runs added steps course =
       casts = casts-new added;
       named = record { links = tt; outboxes = outboxes-new (hubs added) };
       joins = λ l j h k c side conn. absurd (no_link l k side.link);
+      by_links = by_links-new added;
+      looks = looks-new added;
+      legally = record { legal = legal-new (hubs added); stay = λ l j h k c side conn. absurd (no_link l k side.link) };
+      passes = passes-new (Sends steps) added;
+      made = made_well added course.added_all;
+      ends = ends-new added;
+      direct = λ l x way k j d. absurd (no_link l x d.link);
+      put_before = λ l way i f p. absurd (no_link l p.0 p.1);
+      put_once = λ l way i f m on j g p q same. absurd (no_link l p.0 p.1);
+      receipts = ([], tt);
+      forwards = forwards-new (hubs added) (new_world added) refl;
+      there = record { within = λ l j x here leads. absurd (no_link l x here) };
+      from = λ whole. tt;
       diallers = joined-new (cast_of added) (new_world added) (hubs added);
     }) course.made_all

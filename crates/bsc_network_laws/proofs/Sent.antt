@@ -29,7 +29,7 @@ among-filter test x (y ∷ ys) passes (inr later) = by (test y) (among-filter te
     by true g = inr g
     by false g = g
 
-only : {A : Type 0} (x y : A) → Among x (y ∷ []) → x ≡ y
+pub only : {A : Type 0} (x y : A) → Among x (y ∷ []) → x ≡ y
 only x y (inl same) = same
 only x y (inr none) = absurd none
 

@@ -177,7 +177,7 @@ sent_stays S T place D sends = record {
   forwards = λ w l j p h k o c side conn came said m s. s;
   takes = λ w l j h k c f side conn is m s.
       let v = with_side l (λ x. record x { taken = x.taken + 1 }) w in
-      sent-hub S v l j f.sent_at (Message f.octets) (leads v l j h _ (side-side w l j h k (λ x. record x { taken = x.taken + 1 }) side)) (sent-side S w l _ s);
+      sent-hub S v l j f.sent_at (Message f.octets) (leads v l j h _ (side-side w l j h k (λ x. record x { taken = x.taken + 1 }) refl side)) (sent-side S w l _ s);
   hears = λ w k n by e here come fit. sent-hears S T place D sends w k n by e here come fit;
   forgets = λ w later m s. s;
   arrives = λ w l way k x here is m. sent-arrives w l way;

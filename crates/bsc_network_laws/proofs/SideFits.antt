@@ -157,7 +157,7 @@ pub asks-before : (o : Option (List Event)) (v : Verdict) (who : Identity) → A
 asks-before None v who is = refl
 asks-before (Some later) v who is = ap asks is ∙ asks-farewell (oldest farewell_at later) v
 
-no_conn : (o : Option ℕ) → is_some o ≡ false → o ≡ None
+pub no_conn : (o : Option ℕ) → is_some o ≡ false → o ≡ None
 no_conn None h = refl
 no_conn (Some c) h = cc
 

@@ -153,7 +153,7 @@ sides-joins w l c before s =
     (all-changed_here (LinkFits w.hubs) l _ w.links (λ k here fits j h is at. side-joins h k c (before k here) (fits j h is at)) s)
 
 -- the machine that asks wasn't told before that its peer joined
-not_joined : (h : Hub) (k : Link) (m : List ℕ) (who : Identity) → IsSaid h k m (Ask who) → is_some (since_joined k.side.events) ≡ false
+pub not_joined : (h : Hub) (k : Link) (m : List ℕ) (who : Identity) → IsSaid h k m (Ask who) → is_some (since_joined k.side.events) ≡ false
 not_joined h k m who said =
     ap (λ (E : List Event). is_some (since_joined E)) said.told
     ∙ joined-more said.events (Came said.time (outcome_of m (HubPort (phase said.events)) h.about.hub.max_bvlc))

@@ -1,9 +1,9 @@
 -- A network written out, of those that the theorem speaks of, in which a unicast, a broadcast, a direct connection and a takeover
 -- deliver.
-use Rattle.std.proofs.Common.{◌≡◌, ◌<◌, ℕ, Bool, true, false, not, ◌&&◌, List, [], ◌∷◌, ◌++◌, refl, ap, arith}
+use Rattle.std.proofs.Common.{◌≡◌, ◌<◌, ℕ, ◌==◌, Bool, true, false, not, ◌&&◌, List, [], ◌∷◌, ◌++◌, refl, ap, arith}
 use Rattle.std.specs.Prelude.{nat_lt, length, slice_index}
-use Rattle.std.specs.List.{list_all}
-use Rattle.std.proofs.lemmas.Bool.{ltb-true}
+use Rattle.std.specs.List.{AllByRecursion, list_all}
+use Rattle.std.proofs.lemmas.Bool.{eqb-true, ltb-true}
 use Rattle.bsc_octets.specs.declared.vmac.Vmac.{Vmac}
 use Rattle.bsc_octets.specs.Addresses.{same_vmac, broadcast, zero_vmac}
 use Rattle.bsc_frame.specs.Payloads.{IsNode}
@@ -15,6 +15,7 @@ use Rattle.bsc_network.specs.declared.world_step.WorldStep.TheVariants.{Node as 
 use Rattle.bsc_network.specs.Settings.{Added}
 use Rattle.bsc_network.specs.Networks.{deliveries}
 use Rattle.bsc_network.specs.Courses.{HasContent, MayMakeAll, IsCourse}
+use Rattle.bsc_network_laws.specs.Deliveries.{IsWhole, HasAddress}
 use Rattle.bsc_network.proofs.OnLiterals.{world_on_literals}
 use Rattle.bsc_network.proofs.Scenes.{peer, primary, a, b, c, b_direct, address, at, joins, send, up, down, take, got, got_by_all}
 
@@ -65,6 +66,22 @@ content step h = tt
 may_make : (steps : List WorldStep) → list_all has_content steps ≡ true → MayMakeAll 0 (at 0 steps)
 may_make [] h = tt
 may_make (s ∷ steps) h = (record { later = omega arith; in_range = omega arith; content = content s (and_left (has_content s) (list_all has_content steps) h) }, may_make steps (and_right (has_content s) (list_all has_content steps) h))
+
+abbrev has_address : WorldStep → Bool
+has_address (OfNode k (Send dest npdu)) = length dest.0 == 6
+has_address step = true
+
+whole : (step : WorldStep) → has_address step ≡ true → IsWhole step
+whole (OfNode k (Send dest npdu)) h = eqb-true (length dest.0) 6 h
+whole step h = tt
+
+all_whole : (steps : List WorldStep) → list_all has_address steps ≡ true → AllByRecursion HasAddress (at 0 steps)
+all_whole [] h = tt
+all_whole (s ∷ steps) h = (whole s (and_left (has_address s) (list_all has_address steps) h), all_whole steps (and_right (has_address s) (list_all has_address steps) h))
+
+-- What is sent goes to addresses of six octets.
+goes_to_addresses : AllByRecursion HasAddress (at 0 course)
+goes_to_addresses = all_whole course refl
 
 hub_fits : IsHub (record { hub = peer 0xF0 0xF0; limits = record { rows = 256; outbox = 64; calls = 1099511627776; callers = 4096 } })
 hub_fits = record { some_rows = omega arith; few_rows = omega arith; some_room = omega arith; little_room = omega arith; some_calls = omega arith; few_calls = omega arith; some_callers = omega arith; few_callers = omega arith }

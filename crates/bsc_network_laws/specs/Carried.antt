@@ -16,11 +16,13 @@ use Rattle.bsc_network_laws.specs.Deliveries.{Sends}
 -- Where a link leads to a hub, the NPDUs on its way down are those that were taken from the outbox of its connection, in order,
 -- each once, with its place.
 abbrev pub DownIsTaken : World → Link → Type 0
-DownIsTaken w link = (j : ℕ) (h : Hub) → link.to ≡ ToHub j → hub_at w j ≡ Some h → npdus (messages link.down) ≡ npdus (taken_of h link.side.conn link.side.taken)
+DownIsTaken w link =
+    (j : ℕ) (h : Hub) → link.to ≡ ToHub j → hub_at w j ≡ Some h → npdus (messages link.down) ≡ npdus (taken_of h link.side.conn link.side.taken)
 
 -- So it is in every network, whatever steps are made.
 abbrev pub TakenComesDown : Type 0
-TakenComesDown = (added : List Added) (steps : List TimedStep) → IsCourse added steps → AllByRecursion (DownIsTaken (world added steps)) (world added steps).links
+TakenComesDown =
+    (added : List Added) (steps : List TimedStep) → IsCourse added steps → AllByRecursion (DownIsTaken (world added steps)) (world added steps).links
 
 -- ---- what nodes put
 

@@ -1,5 +1,5 @@
 -- Words for what NPDUs are carried, and where.
-use Rattle.std.specs.Prelude.{◌≡◌, ◌⊎◌, ℕ, ◌==◌, Bool, List, [], filter, take, Option, Some, None}
+use Rattle.std.specs.Prelude.{◌≡◌, ◌<◌, ◌^◌, ◌⊎◌, ℕ, ◌==◌, Bool, List, [], filter, take, Option, Some, None}
 use Rattle.bsc_octets.specs.declared.vmac.Vmac.{Vmac}
 use Rattle.bsc_octets.specs.Forwarding.{function_in}
 use Rattle.bsc_frame.specs.declared.body.Body.TheVariants.{Npdu}
@@ -24,8 +24,9 @@ abbrev pub taken_of : Hub → Option ℕ → ℕ → List Frame
 taken_of h None taken = []
 taken_of h (Some c) taken = take taken (frames h c)
 
--- A frame is the NPDU of a Send of node k at its place, with the Send's destination or, over a direct connection, with none.
+-- A frame is the NPDU of a Send of node k at its place, with the Send's destination or, over a direct connection, with none, and with
+-- a Message ID of two octets.
 abbrev pub IsSentBy : Sendings → ℕ → Frame → Type 0
 IsSentBy S k f =
     (dest : Vmac) × (npdu : List ℕ) × (id : ℕ) × (to : Option Vmac) × S f.sent_at k dest npdu
-    × (f.octets ≡ message_octets id to (Npdu npdu)) × ((to ≡ Some dest) ⊎ (to ≡ None))
+    × (f.octets ≡ message_octets id to (Npdu npdu)) × ((to ≡ Some dest) ⊎ (to ≡ None)) × (id < 2 ^ 16)

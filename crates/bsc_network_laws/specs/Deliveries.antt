@@ -1,5 +1,5 @@
 -- What holds of every network: where each NPDU that is delivered came from.
-use Rattle.std.specs.Prelude.{◌≡◌, ◌≢◌, ◌⊎◌, ℕ, Bool, true, false, List, [], ◌∷◌, ◌++◌, map, slice_get, Some, ⊤}
+use Rattle.std.specs.Prelude.{◌≡◌, ◌≢◌, ◌⊎◌, ℕ, Bool, true, false, List, [], ◌∷◌, ◌++◌, length, map, slice_get, Some, ⊤}
 use Rattle.std.specs.List.{AllByRecursion}
 use Rattle.bsc_octets.specs.declared.identity.Identity.{Identity}
 use Rattle.bsc_octets.specs.declared.vmac.Vmac.{Vmac}
@@ -13,6 +13,7 @@ use Rattle.bsc_node.specs.Logs.{Line, Log}
 use Rattle.bsc_node.specs.Ways.{established_peer}
 use Rattle.bsc_network.specs.declared.way.Way.{Way}
 use Rattle.bsc_network.specs.declared.target.Target.TheVariants.{Node as ToNode}
+use Rattle.bsc_network.specs.declared.world_step.WorldStep.{WorldStep}
 use Rattle.bsc_network.specs.declared.world_step.WorldStep.TheVariants.{Node as OfNode}
 use Rattle.bsc_network.specs.declared.timed_step.TimedStep.{TimedStep}
 use Rattle.bsc_network.specs.declared.world_delivery.WorldDelivery.{WorldDelivery}
@@ -116,11 +117,23 @@ abbrev pub Apart : List WorldDelivery → Type 0
 Apart [] = ⊤
 Apart (d ∷ ds) = AllByRecursion (AreApart d) ds × Apart ds
 
+-- So it is in every network, whatever steps are made.
+abbrev pub NoneIsDeliveredTwice : Type 0
+NoneIsDeliveredTwice = (added : List Added) (steps : List TimedStep) → IsCourse added steps → Apart (deliveries added steps)
+
+-- What is sent goes to an address of six octets.
+abbrev pub IsWhole : WorldStep → Type 0
+IsWhole (OfNode k (Send dest npdu)) = length dest.0 ≡ 6
+IsWhole step = ⊤
+
+abbrev pub HasAddress : TimedStep → Type 0
+HasAddress t = IsWhole t.step
+
 -- Each delivery comes from the Send at its place, and none is of the Send and to the node of another.
 pub record DeliversWhatWasSent (added : List Added) (steps : List TimedStep) : Type 0 where
   pub each : AllByRecursion (IsFromItsSend steps (world added steps)) (deliveries added steps)
   pub once : Apart (deliveries added steps)
 
--- So it is in every network, whatever steps are made.
+-- So it is in every network, whatever steps are made in which what is sent goes to addresses of six octets.
 abbrev pub NetworksDeliverWhatWasSent : Type 0
-NetworksDeliverWhatWasSent = (added : List Added) (steps : List TimedStep) → IsCourse added steps → DeliversWhatWasSent added steps
+NetworksDeliverWhatWasSent = (added : List Added) (steps : List TimedStep) → IsCourse added steps → AllByRecursion HasAddress steps → DeliversWhatWasSent added steps

@@ -4,3 +4,5 @@ pub mod Deliveries
 pub mod Carried
 pub mod Naming
 pub mod Connecting
+pub mod Passing
+pub mod Peers

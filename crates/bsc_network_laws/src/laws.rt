@@ -1,7 +1,10 @@
 //! Laws of whole networks, each carried by a function that does nothing.
+ghost use Rattle.bsc_network_laws.specs.Deliveries.{NoneIsDeliveredTwice, NetworksDeliverWhatWasSent};
 ghost use Rattle.bsc_network_laws.specs.Carried.{TakenComesDown, PutsWhatWasSent};
 ghost use Rattle.bsc_network_laws.specs.Naming.{NamesAreRight};
-ghost use Rattle.bsc_network_laws.specs.Connecting.{ConnectionsAreOfDiallers, ConnectionsJoinedByTheirLinks};
+ghost use Rattle.bsc_network_laws.specs.Connecting.{ConnectionsAreOfDiallers, ConnectionsJoinedByTheirLinks, ConnectionsJoinByLinks, HistoriesAreLegal};
+ghost use Rattle.bsc_network_laws.specs.Passing.{OutboxesHaveWhatWasSent, WhatComesDownWasSent};
+ghost use Rattle.bsc_network_laws.specs.Peers.{PeersAreThere};
 
 /// The NPDUs on the way down from a hub are those that were taken from the outbox of its link's connection, in order, each
 /// once, with its place.
@@ -27,4 +30,42 @@ pub fn connections_are_of_diallers()
 /// Where the hub's side of a link has a connection, that connection joined the hub by the link's call.
 pub fn connections_joined_by_their_links()
     ensures { ConnectionsJoinedByTheirLinks }
+{}
+
+/// A connection joined a hub by a link that leads to this hub, and the hub's side of that link has it.
+pub fn connections_join_by_links()
+    ensures { ConnectionsJoinByLinks }
+{}
+
+/// The history of each hub is legal.
+pub fn histories_are_legal()
+    ensures { HistoriesAreLegal }
+{}
+
+/// Each NPDU in an outbox is that of a Send of the node that dialled the sender's link, and was passed on, under the sender's
+/// address, to whom it was meant for.
+pub fn outboxes_have_what_was_sent()
+    ensures { OutboxesHaveWhatWasSent }
+{}
+
+/// Each NPDU on the way down from a hub was passed on so to the connection that joined by this link.
+pub fn what_comes_down_was_sent()
+    ensures { WhatComesDownWasSent }
+{}
+
+/// The peer with which a slot is established is the node or the hub at the other end of the slot's link.
+pub fn peers_are_there()
+    ensures { PeersAreThere }
+{}
+
+/// No two deliveries are of one Send and to one node.
+pub fn none_is_delivered_twice()
+    ensures { NoneIsDeliveredTwice }
+{}
+
+/// Where what is sent goes to addresses of six octets, a network delivers what was sent. Each delivery comes from the Send at its
+/// place: its node sent that very NPDU, and was connected to a hub under the address that is delivered when the hub passed it
+/// on, or is at the other end of a direct connection over which it came. No two deliveries are of one Send and to one node.
+pub fn networks_deliver_what_was_sent()
+    ensures { NetworksDeliverWhatWasSent }
 {}

@@ -1,0 +1,218 @@
+-- What is delivered of a message that came from a node over a direct connection came over it from the Send at its place; and that stays
+-- so.
+use Rattle.std.proofs.Common.{◌≡◌, ◌<◌, ◌⊎◌, inl, inr, ℕ, zero, suc, Bool, true, false, cond, List, [], ◌∷◌, ◌++◌, Option, Some, None, refl, ap, sym, subst, ◌∙◌}
+use Rattle.std.specs.Prelude.{◌^◌, ◌==◌, IsTrue, filter, filter_map, slice_get}
+use Rattle.std.specs.Option.{option_map}
+use Rattle.std.specs.List.{AllByRecursion}
+use Rattle.std.proofs.lemmas.List.Elements.{filter_map-append}
+use Rattle.bsc_direct.proofs.OneMore.{some_same, both_ways}
+use Rattle.bsc_octets.specs.declared.identity.Identity.{Identity}
+use Rattle.bsc_octets.specs.declared.vmac.Vmac.{Vmac}
+use Rattle.bsc_octets.specs.Forwarding.{function_in}
+use Rattle.bsc_frame.specs.declared.message.Message.{Message}
+use Rattle.bsc_frame.specs.declared.body.Body.{Body}
+use Rattle.bsc_frame.specs.declared.body.Body.TheVariants.{Npdu}
+use Rattle.bsc_checks.specs.declared.verdict.Verdict.TheVariants.{Pass}
+use Rattle.bsc_verdict.specs.Options.{rest_of, data_options_in}
+use Rattle.bsc_verdict.specs.Outcomes.{message_in, outcome_of}
+use Rattle.bsc_verdict.specs.Payloads.{body_in}
+use Rattle.bsc_node.specs.declared.delivered.Delivered.{Delivered}
+use Rattle.bsc_node.specs.declared.link_name.LinkName.{LinkName}
+use Rattle.bsc_node.specs.declared.link_name.LinkName.TheVariants.{Hub as HubName, Direct}
+use Rattle.bsc_node.specs.declared.node_event.NodeEvent.{NodeEvent}
+use Rattle.bsc_node.specs.declared.node_event.NodeEvent.TheVariants.{Came}
+use Rattle.bsc_node.specs.declared.timed_event.TimedEvent.{TimedEvent}
+use Rattle.bsc_node.specs.Messages.{message}
+use Rattle.bsc_node.specs.Conditions.{may_come}
+use Rattle.bsc_node.specs.Laws.{with_event, with_heard, delivery}
+use Rattle.bsc_node.specs.Links.{same_link, place as place_at, verdict}
+use Rattle.bsc_node.specs.Logs.{Made}
+use Rattle.bsc_node.specs.Receiving.{is_for_all, sender}
+use Rattle.bsc_node_identity.specs.Naming.{named_by}
+use Rattle.bsc_node_identity.proofs.Carried.{passed-said, npdus_plainly}
+use Rattle.bsc_node_identity.proofs.Events.{sender-was_peer}
+use Rattle.bsc_network.specs.declared.way.Way.{Way}
+use Rattle.bsc_network.specs.declared.way.Way.TheVariants.{Up, Down}
+use Rattle.bsc_network.specs.declared.target.Target.{Target}
+use Rattle.bsc_network.specs.declared.target.Target.TheVariants.{Hub as ToHub, Node as ToNode}
+use Rattle.bsc_network.specs.declared.hold.Hold.{Hold}
+use Rattle.bsc_network.specs.declared.arrival.Arrival.{Arrival}
+use Rattle.bsc_network.specs.declared.world_delivery.WorldDelivery.{WorldDelivery}
+use Rattle.bsc_network.specs.Worlds.{World, Node, Link, traffic, node_at, link_at}
+use Rattle.bsc_network.specs.NodeSides.{other_way, hold_of}
+use Rattle.bsc_network.specs.Outboxes.{Frame}
+use Rattle.bsc_network.proofs.Places.{all-at, all-found, all-reversed}
+use Rattle.bsc_network_laws.specs.Ends.{putter, receiver, message_of, messages}
+use Rattle.bsc_network_laws.specs.Carrying.{Sendings, is_npdu}
+use Rattle.bsc_network_laws.specs.Deliveries.{IsAmong, WasEstablished, CameDirectly}
+use Rattle.bsc_network_laws.specs.Naming.{Cast}
+use Rattle.bsc_network_laws.specs.Peers.{other_end, who_is}
+use Rattle.bsc_network_laws.proofs.Casting.{Stays, Casts, node-identity}
+use Rattle.bsc_network_laws.proofs.Named.{all-messages}
+use Rattle.bsc_network_laws.proofs.Lasting.{Longer, Lasts, LinkGrows}
+use Rattle.bsc_network_laws.proofs.Brought.{at_once}
+use Rattle.bsc_network_laws.proofs.OtherEnds.{LeadsToHub, EndsRight, putter-grows, receiver-grows, CameBy, came-end}
+use Rattle.bsc_network_laws.proofs.DirectLinks.{IsSentDirectly, AllDirect, among-longer, established-grows}
+use Rattle.bsc_network_laws.proofs.Directly.{each-among, held-name}
+
+-- ---- what passes with an NPDU is one
+
+abbrev has_npdu : Body → Bool
+has_npdu (Npdu npdu) = true
+has_npdu body = false
+
+none_if : (b : Bool) (x y : Body) → (b ≡ true → has_npdu x ≡ false) → has_npdu y ≡ false → has_npdu (cond b x y) ≡ false
+none_if true x y p q = p refl
+none_if false x y p q = q
+
+none_in : (f : ℕ) (p : List ℕ) → (f == 0x01) ≡ false → has_npdu (body_in f p) ≡ false
+none_in f p other =
+    none_if (f == 0x00) _ _ (λ e. refl) (none_if (f == 0x01) _ _ (λ e. both_ways (f == 0x01) e other) (none_if (f == 0x02) _ _ (λ e. refl) (none_if (f == 0x03) _ _ (λ e. refl) (none_if (f == 0x04) _ _ (λ e. refl) (none_if (f == 0x05) _ _ (λ e. refl)
+    (none_if (f == 0x06) _ _ (λ e. refl) (none_if (f == 0x07) _ _ (λ e. refl) (none_if (f == 0x08) _ _ (λ e. refl) (none_if (f == 0x09) _ _ (λ e. refl)
+    (none_if (f == 0x0A) _ _ (λ e. refl) (none_if (f == 0x0B) _ _ (λ e. refl) refl)))))))))))
+
+pub npdu-said : (o : List ℕ) (msg : Message) (npdu : List ℕ) → message_in o ≡ msg → msg.body ≡ Npdu npdu → is_npdu o ≡ true
+npdu-said o msg npdu said body = by (is_npdu o) refl
+  where
+    by : (b : Bool) → is_npdu o ≡ b → is_npdu o ≡ true
+    by true is = is
+    by false is =
+        both_ways (has_npdu msg.body) (ap has_npdu body) (sym (ap (λ (m : Message). has_npdu m.body) said) ∙ none_in (function_in o) (rest_of (data_options_in o)) is)
+
+-- ---- what stands on a way is among its messages
+
+all-passing : {A : Type 0} (P : A → Type 0) (test : A → Bool) (xs : List A) → AllByRecursion P (filter test xs) → AllByRecursion (λ x. test x ≡ true → P x) xs
+all-passing P test [] all = tt
+all-passing P test (x ∷ xs) all = by (test x) refl all (all-passing P test xs)
+  where
+    by : (b : Bool) → test x ≡ b → AllByRecursion P (cond b (x ∷ filter test xs) (filter test xs)) → (AllByRecursion P (filter test xs) → AllByRecursion (λ y. test y ≡ true → P y) xs)
+        → (test x ≡ true → P x) × AllByRecursion (λ y. test y ≡ true → P y) xs
+    by true is h later = (λ passes. h.0, later h.1)
+    by false is h later = (λ passes. both_ways (test x) passes is, later h)
+
+-- ---- a delivery
+
+same_npdu : (x y : List ℕ) → Npdu x ≡ Npdu y → x ≡ y
+same_npdu x y h = ap npdu_of h
+  where
+    npdu_of : Body → List ℕ
+    npdu_of (Npdu npdu) = npdu
+    npdu_of body = []
+
+-- A message that came to node k from another node, with what is known of the network then.
+pub record CameFrom (S : Sendings) (cast : Cast) (w : World) (k : ℕ) (n : Node) (by : Option Arrival) (e : NodeEvent) (name : LinkName) (o : List ℕ) (other : ℕ) : Type 0 where
+  pub ends : EndsRight cast w
+  pub direct : AllDirect S cast w
+  pub casts : Casts cast w
+  pub here : node_at w k ≡ Some n
+  pub may : IsTrue (may_come n.log (at_once w.now e))
+  pub came : e ≡ Came name o
+  pub over : CameBy w k n name o by
+  pub puts : putter over.arrival.way over.link ≡ ToNode other
+
+-- A delivery of it is from the Send at its place, and came directly.
+pub came_directly : (S : Sendings) (cast : Cast) (w : World) (k : ℕ) (n : Node) (by : Option Arrival) (e : NodeEvent) (name : LinkName) (o : List ℕ) (other : ℕ) (c : CameFrom S cast w k n by e name o other) (msg : Message) (npdu : List ℕ) (v : Vmac)
+    → verdict n.made (with_event n.log (at_once w.now e)) name o ≡ Pass msg → msg.body ≡ Npdu npdu → sender name msg (with_heard n.made n.log (at_once w.now e) name o) ≡ Some v
+    → (dest : Vmac) × S c.over.arrival.sent_at other dest npdu × CameDirectly w other dest (record { sent_at = c.over.arrival.sent_at; node = k; delivered = delivery msg npdu v })
+came_directly S cast w k n by e name o other c msg npdu v passed body from = (
+  s.dest,
+  subst (S a.sent_at other s.dest) (sym same) s.sends,
+  record {
+    number = a.link;
+    link = c.over.link;
+    found = c.over.found;
+    way = a.way;
+    put_by = c.puts;
+    heard_by = c.over.heard;
+    octets = o;
+    carried = all-messages (IsAmong (messages (traffic a.way c.over.link))) (traffic a.way c.over.link).put c.over.place o a.sent_at (each-among (messages (traffic a.way c.over.link))) c.over.stood;
+    from = s.from;
+    to = n;
+    at_sender = s.at_sender;
+    at_receiver = c.here;
+    slot = subst (WasEstablished s.from a.link (other_way a.way)) own s.slot;
+    address = from_sender name refl;
+    unicast = ap is_for_all said;
+    destination = s.destination ∙ ap (λ (who : Identity). who.vmac) own;
+  },
+)
+  where
+    a : Arrival
+    a = c.over.arrival
+
+    event : TimedEvent
+    event = at_once w.now e
+
+    sent : IsSentDirectly S cast w a.link a.way other k (record { octets = o; sent_at = a.sent_at })
+    sent =
+        all-messages (λ (f : Frame). is_npdu f.octets ≡ true → IsSentDirectly S cast w a.link a.way other k f) (traffic a.way c.over.link).put c.over.place o a.sent_at
+        (all-passing (IsSentDirectly S cast w a.link a.way other k) (λ (f : Frame). is_npdu f.octets) (messages (traffic a.way c.over.link))
+        (c.direct a.link c.over.link a.way other k (record { link = c.over.found; puts = c.puts; hears = c.over.heard }))) c.over.stood
+        (npdu-said o msg npdu (passed-said o (place_at n.made (with_event n.log event) name) n.made.own.max_bvlc msg passed) body)
+
+    s : IsSentDirectly S cast w a.link a.way other k (record { octets = o; sent_at = a.sent_at })
+    s = sent
+
+    said : msg ≡ message s.id None (Npdu s.npdu)
+    said =
+        npdus_plainly s.npdu s.id (place_at n.made (with_event n.log event) name) n.made.own.max_bvlc msg s.small
+        (ap (λ (x : List ℕ). outcome_of x (place_at n.made (with_event n.log event) name) n.made.own.max_bvlc) (sym s.octets) ∙ passed)
+
+    same : npdu ≡ s.npdu
+    same = same_npdu npdu s.npdu (sym body ∙ ap (λ (m : Message). m.body) said)
+
+    own : s.who ≡ n.made.own
+    own = some_same s.who n.made.own (sym s.is ∙ node-identity cast w k n c.casts c.here)
+
+    end : other_end w (hold_of name n) ≡ Some (ToNode other)
+    end = came-end w k n name o by c.over ∙ ap Some c.puts
+
+    stays : Stays n.made n.log
+    stays = all-at (λ (x : Node). Stays x.made x.log) w.nodes k n c.casts.stays c.here
+
+    is_hub : (t : Option Target) (j : ℕ) → t ≡ Some (ToNode other) → t ≡ Some (ToHub j) → ⊥
+    is_hub t j p q = cc
+
+    from_sender : (link : LinkName) → name ≡ link → s.from.made.own.vmac ≡ v
+    from_sender (HubName side) is =
+        let l = all-found (LeadsToHub w) (λ (g : Hold). same_link g.name name) _ c.over.held (all-reversed (LeadsToHub w) n.holds (c.ends.hubs k n c.here)) c.over.holds side (held-name name n c.over.held c.over.holds ∙ is) in
+        absurd (is_hub (other_end w (Some c.over.held)) l.0 (sym (ap (other_end w) c.over.holds) ∙ end) l.1)
+    from_sender (Direct slot) is =
+        let p = sender-was_peer n.made n.log event stays.knit.settled c.may slot o msg v (c.came ∙ ap (λ (link : LinkName). Came link o) is) (ap (λ (link : LinkName). verdict n.made (with_event n.log event) link o) (sym is) ∙ passed)
+        (ap named_by body) (ap (λ (m : Message). m.origin) said) (ap (λ (link : LinkName). sender link msg (with_heard n.made n.log event link o)) (sym is) ∙ from) in
+        let there = c.ends.peers k n slot p.0 c.here p.1 in
+        let who : s.from.made.own ≡ p.0 =
+        some_same s.from.made.own p.0
+        (sym (node-identity cast w other s.from c.casts s.at_sender) ∙ sym (ap (who_is cast) (ap (λ (link : LinkName). other_end w (hold_of link n)) (sym is) ∙ end)) ∙ there) in
+        ap (λ (i : Identity). i.vmac) who ∙ sym p.2
+
+-- ---- it stays so
+
+traffic-grows : (way : Way) (x y : Link) → LinkGrows x y → Longer (messages (traffic way x)) (messages (traffic way y))
+traffic-grows Up x y g = record { more = filter_map message_of g.up.more; is = ap (filter_map message_of) g.up.is ∙ filter_map-append message_of x.up.put g.up.more }
+traffic-grows Down x y g = record { more = filter_map message_of g.down.more; is = ap (filter_map message_of) g.down.is ∙ filter_map-append message_of x.down.put g.down.more }
+
+-- What came directly in one network did so in each that grows from it.
+pub came_directly-lasts : (u v : World) (other : ℕ) (dest : Vmac) (d : WorldDelivery) → Lasts u v → CameDirectly u other dest d → CameDirectly v other dest d
+came_directly-lasts u v other dest d g c =
+    let y = g.links.at c.number c.link c.found in
+    let m = g.nodes.at other c.from c.at_sender in
+    let n = g.nodes.at d.node c.to c.at_receiver in
+    record {
+      number = c.number;
+      link = y.0;
+      found = y.1;
+      way = c.way;
+      put_by = putter-grows c.way c.link y.0 y.2 ∙ c.put_by;
+      heard_by = receiver-grows c.way c.link y.0 y.2 ∙ c.heard_by;
+      octets = c.octets;
+      carried = among-longer (messages (traffic c.way c.link)) (messages (traffic c.way y.0)) (record { octets = c.octets; sent_at = d.sent_at }) (traffic-grows c.way c.link y.0 y.2) c.carried;
+      from = m.0;
+      to = n.0;
+      at_sender = m.1;
+      at_receiver = n.1;
+      slot = subst (λ (a : Made). WasEstablished m.0 c.number (other_way c.way) a.own) (sym n.2.made) (established-grows c.from m.0 c.number (other_way c.way) c.to.made.own m.2 c.slot);
+      address = ap (λ (a : Made). a.own.vmac) m.2.made ∙ c.address;
+      unicast = c.unicast;
+      destination = c.destination ∙ sym (ap (λ (a : Made). a.own.vmac) n.2.made);
+    }
