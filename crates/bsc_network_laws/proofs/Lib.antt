@@ -32,3 +32,5 @@ pub mod Running
 pub mod Carried
 mod WorkedCourse
 mod WorkedSource
+mod WorkedDirectSource
+mod WorkedShortAddress
