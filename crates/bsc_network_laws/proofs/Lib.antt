@@ -55,3 +55,5 @@ pub mod Carried
 pub mod Delivered
 mod WorkedCourse
 mod WorkedSource
+mod WorkedDirectSource
+mod WorkedShortAddress

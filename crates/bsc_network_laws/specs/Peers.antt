@@ -35,4 +35,5 @@ who_is_there cast w name n = who_is cast (other_end w (hold_of name n))
 abbrev pub PeersAreThere : Type 0
 PeersAreThere =
     (added : List Added) (steps : List TimedStep) → IsCourse added steps → (k slot : ℕ) (n : Node) (who : Identity)
-    → node_at (world added steps) k ≡ Some n → established_peer slot n.log ≡ Some who → who_is_there (cast_of added) (world added steps) (Direct slot) n ≡ Some who
+    → node_at (world added steps) k ≡ Some n → established_peer slot n.log ≡ Some who
+    → who_is_there (cast_of added) (world added steps) (Direct slot) n ≡ Some who
