@@ -1,7 +1,7 @@
 -- What an event of a step brings about at a node: who is the peer of a direct connection then, which links begin, and by which link
 -- an NPDU goes.
-use Rattle.std.proofs.Common.{◌≡◌, ◌<◌, ◌⊎◌, inl, inr, ℕ, Bool, true, false, ◌||◌, cond, List, [], ◌∷◌, ◌++◌, Option, Some, None, refl, ap, sym, subst, ◌∙◌, append_assoc, arith}
-use Rattle.std.specs.Prelude.{◌^◌, ◌%◌, IsTrue, is_some, if◌then◌else◌, filter_map, map, unwrap_or, ⊤}
+use Rattle.std.proofs.Common.{◌≡◌, ◌<◌, ◌⊎◌, inl, inr, ℕ, Bool, true, false, ◌||◌, List, [], ◌∷◌, ◌++◌, Option, Some, refl, ap, sym, subst, ◌∙◌, append_assoc, arith}
+use Rattle.std.specs.Prelude.{◌^◌, ◌%◌, IsTrue, if◌then◌else◌, filter_map, map, unwrap_or, ⊤}
 use Rattle.std.specs.List.{AllByRecursion, list_any}
 use Rattle.std.proofs.lemmas.List.Elements.{filter_map-append}
 use Rattle.std.proofs.lemmas.List.Folds.{list_any-append}
@@ -23,7 +23,6 @@ use Rattle.bsc_node.specs.declared.action.Action.TheVariants.{Dial, Take, Put}
 use Rattle.bsc_node.specs.Logs.{Made, Line, came, did, Log, action_of, in_order, next_id}
 use Rattle.bsc_node.specs.Links.{begins, peer, place as place_at}
 use Rattle.bsc_node.specs.Messages.{message_octets}
-use Rattle.bsc_node.specs.Ways.{way, established_peer}
 use Rattle.bsc_node.specs.Events.{follows}
 use Rattle.bsc_node.specs.Node.{goes_on, actions_at}
 use Rattle.bsc_node.specs.Laws.{with_event, draws}
@@ -44,7 +43,7 @@ use Rattle.bsc_network.specs.NodeEvents.{brings_about}
 use Rattle.bsc_network_laws.specs.Carrying.{is_npdu}
 use Rattle.bsc_network_laws.proofs.Acting.{Among}
 use Rattle.bsc_network_laws.proofs.Timing.{brought-one, brought-two}
-use Rattle.bsc_network_laws.proofs.Events.{IsOf, among-both}
+use Rattle.bsc_network_laws.proofs.Events.{among-both}
 use Rattle.bsc_network_laws.proofs.Sent.{IsOfSend, put_is_of_send}
 
 -- ---- the lines
@@ -57,7 +56,7 @@ at_once T e = record { now = T; event = e }
 pub by-lines : (Q : List Line → Type 0) (T : ℕ) (a : Made) (L : Log) (e : NodeEvent) → T < 2 ^ 62 → Timely T L → brings_word e ≡ false → fits L e ≡ true
     → (IsTrue (may_come L (at_once T e)) → Q (goes_on a (at_once T e) L))
     → (IsTrue (may_come L (at_once T e)) → IsTrue (may_come (L ++ goes_on a (at_once T e) L) (at_once T NoRandom))
-        → Q (goes_on a (at_once T e) L ++ goes_on a (at_once T NoRandom) (L ++ goes_on a (at_once T e) L)))
+    → Q (goes_on a (at_once T e) L ++ goes_on a (at_once T NoRandom) (L ++ goes_on a (at_once T e) L)))
     → Q (brings_about a (at_once T e) L)
 by-lines Q T a L e below timely word fit one two = by (list_any draws (actions_at a L event)) refl
   where

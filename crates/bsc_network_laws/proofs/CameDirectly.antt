@@ -1,8 +1,7 @@
 -- What is delivered of a message that came from a node over a direct connection came over it from the Send at its place; and that stays
 -- so.
-use Rattle.std.proofs.Common.{◌≡◌, ◌<◌, ◌⊎◌, inl, inr, ℕ, zero, suc, Bool, true, false, cond, List, [], ◌∷◌, ◌++◌, Option, Some, None, refl, ap, sym, subst, ◌∙◌}
-use Rattle.std.specs.Prelude.{◌^◌, ◌==◌, IsTrue, filter, filter_map, slice_get}
-use Rattle.std.specs.Option.{option_map}
+use Rattle.std.proofs.Common.{◌≡◌, ℕ, Bool, true, false, cond, List, [], ◌∷◌, Option, Some, None, refl, ap, sym, subst, ◌∙◌}
+use Rattle.std.specs.Prelude.{◌==◌, IsTrue, filter, filter_map}
 use Rattle.std.specs.List.{AllByRecursion}
 use Rattle.std.proofs.lemmas.List.Elements.{filter_map-append}
 use Rattle.bsc_direct.proofs.OneMore.{some_same, both_ways}
@@ -16,7 +15,6 @@ use Rattle.bsc_checks.specs.declared.verdict.Verdict.TheVariants.{Pass}
 use Rattle.bsc_verdict.specs.Options.{rest_of, data_options_in}
 use Rattle.bsc_verdict.specs.Outcomes.{message_in, outcome_of}
 use Rattle.bsc_verdict.specs.Payloads.{body_in}
-use Rattle.bsc_node.specs.declared.delivered.Delivered.{Delivered}
 use Rattle.bsc_node.specs.declared.link_name.LinkName.{LinkName}
 use Rattle.bsc_node.specs.declared.link_name.LinkName.TheVariants.{Hub as HubName, Direct}
 use Rattle.bsc_node.specs.declared.node_event.NodeEvent.{NodeEvent}
@@ -38,11 +36,11 @@ use Rattle.bsc_network.specs.declared.target.Target.TheVariants.{Hub as ToHub, N
 use Rattle.bsc_network.specs.declared.hold.Hold.{Hold}
 use Rattle.bsc_network.specs.declared.arrival.Arrival.{Arrival}
 use Rattle.bsc_network.specs.declared.world_delivery.WorldDelivery.{WorldDelivery}
-use Rattle.bsc_network.specs.Worlds.{World, Node, Link, traffic, node_at, link_at}
+use Rattle.bsc_network.specs.Worlds.{World, Node, Link, traffic, node_at}
 use Rattle.bsc_network.specs.NodeSides.{other_way, hold_of}
 use Rattle.bsc_network.specs.Outboxes.{Frame}
 use Rattle.bsc_network.proofs.Places.{all-at, all-found, all-reversed}
-use Rattle.bsc_network_laws.specs.Ends.{putter, receiver, message_of, messages}
+use Rattle.bsc_network_laws.specs.Ends.{putter, message_of, messages}
 use Rattle.bsc_network_laws.specs.Carrying.{Sendings, is_npdu}
 use Rattle.bsc_network_laws.specs.Deliveries.{IsAmong, WasEstablished, CameDirectly}
 use Rattle.bsc_network_laws.specs.Naming.{Cast}

@@ -1,6 +1,6 @@
 -- What each NPDU is of that a node put on a link to another node; and that what changes links, or puts something on them, keeps it.
 use Rattle.std.proofs.Common.{◌≡◌, ◌<◌, ◌⊎◌, inl, inr, ℕ, true, List, [], ◌∷◌, ◌++◌, length, Some, None, refl, ap, sym, subst, ◌∙◌, append_assoc}
-use Rattle.std.specs.Prelude.{◌+◌, ◌^◌, filter_map, slice_get}
+use Rattle.std.specs.Prelude.{◌^◌, filter_map, slice_get}
 use Rattle.std.specs.List.{AllByRecursion}
 use Rattle.bsc_direct.proofs.OneMore.{some_same}
 use Rattle.bsc_octets.specs.declared.identity.Identity.{Identity}

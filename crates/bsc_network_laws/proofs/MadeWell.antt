@@ -1,6 +1,6 @@
 -- Who takes part in a network can say who it is, and what a node dials as its hub is a hub.
-use Rattle.std.proofs.Common.{◌≡◌, ◌≤◌, ◌<◌, ◌⊎◌, inl, inr, ℕ, zero, suc, Bool, true, false, not, cond, List, [], ◌∷◌, ◌++◌, length, map, Option, Some, None, refl, ap, sym, subst, ◌∙◌, arith, append_assoc, length-append}
-use Rattle.std.specs.Prelude.{◌+◌, nat_lt, slice_get, filter_map, position, unwrap_or, if◌then◌else◌, ⊤}
+use Rattle.std.proofs.Common.{◌≡◌, ◌≤◌, ◌<◌, ℕ, zero, suc, Bool, true, false, not, cond, List, [], ◌∷◌, ◌++◌, length, map, Option, Some, None, refl, ap, sym, subst, ◌∙◌, arith, append_assoc, length-append}
+use Rattle.std.specs.Prelude.{◌+◌, nat_lt, slice_get, position, unwrap_or, if◌then◌else◌}
 use Rattle.std.specs.List.{AllByRecursion, position_or_len, range_with_len}
 use Rattle.std.specs.Option.{option_map, option_or}
 use Rattle.std.specs.Cmp.Lexicographic.{bytes_decides}
@@ -18,7 +18,7 @@ use Rattle.bsc_connector.specs.declared.side.Side.{Side}
 use Rattle.bsc_connector.specs.declared.side.Side.TheVariants.{Primary, Failover}
 use Rattle.bsc_network.specs.declared.target.Target.{Target}
 use Rattle.bsc_network.specs.declared.target.Target.TheVariants.{Hub as ToHub, Node as ToNode}
-use Rattle.bsc_network.specs.Settings.{Added, hub, node, hub_in, hubs, nodes, nodes_after, settings, hub_uri, node_uri}
+use Rattle.bsc_network.specs.Settings.{Added, hub, node, hub_in, hubs, nodes_after, settings, hub_uri}
 use Rattle.bsc_network.specs.Worlds.{World, Hub, Node}
 use Rattle.bsc_network.specs.Courses.{MayAddAll}
 use Rattle.bsc_network.specs.HubCalls.{most_links}
@@ -77,8 +77,8 @@ all-set before (hub about ∷ added) number may =
 all-set before (node own direct ∷ added) number may = (
   record { before = length (hubs before); number = number; direct = direct; limits = refl; one_hub = may.0.some_hub; few = fewer before (node own direct ∷ added) },
   subst (λ (n : ℕ). AllByRecursion (IsSet (length (hubs (before ++ node own direct ∷ added)))) (nodes_after n (number + 1) added)) (sym (hubs-same before own direct))
-  (subst (λ (all : List Added). AllByRecursion (IsSet (length (hubs all))) (nodes_after (length (hubs (before ++ node own direct ∷ []))) (number + 1) added)) (append_assoc before (node own direct ∷ []) added)
-  (all-set (before ++ node own direct ∷ []) added (number + 1) may.1)),
+      (subst (λ (all : List Added). AllByRecursion (IsSet (length (hubs all))) (nodes_after (length (hubs (before ++ node own direct ∷ []))) (number + 1) added)) (append_assoc before (node own direct ∷ []) added)
+      (all-set (before ++ node own direct ∷ []) added (number + 1) may.1)),
 )
 
 pub made_well : (added : List Added) → MayAddAll [] added → MadeWell (cast_of added)

@@ -1,6 +1,6 @@
 -- After each step, what a node has under the name of a hub leads to a hub, and the peer of a direct connection is who is at its other
 -- end.
-use Rattle.std.proofs.Common.{◌≡◌, ◌<◌, ◌≤◌, ◌⊎◌, inl, inr, ℕ, Bool, true, false, cond, ◌&&◌, List, [], ◌∷◌, ◌++◌, length, Option, Some, None, refl, ap, sym, subst, arith, ◌∙◌}
+use Rattle.std.proofs.Common.{◌≡◌, ◌<◌, ◌⊎◌, inl, inr, ℕ, Bool, true, false, cond, List, [], ◌∷◌, ◌++◌, length, Option, Some, None, refl, ap, sym, subst, arith, ◌∙◌}
 use Rattle.std.specs.Prelude.{◌^◌, ◌==◌, is_some, filter_map, find, map, slice_get, ⊤}
 use Rattle.std.specs.Option.{option_map}
 use Rattle.std.specs.List.{AllByRecursion, list_any}
@@ -22,7 +22,7 @@ use Rattle.bsc_node.specs.Logs.{Made, Log, did, action_of}
 use Rattle.bsc_node.specs.Links.{same_link, names, begins, peer}
 use Rattle.bsc_node.proofs.Following.{and_left, and_right}
 use Rattle.bsc_node_laws.proofs.There.{same_link-true}
-use Rattle.bsc_node_identity.specs.Naming.{is_connect, named_by}
+use Rattle.bsc_node_identity.specs.Naming.{is_connect}
 use Rattle.bsc_node_identity.proofs.Carried.{connects_name_their_peer, others_name_nobody}
 use Rattle.bsc_node_identity.proofs.Timely.{Timely}
 use Rattle.bsc_network.specs.declared.world_step.WorldStep.{WorldStep}
@@ -48,7 +48,7 @@ use Rattle.bsc_network.proofs.Places.{got-changed, get-changed, got-last, all-on
 use Rattle.bsc_network_laws.specs.Ends.{receiver, putter, messages}
 use Rattle.bsc_network_laws.specs.Naming.{Cast, identity_in, IsNamedRight, NamesWhoPuts}
 use Rattle.bsc_network_laws.specs.Peers.{other_end, who_is, who_is_there}
-use Rattle.bsc_network_laws.proofs.Moves.{HasArrived, Comes, Each, Lets}
+use Rattle.bsc_network_laws.proofs.Moves.{Comes, Each, Lets}
 use Rattle.bsc_network_laws.proofs.Acting.{Among, goes_on_in, EachAct, LetsActs, acts_each}
 use Rattle.bsc_network_laws.proofs.Timing.{no_word_comes}
 use Rattle.bsc_network_laws.proofs.Stepping.{begun, done, lets-step}
