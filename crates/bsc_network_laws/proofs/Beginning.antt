@@ -1,6 +1,6 @@
 -- The moves of a step that began with some network: what is known besides where an event comes first, and where a message is
 -- passed on.
-use Rattle.std.proofs.Common.{◌≡◌, ℕ, Bool, true, false, List, [], ◌∷◌, ◌++◌, Option, Some, None}
+use Rattle.std.proofs.Common.{◌≡◌, ℕ, true, false, List, Option, Some, None}
 use Rattle.std.specs.Prelude.{◌+◌, slice_get}
 use Rattle.bsc_octets.specs.declared.identity.Identity.{Identity}
 use Rattle.bsc_history.specs.declared.call.Call.TheVariants.{Connect, Forward, Leave, Stop as StopCall}

@@ -1,27 +1,20 @@
 -- What a node delivers that came from a hub came from the Send at its place; so each delivery has its source.
-use Rattle.std.proofs.Common.{◌≡◌, ◌<◌, inl, ℕ, true, List, [], ◌∷◌, ◌++◌, Option, Some, None, refl, ap, sym, subst, ◌∙◌}
-use Rattle.std.specs.Prelude.{◌^◌, length, slice_get}
+use Rattle.std.proofs.Common.{◌≡◌, inl, ℕ, true, List, ◌∷◌, ◌++◌, Option, Some, refl, ap, sym, subst, ◌∙◌}
+use Rattle.std.specs.Prelude.{length, slice_get}
 use Rattle.std.specs.List.{AllByRecursion}
 use Rattle.std.proofs.lemmas.List.{map-append}
 use Rattle.std.proofs.lemmas.Option.{slice_get-map}
-use Rattle.bsc_direct.proofs.OneMore.{some_same}
 use Rattle.bsc_octets.specs.declared.vmac.Vmac.{Vmac}
 use Rattle.bsc_octets.specs.Forwarding.{out}
-use Rattle.bsc_frame.specs.declared.message.Message.{Message}
-use Rattle.bsc_frame.specs.declared.body.Body.TheVariants.{Npdu}
-use Rattle.bsc_frame.specs.Payloads.{IsNode}
 use Rattle.bsc_checks.specs.declared.verdict.Verdict.TheVariants.{Pass}
 use Rattle.bsc_verdict.specs.Outcomes.{outcome_of}
 use Rattle.bsc_history.specs.declared.connection.Connection.{Connection}
 use Rattle.bsc_history.specs.Ends.{joined, live}
 use Rattle.bsc_history.proofs.Lists.{In, In_from_all}
-use Rattle.bsc_node.specs.declared.link_name.LinkName.{LinkName}
 use Rattle.bsc_node.specs.declared.node_event.NodeEvent.{NodeEvent}
-use Rattle.bsc_node.specs.declared.node_event.NodeEvent.TheVariants.{Came, Send}
+use Rattle.bsc_node.specs.declared.node_event.NodeEvent.TheVariants.{Send}
 use Rattle.bsc_node.specs.Laws.{with_event, with_heard, delivery}
-use Rattle.bsc_node.specs.Links.{verdict, place as place_at}
-use Rattle.bsc_node.specs.Receiving.{sender}
-use Rattle.bsc_node.specs.Conditions.{fits}
+use Rattle.bsc_node.specs.Links.{place as place_at}
 use Rattle.bsc_node_identity.proofs.Carried.{passed-said}
 use Rattle.bsc_network.specs.declared.world_step.WorldStep.{WorldStep}
 use Rattle.bsc_network.specs.declared.world_step.WorldStep.TheVariants.{Node as OfNode}
@@ -31,19 +24,19 @@ use Rattle.bsc_network.specs.declared.way.Way.{Way}
 use Rattle.bsc_network.specs.declared.way.Way.TheVariants.{Up, Down}
 use Rattle.bsc_network.specs.declared.target.Target.TheVariants.{Hub as ToHub, Node as ToNode}
 use Rattle.bsc_network.specs.declared.arrival.Arrival.{Arrival}
-use Rattle.bsc_network.specs.Worlds.{World, Hub, Node, Link, Posted, entries, history, traffic, hub_at, node_at, link_at}
+use Rattle.bsc_network.specs.Worlds.{World, Hub, Node, Link, Posted, entries, history, traffic}
 use Rattle.bsc_network.specs.Outboxes.{Frame}
 use Rattle.bsc_network.proofs.Places.{all-at, found-in}
 use Rattle.bsc_network_laws.specs.Deliveries.{Sends, IsWhole, HasAddress}
 use Rattle.bsc_network_laws.specs.Ends.{receiver, putter, messages}
 use Rattle.bsc_network_laws.specs.Carrying.{Sendings, is_npdu}
-use Rattle.bsc_network_laws.specs.Naming.{Cast, identity_in}
+use Rattle.bsc_network_laws.specs.Naming.{Cast}
 use Rattle.bsc_network_laws.specs.Connecting.{IsOfDialler, JoinsDiallers}
 use Rattle.bsc_network_laws.specs.Passing.{IsPassedOn, IsPassedBy, PassesOn}
-use Rattle.bsc_network_laws.proofs.Moves.{Comes, Lets, EachWhole, LetsWhole}
+use Rattle.bsc_network_laws.proofs.Moves.{Lets, EachWhole, LetsWhole}
 use Rattle.bsc_network_laws.proofs.Stepping.{begun, done, whole-step}
 use Rattle.bsc_network_laws.proofs.Beside.{Keeps, KeepsGiven, KeepsBoth, each-as, together}
-use Rattle.bsc_network_laws.proofs.Whole.{as_whole, whole_each, beside_whole, together_whole}
+use Rattle.bsc_network_laws.proofs.Whole.{as_whole, beside_whole, together_whole}
 use Rattle.bsc_network_laws.proofs.Named.{all-messages}
 use Rattle.bsc_network_laws.proofs.Diallers.{Inv, IsFit, KnowsNames, diallers_stay}
 use Rattle.bsc_network_laws.proofs.HubsThere.{HubsThere, hub-found}
@@ -58,11 +51,11 @@ use Rattle.bsc_network_laws.proofs.Lasting.{Lasts}
 use Rattle.bsc_network_laws.proofs.Lasting as Lasting
 use Rattle.bsc_network_laws.proofs.Brought.{at_once}
 use Rattle.bsc_network_laws.proofs.MadeWell.{MadeWell}
-use Rattle.bsc_network_laws.proofs.OtherEnds.{CameBy, KnowsEnds, knows_ends}
+use Rattle.bsc_network_laws.proofs.OtherEnds.{KnowsEnds, knows_ends}
 use Rattle.bsc_network_laws.proofs.DirectLinks.{AllDirect}
 use Rattle.bsc_network_laws.proofs.Directly.{direct_stays}
 use Rattle.bsc_network_laws.proofs.CameDirectly.{npdu-said}
-use Rattle.bsc_network_laws.proofs.Sources.{IsFrom, AllFrom, HubsPart, KnowsSources, from-same, from-hears}
+use Rattle.bsc_network_laws.proofs.Sources.{AllFrom, HubsPart, KnowsSources, from-same, from-hears}
 
 -- Each Send is to an address of six octets.
 abbrev pub AreWhole : Sendings → Type 0

@@ -1,8 +1,8 @@
 -- To each node each NPDU comes once: two that stand on ways by which one node hears, and have one place, stand at one index of one
 -- way. That follows from what holds after each step, and from the hubs' histories being legal.
-use Rattle.std.proofs.Common.{◌≡◌, ◌≢◌, ◌⊎◌, ◌≤◌, inl, inr, ℕ, zero, suc, ◌==◌, Bool, true, false, ◌&&◌, List, [], ◌∷◌, ◌++◌, Option, Some, None, is_none, option_to_list, refl, ap, sym, subst, ◌∙◌, arith}
-use Rattle.std.specs.Prelude.{◌+◌, length, map, filter, take, slice_get, ⊤}
-use Rattle.std.specs.List.{AllByRecursion, list_any, range_with_len}
+use Rattle.std.proofs.Common.{◌≡◌, ◌≢◌, ◌⊎◌, ◌≤◌, inl, inr, ℕ, suc, ◌==◌, true, List, [], ◌∷◌, ◌++◌, Option, Some, None, is_none, option_to_list, refl, ap, sym, subst, ◌∙◌, arith}
+use Rattle.std.specs.Prelude.{◌+◌, length, filter, take}
+use Rattle.std.specs.List.{AllByRecursion, range_with_len}
 use Rattle.std.specs.Option.{option_map}
 use Rattle.std.proofs.lemmas.List.{map-append}
 use Rattle.std.proofs.lemmas.Bool.{eqb-true, and_parts}
@@ -11,7 +11,7 @@ use Rattle.bsc_octets.specs.declared.identity.Identity.{Identity}
 use Rattle.bsc_history.specs.declared.limits.About.{About}
 use Rattle.bsc_history.specs.declared.entry.Entry.{Entry}
 use Rattle.bsc_history.specs.declared.connection.Connection.{Connection}
-use Rattle.bsc_history.specs.Entries.{connection_of, moment, moments_after}
+use Rattle.bsc_history.specs.Entries.{connection_of, moments_after}
 use Rattle.bsc_history.specs.Ends.{first_end, joined_where, joined, live}
 use Rattle.bsc_history.specs.Laws.{Apart}
 use Rattle.bsc_history.specs.Legality.{Lawful, Legal}
@@ -24,7 +24,7 @@ use Rattle.bsc_network.specs.declared.target.Target.{Target}
 use Rattle.bsc_network.specs.declared.target.Target.TheVariants.{Hub as ToHub, Node as ToNode}
 use Rattle.bsc_network.specs.Worlds.{World, Hub, Link, Posted, entries, history, hub_at, link_at}
 use Rattle.bsc_network.specs.Outboxes.{Frame, frames}
-use Rattle.bsc_network.proofs.Places.{all-mapped, all-at, found-in}
+use Rattle.bsc_network.proofs.Places.{all-mapped, all-at}
 use Rattle.bsc_network_laws.specs.Ends.{receiver, putter, messages}
 use Rattle.bsc_network_laws.specs.Carrying.{is_npdu, npdus, taken_of}
 use Rattle.bsc_network_laws.specs.Connecting.{IsOfDialler, JoinsDiallers, is_conn, HasJoinedBy}
@@ -33,11 +33,11 @@ use Rattle.bsc_network_laws.proofs.SideFits.{SideFits}
 use Rattle.bsc_network_laws.proofs.Taken.{LinkFits, SidesFit}
 use Rattle.bsc_network_laws.proofs.Joins.{SidesJoined}
 use Rattle.bsc_network_laws.proofs.Diallers.{Inv}
-use Rattle.bsc_network_laws.proofs.Placed.{StandsAt, PutAt}
+use Rattle.bsc_network_laws.proofs.Placed.{StandsAt}
 use Rattle.bsc_network_laws.proofs.PutOnce.{IsOne, ArePutOnce}
 use Rattle.bsc_network_laws.proofs.Receipts.{HeardAt, ComeOnce}
-use Rattle.bsc_network_laws.proofs.ForwardedOnce.{IsForward, ForwardAt, HasSource, ForwardsFit}
-use Rattle.bsc_network_laws.proofs.OutboxOnce.{Different, all-taken, different-taken, npdu-at, one-index, IsLiveAs, IsEntered, ForwardIn, ForwardsApart, forward_in, got-split, frames-entered, frames-different}
+use Rattle.bsc_network_laws.proofs.ForwardedOnce.{ForwardAt, ForwardsFit}
+use Rattle.bsc_network_laws.proofs.OutboxOnce.{Different, all-taken, different-taken, npdu-at, one-index, IsLiveAs, IsEntered, ForwardIn, ForwardsApart, forward_in, frames-entered, frames-different}
 use Rattle.bsc_network_laws.proofs.HubsThere.{HubsThere, hub-found}
 
 -- the history of each hub is legal
@@ -105,9 +105,10 @@ unfolding joined_where
 live-joined [] es x m = absurd m
 live-joined (e ∷ G) es x m =
     let now = option_to_list (connection_of e) in
-    elim (In-append x (filter (λ (c : Connection). is_none (first_end c.number G)) now) (live G) m)
-    [ inl here ↦ In-left x (filter (λ (c : Connection). true) now) (joined (G ++ es)) (In_kept (λ (c : Connection). true) x now (In-filter (λ (c : Connection). is_none (first_end c.number G)) x now here).0 refl)
-    | inr later ↦ In-right x (filter (λ (c : Connection). true) now) (joined (G ++ es)) (live-joined G es x later) ]
+    elim (In-append x (filter (λ (c : Connection). is_none (first_end c.number G)) now) (live G) m) [
+      | inl here ↦ In-left x (filter (λ (c : Connection). true) now) (joined (G ++ es)) (In_kept (λ (c : Connection). true) x now (In-filter (λ (c : Connection). is_none (first_end c.number G)) x now here).0 refl)
+      | inr later ↦ In-right x (filter (λ (c : Connection). true) now) (joined (G ++ es)) (live-joined G es x later)
+    ]
 
 -- ---- what comes down from a hub
 

@@ -1,40 +1,37 @@
 -- After each step, each NPDU that a hub was handed in had arrived on the way up of a link to it, and no two that hubs were handed
 -- in have one place.
-use Rattle.std.proofs.Common.{◌≡◌, ◌≤◌, ◌<◌, ◌⊎◌, inl, inr, ℕ, suc, Bool, true, false, List, [], ◌∷◌, ◌++◌, Option, Some, None, refl, ap, sym, subst, ◌∙◌, arith}
+use Rattle.std.proofs.Common.{◌≡◌, ◌<◌, ◌⊎◌, inl, inr, ℕ, suc, Bool, true, false, List, [], ◌∷◌, ◌++◌, Option, Some, None, refl, ap, sym, subst, ◌∙◌, arith}
 use Rattle.std.specs.Prelude.{◌+◌, length, slice_get, ⊤}
 use Rattle.std.specs.Option.{option_map}
 use Rattle.bsc_direct.proofs.OneMore.{some_same}
 use Rattle.bsc_history.specs.declared.call.Call.{Call}
-use Rattle.bsc_history.specs.declared.call.Call.TheVariants.{Connect, Forward, Leave, Stop as StopCall}
+use Rattle.bsc_history.specs.declared.call.Call.TheVariants.{Connect, Forward, Stop as StopCall}
 use Rattle.bsc_accept.specs.declared.event.Event.{Event}
 use Rattle.bsc_node.specs.declared.link_name.LinkName.{LinkName}
 use Rattle.bsc_network.specs.declared.world_step.WorldStep.{WorldStep}
-use Rattle.bsc_network.specs.declared.way.Way.{Way}
-use Rattle.bsc_network.specs.declared.way.Way.TheVariants.{Up, Down}
+use Rattle.bsc_network.specs.declared.way.Way.TheVariants.{Up}
 use Rattle.bsc_network.specs.declared.target.Target.TheVariants.{Hub as ToHub}
 use Rattle.bsc_network.specs.declared.hold.Hold.{Hold}
 use Rattle.bsc_network.specs.declared.arrival.Arrival.{Arrival}
-use Rattle.bsc_network.specs.declared.parcel.Parcel.{Parcel}
 use Rattle.bsc_network.specs.declared.parcel.Content.{Content}
 use Rattle.bsc_network.specs.declared.parcel.Content.TheVariants.{Message, Closed}
 use Rattle.bsc_network.specs.Traffic.{Traffic, without_front}
-use Rattle.bsc_network.specs.Worlds.{World, Hub, HubSide, Node, Link, Posted, traffic, hub_at, node_at, link_at}
-use Rattle.bsc_network.specs.Changes.{with_found, with_link, with_side, with_traffic}
+use Rattle.bsc_network.specs.Worlds.{World, Hub, Node, Link, Posted, traffic, hub_at, node_at, link_at}
+use Rattle.bsc_network.specs.Changes.{with_found, with_side, with_traffic}
 use Rattle.bsc_network.specs.Outboxes.{Frame}
 use Rattle.bsc_network.specs.HubCalls.{called, entry_in}
 use Rattle.bsc_network.specs.HubSides.{told}
 use Rattle.bsc_network.specs.NodeSides.{hold_of, puts_on, puts_by}
 use Rattle.bsc_network.proofs.Places.{got-changed, got-last_of, get-changed}
-use Rattle.bsc_network_laws.specs.Ends.{putter}
 use Rattle.bsc_network_laws.specs.Carrying.{is_npdu}
 use Rattle.bsc_network_laws.proofs.Moves.{IsSide, HasArrived, Lets}
 use Rattle.bsc_network_laws.proofs.Acting.{goes_on_in, LetsActs, lets-hears}
 use Rattle.bsc_network_laws.proofs.Beside.{Keeps}
-use Rattle.bsc_network_laws.proofs.Beginning.{after_arrival, HasJustCome, EachFrom, LetsFrom}
+use Rattle.bsc_network_laws.proofs.Beginning.{after_arrival, HasJustCome, LetsFrom}
 use Rattle.bsc_network_laws.proofs.Sides.{with_call}
-use Rattle.bsc_network_laws.proofs.Growing.{stays-at, LinkGrows, Grows, grows-then, grows-same, grows-side, grows-arrives, grows-acts, grows}
-use Rattle.bsc_network_laws.proofs.Placed.{StandsAt, PutAt, AddsNone, none-then, none-side, none-arrives}
-use Rattle.bsc_network_laws.proofs.PutOnce.{IsOne, ArePutOnce, once-kept}
+use Rattle.bsc_network_laws.proofs.Growing.{stays-at, Grows, grows-then, grows-same, grows-side, grows-arrives, grows-acts, grows}
+use Rattle.bsc_network_laws.proofs.Placed.{StandsAt, none-then, none-side, none-arrives}
+use Rattle.bsc_network_laws.proofs.PutOnce.{ArePutOnce, once-kept}
 
 -- ---- what hubs were handed in
 

@@ -18,12 +18,9 @@ use Rattle.bsc_history.proofs.Uniqueness.{vmac_same, vmac_refl}
 use Rattle.bsc_node.specs.declared.delivered.Delivered.{Delivered}
 use Rattle.bsc_node.specs.declared.link_name.LinkName.{LinkName}
 use Rattle.bsc_node.specs.declared.link_name.LinkName.TheVariants.{Hub as OfHub, Direct}
-use Rattle.bsc_node.specs.declared.timed_event.TimedEvent.{TimedEvent}
-use Rattle.bsc_node.specs.declared.node_event.NodeEvent.TheVariants.{Came}
-use Rattle.bsc_node.specs.declared.action.Action.TheVariants.{Deliver}
-use Rattle.bsc_node.specs.Links.{place as place_of, peer}
-use Rattle.bsc_node.specs.Logs.{Made, Log}
-use Rattle.bsc_node.specs.Laws.{with_event, with_heard, delivery, delivered_at, IsDeliveredOnce}
+use Rattle.bsc_node.specs.Links.{peer}
+use Rattle.bsc_node.specs.Logs.{Log}
+use Rattle.bsc_node.specs.Laws.{delivery}
 use Rattle.bsc_node.specs.Messages.{message_octets}
 use Rattle.bsc_node.specs.Receiving.{sender, is_for_all, is_broadcast_address}
 use Rattle.bsc_node_identity.specs.Carried.{dest_out, passed_on}
@@ -35,8 +32,6 @@ use Rattle.bsc_network.proofs.Places.{found-in}
 use Rattle.bsc_network_laws.specs.Carrying.{Sendings}
 use Rattle.bsc_network_laws.specs.Deliveries.{IsFor, CameByHub}
 use Rattle.bsc_network_laws.specs.Passing.{IsPassedBy}
-use Rattle.bsc_network_laws.proofs.Acting.{Among}
-use Rattle.bsc_network_laws.proofs.Sent.{only}
 
 -- ---- the destination
 

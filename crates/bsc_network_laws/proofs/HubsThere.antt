@@ -1,5 +1,5 @@
 -- After each step, the hub to which a link leads is there.
-use Rattle.std.proofs.Common.{◌≡◌, ◌≢◌, ◌⊎◌, inl, inr, ℕ, zero, suc, ◌<◌, ◌≤◌, Bool, true, false, cond, List, [], ◌∷◌, ◌++◌, Option, Some, None, refl, ap, sym, subst, ◌∙◌, arith}
+use Rattle.std.proofs.Common.{◌≡◌, ◌⊎◌, inl, inr, ℕ, zero, suc, ◌<◌, Bool, true, false, cond, List, [], ◌∷◌, Option, Some, None, refl, ap, sym, ◌∙◌, arith}
 use Rattle.std.specs.Prelude.{◌+◌, length, map, nat_lt, position, slice_get, ⊤}
 use Rattle.std.specs.List.{range_with_len, position_or_len}
 use Rattle.std.proofs.lemmas.Bool.{ltb-true}
@@ -20,7 +20,7 @@ use Rattle.bsc_network.specs.declared.parcel.Content.{Content}
 use Rattle.bsc_network.specs.declared.parcel.Content.TheVariants.{Message, Closed}
 use Rattle.bsc_network.specs.Traffic.{Traffic}
 use Rattle.bsc_network.specs.Settings.{hub_uri}
-use Rattle.bsc_network.specs.Worlds.{World, Hub, HubSide, Node, Link, hub_at, node_at, link_at}
+use Rattle.bsc_network.specs.Worlds.{World, Hub, HubSide, Node, Link, node_at, link_at}
 use Rattle.bsc_network.specs.Changes.{with_found, with_link, with_side, with_traffic}
 use Rattle.bsc_network.specs.HubCalls.{called, most_links}
 use Rattle.bsc_network.specs.NodeSides.{other_way, hold_of, puts_on, puts_by}

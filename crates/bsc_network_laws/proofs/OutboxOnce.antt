@@ -1,6 +1,6 @@
 -- Where no two forwards of NPDUs have one place, no two NPDUs that entered an outbox have, and none that were taken from it.
-use Rattle.std.proofs.Common.{◌≡◌, ◌≢◌, ◌⊎◌, inl, inr, ℕ, zero, suc, Bool, true, false, cond, List, [], ◌∷◌, ◌++◌, Option, Some, None, refl, ap, sym, subst, ◌∙◌, append_assoc, append-nil}
-use Rattle.std.specs.Prelude.{◌&&◌, ◌==◌, length, map, filter, filter_map, take, slice_get, ⊤}
+use Rattle.std.proofs.Common.{◌≡◌, ◌≢◌, ◌⊎◌, inl, inr, ℕ, zero, suc, Bool, true, false, cond, List, [], ◌∷◌, ◌++◌, Some, refl, ap, sym, subst, ◌∙◌, append_assoc, append-nil}
+use Rattle.std.specs.Prelude.{◌&&◌, ◌==◌, length, map, filter_map, take, slice_get}
 use Rattle.std.specs.List.{AllByRecursion, list_any}
 use Rattle.std.proofs.lemmas.List.Elements.{filter-append, filter_map-append}
 use Rattle.std.proofs.lemmas.Bool.{eqb-true, and_parts}
@@ -15,13 +15,13 @@ use Rattle.bsc_history.specs.declared.call.Call.TheVariants.{Forward}
 use Rattle.bsc_history.specs.declared.connection.Connection.{Connection}
 use Rattle.bsc_history.specs.Ends.{live, is_live}
 use Rattle.bsc_history.specs.Laws.{Apart}
-use Rattle.bsc_history.specs.Outboxes.{means, meant, takes, is_too_long, is_found_full, out_of, added_by, sent}
-use Rattle.bsc_history.proofs.Lists.{In, In-filter, any_gives, all_from_In, In_from_all}
+use Rattle.bsc_history.specs.Outboxes.{means, meant, takes, out_of, added_by, sent}
+use Rattle.bsc_history.proofs.Lists.{In, In-filter, any_gives}
 use Rattle.bsc_network.specs.declared.parcel.Parcel.{Parcel}
 use Rattle.bsc_network.specs.declared.parcel.Content.TheVariants.{Message}
 use Rattle.bsc_network.specs.Worlds.{Hub, Posted, entries}
 use Rattle.bsc_network.specs.Outboxes.{Frame, at_place, frames_by, frames_after, frames_of, frames}
-use Rattle.bsc_network.proofs.Places.{all-mapped, all-joined}
+use Rattle.bsc_network.proofs.Places.{all-mapped}
 use Rattle.bsc_network_laws.specs.Ends.{message_of}
 use Rattle.bsc_network_laws.specs.Carrying.{is_npdu, npdus}
 use Rattle.bsc_network_laws.proofs.ForwardedOnce.{IsForward}
@@ -166,9 +166,10 @@ adds_one a G entered c call looks = inl refl
 
 entry_adds : (a : About) (G : List Entry) (c : ℕ) (p : Posted) → (frames_by a G c p ≡ []) ⊎ Adds a G c p
 entry_adds a G c p =
-    elim (adds_one a G (sent a G c) c p.entry.call p.entry.looks)
-    [ inl none ↦ inl (ap (map (at_place p.sent_at)) none)
-    | inr one ↦ inr (record { sender = one.0; m = one.1; v = one.2; call = one.3; frame = ap (map (at_place p.sent_at)) one.4; to = one.5 }) ]
+    elim (adds_one a G (sent a G c) c p.entry.call p.entry.looks) [
+      | inl none ↦ inl (ap (map (at_place p.sent_at)) none)
+      | inr one ↦ inr (record { sender = one.0; m = one.1; v = one.2; call = one.3; frame = ap (map (at_place p.sent_at)) one.4; to = one.5 })
+    ]
 
 out-npdu : (m : List ℕ) (v : Vmac) → is_npdu (out m v) ≡ is_npdu m
 unfolding out

@@ -302,7 +302,7 @@ passes-forwards cast S T place w l j p h k m d side conn arrival said known c =
             dest = up.0;
             npdu = up.1;
             id = up.2;
-          small = up.5;
+            small = up.5;
             sends = up.3;
             carried = up.4;
           },

@@ -1,11 +1,8 @@
 -- Which NPDUs nodes have put, each at its link, way and index; and which moves add none.
-use Rattle.std.proofs.Common.{◌≡◌, ◌≢◌, ◌≤◌, ◌<◌, ◌⊎◌, inl, inr, ℕ, zero, suc, Bool, true, false, List, [], ◌∷◌, ◌++◌, Option, Some, None, refl, ap, sym, subst, ◌∙◌, arith}
-use Rattle.std.specs.Prelude.{◌+◌, length, slice_get, ⊤}
-use Rattle.std.specs.Option.{option_map}
+use Rattle.std.proofs.Common.{◌≡◌, ◌⊎◌, inl, inr, ℕ, zero, suc, true, false, List, [], Option, Some, None, refl, ap, sym, subst, ◌∙◌}
+use Rattle.std.specs.Prelude.{length, slice_get}
 use Rattle.bsc_direct.proofs.OneMore.{some_same}
-use Rattle.bsc_history.specs.declared.call.Call.TheVariants.{Connect}
 use Rattle.bsc_node.specs.declared.link_name.LinkName.{LinkName}
-use Rattle.bsc_node.specs.declared.action.Action.{Action}
 use Rattle.bsc_node.specs.Laws.{puts_npdu}
 use Rattle.bsc_network.specs.declared.way.Way.{Way}
 use Rattle.bsc_network.specs.declared.way.Way.TheVariants.{Up, Down}
@@ -16,11 +13,10 @@ use Rattle.bsc_network.specs.declared.arrival.Arrival.{Arrival}
 use Rattle.bsc_network.specs.declared.parcel.Parcel.{Parcel}
 use Rattle.bsc_network.specs.declared.parcel.Content.{Content}
 use Rattle.bsc_network.specs.declared.parcel.Content.TheVariants.{Opened, Arrived, Message, Closed}
-use Rattle.bsc_network.specs.Traffic.{Traffic, without_front, and_then}
+use Rattle.bsc_network.specs.Traffic.{without_front, and_then}
 use Rattle.bsc_network.specs.Worlds.{World, HubSide, Node, Link, traffic, node_at, link_at}
 use Rattle.bsc_network.specs.Changes.{with_found, with_link, with_side, with_traffic}
 use Rattle.bsc_network.specs.Outboxes.{Frame}
-use Rattle.bsc_network.specs.HubCalls.{called}
 use Rattle.bsc_network.specs.NodeSides.{other_way, hold_of, puts_on, puts_by}
 use Rattle.bsc_network.specs.Dialling.{new_link, dials}
 use Rattle.bsc_network.proofs.Places.{got-changed, got-last_of}

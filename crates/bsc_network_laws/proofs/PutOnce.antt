@@ -1,14 +1,13 @@
 -- After each step, no two NPDUs that nodes have put have one place.
-use Rattle.std.proofs.Common.{◌≡◌, ◌≤◌, ◌<◌, ◌⊎◌, inl, inr, ℕ, suc, Bool, true, false, List, [], ◌∷◌, ◌++◌, Option, Some, None, refl, ap, sym, subst, ◌∙◌, arith}
+use Rattle.std.proofs.Common.{◌≡◌, ◌<◌, ◌⊎◌, inl, inr, ℕ, true, List, [], Option, Some, None, refl, ap, sym, subst, ◌∙◌, arith}
 use Rattle.std.specs.Prelude.{◌+◌, ◌^◌, IsTrue, length, slice_get, filter_map}
-use Rattle.std.specs.List.{AllByRecursion}
 use Rattle.bsc_direct.proofs.OneMore.{some_same}
 use Rattle.bsc_octets.specs.declared.vmac.Vmac.{Vmac}
 use Rattle.bsc_frame.specs.declared.body.Body.TheVariants.{Npdu}
 use Rattle.bsc_history.specs.declared.call.Call.TheVariants.{Connect}
 use Rattle.bsc_node.specs.declared.link_name.LinkName.{LinkName}
 use Rattle.bsc_node.specs.declared.node_event.NodeEvent.{NodeEvent}
-use Rattle.bsc_node.specs.declared.node_event.NodeEvent.TheVariants.{Send, NoRandom, Lost, DialFailed}
+use Rattle.bsc_node.specs.declared.node_event.NodeEvent.TheVariants.{Send, NoRandom}
 use Rattle.bsc_node.specs.declared.timed_event.TimedEvent.{TimedEvent}
 use Rattle.bsc_node.specs.declared.action.Action.{Action}
 use Rattle.bsc_node.specs.declared.action.Action.TheVariants.{Put}
@@ -20,7 +19,6 @@ use Rattle.bsc_node.specs.Requesting.{own_message}
 use Rattle.bsc_node.proofs.Sending.{npdus_are_put_once}
 use Rattle.bsc_node_identity.proofs.Timely.{Timely}
 use Rattle.bsc_network.specs.declared.world_step.WorldStep.{WorldStep}
-use Rattle.bsc_network.specs.declared.world_step.WorldStep.TheVariants.{Node as OfNode}
 use Rattle.bsc_network.specs.declared.way.Way.{Way}
 use Rattle.bsc_network.specs.declared.way.Way.TheVariants.{Down}
 use Rattle.bsc_network.specs.declared.hold.Hold.{Hold}
@@ -37,7 +35,7 @@ use Rattle.bsc_network.specs.NodeEvents.{brings_about, carries_out, hears}
 use Rattle.bsc_network.specs.Refusals.{is_own}
 use Rattle.bsc_network.proofs.Places.{all-at, got-changed}
 use Rattle.bsc_network_laws.proofs.Moves.{Comes}
-use Rattle.bsc_network_laws.proofs.Acting.{goes_on_in, EachAct, LetsActs}
+use Rattle.bsc_network_laws.proofs.Acting.{goes_on_in, LetsActs}
 use Rattle.bsc_network_laws.proofs.Beside.{Keeps, KeepsGiven}
 use Rattle.bsc_network_laws.proofs.Beginning.{ComesFirst, EachFrom}
 use Rattle.bsc_network_laws.proofs.Sides.{side-side}
@@ -46,7 +44,7 @@ use Rattle.bsc_network_laws.proofs.OwnOctets.{own_is_none}
 use Rattle.bsc_network_laws.proofs.PutBySends.{not_sent}
 use Rattle.bsc_network_laws.proofs.Knowing.{Knows}
 use Rattle.bsc_network_laws.proofs.AtMost.{Fails, AtMostOne, acts-none, acts-once, at_most-one}
-use Rattle.bsc_network_laws.proofs.Placed.{IsPut, PutAt, IsLast, put-or_last, AddsNone, none-none, none-then, none-same, none-side, none-lost, none-arrives, none-puts, none-from_hub, none-acts}
+use Rattle.bsc_network_laws.proofs.Placed.{IsPut, PutAt, IsLast, put-or_last, AddsNone, none-then, none-same, none-side, none-lost, none-arrives, none-puts, none-from_hub, none-acts}
 
 -- ---- the places of NPDUs
 

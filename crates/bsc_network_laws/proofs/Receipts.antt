@@ -1,5 +1,5 @@
 -- After each step, each delivery has a receipt of its own: where what it delivers has arrived.
-use Rattle.std.proofs.Common.{◌≡◌, ◌≢◌, ◌≤◌, ◌<◌, ◌⊎◌, inl, inr, ℕ, suc, Bool, true, false, cond, List, [], ◌∷◌, ◌++◌, Option, Some, None, refl, ap, sym, subst, ◌∙◌, arith}
+use Rattle.std.proofs.Common.{◌≡◌, ◌≢◌, ◌<◌, ◌⊎◌, inl, inr, ℕ, suc, Bool, true, false, cond, List, [], ◌∷◌, ◌++◌, Option, Some, None, refl, ap, sym, subst, ◌∙◌, arith}
 use Rattle.std.specs.Prelude.{◌+◌, ◌==◌, ◌^◌, IsTrue, slice_get, filter, filter_map, ⊤}
 use Rattle.std.specs.Option.{option_map}
 use Rattle.std.specs.List.{AllByRecursion}
@@ -11,7 +11,7 @@ use Rattle.bsc_frame.specs.declared.body.Body.{Body}
 use Rattle.bsc_frame.specs.declared.body.Body.TheVariants.{Npdu}
 use Rattle.bsc_checks.specs.declared.place.Place.{Place}
 use Rattle.bsc_checks.specs.declared.verdict.Verdict.TheVariants.{Pass}
-use Rattle.bsc_verdict.specs.Outcomes.{message_in, outcome_of}
+use Rattle.bsc_verdict.specs.Outcomes.{outcome_of}
 use Rattle.bsc_verdict.specs.Payloads.{body_in}
 use Rattle.bsc_verdict.specs.Options.{rest_of, data_options_in}
 use Rattle.bsc_node.specs.declared.delivered.Delivered.{Delivered}
@@ -42,7 +42,7 @@ use Rattle.bsc_network.specs.declared.parcel.Content.{Content}
 use Rattle.bsc_network.specs.declared.parcel.Content.TheVariants.{Opened, Arrived, Message, Closed}
 use Rattle.bsc_network.specs.Traffic.{Traffic, without_front}
 use Rattle.bsc_network.specs.Worlds.{World, Node, Link, traffic, node_at, link_at}
-use Rattle.bsc_network.specs.Changes.{with_found, with_traffic, in_order}
+use Rattle.bsc_network.specs.Changes.{with_found, with_traffic}
 use Rattle.bsc_network.specs.NodeSides.{name_of, hold_of, puts_on, puts_by}
 use Rattle.bsc_network.specs.NodeEvents.{brings_about, carries_out, delivers, hears}
 use Rattle.bsc_network.specs.Arriving.{event_of}
@@ -353,9 +353,11 @@ receipts-hears T place B D at_first w k n by e here come fit first known has = a
     delivered_one a content came o d is npdu heard start u p =
         let one : WorldDelivery = record { sent_at = a.sent_at; node = k; delivered = d } in
         let r : Receipt = record { link = a.link; way = a.way; index = came.place } in
-        let here_now = receipt-on w u p.3 one r (just_arrived w k a content o d came is npdu heard) in
-        (p.0 ++ r ∷ [], receipts-on u (delivers k d a u) (grows-same u (delivers k d a u) refl) (u.delivered ++ one ∷ []) (p.0 ++ r ∷ [])
-        (receipts-more u u.delivered p.0 one r p.1 (all-mapped (OldIn B) (λ x. x ≢ r) (new a content came start) p.0 p.2) here_now))
+        let here_now = receipt-on w u p.3 one r (just_arrived w k a content o d came is npdu heard) in (
+          p.0 ++ r ∷ [],
+          receipts-on u (delivers k d a u) (grows-same u (delivers k d a u) refl) (u.delivered ++ one ∷ []) (p.0 ++ r ∷ [])
+              (receipts-more u u.delivered p.0 one r p.1 (all-mapped (OldIn B) (λ x. x ≢ r) (new a content came start) p.0 p.2) here_now),
+        )
 
     one : (x : Action) → IsOfCame n.made n.log event x → (by : Option Arrival) → Comes D w k n by e → ComesFirst B w by e → filter delivers_npdu actions ≡ x ∷ [] → HasReceipts (hears k by event n w)
     one x of None come first is = absurd (not_came D w k n e of.name of.octets come of.event)
@@ -403,10 +405,11 @@ same-receipt r x one = ap (λ (l : ℕ). record { link = l; way = r.way; index =
 
 apart-one : (w : World) → ComeOnce w → (d : WorldDelivery) (r : Receipt) → IsReceipt w d r → (ds : List WorldDelivery) (rs : List Receipt) → AllByRecursion (λ x. r ≢ x) rs → AreReceipts w ds rs → AllByRecursion (AreApart d) ds
 apart-one w once d r is [] [] apart all = tt
-apart-one w once d r is (e ∷ ds) (x ∷ rs) apart all =
-    ((λ place node. apart.0 (same-receipt r x (once r.link r.way r.index is.octets x.link x.way x.index all.0.octets d.sent_at d.node is.is_heard
-    (subst (λ (p : ℕ). HeardAt w x.link x.way x.index all.0.octets p d.node) (sym place) (subst (λ (k : ℕ). HeardAt w x.link x.way x.index all.0.octets e.sent_at k) (sym node) all.0.is_heard))))),
-    apart-one w once d r is ds rs apart.1 all.2)
+apart-one w once d r is (e ∷ ds) (x ∷ rs) apart all = (
+  (λ place node. apart.0 (same-receipt r x (once r.link r.way r.index is.octets x.link x.way x.index all.0.octets d.sent_at d.node is.is_heard
+      (subst (λ (p : ℕ). HeardAt w x.link x.way x.index all.0.octets p d.node) (sym place) (subst (λ (k : ℕ). HeardAt w x.link x.way x.index all.0.octets e.sent_at k) (sym node) all.0.is_heard))))),
+  apart-one w once d r is ds rs apart.1 all.2,
+)
 apart-one w once d r is [] (x ∷ rs) apart all = absurd all
 apart-one w once d r is (e ∷ ds) [] apart all = absurd all
 

@@ -55,7 +55,6 @@ use Rattle.bsc_network_laws.proofs.MadeWell.{MadeWell, made_well}
 use Rattle.bsc_network_laws.proofs.OtherEnds.{LeadsToHub, EndsRight, ends-same, ends_stay, kept-ends}
 use Rattle.bsc_network_laws.proofs.DirectLinks.{AllDirect, direct-same}
 use Rattle.bsc_network_laws.proofs.Directly.{direct_stays}
-use Rattle.bsc_network_laws.proofs.Placed.{PutAt}
 use Rattle.bsc_network_laws.proofs.PutOnce.{ArePutOnce, PutBefore, OnePut, one_of-none, one_stays}
 use Rattle.bsc_network_laws.proofs.Receipts.{HasReceipts, receipts-same, receipts_stay}
 use Rattle.bsc_network_laws.proofs.ForwardedOnce.{ForwardAt, ForwardsFit, forwards-same, forwards_fit}
