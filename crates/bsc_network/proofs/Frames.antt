@@ -1,8 +1,7 @@
 -- What entered an outbox, with its places, at a history with one entry more.
-use Rattle.std.proofs.Common.{◌≡◌, ◌≤◌, ◌<◌, ℕ, zero, suc, Bool, true, false, List, [], ◌∷◌, ◌++◌, Option, Some, None, refl, ap, sym, arith, ◌∙◌, append_assoc, append-nil}
-use Rattle.std.specs.Prelude.{◌+◌, length, map, filter, take, slice_get, cond}
-use Rattle.std.proofs.lemmas.List.{map-append, length-append}
-use Rattle.std.proofs.lemmas.List.Elements.{filter-append}
+use Rattle.std.proofs.Common.{◌≡◌, ◌≤◌, ℕ, zero, suc, List, [], ◌∷◌, ◌++◌, Some, refl, ap, sym, arith, ◌∙◌, append_assoc, append-nil}
+use Rattle.std.specs.Prelude.{length, map, take, slice_get}
+use Rattle.std.proofs.lemmas.List.{map-append}
 use Rattle.bsc_history.specs.declared.limits.About.{About}
 use Rattle.bsc_history.specs.declared.entry.Entry.{Entry}
 use Rattle.bsc_history.specs.Entries.{moment}
