@@ -136,4 +136,6 @@ pub record DeliversWhatWasSent (added : List Added) (steps : List TimedStep) : T
 
 -- So it is in every network, whatever steps are made in which what is sent goes to addresses of six octets.
 abbrev pub NetworksDeliverWhatWasSent : Type 0
-NetworksDeliverWhatWasSent = (added : List Added) (steps : List TimedStep) → IsCourse added steps → AllByRecursion HasAddress steps → DeliversWhatWasSent added steps
+NetworksDeliverWhatWasSent =
+    (added : List Added) (steps : List TimedStep) → IsCourse added steps → AllByRecursion HasAddress steps
+    → DeliversWhatWasSent added steps
