@@ -28,6 +28,12 @@ returns-in-Ok-clause-hub g c path sessions made named kept =
     let asked = said read c.read_words.result c.in-Ok.asked c.in-Ok.is c.read_words.ensures.ok in
     c.run_asked.ensures.hub path sessions made (asks_same read (seen c.in-Ok.asked) (hub path sessions) asked named) kept
 
+pub returns-in-Ok-clause-no_hub : goal.returns-in-Ok-clause-no_hub
+returns-in-Ok-clause-no_hub g c path sessions named kept =
+    let read = asked_by (map string_bytes c.args.words.now) in
+    let asked = said read c.read_words.result c.in-Ok.asked c.in-Ok.is c.read_words.ensures.ok in
+    c.run_asked.ensures.no_hub path sessions (asks_same read (seen c.in-Ok.asked) (hub path sessions) asked named) kept
+
 pub returns-in-Ok-clause-node : goal.returns-in-Ok-clause-node
 returns-in-Ok-clause-node g c path script named =
     let read = asked_by (map string_bytes c.args.words.now) in
