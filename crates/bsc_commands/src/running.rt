@@ -19,6 +19,7 @@ ghost use Rattle.bsc_node_run.specs.Worlds.{dialling};
 ghost use Rattle.bsc_node_runs.specs.Courses.{FinishCame};
 ghost use Rattle.bsc_words.specs.declared.fault.WordsFault.TheVariants as words_fault;
 ghost use Rattle.bsc_words.specs.Words.{asked_by, audit, check, hub, load, node, replay, seen, simulate};
+ghost use Rattle.bsc_commands.specs.Commands.{WritesWhatWasSent};
 ghost use Rattle.bsc_commands.specs.Outside.{TouchesOnly};
 ghost use Rattle.bsc_commands.specs.Statuses.{EndsBy};
 
@@ -328,6 +329,11 @@ pub fn run<
     ensures simulated { (o t : List ℕ) → asked_by (map string_bytes words.now) ≡ Some simulate →
         S.left source.old ≡ Some o → K.held sink.old ≡ Some t → StatusTells simulate_of result o t (S.left source.new) (K.held sink.new)
         (S.faults source.old) (S.faults source.new) }
+
+    // Of the words of a network: each delivery that is written comes from the Send at its place, and no two are of one Send and
+    // to one node.
+    ensures delivered { (o t : List ℕ) → asked_by (map string_bytes words.now) ≡ Some simulate →
+        S.left source.old ≡ Some o → K.held sink.old ≡ Some t → WritesWhatWasSent o t (K.held sink.new) }
     ensures checked { (o t : List ℕ) → asked_by (map string_bytes words.now) ≡ Some check →
         S.left source.old ≡ Some o → K.held sink.old ≡ Some t → StatusTells check_of result o t (S.left source.new) (K.held sink.new)
         (S.faults source.old) (S.faults source.new) }

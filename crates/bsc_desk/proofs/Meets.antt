@@ -1,8 +1,8 @@
 -- An outlet that meets the desk.
-use Rattle.std.proofs.Common.{◌≡◌, ◌≢◌, ℕ, zero, suc, ◌+◌, ◌<◌, ◌==◌, Bool, true, false, cond, List, [], ◌∷◌, length, map, find, get_or, is_none, Option, Some, is_some, refl, ap, sym, ◌∙◌, subst, arith}
+use Rattle.std.proofs.Common.{◌≡◌, ◌≢◌, ℕ, zero, suc, ◌+◌, ◌<◌, ◌==◌, ◌&&◌, Bool, true, false, cond, List, [], ◌∷◌, length, map, find, get_or, is_none, Option, Some, is_some, refl, ap, sym, ◌∙◌, subst, arith}
 use Rattle.std.proofs.Math.ListN.{set}
-use Rattle.std.specs.List.{position, AllByRecursion}
-use Rattle.std.proofs.lemmas.Bool.{eqb-true, ne_eqb}
+use Rattle.std.specs.List.{list_any, position, AllByRecursion}
+use Rattle.std.proofs.lemmas.Bool.{and_from, eq-eqb, eqb-true, ne_eqb, or_left, or_right}
 use Rattle.std.proofs.lemmas.List.Quantifiers.{position-Some}
 use Rattle.bsc_history.specs.declared.connection.Connection.{Connection}
 use Rattle.bsc_history.specs.declared.ending.End.{End}
@@ -87,3 +87,17 @@ knows_outbox a S c r s o p h met =
       ending = met.2 ∙ ends;
       all = met.3 ∙ ap is_some ends;
     }
+
+-- ---- whose a row is
+
+any_at : (t : Row → Bool) (rows : List Row) (i : ℕ) (r : Row) → i < length rows → r ≡ get_or rows i r → t r ≡ true → list_any t rows ≡ true
+any_at t [] i r within at h = absurd (omega arith)
+any_at t (x ∷ rows) zero r within at h = or_left (t x) (list_any t rows) (subst (λ z. t z ≡ true) at h)
+any_at t (x ∷ rows) (suc i) r within at h = or_right (t x) (list_any t rows) (any_at t rows i r (omega arith) at h)
+
+-- what stands at the place of a connection is the row of its caller
+pub row_by : (c i : ℕ) (rows : List Row) (r : Row) → position (has_number c) rows ≡ Some i → r ≡ get_or rows i r → list_any (λ s. (s.connection.number == c) && (s.connection.caller == r.connection.caller)) rows ≡ true
+row_by c i rows r place at =
+    let p = position-Some (has_number c) rows i r place in
+    let here : has_number c r ≡ true = subst (λ z. has_number c z ≡ true) (sym at) p.1 in
+    any_at (λ s. (s.connection.number == c) && (s.connection.caller == r.connection.caller)) rows i r p.0 at (and_from (r.connection.number == c) (r.connection.caller == r.connection.caller) here (eq-eqb r.connection.caller r.connection.caller refl))

@@ -6,7 +6,7 @@ ghost use Rattle.bsc_history.specs.declared.mark.Stamped.{Stamped};
 ghost use Rattle.bsc_history.specs.Marks.{entries};
 ghost use Rattle.bsc_ring.specs.Ends.{SameOutlet, given, outlet_mark};
 ghost use Rattle.bsc_desk.specs.Meetings.{IsOutletOf, KnowsOutbox};
-ghost use Rattle.bsc_desk.specs.Rows.{HasRow, IsMarkOf, known_of, row_of};
+ghost use Rattle.bsc_desk.specs.Rows.{HasRow, IsMarkOf, IsRowBy, known_of, row_of};
 ghost use Rattle.bsc_desk.specs.Standing.{StandsFor};
 
 use crate::desk::Desk;
@@ -14,6 +14,17 @@ use crate::rows::place_of;
 use bsc_ring::Outlet;
 
 impl Desk {
+    /// The caller that joined connection `conn`, which hasn't left.
+    pub fn caller_of(&self, conn: u64) -> u64
+        requires { HasRow self.now conn }
+        ensures { IsRowBy self.now result conn }
+    {
+        match place_of(self.rows.as_slice(), conn) {
+            None => unreachable!(),
+            Some(place) => self.rows[place].connection.caller,
+        }
+    }
+
     /// Lets the inlet of connection `conn`, which hasn't left, and its outlet learn of each other: each later
     /// push there finds at least as many frames taken as were taken by now, and each later take finds all that
     /// has entered, and the End where there is one. No entry is made and no memory is taken.

@@ -276,7 +276,7 @@ makes-grows : (w : World) (t : TimedStep) → Grows w (makes w t)
 makes-grows w t = does_unless-grows (refusal w t.step) t.step (at_time t.now w)
 
 -- What was delivered after a step is what was delivered before it, and what is delivered at it.
-added_at : (w : World) (t : TimedStep) → (makes w t).delivered ≡ w.delivered ++ delivered_at w t
+pub added_at : (w : World) (t : TimedStep) → (makes w t).delivered ≡ w.delivered ++ delivered_at w t
 added_at w t =
     let g = makes-grows w t in
     let rest : delivered_at w t ≡ g.0 = ap (λ d. drop (length w.delivered) d) g.1 ∙ drop-append_seam w.delivered g.0 in

@@ -6,3 +6,7 @@ mod WorkedCourse
 pub mod Held
 pub mod Growing
 pub mod Stepping
+pub mod Measured
+pub mod Lawful
+pub mod Telling
+pub mod Adding

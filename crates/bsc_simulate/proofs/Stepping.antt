@@ -13,8 +13,8 @@ use Rattle.bsc_simulate.specs.declared.line.Line.{Line}
 use Rattle.bsc_simulate.specs.declared.line.Line.TheVariants.{Nothing, Hub, Node, At, Step}
 use Rattle.bsc_simulate.specs.Lines.{line_of}
 use Rattle.bsc_simulate.specs.Written.{step_text}
-use Rattle.bsc_simulate.specs.Scripts.{State, nothing_yet, quietly, where_may, hub_limits, may_add_hub, may_add_node, may_set, may_try, at_clock, makes_in, line_after, said_after, simulation, simulate_of}
-use Rattle.bsc_simulate.specs.Laws.{state_after, steps_text, IsOfItsSteps}
+use Rattle.bsc_simulate.specs.Scripts.{State, nothing_yet, quietly, where_may, hub_limits, may_add_hub, may_add_node, may_set, may_try, at_clock, makes_in, line_after, said_after, simulation}
+use Rattle.bsc_simulate.specs.Laws.{state_after, state_of, steps_text, IsOfItsSteps}
 use Rattle.bsc_simulate.proofs.Growing.{deliveries_by_steps}
 use Rattle.bsc_simulate.proofs.Held.{no_elements, hub_first, node_first}
 
@@ -30,7 +30,7 @@ steps_text-more w (u ∷ steps) t =
     ∙ sym (append_assoc (step_text (dialled_at w u) (delivered_at w u)) (steps_text (makes w u) steps) (step_text (dialled_at (fold makes (makes w u) steps) t) (delivered_at (fold makes (makes w u) steps) t)))
 
 -- what may be accepted where it is
-where_some : (may : Bool) (q out : Outcome State) → where_may may q ≡ Some out → (may ≡ true) × (q ≡ out)
+pub where_some : (may : Bool) (q out : Outcome State) → where_may may q ≡ Some out → (may ≡ true) × (q ≡ out)
 where_some true q out e = (refl, cc)
 where_some false q out e = cc
 
@@ -80,34 +80,39 @@ within_size true step out e = cc
 within_size false step out e = e
 
 -- what stands after a line that is accepted, and those behind it
-next_state : (s : State) (piece : List ℕ) (pieces : List (List ℕ)) (out : Outcome State) → said_after s (line_of (line_in piece)) ≡ Some out → state_after s (piece ∷ pieces) ≡ state_after out.state pieces
-next_state s piece pieces out e =
-    ap (λ (o : Option (Outcome State)). elim o as (λ v. Option State) [ None ↦ None | Some x ↦ state_after x.state pieces ]) e
+pub state_after-more : (s : State) (before : ℕ) (piece : List ℕ) (pieces : List (List ℕ)) (out : Outcome State) → piece_after simulation s before piece ≡ Some out → state_after s before (piece ∷ pieces) ≡ state_after out.state (before + length piece) pieces
+state_after-more s before piece pieces out e =
+    ap (λ (o : Option (Outcome State)). elim o as (λ v. State) [ None ↦ s | Some x ↦ state_after x.state (before + length piece) pieces ]) e
 
--- what is reached by some pieces, and what they write
-abbrev Reaches : State → List (List ℕ) → List ℕ → Type 0
-Reaches s pieces text = (u : State) × (state_after s pieces ≡ Some u) × (text_of u ≡ text_of s ++ text)
+-- and where it is refused
+pub state_after-none : (s : State) (before : ℕ) (piece : List ℕ) (pieces : List (List ℕ)) → piece_after simulation s before piece ≡ None → state_after s before (piece ∷ pieces) ≡ s
+state_after-none s before piece pieces e =
+    ap (λ (o : Option (Outcome State)). elim o as (λ v. State) [ None ↦ s | Some x ↦ state_after x.state (before + length piece) pieces ]) e
 
-reaches : (pieces : List (List ℕ)) (s : State) (number before : ℕ) → (play simulation s number before pieces).refused ≡ None → Reaches s pieces (play simulation s number before pieces).text
-reaches [] s number before e =
+-- what a piece says that is accepted
+pub piece_said : (s : State) (before : ℕ) (piece : List ℕ) (out : Outcome State) → piece_after simulation s before piece ≡ Some out → said_after s (line_of (line_in piece)) ≡ Some out
+piece_said s before piece out e = within_size (is_too_big before piece) (said_after s (line_of (line_in piece))) out e
+
+-- some lines, up to the first that is refused, write what their steps write
+pub writes_steps : (pieces : List (List ℕ)) (s : State) (number before : ℕ) → text_of (state_after s before pieces) ≡ text_of s ++ (play simulation s number before pieces).text
+writes_steps [] s number before =
     let none : (play simulation s number before []).text ≡ [] = ap (λ (x : Played). x.text) (play_end simulation s number before) ∙ ended_says (simulation.may_end s) number in
-    (s, refl, sym (append-nil (text_of s)) ∙ ap (λ x. text_of s ++ x) (sym none))
-reaches (piece ∷ pieces) s number before e = by (λ u n b. reaches pieces u n b) (piece_after simulation s before piece) refl
+    sym (append-nil (text_of s)) ∙ ap (λ x. text_of s ++ x) (sym none)
+writes_steps (piece ∷ pieces) s number before = by (λ u n b. writes_steps pieces u n b) (piece_after simulation s before piece) refl
   where
-    by : ((u : State) (n b : ℕ) → (play simulation u n b pieces).refused ≡ None → Reaches u pieces (play simulation u n b pieces).text)
-        → (a : Option (Outcome State)) → piece_after simulation s before piece ≡ a → Reaches s (piece ∷ pieces) (play simulation s number before (piece ∷ pieces)).text
-    by next None is = absurd (let bad = sym (ap (λ (x : Played). x.refused) (play_refused simulation s number before piece pieces is)) ∙ e in cc)
+    by : ((u : State) (n b : ℕ) → text_of (state_after u b pieces) ≡ text_of u ++ (play simulation u n b pieces).text)
+        → (a : Option (Outcome State)) → piece_after simulation s before piece ≡ a
+        → text_of (state_after s before (piece ∷ pieces)) ≡ text_of s ++ (play simulation s number before (piece ∷ pieces)).text
+    by next None is =
+        ap (λ (u : State). text_of u) (state_after-none s before piece pieces is) ∙ sym (append-nil (text_of s))
+        ∙ ap (λ (x : Played). text_of s ++ x.text) (sym (play_refused simulation s number before piece pieces is))
     by next (Some out) is =
         let turned = play_line simulation s number before piece pieces out is in
-        let later = next out.state (number + 1) (before + length piece) (sym (ap (λ (x : Played). x.refused) turned) ∙ e) in
-        let said : said_after s (line_of (line_in piece)) ≡ Some out = within_size (is_too_big before piece) (said_after s (line_of (line_in piece))) out is in
-        let here = accepted_said s (line_of (line_in piece)) out said in (
-          later.0,
-          next_state s piece pieces out said ∙ later.1,
-          later.2 ∙ ap (λ x. x ++ (play simulation out.state (number + 1) (before + length piece) pieces).text) here
-              ∙ append_assoc (text_of s) out.text (play simulation out.state (number + 1) (before + length piece) pieces).text
-              ∙ ap (λ (x : Played). text_of s ++ x.text) (sym turned),
-        )
+        let here = accepted_said s (line_of (line_in piece)) out (piece_said s before piece out is) in
+        ap (λ (u : State). text_of u) (state_after-more s before piece pieces out is) ∙ next out.state (number + 1) (before + length piece)
+        ∙ ap (λ x. x ++ (play simulation out.state (number + 1) (before + length piece) pieces).text) here
+        ∙ append_assoc (text_of s) out.text (play simulation out.state (number + 1) (before + length piece) pieces).text
+        ∙ ap (λ (x : Played). text_of s ++ x.text) (sym turned)
 
-pub is_of_its_steps : (o : List ℕ) → (simulate_of o).refused ≡ None → IsOfItsSteps o
-is_of_its_steps o e = (let r = reaches (pieces_of o) nothing_yet 1 0 e in record { state = r.0; reached = r.1; written = sym r.2; delivered = deliveries_by_steps r.0.added r.0.steps })
+pub is_of_its_steps : (o : List ℕ) → IsOfItsSteps o
+is_of_its_steps o = record { written = sym (writes_steps (pieces_of o) nothing_yet 1 0); delivered = deliveries_by_steps (state_of o).added (state_of o).steps }

@@ -17,7 +17,9 @@ mod simulation;
 mod texts;
 
 pub use bsc_player::PlayEnd;
-pub use laws::a_script_is_of_its_steps;
+pub use laws::{
+    a_script_delivers_what_was_sent, a_script_is_of_its_steps, a_step_delivers_what_was_sent,
+};
 pub use line::Line;
 pub use reading::read_line;
 pub use simulating::simulate;

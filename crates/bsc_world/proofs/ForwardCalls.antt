@@ -1,7 +1,8 @@
 -- A message is passed on.
-use Rattle.std.proofs.Common.{◌≡◌, ◌≤◌, ◌<◌, ◌==◌, ◌&&◌, ◌||◌, inl, inr, ℕ, nat_le, Bool, true, false, not, cond, List, [], ◌∷◌, ◌++◌, length, map, find, filter, get_or, slice_get, Option, Some, None, MatchOption, refl, ap, sym, ◌∙◌, subst, arith, length-set}
+use Rattle.std.proofs.Common.{◌≡◌, ◌≤◌, ◌<◌, ◌==◌, ◌&&◌, ◌||◌, inl, inr, ℕ, nat_le, Bool, true, false, not, cond, List, [], ◌∷◌, ◌++◌, length, map, find, filter, take, get_or, slice_get, Option, Some, None, MatchOption, refl, ap, sym, ◌∙◌, subst, arith, length-set}
 use Rattle.std.specs.List.{AllByRecursion, list_any}
-use Rattle.std.proofs.lemmas.Bool.{and_from, both_ways, eq-eqb, eqb-true, or_cases, or_left, or_right}
+use Rattle.std.proofs.Math.Seq.{take-length}
+use Rattle.std.proofs.lemmas.Bool.{and_from, both_ways, false_from_ne_true, eq-eqb, eqb-true, or_cases, or_left, or_right}
 use Rattle.bsc_octets.specs.declared.vmac.Vmac.{Vmac}
 use Rattle.bsc_direct.proofs.OneMore.{some_same}
 use Rattle.bsc_node.specs.declared.link_name.LinkName.{LinkName}
@@ -43,16 +44,17 @@ use Rattle.bsc_world.specs.declared.world.World.{World as KeptWorld}
 use Rattle.bsc_network.specs.Worlds.{World, Hub, Link, history, hub_at, link_at}
 use Rattle.bsc_network.specs.HubCalls.{called, entry_in, looks_in, taken_by, taken_from, taken_over}
 use Rattle.bsc_world.specs.HubEntries.{LeadsTo}
-use Rattle.bsc_world.specs.Passing.{HasForwarded, Midway, MidwaySome, MidwayTo, SameEnd}
+use Rattle.bsc_world.specs.Passing.{HasForwarded, Midway, MidwaySome, MidwayTo, SameEnd, is_one, looked_at}
 use Rattle.bsc_world.specs.Sides.{IsSideOf, WasPassed}
 use Rattle.bsc_world.specs.Kept.{IsConnKept, IsConnKeptIf, IsSideKept, IsSideKeptIf}
 use Rattle.bsc_world.specs.Standing.{AreReadyBut, IsHubAt, StandsAs}
 use Rattle.bsc_world.specs.Becoming.{Became, Stands}
-use Rattle.bsc_network.proofs.Places.{get-set_here, get-set_other, got-beside, got-within}
+use Rattle.bsc_network.proofs.Places.{get-set_here, get-set_other, got-beside}
 use Rattle.bsc_world.proofs.Entering.{history-more, with_entry}
 use Rattle.bsc_world.proofs.OneHub.{HubChange, SameLink, hub_changed, read_there, same_link}
 use Rattle.bsc_world.proofs.OfSides.{got-at, side_at}
-use Rattle.bsc_world.proofs.QuietEntries.{entry_is, hub_entered, lawful_at, legal_at}
+use Rattle.bsc_world.proofs.QuietEntries.{IsQuiet, entry_is, hub_entered, lawful_at, legal_at, side_quiet}
+use Rattle.bsc_world.proofs.Unlooked.{any_of_none, looked_kept, newest_kept, unlooked_added}
 use Rattle.bsc_world.proofs.StopCalls.{OnHub}
 use Rattle.bsc_world.proofs.ConnectCalls.{hub_is, target_at, worn_as}
 
@@ -71,7 +73,7 @@ any_mapped p [] = refl
 any_mapped p (r ∷ rows) = ap (λ (b : Bool). p (connection r) || b) (any_mapped p rows)
 
 -- a live connection hasn't left
-live_unleft : (d : Desk) (S : List Stamped) (c : ℕ) → DeskStandsFor d S → list_any (λ x. x.number == c) (live (entries_of S)) ≡ true → list_any (λ x. x.number == c) (unleft (entries_of S)) ≡ true
+pub live_unleft : (d : Desk) (S : List Stamped) (c : ℕ) → DeskStandsFor d S → list_any (λ x. x.number == c) (live (entries_of S)) ≡ true → list_any (λ x. x.number == c) (unleft (entries_of S)) ≡ true
 live_unleft d S c s h =
     let p = λ (x : Connection). x.number == c in
     let q = λ (r : Row). p (connection r) in
@@ -94,7 +96,7 @@ any_filtered p q (x ∷ xs) h = by (q x) h (any_filtered p q xs)
     by true g rec = elim (or_cases (p x) (list_any p (filter q xs)) g) [ inl here ↦ or_left (p x) (list_any p xs) here | inr later ↦ or_right (p x) (list_any p xs) (rec later) ]
     by false g rec = or_right (p x) (list_any p xs) (rec g)
 
-looks_live : (H : List Entry) (call : Call) (c : ℕ) → is_among c (looks_at H call) ≡ true → list_any (λ x. x.number == c) (live H) ≡ true
+pub looks_live : (H : List Entry) (call : Call) (c : ℕ) → is_among c (looks_at H call) ≡ true → list_any (λ x. x.number == c) (live H) ≡ true
 looks_live H (Forward sender m) c h =
     let xs = meant H sender m in
     let q = λ (x : Connection). not (is_too_long (out_of H sender m) x) in
@@ -138,7 +140,7 @@ side_known m h S d link (Some side) b p is lasts = conn_known m h S d link side.
 -- ---- the call
 
 -- The entry was made, and no side has met the hub yet.
-pub midway_start : (t u : KeptWorld) (F : List LinkName) (w : World) (j l c place : ℕ) (m : List ℕ) (passing : Passing) (h : Hub) (a : IsHubAt t w j h) (after : KeptHub) → StandsAs t F None w → slice_get u.hubs.items j ≡ Some after → OnHub t u j after → (f : HasForwarded a.marks l c m passing a.kept after) → Midway t u w j h a (forward_entry l c m f.looks f.reply) place passing 0
+pub midway_start : (t u : KeptWorld) (F : List LinkName) (w : World) (j l c place : ℕ) (m : List ℕ) (passing : Passing) (h : Hub) (a : IsHubAt t w j h) (after : KeptHub) → StandsAs t F None w → slice_get u.hubs.items j ≡ Some after → OnHub t u j after → (f : HasForwarded a.marks l c m passing a.kept after) → Midway t u w j h a (forward_entry l c m f.looks f.reply) place passing (is_one h (take 0 (looked_at passing)))
 midway_start t u F w j l c place m passing h a after s there o f =
     let e = forward_entry l c m f.looks f.reply in
     record {
@@ -149,6 +151,7 @@ midway_start t u F w j l c place m passing h a after s there o f =
       sender = c;
       message = m;
       call = refl;
+      told = f.told;
       named = f.named;
       beside = s.link_count;
       ends = λ n x k at got. (let q = s.links n x at in ap (λ (y : KeptLink). y.to) (some_same k q.kept (sym got ∙ q.there)) ∙ q.link_kept.to);
@@ -160,14 +163,12 @@ midway_start t u F w j l c place m passing h a after s there o f =
       others = λ i other. ap (λ xs. slice_get xs i) o.hubs ∙ get-set_other t.hubs.items j i after other;
       link_count = ap length o.links;
       same = λ n k y got now. subst (SameEnd j k) (some_same k y (sym got ∙ ap (λ xs. slice_get xs n) (sym o.links) ∙ now)) (record { from = refl; to = refl; up = refl; down = refl; lost = refl; apart = λ other. refl; machine = λ z is. (z, is, refl, λ b joins. (b, joins)) });
-      done = λ n x k low at to got. absurd (none n low);
-      rest = λ n high. ap (λ xs. slice_get xs n) o.links;
+      unmet = λ b off. f.learns.known b ∙ newest_kept b f.looks (known_of a.kept.desk b) (ap (is_among b) (sym f.told) ∙ off);
+      done = λ n x k low at to got. absurd (both_ways (is_one h (take 0 (looked_at passing)) n) (any_of_none (λ (b : ℕ). is_of (history h) n b) (looked_at passing)) low);
+      rest = λ n off. ap (λ xs. slice_get xs n) o.links;
     }
-  where
-    none : (n : ℕ) → n < 0 → ⊥
-    none n low = omega arith
 
-module _ (t u : KeptWorld) (F : List LinkName) (w : World) (j : ℕ) (h : Hub) (a : IsHubAt t w j h) (e : Entry) (place : ℕ) (passing : Passing) (i : ℕ) (g : Midway t u w j h a e place passing i) (s : StandsAs t F None w) (high : length t.links.items ≤ i) where
+module _ (t u : KeptWorld) (F : List LinkName) (w : World) (j : ℕ) (h : Hub) (a : IsHubAt t w j h) (e : Entry) (place : ℕ) (passing : Passing) (met : ℕ → Bool) (g : Midway t u w j h a e place passing met) (s : StandsAs t F None w) (all : (m b : ℕ) → is_of (history h) m b ≡ true → is_among b (looked_at passing) ≡ true → met m ≡ true) where
   abbrev hub_now : Hub
   hub_now = with_entry h e place
 
@@ -177,8 +178,25 @@ module _ (t u : KeptWorld) (F : List LinkName) (w : World) (j : ℕ) (h : Hub) (
   kept_now : (m : ℕ) (x : Link) → link_at w m ≡ Some x → (k : KeptLink) × (slice_get u.links.items m ≡ Some k)
   kept_now m x at = got-beside w.links u.links.items m x (g.link_count ∙ g.beside) at
 
+  -- a link that hasn't met the hub joined as no connection at which the forward looked
+  quiet : (m : ℕ) → met m ≡ false → (c : ℕ) → is_of (history h) m c ≡ true → IsQuiet h e a.kept.desk g.kept.desk c
+  quiet m unmet c own =
+      let off : is_among c (looked_at passing) ≡ false = false_from_ne_true (is_among c (looked_at passing)) (λ yes. both_ways (met m) unmet (all m c own yes)) in
+      let unlooked : is_among c (map (λ (k : Look). k.conn) e.looks) ≡ false = ap (is_among c) (sym g.told) ∙ off in
+      record {
+        stays = ap (is_leave c) g.call;
+        looks = looked_kept (history h) e c unlooked;
+        known = g.unmet c off;
+        nothing = unlooked_added h.about (history h) e g.sender g.message c (legal_at j h a.marks a.kept a.hub) g.lawful g.call unlooked;
+      }
+
   done_now : (m : ℕ) (x : Link) (k : KeptLink) → link_at w m ≡ Some x → x.to ≡ ToHub j → slice_get u.links.items m ≡ Some k → IsSideKeptIf m hub_now marks_now g.kept.desk x k.side
-  done_now m x k at to got = (let within = got-within w.links m x at in let count = g.beside in g.done m x k (omega arith) at to got)
+  done_now m x k at to got =
+      let by : (b : Bool) → met m ≡ b → IsSideKeptIf m hub_now marks_now g.kept.desk x k.side = λ b. elim b as (λ b. met m ≡ b → IsSideKeptIf m hub_now marks_now g.kept.desk x k.side) [
+        | true ↦ λ yes. g.done m x k yes at to got
+        | false ↦ λ no. side_quiet m h a.marks a.kept.desk g.kept.desk x k.side (plain e) place (legal_at j h a.marks a.kept a.hub) g.lawful (quiet m no) (a.sides m x k at to (sym (g.rest m no) ∙ got))
+      ] in
+      by (met m) refl
 
   is_of_before : (m b : ℕ) → is_of (history hub_now) m b ≡ true → is_of (history h) m b ≡ true
   is_of_before m b own =
@@ -216,7 +234,7 @@ module _ (t u : KeptWorld) (F : List LinkName) (w : World) (j : ℕ) (h : Hub) (
       let looks : e.looks ≡ looks_in w h e.call = looks_told (taken_from w h) e.looks (all_from_In (λ (k : Look). k.taken ≡ taken_from w h k.conn) e.looks (look_exact at_least)) ∙ ap (map (λ c. let k : Look = record { conn = c; taken = taken_from w h c } in k)) g.lawful.named in
       entry_is w h e.caller e g.lawful refl looks
 
-  -- The call is made, once all sides have met the hub.
+  -- The call is made, once all sides have met the hub at which it looked.
   pub midway_end : hub_at w j ≡ Some h → AllByRecursion (λ k. known_of a.kept.desk k.conn ≤ k.taken) e.looks → Became t u F None w (called j e.caller place e.call w)
   midway_end at at_least =
       let v = called j e.caller place e.call w in
@@ -263,6 +281,12 @@ module _ (t u : KeptWorld) (F : List LinkName) (w : World) (j : ℕ) (h : Hub) (
         delivered = refl;
         stands = hub_changed t u F None None w v j f change s ready;
       }
+
+-- who joined as one of some connections is one of their links
+one_met : (h : Hub) (conns : List ℕ) (m b : ℕ) → is_of (history h) m b ≡ true → is_among b conns ≡ true → is_one h conns m ≡ true
+one_met h conns m b own looks =
+    let r = any_gives (λ (c : ℕ). c == b) conns looks in
+    any_In (λ (c : ℕ). is_of (history h) m c) r.0 conns r.1 (subst (λ c. is_of (history h) m c ≡ true) (sym (eqb-true r.0 b r.2)) own)
 
 -- ---- by the link
 
@@ -323,7 +347,7 @@ forwarded_at : (t : KeptWorld) (w : World) (i : ℕ) (h : Hub) (a : IsHubAt t w 
 forwarded_at t w i h a l c m passing hub after same says =
     subst (λ (y : KeptHub). (nat_le y.desk.about.limits.calls (length a.marks) ≡ false) × HasForwarded a.marks l c m passing y after) (sym same) (says a.marks (subst (λ (y : KeptHub). DeskStandsFor y.desk a.marks) same a.hub.desk))
 
--- The entry was made, and the sides of the hub are to meet it.
+-- The entry was made, and the sides at which it looked are to meet the hub.
 pub may_meet_each : (t u : KeptWorld) (l i place c : ℕ) (m : List ℕ) (passing : Passing) (hub after : KeptHub) → Stands None t → i < length t.hubs.items → hub ≡ get_or t.hubs.items i hub → OnHub t u i after → ((S : List Stamped) → DeskStandsFor hub.desk S → (nat_le hub.desk.about.limits.calls (length S) ≡ false) × HasForwarded S l c m passing hub after) → MidwaySome u i place passing 0
 may_meet_each t u l i place c m passing hub after (F, w, at, s) within read o says =
     let y = got-at w.hubs i (subst (λ n. i < n) s.hub_count within) in
@@ -332,7 +356,7 @@ may_meet_each t u l i place c m passing hub after (F, w, at, s) within read o sa
     let f = forwarded_at t w i y.0 a l c m passing hub after (some_same a.kept hub (sym a.there ∙ was)) says in
     (t, w, y.0, a, forward_entry l c m f.1.looks f.1.reply, midway_start t u F w i l c place m passing y.0 a after s (ap (λ xs. slice_get xs i) o.hubs ∙ get-set_here t.hubs.items i hub after was) o f.1)
 
-pub passed_made : (t u v : KeptWorld) (F : List LinkName) (w : World) (l i j place : ℕ) (m : List ℕ) (passing : Passing) (kept : KeptLink) (side : KeptSide) (k : KeptConn) (c : ℕ) (hub after : KeptHub) (h : Hub) (link : Link) → LeadsTo t l i → kept ≡ get_or t.links.items l kept → kept.side ≡ Some side → side.joined ≡ Some k → c ≡ k.conn → hub ≡ get_or t.hubs.items i hub → MidwayTo u v i place passing 0 (length u.links.items) → OnHub t u i after
+pub passed_made : (t u v : KeptWorld) (F : List LinkName) (w : World) (l i j place : ℕ) (m : List ℕ) (passing : Passing) (kept : KeptLink) (side : KeptSide) (k : KeptConn) (c : ℕ) (hub after : KeptHub) (h : Hub) (link : Link) → LeadsTo t l i → kept ≡ get_or t.links.items l kept → kept.side ≡ Some side → side.joined ≡ Some k → c ≡ k.conn → hub ≡ get_or t.hubs.items i hub → MidwayTo u v i place passing 0 (length (looked_at passing)) → OnHub t u i after
     → ((S : List Stamped) → DeskStandsFor hub.desk S → (nat_le hub.desk.about.limits.calls (length S) ≡ false) × HasForwarded S l c m passing hub after) → StandsAs t F None w → IsSideOf w l j h link → WasPassed Made t v F w j h link l place m
 passed_made t u v F w l i j place m passing kept side k c hub after h link q link_read is joins conn read meets o says s p =
     let was = read_there t.links.items l q.kept kept q.there link_read in
@@ -345,9 +369,6 @@ passed_made t u v F w l i j place m passing kept side k c hub after h link q lin
     let e = forward_entry l c m f.1.looks f.1.reply in
     let start = midway_start t u F w i l c place m passing h a after s (ap (λ xs. slice_get xs i) o.hubs ∙ get-set_here t.hubs.items i hub after hub_was) o f.1 in
     let end = meets t w h a e start in
-    let count = ap length o.links in
-    let became : Became t v F None w (called i l place (Forward c m) w) = midway_end t v F w i h a e place passing (length u.links.items) end s (subst (λ n. length t.links.items ≤ n) (sym count) (at_most (length t.links.items))) here f.1.at_least in
+    let conns = looked_at passing in
+    let became : Became t v F None w (called i l place (Forward c m) w) = midway_end t v F w i h a e place passing (is_one h (take (length conns) conns)) end s (λ m b own looks. subst (λ cs. is_one h cs m ≡ true) (sym (take-length conns)) (one_met h conns m b own looks)) here f.1.learns.at_least in
     (c, conn_then t F w l j kept side k c h link was is joins conn s p, worn_as i h a.marks a.kept false a.hub f.0, subst (λ n. Became t v F None w (called n l place (Forward c m) w)) at became)
-  where
-    at_most : (n : ℕ) → n ≤ n
-    at_most n = omega arith

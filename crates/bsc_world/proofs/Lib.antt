@@ -24,7 +24,9 @@ pub mod TakesOne
 pub mod SideHears
 pub mod ConnectCalls
 pub mod DeskConnects
+pub mod Unlooked
 pub mod SideMeetings
 pub mod ForwardCalls
+pub mod LooksMet
 pub mod NextFrames
 pub mod TakeCalls

@@ -1,5 +1,6 @@
 -- The sides of a hub meet it, one after the other, once it has passed a message on.
-use Rattle.std.proofs.Common.{◌≡◌, ◌≢◌, ◌≤◌, ◌<◌, inl, inr, ℕ, ◌+◌, Bool, true, false, cond, List, [], ◌∷◌, ◌++◌, length, map, set, slice_get, Option, Some, None, refl, ap, sym, ◌∙◌, subst, arith, length-set}
+use Rattle.std.proofs.Common.{◌≡◌, ◌≢◌, ◌≤◌, ◌<◌, inl, inr, ℕ, Bool, true, false, cond, List, [], ◌∷◌, ◌++◌, length, map, set, slice_get, Option, Some, None, refl, ap, sym, ◌∙◌, subst, length-set}
+use Rattle.std.proofs.lemmas.Bool.{both_ways}
 use Rattle.bsc_direct.proofs.OneMore.{some_same}
 use Rattle.bsc_history.specs.declared.call.Call.TheVariants.{Forward}
 use Rattle.bsc_history.specs.declared.entry.Entry.{Entry}
@@ -30,10 +31,10 @@ use Rattle.bsc_world.specs.declared.kept_link.KeptSide.{KeptSide}
 use Rattle.bsc_world.specs.declared.world.World.{World as KeptWorld}
 use Rattle.bsc_network.specs.Worlds.{World, Hub, HubSide, Link, history, link_at}
 use Rattle.bsc_network.specs.HubSides.{start}
-use Rattle.bsc_world.specs.Passing.{ConnMet, ConnMetIf, LinkMet, MayMeet, Midway, SameEnd, SideMetIf, gains, hub_then, receivers}
+use Rattle.bsc_world.specs.Passing.{ConnMet, ConnMetIf, LinkMet, MayMeet, Midway, SameEnd, SideMetIf, gains, hub_then, looked_at, receivers}
 use Rattle.bsc_world.specs.Kept.{IsConnKept, IsConnKeptIf, IsHubKept, IsSideKept, IsSideKeptIf}
-use Rattle.bsc_world.specs.Standing.{IsHubAt}
-use Rattle.bsc_network.proofs.Places.{get-set_here, get-set_other, got-beside, one_or_two}
+use Rattle.bsc_world.specs.Standing.{IsHubAt, IsJoinedBy}
+use Rattle.bsc_network.proofs.Places.{get-set_here, get-set_other, one_or_two}
 use Rattle.bsc_world.proofs.Entering.{conn_more, history-more}
 use Rattle.bsc_world.proofs.QuietEntries.{legal_at, one_owner}
 
@@ -188,7 +189,8 @@ link_met d n passing place k side c after is joins met = record {
       (record side { joined = Some after }, refl, refl, subst (λ o. ConnMetIf d n passing place o (Some after)) (sym joins) (after, refl, met));
 }
 
-module _ (t u : KeptWorld) (w : World) (j : ℕ) (h : Hub) (a : IsHubAt t w j h) (e : Entry) (place : ℕ) (passing : Passing) (i : ℕ) (g : Midway t u w j h a e place passing i) where
+-- In the network of w, link i joined hub j as connection b, at which the forward looked, and hasn't met it yet.
+module _ (t u : KeptWorld) (w : World) (j : ℕ) (h : Hub) (a : IsHubAt t w j h) (e : Entry) (place : ℕ) (passing : Passing) (met : ℕ → Bool) (g : Midway t u w j h a e place passing met) (i b : ℕ) (fresh : met i ≡ false) (owns : is_of (history h) i b ≡ true) (looks : is_among b (looked_at passing) ≡ true) where
   abbrev marks_then : List Stamped
   marks_then = a.marks ++ plain e ∷ []
 
@@ -203,16 +205,17 @@ module _ (t u : KeptWorld) (w : World) (j : ℕ) (h : Hub) (a : IsHubAt t w j h)
     calls = g.hub.calls ∙ history-more h e place;
   }
 
-  -- what was kept of the side of link i before the call
-  side_then : (k : KeptLink) (x : Link) → slice_get u.links.items i ≡ Some k → link_at w i ≡ Some x → x.to ≡ ToHub j → IsSideKeptIf i h a.marks a.kept.desk x k.side
-  side_then k x was at to = a.sides i x k at to (sym (g.rest i (omega arith)) ∙ was)
-
   -- the link that stands there
-  link_then : (k : KeptLink) → slice_get u.links.items i ≡ Some k → k.to ≡ ToHub j → (x : Link) × (link_at w i ≡ Some x) × (x.to ≡ ToHub j)
-  link_then k was to =
-      let before = sym (g.rest i (omega arith)) ∙ was in
-      let r = got-beside t.links.items w.links i k (sym g.beside) before in
-      (r.0, r.1, sym (g.ends i r.0 k r.1 before) ∙ to)
+  owner : IsJoinedBy w j i b
+  owner = a.joined i b owns
+
+  -- it leads to the hub
+  leads : (k : KeptLink) → slice_get u.links.items i ≡ Some k → k.to ≡ ToHub j
+  leads k was = g.ends i owner.link k owner.there (sym (g.rest i fresh) ∙ was) ∙ owner.to
+
+  -- what was kept of its side before the call
+  side_then : (k : KeptLink) → slice_get u.links.items i ≡ Some k → IsSideKeptIf i h a.marks a.kept.desk owner.link k.side
+  side_then k was = a.sides i owner.link k owner.there owner.to (sym (g.rest i fresh) ∙ was)
 
   -- of a side that had joined before the call
   owned_then : (m : ℕ) (x : Link) (o : Option KeptSide) (side : KeptSide) (c : KeptConn) → IsSideKeptIf m h a.marks a.kept.desk x o → o ≡ Some side → side.joined ≡ Some c → IsConnKept m h a.marks a.kept.desk x.side c
@@ -220,15 +223,18 @@ module _ (t u : KeptWorld) (w : World) (j : ℕ) (h : Hub) (a : IsHubAt t w j h)
       let q : IsSideKept m h a.marks a.kept.desk x side = subst (IsSideKeptIf m h a.marks a.kept.desk x) is p in
       subst (IsConnKeptIf m h a.marks a.kept.desk x.side) joined q.joined
 
+  -- it joined as that connection
+  owned_b : (k : KeptLink) (side : KeptSide) (c : KeptConn) → slice_get u.links.items i ≡ Some k → k.side ≡ Some side → side.joined ≡ Some c → c.conn ≡ b
+  owned_b k side c was is joined = some_same c.conn b (sym (owned_then i owner.link k.side side c (side_then k was) is joined).conn ∙ owner.conn)
+
   -- who had joined hasn't left
   still_of : (m c : ℕ) → is_of (history h) m c ≡ true → is_of (history (hub_then h e place)) m c ≡ true
   still_of m c own = subst (λ F. is_of F m c ≡ true) (sym (history-more h e place)) (is_of_same h.about (history h) e m c passes.legal g.lawful (ap (is_leave c) g.call) own)
 
-  -- The outlet of the side of link i may meet the desk.
-  pub may_meet : (k : KeptLink) (kept : KeptHub) → slice_get u.links.items i ≡ Some k → k.to ≡ ToHub j → slice_get u.hubs.items j ≡ Some kept → MayMeet kept.desk k
-  may_meet k kept was to there side c is joined =
-      let x = link_then k was to in
-      let q = owned_then i x.0 k.side side c (side_then k x.0 was x.1 x.2) is joined in
+  -- The outlet of its side may meet the desk.
+  pub may_meet : (k : KeptLink) (kept : KeptHub) → slice_get u.links.items i ≡ Some k → slice_get u.hubs.items j ≡ Some kept → MayMeet kept.desk k
+  may_meet k kept was there side c is joined =
+      let q = owned_then i owner.link k.side side c (side_then k was) is joined in
       let same : g.kept ≡ kept = some_same g.kept kept (sym g.there ∙ there) in
       let own : is_of (entries_of marks_then) i c.conn ≡ true = subst (λ F. is_of F i c.conn ≡ true) (sym g.hub.calls) (still_of i c.conn q.joiner) in
       subst (λ (y : KeptHub). MayMeetConn y.desk c) same (
@@ -236,58 +242,21 @@ module _ (t u : KeptWorld) (w : World) (j : ℕ) (h : Hub) (a : IsHubAt t w j h)
         is_mark_of g.kept.desk marks_then c.conn (outlet_mark c.outlet) g.hub.desk (mark_grows a.marks (plain e ∷ []) c.conn (outlet_mark c.outlet) q.marked),
       )
 
-  -- A link that leads elsewhere meets nobody.
-  pub midway_skip : (v : KeptWorld) (k : KeptLink) → slice_get u.links.items i ≡ Some k → k.to ≢ ToHub j → v.clock ≡ u.clock → v.made ≡ u.made → v.spent ≡ u.spent → v.nodes.items ≡ u.nodes.items → v.hubs.items ≡ u.hubs.items → v.links.items ≡ u.links.items → Midway t v w j h a e place passing (i + 1)
-  midway_skip v k was other clock made spent nodes hubs links = record {
-    kept = g.kept;
-    there = ap (λ xs. slice_get xs j) hubs ∙ g.there;
-    hub = g.hub;
-    lawful = g.lawful;
-    sender = g.sender;
-    message = g.message;
-    call = g.call;
-    named = g.named;
-    beside = g.beside;
-    ends = g.ends;
-    clock = clock ∙ g.clock;
-    made = made ∙ g.made;
-    spent = spent ∙ g.spent;
-    nodes = nodes ∙ g.nodes;
-    hub_count = ap length hubs ∙ g.hub_count;
-    others = λ n apart. ap (λ xs. slice_get xs n) hubs ∙ g.others n apart;
-    link_count = ap length links ∙ g.link_count;
-    same = λ m y z got now. g.same m y z got (ap (λ xs. slice_get xs m) (sym links) ∙ now);
-    done = λ m x y low at to got. elim (one_or_two i m) [
-      | inl is ↦ absurd (other (g.ends m x k at (ap (slice_get t.links.items) (sym is) ∙ sym (g.rest i (omega arith)) ∙ was) ∙ to))
-      | inr apart ↦ g.done m x y (less m apart low) at to (ap (λ xs. slice_get xs m) (sym links) ∙ got)
-    ];
-    rest = λ m high. ap (λ xs. slice_get xs m) links ∙ g.rest m (lower i m high);
-  }
-    where
-      less : (m : ℕ) → i ≢ m → m < i + 1 → m < i
-      less m apart low = below i m (λ e. apart (sym e)) low
-        where
-          below : (n m : ℕ) → m ≢ n → m < n + 1 → m < n
-          below n m d l = omega arith
-
-      lower : (n m : ℕ) → n + 1 ≤ m → n ≤ m
-      lower n m high = omega arith
-
-  -- The side of link i met the hub.
-  pub midway_meet : (v : KeptWorld) (k after : KeptLink) (kept hub_after : KeptHub) → slice_get u.links.items i ≡ Some k → k.to ≡ ToHub j → slice_get u.hubs.items j ≡ Some kept → v.clock ≡ u.clock → v.made ≡ u.made → v.spent ≡ u.spent → v.nodes.items ≡ u.nodes.items → v.hubs.items ≡ set u.hubs.items j hub_after → v.links.items ≡ set u.links.items i after
-      → hub_after.about ≡ kept.about → hub_after.uri ≡ kept.uri → hub_after.has_stopped ≡ kept.has_stopped → LinkMet kept.desk hub_after.desk passing place k after → Midway t v w j h a e place passing (i + 1)
-  midway_meet v k after kept hub_after was to there clock made spent nodes hubs links own uri stopped q =
+  -- It met the hub.
+  pub midway_meet : (v : KeptWorld) (then_met : ℕ → Bool) (k after : KeptLink) (kept hub_after : KeptHub) → then_met i ≡ true → ((m : ℕ) → i ≢ m → then_met m ≡ met m) → slice_get u.links.items i ≡ Some k → slice_get u.hubs.items j ≡ Some kept → v.clock ≡ u.clock → v.made ≡ u.made → v.spent ≡ u.spent → v.nodes.items ≡ u.nodes.items → v.hubs.items ≡ set u.hubs.items j hub_after → v.links.items ≡ set u.links.items i after
+      → hub_after.about ≡ kept.about → hub_after.uri ≡ kept.uri → hub_after.has_stopped ≡ kept.has_stopped → LinkMet kept.desk hub_after.desk passing place k after → Midway t v w j h a e place passing then_met
+  midway_meet v then_met k after kept hub_after now_met else_met was there clock made spent nodes hubs links own uri stopped q =
       let same : g.kept ≡ kept = some_same g.kept kept (sym g.there ∙ there) in
       let p : IsHubKept j (hub_then h e place) marks_then kept = subst (IsHubKept j (hub_then h e place) marks_then) same g.hub in
       let n = hub_after.desk in
-      let met = desk_met kept.desk n k.side after.side place passing q.side in
-      let stands = met.stands marks_then p.desk in
-      let x = link_then k was to in
-      let before = side_then k x.0 was x.1 x.2 in
+      let met_desk = desk_met kept.desk n k.side after.side place passing q.side in
+      let stands = met_desk.stands marks_then p.desk in
+      let x = owner.link in
+      let before = side_then k was in
       let here : slice_get v.links.items i ≡ Some after = ap (λ xs. slice_get xs i) links ∙ get-set_here u.links.items i k after was in
       let else : (m : ℕ) → i ≢ m → slice_get v.links.items m ≡ slice_get u.links.items m = λ m other. ap (λ xs. slice_get xs m) links ∙ get-set_other u.links.items i m after other in
       let hub_now : IsHubKept j (hub_then h e place) marks_then hub_after = record {
-        about = met.about ∙ p.about;
+        about = met_desk.about ∙ p.about;
         own = own ∙ p.own;
         calls = p.calls;
         desk = stands;
@@ -303,6 +272,7 @@ module _ (t u : KeptWorld) (w : World) (j : ℕ) (h : Hub) (a : IsHubAt t w j h)
         sender = g.sender;
         message = g.message;
         call = g.call;
+        told = g.told;
         named = g.named;
         beside = g.beside;
         ends = g.ends;
@@ -315,37 +285,30 @@ module _ (t u : KeptWorld) (w : World) (j : ℕ) (h : Hub) (a : IsHubAt t w j h)
         link_count = ap length links ∙ length-set u.links.items i after ∙ g.link_count;
         same = λ m y z got now. elim (one_or_two i m) [
           | inl is ↦ (
-              let y_is : k ≡ y = some_same k y (sym was ∙ g.rest i (omega arith) ∙ ap (slice_get t.links.items) is ∙ got) in
+              let y_is : k ≡ y = some_same k y (sym was ∙ g.rest i fresh ∙ ap (slice_get t.links.items) is ∙ got) in
               let z_is : after ≡ z = some_same after z (sym here ∙ ap (slice_get v.links.items) is ∙ now) in
-              subst (λ (b : KeptLink). SameEnd j b z) y_is (subst (SameEnd j k) z_is (met_end j kept.desk n place passing k after to q)))
+              subst (λ (b : KeptLink). SameEnd j b z) y_is (subst (SameEnd j k) z_is (met_end j kept.desk n place passing k after (leads k was) q)))
           | inr apart ↦ g.same m y z got (sym (else m apart) ∙ now)
         ];
-        done = λ m y z low at leads got. elim (one_or_two i m) [
+        unmet = λ c off. met_desk.others c (λ side k1 is joined same_conn. both_ways (is_among c (looked_at passing)) off (subst (λ r. is_among r (looked_at passing) ≡ true) (sym (same_conn ∙ owned_b k side k1 was is joined)) looks))
+            ∙ ap (λ (y : KeptHub). known_of y.desk c) (sym same) ∙ g.unmet c off;
+        done = λ m y z low at to got. elim (one_or_two i m) [
           | inl is ↦ (
-              let y_is : y ≡ x.0 = some_same y x.0 (sym at ∙ ap (link_at w) (sym is) ∙ x.1) in
+              let y_is : y ≡ x = some_same y x (sym at ∙ ap (link_at w) (sym is) ∙ owner.there) in
               let z_is : z ≡ after = some_same z after (sym got ∙ ap (slice_get v.links.items) (sym is) ∙ here) in
-              let now : IsSideKeptIf i (hub_then h e place) marks_then n x.0 after.side = side_met i h a.marks a.kept.desk kept.desk n x.0 k.side after.side e place passing passes p.desk before q.side in
-              let moved = subst (λ (b : ℕ). IsSideKeptIf b (hub_then h e place) marks_then n x.0 after.side) is now in
-              subst (λ (b : Link). IsSideKeptIf m (hub_then h e place) marks_then n b z.side) (sym y_is) (subst (λ (b : KeptLink). IsSideKeptIf m (hub_then h e place) marks_then n x.0 b.side) (sym z_is) moved))
+              let now : IsSideKeptIf i (hub_then h e place) marks_then n x after.side = side_met i h a.marks a.kept.desk kept.desk n x k.side after.side e place passing passes p.desk before q.side in
+              let moved = subst (λ (b : ℕ). IsSideKeptIf b (hub_then h e place) marks_then n x after.side) is now in
+              subst (λ (b : Link). IsSideKeptIf m (hub_then h e place) marks_then n b z.side) (sym y_is) (subst (λ (b : KeptLink). IsSideKeptIf m (hub_then h e place) marks_then n x b.side) (sym z_is) moved))
           | inr apart ↦ (
-              let old : IsSideKeptIf m (hub_then h e place) marks_then kept.desk y z.side = subst (λ (b : KeptHub). IsSideKeptIf m (hub_then h e place) marks_then b.desk y z.side) same (g.done m y z (less m apart low) at leads (sym (else m apart) ∙ got)) in
+              let old : IsSideKeptIf m (hub_then h e place) marks_then kept.desk y z.side = subst (λ (b : KeptHub). IsSideKeptIf m (hub_then h e place) marks_then b.desk y z.side) same (g.done m y z (sym (else_met m apart) ∙ low) at to (sym (else m apart) ∙ got)) in
               side_desk m (hub_then h e place) marks_then kept.desk n y z.side
-              (λ b mine. met.others b (λ side c is joined d. (
-              let own_i : is_of (history (hub_then h e place)) i c.conn ≡ true = still_of i c.conn (owned_then i x.0 k.side side c before is joined).joiner in
-              apart (one_owner h.about (history (hub_then h e place)) i m b legal_now (subst (λ r. is_of (history (hub_then h e place)) i r ≡ true) (sym d) own_i) mine))))
+              (λ r mine. met_desk.others r (λ side c is joined d. (
+              let own_i : is_of (history (hub_then h e place)) i c.conn ≡ true = still_of i c.conn (owned_then i x k.side side c before is joined).joiner in
+              apart (one_owner h.about (history (hub_then h e place)) i m r legal_now (subst (λ y. is_of (history (hub_then h e place)) i y ≡ true) (sym d) own_i) mine))))
               old)
         ];
-        rest = λ m high. else m (above i m high) ∙ g.rest m (lower i m high);
+        rest = λ m off. else m (not_here m off) ∙ g.rest m (sym (else_met m (not_here m off)) ∙ off);
       }
     where
-      less : (m : ℕ) → i ≢ m → m < i + 1 → m < i
-      less m apart low = below i m (λ e. apart (sym e)) low
-        where
-          below : (n m : ℕ) → m ≢ n → m < n + 1 → m < n
-          below n m d l = omega arith
-
-      above : (n m : ℕ) → n + 1 ≤ m → n ≢ m
-      above n m high same = omega arith
-
-      lower : (n m : ℕ) → n + 1 ≤ m → n ≤ m
-      lower n m high = omega arith
+      not_here : (m : ℕ) → then_met m ≡ false → i ≢ m
+      not_here m off is = both_ways (then_met i) (ap then_met is ∙ off) now_met

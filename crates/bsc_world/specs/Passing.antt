@@ -1,6 +1,6 @@
 -- What a forward leaves of a hub, and of the sides that meet it then: words of inner functions.
-use Rattle.std.specs.Prelude.{◌≡◌, ◌≢◌, ◌<◌, ◌≤◌, ℕ, nat_le, true, false, if◌then◌else◌, List, [], ◌∷◌, ◌++◌, length, slice_get, Option, Some, None}
-use Rattle.std.specs.List.{AllByRecursion}
+use Rattle.std.specs.Prelude.{◌≡◌, ◌≢◌, ℕ, nat_le, Bool, true, false, if◌then◌else◌, List, [], ◌∷◌, ◌++◌, length, map, slice_get, take, Option, Some, None}
+use Rattle.std.specs.List.{list_any}
 use Rattle.bsc_octets.specs.declared.vmac.Vmac.{Vmac}
 use Rattle.bsc_history.specs.declared.call.Call.TheVariants.{Forward}
 use Rattle.bsc_history.specs.declared.entry.Entry.{Entry}
@@ -9,17 +9,18 @@ use Rattle.bsc_history.specs.declared.mark.Stamped.{Stamped}
 use Rattle.bsc_history.specs.declared.reply.Reply.{Reply}
 use Rattle.bsc_history.specs.Entries.{moment}
 use Rattle.bsc_history.specs.Laws.{is_among, names}
-use Rattle.bsc_history.specs.Legality.{Lawful}
+use Rattle.bsc_history.specs.Legality.{Lawful, is_of}
 use Rattle.bsc_history.specs.Marks.{entries as entries_of}
 use Rattle.bsc_ring.specs.Ends.{empties_of, found, given, outlet_mark}
 use Rattle.bsc_desk.specs.declared.desk.Desk.{Desk}
 use Rattle.bsc_desk.specs.Entries.{forward_entry, plain}
+use Rattle.bsc_desk.specs.Knowing.{Learns}
 use Rattle.bsc_desk.specs.Meetings.{IsOutletOf}
 use Rattle.bsc_desk.specs.Rows.{HasRow, IsMarkOf, known_of}
 use Rattle.bsc_desk.specs.Standing.{StandsFor as DeskStandsFor}
 use Rattle.bsc_network.specs.declared.target.Target.TheVariants.{Hub as ToHub}
 use Rattle.bsc_world.specs.declared.passing.Passing.{Passing}
-use Rattle.bsc_world.specs.declared.passing.Passing.TheVariants.{Nobody, One, Each}
+use Rattle.bsc_world.specs.declared.passing.Passing.TheVariants.{Nobody, One, Full, Each}
 use Rattle.bsc_world.specs.declared.kept_hub.KeptHub.{KeptHub}
 use Rattle.bsc_world.specs.declared.kept_link.KeptConn.{KeptConn}
 use Rattle.bsc_world.specs.declared.kept_link.KeptLink.{KeptLink}
@@ -34,15 +35,24 @@ use Rattle.bsc_world.specs.Standing.{IsHubAt}
 abbrev pub receivers : Passing → List ℕ
 receivers Nobody = []
 receivers (One conn) = conn ∷ []
-receivers (Each conns) = conns
+receivers (Full conn) = []
+receivers (Each conns looks) = conns
 
--- The entry of a forward of connection c was made; each of its looks found at least what was known before, and it was passed
--- on to those whom its reply names.
+-- The connections at which it was looked, in order.
+abbrev pub looked_at : Passing → List ℕ
+looked_at Nobody = []
+looked_at (One conn) = conn ∷ []
+looked_at (Full conn) = conn ∷ []
+looked_at (Each conns looks) = map (λ k. k.conn) looks
+
+-- The entry of a forward of connection c was made; the hub knows more by its looks alone, and it was passed on to those whom
+-- its reply names.
 pub record HasForwarded (S : List Stamped) (l c : ℕ) (m : List ℕ) (passing : Passing) (old new : KeptHub) : Type 0 where
   pub looks : List Look
   pub reply : Reply
   pub entered : HasEntered S (plain (forward_entry l c m looks reply)) old new
-  pub at_least : AllByRecursion (λ k. known_of old.desk k.conn ≤ k.taken) looks
+  pub learns : Learns old.desk looks new.desk
+  pub told : looked_at passing ≡ map (λ k. k.conn) looks
   pub named : (b : ℕ) → is_among b (receivers passing) ≡ names b reply
 
 -- What a forward leaves of a hub: it was worn and is as it was, or the entry was made.
@@ -110,9 +120,14 @@ pub record SameEnd (j : ℕ) (k after : KeptLink) : Type 0 where
 abbrev pub hub_then : Hub → Entry → ℕ → Hub
 hub_then h e place = record h { posted = h.posted ++ record { entry = e; sent_at = place } ∷ [] }
 
--- Hub j of the world t made the entry e of a forward; the sides of the links before link i have met it, and the others are as
--- they were in t.
-pub record Midway (t u : KeptWorld) (w : World) (j : ℕ) (h : Hub) (a : IsHubAt t w j h) (e : Entry) (place : ℕ) (passing : Passing) (i : ℕ) : Type 0 where
+-- whether link m joined as one of these connections
+abbrev pub is_one : Hub → List ℕ → ℕ → Bool
+is_one h conns m = list_any (λ c. is_of (history h) m c) conns
+
+-- Hub j of the world t made the entry e of a forward; the sides of these links have met it, and the others are as they were in
+-- t. Of a connection at which the forward didn't look, the hub knows what it knew.
+pub record Midway (t u : KeptWorld) (w : World) (j : ℕ) (h : Hub) (a : IsHubAt t w j h) (e : Entry) (place : ℕ) (passing : Passing)
+    (met : ℕ → Bool) : Type 0 where
   pub kept : KeptHub
   pub there : slice_get u.hubs.items j ≡ Some kept
   pub hub : IsHubKept j (hub_then h e place) (a.marks ++ plain e ∷ []) kept
@@ -120,6 +135,7 @@ pub record Midway (t u : KeptWorld) (w : World) (j : ℕ) (h : Hub) (a : IsHubAt
   pub sender : ℕ
   pub message : List ℕ
   pub call : e.call ≡ Forward sender message
+  pub told : looked_at passing ≡ map (λ k. k.conn) e.looks
   pub named : (b : ℕ) → is_among b (receivers passing) ≡ names b e.reply
   pub beside : length t.links.items ≡ length w.links
   pub ends : (m : ℕ) (x : Link) (k : KeptLink) → link_at w m ≡ Some x → slice_get t.links.items m ≡ Some k → k.to ≡ x.to
@@ -131,17 +147,21 @@ pub record Midway (t u : KeptWorld) (w : World) (j : ℕ) (h : Hub) (a : IsHubAt
   pub others : (n : ℕ) → j ≢ n → slice_get u.hubs.items n ≡ slice_get t.hubs.items n
   pub link_count : length u.links.items ≡ length t.links.items
   pub same : (m : ℕ) (k after : KeptLink) → slice_get t.links.items m ≡ Some k → slice_get u.links.items m ≡ Some after → SameEnd j k after
-  pub done : (m : ℕ) (x : Link) (k : KeptLink) → m < i → link_at w m ≡ Some x → x.to ≡ ToHub j → slice_get u.links.items m ≡ Some k
+  pub unmet : (c : ℕ) → is_among c (looked_at passing) ≡ false → known_of kept.desk c ≡ known_of a.kept.desk c
+  pub done : (m : ℕ) (x : Link) (k : KeptLink) → met m ≡ true → link_at w m ≡ Some x → x.to ≡ ToHub j → slice_get u.links.items m ≡ Some k
       → IsSideKeptIf m (hub_then h e place) (a.marks ++ plain e ∷ []) kept.desk x k.side
-  pub rest : (m : ℕ) → i ≤ m → slice_get u.links.items m ≡ slice_get t.links.items m
+  pub rest : (m : ℕ) → met m ≡ false → slice_get u.links.items m ≡ slice_get t.links.items m
 
--- the same, for whatever world it was before the call
+-- the same, for whatever world it was before the call, where the sides of the first i connections have met it
 abbrev pub MidwaySome : KeptWorld → ℕ → ℕ → Passing → ℕ → Type 0
-MidwaySome u j place passing i = (t : KeptWorld) × (w : World) × (h : Hub) × (a : IsHubAt t w j h) × (e : Entry) × Midway t u w j h a e place passing i
+MidwaySome u j place passing i = (t : KeptWorld) × (w : World) × (h : Hub) × (a : IsHubAt t w j h) × (e : Entry)
+    × Midway t u w j h a e place passing (is_one h (take i (looked_at passing)))
 
+-- and from the first i of them to the first k
 abbrev pub MidwayTo : KeptWorld → KeptWorld → ℕ → ℕ → Passing → ℕ → ℕ → Type 0
 MidwayTo old new j place passing i k = (t : KeptWorld) (w : World) (h : Hub) (a : IsHubAt t w j h) (e : Entry)
-    → Midway t old w j h a e place passing i → Midway t new w j h a e place passing k
+    → Midway t old w j h a e place passing (is_one h (take i (looked_at passing)))
+    → Midway t new w j h a e place passing (is_one h (take k (looked_at passing)))
 
 -- The connection that a link has joined as, and the address that it joined with.
 abbrev pub ConnIs : Option (ℕ × Vmac) → KeptLink → Type 0

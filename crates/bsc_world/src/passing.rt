@@ -1,40 +1,45 @@
 //! A message is passed on, and the outlets of its hub meet it.
-ghost use Rattle.std.specs.Prelude.{◌≡◌, ◌<◌, ◌+◌, ℕ, List, Some, None, IfOk, OnOk, IsTrue, length};
+ghost use Rattle.std.specs.Prelude.{◌≡◌, ◌<◌, ◌+◌, ℕ, List, Some, None, IfOk, OnOk, IsTrue, length, map, slice_get};
 ghost use Rattle.bsc_octets.specs.Forwarding.{has_route};
 ghost use Rattle.bsc_history.specs.declared.mark.Stamped.{Stamped};
 ghost use Rattle.bsc_history.specs.Laws.{is_among, names};
 ghost use Rattle.bsc_ring.specs.Ends.{outlet_mark};
-ghost use Rattle.bsc_desk.specs.Entries.{one_reply, all_reply};
+ghost use Rattle.bsc_desk.specs.Entries.{all_looks, all_reply, one_looks, one_reply};
 ghost use Rattle.bsc_desk.specs.Rows.{HasRow, IsMarkOf, IsRowOf};
 ghost use Rattle.bsc_desk.specs.Standing.{StandsFor as DeskStandsFor};
-ghost use Rattle.bsc_world.specs.Passing.{ConnMet, IsForwarded, LinkMet, MayMeet, MidwaySome, MidwayTo, receivers};
+ghost use Rattle.bsc_world.specs.Passing.{ConnMet, IsForwarded, LinkMet, MayMeet, MidwaySome, MidwayTo, looked_at, receivers};
 
 use crate::kept_hub::KeptHub;
 use crate::kept_link::{KeptConn, KeptLink};
 use crate::world::World;
 use bsc_desk::{AllRefusal, AllReply, Desk, OneReply, prepare};
-use bsc_history::Conns;
-use bsc_network::Target;
+use bsc_history::{Conns, Looks};
 use bsc_octets::{NoMemory, Vmac};
 use std::alloc::Global;
 
-/// The connections to which a message was passed on.
+/// The connections to which a message was passed on, and those at whose outboxes it was looked.
 #[derive(Drop)]
 pub(crate) enum Passing {
+    /// No outbox was looked at.
     Nobody,
+    /// That of this connection was, and the message joined it.
     One(u64),
-    Each(Conns),
+    /// That of this connection was, and it was found full.
+    Full(u64),
+    /// Those of the looks were, and the message joined those of the connections.
+    Each(Conns, Looks),
 }
 
 impl Passing {
     /// Those to which a unicast was.
     fn by_one(reply: OneReply) -> Passing
-        ensures { (b : ℕ) → is_among b (receivers result) ≡ names b (one_reply reply) }
+        ensures named { (b : ℕ) → is_among b (receivers result) ≡ names b (one_reply reply) }
+        ensures told { looked_at result ≡ map (λ k. k.conn) (one_looks reply) }
     {
         match reply {
             OneReply::Appended(look) => Passing::One(look.conn),
-            OneReply::Closed(_)
-            | OneReply::Skipped { .. }
+            OneReply::Closed(look) => Passing::Full(look.conn),
+            OneReply::Skipped { .. }
             | OneReply::NoHolder
             | OneReply::NotCurrent { .. }
             | OneReply::Stopped => Passing::Nobody,
@@ -43,22 +48,46 @@ impl Passing {
 
     /// Those to which a broadcast was.
     fn by_all(reply: AllReply) -> Passing
-        ensures { (b : ℕ) → is_among b (receivers result) ≡ names b (all_reply reply) }
+        ensures named { (b : ℕ) → is_among b (receivers result) ≡ names b (all_reply reply) }
+        ensures told { looked_at result ≡ map (λ k. k.conn) (all_looks reply) }
     {
         match reply {
-            AllReply::Sent { to, .. } => Passing::Each(to),
+            AllReply::Sent { to, looks, .. } => Passing::Each(to, looks),
             AllReply::NotCurrent { .. } | AllReply::Stopped => Passing::Nobody,
         }
     }
 
-    /// Whether a connection is one of them.
+    /// How many outboxes were looked at.
+    fn count(&self) -> usize
+        ensures { result ≡ length (looked_at self.now) }
+    {
+        match self {
+            Passing::Nobody => 0,
+            Passing::One(_) | Passing::Full(_) => 1,
+            Passing::Each(_, looks) => looks.len(),
+        }
+    }
+
+    /// The connection whose outbox was looked at as that number, from 0 on.
+    fn looked(&self, at: usize) -> u64
+        requires { at < length (looked_at self.now) }
+        ensures { slice_get (looked_at self.now) at ≡ Some result }
+    {
+        match self {
+            Passing::Nobody => unreachable!(),
+            Passing::One(conn) | Passing::Full(conn) => *conn,
+            Passing::Each(_, looks) => looks.as_slice()[at].conn,
+        }
+    }
+
+    /// Whether the message was passed on to a connection.
     fn has(&self, conn: u64) -> bool
         ensures { result ≡ is_among conn (receivers self.now) }
     {
         match self {
-            Passing::Nobody => false,
+            Passing::Nobody | Passing::Full(_) => false,
             Passing::One(one) => *one == conn,
-            Passing::Each(conns) => conns.as_slice().iter().any(|one| *one == conn),
+            Passing::Each(conns, _) => conns.as_slice().iter().any(|one| *one == conn),
         }
     }
 }
@@ -129,32 +158,27 @@ impl KeptLink {
 }
 
 impl World {
-    /// The same, where the link leads to this hub.
+    /// The side at whose connection a look is meets its hub.
     fn meet_at(
         &mut self,
         hub: u32,
-        link: usize,
+        at: usize,
         passing: &Passing,
         place: u64,
     ) -> Result<(), NoMemory>
         requires hub { hub < length self.old.hubs.items }
-        requires link { link < length self.old.links.items }
-        requires some { MidwaySome self.old hub place passing.now link }
-        ensures { OnOk result (MidwayTo self.old self.new hub place passing.now link (link + 1)) }
+        requires at { at < length (looked_at passing.now) }
+        requires some { MidwaySome self.old hub place passing.now at }
+        ensures { OnOk result (MidwayTo self.old self.new hub place passing.now at (at + 1)) }
     {
-        match self.links[link].to {
-            Target::Hub(at) => if at == hub {
-                let hub_kept = &mut self.hubs[hub as usize];
-                let kept = &mut self.links[link];
-                kept.meet(&mut hub_kept.desk, passing, place)
-            } else {
-                Ok(())
-            },
-            Target::Node(_) => Ok(()),
-        }
+        let conn = passing.looked(at);
+        let hub_kept = &mut self.hubs[hub as usize];
+        let link = hub_kept.desk.caller_of(conn);
+        let kept = &mut self.links[link as usize];
+        kept.meet(&mut hub_kept.desk, passing, place)
     }
 
-    /// All sides that lead to a hub meet it.
+    /// All sides at whose connections a message was looked for meet the hub.
     pub(crate) fn meet_each(
         &mut self,
         hub: u32,
@@ -163,10 +187,10 @@ impl World {
     ) -> Result<(), NoMemory>
         requires hub { hub < length self.old.hubs.items }
         requires some { MidwaySome self.old hub place passing.now 0 }
-        ensures { OnOk result (MidwayTo self.old self.new hub place passing.now 0 (length self.old.links.items)) }
+        ensures { OnOk result (MidwayTo self.old self.new hub place passing.now 0 (length (looked_at passing.now))) }
     {
-        for link in 0..self.links.len() {
-            self.meet_at(hub, link, passing, place)?;
+        for at in 0..passing.count() {
+            self.meet_at(hub, at, passing, place)?;
         }
         Ok(())
     }

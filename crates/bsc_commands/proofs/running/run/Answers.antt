@@ -8,6 +8,7 @@ use Rattle.bsc_words.specs.declared.fault.WordsFault.{WordsFault}
 use Rattle.bsc_words.specs.declared.fault.WordsFault.TheVariants.{Refused}
 use Rattle.bsc_words.specs.Words.{AskedOf, asked_by, audit, check, hub, node, replay, seen, simulate}
 use Rattle.bsc_commands.proofs.Reading.{ran_out, unaudited, unread, workers_fit}
+use Rattle.bsc_commands.proofs.Sending.{writes_what_was_sent}
 use Rattle.bsc_commands.proofs.running.run.Goals as goal
 
 said : (read : Option AskedOf) (answer : Result Asked WordsFault) (a : Asked) → answer ≡ Ok a → IfOk answer (λ x. read ≡ Some (seen x)) → read ≡ Some (seen a)
@@ -55,6 +56,24 @@ returns-in-Err-clause-simulated g c o t named left held =
     (g.K.Sink.held c.args.sink.now) (g.K.Sink.held c.end_unasked.new.sink) none c.end_unasked.ensures.ran_out named in
     unread simulate_of c.end_unasked.result o t (g.S.Source.left c.args.source.now) (g.K.Sink.held c.args.sink.now) (g.K.Sink.held c.end_unasked.new.sink)
     (g.S.Source.faults c.args.source.now) (g.S.Source.faults c.args.source.now) left held out
+
+pub returns-in-Err-clause-delivered : goal.returns-in-Err-clause-delivered
+returns-in-Err-clause-delivered g c o t named left held =
+    let none = λ (e : c.in-Err.fault ≡ Refused). c.read_words.ensures.refused (c.in-Err.is ∙ ap Err e) in
+    let out = ran_out c.in-Err.fault (asked_by (map string_bytes c.args.words.now)) simulate c.end_unasked.result
+    (g.K.Sink.held c.args.sink.now) (g.K.Sink.held c.end_unasked.new.sink) none c.end_unasked.ensures.ran_out named in
+    writes_what_was_sent c.end_unasked.result o t (g.S.Source.left c.args.source.now) (g.K.Sink.held c.end_unasked.new.sink)
+    (g.S.Source.faults c.args.source.now) (g.S.Source.faults c.args.source.now)
+    (unread simulate_of c.end_unasked.result o t (g.S.Source.left c.args.source.now) (g.K.Sink.held c.args.sink.now) (g.K.Sink.held c.end_unasked.new.sink)
+    (g.S.Source.faults c.args.source.now) (g.S.Source.faults c.args.source.now) left held out)
+
+pub returns-in-Ok-clause-delivered : goal.returns-in-Ok-clause-delivered
+returns-in-Ok-clause-delivered g c o t named left held =
+    let read = asked_by (map string_bytes c.args.words.now) in
+    let asked = said read c.read_words.result c.in-Ok.asked c.in-Ok.is c.read_words.ensures.ok in
+    writes_what_was_sent c.run_asked.result o t (g.S.Source.left c.run_asked.new.source) (g.K.Sink.held c.run_asked.new.sink)
+    (g.S.Source.faults c.args.source.now) (g.S.Source.faults c.run_asked.new.source)
+    (c.run_asked.ensures.simulated o t (asks_same read (seen c.in-Ok.asked) simulate asked named) left held)
 
 pub returns-in-Err-clause-checked : goal.returns-in-Err-clause-checked
 returns-in-Err-clause-checked g c o t named left held =
