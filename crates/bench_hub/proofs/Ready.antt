@@ -31,14 +31,11 @@ use Rattle.bsc_desk.specs.Standing.{StandsFor}
 use Rattle.bsc_desk.specs.Entries.{connect_entry, connect_said, connect_adds, connect_stamped, plain, forward_entry, one_adds, one_looks, one_reply, all_adds, all_looks, all_reply}
 use Rattle.bsc_desk.proofs.LiveRows.{any_row}
 use Rattle.bench_hub.specs.Ready.{IsOpen, IsReady}
+use Rattle.bsc_history.proofs.Common.{none_leave as all_stay}
 
 -- what passes for an unleft connection passes for its row
 any_unleft : (d : Desk) (S : List Stamped) (p : Connection → Bool) → StandsFor d S → list_any (λ r. p (connection r)) d.rows.items ≡ list_any p (unleft (entries S))
 any_unleft d S p s = any_row p d.rows.items ∙ ap (list_any p) s.unleft_rows
-
-all_stay : (e : Entry) (xs : List Connection) → ((c : ℕ) → leaves c e ≡ false) → filter (λ x. not (leaves x.number e)) xs ≡ xs
-all_stay e [] stays = refl
-all_stay e (x ∷ xs) stays = rw (stays x.number) (ap (λ (l : List Connection). x ∷ l) (all_stay e xs stays))
 
 -- whose entries are no leaves
 abbrev Stay : List Stamped → Type 0

@@ -3,8 +3,6 @@ use Rattle.std.proofs.Common.{◌≡◌, ℕ, Bool, true, false, cond, List, [],
 use Rattle.std.specs.Option.{option_map}
 use Rattle.bsc_octets.specs.declared.identity.Identity.{Identity}
 use Rattle.bsc_history.specs.declared.ending.End.{End}
-use Rattle.bsc_history.specs.declared.reply.Refusal.{Refusal}
-use Rattle.bsc_history.specs.declared.reply.Refusal.TheVariants.{Stopped as HubStopped, Duplicate, TableFull}
 use Rattle.bsc_frame.specs.declared.body.Body.{Body}
 use Rattle.bsc_frame.specs.declared.body.Body.TheVariants.{HeartbeatRequest, DisconnectRequest}
 use Rattle.bsc_checks.specs.declared.verdict.Verdict.{Verdict}
@@ -12,7 +10,7 @@ use Rattle.bsc_checks.specs.declared.verdict.Verdict.TheVariants.{Pass, Carry as
 use Rattle.bsc_checks.specs.declared.phase.Phase.TheVariants.{Connected as PhaseConnected}
 use Rattle.bsc_accept.specs.declared.start.Start.{Start}
 use Rattle.bsc_accept.specs.declared.event.Event.{Event}
-use Rattle.bsc_accept.specs.declared.event.Event.TheVariants.{Message as Came, Joined, Refused, Ended, Finish, Tick}
+use Rattle.bsc_accept.specs.declared.event.Event.TheVariants.{Message as Came, Joined, Ended, Finish, Tick}
 use Rattle.bsc_accept.specs.declared.closing.Closing.{Closing}
 use Rattle.bsc_accept.specs.declared.reason.Reason.TheVariants.{ConnectWait, Idle as NoMessage}
 use Rattle.bsc_accept.specs.declared.step.Step.{Step}
@@ -23,7 +21,7 @@ use Rattle.bsc_accept.specs.declared.stage.Stage.{Stage}
 use Rattle.bsc_accept.specs.declared.stage.Stage.TheVariants.{AwaitingRequest, Asked, Connected, Disconnecting, Idle}
 use Rattle.bsc_accept.specs.declared.accepting.Accepting.{Accepting}
 use Rattle.bsc_accept.specs.Past.{Standing, awaiting_request, connected, disconnecting, standing, question, asked_at, message_time, last_message}
-use Rattle.bsc_accept.specs.Steps.{step, closes, message_step, ask_step, connected_step, refused_step, ended_step, finish_step, tick_step, asked_id, closing, normal}
+use Rattle.bsc_accept.specs.Steps.{step, closes, message_step, ask_step, connected_step, ended_step, finish_step, tick_step, asked_id, closing, normal}
 use Rattle.bsc_accept.specs.Standing.{StandsFor, open_stage, has_closed, is_open, phase_at, LeftBy}
 use Rattle.bsc_accept.specs.Kept.{standing_at, moved, after, after_message}
 use Rattle.bsc_accept.proofs.Looking.{standing-more, last-more, question-more, closed-more}
@@ -130,21 +128,6 @@ joined_answers m n s E id answer h a is new =
     let k : (standing E ≡ awaiting_request) × (asked_id E ≡ id) = standing_of_asked m s E id h a in (
       is ∙ ap (λ own. Reply (octets_of (connect_accept id own))) (ap (λ x. x.own) h.start) ∙ ap (λ i. Reply (octets_of (connect_accept i s.own))) (sym k.1),
       goes_on m n s E Joined h (ap (λ x. x.start) new) (ap (λ x. x.last) new) (ap (λ x. x.stage) new ∙ ap (λ g. open_stage (moved g Joined) None) (sym k.0)),
-    )
-
-refusing : (id : ℕ) (refusal : Refusal) → closes (refused_step id refusal) ≡ true
-refusing id (Duplicate holder) = refl
-refusing id (TableFull rows) = refl
-refusing id HubStopped = refl
-
-pub refused_answers : (m n : Accepting) (s : Start) (E : List Event) (id : ℕ) (refusal : Refusal) (answer : Step) → StandsFor m s E → m.stage ≡ Asked id
-    → answer ≡ refused_step id refusal → n ≡ record m { stage = Idle }
-    → (answer ≡ step s E (Refused refusal)) × StandsFor n s (E ++ Refused refusal ∷ [])
-refused_answers m n s E id refusal answer h a is new =
-    let k : (standing E ≡ awaiting_request) × (asked_id E ≡ id) = standing_of_asked m s E id h a in (
-      is ∙ ap (λ i. refused_step i refusal) (sym k.1),
-      goes_on m n s E (Refused refusal) h (ap (λ x. x.start) new) (ap (λ x. x.last) new)
-          (ap (λ x. x.stage) new ∙ ap (λ b. cond b Idle (open_stage (moved (standing E) (Refused refusal)) None)) (sym (refusing (asked_id E) refusal))),
     )
 
 -- ---- the end

@@ -1,5 +1,5 @@
 -- What looking back finds in a list of events with one event more.
-use Rattle.std.proofs.Common.{◌≡◌, ℕ, Bool, true, false, cond, List, [], ◌∷◌, ◌++◌, Option, Some, None, unwrap_or, refl, ap, ◌∙◌}
+use Rattle.std.proofs.Common.{◌≡◌, Bool, true, false, cond, List, [], ◌∷◌, ◌++◌, Option, Some, None, unwrap_or, refl, ap, ◌∙◌}
 use Rattle.std.specs.Option.{option_or}
 use Rattle.std.proofs.lemmas.List.{reverse-append, reverse-reverse}
 use Rattle.bsc_accept.specs.declared.event.Event.{Event}
@@ -9,14 +9,7 @@ use Rattle.bsc_accept.specs.Past.{connected, awaiting_request, oldest, newest, i
 use Rattle.bsc_accept.specs.Kept.{moved}
 use Rattle.bsc_accept.specs.Steps.{step, closes}
 use Rattle.bsc_accept.specs.Standing.{has_closed, at_newest}
-
-or_none : {A : Type 0} (o : Option A) → option_or o None ≡ o
-or_none (Some x) = refl
-or_none None = refl
-
-or_assoc : {A : Type 0} (a b c : Option A) → option_or a (option_or b c) ≡ option_or (option_or a b) c
-or_assoc (Some x) b c = refl
-or_assoc None b c = refl
+use Rattle.bsc_lemmas.proofs.Options.{or_assoc, or_else, or_none}
 
 oldest-more : {A : Type 0} (f : Event → Option A) (E : List Event) (e : Event) → oldest f (E ++ e ∷ []) ≡ option_or (oldest f E) (f e)
 oldest-more f [] e = or_none (f e)
@@ -54,10 +47,6 @@ moving (Some later) e = ap until_farewell (oldest-more farewell_at later e) ∙ 
 -- The standing goes on from the one before.
 pub standing-more : (E : List Event) (e : Event) → standing (E ++ e ∷ []) ≡ moved (standing E) e
 standing-more E e = ap standing_by (since_joined-more E e) ∙ moving (since_joined E) e
-
-or_else : (o p : Option ℕ) (n : ℕ) → unwrap_or (option_or o p) n ≡ unwrap_or o (unwrap_or p n)
-or_else (Some x) p n = refl
-or_else None p n = refl
 
 pub last-more : (s : Start) (E : List Event) (e : Event) → last_message s (E ++ e ∷ []) ≡ unwrap_or (message_time e) (last_message s E)
 last-more s E e = ap (λ o. unwrap_or o s.at) (newest-more message_time E e) ∙ or_else (message_time e) (newest message_time E) s.at

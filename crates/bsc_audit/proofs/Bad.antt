@@ -1,6 +1,5 @@
 -- The first line that is bad.
-use Rattle.std.proofs.Common.{◌≡◌, ℕ, ◌+◌, ◌<◌, ◌≤◌, ◌⊎◌, Bool, true, false, ◌||◌, nat_lt, List, [], ◌∷◌, ◌++◌, length, drop, inl, inr, ⊎_elim, refl, ap, sym, ◌∙◌, subst, arith, append-nil, length-append}
-use Rattle.std.proofs.lemmas.Bool.{lt-ltb, or_left, or_right}
+use Rattle.std.proofs.Common.{◌≡◌, ℕ, ◌+◌, ◌<◌, ◌≤◌, ◌⊎◌, true, List, [], ◌∷◌, ◌++◌, length, drop, inl, inr, ⊎_elim, refl, ap, sym, ◌∙◌, subst, arith, append-nil, length-append}
 use Rattle.bsc_text.specs.Lines.{BeginsLine, has_no_lf, line_in, pieces_of}
 use Rattle.bsc_text.proofs.Cutting.{line_in-length, pieces_of-begin}
 use Rattle.bsc_journal.specs.declared.said.Said.{Said}
@@ -9,6 +8,7 @@ use Rattle.bsc_audit.specs.declared.heard.Heard.{Heard}
 use Rattle.bsc_audit.specs.Verdicts.{IsFirstBad}
 use Rattle.bsc_audit.specs.Hearing.{HasHeard, IsBadAnyhow, part}
 use Rattle.bsc_audit.proofs.SoFar.{cut_off, last_is}
+use Rattle.bsc_lemmas.proofs.Booleans.{either, not_both as told}
 
 -- a piece is refused that begins where what was heard ends
 refuses : (o all bad : List ℕ) (rest : List (List ℕ)) (h : Heard) (n : ℕ) (so : HasHeard o h) → n ≡ h.lines →
@@ -35,13 +35,6 @@ bad_piece o h n k so is b refused = λ more.
 pub bad_piece_at : (o rest : List ℕ) (h : Heard) (n : ℕ) → rest ≡ drop h.at o → HasHeard o h → BeginsLine n rest →
     ((s : Said) → IsGood h.at (part o h.at (h.at + n + 1)) s → ⊥) → IsBadAnyhow (h.lines + 1) o
 bad_piece_at o rest h n e so b refused = bad_piece o h n h.lines so refl (subst (λ (x : List ℕ). BeginsLine n x) e b) refused
-
--- two tests, of which one holds
-either : (a b m n : ℕ) → (a < m) ⊎ (b < n) → (nat_lt a m || nat_lt b n) ≡ true
-either a b m n h = ⊎_elim (λ (k : a < m). or_left (nat_lt a m) (nat_lt b n) (lt-ltb a m k)) (λ (k : b < n). or_right (nat_lt a m) (nat_lt b n) (lt-ltb b n k)) h
-
-told : {b : Bool} → b ≡ true → b ≡ false → ⊥
-told h k = cc
 
 -- octets of which none is an LF may be too many for any piece
 too_long : (before : ℕ) (rest more : List ℕ) → has_no_lf rest ≡ true → 0 < length rest → (300001 < length rest) ⊎ (268435456 < before + length rest) →

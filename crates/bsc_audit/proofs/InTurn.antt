@@ -1,6 +1,6 @@
 -- Entries in order, judged one after another.
-use Rattle.std.proofs.Common.{◌≡◌, ℕ, ◌+◌, List, [], ◌∷◌, ◌++◌, length, take, drop, suc, map, refl, ap, sym, ◌∙◌, subst, arith, append_assoc, append-nil, length-append}
-use Rattle.std.proofs.lemmas.List.{length-map, length_push}
+use Rattle.std.proofs.Common.{◌≡◌, ℕ, ◌+◌, List, [], ◌∷◌, ◌++◌, length, take, drop, map, refl, ap, sym, ◌∙◌, subst, arith, append_assoc, append-nil, length-append}
+use Rattle.std.proofs.lemmas.List.{length_push}
 use Rattle.std.proofs.Math.Seq.{take-append-add}
 use Rattle.bsc_history.specs.declared.entry.Entry.{Entry}
 use Rattle.bsc_history.specs.declared.limits.About.{About}
@@ -100,18 +100,3 @@ pub all_judged : (about : About) (o : List ℕ) (l : Legality) (place : ℕ) (H 
 all_judged about o l place H j =
     let whole : H ≡ j.done = j.parts ∙ ap (λ (F : List Entry). j.done ++ F) (ended o place j.others j.lines) ∙ append-nil j.done in
     record { count = j.count ∙ ap length (sym whole); legal = subst (λ (F : List Entry). Legal about F) (sym whole) j.stands.legal }
-
--- how many entries there are
-length_lines : (n : ℕ) (H : List Entry) → length (lines_from n H) ≡ length H
-length_lines n [] = refl
-length_lines n (e ∷ H) = ap suc (length_lines (n + 1) H)
-
-pub judged_few : (about : About) (o : List ℕ) (left : List Spot) (l : Legality) (place : ℕ) (H : List Entry) → Judged about o left l place H → place + length left ≡ length H
-judged_few about o left l place H j =
-    let here = length-map left (line_at o) in
-    let lines = ap length j.lines in
-    let there = length_lines place j.others in
-    let parts = ap length j.parts in
-    let sum = length-append j.done j.others in
-    let count = j.count in
-    omega (arith, here, lines, there, parts, sum, count)

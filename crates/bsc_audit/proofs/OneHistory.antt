@@ -13,6 +13,7 @@ use Rattle.bsc_journal.specs.Saying.{Says}
 use Rattle.bsc_journal.specs.Journals.{HaveLines, Tells, lines_from, lines_of}
 use Rattle.bsc_journal.proofs.SaidOnce.{says_one}
 use Rattle.bsc_audit.proofs.SortedOut.{is_kept}
+use Rattle.bsc_journal.proofs.Common.{length_lines}
 
 -- The entry e stands at place k of H.
 pub record StandsAt (H : List Entry) (k : ℕ) (e : Entry) : Type 0 where
@@ -62,10 +63,6 @@ same_from about H n front (e ∷ G) (f ∷ F) parts at long have all =
     let first : e ≡ f = ap (head_or e) (sym same) in
     let more = same_from about H (n + 1) (front ++ f ∷ []) G F (parts ∙ sym (append_assoc front (f ∷ []) F)) (let m = length_push front f in omega (arith, m, at)) (let l : suc (length G) ≡ suc (length F) = long in omega (arith, l)) have.1 all.1 in
     λ i. first i ∷ more i
-
-length_lines : (n : ℕ) (H : List Entry) → length (lines_from n H) ≡ length H
-length_lines n [] = refl
-length_lines n (e ∷ H) = ap suc (length_lines (n + 1) H)
 
 -- as many lines as entries, and the hub line
 pub same_length : (o : List ℕ) (a b : About) (G H : List Entry) → Tells o a G → Tells o b H → length G ≡ length H

@@ -1,6 +1,5 @@
 -- Reading that ends before the octets of a source do, and that which doesn't.
-use Rattle.std.proofs.Common.{◌≡◌, ◌<◌, ◌≤◌, ℕ, List, [], ◌++◌, Option, Some, None, Result, Ok, Err, IfOk, IfErr, inl, inr, ⊎_elim, ◌⊎◌, refl, ap, sym, ◌∙◌, subst, arith, append_assoc, append-nil}
-use Rattle.bsc_outside.specs.Faults.{HasRisen}
+use Rattle.std.proofs.Common.{◌≡◌, ℕ, List, [], ◌++◌, Option, Some, None, Result, Ok, Err, IfOk, IfErr, inl, inr, ⊎_elim, ◌⊎◌, refl, ap, sym, ◌∙◌, subst, append_assoc, append-nil}
 use Rattle.std.specs.Io.KnownBytes.{Consumes, IsAtEnd}
 use Rattle.bsc_audit.specs.declared.audit_end.AuditEnd.{AuditEnd}
 use Rattle.bsc_audit.specs.declared.audit_end.AuditEnd.TheVariants.{Legal as IsLegal, BadLine, Hubs, Twice, Missing, Illegal, ReadFault, NoMemory}
@@ -69,12 +68,6 @@ stops_at_end (Missing place) a b o read bad h end e = absurd bad
 stops_at_end (Illegal place) a b o read bad h end e = absurd bad
 stops_at_end ReadFault a b o read bad h end e = absurd bad
 
-pub no_fault_within : (r : AuditEnd) (read : List ℕ) → StopsWithin read r → r ≡ ReadFault → ⊥
-no_fault_within r read bad e = subst (λ (x : AuditEnd). StopsWithin read x) e bad
-
-pub no_fault_at_end : (r : AuditEnd) (read : List ℕ) → StopsAtEnd read r → r ≡ ReadFault → ⊥
-no_fault_at_end r read bad e = subst (λ (x : AuditEnd). StopsAtEnd read x) e bad
-
 -- a fault or want of memory says nothing
 pub says_nothing : (r : AuditEnd) (o : List ℕ) (left : Option (List ℕ)) → (r ≡ ReadFault) ⊎ (r ≡ NoMemory) → AnswersOf r o left
 says_nothing r o left h = ⊎_elim
@@ -107,7 +100,3 @@ if_ok (Err e) P Q h f = tt
 pub if_err : {A E : Type 0} (r : Result A E) (P Q : E → Type 0) → IfErr r P → ((e : E) → P e → Q e) → IfErr r Q
 if_err (Ok x) P Q h f = tt
 if_err (Err e) P Q h f = f e h
-
--- a count that rose has risen since earlier
-pub risen_since : (a b c : ℕ) → a ≤ b → HasRisen b c → HasRisen a c
-risen_since a b c later h = ⊎_elim (λ (k : b < c). inl (omega (arith, later, k))) (λ (k : 18446744073709551615 ≤ c). inr k) h

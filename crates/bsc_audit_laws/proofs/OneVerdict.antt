@@ -1,5 +1,5 @@
 -- Octets have one verdict.
-use Rattle.std.proofs.Common.{◌≡◌, ℕ, ◌+◌, ◌<◌, ◌≤◌, ◌⊎◌, Bool, true, false, nat_eq, List, [], ◌∷◌, ◌++◌, length, take, drop, inl, inr, ⊎_elim, refl, ap, sym, ◌∙◌, subst, arith}
+use Rattle.std.proofs.Common.{◌≡◌, ℕ, ◌+◌, ◌<◌, ◌≤◌, ◌⊎◌, false, nat_eq, List, [], ◌∷◌, ◌++◌, length, take, drop, inl, inr, ⊎_elim, refl, ap, sym, ◌∙◌, subst, arith}
 use Rattle.std.specs.List.{AllByRecursion, IsDistinct, count_by}
 use Rattle.std.proofs.lemmas.Bool.{cases_eq, cases_order, eqb-false}
 use Rattle.std.proofs.lemmas.List.{take-append-drop, take-take}
@@ -24,6 +24,7 @@ use Rattle.bsc_audit.proofs.OneHistory.{one_history, same_length}
 use Rattle.bsc_audit.proofs.SayAgain.{say_at, telling_says}
 use Rattle.bsc_audit.proofs.Snoc.{flat}
 use Rattle.bsc_audit_laws.specs.Laws.{SaysNothing}
+use Rattle.bsc_lemmas.proofs.Booleans.{not_both as told}
 
 -- what two verdicts come to
 abbrev pub AreOne : AuditEnd → AuditEnd → Type 0
@@ -76,9 +77,6 @@ one_bad o n k b c = same_if n k (not_before o n k b c) (not_before o k n c b)
 
 least_twice : (xs : List ℕ) (p q : ℕ) → IsLeastTwice p xs → IsLeastTwice q xs → p < q → ⊥
 least_twice xs p q t u less = let twice = t.twice in let once = u.least p less in omega (arith, twice, once)
-
-told : {b : Bool} → b ≡ true → b ≡ false → ⊥
-told h k = cc
 
 least_missing : (xs : List ℕ) (p q : ℕ) → IsLeastMissing p xs → IsLeastMissing q xs → p < q → ⊥
 least_missing xs p q m n less = told (n.least p less) m.missing

@@ -106,9 +106,6 @@ next_of (x ∷ xs) rest octets marker fits is found =
     let both : marker ∷ octets ≡ marker_of (has_items xs) x ∷ (data_octets x.content ++ spelling_of xs) = sym found ∙ is in
     record { item = x; others = xs; is = refl; fits = fits.0; fit = fits.1; marker_is = cc; data_is = cc }
 
-pub refused_start : (list : List ℕ) → RefusedLeft list list
-refused_start list items fits is = (items, fits, is, refl)
-
 pub refused_on : (list rest octets next : List ℕ) (marker : ℕ) → RefusedLeft list rest → rest ≡ marker ∷ octets → refused_by marker ≡ false
     → ((item : OptionItem) (follows : Bool) (l : List ℕ) → Fits item → marker ≡ marker_of follows item → octets ≡ data_octets item.content ++ l → next ≡ l)
     → RefusedLeft list next

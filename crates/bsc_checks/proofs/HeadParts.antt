@@ -1,7 +1,6 @@
 -- What the envelope that octets begin with says of them, and the checks of the head.
-use Rattle.std.proofs.Common.{◌≡◌, ℕ, ◌<◌, ◌≤◌, ◌^◌, Bool, true, false, cond, ltb, List, [], ◌∷◌, length, get_or, drop, Option, Some, None, Result, Ok, Err, refl, sym, subst, arith}
+use Rattle.std.proofs.Common.{◌≡◌, ℕ, ◌<◌, ◌≤◌, ◌^◌, Bool, true, false, cond, ltb, List, [], ◌∷◌, length, get_or, Option, Some, None, Result, Ok, Err, refl, sym, subst, arith}
 use Rattle.byteorder.specs.Endian.{big_number}
-use Rattle.byteorder.specs.Numbers.{big_from-take}
 use Rattle.bsc_octets.specs.declared.vmac.Vmac.{Vmac}
 use Rattle.bsc_octets.specs.declared.envelope.Envelope.{Envelope}
 use Rattle.bsc_octets.specs.declared.envelope.EnvelopeFault.{EnvelopeFault}
@@ -17,6 +16,7 @@ use Rattle.bsc_checks.specs.Places.{origin_in, dest_in, HasWrongAddresses}
 use Rattle.bsc_checks.specs.Table.{Fails}
 use Rattle.bsc_checks.specs.Walk.{IsHead, HeadAnswers, PlacedAnswers}
 use Rattle.bsc_checks.proofs.Firsts.{first_here, first_after}
+use Rattle.bsc_octets.proofs.Common.{same_id}
 
 -- ---- the parts of the envelope
 
@@ -24,9 +24,6 @@ record Parts (m : List ℕ) (e : Envelope) : Type 0 where
   id : e.id ≡ big_number 2 (id_in m)
   origin : e.origin ≡ origin_in m
   dest : e.dest ≡ dest_in m
-
-same_id : (m : List ℕ) → big_number 2 (drop 2 m) ≡ big_number 2 (id_in m)
-same_id m = sym (big_from-take 0 2 2 (drop 2 m) (omega arith))
 
 -- by what the flags announce, and what there is room for
 by_flags : (m : List ℕ) (e : Envelope) (s o d t u : Bool) → announces_origin (get_or m 1 0) ≡ o → announces_dest (get_or m 1 0) ≡ d

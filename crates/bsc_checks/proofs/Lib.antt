@@ -9,3 +9,4 @@ pub mod Unique
 pub mod InPlace
 pub mod Verdicts
 pub mod WorkedRows
+pub mod Common

@@ -1,5 +1,5 @@
 -- The two lists of header options of a message, and the checks of them.
-use Rattle.std.proofs.Common.{◌≡◌, ℕ, ◌+◌, ◌-◌, ◌≤◌, inl, inr, Bool, true, false, List, [], ◌∷◌, ◌++◌, length, take, drop, Option, Some, None, Ok, Err, refl, sym, ap, subst, ◌∙◌, arith}
+use Rattle.std.proofs.Common.{◌≡◌, ℕ, ◌-◌, inl, inr, Bool, true, false, List, [], ◌∷◌, ◌++◌, length, take, drop, Option, Some, None, Ok, Err, refl, sym, ap, subst, ◌∙◌, arith}
 use Rattle.std.specs.Prelude.{IsTrue, IfSome, IfNone}
 use Rattle.std.specs.List.{AllByRecursion}
 use Rattle.std.proofs.lemmas.List.{take_at}
@@ -11,7 +11,6 @@ use Rattle.bsc_frame.specs.declared.check.Check.{Check}
 use Rattle.bsc_frame.specs.declared.check.Check.TheVariants.{C7, C7b, C8, C9}
 use Rattle.bsc_frame.specs.Layout.{announces_dest_options, announces_data_options, options_at, IsList}
 use Rattle.bsc_options.specs.Reading.{IsCut}
-use Rattle.bsc_options.proofs.Exact.{cut_or_whole, options_or_fault}
 use Rattle.bsc_frame.specs.Checks.{HasItemAtFault, HasBadOption, LacksOptionOctets, HasMisplacedDataOptions}
 use Rattle.bsc_frame.specs.Walk.{FaultAnswers}
 use Rattle.bsc_frame.proofs.OptionLists.{list_one, list_spelled}
@@ -22,16 +21,9 @@ use Rattle.bsc_checks.specs.Table.{Fails, IsFirstNotUnderstood, HasOptionNotUnde
 use Rattle.bsc_checks.specs.Walk.{IsHead, HasEnds, OptionsAnswer, marker_refused}
 use Rattle.bsc_checks.proofs.Firsts.{first_here, first_after}
 use Rattle.bsc_checks.proofs.Behind.{refused_at, refused_none}
+use Rattle.bsc_frame.proofs.Common.{list_fits, list_place, list_without_fault as sound, not_cut}
 
 -- ---- one list
-
-list_fits : (b : Bool) (m : List ℕ) (at : ℕ) (items : List OptionItem) (end : ℕ) → IsList b m at items end → AllByRecursion Fits items
-list_fits true m at items end list = list.0.fit
-list_fits false m at items end list = rw list.0 tt
-
-list_place : (b : Bool) (m : List ℕ) (at : ℕ) (items : List OptionItem) (end : ℕ) → IsList b m at items end → end ≡ at + length (spelling_of items)
-list_place true m at items end list = list.1.place
-list_place false m at items end list = rw (list.0, list.1) (omega arith)
 
 -- the octets of the list alone
 list_taken : (b : Bool) (m : List ℕ) (at : ℕ) (items : List OptionItem) (end : ℕ) → IsList b m at items end → take (end - at) (drop at m) ≡ spelling_of items
@@ -41,14 +33,6 @@ list_taken b m at items end list =
     ap (take (end - at)) (list_spelled b m at items end list) ∙ take_at (spelling_of items) (drop end m) (end - at) long
 
 -- ---- the lists of a message
-
-not_cut : (b : Bool) (m : List ℕ) (at : ℕ) (items : List OptionItem) (end : ℕ) → IsList b m at items end → b ≡ true → IsCut m at → ⊥
-not_cut true m at items end list set cut = cut_or_whole m at items end list.0 list.1 cut
-not_cut false m at items end list set cut = absurd cc
-
-sound : (b : Bool) (m : List ℕ) (at : ℕ) (items : List OptionItem) (end : ℕ) → IsList b m at items end → AllByRecursion HasShape items → b ≡ true → HasItemAtFault m at → ⊥
-sound true m at items end list shapes set fault = options_or_fault m at items end fault.0 (record { some = list.0.some; shapes = shapes }) list.1 fault.1
-sound false m at items end list shapes set fault = absurd cc
 
 -- the data options stand where they do
 one_place : (m : List ℕ) (ends : Ends) (xs ys items : List OptionItem) (at : ℕ) → HasEnds m ends xs ys → IsList (announces_dest_options (flags_in m)) m (options_at m) items at → at ≡ ends.dest
@@ -63,12 +47,6 @@ no_bad_option : (m : List ℕ) (ends : Ends) (xs ys : List OptionItem) → HasEn
 no_bad_option m ends xs ys has shapes others (inl bad) = sound (announces_dest_options (flags_in m)) m (options_at m) xs ends.dest has.first shapes bad.0 bad.1
 no_bad_option m ends xs ys has shapes others (inr bad) =
     sound (announces_data_options (flags_in m)) m ends.dest ys ends.data has.second others bad.0 (subst (HasItemAtFault m) (one_place m ends xs ys bad.1.1.0 bad.1.0 has bad.1.1.1) bad.1.2)
-
-pub ends_order : (m : List ℕ) (e : Envelope) (ends : Ends) (xs ys : List OptionItem) → IsHead m e → HasEnds m ends xs ys → e.rest_at ≤ ends.dest
-ends_order m e ends xs ys head has =
-    let place = list_place (announces_dest_options (flags_in m)) m (options_at m) xs ends.dest has.first in
-    let rest = head.rest in
-    omega arith
 
 -- the first list, by the flags of the envelope
 pub first_whole : (m : List ℕ) (e : Envelope) (ends : Ends) (xs ys : List OptionItem) (b : Bool) → IsHead m e → HasEnds m ends xs ys → b ≡ announces_dest_options e.flags → IsList b m e.rest_at xs ends.dest
@@ -94,11 +72,6 @@ bad_by m e ends xs ys b c false head has is also none found = (
 pub bad_in : (m : List ℕ) (e : Envelope) (ends : Ends) (xs ys : List OptionItem) (b c r s : Bool) → IsHead m e → HasEnds m ends xs ys → b ≡ announces_dest_options e.flags → c ≡ announces_data_options e.flags
     → r ≡ false → FaultAnswers b m e.rest_at r → FaultAnswers c m ends.dest s → (IsTrue s → HasBadOption m) × (HasBadOption m → IsTrue s)
 bad_in m e ends xs ys b c r s head has is also clear none found = bad_by m e ends xs ys b c s head has is also (subst (FaultAnswers b m e.rest_at) clear none) found
-
-pub bad_first : (m : List ℕ) (e : Envelope) (b r : Bool) → IsHead m e → b ≡ announces_dest_options e.flags → r ≡ true → FaultAnswers b m e.rest_at r → HasBadOption m
-bad_first m e b r head is set found =
-    let here : FaultAnswers b m e.rest_at true = subst (FaultAnswers b m e.rest_at) set found in
-    inl (ap announces_dest_options head.flags ∙ sym is ∙ here.0, subst (HasItemAtFault m) (sym head.rest) here.1)
 
 -- ---- an option that is not understood
 

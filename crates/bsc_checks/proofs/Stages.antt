@@ -1,5 +1,5 @@
 -- The checks behind the head, stage by stage.
-use Rattle.std.proofs.Common.{◌≡◌, ℕ, ◌<◌, ◌≤◌, Bool, true, false, List, [], ◌∷◌, ◌++◌, drop, Option, Some, None, Ok, Err, refl, sym, subst, ◌∙◌, arith}
+use Rattle.std.proofs.Common.{◌≡◌, ℕ, ◌<◌, ◌≤◌, Bool, false, List, [], ◌∷◌, ◌++◌, drop, Option, Some, None, Ok, Err, refl, sym, subst, ◌∙◌, arith}
 use Rattle.std.specs.List.{AllByRecursion}
 use Rattle.bsc_octets.specs.declared.envelope.Envelope.{Envelope}
 use Rattle.bsc_octets.specs.declared.vmac.Vmac.{Vmac}
@@ -8,7 +8,7 @@ use Rattle.bsc_options.specs.declared.item.OptionItem.{OptionItem}
 use Rattle.bsc_frame.specs.declared.check.Check.{Check}
 use Rattle.bsc_frame.specs.declared.check.Check.TheVariants.{C5, C6, C9, C10, C10b, C10c, C11, C12, C13}
 use Rattle.bsc_frame.specs.Layout.{IsPayload}
-use Rattle.bsc_frame.specs.Checks.{IsFirstOf, OfPayload}
+use Rattle.bsc_frame.specs.Checks.{IsFirstOf}
 use Rattle.bsc_frame.specs.Walk.{PayloadFails, payload_checks}
 use Rattle.bsc_frame.proofs.First.{Pass, pass_append, first_later, first_earlier, first_as}
 use Rattle.bsc_frame.proofs.Whole.{one_payload}
@@ -21,6 +21,7 @@ use Rattle.bsc_checks.specs.Naks.{IsMarker}
 use Rattle.bsc_checks.specs.Walk.{IsHead, HasEnds, NoneOf, Answers, OptionsAnswer, PayloadAnswers, between, from_flags, option_checks}
 use Rattle.bsc_checks.proofs.Firsts.{first_here, first_after}
 use Rattle.bsc_checks.proofs.Lists.{plain}
+use Rattle.bsc_frame.proofs.Common.{of_payload}
 
 -- ---- the payload of a message
 
@@ -33,9 +34,6 @@ payload_to m place max f p here is C10b fault = (p, here, subst (λ (g : ℕ). P
 payload_to m place max f p here is C10c fault = (p, here, subst (λ (g : ℕ). PayloadFails g p C10c) (sym is) fault)
 payload_to m place max f p here is C11 fault = (p, here, subst (λ (g : ℕ). PayloadFails g p C11) (sym is) fault)
 payload_to m place max f p here is k fault = absurd fault
-
-of_payload : (m : List ℕ) (f : ℕ) (p : List ℕ) (k : Check) → function_in m ≡ f → ((q : List ℕ) → IsPayload m q → q ≡ p) → OfPayload m (λ g q. PayloadFails g q k) → PayloadFails f p k
-of_payload m f p k is one found = subst (λ (g : ℕ). PayloadFails g p k) is (subst (λ (q : List ℕ). PayloadFails (function_in m) q k) (one found.0 found.1) found.2)
 
 payload_from : (m : List ℕ) (place : Place) (max f : ℕ) (p : List ℕ) → function_in m ≡ f → ((q : List ℕ) → IsPayload m q → q ≡ p) → AllByRecursion (λ k. Fails m place max k → PayloadFails f p k) payload_checks
 payload_from m place max f p is one = (of_payload m f p C10 is one, (of_payload m f p C10b is one, (of_payload m f p C10c is one, (of_payload m f p C11 is one, tt))))
@@ -53,9 +51,6 @@ plain_marker m f p k fault = refl
 -- the checks behind those of the options
 abbrev last_checks : List Check
 last_checks = payload_checks ++ C12 ∷ []
-
-pub carried_none : (m : List ℕ) (place : Place) (max : ℕ) (b : Bool) → b ≡ true → Answers (between b) m place max None
-carried_none m place max b set = rw set tt
 
 between_first : (m : List ℕ) (place : Place) (max : ℕ) (b : Bool) (r : Refusal) → b ≡ false → IsFirstOf later_checks (Fails m place max) r.check → IsMarker m r.check r.marker → Answers (between b) m place max (Some r)
 between_first m place max b r clear first marker = rw clear (first, marker)

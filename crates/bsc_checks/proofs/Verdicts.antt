@@ -1,14 +1,11 @@
 -- What a verdict says of the place and of the message.
-use Rattle.std.proofs.Common.{◌≡◌, ℕ, Bool, true, false, List, ◌++◌, Option, Some, None, Result, Err, refl, sym, ap, subst, ◌∙◌}
+use Rattle.std.proofs.Common.{◌≡◌, ℕ, Bool, true, false, List, ◌++◌, Option, Some, None, Result, Err, sym, subst, ◌∙◌}
 use Rattle.std.specs.List.{AllByRecursion}
 use Rattle.bsc_octets.specs.declared.envelope.Envelope.{Envelope}
-use Rattle.bsc_octets.specs.declared.vmac.Vmac.{Vmac}
-use Rattle.bsc_octets.specs.Forwarding.{function_in, id_in}
-use Rattle.byteorder.specs.Endian.{big_number}
+use Rattle.bsc_octets.specs.Forwarding.{function_in}
 use Rattle.bsc_frame.specs.declared.check.Check.{Check}
 use Rattle.bsc_frame.specs.declared.message.Message.{Message}
 use Rattle.bsc_frame.specs.declared.fault.FrameFault.{FrameFault}
-use Rattle.bsc_frame.specs.Payloads.{function_of}
 use Rattle.bsc_frame.specs.Spelling.{Spells}
 use Rattle.bsc_frame.specs.Checks.{order}
 use Rattle.bsc_frame.specs.Checks.{Fails as FrameFails}
@@ -19,15 +16,10 @@ use Rattle.bsc_checks.specs.declared.place.Place.{Place}
 use Rattle.bsc_checks.specs.declared.refusal.Refusal.{Refusal}
 use Rattle.bsc_checks.specs.declared.verdict.Verdict.TheVariants.{Pass, Carry, Silent}
 use Rattle.bsc_checks.specs.declared.phase.Phase.TheVariants.{Connected}
-use Rattle.bsc_checks.specs.declared.place.Place.TheVariants.{HubPort, NodeHub, NodeDirect}
-use Rattle.bsc_checks.specs.Places.{origin_in, is_to_carry, phase_of, IsInPlace, IsInPlaceIn, IsUnicast}
-use Rattle.bsc_checks.specs.Table.{Fails, code_of, IsFirst, NoneFails}
-use Rattle.bsc_checks.specs.Naks.{IsAnswered, IsNak, IsMarker, IsResponse, nak, nak_to, return_address}
+use Rattle.bsc_checks.specs.Places.{origin_in, is_to_carry, phase_of, IsInPlace}
+use Rattle.bsc_checks.specs.Table.{Fails, IsFirst, NoneFails}
 use Rattle.bsc_checks.specs.Verdicts.{Judged}
-use Rattle.bsc_octets.proofs.Spelling.{only}
-use Rattle.bsc_frame.proofs.Whole.{head_of, has_head}
-use Rattle.bsc_checks.proofs.HeadParts.{is_head}
-use Rattle.bsc_checks.proofs.InPlace.{is_in_place_or_not, connected_or_not}
+use Rattle.bsc_checks.proofs.InPlace.{connected_or_not}
 use Rattle.bsc_checks.specs.Walk.{IsHead, NoneOf, Answers, HeadAnswers, from_flags, silent_checks}
 
 -- ---- from the stages to the whole
@@ -67,35 +59,6 @@ memory_of m r faults.NoMemory memory fails is pass = memory is
 
 -- ---- the NAK
 
-pub nak_judged : (m : List ℕ) (e : Envelope) (place : Place) (max : ℕ) (r : Refusal) (code : ℕ) (dest : Option Vmac) (o : List ℕ) → IsHead m e → IsMarker m r.check r.marker → code_of r.check ≡ Some code → IsUnicast e.dest → (IsResponse e.function → ⊥)
-    → dest ≡ return_address place e.origin → Spells (nak e.id dest e.function r.marker code) o → IsNak m place r.check o
-nak_judged m e place max r code dest o head marker coded unicast request to spells =
-    let function : e.function ≡ function_in m = sym head.function in
-    let back : dest ≡ return_address place (origin_in m) = to ∙ ap (return_address place) head.origin in
-    let same : nak e.id dest e.function r.marker code ≡ nak_to m place r.marker code =
-    ap (λ (i : ℕ). nak i dest e.function r.marker code) head.id ∙ ap (λ (d : Option Vmac). nak (big_number 2 (id_in m)) d e.function r.marker code) back
-    ∙ ap (λ (f : ℕ). nak (big_number 2 (id_in m)) (return_address place (origin_in m)) f r.marker code) function in
-    record {
-      code = code;
-      marker = r.marker;
-      answered = record {
-        code_is = coded;
-        unicast = subst (λ (d : Option Vmac). IsUnicast d) head.dest unicast;
-        request = (λ response. request (subst IsResponse head.function response));
-      };
-      marker_is = marker;
-      octets = subst (λ (msg : Message). Spells msg o) same spells;
-    }
-
-pub no_code : (m : List ℕ) (k : Check) → code_of k ≡ None → (code : ℕ) → IsAnswered m k code → ⊥
-no_code m k none code answered = let both : ◌≡◌ {A = Option ℕ} None (Some code) = sym none ∙ answered.code_is in absurd cc
-
-pub no_unicast : (m : List ℕ) (e : Envelope) (k : Check) → IsHead m e → (IsUnicast e.dest → ⊥) → (code : ℕ) → IsAnswered m k code → ⊥
-no_unicast m e k head broadcast code answered = broadcast (subst (λ (d : Option Vmac). IsUnicast d) (sym head.dest) answered.unicast)
-
-pub no_request : (m : List ℕ) (e : Envelope) (k : Check) → IsHead m e → IsResponse e.function → (code : ℕ) → IsAnswered m k code → ⊥
-no_request m e k head response code answered = answered.request (subst IsResponse (sym head.function) response)
-
 -- ---- what a machine that is handed a verdict knows
 
 -- the last check holds
@@ -107,25 +70,6 @@ last_holds m place max false is none out =
     let all = subst (λ (b : Bool). NoneOf (silent_checks ++ from_flags b) m place max) is none in
     all.1.1.1.1.1.1.1.1.1.1.1.1.1.1.1.0 (λ inside. out (subst (λ (b : Bool). IsInPlace b place (function_in m) (origin_in m)) is inside))
 
--- the head of a message that is spelled
-spelled_head : (msg : Message) (m : List ℕ) → Spells msg m → IsHead m (head_of msg)
-spelled_head msg m spells =
-    let head = has_head msg m spells in
-    is_head m (head_of msg) head.spells head.whole head.id (only (head_of msg) m head.whole head.id head.spells)
-
--- a message that passes is in place: its function is one that its phase and place take
-pub passed_in_place : (m : List ℕ) (place : Place) (max : ℕ) (msg : Message) → Judged m place max (Pass msg) → IsInPlaceIn (phase_of place) place (function_of msg.body) msg.origin
-passed_in_place m place max msg judged =
-    let head = spelled_head msg m judged.2 in
-    let inside = is_in_place_or_not place (function_in m) (origin_in m) (λ out. last_holds m place max false judged.1 judged.0 out) in
-    subst (λ (v : Option Vmac). IsInPlaceIn (phase_of place) place (function_of msg.body) v) (sym head.origin) (subst (λ (f : ℕ). IsInPlaceIn (phase_of place) place f (origin_in m)) head.function inside)
-
 -- a message is carried on only where the connection is made
 pub carried_connected : (m : List ℕ) (place : Place) (max : ℕ) (e : Envelope) → Judged m place max (Carry e) → phase_of place ≡ Connected
 carried_connected m place max e judged = connected_or_not (phase_of place) (λ out. last_holds m place max true judged.1 judged.0 out)
-
--- and only at a hub port
-pub carried_at_hub : (m : List ℕ) (place : Place) (max : ℕ) (e : Envelope) → Judged m place max (Carry e) → place ≡ HubPort (phase_of place)
-carried_at_hub m (HubPort phase) max e judged = refl
-carried_at_hub m (NodeHub own phase) max e judged = (let no = judged.1 in absurd cc)
-carried_at_hub m (NodeDirect own peer phase) max e judged = (let no = judged.1 in absurd cc)

@@ -17,6 +17,7 @@ use Rattle.bsc_connector.specs.Steps.{has_come, is_idle, dials_primary, dials_fa
 use Rattle.bsc_connector.specs.Standing.{StandsFor}
 use Rattle.bsc_connector.specs.Kept.{says_due, says_tried}
 use Rattle.bsc_connector.proofs.SideLemmas.{due-cleared, due-failed, due-same, due-ticked, due-started, tried-failover, starts, unless_come}
+use Rattle.bsc_lemmas.proofs.Booleans.{and_left as and_first, and_right as and_last, or_left, or_right}
 
 -- ---- due times
 
@@ -91,14 +92,6 @@ primary_apart w E F d e range first later start second =
 
 -- ---- the failover
 
-and_first : (a b : Bool) → (a && b) ≡ true → a ≡ true
-and_first true b h = refl
-and_first false b h = h
-
-and_last : (a b : Bool) → (a && b) ≡ true → b ≡ true
-and_last true b h = h
-and_last false b h = cc
-
 or_false : (b : Bool) → (b || false) ≡ true → b ≡ true
 or_false true h = refl
 or_false false h = h
@@ -140,14 +133,6 @@ twice_or b h = rw h refl
 tried_more : (w : Waits) (E : List HubEvent) (e : HubEvent) → connects Primary e.event ≡ false → is_tried w Failover E ≡ true → is_tried w Failover (E ++ e ∷ []) ≡ true
 tried_more w E e quiet h =
     tried-failover w E e (twice_or (connects Primary e.event) quiet) ∙ tried_still w.failover (list_any (λ x. fails Primary x.event) (trouble Primary E)) (fails Primary e.event) h
-
-or_left : (a b : Bool) → (a || b) ≡ false → a ≡ false
-or_left true b h = h
-or_left false b h = refl
-
-or_right : (a b : Bool) → (a || b) ≡ false → b ≡ false
-or_right true b h = cc
-or_right false b h = h
 
 tried_later : (w : Waits) (E F : List HubEvent) → list_any (λ x. connects Primary x.event) F ≡ false → is_tried w Failover E ≡ true → is_tried w Failover (E ++ F) ≡ true
 tried_later w E [] quiet h = ap (λ xs. is_tried w Failover xs) (append-nil E) ∙ h

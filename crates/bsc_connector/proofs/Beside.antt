@@ -1,5 +1,5 @@
 -- The primary hub stays connected until it is lost.
-use Rattle.std.proofs.Common.{◌≡◌, ℕ, Bool, true, false, ◌||◌, List, [], ◌∷◌, ◌++◌, refl, sym, ap, ◌∙◌, append_assoc, append-nil}
+use Rattle.std.proofs.Common.{◌≡◌, ℕ, true, false, List, [], ◌∷◌, ◌++◌, refl, sym, ap, ◌∙◌, append_assoc, append-nil}
 use Rattle.std.specs.List.{list_any}
 use Rattle.bsc_connector.specs.declared.side.Side.TheVariants.{Primary, Failover}
 use Rattle.bsc_connector.specs.declared.event.ConnectorEvent.{ConnectorEvent}
@@ -7,6 +7,7 @@ use Rattle.bsc_connector.specs.declared.event.ConnectorEvent.TheVariants.{Start,
 use Rattle.bsc_connector.specs.declared.event.HubEvent.{HubEvent}
 use Rattle.bsc_connector.specs.Sides.{fails, is_up}
 use Rattle.bsc_connector.proofs.SideLemmas.{up-stays, up-said}
+use Rattle.bsc_lemmas.proofs.Booleans.{or_left, or_right}
 
 stays_up_more : (E : List HubEvent) (now : ℕ) (e : ConnectorEvent) → is_up Primary E ≡ true → fails Primary e ≡ false → is_up Primary (E ++ record { now = now; event = e } ∷ []) ≡ true
 stays_up_more E now Start u f = up-stays Primary E (record { now = now; event = Start }) refl ∙ u
@@ -17,14 +18,6 @@ stays_up_more E now (Failed Failover) u f = up-stays Primary E (record { now = n
 stays_up_more E now (Lost Primary) u f = cc
 stays_up_more E now (Lost Failover) u f = up-stays Primary E (record { now = now; event = Lost Failover }) refl ∙ u
 stays_up_more E now Tick u f = up-stays Primary E (record { now = now; event = Tick }) refl ∙ u
-
-or_left : (a b : Bool) → (a || b) ≡ false → a ≡ false
-or_left true b h = h
-or_left false b h = refl
-
-or_right : (a b : Bool) → (a || b) ≡ false → b ≡ false
-or_right true b h = cc
-or_right false b h = h
 
 pub stays_up : (E F : List HubEvent) → is_up Primary E ≡ true → list_any (λ e. fails Primary e.event) F ≡ false → is_up Primary (E ++ F) ≡ true
 stays_up E [] u quiet = rw append-nil u

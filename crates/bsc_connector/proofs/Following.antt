@@ -18,6 +18,7 @@ use Rattle.bsc_connector.specs.declared.connector.Connector.{Connector}
 use Rattle.bsc_connector.specs.Standing.{SideStands, StandsFor, attempt_at, MayCome}
 use Rattle.bsc_connector.specs.Kept.{says_up, says_due, says_tried, says_under_way, accepted, dropped, failed, ticked, started, begun, primary_after, failover_after, attempt_after_tick, attempt_started, attempt_begun, step_kept}
 use Rattle.bsc_connector.proofs.SideLemmas.{up-stays, up-said, failures-cleared, failures-same, failures-one_more, due-cleared, due-failed, due-same, due-ticked, due-started, tried-primary, tried-failover, tried-cleared, wait-doubled, wait-first, unless_come, starts}
+use Rattle.bsc_lemmas.proofs.Booleans.{and_false, or_false, or_true}
 
 -- the hub of the side accepted, or the primary hub did
 follows-clear : (w : Waits) (s : Side) (E : List HubEvent) (e : HubEvent) (side : SideState) → clears s e.event ≡ true → (clears s e.event || loses s e.event) ≡ true
@@ -102,14 +103,6 @@ begun_tried Idle = refl
 begun_tried UnderWay = refl
 begun_tried Up = refl
 begun_tried (Waiting at) = refl
-
-or_true : (b : Bool) → (b || true) ≡ true
-or_true true = refl
-or_true false = refl
-
-or_false : (b : Bool) → (b || false) ≡ b
-or_false true = refl
-or_false false = refl
 
 -- time has passed
 follows-tick : (w : Waits) (s : Side) (E : List HubEvent) (e : HubEvent) (side : SideState) → SideStands w s E side → clears s e.event ≡ false → fails s e.event ≡ false → is_tick e.event ≡ true → starts s e ≡ false
@@ -206,10 +199,6 @@ primary-follows w E side now Tick k m = follows-tick w Primary E _ side k refl r
 
 -- ---- the failover
 
-and_false : (b : Bool) → (b && false) ≡ false
-and_false true = refl
-and_false false = refl
-
 -- the failover is tried as before where nothing was told of the primary hub
 tried_kept : (w : Waits) (E : List HubEvent) (e : HubEvent) → clears Primary e.event ≡ false → fails Primary e.event ≡ false → is_tried w Failover (E ++ e ∷ []) ≡ is_tried w Failover E
 tried_kept w E e h f =
@@ -301,7 +290,3 @@ event_answers c d w E now e step h may is new = (
 pub under_way_by_events : (c : Connector) (w : Waits) (E : List HubEvent) (s : Side) → StandsFor c w E → is_under_way w s E ≡ says_under_way (attempt_at c s)
 under_way_by_events c w E Primary h = rw (h.primary.tried, h.primary.up, h.primary.due) refl
 under_way_by_events c w E Failover h = rw (h.failover.tried, h.failover.up, h.failover.due) refl
-
-pub up_by_events : (c : Connector) (w : Waits) (E : List HubEvent) (s : Side) → StandsFor c w E → is_up s E ≡ says_up (attempt_at c s)
-up_by_events c w E Primary h = h.primary.up
-up_by_events c w E Failover h = h.failover.up

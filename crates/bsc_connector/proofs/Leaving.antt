@@ -9,13 +9,13 @@ use Rattle.bsc_connector.specs.declared.side_state.Attempt.{Attempt}
 use Rattle.bsc_connector.specs.declared.side_state.Attempt.TheVariants.{Idle, UnderWay, Up, Waiting}
 use Rattle.bsc_connector.specs.declared.side_state.SideState.{SideState}
 use Rattle.bsc_connector.specs.declared.waits.Waits.{Waits}
-use Rattle.bsc_connector.specs.declared.step.ConnectorStep.{ConnectorStep}
 use Rattle.bsc_connector.specs.declared.connector.Connector.{Connector}
 use Rattle.bsc_connector.specs.Left.{is_live, LeftBy}
 use Rattle.bsc_connector.specs.Sides.{is_start, connects, fails, clears}
 use Rattle.bsc_connector.specs.Steps.{has_come}
 use Rattle.bsc_connector.specs.Standing.{attempt_at}
 use Rattle.bsc_connector.specs.Kept.{says_up, says_due, says_under_way, says_idle, begun, attempt_begun, attempt_started, attempt_after_tick, primary_after, failover_after, step_kept}
+use Rattle.bsc_lemmas.proofs.Booleans.{and_left as right_true}
 
 -- what is kept, once this is told
 abbrev pub told_kept : Connector → ℕ → ConnectorEvent → Connector
@@ -37,14 +37,6 @@ primary_dials w now p f Tick idle h = come_under_way now p.attempt h
 left_true : (a b : Bool) → (a || (false && b)) ≡ true → a ≡ true
 left_true true b h = refl
 left_true false b h = h
-
-right_true : (a b : Bool) → (a && b) ≡ true → a ≡ true
-right_true true b h = refl
-right_true false b h = h
-
-and_true : (a b : Bool) → (a && b) ≡ true → b ≡ true
-and_true true b h = h
-and_true false b h = absurd (false≢true h)
 
 begins_idle : (w : Waits) (b : Bool) (f : SideState) (a : Attempt) → f.attempt ≡ a → says_idle (record w { failover = b }) a ≡ true → (cond b (begun f) f).attempt ≡ UnderWay
 begins_idle w true f Idle is h = rw is refl

@@ -5,3 +5,4 @@ pub mod Following
 pub mod Beside
 pub mod Apart
 pub mod Leaving
+pub mod Common

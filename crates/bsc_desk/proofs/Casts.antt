@@ -1,5 +1,5 @@
 -- The pass of a broadcast over the rows.
-use Rattle.std.proofs.Common.{◌≡◌, ℕ, zero, suc, ◌+◌, ◌<◌, ◌^◌, Bool, true, false, cond, List, [], ◌∷◌, ◌++◌, length, filter, drop, get_or, vec_len, Vec, Option, None, refl, ap, sym, ◌∙◌, subst, arith}
+use Rattle.std.proofs.Common.{◌≡◌, ℕ, zero, suc, ◌+◌, ◌<◌, ◌^◌, Bool, true, false, cond, List, [], ◌∷◌, ◌++◌, length, filter, drop, get_or, vec_len, Vec, None, refl, ap, sym, ◌∙◌, subst, arith}
 use Rattle.std.proofs.Math.ListN.{set}
 use Rattle.std.specs.List.{AllByRecursion}
 use Rattle.std.specs.declared.alloc.Global.{Global}
@@ -77,6 +77,3 @@ few_at conn o i rows fates now r h within few = subst (λ (x : Row). length (pus
     here [] i within few = absurd (omega arith)
     here (x ∷ xs) zero within few = few.0
     here (x ∷ xs) (suc i) within few = here xs i (omega arith) few.1
-
-pub drop_all : (rows : List Row) → drop 0 rows ≡ rows
-drop_all rows = refl

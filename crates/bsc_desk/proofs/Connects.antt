@@ -1,8 +1,8 @@
 -- A connect, refused or joined.
-use Rattle.std.proofs.Common.{◌≡◌, inl, inr, ℕ, suc, ◌+◌, ◌≤◌, ◌<◌, ◌==◌, ◌&&◌, ◌||◌, nat_lt, Bool, true, false, not, cond, List, [], ◌∷◌, ◌++◌, length, map, filter, find, fold, Option, Some, None, is_some, option_to_list, refl, ap, sym, ◌∙◌, subst, arith, append-nil}
-use Rattle.std.specs.List.{list_any, AllByRecursion}
+use Rattle.std.proofs.Common.{◌≡◌, ℕ, ◌+◌, ◌<◌, ◌&&◌, nat_lt, Bool, true, false, not, cond, List, [], ◌∷◌, ◌++◌, length, map, filter, find, Option, Some, None, is_some, refl, ap, sym, ◌∙◌, subst, arith, append-nil}
+use Rattle.std.specs.List.{AllByRecursion}
 use Rattle.std.specs.Option.{option_or}
-use Rattle.std.proofs.lemmas.Bool.{and_from, cases_eq, eq-eqb, lt-ltb, ne_eqb}
+use Rattle.std.proofs.lemmas.Bool.{and_from, eq-eqb, lt-ltb}
 use Rattle.std.proofs.lemmas.List.{map-append}
 use Rattle.std.proofs.lemmas.List.Folds.{find-append}
 use Rattle.bsc_octets.specs.Addresses.{broadcast, same_vmac, zero_vmac}
@@ -26,20 +26,23 @@ use Rattle.bsc_history.specs.Outboxes.{added_by, sent}
 use Rattle.bsc_history.specs.Replies.{connect_reply}
 use Rattle.bsc_history.proofs.Fresh.{fresh_joins, fresh_sent}
 use Rattle.bsc_history.proofs.Marks.{mark_new}
-use Rattle.bsc_history.proofs.More.{ended-more, entries-more, or_none, sent-more}
+use Rattle.bsc_history.proofs.More.{ended-more, entries-more, sent-more}
 use Rattle.bsc_history.proofs.Uniqueness.{comes, not_joined}
 use Rattle.bsc_ring.specs.Ends.{IsNewInlet, capacity_of, ending_of, inlet_mark, known_taken, loads, pushed}
 use Rattle.bsc_desk.specs.declared.desk.Desk.{Desk}
 use Rattle.bsc_desk.specs.declared.row.Row.{Row}
-use Rattle.bsc_desk.specs.Changes.{EachBecomes, Finishes, FinishesIf}
+use Rattle.bsc_desk.specs.Changes.{EachBecomes, FinishesIf}
 use Rattle.bsc_desk.specs.Entries.{connect_entry, connect_stamped}
 use Rattle.bsc_desk.specs.Live.{connection, is_row, known_in}
 use Rattle.bsc_desk.specs.Standing.{IsInletOf, StandsFor, all_found}
 use Rattle.bsc_desk.specs.Tallies.{no_counts}
 use Rattle.bsc_desk.proofs.Looks.{all_found-more, fresh_found}
-use Rattle.bsc_desk.proofs.Orders.{all-push}
-use Rattle.bsc_desk.proofs.Standings.{Follows, Goes, Keeps, Stays, goes_all, kept, length_entries, stands_more, stands_same}
+use Rattle.bsc_desk.proofs.Standings.{Goes, Keeps, goes_all, kept, stands_more, stands_same}
 use Rattle.bsc_desk.proofs.Walks.{each_connections, each_found, each_weaker, has_number}
+use Rattle.bsc_history.proofs.Common.{length_entries}
+use Rattle.bsc_lemmas.proofs.Lists.{all-push}
+use Rattle.bsc_lemmas.proofs.Numbers.{eq_turned as eqb_comm}
+use Rattle.bsc_lemmas.proofs.Options.{or_none}
 
 pub lawful_connect : (d : Desk) (S : List Stamped) (caller : ℕ) (who : Identity) (reply : Reply) → StandsFor d S → same_vmac who.vmac zero_vmac ≡ false → same_vmac who.vmac broadcast ≡ false → d.tally.made < d.about.limits.calls → reply ≡ connect_reply d.about (entries S) who → Lawful d.about (moment (entries S) (connect_entry caller who reply))
 lawful_connect d S caller who reply p zero all calls says = record {
@@ -58,9 +61,6 @@ stands_refused d n S caller who m refusal p lawful about stop made count rows =
     stands_same d n S s p lawful (record { goes_on = refl; stays = λ c. refl; joins_none = refl }) (record { ends_none = λ c. refl; looks_none = refl; adds_nothing = λ c. refl }) about stop made count rows
 
 -- a row by a connect, which ends the connection that it replaces
-
-pub eqb_comm : (a b : ℕ) → (a == b) ≡ (b == a)
-eqb_comm a b = elim (cases_eq a b) as (λ w. (a == b) ≡ (b == a)) [ inl e ↦ eq-eqb a b e ∙ sym (eq-eqb b a (sym e)) | inr n ↦ ne_eqb a b n ∙ sym (ne_eqb b a (λ e. n (sym e))) ]
 
 same_test : (replaced : Option ℕ) (r : Row) → is_row replaced r ≡ is_one r.connection.number replaced
 same_test None r = refl
@@ -153,7 +153,3 @@ known_joined replaced c rows after new each none =
       | Some r ↦ refl
     ] in
     ap known_in (find-append (has_number c) after (new ∷ [])) ∙ on (find (has_number c) after) ∙ each_found known_in (λ r t. FinishesIf (is_row replaced r) Replaced r t) c rows after (λ r t f. known_finish (is_row replaced r) Replaced r t f) each
-
-pub one_at_most : (b : Bool) → one_if b ≤ 1
-one_at_most true = omega arith
-one_at_most false = omega arith

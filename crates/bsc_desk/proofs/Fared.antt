@@ -1,12 +1,11 @@
 -- What became of a frame at the rows, said row by row.
-use Rattle.std.proofs.Common.{◌≡◌, ◌≢◌, ℕ, ◌+◌, ◌-◌, ◌≤◌, ◌<◌, ◌==◌, Bool, true, false, not, ◌&&◌, ◌||◌, cond, List, [], ◌∷◌, ◌++◌, length, map, filter, fold, find, Option, Some, None, refl, ap, sym, ◌∙◌, subst, arith, append-nil, length-append}
+use Rattle.std.proofs.Common.{◌≡◌, ℕ, ◌-◌, ◌≤◌, ◌==◌, Bool, true, false, ◌&&◌, ◌||◌, cond, List, [], ◌∷◌, ◌++◌, length, map, filter, fold, Option, None, refl, ap, sym, ◌∙◌, subst, arith, append-nil}
 use Rattle.std.specs.Bool.{⊤}
-use Rattle.std.specs.List.{flat_map, list_any, list_all, AllByRecursion}
+use Rattle.std.specs.List.{list_any, list_all, AllByRecursion}
 use Rattle.std.specs.Option.{option_or}
 use Rattle.std.proofs.lemmas.Bool.{and_from, eq-eqb, le-leb, ne_eqb}
 use Rattle.std.proofs.lemmas.List.Folds.{list_all-append}
 use Rattle.bsc_history.specs.declared.limits.About.{About}
-use Rattle.bsc_history.specs.declared.connection.Connection.{Connection}
 use Rattle.bsc_history.specs.declared.ending.End.{End}
 use Rattle.bsc_history.specs.declared.entry.Entry.{Entry}
 use Rattle.bsc_history.specs.declared.looks.Look.{Look}
@@ -18,9 +17,8 @@ use Rattle.bsc_history.specs.Laws.{names}
 use Rattle.bsc_history.specs.Legality.{can_find}
 use Rattle.bsc_history.specs.Marks.{entries}
 use Rattle.bsc_history.specs.Outboxes.{added, finds_full, is_found_full, looked, newer, sent}
-use Rattle.bsc_history.proofs.More.{or_none}
 use Rattle.bsc_history.proofs.Uniqueness.{is_None}
-use Rattle.bsc_ring.specs.Ends.{capacity_of, ending_of, loads, pushed}
+use Rattle.bsc_ring.specs.Ends.{ending_of, loads, pushed}
 use Rattle.bsc_ring.specs.Lists.{Item, newest}
 use Rattle.bsc_desk.specs.declared.fate.Fate.{Fate}
 use Rattle.bsc_desk.specs.declared.fate.Fate.TheVariants.{Unmeant, TooLong, Entered, FoundFull}
@@ -33,6 +31,8 @@ use Rattle.bsc_desk.specs.Standing.{IsInletOf}
 use Rattle.bsc_desk.proofs.Filing.{StaysFiled}
 use Rattle.bsc_desk.proofs.Looks.{newest_look}
 use Rattle.bsc_desk.proofs.Standings.{Goes, follows_same}
+use Rattle.bsc_lemmas.proofs.Booleans.{or_false as or_last}
+use Rattle.bsc_lemmas.proofs.Options.{or_none}
 
 -- whether the frame entered, and whether it found the outbox full; and the End that it gives then
 abbrev pub enters : Fate → Bool
@@ -187,10 +187,6 @@ can_all a S t full o (r ∷ rows) (x ∷ fates) (s ∷ after) all h =
 can_all a S t full o rows fates after all h = absurd h
 
 -- by its own look a row is found full exactly where the frame found it so
-
-or_last : (b : Bool) → (b || false) ≡ b
-or_last true = refl
-or_last false = refl
 
 pub full_seen : (a : About) (S : List Stamped) (t : Row → Bool) (full : Option End) (o : List ℕ) (looks : List Look) (r : Row) (x : Fate) (s : Row) → IsInletOf a S (number r) r.inlet → filter (λ k. k.conn == number r) looks ≡ looks_in x → Befalls t full o r x s → is_found_full a (sent a (entries S) (number r)) looks (number r) ≡ is_full x
 full_seen a S t full o looks r x s p seen h =

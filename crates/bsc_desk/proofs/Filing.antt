@@ -1,5 +1,5 @@
 -- Rows that are filed stay so after each change.
-use Rattle.std.proofs.Common.{◌≡◌, ℕ, ◌+◌, ◌==◌, nat_lt, nat_le, Bool, true, false, not, ◌&&◌, ◌||◌, cond, List, [], ◌∷◌, ◌++◌, length, map, filter, Option, Some, None, is_none, refl, ap, sym, ◌∙◌, subst, arith}
+use Rattle.std.proofs.Common.{◌≡◌, ℕ, ◌+◌, ◌==◌, nat_le, Bool, true, false, not, ◌&&◌, ◌||◌, List, [], ◌∷◌, ◌++◌, length, map, filter, Option, Some, None, is_none, refl, ap, sym, ◌∙◌, subst, arith}
 use Rattle.std.specs.List.{list_all, position, remove, AllByRecursion}
 use Rattle.std.specs.Option.{option_or}
 use Rattle.std.proofs.lemmas.Bool.{le-leb, leb-true, lt-ltb}
@@ -19,11 +19,9 @@ use Rattle.bsc_desk.specs.Live.{connection, is_open, is_row, number}
 use Rattle.bsc_desk.specs.Directories.{gives_way, gives_place, AreFiled}
 use Rattle.bsc_desk.proofs.Removals.{connections-kept, removed}
 use Rattle.bsc_desk.proofs.Walks.{each_all, each_connections, each_weaker, has_number}
-use Rattle.bsc_desk.proofs.Orders.{InOrder, order_true, true_order, order-map, order-push, tests-filter, all_true, true_all, all-map, all-push, all-weaker, all-filter}
+use Rattle.bsc_desk.proofs.Orders.{InOrder, order_true, true_order, order-push, tests-filter, all_true, true_all, all-weaker}
 use Rattle.bsc_desk.proofs.Sorted.{length-sorted, filter-sorted, sorted-push}
-
-pub filed_none : (x : Directory) → x.by_address.items ≡ [] → x.by_device.items ≡ [] → AreFiled [] 0 x
-filed_none x a b = record { rising = refl; counted = refl; one_at = refl; one_of = refl; by_address = a; by_device = b }
+use Rattle.bsc_lemmas.proofs.Lists.{all-filter, all-push}
 
 -- a directory with the same connections
 pub filed_same : (rows : List Row) (joined : ℕ) (x y : Directory) → y.by_address.items ≡ x.by_address.items → y.by_device.items ≡ x.by_device.items → AreFiled rows joined x → AreFiled rows joined y

@@ -1,5 +1,5 @@
 -- Rows that are finished.
-use Rattle.std.proofs.Common.{◌≡◌, ℕ, zero, suc, ◌+◌, ◌<◌, ◌==◌, Bool, true, false, List, [], ◌∷◌, ◌++◌, length, get_or, Option, Some, None, is_some, refl, ap, sym, ◌∙◌, subst, arith}
+use Rattle.std.proofs.Common.{◌≡◌, ℕ, zero, suc, ◌+◌, ◌<◌, true, false, List, [], ◌∷◌, length, get_or, Option, Some, None, is_some, refl, ap, sym, ◌∙◌, subst, arith}
 use Rattle.std.proofs.Math.ListN.{set}
 use Rattle.std.specs.List.{list_any, position}
 use Rattle.std.proofs.lemmas.Bool.{or_parts}
@@ -7,8 +7,8 @@ use Rattle.bsc_history.specs.declared.ending.End.{End}
 use Rattle.bsc_desk.specs.declared.row.Row.{Row}
 use Rattle.bsc_desk.specs.Changes.{EachBecomes, FinishesIf}
 use Rattle.bsc_desk.specs.Live.{is_row}
-use Rattle.bsc_desk.proofs.Places.{position_any}
 use Rattle.bsc_desk.proofs.Walks.{has_number}
+use Rattle.bsc_lemmas.proofs.Lists.{position_any}
 
 stay : (conn : Option ℕ) (ending : End) (rows : List Row) → list_any (is_row conn) rows ≡ false → EachBecomes (λ r s. FinishesIf (is_row conn r) ending r s) rows rows
 stay conn ending [] none = tt

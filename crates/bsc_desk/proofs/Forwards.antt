@@ -1,18 +1,17 @@
 -- Forwards, of a unicast or of a broadcast.
-use Rattle.std.proofs.Common.{◌≡◌, ℕ, ◌+◌, ◌<◌, ◌^◌, ◌==◌, nat_lt, Bool, true, false, not, ◌&&◌, ◌||◌, cond, List, [], ◌∷◌, ◌++◌, length, map, filter, find, Option, Some, None, is_none, is_some, IsTrue, refl, ap, sym, ◌∙◌, subst, arith}
-use Rattle.std.specs.List.{flat_map, list_any, list_all, AllByRecursion}
+use Rattle.std.proofs.Common.{◌≡◌, ℕ, ◌+◌, ◌<◌, ◌^◌, nat_lt, Bool, true, false, not, ◌&&◌, ◌||◌, cond, List, [], ◌∷◌, ◌++◌, length, map, filter, Option, Some, None, is_none, is_some, refl, ap, sym, ◌∙◌, arith}
+use Rattle.std.specs.List.{flat_map, list_all}
 use Rattle.std.proofs.lemmas.Bool.{and_from, lt-ltb}
 use Rattle.std.proofs.lemmas.List.{map-append}
 use Rattle.bsc_octets.specs.Forwarding.{destination, has_route, is_broadcast, out}
 use Rattle.bsc_history.specs.declared.limits.About.{About}
 use Rattle.bsc_history.specs.declared.connection.Connection.{Connection}
-use Rattle.bsc_history.specs.declared.counts.Counts.{Counts}
 use Rattle.bsc_history.specs.declared.ending.End.{End}
 use Rattle.bsc_history.specs.declared.entry.Entry.{Entry}
 use Rattle.bsc_history.specs.declared.looks.Look.{Look}
 use Rattle.bsc_history.specs.declared.mark.Stamped.{Stamped}
 use Rattle.bsc_history.specs.declared.reply.Reply.{Reply}
-use Rattle.bsc_history.specs.declared.reply.Reply.TheVariants.{NotCurrent, Stopped}
+use Rattle.bsc_history.specs.declared.reply.Reply.TheVariants.{Stopped}
 use Rattle.bsc_history.specs.Counting.{counts_of, plus}
 use Rattle.bsc_history.specs.Entries.{moment}
 use Rattle.bsc_history.specs.Ends.{end_by, ended}
@@ -30,15 +29,16 @@ use Rattle.bsc_desk.specs.declared.fate.Fate.{Fate}
 use Rattle.bsc_desk.specs.declared.fate.Fate.TheVariants.{Unmeant, TooLong, Entered, FoundFull}
 use Rattle.bsc_desk.specs.declared.row.Row.{Row}
 use Rattle.bsc_desk.specs.Entries.{forward_entry, plain, unserved}
-use Rattle.bsc_desk.specs.Fates.{AllBefall, Befalls, FewPushed, is_long_for, looks_in, looks_of}
+use Rattle.bsc_desk.specs.Fates.{AllBefall, Befalls, FewPushed, looks_in, looks_of}
 use Rattle.bsc_desk.specs.Frames.{Frame}
 use Rattle.bsc_desk.specs.Live.{connection, is_open, number}
 use Rattle.bsc_desk.specs.Rows.{IsRowOf, IsUnserved, end_of}
 use Rattle.bsc_desk.specs.Standing.{IsInletOf, StandsFor}
-use Rattle.bsc_desk.proofs.Fared.{AllFates, Told, can_all, each_fate, goes, more_said}
+use Rattle.bsc_desk.proofs.Fared.{AllFates, Told, each_fate, goes, more_said}
 use Rattle.bsc_desk.proofs.LiveRows.{address_of_row, by_of, live_rows, owns, stopped_so}
 use Rattle.bsc_desk.proofs.Orders.{all-weaker}
-use Rattle.bsc_desk.proofs.Standings.{Goes, IsKept, kept, length_entries, stands_on, stands_same}
+use Rattle.bsc_desk.proofs.Standings.{Goes, IsKept, kept, stands_on, stands_same}
+use Rattle.bsc_history.proofs.Common.{length_entries}
 
 -- the sender of a frame, by the rows and by the history
 pub record Sends (d : Desk) (S : List Stamped) (caller conn : ℕ) (f : Frame) : Type 0 where
@@ -210,7 +210,3 @@ few_pushed d S p = all-weaker (λ r. IsInletOf d.about S r.connection.number r.i
     let rows = d.in_range.few_rows in
     let calls = d.in_range.few_calls in
     omega arith) p.inlets
-
-pub none_if : {A : Type 0} (o : Option A) → is_some o ≡ false → o ≡ None
-none_if None h = refl
-none_if (Some x) h = cc

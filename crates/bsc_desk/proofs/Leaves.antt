@@ -1,30 +1,25 @@
 -- A leave, a stop and a count.
-use Rattle.std.proofs.Common.{◌≡◌, ◌≢◌, inl, inr, ℕ, ◌+◌, ◌≤◌, ◌<◌, ◌==◌, nat_lt, Bool, true, false, not, ◌&&◌, cond, List, [], ◌∷◌, ◌++◌, length, map, filter, find, get_or, take, Option, Some, None, unwrap_or, is_some, refl, ap, sym, ◌∙◌, subst, arith, append-nil, length-append}
-use Rattle.std.specs.List.{list_any, position, remove, AllByRecursion}
+use Rattle.std.proofs.Common.{◌≡◌, ℕ, ◌+◌, ◌≤◌, ◌<◌, ◌==◌, nat_lt, Bool, true, false, not, cond, List, [], ◌∷◌, ◌++◌, length, map, filter, get_or, take, Option, Some, None, unwrap_or, is_some, refl, ap, sym, ◌∙◌, subst, arith, append-nil, length-append}
+use Rattle.std.specs.List.{position, remove, AllByRecursion}
 use Rattle.std.specs.Option.{option_or}
 use Rattle.std.proofs.Math.Seq.{take-append_seam}
-use Rattle.std.proofs.lemmas.Bool.{and_from, eqb-true, le-leb, lt-ltb, ne_eqb}
+use Rattle.std.proofs.lemmas.Bool.{and_from, eqb-true, le-leb, lt-ltb}
 use Rattle.std.proofs.lemmas.List.Quantifiers.{position-Some}
 use Rattle.bsc_history.specs.declared.counts.Counts.{Counts}
 use Rattle.bsc_history.specs.declared.connection.Connection.{Connection}
 use Rattle.bsc_history.specs.declared.ending.End.{End}
 use Rattle.bsc_history.specs.declared.ending.End.TheVariants.{Left, Stopped}
 use Rattle.bsc_history.specs.declared.entry.Entry.{Entry}
-use Rattle.bsc_history.specs.declared.mark.Mark.{Mark}
 use Rattle.bsc_history.specs.declared.mark.Stamped.{Stamped}
 use Rattle.bsc_history.specs.declared.reply.Reply.TheVariants.{Gone as GoneReply, Counted as CountedReply}
 use Rattle.bsc_history.specs.Counting.{plus}
 use Rattle.bsc_history.specs.Entries.{moment}
-use Rattle.bsc_history.specs.Ends.{ended}
-use Rattle.bsc_history.specs.Laws.{Apart}
 use Rattle.bsc_history.specs.Legality.{can_find, is_of, Lawful}
 use Rattle.bsc_history.specs.Marks.{entries}
 use Rattle.bsc_history.specs.Outboxes.{added_by, looked, sent}
 use Rattle.bsc_history.specs.Replies.{is_stopped}
-use Rattle.bsc_history.proofs.More.{or_none}
-use Rattle.bsc_ring.specs.declared.ends.Inlet.{Inlet}
 use Rattle.bsc_ring.specs.declared.ends.Outlet.{Outlet}
-use Rattle.bsc_ring.specs.Ends.{FoundEnd, Fit, given, inlet_mark, loads, outlet_mark, pushed}
+use Rattle.bsc_ring.specs.Ends.{Fit, given, inlet_mark, loads, outlet_mark, pushed}
 use Rattle.bsc_ring.specs.Lists.{Item}
 use Rattle.bsc_desk.specs.declared.desk.Desk.{Desk}
 use Rattle.bsc_desk.specs.declared.leaving.Gone.{Gone}
@@ -36,13 +31,14 @@ use Rattle.bsc_desk.specs.Meetings.{IsOutletOf}
 use Rattle.bsc_desk.specs.Rows.{IsMarkOf, IsRowBy}
 use Rattle.bsc_desk.specs.Standing.{IsInletOf, StandsFor}
 use Rattle.bsc_desk.specs.Tallies.{no_counts}
-use Rattle.bsc_desk.proofs.Connects.{eqb_comm}
 use Rattle.bsc_desk.proofs.LiveRows.{owns, stopped_so}
 use Rattle.bsc_desk.proofs.Looks.{newest_look}
-use Rattle.bsc_desk.proofs.Orders.{all-filter}
 use Rattle.bsc_desk.proofs.Removals.{connections-kept, removed}
-use Rattle.bsc_desk.proofs.Standings.{Follows, Goes, IsKept, Keeps, Quiet, Stays, follows_same, goes_all, goes_one, kept, length_entries, rows_apart, stands_more, stands_same}
+use Rattle.bsc_desk.proofs.Standings.{Goes, IsKept, Keeps, follows_same, goes_all, goes_one, kept, rows_apart, stands_more, stands_same}
 use Rattle.bsc_desk.proofs.Walks.{all_at, each_connections, each_weaker, has_number}
+use Rattle.bsc_history.proofs.Common.{length_entries}
+use Rattle.bsc_lemmas.proofs.Numbers.{eq_turned as eqb_comm}
+use Rattle.bsc_lemmas.proofs.Options.{or_none}
 
 -- the row at the place of a connection
 

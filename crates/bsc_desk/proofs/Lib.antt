@@ -25,3 +25,4 @@ pub mod Unicasts
 pub mod Broadcasts
 pub mod Learning
 pub mod Exact
+pub mod Common

@@ -2,31 +2,30 @@
 use Rattle.std.proofs.Common.{◌≡◌, ◌≢◌, inl, inr, ◌==◌, ℕ, Bool, true, false, ◌&&◌, ◌||◌, cond, List, [], ◌∷◌, map, filter, find, is_some, Option, Some, None, is_none, MatchOption, refl, ap, sym, ◌∙◌, subst}
 use Rattle.std.specs.List.{list_any, position, AllByRecursion}
 use Rattle.std.specs.Option.{option_map}
-use Rattle.std.proofs.lemmas.Bool.{and_parts, and_from, both_ways, eqb-true, eq-eqb, ne_eqb, or_cases, or_left, or_right}
+use Rattle.std.proofs.lemmas.Bool.{and_parts, both_ways, eqb-true, eq-eqb, ne_eqb, or_cases, or_left, or_right}
 use Rattle.bsc_octets.specs.declared.vmac.Vmac.{Vmac}
 use Rattle.bsc_octets.specs.Addresses.{same_vmac}
 use Rattle.bsc_history.specs.declared.limits.About.{About}
-use Rattle.bsc_history.specs.declared.entry.Entry.{Entry}
 use Rattle.bsc_history.specs.declared.connection.Connection.{Connection}
 use Rattle.bsc_history.specs.declared.mark.Stamped.{Stamped}
 use Rattle.bsc_history.specs.Entries.{stops}
-use Rattle.bsc_history.specs.Ends.{ended, live, unleft}
+use Rattle.bsc_history.specs.Ends.{ended, live}
 use Rattle.bsc_history.specs.Laws.{Apart}
 use Rattle.bsc_history.specs.Legality.{is_of}
 use Rattle.bsc_history.specs.Marks.{entries}
 use Rattle.bsc_history.specs.Outboxes.{vmac_of}
 use Rattle.bsc_history.specs.Replies.{is_stopped}
 use Rattle.bsc_history.proofs.Lists.{In, In_from_all, find_says, none_passes}
-use Rattle.bsc_history.proofs.Uniqueness.{vmac_same}
 use Rattle.bsc_desk.specs.declared.row.Row.{Row}
 use Rattle.bsc_desk.specs.declared.desk.Desk.{Desk}
 use Rattle.bsc_desk.specs.Live.{connection, end_in, is_open, number}
 use Rattle.bsc_desk.specs.Rows.{IsRowBy, IsRowOf, end_of}
 use Rattle.bsc_desk.specs.Standing.{IsInletOf, StandsFor}
 use Rattle.bsc_desk.proofs.Histories.{live_unended, vmac_unleft}
-use Rattle.bsc_desk.proofs.Places.{position_any}
 use Rattle.bsc_desk.proofs.Standings.{In-map, rows_apart}
 use Rattle.bsc_desk.proofs.Walks.{has_number}
+use Rattle.bsc_lemmas.proofs.Lists.{position_any}
+use Rattle.bsc_octets.proofs.Common.{vmac_same}
 
 -- the row's End is its connection's
 pub row_end : (a : About) (S : List Stamped) (r : Row) → IsInletOf a S r.connection.number r.inlet → r.ending ≡ ended (entries S) r.connection.number

@@ -1,5 +1,5 @@
 -- The newest row of some octets is the one that may be live.
-use Rattle.std.proofs.Common.{◌≡◌, ◌≢◌, ◌+◌, ◌==◌, inl, inr, ℕ, Bool, true, false, not, ◌&&◌, ◌||◌, cond, List, [], ◌∷◌, map, find, Option, Some, None, refl, ap, sym, ◌∙◌, subst}
+use Rattle.std.proofs.Common.{◌≡◌, ◌≢◌, ◌+◌, inl, inr, ℕ, Bool, true, false, not, ◌&&◌, ◌||◌, cond, List, [], ◌∷◌, map, find, Option, Some, None, refl, ap, sym, ◌∙◌, subst}
 use Rattle.std.specs.List.{list_all, position, AllByRecursion}
 use Rattle.std.specs.Option.{option_map, option_or}
 use Rattle.std.specs.Cmp.Lexicographic.{same_text, bytes_decides}
@@ -16,13 +16,14 @@ use Rattle.bsc_desk.specs.declared.directory.Directory.{Directory}
 use Rattle.bsc_desk.specs.Orders.{in_order, same_key, address_of, device_of, last_of}
 use Rattle.bsc_desk.specs.Rising.{rises}
 use Rattle.bsc_desk.specs.Live.{connection, is_open, is_row, number}
-use Rattle.bsc_desk.specs.Directories.{gives_way, gives_place, AreFiled, live_place, open_place}
+use Rattle.bsc_desk.specs.Directories.{gives_way, gives_place, AreFiled, live_place}
 use Rattle.bsc_desk.proofs.LiveRows.{found_each}
 use Rattle.bsc_desk.proofs.Orders.{InOrder, order_true, true_all}
 use Rattle.bsc_desk.proofs.Sorted.{last-sorted}
 use Rattle.bsc_desk.proofs.Numbers.{rows_rise}
-use Rattle.bsc_desk.proofs.Places.{position-cons, position_any}
 use Rattle.bsc_desk.proofs.Walks.{has_number}
+use Rattle.bsc_history.proofs.Common.{no_rival as same_rival}
+use Rattle.bsc_lemmas.proofs.Lists.{position-cons}
 
 -- the live row of some octets is the newest row that has them
 
@@ -154,9 +155,6 @@ found_live key k (s ∷ rows) r order (inr m) live is =
       | false ↦ λ o h. rest
     ] in
     by (is_open s) (has key k s) refl refl
-
-same_rival : (who : Identity) (c : Connection) → rival who (Some c) ≡ None → same_device c.who.device who.device ≡ true
-same_rival who c = elim (same_device c.who.device who.device) as (λ b. cond b None (Some c.number) ≡ None → b ≡ true) [ true ↦ λ h. refl | false ↦ λ h. cc ]
 
 pub free : (rows : List Row) (who : Identity) → in_order (gives_way address_of) rows ≡ true → in_order (gives_way device_of) rows ≡ true → rival who (option_map connection (find (λ r. is_open r && same_vmac r.connection.who.vmac who.vmac) rows)) ≡ None → list_all (gives_place who (number_of (option_map connection (find (λ r. is_open r && same_device r.connection.who.device who.device) rows)))) rows ≡ true
 free rows who at of none =

@@ -16,7 +16,7 @@ use Rattle.bsc_desk.specs.Rising.{rises}
 use Rattle.bsc_desk.specs.Live.{connection, number}
 use Rattle.bsc_desk.proofs.Orders.{InOrder, order_true, order-at, all-map}
 use Rattle.bsc_desk.proofs.Walks.{apart_rows, has_number}
-use Rattle.bsc_desk.proofs.Places.{position-cons}
+use Rattle.bsc_lemmas.proofs.Lists.{position-cons}
 
 abbrev Rises : Row → Row → Type 0
 Rises r s = rises r s ≡ true

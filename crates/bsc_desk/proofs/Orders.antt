@@ -10,20 +10,13 @@ use Rattle.std.proofs.lemmas.Cmp.{nat_list_cmp_total, upto, tied_itself}
 use Rattle.std.proofs.lemmas.Map.Lookups.{exact_bytes}
 use Rattle.std.proofs.lemmas.Bool.{and_parts, and_from}
 use Rattle.bsc_desk.specs.Orders.{in_order, at_most}
+use Rattle.bsc_lemmas.proofs.Lists.{all-filter, all-push}
 
 -- what holds of each element holds of those that are kept, and of each but one that is put in
-
-pub all-filter : {A : Type 0} (P : A → Type 0) (q : A → Bool) (xs : List A) → AllByRecursion P xs → AllByRecursion P (filter q xs)
-all-filter P q [] all = tt
-all-filter P q (x ∷ xs) all = let rest = all-filter P q xs all.1 in elim (q x) as (λ b. AllByRecursion P (cond b (x ∷ filter q xs) (filter q xs))) [ true ↦ (all.0, rest) | false ↦ rest ]
 
 pub all-weaker : {A : Type 0} (P Q : A → Type 0) (xs : List A) → ((x : A) → P x → Q x) → AllByRecursion P xs → AllByRecursion Q xs
 all-weaker P Q [] each all = tt
 all-weaker P Q (x ∷ xs) each all = (each x all.0, all-weaker P Q xs each all.1)
-
-pub all-push : {A : Type 0} (P : A → Type 0) (xs : List A) (y : A) → AllByRecursion P xs → P y → AllByRecursion P (xs ++ y ∷ [])
-all-push P [] y all one = (one, tt)
-all-push P (x ∷ xs) y all one = (all.0, all-push P xs y all.1 one)
 
 pub all-map : {A B : Type 0} (P : A → Type 0) (Q : B → Type 0) (f : A → B) (xs : List A) → ((x : A) → P x → Q (f x)) → AllByRecursion P xs → AllByRecursion Q (map f xs)
 all-map P Q f [] each all = tt

@@ -1,12 +1,11 @@
 -- Rows of which one is taken out.
-use Rattle.std.proofs.Common.{◌≡◌, ◌≢◌, ℕ, zero, suc, ◌+◌, ◌<◌, ◌==◌, Bool, true, false, not, cond, List, [], ◌∷◌, length, map, filter, find, get_or, Option, Some, None, refl, ap, sym, ◌∙◌, subst, arith}
+use Rattle.std.proofs.Common.{◌≡◌, ◌≢◌, ℕ, zero, suc, ◌==◌, Bool, true, false, not, cond, List, [], ◌∷◌, map, filter, find, Option, Some, None, refl, ap, sym, ◌∙◌}
 use Rattle.std.specs.List.{position, remove, AllByRecursion}
 use Rattle.std.proofs.lemmas.Bool.{eqb-true, ne_eqb}
 use Rattle.bsc_history.specs.declared.connection.Connection.{Connection}
 use Rattle.bsc_history.specs.Laws.{Apart}
 use Rattle.bsc_desk.specs.declared.row.Row.{Row}
 use Rattle.bsc_desk.specs.Live.{connection, number}
-use Rattle.bsc_desk.proofs.Orders.{all-filter}
 use Rattle.bsc_desk.proofs.Walks.{OnlyAt, has_number, only_number}
 
 pub connections-kept : (conn : ℕ) (rows : List Row) → map connection (filter (λ r. not (r.connection.number == conn)) rows) ≡ filter (λ c. not (c.number == conn)) (map connection rows)

@@ -1,5 +1,5 @@
 -- What a history says of the rows of a desk that stands for it: a caller shows by it what the calls of the desk ask for.
-use Rattle.std.proofs.Common.{◌≡◌, inl, inr, ℕ, ◌==◌, ◌+◌, ◌<◌, ◌≤◌, Bool, true, ◌&&◌, ◌||◌, List, [], ◌∷◌, ◌++◌, length, map, Option, Some, None, refl, ap, sym, ◌∙◌, subst, arith}
+use Rattle.std.proofs.Common.{◌≡◌, inl, inr, ℕ, ◌==◌, ◌+◌, ◌<◌, ◌≤◌, Bool, true, ◌&&◌, List, [], ◌∷◌, ◌++◌, length, Option, Some, refl, ap, sym, ◌∙◌, subst, arith}
 use Rattle.std.specs.List.{list_any}
 use Rattle.std.proofs.lemmas.Bool.{and_parts, and_from, or_cases, or_left, or_right, eq-eqb, eqb-true}
 use Rattle.bsc_octets.specs.declared.identity.Identity.{Identity}
@@ -8,19 +8,16 @@ use Rattle.bsc_octets.specs.Addresses.{same_vmac}
 use Rattle.bsc_history.specs.declared.connection.Connection.{Connection}
 use Rattle.bsc_history.specs.declared.mark.Mark.{Mark}
 use Rattle.bsc_history.specs.declared.mark.Stamped.{Stamped}
-use Rattle.bsc_history.specs.declared.entry.Entry.{Entry}
 use Rattle.bsc_history.specs.declared.reply.Reply.TheVariants.{Joined}
 use Rattle.bsc_history.specs.Ends.{joined, unleft}
 use Rattle.bsc_history.specs.Marks.{entries, mark_of}
 use Rattle.bsc_history.specs.Outboxes.{vmac_of}
 use Rattle.bsc_history.specs.Legality.{Legal, is_of}
 use Rattle.bsc_history.proofs.Fresh.{fresh_joins}
-use Rattle.bsc_history.proofs.Lifting.{join_owned}
-use Rattle.bsc_history.proofs.Lists.{In, In_from_all}
+use Rattle.bsc_history.proofs.Lists.{In}
 use Rattle.bsc_history.proofs.Marks.{mark_new}
 use Rattle.bsc_history.proofs.More.{Legal-front, entries-more}
 use Rattle.bsc_history.proofs.Uniqueness.{comes, vmac_refl}
-use Rattle.bsc_desk.specs.declared.row.Row.{Row}
 use Rattle.bsc_desk.specs.declared.desk.Desk.{Desk}
 use Rattle.bsc_ring.specs.Ends.{inlet_mark}
 use Rattle.bsc_desk.specs.Entries.{connect_stamped}
@@ -28,7 +25,7 @@ use Rattle.bsc_desk.specs.Live.{connection}
 use Rattle.bsc_desk.specs.Rows.{HasRow, IsMarkOf, IsRowOf, IsRowBy}
 use Rattle.bsc_desk.specs.Standing.{IsInletOf, StandsFor}
 use Rattle.bsc_desk.proofs.Histories.{vmac_unleft}
-use Rattle.bsc_desk.proofs.LiveRows.{any_row, owns}
+use Rattle.bsc_desk.proofs.LiveRows.{any_row}
 use Rattle.bsc_desk.proofs.Orders.{all-weaker}
 
 any_more : (p q : Connection → Bool) (xs : List Connection) → ((x : Connection) → In x xs → p x ≡ true → q x ≡ true) → list_any p xs ≡ true → list_any q xs ≡ true
@@ -74,11 +71,6 @@ few_entries d S s =
 
 -- who joined has the row of its caller, and the history keeps the mark of its inlet
 
-pub joined_by : (n : Desk) (S : List Stamped) (caller : ℕ) (who : Identity) (m : Mark) (conn : ℕ) (replaced : Option ℕ) → StandsFor n (S ++ connect_stamped caller who m (Joined conn replaced) ∷ []) → IsRowBy n caller conn
-joined_by n S caller who m conn replaced s =
-    let e = connect_stamped caller who m (Joined conn replaced) in
-    is_row_by n (S ++ e ∷ []) caller conn s (ap (λ (G : List Entry). is_of G caller conn) (entries-more S e) ∙ join_owned (entries S) e.entry (record { number = conn; caller = caller; who = who }) refl)
-
 pub joined_mark : (n : Desk) (S : List Stamped) (caller : ℕ) (who : Identity) (m : Mark) (conn : ℕ) (replaced : Option ℕ) → StandsFor n (S ++ connect_stamped caller who m (Joined conn replaced) ∷ []) → mark_of (S ++ connect_stamped caller who m (Joined conn replaced) ∷ []) conn ≡ Some m
 joined_mark n S caller who m conn replaced s =
     let e = connect_stamped caller who m (Joined conn replaced) in
@@ -87,9 +79,3 @@ joined_mark n S caller who m conn replaced s =
     let next = (comes n.about (entries S) e.entry x front.1 refl).0 in
     let far : length (joined (entries S)) < conn = omega arith in
     mark_new S e conn (fresh_joins n.about (entries S) conn front.0 far) (eq-eqb conn conn refl)
-
--- and a mark of a row's inlet is the one that the history keeps
-pub mark_by_row : (d : Desk) (S : List Stamped) (caller c : ℕ) (m : Mark) → StandsFor d S → IsRowBy d caller c → IsMarkOf d c m → mark_of S c ≡ Some m
-mark_by_row d S caller c m s is marks =
-    let own = owns d S caller c s is in
-    own.inlet.marked ∙ ap Some (In_from_all (λ r. r.connection.number ≡ c → inlet_mark r.inlet ≡ m) own.row d.rows.items marks own.among own.number)

@@ -7,15 +7,9 @@ use Rattle.std.specs.Cmp.Lexicographic.{same_text, bytes_decides}
 use Rattle.std.proofs.lemmas.Bool.{both_ways, cases_eq}
 use Rattle.bsc_history.specs.declared.connection.Connection.{Connection}
 use Rattle.bsc_desk.specs.Orders.{in_order, same_key, at_most, precedes, up_to, filed, sorted_by, last_of, passing, before}
-use Rattle.bsc_desk.proofs.Orders.{InOrder, order_true, true_order, order-at, all-filter, all-weaker, at_most-chain, at_most-other, at_most-itself, at_most-both}
-
-or_none : {A : Type 0} (o : Option A) → option_or o None ≡ o
-or_none None = refl
-or_none (Some x) = refl
-
-or_assoc : {A : Type 0} (o p q : Option A) → option_or o (option_or p q) ≡ option_or (option_or o p) q
-or_assoc None p q = refl
-or_assoc (Some x) p q = refl
+use Rattle.bsc_desk.proofs.Orders.{InOrder, order_true, true_order, order-at, all-weaker, at_most-chain, at_most-other, at_most-itself, at_most-both}
+use Rattle.bsc_lemmas.proofs.Lists.{all-filter}
+use Rattle.bsc_lemmas.proofs.Options.{or_assoc, or_none}
 
 or_two : {A : Type 0} (o : Option A) (y : A) (q : Option A) → option_or (option_or o (Some y)) q ≡ option_or o (Some y)
 or_two None y q = refl

@@ -1,5 +1,5 @@
 -- The desk stands for a history with one entry more.
-use Rattle.std.proofs.Common.{◌≡◌, inl, inr, ℕ, suc, ◌+◌, Bool, true, false, not, cond, List, [], ◌∷◌, ◌++◌, length, map, filter, Option, Some, None, option_to_list, refl, ap, sym, ◌∙◌, subst, length-append, append-nil}
+use Rattle.std.proofs.Common.{◌≡◌, inl, inr, ℕ, ◌+◌, Bool, true, false, not, cond, List, [], ◌∷◌, ◌++◌, length, map, filter, Option, Some, None, option_to_list, refl, ap, sym, ◌∙◌, subst, length-append, append-nil}
 use Rattle.std.specs.List.{list_any, position, AllByRecursion}
 use Rattle.std.specs.Option.{option_or}
 use Rattle.bsc_history.specs.declared.limits.About.{About}
@@ -17,7 +17,7 @@ use Rattle.bsc_history.specs.Marks.{entries}
 use Rattle.bsc_history.specs.Outboxes.{added, sent}
 use Rattle.bsc_history.proofs.Lists.{In, In_from_all, all_from_In}
 use Rattle.bsc_history.proofs.Marks.{mark_grows}
-use Rattle.bsc_history.proofs.More.{Legal-more, counts-more, ended-more, entries-more, or_none, sent-more, unleft-more}
+use Rattle.bsc_history.proofs.More.{Legal-more, counts-more, ended-more, entries-more, sent-more, unleft-more}
 use Rattle.bsc_ring.specs.declared.ends.Inlet.{Inlet}
 use Rattle.bsc_ring.specs.Ends.{capacity_of, ending_of, inlet_mark, loads, pushed}
 use Rattle.bsc_ring.specs.Lists.{Item}
@@ -29,12 +29,10 @@ use Rattle.bsc_desk.specs.Standing.{IsInletOf, StandsFor, all_found, found_at}
 use Rattle.bsc_desk.specs.Tallies.{no_counts}
 use Rattle.bsc_desk.proofs.Histories.{unleft_apart, unleft_joined}
 use Rattle.bsc_desk.proofs.Looks.{all_found-more}
-use Rattle.bsc_desk.proofs.Places.{position_more}
 use Rattle.bsc_desk.proofs.Walks.{apart_rows, each_all, each_connections}
-
-pub length_entries : (S : List Stamped) → length (entries S) ≡ length S
-length_entries [] = refl
-length_entries (s ∷ S) = ap suc (length_entries S)
+use Rattle.bsc_history.proofs.Common.{length_entries, none_leave}
+use Rattle.bsc_lemmas.proofs.Lists.{position_more}
+use Rattle.bsc_lemmas.proofs.Options.{or_none}
 
 -- inlets
 
@@ -128,10 +126,6 @@ pub record Stays (e : Entry) : Type 0 where
   pub goes_on : stops e ≡ false
   pub stays : (c : ℕ) → leaves c e ≡ false
   pub joins_none : connection_of e ≡ None
-
-none_leave : (e : Entry) (xs : List Connection) → ((c : ℕ) → leaves c e ≡ false) → filter (λ x. not (leaves x.number e)) xs ≡ xs
-none_leave e [] stays = refl
-none_leave e (x ∷ xs) stays = rw (stays x.number) (ap (λ (l : List Connection). x ∷ l) (none_leave e xs stays))
 
 pub keeps_on : (d n : Desk) (e : Entry) → Stays e → n.about ≡ d.about → n.stopped_at ≡ d.stopped_at → n.tally.made ≡ d.tally.made + 1 → n.tally.counts ≡ plus d.tally.counts (counts_of e) → map connection n.rows.items ≡ map connection d.rows.items → Keeps d n e
 keeps_on d n e still about stop made count rows = record {

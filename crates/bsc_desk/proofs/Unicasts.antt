@@ -1,5 +1,5 @@
 -- A unicast: it goes to the row of its holder, if there is one.
-use Rattle.std.proofs.Common.{◌≡◌, ◌≢◌, ℕ, zero, suc, ◌+◌, ◌<◌, ◌==◌, Bool, true, false, not, ◌&&◌, ◌||◌, cond, List, [], ◌∷◌, ◌++◌, length, map, filter, find, get_or, Option, Some, None, is_some, refl, ap, sym, ◌∙◌, subst, arith, append-nil}
+use Rattle.std.proofs.Common.{◌≡◌, ◌≢◌, ℕ, zero, suc, ◌+◌, ◌<◌, ◌==◌, Bool, true, false, not, ◌&&◌, cond, List, [], ◌∷◌, ◌++◌, length, map, find, get_or, Option, Some, None, is_some, refl, ap, sym, ◌∙◌, subst, arith, append-nil}
 use Rattle.std.specs.List.{list_any, list_all, position, AllByRecursion}
 use Rattle.std.specs.Option.{option_map}
 use Rattle.std.specs.Cmp.Lexicographic.{same_text, bytes_decides}
@@ -47,9 +47,9 @@ use Rattle.bsc_desk.proofs.Forwards.{lawful_served, looks_named, served, stands_
 use Rattle.bsc_desk.proofs.LiveRows.{live_found}
 use Rattle.bsc_desk.proofs.Newest.{no_find}
 use Rattle.bsc_desk.proofs.Orders.{InOrder, order_true}
-use Rattle.bsc_desk.proofs.Places.{position_any, position-cons}
 use Rattle.bsc_desk.proofs.Standings.{rows_apart}
 use Rattle.bsc_desk.proofs.Walks.{OnlyAt, all_at}
+use Rattle.bsc_lemmas.proofs.Lists.{position-cons, position_any}
 
 -- whether the row is that of the live connection with the address
 abbrev pub holds : Vmac → Row → Bool

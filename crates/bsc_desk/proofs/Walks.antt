@@ -1,12 +1,11 @@
 -- Rows that change row by row, or at one place.
-use Rattle.std.proofs.Common.{◌≡◌, ◌≢◌, inl, inr, ℕ, zero, suc, ◌+◌, ◌<◌, ◌≤◌, ◌==◌, Bool, true, false, cond, ◌||◌, List, [], ◌∷◌, ◌++◌, length, map, find, get_or, Option, Some, None, refl, ap, sym, ◌∙◌, subst, arith}
+use Rattle.std.proofs.Common.{◌≡◌, ◌≢◌, ℕ, zero, suc, ◌<◌, ◌==◌, Bool, true, false, cond, List, [], ◌∷◌, length, map, find, get_or, Option, Some, refl, ap, sym, ◌∙◌, subst, arith}
 use Rattle.std.proofs.Math.ListN.{set}
-use Rattle.std.specs.List.{list_any, position, AllByRecursion}
-use Rattle.std.proofs.lemmas.Bool.{eq-eqb, ne_eqb, eqb-true}
+use Rattle.std.specs.List.{position, AllByRecursion}
+use Rattle.std.proofs.lemmas.Bool.{ne_eqb, eqb-true}
 use Rattle.std.proofs.lemmas.List.Quantifiers.{position-Some}
 use Rattle.bsc_history.specs.declared.connection.Connection.{Connection}
 use Rattle.bsc_history.specs.Laws.{Apart}
-use Rattle.bsc_history.proofs.Lists.{In}
 use Rattle.bsc_desk.specs.declared.row.Row.{Row}
 use Rattle.bsc_desk.specs.Changes.{ChangesAt, EachBecomes}
 use Rattle.bsc_desk.specs.Live.{connection, number}
@@ -36,11 +35,6 @@ each_all R P Q [] [] f all h = tt
 each_all R P Q (r ∷ rows) (s ∷ after) f all h = (f r s all.0 h.0, each_all R P Q rows after f all.1 h.1)
 each_all R P Q rows after f all h = absurd h
 
-pub each_both : (R T : Row → Row → Type 0) (P : Row → Type 0) (rows after : List Row) → ((r s : Row) → P r → R r s → T r s) → AllByRecursion P rows → EachBecomes R rows after → EachBecomes T rows after
-each_both R T P [] [] f all h = tt
-each_both R T P (r ∷ rows) (s ∷ after) f all h = (f r s all.0 h.0, each_both R T P rows after f all.1 h.1)
-each_both R T P rows after f all h = absurd h
-
 -- what R leaves alone in a row, it leaves alone in what a look-up by number finds
 pub each_found : {A : Type 0} (g : Option Row → A) (R : Row → Row → Type 0) (c : ℕ) (rows after : List Row) → ((r s : Row) → R r s → (s.connection ≡ r.connection) × (g (Some s) ≡ g (Some r))) → EachBecomes R rows after → g (find (has_number c) after) ≡ g (find (has_number c) rows)
 each_found g R c [] [] f h = refl
@@ -57,11 +51,6 @@ pub changes_set : (R : Row → Row → Type 0) (rows : List Row) (i : ℕ) (r s 
 changes_set R [] i r s within at h = absurd (omega arith)
 changes_set R (x ∷ rows) zero r s within at h = (subst (λ z. R z s) at h, refl)
 changes_set R (x ∷ rows) (suc i) r s within at h = (refl, changes_set R rows i r s (omega arith) at h)
-
-pub changes_weaker : (R T : Row → Row → Type 0) (i : ℕ) (rows after : List Row) → ((r s : Row) → R r s → T r s) → ChangesAt R i rows after → ChangesAt T i rows after
-changes_weaker R T zero (r ∷ rows) (s ∷ after) f h = (f r s h.0, h.1)
-changes_weaker R T (suc i) (r ∷ rows) (s ∷ after) f h = (h.0, changes_weaker R T i rows after f h.1)
-changes_weaker R T i rows after f h = absurd h
 
 -- it is a change row by row, where a row may stay as it is
 pub changes_each : (R T : Row → Row → Type 0) (i : ℕ) (rows after : List Row) → ((r s : Row) → R r s → T r s) → ((r : Row) → T r r) → ChangesAt R i rows after → EachBecomes T rows after

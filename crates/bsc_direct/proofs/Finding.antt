@@ -1,32 +1,9 @@
 -- Looking through the slots that are kept finds what looking through the calls does.
-use Rattle.std.proofs.Common.{◌≡◌, ◌<◌, ◌+◌, ℕ, zero, suc, nat_lt, Bool, true, false, not, cond, List, [], ◌∷◌, length, get_or, find, Option, Some, None, refl, ap, sym, ◌∙◌, arith}
-use Rattle.std.specs.Prelude.{◌==◌}
-use Rattle.std.specs.List.{position, position_or_len, range_with_len}
+use Rattle.std.proofs.Common.{◌≡◌, ◌+◌, ℕ, zero, suc, Bool, true, false, cond, List, [], ◌∷◌, length, get_or, find, Option, Some, None, refl, ap, sym, ◌∙◌, arith}
+use Rattle.std.specs.List.{position, range_with_len}
 use Rattle.std.specs.Option.{option_map}
-use Rattle.std.proofs.lemmas.Bool.Decides.{nat_tests}
-use Rattle.std.proofs.lemmas.List.Quantifiers.{position-Some}
 use Rattle.bsc_direct.specs.Slots.{slots}
-
-below_both : (k n : ℕ) → nat_lt (1 + k) (suc n) ≡ nat_lt k n
-below_both k n = grind (arith, nat_tests)
-
-above_zero : (n : ℕ) → nat_lt 0 (suc n) ≡ true
-above_zero n = grind (arith, nat_tests)
-
-shifted : (b : Bool) (k : ℕ) → cond b (Some (1 + k)) None ≡ option_map (λ (i : ℕ). 1 + i) (cond b (Some k) None)
-shifted true k = refl
-shifted false k = refl
-
-position-cons : {X : Type 0} (p : X → Bool) (x : X) (xs : List X) → position p (x ∷ xs) ≡ cond (p x) (Some 0) (option_map (λ i. 1 + i) (position p xs))
-position-cons p x xs =
-    elim (p x) as (λ b. cond (nat_lt (cond (not b) (1 + position_or_len p xs) 0) (suc (length xs))) (Some (cond (not b) (1 + position_or_len p xs) 0)) None ≡ cond b (Some 0) (option_map (λ i. 1 + i) (position p xs))) [
-      | true ↦ ap (λ (b : Bool). cond b (Some 0) None) (above_zero (length xs))
-      | false ↦ ap (λ (b : Bool). cond b (Some (1 + position_or_len p xs)) None) (below_both (position_or_len p xs) (length xs)) ∙ shifted (nat_lt (position_or_len p xs) (length xs)) (position_or_len p xs)
-    ]
-
--- a place is within
-pub placed : {X : Type 0} (p : X → Bool) (xs : List X) (k : ℕ) (d : X) → position p xs ≡ Some k → length xs ≡ 64 → k < 64
-placed p xs k d h len = let q = position-Some p xs k d h in omega (arith, q.0)
+use Rattle.bsc_lemmas.proofs.Lists.{position-cons}
 
 -- where there is no place, none passes
 pub none_passes : {X : Type 0} (p : X → Bool) (d : X) (xs : List X) → p d ≡ false → position p xs ≡ None → (k : ℕ) → p (get_or xs k d) ≡ false

@@ -1,5 +1,5 @@
 -- What is kept goes on standing for what happened.
-use Rattle.std.proofs.Common.{◌≡◌, ◌<◌, ◌≤◌, ◌+◌, ℕ, zero, suc, Bool, true, false, not, cond, ◌&&◌, List, [], ◌∷◌, ◌++◌, length, get_or, find, replicate, Option, Some, None, is_some, refl, ap, sym, ◌∙◌, subst, arith}
+use Rattle.std.proofs.Common.{◌≡◌, ◌<◌, ◌≤◌, ℕ, zero, suc, Bool, true, false, not, cond, ◌&&◌, List, [], ◌∷◌, ◌++◌, length, replicate, Option, Some, None, is_some, refl, ap, sym, ◌∙◌, subst, arith}
 use Rattle.std.specs.Prelude.{◌==◌}
 use Rattle.std.specs.List.{position}
 use Rattle.std.proofs.Math.ListN.{set}
@@ -14,17 +14,20 @@ use Rattle.bsc_octets.specs.Addresses.{same_vmac, same_device, broadcast}
 use Rattle.bsc_direct.specs.declared.slot.Slot.{Slot}
 use Rattle.bsc_direct.specs.declared.slot.Slot.TheVariants.{Free, Claimed, Established}
 use Rattle.bsc_direct.specs.declared.establish.Establish.{Establish}
-use Rattle.bsc_direct.specs.declared.establish.Establish.TheVariants.{Up as IsUp, Duplicate, WrongPeer}
+use Rattle.bsc_direct.specs.declared.establish.Establish.TheVariants.{Up as IsUp, WrongPeer}
 use Rattle.bsc_direct.specs.declared.call.SlotCall.{SlotCall}
 use Rattle.bsc_direct.specs.declared.call.SlotCall.TheVariants.{Claim, Up, Release}
 use Rattle.bsc_direct.specs.declared.direct.Direct.{Direct}
 use Rattle.bsc_direct.specs.Slots.{replaces, is_claimed, wanted, established_peer, free_slot, is_peer, established_with, established, is_rival, unless_rival, unless_own, unless_wrong, establish, slots}
 use Rattle.bsc_direct.specs.Laws.{PeersAreApart}
-use Rattle.bsc_direct.specs.Kept.{says_claimed, says_wanted, says_peer, without_peer, slot_at, kept_with, establish_kept, slots_without, slots_with, slots_up}
+use Rattle.bsc_direct.specs.Kept.{says_claimed, says_wanted, says_peer, without_peer, slot_at, kept_with, establish_kept, slots_without, slots_up}
 use Rattle.bsc_direct.specs.Standing.{SlotStands, StandsFor, StandsOn, IsClaimed, Answers, and_up}
-use Rattle.bsc_direct.proofs.OneMore.{device_laws, device_same, vmac_same, some_none, claimed-kept, claimed-said, wanted-kept, wanted-said, unless_now, peer-more, peer-cleared, peer-up}
+use Rattle.bsc_direct.proofs.OneMore.{device_laws, claimed-kept, claimed-said, wanted-kept, wanted-said, unless_now, peer-more, peer-cleared, peer-up}
 use Rattle.bsc_direct.proofs.Keeping.{HasNoRival, quiet-apart, quiet-unicast, up-apart, up-unicast}
 use Rattle.bsc_direct.proofs.Finding.{none_passes, found_as_kept, none_found}
+use Rattle.bsc_lemmas.proofs.Booleans.{and_false}
+use Rattle.bsc_lemmas.proofs.Options.{some_none_any as some_none}
+use Rattle.bsc_octets.proofs.Common.{device_same, vmac_same}
 
 abbrev pub Stand : List Slot → List SlotCall → Type 0
 Stand items calls = (k : ℕ) → SlotStands calls k (slot_at items k)
@@ -121,10 +124,6 @@ length_without (Some r) items = length-set items r (without_peer (slot_at items 
 peer_there : (test : Identity → Bool) (o : Option Identity) → is_peer test o ≡ true → (x : Identity) × (o ≡ Some x) × (test x ≡ true)
 peer_there test None h = cc
 peer_there test (Some x) h = (x, refl, h)
-
-and_false : (b : Bool) → (b && false) ≡ false
-and_false true = refl
-and_false false = refl
 
 -- another device stays
 beside : (slot k : ℕ) (who : Identity) (o : Option Identity) → ((z : Identity) → o ≡ Some z → same_device who.device z.device ≡ false) → unless_now k (Up slot who) o ≡ o

@@ -1,14 +1,16 @@
 -- The established slots stay apart, and none has the broadcast VMAC.
-use Rattle.std.proofs.Common.{◌≡◌, ℕ, Bool, true, false, not, cond, ◌&&◌, List, [], ◌∷◌, ◌++◌, Option, Some, None, refl, ap, sym, ◌∙◌, subst, arith}
+use Rattle.std.proofs.Common.{◌≡◌, ℕ, Bool, true, false, not, cond, ◌&&◌, List, [], ◌∷◌, ◌++◌, Some, None, refl, ap, sym, ◌∙◌, subst, arith}
 use Rattle.std.specs.Prelude.{◌==◌}
 use Rattle.bsc_octets.specs.declared.identity.Identity.{Identity}
 use Rattle.bsc_octets.specs.Addresses.{same_vmac, same_device, broadcast}
 use Rattle.bsc_direct.specs.declared.call.SlotCall.{SlotCall}
-use Rattle.bsc_direct.specs.declared.call.SlotCall.TheVariants.{Claim, Up, Release}
+use Rattle.bsc_direct.specs.declared.call.SlotCall.TheVariants.{Up}
 use Rattle.bsc_direct.specs.Slots.{peer_by, replaces, established_peer, is_rival}
 use Rattle.bsc_direct.specs.Laws.{PeersAreApart}
 use Rattle.bsc_direct.specs.Standing.{PeersAreUnicast}
-use Rattle.bsc_direct.proofs.OneMore.{vmac_laws, device_laws, some_same, both_ways, peer-before, peer-beside, peer-up}
+use Rattle.bsc_direct.proofs.OneMore.{device_laws, both_ways, peer-before, peer-beside, peer-up}
+use Rattle.bsc_octets.proofs.Common.{vmac_laws}
+use Rattle.std.proofs.lemmas.Option.{same_Some as some_same}
 
 -- a call that establishes nothing
 pub quiet-apart : (calls : List SlotCall) (call : SlotCall) → ((k : ℕ) → peer_by k call ≡ None) → ((k : ℕ) (w : Identity) → replaces k w call ≡ false) → PeersAreApart calls → PeersAreApart (calls ++ call ∷ [])

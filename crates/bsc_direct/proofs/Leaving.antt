@@ -1,16 +1,17 @@
 -- How a call leaves the slots beside the one that it is about.
-use Rattle.std.proofs.Common.{◌≡◌, ◌<◌, ◌≤◌, ℕ, Bool, true, false, List, length, Option, Some, None, refl, ap, sym, ◌∙◌, subst, rules}
+use Rattle.std.proofs.Common.{◌≡◌, ◌<◌, ℕ, Bool, true, false, List, length, Option, Some, None, refl, ap, sym, ◌∙◌, subst}
 use Rattle.std.specs.Prelude.{◌==◌}
 use Rattle.std.proofs.Math.ListN.{set}
 use Rattle.bsc_octets.specs.declared.vmac.Vmac.{Vmac}
 use Rattle.bsc_octets.specs.declared.identity.Identity.{Identity}
 use Rattle.bsc_direct.specs.declared.slot.Slot.{Slot}
-use Rattle.bsc_direct.specs.declared.slot.Slot.TheVariants.{Free, Claimed, Established}
+use Rattle.bsc_direct.specs.declared.slot.Slot.TheVariants.{Claimed, Established}
 use Rattle.bsc_direct.specs.declared.direct.Direct.{Direct}
 use Rattle.bsc_direct.specs.Kept.{says_claimed, says_peer, says_wanted, without_peer, slot_at, slots_without, slots_up}
 use Rattle.bsc_direct.specs.Left.{IsHeld, LeavesOthers}
 use Rattle.bsc_direct.specs.Standing.{IsOnlyClaimed}
 use Rattle.bsc_direct.proofs.Following.{set_here, set_there, keeps_claimed, loses_peer, without_same, length_without, Within}
+use Rattle.bsc_lemmas.proofs.Booleans.{eq_self}
 
 pub set_leaves : (old new : Direct) (slot : ℕ) (s : Slot) → new.slots.items ≡ set old.slots.items slot s → LeavesOthers old new slot
 set_leaves old new slot s items = record {
@@ -20,9 +21,6 @@ set_leaves old new slot s items = record {
 
 pub same_leaves : (d : Direct) (slot : ℕ) → LeavesOthers d d slot
 same_leaves d slot = record { held = λ k n h. h; alone = λ k n h. h }
-
-eq_self : (n : ℕ) → (n == n) ≡ true
-eq_self n = search rules
 
 pub set_only : (d : Direct) (items : List Slot) (slot : ℕ) (v : Option Vmac) → slot < 64 → slot < length items → d.slots.items ≡ set items slot (Claimed v) → IsOnlyClaimed d slot
 set_only d items slot v within inside is = record {

@@ -4,34 +4,21 @@ use Rattle.std.specs.Prelude.{◌==◌, unwrap_or}
 use Rattle.std.specs.List.{list_any}
 use Rattle.std.specs.Option.{option_or}
 use Rattle.std.specs.Cmp.{IsEquivalence}
-use Rattle.std.specs.Cmp.Lexicographic.{same_text, on_texts_equal}
+use Rattle.std.specs.Cmp.Lexicographic.{on_texts_equal}
 use Rattle.bsc_octets.specs.declared.vmac.Vmac.{Vmac}
 use Rattle.bsc_octets.specs.declared.device_id.DeviceId.{DeviceId}
 use Rattle.bsc_octets.specs.declared.identity.Identity.{Identity}
-use Rattle.bsc_octets.specs.Addresses.{same_vmac, same_device}
+use Rattle.bsc_octets.specs.Addresses.{same_device}
 use Rattle.bsc_connector.specs.Back.{newest_of, since}
 use Rattle.bsc_connector.proofs.BackLemmas.{newest_of-more, since-more, list_any-more}
 use Rattle.bsc_direct.specs.declared.call.SlotCall.{SlotCall}
-use Rattle.bsc_direct.specs.declared.call.SlotCall.TheVariants.{Claim, Up, Release}
+use Rattle.bsc_direct.specs.declared.call.SlotCall.TheVariants.{Up}
 use Rattle.bsc_direct.specs.Slots.{claim_said, wanted_by, clears, peer_by, replaces, is_up_call, is_claimed, wanted, unless_replaced, established_peer}
-
-pub vmac_laws : IsEquivalence same_vmac
-vmac_laws = on_texts_equal (λ (v : Vmac). v.0)
+use Rattle.bsc_lemmas.proofs.Options.{some_none_any as some_none}
+use Rattle.std.proofs.lemmas.Option.{same_Some as some_same}
 
 pub device_laws : IsEquivalence same_device
 device_laws = on_texts_equal (λ (d : DeviceId). d.0)
-
-pub vmac_same : (v w : Vmac) → same_vmac v w ≡ true → v ≡ w
-vmac_same v w h = ap (λ (l : List ℕ). let r : Vmac = record { 0 = l } in r) (same_text v.0 w.0 (sym h))
-
-pub device_same : (d e : DeviceId) → same_device d e ≡ true → d ≡ e
-device_same d e h = ap (λ (l : List ℕ). let r : DeviceId = record { 0 = l } in r) (same_text d.0 e.0 (sym h))
-
-pub some_none : {A B : Type 0} (x : A) → Some x ≡ None → B
-some_none x h = cc
-
-pub some_same : {A : Type 0} (x y : A) → Some x ≡ Some y → x ≡ y
-some_same x y h = ap (λ o. unwrap_or o x) h
 
 pub both_ways : {B : Type 0} (b : Bool) → b ≡ true → b ≡ false → B
 both_ways b h k = cc

@@ -16,7 +16,7 @@ use Rattle.bsc_frame.specs.declared.fault.FrameFault.{FrameFault}
 use Rattle.bsc_frame.specs.declared.fault.FrameFault.TheVariants.{Fails, NoMemory}
 use Rattle.bsc_frame.specs.Spelling.{Spells}
 use Rattle.bsc_frame.specs.Layout.{announces_data_options, IsList, IsPayload}
-use Rattle.bsc_frame.specs.Checks.{IsFirstOf, IsFirst, order, OfPayload}
+use Rattle.bsc_frame.specs.Checks.{IsFirstOf, IsFirst, order}
 use Rattle.bsc_frame.specs.Checks.{Fails as MessageFails}
 use Rattle.bsc_frame.specs.Walk.{Answers, BodyAnswers, HasHead, HasLists, IsBody, PayloadFails, head_checks, option_checks, payload_checks}
 use Rattle.bsc_frame.proofs.First.{Pass, pass_append, first_later, first_earlier, first_as, first_or_none, one_first}
@@ -24,6 +24,7 @@ use Rattle.bsc_frame.proofs.Heads.{head_facts, head_passes}
 use Rattle.bsc_frame.proofs.OptionLists.{list_one, lists_pass, well}
 use Rattle.bsc_frame.proofs.Bodies.{body_passes, one_body}
 use Rattle.bsc_frame.proofs.Whole.{message_of, spells_by, head_of, dest_end, data_end, has_head, has_lists, has_body, lists_of, is_payload, one_payload}
+use Rattle.bsc_frame.proofs.Common.{of_payload, same_message}
 
 -- ---- the checks of a payload, as checks of the message
 
@@ -34,12 +35,6 @@ payload_fails m f p is payload C10b fault = (p, payload, subst (λ (g : ℕ). Pa
 payload_fails m f p is payload C10c fault = (p, payload, subst (λ (g : ℕ). PayloadFails g p C10c) (sym is) fault)
 payload_fails m f p is payload C11 fault = (p, payload, subst (λ (g : ℕ). PayloadFails g p C11) (sym is) fault)
 payload_fails m f p is payload k fault = absurd fault
-
-OnlyPayload : List ℕ → List ℕ → Type 0
-OnlyPayload m p = (q : List ℕ) → IsPayload m q → q ≡ p
-
-of_payload : (m : List ℕ) (f : ℕ) (p : List ℕ) (k : Check) → function_in m ≡ f → ((q : List ℕ) → IsPayload m q → q ≡ p) → OfPayload m (λ g q. PayloadFails g q k) → PayloadFails f p k
-of_payload m f p k is one found = subst (λ (g : ℕ). PayloadFails g p k) is (subst (λ (q : List ℕ). PayloadFails (function_in m) q k) (one found.0 found.1) found.2)
 
 fails_of_payload : (m : List ℕ) (f : ℕ) (p : List ℕ) → function_in m ≡ f → ((q : List ℕ) → IsPayload m q → q ≡ p) → AllByRecursion (λ k. MessageFails m k → PayloadFails f p k) payload_checks
 fails_of_payload m f p is one = (of_payload m f p C10 is one, (of_payload m f p C10b is one, (of_payload m f p C10c is one, (of_payload m f p C11 is one, tt))))
@@ -86,12 +81,6 @@ spelled_passes msg m spells =
     let back = fails_of_payload m e.function p function one in
     pass_append (MessageFails m) (head_checks ++ option_checks) payload_checks (front_passes m e (dest_end msg) (data_end msg) msg.dest_options msg.data_options head lists)
     ((λ f. passes.0 (back.0 f)), ((λ f. passes.1.0 (back.1.0 f)), ((λ f. passes.1.1.0 (back.1.1.0 f)), ((λ f. passes.1.1.1.0 (back.1.1.1.0 f)), tt))))
-
--- it is one message
-same_message : (x y : Message) → x.id ≡ y.id → x.origin ≡ y.origin → x.dest ≡ y.dest → x.dest_options ≡ y.dest_options → x.data_options ≡ y.data_options → x.body ≡ y.body → x ≡ y
-same_message x y id origin dest first second body =
-    let whole : record { id = x.id; origin = x.origin; dest = x.dest; dest_options = x.dest_options; data_options = x.data_options; body = x.body } ≡ y = rw (id, origin, dest, first, second, body) refl in
-    whole
 
 pub one_message : (x y : Message) (m : List ℕ) → Spells x m → Spells y m → x ≡ y
 one_message x y m spells other =

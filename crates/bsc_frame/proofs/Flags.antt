@@ -1,10 +1,11 @@
 -- The control flags: how they are tested, what a message sets, and that they are no more than that.
-use Rattle.std.proofs.Common.{◌≡◌, ℕ, zero, suc, ◌+◌, ◌*◌, ◌/◌, ◌%◌, ◌<◌, ◌≤◌, Bool, true, false, eqb, refl, ◌∙◌, arith}
+use Rattle.std.proofs.Common.{◌≡◌, ℕ, ◌+◌, ◌*◌, ◌/◌, ◌%◌, ◌≤◌, Bool, true, false, refl, ◌∙◌, arith}
 use Rattle.std.specs.Prelude.{bit_and}
 use Rattle.std.proofs.lemmas.Nat.Bits.{and_pow}
 use Rattle.bsc_octets.specs.Envelopes.{announces_origin, announces_dest}
 use Rattle.bsc_options.specs.Spelling.{bit}
 use Rattle.bsc_frame.specs.Layout.{announces_dest_options, announces_data_options}
+use Rattle.bsc_options.proofs.Common.{bit_of}
 
 -- ---- tests
 
@@ -46,12 +47,6 @@ announced true true false false = record { origin = refl; dest = refl; dest_opti
 announced true true false true = record { origin = refl; dest = refl; dest_options = refl; data_options = refl; few = omega arith }
 announced true true true false = record { origin = refl; dest = refl; dest_options = refl; data_options = refl; few = omega arith }
 announced true true true true = record { origin = refl; dest = refl; dest_options = refl; data_options = refl; few = omega arith }
-
--- a bit that is tested
-bit_of : (n : ℕ) → n < 2 → bit (eqb n 1) ≡ n
-bit_of zero h = refl
-bit_of (suc zero) h = refl
-bit_of (suc (suc n)) h = absurd (omega arith)
 
 -- flags none of which is reserved are those that they announce
 pub flags_again : (flags : ℕ) → flags ≤ 0x0F → four_flags (announces_origin flags) (announces_dest flags) (announces_dest_options flags) (announces_data_options flags) ≡ flags

@@ -10,3 +10,4 @@ pub mod Bodies
 pub mod Whole
 pub mod Exact
 mod WorkedMessages
+pub mod Common

@@ -12,7 +12,7 @@ use Rattle.bsc_options.specs.declared.fault.OptionsFault.TheVariants.{Cut, BadKi
 use Rattle.bsc_options.specs.Spelling.{AreOptions, HasShape, has_items, spelling_of}
 use Rattle.bsc_options.specs.Reading.{BeginsWith, IsCut, IsFirstAtFault}
 use Rattle.bsc_options.proofs.Chains.{has_items-some}
-use Rattle.bsc_options.proofs.Exact.{fit_all, one_reading, cut_or_whole, options_or_fault}
+use Rattle.bsc_options.proofs.Exact.{fit_all, one_reading}
 use Rattle.bsc_frame.specs.declared.check.Check.TheVariants.{C7, C7b, C8}
 use Rattle.bsc_frame.specs.Spelling.{TakesDataOptions}
 use Rattle.bsc_frame.specs.Layout.{announces_dest_options, announces_data_options, options_at, IsList}
@@ -20,6 +20,7 @@ use Rattle.bsc_frame.specs.Checks.{Fails, IsFirstOf, HasItemAtFault, LacksOption
 use Rattle.bsc_frame.specs.Walk.{option_checks}
 use Rattle.bsc_frame.proofs.First.{Pass}
 use Rattle.bsc_frame.proofs.Heads.{HeadFacts}
+use Rattle.bsc_frame.proofs.Common.{list_without_fault, not_cut as list_not_cut}
 
 -- ---- one list
 
@@ -44,14 +45,6 @@ list_of b m at (x ∷ xs) rest is shapes e =
     let items = x ∷ xs in
     let after : drop (at + length (spelling_of items)) m ≡ rest = sym (drop-drop (length (spelling_of items)) at m) ∙ ap (drop (length (spelling_of items))) e ∙ drop_at (spelling_of items) rest (length (spelling_of items)) refl in
     rw is (record { some = omega arith; fit = fit_all items shapes }, record { spelling = e ∙ ap (λ (l : List ℕ). spelling_of items ++ l) (sym after); place = refl })
-
-list_not_cut : (b : Bool) (m : List ℕ) (at : ℕ) (items : List OptionItem) (end : ℕ) → IsList b m at items end → b ≡ true → IsCut m at → ⊥
-list_not_cut true m at items end p set cut = cut_or_whole m at items end p.0 p.1 cut
-list_not_cut false m at items end p set cut = absurd cc
-
-list_without_fault : (b : Bool) (m : List ℕ) (at : ℕ) (items : List OptionItem) (end : ℕ) → IsList b m at items end → AllByRecursion HasShape items → b ≡ true → HasItemAtFault m at → ⊥
-list_without_fault true m at items end p shapes set fault = options_or_fault m at items end fault.0 (record { some = p.0.some; shapes = shapes }) p.1 fault.1
-list_without_fault false m at items end p shapes set fault = absurd cc
 
 -- the list that another reading found at its place
 pub list_read : (b : Bool) (m : List ℕ) (at : ℕ) (xs ys : List OptionItem) (end other : ℕ) → b ≡ true → AreOptions xs → BeginsWith m at xs other → IsList b m at ys end → xs ≡ ys

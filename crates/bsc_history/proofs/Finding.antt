@@ -1,5 +1,5 @@
 -- What a Forward finds where a look of it finds an outbox full.
-use Rattle.std.proofs.Common.{◌≡◌, inl, inr, ℕ, ◌==◌, Bool, true, false, not, ◌&&◌, ◌||◌, cond, List, [], ◌∷◌, ◌++◌, map, filter, Option, Some, None, is_some, is_none, refl, ap, sym, ◌∙◌, append-nil}
+use Rattle.std.proofs.Common.{◌≡◌, inl, inr, ℕ, ◌==◌, Bool, true, false, not, ◌&&◌, ◌||◌, cond, List, [], ◌∷◌, ◌++◌, map, filter, Option, Some, None, is_some, refl, ap, sym, ◌∙◌, append-nil}
 use Rattle.std.specs.List.{list_any}
 use Rattle.std.proofs.lemmas.Bool.{eqb-true, and_parts, and_right, or_cases, or_left, or_right, both_ways}
 use Rattle.bsc_octets.specs.Forwarding.{destination, is_broadcast}
@@ -21,6 +21,7 @@ use Rattle.bsc_history.specs.Laws.{is_among}
 use Rattle.bsc_history.proofs.Lists.{none_passes}
 use Rattle.bsc_history.proofs.More.{sent-more}
 use Rattle.bsc_history.proofs.Named.{among_filter, and_true}
+use Rattle.bsc_history.proofs.Common.{aimed as looked_at}
 
 -- the look that finds it full names it
 pub look_names : (f : Look → Bool) (c : ℕ) (looks : List Look) → list_any (λ k. (k.conn == c) && f k) looks ≡ true → is_among c (map (λ k. k.conn) looks) ≡ true
@@ -33,12 +34,6 @@ look_names f c (k ∷ ks) h = elim (or_cases ((k.conn == c) && f k) (list_any (�
 -- whether x is the connection c, and the frame isn't too long for it
 abbrev pub fits : List ℕ → ℕ → Connection → Bool
 fits o c x = (x.number == c) && not (is_too_long o x)
-
--- where a Forward looks at c, the hub hasn't stopped, the sender hasn't ended, and c is among those that it means
-looked_at : (s : Bool) (w : Option End) (c : ℕ) (ks : List ℕ) → is_among c (cond (s || not (is_none w)) [] ks) ≡ true → (s ≡ false) × (w ≡ None) × (is_among c ks ≡ true)
-looked_at true w c ks h = cc
-looked_at false (Some k) c ks h = cc
-looked_at false None c ks h = (refl, refl, h)
 
 pub fits_live : (o : List ℕ) (c : ℕ) (p : Connection → Bool) (xs : List Connection) → list_any (fits o c) (filter p xs) ≡ true → is_some (numbered c xs) ≡ true
 fits_live o c p [] h = h

@@ -1,5 +1,5 @@
 -- The holder of an address after one entry more.
-use Rattle.std.proofs.Common.{◌≡◌, Bool, true, cond, List, [], ◌∷◌, ◌++◌, filter, find, Option, Some, None, is_none, option_to_list, refl, ap, sym, ◌∙◌}
+use Rattle.std.proofs.Common.{◌≡◌, Bool, cond, List, [], ◌∷◌, ◌++◌, filter, find, Option, Some, None, is_none, option_to_list, refl, ap, ◌∙◌}
 use Rattle.std.specs.Option.{option_or}
 use Rattle.std.proofs.lemmas.Bool.{false_from_ne_true}
 use Rattle.std.proofs.lemmas.List.Folds.{find-append}
@@ -12,22 +12,13 @@ use Rattle.bsc_history.specs.Entries.{connection_of, moment}
 use Rattle.bsc_history.specs.Ends.{end_by, live}
 use Rattle.bsc_history.specs.Holders.{holder}
 use Rattle.bsc_history.specs.Legality.{Lawful, Legal}
-use Rattle.bsc_history.specs.Laws.{kept_if}
-use Rattle.bsc_history.proofs.Lists.{In-filter, find-filter, none_found}
+use Rattle.bsc_history.proofs.Lists.{In-filter, none_found}
 use Rattle.bsc_history.proofs.More.{live-more}
-use Rattle.bsc_history.proofs.Uniqueness.{settled, comes, vmac_same, vmac_refl, vmac_clash}
+use Rattle.bsc_history.proofs.Uniqueness.{settled, comes, vmac_refl, vmac_clash}
+use Rattle.bsc_octets.proofs.Common.{vmac_same}
 
 abbrev has : Vmac → Connection → Bool
 has v c = same_vmac c.who.vmac v
-
--- The holder stays unless the entry ends it; where there is none left, it is who joins, if under this address.
-pub holder-more : (a : About) (H : List Entry) (e : Entry) (v : Vmac) → Legal a H → holder (H ++ e ∷ []) v ≡ option_or (kept_if (λ x. is_none (end_by x.number e)) (holder H v)) (find (has v) (option_to_list (connection_of e)))
-holder-more a H e v legal =
-    let K = λ (x : Connection). is_none (end_by x.number e) in
-    let new = option_to_list (connection_of e) in
-    let agree : (x y : Connection) → has v x ≡ true → has v y ≡ true → x.who.vmac ≡ y.who.vmac = λ x y p q. vmac_same x.who.vmac v p ∙ sym (vmac_same y.who.vmac v q) in
-    ap (find (has v)) (live-more H e) ∙ find-append (has v) (filter K (live H)) new
-    ∙ ap (λ (o : Option Connection). option_or o (find (has v) new)) (find-filter (λ (x : Connection). x.who.vmac) (has v) K (live H) (settled a H legal).holders agree)
 
 -- Who joins holds its address.
 pub holder-join : (a : About) (H : List Entry) (e : Entry) (x : Connection) → Legal a H → Lawful a (moment H e) → connection_of e ≡ Some x → holder (H ++ e ∷ []) x.who.vmac ≡ Some x

@@ -17,6 +17,7 @@ use Rattle.bsc_history.proofs.More.{Legal-more, unleft-more}
 use Rattle.bsc_history.proofs.Named.{unleft_joined}
 use Rattle.bsc_history.proofs.Numbers.{numbers_are_new}
 use Rattle.bsc_history.proofs.Parts.{All-parts, Legal-first, own-append}
+use Rattle.bsc_lemmas.proofs.Lists.{same_rest}
 
 -- a Leave is of a connection of its caller
 leave_of_own : (a : About) (G : List Entry) (p : ℕ) (call : Call) → may_call a G p call ≡ true → (c : ℕ) → is_leave c call ≡ true → is_of G p c ≡ true
@@ -25,10 +26,6 @@ leave_of_own a G p (Connect who) h c is = cc
 leave_of_own a G p (Forward conn m) h c is = cc
 leave_of_own a G p Stop h c is = cc
 leave_of_own a G p Count h c is = cc
-
-same_rest : {A : Type 0} (xs ys zs : List A) → xs ++ ys ≡ xs ++ zs → ys ≡ zs
-same_rest [] ys zs h = h
-same_rest {A} (x ∷ xs) ys zs h = same_rest xs ys zs (let k : xs ++ ys ≡ xs ++ zs = cc in k)
 
 -- where none of the caller's own entries is a leave of c, neither is the first if it is the caller's, nor any later one
 stay_parts : (e : Entry) (es : List Entry) (p c : ℕ) → list_any (leaves c) (own (e ∷ es) p) ≡ false → ((e.caller == p) ≡ true → leaves c e ≡ false) × (list_any (leaves c) (own es p) ≡ false)

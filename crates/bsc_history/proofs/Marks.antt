@@ -1,5 +1,5 @@
 -- The mark that was kept as a connection joined, in a longer history.
-use Rattle.std.proofs.Common.{◌≡◌, ℕ, Bool, true, false, ◌||◌, cond, List, [], ◌∷◌, ◌++◌, find, Option, Some, None, is_some, refl, ap, ◌∙◌}
+use Rattle.std.proofs.Common.{◌≡◌, ℕ, Bool, true, false, cond, List, [], ◌∷◌, ◌++◌, find, Option, Some, None, refl, ap, ◌∙◌}
 use Rattle.std.specs.List.{list_any}
 use Rattle.std.specs.Option.{option_or, option_and_then}
 use Rattle.std.proofs.lemmas.Bool.{or_parts}
@@ -16,25 +16,12 @@ not_found : (S : List Stamped) (c : ℕ) → list_any (joins c) (entries S) ≡ 
 not_found [] c h = refl
 not_found (s ∷ S) c h = let two = or_parts (joins c s.entry) (list_any (joins c) (entries S)) h in rw two.0 (not_found S c two.1)
 
-is_found : (S : List Stamped) (c : ℕ) → is_some (found c S) ≡ list_any (joins c) (entries S)
-is_found [] c = refl
-is_found (s ∷ S) c =
-    let rest = is_found S c in
-    elim (joins c s.entry) as (λ b. is_some (cond b (Some s) (found c S)) ≡ (b || list_any (joins c) (entries S))) [ true ↦ refl | false ↦ rest ]
-
 -- A mark stays as the history grows.
 pub mark_grows : (S T : List Stamped) (c : ℕ) (m : Mark) → mark_of S c ≡ Some m → mark_of (S ++ T) c ≡ Some m
 mark_grows S T c m h =
     let mark = option_and_then (λ (s : Stamped). s.mark) in
     let on : (o : Option Stamped) → mark o ≡ Some m → mark (option_or o (found c T)) ≡ Some m = λ o. elim o as (λ o. mark o ≡ Some m → mark (option_or o (found c T)) ≡ Some m) [ None ↦ λ e. cc | Some s ↦ λ e. e ] in
     ap mark (find-append (λ (s : Stamped). joins c s.entry) S T) ∙ on (found c S) h
-
--- Once a connection has joined, its mark is what it was, be there one or none.
-pub mark_kept : (S T : List Stamped) (c : ℕ) → list_any (joins c) (entries S) ≡ true → mark_of (S ++ T) c ≡ mark_of S c
-mark_kept S T c h =
-    let mark = option_and_then (λ (s : Stamped). s.mark) in
-    let on : (o : Option Stamped) → is_some o ≡ true → mark (option_or o (found c T)) ≡ mark o = λ o. elim o as (λ o. is_some o ≡ true → mark (option_or o (found c T)) ≡ mark o) [ None ↦ λ e. cc | Some s ↦ λ e. refl ] in
-    ap mark (find-append (λ (s : Stamped). joins c s.entry) S T) ∙ on (found c S) (is_found S c ∙ h)
 
 -- The mark of who joins by the newest entry is the one kept with that entry.
 pub mark_new : (S : List Stamped) (s : Stamped) (c : ℕ) → list_any (joins c) (entries S) ≡ false → joins c s.entry ≡ true → mark_of (S ++ s ∷ []) c ≡ s.mark

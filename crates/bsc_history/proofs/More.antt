@@ -12,7 +12,7 @@ use Rattle.bsc_history.specs.declared.ending.End.{End}
 use Rattle.bsc_history.specs.declared.entry.Entry.{Entry}
 use Rattle.bsc_history.specs.declared.looks.Look.{Look}
 use Rattle.bsc_history.specs.declared.connection.Connection.{Connection}
-use Rattle.bsc_history.specs.Entries.{connection_of, joins, own, stops, Moment, moment, moments_after, moments}
+use Rattle.bsc_history.specs.Entries.{connection_of, joins, stops, Moment, moment, moments_after, moments}
 use Rattle.bsc_history.specs.Ends.{end_by, first_end, ended, leaves, joined_where, joined, live, unleft}
 use Rattle.bsc_history.specs.Outboxes.{newer, looked, added, sent}
 use Rattle.bsc_history.specs.declared.mark.Stamped.{Stamped}
@@ -20,6 +20,9 @@ use Rattle.bsc_history.specs.Counting.{counts, counts_of, plus, one_if, is_joine
 use Rattle.bsc_history.specs.Replies.{is_stopped}
 use Rattle.bsc_history.specs.Marks.{entries}
 use Rattle.bsc_history.specs.Legality.{Lawful, Legal}
+use Rattle.bsc_history.proofs.Common.{none_both as none_or}
+use Rattle.bsc_lemmas.proofs.Booleans.{or_false}
+use Rattle.bsc_lemmas.proofs.Options.{or_assoc, or_none}
 
 -- moments
 
@@ -45,14 +48,6 @@ looked-more H e c =
     ap (fold (newer c) 0) (flat_map-append f H (e ∷ []) ∙ ap (λ (l : List Look). flat_map f H ++ l) (append-nil e.looks)) ∙ fold-append (newer c) 0 (flat_map f H) e.looks
 
 -- ends
-
-pub or_none : {A : Type 0} (o : Option A) → option_or o None ≡ o
-or_none None = refl
-or_none (Some x) = refl
-
-or_assoc : {A : Type 0} (o p q : Option A) → option_or o (option_or p q) ≡ option_or (option_or o p) q
-or_assoc None p q = refl
-or_assoc (Some x) p q = refl
 
 pub first_end-more : (c : ℕ) (es : List Entry) (e : Entry) → first_end c (es ++ e ∷ []) ≡ option_or (first_end c es) (end_by c e)
 first_end-more c [] e = or_none (end_by c e)
@@ -90,17 +85,9 @@ pub filter_true : (xs : List Connection) → filter (λ x. true) xs ≡ xs
 filter_true [] = refl
 filter_true (x ∷ xs) = ap (λ (l : List Connection). x ∷ l) (filter_true xs)
 
-none_or : (o p : Option End) → is_none (option_or o p) ≡ (is_none o && is_none p)
-none_or None p = refl
-none_or (Some x) p = refl
-
 not_or : (a b : Bool) → not (a || b) ≡ (not a && not b)
 not_or true b = refl
 not_or false b = refl
-
-pub or_false : (b : Bool) → (b || false) ≡ b
-or_false true = refl
-or_false false = refl
 
 pub live-more : (H : List Entry) (e : Entry) → live (H ++ e ∷ []) ≡ filter (λ x. is_none (end_by x.number e)) (live H) ++ option_to_list (connection_of e)
 live-more H e =
@@ -157,9 +144,6 @@ counts-more H e = λ i. record {
   full = counted (λ (x : Entry). one_if (is_closing x.reply)) H e i;
   missed = counted (λ (x : Entry). missed_in x.reply) H e i;
 }
-
-pub own-more : (H : List Entry) (e : Entry) (p : ℕ) → own (H ++ e ∷ []) p ≡ own H p ++ cond (e.caller == p) (e ∷ []) []
-own-more H e p = filter-append (λ (x : Entry). x.caller == p) H (e ∷ [])
 
 pub is_stopped-more : (H : List Entry) (e : Entry) → is_stopped (H ++ e ∷ []) ≡ (is_stopped H || stops e)
 is_stopped-more H e = list_any-append stops H (e ∷ []) ∙ ap (λ (b : Bool). is_stopped H || b) (or_false (stops e))

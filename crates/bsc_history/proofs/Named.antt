@@ -23,8 +23,10 @@ use Rattle.bsc_history.specs.Replies.{reply, connect_reply, forward_reply, unica
 use Rattle.bsc_history.specs.Legality.{is_of, may_call, Legal}
 use Rattle.bsc_history.specs.Laws.{is_among, names, AddsAsNamed, LiveUntilEnded}
 use Rattle.bsc_history.proofs.Lists.{filter-find, none_filtered}
-use Rattle.bsc_history.proofs.More.{along, live-more, ended-more, is_stopped-more, or_false}
-use Rattle.bsc_history.proofs.Uniqueness.{settled, comes, vmac_same, not_joined}
+use Rattle.bsc_history.proofs.More.{along, live-more, ended-more, is_stopped-more}
+use Rattle.bsc_history.proofs.Uniqueness.{settled, comes, not_joined}
+use Rattle.bsc_lemmas.proofs.Booleans.{and_false, or_false}
+use Rattle.bsc_octets.proofs.Common.{vmac_same}
 
 -- live until ended
 
@@ -139,10 +141,6 @@ meant-unicast a H sender m legal one =
 pub and_true : (b : Bool) → (b && true) ≡ b
 and_true true = refl
 and_true false = refl
-
-and_false : (b : Bool) → (b && false) ≡ false
-and_false true = refl
-and_false false = refl
 
 pub among_filter : (c : ℕ) (q t : Connection → Bool) → ((x : Connection) → ((x.number == c) && q x) ≡ t x) → (xs : List Connection) → is_among c (numbers (filter q xs)) ≡ list_any t xs
 among_filter c q t same [] = refl

@@ -1,22 +1,19 @@
 -- A first part of a history, and what stays as the history grows.
-use Rattle.std.proofs.Common.{◌≡◌, ℕ, ◌==◌, Bool, true, ◌||◌, List, [], ◌∷◌, ◌++◌, filter, Option, Some, None, is_some, option_to_list, refl, ap, sym, ◌∙◌, subst, append_assoc, append-nil}
+use Rattle.std.proofs.Common.{◌≡◌, ℕ, ◌==◌, Bool, true, ◌||◌, List, [], ◌∷◌, ◌++◌, Option, Some, None, is_some, option_to_list, refl, ap, ◌∙◌, subst, append_assoc, append-nil}
 use Rattle.std.specs.List.{list_any, AllByRecursion}
 use Rattle.std.specs.Option.{option_or}
-use Rattle.std.proofs.lemmas.Bool.{or_left}
 use Rattle.std.proofs.lemmas.List.Elements.{filter-append}
-use Rattle.std.proofs.lemmas.List.Folds.{find-append, list_any-append}
+use Rattle.std.proofs.lemmas.List.Folds.{find-append}
 use Rattle.bsc_history.specs.declared.limits.About.{About}
-use Rattle.bsc_history.specs.declared.ending.End.{End}
 use Rattle.bsc_history.specs.declared.entry.Entry.{Entry}
 use Rattle.bsc_history.specs.declared.connection.Connection.{Connection}
-use Rattle.bsc_history.specs.Entries.{Moment, connection_of, is_number, joins, moments_after, own, stops}
-use Rattle.bsc_history.specs.Ends.{ended, joined, joined_where, numbered}
+use Rattle.bsc_history.specs.Entries.{Moment, connection_of, is_number, joins, moments_after, own}
+use Rattle.bsc_history.specs.Ends.{joined, joined_where, numbered}
 use Rattle.bsc_history.specs.Outboxes.{vmac_in, vmac_of}
-use Rattle.bsc_history.specs.Replies.{is_stopped}
 use Rattle.bsc_history.specs.Legality.{Lawful, Legal}
-use Rattle.bsc_history.proofs.Causes.{end_stays}
 use Rattle.bsc_history.proofs.More.{filter_true}
 use Rattle.bsc_history.proofs.Named.{find_one, some_or}
+use Rattle.bsc_history.proofs.Common.{joined-append}
 
 -- legality
 
@@ -38,28 +35,6 @@ Legal-at a F rest e legal = (All-parts (Lawful a) [] F (e ∷ rest) legal.lawful
 
 pub own-append : (F rest : List Entry) (p : ℕ) → own (F ++ rest) p ≡ own F p ++ own rest p
 own-append F rest p = filter-append (λ (e : Entry). e.caller == p) F rest
-
-pub joins_stays : (F rest : List Entry) (c : ℕ) → list_any (joins c) F ≡ true → list_any (joins c) (F ++ rest) ≡ true
-joins_stays F rest c h = list_any-append (joins c) F rest ∙ or_left (list_any (joins c) F) (list_any (joins c) rest) h
-
-pub stopped_stays : (F rest : List Entry) → is_stopped F ≡ true → is_stopped (F ++ rest) ≡ true
-stopped_stays F rest h = list_any-append stops F rest ∙ or_left (is_stopped F) (is_stopped rest) h
-
--- What hasn't ended hadn't ended before.
-pub unended_before : (F rest : List Entry) (c : ℕ) → ended (F ++ rest) c ≡ None → ended F c ≡ None
-unended_before F rest c h =
-    let on : (o : Option End) → ended F c ≡ o → o ≡ None = λ o. elim o as (λ o. ended F c ≡ o → o ≡ None) [
-      | None ↦ λ is. refl
-      | Some w ↦ λ is. (let still : ended (F ++ rest) c ≡ Some w = end_stays F c w rest is in cc)
-    ] in
-    on (ended F c) refl
-
-pub joined-append : (F rest : List Entry) → joined (F ++ rest) ≡ joined F ++ joined rest
-unfolding joined_where
-joined-append [] rest = refl
-joined-append (e ∷ F) rest =
-    let new = filter (λ (x : Connection). true) (option_to_list (connection_of e)) in
-    ap (λ (l : List Connection). new ++ l) (joined-append F rest) ∙ sym (append_assoc new (joined F) (joined rest))
 
 -- Among all that joined there is a connection of the number c exactly where c has joined.
 pub numbered_joined : (F : List Entry) (c : ℕ) → is_some (numbered c (joined F)) ≡ list_any (joins c) F

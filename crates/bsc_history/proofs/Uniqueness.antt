@@ -4,12 +4,11 @@ use Rattle.std.specs.Bool.{⊤}
 use Rattle.std.proofs.lemmas.List.{map-append}
 use Rattle.std.specs.List.{list_any, range_with_len}
 use Rattle.std.specs.Option.{option_or}
-use Rattle.std.specs.Cmp.Lexicographic.{same_text, other_text, pointwise}
+use Rattle.std.specs.Cmp.Lexicographic.{other_text, pointwise}
 use Rattle.std.proofs.lemmas.Bool.{eq-eqb, ne_eqb, both_ways, or_parts, and_right, and_left}
 use Rattle.std.proofs.lemmas.List.Folds.{list_any-append}
 use Rattle.bsc_octets.specs.declared.vmac.Vmac.{Vmac}
 use Rattle.bsc_octets.specs.declared.device_id.DeviceId.{DeviceId}
-use Rattle.bsc_octets.specs.declared.identity.Identity.{Identity}
 use Rattle.bsc_octets.specs.Addresses.{same_vmac, same_device}
 use Rattle.bsc_history.specs.declared.limits.About.{About}
 use Rattle.bsc_history.specs.declared.call.Call.{Call}
@@ -30,25 +29,18 @@ use Rattle.bsc_history.specs.Legality.{Lawful, Legal}
 use Rattle.bsc_history.specs.Laws.{NumbersInOrder, OneHolder, OneOfDevice, NoneAfterEnd}
 use Rattle.bsc_history.proofs.Lists.{In, In-append, In-option, In-filter, find_says, none_passes, Apart-filter, Apart-push, same_one}
 use Rattle.bsc_history.proofs.More.{along, live-more, joined-more, ended-more, sent-more}
+use Rattle.bsc_history.proofs.Common.{no_rival}
+use Rattle.bsc_octets.proofs.Common.{device_same, vmac_same}
 
 -- addresses and devices, by their tests
-
-texts_same : (xs ys : List ℕ) → pointwise eqb xs ys ≡ true → xs ≡ ys
-texts_same xs ys h = same_text xs ys (sym h)
 
 texts_refl : (xs ys : List ℕ) → xs ≡ ys → pointwise eqb xs ys ≡ true
 texts_refl xs ys e =
     let on : (b : Bool) → b ≡ pointwise eqb xs ys → pointwise eqb xs ys ≡ true = λ b. elim b as (λ b. b ≡ pointwise eqb xs ys → pointwise eqb xs ys ≡ true) [ true ↦ λ h. sym h | false ↦ λ h. absurd (other_text xs ys h e) ] in
     on (pointwise eqb xs ys) refl
 
-pub vmac_same : (v w : Vmac) → same_vmac v w ≡ true → v ≡ w
-vmac_same v w h = ap (λ (l : List ℕ). let r : Vmac = record { 0 = l } in r) (texts_same v.0 w.0 h)
-
 pub vmac_refl : (v w : Vmac) → v ≡ w → same_vmac v w ≡ true
 vmac_refl v w e = texts_refl v.0 w.0 (ap (λ (x : Vmac). x.0) e)
-
-pub device_same : (u w : DeviceId) → same_device u w ≡ true → u ≡ w
-device_same u w h = ap (λ (l : List ℕ). let r : DeviceId = record { 0 = l } in r) (texts_same u.0 w.0 h)
 
 pub device_refl : (u w : DeviceId) → u ≡ w → same_device u w ≡ true
 device_refl u w e = texts_refl u.0 w.0 (ap (λ (x : DeviceId). x.0) e)
@@ -138,11 +130,6 @@ device_clash H e x y one new m stays same =
           replaced_ends x.number y.number c.number e r (ap (λ (z : Connection). z.number) it) stays)
     ] in
     on (of_device H y.who.device) (find_says p (live H)) new.1
-
-no_rival : (who : Identity) (c : Connection) → rival who (Some c) ≡ None → same_device c.who.device who.device ≡ true
-no_rival who c h =
-    let by : (b : Bool) → cond b None (Some c.number) ≡ None → b ≡ true = λ b. elim b as (λ b. cond b None (Some c.number) ≡ None → b ≡ true) [ true ↦ λ g. refl | false ↦ λ g. cc ] in
-    by (same_device c.who.device who.device) h
 
 pub vmac_clash : (H : List Entry) (e : Entry) (x y : Connection) → OneHolder H → OneOfDevice H → Comes H e.reply y → In x (live H) → is_none (end_by x.number e) ≡ true → x.who.vmac ≡ y.who.vmac → ⊥
 vmac_clash H e x y holders one new m stays same =

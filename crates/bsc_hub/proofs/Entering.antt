@@ -1,5 +1,5 @@
 -- Where a unicast is that was told as appended, by a longer history.
-use Rattle.std.proofs.Common.{◌≡◌, ◌≢◌, ℕ, suc, ◌+◌, ◌==◌, Bool, true, false, cond, List, [], ◌∷◌, ◌++◌, length, take, Some, refl, ap, sym, ◌∙◌, subst, arith, append_assoc, append-nil, length-append}
+use Rattle.std.proofs.Common.{◌≡◌, ◌≢◌, ℕ, suc, ◌+◌, ◌==◌, true, false, cond, List, [], ◌∷◌, ◌++◌, length, take, refl, ap, sym, ◌∙◌, subst, arith, append_assoc, append-nil, length-append}
 use Rattle.std.specs.Prelude.{IfOk, Result, Ok, Err}
 use Rattle.std.proofs.lemmas.List.{map-append}
 use Rattle.std.proofs.lemmas.Bool.{eq-eqb, eqb-true, false_from_ne_true}
@@ -15,7 +15,7 @@ use Rattle.bsc_history.specs.declared.told.Told.{Told}
 use Rattle.bsc_history.specs.declared.told.Worn.{Worn}
 use Rattle.bsc_history.specs.Entries.{moment}
 use Rattle.bsc_history.specs.Laws.{names}
-use Rattle.bsc_history.specs.Legality.{Lawful, Legal}
+use Rattle.bsc_history.specs.Legality.{Legal}
 use Rattle.bsc_history.specs.Marks.{entries}
 use Rattle.bsc_history.specs.Outboxes.{added, sent, vmac_of}
 use Rattle.bsc_history.proofs.Gains.{unicast_to_holder_alone}
@@ -33,7 +33,8 @@ use Rattle.bsc_hub.specs.declared.hub.Hub.{Hub}
 use Rattle.bsc_hub.specs.Calls.{one_made, one_stamped}
 use Rattle.bsc_hub.specs.Passing.{IsCaller, IsOwnAs, Passed, about_of}
 use Rattle.bsc_hub.specs.Unicasts.{IsThereAlone}
-use Rattle.bsc_hub.proofs.Guarding.{address_lifted, length_entries, parts}
+use Rattle.bsc_hub.proofs.Guarding.{address_lifted, parts}
+use Rattle.bsc_history.proofs.Common.{length_entries, take_all as take_front}
 
 -- What entered an outbox is there in each longer history.
 pub sent_grows : (a : About) (F rest : List Entry) (c : ℕ) → (later : List (List ℕ)) × (sent a (F ++ rest) c ≡ sent a F c ++ later)
@@ -42,10 +43,6 @@ sent_grows a F (e ∷ es) c =
     let r = sent_grows a (F ++ e ∷ []) es c in
     let new = added a (moment F e) (sent a F c) c in
     (new ++ r.0, ap (λ (l : List Entry). sent a l c) (sym (append_assoc F (e ∷ []) es)) ∙ r.1 ∙ ap (λ (l : List (List ℕ)). l ++ r.0) (sent-more a F e c) ∙ append_assoc (sent a F c) new r.0)
-
-take_front : (G es : List Entry) → take (length G) (G ++ es) ≡ G
-take_front [] es = refl
-take_front (x ∷ G) es = ap (λ (l : List Entry). x ∷ l) (take_front G es)
 
 take_next : (G : List Entry) (e : Entry) (es : List Entry) → take (suc (length G)) (G ++ e ∷ es) ≡ G ++ e ∷ []
 take_next [] e es = refl

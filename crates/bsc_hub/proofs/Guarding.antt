@@ -1,12 +1,12 @@
 -- What a caller knows from what its pass has seen, at the guard and after.
-use Rattle.std.proofs.Common.{◌≡◌, ℕ, suc, true, false, List, [], ◌∷◌, ◌++◌, length, take, Some, refl, ap, sym, ◌∙◌, subst, append-nil}
+use Rattle.std.proofs.Common.{◌≡◌, ℕ, true, false, List, [], ◌++◌, length, take, Some, refl, ap, sym, ◌∙◌, subst, append-nil}
 use Rattle.std.specs.List.{list_any}
 use Rattle.std.proofs.lemmas.List.{map-append}
 use Rattle.bsc_octets.specs.declared.vmac.Vmac.{Vmac}
 use Rattle.bsc_history.specs.declared.entry.Entry.{Entry}
 use Rattle.bsc_history.specs.declared.limits.About.{About}
 use Rattle.bsc_history.specs.declared.mark.Stamped.{Stamped}
-use Rattle.bsc_history.specs.Entries.{joins, own}
+use Rattle.bsc_history.specs.Entries.{own}
 use Rattle.bsc_history.specs.Ends.{leaves}
 use Rattle.bsc_history.specs.Legality.{Legal, is_of}
 use Rattle.bsc_history.specs.Marks.{entries, mark_of}
@@ -26,6 +26,7 @@ use Rattle.bsc_desk.specs.Rows.{IsMarkOf, IsRowBy, IsRowOf}
 use Rattle.bsc_desk.specs.Standing.{StandsFor}
 use Rattle.bsc_desk.proofs.Rowed.{is_mark_of, is_row_by, is_row_of}
 use Rattle.bsc_hub.specs.Passing.{IsOwn, IsOwnAs}
+use Rattle.bsc_history.proofs.Common.{length_entries, take_all}
 
 -- the entries of a history that begins with another
 pub parts : (F H : List Stamped) → (begins : StartsWith H F) → entries H ≡ entries F ++ entries begins.0
@@ -66,14 +67,6 @@ guard_sender d p n c v w stands begins same tw tv is num mine =
 -- and the mark of its inlet is that of the outlet
 pub guard_mark : (d : Desk) (F H : List Stamped) (c : ℕ) (o : Outlet) → StandsFor d H → StartsWith H F → mark_of F c ≡ Some (outlet_mark o) → IsMarkOf d c (outlet_mark o)
 guard_mark d F H c o stands begins h = is_mark_of d H c (outlet_mark o) stands (subst (λ l. mark_of l c ≡ Some (outlet_mark o)) (sym begins.1) (mark_grows F begins.0 c (outlet_mark o) h))
-
-take_all : (xs ys : List Entry) → take (length xs) (xs ++ ys) ≡ xs
-take_all [] ys = refl
-take_all (x ∷ xs) ys = ap (λ (l : List Entry). x ∷ l) (take_all xs ys)
-
-pub length_entries : (S : List Stamped) → length (entries S) ≡ length S
-length_entries [] = refl
-length_entries (s ∷ S) = ap (λ n. suc n) (length_entries S)
 
 -- the history before an entry is its first part up to the entry's place
 pub before_place : (before rest : List Stamped) (at : ℕ) → at ≡ length before → take at (entries (before ++ rest)) ≡ entries before

@@ -8,7 +8,6 @@ use Rattle.bsc_history.specs.Ends.{leaves}
 use Rattle.bsc_history.specs.Legality.{is_of}
 use Rattle.bsc_history.specs.Marks.{entries, mark_of}
 use Rattle.bsc_history.proofs.Marks.{mark_grows}
-use Rattle.bsc_history.proofs.More.{or_false}
 use Rattle.bsc_turn.specs.declared.pass.Pass.{Pass}
 use Rattle.bsc_turn.specs.declared.view.Ended.{Ended}
 use Rattle.bsc_turn.specs.Histories.{own_of}
@@ -16,6 +15,7 @@ use Rattle.bsc_turn.specs.Passes.{number_of, own_list, seen}
 use Rattle.bsc_hub.specs.declared.hub.Hub.{Hub}
 use Rattle.bsc_hub.specs.Passing.{IsCaller, IsOwn, IsOwnAs, Placed, StaysBy, Went, about_of}
 use Rattle.bsc_hub.proofs.Guarding.{address_lifted, own_lifted}
+use Rattle.bsc_lemmas.proofs.Booleans.{or_false}
 
 -- the own list of a caller is what it has seen of its number
 own_is : (h : Hub) (p : Pass) → IsCaller h p → own_of (seen p) (number_of p) ≡ own_list p

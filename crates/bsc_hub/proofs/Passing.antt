@@ -18,7 +18,8 @@ use Rattle.bsc_desk.specs.Standing.{StandsFor}
 use Rattle.bsc_hub.specs.declared.hub.Hub.{Hub}
 use Rattle.bsc_hub.specs.Calls.{placed}
 use Rattle.bsc_hub.specs.Passing.{IsCaller, Passed, about_of, fixed_of, found_history}
-use Rattle.bsc_hub.proofs.Guarding.{before_place, length_entries}
+use Rattle.bsc_hub.proofs.Guarding.{before_place}
+use Rattle.bsc_history.proofs.Common.{length_entries}
 
 -- the desk stands for a history of this hub
 legal_of : (h : Hub) (d : Desk) (S : List Stamped) → StandsFor d S → d.about ≡ about_of h → Legal (about_of h) (entries S)
@@ -36,21 +37,6 @@ passed_with h p q w s at d is pass knows place same begins stands about =
       all_own = ap (own (entries (seen q))) (sym sound.2) ∙ sound.5.0;
       takes_in = ap (λ (v : View). v.ended) knows ∙ ap (λ (v : View). v.ended) same ∙ sym (append-nil (ended_callers p));
       makes = record { before = w.seen; begins = begins; ends = whole; place = place; grew = ap (λ (v : View). v.own) knows ∙ ap (λ (v : View). v.own ++ s.entry ∷ []) same };
-      draws = ap (λ (v : View). v.loads) knows ∙ ap (λ (v : View). v.loads) same ∙ sym (add-zero (loads_made p));
-    }
-
--- The guard with the view w went back.
-pub passed_back : (h : Hub) (p q : Pass) (w : View) (d : Desk) → IsCaller h p → IsPassOf fixed_of h.turn q → view_of q ≡ after_back w → w ≡ having_seen w.seen (view_of p) → StartsWith w.seen (seen p) → StandsFor d w.seen → d.about ≡ about_of h → Passed h p [] None q
-passed_back h p q w d is pass knows same begins stands about =
-    let sound = pass.1.1 in
-    let whole : seen q ≡ w.seen = ap (λ (v : View). v.seen) knows in
-    record {
-      caller = (pass, subst (λ l. Legal (about_of h) (entries l)) (sym whole) (legal_of h d w.seen stands about));
-      number = sym sound.2 ∙ ap (λ (v : View). v.number) knows ∙ ap (λ (v : View). v.number) same ∙ is.0.1.1.2;
-      grows = (begins.0, whole ∙ begins.1);
-      all_own = ap (own (entries (seen q))) (sym sound.2) ∙ sound.5.0;
-      takes_in = ap (λ (v : View). v.ended) knows ∙ ap (λ (v : View). v.ended) same ∙ sym (append-nil (ended_callers p));
-      makes = ap (λ (v : View). v.own) knows ∙ ap (λ (v : View). v.own) same;
       draws = ap (λ (v : View). v.loads) knows ∙ ap (λ (v : View). v.loads) same ∙ sym (add-zero (loads_made p));
     }
 

@@ -1,10 +1,8 @@
 -- Which calls leave a caller's connection its own: all but its leave.
-use Rattle.std.proofs.Common.{◌≡◌, ◌≢◌, ℕ, ◌==◌, List, refl}
+use Rattle.std.proofs.Common.{◌≢◌, ℕ, ◌==◌, List, refl}
 use Rattle.std.specs.Prelude.{Result, Ok, Err}
 use Rattle.std.proofs.lemmas.Bool.{eqb-true, false_from_ne_true}
 use Rattle.bsc_octets.specs.declared.identity.Identity.{Identity}
-use Rattle.bsc_history.specs.declared.counts.Counts.{Counts}
-use Rattle.bsc_history.specs.declared.told.AlreadyStopped.{AlreadyStopped}
 use Rattle.bsc_history.specs.declared.told.Told.{Told}
 use Rattle.bsc_history.specs.declared.told.Worn.{Worn}
 use Rattle.bsc_desk.specs.declared.broadcasting.AllRefusal.{AllRefusal}
@@ -14,7 +12,7 @@ use Rattle.bsc_desk.specs.declared.leaving.Gone.{Gone}
 use Rattle.bsc_hub.specs.declared.joined.ConnectRefusal.{ConnectRefusal}
 use Rattle.bsc_hub.specs.declared.joined.ConnectRefusal.TheVariants.{NoMemory, Worn as WornRefusal, Refused}
 use Rattle.bsc_hub.specs.declared.joined.Joined.{Joined}
-use Rattle.bsc_hub.specs.Calls.{all_made, connect_made, count_made, leave_made, one_made, stop_made}
+use Rattle.bsc_hub.specs.Calls.{all_made, connect_made, leave_made, one_made}
 use Rattle.bsc_hub.specs.Passing.{StaysBy}
 
 pub connect_stays : (n : ℕ) (who : Identity) (r : Result Joined ConnectRefusal) (c : ℕ) → StaysBy (connect_made n who r) c
@@ -30,14 +28,6 @@ one_stays n conn m (Err worn) c = tt
 pub all_stays : (n conn : ℕ) (m : List ℕ) (r : Result (Told AllReply) AllRefusal) (c : ℕ) → StaysBy (all_made n conn m r) c
 all_stays n conn m (Ok t) c = refl
 all_stays n conn m (Err refusal) c = tt
-
-pub stop_stays : (n : ℕ) (r : Result (Told Counts) AlreadyStopped) (c : ℕ) → StaysBy (stop_made n r) c
-stop_stays n (Ok t) c = refl
-stop_stays n (Err already) c = tt
-
-pub count_stays : (n : ℕ) (r : Result (Told Counts) Worn) (c : ℕ) → StaysBy (count_made n r) c
-count_stays n (Ok t) c = refl
-count_stays n (Err worn) c = tt
 
 -- the leave of another
 pub leave_stays : (n conn empties : ℕ) (t : Told Gone) (c : ℕ) → conn ≢ c → StaysBy (leave_made n conn empties t) c

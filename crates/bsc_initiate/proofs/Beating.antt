@@ -15,10 +15,8 @@ use Rattle.bsc_initiate.specs.Past.{Standing, awaiting_websocket, awaiting_accep
 use Rattle.bsc_initiate.specs.Steps.{step, tick_step}
 use Rattle.bsc_initiate.specs.Kept.{put_after}
 use Rattle.bsc_initiate.proofs.Looking.{put-more}
-
-or_true : (b p : Bool) → p ≡ true → (b || p) ≡ true
-or_true true p h = refl
-or_true false p h = h
+use Rattle.bsc_lemmas.proofs.Booleans.{or_left as first_quiet, or_right as rest_quiet}
+use Rattle.std.proofs.lemmas.Bool.{or_right as or_true}
 
 -- ---- once put, a Heartbeat-Request is noted until a message comes
 
@@ -27,14 +25,6 @@ kept s last put (Opened now id) h m = h
 kept s last put (Came now v) h m = cc
 kept s last put (Finish now id) h m = h
 kept s last put (Tick now id) h m = or_true (is_heartbeat_due s last now) put h
-
-first_quiet : (a b : Bool) → (a || b) ≡ false → a ≡ false
-first_quiet true b h = cc
-first_quiet false b h = refl
-
-rest_quiet : (a b : Bool) → (a || b) ≡ false → b ≡ false
-rest_quiet true b h = cc
-rest_quiet false b h = h
 
 stays : (s : Start) (E later : List InitEvent) → heartbeat_was_put s E ≡ true → list_any is_message later ≡ false → heartbeat_was_put s (E ++ later) ≡ true
 stays s E [] h m = ap (λ xs. heartbeat_was_put s xs) (append-nil E) ∙ h

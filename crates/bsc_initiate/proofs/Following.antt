@@ -16,14 +16,14 @@ use Rattle.bsc_accept.specs.Steps.{closing, normal}
 use Rattle.bsc_initiate.specs.declared.event.InitEvent.{InitEvent}
 use Rattle.bsc_initiate.specs.declared.event.InitEvent.TheVariants.{Opened, Message as Came, Finish, Tick}
 use Rattle.bsc_initiate.specs.declared.step.InitStep.{InitStep}
-use Rattle.bsc_initiate.specs.declared.step.InitStep.TheVariants.{Put, PutClose, Connected as NowConnected, Refused, Up, Close, Nothing}
+use Rattle.bsc_initiate.specs.declared.step.InitStep.TheVariants.{Put, Close, Nothing}
 use Rattle.bsc_initiate.specs.declared.stage.Stage.{Stage}
 use Rattle.bsc_initiate.specs.declared.stage.Stage.TheVariants.{AwaitingWebsocket, AwaitingAccept, Connected, Disconnecting, Idle}
 use Rattle.bsc_initiate.specs.declared.initiating.Initiating.{Initiating}
 use Rattle.bsc_initiate.specs.Messages.{connect_request, heartbeat_request, who_accepts, refusing_code, says_who}
 use Rattle.bsc_initiate.specs.Past.{Standing, awaiting_websocket, awaiting_accept, connected, disconnecting, standing, message_time, last_message, heartbeat_was_put, is_heartbeat_due}
 use Rattle.bsc_initiate.specs.Steps.{step, closes, message_step, passed_step, answer_step, connected_step, finish_step, tick_step}
-use Rattle.bsc_initiate.specs.Standing.{StandsFor, open_stage, has_closed, is_open, phase_at, LeftBy}
+use Rattle.bsc_initiate.specs.Standing.{StandsFor, open_stage, has_closed, is_open}
 use Rattle.bsc_initiate.specs.Kept.{standing_at, put_at, moved, put_after, heard_at, after, after_tick, ticked}
 use Rattle.bsc_initiate.proofs.Looking.{standing-more, last-more, put-more, closed-more}
 
@@ -119,13 +119,6 @@ standing_heard (AwaitingAccept id) = refl
 standing_heard (Connected put) = refl
 standing_heard (Disconnecting f) = refl
 standing_heard Idle = refl
-
-pub open_heard : (waits : Stage) → is_open waits ≡ true → is_open (heard_at waits) ≡ true
-open_heard AwaitingWebsocket o = o
-open_heard (AwaitingAccept id) o = o
-open_heard (Connected put) o = o
-open_heard (Disconnecting f) o = o
-open_heard Idle o = o
 
 pub message_answers : (m n : Initiating) (s : Start) (E : List InitEvent) (now : ℕ) (v : Verdict) (answer : InitStep) → StandsFor m s E → is_open m.stage ≡ true
     → answer ≡ message_step (standing_at (heard_at m.stage)) v → n ≡ record m { last = now; stage = after (heard_at m.stage) answer }
@@ -251,12 +244,3 @@ closing_answers m n s E now id answer h o u is new =
     tick_answers m n s E now id answer h o is (new ∙ ap (λ w. record m { stage = w }) (unconnected m.start m.last now m.stage answer u))
 
 -- ---- which calls may be made next
-
-pub left_after : (m n : Initiating) (answer : InitStep) → is_open m.stage ≡ true → n.stage ≡ after m.stage answer → LeftBy answer n
-left_after m n (Put octets) o new = ap is_open new ∙ o
-left_after m n (PutClose octets c) o new = new
-left_after m n (NowConnected who) o new = ap phase_at new
-left_after m n (Refused code) o new = new
-left_after m n Up o new = ap is_open new ∙ o
-left_after m n (Close c) o new = new
-left_after m n Nothing o new = ap is_open new ∙ o

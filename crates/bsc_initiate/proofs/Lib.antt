@@ -1,3 +1,4 @@
 pub mod Looking
 pub mod Following
 pub mod Beating
+pub mod Common

@@ -10,14 +10,7 @@ use Rattle.bsc_initiate.specs.Past.{awaiting_websocket, oldest, newest, request_
 use Rattle.bsc_initiate.specs.Kept.{moved, until_request, put_after}
 use Rattle.bsc_initiate.specs.Steps.{step, closes}
 use Rattle.bsc_initiate.specs.Standing.{has_closed, at_newest}
-
-or_none : {A : Type 0} (o : Option A) → option_or o None ≡ o
-or_none (Some x) = refl
-or_none None = refl
-
-or_assoc : {A : Type 0} (a b c : Option A) → option_or a (option_or b c) ≡ option_or (option_or a b) c
-or_assoc (Some x) b c = refl
-or_assoc None b c = refl
+use Rattle.bsc_lemmas.proofs.Options.{or_assoc, or_else, or_none}
 
 oldest-more : {A : Type 0} (f : InitEvent → Option A) (E : List InitEvent) (e : InitEvent) → oldest f (E ++ e ∷ []) ≡ option_or (oldest f E) (f e)
 oldest-more f [] e = or_none (f e)
@@ -56,10 +49,6 @@ standing-more [] e = opening (request_at e)
 standing-more (x ∷ E) e = opened_or_later (request_at x) E e (standing-more E e)
 
 -- ---- the last message, and the heartbeat since
-
-or_else : (o p : Option ℕ) (n : ℕ) → unwrap_or (option_or o p) n ≡ unwrap_or o (unwrap_or p n)
-or_else (Some x) p n = refl
-or_else None p n = refl
 
 pub last-more : (s : Start) (E : List InitEvent) (e : InitEvent) → last_message s (E ++ e ∷ []) ≡ unwrap_or (message_time e) (last_message s E)
 last-more s E e = ap (λ o. unwrap_or o s.at) (newest-more message_time E e) ∙ or_else (message_time e) (newest message_time E) s.at

@@ -67,9 +67,6 @@ leave_all (w ∷ x ∷ y ∷ ws) conn r taken s empties t e f g =
 
 -- ---- forwards
 
-forward_without : (looks : Read (List ℕ)) (a : Option (List ℕ)) → forward_of looks None a ≡ None
-forward_without looks a = refl
-
 forward_cut : (looks : Read (List ℕ)) (a : Option ℕ) → forward_of looks a None ≡ None
 forward_cut looks None = refl
 forward_cut looks (Some conn) = refl

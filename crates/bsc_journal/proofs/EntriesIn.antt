@@ -12,11 +12,6 @@ no_caller : (p : Option ℕ) (a : Option (Read Asked)) → entry_of p None a ≡
 no_caller None a = refl
 no_caller (Some p) a = refl
 
-no_call : (p q : Option ℕ) → entry_of p q None ≡ None
-no_call None q = refl
-no_call (Some p) None = refl
-no_call (Some p) (Some q) = refl
-
 pub entry_second : (ws : List (List ℕ)) (p : ℕ) (r : List (List ℕ)) → number_in ws ≡ Some (read p r) → number_in r ≡ None → entry_in ws ≡ None
 entry_second [] p r e f = refl
 entry_second (w ∷ []) p r e f = refl

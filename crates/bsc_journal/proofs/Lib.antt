@@ -14,3 +14,4 @@ pub mod SaidOnce
 pub mod WorkedPieces
 mod WorkedLines
 mod WorkedReading
+pub mod Common

@@ -38,6 +38,7 @@ use Rattle.bsc_legality.specs.Standing.{IsRowOf, StandsFor}
 use Rattle.bsc_legality.proofs.Decides.{accepts_lawful, stands_own}
 use Rattle.bsc_legality.proofs.Histories.{unleft_joined}
 use Rattle.bsc_legality.proofs.Live.{In-map}
+use Rattle.bsc_lemmas.proofs.Lists.{all_append}
 
 -- a reply of a connect names nobody as appended to
 
@@ -121,10 +122,6 @@ new_so a H e x legal lawful new =
 news : (a : About) (H : List Entry) (e : Entry) (o : Option Connection) → Legal a H → Lawful a (moment H e) → connection_of e ≡ o → AllByRecursion (IsRowOf a (H ++ e ∷ [])) (map new_row (option_to_list o))
 news a H e None legal lawful is = tt
 news a H e (Some x) legal lawful is = (new_so a H e x legal lawful is, tt)
-
-all_append : {A : Type 0} (P : A → Type 0) (xs ys : List A) → AllByRecursion P xs → AllByRecursion P ys → AllByRecursion P (xs ++ ys)
-all_append P [] ys h k = k
-all_append P (x ∷ xs) ys h k = (h.0, all_append P xs ys h.1 k)
 
 -- connections
 

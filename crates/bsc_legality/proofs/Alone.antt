@@ -6,10 +6,10 @@ use Rattle.bsc_octets.specs.Addresses.{same_vmac}
 use Rattle.bsc_history.specs.declared.connection.Connection.{Connection}
 use Rattle.bsc_history.specs.Laws.{Apart}
 use Rattle.bsc_history.proofs.Lists.{In, In_from_all, In_kept, find_says}
-use Rattle.bsc_history.proofs.Uniqueness.{vmac_same}
 use Rattle.bsc_legality.specs.declared.row.Row.{Row}
 use Rattle.bsc_legality.specs.Rows.{AreAlone, connection, has_number, holder_in, is_open, is_open_with, row_of}
 use Rattle.bsc_legality.proofs.Live.{In-map}
+use Rattle.bsc_octets.proofs.Common.{vmac_same}
 
 abbrev holds : Vmac → Connection → Bool
 holds v c = same_vmac c.who.vmac v

@@ -1,8 +1,8 @@
 -- The bounds of a state hold after an entry that is accepted, which has a row to join at.
-use Rattle.std.proofs.Common.{◌≡◌, inl, inr, ℕ, suc, ◌+◌, ◌*◌, ◌^◌, ◌<◌, ◌≤◌, ◌==◌, nat_le, nat_lt, Bool, true, false, not, ◌&&◌, ◌||◌, cond, List, [], ◌∷◌, ◌++◌, length, map, filter, Option, Some, None, is_none, option_to_list, refl, ap, sym, ◌∙◌, subst, arith}
+use Rattle.std.proofs.Common.{◌≡◌, inl, inr, ℕ, suc, ◌+◌, ◌*◌, ◌^◌, ◌<◌, ◌≤◌, ◌==◌, nat_le, nat_lt, Bool, true, false, not, ◌||◌, cond, List, [], ◌∷◌, ◌++◌, length, map, filter, Option, Some, None, is_none, option_to_list, refl, ap, sym, ◌∙◌, subst, arith}
 use Rattle.std.specs.List.{list_all}
 use Rattle.std.proofs.lemmas.Bool.{and_from, and_parts, both_ways, cases_lt, le-leb, leb-true, lt-ltb, ltb-true, ne_eqb}
-use Rattle.bsc_octets.specs.Forwarding.{destination, has_route, is_broadcast}
+use Rattle.bsc_octets.specs.Forwarding.{destination, is_broadcast}
 use Rattle.bsc_history.specs.declared.call.Call.{Call}
 use Rattle.bsc_history.specs.declared.call.Call.TheVariants.{Connect, Forward, Leave, Stop, Count}
 use Rattle.bsc_history.specs.declared.connection.Connection.{Connection}
@@ -19,13 +19,16 @@ use Rattle.bsc_history.specs.Laws.{is_among, names}
 use Rattle.bsc_history.specs.Replies.{unless_ended}
 use Rattle.bsc_legality.specs.declared.row.Row.{Row}
 use Rattle.bsc_legality.specs.declared.legality.Legality.{Legality}
-use Rattle.bsc_legality.specs.Bounds.{AreAtMost, HasRoute}
-use Rattle.bsc_legality.specs.Deciding.{accepts, all_due, all_looked, can_all, conns, due, fares_so, first_reply, is_full_at, is_long_at, is_meant_with, is_of_in, looks_due, may_call_in, one_due, one_looked, says_due, sent_due, sent_looked, size_in}
+use Rattle.bsc_legality.specs.Bounds.{AreAtMost}
+use Rattle.bsc_legality.specs.Deciding.{accepts, all_due, all_looked, can_all, conns, due, fares_so, first_reply, is_full_at, is_long_at, is_meant_with, looks_due, may_call_in, one_due, one_looked, says_due, sent_due, sent_looked, size_in}
 use Rattle.bsc_legality.specs.Following.{NamesOnce, new_row, once, row_after, rows_after}
 use Rattle.bsc_legality.specs.Rows.{end_in, holder_in, number, rising, row_of}
 use Rattle.bsc_legality.specs.Sameness.{same_numbers, same_reply}
 use Rattle.bsc_legality.proofs.Numbers.{below, rising_parts}
 use Rattle.bsc_legality.proofs.Sameness.{numbers_same, reply_same}
+use Rattle.bsc_history.proofs.Common.{one_at_most as one_most}
+use Rattle.bsc_lemmas.proofs.Booleans.{not_true as off}
+use Rattle.bsc_lemmas.proofs.Lists.{filter_le as filter_short}
 
 -- ---- what is accepted
 
@@ -48,19 +51,9 @@ accepted l e h =
 
 -- ---- lists that are no longer than the rows
 
-filter_short : {A : Type 0} (p : A → Bool) (xs : List A) → length (filter p xs) ≤ length xs
-filter_short p [] = omega arith
-filter_short p (x ∷ xs) =
-    let rest = filter_short p xs in
-    elim (p x) as (λ b. length (cond b (x ∷ filter p xs) (filter p xs)) ≤ suc (length xs)) [ true ↦ omega (arith, rest) | false ↦ omega (arith, rest) ]
-
 map_long : {A : Type 0} (f : A → ℕ) (xs : List A) → length (map f xs) ≡ length xs
 map_long f [] = refl
 map_long f (x ∷ xs) = ap suc (map_long f xs)
-
-one_short : (size : ℕ) (w : Option Row) → length (one_looked size w) ≤ 1
-one_short size None = omega arith
-one_short size (Some r) = elim (is_long_at size r) as (λ b. length (cond b [] (r.connection.number ∷ [])) ≤ 1) [ true ↦ omega arith | false ↦ omega arith ]
 
 -- a broadcast's looks are no more than the rows
 all_short : (sender size : ℕ) (rows : List Row) → length (all_looked sender size rows) ≤ length rows
@@ -115,10 +108,6 @@ not_picked p c (k ∷ looks) h =
       | true ↦ ap (λ (b : Bool). b || is_among c (conns (filter p looks))) (left (k.conn == c) (is_among c (conns looks)) h) ∙ rest
       | false ↦ rest
     ]
-
-off : (b : Bool) → not b ≡ true → b ≡ false
-off true h = cc
-off false h = refl
 
 picked_once : (p : Look → Bool) (looks : List Look) → once (conns looks) ≡ true → once (conns (filter p looks)) ≡ true
 picked_once p [] h = refl
@@ -203,10 +192,6 @@ accepted_short l e rise h =
 
 -- ---- counts
 
-one_most : (b : Bool) → one_if b ≤ 1
-one_most true = omega arith
-one_most false = omega arith
-
 one_small : (b : Bool) → one_if b ≤ 2 ^ 31
 one_small b = let most = one_most b in omega (arith, most)
 
@@ -221,19 +206,6 @@ small_more e n short few = record {
   dropped = one_small _;
   full = one_small _;
   missed = (let h = short.missed_short in omega (arith, h, few));
-}
-
-pub few_counts : (k : Counts) (n : ℕ) → AreAtMost k (n * 2 ^ 31) → n < 2 ^ 31 → AreAtMost k (2 ^ 62)
-few_counts k n h few = record {
-  joined = omega (arith, h.joined);
-  replaced = omega (arith, h.replaced);
-  refused = omega (arith, h.refused);
-  unicasts = omega (arith, h.unicasts);
-  broadcasts = omega (arith, h.broadcasts);
-  appended = omega (arith, h.appended);
-  dropped = omega (arith, h.dropped);
-  full = omega (arith, h.full);
-  missed = omega (arith, h.missed);
 }
 
 pub counts_more : (k m : Counts) (n : ℕ) → AreAtMost k (n * 2 ^ 31) → AreAtMost m (2 ^ 31) → AreAtMost (plus k m) ((n + 1) * 2 ^ 31)
@@ -298,16 +270,3 @@ room_by l looks x caller call r h new = cc
 
 pub room : (l : Legality) (e : Entry) (x : Connection) → accepts l e ≡ true → connection_of e ≡ Some x → length l.rows.items < l.about.limits.rows
 room l e x h new = room_by l e.looks x e.caller e.call e.reply (accepted l e h).replied new
-
-route_by : (l : Legality) (caller : ℕ) (call : Call) → may_call_in l caller call ≡ true → HasRoute call
-route_by l caller (Connect who) h = tt
-route_by l caller (Forward conn m) h =
-    let a = and_parts (is_of_in l.rows.items caller conn && has_route m) (nat_lt l.entries l.about.limits.calls) h in
-    let b = and_parts (is_of_in l.rows.items caller conn) (has_route m) a.0 in
-    leb-true 10 (length m) (and_parts (nat_le 10 (length m)) _ (and_parts _ _ b.1).0).0
-route_by l caller (Leave conn taken empties) h = tt
-route_by l caller Stop h = tt
-route_by l caller Count h = tt
-
-pub routed : (l : Legality) (e : Entry) → accepts l e ≡ true → HasRoute e.call
-routed l e h = route_by l e.caller e.call (accepted l e h).may

@@ -1,5 +1,5 @@
 -- Rows that change: all of them, or the one of a number.
-use Rattle.std.proofs.Common.{◌≡◌, ℕ, zero, suc, ◌+◌, ◌^◌, ◌<◌, ◌≤◌, ◌==◌, nat_lt, Bool, true, false, not, ◌&&◌, ◌||◌, cond, List, [], ◌∷◌, length, map, filter, get_or, take, Option, Some, None, refl, ap, sym, ◌∙◌, subst, arith}
+use Rattle.std.proofs.Common.{◌≡◌, ℕ, zero, suc, ◌+◌, ◌^◌, ◌<◌, ◌==◌, nat_lt, Bool, true, false, not, ◌&&◌, ◌||◌, cond, List, [], ◌∷◌, length, map, filter, get_or, take, Option, Some, None, refl, ap, sym, ◌∙◌, subst, arith}
 use Rattle.std.proofs.Math.ListN.{set}
 use Rattle.std.specs.List.{list_all, position, AllByRecursion}
 use Rattle.std.specs.Option.{option_map, option_or}
@@ -20,12 +20,12 @@ use Rattle.bsc_history.specs.Counting.{one_if}
 use Rattle.bsc_history.specs.Ends.{end_by_call, end_by_reply, is_leave}
 use Rattle.bsc_history.specs.Laws.{is_among}
 use Rattle.bsc_history.specs.Outboxes.{newer}
-use Rattle.bsc_history.proofs.More.{or_false}
 use Rattle.bsc_legality.specs.declared.row.Row.{Row}
 use Rattle.bsc_legality.specs.Following.{added_to, closed_as, given, once, row_after, seen}
 use Rattle.bsc_legality.specs.Rows.{has_number, rising}
 use Rattle.bsc_legality.proofs.Numbers.{others, rising_parts}
-use Rattle.bsc_legality.proofs.Places.{position-cons}
+use Rattle.bsc_history.proofs.Common.{one_at_most as one_most}
+use Rattle.bsc_lemmas.proofs.Lists.{position-cons}
 
 -- a row of these parts
 abbrev pub row_with : Connection → Option End → ℕ → ℕ → Row
@@ -45,10 +45,6 @@ map_each f (r ∷ rows) each = ap (λ (x : Row). x ∷ rows) (sym (each r)) ∙ 
 pub map_then : (f g h : Row → Row) (rows : List Row) → ((r : Row) → g (f r) ≡ h r) → map g (map f rows) ≡ map h rows
 map_then f g h [] same = refl
 map_then f g h (r ∷ rows) same = ap (λ (x : Row). x ∷ map g (map f rows)) (same r) ∙ ap (λ (l : List Row). h r ∷ l) (map_then f g h rows same)
-
-pub map_alike : (f g : Row → Row) (rows : List Row) → ((r : Row) → f r ≡ g r) → map f rows ≡ map g rows
-map_alike f g [] same = refl
-map_alike f g (r ∷ rows) same = ap (λ (x : Row). x ∷ map f rows) (same r) ∙ ap (λ (l : List Row). g r ∷ l) (map_alike f g rows same)
 
 -- a change that leaves numbers alone leaves their order alone
 
@@ -71,10 +67,6 @@ all_same p f [] same = refl
 all_same p f (r ∷ rows) same =
     ap (λ (b : Bool). b && list_all p (map f rows)) (same r)
     ∙ ap (λ (b : Bool). p r && b) (all_same p f rows same)
-
-one_most : (b : Bool) → one_if b ≤ 1
-one_most true = omega arith
-one_most false = omega arith
 
 -- by one frame more no row has many
 pub few_added : (to : List ℕ) (rows : List Row) → list_all (λ r. nat_lt r.entered (2 ^ 52)) rows ≡ true → list_all (λ r. nat_lt r.entered (2 ^ 53)) (map (added_to to) rows) ≡ true
@@ -200,9 +192,6 @@ nothing n = omega arith
 -- a row to which nothing is added
 pub added_none : (r : Row) → row_with r.connection r.ending (r.entered + 0) r.looked ≡ r
 added_none r = ap (λ (n : ℕ). row_with r.connection r.ending n r.looked) (nothing r.entered)
-
-pub given_one : (c : ℕ) (rows : List Row) → map (added_to (c ∷ [])) rows ≡ map (λ r. row_with r.connection r.ending (r.entered + one_if (c == r.connection.number)) r.looked) rows
-given_one c rows = map_alike (added_to (c ∷ [])) (λ r. row_with r.connection r.ending (r.entered + one_if (c == r.connection.number)) r.looked) rows (λ r. ap (λ (b : Bool). row_with r.connection r.ending (r.entered + one_if b) r.looked) (or_false (c == r.connection.number)))
 
 or_none : (o : Option End) → option_or o None ≡ o
 or_none None = refl

@@ -6,8 +6,8 @@ use Rattle.bsc_history.specs.declared.connection.Connection.{Connection}
 use Rattle.bsc_history.specs.declared.looks.Look.{Look}
 use Rattle.bsc_history.specs.Laws.{Apart}
 use Rattle.bsc_history.specs.Replies.{numbers}
-use Rattle.bsc_history.proofs.More.{or_false}
 use Rattle.bsc_legality.specs.Deciding.{conns}
+use Rattle.bsc_lemmas.proofs.Booleans.{or_false}
 
 pub filter_both : (p q : Connection → Bool) (xs : List Connection) → filter q (filter p xs) ≡ filter (λ x. p x && q x) xs
 filter_both p q [] = refl
@@ -24,12 +24,6 @@ filter_agree p q [] all = refl
 filter_agree p q (x ∷ xs) all =
     ap (λ (b : Bool). cond b (x ∷ filter p xs) (filter p xs)) all.0
     ∙ ap (λ (l : List Connection). cond (q x) (x ∷ l) l) (filter_agree p q xs all.1)
-
-pub filter_alike : (p q : Connection → Bool) (xs : List Connection) → ((x : Connection) → p x ≡ q x) → filter p xs ≡ filter q xs
-filter_alike p q [] same = refl
-filter_alike p q (x ∷ xs) same =
-    ap (λ (b : Bool). cond b (x ∷ filter p xs) (filter p xs)) (same x)
-    ∙ ap (λ (l : List Connection). cond (q x) (x ∷ l) l) (filter_alike p q xs same)
 
 -- whether some of the looks at c pass a test of c and of what was found
 abbrev pub some_at : (ℕ → ℕ → Bool) → List Look → ℕ → Bool

@@ -4,27 +4,20 @@ use Rattle.std.specs.List.{list_any}
 use Rattle.std.specs.Option.{option_or}
 use Rattle.std.proofs.lemmas.Bool.{eq-eqb, eqb-true, both_ways, cases_lt, or_left, or_right, not-false}
 use Rattle.std.proofs.lemmas.List.Elements.{filter-append}
-use Rattle.bsc_octets.specs.Forwarding.{is_broadcast, destination}
 use Rattle.bsc_history.specs.declared.limits.About.{About}
-use Rattle.bsc_history.specs.declared.call.Call.{Call}
-use Rattle.bsc_history.specs.declared.call.Call.TheVariants.{Connect, Forward, Leave, Stop, Count}
 use Rattle.bsc_history.specs.declared.ending.End.{End}
 use Rattle.bsc_history.specs.declared.entry.Entry.{Entry}
-use Rattle.bsc_history.specs.declared.looks.Look.{Look}
-use Rattle.bsc_history.specs.declared.reply.Reply.{Reply}
-use Rattle.bsc_history.specs.declared.reply.Reply.TheVariants.{Joined, Skipped, Closed, Appended, Stopped}
 use Rattle.bsc_history.specs.declared.connection.Connection.{Connection}
-use Rattle.bsc_history.specs.Entries.{connection_of, made_by, joins, is_number, moment}
-use Rattle.bsc_history.specs.Ends.{end_by, end_by_call, end_by_reply, first_end, is_leave, leaves, joined_where, joined, live, unleft, ended}
-use Rattle.bsc_history.specs.Holders.{holder}
-use Rattle.bsc_history.specs.Counting.{counts, is_joined, one_if}
-use Rattle.bsc_history.specs.Outboxes.{vmac_in, vmac_of, meant, out_of, is_too_long, is_found_full, sent}
-use Rattle.bsc_history.specs.Replies.{reply, forward_reply, unicast_reply, broadcast_reply, unless_ended, is_stopped}
+use Rattle.bsc_history.specs.Entries.{connection_of, joins, moment}
+use Rattle.bsc_history.specs.Ends.{end_by, end_by_reply, leaves, joined_where, joined, live, unleft, ended}
+use Rattle.bsc_history.specs.Counting.{counts}
+use Rattle.bsc_history.specs.Outboxes.{vmac_in, vmac_of}
 use Rattle.bsc_history.specs.Legality.{Lawful, Legal}
 use Rattle.bsc_history.specs.Laws.{Apart}
-use Rattle.bsc_history.proofs.Lists.{In, In-append, In-option, In-filter, find_says, Apart-filter, Apart-push, same_one}
+use Rattle.bsc_history.proofs.Lists.{In, In-append, In-option, In-filter, find_says, Apart-push, same_one}
 use Rattle.bsc_history.proofs.More.{along, live-more, unleft-more, joined-more, ended-more, counts-more}
 use Rattle.bsc_history.proofs.Uniqueness.{settled, comes, not_joined}
+use Rattle.bsc_history.proofs.Common.{counts_one, filter_only, leave_ends, none_both, number_is}
 
 In-left : {A : Type 0} (x : A) (xs ys : List A) → In x xs → In x (xs ++ ys)
 In-left x [] ys h = absurd h
@@ -40,9 +33,6 @@ In-right x (y ∷ xs) ys h = inr (In-right x xs ys h)
 In-only : (x : Connection) (o : Option Connection) → o ≡ Some x → In x (filter (λ y. true) (option_to_list o))
 In-only x None e = cc
 In-only x (Some y) e = inl (let k : y ≡ x = cc in k)
-
-number_is : (x : Connection) (o : Option Connection) → o ≡ Some x → is_number x.number o ≡ true
-number_is x o e = ap (is_number x.number) e ∙ eq-eqb x.number x.number refl
 
 kept_joined : (test : ℕ → List Entry → Bool) (H : List Entry) (x : Connection) → In x (joined_where test H) → In x (joined H) × (list_any (joins x.number) H ≡ true)
 unfolding joined_where
@@ -60,9 +50,6 @@ kept_joined test (e ∷ after) x h =
 
 pub unleft_joined : (H : List Entry) (x : Connection) → In x (unleft H) → In x (joined H) × (list_any (joins x.number) H ≡ true)
 unleft_joined H x h = kept_joined (λ c after. not (list_any (leaves c) after)) H x h
-
-pub live_joined : (H : List Entry) (x : Connection) → In x (live H) → list_any (joins x.number) H ≡ true
-live_joined H x h = (kept_joined (λ c after. is_none (first_end c after)) H x h).1
 
 -- numbers of those who joined are apart
 
@@ -85,12 +72,6 @@ unfolding joined_where
 joined_apart a H legal = along a (λ G. Apart (λ (c : Connection). c.number) (joined G)) tt (λ G e legalG p lawful.
     rw joined-more (Apart-push (λ (c : Connection). c.number) (joined G) (connection_of e) p (λ x y m same. apart_new a G e legalG lawful x y (kept_joined (λ c after. true) G x m).1 same))) H legal
 
-pub unleft_apart : (a : About) (H : List Entry) → Legal a H → Apart (λ (c : Connection). c.number) (unleft H)
-unfolding joined_where
-unleft_apart a H legal = along a (λ G. Apart (λ (c : Connection). c.number) (unleft G)) tt (λ G e legalG p lawful.
-    let L = λ (x : Connection). not (leaves x.number e) in
-    rw unleft-more (Apart-push (λ (c : Connection). c.number) (filter L (unleft G)) (connection_of e) (Apart-filter (λ (c : Connection). c.number) L (unleft G) p) (λ x y m same. apart_new a G e legalG lawful x y (unleft_joined G x (In-filter L x (unleft G) m).0).1 same))) H legal
-
 -- the address with which an unleft connection joined
 pub vmac_unleft : (a : About) (H : List Entry) (x : Connection) → Legal a H → In x (unleft H) → vmac_of H x.number ≡ x.who.vmac
 vmac_unleft a H x legal m =
@@ -104,31 +85,6 @@ vmac_unleft a H x legal m =
 
 -- as many joined as are counted
 
-is_joined-unicast : (a : About) (H : List Entry) (m o : List ℕ) (looks : List Look) (r : Option Connection) → is_joined (unicast_reply a H m o looks r) ≡ false
-is_joined-unicast a H m o looks None = refl
-is_joined-unicast a H m o looks (Some c) =
-    elim (is_too_long o c) as (λ b. is_joined (cond b (Skipped c.number) (cond (is_found_full a (sent a H c.number) looks c.number) (Closed c.number) (Appended c.number))) ≡ false) [
-      | true ↦ refl
-      | false ↦ elim (is_found_full a (sent a H c.number) looks c.number) as (λ b. is_joined (cond b (Closed c.number) (Appended c.number)) ≡ false) [ true ↦ refl | false ↦ refl ]
-    ]
-
-is_joined-forward : (a : About) (H : List Entry) (sender : ℕ) (m : List ℕ) (looks : List Look) → is_joined (forward_reply a H sender m looks) ≡ false
-unfolding forward_reply
-is_joined-forward a H sender m looks =
-    let o = out_of H sender m in
-    let body = cond (is_broadcast m) (broadcast_reply a H o looks (meant H sender m)) (unicast_reply a H m o looks (holder H (destination m))) in
-    let sends : is_joined body ≡ false = elim (is_broadcast m) as (λ b. is_joined (cond b (broadcast_reply a H o looks (meant H sender m)) (unicast_reply a H m o looks (holder H (destination m)))) ≡ false) [ true ↦ refl | false ↦ is_joined-unicast a H m o looks (holder H (destination m)) ] in
-    let unended : is_joined (unless_ended (ended H sender) body) ≡ false = elim (ended H sender) as (λ w. is_joined (unless_ended w body) ≡ false) [ None ↦ sends | Some k ↦ refl ] in
-    elim (is_stopped H) as (λ b. is_joined (cond b Stopped (unless_ended (ended H sender) body)) ≡ false) [ true ↦ refl | false ↦ unended ]
-
-counts_one : (a : About) (H : List Entry) (caller : ℕ) (call : Call) (looks : List Look) (r : Reply) → r ≡ reply a H call looks → length (option_to_list (made_by caller call r)) ≡ one_if (is_joined r)
-counts_one a H caller (Connect who) looks (Joined c p) h = refl
-counts_one a H caller (Connect who) looks r h = refl
-counts_one a H caller (Forward c m) looks r h = ap one_if (sym (ap is_joined h ∙ is_joined-forward a H c m looks))
-counts_one a H caller (Leave c t n) looks r h = ap one_if (sym (ap is_joined h))
-counts_one a H caller Stop looks r h = ap one_if (sym (ap is_joined h))
-counts_one a H caller Count looks r h = ap one_if (sym (ap is_joined h))
-
 pub joined_counted : (a : About) (H : List Entry) → Legal a H → length (joined H) ≡ (counts H).joined
 unfolding joined_where counts
 joined_counted a H legal = along a (λ G. length (joined G) ≡ (counts G).joined) refl (λ G e legalG p lawful.
@@ -138,17 +94,6 @@ joined_counted a H legal = along a (λ G. length (joined G) ≡ (counts G).joine
     ∙ sym (ap (λ k. k.joined) (counts-more G e))) H legal
 
 -- the live connections are the unleft ones that have no end
-
-none_both : (o p : Option End) → is_none (option_or o p) ≡ (is_none o && is_none p)
-none_both None p = refl
-none_both (Some x) p = refl
-
-leave_ends : (c : ℕ) (call : Call) (o : Option End) → is_leave c call ≡ true → is_none (option_or (end_by_call c call) o) ≡ false
-leave_ends c (Connect who) o h = cc
-leave_ends c (Forward k m) o h = cc
-leave_ends c (Leave k t n) o h = rw h refl
-leave_ends c Stop o h = cc
-leave_ends c Count o h = cc
 
 filters : (E K L E' : Connection → Bool) (xs : List Connection) → ((x : Connection) → In x xs → E' x ≡ (E x && K x)) → ((x : Connection) → L x ≡ false → K x ≡ false) → filter K (filter E xs) ≡ filter E' (filter L xs)
 filters E K L E' [] each leaving = refl
@@ -168,10 +113,6 @@ filters E K L E' (x ∷ xs) each leaving =
           ] here)
     ] in
     by (E x) (K x) (L x) refl refl refl
-
-filter_only : (q : Connection → Bool) (o : Option Connection) → ((x : Connection) → o ≡ Some x → q x ≡ true) → filter q (option_to_list o) ≡ option_to_list o
-filter_only q None h = refl
-filter_only q (Some x) h = rw (h x refl) refl
 
 pub live_unended : (a : About) (H : List Entry) → Legal a H → live H ≡ filter (λ x. is_none (ended H x.number)) (unleft H)
 unfolding joined_where

@@ -1,6 +1,5 @@
 -- Numbers that are matched with those of elements that pass a test, from the front.
 use Rattle.std.proofs.Common.{◌≡◌, ℕ, zero, suc, ◌+◌, ◌<◌, ◌≤◌, ◌==◌, Bool, true, false, ◌&&◌, cond, List, [], ◌∷◌, length, get_or, drop, drop-cons, map, filter, refl, ap, sym, ◌∙◌, arith}
-use Rattle.std.proofs.lemmas.Bool.{ne_eqb}
 use Rattle.std.proofs.lemmas.List.{get_or_default}
 use Rattle.bsc_legality.specs.Deciding.{begins}
 use Rattle.bsc_legality.specs.Sameness.{same_numbers}
@@ -54,9 +53,6 @@ matched f p ks at xs i x within is pass here m = record {
   so_far = m.so_far ∙ step f p ks at xs i x within is true pass ∙ ap (λ (b : Bool). b && matches f p ks (at + 1) xs (i + 1)) here;
 }
 
-pub unmatched : {A : Type 0} (f : A → ℕ) (p : A → Bool) (ks : List ℕ) (at : ℕ) (xs : List A) (i : ℕ) (x : A) → i < length xs → x ≡ get_or xs i x → p x ≡ true → begins (f x) (drop at ks) ≡ false → Matches f p ks at xs i → same_numbers ks (map f (filter p xs)) ≡ false
-unmatched f p ks at xs i x within is pass here m = m.so_far ∙ step f p ks at xs i x within is true pass ∙ ap (λ (b : Bool). b && matches f p ks (at + 1) xs (i + 1)) here
-
 -- the same of what stands at the place
 
 pub passed_over_at : {A : Type 0} (f : A → ℕ) (p : A → Bool) (ks : List ℕ) (at : ℕ) (xs : List A) (i : ℕ) (d : A) → i < length xs → p (get_or xs i d) ≡ false → Matches f p ks at xs i → Matches f p ks at xs (i + 1)
@@ -64,28 +60,6 @@ passed_over_at f p ks at xs i d within pass m = passed_over f p ks at xs i (get_
 
 pub matched_at : {A : Type 0} (f : A → ℕ) (p : A → Bool) (ks : List ℕ) (at : ℕ) (xs : List A) (i : ℕ) (d : A) → i < length xs → p (get_or xs i d) ≡ true → begins (f (get_or xs i d)) (drop at ks) ≡ true → Matches f p ks at xs i → Matches f p ks (at + 1) xs (i + 1)
 matched_at f p ks at xs i d within pass here m = matched f p ks at xs i (get_or xs i d) within (get_or_default xs i d (get_or xs i d) within) pass here m
-
-pub unmatched_at : {A : Type 0} (f : A → ℕ) (p : A → Bool) (ks : List ℕ) (at : ℕ) (xs : List A) (i : ℕ) (d : A) → i < length xs → p (get_or xs i d) ≡ true → begins (f (get_or xs i d)) (drop at ks) ≡ false → Matches f p ks at xs i → same_numbers ks (map f (filter p xs)) ≡ false
-unmatched_at f p ks at xs i d within pass here m = unmatched f p ks at xs i (get_or xs i d) within (get_or_default xs i d (get_or xs i d) within) pass here m
-
-dropped_all : {A : Type 0} (xs : List A) → drop (length xs) xs ≡ []
-dropped_all [] = refl
-dropped_all (x ∷ xs) = dropped_all xs
-
-same_suc : (a b : ℕ) → (a == b) ≡ (suc a == suc b)
-same_suc a b = grind arith
-
-ends : (at : ℕ) (ks : List ℕ) → at ≤ length ks → same_numbers (drop at ks) [] ≡ (at == length ks)
-ends zero [] h = refl
-ends zero (k ∷ ks) h = sym (ne_eqb 0 (suc (length ks)) (λ e. omega (arith, e)))
-ends (suc at) [] h = absurd (omega (arith, h))
-ends (suc at) (k ∷ ks) h = ends at ks (omega arith) ∙ same_suc at (length ks)
-
-pub matched_all : {A : Type 0} (f : A → ℕ) (p : A → Bool) (ks : List ℕ) (at : ℕ) (xs : List A) (i : ℕ) → i ≡ length xs → Matches f p ks at xs i → (at == length ks) ≡ same_numbers ks (map f (filter p xs))
-matched_all {A} f p ks at xs i all m = sym (m.so_far ∙ ap (λ (k : ℕ). matches f p ks at xs k) all ∙ ap (λ (l : List A). same_numbers (drop at ks) (map f (filter p l))) (dropped_all xs) ∙ ends at ks m.within)
-
-pub starts : {A : Type 0} (f : A → ℕ) (p : A → Bool) (ks : List ℕ) (xs : List A) → Matches f p ks 0 xs 0
-starts f p ks xs = record { within = omega arith; so_far = refl }
 
 -- what stands at a place of mapped elements
 pub begins_at : {A : Type 0} (f : A → ℕ) (n at : ℕ) (xs : List A) (d : A) → at < length xs → (f (get_or xs at d) == n) ≡ begins n (drop at (map f xs))

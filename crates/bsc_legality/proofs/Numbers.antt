@@ -10,7 +10,7 @@ use Rattle.std.proofs.lemmas.Bool.{and_parts, cases_lt, cases_eq, eq-eqb, ne_eqb
 use Rattle.std.proofs.lemmas.Bool.Decides.{nat_tests}
 use Rattle.bsc_legality.specs.declared.row.Row.{Row}
 use Rattle.bsc_legality.specs.Rows.{has_number, rising}
-use Rattle.bsc_legality.proofs.Places.{position-cons}
+use Rattle.bsc_lemmas.proofs.Lists.{position-cons}
 
 pub all_at : (p : Row → Bool) (rows : List Row) (i : ℕ) (d : Row) → i < length rows → list_all p rows ≡ true → p (get_or rows i d) ≡ true
 all_at p [] i d within all = absurd (omega arith)

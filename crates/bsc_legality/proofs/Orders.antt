@@ -12,14 +12,7 @@ use Rattle.bsc_history.proofs.Lists.{In, In-filter, all_from_In}
 use Rattle.bsc_history.proofs.More.{along, unleft-more}
 use Rattle.bsc_history.proofs.Uniqueness.{comes}
 use Rattle.bsc_legality.proofs.Histories.{number_bound, unleft_joined}
-
-all-filter : {A : Type 0} (P : A → Type 0) (q : A → Bool) (xs : List A) → AllByRecursion P xs → AllByRecursion P (filter q xs)
-all-filter P q [] all = tt
-all-filter P q (x ∷ xs) all = let rest = all-filter P q xs all.1 in elim (q x) as (λ b. AllByRecursion P (cond b (x ∷ filter q xs) (filter q xs))) [ true ↦ (all.0, rest) | false ↦ rest ]
-
-all-push : {A : Type 0} (P : A → Type 0) (xs : List A) (y : A) → AllByRecursion P xs → P y → AllByRecursion P (xs ++ y ∷ [])
-all-push P [] y all one = (one, tt)
-all-push P (x ∷ xs) y all one = (all.0, all-push P xs y all.1 one)
+use Rattle.bsc_lemmas.proofs.Lists.{all-filter, all-push}
 
 -- the number of each connection is below those of all after it
 abbrev pub Rise : List Connection → Type 0

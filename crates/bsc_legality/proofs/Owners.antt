@@ -2,11 +2,11 @@
 use Rattle.std.proofs.Common.{◌≡◌, ℕ, ◌==◌, Bool, true, false, ◌&&◌, ◌||◌, cond, List, [], ◌∷◌, Some, refl, ap, sym, ◌∙◌}
 use Rattle.std.specs.List.{AllByRecursion}
 use Rattle.std.proofs.lemmas.Bool.{eqb-true}
-use Rattle.bsc_history.proofs.More.{or_false}
 use Rattle.bsc_legality.specs.declared.row.Row.{Row}
 use Rattle.bsc_legality.specs.Deciding.{is_of_in}
 use Rattle.bsc_legality.specs.Rows.{has_number, is_by, rising, row_of}
 use Rattle.bsc_legality.proofs.Numbers.{others, rising_parts}
+use Rattle.bsc_lemmas.proofs.Booleans.{or_false}
 
 none_of : (caller c : ℕ) (rows : List Row) → AllByRecursion (λ s. has_number c s ≡ false) rows → is_of_in rows caller c ≡ false
 none_of caller c [] all = refl

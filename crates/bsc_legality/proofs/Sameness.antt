@@ -1,7 +1,7 @@
 -- The tests of sameness decide it.
-use Rattle.std.proofs.Common.{◌≡◌, ℕ, ◌==◌, Bool, true, ◌&&◌, List, Option, Some, None, refl, ap, sym, ◌∙◌}
+use Rattle.std.proofs.Common.{◌≡◌, ℕ, ◌==◌, true, ◌&&◌, List, Option, Some, None, refl, ap, sym, ◌∙◌}
 use Rattle.std.specs.Cmp.Lexicographic.{bytes_decides, same_text}
-use Rattle.std.proofs.lemmas.Bool.{and_from, and_parts, eq-eqb, eqb-true}
+use Rattle.std.proofs.lemmas.Bool.{and_parts, eq-eqb, eqb-true}
 use Rattle.bsc_history.specs.declared.counts.Counts.{Counts}
 use Rattle.bsc_history.specs.declared.ending.End.{End}
 use Rattle.bsc_history.specs.declared.ending.End.TheVariants.{Left, Replaced, Full, Stopped as EndStopped}
@@ -10,6 +10,7 @@ use Rattle.bsc_history.specs.declared.reply.Refusal.TheVariants.{Stopped as Refu
 use Rattle.bsc_history.specs.declared.reply.Reply.{Reply}
 use Rattle.bsc_history.specs.declared.reply.Reply.TheVariants.{Joined, Refused, Appended, Closed, Skipped, NoHolder, SentAll, NotCurrent, Stopped, Gone, Counted}
 use Rattle.bsc_legality.specs.Sameness.{same_counts, same_end, same_numbers, same_option, same_refusal, same_reply}
+use Rattle.std.proofs.lemmas.Bool.{and_from as both}
 
 -- what is found the same is the same
 
@@ -92,9 +93,6 @@ refusal_self : (r : Refusal) → same_refusal r r ≡ true
 refusal_self RefusedStopped = refl
 refusal_self (Duplicate o) = option_self o
 refusal_self (TableFull r) = eq-eqb r r refl
-
-both : (a b : Bool) → a ≡ true → b ≡ true → (a && b) ≡ true
-both a b h k = and_from a b h k
 
 counts_self : (k : Counts) → same_counts k k ≡ true
 counts_self k =

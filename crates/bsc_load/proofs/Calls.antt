@@ -1,23 +1,12 @@
 -- Lists of calls and of entries.
-use Rattle.std.proofs.Common.{◌≡◌, ℕ, ◌≤◌, true, List, [], ◌∷◌, ◌++◌, length, take, None, refl, ap, sym, ◌∙◌, append_assoc}
-use Rattle.std.specs.List.{filter}
-use Rattle.std.specs.Option.{option_to_list}
+use Rattle.std.proofs.Common.{◌≡◌, ℕ, ◌≤◌, List, length, take, None, ap, sym}
 use Rattle.std.proofs.lemmas.List.FromFn.{length-map-range_with_len, take-map-range_with_len}
 use Rattle.bsc_history.specs.declared.call.Call.{Call}
 use Rattle.bsc_history.specs.declared.call.Call.TheVariants.{Forward}
-use Rattle.bsc_history.specs.declared.connection.Connection.{Connection}
 use Rattle.bsc_history.specs.declared.entry.Entry.{Entry}
-use Rattle.bsc_history.specs.Ends.{joined, joined_where}
 use Rattle.bsc_history.specs.Entries.{connection_of, made_by}
 use Rattle.bsc_load.specs.Frames.{frame}
 use Rattle.bsc_load.specs.Workers.{forwards}
-
-pub joined-append : (E F : List Entry) → joined (E ++ F) ≡ joined E ++ joined F
-unfolding joined_where
-joined-append [] F = refl
-joined-append (e ∷ E) F =
-    let here = filter (λ (x : Connection). true) (option_to_list (connection_of e)) in
-    ap (λ (l : List Connection). here ++ l) (joined-append E F) ∙ sym (append_assoc here (joined E) (joined F))
 
 -- a forward joins nobody
 pub forward_joins_none : (e : Entry) (s : ℕ) (m : List ℕ) → e.call ≡ Forward s m → connection_of e ≡ None

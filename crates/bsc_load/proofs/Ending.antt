@@ -1,46 +1,32 @@
 -- The end of a workload.
 use Rattle.std.proofs.Common.{◌≡◌, ◌≤◌, ◌<◌, ◌+◌, ◌-◌, inl, inr, ℕ, Bool, true, false, cond, List, [], ◌++◌, length, map, Option, None, Result, Ok, Err, refl, ap, sym, ◌∙◌, subst, arith, append-nil}
-use Rattle.std.specs.Prelude.{IsTrue, min, nat_lt}
+use Rattle.std.specs.Prelude.{min, nat_lt}
 use Rattle.std.specs.List.{range_with_len}
-use Rattle.std.proofs.lemmas.Bool.{ltb-false, ltb-true, or_right}
+use Rattle.std.proofs.lemmas.Bool.{ltb-false, ltb-true}
 use Rattle.std.proofs.lemmas.List.{length-map}
 use Rattle.std.proofs.lemmas.List.Sums.{count_by-le-length}
 use Rattle.bsc_history.specs.declared.counts.Counts.{Counts}
-use Rattle.bsc_history.specs.declared.mark.Stamped.{Stamped}
 use Rattle.bsc_history.specs.declared.told.AlreadyStopped.{AlreadyStopped}
 use Rattle.bsc_history.specs.declared.told.Told.{Told}
-use Rattle.bsc_history.specs.Marks.{entries}
-use Rattle.bsc_history.specs.Replies.{is_stopped}
-use Rattle.bsc_history.proofs.More.{entries-more, is_stopped-more}
 use Rattle.bsc_turn.specs.declared.pass.Pass.{Pass}
 use Rattle.bsc_turn.specs.declared.view.Ended.{Ended}
 use Rattle.bsc_turn.specs.Passes.{number_of, seen}
 use Rattle.bsc_hub.specs.declared.hub.Hub.{Hub}
-use Rattle.bsc_hub.specs.Calls.{stop_made, stop_stamped}
+use Rattle.bsc_hub.specs.Calls.{stop_made}
 use Rattle.bsc_hub.specs.Passing.{Passed, Placed, Went, about_of}
 use Rattle.bsc_hub.proofs.Following.{passed_none, passed_then}
 use Rattle.bsc_load.specs.declared.ends.LoadEnd.{LoadEnd}
 use Rattle.bsc_load.specs.declared.ends.LoadStop.{LoadStop}
-use Rattle.bsc_load.specs.declared.ends.LoadStop.TheVariants.{NoMemory as NoMemoryStop, Short as ShortStop}
+use Rattle.bsc_load.specs.declared.ends.LoadStop.TheVariants.{Short as ShortStop}
 use Rattle.bsc_load.specs.declared.jobs.Job.{Job}
 use Rattle.bsc_load.specs.declared.jobs.Sum.{Sum}
 use Rattle.bsc_load.specs.declared.jobs.Work.{Work}
-use Rattle.bsc_load.specs.Inner.{Asks, Finishes, HaveRun, Joins, LoadsFrom, Splits, Stops, cut_short, ends_as, indices, job_indices, within_32_bits, work_indices}
+use Rattle.bsc_load.specs.Inner.{Finishes, HaveRun, Joins, LoadsFrom, Splits, Stops, cut_short, ends_as, indices, job_indices, within_32_bits, work_indices}
 use Rattle.bsc_load.specs.Load.{Loads, Ran, Worker}
 use Rattle.bsc_load.specs.Workers.{within_64_bits}
 use Rattle.bsc_load.proofs.Joining.{all_cut_later, all_took_same}
 use Rattle.bsc_load.proofs.Passing.{went_on}
-
--- a hub that was told to stop is stopped
-stopped_now : (h : Hub) (m q : Pass) (told : Result (Told Counts) AlreadyStopped) → Stops h m q told → IsTrue (is_stopped (entries (seen q)))
-stopped_now h m q (Ok t) s =
-    let before = s.passed.makes.before in
-    let stop : Stamped = stop_stamped (number_of m) t.said in
-    ap (λ (S : List Stamped). is_stopped (entries S)) s.passed.makes.ends
-    ∙ ap is_stopped (entries-more before stop)
-    ∙ is_stopped-more (entries before) stop.entry
-    ∙ or_right (is_stopped (entries before)) true refl
-stopped_now h m q (Err already) s = s.refused.0 refl
+use Rattle.bsc_load.proofs.Common.{stopped_now}
 
 -- the workers that got a pass are those for which jobs were split off
 many_workers : (xs : List Worker) (ws : List Work) (js : List Job) → indices xs ≡ work_indices ws → work_indices ws ≡ job_indices js → length xs ≡ length js
@@ -133,11 +119,3 @@ loads_from h m q n without js ws result few rest run f p split =
           subst (λ (r : Result LoadEnd LoadStop). Loads h p q n r) (sym fine.1.2)
           (answered h p m f.pass q n without short js ws f.sum fine.1.0 (nat_lt 0 short) refl few rest refl split run f.joins fine.1.1 fine.0))
     ]
-
--- no memory for the threads
-pub loads_unrun : (h : Hub) (m : Pass) (n : ℕ) (js : List Job) → LoadsFrom h m n js m (Err NoMemoryStop)
-loads_unrun h m n js p split = ([], record { drew = min n (length js + 1); went = split.went; numbered = refl; within = omega arith; few = omega arith; parts = tt })
-
--- no memory for the jobs
-pub loads_unsplit : (h : Hub) (p q : Pass) (n : ℕ) → Asks h p q n → Loads h p q n (Err NoMemoryStop)
-loads_unsplit h p q n a = ([], record { drew = a.drew; went = a.went; numbered = refl; within = omega arith; few = a.few; parts = tt })

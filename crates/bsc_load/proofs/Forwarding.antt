@@ -23,7 +23,6 @@ use Rattle.bsc_hub.specs.Calls.{one_made, one_stamped}
 use Rattle.bsc_hub.specs.Passing.{IsCaller, Passed, about_of, found_history}
 use Rattle.bsc_hub.proofs.Staying.{one_stays}
 use Rattle.bsc_load.specs.declared.jobs.Cut.{Cut}
-use Rattle.bsc_load.specs.declared.jobs.Cut.TheVariants.{NoMemory}
 use Rattle.bsc_load.specs.Frames.{frame, npdu_octets}
 use Rattle.bsc_load.specs.Inner.{Forwards, Goes, Holds, IsCounted, Ran, goes_on}
 use Rattle.bsc_load.specs.Workers.{forwards, within_64_bits}
@@ -51,10 +50,6 @@ forwarded_as h i s k p q r m said same told is x worn =
     (subst (λ (m : List ℕ). Passed h p [] (one_made (number_of p) s m r) q) same x)
     (subst (λ (m : List ℕ). IsErr r ↔ ((about_of h).limits.calls ≤ length (found_history (one_made (number_of p) s m r) q))) same worn)
     )
-
--- no memory for a forward
-pub unforwarded : (h : Hub) (i s k : ℕ) (p : Pass) → IsCaller h p → Forwards h i s k p p (Err NoMemory)
-unforwarded h i s k p is = (goes_same h p is, holds_same p, tt)
 
 -- no forward yet
 pub ran_none : (h : Hub) (i s : ℕ) (p : Pass) → IsCaller h p → Ran h i s 0 p p

@@ -1,6 +1,6 @@
 -- Lists that go with one another, element by element.
-use Rattle.std.proofs.Common.{◌≡◌, ◌<◌, ℕ, suc, List, [], ◌∷◌, ◌++◌, length, refl, ap, sym, ◌∙◌, subst, arith}
-use Rattle.std.specs.List.{AllByRecursion, slice_index_or}
+use Rattle.std.proofs.Common.{◌≡◌, ◌<◌, ℕ, suc, List, [], ◌∷◌, length, refl, ap, sym, ◌∙◌, subst, arith}
+use Rattle.std.specs.List.{slice_index_or}
 use Rattle.bsc_hub.specs.declared.hub.Hub.{Hub}
 use Rattle.bsc_load.specs.declared.jobs.Job.{Job}
 use Rattle.bsc_load.specs.declared.jobs.Work.{Work}
@@ -23,11 +23,3 @@ have_run h (j ∷ js) (w ∷ ws) many each =
       same = ap (λ (n : ℕ). n ∷ work_indices ws) did.0 ∙ ap (λ (l : List ℕ). j.index ∷ l) rest.same;
       run = (did.1, rest.run);
     }
-
--- some elements more, and one more
-pub all_append : {X : Type 0} (P : X → Type 0) (xs ys : List X) → AllByRecursion P xs → AllByRecursion P ys → AllByRecursion P (xs ++ ys)
-all_append P [] ys all more = more
-all_append P (x ∷ xs) ys all more = (all.0, all_append P xs ys all.1 more)
-
-pub all_push : {X : Type 0} (P : X → Type 0) (xs : List X) (x : X) → AllByRecursion P xs → P x → AllByRecursion P (xs ++ x ∷ [])
-all_push P xs x all one = all_append P xs (x ∷ []) all (one, tt)

@@ -24,9 +24,10 @@ use Rattle.bsc_load.specs.Frames.{npdu_octets}
 use Rattle.bsc_load.specs.Inner.{AreFirst, CountsIn, Did, HasRun, Joins, Took, cut_short, within_32_bits, work_indices}
 use Rattle.bsc_load.specs.Load.{ShowsCut, Worker, WorksPart, WorksWhole}
 use Rattle.bsc_load.specs.Workers.{IsPart, ShowsShort, octets_taken, within_64_bits}
-use Rattle.bsc_load.proofs.Given.{all_push}
 use Rattle.bsc_load.proofs.Running.{part_of_whole}
 use Rattle.bsc_load.proofs.Unjoined.{first_later, longer}
+use Rattle.bsc_lemmas.proofs.Booleans.{false_true as no_cut}
+use Rattle.bsc_lemmas.proofs.Lists.{all-push as all_push}
 
 -- what stays of a worker by a longer history
 
@@ -85,9 +86,6 @@ record Known (h : Hub) (w : Work) (S : List Stamped) (x : Worker) : Type 0 where
   pub cut : x.is_cut ≡ true → ShowsShort (about_of h) x.caller.own (length (entries S))
   pub took : Took (about_of h) S x
   pub says : Says (about_of h) S x w.octets
-
-no_cut : (P : Type 0) → false ≡ true → P
-no_cut P e = cc
 
 says_later : (a : About) (S T : List Stamped) (x : Worker) (r : Result ℕ Cut) → StartsWith T S → Took a S x → Says a S x r → Says a T x r
 says_later a S T x (Ok octets) begins took says = (says.0, says.1 ∙ ap within_64_bits (took_same a S T x begins took))

@@ -13,3 +13,4 @@ pub mod Joining
 pub mod Ending
 pub mod Appended
 mod WorkedFrames
+pub mod Common

@@ -1,5 +1,5 @@
 -- What a worker does from its sender's connect to its sender's leave.
-use Rattle.std.proofs.Common.{◌≡◌, ◌≤◌, inl, inr, ℕ, List, [], ◌∷◌, ◌++◌, length, take, Result, Ok, Err, refl, ap, sym, ◌∙◌, subst, arith, append_assoc}
+use Rattle.std.proofs.Common.{◌≡◌, ◌≤◌, inl, inr, ℕ, List, [], ◌∷◌, ◌++◌, length, take, Result, Ok, Err, refl, ap, ◌∙◌, arith, append_assoc}
 use Rattle.std.specs.List.{list_any}
 use Rattle.std.proofs.lemmas.Bool.{or_left, or_right}
 use Rattle.std.proofs.lemmas.List.Folds.{list_any-append}
@@ -14,7 +14,7 @@ use Rattle.bsc_history.specs.Replies.{numbers}
 use Rattle.bsc_ring.specs.declared.ends.Outlet.{Outlet}
 use Rattle.bsc_ring.specs.Ends.{IsNewOutlet, empties_of, given}
 use Rattle.bsc_turn.specs.declared.pass.Pass.{Pass}
-use Rattle.bsc_turn.specs.Passes.{number_of, own_list, seen}
+use Rattle.bsc_turn.specs.Passes.{number_of, seen}
 use Rattle.bsc_desk.specs.declared.leaving.Gone.{Gone}
 use Rattle.bsc_hub.specs.declared.hub.Hub.{Hub}
 use Rattle.bsc_hub.specs.declared.joined.Joined.{Joined}
@@ -22,7 +22,7 @@ use Rattle.bsc_hub.specs.Calls.{connect_made, leave_made}
 use Rattle.bsc_hub.specs.Passing.{Passed, about_of}
 use Rattle.bsc_load.specs.declared.jobs.Cut.{Cut}
 use Rattle.bsc_load.specs.declared.jobs.Cut.TheVariants.{NoMemory, Short}
-use Rattle.bsc_load.specs.Inner.{AfterBoth, Did, Goes, Runs, ShowsBy, inner_calls}
+use Rattle.bsc_load.specs.Inner.{AfterBoth, Runs, ShowsBy, inner_calls}
 use Rattle.bsc_load.specs.Peers.{receiver, sender}
 use Rattle.bsc_load.specs.Workers.{IsPart, IsWhole, calls, calls_up_to, forwards}
 use Rattle.bsc_load.proofs.Both.{calls_between, goes_between, join_entry, joined_between, leave_entry, length_between}
@@ -119,9 +119,3 @@ after_run h i p m n q j o told (Err cut) came b new left many =
         more_shows h (seen n) (seen q) E e l cut (longer (seen n) (seen q) left.grows) b.shows,
       ),
     )
-
--- a pass that had made no entry
-pub did_so : (h : Hub) (i : ℕ) (p q : Pass) (E : List Entry) (result : Result ℕ Cut) → own_list p ≡ [] → Goes h p E q → Did h i E (seen q) result → Did h i (own_list q) (seen q) result
-did_so h i p q E result none goes did =
-    let all : own_list q ≡ E = goes.own ∙ ap (λ (l : List Entry). l ++ E) none in
-    subst (λ (l : List Entry). Did h i l (seen q) result) (sym all) did

@@ -1,16 +1,14 @@
 -- One job more for each pass that is split off.
-use Rattle.std.proofs.Common.{◌≡◌, ◌≤◌, ◌<◌, ℕ, ◌+◌, List, [], ◌∷◌, ◌++◌, None, length, map-id, ap, sym, ◌∙◌, subst, arith}
-use Rattle.std.specs.Prelude.{min}
-use Rattle.std.specs.List.{AllByRecursion, range_with_len}
+use Rattle.std.proofs.Common.{◌≡◌, ◌≤◌, ◌<◌, ℕ, ◌+◌, List, [], ◌∷◌, ◌++◌, None, map-id, ap, sym, ◌∙◌, arith}
+use Rattle.std.specs.List.{range_with_len}
 use Rattle.std.proofs.lemmas.List.{map-append}
 use Rattle.std.proofs.lemmas.List.FromFn.{map-range_with_len_more}
 use Rattle.bsc_turn.specs.declared.pass.Pass.{Pass}
-use Rattle.bsc_turn.specs.Passes.{newest_number}
 use Rattle.bsc_hub.specs.declared.hub.Hub.{Hub}
-use Rattle.bsc_hub.specs.Passing.{IsCaller, Went, about_of}
-use Rattle.bsc_hub.proofs.Following.{passed_none, went_then}
+use Rattle.bsc_hub.specs.Passing.{Went}
+use Rattle.bsc_hub.proofs.Following.{went_then}
 use Rattle.bsc_load.specs.declared.jobs.Job.{Job}
-use Rattle.bsc_load.specs.Inner.{Asks, IsJob, Splits, job_indices}
+use Rattle.bsc_load.specs.Inner.{Asks, job_indices}
 
 range_more : (k : ℕ) → range_with_len 0 (k + 1) ≡ range_with_len 0 k ++ k ∷ []
 range_more k =
@@ -24,10 +22,6 @@ indices_more js j k is are =
     ∙ ap (λ (n : ℕ). range_with_len 0 k ++ n ∷ []) is
     ∙ sym (range_more k)
 
--- no number was asked for yet, and one more was
-pub asked_none : (h : Hub) (p : Pass) → IsCaller h p → Went h p 0 [] None p
-asked_none h p is = passed_none h p is
-
 pub asked_more : (h : Hub) (p m q : Pass) (k : ℕ) → Went h p k [] None m → Went h m 1 [] None q → Went h p (k + 1) [] None q
 asked_more h p m q k before one = went_then h p m q k 1 [] [] None before one
 
@@ -36,14 +30,3 @@ asks_so h p q n k few went = record { drew = k; few = few; went = went }
 
 pub asks_more : (h : Hub) (p m q : Pass) (n k : ℕ) → k < n → Went h p k [] None m → Went h m 1 [] None q → Asks h p q n
 asks_more h p m q n k less before one = asks_so h p q n (k + 1) (omega (arith, less)) (asked_more h p m q k before one)
-
--- jobs for all, or for as many as there are numbers for
-pub splits_so : (h : Hub) (p q : Pass) (n k : ℕ) (js : List Job) → k ≡ min n (length js + 1) → Went h p k [] None q → AllByRecursion (IsJob h) js → job_indices js ≡ range_with_len 0 (length js) → length js ≤ n →
-    (length js < n → newest_number q ≡ (about_of h).limits.callers) → Splits h p q n js
-splits_so h p q n k js so went jobs numbered within spent = record {
-  went = subst (λ (x : ℕ). Went h p x [] None q) so went;
-  jobs = jobs;
-  numbered = numbered;
-  within = within;
-  spent = spent;
-}

@@ -1,5 +1,5 @@
 -- A connect that didn't join, and histories that grow.
-use Rattle.std.proofs.Common.{◌≡◌, ◌≢◌, ◌≤◌, ◌+◌, inl, inr, ℕ, Bool, true, false, cond, List, [], ◌∷◌, ◌++◌, length, take, drop, Some, None, Result, Err, refl, ap, sym, ◌∙◌, arith, append_assoc, length-append, take-append-drop}
+use Rattle.std.proofs.Common.{◌≡◌, ◌≢◌, ◌≤◌, ◌+◌, inl, inr, ℕ, true, List, [], ◌∷◌, ◌++◌, length, take, drop, None, Result, Err, refl, ap, sym, ◌∙◌, arith, append_assoc, length-append, take-append-drop}
 use Rattle.std.specs.Prelude.{◌⊎◌, nat_le}
 use Rattle.std.proofs.lemmas.Bool.{leb-true}
 use Rattle.std.proofs.Math.Seq.{take-append_seam}
@@ -8,7 +8,6 @@ use Rattle.bsc_history.specs.declared.call.Call.TheVariants.{Connect}
 use Rattle.bsc_history.specs.declared.entry.Entry.{Entry}
 use Rattle.bsc_history.specs.declared.limits.About.{About}
 use Rattle.bsc_history.specs.declared.mark.Stamped.{Stamped}
-use Rattle.bsc_history.specs.declared.reply.Reply.{Reply}
 use Rattle.bsc_history.specs.Ends.{joined_where}
 use Rattle.bsc_history.specs.Marks.{entries}
 use Rattle.bsc_history.specs.Outboxes.{sent}
@@ -32,6 +31,7 @@ use Rattle.bsc_load.specs.Inner.{AreFirst, CutBoth, Runs, ShowsBy, Unjoined, cut
 use Rattle.bsc_load.specs.Peers.{receiver, sender}
 use Rattle.bsc_load.specs.Workers.{calls}
 use Rattle.bsc_load.proofs.Going.{goes_none, goes_one, holds_by}
+use Rattle.bsc_history.proofs.Common.{due_none as worn_where}
 
 -- a history that begins with another is no shorter
 pub longer : (S T : List Stamped) → StartsWith T S → length (entries S) ≤ length (entries T)
@@ -57,11 +57,6 @@ shows_more h n m S E Short few so =
       | inl refused ↦ inl refused
       | inr worn ↦ inr (omega (arith, few, worn.0), worn.1)
     ]
-
--- a connect that gets no reply finds as many calls as may be made
-worn_where : (b : Bool) (x : Reply) → None ≡ cond b None (Some x) → b ≡ true
-worn_where true x e = refl
-worn_where false x e = cc
 
 -- a connect that found memory for an outbox
 abbrev pub FoundRoom : Result Joined ConnectRefusal → Type 0

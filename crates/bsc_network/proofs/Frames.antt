@@ -1,16 +1,15 @@
 -- What entered an outbox, with its places, at a history with one entry more.
-use Rattle.std.proofs.Common.{◌≡◌, ◌≤◌, ◌<◌, ℕ, zero, suc, Bool, true, false, List, [], ◌∷◌, ◌++◌, Option, Some, None, refl, ap, sym, arith, ◌∙◌, append_assoc, append-nil}
-use Rattle.std.specs.Prelude.{◌+◌, length, map, filter, take, slice_get, cond}
-use Rattle.std.proofs.lemmas.List.{map-append, length-append}
-use Rattle.std.proofs.lemmas.List.Elements.{filter-append}
+use Rattle.std.proofs.Common.{◌≡◌, ◌≤◌, ℕ, zero, suc, List, [], ◌∷◌, ◌++◌, Some, refl, ap, sym, arith, ◌∙◌, append_assoc, append-nil}
+use Rattle.std.specs.Prelude.{length, map, take, slice_get}
+use Rattle.std.proofs.lemmas.List.{map-append}
 use Rattle.bsc_history.specs.declared.limits.About.{About}
 use Rattle.bsc_history.specs.declared.entry.Entry.{Entry}
 use Rattle.bsc_history.specs.Entries.{moment}
 use Rattle.bsc_history.specs.Outboxes.{added, sent}
 use Rattle.bsc_history.proofs.More.{sent-more}
-use Rattle.bsc_direct.proofs.OneMore.{some_same}
 use Rattle.bsc_network.specs.Worlds.{Posted, entries}
 use Rattle.bsc_network.specs.Outboxes.{Frame, at_place, frames_by, frames_after, frames_of}
+use Rattle.std.proofs.lemmas.Option.{same_Some as some_same}
 
 after-more : (a : About) (G : List Entry) (c : ℕ) (posted : List Posted) (p : Posted) → frames_after a G c (posted ++ p ∷ []) ≡ frames_after a G c posted ++ frames_by a (G ++ entries posted) c p
 after-more a G c [] p = append-nil (frames_by a G c p) ∙ ap (λ (F : List Entry). frames_by a F c p) (sym (append-nil G))

@@ -9,3 +9,4 @@ mod WorkedEnds
 mod WorkedRefusals
 pub mod Places
 pub mod Frames
+pub mod Common

@@ -1,11 +1,12 @@
 -- A list one element of which is changed: the other elements, and what all of them have in common.
-use Rattle.std.proofs.Common.{◌≡◌, ◌≢◌, ◌⊎◌, inl, inr, ℕ, ◌<◌, ◌≤◌, ◌+◌, arith, set, zero, suc, Bool, true, false, List, [], ◌∷◌, ◌++◌, Option, Some, None, refl, ap, sym, subst}
+use Rattle.std.proofs.Common.{◌≡◌, ◌≢◌, ◌⊎◌, inl, inr, ℕ, set, zero, suc, Bool, true, false, List, [], ◌∷◌, ◌++◌, Option, Some, None, refl, ap, sym, subst}
 use Rattle.std.specs.Prelude.{length, slice_get, find, cond, reverse}
 use Rattle.std.proofs.lemmas.List.{reverse-append}
 use Rattle.std.specs.Option.{option_map}
 use Rattle.std.specs.List.{AllByRecursion}
-use Rattle.bsc_direct.proofs.OneMore.{some_same}
 use Rattle.bsc_network.specs.Changes.{changed_at}
+use Rattle.bsc_lemmas.proofs.Lists.{all_append as all-joined}
+use Rattle.std.proofs.lemmas.Option.{same_Some as some_same}
 
 -- What a change keeps of each element, it keeps of the list.
 pub kept-at : {A B : Type 0} (g : A → B) (i : ℕ) (f : A → A) → ((x : A) → g (f x) ≡ g x) → (xs : List A) (j : ℕ) → option_map g (slice_get (changed_at i f xs) j) ≡ option_map g (slice_get xs j)
@@ -48,15 +49,6 @@ pub all-mapped : {A : Type 0} (P Q : A → Type 0) → ((x : A) → P x → Q x)
 all-mapped P Q f [] all = tt
 all-mapped P Q f (x ∷ xs) all = (f x all.0, all-mapped P Q f xs all.1)
 
-pub all-one_more : {A : Type 0} (P : A → Type 0) (xs : List A) (x : A) → AllByRecursion P xs → P x → AllByRecursion P (xs ++ x ∷ [])
-all-one_more P [] x all h = (h, tt)
-all-one_more P (y ∷ xs) x all h = (all.0, all-one_more P xs x all.1 h)
-
-pub all-at : {A : Type 0} (P : A → Type 0) (xs : List A) (i : ℕ) (x : A) → AllByRecursion P xs → slice_get xs i ≡ Some x → P x
-all-at P [] i x all h = cc
-all-at P (y ∷ xs) zero x all h = subst P (some_same y x h) all.0
-all-at P (y ∷ xs) (suc i) x all h = all-at P xs i x all.1 h
-
 -- An element after the change is one from before, or the one that was changed.
 pub got-changed : {A : Type 0} (i : ℕ) (f : A → A) (xs : List A) (j : ℕ) (y : A) → slice_get (changed_at i f xs) j ≡ Some y
     → (slice_get xs j ≡ Some y) ⊎ ((x : A) × (i ≡ j) × (slice_get xs j ≡ Some x) × (y ≡ f x))
@@ -88,10 +80,6 @@ found_by P false y o x here later h = later h
 pub all-found : {A : Type 0} (P : A → Type 0) (test : A → Bool) (xs : List A) (x : A) → AllByRecursion P xs → find test xs ≡ Some x → P x
 all-found P test [] x all h = cc
 all-found P test (y ∷ xs) x all h = found_by P (test y) y (find test xs) x all.0 (λ g. all-found P test xs x all.1 g) h
-
-pub all-joined : {A : Type 0} (P : A → Type 0) (xs ys : List A) → AllByRecursion P xs → AllByRecursion P ys → AllByRecursion P (xs ++ ys)
-all-joined P [] ys all more = more
-all-joined P (x ∷ xs) ys all more = (all.0, all-joined P xs ys all.1 more)
 
 pub all-reversed : {A : Type 0} (P : A → Type 0) (xs : List A) → AllByRecursion P xs → AllByRecursion P (reverse xs)
 all-reversed P [] all = tt
@@ -125,11 +113,6 @@ get-set_other (x ∷ xs) zero (suc j) y apart = refl
 get-set_other (x ∷ xs) (suc i) zero y apart = refl
 get-set_other (x ∷ xs) (suc i) (suc j) y apart = get-set_other xs i j y (λ same. apart (ap suc same))
 
-pub get-set_here : {A : Type 0} (xs : List A) (i : ℕ) (x y : A) → slice_get xs i ≡ Some x → slice_get (set xs i y) i ≡ Some y
-get-set_here [] i x y h = cc
-get-set_here (z ∷ xs) zero x y h = refl
-get-set_here (z ∷ xs) (suc i) x y h = get-set_here xs i x y h
-
 -- a list that is as long has an element where the other has one
 pub got-beside : {A B : Type 0} (xs : List A) (ys : List B) (i : ℕ) (x : A) → length ys ≡ length xs → slice_get xs i ≡ Some x → (y : B) × (slice_get ys i ≡ Some y)
 got-beside [] ys i x e h = cc
@@ -139,12 +122,6 @@ got-beside (z ∷ xs) (y ∷ ys) (suc i) x e h = got-beside xs ys i x (less e) h
   where
     less : suc (length ys) ≡ suc (length xs) → length ys ≡ length xs
     less e = cc
-
--- there is no element behind a list
-pub got-within : {A : Type 0} (xs : List A) (i : ℕ) (x : A) → slice_get xs i ≡ Some x → i < length xs
-got-within [] i x h = cc
-got-within (z ∷ xs) zero x h = omega arith
-got-within (z ∷ xs) (suc i) x h = (let k = got-within xs i x h in omega arith)
 
 pub got-last_of : {A : Type 0} (xs : List A) (x : A) (i : ℕ) (y : A) → slice_get (xs ++ x ∷ []) i ≡ Some y → (slice_get xs i ≡ Some y) ⊎ ((i ≡ length xs) × (y ≡ x))
 got-last_of [] x zero y h = inr (refl, some_same y x (sym h))

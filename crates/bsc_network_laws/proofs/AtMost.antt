@@ -13,7 +13,7 @@ use Rattle.bsc_node.specs.Node.{goes_on, actions_at}
 use Rattle.bsc_node.specs.Conditions.{fits, may_come, brings_word}
 use Rattle.bsc_node_laws.proofs.Drawn.{draws_at}
 use Rattle.bsc_node_identity.proofs.Settled.{now_then}
-use Rattle.bsc_node_identity.proofs.Timely.{Timely, may_then, no_word_then}
+use Rattle.bsc_node_identity.proofs.Timely.{Timely, may_then}
 use Rattle.bsc_network.specs.declared.arrival.Arrival.{Arrival}
 use Rattle.bsc_network.specs.Worlds.{World}
 use Rattle.bsc_network.specs.Changes.{in_order}
@@ -22,6 +22,7 @@ use Rattle.bsc_network_laws.proofs.Acting.{Among, LetsActs, acts_one, acts_each}
 use Rattle.bsc_network_laws.proofs.Beside.{Keeps}
 use Rattle.bsc_network_laws.proofs.Events.{actions-one, actions-two}
 use Rattle.bsc_network_laws.proofs.Sent.{among-filter}
+use Rattle.bsc_node.proofs.Common.{no_word_then}
 
 -- ---- actions
 

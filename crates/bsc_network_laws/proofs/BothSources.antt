@@ -22,11 +22,11 @@ use Rattle.bsc_network.specs.declared.timed_step.TimedStep.{TimedStep}
 use Rattle.bsc_network.specs.declared.world_delivery.WorldDelivery.{WorldDelivery}
 use Rattle.bsc_network.specs.declared.way.Way.{Way}
 use Rattle.bsc_network.specs.declared.way.Way.TheVariants.{Up, Down}
-use Rattle.bsc_network.specs.declared.target.Target.TheVariants.{Hub as ToHub, Node as ToNode}
+use Rattle.bsc_network.specs.declared.target.Target.TheVariants.{Hub as ToHub}
 use Rattle.bsc_network.specs.declared.arrival.Arrival.{Arrival}
 use Rattle.bsc_network.specs.Worlds.{World, Hub, Node, Link, Posted, entries, history, traffic}
 use Rattle.bsc_network.specs.Outboxes.{Frame}
-use Rattle.bsc_network.proofs.Places.{all-at, found-in}
+use Rattle.bsc_network.proofs.Places.{found-in}
 use Rattle.bsc_network_laws.specs.Deliveries.{Sends, IsWhole, HasAddress}
 use Rattle.bsc_network_laws.specs.Ends.{receiver, putter, messages}
 use Rattle.bsc_network_laws.specs.Carrying.{Sendings, is_npdu}
@@ -56,6 +56,8 @@ use Rattle.bsc_network_laws.proofs.DirectLinks.{AllDirect}
 use Rattle.bsc_network_laws.proofs.Directly.{direct_stays}
 use Rattle.bsc_network_laws.proofs.CameDirectly.{npdu-said}
 use Rattle.bsc_network_laws.proofs.Sources.{AllFrom, HubsPart, KnowsSources, from-same, from-hears}
+use Rattle.bsc_lemmas.proofs.Lists.{all-at}
+use Rattle.bsc_network.proofs.Common.{same_node}
 
 -- Each Send is to an address of six octets.
 abbrev pub AreWhole : Sendings → Type 0
@@ -86,9 +88,6 @@ from_has_joined S w posted to f p =
 hub_puts_down : (way : Way) (link : Link) (j : ℕ) → putter way link ≡ ToHub j → way ≡ Down
 hub_puts_down Up link j h = cc
 hub_puts_down Down link j h = refl
-
-same_node : (i k : ℕ) → ToNode i ≡ ToNode k → i ≡ k
-same_node i k h = cc
 
 hubs_part : (cast : Cast) → IsFit cast → (S : Sendings) → AreWhole S → (T place : ℕ) (w : World) (k : ℕ) (n : Node) (by : Option Arrival) (e : NodeEvent) → KnowsHubs cast S T place w → HubsPart S w k n by e
 hubs_part cast fit S whole T place w k n by e known name o c j msg npdu v comes puts passed body from = (

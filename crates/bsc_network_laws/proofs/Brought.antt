@@ -1,7 +1,7 @@
 -- What an event of a step brings about at a node: who is the peer of a direct connection then, which links begin, and by which link
 -- an NPDU goes.
-use Rattle.std.proofs.Common.{◌≡◌, ◌<◌, ◌⊎◌, inl, inr, ℕ, Bool, true, false, ◌||◌, List, [], ◌∷◌, ◌++◌, Option, Some, refl, ap, sym, subst, ◌∙◌, append_assoc, arith}
-use Rattle.std.specs.Prelude.{◌^◌, ◌%◌, IsTrue, if◌then◌else◌, filter_map, map, unwrap_or, ⊤}
+use Rattle.std.proofs.Common.{◌≡◌, ◌<◌, ◌⊎◌, inl, inr, ℕ, Bool, true, false, ◌||◌, List, [], ◌∷◌, ◌++◌, Option, Some, refl, ap, sym, subst, ◌∙◌, append_assoc}
+use Rattle.std.specs.Prelude.{◌^◌, IsTrue, if◌then◌else◌, filter_map, map, unwrap_or, ⊤}
 use Rattle.std.specs.List.{AllByRecursion, list_any}
 use Rattle.std.proofs.lemmas.List.Elements.{filter_map-append}
 use Rattle.std.proofs.lemmas.List.Folds.{list_any-append}
@@ -38,13 +38,15 @@ use Rattle.bsc_node_identity.proofs.OneMore.{established-same}
 use Rattle.bsc_node_identity.proofs.Settled.{Settled, settled-goes_on, now_then}
 use Rattle.bsc_node_identity.proofs.Events.{peer-goes_on}
 use Rattle.bsc_node_identity.proofs.Leading.{ways_lead_there}
-use Rattle.bsc_node_identity.proofs.Timely.{Timely, may_then, no_word_then}
+use Rattle.bsc_node_identity.proofs.Timely.{Timely, may_then}
 use Rattle.bsc_network.specs.NodeEvents.{brings_about}
 use Rattle.bsc_network_laws.specs.Carrying.{is_npdu}
 use Rattle.bsc_network_laws.proofs.Acting.{Among}
 use Rattle.bsc_network_laws.proofs.Timing.{brought-one, brought-two}
 use Rattle.bsc_network_laws.proofs.Events.{among-both}
 use Rattle.bsc_network_laws.proofs.Sent.{IsOfSend, put_is_of_send}
+use Rattle.bsc_lemmas.proofs.Numbers.{small_id}
+use Rattle.bsc_node.proofs.Common.{no_word_then}
 
 -- ---- the lines
 
@@ -225,9 +227,6 @@ pub record IsSentOver (e : NodeEvent) (L : Log) (name : LinkName) (o : List ℕ)
 leads-before : (L : Log) (e : TimedEvent) (v : Vmac) (name : LinkName) (to : Option Vmac) → LeadsTo (with_event L e) v name to → LeadsTo L v name to
 leads-before L e v (Hub s) to leads = leads
 leads-before L e v (Direct s) to (none, who, is, at) = (none, who, sym (established-same s L (came e) refl) ∙ is, at)
-
-small_id : (n : ℕ) → n % 65536 < 2 ^ 16
-small_id n = omega arith
 
 put-over : (a : Made) (L : Log) (T : ℕ) (e : NodeEvent) (name : LinkName) (o : List ℕ) → IsOfSend a L (at_once T e) name o → IsSentOver e L name o
 put-over a L T e name o s = record {

@@ -3,7 +3,6 @@ use Rattle.std.proofs.Common.{◌≡◌, ◌⊎◌, inl, inr, ℕ, zero, suc, tr
 use Rattle.std.specs.Prelude.{◌+◌, slice_get, ⊤}
 use Rattle.std.specs.List.{AllByRecursion}
 use Rattle.std.proofs.lemmas.List.{map-append}
-use Rattle.bsc_direct.proofs.OneMore.{some_same}
 use Rattle.bsc_octets.specs.declared.identity.Identity.{Identity}
 use Rattle.bsc_history.specs.declared.call.Call.{Call}
 use Rattle.bsc_history.specs.declared.call.Call.TheVariants.{Connect, Forward, Leave, Stop as StopCall}
@@ -31,7 +30,7 @@ use Rattle.bsc_network.specs.HubSides.{told}
 use Rattle.bsc_network.specs.NodeSides.{other_way, hold_of, puts_on, puts_by}
 use Rattle.bsc_network.specs.Dialling.{dials, fails, new_link}
 use Rattle.bsc_network.specs.NodeEvents.{takes_as, delivers, forgets_failure}
-use Rattle.bsc_network.proofs.Places.{all-mapped, all-joined, all-at, got-changed, got-longer}
+use Rattle.bsc_network.proofs.Places.{all-mapped, got-changed, got-longer}
 use Rattle.bsc_network_laws.specs.Connecting.{IsOfLink, JoinByLinks}
 use Rattle.bsc_network_laws.proofs.Moves.{IsSide, IsSaid, says_joined, Each}
 use Rattle.bsc_network_laws.proofs.Acting.{goes_on_in, LetsActs, lets-hears}
@@ -40,6 +39,9 @@ use Rattle.bsc_network_laws.proofs.Beside.{Keeps, KeepsGiven}
 use Rattle.bsc_network_laws.proofs.SideFits.{no_conn}
 use Rattle.bsc_network_laws.proofs.Taken.{SidesFit, LinkFits, not_joined}
 use Rattle.bsc_network_laws.proofs.Knowing.{Knows}
+use Rattle.bsc_history.proofs.Common.{one_made}
+use Rattle.bsc_lemmas.proofs.Lists.{all-at, all_append as all-joined}
+use Rattle.std.proofs.lemmas.Option.{same_Some as some_same}
 
 -- ---- links that last
 
@@ -136,9 +138,6 @@ by-call w j caller place call = by-called w (called j caller place call w) j cal
 none_made : (P : Connection → Type 0) (caller : ℕ) (who : Identity) (r : Reply) → says_joined r ≡ false → AllByRecursion P (option_to_list (made_by caller (Connect who) r))
 none_made P caller who (Joined c replaced) h = cc
 none_made P caller who r h = tt
-
-one_made : (P : Connection → Type 0) (caller : ℕ) (who : Identity) (r : Reply) (c : ℕ) (replaced : Option ℕ) → r ≡ Joined c replaced → P (record { number = c; caller = caller; who = who }) → AllByRecursion P (option_to_list (made_by caller (Connect who) r))
-one_made P caller who r c replaced is p = subst (λ (x : Reply). AllByRecursion P (option_to_list (made_by caller (Connect who) x))) (sym is) (p, tt)
 
 -- a side whose machine asks has no connection yet
 pub asks_without : (w : World) (l j : ℕ) (h : Hub) (k : Link) (m : List ℕ) (who : Identity) → IsSide w l j h k → IsSaid h k m (Ask who) → SidesFit w → k.side.conn ≡ None

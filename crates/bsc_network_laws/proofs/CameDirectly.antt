@@ -4,7 +4,7 @@ use Rattle.std.proofs.Common.{◌≡◌, ℕ, Bool, true, false, cond, List, [],
 use Rattle.std.specs.Prelude.{◌==◌, IsTrue, filter, filter_map}
 use Rattle.std.specs.List.{AllByRecursion}
 use Rattle.std.proofs.lemmas.List.Elements.{filter_map-append}
-use Rattle.bsc_direct.proofs.OneMore.{some_same, both_ways}
+use Rattle.bsc_direct.proofs.OneMore.{both_ways}
 use Rattle.bsc_octets.specs.declared.identity.Identity.{Identity}
 use Rattle.bsc_octets.specs.declared.vmac.Vmac.{Vmac}
 use Rattle.bsc_octets.specs.Forwarding.{function_in}
@@ -39,7 +39,7 @@ use Rattle.bsc_network.specs.declared.world_delivery.WorldDelivery.{WorldDeliver
 use Rattle.bsc_network.specs.Worlds.{World, Node, Link, traffic, node_at}
 use Rattle.bsc_network.specs.NodeSides.{other_way, hold_of}
 use Rattle.bsc_network.specs.Outboxes.{Frame}
-use Rattle.bsc_network.proofs.Places.{all-at, all-found, all-reversed}
+use Rattle.bsc_network.proofs.Places.{all-found, all-reversed}
 use Rattle.bsc_network_laws.specs.Ends.{putter, message_of, messages}
 use Rattle.bsc_network_laws.specs.Carrying.{Sendings, is_npdu}
 use Rattle.bsc_network_laws.specs.Deliveries.{IsAmong, WasEstablished, CameDirectly}
@@ -52,6 +52,9 @@ use Rattle.bsc_network_laws.proofs.Brought.{at_once}
 use Rattle.bsc_network_laws.proofs.OtherEnds.{LeadsToHub, EndsRight, putter-grows, receiver-grows, CameBy, came-end}
 use Rattle.bsc_network_laws.proofs.DirectLinks.{IsSentDirectly, AllDirect, among-longer, established-grows}
 use Rattle.bsc_network_laws.proofs.Directly.{each-among, held-name}
+use Rattle.bsc_frame.proofs.Common.{same_npdu}
+use Rattle.bsc_lemmas.proofs.Lists.{all-at}
+use Rattle.std.proofs.lemmas.Option.{same_Some as some_same}
 
 -- ---- what passes with an NPDU is one
 
@@ -89,13 +92,6 @@ all-passing P test (x ∷ xs) all = by (test x) refl all (all-passing P test xs)
     by false is h later = (λ passes. both_ways (test x) passes is, later h)
 
 -- ---- a delivery
-
-same_npdu : (x y : List ℕ) → Npdu x ≡ Npdu y → x ≡ y
-same_npdu x y h = ap npdu_of h
-  where
-    npdu_of : Body → List ℕ
-    npdu_of (Npdu npdu) = npdu
-    npdu_of body = []
 
 -- A message that came to node k from another node, with what is known of the network then.
 pub record CameFrom (S : Sendings) (cast : Cast) (w : World) (k : ℕ) (n : Node) (by : Option Arrival) (e : NodeEvent) (name : LinkName) (o : List ℕ) (other : ℕ) : Type 0 where

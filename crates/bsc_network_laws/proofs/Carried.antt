@@ -6,7 +6,7 @@ use Rattle.bsc_network.specs.declared.timed_step.TimedStep.{TimedStep}
 use Rattle.bsc_network.specs.Settings.{Added}
 use Rattle.bsc_network.specs.Courses.{IsCourse}
 use Rattle.bsc_network.specs.Networks.{world, deliveries}
-use Rattle.bsc_network.proofs.Places.{all-mapped, all-at}
+use Rattle.bsc_network.proofs.Places.{all-mapped}
 use Rattle.bsc_network_laws.specs.Deliveries.{Sends, IsFromItsSend, HasAddress}
 use Rattle.bsc_network_laws.proofs.Sources.{IsFrom}
 use Rattle.bsc_network_laws.proofs.BothSources.{sends_whole}
@@ -20,6 +20,7 @@ use Rattle.bsc_network_laws.proofs.SentOnLinks.{LinkSent}
 use Rattle.bsc_network_laws.specs.Peers.{PeersAreThere}
 use Rattle.bsc_network_laws.proofs.Casting.{Stays}
 use Rattle.bsc_network_laws.proofs.Running.{runs}
+use Rattle.bsc_lemmas.proofs.Lists.{all-at}
 
 pub taken_comes_down : TakenComesDown
 taken_comes_down added steps course =

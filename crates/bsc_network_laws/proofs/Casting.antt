@@ -4,7 +4,6 @@ use Rattle.std.specs.Prelude.{◌^◌, map, filter_map, slice_get, ⊤}
 use Rattle.std.specs.Option.{option_map}
 use Rattle.std.proofs.lemmas.Option.{slice_get-map}
 use Rattle.std.specs.List.{AllByRecursion}
-use Rattle.bsc_direct.proofs.OneMore.{some_same}
 use Rattle.bsc_history.specs.declared.call.Call.{Call}
 use Rattle.bsc_history.specs.declared.limits.About.{About}
 use Rattle.bsc_node.specs.declared.action.Action.{Action}
@@ -29,7 +28,7 @@ use Rattle.bsc_network.specs.Changes.{changed_at, with_found}
 use Rattle.bsc_network.specs.HubCalls.{called}
 use Rattle.bsc_network.specs.NodeSides.{hold_of, puts_on, puts_by, holds}
 use Rattle.bsc_network.specs.NodeEvents.{brings_about, hears}
-use Rattle.bsc_network.proofs.Places.{all-changed, all-changed_here, all-at}
+use Rattle.bsc_network.proofs.Places.{all-changed, all-changed_here}
 use Rattle.bsc_network_laws.specs.Naming.{Cast, identity_in}
 use Rattle.bsc_network_laws.proofs.Moves.{Comes, Each, Lets}
 use Rattle.bsc_network_laws.proofs.Acting.{Among, goes_on_in, EachAct, LetsActs}
@@ -39,6 +38,8 @@ use Rattle.bsc_network_laws.proofs.Events.{IsOf, by-events}
 use Rattle.bsc_network_laws.proofs.Beside.{Keeps, KeepsGiven, KeepsBoth, beside, together, acts-together, hears-beside}
 use Rattle.bsc_network_laws.proofs.Stepping.{begun, done, lets-step}
 use Rattle.bsc_network_laws.proofs.Knowing.{Knows, knows, Amid, amid, amid-first, amid-log}
+use Rattle.bsc_lemmas.proofs.Lists.{all-at}
+use Rattle.std.proofs.lemmas.Option.{same_Some as some_same}
 
 -- a node's log between two events
 pub record Stays (a : Made) (L : Log) : Type 0 where

@@ -6,7 +6,6 @@ use Rattle.std.specs.List.{AllByRecursion, range_with_len}
 use Rattle.std.specs.Option.{option_map}
 use Rattle.std.proofs.lemmas.List.{map-append}
 use Rattle.std.proofs.lemmas.Bool.{eqb-true, and_parts}
-use Rattle.bsc_direct.proofs.OneMore.{some_same}
 use Rattle.bsc_octets.specs.declared.identity.Identity.{Identity}
 use Rattle.bsc_history.specs.declared.limits.About.{About}
 use Rattle.bsc_history.specs.declared.entry.Entry.{Entry}
@@ -24,7 +23,7 @@ use Rattle.bsc_network.specs.declared.target.Target.{Target}
 use Rattle.bsc_network.specs.declared.target.Target.TheVariants.{Hub as ToHub, Node as ToNode}
 use Rattle.bsc_network.specs.Worlds.{World, Hub, Link, Posted, entries, history, hub_at, link_at}
 use Rattle.bsc_network.specs.Outboxes.{Frame, frames}
-use Rattle.bsc_network.proofs.Places.{all-mapped, all-at}
+use Rattle.bsc_network.proofs.Places.{all-mapped}
 use Rattle.bsc_network_laws.specs.Ends.{receiver, putter, messages}
 use Rattle.bsc_network_laws.specs.Carrying.{is_npdu, npdus, taken_of}
 use Rattle.bsc_network_laws.specs.Connecting.{IsOfDialler, JoinsDiallers, is_conn, HasJoinedBy}
@@ -39,6 +38,9 @@ use Rattle.bsc_network_laws.proofs.Receipts.{HeardAt, ComeOnce}
 use Rattle.bsc_network_laws.proofs.ForwardedOnce.{ForwardAt, ForwardsFit}
 use Rattle.bsc_network_laws.proofs.OutboxOnce.{Different, all-taken, different-taken, npdu-at, one-index, IsLiveAs, IsEntered, ForwardIn, ForwardsApart, forward_in, frames-entered, frames-different}
 use Rattle.bsc_network_laws.proofs.HubsThere.{HubsThere, hub-found}
+use Rattle.bsc_lemmas.proofs.Lists.{all-at}
+use Rattle.bsc_network.proofs.Common.{not_both, same_node}
+use Rattle.std.proofs.lemmas.Option.{same_Some as some_same}
 
 -- the history of each hub is legal
 abbrev pub HubsLegal : World → Type 0
@@ -224,12 +226,6 @@ sort_of Down x = by x.to refl
     by : (t : Target) → x.to ≡ t → ((n : ℕ) × (x.to ≡ ToNode n)) ⊎ ((j : ℕ) × (Down ≡ Down) × (x.to ≡ ToHub j))
     by (ToHub j) is = inr (j, refl, is)
     by (ToNode n) is = inl (n, is)
-
-same_node : (i k : ℕ) → ToNode i ≡ ToNode k → i ≡ k
-same_node i k h = cc
-
-not_both : (k j : ℕ) (t : Target) → t ≡ ToNode k → t ≡ ToHub j → ⊥
-not_both k j t a b = cc
 
 -- on the way down from a hub
 pub record IsFromHub (w : World) (l : ℕ) (way : Way) (x : Link) (f : Frame) : Type 0 where

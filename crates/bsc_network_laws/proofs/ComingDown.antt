@@ -10,7 +10,7 @@ use Rattle.bsc_history.proofs.Lists.{In}
 use Rattle.bsc_history.specs.Legality.{Legal}
 use Rattle.bsc_network.specs.Worlds.{World, Hub, Posted, entries, history}
 use Rattle.bsc_network.specs.Outboxes.{Frame, frames}
-use Rattle.bsc_network.proofs.Places.{all-mapped, all-at}
+use Rattle.bsc_network.proofs.Places.{all-mapped}
 use Rattle.bsc_network_laws.specs.Carrying.{Sendings, is_npdu, npdus, taken_of}
 use Rattle.bsc_network_laws.specs.Passing.{IsPassedOn, IsPassedTo, IsPassedBy, PassesOn, ComesDown}
 use Rattle.bsc_network_laws.proofs.Taken.{SidesFit, LinkFits}
@@ -18,6 +18,7 @@ use Rattle.bsc_network_laws.proofs.Joins.{SidesJoined}
 use Rattle.bsc_network_laws.proofs.Legally.{Legally}
 use Rattle.bsc_network_laws.proofs.Passing.{all_filtered, all_unfiltered, found_in, joined_by}
 use Rattle.bsc_network_laws.proofs.Numbering.{joined_in, joined_longer}
+use Rattle.bsc_lemmas.proofs.Lists.{all-at}
 
 all_taken : {A : Type 0} (P : A → Type 0) (n : ℕ) (xs : List A) → AllByRecursion P xs → AllByRecursion P (take n xs)
 all_taken P zero xs all = tt

@@ -3,13 +3,13 @@ use Rattle.std.proofs.Common.{ℕ}
 use Rattle.bsc_history.specs.Legality.{Legal}
 use Rattle.bsc_network.specs.Worlds.{World, Hub, history}
 use Rattle.bsc_network.specs.Networks.{world}
-use Rattle.bsc_network.proofs.Places.{all-at}
 use Rattle.bsc_network_laws.specs.Carrying.{Sendings}
 use Rattle.bsc_network_laws.specs.Deliveries.{Sends, NoneIsDeliveredTwice}
 use Rattle.bsc_network_laws.specs.Naming.{Cast, cast_of}
 use Rattle.bsc_network_laws.proofs.Receipts.{deliveries-apart}
 use Rattle.bsc_network_laws.proofs.ComeOnce.{IsOrderly, come_once}
 use Rattle.bsc_network_laws.proofs.Running.{Runs, runs}
+use Rattle.bsc_lemmas.proofs.Lists.{all-at}
 
 orderly : (cast : Cast) (S : Sendings) (T place : ℕ) (w : World) → Runs cast S T place w → IsOrderly cast w
 orderly cast S T place w r = record {

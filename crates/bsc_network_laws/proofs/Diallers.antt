@@ -4,7 +4,6 @@ use Rattle.std.specs.Prelude.{◌+◌, slice_get, ⊤}
 use Rattle.std.specs.Option.{option_map}
 use Rattle.std.specs.List.{AllByRecursion}
 use Rattle.std.proofs.lemmas.List.{map-append}
-use Rattle.bsc_direct.proofs.OneMore.{some_same}
 use Rattle.bsc_octets.specs.declared.identity.Identity.{Identity}
 use Rattle.bsc_frame.specs.declared.message.Message.{Message}
 use Rattle.bsc_frame.specs.declared.body.Body.{Body}
@@ -27,7 +26,7 @@ use Rattle.bsc_accept.specs.declared.step.Step.{Step}
 use Rattle.bsc_accept.specs.declared.step.Step.TheVariants.{Ask}
 use Rattle.bsc_accept.specs.Messages.{who_asks, is_farewell_answer}
 use Rattle.bsc_accept.specs.Past.{Standing, awaiting_request, connected, disconnecting, standing, phase}
-use Rattle.bsc_accept.specs.Steps.{ask_step, connected_step, message_step}
+use Rattle.bsc_accept.specs.Steps.{connected_step, message_step}
 use Rattle.bsc_node.specs.declared.node_event.NodeEvent.{NodeEvent}
 use Rattle.bsc_node.specs.declared.link_name.LinkName.{LinkName}
 use Rattle.bsc_node.specs.Logs.{Made}
@@ -48,7 +47,7 @@ use Rattle.bsc_network.specs.HubCalls.{called, entry_in, reply_in}
 use Rattle.bsc_network.specs.declared.timed_step.TimedStep.{TimedStep}
 use Rattle.bsc_network.specs.Settings.{Added, hub, node, nodes, nodes_after}
 use Rattle.bsc_network.specs.Courses.{MayAddAll}
-use Rattle.bsc_network.proofs.Places.{all-changed_here, all-mapped, all-joined, all-at, found-in}
+use Rattle.bsc_network.proofs.Places.{all-changed_here, all-mapped, found-in}
 use Rattle.bsc_network_laws.specs.Ends.{receiver}
 use Rattle.bsc_network_laws.specs.Naming.{Cast, cast_of, identity_in, IsNamedRight}
 use Rattle.bsc_network_laws.specs.Connecting.{IsOfDialler, JoinsDiallers}
@@ -61,6 +60,10 @@ use Rattle.bsc_network_laws.proofs.Holding.{Keep, KeepFrom, keep-log}
 use Rattle.bsc_network_laws.proofs.Holding as Holding
 use Rattle.bsc_network_laws.proofs.Casting.{KnowsAll, knows_all, AmidAll, hears-all}
 use Rattle.bsc_network_laws.proofs.Named.{Named, arrived-up, named_stays}
+use Rattle.bsc_accept.proofs.Common.{asked_by as asked_who}
+use Rattle.bsc_history.proofs.Common.{one_made}
+use Rattle.bsc_lemmas.proofs.Lists.{all-at, all_append as all-joined}
+use Rattle.std.proofs.lemmas.Option.{same_Some as some_same}
 
 -- ---- who asks
 
@@ -88,13 +91,6 @@ not_asked st who none is = no (ap asks is ∙ none)
   where
     no : true ≡ false → ⊥
     no e = cc
-
-asked_who : (o : Option Identity) (who : Identity) → Ask who ≡ ask_step o → o ≡ Some who
-asked_who (Some x) who is = ap Some (same x who is)
-  where
-    same : (x who : Identity) → Ask who ≡ Ask x → x ≡ who
-    same x who is = cc
-asked_who None who is = cc
 
 pub asked : (g : Standing) (v : Verdict) (who : Identity) → Ask who ≡ message_step g v → IsAskedBy v who
 asked awaiting_request (Pass msg) who is = record { message = msg; passed = refl; asks = asked_who (who_asks msg.body) who is }
@@ -164,9 +160,6 @@ inv-called cast w j caller place call one = all-changed_here (JoinsDiallers cast
 none_made : (P : Connection → Type 0) (caller : ℕ) (who : Identity) (r : Reply) → says_joined r ≡ false → AllByRecursion P (option_to_list (made_by caller (Connect who) r))
 none_made P caller who (Joined c replaced) h = cc
 none_made P caller who r h = tt
-
-one_made : (P : Connection → Type 0) (caller : ℕ) (who : Identity) (r : Reply) (c : ℕ) (replaced : Option ℕ) → r ≡ Joined c replaced → P (record { number = c; caller = caller; who = who }) → AllByRecursion P (option_to_list (made_by caller (Connect who) r))
-one_made P caller who r c replaced is p = subst (λ (x : Reply). AllByRecursion P (option_to_list (made_by caller (Connect who) x))) (sym is) (p, tt)
 
 -- ---- the moves of a step
 

@@ -2,7 +2,6 @@
 use Rattle.std.proofs.Common.{◌≡◌, ◌<◌, ◌⊎◌, inl, inr, ℕ, true, List, [], ◌∷◌, ◌++◌, length, Some, None, refl, ap, sym, subst, ◌∙◌, append_assoc}
 use Rattle.std.specs.Prelude.{◌^◌, filter_map, slice_get}
 use Rattle.std.specs.List.{AllByRecursion}
-use Rattle.bsc_direct.proofs.OneMore.{some_same}
 use Rattle.bsc_octets.specs.declared.identity.Identity.{Identity}
 use Rattle.bsc_octets.specs.declared.vmac.Vmac.{Vmac}
 use Rattle.bsc_frame.specs.declared.body.Body.TheVariants.{Npdu}
@@ -21,7 +20,7 @@ use Rattle.bsc_network.specs.Changes.{with_link, with_side, with_traffic, puts_a
 use Rattle.bsc_network.specs.Outboxes.{Frame}
 use Rattle.bsc_network.specs.NodeSides.{other_way}
 use Rattle.bsc_network.specs.Dialling.{new_link}
-use Rattle.bsc_network.proofs.Places.{got-changed, got-longer, got-last_of, all-mapped, all-joined}
+use Rattle.bsc_network.proofs.Places.{got-changed, got-longer, got-last_of, all-mapped}
 use Rattle.bsc_network_laws.specs.Ends.{receiver, putter, message_of, messages}
 use Rattle.bsc_network_laws.specs.Carrying.{Sendings, npdus}
 use Rattle.bsc_network_laws.specs.Deliveries.{IsAmong, WasEstablished}
@@ -30,6 +29,9 @@ use Rattle.bsc_network_laws.proofs.Moves.{IsSide}
 use Rattle.bsc_network_laws.proofs.SideFits.{npdus-more}
 use Rattle.bsc_network_laws.proofs.Lasting.{Longer, NodeGrows, Lasts, lasts-longer, lasts-puts}
 use Rattle.bsc_network_laws.proofs.Lasting as Lasting
+use Rattle.bsc_lemmas.proofs.Lists.{all_append as all-joined}
+use Rattle.bsc_network.proofs.Common.{not_both}
+use Rattle.std.proofs.lemmas.Option.{same_Some as some_same}
 
 -- ---- what is kept
 
@@ -230,10 +232,6 @@ direct-puts S cast u i place on content fresh all l y way k j d = by (got-change
         } in
         subst (λ (z : Link). AllByRecursion (IsSentDirectly S cast v l way k j) (npdus (messages (traffic way z)))) (sym is)
         (put-on (IsSentDirectly S cast v l way k j) on way p x (all-last S cast u v g l way k j (npdus (messages (traffic way x))) (all l x way k j direct)) (new x same direct))
-
--- a hub puts on no such way
-not_both : (k j : ℕ) (t : Target) → t ≡ ToNode k → t ≡ ToHub j → ⊥
-not_both k j t a b = cc
 
 pub direct-hub : (S : Sendings) (cast : Cast) (u : World) (l j place : ℕ) (h : Hub) (k : Link) (content : Content) → IsSide u l j h k → AllDirect S cast u → AllDirect S cast (puts_at l Down place content u)
 direct-hub S cast u l j place h k content side =

@@ -4,7 +4,7 @@ use Rattle.std.proofs.Common.{◌≡◌, ◌<◌, ◌⊎◌, inl, inr, ℕ, suc,
 use Rattle.std.specs.Prelude.{◌+◌, ◌^◌, filter_map, slice_get, ⊤}
 use Rattle.std.specs.Option.{option_map}
 use Rattle.std.specs.List.{AllByRecursion}
-use Rattle.bsc_direct.proofs.OneMore.{some_same, both_ways}
+use Rattle.bsc_direct.proofs.OneMore.{both_ways}
 use Rattle.bsc_octets.specs.declared.identity.Identity.{Identity}
 use Rattle.bsc_octets.specs.declared.vmac.Vmac.{Vmac}
 use Rattle.bsc_connector.specs.Back.{newest}
@@ -21,7 +21,6 @@ use Rattle.bsc_node.specs.Conditions.{fits, brings_word}
 use Rattle.bsc_node.specs.Logs.{Made, Log}
 use Rattle.bsc_node.specs.Links.{same_link}
 use Rattle.bsc_node.specs.Ways.{established_peer}
-use Rattle.bsc_node_laws.proofs.There.{same_link-true}
 use Rattle.bsc_node_identity.specs.Carried.{LeadsTo}
 use Rattle.bsc_node_identity.proofs.Reasons.{is_beginning}
 use Rattle.bsc_node_identity.proofs.Timely.{Timely}
@@ -40,7 +39,7 @@ use Rattle.bsc_network.specs.HubCalls.{called}
 use Rattle.bsc_network.specs.NodeSides.{other_way, hold_of, puts_on, puts_by, holds}
 use Rattle.bsc_network.specs.Dialling.{new_link}
 use Rattle.bsc_network.specs.NodeEvents.{brings_about, hears}
-use Rattle.bsc_network.proofs.Places.{got-changed, get-changed, all-mapped, all-at, all-found, all-reversed}
+use Rattle.bsc_network.proofs.Places.{got-changed, get-changed, all-mapped, all-found, all-reversed}
 use Rattle.bsc_network_laws.specs.Ends.{receiver, putter, message_of}
 use Rattle.bsc_network_laws.specs.Carrying.{Sendings, is_npdu, npdus}
 use Rattle.bsc_network_laws.specs.Deliveries.{IsAmong}
@@ -61,6 +60,11 @@ use Rattle.bsc_network_laws.proofs.Brought.{at_once, IsDue, each-due, IsSentOver
 use Rattle.bsc_network_laws.proofs.MadeWell.{IsSet, MadeWell}
 use Rattle.bsc_network_laws.proofs.OtherEnds.{LeadsToHub, HubsLead, hubs-same, hubs-holds, hubs-log, leads-taken, leads-dialled, who-lasts, puts-nodes, held-other, found-passes, acts-after, set-of, KnowsEnds}
 use Rattle.bsc_network_laws.proofs.DirectLinks.{IsSentDirectly, AllDirect, sent-lasts, direct-same, direct-link, spares-lost, spares-front, direct-side, direct-puts, direct-hub, direct-longer}
+use Rattle.bsc_lemmas.proofs.Lists.{all-at}
+use Rattle.bsc_network.proofs.Common.{same_node}
+use Rattle.bsc_network_laws.proofs.Common.{puts-other}
+use Rattle.bsc_node.proofs.Common.{same_link-is as same_link-true}
+use Rattle.std.proofs.lemmas.Option.{same_Some as some_same}
 
 -- ---- a node puts something
 
@@ -68,16 +72,9 @@ other-other : (way : Way) → other_way (other_way way) ≡ way
 other-other Up = refl
 other-other Down = refl
 
-puts-other : (way : Way) (x : Link) → putter (other_way way) x ≡ receiver way x
-puts-other Up x = refl
-puts-other Down x = refl
-
 hears-other : (way : Way) (x : Link) → receiver (other_way way) x ≡ putter way x
 hears-other Up x = refl
 hears-other Down x = refl
-
-same_node : (i k : ℕ) → ToNode i ≡ ToNode k → i ≡ k
-same_node i k h = cc
 
 pub each-among : {A : Type 0} (xs : List A) → AllByRecursion (IsAmong xs) xs
 each-among [] = tt

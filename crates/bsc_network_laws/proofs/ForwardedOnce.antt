@@ -3,7 +3,6 @@
 use Rattle.std.proofs.Common.{◌≡◌, ◌<◌, ◌⊎◌, inl, inr, ℕ, suc, Bool, true, false, List, [], ◌∷◌, ◌++◌, Option, Some, None, refl, ap, sym, subst, ◌∙◌, arith}
 use Rattle.std.specs.Prelude.{◌+◌, length, slice_get, ⊤}
 use Rattle.std.specs.Option.{option_map}
-use Rattle.bsc_direct.proofs.OneMore.{some_same}
 use Rattle.bsc_history.specs.declared.call.Call.{Call}
 use Rattle.bsc_history.specs.declared.call.Call.TheVariants.{Connect, Forward, Stop as StopCall}
 use Rattle.bsc_accept.specs.declared.event.Event.{Event}
@@ -32,6 +31,7 @@ use Rattle.bsc_network_laws.proofs.Sides.{with_call}
 use Rattle.bsc_network_laws.proofs.Growing.{stays-at, Grows, grows-then, grows-same, grows-side, grows-arrives, grows-acts, grows}
 use Rattle.bsc_network_laws.proofs.Placed.{StandsAt, none-then, none-side, none-arrives}
 use Rattle.bsc_network_laws.proofs.PutOnce.{ArePutOnce, once-kept}
+use Rattle.std.proofs.lemmas.Option.{same_Some as some_same}
 
 -- ---- what hubs were handed in
 

@@ -2,7 +2,6 @@
 use Rattle.std.proofs.Common.{◌≡◌, ◌<◌, ℕ, Bool, true, false, not, cond, List, [], ◌∷◌, length, Option, Some, None, refl, ap, sym, subst, ◌∙◌, arith}
 use Rattle.std.specs.Prelude.{◌==◌, ◌^◌}
 use Rattle.std.specs.Option.{option_map, option_or}
-use Rattle.bsc_direct.proofs.OneMore.{some_same}
 use Rattle.bsc_octets.specs.declared.vmac.Vmac.{Vmac}
 use Rattle.bsc_octets.specs.declared.identity.Identity.{Identity}
 use Rattle.bsc_octets.specs.Addresses.{broadcast, same_vmac}
@@ -14,7 +13,7 @@ use Rattle.bsc_checks.specs.declared.place.Place.{Place}
 use Rattle.bsc_checks.specs.declared.verdict.Verdict.TheVariants.{Pass}
 use Rattle.bsc_history.specs.declared.connection.Connection.{Connection}
 use Rattle.bsc_history.specs.Outboxes.{means}
-use Rattle.bsc_history.proofs.Uniqueness.{vmac_same, vmac_refl}
+use Rattle.bsc_history.proofs.Uniqueness.{vmac_refl}
 use Rattle.bsc_node.specs.declared.delivered.Delivered.{Delivered}
 use Rattle.bsc_node.specs.declared.link_name.LinkName.{LinkName}
 use Rattle.bsc_node.specs.declared.link_name.LinkName.TheVariants.{Hub as OfHub, Direct}
@@ -32,6 +31,9 @@ use Rattle.bsc_network.proofs.Places.{found-in}
 use Rattle.bsc_network_laws.specs.Carrying.{Sendings}
 use Rattle.bsc_network_laws.specs.Deliveries.{IsFor, CameByHub}
 use Rattle.bsc_network_laws.specs.Passing.{IsPassedBy}
+use Rattle.bsc_frame.proofs.Common.{same_npdu}
+use Rattle.bsc_octets.proofs.Common.{vmac_same}
+use Rattle.std.proofs.lemmas.Option.{same_Some as some_same}
 
 -- ---- the destination
 
@@ -70,9 +72,6 @@ pub record IsDeliveredSo (from dest : Vmac) (npdu : List ℕ) (d : Delivered) : 
   pub from_is : d.from ≡ from
   pub npdu_is : d.npdu ≡ npdu
   pub for_all : d.broadcast ≡ same_vmac dest broadcast
-
-same_npdu : (x y : List ℕ) → Npdu x ≡ Npdu y → x ≡ y
-same_npdu x y h = cc
 
 or_origin : (o p : Option Vmac) (v from : Vmac) → o ≡ Some v → option_or o p ≡ Some from → from ≡ v
 or_origin None p v from origin is = cc

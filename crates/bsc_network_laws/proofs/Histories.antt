@@ -8,7 +8,7 @@ use Rattle.bsc_network_laws.specs.Carrying.{Sendings}
 use Rattle.bsc_network_laws.specs.Connecting.{JoinByLinks}
 use Rattle.bsc_network_laws.specs.Passing.{PassesOn}
 use Rattle.bsc_network_laws.proofs.Moves.{Lets, LetsWhole}
-use Rattle.bsc_network_laws.proofs.Stepping.{begun, done, lets-step, whole-step}
+use Rattle.bsc_network_laws.proofs.Stepping.{begun, done, whole-step}
 use Rattle.bsc_network_laws.proofs.Beside.{Keeps, KeepsGiven, KeepsBoth, each-as, both, together}
 use Rattle.bsc_network_laws.proofs.Whole.{as_whole, whole_each, beside_whole, together_whole}
 use Rattle.bsc_network_laws.proofs.Knowing.{Knows}
@@ -81,10 +81,6 @@ knows_histories cast fit S T place D sends =
     (whole_each D (KeepsGiven (KnowsSides cast T place) Legally) (KeepsGiven (KnowsSent cast S T place) Legally) (λ u v f p. f p.0) (legally cast fit T place D)))
 
 -- ---- a step
-
--- What is known at the beginning of a step is known at its end.
-pub sides-done : (cast : Cast) (t : TimedStep) (place : ℕ) (w : World) → KnowsSides cast t.now place (begun w t) → KnowsSides cast t.now place (done w t)
-sides-done cast t place w = lets-step (Keeps (KnowsSides cast t.now place)) t (knows_sides cast t.now place t.step) w
 
 pub histories-done : (cast : Cast) → IsFit cast → (S : Sendings) (t : TimedStep) (place : ℕ) → IsCounted S place t.step → (w : World) → KnowsHistories cast S t.now place (begun w t) → KnowsHistories cast S t.now place (done w t)
 histories-done cast fit S t place sends w = whole-step (Keeps (KnowsHistories cast S t.now place)) t (knows_histories cast fit S t.now place t.step sends) w

@@ -3,7 +3,6 @@ use Rattle.std.proofs.Common.{◌≡◌, ◌⊎◌, inl, inr, ℕ, true, List, [
 use Rattle.std.specs.Prelude.{◌+◌, length, slice_get, ⊤}
 use Rattle.std.specs.Option.{option_map}
 use Rattle.std.specs.List.{AllByRecursion}
-use Rattle.bsc_direct.proofs.OneMore.{some_same}
 use Rattle.bsc_history.specs.declared.call.Call.TheVariants.{Connect}
 use Rattle.bsc_node.specs.declared.link_name.LinkName.{LinkName}
 use Rattle.bsc_node.specs.declared.node_event.NodeEvent.{NodeEvent}
@@ -26,11 +25,13 @@ use Rattle.bsc_network.specs.NodeSides.{hold_of, puts_on, puts_by, holds}
 use Rattle.bsc_network.specs.Dialling.{dials, new_link}
 use Rattle.bsc_network.specs.NodeEvents.{brings_about}
 use Rattle.bsc_network.specs.Networks.{makes}
-use Rattle.bsc_network.proofs.Places.{kept-at, got-changed, got-longer, got-last, all-one_more, all-mapped, found-in}
+use Rattle.bsc_network.proofs.Places.{kept-at, got-changed, got-longer, got-last, all-mapped, found-in}
 use Rattle.bsc_network_laws.specs.Ends.{receiver}
 use Rattle.bsc_network_laws.proofs.Moves.{IsHeardBy, Comes, Lets}
 use Rattle.bsc_network_laws.proofs.Acting.{goes_on_in, LetsActs, lets-hears}
 use Rattle.bsc_network_laws.proofs.Stepping.{begun, lets-makes}
+use Rattle.bsc_lemmas.proofs.Lists.{all-push as all-one_more}
+use Rattle.std.proofs.lemmas.Option.{same_Some as some_same}
 
 -- ---- what is kept
 

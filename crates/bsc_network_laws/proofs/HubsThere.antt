@@ -4,7 +4,6 @@ use Rattle.std.specs.Prelude.{◌+◌, length, map, nat_lt, position, slice_get,
 use Rattle.std.specs.List.{range_with_len, position_or_len}
 use Rattle.std.proofs.lemmas.Bool.{ltb-true}
 use Rattle.std.specs.Option.{option_map, option_or}
-use Rattle.bsc_direct.proofs.OneMore.{some_same}
 use Rattle.bsc_history.specs.declared.call.Call.{Call}
 use Rattle.bsc_history.specs.declared.call.Call.TheVariants.{Connect}
 use Rattle.bsc_node.specs.declared.link_name.LinkName.{LinkName}
@@ -31,6 +30,8 @@ use Rattle.bsc_network_laws.proofs.Moves.{Lets}
 use Rattle.bsc_network_laws.proofs.Acting.{LetsActs, lets-hears}
 use Rattle.bsc_network_laws.proofs.Sides.{with_call}
 use Rattle.bsc_network_laws.proofs.Stepping.{begun, lets-makes}
+use Rattle.bsc_network.proofs.Common.{same_hub}
+use Rattle.std.proofs.lemmas.Option.{same_Some as some_same}
 
 -- The hub to which a link leads is one of the network's.
 pub record HubsThere (w : World) : Type 0 where
@@ -71,9 +72,6 @@ there-puts_by w k name content = at_node (node_at w k)
     at_node (Some n) there = at_hold (hold_of name n) there
 
 -- ---- a dial
-
-same_hub : (i j : ℕ) → ToHub i ≡ ToHub j → i ≡ j
-same_hub i j h = cc
 
 place-within : (test : List ℕ → Bool) (xs : List (List ℕ)) (j : ℕ) → position test xs ≡ Some j → j < length xs
 place-within test xs j h = by (nat_lt (position_or_len test xs) (length xs)) refl h

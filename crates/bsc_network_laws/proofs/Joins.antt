@@ -1,10 +1,9 @@
 -- After each step, where a hub's side has a connection, that connection joined the hub by the number of the side's link.
-use Rattle.std.proofs.Common.{◌≡◌, ◌⊎◌, inl, inr, ℕ, ◌==◌, Bool, true, false, ◌||◌, ◌&&◌, List, [], ◌∷◌, ◌++◌, Option, Some, None, option_to_list, refl, ap, sym, subst, ◌∙◌, arith}
+use Rattle.std.proofs.Common.{◌≡◌, ◌⊎◌, inl, inr, ℕ, ◌==◌, Bool, true, false, ◌||◌, ◌&&◌, List, [], ◌∷◌, ◌++◌, Option, Some, None, option_to_list, refl, ap, sym, subst, ◌∙◌}
 use Rattle.std.specs.Prelude.{◌+◌, length, slice_get, ⊤}
 use Rattle.std.specs.List.{list_any}
 use Rattle.std.specs.Option.{option_map}
 use Rattle.std.proofs.lemmas.List.{map-append}
-use Rattle.bsc_direct.proofs.OneMore.{some_same}
 use Rattle.bsc_octets.specs.declared.identity.Identity.{Identity}
 use Rattle.bsc_history.specs.declared.call.Call.{Call}
 use Rattle.bsc_history.specs.declared.call.Call.TheVariants.{Connect}
@@ -37,6 +36,10 @@ use Rattle.bsc_network_laws.proofs.Moves.{HasSide, IsSide, Lets}
 use Rattle.bsc_network_laws.proofs.Acting.{LetsActs, lets-hears}
 use Rattle.bsc_network_laws.proofs.Sides.{with_call}
 use Rattle.bsc_network_laws.proofs.Stepping.{begun, lets-makes}
+use Rattle.bsc_lemmas.proofs.Booleans.{eq_self as same_number}
+use Rattle.bsc_network.proofs.Common.{same_hub}
+use Rattle.std.proofs.lemmas.Bool.{or_right as or-right}
+use Rattle.std.proofs.lemmas.Option.{same_Some as some_same}
 
 -- Where a side has a connection, it joined by its link.
 abbrev pub SidesJoined : World → Type 0
@@ -73,10 +76,6 @@ or-more : (b x y : Bool) → (x ≡ true → y ≡ true) → (b || x) ≡ true �
 or-more true x y f h = refl
 or-more false x y f h = f h
 
-or-right : (b x : Bool) → x ≡ true → (b || x) ≡ true
-or-right true x h = refl
-or-right false x h = h
-
 any-more : {A : Type 0} (f : A → Bool) (xs ys : List A) → list_any f xs ≡ true → list_any f (xs ++ ys) ≡ true
 any-more f [] ys h = cc
 any-more f (x ∷ xs) ys h = or-more (f x) (list_any f xs) (list_any f (xs ++ ys)) (any-more f xs ys) h
@@ -103,9 +102,6 @@ joined-called w i caller place call s l j h k c side conn = by (got-changed i (w
 
 -- ---- a peer joins
 
-same_number : (k : ℕ) → (k == k) ≡ true
-same_number k = grind arith
-
 is_itself : (l c : ℕ) (who : Identity) → is_conn l c (record { number = c; caller = l; who = who }) ≡ true
 is_itself l c who = ap (λ b. b && (l == l)) (same_number c) ∙ same_number l
 
@@ -113,9 +109,6 @@ joined-now : (w : World) (l place c : ℕ) (replaced : Option ℕ) (who : Identi
 joined-now w l place c replaced who h is =
     ap (list_any (is_conn l c)) (history-more w l place (Connect who) h ∙ ap (λ (r : Reply). joined (history h) ++ option_to_list (made_by l (Connect who) r)) is)
     ∙ any-last (is_conn l c) (joined (history h)) (record { number = c; caller = l; who = who }) (is_itself l c who)
-
-same_hub : (i j : ℕ) → ToHub i ≡ ToHub j → i ≡ j
-same_hub i j h = cc
 
 joined-joins : (w : World) (l j place : ℕ) (h : Hub) (k : Link) (who : Identity) (c : ℕ) (replaced : Option ℕ) → IsSide w l j h k → reply_in w h (Connect who) ≡ Joined c replaced
     → Keep w (with_side l (λ s. record s { conn = Some c }) (called j l place (Connect who) w))

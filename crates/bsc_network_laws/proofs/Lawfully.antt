@@ -14,17 +14,17 @@ use Rattle.bsc_history.specs.Entries.{moment}
 use Rattle.bsc_history.specs.Legality.{Lawful, Legal, looks_at, can_find, may_call}
 use Rattle.bsc_history.specs.Outboxes.{looked, sent}
 use Rattle.bsc_history.proofs.Lists.{In, In_from_all, any_gives, find_says, same_one}
-use Rattle.bsc_history.proofs.Uniqueness.{vmac_same}
 use Rattle.bsc_network.specs.Worlds.{World, Hub, Link, Posted, history, hub_at, link_at}
 use Rattle.bsc_network.specs.Outboxes.{Frame, frames}
 use Rattle.bsc_network.specs.HubCalls.{taken_over, taken_by, taken_from, entry_in, is_worn}
 use Rattle.bsc_network.proofs.Frames.{octets-frames}
-use Rattle.bsc_network.proofs.Places.{all-at}
 use Rattle.bsc_network_laws.specs.Connecting.{is_conn, HasJoinedBy, IsOfLink, JoinByLinks}
 use Rattle.bsc_network_laws.proofs.Moves.{IsSide}
 use Rattle.bsc_network_laws.proofs.Taken.{SidesFit, LinkFits}
 use Rattle.bsc_network_laws.proofs.Looks.{LooksFit}
 use Rattle.bsc_network_laws.proofs.Numbering.{joined_numbers}
+use Rattle.bsc_lemmas.proofs.Lists.{all-at}
+use Rattle.bsc_octets.proofs.Common.{vmac_same}
 
 -- ---- what looks find
 

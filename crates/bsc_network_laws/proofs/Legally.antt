@@ -4,7 +4,6 @@ use Rattle.std.specs.Prelude.{◌+◌, slice_get, ⊤}
 use Rattle.std.specs.Option.{option_map}
 use Rattle.std.specs.List.{AllByRecursion}
 use Rattle.std.proofs.lemmas.Bool.{and_from, ne_eqb}
-use Rattle.bsc_direct.proofs.OneMore.{some_same}
 use Rattle.bsc_octets.specs.declared.identity.Identity.{Identity}
 use Rattle.bsc_octets.specs.Addresses.{same_vmac, zero_vmac, broadcast}
 use Rattle.bsc_octets.specs.Forwarding.{has_route}
@@ -22,7 +21,7 @@ use Rattle.bsc_verdict.specs.Outcomes.{outcome_of}
 use Rattle.bsc_accept.specs.declared.event.Event.TheVariants.{Joined as HasJoined}
 use Rattle.bsc_accept.specs.declared.step.Step.TheVariants.{Ask, Carry}
 use Rattle.bsc_accept.specs.Past.{phase, standing}
-use Rattle.bsc_script_laws.proofs.Judged.{routes, carries_by}
+use Rattle.bsc_script_laws.proofs.Judged.{routes}
 use Rattle.bsc_node.specs.declared.link_name.LinkName.{LinkName}
 use Rattle.bsc_network.specs.declared.world_step.WorldStep.{WorldStep}
 use Rattle.bsc_network.specs.declared.way.Way.{Way}
@@ -38,7 +37,7 @@ use Rattle.bsc_network.specs.Changes.{with_found, with_link, with_side, with_tra
 use Rattle.bsc_network.specs.HubCalls.{called, entry_in, no_link, reply_in}
 use Rattle.bsc_network.specs.NodeSides.{other_way, hold_of, puts_on, puts_by}
 use Rattle.bsc_network.specs.Dialling.{dials, new_link}
-use Rattle.bsc_network.proofs.Places.{all-changed_here, all-at, got-changed, got-last_of, get-changed, get-other, one_or_two}
+use Rattle.bsc_network.proofs.Places.{all-changed_here, got-changed, got-last_of, get-changed, get-other, one_or_two}
 use Rattle.bsc_network_laws.specs.Naming.{Cast, identity_in}
 use Rattle.bsc_network_laws.specs.Connecting.{JoinByLinks, HubsAreLegal}
 use Rattle.bsc_network_laws.proofs.Moves.{IsSide, HasArrived, IsSaid, EachWhole}
@@ -52,6 +51,9 @@ use Rattle.bsc_network_laws.proofs.Callers.{history-called}
 use Rattle.bsc_network_laws.proofs.Looks.{LooksFit}
 use Rattle.bsc_network_laws.proofs.Numbering.{stays_own}
 use Rattle.bsc_network_laws.proofs.Lawfully.{lawful_of, side_finds, not_worn, node_address}
+use Rattle.bsc_accept.proofs.Common.{carries_by}
+use Rattle.bsc_lemmas.proofs.Lists.{all-at}
+use Rattle.std.proofs.lemmas.Option.{same_Some as some_same}
 
 -- where the session of a side isn't over, its connection is its own, and hasn't left
 abbrev pub SidesStay : World → Type 0

@@ -57,3 +57,4 @@ mod WorkedCourse
 mod WorkedSource
 mod WorkedDirectSource
 mod WorkedShortAddress
+pub mod Common

@@ -6,7 +6,6 @@ use Rattle.std.specs.Option.{option_map, option_or}
 use Rattle.std.specs.Cmp.Lexicographic.{bytes_decides}
 use Rattle.std.proofs.lemmas.Bool.{lt-ltb, le-ltb, ltb-true}
 use Rattle.std.proofs.lemmas.List.Elements.{filter_map-append}
-use Rattle.bsc_direct.proofs.OneMore.{some_same}
 use Rattle.bsc_octets.specs.declared.identity.Identity.{Identity}
 use Rattle.bsc_frame.specs.Payloads.{IsNode}
 use Rattle.bsc_history.specs.declared.limits.About.{About}
@@ -23,11 +22,13 @@ use Rattle.bsc_network.specs.Worlds.{World, Hub, Node}
 use Rattle.bsc_network.specs.Courses.{MayAddAll}
 use Rattle.bsc_network.specs.HubCalls.{most_links}
 use Rattle.bsc_network.specs.Dialling.{same_uri, is_uri, hub_with, node_with, target_of, if_room, leads_to}
-use Rattle.bsc_network.proofs.Places.{all-at, found-in}
+use Rattle.bsc_network.proofs.Places.{found-in}
 use Rattle.bsc_network_laws.specs.Naming.{Cast, cast_of, identity_in}
 use Rattle.bsc_network_laws.proofs.Casting.{Casts}
 use Rattle.bsc_network_laws.proofs.Diallers.{nodes_fit}
 use Rattle.bsc_network_laws.proofs.Brought.{IsDue}
+use Rattle.bsc_lemmas.proofs.Lists.{all-at}
+use Rattle.std.proofs.lemmas.Option.{same_Some as some_same}
 
 -- A node has the settings of one that was added after some hubs, of which there is one at least, among so many.
 pub record IsSet (count : ℕ) (m : Made) : Type 0 where

@@ -39,10 +39,6 @@ pub chosen : (R : World → World → Type 0) (b : Bool) (first second : Change)
 chosen R true first second w f g = f refl
 chosen R false first second w f g = g refl
 
-chosen_world : (R : World → World → Type 0) (b : Bool) (w first second : World) → (b ≡ true → R w first) → (b ≡ false → R w second) → R w (if b then first else second)
-chosen_world R true w first second f g = f refl
-chosen_world R false w first second f g = g refl
-
 -- ---- the end of a session
 
 lets-leaves_as : (B : World) (D : WorldStep) (R : World → World → Type 0) → Lets B D R → (w : World) (l j : ℕ) (h : Hub) (k : Link) (c : Option ℕ) → IsSide w l j h k → k.side.conn ≡ c

@@ -1,10 +1,9 @@
 -- After each step, who names itself on a way of a link is who puts on that way; and what is in outboxes names nobody.
-use Rattle.std.proofs.Common.{◌≡◌, ◌<◌, inl, inr, ℕ, zero, suc, Bool, true, false, List, [], ◌∷◌, ◌++◌, Option, Some, None, refl, ap, sym, subst, ◌∙◌}
+use Rattle.std.proofs.Common.{◌≡◌, ◌<◌, inl, inr, ℕ, zero, suc, Bool, true, false, List, [], ◌∷◌, Option, Some, None, refl, ap, sym, subst, ◌∙◌}
 use Rattle.std.specs.Prelude.{◌+◌, ◌^◌, filter_map, slice_get, ⊤}
 use Rattle.std.specs.Option.{option_map}
 use Rattle.std.specs.List.{AllByRecursion}
 use Rattle.std.proofs.lemmas.List.Elements.{filter_map-append}
-use Rattle.bsc_direct.proofs.OneMore.{some_same}
 use Rattle.bsc_octets.specs.declared.identity.Identity.{Identity}
 use Rattle.bsc_history.specs.declared.call.Call.{Call}
 use Rattle.bsc_history.specs.declared.call.Call.TheVariants.{Connect, Forward}
@@ -41,7 +40,7 @@ use Rattle.bsc_network.specs.NodeSides.{other_way, hold_of, puts_on, puts_by}
 use Rattle.bsc_network.specs.Dialling.{new_link}
 use Rattle.bsc_network.specs.NodeEvents.{brings_about}
 use Rattle.bsc_network.proofs.Frames.{frames-more}
-use Rattle.bsc_network.proofs.Places.{all-changed, all-changed_here, all-one_more, all-at, all-found, all-joined, all-reversed}
+use Rattle.bsc_network.proofs.Places.{all-changed, all-changed_here, all-found, all-reversed}
 use Rattle.bsc_network_laws.specs.Ends.{receiver, putter, message_of, messages}
 use Rattle.bsc_network_laws.specs.Naming.{Cast, identity_in, IsNamedRight, NamesWhoPuts}
 use Rattle.bsc_network_laws.proofs.Moves.{IsHeardBy, IsSide, HasArrived, IsSaid, Comes, Each}
@@ -53,6 +52,9 @@ use Rattle.bsc_network_laws.proofs.Beside.{KeepsGiven}
 use Rattle.bsc_network_laws.proofs.Holding.{EndOf, HoldsFit}
 use Rattle.bsc_network_laws.proofs.Casting.{Stays, stays-on, Casts, KnowsAll, AmidAll, hears-all, hub-identity, node-identity}
 use Rattle.bsc_network_laws.proofs.OwnNames.{own_names, carried_names_nobody, IsPlain, plain-frames}
+use Rattle.bsc_lemmas.proofs.Lists.{all-at, all-push as all-one_more, all-right, all_append as all-joined}
+use Rattle.bsc_network_laws.proofs.Common.{puts-other as putter-other}
+use Rattle.std.proofs.lemmas.Option.{same_Some as some_same}
 
 -- what enters a hub's outboxes names nobody
 abbrev pub OutboxesNameNobody : Hub → Type 0
@@ -122,10 +124,6 @@ named-called cast w j caller place call plain n = record {
 
 -- ---- what arrived
 
-all-right : {A : Type 0} (P : A → Type 0) (xs ys : List A) → AllByRecursion P (xs ++ ys) → AllByRecursion P ys
-all-right P [] ys all = all
-all-right P (x ∷ xs) ys all = all-right P xs ys all.1
-
 -- what stands on a way is among its messages
 pub all-messages : (P : Frame → Type 0) (xs : List Parcel) (i : ℕ) (m : List ℕ) (place : ℕ) → AllByRecursion P (filter_map message_of xs) → slice_get xs i ≡ Some (record { content = Message m; sent_at = place }) → P (record { octets = m; sent_at = place })
 all-messages P [] i m place all here = cc
@@ -165,11 +163,6 @@ node-names cast T place D w k n by e here come fit known =
     all-among (PutsAs n.made.own) (actions_at n.made M x) action
     (subst (λ who. AllByRecursion (PutsAs who) (actions_at n.made M x)) (own-same n.made M x of.wordless s.vmac) (names-itself n.made M x s.knit.settled of.may)) among)
     (all-at (λ (x : Node). Stays x.made x.log) w.nodes k n known.1.stays here)
-
--- what puts on the other way is what hears by the way
-putter-other : (way : Way) (x : Link) → putter (other_way way) x ≡ receiver way x
-putter-other Up x = refl
-putter-other Down x = refl
 
 heard-same : (w : World) (l k : ℕ) (way : Way) (x : Link) → IsHeardBy w l way k → link_at w l ≡ Some x → putter (other_way way) x ≡ ToNode k
 heard-same w l k way x heard here = putter-other way x ∙ some_same (receiver way x) (ToNode k) (sym (ap (option_map (receiver way)) here) ∙ heard)

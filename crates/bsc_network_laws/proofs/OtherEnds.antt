@@ -1,12 +1,12 @@
 -- After each step, what a node has under the name of a hub leads to a hub, and the peer of a direct connection is who is at its other
 -- end.
-use Rattle.std.proofs.Common.{◌≡◌, ◌<◌, ◌⊎◌, inl, inr, ℕ, Bool, true, false, cond, List, [], ◌∷◌, ◌++◌, length, Option, Some, None, refl, ap, sym, subst, arith, ◌∙◌}
+use Rattle.std.proofs.Common.{◌≡◌, ◌<◌, ◌⊎◌, inl, inr, ℕ, Bool, true, false, cond, List, [], ◌∷◌, ◌++◌, length, Option, Some, None, refl, ap, sym, subst, ◌∙◌}
 use Rattle.std.specs.Prelude.{◌^◌, ◌==◌, is_some, filter_map, find, map, slice_get, ⊤}
 use Rattle.std.specs.Option.{option_map}
 use Rattle.std.specs.List.{AllByRecursion, list_any}
 use Rattle.std.proofs.lemmas.Bool.{eqb-true}
 use Rattle.std.proofs.lemmas.Option.{slice_get-map}
-use Rattle.bsc_direct.proofs.OneMore.{some_same, some_none, both_ways}
+use Rattle.bsc_direct.proofs.OneMore.{both_ways}
 use Rattle.bsc_connector.specs.Back.{newest}
 use Rattle.bsc_connector.specs.declared.side.Side.{Side}
 use Rattle.bsc_connector.proofs.BackLemmas.{newest-more}
@@ -20,8 +20,6 @@ use Rattle.bsc_node.specs.declared.action.Action.TheVariants.{Dial, Take}
 use Rattle.bsc_node.specs.Conditions.{fits, brings_word}
 use Rattle.bsc_node.specs.Logs.{Made, Log, did, action_of}
 use Rattle.bsc_node.specs.Links.{same_link, names, begins, peer}
-use Rattle.bsc_node.proofs.Following.{and_left, and_right}
-use Rattle.bsc_node_laws.proofs.There.{same_link-true}
 use Rattle.bsc_node_identity.specs.Naming.{is_connect}
 use Rattle.bsc_node_identity.proofs.Carried.{connects_name_their_peer, others_name_nobody}
 use Rattle.bsc_node_identity.proofs.Timely.{Timely}
@@ -44,7 +42,7 @@ use Rattle.bsc_network.specs.Dialling.{leads_to, dials, new_link}
 use Rattle.bsc_network.specs.NodeEvents.{brings_about, hears}
 use Rattle.bsc_network.specs.Arriving.{event_of}
 use Rattle.bsc_network.specs.Refusals.{is_own}
-use Rattle.bsc_network.proofs.Places.{got-changed, get-changed, got-last, all-one_more, all-mapped, all-at, found-in}
+use Rattle.bsc_network.proofs.Places.{got-changed, get-changed, got-last, all-mapped, found-in}
 use Rattle.bsc_network_laws.specs.Ends.{receiver, putter, messages}
 use Rattle.bsc_network_laws.specs.Naming.{Cast, identity_in, IsNamedRight, NamesWhoPuts}
 use Rattle.bsc_network_laws.specs.Peers.{other_end, who_is, who_is_there}
@@ -61,6 +59,11 @@ use Rattle.bsc_network_laws.proofs.Lasting.{Lasts, LinkGrows, lasts-longer}
 use Rattle.bsc_network_laws.proofs.Lasting as Lasting
 use Rattle.bsc_network_laws.proofs.Brought.{at_once, IsNamedBy, PeerOn, peer-on, unbegun, IsDue, each-due}
 use Rattle.bsc_network_laws.proofs.MadeWell.{IsSet, MadeWell, dials-hub}
+use Rattle.bsc_lemmas.proofs.Booleans.{and_left, and_right, eq_self as same_number}
+use Rattle.bsc_lemmas.proofs.Lists.{all-at, all-push as all-one_more}
+use Rattle.bsc_lemmas.proofs.Options.{some_none_any as some_none}
+use Rattle.bsc_node.proofs.Common.{same_link-is as same_link-true}
+use Rattle.std.proofs.lemmas.Option.{same_Some as some_same}
 
 -- ---- what is kept
 
@@ -326,9 +329,6 @@ within-holds cast k L u h leads begun i = record {
   ends = record { hubs = hubs-holds u k h leads i.ends.hubs; peers = peers-holds cast u k h L i.log begun i.ends.peers };
   log = log-holds k k h L u i.log;
 }
-
-same_number : (s : ℕ) → (s == s) ≡ true
-same_number s = grind arith
 
 takes-it : (s : ℕ) → begins (Direct s) (did (Take (Direct s))) ≡ true
 takes-it s = ap (λ (b : Bool). is_some {T = Bool} (cond b (Some true) None)) (same_number s)

@@ -4,7 +4,6 @@ use Rattle.std.specs.Prelude.{◌&&◌, ◌==◌, length, map, filter_map, take,
 use Rattle.std.specs.List.{AllByRecursion, list_any}
 use Rattle.std.proofs.lemmas.List.Elements.{filter-append, filter_map-append}
 use Rattle.std.proofs.lemmas.Bool.{eqb-true, and_parts}
-use Rattle.bsc_direct.proofs.OneMore.{some_same}
 use Rattle.bsc_octets.specs.declared.vmac.Vmac.{Vmac}
 use Rattle.bsc_octets.specs.Forwarding.{out}
 use Rattle.bsc_history.specs.declared.limits.About.{About}
@@ -26,6 +25,8 @@ use Rattle.bsc_network_laws.specs.Ends.{message_of}
 use Rattle.bsc_network_laws.specs.Carrying.{is_npdu, npdus}
 use Rattle.bsc_network_laws.proofs.ForwardedOnce.{IsForward}
 use Rattle.bsc_network_laws.proofs.Named.{all-messages}
+use Rattle.bsc_network_laws.proofs.Common.{out-npdu}
+use Rattle.std.proofs.lemmas.Option.{same_Some as some_same}
 
 -- No two of these have one place.
 abbrev pub Different : List Frame → Type 0
@@ -89,10 +90,6 @@ IsMessageAt xs i f = slice_get xs i ≡ Some (record { content = Message f.octet
 -- what holds of each NPDU on a way holds of one at an index
 pub npdu-at : (P : Frame → Type 0) (xs : List Parcel) (i : ℕ) (f : Frame) → AllByRecursion P (npdus (filter_map message_of xs)) → IsMessageAt xs i f → is_npdu f.octets ≡ true → P f
 npdu-at P xs i f all here npdu = all-messages (λ (g : Frame). is_npdu g.octets ≡ true → P g) xs i f.octets f.sent_at (all-npdus P (filter_map message_of xs) all) here npdu
-
-all-right : {A : Type 0} (P : A → Type 0) (xs ys : List A) → AllByRecursion P (xs ++ ys) → AllByRecursion P ys
-all-right P [] ys all = all
-all-right P (x ∷ xs) ys all = all-right P xs ys all.1
 
 apart-right : {A B : Type 0} (f : A → B) (xs ys : List A) → Apart f (xs ++ ys) → Apart f ys
 apart-right f [] ys all = all
@@ -170,10 +167,6 @@ entry_adds a G c p =
       | inl none ↦ inl (ap (map (at_place p.sent_at)) none)
       | inr one ↦ inr (record { sender = one.0; m = one.1; v = one.2; call = one.3; frame = ap (map (at_place p.sent_at)) one.4; to = one.5 })
     ]
-
-out-npdu : (m : List ℕ) (v : Vmac) → is_npdu (out m v) ≡ is_npdu m
-unfolding out
-out-npdu m v = refl
 
 -- ---- what entered an outbox
 

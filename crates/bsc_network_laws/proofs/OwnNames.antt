@@ -3,7 +3,6 @@
 use Rattle.std.proofs.Common.{◌≡◌, inl, inr, ℕ, Bool, true, false, not, cond, ◌&&◌, List, [], ◌∷◌, Option, Some, None, refl, ap, sym, subst, ◌∙◌}
 use Rattle.std.specs.Prelude.{map, ⊤}
 use Rattle.std.specs.List.{AllByRecursion, list_any}
-use Rattle.bsc_direct.proofs.OneMore.{some_same}
 use Rattle.bsc_octets.specs.declared.identity.Identity.{Identity}
 use Rattle.bsc_octets.specs.declared.vmac.Vmac.{Vmac}
 use Rattle.bsc_octets.specs.Envelopes.{announces_dest}
@@ -45,6 +44,7 @@ use Rattle.bsc_node_identity.specs.Naming.{is_connect, IsConnectOf}
 use Rattle.bsc_network.specs.Worlds.{Hub, Link, Posted, entries}
 use Rattle.bsc_network.specs.Outboxes.{Frame, at_place, frames_by}
 use Rattle.bsc_network_laws.proofs.Moves.{octets_wanted, IsJudged, IsWanted, IsSaid}
+use Rattle.std.proofs.lemmas.Option.{same_Some as some_same}
 
 -- ---- verdicts
 

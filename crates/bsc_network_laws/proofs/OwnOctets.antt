@@ -1,6 +1,5 @@
 -- What a hub puts of itself is no Encapsulated-NPDU.
 use Rattle.std.proofs.Common.{◌≡◌, ℕ, Bool, true, false, cond, List, Option, Some, None, refl, ap, sym, subst, ◌∙◌}
-use Rattle.bsc_direct.proofs.OneMore.{some_same}
 use Rattle.bsc_octets.specs.declared.identity.Identity.{Identity}
 use Rattle.bsc_frame.specs.declared.message.Message.{Message}
 use Rattle.bsc_frame.specs.declared.body.Body.{Body}
@@ -23,6 +22,7 @@ use Rattle.bsc_accept.specs.Steps.{ask_step, connected_step, passed_step, messag
 use Rattle.bsc_node.proofs.Calm.{IsNoNpdu, no_npdu-judged}
 use Rattle.bsc_network_laws.specs.Carrying.{is_npdu}
 use Rattle.bsc_network_laws.proofs.Moves.{octets_wanted, IsJudged, IsWanted}
+use Rattle.std.proofs.lemmas.Option.{same_Some as some_same}
 
 -- The octets that a step puts, where it puts some, are no Encapsulated-NPDU.
 abbrev pub PutsNone : Step → Type 0

@@ -6,7 +6,6 @@ use Rattle.std.specs.Option.{option_map}
 use Rattle.std.specs.List.{AllByRecursion, list_any}
 use Rattle.std.proofs.lemmas.Bool.{and_parts, both_ways, eqb-true, eq-eqb}
 use Rattle.std.proofs.lemmas.List.Elements.{filter-append}
-use Rattle.bsc_direct.proofs.OneMore.{some_same}
 use Rattle.bsc_octets.specs.declared.vmac.Vmac.{Vmac}
 use Rattle.bsc_octets.specs.Envelopes.{announces_dest, announces_origin, flags_in}
 use Rattle.bsc_octets.specs.Forwarding.{has_route, out}
@@ -27,7 +26,7 @@ use Rattle.bsc_verdict.specs.Outcomes.{outcome_of}
 use Rattle.bsc_checks.specs.declared.place.Place.TheVariants.{HubPort}
 use Rattle.bsc_accept.specs.Past.{phase, standing}
 use Rattle.bsc_accept.specs.declared.step.Step.TheVariants.{Carry}
-use Rattle.bsc_script_laws.proofs.Judged.{routes, carries_by}
+use Rattle.bsc_script_laws.proofs.Judged.{routes}
 use Rattle.bsc_node.specs.Messages.{message_octets}
 use Rattle.bsc_node.specs.declared.node_event.NodeEvent.{NodeEvent}
 use Rattle.bsc_node.specs.declared.link_name.LinkName.{LinkName}
@@ -44,7 +43,7 @@ use Rattle.bsc_network.specs.NodeSides.{hold_of, puts_on, puts_by}
 use Rattle.bsc_network.specs.NodeEvents.{hears}
 use Rattle.bsc_network.specs.Outboxes.{Frame, at_place, frames, frames_by}
 use Rattle.bsc_network.proofs.Frames.{frames-more}
-use Rattle.bsc_network.proofs.Places.{all-mapped, all-joined, all-at, got-changed}
+use Rattle.bsc_network.proofs.Places.{all-mapped, got-changed}
 use Rattle.bsc_network_laws.specs.Ends.{messages}
 use Rattle.bsc_network_laws.specs.Carrying.{Sendings, is_npdu, npdus, IsSentBy}
 use Rattle.bsc_network_laws.specs.Naming.{Cast}
@@ -61,6 +60,10 @@ use Rattle.bsc_network_laws.proofs.Named.{all-messages}
 use Rattle.bsc_network_laws.proofs.SentOnLinks.{LinkSent, AllSent}
 use Rattle.bsc_network_laws.proofs.Numbering.{joined_numbers, joined_in}
 use Rattle.bsc_network_laws.proofs.Legally.{KnowsSides, Legally}
+use Rattle.bsc_accept.proofs.Common.{carries_by}
+use Rattle.bsc_lemmas.proofs.Lists.{all-at, all_append as all-joined}
+use Rattle.bsc_network_laws.proofs.Common.{out-npdu as npdu-out}
+use Rattle.std.proofs.lemmas.Option.{same_Some as some_same}
 
 -- ---- some of the frames
 
@@ -190,10 +193,6 @@ all_added P a G entered c sender m looks so = if_so P (is_live G sender && list_
 all_placed : (P : Frame → Type 0) (place : ℕ) (os : List (List ℕ)) → AllByRecursion (λ o. P (at_place place o)) os → AllByRecursion P (map (at_place place) os)
 all_placed P place [] all = tt
 all_placed P place (o ∷ os) all = (all.0, all_placed P place os all.1)
-
-npdu-out : (m : List ℕ) (v : Vmac) → is_npdu (out m v) ≡ is_npdu m
-unfolding out
-npdu-out m v = refl
 
 -- an NPDU that came up to a hub is that of a Send of who dialled
 sent-up : (S : Sendings) (w : World) (l place : ℕ) (k : Link) (m : List ℕ) → link_at w l ≡ Some k → HasArrived w l Up (record { content = Message m; sent_at = place }) → AllSent S w → is_npdu m ≡ true

@@ -1,7 +1,6 @@
 -- Which NPDUs nodes have put, each at its link, way and index; and which moves add none.
 use Rattle.std.proofs.Common.{◌≡◌, ◌⊎◌, inl, inr, ℕ, zero, suc, true, false, List, [], Option, Some, None, refl, ap, sym, subst, ◌∙◌}
 use Rattle.std.specs.Prelude.{length, slice_get}
-use Rattle.bsc_direct.proofs.OneMore.{some_same}
 use Rattle.bsc_node.specs.declared.link_name.LinkName.{LinkName}
 use Rattle.bsc_node.specs.Laws.{puts_npdu}
 use Rattle.bsc_network.specs.declared.way.Way.{Way}
@@ -24,6 +23,8 @@ use Rattle.bsc_network_laws.specs.Ends.{putter}
 use Rattle.bsc_network_laws.specs.Carrying.{is_npdu}
 use Rattle.bsc_network_laws.proofs.Acting.{LetsActs}
 use Rattle.bsc_network_laws.proofs.SideFits.{CarriesNone}
+use Rattle.bsc_network.proofs.Common.{not_both}
+use Rattle.std.proofs.lemmas.Option.{same_Some as some_same}
 
 -- ---- where an NPDU stands
 
@@ -137,9 +138,6 @@ none-puts w l place way content none = none-link w l _ (λ x here. by x)
     by x on i f put =
         elim (put-or_last x way (record { content = content; sent_at = place }) on i f put)
         [ inl h ↦ h | inr last ↦ absurd (not_npdu content place f none put.npdu last.parcel) ]
-
-not_both : (k j : ℕ) (t : Target) → t ≡ ToNode k → t ≡ ToHub j → ⊥
-not_both k j t a b = cc
 
 -- What is put on the way down from a hub isn't put by a node.
 pub none-from_hub : (w : World) (l j : ℕ) (x : Link) (p : Parcel) → link_at w l ≡ Some x → x.to ≡ ToHub j → AddsNone w (with_link l (with_traffic Down (and_then p)) w)

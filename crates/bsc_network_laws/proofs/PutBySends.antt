@@ -1,6 +1,6 @@
 -- Each NPDU that node k puts at an event is that of a Send of its own, in this very step.
-use Rattle.std.proofs.Common.{◌≡◌, ◌<◌, ◌⊎◌, inl, inr, ℕ, Bool, true, false, List, [], ◌∷◌, ◌++◌, Option, Some, None, refl, ap, sym, subst, ◌∙◌, arith}
-use Rattle.std.specs.Prelude.{◌^◌, ◌%◌, IsTrue, if◌then◌else◌, filter_map, map}
+use Rattle.std.proofs.Common.{◌≡◌, ◌<◌, ◌⊎◌, inl, inr, ℕ, Bool, true, false, List, [], ◌∷◌, ◌++◌, Option, Some, None, refl, ap, sym, subst, ◌∙◌}
+use Rattle.std.specs.Prelude.{◌^◌, IsTrue, if◌then◌else◌, filter_map, map}
 use Rattle.std.specs.List.{list_any}
 use Rattle.std.specs.Option.{option_map}
 use Rattle.std.proofs.lemmas.List.Elements.{filter_map-append}
@@ -21,7 +21,7 @@ use Rattle.bsc_node.specs.Laws.{with_event, draws}
 use Rattle.bsc_node.specs.Conditions.{fits, may_come}
 use Rattle.bsc_node_laws.proofs.Drawn.{draws_at}
 use Rattle.bsc_node_identity.proofs.Settled.{now_then}
-use Rattle.bsc_node_identity.proofs.Timely.{Timely, may_then, no_word_then}
+use Rattle.bsc_node_identity.proofs.Timely.{Timely, may_then}
 use Rattle.bsc_network.specs.declared.world_step.WorldStep.{WorldStep}
 use Rattle.bsc_network.specs.declared.world_step.WorldStep.TheVariants.{Node as OfNode}
 use Rattle.bsc_network.specs.declared.arrival.Arrival.{Arrival}
@@ -36,6 +36,8 @@ use Rattle.bsc_network_laws.proofs.Acting.{Among}
 use Rattle.bsc_network_laws.proofs.Moves.{Comes}
 use Rattle.bsc_network_laws.proofs.Sent.{IsOfSend, put_is_of_send}
 use Rattle.bsc_network_laws.proofs.Timing.{brought-one, brought-two, no_word_comes}
+use Rattle.bsc_lemmas.proofs.Numbers.{small_id}
+use Rattle.bsc_node.proofs.Common.{no_word_then}
 
 -- ---- the way of a Send
 
@@ -87,9 +89,6 @@ actions-two : (a : Made) (e r : TimedEvent) (L : Log) → filter_map action_of (
 actions-two a e r L =
     ap (filter_map action_of) (brought-two a e r L)
     ∙ filter_map-append action_of (goes_on a e L) (goes_on a r (L ++ goes_on a e L))
-
-small_id : (n : ℕ) → n % 65536 < 2 ^ 16
-small_id n = omega arith
 
 -- ---- an NPDU that is put
 

@@ -1,7 +1,6 @@
 -- After each step, no two NPDUs that nodes have put have one place.
 use Rattle.std.proofs.Common.{◌≡◌, ◌<◌, ◌⊎◌, inl, inr, ℕ, true, List, [], Option, Some, None, refl, ap, sym, subst, ◌∙◌, arith}
 use Rattle.std.specs.Prelude.{◌+◌, ◌^◌, IsTrue, length, slice_get, filter_map}
-use Rattle.bsc_direct.proofs.OneMore.{some_same}
 use Rattle.bsc_octets.specs.declared.vmac.Vmac.{Vmac}
 use Rattle.bsc_frame.specs.declared.body.Body.TheVariants.{Npdu}
 use Rattle.bsc_history.specs.declared.call.Call.TheVariants.{Connect}
@@ -33,7 +32,7 @@ use Rattle.bsc_network.specs.HubCalls.{called}
 use Rattle.bsc_network.specs.NodeSides.{other_way, hold_of, puts_on, puts_by, name_of}
 use Rattle.bsc_network.specs.NodeEvents.{brings_about, carries_out, hears}
 use Rattle.bsc_network.specs.Refusals.{is_own}
-use Rattle.bsc_network.proofs.Places.{all-at, got-changed}
+use Rattle.bsc_network.proofs.Places.{got-changed}
 use Rattle.bsc_network_laws.proofs.Moves.{Comes}
 use Rattle.bsc_network_laws.proofs.Acting.{goes_on_in, LetsActs}
 use Rattle.bsc_network_laws.proofs.Beside.{Keeps, KeepsGiven}
@@ -45,6 +44,8 @@ use Rattle.bsc_network_laws.proofs.PutBySends.{not_sent}
 use Rattle.bsc_network_laws.proofs.Knowing.{Knows}
 use Rattle.bsc_network_laws.proofs.AtMost.{Fails, AtMostOne, acts-none, acts-once, at_most-one}
 use Rattle.bsc_network_laws.proofs.Placed.{IsPut, PutAt, IsLast, put-or_last, AddsNone, none-then, none-same, none-side, none-lost, none-arrives, none-puts, none-from_hub, none-acts}
+use Rattle.bsc_lemmas.proofs.Lists.{all-at}
+use Rattle.std.proofs.lemmas.Option.{same_Some as some_same}
 
 -- ---- the places of NPDUs
 

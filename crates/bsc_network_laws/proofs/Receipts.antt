@@ -3,7 +3,7 @@ use Rattle.std.proofs.Common.{◌≡◌, ◌≢◌, ◌<◌, ◌⊎◌, inl, inr
 use Rattle.std.specs.Prelude.{◌+◌, ◌==◌, ◌^◌, IsTrue, slice_get, filter, filter_map, ⊤}
 use Rattle.std.specs.Option.{option_map}
 use Rattle.std.specs.List.{AllByRecursion}
-use Rattle.bsc_direct.proofs.OneMore.{some_same, both_ways}
+use Rattle.bsc_direct.proofs.OneMore.{both_ways}
 use Rattle.bsc_octets.specs.declared.vmac.Vmac.{Vmac}
 use Rattle.bsc_octets.specs.Forwarding.{function_in}
 use Rattle.bsc_frame.specs.declared.message.Message.{Message as FrameMessage}
@@ -47,7 +47,7 @@ use Rattle.bsc_network.specs.NodeSides.{name_of, hold_of, puts_on, puts_by}
 use Rattle.bsc_network.specs.NodeEvents.{brings_about, carries_out, delivers, hears}
 use Rattle.bsc_network.specs.Arriving.{event_of}
 use Rattle.bsc_network.specs.Refusals.{is_own}
-use Rattle.bsc_network.proofs.Places.{all-at, all-one_more, all-mapped, found-in, get-changed}
+use Rattle.bsc_network.proofs.Places.{all-mapped, found-in, get-changed}
 use Rattle.bsc_network_laws.specs.Ends.{receiver}
 use Rattle.bsc_network_laws.specs.Carrying.{is_npdu}
 use Rattle.bsc_network_laws.specs.Deliveries.{AreApart, Apart}
@@ -62,6 +62,8 @@ use Rattle.bsc_network_laws.proofs.Growing.{stays-at, LinkGrows, Grows, grows-no
 use Rattle.bsc_network_laws.proofs.AtMost.{Fails, AtMostOne, acts-none, acts-once, at_most-one}
 use Rattle.bsc_network_laws.proofs.Placed.{StandsAt}
 use Rattle.bsc_network_laws.proofs.PutOnce.{IsOne}
+use Rattle.bsc_lemmas.proofs.Lists.{all-at, all-push as all-one_more}
+use Rattle.std.proofs.lemmas.Option.{same_Some as some_same}
 
 -- ---- receipts
 
@@ -100,11 +102,6 @@ HasReceipts w = (rs : List Receipt) × AreReceipts w w.delivered rs
 heard-on : (way : Way) (x y : Link) → LinkGrows x y → receiver way y ≡ receiver way x
 heard-on Up x y g = g.to
 heard-on Down x y g = ap ToNode g.from
-
-pub heard_at-on : (u v : World) → Grows u v → (l : ℕ) (way : Way) (i : ℕ) (o : List ℕ) (place k : ℕ) → HeardAt u l way i o place k → HeardAt v l way i o place k
-heard_at-on u v g l way i o place k h =
-    let there = g.grown l h.at h.here in
-    record { at = there.0; here = there.1; stands = stays-at (traffic way h.at) (traffic way there.0) (there.2.ways way) i _ h.stands; npdu = h.npdu; heard = heard-on way h.at there.0 there.2 ∙ h.heard }
 
 receipt-on : (u v : World) → Grows u v → (d : WorldDelivery) (r : Receipt) → IsReceipt u d r → IsReceipt v d r
 receipt-on u v g d r is =

@@ -47,7 +47,6 @@ use Rattle.bsc_network_laws.proofs.Knowing.{knows-begun, kept-step, kept-from}
 use Rattle.bsc_network_laws.proofs.Casting.{Stays, Casts, casts-same, KnowsAll, kept-all, casts-done}
 use Rattle.bsc_network_laws.proofs.Named.{OutboxesNameNobody, Named, named-same, named_stays}
 use Rattle.bsc_network_laws.proofs.SentOnLinks.{AllSent, IsCounted, sent_stays}
-use Rattle.bsc_direct.proofs.OneMore.{some_none}
 use Rattle.bsc_node.specs.declared.link_name.LinkName.TheVariants.{Direct}
 use Rattle.bsc_node.specs.Links.{peer}
 use Rattle.bsc_network_laws.proofs.Lasting.{lasts-same}
@@ -59,6 +58,7 @@ use Rattle.bsc_network_laws.proofs.PutOnce.{ArePutOnce, PutBefore, OnePut, one_o
 use Rattle.bsc_network_laws.proofs.Receipts.{HasReceipts, receipts-same, receipts_stay}
 use Rattle.bsc_network_laws.proofs.ForwardedOnce.{ForwardAt, ForwardsFit, forwards-same, forwards_fit}
 use Rattle.bsc_network_laws.proofs.HubsThere.{HubsThere, hubs_there}
+use Rattle.bsc_lemmas.proofs.Options.{some_none_any as some_none}
 
 -- What holds after so many steps, the last of which was at the time T.
 pub record Runs (cast : Cast) (S : Sendings) (T place : ℕ) (w : World) : Type 0 where

@@ -3,7 +3,6 @@ use Rattle.std.proofs.Common.{◌≡◌, ◌<◌, ℕ, Bool, true, false, cond, 
 use Rattle.std.specs.Prelude.{◌+◌, ◌^◌, filter_map, ⊤}
 use Rattle.std.specs.Option.{option_map}
 use Rattle.std.specs.List.{AllByRecursion}
-use Rattle.bsc_direct.proofs.OneMore.{some_same}
 use Rattle.bsc_octets.specs.declared.vmac.Vmac.{Vmac}
 use Rattle.bsc_history.specs.declared.call.Call.TheVariants.{Connect}
 use Rattle.bsc_node.specs.declared.link_name.LinkName.{LinkName}
@@ -32,7 +31,7 @@ use Rattle.bsc_network.specs.HubCalls.{called}
 use Rattle.bsc_network.specs.NodeSides.{other_way, hold_of, puts_on, puts_by}
 use Rattle.bsc_network.specs.Dialling.{new_link}
 use Rattle.bsc_network.specs.NodeEvents.{brings_about, hears}
-use Rattle.bsc_network.proofs.Places.{all-changed, all-changed_here, all-one_more, all-at, all-found, all-joined, all-reversed}
+use Rattle.bsc_network.proofs.Places.{all-changed, all-changed_here, all-found, all-reversed}
 use Rattle.bsc_network_laws.specs.Ends.{receiver, message_of, messages}
 use Rattle.bsc_network_laws.specs.Carrying.{Sendings, is_npdu, npdus, IsSentBy}
 use Rattle.bsc_network_laws.proofs.Moves.{IsHeardBy, IsSide, Comes, Each}
@@ -44,6 +43,9 @@ use Rattle.bsc_network_laws.proofs.Knowing.{Knows, Amid, amid, amid-first, amid-
 use Rattle.bsc_network_laws.proofs.OwnOctets.{own_is_none}
 use Rattle.bsc_network_laws.proofs.SideFits.{CarriesNone, npdus-more, npdus-kept}
 use Rattle.bsc_network_laws.proofs.PutBySends.{put_is_sent}
+use Rattle.bsc_lemmas.proofs.Lists.{all-at, all-push as all-one_more, all_append as all-joined}
+use Rattle.bsc_network.proofs.Common.{not_both, same_node}
+use Rattle.std.proofs.lemmas.Option.{same_Some as some_same}
 
 -- ---- one link
 
@@ -86,12 +88,6 @@ sent-side S w l f = sent-link S w l (λ link. record link { side = f link.side }
 sent-none : (S : Sendings) (w : World) (l place : ℕ) (content : Content) → CarriesNone content → AllSent S w → AllSent S (puts_at l Down place content w)
 sent-none S w l place content none =
     sent-link S w l _ (λ x sent. record { up = sent.up; down = λ k is. subst (AllByRecursion (IsSentBy S k)) (sym (npdus-kept content place x.down none)) (sent.down k is) })
-
-not_both : (k j : ℕ) (t : Target) → t ≡ ToNode k → t ≡ ToHub j → ⊥
-not_both k j t a b = cc
-
-same_node : (j k : ℕ) → ToNode j ≡ ToNode k → j ≡ k
-same_node j k h = cc
 
 -- something is put on the way down from a hub
 sent-hub : (S : Sendings) (w : World) (l j place : ℕ) (content : Content) → option_map (λ (x : Link). x.to) (link_at w l) ≡ Some (ToHub j) → AllSent S w → AllSent S (puts_at l Down place content w)

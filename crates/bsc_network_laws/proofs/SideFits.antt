@@ -4,7 +4,6 @@ use Rattle.std.specs.Prelude.{◌+◌, length, filter_map, take, slice_get, is_s
 use Rattle.std.proofs.lemmas.List.{length-append}
 use Rattle.std.proofs.lemmas.List.Elements.{filter-append, filter_map-append}
 use Rattle.std.proofs.lemmas.Option.{slice_get_within}
-use Rattle.bsc_direct.proofs.OneMore.{some_same}
 use Rattle.bsc_octets.specs.declared.identity.Identity.{Identity}
 use Rattle.bsc_frame.specs.declared.body.Body.{Body}
 use Rattle.bsc_frame.specs.declared.body.Body.TheVariants.{DisconnectRequest, HeartbeatRequest}
@@ -27,6 +26,8 @@ use Rattle.bsc_network.specs.Outboxes.{Frame, frames, frames_by}
 use Rattle.bsc_network_laws.specs.Ends.{message_of, messages}
 use Rattle.bsc_network_laws.specs.Carrying.{is_npdu, npdus, taken_of}
 use Rattle.bsc_network.proofs.Frames.{frames-more, take-more, take-next}
+use Rattle.bsc_lemmas.proofs.Booleans.{or_false}
+use Rattle.std.proofs.lemmas.Option.{same_Some as some_same}
 
 -- ---- what holds of the hub's side of a link
 
@@ -85,10 +86,6 @@ pub joined-more : (E : List Event) (e : Event) → is_some (since_joined (E ++ e
 joined-more [] e = elim (is_joined e) as (λ b. is_some {T = List Event} (cond b (Some []) None) ≡ b) [ true ↦ refl | false ↦ refl ]
 joined-more (x ∷ E) e =
     elim (is_joined x) as (λ b. is_some (cond b (Some (E ++ e ∷ [])) (since_joined (E ++ e ∷ []))) ≡ (is_some (cond b (Some E) (since_joined E)) || is_joined e)) [ true ↦ refl | false ↦ joined-more E e ]
-
-or_false : (b : Bool) → (b || false) ≡ b
-or_false true = refl
-or_false false = refl
 
 pub side-told : (h : Hub) (k : Link) (e : Event) → is_joined e ≡ false → SideFits h k → SideFits h (record k { side = record k.side { events = k.side.events ++ e ∷ [] } })
 side-told h k e other fits = record {

@@ -2,7 +2,6 @@
 use Rattle.std.proofs.Common.{◌≡◌, ◌<◌, ◌⊎◌, inl, inr, ℕ, true, false, List, [], ◌∷◌, ◌++◌, Option, Some, None, refl, ap, sym, subst, ◌∙◌, append_assoc}
 use Rattle.std.specs.Prelude.{◌^◌, IsTrue, ⊤}
 use Rattle.std.specs.List.{AllByRecursion}
-use Rattle.bsc_direct.proofs.OneMore.{some_same}
 use Rattle.bsc_octets.specs.declared.vmac.Vmac.{Vmac}
 use Rattle.bsc_frame.specs.declared.message.Message.{Message}
 use Rattle.bsc_frame.specs.declared.body.Body.TheVariants.{Npdu}
@@ -33,12 +32,12 @@ use Rattle.bsc_network.specs.Worlds.{World, Node, Posted, node_at}
 use Rattle.bsc_network.specs.Changes.{with_found}
 use Rattle.bsc_network.specs.NodeSides.{hold_of, puts_on, puts_by}
 use Rattle.bsc_network.specs.NodeEvents.{hears}
-use Rattle.bsc_network.proofs.Places.{all-one_more, all-mapped, all-at}
+use Rattle.bsc_network.proofs.Places.{all-mapped}
 use Rattle.bsc_network_laws.specs.Ends.{putter}
 use Rattle.bsc_network_laws.specs.Carrying.{Sendings}
 use Rattle.bsc_network_laws.specs.Deliveries.{IsDialledBy, CameByHub, CameDirectly}
 use Rattle.bsc_network_laws.specs.Naming.{Cast}
-use Rattle.bsc_network_laws.proofs.Moves.{Comes, Each, Lets}
+use Rattle.bsc_network_laws.proofs.Moves.{Comes}
 use Rattle.bsc_network_laws.proofs.Acting.{Among, goes_on_in, EachAct, LetsActs}
 use Rattle.bsc_network_laws.proofs.Beside.{KeepsGiven}
 use Rattle.bsc_network_laws.proofs.Timing.{no_word_comes}
@@ -50,6 +49,8 @@ use Rattle.bsc_network_laws.proofs.Brought.{at_once, by-each}
 use Rattle.bsc_network_laws.proofs.OtherEnds.{CameBy, came_by, acts-after, KnowsEnds}
 use Rattle.bsc_network_laws.proofs.DirectLinks.{AllDirect}
 use Rattle.bsc_network_laws.proofs.CameDirectly.{came_directly, came_directly-lasts}
+use Rattle.bsc_lemmas.proofs.Lists.{all-at, all-push as all-one_more}
+use Rattle.std.proofs.lemmas.Option.{same_Some as some_same}
 
 -- ---- where a delivery came from
 
@@ -216,28 +217,3 @@ from-hears S cast T place D More w k n by e hubs here come fit m i =
         not_came : IsDeliveredOnce n.made M (at_once w.now NoRandom) → ⊥
         not_came (name, o, msg, npdu, v, comes, passed, body, from, one) = cc
     none M may action among = tt
-
--- Each delivery stays from the Send at its place, and each new one is, where each of which a hub put the message is.
-pub from_stays : (S : Sendings) (cast : Cast) (T place : ℕ) (D : WorldStep) (More : World → Type 0)
-    → ((w : World) (k : ℕ) (n : Node) (by : Option Arrival) (e : NodeEvent) → KnowsSources S cast T place More w → node_at w k ≡ Some n → Comes D w k n by e → fits n.log e ≡ true → HubsPart S w k n by e)
-    → Each D (KeepsGiven (KnowsSources S cast T place More) (AllFrom S))
-from_stays S cast T place D More hubs = record {
-  over = λ w l m. from-same S w _ (G.each.over w l) refl;
-  tells = λ w l j h k e other side m. from-same S w _ (G.each.tells w l j h k e other side) refl;
-  empty = λ w l m. from-same S w _ (G.each.empty w l) refl;
-  closes_down = λ w l m. from-same S w _ (G.each.closes_down w l) refl;
-  hub_puts = λ w l j h k st o side wanted is m. from-same S w _ (G.each.hub_puts w l j h k st o side wanted is) refl;
-  leaves = λ w l j h k c side conn m. from-same S w _ (G.each.leaves w l j h k c side conn) refl;
-  stops = λ w j h here is m. from-same S w _ (G.each.stops w j h here is) refl;
-  asks = λ w l j p h k o who side came said is m. from-same S w _ (G.each.asks w l j p h k o who side came said is) refl;
-  joins = λ w l j p h k o who c replaced side came said is m. from-same S w _ (G.each.joins w l j p h k o who c replaced side came said is) refl;
-  forwards = λ w l j p h k o c side conn came said m. from-same S w _ (G.each.forwards w l j p h k o c side conn came said) refl;
-  takes = λ w l j h k c f side conn is m. from-same S w _ (G.each.takes w l j h k c f side conn is) refl;
-  hears = λ w k n by e here come fit m. from-hears S cast T place D More w k n by e (hubs w k n by e m here come fit) here come fit m;
-  forgets = λ w later m. from-same S w _ (G.each.forgets w later) refl;
-  arrives = λ w l way k x here is m. from-same S w _ (G.each.arrives w l way k x here is) refl;
-  loses = λ w l m. from-same S w _ (G.each.loses w l) refl;
-}
-  where
-    G : Lets D Lasts
-    G = Lasting.lets D

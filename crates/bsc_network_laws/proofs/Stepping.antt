@@ -2,7 +2,6 @@
 use Rattle.std.proofs.Common.{◌≡◌, inl, inr, ℕ, zero, suc, Bool, true, false, not, List, [], ◌∷◌, Option, Some, None, refl, ap, sym, arith, ◌∙◌}
 use Rattle.std.specs.Prelude.{◌+◌, ◌&&◌, if◌then◌else◌, is_some}
 use Rattle.std.specs.Option.{option_map}
-use Rattle.bsc_direct.proofs.OneMore.{some_same}
 use Rattle.bsc_history.specs.declared.call.Call.TheVariants.{Stop as StopCall}
 use Rattle.bsc_history.specs.Replies.{is_stopped}
 use Rattle.bsc_accept.specs.Past.{phase}
@@ -11,7 +10,6 @@ use Rattle.bsc_node.specs.declared.link_name.LinkName.{LinkName}
 use Rattle.bsc_node.specs.declared.node_event.NodeEvent.{NodeEvent}
 use Rattle.bsc_node.specs.declared.node_event.NodeEvent.TheVariants.{DialFailed, Lost}
 use Rattle.bsc_node.specs.Conditions.{fits}
-use Rattle.bsc_node.proofs.Following.{and_left, and_right}
 use Rattle.bsc_network.specs.declared.way.Way.{Way}
 use Rattle.bsc_network.specs.declared.way.Way.TheVariants.{Up, Down}
 use Rattle.bsc_network.specs.declared.target.Target.{Target}
@@ -42,6 +40,8 @@ use Rattle.bsc_network_laws.proofs.Beginning.{after_arrival, ComesFirst, LetsSte
 use Rattle.bsc_network_laws.proofs.Sides.{lets-of_side, going_on}
 use Rattle.bsc_network_laws.proofs.Whole.{as_whole}
 use Rattle.bsc_network_laws.proofs.Making.{found, chosen, lets-leaves, lets-receives, lets-takes}
+use Rattle.bsc_lemmas.proofs.Booleans.{and_left, and_right, not_true as not_not}
+use Rattle.std.proofs.lemmas.Option.{same_Some as some_same}
 
 -- ---- an event comes to a node
 
@@ -181,10 +181,6 @@ lets-stop B D R M w j (Some hub) at h = by (is_stopped (history hub)) refl h
     by : (b : Bool) → is_stopped (history hub) ≡ b → unless (not b) AlreadyStopped ≡ None → R w (called j no_link w.steps StopCall w)
     by true is g = cc
     by false is g = M.each.stops w j hub at is
-
-not_not : (b : Bool) → not b ≡ true → b ≡ false
-not_not false h = refl
-not_not true h = cc
 
 -- who takes has a session that isn't over
 takes_going : (o : Option Link) (k : Link) → refuses_link has_outbox o ≡ None → o ≡ Some k → k.side.is_over ≡ false

@@ -2,7 +2,6 @@
 use Rattle.std.proofs.Common.{◌≡◌, ◌⊎◌, inl, inr, ℕ, Bool, false, List, [], ◌∷◌, ◌++◌, Option, Some, None, refl, ap, sym, subst, ◌∙◌}
 use Rattle.std.specs.Prelude.{◌+◌, ◌||◌, slice_get, is_some, ⊤}
 use Rattle.std.specs.List.{AllByRecursion}
-use Rattle.bsc_direct.proofs.OneMore.{some_same}
 use Rattle.bsc_history.specs.declared.call.Call.{Call}
 use Rattle.bsc_history.specs.declared.call.Call.TheVariants.{Connect, Forward, Stop as StopCall}
 use Rattle.bsc_octets.specs.declared.identity.Identity.{Identity}
@@ -18,7 +17,6 @@ use Rattle.bsc_node.specs.Links.{same_link}
 use Rattle.bsc_network.specs.declared.world_step.WorldStep.{WorldStep}
 use Rattle.bsc_network.specs.declared.way.Way.{Way}
 use Rattle.bsc_network.specs.declared.way.Way.TheVariants.{Up, Down}
-use Rattle.bsc_network.specs.declared.target.Target.{Target}
 use Rattle.bsc_network.specs.declared.target.Target.TheVariants.{Hub as ToHub, Node as ToNode}
 use Rattle.bsc_network.specs.declared.timed_step.TimedStep.{TimedStep}
 use Rattle.bsc_network.specs.declared.hold.Hold.{Hold}
@@ -34,7 +32,7 @@ use Rattle.bsc_network.specs.HubSides.{told}
 use Rattle.bsc_network.specs.NodeSides.{other_way, hold_of, puts_on, puts_by}
 use Rattle.bsc_network.specs.Dialling.{new_link}
 use Rattle.bsc_network.specs.Networks.{makes}
-use Rattle.bsc_network.proofs.Places.{all-changed, all-changed_here, all-one_more, all-mapped, got-changed, all-found, all-reversed, found-in, changed-twice}
+use Rattle.bsc_network.proofs.Places.{all-changed, all-changed_here, all-mapped, got-changed, all-found, all-reversed, found-in, changed-twice}
 use Rattle.bsc_network_laws.specs.Ends.{receiver}
 use Rattle.bsc_network_laws.proofs.Moves.{IsHeardBy, IsSide, IsSaid, Comes, Lets}
 use Rattle.bsc_network_laws.proofs.Acting.{LetsActs, lets-hears}
@@ -44,6 +42,9 @@ use Rattle.bsc_network_laws.proofs.Holding.{EndOf, HoldsFit, Keep, keep-none, ke
 use Rattle.bsc_network_laws.proofs.Holding as Holding
 use Rattle.bsc_network_laws.proofs.OwnOctets.{own_is_none}
 use Rattle.bsc_network_laws.proofs.SideFits.{SideFits, CarriesNone, npdus-kept, side-posted, joined-more, side-told, side-takes, side-joins, asks-before}
+use Rattle.bsc_lemmas.proofs.Lists.{all-push as all-one_more}
+use Rattle.bsc_network.proofs.Common.{not_both, same_hub}
+use Rattle.std.proofs.lemmas.Option.{same_Some as some_same}
 
 -- ---- all links
 
@@ -94,10 +95,6 @@ side-down h k content place none fits = record { down = npdus-kept content place
 
 sides-down : (w : World) (l : ℕ) (content : Content) (place : ℕ) → CarriesNone content → SidesFit w → SidesFit (puts_at l Down place content w)
 sides-down w l content place none = sides-link w l (with_traffic Down (and_then (record { content = content; sent_at = place }))) (λ k. refl) (λ h k. side-down h k content place none)
-
--- what a node puts on the way down is on a link that leads to it, and to no hub
-not_both : (k j : ℕ) (t : Target) → t ≡ ToNode k → t ≡ ToHub j → ⊥
-not_both k j t a b = cc
 
 sides-node : (w : World) (l k : ℕ) (way : Way) (f : Traffic → Traffic) → IsHeardBy w l way k → SidesFit w → SidesFit (with_link l (with_traffic (other_way way) f) w)
 sides-node w l k Down f heard = sides-link w l (with_traffic Up f) (λ x. refl) (λ h x fits. record { down = fits.down; within = fits.within; none = fits.none; joined = fits.joined })
@@ -158,9 +155,6 @@ not_joined h k m who said =
     ap (λ (E : List Event). is_some (since_joined E)) said.told
     ∙ joined-more said.events (Came said.time (outcome_of m (HubPort (phase said.events)) h.about.hub.max_bvlc))
     ∙ ap (λ (b : Bool). b || false) (asks-before (since_joined said.events) (outcome_of m (HubPort (phase said.events)) h.about.hub.max_bvlc) who said.is)
-
-same_hub : (i j : ℕ) → ToHub i ≡ ToHub j → i ≡ j
-same_hub i j h = cc
 
 -- a frame is taken
 sides-takes : (w : World) (l j : ℕ) (h : Hub) (k : Link) (c : ℕ) (f : Frame) → IsSide w l j h k → k.side.conn ≡ Some c → slice_get (frames h c) k.side.taken ≡ Some f

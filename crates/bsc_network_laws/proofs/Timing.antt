@@ -3,7 +3,6 @@
 use Rattle.std.proofs.Common.{◌≡◌, ◌≤◌, ◌<◌, inl, inr, ℕ, Bool, true, false, [], ◌∷◌, ◌++◌, Option, Some, None, refl, ap, sym, subst, ◌∙◌, append_assoc, append-nil}
 use Rattle.std.specs.Prelude.{◌^◌, IsTrue, if◌then◌else◌, map, ⊤}
 use Rattle.std.specs.List.{AllByRecursion, list_any}
-use Rattle.bsc_direct.proofs.OneMore.{some_same}
 use Rattle.bsc_node.specs.declared.node_event.NodeEvent.{NodeEvent}
 use Rattle.bsc_node.specs.declared.node_event.NodeEvent.TheVariants.{Random, NoRandom}
 use Rattle.bsc_node.specs.declared.timed_event.TimedEvent.{TimedEvent}
@@ -15,7 +14,7 @@ use Rattle.bsc_node.specs.Conditions.{fits, may_come, brings_word}
 use Rattle.bsc_node.proofs.Order.{in_order-brought, in_order-cons}
 use Rattle.bsc_node_laws.proofs.Drawn.{draws_at}
 use Rattle.bsc_node_identity.proofs.Settled.{now_then}
-use Rattle.bsc_node_identity.proofs.Timely.{Timely, may_then, no_word_then, timely-undrawn, timely-settled, timely-later}
+use Rattle.bsc_node_identity.proofs.Timely.{Timely, may_then, timely-undrawn, timely-settled, timely-later}
 use Rattle.bsc_network.specs.declared.world_step.WorldStep.{WorldStep}
 use Rattle.bsc_network.specs.declared.timed_step.TimedStep.{TimedStep}
 use Rattle.bsc_network.specs.declared.hold.Hold.{Hold}
@@ -33,6 +32,8 @@ use Rattle.bsc_network.proofs.Places.{all-changed, all-changed_here, all-mapped}
 use Rattle.bsc_network_laws.proofs.Moves.{Comes, Lets}
 use Rattle.bsc_network_laws.proofs.Acting.{goes_on_in, LetsActs, lets-hears}
 use Rattle.bsc_network_laws.proofs.Stepping.{begun, done, lets-step}
+use Rattle.bsc_node.proofs.Common.{no_word_then}
+use Rattle.std.proofs.lemmas.Option.{same_Some as some_same}
 
 -- ---- the log of a node after an event of a step
 

@@ -4,7 +4,6 @@ use Rattle.std.specs.Prelude.{◌+◌, length, ⊤}
 use Rattle.std.specs.List.{AllByRecursion}
 use Rattle.std.proofs.lemmas.Option.{slice_get_within}
 use Rattle.std.proofs.lemmas.List.{length-append}
-use Rattle.bsc_direct.proofs.OneMore.{some_same}
 use Rattle.bsc_history.specs.declared.call.Call.TheVariants.{Connect}
 use Rattle.bsc_node.specs.declared.link_name.LinkName.{LinkName}
 use Rattle.bsc_network.specs.declared.world_step.WorldStep.{WorldStep}
@@ -24,10 +23,12 @@ use Rattle.bsc_network.specs.HubCalls.{called}
 use Rattle.bsc_network.specs.NodeSides.{hold_of, puts_on, puts_by, other_way}
 use Rattle.bsc_network.specs.Dialling.{new_link}
 use Rattle.bsc_network.specs.Networks.{makes}
-use Rattle.bsc_network.proofs.Places.{all-changed, all-changed_here, all-one_more}
+use Rattle.bsc_network.proofs.Places.{all-changed, all-changed_here}
 use Rattle.bsc_network_laws.proofs.Moves.{Lets}
 use Rattle.bsc_network_laws.proofs.Acting.{LetsActs, lets-hears}
 use Rattle.bsc_network_laws.proofs.Stepping.{lets-makes}
+use Rattle.bsc_lemmas.proofs.Lists.{all-push as all-one_more}
+use Rattle.std.proofs.lemmas.Option.{same_Some as some_same}
 
 abbrev pub Fits : Traffic → Type 0
 Fits t = t.arrived ≤ length t.put

@@ -1,6 +1,6 @@
 -- A network written out, of those that the theorem speaks of, in which a unicast, a broadcast, a direct connection and a takeover
 -- deliver.
-use Rattle.std.proofs.Common.{◌≡◌, ◌<◌, ℕ, ◌==◌, Bool, true, false, not, ◌&&◌, List, [], ◌∷◌, ◌++◌, refl, ap, arith}
+use Rattle.std.proofs.Common.{◌≡◌, ◌<◌, ℕ, ◌==◌, Bool, true, not, ◌&&◌, List, [], ◌∷◌, ◌++◌, refl, ap, arith}
 use Rattle.std.specs.Prelude.{nat_lt, length, slice_index}
 use Rattle.std.specs.List.{AllByRecursion, list_all}
 use Rattle.std.proofs.lemmas.Bool.{eqb-true, ltb-true}
@@ -8,7 +8,6 @@ use Rattle.bsc_octets.specs.declared.vmac.Vmac.{Vmac}
 use Rattle.bsc_octets.specs.Addresses.{same_vmac, broadcast, zero_vmac}
 use Rattle.bsc_frame.specs.Payloads.{IsNode}
 use Rattle.bsc_script.specs.Hubs.{IsHub}
-use Rattle.bsc_node.proofs.Following.{and_left, and_right}
 use Rattle.bsc_node.specs.declared.node_event.NodeEvent.TheVariants.{Send, Resolve, DirectTo}
 use Rattle.bsc_network.specs.declared.world_step.WorldStep.{WorldStep}
 use Rattle.bsc_network.specs.declared.world_step.WorldStep.TheVariants.{Node as OfNode}
@@ -18,6 +17,7 @@ use Rattle.bsc_network.specs.Courses.{HasContent, MayMakeAll, IsCourse}
 use Rattle.bsc_network_laws.specs.Deliveries.{IsWhole, HasAddress}
 use Rattle.bsc_network.proofs.OnLiterals.{world_on_literals}
 use Rattle.bsc_network.proofs.Scenes.{peer, primary, a, b, c, b_direct, address, at, joins, send, up, down, take, got, got_by_all}
+use Rattle.bsc_lemmas.proofs.Booleans.{and_left, and_right, not_true as not_so}
 
 -- A hub, A, B that accepts direct connections, B's identity again, and C.
 abbrev pub network : List Added
@@ -54,10 +54,6 @@ may_say n device h = record { address = refl; device = refl; reserved = λ e. no
 abbrev has_content : WorldStep → Bool
 has_content (OfNode k (Send dest npdu)) = nat_lt 0 (length npdu) && not (same_vmac dest zero_vmac)
 has_content step = true
-
-not_so : (x : Bool) → not x ≡ true → x ≡ false
-not_so true h = cc
-not_so false h = refl
 
 content : (step : WorldStep) → has_content step ≡ true → HasContent step
 content (OfNode k (Send dest npdu)) h = (ltb-true 0 (length npdu) (and_left (nat_lt 0 (length npdu)) _ h), not_so (same_vmac dest zero_vmac) (and_right (nat_lt 0 (length npdu)) _ h))

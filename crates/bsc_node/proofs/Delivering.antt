@@ -46,7 +46,8 @@ use Rattle.bsc_node.proofs.Passing.{Passes, pass-in_order, pass-either, pass-not
 use Rattle.bsc_node.proofs.Told.{outcome-initiating, outcome-accepting}
 use Rattle.bsc_node.proofs.Quiet.{is_quiet_action, Quiet, quiet-ends, quiet-closes_link}
 use Rattle.bsc_node.proofs.Heard.{LetsQuiet, lets-rule, pass-meets_peer, pass-is_refused_by, quiet-takes_body}
-use Rattle.bsc_node.proofs.Following.{is_came, pass-follows, opened-dialled, goes_on-is, and_left, and_right, not_true}
+use Rattle.bsc_node.proofs.Following.{is_came, pass-follows, opened-dialled, goes_on-is}
+use Rattle.bsc_lemmas.proofs.Booleans.{and_left, and_right, not_true}
 
 -- ---- what a machine hands up is what came
 

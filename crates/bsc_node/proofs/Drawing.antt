@@ -28,8 +28,9 @@ use Rattle.bsc_node.proofs.Order.{in_order-brought}
 use Rattle.bsc_node.proofs.Passing.{Passes, pass-in_order, pass-nothing}
 use Rattle.bsc_node.proofs.Quiet.{is_quiet_action, quiet-ends, quiet-closes_link}
 use Rattle.bsc_node.proofs.Heard.{LetsQuiet, lets-rule, pass-meets_peer}
-use Rattle.bsc_node.proofs.Following.{is_came, pass-follows, opened-dialled, goes_on-is, and_left, and_right, not_true}
+use Rattle.bsc_node.proofs.Following.{is_came, pass-follows, opened-dialled, goes_on-is}
 use Rattle.bsc_node.proofs.Lasting.{LetsMessages, pass-takes_body, pass-sends}
+use Rattle.bsc_lemmas.proofs.Booleans.{and_left, and_right, not_true}
 
 -- ---- lines that draw nothing
 

@@ -30,6 +30,7 @@ use Rattle.bsc_node.proofs.Told.{outcome-initiating}
 use Rattle.bsc_node.proofs.Calm.{is_calm, calm-opened}
 use Rattle.bsc_node.proofs.Quiet.{is_quiet, quiet-tells_connector, quiet-ends, quiet-closes_link, quiet-renews, quiet-keeps_vmac}
 use Rattle.bsc_node.proofs.Heard.{LetsQuiet, lets-rule, quiet-resolves, quiet-solicits, pass-directs, quiet-obeys, pass-dial_fails, pass-arrives, quiet-time_passes, quiet-is_to_end, pass-two-then}
+use Rattle.bsc_lemmas.proofs.Booleans.{second_of_three_not as the_middle}
 
 -- ---- what an event is, once it came
 
@@ -39,11 +40,6 @@ the_last true true true s h = h
 the_last true true false s h = cc
 the_last true false r s h = cc
 the_last false q r s h = cc
-
-the_middle : (p q r : Bool) → (p && not q && r) ≡ true → q ≡ false
-the_middle true false r h = refl
-the_middle true true r h = cc
-the_middle false q r h = cc
 
 -- A link that opens was dialled.
 pub opened-dialled : (L : Log) (e : TimedEvent) (name : LinkName) → e.event ≡ Opened name → IsTrue (may_come L e) → was_taken name (with_event L e) ≡ false
@@ -91,19 +87,6 @@ pass-follows test lets a M (Random w) s c l = lets-rule test lets (renews a) (qu
 pass-follows test lets a M NoRandom s c l = lets-rule test lets (keeps_vmac a) (quiet-keeps_vmac a) M
 
 -- ---- words on lists and truth
-
-pub and_left : (p q : Bool) → (p && q) ≡ true → p ≡ true
-and_left true q h = refl
-and_left false q h = h
-
-pub and_right : (p q : Bool) → (p && q) ≡ true → q ≡ true
-and_right true q h = h
-and_right false true h = refl
-and_right false false h = h
-
-pub not_true : (b : Bool) → not b ≡ true → b ≡ false
-not_true false h = refl
-not_true true h = sym h
 
 -- what comes about at an event: the event, and what follows from it
 pub goes_on-is : (a : Made) (L : Log) (e : TimedEvent) → goes_on a e L ≡ came e ∷ follows a e.event (with_event L e)

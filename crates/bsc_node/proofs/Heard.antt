@@ -37,10 +37,11 @@ use Rattle.bsc_node.specs.Receiving.{sender, is_for_all, answers, answers_by, le
 use Rattle.bsc_node.specs.Requesting.{puts_own, by_path, asks_unless, resolves, solicits, dials_first, directs}
 use Rattle.bsc_node.specs.Events.{obeys_by, obeys, dial_fails, arrives, ticks_link, ticks_resolution, time_passes, is_to_end}
 use Rattle.bsc_node.proofs.Order.{brought, in_order-brought}
-use Rattle.bsc_node.proofs.Passing.{Passes, PassEach, both, pass-brought, pass-in_order, pass-either, pass-nothing, pass-when, pass-found, pass-if, pass-some, pass-mapped, pass-each-append, pass-weaker}
+use Rattle.bsc_node.proofs.Passing.{Passes, PassEach, pass-brought, pass-in_order, pass-either, pass-nothing, pass-when, pass-found, pass-if, pass-some, pass-mapped, pass-each-append, pass-weaker}
 use Rattle.bsc_node.proofs.Told.{outcome-accepting}
 use Rattle.bsc_node.proofs.Calm.{is_calm, calm-joined, calm-duplicate}
 use Rattle.bsc_node.proofs.Quiet.{is_quiet, Quiet, quiet-two, quiet-machine, quiet-carries, calm-ticked, quiet-tells_connector, quiet-tells_finished, quiet-ends, quiet-closes_link, quiet-finishes_link}
+use Rattle.std.proofs.lemmas.Bool.{and_from as both}
 
 -- ---- tests that quiet lines pass
 

@@ -21,8 +21,10 @@ use Rattle.bsc_verdict.specs.Payloads.{body_in, is_out_of_range, has_unknown_res
 use Rattle.bsc_verdict.specs.Places.{is_unicast, is_response}
 use Rattle.bsc_verdict.specs.Failing.{fails, of_payload}
 use Rattle.bsc_verdict.specs.Outcomes.{message_in, answered, refused, accepted, decided, first_failing, outcome_of}
-use Rattle.bsc_direct.proofs.OneMore.{some_same}
-use Rattle.bsc_node.proofs.Following.{and_left, and_right}
+use Rattle.bsc_checks.proofs.Common.{pass_same}
+use Rattle.bsc_lemmas.proofs.Booleans.{and_left, and_right, not_true as not_false, or_right}
+use Rattle.std.proofs.lemmas.Bool.{or_left as first_or, or_right as second_or}
+use Rattle.std.proofs.lemmas.Option.{same_Some as some_same}
 
 -- who names itself by a body
 abbrev pub names : Body → Option Identity
@@ -36,9 +38,6 @@ pub record Passed (m : List ℕ) (place : Place) (o : Option Check) (msg : Messa
   pub none : o ≡ None
   pub not_carried : is_to_carry place m ≡ false
   pub message : message_in m ≡ msg
-
-pass_same : (x y : Message) → Pass x ≡ Pass y → x ≡ y
-pass_same x y h = cc
 
 passed_answered : (b : Bool) (m : List ℕ) (place : Place) (check : Check) (code : ℕ) (o : Option Check) (msg : Message) → answered b m place check code ≡ Pass msg → Passed m place o msg
 passed_answered true m place check code o msg h = cc
@@ -78,20 +77,12 @@ all_drop test (suc n) (check ∷ rest) h = all_drop test n rest (and_right (test
 all_here : (test : Check → Bool) (n : ℕ) (checks : List Check) (check : Check) (rest : List Check) → drop n checks ≡ check ∷ rest → list_all test checks ≡ true → test check ≡ true
 all_here test n checks check rest d h = and_left (test check) (list_all test rest) (ap (list_all test) (sym d) ∙ all_drop test n checks h)
 
-not_false : (b : Bool) → not b ≡ true → b ≡ false
-not_false false h = refl
-not_false true h = sym h
-
 all_pass : (m : List ℕ) (place : Place) (max : ℕ) (msg : Message) → Passed m place (first_failing (fails m place max) (checks_of place m)) msg → list_all (λ k. not (fails m place max k)) (head_checks ++ later_checks ++ C13 ∷ []) ≡ true
 all_pass m place max msg p =
     ap (λ (b : Bool). list_all (λ k. not (fails m place max k)) (head_checks ++ (if b then [] else later_checks) ++ C13 ∷ [])) (sym p.not_carried)
     ∙ none_fails (fails m place max) (checks_of place m) p.none
 
 -- ---- who names itself
-
-or_right : (p q : Bool) → (p || q) ≡ false → q ≡ false
-or_right false q h = h
-or_right true q h = cc
 
 unicast_by : (p : List ℕ) (who : Identity) (b z : Bool) → b ≡ true → (b && (z || same_vmac (vmac_at p 0) broadcast)) ≡ false → Some (identity_of p) ≡ Some who → same_vmac who.vmac broadcast ≡ false
 unicast_by p who true z e h n = ap (λ (w : Identity). same_vmac w.vmac broadcast) (sym (some_same (identity_of p) who n)) ∙ or_right z (same_vmac (vmac_at p 0) broadcast) h
@@ -100,14 +91,6 @@ unicast_by p who false z e h n = cc
 named_if : (who : Identity) (b : Bool) (x y : Body) → (b ≡ true → names x ≡ Some who → same_vmac who.vmac broadcast ≡ false) → (names y ≡ Some who → same_vmac who.vmac broadcast ≡ false) → names (cond b x y) ≡ Some who → same_vmac who.vmac broadcast ≡ false
 named_if who true x y f g h = f refl h
 named_if who false x y f g h = g h
-
-first_or : (p q : Bool) → p ≡ true → (p || q) ≡ true
-first_or true q h = refl
-first_or false q h = cc
-
-second_or : (p q : Bool) → q ≡ true → (p || q) ≡ true
-second_or true q h = refl
-second_or false q h = h
 
 named_in : (f : ℕ) (p : List ℕ) (who : Identity) → has_no_nodes_vmac f p ≡ false → names (body_in f p) ≡ Some who → same_vmac who.vmac broadcast ≡ false
 named_in f p who h n =

@@ -19,7 +19,6 @@ use Rattle.bsc_initiate.specs.declared.event.InitEvent.{InitEvent}
 use Rattle.bsc_initiate.specs.declared.event.InitEvent.TheVariants.{Message as InitMessage}
 use Rattle.bsc_direct.specs.declared.call.SlotCall.{SlotCall}
 use Rattle.bsc_direct.specs.Slots.{slots, is_claimed}
-use Rattle.bsc_direct.proofs.OneMore.{some_same}
 use Rattle.bsc_node.specs.declared.link_name.LinkName.{LinkName}
 use Rattle.bsc_node.specs.declared.link_name.LinkName.TheVariants.{Hub, Direct}
 use Rattle.bsc_node.specs.declared.node_event.NodeEvent.{NodeEvent}
@@ -42,12 +41,15 @@ use Rattle.bsc_node.specs.Conditions.{has_opened, awaits_word, brings_word, fits
 use Rattle.bsc_node.specs.Soundness.{is_in_slots, begins_in_slots}
 use Rattle.bsc_node.specs.Laws.{with_event, delivery}
 use Rattle.bsc_node.proofs.Order.{in_order-brought}
-use Rattle.bsc_node.proofs.Passing.{Passes, both, pass-in_order, pass-either, pass-when, pass-found, pass-nothing, pass-some}
+use Rattle.bsc_node.proofs.Passing.{Passes, pass-in_order, pass-either, pass-when, pass-found, pass-nothing, pass-some}
 use Rattle.bsc_node.proofs.Quiet.{is_quiet_action, quiet-tells_connector, quiet-ends, quiet-closes_link}
 use Rattle.bsc_node.proofs.Heard.{LetsQuiet, lets-rule, pass-two-then, pass-meets_peer, pass-is_refused_by, quiet-takes_body}
-use Rattle.bsc_node.proofs.Following.{pass-follows, opened-dialled, the_last, goes_on-is, and_left, and_right}
+use Rattle.bsc_node.proofs.Following.{pass-follows, opened-dialled, the_last, goes_on-is}
 use Rattle.bsc_node.proofs.Slotting.{SlotsFine, ups_none, quiet_ups_none, fine-lines, fine-meets_direct}
 use Rattle.bsc_node.proofs.Named.{met-unicast}
+use Rattle.bsc_lemmas.proofs.Booleans.{and_left, and_right}
+use Rattle.std.proofs.lemmas.Bool.{and_from as both, or_left as or_first, or_right as or_true}
+use Rattle.std.proofs.lemmas.Option.{same_Some as some_same}
 
 -- ---- links begin only under the names of slots
 
@@ -60,14 +62,6 @@ quiet_begins_by action h = refl
 quiet_begins : LetsQuiet begins_in_slots
 quiet_begins (did action) h = quiet_begins_by action h
 quiet_begins m h = refl
-
-or_first : (p q : Bool) → p ≡ true → (p || q) ≡ true
-or_first true q e = refl
-or_first false q e = cc
-
-or_true : (p q : Bool) → q ≡ true → (p || q) ≡ true
-or_true true q e = refl
-or_true false q e = e
 
 one_number : (j k : ℕ) → j ≡ k → (k == j) ≡ true
 one_number j k e = grind arith

@@ -21,3 +21,4 @@ pub mod Named
 pub mod Lasting
 pub mod Apart
 pub mod Drawing
+pub mod Common

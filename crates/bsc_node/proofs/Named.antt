@@ -23,13 +23,11 @@ use Rattle.bsc_node.specs.Logs.{Made, Log, now}
 use Rattle.bsc_node.specs.Links.{was_taken, initiating_events, accepting_events, by_machine, hears, verdict, place, meets, initiating_outcome, accepting_outcome, outcome}
 use Rattle.bsc_node.proofs.Told.{outcome-initiating, outcome-accepting}
 use Rattle.bsc_node.proofs.Judged.{names, named-unicast}
+use Rattle.bsc_node.proofs.Common.{same_who}
 
 -- By this verdict, a message passed in which who names itself.
 abbrev IsNamed : Verdict → Identity → Type 0
 IsNamed v who = (msg : Message) × (v ≡ Pass msg) × (names msg.body ≡ Some who)
-
-same_who : (x y : Identity) → meets x ≡ meets y → Some x ≡ Some y
-same_who x y h = cc
 
 accepts_names : (body : Body) (who : Identity) → who_accepts body ≡ Some who → names body ≡ Some who
 accepts_names (ConnectAccept x) who h = h

@@ -5,10 +5,7 @@ use Rattle.std.specs.List.{list_all}
 use Rattle.std.proofs.lemmas.List.Folds.{list_all-append}
 use Rattle.bsc_node.specs.Logs.{Line, Log, Rule, nothing, in_order, if_so, either, when, with_some, where_found}
 use Rattle.bsc_node.proofs.Order.{brought, in_order-brought}
-
-pub both : (a b : Bool) → a ≡ true → b ≡ true → (a && b) ≡ true
-both true b h g = g
-both false b h g = h
+use Rattle.std.proofs.lemmas.Bool.{and_from as both}
 
 -- Whatever the log, each line by which the rule goes on passes the test.
 abbrev pub Passes : (Line → Bool) → Rule → Type 0

@@ -18,7 +18,6 @@ use Rattle.bsc_direct.specs.declared.call.SlotCall.{SlotCall}
 use Rattle.bsc_direct.specs.declared.call.SlotCall.TheVariants.{Up, Release}
 use Rattle.bsc_node.specs.declared.link_name.LinkName.{LinkName}
 use Rattle.bsc_node.specs.declared.link_name.LinkName.TheVariants.{Hub, Direct}
-use Rattle.bsc_node.specs.declared.note.Note.{Note}
 use Rattle.bsc_node.specs.declared.note.Note.TheVariants.{HubNow, DirectDown, Finished, Renewed, NoRandom}
 use Rattle.bsc_node.specs.declared.action.Action.{Action}
 use Rattle.bsc_node.specs.declared.action.Action.TheVariants.{Dial, Take, Put, Close, Deliver, Draw}
@@ -29,9 +28,10 @@ use Rattle.bsc_node.specs.Ways.{established_peer, slots_see}
 use Rattle.bsc_node.specs.Ending.{carries_out_by, carries_out, finishes_machine, dials, dials_primary, dials_failover, tells_use, drops_failover, tells_connector, ends_hub, ends_slot, tells_finished, ends_by, ends, closes_link, finishes_link}
 use Rattle.bsc_node.specs.Meeting.{refusing_side, ends_refused, renews, keeps_vmac}
 use Rattle.bsc_node.proofs.Order.{in_order-brought}
-use Rattle.bsc_node.proofs.Passing.{Passes, both, pass-in_order, pass-either, pass-nothing, pass-when, pass-found}
+use Rattle.bsc_node.proofs.Passing.{Passes, pass-in_order, pass-either, pass-nothing, pass-when, pass-found}
 use Rattle.bsc_node.proofs.Told.{outcome-initiating, outcome-accepting}
 use Rattle.bsc_node.proofs.Calm.{is_npdu, is_calm, calm-tick, calm-finish, calm-taken_tick, calm-taken_finish}
+use Rattle.std.proofs.lemmas.Bool.{and_from as both}
 
 abbrev pub is_quiet_action : Action → Bool
 is_quiet_action (Put name o) = not (is_npdu o)
@@ -57,9 +57,6 @@ Quiet rule = Passes is_quiet rule
 
 pub quiet-does : (action : Action) → is_quiet_action action ≡ true → Quiet (does action)
 quiet-does action h L = both (is_quiet_action action) true h refl
-
-pub quiet-tells : (note : Note) → Quiet (tells note)
-quiet-tells note L = refl
 
 -- two rules, the second of which is quiet where the first has left the log
 pub quiet-two : (first second : Rule) (L : Log) → list_all is_quiet (first L) ≡ true → list_all is_quiet (second (L ++ first L)) ≡ true → list_all is_quiet (in_order (first ∷ second ∷ []) L) ≡ true

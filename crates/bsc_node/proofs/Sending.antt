@@ -25,11 +25,13 @@ use Rattle.bsc_node.specs.Requesting.{puts_own, fits}
 use Rattle.bsc_node.specs.Events.{obeys_by, obeys, follows}
 use Rattle.bsc_node.specs.Conditions.{may_come}
 use Rattle.bsc_node.specs.Laws.{with_event, puts_npdu, npdus_put, IsPutOnce, NpdusArePutOnce}
-use Rattle.bsc_node.proofs.Passing.{Passes, both, pass-in_order, pass-nothing, pass-some}
+use Rattle.bsc_node.proofs.Passing.{Passes, pass-in_order, pass-nothing, pass-some}
 use Rattle.bsc_node.proofs.Proper.{is_proper, proper-hears}
 use Rattle.bsc_node.proofs.Quiet.{is_quiet_action, Quiet, quiet-ends, quiet-closes_link}
-use Rattle.bsc_node.proofs.Following.{is_send, pass-follows, opened-dialled, goes_on-is, and_left, and_right, not_true}
+use Rattle.bsc_node.proofs.Following.{is_send, pass-follows, opened-dialled, goes_on-is}
 use Rattle.bsc_node.proofs.Heard.{LetsQuiet, lets-rule, pass-meets_peer, pass-is_refused_by, quiet-takes_body, pass-two-then}
+use Rattle.bsc_lemmas.proofs.Booleans.{and_left, and_right, not_true}
+use Rattle.std.proofs.lemmas.Bool.{and_from as both}
 
 -- ---- lines that put no Encapsulated-NPDU
 

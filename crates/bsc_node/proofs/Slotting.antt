@@ -12,7 +12,7 @@ use Rattle.bsc_direct.specs.declared.call.SlotCall.{SlotCall}
 use Rattle.bsc_direct.specs.declared.call.SlotCall.TheVariants.{Claim, Up, Release}
 use Rattle.bsc_direct.specs.declared.establish.Establish.{Establish}
 use Rattle.bsc_direct.specs.declared.establish.Establish.TheVariants.{Up as IsUp, Duplicate, WrongPeer}
-use Rattle.bsc_direct.specs.Slots.{slots, established_peer, is_peer, established_with, is_rival, rival, of_device, unless_rival, unless_own, unless_wrong}
+use Rattle.bsc_direct.specs.Slots.{slots, established_peer, is_peer, is_rival, rival, of_device, unless_rival, unless_own, unless_wrong}
 use Rattle.bsc_direct.specs.Slots as Slots
 use Rattle.bsc_direct.specs.Laws.{PeersAreApart}
 use Rattle.bsc_direct.specs.Standing.{PeersAreUnicast}
@@ -22,7 +22,7 @@ use Rattle.bsc_node.specs.declared.link_name.LinkName.{LinkName}
 use Rattle.bsc_node.specs.declared.link_name.LinkName.TheVariants.{Direct}
 use Rattle.bsc_node.specs.declared.note.Note.TheVariants.{DirectUp}
 use Rattle.bsc_node.specs.declared.action.Action.TheVariants.{Put, Close}
-use Rattle.bsc_node.specs.Logs.{Made, Line, slot, Log, nothing, if_so, does, tells, own_vmac}
+use Rattle.bsc_node.specs.Logs.{Made, Line, slot, Log, if_so, does, tells, own_vmac}
 use Rattle.bsc_node.specs.Links.{was_taken, Outcome, puts, puts_and_closes, closes, meets, is_refused, passes_up, keeps_still, outcome}
 use Rattle.bsc_node.specs.Ways.{slot_call_of, slot_calls, awaits_peer, establish, slots_see}
 use Rattle.bsc_node.specs.Ending.{carries_out, carries_out_by, closes_link}
@@ -32,7 +32,7 @@ use Rattle.bsc_node.proofs.Order.{brought, in_order-brought}
 use Rattle.bsc_node.proofs.Passing.{pass-brought}
 use Rattle.bsc_node.proofs.Quiet.{is_quiet_call, quiet-closes_link}
 use Rattle.bsc_node.proofs.Heard.{LetsQuiet, lets-rule, pass-after_up, pass-refused}
-use Rattle.bsc_node.proofs.Following.{and_left, and_right}
+use Rattle.bsc_lemmas.proofs.Booleans.{and_left, and_right}
 
 -- ---- calls
 

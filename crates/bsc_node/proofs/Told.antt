@@ -1,6 +1,6 @@
 -- What a link's machine was told, and its newest step, once it is told something more.
-use Rattle.std.proofs.Common.{◌≡◌, ℕ, Bool, true, false, cond, List, [], ◌∷◌, ◌++◌, refl, ap, ◌∙◌, arith}
-use Rattle.std.specs.Prelude.{◌==◌, filter_map, unwrap_or}
+use Rattle.std.proofs.Common.{◌≡◌, Bool, true, false, cond, List, [], ◌∷◌, ◌++◌, refl, ap, ◌∙◌}
+use Rattle.std.specs.Prelude.{filter_map, unwrap_or}
 use Rattle.std.proofs.lemmas.List.{reverse-append, reverse-reverse}
 use Rattle.std.proofs.lemmas.List.Elements.{filter_map-append}
 use Rattle.bsc_connector.specs.declared.side.Side.TheVariants.{Primary, Failover}
@@ -15,12 +15,10 @@ use Rattle.bsc_node.specs.declared.link_name.LinkName.{LinkName}
 use Rattle.bsc_node.specs.declared.link_name.LinkName.TheVariants.{Hub, Direct}
 use Rattle.bsc_node.specs.Logs.{Made, Line, initiating, accepting, Log}
 use Rattle.bsc_node.specs.Links.{same_link, beginning_of, begins, life, was_taken, start, initiating_event, accepting_event, initiating_events, accepting_events, Outcome, keeps_still, initiating_outcome, accepting_outcome, outcome_by, outcome}
+use Rattle.bsc_lemmas.proofs.Booleans.{eq_self as same_number}
 
 pub at_last-more : {A B : Type 0} (f : List A → A → B) (d : B) (xs : List A) (x : A) → at_last f d (xs ++ x ∷ []) ≡ f xs x
 at_last-more f d xs x = ap (λ ys. at_last_of f d ys) (reverse-append xs (x ∷ [])) ∙ ap (λ ys. f ys x) (reverse-reverse xs)
-
-same_number : (k : ℕ) → (k == k) ≡ true
-same_number k = grind arith
 
 pub same_link-self : (name : LinkName) → same_link name name ≡ true
 same_link-self (Hub Primary) = refl

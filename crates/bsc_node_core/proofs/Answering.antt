@@ -75,10 +75,6 @@ both-dropped b out s r r' L function id v c f answers h =
     let a = answers b.made.limits.times.connect_wait (resolve_calls L) h.resolution in
     subst (λ ms. BothStand b out s r' (L ++ ms)) (sym (drops-by b.made function id v L true c (ap (λ (x : ℕ). x == 0x02) f) a.0)) (dropped-by b out s r r' L id v c a.1 h)
 
--- A NAK of another function.
-pub both-not-dropped : (b : Base) (out : List Action) (s : State) (r : Resolve) (L : Log) (function id : ℕ) (v : Vmac) → (function == 0x02) ≡ false → BothStand b out s r L → BothStand b out s r (L ++ drops_question b.made function id v L)
-both-not-dropped b out s r L function id v f h = both-at-rest b out s r L (drops_question b.made function id v L) (drops-by b.made function id v L false (awaits b.made id v L) f refl) h
-
 -- It is told, and then the question is dropped.
 pub both-refused-by : (b : Base) (out later : List Action) (s : State) (r r' : Resolve) (L : Log) (name : LinkName) (msg : Message) (from : Option Vmac) (id function code : ℕ) → msg.id ≡ id → sender name msg L ≡ from
     → later ≡ out ++ Tell (Nak from function code) ∷ []

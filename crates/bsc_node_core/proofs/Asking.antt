@@ -27,9 +27,10 @@ use Rattle.bsc_node_core.specs.declared.state.State.{State}
 use Rattle.bsc_node_core.specs.Tables.{link_at}
 use Rattle.bsc_node_core.specs.Standing.{Base, HaveCome, Stands}
 use Rattle.bsc_node_core.specs.Resolving.{asked_by, BothStand}
-use Rattle.bsc_node_core.proofs.More.{now-kept, own-kept, next-kept, finishing-kept, renewals-kept, refusing-kept, hub_events-kept, slot_calls-kept, dropped-kept, tries-kept, filter-one_more}
+use Rattle.bsc_node_core.proofs.More.{now-kept, own-kept, next-kept, finishing-kept, renewals-kept, refusing-kept, dropped-kept, tries-kept, filter-one_more}
 use Rattle.bsc_node_core.proofs.Lines.{link-kept, came-other, put-stands}
 use Rattle.bsc_node_core.proofs.Wants.{told-stands}
+use Rattle.bsc_node.proofs.Common.{hub_events-kept, slot_calls-kept}
 
 -- ---- rules in order
 

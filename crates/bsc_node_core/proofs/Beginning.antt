@@ -36,19 +36,16 @@ use Rattle.bsc_node_core.specs.declared.state.State.{State}
 use Rattle.bsc_node_core.specs.Machines.{says_there}
 use Rattle.bsc_node_core.specs.Tables.{Kept, link_at, is_name, Sets, begun}
 use Rattle.bsc_node_core.specs.Standing.{Base, MachineStands, LinkStands, Stands}
-use Rattle.bsc_node_core.proofs.More.{now-kept, own-kept, next-kept, finishing-kept, renewals-kept, refusing-kept, hub_events-kept, slot_calls-kept, resolve_calls-kept, dropped-kept, since-kept, since-now, count-kept, count-one_more}
+use Rattle.bsc_node_core.proofs.More.{now-kept, own-kept, next-kept, finishing-kept, renewals-kept, refusing-kept, dropped-kept, since-kept, since-now, count-kept, count-one_more}
 use Rattle.bsc_node_core.proofs.Lines.{link-kept, came-did}
-use Rattle.bsc_node_core.proofs.Closing.{same_link-is}
+use Rattle.bsc_lemmas.proofs.Booleans.{or_true}
+use Rattle.bsc_node.proofs.Common.{hub_events-kept, resolve_calls-kept, same_link-is, slot_calls-kept}
 
 -- By the action the link of this name begins, taken or dialled, and nothing else changes.
 pub record Begins (name : LinkName) (taken : Bool) (action : Action) : Type 0 where
   pub begins : (other : LinkName) → begins_by other action ≡ cond (same_link name other) (Some taken) None
   pub over : (other : LinkName) → is_over_by other (did action) ≡ false
   pub number : is_numbered (did action) ≡ false
-
-or_true : (a : Bool) → (a || true) ≡ true
-or_true true = refl
-or_true false = refl
 
 here : (name : LinkName) (taken : Bool) (action : Action) → Begins name taken action → begins_by name action ≡ Some taken
 here name taken action g = g.begins name ∙ ap (λ (b : Bool). cond b (Some taken) None) (same_link-self name)

@@ -1,8 +1,8 @@
 -- A node stands for its log from one event to the next.
-use Rattle.std.proofs.Common.{◌≡◌, ℕ, zero, suc, ◌+◌, ◌<◌, ◌≤◌, Bool, true, false, not, ◌&&◌, ◌||◌, List, [], ◌∷◌, ◌++◌, length, drop, Some, None, refl, ap, sym, ◌∙◌, subst, arith, append_assoc}
+use Rattle.std.proofs.Common.{◌≡◌, ℕ, zero, suc, ◌+◌, ◌<◌, ◌≤◌, Bool, true, false, not, ◌&&◌, ◌||◌, List, [], ◌∷◌, ◌++◌, length, Some, None, refl, ap, sym, ◌∙◌, subst, arith, append_assoc}
 use Rattle.std.specs.Prelude.{◌==◌, IsTrue, nat_lt, filter_map, is_some}
 use Rattle.std.specs.List.{list_any, range_with_len}
-use Rattle.std.proofs.lemmas.Bool.{eqb-true, lt-ltb, ltb-true, ltb-false}
+use Rattle.std.proofs.lemmas.Bool.{ltb-true, ltb-false}
 use Rattle.std.proofs.lemmas.List.{append-nil}
 use Rattle.bsc_octets.specs.declared.identity.Identity.{Identity}
 use Rattle.bsc_direct.specs.declared.direct.Direct.{Direct as SlotTable}
@@ -12,7 +12,6 @@ use Rattle.bsc_direct.specs.declared.slot.Slot.TheVariants.{Free}
 use Rattle.bsc_direct.specs.Kept.{says_peer, slot_at}
 use Rattle.bsc_direct.specs.Slots.{slots, established_peer}
 use Rattle.bsc_direct.specs.Standing.{StandsFor as DirectStands}
-use Rattle.bsc_direct.proofs.OneMore.{some_none}
 use Rattle.bsc_resolve.specs.declared.resolve.Resolve.{Resolve}
 use Rattle.bsc_resolve.specs.Standing.{IsUnchanged as IsUnchangedResolve}
 use Rattle.bsc_node.specs.declared.link_name.LinkName.{LinkName}
@@ -28,7 +27,7 @@ use Rattle.bsc_node.specs.Events.{follows}
 use Rattle.bsc_node.specs.Node.{goes_on, actions_at}
 use Rattle.bsc_node.specs.Conditions.{is_dialling, is_open, has_opened, may_come}
 use Rattle.bsc_node.specs.Soundness.{is_in_slots}
-use Rattle.bsc_node.proofs.Following.{goes_on-is, and_left}
+use Rattle.bsc_node.proofs.Following.{goes_on-is}
 use Rattle.bsc_node.proofs.Lasting.{Fine, fine-goes_on, there_in_slots, event_fits}
 use Rattle.bsc_node_core.specs.declared.node.Node.{Node}
 use Rattle.bsc_node_core.specs.declared.state.State.{State}
@@ -39,16 +38,13 @@ use Rattle.bsc_node_core.specs.Standing.{Base, Stands}
 use Rattle.bsc_node_core.specs.Tables.{is_name}
 use Rattle.bsc_node_core.proofs.Asking.{both-still}
 use Rattle.bsc_node_core.proofs.More.{there-kept, taken-kept, initiating-kept}
+use Rattle.bsc_lemmas.proofs.Booleans.{and_left, first_of_three}
+use Rattle.bsc_lemmas.proofs.Lists.{same_rest as same-lines}
+use Rattle.bsc_lemmas.proofs.Options.{some_none_any as some_none}
+use Rattle.bsc_node.proofs.Common.{slot-named}
+use Rattle.std.proofs.lemmas.Bool.{or_left as or_first, or_right as or_second}
 
 -- ---- the numbers of slots
-
-or_first : (p q : Bool) → p ≡ true → (p || q) ≡ true
-or_first true q e = refl
-or_first false q e = cc
-
-or_second : (p q : Bool) → q ≡ true → (p || q) ≡ true
-or_second true q e = refl
-or_second false q e = e
 
 in_range : (n a k : ℕ) → k < n → list_any (λ j. (a + k) == j) (range_with_len a n) ≡ true
 in_range zero a k h = absurd (omega (arith, h))
@@ -60,18 +56,6 @@ in_range (suc n) a (suc k) h =
 in-slots : (k : ℕ) → k < 64 → is_in_slots k ≡ true
 unfolding slots
 in-slots k h = subst (λ (x : ℕ). list_any (λ j. x == j) (range_with_len 0 64) ≡ true) (let e : 0 + k ≡ k = omega arith in e) (in_range 64 0 k h)
-
-below : (n a k : ℕ) → list_any (λ j. k == j) (range_with_len a n) ≡ true → k < a + n
-below zero a k h = cc
-below (suc n) a k h = by (k == a) refl h (λ g. below n (a + 1) k g)
-  where
-    by : (b : Bool) → (k == a) ≡ b → (b || list_any (λ j. k == j) (range_with_len (a + 1) n)) ≡ true → (list_any (λ j. k == j) (range_with_len (a + 1) n) ≡ true → k < a + 1 + n) → k < a + suc n
-    by true e g later = let q = eqb-true k a e in omega (arith, q)
-    by false e g later = let w = later g in omega (arith, w)
-
-slot-named : (k : ℕ) → is_in_slots k ≡ true → nat_lt k 64 ≡ true
-unfolding slots
-slot-named k h = lt-ltb k 64 (let w = below 64 0 k h in omega (arith, w))
 
 -- ---- what holds of the log that a node stands for
 
@@ -102,10 +86,6 @@ named L (Direct k) f h = slot-named k (there_in_slots L k f h)
 
 abbrev at : ℕ → NodeEvent → TimedEvent
 at t ev = record { now = t; event = ev }
-
-first_of_three : (p q r : Bool) → (p && q && r) ≡ true → p ≡ true
-first_of_three true q r g = refl
-first_of_three false q r g = cc
 
 opened-kept : (L : Log) (m : Line) (name : LinkName) → initiating_events (L ++ m ∷ []) name ≡ initiating_events L name → has_opened name (L ++ m ∷ []) ≡ has_opened name L
 opened-kept L m name h = ap (λ es. is_some (request es)) h
@@ -145,10 +125,6 @@ may-follow L t ev f h = tt
 -- the base while an event is followed
 abbrev at_event : Made → Log → ℕ → Base
 at_event a L t = record { made = a; before = L; now = t; asked = resolve_calls L; busy = None }
-
-same-lines : {A : Type 0} (xs ys zs : List A) → xs ++ ys ≡ xs ++ zs → ys ≡ zs
-same-lines [] ys zs h = h
-same-lines (x ∷ xs) ys zs h = same-lines xs ys zs (ap (drop 1) h)
 
 rested : (a : Made) (L M : Log) (t : ℕ) (out : List Action) (s : State) (r : Resolve) → BothStand (at_event a L t) out s r M → BothStand (at_rest a M) [] s r M
 rested a L M t out s r h =

@@ -27,10 +27,10 @@ use Rattle.bsc_node_core.specs.Tables.{Kept, link_at, is_name, Sets, claimed}
 use Rattle.std.proofs.lemmas.List.{append-nil}
 use Rattle.bsc_node_core.specs.Rules.{tells_down}
 use Rattle.bsc_node_core.specs.Standing.{Base, LinkStands, Stands}
-use Rattle.bsc_node_core.proofs.More.{now-kept, own-kept, next-kept, finishing-kept, renewals-kept, refusing-kept, hub_events-kept, resolve_calls-kept, dropped-kept, tries-kept, since-now, filter-one_more}
+use Rattle.bsc_node_core.proofs.More.{now-kept, own-kept, next-kept, finishing-kept, renewals-kept, refusing-kept, dropped-kept, tries-kept, since-now, filter-one_more}
 use Rattle.bsc_node_core.proofs.Lines.{link-kept, came-other, quiet-stands}
-use Rattle.bsc_node_core.proofs.Closing.{same_link-is}
 use Rattle.bsc_node_core.proofs.Together.{first-then, none-left}
+use Rattle.bsc_node.proofs.Common.{hub_events-kept, resolve_calls-kept, same_link-is}
 
 same_kept : (b : Base) (L : Log) (name : LinkName) (l : Kept) → LinkStands b.made b.busy L name l → LinkStands b.made b.busy L name (claimed l)
 same_kept b L name l h = record { there = h.there; machine = h.machine; peer = h.peer }

@@ -2,14 +2,12 @@
 use Rattle.std.proofs.Common.{◌≡◌, ℕ, Bool, true, false, not, cond, ◌&&◌, ◌||◌, List, [], ◌∷◌, ◌++◌, Option, refl, ap, sym, ◌∙◌, subst}
 use Rattle.std.specs.Prelude.{min}
 use Rattle.std.specs.List.{list_any}
-use Rattle.std.proofs.lemmas.Bool.{eqb-true, false≢true}
-use Rattle.bsc_connector.specs.declared.side.Side.TheVariants.{Primary, Failover}
 use Rattle.bsc_connector.specs.Standing.{StandsFor as ConnectorStands}
 use Rattle.bsc_connector.proofs.BackLemmas.{list_any-more}
 use Rattle.bsc_direct.specs.Standing.{StandsFor as DirectStands}
 use Rattle.bsc_accept.specs.declared.closing.Closing.{Closing}
 use Rattle.bsc_node.specs.declared.link_name.LinkName.{LinkName}
-use Rattle.bsc_node.specs.declared.link_name.LinkName.TheVariants.{Hub, Direct}
+use Rattle.bsc_node.specs.declared.link_name.LinkName.TheVariants.{Direct}
 use Rattle.bsc_node.specs.declared.action.Action.TheVariants.{Close}
 use Rattle.bsc_node.specs.declared.action.Action.{Action}
 use Rattle.bsc_node.specs.Logs.{Made, Line, did, Log}
@@ -21,17 +19,9 @@ use Rattle.bsc_node_core.specs.declared.links.Links.{Links}
 use Rattle.bsc_node_core.specs.declared.state.State.{State}
 use Rattle.bsc_node_core.specs.Tables.{Kept, link_at, is_name, Sets, with_machine}
 use Rattle.bsc_node_core.specs.Standing.{Base, LinkStands, Stands}
-use Rattle.bsc_node_core.proofs.More.{now-kept, own-kept, next-kept, finishing-kept, renewals-kept, refusing-kept, hub_events-kept, slot_calls-kept, resolve_calls-kept, dropped-kept, tries-kept}
+use Rattle.bsc_node_core.proofs.More.{now-kept, own-kept, next-kept, finishing-kept, renewals-kept, refusing-kept, dropped-kept, tries-kept}
 use Rattle.bsc_node_core.proofs.Lines.{link-kept, peer-kept, came-did}
-
-pub same_link-is : (name other : LinkName) → same_link name other ≡ true → name ≡ other
-same_link-is (Hub Primary) (Hub Primary) h = refl
-same_link-is (Hub Failover) (Hub Failover) h = refl
-same_link-is (Hub Primary) (Hub Failover) h = absurd (false≢true h)
-same_link-is (Hub Failover) (Hub Primary) h = absurd (false≢true h)
-same_link-is (Direct k) (Direct j) h = ap (λ n. Direct n) (eqb-true k j h)
-same_link-is (Hub s) (Direct k) h = absurd (false≢true h)
-same_link-is (Direct k) (Hub s) h = absurd (false≢true h)
+use Rattle.bsc_node.proofs.Common.{hub_events-kept, resolve_calls-kept, same_link-is, slot_calls-kept}
 
 and_none : (a b : Bool) → (a && not (b || true)) ≡ false
 and_none true true = refl

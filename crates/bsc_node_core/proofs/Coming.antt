@@ -1,5 +1,5 @@
 -- What a node keeps goes on standing for its log, where an event comes.
-use Rattle.std.proofs.Common.{◌≡◌, ℕ, ◌+◌, Bool, true, false, cond, ◌&&◌, ◌||◌, List, [], ◌∷◌, ◌++◌, Option, Some, None, unwrap_or, refl, ap, sym, ◌∙◌, subst, arith}
+use Rattle.std.proofs.Common.{◌≡◌, ℕ, ◌+◌, Bool, true, false, cond, ◌&&◌, List, [], ◌∷◌, ◌++◌, Option, Some, None, unwrap_or, refl, ap, sym, ◌∙◌, subst, arith}
 use Rattle.std.specs.Prelude.{min, count_by}
 use Rattle.std.specs.List.{list_any}
 use Rattle.std.specs.Option.{option_map}
@@ -27,9 +27,11 @@ use Rattle.bsc_node_core.specs.declared.state.State.{State}
 use Rattle.bsc_node_core.specs.Tables.{Kept, link_at, is_name, Sets, with_machine}
 use Rattle.bsc_node_core.specs.Standing.{Base, HaveCome, LinkStands, Stands}
 use Rattle.bsc_node_core.specs.Events.{at_time}
-use Rattle.bsc_node_core.proofs.More.{next-kept, own-kept, finishing-kept, renewals-kept, refusing-kept, hub_events-kept, slot_calls-kept, resolve_calls-kept, dropped-kept, tries-kept, since-kept, count-one_more}
+use Rattle.bsc_node_core.proofs.More.{next-kept, own-kept, finishing-kept, renewals-kept, refusing-kept, dropped-kept, tries-kept, since-kept, count-one_more}
 use Rattle.bsc_node_core.proofs.Lines.{link-kept, peer-kept, came-other}
-use Rattle.bsc_node_core.proofs.Closing.{same_link-is, there-over, tries-closed}
+use Rattle.bsc_node_core.proofs.Closing.{there-over, tries-closed}
+use Rattle.bsc_lemmas.proofs.Booleans.{or_true}
+use Rattle.bsc_node.proofs.Common.{hub_events-kept, resolve_calls-kept, same_link-is, slot_calls-kept}
 
 -- what is kept beside its parts, and the links
 abbrev known_at : State → Identity → Bool → ℕ → Option Side → Links → State
@@ -136,10 +138,6 @@ hub-came b out s L t ev side o is h =
 pub slot-came : (b : Base) (out : List Action) (s : State) (L : Log) (t : ℕ) (ev : NodeEvent) (k : ℕ) (o : List ℕ) → ev ≡ Came (Direct k) o → Stands b out s L → Stands (at_time t b) out s (L ++ came (at t ev) ∷ [])
 slot-came b out s L t ev k o is h =
     subst (Stands_at b out s L t) (sym is) (quiet-came b out s L (at t (Came (Direct k) o)) (silent t (Came (Direct k) o) refl refl refl refl) (λ name. refl) h)
-
-or_true : (c : Bool) → (c || true) ≡ true
-or_true true = refl
-or_true false = refl
 
 pub finish-came : (b : Base) (out : List Action) (s : State) (L : Log) (t : ℕ) (ev : NodeEvent) → ev ≡ Finish → Stands b out s L → Stands (at_time t b) out (record s { finishing = true }) (L ++ came (at t ev) ∷ [])
 finish-came b out s L t ev is h =

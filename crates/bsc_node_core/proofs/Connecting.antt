@@ -1,7 +1,6 @@
 -- What a node keeps and its address resolution go on standing for its log, where a direct connection is wanted.
 use Rattle.std.proofs.Common.{◌≡◌, ℕ, List, [], ◌∷◌, ◌++◌, Option, Some, None, refl, ap, sym, ◌∙◌, subst}
 use Rattle.std.specs.Prelude.{filter, slice_get}
-use Rattle.bsc_direct.proofs.OneMore.{some_none, some_same}
 use Rattle.bsc_octets.specs.declared.vmac.Vmac.{Vmac}
 use Rattle.bsc_direct.specs.declared.call.SlotCall.TheVariants.{Claim}
 use Rattle.bsc_resolve.specs.declared.resolve.Resolve.{Resolve}
@@ -17,11 +16,10 @@ use Rattle.bsc_node_core.specs.Standing.{Base, Stands}
 use Rattle.bsc_node_core.specs.Resolving.{asked_by, BothStand}
 use Rattle.bsc_node_core.proofs.Asking.{two-in-order, both-still, both-word}
 use Rattle.bsc_node_core.proofs.Answering.{both-at-rest}
+use Rattle.bsc_lemmas.proofs.Options.{some_none_any as some_none}
+use Rattle.std.proofs.lemmas.Option.{same_Some as some_same}
 
 -- ---- the URIs
-
-pub none-to-dial : (v : Vmac) (L : Log) (n : ℕ) → learnt v L ≡ None → slice_get (uris_to_dial v L) n ≡ None
-none-to-dial v L n h = rw h refl
 
 pub these-to-dial : (v : Vmac) (L : Log) (text : List ℕ) (n : ℕ) → learnt v L ≡ Some text → slice_get (uris_to_dial v L) n ≡ slice_get (filter is_dialled (words_with [] text)) n
 these-to-dial v L text n h = rw h refl

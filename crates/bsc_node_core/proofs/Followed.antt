@@ -4,7 +4,7 @@ use Rattle.std.specs.Prelude.{map}
 use Rattle.bsc_connector.specs.declared.event.ConnectorEvent.TheVariants.{Tick as ConnectorTick}
 use Rattle.bsc_resolve.specs.declared.call.ResolveCall.TheVariants.{Tick as ResolveTick}
 use Rattle.bsc_resolve.specs.declared.resolve.Resolve.{Resolve}
-use Rattle.bsc_resolve.specs.Standing.{StandsFor as ResolveStands, StandsOn, IsUnchanged}
+use Rattle.bsc_resolve.specs.Standing.{StandsFor as ResolveStands, StandsOn}
 use Rattle.bsc_node.specs.declared.node_event.NodeEvent.{NodeEvent}
 use Rattle.bsc_node.specs.declared.action.Action.{Action}
 use Rattle.bsc_node.specs.Logs.{Made, resolution, Log, Rule, after, in_order}
@@ -17,10 +17,6 @@ use Rattle.bsc_node_core.specs.declared.state.State.{State}
 use Rattle.bsc_node_core.specs.Standing.{Base, Stands}
 use Rattle.bsc_node_core.specs.Resolving.{asked_by, BothStand}
 use Rattle.bsc_node_core.proofs.Asking.{both-still, both-told}
-
--- What nothing happened to is as it was.
-pub still-resolves : (r : Resolve) → IsUnchanged r r
-still-resolves r wait calls h = h
 
 pub by-both : (b : Base) (out : List Action) (s : State) (r : Resolve) (L : Log) (ev known : NodeEvent) → ev ≡ known → BothStand b out s r (L ++ follows b.made known L) → BothStand b out s r (L ++ follows b.made ev L)
 by-both b out s r L ev known is h = subst (λ (e : NodeEvent). BothStand b out s r (L ++ follows b.made e L)) (sym is) h

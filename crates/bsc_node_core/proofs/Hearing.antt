@@ -37,6 +37,7 @@ use Rattle.bsc_node_core.specs.Rules.{goes_up, origin_in, message_in, outcome_of
 use Rattle.bsc_node_core.specs.Tables.{link_at, is_name}
 use Rattle.bsc_node_core.specs.Standing.{Base, AcceptStands, DialledStands, TakenStands, MachineStands, Stands}
 use Rattle.bsc_node_core.specs.Telling.{HasTold}
+use Rattle.bsc_lemmas.proofs.Booleans.{and_right}
 
 -- ---- what a machine that is open may be told
 
@@ -86,10 +87,6 @@ may-hear-at Idle E now v o h r = o
 or_false : (b c : Bool) → b ≡ false → (b || c) ≡ true → c ≡ true
 or_false true c e h = absurd (false≢true (sym e))
 or_false false c e h = h
-
-and_right : (b c : Bool) → (b && c) ≡ true → c ≡ true
-and_right true c h = h
-and_right false c h = absurd (false≢true h)
 
 pub may-hear : (a : Made) (L : Log) (name : LinkName) (m : Initiating) (now : ℕ) (v : Verdict) → IN.is_open m.stage ≡ true → DialledStands a L name m → is_open name L ≡ true → may_tell_dialled m.stage (Came now v) ≡ true
 may-hear a L name m now v o d h =

@@ -33,7 +33,9 @@ use Rattle.bsc_node_core.specs.declared.machine.Machine.TheVariants.{Gone, Over,
 use Rattle.bsc_node_core.specs.declared.state.State.{State}
 use Rattle.bsc_node_core.specs.Tables.{Kept, link_at}
 use Rattle.bsc_node_core.specs.Standing.{Base, next_after, renewals_after, dropped_after, HaveCome, TakenStands, MachineStands, LinkStands, Stands}
-use Rattle.bsc_node_core.proofs.More.{now-kept, own-kept, next-kept, finishing-kept, renewals-kept, refusing-kept, hub_events-kept, slot_calls-kept, resolve_calls-kept, dropped-kept, tries-kept, there-kept, taken-kept, start-kept, initiating-kept, accepting-kept, since-now, filter-kept, count-one_more, filter-one_more}
+use Rattle.bsc_node_core.proofs.More.{now-kept, own-kept, next-kept, finishing-kept, renewals-kept, refusing-kept, dropped-kept, tries-kept, there-kept, taken-kept, start-kept, initiating-kept, accepting-kept, since-now, count-one_more, filter-one_more}
+use Rattle.bsc_lemmas.proofs.Lists.{filter_map_none as filter-kept}
+use Rattle.bsc_node.proofs.Common.{hub_events-kept, resolve_calls-kept, slot_calls-kept}
 
 -- ---- links of which a line says nothing
 

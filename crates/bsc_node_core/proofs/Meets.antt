@@ -39,11 +39,12 @@ use Rattle.bsc_node_core.specs.Machines.{has_asked}
 use Rattle.bsc_node_core.specs.Tables.{link_at, is_name}
 use Rattle.bsc_node_core.specs.Standing.{Base, MachineStands, Stands}
 use Rattle.bsc_node_core.specs.Telling.{busy_with, IsLeft, HasTold}
-use Rattle.bsc_node_core.proofs.More.{own-kept, slot_calls-kept}
+use Rattle.bsc_node_core.proofs.More.{own-kept}
 use Rattle.bsc_node_core.proofs.Lines.{slot-stands}
 use Rattle.bsc_node_core.proofs.Settling.{settles}
 use Rattle.bsc_node_core.proofs.Wants.{slot-within, tell-stands}
 use Rattle.bsc_node_core.proofs.Carrying.{two-is, three-then, nothing-more}
+use Rattle.bsc_node.proofs.Common.{slot_calls-kept}
 
 -- ---- whether a connection is established
 

@@ -16,9 +16,11 @@ use Rattle.bsc_node.specs.declared.timed_event.TimedEvent.{TimedEvent}
 use Rattle.bsc_node.specs.Logs.{Made, Line, Log, event_of, now, is_numbered, next_id, renewal_of, own, is_finish, is_finishing}
 use Rattle.bsc_node.specs.Links.{beginning_of, begins, is_over_by, life, is_there, was_taken, start, initiating_event, accepting_event, initiating_events, accepting_events}
 use Rattle.bsc_node.specs.Hubs.{hub_event_of, hub_events, is_dropped}
-use Rattle.bsc_node.specs.Ways.{slot_call_of, slot_calls, resolve_call_of, resolve_calls, is_claim_of, tries}
+use Rattle.bsc_node.specs.Ways.{is_claim_of, tries}
 use Rattle.bsc_node.specs.Meeting.{is_renewal, is_accept_of_hub, renewals, hub_message_of, refusing_side}
 use Rattle.bsc_node.proofs.Told.{life-more}
+use Rattle.bsc_lemmas.proofs.Lists.{filter_map_none as filter-kept}
+use Rattle.bsc_node.proofs.Common.{hub_events-kept}
 
 -- ---- looking back
 
@@ -43,13 +45,6 @@ count-kept test xs x h = count_by-more test xs x ∙ ap (λ (b : Bool). count_by
 
 pub count-one_more : {A : Type 0} (test : A → Bool) (xs : List A) (x : A) → test x ≡ true → count_by test (xs ++ x ∷ []) ≡ count_by test xs + 1
 count-one_more test xs x h = count_by-more test xs x ∙ ap (λ (b : Bool). count_by test xs + cond b 1 0) h
-
-pub filter-kept : {A B : Type 0} (f : A → Option B) (xs : List A) (x : A) → f x ≡ None → filter_map f (xs ++ x ∷ []) ≡ filter_map f xs
-filter-kept f xs x h = filter_map-append f xs (x ∷ []) ∙ ap (λ ys. filter_map f xs ++ ys) (rw h refl) ∙ append-none (filter_map f xs)
-  where
-    append-none : {C : Type 0} (ys : List C) → ys ++ [] ≡ ys
-    append-none [] = refl
-    append-none (y ∷ ys) = ap (λ zs. y ∷ zs) (append-none ys)
 
 pub filter-one_more : {A B : Type 0} (f : A → Option B) (xs : List A) (x : A) (y : B) → f x ≡ Some y → filter_map f (xs ++ x ∷ []) ≡ filter_map f xs ++ y ∷ []
 filter-one_more f xs x y h = filter_map-append f xs (x ∷ []) ∙ ap (λ ys. filter_map f xs ++ ys) (rw h refl)
@@ -81,15 +76,6 @@ pub refusing-kept : (L : Log) (m : Line) → hub_message_of m ≡ None → refus
 refusing-kept L m h = newest-kept hub_message_of L m h
 
 -- ---- the parts
-
-pub hub_events-kept : (L : Log) (m : Line) → hub_event_of m ≡ None → hub_events (L ++ m ∷ []) ≡ hub_events L
-hub_events-kept L m h = filter-kept hub_event_of L m h
-
-pub slot_calls-kept : (L : Log) (m : Line) → slot_call_of m ≡ None → slot_calls (L ++ m ∷ []) ≡ slot_calls L
-slot_calls-kept L m h = filter-kept slot_call_of L m h
-
-pub resolve_calls-kept : (L : Log) (m : Line) → resolve_call_of m ≡ None → resolve_calls (L ++ m ∷ []) ≡ resolve_calls L
-resolve_calls-kept L m h = filter-kept resolve_call_of L m h
 
 pub dropped-kept : (L : Log) (m : Line) → begins (Hub Failover) m ≡ false → hub_event_of m ≡ None → is_dropped Failover (L ++ m ∷ []) ≡ is_dropped Failover L
 dropped-kept L m h g = ap (λ ys. list_any (λ (e : HubEvent). Sides.connects Primary e.event) (hub_events ys)) (life-more L m (Hub Failover) h)

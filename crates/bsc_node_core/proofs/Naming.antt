@@ -38,24 +38,14 @@ use Rattle.bsc_initiate.proofs.Looking.{standing-more}
 use Rattle.bsc_node.specs.Links.{accepts_by, asks_by, request, who_accepted, who_asked}
 use Rattle.bsc_node_core.specs.Machines.{may_tell_dialled, may_tell_taken, dialled_peer, taken_peer}
 use Rattle.bsc_node_core.specs.Standing.{AcceptStands, AskStands}
+use Rattle.bsc_connector.proofs.Common.{first_of-more as first-more}
+use Rattle.bsc_node.proofs.Common.{accepted-kept, asked-kept}
 
 -- ---- looking for the first
-
-or_none : {A : Type 0} (o : Option A) → option_or o None ≡ o
-or_none (Some y) = refl
-or_none None = refl
-
-or_assoc : {A : Type 0} (a b c : Option A) → option_or a (option_or b c) ≡ option_or (option_or a b) c
-or_assoc (Some z) b c = refl
-or_assoc None b c = refl
 
 or_some : {A : Type 0} (o p : Option A) → is_some o ≡ true → option_or o p ≡ o
 or_some (Some x) p h = refl
 or_some None p h = absurd (false≢true h)
-
-pub first-more : {A B : Type 0} (f : A → Option B) (xs : List A) (x : A) → first_of f (xs ++ x ∷ []) ≡ option_or (first_of f xs) (f x)
-first-more f [] x = or_none (f x)
-first-more f (y ∷ xs) x = ap (λ o. option_or (f y) o) (first-more f xs x) ∙ or_assoc (f y) (first_of f xs) (f x)
 
 -- ---- a link that was dialled
 
@@ -82,14 +72,6 @@ accepted-stays E e h = accepted-more E e ∙ by (request E) h
 
 still-accepted : (E : List InitEvent) (e : InitEvent) → is_some (who_accepted E) ≡ true → is_some (who_accepted (E ++ e ∷ [])) ≡ true
 still-accepted E e h = ap is_some (accepted-stays E e h) ∙ h
-
--- What is no request and accepts none changes nothing.
-accepted-kept : (E : List InitEvent) (e : InitEvent) → request_at e ≡ None → ((id : ℕ) → accepts_by id e ≡ None) → who_accepted (E ++ e ∷ []) ≡ who_accepted E
-accepted-kept E e r n = accepted-more E e ∙ ap (λ o. accepted_by E e (option_or (request E) o)) r ∙ ap (accepted_by E e) (or_none (request E)) ∙ by (request E)
-  where
-    by : (o : Option ℕ) → accepted_by E e o ≡ option_and_then (λ id. first_of (accepts_by id) E) o
-    by None = refl
-    by (Some id) = ap (λ p. option_or (first_of (accepts_by id) E) p) (n id) ∙ or_none (first_of (accepts_by id) E)
 
 -- who accepted, where the request has this Message ID and wasn't accepted before
 accepted-at : (E : List InitEvent) (e : InitEvent) (id : ℕ) → request E ≡ Some id → first_of (accepts_by id) E ≡ None → who_accepted (E ++ e ∷ []) ≡ accepts_by id e
@@ -224,9 +206,6 @@ asked-stays E e h = first-more asks_by E e ∙ or_some (who_asked E) (asks_by e)
 
 still-asked : (E : List Event) (e : Event) → is_some (who_asked E) ≡ true → is_some (who_asked (E ++ e ∷ [])) ≡ true
 still-asked E e h = ap is_some (asked-stays E e h) ∙ h
-
-asked-kept : (E : List Event) (e : Event) → asks_by e ≡ None → who_asked (E ++ e ∷ []) ≡ who_asked E
-asked-kept E e n = first-more asks_by E e ∙ ap (λ o. option_or (who_asked E) o) n ∙ or_none (who_asked E)
 
 asked-first : (E : List Event) (e : Event) → who_asked E ≡ None → who_asked (E ++ e ∷ []) ≡ asks_by e
 asked-first E e h = first-more asks_by E e ∙ ap (λ o. option_or o (asks_by e)) h

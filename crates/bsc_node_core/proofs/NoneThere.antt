@@ -21,6 +21,7 @@ use Rattle.bsc_node_core.specs.Tables.{kept_in, link_at, is_name}
 use Rattle.bsc_node_core.specs.Standing.{Base, Stands}
 use Rattle.bsc_node_core.proofs.Branching.{when-so, when-not}
 use Rattle.bsc_node_core.proofs.Wants.{told-stands}
+use Rattle.bsc_lemmas.proofs.Booleans.{and_false}
 
 -- ---- two tests that agree on names
 
@@ -86,10 +87,6 @@ pub finished-told : (b : Base) (out later : List Action) (s : State) (L : Log) �
 finished-told b out later s L t f n h =
     when-so (λ M. Stands b later s M) L (λ M. is_finishing M && none_there M) (tells Finished) (ap (λ c. c && none_there L) (h.finishing ∙ f) ∙ none-there-kept b out s L h ∙ n)
     (told-stands b out later s L _ Finished t refl h)
-
-and_false : (b : Bool) → (b && false) ≡ false
-and_false true = refl
-and_false false = refl
 
 pub links-left : (b : Base) (out : List Action) (s : State) (L : Log) → not (list_any (λ name. says_there (link_at s.links name).machine) names) ≡ false → Stands b out s L → Stands b out s (L ++ tells_finished L)
 links-left b out s L n h =

@@ -1,5 +1,5 @@
 -- The place of a message that comes over a link is that of the log.
-use Rattle.std.proofs.Common.{◌≡◌, ℕ, Bool, true, false, ◌&&◌, ◌||◌, List, Option, None, unwrap_or, refl, ap, sym, ◌∙◌}
+use Rattle.std.proofs.Common.{◌≡◌, ℕ, Bool, true, ◌||◌, List, Option, None, unwrap_or, refl, ap, sym, ◌∙◌}
 use Rattle.std.specs.Option.{option_map}
 use Rattle.std.proofs.lemmas.Bool.{false≢true}
 use Rattle.bsc_octets.specs.declared.vmac.Vmac.{Vmac}
@@ -34,6 +34,7 @@ use Rattle.bsc_node_core.specs.Machines.{says_there, is_fit, is_at_rest, phase_k
 use Rattle.bsc_node_core.specs.Tables.{Kept, link_at, is_name, place_kept}
 use Rattle.bsc_node_core.specs.Standing.{Base, MachineStands, Stands}
 use Rattle.bsc_node_core.proofs.Settling.{at-rest}
+use Rattle.bsc_lemmas.proofs.Booleans.{and_left}
 
 phase-dialled : (waits : Stage) → IN.phase_at waits ≡ I.phase_named (IK.standing_at waits)
 phase-dialled AwaitingWebsocket = refl
@@ -60,10 +61,6 @@ phase-is a busy L name (Taken m) r t f h =
     phase-taken m.stage ∙ ap A.phase_named (sym (AF.standing_of_open m (start a L name) (accepting_events L name) h.machine f))
     ∙ ap (λ (taken : Bool). phase_by taken L name) (sym h.taken)
 phase-is a busy L name (Asked m) r t f h = absurd (false≢true r)
-
-and_left : (b c : Bool) → (b && c) ≡ true → b ≡ true
-and_left true c h = refl
-and_left false c h = absurd (false≢true h)
 
 place-by : (own : Vmac) (a : Made) (L : Log) (name : LinkName) (l : Kept) → own ≡ own_vmac a L → phase_kept l.machine ≡ phase L name → peer L name ≡ l.peer → place_kept own name l ≡ place a L name
 place-by own a L (Hub s) l o p e = ap (λ (v : Vmac). NodeHub v (phase_kept l.machine)) o ∙ ap (λ (x : Phase). NodeHub (own_vmac a L) x) p

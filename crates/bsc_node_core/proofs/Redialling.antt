@@ -1,5 +1,5 @@
 -- What the connector's newest step brings about, line by line.
-use Rattle.std.proofs.Common.{◌≡◌, Bool, true, false, not, ◌&&◌, List, [], ◌∷◌, ◌++◌, refl, ap, sym, ◌∙◌}
+use Rattle.std.proofs.Common.{◌≡◌, Bool, true, false, not, List, [], ◌∷◌, ◌++◌, refl, ap, sym, ◌∙◌}
 use Rattle.std.specs.Prelude.{unwrap_or}
 use Rattle.std.proofs.lemmas.List.{append-nil}
 use Rattle.bsc_accept.specs.Steps.{normal}
@@ -8,7 +8,6 @@ use Rattle.bsc_connector.specs.declared.hub_use.HubUse.{HubUse}
 use Rattle.bsc_connector.specs.declared.hub_use.HubUse.TheVariants.{NoHub}
 use Rattle.bsc_connector.specs.declared.event.ConnectorEvent.{ConnectorEvent}
 use Rattle.bsc_connector.specs.declared.event.HubEvent.{HubEvent}
-use Rattle.bsc_connector.specs.declared.step.ConnectorStep.{ConnectorStep}
 use Rattle.bsc_connector.specs.Back.{at_last}
 use Rattle.bsc_connector.specs.Sides as Sides
 use Rattle.bsc_connector.specs.Steps.{connector_step}
@@ -16,17 +15,18 @@ use Rattle.bsc_node.specs.declared.link_name.LinkName.TheVariants.{Hub}
 use Rattle.bsc_node.specs.declared.note.Note.TheVariants.{HubNow}
 use Rattle.bsc_node.specs.declared.action.Action.{Action}
 use Rattle.bsc_node.specs.declared.action.Action.TheVariants.{Tell, Dial, Close}
-use Rattle.bsc_node.specs.Logs.{Made, connector, did, Log, Rule, now, nothing, if_so, in_order, when, does, tells, is_finishing}
+use Rattle.bsc_node.specs.Logs.{Made, connector, did, Log, Rule, now, nothing, if_so, in_order, when, does, tells}
 use Rattle.bsc_node.specs.Links.{is_there}
 use Rattle.bsc_node.specs.Hubs.{waits, hub_event_of, hub_events, hub_use, hub_use_before, newest_step, no_step, told, same_use}
 use Rattle.bsc_node.specs.Ending.{dials, dials_primary, dials_failover, tells_use}
 use Rattle.bsc_node.proofs.Told.{at_last-more}
 use Rattle.bsc_node_core.specs.declared.state.State.{State}
 use Rattle.bsc_node_core.specs.Standing.{Base, Stands}
-use Rattle.bsc_node_core.proofs.More.{hub_events-kept, filter-one_more}
+use Rattle.bsc_node_core.proofs.More.{filter-one_more}
 use Rattle.bsc_node_core.proofs.Asking.{two-in-order}
 use Rattle.bsc_node_core.proofs.Branching.{when-so, when-not}
 use Rattle.bsc_node_core.proofs.Wants.{told-stands}
+use Rattle.bsc_node.proofs.Common.{hub_events-kept}
 
 -- ---- what tells the connector nothing
 
@@ -78,15 +78,6 @@ use_before-told L event =
     ∙ at_last-more (λ (E : List HubEvent) (x : HubEvent). Sides.hub_use E) NoHub (hub_events L) e
 
 -- ---- the dials
-
-both : (a b c d : Bool) → a ≡ c → b ≡ d → (a && not b) ≡ (c && not d)
-both a b c d p q = ap (λ x. x && not b) p ∙ ap (λ x. c && not x) q
-
-dials-primary : (b : Base) (out : List Action) (s : State) (L : Log) (step : ConnectorStep) → newest_step b.made L ≡ step → Stands b out s L → dials b.made Primary L ≡ (step.dial_primary && not s.finishing)
-dials-primary b out s L step e h = both (newest_step b.made L).dial_primary (is_finishing L) step.dial_primary s.finishing (ap (λ (x : ConnectorStep). x.dial_primary) e) h.finishing
-
-dials-failover : (b : Base) (out : List Action) (s : State) (L : Log) (step : ConnectorStep) → newest_step b.made L ≡ step → Stands b out s L → dials b.made Failover L ≡ (step.dial_failover && not s.finishing)
-dials-failover b out s L step e h = both (newest_step b.made L).dial_failover (is_finishing L) step.dial_failover s.finishing (ap (λ (x : ConnectorStep). x.dial_failover) e) h.finishing
 
 -- ---- the hub in use
 

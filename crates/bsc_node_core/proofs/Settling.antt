@@ -12,6 +12,7 @@ use Rattle.bsc_node_core.specs.Machines.{says_there, is_at_rest}
 use Rattle.bsc_node_core.specs.Tables.{Kept, link_at, is_name}
 use Rattle.bsc_node_core.specs.Standing.{Base, HaveCome, MachineStands, LinkStands, Stands}
 use Rattle.bsc_node_core.specs.Telling.{busy_with}
+use Rattle.std.proofs.lemmas.Option.{none-some as none≢some}
 
 -- A machine at rest stands whatever is busy.
 machine-at-rest : (a : Made) (busy other : Option LinkName) (L : Log) (name : LinkName) (machine : Machine) → is_at_rest machine ≡ true → MachineStands a busy L name machine → MachineStands a other L name machine
@@ -23,9 +24,6 @@ machine-at-rest a busy other L name (Asked m) r h = absurd (false≢true r)
 
 pub link-at-rest : (a : Made) (busy other : Option LinkName) (L : Log) (name : LinkName) (l : Kept) → is_at_rest l.machine ≡ true → LinkStands a busy L name l → LinkStands a other L name l
 link-at-rest a busy other L name l r h = record { there = h.there; machine = machine-at-rest a busy other L name l.machine r h.machine; peer = h.peer }
-
-none≢some : {A : Type 0} (x : A) → None ≡ Some x → ⊥
-none≢some x h = cc
 
 -- A machine that is over, or that has asked, is that of the busy link.
 pub busy-or-at-rest : (a : Made) (busy : Option LinkName) (L : Log) (name : LinkName) (machine : Machine) → (busy ≡ Some name → is_at_rest machine ≡ true) → MachineStands a busy L name machine → is_at_rest machine ≡ true

@@ -10,10 +10,9 @@ use Rattle.bsc_frame.specs.declared.message.Message.{Message}
 use Rattle.bsc_frame.specs.declared.answer.Answer.{Answer}
 use Rattle.bsc_frame.specs.declared.body.Body.{Body}
 use Rattle.bsc_frame.specs.declared.body.Body.TheVariants.{ConnectRequest, ConnectAccept, DisconnectRequest, DisconnectAck, HeartbeatRequest, HeartbeatAck, Proprietary}
-use Rattle.bsc_connector.specs.declared.side.Side.{Side}
 use Rattle.bsc_resolve.specs.declared.resolve.Resolve.{Resolve}
 use Rattle.bsc_node.specs.declared.link_name.LinkName.{LinkName}
-use Rattle.bsc_node.specs.declared.link_name.LinkName.TheVariants.{Hub, Direct}
+use Rattle.bsc_node.specs.declared.link_name.LinkName.TheVariants.{Direct}
 use Rattle.bsc_node.specs.declared.node_limits.NodeLimits.{NodeLimits}
 use Rattle.bsc_node.specs.declared.delivered.Delivered.{Delivered}
 use Rattle.bsc_node.specs.declared.action.Action.{Action}
@@ -28,9 +27,6 @@ use Rattle.bsc_node_core.proofs.Lines.{IsQuiet, quiet-stands}
 use Rattle.bsc_node_core.proofs.Asking.{both-still}
 
 -- ---- who sent it
-
-pub hub-sender : (name : LinkName) (s : Side) (msg : Message) (origin : Option Vmac) (L : Log) → name ≡ Hub s → msg.origin ≡ origin → sender name msg L ≡ origin
-hub-sender name s msg origin L n o = ap (λ x. sender x msg L) n ∙ o
 
 abbrev vmac_of : Option Identity → Option Vmac
 vmac_of known = option_map (λ (who : Identity). who.vmac) known

@@ -1,5 +1,5 @@
 -- What a node keeps goes on standing for its log, where a link's machine is told something and that is obeyed.
-use Rattle.std.proofs.Common.{◌≡◌, Bool, true, false, not, ◌&&◌, List, [], ◌∷◌, ◌++◌, Option, Some, None, refl, ap, sym, ◌∙◌, subst}
+use Rattle.std.proofs.Common.{◌≡◌, true, false, not, List, [], ◌∷◌, ◌++◌, Option, Some, None, ap, sym, ◌∙◌, subst}
 use Rattle.std.proofs.lemmas.Bool.{false≢true}
 use Rattle.std.proofs.lemmas.List.{append-nil}
 use Rattle.bsc_octets.specs.Addresses.{broadcast, same_vmac}
@@ -31,6 +31,7 @@ use Rattle.bsc_node_core.proofs.Asking.{both-still}
 use Rattle.bsc_node_core.proofs.Branching.{when-so}
 use Rattle.bsc_node_core.proofs.Carrying.{two-is}
 use Rattle.bsc_node_core.proofs.Settling.{settles}
+use Rattle.bsc_lemmas.proofs.Booleans.{second_of_three_not as dialled-by}
 
 -- Two rules, one after the other.
 pub two-then : (P : Log → Type 0) (L : Log) (first second : Rule) → P ((L ++ first L) ++ second (L ++ first L)) → P (L ++ in_order (first ∷ second ∷ []) L)
@@ -43,11 +44,6 @@ unmet u who c e = absurd (false≢true (sym (ap is_calm e) ∙ c))
 
 pub unmet-ticked : (a : Made) (name : LinkName) (L : Log) (who : Identity) → outcome a (L ++ ticks name L) name ≡ meets who → same_vmac who.vmac broadcast ≡ false
 unmet-ticked a name L who e = unmet (outcome a (L ++ ticks name L) name) who (calm-ticked a name L) e
-
-dialled-by : (t f o : Bool) → (t && not f && o) ≡ true → f ≡ false
-dialled-by true false o h = refl
-dialled-by true true o h = absurd (false≢true h)
-dialled-by false f o h = absurd (false≢true h)
 
 pub unmet-opened : (a : Made) (name : LinkName) (L : Log) (who : Identity) → is_dialling name L ≡ true → outcome a (L ++ opens name L) name ≡ meets who → same_vmac who.vmac broadcast ≡ false
 unmet-opened a name L who d e =

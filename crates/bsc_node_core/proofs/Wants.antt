@@ -24,7 +24,6 @@ use Rattle.std.specs.List.{range_with_len}
 use Rattle.std.specs.Option.{option_map}
 use Rattle.std.proofs.lemmas.Bool.{lt-ltb}
 use Rattle.bsc_direct.specs.Slots.{slots}
-use Rattle.bsc_direct.proofs.OneMore.{some_none, some_same}
 use Rattle.bsc_node_core.specs.declared.way.Way as Core
 use Rattle.bsc_connector.specs.declared.hub_use.HubUse.TheVariants.{NoHub, Primary, Failover}
 use Rattle.bsc_connector.specs.declared.side.Side.TheVariants.{Primary as PrimarySide, Failover as FailoverSide}
@@ -37,6 +36,8 @@ use Rattle.bsc_node_core.specs.Tables.{link_at, is_name}
 use Rattle.bsc_node_core.specs.Rules.{way_by, way_of}
 use Rattle.bsc_node_core.specs.Standing.{Base, Stands}
 use Rattle.bsc_node_core.proofs.Lines.{IsQuiet, quiet-stands}
+use Rattle.bsc_lemmas.proofs.Options.{some_none_any as some_none}
+use Rattle.std.proofs.lemmas.Option.{same_Some as some_same}
 
 pub tell-quiet : (note : Note) → IsQuiet (Tell note)
 tell-quiet note = record { begins = λ name. refl; over = λ name. refl; number = refl }

@@ -1,7 +1,7 @@
 -- The words of a text, read octet by octet.
-use Rattle.std.proofs.Common.{◌≡◌, ℕ, suc, ◌+◌, ◌<◌, ◌≤◌, Bool, true, false, List, [], ◌∷◌, ◌++◌, length, drop, take, Option, Some, None, refl, ap, sym, ◌∙◌, arith}
+use Rattle.std.proofs.Common.{◌≡◌, ℕ, suc, ◌+◌, ◌<◌, ◌≤◌, true, false, List, [], ◌∷◌, ◌++◌, length, drop, take, Option, refl, ap, sym, ◌∙◌, arith}
 use Rattle.std.specs.Prelude.{◌-◌, ◌==◌, filter, slice_get}
-use Rattle.std.proofs.Math.ListN.{get_or, drop_of_length-le}
+use Rattle.std.proofs.Math.ListN.{get_or}
 use Rattle.std.proofs.Math.Seq.{drop-cons, take-suc}
 use Rattle.std.proofs.lemmas.List.{get_or-drop, length-drop}
 use Rattle.bsc_node.specs.Ways.{is_dialled, words_with}
@@ -25,27 +25,11 @@ uri_after word cs n = slice_get (filter is_dialled (words_with word cs)) n
 pub more-of-word : (word cs : List ℕ) (c n : ℕ) → (c == 0x20) ≡ false → uri_after word (c ∷ cs) n ≡ uri_after (word ++ c ∷ []) cs n
 more-of-word word cs c n h = ap (λ ws. slice_get (filter is_dialled ws) n) (within word cs c h)
 
-pub found-word : (word cs : List ℕ) → is_dialled word ≡ true → uri_after word (0x20 ∷ cs) 0 ≡ Some word
-found-word word cs h = rw h refl
-
 pub next-word : (word cs : List ℕ) (n : ℕ) → is_dialled word ≡ true → uri_after word (0x20 ∷ cs) (suc n) ≡ uri_after [] cs n
 next-word word cs n h = rw h refl
 
 pub other-word : (word cs : List ℕ) (n : ℕ) → is_dialled word ≡ false → uri_after word (0x20 ∷ cs) n ≡ uri_after [] cs n
 other-word word cs n h = rw h refl
-
-pub last-found : (word : List ℕ) → is_dialled word ≡ true → uri_after word [] 0 ≡ Some word
-last-found word h = rw h refl
-
-pub last-other : (word : List ℕ) (n : ℕ) → is_dialled word ≡ false → uri_after word [] n ≡ None
-last-other word n h = rw h refl
-
-pub last-past : (word : List ℕ) (n : ℕ) → uri_after word [] (suc n) ≡ None
-last-past word n = by (is_dialled word) refl
-  where
-    by : (b : Bool) → is_dialled word ≡ b → uri_after word [] (suc n) ≡ None
-    by true h = rw h refl
-    by false h = rw h refl
 
 -- ---- a text, read up to a place
 
@@ -89,14 +73,6 @@ at_space text number start end left d r w c =
     ∙ ap (λ cs. uri_after (word_between text start end) cs left) (octet_first text end d w)
     ∙ ap (λ x. uri_after (word_between text start end) (x ∷ drop (end + 1) text) left) c
 
-pub read-found : (text : List ℕ) (number start end left d : ℕ) → IsRead text number start end left → end < length text → get_or text end d ≡ 0x20 → is_dialled (word_between text start end) ≡ true → left ≡ 0
-    → Some (word_between text start end) ≡ uri_after [] text number
-read-found text number start end left d r w c h z =
-    sym
-    (at_space text number start end left d r w c
-    ∙ ap (λ n. uri_after (word_between text start end) (0x20 ∷ drop (end + 1) text) n) z
-    ∙ found-word (word_between text start end) (drop (end + 1) text) h)
-
 pub read-next : (text : List ℕ) (number start end left d : ℕ) → IsRead text number start end left → end < length text → get_or text end d ≡ 0x20 → is_dialled (word_between text start end) ≡ true → 0 < left
     → IsRead text number (end + 1) (end + 1) (left - 1)
 read-next text number start end left d r w c h p =
@@ -118,18 +94,3 @@ read-other text number start end left d r w c h = (
 )
 
 -- ---- the last word
-
-at_end : (text : List ℕ) (number start end left : ℕ) → IsRead text number start end left → length text ≤ end → uri_after [] text number ≡ uri_after (word_between text start end) [] left
-at_end text number start end left r w = r.1 ∙ ap (λ cs. uri_after (word_between text start end) cs left) (drop_of_length-le text w)
-
-pub read-last : (text : List ℕ) (number start end left : ℕ) → IsRead text number start end left → length text ≤ end → is_dialled (word_between text start end) ≡ true → left ≡ 0 → Some (word_between text start end) ≡ uri_after [] text number
-read-last text number start end left r w h z =
-    sym (at_end text number start end left r w ∙ ap (λ n. uri_after (word_between text start end) [] n) z ∙ last-found (word_between text start end) h)
-
-pub read-none : (text : List ℕ) (number start end left : ℕ) → IsRead text number start end left → length text ≤ end → is_dialled (word_between text start end) ≡ false → None ≡ uri_after [] text number
-read-none text number start end left r w h = sym (at_end text number start end left r w ∙ last-other (word_between text start end) left h)
-
-pub read-past : (text : List ℕ) (number start end left : ℕ) → IsRead text number start end left → length text ≤ end → 0 < left → None ≡ uri_after [] text number
-read-past text number start end left r w p =
-    let e : left ≡ suc (left - 1) = omega (arith, p) in
-    sym (at_end text number start end left r w ∙ ap (λ n. uri_after (word_between text start end) [] n) e ∙ last-past (word_between text start end) (left - 1))

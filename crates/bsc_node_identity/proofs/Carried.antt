@@ -1,5 +1,5 @@
 -- The octets of a message that was put say that message, and so does what the hub passes on of it.
-use Rattle.std.proofs.Common.{◌≡◌, ◌<◌, inl, inr, ℕ, Bool, true, false, not, cond, ◌&&◌, ◌||◌, List, [], ◌∷◌, ◌++◌, length, Option, Some, None, refl, ap, sym, ◌∙◌, arith}
+use Rattle.std.proofs.Common.{◌≡◌, ◌<◌, inl, inr, ℕ, Bool, true, false, not, cond, ◌&&◌, List, [], ◌∷◌, ◌++◌, length, Option, Some, None, refl, ap, sym, ◌∙◌, arith}
 use Rattle.std.specs.Prelude.{◌^◌, ◌==◌, if◌then◌else◌, bit_or, bit_and}
 use Rattle.byteorder.specs.Endian.{big_bytes}
 use Rattle.bsc_octets.specs.Addresses.{same_vmac, broadcast}
@@ -24,11 +24,10 @@ use Rattle.bsc_verdict.specs.Outcomes.{message_in, answered, refused, accepted, 
 use Rattle.bsc_node.specs.Messages.{message, message_octets}
 use Rattle.bsc_node_identity.specs.Naming.{named_by, ConnectsNameTheirPeer, OthersNameNobody}
 use Rattle.bsc_node_identity.specs.Carried.{IsCarriedOn, IsCarriedPlainly}
+use Rattle.bsc_checks.proofs.Common.{pass_same as same_pass}
+use Rattle.std.proofs.lemmas.Bool.{or_parts as either_clear}
 
 -- ---- what passes is what the octets say
-
-same_pass : (x y : Message) → Pass x ≡ Pass y → x ≡ y
-same_pass x y h = cc
 
 said_answered : (b : Bool) (m : List ℕ) (place : Place) (check : Check) (code : ℕ) (msg : Message) → answered b m place check code ≡ Pass msg → message_in m ≡ msg
 said_answered true m place check code msg h = cc
@@ -126,10 +125,6 @@ connects_name_their_peer who o place max msg node (id, inr is) h =
 nobody_if : (b : Bool) (x y : Body) → (b ≡ true → named_by x ≡ None) → named_by y ≡ None → named_by (cond b x y) ≡ None
 nobody_if true x y p q = p refl
 nobody_if false x y p q = q
-
-either_clear : (p q : Bool) → (p || q) ≡ false → (p ≡ false) × (q ≡ false)
-either_clear false q h = (refl, h)
-either_clear true q h = cc
 
 nobody_in : (f : ℕ) (p : List ℕ) → (f == 0x06) ≡ false → (f == 0x07) ≡ false → named_by (body_in f p) ≡ None
 nobody_in f p request accept =

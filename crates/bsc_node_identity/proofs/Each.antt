@@ -6,7 +6,7 @@ use Rattle.std.proofs.lemmas.List.{append_assoc, append-nil}
 use Rattle.bsc_node.specs.declared.action.Action.{Action}
 use Rattle.bsc_node.specs.Logs.{Line, did, Log, Rule, nothing, in_order, if_so, either, when, with_some, action_of}
 use Rattle.bsc_node.proofs.Order.{in_order-brought, in_order-cons}
-use Rattle.bsc_node.proofs.Following.{and_left, and_right}
+use Rattle.bsc_lemmas.proofs.Booleans.{and_left, and_right}
 
 -- What may be said of a line behind a log.
 abbrev pub Saying : Type 1

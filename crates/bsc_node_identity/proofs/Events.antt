@@ -7,7 +7,7 @@ use Rattle.std.proofs.lemmas.List.Folds.{list_any-append}
 use Rattle.bsc_octets.specs.declared.vmac.Vmac.{Vmac}
 use Rattle.bsc_octets.specs.declared.identity.Identity.{Identity}
 use Rattle.bsc_direct.specs.declared.call.SlotCall.TheVariants.{Up}
-use Rattle.bsc_direct.proofs.OneMore.{some_none, both_ways, some_same}
+use Rattle.bsc_direct.proofs.OneMore.{both_ways}
 use Rattle.bsc_node.specs.declared.link_name.LinkName.{LinkName}
 use Rattle.bsc_node.specs.declared.link_name.LinkName.TheVariants.{Hub, Direct}
 use Rattle.bsc_node.specs.declared.timed_event.TimedEvent.{TimedEvent}
@@ -20,7 +20,7 @@ use Rattle.bsc_node.specs.Events.{follows}
 use Rattle.bsc_node.specs.Node.{goes_on, actions_at, log}
 use Rattle.bsc_node.specs.Conditions.{may_come, may_all_come, fits}
 use Rattle.bsc_node.specs.Laws.{with_event, with_heard}
-use Rattle.bsc_node.proofs.Following.{goes_on-is, and_right}
+use Rattle.bsc_node.proofs.Following.{goes_on-is}
 use Rattle.std.specs.Option.{option_map, option_or}
 use Rattle.bsc_frame.specs.declared.message.Message.{Message}
 use Rattle.bsc_checks.specs.declared.verdict.Verdict.TheVariants.{Pass}
@@ -36,6 +36,10 @@ use Rattle.bsc_node_identity.proofs.Followed.{each-why, has-heard}
 use Rattle.bsc_node_identity.proofs.OneMore.{own_vmac-same, established-same, initiating-same, accepting-same, open-stays}
 use Rattle.bsc_node_identity.proofs.Lines.{renewal_none, begun-why, begun-no_call, Stays, established-before, peer-before, peer-begun, learnt-before, learnt-event}
 use Rattle.bsc_node_identity.proofs.Settled.{VmacsStand, Settled, kept, begun-alone, opens-unaccepted, vmac-event, keep-vmac, settled-log, settled-at_first, settled-goes_on, lasting}
+use Rattle.bsc_lemmas.proofs.Booleans.{and_right}
+use Rattle.bsc_lemmas.proofs.Options.{some_none_any as some_none}
+use Rattle.std.proofs.lemmas.Bool.{or_from as or_both}
+use Rattle.std.proofs.lemmas.Option.{same_Some as some_same}
 
 -- ---- who a node says it is
 
@@ -233,10 +237,6 @@ sender-was_peer a L e s may k o msg from is passed nobody plain h =
     by (Some who) there g = (who, peer-was a L e s may k o msg who is passed nobody there, sym (some_same who.vmac from g))
 
 -- ---- since when
-
-or_both : (p q : Bool) → p ≡ false → q ≡ false → (p || q) ≡ false
-or_both false q g h = h
-or_both true q g h = cc
 
 was_named : (a : Made) (L : Log) (e : TimedEvent) (name : LinkName) (who : Identity) → WasNamed a L name who → list_any (begins name) (goes_on a e L) ≡ false → WasNamed a (L ++ goes_on a e L) name who
 was_named a L e name who w unbegun = record {

@@ -1,6 +1,6 @@
 -- Each line that follows from an event that may come has its reason.
-use Rattle.std.proofs.Common.{◌≡◌, inl, inr, ℕ, Bool, true, false, not, ◌&&◌, List, [], ◌∷◌, ◌++◌, Option, Some, None, refl, ap, sym, ◌∙◌, subst}
-use Rattle.std.specs.Prelude.{◌==◌, IsTrue, nat_lt, slice_get}
+use Rattle.std.proofs.Common.{◌≡◌, inl, inr, ℕ, Bool, true, false, not, List, [], ◌∷◌, ◌++◌, Option, Some, None, refl, ap, sym, ◌∙◌, subst}
+use Rattle.std.specs.Prelude.{IsTrue, slice_get}
 use Rattle.std.specs.Option.{option_and_then}
 use Rattle.bsc_octets.specs.declared.vmac.Vmac.{Vmac}
 use Rattle.bsc_octets.specs.declared.identity.Identity.{Identity}
@@ -31,13 +31,12 @@ use Rattle.bsc_node.specs.declared.node_event.NodeEvent.TheVariants.{Start, Open
 use Rattle.bsc_node.specs.declared.timed_event.TimedEvent.{TimedEvent}
 use Rattle.bsc_node.specs.declared.note.Note.TheVariants.{DirectUp, NoDirect, NoUris, SlotsFull, Uris, Advert as ToldAdvert}
 use Rattle.bsc_node.specs.declared.action.Action.TheVariants.{Dial, Take, Refuse, Put, Close, Draw}
-use Rattle.bsc_node.specs.Logs.{Made, came, did, slot, initiating, accepting, resolution, is_finishing, Log, Rule, nothing, in_order, either, where_found, does, tells, now, next_id}
-use Rattle.bsc_node.specs.Links.{is_over_by_event, is_there, none_there, was_taken, start, accepting_events, peer, verdict, by_machine, opens, hears, Outcome, puts, meets, is_refused, passes_up, outcome}
+use Rattle.bsc_node.specs.Logs.{Made, came, did, slot, initiating, accepting, resolution, Log, Rule, nothing, in_order, either, where_found, does, tells, now, next_id}
+use Rattle.bsc_node.specs.Links.{is_over_by_event, is_there, was_taken, start, accepting_events, peer, verdict, by_machine, opens, hears, Outcome, puts, meets, is_refused, passes_up, outcome}
 use Rattle.bsc_node.specs.Hubs.{is_tried}
 use Rattle.bsc_node.specs.Ways.{free_slot, wanted, next_uri, established, learnt, uris_to_dial, awaits, awaits_peer, establish, slots_see, resolution_sees, tries}
 use Rattle.bsc_node.specs.Ending.{carries_out_by, carries_out, tells_connector, ends, closes_link}
-use Rattle.bsc_node.specs.Messages.{duplicate_vmac_code}
-use Rattle.bsc_node.specs.Meeting.{joins, wrong_peer, finishes_replaced, comes_up, meets_dialled, meets_taken, meets_slot, meets_direct, meets_peer, is_hub, tells_refusal, may_draw, is_refused_by, renewals, renews, keeps_vmac}
+use Rattle.bsc_node.specs.Meeting.{joins, wrong_peer, finishes_replaced, comes_up, meets_dialled, meets_taken, meets_slot, meets_direct, meets_peer, tells_refusal, may_draw, is_refused_by, renews, keeps_vmac}
 use Rattle.bsc_node.specs.Receiving.{sender, is_for_all, answer_dest, answers, answers_by, learns, takes_body, delivers}
 use Rattle.bsc_node.specs.Requesting.{dials_first, directs, sends, resolves, solicits}
 use Rattle.bsc_node.specs.Events.{obeys_by, obeys, dial_fails, arrives, time_passes, is_to_end, follows}
@@ -45,7 +44,7 @@ use Rattle.bsc_node.specs.Conditions.{has_opened, fits, may_come}
 use Rattle.bsc_node.specs.Laws.{with_event, with_heard}
 use Rattle.bsc_node.proofs.Passing.{pass-in_order, pass-found, pass-when, pass-nothing}
 use Rattle.bsc_node.proofs.Told.{outcome-initiating, outcome-accepting}
-use Rattle.bsc_node.proofs.Following.{and_left, and_right, opened-dialled}
+use Rattle.bsc_node.proofs.Following.{opened-dialled}
 use Rattle.bsc_node.proofs.Lasting.{event_fits}
 use Rattle.bsc_node.proofs.Delivering.{up-came}
 use Rattle.bsc_node_laws.proofs.There.{there-other}
@@ -59,6 +58,8 @@ use Rattle.bsc_node_identity.proofs.Theirs.{met-theirs}
 use Rattle.bsc_node_identity.proofs.Lines.{peer-silent, peer-joined}
 use Rattle.bsc_node_identity.proofs.OneMore.{open-stays, claimed-alone}
 use Rattle.bsc_node_identity.proofs.Reasons.{was_open, Unmet, Sides, is_beginning, Why, WhyPut, why-still}
+use Rattle.bsc_lemmas.proofs.Booleans.{and_left, and_right, first_of_three}
+use Rattle.bsc_node.proofs.Common.{draws_where_none}
 
 -- A still rule's lines have their reasons.
 still-has : (a : Made) (L : Log) (e : TimedEvent) (rule : Rule) → Still a rule → (N : Log) → EachHas (Why a L e) N (rule N)
@@ -178,12 +179,6 @@ has_meets_direct a L e k who N named there opened theirs =
 
 -- ---- a refusal
 
-draws_where_none : (name : LinkName) (code : ℕ) (C : Log) → may_draw name code C ≡ true → none_there C ≡ true
-draws_where_none name code C h =
-    and_right (is_hub name && (code == duplicate_vmac_code)) (none_there C)
-    (and_left (is_hub name && (code == duplicate_vmac_code) && none_there C) (not (is_finishing C))
-    (and_left (is_hub name && (code == duplicate_vmac_code) && none_there C && not (is_finishing C)) (nat_lt (renewals C) 8) h))
-
 has_is_refused_by : (a : Made) (L : Log) (e : TimedEvent) (name : LinkName) (origin : Option Vmac) (code : ℕ) (N : Log) → EachHas (Why a L e) N (is_refused_by a name origin code N)
 has_is_refused_by a L e name origin code N =
     each-cons (Why a L e) (does (Close name normal)) (tells_refusal name origin code ∷ either (may_draw name code) (does Draw) (ends a name) ∷ []) N (tt, tt)
@@ -294,10 +289,6 @@ has_directs a L e v is =
     M = with_event L e
 
 -- ---- all events
-
-first_of_three : (p q r : Bool) → (p && q && r) ≡ true → p ≡ true
-first_of_three true q r h = refl
-first_of_three false q r h = cc
 
 -- A link over which something comes, or which opens, is there once the event stands in the log.
 came_there : (L : Log) (e : TimedEvent) (name : LinkName) (ev : NodeEvent) → e.event ≡ ev → is_over_by_event name ev ≡ false → is_there name L ≡ true → is_there name (with_event L e) ≡ true

@@ -8,7 +8,6 @@ use Rattle.bsc_connector.specs.declared.side.Side.TheVariants.{Primary, Failover
 use Rattle.bsc_connector.specs.declared.hub_use.HubUse.{HubUse}
 use Rattle.bsc_connector.specs.declared.hub_use.HubUse.TheVariants.{NoHub, Primary as UsesPrimary, Failover as UsesFailover}
 use Rattle.bsc_direct.specs.Slots.{slots, is_peer}
-use Rattle.bsc_direct.proofs.OneMore.{vmac_same, some_same, some_none}
 use Rattle.bsc_switch.specs.Paths.{hub_path, slot_or}
 use Rattle.bsc_node.specs.declared.link_name.LinkName.{LinkName}
 use Rattle.bsc_node.specs.declared.link_name.LinkName.TheVariants.{Hub, Direct}
@@ -16,6 +15,9 @@ use Rattle.bsc_node.specs.Logs.{Log}
 use Rattle.bsc_node.specs.Hubs.{hub_use, link_in_use}
 use Rattle.bsc_node.specs.Ways.{Way, way_by, established, established_peer}
 use Rattle.bsc_node_identity.specs.Carried.{LeadsTo, WaysLeadThere}
+use Rattle.bsc_lemmas.proofs.Options.{some_none_any as some_none}
+use Rattle.bsc_octets.proofs.Common.{vmac_same}
+use Rattle.std.proofs.lemmas.Option.{same_Some as some_same}
 
 -- what is found passes the test
 found_passes : (test : ℕ → Bool) (ks : List ℕ) (k : ℕ) → find test ks ≡ Some k → test k ≡ true

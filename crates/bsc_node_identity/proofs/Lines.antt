@@ -25,7 +25,7 @@ use Rattle.bsc_initiate.specs.Past.{request_at}
 use Rattle.bsc_direct.specs.declared.call.SlotCall.{SlotCall}
 use Rattle.bsc_direct.specs.declared.call.SlotCall.TheVariants.{Claim, Up, Release}
 use Rattle.bsc_direct.specs.Slots as Slots
-use Rattle.bsc_direct.proofs.OneMore.{vmac_same, some_same, peer-before as slot-before, peer-beside, peer-up}
+use Rattle.bsc_direct.proofs.OneMore.{peer-before as slot-before, peer-beside, peer-up}
 use Rattle.bsc_node.specs.declared.link_name.LinkName.{LinkName}
 use Rattle.bsc_node.specs.declared.link_name.LinkName.TheVariants.{Hub, Direct}
 use Rattle.bsc_node.specs.declared.timed_event.TimedEvent.{TimedEvent}
@@ -35,12 +35,16 @@ use Rattle.bsc_node.specs.Links.{same_link, begins, initiating_event, accepting_
 use Rattle.bsc_node.specs.Ways.{slot_call_of, slot_calls, established_peer, resolve_call_of, resolve_calls, learnt}
 use Rattle.bsc_node.specs.Laws.{with_event}
 use Rattle.bsc_node.proofs.Told.{initiating_events-more, accepting_events-more}
-use Rattle.bsc_node_laws.proofs.There.{same_link-true}
 use Rattle.bsc_node_identity.specs.Naming.{named_by, IsNamedAt}
 use Rattle.bsc_node_identity.specs.Resolving.{IsAnsweredAt}
 use Rattle.bsc_node_identity.proofs.Meets.{accepts_names, asks_names}
-use Rattle.bsc_node_identity.proofs.OneMore.{established-same, established-told, initiating-same, accepting-same, initiating-begun, accepting-begun, resolve_calls-same, resolve_calls-more}
+use Rattle.bsc_node_identity.proofs.OneMore.{established-same, established-told, initiating-same, accepting-same, initiating-begun, accepting-begun, resolve_calls-more}
 use Rattle.bsc_node_identity.proofs.Reasons.{NoneAccepts, Why, WhySlot, WhyBegun, IsHeard}
+use Rattle.bsc_connector.proofs.Common.{first_of-more}
+use Rattle.bsc_lemmas.proofs.Options.{or_none as or_last}
+use Rattle.bsc_node.proofs.Common.{accepted-kept as same_accepted, asked-kept as same_asked, resolve_calls-kept as resolve_calls-same, same_link-is as same_link-true}
+use Rattle.bsc_octets.proofs.Common.{vmac_same}
+use Rattle.std.proofs.lemmas.Option.{same_Some as some_same}
 
 -- ---- no event follows from one
 
@@ -98,18 +102,6 @@ established-before a L e N (resolution call) k who why h = inl (sym (established
 established-before a L e N (did action) k who why h = inl (sym (established-same k N (did action) refl) ∙ h)
 
 -- ---- peers
-
-pub or_last : {A : Type 0} (o : Option A) → option_or o None ≡ o
-or_last None = refl
-or_last (Some x) = refl
-
-or_three : {A : Type 0} (o p q : Option A) → option_or o (option_or p q) ≡ option_or (option_or o p) q
-or_three None p q = refl
-or_three (Some x) p q = refl
-
-pub first_of-more : {A B : Type 0} (f : A → Option B) (xs : List A) (x : A) → first_of f (xs ++ x ∷ []) ≡ option_or (first_of f xs) (f x)
-first_of-more f [] x = or_last (f x)
-first_of-more f (y ∷ ys) x = ap (λ o. option_or (f y) o) (first_of-more f ys x) ∙ or_three (f y) (first_of f ys) (f x)
 
 abbrev pub is_opening : InitEvent → Bool
 is_opening (MachineOpened now id) = true
@@ -177,15 +169,6 @@ asks_then now (Carry envelope) who h = cc
 asks_then now (Silent check) who h = cc
 asks_then now (Nak check octets) who h = cc
 
--- Once a machine is told something that is no message, who accepted is as before.
-pub same_accepted : (E : List InitEvent) (call : InitEvent) → request_at call ≡ None → ((id : ℕ) → accepts_by id call ≡ None) → who_accepted (E ++ call ∷ []) ≡ who_accepted E
-same_accepted E call r n =
-    ap (λ (o : Option ℕ). option_and_then (λ id. first_of (accepts_by id) (E ++ call ∷ [])) o) (first_of-more request_at E call ∙ ap (λ (o : Option ℕ). option_or (request E) o) r ∙ or_last (request E)) ∙ by (request E)
-  where
-    by : (o : Option ℕ) → option_and_then (λ id. first_of (accepts_by id) (E ++ call ∷ [])) o ≡ option_and_then (λ id. first_of (accepts_by id) E) o
-    by None = refl
-    by (Some id) = first_of-more (accepts_by id) E call ∙ ap (λ (o : Option Identity). option_or (first_of (accepts_by id) E) o) (n id) ∙ or_last (first_of (accepts_by id) E)
-
 -- Once it is told a message, who accepted is as before, or the one who accepts in it.
 accepted_more : (E : List InitEvent) (now : ℕ) (v : Verdict) → (who_accepted (E ++ InitMessage now v ∷ []) ≡ who_accepted E) ⊎ ((w : Identity) × (who_accepted (E ++ InitMessage now v ∷ []) ≡ Some w) × Accepted v w)
 accepted_more E now v = by (request E) refl
@@ -216,9 +199,6 @@ accepted_more E now v = by (request E) refl
     by : (o : Option ℕ) → request E ≡ o → (who_accepted F ≡ who_accepted E) ⊎ ((w : Identity) × (who_accepted F ≡ Some w) × Accepted v w)
     by None is = inl (found None is ∙ sym (before None is))
     by (Some id) is = by_first id is (first_of (accepts_by id) E) refl
-
-pub same_asked : (A : List Event) (call : Event) → asks_by call ≡ None → who_asked (A ++ call ∷ []) ≡ who_asked A
-same_asked A call n = first_of-more asks_by A call ∙ ap (λ (o : Option Identity). option_or (first_of asks_by A) o) n ∙ or_last (first_of asks_by A)
 
 asked_more : (A : List Event) (now : ℕ) (v : Verdict) → (who_asked (A ++ AcceptMessage now v ∷ []) ≡ who_asked A) ⊎ ((w : Identity) × (who_asked (A ++ AcceptMessage now v ∷ []) ≡ Some w) × Asked v w)
 asked_more A now v = by (asks_by (AcceptMessage now v)) refl

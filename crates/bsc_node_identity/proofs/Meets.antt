@@ -23,6 +23,7 @@ use Rattle.bsc_node.specs.Logs.{Made, Log, now}
 use Rattle.bsc_node.specs.Links.{was_taken, initiating_events, accepting_events, by_machine, hears, verdict, meets, initiating_outcome, accepting_outcome, outcome}
 use Rattle.bsc_node.proofs.Told.{outcome-initiating, outcome-accepting}
 use Rattle.bsc_node_identity.specs.Naming.{named_by}
+use Rattle.bsc_node.proofs.Common.{same_who}
 
 -- By this verdict a message passed that accepts the request that this state awaits the answer to, and who accepts is this peer.
 abbrev pub Accepts : Verdict → Standing → Identity → Type 0
@@ -31,9 +32,6 @@ Accepts v g who = (m : Message) × (v ≡ Pass m) × (g ≡ awaiting_accept m.id
 -- By this verdict a message passed that asks, in the state in which a question is awaited, and who asks is this peer.
 abbrev pub Asks : Verdict → Accepting.Standing → Identity → Type 0
 Asks v g who = (m : Message) × (v ≡ Pass m) × (g ≡ Accepting.awaiting_request) × (who_asks m.body ≡ Some who)
-
-same_who : (x y : Identity) → meets x ≡ meets y → Some x ≡ Some y
-same_who x y h = cc
 
 pub accepts_names : (body : Body) (who : Identity) → who_accepts body ≡ Some who → named_by body ≡ Some who
 accepts_names (ConnectAccept x) who h = h

@@ -1,9 +1,8 @@
 -- What a log says once one line more stands in it.
 use Rattle.std.proofs.Common.{◌≡◌, ◌≤◌, ℕ, ◌+◌, ◌-◌, Bool, true, false, cond, ◌||◌, List, [], ◌∷◌, ◌++◌, length, take, Option, Some, None, is_some, refl, ap, sym, ◌∙◌, subst, arith, length-append}
-use Rattle.std.specs.Prelude.{◌==◌, filter_map, unwrap_or}
-use Rattle.std.specs.List.{list_any}
+use Rattle.std.specs.Prelude.{filter_map, unwrap_or}
 use Rattle.std.specs.Option.{option_or}
-use Rattle.std.proofs.lemmas.List.{append-nil, take-append-le, take_at}
+use Rattle.std.proofs.lemmas.List.{take-append-le, take_at}
 use Rattle.std.proofs.lemmas.List.Elements.{filter_map-append}
 use Rattle.bsc_octets.specs.declared.vmac.Vmac.{Vmac}
 use Rattle.bsc_connector.specs.Back.{newest_of, since, until}
@@ -16,15 +15,17 @@ use Rattle.bsc_direct.specs.Slots as Slots
 use Rattle.bsc_direct.proofs.OneMore.{peer-cleared}
 use Rattle.bsc_resolve.specs.declared.call.ResolveCall.{ResolveCall}
 use Rattle.bsc_node.specs.declared.link_name.LinkName.{LinkName}
-use Rattle.bsc_node.specs.declared.action.Action.{Action}
-use Rattle.bsc_node.specs.Logs.{Made, Line, did, slot, initiating, resolution, Log, renewal_of, own_vmac, action_of}
-use Rattle.bsc_node.specs.Links.{same_link, begins, life, was_taken, initiating_event, accepting_event, initiating_events, accepting_events, begins_by}
+use Rattle.bsc_node.specs.Logs.{Made, Line, slot, initiating, resolution, Log, renewal_of, own_vmac}
+use Rattle.bsc_node.specs.Links.{same_link, begins, life, was_taken, initiating_event, accepting_event, initiating_events, accepting_events}
 use Rattle.bsc_node.specs.Ways.{slot_call_of, slot_calls, established_peer, resolve_call_of, resolve_calls}
 use Rattle.bsc_node.specs.Conditions.{has_opened}
 use Rattle.bsc_node.proofs.Told.{life-more}
-use Rattle.bsc_node_laws.proofs.There.{same_link-true, taken-other, opened-other, opened-told, opened-now}
-use Rattle.bsc_node_laws.proofs.Tying.{slot_calls-same, slot_calls-more}
+use Rattle.bsc_node_laws.proofs.There.{taken-other, opened-other, opened-told, opened-now}
+use Rattle.bsc_node_laws.proofs.Tying.{slot_calls-more}
 use Rattle.bsc_node_identity.proofs.Reasons.{was_open}
+use Rattle.bsc_lemmas.proofs.Booleans.{eq_self as same_number}
+use Rattle.bsc_lemmas.proofs.Lists.{filter_map_none as filter_same}
+use Rattle.bsc_node.proofs.Common.{life_begun, same_link-is as same_link-true, slot_calls-kept as slot_calls-same}
 
 -- ---- which links may be open
 
@@ -61,9 +62,6 @@ established-same k L m h = ap (λ (calls : List SlotCall). Slots.established_pee
 
 pub established-told : (k : ℕ) (L : Log) (call : SlotCall) → established_peer k (L ++ slot call ∷ []) ≡ Slots.established_peer (slot_calls L ++ call ∷ []) k
 established-told k L call = ap (λ (calls : List SlotCall). Slots.established_peer calls k) (slot_calls-more L call)
-
-same_number : (k : ℕ) → (k == k) ≡ true
-same_number k = grind arith
 
 -- A slot that is claimed isn't established.
 pub claimed-alone : (k : ℕ) (L : Log) (wanted : Option Vmac) → established_peer k (L ++ slot (Claim k wanted) ∷ []) ≡ None
@@ -102,17 +100,11 @@ until-other {A = A} test xs x h =
 
 -- ---- what machines were told
 
-filter_same : {A B : Type 0} (f : A → Option B) (xs : List A) (x : A) → f x ≡ None → filter_map f (xs ++ x ∷ []) ≡ filter_map f xs
-filter_same f xs x h = filter_map-append f xs (x ∷ []) ∙ rw h (append-nil (filter_map f xs))
-
 pub initiating-same : (name : LinkName) (L : Log) (m : Line) → begins name m ≡ false → initiating_event name m ≡ None → initiating_events (L ++ m ∷ []) name ≡ initiating_events L name
 initiating-same name L m b e = ap (filter_map (initiating_event name)) (life-more L m name b) ∙ filter_same (initiating_event name) (life L name) m e
 
 pub accepting-same : (name : LinkName) (L : Log) (m : Line) → begins name m ≡ false → accepting_event name m ≡ None → accepting_events (L ++ m ∷ []) name ≡ accepting_events L name
 accepting-same name L m b e = ap (filter_map (accepting_event name)) (life-more L m name b) ∙ filter_same (accepting_event name) (life L name) m e
-
-life_begun : (name : LinkName) (L : Log) (m : Line) → begins name m ≡ true → life (L ++ m ∷ []) name ≡ []
-life_begun name L m b = since-more (begins name) L m ∙ ap (λ (d : Bool). cond d [] (life L name ++ m ∷ [])) b
 
 pub initiating-begun : (name : LinkName) (L : Log) (m : Line) → begins name m ≡ true → initiating_events (L ++ m ∷ []) name ≡ []
 initiating-begun name L m b = ap (filter_map (initiating_event name)) (life_begun name L m b)
@@ -122,16 +114,7 @@ accepting-begun name L m b = ap (filter_map (accepting_event name)) (life_begun 
 
 -- ---- what happened to address resolution
 
-pub resolve_calls-same : (L : Log) (m : Line) → resolve_call_of m ≡ None → resolve_calls (L ++ m ∷ []) ≡ resolve_calls L
-resolve_calls-same L m h = filter_same resolve_call_of L m h
-
 pub resolve_calls-more : (L : Log) (call : ResolveCall) → resolve_calls (L ++ resolution call ∷ []) ≡ resolve_calls L ++ call ∷ []
 resolve_calls-more L call = filter_map-append resolve_call_of L (resolution call ∷ [])
 
 -- ---- which links begin
-
--- A link begins by some lines exactly where it does by one of their actions.
-pub begins-acts : (name : LinkName) (lines : List Line) → list_any (begins name) lines ≡ list_any (λ (action : Action). is_some (begins_by name action)) (filter_map action_of lines)
-begins-acts name [] = refl
-begins-acts name (did action ∷ lines) = ap (λ (b : Bool). is_some (begins_by name action) || b) (begins-acts name lines)
-begins-acts name (m ∷ lines) = begins-acts name lines

@@ -22,12 +22,12 @@ use Rattle.bsc_history.specs.declared.reply.Refusal.TheVariants.{Duplicate as Du
 use Rattle.bsc_initiate.specs.declared.event.InitEvent.{InitEvent}
 use Rattle.bsc_initiate.specs.declared.event.InitEvent.TheVariants.{Opened as MachineOpened, Message as InitMessage, Finish as InitFinish, Tick as InitTick}
 use Rattle.bsc_initiate.specs.Messages.{who_accepts, says_who}
-use Rattle.bsc_initiate.specs.Past.{Standing, awaiting_websocket, awaiting_accept, connected, disconnecting, request_at, is_accepted_at, farewell_at, until_farewell, standing}
+use Rattle.bsc_initiate.specs.Past.{Standing, awaiting_websocket, awaiting_accept, connected, disconnecting, request_at, is_accepted_at, farewell_at, standing}
 use Rattle.bsc_initiate.specs.Kept.{moved}
 use Rattle.bsc_initiate.proofs.Looking.{standing-more}
 use Rattle.bsc_direct.specs.declared.establish.Establish.{Establish}
 use Rattle.bsc_direct.specs.declared.establish.Establish.TheVariants.{Up as IsUp, Duplicate, WrongPeer}
-use Rattle.bsc_direct.proofs.OneMore.{some_same, some_none, both_ways}
+use Rattle.bsc_direct.proofs.OneMore.{both_ways}
 use Rattle.bsc_node.specs.declared.link_name.LinkName.{LinkName}
 use Rattle.bsc_node.specs.declared.link_name.LinkName.TheVariants.{Direct}
 use Rattle.bsc_node.specs.declared.node_event.NodeEvent.{NodeEvent}
@@ -45,17 +45,23 @@ use Rattle.bsc_node.specs.Conditions.{fits, may_come}
 use Rattle.bsc_node.specs.Laws.{with_event, with_heard}
 use Rattle.bsc_node.proofs.Order.{in_order-brought, in_order-cons}
 use Rattle.bsc_node.proofs.Told.{initiating_events-more, accepting_events-more, outcome-accepting}
-use Rattle.bsc_node.proofs.Following.{goes_on-is, and_left, and_right}
+use Rattle.bsc_node.proofs.Following.{goes_on-is}
 use Rattle.bsc_node.proofs.Lasting.{event_fits}
-use Rattle.bsc_node_laws.proofs.There.{same_link-true, there-before, there-other, gone-stays, closed-gone, taken-other}
+use Rattle.bsc_node_laws.proofs.There.{there-before, there-other, gone-stays, closed-gone, taken-other}
 use Rattle.bsc_node_laws.proofs.Asked.{asked_closes}
 use Rattle.bsc_node_identity.specs.Naming.{SlotsHaveTheirPeers}
 use Rattle.bsc_node_identity.proofs.Each.{EachHas, keeps}
 use Rattle.bsc_node_identity.proofs.OneMore.{open-stays, established-same, initiating-same, accepting-same, initiating-begun, accepting-begun}
 use Rattle.bsc_node_identity.proofs.Reasons.{was_open, is_beginning, NoneAccepts, Unmet, Sides, Why}
 use Rattle.bsc_node_identity.proofs.Followed.{has-obeyed}
-use Rattle.bsc_node_identity.proofs.Lines.{begun-why, begun-no_call, first_of-more, none_accepted, none-told, asked-told, peer_is, peer-silent, Stays, established-before, is_opening, OpensUnaccepted}
+use Rattle.bsc_node_identity.proofs.Lines.{begun-why, begun-no_call, none_accepted, none-told, asked-told, peer_is, peer-silent, Stays, established-before, is_opening, OpensUnaccepted}
 use Rattle.bsc_node_identity.proofs.Settled.{Settled, kept, begun-alone, opens-unaccepted, settled-at_first, settled-goes_on, lasting}
+use Rattle.bsc_connector.proofs.Common.{first_of-more}
+use Rattle.bsc_initiate.proofs.Common.{farewell_other, same_request}
+use Rattle.bsc_lemmas.proofs.Booleans.{and_left, and_right, eq_self as same_number}
+use Rattle.bsc_lemmas.proofs.Options.{some_none_any as some_none}
+use Rattle.bsc_node.proofs.Common.{same_link-is as same_link-true}
+use Rattle.std.proofs.lemmas.Option.{same_Some as some_same}
 
 -- ---- over a link that was taken nobody accepts, and over one that was dialled nobody asks
 
@@ -100,13 +106,6 @@ sides_event L e s = record {
 
 abbrev Awaits : Log → Type 0
 Awaits L = (name : LinkName) (id : ℕ) → standing (initiating_events L name) ≡ awaiting_accept id → first_of (accepts_by id) (initiating_events L name) ≡ None
-
-farewell_other : (o : Option Farewell) (id : ℕ) {A : Type 0} → until_farewell o ≡ awaiting_accept id → A
-farewell_other None id h = cc
-farewell_other (Some f) id h = cc
-
-same_request : (i id : ℕ) → awaiting_accept i ≡ awaiting_accept id → Some i ≡ Some id
-same_request i id h = cc
 
 accepts_none : (b : Bool) (o : Option Identity) → (b && says_who o) ≡ false → (if b then o else None) ≡ None
 accepts_none true None h = refl
@@ -560,9 +559,6 @@ comes_over k ev = false
 comes_over_is : (k : ℕ) (ev : NodeEvent) → comes_over k ev ≡ true → (o : List ℕ) × (ev ≡ Came (Direct k) o)
 comes_over_is k (Came (Direct j) o) h = (o, ap (λ (i : ℕ). Came (Direct i) o) (eqb-true j k h))
 comes_over_is k ev h = cc
-
-same_number : (k : ℕ) → (k == k) ≡ true
-same_number k = grind arith
 
 waits_goes_on : (a : Made) (L : Log) (e : TimedEvent) → IsTrue (may_come L e) → (k : ℕ) → Waits k L → Waits k (L ++ goes_on a e L)
 waits_goes_on a L e may k waits = by (comes_over k e.event) refl

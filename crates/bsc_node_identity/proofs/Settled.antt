@@ -1,6 +1,6 @@
 -- What holds of the log of a node between two events, whatever came: it stays so by each event that may come.
 use Rattle.std.proofs.Common.{◌≡◌, inl, inr, ℕ, Bool, true, false, not, ◌&&◌, ◌||◌, List, [], ◌∷◌, ◌++◌, Option, Some, None, refl, ap, sym, ◌∙◌, subst}
-use Rattle.std.specs.Prelude.{⊤, ◌^◌, ◌==◌, IsTrue, fold, map, nat_le, nat_lt, unwrap_or, if◌then◌else◌}
+use Rattle.std.specs.Prelude.{⊤, ◌==◌, IsTrue, fold, map, unwrap_or}
 use Rattle.std.specs.Option.{option_or, option_map}
 use Rattle.std.specs.List.{list_any}
 use Rattle.std.proofs.lemmas.Bool.{or_parts, eqb-true}
@@ -13,7 +13,7 @@ use Rattle.bsc_connector.proofs.BackLemmas.{newest_of-more}
 use Rattle.bsc_initiate.specs.declared.event.InitEvent.{InitEvent}
 use Rattle.bsc_initiate.specs.declared.event.InitEvent.TheVariants.{Opened as MachineOpened, Message as InitMessage, Finish as InitFinish, Tick as InitTick}
 use Rattle.bsc_direct.specs.Slots.{slots}
-use Rattle.bsc_direct.proofs.OneMore.{some_none, both_ways}
+use Rattle.bsc_direct.proofs.OneMore.{both_ways}
 use Rattle.bsc_node.specs.declared.link_name.LinkName.{LinkName}
 use Rattle.bsc_node.specs.declared.link_name.LinkName.TheVariants.{Hub, Direct}
 use Rattle.bsc_node.specs.declared.node_event.NodeEvent.{NodeEvent}
@@ -29,7 +29,7 @@ use Rattle.bsc_node.specs.Conditions.{has_opened, is_draw, awaits_word, brings_w
 use Rattle.bsc_node.specs.Soundness.{is_in_slots}
 use Rattle.bsc_node.specs.Laws.{with_event}
 use Rattle.bsc_node.proofs.Told.{at_last-more}
-use Rattle.bsc_node.proofs.Following.{goes_on-is, and_left, and_right, not_true}
+use Rattle.bsc_node.proofs.Following.{goes_on-is}
 use Rattle.bsc_node.proofs.Lasting.{Fine, fine-goes_on, fine-log, there_in_slots, event_fits}
 use Rattle.bsc_node_laws.proofs.There.{there-other, there-before, opened-other}
 use Rattle.bsc_node_identity.proofs.Each.{keeps}
@@ -37,6 +37,9 @@ use Rattle.bsc_node_identity.proofs.Reasons.{was_open, NoneAccepts, Why, WhyBegu
 use Rattle.bsc_node_identity.proofs.OneMore.{open-stays, opened-stays, established-same, own_vmac-same, until-begun, until-other, initiating-same, initiating-begun}
 use Rattle.bsc_node_identity.proofs.Followed.{each-why}
 use Rattle.bsc_node_identity.proofs.Lines.{renewal_none, event_none, begun-why, begun-no_call, Stays, established-before, none-told, is_opening, OpensUnaccepted}
+use Rattle.bsc_lemmas.proofs.Booleans.{and_left, and_right, not_true}
+use Rattle.bsc_lemmas.proofs.Options.{some_none_any as some_none}
+use Rattle.bsc_node.proofs.Common.{word_awaited}
 
 -- A link that is there began with the VMAC that the node has.
 abbrev pub VmacsStand : Made → Log → Type 0
@@ -71,20 +74,6 @@ kept a L e may I keep i =
 
 fitting : (L : Log) (e : TimedEvent) → IsTrue (may_come L e) → (ev : NodeEvent) → e.event ≡ ev → fits L ev ≡ true
 fitting L e may ev is = sym (ap (fits L) is) ∙ event_fits L e may
-
--- where an event brings a word, one was awaited
-word_awaited : (L : Log) (e : TimedEvent) → IsTrue (may_come L e) → brings_word e.event ≡ true → awaits_word L ≡ true
-word_awaited L e h w = by (brings_word e.event) w (third (nat_le (now L) e.now) (nat_lt e.now (2 ^ 62)) (if brings_word e.event then awaits_word L else not (awaits_word L)) (fits L e.event) h)
-  where
-    third : (p q r s : Bool) → (p && q && r && s) ≡ true → r ≡ true
-    third true true true s g = refl
-    third true true false s g = g
-    third true false r s g = cc
-    third false q r s g = cc
-
-    by : (b : Bool) → b ≡ true → (if b then awaits_word L else not (awaits_word L)) ≡ true → awaits_word L ≡ true
-    by true d g = g
-    by false d g = cc
 
 -- ---- the time
 

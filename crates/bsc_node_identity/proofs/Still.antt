@@ -25,7 +25,6 @@ use Rattle.bsc_accept.specs.declared.event.Event.TheVariants.{Message as AcceptM
 use Rattle.bsc_accept.specs.Steps.{normal}
 use Rattle.bsc_initiate.specs.declared.event.InitEvent.{InitEvent}
 use Rattle.bsc_initiate.specs.declared.event.InitEvent.TheVariants.{Opened, Message as InitMessage, Tick as InitTick, Finish as InitFinish}
-use Rattle.bsc_direct.proofs.OneMore.{vmac_laws}
 use Rattle.bsc_direct.specs.declared.call.SlotCall.{SlotCall}
 use Rattle.bsc_direct.specs.declared.call.SlotCall.TheVariants.{Up, Release}
 use Rattle.bsc_node.specs.declared.link_name.LinkName.{LinkName}
@@ -43,10 +42,12 @@ use Rattle.bsc_node.specs.Receiving.{sender, drops_question, takes_answer}
 use Rattle.bsc_node.specs.Requesting.{puts_own, by_path, asks_unless, sends, resolves, solicits, fits}
 use Rattle.bsc_node.specs.Events.{obeys_by, obeys, ticks_link, ticks_resolution, time_passes, is_to_end}
 use Rattle.bsc_node.proofs.Order.{in_order-brought}
-use Rattle.bsc_node.proofs.Passing.{Passes, both, pass-in_order, pass-either, pass-nothing, pass-when, pass-found, pass-if, pass-some, pass-mapped, pass-each-append}
+use Rattle.bsc_node.proofs.Passing.{Passes, pass-in_order, pass-either, pass-nothing, pass-when, pass-found, pass-if, pass-some, pass-mapped, pass-each-append}
 use Rattle.bsc_node.proofs.Calm.{is_calm}
 use Rattle.bsc_node.proofs.Quiet.{calm-ticked}
 use Rattle.bsc_node_identity.proofs.Tame.{is_tame, puts_tamely, tame-ticked, tame-finished, tame-refused}
+use Rattle.bsc_octets.proofs.Common.{vmac_laws}
+use Rattle.std.proofs.lemmas.Bool.{and_from as both}
 
 abbrev pub is_still_told : InitEvent → Bool
 is_still_told (Opened now id) = false

@@ -1,6 +1,6 @@
 -- Who is met over a link is the link's peer from then on, where the machine that waited for its peer knew none.
-use Rattle.std.proofs.Common.{◌≡◌, ℕ, Bool, true, false, cond, List, [], ◌∷◌, ◌++◌, Option, Some, None, refl, ap, sym, ◌∙◌, arith}
-use Rattle.std.specs.Prelude.{◌==◌, if◌then◌else◌}
+use Rattle.std.proofs.Common.{◌≡◌, ℕ, Bool, true, false, cond, List, [], ◌∷◌, ◌++◌, Option, Some, None, refl, ap, sym, ◌∙◌}
+use Rattle.std.specs.Prelude.{if◌then◌else◌}
 use Rattle.std.specs.Option.{option_or, option_and_then}
 use Rattle.bsc_octets.specs.declared.identity.Identity.{Identity}
 use Rattle.bsc_connector.specs.Back.{first_of}
@@ -8,7 +8,6 @@ use Rattle.bsc_frame.specs.declared.message.Message.{Message}
 use Rattle.bsc_checks.specs.declared.verdict.Verdict.{Verdict}
 use Rattle.bsc_checks.specs.declared.verdict.Verdict.TheVariants.{Pass}
 use Rattle.bsc_accept.specs.declared.event.Event.TheVariants.{Message as AcceptMessage}
-use Rattle.bsc_accept.specs.declared.farewell.Farewell.{Farewell}
 use Rattle.bsc_accept.specs.Past as Accepting
 use Rattle.bsc_initiate.specs.declared.event.InitEvent.{InitEvent}
 use Rattle.bsc_initiate.specs.declared.event.InitEvent.TheVariants.{Message as InitMessage}
@@ -25,19 +24,13 @@ use Rattle.bsc_node_laws.proofs.There.{there-before, taken-other}
 use Rattle.bsc_node_identity.proofs.OneMore.{initiating-same, accepting-same}
 use Rattle.bsc_node_identity.proofs.Meets.{Accepts, Asks, met-dialled, met-taken}
 use Rattle.bsc_node_identity.proofs.Reasons.{Unmet, Sides}
-use Rattle.bsc_node_identity.proofs.Lines.{or_last, first_of-more, none_accepted, peer_is}
-
-same_number : (k : ℕ) → (k == k) ≡ true
-same_number k = grind arith
+use Rattle.bsc_node_identity.proofs.Lines.{none_accepted, peer_is}
+use Rattle.bsc_connector.proofs.Common.{first_of-more}
+use Rattle.bsc_initiate.proofs.Common.{farewell_other, same_request}
+use Rattle.bsc_lemmas.proofs.Booleans.{eq_self as same_number}
+use Rattle.bsc_lemmas.proofs.Options.{or_none as or_last}
 
 -- ---- the request that is awaited
-
-farewell_other : (o : Option Farewell) (id : ℕ) {A : Type 0} → until_farewell o ≡ awaiting_accept id → A
-farewell_other None id h = cc
-farewell_other (Some f) id h = cc
-
-same_request : (i id : ℕ) → awaiting_accept i ≡ awaiting_accept id → Some i ≡ Some id
-same_request i id h = cc
 
 since_same : (i id : ℕ) (later : List InitEvent) → since_request i later ≡ awaiting_accept id → Some i ≡ Some id
 since_same i id [] h = same_request i id h

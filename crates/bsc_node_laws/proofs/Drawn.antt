@@ -1,6 +1,6 @@
 -- Which events leave a log that awaits a word: those at which a word is drawn, as the last line, where no link is there.
-use Rattle.std.proofs.Common.{◌≡◌, ℕ, Bool, true, false, not, ◌&&◌, ◌||◌, List, [], ◌∷◌, ◌++◌, Option, refl, ap, sym, ◌∙◌}
-use Rattle.std.specs.Prelude.{◌==◌, IsTrue, filter_map, nat_lt}
+use Rattle.std.proofs.Common.{◌≡◌, ℕ, Bool, true, false, not, ◌||◌, List, [], ◌∷◌, ◌++◌, Option, refl, ap, sym, ◌∙◌}
+use Rattle.std.specs.Prelude.{IsTrue, filter_map}
 use Rattle.std.specs.List.{list_all, list_any}
 use Rattle.std.proofs.lemmas.List.{append_assoc, append-nil}
 use Rattle.bsc_octets.specs.declared.vmac.Vmac.{Vmac}
@@ -8,7 +8,6 @@ use Rattle.bsc_connector.specs.declared.side.Side.TheVariants.{Primary}
 use Rattle.bsc_accept.specs.Steps.{normal}
 use Rattle.bsc_accept.specs.declared.event.Event.TheVariants.{Message as AcceptMessage}
 use Rattle.bsc_initiate.specs.declared.event.InitEvent.TheVariants.{Message as InitMessage}
-use Rattle.bsc_node.specs.Messages.{duplicate_vmac_code}
 use Rattle.bsc_node.specs.declared.link_name.LinkName.{LinkName}
 use Rattle.bsc_node.specs.declared.link_name.LinkName.TheVariants.{Hub}
 use Rattle.bsc_node.specs.declared.node_event.NodeEvent.{NodeEvent}
@@ -16,10 +15,10 @@ use Rattle.bsc_node.specs.declared.node_event.NodeEvent.TheVariants.{Opened, Cam
 use Rattle.bsc_node.specs.declared.timed_event.TimedEvent.{TimedEvent}
 use Rattle.bsc_node.specs.declared.action.Action.{Action}
 use Rattle.bsc_node.specs.declared.action.Action.TheVariants.{Put, Close, Draw}
-use Rattle.bsc_node.specs.Logs.{Made, Line, came, did, Log, either, if_so, does, now, action_of, is_finishing}
+use Rattle.bsc_node.specs.Logs.{Made, Line, came, did, Log, either, if_so, does, now, action_of}
 use Rattle.bsc_node.specs.Links.{is_there, none_there, was_taken, by_machine, hears, verdict, Outcome, puts, puts_and_closes, closes, meets, is_refused, passes_up, keeps_still, outcome}
 use Rattle.bsc_node.specs.Ending.{carries_out_by, ends, closes_link}
-use Rattle.bsc_node.specs.Meeting.{is_hub, renewals, tells_refusal, may_draw, is_refused_by}
+use Rattle.bsc_node.specs.Meeting.{tells_refusal, may_draw, is_refused_by}
 use Rattle.bsc_node.specs.Events.{obeys_by, obeys, follows}
 use Rattle.bsc_node.specs.Node.{goes_on, actions_at}
 use Rattle.bsc_node.specs.Conditions.{is_draw, awaits_word, brings_word, may_come}
@@ -28,11 +27,13 @@ use Rattle.bsc_node.proofs.Order.{in_order-brought}
 use Rattle.bsc_node.proofs.Passing.{Passes, pass-in_order, pass-nothing}
 use Rattle.bsc_node.proofs.Quiet.{is_quiet_action, quiet-ends, quiet-closes_link}
 use Rattle.bsc_node.proofs.Heard.{LetsQuiet, lets-rule, pass-two-then, pass-meets_peer}
-use Rattle.bsc_node.proofs.Following.{is_came, pass-follows, opened-dialled, goes_on-is, and_left, and_right, not_true}
+use Rattle.bsc_node.proofs.Following.{is_came, pass-follows, opened-dialled, goes_on-is}
 use Rattle.bsc_node.proofs.Told.{at_last-more}
 use Rattle.bsc_node.proofs.Lasting.{LetsMessages, pass-takes_body, pass-sends}
 use Rattle.bsc_node.proofs.Drawing.{draws_none}
 use Rattle.bsc_node_laws.proofs.There.{there-other}
+use Rattle.bsc_lemmas.proofs.Booleans.{and_left, and_right, not_true}
+use Rattle.bsc_node.proofs.Common.{draws_where_none}
 
 -- ---- lines that draw nothing
 
@@ -176,12 +177,6 @@ refused : (a : Made) (name : LinkName) (origin : Option Vmac) (code : ℕ) (N : 
 refused a name origin code N b h =
     in_order-brought (does (Close name normal) ∷ tells_refusal name origin code ∷ either (may_draw name code) (does Draw) (ends a name) ∷ []) N
     ∙ ap (λ (d : Bool). did (Close name normal) ∷ tells_refusal name origin code (N ++ did (Close name normal) ∷ []) ++ if_so d (does Draw) (ends a name) (told name origin code N) ++ []) h
-
-draws_where_none : (name : LinkName) (code : ℕ) (C : Log) → may_draw name code C ≡ true → none_there C ≡ true
-draws_where_none name code C h =
-    and_right (is_hub name && (code == duplicate_vmac_code)) (none_there C)
-    (and_left (is_hub name && (code == duplicate_vmac_code) && none_there C) (not (is_finishing C))
-    (and_left (is_hub name && (code == duplicate_vmac_code) && none_there C && not (is_finishing C)) (nat_lt (renewals C) 8) h))
 
 -- what is known of a message that came, once its machine heard it and came to this outcome
 record Heard (a : Made) (L : Log) (e : TimedEvent) (name : LinkName) (N : Log) (u : Outcome) : Type 0 where

@@ -1,6 +1,6 @@
 -- What follows from an event fits where it stands: from each event between two others, and from the start.
 use Rattle.std.proofs.Common.{◌≡◌, ℕ, Bool, true, false, not, ◌&&◌, List, [], ◌∷◌, ◌++◌, Option, Some, None, inl, inr, refl, ap, sym, ◌∙◌, subst}
-use Rattle.std.specs.Prelude.{◌^◌, IsTrue, nat_le, nat_lt, if◌then◌else◌}
+use Rattle.std.specs.Prelude.{IsTrue}
 use Rattle.std.specs.List.{list_any}
 use Rattle.std.proofs.lemmas.List.{append-nil}
 use Rattle.std.proofs.lemmas.List.Elements.{filter_map-append}
@@ -26,11 +26,11 @@ use Rattle.bsc_node.specs.Meeting.{ends_refused}
 use Rattle.bsc_node.specs.Requesting.{sends, resolves, solicits}
 use Rattle.bsc_node.specs.Events.{obeys, follows}
 use Rattle.bsc_node.specs.Node.{goes_on}
-use Rattle.bsc_node.specs.Conditions.{is_start, has_opened, awaits_word, brings_word, fits as may_fit, may_come}
+use Rattle.bsc_node.specs.Conditions.{is_start, has_opened, brings_word, fits as may_fit, may_come}
 use Rattle.bsc_node.specs.Laws.{with_event}
 use Rattle.bsc_node.proofs.Order.{in_order-brought, in_order-cons}
 use Rattle.bsc_node.proofs.Told.{same_link-self}
-use Rattle.bsc_node.proofs.Following.{goes_on-is, and_left}
+use Rattle.bsc_node.proofs.Following.{goes_on-is}
 use Rattle.bsc_node.proofs.Lasting.{free_in_slots, there_in_slots, event_fits}
 use Rattle.bsc_node_laws.specs.Links.{opens_at, GoesOn, Admits}
 use Rattle.bsc_node_laws.proofs.Tied.{Tied, EachFits}
@@ -40,6 +40,8 @@ use Rattle.bsc_node_laws.proofs.Tying.{keeps_event, keeps_opened, free_gone}
 use Rattle.bsc_node_laws.proofs.Plain.{plain-hears, plain-sends, plain-resolves, plain-solicits}
 use Rattle.bsc_node_laws.proofs.Fitting.{fit-plain, fit-then, fit-last, fit-in_order, over, fit-ends, fit-closes_link}
 use Rattle.bsc_node_laws.proofs.Obeying.{fit-obeys, fit-time_passes, fit-is_to_end, fit-directs, MayDialNext, fit-dial_fails, fit-ends_refused}
+use Rattle.bsc_lemmas.proofs.Booleans.{and_left}
+use Rattle.bsc_node.proofs.Common.{word_awaited}
 
 -- ---- what an event is, once it came
 
@@ -54,20 +56,6 @@ ended_gone L e name ev is h = there-over name L (came e) refl (ap (is_over_by_ev
 -- the condition on an event is met
 fitting : (L : Log) (e : TimedEvent) (ev : NodeEvent) → IsTrue (may_come L e) → e.event ≡ ev → may_fit L ev ≡ true
 fitting L e ev h is = sym (ap (may_fit L) is) ∙ event_fits L e h
-
--- where an event brings a word, one was awaited
-word_awaited : (L : Log) (e : TimedEvent) → IsTrue (may_come L e) → brings_word e.event ≡ true → awaits_word L ≡ true
-word_awaited L e h w = by (brings_word e.event) w (third (nat_le (now L) e.now) (nat_lt e.now (2 ^ 62)) (if brings_word e.event then awaits_word L else not (awaits_word L)) (may_fit L e.event) h)
-  where
-    third : (p q r s : Bool) → (p && q && r && s) ≡ true → r ≡ true
-    third true true true s g = refl
-    third true true false s g = g
-    third true false r s g = cc
-    third false q r s g = cc
-
-    by : (b : Bool) → b ≡ true → (if b then awaits_word L else not (awaits_word L)) ≡ true → awaits_word L ≡ true
-    by true d g = g
-    by false d g = cc
 
 -- the link whose dial failed was there
 failed_there : (L : Log) (e : TimedEvent) (name : LinkName) → IsTrue (may_come L e) → e.event ≡ DialFailed name → is_there name L ≡ true

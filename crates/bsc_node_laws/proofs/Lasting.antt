@@ -6,10 +6,10 @@ use Rattle.bsc_node.specs.declared.timed_event.TimedEvent.{TimedEvent}
 use Rattle.bsc_node.specs.Logs.{Made, Log}
 use Rattle.bsc_node.specs.Node.{goes_on, log}
 use Rattle.bsc_node.specs.Conditions.{may_come, Watched, may_all_come}
-use Rattle.bsc_node.proofs.Following.{and_left, and_right}
 use Rattle.bsc_node_laws.specs.Links.{Brings}
 use Rattle.bsc_node_laws.proofs.Between.{Between}
 use Rattle.bsc_node_laws.proofs.Bringing.{begun, brings}
+use Rattle.bsc_lemmas.proofs.Booleans.{and_left, and_right}
 
 -- what `may_all_come` keeps, after one event more
 abbrev watch : Made → Watched → TimedEvent → Watched

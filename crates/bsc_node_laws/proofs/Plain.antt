@@ -35,8 +35,8 @@ use Rattle.bsc_node.specs.Ending.{carries_out_by, carries_out, finishes_machine,
 use Rattle.bsc_node.specs.Receiving.{sender, is_for_all, answers, answers_by, learns, drops_question, takes_answer, of_sender, takes_body, delivers}
 use Rattle.bsc_node.specs.Requesting.{puts_own, by_path, asks_unless, sends, resolves, solicits, fits}
 use Rattle.bsc_node.proofs.Passing.{Passes, pass-in_order, pass-either, pass-nothing, pass-when, pass-found, pass-if, pass-some}
-use Rattle.bsc_node.proofs.Following.{and_left, and_right}
 use Rattle.bsc_node_laws.proofs.Tied.{FitsHub, Fits, EachFits}
+use Rattle.bsc_lemmas.proofs.Booleans.{and_left, and_right}
 
 abbrev is_plain_hub : ConnectorEvent → Bool
 is_plain_hub Start = false

@@ -1,14 +1,12 @@
 -- Which links are there, were taken and have opened, once one line more stands in the log.
-use Rattle.std.proofs.Common.{◌≡◌, ℕ, Bool, true, false, not, cond, ◌||◌, ◌&&◌, List, [], ◌∷◌, ◌++◌, Option, Some, None, is_some, refl, ap, sym, ◌∙◌, arith}
-use Rattle.std.specs.Prelude.{◌==◌, filter_map, unwrap_or}
+use Rattle.std.proofs.Common.{◌≡◌, ℕ, Bool, true, false, not, ◌||◌, ◌&&◌, List, [], ◌∷◌, ◌++◌, Option, Some, None, is_some, refl, ap, sym, ◌∙◌}
+use Rattle.std.specs.Prelude.{filter_map, unwrap_or}
 use Rattle.std.specs.List.{list_all, list_any}
 use Rattle.std.specs.Option.{option_or}
-use Rattle.std.proofs.lemmas.Bool.{eqb-true}
 use Rattle.std.proofs.lemmas.List.{append_assoc, append-nil}
-use Rattle.std.proofs.lemmas.List.Elements.{filter_map-append}
 use Rattle.bsc_connector.specs.declared.side.Side.TheVariants.{Primary, Failover}
-use Rattle.bsc_connector.specs.Back.{first_of, newest_of}
-use Rattle.bsc_connector.proofs.BackLemmas.{newest_of-more, since-more, list_any-more}
+use Rattle.bsc_connector.specs.Back.{newest_of}
+use Rattle.bsc_connector.proofs.BackLemmas.{newest_of-more, list_any-more}
 use Rattle.bsc_accept.specs.declared.closing.Closing.{Closing}
 use Rattle.bsc_initiate.specs.declared.event.InitEvent.{InitEvent}
 use Rattle.bsc_initiate.specs.declared.event.InitEvent.TheVariants.{Opened}
@@ -20,12 +18,14 @@ use Rattle.bsc_node.specs.Logs.{Line, initiating, did, Log}
 use Rattle.bsc_node.specs.Links.{same_link, beginning_of, begins, is_over_by, life, is_there, was_taken, initiating_event, initiating_events, request}
 use Rattle.bsc_node.specs.Conditions.{has_opened}
 use Rattle.bsc_node.proofs.Told.{same_link-self, life-more, initiating_events-more}
-use Rattle.bsc_node.proofs.Following.{and_left, and_right, not_true}
+use Rattle.bsc_connector.proofs.Common.{first_of-more}
+use Rattle.bsc_lemmas.proofs.Booleans.{and_false, and_left, and_right, not_true, or_false, or_true}
+use Rattle.bsc_lemmas.proofs.Lists.{filter_map_none as filter_one}
+use Rattle.bsc_lemmas.proofs.Numbers.{eq_turned as same_order}
+use Rattle.bsc_lemmas.proofs.Options.{none_if as none_so, or_none as or_last, some_so}
+use Rattle.bsc_node.proofs.Common.{life_begun as life-begun}
 
 -- ---- names
-
-same_order : (k j : ℕ) → (k == j) ≡ (j == k)
-same_order k j = grind arith
 
 pub same_link-symmetric : (name other : LinkName) → same_link name other ≡ same_link other name
 same_link-symmetric (Hub Primary) (Hub Primary) = refl
@@ -36,20 +36,6 @@ same_link-symmetric (Hub s) (Direct j) = refl
 same_link-symmetric (Direct k) (Hub t) = refl
 same_link-symmetric (Direct k) (Direct j) = same_order k j
 
--- Two names that are the same name are equal.
-pub same_link-true : (other name : LinkName) → same_link other name ≡ true → other ≡ name
-same_link-true (Hub Primary) (Hub Primary) h = refl
-same_link-true (Hub Primary) (Hub Failover) h = cc
-same_link-true (Hub Failover) (Hub Primary) h = cc
-same_link-true (Hub Failover) (Hub Failover) h = refl
-same_link-true (Hub s) (Direct j) h = cc
-same_link-true (Direct k) (Hub t) h = cc
-same_link-true (Direct k) (Direct j) h = ap (λ (i : ℕ). let name : LinkName = Direct i in name) (eqb-true k j h)
-
-some_so : {A : Type 0} (b : Bool) (x : A) → is_some (cond b (Some x) None) ≡ b
-some_so true x = refl
-some_so false x = refl
-
 -- A dial begins the link that it names, and so does a link that is taken.
 pub begins-dial : (name other : LinkName) (uri : List ℕ) → begins name (did (Dial other uri)) ≡ same_link other name
 begins-dial name other uri = some_so (same_link other name) false
@@ -58,14 +44,6 @@ pub begins-take : (name other : LinkName) → begins name (did (Take other)) ≡
 begins-take name other = some_so (same_link other name) true
 
 -- ---- which links are there
-
-or_false : (p : Bool) → (p || false) ≡ p
-or_false true = refl
-or_false false = refl
-
-or_true : (p : Bool) → (p || true) ≡ true
-or_true true = refl
-or_true false = refl
 
 -- A link is there, after a line that doesn't begin it, where it began and is over neither before nor by that line.
 pub there-more : (name : LinkName) (L : Log) (m : Line) → begins name m ≡ false
@@ -83,10 +61,6 @@ there-other name L m b o =
     ∙ ap (λ (p : Bool). list_any (begins name) L && not (list_any (is_over_by name) (life L name) || p)) o
     ∙ ap (λ (p : Bool). list_any (begins name) L && not p) (or_false (list_any (is_over_by name) (life L name)))
 
-and_false : (p : Bool) → (p && false) ≡ false
-and_false true = refl
-and_false false = refl
-
 -- A link that is over isn't there.
 pub there-over : (name : LinkName) (L : Log) (m : Line) → begins name m ≡ false → is_over_by name m ≡ true → is_there name (L ++ m ∷ []) ≡ false
 there-over name L m b o =
@@ -94,9 +68,6 @@ there-over name L m b o =
     ∙ ap (λ (p : Bool). list_any (begins name) L && not (list_any (is_over_by name) (life L name) || p)) o
     ∙ ap (λ (p : Bool). list_any (begins name) L && not p) (or_true (list_any (is_over_by name) (life L name)))
     ∙ and_false (list_any (begins name) L)
-
-life-begun : (name : LinkName) (L : Log) (m : Line) → begins name m ≡ true → life (L ++ m ∷ []) name ≡ []
-life-begun name L m b = since-more (begins name) L m ∙ ap (λ (p : Bool). cond p [] (life L name ++ m ∷ [])) b
 
 -- A link that begins is there.
 pub there-begun : (name : LinkName) (L : Log) (m : Line) → begins name m ≡ true → is_over_by name m ≡ false → is_there name (L ++ m ∷ []) ≡ true
@@ -133,10 +104,6 @@ closed-gone name L c = there-over name L (did (Close name c)) refl (same_link-se
 
 -- ---- which were taken
 
-none_so : {A : Type 0} (o : Option A) → is_some o ≡ false → o ≡ None
-none_so None h = refl
-none_so (Some x) h = cc
-
 pub taken-other : (name : LinkName) (L : Log) (m : Line) → begins name m ≡ false → was_taken name (L ++ m ∷ []) ≡ was_taken name L
 taken-other name L m b =
     ap (λ (o : Option Bool). unwrap_or o false) (newest_of-more (beginning_of name) L m)
@@ -149,25 +116,10 @@ taken-begun name L m b is =
 
 -- ---- which have opened
 
-filter_one : {A B : Type 0} (f : A → Option B) (xs : List A) (x : A) → f x ≡ None → filter_map f (xs ++ x ∷ []) ≡ filter_map f xs
-filter_one f xs x h = filter_map-append f xs (x ∷ []) ∙ rw h (append-nil (filter_map f xs))
-
 -- A line that neither begins a link nor tells its machine anything leaves it open or not, as it was.
 pub opened-other : (name : LinkName) (L : Log) (m : Line) → begins name m ≡ false → initiating_event name m ≡ None → has_opened name (L ++ m ∷ []) ≡ has_opened name L
 opened-other name L m b e =
     ap (λ (E : List InitEvent). is_some (request E)) (ap (filter_map (initiating_event name)) (life-more L m name b) ∙ filter_one (initiating_event name) (life L name) m e)
-
-or_last : {A : Type 0} (o : Option A) → option_or o None ≡ o
-or_last None = refl
-or_last (Some x) = refl
-
-or_three : {A : Type 0} (o p q : Option A) → option_or o (option_or p q) ≡ option_or (option_or o p) q
-or_three None p q = refl
-or_three (Some x) p q = refl
-
-first_of-more : {A B : Type 0} (f : A → Option B) (xs : List A) (x : A) → first_of f (xs ++ x ∷ []) ≡ option_or (first_of f xs) (f x)
-first_of-more f [] x = or_last (f x)
-first_of-more f (y ∷ ys) x = ap (λ o. option_or (f y) o) (first_of-more f ys x) ∙ or_three (f y) (first_of f ys) (f x)
 
 -- the request, once the link's machine is told one thing more
 request-more : (name : LinkName) (L : Log) (e : InitEvent) → request (initiating_events (L ++ initiating name e ∷ []) name) ≡ option_or (request (initiating_events L name)) (request_at e)

@@ -1,6 +1,6 @@
 -- A log stays tied as lines that fit come about, and at each event.
 use Rattle.std.proofs.Common.{◌≡◌, ℕ, Bool, true, false, not, cond, ◌||◌, ◌&&◌, List, [], ◌∷◌, ◌++◌, find, Option, Some, None, refl, ap, sym, ◌∙◌, subst}
-use Rattle.std.specs.Prelude.{◌==◌, filter_map}
+use Rattle.std.specs.Prelude.{◌==◌}
 use Rattle.std.proofs.lemmas.Bool.{eqb-true}
 use Rattle.std.proofs.lemmas.List.{append_assoc, append-nil}
 use Rattle.std.proofs.lemmas.List.Elements.{filter_map-append}
@@ -18,7 +18,7 @@ use Rattle.bsc_connector.proofs.SideLemmas.{unless_come, due-cleared, due-same, 
 use Rattle.bsc_direct.specs.declared.call.SlotCall.{SlotCall}
 use Rattle.bsc_direct.specs.declared.call.SlotCall.TheVariants.{Claim, Up, Release}
 use Rattle.bsc_direct.specs.Slots.{slots, is_claimed}
-use Rattle.bsc_direct.proofs.OneMore.{claimed-kept, claimed-said, both_ways, some_same}
+use Rattle.bsc_direct.proofs.OneMore.{claimed-kept, claimed-said, both_ways}
 use Rattle.bsc_initiate.specs.declared.event.InitEvent.{InitEvent}
 use Rattle.bsc_initiate.specs.declared.event.InitEvent.TheVariants.{Opened as MachineOpened}
 use Rattle.bsc_node.specs.declared.link_name.LinkName.{LinkName}
@@ -34,24 +34,17 @@ use Rattle.bsc_node.specs.Hubs.{waits, hub_event_of, hub_events, no_step, newest
 use Rattle.bsc_node.specs.Ways.{slot_call_of, slot_calls, free_slot}
 use Rattle.bsc_node.specs.Ending.{dials}
 use Rattle.bsc_node.proofs.Told.{at_last-more, same_link-self}
-use Rattle.bsc_node.proofs.Following.{and_left, and_right, not_true}
 use Rattle.bsc_node_laws.specs.Links.{MayStand, EachMay}
 use Rattle.bsc_node_laws.proofs.Tied.{Tied, FitsHub, FitsDial, Fits, EachFits}
 use Rattle.bsc_node_laws.proofs.There.{begins-dial, begins-take, gone-stays, there-before}
+use Rattle.bsc_lemmas.proofs.Booleans.{and_left, and_right, not_true}
+use Rattle.bsc_node.proofs.Common.{hub_events-kept as hub_events-same, slot_calls-kept as slot_calls-same}
+use Rattle.std.proofs.lemmas.Option.{same_Some as some_same}
 
 -- ---- what the connector and the slots were told
 
-kept_none : {A B : Type 0} (f : A → Option B) (xs : List A) (x : A) → f x ≡ None → filter_map f (xs ++ x ∷ []) ≡ filter_map f xs
-kept_none f xs x h = filter_map-append f xs (x ∷ []) ∙ rw h (append-nil (filter_map f xs))
-
-pub hub_events-same : (L : Log) (m : Line) → hub_event_of m ≡ None → hub_events (L ++ m ∷ []) ≡ hub_events L
-hub_events-same L m h = kept_none hub_event_of L m h
-
 pub hub_events-more : (L : Log) (e : HubEvent) → hub_events (L ++ connector e ∷ []) ≡ hub_events L ++ e ∷ []
 hub_events-more L e = filter_map-append hub_event_of L (connector e ∷ [])
-
-pub slot_calls-same : (L : Log) (m : Line) → slot_call_of m ≡ None → slot_calls (L ++ m ∷ []) ≡ slot_calls L
-slot_calls-same L m h = kept_none slot_call_of L m h
 
 pub slot_calls-more : (L : Log) (call : SlotCall) → slot_calls (L ++ slot call ∷ []) ≡ slot_calls L ++ call ∷ []
 slot_calls-more L call = filter_map-append slot_call_of L (slot call ∷ [])

@@ -1,8 +1,7 @@
 -- Whole runs, from their turns.
-use Rattle.std.proofs.Common.{◌≡◌, ◌≤◌, ◌<◌, ◌^◌, ℕ, ◌+◌, Bool, false, List, [], ◌∷◌, ◌++◌, length, Option, Some, None, refl, ap, sym, ◌∙◌, subst, append_assoc, append-nil, arith, unwrap_or}
+use Rattle.std.proofs.Common.{◌≡◌, ◌≤◌, ◌<◌, ◌^◌, ℕ, ◌+◌, Bool, false, List, [], ◌∷◌, ◌++◌, length, Option, Some, refl, ap, sym, ◌∙◌, subst, append_assoc, append-nil, arith, unwrap_or}
 use Rattle.std.proofs.lemmas.List.{length-append}
 use Rattle.bsc_edge.specs.declared.said.Said.{Said}
-use Rattle.bsc_edge.specs.Told.{Grows}
 use Rattle.bsc_node.specs.declared.node_event.NodeEvent.{NodeEvent}
 use Rattle.bsc_node.specs.declared.action.Action.{Action}
 use Rattle.bsc_node_run.specs.declared.due.Due.{Due}
@@ -10,16 +9,6 @@ use Rattle.bsc_node_run.specs.Running.{DontFall, Turns}
 use Rattle.bsc_node_run.specs.Turning.{Turn}
 use Rattle.bsc_node_run.specs.Worlds.{World}
 use Rattle.bsc_node_run.proofs.Turns.{same}
-
-pub grows_none : {A : Type 0} (old : Option (List A)) → Grows old old []
-grows_none None = tt
-grows_none (Some o) = sym (append-nil o)
-
-pub grows_then : {A : Type 0} (old mid new : Option (List A)) (xs ys : List A) → Grows old mid xs → Grows mid new ys → Grows old new (xs ++ ys)
-grows_then old mid None xs ys a b = tt
-grows_then old None (Some n) xs ys a b = absurd b
-grows_then None (Some m) (Some n) xs ys a b = absurd a
-grows_then (Some o) (Some m) (Some n) xs ys a b = b ∙ ap (λ l. l ++ ys) a ∙ append_assoc o xs ys
 
 pub one_longer : (times : List ℕ) (now made : ℕ) → length times ≡ made → length (times ++ now ∷ []) ≡ made + 1
 one_longer times now made e = length-append times (now ∷ []) ∙ ap (λ n. n + 1) e

@@ -32,9 +32,10 @@ use Rattle.bsc_node_run.specs.Performing.{Carries, Does, Closes, Puts, Refuses, 
 use Rattle.bsc_node_run.specs.Running.{Run, Turns, EndsSo}
 use Rattle.bsc_node_run.specs.Turning.{Admits, Answers, Gives, GivesIn, GivesLines, GivesNews, HearsEach, HearsIf, HearsOf, Starts, Turn, draws, event_of, names}
 use Rattle.bsc_node_run.specs.Worlds.{Dialling, World, Same, begun, ends, is_open, with_link}
-use Rattle.bsc_node_run.proofs.Runs.{grows_none, grows_then}
 use Rattle.bsc_node_runs.specs.Courses.{Goes}
 use Rattle.bsc_node_runs.specs.Said.{AreDialled, EndsAsTold, IsSaid, done_in, line_by, tells_end, uri_by}
+use Rattle.bsc_edge.proofs.Common.{grown as grows_then, grows-nil as grows_none}
+use Rattle.bsc_lemmas.proofs.Booleans.{or_false as or_none}
 
 -- ---- what is written and dialled between two moments
 
@@ -64,10 +65,6 @@ or_later true true r = refl
 or_later true false r = refl
 or_later false true r = refl
 or_later false false r = refl
-
-or_none : (p : Bool) → (p || false) ≡ p
-or_none true = refl
-or_none false = refl
 
 module _ {L : Type 0} where
   -- What these actions say was written and dialled, and that the node has ended was told by them or before.

@@ -1,15 +1,14 @@
 -- The envelope that is read from a message is the one that the message spells.
-use Rattle.std.proofs.Common.{◌≡◌, ℕ, suc, ◌+◌, ◌<◌, ◌≤◌, Bool, true, false, cond, not, nat_le, ◌&&◌, ltb, List, [], ◌∷◌, ◌++◌, length, get_or, take, drop, Option, Some, None, is_some, Result, Ok, Err, IfOk, IfSome, refl, ap, sym, ◌∙◌, subst, arith, append_assoc, append-nil, length-append, length-take, length-drop}
-use Rattle.std.proofs.lemmas.Bool.{le-ltb, ltb-false, leb-true, and_parts, not-true}
+use Rattle.std.proofs.Common.{◌≡◌, ℕ, suc, ◌+◌, ◌<◌, ◌≤◌, Bool, true, false, cond, ltb, List, [], ◌∷◌, ◌++◌, length, get_or, take, drop, Option, Some, None, is_some, Result, Ok, Err, IfOk, IfSome, refl, ap, sym, ◌∙◌, subst, arith, append_assoc, append-nil, length-append, length-take, length-drop}
+use Rattle.std.proofs.lemmas.Bool.{le-ltb, ltb-false}
 use Rattle.std.proofs.lemmas.List.{take-append-drop, take_at, drop_at, drop-drop}
 use Rattle.byteorder.specs.Endian.{big_bytes}
 use Rattle.bsc_octets.specs.declared.vmac.Vmac.{Vmac}
 use Rattle.bsc_octets.specs.declared.envelope.Envelope.{Envelope}
 use Rattle.bsc_octets.specs.declared.envelope.EnvelopeFault.{EnvelopeFault}
 use Rattle.bsc_octets.specs.declared.envelope.EnvelopeFault.TheVariants.{Cut}
-use Rattle.bsc_octets.specs.Forwarding.{has_route}
 use Rattle.bsc_octets.proofs.TwoOctets.{two_octets, two_octet_number}
-use Rattle.bsc_octets.specs.Envelopes.{flags_in, announces_origin, announces_dest, address_octets, SpellsEnvelope, HasWholeAddresses, vmac_at, header_of, envelope_of}
+use Rattle.bsc_octets.specs.Envelopes.{announces_origin, announces_dest, address_octets, SpellsEnvelope, HasWholeAddresses, vmac_at, header_of, envelope_of}
 
 -- ---- what is read is spelled
 
@@ -76,18 +75,6 @@ spelled (f ∷ g ∷ a ∷ b ∷ rest) e all h =
 pub spelled_result : (m : List ℕ) (r : Result Envelope EnvelopeFault) → ((i : ℕ) → get_or m i 0 < 256) → r ≡ envelope_of m → IfOk r (λ e. SpellsEnvelope e m)
 spelled_result m (Ok e) all h = spelled m e all (sym h)
 spelled_result m (Err e) all h = tt
-
--- a message that has a route has an envelope with that destination and no origin, and the rest stands at 10
-pub routed : (m : List ℕ) → has_route m ≡ true → envelope_of m ≡ Ok (header_of m None (Some (vmac_at m 4)) 10)
-unfolding envelope_of
-routed m h =
-    let three = and_parts (nat_le 10 (length m) && announces_dest (flags_in m)) (not (announces_origin (flags_in m))) h in
-    let two = and_parts (nat_le 10 (length m)) (announces_dest (flags_in m)) three.0 in
-    let ten : 10 ≤ length m = leb-true 10 (length m) two.0 in
-    let four : ltb (length m) 4 ≡ false = le-ltb (length m) 4 (omega arith) in
-    let long : ltb (length m) 10 ≡ false = le-ltb (length m) 10 ten in
-    let no : announces_origin (flags_in m) ≡ false = not-true (announces_origin (flags_in m)) three.1 in
-    rw (four, no, two.1, long) refl
 
 -- ---- what is spelled is read
 

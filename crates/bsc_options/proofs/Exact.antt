@@ -107,10 +107,6 @@ one_fault m at x y first other =
 abbrev Found : Type 0
 Found = Result (List OptionItem × ℕ) OptionsFault
 
-pub found_of : (m : List ℕ) (at : ℕ) (r : Found) → Answers m at r → IfOk r (λ x. AreOptions x.0 × BeginsWith m at x.0 x.1)
-found_of m at (Ok x) a = a
-found_of m at (Err e) a = tt
-
 pub spelled_some : (list : List OptionItem) → 0 < length list → 0 < length (spelling_of list)
 spelled_some [] some = absurd (omega arith)
 spelled_some (x ∷ list) some = omega arith

@@ -7,3 +7,4 @@ pub mod Faults
 pub mod Exact
 pub mod Ends
 mod WorkedOptions
+pub mod Common

@@ -1,9 +1,10 @@
 -- The marker: its bits are tested, put together, and found again.
-use Rattle.std.proofs.Common.{◌≡◌, ℕ, zero, suc, ◌+◌, ◌*◌, ◌/◌, ◌%◌, ◌<◌, ◌≤◌, Bool, true, false, eqb, is_some, refl, ◌∙◌, arith}
+use Rattle.std.proofs.Common.{◌≡◌, ℕ, ◌+◌, ◌*◌, ◌/◌, ◌%◌, ◌<◌, ◌≤◌, Bool, true, false, eqb, is_some, refl, ◌∙◌, arith}
 use Rattle.std.specs.Prelude.{bit_and}
 use Rattle.std.proofs.lemmas.Nat.Bits.{and_pow, and_high}
 use Rattle.bsc_options.specs.declared.item.OptionItem.{OptionItem}
 use Rattle.bsc_options.specs.Spelling.{bit, marker_of}
+use Rattle.bsc_options.proofs.Common.{bit_of}
 
 -- ---- tests
 
@@ -33,11 +34,6 @@ bit_same true true e = refl
 bit_same false false e = refl
 bit_same true false e = absurd (omega arith)
 bit_same false true e = absurd (omega arith)
-
-bit_of : (n : ℕ) → n < 2 → bit (eqb n 1) ≡ n
-bit_of zero h = refl
-bit_of (suc zero) h = refl
-bit_of (suc (suc n)) h = absurd (omega arith)
 
 -- the four parts of a number below 256
 parts_again : (marker : ℕ) → marker < 256 → 128 * (marker / 128 % 2) + 64 * (marker / 64 % 2) + 32 * (marker / 32 % 2) + marker % 32 ≡ marker

@@ -34,9 +34,6 @@ abbrev pub FaultLeft : List ℕ → List ℕ → Type 0
 FaultLeft list rest = (items : List OptionItem) → AllByRecursion Fits items → list ≡ spelling_of items
     → (tail : List OptionItem) × AllByRecursion Fits tail × (rest ≡ spelling_of tail) × (first_fault items ≡ first_fault tail)
 
-pub fault_start : (list : List ℕ) → FaultLeft list list
-fault_start list items all e = (items, all, e, refl)
-
 pub fault_on : (list rest next : List ℕ) (follows : Bool) (item : OptionItem) → FaultLeft list rest → Fits item → rest ≡ item_octets follows item ++ next → None ≡ fault_of item → FaultLeft list next
 fault_on list rest next follows item left fits found sound items all e =
     let so_far = left items all e in
@@ -63,9 +60,6 @@ fault_nowhere list rest left cut items all e =
 abbrev pub ItemsLeft : List ℕ → List ℕ → List OptionItem → Type 0
 ItemsLeft list rest before = (items : List OptionItem) → AllByRecursion Fits items → list ≡ spelling_of items
     → (tail : List OptionItem) × AllByRecursion Fits tail × (rest ≡ spelling_of tail) × (items ≡ before ++ tail)
-
-pub items_start : (list : List ℕ) → ItemsLeft list list []
-items_start list items all e = (items, all, e, refl)
 
 pub items_on : (list rest next : List ℕ) (before : List OptionItem) (follows : Bool) (item : OptionItem) → ItemsLeft list rest before → Fits item → rest ≡ item_octets follows item ++ next → ItemsLeft list next (before ++ item ∷ [])
 items_on list rest next before follows item left fits found items all e =

@@ -45,14 +45,6 @@ pub stands_often : (k : ℕ) (xs : List ℕ) → 0 < often k xs → stands k xs 
 stands_often k [] some = let no : ⊥ = omega (arith, some) in absurd no
 stands_often k (x ∷ xs) some = by_test (x == k) k x xs refl some (stands_often k xs)
 
-by_stand : (b : Bool) (k x : ℕ) (xs : List ℕ) → (x == k) ≡ b → (b || stands k xs) ≡ true → (stands k xs ≡ true → 0 < often k xs) → 0 < often k (x ∷ xs)
-by_stand true k x xs e h more = let one = often_here k x xs (eqb-true x k e) in omega (arith, one)
-by_stand false k x xs e h more = let some = more h in let also = often_more k x xs in omega (arith, some, also)
-
-pub often_stands : (k : ℕ) (xs : List ℕ) → stands k xs ≡ true → 0 < often k xs
-often_stands k [] h = let no : false ≡ true = h in absurd cc
-often_stands k (x ∷ xs) h = by_stand (x == k) k x xs refl h (often_stands k xs)
-
 by_never : (b : Bool) (k x : ℕ) (xs : List ℕ) → (x == k) ≡ b → often k (x ∷ xs) ≡ 0 → (often k xs ≡ 0 → stands k xs ≡ false) → (b || stands k xs) ≡ false
 by_never true k x xs e none more = let one = often_here k x xs (eqb-true x k e) in let no : ⊥ = omega (arith, one, none) in absurd no
 by_never false k x xs e none more = more (let also = often_more k x xs in omega (arith, none, also))

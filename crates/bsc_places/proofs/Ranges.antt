@@ -4,6 +4,7 @@ use Rattle.std.specs.List.{list_any, range_with_len}
 use Rattle.std.proofs.lemmas.Bool.{cases_eq, ltb-true}
 use Rattle.bsc_places.specs.Places.{IsLeastMissing, IsLeastTwice}
 use Rattle.bsc_places.proofs.Counting.{often, often_here, often_more, often_there, stands_often}
+use Rattle.bsc_lemmas.proofs.Booleans.{not_both as told}
 
 -- none is less than the first
 pub from_on : (k n m : ℕ) → k < n → often k (range_with_len n m) ≡ 0
@@ -56,9 +57,6 @@ by_head false p x xs e h more =
 greater_of : (p : ℕ) (xs : List ℕ) → list_any (λ q. nat_lt p q) xs ≡ true → Greater p xs
 greater_of p [] h = absurd cc
 greater_of p (x ∷ xs) h = by_head (nat_lt p x) p x xs refl h (greater_of p xs)
-
-told : {b : Bool} → b ≡ true → b ≡ false → ⊥
-told h k = cc
 
 pub none_missing : (xs : List ℕ) (n p : ℕ) → AreAll xs n → IsLeastMissing p xs → ⊥
 none_missing xs n p all m =

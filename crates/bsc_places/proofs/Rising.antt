@@ -10,11 +10,6 @@ abbrev pub Rise : List ℕ → Type 0
 Rise [] = ⊤
 Rise (x ∷ xs) = AllByRecursion (λ y. x ≤ y) xs × Rise xs
 
--- what is at least m is so by a lesser bound, and by one that is less
-pub at_least : (k m : ℕ) (xs : List ℕ) → k ≤ m → AllByRecursion (λ y. m ≤ y) xs → AllByRecursion (λ y. k ≤ y) xs
-at_least k m [] less all = tt
-at_least k m (x ∷ xs) less all = ((let here = all.0 in omega (arith, here, less)), at_least k m xs less all.1)
-
 pub above : (k m : ℕ) (xs : List ℕ) → k < m → AllByRecursion (λ y. m ≤ y) xs → AllByRecursion (λ y. k < y) xs
 above k m [] less all = tt
 above k m (x ∷ xs) less all = ((let here = all.0 in omega (arith, here, less)), above k m xs less all.1)

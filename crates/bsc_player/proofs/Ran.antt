@@ -1,6 +1,6 @@
 -- How a run ends whose input was played.
-use Rattle.std.proofs.Common.{◌≡◌, ℕ, ◌⊎◌, inl, inr, ⊎_elim, List, [], ◌++◌, length, take, drop, refl, ap, sym, ◌∙◌, subst, append-nil, arith, Option, Some, None, Result, Ok, Err}
-use Rattle.std.proofs.lemmas.List.{take_all, take-append-drop}
+use Rattle.std.proofs.Common.{◌≡◌, ℕ, ◌⊎◌, inl, inr, ⊎_elim, List, [], ◌++◌, take, drop, refl, ap, sym, ◌∙◌, subst, append-nil, arith, Option, Some, None, Result, Ok, Err}
+use Rattle.std.proofs.lemmas.List.{take-append-drop}
 use Rattle.std.specs.Prelude.{⊤, OnOk, OnErr}
 use Rattle.std.specs.Io.KnownBytes.{Appends}
 use Rattle.bsc_outside.specs.Faults.{HasRisen, PutsPrefix}
@@ -11,27 +11,13 @@ use Rattle.bsc_player.specs.Playing.{Played}
 use Rattle.bsc_player.specs.Ends.{PlaysOut, WritesAll, WritesTo, WritesWhole, WritesSome, whole_lines, lines_read}
 use Rattle.bsc_player.specs.LastLines.{script_line, read_line, memory_line, EndsWith, RanOut, EndsTo}
 use Rattle.bsc_player.specs.Statuses.{IsMishap, RefusesSome, StopsReading, BreaksOff, RunsOut, StatusTells}
-
--- all of some octets is a first part of them
-pub puts_all : (before after : Option (List ℕ)) (octets : List ℕ) → Appends before after octets → PutsPrefix before after octets
-puts_all before after octets h = (length octets, omega arith, subst (Appends before after) (sym (take_all (length octets) octets (omega arith))) h)
+use Rattle.bsc_lemmas.proofs.Lists.{appends_to as appended}
+use Rattle.bsc_outside.proofs.Common.{puts_all}
 
 -- a write that was tried
 pub tried : (before after : Option (List ℕ)) (octets : List ℕ) (answer : Result ⊤ Failed) → OnOk answer (Appends before after octets) → OnErr answer (PutsPrefix before after octets) → PutsPrefix before after octets
 tried before after octets (Ok done) ok err = puts_all before after octets ok
 tried before after octets (Err failed) ok err = err
-
--- the last line in whole or in part
-pub ends_in_part : (result status : ℕ) (before after : Option (List ℕ)) (line : List ℕ) → EndsWith result status before after line → PutsPrefix before after line
-ends_in_part result status before after line ends = ⊎_elim
-    (λ (h : (result ≡ status) × Appends before after line). puts_all before after line h.1)
-    (λ (h : (result ≡ 4) × PutsPrefix before after line). h.1)
-    ends
-
-appended : (before after : Option (List ℕ)) (x part : List ℕ) → before ≡ Some x → Appends before after part → after ≡ Some (x ++ part)
-appended None after x part same h = absurd cc
-appended (Some y) None x part same h = absurd h
-appended (Some y) (Some z) x part same h = let is : y ≡ x = cc in ap Some (h ∙ ap (λ (w : List ℕ). w ++ part) is)
 
 -- What a status says of the input o, where t was held before.
 pub data Told (p : List ℕ → Played) (status : ℕ) (o t : List ℕ) (left held : Option (List ℕ)) (faults faults' : ℕ) : Type 0 where

@@ -1,13 +1,14 @@
 -- What a play has reached: what was read, what was given, and what was written.
 use Rattle.std.proofs.Common.{◌≡◌, ℕ, ◌+◌, Bool, true, false, ◌⊎◌, inl, inr, ⊎_elim, List, [], ◌∷◌, ◌++◌, length, refl, ap, sym, ◌∙◌, append_assoc, append-nil, Option, Some, None}
 use Rattle.std.specs.Option.{option_map}
-use Rattle.std.specs.Io.KnownBytes.{Appends, Keeps, IsAtEnd}
+use Rattle.std.specs.Io.KnownBytes.{Keeps, IsAtEnd}
 use Rattle.bsc_text.specs.Lines.{pieces_of, has_no_lf}
 use Rattle.bsc_player.specs.Playing.{Meaning, Outcome, piece_after}
 use Rattle.bsc_player.specs.Ends.{whole_lines}
 use Rattle.bsc_player.specs.Collecting.{HandsOver}
 use Rattle.bsc_player.proofs.Cutting.{IsWhole, IsLast, pieces_of-none, first_piece, first_and_rest}
 use Rattle.bsc_player.proofs.SoFar.{Plays, plays_none, plays_more}
+use Rattle.bsc_lemmas.proofs.Lists.{appends_to as appended}
 
 -- Each line that was given has its LF, so that what follows begins a line.
 pub record IsGiven (given : List ℕ) (pieces : List (List ℕ)) : Type 0 where
@@ -142,11 +143,6 @@ pub plays_line : {S : Type 0} (means : Meaning S) (s0 : S) (o t : List ℕ) (lef
     → Reached means s0 o t left held unread' ended' count' (number + 1) stands' collected'
 plays_line means s0 o t left held unread unread' ended ended' count count' number stands stands' collected collected' piece st r first lf after holds grown same counted =
     rw (same, counted) (next_line means s0 o t left held unread unread' ended count number stands stands' collected collected' piece st r first lf after holds grown)
-
-pub appended : (before after : Option (List ℕ)) (x part : List ℕ) → before ≡ Some x → Appends before after part → after ≡ Some (x ++ part)
-appended None after x part same h = absurd cc
-appended (Some y) None x part same h = absurd h
-appended (Some y) (Some z) x part same h = let is : y ≡ x = cc in ap Some (h ∙ ap (λ (w : List ℕ). w ++ part) is)
 
 -- some of the collected text was written
 pub hands_over : {S : Type 0} (means : Meaning S) (s0 : S) (o t : List ℕ) (left held held' : Option (List ℕ)) (unread : List ℕ) (ended : Bool) (count number : ℕ) (stands : S → Type 0) (collected collected' : List ℕ)

@@ -1,7 +1,7 @@
 -- How a play ends, by what it has reached.
 use Rattle.std.proofs.Common.{◌≡◌, ℕ, ◌+◌, ◌≤◌, Bool, true, false, ◌⊎◌, inl, inr, ⊎_elim, List, [], ◌∷◌, ◌++◌, length, take, refl, ap, sym, ◌∙◌, subst, append_assoc, append-nil, length-append, arith, Option, Some, None}
 use Rattle.std.proofs.Math.Seq.{take-append-add}
-use Rattle.std.proofs.lemmas.List.{take-append-le, take_all}
+use Rattle.std.proofs.lemmas.List.{take-append-le}
 use Rattle.std.specs.List.{concat}
 use Rattle.std.specs.Io.KnownBytes.{Appends}
 use Rattle.bsc_outside.specs.Faults.{PutsPrefix}
@@ -11,7 +11,9 @@ use Rattle.bsc_player.specs.Ends.{Taken, whole_lines, lines_read, WritesAll, Wri
 use Rattle.bsc_player.specs.Collecting.{end_of}
 use Rattle.bsc_player.proofs.Cutting.{IsWhole, IsLast, pieces_of-none, whole_lines-none, first_piece, concat-pieces_of}
 use Rattle.bsc_player.proofs.SoFar.{Plays, plays_all, play_refused, play_end, ended_says}
-use Rattle.bsc_player.proofs.Reached.{IsGiven, IsAll, Reached, given_before, given_going, appended}
+use Rattle.bsc_player.proofs.Reached.{IsGiven, IsAll, Reached, given_before, given_going}
+use Rattle.bsc_lemmas.proofs.Lists.{appends_to as appended}
+use Rattle.bsc_outside.proofs.Common.{puts_all}
 
 -- how an input ends whose lines were all accepted
 ended_well : (b : Bool) (number : ℕ) → b ≡ true → (ended_at b number).refused ≡ None
@@ -84,10 +86,6 @@ breaks_off means s0 o t left held held' unread ended count number stands collect
       taken = taken_of means s0 o t left held unread ended count number stands collected r;
       written = puts_part t r.written collected begins.more (played_of means s0 (lines_read (r.given ++ unread) r.rest)).text held' all (subst (λ (h : Option (List ℕ)). PutsPrefix h held' collected) r.wrote part);
     }
-
--- all of the collected text is a first part of it
-pub puts_all : (held held' : Option (List ℕ)) (text : List ℕ) → Appends held held' text → PutsPrefix held held' text
-puts_all held held' text h = (length text, omega arith, subst (Appends held held') (sym (take_all (length text) text (omega arith))) h)
 
 -- The first line of these octets is refused.
 pub record RefusesFirst {S : Type 0} (means : Meaning S) (state : S) (count : ℕ) (octets : List ℕ) : Type 0 where
@@ -224,10 +222,3 @@ ends_at_fault means s0 o t left held unread ended count number stands r going no
 -- memory ran out, after all of the collected text was written
 pub runs_out : {S : Type 0} (means : Meaning S) (s0 : S) (o t : List ℕ) (left held held' : Option (List ℕ)) (unread : List ℕ) (ended : Bool) (count number : ℕ) (stands : S → Type 0) (collected : List ℕ) → Reached means s0 o t left held unread ended count number stands collected → Appends held held' collected → WritesSome (played_of means s0) o t left held'
 runs_out means s0 o t left held held' unread ended count number stands collected r put = breaks_off means s0 o t left held held' unread ended count number stands collected r (puts_all held held' collected put)
-
--- memory ran out before the first read
-pub runs_out_first : {S : Type 0} (means : Meaning S) (s0 : S) (o t : List ℕ) (left held : Option (List ℕ)) → left ≡ Some o → held ≡ Some t → WritesSome (played_of means s0) o t left held
-runs_out_first means s0 o t left held left_is held_is = record {
-  taken = record { read = []; rest = o; parts = refl; remains = left_is };
-  written = subst (λ (h : Option (List ℕ)). PutsPrefix (Some t) h (played_of means s0 (lines_read [] o)).text) (sym held_is) (0, omega arith, sym (append-nil t));
-}

@@ -2,7 +2,6 @@
 use Rattle.std.proofs.Common.{◌≡◌, ◌≤◌, ◌<◌, ◌+◌, ℕ, suc, Bool, true, false, cond, if◌then◌else◌, nat_eq, List, [], ◌∷◌, ◌++◌, length, take, get_or, find, option_map, Option, Some, None, is_some, HashMap, refl, ap, ap₂, sym, ◌∙◌, arith, take-suc, take_all}
 use Rattle.std.specs.Cmp.Lexicographic.{pointwise, bytes_decides}
 use Rattle.std.specs.HashMap.{get_by}
-use Rattle.std.specs.Map.{lookup}
 use Rattle.std.specs.Option.{option_or}
 use Rattle.std.proofs.lemmas.List.Folds.{find-append}
 use Rattle.bsc_octets.specs.declared.vmac.Vmac.{Vmac}
@@ -51,9 +50,6 @@ of_member names m = classes_of names m.group
 -- the first members have their classes under their addresses
 abbrev pub FiledTo : {S : Type 0} → ℕ → List Member → Names → HashMap Key Classes S → Type 0
 FiledTo i members names filed = (v : Vmac) → filed_at filed v ≡ option_map (of_member names) (find (λ m. same_vmac m.vmac v) (take i members))
-
-pub filed_none : {S : Type 0} (members : List Member) (names : Names) (filed : HashMap Key Classes S) → filed.entries ≡ [] → FiledTo 0 members names filed
-filed_none members names filed none = λ v. ap (λ (es : List (Key × Classes)). lookup (λ k. pointwise nat_eq v.0 k.0) es) none
 
 next : (names : Names) (o : Option Member) (m : Member) (b : Bool) → option_or (option_map (of_member names) o) (cond b (Some (of_member names m)) None) ≡ option_map (of_member names) (option_or o (cond b (Some m) None))
 next names (Some x) m b = refl

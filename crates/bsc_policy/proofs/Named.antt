@@ -6,12 +6,9 @@ use Rattle.std.proofs.lemmas.List.{length-map}
 use Rattle.std.proofs.lemmas.List.Folds.{list_any-append}
 use Rattle.bsc_policy.specs.declared.rule.Rule.{Rule}
 use Rattle.bsc_policy.specs.Classes.{is_among, names_of, with_name}
+use Rattle.bsc_lemmas.proofs.Booleans.{or_true}
 
 -- ---- a name more
-
-or_true : (b : Bool) → (b || true) ≡ true
-or_true true = refl
-or_true false = refl
 
 added : (names : List (List ℕ)) (name : List ℕ) → is_among (names ++ name ∷ []) name ≡ true
 added names name =

@@ -1,36 +1,23 @@
 -- Entries by their VMACs, in a list that a call changed.
-use Rattle.std.proofs.Common.{◌≡◌, ◌<◌, ◌+◌, ℕ, zero, suc, Bool, true, false, not, nat_lt, cond, ◌||◌, ◌&&◌, List, [], ◌∷◌, ◌++◌, length, map, filter, take, drop, get_or, find, Option, Some, None, is_some, refl, ap, sym, ◌∙◌, subst, arith}
-use Rattle.std.specs.Option.{option_map, option_or}
+use Rattle.std.proofs.Common.{◌≡◌, ◌<◌, ◌+◌, ℕ, zero, suc, Bool, true, false, not, nat_lt, cond, ◌||◌, List, [], ◌∷◌, ◌++◌, length, map, filter, take, drop, get_or, find, Option, Some, None, is_some, refl, ap, sym, ◌∙◌, subst, arith}
+use Rattle.std.specs.Option.{option_map}
 use Rattle.std.specs.List.{list_any, list_all, position, position_or_len, AllByRecursion, IsDistinct}
-use Rattle.std.specs.Cmp.{IsEquivalence}
-use Rattle.std.specs.Cmp.Lexicographic.{same_text, on_texts_equal}
 use Rattle.std.proofs.Math.ListN.{set}
 use Rattle.std.proofs.lemmas.Bool.{or_parts}
-use Rattle.std.proofs.lemmas.Bool.Decides.{nat_tests}
 use Rattle.std.proofs.lemmas.List.Quantifiers.{position-Some}
 use Rattle.std.proofs.lemmas.Map.Keys.{IsDistinct-head, IsDistinct-tail, IsDistinct-cons}
 use Rattle.bsc_octets.specs.declared.vmac.Vmac.{Vmac}
 use Rattle.bsc_octets.specs.Addresses.{same_vmac}
-use Rattle.bsc_resolve.specs.declared.question.Question.{Question}
 use Rattle.bsc_resolve.specs.declared.entry.Entry.{Entry}
 use Rattle.bsc_resolve.specs.Resolving.{has_id}
 use Rattle.bsc_resolve.specs.Kept.{is_for, entry_of, vmacs, kept_question, kept_uris, holds_something, at_first, ticked, unless_passed, awaiting_place}
+use Rattle.bsc_lemmas.proofs.Booleans.{above_zero}
+use Rattle.bsc_lemmas.proofs.Numbers.{below_both}
+use Rattle.bsc_lemmas.proofs.Options.{none_if as none_from, some_none_any as some_none}
+use Rattle.bsc_octets.proofs.Common.{vmac_same}
+use Rattle.std.proofs.lemmas.Bool.{and_parts as both_true}
 
 -- ---- VMACs
-
-pub vmac_laws : IsEquivalence same_vmac
-vmac_laws = on_texts_equal (λ (v : Vmac). v.0)
-
-pub vmac_same : (v w : Vmac) → same_vmac v w ≡ true → v ≡ w
-vmac_same v w h = ap (λ (l : List ℕ). let r : Vmac = record { 0 = l } in r) (same_text v.0 w.0 (sym h))
-
-pub both_true : (a b : Bool) → (a && b) ≡ true → (a ≡ true) × (b ≡ true)
-both_true true b h = (refl, h)
-both_true false b h = cc
-
-pub none_from : {A : Type 0} (o : Option A) → is_some o ≡ false → o ≡ None
-none_from None h = refl
-none_from (Some x) h = cc
 
 -- ---- places
 
@@ -51,15 +38,6 @@ find_here test (x ∷ xs) (suc i) e within here before at = rw (before 0 (omega 
 -- the element at the place is the one that is found
 pub find_placed : {A : Type 0} (test : A → Bool) (xs : List A) (i : ℕ) (e : A) → position test xs ≡ Some i → e ≡ get_or xs i e → find test xs ≡ Some e
 find_placed test xs i e place at = let q = position-Some test xs i e place in find_here test xs i e q.0 q.1 q.2 at
-
-below_both : (k n : ℕ) → nat_lt (1 + k) (suc n) ≡ nat_lt k n
-below_both k n = grind (arith, nat_tests)
-
-above_zero : (n : ℕ) → nat_lt 0 (suc n) ≡ true
-above_zero n = grind (arith, nat_tests)
-
-some_none : {A B : Type 0} (x : A) → Some x ≡ None → B
-some_none x h = cc
 
 -- where there is no place, none is found
 pub none_found : {A : Type 0} (test : A → Bool) (xs : List A) → position test xs ≡ None → find test xs ≡ None

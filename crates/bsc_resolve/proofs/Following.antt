@@ -1,8 +1,8 @@
 -- What is kept goes on standing for what happened.
-use Rattle.std.proofs.Common.{◌≡◌, ◌<◌, ◌≤◌, ◌==◌, ◌+◌, ℕ, Bool, true, false, not, cond, ◌||◌, ◌&&◌, List, [], ◌∷◌, ◌++◌, length, map, filter, get_or, find, Option, Some, None, is_some, refl, ap, sym, ◌∙◌, subst, arith}
+use Rattle.std.proofs.Common.{◌≡◌, ◌<◌, ◌≤◌, ◌==◌, ℕ, Bool, true, false, not, cond, ◌||◌, ◌&&◌, List, [], ◌∷◌, ◌++◌, length, map, filter, get_or, Option, Some, None, is_some, refl, ap, sym, ◌∙◌, subst, arith}
 use Rattle.std.specs.Prelude.{nat_le, vec_len}
 use Rattle.std.specs.Option.{option_map, option_or}
-use Rattle.std.specs.List.{list_any, list_all, position, filter_map, IsDistinct}
+use Rattle.std.specs.List.{list_all, position, filter_map, IsDistinct}
 use Rattle.std.proofs.lemmas.Bool.{le-leb, lt-leb}
 use Rattle.std.proofs.lemmas.List.{map-append}
 use Rattle.std.proofs.lemmas.List.Folds.{find-append, list_all-append}
@@ -17,11 +17,12 @@ use Rattle.bsc_resolve.specs.declared.ask_refusal.AskRefusal.{AskRefusal}
 use Rattle.bsc_resolve.specs.declared.ask_refusal.AskRefusal.TheVariants.{Full, Pending, NoMemory}
 use Rattle.bsc_resolve.specs.declared.entry.Entry.{Entry}
 use Rattle.bsc_resolve.specs.declared.resolve.Resolve.{Resolve}
-use Rattle.bsc_resolve.specs.Resolving.{vmac_of, question_for, uris_for, question, learnt, is_held, held, ask_refusal, has_id, awaits}
+use Rattle.bsc_resolve.specs.Resolving.{vmac_of, uris_for, question, learnt, is_held, held, ask_refusal, has_id, awaits}
 use Rattle.bsc_resolve.specs.Kept.{is_for, entry_of, vmacs, kept_question, kept_uris, holds_something, at_first, ticked, unless_passed, with_question, with_uris, without_question, awaiting_place}
-use Rattle.bsc_resolve.specs.Standing.{Agrees, StandsFor, IsAsked, IsRefused, AnswersAnswer, AnswersRefusal, StandsOn, IsUnchanged, by_rule}
-use Rattle.bsc_resolve.proofs.Finding.{vmac_laws, vmac_same, both_true, none_from, find_placed, none_found, awaiting_is, awaiting_none, KeepsVmac, first_same, first_other, vmacs_first, full_first, entry_filtered, apart_filtered, full_filtered, held_question, held_uris, entry_ticked, vmacs_ticked, ticked_question, ticked_uris, is_among, is_held_kept, length_vmacs}
+use Rattle.bsc_resolve.specs.Standing.{Agrees, StandsFor, IsAsked, IsRefused, AnswersAnswer, AnswersRefusal, StandsOn, IsUnchanged}
+use Rattle.bsc_resolve.proofs.Finding.{find_placed, none_found, awaiting_is, awaiting_none, KeepsVmac, first_same, first_other, vmacs_first, full_first, entry_filtered, apart_filtered, full_filtered, held_question, held_uris, entry_ticked, vmacs_ticked, ticked_question, ticked_uris, is_among, is_held_kept, length_vmacs}
 use Rattle.bsc_resolve.proofs.OneMore.{unless_ends, question-more, question-asked, learnt-more, held_spoken}
+use Rattle.bsc_octets.proofs.Common.{vmac_laws, vmac_same}
 
 -- ---- one VMAC changes
 

@@ -1,5 +1,5 @@
 -- How questions and learnt URIs change by one call more.
-use Rattle.std.proofs.Common.{◌≡◌, ℕ, ◌+◌, Bool, true, false, cond, ◌||◌, ◌&&◌, List, [], ◌∷◌, ◌++◌, reverse, filter, Option, Some, None, is_some, refl, ap, sym, ◌∙◌}
+use Rattle.std.proofs.Common.{◌≡◌, ℕ, Bool, true, false, cond, ◌||◌, ◌&&◌, List, [], ◌∷◌, ◌++◌, reverse, Option, Some, None, is_some, refl, ap, sym, ◌∙◌}
 use Rattle.std.specs.List.{list_any, filter_map}
 use Rattle.std.specs.Option.{option_or}
 use Rattle.std.specs.Set.{is_member}
@@ -13,7 +13,7 @@ use Rattle.bsc_resolve.specs.declared.question.Question.{Question}
 use Rattle.bsc_resolve.specs.declared.call.ResolveCall.{ResolveCall}
 use Rattle.bsc_resolve.specs.declared.call.ResolveCall.TheVariants.{Ask, Answered, Refused, Tick}
 use Rattle.bsc_resolve.specs.Resolving.{vmac_of, question_for, asks_for, uris_for, ends, unless_ended, question, learnt, is_held}
-use Rattle.bsc_resolve.proofs.Finding.{none_from}
+use Rattle.bsc_lemmas.proofs.Options.{none_if as none_from}
 
 -- the question, unless the call ended it
 abbrev pub unless_ends : ℕ → Vmac → ResolveCall → Option Question → Option Question
@@ -50,12 +50,6 @@ learnt-more calls call v = newest_of-more (uris_for v) calls call
 
 -- ---- what is held was spoken of
 
-or_swaps : (a b : Bool) → (a || (b || false)) ≡ (b || a)
-or_swaps true true = refl
-or_swaps true false = refl
-or_swaps false true = refl
-or_swaps false false = refl
-
 any_back : (test : ResolveCall → Bool) (calls : List ResolveCall) → list_any test (reverse calls) ≡ list_any test calls
 any_back test [] = refl
 any_back test (c ∷ calls) =
@@ -78,10 +72,6 @@ first_none f (c ∷ calls) h =
 
 newest_none : {A : Type 0} (f : ResolveCall → Option A) (calls : List ResolveCall) → list_any (λ c. is_some (f c)) calls ≡ false → newest_of f calls ≡ None
 newest_none f calls h = first_none f (reverse calls) (any_back (λ c. is_some (f c)) calls ∙ h)
-
-some_if : {A : Type 0} (b : Bool) (x : A) → is_some (cond b (Some x) None) ≡ b
-some_if true x = refl
-some_if false x = refl
 
 none_asked : (v : Vmac) (calls : List ResolveCall) → is_member same_vmac (filter_map vmac_of calls) v ≡ false → list_any (λ c. is_some (question_for v c)) calls ≡ false
 none_asked v [] h = refl

@@ -4,7 +4,7 @@ use mathlib.Core.Option.{some, none}
 use mathlib.Core.Logic.{dite}
 use native.Mathlib.Decide.{ℕ_discrete}
 use lib.ListN.{get_elem?}
-use Rattle.atomic_table.specs.Table.{State, Me, Step, step, Act, keeps, takes, gives, Allows, Valid, stepped, opening, homes_after, carried_after, put_back, Splits, Joins}
+use Rattle.atomic_table.specs.Table.{State, step, Act, keeps, takes, gives, Allows, Valid, homes_after, carried_after, put_back}
 use Rattle.atomic_table.proofs.Lists.{at_snoc}
 use Rattle.bsc_history.specs.declared.ending.End.{End}
 use Rattle.bsc_history.specs.declared.ending.End.TheVariants.{Left, Replaced, Full, Stopped}
@@ -16,6 +16,7 @@ use Rattle.bsc_ring.specs.Rule.{Homes, end_number, count_given, Stored, Fits, At
 use Rattle.bsc_ring.specs.Effects.{Seated, in_hand, LoadsHead, StoresTail, after_end, LoadsEnd, after_none, LoadsTail, StoresHead, StoresEnd}
 use Rattle.bsc_ring.proofs.Slots.{there, not_both, tail_home, tail_out, tail_back, head_home, head_out, head_back}
 use Rattle.bsc_ring.proofs.Views.{starts_whole, next_starts, starts_length, longer_starts, starts_trans, changed, one_after}
+use Rattle.bsc_history.proofs.Common.{end_is as some_once}
 
 pub end_in_number : (e : Option End) → end_in (end_number e) ≡ e
 end_in_number None = refl
@@ -27,9 +28,6 @@ end_in_number (Some Stopped) = refl
 abbrev end_or : End → Option End → End
 end_or d None = d
 end_or d (Some e) = e
-
-some_once : (d e : End) → Some d ≡ Some e → d ≡ e
-some_once d e h = ap (end_or d) h
 
 abbrev recalls_in : List Found → Option End → Type 0
 recalls_in found h = (i : ℕ) (e : End) → get_elem? found i ≡ some (Ending (Some e)) → h ≡ Some e

@@ -4,3 +4,4 @@ mod Notes
 mod Opening
 mod Slots
 mod Views
+pub mod Common

@@ -15,10 +15,6 @@ use Rattle.bsc_ring.proofs.Keeping.{other_views}
 use Rattle.bsc_ring.proofs.Slots.{not_both}
 use Rattle.bsc_ring.proofs.Views.{starts_trans, changed, split_all, one_after, one_split}
 
-head_is : Item → List Item → Item
-head_is d [] = d
-head_is d (x ∷ xs) = x
-
 -- of two lists that one list begins with, the longer is such a list too
 pub starts_longer : (whole a b : List Item) → StartsWith whole a → StartsWith whole b → StartsWith whole (longer a b)
 starts_longer whole [] b h k = k

@@ -10,7 +10,8 @@ use Rattle.bsc_ring.specs.Lists.{Item}
 use Rattle.bsc_ring.specs.Rule.{Fits, is_inlet, is_outlet, Kept, first_view, inlet_part, outlet_part}
 use Rattle.bsc_ring.proofs.Keeping.{other_views}
 use Rattle.bsc_ring.proofs.Slots.{not_both}
-use Rattle.bsc_ring.proofs.Views.{single, split_all, one_split}
+use Rattle.bsc_ring.proofs.Views.{split_all, one_split}
+use Rattle.bsc_lemmas.proofs.Lists.{get_of_one as single}
 
 abbrev vacant : Option Item
 vacant = None

@@ -1,13 +1,14 @@
 -- What a slot taken or given back does to the slots.
 use Rattle.std.proofs.Common.{◌≡◌, ◌≢◌, ℕ, zero, suc, ◌+◌, ◌%◌, ◌<◌, ◌≤◌, Bool, true, false, List, [], ◌∷◌, ◌++◌, length, set, Option, Some, None, ◌⊎◌, inl, inr, ⊎_elim, refl, sym, ◌∙◌, ap, subst, arith, length-append, length-set, mod-lt}
 use Rattle.std.proofs.Math.Nat.{add-mod_right}
-use mathlib.Core.Option.{some, none, some-injective, some-ne-none}
+use mathlib.Core.Option.{some, none, some-injective}
 use mathlib.Core.Logic.{dite}
 use native.Mathlib.Decide.{ℕ_discrete}
 use lib.ListN.{get_elem?}
 use Rattle.atomic_table.proofs.Lists.{set_here, set_else, at_snoc, one_turn}
 use Rattle.bsc_ring.specs.Lists.{Item}
 use Rattle.bsc_ring.specs.Rule.{Homes, Stored}
+use Rattle.bsc_lemmas.proofs.Lists.{get_elem_below as at_below}
 
 -- two places less than a turn apart have two slots
 pub apart : (p q cap : ℕ) → p < q → q < p + cap → (q % cap) ≢ (p % cap)
@@ -15,11 +16,6 @@ apart p q cap lt near e = let same : p ≡ q = one_turn p q cap (omega arith) ne
 
 pub apart_back : (p q cap : ℕ) → p < q → q < p + cap → (p % cap) ≢ (q % cap)
 apart_back p q cap lt near e = apart p q cap lt near (sym e)
-
-pub at_below : {A : Type 0} (l : List A) (i : ℕ) (a : A) → get_elem? l i ≡ some a → i < length l
-at_below [] i a e = absurd (some-ne-none a (sym e))
-at_below (x ∷ xs) zero a e = omega arith
-at_below (x ∷ xs) (suc i) a e = let h = at_below xs i a e in omega arith
 
 pub there : {A : Type 0} (l : List A) (i : ℕ) → i < length l → (a : A) × (get_elem? l i ≡ some a)
 there [] i h = absurd (omega arith)

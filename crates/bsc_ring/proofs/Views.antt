@@ -1,5 +1,5 @@
 -- What every view knows after one view changed, was cut in two or took in another.
-use Rattle.std.proofs.Common.{◌≡◌, ◌≢◌, ℕ, zero, suc, ◌+◌, ◌≤◌, Bool, true, false, List, [], ◌∷◌, ◌++◌, length, set, ◌⊎◌, inl, inr, ⊎_elim, refl, sym, ◌∙◌, ap, subst, arith, length-append, append_assoc, append-nil}
+use Rattle.std.proofs.Common.{◌≡◌, ◌≢◌, ℕ, suc, ◌+◌, ◌≤◌, Bool, true, false, List, [], ◌∷◌, ◌++◌, length, set, ⊎_elim, sym, ◌∙◌, ap, subst, arith, length-append, append_assoc, append-nil}
 use mathlib.Core.Option.{some, some-injective, some-ne-none}
 use lib.ListN.{get_elem?}
 use Rattle.atomic_table.proofs.Lists.{at_set}
@@ -7,16 +7,7 @@ use Rattle.bsc_ring.specs.declared.view.View.{View}
 use Rattle.bsc_ring.specs.Lists.{Item, StartsWith}
 use Rattle.bsc_ring.specs.Rule.{AtMostOne}
 use Rattle.bsc_ring.proofs.Slots.{not_both}
-
-pub single : {A : Type 0} (x : A) (i : ℕ) (y : A) → get_elem? (x ∷ []) i ≡ some y → (i ≡ 0) × (x ≡ y)
-single x zero y e = (refl, some-injective x y e)
-single x (suc i) y e = absurd (some-ne-none y (sym e))
-
-pub at_end : {A : Type 0} (l : List A) (a b : A) (j : ℕ) → get_elem? (l ++ a ∷ []) j ≡ some b → (get_elem? l j ≡ some b) ⊎ ((j ≡ length l) × (a ≡ b))
-at_end [] a b zero e = inr (refl, some-injective a b e)
-at_end [] a b (suc j) e = absurd (some-ne-none b (sym e))
-at_end (x ∷ xs) a b zero e = inl e
-at_end (x ∷ xs) a b (suc j) e = ⊎_elim (λ h. inl h) (λ h. inr (ap suc h.0, h.1)) (at_end xs a b j e)
+use Rattle.bsc_lemmas.proofs.Lists.{get_of_pushed as at_end}
 
 pub longer_starts : (whole front more : List Item) → StartsWith whole front → StartsWith (whole ++ more) front
 longer_starts whole front more h = (h.0 ++ more, ap (λ (l : List Item). l ++ more) h.1 ∙ append_assoc front h.0 more)

@@ -1,14 +1,12 @@
 -- What a line comes to, by what its call comes to.
-use Rattle.std.proofs.Common.{◌≡◌, ◌≢◌, ℕ, Bool, List, [], ◌∷◌, ◌++◌, length, Option, Some, None, Result, Ok, Err, option_map, refl, ap, sym, ◌∙◌, subst, append-nil}
+use Rattle.std.proofs.Common.{◌≡◌, ℕ, List, [], ◌++◌, Option, Some, None, Result, Ok, Err, option_map, refl, ap, sym, ◌∙◌, subst, append-nil}
 use Rattle.std.specs.Prelude.{⊤}
 use Rattle.bsc_player.specs.declared.language.LineFault.{LineFault}
 use Rattle.bsc_player.specs.declared.language.LineFault.TheVariants.{Refused, NoMemory}
 use Rattle.bsc_script.specs.declared.due.Due.{Due}
-use Rattle.bsc_script.specs.declared.due.Due.TheVariants.{Nobody}
 use Rattle.bsc_script.specs.declared.line.Line.{Line}
 use Rattle.bsc_script.specs.declared.script_hub.ScriptHub.{ScriptHub}
 use Rattle.bsc_script.specs.States.{State, Peer}
-use Rattle.bsc_script.specs.Written.{text_of}
 use Rattle.bsc_script.specs.Touching.{dues}
 use Rattle.bsc_script.specs.Carrying.{Outcome}
 use Rattle.bsc_script.specs.Emptying.{emptied}
@@ -18,20 +16,6 @@ use Rattle.bsc_script.specs.Holding.{CarriesOut, RunsTo, ActsTo}
 -- Where nothing is written any text may stand before.
 pub rebased : (n : ScriptHub) (b cs : List ℕ) (o : Outcome) → CarriesOut n [] [] cs o → CarriesOut n b b cs o
 rebased n b cs o h = record { stands = h.stands; settled = h.settled; text = sym (append-nil b) ∙ ap (λ (l : List ℕ). b ++ l) h.text }
-
--- A call that completes a line leaves nobody to be emptied.
-pub runs_acts : (n : ScriptHub) (b a : List ℕ) (o : Option Outcome) → RunsTo (Ok tt) n b a o → ActsTo (Ok Nobody) n b a o
-runs_acts n b a None h = h
-runs_acts n b a (Some u) h = h
-
-pub opens_acts : (n : ScriptHub) (b : List ℕ) (o : Option Outcome) → RunsTo (Ok tt) n [] [] o → ActsTo (Ok Nobody) n b b o
-opens_acts n b None h = h
-opens_acts n b (Some u) h = rebased n b [] u h
-
--- A fault is the same fault, whatever stands then.
-pub fault_acts : (e : LineFault) (n m : ScriptHub) (b a c d : List ℕ) (o : Option Outcome) → RunsTo (Err e) n b a o → ActsTo (Err e) m c d o
-fault_acts Refused n m b a c d o h = h
-fault_acts NoMemory n m b a c d o h = h
 
 -- A name that isn't open is refused.
 pub unknown_acts : (r : Result Due LineFault) (e f : LineFault) (n : ScriptHub) (b a : List ℕ) (g : Peer → Outcome) (o : Option Peer) → r ≡ Err e → e ≡ f → f ≡ Refused → o ≡ None → ActsTo r n b a (option_map g o)

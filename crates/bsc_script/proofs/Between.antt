@@ -1,6 +1,6 @@
 -- From what stands between two calls to what stands after them, and back.
-use Rattle.std.proofs.Common.{◌≡◌, inl, inr, ℕ, ◌+◌, ◌≤◌, length-append, option_map, ◌==◌, Bool, true, false, not, ◌||◌, List, [], ◌∷◌, ◌++◌, length, map, drop, fold, Option, Some, None, is_some, option_to_list, refl, ap, sym, ◌∙◌, subst, arith}
-use Rattle.std.specs.List.{list_any, AllByRecursion}
+use Rattle.std.proofs.Common.{◌≡◌, inl, inr, ℕ, ◌≤◌, option_map, ◌==◌, true, false, not, ◌||◌, List, [], ◌∷◌, ◌++◌, length, map, drop, Option, Some, None, is_some, refl, ap, sym, ◌∙◌, subst}
+use Rattle.std.specs.List.{list_any}
 use Rattle.std.specs.Ordering.{nat_cmp}
 use Rattle.std.specs.BTreeMap.{get}
 use Rattle.std.proofs.lemmas.Bool.{eq-eqb}
@@ -9,19 +9,18 @@ use Rattle.bsc_history.specs.declared.entry.Entry.{Entry}
 use Rattle.bsc_history.specs.declared.ending.End.{End}
 use Rattle.bsc_history.specs.declared.looks.Look.{Look}
 use Rattle.bsc_history.specs.declared.mark.Stamped.{Stamped}
-use Rattle.bsc_history.specs.Entries.{connection_of, joins, moment}
-use Rattle.bsc_history.specs.Ends.{ended, leaves, unleft}
-use Rattle.bsc_history.specs.Laws.{Apart, is_among}
-use Rattle.bsc_history.specs.Legality.{Lawful, Legal, is_of}
-use Rattle.bsc_history.specs.Marks.{entries, mark_of}
-use Rattle.bsc_history.specs.Outboxes.{looked, newer, sent, vmac_of}
+use Rattle.bsc_history.specs.Entries.{connection_of, moment}
+use Rattle.bsc_history.specs.Ends.{ended, leaves}
+use Rattle.bsc_history.specs.Laws.{is_among}
+use Rattle.bsc_history.specs.Legality.{Lawful, is_of}
+use Rattle.bsc_history.specs.Marks.{entries}
+use Rattle.bsc_history.specs.Outboxes.{looked, sent, vmac_of}
 use Rattle.bsc_history.proofs.Lifting.{own_joined}
-use Rattle.bsc_history.proofs.Lists.{In, any_In}
+use Rattle.bsc_history.proofs.Lists.{any_In}
 use Rattle.bsc_history.proofs.Marks.{mark_grows}
 use Rattle.bsc_history.proofs.More.{entries-more, unleft-same}
 use Rattle.bsc_history.proofs.Parts.{vmac_stays}
-use Rattle.bsc_ring.specs.Ends.{FoundEnd, given, outlet_mark}
-use Rattle.bsc_ring.specs.Lists.{StartsWith}
+use Rattle.bsc_ring.specs.Ends.{given, outlet_mark}
 use Rattle.bsc_desk.specs.declared.desk.Desk.{Desk}
 use Rattle.bsc_desk.specs.Knowing.{Learns}
 use Rattle.bsc_desk.specs.Meetings.{IsOutletOf}
@@ -32,13 +31,13 @@ use Rattle.bsc_accept.specs.Standing.{StandsFor as MachineStandsFor}
 use Rattle.bsc_script.specs.declared.peer.Joined.{Joined}
 use Rattle.bsc_script.specs.declared.peer.Peer.{Peer as KeptPeer}
 use Rattle.bsc_script.specs.declared.script_hub.ScriptHub.{ScriptHub}
-use Rattle.bsc_script.specs.States.{State, Peer, start_at, peer_on}
-use Rattle.bsc_script.specs.Emptying.{due_after, emptied_after}
-use Rattle.bsc_script.specs.Settled.{IsSettledBut, SettledBut}
+use Rattle.bsc_script.specs.States.{State, Peer, start_at}
+use Rattle.bsc_script.specs.Emptying.{due_after}
 use Rattle.bsc_script.specs.Holding.{Pairs, IsPeer, IsJoinedPeer, IsJoinedIf, IsIndexed, StandsAs, name_of, conn_of, kept_conn, kept_in}
-use Rattle.bsc_script.specs.Between.{IsAtRest, IsJoinedBut, IsJoinedIfBut, IsPeerBut, StandsBut}
-use Rattle.bsc_script.proofs.Pairs.{Pairs-map, Pairs-weaker, partner_of}
+use Rattle.bsc_script.specs.Between.{IsAtRest, IsJoinedIfBut, IsPeerBut, StandsBut}
+use Rattle.bsc_script.proofs.Pairs.{Pairs-map, Pairs-weaker}
 use Rattle.bsc_script.proofs.Touched.{is_of_same, newest_of}
+use Rattle.bsc_ring.proofs.Common.{short_of as starts_length}
 
 -- ---- nobody is touched
 
@@ -94,11 +93,6 @@ pub due_same : (cs : List ℕ) (a : About) (H : List Entry) (e : Entry) (k : Pee
 due_same cs a H e k c h own un =
     ap (λ (x : List (List ℕ)). not (length (drop (length k.frames) x) == 0) || is_some (ended (H ++ e ∷ []) c)) (h.sent_same c own un)
     ∙ ap (λ (w : Option End). not (length (drop (length k.frames) (sent a H c)) == 0) || is_some w) (h.ended_same c own un)
-
-starts_length : (whole front : List (List ℕ)) → StartsWith whole front → length front ≤ length whole
-starts_length whole front w =
-    let same : length whole ≡ length front + length w.0 = ap length w.1 ∙ length-append front w.0 in
-    omega arith
 
 module _ (d n : Desk) (S : List Stamped) (x : Stamped) (cs : List ℕ) (k : Peer) where
   -- what is said of the history with the entry is said of the history with its mark

@@ -1,5 +1,5 @@
 -- A hub of which one open name is changed.
-use Rattle.std.proofs.Common.{◌≡◌, ℕ, zero, suc, ◌<◌, ◌==◌, Bool, true, not, ◌||◌, List, [], ◌∷◌, ◌++◌, length, map, set, take, drop, find, slice_get, Option, Some, None, is_some, option_map, Vec, Global, refl, ap, sym, ◌∙◌, subst}
+use Rattle.std.proofs.Common.{◌≡◌, ℕ, zero, suc, ◌<◌, ◌==◌, Bool, not, ◌||◌, List, [], ◌∷◌, ◌++◌, length, map, set, take, drop, find, slice_get, Option, Some, None, is_some, option_map, Vec, Global, refl, ap, sym, ◌∙◌, subst}
 use Rattle.std.specs.List.{AllByRecursion}
 use Rattle.std.specs.Ordering.{nat_cmp}
 use Rattle.std.specs.BTreeMap.{get}
@@ -9,7 +9,6 @@ use Rattle.bsc_history.specs.declared.mark.Stamped.{Stamped}
 use Rattle.bsc_history.specs.Marks.{entries}
 use Rattle.bsc_history.specs.Ends.{ended}
 use Rattle.bsc_history.specs.Outboxes.{sent}
-use Rattle.bsc_history.specs.Laws.{Apart}
 use Rattle.bsc_desk.specs.declared.desk.Desk.{Desk}
 use Rattle.bsc_desk.specs.Standing.{StandsFor}
 use Rattle.bsc_accept.specs.declared.accepting.Accepting.{Accepting}
@@ -19,14 +18,14 @@ use Rattle.bsc_accept.specs.Standing.{Answers, StandsFor as MachineStandsFor}
 use Rattle.bsc_script.specs.declared.peer.Joined.{Joined}
 use Rattle.bsc_script.specs.declared.peer.Peer.{Peer as KeptPeer}
 use Rattle.bsc_script.specs.declared.script_hub.ScriptHub.{ScriptHub}
-use Rattle.bsc_script.specs.States.{State, Peer, start_at, has_joined_as, is_named, peer_on, told, with_held, with_peer}
+use Rattle.bsc_script.specs.States.{State, Peer, start_at, has_joined_as, peer_on, told, with_held, with_peer}
 use Rattle.bsc_script.specs.Carrying.{step_of}
-use Rattle.bsc_script.specs.Emptying.{due_after}
 use Rattle.bsc_script.specs.Settled.{IsSettledBut, SettledBut}
-use Rattle.bsc_script.specs.Holding.{Pairs, IsJoinedPeer, IsJoinedIf, IsPeer, ArePeers, name_of, conn_of, ConnsApart, kept_in, kept_conn, IsIndexed, IsOfSome, StandsAs, StandsAt, IsAt, KeepsAt}
-use Rattle.bsc_script.proofs.Pairs.{pair_at, partner_of, partner_to, Pairs-set, Pairs-map, get-set, take-set, drop-set, map-set, get-map, all-take, all-drop, all-at, all-set, all-join}
+use Rattle.bsc_script.specs.Holding.{IsJoinedIf, IsPeer, ArePeers, name_of, conn_of, kept_in, kept_conn, IsIndexed, IsOfSome, StandsAs, StandsAt, IsAt, KeepsAt}
+use Rattle.bsc_script.proofs.Pairs.{pair_at, partner_of, partner_to, Pairs-set, Pairs-map, take-set, drop-set, map-set, get-map, all-take, all-drop, all-join}
 use Rattle.bsc_script.proofs.Peers.{changed, ConnsApart-same, found_same, some_name}
 use Rattle.bsc_script.proofs.Pairs.{Apart-same}
+use Rattle.bsc_lemmas.proofs.Lists.{all-at, get-set}
 
 -- ---- what is kept
 

@@ -1,5 +1,5 @@
 -- A connect is carried out: what the hub of a script stands for after it.
-use Rattle.std.proofs.Common.{◌≡◌, ℕ, suc, ◌==◌, nat_le, Bool, true, false, not, ◌||◌, cond, List, [], ◌∷◌, ◌++◌, length, map, set, take, drop, slice_get, Option, Some, None, is_some, refl, ap, sym, ◌∙◌, subst}
+use Rattle.std.proofs.Common.{◌≡◌, ℕ, suc, Bool, true, false, cond, List, [], ◌∷◌, ◌++◌, map, set, take, drop, slice_get, Option, Some, None, refl, ap, sym, ◌∙◌, subst}
 use Rattle.std.specs.List.{AllByRecursion}
 use Rattle.std.specs.Ordering.{nat_cmp}
 use Rattle.std.specs.BTreeMap.{get}
@@ -15,8 +15,6 @@ use Rattle.bsc_history.specs.declared.reply.Reply.{Reply}
 use Rattle.bsc_history.specs.declared.reply.Reply.TheVariants.{Joined as JoinedReply, Refused as RefusedReply}
 use Rattle.bsc_history.specs.Ends.{ended}
 use Rattle.bsc_history.specs.Laws.{Apart, is_among}
-use Rattle.bsc_history.specs.Legality.{Lawful}
-use Rattle.bsc_history.specs.Entries.{moment}
 use Rattle.bsc_history.specs.Marks.{entries}
 use Rattle.bsc_history.specs.Outboxes.{sent}
 use Rattle.bsc_history.specs.Replies.{connect_reply}
@@ -25,7 +23,6 @@ use Rattle.bsc_desk.specs.Entries.{connect_due, connect_entry, connect_stamped}
 use Rattle.bsc_desk.specs.Standing.{StandsFor}
 use Rattle.bsc_accept.specs.declared.event.Event.{Event}
 use Rattle.bsc_accept.specs.declared.event.Event.TheVariants.{Joined as HasJoined, Refused as WasRefused}
-use Rattle.bsc_accept.specs.declared.stage.Stage.{Stage}
 use Rattle.bsc_accept.specs.Standing.{AwaitsAnswer, stage}
 use Rattle.bsc_script.specs.declared.peer.Joined.{Joined}
 use Rattle.bsc_script.specs.declared.peer.Peer.{Peer as KeptPeer}
@@ -33,22 +30,23 @@ use Rattle.bsc_script.specs.declared.script_hub.ScriptHub.{ScriptHub}
 use Rattle.bsc_script.specs.Written.{says, line_text}
 use Rattle.bsc_script.specs.Texts.{joined_words, refusal_words}
 use Rattle.bsc_script.specs.States.{State, Peer, default_times, joined_as, start_at, told, with_peer}
-use Rattle.bsc_script.specs.Calls.{called, entry_in, is_worn, reply_in}
-use Rattle.bsc_script.specs.Carrying.{Outcome, does, step_of, tells}
+use Rattle.bsc_script.specs.Calls.{called, is_worn, reply_in}
+use Rattle.bsc_script.specs.Carrying.{does, step_of, tells}
 use Rattle.bsc_script.specs.Receiving.{connects, gets_reply, wears}
 use Rattle.bsc_script.specs.Emptying.{due_after, is_due}
 use Rattle.bsc_script.specs.Settled.{IsSettledBut, ascends}
 use Rattle.bsc_script.specs.Touching.{replaced_list}
 use Rattle.bsc_script.specs.Holding.{CarriesOut, name_of, kept_conn, IsAt, IsIndexed, IsJoinedIf, IsPeer, KeepsAt, StandsAs, StandsAt, kept_in}
 use Rattle.bsc_script.specs.Between.{Seats, StandsBut}
-use Rattle.bsc_script.proofs.Between.{Changes, indexed_but, stands_more, stands_whole}
+use Rattle.bsc_script.proofs.Between.{Changes, stands_more, stands_whole}
 use Rattle.bsc_script.proofs.Carried.{said_carried}
 use Rattle.bsc_script.proofs.Changes.{indexed}
 use Rattle.bsc_script.proofs.Entered.{Owns, changes_quiet, newest_lawful, owners}
-use Rattle.bsc_script.proofs.Pairs.{all-drop, all-take, drop-set, get-set, pair_at, partner_of, set-twice, take-set}
+use Rattle.bsc_script.proofs.Pairs.{all-drop, all-take, drop-set, pair_at, partner_of, set-twice, take-set}
 use Rattle.bsc_script.proofs.Peers.{changed}
 use Rattle.bsc_script.proofs.Seated.{fresh_of, join_changes, joined_between}
 use Rattle.bsc_script.proofs.Sending.{MakesEntry, all_settled}
+use Rattle.bsc_lemmas.proofs.Lists.{get-set}
 
 -- Names and connections are as before where they are kept so.
 pub indexed_same : (t u : ScriptHub) (ks : List Peer) → u.peers ≡ t.peers → u.names ≡ t.names → IsIndexed t ks → IsIndexed u ks

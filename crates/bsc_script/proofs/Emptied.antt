@@ -1,7 +1,6 @@
 -- An outbox is emptied: what its outlet gave is what entered.
-use Rattle.std.proofs.Common.{◌≡◌, ◌≢◌, ℕ, ◌+◌, ◌^◌, ◌<◌, ◌≤◌, ◌==◌, Bool, true, false, not, ◌||◌, set, find, slice_get, List, [], ◌∷◌, ◌++◌, length, map, drop, suc, Option, Some, None, is_some, min, refl, ap, sym, ◌∙◌, subst, arith, append-nil, append_assoc, length-append}
+use Rattle.std.proofs.Common.{◌≡◌, ◌≢◌, ℕ, ◌+◌, ◌^◌, ◌<◌, ◌==◌, Bool, false, not, ◌||◌, set, find, slice_get, List, [], ◌∷◌, ◌++◌, length, map, drop, Option, Some, None, is_some, refl, ap, sym, ◌∙◌, subst, arith, append-nil, append_assoc, length-append}
 use Rattle.std.specs.Global.{Vec}
-use Rattle.std.specs.List.{list_any}
 use Rattle.std.specs.Ordering.{nat_cmp}
 use Rattle.std.specs.BTreeMap.{get}
 use Rattle.indexmap.specs.IndexMap.{set_value_at}
@@ -10,22 +9,18 @@ use Rattle.bsc_history.specs.declared.ending.End.{End}
 use Rattle.bsc_history.specs.declared.ending.End.TheVariants.{Left}
 use Rattle.bsc_history.specs.declared.mark.Stamped.{Stamped}
 use Rattle.bsc_history.specs.Ends.{ended, unleft}
-use Rattle.bsc_history.specs.Marks.{entries, mark_of}
+use Rattle.bsc_history.specs.Marks.{entries}
 use Rattle.bsc_history.specs.Outboxes.{sent}
 use Rattle.bsc_history.proofs.Gains.{sent_short}
 use Rattle.bsc_ring.specs.declared.ends.Outlet.{Outlet}
 use mathlib.Core.Option.{some}
 use lib.ListN.{get_elem?}
-use Rattle.bsc_ring.specs.declared.found.Found.{Found}
 use Rattle.bsc_ring.specs.declared.found.Found.TheVariants.{Ending, Tail}
-use Rattle.bsc_ring.specs.declared.take.Take.{Take}
 use Rattle.bsc_ring.specs.declared.take.Take.TheVariants.{Frame, Empty, Closed}
-use Rattle.bsc_ring.specs.Ends.{GaveAll, GaveNext, Took, found, given, empties_of, outlet_mark}
-use Rattle.bsc_ring.specs.Lists.{StartsWith}
+use Rattle.bsc_ring.specs.Ends.{GaveAll, Took, found, given, empties_of, outlet_mark}
 use Rattle.bsc_desk.specs.declared.desk.Desk.{Desk}
-use Rattle.bsc_desk.specs.Meetings.{IsOutletOf, KnowsOutbox}
+use Rattle.bsc_desk.specs.Meetings.{IsOutletOf}
 use Rattle.bsc_desk.specs.Rows.{HasRow, IsMarkOf, known_of, row_of}
-use Rattle.bsc_desk.specs.Standing.{StandsFor}
 use Rattle.bsc_desk.proofs.Rowed.{few_entries, has_unleft, is_mark_of}
 use Rattle.bsc_desk.specs.Live.{known_in}
 use Rattle.bsc_accept.specs.Standing.{StandsFor as MachineStandsFor}
@@ -37,46 +32,21 @@ use Rattle.bsc_script.specs.States.{State, Peer, has_joined_as, peer_on, start_a
 use Rattle.bsc_script.specs.Holding.{ConnsApart, IsJoinedIf, IsPeer, Pairs, conn_of, kept_in, name_of}
 use Rattle.bsc_script.proofs.Changes.{kept, kept-set}
 use Rattle.bsc_script.proofs.Meetings.{but_one, own_any}
-use Rattle.bsc_script.proofs.Pairs.{Apart-same, Pairs-set, Pairs-weaker, get-map, get-set, map-set, pair_at, set-twice}
+use Rattle.bsc_script.proofs.Pairs.{Apart-same, Pairs-set, Pairs-weaker, get-map, map-set, pair_at, set-twice}
 use Rattle.bsc_script.proofs.Peers.{ConnsApart-same, changed, found_same, some_name}
-use Rattle.bsc_script.specs.Written.{Said, says, line_text, text_of}
+use Rattle.bsc_script.specs.Written.{says, line_text, text_of}
 use Rattle.bsc_script.specs.Texts.{out_words}
 use Rattle.bsc_script.specs.Emptying.{due_after, empties_after, frame_lines, unwritten}
 use Rattle.bsc_script.specs.Between.{IsEmptied, IsJoinedAt, IsWritten, written_peer, Meets, OwnsOutlet, Stays, TakesOne, Writes, WritesAll}
 use Rattle.bsc_script.proofs.Carried.{text-append}
-
-length_entries : (S : List Stamped) → length (entries S) ≡ length S
-length_entries [] = refl
-length_entries (x ∷ S) = ap suc (length_entries S)
+use Rattle.bsc_desk.proofs.Common.{gave_all}
+use Rattle.bsc_history.proofs.Common.{length_entries}
+use Rattle.bsc_lemmas.proofs.Lists.{get-set}
+use Rattle.bsc_ring.proofs.Common.{at_end, short_of as front_few}
 
 -- what a meeting asks
 pub owns_meets : (d : Desk) (S : List Stamped) (j : Joined) → OwnsOutlet d S j → HasRow d j.conn × IsMarkOf d j.conn (outlet_mark j.outlet)
 owns_meets d S j w = (has_unleft d S j.conn w.stands w.unleft, is_mark_of d S j.conn (outlet_mark j.outlet) w.stands w.marked)
-
-front_few : (whole front : List (List ℕ)) → StartsWith whole front → length front ≤ length whole
-front_few whole front w =
-    let same : length whole ≡ length front + length w.0 = ap length w.1 ∙ length-append front w.0 in
-    omega arith
-
--- lists that begin with each other are one
-same_fronts : (xs ys : List (List ℕ)) → StartsWith xs ys → StartsWith ys xs → xs ≡ ys
-same_fronts xs ys v w =
-    let a : length xs ≡ length ys + length v.0 = ap length v.1 ∙ length-append ys v.0 in
-    let b : length ys ≡ length xs + length w.0 = ap length w.1 ∙ length-append xs w.0 in
-    v.1 ∙ ap (λ (l : List (List ℕ)). ys ++ l) (none v.0 (omega arith)) ∙ append-nil ys
-  where
-    none : (l : List (List ℕ)) → length l ≡ 0 → l ≡ []
-    none [] h = refl
-    none (x ∷ l) h = cc
-
--- After a meeting all that entered is known, so a take that gives nothing gave all.
-gave_all : (d : Desk) (S : List Stamped) (c : ℕ) (o p : Outlet) (e : Option End) → IsOutletOf d.about (entries S) c o → KnowsOutbox d.about (entries S) c o → GaveAll o e p → given p ≡ sent d.about (entries S) c
-gave_all d S c o p e h k g =
-    g.0 ∙ same_fronts (given o) (sent d.about (entries S) c) (subst (StartsWith (given o)) k.items g.2) h.begins
-
-at_end : (xs ys : List Found) (y : Found) → get_elem? (xs ++ y ∷ ys) (length xs) ≡ some y
-at_end [] ys y = refl
-at_end (x ∷ xs) ys y = at_end xs ys y
 
 -- ---- one take
 
@@ -177,16 +147,6 @@ stays_both S d n r i j k a b = record {
 pub none_left : (o : Option (Option End)) → ((e : Option End) → o ≡ Some e → ⊥) → o ≡ None
 none_left None away = refl
 none_left (Some e) away = absurd (away e refl)
-
--- no frame was written yet
-pub writes_none : (S : List Stamped) (d : Desk) (i : Joined) (name before : List ℕ) → OwnsOutlet d S i → Writes S d d i i name before before
-writes_none S d i name before w = record {
-  stays = record { owns = w; about = refl; others = λ c o. refl; mark_same = refl; conn = refl; vmac = refl };
-  more = [];
-  given_more = sym (append-nil (given i.outlet));
-  empties_same = refl;
-  text = sym (append-nil before);
-}
 
 -- some frames, and then others
 pub writes_both : (S : List Stamped) (d n r : Desk) (i j k : Joined) (name before mid after : List ℕ) → Writes S d n i j name before mid → Writes S n r j k name mid after → Writes S d r i k name before after

@@ -1,14 +1,11 @@
 -- What the entries of the calls change, and that they are those that the lines make.
-use Rattle.std.proofs.Common.{◌≡◌, ◌≢◌, inl, inr, ℕ, ◌+◌, ◌≤◌, ◌==◌, Bool, true, false, not, ◌&&◌, ◌||◌, cond, List, [], ◌∷◌, ◌++◌, length, map, filter, fold, take, drop, find, suc, slice_get, Option, Some, None, is_some, refl, ap, sym, ◌∙◌, subst, arith, length-append, length-drop}
-use Rattle.std.specs.Prelude.{⊤}
+use Rattle.std.proofs.Common.{◌≡◌, ◌≢◌, inl, inr, ℕ, ◌+◌, ◌≤◌, ◌==◌, Bool, true, false, not, ◌&&◌, cond, List, [], ◌∷◌, ◌++◌, length, map, filter, fold, drop, Option, Some, None, is_some, refl, ap, sym, ◌∙◌, subst, arith, length-append, length-drop}
 use Rattle.std.specs.List.{list_any, AllByRecursion}
-use Rattle.std.proofs.lemmas.Bool.{both_ways, eq-eqb, eqb-true, ne_eqb, or_left, or_right, or_cases, and_parts}
+use Rattle.std.proofs.lemmas.Bool.{both_ways, ne_eqb, or_left, or_right}
 use Rattle.bsc_history.specs.declared.limits.About.{About}
-use Rattle.bsc_history.specs.declared.call.Call.{Call}
-use Rattle.bsc_history.specs.declared.call.Call.TheVariants.{Connect, Forward, Leave, Stop, Count}
+use Rattle.bsc_history.specs.declared.call.Call.TheVariants.{Forward, Stop}
 use Rattle.bsc_history.specs.declared.connection.Connection.{Connection}
 use Rattle.bsc_history.specs.declared.entry.Entry.{Entry}
-use Rattle.bsc_history.specs.declared.ending.End.{End}
 use Rattle.bsc_history.specs.declared.looks.Look.{Look}
 use Rattle.bsc_history.specs.declared.mark.Stamped.{Stamped}
 use Rattle.bsc_history.specs.declared.reply.Reply.{Reply}
@@ -17,13 +14,12 @@ use Rattle.bsc_history.specs.Ends.{end_by, ended, leaves, live, unleft}
 use Rattle.bsc_history.specs.Laws.{is_among, names}
 use Rattle.bsc_history.specs.Legality.{Lawful, Legal, is_of, looks_at}
 use Rattle.bsc_history.specs.Marks.{entries}
-use Rattle.bsc_history.specs.Outboxes.{is_too_long, looked, meant, means, newer, out_of, sent}
-use Rattle.bsc_history.specs.Replies.{is_stopped, numbers, reply}
+use Rattle.bsc_history.specs.Outboxes.{looked, newer, out_of, sent}
+use Rattle.bsc_history.specs.Replies.{reply}
 use Rattle.bsc_history.proofs.Lifting.{own_joined}
 use Rattle.bsc_history.proofs.Lists.{In, In_from_all, all_from_In}
 use Rattle.bsc_history.proofs.More.{Legal-front, ended-more, entries-more, looked-more}
 use Rattle.bsc_history.proofs.Named.{some_or}
-use Rattle.bsc_ring.specs.Ends.{given}
 use Rattle.bsc_accept.specs.Past.{phase}
 use Rattle.bsc_desk.specs.declared.desk.Desk.{Desk}
 use Rattle.bsc_desk.specs.declared.row.Row.{Row}
@@ -35,15 +31,18 @@ use Rattle.bsc_desk.proofs.LiveRows.{live_rows}
 use Rattle.bsc_script.specs.declared.peer.Joined.{Joined}
 use Rattle.bsc_script.specs.declared.peer.Peer.{Peer as KeptPeer}
 use Rattle.bsc_script.specs.declared.script_hub.ScriptHub.{ScriptHub}
-use Rattle.bsc_script.specs.States.{State, Peer, has_joined_as, peer_on}
+use Rattle.bsc_script.specs.States.{State, Peer, peer_on}
 use Rattle.bsc_script.specs.Calls.{entry_in, looks_in, reply_in, written_for, written_in}
-use Rattle.bsc_script.specs.Emptying.{due_after, emptied_after, is_connected}
-use Rattle.bsc_script.specs.Settled.{IsSettledBut, SettledBut}
+use Rattle.bsc_script.specs.Emptying.{is_connected}
+use Rattle.bsc_script.specs.Settled.{IsSettledBut}
 use Rattle.bsc_script.specs.Touching.{touched}
-use Rattle.bsc_script.specs.Holding.{Pairs, IsPeer, IsJoinedPeer, IsJoinedIf, StandsAs, kept_in}
+use Rattle.bsc_script.specs.Holding.{Pairs, IsPeer, IsJoinedIf, StandsAs, kept_in}
 use Rattle.bsc_script.proofs.Between.{Changes, due_same}
 use Rattle.bsc_script.proofs.Peers.{found_conn}
 use Rattle.bsc_script.proofs.Touched.{among_In, ended_same, look_newest, looked_same, sent_named, sent_same, touched_so}
+use Rattle.bsc_desk.proofs.Common.{any_kept, any_mapped}
+use Rattle.bsc_history.proofs.Common.{looks_live, looks_told}
+use Rattle.std.proofs.lemmas.Option.{same_Some as same_some}
 
 -- ---- the newest entry
 
@@ -145,9 +144,6 @@ record Written (s : State) (d : Desk) (G : List Entry) (c n : ℕ) : Type 0 wher
   pub known : known_of d c ≡ n
   pub behind : looked G c ≤ n
 
-same_some : {A : Type 0} (x y : A) → Some x ≡ Some y → x ≡ y
-same_some x y e = cc
-
 -- what is known of a connection, by its peer
 known_by : (d : Desk) (S : List Stamped) (k : Peer) (c : ℕ) (o : Option Joined) → IsJoinedIf d S k o → k.conn ≡ Some c → (known_of d c ≡ length k.frames) × (looked (entries S) c ≤ length k.frames)
 known_by d S k c None h e = (let bad : Some c ≡ None = sym e ∙ h.0 in cc)
@@ -161,59 +157,12 @@ known_all d S [] (e ∷ es) p = absurd p
 known_all d S (k ∷ ks) [] p = absurd p
 known_all d S (k ∷ ks) (e ∷ es) p = ((λ c is. known_by d S k c e.1.joined p.0.joined is), known_all d S ks es p.1)
 
--- a connection that a call looks at hasn't left
-any_kept : (q p : Row → Bool) (rows : List Row) → list_any q (filter p rows) ≡ true → list_any q rows ≡ true
-any_kept q p [] h = h
-any_kept q p (r ∷ rows) h = by (p r) h (any_kept q p rows)
-  where
-    by : (b : Bool) → list_any q (cond b (r ∷ filter p rows) (filter p rows)) ≡ true → (list_any q (filter p rows) ≡ true → list_any q rows ≡ true) → list_any q (r ∷ rows) ≡ true
-    by true g rec = elim (or_cases (q r) (list_any q (filter p rows)) g) [ inl here ↦ or_left (q r) (list_any q rows) here | inr later ↦ or_right (q r) (list_any q rows) (rec later) ]
-    by false g rec = or_right (q r) (list_any q rows) (rec g)
-
-any_mapped : (p : Connection → Bool) (rows : List Row) → list_any p (map connection rows) ≡ list_any (λ r. p (connection r)) rows
-any_mapped p [] = refl
-any_mapped p (r ∷ rows) = ap (λ (b : Bool). p (connection r) || b) (any_mapped p rows)
-
 live_unleft : (d : Desk) (S : List Stamped) (c : ℕ) → StandsFor d S → list_any (λ x. x.number == c) (live (entries S)) ≡ true → list_any (λ x. x.number == c) (unleft (entries S)) ≡ true
 live_unleft d S c s h =
     let p = λ (x : Connection). x.number == c in
     let q = λ (r : Row). p (connection r) in
     ap (list_any p) (sym s.unleft_rows) ∙ any_mapped p d.rows.items
     ∙ any_kept q is_open d.rows.items (sym (any_mapped p (filter is_open d.rows.items)) ∙ ap (list_any p) (sym (live_rows d S s)) ∙ h)
-
-among_any : (c : ℕ) (q : Connection → Bool) (xs : List Connection) → is_among c (numbers (filter q xs)) ≡ true → list_any (λ x. x.number == c) xs ≡ true
-among_any c q [] h = h
-among_any c q (x ∷ xs) h = by (q x) h (among_any c q xs)
-  where
-    by : (b : Bool) → is_among c (numbers (cond b (x ∷ filter q xs) (filter q xs))) ≡ true → (is_among c (numbers (filter q xs)) ≡ true → list_any (λ y. y.number == c) xs ≡ true) → list_any (λ y. y.number == c) (x ∷ xs) ≡ true
-    by true g rec = elim (or_cases (x.number == c) (is_among c (numbers (filter q xs))) g) [ inl here ↦ or_left (x.number == c) (list_any (λ y. y.number == c) xs) here | inr later ↦ or_right (x.number == c) (list_any (λ y. y.number == c) xs) (rec later) ]
-    by false g rec = or_right (x.number == c) (list_any (λ y. y.number == c) xs) (rec g)
-
-any_filtered : (p q : Connection → Bool) (xs : List Connection) → list_any p (filter q xs) ≡ true → list_any p xs ≡ true
-any_filtered p q [] h = h
-any_filtered p q (x ∷ xs) h = by (q x) h (any_filtered p q xs)
-  where
-    by : (b : Bool) → list_any p (cond b (x ∷ filter q xs) (filter q xs)) ≡ true → (list_any p (filter q xs) ≡ true → list_any p xs ≡ true) → list_any p (x ∷ xs) ≡ true
-    by true g rec = elim (or_cases (p x) (list_any p (filter q xs)) g) [ inl here ↦ or_left (p x) (list_any p xs) here | inr later ↦ or_right (p x) (list_any p xs) (rec later) ]
-    by false g rec = or_right (p x) (list_any p xs) (rec g)
-
-looks_live : (H : List Entry) (call : Call) (c : ℕ) → is_among c (looks_at H call) ≡ true → list_any (λ x. x.number == c) (live H) ≡ true
-looks_live H (Forward sender m) c h =
-    let xs = meant H sender m in
-    let q = λ (x : Connection). not (is_too_long (out_of H sender m) x) in
-    let by : (b : Bool) → is_among c (cond b [] (numbers (filter q xs))) ≡ true → is_among c (numbers (filter q xs)) ≡ true = λ b. elim b as (λ b. is_among c (cond b [] (numbers (filter q xs))) ≡ true → is_among c (numbers (filter q xs)) ≡ true) [ true ↦ λ g. cc | false ↦ λ g. g ] in
-    any_filtered (λ x. x.number == c) (means m sender) (live H) (among_any c q xs (by _ h))
-looks_live H (Connect who) c h = cc
-looks_live H (Leave conn taken empties) c h = cc
-looks_live H Stop c h = cc
-looks_live H Count c h = cc
-
--- looks are told by their connections, where each finds what is said of its own
-looks_told : (f : ℕ → ℕ) (looks : List Look) → AllByRecursion (λ (l : Look). l.taken ≡ f l.conn) looks → looks ≡ map (λ c. let k : Look = record { conn = c; taken = f c } in k) (map (λ (l : Look). l.conn) looks)
-looks_told f [] h = refl
-looks_told f (l ∷ ls) h =
-    ap (λ (n : ℕ). (let k : Look = record { conn = l.conn; taken = n } in k) ∷ ls) h.0
-    ∙ ap (λ (r : List Look). (let k : Look = record { conn = l.conn; taken = f l.conn } in k) ∷ r) (looks_told f ls h.1)
 
 -- An entry of caller 0 is the one that the call makes, once the outboxes that it looked at have met: each look found
 -- just what was written.

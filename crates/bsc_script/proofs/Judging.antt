@@ -1,25 +1,23 @@
 -- What a verdict says of the message that is judged at the hub port.
-use Rattle.std.proofs.Common.{◌≡◌, ◌≢◌, inl, inr, ℕ, ◌+◌, ◌≤◌, ◌<◌, nat_le, Bool, true, false, not, cond, ◌&&◌, List, length, Option, Some, None, refl, ap, sym, ◌∙◌, subst, arith}
+use Rattle.std.proofs.Common.{◌≡◌, ◌≢◌, inl, inr, ℕ, ◌+◌, ◌≤◌, ◌<◌, nat_le, Bool, true, false, not, cond, ◌&&◌, List, length, Some, None, refl, ap, ◌∙◌, subst, arith}
 use Rattle.std.proofs.lemmas.Bool.{false_from_ne_true, cases_lt}
 use Rattle.std.proofs.lemmas.Bool.Decides.{nat_tests}
 use Rattle.bsc_octets.specs.declared.identity.Identity.{Identity}
 use Rattle.bsc_octets.specs.declared.envelope.Envelope.{Envelope}
 use Rattle.bsc_octets.specs.declared.vmac.Vmac.{Vmac}
-use Rattle.bsc_octets.specs.Addresses.{same_vmac, zero_vmac, broadcast}
-use Rattle.bsc_octets.specs.Envelopes.{announces_origin, announces_dest, announced_length, vmac_at}
+use Rattle.bsc_octets.specs.Addresses.{same_vmac}
+use Rattle.bsc_octets.specs.Envelopes.{announces_origin, announces_dest, vmac_at}
 use Rattle.bsc_octets.specs.Forwarding.{has_route, flags_in}
-use Rattle.bsc_frame.specs.declared.body.Body.{Body}
-use Rattle.bsc_frame.specs.declared.body.Body.TheVariants.{ConnectRequest}
 use Rattle.bsc_frame.specs.declared.message.Message.{Message}
 use Rattle.bsc_frame.specs.Layout.{options_at}
-use Rattle.bsc_frame.specs.Payloads.{IsNode, HasPayload}
+use Rattle.bsc_frame.specs.Payloads.{IsNode}
 use Rattle.bsc_checks.specs.declared.phase.Phase.{Phase}
 use Rattle.bsc_checks.specs.declared.place.Place.TheVariants.{HubPort}
 use Rattle.bsc_checks.specs.declared.verdict.Verdict.TheVariants.{Pass, Carry}
-use Rattle.bsc_checks.specs.Places.{origin_in}
 use Rattle.bsc_checks.specs.Verdicts.{Judged}
 use Rattle.bsc_accept.specs.Messages.{who_asks}
-use Rattle.bsc_history.proofs.Uniqueness.{vmac_same}
+use Rattle.bsc_accept.proofs.Common.{node_of}
+use Rattle.bsc_octets.proofs.Common.{vmac_same}
 
 -- ---- a message that is carried on
 
@@ -46,13 +44,6 @@ routed m phase max e j =
     long_enough n h = grind (arith, nat_tests)
 
 -- ---- who asks to be accepted
-
-node_of : (body : Body) (who : Identity) → HasPayload body → who_asks body ≡ Some who → IsNode who
-node_of (ConnectRequest w) who h e = subst IsNode (one w who e) h
-  where
-    one : (a b : Identity) → Some a ≡ Some b → a ≡ b
-    one a b g = cc
-node_of body who h e = cc
 
 -- Who asks by a message that passes is a node.
 pub asking_node : (m : List ℕ) (phase : Phase) (max : ℕ) (msg : Message) (who : Identity) → Judged m (HubPort phase) max (Pass msg) → who_asks msg.body ≡ Some who → IsNode who

@@ -33,3 +33,4 @@ pub mod Stopped
 pub mod Seated
 pub mod Connected
 pub mod Emptied
+pub mod Common

@@ -1,13 +1,10 @@
 -- Open names as a hub keeps them: where they stand, and what is kept of them.
-use Rattle.std.proofs.Common.{◌≡◌, ◌≢◌, inl, inr, ℕ, suc, ◌+◌, Bool, true, false, not, cond, List, [], ◌∷◌, length, map, find, position, slice_get, Option, Some, None, is_some, option_map, Vec, Global, true≢false, refl, ap, sym, ◌∙◌, subst}
-use Rattle.std.specs.List.{AllByRecursion}
+use Rattle.std.proofs.Common.{◌≡◌, ◌≢◌, inl, inr, ℕ, suc, ◌+◌, Bool, true, false, cond, List, [], ◌∷◌, length, map, find, position, slice_get, Option, Some, None, is_some, option_map, Vec, Global, refl, ap, sym, ◌∙◌}
 use Rattle.std.specs.Ordering.{nat_cmp}
 use Rattle.std.specs.BTreeMap.{get}
-use Rattle.std.proofs.lemmas.Bool.{false_from_ne_true}
 use Rattle.bsc_text.specs.Lines.{same_octets}
 use Rattle.bsc_history.specs.Laws.{Apart}
 use Rattle.bsc_history.proofs.Lists.{In, In_from_all}
-use Rattle.bsc_desk.proofs.Places.{position-cons}
 use Rattle.bsc_script.specs.declared.peer.Peer.{Peer as KeptPeer}
 use Rattle.bsc_script.specs.declared.script_hub.ScriptHub.{ScriptHub}
 use Rattle.bsc_script.specs.States.{Peer, is_named, has_joined_as}
@@ -15,9 +12,8 @@ use Rattle.bsc_script.specs.Holding.{name_of, kept_in, IsIndexed}
 use Rattle.bsc_script.proofs.Pairs.{get-map, position-same, position-gives, position-none, same_length}
 use Rattle.bsc_script.proofs.Peers.{same_name, name_same, other_name}
 use Rattle.bsc_script.proofs.Changes.{kept}
-
-one_some : {A : Type 0} (x y : A) → Some x ≡ Some y → x ≡ y
-one_some x y e = cc
+use Rattle.bsc_lemmas.proofs.Lists.{position-cons}
+use Rattle.std.proofs.lemmas.Option.{same_Some as one_some}
 
 both_ways : (p q : Bool) → (p ≡ true → q ≡ true) → (q ≡ true → p ≡ true) → p ≡ q
 both_ways true true f g = refl

@@ -1,31 +1,28 @@
 -- A name opens.
-use Rattle.std.proofs.Common.{◌≡◌, ◌≢◌, ℕ, nat_lt, nat_eq, Bool, true, false, not, cond, ◌&&◌, List, [], ◌∷◌, ◌++◌, length, map, find, position, Option, Some, None, Ok, MatchOption, is_some, option_map, option_to_list, Vec, Global, true≢false, refl, ap, sym, ◌∙◌, subst}
-use Rattle.std.specs.List.{AllByRecursion}
+use Rattle.std.proofs.Common.{◌≡◌, ℕ, nat_lt, Bool, true, false, not, cond, ◌&&◌, List, [], ◌∷◌, ◌++◌, length, map, find, position, Option, Some, None, Ok, MatchOption, is_some, option_map, Vec, Global, true≢false, refl, ap, sym, ◌∙◌, subst}
 use Rattle.std.specs.Ordering.{nat_cmp}
 use Rattle.std.specs.BTreeMap.{get}
 use Rattle.indexmap.specs.IndexMap.{insert_entry}
 use Rattle.bsc_text.specs.Lines.{same_octets}
 use Rattle.bsc_history.specs.declared.limits.About.{About}
 use Rattle.bsc_history.specs.declared.entry.Entry.{Entry}
-use Rattle.bsc_history.specs.declared.mark.Stamped.{Stamped}
-use Rattle.bsc_history.specs.Laws.{Apart}
 use Rattle.bsc_history.proofs.Lists.{In, Apart-push, find_says}
 use Rattle.bsc_desk.specs.Standing.{StandsFor}
 use Rattle.bsc_accept.specs.declared.accepting.Accepting.{Accepting}
-use Rattle.bsc_accept.specs.declared.start.Start.{Start}
 use Rattle.bsc_accept.specs.Standing.{StandsFor as MachineStandsFor}
 use Rattle.bsc_script.specs.declared.peer.Peer.{Peer as KeptPeer}
 use Rattle.bsc_script.specs.declared.script_hub.ScriptHub.{ScriptHub}
 use Rattle.bsc_script.specs.States.{State, Peer, start_at, default_times, new_peer, is_named, has_joined_as, is_open, peer_on, with_opened}
 use Rattle.bsc_script.specs.Carrying.{quietly}
 use Rattle.bsc_script.specs.Running.{opens, most_names}
-use Rattle.bsc_script.specs.Settled.{IsSettledBut, SettledBut}
-use Rattle.bsc_script.specs.Holding.{Pairs, IsPeer, ArePeers, StandsAs, Holds, CarriesOut, RunsTo, ConnsApart, name_of, kept_in}
-use Rattle.bsc_script.proofs.Pairs.{Pairs-push, all-push, map-push}
+use Rattle.bsc_script.specs.Settled.{IsSettledBut}
+use Rattle.bsc_script.specs.Holding.{IsPeer, ArePeers, StandsAs, Holds, CarriesOut, RunsTo, ConnsApart, name_of, kept_in}
+use Rattle.bsc_script.proofs.Pairs.{Pairs-push, map-push}
 use Rattle.bsc_script.proofs.Peers.{name_same, find-push}
 use Rattle.bsc_script.proofs.Changes.{kept, indexed}
 use Rattle.bsc_script.proofs.Names.{placed, names_length, octets_sym}
 use Rattle.bsc_script.proofs.Carried.{quiet_carried}
+use Rattle.bsc_lemmas.proofs.Lists.{all_append as all-push}
 
 -- ---- whether it may
 
@@ -135,9 +132,6 @@ may_open_so s n h = (closed (is_open s n) (nat_lt (length s.peers) most_names) h
     closed : (a b : Bool) → (not a && b) ≡ true → a ≡ false
     closed true b e = absurd (true≢false (sym e))
     closed false b e = refl
-
-pub may_not_open_so : (s : State) (n : List ℕ) → (not (is_open s n) && nat_lt (length s.peers) most_names) ≡ false → opens s n ≡ None
-may_not_open_so s n h = ap (λ b. cond b (Some (quietly (with_opened (new_peer n s.clock) s))) None) h
 
 -- A name that may open opens.
 pub opens_to : (n : ScriptHub) (s : State) (given_name name : List ℕ) → given_name ≡ name → opens s name ≡ Some (quietly (with_opened (new_peer name s.clock) s)) → CarriesOut n [] [] [] (quietly (with_opened (new_peer given_name s.clock) s)) → RunsTo (Ok tt) n [] [] (opens s name)

@@ -1,25 +1,22 @@
 -- An outbox is emptied, and who had it is settled; or it isn't to be.
-use Rattle.std.proofs.Common.{◌≡◌, ◌≢◌, ℕ, zero, suc, ◌+◌, ◌-◌, ◌==◌, ◌≤◌, ◌<◌, nat_lt, Bool, true, false, not, cond, ◌&&◌, ◌||◌, List, [], ◌∷◌, ◌++◌, length, take, drop, find, position, slice_get, Option, Some, None, MatchOption, is_some, Vec, Global, true≢false, refl, ap, sym, ◌∙◌, subst, arith, length-append, length-drop, drop_of_length-le}
+use Rattle.std.proofs.Common.{◌≡◌, ◌≢◌, ℕ, zero, suc, ◌+◌, ◌-◌, ◌==◌, ◌<◌, nat_lt, Bool, true, false, not, cond, ◌&&◌, ◌||◌, List, [], ◌∷◌, ◌++◌, length, take, drop, slice_get, Option, Some, None, MatchOption, is_some, true≢false, refl, ap, sym, ◌∙◌, subst, arith, length-append, length-drop, drop_of_length-le}
 use Rattle.std.specs.List.{AllByRecursion, list_all}
 use Rattle.std.proofs.lemmas.Bool.{and_parts, false_from_ne_true, eqb-true}
 use Rattle.bsc_history.specs.declared.limits.About.{About}
 use Rattle.bsc_history.specs.declared.entry.Entry.{Entry}
 use Rattle.bsc_history.specs.declared.ending.End.{End}
 use Rattle.bsc_history.specs.declared.ending.End.TheVariants.{Left}
-use Rattle.bsc_history.specs.declared.mark.Stamped.{Stamped}
 use Rattle.bsc_history.specs.Ends.{ended}
 use Rattle.bsc_history.specs.Laws.{is_among}
 use Rattle.bsc_history.specs.Marks.{entries}
 use Rattle.bsc_history.specs.Outboxes.{sent}
-use Rattle.bsc_checks.specs.declared.phase.Phase.{Phase}
-use Rattle.bsc_checks.specs.declared.phase.Phase.TheVariants.{Connected as PhaseConnected}
 use Rattle.bsc_accept.specs.declared.accepting.Accepting.{Accepting}
 use Rattle.bsc_accept.specs.declared.event.Event.TheVariants.{Ended}
 use Rattle.bsc_accept.specs.declared.stage.Stage.{Stage}
 use Rattle.bsc_accept.specs.declared.stage.Stage.TheVariants.{AwaitingRequest, Asked, Connected, Disconnecting, Idle}
 use Rattle.bsc_accept.specs.declared.start.Start.{Start}
 use Rattle.bsc_accept.specs.declared.event.Event.{Event}
-use Rattle.bsc_accept.specs.Past.{phase, phase_named, standing}
+use Rattle.bsc_accept.specs.Past.{phase, phase_named}
 use Rattle.bsc_accept.specs.Standing.{StandsFor as MachineStandsFor, IsConnected, is_open, phase_at, phase_of}
 use Rattle.bsc_accept.specs.Kept.{standing_at}
 use Rattle.bsc_accept.proofs.Following.{standing_of_open}
@@ -27,18 +24,19 @@ use Rattle.bsc_script.specs.declared.peer.Joined.{Joined}
 use Rattle.bsc_script.specs.declared.peer.Peer.{Peer as KeptPeer}
 use Rattle.bsc_script.specs.declared.script_hub.ScriptHub.{ScriptHub}
 use Rattle.bsc_script.specs.States.{State, Peer, start_at, has_joined_as, peer_on, with_peer}
-use Rattle.bsc_script.specs.Written.{text_of}
 use Rattle.bsc_script.specs.Carrying.{quietly, tells}
 use Rattle.bsc_script.specs.Emptying.{is_connected, unwritten, due_after, emptied_after, is_emptied, given_frames, found_empty, ends_as, empties, frame_lines, emptied_if, emptied_on}
 use Rattle.bsc_script.specs.Settled.{IsSettledBut, SettledBut, ascends}
 use Rattle.bsc_script.specs.Holding.{IsJoinedIf, IsPeer, StandsAs, StandsAt, IsAt, IsToEmpty, KeepsAt, CarriesOut, ConnsApart, conn_of, kept_in, waits_in}
-use Rattle.bsc_script.specs.Between.{IsJoinedAt, IsWritten, written_peer}
+use Rattle.bsc_script.specs.Between.{IsJoinedAt, IsWritten}
 use Rattle.bsc_history.proofs.Lists.{In, all_from_In, In_from_all, find_says}
 use Rattle.bsc_script.proofs.Pairs.{pair_at, partner_of, In-at}
 use Rattle.bsc_script.proofs.Names.{names_length}
 use Rattle.bsc_script.proofs.Peers.{conn_has}
 use Rattle.bsc_script.proofs.Changes.{indexed, at_changed, settled_at, settled_one}
 use Rattle.bsc_script.proofs.Carried.{lines_carried, quiet_carried}
+use Rattle.bsc_script.proofs.Common.{connected_only}
+use Rattle.std.proofs.lemmas.Option.{none-some as none_some}
 
 -- ---- what is left of an outbox
 
@@ -107,10 +105,6 @@ by_stage Idle o = absurd (true≢false (sym o))
 pub open_phase : (m : Accepting) (i : Start) (E : List Event) → MachineStandsFor m i E → is_open m.stage ≡ true → phase_of m ≡ phase E
 open_phase m i E h o = by_stage m.stage o ∙ ap phase_named (sym (standing_of_open m i E h o))
 
-connected_only : (p : Phase) → is_connected p ≡ true → p ≡ PhaseConnected
-connected_only PhaseConnected e = refl
-connected_only p e = cc
-
 -- The machine of a peer whose outbox is emptied is connected.
 pub ended_connected : (n : ScriptHub) (at c : ℕ) (ds : List ℕ) (s : State) (k : Peer) (ending : End) (t : ScriptHub) (before after : List ℕ) → IsToEmpty t at c ds s k → IsWritten n at c s k (Some ending) before after → KeepsAt n at (λ p. IsConnected p.machine)
 ended_connected n at c ds s k ending t before after w r = λ e is. (
@@ -151,9 +145,6 @@ kept_waits t s at k c e cs h here is conn own =
         one a b x = cc
 
 -- ---- who is settled beside
-
-none_some : {A : Type 0} (x : A) → None ≡ Some x → ⊥
-none_some x e = cc
 
 settled_beside : (c : ℕ) (ds : List ℕ) (a : About) (H : List Entry) (j : Peer) → j.conn ≢ Some c → IsSettledBut (c ∷ ds) a H j → IsSettledBut ds a H j
 settled_beside c ds a H j other h = record {

@@ -1,16 +1,12 @@
 -- Lists whose elements belong together, one by one, and lists with one element put in place of another, or taken out.
-use Rattle.std.proofs.Common.{◌≡◌, ◌≢◌, inl, inr, ℕ, zero, suc, ◌+◌, ◌<◌, nat_lt, Bool, true, false, not, cond, List, [], ◌∷◌, ◌++◌, length, map, set, take, drop, remove, find, filter, position, slice_get, Option, Some, None, option_map, refl, ap, sym, ◌∙◌, subst, arith}
+use Rattle.std.proofs.Common.{◌≡◌, ◌≢◌, inl, inr, ℕ, zero, suc, ◌+◌, nat_lt, Bool, true, false, not, cond, List, [], ◌∷◌, ◌++◌, length, map, set, take, drop, remove, find, position, slice_get, Option, Some, None, option_map, refl, ap, sym, ◌∙◌, subst, arith}
 use Rattle.std.specs.List.{AllByRecursion, prefix_len, position_or_len}
 use Rattle.bsc_history.specs.Laws.{Apart}
 use Rattle.bsc_history.proofs.Lists.{In}
-use Rattle.bsc_desk.proofs.Places.{position-cons}
 use Rattle.bsc_script.specs.Holding.{Pairs}
-
-same_some : {A : Type 0} (x y : A) → Some x ≡ Some y → x ≡ y
-same_some x y e = cc
-
-some_none : {A : Type 0} (x : A) → Some x ≡ None → ⊥
-some_none x e = cc
+use Rattle.bsc_lemmas.proofs.Lists.{all_append as all-push, position-cons}
+use Rattle.bsc_lemmas.proofs.Options.{some_none}
+use Rattle.std.proofs.lemmas.Option.{same_Some as same_some}
 
 -- ---- pairs
 
@@ -75,11 +71,6 @@ Pairs-map {C = C} R f g (a ∷ xs) (b ∷ ys) same p = ap (λ (l : List C). f a 
 
 -- ---- one element
 
-pub get-set : {A : Type 0} (xs : List A) (i : ℕ) (x y : A) → slice_get xs i ≡ Some x → slice_get (set xs i y) i ≡ Some y
-get-set [] i x y h = cc
-get-set (a ∷ xs) zero x y h = refl
-get-set (a ∷ xs) (suc i) x y h = get-set xs i x y h
-
 pub take-set : {A : Type 0} (xs : List A) (i : ℕ) (y : A) → take i (set xs i y) ≡ take i xs
 take-set [] i y = refl
 take-set (a ∷ xs) zero y = refl
@@ -122,10 +113,6 @@ In-at (a ∷ xs) (suc i) x h = inr (In-at xs i x h)
 
 -- ---- what holds of each
 
-pub all-push : {A : Type 0} (P : A → Type 0) (xs ys : List A) → AllByRecursion P xs → AllByRecursion P ys → AllByRecursion P (xs ++ ys)
-all-push P [] ys h g = g
-all-push P (x ∷ xs) ys h g = (h.0, all-push P xs ys h.1 g)
-
 pub all-take : {A : Type 0} (P : A → Type 0) (xs : List A) (i : ℕ) → AllByRecursion P xs → AllByRecursion P (take i xs)
 all-take P xs zero h = tt
 all-take P [] (suc i) h = tt
@@ -135,11 +122,6 @@ pub all-drop : {A : Type 0} (P : A → Type 0) (xs : List A) (i : ℕ) → AllBy
 all-drop P xs zero h = h
 all-drop P [] (suc i) h = tt
 all-drop P (x ∷ xs) (suc i) h = all-drop P xs i h.1
-
-pub all-at : {A : Type 0} (P : A → Type 0) (xs : List A) (i : ℕ) (x : A) → AllByRecursion P xs → slice_get xs i ≡ Some x → P x
-all-at P [] i x h g = cc
-all-at P (a ∷ xs) zero x h g = subst P (same_some a x g) h.0
-all-at P (a ∷ xs) (suc i) x h g = all-at P xs i x h.1 g
 
 pub all-set : {A : Type 0} (P : A → Type 0) (xs : List A) (i : ℕ) (y : A) → AllByRecursion P (take i xs) → AllByRecursion P (drop (suc i) xs) → P y → AllByRecursion P (set xs i y)
 all-set P [] i y b d h = tt

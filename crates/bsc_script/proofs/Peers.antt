@@ -1,7 +1,7 @@
 -- Open names: of which no two have one name or one connection, and of which one is changed or taken out.
-use Rattle.std.proofs.Common.{◌≡◌, ◌≢◌, ◌⊎◌, inl, inr, ℕ, zero, suc, ◌==◌, Bool, true, false, not, cond, List, [], ◌∷◌, ◌++◌, map, set, take, drop, remove, find, filter, slice_get, Option, Some, None, is_some, option_map, refl, ap, sym, ◌∙◌, subst}
+use Rattle.std.proofs.Common.{◌≡◌, ◌≢◌, inl, inr, ℕ, zero, suc, Bool, true, false, not, cond, List, [], ◌∷◌, ◌++◌, map, set, remove, find, filter, slice_get, Option, Some, None, is_some, option_map, refl, ap, sym, ◌∙◌, subst}
 use Rattle.std.specs.List.{AllByRecursion}
-use Rattle.std.proofs.lemmas.Bool.{false_from_ne_true, true≢false, eqb-true, eq-eqb}
+use Rattle.std.proofs.lemmas.Bool.{false_from_ne_true, eqb-true, eq-eqb}
 use Rattle.std.proofs.lemmas.Bool.Decides.{Decides-eqb}
 use Rattle.std.proofs.lemmas.Slice.Eq.{slice_eq-Decides}
 use Rattle.bsc_text.specs.Lines.{same_octets}
@@ -11,12 +11,7 @@ use Rattle.bsc_history.proofs.Lists.{In, all_from_In, In_from_all, In-filter}
 use Rattle.bsc_script.specs.States.{Peer, is_named, has_joined_as}
 use Rattle.bsc_script.specs.Holding.{name_of, conn_of, ConnsApart}
 use Rattle.bsc_script.proofs.Pairs.{In-at}
-
-same_some : {A : Type 0} (x y : A) → Some x ≡ Some y → x ≡ y
-same_some x y e = cc
-
-some_none : {A : Type 0} (x : A) → Some x ≡ None → ⊥
-some_none x e = cc
+use Rattle.std.proofs.lemmas.Option.{same_Some as same_some}
 
 -- ---- names
 

@@ -1,11 +1,11 @@
 -- What may be told to the machine of a peer that is settled.
-use Rattle.std.proofs.Common.{◌≡◌, ℕ, zero, suc, arith, ◌<◌, Bool, true, List, [], ◌∷◌, length, slice_get, Option, Some, None, Vec, Global, refl, ap, sym, ◌∙◌, subst}
+use Rattle.std.proofs.Common.{◌≡◌, ℕ, List, [], slice_get, Some, Vec, Global, ap, ◌∙◌, subst}
 use Rattle.bsc_accept.specs.Standing.{IsOpen, is_open, StandsFor as MachineStandsFor}
 use Rattle.bsc_script.specs.declared.peer.Peer.{Peer as KeptPeer}
 use Rattle.bsc_script.specs.declared.script_hub.ScriptHub.{ScriptHub}
 use Rattle.bsc_script.specs.States.{State, Peer, start_at}
 use Rattle.bsc_script.specs.Settled.{IsSettledBut}
-use Rattle.bsc_script.specs.Holding.{StandsAs, Holds, HoldsSome, IsAt, IsPeer}
+use Rattle.bsc_script.specs.Holding.{StandsAs, Holds, HoldsSome, IsAt}
 use Rattle.bsc_script.proofs.Changes.{kept_at, some_at, settled_one}
 
 -- The machine that is kept at a place stands for what the peer was told.
@@ -22,9 +22,3 @@ open_some t at x some was =
     let h : Holds t s = some.1 in
     let k = some_at t s at x h.0 was in
     open_at t s at [] k.0 x h.0 k.1 was (settled_one at [] s k.0 h.1 k.1)
-
--- There is something at each place below the length.
-pub get_some : {A : Type 0} (xs : List A) (i : ℕ) → i < length xs → (x : A) × (slice_get xs i ≡ Some x)
-get_some [] i h = absurd (omega arith)
-get_some (a ∷ xs) zero h = (a, refl)
-get_some (a ∷ xs) (suc i) h = get_some xs i (omega arith)

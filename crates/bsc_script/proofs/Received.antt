@@ -1,24 +1,17 @@
 -- What the step of a machine at a message asks of its peer.
-use Rattle.std.proofs.Common.{◌≡◌, ◌≢◌, inl, inr, ℕ, Bool, true, false, cond, List, [], ◌∷◌, ◌++◌, set, slice_get, Option, Some, None, Vec, Global, true≢false, refl, ap, sym, ◌∙◌, subst}
+use Rattle.std.proofs.Common.{◌≡◌, ℕ, true, false, List, [], ◌∷◌, ◌++◌, set, slice_get, Some, Vec, Global, true≢false, refl, ap, sym, ◌∙◌, subst}
 use Rattle.bsc_octets.specs.declared.identity.Identity.{Identity}
-use Rattle.bsc_octets.specs.declared.envelope.Envelope.{Envelope}
 use Rattle.bsc_octets.specs.Addresses.{zero_vmac, broadcast}
-use Rattle.bsc_frame.specs.declared.body.Body.{Body}
-use Rattle.bsc_frame.specs.declared.body.Body.TheVariants.{HeartbeatRequest, DisconnectRequest}
-use Rattle.bsc_frame.specs.declared.message.Message.{Message}
 use Rattle.bsc_checks.specs.declared.phase.Phase.{Phase}
-use Rattle.bsc_checks.specs.declared.phase.Phase.TheVariants.{AwaitingRequest}
 use Rattle.bsc_checks.specs.declared.place.Place.TheVariants.{HubPort}
 use Rattle.bsc_checks.specs.declared.verdict.Verdict.{Verdict}
-use Rattle.bsc_checks.specs.declared.verdict.Verdict.TheVariants.{Pass, Carry as Carried, Silent, Nak}
 use Rattle.bsc_checks.specs.Verdicts.{Judged}
 use Rattle.bsc_accept.specs.declared.accepting.Accepting.{Accepting}
 use Rattle.bsc_accept.specs.declared.event.Event.TheVariants.{Message as Came}
 use Rattle.bsc_accept.specs.declared.step.Step.{Step}
 use Rattle.bsc_accept.specs.declared.step.Step.TheVariants.{Ask, Reply, ReplyClose, Carry, Close, Nothing}
-use Rattle.bsc_accept.specs.Messages.{who_asks, is_farewell_answer}
-use Rattle.bsc_accept.specs.Past.{Standing, awaiting_request, connected, disconnecting, standing, phase, phase_named}
-use Rattle.bsc_accept.specs.Steps.{closes, message_step, ask_step, connected_step, normal}
+use Rattle.bsc_accept.specs.Past.{standing, phase, phase_named}
+use Rattle.bsc_accept.specs.Steps.{closes, message_step}
 use Rattle.bsc_accept.specs.declared.event.Event.{Event}
 use Rattle.bsc_accept.specs.declared.start.Start.{Start}
 use Rattle.bsc_accept.specs.Standing.{Answers, LeftBy, IsOver, AwaitsAnswer, StandsFor as MachineStandsFor, is_open}
@@ -28,62 +21,18 @@ use Rattle.bsc_script.specs.States.{State, Peer, start_at, told, with_peer}
 use Rattle.bsc_script.specs.Settled.{IsSettledBut}
 use Rattle.bsc_script.specs.Carrying.{step_of, does}
 use Rattle.bsc_script.specs.Receiving.{acts}
-use Rattle.bsc_script.specs.Holding.{KeepsAt, AsksOf, AwaitsStep, Holds, IsAt, kept_in}
+use Rattle.bsc_script.specs.Holding.{AsksOf, AwaitsStep, Holds, IsAt, kept_in}
 use Rattle.indexmap.specs.IndexMap.{with_value_at}
 use Rattle.bsc_script.proofs.Changes.{kept, kept_with, told_at, at_settled, settled_one}
 use Rattle.bsc_script.proofs.Ready.{machine_at, open_at}
-use Rattle.bsc_script.proofs.Pairs.{get-set, get-map}
+use Rattle.bsc_script.proofs.Pairs.{get-map}
 use Rattle.bsc_script.proofs.Judging.{routed, asking_node, other_vmac}
-use Rattle.bsc_script.proofs.Settling.{open_after, settled_told}
-
-one_some : {A : Type 0} (x y : A) → Some x ≡ Some y → x ≡ y
-one_some x y e = cc
+use Rattle.bsc_script.proofs.Settling.{settled_told}
+use Rattle.bsc_accept.proofs.Common.{asks_by, carries_by}
+use Rattle.bsc_lemmas.proofs.Lists.{get-set}
+use Rattle.std.proofs.lemmas.Option.{same_Some as one_some}
 
 -- ---- which messages lead to which steps
-
-asked_by : (o : Option Identity) (who : Identity) → Ask who ≡ ask_step o → o ≡ Some who
-asked_by None who e = cc
-asked_by (Some w) who e = cc
-
-not_asked_connected : (id : ℕ) (body : Body) (who : Identity) → Ask who ≡ connected_step id body → ⊥
-not_asked_connected id HeartbeatRequest who e = cc
-not_asked_connected id DisconnectRequest who e = cc
-not_asked_connected id body who e = cc
-
-not_asked_parting : (b : Bool) (who : Identity) → Ask who ≡ cond b (Close normal) Nothing → ⊥
-not_asked_parting true who e = cc
-not_asked_parting false who e = cc
-
--- A step that asks comes of a message that passed, before anybody joined.
-asks_by : (g : Standing) (v : Verdict) (who : Identity) → Ask who ≡ message_step g v → (msg : Message) × (v ≡ Pass msg) × (g ≡ awaiting_request) × (who_asks msg.body ≡ Some who)
-asks_by awaiting_request (Pass msg) who e = (msg, refl, refl, asked_by (who_asks msg.body) who e)
-asks_by connected (Pass msg) who e = absurd (not_asked_connected msg.id msg.body who e)
-asks_by (disconnecting f) (Pass msg) who e = absurd (not_asked_parting (is_farewell_answer f.id msg) who e)
-asks_by g (Carried envelope) who e = cc
-asks_by g (Silent check) who e = cc
-asks_by g (Nak check octets) who e = cc
-
-not_carried_asked : (o : Option Identity) → Carry ≡ ask_step o → ⊥
-not_carried_asked None e = cc
-not_carried_asked (Some w) e = cc
-
-not_carried_connected : (id : ℕ) (body : Body) → Carry ≡ connected_step id body → ⊥
-not_carried_connected id HeartbeatRequest e = cc
-not_carried_connected id DisconnectRequest e = cc
-not_carried_connected id body e = cc
-
-not_carried_parting : (b : Bool) → Carry ≡ cond b (Close normal) Nothing → ⊥
-not_carried_parting true e = cc
-not_carried_parting false e = cc
-
--- A step that carries comes of a message that is to be carried.
-carries_by : (g : Standing) (v : Verdict) → Carry ≡ message_step g v → (e : Envelope) × (v ≡ Carried e)
-carries_by g (Carried envelope) e = (envelope, refl)
-carries_by awaiting_request (Pass msg) e = absurd (not_carried_asked (who_asks msg.body) e)
-carries_by connected (Pass msg) e = absurd (not_carried_connected msg.id msg.body e)
-carries_by (disconnecting f) (Pass msg) e = absurd (not_carried_parting (is_farewell_answer f.id msg) e)
-carries_by g (Silent check) e = cc
-carries_by g (Nak check octets) e = cc
 
 -- ---- what is asked
 

@@ -1,5 +1,5 @@
 -- Only outboxes that are due are emptied, so a round of these is a round of all, in the order of joining.
-use Rattle.std.proofs.Common.{◌≡◌, ◌≢◌, ◌⊎◌, inl, inr, ℕ, zero, suc, ◌==◌, ◌<◌, nat_lt, Bool, true, false, cond, ◌&&◌, ◌||◌, List, [], ◌∷◌, ◌++◌, map, fold, filter, find, flat_map, set, slice_get, Option, Some, None, is_some, option_to_list, true≢false, refl, ap, sym, ◌∙◌, subst, append-nil, arith}
+use Rattle.std.proofs.Common.{◌≡◌, ◌≢◌, inl, inr, ℕ, zero, suc, ◌==◌, nat_lt, Bool, true, false, cond, ◌&&◌, ◌||◌, List, [], ◌∷◌, ◌++◌, map, fold, filter, find, flat_map, set, slice_get, Option, Some, None, is_some, option_to_list, true≢false, refl, ap, sym, ◌∙◌, subst, append-nil, arith}
 use Rattle.std.specs.List.{AllByRecursion, list_any, list_all}
 use Rattle.std.proofs.lemmas.Bool.{false_from_ne_true, and_parts, or_cases, or_left, or_right, eqb-true, eq-eqb}
 use Rattle.std.proofs.lemmas.Bool.Decides.{nat_tests}
@@ -10,23 +10,22 @@ use Rattle.bsc_history.specs.Laws.{Apart, is_among}
 use Rattle.bsc_history.specs.Legality.{is_of}
 use Rattle.bsc_history.specs.Marks.{entries}
 use Rattle.bsc_history.specs.Replies.{numbers}
-use Rattle.bsc_history.proofs.Lists.{In, In_from_all, any_gives, any_In}
-use Rattle.bsc_accept.specs.declared.event.Event.{Event}
+use Rattle.bsc_history.proofs.Lists.{In, In_from_all}
 use Rattle.bsc_accept.specs.declared.event.Event.TheVariants.{Ended}
 use Rattle.bsc_accept.specs.declared.step.Step.{Step}
 use Rattle.bsc_accept.specs.Steps.{closes}
-use Rattle.bsc_desk.specs.Live.{connection}
 use Rattle.bsc_script.specs.declared.peer.Joined.{Joined}
 use Rattle.bsc_script.specs.declared.script_hub.ScriptHub.{ScriptHub}
 use Rattle.bsc_script.specs.States.{State, Peer, has_joined_as, peer_on, told, with_peer}
-use Rattle.bsc_script.specs.Carrying.{Outcome, quietly, and_then, does, tells, step_of}
-use Rattle.bsc_script.specs.Emptying.{OnConnection, is_emptied, unwritten, given_frames, found_empty, ends_as, empties, in_order_of_joining, emptied_one, emptied, emptied_if, emptied_on}
+use Rattle.bsc_script.specs.Carrying.{Outcome, quietly, and_then, does, step_of}
+use Rattle.bsc_script.specs.Emptying.{OnConnection, is_emptied, unwritten, given_frames, found_empty, ends_as, empties, emptied_one, emptied, emptied_if, emptied_on}
 use Rattle.bsc_script.specs.Settled.{IsSettledBut, SettledBut, ascends}
 use Rattle.bsc_script.specs.Holding.{IsJoinedIf, IsPeer, StandsAs, CarriesOut, name_of, kept_in, ConnsApart}
-use Rattle.bsc_script.proofs.Pairs.{partner_of, get-set, map-set, Apart-same, In-at}
-use Rattle.bsc_script.proofs.Peers.{changed, has_conn, conn_has, found_conn, alone, find-remove}
+use Rattle.bsc_script.proofs.Pairs.{partner_of, map-set, Apart-same}
+use Rattle.bsc_script.proofs.Peers.{changed, has_conn, found_conn, find-remove}
 use Rattle.bsc_script.proofs.Carried.{both_carried, closing_peers, other_peers}
 use Rattle.bsc_script.proofs.Sending.{rows_ascend}
+use Rattle.bsc_lemmas.proofs.Lists.{get-set}
 
 -- ---- one outbox is emptied, and the other names stand as before
 

@@ -1,19 +1,17 @@
 -- A peer joins: what the hub of a script stands for then.
-use Rattle.std.proofs.Common.{◌≡◌, ◌≢◌, ◌⊎◌, inl, inr, ℕ, zero, suc, ◌+◌, ◌<◌, ◌≤◌, ◌==◌, nat_le, nat_lt, Bool, true, false, not, ◌||◌, cond, List, [], ◌∷◌, ◌++◌, length, map, set, take, drop, find, filter, slice_get, Option, Some, None, is_some, is_none, option_map, option_to_list, refl, ap, sym, ◌∙◌, subst, arith, append-nil}
+use Rattle.std.proofs.Common.{◌≡◌, ◌⊎◌, inl, inr, ℕ, zero, suc, ◌<◌, ◌==◌, nat_lt, Bool, true, false, not, ◌||◌, cond, List, [], ◌∷◌, ◌++◌, length, map, set, find, filter, slice_get, Option, Some, None, is_some, option_map, option_to_list, refl, ap, sym, ◌∙◌, subst, arith, append-nil}
 use Rattle.std.specs.Global.{Vec}
 use Rattle.std.specs.List.{AllByRecursion, list_any}
 use Rattle.std.specs.Option.{option_or}
 use Rattle.std.specs.Ordering.{nat_cmp, eq_by_cmp, is_eq}
-use Rattle.std.specs.declared.cmp.Ordering.{Ordering}
 use Rattle.std.specs.declared.cmp.Ordering.TheVariants.{Less, Equal, Greater}
 use Rattle.std.specs.BTreeMap.{get}
-use Rattle.std.proofs.lemmas.Bool.{both_ways, eq-eqb, eqb-true, ne_eqb, false_from_ne_true, ltb-true, or_cases, or_left, or_right, or_parts}
+use Rattle.std.proofs.lemmas.Bool.{both_ways, eq-eqb, eqb-true, ne_eqb, false_from_ne_true, ltb-true, or_cases, or_left, or_right}
 use Rattle.std.proofs.lemmas.List.Folds.{find-append, list_any-append}
 use Rattle.bsc_accept.specs.Standing.{StandsFor as MachineStandsFor}
 use Rattle.indexmap.specs.IndexMap.{index_map_len, set_value_at}
 use Rattle.bsc_octets.specs.declared.identity.Identity.{Identity}
 use Rattle.bsc_history.specs.declared.limits.About.{About}
-use Rattle.bsc_history.specs.declared.call.Call.TheVariants.{Connect}
 use Rattle.bsc_history.specs.declared.connection.Connection.{Connection}
 use Rattle.bsc_history.specs.declared.ending.End.{End}
 use Rattle.bsc_history.specs.declared.ending.End.TheVariants.{Replaced}
@@ -23,26 +21,24 @@ use Rattle.bsc_history.specs.declared.mark.Stamped.{Stamped}
 use Rattle.bsc_history.specs.declared.reply.Reply.TheVariants.{Joined as JoinedReply}
 use Rattle.bsc_history.specs.Entries.{connection_of, joins, moment}
 use Rattle.bsc_history.specs.Ends.{end_by, ended, joined, leaves, numbered, unleft}
-use Rattle.bsc_history.specs.Laws.{Apart, is_among}
+use Rattle.bsc_history.specs.Laws.{is_among}
 use Rattle.bsc_history.specs.Legality.{Lawful, Legal, is_of}
-use Rattle.bsc_history.specs.Marks.{entries, mark_of}
+use Rattle.bsc_history.specs.Marks.{entries}
 use Rattle.bsc_history.specs.Outboxes.{added_by, looked, sent, vmac_in, vmac_of}
 use Rattle.bsc_history.proofs.Fresh.{fresh_ended, fresh_joins, fresh_looked, fresh_sent}
 use Rattle.bsc_history.proofs.Lifting.{join_owned, own_joined}
-use Rattle.bsc_history.proofs.Lists.{In, In_from_all}
-use Rattle.bsc_history.proofs.More.{ended-more, entries-more, joined-more, looked-more, sent-more, unleft-more, filter_true}
+use Rattle.bsc_history.proofs.More.{ended-more, entries-more, joined-more, looked-more, sent-more, unleft-more}
 use Rattle.bsc_history.proofs.Named.{unleft_joined}
 use Rattle.bsc_history.proofs.Parts.{numbered_joined}
 use Rattle.bsc_history.proofs.Takeover.{join_takes_over}
 use Rattle.bsc_history.proofs.Uniqueness.{comes}
-use Rattle.bsc_ring.specs.declared.ends.Outlet.{Outlet}
-use Rattle.bsc_ring.specs.Ends.{FoundEnd, IsNewOutlet, given, empties_of, outlet_mark}
+use Rattle.bsc_ring.specs.Ends.{IsNewOutlet, given, outlet_mark}
 use Rattle.bsc_desk.specs.declared.desk.Desk.{Desk}
 use Rattle.bsc_desk.specs.declared.row.Row.{Row}
 use Rattle.bsc_desk.specs.Entries.{connect_entry, connect_stamped}
 use Rattle.bsc_desk.specs.Live.{connection, known_in}
 use Rattle.bsc_desk.specs.Meetings.{IsOutletOf}
-use Rattle.bsc_desk.specs.Rows.{known_of, row_of}
+use Rattle.bsc_desk.specs.Rows.{known_of}
 use Rattle.bsc_desk.specs.Standing.{StandsFor}
 use Rattle.bsc_desk.proofs.LiveRows.{any_row}
 use Rattle.bsc_desk.proofs.Rowed.{joined_mark}
@@ -51,19 +47,18 @@ use Rattle.bsc_script.specs.declared.peer.Peer.{Peer as KeptPeer}
 use Rattle.bsc_script.specs.declared.script_hub.ScriptHub.{ScriptHub}
 use Rattle.bsc_script.specs.States.{State, Peer, has_joined_as, joined_as, peer_on, start_at, with_peer}
 use Rattle.bsc_script.specs.Emptying.{due_after}
-use Rattle.bsc_script.specs.Settled.{IsSettledBut}
-use Rattle.bsc_script.specs.Touching.{touched, replaced_list}
-use Rattle.bsc_script.specs.Holding.{ConnsApart, IsAt, IsJoinedIf, IsPeer, Pairs, StandsAs, StandsAt, name_of, conn_of, kept_in}
-use Rattle.bsc_script.specs.Between.{IsAtRest, IsJoinedBut, IsPeerBut, Seats, StandsBut}
+use Rattle.bsc_script.specs.Touching.{replaced_list}
+use Rattle.bsc_script.specs.Holding.{ConnsApart, IsJoinedIf, IsPeer, Pairs, StandsAs, StandsAt, name_of, kept_in}
+use Rattle.bsc_script.specs.Between.{IsPeerBut, Seats, StandsBut}
 use Rattle.bsc_script.proofs.Between.{Changes, peers_more}
 use Rattle.bsc_script.proofs.Changes.{kept, kept-set}
 use Rattle.bsc_script.proofs.Entered.{Owns, changes_quiet, newest_lawful, owners}
 use Rattle.bsc_script.proofs.Pairs.{Apart-same, Pairs-length, Pairs-set, get-map, map-set, partner_of}
-use Rattle.bsc_script.proofs.Peers.{changed, conn_has, has_conn}
+use Rattle.bsc_script.proofs.Peers.{changed, has_conn}
 use Rattle.bsc_script.proofs.Sending.{MakesEntry}
-
-same_some : {A : Type 0} (x y : A) → Some x ≡ Some y → x ≡ y
-same_some x y e = cc
+use Rattle.bsc_lemmas.proofs.Lists.{got-within as get_within, none_of}
+use Rattle.bsc_ring.proofs.Common.{nothing_found}
+use Rattle.std.proofs.lemmas.Option.{same_Some as same_some}
 
 -- ---- tests
 
@@ -74,12 +69,6 @@ eq_cmp k q = by (nat_lt k q) refl
     by : (b : Bool) → nat_lt k q ≡ b → is_eq (cond b Less (cond (k == q) Equal Greater)) ≡ (k == q)
     by true t = sym (ne_eqb k q (λ e. let less = ltb-true k q t in omega arith))
     by false t = elim (k == q) as (λ e. is_eq (cond e Equal Greater) ≡ e) [ true ↦ refl | false ↦ refl ]
-
-none_of : {A : Type 0} (p : A → Bool) (xs : List A) → list_any p xs ≡ false → find p xs ≡ None
-none_of p [] h = refl
-none_of {A} p (x ∷ xs) h =
-    let two = or_parts (p x) (list_any p xs) h in
-    ap (λ (b : Bool). cond b (Some x) (find p xs)) two.0 ∙ none_of p xs two.1
 
 -- ---- one element in place of another
 
@@ -181,9 +170,6 @@ not_replaced a H who c (Some k) legal lawful = false_from_ne_true (is_among c (k
     (let bad : None ≡ Some Replaced = sym none ∙ over in cc))
 
 -- ---- the new peer
-
-nothing_found : (o : Outlet) → IsNewOutlet o → (e : End) → FoundEnd o e → ⊥
-nothing_found o new e f = (let bad = rw new.2 at f.1 in cc)
 
 module _ (d n : Desk) (S : List Stamped) (who : Identity) (m : Mark) (c : ℕ) (replaced : Option ℕ) where
   abbrev stamp : Stamped
@@ -332,11 +318,6 @@ seats t u at v p j name there desk about clock written names is =
       names = λ e here c. names c ∙ ap (λ (b : Bool). cond b (Some name) (get nat_cmp t.names c)) (eq_cmp j.conn c)
           ∙ ap (λ (n : List ℕ). cond (j.conn == c) (Some n) (get nat_cmp t.names c)) (is ∙ ap (λ (x : List ℕ × KeptPeer). x.0) (whole e here));
     }
-
-get_within : {A : Type 0} (xs : List A) (i : ℕ) (x : A) → slice_get xs i ≡ Some x → i < length xs
-get_within [] i x h = cc
-get_within (a ∷ xs) zero x h = omega arith
-get_within (a ∷ xs) (suc i) x h = (let rest = get_within xs i x h in omega arith)
 
 kept_length : (es : List (Vec ℕ × KeptPeer)) → length (map kept es) ≡ length es
 kept_length [] = refl

@@ -1,5 +1,5 @@
 -- A message is carried on: what the hub of a script stands for after the call and the meetings.
-use Rattle.std.proofs.Common.{◌≡◌, ℕ, ◌+◌, ◌≤◌, nat_le, Bool, true, false, cond, List, [], ◌∷◌, ◌++◌, length, map, filter, drop, take, suc, slice_get, Option, Some, None, is_some, refl, ap, sym, ◌∙◌, subst, arith, append-nil}
+use Rattle.std.proofs.Common.{◌≡◌, ℕ, ◌≤◌, Bool, true, false, cond, List, [], ◌∷◌, ◌++◌, length, map, filter, slice_get, Option, Some, None, refl, ap, sym, ◌∙◌, subst, arith, append-nil}
 use Rattle.std.specs.Prelude.{◌↔◌, nat_lt, ◌&&◌, not}
 use Rattle.std.specs.List.{AllByRecursion, list_all}
 use Rattle.std.specs.Ordering.{nat_cmp}
@@ -15,10 +15,10 @@ use Rattle.bsc_history.specs.declared.entry.Entry.{Entry}
 use Rattle.bsc_history.specs.declared.looks.Look.{Look}
 use Rattle.bsc_history.specs.declared.mark.Stamped.{Stamped}
 use Rattle.bsc_history.specs.declared.reply.Reply.{Reply}
-use Rattle.bsc_history.specs.declared.reply.Reply.TheVariants.{Appended, Closed, NotCurrent, Skipped, Stopped}
+use Rattle.bsc_history.specs.declared.reply.Reply.TheVariants.{Appended, Closed, Skipped, Stopped}
 use Rattle.bsc_history.specs.Ends.{ended, live}
 use Rattle.bsc_history.specs.Holders.{holder}
-use Rattle.bsc_history.specs.Legality.{Legal, is_of}
+use Rattle.bsc_history.specs.Legality.{is_of}
 use Rattle.bsc_history.specs.Marks.{entries}
 use Rattle.bsc_history.specs.Outboxes.{is_found_full, is_too_long, meant, means, out_of, sent, vmac_of}
 use Rattle.bsc_history.specs.Replies.{broadcast_reply, forward_reply, is_stopped, numbers, unicast_reply, unless_ended}
@@ -49,8 +49,10 @@ use Rattle.bsc_script.specs.Holding.{ArePeers, IsPeer, IsJoinedIf, IsIndexed, Ke
 use Rattle.bsc_script.specs.Between.{Sends, StandsBut}
 use Rattle.bsc_script.proofs.Between.{Changes, indexed_but, stands_more}
 use Rattle.bsc_script.proofs.Entered.{Owns, all_with, changes_forward, exact_entry, newest_lawful, owners, settled_more}
-use Rattle.bsc_script.proofs.Pairs.{all-at, all-join, partner_of}
+use Rattle.bsc_script.proofs.Pairs.{all-join, partner_of}
 use Rattle.bsc_script.proofs.Carried.{quiet_carried}
+use Rattle.bsc_history.proofs.Common.{length_entries}
+use Rattle.bsc_lemmas.proofs.Lists.{all-at}
 
 -- ---- a call of the desk
 
@@ -82,10 +84,6 @@ stands_same t u s d a k p n w = record {
 
 pub at_same : (t u : ScriptHub) (at : ℕ) (cs : List ℕ) (s : State) (k : Peer) → u.desk ≡ t.desk → u.about ≡ t.about → u.clock ≡ t.clock → u.peers ≡ t.peers → u.names ≡ t.names → StandsAt t at cs s k → StandsAt u at cs s k
 at_same t u at cs s k d a c p n w = record { stands = stands_same t u s d a c p n w.stands; here = w.here; before = w.before; behind = w.behind; order = w.order }
-
-length_entries : (S : List Stamped) → length (entries S) ≡ length S
-length_entries [] = refl
-length_entries (x ∷ S) = ap suc (length_entries S)
 
 -- Whether the hub is worn is what the desk says of it.
 pub worn_as : (t : ScriptHub) (s : State) (X : Type 0) → StandsAs t s → ((S : List Stamped) → StandsFor t.desk S → X ↔ (t.desk.about.limits.calls ≤ length S)) → (X → is_worn s ≡ true) × ((X → ⊥) → is_worn s ≡ false)

@@ -1,30 +1,28 @@
 -- What the machine of a peer is told leaves the peer settled, unless it closes.
-use Rattle.std.proofs.Common.{◌≡◌, ◌≢◌, ◌↔◌, ℕ, Bool, true, false, not, cond, ◌&&◌, List, [], ◌∷◌, ◌++◌, Option, Some, None, true≢false, refl, ap, sym, ◌∙◌, subst}
+use Rattle.std.proofs.Common.{◌≡◌, ◌≢◌, ℕ, Bool, true, false, not, cond, ◌&&◌, List, [], ◌∷◌, ◌++◌, Some, None, true≢false, refl, ap, sym, ◌∙◌, subst}
 use Rattle.std.proofs.lemmas.Bool.{and_parts}
 use Rattle.bsc_history.specs.declared.limits.About.{About}
 use Rattle.bsc_history.specs.declared.entry.Entry.{Entry}
 use Rattle.bsc_history.specs.declared.ending.End.{End}
 use Rattle.bsc_history.specs.declared.ending.End.TheVariants.{Left, Replaced, Full, Stopped}
-use Rattle.bsc_history.specs.declared.reply.Refusal.{Refusal}
-use Rattle.bsc_history.specs.declared.reply.Refusal.TheVariants.{Stopped as HubStopped, Duplicate, TableFull}
 use Rattle.bsc_history.specs.Laws.{is_among}
-use Rattle.bsc_checks.specs.declared.phase.Phase.TheVariants.{AwaitingRequest, Connected}
+use Rattle.bsc_checks.specs.declared.phase.Phase.TheVariants.{AwaitingRequest}
 use Rattle.bsc_accept.specs.declared.accepting.Accepting.{Accepting}
 use Rattle.bsc_accept.specs.declared.start.Start.{Start}
 use Rattle.bsc_accept.specs.declared.event.Event.{Event}
-use Rattle.bsc_accept.specs.declared.event.Event.TheVariants.{Joined, Refused, Ended, Tick}
+use Rattle.bsc_accept.specs.declared.event.Event.TheVariants.{Joined, Ended}
 use Rattle.bsc_accept.specs.declared.step.Step.{Step}
 use Rattle.bsc_accept.specs.declared.step.Step.TheVariants.{Ask, Reply, ReplyClose, Carry, Close, Nothing}
-use Rattle.bsc_accept.specs.Past.{Standing, awaiting_request, connected, disconnecting, standing, phase, phase_named, until_farewell, farewell_at, is_joined, last_message}
-use Rattle.bsc_accept.specs.Steps.{step, closes, tick_step, ended_step, refused_step, closing}
+use Rattle.bsc_accept.specs.Past.{Standing, awaiting_request, connected, disconnecting, standing, phase, phase_named, until_farewell, farewell_at, is_joined}
+use Rattle.bsc_accept.specs.Steps.{closes, tick_step, ended_step}
 use Rattle.bsc_accept.specs.Waits.{connect_wait_is_over, is_idle, disconnect_wait_is_over}
-use Rattle.bsc_accept.specs.Standing.{StandsFor, LeftBy, IsOpen, IsConnected, is_open, stage}
+use Rattle.bsc_accept.specs.Standing.{StandsFor, LeftBy, IsConnected, is_open, stage}
 use Rattle.bsc_accept.specs.Kept.{moved, standing_at}
 use Rattle.bsc_accept.proofs.Looking.{standing-more}
 use Rattle.bsc_accept.proofs.Following.{standing_of_open, connected_stage}
-use Rattle.bsc_script.specs.States.{State, Peer, start_at, told}
-use Rattle.bsc_script.specs.Emptying.{is_connected, due_after, emptied_after}
-use Rattle.bsc_script.specs.Settled.{HasFitPhase, IsSettledBut}
+use Rattle.bsc_script.specs.States.{Peer, start_at, told}
+use Rattle.bsc_script.specs.Emptying.{is_connected, due_after}
+use Rattle.bsc_script.specs.Settled.{IsSettledBut}
 
 -- ---- steps
 
@@ -56,11 +54,6 @@ ended_asks Left = refl
 ended_asks Replaced = refl
 ended_asks Full = refl
 ended_asks Stopped = refl
-
-pub refused_closes : (id : ℕ) (refusal : Refusal) → closes (refused_step id refusal) ≡ true
-refused_closes id (Duplicate holder) = refl
-refused_closes id (TableFull rows) = refl
-refused_closes id HubStopped = refl
 
 -- ---- phases
 

@@ -1,32 +1,32 @@
 -- What an entry does to the outboxes of connections: those that its reply touches gain a frame or an End, and no others.
-use Rattle.std.proofs.Common.{◌≡◌, ◌≢◌, ◌⊎◌, inl, inr, ℕ, ◌+◌, ◌-◌, ◌≤◌, ◌==◌, nat_le, nat_lt, Bool, true, false, not, ◌&&◌, ◌||◌, cond, List, [], ◌∷◌, ◌++◌, length, map, filter, fold, drop, Option, Some, None, is_some, is_none, option_to_list, refl, ap, sym, ◌∙◌, subst, arith, append-nil, length-append, length-drop}
+use Rattle.std.proofs.Common.{◌≡◌, ◌≢◌, ◌⊎◌, inl, inr, ℕ, ◌-◌, ◌≤◌, ◌==◌, nat_lt, Bool, true, false, not, ◌&&◌, ◌||◌, cond, List, [], ◌∷◌, ◌++◌, length, map, filter, fold, Some, None, is_some, is_none, refl, ap, sym, ◌∙◌, subst, arith, append-nil}
 use Rattle.std.specs.Prelude.{IsTrue}
-use Rattle.std.specs.List.{list_any, list_all, AllByRecursion}
-use Rattle.std.specs.Option.{option_or}
-use Rattle.std.proofs.lemmas.Bool.{eq-eqb, eqb-true, false_from_ne_true, both_ways, and_parts, or_cases, or_parts, or_left, or_right}
+use Rattle.std.specs.List.{list_any, AllByRecursion}
+use Rattle.std.proofs.lemmas.Bool.{eq-eqb, eqb-true, both_ways, and_parts, or_cases, or_parts, or_left, or_right}
 use Rattle.bsc_octets.specs.Forwarding.{has_route}
 use Rattle.bsc_history.specs.declared.limits.About.{About}
 use Rattle.bsc_history.specs.declared.call.Call.{Call}
 use Rattle.bsc_history.specs.declared.call.Call.TheVariants.{Connect, Forward, Leave, Stop, Count}
 use Rattle.bsc_history.specs.declared.connection.Connection.{Connection}
-use Rattle.bsc_history.specs.declared.ending.End.{End}
 use Rattle.bsc_history.specs.declared.entry.Entry.{Entry}
 use Rattle.bsc_history.specs.declared.looks.Look.{Look}
 use Rattle.bsc_history.specs.declared.reply.Reply.{Reply}
 use Rattle.bsc_history.specs.declared.reply.Reply.TheVariants.{Joined, Refused, Appended, Closed, Skipped, NoHolder, SentAll, NotCurrent, Stopped, Gone, Counted}
 use Rattle.bsc_history.specs.Entries.{is_stop, joins, moment}
-use Rattle.bsc_history.specs.Ends.{end_by, end_by_call, end_by_reply, ended, is_leave, is_live, is_one, leaves, live, unleft}
-use Rattle.bsc_history.specs.Legality.{Lawful, Legal, can_find, is_of, looks_at, may_call}
-use Rattle.bsc_history.specs.Laws.{Apart, is_among, names, WithinCapacity}
-use Rattle.bsc_history.specs.Outboxes.{added, added_by, finds_full, is_found_full, is_too_long, looked, meant, means, newer, out_of, sent, takes}
+use Rattle.bsc_history.specs.Ends.{end_by, end_by_call, end_by_reply, ended, is_leave, is_live, leaves, live}
+use Rattle.bsc_history.specs.Legality.{Lawful, Legal, is_of, looks_at, may_call}
+use Rattle.bsc_history.specs.Laws.{Apart, is_among, names}
+use Rattle.bsc_history.specs.Outboxes.{added_by, finds_full, is_found_full, is_too_long, looked, meant, means, newer, out_of, sent, takes}
 use Rattle.bsc_history.specs.Replies.{is_stopped, numbers}
 use Rattle.bsc_history.proofs.Capacity.{within_capacity}
 use Rattle.bsc_history.proofs.Lifting.{stays}
-use Rattle.bsc_history.proofs.Lists.{In, any_gives, all_from_In, In-filter, Apart-filter, same_one}
-use Rattle.bsc_history.proofs.More.{ended-more, ended-same, looked-more, or_false, sent-more}
+use Rattle.bsc_history.proofs.Lists.{In, any_gives, Apart-filter, same_one}
+use Rattle.bsc_history.proofs.More.{ended-more, ended-same, looked-more, sent-more}
 use Rattle.bsc_history.proofs.Named.{adds_as_named, among_filter, live_until_ended, some_or, unleft_joined}
 use Rattle.bsc_history.proofs.Numbers.{live_numbers}
 use Rattle.bsc_script.specs.Touching.{touched}
+use Rattle.bsc_history.proofs.Common.{aimed}
+use Rattle.bsc_lemmas.proofs.Booleans.{or_false}
 
 -- ---- what a reply says
 
@@ -180,12 +180,6 @@ look_newest a H e k legal lawful m =
       | inl r ↦ r.3 ∙ ap (λ (x : Look). x.taken) (same_one (λ (x : Look). x.conn) r.0 k e.looks (looks_apart a H e legal lawful) r.1 m r.2)
       | inr r ↦ absurd (both_ways (is_among k.conn (map (λ x. x.conn) e.looks)) r.0 (among_In e.looks k m))
     ]
-
--- where a Forward looks at c, the hub hasn't stopped, the sender hasn't ended, and c is among those that it means
-aimed : (s : Bool) (w : Option End) (c : ℕ) (ks : List ℕ) → is_among c (cond (s || not (is_none w)) [] ks) ≡ true → (s ≡ false) × (w ≡ None) × (is_among c ks ≡ true)
-aimed true w c ks h = cc
-aimed false (Some k) c ks h = cc
-aimed false None c ks h = (refl, refl, h)
 
 -- the sender of a lawful Forward has joined
 sender_joined : (a : About) (H : List Entry) (e : Entry) (sender : ℕ) (m : List ℕ) → Lawful a (moment H e) → e.call ≡ Forward sender m → list_any (joins sender) H ≡ true

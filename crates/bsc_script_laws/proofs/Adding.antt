@@ -27,7 +27,8 @@ use Rattle.bsc_script.specs.Receiving.{wears, gets_reply, connects, forwards_if,
 use Rattle.bsc_script.specs.Emptying.{OnConnection, unwritten, given_frames, found_empty, is_emptied, ends_as, empties, emptied_one, emptied, in_order_of_joining}
 use Rattle.bsc_script.specs.Running.{most_names, hub_says, gets_text, holds, latest, ticks_one, stops, says_counts, line_outcome, run_line}
 use Rattle.bsc_script.specs.Laws.{after_lines}
-use Rattle.bsc_script.proofs.Pairs.{all-push}
+use Rattle.bsc_lemmas.proofs.Lists.{all_append as all-push}
+use Rattle.std.proofs.lemmas.Option.{same_Some as same_some}
 
 -- The history of t is that of a state with this hub and this history, and then some entries, of each of which P holds.
 pub record Adds (P : Entry → Type 0) (a : About) (H : List Entry) (t : State) : Type 0 where
@@ -156,9 +157,6 @@ all_emptied_added P plain a H [] o h = h
 all_emptied_added P plain a H (x ∷ xs) o h = all_emptied_added P plain a H xs (emptied_one o x) (emptied_one_added P plain a H o x h)
 
 -- ---- a line
-
-pub same_some : {A : Type 0} (x y : A) → Some x ≡ Some y → x ≡ y
-same_some x y e = cc
 
 -- what is accepted on a condition
 pub accepted : (b : Bool) (x o : Outcome) → cond b (Some x) None ≡ Some o → x ≡ o

@@ -26,11 +26,12 @@ use Rattle.bsc_script.specs.Carrying.{Outcome, quietly, writes, leaves_if, ends,
 use Rattle.bsc_script.specs.Receiving.{wears, gets_reply, connects, forwards_if, verdict_on, acts, silence, receives}
 use Rattle.bsc_script.specs.Emptying.{OnConnection, frame_lines, unwritten, given_frames, found_empty, is_emptied, ends_as, empties, emptied_one, emptied, in_order_of_joining}
 use Rattle.bsc_script.specs.Running.{most_names, hub_says, gets_text, holds, latest, ticks_one, stops, says_counts, line_outcome, run_line}
-use Rattle.bsc_script.proofs.Pairs.{all-push}
 use Rattle.bsc_script.proofs.Peers.{name_same, has_conn}
 use Rattle.bsc_history.proofs.Lists.{In_from_all, all_from_In, In-filter}
-use Rattle.bsc_script_laws.proofs.Adding.{accepted, of_name, same_some, then_emptied}
+use Rattle.bsc_script_laws.proofs.Adding.{accepted, of_name, then_emptied}
 use Rattle.bsc_script_laws.proofs.Looking.{found_name}
+use Rattle.bsc_lemmas.proofs.Lists.{all_append as all-push}
+use Rattle.std.proofs.lemmas.Option.{same_Some as same_some}
 
 -- these lines are of other names
 abbrev pub AreAside : List ℕ → List Said → Type 0

@@ -1,6 +1,5 @@
 -- What the verdict at the hub port says of a message, whatever numbers it is made of, and which steps ask and carry.
 use Rattle.std.proofs.Common.{◌≡◌, inl, inr, ℕ, ◌+◌, ◌≤◌, ◌==◌, nat_le, nat_lt, Bool, true, false, not, ◌&&◌, ◌||◌, cond, List, [], ◌∷◌, ◌++◌, drop, take, length, Option, Some, None, is_some, is_none, true≢false, refl, ap, sym, ◌∙◌, arith}
-use Rattle.std.specs.List.{AllByRecursion}
 use Rattle.std.proofs.lemmas.Bool.{and_cases, or_parts, both_ways, eqb-true, le-leb, ltb-false, true_from_ne_false}
 use Rattle.bsc_octets.specs.declared.envelope.Envelope.{Envelope}
 use Rattle.bsc_octets.specs.declared.identity.Identity.{Identity}
@@ -9,8 +8,6 @@ use Rattle.bsc_octets.specs.Addresses.{same_vmac, zero_vmac, broadcast}
 use Rattle.bsc_octets.specs.Envelopes.{announces_origin, announces_dest, vmac_at}
 use Rattle.bsc_octets.specs.Forwarding.{has_route, flags_in, function_in}
 use Rattle.bsc_octets.specs.Identities.{identity_of}
-use Rattle.bsc_frame.specs.declared.body.Body.{Body}
-use Rattle.bsc_frame.specs.declared.body.Body.TheVariants.{HeartbeatRequest, DisconnectRequest}
 use Rattle.bsc_frame.specs.declared.check.Check.{Check}
 use Rattle.bsc_frame.specs.declared.check.Check.TheVariants.{C13}
 use Rattle.bsc_frame.specs.declared.message.Message.{Message}
@@ -27,12 +24,10 @@ use Rattle.bsc_verdict.specs.Options.{Found, data_options_in, rest_of}
 use Rattle.bsc_verdict.specs.Payloads.{body_in, has_bad_details, has_bad_uris, has_no_nodes_vmac, has_unknown_accepts, has_unknown_result, has_unknown_status, is_out_of_range}
 use Rattle.bsc_verdict.specs.Places.{is_in_place, is_response, is_unicast}
 use Rattle.bsc_verdict.specs.Failing.{fails, of_payload}
-use Rattle.bsc_verdict.specs.Outcomes.{accepted, answered, decided, first_failing, message_in, outcome_of, refused}
-use Rattle.bsc_accept.specs.declared.step.Step.TheVariants.{Ask, Carry, Close, Nothing}
-use Rattle.bsc_accept.specs.Messages.{who_asks, is_farewell_answer}
-use Rattle.bsc_accept.specs.Past.{Standing, awaiting_request, connected, disconnecting}
-use Rattle.bsc_accept.specs.Steps.{message_step, ask_step, connected_step, normal}
-use Rattle.bsc_script_laws.proofs.Adding.{same_some}
+use Rattle.bsc_verdict.specs.Outcomes.{accepted, answered, decided, first_failing, outcome_of, refused}
+use Rattle.bsc_accept.specs.Messages.{who_asks}
+use Rattle.bsc_verdict.proofs.Common.{carries_when, none_fails, passes_when}
+use Rattle.std.proofs.lemmas.Option.{same_Some as same_some}
 
 -- ---- a message that no check refuses
 
@@ -55,20 +50,7 @@ unrefused : (m : List ℕ) (place : Place) (r : Option Check) (v : Verdict) → 
 unrefused m place None v e h = (refl, e)
 unrefused m place (Some check) v e h = absurd (true≢false (sym (refused_refuses m place check (code_of check)) ∙ ap refuses e ∙ h))
 
-none_first : (t : Check → Bool) (k : Check) (ks : List Check) (b : Bool) → t k ≡ b → first_failing t (k ∷ ks) ≡ None → (t k ≡ false) × (first_failing t ks ≡ None)
-none_first t k ks true is e = (let bad : first_failing t (k ∷ ks) ≡ Some k = rw (is, first_failing) refl in let isnt : Some k ≡ None = sym bad ∙ e in cc)
-none_first t k ks false is e = (is, (let rest : first_failing t (k ∷ ks) ≡ first_failing t ks = rw (is, first_failing) refl in sym rest ∙ e))
-
--- where none is the first that fails, none fails
-none_fails : (t : Check → Bool) (ks : List Check) → first_failing t ks ≡ None → AllByRecursion (λ k. t k ≡ false) ks
-none_fails t [] e = tt
-none_fails t (k ∷ ks) e = (let two = none_first t k ks (t k) refl e in (two.0, none_fails t ks two.1))
-
 -- ---- a message that is carried on
-
-carries_when : (b : Bool) (m : List ℕ) (e : Envelope) → accepted b m ≡ Carried e → b ≡ true
-carries_when true m e h = refl
-carries_when false m e h = cc
 
 no_origin : (b : Bool) (v : Vmac) → is_some (cond b (Some v) None) ≡ false → b ≡ false
 no_origin true v h = h
@@ -98,13 +80,6 @@ routes m phase max e h =
     ∙ ap not origin
 
 -- ---- who asks to be accepted
-
-passes_when : (b : Bool) (m : List ℕ) (msg : Message) → accepted b m ≡ Pass msg → (b ≡ false) × (message_in m ≡ msg)
-passes_when true m msg h = cc
-passes_when false m msg h = (refl, same (message_in m) msg h)
-  where
-    same : (x y : Message) → Pass x ≡ Pass y → x ≡ y
-    same x y e = cc
 
 from_front : (l : List ℕ) → drop 0 l ≡ l
 from_front [] = refl
@@ -159,47 +134,3 @@ asks_for_node m max msg who h asks =
     asked_in_range (rest_of (data_options_in m)) who range (ap who_asks (sym body) ∙ ap (λ (x : Message). who_asks x.body) p.1 ∙ asks)
 
 -- ---- which messages lead to which steps
-
-asked_by : (o : Option Identity) (who : Identity) → Ask who ≡ ask_step o → o ≡ Some who
-asked_by None who e = cc
-asked_by (Some w) who e = cc
-
-not_asked_connected : (id : ℕ) (body : Body) (who : Identity) → Ask who ≡ connected_step id body → ⊥
-not_asked_connected id HeartbeatRequest who e = cc
-not_asked_connected id DisconnectRequest who e = cc
-not_asked_connected id body who e = cc
-
-not_asked_parting : (b : Bool) (who : Identity) → Ask who ≡ cond b (Close normal) Nothing → ⊥
-not_asked_parting true who e = cc
-not_asked_parting false who e = cc
-
--- A step that asks comes of a message that passed, before anybody joined.
-pub asks_by : (g : Standing) (v : Verdict) (who : Identity) → Ask who ≡ message_step g v → (msg : Message) × (v ≡ Pass msg) × (g ≡ awaiting_request) × (who_asks msg.body ≡ Some who)
-asks_by awaiting_request (Pass msg) who e = (msg, refl, refl, asked_by (who_asks msg.body) who e)
-asks_by connected (Pass msg) who e = absurd (not_asked_connected msg.id msg.body who e)
-asks_by (disconnecting f) (Pass msg) who e = absurd (not_asked_parting (is_farewell_answer f.id msg) who e)
-asks_by g (Carried envelope) who e = cc
-asks_by g (Silent check) who e = cc
-asks_by g (Nak check octets) who e = cc
-
-not_carried_asked : (o : Option Identity) → Carry ≡ ask_step o → ⊥
-not_carried_asked None e = cc
-not_carried_asked (Some w) e = cc
-
-not_carried_connected : (id : ℕ) (body : Body) → Carry ≡ connected_step id body → ⊥
-not_carried_connected id HeartbeatRequest e = cc
-not_carried_connected id DisconnectRequest e = cc
-not_carried_connected id body e = cc
-
-not_carried_parting : (b : Bool) → Carry ≡ cond b (Close normal) Nothing → ⊥
-not_carried_parting true e = cc
-not_carried_parting false e = cc
-
--- A step that carries comes of a message that is to be carried.
-pub carries_by : (g : Standing) (v : Verdict) → Carry ≡ message_step g v → (e : Envelope) × (v ≡ Carried e)
-carries_by g (Carried envelope) e = (envelope, refl)
-carries_by awaiting_request (Pass msg) e = absurd (not_carried_asked (who_asks msg.body) e)
-carries_by connected (Pass msg) e = absurd (not_carried_connected msg.id msg.body e)
-carries_by (disconnecting f) (Pass msg) e = absurd (not_carried_parting (is_farewell_answer f.id msg) e)
-carries_by g (Silent check) e = cc
-carries_by g (Nak check octets) e = cc

@@ -32,9 +32,11 @@ use Rattle.bsc_script.specs.Receiving.{wears, gets_reply, connects, forwards_if,
 use Rattle.bsc_script.specs.Running.{most_names, hub_says, gets_text, holds, latest, ticks_one, stops, says_counts, line_outcome}
 use Rattle.bsc_script.specs.Holding.{name_of}
 use Rattle.bsc_script.proofs.Peers.{other_name}
-use Rattle.bsc_script_laws.proofs.Adding.{accepted, of_name, same_some}
-use Rattle.bsc_script_laws.proofs.Judged.{asks_by, asks_for_node, carries_by, routes}
+use Rattle.bsc_script_laws.proofs.Adding.{accepted, of_name}
+use Rattle.bsc_script_laws.proofs.Judged.{asks_for_node, routes}
 use Rattle.bsc_script_laws.proofs.Sound.{IsSound, changed_sound, closed_sound, found_in, joined_sound, left_sound, opened_sound, placed_in, placed_other, quiet_sound, told_sound}
+use Rattle.bsc_accept.proofs.Common.{asks_by, carries_by}
+use Rattle.std.proofs.lemmas.Option.{same_Some as same_some}
 
 -- ---- a WebSocket that closes, and the steps
 

@@ -40,11 +40,13 @@ use Rattle.bsc_script.specs.Emptying.{OnConnection, frame_lines, unwritten, give
 use Rattle.bsc_script.specs.Holding.{name_of}
 use Rattle.bsc_script.specs.Running.{most_names, hub_says, gets_text, holds, latest, ticks_one, stops, says_counts, line_outcome, run_line}
 use Rattle.bsc_script.specs.Laws.{is_close, is_gone, EndsByClosing}
-use Rattle.bsc_script.proofs.Pairs.{all-push}
 use Rattle.bsc_script.proofs.Peers.{name_same, same_name, has_conn}
 use Rattle.bsc_history.proofs.Lists.{In as Within, In_from_all, all_from_In, In-filter}
-use Rattle.bsc_script_laws.proofs.Adding.{accepted, all_emptied_added, nothing_added, of_name, same_some, then_emptied}
+use Rattle.bsc_script_laws.proofs.Adding.{accepted, all_emptied_added, nothing_added, of_name, then_emptied}
 use Rattle.bsc_script_laws.proofs.Aside.{AreAside, IsOther, AreOthers, IsAside, tells_aside, empties_aside, in_order_others, none_of}
+use Rattle.bsc_lemmas.proofs.Lists.{all_append as all-push}
+use Rattle.bsc_lemmas.proofs.Options.{same_some_number as one_number}
+use Rattle.std.proofs.lemmas.Option.{same_Some as same_some}
 
 -- ---- lines
 
@@ -492,9 +494,6 @@ same_conn n k (p ∷ ks) h (inl same) e = ((λ f. ap (λ (q : Peer). q.conn) sam
     others [] a = tt
     others (j ∷ js) a = ((λ f. absurd (a.0 f)), others js a.1)
 same_conn n k (p ∷ ks) h (inr m) e = ((λ f. absurd (In_from_all (λ (q : Peer). q.name ≢ n) k ks (h.0 f) m e)), same_conn n k ks h.1 m e)
-
-one_number : (a b : ℕ) → Some a ≡ Some b → a ≡ b
-one_number a b e = cc
 
 none_joined : (n : List ℕ) (c : ℕ) (o : Option ℕ) (ks : List Peer) (cs : List Connection) → o ≡ Some c → AllByRecursion (λ (p : Peer). p.name ≡ n → p.conn ≡ o) ks → AllByRecursion (λ (x : Connection). c ≢ x.number) cs
     → AllByRecursion (λ (q : Peer). q.name ≢ n) (joined_peers ks cs)

@@ -16,7 +16,8 @@ use Rattle.bsc_script.specs.Holding.{name_of}
 use Rattle.bsc_script.specs.Running.{run_line}
 use Rattle.bsc_script.specs.Laws.{LooksAtWritten}
 use Rattle.bsc_script.proofs.Peers.{same_name}
-use Rattle.bsc_script_laws.proofs.Adding.{Adds, line_added, same_some}
+use Rattle.bsc_script_laws.proofs.Adding.{Adds, line_added}
+use Rattle.std.proofs.lemmas.Option.{same_Some as same_some}
 
 -- ---- the peer of a name
 

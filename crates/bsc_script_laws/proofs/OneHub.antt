@@ -14,11 +14,12 @@ use Rattle.bsc_script.specs.Carrying.{Outcome}
 use Rattle.bsc_script.specs.Emptying.{is_connected, unwritten_after}
 use Rattle.bsc_script.specs.Running.{line_outcome, run_line}
 use Rattle.bsc_script.specs.Laws.{IsOfOneHub, WritesInOrder, WritesAll, after_lines}
-use Rattle.bsc_script_laws.proofs.Adding.{callers_after, none_after, same_some, state_of, then_emptied}
+use Rattle.bsc_script_laws.proofs.Adding.{callers_after, none_after, state_of, then_emptied}
 use Rattle.bsc_script_laws.proofs.Keeping.{outcome_sound}
 use Rattle.bsc_script_laws.proofs.Looking.{drop-front}
 use Rattle.bsc_script_laws.proofs.Resting.{AtRest, emptied_rests}
 use Rattle.bsc_script_laws.proofs.Sound.{IsSound}
+use Rattle.std.proofs.lemmas.Option.{same_Some as same_some}
 
 -- ---- after any lines
 

@@ -27,11 +27,13 @@ use Rattle.bsc_script.specs.Carrying.{Outcome, and_then, does, leaves_if}
 use Rattle.bsc_script.specs.Emptying.{OnConnection, due_after, emptied, emptied_after, emptied_one, empties, ends_as, found_empty, given_frames, in_order_of_joining, is_connected, is_emptied, unwritten}
 use Rattle.bsc_script.specs.Holding.{name_of, conn_of}
 use Rattle.bsc_script.proofs.Peers.{conn_has, has_conn, name_same, other_name}
-use Rattle.bsc_script_laws.proofs.Adding.{same_some}
 use Rattle.bsc_script_laws.proofs.Keeping.{does_sound}
 use Rattle.bsc_script_laws.proofs.Lasting.{AtMostOne, apart_one, in_order, on, one_joined, peers_joined, peers_on}
 use Rattle.bsc_script_laws.proofs.Looking.{drop-front}
-use Rattle.bsc_script_laws.proofs.Sound.{IsSound, IsSoundPeer, In-left, In-right, changed_sound, in_map, in_placed, map_in, nothing_some, placed, placed_in, placed_other, some_nothing, told_sound}
+use Rattle.bsc_script_laws.proofs.Sound.{IsSound, IsSoundPeer, In-left, In-right, changed_sound, in_map, in_placed, map_in, placed, placed_in, placed_other, told_sound}
+use Rattle.bsc_lemmas.proofs.Lists.{drop_all as drop-whole}
+use Rattle.bsc_lemmas.proofs.Options.{some_none as some_nothing}
+use Rattle.std.proofs.lemmas.Option.{none-some as nothing_some, same_Some as same_some}
 
 -- ---- one outbox
 
@@ -42,10 +44,6 @@ pub record IsEmptied (k : Peer) (c : ℕ) (s u : State) : Type 0 where
   pub stay : (q : Peer) → In q s.peers → is_named k.name q ≡ false → In q u.peers
   pub own : (q : Peer) → In q u.peers → (In q s.peers × (is_named k.name q ≡ false)) ⊎ ((d : ℕ) → q.conn ≡ Some d → is_emptied u q d ≡ false)
   pub same : (q : Peer) (d : ℕ) → c ≢ d → is_emptied u q d ≡ is_emptied s q d
-
-drop-whole : {A : Type 0} (l : List A) → drop (length l) l ≡ []
-drop-whole [] = refl
-drop-whole (x ∷ l) = drop-whole l
 
 -- what was written and what wasn't are all that entered
 filled : (whole front : List (List ℕ)) → StartsWith whole front → front ++ drop (length front) whole ≡ whole

@@ -1,5 +1,5 @@
 -- What holds of each state that lines leave, by the definition alone, and what keeps it.
-use Rattle.std.proofs.Common.{◌≡◌, ◌≢◌, ◌⊎◌, inl, inr, ℕ, ◌+◌, ◌≤◌, ◌==◌, nat_le, Bool, true, false, not, ◌||◌, cond, List, [], ◌∷◌, ◌++◌, filter, find, fold, length, map, Option, Some, None, MatchOption, is_none, option_to_list, true≢false, refl, ap, sym, ◌∙◌, subst, arith, append_assoc, append-nil, length-append}
+use Rattle.std.proofs.Common.{◌≡◌, ◌≢◌, ◌⊎◌, inl, inr, ℕ, ◌≤◌, ◌==◌, nat_le, Bool, true, false, not, ◌||◌, cond, List, [], ◌∷◌, ◌++◌, filter, find, fold, length, map, Option, Some, None, MatchOption, is_none, option_to_list, true≢false, refl, ap, sym, ◌∙◌, subst, arith, append_assoc, append-nil}
 use Rattle.std.specs.List.{list_any, list_all}
 use Rattle.std.proofs.lemmas.Bool.{and_from, both_ways, eq-eqb, eqb-true, false_from_ne_true, le-leb}
 use Rattle.bsc_octets.specs.declared.identity.Identity.{Identity}
@@ -37,10 +37,14 @@ use Rattle.bsc_script.proofs.Pairs.{Apart-same}
 use Rattle.bsc_script.proofs.Peers.{conn_has, has_conn, name_same, same_name}
 use Rattle.bsc_script.proofs.Seated.{Fresh, fresh_of}
 use Rattle.bsc_script.proofs.Touched.{is_of_same, newest_of}
-use Rattle.bsc_script_laws.proofs.Adding.{same_some}
 use Rattle.bsc_script_laws.proofs.Aside.{none_of}
 use Rattle.bsc_script_laws.proofs.Lasting.{name_kept}
 use Rattle.bsc_script_laws.proofs.Looking.{all_found}
+use Rattle.bsc_accept.proofs.Common.{awaits_not as none_awaited}
+use Rattle.bsc_lemmas.proofs.Booleans.{not_true as named_not}
+use Rattle.bsc_lemmas.proofs.Options.{some_none as some_nothing}
+use Rattle.bsc_ring.proofs.Common.{short_of}
+use Rattle.std.proofs.lemmas.Option.{none-some as nothing_some, same_Some as same_some}
 
 -- ---- what holds
 
@@ -125,12 +129,6 @@ map_in f [] x m = absurd m
 map_in f (y ∷ xs) x (inl e) = inl (ap f e)
 map_in f (y ∷ xs) x (inr m) = inr (map_in f xs x m)
 
-pub nothing_some : {A : Type 0} (x : A) → None ≡ Some x → ⊥
-nothing_some x e = cc
-
-pub some_nothing : {A : Type 0} (x : A) → Some x ≡ None → ⊥
-some_nothing x e = cc
-
 -- who is found is among those that were looked through
 pub found_in : {A : Type 0} (p : A → Bool) (xs : List A) (x : A) → find p xs ≡ Some x → In x xs
 found_in {A} p xs x e = by (find p xs) (find_says p xs) e
@@ -162,11 +160,6 @@ pub other_peer : (s : State) → IsSound s → (k q : Peer) (d : ℕ) → In k s
 other_peer s h k q d mk mq is isnt = false_from_ne_true (is_named k.name q) (λ t. isnt (ap conn_of (sym (same_peer s h k q mk mq t)) ∙ is))
 
 -- ---- a call that may be made is lawful
-
-short_of : (whole front : List (List ℕ)) → StartsWith whole front → length front ≤ length whole
-short_of whole front w =
-    let long : length whole ≡ length front + length w.0 = ap length w.1 ∙ length-append front w.0 in
-    omega arith
 
 can_find_so : (a : About) (H : List Entry) (c n : ℕ) → looked H c ≤ n → n ≤ length (sent a H c) → can_find a H c n ≡ true
 can_find_so a H c n low high = and_from (nat_le (looked H c) n) (nat_le n (length (sent a H c))) (le-leb (looked H c) n low) (le-leb n (length (sent a H c)) high)
@@ -325,10 +318,6 @@ changed_sound s h k j m name conn own = record {
 stays_open : (s : State) → IsSound s → (k q : Peer) → In k s.peers → In q s.peers → is_named k.name q ≡ false → In q (without_name k.name s).peers
 stays_open s h k q mk mq isnt = In_kept (λ p. not (is_named k.name p)) q s.peers mq (ap not isnt)
 
-named_not : (b : Bool) → not b ≡ true → b ≡ false
-named_not true e = sym e
-named_not false e = refl
-
 -- A name without a connection is closed.
 pub closed_sound : (s : State) → IsSound s → (k : Peer) → In k s.peers → k.conn ≡ None → IsSound (without_name k.name s)
 closed_sound s h k m free = record {
@@ -427,11 +416,6 @@ before_event (disconnecting f) e h = cc
 -- where a Connect-Request is awaited after an event, it was before
 awaited : (E : List Event) (e : Event) → phase (E ++ e ∷ []) ≡ AwaitingRequest → phase E ≡ AwaitingRequest
 awaited E e h = before_event (standing E) e (sym (ap phase_named (standing-more E e)) ∙ h)
-
-none_awaited : (g : Standing) → phase_named (moved g HasJoined) ≡ AwaitingRequest → ⊥
-none_awaited awaiting_request h = cc
-none_awaited connected h = cc
-none_awaited (disconnecting f) h = cc
 
 -- The machine of a peer is told something.
 pub told_sound : (s : State) → IsSound s → (k : Peer) (e : Event) → In k s.peers → IsSound (with_peer (told e k) s)

@@ -27,11 +27,12 @@ use Rattle.bsc_script.specs.Emptying.{OnConnection, frame_lines, unwritten, give
 use Rattle.bsc_script.specs.Holding.{name_of}
 use Rattle.bsc_script.specs.Running.{most_names, hub_says, gets_text, holds, latest, ticks_one, stops, says_counts, line_outcome, run_line}
 use Rattle.bsc_script.specs.Laws.{AreWritten}
-use Rattle.bsc_script.proofs.Pairs.{all-push}
 use Rattle.bsc_script.proofs.Peers.{name_same, same_name, other_name}
 use Rattle.bsc_history.proofs.Lists.{In_from_all, all_from_In, In-filter}
-use Rattle.bsc_script_laws.proofs.Adding.{accepted, of_name, same_some, then_emptied}
+use Rattle.bsc_script_laws.proofs.Adding.{accepted, of_name, then_emptied}
 use Rattle.bsc_script_laws.proofs.Looking.{IsAloneIn, alone_in, found_name, drop-front}
+use Rattle.bsc_lemmas.proofs.Lists.{all_append as all-push}
+use Rattle.std.proofs.lemmas.Option.{same_Some as same_some}
 
 -- a peer of this name has these frames
 abbrev pub HasFrames : List ℕ → List (List ℕ) → Peer → Type 0

@@ -25,6 +25,7 @@ use Rattle.bsc_session.specs.Stops.{stop_at, stop_if, closes, first_of, closing_
 use Rattle.bsc_session.specs.Taking.{Opening, IsOpening, end_step, last_of, put_first, stop_before, opened}
 use Rattle.bsc_session.specs.Turns.{Turn, IsTurn, said_in, stop_in, after}
 use Rattle.bsc_session.proofs.Lists.{HasPut-append, shares-more}
+use Rattle.bsc_session.proofs.Common.{first_none}
 
 -- no fault in it
 IsWell : List Said → Type 0
@@ -168,10 +169,6 @@ well_given v s0 s now judged (Ok Quiet) answer fault is = rw (unheard_quiet v s0
 well_given v s0 s now judged (Ok (Message x)) answer fault is = (refl, well_judged v s0 s now judged x answer fault is)
 
 -- ---- the turn
-
-first_none : (a b : Option Stop) → first_of a b ≡ None → (a ≡ None) × (b ≡ None)
-first_none None b h = (refl, h)
-first_none (Some s) b h = cc
 
 pub alone : (a : Option Stop) → first_of a None ≡ a
 alone None = refl

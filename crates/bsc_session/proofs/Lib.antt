@@ -18,3 +18,4 @@ mod Asking
 mod HubCalls
 mod TakingFrames
 mod CarryingOut
+pub mod Common

@@ -26,7 +26,8 @@ use Rattle.bsc_session.specs.Stops.{first_of}
 use Rattle.bsc_session.specs.Taking.{Opening, end_told, opened, put_first, stop_before}
 use Rattle.bsc_session.specs.Turns.{after}
 use Rattle.bsc_session.proofs.HubCalls.{goes_nowhere}
-use Rattle.bsc_session.proofs.Lists.{grows_as, grown}
+use Rattle.bsc_session.proofs.Lists.{grows_as}
+use Rattle.bsc_edge.proofs.Common.{grown}
 
 pub member_same : (p : Pass) (m n : Option Member) → SameMember m n → IsMember p m → IsMember p n
 member_same p None None h k = tt

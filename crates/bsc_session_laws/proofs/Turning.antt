@@ -1,5 +1,5 @@
 -- Who has joined, from turn to turn, and what a turn comes to before anybody has.
-use Rattle.std.proofs.Common.{◌≡◌, ◌⊎◌, inl, inr, ℕ, Bool, true, false, cond, List, [], ◌∷◌, ◌++◌, length, Option, Some, None, Result, Ok, Err, is_some, option_to_list, refl, ap, sym, ◌∙◌, subst}
+use Rattle.std.proofs.Common.{◌≡◌, ◌⊎◌, inl, inr, ℕ, Bool, true, false, List, [], ◌∷◌, ◌++◌, length, Option, Some, None, Result, Ok, Err, is_some, option_to_list, refl, ap, sym, ◌∙◌, subst}
 use Rattle.std.proofs.lemmas.Bool.{both_ways}
 use Rattle.bsc_octets.specs.declared.identity.Identity.{Identity}
 use Rattle.bsc_frame.specs.declared.message.Message.{Message as Bvlc}
@@ -18,15 +18,12 @@ use Rattle.bsc_edge.specs.declared.said.Said.{Said}
 use Rattle.bsc_edge.specs.declared.said.Said.TheVariants.{Gave, Put}
 use Rattle.bsc_accept.specs.declared.event.Event.{Event}
 use Rattle.bsc_accept.specs.declared.event.Event.TheVariants.{Message as Came, Joined as JoinedEvent, Refused as RefusedEvent, Ended, Tick}
-use Rattle.bsc_accept.specs.declared.farewell.Farewell.{Farewell}
 use Rattle.bsc_accept.specs.declared.step.Step.{Step}
 use Rattle.bsc_accept.specs.declared.step.Step.TheVariants.{Ask}
-use Rattle.bsc_accept.specs.Kept.{moved}
 use Rattle.bsc_accept.specs.Messages.{connect_accept, who_asks}
-use Rattle.bsc_accept.specs.Past.{Standing as MachineStanding, awaiting_request, connected, disconnecting, farewell_at, is_joined, phase, phase_named, standing, until_farewell}
+use Rattle.bsc_accept.specs.Past.{Standing as MachineStanding, awaiting_request, connected, disconnecting, is_joined, phase, phase_named, standing}
 use Rattle.bsc_accept.specs.Steps.{asked_id, ask_step, message_step, passed_step, refused_step}
 use Rattle.bsc_accept.proofs.Looking.{standing-more}
-use Rattle.bsc_session.specs.declared.stop.Stop.{Stop}
 use Rattle.bsc_session.specs.declared.why.Why.{Why}
 use Rattle.bsc_session.specs.declared.why.Why.TheVariants.{Refused as WhyRefused}
 use Rattle.bsc_session.specs.Answering.{Fits, IsHearing, after_hearing, answered, calls_hub, last_wanted, said_hearing, stands_heard, stop_hearing, stop_message, step_of}
@@ -37,31 +34,18 @@ use Rattle.bsc_session.specs.Puts.{octets_in, puts}
 use Rattle.bsc_session.specs.Reading.{started, ticked}
 use Rattle.bsc_session.specs.Receiving.{Answer, replies, worn, no_memory, Hearing, received_one}
 use Rattle.bsc_session.specs.Standings.{Standing, Terms, begun, is_connected, is_phase_connected, told}
-use Rattle.bsc_session.specs.Stops.{closes, closing_in, first_of, stop_if}
+use Rattle.bsc_session.specs.Stops.{closes, closing_in, stop_if}
 use Rattle.bsc_session.specs.Taking.{Looks, Opening, end_step, end_told, opened, put_first, stop_before}
 use Rattle.bsc_session.specs.Turns.{IsHearingIf, IsTurn, Turn, after, said_after, said_in, stands_after, stop_after}
 use Rattle.bsc_session_laws.specs.Messages.{JudgedMessage, asked, message_after, message_by, message_in}
 use Rattle.bsc_session_laws.proofs.Verdicts.{asked_awaiting}
+use Rattle.bsc_session.proofs.Common.{first_none, joined_at as joined_in, moved_in}
 
 -- ---- who has joined
 
 -- whether the machine has joined, by where the session stands
 abbrev pub is_in : Standing → Bool
 is_in s = has_joined (standing s.events)
-
-until_in : (o : Option Farewell) → has_joined (until_farewell o) ≡ true
-until_in None = refl
-until_in (Some f) = refl
-
-moved_in : (g : MachineStanding) (e : Event) → is_joined e ≡ false → has_joined (moved g e) ≡ has_joined g
-moved_in awaiting_request e h = ap (λ (b : Bool). has_joined (cond b connected awaiting_request)) h
-moved_in connected e h = until_in (farewell_at e)
-moved_in (disconnecting f) e h = refl
-
-joined_in : (g : MachineStanding) → has_joined (moved g JoinedEvent) ≡ true
-joined_in awaiting_request = refl
-joined_in connected = refl
-joined_in (disconnecting f) = refl
 
 -- an event that isn't a joining changes nothing of it
 told_in : (s : Standing) (e : Event) → is_joined e ≡ false → is_in (told s e) ≡ is_in s
@@ -110,10 +94,6 @@ pub tied_after : (v : Terms) (s : Standing) (t : Turn) → Tied s → Tied (afte
 tied_after v s t k = tied_heard v (opened s t.opening) t.opening.reading t.hearing (tied_opened s t.opening k)
 
 -- ---- how a turn goes on
-
-pub first_none : (a b : Option Stop) → first_of a b ≡ None → (a ≡ None) × (b ≡ None)
-first_none None b h = (refl, h)
-first_none (Some s) b h = cc
 
 pub fault_none : (f : Option LinkFault) → stop_if f ≡ None → f ≡ None
 fault_none None h = refl

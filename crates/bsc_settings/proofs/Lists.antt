@@ -1,13 +1,13 @@
 -- Lists of a policy that are read value by value.
-use Rattle.std.proofs.Common.{◌≡◌, ◌∙◌, ◌+◌, ◌≤◌, ◌<◌, ◌++◌, ◌&&◌, ◌||◌, ℕ, Bool, true, false, not, cond, nat_le, nat_lt, suc, List, [], ◌∷◌, length, get_or, drop, map, Option, Some, None, is_some, unwrap_or, option_and_then, position, Result, Ok, Err, ◌≢◌, ◌↔◌, refl, sym, subst, ap, ap₂, append_assoc, append-nil, length-append, le-leb, leb-true, lt-ltb, arith, inl, inr}
+use Rattle.std.proofs.Common.{◌≡◌, ◌∙◌, ◌+◌, ◌≤◌, ◌<◌, ◌++◌, ◌&&◌, ◌||◌, ℕ, Bool, true, false, not, cond, nat_le, nat_lt, suc, List, [], ◌∷◌, length, get_or, drop, map, Option, Some, None, is_some, option_and_then, position, Result, Ok, Err, ◌≢◌, ◌↔◌, refl, sym, subst, ap, ap₂, append_assoc, append-nil, length-append, le-leb, leb-true, lt-ltb, arith, inl, inr}
 use Rattle.std.specs.List.{list_all, list_any, position_or_len}
 use Rattle.std.specs.Cmp.Lexicographic.{nat_list_eq_equiv}
 use Rattle.std.proofs.lemmas.Bool.{and_parts, cases_Bool, false≢true}
 use Rattle.std.proofs.lemmas.Bool.Decides.{nat_tests}
 use Rattle.std.proofs.lemmas.Option.{none-some}
-use Rattle.std.proofs.lemmas.List.{drop_all, drop_more}
+use Rattle.std.proofs.lemmas.List.{drop_more}
 use Rattle.std.proofs.lemmas.List.Folds.{list_all-map, list_any-append}
-use Rattle.toml.specs.Data.{Data, Members, as_array}
+use Rattle.toml.specs.Data.{Data, as_array}
 use Rattle.toml.specs.View.{items_of, items_view, view}
 use Rattle.toml.specs.declared.value.Value.{Value}
 use Rattle.bsc_policy.specs.declared.fault.PolicyFault.{PolicyFault}
@@ -16,14 +16,16 @@ use Rattle.bsc_policy.specs.declared.member.Member.{Member}
 use Rattle.bsc_policy.specs.declared.rule.Rule.{Rule}
 use Rattle.bsc_policy.specs.Writing.{is_taken_by}
 use Rattle.bsc_settings.specs.declared.key.KeyName.{KeyName}
-use Rattle.bsc_settings.specs.declared.key.KeyName.TheVariants.{PolicyMember, PolicyRule}
 use Rattle.bsc_settings.specs.declared.unread.Unread.{Unread}
 use Rattle.bsc_settings.specs.declared.unread.Unread.TheVariants.{Refused, NoMemory}
 use Rattle.bsc_settings.specs.Faults.{policy_fault}
-use Rattle.bsc_settings.specs.Policies.{all_said, are_apart, are_members, are_rules, before_all, list_said, listed, members_in, passing, rules_in}
+use Rattle.bsc_settings.specs.Policies.{all_said, are_apart, are_members, are_rules, before_all, list_said, listed, passing}
 use Rattle.bsc_settings.specs.Documents.{is_known}
-use Rattle.bsc_settings.specs.Lists.{IsFor, IsUnread, Refuses, after, after_all, behind}
+use Rattle.bsc_settings.specs.Lists.{IsFor, IsUnread, after, after_all, behind}
 use Rattle.bsc_settings.specs.Table.{Row}
+use Rattle.bsc_lemmas.proofs.Booleans.{not_or as not-either}
+use Rattle.std.proofs.lemmas.Bool.{and_right as and-false}
+use Rattle.std.proofs.lemmas.Option.{same_Some as some-is}
 
 -- ---- what is said value by value is what all say together
 
@@ -87,10 +89,6 @@ known-list rows values =
     ∙ list_all-map (λ it. is_known (λ _. rows) (Some it)) view values
 
 -- ---- members that are apart
-
-not-either : (a b : Bool) → not (a || b) ≡ true → not a ≡ true
-not-either true b h = h
-not-either false b h = refl
 
 apart-kept : (xs ys : List Member) → are_apart (xs ++ ys) ≡ true → are_apart xs ≡ true
 apart-kept [] ys h = refl
@@ -171,10 +169,6 @@ full ms m many =
     let over : nat_le (length ms + 1) 1024 ≡ false = grind (arith, nat_tests) in
     rw (length-append ms (m ∷ []), over) refl
 
-and-false : (a b : Bool) → b ≡ false → (a && b) ≡ false
-and-false true b fails = fails
-and-false false b fails = refl
-
 twice : (ms : List Member) (m : Member) (i : ℕ) → position (is_taken_by m.vmac m.device) ms ≡ Some i → are_members (ms ++ m ∷ []) ≡ false
 twice ms m i at =
     let any : list_any (is_taken_by m.vmac m.device) ms ≡ true = any-position (is_taken_by m.vmac m.device) ms ∙ ap is_some at in
@@ -224,13 +218,6 @@ pub record TakenTo {T : Type 0} (says : Data → Option T) (test : List T → Bo
   pub goes_on : after_all says test now left ≡ after_all says test start all
   pub fits : test now ≡ true
 
-pub taken-none : {T : Type 0} (says : Data → Option T) (test : List T → Bool) (start : List T) (values : List Value) → test start ≡ true
-    → TakenTo says test start start (map view values) (map view (drop 0 values))
-taken-none says test start values fits = record { goes_on = refl; fits = fits }
-
-some-is : {T : Type 0} (x y : T) → Some x ≡ Some y → x ≡ y
-some-is x y same = ap (λ o. unwrap_or o x) same
-
 passing-fits : {T : Type 0} (test : List T → Bool) (o : Option (List T)) (new : List T) → passing test o ≡ Some new → test new ≡ true
 passing-fits test None new is = absurd (none-some new is)
 passing-fits test (Some xs) new is =
@@ -253,17 +240,6 @@ taken-more says test start now new values i v within at is to = record {
   fits = passing-fits test (behind now (says (view v))) new is;
 }
 
-pub taken-stopped : {T : Type 0} (says : Data → Option T) (test : List T → Bool) (start now : List T) (values : List Value) (i : ℕ) (v : Value)
-    → i < length values → v ≡ get_or values i v → after says test now (view v) ≡ None
-    → TakenTo says test start now (map view values) (map view (drop i values)) → after_all says test start (map view values) ≡ None
-taken-stopped says test start now values i v within at is to =
-    sym to.goes_on ∙ next-value says test now values i v within at ∙ ap (option_and_then (λ ys. after_all says test ys (map view (drop (i + 1) values)))) is
-
-pub taken-all : {T : Type 0} (says : Data → Option T) (test : List T → Bool) (start now : List T) (values : List Value) (i : ℕ)
-    → length values ≤ i → TakenTo says test start now (map view values) (map view (drop i values)) → after_all says test start (map view values) ≡ Some now
-taken-all says test start now values i past to =
-    sym to.goes_on ∙ ap (λ (l : List Value). after_all says test now (map view l)) (drop_all i values past)
-
 -- ---- what a list says is what its values come to
 
 pub read-list : {T : Type 0} (says : Data → Option T) (test : List T → Bool) → Keeps test → test [] ≡ true → (start : List T) → start ≡ [] → (values : List Value)
@@ -278,14 +254,6 @@ pub no-list : {T : Type 0} (says : Data → Option T) (test : List T → Bool) (
 no-list says test at value is none = ap (list_said says test) is ∙ ap (λ items. passing test (option_and_then (λ it. all_said says (listed it)) items)) none
 
 -- ---- which key is named
-
-pub refuses-member : (why : Unread) (table : Members) → IsUnread why PolicyMember (members_in table) → Refuses why (policy_fault (Some table))
-refuses-member (Refused refusal) table (key, none) = rw none (ap Some (sym key))
-refuses-member NoMemory table h = tt
-
-pub refuses-rule : (why : Unread) (table : Members) (ms : List Member) → members_in table ≡ Some ms → IsUnread why PolicyRule (rules_in table) → Refuses why (policy_fault (Some table))
-refuses-rule (Refused refusal) table ms read (key, none) = rw (read, none) (ap Some (sym key))
-refuses-rule NoMemory table ms read h = tt
 
 pub unread-for : {T : Type 0} (why : Unread) (key : KeyName) (said : Option T) → IsFor key why → said ≡ None → IsUnread why key said
 unread-for (Refused refusal) key said is none = (is, none)

@@ -19,7 +19,7 @@ use Rattle.bsc_network.specs.Settings.{Added, hub, node, and_hub, and_node, hubs
 use Rattle.bsc_network.specs.Worlds.{World}
 use Rattle.bsc_network.specs.Refusals.{refusal}
 use Rattle.bsc_network.specs.Networks.{dialled_at, delivered_at, world}
-use Rattle.bsc_network.specs.Courses.{HasContent, IsCourse, MayAdd, MayMake, MayMakeAll, end_time}
+use Rattle.bsc_network.specs.Courses.{HasContent, IsCourse, MayAdd, end_time}
 use Rattle.bsc_network_laws.specs.Deliveries.{HasAddress, IsWhole}
 use Rattle.bsc_network_laws.proofs.Delivered.{networks_deliver_what_was_sent}
 use Rattle.bsc_world.proofs.Additions.{may_add_one}
@@ -31,6 +31,8 @@ use Rattle.bsc_simulate.specs.Scripts.{State, at_clock, has_content, hub_limits,
 use Rattle.bsc_simulate.specs.Laws.{DeliversItsSends, state_after, state_of}
 use Rattle.bsc_simulate.proofs.Measured.{IsMeasured, IsSaid, line_said}
 use Rattle.bsc_simulate.proofs.Stepping.{piece_said, state_after-more, state_after-none, where_some}
+use Rattle.bsc_lemmas.proofs.Booleans.{not_true as not_so}
+use Rattle.bsc_network.proofs.Common.{all_more, end_more}
 
 -- The hubs, nodes and steps are a course, what is sent goes to addresses, and the clock isn't behind the steps.
 pub record IsLawful (s : State) : Type 0 where
@@ -95,21 +97,9 @@ lawful_set s ms h e =
 
 -- ---- steps
 
-end_more : (before : ℕ) (steps : List TimedStep) (t : TimedStep) → end_time before (steps ++ t ∷ []) ≡ t.now
-end_more before [] t = refl
-end_more before (x ∷ steps) t = end_more x.now steps t
-
-all_more : (before : ℕ) (steps : List TimedStep) (t : TimedStep) → MayMakeAll before steps → MayMake (end_time before steps) t → MayMakeAll before (steps ++ t ∷ [])
-all_more before [] t all may = (may, tt)
-all_more before (x ∷ steps) t all may = (all.0, all_more x.now steps t all.1 may)
-
 addresses_more : (steps : List TimedStep) (t : TimedStep) → AllByRecursion HasAddress steps → IsWhole t.step → AllByRecursion HasAddress (steps ++ t ∷ [])
 addresses_more [] t all h = (h, tt)
 addresses_more (x ∷ steps) t all h = (all.0, addresses_more steps t all.1 h)
-
-not_so : (b : Bool) → not b ≡ true → b ≡ false
-not_so true e = cc
-not_so false e = refl
 
 content : (step : WorldStep) → has_content step ≡ true → HasContent step
 content (OfNode k (Send dest npdu)) e =

@@ -1,8 +1,8 @@
 -- The end of a storm.
 use Rattle.std.proofs.Common.{◌≡◌, ◌≢◌, ◌≤◌, ◌<◌, ◌+◌, inl, inr, ℕ, Bool, true, false, ◌||◌, cond, List, [], ◌∷◌, ◌++◌, length, take, Option, Some, None, Result, Ok, Err, refl, ap, sym, ◌∙◌, subst, arith, append-nil, append_assoc}
-use Rattle.std.specs.Prelude.{IsTrue, nat_lt}
+use Rattle.std.specs.Prelude.{nat_lt}
 use Rattle.std.specs.List.{sum_by}
-use Rattle.std.proofs.lemmas.Bool.{ltb-false, ltb-true, or_right}
+use Rattle.std.proofs.lemmas.Bool.{ltb-false, ltb-true}
 use Rattle.std.proofs.lemmas.List.{length-map}
 use Rattle.std.proofs.lemmas.List.Sums.{sum_by-cons}
 use Rattle.std.proofs.Math.Seq.{take-append_seam}
@@ -18,8 +18,7 @@ use Rattle.bsc_history.specs.Counting.{counts}
 use Rattle.bsc_history.specs.Ends.{joined_where}
 use Rattle.bsc_history.specs.Entries.{own}
 use Rattle.bsc_history.specs.Marks.{entries}
-use Rattle.bsc_history.specs.Replies.{is_stopped}
-use Rattle.bsc_history.proofs.More.{counts-more, entries-more, is_stopped-more}
+use Rattle.bsc_history.proofs.More.{counts-more, entries-more}
 use Rattle.bsc_turn.specs.declared.pass.Pass.{Pass}
 use Rattle.bsc_turn.specs.declared.view.Ended.{Ended}
 use Rattle.bsc_turn.specs.Effects.{ended_of}
@@ -48,6 +47,8 @@ use Rattle.bsc_storm.proofs.Stays.{part_of_stays}
 use Rattle.bsc_storm.proofs.Taken.{all_taken, own_two, taken_by, taken_few}
 use Rattle.bsc_storm.proofs.Taking.{at_end}
 use Rattle.bsc_load.specs.Workers.{calls}
+use Rattle.bsc_lemmas.proofs.Booleans.{false_true as no_cut}
+use Rattle.bsc_load.proofs.Common.{stopped_now}
 
 -- what a work is as a worker, by the history that was seen in the end
 
@@ -75,9 +76,6 @@ shows_later sends n h E S T begins so =
       | inl refused ↦ inl refused
       | inr worn ↦ inr (worn.0, omega (arith, longer S T begins, worn.1))
     ]
-
-no_cut : (P : Type 0) → false ≡ true → P
-no_cut P e = cc
 
 no_caller : (P : Type 0) (e : Ended) → None ≡ Some e → P
 no_caller P e is = cc
@@ -204,17 +202,6 @@ stop_appends_none h m q t s =
     let more : (counts (entries (seen q))).appended ≡ (counts (entries before)).appended + 0 = ap (λ H. (counts H).appended) all ∙ ap (λ (k : Counts). k.appended) (counts-more (entries before) stop.entry) in
     let due : t.said.appended ≡ (counts (entries before)).appended = ap (λ (k : Counts). k.appended) s.due ∙ ap (λ H. (counts H).appended) front in
     omega (arith, more, due)
-
--- a hub that was told to stop is stopped
-stopped_now : (h : Hub) (m q : Pass) (told : Result (Told Counts) AlreadyStopped) → Stops h m q told → IsTrue (is_stopped (entries (seen q)))
-stopped_now h m q (Ok t) s =
-    let before = s.passed.makes.before in
-    let stop : Stamped = stop_stamped (number_of m) t.said in
-    ap (λ (S : List Stamped). is_stopped (entries S)) s.passed.makes.ends
-    ∙ ap is_stopped (entries-more before stop)
-    ∙ is_stopped-more (entries before) stop.entry
-    ∙ or_right (is_stopped (entries before)) true refl
-stopped_now h m q (Err already) s = s.refused.0 refl
 
 lists_as : (h : Hub) (p q : Pass) (made : Option Placed) (A B C D E F : List Ended) → D ≡ A → E ≡ B → F ≡ C → Went h p 3 (A ++ (B ++ C)) made q → Went h p 3 (D ++ (E ++ F)) made q
 lists_as h p q made A B C D E F one two three x =

@@ -63,10 +63,6 @@ forwarded_as h s k p q r m said same told is x worn =
     (subst (λ (m : List ℕ). IsErr r ↔ ((about_of h).limits.calls ≤ length (found_history (one_made (number_of p) s m r) q))) same worn)
     )
 
--- no memory for a forward
-pub unforwarded : (h : Hub) (s k : ℕ) (p : Pass) → IsCaller h p → Forwards h s k p p (Err NoMemory)
-unforwarded h s k p is = (goes_same h p is, holds_same p, tt)
-
 -- no forward yet
 pub sent_none : (h : Hub) (s : ℕ) (p : Pass) → IsCaller h p → Sent h s 0 p p
 unfolding joined_where

@@ -29,8 +29,6 @@ use Rattle.bsc_hub.specs.Passing.{IsCaller, Passed}
 use Rattle.bsc_load.specs.Inner.{Unjoined, cut_of as load_cut_of, ShowsBy as LoadShowsBy}
 use Rattle.bsc_load.specs.Workers.{calls, within_64_bits}
 use Rattle.bsc_load.proofs.Both.{goes_between, join_entry, joined_between, leave_entry}
-use Rattle.bsc_load.proofs.Calls.{joined-append}
-use Rattle.bsc_load.proofs.Given.{all_append}
 use Rattle.bsc_load.proofs.Going.{goes_same, goes_then}
 use Rattle.bsc_load.proofs.Unjoined.{asked_or_not}
 use Rattle.bsc_storm.specs.declared.works.Cut.{Cut}
@@ -40,6 +38,8 @@ use Rattle.bsc_storm.specs.Inner.{Did, HasRun, IsNew, MayRun, NoStay, Runs, Show
 use Rattle.bsc_storm.specs.Peers.{taken_over}
 use Rattle.bsc_storm.specs.Workers.{AreStays, HasTaken, IsPart, Stay, stay_calls}
 use Rattle.bsc_storm.proofs.Taking.{has_taken, takes_unjoined}
+use Rattle.bsc_history.proofs.Common.{joined-append}
+use Rattle.bsc_lemmas.proofs.Lists.{all_append}
 
 -- the sign of a refused connect
 pub shows_own : (h : Hub) (S : List Stamped) (E : List Entry) (refusal : ConnectRefusal) → LoadShowsBy 1 h S E (load_cut_of refusal) → ShowsBy 1 h S E (cut_of refusal)

@@ -42,10 +42,6 @@ took_closed o p e k took many none few =
     let finds : FoundEnd p e = (length (found o), ap (λ (l : List Found). get_elem? l (length (found o))) took.0.3.0 ∙ there) in
     inr (inr (omega (arith, same, many, few), took.2 ∙ none, (e, took.1, finds)))
 
--- as many frames as a stay takes
-pub took_all : (o : Outlet) → length (given o) ≡ 64 → empties_of o ≡ 0 → TookSome o
-took_all o many none = inl (many, none)
-
 -- what the leave says and is told
 pub has_taken : (o : Outlet) (conn : ℕ) (g : Gone) → TookSome o → g.taken ≡ length (given o) → ((e : End) → FoundEnd o e → g.ending ≡ e) → HasTaken (Leave conn g.taken (empties_of o)) (gone_reply g)
 has_taken o conn g took many ends =

@@ -1,7 +1,6 @@
 -- What a feed gives, from what it has read.
-use Rattle.std.proofs.Common.{◌≡◌, ◌≢◌, ℕ, ◌+◌, ◌≤◌, ◌<◌, ◌⊎◌, true, nat_lt, ◌||◌, List, [], ◌∷◌, ◌++◌, length, take, drop, Option, Some, None, refl, sym, ap, ◌∙◌, length-append, append_assoc, inl, inr, ⊎_elim, arith}
+use Rattle.std.proofs.Common.{◌≡◌, ◌≢◌, ℕ, ◌+◌, ◌≤◌, ◌<◌, ◌⊎◌, true, List, [], ◌∷◌, ◌++◌, length, take, drop, Option, Some, None, refl, sym, ap, ◌∙◌, length-append, append_assoc, inl, inr, ⊎_elim, arith}
 use Rattle.std.proofs.lemmas.List.{append-nil, take-append-drop}
-use Rattle.std.proofs.lemmas.Bool.Decides.{nat_tests}
 use Rattle.std.specs.Option.{option_map}
 use Rattle.std.specs.Io.KnownBytes.{IsAtEnd}
 use Rattle.bsc_text.specs.declared.feed.Feed.{Feed}
@@ -11,10 +10,7 @@ use Rattle.bsc_text.specs.Lines.{pieces_of, line_in, is_too_big, has_no_lf, Begi
 use Rattle.bsc_text.specs.Feeding.{unread, Gives, GivesLine, IsUsedUp, WantsMore, Feeds, HasTooBig}
 use Rattle.bsc_text.proofs.Cutting.{has_no_lf-append, pieces_of-begin, pieces_of-lf, pieces_of-last, line_in-length}
 use Rattle.bsc_text.proofs.Spending.{none-left}
-
--- two tests, of which one holds
-either : (a b m n : ℕ) → (a < m) ⊎ (b < n) → (nat_lt a m || nat_lt b n) ≡ true
-either a b m n h = grind (arith, nat_tests)
+use Rattle.bsc_lemmas.proofs.Booleans.{either}
 
 -- octets of which none is an LF may be too many for any piece
 pub too_big : (o q rest : List ℕ) (old : Feed) → has_no_lf q ≡ true → o ≡ q ++ rest → 0 < length q →

@@ -1,6 +1,6 @@
 -- A seat that is cut in two keeps the rule.
-use Rattle.std.proofs.Common.{◌≡◌, ◌≢◌, ℕ, zero, suc, ◌≤◌, ◌<◌, Bool, true, false, List, [], ◌∷◌, ◌++◌, length, set, Option, ◌⊎◌, inl, inr, ⊎_elim, refl, sym, ◌∙◌, ap, subst, arith}
-use mathlib.Core.Option.{some, some-injective, some-ne-none}
+use Rattle.std.proofs.Common.{◌≡◌, ◌≢◌, ℕ, suc, ◌≤◌, ◌<◌, Bool, true, false, List, [], ◌∷◌, ◌++◌, length, set, Option, ◌⊎◌, inl, inr, ⊎_elim, refl, sym, ◌∙◌, ap, subst, arith}
+use mathlib.Core.Option.{some, some-ne-none}
 use lib.ListN.{get_elem?}
 use Rattle.atomic_table.specs.Table.{State, Splits}
 use Rattle.atomic_table.proofs.Lists.{set_here, at_longer}
@@ -14,13 +14,8 @@ use Rattle.bsc_turn.specs.Histories.{own_of}
 use Rattle.bsc_turn.specs.Rule.{holds_turn, has_state, knows_next, turn_word, number_word, At, DistinctNumbers, NoSeatOfEnded, Held, Fits, Stored, Kept}
 use Rattle.bsc_turn.specs.Effects.{in_phase, next_pass}
 use Rattle.bsc_turn.proofs.Beginnings.{own_none}
-use Rattle.bsc_turn.proofs.Views.{not_also, at_below, next_holds, at_changed, apart_after, gone_after, none_else}
-
-pub at_end : {A : Type 0} (l : List A) (a b : A) (j : ℕ) → get_elem? (l ++ a ∷ []) j ≡ some b → (get_elem? l j ≡ some b) ⊎ ((j ≡ length l) × (a ≡ b))
-at_end [] a b zero e = inr (refl, some-injective a b e)
-at_end [] a b (suc j) e = absurd (some-ne-none b (sym e))
-at_end (x ∷ xs) a b zero e = inl e
-at_end (x ∷ xs) a b (suc j) e = ⊎_elim (λ h. inl h) (λ h. inr (ap suc h.0, h.1)) (at_end xs a b j e)
+use Rattle.bsc_turn.proofs.Views.{not_also, next_holds, at_changed, apart_after, gone_after, none_else}
+use Rattle.bsc_lemmas.proofs.Lists.{get_elem_below as at_below, get_of_pushed as at_end}
 
 -- as many passes were made, and one more
 fits_later : (a : About) (limit made : ℕ) (log : List Stamped) (v : View) → Fits a limit made log v → knows_next v.phase ≡ false → Fits a limit (suc made) log v

@@ -13,8 +13,10 @@ use Rattle.bsc_turn.specs.declared.view.View.{View}
 use Rattle.bsc_turn.specs.Rule.{holds_turn, has_state, knows_next, turn_word, number_word, At, Fits, Home, Stored, Kept, first_view}
 use Rattle.bsc_turn.specs.Effects.{in_phase, having_seen, having_made, Acquires, Counts, Commits, Releases}
 use Rattle.bsc_turn.proofs.Beginnings.{starts_self, starts_more, starts_trans, own_mine, own_else}
-use Rattle.bsc_turn.proofs.Views.{not_also, single, free_or_held, state_holds, none_else}
-use Rattle.bsc_turn.proofs.Remaking.{Slots, consistent, idle, fits_in, KeepsRule, phase_is, remade, remade_view, freed, same_again}
+use Rattle.bsc_turn.proofs.Views.{not_also, free_or_held, state_holds, none_else}
+use Rattle.bsc_turn.proofs.Remaking.{Slots, consistent, fits_in, KeepsRule, phase_is, remade, remade_view, freed, same_again}
+use Rattle.bsc_lemmas.proofs.Booleans.{false_true as idle}
+use Rattle.bsc_lemmas.proofs.Lists.{get_of_one as single}
 
 module _ {S : Type 0} (stands : S → List Stamped → Type 0) (about : S → About) where
   pub starts : (a : About) (limit : ℕ) (st : S) → 1 ≤ limit → stands st [] → about st ≡ a → Kept stands about a limit (opening (0 ∷ 0 ∷ 1 ∷ []) (Some st ∷ []) (first_view a limit))

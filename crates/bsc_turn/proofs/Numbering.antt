@@ -1,6 +1,6 @@
 -- Each step on the number word, the freeing of the turn with nothing in hand, and the load that confirms a view keep the rule.
 use Rattle.std.proofs.Common.{◌≡◌, ℕ, suc, ◌+◌, ◌%◌, ◌^◌, ◌<◌, ◌≤◌, Bool, true, false, List, [], ◌∷◌, length, Option, inl, refl, sym, ◌∙◌, ap, subst, arith, slice_index, slice_set}
-use mathlib.Core.Option.{some, none, some-ne-none}
+use mathlib.Core.Option.{some, none}
 use mathlib.Core.Option as maybe
 use lib.ListN.{get_elem?}
 use Rattle.atomic_table.specs.Table.{State, Me, step, keeps, Allows}
@@ -9,11 +9,12 @@ use Rattle.bsc_history.specs.declared.mark.Stamped.{Stamped}
 use Rattle.bsc_turn.specs.declared.phase.SeatPhase.{SeatPhase}
 use Rattle.bsc_turn.specs.declared.phase.SeatPhase.TheVariants.{Outside, Holding, Entered, Committed, Numbered, Drawn}
 use Rattle.bsc_turn.specs.declared.view.View.{View}
-use Rattle.bsc_turn.specs.Rule.{holds_turn, has_state, knows_next, turn_word, number_word, At, Fits, Stored, Kept}
+use Rattle.bsc_turn.specs.Rule.{holds_turn, has_state, knows_next, turn_word, number_word, Fits, Stored, Kept}
 use Rattle.bsc_turn.specs.Effects.{in_phase, having_loaded, may_leave, Releases, LoadsNumber, Draws, Confirms}
 use Rattle.bsc_turn.proofs.Beginnings.{own_none}
 use Rattle.bsc_turn.proofs.Views.{not_also}
-use Rattle.bsc_turn.proofs.Remaking.{consistent, idle, fits_in, KeepsRule, phase_is, remade_view, freed, same_again}
+use Rattle.bsc_turn.proofs.Remaking.{consistent, fits_in, KeepsRule, phase_is, remade_view, freed, same_again}
+use Rattle.bsc_lemmas.proofs.Booleans.{false_true as idle}
 
 module _ {S : Type 0} (stands : S → List Stamped → Type 0) (about : S → About) where
   module _ (a : About) (limit id slots : ℕ) (me : Me (Option S) View) (live : me.0.live ≡ true) (s : State (Option S) View) (k : Kept stands about a limit s) (here : get_elem? s.views id ≡ some me.0) where

@@ -1,6 +1,6 @@
 -- A state of the table made anew after a step of one seat.
 use Rattle.std.proofs.Common.{◌≡◌, ◌≢◌, ℕ, ◌<◌, ◌≤◌, true, false, List, [], ◌∷◌, length, set, Option, ◌⊎◌, inl, ⊎_elim, refl, sym, ◌∙◌, ap, subst, slice_set}
-use mathlib.Core.Option.{some, none, some-ne-none}
+use mathlib.Core.Option.{some}
 use mathlib.Core.Option as maybe
 use lib.ListN.{get_elem?}
 use Rattle.atomic_table.specs.Table.{State, Me, Act, Valid, homes_after, carried_after}
@@ -13,14 +13,11 @@ use Rattle.bsc_turn.specs.declared.view.View.{View}
 use Rattle.bsc_turn.specs.Histories.{own_of}
 use Rattle.bsc_turn.specs.Rule.{holds_turn, has_state, knows_next, turn_word, number_word, At, Fits, Home, Stored, Kept}
 use Rattle.bsc_turn.specs.Effects.{IsConsistent, in_phase}
-use Rattle.bsc_turn.proofs.Views.{not_also, at_changed, apart_after, gone_after, held_after}
+use Rattle.bsc_turn.proofs.Views.{at_changed, apart_after, gone_after, held_after}
+use Rattle.bsc_lemmas.proofs.Booleans.{false_true as idle}
 
 pub consistent : (a : About) (limit made : ℕ) (log : List Stamped) (v : View) → Fits a limit made log v → IsConsistent v
 consistent a limit made log v f = (f.own, λ i e at. let k = f.kept i e at in (k.other, k.own, k.saw))
-
--- the rule asks nothing of a seat in this phase
-pub idle : (P : Type 0) → false ≡ true → P
-idle P e = absurd (not_also e)
 
 -- a view that fits does so in another phase, where what the rule asks there of what it has seen and of the number
 -- that it keeps is so

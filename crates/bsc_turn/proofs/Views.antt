@@ -1,6 +1,6 @@
 -- What the views say after one of them changed.
-use Rattle.std.proofs.Common.{◌≡◌, ◌≢◌, ℕ, zero, suc, ◌<◌, true, false, List, [], ◌∷◌, length, set, ◌⊎◌, inl, inr, ⊎_elim, refl, sym, ◌∙◌, ap, subst, arith}
-use mathlib.Core.Option.{some, some-injective, some-ne-none}
+use Rattle.std.proofs.Common.{◌≡◌, ◌≢◌, ℕ, true, false, List, set, ◌⊎◌, inl, inr, ⊎_elim, refl, sym, ◌∙◌, ap, subst}
+use mathlib.Core.Option.{some}
 use lib.ListN.{get_elem?}
 use Rattle.atomic_table.proofs.Lists.{at_set, set_here}
 use Rattle.bsc_turn.specs.declared.phase.SeatPhase.{SeatPhase}
@@ -8,21 +8,13 @@ use Rattle.bsc_turn.specs.declared.phase.SeatPhase.TheVariants.{Outside, Holding
 use Rattle.bsc_turn.specs.declared.view.Ended.{Ended}
 use Rattle.bsc_turn.specs.declared.view.View.{View}
 use Rattle.bsc_turn.specs.Rule.{holds_turn, has_state, knows_next, turn_word, At, DistinctNumbers, NoSeatOfEnded, Held}
+use Rattle.bsc_lemmas.proofs.Lists.{get_elem_below as at_below}
 
 pub not_both : true ≢ false
 not_both e = cc
 
 pub not_also : false ≢ true
 not_also e = cc
-
-pub single : {A : Type 0} (x : A) (i : ℕ) (y : A) → get_elem? (x ∷ []) i ≡ some y → (i ≡ 0) × (x ≡ y)
-single x zero y e = (refl, some-injective x y e)
-single x (suc i) y e = absurd (some-ne-none y (sym e))
-
-pub at_below : {A : Type 0} (l : List A) (i : ℕ) (a : A) → get_elem? l i ≡ some a → i < length l
-at_below [] i a e = absurd (some-ne-none a (sym e))
-at_below (x ∷ xs) zero a e = omega arith
-at_below (x ∷ xs) (suc i) a e = let h = at_below xs i a e in omega arith
 
 pub free_or_held : (phase : SeatPhase) → (phase ≡ Outside) ⊎ (turn_word phase ≡ 1)
 free_or_held Outside = inl refl

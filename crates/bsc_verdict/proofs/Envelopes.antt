@@ -3,7 +3,6 @@ use Rattle.std.proofs.Common.{◌≡◌, ℕ, ◌+◌, ◌<◌, ◌≤◌, ◌^�
 use Rattle.std.proofs.lemmas.Bool.{le-ltb}
 use Rattle.std.proofs.lemmas.List.{length-take-le}
 use Rattle.byteorder.specs.Endian.{big_number}
-use Rattle.byteorder.specs.Numbers.{big_from-take}
 use Rattle.bsc_octets.specs.declared.envelope.Envelope.{Envelope}
 use Rattle.bsc_octets.specs.Envelopes.{flags_in, announces_origin, announces_dest, vmac_at, header_of, envelope_of, SpellsEnvelope, HasWholeAddresses}
 use Rattle.bsc_octets.specs.Forwarding.{id_in}
@@ -14,6 +13,7 @@ use Rattle.bsc_checks.proofs.HeadParts.{is_head}
 use Rattle.bsc_verdict.specs.Options.{AreOctets}
 use Rattle.bsc_verdict.specs.Outcomes.{envelope_in}
 use Rattle.bsc_verdict.proofs.Walks.{behind_octets}
+use Rattle.bsc_octets.proofs.Common.{same_id as same_number}
 
 -- ---- a number of two octets
 
@@ -21,9 +21,6 @@ pub number_small : (o : List ℕ) → AreOctets o → big_number 2 o < 65536
 number_small [] octets = omega arith
 number_small (x ∷ []) octets = let first : x < 256 = octets 0 in omega arith
 number_small (x ∷ y ∷ o) octets = let first : x < 256 = octets 0 in let second : y < 256 = octets 1 in omega arith
-
-pub same_number : (m : List ℕ) → big_number 2 (drop 2 m) ≡ big_number 2 (id_in m)
-same_number m = sym (big_from-take 0 2 2 (drop 2 m) (omega arith))
 
 pub id_small : (m : List ℕ) → AreOctets m → big_number 2 (id_in m) < 2 ^ 16
 id_small m octets = subst (λ (n : ℕ). n < 65536) (same_number m) (number_small (drop 2 m) (behind_octets 2 m octets))

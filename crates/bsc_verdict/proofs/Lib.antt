@@ -12,3 +12,4 @@ pub mod Outcomes
 pub mod Existence
 pub mod OnLiterals
 mod WorkedOutcomes
+pub mod Common

@@ -7,7 +7,6 @@ use Rattle.bsc_octets.specs.Forwarding.{function_in}
 use Rattle.bsc_options.specs.declared.item.OptionItem.{OptionItem}
 use Rattle.bsc_options.specs.Spelling.{spelling_of}
 use Rattle.bsc_options.specs.Reading.{IsCut}
-use Rattle.bsc_options.proofs.Exact.{cut_or_whole}
 use Rattle.bsc_frame.specs.Layout.{announces_dest_options, announces_data_options, options_at, IsList, IsPayload}
 use Rattle.bsc_frame.specs.Checks.{OfDestOptions, OfDataOptions, OfPayload, LacksOptionOctets}
 use Rattle.bsc_frame.proofs.OptionLists.{AreLists, list_one}
@@ -16,6 +15,7 @@ use Rattle.bsc_verdict.specs.Options.{AreOctets, Found, items_in, list_in, list_
 use Rattle.bsc_verdict.specs.Failing.{of_payload}
 use Rattle.bsc_verdict.proofs.Reflecting.{Reflects}
 use Rattle.bsc_verdict.proofs.Walks.{behind_octets, ItemsSay, items_say}
+use Rattle.bsc_frame.proofs.Common.{not_cut}
 
 -- ---- one list
 
@@ -35,11 +35,6 @@ list_says false m at octets = (at, (refl, refl), refl)
 list_says true m at octets =
     let o = drop at m in
     whole_says m at (items_in (length o) o) (items_say (length o) o (behind_octets at m octets) (omega arith))
-
--- a list is not whole and cut
-pub not_cut : (b : Bool) (m : List ℕ) (at : ℕ) (items : List OptionItem) (end : ℕ) → IsList b m at items end → b ≡ true → IsCut m at → ⊥
-not_cut true m at items end list set cut = cut_or_whole m at items end list.0 list.1 cut
-not_cut false m at items end list set cut = absurd cc
 
 -- ---- the two
 

@@ -1,13 +1,12 @@
 -- The message that octets spell is the one that is read of them, and one is spelled where no check fails.
-use Rattle.std.proofs.Common.{◌≡◌, ℕ, zero, suc, ◌+◌, ◌≤◌, inl, inr, Bool, true, false, eqb, ◌||◌, List, length, drop, Option, Some, None, refl, sym, ap, subst, ◌∙◌, arith, length-append, length-drop}
+use Rattle.std.proofs.Common.{◌≡◌, ℕ, zero, suc, ◌≤◌, inl, inr, Bool, true, false, eqb, ◌||◌, List, length, drop, Option, Some, None, refl, sym, ap, subst, ◌∙◌, arith, length-append, length-drop}
 use Rattle.std.specs.Prelude.{IsTrue}
-use Rattle.std.specs.List.{AllByRecursion}
 use Rattle.std.proofs.lemmas.Bool.{eqb-true, eqb-false}
 use Rattle.bsc_octets.specs.Envelopes.{flags_in}
 use Rattle.bsc_octets.specs.Forwarding.{function_in}
 use Rattle.bsc_octets.proofs.Spelling.{only}
 use Rattle.bsc_options.specs.declared.item.OptionItem.{OptionItem}
-use Rattle.bsc_options.specs.Spelling.{Fits, spelling_of}
+use Rattle.bsc_options.specs.Spelling.{spelling_of}
 use Rattle.bsc_frame.specs.declared.message.Message.{Message}
 use Rattle.bsc_frame.specs.Layout.{announces_dest_options, announces_data_options, options_at, IsList, IsPayload}
 use Rattle.bsc_frame.specs.Checks.{Fails, order, IsShort, LacksAddressOctets, HasBadOption, HasMisplacedDataOptions}
@@ -24,18 +23,15 @@ use Rattle.bsc_verdict.specs.Failing.{has_bad}
 use Rattle.bsc_verdict.specs.Outcomes.{envelope_in, message_in}
 use Rattle.bsc_verdict.proofs.Reflecting.{clear_of}
 use Rattle.bsc_verdict.proofs.Walks.{behind_octets}
-use Rattle.bsc_verdict.proofs.Lists.{BothSay, both_say, not_cut, data_of}
+use Rattle.bsc_verdict.proofs.Lists.{BothSay, both_say, data_of}
 use Rattle.bsc_verdict.proofs.Options.{bad, good_all}
 use Rattle.bsc_verdict.proofs.Payloads.{body_again}
 use Rattle.bsc_verdict.proofs.Envelopes.{id_small, envelope_spelled, envelope_whole}
 use Rattle.bsc_verdict.proofs.Bodies.{Passes, body_is, not_less}
+use Rattle.bsc_frame.proofs.Common.{list_fits, list_place, not_cut, same_message}
+use Rattle.std.proofs.lemmas.Bool.{or_parts as neither}
 
 -- ---- a message that is spelled is read
-
-same_message : (a b : Message) → a.id ≡ b.id → a.origin ≡ b.origin → a.dest ≡ b.dest → a.dest_options ≡ b.dest_options → a.data_options ≡ b.data_options → a.body ≡ b.body → a ≡ b
-same_message a b id origin dest first second body =
-    let whole : record { id = a.id; origin = a.origin; dest = a.dest; dest_options = a.dest_options; data_options = a.data_options; body = a.body } ≡ b = rw (id, origin, dest, first, second, body) refl in
-    whole
 
 -- the lists that were read are those that stand there, and the payload is what follows
 record Read (m : List ℕ) (xs : List OptionItem) (ys : List OptionItem) (end : ℕ) (d : Option Found) (e : Option Found) : Type 0 where
@@ -89,23 +85,11 @@ takes_by m (suc (suc f)) is known out set = by (eqb (suc (suc f)) 12) refl
     by true e = inr (eqb-true (suc (suc f)) 12 e)
     by false e = absurd (out (set, inr (omega arith, (let other = eqb-false (suc (suc f)) 12 e in omega arith))))
 
-list_place : (b : Bool) (m : List ℕ) (at : ℕ) (items : List OptionItem) (end : ℕ) → IsList b m at items end → end ≡ at + length (spelling_of items)
-list_place true m at items end list = list.1.place
-list_place false m at items end list = rw (list.0, list.1) (omega arith)
-
 list_within : (b : Bool) (m : List ℕ) (at : ℕ) (items : List OptionItem) (end : ℕ) → IsList b m at items end → at ≤ length m → end ≤ length m
 list_within b m at items end list le =
     let place = list_place b m at items end list in
     let spelled = list_spelled b m at items end list in
     omega (arith, ap length spelled, length-append (spelling_of items) (drop end m), length-drop at m, length-drop end m)
-
-list_fits : (b : Bool) (m : List ℕ) (at : ℕ) (items : List OptionItem) (end : ℕ) → IsList b m at items end → AllByRecursion Fits items
-list_fits true m at items end list = list.0.fit
-list_fits false m at items end list = rw list.0 tt
-
-neither : (a b : Bool) → (a || b) ≡ false → (a ≡ false) × (b ≡ false)
-neither true b e = absurd cc
-neither false b e = (refl, e)
 
 spelled_by : (m : List ℕ) (d e : Option Found) → AreOctets m → BothSay m d e → Pass (Fails m) order → Spells (message_of (envelope_in m) (items_of d) (items_of e) (body_in (function_in m) (rest_of e))) m
 spelled_by m None None octets says pass = absurd (pass.1.1.1.1.0 (inl says))

@@ -16,7 +16,8 @@ use Rattle.bsc_checks.proofs.Behind.{refused_at, refused_is}
 use Rattle.bsc_verdict.specs.Options.{Found, items_of}
 use Rattle.bsc_verdict.specs.Failing.{is_bad, has_bad}
 use Rattle.bsc_verdict.proofs.Reflecting.{Reflects, either, alike}
-use Rattle.bsc_verdict.proofs.Lists.{DestSays, BothSay, not_cut, data_at, data_of, no_data}
+use Rattle.bsc_verdict.proofs.Lists.{DestSays, BothSay, data_at, data_of, no_data}
+use Rattle.bsc_frame.proofs.Common.{not_cut}
 
 -- ---- an item without a shape
 

@@ -2,13 +2,11 @@
 use Rattle.std.proofs.Common.{◌≡◌, ℕ, true, false, Bool, List, [], ◌∷◌, slice_get, Option, Some, None, refl, ap, sym, ◌∙◌, subst}
 use Rattle.std.specs.Prelude.{is_some, if◌then◌else◌}
 use Rattle.std.specs.Option.{option_map}
-use Rattle.bsc_direct.proofs.OneMore.{some_same}
 use Rattle.bsc_node.specs.declared.link_name.LinkName.{LinkName}
 use Rattle.bsc_node.specs.declared.node_event.NodeEvent.{NodeEvent}
 use Rattle.bsc_node.specs.declared.node_event.NodeEvent.TheVariants.{Lost}
 use Rattle.bsc_world.specs.declared.doing.Doing.{Doing}
 use Rattle.bsc_network.specs.declared.target.Target.{Target}
-use Rattle.bsc_network.specs.declared.target.Target.TheVariants.{Hub as ToHub, Node as ToNode}
 use Rattle.bsc_network.specs.declared.way.Way.{Way}
 use Rattle.bsc_network.specs.declared.way.Way.TheVariants.{Up, Down}
 use Rattle.bsc_network.specs.declared.parcel.Parcel.{Parcel}
@@ -16,8 +14,8 @@ use Rattle.bsc_network.specs.declared.step_refusal.StepRefusal.TheVariants.{NoLi
 use Rattle.bsc_world.specs.declared.world.World.{World as KeptWorld}
 use Rattle.bsc_network.specs.declared.world_step.WorldStep.TheVariants.{Arrive}
 use Rattle.bsc_network.specs.Traffic.{front, without_front}
-use Rattle.bsc_network.specs.Worlds.{World, Hub, Node, Link, hub_at, link_at, node_at, traffic}
-use Rattle.bsc_network.specs.Changes.{Change, by_target, in_order, unchanged, with_found, with_link, with_traffic}
+use Rattle.bsc_network.specs.Worlds.{World, Node, Link, link_at, node_at, traffic}
+use Rattle.bsc_network.specs.Changes.{Change, by_target, in_order, with_found, with_link, with_traffic}
 use Rattle.bsc_network.specs.NodeSides.{name_of}
 use Rattle.bsc_network.specs.NodeEvents.{comes, comes_once, hears_all_failures, most_failures}
 use Rattle.bsc_network.specs.HubSides.{leaves, unless_over}
@@ -31,6 +29,7 @@ use Rattle.bsc_world.proofs.LinkWays.{link_there}
 use Rattle.bsc_world.specs.Becoming.{Became, Becomes, Did, Does, DoesWhere, Goes, Keeps, StandsDoing}
 use Rattle.bsc_world.proofs.Goings.{busy_more, did_both, did_became, did_clock}
 use Rattle.bsc_world.proofs.Doings.{did_same}
+use Rattle.std.proofs.lemmas.Option.{same_Some as some_same}
 
 -- ---- at a node
 
@@ -103,22 +102,6 @@ lose_nothing t k l way d named base w at s told = by (node_at w k) refl
 
 pub becomes_of : (l : ℕ) (f : Change) (t u : KeptWorld) → Goes (Some l) None f t u → Becomes f t u
 becomes_of l f t u p F w at s = p F w at (busy_more t F l w s)
-
--- a change that changes nothing, where the session lasts or not
-pub unless_nothing : (l : ℕ) (w : World) → unless_over l unchanged w ≡ w
-unless_nothing l w = by_link (link_at w l)
-  where
-    by_hub : (link : Link) (o : Option Hub) → with_found o (λ h. if link.side.is_over then unchanged else unchanged) w ≡ w
-    by_hub link None = refl
-    by_hub link (Some h) = elim link.side.is_over as (λ b. (if b then unchanged else unchanged) w ≡ w) [ true ↦ refl | false ↦ refl ]
-
-    by_to : (link : Link) (to : Target) → by_target to (λ j v. with_found (hub_at v j) (λ h. if link.side.is_over then unchanged else unchanged) v) (λ n. unchanged) w ≡ w
-    by_to link (ToHub j) = by_hub link (hub_at w j)
-    by_to link (ToNode k) = refl
-
-    by_link : (o : Option Link) → with_found o (λ link. by_target link.to (λ j v. with_found (hub_at v j) (λ h. if link.side.is_over then unchanged else unchanged) v) (λ n. unchanged)) w ≡ w
-    by_link None = refl
-    by_link (Some link) = by_to link link.to
 
 -- ---- the front of a way
 

@@ -1,5 +1,5 @@
 -- Between two events no node awaits a word, and none has met a time that is still to come; so each event of a step may come.
-use Rattle.std.proofs.Common.{◌≡◌, ◌≤◌, ◌<◌, ℕ, Bool, true, false, not, ◌&&◌, List, [], ◌∷◌, ◌++◌, Option, None, refl, ap, sym, subst, arith, ◌∙◌, append-nil, append_assoc}
+use Rattle.std.proofs.Common.{◌≡◌, ◌≤◌, ◌<◌, ℕ, Bool, true, false, not, List, [], ◌∷◌, ◌++◌, Option, None, refl, ap, sym, subst, arith, ◌∙◌, append-nil, append_assoc}
 use Rattle.std.specs.Prelude.{◌^◌, nat_le, nat_lt, IsTrue, if◌then◌else◌, map, unwrap_or}
 use Rattle.std.specs.List.{list_all, list_any}
 use Rattle.std.specs.Option.{option_map, option_or}
@@ -25,10 +25,12 @@ use Rattle.bsc_node.proofs.Passing.{Passes, pass-in_order, pass-nothing}
 use Rattle.bsc_node.proofs.Quiet.{quiet-ends, quiet-closes_link}
 use Rattle.bsc_node.proofs.Heard.{LetsQuiet, lets-rule, pass-meets_peer, pass-is_refused_by, pass-two-then}
 use Rattle.bsc_node.proofs.Lasting.{LetsMessages, pass-takes_body, pass-sends}
-use Rattle.bsc_node.proofs.Following.{pass-follows, opened-dialled, goes_on-is, and_left, and_right}
+use Rattle.bsc_node.proofs.Following.{pass-follows, opened-dialled, goes_on-is}
 use Rattle.bsc_node_laws.proofs.Drawn.{draws_at, word_settles}
 use Rattle.bsc_network.specs.NodeEvents.{brings_about}
 use Rattle.bsc_world.specs.Kept.{IsCalm}
+use Rattle.bsc_lemmas.proofs.Booleans.{all_four, and_left, and_right, if_no as no_word}
+use Rattle.bsc_node.proofs.Common.{no_word_then}
 
 -- ---- no event follows from one
 
@@ -70,9 +72,6 @@ event_of_none : (m : Line) → no_event m ≡ true → event_of m ≡ None
 event_of_none (came e) h = cc
 event_of_none m h = refl
 
-time_in : Option TimedEvent → ℕ
-time_in o = unwrap_or (option_map (λ (e : TimedEvent). e.now) o) 0
-
 now_stays : (L : Log) (lines : List Line) → list_all no_event lines ≡ true → now (L ++ lines) ≡ now L
 now_stays L [] h = ap now (append-nil L)
 now_stays L (m ∷ lines) h =
@@ -90,32 +89,10 @@ now_then a L e may =
 
 -- ---- between two events
 
-all_four : (p q r s : Bool) → p ≡ true → q ≡ true → r ≡ true → s ≡ true → IsTrue (p && q && r && s)
-all_four true true true true a b c d = refl
-all_four false q r s a b c d = cc
-all_four true false r s a b c d = cc
-all_four true true false s a b c d = cc
-all_four true true true false a b c d = cc
-
-no_word : (b w : Bool) → b ≡ false → w ≡ false → (if b then w else not w) ≡ true
-no_word false false p q = refl
-no_word false true p q = cc
-no_word true w p q = cc
-
-the_word : (b w : Bool) → b ≡ true → w ≡ true → (if b then w else not w) ≡ true
-the_word true true p q = refl
-the_word true false p q = cc
-the_word false w p q = cc
-
 -- An event that fits and brings no word may come then.
 pub may_then : (T : ℕ) (L : Log) (e : NodeEvent) → T < 2 ^ 62 → IsCalm T L → brings_word e ≡ false → fits L e ≡ true → IsTrue (may_come L (record { now = T; event = e }))
 may_then T L e below calm brings fit =
     all_four (nat_le (now L) T) (nat_lt T (2 ^ 62)) (if brings_word e then awaits_word L else not (awaits_word L)) (fits L e) (le-leb (now L) T calm.time) (lt-ltb T (2 ^ 62) below) (no_word (brings_word e) (awaits_word L) brings calm.word) fit
-
--- where a word was drawn, that there is none may come next
-pub no_word_then : (T : ℕ) (L : Log) → T < 2 ^ 62 → now L ≡ T → awaits_word L ≡ true → IsTrue (may_come L (record { now = T; event = NoRandom }))
-no_word_then T L below is awaits =
-    all_four (nat_le (now L) T) (nat_lt T (2 ^ 62)) (if true then awaits_word L else not (awaits_word L)) true (le-leb (now L) T (subst (λ t. t ≤ T) (sym is) (omega arith))) (lt-ltb T (2 ^ 62) below) (the_word true (awaits_word L) refl awaits) refl
 
 pub lines-one : (a : Made) (e : TimedEvent) (L : Log) → in_order (goes_on a e ∷ []) L ≡ goes_on a e L
 lines-one a e L = in_order-cons (goes_on a e) [] L ∙ ap (λ lines. goes_on a e L ++ lines) (in_order-brought [] (L ++ goes_on a e L)) ∙ append-nil (goes_on a e L)

@@ -1,18 +1,16 @@
 -- The hub's side of a link asks its hub to be accepted.
-use Rattle.std.proofs.Common.{◌≡◌, ◌≢◌, ◌≤◌, ◌<◌, ◌==◌, ◌&&◌, ◌||◌, ◌⊎◌, inl, inr, ℕ, zero, suc, nat_le, Bool, true, false, not, cond, List, [], ◌∷◌, ◌++◌, length, drop, find, filter, set, get_or, slice_get, Option, Some, None, is_some, option_to_list, refl, ap, sym, ◌∙◌, subst, arith, length-set, append-nil}
+use Rattle.std.proofs.Common.{◌≡◌, ◌≢◌, ◌≤◌, ◌<◌, ◌==◌, ◌&&◌, ◌||◌, ◌⊎◌, inl, inr, ℕ, zero, suc, nat_le, Bool, true, false, not, List, [], ◌∷◌, ◌++◌, length, drop, filter, set, get_or, slice_get, Option, Some, None, is_some, option_to_list, refl, ap, sym, ◌∙◌, subst, arith, length-set, append-nil}
 use Rattle.std.specs.List.{list_any}
 use Rattle.std.specs.Option.{option_map, option_or}
 use Rattle.std.proofs.lemmas.List.{length-map}
 use Rattle.std.proofs.lemmas.Option.{slice_get_past, slice_get_read}
 use Rattle.std.proofs.lemmas.List.Folds.{find-append, list_any-append}
-use Rattle.std.proofs.lemmas.Bool.{and_parts, both_ways, eq-eqb, eqb-true, false_from_ne_true, or_cases, or_parts}
+use Rattle.std.proofs.lemmas.Bool.{and_parts, both_ways, eq-eqb, eqb-true, false_from_ne_true, or_cases}
 use Rattle.bsc_octets.specs.declared.identity.Identity.{Identity}
-use Rattle.bsc_direct.proofs.OneMore.{some_same}
 use Rattle.bsc_node.specs.declared.link_name.LinkName.{LinkName}
 use Rattle.bsc_history.specs.declared.limits.About.{About}
 use Rattle.bsc_history.specs.declared.call.Call.TheVariants.{Connect}
 use Rattle.bsc_history.specs.declared.connection.Connection.{Connection}
-use Rattle.bsc_history.specs.declared.ending.End.{End}
 use Rattle.bsc_history.specs.declared.entry.Entry.{Entry}
 use Rattle.bsc_history.specs.declared.mark.Stamped.{Stamped}
 use Rattle.bsc_history.specs.declared.reply.Refusal.{Refusal}
@@ -30,8 +28,7 @@ use Rattle.bsc_history.proofs.More.{joined-more, looked-more, sent-more, unleft-
 use Rattle.bsc_history.proofs.Named.{unleft_joined}
 use Rattle.bsc_history.proofs.Parts.{numbered_joined}
 use Rattle.bsc_history.proofs.Uniqueness.{comes}
-use Rattle.bsc_ring.specs.declared.ends.Outlet.{Outlet}
-use Rattle.bsc_ring.specs.Ends.{FoundEnd, IsNewOutlet, given, outlet_mark}
+use Rattle.bsc_ring.specs.Ends.{given, outlet_mark}
 use Rattle.bsc_desk.specs.declared.desk.Desk.{Desk}
 use Rattle.bsc_desk.specs.declared.row.Row.{Row}
 use Rattle.bsc_desk.specs.Entries.{connect_entry, connect_stamped}
@@ -53,17 +50,21 @@ use Rattle.bsc_network.specs.Changes.{changed_at, with_side}
 use Rattle.bsc_network.specs.Outboxes.{frames}
 use Rattle.bsc_network.specs.HubCalls.{called, entry_in, is_worn, reply_in}
 use Rattle.bsc_world.specs.HubEntries.{HasJoined, HasRefused, IsSeated, LeadsNowhere, LeadsTo}
-use Rattle.bsc_world.specs.Sides.{IsSideOf, KeepsMachine, WasAsked}
+use Rattle.bsc_world.specs.Sides.{IsSideOf, WasAsked}
 use Rattle.bsc_world.specs.Kept.{IsConnKept, IsConnKeptIf, IsHubKept, IsSideKept, IsSideKeptIf, places_of}
 use Rattle.bsc_world.specs.Standing.{AreReadyBut, IsHubAt, StandsAs}
 use Rattle.bsc_world.specs.Becoming.{Became, HasSide, Stands, ends}
-use Rattle.bsc_network.proofs.Places.{get-changed, get-other, get-set_here, get-set_other, length-changed, one_or_two}
+use Rattle.bsc_network.proofs.Places.{get-changed, get-other, get-set_other, length-changed, one_or_two}
 use Rattle.bsc_world.proofs.LinkWays.{link_there, map-changed}
 use Rattle.bsc_world.proofs.Entering.{history-more, places_long, with_entry}
-use Rattle.bsc_world.proofs.OneHub.{HubChange, SameKept, SameLink, hub_changed, read_there, same_kept, same_link, target_same}
-use Rattle.bsc_world.proofs.OfSides.{SideAt, got-at, no_link_at, side_at}
+use Rattle.bsc_world.proofs.OneHub.{HubChange, SameKept, SameLink, hub_changed, read_there, same_kept, same_link}
+use Rattle.bsc_world.proofs.OfSides.{SideAt, side_at}
 use Rattle.bsc_world.proofs.QuietEntries.{IsQuiet, hub_entered, entry_is, lawful_at, legal_at, side_quiet}
 use Rattle.bsc_world.proofs.StopCalls.{OnHub}
+use Rattle.bsc_lemmas.proofs.Lists.{get-set as get-set_here, got-at, none_of}
+use Rattle.bsc_network.proofs.Common.{same_hub as target_same}
+use Rattle.bsc_ring.proofs.Common.{nothing_found}
+use Rattle.std.proofs.lemmas.Option.{same_Some as some_same}
 
 -- ---- a connect is quiet for all that had joined
 
@@ -89,9 +90,6 @@ worn_as j h S kept b k e =
 
 pub leads_to : (t : KeptWorld) (l j : ℕ) (kept : KeptLink) → l < length t.links.items → kept ≡ get_or t.links.items l kept → kept.to ≡ ToHub j → j < length t.hubs.items → LeadsTo t l j
 leads_to t l j kept within read to fits = record { inside = within; kept = kept; there = slice_get_read t.links.items (length t.links.items) l kept refl within read; to = to; within = fits }
-
-pub nowhere_past : (t : KeptWorld) (l : ℕ) → length t.links.items ≤ l → LeadsNowhere t l
-nowhere_past t l past F b w s j h link p = (let bad : None ≡ Some link = sym (no_link_at t F b w l s past) ∙ p.there in cc)
 
 -- what a link leads to, as it is kept
 pub target_at : (t : KeptWorld) (F : List LinkName) (b : Option ℕ) (w : World) (l j : ℕ) (h : Hub) (link : Link) (kept : KeptLink) → StandsAs t F b w → IsSideOf w l j h link → slice_get t.links.items l ≡ Some kept → kept.to ≡ ToHub j
@@ -193,12 +191,6 @@ new_address G e x new none =
     ∙ nobody (numbered c (joined G)) (numbered_joined G c ∙ none)
     )
 
-none_of : {A : Type 0} (p : A → Bool) (xs : List A) → list_any p xs ≡ false → find p xs ≡ None
-none_of p [] h = refl
-none_of {A} p (x ∷ xs) h =
-    let two = or_parts (p x) (list_any p xs) h in
-    ap (λ (b : Bool). cond b (Some x) (find p xs)) two.0 ∙ none_of p xs two.1
-
 -- a desk knows nothing of a connection that nobody joined
 unknown : (d : Desk) (S : List Stamped) (c : ℕ) → DeskStandsFor d S → list_any (joins c) (entries_of S) ≡ false → known_of d c ≡ 0
 unknown d S c s fresh =
@@ -206,9 +198,6 @@ unknown d S c s fresh =
     let any : list_any (λ (r : Row). p (connection r)) d.rows.items ≡ list_any p (unleft (entries_of S)) = any_row p d.rows.items ∙ ap (list_any p) s.unleft_rows in
     let none : list_any (λ (r : Row). p (connection r)) d.rows.items ≡ false = any ∙ false_from_ne_true (list_any p (unleft (entries_of S))) (λ t. both_ways (list_any (joins c) (entries_of S)) fresh (unleft_joined (λ k after. not (list_any (leaves k) after)) p c (λ x h. h) (entries_of S) t)) in
     ap known_in (none_of (λ (r : Row). r.connection.number == c) d.rows.items none)
-
-nothing_found : (o : Outlet) → IsNewOutlet o → (e : End) → FoundEnd o e → ⊥
-nothing_found o new e f = (let bad = rw new.2 at f.1 in cc)
 
 -- What is so of a connection that joins.
 record Fresh (a : About) (H : List Entry) (e : Entry) (c : ℕ) : Type 0 where
@@ -427,9 +416,6 @@ call_joined t u F w j l place who k kept after hub hub_after was to read o g say
     side_of h S d link (Some z) is lasts p = (z, is, subst (IsSideKeptIf l h S d link) is p)
 
 -- ---- the machine
-
-pub machine_same : (t u : KeptWorld) (l : ℕ) → u.links.items ≡ t.links.items → KeepsMachine l t u
-machine_same t u l links kept side got is = (kept, side, ap (λ xs. slice_get xs l) (sym links) ∙ got, is, refl)
 
 pub machine_seated : (t : KeptWorld) (l : ℕ) (k : KeptConn) (kept after : KeptLink) → slice_get t.links.items l ≡ Some kept → IsSeated k kept after → (y : KeptLink) (side : KeptSide) → slice_get (set t.links.items l after) l ≡ Some y → y.side ≡ Some side
     → (before : KeptLink) × (was : KeptSide) × (slice_get t.links.items l ≡ Some before) × (before.side ≡ Some was) × (side.machine ≡ was.machine)

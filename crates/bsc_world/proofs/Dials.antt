@@ -1,12 +1,11 @@
 -- Where a dial leads, and the link that is made.
-use Rattle.std.proofs.Common.{◌≡◌, ◌≤◌, ◌<◌, ◌⊎◌, inl, inr, ℕ, zero, suc, ◌+◌, true, false, Bool, List, [], ◌∷◌, ◌++◌, length, map, drop, slice_get, position, Option, Some, None, refl, ap, sym, ◌∙◌, subst, arith, length-append}
+use Rattle.std.proofs.Common.{◌≡◌, ◌<◌, ◌⊎◌, inl, inr, ℕ, zero, suc, ◌+◌, true, false, Bool, List, [], ◌∷◌, ◌++◌, length, map, drop, slice_get, position, Option, Some, None, refl, ap, sym, ◌∙◌, subst, arith, length-append}
 use Rattle.std.specs.Prelude.{nat_lt}
 use Rattle.std.specs.List.{range_with_len}
 use Rattle.std.specs.Option.{option_map, option_or}
 use Rattle.std.proofs.lemmas.List.{drop-append-le, length-drop}
 use Rattle.std.proofs.lemmas.Bool.{lt-ltb, ltb-true}
 use Rattle.std.proofs.lemmas.List.FromFn.{length-map-range_with_len}
-use Rattle.bsc_direct.proofs.OneMore.{some_same}
 use Rattle.bsc_history.specs.declared.mark.Stamped.{Stamped}
 use Rattle.bsc_desk.specs.declared.desk.Desk.{Desk}
 use Rattle.bsc_accept.specs.Standing.{StandsFor as MachineStandsFor}
@@ -33,8 +32,10 @@ use Rattle.bsc_world.specs.Kept.{IsLinkKept, IsConnKeptIf, IsSideKeptIf, IsReady
 use Rattle.bsc_world.specs.Fresh.{IsNewLink, MakesLink, MayDial}
 use Rattle.bsc_world.specs.Standing.{AreSidesKept, IsLinkAt, StandsAs}
 use Rattle.bsc_world.specs.Becoming.{Became, Did, Does, DoesWhere, Keeps}
-use Rattle.bsc_network.proofs.Places.{got-beside, got-last, got-last_of, got-longer, got-within}
+use Rattle.bsc_network.proofs.Places.{got-beside, got-last, got-last_of, got-longer}
 use Rattle.bsc_world.proofs.Goings.{did_both, did_became}
+use Rattle.bsc_lemmas.proofs.Lists.{got-within}
+use Rattle.std.proofs.lemmas.Option.{same_Some as some_same}
 
 -- ---- where it leads
 
@@ -114,9 +115,6 @@ target_there w uri target is = by_room (nat_lt (length w.links) 4096) refl is
     by_room false e p = cc
 
 -- ---- one link more
-
-first_within : (place : ℕ) (target : Target) → 0 ≤ length (first_up place target)
-first_within place target = omega arith
 
 new_link_kept : (t : KeptWorld) (F : List LinkName) (w : World) (k : ℕ) (target : Target) (kept : KeptLink) → StandsAs t F None w → IsNewLink t k target kept → IsLinkKept (new_link w k target) kept
 new_link_kept t F w k target kept s n = record {

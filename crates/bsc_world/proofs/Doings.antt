@@ -3,7 +3,6 @@ use Rattle.std.proofs.Common.{◌≡◌, ℕ, zero, suc, true, false, Bool, List
 use Rattle.std.specs.Prelude.{if◌then◌else◌}
 use Rattle.std.specs.List.{AllByRecursion}
 use Rattle.std.specs.Option.{option_map}
-use Rattle.bsc_direct.proofs.OneMore.{some_same}
 use Rattle.std.proofs.lemmas.List.{drop-append-le, map-append}
 use Rattle.std.proofs.lemmas.List.Sums.{fold-append}
 use Rattle.bsc_node.specs.declared.delivered.Delivered.{Delivered}
@@ -24,9 +23,10 @@ use Rattle.bsc_network.specs.NodeEvents.{carries_out, comes, comes_once, deliver
 use Rattle.bsc_world.specs.Standing.{StandsAs}
 use Rattle.bsc_world.specs.Becoming.{Becomes, Did, Does, IsToldSince, Keeps, Stands, StandsDoing}
 use Rattle.bsc_world.specs.Coming.{Hears, HearsAt, HearsIf, deliveries_by, lines_of}
-use Rattle.bsc_network.proofs.Places.{all-one_more}
 use Rattle.bsc_world.proofs.Spots.{stands_moved}
 use Rattle.bsc_world.proofs.Goings.{did_both, did_became, did_clock, does_both}
+use Rattle.bsc_lemmas.proofs.Lists.{all-push as all-one_more}
+use Rattle.std.proofs.lemmas.Option.{same_Some as some_same}
 
 -- ---- changes of which no more is told
 

@@ -1,16 +1,10 @@
 -- The ends that a node has: what is found among its holds, and what it has from now on.
-use Rattle.std.proofs.Common.{◌≡◌, ◌≤◌, ◌<◌, ℕ, zero, suc, ◌+◌, ◌-◌, Bool, true, false, cond, List, [], ◌∷◌, ◌++◌, length, map, take, find, set, get_or, slice_get, Option, Some, None, refl, ap, sym, ◌∙◌, subst, arith}
+use Rattle.std.proofs.Common.{◌≡◌, ◌≤◌, ◌<◌, ℕ, zero, suc, ◌+◌, ◌-◌, Bool, true, cond, List, [], ◌∷◌, ◌++◌, length, map, find, set, slice_get, Option, Some, None, refl, ap, sym, ◌∙◌, subst, arith}
 use Rattle.std.specs.List.{range_with_len}
 use Rattle.std.specs.Option.{option_and_then}
-use Rattle.std.proofs.lemmas.List.{take_more}
-use Rattle.bsc_connector.specs.declared.side.Side.TheVariants.{Primary, Failover}
-use Rattle.bsc_connector.specs.Back.{newest}
-use Rattle.bsc_connector.proofs.BackLemmas.{newest-more}
 use Rattle.bsc_direct.specs.Slots.{slots}
-use Rattle.bsc_direct.proofs.OneMore.{some_same}
 use Rattle.bsc_node.specs.declared.link_name.LinkName.{LinkName}
-use Rattle.bsc_node.specs.declared.link_name.LinkName.TheVariants.{Hub, Direct}
-use Rattle.bsc_node.specs.Links.{names}
+use Rattle.bsc_node.specs.declared.link_name.LinkName.TheVariants.{Direct}
 use Rattle.bsc_node_core.specs.Node.{StandsFor as NodeStandsFor}
 use Rattle.bsc_node_core.specs.Tables.{is_name}
 use Rattle.bsc_network.specs.declared.hold.Hold.{Hold}
@@ -23,20 +17,14 @@ use Rattle.bsc_network.specs.NodeSides.{hold_of, holds, puts_by, puts_on}
 use Rattle.bsc_world.specs.Kept.{IsNodeKept, IsCalm}
 use Rattle.bsc_world.specs.Standing.{IsNodeAt, StandsAs}
 use Rattle.bsc_world.specs.Becoming.{Became, Keeps}
-use Rattle.bsc_network.proofs.Places.{all-one_more, got-beside}
+use Rattle.bsc_network.proofs.Places.{got-beside}
 use Rattle.bsc_world.proofs.Spots.{NodeChange, node_changed}
 use Rattle.bsc_world.proofs.LinkWays.{changed_past}
 use Rattle.bsc_world.proofs.Goings.{became_same}
+use Rattle.bsc_lemmas.proofs.Lists.{all-push as all-one_more}
+use Rattle.std.proofs.lemmas.Option.{same_Some as some_same}
 
 -- ---- what is found
-
--- the newest of some, with one more
-pub newest_step : {A : Type 0} (test : A → Bool) (xs : List A) (i : ℕ) (x : A) (found : Option A) → i < length xs → x ≡ get_or xs i x → found ≡ newest test (take i xs) → cond (test x) (Some x) found ≡ newest test (take (i + 1) xs)
-newest_step test xs i x found within is found_so =
-    sym (ap (newest test) (take_more xs i x within ∙ ap (λ y. take i xs ++ y ∷ []) (sym is)) ∙ newest-more test (take i xs) x ∙ ap (cond (test x) (Some x)) (sym found_so))
-
-pub newest_taken : {A : Type 0} (test : A → Bool) (xs : List A) (i : ℕ) (x : A) (b : Bool) (found : Option A) → test x ≡ b → i < length xs → x ≡ get_or xs i x → found ≡ newest test (take i xs) → cond b (Some x) found ≡ newest test (take (i + 1) xs)
-newest_taken test xs i x b found t within is found_so = ap (λ c. cond c (Some x) found) (sym t) ∙ newest_step test xs i x found within is found_so
 
 -- the slots from one on
 abbrev pub slots_from : ℕ → List LinkName
@@ -53,20 +41,6 @@ slots_first = refl
 
 pub slots_last : slots_from 64 ≡ []
 slots_last = refl
-
--- the name that is found among all
-pub name_first : (test : LinkName → Bool) → test (Hub Primary) ≡ true → Some (Hub Primary) ≡ find test names
-name_first test p = sym (ap (λ b. cond b (Some (Hub Primary)) (cond (test (Hub Failover)) (Some (Hub Failover)) (find test (map (λ k. Direct k) slots)))) p)
-
-pub name_second : (test : LinkName → Bool) → test (Hub Primary) ≡ false → test (Hub Failover) ≡ true → Some (Hub Failover) ≡ find test names
-name_second test p f =
-    sym (ap (λ b. cond b (Some (Hub Primary)) (cond (test (Hub Failover)) (Some (Hub Failover)) (find test (map (λ k. Direct k) slots)))) p
-    ∙ ap (λ b. cond b (Some (Hub Failover)) (find test (map (λ k. Direct k) slots))) f)
-
-pub name_slot : (test : LinkName → Bool) (r : Option LinkName) → test (Hub Primary) ≡ false → test (Hub Failover) ≡ false → r ≡ find test (map (λ k. Direct k) slots) → r ≡ find test names
-name_slot test r p f is =
-    is ∙ sym (ap (λ b. cond b (Some (Hub Primary)) (cond (test (Hub Failover)) (Some (Hub Failover)) (find test (map (λ k. Direct k) slots)))) p
-    ∙ ap (λ b. cond b (Some (Hub Failover)) (find test (map (λ k. Direct k) slots))) f)
 
 -- ---- a node that is kept
 

@@ -1,14 +1,13 @@
 -- A message is passed on.
-use Rattle.std.proofs.Common.{◌≡◌, ◌≤◌, ◌<◌, ◌==◌, ◌&&◌, ◌||◌, inl, inr, ℕ, nat_le, Bool, true, false, not, cond, List, [], ◌∷◌, ◌++◌, length, map, find, filter, take, get_or, slice_get, Option, Some, None, MatchOption, refl, ap, sym, ◌∙◌, subst, arith, length-set}
+use Rattle.std.proofs.Common.{◌≡◌, ◌≤◌, ◌<◌, ◌==◌, ◌&&◌, ℕ, nat_le, Bool, true, false, List, [], ◌∷◌, ◌++◌, length, map, find, filter, take, get_or, slice_get, Option, Some, None, MatchOption, refl, ap, sym, ◌∙◌, subst, arith, length-set}
 use Rattle.std.specs.List.{AllByRecursion, list_any}
 use Rattle.std.proofs.Math.Seq.{take-length}
-use Rattle.std.proofs.lemmas.Bool.{and_from, both_ways, false_from_ne_true, eq-eqb, eqb-true, or_cases, or_left, or_right}
+use Rattle.std.proofs.lemmas.Bool.{and_from, both_ways, false_from_ne_true, eq-eqb, eqb-true}
 use Rattle.bsc_octets.specs.declared.vmac.Vmac.{Vmac}
-use Rattle.bsc_direct.proofs.OneMore.{some_same}
 use Rattle.bsc_node.specs.declared.link_name.LinkName.{LinkName}
 use Rattle.bsc_history.specs.declared.limits.About.{About}
 use Rattle.bsc_history.specs.declared.call.Call.{Call}
-use Rattle.bsc_history.specs.declared.call.Call.TheVariants.{Connect, Forward, Leave, Stop, Count}
+use Rattle.bsc_history.specs.declared.call.Call.TheVariants.{Forward}
 use Rattle.bsc_history.specs.declared.connection.Connection.{Connection}
 use Rattle.bsc_history.specs.declared.entry.Entry.{Entry}
 use Rattle.bsc_history.specs.declared.looks.Look.{Look}
@@ -18,8 +17,7 @@ use Rattle.bsc_history.specs.Ends.{is_leave, joined, live, numbered, unleft}
 use Rattle.bsc_history.specs.Laws.{is_among}
 use Rattle.bsc_history.specs.Legality.{Legal, is_of, looks_at}
 use Rattle.bsc_history.specs.Marks.{entries as entries_of}
-use Rattle.bsc_history.specs.Outboxes.{is_too_long, looked, meant, means, out_of, vmac_of}
-use Rattle.bsc_history.specs.Replies.{numbers}
+use Rattle.bsc_history.specs.Outboxes.{looked, vmac_of}
 use Rattle.bsc_history.proofs.Lists.{In, In_from_all, all_from_In, any_In, any_gives, find_says, same_one}
 use Rattle.bsc_history.proofs.More.{unleft-same}
 use Rattle.bsc_accept.specs.Standing.{IsOpen, phase_of}
@@ -46,31 +44,24 @@ use Rattle.bsc_network.specs.HubCalls.{called, entry_in, looks_in, taken_by, tak
 use Rattle.bsc_world.specs.HubEntries.{LeadsTo}
 use Rattle.bsc_world.specs.Passing.{HasForwarded, Midway, MidwaySome, MidwayTo, SameEnd, is_one, looked_at}
 use Rattle.bsc_world.specs.Sides.{IsSideOf, WasPassed}
-use Rattle.bsc_world.specs.Kept.{IsConnKept, IsConnKeptIf, IsSideKept, IsSideKeptIf}
+use Rattle.bsc_world.specs.Kept.{IsConnKeptIf, IsSideKeptIf}
 use Rattle.bsc_world.specs.Standing.{AreReadyBut, IsHubAt, StandsAs}
 use Rattle.bsc_world.specs.Becoming.{Became, Stands}
-use Rattle.bsc_network.proofs.Places.{get-set_here, get-set_other, got-beside}
+use Rattle.bsc_network.proofs.Places.{get-set_other, got-beside}
 use Rattle.bsc_world.proofs.Entering.{history-more, with_entry}
 use Rattle.bsc_world.proofs.OneHub.{HubChange, SameLink, hub_changed, read_there, same_link}
-use Rattle.bsc_world.proofs.OfSides.{got-at, side_at}
+use Rattle.bsc_world.proofs.OfSides.{side_at}
 use Rattle.bsc_world.proofs.QuietEntries.{IsQuiet, entry_is, hub_entered, lawful_at, legal_at, side_quiet}
 use Rattle.bsc_world.proofs.Unlooked.{any_of_none, looked_kept, newest_kept, unlooked_added}
 use Rattle.bsc_world.proofs.StopCalls.{OnHub}
 use Rattle.bsc_world.proofs.ConnectCalls.{hub_is, target_at, worn_as}
+use Rattle.bsc_desk.proofs.Common.{any_kept, any_mapped}
+use Rattle.bsc_history.proofs.Common.{looks_live, looks_told}
+use Rattle.bsc_lemmas.proofs.Lists.{get-set as get-set_here, got-at}
+use Rattle.bsc_world.proofs.Common.{conn_at}
+use Rattle.std.proofs.lemmas.Option.{same_Some as some_same}
 
 -- ---- who is looked at
-
-any_kept : (q p : Row → Bool) (rows : List Row) → list_any q (filter p rows) ≡ true → list_any q rows ≡ true
-any_kept q p [] h = h
-any_kept q p (r ∷ rows) h = by (p r) h (any_kept q p rows)
-  where
-    by : (b : Bool) → list_any q (cond b (r ∷ filter p rows) (filter p rows)) ≡ true → (list_any q (filter p rows) ≡ true → list_any q rows ≡ true) → list_any q (r ∷ rows) ≡ true
-    by true g rec = elim (or_cases (q r) (list_any q (filter p rows)) g) [ inl here ↦ or_left (q r) (list_any q rows) here | inr later ↦ or_right (q r) (list_any q rows) (rec later) ]
-    by false g rec = or_right (q r) (list_any q rows) (rec g)
-
-any_mapped : (p : Connection → Bool) (rows : List Row) → list_any p (map connection rows) ≡ list_any (λ r. p (connection r)) rows
-any_mapped p [] = refl
-any_mapped p (r ∷ rows) = ap (λ (b : Bool). p (connection r) || b) (any_mapped p rows)
 
 -- a live connection hasn't left
 pub live_unleft : (d : Desk) (S : List Stamped) (c : ℕ) → DeskStandsFor d S → list_any (λ x. x.number == c) (live (entries_of S)) ≡ true → list_any (λ x. x.number == c) (unleft (entries_of S)) ≡ true
@@ -79,40 +70,6 @@ live_unleft d S c s h =
     let q = λ (r : Row). p (connection r) in
     ap (list_any p) (sym s.unleft_rows) ∙ any_mapped p d.rows.items
     ∙ any_kept q is_open d.rows.items (sym (any_mapped p (filter is_open d.rows.items)) ∙ ap (list_any p) (sym (live_rows d S s)) ∙ h)
-
-among_any : (c : ℕ) (q : Connection → Bool) (xs : List Connection) → is_among c (numbers (filter q xs)) ≡ true → list_any (λ x. x.number == c) xs ≡ true
-among_any c q [] h = h
-among_any c q (x ∷ xs) h = by (q x) h (among_any c q xs)
-  where
-    by : (b : Bool) → is_among c (numbers (cond b (x ∷ filter q xs) (filter q xs))) ≡ true → (is_among c (numbers (filter q xs)) ≡ true → list_any (λ y. y.number == c) xs ≡ true) → list_any (λ y. y.number == c) (x ∷ xs) ≡ true
-    by true g rec = elim (or_cases (x.number == c) (is_among c (numbers (filter q xs))) g) [ inl here ↦ or_left (x.number == c) (list_any (λ y. y.number == c) xs) here | inr later ↦ or_right (x.number == c) (list_any (λ y. y.number == c) xs) (rec later) ]
-    by false g rec = or_right (x.number == c) (list_any (λ y. y.number == c) xs) (rec g)
-
-any_filtered : (p q : Connection → Bool) (xs : List Connection) → list_any p (filter q xs) ≡ true → list_any p xs ≡ true
-any_filtered p q [] h = h
-any_filtered p q (x ∷ xs) h = by (q x) h (any_filtered p q xs)
-  where
-    by : (b : Bool) → list_any p (cond b (x ∷ filter q xs) (filter q xs)) ≡ true → (list_any p (filter q xs) ≡ true → list_any p xs ≡ true) → list_any p (x ∷ xs) ≡ true
-    by true g rec = elim (or_cases (p x) (list_any p (filter q xs)) g) [ inl here ↦ or_left (p x) (list_any p xs) here | inr later ↦ or_right (p x) (list_any p xs) (rec later) ]
-    by false g rec = or_right (p x) (list_any p xs) (rec g)
-
-pub looks_live : (H : List Entry) (call : Call) (c : ℕ) → is_among c (looks_at H call) ≡ true → list_any (λ x. x.number == c) (live H) ≡ true
-looks_live H (Forward sender m) c h =
-    let xs = meant H sender m in
-    let q = λ (x : Connection). not (is_too_long (out_of H sender m) x) in
-    let by : (b : Bool) → is_among c (cond b [] (numbers (filter q xs))) ≡ true → is_among c (numbers (filter q xs)) ≡ true = λ b. elim b as (λ b. is_among c (cond b [] (numbers (filter q xs))) ≡ true → is_among c (numbers (filter q xs)) ≡ true) [ true ↦ λ g. cc | false ↦ λ g. g ] in
-    any_filtered (λ x. x.number == c) (means m sender) (live H) (among_any c q xs (by _ h))
-looks_live H (Connect who) c h = cc
-looks_live H (Leave conn taken empties) c h = cc
-looks_live H Stop c h = cc
-looks_live H Count c h = cc
-
--- looks are told by their connections, where each finds what is said of its own
-looks_told : (f : ℕ → ℕ) (looks : List Look) → AllByRecursion (λ (l : Look). l.taken ≡ f l.conn) looks → looks ≡ map (λ c. let k : Look = record { conn = c; taken = f c } in k) (map (λ (l : Look). l.conn) looks)
-looks_told f [] h = refl
-looks_told f (l ∷ ls) h =
-    ap (λ (n : ℕ). (let k : Look = record { conn = l.conn; taken = n } in k) ∷ ls) h.0
-    ∙ ap (λ (r : List Look). (let k : Look = record { conn = l.conn; taken = f l.conn } in k) ∷ r) (looks_told f ls h.1)
 
 -- of those that joined, the one with the number of a connection that hasn't left is that connection
 numbered_unleft : (a : About) (H : List Entry) (x : Connection) → Legal a H → In x (unleft H) → numbered x.number (joined H) ≡ Some x
@@ -289,12 +246,6 @@ one_met h conns m b own looks =
     any_In (λ (c : ℕ). is_of (history h) m c) r.0 conns r.1 (subst (λ c. is_of (history h) m c ≡ true) (sym (eqb-true r.0 b r.2)) own)
 
 -- ---- by the link
-
--- the conn of a link, as it is kept
-conn_at : (m : ℕ) (h : Hub) (S : List Stamped) (d : Desk) (link : Link) (o : Option KeptSide) (side : KeptSide) (k : KeptConn) → IsSideKeptIf m h S d link o → o ≡ Some side → side.joined ≡ Some k → IsConnKept m h S d link.side k
-conn_at m h S d link o side k p is joins =
-    let q : IsSideKept m h S d link side = subst (IsSideKeptIf m h S d link) is p in
-    subst (IsConnKeptIf m h S d link.side) joins q.joined
 
 -- A connection may forward.
 pub may_forward : (t : KeptWorld) (b : Option ℕ) (l i : ℕ) (kept : KeptLink) (hub : KeptHub) (side : KeptSide) (k : KeptConn) (c : ℕ) (from : Vmac) → Stands b t → LeadsTo t l i → kept ≡ get_or t.links.items l kept → kept.side ≡ Some side → side.joined ≡ Some k → c ≡ k.conn → from ≡ k.vmac → hub ≡ get_or t.hubs.items i hub → IsRowOf hub.desk l c from × ((S : List Stamped) × DeskStandsFor hub.desk S)

@@ -1,10 +1,8 @@
 -- What a node has heard, by what its core answers.
-use Rattle.std.proofs.Common.{◌≡◌, ◌≤◌, ◌<◌, ℕ, zero, suc, ◌+◌, ◌||◌, ◌&&◌, ◌==◌, Bool, true, false, List, [], ◌∷◌, ◌++◌, length, set, slice_get, Some, None, refl, ap, sym, ◌∙◌, subst, arith, append_assoc}
-use Rattle.std.specs.Prelude.{◌^◌, IsTrue, nat_lt, filter_map, map, if◌then◌else◌}
-use Rattle.std.specs.List.{AllByRecursion, list_all, list_any, range_with_len}
-use Rattle.std.proofs.lemmas.Bool.{eqb-true, lt-ltb}
+use Rattle.std.proofs.Common.{◌≡◌, ◌≤◌, ◌<◌, ℕ, ◌||◌, Bool, true, false, List, [], ◌∷◌, ◌++◌, length, set, slice_get, Some, None, refl, ap, sym, ◌∙◌, subst, append_assoc}
+use Rattle.std.specs.Prelude.{◌^◌, IsTrue, filter_map, map, if◌then◌else◌}
+use Rattle.std.specs.List.{AllByRecursion, list_all, list_any}
 use Rattle.std.proofs.lemmas.List.Folds.{list_any-append}
-use Rattle.bsc_direct.specs.Slots.{slots}
 use Rattle.bsc_node.specs.declared.link_name.LinkName.{LinkName}
 use Rattle.bsc_node.specs.declared.link_name.LinkName.TheVariants.{Hub, Direct}
 use Rattle.bsc_node.specs.declared.node_event.NodeEvent.{NodeEvent}
@@ -17,7 +15,7 @@ use Rattle.bsc_node.specs.Node.{goes_on, actions_at}
 use Rattle.bsc_node.specs.Events.{follows}
 use Rattle.bsc_node.specs.Laws.{draws, with_event}
 use Rattle.bsc_node.specs.Conditions.{brings_word, fits, is_start, may_come}
-use Rattle.bsc_node.specs.Soundness.{begins_in_slots, is_in_slots}
+use Rattle.bsc_node.specs.Soundness.{begins_in_slots}
 use Rattle.bsc_node.proofs.Following.{opened-dialled, goes_on-is}
 use Rattle.bsc_node_core.specs.declared.node.Node.{Node as Core}
 use Rattle.bsc_node_core.specs.Node.{StandsFor as CoreStandsFor, Answers}
@@ -27,25 +25,15 @@ use Rattle.bsc_network.specs.Worlds.{World, Node}
 use Rattle.bsc_world.specs.Kept.{IsCalm, IsNodeKept}
 use Rattle.bsc_world.specs.Standing.{StandsAs}
 use Rattle.bsc_world.specs.Coming.{BeginsNamed, HasHeard, Hears, HearsAt, HearsIf, is_start_event, lines_of, with_lines}
-use Rattle.bsc_world.proofs.Calm.{no_event, calm_then, lines-one, lines-two, may_then, no_word_then, none-follows, now_then}
+use Rattle.bsc_world.proofs.Calm.{no_event, calm_then, lines-one, lines-two, may_then, none-follows, now_then}
 use Rattle.bsc_world.proofs.Ends.{node_there, no_node_there}
 use Rattle.bsc_world.proofs.Goings.{became_same}
 use Rattle.bsc_world.proofs.Spots.{NodeChange, node_changed}
 use Rattle.bsc_node_laws.proofs.Drawn.{draws_at}
+use Rattle.bsc_lemmas.proofs.Booleans.{and_left as first_of_two, and_right as second_of_two}
+use Rattle.bsc_node.proofs.Common.{no_word_then, slot-named as slot_named}
 
 -- ---- the links that actions begin
-
-below : (n a k : ℕ) → list_any (λ j. k == j) (range_with_len a n) ≡ true → k < a + n
-below zero a k h = cc
-below (suc n) a k h = by (k == a) refl h (λ g. below n (a + 1) k g)
-  where
-    by : (b : Bool) → (k == a) ≡ b → (b || list_any (λ j. k == j) (range_with_len (a + 1) n)) ≡ true → (list_any (λ j. k == j) (range_with_len (a + 1) n) ≡ true → k < a + 1 + n) → k < a + suc n
-    by true e g later = let q = eqb-true k a e in omega (arith, q)
-    by false e g later = let w = later g in omega (arith, w)
-
-slot_named : (k : ℕ) → is_in_slots k ≡ true → nat_lt k 64 ≡ true
-unfolding slots
-slot_named k h = lt-ltb k 64 (let w = below 64 0 k h in omega (arith, w))
 
 begins_named : (action : Action) → begins_in_slots (did action) ≡ true → BeginsNamed action
 begins_named (Dial (Hub s) uri) h = refl
@@ -53,14 +41,6 @@ begins_named (Dial (Direct k) uri) h = slot_named k h
 begins_named (Take (Hub s)) h = refl
 begins_named (Take (Direct k)) h = slot_named k h
 begins_named action h = tt
-
-first_of_two : (b c : Bool) → (b && c) ≡ true → b ≡ true
-first_of_two true c h = refl
-first_of_two false c h = cc
-
-second_of_two : (b c : Bool) → (b && c) ≡ true → c ≡ true
-second_of_two true c h = h
-second_of_two false c h = cc
 
 lines_named : (lines : Log) → list_all begins_in_slots lines ≡ true → AllByRecursion BeginsNamed (filter_map action_of lines)
 lines_named [] h = tt

@@ -4,7 +4,6 @@ use Rattle.std.specs.List.{list_any}
 use Rattle.std.specs.Option.{option_map}
 use Rattle.std.proofs.lemmas.Option.{slice_get_past}
 use Rattle.std.proofs.lemmas.Bool.{and_parts, both_ways, eq-eqb, eqb-true, false_from_ne_true}
-use Rattle.bsc_direct.proofs.OneMore.{some_same}
 use Rattle.bsc_node.specs.declared.link_name.LinkName.{LinkName}
 use Rattle.bsc_history.specs.declared.call.Call.{Call}
 use Rattle.bsc_history.specs.declared.call.Call.TheVariants.{Leave}
@@ -39,7 +38,7 @@ use Rattle.bsc_world.specs.Sides.{IsSideOf}
 use Rattle.bsc_world.specs.Kept.{IsConnKept, IsConnKeptIf, IsLinkKept, IsSideKept, IsSideKeptIf, IsWayKept}
 use Rattle.bsc_world.specs.Standing.{AreReadyBut, IsHubAt, StandsAs}
 use Rattle.bsc_world.specs.Becoming.{Became, Goes, Stands, ends}
-use Rattle.bsc_network.proofs.Places.{get-changed, get-other, get-set_here, get-set_other, length-changed, one_or_two}
+use Rattle.bsc_network.proofs.Places.{get-changed, get-other, get-set_other, length-changed, one_or_two}
 use Rattle.bsc_world.proofs.Spots.{LinkChange, link_changed}
 use Rattle.bsc_world.proofs.Goings.{became_as, settles}
 use Rattle.bsc_world.proofs.LinkWays.{link_there, map-changed}
@@ -47,6 +46,9 @@ use Rattle.bsc_world.proofs.Entering.{history-more, with_entry}
 use Rattle.bsc_world.proofs.OneHub.{HubChange, SameKept, SameLink, hub_changed, read_there, same_kept, same_link}
 use Rattle.bsc_world.proofs.OfSides.{SideAt, no_link_at, of_side_is, of_side_node, of_side_none, side_at, unless_over_gone, unless_over_is}
 use Rattle.bsc_world.proofs.QuietEntries.{IsQuiet, entry_is, hub_entered, lawful_at, legal_at, one_owner, side_quiet}
+use Rattle.bsc_lemmas.proofs.Lists.{get-set as get-set_here}
+use Rattle.bsc_lemmas.proofs.Options.{not_some}
+use Rattle.std.proofs.lemmas.Option.{same_Some as some_same}
 
 -- ---- the side is let go
 
@@ -80,9 +82,6 @@ gone_kept link side kept after g k = record {
 
 over_kept : (link : Link) (kept : KeptLink) → IsLinkKept link kept → IsLinkKept (is_over_now link) kept
 over_kept link kept k = record { from = k.from; to = k.to; lost = k.lost; ways = λ e. record { up = (k.ways e).up; down = (k.ways e).down } }
-
-not_some : {A : Type 0} (o : Option A) (x : A) → o ≡ None → o ≡ Some x → ⊥
-not_some o x none some = (let bad : None ≡ Some x = sym none ∙ some in cc)
 
 module _ (t u : KeptWorld) (F : List LinkName) (w : World) (l : ℕ) (side : Option KeptSide) (kept after : KeptLink) (was : slice_get t.links.items l ≡ Some kept) (o : OnLink t u l after) (g : LetsGo side kept after) (s : StandsAs t F (Some l) w) where
   link_here : slice_get u.links.items l ≡ Some after

@@ -30,3 +30,4 @@ pub mod ForwardCalls
 pub mod LooksMet
 pub mod NextFrames
 pub mod TakeCalls
+pub mod Common

@@ -1,7 +1,6 @@
 -- What joins a way, and what is taken from its front: the link is kept as the network has it.
 use Rattle.std.proofs.Common.{◌≡◌, ◌≤◌, ℕ, zero, suc, true, false, List, [], ◌∷◌, ◌++◌, length, map, drop, set, slice_get, Option, Some, None, refl, ap, sym, ◌∙◌, subst, arith, length-append}
 use Rattle.std.proofs.lemmas.List.{drop-append-le, drop-drop}
-use Rattle.bsc_direct.proofs.OneMore.{some_same}
 use Rattle.bsc_history.specs.declared.mark.Stamped.{Stamped}
 use Rattle.bsc_accept.specs.Standing.{StandsFor as MachineStandsFor}
 use Rattle.bsc_script.specs.States.{default_times}
@@ -22,9 +21,11 @@ use Rattle.bsc_world.specs.Puts.{IsPut}
 use Rattle.bsc_world.specs.Fronts.{IsLost, TakesFront, front_gone}
 use Rattle.bsc_world.specs.Standing.{IsLinkAt, StandsAs}
 use Rattle.bsc_world.specs.Becoming.{ends, Became, Keeps}
-use Rattle.bsc_network.proofs.Places.{got-beside, got-within}
+use Rattle.bsc_network.proofs.Places.{got-beside}
 use Rattle.bsc_world.proofs.Spots.{LinkChange, link_changed, ready_same}
 use Rattle.bsc_world.proofs.Goings.{became_same}
+use Rattle.bsc_lemmas.proofs.Lists.{get-drop, got-within}
+use Rattle.std.proofs.lemmas.Option.{same_Some as some_same}
 
 -- ---- lists
 
@@ -37,12 +38,6 @@ pub changed_past : {A : Type 0} (i : ℕ) (f : A → A) (xs : List A) → length
 changed_past i f [] h = refl
 changed_past zero f (x ∷ xs) h = absurd (omega arith)
 changed_past (suc i) f (x ∷ xs) h = ap (λ ys. x ∷ ys) (changed_past i f xs (omega arith))
-
-get-drop : {A : Type 0} (n : ℕ) (xs : List A) → slice_get (drop n xs) 0 ≡ slice_get xs n
-get-drop zero [] = refl
-get-drop zero (x ∷ xs) = refl
-get-drop (suc n) [] = refl
-get-drop (suc n) (x ∷ xs) = get-drop n xs
 
 nothing_first : {A : Type 0} (xs : List A) → slice_get xs 0 ≡ None → xs ≡ []
 nothing_first [] h = refl

@@ -1,12 +1,10 @@
 -- A side meets its hub, at whose connection a forward looked.
-use Rattle.std.proofs.Common.{◌≡◌, ◌≢◌, ◌<◌, ◌+◌, ◌==◌, ◌&&◌, ◌||◌, ℕ, Bool, true, false, List, [], ◌∷◌, ◌++◌, length, map, set, slice_get, take, Option, Some, None, refl, ap, sym, ◌∙◌, subst}
+use Rattle.std.proofs.Common.{◌≡◌, ◌<◌, ◌+◌, ◌==◌, ◌&&◌, ◌||◌, ℕ, Bool, true, false, List, [], ◌∷◌, ◌++◌, length, set, slice_get, take, Some, refl, ap, sym, ◌∙◌, subst}
 use Rattle.std.specs.List.{list_any}
 use Rattle.std.proofs.lemmas.Bool.{eq-eqb, false_from_ne_true, or_right}
-use Rattle.bsc_direct.proofs.OneMore.{some_same}
 use Rattle.bsc_history.specs.declared.call.Call.{Call}
 use Rattle.bsc_history.specs.declared.connection.Connection.{Connection}
 use Rattle.bsc_history.specs.declared.entry.Entry.{Entry}
-use Rattle.bsc_history.specs.declared.looks.Look.{Look}
 use Rattle.bsc_history.specs.declared.mark.Stamped.{Stamped}
 use Rattle.bsc_history.specs.Entries.{made_by}
 use Rattle.bsc_history.specs.Ends.{is_leave, live, unleft}
@@ -14,7 +12,7 @@ use Rattle.bsc_history.specs.Laws.{Apart, is_among}
 use Rattle.bsc_history.specs.Legality.{Legal, is_of, looks_at}
 use Rattle.bsc_history.specs.Marks.{entries as entries_of}
 use Rattle.bsc_history.proofs.Lists.{In, any_In, any_gives}
-use Rattle.bsc_history.proofs.More.{or_false, unleft-same}
+use Rattle.bsc_history.proofs.More.{unleft-same}
 use Rattle.bsc_desk.specs.Entries.{plain}
 use Rattle.bsc_desk.specs.Rows.{HasRow, IsRowBy}
 use Rattle.bsc_desk.specs.Standing.{StandsFor as DeskStandsFor}
@@ -26,14 +24,17 @@ use Rattle.bsc_world.specs.declared.kept_hub.KeptHub.{KeptHub}
 use Rattle.bsc_world.specs.declared.kept_link.KeptLink.{KeptLink}
 use Rattle.bsc_world.specs.declared.world.World.{World as KeptWorld}
 use Rattle.bsc_network.specs.Worlds.{World, Hub, Link, history}
-use Rattle.bsc_world.specs.Passing.{LinkMet, MayMeet, Midway, hub_then, is_one, looked_at}
+use Rattle.bsc_world.specs.Passing.{LinkMet, MayMeet, Midway, is_one, looked_at}
 use Rattle.bsc_world.specs.Standing.{IsHubAt}
-use Rattle.bsc_network.proofs.Places.{got-within}
 use Rattle.bsc_world.proofs.Entering.{history-more}
-use Rattle.bsc_world.proofs.ForwardCalls.{live_unleft, looks_live}
+use Rattle.bsc_world.proofs.ForwardCalls.{live_unleft}
 use Rattle.bsc_world.proofs.QuietEntries.{legal_at, one_owner}
 use Rattle.bsc_world.proofs.SideMeetings.{may_meet, midway_meet}
 use Rattle.bsc_world.proofs.Unlooked.{any_next, conns_apart, not_before}
+use Rattle.bsc_history.proofs.Common.{looks_live}
+use Rattle.bsc_lemmas.proofs.Booleans.{or_false}
+use Rattle.bsc_lemmas.proofs.Lists.{got-within}
+use Rattle.std.proofs.lemmas.Option.{same_Some as some_same}
 
 -- The sides of the first i connections have met the hub at which the forward looked; the next is this one.
 module _ (t u : KeptWorld) (w : World) (j : ℕ) (h : Hub) (a : IsHubAt t w j h) (e : Entry) (place : ℕ) (passing : Passing) (i : ℕ) (g : Midway t u w j h a e place passing (is_one h (take i (looked_at passing)))) (conn : ℕ) (at : slice_get (looked_at passing) i ≡ Some conn) (kept : KeptHub) (there : slice_get u.hubs.items j ≡ Some kept) where

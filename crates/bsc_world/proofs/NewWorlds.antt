@@ -1,10 +1,8 @@
 -- A new world stands for a network without hubs and nodes, in which no step was made.
-use Rattle.std.proofs.Common.{◌≡◌, [], Some, None, refl, arith}
+use Rattle.std.proofs.Common.{◌≡◌, [], refl, arith}
 use Rattle.bsc_world.specs.declared.world.World.{World as KeptWorld}
 use Rattle.bsc_world.specs.Standing.{StandsFor}
-
-nothing_there : {A : Type 0} (x : A) → None ≡ Some x → ⊥
-nothing_there x p = cc
+use Rattle.std.proofs.lemmas.Option.{none-some as nothing_there}
 
 pub new_stands : (t : KeptWorld) → t.made ≡ 0 → t.hubs.items ≡ [] → t.nodes.items ≡ [] → t.links.items ≡ [] → StandsFor t [] []
 new_stands t made hubs nodes links = record {

@@ -3,23 +3,18 @@ use Rattle.std.proofs.Common.{◌≡◌, ℕ, zero, suc, List, [], ◌∷◌, �
 use Rattle.std.proofs.lemmas.List.{length-map}
 use Rattle.std.proofs.lemmas.Option.{slice_get_past}
 use Rattle.std.proofs.Common.{◌≤◌, subst, arith}
-use Rattle.bsc_direct.proofs.OneMore.{some_same}
 use Rattle.bsc_history.specs.Outboxes.{sent}
 use Rattle.bsc_ring.specs.Lists.{StartsWith}
 use Rattle.bsc_network.specs.Worlds.{Hub, history}
 use Rattle.bsc_network.specs.Outboxes.{Frame, frames}
 use Rattle.bsc_world.specs.Kept.{places_of}
 use Rattle.bsc_network.proofs.Frames.{octets-frames}
+use Rattle.bsc_lemmas.proofs.Lists.{get-drop}
+use Rattle.std.proofs.lemmas.Option.{same_Some as some_same}
 
 at_length : {A : Type 0} (xs : List A) (x : A) (ys : List A) → slice_get ((xs ++ x ∷ []) ++ ys) (length xs) ≡ Some x
 at_length [] x ys = refl
 at_length (z ∷ xs) x ys = at_length xs x ys
-
-get-drop : {A : Type 0} (n : ℕ) (xs : List A) → slice_get (drop n xs) 0 ≡ slice_get xs n
-get-drop zero [] = refl
-get-drop zero (x ∷ xs) = refl
-get-drop (suc n) [] = refl
-get-drop (suc n) (x ∷ xs) = get-drop n xs
 
 -- where octets stand a frame stands, and its place
 beside : (xs : List Frame) (n : ℕ) (o : List ℕ) → slice_get (map (λ (f : Frame). f.octets) xs) n ≡ Some o → (x : ℕ) × (slice_get xs n ≡ Some (record { octets = o; sent_at = x })) × (slice_get (places_of xs) n ≡ Some x)

@@ -1,5 +1,5 @@
 -- What is found for a link: the hub that it leads to, and the change that is made then.
-use Rattle.std.proofs.Common.{◌≡◌, ◌≤◌, ◌<◌, ℕ, zero, suc, Bool, true, cond, List, [], ◌∷◌, length, slice_get, Option, Some, None, refl, ap, sym, ◌∙◌, subst, arith}
+use Rattle.std.proofs.Common.{◌≡◌, ◌≤◌, ℕ, Bool, true, cond, List, length, slice_get, Option, Some, None, ap, sym, ◌∙◌, subst}
 use Rattle.std.proofs.lemmas.Option.{slice_get_past}
 use Rattle.bsc_node.specs.declared.link_name.LinkName.{LinkName}
 use Rattle.bsc_network.specs.declared.target.Target.{Target}
@@ -13,6 +13,7 @@ use Rattle.bsc_world.specs.Sides.{IsSideOf}
 use Rattle.bsc_world.specs.Kept.{IsLinkKept, IsSideKeptIf}
 use Rattle.bsc_world.specs.Standing.{IsHubAt, StandsAs}
 use Rattle.bsc_world.proofs.LinkWays.{link_there}
+use Rattle.bsc_lemmas.proofs.Lists.{got-at}
 
 -- ---- the definition
 
@@ -47,17 +48,6 @@ unless_over_gone w l j h link change there to hub gone =
     ∙ ap (λ (b : Bool). cond b unchanged change w) gone
 
 -- ---- what is kept
-
-pub got-at : {A : Type 0} (xs : List A) (i : ℕ) → i < length xs → (x : A) × (slice_get xs i ≡ Some x)
-got-at [] i h = absurd (none i h)
-  where
-    none : (n : ℕ) → n < 0 → ⊥
-    none n g = omega arith
-got-at (x ∷ xs) zero h = (x, refl)
-got-at (x ∷ xs) (suc i) h = got-at xs i (less i (length xs) h)
-  where
-    less : (m n : ℕ) → suc m < suc n → m < n
-    less m n g = omega arith
 
 -- A link that leads to hub j, with its side, as they are kept.
 pub record SideAt (t : KeptWorld) (w : World) (l j : ℕ) (kept : KeptLink) : Type 0 where

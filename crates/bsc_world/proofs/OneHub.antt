@@ -3,7 +3,6 @@
 use Rattle.std.proofs.Common.{◌≡◌, ◌≢◌, ◌≤◌, ◌<◌, inl, inr, ℕ, false, List, length, get_or, slice_get, Option, Some, refl, ap, sym, ◌∙◌, subst}
 use Rattle.std.specs.Option.{option_map}
 use Rattle.std.proofs.lemmas.Option.{get_or_from_slice_get}
-use Rattle.bsc_direct.proofs.OneMore.{some_same}
 use Rattle.bsc_node.specs.declared.link_name.LinkName.{LinkName}
 use Rattle.bsc_network.specs.declared.target.Target.TheVariants.{Hub as ToHub}
 use Rattle.bsc_world.specs.declared.kept_link.KeptLink.{KeptLink}
@@ -13,13 +12,12 @@ use Rattle.bsc_network.specs.Changes.{changed_at}
 use Rattle.bsc_world.specs.Kept.{IsWayKept, IsCalm, IsSideKeptIf}
 use Rattle.bsc_world.specs.Standing.{IsHubAt, IsLinkAt, AreReadyBut, StandsAs}
 use Rattle.bsc_network.proofs.Places.{one_or_two, get-changed, get-other, got-beside, length-changed}
+use Rattle.bsc_network.proofs.Common.{same_hub as target_same}
+use Rattle.std.proofs.lemmas.Option.{same_Some as some_same}
 
 -- what was read at a place where something stands is what stands there
 pub read_there : {A : Type 0} (xs : List A) (i : ℕ) (x d : A) → slice_get xs i ≡ Some x → d ≡ get_or xs i d → slice_get xs i ≡ Some d
 read_there xs i x d at read = at ∙ ap Some (sym (get_or_from_slice_get xs i x d at) ∙ sym read)
-
-pub target_same : (a b : ℕ) → ToHub a ≡ ToHub b → a ≡ b
-target_same a b e = cc
 
 -- What is kept of a link is as it was, but for its side where it leads to hub j.
 pub record SameKept (j : ℕ) (k after : KeptLink) : Type 0 where

@@ -2,7 +2,6 @@
 use Rattle.std.proofs.Common.{◌≡◌, ◌≤◌, ◌<◌, ℕ, zero, suc, ◌==◌, ◌&&◌, true, false, not, Bool, List, [], ◌∷◌, length, drop, slice_get, Option, Some, None, refl, ap, sym, ◌∙◌, subst, arith}
 use Rattle.std.specs.Prelude.{is_some, if◌then◌else◌}
 use Rattle.std.proofs.lemmas.Bool.{ne_eqb}
-use Rattle.bsc_direct.proofs.OneMore.{some_same}
 use Rattle.bsc_history.specs.declared.mark.Stamped.{Stamped}
 use Rattle.bsc_desk.specs.declared.desk.Desk.{Desk}
 use Rattle.bsc_accept.specs.Past.{phase}
@@ -35,11 +34,8 @@ use Rattle.bsc_world.specs.Standing.{StandsAs}
 use Rattle.bsc_network.proofs.Places.{got-beside}
 use Rattle.bsc_world.proofs.Ends.{node_there, no_node_there}
 use Rattle.bsc_world.proofs.LinkWays.{link_there}
-
-gone : {A : Type 0} (xs : List A) (i : ℕ) → length xs ≤ i → slice_get xs i ≡ None
-gone [] i h = refl
-gone (x ∷ xs) zero h = absurd (omega arith)
-gone (x ∷ xs) (suc i) h = gone xs i (omega arith)
+use Rattle.bsc_lemmas.proofs.Lists.{get_beyond as gone}
+use Rattle.std.proofs.lemmas.Option.{same_Some as some_same}
 
 -- ---- an event
 

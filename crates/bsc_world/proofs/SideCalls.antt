@@ -1,7 +1,6 @@
 -- What the sessions at a hub's sides hear and do leaves of a world.
 use Rattle.std.proofs.Common.{◌≡◌, ◌≢◌, ◌≤◌, ◌⊎◌, inl, inr, ℕ, zero, suc, Bool, true, false, cond, List, [], ◌∷◌, ◌++◌, length, set, slice_get, Option, Some, None, true≢false, refl, ap, sym, ◌∙◌, subst}
 use Rattle.std.specs.Option.{option_map}
-use Rattle.bsc_direct.proofs.OneMore.{some_same}
 use Rattle.bsc_history.specs.declared.ending.End.{End}
 use Rattle.bsc_history.specs.declared.ending.End.TheVariants.{Left, Replaced, Full, Stopped}
 use Rattle.bsc_history.specs.declared.mark.Stamped.{Stamped}
@@ -15,7 +14,7 @@ use Rattle.bsc_accept.specs.declared.event.Event.{Event}
 use Rattle.bsc_accept.specs.declared.event.Event.TheVariants.{Joined, Refused, Ended}
 use Rattle.bsc_accept.specs.declared.step.Step.{Step}
 use Rattle.bsc_accept.specs.declared.step.Step.TheVariants.{Ask, Reply, ReplyClose, Carry, Close, Nothing}
-use Rattle.bsc_accept.specs.Past.{Standing, awaiting_request, connected, disconnecting, standing, phase_named}
+use Rattle.bsc_accept.specs.Past.{Standing, connected, standing, phase_named}
 use Rattle.bsc_accept.specs.Kept.{moved}
 use Rattle.bsc_accept.specs.Steps.{step, closes as is_closing, ended_step, refused_step}
 use Rattle.bsc_accept.specs.Standing.{StandsFor as MachineStandsFor, IsConnected, LeftBy, is_open}
@@ -41,12 +40,16 @@ use Rattle.bsc_world.specs.Standing.{AreReadyBut, StandsAs}
 use Rattle.bsc_world.specs.Becoming.{Became, Goes, HasSide, Keeps, Stands, ends}
 use Rattle.bsc_world.specs.Sides.{IsReadyBy, IsSideOf, KeepsSides}
 use Rattle.bsc_world.specs.SideCalls.{Finds, HasNoSession, HasSession, Tells, asks}
-use Rattle.bsc_network.proofs.Places.{get-changed, get-set_here, get-set_other}
+use Rattle.bsc_network.proofs.Places.{get-changed, get-set_other}
 use Rattle.bsc_world.proofs.Spots.{LinkChange, link_changed}
 use Rattle.bsc_world.proofs.Goings.{at_clock, became_as, became_both, became_same, busy_more, goes_both, settles}
 use Rattle.bsc_world.proofs.LinkWays.{link_there, map-changed}
 use Rattle.bsc_world.proofs.OfSides.{no_link_at, of_side_is, of_side_node, of_side_none, side_at, unless_over_gone, unless_over_is}
 use Rattle.bsc_world.proofs.LeaveCalls.{OnLink}
+use Rattle.bsc_accept.proofs.Common.{awaits_not}
+use Rattle.bsc_lemmas.proofs.Lists.{get-set as get-set_here}
+use Rattle.bsc_network.proofs.Common.{unless_nothing as unless_unchanged}
+use Rattle.std.proofs.lemmas.Option.{same_Some as some_same}
 
 -- ---- sessions
 
@@ -85,13 +88,6 @@ unless_none w l change none =
     elim (session_or_none w l) [
       | inl x ↦ absurd (none x.0 x.1 x.2 x.3)
       | inr same ↦ same change
-    ]
-
-unless_unchanged : (l : ℕ) (w : World) → unless_over l unchanged w ≡ w
-unless_unchanged l w =
-    elim (session_or_none w l) [
-      | inl x ↦ unless_over_is w l x.0 x.1 x.2 unchanged x.3
-      | inr same ↦ same unchanged
     ]
 
 -- two changes of a session are one, where the first leaves it lasting
@@ -337,11 +333,6 @@ machine_told t l kept after s e was p (F, w, at, st) =
     let k : IsSideKept l x.hub x.at.marks x.at.kept.desk x.link p.was = subst (IsSideKeptIf l x.hub x.at.marks x.at.kept.desk x.link) p.there x.side in
     let a = p.answers (start x.hub x.link) x.link.side.events k.machine in
     (start x.hub x.link, x.link.side.events, k.machine, a.0, a.1)
-
-awaits_not : (g : Standing) → phase_named (moved g Joined) ≡ AwaitingRequest → ⊥
-awaits_not awaiting_request e = cc
-awaits_not connected e = cc
-awaits_not (disconnecting f) e = cc
 
 pub joined_ready : (t : KeptWorld) (l : ℕ) (kept after : KeptLink) (s : Step) → slice_get t.links.items l ≡ Some kept → (p : Tells s Joined kept after) → Stands (Some l) t → (asks s ≡ false) × IsReadyBy s (record p.was { machine = p.machine })
 joined_ready t l kept after s was p st =

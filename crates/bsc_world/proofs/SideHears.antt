@@ -1,27 +1,20 @@
 -- What a message that comes to a hub's side leaves of a world.
-use Rattle.std.proofs.Common.{◌≡◌, ◌≤◌, ◌⊎◌, inl, inr, ℕ, Bool, true, false, cond, List, [], ◌∷◌, ◌++◌, length, set, slice_get, Option, Some, None, IfSome, true≢false, refl, ap, sym, ◌∙◌, subst}
+use Rattle.std.proofs.Common.{◌≡◌, ◌≤◌, ◌⊎◌, inl, inr, ℕ, false, List, [], ◌∷◌, ◌++◌, length, set, slice_get, Option, Some, None, IfSome, true≢false, refl, ap, sym, ◌∙◌, subst}
 use Rattle.std.proofs.lemmas.Option.{slice_get_past}
-use Rattle.bsc_direct.proofs.OneMore.{some_same}
 use Rattle.bsc_octets.specs.declared.identity.Identity.{Identity}
-use Rattle.bsc_octets.specs.declared.envelope.Envelope.{Envelope}
 use Rattle.bsc_octets.specs.Addresses.{zero_vmac, broadcast}
-use Rattle.bsc_frame.specs.declared.body.Body.{Body}
-use Rattle.bsc_frame.specs.declared.body.Body.TheVariants.{HeartbeatRequest, DisconnectRequest}
-use Rattle.bsc_frame.specs.declared.message.Message.{Message}
 use Rattle.bsc_checks.specs.declared.phase.Phase.{Phase}
 use Rattle.bsc_checks.specs.declared.phase.Phase.TheVariants.{AwaitingRequest}
 use Rattle.bsc_checks.specs.declared.place.Place.TheVariants.{HubPort}
 use Rattle.bsc_checks.specs.declared.verdict.Verdict.{Verdict}
-use Rattle.bsc_checks.specs.declared.verdict.Verdict.TheVariants.{Pass, Carry as Carried, Silent, Nak}
 use Rattle.bsc_checks.specs.Verdicts.{Judged}
 use Rattle.bsc_accept.specs.declared.start.Start.{Start}
 use Rattle.bsc_accept.specs.declared.event.Event.{Event}
 use Rattle.bsc_accept.specs.declared.event.Event.TheVariants.{Message as Came}
 use Rattle.bsc_accept.specs.declared.step.Step.{Step}
 use Rattle.bsc_accept.specs.declared.step.Step.TheVariants.{Ask, Reply, ReplyClose, Carry, Close, Nothing}
-use Rattle.bsc_accept.specs.Messages.{who_asks, is_farewell_answer}
-use Rattle.bsc_accept.specs.Past.{Standing, awaiting_request, connected, disconnecting, standing, phase, phase_named}
-use Rattle.bsc_accept.specs.Steps.{message_step, ask_step, connected_step, normal}
+use Rattle.bsc_accept.specs.Past.{Standing, awaiting_request, standing, phase, phase_named}
+use Rattle.bsc_accept.specs.Steps.{message_step}
 use Rattle.bsc_accept.specs.Standing.{StandsFor as MachineStandsFor, IsOpen, IsOver, phase_of, is_open}
 use Rattle.bsc_verdict.specs.Outcomes.{outcome_of}
 use Rattle.bsc_script.proofs.Judging.{routed, asking_node, other_vmac}
@@ -46,52 +39,10 @@ use Rattle.bsc_world.proofs.Goings.{at_clock, became_as, became_both, became_sam
 use Rattle.bsc_world.proofs.OfSides.{of_side_is, side_at, unless_over_is}
 use Rattle.bsc_world.proofs.LeaveCalls.{OnLink}
 use Rattle.bsc_world.proofs.SideCalls.{alone_session, busy_stands, is_told, machine_told, open_by, past_session, side_with, told_side, unless_none}
+use Rattle.bsc_accept.proofs.Common.{asks_by, carries_by}
+use Rattle.std.proofs.lemmas.Option.{same_Some as some_same}
 
 -- ---- which messages lead to which steps
-
-asked_by : (o : Option Identity) (who : Identity) → Ask who ≡ ask_step o → o ≡ Some who
-asked_by None who e = cc
-asked_by (Some w) who e = cc
-
-not_asked_connected : (id : ℕ) (body : Body) (who : Identity) → Ask who ≡ connected_step id body → ⊥
-not_asked_connected id HeartbeatRequest who e = cc
-not_asked_connected id DisconnectRequest who e = cc
-not_asked_connected id body who e = cc
-
-not_asked_parting : (b : Bool) (who : Identity) → Ask who ≡ cond b (Close normal) Nothing → ⊥
-not_asked_parting true who e = cc
-not_asked_parting false who e = cc
-
--- A step that asks comes of a message that passed, before anybody joined.
-asks_by : (g : Standing) (v : Verdict) (who : Identity) → Ask who ≡ message_step g v → (msg : Message) × (v ≡ Pass msg) × (g ≡ awaiting_request) × (who_asks msg.body ≡ Some who)
-asks_by awaiting_request (Pass msg) who e = (msg, refl, refl, asked_by (who_asks msg.body) who e)
-asks_by connected (Pass msg) who e = absurd (not_asked_connected msg.id msg.body who e)
-asks_by (disconnecting f) (Pass msg) who e = absurd (not_asked_parting (is_farewell_answer f.id msg) who e)
-asks_by g (Carried envelope) who e = cc
-asks_by g (Silent check) who e = cc
-asks_by g (Nak check octets) who e = cc
-
-not_carried_asked : (o : Option Identity) → Carry ≡ ask_step o → ⊥
-not_carried_asked None e = cc
-not_carried_asked (Some w) e = cc
-
-not_carried_connected : (id : ℕ) (body : Body) → Carry ≡ connected_step id body → ⊥
-not_carried_connected id HeartbeatRequest e = cc
-not_carried_connected id DisconnectRequest e = cc
-not_carried_connected id body e = cc
-
-not_carried_parting : (b : Bool) → Carry ≡ cond b (Close normal) Nothing → ⊥
-not_carried_parting true e = cc
-not_carried_parting false e = cc
-
--- A step that carries comes of a message that is to be carried.
-carries_by : (g : Standing) (v : Verdict) → Carry ≡ message_step g v → (e : Envelope) × (v ≡ Carried e)
-carries_by g (Carried envelope) e = (envelope, refl)
-carries_by awaiting_request (Pass msg) e = absurd (not_carried_asked (who_asks msg.body) e)
-carries_by connected (Pass msg) e = absurd (not_carried_connected msg.id msg.body e)
-carries_by (disconnecting f) (Pass msg) e = absurd (not_carried_parting (is_farewell_answer f.id msg) e)
-carries_by g (Silent check) e = cc
-carries_by g (Nak check octets) e = cc
 
 -- ---- what is known of the step
 

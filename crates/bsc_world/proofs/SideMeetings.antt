@@ -1,7 +1,6 @@
 -- The sides of a hub meet it, one after the other, once it has passed a message on.
-use Rattle.std.proofs.Common.{◌≡◌, ◌≢◌, ◌≤◌, ◌<◌, inl, inr, ℕ, Bool, true, false, cond, List, [], ◌∷◌, ◌++◌, length, map, set, slice_get, Option, Some, None, refl, ap, sym, ◌∙◌, subst, length-set}
+use Rattle.std.proofs.Common.{◌≡◌, ◌≢◌, ◌≤◌, inl, inr, ℕ, Bool, true, false, cond, List, [], ◌∷◌, ◌++◌, length, map, set, slice_get, Option, Some, None, refl, ap, sym, ◌∙◌, subst, length-set}
 use Rattle.std.proofs.lemmas.Bool.{both_ways}
-use Rattle.bsc_direct.proofs.OneMore.{some_same}
 use Rattle.bsc_history.specs.declared.call.Call.TheVariants.{Forward}
 use Rattle.bsc_history.specs.declared.entry.Entry.{Entry}
 use Rattle.bsc_history.specs.declared.mark.Stamped.{Stamped}
@@ -34,9 +33,12 @@ use Rattle.bsc_network.specs.HubSides.{start}
 use Rattle.bsc_world.specs.Passing.{ConnMet, ConnMetIf, LinkMet, MayMeet, Midway, SameEnd, SideMetIf, gains, hub_then, looked_at, receivers}
 use Rattle.bsc_world.specs.Kept.{IsConnKept, IsConnKeptIf, IsHubKept, IsSideKept, IsSideKeptIf}
 use Rattle.bsc_world.specs.Standing.{IsHubAt, IsJoinedBy}
-use Rattle.bsc_network.proofs.Places.{get-set_here, get-set_other, one_or_two}
+use Rattle.bsc_network.proofs.Places.{get-set_other, one_or_two}
 use Rattle.bsc_world.proofs.Entering.{conn_more, history-more}
 use Rattle.bsc_world.proofs.QuietEntries.{legal_at, one_owner}
+use Rattle.bsc_lemmas.proofs.Lists.{get-set as get-set_here}
+use Rattle.bsc_lemmas.proofs.Options.{not_some}
+use Rattle.std.proofs.lemmas.Option.{same_Some as some_same}
 
 -- ---- another desk
 
@@ -142,12 +144,6 @@ desk_met d n (Some side) after place passing q = by side.joined q.0.joined refl 
     }
 
 -- ---- one link
-
-not_some : {A : Type 0} (o : Option A) (x : A) → o ≡ None → o ≡ Some x → ⊥
-not_some o x none some = (let bad : None ≡ Some x = sym none ∙ some in cc)
-
-same_end : (j : ℕ) (k : KeptLink) → SameEnd j k k
-same_end j k = record { from = refl; to = refl; up = refl; down = refl; lost = refl; apart = λ other. refl; machine = λ s is. (s, is, refl, λ c joined. (c, joined)) }
 
 conn_before : (d n : Desk) (place : ℕ) (passing : Passing) (o p : Option KeptConn) (c : KeptConn) → ConnMetIf d n passing place o p → p ≡ Some c → (b : KeptConn) × (o ≡ Some b)
 conn_before d n place passing None p c q is = absurd (not_some p c q.0 is)

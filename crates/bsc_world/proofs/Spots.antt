@@ -3,7 +3,6 @@ use Rattle.std.proofs.Common.{◌≡◌, ◌≢◌, ◌≤◌, ◌<◌, ◌⊎�
 use Rattle.std.specs.List.{AllByRecursion}
 use Rattle.std.specs.Option.{option_map}
 use Rattle.bsc_node_core.specs.Tables.{is_name}
-use Rattle.bsc_direct.proofs.OneMore.{some_same}
 use Rattle.bsc_history.specs.declared.mark.Stamped.{Stamped}
 use Rattle.bsc_desk.specs.declared.desk.Desk.{Desk}
 use Rattle.bsc_node.specs.declared.link_name.LinkName.{LinkName}
@@ -15,7 +14,9 @@ use Rattle.bsc_network.specs.Worlds.{World, Hub, Node, Link, node_at, link_at}
 use Rattle.bsc_network.specs.Changes.{changed_at, with_node, with_link}
 use Rattle.bsc_world.specs.Kept.{IsNodeKept, IsCalm, IsLinkKept, IsSideKeptIf}
 use Rattle.bsc_world.specs.Standing.{IsJoinedBy, IsNodeAt, IsLinkAt, AreReadyBut, AreSidesKept, StandsAs}
-use Rattle.bsc_network.proofs.Places.{one_or_two, get-changed, get-other, get-set_here, get-set_other, length-changed}
+use Rattle.bsc_network.proofs.Places.{one_or_two, get-changed, get-other, get-set_other, length-changed}
+use Rattle.bsc_lemmas.proofs.Lists.{get-set as get-set_here}
+use Rattle.std.proofs.lemmas.Option.{same_Some as some_same}
 
 -- ---- the whole
 

@@ -16,7 +16,7 @@ use Rattle.bsc_network.specs.Settings.{Added}
 use Rattle.bsc_network.specs.Worlds.{World, Hub, Node, Link, history, hub_at, link_at, new_world, node_at}
 use Rattle.bsc_network.specs.Networks.{at_time, counts_step, dialled_from, does, does_unless, makes, world}
 use Rattle.bsc_network.specs.Refusals.{has_front, has_outbox, is_own, is_timely, refusal, refuses_event, refuses_link, refuses_stop, unless}
-use Rattle.bsc_network.specs.Courses.{HasContent, MayMake, MayMakeAll, end_time}
+use Rattle.bsc_network.specs.Courses.{HasContent}
 use Rattle.bsc_world.specs.Stepping.{IsMade, IsOwnStep, Made}
 use Rattle.bsc_node.specs.declared.node_event.NodeEvent.TheVariants.{Start, Tick, Send, Resolve, DirectTo, Solicit, Finish, Opened, DialFailed, Arrived, Came, CameText, Lost, Random, NoRandom}
 use Rattle.bsc_history.specs.declared.call.Call.TheVariants.{Stop as StopCall}
@@ -24,20 +24,14 @@ use Rattle.bsc_world.specs.declared.doing.Doing.{Doing}
 use Rattle.bsc_network.specs.Changes.{Change}
 use Rattle.bsc_network.specs.HubCalls.{called}
 use Rattle.bsc_world.specs.Coming.{MayBring}
-use Rattle.bsc_world.specs.Becoming.{Became, BecomesWhere, Did, Does, DoesWhere, IsToldSince, StandsDoing}
+use Rattle.bsc_world.specs.Becoming.{Became, BecomesWhere, Did, DoesWhere, IsToldSince, StandsDoing}
 use Rattle.bsc_world.proofs.Goings.{did_became}
 use Rattle.bsc_world.specs.Standing.{Leaves, Says, StandsAs, StandsFor, StandsForSome, Steps, is_spent, timed}
 use Rattle.bsc_world.proofs.Spots.{stands_moved}
+use Rattle.bsc_lemmas.proofs.Lists.{drop_all}
+use Rattle.bsc_network.proofs.Common.{all_more, end_more}
 
 -- ---- the course
-
-end_more : (before : ℕ) (steps : List TimedStep) (t : TimedStep) → end_time before (steps ++ t ∷ []) ≡ t.now
-end_more before [] t = refl
-end_more before (x ∷ steps) t = end_more x.now steps t
-
-all_more : (before : ℕ) (steps : List TimedStep) (t : TimedStep) → MayMakeAll before steps → MayMake (end_time before steps) t → MayMakeAll before (steps ++ t ∷ [])
-all_more before [] t all may = (may, tt)
-all_more before (x ∷ steps) t all may = (all.0, all_more x.now steps t all.1 may)
 
 world_more : (added : List Added) (steps : List TimedStep) (t : TimedStep) → world added (steps ++ t ∷ []) ≡ makes (world added steps) t
 world_more added steps t = fold-append makes (new_world added) steps (t ∷ [])
@@ -67,10 +61,6 @@ own_step w (Take l) h = tt
 own_step w (Stop j) h = tt
 
 -- ---- before the step
-
--- the network at the time of a world
-pub at_clock : KeptWorld → List Added → List TimedStep → World
-at_clock t added steps = at_time t.clock (world added steps)
 
 pub stands_now : (t : KeptWorld) (added : List Added) (steps : List TimedStep) → StandsFor t added steps → StandsAs t [] None (at_time t.clock (world added steps))
 stands_now t added steps f =
@@ -189,9 +179,6 @@ own_brings (Lost name) p = cc
 own_brings (Random word) p = cc
 own_brings NoRandom p = cc
 
-pub where_does : (P : World → Type 0) (f : Change) (t u : KeptWorld) (d e : Doing) → Does f t d u e → DoesWhere P f t d u e
-where_does P f t u d e p base w at s told may = p base w at s told
-
 pub take_does : (P : World → Type 0) (f : Change) (t u : KeptWorld) (d : Doing) → BecomesWhere P f t u → DoesWhere P f t d u d
 take_does P f t u d p base w at s told may = did_became t u d base w (f w) told (p d.failed.items w at s may)
 
@@ -208,10 +195,6 @@ stop_does by_link t u j d p base w at s told may =
     may_stop : (o : Option Hub) → refuses_stop o ≡ None → (h : Hub) × (o ≡ Some h) × (is_stopped (history h) ≡ false)
     may_stop None e = cc
     may_stop (Some h) e = (h, refl, lasts (is_stopped (history h)) e)
-
-drop_all : {A : Type 0} (xs : List A) → drop (length xs) xs ≡ []
-drop_all [] = refl
-drop_all (x ∷ xs) = drop_all xs
 
 told_nothing : (w : World) (d : Doing) → d.dialled.items ≡ [] → d.deliveries.items ≡ [] → IsToldSince w w d
 told_nothing w d dialled deliveries = record {

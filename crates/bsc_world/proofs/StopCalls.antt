@@ -1,7 +1,6 @@
 -- A hub of a network stops.
 use Rattle.std.proofs.Common.{◌≡◌, ◌==◌, ◌&&◌, ℕ, true, false, List, [], ◌∷◌, ◌++◌, length, set, get_or, slice_get, Some, None, refl, ap, sym, ◌∙◌, subst, length-set}
 use Rattle.std.specs.List.{list_any}
-use Rattle.bsc_direct.proofs.OneMore.{some_same}
 use Rattle.bsc_node.specs.declared.link_name.LinkName.{LinkName}
 use Rattle.bsc_history.specs.declared.call.Call.TheVariants.{Stop}
 use Rattle.bsc_history.specs.declared.connection.Connection.{Connection}
@@ -26,10 +25,12 @@ use Rattle.bsc_network.specs.HubCalls.{called, entry_in, no_link}
 use Rattle.bsc_world.specs.HubEntries.{HasStopped}
 use Rattle.bsc_world.specs.Standing.{IsHubAt, StandsAs}
 use Rattle.bsc_world.specs.Becoming.{Became}
-use Rattle.bsc_network.proofs.Places.{get-set_here, get-set_other}
+use Rattle.bsc_network.proofs.Places.{get-set_other}
 use Rattle.bsc_world.proofs.Entering.{history-more, with_entry}
 use Rattle.bsc_world.proofs.OneHub.{HubChange, SameKept, SameLink, hub_changed, read_there, same_kept, same_link}
 use Rattle.bsc_world.proofs.QuietEntries.{IsQuiet, entry_is, hub_entered, lawful_at, legal_at, side_quiet}
+use Rattle.bsc_lemmas.proofs.Lists.{get-set as get-set_here}
+use Rattle.std.proofs.lemmas.Option.{same_Some as some_same}
 
 stop_adds_none : (h : Hub) (k : Counts) (c : ℕ) → added h.about (moment (history h) (stop_entry no_link k)) (sent h.about (history h) c) c ≡ []
 unfolding added_by

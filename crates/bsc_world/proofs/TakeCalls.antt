@@ -5,12 +5,10 @@ use Rattle.std.specs.Option.{option_map}
 use Rattle.std.proofs.lemmas.Bool.{and_parts}
 use Rattle.std.proofs.lemmas.List.{drop-drop}
 use Rattle.std.proofs.lemmas.Option.{slice_get_read}
-use Rattle.bsc_direct.proofs.OneMore.{some_same}
 use Rattle.bsc_node.specs.declared.link_name.LinkName.{LinkName}
 use Rattle.bsc_history.specs.declared.limits.About.{About}
 use Rattle.bsc_history.specs.declared.entry.Entry.{Entry}
 use Rattle.bsc_history.specs.declared.ending.End.{End}
-use Rattle.bsc_history.specs.declared.ending.End.TheVariants.{Left}
 use Rattle.bsc_history.specs.declared.mark.Stamped.{Stamped}
 use Rattle.bsc_history.specs.Ends.{ended}
 use Rattle.bsc_history.specs.Legality.{is_of}
@@ -18,8 +16,6 @@ use Rattle.bsc_history.specs.Marks.{entries as entries_of, mark_of}
 use Rattle.bsc_history.specs.Outboxes.{sent, vmac_of}
 use Rattle.bsc_ring.specs.Ends.{empties_of, given}
 use Rattle.bsc_ring.specs.Lists.{StartsWith}
-use Rattle.bsc_checks.specs.declared.phase.Phase.{Phase}
-use Rattle.bsc_checks.specs.declared.phase.Phase.TheVariants.{Connected}
 use Rattle.bsc_desk.specs.declared.desk.Desk.{Desk}
 use Rattle.bsc_desk.specs.Live.{known_in}
 use Rattle.bsc_desk.specs.Meetings.{IsOutletOf}
@@ -50,28 +46,28 @@ use Rattle.bsc_world.specs.declared.kept_link.KeptSide.{KeptSide}
 use Rattle.bsc_world.specs.declared.taking.Took.{Took}
 use Rattle.bsc_world.specs.declared.taking.Took.TheVariants.{Frame, Empty, Closed}
 use Rattle.bsc_world.specs.declared.world.World.{World as KeptWorld}
-use Rattle.bsc_world.specs.Kept.{IsConnKept, IsConnKeptIf, IsHubKept, IsLinkKept, IsReady, IsSideKept, IsSideKeptIf, places_of, takes_in}
+use Rattle.bsc_world.specs.Kept.{IsConnKept, IsHubKept, IsLinkKept, IsReady, IsSideKept, IsSideKeptIf, places_of, takes_in}
 use Rattle.bsc_world.specs.Standing.{AreReadyBut, IsHubAt, StandsAs}
 use Rattle.bsc_world.specs.Becoming.{Became, BecomesWhere, Keeps, Stands, ends}
 use Rattle.bsc_world.specs.HubEntries.{LeadsTo}
 use Rattle.bsc_world.specs.Sides.{IsSideOf}
 use Rattle.bsc_world.specs.Takes.{LinkTook, MayTake, OwnsOutlet, SideTook, StaysMet, TookAt, TookOne, WasTaken}
-use Rattle.bsc_network.proofs.Places.{get-changed, get-other, get-set_here, get-set_other, length-changed, one_or_two}
+use Rattle.bsc_network.proofs.Places.{get-changed, get-other, get-set_other, length-changed, one_or_two}
 use Rattle.bsc_world.proofs.Goings.{at_clock, became_as, became_both}
 use Rattle.bsc_world.proofs.LeaveCalls.{OnLink, changed-same}
 use Rattle.bsc_world.proofs.LinkWays.{link_there, map-changed}
 use Rattle.bsc_world.proofs.NextFrames.{next_frame, no_frame}
-use Rattle.bsc_world.proofs.OfSides.{SideAt, got-at, of_side_is, side_at, unless_over_is}
+use Rattle.bsc_world.proofs.OfSides.{SideAt, of_side_is, side_at, unless_over_is}
 use Rattle.bsc_world.proofs.OneHub.{HubChange, SameKept, SameLink, hub_changed, read_there, same_kept, same_link}
 use Rattle.bsc_world.proofs.QuietEntries.{legal_at, one_owner}
 use Rattle.bsc_world.proofs.Refused.{outbox_kept}
 use Rattle.bsc_world.proofs.SideMeetings.{side_desk}
+use Rattle.bsc_lemmas.proofs.Lists.{get-set as get-set_here, got-at}
+use Rattle.bsc_script.proofs.Common.{connected_only}
+use Rattle.bsc_world.proofs.Common.{conn_at as conn_of}
+use Rattle.std.proofs.lemmas.Option.{same_Some as some_same}
 
 -- ---- whether a take is refused
-
-connected_only : (p : Phase) → is_connected p ≡ true → p ≡ Connected
-connected_only Connected e = refl
-connected_only p e = cc
 
 -- A link whose side may take is there.
 outbox_there : (w : World) (l : ℕ) → refusal w (Take l) ≡ None → (link : Link) × (link_at w l ≡ Some link) × (has_outbox link ≡ true)
@@ -121,11 +117,6 @@ taken_never t F w l kept was not s may =
     true≢false (sym (and_parts (leads_to_hub kept.to) (takes_in kept.side) (has ∙ x.2)).1 ∙ not)
 
 -- ---- the outlet
-
-conn_of : (l : ℕ) (h : Hub) (S : List Stamped) (d : Desk) (link : Link) (o : Option KeptSide) (side : KeptSide) (k : KeptConn) → IsSideKeptIf l h S d link o → o ≡ Some side → side.joined ≡ Some k → IsConnKept l h S d link.side k
-conn_of l h S d link o side k p is joined =
-    let q : IsSideKept l h S d link side = subst (IsSideKeptIf l h S d link) is p in
-    subst (IsConnKeptIf l h S d link.side) joined q.joined
 
 owns_at : (l j : ℕ) (h : Hub) (S : List Stamped) (kept : KeptHub) (s : HubSide) (k : KeptConn) → IsHubKept j h S kept → IsConnKept l h S kept.desk s k → OwnsOutlet kept.desk S k
 owns_at l j h S kept s k p q = record {
@@ -441,14 +432,6 @@ takes_frame t u v l place frame p put F w at s may =
     (sym (takes_is w l x.0 x.1 x.2 x.3 x.4 x.5 ∙ ap (λ (e : Option FrameOf). takes_next l e (ended (history x.1) x.3) w) x.6.0))
     (became_both t u v F None None w taken_then (puts_at l Down place (Message frame) taken_then) x.6.1 (put None F taken_then (at_clock t u F None w taken_then at x.6.1) x.6.1.stands))
 
--- the outbox was found empty
-pub takes_nothing : (t u : KeptWorld) (l : ℕ) → ((F : List LinkName) (w : World) → w.now ≡ t.clock → StandsAs t F None w → WasTaken (Some Empty) t u F w l) → BecomesWhere (λ w. refusal w (Take l) ≡ None) (takes l) t u
-takes_nothing t u l p F w at s may =
-    let x = p F w at s in
-    became_as t u F None w (with_side l (λ z. record z { empties = empties_after None z.empties }) w) (takes l w)
-    (sym (takes_is w l x.0 x.1 x.2 x.3 x.4 x.5 ∙ ap (λ (e : Option FrameOf). takes_next l e (ended (history x.1) x.3) w) x.6.0 ∙ ap (λ (e : Option End). takes_next l None e w) x.6.1))
-    x.6.2
-
 -- the connection has ended, and the machine was told
 pub takes_end : (t u v : KeptWorld) (l : ℕ) (ending : End) → ((F : List LinkName) (w : World) → w.now ≡ t.clock → StandsAs t F None w → WasTaken (Some (Closed ending)) t u F w l)
     → ((F : List LinkName) (w : World) → w.now ≡ u.clock → StandsAs u F None w → Became u v F None w (unless_over l (tells l (Ended w.now ending)) w)) → BecomesWhere (λ w. refusal w (Take l) ≡ None) (takes l) t v
@@ -459,11 +442,3 @@ takes_end t u v l ending p told F w at s may =
     (unless_over_is w l x.0 x.1 x.2 e x.4
     ∙ sym (takes_is w l x.0 x.1 x.2 x.3 x.4 x.5 ∙ ap (λ (d : Option FrameOf). takes_next l d (ended (history x.1) x.3) w) x.6.0 ∙ ap (λ (d : Option End). takes_next l None d w) x.6.1))
     (became_both t u v F None None w w (unless_over l e w) x.6.3 (told F w (at_clock t u F None w w at x.6.3) x.6.3.stands))
-
--- The end that a take found isn't that by which the connection left; a network stands then, too.
-pub taken_ending : (t u : KeptWorld) (l : ℕ) (ending : End) → ((F : List LinkName) (w : World) → w.now ≡ t.clock → StandsAs t F None w → WasTaken (Some (Closed ending)) t u F w l) → Stands None t → (ending ≢ Left) × Stands None u
-taken_ending t u l ending p (F, w, at, s) = (let x = p F w at s in (x.6.2, (F, w, at_clock t u F None w w at x.6.3, x.6.3.stands)))
-
--- nothing was taken, and so the take is refused
-pub takes_refused : (t u : KeptWorld) (l : ℕ) → ((F : List LinkName) (w : World) → w.now ≡ t.clock → StandsAs t F None w → WasTaken None t u F w l) → BecomesWhere (λ w. refusal w (Take l) ≡ None) (takes l) t u
-takes_refused t u l p F w at s may = absurd (p F w at s may)

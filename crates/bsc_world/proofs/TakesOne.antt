@@ -1,50 +1,29 @@
 -- A take from an outbox: what its outlet gave, and what the desk knows of it.
-use Rattle.std.proofs.Common.{◌≡◌, ◌≢◌, ℕ, ◌+◌, drop, slice_get, List, [], ◌∷◌, ◌++◌, length, Option, Some, None, refl, ap, sym, ◌∙◌, subst, arith, append-nil, length-append}
+use Rattle.std.proofs.Common.{◌≡◌, ◌≢◌, ℕ, drop, slice_get, List, [], ◌∷◌, ◌++◌, length, Option, Some, None, ap, sym, ◌∙◌, subst}
 use Rattle.bsc_history.specs.declared.ending.End.{End}
 use Rattle.bsc_history.specs.declared.ending.End.TheVariants.{Left}
 use Rattle.bsc_history.specs.declared.mark.Stamped.{Stamped}
 use Rattle.bsc_history.specs.Ends.{ended}
 use Rattle.bsc_history.specs.Marks.{entries}
-use Rattle.bsc_history.specs.Outboxes.{sent}
 use Rattle.bsc_ring.specs.declared.ends.Outlet.{Outlet}
 use mathlib.Core.Option.{some}
 use lib.ListN.{get_elem?}
-use Rattle.bsc_ring.specs.declared.found.Found.{Found}
 use Rattle.bsc_ring.specs.declared.found.Found.TheVariants.{Ending, Tail}
 use Rattle.bsc_ring.specs.declared.take.Take.TheVariants.{Frame, Empty, Closed}
 use Rattle.bsc_ring.specs.Ends.{GaveAll, Took, found, given, empties_of, outlet_mark}
-use Rattle.bsc_ring.specs.Lists.{StartsWith}
 use Rattle.bsc_desk.specs.declared.desk.Desk.{Desk}
-use Rattle.bsc_desk.specs.Meetings.{IsOutletOf, KnowsOutbox}
+use Rattle.bsc_desk.specs.Meetings.{IsOutletOf}
 use Rattle.bsc_desk.specs.Rows.{HasRow, IsMarkOf, known_of}
 use Rattle.bsc_desk.proofs.Rowed.{has_unleft, is_mark_of}
 use Rattle.bsc_script.specs.Emptying.{empties_after}
 use Rattle.bsc_world.specs.declared.kept_link.KeptConn.{KeptConn}
 use Rattle.bsc_world.specs.Takes.{Meets, OwnsOutlet, StaysMet, TookNext, TookNone}
+use Rattle.bsc_desk.proofs.Common.{gave_all}
+use Rattle.bsc_ring.proofs.Common.{at_end}
 
 -- what a meeting asks
 pub owns_meets : (d : Desk) (S : List Stamped) (k : KeptConn) → OwnsOutlet d S k → HasRow d k.conn × IsMarkOf d k.conn (outlet_mark k.outlet)
 owns_meets d S k w = (has_unleft d S k.conn w.stands w.unleft, is_mark_of d S k.conn (outlet_mark k.outlet) w.stands w.marked)
-
--- lists that begin with each other are one
-same_fronts : (xs ys : List (List ℕ)) → StartsWith xs ys → StartsWith ys xs → xs ≡ ys
-same_fronts xs ys v w =
-    let a : length xs ≡ length ys + length v.0 = ap length v.1 ∙ length-append ys v.0 in
-    let b : length ys ≡ length xs + length w.0 = ap length w.1 ∙ length-append xs w.0 in
-    v.1 ∙ ap (λ (l : List (List ℕ)). ys ++ l) (none v.0 (omega arith)) ∙ append-nil ys
-  where
-    none : (l : List (List ℕ)) → length l ≡ 0 → l ≡ []
-    none [] h = refl
-    none (x ∷ l) h = cc
-
--- After a meeting all that entered is known, so a take that gives nothing gave all.
-gave_all : (d : Desk) (S : List Stamped) (c : ℕ) (o p : Outlet) (e : Option End) → IsOutletOf d.about (entries S) c o → KnowsOutbox d.about (entries S) c o → GaveAll o e p → given p ≡ sent d.about (entries S) c
-gave_all d S c o p e h k g =
-    g.0 ∙ same_fronts (given o) (sent d.about (entries S) c) (subst (StartsWith (given o)) k.items g.2) h.begins
-
-at_end : (xs ys : List Found) (y : Found) → get_elem? (xs ++ y ∷ ys) (length xs) ≡ some y
-at_end [] ys y = refl
-at_end (x ∷ xs) ys y = at_end xs ys y
 
 module _ (S : List Stamped) (d n : Desk) (i j : KeptConn) (w : OwnsOutlet d S i) (m : Meets d n i j) where
   -- the outlet that met owns what it did

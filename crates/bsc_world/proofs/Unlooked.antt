@@ -1,5 +1,5 @@
 -- What a forward leaves of the connections at which it doesn't look.
-use Rattle.std.proofs.Common.{◌≡◌, ◌≢◌, inl, inr, ℕ, zero, suc, ◌+◌, ◌<◌, ◌==◌, Bool, true, false, not, ◌&&◌, ◌||◌, cond, List, [], ◌∷◌, ◌++◌, length, map, filter, fold, take, slice_get, get_or, Option, Some, None, is_none, is_some, refl, ap, sym, ◌∙◌, arith}
+use Rattle.std.proofs.Common.{◌≡◌, ◌≢◌, inl, inr, ℕ, zero, suc, ◌+◌, ◌==◌, Bool, true, false, not, ◌&&◌, ◌||◌, cond, List, [], ◌∷◌, ◌++◌, map, filter, fold, take, slice_get, get_or, Option, Some, None, is_none, is_some, refl, ap, sym, ◌∙◌, arith}
 use Rattle.std.specs.List.{list_any, AllByRecursion}
 use Rattle.std.proofs.Math.Seq.{take-suc}
 use Rattle.std.proofs.lemmas.Bool.{and_from, and_parts, and_right, both_ways, false_from_ne_true}
@@ -20,16 +20,13 @@ use Rattle.bsc_history.specs.Outboxes.{added, added_by, is_found_full, is_too_lo
 use Rattle.bsc_history.specs.Replies.{is_stopped, numbers}
 use Rattle.bsc_history.proofs.Finding.{fits}
 use Rattle.bsc_history.proofs.Lists.{In, In_from_all, any_In, any_gives}
-use Rattle.bsc_history.proofs.More.{looked-more, or_false}
+use Rattle.bsc_history.proofs.More.{looked-more}
 use Rattle.bsc_history.proofs.Named.{among_filter, live_until_ended, none_live}
 use Rattle.bsc_script.proofs.Pairs.{In-at}
 use Rattle.bsc_script.proofs.Touched.{among_In, looks_apart, newest_of}
+use Rattle.bsc_lemmas.proofs.Booleans.{not_or, or_false}
 
 -- ---- one connection
-
-not_or : (x y : Bool) → not (x || y) ≡ true → not x ≡ true
-not_or true y h = h
-not_or false y h = refl
 
 -- whom no look names keeps what was found of it
 pub newest_kept : (c : ℕ) (looks : List Look) (n : ℕ) → is_among c (map (λ k. k.conn) looks) ≡ false → fold (newer c) n looks ≡ n

@@ -8,8 +8,9 @@ use Rattle.bsc_audit.specs.Hearing.{HasHeard, HasHeardAll}
 use Rattle.bsc_audit.specs.Taking.{StopsAtEnd, StopsWithin}
 use Rattle.bsc_audit.specs.Verdicts.{AnswersOf}
 use Rattle.bsc_audit.proofs.SoFar.{heard_more}
-use Rattle.bsc_audit.proofs.Stopping.{consumes_both, consumes_none, if_err, if_ok, risen_since, says_nothing, stops_at_end, stops_within}
+use Rattle.bsc_audit.proofs.Stopping.{consumes_both, consumes_none, if_err, if_ok, says_nothing, stops_at_end, stops_within}
 use Rattle.bsc_audit.proofs.taking.take_in.Goals as goal
+use Rattle.bsc_outside.proofs.Common.{risen_from as risen_since}
 
 pub reading-init : goal.reading-init
 reading-init g c = record {

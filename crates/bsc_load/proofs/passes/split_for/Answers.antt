@@ -2,9 +2,9 @@ use Rattle.std.proofs.Common.{◌≡◌, ◌+◌, List, [], ◌∷◌, ◌++◌,
 use Rattle.std.specs.List.{AllByRecursion}
 use Rattle.bsc_load.specs.declared.jobs.Job.{Job}
 use Rattle.bsc_load.specs.Inner.{IsJob, job_indices}
-use Rattle.bsc_load.proofs.Given.{all_push}
 use Rattle.bsc_load.proofs.Splitting.{asked_more, asks_more, indices_more}
 use Rattle.bsc_load.proofs.passes.split_for.Goals as goal
+use Rattle.bsc_lemmas.proofs.Lists.{all-push as all_push}
 
 pub loop-index-preserved : goal.loop-index-preserved
 loop-index-preserved g c =

@@ -1,10 +1,11 @@
 use Rattle.std.proofs.Common.{arith, inl, inr, refl, None, Some, ◌∷◌, [], ◌++◌, unwrap_or}
 use Rattle.bsc_node_run.specs.Drawing.{GoesDrawing, at_rest}
 use Rattle.bsc_node_run.specs.Worlds.{dialling, world_of}
-use Rattle.bsc_node_run.proofs.Runs.{grows_none, grows_then, one_longer, rise_all, rise_before, rise_more, turns_all, turns_more}
+use Rattle.bsc_node_run.proofs.Runs.{one_longer, rise_all, rise_before, rise_more, turns_all, turns_more}
 use Rattle.bsc_node_run.proofs.Told.{stays_same, stays_then}
 use Rattle.bsc_node_run.proofs.Stops.{at_err, rise_now, stops_more, stops_now}
 use Rattle.bsc_node_run.proofs.running.run_node.Goals as goal
+use Rattle.bsc_edge.proofs.Common.{grown as grows_then, grows-nil as grows_none}
 
 pub loop-made-init : goal.loop-made-init
 loop-made-init g c = record {

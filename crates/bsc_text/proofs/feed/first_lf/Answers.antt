@@ -1,13 +1,10 @@
 -- An LF is found, or there is none.
-use Rattle.std.proofs.Common.{◌≡◌, ◌<◌, ◌+◌, ◌++◌, ℕ, List, [], ◌∷◌, length, take, get_or, sym, ap, ◌∙◌, add-one}
+use Rattle.std.proofs.Common.{sym, ap, ◌∙◌}
 use Rattle.std.proofs.lemmas.List.{take_all}
-use Rattle.std.proofs.Math.Seq.{take-suc}
 use Rattle.bsc_text.specs.Lines.{has_no_lf}
 use Rattle.bsc_text.proofs.Cutting.{has_no_lf-before}
 use Rattle.bsc_text.proofs.feed.first_lf.Goals as goal
-
-cut : (o : List ℕ) (n : ℕ) → n < length o → get_or o n 0 ≡ 10 → take (n + 1) o ≡ take n o ++ 10 ∷ []
-cut o n h e = rw add-one (take-suc o n 0 h ∙ ap (λ (x : ℕ). take n o ++ x ∷ []) e)
+use Rattle.bsc_lemmas.proofs.Lists.{line_cut as cut}
 
 pub returns-then-n-octets : goal.returns-then-n-octets
 returns-then-n-octets c = record {

@@ -1,9 +1,10 @@
 use Rattle.std.proofs.Common.{List, find, ap, sym, ◌∙◌}
 use Rattle.bsc_desk.specs.declared.row.Row.{Row}
 use Rattle.bsc_desk.specs.Live.{end_in}
-use Rattle.bsc_desk.proofs.Forwards.{none_if, serves}
+use Rattle.bsc_desk.proofs.Forwards.{serves}
 use Rattle.bsc_desk.proofs.Walks.{has_number}
 use Rattle.bsc_desk.proofs.desk.Desk.forward_all.Goals as goal
+use Rattle.bsc_lemmas.proofs.Options.{none_if}
 
 pub drop_all-requires-in-Some-clause-unserved : goal.drop_all-requires-in-Some-clause-unserved
 drop_all-requires-in-Some-clause-unserved c =

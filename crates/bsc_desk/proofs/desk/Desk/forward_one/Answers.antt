@@ -1,9 +1,9 @@
 use Rattle.std.proofs.Common.{List, find, ap, sym, ◌∙◌}
 use Rattle.bsc_desk.specs.declared.row.Row.{Row}
 use Rattle.bsc_desk.specs.Live.{end_in}
-use Rattle.bsc_desk.proofs.Forwards.{none_if}
 use Rattle.bsc_desk.proofs.Walks.{has_number}
 use Rattle.bsc_desk.proofs.desk.Desk.forward_one.Goals as goal
+use Rattle.bsc_lemmas.proofs.Options.{none_if}
 
 pub drop_one-requires-in-Some-clause-unserved : goal.drop_one-requires-in-Some-clause-unserved
 drop_one-requires-in-Some-clause-unserved c =

@@ -1,10 +1,10 @@
-use Rattle.std.proofs.Common.{refl, arith, ap, sym, ◌∙◌, ◌+◌, ◌++◌, ◌∷◌, [], ℕ, List, None, find, is_some}
+use Rattle.std.proofs.Common.{refl, arith, ap, ◌∙◌, ℕ, List, find, is_some}
 use Rattle.bsc_history.specs.declared.counts.Counts.{Counts}
 use Rattle.bsc_history.specs.Counting.{one_if, plus}
 use Rattle.bsc_desk.specs.declared.row.Row.{Row}
 use Rattle.bsc_desk.specs.Live.{known_in}
 use Rattle.bsc_desk.specs.Tallies.{no_counts}
-use Rattle.bsc_desk.proofs.Connects.{known_joined, one_at_most, stands_joined}
+use Rattle.bsc_desk.proofs.Connects.{known_joined, stands_joined}
 use Rattle.bsc_desk.proofs.Filing.{as_many, filed_replaced}
 use Rattle.bsc_desk.proofs.Walks.{has_number}
 use Rattle.bsc_desk.proofs.desk.Desk.join.Goals as goal

@@ -1,6 +1,5 @@
 -- A step is carried out.
-use Rattle.std.proofs.Common.{◌≡◌, ◌++◌, List, ℕ, sym, ap, ◌∙◌, refl, subst, OnOk}
-use Rattle.bsc_accept.specs.declared.step.Step.TheVariants.{Reply, ReplyClose, Close}
+use Rattle.std.proofs.Common.{◌≡◌, ◌++◌, sym, ap, ◌∙◌, refl, subst, OnOk}
 use Rattle.std.proofs.Common.{false, inl, inr}
 use Rattle.bsc_accept.specs.Steps.{closes as is_closing}
 use Rattle.bsc_script.specs.Written.{says, line_text}
@@ -8,10 +7,10 @@ use Rattle.bsc_script.specs.Settled.{IsSettledBut}
 use Rattle.bsc_script.specs.Texts.{out_words}
 use Rattle.bsc_script.specs.Carrying.{does, closes, quietly}
 use Rattle.bsc_script.specs.Holding.{CarriesOut}
-use Rattle.bsc_script.proofs.Answered.{on_ok}
 use Rattle.bsc_script.proofs.Changes.{indexed, settled_at}
 use Rattle.bsc_script.proofs.Carried.{said_carried, quiet_carried}
 use Rattle.bsc_script.proofs.script_hub.ScriptHub.carry_out.Goals as goal
+use Rattle.std.proofs.lemmas.Result.{on_ok_weaker as on_ok}
 
 pub returns-in-Reply : goal.returns-in-Reply
 returns-in-Reply c = λ s k cs h own. (

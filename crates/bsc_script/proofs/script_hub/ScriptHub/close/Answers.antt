@@ -1,10 +1,10 @@
 -- The close line stands before what the end of the connection comes to.
 use Rattle.bsc_script.specs.Texts.{close_words}
 use Rattle.bsc_script.specs.Carrying.{ends}
-use Rattle.bsc_script.proofs.Answered.{on_ok}
 use Rattle.bsc_script.proofs.Changes.{indexed}
 use Rattle.bsc_script.proofs.Carried.{said_carried}
 use Rattle.bsc_script.proofs.script_hub.ScriptHub.close.Goals as goal
+use Rattle.std.proofs.lemmas.Result.{on_ok_weaker as on_ok}
 
 pub returns : goal.returns
 returns c = λ s k cs h.

@@ -1,11 +1,11 @@
 -- An outbox is emptied, and then it is seen how its connection ended.
-use Rattle.std.proofs.Common.{◌≡◌, Some, None, subst}
+use Rattle.std.proofs.Common.{subst}
 use Rattle.bsc_script.specs.States.{with_peer}
 use Rattle.bsc_script.specs.Emptying.{given_frames, unwritten}
 use Rattle.bsc_script.specs.Between.{IsWritten}
-use Rattle.bsc_script.proofs.Answered.{on_ok}
 use Rattle.bsc_script.proofs.Outboxes.{written_joined, live_emptied, ended_place, ended_emptied, ended_connected, not_left, placed_within}
 use Rattle.bsc_script.proofs.script_hub.ScriptHub.empty_at.Goals as goal
+use Rattle.std.proofs.lemmas.Result.{on_ok_weaker as on_ok}
 
 pub write_at-requires-clause-some : goal.write_at-requires-clause-some
 write_at-requires-clause-some c =

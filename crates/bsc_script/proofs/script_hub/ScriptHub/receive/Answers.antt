@@ -1,18 +1,16 @@
 -- A message is judged, its machine is told, and the step is carried out.
-use Rattle.std.proofs.Common.{◌≡◌, ◌++◌, [], Vec, Global, ℕ, List, Some, slice_get, IfOk, arith, sym, ap, ◌∙◌, refl, subst}
+use Rattle.std.proofs.Common.{◌≡◌, ◌++◌, IfOk, arith, sym, ap, ◌∙◌, refl, subst}
 use Rattle.bsc_checks.specs.declared.place.Place.TheVariants.{HubPort}
 use Rattle.bsc_accept.specs.declared.event.Event.TheVariants.{Message as Came}
-use Rattle.bsc_accept.specs.declared.step.Step.{Step}
 use Rattle.bsc_verdict.proofs.Existence.{outcome_judged}
 use Rattle.bsc_checks.specs.Verdicts.{Judged}
 use Rattle.bsc_script.specs.Written.{text_of}
-use Rattle.bsc_script.specs.States.{State, Peer, told, with_peer}
+use Rattle.bsc_script.specs.States.{told, with_peer}
 use Rattle.bsc_script.specs.Receiving.{silence, acts, gets_verdict, verdict_on}
 use Rattle.bsc_script.specs.Touching.{dues}
-use Rattle.bsc_script.specs.Holding.{CarriesOut, Holds, IsAt, AwaitsStep, kept_in}
-use Rattle.bsc_script.proofs.Answered.{if_ok}
+use Rattle.bsc_script.specs.Holding.{CarriesOut}
 use Rattle.bsc_script.proofs.Pairs.{get-map}
-use Rattle.bsc_script.proofs.Changes.{kept, kept_with, told_at, told_some, within_still, at_settled, settled_one, some_at, indexed}
+use Rattle.bsc_script.proofs.Changes.{kept, within_still, some_at, indexed}
 use Rattle.bsc_script.proofs.Carried.{lines_carried}
 use Rattle.bsc_script.proofs.Ready.{open_some}
 use Rattle.bsc_script.proofs.Received.{awaits, judged_phase}
@@ -20,6 +18,7 @@ use Rattle.bsc_verdict.specs.Outcomes.{outcome_of}
 use Rattle.bsc_accept.specs.Past.{phase}
 use Rattle.bsc_script.specs.Carrying.{and_then, step_of}
 use Rattle.bsc_script.proofs.script_hub.ScriptHub.receive.Goals as goal
+use Rattle.bsc_lemmas.proofs.Numbers.{if_ok_maps as if_ok}
 
 pub message-step-requires : goal.message-step-requires
 message-step-requires c = open_some c.args.self.now c.args.at (c.pair_mut-peer.result.0.now, c.pair_mut-peer.result.1.now) c.requires.some c.pair_mut-peer.ensures.value

@@ -1,15 +1,13 @@
 -- The machine is told that who asked was refused, and its step, which closes, is carried out.
-use Rattle.std.proofs.Common.{◌≡◌, Vec, Global, ℕ, true, false, true≢false, sym, ap, ◌∙◌, refl, subst, OnOk}
+use Rattle.std.proofs.Common.{true≢false, sym, ap, ◌∙◌, refl, subst, OnOk}
 use Rattle.bsc_accept.specs.declared.event.Event.TheVariants.{Refused}
 use Rattle.bsc_accept.specs.Steps.{closes, step, asked_id}
-use Rattle.bsc_accept.specs.Standing.{is_open}
-use Rattle.bsc_script.specs.declared.peer.Peer.{Peer as KeptPeer}
 use Rattle.bsc_script.specs.States.{told, with_peer}
-use Rattle.bsc_script.specs.Carrying.{does, tells}
+use Rattle.bsc_script.specs.Carrying.{does}
 use Rattle.bsc_script.specs.Holding.{CarriesOut}
-use Rattle.bsc_script.proofs.Changes.{told_at, told_some, within_still, keeps_at, kept_at}
-use Rattle.bsc_script.proofs.Settling.{refused_closes}
+use Rattle.bsc_script.proofs.Changes.{told_at, told_some, within_still, keeps_at}
 use Rattle.bsc_script.proofs.script_hub.ScriptHub.tell_refused.Goals as goal
+use Rattle.bsc_accept.proofs.Common.{refusing as refused_closes}
 
 pub refused-step-requires : goal.refused-step-requires
 refused-step-requires c = keeps_at c.args.self.now c.args.at (c.pair_mut-peer.result.0.now, c.pair_mut-peer.result.1.now) _ c.pair_mut-peer.ensures.value c.requires.asked

@@ -1,14 +1,12 @@
 -- The clock is set, and the machines of all open names are told.
-use Rattle.std.proofs.Common.{◌≡◌, ◌+◌, ◌<◌, ◌≤◌, [], drop, length, Some, Ok, sym, ap, ◌∙◌, refl, subst, arith}
+use Rattle.std.proofs.Common.{◌<◌, ◌≤◌, Ok, sym, refl, subst}
 use Rattle.bsc_accept.specs.declared.event.Event.TheVariants.{Tick}
-use Rattle.bsc_script.specs.States.{State}
 use Rattle.bsc_script.specs.Carrying.{tells}
-use Rattle.bsc_script.specs.Running.{ticks}
-use Rattle.bsc_script.specs.Holding.{Holds, HoldsSome, CarriesOut, RunsTo}
-use Rattle.bsc_script.proofs.Ready.{get_some}
+use Rattle.bsc_script.specs.Holding.{RunsTo}
 use Rattle.bsc_script.proofs.Changes.{some_at}
-use Rattle.bsc_script.proofs.Ticked.{Ticks, after, ticks_begin, ticks_more, ticks_end, fewer, clock_set, clock_back, clock_far}
+use Rattle.bsc_script.proofs.Ticked.{after, ticks_begin, ticks_more, ticks_end, fewer, clock_set}
 use Rattle.bsc_script.proofs.script_hub.ScriptHub.tick.Goals as goal
+use Rattle.bsc_lemmas.proofs.Lists.{got-at as get_some}
 
 pub loop-at-init : goal.loop-at-init
 loop-at-init c = λ s h. ticks_begin c.args.self.now _ c.args.text.now.items c.args.ms s h refl refl refl refl refl

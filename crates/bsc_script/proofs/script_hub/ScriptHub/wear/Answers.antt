@@ -1,8 +1,7 @@
-use Rattle.std.proofs.Common.{refl}
-use Rattle.bsc_script.proofs.Answered.{on_ok}
 use Rattle.bsc_script.proofs.Carried.{said_carried}
 use Rattle.bsc_script.proofs.Changes.{indexed}
 use Rattle.bsc_script.proofs.script_hub.ScriptHub.wear.Goals as goal
+use Rattle.std.proofs.lemmas.Result.{on_ok_weaker as on_ok}
 
 pub returns : goal.returns
 returns c s k cs w =

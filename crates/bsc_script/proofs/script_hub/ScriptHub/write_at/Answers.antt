@@ -1,8 +1,8 @@
 use Rattle.std.proofs.Common.{List, ℕ, refl, subst}
 use Rattle.bsc_script.specs.Between.{WritesAll}
-use Rattle.bsc_script.proofs.Answered.{if_ok}
 use Rattle.bsc_script.proofs.Emptied.{has_outlet, is_written, may_take}
 use Rattle.bsc_script.proofs.script_hub.ScriptHub.write_at.Goals as goal
+use Rattle.bsc_lemmas.proofs.Numbers.{if_ok_maps as if_ok}
 
 pub write_frames-requires : goal.write_frames-requires
 write_frames-requires c =

@@ -1,6 +1,6 @@
-use Rattle.bsc_script.proofs.Answered.{on_ok}
 use Rattle.bsc_world.proofs.SideMeetings.{link_met}
 use Rattle.bsc_world.proofs.kept_link.KeptLink.meet.Goals as goal
+use Rattle.std.proofs.lemmas.Result.{on_ok_weaker as on_ok}
 
 pub meet-requires-clause-mark : goal.meet-requires-clause-mark
 meet-requires-clause-mark c = (c.requires.may c.in-Some.side c.in-Some-joined.joined c.in-Some.is c.in-Some-joined.is).1

@@ -1,12 +1,12 @@
 use Rattle.std.proofs.Common.{◌≡◌, true, false, refl, ap, ◌∙◌, subst, sym}
 use Rattle.std.specs.List.{list_any}
-use Rattle.bsc_script.proofs.Answered.{if_ok}
 use Rattle.bsc_node.specs.declared.timed_event.TimedEvent.{TimedEvent}
 use Rattle.bsc_node.specs.Laws.{draws}
 use Rattle.bsc_node_core.specs.Node.{Answers}
 use Rattle.bsc_world.specs.Coming.{HasHeard}
 use Rattle.bsc_world.proofs.Hearing.{heard_one, heard_two}
 use Rattle.bsc_world.proofs.kept_node.KeptNode.hear.Goals as goal
+use Rattle.bsc_lemmas.proofs.Numbers.{if_ok_maps as if_ok}
 
 pub returns-then-any_draws : goal.returns-then-any_draws
 returns-then-any_draws c =

@@ -1,5 +1,4 @@
 use Rattle.std.proofs.Common.{OnOk, Some, None, sym, ap, subst}
-use Rattle.bsc_script.proofs.Answered.{on_ok}
 use Rattle.bsc_accept.specs.Steps.{closes as is_closing}
 use Rattle.bsc_accept.specs.Standing.{LeftBy}
 use Rattle.bsc_network.specs.HubSides.{acts_on, forwards, unless_over}
@@ -8,6 +7,7 @@ use Rattle.bsc_world.specs.SideCalls.{IsFor, asks}
 use Rattle.bsc_world.proofs.SideCalls.{still_ready}
 use Rattle.bsc_world.proofs.SideHears.{acts_other, asks_not, ready_for, settled_goes, settled_stands}
 use Rattle.bsc_world.proofs.world.World.act.Goals as goal
+use Rattle.std.proofs.lemmas.Result.{on_ok_weaker as on_ok}
 
 pub connect-requires-clause-not_zero : goal.connect-requires-clause-not_zero
 connect-requires-clause-not_zero c = (subst (IsFor c.args.m.now) c.in-Ask.is c.requires.fits).0

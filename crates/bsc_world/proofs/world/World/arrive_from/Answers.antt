@@ -1,5 +1,4 @@
 use Rattle.std.proofs.Common.{◌≡◌, false, List, Option, Some, None, IfSome, sym, ◌∙◌, subst, arith}
-use Rattle.bsc_script.proofs.Answered.{on_ok}
 use Rattle.bsc_node.specs.declared.link_name.LinkName.{LinkName}
 use Rattle.bsc_network.specs.declared.parcel.Parcel.{Parcel}
 use Rattle.bsc_network.specs.Traffic.{front}
@@ -10,6 +9,7 @@ use Rattle.bsc_world.specs.Standing.{StandsAs}
 use Rattle.bsc_world.specs.Becoming.{Became}
 use Rattle.bsc_world.proofs.Arrivals.{arrive_does, arrive_nothing, pair_of, taken_clock, taken_stands}
 use Rattle.bsc_world.proofs.world.World.arrive_from.Goals as goal
+use Rattle.std.proofs.lemmas.Result.{on_ok_weaker as on_ok}
 
 pub reach-requires-clause-time : goal.reach-requires-clause-time
 reach-requires-clause-time c =

@@ -1,5 +1,4 @@
 use Rattle.std.proofs.Common.{◌≡◌, inl, inr, Some, None, Result, Ok, Err, OnOk, true≢false, sym, ap, ◌∙◌, subst}
-use Rattle.bsc_script.proofs.Answered.{on_ok}
 use Rattle.bsc_accept.specs.Steps.{closes as is_closing}
 use Rattle.bsc_network.specs.declared.way.Way.TheVariants.{Down}
 use Rattle.bsc_network.specs.declared.parcel.Content.TheVariants.{Message}
@@ -10,6 +9,7 @@ use Rattle.bsc_world.specs.SideCalls.{asks}
 use Rattle.bsc_world.proofs.Goings.{stands_goes}
 use Rattle.bsc_world.proofs.SideCalls.{idle_goes, kept_ready, reply_close_goes, reply_goes, still_ready}
 use Rattle.bsc_world.proofs.world.World.carry_out.Goals as goal
+use Rattle.std.proofs.lemmas.Result.{on_ok_weaker as on_ok}
 
 both_ok : {X E P Q R : Type 0} (r : Result X E) → (P → Q → R) → OnOk r P → OnOk r Q → OnOk r R
 both_ok (Ok x) f a b = f a b

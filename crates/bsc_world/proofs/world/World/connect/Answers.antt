@@ -1,10 +1,10 @@
 use Rattle.std.proofs.Common.{subst}
-use Rattle.bsc_script.proofs.Answered.{on_ok}
 use Rattle.bsc_network.specs.HubSides.{connects}
 use Rattle.bsc_world.specs.SideCalls.{Finds}
 use Rattle.bsc_world.proofs.SideCalls.{left_goes}
 use Rattle.bsc_world.proofs.SideConnects.{Asks, alone_still, asked_still, joined_goes, joined_stands, refused_goes, refused_stands, worn_goes, worn_stands}
 use Rattle.bsc_world.proofs.world.World.connect.Goals as goal
+use Rattle.std.proofs.lemmas.Result.{on_ok_weaker as on_ok}
 
 pub returns-else-has_side : goal.returns-else-has_side
 returns-else-has_side c =

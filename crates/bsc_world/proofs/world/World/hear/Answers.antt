@@ -1,6 +1,4 @@
 use Rattle.std.proofs.Common.{◌≡◌, ◌<◌, ◌≤◌, true, length, refl, arith, ◌∙◌, subst, sym}
-use Rattle.bsc_direct.proofs.OneMore.{some_same}
-use Rattle.bsc_script.proofs.Answered.{if_ok}
 use Rattle.bsc_node.specs.Conditions.{fits}
 use Rattle.bsc_world.specs.Kept.{IsNodeKept, IsCalm}
 use Rattle.bsc_world.specs.Coming.{Hears}
@@ -8,6 +6,8 @@ use Rattle.bsc_world.proofs.Ends.{node_there}
 use Rattle.bsc_world.proofs.Hearing.{world_drops, world_has_none, world_hears}
 use Rattle.bsc_world.proofs.Lookups.{got_read}
 use Rattle.bsc_world.proofs.world.World.hear.Goals as goal
+use Rattle.bsc_lemmas.proofs.Numbers.{if_ok_maps as if_ok}
+use Rattle.std.proofs.lemmas.Option.{same_Some as some_same}
 
 pub returns-then-len-place-clause-heard : goal.returns-then-len-place-clause-heard
 returns-then-len-place-clause-heard c = λ F w at s. (

@@ -1,8 +1,8 @@
-use Rattle.std.proofs.Common.{◌≡◌, length, refl, arith}
+use Rattle.std.proofs.Common.{length, refl, arith}
 use Rattle.std.proofs.lemmas.Option.{slice_get_read}
-use Rattle.bsc_script.proofs.Answered.{on_ok}
 use Rattle.bsc_world.proofs.LooksMet.{has_row, may, one_more, stands_there}
 use Rattle.bsc_world.proofs.world.World.meet_at.Goals as goal
+use Rattle.std.proofs.lemmas.Result.{on_ok_weaker as on_ok}
 
 pub caller_of-link-requires : goal.caller_of-link-requires
 caller_of-link-requires c =

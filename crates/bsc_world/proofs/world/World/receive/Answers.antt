@@ -1,9 +1,9 @@
 use Rattle.std.proofs.Common.{IfSome, subst}
-use Rattle.bsc_script.proofs.Answered.{on_ok}
 use Rattle.bsc_world.proofs.SideHears.{Listens, heard_stands, receives_goes, receives_nothing}
 use Rattle.bsc_world.specs.Becoming.{HasSide}
 use Rattle.bsc_world.specs.SideCalls.{IsFor, IsReadyFor}
 use Rattle.bsc_world.proofs.world.World.receive.Goals as goal
+use Rattle.std.proofs.lemmas.Result.{on_ok_weaker as on_ok}
 
 pub act-requires-clause-some : goal.act-requires-clause-some
 act-requires-clause-some c =

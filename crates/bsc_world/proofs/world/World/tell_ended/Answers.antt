@@ -1,6 +1,5 @@
 use Rattle.std.proofs.Common.{◌≤◌, ◌<◌, length, None, refl, sym, subst, arith}
 use Rattle.std.proofs.lemmas.Option.{slice_get_read}
-use Rattle.bsc_script.proofs.Answered.{on_ok}
 use Rattle.bsc_accept.specs.declared.event.Event.TheVariants.{Ended}
 use Rattle.bsc_network.specs.HubSides.{tells, unless_over}
 use Rattle.bsc_world.specs.Sides.{IsReadyBy}
@@ -8,6 +7,7 @@ use Rattle.bsc_world.specs.SideCalls.{Hears, Tells}
 use Rattle.bsc_world.proofs.Goings.{became_as, became_same}
 use Rattle.bsc_world.proofs.SideCalls.{alone_session, busy_stands, ended_goes, ended_ready, past_session, same_after, tells_goes, told_side, told_stands, unless_none}
 use Rattle.bsc_world.proofs.world.World.tell_ended.Goals as goal
+use Rattle.std.proofs.lemmas.Result.{on_ok_weaker as on_ok}
 
 pub hear_ended-requires-clause-connected : goal.hear_ended-requires-clause-connected
 hear_ended-requires-clause-connected c =

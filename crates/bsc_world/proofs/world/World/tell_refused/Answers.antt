@@ -1,12 +1,12 @@
 use Rattle.std.proofs.Common.{◌≤◌, ◌<◌, length, Some, refl, subst, arith}
 use Rattle.std.proofs.lemmas.Option.{slice_get_read}
-use Rattle.bsc_script.proofs.Answered.{on_ok}
 use Rattle.bsc_accept.specs.declared.event.Event.TheVariants.{Refused}
 use Rattle.bsc_network.specs.HubSides.{tells}
 use Rattle.bsc_world.specs.Sides.{IsReadyBy}
 use Rattle.bsc_world.specs.SideCalls.{Hears, Tells}
 use Rattle.bsc_world.proofs.SideCalls.{refused_ready, left_goes, past_session, same_left_goes, same_stands, tells_goes, told_side, told_stands}
 use Rattle.bsc_world.proofs.world.World.tell_refused.Goals as goal
+use Rattle.std.proofs.lemmas.Result.{on_ok_weaker as on_ok}
 
 pub hear_refused-requires : goal.hear_refused-requires
 hear_refused-requires c =

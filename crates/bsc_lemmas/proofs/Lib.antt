@@ -1,0 +1,4 @@
+pub mod Options
+pub mod Booleans
+pub mod Lists
+pub mod Numbers
