@@ -1,4 +1,5 @@
 mod WorkedSlots
+mod WorkedPaths
 pub mod OneMore
 pub mod Keeping
 pub mod Finding

@@ -8,8 +8,8 @@ use Rattle.bsc_direct.specs.declared.call.SlotCall.{SlotCall}
 use Rattle.bsc_direct.specs.Slots.{slots, established_peer, is_peer, established}
 use Rattle.bsc_direct.specs.Standing.{PeersAreUnicast}
 use Rattle.bsc_direct.proofs.Finding.{none_found}
-use Rattle.bsc_switch.specs.declared.routes.Route.TheVariants.{Direct as ByDirect}
-use Rattle.bsc_switch.specs.Paths.{hub_path, slot_or}
+use Rattle.bsc_direct.specs.declared.routes.Route.TheVariants.{Direct as ByDirect}
+use Rattle.bsc_direct.specs.Paths.{hub_path, slot_or}
 use Rattle.bsc_node.specs.Logs.{Made}
 use Rattle.bsc_node.specs.Hubs.{hub_use}
 use Rattle.bsc_node.specs.Ways.{slot_calls}

@@ -8,8 +8,8 @@ use Rattle.bsc_frame.specs.declared.message.Message.{Message}
 use Rattle.bsc_frame.specs.declared.body.Body.TheVariants.{Npdu}
 use Rattle.bsc_checks.specs.declared.verdict.Verdict.TheVariants.{Pass}
 use Rattle.bsc_direct.specs.Laws.{PeersAreApart}
-use Rattle.bsc_switch.specs.declared.routes.Route.TheVariants.{Direct as ByDirect}
-use Rattle.bsc_switch.specs.Paths.{path}
+use Rattle.bsc_direct.specs.declared.routes.Route.TheVariants.{Direct as ByDirect}
+use Rattle.bsc_direct.specs.Paths.{path}
 use Rattle.bsc_node.specs.declared.link_name.LinkName.{LinkName}
 use Rattle.bsc_node.specs.declared.delivered.Delivered.{Delivered}
 use Rattle.bsc_node.specs.declared.node_event.NodeEvent.TheVariants.{Came, Send}

@@ -9,12 +9,12 @@ use Rattle.bsc_direct.specs.declared.call.SlotCall.{SlotCall}
 use Rattle.bsc_direct.specs.declared.call.SlotCall.TheVariants.{Claim}
 use Rattle.bsc_resolve.specs.declared.call.ResolveCall.{ResolveCall}
 use Rattle.bsc_direct.specs.declared.establish.Establish.{Establish}
-use Rattle.bsc_switch.specs.declared.routes.Route.{Route}
-use Rattle.bsc_switch.specs.declared.routes.Route.TheVariants.{Direct as ByDirect, Hub as ByHub, NoPath as ByNone}
+use Rattle.bsc_direct.specs.declared.routes.Route.{Route}
+use Rattle.bsc_direct.specs.declared.routes.Route.TheVariants.{Direct as ByDirect, Hub as ByHub, NoPath as ByNone}
 use Rattle.bsc_resolve.specs.declared.ask_refusal.AskRefusal.{AskRefusal}
 use Rattle.bsc_resolve.specs.Resolving as Resolving
 use Rattle.bsc_direct.specs.Slots as Slots
-use Rattle.bsc_switch.specs.Paths.{path}
+use Rattle.bsc_direct.specs.Paths.{path}
 use Rattle.bsc_node.specs.declared.link_name.LinkName.{LinkName}
 use Rattle.bsc_node.specs.declared.link_name.LinkName.TheVariants.{Direct}
 use Rattle.bsc_node.specs.Logs.{Made, Line, slot, resolution, Log, Rule, own_vmac}

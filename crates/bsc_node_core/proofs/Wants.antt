@@ -4,9 +4,9 @@ use Rattle.bsc_octets.specs.declared.vmac.Vmac.{Vmac}
 use Rattle.bsc_frame.specs.declared.body.Body.{Body}
 use Rattle.bsc_frame.specs.declared.body.Body.TheVariants.{Npdu, AdvertisementSolicitation}
 use Rattle.bsc_connector.specs.declared.hub_use.HubUse.{HubUse}
-use Rattle.bsc_switch.specs.declared.routes.Route.{Route}
-use Rattle.bsc_switch.specs.declared.routes.Route.TheVariants.{Direct as ByDirect, Hub as ByHub, NoPath as ByNone}
-use Rattle.bsc_switch.specs.Paths.{path}
+use Rattle.bsc_direct.specs.declared.routes.Route.{Route}
+use Rattle.bsc_direct.specs.declared.routes.Route.TheVariants.{Direct as ByDirect, Hub as ByHub, NoPath as ByNone}
+use Rattle.bsc_direct.specs.Paths.{path}
 use Rattle.bsc_node.specs.Messages.{message_octets}
 use Rattle.bsc_node.specs.declared.note.Note.{Note}
 use Rattle.bsc_node.specs.declared.note.Note.TheVariants.{NoPath, TooLong}
@@ -29,7 +29,7 @@ use Rattle.bsc_connector.specs.declared.hub_use.HubUse.TheVariants.{NoHub, Prima
 use Rattle.bsc_connector.specs.declared.side.Side.TheVariants.{Primary as PrimarySide, Failover as FailoverSide}
 use Rattle.bsc_octets.specs.declared.identity.Identity.{Identity}
 use Rattle.bsc_octets.specs.Addresses.{same_vmac}
-use Rattle.bsc_switch.specs.Paths.{slot_or, hub_path}
+use Rattle.bsc_direct.specs.Paths.{slot_or, hub_path}
 use Rattle.bsc_direct.specs.Slots.{is_peer, established_peer, established}
 use Rattle.bsc_node.specs.declared.link_name.LinkName.TheVariants.{Hub, Direct}
 use Rattle.bsc_node_core.specs.Tables.{link_at, is_name}

@@ -12,8 +12,8 @@ use Rattle.bsc_accept.specs.Past as AcceptingPast
 use Rattle.bsc_initiate.specs.declared.event.InitEvent.{InitEvent}
 use Rattle.bsc_initiate.specs.declared.event.InitEvent.TheVariants.{Message as InitMessage}
 use Rattle.bsc_connector.specs.declared.hub_use.HubUse.{HubUse}
-use Rattle.bsc_switch.specs.declared.routes.Route.{Route}
-use Rattle.bsc_switch.specs.declared.routes.Route.TheVariants.{Direct as ByDirect, Hub as ByHub, NoPath as ByNone}
+use Rattle.bsc_direct.specs.declared.routes.Route.{Route}
+use Rattle.bsc_direct.specs.declared.routes.Route.TheVariants.{Direct as ByDirect, Hub as ByHub, NoPath as ByNone}
 use Rattle.bsc_node.specs.declared.link_name.LinkName.TheVariants.{Direct}
 use Rattle.bsc_node.specs.Links.{Outcome, puts, puts_and_closes, closes, meets, is_refused, passes_up, keeps_still}
 use Rattle.bsc_node.specs.declared.note.Note.TheVariants.{DirectDown}

@@ -22,7 +22,7 @@ use bsc_frame::Body;
 use bsc_node::{Action, LinkName, NodeLimits, Note};
 use bsc_octets::{Identity, NoMemory, Octets, Vmac};
 use bsc_resolve::{AskRefusal, Resolve};
-use bsc_switch::{Route, route};
+use bsc_direct::{Route, route};
 use std::alloc::Global;
 
 /// The way by a route, where this hub is in use.

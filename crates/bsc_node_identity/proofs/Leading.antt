@@ -8,7 +8,7 @@ use Rattle.bsc_connector.specs.declared.side.Side.TheVariants.{Primary, Failover
 use Rattle.bsc_connector.specs.declared.hub_use.HubUse.{HubUse}
 use Rattle.bsc_connector.specs.declared.hub_use.HubUse.TheVariants.{NoHub, Primary as UsesPrimary, Failover as UsesFailover}
 use Rattle.bsc_direct.specs.Slots.{slots, is_peer}
-use Rattle.bsc_switch.specs.Paths.{hub_path, slot_or}
+use Rattle.bsc_direct.specs.Paths.{hub_path, slot_or}
 use Rattle.bsc_node.specs.declared.link_name.LinkName.{LinkName}
 use Rattle.bsc_node.specs.declared.link_name.LinkName.TheVariants.{Hub, Direct}
 use Rattle.bsc_node.specs.Logs.{Log}

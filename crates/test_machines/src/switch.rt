@@ -2,7 +2,7 @@
 use bsc_connector::HubUse;
 use bsc_direct::Direct;
 use bsc_octets::Vmac;
-use bsc_switch::*;
+use bsc_direct::*;
 use std::test::*;
 
 const PEER: Vmac = Vmac([2, 0, 0, 0, 0, 10]);

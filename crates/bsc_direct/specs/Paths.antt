@@ -5,8 +5,8 @@ use Rattle.bsc_connector.specs.declared.hub_use.HubUse.{HubUse}
 use Rattle.bsc_connector.specs.declared.hub_use.HubUse.TheVariants.{NoHub, Primary, Failover}
 use Rattle.bsc_direct.specs.declared.call.SlotCall.{SlotCall}
 use Rattle.bsc_direct.specs.Slots.{established}
-use Rattle.bsc_switch.specs.declared.routes.Route.{Route}
-use Rattle.bsc_switch.specs.declared.routes.Route.TheVariants.{Direct, Hub, NoPath}
+use Rattle.bsc_direct.specs.declared.routes.Route.{Route}
+use Rattle.bsc_direct.specs.declared.routes.Route.TheVariants.{Direct, Hub, NoPath}
 
 -- over the hub in use, where there is one
 abbrev pub hub_path : HubUse → Route

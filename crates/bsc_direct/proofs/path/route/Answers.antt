@@ -3,8 +3,8 @@ use Rattle.bsc_octets.specs.declared.vmac.Vmac.{Vmac}
 use Rattle.bsc_octets.specs.Addresses.{broadcast}
 use Rattle.bsc_direct.specs.Slots.{established}
 use Rattle.bsc_direct.proofs.Following.{never_broadcast}
-use Rattle.bsc_switch.specs.Paths.{slot_or, hub_path}
-use Rattle.bsc_switch.proofs.path.route.Goals as goal
+use Rattle.bsc_direct.specs.Paths.{slot_or, hub_path}
+use Rattle.bsc_direct.proofs.path.route.Goals as goal
 
 pub returns-in-Some-clause-path : goal.returns-in-Some-clause-path
 returns-in-Some-clause-path c = λ calls s. ap (λ (o : Option ℕ). slot_or o (hub_path c.args.hub_use)) (c.in-Some.ensures calls s)

@@ -7,8 +7,8 @@ use Rattle.bsc_connector.specs.declared.hub_use.HubUse.TheVariants.{NoHub, Prima
 use Rattle.bsc_direct.specs.declared.call.SlotCall.{SlotCall}
 use Rattle.bsc_direct.specs.declared.call.SlotCall.TheVariants.{Claim, Up, Release}
 use Rattle.bsc_direct.specs.Slots.{slots}
-use Rattle.bsc_switch.specs.declared.routes.Route.TheVariants.{Direct, Hub, NoPath}
-use Rattle.bsc_switch.specs.Paths.{path}
+use Rattle.bsc_direct.specs.declared.routes.Route.TheVariants.{Direct, Hub, NoPath}
+use Rattle.bsc_direct.specs.Paths.{path}
 
 abbrev address : ℕ → Vmac
 address n = record { 0 = 2 ∷ 0 ∷ 0 ∷ 0 ∷ 0 ∷ n ∷ [] }

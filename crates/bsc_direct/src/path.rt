@@ -3,11 +3,11 @@ ghost use Rattle.std.specs.Prelude.{◌≡◌, List};
 ghost use Rattle.bsc_octets.specs.Addresses.{broadcast};
 ghost use Rattle.bsc_direct.specs.declared.call.SlotCall.{SlotCall};
 ghost use Rattle.bsc_direct.specs.Standing.{StandsFor};
-ghost use Rattle.bsc_switch.specs.Paths.{hub_path, path};
+ghost use Rattle.bsc_direct.specs.Paths.{hub_path, path};
 
+use crate::direct::Direct;
 use crate::routes::Route;
 use bsc_connector::HubUse;
-use bsc_direct::Direct;
 use bsc_octets::Vmac;
 
 /// The path over the hub in use, where there is one.
