@@ -8,7 +8,7 @@ ghost use Rattle.bsc_accept.specs.Steps.{refused_step};
 ghost use Rattle.bsc_accept.specs.Standing.{StandsFor, Answers, AwaitsAnswer, IsOpen, IsConnected, IsOver, LeftBy, phase_of};
 
 use crate::closing::Closing;
-use crate::replies::{as_reply, connect_accept, duplicate_vmac};
+use crate::replies::{connect_accept, duplicate_vmac, with_room};
 use crate::stage::Stage;
 use crate::start::Start;
 use crate::step::Step;
@@ -88,7 +88,7 @@ impl Accepting {
             Verdict::Pass(message) => self.passed(message),
             Verdict::Carry(_) => Step::Carry,
             Verdict::Silent(_) => Step::Nothing,
-            Verdict::Nak(_, octets) => Step::Reply(as_reply(octets)),
+            Verdict::Nak(_, octets) => Step::Reply(with_room(octets)),
         }
     }
 

@@ -27,6 +27,7 @@ pub use event::Event;
 pub use farewell::Farewell;
 pub use laws::{messages_are_heard, replies_are_messages, ticks_close};
 pub use reason::Reason;
+pub use replies::{disconnect_ack, disconnect_request, head, heartbeat_ack, with_room};
 pub use start::Start;
 pub use step::Step;
 pub use times::Times;

@@ -14,17 +14,15 @@ use crate::stage::Stage;
 use crate::step::Step;
 use bsc_checks::Message;
 use bsc_frame::{Answer, Body};
-
-/// The function Disconnect-Request.
-const DISCONNECT_REQUEST: u8 = 0x08;
+use bsc_octets::function;
 
 /// Whether a BVLC-Result answers a Disconnect-Request, as an ACK or as a NAK.
 fn is_for_disconnect(answer: &Answer) -> bool
     ensures { result ≡ answers_function 0x08 answer.now }
 {
     match answer {
-        Answer::Ack { function } => *function == DISCONNECT_REQUEST,
-        Answer::Nak { function, .. } => *function == DISCONNECT_REQUEST,
+        Answer::Ack { function } => *function == function::DISCONNECT_REQUEST,
+        Answer::Nak { function, .. } => *function == function::DISCONNECT_REQUEST,
     }
 }
 

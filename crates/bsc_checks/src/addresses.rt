@@ -3,10 +3,7 @@ ghost use Rattle.std.specs.Prelude.{◌≡◌, ◌↔◌, IsTrue};
 ghost use Rattle.bsc_checks.specs.Places.{IsUnicast, IsOfConnection, LacksSender, IsForAnother, IsFromAnother, IsNotFor, HasWrongAddresses};
 
 use crate::place::Place;
-use bsc_octets::{Envelope, Vmac};
-
-/// BVLC-Result.
-const RESULT: u8 = 0x00;
+use bsc_octets::{Envelope, Vmac, function};
 
 /// Whether two addresses are one.
 pub(crate) fn is_same(v: Vmac, w: Vmac) -> bool
@@ -36,7 +33,7 @@ fn is_of_connection(function: u8) -> bool
 fn lacks_sender(function: u8, origin: Option<Vmac>) -> bool
     ensures { IsTrue result ↔ LacksSender function origin }
 {
-    origin.is_none() && function != RESULT && !is_of_connection(function)
+    origin.is_none() && function != function::BVLC_RESULT && !is_of_connection(function)
 }
 
 /// Whether there is a Destination that is neither the broadcast address nor this node's own.

@@ -25,14 +25,8 @@ use crate::place::Place;
 use crate::refusal::Refusal;
 use crate::verdict::Verdict;
 use bsc_frame::{Check, Message, read};
-use bsc_octets::{Envelope, NoMemory};
+use bsc_octets::{Envelope, NoMemory, control, function};
 use std::alloc::Global;
-
-/// The control flags that are not reserved.
-const FLAGS: u8 = 0x0F;
-
-/// The greatest function that is known, Proprietary-Message.
-const PROPRIETARY: u8 = 0x0C;
 
 /// The error code that a check answers with.
 fn code_of(check: Check) -> Option<u16>
@@ -66,7 +60,7 @@ fn later_refusal(m: &[u8], head: &Envelope, to_carry: bool) -> Option<Refusal>
     if to_carry {
         return None;
     }
-    if head.function > PROPRIETARY {
+    if head.function > function::PROPRIETARY_MESSAGE {
         return Some(Refusal::of(Check::C6));
     }
     let ends = match read_options(m, head) {
@@ -76,7 +70,7 @@ fn later_refusal(m: &[u8], head: &Envelope, to_carry: bool) -> Option<Refusal>
     if let Some(check) = payload_fault(head.function, &m[ends.data..]) {
         return Some(Refusal::of(check));
     }
-    if head.function == PROPRIETARY {
+    if head.function == function::PROPRIETARY_MESSAGE {
         return Some(Refusal::of(Check::C12));
     }
     None
@@ -87,7 +81,7 @@ fn refusal(m: &[u8], head: &Envelope, place: &Place) -> Option<Refusal>
     requires { IsHead m.now head.now }
     ensures { (max : ℕ) → Answers (from_flags (is_to_carry place.now m.now)) m.now place.now max result }
 {
-    if head.flags > FLAGS {
+    if head.flags > control::FLAGS {
         return Some(Refusal::of(Check::C5));
     }
     let to_carry = is_to_carry(place, head);

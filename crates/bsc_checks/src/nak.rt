@@ -12,7 +12,6 @@
 //! | 2 | the error class, the high octet first |
 //! | 2 | the error code, the high octet first |
 ghost use Rattle.std.specs.Prelude.{◌≡◌, ◌+◌, ◌*◌, ◌++◌, ◌≤◌, length, is_some, IfSome};
-ghost use Rattle.byteorder.specs.Endian.{big_bytes};
 ghost use Rattle.arrayvec.specs.ArrayVec.{array_vec_len};
 ghost use Rattle.bsc_octets.specs.Envelopes.{address_octets};
 ghost use Rattle.bsc_options.specs.Spelling.{bit};
@@ -20,21 +19,9 @@ ghost use Rattle.bsc_frame.specs.Spelling.{Spells};
 ghost use Rattle.bsc_checks.specs.Naks.{nak, return_address};
 
 use crate::place::Place;
+use crate::putting::{put, put_number};
 use arrayvec::ArrayVec;
-use bsc_octets::Vmac;
-use byteorder::{BigEndian, ByteOrder};
-
-/// BVLC-Result.
-const RESULT: u8 = 0x00;
-
-/// The result code of a NAK.
-const NAK: u8 = 0x01;
-
-/// The control flags where a Destination follows.
-const WITH_DEST: u8 = 0x04;
-
-/// The error class COMMUNICATION.
-const COMMUNICATION: u16 = 7;
+use bsc_octets::{Vmac, control, function, results};
 
 /// The Destination of a NAK: a node tells its hub the sender of the message, where there is one.
 pub(crate) fn return_address(place: &Place, origin: Option<Vmac>) -> Option<Vmac>
@@ -44,24 +31,6 @@ pub(crate) fn return_address(place: &Place, origin: Option<Vmac>) -> Option<Vmac
         Place::NodeHub { .. } => origin,
         Place::HubPort { .. } | Place::NodeDirect { .. } => None,
     }
-}
-
-/// Puts octets at the end.
-fn put(out: &mut ArrayVec<u8, 24>, octets: &[u8])
-    requires { array_vec_len out.old + length octets.now ≤ 24 }
-    ensures { out.new.items ≡ out.old.items ++ octets.now }
-{
-    let _fits = out.try_extend_from_slice(octets);
-}
-
-/// Puts the two octets of a number at the end.
-fn put_number(out: &mut ArrayVec<u8, 24>, number: u16)
-    requires { array_vec_len out.old + 2 ≤ 24 }
-    ensures { out.new.items ≡ out.old.items ++ big_bytes 2 number }
-{
-    let mut octets = [0u8; 2];
-    BigEndian::write_u16(&mut octets, number);
-    put(out, &octets);
 }
 
 /// Puts the octets of an address at the end, where there is one.
@@ -79,7 +48,7 @@ fn put_address(out: &mut ArrayVec<u8, 24>, address: Option<Vmac>)
 fn flags_of(dest: Option<Vmac>) -> u8
     ensures { result ≡ 4 * bit (is_some dest) }
 {
-    if dest.is_some() { WITH_DEST } else { 0x00 }
+    if dest.is_some() { control::DEST } else { 0x00 }
 }
 
 /// The octets of a NAK.
@@ -93,11 +62,11 @@ pub(crate) fn nak(
     ensures { Spells (nak id dest function marker code) result.items }
 {
     let mut out = ArrayVec::new();
-    put(&mut out, &[RESULT, flags_of(dest)]);
+    put(&mut out, &[function::BVLC_RESULT, flags_of(dest)]);
     put_number(&mut out, id);
     put_address(&mut out, dest);
-    put(&mut out, &[function, NAK, marker]);
-    put_number(&mut out, COMMUNICATION);
+    put(&mut out, &[function, results::NAK, marker]);
+    put_number(&mut out, results::COMMUNICATION);
     put_number(&mut out, code);
     out
 }

@@ -13,27 +13,21 @@ use crate::options::Ends;
 use crate::refusal::Refusal;
 use crate::understood::first_not_understood;
 use bsc_frame::Check;
-use bsc_octets::Envelope;
+use bsc_octets::{Envelope, control};
 use bsc_options::{check_options, options_end};
-
-/// Bit 1 of the control flags: destination options are present.
-const DEST_OPTIONS: u8 = 0x02;
-
-/// Bit 0 of the control flags: data options are present.
-const DATA_OPTIONS: u8 = 0x01;
 
 #[tactic(auto, using(bsc_frame::proofs::Flags::option_flags))]
 fn announces_dest_options(flags: u8) -> bool
     ensures { result ≡ announces_dest_options flags }
 {
-    flags & DEST_OPTIONS != 0
+    flags & control::DEST_OPTIONS != 0
 }
 
 #[tactic(auto, using(bsc_frame::proofs::Flags::option_flags))]
 fn announces_data_options(flags: u8) -> bool
     ensures { result ≡ announces_data_options flags }
 {
-    flags & DATA_OPTIONS != 0
+    flags & control::DATA_OPTIONS != 0
 }
 
 /// The place behind the list from place `at`, where one is announced. There is no answer where octets of it

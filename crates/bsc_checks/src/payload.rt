@@ -18,13 +18,7 @@ ghost use Rattle.bsc_checks.specs.Walk.{PayloadAnswers};
 
 use crate::addresses::is_same;
 use bsc_frame::Check;
-use bsc_octets::Vmac;
-
-/// The result code of an ACK.
-const ACK: u8 = 0x00;
-
-/// The result code of a NAK.
-const NAK: u8 = 0x01;
+use bsc_octets::{Vmac, results};
 
 /// How many octets a NAK has before its details.
 const NAK_PART: usize = 7;
@@ -35,7 +29,7 @@ fn result_code(p: &[u8]) -> u8
 {
     match p.get(1) {
         Some(code) => *code,
-        None => ACK,
+        None => results::ACK,
     }
 }
 
@@ -51,7 +45,7 @@ fn fixed_part(function: u8, p: &[u8]) -> usize
     ensures { result ≡ fixed_part function p.now }
 {
     match function {
-        0x00 if result_code(p) == NAK => NAK_PART,
+        0x00 if result_code(p) == results::NAK => NAK_PART,
         0x00 => 2,
         0x01 => 1,
         0x04 => 6,
@@ -65,7 +59,7 @@ fn fixed_part(function: u8, p: &[u8]) -> usize
 fn takes_rest(function: u8, p: &[u8]) -> bool
     ensures { result ≡ takes_rest function p.now }
 {
-    matches!(function, 0x01 | 0x03 | 0x0C) || (function == 0x00 && result_code(p) != ACK)
+    matches!(function, 0x01 | 0x03 | 0x0C) || (function == 0x00 && result_code(p) != results::ACK)
 }
 
 /// C10: whether there is no payload, though the function has one always.
@@ -102,8 +96,8 @@ fn is_bad_result(p: &[u8]) -> bool
     ensures { IsTrue result ↔ ((1 < result_code p.now) ⊎ ((result_code p.now ≡ 1) × (¬ IsUtf8 (drop 7 p.now)))) }
 {
     match result_code(p) {
-        ACK => false,
-        NAK => !is_utf8(&p[NAK_PART..]),
+        results::ACK => false,
+        results::NAK => !is_utf8(&p[NAK_PART..]),
         _ => true,
     }
 }

@@ -9,7 +9,7 @@ use crate::fault::FrameFault;
 use crate::number::put_number;
 use crate::owned::owned;
 use crate::text::is_utf8;
-use bsc_octets::{NoMemory, Octets};
+use bsc_octets::{NoMemory, Octets, results};
 use byteorder::{BigEndian, ByteOrder};
 use std::alloc::Global;
 
@@ -39,12 +39,6 @@ pub enum Answer {
     },
 }
 
-/// The result code of an ACK.
-const ACK: u8 = 0x00;
-
-/// The result code of a NAK.
-const NAK: u8 = 0x01;
-
 /// How many octets an ACK has.
 const ACK_PART: usize = 2;
 
@@ -59,8 +53,8 @@ pub(crate) fn read_answer(alloc: Global, p: &[u8]) -> Result<Body, FrameFault>
         return Err(FrameFault::Fails(Check::C10b));
     }
     match p[1] {
-        ACK => read_ack(p),
-        NAK => read_nak(alloc, p),
+        results::ACK => read_ack(p),
+        results::NAK => read_nak(alloc, p),
         _ => Err(FrameFault::Fails(Check::C11)),
     }
 }
@@ -104,7 +98,7 @@ pub(crate) fn put_answer(out: &mut Vec<u8>, answer: &Answer) -> Result<(), NoMem
     match answer {
         Answer::Ack { function } => {
             out.push(*function)?;
-            out.push(ACK)?;
+            out.push(results::ACK)?;
         }
         Answer::Nak {
             function,
@@ -114,7 +108,7 @@ pub(crate) fn put_answer(out: &mut Vec<u8>, answer: &Answer) -> Result<(), NoMem
             details,
         } => {
             out.push(*function)?;
-            out.push(NAK)?;
+            out.push(results::NAK)?;
             out.push(*marker)?;
             put_number(out, *class)?;
             put_number(out, *code)?;

@@ -3,13 +3,7 @@ ghost use Rattle.bsc_octets.specs.Envelopes.{SpellsEnvelope, HasWholeAddresses};
 ghost use Rattle.bsc_frame.specs.Walk.{HeadAnswers};
 
 use crate::check::Check;
-use bsc_octets::{Envelope, EnvelopeFault, read_envelope};
-
-/// The control flags that are not reserved.
-const FLAGS: u8 = 0x0F;
-
-/// The greatest function that is known, Proprietary-Message.
-const LAST_FUNCTION: u8 = 0x0C;
+use bsc_octets::{Envelope, EnvelopeFault, control, function, read_envelope};
 
 /// The envelope of a message, where no check of it fails: C1, C3, C5, C6.
 pub(crate) fn read_head(m: &[u8]) -> Result<Envelope, Check>
@@ -28,10 +22,10 @@ fn known(m: &[u8], envelope: Envelope) -> Result<Envelope, Check>
     requires whole { HasWholeAddresses envelope }
     ensures { HeadAnswers m.now result }
 {
-    if envelope.flags > FLAGS {
+    if envelope.flags > control::FLAGS {
         return Err(Check::C5);
     }
-    if envelope.function > LAST_FUNCTION {
+    if envelope.function > function::PROPRIETARY_MESSAGE {
         return Err(Check::C6);
     }
     Ok(envelope)

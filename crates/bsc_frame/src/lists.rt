@@ -6,21 +6,9 @@ ghost use Rattle.bsc_frame.specs.Layout.{IsList, announces_dest_options, announc
 ghost use Rattle.bsc_frame.specs.Walk.{HasHead, EndsAnswers, FaultAnswers};
 
 use crate::check::Check;
-use bsc_octets::{Envelope, NoMemory};
+use bsc_octets::{Envelope, NoMemory, control, function};
 use bsc_options::{Options, check_options, options_end, read_options};
 use std::alloc::Global;
-
-/// Bit 1 of the control flags: destination options are present.
-const DEST_OPTIONS: u8 = 0x02;
-
-/// Bit 0 of the control flags: data options are present.
-const DATA_OPTIONS: u8 = 0x01;
-
-/// Encapsulated-NPDU, the one standard function that data options can stand on.
-const NPDU: u8 = 0x01;
-
-/// Proprietary-Message, the other function that they can stand on.
-const PROPRIETARY: u8 = 0x0C;
 
 /// Where the lists of a message end.
 #[derive(Clone, Copy)]
@@ -36,7 +24,7 @@ pub(crate) struct Ends {
 pub(crate) fn announces_dest_options(flags: u8) -> bool
     ensures { result ≡ announces_dest_options flags }
 {
-    flags & DEST_OPTIONS != 0
+    flags & control::DEST_OPTIONS != 0
 }
 
 /// Whether data options are announced.
@@ -44,7 +32,7 @@ pub(crate) fn announces_dest_options(flags: u8) -> bool
 pub(crate) fn announces_data_options(flags: u8) -> bool
     ensures { result ≡ announces_data_options flags }
 {
-    flags & DATA_OPTIONS != 0
+    flags & control::DATA_OPTIONS != 0
 }
 
 /// The place behind the list from place `at`, where one is announced, whatever its items are.
@@ -95,7 +83,10 @@ pub(crate) fn read_ends(m: &[u8], head: &Envelope) -> Result<Ends, Check>
     if has_fault(m, dest, data_announced) {
         return Err(Check::C7b);
     }
-    if data_announced && head.function != NPDU && head.function != PROPRIETARY {
+    if data_announced
+        && head.function != function::ENCAPSULATED_NPDU
+        && head.function != function::PROPRIETARY_MESSAGE
+    {
         return Err(Check::C8);
     }
     Ok(Ends { dest, data })

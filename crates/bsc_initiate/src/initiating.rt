@@ -5,11 +5,11 @@ ghost use Rattle.bsc_initiate.specs.declared.event.InitEvent.{InitEvent};
 ghost use Rattle.bsc_initiate.specs.Past.{phase};
 ghost use Rattle.bsc_initiate.specs.Standing.{StandsFor, Answers, AwaitsWebsocket, IsOpen, IsOver, LeftBy, phase_of};
 
-use crate::requests::{connect_request, with_room};
+use crate::requests::connect_request;
 use crate::stage::Stage;
 use crate::step::InitStep;
 use crate::waits::is_over;
-use bsc_accept::{Closing, Start, Times};
+use bsc_accept::{Closing, Start, Times, with_room};
 use bsc_checks::{Phase, Verdict};
 use bsc_octets::Identity;
 

@@ -7,11 +7,11 @@ ghost use Rattle.bsc_initiate.specs.Steps.{connected_tick};
 ghost use Rattle.bsc_initiate.specs.Kept.{after, after_tick, heard_at};
 
 use crate::initiating::Initiating;
-use crate::requests::{disconnect_request, heartbeat_request};
+use crate::requests::heartbeat_request;
 use crate::stage::Stage;
 use crate::step::InitStep;
 use crate::waits::{is_over, twice};
-use bsc_accept::{Closing, Farewell};
+use bsc_accept::{Closing, Farewell, disconnect_request};
 
 impl Initiating {
     /// It closes, where a wait is over.

@@ -8,26 +8,20 @@ ghost use Rattle.bsc_initiate.specs.Standing.{IsOpen};
 ghost use Rattle.bsc_initiate.specs.Kept.{standing_at, after};
 
 use crate::initiating::Initiating;
-use crate::requests::{disconnect_ack, heartbeat_ack};
 use crate::stage::Stage;
 use crate::step::InitStep;
-use bsc_accept::{Closing, Farewell};
+use bsc_accept::{Closing, Farewell, disconnect_ack, heartbeat_ack};
 use bsc_checks::Message;
 use bsc_frame::{Answer, Body};
-
-/// The function Connect-Request.
-const CONNECT_REQUEST: u8 = 0x06;
-
-/// The function Disconnect-Request.
-const DISCONNECT_REQUEST: u8 = 0x08;
+use bsc_octets::function;
 
 /// Whether a BVLC-Result answers a Disconnect-Request, as an ACK or as a NAK.
 fn is_for_disconnect(answer: &Answer) -> bool
     ensures { result ≡ answers_function 0x08 answer.now }
 {
     match answer {
-        Answer::Ack { function } => *function == DISCONNECT_REQUEST,
-        Answer::Nak { function, .. } => *function == DISCONNECT_REQUEST,
+        Answer::Ack { function } => *function == function::DISCONNECT_REQUEST,
+        Answer::Nak { function, .. } => *function == function::DISCONNECT_REQUEST,
     }
 }
 
@@ -50,7 +44,7 @@ fn refusing_code(answer: &Answer) -> Option<u16>
     match answer {
         Answer::Ack { .. } => None,
         Answer::Nak { function, code, .. } => {
-            if *function == CONNECT_REQUEST {
+            if *function == function::CONNECT_REQUEST {
                 Some(*code)
             } else {
                 None

@@ -23,28 +23,24 @@ use crate::acting::tell;
 use crate::actions::Actions;
 use crate::deed::Deed;
 use crate::machine::Machine;
-use crate::messages::DUPLICATE_VMAC;
 use crate::state::State;
 use bsc_accept::{Accepting, Closing};
 use bsc_connector::{ConnectorEvent, Side};
 use bsc_direct::Establish;
 use bsc_history::Refusal;
 use bsc_node::{Action, LinkName, NodeLimits, Note};
-use bsc_octets::{Identity, NoMemory, Vmac};
+use bsc_octets::{Identity, NoMemory, Vmac, function, results};
 use std::alloc::Global;
 
 /// How often a node renews its VMAC at most, since a hub accepted it.
 pub(crate) const RENEWALS: u8 = 8;
-
-/// The function Connect-Request.
-const CONNECT_REQUEST: u8 = 0x06;
 
 /// Whether a refusal with this error code is that of a hub, of the node's VMAC as a duplicate.
 fn is_duplicate(name: LinkName, code: u16) -> bool
     ensures { result ≡ (is_hub name && (code == duplicate_vmac_code)) }
 {
     match name {
-        LinkName::Hub(_) => code == DUPLICATE_VMAC,
+        LinkName::Hub(_) => code == results::NODE_DUPLICATE_VMAC,
         LinkName::Direct(_) => false,
     }
 }
@@ -342,7 +338,7 @@ impl State {
             out,
             Note::Nak {
                 from,
-                function: CONNECT_REQUEST,
+                function: function::CONNECT_REQUEST,
                 code,
             },
         )?;

@@ -5,21 +5,9 @@ ghost use Rattle.bsc_node.specs.Logs.{is_response};
 ghost use Rattle.bsc_node.specs.Messages.{message_octets, nak};
 
 use bsc_frame::{Answer, Body, Message, write};
-use bsc_octets::{NoMemory, Octets, Vmac};
+use bsc_octets::{NoMemory, Octets, Vmac, function, results};
 use bsc_options::Options;
 use std::alloc::Global;
-
-/// The error code NODE_DUPLICATE_VMAC.
-pub(crate) const DUPLICATE_VMAC: u16 = 151;
-
-/// The error code OPTIONAL_FUNCTIONALITY_NOT_SUPPORTED.
-pub(crate) const NOT_SUPPORTED: u16 = 45;
-
-/// The error class COMMUNICATION.
-const COMMUNICATION: u16 = 7;
-
-/// The functions of responses: BVLC-Result, Address-Resolution-ACK, Connect-Accept, Disconnect-ACK, Heartbeat-ACK.
-const RESPONSES: [u8; 5] = [0x00, 0x03, 0x07, 0x09, 0x0B];
 
 /// The octets of a message with this Message ID and this Destination, where there is one.
 pub(crate) fn message_octets(
@@ -49,7 +37,7 @@ pub(crate) fn nak(alloc: Global, function: u8, code: u16) -> Body
     Body::BvlcResult(Answer::Nak {
         function,
         marker: 0,
-        class: COMMUNICATION,
+        class: results::COMMUNICATION,
         code,
         details: Octets::from_vec(Vec::new(alloc)),
     })
@@ -63,5 +51,5 @@ pub(crate) fn is_response(octets: &[u8]) -> bool
         Some(function) => *function,
         None => 0x00,
     };
-    RESPONSES.contains(&function)
+    function::RESPONSES.contains(&function)
 }

@@ -20,18 +20,15 @@ ghost use Rattle.bsc_node_core.specs.Resolving.{BothStand};
 
 use crate::acting::tell;
 use crate::actions::Actions;
-use crate::messages::{NOT_SUPPORTED, message_octets, nak};
+use crate::messages::{message_octets, nak};
 use crate::state::State;
 use bsc_connector::HubUse;
 use bsc_frame::{Advert, Answer, Body, Message};
 use bsc_node::{Action, Delivered, LinkName, NodeLimits, Note};
-use bsc_octets::{Identity, NoMemory, Octets, Vmac};
+use bsc_octets::{Identity, NoMemory, Octets, Vmac, function, results};
 use bsc_options::Options;
 use bsc_resolve::Resolve;
 use std::alloc::Global;
-
-/// The function Address-Resolution.
-const ADDRESS_RESOLUTION: u8 = 0x02;
 
 /// The Destination of an answer: over the hub the address that the message came from, none over a direct connection.
 fn answer_dest(name: LinkName, origin: Option<Vmac>) -> Option<Vmac>
@@ -132,7 +129,7 @@ impl State {
         if for_all {
             return Ok(());
         }
-        let body = nak(alloc, ADDRESS_RESOLUTION, NOT_SUPPORTED);
+        let body = nak(alloc, function::ADDRESS_RESOLUTION, results::NOT_SUPPORTED);
         let octets = message_octets(alloc, id, dest, body)?;
         self.put(out, name, octets)
     }
@@ -216,7 +213,7 @@ fn drop_question_of(resolve: &mut Resolve, v: Vmac, id: u16, function: u8)
     ensures { (b : Base) (out : List Action) (s : State) (L : Log) → BothStand b out s resolve.old L
         → BothStand b out s resolve.new (L ++ drops_question b.made function id v L) }
 {
-    if function == ADDRESS_RESOLUTION {
+    if function == function::ADDRESS_RESOLUTION {
         let _ = resolve.refused(id, v);
     }
 }

@@ -18,11 +18,11 @@ use crate::state::State;
 use crate::uris::uri_to_dial;
 use crate::way::Way;
 use bsc_connector::{HubUse, Side};
+use bsc_direct::{Route, route};
 use bsc_frame::Body;
 use bsc_node::{Action, LinkName, NodeLimits, Note};
 use bsc_octets::{Identity, NoMemory, Octets, Vmac};
 use bsc_resolve::{AskRefusal, Resolve};
-use bsc_direct::{Route, route};
 use std::alloc::Global;
 
 /// The way by a route, where this hub is in use.

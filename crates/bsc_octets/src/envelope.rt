@@ -14,15 +14,10 @@ ghost use Rattle.bsc_octets.specs.declared.envelope.Envelope.{Envelope};
 ghost use Rattle.bsc_octets.specs.Envelopes.{envelope_of, SpellsEnvelope, HasWholeAddresses, announced_length, announces_origin, announces_dest, flags_in};
 ghost use Rattle.bsc_octets.specs.Forwarding.{has_route};
 
+use crate::control;
 use crate::vmac::Vmac;
 use byteorder::{BigEndian, ByteOrder};
 use thiserror::Error;
-
-/// Bit 3 of the control flags: an Originating Virtual Address is present.
-pub(crate) const ORIGIN_PRESENT: u8 = 8;
-
-/// Bit 2 of the control flags: a Destination Virtual Address is present.
-pub(crate) const DEST_PRESENT: u8 = 4;
 
 /// The first part of a message (Annex AB, "General BVLC Message Format").
 #[derive(Clone, Copy, Debug, PartialEq, Eq)]
@@ -66,14 +61,14 @@ pub(crate) fn vmac_at(m: &[u8], at: usize) -> Vmac
 fn announces_origin(flags: u8) -> bool
     ensures { result ≡ announces_origin flags }
 {
-    flags & ORIGIN_PRESENT != 0
+    flags & control::ORIGIN != 0
 }
 
 #[tactic(auto, using(crate::proofs::Flags::flag_tests))]
 fn announces_dest(flags: u8) -> bool
     ensures { result ≡ announces_dest flags }
 {
-    flags & DEST_PRESENT != 0
+    flags & control::DEST != 0
 }
 
 #[tactic(auto, unfolding(crate::specs::Envelopes::envelope_of))]

@@ -5,7 +5,8 @@ ghost use Rattle.std.specs.Prelude.{◌≡◌, ◌≤◌, IsTrue, IfOk, length, 
 ghost use Rattle.bsc_octets.specs.Envelopes.{SpellsEnvelope};
 ghost use Rattle.bsc_octets.specs.Forwarding.{out, envelope_out, has_route, is_broadcast, flags_out, kept};
 
-use crate::envelope::{DEST_PRESENT, ORIGIN_PRESENT, vmac_at};
+use crate::control;
+use crate::envelope::vmac_at;
 use crate::no_memory::NoMemory;
 use crate::octets::Octets;
 use crate::vmac::Vmac;
@@ -25,9 +26,9 @@ fn new_flags(m: &[u8]) -> u8
     ensures { result ≡ flags_out m.now }
 {
     if is_to_all(m) {
-        m[1] | ORIGIN_PRESENT
+        m[1] | control::ORIGIN
     } else {
-        (m[1] | ORIGIN_PRESENT) & !DEST_PRESENT
+        (m[1] | control::ORIGIN) & !control::DEST
     }
 }
 

@@ -5,12 +5,15 @@
 //! stands on `byteorder` for numbers and on `uuid` for device identifiers.
 #![tactic(auto)]
 
+pub mod control;
 mod device_id;
 mod envelope;
 mod forwarding;
+pub mod function;
 mod identity;
 mod no_memory;
 mod octets;
+pub mod results;
 mod vmac;
 
 pub use device_id::DeviceId;

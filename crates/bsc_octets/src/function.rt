@@ -1,0 +1,37 @@
+//! The functions of messages.
+
+/// BVLC-Result.
+pub const BVLC_RESULT: u8 = 0x00;
+
+/// Encapsulated-NPDU.
+pub const ENCAPSULATED_NPDU: u8 = 0x01;
+
+/// Address-Resolution.
+pub const ADDRESS_RESOLUTION: u8 = 0x02;
+
+/// Address-Resolution-ACK.
+pub const ADDRESS_RESOLUTION_ACK: u8 = 0x03;
+
+/// Connect-Request.
+pub const CONNECT_REQUEST: u8 = 0x06;
+
+/// Connect-Accept.
+pub const CONNECT_ACCEPT: u8 = 0x07;
+
+/// Disconnect-Request.
+pub const DISCONNECT_REQUEST: u8 = 0x08;
+
+/// Disconnect-ACK.
+pub const DISCONNECT_ACK: u8 = 0x09;
+
+/// Heartbeat-Request.
+pub const HEARTBEAT_REQUEST: u8 = 0x0A;
+
+/// Heartbeat-ACK.
+pub const HEARTBEAT_ACK: u8 = 0x0B;
+
+/// Proprietary-Message, the greatest function that is known.
+pub const PROPRIETARY_MESSAGE: u8 = 0x0C;
+
+/// The functions of responses: BVLC-Result, Address-Resolution-ACK, Connect-Accept, Disconnect-ACK, Heartbeat-ACK.
+pub const RESPONSES: [u8; 5] = [0x00, 0x03, 0x07, 0x09, 0x0B];
