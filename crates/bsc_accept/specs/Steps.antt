@@ -18,7 +18,8 @@ use Rattle.bsc_accept.specs.declared.event.Event.{Event}
 use Rattle.bsc_accept.specs.declared.event.Event.TheVariants.{Message as Came, Joined, Refused, Ended, Finish, Tick}
 use Rattle.bsc_accept.specs.declared.step.Step.{Step}
 use Rattle.bsc_accept.specs.declared.step.Step.TheVariants.{Ask, Reply, ReplyClose, Carry, Close, Nothing}
-use Rattle.bsc_accept.specs.Messages.{octets_of, connect_accept, duplicate_vmac, disconnect_request, disconnect_ack, heartbeat_ack, who_asks, is_farewell_answer}
+use Rattle.bsc_accept.specs.Messages.{octets_of, connect_accept, duplicate_vmac, disconnect_request, disconnect_ack, heartbeat_ack}
+use Rattle.bsc_accept.specs.Messages.{who_asks, is_farewell_answer}
 use Rattle.bsc_accept.specs.Waits.{connect_wait_is_over, is_idle, disconnect_wait_is_over}
 use Rattle.bsc_accept.specs.Past.{Standing, awaiting_request, connected, disconnecting, standing, question, last_message}
 

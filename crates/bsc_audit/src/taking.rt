@@ -62,7 +62,8 @@ fn read_more<S: Source>(
     ensures room { 0 < length chunk.new.items }
     ensures within { OnOk result (length octets.new.items ≤ 268435457) }
     ensures more { result ≡ Ok true → ReadsMore (S.left source.old) (S.left source.new) octets.old.items octets.new.items }
-    ensures end { result ≡ Ok false → (octets.new.items ≡ octets.old.items) × Consumes (S.left source.old) (S.left source.new) [] × IsAtEnd (S.left source.new) }
+    ensures end { result ≡ Ok false → (octets.new.items ≡ octets.old.items) × Consumes (S.left source.old) (S.left source.new) []
+        × IsAtEnd (S.left source.new) }
     ensures stopped { IfErr result (λ e. (e ≡ AuditEnd.ReadFault) ⊎ (e ≡ AuditEnd.NoMemory)) }
     ensures fault { result ≡ Err AuditEnd.ReadFault → HasRisen (S.faults source.old) (S.faults source.new) }
     ensures later { S.faults source.old ≤ S.faults source.new }

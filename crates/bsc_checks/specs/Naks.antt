@@ -28,7 +28,8 @@ pub record IsAnswered (m : List ℕ) (check : Check) (code : ℕ) : Type 0 where
 abbrev pub communication : ℕ
 communication = 7
 
--- Where a NAK goes: a node tells its hub for whom it is, the sender of the message; elsewhere it goes to the other end of the connection, without a Destination.
+-- Where a NAK goes: a node tells its hub for whom it is, the sender of the message; elsewhere it goes to the other end of
+-- the connection, without a Destination.
 abbrev pub return_address : Place → Option Vmac → Option Vmac
 return_address (NodeHub own phase) origin = origin
 return_address place origin = None

@@ -57,7 +57,9 @@ IsFromAnother peer origin = (v : Vmac) × (origin ≡ Some v) × (peer ≢ Some 
 abbrev pub IsNotFor : Vmac → Option Vmac → Type 0
 IsNotFor own dest = (v : Vmac) × (dest ≡ Some v) × (v ≢ own)
 
--- The addresses of a message with this function are wrong for the place. A node gives its hub no Originating address. The hub gives a node the sender's, and passes on only what is for that node or for all. On a direct connection each address that is given is that of its end.
+-- The addresses of a message with this function are wrong for the place. A node gives its hub no Originating address. The
+-- hub gives a node the sender's, and passes on only what is for that node or for all. On a direct connection each address
+-- that is given is that of its end.
 abbrev pub HasWrongAddresses : Place → ℕ → Option Vmac → Option Vmac → Type 0
 HasWrongAddresses (HubPort phase) function origin dest = origin ≢ None
 HasWrongAddresses (NodeHub own phase) function origin dest = LacksSender function origin ⊎ IsForAnother own dest
@@ -65,13 +67,16 @@ HasWrongAddresses (NodeDirect own peer phase) function origin dest = IsFromAnoth
 
 -- ---- the function at a place
 
--- What is said once the connection is made: to a hub, that the connection ends or is still there; to a node, also the functions 00 to 05, which are between nodes; and what its hub says of the connection it says in no other's name.
+-- What is said once the connection is made: to a hub, that the connection ends or is still there; to a node, also the
+-- functions 00 to 05, which are between nodes; and what its hub says of the connection it says in no other's name.
 abbrev pub IsInPlaceConnected : Place → ℕ → Option Vmac → Type 0
 IsInPlaceConnected (HubPort phase) function origin = (function ≡ 0x08) ⊎ (function ≡ 0x0A)
 IsInPlaceConnected (NodeHub own phase) function origin = (function ≤ 0x05) ⊎ (((function ≡ 0x08) ⊎ (function ≡ 0x0A) ⊎ (function ≡ 0x0B)) × (origin ≡ None))
 IsInPlaceConnected (NodeDirect own peer phase) function origin = (function ≤ 0x05) ⊎ (function ≡ 0x08) ⊎ (function ≡ 0x0A) ⊎ (function ≡ 0x0B)
 
--- The function is in place in this phase: a Connect-Request where one is awaited; a BVLC-Result or a Connect-Accept where the answer to one is; a BVLC-Result or a Disconnect-ACK where the answer to a Disconnect-Request is; and once connected as above.
+-- The function is in place in this phase: a Connect-Request where one is awaited; a BVLC-Result or a Connect-Accept where
+-- the answer to one is; a BVLC-Result or a Disconnect-ACK where the answer to a Disconnect-Request is; and once connected
+-- as above.
 abbrev pub IsInPlaceIn : Phase → Place → ℕ → Option Vmac → Type 0
 IsInPlaceIn AwaitingRequest place function origin = function ≡ 0x06
 IsInPlaceIn AwaitingAccept place function origin = (function ≡ 0x00) ⊎ (function ≡ 0x07)

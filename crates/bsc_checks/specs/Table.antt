@@ -8,7 +8,9 @@ use Rattle.bsc_options.specs.Spelling.{has_items, marker_of}
 use Rattle.bsc_frame.specs.declared.check.Check.{Check}
 use Rattle.bsc_frame.specs.declared.check.Check.TheVariants.{C1, C2, C3, C4, C5, C6, C7, C7b, C8, C9, C10, C10b, C10c, C11, C12, C13}
 use Rattle.bsc_frame.specs.Layout.{announces_dest_options, options_at, IsList}
-use Rattle.bsc_frame.specs.Checks.{IsFirstOf, IsShort, LacksAddressOctets, HasReservedFlag, HasUnknownFunction, LacksOptionOctets, HasBadOption, HasMisplacedDataOptions, LacksPayload, HasShortPayload, HasLongPayload, HasValueOutOfRange}
+use Rattle.bsc_frame.specs.Checks.{IsFirstOf, IsShort, LacksAddressOctets, HasReservedFlag, HasUnknownFunction, LacksOptionOctets}
+use Rattle.bsc_frame.specs.Checks.{HasBadOption, HasMisplacedDataOptions, LacksPayload, HasShortPayload, HasLongPayload}
+use Rattle.bsc_frame.specs.Checks.{HasValueOutOfRange}
 use Rattle.bsc_checks.specs.declared.place.Place.{Place}
 use Rattle.bsc_checks.specs.Places.{origin_in, dest_in, is_to_carry, HasWrongAddresses, IsInPlace}
 
@@ -89,7 +91,8 @@ head_checks = C1 ∷ C2 ∷ C3 ∷ C4 ∷ C5 ∷ []
 abbrev pub later_checks : List Check
 later_checks = C6 ∷ C7 ∷ C7b ∷ C8 ∷ C9 ∷ C10 ∷ C10b ∷ C10c ∷ C11 ∷ C12 ∷ []
 
--- The checks that are made of a message, in their order: of one that the hub carries on those of its head, and of another all, and that it is in place comes last.
+-- The checks that are made of a message, in their order: of one that the hub carries on those of its head, and of another
+-- all, and that it is in place comes last.
 abbrev pub checks_of : Place → List ℕ → List Check
 checks_of place m = head_checks ++ (if is_to_carry place m then [] else later_checks) ++ C13 ∷ []
 

@@ -13,7 +13,8 @@ ghost use Rattle.std.specs.Prelude.{◌≡◌, ◌↔◌, ◌≤◌, ◌<◌, �
 ghost use Rattle.std.specs.Str.{IsUtf8};
 ghost use Rattle.bsc_octets.specs.Addresses.{broadcast, zero_vmac};
 ghost use Rattle.bsc_octets.specs.Envelopes.{vmac_at};
-ghost use Rattle.bsc_frame.specs.PayloadChecks.{result_code, expects_payload, fixed_part, takes_rest, IsMissing, IsBelowFixedPart, IsBeyondFixedPart, IsOutOfRange};
+ghost use Rattle.bsc_frame.specs.PayloadChecks.{result_code, expects_payload, fixed_part, takes_rest, IsMissing, IsBelowFixedPart};
+ghost use Rattle.bsc_frame.specs.PayloadChecks.{IsBeyondFixedPart, IsOutOfRange};
 ghost use Rattle.bsc_checks.specs.Walk.{PayloadAnswers};
 
 use crate::addresses::is_same;

@@ -26,7 +26,8 @@ pub record AreFiled (rows : List Row) (joined : ℕ) (x : Directory) : Type 0 wh
 
 -- whether a row is that of the connection that is replaced, or else isn't live or has another address and another device than who connects
 abbrev pub gives_place : Identity → Option ℕ → Row → Bool
-gives_place who replaced r = is_row replaced r || not (is_open r && (same_vmac r.connection.who.vmac who.vmac || same_device r.connection.who.device who.device))
+gives_place who replaced r = is_row replaced r || not (is_open r
+    && (same_vmac r.connection.who.vmac who.vmac || same_device r.connection.who.device who.device))
 
 -- whether a row that may be missing is live
 abbrev pub open_in : Option Row → Bool

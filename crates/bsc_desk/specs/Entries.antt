@@ -9,7 +9,8 @@ use Rattle.bsc_history.specs.declared.looks.Look.{Look}
 use Rattle.bsc_history.specs.declared.mark.Mark.{Mark}
 use Rattle.bsc_history.specs.declared.mark.Stamped.{Stamped}
 use Rattle.bsc_history.specs.declared.reply.Reply.{Reply}
-use Rattle.bsc_history.specs.declared.reply.Reply.TheVariants.{Joined, Refused, Appended, Closed, Skipped, NoHolder, NotCurrent, Stopped, SentAll, Gone as GoneReply, Counted}
+use Rattle.bsc_history.specs.declared.reply.Reply.TheVariants.{Joined, Refused, Appended, Closed, Skipped, NoHolder, NotCurrent, Stopped}
+use Rattle.bsc_history.specs.declared.reply.Reply.TheVariants.{SentAll, Gone as GoneReply, Counted}
 use Rattle.bsc_history.specs.declared.counts.Counts.{Counts}
 use Rattle.bsc_history.specs.declared.told.Worn.{Worn}
 use Rattle.bsc_history.specs.declared.told.AlreadyStopped.{AlreadyStopped}
@@ -19,7 +20,9 @@ use Rattle.bsc_desk.specs.declared.connecting.NewRow.{NewRow}
 use Rattle.bsc_desk.specs.declared.connecting.NoRow.{NoRow}
 use Rattle.bsc_desk.specs.declared.connecting.NoRow.TheVariants.{Worn as NoRowWorn, Refused as NoRowRefused}
 use Rattle.bsc_desk.specs.declared.forwarding.OneReply.{OneReply}
-use Rattle.bsc_desk.specs.declared.forwarding.OneReply.TheVariants.{Appended as OneAppended, Closed as OneClosed, Skipped as OneSkipped, NoHolder as OneNoHolder, NotCurrent as OneNotCurrent, Stopped as OneStopped}
+use Rattle.bsc_desk.specs.declared.forwarding.OneReply.TheVariants.{Appended as OneAppended, Closed as OneClosed, Skipped as OneSkipped}
+use Rattle.bsc_desk.specs.declared.forwarding.OneReply.TheVariants.{NoHolder as OneNoHolder, NotCurrent as OneNotCurrent}
+use Rattle.bsc_desk.specs.declared.forwarding.OneReply.TheVariants.{Stopped as OneStopped}
 use Rattle.bsc_desk.specs.declared.broadcasting.AllReply.{AllReply}
 use Rattle.bsc_desk.specs.declared.broadcasting.AllReply.TheVariants.{Sent as AllSent, NotCurrent as AllNotCurrent, Stopped as AllStopped}
 use Rattle.bsc_desk.specs.declared.broadcasting.AllRefusal.{AllRefusal}

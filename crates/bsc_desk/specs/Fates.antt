@@ -1,5 +1,6 @@
 -- What becomes of a frame at the rows of a desk.
-use Rattle.std.specs.Prelude.{◌≡◌, ◌≤◌, ◌<◌, ◌+◌, ◌^◌, ◌==◌, ◌&&◌, ℕ, nat_lt, Bool, true, false, not, ⊤, List, [], ◌∷◌, length, filter, get_or, Option, Some, None, vec_len, vec_capacity}
+use Rattle.std.specs.Prelude.{◌≡◌, ◌≤◌, ◌<◌, ◌+◌, ◌^◌, ◌==◌, ◌&&◌, ℕ, nat_lt, Bool, true, false, not, ⊤, List, [], ◌∷◌, length, filter}
+use Rattle.std.specs.Prelude.{get_or, Option, Some, None, vec_len, vec_capacity}
 use Rattle.std.specs.List.{flat_map, AllByRecursion}
 use Rattle.bsc_history.specs.declared.ending.End.{End}
 use Rattle.bsc_history.specs.declared.ending.End.TheVariants.{Full}

@@ -1,7 +1,8 @@
 //! Connects.
 #![tactic(auto)]
 
-ghost use Rattle.std.specs.Prelude.{◌≡◌, ◌<◌, ℕ, ◌+◌, ◌++◌, ◌&&◌, Bool, false, ◌∷◌, [], List, length, position, find, vec_len, None, IfErr, IfSome, IsTrue, IsFalse};
+ghost use Rattle.std.specs.Prelude.{◌≡◌, ◌<◌, ℕ, ◌+◌, ◌++◌, ◌&&◌, Bool, false, ◌∷◌, [], List, length, position, find, vec_len, None};
+ghost use Rattle.std.specs.Prelude.{IfErr, IfSome, IsTrue, IsFalse};
 ghost use Rattle.std.specs.List.{list_all};
 ghost use Rattle.std.specs.Option.{option_map};
 ghost use Rattle.bsc_octets.specs.Addresses.{same_vmac, same_device, zero_vmac, broadcast};

@@ -1,7 +1,8 @@
 //! Forwards of a unicast.
 #![tactic(auto)]
 
-ghost use Rattle.std.specs.Prelude.{◌≡◌, ◌≤◌, ◌<◌, ◌↔◌, ◌&&◌, ◌++◌, ◌∷◌, [], List, length, position, vec_len, vec_capacity, Some, None, IfOk, IfErr, IsErr, OnErr, IsTrue, IsFalse, is_some};
+ghost use Rattle.std.specs.Prelude.{◌≡◌, ◌≤◌, ◌<◌, ◌↔◌, ◌&&◌, ◌++◌, ◌∷◌, [], List, length, position, vec_len, vec_capacity, Some, None};
+ghost use Rattle.std.specs.Prelude.{IfOk, IfErr, IsErr, OnErr, IsTrue, IsFalse, is_some};
 ghost use Rattle.bsc_octets.specs.Addresses.{same_vmac};
 ghost use Rattle.bsc_octets.specs.Forwarding.{destination, has_route, is_broadcast, out};
 ghost use Rattle.bsc_history.specs.declared.ending.End.TheVariants.{Full};

@@ -36,7 +36,8 @@ OfDestOptions m P = IsTrue (announces_dest_options (flags_in m)) × P (options_a
 abbrev pub OfDataOptions : List ℕ → (ℕ → Type 0) → Type 0
 OfDataOptions m P = IsTrue (announces_data_options (flags_in m)) × ((at : ℕ) × BeginsDataOptions m at × P at)
 
--- C7: octets of an announced list of options are missing, in either list. Where the destination options are cut, the data options have no place and are not looked at.
+-- C7: octets of an announced list of options are missing, in either list. Where the destination options are cut, the data
+-- options have no place and are not looked at.
 abbrev pub LacksOptionOctets : List ℕ → Type 0
 LacksOptionOctets m = OfDestOptions m (IsCut m) ⊎ OfDataOptions m (IsCut m)
 
@@ -74,7 +75,8 @@ HasValueOutOfRange m = OfPayload m IsOutOfRange
 
 -- ---- the first that fails
 
--- The check fails of these octets. The checks that refuse a message are not made here: C9 and C12, by which its receiver does not understand it, and C2, C4 and C13, which ask for the place at which it came.
+-- The check fails of these octets. The checks that refuse a message are not made here: C9 and C12, by which its receiver
+-- does not understand it, and C2, C4 and C13, which ask for the place at which it came.
 abbrev pub Fails : List ℕ → Check → Type 0
 Fails m C1 = IsShort m
 Fails m C3 = LacksAddressOctets m

@@ -71,4 +71,5 @@ IsBeyondFixedPart function p = (takes_rest function p ≡ false) × (fixed_part 
 -- A value is out of its range, or a text is not UTF-8.
 abbrev pub IsOutOfRange : ℕ → List ℕ → Type 0
 IsOutOfRange function p =
-    HasUnknownResult function p ⊎ HasBadDetails function p ⊎ HasBadUris function p ⊎ HasUnknownStatus function p ⊎ HasUnknownAccepts function p ⊎ HasNoNodesVmac function p
+    HasUnknownResult function p ⊎ HasBadDetails function p ⊎ HasBadUris function p ⊎ HasUnknownStatus function p
+        ⊎ HasUnknownAccepts function p ⊎ HasNoNodesVmac function p

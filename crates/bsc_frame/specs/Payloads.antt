@@ -9,11 +9,14 @@ use Rattle.bsc_frame.specs.declared.answer.Answer.{Answer}
 use Rattle.bsc_frame.specs.declared.answer.Answer.TheVariants.{Ack, Nak}
 use Rattle.bsc_frame.specs.declared.advert.Advert.{Advert}
 use Rattle.bsc_frame.specs.declared.body.Body.{Body}
-use Rattle.bsc_frame.specs.declared.body.Body.TheVariants.{BvlcResult, Npdu, AddressResolution, AddressResolutionAck, Advertisement, AdvertisementSolicitation, ConnectRequest, ConnectAccept, DisconnectRequest, DisconnectAck, HeartbeatRequest, HeartbeatAck, Proprietary}
+use Rattle.bsc_frame.specs.declared.body.Body.TheVariants.{BvlcResult, Npdu, AddressResolution, AddressResolutionAck, Advertisement}
+use Rattle.bsc_frame.specs.declared.body.Body.TheVariants.{AdvertisementSolicitation, ConnectRequest, ConnectAccept, DisconnectRequest}
+use Rattle.bsc_frame.specs.declared.body.Body.TheVariants.{DisconnectAck, HeartbeatRequest, HeartbeatAck, Proprietary}
 
 -- ---- their octets
 
--- A BVLC-Result: the function answered, and 00 for an ACK; for a NAK 01, the header marker, the error class and the error code in two octets each, and the details.
+-- A BVLC-Result: the function answered, and 00 for an ACK; for a NAK 01, the header marker, the error class and the error
+-- code in two octets each, and the details.
 abbrev pub answer_octets : Answer → List ℕ
 answer_octets (Ack function) = function ∷ 0x00 ∷ []
 answer_octets (Nak function marker class code details) = (function ∷ 0x01 ∷ marker ∷ []) ++ big_bytes 2 class ++ big_bytes 2 code ++ details

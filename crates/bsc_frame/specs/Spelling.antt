@@ -7,7 +7,8 @@ use Rattle.bsc_options.specs.Spelling.{HasShape, bit, has_items, spelling_of}
 use Rattle.bsc_frame.specs.declared.message.Message.{Message}
 use Rattle.bsc_frame.specs.Payloads.{function_of, payload_of, HasPayload}
 
--- The control flags: bit 3 is set where there is an Originating address, bit 2 for a Destination address, bit 1 for destination options and bit 0 for data options, and the others are clear.
+-- The control flags: bit 3 is set where there is an Originating address, bit 2 for a Destination address, bit 1 for
+-- destination options and bit 0 for data options, and the others are clear.
 abbrev pub flags_of : Message → ℕ
 flags_of msg = 8 * bit (is_some msg.origin) + 4 * bit (is_some msg.dest) + 2 * bit (has_items msg.dest_options) + bit (has_items msg.data_options)
 
@@ -19,7 +20,8 @@ spelling msg = (function_of msg.body ∷ flags_of msg ∷ big_bytes 2 msg.id) ++
 abbrev pub TakesDataOptions : ℕ → Type 0
 TakesDataOptions function = (function ≡ 0x01) ⊎ (function ≡ 0x0C)
 
--- The message has a spelling: its ID fits two octets, its addresses are whole, each option has a shape, data options are where they can be, and the body has a payload.
+-- The message has a spelling: its ID fits two octets, its addresses are whole, each option has a shape, data options are
+-- where they can be, and the body has a payload.
 pub record HasSpelling (msg : Message) : Type 0 where
   pub id : msg.id < 2 ^ 16
   pub origin : IfSome msg.origin (λ v. length v.0 ≡ 6)

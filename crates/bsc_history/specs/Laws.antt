@@ -1,5 +1,6 @@
 -- What holds of every legal history.
-use Rattle.std.specs.Prelude.{◌≡◌, ◌≢◌, ◌≤◌, ◌+◌, ◌⊎◌, ℕ, ◌==◌, Bool, false, not, ◌&&◌, is_none, if◌then◌else◌, count_by, List, [], ◌∷◌, ◌++◌, length, Option, Some, None, IsTrue, ⊤}
+use Rattle.std.specs.Prelude.{◌≡◌, ◌≢◌, ◌≤◌, ◌+◌, ◌⊎◌, ℕ, ◌==◌, Bool, false, not, ◌&&◌, is_none, if◌then◌else◌, count_by, List, [], ◌∷◌}
+use Rattle.std.specs.Prelude.{◌++◌, length, Option, Some, None, IsTrue, ⊤}
 use Rattle.std.specs.List.{AllByRecursion, list_any, range_with_len}
 use Rattle.bsc_octets.specs.declared.identity.Identity.{Identity}
 use Rattle.bsc_octets.specs.Forwarding.{destination, is_broadcast, out}

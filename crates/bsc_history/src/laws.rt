@@ -6,7 +6,10 @@ ghost use Rattle.std.specs.Prelude.{List};
 ghost use Rattle.bsc_history.specs.declared.limits.About.{About};
 ghost use Rattle.bsc_history.specs.declared.entry.Entry.{Entry};
 ghost use Rattle.bsc_history.specs.Legality.{Legal};
-ghost use Rattle.bsc_history.specs.Laws.{NumbersInOrder, NumbersAreNew, OneHolder, OneOfDevice, UnicastJoins, UnicastToHolderAlone, BroadcastJoins, BroadcastToOthersAlone, AddsOnce, FullCloses, FullMisses, OneOfThree, NoneAfterEnd, JoinTakesOver, RefusalChangesNone, EndStays, EndsByCause, AddsAsNamed, LiveUntilEnded, WithinCapacity};
+ghost use Rattle.bsc_history.specs.Laws.{NumbersInOrder, NumbersAreNew, OneHolder, OneOfDevice, UnicastJoins, UnicastToHolderAlone};
+ghost use Rattle.bsc_history.specs.Laws.{BroadcastJoins, BroadcastToOthersAlone, AddsOnce, FullCloses, FullMisses, OneOfThree};
+ghost use Rattle.bsc_history.specs.Laws.{NoneAfterEnd, JoinTakesOver, RefusalChangesNone, EndStays, EndsByCause, AddsAsNamed};
+ghost use Rattle.bsc_history.specs.Laws.{LiveUntilEnded, WithinCapacity};
 
 /// Connections are numbered from 1, in the order of joining.
 pub fn numbering()

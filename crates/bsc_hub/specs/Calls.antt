@@ -16,7 +16,8 @@ use Rattle.bsc_desk.specs.declared.broadcasting.AllReply.{AllReply}
 use Rattle.bsc_desk.specs.declared.connecting.NewRow.{NewRow}
 use Rattle.bsc_desk.specs.declared.forwarding.OneReply.{OneReply}
 use Rattle.bsc_desk.specs.declared.leaving.Gone.{Gone}
-use Rattle.bsc_desk.specs.Entries.{all_looks, all_reply, connect_stamped, count_entry, connect_entry, forward_entry, leave_entry, one_looks, one_reply, plain, stop_entry}
+use Rattle.bsc_desk.specs.Entries.{all_looks, all_reply, connect_stamped, count_entry, connect_entry, forward_entry, leave_entry}
+use Rattle.bsc_desk.specs.Entries.{one_looks, one_reply, plain, stop_entry}
 use Rattle.bsc_hub.specs.declared.joined.ConnectRefusal.{ConnectRefusal}
 use Rattle.bsc_hub.specs.declared.joined.ConnectRefusal.TheVariants.{NoMemory, Worn as WornRefusal, Refused}
 use Rattle.bsc_hub.specs.declared.joined.Joined.{Joined}

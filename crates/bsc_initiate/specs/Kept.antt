@@ -6,7 +6,8 @@ use Rattle.bsc_initiate.specs.declared.step.InitStep.{InitStep}
 use Rattle.bsc_initiate.specs.declared.step.InitStep.TheVariants.{PutClose, Connected as NowConnected, Refused, Close}
 use Rattle.bsc_initiate.specs.declared.stage.Stage.{Stage}
 use Rattle.bsc_initiate.specs.declared.stage.Stage.TheVariants.{AwaitingWebsocket, AwaitingAccept, Connected, Disconnecting, Idle}
-use Rattle.bsc_initiate.specs.Past.{Standing, awaiting_websocket, awaiting_accept, connected, disconnecting, request_at, is_accepted_at, farewell_at, until_farewell, is_message, is_late_tick, is_heartbeat_due}
+use Rattle.bsc_initiate.specs.Past.{Standing, awaiting_websocket, awaiting_accept, connected, disconnecting, request_at, is_accepted_at}
+use Rattle.bsc_initiate.specs.Past.{farewell_at, until_farewell, is_message, is_late_tick, is_heartbeat_due}
 
 -- the standing of a machine that waits for this
 abbrev pub standing_at : Stage → Standing

@@ -16,7 +16,8 @@ use Rattle.bsc_initiate.specs.declared.event.InitEvent.TheVariants.{Opened, Mess
 use Rattle.bsc_initiate.specs.declared.step.InitStep.{InitStep}
 use Rattle.bsc_initiate.specs.declared.step.InitStep.TheVariants.{Put, PutClose, Connected, Refused, Up, Close, Nothing}
 use Rattle.bsc_initiate.specs.Messages.{connect_request, heartbeat_request, who_accepts, refusing_code}
-use Rattle.bsc_initiate.specs.Past.{Standing, awaiting_websocket, awaiting_accept, connected, disconnecting, standing, last_message, heartbeat_was_put, is_heartbeat_due}
+use Rattle.bsc_initiate.specs.Past.{Standing, awaiting_websocket, awaiting_accept, connected, disconnecting, standing, last_message}
+use Rattle.bsc_initiate.specs.Past.{heartbeat_was_put, is_heartbeat_due}
 
 -- ---- a message
 

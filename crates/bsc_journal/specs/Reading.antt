@@ -12,7 +12,8 @@ use Rattle.bsc_history.specs.declared.entry.Entry.{Entry}
 use Rattle.bsc_history.specs.declared.looks.Look.{Look}
 use Rattle.bsc_history.specs.declared.reply.Refusal.TheVariants.{Stopped as RefusedStopped, Duplicate, TableFull}
 use Rattle.bsc_history.specs.declared.reply.Reply.{Reply}
-use Rattle.bsc_history.specs.declared.reply.Reply.TheVariants.{Joined, Refused, Appended, Closed, Skipped, NoHolder, SentAll, NotCurrent, Stopped, Gone, Counted}
+use Rattle.bsc_history.specs.declared.reply.Reply.TheVariants.{Joined, Refused, Appended, Closed, Skipped, NoHolder, SentAll, NotCurrent}
+use Rattle.bsc_history.specs.declared.reply.Reply.TheVariants.{Stopped, Gone, Counted}
 use Rattle.bsc_text.specs.Lines.{same_octets}
 use Rattle.bsc_text.specs.Grammar.{decoded, is_digit, is_letter, number_of}
 use Rattle.bsc_text.specs.Words.{space, words_of}

@@ -1,7 +1,8 @@
 //! Which entries have a line.
 ghost use Rattle.std.specs.Prelude.{◌≡◌, ◌&&◌, true, false, IsTrue};
 ghost use Rattle.std.specs.List.{list_all};
-ghost use Rattle.bsc_journal.specs.Saying.{FitsCall, HasLine, HasOctets, IsIdentity, ShowsLooks, are_octets, are_short, call_is_short, is_connect, is_short, look_is_short, reply_is_short};
+ghost use Rattle.bsc_journal.specs.Saying.{FitsCall, HasLine, HasOctets, IsIdentity, ShowsLooks, are_octets, are_short, call_is_short};
+ghost use Rattle.bsc_journal.specs.Saying.{is_connect, is_short, look_is_short, reply_is_short};
 
 use bsc_history::{Call, Counts, Entry, Look, Refusal, Reply};
 use bsc_octets::Identity;

@@ -1,7 +1,8 @@
 //! Reading a reply.
 ghost use Rattle.std.specs.Prelude.{◌≡◌, IfOk, Some, None, Err};
 ghost use Rattle.bsc_text.specs.Words.{words_of};
-ghost use Rattle.bsc_journal.specs.Reading.{connect_reply_in, counts_of, end_of, gone_in, joined_in, last_reply_in, not_current_in, number_if, numbers_among, other_reply_in, reply_in, sent_in};
+ghost use Rattle.bsc_journal.specs.Reading.{connect_reply_in, counts_of, end_of, gone_in, joined_in, last_reply_in, not_current_in};
+ghost use Rattle.bsc_journal.specs.Reading.{number_if, numbers_among, other_reply_in, reply_in, sent_in};
 
 use crate::reading::{after_one, numbers_in};
 use bsc_history::{Conns, Counts, End, Refusal, Reply};

@@ -1,7 +1,8 @@
 //! Replies, put at the end of a line.
 ghost use Rattle.std.specs.Prelude.{◌≡◌, ◌++◌, flat_map, IfOk, codes, decimal};
 ghost use Rattle.bsc_history.specs.declared.reply.Reply.TheVariants.{SentAll as SentAllReply};
-ghost use Rattle.bsc_script.specs.Texts.{replacing_words, joined_words, holder_words, refusal_words, ending_word, forward_words, gone_words, list_words, counts_words};
+ghost use Rattle.bsc_script.specs.Texts.{replacing_words, joined_words, holder_words, refusal_words, ending_word, forward_words};
+ghost use Rattle.bsc_script.specs.Texts.{gone_words, list_words, counts_words};
 ghost use Rattle.bsc_journal.specs.Lines.{reply_text};
 
 use crate::texts::{put_number, put_numbered, put_words};

@@ -7,7 +7,8 @@ ghost use Rattle.std.specs.Option.{option_map};
 ghost use Rattle.bsc_history.specs.declared.call.Call.TheVariants.{Connect, Forward, Leave};
 ghost use Rattle.bsc_history.specs.declared.looks.Look.{Look};
 ghost use Rattle.bsc_history.specs.Replies.{number_of, rival};
-ghost use Rattle.bsc_legality.specs.Deciding.{accepts, all_due, all_looked, can_all, conns, connect_due, due, first_reply, is_full_at, may_call_in, one_due, one_looked, says_due, serves};
+ghost use Rattle.bsc_legality.specs.Deciding.{accepts, all_due, all_looked, can_all, conns, connect_due, due, first_reply, is_full_at};
+ghost use Rattle.bsc_legality.specs.Deciding.{may_call_in, one_due, one_looked, says_due, serves};
 ghost use Rattle.bsc_legality.specs.Rows.{AreAlone, connection, holder_in, rising};
 ghost use Rattle.bsc_legality.specs.Sameness.{same_numbers, same_reply};
 

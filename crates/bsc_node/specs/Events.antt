@@ -8,11 +8,13 @@ use Rattle.bsc_direct.specs.declared.call.SlotCall.TheVariants.{Claim}
 use Rattle.bsc_node.specs.declared.link_name.LinkName.{LinkName}
 use Rattle.bsc_node.specs.declared.link_name.LinkName.TheVariants.{Hub, Direct}
 use Rattle.bsc_node.specs.declared.node_event.NodeEvent.{NodeEvent}
-use Rattle.bsc_node.specs.declared.node_event.NodeEvent.TheVariants.{Start, Opened, DialFailed, Arrived, Came, CameText, Lost, Tick, Send, Resolve, DirectTo, Solicit, Finish, Random, NoRandom}
+use Rattle.bsc_node.specs.declared.node_event.NodeEvent.TheVariants.{Start, Opened, DialFailed, Arrived, Came, CameText, Lost, Tick}
+use Rattle.bsc_node.specs.declared.node_event.NodeEvent.TheVariants.{Send, Resolve, DirectTo, Solicit, Finish, Random, NoRandom}
 use Rattle.bsc_node.specs.declared.note.Note.TheVariants.{NoDirect}
 use Rattle.bsc_node.specs.declared.action.Action.TheVariants.{Dial, Take, Refuse}
 use Rattle.bsc_node.specs.Logs.{Made, Rule, nothing, in_order, when, where_found, does, tells, now}
-use Rattle.bsc_node.specs.Links.{Outcome, puts, puts_and_closes, closes, meets, is_refused, passes_up, keeps_still, names, is_there, opens, hears, ticks, outcome}
+use Rattle.bsc_node.specs.Links.{Outcome, puts, puts_and_closes, closes, meets, is_refused, passes_up, keeps_still, names, is_there}
+use Rattle.bsc_node.specs.Links.{opens, hears, ticks, outcome}
 use Rattle.bsc_node.specs.Ways.{wanted, next_uri, free_slot, slots_see, resolution_sees}
 use Rattle.bsc_node.specs.Ending.{carries_out_by, tells_connector, tells_finished, ends, closes_link, finishes_link}
 use Rattle.bsc_node.specs.Meeting.{meets_peer, is_refused_by, renews, keeps_vmac}

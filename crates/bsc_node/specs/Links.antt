@@ -19,7 +19,8 @@ use Rattle.bsc_accept.specs.declared.start.Start.{Start}
 use Rattle.bsc_initiate.specs.declared.event.InitEvent.{InitEvent}
 use Rattle.bsc_initiate.specs.declared.event.InitEvent.TheVariants.{Opened, Message as InitMessage, Tick as InitTick, Finish as InitFinish}
 use Rattle.bsc_initiate.specs.declared.step.InitStep.{InitStep}
-use Rattle.bsc_initiate.specs.declared.step.InitStep.TheVariants.{Put, PutClose, Connected as InitConnected, Refused, Up, Close as InitClose, Nothing as InitNothing}
+use Rattle.bsc_initiate.specs.declared.step.InitStep.TheVariants.{Put, PutClose, Connected as InitConnected, Refused, Up}
+use Rattle.bsc_initiate.specs.declared.step.InitStep.TheVariants.{Close as InitClose, Nothing as InitNothing}
 use Rattle.bsc_accept.specs.declared.event.Event.{Event}
 use Rattle.bsc_accept.specs.declared.event.Event.TheVariants.{Message as AcceptMessage, Tick as AcceptTick, Finish as AcceptFinish}
 use Rattle.bsc_accept.specs.declared.step.Step.{Step}

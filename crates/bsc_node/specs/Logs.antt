@@ -1,6 +1,7 @@
 -- The log of a node: what came to it, what it asked of its parts, and what it did, in the order in which it came about,
 -- newest last. All that a node knows is read off its log by looking back.
-use Rattle.std.specs.Prelude.{ℕ, ◌+◌, ◌%◌, ◌==◌, Bool, true, false, not, List, [], ◌∷◌, ◌++◌, drop, length, count_by, fold, slice_index, Option, Some, None, unwrap_or}
+use Rattle.std.specs.Prelude.{ℕ, ◌+◌, ◌%◌, ◌==◌, Bool, true, false, not, List, [], ◌∷◌, ◌++◌, drop, length, count_by, fold, slice_index}
+use Rattle.std.specs.Prelude.{Option, Some, None, unwrap_or}
 use Rattle.std.specs.List.{list_any}
 use Rattle.std.specs.Option.{option_map}
 use Rattle.bsc_octets.specs.declared.vmac.Vmac.{Vmac}

@@ -20,7 +20,8 @@ use Rattle.bsc_node.specs.declared.node_event.NodeEvent.{NodeEvent}
 use Rattle.bsc_node.specs.declared.node_event.NodeEvent.TheVariants.{Came, Random}
 use Rattle.bsc_node.specs.declared.note.Note.TheVariants.{DirectUp, Nak, Renewed, NoRandom}
 use Rattle.bsc_node.specs.declared.action.Action.TheVariants.{Close, Draw}
-use Rattle.bsc_node.specs.Logs.{Made, Line, came, connector, accepting, Log, Rule, nothing, in_order, either, when, where_found, does, tells, own_vmac, is_finishing}
+use Rattle.bsc_node.specs.Logs.{Made, Line, came, connector, accepting, Log, Rule, nothing, in_order, either, when, where_found, does}
+use Rattle.bsc_node.specs.Logs.{tells, own_vmac, is_finishing}
 use Rattle.bsc_node.specs.Links.{none_there, was_taken}
 use Rattle.bsc_node.specs.Hubs.{is_tried, is_connected_event}
 use Rattle.bsc_node.specs.Ways.{wanted, awaits_peer, establish, slots_see}

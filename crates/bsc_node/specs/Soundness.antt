@@ -1,6 +1,7 @@
 -- How a log is tied together: what it says of the parts, of the links, of the slots and of the user fits, after each
 -- event. Each tie can be computed. They are what a node keeps from one event to the next.
-use Rattle.std.specs.Prelude.{ℕ, ◌+◌, ◌*◌, ◌%◌, ◌==◌, nat_eq, Bool, true, false, not, ◌&&◌, ◌||◌, if◌then◌else◌, List, [], ◌∷◌, ◌++◌, fold, length, map, filter, filter_map, slice_index, Option, Some, None, is_some, is_none, unwrap_or}
+use Rattle.std.specs.Prelude.{ℕ, ◌+◌, ◌*◌, ◌%◌, ◌==◌, nat_eq, Bool, true, false, not, ◌&&◌, ◌||◌, if◌then◌else◌, List, [], ◌∷◌, ◌++◌}
+use Rattle.std.specs.Prelude.{fold, length, map, filter, filter_map, slice_index, Option, Some, None, is_some, is_none, unwrap_or}
 use Rattle.std.specs.List.{list_all, list_any, range_with_len}
 use Rattle.std.specs.Cmp.Lexicographic.{pointwise}
 use Rattle.bsc_octets.specs.declared.identity.Identity.{Identity}
@@ -252,7 +253,8 @@ hubs_are_sound a L =
     && dropped_is_disconnecting L && word_is_awaited_well L
 
 abbrev pub slots_are_sound : Log → Bool
-slots_are_sound L = links_begin_well L && slots_are_told_well L && slots_have_their_links L && list_all (claimed_slot_is_sound L) (claimed_slots L) && peers_are_apart L
+slots_are_sound L = links_begin_well L && slots_are_told_well L && slots_have_their_links L
+    && list_all (claimed_slot_is_sound L) (claimed_slots L) && peers_are_apart L
 
 -- What is tied together in a log.
 abbrev pub is_sound : Made → Log → Bool

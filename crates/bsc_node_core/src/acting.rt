@@ -123,7 +123,8 @@ impl State {
         name: LinkName,
         uri: Octets,
     ) -> Result<(), NoMemory>
-        ensures { OnOk result ((b : Base) (L : Log) → b.made.limits.times ≡ times → b.now ≡ now → is_name name ≡ true → Stands b out.old self.old L → Stands b out.new self.new (L ++ did (Action.Dial name uri) ∷ [])) }
+        ensures { OnOk result ((b : Base) (L : Log) → b.made.limits.times ≡ times → b.now ≡ now → is_name name ≡ true
+            → Stands b out.old self.old L → Stands b out.new self.new (L ++ did (Action.Dial name uri) ∷ [])) }
     {
         out.push(Action::Dial(name, uri))?;
         let machine = Initiating::start(self.own, times, now);
@@ -140,7 +141,8 @@ impl State {
         now: u64,
         k: u32,
     ) -> Result<(), NoMemory>
-        ensures { OnOk result ((b : Base) (L : Log) → b.made.limits.times ≡ times → b.now ≡ now → k < 64 → Stands b out.old self.old L → Stands b out.new self.new (L ++ did (Action.Take (LinkName.Direct k)) ∷ [])) }
+        ensures { OnOk result ((b : Base) (L : Log) → b.made.limits.times ≡ times → b.now ≡ now → k < 64 → Stands b out.old self.old L
+            → Stands b out.new self.new (L ++ did (Action.Take (LinkName.Direct k)) ∷ [])) }
     {
         out.push(Action::Take(LinkName::Direct(k)))?;
         let machine = Accepting::start(self.own, times, now);
@@ -153,7 +155,8 @@ impl State {
     pub(crate) fn told(&mut self, now: u64, event: ConnectorEvent) -> ConnectorStep
         requires time { now < 2 ^ 62 }
         requires order { MayCome self.old.connector event }
-        ensures { (b : Base) (out : List Action) (L : Log) → b.now ≡ now → Stands b out self.old L → Stands b out self.new (L ++ told event L) × (newest_step b.made (L ++ told event L) ≡ result) }
+        ensures { (b : Base) (out : List Action) (L : Log) → b.now ≡ now → Stands b out self.old L
+            → Stands b out self.new (L ++ told event L) × (newest_step b.made (L ++ told event L) ≡ result) }
     {
         self.renewals = renewals_after(event, self.renewals);
         self.dropped = dropped_after(event, self.dropped);

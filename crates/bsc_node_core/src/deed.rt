@@ -59,7 +59,8 @@ impl Deed {
 
     /// That of a step of a link that was taken. In Connected what the machine does nothing with is for the node.
     pub(crate) fn of_taken(alloc: Global, step: Step, connected: bool) -> Result<Deed, NoMemory>
-        ensures { IfOk result (λ d. (origin : Option Vmac) (standing : Standing) (e : Event) → goes_up e standing ≡ connected → accepting_outcome standing e step ≡ outcome_of origin (message_taken e) d) }
+        ensures { IfOk result (λ d. (origin : Option Vmac) (standing : Standing) (e : Event) → goes_up e standing ≡ connected
+            → accepting_outcome standing e step ≡ outcome_of origin (message_taken e) d) }
     {
         Ok(match step {
             Step::Ask(who) => Deed::Meets(who),

@@ -12,7 +12,8 @@ ghost use Rattle.bsc_connector.specs.declared.side.Side.{Side};
 ghost use Rattle.bsc_node.specs.declared.link_name.LinkName.{LinkName};
 ghost use Rattle.bsc_direct.specs.Slots.{slots};
 ghost use Rattle.bsc_node.specs.Hubs.{hub_use_before, is_dropped, newest_step, same_use};
-ghost use Rattle.bsc_node.specs.Ending.{carries_out_by, closes_link, dials_failover, dials_primary, drops_failover, ends, ends_by, ends_hub, ends_slot, finishes_link, finishes_machine, tells_connector, tells_finished, tells_use};
+ghost use Rattle.bsc_node.specs.Ending.{carries_out_by, closes_link, dials_failover, dials_primary, drops_failover, ends, ends_by};
+ghost use Rattle.bsc_node.specs.Ending.{ends_hub, ends_slot, finishes_link, finishes_machine, tells_connector, tells_finished, tells_use};
 ghost use Rattle.bsc_node_core.specs.Rules.{outcome_of, tells_down};
 ghost use Rattle.bsc_node_core.specs.Resting.{FollowsAtRest};
 ghost use Rattle.bsc_node_core.specs.Standing.{Base, Goes, Stands};
@@ -55,7 +56,8 @@ impl State {
         deed: Deed,
     ) -> Result<(), NoMemory>
         ensures direct { OnOk result (self.new.direct ≡ self.old.direct) }
-        ensures goes { OnOk result ((origin : Option Vmac) (msg : Option Message) → Goes (λ a. carries_out_by name (outcome_of origin msg deed)) out.old self.old out.new self.new) }
+        ensures goes { OnOk result ((origin : Option Vmac) (msg : Option Message)
+            → Goes (λ a. carries_out_by name (outcome_of origin msg deed)) out.old self.old out.new self.new) }
     {
         match deed {
             Deed::Puts(octets) => self.put(out, name, octets),
@@ -88,7 +90,8 @@ impl State {
         now: u64,
         name: LinkName,
     ) -> Result<(), NoMemory>
-        ensures { OnOk result ((b : Base) (L : Log) → b.now ≡ now → b.busy ≡ None → is_name name ≡ true → Stands b out.old self.old L → Stands b out.new self.new (L ++ finishes_machine b.made name L)) }
+        ensures { OnOk result ((b : Base) (L : Log) → b.now ≡ now → b.busy ≡ None → is_name name ≡ true → Stands b out.old self.old L
+            → Stands b out.new self.new (L ++ finishes_machine b.made name L)) }
     {
         if self.links.is_there(name) {
             let deed = self.finishes(alloc, now, name)?;
@@ -106,7 +109,8 @@ impl State {
         limits: &NodeLimits,
         now: u64,
     ) -> Result<(), NoMemory>
-        ensures { OnOk result ((b : Base) (L : Log) → b.made.limits.times ≡ limits.now.times → b.now ≡ now → Stands b out.old self.old L → Stands b out.new self.new (L ++ did (Action.Dial (LinkName.Hub Side.Primary) limits.now.primary) ∷ [])) }
+        ensures { OnOk result ((b : Base) (L : Log) → b.made.limits.times ≡ limits.now.times → b.now ≡ now → Stands b out.old self.old L
+            → Stands b out.new self.new (L ++ did (Action.Dial (LinkName.Hub Side.Primary) limits.now.primary) ∷ [])) }
     {
         let uri = limits.primary.copy(alloc)?;
         self.dial(out, limits.times, now, LinkName::Hub(Side::Primary), uri)
@@ -114,7 +118,8 @@ impl State {
 
     /// Closes a link that is there.
     fn close_there(&mut self, out: &mut Actions, name: LinkName) -> Result<(), NoMemory>
-        ensures { OnOk result ((b : Base) (L : Log) → is_name name ≡ true → Stands b out.old self.old L → Stands b out.new self.new (L ++ when (is_there name) (does (Action.Close name normal)) L)) }
+        ensures { OnOk result ((b : Base) (L : Log) → is_name name ≡ true → Stands b out.old self.old L
+            → Stands b out.new self.new (L ++ when (is_there name) (does (Action.Close name normal)) L)) }
     {
         if self.links.is_there(name) {
             self.close(out, name, Closing::NORMAL)
@@ -150,7 +155,8 @@ impl State {
         now: u64,
         step: &ConnectorStep,
     ) -> Result<(), NoMemory>
-        ensures { OnOk result ((b : Base) (L : Log) → b.made.limits ≡ limits.now → b.now ≡ now → newest_step b.made L ≡ step.now → Stands b out.old self.old L → Stands b out.new self.new (L ++ dials_primary b.made L)) }
+        ensures { OnOk result ((b : Base) (L : Log) → b.made.limits ≡ limits.now → b.now ≡ now → newest_step b.made L ≡ step.now
+            → Stands b out.old self.old L → Stands b out.new self.new (L ++ dials_primary b.made L)) }
     {
         if step.dial_primary && !self.finishing {
             self.dial_primary(out, alloc, limits, now)
@@ -168,7 +174,8 @@ impl State {
         now: u64,
         step: &ConnectorStep,
     ) -> Result<(), NoMemory>
-        ensures { OnOk result ((b : Base) (L : Log) → b.made.limits ≡ limits.now → b.now ≡ now → newest_step b.made L ≡ step.now → Stands b out.old self.old L → Stands b out.new self.new (L ++ dials_failover b.made L)) }
+        ensures { OnOk result ((b : Base) (L : Log) → b.made.limits ≡ limits.now → b.now ≡ now → newest_step b.made L ≡ step.now
+            → Stands b out.old self.old L → Stands b out.new self.new (L ++ dials_failover b.made L)) }
     {
         if step.dial_failover && !self.finishing {
             self.dial_failover(out, alloc, limits, now)
@@ -197,7 +204,8 @@ impl State {
         now: u64,
         step: &ConnectorStep,
     ) -> Result<(), NoMemory>
-        ensures { OnOk result ((b : Base) (L : Log) → b.now ≡ now → b.busy ≡ None → newest_step b.made L ≡ step.now → Stands b out.old self.old L → Stands b out.new self.new (L ++ drops_failover b.made L)) }
+        ensures { OnOk result ((b : Base) (L : Log) → b.now ≡ now → b.busy ≡ None → newest_step b.made L ≡ step.now
+            → Stands b out.old self.old L → Stands b out.new self.new (L ++ drops_failover b.made L)) }
     {
         if step.drop_failover {
             self.finish_machine(out, alloc, now, LinkName::Hub(Side::Failover))
@@ -336,7 +344,8 @@ impl State {
         closing: Closing,
     ) -> Result<(), NoMemory>
         requires { now < 2 ^ 62 }
-        ensures { OnOk result ((b : Base) (L : Log) → b.made.limits ≡ limits.now → b.now ≡ now → b.busy ≡ None → is_name name ≡ true → Stands (busy_with name b) out.old self.old L
+        ensures { OnOk result ((b : Base) (L : Log) → b.made.limits ≡ limits.now → b.now ≡ now → b.busy ≡ None → is_name name ≡ true
+            → Stands (busy_with name b) out.old self.old L
             → Stands b out.new self.new (L ++ closes_link b.made name closing L)) }
     {
         self.close(out, name, closing)?;
@@ -353,7 +362,8 @@ impl State {
         name: LinkName,
     ) -> Result<(), NoMemory>
         requires { now < 2 ^ 62 }
-        ensures { OnOk result ((b : Base) (L : Log) → b.made.limits ≡ limits.now → b.now ≡ now → b.busy ≡ None → is_name name ≡ true → Stands b out.old self.old L
+        ensures { OnOk result ((b : Base) (L : Log) → b.made.limits ≡ limits.now → b.now ≡ now → b.busy ≡ None → is_name name ≡ true
+            → Stands b out.old self.old L
             → Stands b out.new self.new (L ++ either (is_there name) nothing (ends b.made name) L)) }
     {
         if self.links.is_there(name) {
@@ -373,7 +383,8 @@ impl State {
         name: LinkName,
     ) -> Result<(), NoMemory>
         requires { now < 2 ^ 62 }
-        ensures { OnOk result ((b : Base) (L : Log) → b.made.limits ≡ limits.now → b.now ≡ now → b.busy ≡ None → is_name name ≡ true → Stands b out.old self.old L
+        ensures { OnOk result ((b : Base) (L : Log) → b.made.limits ≡ limits.now → b.now ≡ now → b.busy ≡ None → is_name name ≡ true
+            → Stands b out.old self.old L
             → Stands b out.new self.new (L ++ in_order (finishes_machine b.made name ∷ either (is_there name) nothing (ends b.made name) ∷ []) L)) }
     {
         self.finish_machine(out, alloc, now, name)?;
@@ -390,7 +401,8 @@ impl State {
         name: LinkName,
     ) -> Result<(), NoMemory>
         requires { now < 2 ^ 62 }
-        ensures { OnOk result ((b : Base) (L : Log) → b.made.limits ≡ limits.now → b.now ≡ now → b.busy ≡ None → is_name name ≡ true → Stands b out.old self.old L
+        ensures { OnOk result ((b : Base) (L : Log) → b.made.limits ≡ limits.now → b.now ≡ now → b.busy ≡ None → is_name name ≡ true
+            → Stands b out.old self.old L
             → Stands b out.new self.new (L ++ finishes_link b.made name L)) }
     {
         if self.links.is_there(name) {

@@ -28,7 +28,8 @@ fn next_uri(
     k: u32,
     whom: Option<Vmac>,
 ) -> Result<Option<Octets>, NoMemory>
-    ensures { IfOk result (λ uri. (b : Base) (out : List Action) (L : Log) → k < 64 → wanted k L ≡ whom → BothStand b out state.now resolve.now L → uri ≡ next_uri k L) }
+    ensures { IfOk result (λ uri. (b : Base) (out : List Action) (L : Log) → k < 64 → wanted k L ≡ whom
+        → BothStand b out state.now resolve.now L → uri ≡ next_uri k L) }
 {
     match whom {
         None => Ok(None),

@@ -67,7 +67,8 @@ impl State {
         limits: &NodeLimits,
         now: u64,
     ) -> Result<(), NoMemory>
-        ensures { OnOk result ((b : Base) (L : Log) → b.made.limits ≡ limits.now → b.now ≡ now → Stands b out.old self.old L → Stands b out.new self.new (L ++ arrives L)) }
+        ensures { OnOk result ((b : Base) (L : Log) → b.made.limits ≡ limits.now → b.now ≡ now → Stands b out.old self.old L
+            → Stands b out.new self.new (L ++ arrives L)) }
     {
         match self.direct.claim(None) {
             Ok(k) => {
@@ -204,7 +205,8 @@ pub(crate) fn hear(
 ) -> Result<(), NoMemory>
     requires time { now < 2 ^ 62 }
     requires uris { IfSome limits.now.uris IsUtf8 }
-    ensures goes { OnOk result ((b : Base) (L : Log) → b.made.limits ≡ limits.now → b.now ≡ now → b.busy ≡ None → is_name name ≡ true → is_open name L ≡ true → BothStand b out.old state.old resolve.old L
+    ensures goes { OnOk result ((b : Base) (L : Log) → b.made.limits ≡ limits.now → b.now ≡ now → b.busy ≡ None → is_name name ≡ true
+        → is_open name L ≡ true → BothStand b out.old state.old resolve.old L
         → BothStand b out.new state.new resolve.new (L ++ in_order (hears b.made name octets.now ∷ obeys b.made name ∷ []) L)) }
     ensures err { OnErr result (IsUnchanged resolve.old resolve.new) }
 {

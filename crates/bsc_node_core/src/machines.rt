@@ -114,7 +114,8 @@ impl State {
         step: InitStep,
     ) -> Result<Deed, NoMemory>
         requires { LeavesInitiating step machine }
-        ensures { IfOk result (λ d. (b : Base) (out : List Action) (L : Log) (before : Initiating) (e : InitEvent) → (link_at self.old.links name).machine ≡ Machine.Dialled before → is_name name ≡ true
+        ensures { IfOk result (λ d. (b : Base) (out : List Action) (L : Log) (before : Initiating) (e : InitEvent)
+            → (link_at self.old.links name).machine ≡ Machine.Dialled before → is_name name ≡ true
             → AnswersInitiating before machine e step → may_tell_dialled before.stage e ≡ true → Stands (busy_with name b) out self.old L
             → HasTold b out self.new (L ++ initiating name e ∷ []) name (outcome_of (origin_of e) (message_of e) d)) }
     {
@@ -133,7 +134,8 @@ impl State {
         connected: bool,
     ) -> Result<Deed, NoMemory>
         requires { LeavesAccepting step machine }
-        ensures { IfOk result (λ d. (b : Base) (out : List Action) (L : Log) (before : Accepting) (e : Event) (origin : Option Vmac) → taken_in (link_at self.old.links name).machine ≡ Some before → is_name name ≡ true
+        ensures { IfOk result (λ d. (b : Base) (out : List Action) (L : Log) (before : Accepting) (e : Event) (origin : Option Vmac)
+            → taken_in (link_at self.old.links name).machine ≡ Some before → is_name name ≡ true
             → AnswersAccepting before machine e step → may_tell_taken before.stage e ≡ true → goes_up e (standing (accepting_events L name)) ≡ connected → Stands (busy_with name b) out self.old L
             → HasTold b out self.new (L ++ accepting name e ∷ []) name (outcome_of origin (message_taken e) d)) }
     {
@@ -150,7 +152,8 @@ impl State {
         machine: Initiating,
     ) -> Result<Deed, NoMemory>
         requires { IsOpenInitiating machine }
-        ensures { IfOk result (λ d. (b : Base) (out : List Action) (L : Log) → (link_at self.old.links name).machine ≡ Machine.Dialled machine → is_name name ≡ true → Stands (busy_with name b) out self.old L
+        ensures { IfOk result (λ d. (b : Base) (out : List Action) (L : Log)
+            → (link_at self.old.links name).machine ≡ Machine.Dialled machine → is_name name ≡ true → Stands (busy_with name b) out self.old L
             → HasTold b out self.new (L ++ initiating name (InitEvent.Finish now self.old.next) ∷ []) name (outcome_of None None d)) }
     {
         let mut machine = machine;
@@ -167,7 +170,8 @@ impl State {
         machine: Accepting,
     ) -> Result<Deed, NoMemory>
         requires { IsOpenAccepting machine }
-        ensures { IfOk result (λ d. (b : Base) (out : List Action) (L : Log) → (link_at self.old.links name).machine ≡ Machine.Taken machine → is_name name ≡ true → Stands (busy_with name b) out self.old L
+        ensures { IfOk result (λ d. (b : Base) (out : List Action) (L : Log)
+            → (link_at self.old.links name).machine ≡ Machine.Taken machine → is_name name ≡ true → Stands (busy_with name b) out self.old L
             → HasTold b out self.new (L ++ accepting name (Event.Finish now self.old.next) ∷ []) name (outcome_of None None d)) }
     {
         let mut machine = machine;
@@ -182,7 +186,8 @@ impl State {
         now: u64,
         name: LinkName,
     ) -> Result<Deed, NoMemory>
-        ensures { IfOk result (λ d. (b : Base) (out : List Action) (L : Log) → b.now ≡ now → b.busy ≡ None → is_name name ≡ true → is_there name L ≡ true → Stands b out self.old L
+        ensures { IfOk result (λ d. (b : Base) (out : List Action) (L : Log) → b.now ≡ now → b.busy ≡ None → is_name name ≡ true
+            → is_there name L ≡ true → Stands b out self.old L
             → HasTold b out self.new (L ++ finishes name L) name (outcome_of None None d)) }
     {
         match self.links.get(name).machine {
@@ -201,7 +206,8 @@ impl State {
         machine: Initiating,
     ) -> Result<Deed, NoMemory>
         requires { IsOpenInitiating machine }
-        ensures { IfOk result (λ d. (b : Base) (out : List Action) (L : Log) → (link_at self.old.links name).machine ≡ Machine.Dialled machine → is_name name ≡ true → Stands (busy_with name b) out self.old L
+        ensures { IfOk result (λ d. (b : Base) (out : List Action) (L : Log)
+            → (link_at self.old.links name).machine ≡ Machine.Dialled machine → is_name name ≡ true → Stands (busy_with name b) out self.old L
             → HasTold b out self.new (L ++ initiating name (InitEvent.Tick now self.old.next) ∷ []) name (outcome_of None None d)) }
     {
         let mut machine = machine;
@@ -218,7 +224,8 @@ impl State {
         machine: Accepting,
     ) -> Result<Deed, NoMemory>
         requires { IsOpenAccepting machine }
-        ensures { IfOk result (λ d. (b : Base) (out : List Action) (L : Log) → (link_at self.old.links name).machine ≡ Machine.Taken machine → is_name name ≡ true → Stands (busy_with name b) out self.old L
+        ensures { IfOk result (λ d. (b : Base) (out : List Action) (L : Log)
+            → (link_at self.old.links name).machine ≡ Machine.Taken machine → is_name name ≡ true → Stands (busy_with name b) out self.old L
             → HasTold b out self.new (L ++ accepting name (Event.Tick now) ∷ []) name (outcome_of None None d)) }
     {
         let mut machine = machine;
@@ -233,7 +240,8 @@ impl State {
         now: u64,
         name: LinkName,
     ) -> Result<Deed, NoMemory>
-        ensures { IfOk result (λ d. (b : Base) (out : List Action) (L : Log) → b.now ≡ now → b.busy ≡ None → is_name name ≡ true → is_there name L ≡ true → Stands b out self.old L
+        ensures { IfOk result (λ d. (b : Base) (out : List Action) (L : Log) → b.now ≡ now → b.busy ≡ None → is_name name ≡ true
+            → is_there name L ≡ true → Stands b out self.old L
             → HasTold b out self.new (L ++ ticks name L) name (outcome_of None None d)) }
     {
         match self.links.get(name).machine {
@@ -252,7 +260,8 @@ impl State {
         machine: Initiating,
     ) -> Result<Deed, NoMemory>
         requires { AwaitsWebsocket machine }
-        ensures { IfOk result (λ d. (b : Base) (out : List Action) (L : Log) → (link_at self.old.links name).machine ≡ Machine.Dialled machine → is_name name ≡ true → Stands (busy_with name b) out self.old L
+        ensures { IfOk result (λ d. (b : Base) (out : List Action) (L : Log)
+            → (link_at self.old.links name).machine ≡ Machine.Dialled machine → is_name name ≡ true → Stands (busy_with name b) out self.old L
             → HasTold b out self.new (L ++ initiating name (InitEvent.Opened now self.old.next) ∷ []) name (outcome_of None None d)) }
     {
         let mut machine = machine;
@@ -267,7 +276,8 @@ impl State {
         now: u64,
         name: LinkName,
     ) -> Result<Deed, NoMemory>
-        ensures { IfOk result (λ d. (b : Base) (out : List Action) (L : Log) → b.now ≡ now → b.busy ≡ None → is_name name ≡ true → is_dialling name L ≡ true → Stands b out self.old L
+        ensures { IfOk result (λ d. (b : Base) (out : List Action) (L : Log) → b.now ≡ now → b.busy ≡ None → is_name name ≡ true
+            → is_dialling name L ≡ true → Stands b out self.old L
             → HasTold b out self.new (L ++ opens name L) name (outcome_of None None d)) }
     {
         match self.links.get(name).machine {
@@ -293,7 +303,9 @@ impl State {
         verdict: &Verdict,
     ) -> Result<Deed, NoMemory>
         requires { IsOpenInitiating machine }
-        ensures { IfOk result (λ d. (b : Base) (out : List Action) (L : Log) → (link_at self.old.links name).machine ≡ Machine.Dialled machine → is_name name ≡ true → may_tell_dialled machine.stage (InitEvent.Message now verdict.now) ≡ true
+        ensures { IfOk result (λ d. (b : Base) (out : List Action) (L : Log)
+            → (link_at self.old.links name).machine ≡ Machine.Dialled machine → is_name name ≡ true
+            → may_tell_dialled machine.stage (InitEvent.Message now verdict.now) ≡ true
             → Stands (busy_with name b) out self.old L
             → HasTold b out self.new (L ++ initiating name (InitEvent.Message now verdict.now) ∷ []) name (outcome_of (origin_in verdict.now) (message_in verdict.now) d)) }
     {
@@ -312,7 +324,8 @@ impl State {
         verdict: &Verdict,
     ) -> Result<Deed, NoMemory>
         requires { IsOpenAccepting machine }
-        ensures { IfOk result (λ d. (b : Base) (out : List Action) (L : Log) → (link_at self.old.links name).machine ≡ Machine.Taken machine → is_name name ≡ true → Stands (busy_with name b) out self.old L
+        ensures { IfOk result (λ d. (b : Base) (out : List Action) (L : Log)
+            → (link_at self.old.links name).machine ≡ Machine.Taken machine → is_name name ≡ true → Stands (busy_with name b) out self.old L
             → HasTold b out self.new (L ++ accepting name (Event.Message now verdict.now) ∷ []) name (outcome_of (origin_in verdict.now) (message_in verdict.now) d)) }
     {
         let mut machine = machine;
@@ -328,7 +341,8 @@ impl State {
         name: LinkName,
         octets: &[u8],
     ) -> Result<Verdict, NoMemory>
-        ensures { IfOk result (λ found. (b : Base) (out : List Action) (L : Log) → b.busy ≡ None → is_name name ≡ true → is_open name L ≡ true → Stands b out self.now L → Links.verdict b.made L name octets.now ≡ found) }
+        ensures { IfOk result (λ found. (b : Base) (out : List Action) (L : Log) → b.busy ≡ None → is_name name ≡ true
+            → is_open name L ≡ true → Stands b out self.now L → Links.verdict b.made L name octets.now ≡ found) }
     {
         let place = place_of(self.own.vmac, name, &self.links.get(name));
         judged(alloc, octets, &place, self.own.max_bvlc)
@@ -342,7 +356,8 @@ impl State {
         name: LinkName,
         verdict: &Verdict,
     ) -> Result<Deed, NoMemory>
-        ensures { IfOk result (λ d. (b : Base) (out : List Action) (L : Log) (o : List ℕ) → b.now ≡ now → b.busy ≡ None → is_name name ≡ true → is_open name L ≡ true → Links.verdict b.made L name o ≡ verdict.now → Stands b out self.old L
+        ensures { IfOk result (λ d. (b : Base) (out : List Action) (L : Log) (o : List ℕ) → b.now ≡ now → b.busy ≡ None
+            → is_name name ≡ true → is_open name L ≡ true → Links.verdict b.made L name o ≡ verdict.now → Stands b out self.old L
             → HasTold b out self.new (L ++ hears b.made name o L) name (outcome_of (origin_in verdict.now) (message_in verdict.now) d)) }
     {
         match self.links.get(name).machine {

@@ -12,7 +12,8 @@ ghost use Rattle.bsc_node.specs.Messages.{duplicate_vmac_code};
 ghost use Rattle.bsc_node.specs.Links.{meets};
 ghost use Rattle.bsc_node.specs.Ways.{establish};
 ghost use Rattle.bsc_node.specs.Ending.{carries_out};
-ghost use Rattle.bsc_node.specs.Meeting.{comes_up, ends_refused, finishes_replaced, is_hub, is_refused_by, joins, may_draw, meets_dialled, meets_direct, meets_peer, meets_slot, meets_taken, refuser, refuses, renewals};
+ghost use Rattle.bsc_node.specs.Meeting.{comes_up, ends_refused, finishes_replaced, is_hub, is_refused_by, joins, may_draw};
+ghost use Rattle.bsc_node.specs.Meeting.{meets_dialled, meets_direct, meets_peer, meets_slot, meets_taken, refuser, refuses, renewals};
 ghost use Rattle.bsc_node_core.specs.declared.machine.Machine.{Machine};
 ghost use Rattle.bsc_node_core.specs.Tables.{is_name, link_at};
 ghost use Rattle.bsc_node_core.specs.Standing.{Base, Stands};
@@ -56,7 +57,8 @@ impl State {
         replaced: Option<u32>,
     ) -> Result<(), NoMemory>
         requires { now < 2 ^ 62 }
-        ensures { OnOk result ((b : Base) (L : Log) → b.made.limits ≡ limits.now → b.now ≡ now → b.busy ≡ None → ((k : ℕ) → replaced ≡ Some k → is_name (LinkName.Direct k) ≡ true)
+        ensures { OnOk result ((b : Base) (L : Log) → b.made.limits ≡ limits.now → b.now ≡ now → b.busy ≡ None → ((k : ℕ)
+            → replaced ≡ Some k → is_name (LinkName.Direct k) ≡ true)
             → Stands b out.old self.old L → Stands b out.new self.new (L ++ finishes_replaced b.made replaced L)) }
     {
         match replaced {
@@ -78,7 +80,8 @@ impl State {
         requires time { now < 2 ^ 62 }
         requires claimed { IsOnlyClaimed self.old.direct k }
         requires unicast { who.vmac ≢ broadcast }
-        ensures { OnOk result ((b : Base) (L : Log) (replaced : Option ℕ) → b.made.limits ≡ limits.now → b.now ≡ now → b.busy ≡ None → establish b.made k who L ≡ Establish.Up replaced
+        ensures { OnOk result ((b : Base) (L : Log) (replaced : Option ℕ) → b.made.limits ≡ limits.now → b.now ≡ now → b.busy ≡ None
+            → establish b.made k who L ≡ Establish.Up replaced
             → Stands b out.old self.old L → Stands b out.new self.new (L ++ comes_up b.made k who replaced L)) }
     {
         let own = self.own.vmac;
@@ -130,7 +133,8 @@ impl State {
     ) -> Result<(), NoMemory>
         requires { AwaitsAnswer machine }
         ensures direct { OnOk result (self.new.direct ≡ self.old.direct) }
-        ensures goes { OnOk result ((b : Base) (L : Log) → b.busy ≡ None → is_name (LinkName.Direct k) ≡ true → (link_at self.old.links (LinkName.Direct k)).machine ≡ Machine.Asked machine
+        ensures goes { OnOk result ((b : Base) (L : Log) → b.busy ≡ None → is_name (LinkName.Direct k) ≡ true
+            → (link_at self.old.links (LinkName.Direct k)).machine ≡ Machine.Asked machine
             → Stands (busy_with (LinkName.Direct k) b) out.old self.old L
             → Stands b out.new self.new ((L ++ joins (LinkName.Direct k) L) ++ carries_out b.made (LinkName.Direct k) (L ++ joins (LinkName.Direct k) L))) }
     {
@@ -150,7 +154,8 @@ impl State {
         machine: Accepting,
     ) -> Result<(), NoMemory>
         requires { AwaitsAnswer machine }
-        ensures { OnOk result ((b : Base) (L : Log) → b.busy ≡ None → is_name (LinkName.Direct k) ≡ true → (link_at self.old.links (LinkName.Direct k)).machine ≡ Machine.Asked machine
+        ensures { OnOk result ((b : Base) (L : Log) → b.busy ≡ None → is_name (LinkName.Direct k) ≡ true
+            → (link_at self.old.links (LinkName.Direct k)).machine ≡ Machine.Asked machine
             → Stands (busy_with (LinkName.Direct k) b) out.old self.old L
             → Stands b out.new self.new ((L ++ refuses (LinkName.Direct k) L) ++ carries_out b.made (LinkName.Direct k) (L ++ refuses (LinkName.Direct k) L))) }
     {
@@ -176,7 +181,8 @@ impl State {
         requires asked { AwaitsAnswer machine }
         requires claimed { IsOnlyClaimed self.old.direct k }
         requires unicast { who.vmac ≢ broadcast }
-        ensures { OnOk result ((b : Base) (L : Log) → b.made.limits ≡ limits.now → b.now ≡ now → b.busy ≡ None → (link_at self.old.links (LinkName.Direct k)).machine ≡ Machine.Asked machine
+        ensures { OnOk result ((b : Base) (L : Log) → b.made.limits ≡ limits.now → b.now ≡ now → b.busy ≡ None
+            → (link_at self.old.links (LinkName.Direct k)).machine ≡ Machine.Asked machine
             → Stands (busy_with (LinkName.Direct k) b) out.old self.old L → Stands b out.new self.new (L ++ meets_taken b.made k who (establish b.made k who L) L)) }
     {
         match self.direct.establishes(self.own.vmac, k, &who) {
@@ -228,7 +234,8 @@ impl State {
         who: Identity,
     ) -> Result<(), NoMemory>
         requires { now < 2 ^ 62 }
-        ensures { OnOk result ((b : Base) (L : Log) → b.made.limits ≡ limits.now → b.now ≡ now → b.busy ≡ None → is_name (LinkName.Direct k) ≡ true → same_vmac who.vmac broadcast ≡ false
+        ensures { OnOk result ((b : Base) (L : Log) → b.made.limits ≡ limits.now → b.now ≡ now → b.busy ≡ None
+            → is_name (LinkName.Direct k) ≡ true → same_vmac who.vmac broadcast ≡ false
             → HasTold b out.old self.old L (LinkName.Direct k) (meets who) → Stands b out.new self.new (L ++ meets_direct b.made k who L)) }
     {
         if self.direct.awaits_peer(k) {
@@ -276,7 +283,8 @@ impl State {
         who: Identity,
     ) -> Result<(), NoMemory>
         requires { now < 2 ^ 62 }
-        ensures { OnOk result ((b : Base) (L : Log) → b.made.limits ≡ limits.now → b.now ≡ now → b.busy ≡ None → is_name name ≡ true → same_vmac who.vmac broadcast ≡ false
+        ensures { OnOk result ((b : Base) (L : Log) → b.made.limits ≡ limits.now → b.now ≡ now → b.busy ≡ None → is_name name ≡ true
+            → same_vmac who.vmac broadcast ≡ false
             → HasTold b out.old self.old L name (meets who) → Stands b out.new self.new (L ++ meets_peer b.made name who L)) }
     {
         match name {

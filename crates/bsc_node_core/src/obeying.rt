@@ -64,7 +64,8 @@ impl State {
         name: LinkName,
     ) -> Result<(), NoMemory>
         requires { now < 2 ^ 62 }
-        ensures { OnOk result ((b : Base) (L : Log) → b.made.limits ≡ limits.now → b.now ≡ now → b.busy ≡ None → is_name name ≡ true → is_dialling name L ≡ true → Stands b out.old self.old L
+        ensures { OnOk result ((b : Base) (L : Log) → b.made.limits ≡ limits.now → b.now ≡ now → b.busy ≡ None → is_name name ≡ true
+            → is_dialling name L ≡ true → Stands b out.old self.old L
             → Stands b out.new self.new (L ++ in_order (opens name ∷ obeys b.made name ∷ []) L)) }
     {
         let deed = self.opens(alloc, now, name)?;
@@ -81,7 +82,8 @@ impl State {
         name: LinkName,
     ) -> Result<(), NoMemory>
         requires { now < 2 ^ 62 }
-        ensures { OnOk result ((b : Base) (L : Log) → b.made.limits ≡ limits.now → b.now ≡ now → b.busy ≡ None → is_name name ≡ true → Stands b out.old self.old L
+        ensures { OnOk result ((b : Base) (L : Log) → b.made.limits ≡ limits.now → b.now ≡ now → b.busy ≡ None → is_name name ≡ true
+            → Stands b out.old self.old L
             → Stands b out.new self.new (L ++ ticks_link b.made name L)) }
     {
         if self.links.is_there(name) {

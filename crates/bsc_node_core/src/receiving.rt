@@ -8,7 +8,8 @@ ghost use Rattle.bsc_frame.specs.declared.message.Message.{Message};
 ghost use Rattle.bsc_frame.specs.Payloads.{IsAdvert};
 ghost use Rattle.bsc_resolve.specs.Standing.{IsUnchanged};
 ghost use Rattle.bsc_node.specs.Hubs.{hub_status};
-ghost use Rattle.bsc_node.specs.Receiving.{advert, advertises, answer_dest, answers_by, delivers, drops_question, is_broadcast_address, is_for_all, learns, of_sender, sender, takes_answer, takes_nak, takes_up};
+ghost use Rattle.bsc_node.specs.Receiving.{advert, advertises, answer_dest, answers_by, delivers, drops_question, is_broadcast_address};
+ghost use Rattle.bsc_node.specs.Receiving.{is_for_all, learns, of_sender, sender, takes_answer, takes_nak, takes_up};
 ghost use Rattle.bsc_node.specs.declared.action.Action.{Action};
 ghost use Rattle.bsc_node.specs.declared.note.Note.{Note};
 ghost use Rattle.bsc_node.specs.declared.link_name.LinkName.{LinkName};
@@ -86,7 +87,8 @@ fn vmac_of(who: Option<Identity>) -> Option<Vmac>
 impl State {
     /// Who sent a message: its Originating address, or on a direct connection the peer. The hub itself has none.
     fn sender(&self, name: LinkName, origin: Option<Vmac>) -> Option<Vmac>
-        ensures { (b : Base) (out : List Action) (L : Log) (msg : Message) → is_name name ≡ true → msg.origin ≡ origin → Stands b out self.now L → sender name msg L ≡ result }
+        ensures { (b : Base) (out : List Action) (L : Log) (msg : Message) → is_name name ≡ true → msg.origin ≡ origin
+            → Stands b out self.now L → sender name msg L ≡ result }
     {
         match name {
             LinkName::Hub(_) => origin,
@@ -178,7 +180,8 @@ impl State {
         name: LinkName,
         dest: Option<Vmac>,
     ) -> Result<(), NoMemory>
-        ensures { OnOk result ((b : Base) (L : Log) (msg : Message) → b.made.limits ≡ limits.now → answer_dest name msg ≡ dest → Stands b out.old self.old L → Stands b out.new self.new (L ++ advertises b.made name msg L)) }
+        ensures { OnOk result ((b : Base) (L : Log) (msg : Message) → b.made.limits ≡ limits.now → answer_dest name msg ≡ dest
+            → Stands b out.old self.old L → Stands b out.new self.new (L ++ advertises b.made name msg L)) }
     {
         let body = Body::Advertisement(self.advert(limits));
         let octets = message_octets(alloc, self.next, dest, body)?;
@@ -262,7 +265,8 @@ fn deliver(
     data_options: Options,
     npdu: Octets,
 ) -> Result<(), NoMemory>
-    ensures { OnOk result ((b : Base) (s : State) (L : Log) (name : LinkName) (msg : Message) → sender name msg L ≡ from → is_for_all msg ≡ broadcast → msg.data_options ≡ data_options
+    ensures { OnOk result ((b : Base) (s : State) (L : Log) (name : LinkName) (msg : Message) → sender name msg L ≡ from
+        → is_for_all msg ≡ broadcast → msg.data_options ≡ data_options
         → Stands b out.old s L → Stands b out.new s (L ++ of_sender name msg (delivers msg npdu) L)) }
 {
     match from {

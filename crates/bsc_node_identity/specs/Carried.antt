@@ -33,7 +33,8 @@ IsCarriedOn body =
 -- What passes, at any place, of a message with this body that was put without addresses is that message.
 abbrev pub IsCarriedPlainly : Body → Type 0
 IsCarriedPlainly body =
-    (id : ℕ) (place : Place) (max : ℕ) (msg : Message) → id < 2 ^ 16 → outcome_of (message_octets id None body) place max ≡ Pass msg → msg ≡ message id None body
+    (id : ℕ) (place : Place) (max : ℕ) (msg : Message) → id < 2 ^ 16 → outcome_of (message_octets id None body) place max ≡ Pass msg
+        → msg ≡ message id None body
 
 -- ---- where it goes
 

@@ -56,7 +56,8 @@ named_by body = None
 
 -- What passes of a Connect-Request or a Connect-Accept names whose it is, at each place.
 abbrev pub ConnectsNameTheirPeer : Type 0
-ConnectsNameTheirPeer = (who : Identity) (o : List ℕ) (place : Place) (max : ℕ) (msg : Message) → IsNode who → IsConnectOf who o → outcome_of o place max ≡ Pass msg → named_by msg.body ≡ Some who
+ConnectsNameTheirPeer = (who : Identity) (o : List ℕ) (place : Place) (max : ℕ) (msg : Message) → IsNode who → IsConnectOf who o
+    → outcome_of o place max ≡ Pass msg → named_by msg.body ≡ Some who
 
 -- What passes of other octets names nobody.
 abbrev pub OthersNameNobody : Type 0

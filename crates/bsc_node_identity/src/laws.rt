@@ -2,7 +2,8 @@
 ghost use Rattle.std.specs.Prelude.{ℕ, List};
 ghost use Rattle.bsc_frame.specs.declared.body.Body.TheVariants.{Npdu, AddressResolutionAck};
 ghost use Rattle.bsc_node.specs.Logs.{Made};
-ghost use Rattle.bsc_node_identity.specs.Naming.{NamesItself, SlotsComeUpAsNamed, SlotsHaveWhoNamedItself, PeersNamedThemselves, BegunIsNotEstablished, SlotsHaveTheirPeers, ConnectsNameTheirPeer, OthersNameNobody};
+ghost use Rattle.bsc_node_identity.specs.Naming.{NamesItself, SlotsComeUpAsNamed, SlotsHaveWhoNamedItself, PeersNamedThemselves};
+ghost use Rattle.bsc_node_identity.specs.Naming.{BegunIsNotEstablished, SlotsHaveTheirPeers, ConnectsNameTheirPeer, OthersNameNobody};
 ghost use Rattle.bsc_node_identity.specs.Resolving.{LearnsWhatWasAnswered, TellsItsOwnUris, DialsWhatItKnows};
 ghost use Rattle.bsc_node_identity.specs.Carried.{IsCarriedOn, IsCarriedPlainly, WaysLeadThere};
 

@@ -1,5 +1,7 @@
--- What a message begins with (Annex AB, "General BVLC Message Format"): BVLC Function, Control Flags, Message ID, and the Virtual Addresses that the flags announce.
-use Rattle.std.specs.Prelude.{◌≡◌, ℕ, ◌+◌, ◌/◌, ◌%◌, ◌==◌, nat_lt, if◌then◌else◌, Bool, List, [], ◌∷◌, ◌++◌, length, take, drop, slice_index, Option, Some, None, is_some, IfSome, Result, Ok, Err}
+-- What a message begins with (Annex AB, "General BVLC Message Format"): BVLC Function, Control Flags, Message ID, and the
+-- Virtual Addresses that the flags announce.
+use Rattle.std.specs.Prelude.{◌≡◌, ℕ, ◌+◌, ◌/◌, ◌%◌, ◌==◌, nat_lt, if◌then◌else◌, Bool, List, [], ◌∷◌, ◌++◌, length, take, drop}
+use Rattle.std.specs.Prelude.{slice_index, Option, Some, None, is_some, IfSome, Result, Ok, Err}
 use Rattle.byteorder.specs.Endian.{big_bytes, big_number}
 use Rattle.bsc_octets.specs.declared.vmac.Vmac.{Vmac}
 use Rattle.bsc_octets.specs.declared.envelope.Envelope.{Envelope}
@@ -24,18 +26,21 @@ announces_dest flags = (flags / 4 % 2) == 1
 abbrev pub announced_length : ℕ → ℕ
 announced_length flags = (if announces_origin flags then 6 else 0) + (if announces_dest flags then 6 else 0)
 
--- ---- the envelope that a message has, as a relation between the two. `SpellsEnvelope` and `HasWholeAddresses` bind together: the first alone also holds of an address with fewer than six octets
+-- ---- the envelope that a message has, as a relation between the two. `SpellsEnvelope` and `HasWholeAddresses` bind
+-- together: the first alone also holds of an address with fewer than six octets
 
 -- The octets of a Virtual Address that may be absent.
 abbrev pub address_octets : Option Vmac → List ℕ
 address_octets None = []
 address_octets (Some v) = v.0
 
--- The octets of an envelope: BVLC Function, Control Flags, Message ID with its high octet first, and the addresses that are present, the Originating before the Destination.
+-- The octets of an envelope: BVLC Function, Control Flags, Message ID with its high octet first, and the addresses that are
+-- present, the Originating before the Destination.
 abbrev pub envelope_octets : Envelope → List ℕ
 envelope_octets e = (e.function ∷ e.flags ∷ big_bytes 2 e.id) ++ address_octets e.origin ++ address_octets e.dest
 
--- The message begins with the octets of the envelope, whose Control Flags announce the addresses that it has and no other, and what follows those octets stands at `rest_at`.
+-- The message begins with the octets of the envelope, whose Control Flags announce the addresses that it has and no other,
+-- and what follows those octets stands at `rest_at`.
 pub record SpellsEnvelope (e : Envelope) (m : List ℕ) : Type 0 where
   pub spelling : m ≡ envelope_octets e ++ drop e.rest_at m
   pub place : e.rest_at ≡ length (envelope_octets e)

@@ -31,7 +31,8 @@ has_route m = nat_le 10 (length m) && announces_dest (flags_in m) && not (announ
 abbrev pub is_broadcast : List ℕ → Bool
 is_broadcast m = same_vmac (destination m) broadcast
 
--- The Control Flags with bit 3 set, since the Originating Virtual Address is present, and with bit 2 cleared for a unicast, whose Destination Virtual Address is taken out.
+-- The Control Flags with bit 3 set, since the Originating Virtual Address is present, and with bit 2 cleared for a unicast,
+-- whose Destination Virtual Address is taken out.
 abbrev pub flags_out : List ℕ → ℕ
 flags_out m = if is_broadcast m then bit_or (flags_in m) 8 else bit_and (bit_or (flags_in m) 8) 251
 
@@ -39,10 +40,13 @@ flags_out m = if is_broadcast m then bit_or (flags_in m) 8 else bit_and (bit_or 
 abbrev pub kept : List ℕ → List ℕ
 kept m = if is_broadcast m then broadcast.0 else []
 
--- The message m as it is passed on from a sender at v: BVLC Function, Control Flags and Message ID, then v as Originating Virtual Address, then for a broadcast the Destination Virtual Address, then all octets after the addresses.
+-- The message m as it is passed on from a sender at v: BVLC Function, Control Flags and Message ID, then v as Originating
+-- Virtual Address, then for a broadcast the Destination Virtual Address, then all octets after the addresses.
 unfoldable pub out : List ℕ → Vmac → List ℕ
 out m v = (function_in m ∷ flags_out m ∷ id_in m) ++ v.0 ++ kept m ++ after_destination m
 
--- The envelope of the message m as it is passed on from a sender at v: BVLC Function and Message ID as they were, v as Originating Virtual Address, and as Destination Virtual Address the broadcast address for a broadcast and none for a unicast.
+-- The envelope of the message m as it is passed on from a sender at v: BVLC Function and Message ID as they were, v as
+-- Originating Virtual Address, and as Destination Virtual Address the broadcast address for a broadcast and none for a
+-- unicast.
 abbrev pub envelope_out : List ℕ → Vmac → Envelope
 envelope_out m v = record { function = function_in m; flags = flags_out m; id = big_number 2 (id_in m); origin = Some v; dest = if is_broadcast m then Some broadcast else None; rest_at = if is_broadcast m then 16 else 10 }

@@ -1,5 +1,6 @@
 -- What header options are, and the octets of a list of them (Annex AB, "Header Options").
-use Rattle.std.specs.Prelude.{◌≡◌, ◌≢◌, ℕ, ◌+◌, ◌*◌, ◌<◌, ◌^◌, ◌==◌, nat_le, Bool, true, false, if◌then◌else◌, List, [], ◌∷◌, ◌++◌, length, Option, Some, None, is_some, is_none, IfSome}
+use Rattle.std.specs.Prelude.{◌≡◌, ◌≢◌, ℕ, ◌+◌, ◌*◌, ◌<◌, ◌^◌, ◌==◌, nat_le, Bool, true, false, if◌then◌else◌, List, [], ◌∷◌, ◌++◌}
+use Rattle.std.specs.Prelude.{length, Option, Some, None, is_some, is_none, IfSome}
 use Rattle.std.specs.List.{AllByRecursion}
 use Rattle.byteorder.specs.Endian.{big_bytes}
 use Rattle.bsc_options.specs.declared.item.OptionItem.{OptionItem}
@@ -16,7 +17,8 @@ abbrev pub has_three_octets : Option (List ℕ) → Bool
 has_three_octets None = false
 has_three_octets (Some octets) = nat_le 3 (length octets)
 
--- Whether the item has the data of its type: none for Secure Path, which is type 1; at least three octets for Proprietary, which is type 31; and any data or none for another type.
+-- Whether the item has the data of its type: none for Secure Path, which is type 1; at least three octets for Proprietary,
+-- which is type 31; and any data or none for another type.
 abbrev pub has_data_of_its_type : OptionItem → Bool
 has_data_of_its_type item = if item.kind == 1 then is_none item.content else if item.kind == 31 then has_three_octets item.content else true
 

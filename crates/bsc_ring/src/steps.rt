@@ -7,7 +7,8 @@ ghost use Rattle.bsc_history.specs.declared.ending.End.{End};
 ghost use Rattle.bsc_history.specs.declared.ending.End.TheVariants.{Left};
 ghost use Rattle.bsc_ring.specs.Lists.{Item, StartsWith};
 ghost use Rattle.bsc_ring.specs.Rule.{end_in, end_number, first_view, inlet_part, outlet_part};
-ghost use Rattle.bsc_ring.specs.Effects.{Agree, InletRests, OutletRests, TakesNext, after_end, after_finish, after_load, after_none, after_push, after_take, inlet_met, outlet_met};
+ghost use Rattle.bsc_ring.specs.Effects.{Agree, InletRests, OutletRests, TakesNext, after_end, after_finish, after_load, after_none};
+ghost use Rattle.bsc_ring.specs.Effects.{after_push, after_take, inlet_met, outlet_met};
 
 use crate::plays::{
     Confirm, InletHears, InletNote, IntoEnds, LoadEnd, LoadHead, LoadTail, OutletHears, OutletNote,

@@ -1,6 +1,7 @@
 -- What stands between a call of the desk and the meetings after it: the hub of a script stands for a state, but for what
 -- the outlets of some connections know, and for whether they wait.
-use Rattle.std.specs.Prelude.{◌≡◌, ◌≢◌, ◌==◌, ◌≤◌, ◌+◌, ◌++◌, drop, ℕ, Bool, true, false, List, [], length, set, slice_get, if◌then◌else◌, is_some, Option, Some, None}
+use Rattle.std.specs.Prelude.{◌≡◌, ◌≢◌, ◌==◌, ◌≤◌, ◌+◌, ◌++◌, drop, ℕ, Bool, true, false, List, [], length, set, slice_get}
+use Rattle.std.specs.Prelude.{if◌then◌else◌, is_some, Option, Some, None}
 use Rattle.std.specs.List.{list_any}
 use Rattle.std.specs.Option.{option_map}
 use Rattle.std.specs.Ordering.{nat_cmp}
@@ -108,7 +109,8 @@ pub record Seats (t u : ScriptHub) (at : ℕ) (j : Joined) : Type 0 where
   pub same_about : u.about ≡ t.about
   pub same_clock : u.clock ≡ t.clock
   pub kept : (e : List ℕ × KeptPeer) → slice_get (kept_in t) at ≡ Some e → kept_in u ≡ set (kept_in t) at (e.0, record e.1 { joined = Some j })
-  pub names : (e : List ℕ × KeptPeer) → slice_get (kept_in t) at ≡ Some e → (c : ℕ) → get nat_cmp u.names c ≡ (if j.conn == c then Some e.0 else get nat_cmp t.names c)
+  pub names : (e : List ℕ × KeptPeer) → slice_get (kept_in t) at ≡ Some e → (c : ℕ)
+      → get nat_cmp u.names c ≡ (if j.conn == c then Some e.0 else get nat_cmp t.names c)
 
 -- ---- emptying
 

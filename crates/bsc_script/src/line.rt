@@ -2,7 +2,8 @@
 ghost use Rattle.std.specs.Prelude.{◌≡◌, ◌∷◌, [], ℕ, List, IfOk, IfSome, MatchOption, if◌then◌else◌, Some, None, Err};
 ghost use Rattle.bsc_text.specs.Words.{words_of};
 ghost use Rattle.bsc_text.specs.Grammar.{octets_of_words};
-ghost use Rattle.bsc_script.specs.Lines.{open_line_of_words, in_line_of_words, name_line_of_words, at_line_of_words, bare_line_of_words, hubs_line_of_words, other_line_of_words, line_of};
+ghost use Rattle.bsc_script.specs.Lines.{open_line_of_words, in_line_of_words, name_line_of_words, at_line_of_words, bare_line_of_words};
+ghost use Rattle.bsc_script.specs.Lines.{hubs_line_of_words, other_line_of_words, line_of};
 
 use crate::hub_line::read_hub;
 use bsc_history::About;

@@ -1,7 +1,13 @@
 -- What each key is called in a fault line, and which key it is where a policy is refused.
 use Rattle.std.specs.Prelude.{ℕ, List, codes}
 use Rattle.bsc_settings.specs.declared.key.KeyName.{KeyName}
-use Rattle.bsc_settings.specs.declared.key.KeyName.TheVariants.{HubVmac, HubUuid, HubPort, HubMaxBvlc, HubMaxNpdu, HubRows, HubOutbox, HubConnectWaitMs, HubDisconnectWaitMs, HubHeartbeatMs, HubTurns, NodeVmac, NodeUuid, NodePrimary, NodeFailover, NodeDirectPort, NodeDirectUris, NodeMaxBvlc, NodeMaxNpdu, NodeConnectWaitMs, NodeDisconnectWaitMs, NodeHeartbeatMs, NodeLeastReconnectMs, NodeGreatestReconnectMs, NodeTurns, PolicyMember, PolicyRule, HubProduct, Unknown}
+use Rattle.bsc_settings.specs.declared.key.KeyName.TheVariants.{HubVmac, HubUuid, HubPort, HubMaxBvlc, HubMaxNpdu, HubRows, HubOutbox}
+use Rattle.bsc_settings.specs.declared.key.KeyName.TheVariants.{HubConnectWaitMs, HubDisconnectWaitMs, HubHeartbeatMs, HubTurns}
+use Rattle.bsc_settings.specs.declared.key.KeyName.TheVariants.{NodeVmac, NodeUuid, NodePrimary, NodeFailover, NodeDirectPort}
+use Rattle.bsc_settings.specs.declared.key.KeyName.TheVariants.{NodeDirectUris, NodeMaxBvlc, NodeMaxNpdu, NodeConnectWaitMs}
+use Rattle.bsc_settings.specs.declared.key.KeyName.TheVariants.{NodeDisconnectWaitMs, NodeHeartbeatMs, NodeLeastReconnectMs}
+use Rattle.bsc_settings.specs.declared.key.KeyName.TheVariants.{NodeGreatestReconnectMs, NodeTurns, PolicyMember, PolicyRule, HubProduct}
+use Rattle.bsc_settings.specs.declared.key.KeyName.TheVariants.{Unknown}
 use Rattle.bsc_settings.specs.declared.refusal.PolicyRefusal.{PolicyRefusal}
 use Rattle.bsc_settings.specs.declared.refusal.PolicyRefusal.TheVariants.{MemberList, Member, RuleList, Rule}
 

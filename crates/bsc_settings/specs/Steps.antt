@@ -9,7 +9,10 @@ use Rattle.bsc_settings.specs.declared.hub_said.HubSaid.TheVariants.{Settings, L
 use Rattle.bsc_settings.specs.declared.node_parts.NodePeers.{NodePeers}
 use Rattle.bsc_settings.specs.declared.node_parts.NodeSizes.{NodeSizes}
 use Rattle.bsc_settings.specs.declared.node_parts.NodeBounds.{NodeBounds}
-use Rattle.bsc_settings.specs.Table.{Row, hub_table, node_vmac_row, node_uuid_row, primary_row, failover_row, direct_port_row, direct_uris_row, node_max_bvlc_row, node_max_npdu_row, node_connect_wait_row, node_disconnect_wait_row, node_heartbeat_row, least_reconnect_row, greatest_reconnect_row, node_turns_row}
+use Rattle.bsc_settings.specs.Table.{Row, hub_table, node_vmac_row, node_uuid_row, primary_row, failover_row, direct_port_row}
+use Rattle.bsc_settings.specs.Table.{direct_uris_row, node_max_bvlc_row, node_max_npdu_row, node_connect_wait_row}
+use Rattle.bsc_settings.specs.Table.{node_disconnect_wait_row, node_heartbeat_row, least_reconnect_row, greatest_reconnect_row}
+use Rattle.bsc_settings.specs.Table.{node_turns_row}
 use Rattle.bsc_settings.specs.Values.{Value, vmac, uuid, number, number_if, text, text_if}
 use Rattle.bsc_settings.specs.Faults.{product_fault}
 use Rattle.bsc_settings.specs.Fields.{fields_of, values_of}

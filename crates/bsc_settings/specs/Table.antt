@@ -3,7 +3,12 @@ use Rattle.std.specs.Prelude.{ℕ, ◌≤◌, Bool, true, false, not, ◌||◌, 
 use Rattle.bsc_octets.specs.declared.vmac.Vmac.{Vmac}
 use Rattle.bsc_octets.specs.Addresses.{same_vmac, zero_vmac, broadcast}
 use Rattle.bsc_settings.specs.declared.key.KeyName.{KeyName}
-use Rattle.bsc_settings.specs.declared.key.KeyName.TheVariants.{HubVmac, HubUuid, HubPort, HubMaxBvlc, HubMaxNpdu, HubRows, HubOutbox, HubConnectWaitMs, HubDisconnectWaitMs, HubHeartbeatMs, HubTurns, NodeVmac, NodeUuid, NodePrimary, NodeFailover, NodeDirectPort, NodeDirectUris, NodeMaxBvlc, NodeMaxNpdu, NodeConnectWaitMs, NodeDisconnectWaitMs, NodeHeartbeatMs, NodeLeastReconnectMs, NodeGreatestReconnectMs, NodeTurns, PolicyMember, PolicyRule}
+use Rattle.bsc_settings.specs.declared.key.KeyName.TheVariants.{HubVmac, HubUuid, HubPort, HubMaxBvlc, HubMaxNpdu, HubRows, HubOutbox}
+use Rattle.bsc_settings.specs.declared.key.KeyName.TheVariants.{HubConnectWaitMs, HubDisconnectWaitMs, HubHeartbeatMs, HubTurns}
+use Rattle.bsc_settings.specs.declared.key.KeyName.TheVariants.{NodeVmac, NodeUuid, NodePrimary, NodeFailover, NodeDirectPort}
+use Rattle.bsc_settings.specs.declared.key.KeyName.TheVariants.{NodeDirectUris, NodeMaxBvlc, NodeMaxNpdu, NodeConnectWaitMs}
+use Rattle.bsc_settings.specs.declared.key.KeyName.TheVariants.{NodeDisconnectWaitMs, NodeHeartbeatMs, NodeLeastReconnectMs}
+use Rattle.bsc_settings.specs.declared.key.KeyName.TheVariants.{NodeGreatestReconnectMs, NodeTurns, PolicyMember, PolicyRule}
 
 -- What a key takes: the text of an address that names one node, the text of a device UUID, the text of the URI of a hub,
 -- the text of URIs with one space between two, the name of a group, a group or `*`, `allow` or `deny`, an integer from the

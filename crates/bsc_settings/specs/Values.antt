@@ -4,7 +4,8 @@ use Rattle.toml.specs.Data.{Data, Members, get_member, as_str, as_integer}
 use Rattle.bsc_octets.specs.declared.vmac.Vmac.{Vmac}
 use Rattle.bsc_octets.specs.declared.device_id.DeviceId.{DeviceId}
 use Rattle.bsc_text.specs.Grammar.{vmac_of_word, device_of_word}
-use Rattle.bsc_settings.specs.Table.{Kind, address, device, hub_uri, uris, group, group_or_all, allow_or_deny, integer, nothing, Default, required, absent, or_else, Row, is_node_address}
+use Rattle.bsc_settings.specs.Table.{Kind, address, device, hub_uri, uris, group, group_or_all, allow_or_deny, integer, nothing, Default}
+use Rattle.bsc_settings.specs.Table.{required, absent, or_else, Row, is_node_address}
 use Rattle.bsc_settings.specs.Uris.{is_hub_uri, are_uris}
 use Rattle.bsc_settings.specs.Groups.{is_group, is_group_or_all, allows_of}
 

@@ -1,6 +1,7 @@
 //! What is settled before a hub starts.
 ghost use Rattle.std.specs.Prelude.{◌≤◌, ◌*◌, ◌^◌};
-ghost use Rattle.bsc_settings.specs.Table.{port_row, max_bvlc_row, max_npdu_row, rows_row, outbox_row, connect_wait_row, disconnect_wait_row, heartbeat_row, turns_row, Fits, IsNodeAddress};
+ghost use Rattle.bsc_settings.specs.Table.{port_row, max_bvlc_row, max_npdu_row, rows_row, outbox_row, connect_wait_row};
+ghost use Rattle.bsc_settings.specs.Table.{disconnect_wait_row, heartbeat_row, turns_row, Fits, IsNodeAddress};
 
 use bsc_octets::{DeviceId, Vmac};
 

@@ -2,7 +2,9 @@
 ghost use Rattle.std.specs.Prelude.{◌≡◌, ◌≤◌, IfSome, is_some};
 ghost use Rattle.std.specs.Str.{IsUtf8};
 ghost use Rattle.std.proofs.Props.{props};
-ghost use Rattle.bsc_settings.specs.Table.{node_max_bvlc_row, node_max_npdu_row, node_connect_wait_row, node_disconnect_wait_row, node_heartbeat_row, least_reconnect_row, greatest_reconnect_row, node_turns_row, Fits, IsNodeAddress};
+ghost use Rattle.bsc_settings.specs.Table.{node_max_bvlc_row, node_max_npdu_row, node_connect_wait_row, node_disconnect_wait_row};
+ghost use Rattle.bsc_settings.specs.Table.{node_heartbeat_row, least_reconnect_row, greatest_reconnect_row, node_turns_row, Fits};
+ghost use Rattle.bsc_settings.specs.Table.{IsNodeAddress};
 ghost use Rattle.bsc_settings.specs.Uris.{IsHubUri, AreUris};
 
 use bsc_octets::{DeviceId, Octets, Vmac};

@@ -2,7 +2,8 @@
 ghost use Rattle.std.specs.Prelude.{◌≡◌, IfOk, IfErr, Some, None, Err};
 ghost use Rattle.bsc_text.specs.Words.{words_of};
 ghost use Rattle.bsc_text.specs.Grammar.{octets_of_words, vmac_of_word, device_of_word};
-ghost use Rattle.bsc_simulate.specs.Lines.{index_of, only_index, hub_line, node_of, direct_of_words, node_line, at_line, send_event, only_vmac, bare_event, bare_event_of, other_event, event_of, node_step, step_of, line_of};
+ghost use Rattle.bsc_simulate.specs.Lines.{index_of, only_index, hub_line, node_of, direct_of_words, node_line, at_line, send_event};
+ghost use Rattle.bsc_simulate.specs.Lines.{only_vmac, bare_event, bare_event_of, other_event, event_of, node_step, step_of, line_of};
 
 use crate::line::Line;
 use bsc_network::{Way, WorldStep};

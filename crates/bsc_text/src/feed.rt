@@ -3,7 +3,8 @@
 //! A `Feed` reads a source a chunk at a time, and cuts what it has read into lines: a caller takes lines
 //! until no whole one is left, and only then asks for the next chunk. It never holds more than one chunk and
 //! one line. What a line is, and which lines are too big, stands in `specs/Lines.antt`.
-ghost use Rattle.std.specs.Prelude.{◌≡◌, ◌≢◌, ◌+◌, ◌≤◌, if◌then◌else◌, ℕ, List, [], ◌∷◌, ◌++◌, length, take, drop, slice_index, MatchOption, true, false, ◌⊎◌, ◌<◌};
+ghost use Rattle.std.specs.Prelude.{◌≡◌, ◌≢◌, ◌+◌, ◌≤◌, if◌then◌else◌, ℕ, List, [], ◌∷◌, ◌++◌, length, take, drop, slice_index};
+ghost use Rattle.std.specs.Prelude.{MatchOption, true, false, ◌⊎◌, ◌<◌};
 ghost use Rattle.bsc_text.specs.Lines.{line_in, is_too_big, has_no_lf, BeginsLine};
 
 use bsc_octets::{NoMemory, Octets};
@@ -129,7 +130,8 @@ fn between(chunk: &[u8], at: usize, end: usize) -> &[u8]
 }
 
 impl Feed {
-    ghost use Rattle.std.specs.Prelude.{◌≡◌, ◌≤◌, ◌<◌, ◌+◌, true, false, ℕ, List, [], ◌∷◌, ◌++◌, Option, Some, Ok, OnOk, OnErr, IfOk, IsErr, length, take, drop};
+    ghost use Rattle.std.specs.Prelude.{◌≡◌, ◌≤◌, ◌<◌, ◌+◌, true, false, ℕ, List, [], ◌∷◌, ◌++◌, Option, Some, Ok, OnOk, OnErr, IfOk};
+    ghost use Rattle.std.specs.Prelude.{IsErr, length, take, drop};
     ghost use Rattle.std.specs.Io.KnownBytes.{Keeps, IsAtEnd};
     ghost use Rattle.bsc_outside.specs.Faults.{HasRisen};
     ghost use Rattle.bsc_text.specs.Feeding.{unread, rest_of, IsUsedUp, Gives, Feeds, Fills, fuel};

@@ -1,6 +1,7 @@
 //! Numbers, addresses, devices and names as words.
 ghost use Rattle.std.specs.Prelude.{◌≡◌, ◌<◌, ◌==◌, ◌||◌};
-ghost use Rattle.bsc_text.specs.Grammar.{number_of, vmac_of_word, maximum_of_word, device_of_word, identity_in, identity_of_words, is_name, has_leading_zero, is_letter, is_digit};
+ghost use Rattle.bsc_text.specs.Grammar.{number_of, vmac_of_word, maximum_of_word, device_of_word, identity_in, identity_of_words};
+ghost use Rattle.bsc_text.specs.Grammar.{is_name, has_leading_zero, is_letter, is_digit};
 ghost use Rattle.bsc_text.specs.Words.{words_of};
 ghost use Rattle.std.specs.List.{list_all};
 

@@ -9,7 +9,9 @@ use Rattle.bsc_frame.specs.declared.answer.Answer.{Answer}
 use Rattle.bsc_frame.specs.declared.answer.Answer.TheVariants.{Ack, Nak}
 use Rattle.bsc_frame.specs.declared.advert.Advert.{Advert}
 use Rattle.bsc_frame.specs.declared.body.Body.{Body}
-use Rattle.bsc_frame.specs.declared.body.Body.TheVariants.{BvlcResult, Npdu, AddressResolution, AddressResolutionAck, Advertisement, AdvertisementSolicitation, ConnectRequest, ConnectAccept, DisconnectRequest, DisconnectAck, HeartbeatRequest, HeartbeatAck, Proprietary}
+use Rattle.bsc_frame.specs.declared.body.Body.TheVariants.{BvlcResult, Npdu, AddressResolution, AddressResolutionAck, Advertisement}
+use Rattle.bsc_frame.specs.declared.body.Body.TheVariants.{AdvertisementSolicitation, ConnectRequest, ConnectAccept, DisconnectRequest}
+use Rattle.bsc_frame.specs.declared.body.Body.TheVariants.{DisconnectAck, HeartbeatRequest, HeartbeatAck, Proprietary}
 use Rattle.bsc_frame.specs.PayloadChecks.{result_code, expects_payload, fixed_part, takes_rest}
 
 -- ---- what it says
@@ -85,4 +87,5 @@ has_no_nodes_vmac function p = ((function == 0x06) || (function == 0x07)) && (sa
 -- Whether a value is out of its range, or a text is not UTF-8.
 abbrev pub is_out_of_range : ℕ → List ℕ → Bool
 is_out_of_range function p =
-    has_unknown_result function p || (has_bad_details function p || (has_bad_uris function p || (has_unknown_status function p || (has_unknown_accepts function p || has_no_nodes_vmac function p))))
+    has_unknown_result function p || (has_bad_details function p || (has_bad_uris function p || (has_unknown_status function p
+        || (has_unknown_accepts function p || has_no_nodes_vmac function p))))
