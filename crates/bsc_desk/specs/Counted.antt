@@ -7,8 +7,12 @@ use Rattle.bsc_desk.specs.Tallies.{no_counts}
 
 -- a unicast
 abbrev pub unicast_counts : Reply → Counts
-unicast_counts reply = record no_counts { unicasts = 1; appended = appended_in reply; dropped = one_if (appended_in reply == 0);
-    full = one_if (is_closing reply) }
+unicast_counts reply = record no_counts {
+  unicasts = 1;
+  appended = appended_in reply;
+  dropped = one_if (appended_in reply == 0);
+  full = one_if (is_closing reply);
+}
 
 -- a broadcast that joined so many outboxes, and that so many connections missed
 abbrev pub broadcast_counts : ℕ → ℕ → Counts

@@ -72,4 +72,4 @@ IsBeyondFixedPart function p = (takes_rest function p ≡ false) × (fixed_part 
 abbrev pub IsOutOfRange : ℕ → List ℕ → Type 0
 IsOutOfRange function p =
     HasUnknownResult function p ⊎ HasBadDetails function p ⊎ HasBadUris function p ⊎ HasUnknownStatus function p
-        ⊎ HasUnknownAccepts function p ⊎ HasNoNodesVmac function p
+    ⊎ HasUnknownAccepts function p ⊎ HasNoNodesVmac function p

@@ -34,7 +34,7 @@ IsCarriedOn body =
 abbrev pub IsCarriedPlainly : Body → Type 0
 IsCarriedPlainly body =
     (id : ℕ) (place : Place) (max : ℕ) (msg : Message) → id < 2 ^ 16 → outcome_of (message_octets id None body) place max ≡ Pass msg
-        → msg ≡ message id None body
+    → msg ≡ message id None body
 
 -- ---- where it goes
 

@@ -88,4 +88,4 @@ has_no_nodes_vmac function p = ((function == 0x06) || (function == 0x07)) && (sa
 abbrev pub is_out_of_range : ℕ → List ℕ → Bool
 is_out_of_range function p =
     has_unknown_result function p || (has_bad_details function p || (has_bad_uris function p || (has_unknown_status function p
-        || (has_unknown_accepts function p || has_no_nodes_vmac function p))))
+    || (has_unknown_accepts function p || has_no_nodes_vmac function p))))

@@ -1,8 +1,7 @@
 //! Paths with and without a slot, for each hub in use.
 use bsc_connector::HubUse;
-use bsc_direct::Direct;
+use bsc_direct::{Direct, *};
 use bsc_octets::Vmac;
-use bsc_direct::*;
 use std::test::*;
 
 const PEER: Vmac = Vmac([2, 0, 0, 0, 0, 10]);
