@@ -5,5 +5,5 @@ use Rattle.bsc_frame.proofs.head.known.Goals as goal
 pub returns-then-envelope-gt-FLAGS : goal.returns-then-envelope-gt-FLAGS
 returns-then-envelope-gt-FLAGS c = first_reserved c.args.m.now c.args.envelope c.requires.spells c.requires.whole (omega arith)
 
-pub returns-then-envelope-gt-LAST_FUNCTION : goal.returns-then-envelope-gt-LAST_FUNCTION
-returns-then-envelope-gt-LAST_FUNCTION c = first_unknown c.args.m.now c.args.envelope c.requires.spells c.requires.whole (omega arith) (omega arith)
+pub returns-then-envelope-gt-PROPRIETARY_MESSAGE : goal.returns-then-envelope-gt-PROPRIETARY_MESSAGE
+returns-then-envelope-gt-PROPRIETARY_MESSAGE c = first_unknown c.args.m.now c.args.envelope c.requires.spells c.requires.whole (omega arith) (omega arith)

@@ -50,8 +50,8 @@ returns-then-has_fault-2 c =
     let lists = are_lists m e facts dest.result more.result dest.ensures more.ensures list.0 other.0 c.in-Some.dest c.in-Some-end_of.data list.1 other.1 in
     first_bad m c.in-Some.dest c.in-Some-end_of.data list.0 other.0 lists (inr (of_second (HasItemAtFault m) m e facts dest.result more.result dest.ensures more.ensures fault.0 list.0 c.in-Some.dest list.1 fault.1))
 
-pub returns-then-head-ne-PROPRIETARY : goal.returns-then-head-ne-PROPRIETARY
-returns-then-head-ne-PROPRIETARY c =
+pub returns-then-head-ne-PROPRIETARY_MESSAGE : goal.returns-then-head-ne-PROPRIETARY_MESSAGE
+returns-then-head-ne-PROPRIETARY_MESSAGE c =
     let m = c.args.m.now in
     let e = c.args.head.now in
     let facts = head_facts m e c.requires.spells c.requires.whole in
@@ -61,4 +61,4 @@ returns-then-head-ne-PROPRIETARY c =
     let other = c.in-Some-end_of.ensures.found in
     let lists = are_lists m e facts dest.result more.result dest.ensures more.ensures list.0 other.0 c.in-Some.dest c.in-Some-end_of.data list.1 other.1 in
     first_misplaced m c.in-Some.dest c.in-Some-end_of.data list.0 other.0 lists (c.if-has_fault.ensures list.0 c.in-Some.dest list.1) (c.if-has_fault-2.ensures other.0 c.in-Some-end_of.data other.1)
-    (misplaced m e facts more.result more.ensures c.if-data_announced.true c.requires.function c.if-head-ne-NPDU.true c.if-head-ne-PROPRIETARY.true)
+    (misplaced m e facts more.result more.ensures c.if-data_announced.true c.requires.function c.if-head-ne-ENCAPSULATED_NPDU.true c.if-head-ne-PROPRIETARY_MESSAGE.true)
