@@ -30,13 +30,10 @@ use Rattle.bsc_world.proofs.Goings.{became_same}
 
 -- ---- what is found
 
--- the newest of some, with one more
-pub newest_step : {A : Type 0} (test : A → Bool) (xs : List A) (i : ℕ) (x : A) (found : Option A) → i < length xs → x ≡ get_or xs i x → found ≡ newest test (take i xs) → cond (test x) (Some x) found ≡ newest test (take (i + 1) xs)
-newest_step test xs i x found within is found_so =
-    sym (ap (newest test) (take_more xs i x within ∙ ap (λ y. take i xs ++ y ∷ []) (sym is)) ∙ newest-more test (take i xs) x ∙ ap (cond (test x) (Some x)) (sym found_so))
-
-pub newest_taken : {A : Type 0} (test : A → Bool) (xs : List A) (i : ℕ) (x : A) (b : Bool) (found : Option A) → test x ≡ b → i < length xs → x ≡ get_or xs i x → found ≡ newest test (take i xs) → cond b (Some x) found ≡ newest test (take (i + 1) xs)
-newest_taken test xs i x b found t within is found_so = ap (λ c. cond c (Some x) found) (sym t) ∙ newest_step test xs i x found within is found_so
+-- the newest of the first of some is the last of these, where it passes the test, or one before it
+pub newest_back : {A : Type 0} (test : A → Bool) (xs : List A) (i : ℕ) (x : A) → i < length xs → x ≡ get_or xs i x → newest test (take (i + 1) xs) ≡ cond (test x) (Some x) (newest test (take i xs))
+newest_back test xs i x within is =
+    ap (newest test) (take_more xs i x within ∙ ap (λ y. take i xs ++ y ∷ []) (sym is)) ∙ newest-more test (take i xs) x
 
 -- the slots from one on
 abbrev pub slots_from : ℕ → List LinkName
