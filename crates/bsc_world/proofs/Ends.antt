@@ -1,11 +1,8 @@
 -- The ends that a node has: what is found among its holds, and what it has from now on.
-use Rattle.std.proofs.Common.{◌≡◌, ◌≤◌, ◌<◌, ℕ, zero, suc, ◌+◌, ◌-◌, Bool, true, false, cond, List, [], ◌∷◌, ◌++◌, length, map, take, find, set, get_or, slice_get, Option, Some, None, refl, ap, sym, ◌∙◌, subst, arith}
+use Rattle.std.proofs.Common.{◌≡◌, ◌≤◌, ◌<◌, ℕ, zero, suc, ◌+◌, ◌-◌, Bool, true, false, cond, List, [], ◌∷◌, ◌++◌, length, map, find, set, slice_get, Option, Some, None, refl, ap, sym, ◌∙◌, subst, arith}
 use Rattle.std.specs.List.{range_with_len}
 use Rattle.std.specs.Option.{option_and_then}
-use Rattle.std.proofs.lemmas.List.{take_more}
 use Rattle.bsc_connector.specs.declared.side.Side.TheVariants.{Primary, Failover}
-use Rattle.bsc_connector.specs.Back.{newest}
-use Rattle.bsc_connector.proofs.BackLemmas.{newest-more}
 use Rattle.bsc_direct.specs.Slots.{slots}
 use Rattle.bsc_direct.proofs.OneMore.{some_same}
 use Rattle.bsc_node.specs.declared.link_name.LinkName.{LinkName}
@@ -29,11 +26,6 @@ use Rattle.bsc_world.proofs.LinkWays.{changed_past}
 use Rattle.bsc_world.proofs.Goings.{became_same}
 
 -- ---- what is found
-
--- the newest of the first of some is the last of these, where it passes the test, or one before it
-pub newest_back : {A : Type 0} (test : A → Bool) (xs : List A) (i : ℕ) (x : A) → i < length xs → x ≡ get_or xs i x → newest test (take (i + 1) xs) ≡ cond (test x) (Some x) (newest test (take i xs))
-newest_back test xs i x within is =
-    ap (newest test) (take_more xs i x within ∙ ap (λ y. take i xs ++ y ∷ []) (sym is)) ∙ newest-more test (take i xs) x
 
 -- the slots from one on
 abbrev pub slots_from : ℕ → List LinkName

@@ -1,12 +1,11 @@
 -- A side meets its hub, at whose connection a forward looked.
-use Rattle.std.proofs.Common.{◌≡◌, ◌≢◌, ◌<◌, ◌+◌, ◌==◌, ◌&&◌, ◌||◌, ℕ, Bool, true, false, List, [], ◌∷◌, ◌++◌, length, map, set, slice_get, take, Option, Some, None, refl, ap, sym, ◌∙◌, subst}
+use Rattle.std.proofs.Common.{◌≡◌, ◌<◌, ◌+◌, ◌==◌, ◌&&◌, ◌||◌, ℕ, Bool, true, false, List, [], ◌∷◌, ◌++◌, length, set, slice_get, take, Some, refl, ap, sym, ◌∙◌, subst}
 use Rattle.std.specs.List.{list_any}
 use Rattle.std.proofs.lemmas.Bool.{eq-eqb, false_from_ne_true, or_right}
 use Rattle.bsc_direct.proofs.OneMore.{some_same}
 use Rattle.bsc_history.specs.declared.call.Call.{Call}
 use Rattle.bsc_history.specs.declared.connection.Connection.{Connection}
 use Rattle.bsc_history.specs.declared.entry.Entry.{Entry}
-use Rattle.bsc_history.specs.declared.looks.Look.{Look}
 use Rattle.bsc_history.specs.declared.mark.Stamped.{Stamped}
 use Rattle.bsc_history.specs.Entries.{made_by}
 use Rattle.bsc_history.specs.Ends.{is_leave, live, unleft}
@@ -26,7 +25,7 @@ use Rattle.bsc_world.specs.declared.kept_hub.KeptHub.{KeptHub}
 use Rattle.bsc_world.specs.declared.kept_link.KeptLink.{KeptLink}
 use Rattle.bsc_world.specs.declared.world.World.{World as KeptWorld}
 use Rattle.bsc_network.specs.Worlds.{World, Hub, Link, history}
-use Rattle.bsc_world.specs.Passing.{LinkMet, MayMeet, Midway, hub_then, is_one, looked_at}
+use Rattle.bsc_world.specs.Passing.{LinkMet, MayMeet, Midway, is_one, looked_at}
 use Rattle.bsc_world.specs.Standing.{IsHubAt}
 use Rattle.bsc_network.proofs.Places.{got-within}
 use Rattle.bsc_world.proofs.Entering.{history-more}

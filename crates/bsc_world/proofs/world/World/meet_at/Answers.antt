@@ -1,4 +1,4 @@
-use Rattle.std.proofs.Common.{◌≡◌, length, refl, arith}
+use Rattle.std.proofs.Common.{length, refl, arith}
 use Rattle.std.proofs.lemmas.Option.{slice_get_read}
 use Rattle.bsc_script.proofs.Answered.{on_ok}
 use Rattle.bsc_world.proofs.LooksMet.{has_row, may, one_more, stands_there}
