@@ -155,7 +155,8 @@ impl Network {
             side: Accepting::Request,
             is_lost: false,
         });
-        let machine = Machine { link: l, phase: Phase::Dialled, since: self.clock, last: self.clock, has_asked: false };
+        let machine =
+            Machine { link: l, phase: Phase::Dialled, peer: None, since: self.clock, last: self.clock, has_asked: false };
         self.nodes[k].sides[side].machine = Some(machine);
         writeln!(self.text, "link {l} {k} hub {side}").unwrap();
     }

@@ -1,6 +1,6 @@
 //! A node: its sides to two hubs, each with its machine.
 
-use crate::messages::{BROADCAST, Identity, Vmac, bare, naming, read_message};
+use crate::messages::{BROADCAST, Identity, Vmac, bare, named, naming, read_message};
 
 pub const CONNECT_WAIT: u64 = 10_000;
 pub const DISCONNECT_WAIT: u64 = 10_000;
@@ -25,6 +25,8 @@ pub enum Phase {
 pub struct Machine {
     pub link: usize,
     pub phase: Phase,
+    /// Who accepted.
+    pub peer: Option<Identity>,
     pub since: u64,
     pub last: u64,
     pub has_asked: bool,
@@ -65,7 +67,11 @@ impl Node {
         self.next_id
     }
 
+    /// Dials a hub. The link of a failover that was dropped is closed first, where it is still there.
     pub fn dial(&mut self, side: usize, done: &mut Vec<Action>) {
+        if let Some(dropped) = self.sides[side].machine.take() {
+            done.push(Action::Put(dropped.link, Content::Closed));
+        }
         self.sides[side].standing = Standing::UnderWay;
         done.push(Action::Dial(side));
     }
@@ -132,6 +138,7 @@ impl Node {
         match (machine.phase, message.function) {
             (Phase::Asked(id), 7) if message.id == id => {
                 machine.phase = Phase::Connected;
+                machine.peer = Some(named(message.payload));
                 self.accepted(side, now, done);
             }
             (Phase::Asked(id), 0) if message.id == id => self.close(side, now, done),
@@ -176,11 +183,16 @@ impl Node {
         }
     }
 
+    /// Sends by the hub in use, unless the NPDU or the message is longer than it takes.
     pub fn send(&mut self, to: Vmac, npdu: &[u8], done: &mut Vec<Action>) {
         let used = self.sides.iter().find(|side| side.standing == Standing::Up);
-        let Some(Some(link)) = used.map(|side| side.machine.as_ref().map(|it| it.link)) else { return };
+        let Some(Machine { link, peer: Some(hub), .. }) = used.and_then(|side| side.machine.as_ref()) else { return };
+        let (link, length) = (*link, 10 + npdu.len());
+        if npdu.len() > hub.max_npdu.into() || length > hub.max_bvlc.into() {
+            return;
+        }
         let [high, low] = self.next().to_be_bytes();
-        let mut m = Vec::with_capacity(10 + npdu.len());
+        let mut m = Vec::with_capacity(length);
         m.extend_from_slice(&[1, 4, high, low]);
         m.extend_from_slice(&to);
         m.extend_from_slice(npdu);

@@ -1,5 +1,5 @@
 -- An outlet that meets the desk.
-use Rattle.std.proofs.Common.{◌≡◌, ◌≢◌, ℕ, zero, suc, ◌+◌, ◌<◌, ◌==◌, ◌&&◌, Bool, true, false, cond, List, [], ◌∷◌, length, map, find, get_or, is_none, Option, Some, is_some, refl, ap, sym, ◌∙◌, subst, arith}
+use Rattle.std.proofs.Common.{◌≡◌, ◌≢◌, ℕ, zero, suc, ◌<◌, ◌==◌, ◌&&◌, Bool, true, false, cond, List, [], ◌∷◌, length, find, get_or, is_none, Option, Some, is_some, refl, ap, sym, ◌∙◌, subst, arith}
 use Rattle.std.proofs.Math.ListN.{set}
 use Rattle.std.specs.List.{list_any, position, AllByRecursion}
 use Rattle.std.proofs.lemmas.Bool.{and_from, eq-eqb, eqb-true, ne_eqb, or_left, or_right}
@@ -11,14 +11,12 @@ use Rattle.bsc_history.specs.declared.mark.Stamped.{Stamped}
 use Rattle.bsc_history.specs.Legality.{Legal}
 use Rattle.bsc_history.specs.Marks.{entries}
 use Rattle.bsc_ring.specs.declared.ends.Outlet.{Outlet}
-use Rattle.bsc_ring.specs.Ends.{Met, given, known_taken}
+use Rattle.bsc_ring.specs.Ends.{Met}
 use Rattle.bsc_desk.specs.declared.desk.Desk.{Desk}
 use Rattle.bsc_desk.specs.declared.row.Row.{Row}
 use Rattle.bsc_desk.specs.declared.tally.Tally.{Tally}
 use Rattle.bsc_desk.specs.Changes.{EachBecomes, IsSameRow}
-use Rattle.bsc_desk.specs.Live.{connection, is_open, known_in}
 use Rattle.bsc_desk.specs.Meetings.{KnowsOutbox}
-use Rattle.bsc_desk.specs.Rows.{row_of}
 use Rattle.bsc_desk.specs.Standing.{IsInletOf, StandsFor}
 use Rattle.bsc_desk.proofs.Filing.{StaysFiled}
 use Rattle.bsc_desk.proofs.Walks.{changes_each, changes_set, each_all, each_connections, has_number}

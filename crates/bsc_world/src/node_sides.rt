@@ -1,5 +1,5 @@
 //! The ends that a node has of links.
-ghost use Rattle.std.specs.Prelude.{◌≡◌, ℕ, true, find, if◌then◌else◌, map, List, Option, Some, IfSome, OnOk};
+ghost use Rattle.std.specs.Prelude.{◌≡◌, ℕ, true, find, map, List, Option, Some, IfSome, OnOk};
 ghost use Rattle.std.specs.Option.{option_and_then};
 ghost use Rattle.bsc_connector.specs.Back.{newest};
 ghost use Rattle.bsc_direct.specs.Slots.{slots};
@@ -55,26 +55,17 @@ pub(crate) fn other_way(way: Way) -> Way
     }
 }
 
-/// A hold, where it has a name, and else the one that was found before.
-fn newer(found: Option<Hold>, held: &Hold, name: LinkName) -> Option<Hold>
-    ensures { result ≡ (if same_link held.now.name name then Some held.now else found) }
-{
-    if same_link(held.name, name) {
-        Some(*held)
-    } else {
-        found
-    }
-}
-
-/// The newest hold of a name.
+/// The newest hold of a name, which stands near the end.
 fn newest_hold(holds: &[Hold], name: LinkName) -> Option<Hold>
     ensures { result ≡ newest (λ held. same_link held.name name) holds.now }
 {
-    let mut found = None;
-    for held in holds {
-        found = newer(found, held, name);
+    for at in (0..holds.len()).rev() {
+        let held = holds[at];
+        if same_link(held.name, name) {
+            return Some(held);
+        }
     }
-    found
+    None
 }
 
 /// Whether the end of a name is that of a link which hears by a way.

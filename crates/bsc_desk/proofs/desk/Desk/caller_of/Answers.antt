@@ -1,4 +1,4 @@
-use Rattle.std.proofs.Common.{sym, ◌∙◌}
+use Rattle.std.proofs.Common.{sym}
 use Rattle.bsc_desk.proofs.LiveRows.{placed}
 use Rattle.bsc_desk.proofs.Meets.{row_by}
 use Rattle.bsc_desk.proofs.desk.Desk.caller_of.Goals as goal
