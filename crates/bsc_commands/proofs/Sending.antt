@@ -1,6 +1,5 @@
 -- What a run writes of the words of a network tells what was sent.
-use Rattle.std.proofs.Common.{◌≡◌, ◌⊎◌, inl, inr, ⊎_elim, ℕ, List, ◌++◌, take, drop, Option, Some, None, refl, ap, sym, ◌∙◌, subst, append-nil, append_assoc, arith}
-use Rattle.std.proofs.lemmas.List.{take-append-drop}
+use Rattle.std.proofs.Common.{◌≡◌, ◌⊎◌, inl, inr, ℕ, List, ◌++◌, Option, Some, None, refl, sym, subst, append-nil, arith}
 use Rattle.bsc_outside.specs.Faults.{PutsPrefix}
 use Rattle.bsc_player.specs.Ends.{WritesAll, WritesSome, whole_lines, lines_read}
 use Rattle.bsc_player.specs.LastLines.{script_line, read_line, memory_line}
@@ -18,7 +17,7 @@ puts_none before line = (0, omega arith, sym (append-nil before))
 puts_line : (t text line : List ℕ) (held : Option (List ℕ)) → held ≡ Some (t ++ text ++ line) → PutsPrefix (Some (t ++ text)) held line
 puts_line t text line held is =
     subst (λ (h : Option (List ℕ)). PutsPrefix (Some (t ++ text)) h line) (sym is)
-    (puts_all (Some (t ++ text)) (Some (t ++ text ++ line)) line (sym (append_assoc t text line)))
+    (puts_all (Some (t ++ text)) (Some (t ++ text ++ line)) line refl)
 
 module _ (status : ℕ) (o t : List ℕ) (left held : Option (List ℕ)) (f f' : ℕ) where
   of_all : WritesAll simulate_of o t left held → WritesWhatWasSent o t held
