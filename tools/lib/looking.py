@@ -33,6 +33,10 @@ function look(svg) {
   const faults = [], page = svg.viewBox.baseVal;
   const texts = [...svg.querySelectorAll("text")].filter(it => it.textContent.trim());
   const boxes = texts.map(it => it.getBBox());
+  const lines = [...svg.querySelectorAll("path.line, path.axis")].map(it => it.getBBox());
+  const heads = [...svg.querySelectorAll("rect.head, rect.hub")].map(it => it.getBBox());
+  const sheets = heads.concat([...svg.querySelectorAll("rect.note")].map(it => it.getBBox()));
+  const inside = (a, b) => a.x >= b.x && a.y >= b.y - NEAR && a.x + a.width <= b.x + b.width && a.y + a.height <= b.y + b.height + NEAR;
   const say = (k, words) => faults.push(`"${texts[k].textContent.slice(0, 60)}" ${words}`);
   texts.forEach((text, k) => {
     const [wide, high] = overlap(boxes[k], page);
@@ -41,6 +45,8 @@ function look(svg) {
       const [wide, high] = overlap(boxes[k], boxes[j]);
       if (wide > 1 && high > NEAR) say(k, `overlaps "${texts[j].textContent.slice(0, 60)}"`);
     }
+    const crossed = lines.some(it => it.x > boxes[k].x + 1 && it.x < boxes[k].x + boxes[k].width - 1 && overlap(boxes[k], it)[1] > NEAR);
+    if (crossed && !sheets.some(it => inside(boxes[k], it))) say(k, "is crossed by a line");
     text.scrollIntoView({ block: "center", inline: "center" });
     const seen = text.getBoundingClientRect();
     const there = document.elementsFromPoint(seen.x + seen.width / 2, seen.y + seen.height / 2);
@@ -48,13 +54,10 @@ function look(svg) {
     const behind = there.find(it => it.tagName === "rect");
     if (!behind || contrast(fill(text), fill(behind)) < LEAST) say(k, "stands out too little");
   });
-  for (const head of svg.querySelectorAll("rect.head, rect.hub")) {
-    const box = head.getBBox();
-    texts.forEach((text, k) => {
-      const [wide, high] = overlap(boxes[k], box);
-      if (high > NEAR && wide > 1 && wide < boxes[k].width - 1) say(k, "is wider than its head");
-    });
-  }
+  heads.forEach(head => texts.forEach((text, k) => {
+    const [wide, high] = overlap(boxes[k], head);
+    if (wide > 1 && high > NEAR && !inside(boxes[k], head)) say(k, "is wider than its head");
+  }));
   const selected = getSelection();
   selected.selectAllChildren(svg);
   const words = selected.toString();
