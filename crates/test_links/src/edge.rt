@@ -125,7 +125,7 @@ fn arrived(answer: Result<Arrived<u64>, LinkFault>) -> Option<u64> {
 #[test]
 fn acceptors_and_waits_in_memory(rt: HostRuntime) -> Result<(), Fail> {
     let alloc = rt.alloc();
-    let mut acceptor = MemAcceptor::new(Vec::from_slice(alloc, &[7])?, &[1, 3]);
+    let mut acceptor = MemAcceptor::new(alloc, Vec::from_slice(alloc, &[7])?, &[1, 3]);
     assert_eq!(rt; acceptor.bind(1), Err(Failed));
     assert_eq!(rt; acceptor.bind(4443), Ok(()));
     assert_eq!(rt; acceptor.bound(), Some(4443));
