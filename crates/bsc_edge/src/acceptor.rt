@@ -37,7 +37,7 @@ pub trait Acceptor<L> {
         ensures failed { IsErr result → HasRisen (faults self.old) (faults self.new) }
         ensures quiets { quiets self.old ≤ quiets self.new };
 
-    /// Waits this long for the next link.
+    /// Waits this long for the next link, in milliseconds.
     fn next(&mut self, alloc: Global, wait_ms: u32) -> Result<Arrived<L>, LinkFault>
         ensures bound { Stays (bound self.old) (bound self.new) }
         ensures left { Leaves (left self.old) (left self.new) result }
