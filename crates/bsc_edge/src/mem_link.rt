@@ -117,7 +117,10 @@ impl Link for MemLink<'_> {
 
     fn receive(&mut self, alloc: Global, wait_ms: u32) -> Result<Incoming, LinkFault> {
         if self.calls.fails() {
-            note(&mut self.talk, Ok(Said::Gave(wait_ms, Err(LinkFault::Failed))));
+            note(
+                &mut self.talk,
+                Ok(Said::Gave(wait_ms, Err(LinkFault::Failed))),
+            );
             return Err(LinkFault::Failed);
         }
         let given = self.give();
