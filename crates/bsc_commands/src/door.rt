@@ -176,6 +176,8 @@ impl<R: Clock + Net + Wait + Eprint + Copy + Drop> Acceptor<AcceptedLink<R>> for
 
     ghost left = { λ _. None };
 
+    ghost waits = { λ _. None };
+
     fn bind(&mut self, port: u16) -> Result<(), Failed> {
         match open(self.rt, self.alloc, self.kind, port) {
             Ok(gate) => {

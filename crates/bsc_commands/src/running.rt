@@ -15,7 +15,7 @@ ghost use Rattle.bsc_load_command.specs.Loaded.{RunsLoad};
 ghost use Rattle.bsc_node_command.specs.Comes.{RunsFiles};
 ghost use Rattle.bsc_node_run.specs.declared.due.Due.{Due};
 ghost use Rattle.bsc_node_run.specs.Scripts.{script_of, wish_of};
-ghost use Rattle.bsc_node_run.specs.Worlds.{dialling};
+ghost use Rattle.bsc_node_run.specs.Worlds.{admitting, dialling};
 ghost use Rattle.bsc_node_runs.specs.Courses.{FinishCame};
 ghost use Rattle.bsc_words.specs.declared.fault.WordsFault.TheVariants as words_fault;
 ghost use Rattle.bsc_words.specs.Words.{asked_by, audit, check, hub, load, node, replay, seen, simulate};
@@ -113,7 +113,7 @@ fn run_asked<
           unread = F.faults files.old;
           beside = record {
             dialled = dialling D.calls D.left D.faults dialer.old;
-            links = A.left acceptor.old;
+            door = admitting A.left A.waits acceptor.old;
             port = A.bound acceptor.old;
             faults = A.faults acceptor.old;
             readings = C.readings clock.old;
@@ -125,7 +125,7 @@ fn run_asked<
           unread = F.faults files.new;
           beside = record {
             dialled = dialling D.calls D.left D.faults dialer.new;
-            links = A.left acceptor.new;
+            door = admitting A.left A.waits acceptor.new;
             port = A.bound acceptor.new;
             faults = A.faults acceptor.new;
             readings = C.readings clock.new;
@@ -289,7 +289,7 @@ pub fn run<
           unread = F.faults files.old;
           beside = record {
             dialled = dialling D.calls D.left D.faults dialer.old;
-            links = A.left acceptor.old;
+            door = admitting A.left A.waits acceptor.old;
             port = A.bound acceptor.old;
             faults = A.faults acceptor.old;
             readings = C.readings clock.old;
@@ -301,7 +301,7 @@ pub fn run<
           unread = F.faults files.new;
           beside = record {
             dialled = dialling D.calls D.left D.faults dialer.new;
-            links = A.left acceptor.new;
+            door = admitting A.left A.waits acceptor.new;
             port = A.bound acceptor.new;
             faults = A.faults acceptor.new;
             readings = C.readings clock.new;

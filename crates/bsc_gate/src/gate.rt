@@ -271,6 +271,8 @@ impl<R: Clock + Net + Wait + Copy + Drop> Acceptor<AcceptedLink<R>> for Gate<R> 
 
     ghost left = { λ _. None };
 
+    ghost waits = { λ _. None };
+
     fn bind(&mut self, port: u16) -> Result<(), Failed> {
         match self.listen(port) {
             Ok(()) => Ok(()),

@@ -3,7 +3,7 @@ ghost use Rattle.std.specs.Prelude.{◌≡◌, ◌≤◌, ◌⊎◌, map, Ok, If
 ghost use Rattle.bsc_outside.specs.Faults.{HasRisen};
 ghost use Rattle.bsc_node_run.specs.declared.due.Due.{Due};
 ghost use Rattle.bsc_node_run.specs.Scripts.{script_of, wish_of};
-ghost use Rattle.bsc_node_run.specs.Worlds.{dialling};
+ghost use Rattle.bsc_node_run.specs.Worlds.{admitting, dialling};
 ghost use Rattle.bsc_node_runs.specs.Courses.{FinishCame};
 ghost use Rattle.bsc_node_command.specs.Lines.{Says, settings_line};
 ghost use Rattle.bsc_node_command.specs.Settled.{IsSettled, Unread, Unsettled};
@@ -112,7 +112,7 @@ fn run_script<K: Sink, F: Files, C: Clock, W: Words, L: Link + Drop, A: Acceptor
           unread = F.faults files.old;
           beside = record {
             dialled = dialling D.calls D.left D.faults dialer.old;
-            links = A.left acceptor.old;
+            door = admitting A.left A.waits acceptor.old;
             port = A.bound acceptor.old;
             faults = A.faults acceptor.old;
             readings = C.readings clock.old;
@@ -124,7 +124,7 @@ fn run_script<K: Sink, F: Files, C: Clock, W: Words, L: Link + Drop, A: Acceptor
           unread = F.faults files.new;
           beside = record {
             dialled = dialling D.calls D.left D.faults dialer.new;
-            links = A.left acceptor.new;
+            door = admitting A.left A.waits acceptor.new;
             port = A.bound acceptor.new;
             faults = A.faults acceptor.new;
             readings = C.readings clock.new;
@@ -179,7 +179,7 @@ pub fn run_node_files<
           unread = F.faults files.old;
           beside = record {
             dialled = dialling D.calls D.left D.faults dialer.old;
-            links = A.left acceptor.old;
+            door = admitting A.left A.waits acceptor.old;
             port = A.bound acceptor.old;
             faults = A.faults acceptor.old;
             readings = C.readings clock.old;
@@ -191,7 +191,7 @@ pub fn run_node_files<
           unread = F.faults files.new;
           beside = record {
             dialled = dialling D.calls D.left D.faults dialer.new;
-            links = A.left acceptor.new;
+            door = admitting A.left A.waits acceptor.new;
             port = A.bound acceptor.new;
             faults = A.faults acceptor.new;
             readings = C.readings clock.new;

@@ -7,9 +7,9 @@ ghost use Rattle.bsc_node_run.specs.declared.halt.Halt.{Halt as HaltType};
 ghost use Rattle.bsc_node_command.specs.Lines.{SaysEnd};
 ghost use Rattle.bsc_node_run.specs.declared.due.Due.{Due};
 ghost use Rattle.bsc_node_run.specs.Scripts.{script_of, wish_of};
-ghost use Rattle.bsc_node_run.specs.Worlds.{dialling};
+ghost use Rattle.bsc_node_run.specs.Worlds.{Admitting, admitting, dialling};
 ghost use Rattle.bsc_node_runs.specs.Courses.{FinishCame};
-ghost use Rattle.bsc_node_command.specs.Comes.{Comes, IsBoundBy, Ran, made_by};
+ghost use Rattle.bsc_node_command.specs.Comes.{Comes, IsBoundBy, IsUnasked, Ran, made_by};
 
 use crate::making::make_node;
 use crate::running_node::RunningNode;
@@ -42,6 +42,7 @@ fn tell_end<K: Sink>(sink: &mut K, end: Result<RunEnd, Halt>) -> u8
 fn bind<L, A: Acceptor<L>>(settings: &NodeSettings, acceptor: &mut A) -> Result<(), Failed>
     ensures bound { IfOk result (λ _. IsBoundBy settings.now.direct_port (A.bound acceptor.old) (A.bound acceptor.new)) }
     ensures left { Stays (A.left acceptor.old) (A.left acceptor.new) }
+    ensures waits { Stays (A.waits acceptor.old) (A.waits acceptor.new) }
     ensures failed { IsErr result → HasRisen (A.faults acceptor.old) (A.faults acceptor.new) }
     ensures later { A.faults acceptor.old ≤ A.faults acceptor.new }
 {
@@ -64,13 +65,13 @@ fn run_made<K: Sink, C: Clock, W: Words, L: Link + Drop, A: Acceptor<L>, D: Dial
     dialer: &mut D,
 ) -> u8
     requires { StandsFor node.node (made_by settings.now) [] }
-    ensures ran { (script : List ℕ) (links : Option (List L)) (port : Option (Option ℕ)) (faults : ℕ) →
-        script_of script ≡ Ok (map wish_of lines.now) → Stays links (A.left acceptor.old) →
+    ensures ran { (script : List ℕ) (door : Admitting L) (port : Option (Option ℕ)) (faults : ℕ) →
+        script_of script ≡ Ok (map wish_of lines.now) → IsUnasked door (admitting A.left A.waits acceptor.old) →
         IsBoundBy settings.now.direct_port port (A.bound acceptor.old) →
         Ran L.talk W.gives W.faults settings.now script
         (record {
           dialled = dialling D.calls D.left D.faults dialer.old;
-          links = links;
+          door = door;
           port = port;
           faults = faults;
           readings = C.readings clock.old;
@@ -79,7 +80,7 @@ fn run_made<K: Sink, C: Clock, W: Words, L: Link + Drop, A: Acceptor<L>, D: Dial
         })
         (record {
           dialled = dialling D.calls D.left D.faults dialer.new;
-          links = A.left acceptor.new;
+          door = admitting A.left A.waits acceptor.new;
           port = A.bound acceptor.new;
           faults = A.faults acceptor.new;
           readings = C.readings clock.new;
@@ -123,7 +124,7 @@ fn run_lines<K: Sink, C: Clock, W: Words, L: Link + Drop, A: Acceptor<L>, D: Dia
         Comes L.talk W.gives W.faults settings.now script
         (record {
           dialled = dialling D.calls D.left D.faults dialer.old;
-          links = A.left acceptor.old;
+          door = admitting A.left A.waits acceptor.old;
           port = A.bound acceptor.old;
           faults = A.faults acceptor.old;
           readings = C.readings clock.old;
@@ -132,7 +133,7 @@ fn run_lines<K: Sink, C: Clock, W: Words, L: Link + Drop, A: Acceptor<L>, D: Dia
         })
         (record {
           dialled = dialling D.calls D.left D.faults dialer.new;
-          links = A.left acceptor.new;
+          door = admitting A.left A.waits acceptor.new;
           port = A.bound acceptor.new;
           faults = A.faults acceptor.new;
           readings = C.readings clock.new;
@@ -170,7 +171,7 @@ fn run_text<K: Sink, C: Clock, W: Words, L: Link + Drop, A: Acceptor<L>, D: Dial
     ensures comes { Comes L.talk W.gives W.faults settings.now script.now
         (record {
           dialled = dialling D.calls D.left D.faults dialer.old;
-          links = A.left acceptor.old;
+          door = admitting A.left A.waits acceptor.old;
           port = A.bound acceptor.old;
           faults = A.faults acceptor.old;
           readings = C.readings clock.old;
@@ -179,7 +180,7 @@ fn run_text<K: Sink, C: Clock, W: Words, L: Link + Drop, A: Acceptor<L>, D: Dial
         })
         (record {
           dialled = dialling D.calls D.left D.faults dialer.new;
-          links = A.left acceptor.new;
+          door = admitting A.left A.waits acceptor.new;
           port = A.bound acceptor.new;
           faults = A.faults acceptor.new;
           readings = C.readings clock.new;
@@ -233,7 +234,7 @@ pub fn run_node<K: Sink, C: Clock, W: Words, L: Link + Drop, A: Acceptor<L>, D: 
     ensures comes { Comes L.talk W.gives W.faults settings.now script.now
         (record {
           dialled = dialling D.calls D.left D.faults dialer.old;
-          links = A.left acceptor.old;
+          door = admitting A.left A.waits acceptor.old;
           port = A.bound acceptor.old;
           faults = A.faults acceptor.old;
           readings = C.readings clock.old;
@@ -242,7 +243,7 @@ pub fn run_node<K: Sink, C: Clock, W: Words, L: Link + Drop, A: Acceptor<L>, D: 
         })
         (record {
           dialled = dialling D.calls D.left D.faults dialer.new;
-          links = A.left acceptor.new;
+          door = admitting A.left A.waits acceptor.new;
           port = A.bound acceptor.new;
           faults = A.faults acceptor.new;
           readings = C.readings clock.new;

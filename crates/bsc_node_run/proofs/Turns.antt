@@ -18,7 +18,7 @@ use Rattle.bsc_node.specs.declared.node_event.NodeEvent.TheVariants.{Came, CameT
 use Rattle.bsc_node.specs.declared.action.Action.{Action}
 use Rattle.bsc_node_run.specs.declared.due.Due.{Due}
 use Rattle.bsc_node_run.specs.declared.news.News.{News}
-use Rattle.bsc_node_run.specs.Receiving.{Received, WasGiven, left_by, told_of}
+use Rattle.bsc_node_run.specs.Receiving.{Received, WasGiven, left_by, link_wait, told_of}
 use Rattle.bsc_node_run.specs.Turning.{Gives, GivesIn, Hears, HearsEach, HearsIf, HearsOf, IsNotDue, slots_from}
 use Rattle.bsc_node_run.specs.Worlds.{World, Same, is_of, is_open, with_link, ends}
 
@@ -66,7 +66,7 @@ none_left (y ∷ ys) e = (let k : length (y ∷ ys) ≡ length ys = ap length e 
 
 module _ {L : Type 0} (talk : L → Option (List Said)) where
   pub received : (name : LinkName) (k l : L) (given : Result Incoming LinkFault) (e : Option NodeEvent) (w v : World L) → Some k ≡ w.link name
-      → WasGiven given → Grows (talk k) (talk l) (Gave given ∷ []) → e ≡ told_of name given → Same v (left_by name l given w) → Received talk name (w.link name) e w v
+      → WasGiven given → Grows (talk k) (talk l) (Gave link_wait given ∷ []) → e ≡ told_of name given → Same v (left_by name l given w) → Received talk name (w.link name) e w v
   received name k l given e w v is ok g told s = subst (λ (o : Option L). Received talk name o e w v) is (l, given, ok, g, told, s)
 
 module _ {N L : Type 0} (goes : N → ℕ → NodeEvent → List Action → N → Type 0) (talk : L → Option (List Said)) (now : ℕ) where

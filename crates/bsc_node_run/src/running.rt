@@ -6,7 +6,7 @@ ghost use Rattle.bsc_node_run.specs.declared.halt.Halt.{Halt as HaltType};
 ghost use Rattle.bsc_node_run.specs.Drawing.{GoesDrawing, at_rest};
 ghost use Rattle.bsc_node_run.specs.Running.{Run};
 ghost use Rattle.bsc_node_run.specs.Stopping.{RunFails};
-ghost use Rattle.bsc_node_run.specs.Worlds.{dialling};
+ghost use Rattle.bsc_node_run.specs.Worlds.{admitting, dialling};
 
 use crate::due::Due;
 use crate::halt::Halt;
@@ -36,15 +36,15 @@ pub fn run_node<N: Core, K: Sink, C: Clock, W: Words, L: Link + Drop, A: Accepto
 ) -> Result<RunEnd, Halt>
     ensures runs { IfOk result (λ end. Run (GoesDrawing N.goes W.gives W.faults) L.talk listens end turns script.now
         (at_rest node.old random.old) (dialling D.calls D.left D.faults dialer.old) (K.held sink.old)
-        (A.left acceptor.old) (C.readings clock.old)
+        (admitting A.left A.waits acceptor.old) (C.readings clock.old)
         (at_rest node.new random.new) (dialling D.calls D.left D.faults dialer.new) (K.held sink.new)
-        (A.left acceptor.new) (C.readings clock.new)) }
+        (admitting A.left A.waits acceptor.new) (C.readings clock.new)) }
 
     // Where it ends by a fault, what was done is as in a run up to there, and one action more in part.
     ensures fails { OnErr result (RunFails (GoesDrawing N.goes W.gives W.faults) L.talk listens turns script.now
         (at_rest node.old random.old) (dialling D.calls D.left D.faults dialer.old) (K.held sink.old)
-        (A.left acceptor.old) (C.readings clock.old)
-        (dialling D.calls D.left D.faults dialer.new) (K.held sink.new) (A.left acceptor.new) (C.readings clock.new)) }
+        (admitting A.left A.waits acceptor.old) (C.readings clock.old)
+        (dialling D.calls D.left D.faults dialer.new) (K.held sink.new) (admitting A.left A.waits acceptor.new) (C.readings clock.new)) }
     ensures write { result ≡ Err HaltType.WriteFault → HasRisen (K.faults sink.old) (K.faults sink.new) }
     ensures accept { result ≡ Err HaltType.AcceptFault → HasRisen (A.faults acceptor.old) (A.faults acceptor.new) }
     ensures writes_later { K.faults sink.old ≤ K.faults sink.new }

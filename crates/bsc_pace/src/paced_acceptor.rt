@@ -28,6 +28,8 @@ impl<L, A: Acceptor<L>> Acceptor<PacedLink<L>> for PacedAcceptor<A> {
 
     ghost left = { λ _. None };
 
+    ghost waits = { λ _. None };
+
     fn bind(&mut self, port: u16) -> Result<(), Failed> {
         self.acceptor.bind(port)
     }

@@ -290,8 +290,8 @@ passes_there v s m x is k = (k.0, sym is ∙ k.1)
 pub standing_received : (h : Hub) (p : CallerPass) (a : At) (n : ℕ) → n ≡ a.receives + 1 → HasStanding h p a → HasStanding h p (record { machine = a.machine; member = a.member; ended = a.ended; receives = n })
 standing_received h p a n is k = (k.0, received_one k.1, held_received h k.0 k.1 p a n is k.2, runs_received k.0 k.1 a n k.3)
 
-hears_judged : (h : Hub) (v : Terms) (s : Standing) (now : ℕ) (m : List ℕ) (p q : CallerPass) (a a' b : At) (old mid new : Option (List Said)) (stop : Option Stop) (judged : Bool) (answer : Option Answer) (fault : Option LinkFault)
-    → Grows old mid (Gave (Ok (Message m)) ∷ []) → a'.member ≡ a.member
+hears_judged : (h : Hub) (v : Terms) (s : Standing) (now wait : ℕ) (m : List ℕ) (p q : CallerPass) (a a' b : At) (old mid new : Option (List Said)) (stop : Option Stop) (judged : Bool) (answer : Option Answer) (fault : Option LinkFault)
+    → Grows old mid (Gave wait (Ok (Message m)) ∷ []) → a'.member ≡ a.member
     → LacksAtPass v (received_one s) judged (Ok (Message m)) → is_some answer ≡ calls_hub (heard_step v (received_one s) now judged (Ok (Message m))) → Fits (heard_step v (received_one s) now judged (Ok (Message m))) answer
     → Goes h p (called v (received_one s) (heard_step v (received_one s) now judged (Ok (Message m))) (Ok (Message m)) answer) q
     → Grows mid new (puts (octets_in (last_wanted v (heard_told v (received_one s) now judged (Ok (Message m))) (heard_step v (received_one s) now judged (Ok (Message m))) answer)) fault)
@@ -301,12 +301,12 @@ hears_judged : (h : Hub) (v : Terms) (s : Standing) (now : ℕ) (m : List ℕ) (
     → given_by b.member ≡ given_by a'.member → empties_by b.member ≡ empties_by a'.member
     → Held h v q b (answered (heard_told v (received_one s) now judged (Ok (Message m))) (heard_step v (received_one s) now judged (Ok (Message m))) answer)
     → (stop ≡ None → Runs v b (answered (heard_told v (received_one s) now judged (Ok (Message m))) (heard_step v (received_one s) now judged (Ok (Message m))) answer))
-    → Hears v s now h p q a b old new stop
-hears_judged h v s now m p q a a' b old mid new stop true answer fault told_ same memory calls fits goes said cause stops worns given empties held runs = record {
+    → Hears v s now wait h p q a b old new stop
+hears_judged h v s now wait m p q a a' b old mid new stop true answer fault told_ same memory calls fits goes said cause stops worns given empties held runs = record {
   hearing = record { given = Ok (Message m); judged = true; answer = answer; fault = fault };
   is = record { memory = memory; calls = calls; fits = fits; cause = cause };
   goes = goes;
-  said = grown old mid new (Gave (Ok (Message m)) ∷ []) _ told_ said;
+  said = grown old mid new (Gave wait (Ok (Message m)) ∷ []) _ told_ said;
   stops = stops;
   is_worn = worns;
   given_same = rw same at given;
@@ -314,11 +314,11 @@ hears_judged h v s now m p q a a' b old mid new stop true answer fault told_ sam
   held = held;
   runs = runs;
 }
-hears_judged h v s now m p q a a' b old mid new stop false answer fault told_ same memory calls fits goes said cause stops worns given empties held runs = record {
+hears_judged h v s now wait m p q a a' b old mid new stop false answer fault told_ same memory calls fits goes said cause stops worns given empties held runs = record {
   hearing = record { given = Ok (Message m); judged = false; answer = answer; fault = fault };
   is = record { memory = memory; calls = calls; fits = fits; cause = cause };
   goes = goes;
-  said = grown old mid new (Gave (Ok (Message m)) ∷ []) _ told_ said;
+  said = grown old mid new (Gave wait (Ok (Message m)) ∷ []) _ told_ said;
   stops = stops;
   is_worn = worns;
   given_same = rw same at given;
@@ -327,19 +327,19 @@ hears_judged h v s now m p q a a' b old mid new stop false answer fault told_ sa
   runs = runs;
 }
 
-pub hears_message : (h : Hub) (v : Terms) (s : Standing) (now : ℕ) (m : List ℕ) (p q : CallerPass) (a a' b : At) (old mid new : Option (List Said)) (stop : Option Stop)
-    → Grows old mid (Gave (Ok (Message m)) ∷ []) → a'.member ≡ a.member
+pub hears_message : (h : Hub) (v : Terms) (s : Standing) (now wait : ℕ) (m : List ℕ) (p q : CallerPass) (a a' b : At) (old mid new : Option (List Said)) (stop : Option Stop)
+    → Grows old mid (Gave wait (Ok (Message m)) ∷ []) → a'.member ≡ a.member
     → HearsMessage v (received_one s) now m h p q a' b mid new stop
-    → Hears v s now h p q a b old new stop
-hears_message h v s now m p q a a' b old mid new stop told_ same k = hears_judged h v s now m p q a a' b old mid new stop k.judged k.answer k.fault told_ same k.memory k.calls k.fits k.goes k.said k.cause k.stops k.is_worn k.given_same k.empties_same k.held k.runs
+    → Hears v s now wait h p q a b old new stop
+hears_message h v s now wait m p q a a' b old mid new stop told_ same k = hears_judged h v s now wait m p q a a' b old mid new stop k.judged k.answer k.fault told_ same k.memory k.calls k.fits k.goes k.said k.cause k.stops k.is_worn k.given_same k.empties_same k.held k.runs
 
 -- what isn't a message is followed by nothing
-pub hears_nothing : (h : Hub) (v : Terms) (s : Standing) (now : ℕ) (p : CallerPass) (a b : At) (old new : Option (List Said)) (given : Result Incoming LinkFault) (stop : Option Stop)
-    → Grows old new (Gave given ∷ []) → heard_step v s now true given ≡ Nothing → heard_told v s now true given ≡ s
+pub hears_nothing : (h : Hub) (v : Terms) (s : Standing) (now wait : ℕ) (p : CallerPass) (a b : At) (old new : Option (List Said)) (given : Result Incoming LinkFault) (stop : Option Stop)
+    → Grows old new (Gave wait given ∷ []) → heard_step v s now true given ≡ Nothing → heard_told v s now true given ≡ s
     → stop ≡ stop_given given (stop_judged true (stop_message v (received_one s) Nothing None None))
     → b.member ≡ a.member → Held h v p b (received_one s) → (stop ≡ None → Runs v b (received_one s))
-    → Hears v s now h p p a b old new stop
-hears_nothing h v s now p a b old new given stop told_ quiet stays stops same held runs = record {
+    → Hears v s now wait h p p a b old new stop
+hears_nothing h v s now wait p a b old new given stop told_ quiet stays stops same held runs = record {
   hearing = record { given = given; judged = true; answer = None; fault = None };
   is = record { memory = tt; calls = rw quiet refl; fits = rw quiet tt; cause = rw quiet tt };
   goes = rw quiet (goes_nowhere h p held.caller);

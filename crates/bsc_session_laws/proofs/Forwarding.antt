@@ -34,7 +34,7 @@ use Rattle.bsc_session.specs.Judging.{verdict_on}
 use Rattle.bsc_session.specs.Puts.{octets_in, puts}
 use Rattle.bsc_session.specs.Receiving.{Answer, replies, worn, no_memory, Hearing}
 use Rattle.bsc_session.specs.Standings.{Standing, Terms, begun}
-use Rattle.bsc_session.specs.Taking.{opened, put_first, stop_before}
+use Rattle.bsc_session.specs.Taking.{opened, put_first, stop_before, wait_in}
 use Rattle.bsc_session.specs.Talk.{Session, leaving}
 use Rattle.bsc_session.specs.Turns.{IsHearingIf, IsTurn, Turn, after, entries_after, entries_in, said_after, said_in, stop_after}
 use Rattle.bsc_session_laws.specs.Laws.{AreAllBut, IsUnentered}
@@ -188,24 +188,24 @@ closing_gives_none (Some c) = refl
 abbrev octets : JudgedMessage → List ℕ
 octets m = m.octets
 
-given_once : (v : Terms) (s : Standing) (given : Result Incoming LinkFault) → given_by (Gave given) ≡ map octets (message_by v s given)
-given_once v s (Err f) = refl
-given_once v s (Ok Closed) = refl
-given_once v s (Ok Text) = refl
-given_once v s (Ok Quiet) = refl
-given_once v s (Ok (Message m)) = refl
+given_once : (v : Terms) (s : Standing) (wait : ℕ) (given : Result Incoming LinkFault) → given_by (Gave wait given) ≡ map octets (message_by v s given)
+given_once v s wait (Err f) = refl
+given_once v s wait (Ok Closed) = refl
+given_once v s wait (Ok Text) = refl
+given_once v s wait (Ok Quiet) = refl
+given_once v s wait (Ok (Message m)) = refl
 
-hearing_gives : (v : Terms) (s : Standing) (now : ℕ) (h : Option Hearing) → given_by_link (said_after v s now h) ≡ map octets (message_after v s h)
-hearing_gives v s now None = refl
-hearing_gives v s now (Some h) =
-    ap (λ (l : List (List ℕ)). given_by (Gave h.given) ++ l) (puts_give_none (octets_in (last_step v s now h)) h.fault)
-    ∙ append-nil (given_by (Gave h.given)) ∙ given_once v s h.given
+hearing_gives : (v : Terms) (s : Standing) (now wait : ℕ) (h : Option Hearing) → given_by_link (said_after v s now wait h) ≡ map octets (message_after v s h)
+hearing_gives v s now wait None = refl
+hearing_gives v s now wait (Some h) =
+    ap (λ (l : List (List ℕ)). given_by (Gave wait h.given) ++ l) (puts_give_none (octets_in (last_step v s now h)) h.fault)
+    ∙ append-nil (given_by (Gave wait h.given)) ∙ given_once v s wait h.given
 
 turn_gives : (v : Terms) (s : Standing) (t : Turn) → given_by_link (said_in v s t) ≡ map octets (message_in v s t)
 turn_gives v s t =
-    flat_map-append given_by (puts (put_first v s t.opening) t.opening.fault) (said_after v (opened s t.opening) t.opening.reading t.hearing)
-    ∙ ap (λ (l : List (List ℕ)). l ++ given_by_link (said_after v (opened s t.opening) t.opening.reading t.hearing)) (puts_give_none (put_first v s t.opening) t.opening.fault)
-    ∙ hearing_gives v (opened s t.opening) t.opening.reading t.hearing
+    flat_map-append given_by (puts (put_first v s t.opening) t.opening.fault) (said_after v (opened s t.opening) t.opening.reading (wait_in t.opening) t.hearing)
+    ∙ ap (λ (l : List (List ℕ)). l ++ given_by_link (said_after v (opened s t.opening) t.opening.reading (wait_in t.opening) t.hearing)) (puts_give_none (put_first v s t.opening) t.opening.fault)
+    ∙ hearing_gives v (opened s t.opening) t.opening.reading (wait_in t.opening) t.hearing
 
 turns_give : (v : Terms) (s : Standing) (ts : List Turn) → given_by_link (shares said_in v s ts) ≡ map octets (shares message_in v s ts)
 turns_give v s [] = refl

@@ -344,7 +344,7 @@ fn status_in_memory<R: Threads + Wait + Sync>(
     let mut spawner: MemSpawner<'_, SessionJob<MemLink<'static>, MemClock<'static>>> =
         MemSpawner::new(alloc, &[2]);
     let mut files = files_of(alloc, case.settings, case.script)?;
-    let mut acceptor = MemAcceptor::new(three_links(alloc)?, case.failing);
+    let mut acceptor = MemAcceptor::new(alloc, three_links(alloc)?, case.failing);
     status_of(
         rt,
         alloc,

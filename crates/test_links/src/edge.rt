@@ -30,7 +30,7 @@ fn given(answer: &Result<Incoming, LinkFault>) -> u8 {
 /// The letter of one call in the talk of a link.
 fn letter(said: &Said) -> u8 {
     match said {
-        Said::Gave(answer) => given(answer),
+        Said::Gave(_, answer) => given(answer),
         Said::Put(_, None) => b'p',
         Said::Put(_, Some(_)) => b'!',
         Said::Closed(_, _) => b'X',
@@ -44,6 +44,14 @@ fn is_talk(talk: &[Said], letters: &[u8]) -> bool {
             .iter()
             .zip(letters.iter())
             .all(|(said, wanted)| letter(said) == *wanted)
+}
+
+/// Whether each receive of a talk was asked to wait so long.
+fn waits_so(talk: &[Said], wait_ms: u32) -> bool {
+    talk.iter().all(|said| match said {
+        Said::Gave(waited, _) => *waited == wait_ms,
+        _ => true,
+    })
 }
 
 /// Receives so often.
@@ -67,6 +75,7 @@ fn links_in_memory(rt: HostRuntime) -> Result<(), Fail> {
     receive(alloc, &mut link, 3);
     assert_eq!(rt; link.close(alloc, 1008, "idle"), Err(LinkFault::Failed));
     assert!(rt; is_talk(link.talk().unwrap_or(&[]), b"mFp!TQCX"));
+    assert!(rt; waits_so(link.talk().unwrap_or(&[]), 20));
     Ok(())
 }
 
@@ -125,14 +134,15 @@ fn arrived(answer: Result<Arrived<u64>, LinkFault>) -> Option<u64> {
 #[test]
 fn acceptors_and_waits_in_memory(rt: HostRuntime) -> Result<(), Fail> {
     let alloc = rt.alloc();
-    let mut acceptor = MemAcceptor::new(Vec::from_slice(alloc, &[7])?, &[1, 3]);
+    let mut acceptor = MemAcceptor::new(alloc, Vec::from_slice(alloc, &[7])?, &[1, 3]);
     assert_eq!(rt; acceptor.bind(1), Err(Failed));
     assert_eq!(rt; acceptor.bind(4443), Ok(()));
     assert_eq!(rt; acceptor.bound(), Some(4443));
     assert_eq!(rt; arrived(acceptor.next(alloc, 20)), None);
     assert_eq!(rt; acceptor.left(), 1);
-    assert_eq!(rt; arrived(acceptor.next(alloc, 20)), Some(7));
-    assert_eq!(rt; arrived(acceptor.next(alloc, 20)), None);
+    assert_eq!(rt; arrived(acceptor.next(alloc, 0)), Some(7));
+    assert_eq!(rt; arrived(acceptor.next(alloc, 5)), None);
+    assert!(rt; acceptor.waits().unwrap_or(&[]) == [20, 0, 5].as_slice());
     let mut patience = MemPatience::new(alloc, &[1]);
     assert_eq!(rt; patience.set(1), Err(Failed));
     assert_eq!(rt; patience.set(20), Ok(()));

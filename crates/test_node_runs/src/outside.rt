@@ -105,7 +105,7 @@ fn acceptor(
     row: &Row,
 ) -> Result<MemAcceptor<'static, WatchedLink>, NoMemory> {
     let arriving = links(alloc, log, row.arriving)?;
-    Ok(MemAcceptor::new(arriving, row.failing.accepts))
+    Ok(MemAcceptor::new(alloc, arriving, row.failing.accepts))
 }
 
 fn dialer(

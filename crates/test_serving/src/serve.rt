@@ -65,7 +65,7 @@ fn serve<R: Wait, P: Spawner<Session>>(
         turns: TURNS,
         sessions: Some(links.len() as u64),
     };
-    let mut acceptor = MemAcceptor::new(links, failing);
+    let mut acceptor = MemAcceptor::new(alloc, links, failing);
     serve_on(
         rt,
         alloc,

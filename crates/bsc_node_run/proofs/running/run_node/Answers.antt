@@ -1,6 +1,6 @@
 use Rattle.std.proofs.Common.{arith, inl, inr, refl, None, Some, ◌∷◌, [], ◌++◌, unwrap_or}
 use Rattle.bsc_node_run.specs.Drawing.{GoesDrawing, at_rest}
-use Rattle.bsc_node_run.specs.Worlds.{dialling, world_of}
+use Rattle.bsc_node_run.specs.Worlds.{admitting, dialling, world_of}
 use Rattle.bsc_node_run.proofs.Runs.{grows_none, grows_then, one_longer, rise_all, rise_before, rise_more, turns_all, turns_more}
 use Rattle.bsc_node_run.proofs.Told.{stays_same, stays_then}
 use Rattle.bsc_node_run.proofs.Stops.{at_err, rise_now, stops_more, stops_now}
@@ -12,8 +12,8 @@ loop-made-init g c = record {
   readings = grows_none (g.C.Clock.readings c.args.clock.now);
   count = refl;
   going = c.in_ok-set.ensures.finished;
-  turns = λ more m v left k. k;
-  stops = λ more v left k. k;
+  turns = λ more m v door k. k;
+  stops = λ more v door k. k;
   rise = λ more r. rise_before 0 (g.C.Clock.newest c.args.clock.now) more (omega arith) r;
   writes_later = omega arith;
   links_later = omega arith;
@@ -34,11 +34,11 @@ returns-then-set-clause-runs g c = record {
     dialled = refl;
     held = refl;
   };
-  went = turns_all (GoesDrawing g.N.Core.goes g.W.Words.gives g.W.Words.faults) g.L.Link.talk c.args.listens None c.args.script.now (at_rest c.args.node.now c.args.random.now) (world_of c.in_ok-set.set (dialling g.D.Dialer.calls g.D.Dialer.left g.D.Dialer.faults c.args.dialer.now) (g.K.Sink.held c.args.sink.now)) (g.A.Acceptor.left c.args.acceptor.now)
-      (c.loop-made.invariant.times ++ c.in_ok-now.now ∷ []) (Some (unwrap_or c.loop-made.start c.in_ok-now.now)) c.in_ok-now.rest.now (at_rest c.node_turn.new.node c.node_turn.new.random) (world_of c.node_turn.new.set (dialling g.D.Dialer.calls g.D.Dialer.left g.D.Dialer.faults c.node_turn.new.dialer) (g.K.Sink.held c.node_turn.new.sink)) (g.A.Acceptor.left c.node_turn.new.acceptor)
-      (turns_more (GoesDrawing g.N.Core.goes g.W.Words.gives g.W.Words.faults) g.L.Link.talk c.args.listens None c.args.script.now (at_rest c.args.node.now c.args.random.now) (world_of c.in_ok-set.set (dialling g.D.Dialer.calls g.D.Dialer.left g.D.Dialer.faults c.args.dialer.now) (g.K.Sink.held c.args.sink.now)) (g.A.Acceptor.left c.args.acceptor.now)
+  went = turns_all (GoesDrawing g.N.Core.goes g.W.Words.gives g.W.Words.faults) g.L.Link.talk c.args.listens None c.args.script.now (at_rest c.args.node.now c.args.random.now) (world_of c.in_ok-set.set (dialling g.D.Dialer.calls g.D.Dialer.left g.D.Dialer.faults c.args.dialer.now) (g.K.Sink.held c.args.sink.now)) (admitting g.A.Acceptor.left g.A.Acceptor.waits c.args.acceptor.now)
+      (c.loop-made.invariant.times ++ c.in_ok-now.now ∷ []) (Some (unwrap_or c.loop-made.start c.in_ok-now.now)) c.in_ok-now.rest.now (at_rest c.node_turn.new.node c.node_turn.new.random) (world_of c.node_turn.new.set (dialling g.D.Dialer.calls g.D.Dialer.left g.D.Dialer.faults c.node_turn.new.dialer) (g.K.Sink.held c.node_turn.new.sink)) (admitting g.A.Acceptor.left g.A.Acceptor.waits c.node_turn.new.acceptor)
+      (turns_more (GoesDrawing g.N.Core.goes g.W.Words.gives g.W.Words.faults) g.L.Link.talk c.args.listens None c.args.script.now (at_rest c.args.node.now c.args.random.now) (world_of c.in_ok-set.set (dialling g.D.Dialer.calls g.D.Dialer.left g.D.Dialer.faults c.args.dialer.now) (g.K.Sink.held c.args.sink.now)) (admitting g.A.Acceptor.left g.A.Acceptor.waits c.args.acceptor.now)
       c.loop-made.invariant.times c.in_ok-now.now c.loop-made.start c.loop-made.left.now c.in_ok-now.rest.now (at_rest c.loop-made.node c.loop-made.random) (at_rest c.node_turn.new.node c.node_turn.new.random)
-      (world_of c.loop-made.set (dialling g.D.Dialer.calls g.D.Dialer.left g.D.Dialer.faults c.loop-made.dialer) (g.K.Sink.held c.loop-made.sink)) (world_of c.node_turn.new.set (dialling g.D.Dialer.calls g.D.Dialer.left g.D.Dialer.faults c.node_turn.new.dialer) (g.K.Sink.held c.node_turn.new.sink)) (g.A.Acceptor.left c.loop-made.acceptor) (g.A.Acceptor.left c.node_turn.new.acceptor)
+      (world_of c.loop-made.set (dialling g.D.Dialer.calls g.D.Dialer.left g.D.Dialer.faults c.loop-made.dialer) (g.K.Sink.held c.loop-made.sink)) (world_of c.node_turn.new.set (dialling g.D.Dialer.calls g.D.Dialer.left g.D.Dialer.faults c.node_turn.new.dialer) (g.K.Sink.held c.node_turn.new.sink)) (admitting g.A.Acceptor.left g.A.Acceptor.waits c.loop-made.acceptor) (admitting g.A.Acceptor.left g.A.Acceptor.waits c.node_turn.new.acceptor)
       c.loop-made.invariant.turns c.loop-made.invariant.going c.in_ok-now.ensures.turns);
   dials = refl;
   holds = refl;
@@ -57,16 +57,16 @@ loop-made-preserved g c = record {
       c.loop-made.invariant.readings c.in_ok-now.ensures.reading;
   count = one_longer c.loop-made.invariant.times c.in_ok-now.now c.loop-made.made c.loop-made.invariant.count;
   going = c.if-set.false;
-  turns = λ more m v left k. turns_more (GoesDrawing g.N.Core.goes g.W.Words.gives g.W.Words.faults) g.L.Link.talk c.args.listens None c.args.script.now (at_rest c.args.node.now c.args.random.now) (world_of c.in_ok-set.set (dialling g.D.Dialer.calls g.D.Dialer.left g.D.Dialer.faults c.args.dialer.now) (g.K.Sink.held c.args.sink.now)) (g.A.Acceptor.left c.args.acceptor.now)
+  turns = λ more m v door k. turns_more (GoesDrawing g.N.Core.goes g.W.Words.gives g.W.Words.faults) g.L.Link.talk c.args.listens None c.args.script.now (at_rest c.args.node.now c.args.random.now) (world_of c.in_ok-set.set (dialling g.D.Dialer.calls g.D.Dialer.left g.D.Dialer.faults c.args.dialer.now) (g.K.Sink.held c.args.sink.now)) (admitting g.A.Acceptor.left g.A.Acceptor.waits c.args.acceptor.now)
       c.loop-made.invariant.times c.in_ok-now.now c.loop-made.start c.loop-made.left.now c.in_ok-now.rest.now (at_rest c.loop-made.node c.loop-made.random) (at_rest c.node_turn.new.node c.node_turn.new.random)
-      (world_of c.loop-made.set (dialling g.D.Dialer.calls g.D.Dialer.left g.D.Dialer.faults c.loop-made.dialer) (g.K.Sink.held c.loop-made.sink)) (world_of c.node_turn.new.set (dialling g.D.Dialer.calls g.D.Dialer.left g.D.Dialer.faults c.node_turn.new.dialer) (g.K.Sink.held c.node_turn.new.sink)) (g.A.Acceptor.left c.loop-made.acceptor) (g.A.Acceptor.left c.node_turn.new.acceptor)
+      (world_of c.loop-made.set (dialling g.D.Dialer.calls g.D.Dialer.left g.D.Dialer.faults c.loop-made.dialer) (g.K.Sink.held c.loop-made.sink)) (world_of c.node_turn.new.set (dialling g.D.Dialer.calls g.D.Dialer.left g.D.Dialer.faults c.node_turn.new.dialer) (g.K.Sink.held c.node_turn.new.sink)) (admitting g.A.Acceptor.left g.A.Acceptor.waits c.loop-made.acceptor) (admitting g.A.Acceptor.left g.A.Acceptor.waits c.node_turn.new.acceptor)
       c.loop-made.invariant.turns c.loop-made.invariant.going c.in_ok-now.ensures.turns
-      more m v left (rw c.unwrap_or.ensures at k);
-  stops = λ more v left k. stops_more (GoesDrawing g.N.Core.goes g.W.Words.gives g.W.Words.faults) g.L.Link.talk c.args.listens None c.args.script.now (at_rest c.args.node.now c.args.random.now) (world_of c.in_ok-set.set (dialling g.D.Dialer.calls g.D.Dialer.left g.D.Dialer.faults c.args.dialer.now) (g.K.Sink.held c.args.sink.now)) (g.A.Acceptor.left c.args.acceptor.now)
+      more m v door (rw c.unwrap_or.ensures at k);
+  stops = λ more v door k. stops_more (GoesDrawing g.N.Core.goes g.W.Words.gives g.W.Words.faults) g.L.Link.talk c.args.listens None c.args.script.now (at_rest c.args.node.now c.args.random.now) (world_of c.in_ok-set.set (dialling g.D.Dialer.calls g.D.Dialer.left g.D.Dialer.faults c.args.dialer.now) (g.K.Sink.held c.args.sink.now)) (admitting g.A.Acceptor.left g.A.Acceptor.waits c.args.acceptor.now)
       c.loop-made.invariant.times c.in_ok-now.now c.loop-made.start c.loop-made.left.now c.in_ok-now.rest.now (at_rest c.loop-made.node c.loop-made.random) (at_rest c.node_turn.new.node c.node_turn.new.random)
-      (world_of c.loop-made.set (dialling g.D.Dialer.calls g.D.Dialer.left g.D.Dialer.faults c.loop-made.dialer) (g.K.Sink.held c.loop-made.sink)) (world_of c.node_turn.new.set (dialling g.D.Dialer.calls g.D.Dialer.left g.D.Dialer.faults c.node_turn.new.dialer) (g.K.Sink.held c.node_turn.new.sink)) (g.A.Acceptor.left c.loop-made.acceptor) (g.A.Acceptor.left c.node_turn.new.acceptor)
+      (world_of c.loop-made.set (dialling g.D.Dialer.calls g.D.Dialer.left g.D.Dialer.faults c.loop-made.dialer) (g.K.Sink.held c.loop-made.sink)) (world_of c.node_turn.new.set (dialling g.D.Dialer.calls g.D.Dialer.left g.D.Dialer.faults c.node_turn.new.dialer) (g.K.Sink.held c.node_turn.new.sink)) (admitting g.A.Acceptor.left g.A.Acceptor.waits c.loop-made.acceptor) (admitting g.A.Acceptor.left g.A.Acceptor.waits c.node_turn.new.acceptor)
       c.loop-made.invariant.stops c.loop-made.invariant.going c.in_ok-now.ensures.turns
-      more v left (rw c.unwrap_or.ensures at k);
+      more v door (rw c.unwrap_or.ensures at k);
   rise = rise_more 0 c.loop-made.invariant.times (g.C.Clock.newest c.loop-made.clock) c.in_ok-now.now (g.C.Clock.newest c.node_turn.new.clock)
       c.loop-made.invariant.rise c.in_ok-now.ensures.rises c.in_ok-now.ensures.below c.in_ok-now.ensures.newest;
   writes_later = omega (arith, c.loop-made.invariant.writes_later, c.node_turn.ensures.later);
@@ -88,8 +88,8 @@ returns-clause-runs g c = record {
     dialled = refl;
     held = refl;
   };
-  went = turns_all (GoesDrawing g.N.Core.goes g.W.Words.gives g.W.Words.faults) g.L.Link.talk c.args.listens None c.args.script.now (at_rest c.args.node.now c.args.random.now) (world_of c.in_ok-set.set (dialling g.D.Dialer.calls g.D.Dialer.left g.D.Dialer.faults c.args.dialer.now) (g.K.Sink.held c.args.sink.now)) (g.A.Acceptor.left c.args.acceptor.now)
-      c.loop-made.invariant.times c.loop-made.start c.loop-made.left.now (at_rest c.loop-made.node c.loop-made.random) (world_of c.loop-made.set (dialling g.D.Dialer.calls g.D.Dialer.left g.D.Dialer.faults c.loop-made.dialer) (g.K.Sink.held c.loop-made.sink)) (g.A.Acceptor.left c.loop-made.acceptor)
+  went = turns_all (GoesDrawing g.N.Core.goes g.W.Words.gives g.W.Words.faults) g.L.Link.talk c.args.listens None c.args.script.now (at_rest c.args.node.now c.args.random.now) (world_of c.in_ok-set.set (dialling g.D.Dialer.calls g.D.Dialer.left g.D.Dialer.faults c.args.dialer.now) (g.K.Sink.held c.args.sink.now)) (admitting g.A.Acceptor.left g.A.Acceptor.waits c.args.acceptor.now)
+      c.loop-made.invariant.times c.loop-made.start c.loop-made.left.now (at_rest c.loop-made.node c.loop-made.random) (world_of c.loop-made.set (dialling g.D.Dialer.calls g.D.Dialer.left g.D.Dialer.faults c.loop-made.dialer) (g.K.Sink.held c.loop-made.sink)) (admitting g.A.Acceptor.left g.A.Acceptor.waits c.loop-made.acceptor)
       c.loop-made.invariant.turns;
   dials = refl;
   holds = refl;
@@ -119,9 +119,9 @@ returns-in_err-now-clause-fails g c =
         dialled = refl;
         held = refl;
       };
-      went = stops_now (GoesDrawing g.N.Core.goes g.W.Words.gives g.W.Words.faults) g.L.Link.talk c.args.listens None c.args.script.now (at_rest c.args.node.now c.args.random.now) (world_of c.in_ok-set.set (dialling g.D.Dialer.calls g.D.Dialer.left g.D.Dialer.faults c.args.dialer.now) (g.K.Sink.held c.args.sink.now)) (g.A.Acceptor.left c.args.acceptor.now)
+      went = stops_now (GoesDrawing g.N.Core.goes g.W.Words.gives g.W.Words.faults) g.L.Link.talk c.args.listens None c.args.script.now (at_rest c.args.node.now c.args.random.now) (world_of c.in_ok-set.set (dialling g.D.Dialer.calls g.D.Dialer.left g.D.Dialer.faults c.args.dialer.now) (g.K.Sink.held c.args.sink.now)) (admitting g.A.Acceptor.left g.A.Acceptor.waits c.args.acceptor.now)
           c.loop-made.invariant.times k.0 c.loop-made.start c.loop-made.left.now (at_rest c.loop-made.node c.loop-made.random) (world_of c.loop-made.set (dialling g.D.Dialer.calls g.D.Dialer.left g.D.Dialer.faults c.loop-made.dialer) (g.K.Sink.held c.loop-made.sink)) (world_of c.node_turn.new.set (dialling g.D.Dialer.calls g.D.Dialer.left g.D.Dialer.faults c.node_turn.new.dialer) (g.K.Sink.held c.node_turn.new.sink))
-          (g.A.Acceptor.left c.loop-made.acceptor) (g.A.Acceptor.left c.node_turn.new.acceptor) c.loop-made.invariant.stops c.loop-made.invariant.going k.4;
+          (admitting g.A.Acceptor.left g.A.Acceptor.waits c.loop-made.acceptor) (admitting g.A.Acceptor.left g.A.Acceptor.waits c.node_turn.new.acceptor) c.loop-made.invariant.stops c.loop-made.invariant.going k.4;
       dials = refl;
       holds = refl;
       readings = grows_then (g.C.Clock.readings c.args.clock.now) (g.C.Clock.readings c.loop-made.clock) (g.C.Clock.readings c.node_turn.new.clock) c.loop-made.invariant.times (k.0 ∷ [])
