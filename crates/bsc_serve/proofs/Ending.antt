@@ -23,7 +23,7 @@ use Rattle.bsc_session.specs.declared.job.SessionJob.{SessionJob}
 use Rattle.bsc_session.specs.declared.session_end.SessionEnd.{SessionEnd}
 use Rattle.bsc_serve.specs.declared.terms.ServeTerms.{ServeTerms}
 use Rattle.bsc_serve.specs.Events.{Event, OutAfter, callers_of, jobs_of, links_of, returned_of, unstarted_of}
-use Rattle.bsc_serve.specs.Inner.{CutAt, Finished, Halted, Stock, Stopped, Taken, halt_end, world_of}
+use Rattle.bsc_serve.specs.Inner.{CutAt, Halted, Stock, Stopped, Taken, halt_end, whole_end, world_of}
 use Rattle.bsc_serve.specs.Serving.{Cut, CutBy, EndsSo, IsWithin, Loses, RoseBy, Serving, StopAnswers, cut_callers, cut_links}
 use Rattle.bsc_serve.specs.Tallies.{CountsUp, Remains}
 use Rattle.bsc_serve.specs.Worlds.{ServeWorld}
@@ -71,26 +71,10 @@ cut_by None halt c = tt
 cut_by (Some x) halt c = (ap halt_end c.0, c.1)
 
 module _ {L C : Type 0} where
-  -- What a stop answered that ended serving, once all links had arrived and no job was out.
-  record Answered (h : Hub) (m q : Pass) (awaited : Option ℕ) (events : List (Event L C)) (end : ServeEnd) : Type 0 where
-    stop : Result (Told Counts) AlreadyStopped
-    stopped : Stopped h m q stop
-    ends : EndsSo awaited events [] stop end
-
-  answered : (h : Hub) (m q : Pass) (u : ℕ) (awaited : Option ℕ) (events : List (Event L C)) (end : ServeEnd)
-      → awaited ≡ Some (length (links_of events)) → u ≡ unstarted_of events → Finished h m q u end → Answered h m q awaited events end
-  answered h m q u awaited events (Done c k) came same f = record {
-    stop = Ok (record { at = f.1.0; said = c });
-    stopped = f.1.1;
-    ends = (came, refl, f.0 ∙ same, (f.1.0, refl));
-  }
-  answered h m q u awaited events (StoppedBefore at k) came same f = record {
-    stop = Err (record { at = at });
-    stopped = f.1;
-    ends = (came, refl, f.0 ∙ same, refl);
-  }
-  answered h m q u awaited events AcceptFault came same f = absurd f
-  answered h m q u awaited events NoMemory came same f = absurd f
+  ends_whole : (awaited : Option ℕ) (events : List (Event L C)) (u : ℕ) (r : Result (Told Counts) AlreadyStopped)
+      → awaited ≡ Some (length (links_of events)) → u ≡ unstarted_of events → EndsSo awaited events [] r (whole_end u r)
+  ends_whole awaited events u (Ok t) came same = (came, refl, same, (t.at, refl))
+  ends_whole awaited events u (Err already) came same = (came, refl, same, refl)
 
   ends_halted : (awaited : Option ℕ) (events : List (Event L C)) (still : List (SessionJob L C)) (stop : Result (Told Counts) AlreadyStopped)
       (halt : Halt) → EndsSo awaited events still stop (halt_end halt)
@@ -103,42 +87,40 @@ rose_from n a b c later (inr x) = inr x
 
 module _ {L C : Type 0} (works : SessionJob L C → SessionEnd → Type 0) where
   -- all arrived, all sessions ended and were taken in, and the hub was stopped
-  pub serves_whole : (h : Hub) (terms : ServeTerms) (w m : ServeWorld L C) (q : Pass) (u : ℕ) (end : ServeEnd)
+  pub serves_whole : (h : Hub) (terms : ServeTerms) (w m : ServeWorld L C) (q : Pass) (u : ℕ) (r : Result (Told Counts) AlreadyStopped)
       → ((s : ℕ) → terms.sessions ≡ Some s → s < 2 ^ 64) → Taken works h terms w m (record { remaining = Some 0; unstarted = u })
-      → m.out ≡ [] → Finished h m.pass q u end → Serving works h terms w (record m { pass = q }) end
-  serves_whole h terms w m q u end fits t none s =
+      → m.out ≡ [] → Stopped h m.pass q r → Serving works h terms w (record m { pass = q }) (whole_end u r)
+  serves_whole h terms w m q u r fits t none s =
       let n = length (links_of t.events) in
       let all : n ≡ n + 0 = omega arith in
       let few = few_unstarted t.events in
       let small = came_fits terms.sessions n fits t.remains in
       let under : unstarted_of t.events < 2 ^ 64 = omega (arith, few, small) in
       let came = all_came terms.sessions n t.remains in
-      let a : Answered h m.pass q terms.sessions t.events end =
-      answered h m.pass q u terms.sessions t.events end came (counted_so u (unstarted_of t.events) t.counted under) s in
       let callers : List EndedCaller = callers_of t.events in
-      let made : Option Placed = stop_made (number_of w.pass) a.stop in
+      let made : Option Placed = stop_made (number_of w.pass) r in
       let went : Went h w.pass (n + 0) (callers ++ []) made q =
       subst (λ k. Went h w.pass k (callers ++ []) made q) all
-      (subst (λ xs. Went h w.pass n xs made q) (sym (append-nil callers)) (stops_so h w.pass m.pass q n callers a.stop t.went a.stopped)) in
+      (subst (λ xs. Went h w.pass n xs made q) (sym (append-nil callers)) (stops_so h w.pass m.pass q n callers r t.went s)) in
       record {
         events = t.events;
         cut = None;
         still = [];
-        stop = a.stop;
+        stop = r;
         cut_last = tt;
         left = subst (λ xs. Loses w.links m.links xs) (sym (append-nil (links_of t.events))) t.left;
         within = within_whole terms.sessions n t.remains;
         asks = t.asks;
         asked = t.asked;
         jobs = t.jobs;
-        fates = fates_later h terms w.pass m.pass q t.events a.stopped.passed.grows (stays_stopped h m.pass q a.stop a.stopped) t.fates;
+        fates = fates_later h terms w.pass m.pass q t.events s.passed.grows (stays_stopped h m.pass q r s) t.fates;
         returned = t.returned;
         out = subst (λ (o : List (SessionJob L C)). OutAfter works [] t.events o) none t.out;
         gathered = none;
         went = went;
-        stopped = stop_answers h m.pass q a.stop a.stopped;
-        stop_last = stop_stands h w.pass q (n + 0) t.events [] a.stop went t.all_ended;
-        ends = a.ends;
+        stopped = stop_answers h m.pass q r s;
+        stop_last = stop_stands h w.pass q (n + 0) t.events [] r went t.all_ended;
+        ends = ends_whole terms.sessions t.events u r came (counted_so u (unstarted_of t.events) t.counted under);
       }
 
   -- the loop halted, the hub was stopped, and the sessions ended

@@ -190,12 +190,10 @@ pub record Stopped (h : Hub) (m q : Pass) (r : Result (Told Counts) AlreadyStopp
   pub place : IfErr r (λ already. position stops (entries (seen q)) ≡ Some already.at)
   pub loaded : newest_number q ≡ newest_number m
 
--- A stop was made or found, and the end says so.
-abbrev pub Finished : Hub → Pass → Pass → ℕ → ServeEnd → Type 0
-Finished h m q u (Done c n) = (n ≡ u) × ((at : ℕ) × Stopped h m q (Ok (record { at = at; said = c })))
-Finished h m q u (StoppedBefore at n) = (n ≡ u) × Stopped h m q (Err (record { at = at }))
-Finished h m q u AcceptFault = ⊥
-Finished h m q u NoMemory = ⊥
+-- How serving ends that wasn't cut short, where so many links have no job.
+abbrev pub whole_end : ℕ → Result (Told Counts) AlreadyStopped → ServeEnd
+whole_end u (Ok t) = Done t.said u
+whole_end u (Err already) = StoppedBefore already.at u
 
 -- How serving ends that halted.
 abbrev pub halt_end : Halt → ServeEnd

@@ -6,7 +6,7 @@ ghost use Rattle.bsc_hub.specs.Passing.{IsCaller};
 ghost use Rattle.bsc_serve.specs.declared.end.ServeEnd.{ServeEnd};
 ghost use Rattle.bsc_edge.specs.Told.{Stays};
 ghost use Rattle.bsc_session.specs.Jobs.{Worked};
-ghost use Rattle.bsc_serve.specs.Inner.{Finished, Stopped, halt_end};
+ghost use Rattle.bsc_serve.specs.Inner.{Stopped, halt_end, whole_end};
 ghost use Rattle.bsc_serve.specs.Serving.{Serving};
 
 use crate::accepting::accept_all;
@@ -30,13 +30,11 @@ fn stop<R: Wait>(rt: &R, hub: &Hub, pass: &mut Pass) -> Result<Told<Counts>, Alr
     hub.stop(rt, pass)
 }
 
-/// Stops the hub, once all sessions have ended, and says how that came out.
-fn finish<R: Wait>(rt: &R, hub: &Hub, pass: &mut Pass, unstarted: u64) -> ServeEnd
-    requires { IsCaller hub.now pass.old }
-    ensures finished { Finished hub.now pass.old pass.new unstarted result }
-    ensures caller { IsCaller hub.now pass.new }
+/// How serving ends that wasn't cut short, by what the stop of the hub answered.
+fn done(unstarted: u64, stopped: Result<Told<Counts>, AlreadyStopped>) -> ServeEnd
+    ensures { result ≡ whole_end unstarted stopped }
 {
-    match stop(rt, hub, pass) {
+    match stopped {
         Ok(told) => ServeEnd::Done {
             counts: told.said,
             unstarted,
@@ -116,7 +114,8 @@ pub fn serve_on<
     match accept_all(rt, alloc, hub, pass, terms, clock, acceptor, spawner) {
         Ok(unstarted) => {
             take_ended(rt, hub, pass, spawner, true);
-            finish(rt, hub, pass, unstarted)
+            let stopped = stop(rt, hub, pass);
+            done(unstarted, stopped)
         }
         Err(halt) => {
             let _told = stop(rt, hub, pass);
