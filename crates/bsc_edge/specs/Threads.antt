@@ -10,6 +10,6 @@ abbrev pub job_of : {J T : Type 0} → Running T (Promised J) → J
 job_of r = r.thread.promise.job.value
 
 -- A thread was started for this job, or the job comes back as it was.
-abbrev pub Begins : {J T : Type 0} → Result (Running T (Promised J)) (Unstarted J) → J → Type 0
-Begins (Ok running) given = job_of running ≡ given
-Begins (Err unstarted) given = ComesBack unstarted given
+abbrev pub Begins : {J T : Type 0} → (T → J) → Result T (Unstarted J) → J → Type 0
+Begins job (Ok thread) given = job thread ≡ given
+Begins job (Err unstarted) given = ComesBack unstarted given
