@@ -1,7 +1,7 @@
 -- Sessions that have ended: their callers are taken in, and all that these entered stands before the Stop.
-use Rattle.std.proofs.Common.{inl, inr, ◌≡◌, ℕ, ◌+◌, ◌≤◌, List, [], ◌∷◌, ◌++◌, length, take, Option, None, Ok, Err, refl, ap, sym, ◌∙◌, subst, arith, append_assoc, append-nil, length-map}
+use Rattle.std.proofs.Common.{inl, inr, ◌≡◌, ℕ, ◌+◌, ◌≤◌, List, [], ◌∷◌, ◌++◌, length, take, Option, None, Ok, Err, refl, ap, sym, ◌∙◌, subst, arith, append_assoc, append-nil}
 use Rattle.std.specs.Prelude.{◌≢◌, ◌⊎◌, Result}
-use Rattle.std.proofs.lemmas.List.{take_at}
+use Rattle.std.proofs.lemmas.List.{length-map, take_at}
 use mathlib.Core.Option.{some}
 use lib.ListN.{get_elem?}
 use Rattle.bsc_history.specs.declared.counts.Counts.{Counts}
@@ -150,7 +150,7 @@ stop_found h p q drew took (Ok t) w n apart =
     let m = w.makes in
     let s : Stamped = stop_stamped (number_of p) t.said in
     let split : entries (seen q) ≡ entries m.before ++ s.entry ∷ [] = ap entries m.ends ∙ entries-more m.before s in
-    let place : length (entries m.before) ≡ t.at = length-map (λ (x : Stamped). x.entry) m.before ∙ sym m.place in
+    let place : length (entries m.before) ≡ t.at = length-map m.before (λ (x : Stamped). x.entry) ∙ sym m.place in
     let found : take t.at (entries (seen q)) ≡ entries m.before =
     ap (λ (x : List Entry). take t.at x) split ∙ take_at (entries m.before) (s.entry ∷ []) t.at place in
     let mine = w.caller.0.1.1.2 in
