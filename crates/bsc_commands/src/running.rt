@@ -9,6 +9,7 @@ ghost use Rattle.bsc_replay.specs.Checks.{check_of};
 ghost use Rattle.bsc_simulate.specs.Scripts.{simulate_of};
 ghost use Rattle.bsc_audit_command.specs.Audits.{RunsAudit};
 ghost use Rattle.bsc_settings.specs.declared.hub.HubSettings.{HubSettings};
+ghost use Rattle.bsc_session.specs.Jobs.{Worked};
 ghost use Rattle.bsc_hub_command.specs.Served.{Runs};
 ghost use Rattle.bsc_hub_command.specs.Settled.{IsSettled, Unsettled};
 ghost use Rattle.bsc_load_command.specs.Loaded.{RunsLoad};
@@ -86,22 +87,24 @@ fn run_asked<
     requires workers { (n : ℕ) → seen asked ≡ load n → (1 ≤ n) × (n ≤ 512) }
     ensures hub { (path : Text) (sessions : Option ℕ) (made : _) → seen asked.entry ≡ hub path sessions → kept.new.hub ≡ Some made →
         (v : HubSettings) × IsSettled (F.holds files.old path) v
-        × Runs v sessions kept.new
+        × Runs (Worked L.talk L.faults C.readings) (record { settings = v; sessions = sessions }) kept.new
         (record {
           links = A.left acceptor.old;
+          waits = A.waits acceptor.old;
           port = A.bound acceptor.old;
           faults = A.faults acceptor.old;
           jobs = P.jobs spawner.old;
-          since = P.since spawner.old;
+          out = P.out spawner.old;
           unstarted = P.faults spawner.old;
           written = K.held sink.old;
         })
         (record {
           links = A.left acceptor.new;
+          waits = A.waits acceptor.new;
           port = A.bound acceptor.new;
           faults = A.faults acceptor.new;
           jobs = P.jobs spawner.new;
-          since = P.since spawner.new;
+          out = P.out spawner.new;
           unstarted = P.faults spawner.new;
           written = K.held sink.new;
         }) result }
@@ -266,22 +269,24 @@ pub fn run<
     // Of the words of a hub: once it is made, its settings are those of the file, and this is what became of it.
     ensures hub { (path : Text) (sessions : Option ℕ) (made : _) → asked_by (map string_bytes words.now) ≡ Some (hub path sessions) →
         kept.new.hub ≡ Some made → (v : HubSettings) × IsSettled (F.holds files.old path) v
-        × Runs v sessions kept.new
+        × Runs (Worked L.talk L.faults C.readings) (record { settings = v; sessions = sessions }) kept.new
         (record {
           links = A.left acceptor.old;
+          waits = A.waits acceptor.old;
           port = A.bound acceptor.old;
           faults = A.faults acceptor.old;
           jobs = P.jobs spawner.old;
-          since = P.since spawner.old;
+          out = P.out spawner.old;
           unstarted = P.faults spawner.old;
           written = K.held sink.old;
         })
         (record {
           links = A.left acceptor.new;
+          waits = A.waits acceptor.new;
           port = A.bound acceptor.new;
           faults = A.faults acceptor.new;
           jobs = P.jobs spawner.new;
-          since = P.since spawner.new;
+          out = P.out spawner.new;
           unstarted = P.faults spawner.new;
           written = K.held sink.new;
         }) result }

@@ -6,14 +6,16 @@
 #![tactic(auto)]
 
 use bsc_commands::{Door, Noted, NotingFiles, RealLink, RealWaiter, real_dialer, run};
-use bsc_edge::{Disk, Kind, Monotonic, Places, ThreadSpawner, Unstarted, launch};
+use bsc_edge::{
+    Disk, Kind, Monotonic, Places, Promised, Running, ThreadSpawner, Unstarted, launch,
+};
 use bsc_hub::Kept;
 use bsc_links::{PeerAcceptor, PeerDialer};
 use bsc_node_command::RandomWords;
 use bsc_octets::NoMemory;
 use bsc_outside::{ReaderSource, WriterSink};
 use bsc_player::out_of_memory;
-use bsc_session::SessionJob;
+use bsc_session::{SessionEnd, SessionJob};
 use bsc_words::{Asked, WordsFault, read_words};
 use std::alloc::Global;
 use std::cell::Cell;
@@ -73,10 +75,11 @@ fn main(rt: HostRuntime) -> ExitCode {
     let Ok(of_door) = notes.clone() else {
         return ExitCode::from(out_of_memory(&mut sink));
     };
-    let begin = move |alloc: Global, places: &Arc<Places>, job: Job| -> Result<(), Unstarted<Job>> {
-        launch(&rt, alloc, places, job)
-    };
-    let mut spawner = ThreadSpawner::new(begin, places);
+    let begin = move |alloc: Global, places: &Arc<Places>, job: Job| -> Result<
+        Running<Result<SessionEnd, Job>, Promised<Job>>,
+        Unstarted<Job>,
+    > { launch(&rt, alloc, places, job) };
+    let mut spawner = ThreadSpawner::new(rt, alloc, begin, places);
     let Ok(kind) = kind_of(alloc, words.as_slice()) else {
         return ExitCode::from(out_of_memory(&mut sink));
     };

@@ -1,11 +1,11 @@
 //! Each object once, with a fault in it.
-ghost use Rattle.std.specs.Prelude.{◌≡◌};
+ghost use Rattle.std.specs.Prelude.{⊤};
 
 use bsc_edge::{
     Acceptor, Arrived, Clock, Dialer, Disk, Failed, FileFault, Files, Incoming, Job, Kind, Link,
     LinkFault, MemAcceptor, MemClock, MemDialer, MemFile, MemFiles, MemLink, MemPatience,
-    MemSpawner, MemWaiter, Monotonic, Patience, Places, Said, Spawner, ThreadSpawner, Unstarted,
-    Waiter, launch,
+    MemSpawner, MemWaiter, Monotonic, Patience, Places, Promised, Running, Said, Spawner,
+    ThreadSpawner, Unstarted, Waiter, launch,
 };
 use bsc_octets::{NoMemory, Octets};
 use std::alloc::Global;
@@ -155,16 +155,19 @@ fn acceptors_and_waits_in_memory(rt: HostRuntime) -> Result<(), Fail> {
     Ok(())
 }
 
-/// Adds one to a sum.
+/// Adds one to a sum, and leaves what that is then.
 #[derive(Drop)]
 struct Adds(Arc<Mutex<u64>>);
 
 impl Job for Adds {
-    ghost works = { λ before after. after ≡ before };
+    type Done = u64;
 
-    fn work<R: Wait>(&mut self, rt: &R) {
+    ghost works = { λ _ _. ⊤ };
+
+    fn work<R: Wait>(self, rt: &R) -> u64 {
         let mut sum = self.0.lock(rt);
         *sum = sum.saturating_add(1);
+        *sum
     }
 }
 
@@ -188,43 +191,86 @@ fn starts<P: Spawner<Adds>, R: Wait>(
     }
 }
 
+/// None ends by itself. Where an end is waited for the oldest is worked off; and the others can be had as they are.
 #[test]
 fn jobs_in_memory(rt: HostRuntime) -> Result<(), Fail> {
     let alloc = rt.alloc();
     let sum = Arc::new(alloc, Mutex::new(0u64))?;
     let mut spawner = MemSpawner::new(alloc, &[2]);
     assert!(rt; starts(&rt, alloc, &mut spawner, &sum)?);
-    spawner.gather(&rt);
+    assert_eq!(rt; spawner.ended(&rt), None);
+    assert_eq!(rt; spawner.next_end(&rt), Some(1));
+    assert_eq!(rt; spawner.next_end(&rt), None);
     assert!(rt; !starts(&rt, alloc, &mut spawner, &sum)?);
     assert!(rt; starts(&rt, alloc, &mut spawner, &sum)?);
-    assert_eq!(rt; spawner.since(), 1);
-    for mut job in spawner.into_jobs() {
-        job.work(&rt);
+    assert_eq!(rt; spawner.taken(), Some(2));
+    for job in Vec::from(spawner.into_jobs()) {
+        assert_eq!(rt; job.work(&rt), 2);
     }
     assert_eq!(rt; *sum.lock(&rt), 2);
     Ok(())
 }
 
-/// One place: while a job has it, the next comes back; and all are gathered.
+/// Waits until each job that is out has ended, and says how many those were.
+fn gathered<P: Spawner<Adds>, R: Wait>(rt: &R, spawner: &mut P) -> u64
+    ensures { P.can_start spawner.old → P.can_start spawner.new }
+{
+    let mut ended = 0u64;
+    for _ in rt.forever() {
+        if spawner.next_end(rt).is_none() {
+            return ended;
+        }
+        ended = ended.saturating_add(1);
+    }
+    unreachable!()
+}
+
+/// One place: while a job has it, the next comes back, and none has ended. It is free again when what is left of the job was
+/// given back.
 #[test]
 fn threads(rt: HostRuntime) -> Result<(), Fail> {
     let alloc = rt.alloc();
     let sum = Arc::new(alloc, Mutex::new(0u64))?;
     let begin = move |alloc: Global, places: &Arc<Places>, job: Adds| -> Result<
-        (),
+        Running<Result<u64, Adds>, Promised<Adds>>,
         Unstarted<Adds>,
     > { launch(&rt, alloc, places, job) };
-    let mut spawner = ThreadSpawner::new(begin, Places::make(alloc, 1)?);
+    let mut spawner = ThreadSpawner::new(rt, alloc, begin, Places::make(alloc, 1)?);
     let held = sum.lock(&rt);
     assert!(rt; starts(&rt, alloc, &mut spawner, &sum)?);
     assert!(rt; !starts(&rt, alloc, &mut spawner, &sum)?);
+    assert_eq!(rt; spawner.ended(&rt), None);
     drop(held);
-    spawner.gather(&rt);
+    assert_eq!(rt; gathered(&rt, &mut spawner), 1);
     for _ in 0..100 {
         assert!(rt; starts(&rt, alloc, &mut spawner, &sum)?);
-        spawner.gather(&rt);
+        assert_eq!(rt; gathered(&rt, &mut spawner), 1);
     }
     assert_eq!(rt; *sum.lock(&rt), 101);
+    Ok(())
+}
+
+/// Two places: the job that has ended is given back while the other one runs, without a wait.
+#[test]
+fn an_end_beside_a_thread(rt: HostRuntime) -> Result<(), Fail> {
+    let alloc = rt.alloc();
+    let (slow, quick) = (
+        Arc::new(alloc, Mutex::new(10u64))?,
+        Arc::new(alloc, Mutex::new(20u64))?,
+    );
+    let begin = move |alloc: Global, places: &Arc<Places>, job: Adds| -> Result<
+        Running<Result<u64, Adds>, Promised<Adds>>,
+        Unstarted<Adds>,
+    > { launch(&rt, alloc, places, job) };
+    let mut spawner = ThreadSpawner::new(rt, alloc, begin, Places::make(alloc, 2)?);
+    let held = slow.lock(&rt);
+    assert!(rt; starts(&rt, alloc, &mut spawner, &slow)?);
+    assert!(rt; starts(&rt, alloc, &mut spawner, &quick)?);
+    assert_eq!(rt; spawner.next_end(&rt), Some(21));
+    assert_eq!(rt; spawner.ended(&rt), None);
+    drop(held);
+    assert_eq!(rt; spawner.next_end(&rt), Some(11));
+    assert_eq!(rt; spawner.next_end(&rt), None);
     Ok(())
 }
 

@@ -1,6 +1,7 @@
 use Rattle.std.proofs.Common.{◌≡◌, ℕ, List, Option, Ok, map, ap, sym, ◌∙◌}
 use Rattle.clap.specs.Words.{Text}
 use Rattle.bsc_settings.specs.declared.hub.HubSettings.{HubSettings}
+use Rattle.bsc_session.specs.Jobs.{Worked}
 use Rattle.bsc_hub_command.specs.Served.{HubWorld, Runs}
 use Rattle.bsc_hub_command.specs.Settled.{IsSettled, Unsettled}
 use Rattle.bsc_node_run.specs.declared.due.Due.{Due}
@@ -19,10 +20,10 @@ pub returns-in-Hub-clause-hub : goal.returns-in-Hub-clause-hub
 returns-in-Hub-clause-hub g c path sessions made named kept =
     let A = g.A.Acceptor in
     let P = g.P.Spawner in
-    let before : HubWorld g.row.L.Denot g.row.C.Denot = record { links = A.left c.args.acceptor.now; port = A.bound c.args.acceptor.now; faults = A.faults c.args.acceptor.now; jobs = P.jobs c.args.spawner.now; since = P.since c.args.spawner.now; unstarted = P.faults c.args.spawner.now; written = g.K.Sink.held c.args.sink.now } in
-    let after : HubWorld g.row.L.Denot g.row.C.Denot = record { links = A.left c.run_hub.new.acceptor; port = A.bound c.run_hub.new.acceptor; faults = A.faults c.run_hub.new.acceptor; jobs = P.jobs c.run_hub.new.spawner; since = P.since c.run_hub.new.spawner; unstarted = P.faults c.run_hub.new.spawner; written = g.K.Sink.held c.run_hub.new.sink } in
+    let before : HubWorld g.row.L.Denot g.row.C.Denot = record { links = A.left c.args.acceptor.now; waits = A.waits c.args.acceptor.now; port = A.bound c.args.acceptor.now; faults = A.faults c.args.acceptor.now; jobs = P.jobs c.args.spawner.now; out = P.out c.args.spawner.now; unstarted = P.faults c.args.spawner.now; written = g.K.Sink.held c.args.sink.now } in
+    let after : HubWorld g.row.L.Denot g.row.C.Denot = record { links = A.left c.run_hub.new.acceptor; waits = A.waits c.run_hub.new.acceptor; port = A.bound c.run_hub.new.acceptor; faults = A.faults c.run_hub.new.acceptor; jobs = P.jobs c.run_hub.new.spawner; out = P.out c.run_hub.new.spawner; unstarted = P.faults c.run_hub.new.spawner; written = g.K.Sink.held c.run_hub.new.sink } in
     of_hub (λ (p : Text) (n : Option ℕ). (v : HubSettings) × IsSettled (g.F.Files.holds c.args.files.now p) v
-    × Runs v n c.run_hub.new.kept before after c.run_hub.result)
+    × Runs (Worked g.L.Link.talk g.L.Link.faults g.C.Clock.readings) (record { settings = v; sessions = n }) c.run_hub.new.kept before after c.run_hub.result)
     c.in-Hub.path.now path c.in-Hub.sessions sessions (sym (ap seen c.in-Hub.is) ∙ named) (c.run_hub.ensures.runs made kept)
 
 pub returns-in-Hub-clause-no_hub : goal.returns-in-Hub-clause-no_hub
