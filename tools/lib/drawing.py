@@ -6,7 +6,8 @@ from math import ceil
 from course import Arrow, Change, Mark, Note, Place, Time
 
 GAP = 280  # between two lines
-SIDE = 76  # beside the outer lines: half of a head
+WIDTH = 144  # of a head
+SIDE = WIDTH / 2 + 14  # beside the outer lines
 CLOCK = 84  # on the left, where the course has times or places
 HEAD = 44
 FOOT = 24
@@ -69,6 +70,12 @@ def wrapped(words, width):
     return [it for line in words.split("\n") for it in textwrap.wrap(line, int(width / (SMALL * WIDE)), break_on_hyphens=False)]
 
 
+def fitting(name):
+    """The attributes by which a long name fits into its head, where its letters may be too wide for that."""
+    wide = sum(13 if it in "MWmw" else 10 if it.isupper() else 8 for it in name)
+    return f' textLength="{WIDTH - 10}" lengthAdjust="spacingAndGlyphs"' if wide > WIDTH else ""
+
+
 def time_words(ms):
     if ms < 1000:
         return f"{ms} ms"
@@ -126,7 +133,8 @@ class Drawing:
         self.drawn.append(words)
 
     def text(self, x, y, words, kind="small", anchor="start"):
-        self.put(f'<text x="{x:g}" y="{y:g}" class="{kind}" text-anchor="{anchor}">{escape(words)}</text>')
+        fit = fitting(words) if kind == "name" else ""
+        self.put(f'<text x="{x:g}" y="{y:g}" class="{kind}" text-anchor="{anchor}"{fit}>{escape(words)}</text>')
 
     def paragraph(self, x, y, lines, kind="small", anchor="start"):
         for n, words in enumerate(lines):
@@ -236,7 +244,7 @@ class Drawing:
             self.text(CLOCK - 12, y + 27, "place", "small", "end")
         for it in self.lines:
             x = self.places[it.name]
-            self.put(f'<rect class="{"hub" if it.is_hub else "head"}" x="{x - 62:g}" y="{y}" width="124" height="{HEAD}" rx="6"/>')
+            self.put(f'<rect class="{"hub" if it.is_hub else "head"}" x="{x - WIDTH / 2:g}" y="{y}" width="{WIDTH}" height="{HEAD}" rx="6"/>')
             self.text(x, y + (19 if it.words else 27), it.name, "name", "middle")
             self.text(x, y + 35, it.words, "small", "middle")
         return y + HEAD

@@ -1,13 +1,13 @@
 -- What a run writes of the words of a network tells what was sent.
-use Rattle.std.proofs.Common.{◌≡◌, ◌⊎◌, inl, inr, ℕ, List, ◌++◌, Option, Some, None, refl, sym, subst, append-nil, append_assoc, arith}
+use Rattle.std.proofs.Common.{◌≡◌, ◌⊎◌, inl, inr, ℕ, List, ◌++◌, Option, Some, None, refl, sym, subst, append-nil, arith}
 use Rattle.bsc_outside.specs.Faults.{PutsPrefix}
 use Rattle.bsc_player.specs.Ends.{WritesAll, WritesSome, whole_lines, lines_read}
 use Rattle.bsc_player.specs.LastLines.{script_line, read_line, memory_line}
 use Rattle.bsc_player.specs.Statuses.{BreaksOff, IsMishap, RefusesInPart, RefusesSome, RunsOut, StatusTells, StopsInPart, StopsReading}
+use Rattle.bsc_player.proofs.Ran.{puts_all}
 use Rattle.bsc_simulate.specs.Scripts.{simulate_of}
 use Rattle.bsc_simulate.proofs.Telling.{lines_of, tells_all, tells_part, tells_script, whole_of, writes_some}
 use Rattle.bsc_commands.specs.Commands.{WritesWhatWasSent}
-use Rattle.bsc_outside.proofs.Common.{puts_all}
 
 -- nothing of a line was written
 puts_none : (before : List ℕ) (line : List ℕ) → PutsPrefix (Some before) (Some before) line
@@ -17,7 +17,7 @@ puts_none before line = (0, omega arith, sym (append-nil before))
 puts_line : (t text line : List ℕ) (held : Option (List ℕ)) → held ≡ Some (t ++ text ++ line) → PutsPrefix (Some (t ++ text)) held line
 puts_line t text line held is =
     subst (λ (h : Option (List ℕ)). PutsPrefix (Some (t ++ text)) h line) (sym is)
-    (puts_all (Some (t ++ text)) (Some (t ++ text ++ line)) line (sym (append_assoc t text line)))
+    (puts_all (Some (t ++ text)) (Some (t ++ text ++ line)) line refl)
 
 module _ (status : ℕ) (o t : List ℕ) (left held : Option (List ℕ)) (f f' : ℕ) where
   of_all : WritesAll simulate_of o t left held → WritesWhatWasSent o t held

@@ -9,13 +9,14 @@ ghost use Rattle.bsc_replay.specs.Checks.{check_of};
 ghost use Rattle.bsc_simulate.specs.Scripts.{simulate_of};
 ghost use Rattle.bsc_audit_command.specs.Audits.{RunsAudit};
 ghost use Rattle.bsc_settings.specs.declared.hub.HubSettings.{HubSettings};
+ghost use Rattle.bsc_session.specs.Jobs.{Worked};
 ghost use Rattle.bsc_hub_command.specs.Served.{Runs};
 ghost use Rattle.bsc_hub_command.specs.Settled.{IsSettled, Unsettled};
 ghost use Rattle.bsc_load_command.specs.Loaded.{RunsLoad};
 ghost use Rattle.bsc_node_command.specs.Comes.{RunsFiles};
 ghost use Rattle.bsc_node_run.specs.declared.due.Due.{Due};
 ghost use Rattle.bsc_node_run.specs.Scripts.{script_of, wish_of};
-ghost use Rattle.bsc_node_run.specs.Worlds.{dialling};
+ghost use Rattle.bsc_node_run.specs.Worlds.{admitting, dialling};
 ghost use Rattle.bsc_node_runs.specs.Courses.{FinishCame};
 ghost use Rattle.bsc_words.specs.declared.fault.WordsFault.TheVariants as words_fault;
 ghost use Rattle.bsc_words.specs.Words.{asked_by, audit, check, hub, load, node, replay, seen, simulate};
@@ -25,7 +26,7 @@ ghost use Rattle.bsc_commands.specs.Statuses.{EndsBy};
 
 use crate::playing::{Command, play};
 use bsc_audit_command::run_audit;
-use bsc_edge::{Acceptor, Clock, Dialer, Files, Link, Spawner};
+use bsc_edge::{Acceptor, Clock, Dialer, Files, Link, Spawner, Waiter};
 use bsc_hub::Kept;
 use bsc_hub_command::{HubWords, run_hub};
 use bsc_load_command::run_load;
@@ -60,6 +61,7 @@ fn run_asked<
     K: Sink,
     F: Files,
     C: Clock + Drop,
+    V: Waiter,
     W: Words,
     L: Link + Drop,
     A: Acceptor<L>,
@@ -73,6 +75,7 @@ fn run_asked<
     sink: &mut K,
     files: &mut F,
     clock: &mut C,
+    waiter: &mut V,
     random: &mut W,
     acceptor: &mut A,
     dialer: &mut D,
@@ -84,22 +87,24 @@ fn run_asked<
     requires workers { (n : ℕ) → seen asked ≡ load n → (1 ≤ n) × (n ≤ 512) }
     ensures hub { (path : Text) (sessions : Option ℕ) (made : _) → seen asked.entry ≡ hub path sessions → kept.new.hub ≡ Some made →
         (v : HubSettings) × IsSettled (F.holds files.old path) v
-        × Runs v sessions kept.new
+        × Runs (Worked L.talk L.faults C.readings) (record { settings = v; sessions = sessions }) kept.new
         (record {
           links = A.left acceptor.old;
+          waits = A.waits acceptor.old;
           port = A.bound acceptor.old;
           faults = A.faults acceptor.old;
           jobs = P.jobs spawner.old;
-          since = P.since spawner.old;
+          out = P.out spawner.old;
           unstarted = P.faults spawner.old;
           written = K.held sink.old;
         })
         (record {
           links = A.left acceptor.new;
+          waits = A.waits acceptor.new;
           port = A.bound acceptor.new;
           faults = A.faults acceptor.new;
           jobs = P.jobs spawner.new;
-          since = P.since spawner.new;
+          out = P.out spawner.new;
           unstarted = P.faults spawner.new;
           written = K.held sink.new;
         }) result }
@@ -113,10 +118,11 @@ fn run_asked<
           unread = F.faults files.old;
           beside = record {
             dialled = dialling D.calls D.left D.faults dialer.old;
-            links = A.left acceptor.old;
+            door = admitting A.left A.waits acceptor.old;
             port = A.bound acceptor.old;
             faults = A.faults acceptor.old;
             readings = C.readings clock.old;
+            waited = V.waits waiter.old;
             random = random.old;
             written = K.held sink.old;
           };
@@ -125,10 +131,11 @@ fn run_asked<
           unread = F.faults files.new;
           beside = record {
             dialled = dialling D.calls D.left D.faults dialer.new;
-            links = A.left acceptor.new;
+            door = admitting A.left A.waits acceptor.new;
             port = A.bound acceptor.new;
             faults = A.faults acceptor.new;
             readings = C.readings clock.new;
+            waited = V.waits waiter.new;
             random = random.new;
             written = K.held sink.new;
           };
@@ -158,6 +165,7 @@ fn run_asked<
           source = source.old;
           files = files.old;
           clock = clock.old;
+          waiter = waiter.old;
           random = random.old;
           acceptor = acceptor.old;
           dialer = dialer.old;
@@ -168,6 +176,7 @@ fn run_asked<
           source = source.new;
           files = files.new;
           clock = clock.new;
+          waiter = waiter.new;
           random = random.new;
           acceptor = acceptor.new;
           dialer = dialer.new;
@@ -201,6 +210,7 @@ fn run_asked<
             sink,
             files,
             clock,
+            waiter,
             random,
             acceptor,
             dialer,
@@ -232,6 +242,7 @@ pub fn run<
     K: Sink,
     F: Files,
     C: Clock + Drop,
+    V: Waiter,
     W: Words,
     L: Link + Drop,
     A: Acceptor<L>,
@@ -245,6 +256,7 @@ pub fn run<
     sink: &mut K,
     files: &mut F,
     clock: &mut C,
+    waiter: &mut V,
     random: &mut W,
     acceptor: &mut A,
     dialer: &mut D,
@@ -257,22 +269,24 @@ pub fn run<
     // Of the words of a hub: once it is made, its settings are those of the file, and this is what became of it.
     ensures hub { (path : Text) (sessions : Option ℕ) (made : _) → asked_by (map string_bytes words.now) ≡ Some (hub path sessions) →
         kept.new.hub ≡ Some made → (v : HubSettings) × IsSettled (F.holds files.old path) v
-        × Runs v sessions kept.new
+        × Runs (Worked L.talk L.faults C.readings) (record { settings = v; sessions = sessions }) kept.new
         (record {
           links = A.left acceptor.old;
+          waits = A.waits acceptor.old;
           port = A.bound acceptor.old;
           faults = A.faults acceptor.old;
           jobs = P.jobs spawner.old;
-          since = P.since spawner.old;
+          out = P.out spawner.old;
           unstarted = P.faults spawner.old;
           written = K.held sink.old;
         })
         (record {
           links = A.left acceptor.new;
+          waits = A.waits acceptor.new;
           port = A.bound acceptor.new;
           faults = A.faults acceptor.new;
           jobs = P.jobs spawner.new;
-          since = P.since spawner.new;
+          out = P.out spawner.new;
           unstarted = P.faults spawner.new;
           written = K.held sink.new;
         }) result }
@@ -289,10 +303,11 @@ pub fn run<
           unread = F.faults files.old;
           beside = record {
             dialled = dialling D.calls D.left D.faults dialer.old;
-            links = A.left acceptor.old;
+            door = admitting A.left A.waits acceptor.old;
             port = A.bound acceptor.old;
             faults = A.faults acceptor.old;
             readings = C.readings clock.old;
+            waited = V.waits waiter.old;
             random = random.old;
             written = K.held sink.old;
           };
@@ -301,10 +316,11 @@ pub fn run<
           unread = F.faults files.new;
           beside = record {
             dialled = dialling D.calls D.left D.faults dialer.new;
-            links = A.left acceptor.new;
+            door = admitting A.left A.waits acceptor.new;
             port = A.bound acceptor.new;
             faults = A.faults acceptor.new;
             readings = C.readings clock.new;
+            waited = V.waits waiter.new;
             random = random.new;
             written = K.held sink.new;
           };
@@ -353,6 +369,7 @@ pub fn run<
           source = source.old;
           files = files.old;
           clock = clock.old;
+          waiter = waiter.old;
           random = random.old;
           acceptor = acceptor.old;
           dialer = dialer.old;
@@ -363,6 +380,7 @@ pub fn run<
           source = source.new;
           files = files.new;
           clock = clock.new;
+          waiter = waiter.new;
           random = random.new;
           acceptor = acceptor.new;
           dialer = dialer.new;
@@ -382,7 +400,8 @@ pub fn run<
 {
     match read_words(alloc, words) {
         Ok(asked) => run_asked(
-            rt, alloc, asked, source, sink, files, clock, random, acceptor, dialer, spawner, kept,
+            rt, alloc, asked, source, sink, files, clock, waiter, random, acceptor, dialer,
+            spawner, kept,
         ),
         Err(fault) => end_unasked(sink, fault),
     }

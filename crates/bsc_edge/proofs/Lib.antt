@@ -1,1 +1,1 @@
-pub mod Common
+mod Removing

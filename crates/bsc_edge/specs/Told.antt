@@ -1,5 +1,5 @@
 -- What objects tell of what they hold, and how that changes.
-use Rattle.std.specs.Prelude.{◌≡◌, ℕ, ◌+◌, List, [], ◌∷◌, ◌++◌, Option, Some, None, Result, Ok, Err, ⊤}
+use Rattle.std.specs.Prelude.{◌≡◌, List, [], ◌∷◌, ◌++◌, Option, Some, None, Result, Ok, Err, ⊤}
 use Rattle.bsc_edge.specs.declared.fault.LinkFault.{LinkFault}
 use Rattle.bsc_edge.specs.declared.incoming.Incoming.{Incoming}
 use Rattle.bsc_edge.specs.declared.incoming.Incoming.TheVariants.{Quiet}
@@ -57,20 +57,28 @@ abbrev pub GivesBack : {J : Type 0} → {T : Type 0} → Result T (Unstarted J) 
 GivesBack (Ok x) given = ⊤
 GivesBack (Err unstarted) given = ComesBack unstarted given
 
--- Where jobs are told, one that was started is the last of them, and else they are as before.
+-- A job that was started is the last of these, and else they are as before.
+abbrev pub Joins : {J : Type 0} → {T : Type 0} → List J → List J → Result T (Unstarted J) → J → Type 0
+Joins old new (Ok x) job = new ≡ old ++ job ∷ []
+Joins old new (Err unstarted) job = new ≡ old
+
+-- The same where jobs are told.
 abbrev pub Starts : {J : Type 0} → {T : Type 0} → Option (List J) → Option (List J) → Result T (Unstarted J) → J → Type 0
 Starts old None answer job = ⊤
 Starts None (Some new) answer job = ⊥
-Starts (Some old) (Some new) (Ok x) job = new ≡ old ++ job ∷ []
-Starts (Some old) (Some new) (Err unstarted) job = new ≡ old
+Starts (Some old) (Some new) answer job = Joins old new answer job
 
--- one more where a job was started
-abbrev pub started_in : {T E : Type 0} → Result T E → ℕ
-started_in (Ok x) = 1
-started_in (Err e) = 0
+module _ {J D : Type 0} (works : J → D → Type 0) where
+  -- One of the jobs that were out has ended: this is what may be left of it, and the others are still out.
+  pub record Ends (old new : List J) (done : D) : Type 0 where
+    pub job : J
+    pub before : List J
+    pub behind : List J
+    pub was : old ≡ before ++ job ∷ behind
+    pub left : new ≡ before ++ behind
+    pub worked : works job done
 
--- What is told is so many more than before.
-abbrev pub Adds : Option ℕ → Option ℕ → ℕ → Type 0
-Adds old None n = ⊤
-Adds None (Some new) n = ⊥
-Adds (Some old) (Some new) n = new ≡ old + n
+  -- One has ended and this is left of it, or all are still out.
+  abbrev pub Comes : List J → List J → Option D → Type 0
+  Comes old new (Some done) = Ends old new done
+  Comes old new None = new ≡ old

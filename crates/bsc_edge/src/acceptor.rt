@@ -1,7 +1,7 @@
 //! Who takes the links that peers make.
-ghost use Rattle.std.specs.Prelude.{◌≡◌, ◌≤◌, Some, Err, IsErr, IfOk};
+ghost use Rattle.std.specs.Prelude.{◌≡◌, ◌≤◌, [], ◌∷◌, Some, Err, IsErr, IfOk};
 ghost use Rattle.bsc_edge.specs.declared.fault.LinkFault.{LinkFault};
-ghost use Rattle.bsc_edge.specs.Told.{Tells, Stays, Leaves, IsNoLink};
+ghost use Rattle.bsc_edge.specs.Told.{Grows, Tells, Stays, Leaves, IsNoLink};
 ghost use Rattle.bsc_outside.specs.Faults.{HasRisen};
 
 use crate::Failed;
@@ -25,18 +25,23 @@ pub trait Acceptor<L> {
     /// The links that it has left, where they are told.
     ghost left: { Self → Option (List L) };
 
+    /// The waits that `next` was asked for, in milliseconds, where they are told.
+    ghost waits: { Self → Option (List ℕ) };
+
     /// Takes the links that come to this TCP port from now on.
     fn bind(&mut self, port: u16) -> Result<(), Failed>
         ensures bound { IfOk result (λ _. Tells (bound self.new) (Some port)) }
         ensures left { Stays (left self.old) (left self.new) }
+        ensures waits { Stays (waits self.old) (waits self.new) }
         ensures later { faults self.old ≤ faults self.new }
         ensures failed { IsErr result → HasRisen (faults self.old) (faults self.new) }
         ensures quiets { quiets self.old ≤ quiets self.new };
 
-    /// Waits this long for the next link.
+    /// Waits this long for the next link, in milliseconds.
     fn next(&mut self, alloc: Global, wait_ms: u32) -> Result<Arrived<L>, LinkFault>
         ensures bound { Stays (bound self.old) (bound self.new) }
         ensures left { Leaves (left self.old) (left self.new) result }
+        ensures waits { Grows (waits self.old) (waits self.new) (wait_ms ∷ []) }
         ensures later { faults self.old ≤ faults self.new }
         ensures failed { result ≡ Err LinkFault.Failed → HasRisen (faults self.old) (faults self.new) }
         ensures quiets { quiets self.old ≤ quiets self.new }

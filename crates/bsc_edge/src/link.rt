@@ -23,9 +23,9 @@ pub trait Link {
     /// What was said, where the link tells it.
     ghost talk: { Self → Option (List SaidType) };
 
-    /// Waits this long for the next thing.
+    /// Waits this long for the next thing, in milliseconds.
     fn receive(&mut self, alloc: Global, wait_ms: u32) -> Result<Incoming, LinkFault>
-        ensures told { Grows (talk self.old) (talk self.new) (Said.Gave result ∷ []) }
+        ensures told { Grows (talk self.old) (talk self.new) (Said.Gave wait_ms result ∷ []) }
         ensures later { faults self.old ≤ faults self.new }
         ensures failed { result ≡ Err LinkFault.Failed → HasRisen (faults self.old) (faults self.new) }
         ensures quiets { quiets self.old ≤ quiets self.new }

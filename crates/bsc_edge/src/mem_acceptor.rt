@@ -1,34 +1,40 @@
 //! Links in memory that arrive.
-ghost use Rattle.std.specs.Prelude.{◌≡◌, ◌≤◌, true, None, Some};
+ghost use Rattle.std.specs.Prelude.{◌≡◌, ◌≤◌, true, [], None, Some};
+ghost use Rattle.bsc_edge.specs.Notes.{noted};
 
 use crate::Failed;
 use crate::acceptor::Acceptor;
 use crate::arrived::Arrived;
 use crate::calls::Calls;
 use crate::fault::LinkFault;
+use crate::notes::note;
 use std::alloc::Global;
 use std::collections::VecDeque;
 
-/// An acceptor at which these links arrive, and then none. The calls with these numbers fail.
+/// An acceptor at which these links arrive, and then none. The calls with these numbers fail. It tells the waits that it was
+/// asked for while there is memory for it.
 #[derive(Debug, Drop)]
 pub struct MemAcceptor<'a, L> {
     links: VecDeque<L>,
     calls: Calls<'a>,
     quiets: u64,
     bound: Option<u16>,
+    waits: Option<Vec<u32>>,
 }
 
 impl<'a, L> MemAcceptor<'a, L> {
-    pub fn new(links: Vec<L>, failing: &'a [u64]) -> MemAcceptor<'a, L>
+    pub fn new(alloc: Global, links: Vec<L>, failing: &'a [u64]) -> MemAcceptor<'a, L>
         ensures links { result.links.items ≡ links.items }
         ensures failing { result.calls.failing.now ≡ failing.now }
         ensures bound { result.bound ≡ None }
+        ensures waits { noted result.waits ≡ Some [] }
     {
         MemAcceptor {
             links: VecDeque::from(links),
             calls: Calls::of(failing),
             quiets: 0,
             bound: None,
+            waits: Some(Vec::new(alloc)),
         }
     }
 
@@ -37,6 +43,14 @@ impl<'a, L> MemAcceptor<'a, L> {
         ensures { result ≡ self.now.bound }
     {
         self.bound
+    }
+
+    /// The waits that it was asked for; None where there was no memory to note them.
+    pub fn waits(&self) -> Option<&[u32]> {
+        match &self.waits {
+            Some(waits) => Some(waits.as_slice()),
+            None => None,
+        }
     }
 
     /// How many links haven't arrived yet.
@@ -54,6 +68,8 @@ impl<L> Acceptor<L> for MemAcceptor<'_, L> {
 
     ghost left = { λ a. Some a.links.items };
 
+    ghost waits = { λ a. noted a.waits };
+
     fn bind(&mut self, port: u16) -> Result<(), Failed> {
         if self.calls.fails() {
             return Err(Failed);
@@ -62,7 +78,8 @@ impl<L> Acceptor<L> for MemAcceptor<'_, L> {
         Ok(())
     }
 
-    fn next(&mut self, _alloc: Global, _wait_ms: u32) -> Result<Arrived<L>, LinkFault> {
+    fn next(&mut self, _alloc: Global, wait_ms: u32) -> Result<Arrived<L>, LinkFault> {
+        note(&mut self.waits, Ok(wait_ms));
         if self.calls.fails() {
             return Err(LinkFault::Failed);
         }

@@ -87,11 +87,11 @@ fn copied(alloc: Global, given: &Incoming) -> Result<Incoming, NoMemory>
     }
 }
 
-/// What is noted of a thing given.
-fn said_given(alloc: Global, given: &Incoming) -> Result<Said, NoMemory>
-    ensures { IfOk result (λ s. s ≡ Said.Gave (Ok given.now)) }
+/// What is noted of a thing given, after this wait.
+fn said_given(alloc: Global, wait_ms: u32, given: &Incoming) -> Result<Said, NoMemory>
+    ensures { IfOk result (λ s. s ≡ Said.Gave wait_ms (Ok given.now)) }
 {
-    Ok(Said::Gave(Ok(copied(alloc, given)?)))
+    Ok(Said::Gave(wait_ms, Ok(copied(alloc, given)?)))
 }
 
 /// What is noted of a put.
@@ -115,13 +115,16 @@ impl Link for MemLink<'_> {
 
     ghost talk = { λ l. noted l.talk };
 
-    fn receive(&mut self, alloc: Global, _wait_ms: u32) -> Result<Incoming, LinkFault> {
+    fn receive(&mut self, alloc: Global, wait_ms: u32) -> Result<Incoming, LinkFault> {
         if self.calls.fails() {
-            note(&mut self.talk, Ok(Said::Gave(Err(LinkFault::Failed))));
+            note(
+                &mut self.talk,
+                Ok(Said::Gave(wait_ms, Err(LinkFault::Failed))),
+            );
             return Err(LinkFault::Failed);
         }
         let given = self.give();
-        note(&mut self.talk, said_given(alloc, &given));
+        note(&mut self.talk, said_given(alloc, wait_ms, &given));
         Ok(given)
     }
 

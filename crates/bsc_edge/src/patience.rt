@@ -15,9 +15,10 @@ pub trait Patience {
     /// The waits that were set, in milliseconds, where they are told.
     ghost waits: { Self → Option (List ℕ) };
 
-    /// The next reads of the stream wait this long, all of them together.
+    /// The next reads of the stream wait this long, in milliseconds, all of them together.
     fn set(&mut self, wait_ms: u32) -> Result<(), Failed>
         ensures told { IfOk result (λ _. Grows (waits self.old) (waits self.new) (wait_ms ∷ [])) }
+        ensures unset { IsErr result → Stays (waits self.old) (waits self.new) }
         ensures later { faults self.old ≤ faults self.new }
         ensures failed { IsErr result → HasRisen (faults self.old) (faults self.new) };
 

@@ -6,8 +6,8 @@ use bsc_octets::Octets;
 /// One call on a link, with its answer.
 #[derive(Debug, Drop)]
 pub enum Said {
-    /// What a receive was given, a fault included.
-    Gave(Result<Incoming, LinkFault>),
+    /// How long a receive was asked to wait, in milliseconds, and what it was given, a fault included.
+    Gave(u32, Result<Incoming, LinkFault>),
     /// The octets of a put, and its fault where it failed.
     Put(Octets, Option<LinkFault>),
     /// The code and the reason of a closing, whatever the call answered.

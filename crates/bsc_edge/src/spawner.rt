@@ -1,6 +1,6 @@
 //! Who starts jobs.
-ghost use Rattle.std.specs.Prelude.{◌≡◌, ◌≤◌, Err};
-ghost use Rattle.bsc_edge.specs.Told.{Starts, Stays, Adds, GivesBack, Tells, started_in};
+ghost use Rattle.std.specs.Prelude.{◌≡◌, ◌≤◌, [], None, Err};
+ghost use Rattle.bsc_edge.specs.Told.{Comes, GivesBack, Joins, Starts, Stays};
 ghost use Rattle.bsc_edge.specs.declared.unstarted.Unstarted.{Unstarted};
 ghost use Rattle.bsc_outside.specs.Faults.{HasRisen};
 
@@ -9,7 +9,7 @@ use crate::unstarted::Unstarted;
 use std::alloc::Global;
 use std::sync::Wait;
 
-/// Starts jobs, each for itself, and waits for their ends.
+/// Starts jobs, each for itself, and gives back what is left of each that has ended.
 pub trait Spawner<J: Job> {
     ghost use Rattle.std.specs.Prelude.{List, ℕ, Option};
 
@@ -22,8 +22,8 @@ pub trait Spawner<J: Job> {
     /// The jobs that were taken, in order, where they are told.
     ghost jobs: { Self → Option (List J) };
 
-    /// How many of them were taken since the last gathering, where that is told.
-    ghost since: { Self → Option ℕ };
+    /// The jobs that are out: they were started, and what is left of them wasn't given back yet. The oldest is first.
+    ghost out: { Self → List J };
 
     /// Starts a job, or gives it back.
     fn start<R: Wait>(&mut self, rt: &R, alloc: Global, job: J) -> Result<(), Unstarted<J>>
@@ -31,14 +31,22 @@ pub trait Spawner<J: Job> {
         ensures again { can_start self.new }
         ensures back { GivesBack result job }
         ensures jobs { Starts (jobs self.old) (jobs self.new) result job }
-        ensures since { Adds (since self.old) (since self.new) (started_in result) }
+        ensures out { Joins (out self.old) (out self.new) result job }
         ensures later { faults self.old ≤ faults self.new }
         ensures failed { (back : J) → result ≡ Err (Unstarted.Failed back) → HasRisen (faults self.old) (faults self.new) };
 
-    /// Waits until each job that was started has ended.
-    fn gather<R: Wait>(&mut self, rt: &R)
+    /// What is left of a job that has ended, if one has. It waits for none.
+    fn ended<R: Wait>(&mut self, rt: &R) -> Option<J::Done>
         ensures again { can_start self.old → can_start self.new }
         ensures jobs { Stays (jobs self.old) (jobs self.new) }
-        ensures since { Tells (since self.new) 0 }
+        ensures out { Comes J.works (out self.old) (out self.new) result }
+        ensures later { faults self.old ≤ faults self.new };
+
+    /// Waits until a job has ended, and gives what is left of it. None says that no job is out.
+    fn next_end<R: Wait>(&mut self, rt: &R) -> Option<J::Done>
+        ensures again { can_start self.old → can_start self.new }
+        ensures jobs { Stays (jobs self.old) (jobs self.new) }
+        ensures out { Comes J.works (out self.old) (out self.new) result }
+        ensures none { result ≡ None → out self.new ≡ [] }
         ensures later { faults self.old ≤ faults self.new };
 }

@@ -13,6 +13,7 @@ use Rattle.bsc_edge.specs.Told.{Stays, Tells}
 use Rattle.bsc_player.specs.LastLines.{EndsWith, RanOut}
 use Rattle.bsc_session.specs.declared.job.SessionJob.{SessionJob}
 use Rattle.bsc_session.specs.declared.limits.SessionLimits.{SessionLimits}
+use Rattle.bsc_session.specs.declared.session_end.SessionEnd.{SessionEnd}
 use Rattle.bsc_settings.specs.declared.hub.HubSettings.{HubSettings}
 use Rattle.bsc_settings.specs.Parts.{identity_of, limits_of, times_of}
 use Rattle.bsc_serve.specs.declared.end.ServeEnd.{ServeEnd}
@@ -42,17 +43,23 @@ session_limits v = record { times = times_of v }
 abbrev pub terms_of : HubSettings → Option ℕ → ServeTerms
 terms_of v sessions = record { limits = session_limits v; turns = v.turns; sessions = sessions }
 
--- What there is outside the command at a moment, each as far as it is told: the links that the acceptor has left, the port
--- that it is bound to, and its count of faults; the jobs that the spawner has taken, how many of them since it last
--- gathered, and its count of jobs that weren't started; and what was written.
+-- What there is outside the command at a moment, each as far as it is told: the links that the acceptor has left, the waits
+-- that it was asked for, the port that it is bound to, and its count of faults; the jobs that the spawner has taken, those of
+-- them that are out, and its count of jobs that weren't started; and what was written.
 pub record HubWorld (L C : Type 0) : Type 0 where
   pub links : Option (List L)
+  pub waits : Option (List ℕ)
   pub port : Option (Option ℕ)
   pub faults : ℕ
   pub jobs : Option (List (SessionJob L C))
-  pub since : Option ℕ
+  pub out : List (SessionJob L C)
   pub unstarted : ℕ
   pub written : Option (List ℕ)
+
+-- What a hub is served by: its settings, and how many sessions are awaited.
+pub record HubTerms : Type 0 where
+  pub settings : HubSettings
+  pub sessions : Option ℕ
 
 -- A hub, with its own pass at first and at last.
 pub record Course : Type 0 where
@@ -63,29 +70,32 @@ pub record Course : Type 0 where
 module _ {L C : Type 0} where
   -- what serving a hub sees of it, beside the hub's own pass
   abbrev pub with_pass : Pass → HubWorld L C → ServeWorld L C
-  with_pass p w = record { pass = p; links = w.links; jobs = w.jobs; since = w.since; unstarted = w.unstarted }
+  with_pass p w = record { pass = p; links = w.links; waits = w.waits; jobs = w.jobs; out = w.out; unstarted = w.unstarted }
 
-  -- The port wasn't bound: the acceptor's count of faults rose, no link left it, and the pass and the spawner are as they were.
+  -- The port wasn't bound: the acceptor's count of faults rose, it was asked for no link, and the pass and the spawner are as
+  -- they were.
   pub record NotBound (k : Course) (before after : HubWorld L C) (s : ℕ) : Type 0 where
     pub pass : k.last ≡ k.first
     pub links : Stays before.links after.links
+    pub waits : Stays before.waits after.waits
     pub jobs : after.jobs ≡ before.jobs
-    pub since : after.since ≡ before.since
+    pub out : after.out ≡ before.out
     pub unstarted : after.unstarted ≡ before.unstarted
     pub failed : HasRisen before.faults after.faults
     pub says : EndsWith s 6 before.written after.written link_line
 
-  -- The port of the settings was bound, the hub was served with their limits and turns, and what is written tells how that
-  -- ended.
-  pub record Bound (k : Course) (v : HubSettings) (sessions : Option ℕ) (before after : HubWorld L C) (s : ℕ) : Type 0 where
+module _ {L C : Type 0} (works : SessionJob L C → SessionEnd → Type 0) where
+  -- The port of the settings was bound, the hub was served with their limits and turns, where `works` says what may be left of
+  -- a job, and what is written tells how that ended.
+  pub record Bound (k : Course) (asked : HubTerms) (before after : HubWorld L C) (s : ℕ) : Type 0 where
     pub end : ServeEnd
-    pub bound : Tells after.port (Some v.port)
-    pub serving : Serving k.hub (terms_of v sessions) (with_pass k.first before) (with_pass k.last after) end
+    pub bound : Tells after.port (Some asked.settings.port)
+    pub serving : Serving works k.hub (terms_of asked.settings asked.sessions) (with_pass k.first before) (with_pass k.last after) end
     pub says : SaysEnd end s before.written after.written
 
   -- A hub of the settings was made, and it and its pass, number 0 at first, with nothing seen, are kept; its port wasn't bound,
   -- or it was served.
-  pub record Runs (v : HubSettings) (sessions : Option ℕ) (kept : Kept) (before after : HubWorld L C) (s : ℕ) : Type 0 where
+  pub record Runs (asked : HubTerms) (kept : Kept) (before after : HubWorld L C) (s : ℕ) : Type 0 where
     pub hub : Arc Hub Global
     pub first : Pass
     pub last : Pass
@@ -93,6 +103,6 @@ module _ {L C : Type 0} where
     pub keeps : kept.pass ≡ Some last
     pub caller : IsCaller (arc_value hub) first
     pub new : (number_of first ≡ 0) × (seen first ≡ []) × (own_list first ≡ []) × (ended_callers first ≡ [])
-    pub about : about_of (arc_value hub) ≡ record { hub = identity_of v; limits = limits_of v }
+    pub about : about_of (arc_value hub) ≡ record { hub = identity_of asked.settings; limits = limits_of asked.settings }
     pub went : NotBound (record { hub = arc_value hub; first = first; last = last }) before after s
-        ⊎ Bound (record { hub = arc_value hub; first = first; last = last }) v sessions before after s
+        ⊎ Bound (record { hub = arc_value hub; first = first; last = last }) asked before after s

@@ -2,6 +2,7 @@
 ghost use Rattle.std.specs.Prelude.{◌≡◌, ◌≤◌, ◌⊎◌, IfErr, IfOk, None, Some};
 ghost use Rattle.bsc_outside.specs.Faults.{HasRisen};
 ghost use Rattle.bsc_player.specs.LastLines.{RanOut};
+ghost use Rattle.bsc_session.specs.Jobs.{Worked};
 ghost use Rattle.bsc_settings.specs.declared.hub.HubSettings.{HubSettings as HubSettingsType};
 ghost use Rattle.bsc_hub_command.specs.Lines.{settings_line};
 ghost use Rattle.bsc_hub_command.specs.Served.{Runs, Says};
@@ -88,22 +89,24 @@ pub fn run_hub<
 
     // Once a hub is made, its settings are those of the file, and this is what became of it.
     ensures runs { (hub : _) → kept.new.hub ≡ Some hub → (v : HubSettingsType) × IsSettled (F.holds files.old words.entry.path.now) v
-        × Runs v words.entry.sessions kept.new
+        × Runs (Worked L.talk L.faults C.readings) (record { settings = v; sessions = words.entry.sessions }) kept.new
         (record {
           links = A.left acceptor.old;
+          waits = A.waits acceptor.old;
           port = A.bound acceptor.old;
           faults = A.faults acceptor.old;
           jobs = P.jobs spawner.old;
-          since = P.since spawner.old;
+          out = P.out spawner.old;
           unstarted = P.faults spawner.old;
           written = K.held sink.old;
         })
         (record {
           links = A.left acceptor.new;
+          waits = A.waits acceptor.new;
           port = A.bound acceptor.new;
           faults = A.faults acceptor.new;
           jobs = P.jobs spawner.new;
-          since = P.since spawner.new;
+          out = P.out spawner.new;
           unstarted = P.faults spawner.new;
           written = K.held sink.new;
         }) result }

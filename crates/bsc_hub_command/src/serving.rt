@@ -6,6 +6,7 @@ ghost use Rattle.bsc_turn.specs.Passes.{ended_callers, number_of, own_list, seen
 ghost use Rattle.bsc_hub.specs.Passing.{IsCaller, about_of};
 ghost use Rattle.bsc_player.specs.LastLines.{RanOut};
 ghost use Rattle.bsc_settings.specs.Parts.{identity_of, limits_of};
+ghost use Rattle.bsc_session.specs.Jobs.{Worked};
 ghost use Rattle.bsc_serve.specs.declared.end.ServeEnd.{ServeEnd};
 ghost use Rattle.bsc_hub_command.specs.Lines.{end_text};
 ghost use Rattle.bsc_hub_command.specs.Served.{Bound, NotBound, Runs, Says, SaysEnd, terms_of};
@@ -102,38 +103,43 @@ fn serve_hub<
     ensures went { NotBound (record { hub = arc_value hub.now; first = pass.old; last = pass.new })
         (record {
           links = A.left acceptor.old;
+          waits = A.waits acceptor.old;
           port = A.bound acceptor.old;
           faults = A.faults acceptor.old;
           jobs = P.jobs spawner.old;
-          since = P.since spawner.old;
+          out = P.out spawner.old;
           unstarted = P.faults spawner.old;
           written = K.held sink.old;
         })
         (record {
           links = A.left acceptor.new;
+          waits = A.waits acceptor.new;
           port = A.bound acceptor.new;
           faults = A.faults acceptor.new;
           jobs = P.jobs spawner.new;
-          since = P.since spawner.new;
+          out = P.out spawner.new;
           unstarted = P.faults spawner.new;
           written = K.held sink.new;
         }) result
-        ⊎ Bound (record { hub = arc_value hub.now; first = pass.old; last = pass.new }) settings.now sessions
+        ⊎ Bound (Worked L.talk L.faults C.readings) (record { hub = arc_value hub.now; first = pass.old; last = pass.new })
+        (record { settings = settings.now; sessions = sessions })
         (record {
           links = A.left acceptor.old;
+          waits = A.waits acceptor.old;
           port = A.bound acceptor.old;
           faults = A.faults acceptor.old;
           jobs = P.jobs spawner.old;
-          since = P.since spawner.old;
+          out = P.out spawner.old;
           unstarted = P.faults spawner.old;
           written = K.held sink.old;
         })
         (record {
           links = A.left acceptor.new;
+          waits = A.waits acceptor.new;
           port = A.bound acceptor.new;
           faults = A.faults acceptor.new;
           jobs = P.jobs spawner.new;
-          since = P.since spawner.new;
+          out = P.out spawner.new;
           unstarted = P.faults spawner.new;
           written = K.held sink.new;
         }) result }
@@ -178,22 +184,24 @@ pub fn serve<
 
     // Once a hub is made, it and its pass are kept, and this is what became of it.
     ensures runs { (hub : _) → kept.new.hub ≡ Some hub →
-        Runs settings.now sessions kept.new
+        Runs (Worked L.talk L.faults C.readings) (record { settings = settings.now; sessions = sessions }) kept.new
         (record {
           links = A.left acceptor.old;
+          waits = A.waits acceptor.old;
           port = A.bound acceptor.old;
           faults = A.faults acceptor.old;
           jobs = P.jobs spawner.old;
-          since = P.since spawner.old;
+          out = P.out spawner.old;
           unstarted = P.faults spawner.old;
           written = K.held sink.old;
         })
         (record {
           links = A.left acceptor.new;
+          waits = A.waits acceptor.new;
           port = A.bound acceptor.new;
           faults = A.faults acceptor.new;
           jobs = P.jobs spawner.new;
-          since = P.since spawner.new;
+          out = P.out spawner.new;
           unstarted = P.faults spawner.new;
           written = K.held sink.new;
         }) result }

@@ -46,6 +46,8 @@ impl<D, L, A: Acceptor<L>> Acceptor<PeerLink<D, L>> for PeerAcceptor<A> {
 
     ghost left = { λ a. all_accepted (A.left a.acceptor) };
 
+    ghost waits = { λ a. A.waits a.acceptor };
+
     fn bind(&mut self, port: u16) -> Result<(), Failed> {
         self.acceptor.bind(port)
     }

@@ -18,7 +18,7 @@ use Rattle.bsc_node_run.specs.Drawing.{Drawing, GoesDrawing, at_rest}
 use Rattle.bsc_node_run.specs.Running.{Run}
 use Rattle.bsc_node_run.specs.Scripts.{script_of, wish_of}
 use Rattle.bsc_node_run.specs.Stopping.{RunFails}
-use Rattle.bsc_node_run.specs.Worlds.{Dialling}
+use Rattle.bsc_node_run.specs.Worlds.{Admitting, Dialling}
 use Rattle.bsc_node_run.proofs.Asked.{asked_of}
 use Rattle.bsc_node_runs.specs.Alone.{NoLinkCame, alone}
 use Rattle.bsc_node_runs.specs.Courses.{FinishCame, Goes}
@@ -61,7 +61,7 @@ log_alone gives failed a n m t e actions g = g.0
 module _ {L W : Type 0} (talk : L → Option (List Said)) (gives : W → Option ℕ → W → Type 0) (failed : W → ℕ) where
   -- A run of a node that was made so is a run of the definition, with the same words.
   pub by_definition : (v : NodeSettings) (script : List ℕ) (lines : List Due) (first last : RunningNode) (u u' : W) (end : Result RunEnd Halt)
-      (c c' : Dialling L) (l l' : Option (List L)) (t t' : Option (List ℕ)) (b b' : Option (List ℕ))
+      (c c' : Dialling L) (l l' : Admitting L) (t t' : Option (List ℕ)) (b b' : Option (List ℕ))
       → script_of script ≡ Ok (map wish_of lines) → StandsFor first.node (made_by v) []
       → IfOk end (λ e. Run (GoesDrawing AnswersAt gives failed) talk (is_some v.direct_port) e v.turns lines (at_rest first u) c b l t (at_rest last u') c' b' l' t')
       → (M : Log) × IfOk end (λ e. Run (GoesDrawing (Goes (made_by v)) gives failed) talk (is_some v.direct_port) e v.turns lines (at_rest [] u) c b l t (at_rest M u') c' b' l' t')
@@ -77,7 +77,7 @@ module _ {L W : Type 0} (talk : L → Option (List Said)) (gives : W → Option 
 
   -- One that a fault ended is such a run up to there.
   pub fails_by_definition : (v : NodeSettings) (script : List ℕ) (lines : List Due) (first : RunningNode) (u : W) (end : Result RunEnd Halt)
-      (c c' : Dialling L) (l l' : Option (List L)) (t t' : Option (List ℕ)) (b b' : Option (List ℕ))
+      (c c' : Dialling L) (l l' : Admitting L) (t t' : Option (List ℕ)) (b b' : Option (List ℕ))
       → script_of script ≡ Ok (map wish_of lines) → StandsFor first.node (made_by v) []
       → OnErr end (RunFails (GoesDrawing AnswersAt gives failed) talk (is_some v.direct_port) v.turns lines (at_rest first u) c b l t c' b' l' t')
       → IfErr end (λ halt. RunFails (GoesDrawing (Goes (made_by v)) gives failed) talk (is_some v.direct_port) v.turns lines (at_rest [] u) c b l t c' b' l' t')
@@ -89,7 +89,7 @@ module _ {L W : Type 0} (talk : L → Option (List Said)) (gives : W → Option 
       talk (is_some v.direct_port) v.turns lines (asked_of script lines reads) (at_rest first u) c c' b b' l l' t t' made run)
 
   -- whatever words it draws
-  alone_of : (a : Made) (listens : Bool) (end : RunEnd) (turns : ℕ) (lines : List Due) (u u' : W) (last : Log) (c c' : Dialling L) (l l' : Option (List L)) (t t' : Option (List ℕ)) (b b' : Option (List ℕ))
+  alone_of : (a : Made) (listens : Bool) (end : RunEnd) (turns : ℕ) (lines : List Due) (u u' : W) (last : Log) (c c' : Dialling L) (l l' : Admitting L) (t t' : Option (List ℕ)) (b b' : Option (List ℕ))
       → Run (GoesDrawing (Goes a) gives failed) talk listens end turns lines (at_rest [] u) c b l t (at_rest last u') c' b' l' t'
       → Run (Goes a) talk listens end turns lines [] c b l t last c' b' l' t'
   alone_of a listens end turns lines u u' last c c' l l' t t' b b' run =
@@ -97,7 +97,7 @@ module _ {L W : Type 0} (talk : L → Option (List Said)) (gives : W → Option 
       (at_rest [] u) (at_rest last u') c c' b b' l l' t t' run
 
   -- what it wrote and dialled, and how it ended, is what the log of its node has
-  pub said_of : (v : NodeSettings) (lines : List Due) (u u' : W) (last : Log) (end : Result RunEnd Halt) (c c' : Dialling L) (l l' : Option (List L)) (t t' : Option (List ℕ)) (b b' : Option (List ℕ))
+  pub said_of : (v : NodeSettings) (lines : List Due) (u u' : W) (last : Log) (end : Result RunEnd Halt) (c c' : Dialling L) (l l' : Admitting L) (t t' : Option (List ℕ)) (b b' : Option (List ℕ))
       → IfOk end (λ e. Run (GoesDrawing (Goes (made_by v)) gives failed) talk (is_some v.direct_port) e v.turns lines (at_rest [] u) c b l t (at_rest last u') c' b' l' t')
       → IfOk end (λ e. IsSaid last c.calls c'.calls b b' × EndsAsTold e last)
   said_of v lines u u' last (Ok end) c c' l l' t t' b b' run =
@@ -108,17 +108,17 @@ module _ {L W : Type 0} (talk : L → Option (List Said)) (gives : W → Option 
   said_of v lines u u' last (Err halt) c c' l l' t t' b b' run = tt
 
   -- where no link came, the log is that of a node alone
-  pub lonely_of : (v : NodeSettings) (script : List ℕ) (lines : List Due) (u u' : W) (last : Log) (end : Result RunEnd Halt) (c c' : Dialling L) (l l' : Option (List L)) (t t' : Option (List ℕ)) (b b' : Option (List ℕ))
+  pub lonely_of : (v : NodeSettings) (script : List ℕ) (lines : List Due) (u u' : W) (last : Log) (end : Result RunEnd Halt) (c c' : Dialling L) (l l' : Admitting L) (t t' : Option (List ℕ)) (b b' : Option (List ℕ))
       → script_of script ≡ Ok (map wish_of lines)
       → IfOk end (λ e. Run (GoesDrawing (Goes (made_by v)) gives failed) talk (is_some v.direct_port) e v.turns lines (at_rest [] u) c b l t (at_rest last u') c' b' l' t')
-      → IfOk end (λ e. NoLinkCame c.calls c'.calls l l' → (times : List ℕ) × Grows t t' times × (last ≡ alone (made_by v) lines times))
+      → IfOk end (λ e. NoLinkCame c.calls c'.calls l.left l'.left → (times : List ℕ) × Grows t t' times × (last ≡ alone (made_by v) lines times))
   lonely_of v script lines u u' last (Ok end) c c' l l' t t' b b' reads run =
       lonely (made_by v) talk (is_some v.direct_port) end v.turns lines (asked_of script lines reads) c c' b b' l l' t t' last
       (alone_of (made_by v) (is_some v.direct_port) end v.turns lines u u' last c c' l l' t t' b b' run)
   lonely_of v script lines u u' last (Err halt) c c' l l' t t' b b' reads run = tt
 
   -- a run of the definition in which the node told that it has ended came to the time of its `finish`
-  pub finish_came : (a : Made) (script : List ℕ) (listens : Bool) (turns : ℕ) (lines : List Due) (u u' : W) (last : Log) (c c' : Dialling L) (l l' : Option (List L)) (t t' : Option (List ℕ)) (b b' : Option (List ℕ))
+  pub finish_came : (a : Made) (script : List ℕ) (listens : Bool) (turns : ℕ) (lines : List Due) (u u' : W) (last : Log) (c c' : Dialling L) (l l' : Admitting L) (t t' : Option (List ℕ)) (b b' : Option (List ℕ))
       → script_of script ≡ Ok (map wish_of lines)
       → Run (GoesDrawing (Goes a) gives failed) talk listens Finished turns lines (at_rest [] u) c b l t (at_rest last u') c' b' l' t' → FinishCame lines t t'
   finish_came a script listens turns lines u u' last c c' l l' t t' b b' reads run =

@@ -12,7 +12,7 @@ use Rattle.bsc_node_run.specs.declared.run_end.RunEnd.TheVariants.{Finished, Spe
 use Rattle.bsc_node_run.specs.Drawing.{GoesDrawing, at_rest}
 use Rattle.bsc_node_run.specs.Running.{Run}
 use Rattle.bsc_node_run.specs.Scripts.{Wish, script_of, wish_of}
-use Rattle.bsc_node_run.specs.Worlds.{Dialling}
+use Rattle.bsc_node_run.specs.Worlds.{Admitting, Dialling}
 use Rattle.bsc_node_runs.specs.Courses.{Goes}
 use Rattle.bsc_node_command.specs.Lines.{SaysEnd}
 use Rattle.bsc_node_command.specs.Comes.{made_by, Comes, NodeWorld, NotRun}
@@ -54,7 +54,7 @@ module _ {L W : Type 0} (talk : L → Option (List Said)) (gives : W → Option 
   refused_so v script before after s (inl k) n bad = none_refused v script before after s k.1 n bad
   refused_so v script before after s (inr r) n bad = absurd (good_or_bad (script_of script) (map wish_of r.lines) n r.reads bad)
 
-  spent_turns : (v : NodeSettings) (lines : List Due) (u u' : W) (last : Log) (end : Result RunEnd Halt) (c c' : Dialling L) (l l' : Option (List L)) (t t' : Option (List ℕ)) (s : ℕ) (b b' b'' : Option (List ℕ))
+  spent_turns : (v : NodeSettings) (lines : List Due) (u u' : W) (last : Log) (end : Result RunEnd Halt) (c c' : Dialling L) (l l' : Admitting L) (t t' : Option (List ℕ)) (s : ℕ) (b b' b'' : Option (List ℕ))
       → IfOk end (λ e. Run (GoesDrawing (Goes (made_by v)) gives failed) talk (is_some v.direct_port) e v.turns lines (at_rest [] u) c b l t (at_rest last u') c' b' l' t') → SaysEnd end s b' b'' → s ≡ 8 → (times : List ℕ) × Grows t t' times × (length times ≡ v.turns)
   spent_turns v lines u u' last (Ok Finished) c c' l l' t t' s b b' b'' run h is = absurd (omega (arith, h.0, is))
   spent_turns v lines u u' last (Ok Spent) c c' l l' t t' s b b' b'' run h is = (run.times, run.readings, run.ends.0)
@@ -64,5 +64,5 @@ module _ {L W : Type 0} (talk : L → Option (List Said)) (gives : W → Option 
 
   pub spent_so : (v : NodeSettings) (script : List ℕ) (before after : NodeWorld L W) (s : ℕ) → Comes talk gives failed v script before after s → s ≡ 8 → (times : List ℕ) × Grows before.readings after.readings times × (length times ≡ v.turns)
   spent_so v script before after s (inl k) is = absurd (none_spent v script before after s k.1 is)
-  spent_so v script before after s (inr r) is = spent_turns v r.lines before.random after.random r.last r.end before.dialled after.dialled r.left after.links before.readings after.readings s before.written r.written
+  spent_so v script before after s (inr r) is = spent_turns v r.lines before.random after.random r.last r.end before.dialled after.dialled r.door after.door before.readings after.readings s before.written r.written
       after.written r.run r.says is

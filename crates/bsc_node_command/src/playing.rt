@@ -7,13 +7,13 @@ ghost use Rattle.bsc_node_run.specs.declared.halt.Halt.{Halt as HaltType};
 ghost use Rattle.bsc_node_command.specs.Lines.{SaysEnd};
 ghost use Rattle.bsc_node_run.specs.declared.due.Due.{Due};
 ghost use Rattle.bsc_node_run.specs.Scripts.{script_of, wish_of};
-ghost use Rattle.bsc_node_run.specs.Worlds.{dialling};
+ghost use Rattle.bsc_node_run.specs.Worlds.{Admitting, admitting, dialling};
 ghost use Rattle.bsc_node_runs.specs.Courses.{FinishCame};
-ghost use Rattle.bsc_node_command.specs.Comes.{Comes, IsBoundBy, Ran, made_by};
+ghost use Rattle.bsc_node_command.specs.Comes.{Comes, IsBoundBy, IsUnasked, Ran, made_by};
 
 use crate::making::make_node;
 use crate::running_node::RunningNode;
-use bsc_edge::{Acceptor, Clock, Dialer, Failed, Link};
+use bsc_edge::{Acceptor, Clock, Dialer, Failed, Link, Waiter};
 use bsc_node_run::{Due, Halt, RunEnd, ScriptFault, Words, read_script};
 use bsc_outside::Sink;
 use bsc_player::{PlayEnd, end_play, end_with, out_of_memory};
@@ -42,6 +42,7 @@ fn tell_end<K: Sink>(sink: &mut K, end: Result<RunEnd, Halt>) -> u8
 fn bind<L, A: Acceptor<L>>(settings: &NodeSettings, acceptor: &mut A) -> Result<(), Failed>
     ensures bound { IfOk result (λ _. IsBoundBy settings.now.direct_port (A.bound acceptor.old) (A.bound acceptor.new)) }
     ensures left { Stays (A.left acceptor.old) (A.left acceptor.new) }
+    ensures waits { Stays (A.waits acceptor.old) (A.waits acceptor.new) }
     ensures failed { IsErr result → HasRisen (A.faults acceptor.old) (A.faults acceptor.new) }
     ensures later { A.faults acceptor.old ≤ A.faults acceptor.new }
 {
@@ -52,37 +53,40 @@ fn bind<L, A: Acceptor<L>>(settings: &NodeSettings, acceptor: &mut A) -> Result<
 }
 
 /// Runs a node that was made, and writes what it comes to.
-fn run_made<K: Sink, C: Clock, W: Words, L: Link + Drop, A: Acceptor<L>, D: Dialer<L>>(
+fn run_made<K: Sink, C: Clock, V: Waiter, W: Words, L: Link + Drop, A: Acceptor<L>, D: Dialer<L>>(
     alloc: Global,
     settings: &NodeSettings,
     node: RunningNode,
     lines: &[Due],
     sink: &mut K,
     clock: &mut C,
+    waiter: &mut V,
     random: &mut W,
     acceptor: &mut A,
     dialer: &mut D,
 ) -> u8
     requires { StandsFor node.node (made_by settings.now) [] }
-    ensures ran { (script : List ℕ) (links : Option (List L)) (port : Option (Option ℕ)) (faults : ℕ) →
-        script_of script ≡ Ok (map wish_of lines.now) → Stays links (A.left acceptor.old) →
+    ensures ran { (script : List ℕ) (door : Admitting L) (port : Option (Option ℕ)) (faults : ℕ) →
+        script_of script ≡ Ok (map wish_of lines.now) → IsUnasked door (admitting A.left A.waits acceptor.old) →
         IsBoundBy settings.now.direct_port port (A.bound acceptor.old) →
         Ran L.talk W.gives W.faults settings.now script
         (record {
           dialled = dialling D.calls D.left D.faults dialer.old;
-          links = links;
+          door = door;
           port = port;
           faults = faults;
           readings = C.readings clock.old;
+          waited = V.waits waiter.old;
           random = random.old;
           written = K.held sink.old;
         })
         (record {
           dialled = dialling D.calls D.left D.faults dialer.new;
-          links = A.left acceptor.new;
+          door = admitting A.left A.waits acceptor.new;
           port = A.bound acceptor.new;
           faults = A.faults acceptor.new;
           readings = C.readings clock.new;
+          waited = V.waits waiter.new;
           random = random.new;
           written = K.held sink.new;
         }) result }
@@ -101,6 +105,7 @@ fn run_made<K: Sink, C: Clock, W: Words, L: Link + Drop, A: Acceptor<L>, D: Dial
         settings.turns,
         sink,
         clock,
+        waiter,
         random,
         acceptor,
         dialer,
@@ -109,12 +114,13 @@ fn run_made<K: Sink, C: Clock, W: Words, L: Link + Drop, A: Acceptor<L>, D: Dial
 }
 
 /// Binds its port, where it has one, makes the node, and runs it.
-fn run_lines<K: Sink, C: Clock, W: Words, L: Link + Drop, A: Acceptor<L>, D: Dialer<L>>(
+fn run_lines<K: Sink, C: Clock, V: Waiter, W: Words, L: Link + Drop, A: Acceptor<L>, D: Dialer<L>>(
     alloc: Global,
     settings: &NodeSettings,
     lines: &[Due],
     sink: &mut K,
     clock: &mut C,
+    waiter: &mut V,
     random: &mut W,
     acceptor: &mut A,
     dialer: &mut D,
@@ -123,19 +129,21 @@ fn run_lines<K: Sink, C: Clock, W: Words, L: Link + Drop, A: Acceptor<L>, D: Dia
         Comes L.talk W.gives W.faults settings.now script
         (record {
           dialled = dialling D.calls D.left D.faults dialer.old;
-          links = A.left acceptor.old;
+          door = admitting A.left A.waits acceptor.old;
           port = A.bound acceptor.old;
           faults = A.faults acceptor.old;
           readings = C.readings clock.old;
+          waited = V.waits waiter.old;
           random = random.old;
           written = K.held sink.old;
         })
         (record {
           dialled = dialling D.calls D.left D.faults dialer.new;
-          links = A.left acceptor.new;
+          door = admitting A.left A.waits acceptor.new;
           port = A.bound acceptor.new;
           faults = A.faults acceptor.new;
           readings = C.readings clock.new;
+          waited = V.waits waiter.new;
           random = random.new;
           written = K.held sink.new;
         }) result }
@@ -148,7 +156,7 @@ fn run_lines<K: Sink, C: Clock, W: Words, L: Link + Drop, A: Acceptor<L>, D: Dia
     match bind(settings, acceptor) {
         Ok(()) => match make_node(alloc, settings) {
             Ok(node) => run_made(
-                alloc, settings, node, lines, sink, clock, random, acceptor, dialer,
+                alloc, settings, node, lines, sink, clock, waiter, random, acceptor, dialer,
             ),
             Err(_) => out_of_memory(sink),
         },
@@ -157,12 +165,13 @@ fn run_lines<K: Sink, C: Clock, W: Words, L: Link + Drop, A: Acceptor<L>, D: Dia
 }
 
 /// Reads the whole script, and runs a node of the settings by it.
-fn run_text<K: Sink, C: Clock, W: Words, L: Link + Drop, A: Acceptor<L>, D: Dialer<L>>(
+fn run_text<K: Sink, C: Clock, V: Waiter, W: Words, L: Link + Drop, A: Acceptor<L>, D: Dialer<L>>(
     alloc: Global,
     settings: &NodeSettings,
     script: &[u8],
     sink: &mut K,
     clock: &mut C,
+    waiter: &mut V,
     random: &mut W,
     acceptor: &mut A,
     dialer: &mut D,
@@ -170,19 +179,21 @@ fn run_text<K: Sink, C: Clock, W: Words, L: Link + Drop, A: Acceptor<L>, D: Dial
     ensures comes { Comes L.talk W.gives W.faults settings.now script.now
         (record {
           dialled = dialling D.calls D.left D.faults dialer.old;
-          links = A.left acceptor.old;
+          door = admitting A.left A.waits acceptor.old;
           port = A.bound acceptor.old;
           faults = A.faults acceptor.old;
           readings = C.readings clock.old;
+          waited = V.waits waiter.old;
           random = random.old;
           written = K.held sink.old;
         })
         (record {
           dialled = dialling D.calls D.left D.faults dialer.new;
-          links = A.left acceptor.new;
+          door = admitting A.left A.waits acceptor.new;
           port = A.bound acceptor.new;
           faults = A.faults acceptor.new;
           readings = C.readings clock.new;
+          waited = V.waits waiter.new;
           random = random.new;
           written = K.held sink.new;
         }) result }
@@ -199,6 +210,7 @@ fn run_text<K: Sink, C: Clock, W: Words, L: Link + Drop, A: Acceptor<L>, D: Dial
             script.as_slice(),
             sink,
             clock,
+            waiter,
             random,
             acceptor,
             dialer,
@@ -219,12 +231,21 @@ fn run_text<K: Sink, C: Clock, W: Words, L: Link + Drop, A: Acceptor<L>, D: Dial
 /// | 6 | the port can't be bound, or the acceptor failed | `fault link` |
 /// | 7 | memory ran out | `fault memory`, tried once |
 /// | 8 | the node made as many turns as its settings allow | `fault turns` |
-pub fn run_node<K: Sink, C: Clock, W: Words, L: Link + Drop, A: Acceptor<L>, D: Dialer<L>>(
+pub fn run_node<
+    K: Sink,
+    C: Clock,
+    V: Waiter,
+    W: Words,
+    L: Link + Drop,
+    A: Acceptor<L>,
+    D: Dialer<L>,
+>(
     alloc: Global,
     settings: &NodeSettings,
     script: &[u8],
     sink: &mut K,
     clock: &mut C,
+    waiter: &mut V,
     random: &mut W,
     acceptor: &mut A,
     dialer: &mut D,
@@ -233,19 +254,21 @@ pub fn run_node<K: Sink, C: Clock, W: Words, L: Link + Drop, A: Acceptor<L>, D: 
     ensures comes { Comes L.talk W.gives W.faults settings.now script.now
         (record {
           dialled = dialling D.calls D.left D.faults dialer.old;
-          links = A.left acceptor.old;
+          door = admitting A.left A.waits acceptor.old;
           port = A.bound acceptor.old;
           faults = A.faults acceptor.old;
           readings = C.readings clock.old;
+          waited = V.waits waiter.old;
           random = random.old;
           written = K.held sink.old;
         })
         (record {
           dialled = dialling D.calls D.left D.faults dialer.new;
-          links = A.left acceptor.new;
+          door = admitting A.left A.waits acceptor.new;
           port = A.bound acceptor.new;
           faults = A.faults acceptor.new;
           readings = C.readings clock.new;
+          waited = V.waits waiter.new;
           random = random.new;
           written = K.held sink.new;
         }) result }
@@ -267,6 +290,6 @@ pub fn run_node<K: Sink, C: Clock, W: Words, L: Link + Drop, A: Acceptor<L>, D: 
     ensures links_later { A.faults acceptor.old ≤ A.faults acceptor.new }
 {
     run_text(
-        alloc, settings, script, sink, clock, random, acceptor, dialer,
+        alloc, settings, script, sink, clock, waiter, random, acceptor, dialer,
     )
 }

@@ -1,14 +1,25 @@
 -- Whole runs, from their turns.
-use Rattle.std.proofs.Common.{◌≡◌, ◌≤◌, ◌<◌, ◌^◌, ℕ, ◌+◌, Bool, false, List, [], ◌∷◌, ◌++◌, length, Option, Some, refl, ap, sym, ◌∙◌, subst, append_assoc, append-nil, arith, unwrap_or}
+use Rattle.std.proofs.Common.{◌≡◌, ◌≤◌, ◌<◌, ◌^◌, ℕ, ◌+◌, Bool, false, List, [], ◌∷◌, ◌++◌, length, Option, Some, None, refl, ap, sym, ◌∙◌, subst, append_assoc, append-nil, arith, unwrap_or}
 use Rattle.std.proofs.lemmas.List.{length-append}
 use Rattle.bsc_edge.specs.declared.said.Said.{Said}
+use Rattle.bsc_edge.specs.Told.{Grows}
 use Rattle.bsc_node.specs.declared.node_event.NodeEvent.{NodeEvent}
 use Rattle.bsc_node.specs.declared.action.Action.{Action}
 use Rattle.bsc_node_run.specs.declared.due.Due.{Due}
 use Rattle.bsc_node_run.specs.Running.{DontFall, Turns}
 use Rattle.bsc_node_run.specs.Turning.{Turn}
-use Rattle.bsc_node_run.specs.Worlds.{World}
+use Rattle.bsc_node_run.specs.Worlds.{Admitting, World}
 use Rattle.bsc_node_run.proofs.Turns.{same}
+
+pub grows_none : {A : Type 0} (old : Option (List A)) → Grows old old []
+grows_none None = tt
+grows_none (Some o) = sym (append-nil o)
+
+pub grows_then : {A : Type 0} (old mid new : Option (List A)) (xs ys : List A) → Grows old mid xs → Grows mid new ys → Grows old new (xs ++ ys)
+grows_then old mid None xs ys a b = tt
+grows_then old None (Some n) xs ys a b = absurd b
+grows_then None (Some m) (Some n) xs ys a b = absurd a
+grows_then (Some o) (Some m) (Some n) xs ys a b = b ∙ ap (λ l. l ++ ys) a ∙ append_assoc o xs ys
 
 pub one_longer : (times : List ℕ) (now made : ℕ) → length times ≡ made → length (times ++ now ∷ []) ≡ made + 1
 one_longer times now made e = length-append times (now ∷ []) ∙ ap (λ n. n + 1) e
@@ -34,19 +45,19 @@ rise_all from times old made = subst (λ ts. DontFall from ts) (append-nil times
 
 module _ {N L : Type 0} (goes : N → ℕ → NodeEvent → List Action → N → Type 0) (talk : L → Option (List Said)) (listens : Bool) where
   -- One turn more behind those that were made.
-  pub turns_more : (first : Option ℕ) (script : List Due) (n : N) (w : World L) (left : Option (List L)) (times : List ℕ) (now : ℕ) (start : Option ℕ) (rest rest' : List Due) (p q : N) (x y : World L)
-      (mid mid' : Option (List L))
-      → ((more : List ℕ) (m : N) (v : World L) (last : Option (List L)) → Turns goes talk listens more start rest p x mid m v last → Turns goes talk listens (times ++ more) first script n w left m v last)
+  pub turns_more : (first : Option ℕ) (script : List Due) (n : N) (w : World L) (door : Admitting L) (times : List ℕ) (now : ℕ) (start : Option ℕ) (rest rest' : List Due) (p q : N) (x y : World L)
+      (mid mid' : Admitting L)
+      → ((more : List ℕ) (m : N) (v : World L) (last : Admitting L) → Turns goes talk listens more start rest p x mid m v last → Turns goes talk listens (times ++ more) first script n w door m v last)
       → x.finished ≡ false → Turn goes talk now start rest rest' listens p x mid q y mid'
-      → (more : List ℕ) (m : N) (v : World L) (last : Option (List L)) → Turns goes talk listens more (Some (unwrap_or start now)) rest' q y mid' m v last
-      → Turns goes talk listens ((times ++ now ∷ []) ++ more) first script n w left m v last
-  turns_more first script n w left times now start rest rest' p q x y mid mid' made going t more m v last k =
-      subst (λ ts. Turns goes talk listens ts first script n w left m v last) (sym (append_assoc times (now ∷ []) more))
+      → (more : List ℕ) (m : N) (v : World L) (last : Admitting L) → Turns goes talk listens more (Some (unwrap_or start now)) rest' q y mid' m v last
+      → Turns goes talk listens ((times ++ now ∷ []) ++ more) first script n w door m v last
+  turns_more first script n w door times now start rest rest' p q x y mid mid' made going t more m v last k =
+      subst (λ ts. Turns goes talk listens ts first script n w door m v last) (sym (append_assoc times (now ∷ []) more))
       (made (now ∷ more) m v last (rest', q, y, mid', going, t, k))
 
   -- The turns that were made, and no more.
-  pub turns_all : (first : Option ℕ) (script : List Due) (n : N) (w : World L) (left : Option (List L)) (times : List ℕ) (start : Option ℕ) (rest : List Due) (p : N) (x : World L) (mid : Option (List L))
-      → ((more : List ℕ) (m : N) (v : World L) (last : Option (List L)) → Turns goes talk listens more start rest p x mid m v last → Turns goes talk listens (times ++ more) first script n w left m v last)
-      → Turns goes talk listens times first script n w left p x mid
-  turns_all first script n w left times start rest p x mid made =
-      subst (λ ts. Turns goes talk listens ts first script n w left p x mid) (append-nil times) (made [] p x mid (refl, same x, refl))
+  pub turns_all : (first : Option ℕ) (script : List Due) (n : N) (w : World L) (door : Admitting L) (times : List ℕ) (start : Option ℕ) (rest : List Due) (p : N) (x : World L) (mid : Admitting L)
+      → ((more : List ℕ) (m : N) (v : World L) (last : Admitting L) → Turns goes talk listens more start rest p x mid m v last → Turns goes talk listens (times ++ more) first script n w door m v last)
+      → Turns goes talk listens times first script n w door p x mid
+  turns_all first script n w door times start rest p x mid made =
+      subst (λ ts. Turns goes talk listens ts first script n w door p x mid) (append-nil times) (made [] p x mid (refl, same x, refl))

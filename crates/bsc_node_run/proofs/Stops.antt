@@ -1,6 +1,8 @@
 -- Runs that a fault stops, from what their steps did.
-use Rattle.std.proofs.Common.{◌≡◌, ◌≤◌, ◌<◌, ◌^◌, inl, inr, ℕ, suc, ◌+◌, Bool, true, false, List, [], ◌∷◌, ◌++◌, Option, Some, Result, Ok, Err, OnErr, refl, sym, subst, append_assoc, unwrap_or}
+use Rattle.std.proofs.Common.{◌≡◌, ◌≤◌, ◌<◌, ◌^◌, inl, inr, ℕ, suc, ◌+◌, Bool, true, false, List, [], ◌∷◌, ◌++◌, Option, Some, Result, Ok, Err, OnErr, refl, sym, subst, append_assoc, arith, unwrap_or}
 use Rattle.std.specs.Prelude.{IsTrue}
+use Rattle.std.proofs.KnownBytes.{Appends-nil}
+use Rattle.bsc_outside.specs.Faults.{PutsPrefix}
 use Rattle.bsc_edge.specs.declared.said.Said.{Said}
 use Rattle.bsc_edge.specs.Told.{Grows}
 use Rattle.bsc_node.specs.declared.link_name.LinkName.TheVariants.{Direct}
@@ -13,12 +15,20 @@ use Rattle.bsc_node_run.specs.Performing.{Carries}
 use Rattle.bsc_node_run.specs.Running.{DontFall}
 use Rattle.bsc_node_run.specs.Stopping.{EachStop, GiveStops, HearStops, StopsAt, TurnStops, TurnsStop}
 use Rattle.bsc_node_run.specs.Turning.{Hears, Turn, draws, slots_from}
-use Rattle.bsc_node_run.specs.Worlds.{World}
+use Rattle.bsc_node_run.specs.Worlds.{Admitting, World}
+
+pub on_err : {T E P Q : Type 0} (r : Result T E) → (P → Q) → OnErr r P → OnErr r Q
+on_err (Ok x) f p = tt
+on_err (Err e) f p = f p
 
 -- whatever fault it is
 pub at_err : {T E P : Type 0} (r : Result T E) → P → OnErr r P
 at_err (Ok x) p = tt
 at_err (Err e) p = p
+
+-- Nothing of a text was written.
+pub puts_nothing : (held : Option (List ℕ)) (text : List ℕ) → PutsPrefix held held text
+puts_nothing held text = (0, omega arith, Appends-nil held)
 
 -- ---- one event
 
@@ -57,21 +67,21 @@ module _ {N L : Type 0} (goes : N → ℕ → NodeEvent → List Action → N �
 
 module _ {N L : Type 0} (goes : N → ℕ → NodeEvent → List Action → N → Type 0) (talk : L → Option (List Said)) (listens : Bool) where
   -- One turn more behind those that were made.
-  pub stops_more : (first : Option ℕ) (script : List Due) (n : N) (w : World L) (left : Option (List L)) (times : List ℕ) (now : ℕ) (start : Option ℕ) (rest rest' : List Due) (p q : N) (x y : World L)
-      (mid mid' : Option (List L))
-      → ((more : List ℕ) (v : World L) (last : Option (List L)) → TurnsStop goes talk listens more start rest p x mid v last → TurnsStop goes talk listens (times ++ more) first script n w left v last)
+  pub stops_more : (first : Option ℕ) (script : List Due) (n : N) (w : World L) (door : Admitting L) (times : List ℕ) (now : ℕ) (start : Option ℕ) (rest rest' : List Due) (p q : N) (x y : World L)
+      (mid mid' : Admitting L)
+      → ((more : List ℕ) (v : World L) (last : Admitting L) → TurnsStop goes talk listens more start rest p x mid v last → TurnsStop goes talk listens (times ++ more) first script n w door v last)
       → x.finished ≡ false → Turn goes talk now start rest rest' listens p x mid q y mid'
-      → (more : List ℕ) (v : World L) (last : Option (List L)) → TurnsStop goes talk listens more (Some (unwrap_or start now)) rest' q y mid' v last
-      → TurnsStop goes talk listens ((times ++ now ∷ []) ++ more) first script n w left v last
-  stops_more first script n w left times now start rest rest' p q x y mid mid' made going t more v last k =
-      subst (λ ts. TurnsStop goes talk listens ts first script n w left v last) (sym (append_assoc times (now ∷ []) more))
+      → (more : List ℕ) (v : World L) (last : Admitting L) → TurnsStop goes talk listens more (Some (unwrap_or start now)) rest' q y mid' v last
+      → TurnsStop goes talk listens ((times ++ now ∷ []) ++ more) first script n w door v last
+  stops_more first script n w door times now start rest rest' p q x y mid mid' made going t more v last k =
+      subst (λ ts. TurnsStop goes talk listens ts first script n w door v last) (sym (append_assoc times (now ∷ []) more))
       (made (now ∷ more) v last (going, inr (rest', q, y, mid', t, k)))
 
   -- The turn that stopped.
-  pub stops_now : (first : Option ℕ) (script : List Due) (n : N) (w : World L) (left : Option (List L)) (times : List ℕ) (now : ℕ) (start : Option ℕ) (rest : List Due) (p : N) (x v : World L) (mid last : Option (List L))
-      → ((more : List ℕ) (v : World L) (last : Option (List L)) → TurnsStop goes talk listens more start rest p x mid v last → TurnsStop goes talk listens (times ++ more) first script n w left v last)
-      → x.finished ≡ false → TurnStops goes talk now start rest listens p x mid v last → TurnsStop goes talk listens (times ++ now ∷ []) first script n w left v last
-  stops_now first script n w left times now start rest p x v mid last made going t = made (now ∷ []) v last (going, inl (refl, t))
+  pub stops_now : (first : Option ℕ) (script : List Due) (n : N) (w : World L) (door : Admitting L) (times : List ℕ) (now : ℕ) (start : Option ℕ) (rest : List Due) (p : N) (x v : World L) (mid last : Admitting L)
+      → ((more : List ℕ) (v : World L) (last : Admitting L) → TurnsStop goes talk listens more start rest p x mid v last → TurnsStop goes talk listens (times ++ more) first script n w door v last)
+      → x.finished ≡ false → TurnStops goes talk now start rest listens p x mid v last → TurnsStop goes talk listens (times ++ now ∷ []) first script n w door v last
+  stops_now first script n w door times now start rest p x v mid last made going t = made (now ∷ []) v last (going, inl (refl, t))
 
 -- The readings up to the one of that turn don't fall.
 pub rise_now : (from : ℕ) (times : List ℕ) (old now : ℕ) → ((more : List ℕ) → DontFall old more → DontFall from (times ++ more)) → old ≤ now → now < 2 ^ 62 → DontFall from (times ++ now ∷ [])

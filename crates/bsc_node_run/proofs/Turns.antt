@@ -1,5 +1,5 @@
 -- The parts of a turn, from what its steps did.
-use Rattle.std.proofs.Common.{◌≡◌, ◌≤◌, ◌<◌, ℕ, suc, ◌+◌, ◌-◌, true, false, not, ◌&&◌, List, [], ◌∷◌, length, Option, Some, None, is_some, Result, Ok, Err, get_or, take, drop, refl, ap, sym, ◌∙◌, subst, arith}
+use Rattle.std.proofs.Common.{◌≡◌, ◌≤◌, ◌<◌, ℕ, suc, ◌+◌, ◌-◌, true, false, not, ◌&&◌, List, [], ◌∷◌, length, Option, Some, None, is_some, Result, Ok, Err, IfOk, get_or, take, drop, refl, ap, sym, ◌∙◌, subst, arith}
 use Rattle.std.specs.List.{list_any}
 use Rattle.std.proofs.lemmas.Bool.{false≢true}
 use Rattle.std.proofs.lemmas.List.{take_all}
@@ -18,9 +18,13 @@ use Rattle.bsc_node.specs.declared.node_event.NodeEvent.TheVariants.{Came, CameT
 use Rattle.bsc_node.specs.declared.action.Action.{Action}
 use Rattle.bsc_node_run.specs.declared.due.Due.{Due}
 use Rattle.bsc_node_run.specs.declared.news.News.{News}
-use Rattle.bsc_node_run.specs.Receiving.{Received, WasGiven, left_by, told_of}
+use Rattle.bsc_node_run.specs.Receiving.{Received, WasGiven, left_by, link_wait, told_of}
 use Rattle.bsc_node_run.specs.Turning.{Gives, GivesIn, Hears, HearsEach, HearsIf, HearsOf, IsNotDue, slots_from}
 use Rattle.bsc_node_run.specs.Worlds.{World, Same, is_of, is_open, with_link, ends}
+
+pub on_if : {T E : Type 0} {P Q : T → Type 0} (r : Result T E) → ((x : T) → P x → Q x) → IfOk r P → IfOk r Q
+on_if (Ok x) f p = f x p
+on_if (Err e) f p = tt
 
 module _ {L : Type 0} where
   pub same : (w : World L) → Same w w
@@ -62,7 +66,7 @@ none_left (y ∷ ys) e = (let k : length (y ∷ ys) ≡ length ys = ap length e 
 
 module _ {L : Type 0} (talk : L → Option (List Said)) where
   pub received : (name : LinkName) (k l : L) (given : Result Incoming LinkFault) (e : Option NodeEvent) (w v : World L) → Some k ≡ w.link name
-      → WasGiven given → Grows (talk k) (talk l) (Gave given ∷ []) → e ≡ told_of name given → Same v (left_by name l given w) → Received talk name (w.link name) e w v
+      → WasGiven given → Grows (talk k) (talk l) (Gave link_wait given ∷ []) → e ≡ told_of name given → Same v (left_by name l given w) → Received talk name (w.link name) e w v
   received name k l given e w v is ok g told s = subst (λ (o : Option L). Received talk name o e w v) is (l, given, ok, g, told, s)
 
 module _ {N L : Type 0} (goes : N → ℕ → NodeEvent → List Action → N → Type 0) (talk : L → Option (List Said)) (now : ℕ) where

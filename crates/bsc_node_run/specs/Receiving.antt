@@ -1,5 +1,5 @@
 -- What is received on a link.
-use Rattle.std.specs.Prelude.{◌≡◌, List, [], ◌∷◌, Option, Some, None, Result, Ok, Err, ⊤}
+use Rattle.std.specs.Prelude.{◌≡◌, ℕ, List, [], ◌∷◌, Option, Some, None, Result, Ok, Err, ⊤}
 use Rattle.bsc_edge.specs.declared.fault.LinkFault.{LinkFault}
 use Rattle.bsc_edge.specs.declared.fault.LinkFault.TheVariants.{Failed, NoMemory}
 use Rattle.bsc_edge.specs.declared.incoming.Incoming.{Incoming}
@@ -11,6 +11,10 @@ use Rattle.bsc_node.specs.declared.link_name.LinkName.{LinkName}
 use Rattle.bsc_node.specs.declared.node_event.NodeEvent.{NodeEvent}
 use Rattle.bsc_node.specs.declared.node_event.NodeEvent.TheVariants.{Came, CameText, Lost}
 use Rattle.bsc_node_run.specs.Worlds.{World, Same, ends, with_link}
+
+-- How long a link is waited for in a turn, in milliseconds: it is asked for what is there already.
+abbrev pub link_wait : ℕ
+link_wait = 0
 
 -- what the node is told of it
 abbrev pub told_of : LinkName → Result Incoming LinkFault → Option NodeEvent
@@ -33,8 +37,8 @@ module _ {L : Type 0} where
   left_by name l (Err fault) w = ends name l w
   left_by name l given w = with_link name (Some l) w
 
-  -- A link was waited for once, where there is one.
+  -- A link was waited for once, as long as links are, where there is one.
   abbrev pub Received : (L → Option (List Said)) → LinkName → Option L → Option NodeEvent → World L → World L → Type 0
   Received talk name None e w v = e ≡ None
-  Received talk name (Some k) e w v = (l : L) × (given : Result Incoming LinkFault) × WasGiven given × Grows (talk k) (talk l) (Gave given ∷ [])
+  Received talk name (Some k) e w v = (l : L) × (given : Result Incoming LinkFault) × WasGiven given × Grows (talk k) (talk l) (Gave link_wait given ∷ [])
       × (e ≡ told_of name given) × Same v (left_by name l given w)

@@ -9,7 +9,7 @@ use Rattle.bsc_node_run.specs.declared.due.Due.{Due}
 use Rattle.bsc_node_run.specs.declared.run_end.RunEnd.{RunEnd}
 use Rattle.bsc_node_run.specs.declared.run_end.RunEnd.TheVariants.{Finished, Spent}
 use Rattle.bsc_node_run.specs.Turning.{Turn}
-use Rattle.bsc_node_run.specs.Worlds.{Dialling, World, Same}
+use Rattle.bsc_node_run.specs.Worlds.{Admitting, Dialling, World, Same}
 
 -- No links, and nothing new: this is the dialer, and this was written before.
 pub record IsEmpty {L : Type 0} (before : Dialling L) (text : Option (List ℕ)) (w : World L) : Type 0 where
@@ -35,21 +35,21 @@ DontFall from (t ∷ times) = (from ≤ t) × (t < 2 ^ 62) × DontFall t times
 module _ {N L : Type 0} (goes : N → ℕ → NodeEvent → List Action → N → Type 0) (talk : L → Option (List Said)) (listens : Bool) where
   -- Turns at these times, one after the other. The script goes on in each where the one before left it, and its times
   -- count from the first turn. No turn comes after one in which the node told that it has ended.
-  abbrev pub Turns : List ℕ → Option ℕ → List Due → N → World L → Option (List L) → N → World L → Option (List L) → Type 0
-  Turns [] start script n w left m v left' = (m ≡ n) × Same v w × (left' ≡ left)
-  Turns (now ∷ times) start script n w left m v left' =
-      (rest : List Due) × (p : N) × (x : World L) × (mid : Option (List L)) × (w.finished ≡ false)
-      × Turn goes talk now start script rest listens n w left p x mid × Turns times (Some (unwrap_or start now)) rest p x mid m v left'
+  abbrev pub Turns : List ℕ → Option ℕ → List Due → N → World L → Admitting L → N → World L → Admitting L → Type 0
+  Turns [] start script n w door m v door' = (m ≡ n) × Same v w × (door' ≡ door)
+  Turns (now ∷ times) start script n w door m v door' =
+      (rest : List Due) × (p : N) × (x : World L) × (mid : Admitting L) × (w.finished ≡ false)
+      × Turn goes talk now start script rest listens n w door p x mid × Turns times (Some (unwrap_or start now)) rest p x mid m v door'
 
   -- A whole run.
   pub record Run (end : RunEnd) (turns : ℕ) (script : List Due) (n : N) (dialled : Dialling L) (held : Option (List ℕ))
-      (left : Option (List L)) (told : Option (List ℕ)) (m : N) (dialled' : Dialling L) (held' : Option (List ℕ))
-      (left' : Option (List L)) (told' : Option (List ℕ)) : Type 0 where
+      (door : Admitting L) (told : Option (List ℕ)) (m : N) (dialled' : Dialling L) (held' : Option (List ℕ))
+      (door' : Admitting L) (told' : Option (List ℕ)) : Type 0 where
     pub times : List ℕ
     pub first : World L
     pub last : World L
     pub empty : IsEmpty dialled held first
-    pub went : Turns times None script n first left m last left'
+    pub went : Turns times None script n first door m last door'
     pub dials : last.dialled ≡ dialled'
     pub holds : last.held ≡ held'
     pub readings : Grows told told' times

@@ -22,7 +22,8 @@ use Rattle.bsc_node_run.specs.declared.news.Change.{Change}
 use Rattle.bsc_node_run.specs.declared.news.Change.TheVariants.{Opened as DidOpen, DialFailed as DidntOpen, Lost as WasLost}
 use Rattle.bsc_node_run.specs.declared.news.News.{News}
 use Rattle.bsc_node_run.specs.Performing.{Carries, is_draw}
-use Rattle.bsc_node_run.specs.Worlds.{World, Same, begun, ends, is_open, with_link}
+use Rattle.bsc_node_run.specs.Receiving.{link_wait}
+use Rattle.bsc_node_run.specs.Worlds.{Admitting, World, Same, begun, ends, is_open, with_link}
 
 -- what a node is told of what is new of a link
 abbrev pub event_of : News → NodeEvent
@@ -45,6 +46,10 @@ slots_from (suc count) k = Direct k ∷ slots_from count (k + 1)
 -- All links: those of the hubs, and then those in the slots.
 abbrev pub names : List LinkName
 names = Hub Primary ∷ Hub Failover ∷ slots_from 64 0
+
+-- How long the acceptor is waited for in a turn, in milliseconds: it is asked for a link that is there already.
+abbrev pub accept_wait : ℕ
+accept_wait = 0
 
 -- How much time has passed since the first turn, at this time.
 abbrev pub passed_by : Option ℕ → ℕ → ℕ
@@ -102,11 +107,11 @@ module _ {N L : Type 0} (goes : N → ℕ → NodeEvent → List Action → N �
   HearsOf name l (Err Failed) n w m v = GivesIn (Lost name) n (ends name l w) m v
   HearsOf name l (Err NoMemory) n w m v = ⊥
 
-  -- A link that is open is waited for once, and the node is told what it gave.
+  -- A link that is open is waited for once, as long as links are, and the node is told what it gave.
   abbrev pub HearsIf : LinkName → Bool → N → World L → N → World L → Type 0
   HearsIf name false n w m v = (m ≡ n) × Same v w
   HearsIf name true n w m v = (k l : L) × (given : Result Incoming LinkFault)
-      × (w.link name ≡ Some k) × Grows (talk k) (talk l) (Gave given ∷ []) × HearsOf name l given n w m v
+      × (w.link name ≡ Some k) × Grows (talk k) (talk l) (Gave link_wait given ∷ []) × HearsOf name l given n w m v
 
   abbrev pub Hears : LinkName → N → World L → N → World L → Type 0
   Hears name n w m v = HearsIf name (is_open name w) n w m v
@@ -118,11 +123,13 @@ module _ {N L : Type 0} (goes : N → ℕ → NodeEvent → List Action → N �
 
   -- ---- a link that arrives
 
-  -- Where the node accepts direct connections, the acceptor is asked once, and the node is told of the link that arrived.
-  abbrev pub Admits : Bool → N → World L → Option (List L) → N → World L → Option (List L) → Type 0
-  Admits false n w left m v left' = (m ≡ n) × Same v w × (left' ≡ left)
-  Admits true n w left m v left' = ((m ≡ n) × Same v w × Leaves left left' (Ok NoLink))
-      ⊎ ((l : L) × Leaves left left' (Ok (Link l)) × Gives Arrived n (record w { arrived = Some l }) m v)
+  -- Where the node accepts direct connections, the acceptor is asked once, without waiting, and the node is told of the link
+  -- that arrived.
+  abbrev pub Admits : Bool → N → World L → Admitting L → N → World L → Admitting L → Type 0
+  Admits false n w door m v door' = (m ≡ n) × Same v w × (door' ≡ door)
+  Admits true n w door m v door' = Grows door.waits door'.waits (accept_wait ∷ [])
+      × (((m ≡ n) × Same v w × Leaves door.left door'.left (Ok NoLink))
+      ⊎ ((l : L) × Leaves door.left door'.left (Ok (Link l)) × Gives Arrived n (record w { arrived = Some l }) m v))
 
   -- ---- a turn
 
@@ -132,8 +139,8 @@ module _ {N L : Type 0} (goes : N → ℕ → NodeEvent → List Action → N �
 
   -- One turn: that the node starts, in the first turn; that time has passed; what is new of its links; what of the script
   -- is due; what comes of the links that are open, the hubs' first and then those in the slots; and the link that arrives.
-  pub record Turn (start : Option ℕ) (script rest : List Due) (listens : Bool) (n : N) (w : World L) (left : Option (List L))
-      (m : N) (v : World L) (left' : Option (List L)) : Type 0 where
+  pub record Turn (start : Option ℕ) (script rest : List Due) (listens : Bool) (n : N) (w : World L) (door : Admitting L)
+      (m : N) (v : World L) (door' : Admitting L) : Type 0 where
     pub news : List News
     pub lines : List Due
     pub w0 : World L
@@ -156,4 +163,4 @@ module _ {N L : Type 0} (goes : N → ℕ → NodeEvent → List Action → N �
     pub next : IsNotDue (passed_by start now) rest
     pub given : GivesLines lines n3 w3 n4 w4
     pub heard : HearsEach names n4 w4 n5 w5
-    pub admits : Admits listens n5 w5 left m v left'
+    pub admits : Admits listens n5 w5 door m v door'

@@ -21,6 +21,16 @@ pub record Dialling (L : Type 0) : Type 0 where
 abbrev pub dialling : {D L : Type 0} → (D → Option (List Dialled)) → (D → Option (List L)) → (D → ℕ) → D → Dialling L
 dialling calls left faults d = record { calls = calls d; left = left d; faults = faults d }
 
+-- What there is of an acceptor at a moment: the links that it has left, and the waits that it was asked for, as far as these
+-- are told.
+pub record Admitting (L : Type 0) : Type 0 where
+  pub left : Option (List L)
+  pub waits : Option (List ℕ)
+
+-- that of an acceptor, by what acceptors of its type tell
+abbrev pub admitting : {A L : Type 0} → (A → Option (List L)) → (A → Option (List ℕ)) → A → Admitting L
+admitting left waits a = record { left = left a; waits = waits a }
+
 -- The link of each name, where there is one; the link that arrived and wasn't taken or refused yet; the links
 -- that were taken out in this turn; what is new of links and is told to the node in this turn, and what is told in the
 -- next, the oldest first; whether the node told that it has ended; what there is of the dialer; and what was written, as

@@ -13,7 +13,7 @@ ghost use Rattle.bsc_node_run.specs.Requests.{has_octets};
 ghost use Rattle.bsc_node_run.specs.Stopping.{AdmitStops, EachStop, HearStops, LinesStop, NewsStop, StartStops, TurnStops};
 ghost use Rattle.bsc_node_run.specs.Turning.{Admits, AreDue, GivesLines, GivesNews, Hears, HearsEach, IsNotDue};
 ghost use Rattle.bsc_node_run.specs.Turning.{Starts, Turn, event_of, names, passed_by, slots_from};
-ghost use Rattle.bsc_node_run.specs.Worlds.{Dialling, Same, dialling, link_in, with_over, world_of};
+ghost use Rattle.bsc_node_run.specs.Worlds.{Dialling, Same, admitting, dialling, link_in, with_over, world_of};
 
 use crate::due::Due;
 use crate::halt::Halt;
@@ -29,8 +29,8 @@ use bsc_octets::NoMemory;
 use bsc_outside::Sink;
 use std::alloc::Global;
 
-/// How long each link is waited for in a turn, in milliseconds.
-const LINK_WAIT_MS: u32 = 5;
+/// How long each link is waited for in a turn, in milliseconds: what there is to wait for was waited for before it.
+const LINK_WAIT_MS: u32 = 0;
 
 /// How long the acceptor is waited for in a turn.
 const ACCEPT_WAIT_MS: u32 = 0;
@@ -285,13 +285,13 @@ fn admit<N: Core, K: Sink, W: Words, L: Link + Drop, A: Acceptor<L>, D: Dialer<L
     requires { now < 2 ^ 62 }
     ensures admits { OnOk result (Admits (GoesDrawing N.goes W.gives W.faults) L.talk now listens
         (at_rest node.old random.old)
-        (world_of set.old (dialling D.calls D.left D.faults dialer.old) (K.held sink.old)) (A.left acceptor.old)
+        (world_of set.old (dialling D.calls D.left D.faults dialer.old) (K.held sink.old)) (admitting A.left A.waits acceptor.old)
         (at_rest node.new random.new)
-        (world_of set.new (dialling D.calls D.left D.faults dialer.new) (K.held sink.new)) (A.left acceptor.new)) }
+        (world_of set.new (dialling D.calls D.left D.faults dialer.new) (K.held sink.new)) (admitting A.left A.waits acceptor.new)) }
     ensures stops { OnErr result (AdmitStops (GoesDrawing N.goes W.gives W.faults) L.talk now listens
         (at_rest node.old random.old)
-        (world_of set.old (dialling D.calls D.left D.faults dialer.old) (K.held sink.old)) (A.left acceptor.old)
-        (world_of set.new (dialling D.calls D.left D.faults dialer.new) (K.held sink.new)) (A.left acceptor.new)) }
+        (world_of set.old (dialling D.calls D.left D.faults dialer.old) (K.held sink.old)) (admitting A.left A.waits acceptor.old)
+        (world_of set.new (dialling D.calls D.left D.faults dialer.new) (K.held sink.new)) (admitting A.left A.waits acceptor.new)) }
     ensures failed { result ≡ Err HaltType.WriteFault → HasRisen (K.faults sink.old) (K.faults sink.new) }
     ensures later { K.faults sink.old ≤ K.faults sink.new }
     ensures accept { result ≡ Err HaltType.AcceptFault → HasRisen (A.faults acceptor.old) (A.faults acceptor.new) }
@@ -359,7 +359,7 @@ fn begin<N: Core, K: Sink, W: Words, L: Link + Drop, D: Dialer<L>>(
 }
 
 /// How much time has passed since the first turn.
-fn passed_by(start: Option<u64>, now: u64) -> u64
+pub(crate) fn passed_by(start: Option<u64>, now: u64) -> u64
     ensures { result ≡ passed_by start now }
 {
     now.saturating_sub(start.unwrap_or(now))
@@ -395,16 +395,16 @@ pub fn node_turn<
 ) -> Result<(u64, &'a [Due]), Halt>
     ensures turns { IfOk result (λ r. Turn (GoesDrawing N.goes W.gives W.faults) L.talk r.0 start script.now r.1.now listens
         (at_rest node.old random.old)
-        (world_of set.old (dialling D.calls D.left D.faults dialer.old) (K.held sink.old)) (A.left acceptor.old)
+        (world_of set.old (dialling D.calls D.left D.faults dialer.old) (K.held sink.old)) (admitting A.left A.waits acceptor.old)
         (at_rest node.new random.new)
-        (world_of set.new (dialling D.calls D.left D.faults dialer.new) (K.held sink.new)) (A.left acceptor.new)) }
+        (world_of set.new (dialling D.calls D.left D.faults dialer.new) (K.held sink.new)) (admitting A.left A.waits acceptor.new)) }
 
     // Where it ends by a fault, its parts went through in this order, up to the one in which it stopped.
     ensures stops { OnErr result ((t : ℕ) × Grows (C.readings clock.old) (C.readings clock.new) (t ∷ []) × (t < 2 ^ 62)
         × (C.newest clock.old ≤ t) × TurnStops (GoesDrawing N.goes W.gives W.faults) L.talk t start script.now listens
         (at_rest node.old random.old)
-        (world_of set.old (dialling D.calls D.left D.faults dialer.old) (K.held sink.old)) (A.left acceptor.old)
-        (world_of set.new (dialling D.calls D.left D.faults dialer.new) (K.held sink.new)) (A.left acceptor.new)) }
+        (world_of set.old (dialling D.calls D.left D.faults dialer.old) (K.held sink.old)) (admitting A.left A.waits acceptor.old)
+        (world_of set.new (dialling D.calls D.left D.faults dialer.new) (K.held sink.new)) (admitting A.left A.waits acceptor.new)) }
     ensures reading { IfOk result (λ r. Grows (C.readings clock.old) (C.readings clock.new) (r.0 ∷ [])) }
     ensures below { IfOk result (λ r. r.0 < 2 ^ 62) }
 

@@ -1,9 +1,10 @@
 -- A turn of a node to which no link comes.
 use Rattle.std.proofs.Common.{◌≡◌, ◌≤◌, ℕ, zero, suc, Bool, true, false, ◌&&◌, inl, inr, List, [], ◌∷◌, ◌++◌, length, fold, Option, Some, None, Ok, is_some, refl, ap, sym, ◌∙◌, subst, arith, one-add, le-leb}
 use borrow.Author.Tests.{lt-leb}
-use Rattle.std.specs.Prelude.{map, not}
+use Rattle.std.specs.Prelude.{map, filter, not}
 use Rattle.std.specs.List.{list_all, list_any}
 use Rattle.std.proofs.lemmas.List.{length-map}
+use Rattle.std.proofs.lemmas.List.Filters.{length-filter_both}
 use Rattle.std.proofs.lemmas.List.Folds.{list_all-append}
 use Rattle.std.proofs.lemmas.Option.{same_Some}
 use Rattle.bsc_edge.specs.declared.arrived.Arrived.TheVariants.{Link, Quiet as NoLink}
@@ -18,18 +19,16 @@ use Rattle.bsc_node.specs.declared.action.Action.{Action}
 use Rattle.bsc_node.specs.declared.action.Action.TheVariants.{Close}
 use Rattle.bsc_node.specs.Logs.{Made, Log}
 use Rattle.bsc_node.specs.Node.{goes_on, actions_at}
-use Rattle.bsc_node.proofs.Following.{is_came}
+use Rattle.bsc_node.proofs.Following.{is_came, and_left, and_right}
 use Rattle.bsc_node_run.specs.declared.due.Due.{Due}
 use Rattle.bsc_node_run.specs.declared.news.News.{News}
 use Rattle.bsc_node_run.specs.Requests.{is_asked}
-use Rattle.bsc_node_run.specs.Worlds.{Dialling, World, Same, is_of, is_open, begun}
+use Rattle.bsc_node_run.specs.Worlds.{Admitting, Dialling, World, Same, is_of, is_open, begun}
 use Rattle.bsc_node_run.specs.Turning.{Gives, GivesNews, GivesLines, HearsIf, HearsEach, Admits, Starts, Turn, AreDue, IsNotDue, event_of, names as all_names, passed_by}
 use Rattle.bsc_node_runs.specs.Courses.{Goes}
 use Rattle.bsc_node_runs.specs.Alone.{Alone, after_action, told, told_oldest, told_failed, turn, due_by, not_due_by}
 use Rattle.bsc_node_runs.proofs.AloneBack.{LeadsTo, StillLeft, gives_back, news_back, lines_back, each_back, admits_back}
 use Rattle.bsc_node_runs.proofs.AloneActing.{NoneComes, failure, Stands, stays, gives_stands}
-use Rattle.bsc_lemmas.proofs.Booleans.{and_left, and_right}
-use Rattle.bsc_lemmas.proofs.Lists.{filter_le}
 
 -- what comes first in a turn
 abbrev pub first_events : Option ℕ → List NodeEvent
@@ -54,6 +53,9 @@ not_due_rest passed [] (d ∷ rest) due next = rw (lt-leb d.at passed next) refl
 not_due_rest passed (d ∷ lines) rest (first, due) next = rw (le-leb d.at passed first) (not_due_rest passed lines rest due next)
 
 -- ---- dials that failed
+
+filter_le : {X : Type 0} (p : X → Bool) (xs : List X) → length (filter p xs) ≤ length xs
+filter_le p xs = (let k = length-filter_both p (λ x. not (p x)) (λ x. refl) xs in omega (arith, k))
 
 -- A close only shortens them.
 action_fewer : (s : Alone) (action : Action) → length (after_action s action).failed ≤ length s.failed
@@ -170,11 +172,11 @@ module _ {L : Type 0} (a : Made) (talk : L → Option (List Said)) (all : List D
       let same : length new ≡ length ls = ap length (same_Some new ls some) in
       absurd (omega (arith, more, same, few))
 
-  admits_stands : (links : List L) (b : Bool) (n m : Log) (w v : World L) (left left' : Option (List L)) (s : Alone) → Admits (Goes a) talk now b n w left m v left' → left ≡ Some links
-      → StillLeft links left' → Stands all n w s → Stands all m v s × (left' ≡ Some links)
-  admits_stands links false n m w v left left' s (e, same, k) is still h = (stays talk all n m w v s e same h, k ∙ is)
-  admits_stands links true n m w v left left' s (inl (e, same, k)) is still h = (stays talk all n m w v s e same h, none_arrived links left left' k is still)
-  admits_stands links true n m w v left left' s (inr (l, k, g)) is still h = absurd (one_arrived links l left left' k is still)
+  admits_stands : (links : List L) (b : Bool) (n m : Log) (w v : World L) (door door' : Admitting L) (s : Alone) → Admits (Goes a) talk now b n w door m v door' → door.left ≡ Some links
+      → StillLeft links door'.left → Stands all n w s → Stands all m v s × (door'.left ≡ Some links)
+  admits_stands links false n m w v door door' s (e, same, k) is still h = (stays talk all n m w v s e same h, ap (λ (d : Admitting L). d.left) k ∙ is)
+  admits_stands links true n m w v door door' s (waits, inl (e, same, k)) is still h = (stays talk all n m w v s e same h, none_arrived links door.left door'.left k is still)
+  admits_stands links true n m w v door door' s (waits, inr (l, k, g)) is still h = absurd (one_arrived links l door.left door'.left k is still)
 
   -- ---- a turn
 
@@ -189,9 +191,9 @@ module _ {L : Type 0} (a : Made) (talk : L → Option (List Said)) (all : List D
   }
 
   -- After a turn it is the node alone, at the same time and with the same lines.
-  pub record Turned (start : Option ℕ) (script rest : List Due) (links : List L) (m : Log) (v : World L) (left' : Option (List L)) (s : Alone) : Type 0 where
+  pub record Turned (start : Option ℕ) (script rest : List Due) (links : List L) (m : Log) (v : World L) (door' : Admitting L) (s : Alone) : Type 0 where
     pub stands : Stands all m v (turn a now (first_events start) (due_by (passed_by start now) script) s)
-    pub left : left' ≡ Some links
+    pub left : door'.left ≡ Some links
     pub goes_on : rest ≡ not_due_by (passed_by start now) script
     pub asked : all_asked rest ≡ true
 
@@ -203,11 +205,11 @@ module _ {L : Type 0} (a : Made) (talk : L → Option (List Said)) (all : List D
       (gives_stands talk all a now Start n n1 w w1 s refl g (gives_back (Goes a) talk all now Tick n1 m w1 v t later) h)
   ticks_stand (Some start) n n1 m w w1 v s (e, same) t later h = gives_stands talk all a now Tick n1 m w1 v s refl t later (stays talk all n n1 w w1 s e same h)
 
-  pub turn_stands : (start : Option ℕ) (script rest : List Due) (listens : Bool) (n m : Log) (w v : World L) (left left' : Option (List L)) (links : List L) (s : Alone)
-      → all_asked script ≡ true → Turn (Goes a) talk now start script rest listens n w left m v left' → LeadsTo all v.dialled.calls
-      → left ≡ Some links → StillLeft links left' → Stands all n w s → Turned start script rest links m v left' s
-  turn_stands start script rest listens n m w v left left' links s asked t later is still h =
-      let before5 = admits_back (Goes a) talk all now listens t.n5 m t.w5 v left left' t.admits later in
+  pub turn_stands : (start : Option ℕ) (script rest : List Due) (listens : Bool) (n m : Log) (w v : World L) (door door' : Admitting L) (links : List L) (s : Alone)
+      → all_asked script ≡ true → Turn (Goes a) talk now start script rest listens n w door m v door' → LeadsTo all v.dialled.calls
+      → door.left ≡ Some links → StillLeft links door'.left → Stands all n w s → Turned start script rest links m v door' s
+  turn_stands start script rest listens n m w v door door' links s asked t later is still h =
+      let before5 = admits_back (Goes a) talk all now listens t.n5 m t.w5 v door door' t.admits later in
       let before4 = each_back (Goes a) talk all now all_names t.n4 t.n5 t.w4 t.w5 t.heard before5 in
       let before3 = lines_back (Goes a) talk all now t.lines t.n3 t.n4 t.w3 t.w4 t.given before4 in
       let before2 = news_back (Goes a) talk all now t.news t.n2 t.n3 t.w2 t.w3 t.told before3 in
@@ -221,7 +223,7 @@ module _ {L : Type 0} (a : Made) (talk : L → Option (List Said)) (all : List D
       let at4 : Stands all t.n4 t.w4 (fold (told a now) failed (map (λ (d : Due). d.event) t.lines)) =
       lines_stand t.lines t.n3 t.n4 t.w3 t.w4 failed (and_left (all_asked t.lines) (all_asked rest) both_asked) t.given before4 at3 in
       let at5 = each_stands all_names t.n4 t.n5 t.w4 t.w5 (fold (told a now) failed (map (λ (d : Due). d.event) t.lines)) t.heard at4 in
-      let last = admits_stands links listens t.n5 m t.w5 v left left' (fold (told a now) failed (map (λ (d : Due). d.event) t.lines)) t.admits is still at5 in
+      let last = admits_stands links listens t.n5 m t.w5 v door door' (fold (told a now) failed (map (λ (d : Due). d.event) t.lines)) t.admits is still at5 in
       let passed : ℕ = passed_by start now in
       record {
         stands = subst (λ (lines : List Due). Stands all m v (turn a now (first_events start) lines s)) (sym (ap (due_by passed) t.parts ∙ due_first passed t.lines rest t.due t.next)) last.0;

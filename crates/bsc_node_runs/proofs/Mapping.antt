@@ -15,7 +15,7 @@ use Rattle.bsc_node_run.specs.declared.run_end.RunEnd.{RunEnd}
 use Rattle.bsc_node_run.specs.Running.{Run, Turns}
 use Rattle.bsc_node_run.specs.Turning.{Admits, Answers, Gives, GivesIn, GivesLines, GivesNews, HearsEach, HearsIf, HearsOf, Starts, Turn}
 use Rattle.bsc_node_run.specs.Turning.{draws, event_of, names}
-use Rattle.bsc_node_run.specs.Worlds.{Dialling, World, ends, is_open, with_link}
+use Rattle.bsc_node_run.specs.Worlds.{Admitting, Dialling, World, ends, is_open, with_link}
 
 -- Each step of the one is a step of the other, between what it is seen as.
 abbrev pub Maps : {N P : Type 0} → (N → ℕ → NodeEvent → List Action → N → Type 0) → (P → ℕ → NodeEvent → List Action → P → Type 0) → (N → P) → Type 0
@@ -58,19 +58,19 @@ module _ {N P L : Type 0} (goes : N → ℕ → NodeEvent → List Action → N 
   each_map [] n m w v (is, same) = (ap f is, same)
   each_map (name ∷ links) n m w v (p, x, g, k) = (f p, x, hears_map name (is_open name w) n p w x g, each_map links p m x v k)
 
-  pub admits_map : (listens : Bool) (n m : N) (w v : World L) (left left' : Option (List L))
-      → Admits goes talk t listens n w left m v left' → Admits goes' talk t listens (f n) w left (f m) v left'
-  admits_map false n m w v left left' (is, same, stays) = (ap f is, same, stays)
-  admits_map true n m w v left left' (inl (is, same, none)) = inl (ap f is, same, none)
-  admits_map true n m w v left left' (inr (l, one, g)) = inr (l, one, gives_map Arrived n m (record w { arrived = Some l }) v g)
+  pub admits_map : (listens : Bool) (n m : N) (w v : World L) (door door' : Admitting L)
+      → Admits goes talk t listens n w door m v door' → Admits goes' talk t listens (f n) w door (f m) v door'
+  admits_map false n m w v door door' (is, same, stays) = (ap f is, same, stays)
+  admits_map true n m w v door door' (waits, inl (is, same, none)) = (waits, inl (ap f is, same, none))
+  admits_map true n m w v door door' (waits, inr (l, one, g)) = (waits, inr (l, one, gives_map Arrived n m (record w { arrived = Some l }) v g))
 
   pub starts_map : (start : Option ℕ) (n m : N) (w v : World L) → Starts goes talk t start n w m v → Starts goes' talk t start (f n) w (f m) v
   starts_map None n m w v g = gives_map Start n m w v g
   starts_map (Some start) n m w v (is, same) = (ap f is, same)
 
-  pub turn_map : (start : Option ℕ) (script rest : List Due) (listens : Bool) (n m : N) (w v : World L) (left left' : Option (List L))
-      → Turn goes talk t start script rest listens n w left m v left' → Turn goes' talk t start script rest listens (f n) w left (f m) v left'
-  turn_map start script rest listens n m w v left left' r = record {
+  pub turn_map : (start : Option ℕ) (script rest : List Due) (listens : Bool) (n m : N) (w v : World L) (door door' : Admitting L)
+      → Turn goes talk t start script rest listens n w door m v door' → Turn goes' talk t start script rest listens (f n) w door (f m) v door'
+  turn_map start script rest listens n m w v door door' r = record {
     news = r.news;
     lines = r.lines;
     w0 = r.w0;
@@ -93,25 +93,25 @@ module _ {N P L : Type 0} (goes : N → ℕ → NodeEvent → List Action → N 
     next = r.next;
     given = lines_map r.lines r.n3 r.n4 r.w3 r.w4 r.given;
     heard = each_map names r.n4 r.n5 r.w4 r.w5 r.heard;
-    admits = admits_map listens r.n5 m r.w5 v left left' r.admits;
+    admits = admits_map listens r.n5 m r.w5 v door door' r.admits;
   }
 
 module _ {N P L : Type 0} (goes : N → ℕ → NodeEvent → List Action → N → Type 0) (goes' : P → ℕ → NodeEvent → List Action → P → Type 0) (f : N → P)
     (step : Maps goes goes' f) (talk : L → Option (List Said)) (listens : Bool) where
-  pub turns_map : (times : List ℕ) (start : Option ℕ) (script : List Due) (n m : N) (w v : World L) (left left' : Option (List L))
-      → Turns goes talk listens times start script n w left m v left' → Turns goes' talk listens times start script (f n) w left (f m) v left'
-  turns_map [] start script n m w v left left' (is, same, stays) = (ap f is, same, stays)
-  turns_map (now ∷ times) start script n m w v left left' (rest, p, x, mid, going, r, k) = (
+  pub turns_map : (times : List ℕ) (start : Option ℕ) (script : List Due) (n m : N) (w v : World L) (door door' : Admitting L)
+      → Turns goes talk listens times start script n w door m v door' → Turns goes' talk listens times start script (f n) w door (f m) v door'
+  turns_map [] start script n m w v door door' (is, same, stays) = (ap f is, same, stays)
+  turns_map (now ∷ times) start script n m w v door door' (rest, p, x, mid, going, r, k) = (
     rest,
     f p,
     x,
     mid,
     going,
-    turn_map goes goes' f step talk now start script rest listens n p w x left mid r,
-    turns_map times (Some (unwrap_or start now)) rest p m x v mid left' k,
+    turn_map goes goes' f step talk now start script rest listens n p w x door mid r,
+    turns_map times (Some (unwrap_or start now)) rest p m x v mid door' k,
   )
 
-  pub run_map : (end : RunEnd) (turns : ℕ) (script : List Due) (n m : N) (c c' : Dialling L) (b b' : Option (List ℕ)) (l l' : Option (List L)) (o o' : Option (List ℕ))
+  pub run_map : (end : RunEnd) (turns : ℕ) (script : List Due) (n m : N) (c c' : Dialling L) (b b' : Option (List ℕ)) (l l' : Admitting L) (o o' : Option (List ℕ))
       → Run goes talk listens end turns script n c b l o m c' b' l' o' → Run goes' talk listens end turns script (f n) c b l o (f m) c' b' l' o'
   run_map end turns script n m c c' b b' l l' o o' r = record {
     times = r.times;

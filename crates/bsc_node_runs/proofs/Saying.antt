@@ -31,11 +31,10 @@ use Rattle.bsc_node_run.specs.Lines.{delivered_line, note_line}
 use Rattle.bsc_node_run.specs.Performing.{Carries, Does, Closes, Puts, Refuses, Takes, after_dial, is_end}
 use Rattle.bsc_node_run.specs.Running.{Run, Turns, EndsSo}
 use Rattle.bsc_node_run.specs.Turning.{Admits, Answers, Gives, GivesIn, GivesLines, GivesNews, HearsEach, HearsIf, HearsOf, Starts, Turn, draws, event_of, names}
-use Rattle.bsc_node_run.specs.Worlds.{Dialling, World, Same, begun, ends, is_open, with_link}
+use Rattle.bsc_node_run.specs.Worlds.{Admitting, Dialling, World, Same, begun, ends, is_open, with_link}
+use Rattle.bsc_node_run.proofs.Runs.{grows_none, grows_then}
 use Rattle.bsc_node_runs.specs.Courses.{Goes}
 use Rattle.bsc_node_runs.specs.Said.{AreDialled, EndsAsTold, IsSaid, done_in, line_by, tells_end, uri_by}
-use Rattle.bsc_edge.proofs.Common.{grown as grows_then, grows-nil as grows_none}
-use Rattle.bsc_lemmas.proofs.Booleans.{or_false as or_none}
 
 -- ---- what is written and dialled between two moments
 
@@ -65,6 +64,10 @@ or_later true true r = refl
 or_later true false r = refl
 or_later false true r = refl
 or_later false false r = refl
+
+or_none : (p : Bool) → (p || false) ≡ p
+or_none true = refl
+or_none false = refl
 
 module _ {L : Type 0} where
   -- What these actions say was written and dialled, and that the node has ended was told by them or before.
@@ -197,46 +200,46 @@ module _ {L : Type 0} (a : Made) (talk : L → Option (List Said)) (now : ℕ) w
   each-between [] M w N v (e, s) = between-none M w N v e (still-same w v s)
   each-between (name ∷ all) M w N v (P, x, h, later) = between-then M w P x N v (hears-between name (is_open name w) M w P x h) (each-between all P x N v later)
 
-  admits-between : (listens : Bool) (M : Log) (w : World L) (left : Option (List L)) (N : Log) (v : World L) (left' : Option (List L))
-      → Admits (Goes a) talk now listens M w left N v left' → SaysBetween M w N v
-  admits-between false M w left N v left' (e, s, same) = between-none M w N v e (still-same w v s)
-  admits-between true M w left N v left' (inl (e, s, none)) = between-none M w N v e (still-same w v s)
-  admits-between true M w left N v left' (inr (l, leaves, g)) = gives-between Arrived M (record w { arrived = Some l }) N v g
+  admits-between : (listens : Bool) (M : Log) (w : World L) (door : Admitting L) (N : Log) (v : World L) (door' : Admitting L)
+      → Admits (Goes a) talk now listens M w door N v door' → SaysBetween M w N v
+  admits-between false M w door N v door' (e, s, same) = between-none M w N v e (still-same w v s)
+  admits-between true M w door N v door' (waits, inl (e, s, none)) = between-none M w N v e (still-same w v s)
+  admits-between true M w door N v door' (waits, inr (l, leaves, g)) = gives-between Arrived M (record w { arrived = Some l }) N v g
 
   starts-between : (start : Option ℕ) (M : Log) (w : World L) (N : Log) (v : World L) → Starts (Goes a) talk now start M w N v → SaysBetween M w N v
   starts-between None M w N v g = gives-between Start M w N v g
   starts-between (Some start) M w N v (e, s) = between-none M w N v e (still-same w v s)
 
-  turn-between : (start : Option ℕ) (script rest : List Due) (listens : Bool) (M : Log) (w : World L) (left : Option (List L)) (N : Log) (v : World L) (left' : Option (List L))
-      → Turn (Goes a) talk now start script rest listens M w left N v left' → SaysBetween M w N v
-  turn-between start script rest listens M w left N v left' t =
+  turn-between : (start : Option ℕ) (script rest : List Due) (listens : Bool) (M : Log) (w : World L) (door : Admitting L) (N : Log) (v : World L) (door' : Admitting L)
+      → Turn (Goes a) talk now start script rest listens M w door N v door' → SaysBetween M w N v
+  turn-between start script rest listens M w door N v door' t =
       between-from M w t.w0 N v (still-same (begun w) t.w0 t.begins)
       (between-then M t.w0 t.n1 t.w1 N v (starts-between start M t.w0 t.n1 t.w1 t.starts)
       (between-then t.n1 t.w1 t.n2 t.w2 N v (gives-between Tick t.n1 t.w1 t.n2 t.w2 t.ticks)
       (between-then t.n2 t.w2 t.n3 t.w3 N v (news-between t.news t.n2 t.w2 t.n3 t.w3 t.told)
       (between-then t.n3 t.w3 t.n4 t.w4 N v (lines-between t.lines t.n3 t.w3 t.n4 t.w4 t.given)
       (between-then t.n4 t.w4 t.n5 t.w5 N v (each-between names t.n4 t.w4 t.n5 t.w5 t.heard)
-      (admits-between listens t.n5 t.w5 left N v left' t.admits))))))
+      (admits-between listens t.n5 t.w5 door N v door' t.admits))))))
 
 -- ---- a run
 
 module _ {L : Type 0} (a : Made) (talk : L → Option (List Said)) (listens : Bool) where
-  turns-between : (times : List ℕ) (start : Option ℕ) (script : List Due) (M : Log) (w : World L) (left : Option (List L)) (N : Log) (v : World L) (left' : Option (List L))
-      → Turns (Goes a) talk listens times start script M w left N v left' → SaysBetween M w N v
-  turns-between [] start script M w left N v left' (e, s, same) = between-none M w N v e (still-same w v s)
-  turns-between (now ∷ times) start script M w left N v left' (rest, P, x, mid, going, t, later) =
-      between-then M w P x N v (turn-between a talk now start script rest listens M w left P x mid t)
-      (turns-between times (Some (unwrap_or start now)) rest P x mid N v left' later)
+  turns-between : (times : List ℕ) (start : Option ℕ) (script : List Due) (M : Log) (w : World L) (door : Admitting L) (N : Log) (v : World L) (door' : Admitting L)
+      → Turns (Goes a) talk listens times start script M w door N v door' → SaysBetween M w N v
+  turns-between [] start script M w door N v door' (e, s, same) = between-none M w N v e (still-same w v s)
+  turns-between (now ∷ times) start script M w door N v door' (rest, P, x, mid, going, t, later) =
+      between-then M w P x N v (turn-between a talk now start script rest listens M w door P x mid t)
+      (turns-between times (Some (unwrap_or start now)) rest P x mid N v door' later)
 
   -- What the whole log of a run says.
-  ran : (end : RunEnd) (turns : ℕ) (script : List Due) (c c' : Dialling L) (b b' : Option (List ℕ)) (l l' : Option (List L)) (t t' : Option (List ℕ)) (M : Log)
+  ran : (end : RunEnd) (turns : ℕ) (script : List Due) (c c' : Dialling L) (b b' : Option (List ℕ)) (l l' : Admitting L) (t t' : Option (List ℕ)) (M : Log)
       → (r : Run (Goes a) talk listens end turns script [] c b l t M c' b' l' t') → SaysIn (done_in M) r.first r.last
   ran end turns script c c' b b' l l' t t' M r =
       let s = turns-between r.times None script [] r.first l M r.last l' r.went in
       subst (λ (N : Log). SaysIn (done_in N) r.first r.last) (sym s.1) s.2
 
   -- What a run has written and dialled is what its node told, delivered and dialled, by its log.
-  pub said : (end : RunEnd) (turns : ℕ) (script : List Due) (c c' : Dialling L) (b b' : Option (List ℕ)) (l l' : Option (List L)) (t t' : Option (List ℕ)) (M : Log)
+  pub said : (end : RunEnd) (turns : ℕ) (script : List Due) (c c' : Dialling L) (b b' : Option (List ℕ)) (l l' : Admitting L) (t t' : Option (List ℕ)) (M : Log)
       → Run (Goes a) talk listens end turns script [] c b l t M c' b' l' t' → IsSaid M c.calls c'.calls b b'
   said end turns script c c' b b' l l' t t' M r =
       let s = ran end turns script c c' b b' l l' t t' M r in
@@ -246,7 +249,7 @@ module _ {L : Type 0} (a : Made) (talk : L → Option (List Said)) (listens : Bo
       }
 
   -- A run is finished where its node told that it has ended, and spent where it didn't.
-  pub ends_as_told : (end : RunEnd) (turns : ℕ) (script : List Due) (c c' : Dialling L) (b b' : Option (List ℕ)) (l l' : Option (List L)) (t t' : Option (List ℕ)) (M : Log)
+  pub ends_as_told : (end : RunEnd) (turns : ℕ) (script : List Due) (c c' : Dialling L) (b b' : Option (List ℕ)) (l l' : Admitting L) (t t' : Option (List ℕ)) (M : Log)
       → Run (Goes a) talk listens end turns script [] c b l t M c' b' l' t' → EndsAsTold end M
   ends_as_told end turns script c c' b b' l l' t t' M r = by end r.ends
     where

@@ -19,6 +19,7 @@ use Rattle.bsc_node.specs.Links.{is_over_by_event}
 use Rattle.bsc_node.specs.Node.{goes_on}
 use Rattle.bsc_node.specs.Conditions.{awaits_word, brings_word, fits, may_come}
 use Rattle.bsc_node.specs.Laws.{with_event}
+use Rattle.bsc_node.proofs.Following.{and_left, and_right}
 use Rattle.bsc_node_laws.specs.Links.{Brings}
 use Rattle.bsc_node_laws.proofs.Between.{Between}
 use Rattle.bsc_node_laws.proofs.Followed.{is_arrival}
@@ -30,14 +31,13 @@ use Rattle.bsc_node_run.specs.declared.news.News.{News}
 use Rattle.bsc_node_run.specs.Receiving.{WasGiven, left_by, told_of}
 use Rattle.bsc_node_run.specs.Requests.{is_asked}
 use Rattle.bsc_node_run.specs.Turning.{event_of, names, passed_by, AreDue, Gives, GivesIn, GivesNews, GivesLines, HearsOf, HearsIf, Hears, HearsEach, Admits, Starts, Turn}
-use Rattle.bsc_node_run.specs.Worlds.{World, Same, begun, ends, is_name, is_open, with_link}
+use Rattle.bsc_node_run.specs.Worlds.{Admitting, World, Same, begun, ends, is_name, is_open, with_link}
 use Rattle.bsc_node_runs.proofs.Agreeing.{Agrees}
 use Rattle.bsc_node_runs.proofs.Beside.{Both, beside, beside_same}
 use Rattle.bsc_node_runs.proofs.Same.{agrees-same}
 use Rattle.bsc_node_runs.proofs.News.{begun_keeps, news_may, news_keeps, event_keeps, hears_may, hears_keeps, lost_keeps, asked-ends}
 use Rattle.bsc_node_runs.proofs.Coming.{goes_keeps, admits_keeps}
-use Rattle.bsc_node_runs.proofs.Lifting.{at, is_plain, may_at, Holds, stood_same, Ready, ready_of, ready_plain, Steps, gives, gives_in, gives_due, gives_in_due}
-use Rattle.bsc_lemmas.proofs.Booleans.{and_left, and_right, if_no as no_word}
+use Rattle.bsc_node_runs.proofs.Lifting.{at, is_plain, may_at, no_word, Holds, stood_same, Ready, ready_of, ready_plain, Steps, gives, gives_in, gives_due, gives_in_due}
 
 -- ---- what the events of a turn are
 
@@ -278,13 +278,13 @@ module _ {N L : Type 0} (goes : N → ℕ → NodeEvent → List Action → N �
       b : Brings a M (at t Arrived) Arrived × Between a (M ++ goes_on a (at t Arrived) M)
       b = brings a M (at t Arrived) h.0.between may
 
-  admitted : (listens : Bool) (n m : N) (w v : World L) (left left' : Option (List L)) (M : Log) → Held n w M → w.due ≡ [] → Admits goes talk t listens n w left m v left'
-      → (K : Log) × Admits (Both goes a) talk t listens (beside n M) w left (beside m K) v left' × Held m v K × (v.due ≡ [])
-  admitted false n m w v left left' M h none (is, same, leaves) = (M, (beside_same n m M is, same, leaves), held_same n m w v M is same h, same.due ∙ none)
-  admitted true n m w v left left' M h none (inl (is, same, leaves)) = (M, inl (beside_same n m M is, same, leaves), held_same n m w v M is same h, same.due ∙ none)
-  admitted true n m w v left left' M h none (inr (l, leaves, g)) =
+  admitted : (listens : Bool) (n m : N) (w v : World L) (door door' : Admitting L) (M : Log) → Held n w M → w.due ≡ [] → Admits goes talk t listens n w door m v door'
+      → (K : Log) × Admits (Both goes a) talk t listens (beside n M) w door (beside m K) v door' × Held m v K × (v.due ≡ [])
+  admitted false n m w v door door' M h none (is, same, leaves) = (M, (beside_same n m M is, same, leaves), held_same n m w v M is same h, same.due ∙ none)
+  admitted true n m w v door door' M h none (waits, inl (is, same, leaves)) = (M, (waits, inl (beside_same n m M is, same, leaves)), held_same n m w v M is same h, same.due ∙ none)
+  admitted true n m w v door door' M h none (waits, inr (l, leaves, g)) =
       let q = gives goes talk a Stands steps t below P n m (record w { arrived = Some l }) v M Arrived (ready_arrived n w l M h) g in
-      (q.0, inr (l, leaves, q.1), q.2, gives_due goes talk t Arrived n m (record w { arrived = Some l }) v g none)
+      (q.0, (waits, inr (l, leaves, q.1)), q.2, gives_due goes talk t Arrived n m (record w { arrived = Some l }) v g none)
 
   -- ---- a turn
 
@@ -328,12 +328,12 @@ module _ {N L : Type 0} (goes : N → ℕ → NodeEvent → List Action → N �
   ready_tick n w M h = ready_between n w w M Tick h refl refl refl (event_keeps w M (at t Tick) (λ name. refl) h.0.agrees) (λ no. cc)
 
   -- A turn whose start is lifted is lifted whole.
-  pub turn : (start : Option ℕ) (script rest : List Due) (listens : Bool) (n m : N) (w v : World L) (left left' : Option (List L)) (M : Log)
+  pub turn : (start : Option ℕ) (script rest : List Due) (listens : Bool) (n m : N) (w v : World L) (door door' : Admitting L) (M : Log)
       → ((p : N) (x y : World L) → Same x (begun w) → Starts goes talk t start n x p y → (K : Log) × Starts (Both goes a) talk t start (beside n M) x (beside p K) y × Held p y K)
       → list_all asks script ≡ true → ((d : Due) → Contains script d → d.event ≡ Finish → d.at ≤ passed_by start t → P)
-      → Turn goes talk t start script rest listens n w left m v left'
-      → (K : Log) × Turn (Both goes a) talk t start script rest listens (beside n M) w left (beside m K) v left' × Held m v K × (v.due ≡ [])
-  turn start script rest listens n m w v left left' M first asked over g = (
+      → Turn goes talk t start script rest listens n w door m v door'
+      → (K : Log) × Turn (Both goes a) talk t start script rest listens (beside n M) w door (beside m K) v door' × Held m v K × (v.due ≡ [])
+  turn start script rest listens n m w v door door' M first asked over g = (
     q6.0,
     record {
       news = g.news;
@@ -384,5 +384,5 @@ module _ {N L : Type 0} (goes : N → ℕ → NodeEvent → List Action → N �
       q5 : (K : Log) × HearsEach (Both goes a) talk t names (beside g.n4 q4.0) g.w4 (beside g.n5 K) g.w5 × Held g.n5 g.w5 K × (g.w5.due ≡ [])
       q5 = heard_each names g.n4 g.n5 g.w4 g.w5 q4.0 refl q4.2 q4.3 g.heard
 
-      q6 : (K : Log) × Admits (Both goes a) talk t listens (beside g.n5 q5.0) g.w5 left (beside m K) v left' × Held m v K × (v.due ≡ [])
-      q6 = admitted listens g.n5 m g.w5 v left left' q5.0 q5.2 q5.3 g.admits
+      q6 : (K : Log) × Admits (Both goes a) talk t listens (beside g.n5 q5.0) g.w5 door (beside m K) v door' × Held m v K × (v.due ≡ [])
+      q6 = admitted listens g.n5 m g.w5 v door door' q5.0 q5.2 q5.3 g.admits

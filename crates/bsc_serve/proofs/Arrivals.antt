@@ -1,47 +1,73 @@
--- Lists of arrivals, and of what is told, with one more.
+-- Lists of what happened, and of what is told, with one more.
 use Rattle.std.proofs.Common.{inl, inr, ◌≡◌, ℕ, ◌+◌, ◌≤◌, List, [], ◌∷◌, ◌++◌, length, Option, Some, None, Ok, Err, refl, ap, sym, ◌∙◌, subst, arith, append_assoc, append-nil}
+use Rattle.std.specs.Prelude.{replicate}
+use Rattle.std.proofs.lemmas.List.{replicate_more}
 use Rattle.bsc_turn.specs.declared.pass.Pass.{Pass}
 use Rattle.bsc_turn.specs.declared.view.Ended.{Ended as EndedCaller}
+use Rattle.bsc_turn.specs.Effects.{ended_of}
 use Rattle.bsc_turn.specs.Histories.{StartsWith}
-use Rattle.bsc_turn.specs.Passes.{newest_number, seen}
+use Rattle.bsc_turn.specs.Passes.{newest_number, seen, view_of}
 use Rattle.bsc_hub.specs.declared.hub.Hub.{Hub}
 use Rattle.bsc_hub.proofs.Following.{starts_then}
 use Rattle.bsc_edge.specs.declared.arrived.Arrived.{Arrived}
 use Rattle.bsc_edge.specs.declared.arrived.Arrived.TheVariants.{Link, Quiet}
 use Rattle.bsc_edge.specs.declared.fault.LinkFault.{LinkFault}
 use Rattle.bsc_edge.specs.Told.{Grows, Leaves, Stays}
-use Rattle.bsc_session.specs.declared.limits.SessionLimits.{SessionLimits}
 use Rattle.bsc_session.specs.declared.job.SessionJob.{SessionJob}
-use Rattle.bsc_serve.specs.Fates.{AreFates, Arrival, Fate, IsFate, IsSplitIn, caller_in, callers_of, job_in, jobs_of, links_of, returned, spent, started, unstarted_in, unstarted_of}
-use Rattle.bsc_serve.specs.Inner.{limit_of}
+use Rattle.bsc_session.specs.declared.session_end.SessionEnd.{SessionEnd}
+use Rattle.bsc_serve.specs.Events.{AreFates, Event, OutAfter, arrived, callers_of, ended, jobs_of, links_of, returned_of, unstarted_of}
+use Rattle.bsc_serve.specs.Fates.{Fate, IsFate, IsSplitIn, caller_in, job_in, returned, spent, started, unstarted_in}
+use Rattle.bsc_serve.specs.Inner.{AllEnded, limit_of}
 use Rattle.bsc_serve.specs.Serving.{Loses, RoseBy}
+use Rattle.bsc_serve.specs.declared.terms.ServeTerms.{ServeTerms}
 
 few_in : {J : Type 0} → (f : Fate J) → unstarted_in f ≤ 1
 few_in (started j) = omega arith
 few_in (returned e) = omega arith
 few_in spent = omega arith
 
-module _ {L J : Type 0} where
-  pub links-more : (more : List (Arrival L J)) (a : Arrival L J) → links_of (more ++ a ∷ []) ≡ links_of more ++ a.link ∷ []
-  links-more [] a = refl
-  links-more (x ∷ more) a = ap (λ (l : List L). x.link ∷ l) (links-more more a)
+module _ {L C : Type 0} where
+  pub links-append : (more last : List (Event L C)) → links_of (more ++ last) ≡ links_of more ++ links_of last
+  links-append [] last = refl
+  links-append (arrived l f ∷ more) last = ap (λ (k : List L). l ∷ k) (links-append more last)
+  links-append (ended j d ∷ more) last = links-append more last
 
-  pub jobs-more : (more : List (Arrival L J)) (a : Arrival L J) → jobs_of (more ++ a ∷ []) ≡ jobs_of more ++ job_in a.fate
-  jobs-more [] a = append-nil (job_in a.fate)
-  jobs-more (x ∷ more) a = ap (λ (l : List J). job_in x.fate ++ l) (jobs-more more a) ∙ sym (append_assoc (job_in x.fate) (jobs_of more) (job_in a.fate))
+  pub jobs-append : (more last : List (Event L C)) → jobs_of (more ++ last) ≡ jobs_of more ++ jobs_of last
+  jobs-append [] last = refl
+  jobs-append (arrived l f ∷ more) last = ap (λ (k : List (SessionJob L C)). job_in f ++ k) (jobs-append more last) ∙ sym (append_assoc (job_in f) (jobs_of more) (jobs_of last))
+  jobs-append (ended j d ∷ more) last = jobs-append more last
 
-  pub callers-more : (more : List (Arrival L J)) (a : Arrival L J) → callers_of (more ++ a ∷ []) ≡ callers_of more ++ caller_in a.fate
-  callers-more [] a = append-nil (caller_in a.fate)
-  callers-more (x ∷ more) a = ap (λ (l : List EndedCaller). caller_in x.fate ++ l) (callers-more more a) ∙ sym (append_assoc (caller_in x.fate) (callers_of more) (caller_in a.fate))
+  pub callers-append : (more last : List (Event L C)) → callers_of (more ++ last) ≡ callers_of more ++ callers_of last
+  callers-append [] last = refl
+  callers-append (arrived l f ∷ more) last = ap (λ (k : List EndedCaller). caller_in f ++ k) (callers-append more last) ∙ sym (append_assoc (caller_in f) (callers_of more) (callers_of last))
+  callers-append (ended j d ∷ more) last = ap (λ (k : List EndedCaller). ended_of (view_of d.pass) ∷ k) (callers-append more last)
 
-  pub unstarted-more : (more : List (Arrival L J)) (a : Arrival L J) → unstarted_of (more ++ a ∷ []) ≡ unstarted_of more + unstarted_in a.fate
-  unstarted-more [] a = omega arith
-  unstarted-more (x ∷ more) a = (let k = unstarted-more more a in omega (arith, k))
+  pub returned-append : (more last : List (Event L C)) → returned_of (more ++ last) ≡ returned_of more + returned_of last
+  returned-append [] last = omega arith
+  returned-append (arrived l f ∷ more) last = (let k = returned-append more last in omega (arith, k))
+  returned-append (ended j d ∷ more) last = returned-append more last
+
+  pub unstarted-append : (more last : List (Event L C)) → unstarted_of (more ++ last) ≡ unstarted_of more + unstarted_of last
+  unstarted-append [] last = omega arith
+  unstarted-append (arrived l f ∷ more) last = (let k = unstarted-append more last in omega (arith, k))
+  unstarted-append (ended j d ∷ more) last = unstarted-append more last
 
   -- no more links have no job than there are
-  pub few_unstarted : (more : List (Arrival L J)) → unstarted_of more ≤ length more
+  pub few_unstarted : (more : List (Event L C)) → unstarted_of more ≤ length (links_of more)
   few_unstarted [] = omega arith
-  few_unstarted (x ∷ more) = (let k = few_unstarted more in let f = few_in x.fate in omega (arith, k, f))
+  few_unstarted (arrived l f ∷ more) = (let k = few_unstarted more in let n = few_in f in omega (arith, k, n))
+  few_unstarted (ended j d ∷ more) = few_unstarted more
+
+  pub all_ended_then : (h : Hub) (more last : List (Event L C)) → AllEnded h more → AllEnded h last → AllEnded h (more ++ last)
+  all_ended_then h [] last a b = b
+  all_ended_then h (arrived l f ∷ more) last a b = all_ended_then h more last a b
+  all_ended_then h (ended j d ∷ more) last a b = (a.0, all_ended_then h more last a.1 b)
+
+module _ {L C : Type 0} (works : SessionJob L C → SessionEnd → Type 0) where
+  pub out_then : (out mid still : List (SessionJob L C)) (more last : List (Event L C)) → OutAfter works out more mid → OutAfter works mid last still → OutAfter works out (more ++ last) still
+  out_then out mid still [] last a b = subst (λ (o : List (SessionJob L C)). OutAfter works o last still) a b
+  out_then out mid still (arrived l f ∷ more) last a b = out_then (out ++ job_in f) mid still more last a b
+  out_then out mid still (ended j d ∷ more) last a b = (a.0, a.1, a.2, a.3, out_then (a.0 ++ a.1) mid still more last a.4 b)
 
 module _ {A : Type 0} where
   pub grows_then : (old mid new : Option (List A)) (xs ys : List A) → Grows old mid xs → Grows mid new ys → Grows old new (xs ++ ys)
@@ -59,6 +85,12 @@ module _ {A : Type 0} where
   grows_still old None (Some n) xs a b = absurd b
   grows_still None (Some m) (Some n) xs a b = absurd a
   grows_still (Some o) (Some m) (Some n) xs a b = b ∙ a
+
+  pub grows_from : (old mid new : Option (List A)) (xs : List A) → Stays old mid → Grows mid new xs → Grows old new xs
+  grows_from old mid None xs a b = tt
+  grows_from old None (Some n) xs a b = absurd b
+  grows_from None (Some m) (Some n) xs a b = absurd a
+  grows_from (Some o) (Some m) (Some n) xs a b = b ∙ ap (λ (l : List A). l ++ xs) a
 
   pub loses_none : (old : Option (List A)) → Loses old old []
   loses_none None = tt
@@ -104,6 +136,10 @@ rose_then n k a b c (inl x) (inr y) = inr y
 rose_then n k a b c (inr x) (inl y) = inr (omega (arith, x, y))
 rose_then n k a b c (inr x) (inr y) = inr y
 
+-- an acceptor that was asked once more
+pub asks_once : (old mid new : Option (List ℕ)) (n : ℕ) → Grows old mid (replicate n 20) → Grows mid new (20 ∷ []) → Grows old new (replicate (n + 1) 20)
+asks_once old mid new n a b = subst (λ (l : List ℕ). Grows old new l) (replicate_more n 20) (grows_then old mid new (replicate n 20) (20 ∷ []) a b)
+
 pub rose_later : (n a b c : ℕ) → RoseBy n a b → b ≤ c → RoseBy n a c
 rose_later n a b c (inl x) y = inl (omega (arith, x, y))
 rose_later n a b c (inr x) y = inr (omega (arith, x, y))
@@ -123,16 +159,18 @@ split_later h p m q x begins is = record {
 }
 
 module _ {L C : Type 0} where
-  fate_later : (h : Hub) (limits : SessionLimits) (turns : ℕ) (p m q : Pass) (l : L) (f : Fate (SessionJob L C)) → StartsWith (seen q) (seen m) → SpentStays h m q → IsFate h limits turns p m l f → IsFate h limits turns p q l f
-  fate_later h limits turns p m q l (started j) begins stays is = record { link = is.link; hub = is.hub; pass = split_later h p m q j.pass begins is.pass; limits = is.limits; turns = is.turns; ended = is.ended }
-  fate_later h limits turns p m q l (returned e) begins stays is = is
-  fate_later h limits turns p m q l spent begins stays is = stays is
+  fate_later : (h : Hub) (terms : ServeTerms) (p m q : Pass) (l : L) (f : Fate (SessionJob L C)) → StartsWith (seen q) (seen m) → SpentStays h m q → IsFate h terms.limits terms.turns p m l f → IsFate h terms.limits terms.turns p q l f
+  fate_later h terms p m q l (started j) begins stays is = record { link = is.link; hub = is.hub; pass = split_later h p m q j.pass begins is.pass; limits = is.limits; turns = is.turns }
+  fate_later h terms p m q l (returned e) begins stays is = is
+  fate_later h terms p m q l spent begins stays is = stays is
 
   -- what became of links is so by what the pass has seen later
-  pub fates_later : (h : Hub) (limits : SessionLimits) (turns : ℕ) (p m q : Pass) (more : List (Arrival L (SessionJob L C))) → StartsWith (seen q) (seen m) → SpentStays h m q → AreFates h limits turns p m more → AreFates h limits turns p q more
-  fates_later h limits turns p m q [] begins stays are = tt
-  fates_later h limits turns p m q (a ∷ more) begins stays are = (fate_later h limits turns p m q a.link a.fate begins stays are.0, fates_later h limits turns p m q more begins stays are.1)
+  pub fates_later : (h : Hub) (terms : ServeTerms) (p m q : Pass) (more : List (Event L C)) → StartsWith (seen q) (seen m) → SpentStays h m q → AreFates h terms p m more → AreFates h terms p q more
+  fates_later h terms p m q [] begins stays are = tt
+  fates_later h terms p m q (arrived l f ∷ more) begins stays are = (fate_later h terms p m q l f begins stays are.0, fates_later h terms p m q more begins stays are.1)
+  fates_later h terms p m q (ended j d ∷ more) begins stays are = fates_later h terms p m q more begins stays are
 
-  pub fates_more : (h : Hub) (limits : SessionLimits) (turns : ℕ) (p q : Pass) (more : List (Arrival L (SessionJob L C))) (a : Arrival L (SessionJob L C)) → AreFates h limits turns p q more → IsFate h limits turns p q a.link a.fate → AreFates h limits turns p q (more ++ a ∷ [])
-  fates_more h limits turns p q [] a are is = (is, tt)
-  fates_more h limits turns p q (x ∷ more) a are is = (are.0, fates_more h limits turns p q more a are.1 is)
+  pub fates_then : (h : Hub) (terms : ServeTerms) (p q : Pass) (more last : List (Event L C)) → AreFates h terms p q more → AreFates h terms p q last → AreFates h terms p q (more ++ last)
+  fates_then h terms p q [] last a b = b
+  fates_then h terms p q (arrived l f ∷ more) last a b = (a.0, fates_then h terms p q more last a.1 b)
+  fates_then h terms p q (ended j d ∷ more) last a b = fates_then h terms p q more last a b

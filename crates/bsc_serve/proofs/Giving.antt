@@ -1,5 +1,5 @@
 -- A link gets its session, or doesn't.
-use Rattle.std.proofs.Common.{inl, inr, ◌≡◌, ℕ, List, [], ◌∷◌, Bool, true, false, Option, None, Ok, Err, refl, sym, ◌∙◌, subst, arith}
+use Rattle.std.proofs.Common.{inl, inr, ◌≡◌, ℕ, List, [], ◌∷◌, ◌++◌, Bool, true, false, None, Ok, Err, refl, sym, ◌∙◌, subst, arith, append-nil}
 use Rattle.std.specs.Prelude.{Result, ◌<◌}
 use Rattle.std.specs.Arc.{arc_value}
 use Rattle.bsc_outside.specs.Faults.{HasRisen}
@@ -20,7 +20,7 @@ use Rattle.bsc_session.specs.declared.limits.SessionLimits.{SessionLimits}
 use Rattle.bsc_serve.specs.declared.terms.ServeTerms.{ServeTerms}
 use Rattle.bsc_session.specs.declared.job.SessionJob.{SessionJob}
 use Rattle.bsc_serve.specs.Fates.{IsJobOf, IsSplitIn, returned, spent, started}
-use Rattle.bsc_serve.specs.Inner.{Draws, Fares, HandsOver, LacksRoom, SplitsOff, TakesBack, limit_of}
+use Rattle.bsc_serve.specs.Inner.{Draws, Fares, HandsOver, LacksRoom, SplitsOff, Stock, TakesBack, limit_of}
 use Rattle.bsc_serve.specs.Serving.{RoseBy}
 use Rattle.bsc_serve.proofs.Arrivals.{grows_none}
 
@@ -58,12 +58,13 @@ back h p m q x s t =
 
 module _ {L C : Type 0} where
   -- there was no number
-  pub fares_spent : (h : Hub) (terms : ServeTerms) (p q : Pass) (l : L) (j : Option (List (SessionJob L C))) (f : ℕ)
-      → Went h p 1 [] None q → newest_number q ≡ (about_of h).limits.callers → Fares h terms p q l j j f f (Ok false)
-  fares_spent h terms p q l j f went all = record {
+  pub fares_spent : (h : Hub) (terms : ServeTerms) (p q : Pass) (l : L) (s : Stock L C)
+      → Went h p 1 [] None q → newest_number q ≡ (about_of h).limits.callers → Fares h terms p q l s s (Ok false)
+  fares_spent h terms p q l s went all = record {
     fate = spent;
     is = all;
-    jobs = grows_none j;
+    jobs = grows_none s.jobs;
+    out = sym (append-nil s.out);
     went = went;
     draws = all;
     rose = inl (omega arith);
@@ -71,59 +72,62 @@ module _ {L C : Type 0} where
   }
 
   -- there was no memory to make a job
-  pub fares_unmade : (h : Hub) (p m q x : Pass) (j : Option (List (SessionJob L C))) (f : ℕ) → SplitsOff h p m x → TakesBack h m q x → LacksRoom {L = L} h p q j j f f
-  fares_unmade h p m q x j f s t = record {
+  pub fares_unmade : (h : Hub) (p m q x : Pass) (s : Stock L C) → SplitsOff h p m x → TakesBack h m q x → LacksRoom h p q s s
+  fares_unmade h p m q x s off t = record {
     caller = ended_of (view_of x);
-    unused = (s.own, s.fresh);
-    jobs = grows_none j;
-    went = back h p m q x s t;
-    draws = draws_back h p m q x s t.1;
+    unused = (off.own, off.fresh);
+    jobs = grows_none s.jobs;
+    out = refl;
+    went = back h p m q x off t;
+    draws = draws_back h p m q x off t.1;
     later = omega arith;
   }
 
-  started_so : (h : Hub) (v : SessionLimits) (n : ℕ) (p m x : Pass) (l : L) (job : SessionJob L C) → SplitsOff h p m x → job.link ≡ l → arc_value job.hub ≡ h → job.pass ≡ x → job.limits ≡ v → job.turns ≡ n → job.ended ≡ None → IsJobOf h v n p m l job
-  started_so h v n p m x l job s link hub pass limits turns ended = record {
+  started_so : (h : Hub) (v : SessionLimits) (n : ℕ) (p m x : Pass) (l : L) (job : SessionJob L C) → SplitsOff h p m x → job.link ≡ l → arc_value job.hub ≡ h → job.pass ≡ x → job.limits ≡ v → job.turns ≡ n → IsJobOf h v n p m l job
+  started_so h v n p m x l job s link hub pass limits turns = record {
     link = link;
     hub = hub;
     pass = subst (λ (y : Pass). IsSplitIn h p m y) (sym pass) (split_in h p m x s);
     limits = limits;
     turns = turns;
-    ended = ended;
   }
 
   -- a job was made and handed over
   pub fares_made : (h : Hub) (terms : ServeTerms) (p m q x : Pass) (l : L) (job : SessionJob L C)
-      (j j' : Option (List (SessionJob L C))) (f f' : ℕ) (r : Result Bool NoMemory) → SplitsOff h p m x → job.link ≡ l
-      → arc_value job.hub ≡ h → job.pass ≡ x → job.limits ≡ terms.limits → job.turns ≡ terms.turns → job.ended ≡ None
-      → HandsOver h m q job j j' f f' r → Fares h terms p q l j j' f f' r
-  fares_made h terms p m q x l job j j' f f' (Ok true) s link hub pass limits turns ended t = record {
+      (s s' : Stock L C) (r : Result Bool NoMemory) → SplitsOff h p m x → job.link ≡ l
+      → arc_value job.hub ≡ h → job.pass ≡ x → job.limits ≡ terms.limits → job.turns ≡ terms.turns
+      → HandsOver h m q job s s' r → Fares h terms p q l s s' r
+  fares_made h terms p m q x l job s s' (Ok true) off link hub pass limits turns t = record {
     fate = started job;
-    is = subst (λ (y : Pass). IsJobOf h terms.limits terms.turns p y l job) (sym t.2)
-        (started_so h terms.limits terms.turns p m x l job s link hub pass limits turns ended);
+    is = subst (λ (y : Pass). IsJobOf h terms.limits terms.turns p y l job) (sym t.3)
+        (started_so h terms.limits terms.turns p m x l job off link hub pass limits turns);
     jobs = t.0;
-    went = subst (λ (y : Pass). Went h p 1 [] None y) (sym t.2) s.went;
-    draws = subst (λ (y : Pass). Draws h p y) (sym t.2) (draws_now h p m x s);
-    rose = inl (let k = t.1 in omega (arith, k));
+    out = t.1;
+    went = subst (λ (y : Pass). Went h p 1 [] None y) (sym t.3) off.went;
+    draws = subst (λ (y : Pass). Draws h p y) (sym t.3) (draws_now h p m x off);
+    rose = inl (let k = t.2 in omega (arith, k));
     counts = refl;
   }
-  fares_made h terms p m q x l job j j' f f' (Ok false) s link hub pass limits turns ended t =
-      let b : TakesBack h m q x = subst (λ (y : Pass). TakesBack h m q y) pass t.2 in
+  fares_made h terms p m q x l job s s' (Ok false) off link hub pass limits turns t =
+      let b : TakesBack h m q x = subst (λ (y : Pass). TakesBack h m q y) pass t.3 in
       record {
         fate = returned (ended_of (view_of x));
-        is = (s.own, s.fresh);
+        is = (off.own, off.fresh);
         jobs = t.0;
-        went = back h p m q x s b;
-        draws = draws_back h p m q x s b.1;
-        rose = rose_one f f' t.1;
+        out = t.1 ∙ sym (append-nil s.out);
+        went = back h p m q x off b;
+        draws = draws_back h p m q x off b.1;
+        rose = rose_one s.unstarted s'.unstarted t.2;
         counts = refl;
       }
-  fares_made h terms p m q x l job j j' f f' (Err e) s link hub pass limits turns ended t =
-      let b : TakesBack h m q x = subst (λ (y : Pass). TakesBack h m q y) pass t.2 in
+  fares_made h terms p m q x l job s s' (Err e) off link hub pass limits turns t =
+      let b : TakesBack h m q x = subst (λ (y : Pass). TakesBack h m q y) pass t.3 in
       record {
         caller = ended_of (view_of x);
-        unused = (s.own, s.fresh);
+        unused = (off.own, off.fresh);
         jobs = t.0;
-        went = back h p m q x s b;
-        draws = draws_back h p m q x s b.1;
-        later = t.1;
+        out = t.1;
+        went = back h p m q x off b;
+        draws = draws_back h p m q x off b.1;
+        later = t.2;
       }

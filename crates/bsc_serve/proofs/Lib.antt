@@ -1,4 +1,5 @@
 mod Arrivals
 mod Giving
 mod Taking
+mod Sessions
 mod Ending

@@ -1,6 +1,7 @@
--- One link more in the loop that takes links.
+-- One link more in the loop that takes links, or one end of a session.
 use Rattle.std.proofs.Common.{inl, inr, ◌≡◌, ℕ, zero, suc, ◌+◌, ◌≤◌, List, [], ◌∷◌, ◌++◌, length, Bool, Option, Some, None, Ok, Err, refl, ap, sym, ◌∙◌, subst, arith, append-nil, length-append}
 use Rattle.std.specs.Prelude.{◌≢◌, ◌⊎◌}
+use Rattle.std.specs.Arc.{arc_value}
 use Rattle.bsc_turn.specs.declared.pass.Pass.{Pass}
 use Rattle.bsc_turn.specs.declared.view.Ended.{Ended as EndedCaller}
 use Rattle.bsc_turn.specs.Histories.{StartsWith}
@@ -15,14 +16,16 @@ use Rattle.bsc_session.specs.declared.limits.SessionLimits.{SessionLimits}
 use Rattle.bsc_serve.specs.declared.halt.Halt.{Halt}
 use Rattle.bsc_serve.specs.declared.halt.Halt.TheVariants.{NoMemory}
 use Rattle.bsc_session.specs.declared.job.SessionJob.{SessionJob}
-use Rattle.bsc_serve.specs.Fates.{Arrival, Fate, IsFate, IsSplitIn, caller_in, callers_of, job_in, jobs_of, links_of, returned, spent, started, unstarted_of}
+use Rattle.bsc_session.specs.declared.session_end.SessionEnd.{SessionEnd}
+use Rattle.bsc_serve.specs.Events.{Event, OutAfter, arrived, callers_of, jobs_of, links_of, returned_of, unstarted_of}
+use Rattle.bsc_serve.specs.Fates.{Fate, IsFate, IsSplitIn, caller_in, job_in, returned, spent, started}
 use Rattle.bsc_serve.specs.declared.tally.Tally.{Tally}
 use Rattle.bsc_serve.specs.declared.terms.ServeTerms.{ServeTerms}
-use Rattle.bsc_serve.specs.Inner.{Draws, DrawsFor, Fared, Halted, LacksRoom, Taken, limit_of}
+use Rattle.bsc_serve.specs.Inner.{AllOurs, Draws, DrawsFor, Fared, Halted, LacksRoom, Taken, limit_of, stock_of}
 use Rattle.bsc_serve.specs.Serving.{IsWithin, Loses, RoseBy}
 use Rattle.bsc_serve.specs.Tallies.{CountsUp, Remains, one_unless}
 use Rattle.bsc_serve.specs.Worlds.{ServeWorld}
-use Rattle.bsc_serve.proofs.Arrivals.{SpentStays, callers-more, fates_later, fates_more, grows_none, grows_then, jobs-more, links-more, loses_failed, loses_more, loses_none, loses_still, rose_later, rose_then, unstarted-more}
+use Rattle.bsc_serve.proofs.Arrivals.{SpentStays, all_ended_then, asks_once, callers-append, fates_later, fates_then, grows_none, grows_then, jobs-append, links-append, loses_failed, loses_more, loses_none, loses_still, out_then, returned-append, rose_later, rose_then, unstarted-append}
 
 -- a loop that began at p and stands at m has drawn no fewer numbers, or all
 abbrev HasDrawn : Hub → Pass → Pass → Type 0
@@ -76,20 +79,35 @@ within_now (Some s) n None r = absurd r
 within_now (Some s) n (Some k) r = omega (arith, r)
 
 module _ {L C : Type 0} where
-  fate_before : (h : Hub) (limits : SessionLimits) (turns : ℕ) (p m q : Pass) (l : L) (f : Fate (SessionJob L C)) → number_of m ≡ number_of p → StartsWith (seen m) (seen p) → HasDrawn h p m → DrawsFor h m q f → IsFate h limits turns m q l f → IsFate h limits turns p q l f
-  fate_before h limits turns p m q l (started j) number begins drawn d is = record { link = is.link; hub = is.hub; pass = split_before h p m q j.pass number begins (drawn_past h p m q drawn d) is.pass; limits = is.limits; turns = is.turns; ended = is.ended }
-  fate_before h limits turns p m q l (returned e) number begins drawn d is = is
-  fate_before h limits turns p m q l spent number begins drawn d is = is
+  fate_before : (h : Hub) (terms : ServeTerms) (p m q : Pass) (l : L) (f : Fate (SessionJob L C)) → number_of m ≡ number_of p → StartsWith (seen m) (seen p) → HasDrawn h p m → DrawsFor h m q f → IsFate h terms.limits terms.turns m q l f → IsFate h terms.limits terms.turns p q l f
+  fate_before h terms p m q l (started j) number begins drawn d is = record { link = is.link; hub = is.hub; pass = split_before h p m q j.pass number begins (drawn_past h p m q drawn d) is.pass; limits = is.limits; turns = is.turns }
+  fate_before h terms p m q l (returned e) number begins drawn d is = is
+  fate_before h terms p m q l spent number begins drawn d is = is
 
+  pub ours_then : (h : Hub) (xs ys : List (SessionJob L C)) → AllOurs h xs → AllOurs h ys → AllOurs h (xs ++ ys)
+  ours_then h [] ys a b = b
+  ours_then h (x ∷ xs) ys a b = (a.0, ours_then h xs ys a.1 b)
+
+  fate_ours : (h : Hub) (terms : ServeTerms) (p q : Pass) (l : L) (f : Fate (SessionJob L C)) → IsFate h terms.limits terms.turns p q l f → AllOurs h (job_in f)
+  fate_ours h terms p q l (started j) is = ((is.hub, is.pass.new.1), tt)
+  fate_ours h terms p q l (returned e) is = tt
+  fate_ours h terms p q l spent is = tt
+
+module _ {L C : Type 0} (works : SessionJob L C → SessionEnd → Type 0) where
   -- before the first link
   pub taken_begins : (h : Hub) (terms : ServeTerms) (w : ServeWorld L C) (tally : Tally) → IsCaller h w.pass
-      → tally.remaining ≡ terms.sessions → tally.unstarted ≡ 0 → Taken h terms w w tally
-  taken_begins h terms w tally is same none = record {
-    arrivals = [];
+      → w.out ≡ [] → tally.remaining ≡ terms.sessions → tally.unstarted ≡ 0 → Taken works h terms w w tally
+  taken_begins h terms w tally is all_in same none = record {
+    events = [];
     left = loses_none w.links;
+    asks = 0;
+    asked = grows_none w.waits;
     jobs = grows_none w.jobs;
     fates = tt;
     returned = inl (omega arith);
+    out = all_in;
+    ours = subst (λ (o : List (SessionJob L C)). AllOurs h o) (sym all_in) tt;
+    all_ended = tt;
     went = passed_none h w.pass is;
     drawn = inl (omega arith);
     remains = subst (λ x. Remains terms.sessions 0 x) (sym same) (begins_so terms.sessions);
@@ -97,14 +115,20 @@ module _ {L C : Type 0} where
   }
 
   -- none arrived
-  pub taken_still : (h : Hub) (terms : ServeTerms) (w m : ServeWorld L C) (links : Option (List L)) (tally : Tally)
-      → Taken h terms w m tally → Leaves m.links links (Ok Quiet) → Taken h terms w (record m { links = links }) tally
-  taken_still h terms w m links tally t lost = record {
-    arrivals = t.arrivals;
-    left = loses_still w.links m.links links (links_of t.arrivals) t.left lost;
+  pub taken_still : (h : Hub) (terms : ServeTerms) (w m : ServeWorld L C) (links : Option (List L)) (waits : Option (List ℕ))
+      (tally : Tally) → Taken works h terms w m tally → Leaves m.links links (Ok Quiet) → Grows m.waits waits (20 ∷ [])
+      → Taken works h terms w (record m { links = links; waits = waits }) tally
+  taken_still h terms w m links waits tally t lost asked = record {
+    events = t.events;
+    left = loses_still w.links m.links links (links_of t.events) t.left lost;
+    asks = t.asks + 1;
+    asked = asks_once w.waits m.waits waits t.asks t.asked asked;
     jobs = t.jobs;
     fates = t.fates;
     returned = t.returned;
+    out = t.out;
+    ours = t.ours;
+    all_ended = t.all_ended;
     went = t.went;
     drawn = t.drawn;
     remains = t.remains;
@@ -113,76 +137,96 @@ module _ {L C : Type 0} where
 
   -- one arrived, and this became of it
   pub taken_more : (h : Hub) (terms : ServeTerms) (w m v : ServeWorld L C) (tally tally' : Tally) (x : L) (is_started : Bool)
-      → Taken h terms w m tally → Leaves m.links v.links (Ok (Link x))
-      → Fared h terms m.pass v.pass x m.jobs v.jobs m.unstarted v.unstarted is_started
+      → Taken works h terms w m tally → Leaves m.links v.links (Ok (Link x)) → Grows m.waits v.waits (20 ∷ [])
+      → Fared h terms m.pass v.pass x (stock_of m) (stock_of v) is_started
       → ((s : Option ℕ) (n : ℕ) → Remains s n tally.remaining → Remains s (n + 1) tally'.remaining)
       → ((u : ℕ) → CountsUp tally.unstarted u → CountsUp tally'.unstarted (u + one_unless is_started))
-      → Taken h terms w v tally'
-  taken_more h terms w m v tally tally' x is_started t lost r counts_on counts_up =
+      → Taken works h terms w v tally'
+  taken_more h terms w m v tally tally' x is_started t lost asked r counts_on counts_up =
       let p = w.pass in
       let n = m.pass in
       let q = v.pass in
-      let a : Arrival L (SessionJob L C) = record { link = x; fate = r.fate } in
-      let more = t.arrivals in
-      let one : length (more ++ a ∷ []) ≡ length more + 1 = length-append more (a ∷ []) in
-      let callers : callers_of (more ++ a ∷ []) ≡ callers_of more ++ caller_in r.fate = callers-more more a in
-      let many : length (callers_of (more ++ a ∷ [])) ≡ length (callers_of more) + length (caller_in r.fate) =
-      ap (λ (xs : List EndedCaller). length xs) callers ∙ length-append (callers_of more) (caller_in r.fate) in
-      let unstarted_so : unstarted_of (more ++ a ∷ []) ≡ unstarted_of more + one_unless is_started =
-      unstarted-more more a ∙ ap (λ k. unstarted_of more + k) r.counts in
-      let went : Went h p (length more + 1) (callers_of more ++ caller_in r.fate) None q =
-      went_then h p n q (length more) 1 (callers_of more) (caller_in r.fate) None t.went r.went in
+      let a : List (Event L C) = arrived x r.fate ∷ [] in
+      let more = t.events in
+      let links : links_of (more ++ a) ≡ links_of more ++ x ∷ [] = links-append more a in
+      let one : length (links_of (more ++ a)) ≡ length (links_of more) + 1 =
+      ap (λ (xs : List L). length xs) links ∙ length-append (links_of more) (x ∷ []) in
+      let jobs : jobs_of (more ++ a) ≡ jobs_of more ++ job_in r.fate =
+      jobs-append more a ∙ ap (λ (xs : List (SessionJob L C)). jobs_of more ++ xs) (append-nil (job_in r.fate)) in
+      let callers : callers_of (more ++ a) ≡ callers_of more ++ caller_in r.fate =
+      callers-append more a ∙ ap (λ (xs : List EndedCaller). callers_of more ++ xs) (append-nil (caller_in r.fate)) in
+      let many : returned_of (more ++ a) ≡ returned_of more + length (caller_in r.fate) =
+      (let k = returned-append more a in omega (arith, k)) in
+      let unstarted_so : unstarted_of (more ++ a) ≡ unstarted_of more + one_unless is_started =
+      (let k = unstarted-append more a in let c = r.counts in omega (arith, k, c)) in
+      let went : Went h p (length (links_of more) + 1) (callers_of more ++ caller_in r.fate) None q =
+      went_then h p n q (length (links_of more)) 1 (callers_of more) (caller_in r.fate) None t.went r.went in
+      let is = fate_before h terms p n q x r.fate t.went.number t.went.grows t.drawn r.draws r.is in
       record {
-        arrivals = more ++ a ∷ [];
-        left = subst (λ xs. Loses w.links v.links xs) (sym (links-more more a))
-            (loses_more w.links m.links v.links (links_of more) x t.left lost);
-        jobs = subst (λ xs. Grows w.jobs v.jobs xs) (sym (jobs-more more a))
+        events = more ++ a;
+        left = subst (λ xs. Loses w.links v.links xs) (sym links) (loses_more w.links m.links v.links (links_of more) x t.left lost);
+        asks = t.asks + 1;
+        asked = asks_once w.waits m.waits v.waits t.asks t.asked asked;
+        jobs = subst (λ xs. Grows w.jobs v.jobs xs) (sym jobs)
             (grows_then w.jobs m.jobs v.jobs (jobs_of more) (job_in r.fate) t.jobs r.jobs);
-        fates = fates_more h terms.limits terms.turns p q more a
-            (fates_later h terms.limits terms.turns p n q more r.went.grows (spent_stays h n q r.fate r.draws) t.fates)
-            (fate_before h terms.limits terms.turns p n q x r.fate t.went.number t.went.grows t.drawn r.draws r.is);
+        fates = fates_then h terms p q more a
+            (fates_later h terms p n q more r.went.grows (spent_stays h n q r.fate r.draws) t.fates) (is, tt);
         returned = subst (λ k. RoseBy k w.unstarted v.unstarted) (sym many)
-            (rose_then (length (callers_of more)) (length (caller_in r.fate)) w.unstarted m.unstarted v.unstarted t.returned r.rose);
-        went = subst (λ k. Went h p k (callers_of (more ++ a ∷ [])) None q) (sym one)
-            (subst (λ xs. Went h p (length more + 1) xs None q) (sym callers) went);
+            (rose_then (returned_of more) (length (caller_in r.fate)) w.unstarted m.unstarted v.unstarted t.returned r.rose);
+        out = out_then works [] m.out v.out more a t.out r.out;
+        ours = subst (λ (o : List (SessionJob L C)). AllOurs h o) (sym r.out)
+            (ours_then h m.out (job_in r.fate) t.ours (fate_ours h terms n q x r.fate r.is));
+        all_ended = all_ended_then h more a t.all_ended tt;
+        went = subst (λ k. Went h p k (callers_of (more ++ a)) None q) (sym one)
+            (subst (λ xs. Went h p (length (links_of more) + 1) xs None q) (sym callers) went);
         drawn = drawn_later h p n q r.fate t.drawn r.draws;
-        remains = subst (λ k. Remains terms.sessions k tally'.remaining) (sym one) (counts_on terms.sessions (length more) t.remains);
+        remains = subst (λ k. Remains terms.sessions k tally'.remaining) (sym one)
+            (counts_on terms.sessions (length (links_of more)) t.remains);
         counted = subst (λ k. CountsUp tally'.unstarted k) (sym unstarted_so) (counts_up (unstarted_of more) t.counted);
       }
 
   -- the acceptor failed
-  pub halted_now : (h : Hub) (terms : ServeTerms) (w m : ServeWorld L C) (links : Option (List L)) (tally : Tally) (fault : LinkFault)
-      (halt : Halt) → Taken h terms w m tally → Leaves m.links links (Err fault) → Halted h terms w (record m { links = links }) halt
-  halted_now h terms w m links tally fault halt t lost =
-      let all : length t.arrivals ≡ length t.arrivals + 0 = omega arith in
+  pub halted_now : (h : Hub) (terms : ServeTerms) (w m : ServeWorld L C) (links : Option (List L)) (waits : Option (List ℕ))
+      (tally : Tally) (fault : LinkFault) (halt : Halt) → Taken works h terms w m tally → Leaves m.links links (Err fault)
+      → Grows m.waits waits (20 ∷ []) → Halted works h terms w (record m { links = links; waits = waits }) halt
+  halted_now h terms w m links waits tally fault halt t lost asked =
+      let all : length (links_of t.events) ≡ length (links_of t.events) + 0 = omega arith in
       record {
-        arrivals = t.arrivals;
+        events = t.events;
         cut = None;
         cut_last = tt;
-        left = subst (λ xs. Loses w.links links xs) (sym (append-nil (links_of t.arrivals)))
-            (loses_failed w.links m.links links (links_of t.arrivals) fault t.left lost);
-        within = within_now terms.sessions (length t.arrivals) tally.remaining t.remains;
+        left = subst (λ xs. Loses w.links links xs) (sym (append-nil (links_of t.events)))
+            (loses_failed w.links m.links links (links_of t.events) fault t.left lost);
+        within = within_now terms.sessions (length (links_of t.events)) tally.remaining t.remains;
+        asks = t.asks + 1;
+        asked = asks_once w.waits m.waits waits t.asks t.asked asked;
         jobs = t.jobs;
         fates = t.fates;
         returned = t.returned;
-        went = subst (λ k. Went h w.pass k (callers_of t.arrivals ++ []) None m.pass) all
-            (subst (λ xs. Went h w.pass (length t.arrivals) xs None m.pass) (sym (append-nil (callers_of t.arrivals))) t.went);
+        out = t.out;
+        all_ended = t.all_ended;
+        went = subst (λ k. Went h w.pass k (callers_of t.events ++ []) None m.pass) all
+            (subst (λ xs. Went h w.pass (length (links_of t.events)) xs None m.pass) (sym (append-nil (callers_of t.events))) t.went);
       }
 
   -- one arrived, for whose job there was no memory
   pub halted_cut : (h : Hub) (terms : ServeTerms) (w m v : ServeWorld L C) (tally : Tally) (x : L)
-      → Taken h terms w m tally → tally.remaining ≢ Some 0 → Leaves m.links v.links (Ok (Link x))
-      → LacksRoom h m.pass v.pass m.jobs v.jobs m.unstarted v.unstarted → Halted h terms w v NoMemory
-  halted_cut h terms w m v tally x t more_come lost r = record {
-    arrivals = t.arrivals;
+      → Taken works h terms w m tally → tally.remaining ≢ Some 0 → Leaves m.links v.links (Ok (Link x))
+      → Grows m.waits v.waits (20 ∷ []) → LacksRoom h m.pass v.pass (stock_of m) (stock_of v)
+      → Halted works h terms w v NoMemory
+  halted_cut h terms w m v tally x t more_come lost asked r = record {
+    events = t.events;
     cut = Some (record { link = x; caller = r.caller });
     cut_last = (refl, r.unused);
-    left = loses_more w.links m.links v.links (links_of t.arrivals) x t.left lost;
-    within = within_more terms.sessions (length t.arrivals) tally.remaining more_come t.remains;
-    jobs = subst (λ xs. Grows w.jobs v.jobs xs) (append-nil (jobs_of t.arrivals))
-        (grows_then w.jobs m.jobs v.jobs (jobs_of t.arrivals) [] t.jobs r.jobs);
-    fates = fates_later h terms.limits terms.turns w.pass m.pass v.pass t.arrivals r.went.grows
-        (stays_draws h m.pass v.pass r.draws) t.fates;
-    returned = rose_later (length (callers_of t.arrivals)) w.unstarted m.unstarted v.unstarted t.returned r.later;
-    went = went_then h w.pass m.pass v.pass (length t.arrivals) 1 (callers_of t.arrivals) (r.caller ∷ []) None t.went r.went;
+    left = loses_more w.links m.links v.links (links_of t.events) x t.left lost;
+    within = within_more terms.sessions (length (links_of t.events)) tally.remaining more_come t.remains;
+    asks = t.asks + 1;
+    asked = asks_once w.waits m.waits v.waits t.asks t.asked asked;
+    jobs = subst (λ xs. Grows w.jobs v.jobs xs) (append-nil (jobs_of t.events))
+        (grows_then w.jobs m.jobs v.jobs (jobs_of t.events) [] t.jobs r.jobs);
+    fates = fates_later h terms w.pass m.pass v.pass t.events r.went.grows (stays_draws h m.pass v.pass r.draws) t.fates;
+    returned = rose_later (returned_of t.events) w.unstarted m.unstarted v.unstarted t.returned r.later;
+    out = subst (λ (o : List (SessionJob L C)). OutAfter works [] t.events o) (sym r.out) t.out;
+    all_ended = t.all_ended;
+    went = went_then h w.pass m.pass v.pass (length (links_of t.events)) 1 (callers_of t.events) (r.caller ∷ []) None t.went r.went;
   }

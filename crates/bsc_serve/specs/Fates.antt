@@ -1,5 +1,5 @@
 -- What becomes of the links that leave an acceptor.
-use Rattle.std.specs.Prelude.{◌≡◌, ℕ, ◌<◌, ◌+◌, List, [], ◌∷◌, ◌++◌, None, ⊤}
+use Rattle.std.specs.Prelude.{◌≡◌, ℕ, ◌<◌, List, [], ◌∷◌}
 use Rattle.std.specs.Arc.{arc_value}
 use Rattle.bsc_turn.specs.declared.pass.Pass.{Pass}
 use Rattle.bsc_turn.specs.declared.view.Ended.{Ended as EndedCaller}
@@ -21,11 +21,6 @@ pub data Fate (J : Type 0) : Type 0 where
 abbrev pub IsUnused : EndedCaller → Type 0
 IsUnused e = (e.own ≡ []) × (e.loads ≡ 0)
 
--- A link that left the acceptor, with what became of it.
-pub record Arrival (L J : Type 0) : Type 0 where
-  pub link : L
-  pub fate : Fate J
-
 abbrev pub job_in : {J : Type 0} → Fate J → List J
 job_in (started j) = j ∷ []
 job_in (returned e) = []
@@ -42,27 +37,6 @@ unstarted_in (started j) = 0
 unstarted_in (returned e) = 1
 unstarted_in spent = 1
 
-module _ {L J : Type 0} where
-  -- The links, in the order in which they arrived.
-  abbrev pub links_of : List (Arrival L J) → List L
-  links_of [] = []
-  links_of (a ∷ more) = a.link ∷ links_of more
-
-  -- The jobs that were taken, in order.
-  abbrev pub jobs_of : List (Arrival L J) → List J
-  jobs_of [] = []
-  jobs_of (a ∷ more) = job_in a.fate ++ jobs_of more
-
-  -- The callers whose jobs came back.
-  abbrev pub callers_of : List (Arrival L J) → List EndedCaller
-  callers_of [] = []
-  callers_of (a ∷ more) = caller_in a.fate ++ callers_of more
-
-  -- How many links have no job.
-  abbrev pub unstarted_of : List (Arrival L J) → ℕ
-  unstarted_of [] = 0
-  unstarted_of (a ∷ more) = unstarted_in a.fate + unstarted_of more
-
 -- The pass x was split in a call that had the hub's own pass as p and left it as q: its caller is new, has no entries and
 -- asked for no number, its own is one that was drawn in this call, and what it has seen lies between what p and q had.
 pub record IsSplitIn (h : Hub) (p q x : Pass) : Type 0 where
@@ -74,15 +48,13 @@ pub record IsSplitIn (h : Hub) (p q x : Pass) : Type 0 where
   pub by : StartsWith (seen q) (seen x)
 
 module _ {L C : Type 0} where
-  -- The job of a link: it has this link, this hub, a pass that was split in this call, and these limits and turns; and it
-  -- isn't worked off.
+  -- The job of a link: it has this link, this hub, a pass that was split in this call, and these limits and turns.
   pub record IsJobOf (h : Hub) (v : SessionLimits) (n : ℕ) (p q : Pass) (l : L) (j : SessionJob L C) : Type 0 where
     pub link : j.link ≡ l
     pub hub : arc_value j.hub ≡ h
     pub pass : IsSplitIn h p q j.pass
     pub limits : j.limits ≡ v
     pub turns : j.turns ≡ n
-    pub ended : j.ended ≡ None
 
   -- What became of a link as it may be: its job is one of this call; or the caller whose pass came back was unused; or all
   -- numbers are drawn.
@@ -90,7 +62,3 @@ module _ {L C : Type 0} where
   IsFate h limits turns p q l (started j) = IsJobOf h limits turns p q l j
   IsFate h limits turns p q l (returned e) = IsUnused e
   IsFate h limits turns p q l spent = newest_number q ≡ (about_of h).limits.callers
-
-  abbrev pub AreFates : Hub → SessionLimits → ℕ → Pass → Pass → List (Arrival L (SessionJob L C)) → Type 0
-  AreFates h limits turns p q [] = ⊤
-  AreFates h limits turns p q (a ∷ more) = IsFate h limits turns p q a.link a.fate × AreFates h limits turns p q more

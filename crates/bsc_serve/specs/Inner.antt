@@ -1,5 +1,6 @@
 -- What the inner functions of serving say of each other; no public clause cites any of it.
-use Rattle.std.specs.Prelude.{◌≡◌, ℕ, ◌≤◌, ◌+◌, ◌⊎◌, Bool, true, false, ◌<◌, List, [], ◌∷◌, ◌++◌, length, Option, Some, None, Result, Ok, Err, IfErr, IfOk, IsErr, IsTrue, ◌↔◌, position, ⊤}
+use Rattle.std.specs.Prelude.{◌≡◌, ℕ, ◌≤◌, ◌+◌, ◌⊎◌, Bool, true, false, ◌<◌, List, [], ◌∷◌, ◌++◌, length, position, replicate, Option, Some, None, Result, Ok, Err, IfErr, IfOk, IsErr, IsTrue, ◌↔◌, ⊤}
+use Rattle.std.specs.Arc.{arc_value}
 use Rattle.bsc_octets.specs.declared.no_memory.NoMemory.{NoMemory as MemoryFault}
 use Rattle.bsc_history.specs.declared.counts.Counts.{Counts}
 use Rattle.bsc_history.specs.declared.told.AlreadyStopped.{AlreadyStopped}
@@ -17,13 +18,14 @@ use Rattle.bsc_hub.specs.Calls.{stop_made}
 use Rattle.bsc_hub.specs.Passing.{IsCaller, Passed, Went, about_of, found_history}
 use Rattle.bsc_outside.specs.Faults.{HasRisen}
 use Rattle.bsc_edge.specs.Told.{Grows}
-use Rattle.bsc_session.specs.declared.limits.SessionLimits.{SessionLimits}
 use Rattle.bsc_serve.specs.declared.halt.Halt.{Halt}
 use Rattle.bsc_serve.specs.declared.halt.Halt.TheVariants.{AcceptFault as HaltFault, NoMemory as HaltMemory}
 use Rattle.bsc_serve.specs.declared.end.ServeEnd.{ServeEnd}
 use Rattle.bsc_serve.specs.declared.end.ServeEnd.TheVariants.{Done, StoppedBefore, AcceptFault, NoMemory}
 use Rattle.bsc_session.specs.declared.job.SessionJob.{SessionJob}
-use Rattle.bsc_serve.specs.Fates.{AreFates, Arrival, Fate, IsUnused, started, returned, spent, IsFate, caller_in, callers_of, job_in, jobs_of, links_of, unstarted_in, unstarted_of}
+use Rattle.bsc_session.specs.declared.session_end.SessionEnd.{SessionEnd}
+use Rattle.bsc_serve.specs.Events.{AreFates, Event, OutAfter, arrived, callers_of, ended, jobs_of, links_of, returned_of, unstarted_of}
+use Rattle.bsc_serve.specs.Fates.{Fate, IsFate, IsUnused, caller_in, job_in, returned, spent, started, unstarted_in}
 use Rattle.bsc_serve.specs.declared.tally.Tally.{Tally}
 use Rattle.bsc_serve.specs.Tallies.{CountsUp, Remains, one_unless}
 use Rattle.bsc_serve.specs.Serving.{Cut, IsWithin, Loses, RoseBy, cut_callers, cut_links}
@@ -65,61 +67,104 @@ abbrev pub TakesBack : Hub → Pass → Pass → Pass → Type 0
 TakesBack h m q x = Passed h m (ended_of (view_of x) ∷ ended_callers x) None q × (newest_number q ≡ newest_number m)
 
 module _ {L C : Type 0} where
+  -- A job that is out: it is of this hub, and no caller has ended in its pass.
+  abbrev pub IsOurs : Hub → SessionJob L C → Type 0
+  IsOurs h j = (arc_value j.hub ≡ h) × (ended_callers j.pass ≡ [])
+
+  abbrev pub AllOurs : Hub → List (SessionJob L C) → Type 0
+  AllOurs h [] = ⊤
+  AllOurs h (j ∷ more) = IsOurs h j × AllOurs h more
+
+  -- What is left of a job is of this hub, and has its number.
+  abbrev pub IsOurEnd : Hub → SessionJob L C → SessionEnd → Type 0
+  IsOurEnd h j d = IsCaller h d.pass × (number_of d.pass ≡ number_of j.pass)
+
+  abbrev pub AllEnded : Hub → List (Event L C) → Type 0
+  AllEnded h [] = ⊤
+  AllEnded h (arrived l f ∷ more) = AllEnded h more
+  AllEnded h (ended j d ∷ more) = IsOurEnd h j d × AllEnded h more
+
+-- What is seen of a spawner.
+pub record Stock (L C : Type 0) : Type 0 where
+  pub jobs : Option (List (SessionJob L C))
+  pub out : List (SessionJob L C)
+  pub unstarted : ℕ
+
+module _ {L C : Type 0} where
+  abbrev pub stock_of : ServeWorld L C → Stock L C
+  stock_of w = record { jobs = w.jobs; out = w.out; unstarted = w.unstarted }
+
+  -- the world with this pass and this of the spawner, and these links and waits
+  abbrev pub world_of : Pass → Stock L C → Option (List L) → Option (List ℕ) → ServeWorld L C
+  world_of p s links waits = record { pass = p; links = links; waits = waits; jobs = s.jobs; out = s.out; unstarted = s.unstarted }
+
   -- What became of one link.
-  pub record Fared (h : Hub) (terms : ServeTerms) (p q : Pass) (x : L)
-      (j j' : Option (List (SessionJob L C))) (f f' : ℕ) (is_started : Bool) : Type 0 where
+  pub record Fared (h : Hub) (terms : ServeTerms) (p q : Pass) (x : L) (s t : Stock L C) (is_started : Bool) : Type 0 where
     pub fate : Fate (SessionJob L C)
     pub is : IsFate h terms.limits terms.turns p q x fate
-    pub jobs : Grows j j' (job_in fate)
+    pub jobs : Grows s.jobs t.jobs (job_in fate)
+    pub out : t.out ≡ s.out ++ job_in fate
     pub went : Went h p 1 (caller_in fate) None q
     pub draws : DrawsFor h p q fate
-    pub rose : RoseBy (length (caller_in fate)) f f'
+    pub rose : RoseBy (length (caller_in fate)) s.unstarted t.unstarted
     pub counts : unstarted_in fate ≡ one_unless is_started
 
   -- There was no memory for its job.
-  pub record LacksRoom (h : Hub) (p q : Pass) (j j' : Option (List (SessionJob L C))) (f f' : ℕ) : Type 0 where
+  pub record LacksRoom (h : Hub) (p q : Pass) (s t : Stock L C) : Type 0 where
     pub caller : EndedCaller
     pub unused : IsUnused caller
-    pub jobs : Grows j j' []
+    pub jobs : Grows s.jobs t.jobs []
+    pub out : t.out ≡ s.out
     pub went : Went h p 1 (caller ∷ []) None q
     pub draws : Draws h p q
-    pub later : f ≤ f'
+    pub later : s.unstarted ≤ t.unstarted
 
-  abbrev pub Fares : Hub → ServeTerms → Pass → Pass → L → Option (List (SessionJob L C))
-      → Option (List (SessionJob L C)) → ℕ → ℕ → Result Bool MemoryFault → Type 0
-  Fares h terms p q l jobs jobs' faults faults' (Ok is_started) = Fared h terms p q l jobs jobs' faults faults' is_started
-  Fares h terms p q l jobs jobs' faults faults' (Err e) = LacksRoom h p q jobs jobs' faults faults'
+  abbrev pub Fares : Hub → ServeTerms → Pass → Pass → L → Stock L C → Stock L C → Result Bool MemoryFault → Type 0
+  Fares h terms p q l s t (Ok is_started) = Fared h terms p q l s t is_started
+  Fares h terms p q l s t (Err e) = LacksRoom h p q s t
 
   -- A job was handed over, or it came back and its pass was joined.
-  abbrev pub HandsOver : Hub → Pass → Pass → SessionJob L C → Option (List (SessionJob L C)) → Option (List (SessionJob L C)) → ℕ → ℕ
-      → Result Bool MemoryFault → Type 0
-  HandsOver h m q job j j' f f' (Ok true) = Grows j j' (job ∷ []) × (f ≤ f') × (q ≡ m)
-  HandsOver h m q job j j' f f' (Ok false) = Grows j j' [] × HasRisen f f' × TakesBack h m q job.pass
-  HandsOver h m q job j j' f f' (Err e) = Grows j j' [] × (f ≤ f') × TakesBack h m q job.pass
+  abbrev pub HandsOver : Hub → Pass → Pass → SessionJob L C → Stock L C → Stock L C → Result Bool MemoryFault → Type 0
+  HandsOver h m q job s t (Ok true) =
+      Grows s.jobs t.jobs (job ∷ []) × (t.out ≡ s.out ++ job ∷ []) × (s.unstarted ≤ t.unstarted) × (q ≡ m)
+  HandsOver h m q job s t (Ok false) =
+      Grows s.jobs t.jobs [] × (t.out ≡ s.out) × HasRisen s.unstarted t.unstarted × TakesBack h m q job.pass
+  HandsOver h m q job s t (Err e) =
+      Grows s.jobs t.jobs [] × (t.out ≡ s.out) × (s.unstarted ≤ t.unstarted) × TakesBack h m q job.pass
 
-  -- The links that have arrived, in a loop that began with the world w and stands at v with this tally.
+module _ {L C : Type 0} (works : SessionJob L C → SessionEnd → Type 0) where
+  -- What has happened, in a loop that began with the world w and stands at v with this tally.
   pub record Taken (h : Hub) (terms : ServeTerms) (w v : ServeWorld L C) (tally : Tally) : Type 0 where
-    pub arrivals : List (Arrival L (SessionJob L C))
-    pub left : Loses w.links v.links (links_of arrivals)
-    pub jobs : Grows w.jobs v.jobs (jobs_of arrivals)
-    pub fates : AreFates h terms.limits terms.turns w.pass v.pass arrivals
-    pub returned : RoseBy (length (callers_of arrivals)) w.unstarted v.unstarted
-    pub went : Went h w.pass (length arrivals) (callers_of arrivals) None v.pass
+    pub events : List (Event L C)
+    pub left : Loses w.links v.links (links_of events)
+    pub asks : ℕ
+    pub asked : Grows w.waits v.waits (replicate asks 20)
+    pub jobs : Grows w.jobs v.jobs (jobs_of events)
+    pub fates : AreFates h terms w.pass v.pass events
+    pub returned : RoseBy (returned_of events) w.unstarted v.unstarted
+    pub out : OutAfter works [] events v.out
+    pub ours : AllOurs h v.out
+    pub all_ended : AllEnded h events
+    pub went : Went h w.pass (length (links_of events)) (callers_of events) None v.pass
     pub drawn : (newest_number w.pass ≤ newest_number v.pass) ⊎ (newest_number v.pass ≡ limit_of h)
-    pub remains : Remains terms.sessions (length arrivals) tally.remaining
-    pub counted : CountsUp tally.unstarted (unstarted_of arrivals)
+    pub remains : Remains terms.sessions (length (links_of events)) tally.remaining
+    pub counted : CountsUp tally.unstarted (unstarted_of events)
 
   -- The loop halted.
   pub record Halted (h : Hub) (terms : ServeTerms) (w v : ServeWorld L C) (halt : Halt) : Type 0 where
-    pub arrivals : List (Arrival L (SessionJob L C))
+    pub events : List (Event L C)
     pub cut : Option (Cut L)
     pub cut_last : CutAt cut halt
-    pub left : Loses w.links v.links (links_of arrivals ++ cut_links cut)
-    pub within : IsWithin terms.sessions (length arrivals + length (cut_links cut))
-    pub jobs : Grows w.jobs v.jobs (jobs_of arrivals)
-    pub fates : AreFates h terms.limits terms.turns w.pass v.pass arrivals
-    pub returned : RoseBy (length (callers_of arrivals)) w.unstarted v.unstarted
-    pub went : Went h w.pass (length arrivals + length (cut_links cut)) (callers_of arrivals ++ cut_callers cut) None v.pass
+    pub left : Loses w.links v.links (links_of events ++ cut_links cut)
+    pub within : IsWithin terms.sessions (length (links_of events) + length (cut_links cut))
+    pub asks : ℕ
+    pub asked : Grows w.waits v.waits (replicate asks 20)
+    pub jobs : Grows w.jobs v.jobs (jobs_of events)
+    pub fates : AreFates h terms w.pass v.pass events
+    pub returned : RoseBy (returned_of events) w.unstarted v.unstarted
+    pub out : OutAfter works [] events v.out
+    pub all_ended : AllEnded h events
+    pub went : Went h w.pass (length (links_of events) + length (cut_links cut)) (callers_of events ++ cut_callers cut) None v.pass
 
   -- The loop goes on, or halts.
   abbrev pub TakesOn : Hub → ServeTerms → ServeWorld L C → ServeWorld L C → Tally → Option Halt → Type 0
@@ -131,6 +176,12 @@ module _ {L C : Type 0} where
   Accepts h terms w v (Ok unstarted) = Taken h terms w v (record { remaining = Some 0; unstarted = unstarted })
   Accepts h terms w v (Err halt) = Halted h terms w v halt
 
+  -- From one pass and what is seen of the spawner to another: whatever has happened, it may have so since.
+  abbrev pub GoesOn : Hub → Pass → Stock L C → Pass → Stock L C → Type 0
+  GoesOn h p s q t =
+      (terms : ServeTerms) (first : ServeWorld L C) (links : Option (List L)) (waits : Option (List ℕ)) (tally : Tally)
+      → Taken h terms first (world_of p s links waits) tally → Taken h terms first (world_of q t links waits) tally
+
 -- What a stop of the hub says, whose pass was m and is q.
 pub record Stopped (h : Hub) (m q : Pass) (r : Result (Told Counts) AlreadyStopped) : Type 0 where
   pub passed : Passed h m [] (stop_made (number_of m) r) q
@@ -139,12 +190,10 @@ pub record Stopped (h : Hub) (m q : Pass) (r : Result (Told Counts) AlreadyStopp
   pub place : IfErr r (λ already. position stops (entries (seen q)) ≡ Some already.at)
   pub loaded : newest_number q ≡ newest_number m
 
--- A stop was made or found, and the end says so.
-abbrev pub Finished : Hub → Pass → Pass → ℕ → ServeEnd → Type 0
-Finished h m q u (Done c n) = (n ≡ u) × ((at : ℕ) × Stopped h m q (Ok (record { at = at; said = c })))
-Finished h m q u (StoppedBefore at n) = (n ≡ u) × Stopped h m q (Err (record { at = at }))
-Finished h m q u AcceptFault = ⊥
-Finished h m q u NoMemory = ⊥
+-- How serving ends that wasn't cut short, where so many links have no job.
+abbrev pub whole_end : ℕ → Result (Told Counts) AlreadyStopped → ServeEnd
+whole_end u (Ok t) = Done t.said u
+whole_end u (Err already) = StoppedBefore already.at u
 
 -- How serving ends that halted.
 abbrev pub halt_end : Halt → ServeEnd

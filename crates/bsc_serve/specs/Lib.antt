@@ -1,4 +1,5 @@
 pub mod Fates
+pub mod Events
 pub mod Worlds
 pub mod Tallies
 pub mod Serving

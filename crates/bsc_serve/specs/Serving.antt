@@ -1,5 +1,5 @@
 -- What serving a hub comes to.
-use Rattle.std.specs.Prelude.{◌≡◌, ℕ, ◌≤◌, ◌+◌, ◌⊎◌, false, List, [], ◌∷◌, ◌++◌, length, take, position, Option, Some, None, Result, Ok, Err, ⊤}
+use Rattle.std.specs.Prelude.{◌≡◌, ℕ, ◌≤◌, ◌+◌, ◌⊎◌, false, List, [], ◌∷◌, ◌++◌, length, position, replicate, take, Option, Some, None, Result, Ok, Err, ⊤}
 use Rattle.bsc_history.specs.declared.counts.Counts.{Counts}
 use Rattle.bsc_history.specs.declared.told.AlreadyStopped.{AlreadyStopped}
 use Rattle.bsc_history.specs.declared.told.Told.{Told}
@@ -12,12 +12,14 @@ use Rattle.bsc_turn.specs.declared.view.Ended.{Ended as EndedCaller}
 use Rattle.bsc_turn.specs.Passes.{number_of, seen}
 use Rattle.bsc_hub.specs.declared.hub.Hub.{Hub}
 use Rattle.bsc_hub.specs.Calls.{stop_made}
-use Rattle.bsc_hub.specs.Passing.{Went}
-use Rattle.bsc_edge.specs.Told.{Grows, Tells}
+use Rattle.bsc_hub.specs.Passing.{Went, found_history}
+use Rattle.bsc_edge.specs.Told.{Grows}
 use Rattle.bsc_serve.specs.declared.end.ServeEnd.{ServeEnd}
 use Rattle.bsc_serve.specs.declared.end.ServeEnd.TheVariants.{Done, StoppedBefore, AcceptFault, NoMemory}
 use Rattle.bsc_session.specs.declared.job.SessionJob.{SessionJob}
-use Rattle.bsc_serve.specs.Fates.{AreFates, Arrival, IsUnused, callers_of, jobs_of, links_of, unstarted_of}
+use Rattle.bsc_session.specs.declared.session_end.SessionEnd.{SessionEnd}
+use Rattle.bsc_serve.specs.Events.{AllStand, AreFates, Event, OutAfter, callers_of, jobs_of, links_of, returned_of, unstarted_of}
+use Rattle.bsc_serve.specs.Fates.{IsUnused}
 use Rattle.bsc_serve.specs.declared.terms.ServeTerms.{ServeTerms}
 use Rattle.bsc_serve.specs.Worlds.{ServeWorld}
 
@@ -62,40 +64,49 @@ StopAnswers q (Ok t) =
     (t.said ≡ counts (take t.at (entries (seen q)))) × (is_stopped (take t.at (entries (seen q))) ≡ false)
 StopAnswers q (Err already) = position stops (entries (seen q)) ≡ Some already.at
 
-module _ {L J : Type 0} where
-  -- How serving ends, by the links that arrived and by what the stop answered: as many arrived as were awaited, and the end
-  -- says how many of them have no job, and the counts of the stop or where the earlier one stands; or it was cut short.
-  abbrev pub EndsSo : Option ℕ → List (Arrival L J) → Result (Told Counts) AlreadyStopped → ServeEnd → Type 0
-  EndsSo awaited arrivals stop (Done c u) =
-      (awaited ≡ Some (length arrivals)) × (u ≡ unstarted_of arrivals)
+module _ {L C : Type 0} where
+  -- How serving ends, by what happened, the jobs that were out when the hub was stopped, and what the stop answered: as many
+  -- links arrived as were awaited, no job was out, and the end says how many of the links have no job, and the counts of the
+  -- stop or where the earlier one stands; or it was cut short.
+  abbrev pub EndsSo : Option ℕ → List (Event L C) → List (SessionJob L C) → Result (Told Counts) AlreadyStopped → ServeEnd → Type 0
+  EndsSo awaited events still stop (Done c u) =
+      (awaited ≡ Some (length (links_of events))) × (still ≡ []) × (u ≡ unstarted_of events)
       × ((at : ℕ) × (stop ≡ Ok (record { at = at; said = c })))
-  EndsSo awaited arrivals stop (StoppedBefore at u) =
-      (awaited ≡ Some (length arrivals)) × (u ≡ unstarted_of arrivals) × (stop ≡ Err (record { at = at }))
-  EndsSo awaited arrivals stop AcceptFault = ⊤
-  EndsSo awaited arrivals stop NoMemory = ⊤
+  EndsSo awaited events still stop (StoppedBefore at u) =
+      (awaited ≡ Some (length (links_of events))) × (still ≡ []) × (u ≡ unstarted_of events) × (stop ≡ Err (record { at = at }))
+  EndsSo awaited events still stop AcceptFault = ⊤
+  EndsSo awaited events still stop NoMemory = ⊤
 
--- What serving a hub comes to, on these terms, from one world to another: there are links with what became of each, under
--- want of memory one more, and an answer of the hub's stop, such that ..
-pub record Serving {L C : Type 0} (h : Hub) (terms : ServeTerms) (before after : ServeWorld L C) (end : ServeEnd) : Type 0 where
-  pub arrivals : List (Arrival L (SessionJob L C))
-  pub cut : Option (Cut L)
-  pub stop : Result (Told Counts) AlreadyStopped
-  pub cut_last : CutBy cut end
-  -- .. these links left the acceptor, in order, no more than are awaited;
-  pub left : Loses before.links after.links (links_of arrivals ++ cut_links cut)
-  pub within : IsWithin terms.sessions (length arrivals + length (cut_links cut))
-  -- for each that isn't unstarted the spawner took one job, in order, with that link, this hub, a pass that was split in
-  -- this call, and these limits and turns;
-  pub jobs : Grows before.jobs after.jobs (jobs_of arrivals)
-  pub fates : AreFates h terms.limits terms.turns before.pass after.pass arrivals
-  -- no more came back than the spawner's count rose by;
-  pub returned : RoseBy (length (callers_of arrivals)) before.unstarted after.unstarted
-  -- none was taken since the last gathering;
-  pub gathered : Tells after.since 0
-  -- the hub's own pass drew one number for each link, took in the callers that came back, and stopped the hub, or found it
-  -- stopped;
-  pub went : Went h before.pass (length arrivals + length (cut_links cut)) (callers_of arrivals ++ cut_callers cut)
-      (stop_made (number_of before.pass) stop) after.pass
-  pub stopped : StopAnswers after.pass stop
-  -- and the end says what the stop answered, and how many links have no job.
-  pub ends : EndsSo terms.sessions arrivals stop end
+-- What serving a hub comes to, on these terms, from one world to another, where `works` says what may be left of a job: there
+-- is what happened, in order, under want of memory one link more, the jobs that were still out when the hub was stopped, and
+-- an answer of its stop, such that ..
+module _ {L C : Type 0} (works : SessionJob L C → SessionEnd → Type 0) where
+  pub record Serving (h : Hub) (terms : ServeTerms) (before after : ServeWorld L C) (end : ServeEnd) : Type 0 where
+    pub events : List (Event L C)
+    pub cut : Option (Cut L)
+    pub still : List (SessionJob L C)
+    pub stop : Result (Told Counts) AlreadyStopped
+    pub cut_last : CutBy cut end
+    -- .. these links left the acceptor, in order, no more than are awaited; and it was asked so often, for 20 ms each time;
+    pub left : Loses before.links after.links (links_of events ++ cut_links cut)
+    pub within : IsWithin terms.sessions (length (links_of events) + length (cut_links cut))
+    pub asks : ℕ
+    pub asked : Grows before.waits after.waits (replicate asks 20)
+    -- for each that isn't unstarted the spawner took one job, in order, with that link, this hub, a pass that was split in
+    -- this call, and these limits and turns;
+    pub jobs : Grows before.jobs after.jobs (jobs_of events)
+    pub fates : AreFates h terms before.pass after.pass events
+    -- no more came back than the spawner's count rose by;
+    pub returned : RoseBy (returned_of events) before.unstarted after.unstarted
+    -- each job that ended was one that was out, and those that didn't were still out when the hub was stopped; none is at last;
+    pub out : OutAfter works [] events still
+    pub gathered : after.out ≡ []
+    -- the hub's own pass drew one number for each link, took in the callers that came back and those of the jobs that ended,
+    -- in this order, and then stopped the hub, or found it stopped;
+    pub went : Went h before.pass (length (links_of events) + length (cut_links cut)) (callers_of events ++ cut_callers cut)
+        (stop_made (number_of before.pass) stop) after.pass
+    pub stopped : StopAnswers after.pass stop
+    -- all that the callers of these jobs entered stands in the history that the stop found, so before the Stop;
+    pub stop_last : AllStand (found_history (stop_made (number_of before.pass) stop) after.pass) events
+    -- and the end says what the stop answered, and how many links have no job.
+    pub ends : EndsSo terms.sessions events still stop end

@@ -1,15 +1,17 @@
 //! The loop that takes links.
-ghost use Rattle.std.specs.Prelude.{◌≡◌, ◌≤◌, ◌≢◌, ◌<◌, ◌^◌, ℕ, Some};
+ghost use Rattle.std.specs.Prelude.{◌≡◌, ◌≤◌, ◌≢◌, ◌<◌, ◌^◌, ℕ, [], Some};
 ghost use Rattle.std.specs.Arc.{arc_value};
 ghost use Rattle.bsc_outside.specs.Faults.{HasRisen};
 ghost use Rattle.bsc_hub.specs.Passing.{IsCaller};
 ghost use Rattle.bsc_serve.specs.declared.halt.Halt.{Halt};
 ghost use Rattle.bsc_edge.specs.Told.{Stays};
+ghost use Rattle.bsc_session.specs.Jobs.{Worked};
 ghost use Rattle.bsc_serve.specs.Inner.{Accepts, TakesOn, Taken};
 ghost use Rattle.bsc_serve.specs.Worlds.{ServeWorld};
 
 use crate::halt::Halt;
 use crate::starting::start_session;
+use crate::taking_in::take_ended;
 use crate::tally::Tally;
 use crate::terms::ServeTerms;
 use bsc_edge::{Acceptor, Arrived, Clock, Link, LinkFault, Spawner};
@@ -45,20 +47,22 @@ fn take_next<
     requires awaits { tally.old.remaining ≢ Some 0 }
     ensures again { P.can_start spawner.new }
     ensures taken { (first : ServeWorld L C) →
-        Taken (arc_value hub.now) terms.now first
+        Taken (Worked L.talk L.faults C.readings) (arc_value hub.now) terms.now first
         (record {
           pass = pass.old;
           links = A.left acceptor.old;
+          waits = A.waits acceptor.old;
           jobs = P.jobs spawner.old;
-          since = P.since spawner.old;
+          out = P.out spawner.old;
           unstarted = P.faults spawner.old;
         }) tally.old →
-        TakesOn (arc_value hub.now) terms.now first
+        TakesOn (Worked L.talk L.faults C.readings) (arc_value hub.now) terms.now first
         (record {
           pass = pass.new;
           links = A.left acceptor.new;
+          waits = A.waits acceptor.new;
           jobs = P.jobs spawner.new;
-          since = P.since spawner.new;
+          out = P.out spawner.new;
           unstarted = P.faults spawner.new;
         }) tally.new result }
     ensures bound { Stays (A.bound acceptor.old) (A.bound acceptor.new) }
@@ -81,7 +85,8 @@ fn take_next<
     }
 }
 
-/// Takes links until as many have arrived as are asked for, and says how many have no session.
+/// Takes links until as many have arrived as are asked for, and says how many have no session. Before each it takes in the
+/// callers of the sessions that have ended.
 pub(crate) fn accept_all<
     R: Wait,
     C: Clock + Drop,
@@ -100,20 +105,23 @@ pub(crate) fn accept_all<
 ) -> Result<u64, Halt>
     requires can { P.can_start spawner.old }
     requires pass { IsCaller (arc_value hub.now) pass.old }
+    requires none { P.out spawner.old ≡ [] }
     ensures again { P.can_start spawner.new }
-    ensures accepts { Accepts (arc_value hub.now) terms.now
+    ensures accepts { Accepts (Worked L.talk L.faults C.readings) (arc_value hub.now) terms.now
         (record {
           pass = pass.old;
           links = A.left acceptor.old;
+          waits = A.waits acceptor.old;
           jobs = P.jobs spawner.old;
-          since = P.since spawner.old;
+          out = P.out spawner.old;
           unstarted = P.faults spawner.old;
         })
         (record {
           pass = pass.new;
           links = A.left acceptor.new;
+          waits = A.waits acceptor.new;
           jobs = P.jobs spawner.new;
-          since = P.since spawner.new;
+          out = P.out spawner.new;
           unstarted = P.faults spawner.new;
         }) result }
     ensures fits { (n : ℕ) → terms.now.sessions ≡ Some n → n < 2 ^ 64 }
@@ -126,6 +134,7 @@ pub(crate) fn accept_all<
         if tally.is_full() {
             return Ok(tally.unstarted);
         }
+        take_ended(rt, hub, pass, spawner, false);
         if let Some(halt) = take_next(
             rt, alloc, hub, pass, terms, clock, acceptor, spawner, &mut tally,
         ) {

@@ -1,8 +1,9 @@
 //! Serving a hub: each link that arrives gets a session in a job of its own.
 //!
 //! Start at `specs/Serving.antt`, which says what serving comes to: what became of each link that left the acceptor,
-//! which jobs were taken, and how it ends. `serving` has `serve_on`; `accepting` is its loop, `starting` gives a link
-//! its job, and `turning_away` closes the link that gets none.
+//! which jobs were taken and have ended, and how it ends. `serving` has `serve_on`; `accepting` is its loop, `starting`
+//! gives a link its job, `turning_away` closes the link that gets none, and `taking_in` joins the passes of the sessions
+//! that have ended.
 #![tactic(auto)]
 
 mod accepting;
@@ -10,6 +11,7 @@ mod end;
 mod halt;
 mod serving;
 mod starting;
+mod taking_in;
 mod tally;
 mod terms;
 mod turning_away;

@@ -27,8 +27,9 @@ fn hand_over<R: Wait, C: Clock + Drop, L: Link + Drop, P: Spawner<SessionJob<L, 
     requires pass { IsCaller hub.now pass.old }
     requires other { IsCaller hub.now job.pass }
     ensures again { P.can_start spawner.new }
-    ensures hands { HandsOver hub.now pass.old pass.new job (P.jobs spawner.old) (P.jobs spawner.new) (P.faults spawner.old)
-        (P.faults spawner.new) result }
+    ensures hands { HandsOver hub.now pass.old pass.new job
+        (record { jobs = P.jobs spawner.old; out = P.out spawner.old; unstarted = P.faults spawner.old })
+        (record { jobs = P.jobs spawner.new; out = P.out spawner.new; unstarted = P.faults spawner.new }) result }
 {
     match spawner.start(rt, alloc, job) {
         Ok(()) => Ok(true),
@@ -60,8 +61,9 @@ pub(crate) fn start_session<R: Wait, C: Clock + Drop, L: Link + Drop, P: Spawner
     requires can { P.can_start spawner.old }
     requires pass { IsCaller (arc_value hub.now) pass.old }
     ensures again { P.can_start spawner.new }
-    ensures fares { Fares (arc_value hub.now) terms.now pass.old pass.new link (P.jobs spawner.old) (P.jobs spawner.new)
-        (P.faults spawner.old) (P.faults spawner.new) result }
+    ensures fares { Fares (arc_value hub.now) terms.now pass.old pass.new link
+        (record { jobs = P.jobs spawner.old; out = P.out spawner.old; unstarted = P.faults spawner.old })
+        (record { jobs = P.jobs spawner.new; out = P.out spawner.new; unstarted = P.faults spawner.new }) result }
 {
     let here: &Hub = hub;
     let Ok(other) = here.split(rt, pass) else {

@@ -22,10 +22,12 @@ use Rattle.bsc_edge.specs.declared.said.Said.{Said}
 use Rattle.bsc_edge.specs.Told.{Stays}
 use Rattle.bsc_accept.specs.declared.accepting.Accepting.{Accepting}
 use Rattle.bsc_accept.specs.declared.event.Event.{Event}
+use Rattle.bsc_accept.specs.declared.farewell.Farewell.{Farewell}
 use Rattle.bsc_accept.specs.declared.event.Event.TheVariants.{Joined as JoinedEvent, Refused as RefusedEvent}
 use Rattle.bsc_accept.specs.declared.step.Step.{Step}
 use Rattle.bsc_accept.specs.declared.step.Step.TheVariants.{Ask, Reply as ReplyStep, ReplyClose, Carry, Close, Nothing}
-use Rattle.bsc_accept.specs.Past.{is_joined, standing}
+use Rattle.bsc_accept.specs.Kept.{moved}
+use Rattle.bsc_accept.specs.Past.{Standing as MachineStanding, awaiting_request, connected, disconnecting, farewell_at, is_joined, standing, until_farewell}
 use Rattle.bsc_accept.specs.Standing.{Answers as MachineAnswers, IsOpen, LeftBy, StandsFor}
 use Rattle.bsc_accept.specs.Steps.{refused_step}
 use Rattle.bsc_accept.proofs.Looking.{standing-more}
@@ -40,9 +42,7 @@ use Rattle.bsc_session.specs.Receiving.{Answer, replies, worn}
 use Rattle.bsc_session.specs.Standings.{Standing, Terms, start_of, told, wanted}
 use Rattle.bsc_session.specs.Stops.{closes, closing_in, first_of, stop_if}
 use Rattle.bsc_session.proofs.HubCalls.{goes_as, goes_passed}
-use Rattle.bsc_session.proofs.Lists.{grows_stays}
-use Rattle.bsc_edge.proofs.Common.{grown, grows-nil}
-use Rattle.bsc_session.proofs.Common.{joined_at, moved_in as joined_moved}
+use Rattle.bsc_session.proofs.Lists.{grown, grows-nil, grows_stays}
 
 -- ---- a step
 
@@ -61,6 +61,20 @@ left_open (Close c) m fault why stop left calls is going = absurd (no_stop_close
 left_open Nothing m fault why stop left calls is going = left
 
 -- ---- who has joined
+
+until_joined : (o : Option Farewell) → has_joined (until_farewell o) ≡ true
+until_joined None = refl
+until_joined (Some f) = refl
+
+joined_moved : (g : MachineStanding) (e : Event) → is_joined e ≡ false → has_joined (moved g e) ≡ has_joined g
+joined_moved awaiting_request e h = rw h refl
+joined_moved connected e h = until_joined (farewell_at e)
+joined_moved (disconnecting f) e h = refl
+
+joined_at : (g : MachineStanding) → has_joined (moved g JoinedEvent) ≡ true
+joined_at awaiting_request = refl
+joined_at connected = refl
+joined_at (disconnecting f) = refl
 
 -- an event that isn't a joining changes nothing of who has joined
 pub joined_told : (s : Standing) (e : Event) → is_joined e ≡ false → has_joined (standing (told s e).events) ≡ has_joined (standing s.events)

@@ -22,10 +22,9 @@ use Rattle.bsc_session.specs.Reading.{ticked, wanted_at}
 use Rattle.bsc_session.specs.Receiving.{Answer, worn, no_memory, Hearing}
 use Rattle.bsc_session.specs.Standings.{Standing, Terms, begun}
 use Rattle.bsc_session.specs.Stops.{stop_at, stop_if, closes, first_of, closing_in}
-use Rattle.bsc_session.specs.Taking.{Opening, IsOpening, end_step, last_of, put_first, stop_before, opened}
+use Rattle.bsc_session.specs.Taking.{Opening, IsOpening, end_step, last_of, put_first, stop_before, opened, wait_in}
 use Rattle.bsc_session.specs.Turns.{Turn, IsTurn, said_in, stop_in, after}
 use Rattle.bsc_session.proofs.Lists.{HasPut-append, shares-more}
-use Rattle.bsc_session.proofs.Common.{first_none}
 
 -- no fault in it
 IsWell : List Said → Type 0
@@ -141,16 +140,16 @@ pub unheard_quiet : (v : Terms) (s : Standing) (now : ℕ) (judged : Bool) → h
 unheard_quiet v s now true = refl
 unheard_quiet v s now false = refl
 
-ends_given : (v : Terms) (s0 s : Standing) (now : ℕ) (judged : Bool) (given : Result Incoming LinkFault) (answer : Option Answer) (fault : Option LinkFault) (stop : Stop)
+ends_given : (v : Terms) (s0 s : Standing) (now wait : ℕ) (judged : Bool) (given : Result Incoming LinkFault) (answer : Option Answer) (fault : Option LinkFault) (stop : Stop)
     → is_some answer ≡ calls_hub (heard_step v s0 now judged given) → HasPut (octets_in (last_wanted v s (heard_step v s0 now judged given) answer)) fault
     → stop_given given (stop_judged judged (stop_message v s (heard_step v s0 now judged given) answer fault)) ≡ Some stop
-    → EndsAtFault (Gave given ∷ (puts (octets_in (last_wanted v s (heard_step v s0 now judged given) answer)) fault ++ said_closing stop.closing))
-ends_given v s0 s now judged (Err Failed) answer fault stop calls h is = rw (unheard v s0 now judged Failed, some_is (stop_at Failed) stop is) (refl, tt)
-ends_given v s0 s now judged (Err NoMemory) answer fault stop calls h is = rw (unheard v s0 now judged NoMemory, some_is (stop_at NoMemory) stop is) (refl, (tt, tt))
-ends_given v s0 s now judged (Ok Closed) answer fault stop calls h is = rw (unheard_closed v s0 now judged) (tt, ends_closing stop.closing)
-ends_given v s0 s now judged (Ok Text) answer fault stop calls h is = rw (unheard_text v s0 now judged) (tt, ends_closing stop.closing)
-ends_given v s0 s now judged (Ok Quiet) answer fault stop calls h is = cc
-ends_given v s0 s now judged (Ok (Message x)) answer fault stop calls h is = (tt, ends_judged v s0 s now judged x answer fault stop calls h is)
+    → EndsAtFault (Gave wait given ∷ (puts (octets_in (last_wanted v s (heard_step v s0 now judged given) answer)) fault ++ said_closing stop.closing))
+ends_given v s0 s now wait judged (Err Failed) answer fault stop calls h is = rw (unheard v s0 now judged Failed, some_is (stop_at Failed) stop is) (refl, tt)
+ends_given v s0 s now wait judged (Err NoMemory) answer fault stop calls h is = rw (unheard v s0 now judged NoMemory, some_is (stop_at NoMemory) stop is) (refl, (tt, tt))
+ends_given v s0 s now wait judged (Ok Closed) answer fault stop calls h is = rw (unheard_closed v s0 now judged) (tt, ends_closing stop.closing)
+ends_given v s0 s now wait judged (Ok Text) answer fault stop calls h is = rw (unheard_text v s0 now judged) (tt, ends_closing stop.closing)
+ends_given v s0 s now wait judged (Ok Quiet) answer fault stop calls h is = cc
+ends_given v s0 s now wait judged (Ok (Message x)) answer fault stop calls h is = (tt, ends_judged v s0 s now judged x answer fault stop calls h is)
 
 well_judged : (v : Terms) (s0 s : Standing) (now : ℕ) (judged : Bool) (m : List ℕ) (answer : Option Answer) (fault : Option LinkFault)
     → stop_judged judged (stop_message v s (heard_step v s0 now judged (Ok (Message m))) answer fault) ≡ None
@@ -158,17 +157,21 @@ well_judged : (v : Terms) (s0 s : Standing) (now : ℕ) (judged : Bool) (m : Lis
 well_judged v s0 s now true m answer fault is = well_putting (stop_by answer) _ fault _ is
 well_judged v s0 s now false m answer fault is = cc
 
-well_given : (v : Terms) (s0 s : Standing) (now : ℕ) (judged : Bool) (given : Result Incoming LinkFault) (answer : Option Answer) (fault : Option LinkFault)
+well_given : (v : Terms) (s0 s : Standing) (now wait : ℕ) (judged : Bool) (given : Result Incoming LinkFault) (answer : Option Answer) (fault : Option LinkFault)
     → stop_given given (stop_judged judged (stop_message v s (heard_step v s0 now judged given) answer fault)) ≡ None
-    → IsWell (Gave given ∷ puts (octets_in (last_wanted v s (heard_step v s0 now judged given) answer)) fault)
+    → IsWell (Gave wait given ∷ puts (octets_in (last_wanted v s (heard_step v s0 now judged given) answer)) fault)
 unfolding IsWell
-well_given v s0 s now judged (Err f) answer fault is = cc
-well_given v s0 s now judged (Ok Closed) answer fault is = cc
-well_given v s0 s now judged (Ok Text) answer fault is = cc
-well_given v s0 s now judged (Ok Quiet) answer fault is = rw (unheard_quiet v s0 now judged) (refl, tt)
-well_given v s0 s now judged (Ok (Message x)) answer fault is = (refl, well_judged v s0 s now judged x answer fault is)
+well_given v s0 s now wait judged (Err f) answer fault is = cc
+well_given v s0 s now wait judged (Ok Closed) answer fault is = cc
+well_given v s0 s now wait judged (Ok Text) answer fault is = cc
+well_given v s0 s now wait judged (Ok Quiet) answer fault is = rw (unheard_quiet v s0 now judged) (refl, tt)
+well_given v s0 s now wait judged (Ok (Message x)) answer fault is = (refl, well_judged v s0 s now judged x answer fault is)
 
 -- ---- the turn
+
+first_none : (a b : Option Stop) → first_of a b ≡ None → (a ≡ None) × (b ≡ None)
+first_none None b h = (refl, h)
+first_none (Some s) b h = cc
 
 pub alone : (a : Option Stop) → first_of a None ≡ a
 alone None = refl
@@ -187,14 +190,14 @@ ends_turn : (v : Terms) (s : Standing) (o : Opening) (h : Option Hearing) (stop 
 ends_turn v s o None stop is stops = rw append-nil (ends_opening v s o stop is.opening (sym (alone (stop_before v s o)) ∙ stops))
 ends_turn v s o (Some h) stop is stops =
     let quiet : stop_before v s o ≡ None = no_stop (stop_before v s o) is.heard in
-    rw append_assoc (well_then (puts (put_first v s o) o.fault) (said_hearing v (opened s o) o.reading h ++ said_closing stop.closing) (well_opening v s o quiet)
-    (ends_given v (opened s o) (heard v (opened s o) o.reading h.judged h.given) o.reading h.judged h.given h.answer h.fault stop is.hearing.calls is.hearing.cause
+    rw append_assoc (well_then (puts (put_first v s o) o.fault) (said_hearing v (opened s o) o.reading (wait_in o) h ++ said_closing stop.closing) (well_opening v s o quiet)
+    (ends_given v (opened s o) (heard v (opened s o) o.reading h.judged h.given) o.reading (wait_in o) h.judged h.given h.answer h.fault stop is.hearing.calls is.hearing.cause
     (after_none (stop_before v s o) _ stop quiet stops)))
 
 well_turn : (v : Terms) (s : Standing) (o : Opening) (h : Option Hearing) → stop_in v s (record { opening = o; hearing = h }) ≡ None → IsWell (said_in v s (record { opening = o; hearing = h }))
 well_turn v s o None on = rw append-nil (well_opening v s o (first_none (stop_before v s o) _ on).0)
-well_turn v s o (Some h) on = well-append (puts (put_first v s o) o.fault) (said_hearing v (opened s o) o.reading h) (well_opening v s o (first_none (stop_before v s o) _ on).0)
-    (well_given v (opened s o) (heard v (opened s o) o.reading h.judged h.given) o.reading h.judged h.given h.answer h.fault (first_none (stop_before v s o) _ on).1)
+well_turn v s o (Some h) on = well-append (puts (put_first v s o) o.fault) (said_hearing v (opened s o) o.reading (wait_in o) h) (well_opening v s o (first_none (stop_before v s o) _ on).0)
+    (well_given v (opened s o) (heard v (opened s o) o.reading h.judged h.given) o.reading (wait_in o) h.judged h.given h.answer h.fault (first_none (stop_before v s o) _ on).1)
 
 -- ---- the course
 

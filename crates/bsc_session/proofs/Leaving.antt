@@ -34,7 +34,9 @@ use Rattle.bsc_session.specs.Turns.{IsTurn, after, stop_in}
 use Rattle.bsc_session.proofs.Causing.{Ends, closes_why, left_after, parts_before, why_is}
 use Rattle.bsc_session.proofs.EndingAtFault.{after_none, alone, no_stop}
 use Rattle.bsc_session.proofs.Keeping.{Sound, has_quit, met_known, sound_opened, unmet_opened, unquit}
-use Rattle.bsc_session.proofs.Common.{no_gift}
+
+no_gift : (h : Hearing) → given_in (Some h) ≡ None → ⊥
+no_gift h is = cc
 
 -- ---- an End
 

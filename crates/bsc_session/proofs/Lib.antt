@@ -18,4 +18,3 @@ mod Asking
 mod HubCalls
 mod TakingFrames
 mod CarryingOut
-pub mod Common

@@ -1,5 +1,5 @@
 -- A turn is its opening, and then its hearing where the opening didn't stop the session.
-use Rattle.std.proofs.Common.{◌≡◌, ℕ, ◌+◌, ◌≤◌, ◌<◌, Bool, true, false, is_some, is_none, ◌&&◌, cond, List, [], ◌∷◌, refl, ap, sym, ◌∙◌, append-nil, arith, Option, Some, None, Result, Ok}
+use Rattle.std.proofs.Common.{◌≡◌, ℕ, ◌+◌, ◌≤◌, ◌<◌, Bool, true, false, is_some, is_none, ◌&&◌, cond, List, [], ◌∷◌, refl, ap, sym, ◌∙◌, append-nil, arith, Option, Some, None, Result, Ok, Err}
 use Rattle.std.specs.Prelude.{length, nat_lt, if◌then◌else◌}
 use Rattle.bsc_history.specs.declared.ending.End.{End}
 use Rattle.bsc_history.specs.declared.reply.Reply.TheVariants.{Joined, Refused}
@@ -10,6 +10,7 @@ use Rattle.bsc_edge.specs.Told.{Grows}
 use Rattle.bsc_accept.specs.declared.step.Step.{Step}
 use Rattle.bsc_accept.specs.declared.step.Step.TheVariants.{Ask}
 use Rattle.bsc_session.specs.declared.at.At.{At}
+use Rattle.bsc_session.specs.declared.backlog.Backlog.{Backlog}
 use Rattle.bsc_session.specs.declared.member.Member.{Member}
 use Rattle.bsc_session.specs.declared.stop.Stop.{Stop}
 use Rattle.bsc_session.specs.Answering.{answered, said_hearing, step_of, stands_heard}
@@ -17,17 +18,16 @@ use Rattle.bsc_edge.specs.declared.fault.LinkFault.{LinkFault}
 use Rattle.bsc_edge.specs.declared.incoming.Incoming.{Incoming}
 use Rattle.bsc_edge.specs.declared.incoming.Incoming.TheVariants.{Message}
 use Rattle.bsc_session.specs.Judging.{heard_told}
-use Rattle.bsc_session.specs.Inner.{Between, Follows, HasStanding, Hears, Held, IsFollowed, IsMember, Makes, Opens, SameMember, Starts, empties_by}
+use Rattle.bsc_session.specs.Inner.{Between, Follows, HasStanding, Hears, Held, IsFollowed, IsMember, Makes, Opens, SameMember, Starts, empties_by, is_more, stop_of}
 use Rattle.bsc_session.specs.Puts.{puts}
 use Rattle.bsc_session.specs.Reading.{started, ticked}
 use Rattle.bsc_session.specs.Receiving.{Answer, replies, Hearing}
 use Rattle.bsc_session.specs.Standings.{Standing, Terms, is_connected}
 use Rattle.bsc_session.specs.Stops.{first_of}
-use Rattle.bsc_session.specs.Taking.{Opening, end_told, opened, put_first, stop_before}
+use Rattle.bsc_session.specs.Taking.{Opening, end_told, opened, put_first, stop_before, wait_by, wait_in}
 use Rattle.bsc_session.specs.Turns.{after}
 use Rattle.bsc_session.proofs.HubCalls.{goes_nowhere}
-use Rattle.bsc_session.proofs.Lists.{grows_as}
-use Rattle.bsc_edge.proofs.Common.{grown}
+use Rattle.bsc_session.proofs.Lists.{grows_as, grown}
 
 pub member_same : (p : Pass) (m n : Option Member) → SameMember m n → IsMember p m → IsMember p n
 member_same p None None h k = tt
@@ -35,8 +35,8 @@ member_same p (Some m) (Some n) h k = rw (h.0, h.1, h.2) k
 member_same p None (Some n) h k = absurd h
 member_same p (Some m) None h k = absurd h
 
-pub held_opened : (h : Hub) (v : Terms) (s : Standing) (now : ℕ) (p : Pass) (a a1 b : At) (old new : Option (List Said)) (stop : Option Stop) → Held h v p a s → Starts v s now a a1 → (k : Opens v s now a1 b old new stop) → Held h v p b (opened s k.opening)
-held_opened h v s now p a a1 b old new stop held st k = record {
+pub held_opened : (h : Hub) (v : Terms) (s : Standing) (now : ℕ) (p : Pass) (a a1 b : At) (old new : Option (List Said)) (result : Result Backlog Stop) → Held h v p a s → Starts v s now a a1 → (k : Opens v s now a1 b old new result) → Held h v p b (opened s k.opening)
+held_opened h v s now p a a1 b old new result held st k = record {
   caller = held.caller;
   number = held.number;
   member = member_same p a1.member b.member k.same (rw st.member held.member);
@@ -45,7 +45,7 @@ held_opened h v s now p a a1 b old new stop held st k = record {
 
 -- the opening stops the session
 pub makes_opening : (h : Hub) (v : Terms) (s : Standing) (now : ℕ) (p : Pass) (a a1 b : At) (old new : Option (List Said)) (read read' : Option (List ℕ)) (stop : Stop) → s.receives < v.turns → Held h v p a s → Starts v s now a a1
-    → Grows read read' (now ∷ []) → Opens v s now a1 b old new (Some stop) → Makes v s h p p a b old new read read' (Some stop)
+    → Grows read read' (now ∷ []) → Opens v s now a1 b old new (Err stop) → Makes v s h p p a b old new read read' (Some stop)
 makes_opening h v s now p a a1 b old new read read' stop room held st reads k = record {
   turn = record { opening = k.opening; hearing = None };
   is = record { room = room; opening = k.is; heard = rw (sym k.stops) refl; hearing = tt };
@@ -57,15 +57,17 @@ makes_opening h v s now p a a1 b old new read read' stop room held st reads k = 
   reads = rw k.read reads;
   stops = rw (sym k.stops) refl;
   is_worn = λ e. cc;
-  held = held_opened h v s now p a a1 b old new (Some stop) held st k;
+  held = held_opened h v s now p a a1 b old new (Err stop) held st k;
   runs = λ going. cc;
 }
 
 -- the opening goes on, and the session hears
-pub makes_hearing : (h : Hub) (v : Terms) (s : Standing) (now : ℕ) (p q : Pass) (a a1 b c : At) (old mid new : Option (List Said)) (read read' : Option (List ℕ)) (stop : Option Stop) → s.receives < v.turns → Starts v s now a a1
-    → Grows read read' (now ∷ []) → (k : Opens v s now a1 b old mid None) → Hears v (opened s k.opening) now h p q b c mid new stop → Makes v s h p q a c old new read read' stop
-makes_hearing h v s now p q a a1 b c old mid new read read' stop room st reads k hears =
-    let l : Hears v (opened s k.opening) k.opening.reading h p q b c mid new stop = rw (sym k.read) at hears in
+pub makes_hearing : (h : Hub) (v : Terms) (s : Standing) (now : ℕ) (p q : Pass) (a a1 b c : At) (old mid new : Option (List Said)) (read read' : Option (List ℕ)) (stop : Option Stop) (backlog : Backlog) (wait : ℕ) → s.receives < v.turns
+    → Starts v s now a a1 → Grows read read' (now ∷ []) → (k : Opens v s now a1 b old mid (Ok backlog)) → wait ≡ wait_by (is_more backlog) → Hears v (opened s k.opening) now wait h p q b c mid new stop
+    → Makes v s h p q a c old new read read' stop
+makes_hearing h v s now p q a a1 b c old mid new read read' stop backlog wait room st reads k waits hears =
+    let w : wait ≡ wait_in k.opening = waits ∙ ap wait_by k.more in
+    let l : Hears v (opened s k.opening) k.opening.reading (wait_in k.opening) h p q b c mid new stop = rw (sym k.read, w) at hears in
     record {
       turn = record { opening = k.opening; hearing = Some l.hearing };
       is = record { room = room; opening = k.is; heard = rw (sym k.stops) refl; hearing = l.is };
@@ -73,7 +75,7 @@ makes_hearing h v s now p q a a1 b c old mid new read read' stop room st reads k
       gave = rw (sym st.member) (l.given_same ∙ k.gave);
       empties = rw (sym st.member) (l.empties_same ∙ (
           let e : empties_by b.member ≡ empties_by a1.member + (if is_none k.opening.met && (true && (is_connected (ticked s k.opening.reading) && nat_lt (length k.opening.frames) 16)) then 1 else 0) = rw (sym k.stops) at k.empties in e));
-      said = grown old mid new (puts (put_first v s k.opening) k.opening.fault) (said_hearing v (opened s k.opening) k.opening.reading l.hearing) k.said l.said;
+      said = grown old mid new (puts (put_first v s k.opening) k.opening.fault) (said_hearing v (opened s k.opening) k.opening.reading (wait_in k.opening) l.hearing) k.said l.said;
       reads = rw k.read reads;
       stops = rw (sym k.stops) l.stops;
       is_worn = l.is_worn;
@@ -140,8 +142,8 @@ followed_started v s now a b st = (v, started s now, st.follows, st.runs)
 pub room_started : (v : Terms) (s : Standing) (now : ℕ) (a b : At) → Starts v s now a b → Follows a s → Between v a s → a.receives < 18446744073709551615 → empties_by b.member < 18446744073709551615
 room_started v s now a b st f between room = (let x = between.bounded in let r = f.receives in rw st.member (omega (arith, x, r, room)))
 
-pub standing_opened : (h : Hub) (v : Terms) (s : Standing) (now : ℕ) (p : Pass) (a a1 b : At) (old new : Option (List Said)) (stop : Option Stop) → stop ≡ None → Held h v p a s → Starts v s now a a1 → Opens v s now a1 b old new stop → HasStanding h p b
-standing_opened h v s now p a a1 b old new stop going held st k = (v, opened s k.opening, held_opened h v s now p a a1 b old new stop held st k, k.runs going)
+pub standing_opened : (h : Hub) (v : Terms) (s : Standing) (now : ℕ) (p : Pass) (a a1 b : At) (old new : Option (List Said)) (result : Result Backlog Stop) → stop_of result ≡ None → Held h v p a s → Starts v s now a a1 → Opens v s now a1 b old new result → HasStanding h p b
+standing_opened h v s now p a a1 b old new result going held st k = (v, opened s k.opening, held_opened h v s now p a a1 b old new result held st k, k.runs going)
 
-pub room_opened : (h : Hub) (v : Terms) (s : Standing) (now : ℕ) (p : Pass) (a a1 b : At) (old new : Option (List Said)) (stop : Option Stop) → Held h v p a s → Opens v s now a1 b old new stop → a.receives < 18446744073709551615 → b.receives < 18446744073709551615
-room_opened h v s now p a a1 b old new stop held k room = (let e : b.receives ≡ a.receives = k.follows.receives ∙ receives_opened s k.opening ∙ sym held.follows.receives in rw e room)
+pub room_opened : (h : Hub) (v : Terms) (s : Standing) (now : ℕ) (p : Pass) (a a1 b : At) (old new : Option (List Said)) (result : Result Backlog Stop) → Held h v p a s → Opens v s now a1 b old new result → a.receives < 18446744073709551615 → b.receives < 18446744073709551615
+room_opened h v s now p a a1 b old new result held k room = (let e : b.receives ≡ a.receives = k.follows.receives ∙ receives_opened s k.opening ∙ sym held.follows.receives in rw e room)

@@ -1,10 +1,14 @@
 -- A turn's opening: the time, and what the outlet has.
-use Rattle.std.proofs.Common.{◌≡◌, ◌≢◌, ℕ, Bool, true, false, cond, is_some, List, [], refl, ap, sym, ◌∙◌, append-nil, arith, inl, inr, lit≤, Option, Some, None}
+use Rattle.std.proofs.Common.{◌≡◌, ◌≢◌, ◌<◌, ℕ, Bool, true, false, not, cond, is_some, List, [], length, refl, ap, sym, ◌∙◌, append-nil, arith, inl, inr, lit≤, Option, Some, None, Result, Ok, Err}
+use Rattle.std.specs.Prelude.{nat_lt, suc, zero}
+use Rattle.std.proofs.lemmas.Bool.{lt-ltb}
+use Rattle.bsc_octets.specs.declared.identity.Identity.{Identity}
 use Rattle.bsc_history.specs.declared.ending.End.{End}
 use Rattle.bsc_history.specs.declared.ending.End.TheVariants.{Left, Full}
 use Rattle.bsc_ring.specs.declared.ends.Outlet.{Outlet}
 use Rattle.bsc_checks.specs.declared.phase.Phase.{Phase}
 use Rattle.bsc_checks.specs.declared.phase.Phase.TheVariants.{Connected as PhaseConnected}
+use Rattle.bsc_hub.specs.declared.hub.Hub.{Hub}
 use Rattle.bsc_edge.specs.declared.fault.LinkFault.{LinkFault}
 use Rattle.bsc_edge.specs.declared.said.Said.{Said}
 use Rattle.bsc_accept.specs.declared.accepting.Accepting.{Accepting}
@@ -14,10 +18,13 @@ use Rattle.bsc_accept.specs.declared.start.Start.{Start}
 use Rattle.bsc_accept.specs.declared.step.Step.{Step}
 use Rattle.bsc_accept.specs.declared.step.Step.TheVariants.{Close, Nothing}
 use Rattle.bsc_accept.specs.Past.{Standing as MachineStanding, awaiting_request, connected, disconnecting, last_message, phase, standing}
-use Rattle.bsc_accept.specs.Standing.{Answers as MachineAnswers, LeftBy, StandsFor}
+use Rattle.bsc_accept.specs.Standing.{Answers as MachineAnswers, IsOpen, LeftBy, StandsFor}
 use Rattle.bsc_accept.specs.Steps.{ended_step, normal, tick_step}
 use Rattle.bsc_accept.specs.Waits.{connect_wait_is_over, disconnect_wait_is_over, is_idle}
 use Rattle.bsc_session.specs.declared.at.At.{At}
+use Rattle.bsc_session.specs.declared.backlog.Backlog.{Backlog}
+use Rattle.bsc_session.specs.declared.backlog.Backlog.TheVariants.{MaybeMore, Nothing as NothingLeft}
+use Rattle.bsc_session.specs.declared.limits.SessionLimits.{SessionLimits}
 use Rattle.bsc_session.specs.declared.member.Member.{Member}
 use Rattle.bsc_session.specs.declared.stop.Stop.{Stop}
 use Rattle.bsc_session.specs.declared.taken.Taken.{Taken}
@@ -25,17 +32,15 @@ use Rattle.bsc_session.specs.declared.taken.Taken.TheVariants.{All, Part, Met, C
 use Rattle.bsc_session.specs.declared.why.Why.{Why}
 use Rattle.bsc_session.specs.declared.why.Why.TheVariants.{EndedBy}
 use Rattle.bsc_session.specs.Answering.{calls_hub}
-use Rattle.bsc_session.specs.Inner.{Attends, Carries, Follows, HasEnded, HasFound, Meets, Opens, Runs, SameMember, Takes, TakesFrom, Ticks, Tied, conn_of, cut_in, given_by, met_in}
+use Rattle.bsc_session.specs.Inner.{AreTerms, Attends, Between, Carries, Follows, HasEnded, HasFound, Meets, Opens, Runs, SameMember, Starts, Takes, TakesFrom, TellsMore, Ticks, Tied, conn_of, cut_in, given_by, is_more, met_in, stop_of}
 use Rattle.bsc_session.specs.Puts.{octets_in, puts}
-use Rattle.bsc_session.specs.Reading.{started, ticked, wanted_at}
+use Rattle.bsc_session.specs.Reading.{start_at, started, ticked, wanted_at}
 use Rattle.bsc_session.specs.Standings.{Standing, Terms, is_connected, is_phase_connected, start_of, told, wanted}
 use Rattle.bsc_session.specs.Stops.{closes, closing_in, stop_at, stop_for}
-use Rattle.bsc_session.specs.Taking.{waiting_for}
+use Rattle.bsc_session.specs.Taking.{may_be_more, waiting_for}
 use Rattle.bsc_session.proofs.Asking.{left_open, tied_told}
-use Rattle.bsc_session.proofs.Hearing.{some_of}
-use Rattle.bsc_session.proofs.Lists.{grows_as, puts-append}
-use Rattle.bsc_edge.proofs.Common.{grown, grows-nil}
-use Rattle.bsc_session.proofs.Common.{connected_in as connected_joined}
+use Rattle.bsc_session.proofs.Hearing.{connected_joined, some_of}
+use Rattle.bsc_session.proofs.Lists.{grown, grows-nil, grows_as, puts-append}
 
 -- ---- the time
 
@@ -81,6 +86,36 @@ ticks_on v s now a m st f r answers left closing =
 
 -- ---- the start
 
+start_later : (n start now : ℕ) → n ≢ 0 → start_at n start now ≡ start
+start_later zero start now h = absurd (h refl)
+start_later (suc n) start now h = refl
+
+pub starts_later : (v : Terms) (s : Standing) (now : ℕ) (a : At) → a.receives ≢ 0 → Follows a s → Between v a s → Starts v s now a a
+starts_later v s now a later f b =
+    let e : start_at s.receives s.start now ≡ s.start = start_later s.receives s.start now (λ z. later (f.receives ∙ z)) in
+    record {
+      member = refl;
+      follows = record { conn = f.conn; ended = f.ended; receives = f.receives; found = f.found };
+      runs = record { machine = rw e b.runs.machine; waits = b.runs.waits; tied = b.runs.tied };
+    }
+
+start_first : (n start now : ℕ) → n ≡ 0 → start_at n start now ≡ now
+start_first zero start now h = refl
+start_first (suc n) start now h = cc
+
+pub starts_first : (h : Hub) (limits : SessionLimits) (v : Terms) (s : Standing) (now : ℕ) (a : At) (m : Accepting) (who : Identity) → a.receives ≡ 0 → AreTerms v h limits → Follows a s → Between v a s
+    → v.hub ≡ who → StandsFor m (record { own = who; times = limits.times; at = now }) [] → IsOpen m
+    → Starts v s now a (record { machine = m; member = a.member; ended = a.ended; receives = a.receives })
+starts_first h limits v s now a m who zero_ terms f b fixed stands waits =
+    let z : s.receives ≡ 0 = sym f.receives ∙ zero_ in
+    let e : start_at s.receives s.start now ≡ now = start_first s.receives s.start now z in
+    let none : s.events ≡ [] = b.fresh z in
+    record {
+      member = refl;
+      follows = record { conn = f.conn; ended = f.ended; receives = f.receives; found = f.found };
+      runs = record { machine = rw (e, none, fixed, terms.times) stands; waits = waits; tied = b.runs.tied };
+    }
+
 -- ---- the taking
 
 keep_end : (e : Option End) (m : Member) (p : Outlet) → ((d : End) → HasEnded m.outlet d → HasEnded p d) → HasFound e (Some m) → HasFound e (Some (record { conn = m.conn; address = m.address; outlet = p }))
@@ -97,6 +132,7 @@ takes_from m p old new taken t = record {
   gave = t.gave;
   empties = t.empties;
   few = t.few;
+  fits = t.fits;
   said = t.said;
   cause = t.cause;
 }
@@ -111,10 +147,11 @@ follows_taken : (a : At) (n : Option Member) (s : Standing) → SameMember a.mem
 follows_taken a n s same keeps f = record { conn = conn_same a.member n same ∙ f.conn; ended = f.ended; receives = f.receives; found = keeps a.ended f.found }
 
 -- no End and no fault came
-attends_on : (v : Terms) (s : Standing) (now : ℕ) (a : At) (n : Option Member) (old new : Option (List Said)) (taken : Taken)
-    → met_in taken ≡ None → cut_in taken ≡ None → TakesFrom a.member n old new taken → Follows a s → Runs v a s
-    → Attends v s now a (record { machine = a.machine; member = n; ended = a.ended; receives = a.receives }) old new None
-attends_on v s now a n old new taken unmet uncut t f r = record {
+attends_on : (v : Terms) (s : Standing) (now : ℕ) (a : At) (n : Option Member) (old new : Option (List Said)) (taken : Taken) (backlog : Backlog)
+    → met_in taken ≡ None → cut_in taken ≡ None → (t : TakesFrom a.member n old new taken) → is_more backlog ≡ may_be_more t.frames None
+    → Follows a s → Runs v a s
+    → Attends v s now a (record { machine = a.machine; member = n; ended = a.ended; receives = a.receives }) old new (Ok backlog)
+attends_on v s now a n old new taken backlog unmet uncut t more f r = record {
   frames = t.frames;
   met = None;
   fault = None;
@@ -126,25 +163,33 @@ attends_on v s now a n old new taken unmet uncut t f r = record {
   said = rw append-nil (rw uncut at t.said);
   cause = rw uncut at t.cause;
   stops = refl;
+  more = more;
   follows = follows_taken a n s t.same t.keeps f;
   runs = λ going. record { machine = r.machine; waits = r.waits; tied = r.tied };
 }
 
+-- after fewer than sixteen frames there is no more, and after sixteen there may be
+few_more : (frames : List (List ℕ)) → length frames < 16 → false ≡ may_be_more frames None
+few_more frames few = ap not (sym (lt-ltb (length frames) 16 few))
+
+many_more : (frames : List (List ℕ)) → length frames ≡ 16 → true ≡ may_be_more frames None
+many_more frames many = ap (λ (n : ℕ). not (nat_lt n 16)) (sym many)
+
 -- nothing more was there
 pub attends_all : (v : Terms) (s : Standing) (now : ℕ) (a : At) (n : Option Member) (old new : Option (List Said))
     → TakesFrom a.member n old new All → Follows a s → Runs v a s
-    → Attends v s now a (record { machine = a.machine; member = n; ended = a.ended; receives = a.receives }) old new None
-attends_all v s now a n old new t f r = attends_on v s now a n old new All refl refl t f r
+    → Attends v s now a (record { machine = a.machine; member = n; ended = a.ended; receives = a.receives }) old new (Ok NothingLeft)
+attends_all v s now a n old new t f r = attends_on v s now a n old new All NothingLeft refl refl t (few_more t.frames t.fits) f r
 
 -- there may be more
 pub attends_part : (v : Terms) (s : Standing) (now : ℕ) (a : At) (n : Option Member) (old new : Option (List Said))
     → TakesFrom a.member n old new Part → Follows a s → Runs v a s
-    → Attends v s now a (record { machine = a.machine; member = n; ended = a.ended; receives = a.receives }) old new None
-attends_part v s now a n old new t f r = attends_on v s now a n old new Part refl refl t f r
+    → Attends v s now a (record { machine = a.machine; member = n; ended = a.ended; receives = a.receives }) old new (Ok MaybeMore)
+attends_part v s now a n old new t f r = attends_on v s now a n old new Part MaybeMore refl refl t (many_more t.frames t.fits) f r
 
 -- the taking was cut off by a fault
 pub attends_cut : (v : Terms) (s : Standing) (now : ℕ) (a : At) (n : Option Member) (old new : Option (List Said)) (fault : LinkFault) (stop : Stop) → TakesFrom a.member n old new (Cut fault) → Follows a s → stop ≡ stop_at fault
-    → Attends v s now a (record { machine = a.machine; member = n; ended = a.ended; receives = a.receives }) old new (Some stop)
+    → Attends v s now a (record { machine = a.machine; member = n; ended = a.ended; receives = a.receives }) old new (Err stop)
 attends_cut v s now a n old new fault stop t f is = record {
   frames = t.frames;
   met = None;
@@ -157,6 +202,7 @@ attends_cut v s now a n old new fault stop t f is = record {
   said = rw append-nil t.said;
   cause = t.cause;
   stops = ap (λ x. Some x) is;
+  more = tt;
   follows = follows_taken a n s t.same t.keeps f;
   runs = λ going. cc;
 }
@@ -185,10 +231,10 @@ not_left : (e : End) → e ≢ Left → Some e ≢ Some Left
 not_left e h is = h cc
 
 -- the taking came to an End, and what the machine then wanted was carried out
-pub attends_met : (v : Terms) (s : Standing) (now : ℕ) (a b : At) (n : Option Member) (old mid new : Option (List Said)) (e : End) (stop : Option Stop) → TakesFrom a.member n old mid (Met e) → Follows a s
-    → Meets v s now e (record { machine = a.machine; member = n; ended = a.ended; receives = a.receives }) b mid new stop
-    → Attends v s now a b old new stop
-attends_met v s now a b n old mid new e stop t f k = record {
+pub attends_met : (v : Terms) (s : Standing) (now : ℕ) (a b : At) (n : Option Member) (old mid new : Option (List Said)) (e : End) (stop : Option Stop) (result : Result Backlog Stop) → TakesFrom a.member n old mid (Met e)
+    → Follows a s → Meets v s now e (record { machine = a.machine; member = n; ended = a.ended; receives = a.receives }) b mid new stop
+    → stop_of result ≡ stop → TellsMore result false → Attends v s now a b old new result
+attends_met v s now a b n old mid new e stop result t f k is more = record {
   frames = t.frames;
   met = Some e;
   fault = k.carried.fault;
@@ -200,9 +246,10 @@ attends_met v s now a b n old mid new e stop t f k = record {
   said = grows_as old new _ _ (sym (puts-append t.frames (octets_in (wanted v s (Ended now e))) k.carried.fault k.carried.cause))
       (grown old mid new (puts t.frames None) (puts (octets_in (wanted v s (Ended now e))) k.carried.fault) t.said k.carried.said);
   cause = k.carried.cause;
-  stops = k.carried.stops;
+  stops = is ∙ k.carried.stops;
+  more = more;
   follows = record { conn = rw k.member (conn_same a.member n t.same ∙ f.conn); ended = k.ended; receives = k.receives ∙ f.receives; found = rw (k.ended, k.member) (t.found e refl) };
-  runs = k.runs;
+  runs = λ going. k.runs (sym is ∙ going);
 }
 
 -- ---- the opening
@@ -212,7 +259,7 @@ same_member None = tt
 same_member (Some m) = (refl, refl, refl)
 
 -- the reading closes the session
-pub opens_expired : (v : Terms) (s : Standing) (now : ℕ) (a b : At) (old : Option (List Said)) (stop : Stop) → Ticks v (started s now) now a b (Some stop) → Opens v s now a b old old (Some stop)
+pub opens_expired : (v : Terms) (s : Standing) (now : ℕ) (a b : At) (old : Option (List Said)) (stop : Stop) → Ticks v (started s now) now a b (Some stop) → Opens v s now a b old old (Err stop)
 opens_expired v s now a b old stop t = record {
   opening = record { reading = now; frames = []; met = None; fault = None };
   read = refl;
@@ -222,6 +269,7 @@ opens_expired v s now a b old stop t = record {
   empties = rw (t.member, sym t.stops) (omega arith);
   said = grows-nil old;
   stops = rw (sym t.stops) refl;
+  more = tt;
   follows = t.follows;
   runs = λ going. cc;
 }
@@ -231,7 +279,7 @@ closes_none w None h = refl
 closes_none w (Some c) h = cc
 
 -- nothing is taken outside of Connected
-pub opens_apart : (v : Terms) (s : Standing) (now : ℕ) (a b : At) (old : Option (List Said)) → Ticks v (started s now) now a b None → is_connected (ticked s now) ≡ false → Opens v s now a b old old None
+pub opens_apart : (v : Terms) (s : Standing) (now : ℕ) (a b : At) (old : Option (List Said)) → Ticks v (started s now) now a b None → is_connected (ticked s now) ≡ false → Opens v s now a b old old (Ok NothingLeft)
 opens_apart v s now a b old t apart = record {
   opening = record { reading = now; frames = []; met = None; fault = None };
   read = refl;
@@ -241,14 +289,15 @@ opens_apart v s now a b old t apart = record {
   empties = rw (t.member, sym t.stops, apart) (omega arith);
   said = grows-nil old;
   stops = rw (sym t.stops) refl;
+  more = refl;
   follows = t.follows;
   runs = t.runs;
 }
 
 -- in Connected the frames are taken
-pub opens_attended : (v : Terms) (s : Standing) (now : ℕ) (a b c : At) (old new : Option (List Said)) (stop : Option Stop) → Ticks v (started s now) now a b None → is_connected (ticked s now) ≡ true
-    → Attends v (ticked s now) now b c old new stop → Opens v s now a c old new stop
-opens_attended v s now a b c old new stop t live k =
+pub opens_attended : (v : Terms) (s : Standing) (now : ℕ) (a b c : At) (old new : Option (List Said)) (result : Result Backlog Stop) → Ticks v (started s now) now a b None → is_connected (ticked s now) ≡ true
+    → Attends v (ticked s now) now b c old new result → Opens v s now a c old new result
+opens_attended v s now a b c old new result t live k =
     let quiet : closing_in (wanted_at v s now) ≡ None = closes_none _ _ t.stops in
     record {
       opening = record { reading = now; frames = k.frames; met = k.met; fault = k.fault };
@@ -259,6 +308,7 @@ opens_attended v s now a b c old new stop t live k =
       empties = rw (quiet, sym k.stops, live) (rw t.member at k.empties);
       said = k.said;
       stops = rw quiet k.stops;
+      more = k.more;
       follows = k.follows;
       runs = k.runs;
     }

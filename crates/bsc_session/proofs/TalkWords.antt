@@ -57,7 +57,7 @@ abbrev pub accept : List ℕ
 accept = 0x07 ∷ 0x00 ∷ 0x00 ∷ 0x01 ∷ hub_octets
 
 abbrev pub connects : Said
-connects = Gave (Ok (Message connect))
+connects = Gave 500 (Ok (Message connect))
 
 abbrev pub joins_as : ℕ → Turn
 joins_as c = given_at 0 (Ok (Message connect)) (Some (replies [] (Joined c None))) None

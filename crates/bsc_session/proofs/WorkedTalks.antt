@@ -1,5 +1,5 @@
 -- Talks written out, each a session by computation: a link of which each call in turn fails, and what a peer may send.
-use Rattle.std.proofs.Common.{[], ◌∷◌, Some, None, Ok, Err, refl, inl, lit<, lit≤}
+use Rattle.std.proofs.Common.{[], ◌∷◌, ◌++◌, Some, None, Ok, Err, true, replicate, refl, inl, lit<, lit≤}
 use Rattle.bsc_octets.specs.Identities.{identity_of}
 use Rattle.bsc_history.specs.declared.call.Call.TheVariants.{Connect}
 use Rattle.bsc_history.specs.declared.ending.End.TheVariants.{Left}
@@ -19,7 +19,7 @@ use Rattle.bsc_session.proofs.TalkWords.{a_octets, terms, reads, bare, given_at,
 
 -- The link gives A's connect, and then Closed; nothing fails.
 nothing_fails : Session terms
-    (connects ∷ Put accept None ∷ Gave (Ok Closed) ∷ [])
+    (connects ∷ Put accept None ∷ Gave 500 (Ok Closed) ∷ [])
     (0 ∷ 0 ∷ [])
     (joined_as 1 ∷ left_as 1 0 1 ∷ [])
     []
@@ -36,7 +36,7 @@ nothing_fails = told_by terms (record {
 
 -- The same, and call 1, the receive, fails.
 call_1_fails : Session terms
-    (Gave (Err Failed) ∷ [])
+    (Gave 500 (Err Failed) ∷ [])
     (0 ∷ [])
     []
     []
@@ -70,7 +70,7 @@ call_2_fails = told_by terms (record {
 
 -- Call 3, the second receive, fails.
 call_3_fails : Session terms
-    (connects ∷ Put accept None ∷ Gave (Err Failed) ∷ [])
+    (connects ∷ Put accept None ∷ Gave 500 (Err Failed) ∷ [])
     (0 ∷ 0 ∷ [])
     (joined_as 1 ∷ left_as 1 0 1 ∷ [])
     []
@@ -87,7 +87,7 @@ call_3_fails = told_by terms (record {
 
 -- A sends to itself; call 4, the put of the frame that comes back, fails.
 a_frame_cannot_leave : Session terms
-    (connects ∷ Put accept None ∷ Gave (Ok (Message to_itself)) ∷ Put back (Some Failed) ∷ [])
+    (connects ∷ Put accept None ∷ Gave 500 (Ok (Message to_itself)) ∷ Put back (Some Failed) ∷ [])
     (0 ∷ 0 ∷ 0 ∷ [])
     (joined_as 1 ∷ forwarded 1 1 to_itself Appended ∷ left_as 1 1 1 ∷ [])
     (back ∷ [])
@@ -104,7 +104,7 @@ a_frame_cannot_leave = told_by terms (record {
 
 -- A text comes.
 a_text_comes : Session terms
-    (connects ∷ Put accept None ∷ Gave (Ok Text) ∷ SaidClosed 1003 [] ∷ [])
+    (connects ∷ Put accept None ∷ Gave 500 (Ok Text) ∷ SaidClosed 1003 [] ∷ [])
     (0 ∷ 0 ∷ [])
     (joined_as 1 ∷ left_as 1 0 1 ∷ [])
     []
@@ -121,7 +121,7 @@ a_text_comes = told_by terms (record {
 
 -- The same, and call 4, the closing, fails: the talk has it, whatever it answered.
 a_text_comes_and_the_closing_fails : Session terms
-    (connects ∷ Put accept None ∷ Gave (Ok Text) ∷ SaidClosed 1003 [] ∷ [])
+    (connects ∷ Put accept None ∷ Gave 500 (Ok Text) ∷ SaidClosed 1003 [] ∷ [])
     (0 ∷ 0 ∷ [])
     (joined_as 1 ∷ left_as 1 0 1 ∷ [])
     []
@@ -138,7 +138,7 @@ a_text_comes_and_the_closing_fails = told_by terms (record {
 
 -- A Disconnect-Request comes; call 4, the put of its ACK, fails.
 the_ack_cannot_leave : Session terms
-    (connects ∷ Put accept None ∷ Gave (Ok (Message leaves)) ∷ Put leaves_ack (Some Failed) ∷ [])
+    (connects ∷ Put accept None ∷ Gave 500 (Ok (Message leaves)) ∷ Put leaves_ack (Some Failed) ∷ [])
     (0 ∷ 0 ∷ [])
     (joined_as 1 ∷ left_as 1 0 1 ∷ [])
     []
@@ -155,7 +155,7 @@ the_ack_cannot_leave = told_by terms (record {
 
 -- A Disconnect-Request comes; call 5, the closing, fails, which changes nothing.
 the_peer_leaves : Session terms
-    (connects ∷ Put accept None ∷ Gave (Ok (Message leaves)) ∷ Put leaves_ack None ∷ SaidClosed 1000 [] ∷ [])
+    (connects ∷ Put accept None ∷ Gave 500 (Ok (Message leaves)) ∷ Put leaves_ack None ∷ SaidClosed 1000 [] ∷ [])
     (0 ∷ 0 ∷ [])
     (joined_as 1 ∷ left_as 1 0 1 ∷ [])
     []
@@ -172,7 +172,7 @@ the_peer_leaves = told_by terms (record {
 
 -- A head comes that is cut; nothing is answered.
 a_cut_head_comes : Session terms
-    (connects ∷ Put accept None ∷ Gave (Ok (Message cut)) ∷ Gave (Ok Closed) ∷ [])
+    (connects ∷ Put accept None ∷ Gave 500 (Ok (Message cut)) ∷ Gave 500 (Ok Closed) ∷ [])
     (0 ∷ 0 ∷ 0 ∷ [])
     (joined_as 1 ∷ left_as 1 0 2 ∷ [])
     []
@@ -189,7 +189,7 @@ a_cut_head_comes = told_by terms (record {
 
 -- A message comes of an octet too many; nothing is answered.
 a_message_too_long_comes : Session terms
-    (connects ∷ Put accept None ∷ Gave (Ok (Message too_long)) ∷ Gave (Ok Closed) ∷ [])
+    (connects ∷ Put accept None ∷ Gave 500 (Ok (Message too_long)) ∷ Gave 500 (Ok Closed) ∷ [])
     (0 ∷ 0 ∷ 0 ∷ [])
     (joined_as 1 ∷ left_as 1 0 2 ∷ [])
     []
@@ -206,7 +206,7 @@ a_message_too_long_comes = told_by terms (record {
 
 -- Two waits end without a message, and the third reading finds the connect wait over.
 no_connect_comes : Session terms
-    (Gave (Ok Quiet) ∷ Gave (Ok Quiet) ∷ SaidClosed 1008 (reason_text ConnectWait) ∷ [])
+    (Gave 500 (Ok Quiet) ∷ Gave 500 (Ok Quiet) ∷ SaidClosed 1008 (reason_text ConnectWait) ∷ [])
     (0 ∷ 9999 ∷ 10000 ∷ [])
     []
     []
@@ -240,7 +240,7 @@ the_hub_has_stopped = told_by terms (record {
 
 -- B has connection 1 and an outbox for two frames, and takes none; A sends it three.
 an_outbox_is_full : Session terms
-    (connects ∷ Put accept None ∷ Gave (Ok (Message (to_b 1))) ∷ Gave (Ok (Message (to_b 2))) ∷ Gave (Ok (Message (to_b 3))) ∷ Gave (Ok Closed) ∷ [])
+    (connects ∷ Put accept None ∷ Gave 500 (Ok (Message (to_b 1))) ∷ Gave 500 (Ok (Message (to_b 2))) ∷ Gave 500 (Ok (Message (to_b 3))) ∷ Gave 500 (Ok Closed) ∷ [])
     (0 ∷ 0 ∷ 0 ∷ 0 ∷ 0 ∷ [])
     (joined_as 2 ∷ forwarded 2 1 (to_b 1) Appended ∷ forwarded 2 1 (to_b 2) Appended ∷ forwarded 2 1 (to_b 3) ClosedReply ∷ left_as 2 0 4 ∷ [])
     []
@@ -252,5 +252,22 @@ an_outbox_is_full = told_by terms (record {
   stop = stop_for PeerClosed None;
   turns = (hears _ 0 _ (lit< tt) refl tt refl refl tt, (hears _ 0 _ (lit< tt) refl tt refl tt tt, (hears _ 0 _ (lit< tt) refl tt refl tt tt, (hears _ 0 _ (lit< tt) refl tt refl tt tt, (hears _ 0 _ (lit< tt) refl tt refl tt tt, tt)))));
   goes_on = (refl, (refl, (refl, (refl, tt))));
+  stops = refl;
+}) Left (λ c e joined met. cc)
+
+-- Sixteen frames wait in A's outbox, as many as a turn takes: the receive behind them only looks.
+more_may_wait : Session terms
+    (connects ∷ Put accept None ∷ (replicate 16 (Put back None) ++ Gave 0 (Ok Closed) ∷ []))
+    (0 ∷ 0 ∷ [])
+    (joined_as 1 ∷ left_as 1 16 0 ∷ [])
+    (replicate 16 back)
+    (record { why = PeerClosed; conn = Some 1; taken = 16; empties = 0; turns = 2 })
+unfolding verdict_on_literals
+more_may_wait = told_by terms (record {
+  went_on = (joins ∷ []);
+  last = Some (record { opening = record { reading = 0; frames = replicate 16 back; met = None; fault = None }; hearing = Some (record { given = Ok Closed; judged = true; answer = None; fault = None }) });
+  stop = stop_for PeerClosed None;
+  turns = (hears _ 0 _ (lit< tt) refl tt refl refl tt, (record { room = lit< tt; opening = record { takes = inl (refl, refl); few = lit≤ tt; not_left = λ h. cc; cause = tt }; heard = refl; hearing = record { memory = tt; calls = refl; fits = tt; cause = tt } }, tt));
+  goes_on = (refl, tt);
   stops = refl;
 }) Left (λ c e joined met. cc)

@@ -106,9 +106,9 @@ last_step v s now h = last_wanted v (stands_heard v s now h) (step_of v s now h)
 abbrev pub after_hearing : Terms → Standing → ℕ → Hearing → Standing
 after_hearing v s now h = answered (stands_heard v s now h) (step_of v s now h) h.answer
 
--- What is said on the link: the thing given, and the puts after it.
-abbrev pub said_hearing : Terms → Standing → ℕ → Hearing → List Said
-said_hearing v s now h = Gave h.given ∷ puts (octets_in (last_step v s now h)) h.fault
+-- What is said on the link, by the wait of the receive: that wait with the thing given, and the puts after it.
+abbrev pub said_hearing : Terms → Standing → ℕ → ℕ → Hearing → List Said
+said_hearing v s now wait h = Gave wait h.given ∷ puts (octets_in (last_step v s now h)) h.fault
 
 -- The entries that are made.
 abbrev pub entries_hearing : Terms → Standing → ℕ → Hearing → List Entry

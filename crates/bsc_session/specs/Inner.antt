@@ -26,6 +26,7 @@ use Rattle.bsc_hub.specs.declared.hub.Hub.{Hub}
 use Rattle.bsc_hub.specs.Passing.{IsCaller, IsOwnAs, about_of}
 use Rattle.bsc_session.specs.declared.at.At.{At}
 use Rattle.bsc_session.specs.declared.backlog.Backlog.{Backlog}
+use Rattle.bsc_session.specs.declared.backlog.Backlog.TheVariants.{MaybeMore, Nothing as NothingLeft}
 use Rattle.bsc_session.specs.declared.member.Member.{Member}
 use Rattle.bsc_session.specs.declared.stop.Stop.{Stop}
 use Rattle.bsc_session.specs.declared.taken.Taken.{Taken}
@@ -43,7 +44,7 @@ use Rattle.bsc_session.specs.Standings.{Standing, Terms, begun, is_connected, st
 use Rattle.bsc_session.specs.declared.limits.SessionLimits.{SessionLimits}
 use Rattle.bsc_session.specs.Judging.{LacksAtPass, heard_step, heard_told}
 use Rattle.bsc_session.specs.Reading.{started, ticked}
-use Rattle.bsc_session.specs.Taking.{IsOpening, Opening, count_of, end_step, end_told, ended_by, last_of, opened, put_first, stop_before, waiting_for}
+use Rattle.bsc_session.specs.Taking.{IsOpening, Opening, count_of, end_step, end_told, ended_by, last_of, may_be_more, opened, put_first, stop_before, waiting_for}
 use Rattle.bsc_session.specs.Turns.{IsTurn, Turn, after, empties_in, entries_in, frames_in, reading_in, said_in, stop_in}
 use Rattle.bsc_session.specs.Stops.{closes, closing_in, first_of, stop_if}
 
@@ -60,6 +61,16 @@ RoseIf (Some s) old new = RoseFor s.why old new
 abbrev pub stop_of : Result Backlog Stop → Option Stop
 stop_of (Ok backlog) = None
 stop_of (Err s) = Some s
+
+-- whether there may be more
+abbrev pub is_more : Backlog → Bool
+is_more MaybeMore = true
+is_more NothingLeft = false
+
+-- Where the session goes on, it is said whether there may be more.
+abbrev pub TellsMore : Result Backlog Stop → Bool → Type 0
+TellsMore (Ok backlog) more = is_more backlog ≡ more
+TellsMore (Err s) more = ⊤
 
 -- A step was carried out.
 pub record Carries (old new : Option (List Said)) (st : Step) (why : Why) (stop : Option Stop) : Type 0 where
@@ -176,11 +187,11 @@ pub record HearsMessage (v : Terms) (s : Standing) (now : ℕ) (m : List ℕ) (h
   pub runs : stop ≡ None → Runs v b (answered (heard_told v s now judged (Ok (Message m))) (heard_step v s now judged (Ok (Message m))) answer)
 
 -- A thing was given, and what follows it was done.
-pub record Hears (v : Terms) (s : Standing) (now : ℕ) (h : Hub) (p q : Pass) (a b : At) (old new : Option (List Said)) (stop : Option Stop) : Type 0 where
+pub record Hears (v : Terms) (s : Standing) (now wait : ℕ) (h : Hub) (p q : Pass) (a b : At) (old new : Option (List Said)) (stop : Option Stop) : Type 0 where
   pub hearing : Hearing
   pub is : IsHearing v s now hearing
   pub goes : Goes h p (entries_hearing v s now hearing) q
-  pub said : Grows old new (said_hearing v s now hearing)
+  pub said : Grows old new (said_hearing v s now wait hearing)
   pub stops : stop ≡ stop_hearing v s now hearing
   pub is_worn : hearing.answer ≡ Some worn → SeesWorn h q
   pub given_same : given_by b.member ≡ given_by a.member
@@ -273,6 +284,7 @@ pub record TakesFrom (m n : Option Member) (old new : Option (List Said)) (taken
   pub gave : given_by n ≡ given_by m ++ frames
   pub empties : empties_by n ≡ empties_by m + nothing_found frames (met_in taken) (is_none (cut_in taken))
   pub few : length frames + count_of (met_in taken) ≤ 16
+  pub fits : FitsCount taken frames
   pub said : Grows old new (puts frames (cut_in taken))
   pub cause : HasPut frames (cut_in taken)
 
@@ -292,27 +304,28 @@ pub record Ticks (v : Terms) (s : Standing) (now : ℕ) (a b : At) (stop : Optio
   pub runs : stop ≡ None → Runs v b (told s (Tick now))
 
 -- In Connected the frames were taken and the End was met, after the reading.
-pub record Attends (v : Terms) (s : Standing) (now : ℕ) (a b : At) (old new : Option (List Said)) (stop : Option Stop) : Type 0 where
+pub record Attends (v : Terms) (s : Standing) (now : ℕ) (a b : At) (old new : Option (List Said)) (result : Result Backlog Stop) : Type 0 where
   pub frames : List (List ℕ)
   pub met : Option End
   pub fault : Option LinkFault
   pub same : SameMember a.member b.member
   pub gave : given_by b.member ≡ given_by a.member ++ frames
-  pub empties : empties_by b.member ≡ empties_by a.member + nothing_found frames met (is_none stop)
+  pub empties : empties_by b.member ≡ empties_by a.member + nothing_found frames met (is_none (stop_of result))
   pub few : length frames + count_of met ≤ 16
   pub left : met ≢ Some Left
   pub said : Grows old new (puts (frames ++ octets_in (end_step v s now met)) fault)
   pub cause : HasPut (last_of frames (octets_in (end_step v s now met)) met) fault
-  pub stops : stop ≡ first_of (stop_if fault) (closes (ended_by met) (closing_in (end_step v s now met)))
+  pub stops : stop_of result ≡ first_of (stop_if fault) (closes (ended_by met) (closing_in (end_step v s now met)))
+  pub more : TellsMore result (may_be_more frames met)
   pub follows : Follows b (end_told s now met)
-  pub runs : stop ≡ None → Runs v b (end_told s now met)
+  pub runs : stop_of result ≡ None → Runs v b (end_told s now met)
 
 -- one for an opening in Connected that goes on and found the outbox empty
 abbrev pub empties_opening : Terms → Standing → Opening → ℕ
 empties_opening v s o = if is_none o.met && (is_none (stop_before v s o) && (is_connected (ticked s o.reading) && nat_lt (length o.frames) 16)) then 1 else 0
 
 -- A turn was opened.
-pub record Opens (v : Terms) (s : Standing) (now : ℕ) (a b : At) (old new : Option (List Said)) (stop : Option Stop) : Type 0 where
+pub record Opens (v : Terms) (s : Standing) (now : ℕ) (a b : At) (old new : Option (List Said)) (result : Result Backlog Stop) : Type 0 where
   pub opening : Opening
   pub read : opening.reading ≡ now
   pub is : IsOpening v s opening
@@ -320,9 +333,10 @@ pub record Opens (v : Terms) (s : Standing) (now : ℕ) (a b : At) (old new : Op
   pub gave : given_by b.member ≡ given_by a.member ++ opening.frames
   pub empties : empties_by b.member ≡ empties_by a.member + empties_opening v s opening
   pub said : Grows old new (puts (put_first v s opening) opening.fault)
-  pub stops : stop ≡ stop_before v s opening
+  pub stops : stop_of result ≡ stop_before v s opening
+  pub more : TellsMore result (may_be_more opening.frames opening.met)
   pub follows : Follows b (opened s opening)
-  pub runs : stop ≡ None → Runs v b (opened s opening)
+  pub runs : stop_of result ≡ None → Runs v b (opened s opening)
 
 -- ---- the turn
 

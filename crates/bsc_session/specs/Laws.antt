@@ -14,8 +14,8 @@ use Rattle.bsc_session.specs.Talk.{Session}
 
 -- what a call on the link answered, where it failed
 abbrev pub fault_of : Said → Option LinkFault
-fault_of (Gave (Err fault)) = Some fault
-fault_of (Gave (Ok given)) = None
+fault_of (Gave wait (Err fault)) = Some fault
+fault_of (Gave wait (Ok given)) = None
 fault_of (Put o fault) = fault
 fault_of (Closed code reason) = None
 

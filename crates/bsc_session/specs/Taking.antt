@@ -1,5 +1,5 @@
 -- The opening of a turn: its reading, the frames from the outlet, and the End that the outlet gives.
-use Rattle.std.specs.Prelude.{List, None, Option, Some, [], length, true, ℕ, ◌+◌, ◌++◌, ◌≡◌, ◌≢◌, ◌≤◌, ◌⊎◌}
+use Rattle.std.specs.Prelude.{Bool, List, None, Option, Some, [], false, is_none, length, nat_lt, not, true, ℕ, ◌&&◌, ◌+◌, ◌++◌, ◌≡◌, ◌≢◌, ◌≤◌, ◌⊎◌}
 use Rattle.bsc_history.specs.declared.ending.End.{End}
 use Rattle.bsc_history.specs.declared.ending.End.TheVariants.{Left}
 use Rattle.bsc_edge.specs.declared.fault.LinkFault.{LinkFault}
@@ -68,6 +68,27 @@ stop_before v s o =
 abbrev pub count_of : Option End → ℕ
 count_of None = 0
 count_of (Some e) = 1
+
+-- ---- the wait of the receive
+
+-- Whether the outlet may have more for the link: as many frames came as a turn takes, and no End was met.
+abbrev pub may_be_more : List (List ℕ) → Option End → Bool
+may_be_more frames met = is_none met && not (nat_lt (length frames) 16)
+
+-- How long a receive waits at most, in milliseconds.
+abbrev pub full_wait : ℕ
+full_wait = 500
+
+-- how long one waits, by whether the outlet may have more: then it only looks
+abbrev pub wait_by : Bool → ℕ
+wait_by true = 0
+wait_by false = full_wait
+
+-- How long the receive that follows an opening waits.
+abbrev pub wait_in : Opening → ℕ
+wait_in o = wait_by (may_be_more o.frames o.met)
+
+-- ---- what an opening may be
 
 -- The outlet is looked at: the reading doesn't close, and the machine is in Connected.
 abbrev pub Looks : Terms → Standing → ℕ → Type 0

@@ -10,7 +10,7 @@ use Rattle.bsc_session.specs.Reading.{ticked}
 use Rattle.bsc_session.specs.Receiving.{Hearing}
 use Rattle.bsc_session.specs.Standings.{Standing, Terms, is_connected}
 use Rattle.bsc_session.specs.Stops.{first_of}
-use Rattle.bsc_session.specs.Taking.{IsOpening, Opening, opened, put_first, stop_before}
+use Rattle.bsc_session.specs.Taking.{IsOpening, Opening, opened, put_first, stop_before, wait_in}
 
 -- A turn. One that stops before the receive has no hearing.
 pub record Turn : Type 0 where
@@ -24,13 +24,14 @@ reading_in v s t = t.opening.reading ∷ []
 abbrev pub frames_in : Terms → Standing → Turn → List (List ℕ)
 frames_in v s t = t.opening.frames
 
-abbrev pub said_after : Terms → Standing → ℕ → Option Hearing → List Said
-said_after v s now None = []
-said_after v s now (Some h) = said_hearing v s now h
+abbrev pub said_after : Terms → Standing → ℕ → ℕ → Option Hearing → List Said
+said_after v s now wait None = []
+said_after v s now wait (Some h) = said_hearing v s now wait h
 
--- What a turn says on the link: the puts before the thing given, that thing, the puts after it.
+-- What a turn says on the link: the puts before the receive, how long that waits and the thing given, the puts after it.
 abbrev pub said_in : Terms → Standing → Turn → List Said
-said_in v s t = puts (put_first v s t.opening) t.opening.fault ++ said_after v (opened s t.opening) t.opening.reading t.hearing
+said_in v s t =
+    puts (put_first v s t.opening) t.opening.fault ++ said_after v (opened s t.opening) t.opening.reading (wait_in t.opening) t.hearing
 
 abbrev pub entries_after : Terms → Standing → ℕ → Option Hearing → List Entry
 entries_after v s now None = []

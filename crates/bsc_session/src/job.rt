@@ -1,16 +1,15 @@
 //! A session as a job of a thread.
-ghost use Rattle.std.specs.Prelude.{◌≡◌, None};
+ghost use Rattle.std.specs.Prelude.{◌≡◌};
 ghost use Rattle.std.specs.Arc.{arc_value};
 ghost use Rattle.bsc_hub.specs.Passing.{IsCaller};
 ghost use Rattle.bsc_hub.proofs.Unique.{IsCaller-prop};
 
-use crate::ended::Ended;
 use crate::limits::SessionLimits;
 use bsc_hub::{Hub, Pass};
 use std::alloc::Global;
 use std::sync::Arc;
 
-/// A session for a thread: all that the serving call of one connection needs, and then what it answered.
+/// A session for a thread: all that the serving call of one connection needs.
 #[derive(Drop)]
 pub struct SessionJob<L, C> {
     pub alloc: Global,
@@ -24,14 +23,12 @@ pub struct SessionJob<L, C> {
     pub limits: SessionLimits,
     /// How many receives the session may make.
     pub turns: u64,
-    /// How the session ended, once it was served.
-    pub ended: Option<Ended>,
     // The pass is of the hub.
     ghost of_hub: { IsCaller (arc_value hub) pass } by { IsCaller-prop (arc_value hub) pass },
 }
 
 impl<L, C> SessionJob<L, C> {
-    /// A job that serves this link at this hub, and hasn't yet.
+    /// A job that serves this link at this hub.
     pub fn new(
         alloc: Global,
         hub: Arc<Hub>,
@@ -48,7 +45,6 @@ impl<L, C> SessionJob<L, C> {
         ensures clock { result.clock ≡ clock }
         ensures limits { result.limits ≡ limits }
         ensures turns { result.turns ≡ turns }
-        ensures ended { result.ended ≡ None }
     {
         SessionJob {
             alloc,
@@ -58,7 +54,6 @@ impl<L, C> SessionJob<L, C> {
             clock,
             limits,
             turns,
-            ended: None,
         }
     }
 }

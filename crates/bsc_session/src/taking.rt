@@ -1,12 +1,12 @@
 //! What is taken from the outlet, and put.
-ghost use Rattle.std.specs.Prelude.{◌≡◌, ◌≢◌, ◌≤◌, ◌<◌, IsTrue, is_some};
+ghost use Rattle.std.specs.Prelude.{◌≡◌, ◌≢◌, ◌≤◌, ◌<◌, IsTrue, false, is_some};
 ghost use Rattle.bsc_history.specs.declared.ending.End.{End};
 ghost use Rattle.bsc_accept.specs.Standing.{IsConnected, StandsFor};
 ghost use Rattle.bsc_ring.specs.Ends.{empties_of};
 ghost use Rattle.bsc_outside.specs.Faults.{HasRisen};
 ghost use Rattle.bsc_edge.specs.declared.fault.LinkFault.{LinkFault};
 ghost use Rattle.bsc_session.specs.declared.taken.Taken.{Taken};
-ghost use Rattle.bsc_session.specs.Inner.{Attends, Follows, Meets, RoseIf, Runs, Takes, TakesFrom, Tied, empties_by, stop_of};
+ghost use Rattle.bsc_session.specs.Inner.{Attends, Follows, Meets, RoseIf, Runs, Takes, TakesFrom, TellsMore, Tied, empties_by, stop_of};
 ghost use Rattle.bsc_session.specs.Standings.{Standing, Terms, start_of};
 
 use crate::at::At;
@@ -74,7 +74,8 @@ fn take_from<L: Link>(alloc: Global, link: &mut L, member: &mut Option<Member>) 
 
 /// Nothing is left, unless the session stops.
 fn nothing_left(stop: Option<Stop>) -> Result<Backlog, Stop>
-    ensures { stop_of result ≡ stop }
+    ensures stops { stop_of result ≡ stop }
+    ensures nothing { TellsMore result false }
 {
     match stop {
         Some(stop) => Err(stop),
@@ -88,7 +89,7 @@ pub fn attend<L: Link>(alloc: Global, link: &mut L, at: &mut At, now: u64) -> Re
     requires some { IsTrue (is_some at.old.member) }
     requires room { empties_by at.old.member < 18446744073709551615 }
     ensures attended { (v : Terms) (s : Standing) → Follows at.old s → Runs v at.old s
-        → Attends v s now at.old at.new (L.talk link.old) (L.talk link.new) (stop_of result) }
+        → Attends v s now at.old at.new (L.talk link.old) (L.talk link.new) result }
     ensures later { L.faults link.old ≤ L.faults link.new }
     ensures failed { RoseIf (stop_of result) (L.faults link.old) (L.faults link.new) }
 {

@@ -2,10 +2,10 @@
 ghost use Rattle.std.specs.Prelude.{◌≡◌, ◌≤◌, ◌<◌, ◌≢◌, None, Some, IsTrue, is_some};
 ghost use Rattle.bsc_hub.specs.Passing.{about_of};
 ghost use Rattle.bsc_accept.specs.Standing.{IsConnected, IsOpen, StandsFor};
-ghost use Rattle.bsc_session.specs.Inner.{AreTerms, HasTerms, Starts, empties_by, Between, Follows, HasStanding, Hears, Held, IsFollowed, Makes, Opens, RoseIf, Runs, Ticks, conn_of, stop_of};
+ghost use Rattle.bsc_session.specs.Inner.{AreTerms, HasTerms, Starts, empties_by, Between, Follows, HasStanding, Hears, Held, IsFollowed, Makes, Opens, RoseIf, Runs, Ticks, conn_of, is_more, stop_of};
 ghost use Rattle.bsc_session.specs.Reading.{started};
 ghost use Rattle.bsc_session.specs.Stops.{closing_in};
-ghost use Rattle.bsc_session.specs.Taking.{waiting_for};
+ghost use Rattle.bsc_session.specs.Taking.{wait_by, waiting_for};
 ghost use Rattle.bsc_session.specs.declared.why.Why.{Why};
 ghost use Rattle.bsc_session.specs.Standings.{Standing, Terms, is_connected, start_of};
 
@@ -82,7 +82,7 @@ fn open<L: Link>(alloc: Global, link: &mut L, at: &mut At, now: u64) -> Result<B
     requires stands { IsFollowed at.old }
     requires room { empties_by at.old.member < 18446744073709551615 }
     ensures opened { (v : Terms) (s s0 : Standing) → s0 ≡ started s now → Follows at.old s0 → Runs v at.old s0
-        → Opens v s now at.old at.new (L.talk link.old) (L.talk link.new) (stop_of result) }
+        → Opens v s now at.old at.new (L.talk link.old) (L.talk link.new) result }
     ensures later { L.faults link.old ≤ L.faults link.new }
     ensures failed { RoseIf (stop_of result) (L.faults link.old) (L.faults link.new) }
 {
@@ -97,7 +97,9 @@ fn open<L: Link>(alloc: Global, link: &mut L, at: &mut At, now: u64) -> Result<B
 }
 
 /// How long a receive waits: it only looks where the outlet may have more.
-fn wait_ms(backlog: Backlog) -> u32 {
+fn wait_ms(backlog: Backlog) -> u32
+    ensures { result ≡ wait_by (is_more backlog) }
+{
     match backlog {
         Backlog::Nothing => WAIT_MS,
         Backlog::MaybeMore => 0,
@@ -118,7 +120,7 @@ fn hear<R: Wait, L: Link>(
     requires stands { HasStanding hub.now pass.old at.old }
     requires room { at.old.receives < 18446744073709551615 }
     ensures heard { (v : Terms) (s : Standing) → v.hub ≡ (about_of hub.now).hub → Held hub.now v pass.old at.old s → Runs v at.old s
-        → Hears v s now hub.now pass.old pass.new at.old at.new (L.talk link.old) (L.talk link.new) result }
+        → Hears v s now wait_ms hub.now pass.old pass.new at.old at.new (L.talk link.old) (L.talk link.new) result }
     ensures later { L.faults link.old ≤ L.faults link.new }
     ensures failed { RoseIf result (L.faults link.old) (L.faults link.new) }
 {

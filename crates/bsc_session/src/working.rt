@@ -1,25 +1,33 @@
 //! What the job of a session does.
 use crate::job::SessionJob;
 use crate::serving::serve_connection;
+use crate::session_end::SessionEnd;
 use bsc_edge::{Clock, Job, Link};
 use std::sync::Wait;
 
-impl<L: Link, C: Clock> Job for SessionJob<L, C> {
+impl<L: Link + Drop, C: Clock + Drop> Job for SessionJob<L, C> {
     ghost use Rattle.bsc_session.specs.Jobs.{Worked};
+
+    type Done = SessionEnd;
 
     ghost works = { Worked L.talk L.faults C.readings };
 
-    fn work<R: Wait>(&mut self, rt: &R) {
+    fn work<R: Wait>(self, rt: &R) -> SessionEnd {
+        let SessionJob {
+            alloc,
+            hub,
+            pass,
+            link,
+            clock,
+            limits,
+            turns,
+        } = self;
+        let mut pass = pass;
+        let mut link = link;
+        let mut clock = clock;
         let ended = serve_connection(
-            rt,
-            self.alloc,
-            &self.hub,
-            &mut self.pass,
-            &mut self.link,
-            &mut self.clock,
-            &self.limits,
-            self.turns,
+            rt, alloc, &hub, &mut pass, &mut link, &mut clock, &limits, turns,
         );
-        self.ended = Some(ended);
+        SessionEnd { pass, ended }
     }
 }

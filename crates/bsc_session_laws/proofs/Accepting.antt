@@ -9,6 +9,7 @@ use Rattle.bsc_edge.specs.declared.said.Said.TheVariants.{Gave, Put}
 use Rattle.bsc_session.specs.declared.ended.Ended.{Ended}
 use Rattle.bsc_session.specs.Course.{EachTurn, GoesOn, and_last, said_closing, shares}
 use Rattle.bsc_session.specs.Standings.{Standing, Terms, begun}
+use Rattle.bsc_session.specs.Taking.{full_wait}
 use Rattle.bsc_session.specs.Talk.{Session}
 use Rattle.bsc_session.specs.Turns.{IsTurn, Turn, after, frames_in, said_in}
 use Rattle.bsc_session_laws.specs.Laws.{AcceptsFirst}
@@ -25,7 +26,7 @@ record Accepts (v : Terms) (s : Standing) (all : List Turn) : Type 0 where
   request : List ℕ
   id : ℕ
   said_later : List Said
-  talk : shares said_in v s all ≡ shares said_in v s before ++ Gave (Ok (Message request)) ∷ Put (spelling (connect_accept id v.hub)) None ∷ said_later
+  talk : shares said_in v s all ≡ shares said_in v s before ++ Gave full_wait (Ok (Message request)) ∷ Put (spelling (connect_accept id v.hub)) None ∷ said_later
 
 none_in : (v : Terms) (s : Standing) (t : Turn) → is_in s ≡ false → IsTurn v s t → frames_in v s t ≡ []
 none_in v s t out is = (takes_none v s t.opening out is.opening.takes).0
@@ -59,7 +60,7 @@ accepts_later v s t ts none r = record {
   request = r.request;
   id = r.id;
   said_later = r.said_later;
-  talk = ap (λ (l : List Said). said_in v s t ++ l) r.talk ∙ sym (append_assoc (said_in v s t) (shares said_in v (after v s t) r.before) (Gave (Ok (Message r.request)) ∷ Put (spelling (connect_accept r.id v.hub)) None ∷ r.said_later));
+  talk = ap (λ (l : List Said). said_in v s t ++ l) r.talk ∙ sym (append_assoc (said_in v s t) (shares said_in v (after v s t) r.before) (Gave full_wait (Ok (Message r.request)) ∷ Put (spelling (connect_accept r.id v.hub)) None ∷ r.said_later));
 }
 
 accepts : (v : Terms) (s : Standing) (ts : List Turn) (last : Option Turn) → is_in s ≡ false → EachTurn IsTurn v s (and_last ts last) → EachTurn GoesOn v s ts → shares frames_in v s (and_last ts last) ≢ [] → Accepts v s (and_last ts last)
@@ -80,7 +81,7 @@ frames_follow_accept v T R E frames ended x some =
     let c = x.course in
     let r = accepts v begun c.went_on c.last refl c.turns c.goes_on (λ e. some (x.received ∙ e)) in
     let first = shares said_in v begun r.before in
-    let two = Gave (Ok (Message r.request)) ∷ Put (spelling (connect_accept r.id v.hub)) None ∷ r.said_later in
+    let two = Gave full_wait (Ok (Message r.request)) ∷ Put (spelling (connect_accept r.id v.hub)) None ∷ r.said_later in
     record {
       before = r.before;
       joining = r.joining;

@@ -2,11 +2,15 @@
 use Rattle.std.proofs.Common.{◌≡◌, ◌≢◌, ◌⊎◌, inl, inr, ℕ, Bool, true, false, cond, List, [], ◌∷◌, ◌++◌, map, Option, Some, None, Result, Ok, Err, is_some, refl, ap, sym, ◌∙◌, append-nil}
 use Rattle.std.proofs.lemmas.Grind.{flat_map-append}
 use Rattle.std.proofs.lemmas.List.{map-append}
+use Rattle.bsc_octets.specs.declared.identity.Identity.{Identity}
+use Rattle.bsc_frame.specs.declared.body.Body.{Body}
+use Rattle.bsc_frame.specs.declared.body.Body.TheVariants.{DisconnectRequest, HeartbeatRequest}
 use Rattle.bsc_frame.specs.declared.message.Message.{Message as Bvlc}
 use Rattle.bsc_history.specs.declared.ending.End.{End}
 use Rattle.bsc_history.specs.declared.entry.Entry.{Entry}
 use Rattle.bsc_history.specs.declared.looks.Look.{Look}
 use Rattle.bsc_history.specs.declared.reply.Reply.{Reply}
+use Rattle.bsc_checks.specs.declared.phase.Phase.TheVariants.{Connected}
 use Rattle.bsc_checks.specs.declared.verdict.Verdict.{Verdict}
 use Rattle.bsc_checks.specs.declared.verdict.Verdict.TheVariants.{Pass, Carry as Carried, Silent, Nak}
 use Rattle.bsc_edge.specs.declared.fault.LinkFault.{LinkFault}
@@ -18,28 +22,26 @@ use Rattle.bsc_accept.specs.declared.closing.Closing.{Closing}
 use Rattle.bsc_accept.specs.declared.step.Step.{Step}
 use Rattle.bsc_accept.specs.declared.step.Step.TheVariants.{Ask, Reply as ReplyStep, ReplyClose, Carry, Close, Nothing}
 use Rattle.bsc_accept.specs.Messages.{is_farewell_answer, who_asks}
-use Rattle.bsc_accept.specs.Past.{Standing as MachineStanding, awaiting_request, connected, disconnecting, phase, standing}
-use Rattle.bsc_accept.specs.Steps.{message_step, normal, passed_step}
+use Rattle.bsc_accept.specs.Past.{Standing as MachineStanding, awaiting_request, connected, disconnecting, phase, phase_named, standing}
+use Rattle.bsc_accept.specs.Steps.{ask_step, connected_step, message_step, normal, passed_step}
 use Rattle.bsc_session.specs.declared.ended.Ended.{Ended}
 use Rattle.bsc_session.specs.declared.stop.Stop.{Stop}
 use Rattle.bsc_session.specs.Answering.{IsHearing, called, calls_hub, entries_hearing, forwarded_by, last_step, stop_hearing, stop_message}
 use Rattle.bsc_session.specs.Causes.{answer_in, given_in}
 use Rattle.bsc_session.specs.Course.{all_turns, entries_of, said_closing, shares}
-use Rattle.bsc_session.specs.Inner.{Tied}
+use Rattle.bsc_session.specs.Inner.{Tied, has_joined}
 use Rattle.bsc_session.specs.Judging.{verdict_on}
 use Rattle.bsc_session.specs.Puts.{octets_in, puts}
 use Rattle.bsc_session.specs.Receiving.{Answer, replies, worn, no_memory, Hearing}
 use Rattle.bsc_session.specs.Standings.{Standing, Terms, begun}
-use Rattle.bsc_session.specs.Taking.{opened, put_first, stop_before}
+use Rattle.bsc_session.specs.Taking.{opened, put_first, stop_before, wait_in}
 use Rattle.bsc_session.specs.Talk.{Session, leaving}
 use Rattle.bsc_session.specs.Turns.{IsHearingIf, IsTurn, Turn, after, entries_after, entries_in, said_after, said_in, stop_after}
 use Rattle.bsc_session_laws.specs.Laws.{AreAllBut, IsUnentered}
 use Rattle.bsc_session_laws.specs.Messages.{JudgedMessage, carried, carried_by, forwarded, forwarded_in, given_by, given_in as given_by_link, message_after, message_by, message_in, messages_of}
 use Rattle.bsc_session_laws.proofs.Courses.{all_as, all_but, mapped_shares}
-use Rattle.bsc_session_laws.proofs.Turning.{at, hearing, tied_begun, tied_opened}
+use Rattle.bsc_session_laws.proofs.Turning.{at, first_none, hearing, tied_begun, tied_opened}
 use Rattle.bsc_session_laws.proofs.Verdicts.{carried_connected}
-use Rattle.bsc_accept.proofs.Common.{connected_carries as not_carried_connected, no_ask_carries as not_carried_asked}
-use Rattle.bsc_session.proofs.Common.{connected_in, first_none}
 
 -- ---- one of them is lacking
 
@@ -74,6 +76,15 @@ no_forward v s Carry given answer isnt = absurd (isnt refl)
 no_forward v s (Close c) given answer isnt = refl
 no_forward v s Nothing given answer isnt = refl
 
+not_carried_asked : (o : Option Identity) → ask_step o ≡ Carry → ⊥
+not_carried_asked None e = cc
+not_carried_asked (Some w) e = cc
+
+not_carried_connected : (id : ℕ) (body : Body) → connected_step id body ≡ Carry → ⊥
+not_carried_connected id HeartbeatRequest e = cc
+not_carried_connected id DisconnectRequest e = cc
+not_carried_connected id body e = cc
+
 not_carried_parting : (b : Bool) → cond b (Close normal) Nothing ≡ Carry → ⊥
 not_carried_parting true e = cc
 not_carried_parting false e = cc
@@ -83,6 +94,12 @@ passed_not_carried : (g : MachineStanding) (msg : Bvlc) → passed_step g msg �
 passed_not_carried awaiting_request msg e = not_carried_asked (who_asks msg.body) e
 passed_not_carried connected msg e = not_carried_connected msg.id msg.body e
 passed_not_carried (disconnecting f) msg e = not_carried_parting (is_farewell_answer f.id msg) e
+
+-- who is connected has a connection
+connected_in : (g : MachineStanding) → phase_named g ≡ Connected → has_joined g ≡ true
+connected_in awaiting_request h = cc
+connected_in connected h = refl
+connected_in (disconnecting f) h = refl
 
 made : (v : Terms) (c : Option ℕ) (m : List ℕ) (looks : List Look) (reply : Reply) → is_some c ≡ true → m ∷ [] ≡ forwarded (forwarded_by v c m looks reply)
 made v None m looks reply h = cc
@@ -171,24 +188,24 @@ closing_gives_none (Some c) = refl
 abbrev octets : JudgedMessage → List ℕ
 octets m = m.octets
 
-given_once : (v : Terms) (s : Standing) (given : Result Incoming LinkFault) → given_by (Gave given) ≡ map octets (message_by v s given)
-given_once v s (Err f) = refl
-given_once v s (Ok Closed) = refl
-given_once v s (Ok Text) = refl
-given_once v s (Ok Quiet) = refl
-given_once v s (Ok (Message m)) = refl
+given_once : (v : Terms) (s : Standing) (wait : ℕ) (given : Result Incoming LinkFault) → given_by (Gave wait given) ≡ map octets (message_by v s given)
+given_once v s wait (Err f) = refl
+given_once v s wait (Ok Closed) = refl
+given_once v s wait (Ok Text) = refl
+given_once v s wait (Ok Quiet) = refl
+given_once v s wait (Ok (Message m)) = refl
 
-hearing_gives : (v : Terms) (s : Standing) (now : ℕ) (h : Option Hearing) → given_by_link (said_after v s now h) ≡ map octets (message_after v s h)
-hearing_gives v s now None = refl
-hearing_gives v s now (Some h) =
-    ap (λ (l : List (List ℕ)). given_by (Gave h.given) ++ l) (puts_give_none (octets_in (last_step v s now h)) h.fault)
-    ∙ append-nil (given_by (Gave h.given)) ∙ given_once v s h.given
+hearing_gives : (v : Terms) (s : Standing) (now wait : ℕ) (h : Option Hearing) → given_by_link (said_after v s now wait h) ≡ map octets (message_after v s h)
+hearing_gives v s now wait None = refl
+hearing_gives v s now wait (Some h) =
+    ap (λ (l : List (List ℕ)). given_by (Gave wait h.given) ++ l) (puts_give_none (octets_in (last_step v s now h)) h.fault)
+    ∙ append-nil (given_by (Gave wait h.given)) ∙ given_once v s wait h.given
 
 turn_gives : (v : Terms) (s : Standing) (t : Turn) → given_by_link (said_in v s t) ≡ map octets (message_in v s t)
 turn_gives v s t =
-    flat_map-append given_by (puts (put_first v s t.opening) t.opening.fault) (said_after v (opened s t.opening) t.opening.reading t.hearing)
-    ∙ ap (λ (l : List (List ℕ)). l ++ given_by_link (said_after v (opened s t.opening) t.opening.reading t.hearing)) (puts_give_none (put_first v s t.opening) t.opening.fault)
-    ∙ hearing_gives v (opened s t.opening) t.opening.reading t.hearing
+    flat_map-append given_by (puts (put_first v s t.opening) t.opening.fault) (said_after v (opened s t.opening) t.opening.reading (wait_in t.opening) t.hearing)
+    ∙ ap (λ (l : List (List ℕ)). l ++ given_by_link (said_after v (opened s t.opening) t.opening.reading (wait_in t.opening) t.hearing)) (puts_give_none (put_first v s t.opening) t.opening.fault)
+    ∙ hearing_gives v (opened s t.opening) t.opening.reading (wait_in t.opening) t.hearing
 
 turns_give : (v : Terms) (s : Standing) (ts : List Turn) → given_by_link (shares said_in v s ts) ≡ map octets (shares message_in v s ts)
 turns_give v s [] = refl

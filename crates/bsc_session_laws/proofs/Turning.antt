@@ -1,5 +1,5 @@
 -- Who has joined, from turn to turn, and what a turn comes to before anybody has.
-use Rattle.std.proofs.Common.{◌≡◌, ◌⊎◌, inl, inr, ℕ, Bool, true, false, List, [], ◌∷◌, ◌++◌, length, Option, Some, None, Result, Ok, Err, is_some, option_to_list, refl, ap, sym, ◌∙◌, subst}
+use Rattle.std.proofs.Common.{◌≡◌, ◌⊎◌, inl, inr, ℕ, Bool, true, false, cond, List, [], ◌∷◌, ◌++◌, length, Option, Some, None, Result, Ok, Err, is_some, option_to_list, refl, ap, sym, ◌∙◌, subst}
 use Rattle.std.proofs.lemmas.Bool.{both_ways}
 use Rattle.bsc_octets.specs.declared.identity.Identity.{Identity}
 use Rattle.bsc_frame.specs.declared.message.Message.{Message as Bvlc}
@@ -18,12 +18,15 @@ use Rattle.bsc_edge.specs.declared.said.Said.{Said}
 use Rattle.bsc_edge.specs.declared.said.Said.TheVariants.{Gave, Put}
 use Rattle.bsc_accept.specs.declared.event.Event.{Event}
 use Rattle.bsc_accept.specs.declared.event.Event.TheVariants.{Message as Came, Joined as JoinedEvent, Refused as RefusedEvent, Ended, Tick}
+use Rattle.bsc_accept.specs.declared.farewell.Farewell.{Farewell}
 use Rattle.bsc_accept.specs.declared.step.Step.{Step}
 use Rattle.bsc_accept.specs.declared.step.Step.TheVariants.{Ask}
+use Rattle.bsc_accept.specs.Kept.{moved}
 use Rattle.bsc_accept.specs.Messages.{connect_accept, who_asks}
-use Rattle.bsc_accept.specs.Past.{Standing as MachineStanding, awaiting_request, connected, disconnecting, is_joined, phase, phase_named, standing}
+use Rattle.bsc_accept.specs.Past.{Standing as MachineStanding, awaiting_request, connected, disconnecting, farewell_at, is_joined, phase, phase_named, standing, until_farewell}
 use Rattle.bsc_accept.specs.Steps.{asked_id, ask_step, message_step, passed_step, refused_step}
 use Rattle.bsc_accept.proofs.Looking.{standing-more}
+use Rattle.bsc_session.specs.declared.stop.Stop.{Stop}
 use Rattle.bsc_session.specs.declared.why.Why.{Why}
 use Rattle.bsc_session.specs.declared.why.Why.TheVariants.{Refused as WhyRefused}
 use Rattle.bsc_session.specs.Answering.{Fits, IsHearing, after_hearing, answered, calls_hub, last_wanted, said_hearing, stands_heard, stop_hearing, stop_message, step_of}
@@ -34,18 +37,31 @@ use Rattle.bsc_session.specs.Puts.{octets_in, puts}
 use Rattle.bsc_session.specs.Reading.{started, ticked}
 use Rattle.bsc_session.specs.Receiving.{Answer, replies, worn, no_memory, Hearing, received_one}
 use Rattle.bsc_session.specs.Standings.{Standing, Terms, begun, is_connected, is_phase_connected, told}
-use Rattle.bsc_session.specs.Stops.{closes, closing_in, stop_if}
-use Rattle.bsc_session.specs.Taking.{Looks, Opening, end_step, end_told, opened, put_first, stop_before}
+use Rattle.bsc_session.specs.Stops.{closes, closing_in, first_of, stop_if}
+use Rattle.bsc_session.specs.Taking.{Looks, Opening, end_step, end_told, full_wait, opened, put_first, stop_before, wait_in}
 use Rattle.bsc_session.specs.Turns.{IsHearingIf, IsTurn, Turn, after, said_after, said_in, stands_after, stop_after}
 use Rattle.bsc_session_laws.specs.Messages.{JudgedMessage, asked, message_after, message_by, message_in}
 use Rattle.bsc_session_laws.proofs.Verdicts.{asked_awaiting}
-use Rattle.bsc_session.proofs.Common.{first_none, joined_at as joined_in, moved_in}
 
 -- ---- who has joined
 
 -- whether the machine has joined, by where the session stands
 abbrev pub is_in : Standing → Bool
 is_in s = has_joined (standing s.events)
+
+until_in : (o : Option Farewell) → has_joined (until_farewell o) ≡ true
+until_in None = refl
+until_in (Some f) = refl
+
+moved_in : (g : MachineStanding) (e : Event) → is_joined e ≡ false → has_joined (moved g e) ≡ has_joined g
+moved_in awaiting_request e h = ap (λ (b : Bool). has_joined (cond b connected awaiting_request)) h
+moved_in connected e h = until_in (farewell_at e)
+moved_in (disconnecting f) e h = refl
+
+joined_in : (g : MachineStanding) → has_joined (moved g JoinedEvent) ≡ true
+joined_in awaiting_request = refl
+joined_in connected = refl
+joined_in (disconnecting f) = refl
 
 -- an event that isn't a joining changes nothing of it
 told_in : (s : Standing) (e : Event) → is_joined e ≡ false → is_in (told s e) ≡ is_in s
@@ -95,6 +111,10 @@ tied_after v s t k = tied_heard v (opened s t.opening) t.opening.reading t.heari
 
 -- ---- how a turn goes on
 
+pub first_none : (a b : Option Stop) → first_of a b ≡ None → (a ≡ None) × (b ≡ None)
+first_none None b h = (refl, h)
+first_none (Some s) b h = cc
+
 pub fault_none : (f : Option LinkFault) → stop_if f ≡ None → f ≡ None
 fault_none None h = refl
 fault_none (Some f) h = cc
@@ -121,6 +141,10 @@ pub takes_none : (v : Terms) (s : Standing) (o : Opening) → is_in s ≡ false 
 takes_none v s o out (inl looks) = absurd (both_ways (is_connected (ticked s o.reading)) (unconnected (standing (ticked s o.reading).events) (told_in (started s o.reading) (Tick o.reading) refl ∙ out)) looks.0)
 takes_none v s o out (inr none) = none
 
+-- and so the receive isn't only a look
+waits_long : (o : Opening) → o.frames ≡ [] → o.met ≡ None → full_wait ≡ wait_in o
+waits_long o none unmet = rw (none, unmet) refl
+
 nothing_put : (v : Terms) (s : Standing) (o : Opening) → o.frames ≡ [] → o.met ≡ None → puts (put_first v s o) o.fault ≡ []
 nothing_put v s o none unmet =
     ap (λ (l : List (List ℕ)). puts (l ++ octets_in (end_step v (ticked s o.reading) o.reading o.met)) o.fault) none
@@ -130,7 +154,7 @@ nothing_put v s o none unmet =
 pub record Joins (v : Terms) (ms : List JudgedMessage) (said : List Said) (next : Standing) : Type 0 where
   pub request : List ℕ
   pub id : ℕ
-  pub said_so : said ≡ Gave (Ok (Message request)) ∷ Put (spelling (connect_accept id v.hub)) None ∷ []
+  pub said_so : said ≡ Gave full_wait (Ok (Message request)) ∷ Put (spelling (connect_accept id v.hub)) None ∷ []
   pub joined : is_in next ≡ true
   pub one : length (asked ms) ≡ 1
 
@@ -153,7 +177,7 @@ at s now w = received_one (told s (Came now w))
 abbrev GoesBy : Terms → Standing → ℕ → List ℕ → Option Answer → Option LinkFault → Verdict → Step → Type 0
 GoesBy v s now m answer fault w st =
     Fits st answer → is_some answer ≡ calls_hub st → stop_message v (at s now w) st answer fault ≡ None
-    → Goes v (message m w) (Gave (Ok (Message m)) ∷ puts (octets_in (last_wanted v (at s now w) st answer)) fault) (answered (at s now w) st answer)
+    → Goes v (message m w) (Gave full_wait (Ok (Message m)) ∷ puts (octets_in (last_wanted v (at s now w) st answer)) fault) (answered (at s now w) st answer)
 
 module _ (v : Terms) (s : Standing) (now : ℕ) (m : List ℕ) (fault : Option LinkFault) (out : is_in s ≡ false) where
   -- who asks joins, where the session goes on
@@ -164,7 +188,7 @@ module _ (v : Terms) (s : Standing) (now : ℕ) (m : List ℕ) (fault : Option L
   ask_goes msg who asks (Some (replies looks (Joined c replaced))) fits calls stop = inr (record {
     request = m;
     id = asked_id (at s now (Pass msg)).events;
-    said_so = ap (λ (f : Option LinkFault). Gave (Ok (Message m)) ∷ Put (spelling (connect_accept (asked_id (at s now (Pass msg)).events) v.hub)) f ∷ []) (fault_none fault (first_none (stop_if fault) None stop).0);
+    said_so = ap (λ (f : Option LinkFault). Gave full_wait (Ok (Message m)) ∷ Put (spelling (connect_accept (asked_id (at s now (Pass msg)).events) v.hub)) f ∷ []) (fault_none fault (first_none (stop_if fault) None stop).0);
     joined = told_joined_in (at s now (Pass msg));
     one = ap (λ (o : Option Identity). length (option_to_list o ++ [])) asks;
   })
@@ -196,7 +220,7 @@ hearing given judged answer fault = record { given = given; judged = judged; ans
 
 hearing_goes : (v : Terms) (s : Standing) (now : ℕ) (given : Result Incoming LinkFault) (judged : Bool) (answer : Option Answer) (fault : Option LinkFault) → is_in s ≡ false
     → IsHearing v s now (hearing given judged answer fault) → stop_hearing v s now (hearing given judged answer fault) ≡ None
-    → Goes v (message_by v s given) (said_hearing v s now (hearing given judged answer fault)) (after_hearing v s now (hearing given judged answer fault))
+    → Goes v (message_by v s given) (said_hearing v s now full_wait (hearing given judged answer fault)) (after_hearing v s now (hearing given judged answer fault))
 hearing_goes v s now (Err f) judged answer fault out is stop = cc
 hearing_goes v s now (Ok Closed) judged answer fault out is stop = cc
 hearing_goes v s now (Ok Text) judged answer fault out is stop = cc
@@ -218,15 +242,20 @@ turn_goes v s t out is goes = by t.hearing is.hearing (first_none (stop_before v
     none : puts (put_first v s o) o.fault ≡ []
     none = (let two = takes_none v s o out is.opening.takes in nothing_put v s o two.0 two.1)
 
-    behind : (h : Hearing) → Goes v (message_by v (opened s o) h.given) (said_hearing v (opened s o) o.reading h) (after_hearing v (opened s o) o.reading h)
-        → Goes v (message_by v (opened s o) h.given) (puts (put_first v s o) o.fault ++ said_hearing v (opened s o) o.reading h) (after_hearing v (opened s o) o.reading h)
+    waits : full_wait ≡ wait_in o
+    waits = (let two = takes_none v s o out is.opening.takes in waits_long o two.0 two.1)
+
+    behind : (h : Hearing) → Goes v (message_by v (opened s o) h.given) (said_hearing v (opened s o) o.reading full_wait h) (after_hearing v (opened s o) o.reading h)
+        → Goes v (message_by v (opened s o) h.given) (puts (put_first v s o) o.fault ++ said_hearing v (opened s o) o.reading full_wait h) (after_hearing v (opened s o) o.reading h)
     behind h (inl w) = inl w
-    behind h (inr j) = inr (record { request = j.request; id = j.id; said_so = ap (λ (l : List Said). l ++ said_hearing v (opened s o) o.reading h) none ∙ j.said_so; joined = j.joined; one = j.one })
+    behind h (inr j) = inr (record { request = j.request; id = j.id; said_so = ap (λ (l : List Said). l ++ said_hearing v (opened s o) o.reading full_wait h) none ∙ j.said_so; joined = j.joined; one = j.one })
 
     by : (hh : Option Hearing) → IsHearingIf v (opened s o) o.reading hh → stop_after v (opened s o) o.reading hh ≡ None
-        → Goes v (message_after v (opened s o) hh) (puts (put_first v s o) o.fault ++ said_after v (opened s o) o.reading hh) (stands_after v (opened s o) o.reading hh)
+        → Goes v (message_after v (opened s o) hh) (puts (put_first v s o) o.fault ++ said_after v (opened s o) o.reading (wait_in o) hh) (stands_after v (opened s o) o.reading hh)
     by None heard stop = inl (still, refl)
-    by (Some h) heard stop = behind h (hearing_goes v (opened s o) o.reading h.given h.judged h.answer h.fault still heard stop)
+    by (Some h) heard stop = subst
+        (λ (wait : ℕ). Goes v (message_by v (opened s o) h.given) (puts (put_first v s o) o.fault ++ said_hearing v (opened s o) o.reading wait h) (after_hearing v (opened s o) o.reading h))
+        waits (behind h (hearing_goes v (opened s o) o.reading h.given h.judged h.answer h.fault still heard stop))
 
 -- ---- once somebody has joined
 

@@ -25,7 +25,7 @@ use Rattle.bsc_session_laws.proofs.Connecting.{connects_are_asked}
 use Rattle.bsc_session_laws.proofs.Owning.{forwards_are_carried}
 
 abbrev talk : List Said
-talk = connects ∷ Put accept None ∷ Gave (Ok (Message to_itself)) ∷ Put back None ∷ Gave (Ok Closed) ∷ []
+talk = connects ∷ Put accept None ∷ Gave 500 (Ok (Message to_itself)) ∷ Put back None ∷ Gave 500 (Ok Closed) ∷ []
 
 abbrev made : List Entry
 made = joined_as 1 ∷ forwarded_as 1 1 to_itself Appended ∷ left_as 1 1 2 ∷ []

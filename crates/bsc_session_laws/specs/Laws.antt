@@ -14,6 +14,7 @@ use Rattle.bsc_session.specs.Causes.{last_answer, last_given, last_judged}
 use Rattle.bsc_session.specs.Course.{Course, all_turns, shares}
 use Rattle.bsc_session.specs.Receiving.{worn, no_memory}
 use Rattle.bsc_session.specs.Standings.{Terms, begun}
+use Rattle.bsc_session.specs.Taking.{full_wait}
 use Rattle.bsc_session.specs.Turns.{Turn, frames_in, said_in}
 use Rattle.bsc_session_laws.specs.Messages.{asked, carried, connected, forwarded, given_in, messages_of}
 
@@ -73,7 +74,7 @@ pub record AcceptsFirst (v : Terms) (T : List Said) (c : Course v) : Type 0 wher
   pub id : ℕ
   pub said_later : List Said
   pub talk : T ≡ shares said_in v begun before
-      ++ Gave (Ok (Message request)) ∷ Put (spelling (connect_accept id v.hub)) None ∷ said_later
+      ++ Gave full_wait (Ok (Message request)) ∷ Put (spelling (connect_accept id v.hub)) None ∷ said_later
 
 -- A session that takes frames has put the Connect-Accept before it takes the first.
 abbrev pub FramesFollowAccept : (v : Terms) → List Said → List (List ℕ) → Course v → Type 0

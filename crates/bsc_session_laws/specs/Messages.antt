@@ -45,7 +45,7 @@ messages_of {v} c = shares message_in v begun (all_turns c)
 
 -- the messages that the link gave, by the talk alone
 abbrev pub given_by : Said → List (List ℕ)
-given_by (Gave (Ok (Message m))) = m ∷ []
+given_by (Gave wait (Ok (Message m))) = m ∷ []
 given_by said = []
 
 abbrev pub given_in : List Said → List (List ℕ)

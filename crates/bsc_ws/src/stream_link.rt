@@ -1,6 +1,6 @@
 //! Links over any stream.
 ghost use Rattle.std.specs.Prelude.{◌≡◌, ◌≤◌, ◌⊎◌, [], ◌∷◌, Some, None, Ok, Err, OnOk, IfErr, ⊤};
-ghost use Rattle.bsc_edge.specs.Told.{Grows, IsQuiet, fault_in};
+ghost use Rattle.bsc_edge.specs.Told.{Grows, Stays, IsQuiet, fault_in};
 ghost use Rattle.bsc_edge.specs.declared.fault.LinkFault.{LinkFault};
 ghost use Rattle.bsc_edge.specs.declared.said.Said.{Said};
 ghost use Rattle.bsc_outside.specs.Faults.{HasRisen};
@@ -92,6 +92,7 @@ impl<T: Read + Write + Drop, W: Patience + Drop, K: MaskKeys + Drop> StreamLink<
     fn unsent(&mut self, error: Error) -> LinkFault
         ensures fault { FaultOf error result }
         ensures socket { self.new.socket ≡ self.old.socket }
+        ensures wait { self.new.wait ≡ self.old.wait }
         ensures later { self.old.faults ≤ self.new.faults }
         ensures failed { result ≡ LinkFault.Failed → HasRisen self.old.faults self.new.faults }
         ensures quiets { self.new.quiets ≡ self.old.quiets }
@@ -115,11 +116,15 @@ impl<T: Read + Write + Drop, W: Patience + Drop, K: MaskKeys + Drop> Link for St
         // The message, or what stands for it, is the one that is read from the octets of the stream.
         ensures read { Receives T.remaining T.contents self.old.socket self.new.socket result
             ⊎ (IsUnset self.old.socket self.new.socket result × HasRisen (W.faults self.old.wait) (W.faults self.new.wait)) }
+        // The patience was asked for this wait, once; or it couldn't be set.
+        ensures waited { Grows (W.waits self.old.wait) (W.waits self.new.wait) (wait_ms ∷ [])
+            ⊎ (IsUnset self.old.socket self.new.socket result × HasRisen (W.faults self.old.wait) (W.faults self.new.wait)
+            × Stays (W.waits self.old.wait) (W.waits self.new.wait)) }
         ensures later { self.old.faults ≤ self.new.faults }
         ensures failed { result ≡ Err LinkFault.Failed → HasRisen self.old.faults self.new.faults }
         ensures quiets { self.old.quiets ≤ self.new.quiets }
         ensures quiet { IsQuiet result → HasRisen self.old.quiets self.new.quiets }
-        ensures told { Grows None None (Said.Gave result ∷ []) }
+        ensures told { Grows None None (Said.Gave wait_ms result ∷ []) }
     {
         if self.wait.set(wait_ms).is_err() {
             self.faults = self.faults.saturating_add(1);
@@ -137,6 +142,7 @@ impl<T: Read + Write + Drop, W: Patience + Drop, K: MaskKeys + Drop> Link for St
         ensures empty { OnOk result (self.new.socket.output ≡ []) }
         // Where it fails, nothing goes but some octets of this frame.
         ensures unsent { IfErr result (Unsent T.contents self.old.socket self.new.socket (write_step self.old.socket.conn (binary m.now))) }
+        ensures wait { self.new.wait ≡ self.old.wait }
         ensures later { self.old.faults ≤ self.new.faults }
         ensures failed { result ≡ Err LinkFault.Failed → HasRisen self.old.faults self.new.faults }
         ensures quiets { self.old.quiets ≤ self.new.quiets }
@@ -159,6 +165,7 @@ impl<T: Read + Write + Drop, W: Patience + Drop, K: MaskKeys + Drop> Link for St
         ensures empty { OnOk result (self.new.socket.output ≡ []) }
         // Where there is no memory, nothing goes.
         ensures unsent { result ≡ Err LinkFault.NoMemory → self.new.socket ≡ self.old.socket }
+        ensures wait { self.new.wait ≡ self.old.wait }
         ensures later { self.old.faults ≤ self.new.faults }
         ensures failed { result ≡ Err LinkFault.Failed → HasRisen self.old.faults self.new.faults }
         ensures quiets { self.old.quiets ≤ self.new.quiets }

@@ -1,10 +1,11 @@
 //! Each object once, with a fault in it.
-ghost use Rattle.std.specs.Prelude.{◌≡◌};
+ghost use Rattle.std.specs.Prelude.{⊤};
 
 use bsc_edge::{
     Acceptor, Arrived, Clock, Dialer, Disk, Failed, FileFault, Files, Incoming, Job, Kind, Link,
     LinkFault, MemAcceptor, MemClock, MemDialer, MemFile, MemFiles, MemLink, MemPatience,
-    MemSpawner, Monotonic, Patience, Places, Said, Spawner, ThreadSpawner, Unstarted, launch,
+    MemSpawner, MemWaiter, Monotonic, Patience, Places, Promised, Running, Said, Spawner,
+    ThreadSpawner, Unstarted, Waiter, launch,
 };
 use bsc_octets::{NoMemory, Octets};
 use std::alloc::Global;
@@ -30,7 +31,7 @@ fn given(answer: &Result<Incoming, LinkFault>) -> u8 {
 /// The letter of one call in the talk of a link.
 fn letter(said: &Said) -> u8 {
     match said {
-        Said::Gave(answer) => given(answer),
+        Said::Gave(_, answer) => given(answer),
         Said::Put(_, None) => b'p',
         Said::Put(_, Some(_)) => b'!',
         Said::Closed(_, _) => b'X',
@@ -44,6 +45,14 @@ fn is_talk(talk: &[Said], letters: &[u8]) -> bool {
             .iter()
             .zip(letters.iter())
             .all(|(said, wanted)| letter(said) == *wanted)
+}
+
+/// Whether each receive of a talk was asked to wait so long.
+fn waits_so(talk: &[Said], wait_ms: u32) -> bool {
+    talk.iter().all(|said| match said {
+        Said::Gave(waited, _) => *waited == wait_ms,
+        _ => true,
+    })
 }
 
 /// Receives so often.
@@ -67,6 +76,7 @@ fn links_in_memory(rt: HostRuntime) -> Result<(), Fail> {
     receive(alloc, &mut link, 3);
     assert_eq!(rt; link.close(alloc, 1008, "idle"), Err(LinkFault::Failed));
     assert!(rt; is_talk(link.talk().unwrap_or(&[]), b"mFp!TQCX"));
+    assert!(rt; waits_so(link.talk().unwrap_or(&[]), 20));
     Ok(())
 }
 
@@ -125,31 +135,39 @@ fn arrived(answer: Result<Arrived<u64>, LinkFault>) -> Option<u64> {
 #[test]
 fn acceptors_and_waits_in_memory(rt: HostRuntime) -> Result<(), Fail> {
     let alloc = rt.alloc();
-    let mut acceptor = MemAcceptor::new(Vec::from_slice(alloc, &[7])?, &[1, 3]);
+    let mut acceptor = MemAcceptor::new(alloc, Vec::from_slice(alloc, &[7])?, &[1, 3]);
     assert_eq!(rt; acceptor.bind(1), Err(Failed));
     assert_eq!(rt; acceptor.bind(4443), Ok(()));
     assert_eq!(rt; acceptor.bound(), Some(4443));
     assert_eq!(rt; arrived(acceptor.next(alloc, 20)), None);
     assert_eq!(rt; acceptor.left(), 1);
-    assert_eq!(rt; arrived(acceptor.next(alloc, 20)), Some(7));
-    assert_eq!(rt; arrived(acceptor.next(alloc, 20)), None);
+    assert_eq!(rt; arrived(acceptor.next(alloc, 0)), Some(7));
+    assert_eq!(rt; arrived(acceptor.next(alloc, 5)), None);
+    assert!(rt; acceptor.waits().unwrap_or(&[]) == [20, 0, 5].as_slice());
     let mut patience = MemPatience::new(alloc, &[1]);
     assert_eq!(rt; patience.set(1), Err(Failed));
     assert_eq!(rt; patience.set(20), Ok(()));
     assert!(rt; patience.waits().unwrap_or(&[]) == [20].as_slice());
+    let mut waiter = MemWaiter::new(alloc);
+    waiter.wait(0);
+    waiter.wait(50);
+    assert!(rt; waiter.waits().unwrap_or(&[]) == [0, 50].as_slice());
     Ok(())
 }
 
-/// Adds one to a sum.
+/// Adds one to a sum, and leaves what that is then.
 #[derive(Drop)]
 struct Adds(Arc<Mutex<u64>>);
 
 impl Job for Adds {
-    ghost works = { λ before after. after ≡ before };
+    type Done = u64;
 
-    fn work<R: Wait>(&mut self, rt: &R) {
+    ghost works = { λ _ _. ⊤ };
+
+    fn work<R: Wait>(self, rt: &R) -> u64 {
         let mut sum = self.0.lock(rt);
         *sum = sum.saturating_add(1);
+        *sum
     }
 }
 
@@ -173,43 +191,86 @@ fn starts<P: Spawner<Adds>, R: Wait>(
     }
 }
 
+/// None ends by itself. Where an end is waited for the oldest is worked off; and the others can be had as they are.
 #[test]
 fn jobs_in_memory(rt: HostRuntime) -> Result<(), Fail> {
     let alloc = rt.alloc();
     let sum = Arc::new(alloc, Mutex::new(0u64))?;
     let mut spawner = MemSpawner::new(alloc, &[2]);
     assert!(rt; starts(&rt, alloc, &mut spawner, &sum)?);
-    spawner.gather(&rt);
+    assert_eq!(rt; spawner.ended(&rt), None);
+    assert_eq!(rt; spawner.next_end(&rt), Some(1));
+    assert_eq!(rt; spawner.next_end(&rt), None);
     assert!(rt; !starts(&rt, alloc, &mut spawner, &sum)?);
     assert!(rt; starts(&rt, alloc, &mut spawner, &sum)?);
-    assert_eq!(rt; spawner.since(), 1);
-    for mut job in spawner.into_jobs() {
-        job.work(&rt);
+    assert_eq!(rt; spawner.taken(), Some(2));
+    for job in Vec::from(spawner.into_jobs()) {
+        assert_eq!(rt; job.work(&rt), 2);
     }
     assert_eq!(rt; *sum.lock(&rt), 2);
     Ok(())
 }
 
-/// One place: while a job has it, the next comes back; and all are gathered.
+/// Waits until each job that is out has ended, and says how many those were.
+fn gathered<P: Spawner<Adds>, R: Wait>(rt: &R, spawner: &mut P) -> u64
+    ensures { P.can_start spawner.old → P.can_start spawner.new }
+{
+    let mut ended = 0u64;
+    for _ in rt.forever() {
+        if spawner.next_end(rt).is_none() {
+            return ended;
+        }
+        ended = ended.saturating_add(1);
+    }
+    unreachable!()
+}
+
+/// One place: while a job has it, the next comes back, and none has ended. It is free again when what is left of the job was
+/// given back.
 #[test]
 fn threads(rt: HostRuntime) -> Result<(), Fail> {
     let alloc = rt.alloc();
     let sum = Arc::new(alloc, Mutex::new(0u64))?;
     let begin = move |alloc: Global, places: &Arc<Places>, job: Adds| -> Result<
-        (),
+        Running<Result<u64, Adds>, Promised<Adds>>,
         Unstarted<Adds>,
     > { launch(&rt, alloc, places, job) };
-    let mut spawner = ThreadSpawner::new(begin, Places::make(alloc, 1)?);
+    let mut spawner = ThreadSpawner::new(rt, alloc, begin, Places::make(alloc, 1)?);
     let held = sum.lock(&rt);
     assert!(rt; starts(&rt, alloc, &mut spawner, &sum)?);
     assert!(rt; !starts(&rt, alloc, &mut spawner, &sum)?);
+    assert_eq!(rt; spawner.ended(&rt), None);
     drop(held);
-    spawner.gather(&rt);
+    assert_eq!(rt; gathered(&rt, &mut spawner), 1);
     for _ in 0..100 {
         assert!(rt; starts(&rt, alloc, &mut spawner, &sum)?);
-        spawner.gather(&rt);
+        assert_eq!(rt; gathered(&rt, &mut spawner), 1);
     }
     assert_eq!(rt; *sum.lock(&rt), 101);
+    Ok(())
+}
+
+/// Two places: the job that has ended is given back while the other one runs, without a wait.
+#[test]
+fn an_end_beside_a_thread(rt: HostRuntime) -> Result<(), Fail> {
+    let alloc = rt.alloc();
+    let (slow, quick) = (
+        Arc::new(alloc, Mutex::new(10u64))?,
+        Arc::new(alloc, Mutex::new(20u64))?,
+    );
+    let begin = move |alloc: Global, places: &Arc<Places>, job: Adds| -> Result<
+        Running<Result<u64, Adds>, Promised<Adds>>,
+        Unstarted<Adds>,
+    > { launch(&rt, alloc, places, job) };
+    let mut spawner = ThreadSpawner::new(rt, alloc, begin, Places::make(alloc, 2)?);
+    let held = slow.lock(&rt);
+    assert!(rt; starts(&rt, alloc, &mut spawner, &slow)?);
+    assert!(rt; starts(&rt, alloc, &mut spawner, &quick)?);
+    assert_eq!(rt; spawner.next_end(&rt), Some(21));
+    assert_eq!(rt; spawner.ended(&rt), None);
+    drop(held);
+    assert_eq!(rt; spawner.next_end(&rt), Some(11));
+    assert_eq!(rt; spawner.next_end(&rt), None);
     Ok(())
 }
 

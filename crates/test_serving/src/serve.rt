@@ -1,25 +1,32 @@
 //! A hub that is served, in memory: links that meet, links that get no session, and each end.
 ghost use Rattle.std.specs.Prelude.{◌≤◌, IfOk};
 ghost use Rattle.std.specs.Arc.{arc_value};
+ghost use Rattle.bsc_edge.specs.Threads.{Begins};
 ghost use Rattle.bsc_hub.specs.Passing.{IsCaller};
 
 mod scene;
-mod watching;
 
-use crate::serve::scene::{CLOSING, CuedLink, FIRST, LATER, Scene, Still, links};
-use crate::serve::watching::{Session, begin_beside, begin_none};
+use crate::serve::scene::{CLOSING, CuedLink, FIRST, JOINING, LATER, Scene, Still, links};
 use crate::session::{self, LIMITS};
-use bsc_edge::{MemAcceptor, MemSpawner, Places, Spawner, ThreadSpawner, Unstarted};
+use bsc_edge::{
+    MemAcceptor, MemSpawner, Places, Promised, Running, Spawner, ThreadSpawner, Unstarted, launch,
+};
 use bsc_history::Counts;
 use bsc_hub::{Hub, Pass};
 use bsc_octets::NoMemory;
 use bsc_serve::{ServeEnd, ServeTerms, serve_on};
+use bsc_session::{SessionEnd, SessionJob};
 use std::alloc::Global;
 use std::process::Abort;
 use std::sync::atomic::Ordering;
 use std::sync::{Arc, Wait};
 use std::test::*;
 use std::thread::Threads;
+
+type Session = SessionJob<CuedLink, Still>;
+
+/// The thread of a session.
+type Thread = Running<Result<SessionEnd, Session>, Promised<Session>>;
 
 /// The greatest number of receives of a session that meets another: time enough for a thread to start.
 const TURNS: u64 = 5_000_000;
@@ -65,7 +72,7 @@ fn serve<R: Wait, P: Spawner<Session>>(
         turns: TURNS,
         sessions: Some(links.len() as u64),
     };
-    let mut acceptor = MemAcceptor::new(links, failing);
+    let mut acceptor = MemAcceptor::new(alloc, links, failing);
     serve_on(
         rt,
         alloc,
@@ -97,16 +104,14 @@ fn served<R: Wait, P: Spawner<Session>>(
 fn served_beside<R: Threads + Wait + Copy + Send + 'static>(
     rt: &R,
     alloc: Global,
-    scene: &Arc<Scene>,
     links: Vec<CuedLink>,
 ) -> Result<ServeEnd, NoMemory> {
     let handle = *rt;
-    let theirs = Arc::try_clone(scene)?;
     let begin = move |alloc: Global, places: &Arc<Places>, job: Session| -> Result<
-        (),
+        Thread,
         Unstarted<Session>,
-    > { begin_beside(&handle, alloc, places, &theirs, job) };
-    let mut spawner = ThreadSpawner::new(begin, Places::make(alloc, 8)?);
+    > { launch(&handle, alloc, places, job) };
+    let mut spawner = ThreadSpawner::new(handle, alloc, begin, Places::make(alloc, 8)?);
     served(rt, alloc, 8, links, &mut spawner)
 }
 
@@ -117,7 +122,7 @@ fn a_message_is_carried_at_once(rt: HostRuntime) -> Result<(), Fail> {
     let alloc = rt.alloc();
     let scene = Scene::new(alloc)?;
     let links = links(alloc, &scene, &[FIRST, LATER])?;
-    let end = served_beside(&rt, alloc, &scene, links)?;
+    let end = served_beside(&rt, alloc, links)?;
     let counts = Counts {
         joined: 2,
         unicasts: 1,
@@ -135,14 +140,32 @@ fn a_message_is_carried_at_once(rt: HostRuntime) -> Result<(), Fail> {
     Ok(())
 }
 
+/// Each session has joined and left before the hub is stopped: its counts have both.
+#[test]
+fn the_stop_comes_after_all_sessions(rt: HostRuntime) -> Result<(), Fail> {
+    let alloc = rt.alloc();
+    let counts = Counts { joined: 2, ..NONE };
+    let done = ServeEnd::Done {
+        counts,
+        unstarted: 0,
+    };
+    let scene = Scene::new(alloc)?;
+    let two = links(alloc, &scene, &[JOINING, JOINING])?;
+    let mut spawner = MemSpawner::new(alloc, &[]);
+    let end = served(&rt, alloc, 8, two, &mut spawner)?;
+    assert!(rt; end == done && spawner.taken() == Some(2));
+    assert_eq!(rt; scene.closed.load(Ordering::SeqCst), 2);
+    Ok(())
+}
+
 /// Three links arrive that close at once, and the starts with these numbers fail. How it ends, how many links were closed
-/// with 1001, and how many jobs there are.
+/// with 1001, and how many jobs were taken.
 fn three_closing<R: Wait>(
     rt: &R,
     alloc: Global,
     callers: u64,
     failing: &[u64],
-) -> Result<(ServeEnd, u64, usize), NoMemory>
+) -> Result<(ServeEnd, u64, Option<usize>), NoMemory>
     requires { (1 ≤ callers) × (callers ≤ 100) }
 {
     let scene = Scene::new(alloc)?;
@@ -150,7 +173,7 @@ fn three_closing<R: Wait>(
     let links = links(alloc, &scene, &[CLOSING, CLOSING, CLOSING])?;
     let end = served(rt, alloc, callers, links, &mut spawner)?;
     let away = scene.away.load(Ordering::SeqCst);
-    Ok((end, away, spawner.into_jobs().len()))
+    Ok((end, away, spawner.taken()))
 }
 
 /// The second of three starts fails; and at a hub for two callers there is no number for a second pass.
@@ -161,14 +184,21 @@ fn links_without_a_session_are_closed(rt: HostRuntime) -> Result<(), Fail> {
         counts: NONE,
         unstarted: 1,
     };
-    assert!(rt; end == one_is_left && away == 1 && jobs == 2);
+    assert!(rt; end == one_is_left && away == 1 && jobs == Some(2));
     let (end, away, jobs) = three_closing(&rt, rt.alloc(), 2, &[])?;
     let two_are_left = ServeEnd::Done {
         counts: NONE,
         unstarted: 2,
     };
-    assert!(rt; end == two_are_left && away == 2 && jobs == 1);
+    assert!(rt; end == two_are_left && away == 2 && jobs == Some(1));
     Ok(())
+}
+
+/// There is no memory for a session.
+fn begin_none(session: Session) -> Result<Thread, Unstarted<Session>>
+    ensures { Begins result session }
+{
+    Err(Unstarted::NoMemory(session))
 }
 
 /// There is no memory for the first of two jobs: its link is closed, and no link is taken after it.
@@ -178,10 +208,10 @@ fn want_of_memory_ends_serving(rt: HostRuntime) -> Result<(), Fail> {
     let scene = Scene::new(alloc)?;
     let links = links(alloc, &scene, &[CLOSING, CLOSING])?;
     let begin = move |_alloc: Global, _places: &Arc<Places>, job: Session| -> Result<
-        (),
+        Thread,
         Unstarted<Session>,
     > { begin_none(job) };
-    let mut spawner = ThreadSpawner::new(begin, Places::make(alloc, 1)?);
+    let mut spawner = ThreadSpawner::new(rt, alloc, begin, Places::make(alloc, 1)?);
     let end = served(&rt, alloc, 8, links, &mut spawner)?;
     assert_eq!(rt; end, ServeEnd::NoMemory);
     assert_eq!(rt; scene.away.load(Ordering::SeqCst), 1);

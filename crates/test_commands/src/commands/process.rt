@@ -1,12 +1,14 @@
 //! A run of the program over sockets and threads, with its files and what it writes in memory.
 use crate::commands::{files_of, status_of};
-use bsc_commands::{Door, Noted, RealLink, real_dialer};
-use bsc_edge::{Kind, MemFiles, Monotonic, Places, ThreadSpawner, Unstarted, launch};
+use bsc_commands::{Door, Noted, RealLink, RealWaiter, real_dialer};
+use bsc_edge::{
+    Kind, MemFiles, Monotonic, Places, Promised, Running, ThreadSpawner, Unstarted, launch,
+};
 use bsc_links::{PeerAcceptor, PeerDialer};
 use bsc_node_command::RandomWords;
 use bsc_octets::NoMemory;
 use bsc_outside::{MemSink, MemSource};
-use bsc_session::SessionJob;
+use bsc_session::{SessionEnd, SessionJob};
 use std::alloc::Global;
 use std::cell::Cell;
 use std::io::{self, Eprint};
@@ -59,13 +61,19 @@ fn status_over_sockets<
     sink: &mut MemSink<'_>,
 ) -> Result<u8, NoMemory> {
     let begin = move |alloc: Global, places: &Arc<Places>, job: Session<R>| -> Result<
-        (),
+        Running<Result<SessionEnd, Session<R>>, Promised<Session<R>>>,
         Unstarted<Session<R>>,
     > { launch(&rt, alloc, places, job) };
-    let mut spawner = ThreadSpawner::new(begin, Places::make(alloc, 8)?);
+    let mut spawner = ThreadSpawner::new(rt, alloc, begin, Places::make(alloc, 8)?);
     let notes = Rc::new(alloc, Cell::new(Noted::nothing()))?;
-    let mut acceptor = PeerAcceptor::new(Door::new(rt, alloc, process.kind, notes));
-    let mut dialer = PeerDialer::new(real_dialer(rt, alloc)?);
+    let Ok(mut waiter) = RealWaiter::of(rt, alloc, process.kind) else {
+        return Err(NoMemory);
+    };
+    let (Ok(of_links), Ok(of_gate)) = (waiter.watch(), waiter.watch()) else {
+        return Err(NoMemory);
+    };
+    let mut acceptor = PeerAcceptor::new(Door::new(rt, alloc, process.kind, notes, of_gate));
+    let mut dialer = PeerDialer::new(real_dialer(rt, alloc, of_links)?);
     status_of(
         &rt,
         alloc,
@@ -74,6 +82,7 @@ fn status_over_sockets<
         sink,
         files,
         &mut Monotonic::new(rt),
+        &mut waiter,
         &mut RandomWords::new(rt),
         &mut acceptor,
         &mut dialer,

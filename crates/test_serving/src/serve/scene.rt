@@ -1,4 +1,4 @@
-//! Links in memory that see each other, and what is noted of a test.
+//! Links in memory that see each other, and what is noted of them.
 ghost use Rattle.std.specs.Prelude.{◌≡◌, Err, None};
 ghost use Rattle.bsc_edge.specs.declared.fault.LinkFault.{LinkFault};
 ghost use Rattle.bsc_edge.specs.Told.{IsQuiet};
@@ -10,7 +10,7 @@ use std::alloc::Global;
 use std::sync::Arc;
 use std::sync::atomic::{AtomicBool, AtomicU64, Ordering};
 
-/// What the links and jobs of a test see of each other.
+/// What the links of a test see of each other.
 #[derive(Drop)]
 pub(super) struct Scene {
     /// The peer of the later link was accepted.
@@ -19,7 +19,7 @@ pub(super) struct Scene {
     carried: AtomicBool,
     /// How many links were closed with 1001.
     pub(super) away: AtomicU64,
-    /// How many sessions ended as PeerClosed.
+    /// How many links gave Closed.
     pub(super) closed: AtomicU64,
 }
 
@@ -73,6 +73,16 @@ pub(super) struct Part {
 /// It closes at once.
 pub(super) const CLOSING: Part = Part {
     cues: &[],
+    closes: Until::Now,
+    is_later: false,
+};
+
+/// It connects, and closes then.
+pub(super) const JOINING: Part = Part {
+    cues: &[Cue {
+        until: Until::Now,
+        message: CONNECT_A,
+    }],
     closes: Until::Now,
     is_later: false,
 };
@@ -165,7 +175,10 @@ impl Link for CuedLink {
                 self.part.cues = rest;
                 given(alloc, cue.message)
             }
-            [] => Ok(Incoming::Closed),
+            [] => {
+                self.scene.closed.fetch_add(1, Ordering::SeqCst);
+                Ok(Incoming::Closed)
+            }
         }
     }
 

@@ -458,10 +458,10 @@ fn read(talk: &[Said], b: Outlet, c: Outlet) -> Reading {
         forwards: 0,
         is_so: true,
     };
-    if let [Said::Gave(Ok(Incoming::Message(_))), rest @ ..] = talk {
+    if let [Said::Gave(_, Ok(Incoming::Message(_))), rest @ ..] = talk {
         for said in rest {
             match said {
-                Said::Gave(Ok(Incoming::Message(_))) => reading.given(),
+                Said::Gave(_, Ok(Incoming::Message(_))) => reading.given(),
                 Said::Put(octets, None) => reading.put(octets.as_slice()),
                 _ => (),
             }

@@ -7,16 +7,18 @@ use std::process::Abort;
 use std::sync::{Arc, Wait};
 use std::test::*;
 
-/// A link that notes how long its receives are asked to wait. At the second of them a job is worked off.
+/// A link that notes how long its receives are asked to wait. At the second of them a job is worked off, and this is left of
+/// it.
 #[derive(Drop)]
-struct Noting<L, J, R> {
+struct Noting<L, J, D, R> {
     rt: R,
     link: L,
-    job: J,
+    job: Option<J>,
+    left: Option<D>,
     waits: Vec<u32>,
 }
 
-impl<L: Link, J: Job, R: Wait> Link for Noting<L, J, R> {
+impl<L: Link, J: Job<Done = D>, D: Drop, R: Wait> Link for Noting<L, J, D, R> {
     ghost faults = { λ l. L.faults l.link };
 
     ghost quiets = { λ l. L.quiets l.link };
@@ -26,7 +28,9 @@ impl<L: Link, J: Job, R: Wait> Link for Noting<L, J, R> {
     fn receive(&mut self, alloc: Global, wait_ms: u32) -> Result<Incoming, LinkFault> {
         let _ = self.waits.push(wait_ms);
         if self.waits.len() == 2 {
-            self.job.work(&self.rt);
+            if let Some(job) = self.job.take() {
+                self.left = Some(job.work(&self.rt));
+            }
         }
         self.link.receive(alloc, wait_ms)
     }
@@ -77,7 +81,8 @@ fn frames_that_are_left(rt: HostRuntime) -> Result<(), Fail> {
     let mut link = Noting {
         rt,
         link: MemLink::new(alloc, ours, &[]),
-        job: SessionJob::new(alloc, shared, pass, other, clock, LIMITS, 100),
+        job: Some(SessionJob::new(alloc, shared, pass, other, clock, LIMITS, 100)),
+        left: None,
         waits: Vec::new(alloc),
     };
     let mut clock = MemClock::new(alloc, &[]);
@@ -85,10 +90,10 @@ fn frames_that_are_left(rt: HostRuntime) -> Result<(), Fail> {
         &rt, alloc, &hub, &mut own, &mut link, &mut clock, &LIMITS, 100,
     );
     assert_eq!(rt; came, ended(Why::PeerClosed, Some(1), 36, 2, 5));
-    assert_eq!(rt;
-        link.job.ended,
-        Some(ended(Why::PeerClosed, Some(2), 0, 37, 38))
-    );
+    let Some(theirs) = &link.left else {
+        panic!(rt; "the job was worked off");
+    };
+    assert_eq!(rt; theirs.ended, ended(Why::PeerClosed, Some(2), 0, 37, 38));
     assert!(rt; link.waits.as_slice() == [500, 500, 0, 0, 500].as_slice());
     Ok(())
 }

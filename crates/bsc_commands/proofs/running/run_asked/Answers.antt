@@ -1,11 +1,12 @@
 use Rattle.std.proofs.Common.{◌≡◌, ℕ, List, Option, Ok, map, ap, sym, ◌∙◌}
 use Rattle.clap.specs.Words.{Text}
 use Rattle.bsc_settings.specs.declared.hub.HubSettings.{HubSettings}
+use Rattle.bsc_session.specs.Jobs.{Worked}
 use Rattle.bsc_hub_command.specs.Served.{HubWorld, Runs}
 use Rattle.bsc_hub_command.specs.Settled.{IsSettled, Unsettled}
 use Rattle.bsc_node_run.specs.declared.due.Due.{Due}
 use Rattle.bsc_node_run.specs.Scripts.{script_of, wish_of}
-use Rattle.bsc_node_run.specs.Worlds.{dialling}
+use Rattle.bsc_node_run.specs.Worlds.{admitting, dialling}
 use Rattle.bsc_node_runs.specs.Courses.{FinishCame}
 use Rattle.bsc_node_command.specs.Comes.{CommandWorld, RunsFiles}
 use Rattle.bsc_words.specs.Words.{seen}
@@ -19,10 +20,10 @@ pub returns-in-Hub-clause-hub : goal.returns-in-Hub-clause-hub
 returns-in-Hub-clause-hub g c path sessions made named kept =
     let A = g.A.Acceptor in
     let P = g.P.Spawner in
-    let before : HubWorld g.row.L.Denot g.row.C.Denot = record { links = A.left c.args.acceptor.now; port = A.bound c.args.acceptor.now; faults = A.faults c.args.acceptor.now; jobs = P.jobs c.args.spawner.now; since = P.since c.args.spawner.now; unstarted = P.faults c.args.spawner.now; written = g.K.Sink.held c.args.sink.now } in
-    let after : HubWorld g.row.L.Denot g.row.C.Denot = record { links = A.left c.run_hub.new.acceptor; port = A.bound c.run_hub.new.acceptor; faults = A.faults c.run_hub.new.acceptor; jobs = P.jobs c.run_hub.new.spawner; since = P.since c.run_hub.new.spawner; unstarted = P.faults c.run_hub.new.spawner; written = g.K.Sink.held c.run_hub.new.sink } in
+    let before : HubWorld g.row.L.Denot g.row.C.Denot = record { links = A.left c.args.acceptor.now; waits = A.waits c.args.acceptor.now; port = A.bound c.args.acceptor.now; faults = A.faults c.args.acceptor.now; jobs = P.jobs c.args.spawner.now; out = P.out c.args.spawner.now; unstarted = P.faults c.args.spawner.now; written = g.K.Sink.held c.args.sink.now } in
+    let after : HubWorld g.row.L.Denot g.row.C.Denot = record { links = A.left c.run_hub.new.acceptor; waits = A.waits c.run_hub.new.acceptor; port = A.bound c.run_hub.new.acceptor; faults = A.faults c.run_hub.new.acceptor; jobs = P.jobs c.run_hub.new.spawner; out = P.out c.run_hub.new.spawner; unstarted = P.faults c.run_hub.new.spawner; written = g.K.Sink.held c.run_hub.new.sink } in
     of_hub (λ (p : Text) (n : Option ℕ). (v : HubSettings) × IsSettled (g.F.Files.holds c.args.files.now p) v
-    × Runs v n c.run_hub.new.kept before after c.run_hub.result)
+    × Runs (Worked g.L.Link.talk g.L.Link.faults g.C.Clock.readings) (record { settings = v; sessions = n }) c.run_hub.new.kept before after c.run_hub.result)
     c.in-Hub.path.now path c.in-Hub.sessions sessions (sym (ap seen c.in-Hub.is) ∙ named) (c.run_hub.ensures.runs made kept)
 
 pub returns-in-Hub-clause-no_hub : goal.returns-in-Hub-clause-no_hub
@@ -38,9 +39,10 @@ returns-in-Node-clause-node g c path script named =
     let A = g.A.Acceptor in
     let D = g.D.Dialer in
     let C = g.C.Clock in
+    let V = g.V.Waiter in
     let F = g.F.Files in
-    let before : CommandWorld g.row.L.Denot g.row.W.Denot = record { unread = F.faults c.args.files.now; beside = record { dialled = dialling D.calls D.left D.faults c.args.dialer.now; links = A.left c.args.acceptor.now; port = A.bound c.args.acceptor.now; faults = A.faults c.args.acceptor.now; readings = C.readings c.args.clock.now; random = c.args.random.now; written = g.K.Sink.held c.args.sink.now } } in
-    let after : CommandWorld g.row.L.Denot g.row.W.Denot = record { unread = F.faults c.run_node_files.new.files; beside = record { dialled = dialling D.calls D.left D.faults c.run_node_files.new.dialer; links = A.left c.run_node_files.new.acceptor; port = A.bound c.run_node_files.new.acceptor; faults = A.faults c.run_node_files.new.acceptor; readings = C.readings c.run_node_files.new.clock; random = c.run_node_files.new.random; written = g.K.Sink.held c.run_node_files.new.sink } } in
+    let before : CommandWorld g.row.L.Denot g.row.W.Denot = record { unread = F.faults c.args.files.now; beside = record { dialled = dialling D.calls D.left D.faults c.args.dialer.now; door = admitting A.left A.waits c.args.acceptor.now; port = A.bound c.args.acceptor.now; faults = A.faults c.args.acceptor.now; readings = C.readings c.args.clock.now; waited = V.waits c.args.waiter.now; random = c.args.random.now; written = g.K.Sink.held c.args.sink.now } } in
+    let after : CommandWorld g.row.L.Denot g.row.W.Denot = record { unread = F.faults c.run_node_files.new.files; beside = record { dialled = dialling D.calls D.left D.faults c.run_node_files.new.dialer; door = admitting A.left A.waits c.run_node_files.new.acceptor; port = A.bound c.run_node_files.new.acceptor; faults = A.faults c.run_node_files.new.acceptor; readings = C.readings c.run_node_files.new.clock; waited = V.waits c.run_node_files.new.waiter; random = c.run_node_files.new.random; written = g.K.Sink.held c.run_node_files.new.sink } } in
     of_node (λ (p q : Text). RunsFiles g.L.Link.talk g.W.Words.gives g.W.Words.faults (F.holds c.args.files.now p) (F.holds c.args.files.now q) before after c.run_node_files.result)
     c.in-Node.path.now path c.in-Node.script.now script (sym (ap seen c.in-Node.is) ∙ named) c.run_node_files.ensures.runs
 

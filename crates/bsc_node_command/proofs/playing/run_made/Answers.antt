@@ -2,14 +2,14 @@ use Rattle.std.proofs.Common.{is_some, IfOk, OnErr}
 use Rattle.bsc_node_run.specs.Drawing.{GoesDrawing, at_rest}
 use Rattle.bsc_node_run.specs.Running.{Run}
 use Rattle.bsc_node_run.specs.Stopping.{RunFails}
-use Rattle.bsc_node_run.specs.Worlds.{dialling}
+use Rattle.bsc_node_run.specs.Worlds.{admitting, dialling}
 use Rattle.bsc_node_command.specs.Comes.{AnswersAt}
 use Rattle.bsc_node_command.proofs.Bound.{bound_still}
 use Rattle.bsc_node_command.proofs.Defined.{by_definition, fails_by_definition, lonely_of, said_of}
 use Rattle.bsc_node_command.proofs.playing.run_made.Goals as goal
 
 pub returns-clause-ran : goal.returns-clause-ran
-returns-clause-ran g c script links port faults reads stays bound =
+returns-clause-ran g c script door port faults reads unasked bound =
     let talk = g.L.Link.talk in
     let A = g.A.Acceptor in
     let D = g.D.Dialer in
@@ -24,28 +24,29 @@ returns-clause-ran g c script links port faults reads stays bound =
     let before = dialling D.calls D.left D.faults old.dialer.now in
     let after = dialling D.calls D.left D.faults new.dialer in
     let run : IfOk end (λ e. Run (GoesDrawing AnswersAt W.gives W.faults) talk (is_some v.direct_port) e v.turns lines
-    (at_rest old.node old.random.now) before (K.held old.sink.now) (A.left old.acceptor.now) (C.readings old.clock.now)
-    (at_rest new.node new.random) after (K.held new.sink) (A.left new.acceptor) (C.readings new.clock)) = rw c.is_some.ensures at c.run_node-end.ensures.runs in
+    (at_rest old.node old.random.now) before (K.held old.sink.now) (admitting A.left A.waits old.acceptor.now) (C.readings old.clock.now)
+    (at_rest new.node new.random) after (K.held new.sink) (admitting A.left A.waits new.acceptor) (C.readings new.clock)) = rw c.is_some.ensures at c.run_node-end.ensures.runs in
     let fails : OnErr end (RunFails (GoesDrawing AnswersAt W.gives W.faults) talk (is_some v.direct_port) v.turns lines
-    (at_rest old.node old.random.now) before (K.held old.sink.now) (A.left old.acceptor.now) (C.readings old.clock.now)
-    after (K.held new.sink) (A.left new.acceptor) (C.readings new.clock)) = rw c.is_some.ensures at c.run_node-end.ensures.fails in
-    let defined = by_definition talk W.gives W.faults v script lines old.node new.node old.random.now new.random end before after (A.left old.acceptor.now) (A.left new.acceptor)
+    (at_rest old.node old.random.now) before (K.held old.sink.now) (admitting A.left A.waits old.acceptor.now) (C.readings old.clock.now)
+    after (K.held new.sink) (admitting A.left A.waits new.acceptor) (C.readings new.clock)) = rw c.is_some.ensures at c.run_node-end.ensures.fails in
+    let defined = by_definition talk W.gives W.faults v script lines old.node new.node old.random.now new.random end before after (admitting A.left A.waits old.acceptor.now) (admitting A.left A.waits new.acceptor)
     (C.readings old.clock.now) (C.readings new.clock) (K.held old.sink.now) (K.held new.sink) reads c.requires run in
     record {
       lines = lines;
       reads = reads;
       last = defined.0;
       end = end;
-      left = A.left old.acceptor.now;
+      door = admitting A.left A.waits old.acceptor.now;
       written = K.held new.sink;
       bound = bound_still v.direct_port port (A.bound old.acceptor.now) (A.bound new.acceptor) bound c.run_node-end.ensures.bound;
-      stays = stays;
+      unasked = unasked;
       run = defined.1;
-      fails = fails_by_definition talk W.gives W.faults v script lines old.node old.random.now end before after (A.left old.acceptor.now) (A.left new.acceptor)
+      fails = fails_by_definition talk W.gives W.faults v script lines old.node old.random.now end before after (admitting A.left A.waits old.acceptor.now) (admitting A.left A.waits new.acceptor)
           (C.readings old.clock.now) (C.readings new.clock) (K.held old.sink.now) (K.held new.sink) reads c.requires fails;
-      said = said_of talk W.gives W.faults v lines old.random.now new.random defined.0 end before after (A.left old.acceptor.now) (A.left new.acceptor)
+      said = said_of talk W.gives W.faults v lines old.random.now new.random defined.0 end before after (admitting A.left A.waits old.acceptor.now) (admitting A.left A.waits new.acceptor)
           (C.readings old.clock.now) (C.readings new.clock) (K.held old.sink.now) (K.held new.sink) defined.1;
-      lonely = lonely_of talk W.gives W.faults v script lines old.random.now new.random defined.0 end before after (A.left old.acceptor.now) (A.left new.acceptor)
+      lonely = lonely_of talk W.gives W.faults v script lines old.random.now new.random defined.0 end before after (admitting A.left A.waits old.acceptor.now) (admitting A.left A.waits new.acceptor)
           (C.readings old.clock.now) (C.readings new.clock) (K.held old.sink.now) (K.held new.sink) reads defined.1;
+      rests = c.run_node-end.ensures.rests;
       says = c.tell_end.ensures.says;
     }

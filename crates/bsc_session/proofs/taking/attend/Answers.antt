@@ -13,7 +13,7 @@ pub returns-in-Cut-clause-attended : goal.returns-in-Cut-clause-attended
 returns-in-Cut-clause-attended g c v s f r = attends_cut v s c.args.now c.args.at.now c.take_from.new.member (g.L.Link.talk c.args.link.now) (g.L.Link.talk c.take_from.new.link) c.in-Cut.fault c.stop_at.result c.in-Cut.ensures.took f c.stop_at.ensures
 
 pub returns-in-Met-clause-attended : goal.returns-in-Met-clause-attended
-returns-in-Met-clause-attended g c v s f r = rw c.nothing_left.ensures (
+returns-in-Met-clause-attended g c v s f r =
     attends_met v s c.args.now c.args.at.now c.meet.new.at c.take_from.new.member (g.L.Link.talk c.args.link.now)
-    (g.L.Link.talk c.take_from.new.link) (g.L.Link.talk c.meet.new.link) c.in-Met.end c.meet.result c.in-Met.ensures.took f
-    (c.meet.ensures.met v s r.machine r.tied))
+    (g.L.Link.talk c.take_from.new.link) (g.L.Link.talk c.meet.new.link) c.in-Met.end c.meet.result c.nothing_left.result c.in-Met.ensures.took f
+    (c.meet.ensures.met v s r.machine r.tied) c.nothing_left.ensures.stops c.nothing_left.ensures.nothing

@@ -1,6 +1,6 @@
 use Rattle.std.proofs.Common.{◌∙◌, sym, refl, None}
 use Rattle.bsc_accept.specs.declared.event.Event.TheVariants.{Tick}
-use Rattle.bsc_session.specs.Inner.{Ticks, stop_of}
+use Rattle.bsc_session.specs.Inner.{Ticks}
 use Rattle.bsc_session.specs.Reading.{started, ticked}
 use Rattle.bsc_session.specs.Standings.{told}
 use Rattle.bsc_session.proofs.Opening.{followed_some, opens_apart, opens_attended, opens_expired}
@@ -17,7 +17,7 @@ returns-in-Some-clause-opened g c v s s0 is f r = opens_expired v s c.args.now c
 pub returns-then-is_connected-clause-opened : goal.returns-then-is_connected-clause-opened
 returns-then-is_connected-clause-opened g c v s s0 is f r =
     let k : Ticks v (started s c.args.now) c.args.now c.args.at.now c.tick.new.at None = rw (is, c.in_default.is) at (c.tick.ensures v s0 f r) in
-    opens_attended v s c.args.now c.args.at.now c.tick.new.at c.attend.new.at (g.L.Link.talk c.args.link.now) (g.L.Link.talk c.attend.new.link) (stop_of c.attend.result) k (sym (c.is_connected.ensures.told v (ticked s c.args.now) (k.runs refl).machine) ∙ c.if-is_connected.true) (c.attend.ensures.attended v (ticked s c.args.now) k.follows (k.runs refl))
+    opens_attended v s c.args.now c.args.at.now c.tick.new.at c.attend.new.at (g.L.Link.talk c.args.link.now) (g.L.Link.talk c.attend.new.link) c.attend.result k (sym (c.is_connected.ensures.told v (ticked s c.args.now) (k.runs refl).machine) ∙ c.if-is_connected.true) (c.attend.ensures.attended v (ticked s c.args.now) k.follows (k.runs refl))
 
 pub returns-else-is_connected-clause-opened : goal.returns-else-is_connected-clause-opened
 returns-else-is_connected-clause-opened g c v s s0 is f r =

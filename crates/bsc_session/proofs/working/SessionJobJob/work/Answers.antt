@@ -1,4 +1,4 @@
-use Rattle.std.proofs.Common.{refl, subst}
+use Rattle.std.proofs.Common.{subst}
 use Rattle.bsc_hub.specs.declared.hub.Hub.{Hub}
 use Rattle.bsc_session.specs.Causes.{HasExactCause}
 use Rattle.bsc_session.specs.Serving.{Serves, terms_of}
@@ -7,18 +7,15 @@ use Rattle.bsc_session.proofs.working.SessionJobJob.work.Goals as goal
 pub returns : goal.returns
 returns g c =
     let e = c.serve_connection-ended.ensures in
-    let b = c.args.self.now in
+    let b = c.args.self in
     let q = c.serve_connection-ended.new in
     let ended = c.serve_connection-ended.result in
     record {
-      ended = ended;
-      answered = refl;
+      link = q.link;
+      clock = q.clock;
       served = subst (λ (h : Hub). Serves (terms_of h b.pass b.limits b.turns) h b.pass q.pass (g.L.Link.talk b.link) (g.L.Link.talk q.link) (g.C.Clock.readings b.clock) (g.C.Clock.readings q.clock) ended) c.deref.ensures e.served;
       ends = e.ends;
       caused = subst (λ (h : Hub). HasExactCause (terms_of h b.pass b.limits b.turns) ended) c.deref.ensures e.caused;
       failed = e.failed;
       later = e.later;
-      hub = refl;
-      limits = refl;
-      turns = refl;
     }
