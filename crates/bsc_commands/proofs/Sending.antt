@@ -4,10 +4,10 @@ use Rattle.bsc_outside.specs.Faults.{PutsPrefix}
 use Rattle.bsc_player.specs.Ends.{WritesAll, WritesSome, whole_lines, lines_read}
 use Rattle.bsc_player.specs.LastLines.{script_line, read_line, memory_line}
 use Rattle.bsc_player.specs.Statuses.{BreaksOff, IsMishap, RefusesInPart, RefusesSome, RunsOut, StatusTells, StopsInPart, StopsReading}
-use Rattle.bsc_player.proofs.Ran.{puts_all}
 use Rattle.bsc_simulate.specs.Scripts.{simulate_of}
 use Rattle.bsc_simulate.proofs.Telling.{lines_of, tells_all, tells_part, tells_script, whole_of, writes_some}
 use Rattle.bsc_commands.specs.Commands.{WritesWhatWasSent}
+use Rattle.bsc_outside.proofs.Common.{puts_all}
 
 -- nothing of a line was written
 puts_none : (before : List ℕ) (line : List ℕ) → PutsPrefix (Some before) (Some before) line

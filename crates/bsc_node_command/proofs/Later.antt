@@ -1,14 +1,10 @@
 -- What holds from an earlier state on.
-use Rattle.std.proofs.Common.{◌≤◌, ℕ, List, Option, inl, inr, arith}
-use Rattle.bsc_outside.specs.Faults.{HasRisen}
+use Rattle.std.proofs.Common.{◌≤◌, ℕ, List, Option, inl, inr}
 use Rattle.bsc_edge.specs.declared.said.Said.{Said}
 use Rattle.bsc_settings.specs.declared.node.NodeSettings.{NodeSettings}
 use Rattle.bsc_node_command.specs.Settled.{Unread}
 use Rattle.bsc_node_command.specs.Comes.{CommandWorld, NodeWorld, RunsScript}
-
-pub risen_from : (f g h : ℕ) → f ≤ g → HasRisen g h → HasRisen f h
-risen_from f g h le (inl lt) = inl (omega (arith, le, lt))
-risen_from f g h le (inr top) = inr top
+use Rattle.bsc_outside.proofs.Common.{risen_from}
 
 pub unread_from : (f g h s : ℕ) (b b' : Option (List ℕ)) → f ≤ g → Unread g h s b b' → Unread f h s b b'
 unread_from f g h s b b' le (inl k) = inl (risen_from f g h le k.0, k.1)

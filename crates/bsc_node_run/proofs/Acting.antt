@@ -1,5 +1,5 @@
 -- What one action comes to, from what its steps did.
-use Rattle.std.proofs.Common.{◌≡◌, inl, inr, ℕ, ◌<◌, ◌≤◌, ◌==◌, zero, suc, Bool, true, false, ◌&&◌, if◌then◌else◌, List, [], ◌∷◌, length, Option, Some, None, Result, Ok, Err, OnOk, refl, ap, sym, ◌∙◌, subst, arith, slice_get, slice_set}
+use Rattle.std.proofs.Common.{◌≡◌, inl, inr, ℕ, ◌<◌, ◌≤◌, ◌==◌, zero, suc, Bool, true, false, ◌&&◌, if◌then◌else◌, List, [], ◌∷◌, length, Option, Some, None, refl, ap, sym, ◌∙◌, subst, arith, slice_get, slice_set}
 use Rattle.std.proofs.lemmas.Bool.{eqb-true, false≢true, lt-ltb}
 use Rattle.std.proofs.lemmas.Option.{slice_get-get_or, slice_get_past}
 use Rattle.std.proofs.lemmas.List.{get_or-set_same, length-set}
@@ -15,15 +15,9 @@ use Rattle.bsc_node_run.specs.Worlds.{World, Same, with_link, with_news, with_ov
 use Rattle.bsc_node_run.specs.Performing.{Dials, IsAnswered, Takes, Refuses, IsClosed, Puts, Closes, kind_of}
 use Rattle.bsc_node_run.specs.Putting.{PutsOut}
 use Rattle.bsc_node_run.proofs.Worlds.{same_then, on_link, on_news, on_over, link_news, link_again, closed_so, closed_none, none_kept}
-
-pub on_ok : {T E P Q : Type 0} (r : Result T E) → (P → Q) → OnOk r P → OnOk r Q
-on_ok (Ok x) f p = f p
-on_ok (Err e) f p = tt
+use Rattle.bsc_lemmas.proofs.Booleans.{eq_self as same_number}
 
 -- ---- a link in a slot
-
-same_number : (k : ℕ) → (k == k) ≡ true
-same_number k = grind arith
 
 other_kept : {A : Type 0} (xs : List A) (k j : ℕ) (x : A) → (k ≡ j → ⊥) → slice_get (slice_set xs k x) j ≡ slice_get xs j
 other_kept [] k j x ne = refl

@@ -14,6 +14,7 @@ use Rattle.bsc_node_run.specs.declared.line.Line.TheVariants.{Nothing, At, Ask}
 use Rattle.bsc_node_run.specs.Saying.{line_of}
 use Rattle.bsc_node_run.specs.Scripts.{Wish, wish_of, asked_from, first_bad, fits_behind, has_finish, is_finish, lines_in, may_follow, script_of, time_after, time_by}
 use Rattle.bsc_node_run.specs.Reading.{Kept}
+use Rattle.bsc_lemmas.proofs.Booleans.{or_false as or_none}
 
 pub on_ok : {T E P Q : Type 0} (r : Result T E) → OnOk r P → (P → Q) → OnOk r Q
 on_ok (Ok x) p f = f p
@@ -32,10 +33,6 @@ emptied (c ∷ o) h = absurd (omega (arith, h))
 
 time-more : (lines : List Line) (l : Line) → time_by (lines ++ l ∷ []) ≡ time_after (time_by lines) l
 time-more lines l = fold-append time_after 0 lines (l ∷ [])
-
-or_none : (b : Bool) → (b || false) ≡ b
-or_none true = refl
-or_none false = refl
 
 finish-more : (lines : List Line) (l : Line) → has_finish (lines ++ l ∷ []) ≡ (has_finish lines || is_finish l)
 finish-more lines l = list_any-append is_finish lines (l ∷ []) ∙ ap (λ (b : Bool). has_finish lines || b) (or_none (is_finish l))

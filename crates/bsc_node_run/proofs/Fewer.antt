@@ -1,6 +1,5 @@
 -- Nothing that a node does makes more news due in the same turn.
-use Rattle.std.proofs.Common.{◌≡◌, ◌≤◌, ◌+◌, inl, inr, ℕ, Bool, true, false, not, List, [], ◌∷◌, length, filter, Option, Some, None, refl, ap, arith}
-use Rattle.std.proofs.lemmas.List.Filters.{length-filter_both}
+use Rattle.std.proofs.Common.{◌≡◌, ◌≤◌, ◌+◌, inl, inr, ℕ, Bool, true, false, not, List, [], ◌∷◌, length, Option, Some, None, ap, arith}
 use Rattle.bsc_edge.specs.declared.said.Said.{Said}
 use Rattle.bsc_accept.specs.declared.closing.Closing.{Closing}
 use Rattle.bsc_node.specs.declared.link_name.LinkName.{LinkName}
@@ -11,9 +10,7 @@ use Rattle.bsc_node_run.specs.declared.news.News.{News}
 use Rattle.bsc_node_run.specs.Worlds.{World, is_of, without}
 use Rattle.bsc_node_run.specs.Performing.{Dials, Takes, Refuses, Puts, Closes, Does, Carries}
 use Rattle.bsc_node_run.specs.Turning.{Answers, Gives, draws}
-
-filter_le : {X : Type 0} (p : X → Bool) (xs : List X) → length (filter p xs) ≤ length xs
-filter_le p xs = (let k = length-filter_both p (λ x. not (p x)) (λ x. refl) xs in omega (arith, k))
+use Rattle.bsc_lemmas.proofs.Lists.{filter_le}
 
 as_many : (xs ys : List News) → xs ≡ ys → length xs ≤ length ys
 as_many xs ys e = (let k = ap length e in omega (arith, k))

@@ -1,12 +1,9 @@
 -- The first piece of a text.
-use Rattle.std.proofs.Common.{◌≡◌, ◌≢◌, ℕ, ◌+◌, ◌≤◌, ◌<◌, true, List, [], ◌∷◌, ◌++◌, length, take, drop, get_or, sym, ap, ◌∙◌, add-one, arith}
+use Rattle.std.proofs.Common.{◌≡◌, ◌≢◌, ℕ, ◌+◌, ◌≤◌, ◌<◌, true, List, [], ◌∷◌, ◌++◌, length, take, drop, get_or, sym, ap, ◌∙◌, arith}
 use Rattle.std.proofs.lemmas.List.{take_all, take-append-drop}
-use Rattle.std.proofs.Math.Seq.{take-suc}
 use Rattle.bsc_text.specs.Lines.{pieces_of, has_no_lf}
 use Rattle.bsc_text.proofs.Cutting.{has_no_lf-before, pieces_of-lf, pieces_of-last}
-
-cut : (o : List ℕ) (n : ℕ) → n < length o → get_or o n 0 ≡ 10 → take (n + 1) o ≡ take n o ++ 10 ∷ []
-cut o n h e = rw add-one (take-suc o n 0 h ∙ ap (λ (x : ℕ). take n o ++ x ∷ []) e)
+use Rattle.bsc_lemmas.proofs.Lists.{line_cut as cut}
 
 -- it ends with the first LF
 pub first_whole : (o : List ℕ) (n : ℕ) → n < length o → ((k : ℕ) → k < n → get_or o k 0 ≢ 10) → get_or o n 0 ≡ 10 → pieces_of o ≡ take (n + 1) o ∷ pieces_of (drop (n + 1) o)

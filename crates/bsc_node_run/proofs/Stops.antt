@@ -1,8 +1,6 @@
 -- Runs that a fault stops, from what their steps did.
-use Rattle.std.proofs.Common.{◌≡◌, ◌≤◌, ◌<◌, ◌^◌, inl, inr, ℕ, suc, ◌+◌, Bool, true, false, List, [], ◌∷◌, ◌++◌, Option, Some, Result, Ok, Err, OnErr, refl, sym, subst, append_assoc, arith, unwrap_or}
+use Rattle.std.proofs.Common.{◌≡◌, ◌≤◌, ◌<◌, ◌^◌, inl, inr, ℕ, suc, ◌+◌, Bool, true, false, List, [], ◌∷◌, ◌++◌, Option, Some, Result, Ok, Err, OnErr, refl, sym, subst, append_assoc, unwrap_or}
 use Rattle.std.specs.Prelude.{IsTrue}
-use Rattle.std.proofs.KnownBytes.{Appends-nil}
-use Rattle.bsc_outside.specs.Faults.{PutsPrefix}
 use Rattle.bsc_edge.specs.declared.said.Said.{Said}
 use Rattle.bsc_edge.specs.Told.{Grows}
 use Rattle.bsc_node.specs.declared.link_name.LinkName.TheVariants.{Direct}
@@ -17,18 +15,10 @@ use Rattle.bsc_node_run.specs.Stopping.{EachStop, GiveStops, HearStops, StopsAt,
 use Rattle.bsc_node_run.specs.Turning.{Hears, Turn, draws, slots_from}
 use Rattle.bsc_node_run.specs.Worlds.{Admitting, World}
 
-pub on_err : {T E P Q : Type 0} (r : Result T E) → (P → Q) → OnErr r P → OnErr r Q
-on_err (Ok x) f p = tt
-on_err (Err e) f p = f p
-
 -- whatever fault it is
 pub at_err : {T E P : Type 0} (r : Result T E) → P → OnErr r P
 at_err (Ok x) p = tt
 at_err (Err e) p = p
-
--- Nothing of a text was written.
-pub puts_nothing : (held : Option (List ℕ)) (text : List ℕ) → PutsPrefix held held text
-puts_nothing held text = (0, omega arith, Appends-nil held)
 
 -- ---- one event
 

@@ -1,21 +1,10 @@
 -- Worlds that have the same, and how they change.
 use Rattle.std.proofs.Common.{◌≡◌, Bool, true, false, ◌&&◌, if◌then◌else◌, List, [], ◌∷◌, ◌++◌, Option, None, refl, ap, sym, ◌∙◌}
-use Rattle.std.proofs.lemmas.Bool.{eqb-true, false≢true}
-use Rattle.bsc_connector.specs.declared.side.Side.TheVariants.{Primary, Failover}
 use Rattle.bsc_node.specs.declared.link_name.LinkName.{LinkName}
-use Rattle.bsc_node.specs.declared.link_name.LinkName.TheVariants.{Hub, Direct}
 use Rattle.bsc_node.specs.Links.{same_link}
 use Rattle.bsc_node_run.specs.declared.news.Change.{Change}
 use Rattle.bsc_node_run.specs.Worlds.{World, Same, with_link, with_news, with_over, forgets, ends, is_name}
-
-same_link-is : (name other : LinkName) → same_link name other ≡ true → name ≡ other
-same_link-is (Hub Primary) (Hub Primary) h = refl
-same_link-is (Hub Failover) (Hub Failover) h = refl
-same_link-is (Hub Primary) (Hub Failover) h = absurd (false≢true h)
-same_link-is (Hub Failover) (Hub Primary) h = absurd (false≢true h)
-same_link-is (Direct k) (Direct j) h = ap (λ n. Direct n) (eqb-true k j h)
-same_link-is (Hub s) (Direct k) h = absurd (false≢true h)
-same_link-is (Direct k) (Hub s) h = absurd (false≢true h)
+use Rattle.bsc_node.proofs.Common.{same_link-is}
 
 again : {A : Type 0} (k : Bool) (x y z : A) → (if k then y else (if k then x else z)) ≡ (if k then y else z)
 again true x y z = refl

@@ -21,7 +21,7 @@ use Rattle.bsc_node.specs.Conditions.{may_come}
 use Rattle.bsc_node.specs.Laws.{with_event}
 use Rattle.bsc_node.proofs.Quiet.{is_quiet_action}
 use Rattle.bsc_node.proofs.Heard.{LetsQuiet}
-use Rattle.bsc_node.proofs.Following.{is_came, pass-follows, opened-dialled, goes_on-is, and_left, and_right, not_true}
+use Rattle.bsc_node.proofs.Following.{is_came, pass-follows, opened-dialled, goes_on-is}
 use Rattle.bsc_node.proofs.Lasting.{LetsMessages, pass-sends}
 use Rattle.bsc_node_laws.proofs.There.{same_link-symmetric}
 use Rattle.bsc_node_run.specs.declared.news.Change.TheVariants.{DialFailed as DidntOpen}
@@ -32,6 +32,7 @@ use Rattle.bsc_node_run.specs.Turning.{Answers, Gives, draws}
 use Rattle.bsc_node_runs.specs.Courses.{Goes}
 use Rattle.bsc_node_runs.specs.Alone.{Alone, all_but, after_action, told}
 use Rattle.bsc_node_runs.proofs.AloneBack.{LeadsTo, carries_back}
+use Rattle.bsc_lemmas.proofs.Booleans.{and_left, and_right, not_true}
 
 -- ---- no word is drawn
 

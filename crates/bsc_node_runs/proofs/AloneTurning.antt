@@ -1,10 +1,9 @@
 -- A turn of a node to which no link comes.
 use Rattle.std.proofs.Common.{◌≡◌, ◌≤◌, ℕ, zero, suc, Bool, true, false, ◌&&◌, inl, inr, List, [], ◌∷◌, ◌++◌, length, fold, Option, Some, None, Ok, is_some, refl, ap, sym, ◌∙◌, subst, arith, one-add, le-leb}
 use borrow.Author.Tests.{lt-leb}
-use Rattle.std.specs.Prelude.{map, filter, not}
+use Rattle.std.specs.Prelude.{map, not}
 use Rattle.std.specs.List.{list_all, list_any}
 use Rattle.std.proofs.lemmas.List.{length-map}
-use Rattle.std.proofs.lemmas.List.Filters.{length-filter_both}
 use Rattle.std.proofs.lemmas.List.Folds.{list_all-append}
 use Rattle.std.proofs.lemmas.Option.{same_Some}
 use Rattle.bsc_edge.specs.declared.arrived.Arrived.TheVariants.{Link, Quiet as NoLink}
@@ -19,7 +18,7 @@ use Rattle.bsc_node.specs.declared.action.Action.{Action}
 use Rattle.bsc_node.specs.declared.action.Action.TheVariants.{Close}
 use Rattle.bsc_node.specs.Logs.{Made, Log}
 use Rattle.bsc_node.specs.Node.{goes_on, actions_at}
-use Rattle.bsc_node.proofs.Following.{is_came, and_left, and_right}
+use Rattle.bsc_node.proofs.Following.{is_came}
 use Rattle.bsc_node_run.specs.declared.due.Due.{Due}
 use Rattle.bsc_node_run.specs.declared.news.News.{News}
 use Rattle.bsc_node_run.specs.Requests.{is_asked}
@@ -29,6 +28,8 @@ use Rattle.bsc_node_runs.specs.Courses.{Goes}
 use Rattle.bsc_node_runs.specs.Alone.{Alone, after_action, told, told_oldest, told_failed, turn, due_by, not_due_by}
 use Rattle.bsc_node_runs.proofs.AloneBack.{LeadsTo, StillLeft, gives_back, news_back, lines_back, each_back, admits_back}
 use Rattle.bsc_node_runs.proofs.AloneActing.{NoneComes, failure, Stands, stays, gives_stands}
+use Rattle.bsc_lemmas.proofs.Booleans.{and_left, and_right}
+use Rattle.bsc_lemmas.proofs.Lists.{filter_le}
 
 -- what comes first in a turn
 abbrev pub first_events : Option ℕ → List NodeEvent
@@ -53,9 +54,6 @@ not_due_rest passed [] (d ∷ rest) due next = rw (lt-leb d.at passed next) refl
 not_due_rest passed (d ∷ lines) rest (first, due) next = rw (le-leb d.at passed first) (not_due_rest passed lines rest due next)
 
 -- ---- dials that failed
-
-filter_le : {X : Type 0} (p : X → Bool) (xs : List X) → length (filter p xs) ≤ length xs
-filter_le p xs = (let k = length-filter_both p (λ x. not (p x)) (λ x. refl) xs in omega (arith, k))
 
 -- A close only shortens them.
 action_fewer : (s : Alone) (action : Action) → length (after_action s action).failed ≤ length s.failed

@@ -21,8 +21,6 @@ use Rattle.bsc_node.specs.declared.action.Action.TheVariants.{Take, Refuse, Draw
 use Rattle.bsc_node.specs.Logs.{Made, Line, came, slot, did, Log, event_of, action_of, now, is_finish, is_finishing}
 use Rattle.bsc_node.specs.Node.{goes_on, actions_at}
 use Rattle.bsc_node.specs.Laws.{with_event, draws}
-use Rattle.bsc_node.proofs.Passing.{both}
-use Rattle.bsc_node.proofs.Following.{and_left, and_right}
 use Rattle.bsc_node_laws.specs.Links.{MayStand, EachMay, opens_at, GoesOn, Admits, Brings}
 use Rattle.bsc_node_laws.proofs.There.{gone-stays, opened-other}
 use Rattle.bsc_node_laws.proofs.Drawn.{seam}
@@ -32,6 +30,8 @@ use Rattle.bsc_node_run.specs.Worlds.{World}
 use Rattle.bsc_node_runs.proofs.Agreeing.{Agrees}
 use Rattle.bsc_node_runs.proofs.Same.{agrees-quiet}
 use Rattle.bsc_node_runs.proofs.Carrying.{carries_keeps, takes_keeps}
+use Rattle.bsc_lemmas.proofs.Booleans.{and_left, and_right}
+use Rattle.std.proofs.lemmas.Bool.{and_from as both}
 
 -- ---- lines that are no event
 

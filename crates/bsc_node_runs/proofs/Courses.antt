@@ -9,7 +9,6 @@ use Rattle.bsc_node.specs.declared.node_event.NodeEvent.{NodeEvent}
 use Rattle.bsc_node.specs.declared.node_event.NodeEvent.TheVariants.{Finish}
 use Rattle.bsc_node.specs.declared.action.Action.{Action}
 use Rattle.bsc_node.specs.Logs.{Made, Log}
-use Rattle.bsc_node.proofs.Following.{and_right}
 use Rattle.bsc_node_run.specs.declared.due.Due.{Due}
 use Rattle.bsc_node_run.specs.declared.run_end.RunEnd.{RunEnd}
 use Rattle.bsc_node_run.specs.declared.run_end.RunEnd.TheVariants.{Finished}
@@ -23,6 +22,7 @@ use Rattle.bsc_node_runs.proofs.Same.{agrees-same}
 use Rattle.bsc_node_runs.proofs.News.{begun_keeps, empty_agrees}
 use Rattle.bsc_node_runs.proofs.Lifting.{Holds, Steps}
 use Rattle.bsc_node_runs.proofs.Turning.{asks, no_true, started, goes_on_later, turn}
+use Rattle.bsc_lemmas.proofs.Booleans.{and_right}
 
 -- A line of the script is `finish`, and its time has passed at a reading of the clock, from the first one.
 abbrev pub FinishBy : List Due → ℕ → ℕ → Type 0

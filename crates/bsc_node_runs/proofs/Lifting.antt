@@ -1,6 +1,6 @@
 -- One event that a run gives to its node: where it may come, it is one of the definition's too, and what a run has in hand
 -- agrees with the log after it.
-use Rattle.std.proofs.Common.{◌≡◌, ◌≤◌, ◌<◌, ℕ, Bool, true, false, not, ◌&&◌, List, [], ◌++◌, refl, ap, sym, ◌∙◌, subst, arith}
+use Rattle.std.proofs.Common.{◌≡◌, ◌≤◌, ◌<◌, ℕ, Bool, true, false, not, List, [], ◌++◌, refl, ap, sym, ◌∙◌, subst, arith}
 use Rattle.std.specs.Prelude.{◌^◌, IsTrue, nat_le, nat_lt, if◌then◌else◌, Option}
 use Rattle.std.specs.List.{list_any}
 use Rattle.std.proofs.lemmas.Bool.{le-leb, lt-ltb}
@@ -29,6 +29,7 @@ use Rattle.bsc_node_runs.proofs.Same.{agrees-same}
 use Rattle.bsc_node_runs.proofs.Carrying.{carries_due}
 use Rattle.bsc_node_runs.proofs.News.{event_keeps}
 use Rattle.bsc_node_runs.proofs.Coming.{comes_of, now_then, finishing_by, draws-same, goes_keeps}
+use Rattle.bsc_lemmas.proofs.Booleans.{all_four}
 
 -- an event at a time
 abbrev pub at : ℕ → NodeEvent → TimedEvent
@@ -51,17 +52,6 @@ plain_no_arrival e h = refl
 plain_opens : (e : NodeEvent) (L : Log) → is_plain e ≡ true → opens_at e L ≡ []
 plain_opens (Opened name) L h = cc
 plain_opens e L h = refl
-
-all_four : (p q r s : Bool) → p ≡ true → q ≡ true → r ≡ true → s ≡ true → IsTrue (p && q && r && s)
-all_four true true true s p q r h = h
-all_four true true false s p q r h = cc
-all_four true false r s p q h g = cc
-all_four false q r s p h g k = cc
-
-pub no_word : (b w : Bool) → b ≡ false → w ≡ false → (if b then w else not w) ≡ true
-no_word false false p q = refl
-no_word false true p q = cc
-no_word true w p q = cc
 
 -- An event may come at a time, where that isn't before the log's.
 pub may_at : (M : Log) (t : ℕ) (e : NodeEvent) → t < 2 ^ 62 → now M ≤ t

@@ -11,7 +11,6 @@ use Rattle.bsc_node.specs.Logs.{Line, came, initiating, Log, now, next_id}
 use Rattle.bsc_node.specs.Links.{same_link, is_over_by_event, is_there, was_taken}
 use Rattle.bsc_node.specs.Conditions.{has_opened, fits as may_fit, is_open as is_open_in}
 use Rattle.bsc_node.specs.Laws.{with_event}
-use Rattle.bsc_node.proofs.Following.{and_left, and_right, not_true}
 use Rattle.bsc_node.proofs.Told.{same_link-self}
 use Rattle.bsc_node_laws.specs.Links.{opens_at}
 use Rattle.bsc_node_laws.proofs.There.{there-other, there-over, opened-other, opened-now}
@@ -26,6 +25,7 @@ use Rattle.bsc_node_runs.proofs.Agreeing.{changes_of, news_in, AgreesBy, Agrees}
 use Rattle.bsc_node_runs.proofs.Same.{changes-here, changes-other, changes-none, named, stands_open, agrees_as, agrees_like}
 use Rattle.bsc_node_runs.proofs.Same.{ApartIn, line-apart, agrees-alike, agrees-quiet, Apart, touches, link-here, apart-link}
 use Rattle.bsc_node_runs.proofs.Carrying.{in_hand, replaces}
+use Rattle.bsc_lemmas.proofs.Booleans.{and_left, and_right, not_true, or_true}
 
 -- ---- which events end a link
 
@@ -46,10 +46,6 @@ opens-apart name M t id =
     line-apart name M m (λ other ne. refl) (λ other ne. refl) (λ other ne. opened-other other M m refl (rw ne refl))
 
 -- ---- one link
-
-or_true : (p : Bool) → (p || true) ≡ true
-or_true true = refl
-or_true false = refl
 
 module _ {L : Type 0} where
   -- Of a link that isn't open yet, and of no other, it is new that it opened: then it is open.

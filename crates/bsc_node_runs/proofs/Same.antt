@@ -15,13 +15,15 @@ use Rattle.bsc_node.specs.Logs.{Line, Log, is_finish, is_finishing}
 use Rattle.bsc_node.specs.Links.{same_link, begins, is_over_by, is_there, was_taken}
 use Rattle.bsc_node.specs.Conditions.{has_opened}
 use Rattle.bsc_node.specs.Soundness.{is_in_slots}
-use Rattle.bsc_node.proofs.Following.{and_left, and_right}
 use Rattle.bsc_node.proofs.Told.{same_link-self}
-use Rattle.bsc_node_laws.proofs.There.{same_link-true, there-other, taken-other}
+use Rattle.bsc_node_laws.proofs.There.{there-other, taken-other}
 use Rattle.bsc_node_run.specs.declared.news.Change.{Change}
 use Rattle.bsc_node_run.specs.declared.news.News.{News}
 use Rattle.bsc_node_run.specs.Worlds.{World, Same, is_name, is_of, without, with_link, with_news, forgets}
 use Rattle.bsc_node_runs.proofs.Agreeing.{changes_of, news_in, AgreesBy, AgreesOn, Agrees}
+use Rattle.bsc_lemmas.proofs.Booleans.{and_left, and_right}
+use Rattle.bsc_node.proofs.Common.{same_link-is as same_link-true}
+use Rattle.std.proofs.lemmas.Bool.{and_from as and_both, or_left as or_first}
 
 -- ---- names
 
@@ -104,12 +106,6 @@ changes-none name (n ∷ xs) h = by (is_of name n) refl h (changes-none name xs)
 abbrev pub named : List News → Bool
 named xs = list_all (λ (n : News). is_name n.link) xs
 
-and_both : (p q : Bool) → p ≡ true → q ≡ true → (p && q) ≡ true
-and_both p q h g = rw (h, g) refl
-
-and_more : (p q r s : Bool) → (r ≡ true → s ≡ true) → (p && r) ≡ true → (p && s) ≡ true
-and_more p q r s f h = and_both p s (and_left p r h) (f (and_right p r h))
-
 pub named-append : (xs ys : List News) → named xs ≡ true → named ys ≡ true → named (xs ++ ys) ≡ true
 named-append xs ys h g = list_all-append (λ (n : News). is_name n.link) xs ys ∙ and_both (named xs) (named ys) h g
 
@@ -128,10 +124,6 @@ named-without name (n ∷ xs) h = by (not (is_of name n)) (named-without name xs
     by false later = later
 
 -- ---- one link
-
-or_first : (p q : Bool) → p ≡ true → (p || q) ≡ true
-or_first true q h = refl
-or_first false q h = cc
 
 -- A node that is to end is to end after each line more.
 pub finishing-more : (M : Log) (m : Line) → is_finishing M ≡ true → is_finishing (M ++ m ∷ []) ≡ true

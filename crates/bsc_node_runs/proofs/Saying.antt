@@ -35,6 +35,7 @@ use Rattle.bsc_node_run.specs.Worlds.{Admitting, Dialling, World, Same, begun, e
 use Rattle.bsc_node_run.proofs.Runs.{grows_none, grows_then}
 use Rattle.bsc_node_runs.specs.Courses.{Goes}
 use Rattle.bsc_node_runs.specs.Said.{AreDialled, EndsAsTold, IsSaid, done_in, line_by, tells_end, uri_by}
+use Rattle.bsc_lemmas.proofs.Booleans.{or_false as or_none}
 
 -- ---- what is written and dialled between two moments
 
@@ -64,10 +65,6 @@ or_later true true r = refl
 or_later true false r = refl
 or_later false true r = refl
 or_later false false r = refl
-
-or_none : (p : Bool) → (p || false) ≡ p
-or_none true = refl
-or_none false = refl
 
 module _ {L : Type 0} where
   -- What these actions say was written and dialled, and that the node has ended was told by them or before.

@@ -13,7 +13,6 @@ use Rattle.bsc_node.specs.Logs.{Made, Log}
 use Rattle.bsc_node.specs.Node.{goes_on, actions_at}
 use Rattle.bsc_node.specs.Conditions.{awaits_word}
 use Rattle.bsc_node.specs.Laws.{draws}
-use Rattle.bsc_node.proofs.Following.{and_left, and_right}
 use Rattle.bsc_node_laws.proofs.Drawn.{draws_at}
 use Rattle.bsc_node_run.specs.declared.due.Due.{Due}
 use Rattle.bsc_node_run.specs.declared.news.News.{News}
@@ -30,6 +29,7 @@ use Rattle.bsc_node_runs.proofs.Courses.{FinishBy, asked_rest, at_first, at_late
 use Rattle.bsc_node_runs.proofs.Lifting.{at, Holds, Ready, Stood, Steps, after, gives, ready_word}
 use Rattle.bsc_node_runs.proofs.Turning.{asks, contains_first, given_lines, given_news, goes_on_later, heard_each, heard_if}
 use Rattle.bsc_node_runs.proofs.Turning.{ready_arrived, ready_heard, ready_line, ready_news, ready_start, ready_tick, started, turn}
+use Rattle.bsc_lemmas.proofs.Booleans.{and_left, and_right}
 
 module _ {N L : Type 0} (goes : N → ℕ → NodeEvent → List Action → N → Type 0) (talk : L → Option (List Said)) (a : Made) (Stands : N → Log → Type 0)
     (steps : Steps goes a Stands) (t : ℕ) (below : t < 2 ^ 62) (P : Type 0) where

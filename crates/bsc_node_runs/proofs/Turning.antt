@@ -19,7 +19,6 @@ use Rattle.bsc_node.specs.Links.{is_over_by_event}
 use Rattle.bsc_node.specs.Node.{goes_on}
 use Rattle.bsc_node.specs.Conditions.{awaits_word, brings_word, fits, may_come}
 use Rattle.bsc_node.specs.Laws.{with_event}
-use Rattle.bsc_node.proofs.Following.{and_left, and_right}
 use Rattle.bsc_node_laws.specs.Links.{Brings}
 use Rattle.bsc_node_laws.proofs.Between.{Between}
 use Rattle.bsc_node_laws.proofs.Followed.{is_arrival}
@@ -37,7 +36,8 @@ use Rattle.bsc_node_runs.proofs.Beside.{Both, beside, beside_same}
 use Rattle.bsc_node_runs.proofs.Same.{agrees-same}
 use Rattle.bsc_node_runs.proofs.News.{begun_keeps, news_may, news_keeps, event_keeps, hears_may, hears_keeps, lost_keeps, asked-ends}
 use Rattle.bsc_node_runs.proofs.Coming.{goes_keeps, admits_keeps}
-use Rattle.bsc_node_runs.proofs.Lifting.{at, is_plain, may_at, no_word, Holds, stood_same, Ready, ready_of, ready_plain, Steps, gives, gives_in, gives_due, gives_in_due}
+use Rattle.bsc_node_runs.proofs.Lifting.{at, is_plain, may_at, Holds, stood_same, Ready, ready_of, ready_plain, Steps, gives, gives_in, gives_due, gives_in_due}
+use Rattle.bsc_lemmas.proofs.Booleans.{and_left, and_right, if_no as no_word}
 
 -- ---- what the events of a turn are
 

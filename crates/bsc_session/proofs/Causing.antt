@@ -12,7 +12,7 @@ use Rattle.bsc_edge.specs.declared.incoming.Incoming.{Incoming}
 use Rattle.bsc_edge.specs.declared.incoming.Incoming.TheVariants.{Message, Text, Quiet, Closed}
 use Rattle.bsc_accept.specs.declared.closing.Closing.{Closing}
 use Rattle.bsc_accept.specs.declared.step.Step.{Step}
-use Rattle.bsc_accept.specs.declared.step.Step.TheVariants.{Ask, Carry, Nothing}
+use Rattle.bsc_accept.specs.declared.step.Step.TheVariants.{Ask, Carry}
 use Rattle.bsc_session.specs.declared.why.Why.{Why}
 use Rattle.bsc_session.specs.declared.why.Why.TheVariants.{PeerClosed, NotBinary, PeerLeft, Refused, WaitExpired, Idle, EndedBy, Worn, LinkFault as WhyLinkFault, NoMemory, Spent}
 use Rattle.bsc_session.specs.declared.stop.Stop.{Stop}
@@ -133,13 +133,6 @@ judged_ends : (x : List ℕ) (v : Terms) (s0 s : Standing) (now : ℕ) (judged :
     → Ends (Some (Ok (Message x))) judged a fault stop.why
 judged_ends x v s0 s now true a fault stop calls fits put is = message_ends x v s (heard_step v s0 now true (Ok (Message x))) a fault stop calls fits put is
 judged_ends x v s0 s now false a fault stop calls fits put is = rw (no_answer a calls, no_put fault put, why_is _ stop is) (unjudged x)
-
--- of what isn't a message the machine isn't told, and nothing is called or put
-quiet_fault : (v : Terms) (s : Standing) (st : Step) (a : Option Answer) (fault : Option LinkFault) → st ≡ Nothing → is_some a ≡ calls_hub st → HasPut (octets_in (last_wanted v s st a)) fault → (a ≡ None) × (fault ≡ None)
-quiet_fault v s st a fault is calls put =
-    let c : is_some a ≡ calls_hub Nothing = rw is at calls in
-    let p : HasPut (octets_in (last_wanted v s Nothing a)) fault = rw is at put in
-    (no_answer a c, no_put fault p)
 
 given_ends : (v : Terms) (s0 s : Standing) (now : ℕ) (judged : Bool) (given : Result Incoming LinkFault) (a : Option Answer) (fault : Option LinkFault) (stop : Stop)
     → LacksAtPass v s0 judged given → is_some a ≡ calls_hub (heard_step v s0 now judged given) → Fits (heard_step v s0 now judged given) a → HasPut (octets_in (last_wanted v s (heard_step v s0 now judged given) a)) fault

@@ -2,8 +2,6 @@
 use Rattle.std.proofs.Common.{◌≡◌, ℕ, ◌+◌, Bool, true, false, cond, is_some, List, [], ◌∷◌, refl, ap, sym, ◌∙◌, Option, Some, None, Result, Ok}
 use Rattle.bsc_octets.specs.declared.identity.Identity.{Identity}
 use Rattle.bsc_octets.specs.declared.envelope.Envelope.{Envelope}
-use Rattle.bsc_frame.specs.declared.body.Body.{Body}
-use Rattle.bsc_frame.specs.declared.body.Body.TheVariants.{HeartbeatRequest, DisconnectRequest}
 use Rattle.bsc_frame.specs.declared.message.Message.{Message as Bvlc}
 use Rattle.bsc_checks.specs.declared.phase.Phase.{Phase}
 use Rattle.bsc_checks.specs.declared.phase.Phase.TheVariants.{Connected as PhaseConnected}
@@ -28,50 +26,28 @@ use Rattle.bsc_accept.specs.declared.closing.Closing.{Closing}
 use Rattle.bsc_accept.specs.declared.stage.Stage.{Stage}
 use Rattle.bsc_accept.specs.declared.stage.Stage.TheVariants.{Idle}
 use Rattle.bsc_accept.specs.declared.step.Step.{Step}
-use Rattle.bsc_accept.specs.declared.step.Step.TheVariants.{Ask, Carry, Close, Nothing}
+use Rattle.bsc_accept.specs.declared.step.Step.TheVariants.{Carry, Close, Nothing}
 use Rattle.bsc_accept.specs.Messages.{is_farewell_answer, who_asks}
 use Rattle.bsc_accept.specs.Past.{Standing as MachineStanding, awaiting_request, connected, disconnecting, phase, phase_named, standing}
 use Rattle.bsc_accept.specs.Standing.{Answers as MachineAnswers, IsOpen, IsOver, LeftBy, StandsFor, is_open}
-use Rattle.bsc_accept.specs.Steps.{ask_step, connected_step, message_step, normal}
+use Rattle.bsc_accept.specs.Steps.{message_step, normal}
 use Rattle.bsc_session.specs.declared.at.At.{At}
 use Rattle.bsc_session.specs.declared.member.Member.{Member}
 use Rattle.bsc_session.specs.declared.stop.Stop.{Stop}
-use Rattle.bsc_session.specs.declared.why.Why.TheVariants.{PeerLeft}
-use Rattle.bsc_session.specs.Answering.{Fits, answered, called, calls_hub, cause_of, last_wanted, stop_by, stop_given, stop_judged, stop_message}
-use Rattle.bsc_session.specs.Inner.{Answers, Carries, Forwards, HasStanding, Hears, HearsMessage, Held, Runs, SeesWorn, Tied, conn_of, empties_by, forward_made, given_by, has_joined}
+use Rattle.bsc_session.specs.Answering.{Fits, answered, called, calls_hub, last_wanted, stop_by, stop_given, stop_judged, stop_message}
+use Rattle.bsc_session.specs.Inner.{Answers, Forwards, HasStanding, Hears, HearsMessage, Held, Runs, SeesWorn, Tied, conn_of, empties_by, forward_made, given_by, has_joined}
 use Rattle.bsc_session.specs.Judging.{LacksAtPass, heard_step, heard_told, verdict_on}
 use Rattle.bsc_session.specs.Serving.{Goes}
 use Rattle.bsc_session.specs.Puts.{HasPut, octets_in, puts}
 use Rattle.bsc_session.specs.Receiving.{Answer, replies, worn, no_memory, received_one}
 use Rattle.bsc_session.specs.Standings.{Standing, Terms, start_of, told, wanted}
 use Rattle.bsc_session.specs.Stops.{first_of, stop_at}
-use Rattle.bsc_session.proofs.Asking.{answer_is, left_open}
+use Rattle.bsc_session.proofs.Asking.{answer_is}
 use Rattle.bsc_session.proofs.HubCalls.{goes_as, goes_nowhere, member_stays}
 use Rattle.bsc_session.proofs.Lists.{grown, grows-nil, grows_stays}
+use Rattle.bsc_accept.proofs.Common.{connected_carries, no_ask_carries}
 
 -- ---- the step of a message
-
--- the step of a message calls no hub
-pub plain_answers : (h : Hub) (v : Terms) (s : Standing) (st : Step) (thing : Result Incoming LinkFault) (p : CallerPass) (a : At) (old new : Option (List Said)) (stop : Option Stop)
-    → Held h v p a s → StandsFor a.machine (start_of v s) s.events → Tied s → LeftBy st a.machine
-    → calls_hub st ≡ false → last_wanted v s st None ≡ st → answered s st None ≡ s → called v s st thing None ≡ [] → cause_of st None ≡ PeerLeft → Fits st None
-    → Carries old new st PeerLeft stop
-    → Answers v s st thing h p p a a old new stop
-plain_answers h v s st thing p a old new stop held stood tied left plain same stays none why fits k = record {
-  answer = None;
-  fault = k.fault;
-  calls = sym plain;
-  fits = fits;
-  goes = goes_as h p p [] _ (sym none) (goes_nowhere h p held.caller);
-  said = rw same k.said;
-  cause = rw same k.cause;
-  stops = rw (same, why) k.stops;
-  is_worn = λ e. cc;
-  given_same = refl;
-  empties_same = refl;
-  held = rw stays held;
-  runs = λ going. rw stays (record { machine = stood; waits = left_open st a.machine k.fault PeerLeft stop left plain k.stops going; tied = tied });
-}
 
 is_conn : (m : Option Member) (c : ℕ) (n : Member) → m ≡ Some n → n.conn ≡ c → conn_of m ≡ Some c
 is_conn m c n is e = rw (is, e) refl
@@ -112,31 +88,9 @@ carry_answers h v s p q a m n old new stop held stood tied left is f =
 
 -- ---- which step a message brings
 
-no_asks : (b : Bool) (c : Closing) (who : Identity) → cond b (Close c) Nothing ≡ Ask who → ⊥
-no_asks true c who h = cc
-no_asks false c who h = cc
-
 no_carries : (b : Bool) (c : Closing) → cond b (Close c) Nothing ≡ Carry → ⊥
 no_carries true c h = cc
 no_carries false c h = cc
-
-connected_asks : (id : ℕ) (body : Body) (who : Identity) → connected_step id body ≡ Ask who → ⊥
-connected_asks id HeartbeatRequest who h = cc
-connected_asks id DisconnectRequest who h = cc
-connected_asks id body who h = cc
-
-connected_carries : (id : ℕ) (body : Body) → connected_step id body ≡ Carry → ⊥
-connected_carries id HeartbeatRequest h = cc
-connected_carries id DisconnectRequest h = cc
-connected_carries id body h = cc
-
-asked_who : (o : Option Identity) (who : Identity) → ask_step o ≡ Ask who → o ≡ Some who
-asked_who None who h = cc
-asked_who (Some w) who h = cc
-
-no_ask_carries : (o : Option Identity) → ask_step o ≡ Carry → ⊥
-no_ask_carries None h = cc
-no_ask_carries (Some w) h = cc
 
 -- who asks hasn't joined, and said so by a message that passed
 record IsAsked (g : MachineStanding) (verdict : Verdict) (who : Identity) : Type 0 where
@@ -144,14 +98,6 @@ record IsAsked (g : MachineStanding) (verdict : Verdict) (who : Identity) : Type
   msg : Bvlc
   passes : verdict ≡ Pass msg
   says : who_asks msg.body ≡ Some who
-
-asks_by : (g : MachineStanding) (verdict : Verdict) (who : Identity) → message_step g verdict ≡ Ask who → IsAsked g verdict who
-asks_by awaiting_request (Pass msg) who h = record { apart = refl; msg = msg; passes = refl; says = asked_who (who_asks msg.body) who h }
-asks_by connected (Pass msg) who h = absurd (connected_asks msg.id msg.body who h)
-asks_by (disconnecting f) (Pass msg) who h = absurd (no_asks (is_farewell_answer f.id msg) normal who h)
-asks_by g (Carried e) who h = cc
-asks_by g (Silent check) who h = cc
-asks_by g (Nak check octets) who h = cc
 
 carries_by : (g : MachineStanding) (verdict : Verdict) → message_step g verdict ≡ Carry → (e : Envelope) × (verdict ≡ Carried e)
 carries_by awaiting_request (Pass msg) h = absurd (no_ask_carries (who_asks msg.body) h)
@@ -166,29 +112,9 @@ connected_joined awaiting_request h = cc
 connected_joined connected h = refl
 connected_joined (disconnecting f) h = refl
 
-none_of : (m : Option Member) (c : Option ℕ) → conn_of m ≡ c → false ≡ is_some c → m ≡ None
-none_of None c h k = refl
-none_of (Some n) c h k = (let e = sym h in let z : false ≡ is_some (Some n.conn) = rw e at k in cc)
-
 pub some_of : (m : Option Member) (c : Option ℕ) → conn_of m ≡ c → true ≡ is_some c → is_some m ≡ true
 some_of None c h k = (let e = sym h in let z : true ≡ is_some (conn_of None) = rw e at k in cc)
 some_of (Some n) c h k = refl
-
-pub asks_alone : (h : Hub) (v : Terms) (s : Standing) (p : CallerPass) (a : At) (now : ℕ) (verdict : Verdict) (m : Accepting) (st : Step) (who : Identity)
-    → Held h v p a s → Runs v a s → MachineAnswers a.machine m (Came now verdict) st → st ≡ Ask who → a.member ≡ None
-asks_alone h v s p a now verdict m st who held runs answers is =
-    let does = answers (start_of v s) s.events runs.machine in
-    let k = asks_by (standing s.events) verdict who (sym does.0 ∙ is) in
-    none_of a.member s.conn held.follows.conn (sym k.apart ∙ runs.tied)
-
--- what is asked of who asks holds of one that a message says that passed
-pub asks_so : (v : Terms) (s : Standing) (a : At) (now : ℕ) (verdict : Verdict) (m : Accepting) (st : Step) (who : Identity) (P : Identity → Type 0)
-    → Runs v a s → MachineAnswers a.machine m (Came now verdict) st → st ≡ Ask who
-    → ((msg : Bvlc) (w : Identity) → verdict ≡ Pass msg → who_asks msg.body ≡ Some w → P w) → P who
-asks_so v s a now verdict m st who P runs answers is so =
-    let does = answers (start_of v s) s.events runs.machine in
-    let k = asks_by (standing s.events) verdict who (sym does.0 ∙ is) in
-    so k.msg who k.passes k.says
 
 pub carries_so : (v : Terms) (s : Standing) (a : At) (now : ℕ) (verdict : Verdict) (m : Accepting) (st : Step) (P : Type 0)
     → Runs v a s → MachineAnswers a.machine m (Came now verdict) st → st ≡ Carry
@@ -197,9 +123,6 @@ carries_so v s a now verdict m st P runs answers is so =
     let does = answers (start_of v s) s.events runs.machine in
     let k = carries_by (standing s.events) verdict (sym does.0 ∙ is) in
     so k.0 k.1
-
-pub connected_some : (h : Hub) (v : Terms) (s : Standing) (p : CallerPass) (a : At) → Held h v p a s → Runs v a s → phase s.events ≡ PhaseConnected → is_some a.member ≡ true
-connected_some h v s p a held runs is = some_of a.member s.conn held.follows.conn (sym (connected_joined (standing s.events) is) ∙ runs.tied)
 
 open_not_over : (waits : Stage) → is_open waits ≡ true → waits ≡ Idle → ⊥
 open_not_over waits o is = (let k : is_open Idle ≡ true = rw is at o in cc)

@@ -52,9 +52,6 @@ calls_as h p q E F e k = rw e at k
 pub goes_nowhere : (h : Hub) (p : Pass) → IsCaller h p → Goes h p [] p
 goes_nowhere h p is = record { caller = is; number = refl; sees = ([], sym (append-nil (seen p))); own = sym (append-nil (own_list p)); took_in = refl; draws_none = refl }
 
-pub calls_nobody : (h : Hub) (p : Pass) → IsCaller h p → Calls h p [] p
-calls_nobody h p is = record { goes = goes_nowhere h p is; owns = λ c w has. has; marks = λ c m has. has }
-
 pub goes_on : (h : Hub) (p q r : Pass) (E F : List Entry) → Goes h p E q → Goes h q F r → Goes h p (E ++ F) r
 goes_on h p q r E F k l = record {
   caller = l.caller;

@@ -1,14 +1,12 @@
 -- A turn's opening: the time, and what the outlet has.
 use Rattle.std.proofs.Common.{◌≡◌, ◌≢◌, ◌<◌, ℕ, Bool, true, false, not, cond, is_some, List, [], length, refl, ap, sym, ◌∙◌, append-nil, arith, inl, inr, lit≤, Option, Some, None, Result, Ok, Err}
-use Rattle.std.specs.Prelude.{nat_lt, suc, zero}
+use Rattle.std.specs.Prelude.{nat_lt}
 use Rattle.std.proofs.lemmas.Bool.{lt-ltb}
-use Rattle.bsc_octets.specs.declared.identity.Identity.{Identity}
 use Rattle.bsc_history.specs.declared.ending.End.{End}
 use Rattle.bsc_history.specs.declared.ending.End.TheVariants.{Left, Full}
 use Rattle.bsc_ring.specs.declared.ends.Outlet.{Outlet}
 use Rattle.bsc_checks.specs.declared.phase.Phase.{Phase}
 use Rattle.bsc_checks.specs.declared.phase.Phase.TheVariants.{Connected as PhaseConnected}
-use Rattle.bsc_hub.specs.declared.hub.Hub.{Hub}
 use Rattle.bsc_edge.specs.declared.fault.LinkFault.{LinkFault}
 use Rattle.bsc_edge.specs.declared.said.Said.{Said}
 use Rattle.bsc_accept.specs.declared.accepting.Accepting.{Accepting}
@@ -18,13 +16,12 @@ use Rattle.bsc_accept.specs.declared.start.Start.{Start}
 use Rattle.bsc_accept.specs.declared.step.Step.{Step}
 use Rattle.bsc_accept.specs.declared.step.Step.TheVariants.{Close, Nothing}
 use Rattle.bsc_accept.specs.Past.{Standing as MachineStanding, awaiting_request, connected, disconnecting, last_message, phase, standing}
-use Rattle.bsc_accept.specs.Standing.{Answers as MachineAnswers, IsOpen, LeftBy, StandsFor}
+use Rattle.bsc_accept.specs.Standing.{Answers as MachineAnswers, LeftBy, StandsFor}
 use Rattle.bsc_accept.specs.Steps.{ended_step, normal, tick_step}
 use Rattle.bsc_accept.specs.Waits.{connect_wait_is_over, disconnect_wait_is_over, is_idle}
 use Rattle.bsc_session.specs.declared.at.At.{At}
 use Rattle.bsc_session.specs.declared.backlog.Backlog.{Backlog}
 use Rattle.bsc_session.specs.declared.backlog.Backlog.TheVariants.{MaybeMore, Nothing as NothingLeft}
-use Rattle.bsc_session.specs.declared.limits.SessionLimits.{SessionLimits}
 use Rattle.bsc_session.specs.declared.member.Member.{Member}
 use Rattle.bsc_session.specs.declared.stop.Stop.{Stop}
 use Rattle.bsc_session.specs.declared.taken.Taken.{Taken}
@@ -32,9 +29,9 @@ use Rattle.bsc_session.specs.declared.taken.Taken.TheVariants.{All, Part, Met, C
 use Rattle.bsc_session.specs.declared.why.Why.{Why}
 use Rattle.bsc_session.specs.declared.why.Why.TheVariants.{EndedBy}
 use Rattle.bsc_session.specs.Answering.{calls_hub}
-use Rattle.bsc_session.specs.Inner.{AreTerms, Attends, Between, Carries, Follows, HasEnded, HasFound, Meets, Opens, Runs, SameMember, Starts, Takes, TakesFrom, TellsMore, Ticks, Tied, conn_of, cut_in, given_by, is_more, met_in, stop_of}
+use Rattle.bsc_session.specs.Inner.{Attends, Carries, Follows, HasEnded, HasFound, Meets, Opens, Runs, SameMember, Takes, TakesFrom, TellsMore, Ticks, Tied, conn_of, cut_in, given_by, is_more, met_in, stop_of}
 use Rattle.bsc_session.specs.Puts.{octets_in, puts}
-use Rattle.bsc_session.specs.Reading.{start_at, started, ticked, wanted_at}
+use Rattle.bsc_session.specs.Reading.{started, ticked, wanted_at}
 use Rattle.bsc_session.specs.Standings.{Standing, Terms, is_connected, is_phase_connected, start_of, told, wanted}
 use Rattle.bsc_session.specs.Stops.{closes, closing_in, stop_at, stop_for}
 use Rattle.bsc_session.specs.Taking.{may_be_more, waiting_for}
@@ -85,36 +82,6 @@ ticks_on v s now a m st f r answers left closing =
     }
 
 -- ---- the start
-
-start_later : (n start now : ℕ) → n ≢ 0 → start_at n start now ≡ start
-start_later zero start now h = absurd (h refl)
-start_later (suc n) start now h = refl
-
-pub starts_later : (v : Terms) (s : Standing) (now : ℕ) (a : At) → a.receives ≢ 0 → Follows a s → Between v a s → Starts v s now a a
-starts_later v s now a later f b =
-    let e : start_at s.receives s.start now ≡ s.start = start_later s.receives s.start now (λ z. later (f.receives ∙ z)) in
-    record {
-      member = refl;
-      follows = record { conn = f.conn; ended = f.ended; receives = f.receives; found = f.found };
-      runs = record { machine = rw e b.runs.machine; waits = b.runs.waits; tied = b.runs.tied };
-    }
-
-start_first : (n start now : ℕ) → n ≡ 0 → start_at n start now ≡ now
-start_first zero start now h = refl
-start_first (suc n) start now h = cc
-
-pub starts_first : (h : Hub) (limits : SessionLimits) (v : Terms) (s : Standing) (now : ℕ) (a : At) (m : Accepting) (who : Identity) → a.receives ≡ 0 → AreTerms v h limits → Follows a s → Between v a s
-    → v.hub ≡ who → StandsFor m (record { own = who; times = limits.times; at = now }) [] → IsOpen m
-    → Starts v s now a (record { machine = m; member = a.member; ended = a.ended; receives = a.receives })
-starts_first h limits v s now a m who zero_ terms f b fixed stands waits =
-    let z : s.receives ≡ 0 = sym f.receives ∙ zero_ in
-    let e : start_at s.receives s.start now ≡ now = start_first s.receives s.start now z in
-    let none : s.events ≡ [] = b.fresh z in
-    record {
-      member = refl;
-      follows = record { conn = f.conn; ended = f.ended; receives = f.receives; found = f.found };
-      runs = record { machine = rw (e, none, fixed, terms.times) stands; waits = waits; tied = b.runs.tied };
-    }
 
 -- ---- the taking
 

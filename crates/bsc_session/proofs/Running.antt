@@ -1,17 +1,14 @@
 -- Turn after turn, up to the stop; and the last acts.
-use Rattle.std.proofs.Common.{◌≡◌, ℕ, true, ◌+◌, ◌≤◌, List, [], ◌∷◌, ◌++◌, length, refl, ap, sym, ◌∙◌, arith, Option, Some, None}
+use Rattle.std.proofs.Common.{◌≡◌, ℕ, true, ◌+◌, List, [], ◌∷◌, ◌++◌, length, refl, ap, sym, ◌∙◌, arith, Option, Some, None}
 use Rattle.std.specs.Prelude.{take}
-use Rattle.std.proofs.Common.{◌<◌, inl, inr}
-use Rattle.std.proofs.lemmas.Bool.Decides.{leb_tells}
+use Rattle.std.proofs.Common.{◌<◌}
 use Rattle.bsc_history.specs.declared.ending.End.{End}
-use Rattle.bsc_history.specs.declared.ending.End.TheVariants.{Left}
 use Rattle.bsc_history.specs.declared.told.Told.{Told}
 use Rattle.bsc_history.specs.Outboxes.{sent}
 use Rattle.bsc_desk.specs.declared.leaving.Gone.{Gone}
 use Rattle.bsc_ring.specs.Ends.{FoundEnd, empties_of, given, known_pushed, knows_all}
 use Rattle.bsc_hub.specs.Calls.{leave_made}
 use Rattle.bsc_history.specs.Marks.{entries}
-use Rattle.bsc_accept.specs.declared.reason.Reason.TheVariants.{Nothing as NoReason}
 use Rattle.bsc_accept.specs.Standing.{IsOpen, StandsFor}
 use Rattle.bsc_turn.specs.declared.pass.Pass.{Pass}
 use Rattle.bsc_turn.specs.Passes.{number_of, seen}
@@ -24,14 +21,12 @@ use Rattle.bsc_session.specs.declared.limits.SessionLimits.{SessionLimits}
 use Rattle.bsc_session.specs.declared.member.Member.{Member}
 use Rattle.bsc_session.specs.declared.stop.Stop.{Stop}
 use Rattle.bsc_session.specs.declared.why.Why.{Why}
-use Rattle.bsc_session.specs.declared.why.Why.TheVariants.{Spent}
 use Rattle.bsc_session.specs.Course.{standing, shares, total, GoesOn, and_last, said_closing}
 use Rattle.bsc_session.specs.declared.ended.Ended.{Ended}
 use Rattle.bsc_session.specs.Laws.{GrowsToFault}
 use Rattle.bsc_session.specs.Inner.{AreTerms, HasEnded, HasFound, HasTerms, Held, Makes, Parts, Ran, Stood, empties_by, given_by}
 use Rattle.bsc_session.specs.Serving.{Goes, Serves, terms_of}
 use Rattle.bsc_session.specs.Standings.{Standing, Terms, begun, start_of}
-use Rattle.bsc_session.specs.Stops.{stop_closing}
 use Rattle.bsc_session.specs.Talk.{leaving, named}
 use Rattle.bsc_session.specs.Turns.{Turn, IsTurn, reading_in, frames_in, said_in, entries_in, empties_in}
 use Rattle.bsc_session.proofs.EndingAtFault.{sessions_end_at_fault}
@@ -39,6 +34,7 @@ use Rattle.bsc_session.proofs.HubCalls.{goes_as, goes_nowhere, goes_on, goes_pas
 use Rattle.bsc_session.proofs.Lists.{grows-nil, grows_as, grown, standing-more, shares-more, total-more, each-more}
 use Rattle.bsc_session.proofs.MakingTurns.{between_more, receives_more}
 use Rattle.bsc_session.proofs.Wearing.{wears_left}
+use Rattle.bsc_lemmas.proofs.Options.{same_some_number as conn_is}
 
 -- before the first turn
 pub stood_begins : (v : Terms) (h : Hub) (p : Pass) (a : At) (old : Option (List Said)) (read : Option (List ℕ)) → IsCaller h p → number_of p ≡ v.caller → StandsFor a.machine (start_of v begun) [] → IsOpen a.machine
@@ -121,24 +117,6 @@ ran_stopped v h p0 p q a b old mid new read read' read'' stop k m = record {
   held = rw (standing-more v begun k.turns m.turn) m.held;
 }
 
--- the receives are spent
-pub ran_spent : (v : Terms) (h : Hub) (p0 p : Pass) (a : At) (old new : Option (List Said)) (read read' : Option (List ℕ)) (stop : Stop) → Stood v h p0 p a old new read read' → a.receives ≡ v.turns → stop ≡ stop_closing Spent 1001 NoReason
-    → Ran v h p0 p a old new read read' stop
-ran_spent v h p0 p a old new read read' stop k all is = record {
-  went_on = k.turns;
-  last = None;
-  are = k.are;
-  on = k.on;
-  stops = (sym k.held.follows.receives ∙ all, is);
-  is_worn = λ e. cc;
-  goes = k.goes;
-  gave = k.gave;
-  empties = k.empties;
-  said = k.said;
-  reads = k.reads;
-  held = k.held;
-}
-
 -- the link was closed and the hub left
 pub serves : (v : Terms) (h : Hub) (p0 p q : Pass) (a : At) (old mid new : Option (List Said)) (read read' : Option (List ℕ)) (stop : Stop) (conn : Option ℕ) (taken empties : ℕ) (why : Why)
     → Ran v h p0 p a old mid read read' stop → Grows mid new (said_closing stop.closing) → Parts v h p q a.member a.ended conn taken empties → why ≡ named a.ended stop.why
@@ -176,9 +154,6 @@ ended_found : (e : End) (d : Option End) (m : Member) → d ≡ Some e → HasFo
 ended_found e None m is h = cc
 ended_found e (Some x) m is h = (let k : HasFound (Some e) (Some m) = rw is at h in k)
 
-conn_is : (a b : ℕ) → Some a ≡ Some b → a ≡ b
-conn_is a b h = cc
-
 -- the session had joined, and left
 pub part_left : (h : Hub) (v : Terms) (p q : Pass) (m : Member) (ended : Option End) (t : Told Gone) (empties : ℕ)
     → Passed h p [] (leave_made (number_of p) m.conn (empties_of m.outlet) t) q → v.caller ≡ number_of p → empties ≡ empties_of m.outlet
@@ -196,20 +171,3 @@ part_left h v p q m ended t empties passed caller counted took got finds whole f
   all = λ c e joined met. (let k = ended_found e ended m met found in sym k.2 ∙ whole k.1 ∙ ap (λ n. sent (about_of h) (entries (seen q)) n) (conn_is m.conn c joined));
   wears = λ is. wears_left h p q [] _ passed is;
 }
-
--- the session had not joined
-pub part_alone : (h : Hub) (v : Terms) (p : Pass) (ended : Option End) → IsCaller h p → HasFound ended None → Parts v h p p None ended None 0 0
-part_alone h v p ended is found = record {
-  reply = Left;
-  goes = goes_nowhere h p is;
-  conn_is = refl;
-  took = refl;
-  empties_is = refl;
-  got = refl;
-  replied = λ c e joined met. cc;
-  all = λ c e joined met. cc;
-  wears = λ is. is;
-}
-
-spent_all : (a b : ℕ) → a ≤ b → (a < b → ⊥) → a ≡ b
-spent_all a b h k = elim (leb_tells b a) [ inl x ↦ (let y = x.1 in omega (arith, h, y)) | inr x ↦ absurd (k x.1) ]

@@ -1,5 +1,5 @@
 -- Frames are taken and put.
-use Rattle.std.proofs.Common.{◌≡◌, ℕ, Bool, true, false, ◌+◌, ◌<◌, List, [], ◌∷◌, ◌++◌, refl, ap, sym, ◌∙◌, append-nil, append_assoc, length-append, arith, Option, Some, None}
+use Rattle.std.proofs.Common.{◌≡◌, ℕ, Bool, true, false, ◌+◌, ◌<◌, List, [], ◌∷◌, ◌++◌, refl, ap, sym, ◌∙◌, append_assoc, length-append, arith, Option, Some, None}
 use Rattle.std.specs.Prelude.{◌^◌, ◌-◌, min, suc, zero, length}
 use Rattle.std.proofs.lemmas.Bool.{lt-ltb}
 use Rattle.bsc_history.specs.declared.ending.End.{End}
@@ -15,10 +15,11 @@ use lib.ListN.{get_elem?}
 use Rattle.bsc_ring.specs.declared.found.Found.{Found}
 use Rattle.bsc_ring.specs.declared.found.Found.TheVariants.{Ending, Tail}
 use Rattle.bsc_ring.specs.Ends.{FoundEnd, Took, empties_of, found, given, known_pushed, knows_all, outlet_mark}
-use Rattle.bsc_session.specs.declared.taken.Taken.TheVariants.{All, Part, Met, Cut}
+use Rattle.bsc_session.specs.declared.taken.Taken.TheVariants.{All, Met, Cut}
 use Rattle.bsc_session.specs.Inner.{HasEnded, Taking, Takes}
 use Rattle.bsc_session.specs.Puts.{puts, HasPut}
-use Rattle.bsc_session.proofs.Lists.{grows-nil, grows_as, grown, puts-more}
+use Rattle.bsc_session.proofs.Lists.{grows_as, grown, puts-more}
+use Rattle.bsc_history.proofs.Common.{end_is}
 
 elem_stays : (xs ys : List Found) (i : ℕ) (x : Found) → get_elem? xs i ≡ some x → get_elem? (xs ++ ys) i ≡ some x
 elem_stays [] ys i x h = cc
@@ -54,9 +55,6 @@ keeps_all o p (Closed e) h whole all = (h.0.3.3, h.0.1 ∙ sym h.0.0)
 keeps_ended : (o p : Outlet) (t : Take) (e : End) → Took o t p → HasEnded o e → HasEnded p e
 keeps_ended o p t e took h = (let k = keeps_all o p t took h.1 h.2 in (keeps_found o p t e took h.0, k.0, k.1))
 
-pub taking_begins : (o : Outlet) (old : Option (List Said)) → Taking o o old old 0
-taking_begins o old = record { frames = []; many = refl; mark = refl; keeps = λ e h. h; gave = sym (append-nil (given o)); empties = refl; said = grows-nil old }
-
 -- a frame was taken, and put
 pub taking_more : (o p q : Outlet) (old mid new : Option (List Said)) (n : ℕ) (f : List ℕ) → Taking o p old mid n
     → Took p (Frame f) q → outlet_mark q ≡ outlet_mark p → Grows mid new (Put f None ∷ []) → Taking o q old new (n + 1)
@@ -78,22 +76,6 @@ well (o ∷ os) = tt
 some_put : (os : List (List ℕ)) (o : List ℕ) (fault : Option LinkFault) → HasPut (os ++ o ∷ []) fault
 some_put [] o fault = tt
 some_put (p ∷ os) o fault = tt
-
--- sixteen were taken
-pub takes_sixteen : (o p : Outlet) (old new : Option (List Said)) → Taking o p old new 16 → Takes o p old new Part
-takes_sixteen o p old new t = record {
-  frames = t.frames;
-  mark = t.mark;
-  keeps = t.keeps;
-  found = λ e h. cc;
-  left = λ e h. cc;
-  gave = t.gave;
-  empties = rw t.many (let k = t.empties in omega (arith, k));
-  few = (let k = t.many in omega (arith, k));
-  fits = t.many;
-  said = t.said;
-  cause = well t.frames;
-}
 
 counted : (a b : ℕ) → a < 18446744073709551615 → b ≡ min (a + 1) (2 ^ 64 - 1) → b ≡ a + 1
 counted a b h is = omega (arith, h, is)
@@ -117,9 +99,6 @@ takes_few o p q old new n t few room took mark =
       said = t.said;
       cause = well t.frames;
     }
-
-end_is : (d e : End) → Some d ≡ Some e → d ≡ e
-end_is d e h = cc
 
 -- an End was there
 pub takes_met : (o p q : Outlet) (old new : Option (List Said)) (n : ℕ) (e : End) → Taking o p old new n → n < 16

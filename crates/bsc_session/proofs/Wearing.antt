@@ -1,5 +1,5 @@
 -- When a hub is worn, by what a pass has seen.
-use Rattle.std.proofs.Common.{◌≡◌, ◌≢◌, ◌↔◌, ℕ, ◌+◌, ◌≤◌, ◌<◌, Bool, true, false, cond, List, [], ◌∷◌, ◌++◌, length, length-append, refl, ap, sym, ◌∙◌, arith, inl, inr, Some, None, Result, Err}
+use Rattle.std.proofs.Common.{◌≡◌, ◌≢◌, ◌↔◌, ℕ, ◌+◌, ◌≤◌, ◌<◌, true, false, List, [], ◌∷◌, ◌++◌, length, length-append, refl, ap, sym, ◌∙◌, arith, inl, inr, Some, None, Result, Err}
 use Rattle.std.specs.Prelude.{nat_le, IsTrue}
 use Rattle.std.proofs.lemmas.Bool.Decides.{leb_tells}
 use Rattle.bsc_octets.specs.declared.identity.Identity.{Identity}
@@ -8,7 +8,6 @@ use Rattle.bsc_history.specs.declared.limits.About.{About}
 use Rattle.bsc_history.specs.declared.mark.Stamped.{Stamped}
 use Rattle.bsc_history.specs.declared.told.Told.{Told}
 use Rattle.bsc_history.specs.declared.told.Worn.{Worn}
-use Rattle.bsc_history.specs.declared.reply.Reply.{Reply}
 use Rattle.bsc_history.specs.Marks.{entries}
 use Rattle.bsc_history.proofs.More.{entries-more}
 use Rattle.bsc_turn.specs.declared.pass.Pass.{Pass}
@@ -28,6 +27,7 @@ use Rattle.bsc_hub.specs.Calls.{all_made, all_told, connect_made, connect_told}
 use Rattle.bsc_hub.specs.Passing.{Passed, Placed, about_of, found_history}
 use Rattle.bsc_hub.proofs.Guarding.{parts}
 use Rattle.bsc_session.specs.Inner.{SeesWorn}
+use Rattle.bsc_history.proofs.Common.{due_none}
 
 longer : (F H : List Stamped) → StartsWith H F → length (entries F) ≤ length (entries H)
 longer F H begins = (let e = ap (λ (l : List Entry). length l) (parts F H begins) ∙ length-append (entries F) (entries begins.0) in omega (arith, e))
@@ -41,10 +41,6 @@ wears_left h p q took m passed is =
     let most = longer (seen p) passed.makes.before passed.makes.begins in
     let one = one_longer passed.makes.before m.stamped (seen q) passed.makes.ends in
     omega (arith, is, most, one)
-
-due_none : (b : Bool) (r : Reply) → None ≡ cond b None (Some r) → b ≡ true
-due_none true r h = refl
-due_none false r h = cc
 
 at_most : (a n : ℕ) → nat_le a n ≡ true → a ≤ n
 at_most a n h = elim (leb_tells a n) [ inl k ↦ k.1 | inr k ↦ (let e : true ≡ false = sym h ∙ k.0 in cc) ]

@@ -2,8 +2,6 @@
 use Rattle.std.proofs.Common.{◌≡◌, ◌⊎◌, inl, inr, ℕ, ◌≤◌, Bool, true, false, cond, List, [], ◌∷◌, ◌++◌, length, Option, Some, None, Result, Ok, Err, is_some, option_to_list, refl, ap, sym, ◌∙◌, subst, lit≤, append-nil}
 use Rattle.std.proofs.lemmas.Grind.{flat_map-append}
 use Rattle.bsc_octets.specs.declared.identity.Identity.{Identity}
-use Rattle.bsc_frame.specs.declared.body.Body.{Body}
-use Rattle.bsc_frame.specs.declared.body.Body.TheVariants.{DisconnectRequest, HeartbeatRequest}
 use Rattle.bsc_frame.specs.declared.message.Message.{Message as Bvlc}
 use Rattle.bsc_history.specs.declared.ending.End.{End}
 use Rattle.bsc_history.specs.declared.entry.Entry.{Entry}
@@ -21,7 +19,7 @@ use Rattle.bsc_accept.specs.declared.step.Step.{Step}
 use Rattle.bsc_accept.specs.declared.step.Step.TheVariants.{Ask, Reply as ReplyStep, ReplyClose, Carry, Close, Nothing}
 use Rattle.bsc_accept.specs.Messages.{is_farewell_answer, who_asks}
 use Rattle.bsc_accept.specs.Past.{Standing as MachineStanding, awaiting_request, connected as connected_now, disconnecting, phase, phase_named, standing}
-use Rattle.bsc_accept.specs.Steps.{ask_step, connected_step, message_step, normal, passed_step}
+use Rattle.bsc_accept.specs.Steps.{ask_step, message_step, normal, passed_step}
 use Rattle.bsc_session.specs.declared.ended.Ended.{Ended}
 use Rattle.bsc_session.specs.declared.stop.Stop.{Stop}
 use Rattle.bsc_session.specs.Answering.{IsHearing, called, calls_hub, entries_hearing, forwarded_by, stop_hearing, stop_message}
@@ -40,6 +38,7 @@ use Rattle.bsc_session_laws.proofs.Courses.{all_as, all_but, mapped_shares}
 use Rattle.bsc_session_laws.proofs.Forwarding.{Lacks, lacks_last, lacks_none}
 use Rattle.bsc_session_laws.proofs.Turning.{Joins, Waits, at, first_none, hearing, in_asks_none, is_in, stays_in, tied_begun, turn_goes}
 use Rattle.bsc_session_laws.proofs.Verdicts.{asked_awaiting}
+use Rattle.bsc_accept.proofs.Common.{asked_so, connected_asks as not_asked_connected}
 
 -- why a Connect may be lacking: the hub made no entry, or there was no memory to judge
 abbrev NoConnect : Option Answer → Bool → Identity → Type 0
@@ -63,18 +62,9 @@ no_connect v s Carry m (Some (replies looks reply)) isnt = forwards_connect_none
 no_connect v s (Close c) m answer isnt = refl
 no_connect v s Nothing m answer isnt = refl
 
-pub not_asked_connected : (id : ℕ) (body : Body) (who : Identity) → connected_step id body ≡ Ask who → ⊥
-not_asked_connected id HeartbeatRequest who e = cc
-not_asked_connected id DisconnectRequest who e = cc
-not_asked_connected id body who e = cc
-
 pub not_asked_parting : (b : Bool) (who : Identity) → cond b (Close normal) Nothing ≡ Ask who → ⊥
 not_asked_parting true who e = cc
 not_asked_parting false who e = cc
-
-asked_so : (o : Option Identity) (who : Identity) → ask_step o ≡ Ask who → o ≡ Some who
-asked_so None who e = cc
-asked_so (Some w) who e = cc
 
 -- who isn't said to ask doesn't
 passed_asks : (g : MachineStanding) (msg : Bvlc) (who : Identity) → passed_step g msg ≡ Ask who → who_asks msg.body ≡ Some who

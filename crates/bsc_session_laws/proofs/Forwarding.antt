@@ -2,9 +2,6 @@
 use Rattle.std.proofs.Common.{◌≡◌, ◌≢◌, ◌⊎◌, inl, inr, ℕ, Bool, true, false, cond, List, [], ◌∷◌, ◌++◌, map, Option, Some, None, Result, Ok, Err, is_some, refl, ap, sym, ◌∙◌, append-nil}
 use Rattle.std.proofs.lemmas.Grind.{flat_map-append}
 use Rattle.std.proofs.lemmas.List.{map-append}
-use Rattle.bsc_octets.specs.declared.identity.Identity.{Identity}
-use Rattle.bsc_frame.specs.declared.body.Body.{Body}
-use Rattle.bsc_frame.specs.declared.body.Body.TheVariants.{DisconnectRequest, HeartbeatRequest}
 use Rattle.bsc_frame.specs.declared.message.Message.{Message as Bvlc}
 use Rattle.bsc_history.specs.declared.ending.End.{End}
 use Rattle.bsc_history.specs.declared.entry.Entry.{Entry}
@@ -23,7 +20,7 @@ use Rattle.bsc_accept.specs.declared.step.Step.{Step}
 use Rattle.bsc_accept.specs.declared.step.Step.TheVariants.{Ask, Reply as ReplyStep, ReplyClose, Carry, Close, Nothing}
 use Rattle.bsc_accept.specs.Messages.{is_farewell_answer, who_asks}
 use Rattle.bsc_accept.specs.Past.{Standing as MachineStanding, awaiting_request, connected, disconnecting, phase, phase_named, standing}
-use Rattle.bsc_accept.specs.Steps.{ask_step, connected_step, message_step, normal, passed_step}
+use Rattle.bsc_accept.specs.Steps.{message_step, normal, passed_step}
 use Rattle.bsc_session.specs.declared.ended.Ended.{Ended}
 use Rattle.bsc_session.specs.declared.stop.Stop.{Stop}
 use Rattle.bsc_session.specs.Answering.{IsHearing, called, calls_hub, entries_hearing, forwarded_by, last_step, stop_hearing, stop_message}
@@ -42,6 +39,7 @@ use Rattle.bsc_session_laws.specs.Messages.{JudgedMessage, carried, carried_by, 
 use Rattle.bsc_session_laws.proofs.Courses.{all_as, all_but, mapped_shares}
 use Rattle.bsc_session_laws.proofs.Turning.{at, first_none, hearing, tied_begun, tied_opened}
 use Rattle.bsc_session_laws.proofs.Verdicts.{carried_connected}
+use Rattle.bsc_accept.proofs.Common.{connected_carries as not_carried_connected, no_ask_carries as not_carried_asked}
 
 -- ---- one of them is lacking
 
@@ -75,15 +73,6 @@ no_forward v s (ReplyClose octets c) given answer isnt = refl
 no_forward v s Carry given answer isnt = absurd (isnt refl)
 no_forward v s (Close c) given answer isnt = refl
 no_forward v s Nothing given answer isnt = refl
-
-not_carried_asked : (o : Option Identity) → ask_step o ≡ Carry → ⊥
-not_carried_asked None e = cc
-not_carried_asked (Some w) e = cc
-
-not_carried_connected : (id : ℕ) (body : Body) → connected_step id body ≡ Carry → ⊥
-not_carried_connected id HeartbeatRequest e = cc
-not_carried_connected id DisconnectRequest e = cc
-not_carried_connected id body e = cc
 
 not_carried_parting : (b : Bool) → cond b (Close normal) Nothing ≡ Carry → ⊥
 not_carried_parting true e = cc

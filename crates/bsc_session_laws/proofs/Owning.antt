@@ -1,5 +1,5 @@
 -- A session forwards by its own connection alone.
-use Rattle.std.proofs.Common.{◌≡◌, ℕ, Bool, true, false, List, [], ◌∷◌, ◌++◌, Option, Some, None, Result, Ok, Err, is_some, refl, ap, sym, ◌∙◌, subst}
+use Rattle.std.proofs.Common.{◌≡◌, ℕ, Bool, true, false, List, [], ◌∷◌, Option, Some, None, Result, Ok, Err, is_some, refl, ap, sym, ◌∙◌, subst}
 use Rattle.std.specs.List.{AllByRecursion}
 use Rattle.bsc_octets.specs.declared.identity.Identity.{Identity}
 use Rattle.bsc_history.specs.declared.call.Call.TheVariants.{Forward}
@@ -29,9 +29,11 @@ use Rattle.bsc_session.specs.Taking.{opened}
 use Rattle.bsc_session.specs.Talk.{Session, leaving}
 use Rattle.bsc_session.specs.Turns.{Turn, after, entries_after, entries_in, stands_after}
 use Rattle.bsc_session_laws.specs.Laws.{ForwardsAreCarried, IsOfConnection}
-use Rattle.bsc_session_laws.proofs.Connecting.{not_asked_connected, not_asked_parting}
+use Rattle.bsc_session_laws.proofs.Connecting.{not_asked_parting}
 use Rattle.bsc_session_laws.proofs.Forwarding.{forwards_made}
 use Rattle.bsc_session_laws.proofs.Turning.{heard_in, is_in, opened_in, tied_after, tied_begun}
+use Rattle.bsc_accept.proofs.Common.{connected_asks as not_asked_connected}
+use Rattle.bsc_lemmas.proofs.Lists.{all_append}
 
 -- ---- who has a connection asks for none
 
@@ -114,10 +116,6 @@ own_heard v s now None end keeps = tt
 own_heard v s now (Some h) end keeps = own_called v s (step_of v s now h) h.given h.answer end keeps
 
 -- ---- the entries of a session
-
-all_append : {A : Type 0} (P : A → Type 0) (xs ys : List A) → AllByRecursion P xs → AllByRecursion P ys → AllByRecursion P (xs ++ ys)
-all_append P [] ys h g = g
-all_append P (x ∷ xs) ys h g = (h.0, all_append P xs ys h.1 g)
 
 own_turns : (v : Terms) (s : Standing) (ts : List Turn) → Tied s → AllByRecursion (IsOfConnection (stands_after_all v s ts).conn) (shares entries_in v s ts)
 own_turns v s [] tied = tt

@@ -19,10 +19,11 @@ use Rattle.bsc_checks.specs.Places.{dest_in, is_to_carry, origin_in}
 use Rattle.bsc_checks.specs.Table.{checks_of, code_of, head_checks, later_checks}
 use Rattle.bsc_verdict.specs.Failing.{fails}
 use Rattle.bsc_verdict.specs.Options.{data_options_in, rest_of}
-use Rattle.bsc_verdict.specs.Outcomes.{accepted, answered, decided, first_failing, message_in, outcome_of, refused}
+use Rattle.bsc_verdict.specs.Outcomes.{accepted, answered, decided, first_failing, outcome_of, refused}
 use Rattle.bsc_verdict.specs.Payloads.{body_in}
 use Rattle.bsc_verdict.specs.Places.{is_connected, is_in_place, is_response, is_unicast}
 use Rattle.bsc_accept.specs.Messages.{who_asks}
+use Rattle.bsc_verdict.proofs.Common.{carries_when, none_fails, passes_when}
 
 -- ---- a message that no check refuses
 
@@ -45,15 +46,6 @@ unrefused : (m : List ℕ) (place : Place) (r : Option Check) (v : Verdict) → 
 unrefused m place None v e h = (refl, e)
 unrefused m place (Some check) v e h = absurd (true≢false (sym (refused_refuses m place check (code_of check)) ∙ ap refuses e ∙ h))
 
-none_first : (t : Check → Bool) (k : Check) (ks : List Check) (b : Bool) → t k ≡ b → first_failing t (k ∷ ks) ≡ None → (t k ≡ false) × (first_failing t ks ≡ None)
-none_first t k ks true is e = (let bad : first_failing t (k ∷ ks) ≡ Some k = rw (is, first_failing) refl in let isnt : Some k ≡ None = sym bad ∙ e in cc)
-none_first t k ks false is e = (is, (let rest : first_failing t (k ∷ ks) ≡ first_failing t ks = rw (is, first_failing) refl in sym rest ∙ e))
-
--- where none is the first that fails, none fails
-none_fails : (t : Check → Bool) (ks : List Check) → first_failing t ks ≡ None → AllByRecursion (λ k. t k ≡ false) ks
-none_fails t [] e = tt
-none_fails t (k ∷ ks) e = (let two = none_first t k ks (t k) refl e in (two.0, none_fails t ks two.1))
-
 -- whether a message is in place, at the hub port
 abbrev at_port : Bool → Phase → List ℕ → Bool
 at_port b phase m = is_in_place b (HubPort phase) (function_in m) (origin_in m)
@@ -71,10 +63,6 @@ in_place m phase max b is none = true_from_ne_false (at_port b phase m) (λ isnt
 
 -- ---- a message that is to be carried on
 
-carries_when : (b : Bool) (m : List ℕ) (e : Envelope) → accepted b m ≡ Carry e → b ≡ true
-carries_when true m e h = refl
-carries_when false m e h = cc
-
 connected_phase : (p : Phase) → is_connected p ≡ true → p ≡ Connected
 connected_phase AwaitingRequest h = cc
 connected_phase AwaitingAccept h = cc
@@ -89,13 +77,6 @@ carried_connected m phase max e h =
     connected_phase phase (in_place m phase max true (carries_when (announces_dest (flags_in m)) m e a.1) a.0)
 
 -- ---- a message that asks to connect
-
-same_message : (x y : Message) → Pass x ≡ Pass y → x ≡ y
-same_message x y e = cc
-
-passes_when : (b : Bool) (m : List ℕ) (msg : Message) → accepted b m ≡ Pass msg → (b ≡ false) × (message_in m ≡ msg)
-passes_when true m msg h = cc
-passes_when false m msg h = (refl, same_message (message_in m) msg h)
 
 -- a message of a function that has no asking body doesn't ask
 no_asking : (f n : ℕ) (p : List ℕ) (who : Identity) → (f == n) ≡ true → who_asks (body_in n p) ≡ None → who_asks (body_in f p) ≡ Some who → ⊥

@@ -7,9 +7,6 @@ use Rattle.bsc_ws.specs.Protocols.{Offers, StartsPart}
 abbrev pub IsLeft : List ℕ → List ℕ → Type 0
 IsLeft text left = (before : List ℕ) × (text ≡ before ++ left) × StartsPart before
 
-pub whole_is_left : (text : List ℕ) → IsLeft text text
-whole_is_left text = ([], refl, inl refl)
-
 -- The last part is the name.
 pub last_offers : (text left name : List ℕ) → IsLeft text left → IsTrimAscii left name → Offers text name
 last_offers text left name (before, whole, starts) trimmed =

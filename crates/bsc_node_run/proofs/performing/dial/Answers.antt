@@ -1,9 +1,10 @@
 use Rattle.std.proofs.Common.{Ok, Err, refl, rules}
 use Rattle.bsc_edge.specs.declared.fault.LinkFault.TheVariants.{Failed, NoMemory}
 use Rattle.bsc_node_run.specs.Worlds.{dialling, world_of}
-use Rattle.bsc_node_run.proofs.Acting.{on_ok, dials_ok, dials_failed}
+use Rattle.bsc_node_run.proofs.Acting.{dials_ok, dials_failed}
 use Rattle.bsc_node_run.proofs.Stops.{at_err}
 use Rattle.bsc_node_run.proofs.performing.dial.Goals as goal
+use Rattle.std.proofs.lemmas.Result.{on_ok_weaker as on_ok}
 
 pub returns-in-Ok-clause-dials : goal.returns-in-Ok-clause-dials
 returns-in-Ok-clause-dials g c =

@@ -1,8 +1,8 @@
 use Rattle.bsc_node_run.specs.declared.news.Change.TheVariants.{Lost}
 use Rattle.bsc_node_run.specs.Worlds.{world_of, with_news, with_over}
 use Rattle.bsc_node_run.proofs.Worlds.{same_then, on_news}
-use Rattle.bsc_node_run.proofs.Acting.{on_ok}
 use Rattle.bsc_node_run.proofs.performing.lose.Goals as goal
+use Rattle.std.proofs.lemmas.Result.{on_ok_weaker as on_ok}
 
 pub returns : goal.returns
 returns g c = on_ok c.note.result

@@ -1,6 +1,6 @@
 use Rattle.std.proofs.Common.{inl, inr}
-use Rattle.bsc_node_run.proofs.Acting.{on_ok}
 use Rattle.bsc_node_run.proofs.performing.put_on.Goals as goal
+use Rattle.std.proofs.lemmas.Result.{on_ok_weaker as on_ok}
 
 pub returns-in-Ok : goal.returns-in-Ok
 returns-in-Ok g c d h = (c.put.new.self, inl (c.in-Ok.ensures.told, c.replace.ensures.new d h))

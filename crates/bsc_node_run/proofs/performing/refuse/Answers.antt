@@ -1,6 +1,7 @@
 use Rattle.bsc_node_run.specs.Worlds.{world_of}
-use Rattle.bsc_node_run.proofs.Acting.{on_ok, refuses_none, refuses_some}
+use Rattle.bsc_node_run.proofs.Acting.{refuses_none, refuses_some}
 use Rattle.bsc_node_run.proofs.performing.refuse.Goals as goal
+use Rattle.std.proofs.lemmas.Result.{on_ok_weaker as on_ok}
 
 pub returns-in-Some : goal.returns-in-Some
 returns-in-Some g c = on_ok c.close_link.result

@@ -2,10 +2,10 @@ use Rattle.std.proofs.Common.{inl, inr, refl, sym, ◌∙◌}
 use Rattle.bsc_node_run.specs.Drawing.{GoesDrawing, at_rest}
 use Rattle.bsc_node_run.specs.Stopping.{HearStops}
 use Rattle.bsc_node_run.specs.Worlds.{dialling, world_of}
-use Rattle.bsc_node_run.proofs.Acting.{on_ok}
 use Rattle.bsc_node_run.proofs.Turns.{hears_closed, hears_none, hears_some}
-use Rattle.bsc_node_run.proofs.Stops.{at_err, on_err}
+use Rattle.bsc_node_run.proofs.Stops.{at_err}
 use Rattle.bsc_node_run.proofs.turning.hear.Goals as goal
+use Rattle.std.proofs.lemmas.Result.{on_err_weaker as on_err, on_ok_weaker as on_ok}
 
 pub returns-then-not-is_open-clause-hears : goal.returns-then-not-is_open-clause-hears
 returns-then-not-is_open-clause-hears g c = hears_closed (GoesDrawing g.N.Core.goes g.W.Words.gives g.W.Words.faults) g.L.Link.talk c.args.now c.args.name (at_rest c.args.node.now c.args.random.now) (world_of c.args.set.now (dialling g.D.Dialer.calls g.D.Dialer.left g.D.Dialer.faults c.args.dialer.now) (g.K.Sink.held c.args.sink.now)) (sym c.if-not-is_open.true ∙ c.is_open.ensures (dialling g.D.Dialer.calls g.D.Dialer.left g.D.Dialer.faults c.args.dialer.now) (g.K.Sink.held c.args.sink.now))

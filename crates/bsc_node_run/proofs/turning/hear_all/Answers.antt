@@ -1,9 +1,9 @@
 use Rattle.std.proofs.Common.{inl, inr}
 use Rattle.bsc_node_run.specs.Drawing.{at_rest}
 use Rattle.bsc_node_run.specs.Worlds.{dialling, world_of}
-use Rattle.bsc_node_run.proofs.Acting.{on_ok}
-use Rattle.bsc_node_run.proofs.Stops.{at_err, on_err}
+use Rattle.bsc_node_run.proofs.Stops.{at_err}
 use Rattle.bsc_node_run.proofs.turning.hear_all.Goals as goal
+use Rattle.std.proofs.lemmas.Result.{on_err_weaker as on_err, on_ok_weaker as on_ok}
 
 pub returns-clause-hears : goal.returns-clause-hears
 returns-clause-hears g c = on_ok c.hear_slots.result

@@ -4,8 +4,9 @@ use Rattle.bsc_edge.specs.declared.incoming.Incoming.TheVariants.{Message, Text,
 use Rattle.bsc_node.specs.declared.node_event.NodeEvent.TheVariants.{Came, CameText}
 use Rattle.bsc_node_run.specs.Worlds.{world_of}
 use Rattle.bsc_node_run.proofs.Worlds.{ends_so, link_again}
-use Rattle.bsc_node_run.proofs.Turns.{on_if, received}
+use Rattle.bsc_node_run.proofs.Turns.{received}
 use Rattle.bsc_node_run.proofs.turning.receive.Goals as goal
+use Rattle.bsc_lemmas.proofs.Numbers.{if_ok_maps as on_if}
 
 pub returns-in-Ok-Message-clause-received : goal.returns-in-Ok-Message-clause-received
 returns-in-Ok-Message-clause-received g c d h =
