@@ -16,7 +16,6 @@ use Rattle.bsc_hub.specs.Passing.{Placed, Went}
 use Rattle.bsc_hub.proofs.Following.{went_then}
 use Rattle.bsc_edge.specs.Told.{Stays}
 use Rattle.bsc_serve.specs.declared.end.ServeEnd.{ServeEnd}
-use Rattle.bsc_serve.specs.declared.end.ServeEnd.TheVariants.{Done, StoppedBefore, AcceptFault, NoMemory}
 use Rattle.bsc_serve.specs.declared.halt.Halt.{Halt}
 use Rattle.bsc_serve.specs.declared.halt.Halt.TheVariants.{AcceptFault as HaltFault, NoMemory as HaltMemory}
 use Rattle.bsc_session.specs.declared.job.SessionJob.{SessionJob}

@@ -1,5 +1,5 @@
 -- A link gets its session, or doesn't.
-use Rattle.std.proofs.Common.{inl, inr, ◌≡◌, ℕ, List, [], ◌∷◌, ◌++◌, Bool, true, false, None, Ok, Err, refl, sym, ◌∙◌, subst, arith, append-nil}
+use Rattle.std.proofs.Common.{inl, inr, ◌≡◌, ℕ, List, [], ◌∷◌, Bool, true, false, None, Ok, Err, refl, sym, ◌∙◌, subst, arith, append-nil}
 use Rattle.std.specs.Prelude.{Result, ◌<◌}
 use Rattle.std.specs.Arc.{arc_value}
 use Rattle.bsc_outside.specs.Faults.{HasRisen}

@@ -77,10 +77,10 @@ module _ {L C : Type 0} where
   EndsSo awaited events still stop AcceptFault = ⊤
   EndsSo awaited events still stop NoMemory = ⊤
 
--- What serving a hub comes to, on these terms, from one world to another, where `works` says what may be left of a job: there
--- is what happened, in order, under want of memory one link more, the jobs that were still out when the hub was stopped, and
--- an answer of its stop, such that ..
 module _ {L C : Type 0} (works : SessionJob L C → SessionEnd → Type 0) where
+  -- What serving a hub comes to, on these terms, from one world to another, where `works` says what may be left of a job: there
+  -- is what happened, in order, under want of memory one link more, the jobs that were still out when the hub was stopped, and
+  -- an answer of its stop, such that ..
   pub record Serving (h : Hub) (terms : ServeTerms) (before after : ServeWorld L C) (end : ServeEnd) : Type 0 where
     pub events : List (Event L C)
     pub cut : Option (Cut L)

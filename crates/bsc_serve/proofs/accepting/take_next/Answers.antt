@@ -1,7 +1,6 @@
-use Rattle.std.proofs.Common.{Ok, Err, subst}
+use Rattle.std.proofs.Common.{Ok, subst}
 use Rattle.std.specs.Arc.{arc_value}
 use Rattle.bsc_edge.specs.declared.arrived.Arrived.{Arrived}
-use Rattle.bsc_edge.specs.declared.fault.LinkFault.{LinkFault}
 use Rattle.bsc_edge.specs.Told.{Leaves}
 use Rattle.bsc_serve.specs.declared.halt.Halt.TheVariants.{AcceptFault, NoMemory}
 use Rattle.bsc_session.specs.Jobs.{Worked}
