@@ -79,7 +79,7 @@ def browser():
 
 def faults_of(pictures, scheme):
     """What is wrong with each of these pictures, each as a list of words; None where the browser doesn't say."""
-    with tempfile.TemporaryDirectory() as work:
+    with tempfile.TemporaryDirectory(ignore_cleanup_errors=True) as work:
         page = Path(work, "page.html")
         sections = "".join(f"<section>{it}</section>" for it in pictures)
         page.write_text(f"<!doctype html><meta charset=utf-8><body>{sections}<script>{LOOK}</script>", encoding="utf-8")
