@@ -1,18 +1,33 @@
 -- What stands only grows: each hub, node and link stays under its number with what it is, and what it has done stays, with more
 -- behind it.
-use Rattle.std.proofs.Common.{◌≡◌, ◌≢◌, ◌⊎◌, inl, inr, ℕ, List, [], ◌∷◌, ◌++◌, Some, refl, ap, sym, subst, ◌∙◌, append_assoc, append-nil}
-use Rattle.std.specs.Prelude.{slice_get}
+use Rattle.std.proofs.Common.{◌≡◌, ◌≢◌, ◌⊎◌, inl, inr, ℕ, List, [], ◌∷◌, ◌++◌, Option, Some, None, refl, ap, sym, subst, ◌∙◌, append_assoc, append-nil}
+use Rattle.std.specs.Prelude.{◌+◌, slice_get, ⊤}
 use Rattle.std.specs.Option.{option_map}
+use Rattle.bsc_history.specs.declared.call.Call.{Call}
+use Rattle.bsc_history.specs.declared.call.Call.TheVariants.{Connect}
+use Rattle.bsc_node.specs.declared.link_name.LinkName.{LinkName}
 use Rattle.bsc_node.specs.declared.timed_event.TimedEvent.{TimedEvent}
+use Rattle.bsc_network.specs.declared.world_step.WorldStep.{WorldStep}
+use Rattle.bsc_network.specs.declared.timed_step.TimedStep.{TimedStep}
 use Rattle.bsc_network.specs.declared.way.Way.{Way}
 use Rattle.bsc_network.specs.declared.way.Way.TheVariants.{Up, Down}
+use Rattle.bsc_network.specs.declared.target.Target.{Target}
+use Rattle.bsc_network.specs.declared.hold.Hold.{Hold}
+use Rattle.bsc_network.specs.declared.arrival.Arrival.{Arrival}
 use Rattle.bsc_network.specs.declared.parcel.Content.{Content}
-use Rattle.bsc_network.specs.Traffic.{Traffic, and_then}
-use Rattle.bsc_network.specs.Worlds.{World, Hub, Node, Link}
-use Rattle.bsc_network.specs.Changes.{changed_at, with_node, with_link, with_traffic, puts_at}
-use Rattle.bsc_network.specs.NodeSides.{holds}
+use Rattle.bsc_network.specs.declared.parcel.Content.TheVariants.{Message, Closed}
+use Rattle.bsc_network.specs.Traffic.{Traffic, without_front, and_then}
+use Rattle.bsc_network.specs.Worlds.{World, Hub, HubSide, Node, Link, node_at}
+use Rattle.bsc_network.specs.Changes.{changed_at, with_found, with_hub, with_node, with_link, with_side, with_traffic, puts_at}
+use Rattle.bsc_network.specs.HubCalls.{called}
+use Rattle.bsc_network.specs.NodeSides.{hold_of, puts_on, puts_by, holds}
+use Rattle.bsc_network.specs.Dialling.{dials, new_link}
+use Rattle.bsc_network.specs.Networks.{makes}
 use Rattle.bsc_network.proofs.Places.{get-changed, get-other, got-longer, one_or_two}
-use Rattle.bsc_network_laws.proofs.Acting.{goes_on_in}
+use Rattle.bsc_network_laws.proofs.Moves.{Lets}
+use Rattle.bsc_network_laws.proofs.Acting.{goes_on_in, LetsActs, lets-hears}
+use Rattle.bsc_network_laws.proofs.Sides.{with_call}
+use Rattle.bsc_network_laws.proofs.Stepping.{begun, lets-makes}
 
 -- ---- lists
 
@@ -91,6 +106,9 @@ pub record Lasts (u v : World) : Type 0 where
   pub nodes : AllStay NodeGrows u.nodes v.nodes
   pub links : AllStay LinkGrows u.links v.links
 
+pub lasts-none : (w : World) → Lasts w w
+lasts-none w = record { hubs = stay-none HubGrows hub-none w.hubs; nodes = stay-none NodeGrows node-none w.nodes; links = stay-none LinkGrows link-none w.links }
+
 pub lasts-then : (u v w : World) → Lasts u v → Lasts v w → Lasts u w
 lasts-then u v w f g = record {
   hubs = stay-then HubGrows hub-then u.hubs v.hubs w.hubs f.hubs g.hubs;
@@ -104,6 +122,9 @@ lasts-same u v hubs nodes links = record {
   nodes = subst (AllStay NodeGrows u.nodes) (sym nodes) (stay-none NodeGrows node-none u.nodes);
   links = subst (AllStay LinkGrows u.links) (sym links) (stay-none LinkGrows link-none u.links);
 }
+
+lasts-hub : (w : World) (j : ℕ) (f : Hub → Hub) → ((h : Hub) → HubGrows h (f h)) → Lasts w (with_hub j f w)
+lasts-hub w j f step = record { hubs = stay-changed HubGrows hub-none j f step w.hubs; nodes = stay-none NodeGrows node-none w.nodes; links = stay-none LinkGrows link-none w.links }
 
 lasts-node : (w : World) (k : ℕ) (f : Node → Node) → ((n : Node) → NodeGrows n (f n)) → Lasts w (with_node k f w)
 lasts-node w k f step = record { hubs = stay-none HubGrows hub-none w.hubs; nodes = stay-changed NodeGrows node-none k f step w.nodes; links = stay-none LinkGrows link-none w.links }
@@ -120,8 +141,80 @@ link-traffic Down f step x = record { from = refl; to = refl; up = longer-none x
 pub lasts-puts : (w : World) (l : ℕ) (way : Way) (place : ℕ) (content : Content) → Lasts w (puts_at l way place content w)
 lasts-puts w l way place content = lasts-link w l _ (link-traffic way (and_then (record { content = content; sent_at = place })) (λ t. longer-by t.put (record { content = content; sent_at = place } ∷ [])))
 
+pub lasts-side : (w : World) (l : ℕ) (f : HubSide → HubSide) → Lasts w (with_side l f w)
+lasts-side w l f = lasts-link w l _ (λ x. record { from = refl; to = refl; up = longer-none x.up.put; down = longer-none x.down.put })
+
+pub lasts-called : (w : World) (j caller place : ℕ) (call : Call) → Lasts w (called j caller place call w)
+lasts-called w j caller place call = lasts-hub w j (with_call w caller place call) (λ h. record { about = refl; posted = longer-by h.posted _ })
+
+pub lasts-holds : (w : World) (k : ℕ) (h : Hold) → Lasts w (holds k h w)
+lasts-holds w k h = lasts-node w k _ (λ n. record { made = refl; log = longer-none n.log; holds = longer-by n.holds (h ∷ []) })
+
 pub lasts-log : (w : World) (k : ℕ) (event : TimedEvent) → Lasts w (goes_on_in k event w)
 lasts-log w k event = lasts-node w k _ (λ n. record { made = refl; log = longer-by n.log _; holds = longer-none n.holds })
 
 pub lasts-longer : (w : World) (x : Link) → Lasts w (record w { links = w.links ++ x ∷ [] })
 lasts-longer w x = record { hubs = stay-none HubGrows hub-none w.hubs; nodes = stay-none NodeGrows node-none w.nodes; links = stay-longer LinkGrows link-none w.links (x ∷ []) }
+
+pub lasts-dials : (w : World) (k : ℕ) (name : LinkName) (t : Target) → Lasts w (dials k name t w)
+lasts-dials w k name t =
+    let v : World = record w { links = w.links ++ new_link w k t ∷ [] } in
+    lasts-then w v (dials k name t w) (lasts-longer w (new_link w k t)) (lasts-holds v k _)
+
+pub lasts-puts_by : (w : World) (k : ℕ) (name : LinkName) (content : Content) → Lasts w (puts_by k name content w)
+lasts-puts_by w k name content = at_node (node_at w k)
+  where
+    at_hold : (o : Option Hold) → Lasts w (with_found o (puts_on content) w)
+    at_hold None = lasts-none w
+    at_hold (Some h) = lasts-puts w h.link _ w.steps content
+
+    at_node : (o : Option Node) → Lasts w (with_found o (λ n. with_found (hold_of name n) (puts_on content)) w)
+    at_node None = lasts-none w
+    at_node (Some n) = at_hold (hold_of name n)
+
+pub lets_acts : (k : ℕ) (by : Option Arrival) → LetsActs k by (λ action. ⊤) Lasts
+lets_acts k by = record {
+  none = lasts-none;
+  then = lasts-then;
+  each = record {
+    puts = λ w name o known. lasts-puts_by w k name (Message o);
+    closes = λ w name. lasts-puts_by w k name Closed;
+    takes = λ w name a is known. lasts-holds w k _;
+    dials_as = λ w name uri t known leads. lasts-dials w k name t;
+    fails_as = λ w name. lasts-same w _ refl refl refl;
+    refuses_it = λ w a is. lasts-puts w a.link _ w.steps Closed;
+    delivers_one = λ w d a is known. lasts-same w _ refl refl refl;
+  };
+}
+
+pub lets : (D : WorldStep) → Lets D Lasts
+lets D = record {
+  none = lasts-none;
+  then = lasts-then;
+  each = record {
+    over = λ w l. lasts-side w l _;
+    tells = λ w l j h k e other side. lasts-side w l _;
+    empty = λ w l. lasts-side w l _;
+    closes_down = λ w l. lasts-puts w l Down w.steps Closed;
+    hub_puts = λ w l j h k st o side wanted is. lasts-puts w l Down w.steps (Message o);
+    leaves = λ w l j h k c side conn. lasts-called w j l w.steps _;
+    stops = λ w j h here is. lasts-called w j _ w.steps _;
+    asks = λ w l j place h k m who side came said is. lasts-called w j l place _;
+    joins = λ w l j place h k m who c replaced side came said is.
+        let v = called j l place (Connect who) w in
+        let u = with_side l (λ s. record s { conn = Some c }) v in
+        lasts-then w v _ (lasts-called w j l place _) (lasts-then v u _ (lasts-side v l _) (lasts-side u l _));
+    forwards = λ w l j place h k m c side conn came said. lasts-called w j l place _;
+    takes = λ w l j h k c f side conn is.
+        let v = with_side l (λ s. record s { taken = s.taken + 1 }) w in
+        lasts-then w v _ (lasts-side w l _) (lasts-puts v l Down f.sent_at (Message f.octets));
+    hears = λ w k n by e here come fit. lets-hears k by (λ action. ⊤) Lasts (lets_acts k by) _ n w (lasts-log w k _) (λ action among. tt);
+    forgets = λ w later. lasts-same w _ refl refl refl;
+    arrives = λ w l way k x here is. lasts-link w l _ (link-traffic way without_front (λ t. longer-none t.put));
+    loses = λ w l. lasts-link w l _ (λ x. record { from = refl; to = refl; up = longer-none x.up.put; down = longer-none x.down.put });
+  };
+}
+
+-- Over a step all that stands grows.
+pub lasts-makes : (w : World) (t : TimedStep) → Lasts w (makes w t)
+lasts-makes w t = lasts-then w (begun w t) (makes w t) (lasts-same w _ refl refl refl) (lets-makes Lasts t (lets t.step) (λ u. lasts-same u _ refl refl refl) w)
