@@ -1,7 +1,7 @@
 //! A hub that is served, in memory: links that meet, links that get no session, and each end.
 ghost use Rattle.std.specs.Prelude.{◌≤◌, IfOk};
 ghost use Rattle.std.specs.Arc.{arc_value};
-ghost use Rattle.bsc_edge.specs.Threads.{Begins};
+ghost use Rattle.bsc_edge.specs.Threads.{Begins, job_of};
 ghost use Rattle.bsc_hub.specs.Passing.{IsCaller};
 
 mod scene;
@@ -196,7 +196,7 @@ fn links_without_a_session_are_closed(rt: HostRuntime) -> Result<(), Fail> {
 
 /// There is no memory for a session.
 fn begin_none(session: Session) -> Result<Thread, Unstarted<Session>>
-    ensures { Begins result session }
+    ensures { Begins job_of result session }
 {
     Err(Unstarted::NoMemory(session))
 }
