@@ -25,7 +25,7 @@ ghost use Rattle.bsc_commands.specs.Statuses.{EndsBy};
 
 use crate::playing::{Command, play};
 use bsc_audit_command::run_audit;
-use bsc_edge::{Acceptor, Clock, Dialer, Files, Link, Spawner};
+use bsc_edge::{Acceptor, Clock, Dialer, Files, Link, Spawner, Waiter};
 use bsc_hub::Kept;
 use bsc_hub_command::{HubWords, run_hub};
 use bsc_load_command::run_load;
@@ -60,6 +60,7 @@ fn run_asked<
     K: Sink,
     F: Files,
     C: Clock + Drop,
+    V: Waiter,
     W: Words,
     L: Link + Drop,
     A: Acceptor<L>,
@@ -73,6 +74,7 @@ fn run_asked<
     sink: &mut K,
     files: &mut F,
     clock: &mut C,
+    waiter: &mut V,
     random: &mut W,
     acceptor: &mut A,
     dialer: &mut D,
@@ -117,6 +119,7 @@ fn run_asked<
             port = A.bound acceptor.old;
             faults = A.faults acceptor.old;
             readings = C.readings clock.old;
+            waited = V.waits waiter.old;
             random = random.old;
             written = K.held sink.old;
           };
@@ -129,6 +132,7 @@ fn run_asked<
             port = A.bound acceptor.new;
             faults = A.faults acceptor.new;
             readings = C.readings clock.new;
+            waited = V.waits waiter.new;
             random = random.new;
             written = K.held sink.new;
           };
@@ -158,6 +162,7 @@ fn run_asked<
           source = source.old;
           files = files.old;
           clock = clock.old;
+          waiter = waiter.old;
           random = random.old;
           acceptor = acceptor.old;
           dialer = dialer.old;
@@ -168,6 +173,7 @@ fn run_asked<
           source = source.new;
           files = files.new;
           clock = clock.new;
+          waiter = waiter.new;
           random = random.new;
           acceptor = acceptor.new;
           dialer = dialer.new;
@@ -201,6 +207,7 @@ fn run_asked<
             sink,
             files,
             clock,
+            waiter,
             random,
             acceptor,
             dialer,
@@ -232,6 +239,7 @@ pub fn run<
     K: Sink,
     F: Files,
     C: Clock + Drop,
+    V: Waiter,
     W: Words,
     L: Link + Drop,
     A: Acceptor<L>,
@@ -245,6 +253,7 @@ pub fn run<
     sink: &mut K,
     files: &mut F,
     clock: &mut C,
+    waiter: &mut V,
     random: &mut W,
     acceptor: &mut A,
     dialer: &mut D,
@@ -293,6 +302,7 @@ pub fn run<
             port = A.bound acceptor.old;
             faults = A.faults acceptor.old;
             readings = C.readings clock.old;
+            waited = V.waits waiter.old;
             random = random.old;
             written = K.held sink.old;
           };
@@ -305,6 +315,7 @@ pub fn run<
             port = A.bound acceptor.new;
             faults = A.faults acceptor.new;
             readings = C.readings clock.new;
+            waited = V.waits waiter.new;
             random = random.new;
             written = K.held sink.new;
           };
@@ -353,6 +364,7 @@ pub fn run<
           source = source.old;
           files = files.old;
           clock = clock.old;
+          waiter = waiter.old;
           random = random.old;
           acceptor = acceptor.old;
           dialer = dialer.old;
@@ -363,6 +375,7 @@ pub fn run<
           source = source.new;
           files = files.new;
           clock = clock.new;
+          waiter = waiter.new;
           random = random.new;
           acceptor = acceptor.new;
           dialer = dialer.new;
@@ -382,7 +395,8 @@ pub fn run<
 {
     match read_words(alloc, words) {
         Ok(asked) => run_asked(
-            rt, alloc, asked, source, sink, files, clock, random, acceptor, dialer, spawner, kept,
+            rt, alloc, asked, source, sink, files, clock, waiter, random, acceptor, dialer,
+            spawner, kept,
         ),
         Err(fault) => end_unasked(sink, fault),
     }

@@ -4,14 +4,16 @@ ghost use Rattle.std.specs.Prelude.{◌≡◌, ◌≤◌, None};
 use crate::handshakes::{Handshakes, Turned};
 use crate::socket_link::{AcceptedLink, HANDSHAKE_MS, accepted};
 use bsc_edge::{Acceptor, Arrived, Failed, Kind, LinkFault};
-use bsc_live::{Bells, Moment};
+use bsc_live::{Bells, Moment, Seat, Watch};
 use bsc_octets::NoMemory;
 use mio::net::{TcpListener, TcpStream};
+use mio::unix::SourceFd;
 use mio::{Events, Interest, Poll, Token};
 use std::alloc::Global;
 use std::collections::VecDeque;
 use std::io::{self, ErrorKind};
 use std::net::{Ipv4Addr, Net, SocketAddr};
+use std::os::fd::AsRawFd;
 use std::sync::{Arc, Wait};
 use std::time::{Clock, Duration};
 
@@ -26,6 +28,9 @@ const SWEEP: u64 = 100_000;
 
 /// Where a stream couldn't be taken, the next try comes after so many microseconds.
 const AGAIN: u64 = 10_000;
+
+/// So many links of a gate that is watched may wait to be handed out. Each has a seat, and others need some too.
+const DONE: usize = 256;
 
 /// What the listener may hold of which no event will tell.
 #[derive(Clone, Copy, PartialEq, Eq)]
@@ -53,6 +58,8 @@ pub struct Gate<R: Clock + Net + Wait + Copy + Drop> {
     backlog: Backlog,
     handshakes: Handshakes,
     done: VecDeque<AcceptedLink<R>>,
+    watch: Option<Arc<Watch>>,
+    seat: Option<Seat>,
     faults: u64,
     quiets: u64,
 }
@@ -97,9 +104,27 @@ impl<R: Clock + Net + Wait + Copy + Drop> Gate<R> {
             backlog: Backlog::Empty,
             handshakes,
             done: VecDeque::new(alloc),
+            watch: None,
+            seat: None,
             faults: 0,
             quiets: 0,
         })
+    }
+
+    /// The same gate, which is waited for at this watch, as are its links.
+    pub fn watched_by(self, watch: Arc<Watch>) -> io::Result<Gate<R>> {
+        let mut gate = self;
+        let fd = gate.poll.as_raw_fd();
+        gate.seat = Some(Seat::take(&watch, &mut SourceFd(&fd))?);
+        gate.watch = Some(watch);
+        Ok(gate)
+    }
+
+    /// Says at its watch whether it has more of which no event will tell.
+    fn note(&self, is_full: bool) {
+        if let Some(seat) = &self.seat {
+            seat.set_hot(is_full || self.backlog == Backlog::More || !self.done.is_empty());
+        }
     }
 
     /// The address that it listens at, once it is bound. Of port 0 the system chose one.
@@ -165,7 +190,10 @@ impl<R: Clock + Net + Wait + Copy + Drop> Gate<R> {
         if self.poll.registry().deregister(&mut socket).is_err() {
             return;
         }
-        if let Ok(link) = accepted(self.rt, alloc, socket, &self.bells) {
+        if self.watch.is_some() && DONE <= self.done.len() {
+            return;
+        }
+        if let Ok(link) = accepted(self.rt, alloc, socket, &self.bells, &self.watch) {
             let _ = self.done.push_back(link);
         }
     }
@@ -239,6 +267,7 @@ impl<R: Clock + Net + Wait + Copy + Drop> Gate<R> {
             self.take_streams(alloc, now);
         }
         self.handshakes.sweep(now);
+        self.note(count == BATCH);
         Ok(())
     }
 

@@ -1,7 +1,7 @@
 //! The opener of sockets.
 use crate::socket_link::{HANDSHAKE_MS, alive};
 use bsc_edge::LinkFault;
-use bsc_live::{Bells, LivePatience, LiveStream, Moment};
+use bsc_live::{Bells, LivePatience, LiveStream, Moment, Watch};
 use bsc_ws::{Opener, RandomKeys};
 use mio::net::TcpStream;
 use std::alloc::Global;
@@ -15,12 +15,24 @@ use std::time::Clock;
 pub struct SocketOpener<R> {
     rt: R,
     bells: Arc<Bells>,
+    watch: Option<Arc<Watch>>,
 }
 
 impl<R> SocketOpener<R> {
     /// An opener for the links of a hub or a node that has these bells.
     pub fn new(rt: R, bells: Arc<Bells>) -> SocketOpener<R> {
-        SocketOpener { rt, bells }
+        SocketOpener {
+            rt,
+            bells,
+            watch: None,
+        }
+    }
+
+    /// The same opener, whose links are waited for at this watch.
+    pub fn watched_by(self, watch: Arc<Watch>) -> SocketOpener<R> {
+        let mut opener = self;
+        opener.watch = Some(watch);
+        opener
     }
 }
 
@@ -38,7 +50,7 @@ impl<R: Clock + Net + Wait + RandomSource + Copy + Drop> Opener<
         let Ok(socket) = TcpStream::connect(&self.rt, SocketAddr::V4(address)) else {
             return Err(LinkFault::Failed);
         };
-        let (stream, wait) = alive(self.rt, alloc, socket, &self.bells)?;
+        let (stream, wait) = alive(self.rt, alloc, socket, &self.bells, &self.watch)?;
         let (Ok(now), Ok(bell)) = (Moment::now(&self.rt), stream.bell()) else {
             return Err(LinkFault::Failed);
         };

@@ -1,9 +1,10 @@
 //! Links over sockets.
 use bsc_edge::LinkFault;
-use bsc_live::{Bells, LivePatience, LiveStream};
+use bsc_live::{Bells, LivePatience, LiveStream, Watch};
 use bsc_ws::{NoMask, StreamLink, settle};
 use mio::net::TcpStream;
 use std::alloc::Global;
+use std::io;
 use std::net::Net;
 use std::sync::{Arc, Wait};
 use std::time::Clock;
@@ -17,14 +18,29 @@ pub const HANDSHAKE_MS: u32 = 1_000;
 /// The time in which a peer must take a put, in milliseconds.
 pub const WRITE_MS: u32 = 5_000;
 
+/// A live stream over a socket, which is waited for at this watch, where there is one.
+fn stream_over<R: Clock + Net + Copy + Drop>(
+    rt: R,
+    alloc: Global,
+    socket: TcpStream,
+    watch: &Option<Arc<Watch>>,
+) -> io::Result<LiveStream<R>> {
+    let stream = LiveStream::over(rt, alloc, socket, WRITE_MS)?;
+    match watch {
+        Some(watch) => stream.watched_by(watch),
+        None => Ok(stream),
+    }
+}
+
 /// A live stream over a socket, and the patience of its link.
 pub(crate) fn alive<R: Clock + Net + Wait + Copy + Drop>(
     rt: R,
     alloc: Global,
     socket: TcpStream,
     bells: &Arc<Bells>,
+    watch: &Option<Arc<Watch>>,
 ) -> Result<(LiveStream<R>, LivePatience<R>), LinkFault> {
-    let Ok(stream) = LiveStream::over(rt, alloc, socket, WRITE_MS) else {
+    let Ok(stream) = stream_over(rt, alloc, socket, watch) else {
         return Err(LinkFault::Failed);
     };
     let Ok(bell) = stream.bell() else {
@@ -42,7 +58,8 @@ pub(crate) fn accepted<R: Clock + Net + Wait + Copy + Drop>(
     alloc: Global,
     socket: TcpStream,
     bells: &Arc<Bells>,
+    watch: &Option<Arc<Watch>>,
 ) -> Result<AcceptedLink<R>, LinkFault> {
-    let (stream, wait) = alive(rt, alloc, socket, bells)?;
+    let (stream, wait) = alive(rt, alloc, socket, bells, watch)?;
     Ok(settle(alloc, stream, wait, NoMask))
 }

@@ -2,7 +2,8 @@
 //!
 //! Start at `stream`: a `LiveStream` reads and writes a socket that doesn't block. While it waits it stands in one
 //! `poll`, which its socket or its `Bell` ends. `Bells` finds the bell of a connection, and `LivePatience` is what a
-//! link sets the waits and rings the bells by. No clause says when a wait ends: the system holds that.
+//! link sets the waits and rings the bells by. At a `Watch` many streams are waited for together. No clause says when a wait
+//! ends: the system holds that.
 #![tactic(auto)]
 
 mod bell;
@@ -10,9 +11,11 @@ mod bells;
 mod moment;
 mod patience;
 mod stream;
+mod watch;
 
 pub use bell::Bell;
 pub use bells::Bells;
 pub use moment::Moment;
 pub use patience::LivePatience;
 pub use stream::LiveStream;
+pub use watch::{Seat, Watch, Watcher};

@@ -1,6 +1,7 @@
 //! Streams over sockets that don't block.
 use crate::bell::Bell;
 use crate::moment::{Moment, wait_of};
+use crate::watch::{Seat, Watch};
 use mio::net::TcpStream;
 use mio::{Events, Interest, Poll, Token, Waker};
 use std::alloc::Global;
@@ -26,6 +27,8 @@ pub struct LiveStream<R> {
     write_ms: u32,
     /// When the octets that were written since the last flush must have left, once one of them had to wait.
     write_until: Option<Moment>,
+    /// Where it is waited for with others.
+    seat: Option<Seat>,
 }
 
 impl<R: Clock + Net + Copy + Drop> LiveStream<R> {
@@ -56,11 +59,20 @@ impl<R: Clock + Net + Copy + Drop> LiveStream<R> {
             bell,
             write_ms,
             write_until: None,
+            seat: None,
         })
     }
 }
 
 impl<R: Clock + Drop> LiveStream<R> {
+    /// The same stream, which is waited for at this watch too. A read that doesn't wait asks the system for octets only where
+    /// some may be there.
+    pub fn watched_by(self, watch: &Arc<Watch>) -> io::Result<LiveStream<R>> {
+        let mut stream = self;
+        stream.seat = Some(Seat::take(watch, &mut stream.socket)?);
+        Ok(stream)
+    }
+
     /// The stream's bell, to be shared.
     pub fn bell(&self) -> io::Result<Arc<Bell>> {
         match Arc::try_clone(&self.bell) {
@@ -72,6 +84,9 @@ impl<R: Clock + Drop> LiveStream<R> {
     /// Sleeps until something is new. False where the time is over or the bell has rung; true may come for no reason,
     /// so that the caller tries the socket again.
     fn sleeps(&mut self) -> io::Result<bool> {
+        if !self.bell.waits() {
+            return Ok(false);
+        }
         let left = self.bell.until().left(Moment::now(&self.clock)?);
         if left == 0 || !self.bell.falls_asleep() {
             return Ok(false);
@@ -99,7 +114,25 @@ impl<R: Clock + Drop> LiveStream<R> {
 
     /// Whether the time of the reads is over.
     fn is_late(&self) -> io::Result<bool> {
+        if !self.bell.waits() {
+            return Ok(true);
+        }
         Ok(self.bell.until().left(Moment::now(&self.clock)?) == 0)
+    }
+
+    /// Whether there is nothing to read and nothing to wait for.
+    fn is_cold(&self) -> bool {
+        match &self.seat {
+            Some(seat) => !self.bell.waits() && !seat.is_hot(),
+            None => false,
+        }
+    }
+
+    /// Notes whether a read of the socket gave octets. Where it did, more may be there, also in the buffer of who reads.
+    fn note(&self, gave: bool) {
+        if let Some(seat) = &self.seat {
+            seat.set_hot(gave);
+        }
     }
 }
 
@@ -109,11 +142,18 @@ impl<R: Clock + Drop> Read for LiveStream<R> {
         if !self.bell.is_first_read() && self.is_late()? {
             return Err(io::Error::from(ErrorKind::WouldBlock));
         }
+        if self.is_cold() {
+            return Err(io::Error::from(ErrorKind::WouldBlock));
+        }
         for _ in 0..u64::MAX {
             match self.socket.read(buf) {
-                Ok(n) => return Ok(n),
+                Ok(n) => {
+                    self.note(true);
+                    return Ok(n);
+                }
                 Err(error) => {
                     if error.kind() == ErrorKind::WouldBlock {
+                        self.note(false);
                         if !self.sleeps()? {
                             return Err(error);
                         }

@@ -15,6 +15,7 @@ use Rattle.bsc_node_run.specs.declared.due.Due.{Due}
 use Rattle.bsc_node_run.specs.declared.halt.Halt.{Halt}
 use Rattle.bsc_node_run.specs.declared.run_end.RunEnd.{RunEnd}
 use Rattle.bsc_node_run.specs.Drawing.{GoesDrawing, at_rest}
+use Rattle.bsc_node_run.specs.Resting.{HasRested}
 use Rattle.bsc_node_run.specs.Running.{Run}
 use Rattle.bsc_node_run.specs.Scripts.{script_of, wish_of}
 use Rattle.bsc_node_run.specs.Stopping.{RunFails}
@@ -50,13 +51,15 @@ IsBoundBy (Some port) p p' = Tells p' (Some port)
 IsBoundBy None p p' = Stays p p'
 
 -- What there is outside a node that is run, at a moment, each as far as it is told: the dialer; the acceptor, with the port that
--- it is bound to and its count of faults; the readings of the clock; who draws its random words; and what was written.
+-- it is bound to and its count of faults; the readings of the clock; the waits between turns that were asked for; who draws its
+-- random words; and what was written.
 pub record NodeWorld (L W : Type 0) : Type 0 where
   pub dialled : Dialling L
   pub door : Admitting L
   pub port : Option (Option ℕ)
   pub faults : ℕ
   pub readings : Option (List ℕ)
+  pub waited : Option (List ℕ)
   pub random : W
   pub written : Option (List ℕ)
 
@@ -79,11 +82,12 @@ module _ {L W : Type 0} where
       × EndsWith s 6 before.written after.written link_line)
       ⊎ ((Stays before.port after.port ⊎ IsBoundBy v.direct_port before.port after.port) × RanOut s before.written after.written)
 
-  -- Nothing was dialled, no link was asked for, the clock wasn't read, and no word was drawn.
+  -- Nothing was dialled, no link was asked for, the clock wasn't read, nothing was waited for, and no word was drawn.
   pub record IsIdle (before after : NodeWorld L W) : Type 0 where
     pub dialled : after.dialled ≡ before.dialled
     pub door : IsUnasked before.door after.door
     pub readings : after.readings ≡ before.readings
+    pub waited : after.waited ≡ before.waited
     pub random : after.random ≡ before.random
 
   -- Nothing was touched but the output.
@@ -97,7 +101,9 @@ module _ {L W : Type 0} (talk : L → Option (List Said)) (gives : W → Option 
   -- made as many turns as the settings allow at most, and accepts links exactly where they have a port. What the node of that log told is what was written, and what it
   -- dialled is what was dialled; it told that it has ended exactly where the run is finished. Where no link came, the
   -- log is that of a node alone, by the readings of the clock and the lines of the script. A run that a fault ended is such a
-  -- run up to there, with one action more in part. What the run wrote stands before what is written of its end.
+  -- run up to there, with one action more in part. However it ended, there was one wait before each turn: of no length before the
+  -- first, and then of 50 ms at most, and not past the time of the next line. What the run wrote stands before what is written of
+  -- its end.
   pub record Ran (v : NodeSettings) (script : List ℕ) (before after : NodeWorld L W) (s : ℕ) : Type 0 where
     pub lines : List Due
     pub reads : script_of script ≡ Ok (map wish_of lines)
@@ -116,10 +122,11 @@ module _ {L W : Type 0} (talk : L → Option (List Said)) (gives : W → Option 
     pub said : IfOk end (λ e. IsSaid last before.dialled.calls after.dialled.calls before.written written × EndsAsTold e last)
     pub lonely : IfOk end (λ e. NoLinkCame before.dialled.calls after.dialled.calls door.left after.door.left
         → (times : List ℕ) × Grows before.readings after.readings times × (last ≡ alone (made_by v) lines times))
+    pub rests : HasRested lines before.readings after.readings before.waited after.waited
     pub says : SaysEnd end s written after.written
 
-  -- Either no node was run, nothing was dialled, no link was asked for, the clock wasn't read and no word was drawn; or a node
-  -- was run.
+  -- Either no node was run, nothing was dialled, no link was asked for, the clock wasn't read, nothing was waited for and no word
+  -- was drawn; or a node was run.
   abbrev pub Comes : NodeSettings → List ℕ → NodeWorld L W → NodeWorld L W → ℕ → Type 0
   Comes v script before after s =
       (IsIdle before after × NotRun v script before after s) ⊎ Ran v script before after s

@@ -12,7 +12,7 @@ ghost use Rattle.bsc_node_command.specs.Comes.{Comes, RunsScript, RunsFiles};
 use crate::playing::run_node;
 use crate::texts::settings_text;
 use crate::words::NodeWords;
-use bsc_edge::{Acceptor, Clock, Dialer, FileFault, Files, Link};
+use bsc_edge::{Acceptor, Clock, Dialer, FileFault, Files, Link, Waiter};
 use bsc_node_run::Words;
 use bsc_octets::Octets;
 use bsc_outside::Sink;
@@ -96,13 +96,23 @@ fn load_settings<K: Sink, F: Files>(
 }
 
 /// Loads the script, and runs a node of these settings by it.
-fn run_script<K: Sink, F: Files, C: Clock, W: Words, L: Link + Drop, A: Acceptor<L>, D: Dialer<L>>(
+fn run_script<
+    K: Sink,
+    F: Files,
+    C: Clock,
+    V: Waiter,
+    W: Words,
+    L: Link + Drop,
+    A: Acceptor<L>,
+    D: Dialer<L>,
+>(
     alloc: Global,
     settings: &NodeSettings,
     path: &str,
     sink: &mut K,
     files: &mut F,
     clock: &mut C,
+    waiter: &mut V,
     random: &mut W,
     acceptor: &mut A,
     dialer: &mut D,
@@ -116,6 +126,7 @@ fn run_script<K: Sink, F: Files, C: Clock, W: Words, L: Link + Drop, A: Acceptor
             port = A.bound acceptor.old;
             faults = A.faults acceptor.old;
             readings = C.readings clock.old;
+            waited = V.waits waiter.old;
             random = random.old;
             written = K.held sink.old;
           };
@@ -128,6 +139,7 @@ fn run_script<K: Sink, F: Files, C: Clock, W: Words, L: Link + Drop, A: Acceptor
             port = A.bound acceptor.new;
             faults = A.faults acceptor.new;
             readings = C.readings clock.new;
+            waited = V.waits waiter.new;
             random = random.new;
             written = K.held sink.new;
           };
@@ -145,6 +157,7 @@ fn run_script<K: Sink, F: Files, C: Clock, W: Words, L: Link + Drop, A: Acceptor
             script.as_slice(),
             sink,
             clock,
+            waiter,
             random,
             acceptor,
             dialer,
@@ -158,6 +171,7 @@ pub fn run_node_files<
     K: Sink,
     F: Files,
     C: Clock,
+    V: Waiter,
     W: Words,
     L: Link + Drop,
     A: Acceptor<L>,
@@ -168,6 +182,7 @@ pub fn run_node_files<
     sink: &mut K,
     files: &mut F,
     clock: &mut C,
+    waiter: &mut V,
     random: &mut W,
     acceptor: &mut A,
     dialer: &mut D,
@@ -183,6 +198,7 @@ pub fn run_node_files<
             port = A.bound acceptor.old;
             faults = A.faults acceptor.old;
             readings = C.readings clock.old;
+            waited = V.waits waiter.old;
             random = random.old;
             written = K.held sink.old;
           };
@@ -195,6 +211,7 @@ pub fn run_node_files<
             port = A.bound acceptor.new;
             faults = A.faults acceptor.new;
             readings = C.readings clock.new;
+            waited = V.waits waiter.new;
             random = random.new;
             written = K.held sink.new;
           };
@@ -217,6 +234,7 @@ pub fn run_node_files<
             sink,
             files,
             clock,
+            waiter,
             random,
             acceptor,
             dialer,

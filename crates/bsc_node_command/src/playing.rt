@@ -13,7 +13,7 @@ ghost use Rattle.bsc_node_command.specs.Comes.{Comes, IsBoundBy, IsUnasked, Ran,
 
 use crate::making::make_node;
 use crate::running_node::RunningNode;
-use bsc_edge::{Acceptor, Clock, Dialer, Failed, Link};
+use bsc_edge::{Acceptor, Clock, Dialer, Failed, Link, Waiter};
 use bsc_node_run::{Due, Halt, RunEnd, ScriptFault, Words, read_script};
 use bsc_outside::Sink;
 use bsc_player::{PlayEnd, end_play, end_with, out_of_memory};
@@ -53,13 +53,14 @@ fn bind<L, A: Acceptor<L>>(settings: &NodeSettings, acceptor: &mut A) -> Result<
 }
 
 /// Runs a node that was made, and writes what it comes to.
-fn run_made<K: Sink, C: Clock, W: Words, L: Link + Drop, A: Acceptor<L>, D: Dialer<L>>(
+fn run_made<K: Sink, C: Clock, V: Waiter, W: Words, L: Link + Drop, A: Acceptor<L>, D: Dialer<L>>(
     alloc: Global,
     settings: &NodeSettings,
     node: RunningNode,
     lines: &[Due],
     sink: &mut K,
     clock: &mut C,
+    waiter: &mut V,
     random: &mut W,
     acceptor: &mut A,
     dialer: &mut D,
@@ -75,6 +76,7 @@ fn run_made<K: Sink, C: Clock, W: Words, L: Link + Drop, A: Acceptor<L>, D: Dial
           port = port;
           faults = faults;
           readings = C.readings clock.old;
+          waited = V.waits waiter.old;
           random = random.old;
           written = K.held sink.old;
         })
@@ -84,6 +86,7 @@ fn run_made<K: Sink, C: Clock, W: Words, L: Link + Drop, A: Acceptor<L>, D: Dial
           port = A.bound acceptor.new;
           faults = A.faults acceptor.new;
           readings = C.readings clock.new;
+          waited = V.waits waiter.new;
           random = random.new;
           written = K.held sink.new;
         }) result }
@@ -102,6 +105,7 @@ fn run_made<K: Sink, C: Clock, W: Words, L: Link + Drop, A: Acceptor<L>, D: Dial
         settings.turns,
         sink,
         clock,
+        waiter,
         random,
         acceptor,
         dialer,
@@ -110,12 +114,13 @@ fn run_made<K: Sink, C: Clock, W: Words, L: Link + Drop, A: Acceptor<L>, D: Dial
 }
 
 /// Binds its port, where it has one, makes the node, and runs it.
-fn run_lines<K: Sink, C: Clock, W: Words, L: Link + Drop, A: Acceptor<L>, D: Dialer<L>>(
+fn run_lines<K: Sink, C: Clock, V: Waiter, W: Words, L: Link + Drop, A: Acceptor<L>, D: Dialer<L>>(
     alloc: Global,
     settings: &NodeSettings,
     lines: &[Due],
     sink: &mut K,
     clock: &mut C,
+    waiter: &mut V,
     random: &mut W,
     acceptor: &mut A,
     dialer: &mut D,
@@ -128,6 +133,7 @@ fn run_lines<K: Sink, C: Clock, W: Words, L: Link + Drop, A: Acceptor<L>, D: Dia
           port = A.bound acceptor.old;
           faults = A.faults acceptor.old;
           readings = C.readings clock.old;
+          waited = V.waits waiter.old;
           random = random.old;
           written = K.held sink.old;
         })
@@ -137,6 +143,7 @@ fn run_lines<K: Sink, C: Clock, W: Words, L: Link + Drop, A: Acceptor<L>, D: Dia
           port = A.bound acceptor.new;
           faults = A.faults acceptor.new;
           readings = C.readings clock.new;
+          waited = V.waits waiter.new;
           random = random.new;
           written = K.held sink.new;
         }) result }
@@ -149,7 +156,7 @@ fn run_lines<K: Sink, C: Clock, W: Words, L: Link + Drop, A: Acceptor<L>, D: Dia
     match bind(settings, acceptor) {
         Ok(()) => match make_node(alloc, settings) {
             Ok(node) => run_made(
-                alloc, settings, node, lines, sink, clock, random, acceptor, dialer,
+                alloc, settings, node, lines, sink, clock, waiter, random, acceptor, dialer,
             ),
             Err(_) => out_of_memory(sink),
         },
@@ -158,12 +165,13 @@ fn run_lines<K: Sink, C: Clock, W: Words, L: Link + Drop, A: Acceptor<L>, D: Dia
 }
 
 /// Reads the whole script, and runs a node of the settings by it.
-fn run_text<K: Sink, C: Clock, W: Words, L: Link + Drop, A: Acceptor<L>, D: Dialer<L>>(
+fn run_text<K: Sink, C: Clock, V: Waiter, W: Words, L: Link + Drop, A: Acceptor<L>, D: Dialer<L>>(
     alloc: Global,
     settings: &NodeSettings,
     script: &[u8],
     sink: &mut K,
     clock: &mut C,
+    waiter: &mut V,
     random: &mut W,
     acceptor: &mut A,
     dialer: &mut D,
@@ -175,6 +183,7 @@ fn run_text<K: Sink, C: Clock, W: Words, L: Link + Drop, A: Acceptor<L>, D: Dial
           port = A.bound acceptor.old;
           faults = A.faults acceptor.old;
           readings = C.readings clock.old;
+          waited = V.waits waiter.old;
           random = random.old;
           written = K.held sink.old;
         })
@@ -184,6 +193,7 @@ fn run_text<K: Sink, C: Clock, W: Words, L: Link + Drop, A: Acceptor<L>, D: Dial
           port = A.bound acceptor.new;
           faults = A.faults acceptor.new;
           readings = C.readings clock.new;
+          waited = V.waits waiter.new;
           random = random.new;
           written = K.held sink.new;
         }) result }
@@ -200,6 +210,7 @@ fn run_text<K: Sink, C: Clock, W: Words, L: Link + Drop, A: Acceptor<L>, D: Dial
             script.as_slice(),
             sink,
             clock,
+            waiter,
             random,
             acceptor,
             dialer,
@@ -220,12 +231,21 @@ fn run_text<K: Sink, C: Clock, W: Words, L: Link + Drop, A: Acceptor<L>, D: Dial
 /// | 6 | the port can't be bound, or the acceptor failed | `fault link` |
 /// | 7 | memory ran out | `fault memory`, tried once |
 /// | 8 | the node made as many turns as its settings allow | `fault turns` |
-pub fn run_node<K: Sink, C: Clock, W: Words, L: Link + Drop, A: Acceptor<L>, D: Dialer<L>>(
+pub fn run_node<
+    K: Sink,
+    C: Clock,
+    V: Waiter,
+    W: Words,
+    L: Link + Drop,
+    A: Acceptor<L>,
+    D: Dialer<L>,
+>(
     alloc: Global,
     settings: &NodeSettings,
     script: &[u8],
     sink: &mut K,
     clock: &mut C,
+    waiter: &mut V,
     random: &mut W,
     acceptor: &mut A,
     dialer: &mut D,
@@ -238,6 +258,7 @@ pub fn run_node<K: Sink, C: Clock, W: Words, L: Link + Drop, A: Acceptor<L>, D: 
           port = A.bound acceptor.old;
           faults = A.faults acceptor.old;
           readings = C.readings clock.old;
+          waited = V.waits waiter.old;
           random = random.old;
           written = K.held sink.old;
         })
@@ -247,6 +268,7 @@ pub fn run_node<K: Sink, C: Clock, W: Words, L: Link + Drop, A: Acceptor<L>, D: 
           port = A.bound acceptor.new;
           faults = A.faults acceptor.new;
           readings = C.readings clock.new;
+          waited = V.waits waiter.new;
           random = random.new;
           written = K.held sink.new;
         }) result }
@@ -268,6 +290,6 @@ pub fn run_node<K: Sink, C: Clock, W: Words, L: Link + Drop, A: Acceptor<L>, D: 
     ensures links_later { A.faults acceptor.old ≤ A.faults acceptor.new }
 {
     run_text(
-        alloc, settings, script, sink, clock, random, acceptor, dialer,
+        alloc, settings, script, sink, clock, waiter, random, acceptor, dialer,
     )
 }

@@ -5,6 +5,7 @@ pub mod Giving
 pub mod Turns
 pub mod Slots
 pub mod Runs
+pub mod Resting
 pub mod Pieces
 pub mod Behind
 pub mod Told

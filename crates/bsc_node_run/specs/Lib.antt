@@ -5,6 +5,7 @@ pub mod Performing
 pub mod Turning
 pub mod Receiving
 pub mod Running
+pub mod Resting
 pub mod Putting
 pub mod Saying
 pub mod Scripts

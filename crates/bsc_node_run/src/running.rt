@@ -4,8 +4,10 @@ ghost use Rattle.bsc_outside.specs.Faults.{HasRisen};
 ghost use Rattle.bsc_edge.specs.Told.{Stays};
 ghost use Rattle.bsc_node_run.specs.declared.halt.Halt.{Halt as HaltType};
 ghost use Rattle.bsc_node_run.specs.Drawing.{GoesDrawing, at_rest};
+ghost use Rattle.bsc_node_run.specs.Resting.{HasRested, IsOverBy, longest_rest};
 ghost use Rattle.bsc_node_run.specs.Running.{Run};
 ghost use Rattle.bsc_node_run.specs.Stopping.{RunFails};
+ghost use Rattle.bsc_node_run.specs.Turning.{IsNotDue};
 ghost use Rattle.bsc_node_run.specs.Worlds.{admitting, dialling};
 
 use crate::due::Due;
@@ -13,16 +15,48 @@ use crate::halt::Halt;
 use crate::link_set::LinkSet;
 use crate::node_core::Core;
 use crate::run_end::RunEnd;
-use crate::turning::node_turn;
+use crate::turning::{node_turn, passed_by};
 use crate::words::Words;
-use bsc_edge::{Acceptor, Clock, Dialer, Link};
+use bsc_edge::{Acceptor, Clock, Dialer, Link, Waiter};
 use bsc_outside::Sink;
 use std::alloc::Global;
 
-/// Runs a node: makes turns until the node tells that it has ended, up to this number of them. The times of the turns
-/// don't fall.
+/// No wait between two turns is longer, in milliseconds: the times of the node's own come to it with no event.
+const LONGEST_REST_MS: u32 = 50;
+
+/// How long may be waited before the next turn, once so much time had passed at the last one: not at all where something is new
+/// of a link, and not past the time of the next line.
+fn rest_ms<L>(set: &LinkSet<L>, left: &[Due], passed: u64) -> u32
+    ensures short { result ≤ longest_rest }
+    ensures over { IsNotDue passed left.now → IsOverBy passed result left.now }
+{
+    if !set.waiting.is_empty() {
+        return 0;
+    }
+    let [due, ..] = left else {
+        return LONGEST_REST_MS;
+    };
+    let until = due.at.saturating_sub(passed);
+    if until < LONGEST_REST_MS as u64 {
+        until as u32
+    } else {
+        LONGEST_REST_MS
+    }
+}
+
+/// Runs a node: makes turns until the node tells that it has ended, up to this number of them, and waits before each. The times
+/// of the turns don't fall.
 #[tactic(auto, using(crate::proofs::Told::stays_then))]
-pub fn run_node<N: Core, K: Sink, C: Clock, W: Words, L: Link + Drop, A: Acceptor<L>, D: Dialer<L>>(
+pub fn run_node<
+    N: Core,
+    K: Sink,
+    C: Clock,
+    V: Waiter,
+    W: Words,
+    L: Link + Drop,
+    A: Acceptor<L>,
+    D: Dialer<L>,
+>(
     alloc: Global,
     node: &mut N,
     script: &[Due],
@@ -30,6 +64,7 @@ pub fn run_node<N: Core, K: Sink, C: Clock, W: Words, L: Link + Drop, A: Accepto
     turns: u64,
     sink: &mut K,
     clock: &mut C,
+    waiter: &mut V,
     random: &mut W,
     acceptor: &mut A,
     dialer: &mut D,
@@ -45,6 +80,10 @@ pub fn run_node<N: Core, K: Sink, C: Clock, W: Words, L: Link + Drop, A: Accepto
         (at_rest node.old random.old) (dialling D.calls D.left D.faults dialer.old) (K.held sink.old)
         (admitting A.left A.waits acceptor.old) (C.readings clock.old)
         (dialling D.calls D.left D.faults dialer.new) (K.held sink.new) (admitting A.left A.waits acceptor.new) (C.readings clock.new)) }
+
+    // Whatever ends it, there was one wait before each turn: none of any length before the first, and no line of the script was
+    // slept over.
+    ensures rests { HasRested script.now (C.readings clock.old) (C.readings clock.new) (V.waits waiter.old) (V.waits waiter.new) }
     ensures write { result ≡ Err HaltType.WriteFault → HasRisen (K.faults sink.old) (K.faults sink.new) }
     ensures accept { result ≡ Err HaltType.AcceptFault → HasRisen (A.faults acceptor.old) (A.faults acceptor.new) }
     ensures writes_later { K.faults sink.old ≤ K.faults sink.new }
@@ -56,7 +95,9 @@ pub fn run_node<N: Core, K: Sink, C: Clock, W: Words, L: Link + Drop, A: Accepto
     let mut set = LinkSet::make(alloc)?;
     let mut start = None;
     let mut left = script;
+    let mut wait_ms = 0;
     for made in 0..turns {
+        waiter.wait(wait_ms);
         let (now, rest) = node_turn(
             alloc, node, &mut set, left, start, listens, sink, clock, random, acceptor, dialer,
         )?;
@@ -65,6 +106,7 @@ pub fn run_node<N: Core, K: Sink, C: Clock, W: Words, L: Link + Drop, A: Accepto
         }
         start = Some(start.unwrap_or(now));
         left = rest;
+        wait_ms = rest_ms(&set, left, passed_by(start, now));
     }
     Ok(RunEnd::Spent)
 }

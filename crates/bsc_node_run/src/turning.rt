@@ -29,8 +29,8 @@ use bsc_octets::NoMemory;
 use bsc_outside::Sink;
 use std::alloc::Global;
 
-/// How long each link is waited for in a turn, in milliseconds.
-const LINK_WAIT_MS: u32 = 5;
+/// How long each link is waited for in a turn, in milliseconds: what there is to wait for was waited for before it.
+const LINK_WAIT_MS: u32 = 0;
 
 /// How long the acceptor is waited for in a turn.
 const ACCEPT_WAIT_MS: u32 = 0;
@@ -359,7 +359,7 @@ fn begin<N: Core, K: Sink, W: Words, L: Link + Drop, D: Dialer<L>>(
 }
 
 /// How much time has passed since the first turn.
-fn passed_by(start: Option<u64>, now: u64) -> u64
+pub(crate) fn passed_by(start: Option<u64>, now: u64) -> u64
     ensures { result ≡ passed_by start now }
 {
     now.saturating_sub(start.unwrap_or(now))

@@ -5,14 +5,13 @@
 //! how it is called, if its words are refused, and why a policy is, if it is.
 #![tactic(auto)]
 
-use bsc_commands::{Door, Noted, NotingFiles, RealLink, real_dialer, run};
+use bsc_commands::{Door, Noted, NotingFiles, RealLink, RealWaiter, real_dialer, run};
 use bsc_edge::{Disk, Kind, Monotonic, Places, ThreadSpawner, Unstarted, launch};
 use bsc_hub::Kept;
 use bsc_links::{PeerAcceptor, PeerDialer};
 use bsc_node_command::RandomWords;
 use bsc_octets::NoMemory;
 use bsc_outside::{ReaderSource, WriterSink};
-use bsc_pace::{Pace, PacedAcceptor, PacedClock, PacedDialer, PacedLink};
 use bsc_player::out_of_memory;
 use bsc_session::SessionJob;
 use bsc_words::{Asked, WordsFault, read_words};
@@ -28,10 +27,7 @@ use std::sync::Arc;
 const SESSIONS: u64 = 2048;
 
 /// The session of a real link.
-type Job = SessionJob<
-    PacedLink<RealLink<HostRuntime>>,
-    PacedClock<Monotonic<HostRuntime>, HostRuntime>,
->;
+type Job = SessionJob<RealLink<HostRuntime>, Monotonic<HostRuntime>>;
 
 /// The kind of the links that are accepted by these words: a node accepts direct connections.
 fn kind_of(alloc: Global, words: &[String]) -> Result<Kind, NoMemory> {
@@ -39,14 +35,6 @@ fn kind_of(alloc: Global, words: &[String]) -> Result<Kind, NoMemory> {
         Ok(Asked::Node { .. }) => Ok(Kind::Direct),
         Ok(_) | Err(WordsFault::Refused) => Ok(Kind::Hub),
         Err(WordsFault::NoMemory) => Err(NoMemory),
-    }
-}
-
-/// The pace of a run: a node that has no link to wait for sleeps between its turns.
-fn pace_of(alloc: Global, kind: Kind) -> Result<Pace, NoMemory> {
-    match kind {
-        Kind::Direct => Pace::new(alloc),
-        Kind::Hub => Ok(Pace::none()),
     }
 }
 
@@ -73,10 +61,9 @@ fn main(rt: HostRuntime) -> ExitCode {
             // A word that isn't UTF-8 names no command. The run is given no words then, which are refused too.
         }
     }
-    let (Ok(notes), Ok(places), Ok(dialer)) = (
+    let (Ok(notes), Ok(places)) = (
         Rc::new(alloc, Cell::new(Noted::nothing())),
         Places::make(alloc, SESSIONS),
-        real_dialer(rt, alloc),
     ) else {
         return ExitCode::from(out_of_memory(&mut sink));
     };
@@ -93,20 +80,20 @@ fn main(rt: HostRuntime) -> ExitCode {
     let Ok(kind) = kind_of(alloc, words.as_slice()) else {
         return ExitCode::from(out_of_memory(&mut sink));
     };
-    let Ok(pace) = pace_of(alloc, kind) else {
+    let Ok(mut waiter) = RealWaiter::of(rt, alloc, kind) else {
         return ExitCode::from(out_of_memory(&mut sink));
     };
-    let (Ok(of_clock), Ok(of_acceptor)) = (pace.another(), pace.another()) else {
+    let (Ok(of_links), Ok(of_gate)) = (waiter.watch(), waiter.watch()) else {
+        return ExitCode::from(out_of_memory(&mut sink));
+    };
+    let Ok(dialer) = real_dialer(rt, alloc, of_links) else {
         return ExitCode::from(out_of_memory(&mut sink));
     };
     let mut files = NotingFiles::new(Disk::new(rt), kind, of_files);
-    let mut clock = PacedClock::new(Monotonic::new(rt), rt, of_clock);
+    let mut clock = Monotonic::new(rt);
     let mut random = RandomWords::new(rt);
-    let mut acceptor = PacedAcceptor::new(
-        PeerAcceptor::new(Door::new(rt, alloc, kind, of_door)),
-        of_acceptor,
-    );
-    let mut dialer = PacedDialer::new(PeerDialer::new(dialer), pace);
+    let mut acceptor = PeerAcceptor::new(Door::new(rt, alloc, kind, of_door, of_gate));
+    let mut dialer = PeerDialer::new(dialer);
     let mut kept = Kept {
         hub: None,
         pass: None,
@@ -119,6 +106,7 @@ fn main(rt: HostRuntime) -> ExitCode {
         &mut sink,
         &mut files,
         &mut clock,
+        &mut waiter,
         &mut random,
         &mut acceptor,
         &mut dialer,

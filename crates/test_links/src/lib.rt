@@ -11,6 +11,6 @@ mod gate;
 #[cfg(test)]
 mod live;
 #[cfg(test)]
-mod pace;
+mod watch;
 #[cfg(test)]
 mod ws;

@@ -38,9 +38,10 @@ returns-in-Node-clause-node g c path script named =
     let A = g.A.Acceptor in
     let D = g.D.Dialer in
     let C = g.C.Clock in
+    let V = g.V.Waiter in
     let F = g.F.Files in
-    let before : CommandWorld g.row.L.Denot g.row.W.Denot = record { unread = F.faults c.args.files.now; beside = record { dialled = dialling D.calls D.left D.faults c.args.dialer.now; door = admitting A.left A.waits c.args.acceptor.now; port = A.bound c.args.acceptor.now; faults = A.faults c.args.acceptor.now; readings = C.readings c.args.clock.now; random = c.args.random.now; written = g.K.Sink.held c.args.sink.now } } in
-    let after : CommandWorld g.row.L.Denot g.row.W.Denot = record { unread = F.faults c.run_node_files.new.files; beside = record { dialled = dialling D.calls D.left D.faults c.run_node_files.new.dialer; door = admitting A.left A.waits c.run_node_files.new.acceptor; port = A.bound c.run_node_files.new.acceptor; faults = A.faults c.run_node_files.new.acceptor; readings = C.readings c.run_node_files.new.clock; random = c.run_node_files.new.random; written = g.K.Sink.held c.run_node_files.new.sink } } in
+    let before : CommandWorld g.row.L.Denot g.row.W.Denot = record { unread = F.faults c.args.files.now; beside = record { dialled = dialling D.calls D.left D.faults c.args.dialer.now; door = admitting A.left A.waits c.args.acceptor.now; port = A.bound c.args.acceptor.now; faults = A.faults c.args.acceptor.now; readings = C.readings c.args.clock.now; waited = V.waits c.args.waiter.now; random = c.args.random.now; written = g.K.Sink.held c.args.sink.now } } in
+    let after : CommandWorld g.row.L.Denot g.row.W.Denot = record { unread = F.faults c.run_node_files.new.files; beside = record { dialled = dialling D.calls D.left D.faults c.run_node_files.new.dialer; door = admitting A.left A.waits c.run_node_files.new.acceptor; port = A.bound c.run_node_files.new.acceptor; faults = A.faults c.run_node_files.new.acceptor; readings = C.readings c.run_node_files.new.clock; waited = V.waits c.run_node_files.new.waiter; random = c.run_node_files.new.random; written = g.K.Sink.held c.run_node_files.new.sink } } in
     of_node (λ (p q : Text). RunsFiles g.L.Link.talk g.W.Words.gives g.W.Words.faults (F.holds c.args.files.now p) (F.holds c.args.files.now q) before after c.run_node_files.result)
     c.in-Node.path.now path c.in-Node.script.now script (sym (ap seen c.in-Node.is) ∙ named) c.run_node_files.ensures.runs
 

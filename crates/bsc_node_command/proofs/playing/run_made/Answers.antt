@@ -47,5 +47,6 @@ returns-clause-ran g c script door port faults reads unasked bound =
           (C.readings old.clock.now) (C.readings new.clock) (K.held old.sink.now) (K.held new.sink) defined.1;
       lonely = lonely_of talk W.gives W.faults v script lines old.random.now new.random defined.0 end before after (admitting A.left A.waits old.acceptor.now) (admitting A.left A.waits new.acceptor)
           (C.readings old.clock.now) (C.readings new.clock) (K.held old.sink.now) (K.held new.sink) reads defined.1;
+      rests = c.run_node-end.ensures.rests;
       says = c.tell_end.ensures.says;
     }

@@ -2,6 +2,7 @@ use Rattle.std.proofs.Common.{arith, inl, inr, refl, None, Some, ◌∷◌, [], 
 use Rattle.bsc_node_run.specs.Drawing.{GoesDrawing, at_rest}
 use Rattle.bsc_node_run.specs.Worlds.{admitting, dialling, world_of}
 use Rattle.bsc_node_run.proofs.Runs.{grows_none, grows_then, one_longer, rise_all, rise_before, rise_more, turns_all, turns_more}
+use Rattle.bsc_node_run.proofs.Resting.{all_left, left_then, rest_so, rests_all, rests_more, rests_now}
 use Rattle.bsc_node_run.proofs.Told.{stays_same, stays_then}
 use Rattle.bsc_node_run.proofs.Stops.{at_err, rise_now, stops_more, stops_now}
 use Rattle.bsc_node_run.proofs.running.run_node.Goals as goal
@@ -15,6 +16,13 @@ loop-made-init g c = record {
   turns = λ more m v door k. k;
   stops = λ more v door k. k;
   rise = λ more r. rise_before 0 (g.C.Clock.newest c.args.clock.now) more (omega arith) r;
+  waits = [];
+  asked = grows_none (g.V.Waiter.waits c.args.waiter.now);
+  newest = 0;
+  read = omega arith;
+  lines = all_left c.args.script.now;
+  rest = refl;
+  rests = λ more others k. k;
   writes_later = omega arith;
   links_later = omega arith;
   bound = stays_same (g.A.Acceptor.bound c.args.acceptor.now);
@@ -69,6 +77,19 @@ loop-made-preserved g c = record {
       more v door (rw c.unwrap_or.ensures at k);
   rise = rise_more 0 c.loop-made.invariant.times (g.C.Clock.newest c.loop-made.clock) c.in_ok-now.now (g.C.Clock.newest c.node_turn.new.clock)
       c.loop-made.invariant.rise c.in_ok-now.ensures.rises c.in_ok-now.ensures.below c.in_ok-now.ensures.newest;
+  waits = c.loop-made.invariant.waits ++ c.loop-made.wait_ms ∷ [];
+  asked = grows_then (g.V.Waiter.waits c.args.waiter.now) (g.V.Waiter.waits c.loop-made.waiter) (g.V.Waiter.waits c.wait.new.self) c.loop-made.invariant.waits (c.loop-made.wait_ms ∷ [])
+      c.loop-made.invariant.asked c.wait.ensures.told;
+  newest = c.in_ok-now.now;
+  read = omega (arith, c.in_ok-now.ensures.newest);
+  lines = left_then c.args.script.now c.loop-made.left.now c.in_ok-now.rest.now c.in_ok-now.ensures.turns.lines c.loop-made.start c.loop-made.invariant.newest c.in_ok-now.now c.unwrap_or.result
+      c.loop-made.invariant.lines (omega (arith, c.loop-made.invariant.read, c.in_ok-now.ensures.rises)) c.in_ok-now.ensures.turns.parts c.in_ok-now.ensures.turns.due c.unwrap_or.ensures;
+  rest = rest_so c.args.script.now c.in_ok-now.rest.now c.loop-made.start c.in_ok-now.now c.unwrap_or.result c.passed_by.result c.rest_ms.result
+      (left_then c.args.script.now c.loop-made.left.now c.in_ok-now.rest.now c.in_ok-now.ensures.turns.lines c.loop-made.start c.loop-made.invariant.newest c.in_ok-now.now c.unwrap_or.result
+      c.loop-made.invariant.lines (omega (arith, c.loop-made.invariant.read, c.in_ok-now.ensures.rises)) c.in_ok-now.ensures.turns.parts c.in_ok-now.ensures.turns.due c.unwrap_or.ensures)
+      c.unwrap_or.ensures c.passed_by.ensures c.in_ok-now.ensures.turns.next c.rest_ms.ensures.short c.rest_ms.ensures.over;
+  rests = rests_more c.args.script.now c.loop-made.invariant.times c.loop-made.invariant.waits c.loop-made.start c.loop-made.invariant.newest c.in_ok-now.now c.unwrap_or.result c.loop-made.wait_ms
+      c.loop-made.invariant.rests c.loop-made.invariant.rest c.unwrap_or.ensures;
   writes_later = omega (arith, c.loop-made.invariant.writes_later, c.node_turn.ensures.later);
   links_later = omega (arith, c.loop-made.invariant.links_later, c.node_turn.ensures.arrivals);
   bound = stays_then (g.A.Acceptor.bound c.args.acceptor.now) (g.A.Acceptor.bound c.loop-made.acceptor) (g.A.Acceptor.bound c.node_turn.new.acceptor) c.loop-made.invariant.bound c.node_turn.ensures.bound;
@@ -130,3 +151,41 @@ returns-in_err-now-clause-fails g c =
       within = omega (arith, one_longer c.loop-made.invariant.times k.0 c.loop-made.made c.loop-made.invariant.count, c.loop-made-test.true);
     }
     ))
+
+pub returns-in_err-set-clause-rests : goal.returns-in_err-set-clause-rests
+returns-in_err-set-clause-rests g c =
+    ([], [], grows_none (g.C.Clock.readings c.args.clock.now), grows_none (g.V.Waiter.waits c.args.waiter.now), tt)
+
+pub returns-in_err-now-clause-rests : goal.returns-in_err-now-clause-rests
+returns-in_err-now-clause-rests g c =
+    let k = c.in_err-now.ensures.stops in (
+      c.loop-made.invariant.times ++ k.0 ∷ [],
+      c.loop-made.invariant.waits ++ c.loop-made.wait_ms ∷ [],
+      grows_then (g.C.Clock.readings c.args.clock.now) (g.C.Clock.readings c.loop-made.clock) (g.C.Clock.readings c.node_turn.new.clock) c.loop-made.invariant.times (k.0 ∷ [])
+          c.loop-made.invariant.readings k.1,
+      grows_then (g.V.Waiter.waits c.args.waiter.now) (g.V.Waiter.waits c.loop-made.waiter) (g.V.Waiter.waits c.wait.new.self) c.loop-made.invariant.waits (c.loop-made.wait_ms ∷ [])
+          c.loop-made.invariant.asked c.wait.ensures.told,
+      rests_now c.args.script.now c.loop-made.invariant.times c.loop-made.invariant.waits c.loop-made.start c.loop-made.invariant.newest k.0 c.loop-made.wait_ms
+          c.loop-made.invariant.rests c.loop-made.invariant.rest,
+    )
+
+pub returns-then-set-clause-rests : goal.returns-then-set-clause-rests
+returns-then-set-clause-rests g c = (
+  c.loop-made.invariant.times ++ c.in_ok-now.now ∷ [],
+  c.loop-made.invariant.waits ++ c.loop-made.wait_ms ∷ [],
+  grows_then (g.C.Clock.readings c.args.clock.now) (g.C.Clock.readings c.loop-made.clock) (g.C.Clock.readings c.node_turn.new.clock) c.loop-made.invariant.times (c.in_ok-now.now ∷ [])
+      c.loop-made.invariant.readings c.in_ok-now.ensures.reading,
+  grows_then (g.V.Waiter.waits c.args.waiter.now) (g.V.Waiter.waits c.loop-made.waiter) (g.V.Waiter.waits c.wait.new.self) c.loop-made.invariant.waits (c.loop-made.wait_ms ∷ [])
+      c.loop-made.invariant.asked c.wait.ensures.told,
+  rests_now c.args.script.now c.loop-made.invariant.times c.loop-made.invariant.waits c.loop-made.start c.loop-made.invariant.newest c.in_ok-now.now c.loop-made.wait_ms
+      c.loop-made.invariant.rests c.loop-made.invariant.rest,
+)
+
+pub returns-clause-rests : goal.returns-clause-rests
+returns-clause-rests g c = (
+  c.loop-made.invariant.times,
+  c.loop-made.invariant.waits,
+  c.loop-made.invariant.readings,
+  c.loop-made.invariant.asked,
+  rests_all c.args.script.now c.loop-made.invariant.times c.loop-made.invariant.waits c.loop-made.start c.loop-made.invariant.newest c.loop-made.invariant.rests,
+)

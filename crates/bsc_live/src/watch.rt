@@ -1,0 +1,178 @@
+//! One wait for many streams.
+//!
+//! Who has a seat at a `Watch` is hot or cold. An event makes it hot, and so does a read that gave octets; a read that would
+//! have blocked makes it cold. While somebody is hot a wait takes no time: more may be there of which no event tells.
+use crate::moment::wait_of;
+use bsc_edge::Waiter;
+use mio::event::Source;
+use mio::{Events, Interest, Poll, Registry, Token};
+use std::alloc::Global;
+use std::io::{self, ErrorKind};
+use std::net::Net;
+use std::sync::Arc;
+use std::sync::atomic::{AtomicBool, Ordering};
+use std::thread;
+use std::time::Clock;
+
+/// So many events are looked at after one wait. What is left over is there at the next one.
+const BATCH: usize = 128;
+
+/// A place at a watch.
+#[derive(Drop)]
+struct Place {
+    taken: AtomicBool,
+    hot: AtomicBool,
+}
+
+/// Where many streams and an acceptor are waited for together, each by a seat of its own.
+#[derive(Drop)]
+pub struct Watch {
+    registry: Registry,
+    places: Vec<Place>,
+}
+
+/// A place at a watch, until it is dropped. It is hot at first.
+pub struct Seat {
+    watch: Arc<Watch>,
+    place: usize,
+}
+
+impl Watch {
+    /// Takes a place, if one is free.
+    fn take_place(&self) -> Option<usize> {
+        for (number, place) in self.places.iter().enumerate() {
+            if !place.taken.swap(true, Ordering::SeqCst) {
+                return Some(number);
+            }
+        }
+        None
+    }
+
+    /// Gives a place back.
+    fn free(&self, number: usize) {
+        if let Some(place) = self.places.get(number) {
+            place.taken.store(false, Ordering::SeqCst);
+        }
+    }
+
+    fn set_hot(&self, number: usize, hot: bool) {
+        if let Some(place) = self.places.get(number) {
+            place.hot.store(hot, Ordering::SeqCst);
+        }
+    }
+
+    /// Whether who has this place may have something.
+    fn is_hot(&self, number: usize) -> bool {
+        match self.places.get(number) {
+            Some(place) => place.hot.load(Ordering::SeqCst),
+            None => false,
+        }
+    }
+
+    /// Whether somebody is hot.
+    fn has_hot(&self) -> bool {
+        self.places.iter().any(|place| place.taken.load(Ordering::SeqCst)
+            && place.hot.load(Ordering::SeqCst))
+    }
+}
+
+impl Seat {
+    /// A seat for whom this source belongs to. Fails where all places are taken.
+    pub fn take<S: Source>(watch: &Arc<Watch>, source: &mut S) -> io::Result<Seat> {
+        let Ok(watch) = Arc::try_clone(watch) else {
+            return Err(io::Error::from(ErrorKind::OutOfMemory));
+        };
+        let Some(place) = watch.take_place() else {
+            return Err(io::Error::from(ErrorKind::OutOfMemory));
+        };
+        watch.set_hot(place, true);
+        let seat = Seat { watch, place };
+        seat.watch
+            .registry
+            .register(source, Token(place), Interest::READABLE)?;
+        Ok(seat)
+    }
+
+    /// Says whether who sits here may have something.
+    pub fn set_hot(&self, hot: bool) {
+        self.watch.set_hot(self.place, hot);
+    }
+
+    /// Whether who sits here may have something.
+    pub fn is_hot(&self) -> bool {
+        self.watch.is_hot(self.place)
+    }
+}
+
+impl Drop for Seat {
+    fn drop(self) {
+        self.watch.free(self.place);
+        let Seat { watch: _, place: _ } = self;
+    }
+}
+
+/// Waits for all who have a seat at its watch.
+#[derive(Drop)]
+pub struct Watcher<R> {
+    clock: R,
+    poll: Poll,
+    events: Events,
+    watch: Arc<Watch>,
+}
+
+impl<R: Clock + Net + Drop> Watcher<R> {
+    /// A watcher whose watch has so many places.
+    pub fn new(rt: R, alloc: Global, count: usize) -> io::Result<Watcher<R>> {
+        let poll = Poll::new(&rt)?;
+        let registry = poll.registry().try_clone()?;
+        let mut places = Vec::new(alloc);
+        for _ in 0..count {
+            places.push(Place {
+                taken: AtomicBool::new(false),
+                hot: AtomicBool::new(false),
+            })?;
+        }
+        let Ok(events) = Events::with_capacity(alloc, BATCH) else {
+            return Err(io::Error::from(ErrorKind::OutOfMemory));
+        };
+        Ok(Watcher {
+            clock: rt,
+            poll,
+            events,
+            watch: Arc::new(alloc, Watch { registry, places })?,
+        })
+    }
+}
+
+impl<R> Watcher<R> {
+    /// The watch, to be shared.
+    pub fn watch(&self) -> io::Result<Arc<Watch>> {
+        match Arc::try_clone(&self.watch) {
+            Ok(watch) => Ok(watch),
+            Err(_) => Err(io::Error::from(ErrorKind::OutOfMemory)),
+        }
+    }
+}
+
+impl<R: Clock> Waiter for Watcher<R> {
+    ghost use Rattle.std.specs.Prelude.{None};
+
+    ghost waits = { λ _. None };
+
+    fn wait(&mut self, most_ms: u32) {
+        let wait = if self.watch.has_hot() {
+            wait_of(0)
+        } else {
+            wait_of(most_ms as u64 * 1000)
+        };
+        match self.poll.poll(&mut self.events, Some(wait)) {
+            Ok(()) => {
+                for event in self.events.iter() {
+                    self.watch.set_hot(event.token().0, true);
+                }
+            }
+            // Turns without a wait would take a processor.
+            Err(_) => thread::sleep(&self.clock, wait),
+        }
+    }
+}
