@@ -6,7 +6,7 @@ mod process;
 use bsc_commands::run;
 use bsc_edge::{
     Acceptor, Clock, Dialer, Files, Link, MemAcceptor, MemClock, MemDialer, MemFile, MemFiles,
-    MemLink, MemSpawner, Spawner,
+    MemLink, MemSpawner, MemWaiter, Spawner, Waiter,
 };
 use bsc_hub::Kept;
 use bsc_node_run::{MemWords, Words};
@@ -293,6 +293,7 @@ fn status_of<
     R: Threads + Wait + Sync,
     F: Files,
     C: Clock + Drop,
+    V: Waiter,
     W: Words,
     L: Link + Drop,
     A: Acceptor<L>,
@@ -306,6 +307,7 @@ fn status_of<
     sink: &mut MemSink<'_>,
     files: &mut F,
     clock: &mut C,
+    waiter: &mut V,
     random: &mut W,
     acceptor: &mut A,
     dialer: &mut D,
@@ -326,6 +328,7 @@ fn status_of<
         sink,
         files,
         clock,
+        waiter,
         random,
         acceptor,
         dialer,
@@ -353,6 +356,7 @@ fn status_in_memory<R: Threads + Wait + Sync>(
         sink,
         &mut files,
         &mut MemClock::new(alloc, READINGS),
+        &mut MemWaiter::new(alloc),
         &mut MemWords::new(&[]),
         &mut acceptor,
         &mut MemDialer::new(alloc, Vec::new(alloc), &[]),

@@ -4,7 +4,8 @@ ghost use Rattle.std.specs.Prelude.{◌≡◌};
 use bsc_edge::{
     Acceptor, Arrived, Clock, Dialer, Disk, Failed, FileFault, Files, Incoming, Job, Kind, Link,
     LinkFault, MemAcceptor, MemClock, MemDialer, MemFile, MemFiles, MemLink, MemPatience,
-    MemSpawner, Monotonic, Patience, Places, Said, Spawner, ThreadSpawner, Unstarted, launch,
+    MemSpawner, MemWaiter, Monotonic, Patience, Places, Said, Spawner, ThreadSpawner, Unstarted,
+    Waiter, launch,
 };
 use bsc_octets::{NoMemory, Octets};
 use std::alloc::Global;
@@ -147,6 +148,10 @@ fn acceptors_and_waits_in_memory(rt: HostRuntime) -> Result<(), Fail> {
     assert_eq!(rt; patience.set(1), Err(Failed));
     assert_eq!(rt; patience.set(20), Ok(()));
     assert!(rt; patience.waits().unwrap_or(&[]) == [20].as_slice());
+    let mut waiter = MemWaiter::new(alloc);
+    waiter.wait(0);
+    waiter.wait(50);
+    assert!(rt; waiter.waits().unwrap_or(&[]) == [0, 50].as_slice());
     Ok(())
 }
 

@@ -2,7 +2,7 @@
 use crate::log::Log;
 use crate::row::{Gives, Peer, Row};
 use crate::watched::Watched;
-use bsc_edge::{Incoming, MemAcceptor, MemClock, MemDialer, MemFile, MemFiles, MemLink};
+use bsc_edge::{Incoming, MemAcceptor, MemClock, MemDialer, MemFile, MemFiles, MemLink, MemWaiter};
 use bsc_node_run::MemWords;
 use bsc_octets::NoMemory;
 use bsc_outside::MemSink;
@@ -22,6 +22,7 @@ pub struct Outside {
     pub sink: MemSink<'static>,
     pub files: MemFiles<'static>,
     pub clock: Watched<MemClock<'static>>,
+    pub waiter: MemWaiter,
     pub random: MemWords<'static>,
     pub acceptor: MemAcceptor<'static, WatchedLink>,
     pub dialer: Watched<MemDialer<'static, WatchedLink>>,
@@ -129,6 +130,7 @@ impl Outside {
             sink: MemSink::make(alloc, ROOM, row.failing.writes)?,
             files: files(alloc, row)?,
             clock: clock(alloc, &log, row.readings)?,
+            waiter: MemWaiter::new(alloc),
             random: MemWords::new(row.words),
             acceptor: acceptor(alloc, &log, row)?,
             dialer: dialer(alloc, log, row)?,

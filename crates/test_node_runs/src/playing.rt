@@ -18,11 +18,14 @@ fn run(alloc: Global, outside: &mut Outside) -> u8 {
         sink,
         files,
         clock,
+        waiter,
         random,
         acceptor,
         dialer,
     } = outside;
-    run_node_files(alloc, WORDS, sink, files, clock, random, acceptor, dialer)
+    run_node_files(
+        alloc, WORDS, sink, files, clock, waiter, random, acceptor, dialer,
+    )
 }
 
 /// Whether a run wrote what it was to, and bound its port alone.
@@ -38,11 +41,19 @@ fn did(row: &Row, outside: &Outside) -> bool {
     }
 }
 
+/// Whether a run waited as long as it was to, where that is looked at.
+fn rested(row: &Row, outside: &Outside) -> bool {
+    match row.rests {
+        Some(rests) => outside.waiter.waits().unwrap_or(&[]) == rests,
+        None => true,
+    }
+}
+
 /// Whether a run comes to what it is to come to.
 fn comes_to(alloc: Global, row: &Row) -> Result<bool, NoMemory> {
     let mut outside = Outside::of(alloc, row)?;
     let status = run(alloc, &mut outside);
-    Ok(status == row.status && wrote(row, &outside) && did(row, &outside))
+    Ok(status == row.status && wrote(row, &outside) && did(row, &outside) && rested(row, &outside))
 }
 
 /// Plays these runs.

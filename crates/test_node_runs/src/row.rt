@@ -54,6 +54,8 @@ pub struct Row {
     pub port: Option<u16>,
     /// What the node did outside: a line each of the time, and of what was dialled, put or closed then.
     pub did: &'static str,
+    /// How long was waited before each turn, where that is looked at.
+    pub rests: Option<&'static [u32]>,
 }
 
 /// Nothing fails.
@@ -78,4 +80,5 @@ pub const ALONE: Row = Row {
     written: "finished\n",
     port: None,
     did: "",
+    rests: None,
 };

@@ -1,6 +1,6 @@
 //! A run of the program over sockets and threads, with its files and what it writes in memory.
 use crate::commands::{files_of, status_of};
-use bsc_commands::{Door, Noted, RealLink, real_dialer};
+use bsc_commands::{Door, Noted, RealLink, RealWaiter, real_dialer};
 use bsc_edge::{Kind, MemFiles, Monotonic, Places, ThreadSpawner, Unstarted, launch};
 use bsc_links::{PeerAcceptor, PeerDialer};
 use bsc_node_command::RandomWords;
@@ -64,8 +64,14 @@ fn status_over_sockets<
     > { launch(&rt, alloc, places, job) };
     let mut spawner = ThreadSpawner::new(begin, Places::make(alloc, 8)?);
     let notes = Rc::new(alloc, Cell::new(Noted::nothing()))?;
-    let mut acceptor = PeerAcceptor::new(Door::new(rt, alloc, process.kind, notes));
-    let mut dialer = PeerDialer::new(real_dialer(rt, alloc)?);
+    let Ok(mut waiter) = RealWaiter::of(rt, alloc, process.kind) else {
+        return Err(NoMemory);
+    };
+    let (Ok(of_links), Ok(of_gate)) = (waiter.watch(), waiter.watch()) else {
+        return Err(NoMemory);
+    };
+    let mut acceptor = PeerAcceptor::new(Door::new(rt, alloc, process.kind, notes, of_gate));
+    let mut dialer = PeerDialer::new(real_dialer(rt, alloc, of_links)?);
     status_of(
         &rt,
         alloc,
@@ -74,6 +80,7 @@ fn status_over_sockets<
         sink,
         files,
         &mut Monotonic::new(rt),
+        &mut waiter,
         &mut RandomWords::new(rt),
         &mut acceptor,
         &mut dialer,

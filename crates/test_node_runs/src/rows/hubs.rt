@@ -74,6 +74,7 @@ pub const HUBS: &[Row] = &[
         readings: &[0, 50, 2049, 2050, 2100],
         written: "nopath 02000000000A\nfinished\n",
         did: "0 dial hub ws://localhost:4443/\n2050 dial hub ws://localhost:4443/\n",
+        rests: Some(&[0, 0, 50, 50, 0]),
         ..ALONE
     },
     Row {
@@ -100,6 +101,7 @@ pub const HUBS: &[Row] = &[
             "40 hub put 08000003\n",
             "40 hub close 1000\n",
         ),
+        rests: Some(&[0, 0, 30, 20, 10]),
         ..ALONE
     },
     Row {
