@@ -101,9 +101,9 @@ module _ {L W : Type 0} (talk : L → Option (List Said)) (gives : W → Option 
   -- made as many turns as the settings allow at most, and accepts links exactly where they have a port. What the node of that log told is what was written, and what it
   -- dialled is what was dialled; it told that it has ended exactly where the run is finished. Where no link came, the
   -- log is that of a node alone, by the readings of the clock and the lines of the script. A run that a fault ended is such a
-  -- run up to there, with one action more in part. However it ended, there was one wait before each turn: of no length before the
-  -- first, and then of 50 ms at most, and not past the time of the next line. What the run wrote stands before what is written of
-  -- its end.
+  -- run up to there, with one action more in part. However it ended, there was one wait before each turn: of no time before the
+  -- first; and then of 50 ms at most, and no longer than it was, at the turn before, until the next line. What the run wrote stands
+  -- before what is written of its end.
   pub record Ran (v : NodeSettings) (script : List ℕ) (before after : NodeWorld L W) (s : ℕ) : Type 0 where
     pub lines : List Due
     pub reads : script_of script ≡ Ok (map wish_of lines)

@@ -8,7 +8,7 @@ use Rattle.bsc_node_run.specs.Turning.{AreDue, IsNotDue}
 abbrev pub longest_rest : ℕ
 longest_rest = 50
 
--- A wait that begins when so much time has passed is over by the time of the first of these.
+-- A wait that begins when so much time has passed is over by the time of the first of these, where there is one.
 abbrev pub IsOverBy : ℕ → ℕ → List Due → Type 0
 IsOverBy passed wait [] = ⊤
 IsOverBy passed wait (d ∷ lines) = passed + wait ≤ d.at
@@ -24,7 +24,7 @@ pub record IsOverInTime (script : List Due) (passed wait : ℕ) : Type 0 where
   pub over : IsOverBy passed wait rest
 
 -- How long may be waited before a turn, by the times of the first turn and of the one before: before the first not at all; else
--- 50 ms at most, and not past the time of the next line of the script.
+-- 50 ms at most, and no longer than it was, at the turn before, until the time of the next line of the script.
 abbrev pub MayRest : List Due → Option ℕ → ℕ → ℕ → Type 0
 MayRest script None newest wait = wait ≡ 0
 MayRest script (Some start) newest wait = (wait ≤ longest_rest) × IsOverInTime script (newest - start) wait
@@ -40,7 +40,8 @@ RestsFrom script start newest times waits = ⊥
 abbrev pub Rests : List Due → List ℕ → List ℕ → Type 0
 Rests script times waits = RestsFrom script None 0 times waits
 
--- The same, by the readings of the clock and the waits that were asked for, each as far as it is told.
+-- How a node waited in a run: once before each turn, by the readings of the clock and the waits that were asked for, each as far
+-- as it is told.
 abbrev pub HasRested : List Due → Option (List ℕ) → Option (List ℕ) → Option (List ℕ) → Option (List ℕ) → Type 0
 HasRested script told told' asked asked' =
     (times waits : List ℕ) × Grows told told' times × Grows asked asked' waits × Rests script times waits

@@ -81,8 +81,8 @@ pub fn run_node<
         (admitting A.left A.waits acceptor.old) (C.readings clock.old)
         (dialling D.calls D.left D.faults dialer.new) (K.held sink.new) (admitting A.left A.waits acceptor.new) (C.readings clock.new)) }
 
-    // Whatever ends it, there was one wait before each turn: none of any length before the first, and no line of the script was
-    // slept over.
+    // Whatever ends it, there was one wait before each turn: of no time before the first; and then of 50 ms at most, and no longer
+    // than it was, at the turn before, until the next line of the script.
     ensures rests { HasRested script.now (C.readings clock.old) (C.readings clock.new) (V.waits waiter.old) (V.waits waiter.new) }
     ensures write { result ≡ Err HaltType.WriteFault → HasRisen (K.faults sink.old) (K.faults sink.new) }
     ensures accept { result ≡ Err HaltType.AcceptFault → HasRisen (A.faults acceptor.old) (A.faults acceptor.new) }
