@@ -135,11 +135,12 @@ impl<R: Clock + Net + Drop> Watcher<R> {
         let Ok(events) = Events::with_capacity(alloc, BATCH) else {
             return Err(io::Error::from(ErrorKind::OutOfMemory));
         };
+        let watch = Arc::new(alloc, Watch { registry, places })?;
         Ok(Watcher {
             clock: rt,
             poll,
             events,
-            watch: Arc::new(alloc, Watch { registry, places })?,
+            watch,
         })
     }
 }
