@@ -1,25 +1,8 @@
 -- The waits of a run, from its turns.
-use Rattle.std.proofs.Common.{◌≡◌, ◌≤◌, ℕ, ◌+◌, ◌-◌, List, [], ◌∷◌, ◌++◌, length, get_or, Option, Some, None, refl, ap, sym, ◌∙◌, subst, append_assoc, append-nil, arith, unwrap_or}
+use Rattle.std.proofs.Common.{◌≡◌, ◌≤◌, ℕ, ◌-◌, List, [], ◌∷◌, ◌++◌, Option, Some, None, refl, ap, sym, ◌∙◌, subst, append_assoc, append-nil, arith, unwrap_or}
 use Rattle.bsc_node_run.specs.declared.due.Due.{Due}
 use Rattle.bsc_node_run.specs.Resting.{IsOverBy, MayRest, RestsFrom, longest_rest}
 use Rattle.bsc_node_run.specs.Turning.{AreDue, IsNotDue, passed_by}
-
--- ---- one wait
-
--- no time is over by the time of what isn't due
-pub none_over : (passed : ℕ) (xs : List Due) → IsNotDue passed xs → IsOverBy passed 0 xs
-none_over passed [] p = tt
-none_over passed (y ∷ ys) p = omega (arith, p)
-
--- by the time of the first line
-pub over_by : (passed wait : ℕ) (xs : List Due) (d x : Due) → d ≡ get_or xs 0 x → wait ≤ d.at - passed → IsNotDue passed xs → IsOverBy passed wait xs
-over_by passed wait [] d x e le p = tt
-over_by passed wait (y ∷ ys) d x e le p = (let same : d.at ≡ y.at = ap (λ (z : Due). z.at) e in omega (arith, same, le, p))
-
--- no line is left
-pub over_none : (passed wait : ℕ) (xs : List Due) → length xs < 1 → IsOverBy passed wait xs
-over_none passed wait [] h = tt
-over_none passed wait (y ∷ ys) h = absurd (omega (arith, h))
 
 -- ---- the lines that were given
 

@@ -84,10 +84,10 @@ loop-made-preserved g c = record {
   read = omega (arith, c.in_ok-now.ensures.newest);
   lines = left_then c.args.script.now c.loop-made.left.now c.in_ok-now.rest.now c.in_ok-now.ensures.turns.lines c.loop-made.start c.loop-made.invariant.newest c.in_ok-now.now c.unwrap_or.result
       c.loop-made.invariant.lines (omega (arith, c.loop-made.invariant.read, c.in_ok-now.ensures.rises)) c.in_ok-now.ensures.turns.parts c.in_ok-now.ensures.turns.due c.unwrap_or.ensures;
-  rest = rest_so c.args.script.now c.in_ok-now.rest.now c.loop-made.start c.in_ok-now.now c.unwrap_or.result c.passed_by.result c.rest_ms.result
+  rest = rest_so c.args.script.now c.in_ok-now.rest.now c.loop-made.start c.in_ok-now.now c.unwrap_or.result c.passed_by.result c.rest_ms-wait_ms.result
       (left_then c.args.script.now c.loop-made.left.now c.in_ok-now.rest.now c.in_ok-now.ensures.turns.lines c.loop-made.start c.loop-made.invariant.newest c.in_ok-now.now c.unwrap_or.result
       c.loop-made.invariant.lines (omega (arith, c.loop-made.invariant.read, c.in_ok-now.ensures.rises)) c.in_ok-now.ensures.turns.parts c.in_ok-now.ensures.turns.due c.unwrap_or.ensures)
-      c.unwrap_or.ensures c.passed_by.ensures c.in_ok-now.ensures.turns.next c.rest_ms.ensures.short c.rest_ms.ensures.over;
+      c.unwrap_or.ensures c.passed_by.ensures c.in_ok-now.ensures.turns.next c.rest_ms-wait_ms.ensures.short c.rest_ms-wait_ms.ensures.over;
   rests = rests_more c.args.script.now c.loop-made.invariant.times c.loop-made.invariant.waits c.loop-made.start c.loop-made.invariant.newest c.in_ok-now.now c.unwrap_or.result c.loop-made.wait_ms
       c.loop-made.invariant.rests c.loop-made.invariant.rest c.unwrap_or.ensures;
   writes_later = omega (arith, c.loop-made.invariant.writes_later, c.node_turn.ensures.later);
