@@ -211,20 +211,6 @@ fn jobs_in_memory(rt: HostRuntime) -> Result<(), Fail> {
     Ok(())
 }
 
-/// Waits until each job that is out has ended, and says how many those were.
-fn gathered<P: Spawner<Adds>, R: Wait>(rt: &R, spawner: &mut P) -> u64
-    ensures { P.can_start spawner.old → P.can_start spawner.new }
-{
-    let mut ended = 0u64;
-    for _ in rt.forever() {
-        if spawner.next_end(rt).is_none() {
-            return ended;
-        }
-        ended = ended.saturating_add(1);
-    }
-    unreachable!()
-}
-
 /// One place: while a job has it, the next comes back, and none has ended. It is free again when what is left of the job was
 /// given back.
 #[test]
@@ -241,10 +227,11 @@ fn threads(rt: HostRuntime) -> Result<(), Fail> {
     assert!(rt; !starts(&rt, alloc, &mut spawner, &sum)?);
     assert_eq!(rt; spawner.ended(&rt), None);
     drop(held);
-    assert_eq!(rt; gathered(&rt, &mut spawner), 1);
-    for _ in 0..100 {
+    assert_eq!(rt; spawner.next_end(&rt), Some(1));
+    assert_eq!(rt; spawner.next_end(&rt), None);
+    for n in 2..102 {
         assert!(rt; starts(&rt, alloc, &mut spawner, &sum)?);
-        assert_eq!(rt; gathered(&rt, &mut spawner), 1);
+        assert_eq!(rt; spawner.next_end(&rt), Some(n));
     }
     assert_eq!(rt; *sum.lock(&rt), 101);
     Ok(())
