@@ -65,6 +65,18 @@ impl Closing {
         reason: Reason::WrongPeer,
     };
 
+    /// 1008: a policy doesn't admit the device.
+    pub const POLICY: Closing = Closing {
+        code: 1008,
+        reason: Reason::Policy,
+    };
+
+    /// 1011: a line couldn't be put into the journal.
+    pub const UNRECORDED: Closing = Closing {
+        code: 1011,
+        reason: Reason::Nothing,
+    };
+
     /// 1011: there was no memory.
     pub const NO_MEMORY: Closing = Closing {
         code: 1011,

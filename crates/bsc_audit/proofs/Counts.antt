@@ -12,7 +12,7 @@ use Rattle.bsc_places.proofs.Counting.{often}
 use Rattle.bsc_places.proofs.Ranges.{AreAll}
 use Rattle.bsc_journal.specs.declared.said.Said.{Said}
 use Rattle.bsc_journal.specs.declared.said.Said.TheVariants.{Hub, Entry as AnEntry, Denial}
-use Rattle.bsc_journal.specs.Lines.{entry_line}
+use Rattle.bsc_lines.specs.Lines.{entry_line}
 use Rattle.bsc_journal.specs.Reading.{read_of}
 use Rattle.bsc_journal.specs.Saying.{IsHubLine, IsLineOf}
 use Rattle.bsc_journal.specs.Journals.{HaveLines, Tells, lines_from, lines_of}

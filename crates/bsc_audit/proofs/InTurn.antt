@@ -8,7 +8,7 @@ use Rattle.bsc_history.specs.Legality.{Legal}
 use Rattle.bsc_places.specs.declared.spot.Spot.{Spot}
 use Rattle.bsc_legality.specs.declared.legality.Legality.{Legality}
 use Rattle.bsc_legality.specs.Standing.{StandsFor}
-use Rattle.bsc_journal.specs.Lines.{entry_line}
+use Rattle.bsc_lines.specs.Lines.{entry_line}
 use Rattle.bsc_journal.specs.Saying.{IsLineOf}
 use Rattle.bsc_journal.specs.Journals.{HaveLines, lines_from}
 use Rattle.bsc_audit.specs.Hearing.{AreInOrder, line_at}

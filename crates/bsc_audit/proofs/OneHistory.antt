@@ -8,7 +8,7 @@ use Rattle.bsc_history.specs.declared.entry.Entry.{Entry}
 use Rattle.bsc_history.specs.declared.limits.About.{About}
 use Rattle.bsc_journal.specs.declared.said.Said.{Said}
 use Rattle.bsc_journal.specs.declared.said.Said.TheVariants.{Hub, Entry as AnEntry, Denial}
-use Rattle.bsc_journal.specs.Lines.{entry_line}
+use Rattle.bsc_lines.specs.Lines.{entry_line}
 use Rattle.bsc_journal.specs.Saying.{Says}
 use Rattle.bsc_journal.specs.Journals.{HaveLines, Tells, lines_from, lines_of}
 use Rattle.bsc_journal.proofs.SaidOnce.{says_one}

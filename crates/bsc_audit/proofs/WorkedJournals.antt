@@ -9,7 +9,7 @@ use Rattle.bsc_script.proofs.OnLiterals.{script_on_literals}
 use Rattle.bsc_audit.specs.declared.audit_end.AuditEnd.TheVariants.{Legal as IsLegal, BadLine, Hubs, Twice, Missing, Illegal}
 use Rattle.bsc_journal.specs.declared.said.Said.{Said}
 use Rattle.bsc_journal.specs.declared.said.Said.TheVariants.{Hub, Entry as AnEntry, Denial}
-use Rattle.bsc_journal.specs.Lines.{entry_line}
+use Rattle.bsc_lines.specs.Lines.{entry_line}
 use Rattle.bsc_journal.specs.Saying.{HasLine, IsHubLine, IsLineOf}
 use Rattle.bsc_journal.specs.Journals.{Tells}
 use Rattle.bsc_journal.specs.Good.{IsGood}

@@ -2,7 +2,7 @@
 use Rattle.std.specs.Prelude.{ℕ, ◌==◌, if◌then◌else◌, List, [], ◌++◌, codes, decimal, Option, Some, None}
 use Rattle.bsc_history.specs.declared.counts.Counts.{Counts}
 use Rattle.bsc_script.specs.Running.{hub_says}
-use Rattle.bsc_script.specs.Texts.{counts_words}
+use Rattle.bsc_lines.specs.Replies.{counts_words}
 use Rattle.bsc_script.specs.Written.{line_text}
 
 -- the line of the links that got no session, where there are such

@@ -11,7 +11,7 @@ use Rattle.bsc_history.specs.declared.call.Call.{Call}
 use Rattle.bsc_history.specs.declared.call.Call.TheVariants.{Connect, Forward, Leave, Stop, Count}
 use Rattle.bsc_history.specs.declared.looks.Look.{Look}
 use Rattle.bsc_text.specs.Grammar.{decoded}
-use Rattle.bsc_journal.specs.Lines.{call_text, look_text, looks_text, then_number}
+use Rattle.bsc_lines.specs.Lines.{call_text, look_text, looks_text, then_number}
 use Rattle.bsc_journal.specs.Reading.{asked, call_in, connect_of, forward_of, in_front_of, leave_of, looks_of, loose_words, numbers_in, read}
 use Rattle.bsc_journal.specs.Saying.{HasOctets, IsIdentity, ShowsLooks, are_octets, are_short, call_is_short, is_short, look_is_short}
 use Rattle.bsc_journal.proofs.Numbers.{number_back}

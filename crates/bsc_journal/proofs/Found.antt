@@ -4,7 +4,7 @@ use Rattle.std.specs.Cmp.Lexicographic.{pointwise}
 use Rattle.std.proofs.lemmas.Bool.{and_from, both_ways, eq-eqb}
 use Rattle.bsc_history.specs.declared.entry.Entry.{Entry}
 use Rattle.bsc_text.specs.Words.{words_of}
-use Rattle.bsc_journal.specs.Lines.{entry_line}
+use Rattle.bsc_lines.specs.Lines.{entry_line}
 use Rattle.bsc_journal.specs.Reading.{entry_in, loosened, read_of}
 use Rattle.bsc_journal.specs.Saying.{HasLine, IsLineOf}
 use Rattle.bsc_journal.proofs.ReadBack.{read_is}

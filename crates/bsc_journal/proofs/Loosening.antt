@@ -6,7 +6,7 @@ use Rattle.hex.specs.Hex.{encode_upper, encode_with, upper_digits}
 use Rattle.hex.proofs.HexLemmas.{length-encode_with}
 use Rattle.bsc_text.specs.Grammar.{is_digit, is_letter}
 use Rattle.bsc_text.specs.Lines.{in_front}
-use Rattle.bsc_script.specs.Texts.{list_words}
+use Rattle.bsc_lines.specs.Replies.{list_words}
 use Rattle.bsc_journal.specs.Reading.{loose_words, loosened}
 use Rattle.bsc_journal.specs.Saying.{are_octets, are_short, is_short}
 use Rattle.bsc_journal.proofs.Numbers.{digits, some_digits}

@@ -1,7 +1,7 @@
 -- What an answer unfolds to compute this crate's definitions on literal journals.
 use Rattle.std.specs.Prelude.{⊤}
 use Rattle.std.specs.List.{IsDistinct}
-use Rattle.bsc_journal.specs.Lines.{entry_line}
+use Rattle.bsc_lines.specs.Lines.{entry_line}
 
 unfoldable pub journals_on_literals : ⊤
 unfolding entry_line IsDistinct

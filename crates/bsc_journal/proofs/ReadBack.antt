@@ -2,7 +2,7 @@
 use Rattle.std.proofs.Common.{◌≡◌, ℕ, List, ◌∷◌, ◌++◌, codes, decimal, Option, Some, None, refl, ap, sym, ◌∙◌}
 use Rattle.bsc_history.specs.declared.entry.Entry.{Entry}
 use Rattle.bsc_history.specs.declared.reply.Reply.{Reply}
-use Rattle.bsc_journal.specs.Lines.{call_text, entry_line, reply_text, then_number}
+use Rattle.bsc_lines.specs.Lines.{call_text, entry_line, reply_text, then_number}
 use Rattle.bsc_journal.specs.Reading.{asked, entry_in, entry_of, loose_words, placed, read_of}
 use Rattle.bsc_journal.specs.Saying.{HasLine, IsLineOf}
 use Rattle.bsc_journal.proofs.CallsBack.{call_back}

@@ -10,8 +10,8 @@ use Rattle.bsc_history.specs.declared.reply.Refusal.{Refusal}
 use Rattle.bsc_history.specs.declared.reply.Refusal.TheVariants.{Stopped as RefusedStopped, Duplicate, TableFull}
 use Rattle.bsc_history.specs.declared.reply.Reply.{Reply}
 use Rattle.bsc_history.specs.declared.reply.Reply.TheVariants.{Joined, Refused, Appended, Closed, Skipped, NoHolder, SentAll, NotCurrent, Stopped, Gone, Counted}
-use Rattle.bsc_script.specs.Texts.{list_words, replacing_words}
-use Rattle.bsc_journal.specs.Lines.{reply_text}
+use Rattle.bsc_lines.specs.Replies.{list_words, replacing_words}
+use Rattle.bsc_lines.specs.Lines.{reply_text}
 use Rattle.bsc_journal.specs.Reading.{Read, after_one, counts_of, kept, loose_words, numbers_in, reply_in}
 use Rattle.bsc_journal.specs.Saying.{FitsCall, are_short, is_connect, is_short, reply_is_short}
 use Rattle.bsc_journal.proofs.CallsBack.{NoNumber, numbers_back}

@@ -12,7 +12,7 @@ use Rattle.bsc_script.specs.declared.line.Line.TheVariants.{Hub as HubLine}
 use Rattle.bsc_script.specs.Lines.{line_of}
 use Rattle.bsc_journal.specs.declared.said.Said.{Said}
 use Rattle.bsc_journal.specs.declared.said.Said.TheVariants.{Hub, Entry as AnEntry, Denial}
-use Rattle.bsc_journal.specs.Lines.{call_text, entry_line, reply_text, then_number}
+use Rattle.bsc_lines.specs.Lines.{call_text, entry_line, reply_text, then_number}
 use Rattle.bsc_journal.specs.Saying.{IsHubLine, IsLineOf, Says, is_denial}
 use Rattle.bsc_journal.specs.Good.{SayAll}
 use Rattle.bsc_journal.proofs.HubLines.{hub_first}

@@ -8,7 +8,7 @@ use Rattle.bsc_history.specs.declared.call.Call.TheVariants.{Connect, Forward, L
 use Rattle.bsc_history.specs.declared.ending.End.TheVariants.{Left, Replaced, Full, Stopped as EndStopped}
 use Rattle.bsc_history.specs.declared.reply.Refusal.TheVariants.{Stopped as RefusedStopped, Duplicate, TableFull}
 use Rattle.bsc_history.specs.declared.reply.Reply.TheVariants.{Joined, Refused, Closed, Skipped, NoHolder, SentAll, NotCurrent, Stopped, Gone, Counted}
-use Rattle.bsc_journal.specs.Lines.{entry_line}
+use Rattle.bsc_lines.specs.Lines.{entry_line}
 use Rattle.bsc_journal.specs.Saying.{FitsCall, HasOctets, ShowsLooks, call_is_short, is_denial, is_short, reply_is_short}
 use Rattle.bsc_journal.proofs.OnLiterals.{journals_on_literals}
 use Rattle.bsc_journal.proofs.WorkedPieces.{peer, peer_a, one_to_nine, the_hub, entry, look, to_b, a_joins, b_joins, a_sends, hub_line, a_line, b_line, sent_line, early_line}

@@ -5,7 +5,7 @@ use Rattle.bsc_history.specs.declared.entry.Entry.{Entry}
 use Rattle.bsc_history.specs.declared.limits.About.{About}
 use Rattle.bsc_history.specs.Legality.{Legal}
 use Rattle.bsc_text.specs.Lines.{line_in, pieces_of}
-use Rattle.bsc_journal.specs.Lines.{entry_line}
+use Rattle.bsc_lines.specs.Lines.{entry_line}
 use Rattle.bsc_journal.specs.Saying.{HasLine, IsHubLine, is_denial}
 
 -- the most octets that all journals may have together, with the ends of lines: 2^28

@@ -1,4 +1,3 @@
-pub mod Lines
 pub mod Saying
 pub mod Journals
 pub mod Good

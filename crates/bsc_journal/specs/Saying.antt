@@ -17,7 +17,7 @@ use Rattle.bsc_script.specs.declared.line.Line.TheVariants.{Hub as HubLine}
 use Rattle.bsc_script.specs.Lines.{line_of}
 use Rattle.bsc_journal.specs.declared.said.Said.{Said}
 use Rattle.bsc_journal.specs.declared.said.Said.TheVariants.{Hub, Entry as AnEntry, Denial}
-use Rattle.bsc_journal.specs.Lines.{entry_line}
+use Rattle.bsc_lines.specs.Lines.{entry_line}
 
 -- ---- which entries have a line
 

@@ -1,23 +1,19 @@
 //! Journals that can be audited: the line of each entry of a hub's history, written and read.
 //!
-//! Start at `specs/Lines.antt`, which says what the line of an entry is, and at `specs/Journals.antt`, which
-//! says which journals may be believed.
-//! `entry_line` writes the line of an entry, and `read_said` reads what a line of a journal says.
+//! Start at `specs/Lines.antt` of `bsc_lines`, which says what the line of an entry is, and at `specs/Journals.antt`,
+//! which says which journals may be believed.
+//! `entry_line` of `bsc_lines` writes the line of an entry, and `read_said` reads what a line of a journal says.
 #![tactic(auto)]
 
-mod calls;
 mod finding;
 mod having;
 mod read_calls;
 mod read_replies;
 mod reading;
-mod replies;
 mod said;
 mod saying;
-mod texts;
-mod writing;
 
+pub use bsc_lines::entry_line;
 pub use finding::read_entry;
 pub use said::Said;
 pub use saying::read_said;
-pub use writing::entry_line;

@@ -6,7 +6,7 @@ use Rattle.bsc_load.specs.declared.ends.LoadStop.{LoadStop}
 use Rattle.bsc_load.specs.declared.ends.LoadStop.TheVariants.{NoMemory, Short, Stopped}
 use Rattle.bsc_player.specs.LastLines.{EndsWith, RanOut}
 use Rattle.bsc_script.specs.Running.{hub_says}
-use Rattle.bsc_script.specs.Texts.{counts_words}
+use Rattle.bsc_lines.specs.Replies.{counts_words}
 use Rattle.bsc_script.specs.Written.{line_text}
 
 -- the line of the counts, as a script writes it

@@ -28,7 +28,7 @@ use Rattle.bsc_script.specs.declared.peer.Joined.{Joined}
 use Rattle.bsc_script.specs.declared.peer.Peer.{Peer as KeptPeer}
 use Rattle.bsc_script.specs.declared.script_hub.ScriptHub.{ScriptHub}
 use Rattle.bsc_script.specs.Written.{says, line_text}
-use Rattle.bsc_script.specs.Texts.{joined_words, refusal_words}
+use Rattle.bsc_lines.specs.Replies.{joined_words, refusal_words}
 use Rattle.bsc_script.specs.States.{State, Peer, default_times, joined_as, start_at, told, with_peer}
 use Rattle.bsc_script.specs.Calls.{called, is_worn, reply_in}
 use Rattle.bsc_script.specs.Carrying.{does, step_of, tells}

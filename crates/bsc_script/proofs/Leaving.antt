@@ -46,7 +46,7 @@ use Rattle.bsc_script.specs.declared.script_hub.ScriptHub.{ScriptHub}
 use Rattle.bsc_script.specs.States.{State, Peer, start_at, has_joined_as, is_named, peer_on, without_name}
 use Rattle.bsc_script.specs.Calls.{called, entry_in, reply_in, leave_of}
 use Rattle.bsc_script.specs.Written.{line_text, says}
-use Rattle.bsc_script.specs.Texts.{gone_words}
+use Rattle.bsc_lines.specs.Replies.{gone_words}
 use Rattle.bsc_script.specs.Settled.{IsSettledBut, SettledBut}
 use Rattle.bsc_script.specs.Emptying.{is_connected, due_after, emptied_after}
 use Rattle.bsc_script.specs.Carrying.{ends, leaves_if, quietly, Outcome}

@@ -1,5 +1,4 @@
 pub mod OnLiterals
-pub mod Chains
 pub mod Answered
 pub mod Pairs
 pub mod Peers

@@ -38,7 +38,7 @@ use Rattle.bsc_script.specs.declared.peer.Joined.{Joined}
 use Rattle.bsc_script.specs.declared.peer.Peer.{Peer as KeptPeer}
 use Rattle.bsc_script.specs.declared.script_hub.ScriptHub.{ScriptHub}
 use Rattle.bsc_script.specs.Written.{says, line_text, text_of}
-use Rattle.bsc_script.specs.Texts.{forward_words}
+use Rattle.bsc_lines.specs.Replies.{forward_words}
 use Rattle.bsc_script.specs.States.{State, Peer}
 use Rattle.bsc_script.specs.Calls.{called, entry_in, is_worn, reply_in}
 use Rattle.bsc_script.specs.Carrying.{Outcome, quietly, writes}

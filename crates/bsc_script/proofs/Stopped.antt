@@ -26,7 +26,7 @@ use Rattle.bsc_desk.specs.Entries.{count_entry, stop_entry, plain}
 use Rattle.bsc_desk.specs.Standing.{StandsFor}
 use Rattle.bsc_script.specs.declared.script_hub.ScriptHub.{ScriptHub}
 use Rattle.bsc_script.specs.Written.{says, line_text, text_of}
-use Rattle.bsc_script.specs.Texts.{counts_words}
+use Rattle.bsc_lines.specs.Replies.{counts_words}
 use Rattle.bsc_script.specs.States.{State, Peer, peer_on}
 use Rattle.bsc_script.specs.Calls.{called, entry_in, is_worn}
 use Rattle.bsc_script.specs.Carrying.{Outcome, quietly, writes}

@@ -6,7 +6,8 @@ use Rattle.bsc_accept.specs.declared.step.Step.TheVariants.{Reply, ReplyClose, C
 use Rattle.bsc_accept.specs.declared.closing.Closing.{Closing}
 use Rattle.bsc_accept.specs.Steps.{step}
 use Rattle.bsc_script.specs.Written.{Said, says}
-use Rattle.bsc_script.specs.Texts.{out_words, close_words, gone_words}
+use Rattle.bsc_script.specs.Texts.{out_words, close_words}
+use Rattle.bsc_lines.specs.Replies.{gone_words}
 use Rattle.bsc_script.specs.States.{State, Peer, start_of, told, with_peer, without_name}
 use Rattle.bsc_script.specs.Calls.{called, reply_in, leave_of}
 

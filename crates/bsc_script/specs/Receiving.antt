@@ -15,7 +15,8 @@ use Rattle.bsc_accept.specs.declared.step.Step.TheVariants.{Ask, Carry}
 use Rattle.bsc_accept.specs.Past.{phase}
 use Rattle.bsc_accept.specs.Steps.{closing}
 use Rattle.bsc_script.specs.Written.{Said, says}
-use Rattle.bsc_script.specs.Texts.{silent_words, joined_words, refusal_words, forward_words}
+use Rattle.bsc_script.specs.Texts.{silent_words}
+use Rattle.bsc_lines.specs.Replies.{joined_words, refusal_words, forward_words}
 use Rattle.bsc_script.specs.States.{State, Peer, told, joined_as, with_peer}
 use Rattle.bsc_script.specs.Calls.{called, reply_in, is_worn}
 use Rattle.bsc_script.specs.Carrying.{Outcome, quietly, writes, and_then, closes, does, step_of, tells}

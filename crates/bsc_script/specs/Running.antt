@@ -10,7 +10,7 @@ use Rattle.bsc_accept.specs.Steps.{closing}
 use Rattle.bsc_script.specs.declared.line.Line.{Line}
 use Rattle.bsc_script.specs.declared.line.Line.TheVariants.{Nothing, Hub, Open, In, Text, Drop, Hold, Free, At, Stop, Counts}
 use Rattle.bsc_script.specs.Written.{Said, says}
-use Rattle.bsc_script.specs.Texts.{counts_words}
+use Rattle.bsc_lines.specs.Replies.{counts_words}
 use Rattle.bsc_script.specs.States.{State, Peer, new_peer, peer_of, is_open, with_opened, with_peer, with_held}
 use Rattle.bsc_script.specs.Calls.{called, is_worn}
 use Rattle.bsc_script.specs.Carrying.{Outcome, quietly, writes, and_then, ends, closes, tells}

@@ -1,7 +1,7 @@
 //! The line of the hub's counts.
 ghost use Rattle.std.specs.Prelude.{◌≡◌, ◌++◌, IfOk, codes, decimal};
 ghost use Rattle.bsc_script.specs.Written.{line_text};
-ghost use Rattle.bsc_script.specs.Texts.{counts_words};
+ghost use Rattle.bsc_lines.specs.Replies.{counts_words};
 ghost use Rattle.bsc_script.specs.Running.{hub_says};
 
 use crate::texts::{put_number, put_words};

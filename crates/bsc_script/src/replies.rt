@@ -3,7 +3,7 @@ ghost use Rattle.std.specs.Prelude.{◌≡◌, ◌++◌, ℕ, List, flat_map, If
 ghost use Rattle.bsc_history.specs.declared.reply.Reply.TheVariants.{SentAll as SentAllReply};
 ghost use Rattle.bsc_desk.specs.Entries.{one_reply, all_reply, gone_reply};
 ghost use Rattle.bsc_script.specs.Written.{says, line_text};
-ghost use Rattle.bsc_script.specs.Texts.{replacing_words, joined_words, holder_words, refusal_words, ending_word, forward_words, list_words, gone_words};
+ghost use Rattle.bsc_lines.specs.Replies.{replacing_words, joined_words, holder_words, refusal_words, ending_word, forward_words, list_words, gone_words};
 
 use crate::texts::{begin_line, put_line, put_number, put_numbered, put_words};
 use bsc_desk::{AllReply, Gone, NewRow, OneReply};

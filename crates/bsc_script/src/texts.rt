@@ -2,7 +2,8 @@
 ghost use Rattle.std.specs.Prelude.{◌≡◌, ◌++◌, IfOk, codes, decimal};
 ghost use Rattle.hex.specs.Hex.{encode_upper};
 ghost use Rattle.bsc_script.specs.Written.{says, line_text};
-ghost use Rattle.bsc_script.specs.Texts.{out_words, silent_words, behind_space, close_words, numbered_word};
+ghost use Rattle.bsc_script.specs.Texts.{out_words, silent_words, behind_space, close_words};
+ghost use Rattle.bsc_lines.specs.Replies.{numbered_word};
 
 use bsc_accept::Closing;
 use bsc_check_lines::check_name;

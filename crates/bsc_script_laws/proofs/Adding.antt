@@ -19,7 +19,7 @@ use Rattle.bsc_accept.specs.declared.step.Step.TheVariants.{Ask, Reply as Answer
 use Rattle.bsc_script.specs.declared.line.Line.{Line}
 use Rattle.bsc_script.specs.declared.line.Line.TheVariants.{Nothing, Hub, Open, In, Text, Drop, Hold, Free, At, Stop, Counts}
 use Rattle.bsc_script.specs.Written.{says}
-use Rattle.bsc_script.specs.Texts.{counts_words, forward_words}
+use Rattle.bsc_lines.specs.Replies.{counts_words, forward_words}
 use Rattle.bsc_script.specs.States.{State, Peer, new_peer, told, joined_as, is_open, peer_of, with_peer, with_opened}
 use Rattle.bsc_script.specs.Calls.{called, entry_in, reply_in, is_worn, leave_of}
 use Rattle.bsc_script.specs.Carrying.{Outcome, quietly, writes, leaves_if, ends, does, step_of, tells}

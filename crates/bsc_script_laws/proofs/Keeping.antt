@@ -24,7 +24,7 @@ use Rattle.bsc_accept.specs.Past.{phase, phase_named, standing}
 use Rattle.bsc_script.specs.declared.line.Line.{Line}
 use Rattle.bsc_script.specs.declared.line.Line.TheVariants.{Nothing, Hub, Open, In as InLine, Text, Drop, Hold, Free, At, Stop, Counts}
 use Rattle.bsc_script.specs.Written.{says}
-use Rattle.bsc_script.specs.Texts.{counts_words, forward_words}
+use Rattle.bsc_lines.specs.Replies.{counts_words, forward_words}
 use Rattle.bsc_script.specs.States.{State, Peer, is_named, is_open, new_peer, peer_of, told, with_held, with_opened, with_peer}
 use Rattle.bsc_script.specs.Calls.{called, reply_in, is_worn}
 use Rattle.bsc_script.specs.Carrying.{Outcome, quietly, writes, leaves_if, ends, does, step_of, tells}

@@ -15,7 +15,11 @@ use Rattle.bsc_turn.specs.Passes.{number_of, seen}
 use Rattle.bsc_hub.specs.declared.hub.Hub.{Hub}
 use Rattle.bsc_hub.specs.declared.joined.Joined.{Joined}
 use Rattle.bsc_hub.specs.Calls.{connect_made, placed, refused_stamped}
-use Rattle.bsc_hub.specs.Passing.{IsOwnAs, Passed}
+use Rattle.bsc_desk.specs.Entries.{connect_entry, connect_stamped}
+use Rattle.bsc_history.specs.declared.mark.Stamped.{Stamped}
+use Rattle.bsc_history.specs.declared.reply.Reply.{Reply}
+use Rattle.bsc_notes.specs.Notes.{HasLine, Note, Records, made}
+use Rattle.bsc_hub.specs.Passing.{IsOwnAs, Passed, Placed}
 use Rattle.bsc_edge.specs.declared.fault.LinkFault.{LinkFault}
 use Rattle.bsc_edge.specs.declared.incoming.Incoming.{Incoming}
 use Rattle.bsc_edge.specs.declared.said.Said.{Said}
@@ -36,12 +40,13 @@ use Rattle.bsc_session.specs.declared.member.Member.{Member}
 use Rattle.bsc_session.specs.declared.stop.Stop.{Stop}
 use Rattle.bsc_session.specs.declared.why.Why.{Why}
 use Rattle.bsc_session.specs.declared.why.Why.TheVariants.{PeerLeft, Refused as WhyRefused}
-use Rattle.bsc_session.specs.Answering.{Fits, answered, called, calls_hub, last_wanted, stop_message}
-use Rattle.bsc_session.specs.Inner.{Answers, Carries, HasFound, Held, SeesWorn, Tied, has_joined}
-use Rattle.bsc_session.specs.Receiving.{Answer, replies, worn}
+use Rattle.bsc_session.specs.Answering.{Fits, answered, called, calls, denied_in, last_wanted, noted, stop_by}
+use Rattle.bsc_session.specs.Inner.{Answers, Carries, HasFound, Held, SeesWorn, Tied, Wrote, has_joined}
+use Rattle.bsc_session.specs.Receiving.{Answer, replies, worn, no_memory}
 use Rattle.bsc_session.specs.Standings.{Standing, Terms, start_of, told, wanted}
-use Rattle.bsc_session.specs.Stops.{closes, closing_in, first_of, stop_if}
+use Rattle.bsc_session.specs.Stops.{closes, closing_in, first_of, stop_if, stop_unrecorded}
 use Rattle.bsc_session.proofs.HubCalls.{goes_as, goes_passed}
+use Rattle.bsc_session.proofs.Recording.{no_line, wrote_as, wrote_made, wrote_none}
 use Rattle.bsc_session.proofs.Lists.{grown, grows-nil, grows_stays}
 
 -- ---- a step
@@ -51,7 +56,7 @@ no_stop_closes None s h = cc
 no_stop_closes (Some f) s h = cc
 
 -- a machine whose step was carried out and doesn't stop the session is open
-pub left_open : (st : Step) (m : Accepting) (fault : Option LinkFault) (why : Why) (stop : Option Stop) → LeftBy st m → calls_hub st ≡ false
+pub left_open : (st : Step) (m : Accepting) (fault : Option LinkFault) (why : Why) (stop : Option Stop) → LeftBy st m → calls st ≡ false
     → stop ≡ first_of (stop_if fault) (closes why (closing_in st)) → stop ≡ None → IsOpen m
 left_open (Ask who) m fault why stop left calls is going = cc
 left_open (ReplyStep o) m fault why stop left calls is going = left
@@ -93,35 +98,98 @@ found_new (Some e) (Some m) n alone h = cc
 
 -- ---- the connect
 
--- the hub let it join
-pub ask_joined : (h : Hub) (v : Terms) (s : Standing) (given : Result Incoming LinkFault) (p q : Pass) (a : At) (old mid new : Option (List Said)) (who : Identity) (j : Joined) (address : Vmac) (m : Accepting) (st : Step) (stop : Option Stop) (mem : Option Member)
-    → Held h v p a s → StandsFor a.machine (start_of v s) s.events → a.member ≡ None
+-- what is noted of a connect of which nothing is denied
+noted_connect : (v : Terms) (s : Standing) (given : Result Incoming LinkFault) (who : Identity) (at : ℕ) (reply : Reply) → denied_in v s (Ask who) given ≡ None
+    → noted v s (Ask who) given (Some (replies at [] reply)) ≡ made at (connect_entry v.caller who reply) ∷ []
+noted_connect v s given who at reply admitted = rw admitted refl
+
+noted_nothing : (v : Terms) (s : Standing) (given : Result Incoming LinkFault) (who : Identity) (answer : Answer) → denied_in v s (Ask who) given ≡ None → called v s (Ask who) given (Some answer) ≡ []
+    → noted v s (Ask who) given (Some answer) ≡ []
+noted_nothing v s given who (replies at looks reply) admitted none = cc
+noted_nothing v s given who worn admitted none = rw admitted refl
+noted_nothing v s given who no_memory admitted none = rw admitted refl
+
+-- the line of an entry, by the number of its caller
+wrote_connect : (h : Hub) (p q : Pass) (n : ℕ) (who : Identity) (at : ℕ) (x : Stamped) (reply : Reply) (held0 held1 : Option (List ℕ)) (lost : Option LinkFault)
+    → x.entry ≡ connect_entry (number_of p) who reply → number_of p ≡ n → Passed h p [] (placed at x) q
+    → Records held0 held1 (made at (connect_entry (number_of p) who reply) ∷ []) lost
+    → Wrote q held0 held1 (made at (connect_entry n who reply) ∷ []) lost
+wrote_connect h p q n who at x reply held0 held1 lost is same passed records =
+    let m : Placed = record { at = at; stamped = x } in
+    rw same at (wrote_made p q m (connect_entry (number_of p) who reply) held0 held1 lost passed.makes is records)
+
+-- where it stands once it joined
+joined_held : (h : Hub) (v : Terms) (s : Standing) (p q : Pass) (a : At) (who : Identity) (j : Joined) (address : Vmac) (m : Accepting) (mem : Option Member)
+    → Held h v p a s → a.member ≡ None
+    → Passed h p [] (connect_made (number_of p) who (Ok j)) q → IsOwnAs q j.conn who.vmac → mark_of (seen q) j.conn ≡ Some (outlet_mark j.outlet)
+    → address ≡ who.vmac → mem ≡ Some (record { conn = j.conn; address = address; outlet = j.outlet })
+    → Held h v q (record { machine = m; member = mem; ended = a.ended; receives = a.receives }) (record (told s JoinedEvent) { conn = Some j.conn; address = Some who.vmac })
+joined_held h v s p q a who j address m mem held alone passed owns mark is set = record {
+  caller = passed.caller;
+  number = passed.number ∙ held.number;
+  member = rw set (rw is owns, mark);
+  follows = record { conn = rw set refl; address = rw (set, is) refl; ended = held.follows.ended; receives = held.follows.receives; found = rw set (found_new a.ended a.member _ alone held.follows.found) };
+}
+
+-- the hub let it join, and that was noted
+pub ask_joined : (h : Hub) (v : Terms) (s : Standing) (given : Result Incoming LinkFault) (p q : Pass) (a : At) (old mid new : Option (List Said)) (held0 held1 : Option (List ℕ)) (who : Identity) (j : Joined) (address : Vmac) (m : Accepting) (st : Step) (stop : Option Stop) (mem : Option Member)
+    → Held h v p a s → StandsFor a.machine (start_of v s) s.events → a.member ≡ None → denied_in v s (Ask who) given ≡ None
     → Passed h p [] (connect_made (number_of p) who (Ok j)) q → IsOwnAs q j.conn who.vmac → IsNewOutlet j.outlet → mark_of (seen q) j.conn ≡ Some (outlet_mark j.outlet)
     → address ≡ who.vmac → mem ≡ Some (record { conn = j.conn; address = address; outlet = j.outlet }) → Stays old mid → MachineAnswers a.machine m JoinedEvent st → LeftBy st m → Carries mid new st PeerLeft stop
-    → Answers v s (Ask who) given h p q a (record { machine = m; member = mem; ended = a.ended; receives = a.receives }) old new stop
-ask_joined h v s given p q a old mid new who j address m st stop mem held stood alone passed owns fresh mark is set stays answers left carried =
+    → Records held0 held1 (made j.at (connect_entry (number_of p) who (JoinedReply j.conn j.replaced)) ∷ []) None
+    → Answers v s (Ask who) given h p q a (record { machine = m; member = mem; ended = a.ended; receives = a.receives }) old new held0 held1 stop
+ask_joined h v s given p q a old mid new held0 held1 who j address m st stop mem held stood alone admitted passed owns fresh mark is set stays answers left carried records =
     let does = answers (start_of v s) s.events stood in
     let k : Carries mid new (wanted v s JoinedEvent) PeerLeft stop = rw does.0 at carried in
     let l : LeftBy (wanted v s JoinedEvent) m = rw does.0 at left in
     record {
-      answer = Some (replies [] (JoinedReply j.conn j.replaced));
+      answer = Some (replies j.at [] (JoinedReply j.conn j.replaced));
+      lost = None;
       fault = k.fault;
-      calls = refl;
+      calls = rw admitted refl;
       fits = refl;
       goes = goes_as h p q _ _ (ap (λ (n : ℕ). let e : Entry = record { caller = n; call = Connect who; looks = []; reply = JoinedReply j.conn j.replaced } in e ∷ []) held.number) (goes_passed h p q (connect_made (number_of p) who (Ok j)) passed);
+      wrote = wrote_as q held0 held1 _ _ None (sym (noted_connect v s given who j.at (JoinedReply j.conn j.replaced) admitted)) (wrote_connect h p q v.caller who j.at (connect_stamped (number_of p) who (outlet_mark j.outlet) (JoinedReply j.conn j.replaced)) (JoinedReply j.conn j.replaced) held0 held1 None refl held.number passed records);
+      line = no_line (noted v s (Ask who) given (Some (replies j.at [] (JoinedReply j.conn j.replaced))));
       said = grown old mid new [] _ (grows_stays old mid stays) k.said;
       cause = k.cause;
-      stops = k.stops;
+      stops = rw admitted k.stops;
       is_worn = λ e. cc;
       given_same = rw (alone, set) fresh.0;
       empties_same = rw (alone, set) fresh.1;
-      held = record {
-        caller = passed.caller;
-        number = passed.number ∙ held.number;
-        member = rw set (rw is owns, mark);
-        follows = record { conn = rw set refl; ended = held.follows.ended; receives = held.follows.receives; found = rw set (found_new a.ended a.member _ alone held.follows.found) };
-      };
+      held = joined_held h v s p q a who j address m mem held alone passed owns mark is set;
       runs = λ going. record { machine = does.1; waits = left_open (wanted v s JoinedEvent) m k.fault PeerLeft stop l refl k.stops going; tied = tied_joined s j.conn };
+    }
+
+some_line : (ns : List Note) (n : Note) (fault : LinkFault) → ns ≡ n ∷ [] → HasLine ns (Some fault)
+some_line ns n fault e = rw e tt
+
+-- the hub let it join, and the line of that wasn't put
+pub ask_joined_lost : (h : Hub) (v : Terms) (s : Standing) (given : Result Incoming LinkFault) (p q : Pass) (a : At) (old new : Option (List Said)) (held0 held1 : Option (List ℕ)) (who : Identity) (j : Joined) (address : Vmac) (mem : Option Member) (fault : LinkFault) (stop : Stop)
+    → Held h v p a s → a.member ≡ None → denied_in v s (Ask who) given ≡ None
+    → Passed h p [] (connect_made (number_of p) who (Ok j)) q → IsOwnAs q j.conn who.vmac → IsNewOutlet j.outlet → mark_of (seen q) j.conn ≡ Some (outlet_mark j.outlet)
+    → address ≡ who.vmac → mem ≡ Some (record { conn = j.conn; address = address; outlet = j.outlet }) → Stays old new → stop ≡ stop_unrecorded fault
+    → Records held0 held1 (made j.at (connect_entry (number_of p) who (JoinedReply j.conn j.replaced)) ∷ []) (Some fault)
+    → Answers v s (Ask who) given h p q a (record { machine = a.machine; member = mem; ended = a.ended; receives = a.receives }) old new held0 held1 (Some stop)
+ask_joined_lost h v s given p q a old new held0 held1 who j address mem fault stop held alone admitted passed owns fresh mark is set stays by records =
+    let noted_so = noted_connect v s given who j.at (JoinedReply j.conn j.replaced) admitted in
+    record {
+      answer = Some (replies j.at [] (JoinedReply j.conn j.replaced));
+      lost = Some fault;
+      fault = None;
+      calls = rw admitted refl;
+      fits = refl;
+      goes = goes_as h p q _ _ (ap (λ (n : ℕ). let e : Entry = record { caller = n; call = Connect who; looks = []; reply = JoinedReply j.conn j.replaced } in e ∷ []) held.number) (goes_passed h p q (connect_made (number_of p) who (Ok j)) passed);
+      wrote = wrote_as q held0 held1 _ _ (Some fault) (sym noted_so) (wrote_connect h p q v.caller who j.at (connect_stamped (number_of p) who (outlet_mark j.outlet) (JoinedReply j.conn j.replaced)) (JoinedReply j.conn j.replaced) held0 held1 (Some fault) refl held.number passed records);
+      line = some_line _ _ fault noted_so;
+      said = grows_stays old new stays;
+      cause = tt;
+      stops = ap Some by;
+      is_worn = λ e. cc;
+      given_same = rw (alone, set) fresh.0;
+      empties_same = rw (alone, set) fresh.1;
+      held = joined_held h v s p q a who j address a.machine mem held alone passed owns mark is set;
+      runs = λ going. cc;
     }
 
 refused_stops : (id : ℕ) (r : Refusal) (fault : Option LinkFault) (why : Why) → None ≡ first_of (stop_if fault) (closes why (closing_in (refused_step id r))) → ⊥
@@ -133,52 +201,90 @@ pub refuse_carries : (v : Terms) (s : Standing) (a m : Accepting) (r : Refusal) 
     → StandsFor a (start_of v s) s.events → MachineAnswers a m (RefusedEvent r) st → Carries old new st (WhyRefused r) stop → Carries old new (wanted v s (RefusedEvent r)) (WhyRefused r) stop
 refuse_carries v s a m r st old new stop stood answers carried = (let does = answers (start_of v s) s.events stood in rw does.0 at carried)
 
--- the hub refused
-pub ask_refused : (h : Hub) (v : Terms) (s : Standing) (given : Result Incoming LinkFault) (p q : Pass) (a b : At) (old new : Option (List Said)) (who : Identity) (at : ℕ) (r : Refusal) (stop : Option Stop)
-    → Held h v p a s → a.member ≡ None
+refused_held : (h : Hub) (v : Terms) (s : Standing) (p q : Pass) (a b : At) (put : Option Placed) (e : Event)
+    → Held h v p a s → a.member ≡ None → Passed h p [] put q → b.member ≡ a.member → b.ended ≡ a.ended → b.receives ≡ a.receives → Held h v q b (told s e)
+refused_held h v s p q a b put e held alone passed member ended receives = record {
+  caller = passed.caller;
+  number = passed.number ∙ held.number;
+  member = rw (member, alone) tt;
+  follows = record { conn = rw member held.follows.conn; address = rw member held.follows.address; ended = ended ∙ held.follows.ended; receives = receives ∙ held.follows.receives; found = rw (member, ended) held.follows.found };
+}
+
+-- the hub refused, and that was noted
+pub ask_refused : (h : Hub) (v : Terms) (s : Standing) (given : Result Incoming LinkFault) (p q : Pass) (a b : At) (old new : Option (List Said)) (held0 held1 : Option (List ℕ)) (who : Identity) (at : ℕ) (r : Refusal) (stop : Option Stop)
+    → Held h v p a s → a.member ≡ None → denied_in v s (Ask who) given ≡ None
     → Passed h p [] (placed at (refused_stamped (number_of p) who r)) q
     → Carries old new (wanted v s (RefusedEvent r)) (WhyRefused r) stop → b.member ≡ a.member → b.ended ≡ a.ended → b.receives ≡ a.receives
-    → Answers v s (Ask who) given h p q a b old new stop
-ask_refused h v s given p q a b old new who at r stop held alone passed k member ended receives =
+    → Records held0 held1 (made at (connect_entry (number_of p) who (RefusedReply r)) ∷ []) None
+    → Answers v s (Ask who) given h p q a b old new held0 held1 stop
+ask_refused h v s given p q a b old new held0 held1 who at r stop held alone admitted passed k member ended receives records =
     record {
-      answer = Some (replies [] (RefusedReply r));
+      answer = Some (replies at [] (RefusedReply r));
+      lost = None;
       fault = k.fault;
-      calls = refl;
+      calls = rw admitted refl;
       fits = refl;
       goes = goes_as h p q _ _ (ap (λ (n : ℕ). let e : Entry = record { caller = n; call = Connect who; looks = []; reply = RefusedReply r } in e ∷ []) held.number) (goes_passed h p q (placed at (refused_stamped (number_of p) who r)) passed);
+      wrote = wrote_as q held0 held1 _ _ None (sym (noted_connect v s given who at (RefusedReply r) admitted)) (wrote_connect h p q v.caller who at (refused_stamped (number_of p) who r) (RefusedReply r) held0 held1 None refl held.number passed records);
+      line = no_line (noted v s (Ask who) given (Some (replies at [] (RefusedReply r))));
       said = k.said;
       cause = k.cause;
-      stops = k.stops;
+      stops = rw admitted k.stops;
       is_worn = λ e. cc;
       given_same = rw member refl;
       empties_same = rw member refl;
-      held = record {
-        caller = passed.caller;
-        number = passed.number ∙ held.number;
-        member = rw (member, alone) tt;
-        follows = record { conn = rw member held.follows.conn; ended = ended ∙ held.follows.ended; receives = receives ∙ held.follows.receives; found = rw (member, ended) held.follows.found };
-      };
+      held = refused_held h v s p q a b _ (RefusedEvent r) held alone passed member ended receives;
       runs = λ going. absurd (refused_stops _ r k.fault (WhyRefused r) (sym going ∙ k.stops));
+    }
+
+-- the hub refused, and the line of that wasn't put
+pub ask_refused_lost : (h : Hub) (v : Terms) (s : Standing) (given : Result Incoming LinkFault) (p q : Pass) (a : At) (old : Option (List Said)) (held0 held1 : Option (List ℕ)) (who : Identity) (at : ℕ) (r : Refusal) (fault : LinkFault) (stop : Stop)
+    → Held h v p a s → a.member ≡ None → denied_in v s (Ask who) given ≡ None
+    → Passed h p [] (placed at (refused_stamped (number_of p) who r)) q → stop ≡ stop_unrecorded fault
+    → Records held0 held1 (made at (connect_entry (number_of p) who (RefusedReply r)) ∷ []) (Some fault)
+    → Answers v s (Ask who) given h p q a a old old held0 held1 (Some stop)
+ask_refused_lost h v s given p q a old held0 held1 who at r fault stop held alone admitted passed by records =
+    let noted_so = noted_connect v s given who at (RefusedReply r) admitted in
+    record {
+      answer = Some (replies at [] (RefusedReply r));
+      lost = Some fault;
+      fault = None;
+      calls = rw admitted refl;
+      fits = refl;
+      goes = goes_as h p q _ _ (ap (λ (n : ℕ). let e : Entry = record { caller = n; call = Connect who; looks = []; reply = RefusedReply r } in e ∷ []) held.number) (goes_passed h p q (placed at (refused_stamped (number_of p) who r)) passed);
+      wrote = wrote_as q held0 held1 _ _ (Some fault) (sym noted_so) (wrote_connect h p q v.caller who at (refused_stamped (number_of p) who r) (RefusedReply r) held0 held1 (Some fault) refl held.number passed records);
+      line = some_line _ _ fault noted_so;
+      said = grows-nil old;
+      cause = tt;
+      stops = ap Some by;
+      is_worn = λ e. cc;
+      given_same = refl;
+      empties_same = refl;
+      held = refused_held h v s p q a a _ (RefusedEvent r) held alone passed refl refl refl;
+      runs = λ going. cc;
     }
 
 pub answer_is : (a b : Answer) → Some a ≡ Some b → a ≡ b
 answer_is a b h = cc
 
--- the hub's answer to a connect asks for no step
-pub ask_ends : (h : Hub) (v : Terms) (s : Standing) (given : Result Incoming LinkFault) (p q : Pass) (a : At) (old : Option (List Said)) (who : Identity) (answer : Answer) (stop : Stop)
-    → Held h v p a s → a.member ≡ None → Passed h p [] None q
+-- the hub's answer to a connect asks for no step, and nothing is noted
+pub ask_ends : (h : Hub) (v : Terms) (s : Standing) (given : Result Incoming LinkFault) (p q : Pass) (a : At) (old : Option (List Said)) (held0 : Option (List ℕ)) (who : Identity) (answer : Answer) (stop : Stop)
+    → Held h v p a s → a.member ≡ None → denied_in v s (Ask who) given ≡ None → Passed h p [] None q
     → last_wanted v s (Ask who) (Some answer) ≡ Nothing → answered s (Ask who) (Some answer) ≡ s → called v s (Ask who) given (Some answer) ≡ [] → Fits (Ask who) (Some answer)
-    → Some stop ≡ stop_message v s (Ask who) (Some answer) None → (answer ≡ worn → SeesWorn h q)
-    → Answers v s (Ask who) given h p q a a old old (Some stop)
-ask_ends h v s given p q a old who answer stop held alone passed quiet same none fits stops wears = record {
+    → Some stop ≡ stop_by (Some answer) → (answer ≡ worn → SeesWorn h q)
+    → Answers v s (Ask who) given h p q a a old old held0 held0 (Some stop)
+ask_ends h v s given p q a old held0 who answer stop held alone admitted passed quiet same none fits stops wears = record {
   answer = Some answer;
+  lost = None;
   fault = None;
-  calls = refl;
+  calls = rw admitted refl;
   fits = fits;
   goes = goes_as h p q [] _ (sym none) (goes_passed h p q None passed);
+  wrote = wrote_as q held0 held0 _ _ None (sym (noted_nothing v s given who answer admitted none)) (wrote_none q held0);
+  line = no_line (noted v s (Ask who) given (Some answer));
   said = rw quiet (grows-nil old);
   cause = rw quiet tt;
-  stops = stops;
+  stops = rw (admitted, sym stops) refl;
   is_worn = λ e. wears (answer_is answer worn e);
   given_same = refl;
   empties_same = refl;

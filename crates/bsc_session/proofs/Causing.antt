@@ -1,6 +1,6 @@
 -- How a session stops: each way with what the link gave last, whether there was memory to judge it, what the hub answered
 -- last, and the fault that came last.
-use Rattle.std.proofs.Common.{◌≡◌, ◌⊎◌, ◌↔◌, ℕ, Bool, true, false, is_some, List, [], refl, ap, sym, ◌∙◌, inl, inr, Option, Some, None, Result, Ok, Err}
+use Rattle.std.proofs.Common.{◌≡◌, ◌⊎◌, ◌↔◌, ℕ, Bool, true, false, is_some, is_none, ◌&&◌, List, [], refl, ap, sym, ◌∙◌, inl, inr, Option, Some, None, Result, Ok, Err}
 use Rattle.bsc_history.specs.declared.ending.End.{End}
 use Rattle.bsc_history.specs.declared.looks.Look.{Look}
 use Rattle.bsc_history.specs.declared.reply.Refusal.{Refusal}
@@ -14,16 +14,17 @@ use Rattle.bsc_accept.specs.declared.closing.Closing.{Closing}
 use Rattle.bsc_accept.specs.declared.step.Step.{Step}
 use Rattle.bsc_accept.specs.declared.step.Step.TheVariants.{Ask, Carry}
 use Rattle.bsc_session.specs.declared.why.Why.{Why}
-use Rattle.bsc_session.specs.declared.why.Why.TheVariants.{PeerClosed, NotBinary, PeerLeft, Refused, WaitExpired, Idle, EndedBy, Worn, LinkFault as WhyLinkFault, NoMemory, Spent}
+use Rattle.bsc_session.specs.declared.why.Why.TheVariants.{PeerClosed, NotBinary, PeerLeft, Refused, WaitExpired, Idle, EndedBy, Worn, LinkFault as WhyLinkFault, NoMemory, Spent, Denied, JournalFault}
+use Rattle.bsc_lines.specs.declared.denial.Denial.{Denial}
 use Rattle.bsc_session.specs.declared.stop.Stop.{Stop}
-use Rattle.bsc_session.specs.Answering.{Fits, calls_hub, cause_of, last_wanted, stop_by, stop_given, stop_judged, stop_message}
+use Rattle.bsc_session.specs.Answering.{Fits, calls, cause_of, denial_in, last_wanted, put_unless, stop_by, stop_denied, stop_given, stop_judged, stop_message}
 use Rattle.bsc_session.specs.Causes.{fault_at, given_in, judged_in, answer_in, hearing_fault, IsRefused}
 use Rattle.bsc_session.specs.Judging.{LacksAtPass, heard, heard_step}
 use Rattle.bsc_session.specs.Puts.{HasPut, octets_in}
 use Rattle.bsc_session.specs.Reading.{ticked, wanted_at}
 use Rattle.bsc_session.specs.Receiving.{Answer, replies, worn, no_memory, Hearing}
 use Rattle.bsc_session.specs.Standings.{Standing, Terms}
-use Rattle.bsc_session.specs.Stops.{stop_at, stop_if, closes, first_of, closing_in}
+use Rattle.bsc_session.specs.Stops.{stop_at, stop_if, stop_lost, closes, first_of, closing_in}
 use Rattle.bsc_session.specs.Taking.{Opening, put_first, waiting_for, ended_by, end_step, stop_before, opened}
 use Rattle.bsc_session.specs.Turns.{IsTurn, stop_in}
 use Rattle.bsc_session.proofs.EndingAtFault.{fault_put, nothing_put, some_is, alone, no_stop, after_none, none_put}
@@ -32,6 +33,7 @@ use Rattle.bsc_session.proofs.EndingAtFault.{fault_put, nothing_put, some_is, al
 abbrev pub IsTaken : Option Answer → Type 0
 IsTaken a = stop_by a ≡ None
 
+-- how a session ends whose lines were all put
 pub data Ends : Option (Result Incoming LinkFault) → Bool → Option Answer → Option LinkFault → Why → Type 0 where
   unjoined : Ends None true None None WaitExpired
   idle : Ends None true None None Idle
@@ -47,7 +49,8 @@ pub data Ends : Option (Result Incoming LinkFault) → Bool → Option Answer �
   memory : (x : List ℕ) → Ends (Some (Ok (Message x))) true (Some no_memory) None NoMemory
   failed : (x : List ℕ) (a : Option Answer) → IsTaken a → Ends (Some (Ok (Message x))) true a (Some Failed) WhyLinkFault
   failed_memory : (x : List ℕ) (a : Option Answer) → IsTaken a → Ends (Some (Ok (Message x))) true a (Some MemoryFault) NoMemory
-  refused : (x : List ℕ) (l : List Look) (r : Refusal) → Ends (Some (Ok (Message x))) true (Some (replies l (RefusedReply r))) None (Refused r)
+  refused : (x : List ℕ) (at : ℕ) (l : List Look) (r : Refusal) → Ends (Some (Ok (Message x))) true (Some (replies at l (RefusedReply r))) None (Refused r)
+  denied : (x : List ℕ) → Ends (Some (Ok (Message x))) true None None (Denied 0)
   left : (x : List ℕ) (a : Option Answer) → IsTaken a → ((r : Refusal) → IsRefused a r → ⊥) → Ends (Some (Ok (Message x))) true a None PeerLeft
 
 pub why_is : (a b : Stop) → Some a ≡ Some b → b.why ≡ a.why
@@ -57,9 +60,11 @@ no_put : (fault : Option LinkFault) → HasPut [] fault → fault ≡ None
 no_put None h = refl
 no_put (Some f) h = absurd h
 
-no_answer : (a : Option Answer) → is_some a ≡ false → a ≡ None
-no_answer None h = refl
-no_answer (Some x) h = cc
+-- what asks for no call gets no answer
+no_answer : (d : Option Denial) (a : Option Answer) → is_some a ≡ is_none d && false → a ≡ None
+no_answer d None h = refl
+no_answer None (Some x) h = cc
+no_answer (Some d) (Some x) h = cc
 
 -- ---- the opening
 
@@ -101,60 +106,73 @@ failed_ends x a Failed h = failed x a h
 failed_ends x a MemoryFault h = failed_memory x a h
 
 none_refused : (r : Refusal) → IsRefused None r → ⊥
-none_refused r h = (let k = h.1 in cc)
+none_refused r h = (let k = h.2 in cc)
 
-joined_refused : (l : List Look) (c : ℕ) (x : Option ℕ) (r : Refusal) → IsRefused (Some (replies l (Joined c x))) r → ⊥
-joined_refused l c x r h = (let k = h.1 in cc)
+joined_refused : (at : ℕ) (l : List Look) (c : ℕ) (x : Option ℕ) (r : Refusal) → IsRefused (Some (replies at l (Joined c x))) r → ⊥
+joined_refused at l c x r h = (let k = h.2 in cc)
 
 -- a message that was answered with no fault
-left_ends : (x : List ℕ) (v : Terms) (s : Standing) (st : Step) (a : Option Answer) (stop : Stop) → IsTaken a → Fits st a → closes (cause_of st a) (closing_in (last_wanted v s st a)) ≡ Some stop → is_some a ≡ calls_hub st
+left_ends : (x : List ℕ) (v : Terms) (s : Standing) (st : Step) (a : Option Answer) (stop : Stop) → IsTaken a → Fits st a → closes (cause_of st a) (closing_in (last_wanted v s st a)) ≡ Some stop → is_some a ≡ calls st
     → Ends (Some (Ok (Message x))) true a None stop.why
-left_ends x v s (Ask who) (Some (replies l (RefusedReply r))) stop h fits is calls = rw (closes_why (Refused r) (closing_in (last_wanted v s (Ask who) (Some (replies l (RefusedReply r))))) stop is) (refused x l r)
-left_ends x v s (Ask who) (Some (replies l (Joined c y))) stop h fits is calls = rw (closes_why PeerLeft (closing_in (last_wanted v s (Ask who) (Some (replies l (Joined c y))))) stop is) (left x (Some (replies l (Joined c y))) refl (joined_refused l c y))
+left_ends x v s (Ask who) (Some (replies at l (RefusedReply r))) stop h fits is calls = rw (closes_why (Refused r) (closing_in (last_wanted v s (Ask who) (Some (replies at l (RefusedReply r))))) stop is) (refused x at l r)
+left_ends x v s (Ask who) (Some (replies at l (Joined c y))) stop h fits is calls = rw (closes_why PeerLeft (closing_in (last_wanted v s (Ask who) (Some (replies at l (Joined c y))))) stop is) (left x (Some (replies at l (Joined c y))) refl (joined_refused at l c y))
 left_ends x v s (Ask who) a stop h fits is calls = cc
 left_ends x v s Carry a stop h fits is calls = cc
 left_ends x v s st None stop h fits is calls = rw (closes_why PeerLeft (closing_in (last_wanted v s st None)) stop is) (left x None refl none_refused)
 left_ends x v s st (Some a) stop h fits is calls = cc
 
-message_ends : (x : List ℕ) (v : Terms) (s : Standing) (st : Step) (a : Option Answer) (fault : Option LinkFault) (stop : Stop) → is_some a ≡ calls_hub st → Fits st a → HasPut (octets_in (last_wanted v s st a)) fault → stop_message v s st a fault ≡ Some stop
-    → Ends (Some (Ok (Message x))) true a fault stop.why
-message_ends x v s st (Some worn) fault stop calls fits put is =
+answered_ends : (x : List ℕ) (v : Terms) (s : Standing) (st : Step) (a : Option Answer) (fault : Option LinkFault) (stop : Stop) → is_some a ≡ calls st → Fits st a → HasPut (octets_in (last_wanted v s st a)) fault
+    → first_of (stop_by a) (first_of (stop_if fault) (closes (cause_of st a) (closing_in (last_wanted v s st a)))) ≡ Some stop → Ends (Some (Ok (Message x))) true a fault stop.why
+answered_ends x v s st (Some worn) fault stop calls fits put is =
     let k : HasPut [] fault = rw (nothing_put v s st worn (inl refl) calls) at put in
     rw (no_put fault k, why_is _ stop is) (is_worn x)
-message_ends x v s st (Some no_memory) fault stop calls fits put is =
+answered_ends x v s st (Some no_memory) fault stop calls fits put is =
     let k : HasPut [] fault = rw (nothing_put v s st no_memory (inr refl) calls) at put in
     rw (no_put fault k, why_is _ stop is) (memory x)
-message_ends x v s st a None stop calls fits put is = left_ends x v s st a stop refl fits is calls
-message_ends x v s st a (Some f) stop calls fits put is = rw (why_is (stop_at f) stop is) (failed_ends x a f refl)
+answered_ends x v s st a None stop calls fits put is = left_ends x v s st a stop refl fits is calls
+answered_ends x v s st a (Some f) stop calls fits put is = rw (why_is (stop_at f) stop is) (failed_ends x a f refl)
 
-judged_ends : (x : List ℕ) (v : Terms) (s0 s : Standing) (now : ℕ) (judged : Bool) (a : Option Answer) (fault : Option LinkFault) (stop : Stop)
-    → is_some a ≡ calls_hub (heard_step v s0 now judged (Ok (Message x))) → Fits (heard_step v s0 now judged (Ok (Message x))) a → HasPut (octets_in (last_wanted v s (heard_step v s0 now judged (Ok (Message x))) a)) fault
-    → stop_judged judged (stop_message v s (heard_step v s0 now judged (Ok (Message x))) a fault) ≡ Some stop
+message_ends : (x : List ℕ) (v : Terms) (s : Standing) (st : Step) (d : Option Denial) (a : Option Answer) (fault : Option LinkFault) (stop : Stop) → is_some a ≡ is_none d && calls st → Fits st a → HasPut (octets_in (last_wanted v s st a)) fault
+    → stop_message v s st d a None fault ≡ Some stop → Ends (Some (Ok (Message x))) true a fault stop.why
+message_ends x v s st None a fault stop calls fits put is = answered_ends x v s st a fault stop calls fits put is
+message_ends x v s st (Some d) (Some a) fault stop calls fits put is = cc
+message_ends x v s (Ask who) (Some d) None fault stop calls fits put is = rw (no_put fault put, why_is _ stop is) (denied x)
+message_ends x v s Carry (Some d) None fault stop calls fits put is = (let k : None ≡ Some stop = rw (no_put fault put) at is in cc)
+message_ends x v s st (Some d) None fault stop calls fits put is = answered_ends x v s st None fault stop refl fits put is
+
+judged_ends : (x : List ℕ) (v : Terms) (s0 s : Standing) (now : ℕ) (judged : Bool) (d : Option Denial) (a : Option Answer) (fault : Option LinkFault) (stop : Stop)
+    → is_some a ≡ is_none d && calls (heard_step v s0 now judged (Ok (Message x))) → Fits (heard_step v s0 now judged (Ok (Message x))) a → HasPut (octets_in (last_wanted v s (heard_step v s0 now judged (Ok (Message x))) a)) fault
+    → stop_judged judged (stop_message v s (heard_step v s0 now judged (Ok (Message x))) d a None fault) ≡ Some stop
     → Ends (Some (Ok (Message x))) judged a fault stop.why
-judged_ends x v s0 s now true a fault stop calls fits put is = message_ends x v s (heard_step v s0 now true (Ok (Message x))) a fault stop calls fits put is
-judged_ends x v s0 s now false a fault stop calls fits put is = rw (no_answer a calls, no_put fault put, why_is _ stop is) (unjudged x)
+judged_ends x v s0 s now true d a fault stop calls fits put is = message_ends x v s (heard_step v s0 now true (Ok (Message x))) d a fault stop calls fits put is
+judged_ends x v s0 s now false d a fault stop calls fits put is = rw (no_answer d a calls, no_put fault put, why_is _ stop is) (unjudged x)
 
-given_ends : (v : Terms) (s0 s : Standing) (now : ℕ) (judged : Bool) (given : Result Incoming LinkFault) (a : Option Answer) (fault : Option LinkFault) (stop : Stop)
-    → LacksAtPass v s0 judged given → is_some a ≡ calls_hub (heard_step v s0 now judged given) → Fits (heard_step v s0 now judged given) a → HasPut (octets_in (last_wanted v s (heard_step v s0 now judged given) a)) fault
-    → stop_given given (stop_judged judged (stop_message v s (heard_step v s0 now judged given) a fault)) ≡ Some stop
+given_ends : (v : Terms) (s0 s : Standing) (now : ℕ) (judged : Bool) (given : Result Incoming LinkFault) (d : Option Denial) (a : Option Answer) (fault : Option LinkFault) (stop : Stop)
+    → LacksAtPass v s0 judged given → is_some a ≡ is_none d && calls (heard_step v s0 now judged given) → Fits (heard_step v s0 now judged given) a → HasPut (octets_in (last_wanted v s (heard_step v s0 now judged given) a)) fault
+    → stop_given given (stop_judged judged (stop_message v s (heard_step v s0 now judged given) d a None fault)) ≡ Some stop
     → Ends (Some given) judged a (fault_at given fault) stop.why
-given_ends v s0 s now true (Err f) a fault stop lacks calls fits put is = rw (no_answer a calls, why_is (stop_at f) stop is) (unheard_ends f)
-given_ends v s0 s now true (Ok Closed) a fault stop lacks calls fits put is = rw (no_answer a calls, no_put fault put, why_is _ stop is) closed
-given_ends v s0 s now true (Ok Text) a fault stop lacks calls fits put is = rw (no_answer a calls, no_put fault put, why_is _ stop is) text
-given_ends v s0 s now true (Ok Quiet) a fault stop lacks calls fits put is = cc
-given_ends v s0 s now judged (Ok (Message x)) a fault stop lacks calls fits put is = judged_ends x v s0 s now judged a fault stop calls fits put is
-given_ends v s0 s now false (Err f) a fault stop lacks calls fits put is = absurd lacks
-given_ends v s0 s now false (Ok Closed) a fault stop lacks calls fits put is = absurd lacks
-given_ends v s0 s now false (Ok Text) a fault stop lacks calls fits put is = absurd lacks
-given_ends v s0 s now false (Ok Quiet) a fault stop lacks calls fits put is = absurd lacks
+given_ends v s0 s now true (Err f) d a fault stop lacks calls fits put is = rw (no_answer d a calls, why_is (stop_at f) stop is) (unheard_ends f)
+given_ends v s0 s now true (Ok Closed) d a fault stop lacks calls fits put is = rw (no_answer d a calls, no_put fault put, why_is _ stop is) closed
+given_ends v s0 s now true (Ok Text) d a fault stop lacks calls fits put is = rw (no_answer d a calls, no_put fault put, why_is _ stop is) text
+given_ends v s0 s now true (Ok Quiet) d a fault stop lacks calls fits put is = cc
+given_ends v s0 s now judged (Ok (Message x)) d a fault stop lacks calls fits put is = judged_ends x v s0 s now judged d a fault stop calls fits put is
+given_ends v s0 s now false (Err f) d a fault stop lacks calls fits put is = absurd lacks
+given_ends v s0 s now false (Ok Closed) d a fault stop lacks calls fits put is = absurd lacks
+given_ends v s0 s now false (Ok Text) d a fault stop lacks calls fits put is = absurd lacks
+given_ends v s0 s now false (Ok Quiet) d a fault stop lacks calls fits put is = absurd lacks
 
 -- ---- the turn
 
-pub turn_ends : (v : Terms) (s : Standing) (o : Opening) (h : Option Hearing) (stop : Stop) → IsTurn v s (record { opening = o; hearing = h }) → stop_in v s (record { opening = o; hearing = h }) ≡ Some stop
+-- why a line of a hearing wasn't put
+abbrev pub lost_after : Option Hearing → Option LinkFault
+lost_after None = None
+lost_after (Some h) = h.lost
+
+pub turn_ends : (v : Terms) (s : Standing) (o : Opening) (h : Option Hearing) (stop : Stop) → o.lost ≡ None → lost_after h ≡ None → IsTurn v s (record { opening = o; hearing = h }) → stop_in v s (record { opening = o; hearing = h }) ≡ Some stop
     → Ends (given_in h) (judged_in h) (answer_in h) (hearing_fault o.fault h) stop.why
-turn_ends v s o None stop is stops = opening_ends s.conn (closing_in (wanted_at v s o.reading)) v (ticked s o.reading) o.met o.reading (put_first v s o) o.fault stop (fault_put v s o is.opening) (none_put v s o is.opening) (sym (alone (stop_before v s o)) ∙ stops)
-turn_ends v s o (Some h) stop is stops = given_ends v (opened s o) (heard v (opened s o) o.reading h.judged h.given) o.reading h.judged h.given h.answer h.fault stop is.hearing.memory is.hearing.calls is.hearing.fits is.hearing.cause
-    (after_none (stop_before v s o) _ stop (no_stop (stop_before v s o) is.heard) stops)
+turn_ends v s o None stop first later is stops = opening_ends s.conn (closing_in (wanted_at v s o.reading)) v (ticked s o.reading) o.met o.reading (put_first v s o) o.fault stop (fault_put v s o is.opening) (none_put v s o is.opening) (rw first at (sym (alone (stop_before v s o)) ∙ stops))
+turn_ends v s o (Some h) stop first later is stops = given_ends v (opened s o) (heard v (opened s o) o.reading h.judged h.given) o.reading h.judged h.given (denial_in v (opened s o) o.reading h) h.answer h.fault stop is.hearing.memory is.hearing.calls is.hearing.fits (rw later at is.hearing.cause)
+    (rw later at (after_none (stop_before v s o) _ stop (no_stop (stop_before v s o) is.heard) stops))
 
 -- ---- the rows
 
@@ -179,15 +197,15 @@ row_worn (failed_memory x a t) = (λ h. cc, λ h. absurd (not_worn a t h))
 row_worn (left x a t n) = (λ h. cc, λ h. absurd (not_worn a t h))
 row_worn e = (λ h. cc, λ h. cc)
 
-reply_is : (l k : List Look) (p q : Reply) → Some (replies l p) ≡ Some (replies k q) → p ≡ q
-reply_is l k p q h = cc
+reply_is : (i j : ℕ) (l k : List Look) (p q : Reply) → Some (replies i l p) ≡ Some (replies j k q) → p ≡ q
+reply_is i j l k p q h = cc
 
 pub row_refused : {g : Option (Result Incoming LinkFault)} {j : Bool} {a : Option Answer} {f : Option LinkFault} {w : Why} → (r : Refusal) → Ends g j a f w → w ≡ Refused r ↔ (IsRefused a r × (f ≡ None))
-row_refused r (refused x l k) = (λ h. ((l, cc), refl), λ h. (let e = reply_is l h.0.0 (RefusedReply k) (RefusedReply r) h.0.1 in cc))
-row_refused r (failed x a t) = (λ h. (([], cc), cc), λ h. (let e = h.1 in cc))
-row_refused r (failed_memory x a t) = (λ h. (([], cc), cc), λ h. (let e = h.1 in cc))
-row_refused r (left x a t n) = (λ h. (([], cc), cc), λ h. absurd (n r h.0))
-row_refused r e = (λ h. (([], cc), cc), λ h. (let k = h.0.1 in cc))
+row_refused r (refused x at l k) = (λ h. ((at, l, cc), refl), λ h. (let e = reply_is at h.0.0 l h.0.1 (RefusedReply k) (RefusedReply r) h.0.2 in cc))
+row_refused r (failed x a t) = (λ h. ((0, [], cc), cc), λ h. (let e = h.1 in cc))
+row_refused r (failed_memory x a t) = (λ h. ((0, [], cc), cc), λ h. (let e = h.1 in cc))
+row_refused r (left x a t n) = (λ h. ((0, [], cc), cc), λ h. absurd (n r h.0))
+row_refused r e = (λ h. ((0, [], cc), cc), λ h. (let k = h.0.2 in cc))
 
 pub row_link_fault : {g : Option (Result Incoming LinkFault)} {j : Bool} {a : Option Answer} {f : Option LinkFault} {w : Why} → Ends g j a f w → w ≡ WhyLinkFault ↔ (f ≡ Some Failed)
 row_link_fault cut = (λ h. refl, λ h. refl)
@@ -226,3 +244,11 @@ parts_before d e h = cc
 pub left_after : {j : Bool} {a : Option Answer} {f : Option LinkFault} {w : Why} → Ends None j a f w → w ≡ PeerLeft → ⊥
 left_after unjoined h = cc
 left_after e h = cc
+
+pub denied_after : {j : Bool} {a : Option Answer} {f : Option LinkFault} {w : Why} → (rule : ℕ) → Ends None j a f w → w ≡ Denied rule → ⊥
+denied_after rule unjoined h = cc
+denied_after rule e h = cc
+
+pub not_journal : {g : Option (Result Incoming LinkFault)} {j : Bool} {a : Option Answer} {f : Option LinkFault} {w : Why} → Ends g j a f w → w ≡ JournalFault → ⊥
+not_journal unjoined h = cc
+not_journal e h = cc

@@ -82,8 +82,8 @@ sound_heard v s now true given k = record { tied = k.tied; quits = k.quits }
 sound_heard v s now false given k = record { tied = k.tied; quits = k.quits }
 
 sound_answered : (s : Standing) (st : Step) (a : Option Answer) → Sound s → Sound (answered s st a)
-sound_answered s (Ask who) (Some (replies l (Joined c r))) k = record { tied = tied_joined s c; quits = quits_told s JoinedEvent refl k.quits }
-sound_answered s (Ask who) (Some (replies l (Refused r))) k = record { tied = tied_told s (RefusedEvent r) refl k.tied; quits = quits_told s (RefusedEvent r) refl k.quits }
+sound_answered s (Ask who) (Some (replies at l (Joined c r))) k = record { tied = tied_joined s c; quits = quits_told s JoinedEvent refl k.quits }
+sound_answered s (Ask who) (Some (replies at l (Refused r))) k = record { tied = tied_told s (RefusedEvent r) refl k.tied; quits = quits_told s (RefusedEvent r) refl k.quits }
 sound_answered s st a k = k
 
 sound_after : (v : Terms) (s : Standing) (now : ℕ) (h : Option Hearing) → Sound s → Sound (stands_after v s now h)
@@ -104,8 +104,8 @@ ended_heard v s now true given = refl
 ended_heard v s now false given = refl
 
 ended_answered : (s : Standing) (st : Step) (a : Option Answer) → (answered s st a).ended ≡ s.ended
-ended_answered s (Ask who) (Some (replies l (Joined c r))) = refl
-ended_answered s (Ask who) (Some (replies l (Refused r))) = refl
+ended_answered s (Ask who) (Some (replies at l (Joined c r))) = refl
+ended_answered s (Ask who) (Some (replies at l (Refused r))) = refl
 ended_answered s st a = refl
 
 -- a hearing meets none

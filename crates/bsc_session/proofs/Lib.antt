@@ -18,3 +18,8 @@ mod Asking
 mod HubCalls
 mod TakingFrames
 mod CarryingOut
+mod Recording
+mod Filtering
+mod Losing
+mod Denying
+mod Blaming

@@ -61,6 +61,11 @@ pub HasPut-append : (xs ys : List (List ℕ)) (fault : Option LinkFault) → Has
 HasPut-append [] ys fault h = h
 HasPut-append (x ∷ xs) ys fault h = tt
 
+-- no fault needs no put
+pub well : (os : List (List ℕ)) → HasPut os None
+well [] = tt
+well (o ∷ os) = tt
+
 pub stays_same : {A : Type 0} (o : Option A) → Stays o o
 stays_same None = tt
 stays_same (Some x) = refl

@@ -18,16 +18,17 @@ use Rattle.bsc_edge.specs.declared.fault.LinkFault.{LinkFault}
 use Rattle.bsc_edge.specs.declared.incoming.Incoming.{Incoming}
 use Rattle.bsc_edge.specs.declared.incoming.Incoming.TheVariants.{Message}
 use Rattle.bsc_session.specs.Judging.{heard_told}
-use Rattle.bsc_session.specs.Inner.{Between, Follows, HasStanding, Hears, Held, IsFollowed, IsMember, Makes, Opens, SameMember, Starts, empties_by, is_more, stop_of}
+use Rattle.bsc_session.specs.Inner.{Between, Follows, HasStanding, Hears, Held, IsFollowed, IsMember, Makes, Opens, SameMember, Starts, empties_by, is_more, lost_by, stop_of}
 use Rattle.bsc_session.specs.Puts.{puts}
 use Rattle.bsc_session.specs.Reading.{started, ticked}
 use Rattle.bsc_session.specs.Receiving.{Answer, replies, Hearing}
 use Rattle.bsc_session.specs.Standings.{Standing, Terms, is_connected}
 use Rattle.bsc_session.specs.Stops.{first_of}
-use Rattle.bsc_session.specs.Taking.{Opening, end_told, opened, put_first, stop_before, wait_by, wait_in}
+use Rattle.bsc_session.specs.Taking.{Opening, end_told, notes_opening, opened, put_first, stop_before, wait_by, wait_in}
 use Rattle.bsc_session.specs.Turns.{after}
 use Rattle.bsc_session.proofs.HubCalls.{goes_nowhere}
 use Rattle.bsc_session.proofs.Lists.{grows_as, grown}
+use Rattle.bsc_session.proofs.Losing.{line_behind, line_opening, lost_before, lost_hearing, wrote_hearing, wrote_opening}
 
 pub member_same : (p : Pass) (m n : Option Member) → SameMember m n → IsMember p m → IsMember p n
 member_same p None None h k = tt
@@ -35,8 +36,8 @@ member_same p (Some m) (Some n) h k = rw (h.0, h.1, h.2) k
 member_same p None (Some n) h k = absurd h
 member_same p (Some m) None h k = absurd h
 
-pub held_opened : (h : Hub) (v : Terms) (s : Standing) (now : ℕ) (p : Pass) (a a1 b : At) (old new : Option (List Said)) (result : Result Backlog Stop) → Held h v p a s → Starts v s now a a1 → (k : Opens v s now a1 b old new result) → Held h v p b (opened s k.opening)
-held_opened h v s now p a a1 b old new result held st k = record {
+pub held_opened : (h : Hub) (v : Terms) (s : Standing) (now : ℕ) (p : Pass) (a a1 b : At) (old new : Option (List Said)) (pages pages' : Option (List ℕ)) (result : Result Backlog Stop) → Held h v p a s → Starts v s now a a1 → (k : Opens v s now a1 b old new pages pages' result) → Held h v p b (opened s k.opening)
+held_opened h v s now p a a1 b old new pages pages' result held st k = record {
   caller = held.caller;
   number = held.number;
   member = member_same p a1.member b.member k.same (rw st.member held.member);
@@ -44,9 +45,9 @@ held_opened h v s now p a a1 b old new result held st k = record {
 }
 
 -- the opening stops the session
-pub makes_opening : (h : Hub) (v : Terms) (s : Standing) (now : ℕ) (p : Pass) (a a1 b : At) (old new : Option (List Said)) (read read' : Option (List ℕ)) (stop : Stop) → s.receives < v.turns → Held h v p a s → Starts v s now a a1
-    → Grows read read' (now ∷ []) → Opens v s now a1 b old new (Err stop) → Makes v s h p p a b old new read read' (Some stop)
-makes_opening h v s now p a a1 b old new read read' stop room held st reads k = record {
+pub makes_opening : (h : Hub) (v : Terms) (s : Standing) (now : ℕ) (p : Pass) (a a1 b : At) (old new : Option (List Said)) (read read' : Option (List ℕ)) (pages pages' : Option (List ℕ)) (stop : Stop) → s.receives < v.turns → Held h v p a s → Starts v s now a a1
+    → Grows read read' (now ∷ []) → Opens v s now a1 b old new pages pages' (Err stop) → Makes v s h p p a b old new read read' pages pages' (Some stop)
+makes_opening h v s now p a a1 b old new read read' pages pages' stop room held st reads k = record {
   turn = record { opening = k.opening; hearing = None };
   is = record { room = room; opening = k.is; heard = rw (sym k.stops) refl; hearing = tt };
   goes = goes_nowhere h p held.caller;
@@ -55,19 +56,23 @@ makes_opening h v s now p a a1 b old new read read' stop room held st reads k = 
       let e : empties_by b.member ≡ empties_by a1.member + (if is_none k.opening.met && (false && (is_connected (ticked s k.opening.reading) && nat_lt (length k.opening.frames) 16)) then 1 else 0) = rw (sym k.stops) at k.empties in e);
   said = grows_as old new _ _ (sym (append-nil (puts (put_first v s k.opening) k.opening.fault))) k.said;
   reads = rw k.read reads;
+  wrote = wrote_opening v s p k.opening pages pages' (Some stop) k.is k.stops k.records;
+  line = line_opening v s k.opening (Some stop) k.is k.stops;
   stops = rw (sym k.stops) refl;
   is_worn = λ e. cc;
-  held = held_opened h v s now p a a1 b old new (Err stop) held st k;
+  held = held_opened h v s now p a a1 b old new pages pages' (Err stop) held st k;
   runs = λ going. cc;
 }
 
 -- the opening goes on, and the session hears
-pub makes_hearing : (h : Hub) (v : Terms) (s : Standing) (now : ℕ) (p q : Pass) (a a1 b c : At) (old mid new : Option (List Said)) (read read' : Option (List ℕ)) (stop : Option Stop) (backlog : Backlog) (wait : ℕ) → s.receives < v.turns
-    → Starts v s now a a1 → Grows read read' (now ∷ []) → (k : Opens v s now a1 b old mid (Ok backlog)) → wait ≡ wait_by (is_more backlog) → Hears v (opened s k.opening) now wait h p q b c mid new stop
-    → Makes v s h p q a c old new read read' stop
-makes_hearing h v s now p q a a1 b c old mid new read read' stop backlog wait room st reads k waits hears =
+pub makes_hearing : (h : Hub) (v : Terms) (s : Standing) (now : ℕ) (p q : Pass) (a a1 b c : At) (old mid new : Option (List Said)) (read read' : Option (List ℕ)) (pages pages' pages'' : Option (List ℕ)) (stop : Option Stop) (backlog : Backlog) (wait : ℕ) → s.receives < v.turns
+    → Starts v s now a a1 → Grows read read' (now ∷ []) → (k : Opens v s now a1 b old mid pages pages' (Ok backlog)) → wait ≡ wait_by (is_more backlog) → Hears v (opened s k.opening) now wait h p q b c mid new pages' pages'' stop
+    → Makes v s h p q a c old new read read' pages pages'' stop
+makes_hearing h v s now p q a a1 b c old mid new read read' pages pages' pages'' stop backlog wait room st reads k waits hears =
     let w : wait ≡ wait_in k.opening = waits ∙ ap wait_by k.more in
-    let l : Hears v (opened s k.opening) k.opening.reading (wait_in k.opening) h p q b c mid new stop = rw (sym k.read, w) at hears in
+    let l : Hears v (opened s k.opening) k.opening.reading (wait_in k.opening) h p q b c mid new pages' pages'' stop = rw (sym k.read, w) at hears in
+    let unlost : k.opening.lost ≡ None = sym (lost_before v s k.opening k.is) ∙ ap lost_by (sym k.stops) in
+    let same : l.hearing.lost ≡ lost_by stop = sym (lost_hearing v (opened s k.opening) k.opening.reading l.hearing l.is) ∙ ap lost_by (sym l.stops) in
     record {
       turn = record { opening = k.opening; hearing = Some l.hearing };
       is = record { room = room; opening = k.is; heard = rw (sym k.stops) refl; hearing = l.is };
@@ -77,6 +82,8 @@ makes_hearing h v s now p q a a1 b c old mid new read read' stop backlog wait ro
           let e : empties_by b.member ≡ empties_by a1.member + (if is_none k.opening.met && (true && (is_connected (ticked s k.opening.reading) && nat_lt (length k.opening.frames) 16)) then 1 else 0) = rw (sym k.stops) at k.empties in e));
       said = grown old mid new (puts (put_first v s k.opening) k.opening.fault) (said_hearing v (opened s k.opening) k.opening.reading (wait_in k.opening) l.hearing) k.said l.said;
       reads = rw k.read reads;
+      wrote = rw same at (wrote_hearing v s p q k.opening l.hearing pages pages' pages'' (rw unlost at k.records) l.goes.sees l.wrote l.is.line);
+      line = rw same at (line_behind (notes_opening v s k.opening) _ l.hearing.lost l.is.line);
       stops = rw (sym k.stops) l.stops;
       is_worn = l.is_worn;
       held = l.held;
@@ -93,8 +100,8 @@ pub receives_opened : (s : Standing) (o : Opening) → (opened s o).receives ≡
 receives_opened s o = receives_met (ticked s o.reading) o.reading o.met
 
 receives_answered : (s : Standing) (st : Step) (a : Option Answer) → (answered s st a).receives ≡ s.receives
-receives_answered s (Ask who) (Some (replies l (Joined c r))) = refl
-receives_answered s (Ask who) (Some (replies l (Refused r))) = refl
+receives_answered s (Ask who) (Some (replies at l (Joined c r))) = refl
+receives_answered s (Ask who) (Some (replies at l (Refused r))) = refl
 receives_answered s st a = refl
 
 heard_by : (v : Terms) (s : Standing) (now : ℕ) (judged : Bool) (given : Result Incoming LinkFault) → (heard_told v s now judged given).receives ≡ s.receives
@@ -119,17 +126,17 @@ at_most_one true = omega arith
 at_most_one false = omega arith
 
 -- a turn that goes on has received
-pub receives_more : (v : Terms) (s : Standing) (h : Hub) (p q : Pass) (a b : At) (old new : Option (List Said)) (read read' : Option (List ℕ)) → (k : Makes v s h p q a b old new read read' None) → (after v s k.turn).receives ≡ s.receives + 1
-receives_more v s h p q a b old new read read' k =
+pub receives_more : (v : Terms) (s : Standing) (h : Hub) (p q : Pass) (a b : At) (old new : Option (List Said)) (read read' : Option (List ℕ)) (pages pages' : Option (List ℕ)) → (k : Makes v s h p q a b old new read read' pages pages' None) → (after v s k.turn).receives ≡ s.receives + 1
+receives_more v s h p q a b old new read read' pages pages' k =
     let some : is_some k.turn.hearing ≡ true = k.is.heard ∙ none_first (stop_before v s k.turn.opening) _ k.stops in
     receives_heard v s k.turn.opening k.turn.hearing some
 
 not_zero : (n m : ℕ) → n ≡ m + 1 → n ≡ 0 → ⊥
 not_zero n m h k = (let e : m + 1 ≡ 0 = sym h ∙ k in absurd (omega (arith, e)))
 
-pub between_more : (v : Terms) (s : Standing) (h : Hub) (p q : Pass) (a b : At) (old new : Option (List Said)) (read read' : Option (List ℕ)) → Between v a s → (k : Makes v s h p q a b old new read read' None) → Between v b (after v s k.turn)
-between_more v s h p q a b old new read read' between k =
-    let more = receives_more v s h p q a b old new read read' k in
+pub between_more : (v : Terms) (s : Standing) (h : Hub) (p q : Pass) (a b : At) (old new : Option (List Said)) (read read' : Option (List ℕ)) (pages pages' : Option (List ℕ)) → Between v a s → (k : Makes v s h p q a b old new read read' pages pages' None) → Between v b (after v s k.turn)
+between_more v s h p q a b old new read read' pages pages' between k =
+    let more = receives_more v s h p q a b old new read read' pages pages' k in
     record {
       runs = k.runs refl;
       fresh = λ z. absurd (not_zero (after v s k.turn).receives s.receives more z);
@@ -142,8 +149,8 @@ followed_started v s now a b st = (v, started s now, st.follows, st.runs)
 pub room_started : (v : Terms) (s : Standing) (now : ℕ) (a b : At) → Starts v s now a b → Follows a s → Between v a s → a.receives < 18446744073709551615 → empties_by b.member < 18446744073709551615
 room_started v s now a b st f between room = (let x = between.bounded in let r = f.receives in rw st.member (omega (arith, x, r, room)))
 
-pub standing_opened : (h : Hub) (v : Terms) (s : Standing) (now : ℕ) (p : Pass) (a a1 b : At) (old new : Option (List Said)) (result : Result Backlog Stop) → stop_of result ≡ None → Held h v p a s → Starts v s now a a1 → Opens v s now a1 b old new result → HasStanding h p b
-standing_opened h v s now p a a1 b old new result going held st k = (v, opened s k.opening, held_opened h v s now p a a1 b old new result held st k, k.runs going)
+pub standing_opened : (h : Hub) (v : Terms) (s : Standing) (now : ℕ) (p : Pass) (a a1 b : At) (old new : Option (List Said)) (pages pages' : Option (List ℕ)) (result : Result Backlog Stop) → stop_of result ≡ None → Held h v p a s → Starts v s now a a1 → Opens v s now a1 b old new pages pages' result → HasStanding h p b
+standing_opened h v s now p a a1 b old new pages pages' result going held st k = (v, opened s k.opening, held_opened h v s now p a a1 b old new pages pages' result held st k, k.runs going)
 
-pub room_opened : (h : Hub) (v : Terms) (s : Standing) (now : ℕ) (p : Pass) (a a1 b : At) (old new : Option (List Said)) (result : Result Backlog Stop) → Held h v p a s → Opens v s now a1 b old new result → a.receives < 18446744073709551615 → b.receives < 18446744073709551615
-room_opened h v s now p a a1 b old new result held k room = (let e : b.receives ≡ a.receives = k.follows.receives ∙ receives_opened s k.opening ∙ sym held.follows.receives in rw e room)
+pub room_opened : (h : Hub) (v : Terms) (s : Standing) (now : ℕ) (p : Pass) (a a1 b : At) (old new : Option (List Said)) (pages pages' : Option (List ℕ)) (result : Result Backlog Stop) → Held h v p a s → Opens v s now a1 b old new pages pages' result → a.receives < 18446744073709551615 → b.receives < 18446744073709551615
+room_opened h v s now p a a1 b old new pages pages' result held k room = (let e : b.receives ≡ a.receives = k.follows.receives ∙ receives_opened s k.opening ∙ sym held.follows.receives in rw e room)

@@ -1,7 +1,8 @@
 -- A turn's opening: the time, and what the outlet has.
-use Rattle.std.proofs.Common.{◌≡◌, ◌≢◌, ◌<◌, ℕ, Bool, true, false, not, cond, is_some, List, [], length, refl, ap, sym, ◌∙◌, append-nil, arith, inl, inr, lit≤, Option, Some, None, Result, Ok, Err}
+use Rattle.std.proofs.Common.{◌≡◌, ◌≢◌, ◌<◌, ℕ, Bool, true, false, not, cond, is_some, List, [], ◌++◌, length, map, refl, ap, sym, subst, ◌∙◌, append-nil, arith, inl, inr, lit≤, Option, Some, None, Result, Ok, Err}
 use Rattle.std.specs.Prelude.{nat_lt}
 use Rattle.std.proofs.lemmas.Bool.{lt-ltb}
+use Rattle.bsc_policy.specs.declared.policy.Policy.{Policy}
 use Rattle.bsc_history.specs.declared.ending.End.{End}
 use Rattle.bsc_history.specs.declared.ending.End.TheVariants.{Left, Full}
 use Rattle.bsc_ring.specs.declared.ends.Outlet.{Outlet}
@@ -25,33 +26,37 @@ use Rattle.bsc_session.specs.declared.backlog.Backlog.TheVariants.{MaybeMore, No
 use Rattle.bsc_session.specs.declared.member.Member.{Member}
 use Rattle.bsc_session.specs.declared.stop.Stop.{Stop}
 use Rattle.bsc_session.specs.declared.taken.Taken.{Taken}
-use Rattle.bsc_session.specs.declared.taken.Taken.TheVariants.{All, Part, Met, Cut}
+use Rattle.bsc_session.specs.declared.taken.Taken.TheVariants.{All, Part, Met, Cut, Lost}
 use Rattle.bsc_session.specs.declared.why.Why.{Why}
 use Rattle.bsc_session.specs.declared.why.Why.TheVariants.{EndedBy}
-use Rattle.bsc_session.specs.Answering.{calls_hub}
-use Rattle.bsc_session.specs.Inner.{Attends, Carries, Follows, HasEnded, HasFound, Meets, Opens, Runs, SameMember, Takes, TakesFrom, TellsMore, Ticks, Tied, conn_of, cut_in, given_by, is_more, met_in, stop_of}
-use Rattle.bsc_session.specs.Puts.{octets_in, puts}
+use Rattle.bsc_session.specs.Answering.{calls}
+use Rattle.bsc_notes.specs.Notes.{HasLine, Records, denied}
+use Rattle.bsc_session.specs.Guarding.{denials, let_through}
+use Rattle.bsc_session.specs.Inner.{Attends, Carries, Follows, HasEnded, HasFound, Meets, Opens, Runs, SameMember, Takes, TakesFrom, TellsMore, Ticks, Tied, address_by, conn_of, cut_in, given_by, is_more, met_in, stop_of, unput_in}
+use Rattle.bsc_session.specs.Puts.{HasPut, octets_in, puts}
 use Rattle.bsc_session.specs.Reading.{started, ticked, wanted_at}
 use Rattle.bsc_session.specs.Standings.{Standing, Terms, is_connected, is_phase_connected, start_of, told, wanted}
-use Rattle.bsc_session.specs.Stops.{closes, closing_in, stop_at, stop_for}
-use Rattle.bsc_session.specs.Taking.{may_be_more, waiting_for}
+use Rattle.bsc_session.specs.Stops.{closes, closing_in, stop_at, stop_for, stop_unrecorded}
+use Rattle.bsc_session.specs.Taking.{last_alone, may_be_more, noted_of, passing, waiting_for}
 use Rattle.bsc_session.proofs.Asking.{left_open, tied_told}
 use Rattle.bsc_session.proofs.Hearing.{connected_joined, some_of}
-use Rattle.bsc_session.proofs.Lists.{grown, grows-nil, grows_as, puts-append}
+use Rattle.bsc_session.proofs.Filtering.{noted-nil, passing-nil}
+use Rattle.bsc_session.proofs.Lists.{grown, grows-nil, grows_as, puts-append, well}
+use Rattle.bsc_session.proofs.Recording.{no_line, records-nil}
 
 -- ---- the time
 
-cond_calls : (b : Bool) (c : Closing) → calls_hub (cond b (Close c) Nothing) ≡ false
+cond_calls : (b : Bool) (c : Closing) → calls (cond b (Close c) Nothing) ≡ false
 cond_calls true c = refl
 cond_calls false c = refl
 
-tick_calls : (s : Start) (last now : ℕ) (g : MachineStanding) → calls_hub (tick_step s last now g) ≡ false
+tick_calls : (s : Start) (last now : ℕ) (g : MachineStanding) → calls (tick_step s last now g) ≡ false
 tick_calls s last now awaiting_request = cond_calls (connect_wait_is_over s now) _
 tick_calls s last now connected = cond_calls (is_idle s last now) _
 tick_calls s last now (disconnecting f) = cond_calls (disconnect_wait_is_over s f now) normal
 
 follows_told : (a : At) (s : Standing) (m : Accepting) (now : ℕ) → Follows a s → Follows (record { machine = m; member = a.member; ended = a.ended; receives = a.receives }) (told s (Tick now))
-follows_told a s m now f = record { conn = f.conn; ended = f.ended; receives = f.receives; found = f.found }
+follows_told a s m now f = record { conn = f.conn; address = f.address; ended = f.ended; receives = f.receives; found = f.found }
 
 -- the reading closes the session
 pub ticks_closed : (v : Terms) (s : Standing) (now : ℕ) (a : At) (m : Accepting) (st : Step) (c : Closing) (why : Why) (stop : Stop) → Follows a s → Runs v a s → MachineAnswers a.machine m (Tick now) st
@@ -89,8 +94,9 @@ keep_end : (e : Option End) (m : Member) (p : Outlet) → ((d : End) → HasEnde
 keep_end None m p keeps h = tt
 keep_end (Some d) m p keeps h = keeps d h
 
-pub takes_from : (m : Member) (p : Outlet) (old new : Option (List Said)) (taken : Taken) → Takes m.outlet p old new taken → TakesFrom (Some m) (Some (record { conn = m.conn; address = m.address; outlet = p })) old new taken
-takes_from m p old new taken t = record {
+pub takes_from : (policy : Option Policy) (m : Member) (p : Outlet) (old new : Option (List Said)) (pages pages' : Option (List ℕ)) (taken : Taken) → Takes policy m.address m.outlet p old new pages pages' taken
+    → TakesFrom policy (Some m) (Some (record { conn = m.conn; address = m.address; outlet = p })) old new pages pages' taken
+takes_from policy m p old new pages pages' taken t = record {
   frames = t.frames;
   same = (refl, refl, t.mark);
   keeps = λ e h. keep_end e m p t.keeps h;
@@ -102,7 +108,15 @@ takes_from m p old new taken t = record {
   fits = t.fits;
   said = t.said;
   cause = t.cause;
+  records = t.records;
+  line = t.line;
 }
+
+address_same : (m n : Option Member) → SameMember m n → address_by n ≡ address_by m
+address_same None None h = refl
+address_same (Some m) (Some n) h = ap (λ x. Some x) h.1
+address_same None (Some n) h = absurd h
+address_same (Some m) None h = absurd h
 
 conn_same : (m n : Option Member) → SameMember m n → conn_of n ≡ conn_of m
 conn_same None None h = refl
@@ -111,24 +125,54 @@ conn_same None (Some n) h = absurd h
 conn_same (Some m) None h = absurd h
 
 follows_taken : (a : At) (n : Option Member) (s : Standing) → SameMember a.member n → ((e : Option End) → HasFound e a.member → HasFound e n) → Follows a s → Follows (record { machine = a.machine; member = n; ended = a.ended; receives = a.receives }) s
-follows_taken a n s same keeps f = record { conn = conn_same a.member n same ∙ f.conn; ended = f.ended; receives = f.receives; found = keeps a.ended f.found }
+follows_taken a n s same keeps f = record { conn = conn_same a.member n same ∙ f.conn; address = address_same a.member n same ∙ f.address; ended = f.ended; receives = f.receives; found = keeps a.ended f.found }
 
--- no End and no fault came
-attends_on : (v : Terms) (s : Standing) (now : ℕ) (a : At) (n : Option Member) (old new : Option (List Said)) (taken : Taken) (backlog : Backlog)
-    → met_in taken ≡ None → cut_in taken ≡ None → (t : TakesFrom a.member n old new taken) → is_more backlog ≡ may_be_more t.frames None
+-- what a policy lets through to a connection, and what is noted of the others, by the session that follows it
+passing_so : (v : Terms) (s : Standing) (policy : Option Policy) (m : Option Member) (frames : List (List ℕ)) → v.policy ≡ policy → address_by m ≡ s.address
+    → let_through policy (address_by m) frames ≡ passing v s frames
+passing_so v s policy m frames fixed there = ap (λ x. let_through x (address_by m) frames) (sym fixed) ∙ ap (λ x. let_through v.policy x frames) there
+
+noted_so : (v : Terms) (s : Standing) (policy : Option Policy) (m : Option Member) (frames : List (List ℕ)) → v.policy ≡ policy → address_by m ≡ s.address
+    → map denied (denials policy (address_by m) frames) ≡ noted_of v s frames
+noted_so v s policy m frames fixed there = ap (λ x. map denied (denials x (address_by m) frames)) (sym fixed) ∙ ap (λ x. map denied (denials v.policy x frames)) there
+
+-- the puts of a taking that met no End
+said_so : (v : Terms) (s : Standing) (policy : Option Policy) (m n : Option Member) (old new : Option (List Said)) (pages pages' : Option (List ℕ)) (taken : Taken) → v.policy ≡ policy → address_by m ≡ s.address
+    → (t : TakesFrom policy m n old new pages pages' taken) → Grows old new (puts (passing v s t.frames ++ []) (cut_in taken))
+said_so v s policy m n old new pages pages' taken fixed there t = grows_as old new _ _ (ap (λ w. puts w (cut_in taken)) (passing_so v s policy m t.frames fixed there ∙ sym (append-nil (passing v s t.frames)))) t.said
+
+cause_so : (v : Terms) (s : Standing) (policy : Option Policy) (m n : Option Member) (old new : Option (List Said)) (pages pages' : Option (List ℕ)) (taken : Taken) → v.policy ≡ policy → address_by m ≡ s.address
+    → (t : TakesFrom policy m n old new pages pages' taken) → HasPut (passing v s (last_alone t.frames)) (cut_in taken)
+cause_so v s policy m n old new pages pages' taken fixed there t = subst (λ w. HasPut w (cut_in taken)) (passing_so v s policy m (last_alone t.frames) fixed there) t.cause
+
+records_so : (v : Terms) (s : Standing) (policy : Option Policy) (m n : Option Member) (old new : Option (List Said)) (pages pages' : Option (List ℕ)) (taken : Taken) → v.policy ≡ policy → address_by m ≡ s.address
+    → (t : TakesFrom policy m n old new pages pages' taken) → Records pages pages' (noted_of v s t.frames) (unput_in taken)
+records_so v s policy m n old new pages pages' taken fixed there t = subst (λ w. Records pages pages' w (unput_in taken)) (noted_so v s policy m t.frames fixed there) t.records
+
+line_so : (v : Terms) (s : Standing) (policy : Option Policy) (m n : Option Member) (old new : Option (List Said)) (pages pages' : Option (List ℕ)) (taken : Taken) → v.policy ≡ policy → address_by m ≡ s.address
+    → (t : TakesFrom policy m n old new pages pages' taken) → HasLine (noted_of v s (last_alone t.frames)) (unput_in taken)
+line_so v s policy m n old new pages pages' taken fixed there t = subst (λ w. HasLine w (unput_in taken)) (noted_so v s policy m (last_alone t.frames) fixed there) t.line
+
+-- no End and no fault came, and no line was lost
+attends_on : (v : Terms) (s : Standing) (now : ℕ) (policy : Option Policy) (a : At) (n : Option Member) (old new : Option (List Said)) (pages pages' : Option (List ℕ)) (taken : Taken) (backlog : Backlog)
+    → v.policy ≡ policy → met_in taken ≡ None → cut_in taken ≡ None → unput_in taken ≡ None
+    → (t : TakesFrom policy a.member n old new pages pages' taken) → is_more backlog ≡ may_be_more t.frames None
     → Follows a s → Runs v a s
-    → Attends v s now a (record { machine = a.machine; member = n; ended = a.ended; receives = a.receives }) old new (Ok backlog)
-attends_on v s now a n old new taken backlog unmet uncut t more f r = record {
+    → Attends v s now a (record { machine = a.machine; member = n; ended = a.ended; receives = a.receives }) old new pages pages' (Ok backlog)
+attends_on v s now policy a n old new pages pages' taken backlog fixed unmet uncut unlost t more f r = record {
   frames = t.frames;
   met = None;
+  lost = None;
   fault = None;
   same = t.same;
   gave = t.gave;
-  empties = rw (unmet, uncut) at t.empties;
+  empties = rw (unmet, uncut, unlost) at t.empties;
   few = rw unmet at t.few;
   left = λ h. cc;
-  said = rw append-nil (rw uncut at t.said);
-  cause = rw uncut at t.cause;
+  said = rw uncut at (said_so v s policy a.member n old new pages pages' taken fixed f.address t);
+  cause = rw uncut at (cause_so v s policy a.member n old new pages pages' taken fixed f.address t);
+  records = rw unlost at (records_so v s policy a.member n old new pages pages' taken fixed f.address t);
+  line = rw unlost at (line_so v s policy a.member n old new pages pages' taken fixed f.address t);
   stops = refl;
   more = more;
   follows = follows_taken a n s t.same t.keeps f;
@@ -143,38 +187,66 @@ many_more : (frames : List (List ℕ)) → length frames ≡ 16 → true ≡ may
 many_more frames many = ap (λ (n : ℕ). not (nat_lt n 16)) (sym many)
 
 -- nothing more was there
-pub attends_all : (v : Terms) (s : Standing) (now : ℕ) (a : At) (n : Option Member) (old new : Option (List Said))
-    → TakesFrom a.member n old new All → Follows a s → Runs v a s
-    → Attends v s now a (record { machine = a.machine; member = n; ended = a.ended; receives = a.receives }) old new (Ok NothingLeft)
-attends_all v s now a n old new t f r = attends_on v s now a n old new All NothingLeft refl refl t (few_more t.frames t.fits) f r
+pub attends_all : (v : Terms) (s : Standing) (now : ℕ) (policy : Option Policy) (a : At) (n : Option Member) (old new : Option (List Said)) (pages pages' : Option (List ℕ))
+    → v.policy ≡ policy → TakesFrom policy a.member n old new pages pages' All → Follows a s → Runs v a s
+    → Attends v s now a (record { machine = a.machine; member = n; ended = a.ended; receives = a.receives }) old new pages pages' (Ok NothingLeft)
+attends_all v s now policy a n old new pages pages' fixed t f r = attends_on v s now policy a n old new pages pages' All NothingLeft fixed refl refl refl t (few_more t.frames t.fits) f r
 
 -- there may be more
-pub attends_part : (v : Terms) (s : Standing) (now : ℕ) (a : At) (n : Option Member) (old new : Option (List Said))
-    → TakesFrom a.member n old new Part → Follows a s → Runs v a s
-    → Attends v s now a (record { machine = a.machine; member = n; ended = a.ended; receives = a.receives }) old new (Ok MaybeMore)
-attends_part v s now a n old new t f r = attends_on v s now a n old new Part MaybeMore refl refl t (many_more t.frames t.fits) f r
+pub attends_part : (v : Terms) (s : Standing) (now : ℕ) (policy : Option Policy) (a : At) (n : Option Member) (old new : Option (List Said)) (pages pages' : Option (List ℕ))
+    → v.policy ≡ policy → TakesFrom policy a.member n old new pages pages' Part → Follows a s → Runs v a s
+    → Attends v s now a (record { machine = a.machine; member = n; ended = a.ended; receives = a.receives }) old new pages pages' (Ok MaybeMore)
+attends_part v s now policy a n old new pages pages' fixed t f r = attends_on v s now policy a n old new pages pages' Part MaybeMore fixed refl refl refl t (many_more t.frames t.fits) f r
 
 -- the taking was cut off by a fault
-pub attends_cut : (v : Terms) (s : Standing) (now : ℕ) (a : At) (n : Option Member) (old new : Option (List Said)) (fault : LinkFault) (stop : Stop) → TakesFrom a.member n old new (Cut fault) → Follows a s → stop ≡ stop_at fault
-    → Attends v s now a (record { machine = a.machine; member = n; ended = a.ended; receives = a.receives }) old new (Err stop)
-attends_cut v s now a n old new fault stop t f is = record {
+pub attends_cut : (v : Terms) (s : Standing) (now : ℕ) (policy : Option Policy) (a : At) (n : Option Member) (old new : Option (List Said)) (pages pages' : Option (List ℕ)) (fault : LinkFault) (stop : Stop)
+    → v.policy ≡ policy → TakesFrom policy a.member n old new pages pages' (Cut fault) → Follows a s → stop ≡ stop_at fault
+    → Attends v s now a (record { machine = a.machine; member = n; ended = a.ended; receives = a.receives }) old new pages pages' (Err stop)
+attends_cut v s now policy a n old new pages pages' fault stop fixed t f is = record {
   frames = t.frames;
   met = None;
+  lost = None;
   fault = Some fault;
   same = t.same;
   gave = t.gave;
   empties = t.empties;
   few = t.few;
   left = λ h. cc;
-  said = rw append-nil t.said;
-  cause = t.cause;
+  said = said_so v s policy a.member n old new pages pages' (Cut fault) fixed f.address t;
+  cause = cause_so v s policy a.member n old new pages pages' (Cut fault) fixed f.address t;
+  records = records_so v s policy a.member n old new pages pages' (Cut fault) fixed f.address t;
+  line = line_so v s policy a.member n old new pages pages' (Cut fault) fixed f.address t;
   stops = ap (λ x. Some x) is;
   more = tt;
   follows = follows_taken a n s t.same t.keeps f;
   runs = λ going. cc;
 }
 
-ended_calls : (e : End) → calls_hub (ended_step e) ≡ false
+-- the taking was cut off by a line that wasn't put
+pub attends_lost : (v : Terms) (s : Standing) (now : ℕ) (policy : Option Policy) (a : At) (n : Option Member) (old new : Option (List Said)) (pages pages' : Option (List ℕ)) (fault : LinkFault) (stop : Stop)
+    → v.policy ≡ policy → TakesFrom policy a.member n old new pages pages' (Lost fault) → Follows a s → stop ≡ stop_unrecorded fault
+    → Attends v s now a (record { machine = a.machine; member = n; ended = a.ended; receives = a.receives }) old new pages pages' (Err stop)
+attends_lost v s now policy a n old new pages pages' fault stop fixed t f is = record {
+  frames = t.frames;
+  met = None;
+  lost = Some fault;
+  fault = None;
+  same = t.same;
+  gave = t.gave;
+  empties = t.empties;
+  few = t.few;
+  left = λ h. cc;
+  said = said_so v s policy a.member n old new pages pages' (Lost fault) fixed f.address t;
+  cause = cause_so v s policy a.member n old new pages pages' (Lost fault) fixed f.address t;
+  records = records_so v s policy a.member n old new pages pages' (Lost fault) fixed f.address t;
+  line = line_so v s policy a.member n old new pages pages' (Lost fault) fixed f.address t;
+  stops = ap (λ x. Some x) is;
+  more = tt;
+  follows = follows_taken a n s t.same t.keeps f;
+  runs = λ going. cc;
+}
+
+ended_calls : (e : End) → calls (ended_step e) ≡ false
 ended_calls Full = refl
 ended_calls e = refl
 
@@ -198,24 +270,28 @@ not_left : (e : End) → e ≢ Left → Some e ≢ Some Left
 not_left e h is = h cc
 
 -- the taking came to an End, and what the machine then wanted was carried out
-pub attends_met : (v : Terms) (s : Standing) (now : ℕ) (a b : At) (n : Option Member) (old mid new : Option (List Said)) (e : End) (stop : Option Stop) (result : Result Backlog Stop) → TakesFrom a.member n old mid (Met e)
-    → Follows a s → Meets v s now e (record { machine = a.machine; member = n; ended = a.ended; receives = a.receives }) b mid new stop
-    → stop_of result ≡ stop → TellsMore result false → Attends v s now a b old new result
-attends_met v s now a b n old mid new e stop result t f k is more = record {
+pub attends_met : (v : Terms) (s : Standing) (now : ℕ) (policy : Option Policy) (a b : At) (n : Option Member) (old mid new : Option (List Said)) (pages pages' : Option (List ℕ)) (e : End) (stop : Option Stop) (result : Result Backlog Stop)
+    → v.policy ≡ policy → TakesFrom policy a.member n old mid pages pages' (Met e) → Follows a s → Meets v s now e (record { machine = a.machine; member = n; ended = a.ended; receives = a.receives }) b mid new stop
+    → stop_of result ≡ stop → TellsMore result false → Attends v s now a b old new pages pages' result
+attends_met v s now policy a b n old mid new pages pages' e stop result fixed t f k is more = record {
   frames = t.frames;
   met = Some e;
+  lost = None;
   fault = k.carried.fault;
   same = rw k.member t.same;
   gave = rw k.member t.gave;
   empties = rw k.member t.empties;
   few = t.few;
   left = not_left e (t.left e refl);
-  said = grows_as old new _ _ (sym (puts-append t.frames (octets_in (wanted v s (Ended now e))) k.carried.fault k.carried.cause))
-      (grown old mid new (puts t.frames None) (puts (octets_in (wanted v s (Ended now e))) k.carried.fault) t.said k.carried.said);
+  said = grows_as old new _ _ (sym (puts-append (passing v s t.frames) (octets_in (wanted v s (Ended now e))) k.carried.fault k.carried.cause))
+      (grown old mid new (puts (passing v s t.frames) None) (puts (octets_in (wanted v s (Ended now e))) k.carried.fault)
+      (grows_as old mid _ _ (ap (λ w. puts w None) (passing_so v s policy a.member t.frames fixed f.address)) t.said) k.carried.said);
   cause = k.carried.cause;
+  records = records_so v s policy a.member n old mid pages pages' (Met e) fixed f.address t;
+  line = tt;
   stops = is ∙ k.carried.stops;
   more = more;
-  follows = record { conn = rw k.member (conn_same a.member n t.same ∙ f.conn); ended = k.ended; receives = k.receives ∙ f.receives; found = rw (k.ended, k.member) (t.found e refl) };
+  follows = record { conn = rw k.member (conn_same a.member n t.same ∙ f.conn); address = rw k.member (address_same a.member n t.same ∙ f.address); ended = k.ended; receives = k.receives ∙ f.receives; found = rw (k.ended, k.member) (t.found e refl) };
   runs = λ going. k.runs (sym is ∙ going);
 }
 
@@ -226,15 +302,16 @@ same_member None = tt
 same_member (Some m) = (refl, refl, refl)
 
 -- the reading closes the session
-pub opens_expired : (v : Terms) (s : Standing) (now : ℕ) (a b : At) (old : Option (List Said)) (stop : Stop) → Ticks v (started s now) now a b (Some stop) → Opens v s now a b old old (Err stop)
-opens_expired v s now a b old stop t = record {
-  opening = record { reading = now; frames = []; met = None; fault = None };
+pub opens_expired : (v : Terms) (s : Standing) (now : ℕ) (a b : At) (old : Option (List Said)) (pages : Option (List ℕ)) (stop : Stop) → Ticks v (started s now) now a b (Some stop) → Opens v s now a b old old pages pages (Err stop)
+opens_expired v s now a b old pages stop t = record {
+  opening = record { reading = now; frames = []; met = None; lost = None; fault = None };
   read = refl;
-  is = record { takes = inr (refl, refl); few = lit≤ tt; not_left = λ h. cc; cause = tt };
+  is = record { takes = inr (refl, refl); few = lit≤ tt; not_left = λ h. cc; line = no_line _; cause = well _ };
   same = rw t.member (same_member a.member);
   gave = rw t.member (sym (append-nil (given_by a.member)));
   empties = rw (t.member, sym t.stops) (omega arith);
-  said = grows-nil old;
+  said = rw (passing-nil v s) (grows-nil old);
+  records = rw (noted-nil v s) (records-nil pages);
   stops = rw (sym t.stops) refl;
   more = tt;
   follows = t.follows;
@@ -246,15 +323,16 @@ closes_none w None h = refl
 closes_none w (Some c) h = cc
 
 -- nothing is taken outside of Connected
-pub opens_apart : (v : Terms) (s : Standing) (now : ℕ) (a b : At) (old : Option (List Said)) → Ticks v (started s now) now a b None → is_connected (ticked s now) ≡ false → Opens v s now a b old old (Ok NothingLeft)
-opens_apart v s now a b old t apart = record {
-  opening = record { reading = now; frames = []; met = None; fault = None };
+pub opens_apart : (v : Terms) (s : Standing) (now : ℕ) (a b : At) (old : Option (List Said)) (pages : Option (List ℕ)) → Ticks v (started s now) now a b None → is_connected (ticked s now) ≡ false → Opens v s now a b old old pages pages (Ok NothingLeft)
+opens_apart v s now a b old pages t apart = record {
+  opening = record { reading = now; frames = []; met = None; lost = None; fault = None };
   read = refl;
-  is = record { takes = inr (refl, refl); few = lit≤ tt; not_left = λ h. cc; cause = tt };
+  is = record { takes = inr (refl, refl); few = lit≤ tt; not_left = λ h. cc; line = no_line _; cause = well _ };
   same = rw t.member (same_member a.member);
   gave = rw t.member (sym (append-nil (given_by a.member)));
   empties = rw (t.member, sym t.stops, apart) (omega arith);
-  said = grows-nil old;
+  said = rw (passing-nil v s) (grows-nil old);
+  records = rw (noted-nil v s) (records-nil pages);
   stops = rw (sym t.stops) refl;
   more = refl;
   follows = t.follows;
@@ -262,18 +340,19 @@ opens_apart v s now a b old t apart = record {
 }
 
 -- in Connected the frames are taken
-pub opens_attended : (v : Terms) (s : Standing) (now : ℕ) (a b c : At) (old new : Option (List Said)) (result : Result Backlog Stop) → Ticks v (started s now) now a b None → is_connected (ticked s now) ≡ true
-    → Attends v (ticked s now) now b c old new result → Opens v s now a c old new result
-opens_attended v s now a b c old new result t live k =
+pub opens_attended : (v : Terms) (s : Standing) (now : ℕ) (a b c : At) (old new : Option (List Said)) (pages pages' : Option (List ℕ)) (result : Result Backlog Stop) → Ticks v (started s now) now a b None → is_connected (ticked s now) ≡ true
+    → Attends v (ticked s now) now b c old new pages pages' result → Opens v s now a c old new pages pages' result
+opens_attended v s now a b c old new pages pages' result t live k =
     let quiet : closing_in (wanted_at v s now) ≡ None = closes_none _ _ t.stops in
     record {
-      opening = record { reading = now; frames = k.frames; met = k.met; fault = k.fault };
+      opening = record { reading = now; frames = k.frames; met = k.met; lost = k.lost; fault = k.fault };
       read = refl;
-      is = record { takes = inl (live, quiet); few = k.few; not_left = k.left; cause = k.cause };
+      is = record { takes = inl (live, quiet); few = k.few; not_left = k.left; line = k.line; cause = k.cause };
       same = rw t.member at k.same;
       gave = rw t.member at k.gave;
       empties = rw (quiet, sym k.stops, live) (rw t.member at k.empties);
       said = k.said;
+      records = k.records;
       stops = rw quiet k.stops;
       more = k.more;
       follows = k.follows;

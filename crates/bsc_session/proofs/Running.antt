@@ -1,19 +1,26 @@
 -- Turn after turn, up to the stop; and the last acts.
-use Rattle.std.proofs.Common.{◌≡◌, ℕ, true, ◌+◌, List, [], ◌∷◌, ◌++◌, length, refl, ap, sym, ◌∙◌, arith, Option, Some, None}
+use Rattle.std.proofs.Common.{◌≡◌, ℕ, Bool, true, ◌+◌, List, [], ◌∷◌, ◌++◌, length, map, refl, ap, sym, ◌∙◌, append-nil, arith, Option, Some, None}
 use Rattle.std.specs.Prelude.{take}
 use Rattle.std.proofs.Common.{◌<◌}
 use Rattle.bsc_history.specs.declared.ending.End.{End}
+use Rattle.bsc_history.specs.declared.ending.End.TheVariants.{Left}
+use Rattle.bsc_history.specs.declared.entry.Entry.{Entry}
 use Rattle.bsc_history.specs.declared.told.Told.{Told}
 use Rattle.bsc_history.specs.Outboxes.{sent}
 use Rattle.bsc_desk.specs.declared.leaving.Gone.{Gone}
 use Rattle.bsc_ring.specs.Ends.{FoundEnd, empties_of, given, known_pushed, knows_all}
-use Rattle.bsc_hub.specs.Calls.{leave_made}
+use Rattle.bsc_hub.specs.Calls.{leave_made, leave_stamped}
+use Rattle.bsc_desk.specs.Entries.{leave_entry}
 use Rattle.bsc_history.specs.Marks.{entries}
 use Rattle.bsc_accept.specs.Standing.{IsOpen, StandsFor}
 use Rattle.bsc_turn.specs.declared.pass.Pass.{Pass}
+use Rattle.bsc_turn.specs.Histories.{StartsWith}
 use Rattle.bsc_turn.specs.Passes.{number_of, seen}
 use Rattle.bsc_hub.specs.declared.hub.Hub.{Hub}
-use Rattle.bsc_hub.specs.Passing.{IsCaller, Passed, about_of}
+use Rattle.bsc_hub.specs.Passing.{IsCaller, Made, Passed, Placed, about_of}
+use Rattle.bsc_policy.specs.declared.policy.Policy.{Policy}
+use Rattle.bsc_notes.specs.Notes.{HasLine, Note, Records, made}
+use Rattle.bsc_edge.specs.declared.fault.LinkFault.{LinkFault}
 use Rattle.bsc_edge.specs.declared.said.Said.{Said}
 use Rattle.bsc_edge.specs.Told.{Grows}
 use Rattle.bsc_session.specs.declared.at.At.{At}
@@ -24,22 +31,25 @@ use Rattle.bsc_session.specs.declared.why.Why.{Why}
 use Rattle.bsc_session.specs.Course.{standing, shares, total, GoesOn, and_last, said_closing}
 use Rattle.bsc_session.specs.declared.ended.Ended.{Ended}
 use Rattle.bsc_session.specs.Laws.{GrowsToFault}
-use Rattle.bsc_session.specs.Inner.{AreTerms, HasEnded, HasFound, HasTerms, Held, Makes, Parts, Ran, Stood, empties_by, given_by}
-use Rattle.bsc_session.specs.Serving.{Goes, Serves, terms_of}
+use Rattle.bsc_session.specs.Inner.{AreTerms, HasEnded, HasFound, HasTerms, Held, Makes, Parts, Ran, ServesBy, Stood, UnputBy, Wrote, empties_by, given_by}
+use Rattle.bsc_session.specs.Serving.{Goes, Serves, ServesNoting, terms_of}
 use Rattle.bsc_session.specs.Standings.{Standing, Terms, begun, start_of}
-use Rattle.bsc_session.specs.Talk.{leaving, named}
-use Rattle.bsc_session.specs.Turns.{Turn, IsTurn, reading_in, frames_in, said_in, entries_in, empties_in}
+use Rattle.bsc_session.specs.Talk.{first_lost, leaving, named, named_lost, noted_leaving}
+use Rattle.bsc_session.specs.Turns.{Turn, IsTurn, reading_in, frames_in, notes_in, said_in, entries_in, empties_in}
 use Rattle.bsc_session.proofs.EndingAtFault.{sessions_end_at_fault}
 use Rattle.bsc_session.proofs.HubCalls.{goes_as, goes_nowhere, goes_on, goes_passed}
 use Rattle.bsc_session.proofs.Lists.{grows-nil, grows_as, grown, standing-more, shares-more, total-more, each-more}
+use Rattle.bsc_session.proofs.Filtering.{records_more}
+use Rattle.bsc_session.proofs.Losing.{records_idle, unmade_unlost, wrote_lost}
 use Rattle.bsc_session.proofs.MakingTurns.{between_more, receives_more}
+use Rattle.bsc_session.proofs.Recording.{stand_append, stand_on, wrote_as, wrote_made, wrote_none}
 use Rattle.bsc_session.proofs.Wearing.{wears_left}
 use Rattle.bsc_lemmas.proofs.Options.{same_some_number as conn_is}
 
 -- before the first turn
-pub stood_begins : (v : Terms) (h : Hub) (p : Pass) (a : At) (old : Option (List Said)) (read : Option (List ℕ)) → IsCaller h p → number_of p ≡ v.caller → StandsFor a.machine (start_of v begun) [] → IsOpen a.machine
-    → a.member ≡ None → a.ended ≡ None → a.receives ≡ 0 → Stood v h p p a old old read read
-stood_begins v h p a old read is number stands waits alone unended none = record {
+pub stood_begins : (v : Terms) (h : Hub) (p : Pass) (a : At) (old : Option (List Said)) (read pages : Option (List ℕ)) → IsCaller h p → number_of p ≡ v.caller → StandsFor a.machine (start_of v begun) [] → IsOpen a.machine
+    → a.member ≡ None → a.ended ≡ None → a.receives ≡ 0 → Stood v h p p a old old read read pages pages
+stood_begins v h p a old read pages is number stands waits alone unended none = record {
   turns = [];
   are = tt;
   on = tt;
@@ -48,24 +58,25 @@ stood_begins v h p a old read is number stands waits alone unended none = record
   empties = rw alone refl;
   said = grows-nil old;
   reads = grows-nil read;
-  held = record { caller = is; number = number; member = rw alone tt; follows = record { conn = rw alone refl; ended = unended; receives = none; found = rw unended tt } };
+  wrote = wrote_none p pages;
+  held = record { caller = is; number = number; member = rw alone tt; follows = record { conn = rw alone refl; address = rw alone refl; ended = unended; receives = none; found = rw unended tt } };
   between = record { runs = record { machine = stands; waits = waits; tied = refl }; fresh = λ z. refl; bounded = rw alone (omega arith) };
 }
 
 -- the terms are those of the hub and of the call
-pub are_terms : (h : Hub) (p : Pass) (limits : SessionLimits) (turns : ℕ) → AreTerms (terms_of h p limits turns) h limits
-are_terms h p limits turns = record { hub = refl; times = refl }
+pub are_terms : (h : Hub) (p : Pass) (limits : SessionLimits) (turns : ℕ) (policy : Option Policy) → AreTerms (terms_of h p limits turns policy) h limits
+are_terms h p limits turns policy = record { hub = refl; times = refl }
 
-pub some_terms : (h : Hub) (p0 p : Pass) (limits : SessionLimits) (turns : ℕ) (a : At) (old new : Option (List Said)) (read read' : Option (List ℕ)) → Stood (terms_of h p0 limits turns) h p0 p a old new read read' → HasTerms h p limits a
-some_terms h p0 p limits turns a old new read read' k = (terms_of h p0 limits turns, standing (terms_of h p0 limits turns) begun k.turns, are_terms h p0 limits turns, k.held, k.between)
+pub some_terms : (h : Hub) (p0 p : Pass) (limits : SessionLimits) (turns : ℕ) (policy : Option Policy) (a : At) (old new : Option (List Said)) (read read' pages pages' : Option (List ℕ)) → Stood (terms_of h p0 limits turns policy) h p0 p a old new read read' pages pages' → HasTerms h p limits policy a
+some_terms h p0 p limits turns policy a old new read read' pages pages' k = (terms_of h p0 limits turns policy, standing (terms_of h p0 limits turns policy) begun k.turns, are_terms h p0 limits turns policy, k.held, k.between, refl)
 
 -- receives are left
 pub has_room : (v : Terms) (s : Standing) (h : Hub) (p : Pass) (a : At) → Held h v p a s → a.receives < v.turns → s.receives < v.turns
 has_room v s h p a held room = (let e = held.follows.receives in omega (arith, e, room))
 
 -- a turn that goes on has received
-pub received_more : (v : Terms) (s : Standing) (h : Hub) (p q : Pass) (a b : At) (old new : Option (List Said)) (read read' : Option (List ℕ)) → Held h v p a s → Makes v s h p q a b old new read read' None → b.receives ≡ a.receives + 1
-received_more v s h p q a b old new read read' held k = k.held.follows.receives ∙ receives_more v s h p q a b old new read read' k ∙ ap (λ n. n + 1) (sym held.follows.receives)
+pub received_more : (v : Terms) (s : Standing) (h : Hub) (p q : Pass) (a b : At) (old new : Option (List Said)) (read read' pages pages' : Option (List ℕ)) → Held h v p a s → Makes v s h p q a b old new read read' pages pages' None → b.receives ≡ a.receives + 1
+received_more v s h p q a b old new read read' pages pages' held k = k.held.follows.receives ∙ receives_more v s h p q a b old new read read' pages pages' k ∙ ap (λ n. n + 1) (sym held.follows.receives)
 
 -- what so many turns and one more come to
 more_goes : (v : Terms) (h : Hub) (p0 p q : Pass) (ts : List Turn) (t : Turn) → Goes h p0 (shares entries_in v begun ts) p → Goes h p (entries_in v (standing v begun ts) t) q → Goes h p0 (shares entries_in v begun (ts ++ t ∷ [])) q
@@ -80,10 +91,14 @@ more_empties v m n ts t k l = l ∙ ap (λ w. w + empties_in v (standing v begun
 more_told : {A : Type 0} (f : Terms → Standing → Turn → List A) (v : Terms) (ts : List Turn) (t : Turn) (base a b : Option (List A)) → Grows base a (shares f v begun ts) → Grows a b (f v (standing v begun ts) t) → Grows base b (shares f v begun (ts ++ t ∷ []))
 more_told f v ts t base a b k l = grows_as base b _ _ (sym (shares-more f v begun ts t)) (grown base a b _ _ k l)
 
+more_wrote : (v : Terms) (p q : Pass) (ts : List Turn) (t : Turn) (a b c : Option (List ℕ)) (lost : Option LinkFault) → StartsWith (seen q) (seen p) → Wrote p a b (shares notes_in v begun ts) None
+    → Wrote q b c (notes_in v (standing v begun ts) t) lost → HasLine (notes_in v (standing v begun ts) t) lost → Wrote q a c (shares notes_in v begun (ts ++ t ∷ [])) lost
+more_wrote v p q ts t a b c lost more k l line = wrote_as q a c _ _ lost (sym (shares-more notes_in v begun ts t)) (wrote_lost p q a b c (shares notes_in v begun ts) (notes_in v (standing v begun ts) t) lost more k l line)
+
 -- a turn that goes on
-pub stood_more : (v : Terms) (h : Hub) (p0 p q : Pass) (a b : At) (old mid new : Option (List Said)) (read read' read'' : Option (List ℕ)) → (k : Stood v h p0 p a old mid read read') → Makes v (standing v begun k.turns) h p q a b mid new read' read'' None
-    → Stood v h p0 q b old new read read''
-stood_more v h p0 p q a b old mid new read read' read'' k m =
+pub stood_more : (v : Terms) (h : Hub) (p0 p q : Pass) (a b : At) (old mid new : Option (List Said)) (read read' read'' pages pages' pages'' : Option (List ℕ)) → (k : Stood v h p0 p a old mid read read' pages pages')
+    → Makes v (standing v begun k.turns) h p q a b mid new read' read'' pages' pages'' None → Stood v h p0 q b old new read read'' pages pages''
+stood_more v h p0 p q a b old mid new read read' read'' pages pages' pages'' k m =
     let on : GoesOn v (standing v begun k.turns) m.turn = sym m.stops in
     let next = standing-more v begun k.turns m.turn in
     record {
@@ -95,14 +110,15 @@ stood_more v h p0 p q a b old mid new read read' read'' k m =
       empties = more_empties v a.member b.member k.turns m.turn k.empties m.empties;
       said = more_told said_in v k.turns m.turn old mid new k.said m.said;
       reads = more_told reading_in v k.turns m.turn read read' read'' k.reads m.reads;
+      wrote = more_wrote v p q k.turns m.turn pages pages' pages'' None m.goes.sees k.wrote m.wrote m.line;
       held = rw next m.held;
-      between = rw next (between_more v (standing v begun k.turns) h p q a b mid new read' read'' k.between m);
+      between = rw next (between_more v (standing v begun k.turns) h p q a b mid new read' read'' pages' pages'' k.between m);
     }
 
 -- a turn that stops the session
-pub ran_stopped : (v : Terms) (h : Hub) (p0 p q : Pass) (a b : At) (old mid new : Option (List Said)) (read read' read'' : Option (List ℕ)) (stop : Stop) → (k : Stood v h p0 p a old mid read read') → Makes v (standing v begun k.turns) h p q a b mid new read' read'' (Some stop)
-    → Ran v h p0 q b old new read read'' stop
-ran_stopped v h p0 p q a b old mid new read read' read'' stop k m = record {
+pub ran_stopped : (v : Terms) (h : Hub) (p0 p q : Pass) (a b : At) (old mid new : Option (List Said)) (read read' read'' pages pages' pages'' : Option (List ℕ)) (stop : Stop) → (k : Stood v h p0 p a old mid read read' pages pages')
+    → Makes v (standing v begun k.turns) h p q a b mid new read' read'' pages' pages'' (Some stop) → Ran v h p0 q b old new read read'' pages pages'' stop
+ran_stopped v h p0 p q a b old mid new read read' read'' pages pages' pages'' stop k m = record {
   went_on = k.turns;
   last = Some m.turn;
   are = each-more IsTurn v begun k.turns m.turn k.are m.is;
@@ -114,14 +130,15 @@ ran_stopped v h p0 p q a b old mid new read read' read'' stop k m = record {
   empties = more_empties v a.member b.member k.turns m.turn k.empties m.empties;
   said = more_told said_in v k.turns m.turn old mid new k.said m.said;
   reads = more_told reading_in v k.turns m.turn read read' read'' k.reads m.reads;
+  wrote = more_wrote v p q k.turns m.turn pages pages' pages'' stop.lost m.goes.sees k.wrote m.wrote m.line;
   held = rw (standing-more v begun k.turns m.turn) m.held;
 }
 
 -- the link was closed and the hub left
-pub serves : (v : Terms) (h : Hub) (p0 p q : Pass) (a : At) (old mid new : Option (List Said)) (read read' : Option (List ℕ)) (stop : Stop) (conn : Option ℕ) (taken empties : ℕ) (why : Why)
-    → Ran v h p0 p a old mid read read' stop → Grows mid new (said_closing stop.closing) → Parts v h p q a.member a.ended conn taken empties → why ≡ named a.ended stop.why
+pub serves : (v : Terms) (h : Hub) (p0 p q : Pass) (a : At) (old mid new : Option (List Said)) (read read' pages pages' pages'' : Option (List ℕ)) (stop : Stop) (conn : Option ℕ) (taken empties : ℕ) (lost : Option LinkFault) (why : Why)
+    → Ran v h p0 p a old mid read read' pages pages' stop → Grows mid new (said_closing stop.closing) → Parts v h p q pages' pages'' stop.lost a.member a.ended conn taken empties lost → why ≡ named_lost lost (named a.ended stop.why)
     → Serves v h p0 q old new read read' (record { why = why; conn = conn; taken = taken; empties = empties; turns = a.receives })
-serves v h p0 p q a old mid new read read' stop conn taken empties why r closed left is = record {
+serves v h p0 p q a old mid new read read' pages pages' pages'' stop conn taken empties lost why r closed left is = record {
   T = shares said_in v begun (and_last r.went_on r.last) ++ said_closing stop.closing;
   R = shares reading_in v begun (and_last r.went_on r.last);
   E = shares entries_in v begun (and_last r.went_on r.last) ++ leaving v.caller conn taken empties left.reply;
@@ -135,8 +152,11 @@ serves v h p0 p q a old mid new read read' stop conn taken empties why r closed 
     reply = left.reply;
     entries = refl;
     replied = λ c e joined met. left.replied c e joined (r.held.follows.ended ∙ met);
+    left_at = left.left_at;
+    left_lost = lost;
+    line = left.line;
     received = sym left.got ∙ r.gave;
-    why = is ∙ ap (λ x. named x stop.why) r.held.follows.ended;
+    why = is ∙ ap (λ x. named_lost lost (named x stop.why)) r.held.follows.ended;
     conn = left.conn_is ∙ r.held.follows.conn;
     taken = left.took ∙ ap (λ (x : List (List ℕ)). length x) left.got;
     empties = left.empties_is ∙ r.empties;
@@ -144,6 +164,33 @@ serves v h p0 p q a old mid new read read' stop conn taken empties why r closed 
   };
   all = λ c e joined met. sym left.got ∙ left.all c e joined (r.held.follows.ended ∙ met);
   is_worn = λ e. left.wears (r.is_worn e);
+}
+
+-- the Leave's line behind those of the turns
+records_leave : (a b c : Option (List ℕ)) (ns : List Note) (before : Option LinkFault) (at : ℕ) (es : List Entry) (lost : Option LinkFault)
+    → Records a b ns before → Records b c (noted_leaving before at es) lost → HasLine (noted_leaving before at es) lost → Records a c (ns ++ noted_leaving before at es) (first_lost before lost)
+records_leave a b c ns None at es lost h k line = records_more a b c ns (map (made at) es) lost h k line
+records_leave a b c ns (Some fault) at es None h k line = rw append-nil (records_idle a b c ns (Some fault) h k)
+records_leave a b c ns (Some fault) at es (Some other) h k line = absurd line
+
+-- and what was noted of all is in the journal
+pub serves_noting : (v : Terms) (h : Hub) (p0 p q : Pass) (a : At) (old mid new : Option (List Said)) (read read' pages pages' pages'' : Option (List ℕ)) (stop : Stop) (conn : Option ℕ) (taken empties : ℕ) (lost : Option LinkFault) (why : Why)
+    → Ran v h p0 p a old mid read read' pages pages' stop → Grows mid new (said_closing stop.closing) → Parts v h p q pages' pages'' stop.lost a.member a.ended conn taken empties lost → why ≡ named_lost lost (named a.ended stop.why)
+    → ServesNoting v h p0 q old new read read' pages pages'' (record { why = why; conn = conn; taken = taken; empties = empties; turns = a.receives })
+serves_noting v h p0 p q a old mid new read read' pages pages' pages'' stop conn taken empties lost why r closed left is = record {
+  serves = serves v h p0 p q a old mid new read read' pages pages' pages'' stop conn taken empties lost why r closed left is;
+  stand = stand_append (entries (seen q)) _ _ (stand_on (seen p) (seen q) (shares notes_in v begun (and_last r.went_on r.last)) left.goes.sees r.wrote.stand) left.wrote.stand;
+  records = records_leave pages pages' pages'' (shares notes_in v begun (and_last r.went_on r.last)) stop.lost left.left_at (leaving v.caller conn taken empties left.reply) lost r.wrote.records left.wrote.records left.line;
+}
+
+-- and none of its lines was lost, where none is made
+pub serves_by : (makes : Bool) (v : Terms) (h : Hub) (p0 p q : Pass) (a : At) (old mid new : Option (List Said)) (read read' pages pages' pages'' : Option (List ℕ)) (stop : Stop) (conn : Option ℕ) (taken empties : ℕ) (lost : Option LinkFault) (why : Why) (m n k l : ℕ)
+    → Ran v h p0 p a old mid read read' pages pages' stop → Grows mid new (said_closing stop.closing) → Parts v h p q pages' pages'' stop.lost a.member a.ended conn taken empties lost → why ≡ named_lost lost (named a.ended stop.why)
+    → UnputBy makes stop.lost m n → UnputBy makes lost k l
+    → ServesBy makes v h p0 q old new read read' pages pages'' (record { why = why; conn = conn; taken = taken; empties = empties; turns = a.receives })
+serves_by makes v h p0 p q a old mid new read read' pages pages' pages'' stop conn taken empties lost why m n k l r closed left is ran parted = record {
+  noting = serves_noting v h p0 p q a old mid new read read' pages pages' pages'' stop conn taken empties lost why r closed left is;
+  unlost = λ unmade. rw (unmade_unlost makes stop.lost m n unmade ran, unmade_unlost makes lost k l unmade parted) refl;
 }
 
 -- the talk that was told ends at its fault
@@ -154,14 +201,58 @@ ended_found : (e : End) (d : Option End) (m : Member) → d ≡ Some e → HasFo
 ended_found e None m is h = cc
 ended_found e (Some x) m is h = (let k : HasFound (Some e) (Some m) = rw is at h in k)
 
+-- the line of a Leave, unless one was lost before
+wrote_left : (p q : Pass) (conn found empties : ℕ) (t : Told Gone) (pages pages' : Option (List ℕ)) (before lost : Option LinkFault) → empties ≡ found → Made p (leave_made (number_of p) conn found t) q
+    → Records pages pages' (noted_leaving before t.at (leave_entry (number_of p) conn empties t.said ∷ [])) lost
+    → Wrote q pages pages' (noted_leaving before t.at (leave_entry (number_of p) conn empties t.said ∷ [])) lost
+wrote_left p q conn found empties t pages pages' None lost counted makes records = (
+  let m : Placed = record { at = t.at; stamped = leave_stamped (number_of p) conn found t.said } in
+  wrote_made p q m (leave_entry (number_of p) conn empties t.said) pages pages' lost makes (rw counted refl) records)
+wrote_left p q conn found empties t pages pages' (Some fault) lost counted makes records = record { records = records; stand = tt }
+
+-- the session hadn't joined, and notes nothing
+pub part_none : (h : Hub) (v : Terms) (p : Pass) (ended : Option End) (pages : Option (List ℕ)) (before : Option LinkFault) → IsCaller h p → HasFound ended None → Parts v h p p pages pages before None ended None 0 0 None
+part_none h v p ended pages None is found = record {
+  reply = Left;
+  left_at = 0;
+  wrote = wrote_none p pages;
+  line = tt;
+  goes = goes_nowhere h p is;
+  conn_is = refl;
+  took = refl;
+  empties_is = refl;
+  got = refl;
+  replied = λ c e joined met. cc;
+  all = λ c e joined met. cc;
+  wears = λ worn. worn;
+}
+part_none h v p ended pages (Some fault) is found = record {
+  reply = Left;
+  left_at = 0;
+  wrote = wrote_none p pages;
+  line = tt;
+  goes = goes_nowhere h p is;
+  conn_is = refl;
+  took = refl;
+  empties_is = refl;
+  got = refl;
+  replied = λ c e joined met. cc;
+  all = λ c e joined met. cc;
+  wears = λ worn. worn;
+}
+
 -- the session had joined, and left
-pub part_left : (h : Hub) (v : Terms) (p q : Pass) (m : Member) (ended : Option End) (t : Told Gone) (empties : ℕ)
+pub part_left : (h : Hub) (v : Terms) (p q : Pass) (m : Member) (ended : Option End) (t : Told Gone) (empties : ℕ) (pages pages' : Option (List ℕ)) (before lost : Option LinkFault)
+    → Records pages pages' (noted_leaving before t.at (leave_entry (number_of p) m.conn empties t.said ∷ [])) lost → HasLine (noted_leaving before t.at (leave_entry (number_of p) m.conn empties t.said ∷ [])) lost
     → Passed h p [] (leave_made (number_of p) m.conn (empties_of m.outlet) t) q → v.caller ≡ number_of p → empties ≡ empties_of m.outlet
     → t.said.taken ≡ length (given m.outlet) → given m.outlet ≡ take t.said.taken (sent (about_of h) (entries (seen q)) m.conn) → ((e : End) → FoundEnd m.outlet e → t.said.ending ≡ e)
     → (knows_all m.outlet ≡ true → known_pushed m.outlet ≡ sent (about_of h) (entries (seen q)) m.conn)
-    → HasFound ended (Some m) → Parts v h p q (Some m) ended (Some m.conn) t.said.taken empties
-part_left h v p q m ended t empties passed caller counted took got finds whole found = record {
+    → HasFound ended (Some m) → Parts v h p q pages pages' before (Some m) ended (Some m.conn) t.said.taken empties lost
+part_left h v p q m ended t empties pages pages' before lost records line passed caller counted took got finds whole found = record {
   reply = t.said.ending;
+  left_at = t.at;
+  wrote = rw caller (wrote_left p q m.conn (empties_of m.outlet) empties t pages pages' before lost counted passed.makes records);
+  line = rw caller line;
   goes = goes_as h p q _ _ (rw (caller, counted) refl) (goes_passed h p q _ passed);
   conn_is = refl;
   took = took;

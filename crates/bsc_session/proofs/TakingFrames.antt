@@ -15,11 +15,21 @@ use lib.ListN.{get_elem?}
 use Rattle.bsc_ring.specs.declared.found.Found.{Found}
 use Rattle.bsc_ring.specs.declared.found.Found.TheVariants.{Ending, Tail}
 use Rattle.bsc_ring.specs.Ends.{FoundEnd, Took, empties_of, found, given, known_pushed, knows_all, outlet_mark}
-use Rattle.bsc_session.specs.declared.taken.Taken.TheVariants.{All, Met, Cut}
-use Rattle.bsc_session.specs.Inner.{HasEnded, Taking, Takes}
+use Rattle.bsc_session.specs.declared.taken.Taken.{Taken}
+use Rattle.bsc_session.specs.declared.taken.Taken.TheVariants.{All, Part, Met, Cut, Lost}
+use Rattle.bsc_session.specs.Inner.{FitsCount, HandsOn, HasEnded, IsCut, Taking, Takes, cut_in, met_in, nothing_found, unput_in}
 use Rattle.bsc_session.specs.Puts.{puts, HasPut}
-use Rattle.bsc_session.proofs.Lists.{grows_as, grown, puts-more}
+use Rattle.bsc_session.proofs.Lists.{grows_as, grown, grows-nil, puts-append, well}
 use Rattle.bsc_history.proofs.Common.{end_is}
+use Rattle.std.proofs.Common.{subst, map, is_none}
+use Rattle.std.specs.Prelude.{◌&&◌}
+use Rattle.bsc_octets.specs.declared.vmac.Vmac.{Vmac}
+use Rattle.bsc_policy.specs.declared.policy.Policy.{Policy}
+use Rattle.bsc_notes.specs.Notes.{HasLine, Records, denied}
+use Rattle.bsc_session.specs.Guarding.{denials, let_through}
+use Rattle.bsc_session.specs.Taking.{last_alone}
+use Rattle.bsc_session.proofs.Recording.{no_line, records-nil}
+use Rattle.bsc_session.proofs.Filtering.{last_alone-more, let_through-append, noted-append, records_more}
 
 elem_stays : (xs ys : List Found) (i : ℕ) (x : Found) → get_elem? xs i ≡ some x → get_elem? (xs ++ ys) i ≡ some x
 elem_stays [] ys i x h = cc
@@ -55,35 +65,59 @@ keeps_all o p (Closed e) h whole all = (h.0.3.3, h.0.1 ∙ sym h.0.0)
 keeps_ended : (o p : Outlet) (t : Take) (e : End) → Took o t p → HasEnded o e → HasEnded p e
 keeps_ended o p t e took h = (let k = keeps_all o p t took h.1 h.2 in (keeps_found o p t e took h.0, k.0, k.1))
 
--- a frame was taken, and put
-pub taking_more : (o p q : Outlet) (old mid new : Option (List Said)) (n : ℕ) (f : List ℕ) → Taking o p old mid n
-    → Took p (Frame f) q → outlet_mark q ≡ outlet_mark p → Grows mid new (Put f None ∷ []) → Taking o q old new (n + 1)
-taking_more o p q old mid new n f t took mark said = record {
+pub taking_begins : (policy : Option Policy) (to : Vmac) (o : Outlet) (old : Option (List Said)) (pages : Option (List ℕ)) → Taking policy to o o old old pages pages 0
+taking_begins None to o old pages = record { frames = []; many = refl; mark = refl; keeps = λ e h. h; gave = sym (append-nil (given o)); empties = refl; said = grows-nil old; records = records-nil pages }
+taking_begins (Some p) to o old pages = record { frames = []; many = refl; mark = refl; keeps = λ e h. h; gave = sym (append-nil (given o)); empties = refl; said = grows-nil old; records = records-nil pages }
+
+-- the puts, and the notes, of one frame more
+said_more : (policy : Option Policy) (to : Vmac) (frames : List (List ℕ)) (f : List ℕ) (old mid new : Option (List Said)) (fault : Option LinkFault) → Grows old mid (puts (let_through policy (Some to) frames) None)
+    → Grows mid new (puts (let_through policy (Some to) (f ∷ [])) fault) → HasPut (let_through policy (Some to) (f ∷ [])) fault → Grows old new (puts (let_through policy (Some to) (frames ++ f ∷ [])) fault)
+said_more policy to frames f old mid new fault h k cause =
+    grows_as old new _ _ (sym (ap (λ w. puts w fault) (let_through-append policy (Some to) frames (f ∷ [])) ∙ puts-append (let_through policy (Some to) frames) (let_through policy (Some to) (f ∷ [])) fault cause)) (grown old mid new _ _ h k)
+
+noted_more : (policy : Option Policy) (to : Vmac) (frames : List (List ℕ)) (f : List ℕ) (a b c : Option (List ℕ)) (lost : Option LinkFault) → Records a b (map denied (denials policy (Some to) frames)) None
+    → Records b c (map denied (denials policy (Some to) (f ∷ []))) lost → HasLine (map denied (denials policy (Some to) (f ∷ []))) lost → Records a c (map denied (denials policy (Some to) (frames ++ f ∷ []))) lost
+noted_more policy to frames f a b c lost h k line = subst (λ ns. Records a c ns lost) (sym (noted-append policy (Some to) frames (f ∷ []))) (records_more a b c _ _ lost h k line)
+
+-- a frame was taken, and put or noted
+pub taking_more : (policy : Option Policy) (to : Vmac) (o p q : Outlet) (old mid new : Option (List Said)) (a b c : Option (List ℕ)) (n : ℕ) (f : List ℕ) → Taking policy to o p old mid a b n
+    → Took p (Frame f) q → outlet_mark q ≡ outlet_mark p → HandsOn policy to f mid new b c None → Taking policy to o q old new a c (n + 1)
+taking_more policy to o p q old mid new a b c n f t took mark hands = record {
   frames = t.frames ++ f ∷ [];
   many = length-append t.frames (f ∷ []) ∙ ap (λ k. k + 1) t.many;
   mark = mark ∙ t.mark;
   keeps = λ e h. keeps_ended p q (Frame f) e took (t.keeps e h);
   gave = took.0 ∙ ap (λ k. k ++ f ∷ []) t.gave ∙ append_assoc (given o) t.frames (f ∷ []);
   empties = took.2 ∙ t.empties;
-  said = grows_as old new _ _ (sym (puts-more t.frames f None)) (grown old mid new (puts t.frames None) (Put f None ∷ []) t.said said);
+  said = said_more policy to t.frames f old mid new None t.said hands.said hands.cause;
+  records = noted_more policy to t.frames f a b c None t.records hands.records hands.line;
 }
 
--- no fault needs no put
-well : (os : List (List ℕ)) → HasPut os None
-well [] = tt
-well (o ∷ os) = tt
-
-some_put : (os : List (List ℕ)) (o : List ℕ) (fault : Option LinkFault) → HasPut (os ++ o ∷ []) fault
-some_put [] o fault = tt
-some_put (p ∷ os) o fault = tt
+-- sixteen were taken
+pub takes_sixteen : (policy : Option Policy) (to : Vmac) (o p : Outlet) (old new : Option (List Said)) (a c : Option (List ℕ)) → Taking policy to o p old new a c 16 → Takes policy to o p old new a c Part
+takes_sixteen policy to o p old new a c t = record {
+  frames = t.frames;
+  mark = t.mark;
+  keeps = t.keeps;
+  found = λ e h. cc;
+  left = λ e h. cc;
+  gave = t.gave;
+  empties = rw t.many (let k = t.empties in omega (arith, k));
+  few = (let k = t.many in omega (arith, k));
+  fits = t.many;
+  said = t.said;
+  cause = well (let_through policy (Some to) (last_alone t.frames));
+  records = t.records;
+  line = no_line (map denied (denials policy (Some to) (last_alone t.frames)));
+}
 
 counted : (a b : ℕ) → a < 18446744073709551615 → b ≡ min (a + 1) (2 ^ 64 - 1) → b ≡ a + 1
 counted a b h is = omega (arith, h, is)
 
 -- fewer were there
-pub takes_few : (o p q : Outlet) (old new : Option (List Said)) (n : ℕ) → Taking o p old new n → n < 16 → empties_of o < 18446744073709551615
-    → Took p Empty q → outlet_mark q ≡ outlet_mark p → Takes o q old new All
-takes_few o p q old new n t few room took mark =
+pub takes_few : (policy : Option Policy) (to : Vmac) (o p q : Outlet) (old new : Option (List Said)) (a c : Option (List ℕ)) (n : ℕ) → Taking policy to o p old new a c n → n < 16 → empties_of o < 18446744073709551615
+    → Took p Empty q → outlet_mark q ≡ outlet_mark p → Takes policy to o q old new a c All
+takes_few policy to o p q old new a c n t few room took mark =
     let less : empties_of p < 18446744073709551615 = rw t.empties room in
     let one : empties_of q ≡ empties_of p + 1 = counted (empties_of p) (empties_of q) less took.2 in
     record {
@@ -97,13 +131,15 @@ takes_few o p q old new n t few room took mark =
       few = (let k = t.many in omega (arith, k, few));
       fits = rw t.many few;
       said = t.said;
-      cause = well t.frames;
+      cause = well (let_through policy (Some to) (last_alone t.frames));
+  records = t.records;
+  line = no_line (map denied (denials policy (Some to) (last_alone t.frames)));
     }
 
 -- an End was there
-pub takes_met : (o p q : Outlet) (old new : Option (List Said)) (n : ℕ) (e : End) → Taking o p old new n → n < 16
-    → Took p (Closed e) q → outlet_mark q ≡ outlet_mark p → HasEnded q e → Takes o q old new (Met e)
-takes_met o p q old new n e t few took mark finds = record {
+pub takes_met : (policy : Option Policy) (to : Vmac) (o p q : Outlet) (old new : Option (List Said)) (a c : Option (List ℕ)) (n : ℕ) (e : End) → Taking policy to o p old new a c n → n < 16
+    → Took p (Closed e) q → outlet_mark q ≡ outlet_mark p → HasEnded q e → Takes policy to o q old new a c (Met e)
+takes_met policy to o p q old new a c n e t few took mark finds = record {
   frames = t.frames;
   mark = mark ∙ t.mark;
   keeps = λ d h. keeps_ended p q (Closed e) d took (t.keeps d h);
@@ -114,24 +150,52 @@ takes_met o p q old new n e t few took mark finds = record {
   few = (let k = t.many in omega (arith, k, few));
   fits = tt;
   said = t.said;
-  cause = well t.frames;
+  cause = well (let_through policy (Some to) (last_alone t.frames));
+  records = t.records;
+  line = no_line (map denied (denials policy (Some to) (last_alone t.frames)));
 }
 
--- a put failed
-pub takes_cut : (o p q : Outlet) (old mid new : Option (List Said)) (n : ℕ) (f : List ℕ) (fault : LinkFault) → Taking o p old mid n → n < 16
-    → Took p (Frame f) q → outlet_mark q ≡ outlet_mark p → Grows mid new (Put f (Some fault) ∷ []) → Takes o q old new (Cut fault)
-takes_cut o p q old mid new n f fault t few took mark said = record {
+cut_counts : (cut : Taken) (frames : List (List ℕ)) → IsCut (Some cut) → nothing_found frames (met_in cut) (is_none (cut_in cut) && is_none (unput_in cut)) ≡ 0
+cut_counts (Cut fault) frames is = refl
+cut_counts (Lost fault) frames is = refl
+cut_counts All frames is = absurd is
+cut_counts Part frames is = absurd is
+cut_counts (Met e) frames is = absurd is
+
+cut_unmet : (cut : Taken) → IsCut (Some cut) → met_in cut ≡ None
+cut_unmet (Cut fault) is = refl
+cut_unmet (Lost fault) is = refl
+cut_unmet All is = refl
+cut_unmet Part is = refl
+cut_unmet (Met e) is = absurd is
+
+cut_fits : (cut : Taken) (frames : List (List ℕ)) → IsCut (Some cut) → FitsCount cut frames
+cut_fits (Cut fault) frames is = tt
+cut_fits (Lost fault) frames is = tt
+cut_fits All frames is = absurd is
+cut_fits Part frames is = absurd is
+cut_fits (Met e) frames is = tt
+
+unmet_end : (o : Option End) (e : End) → o ≡ None → o ≡ Some e → ⊥
+unmet_end o e h k = (let x : None ≡ Some e = sym h ∙ k in cc)
+
+-- a put failed, or a line was lost
+pub takes_cut : (policy : Option Policy) (to : Vmac) (o p q : Outlet) (old mid new : Option (List Said)) (a b c : Option (List ℕ)) (n : ℕ) (f : List ℕ) (cut : Taken) → Taking policy to o p old mid a b n → n < 16
+    → Took p (Frame f) q → outlet_mark q ≡ outlet_mark p → HandsOn policy to f mid new b c (Some cut) → Takes policy to o q old new a c cut
+takes_cut policy to o p q old mid new a b c n f cut t few took mark hands = record {
   frames = t.frames ++ f ∷ [];
   mark = mark ∙ t.mark;
   keeps = λ e h. keeps_ended p q (Frame f) e took (t.keeps e h);
-  found = λ e h. cc;
-  left = λ e h. cc;
+  found = λ e h. absurd (unmet_end (met_in cut) e (cut_unmet cut hands.cuts) h);
+  left = λ e h. absurd (unmet_end (met_in cut) e (cut_unmet cut hands.cuts) h);
   gave = took.0 ∙ ap (λ k. k ++ f ∷ []) t.gave ∙ append_assoc (given o) t.frames (f ∷ []);
-  empties = took.2 ∙ t.empties ∙ omega arith;
-  few = rw length-append (let k = t.many in omega (arith, k, few));
-  fits = tt;
-  said = grows_as old new _ _ (sym (puts-more t.frames f (Some fault))) (grown old mid new (puts t.frames None) (Put f (Some fault) ∷ []) t.said said);
-  cause = some_put t.frames f (Some fault);
+  empties = rw (cut_counts cut (t.frames ++ f ∷ []) hands.cuts) (took.2 ∙ t.empties ∙ omega arith);
+  few = rw (cut_unmet cut hands.cuts, length-append) (let k = t.many in omega (arith, k, few));
+  fits = cut_fits cut (t.frames ++ f ∷ []) hands.cuts;
+  said = said_more policy to t.frames f old mid new (cut_in cut) t.said hands.said hands.cause;
+  cause = subst (λ w. HasPut (let_through policy (Some to) w) (cut_in cut)) (sym (last_alone-more t.frames f)) hands.cause;
+  records = noted_more policy to t.frames f a b c (unput_in cut) t.records hands.records hands.line;
+  line = subst (λ w. HasLine (map denied (denials policy (Some to) w)) (unput_in cut)) (sym (last_alone-more t.frames f)) hands.line;
 }
 
 elem_there : (xs ys : List Found) (x : Found) → (i : ℕ) × (get_elem? (xs ++ x ∷ ys) i ≡ some x)

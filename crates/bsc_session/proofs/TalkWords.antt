@@ -1,6 +1,6 @@
 -- The words of worked talks. The hub has the VMAC 020000000001 and takes 1,600 octets. A has the VMAC 02000000000A, and its
 -- connect has the Message ID 1. Readings are 0 where none is named.
-use Rattle.std.proofs.Common.{ℕ, [], ◌∷◌, ◌++◌, Some, None, Ok, List, Option, Result, true, replicate, refl, inr, lit≤}
+use Rattle.std.proofs.Common.{ℕ, [], ◌∷◌, ◌++◌, Some, None, Ok, List, Option, Result, Bool, true, replicate, refl, inr, lit≤}
 use Rattle.std.specs.Prelude.{◌<◌, ◌≡◌, is_none, is_some, length}
 use Rattle.bsc_octets.specs.Identities.{identity_of}
 use Rattle.bsc_history.specs.declared.call.Call.TheVariants.{Connect, Forward, Leave}
@@ -19,10 +19,11 @@ use Rattle.bsc_session.specs.Standings.{Standing, Terms}
 use Rattle.bsc_session.specs.Talk.{Session, leaving, named}
 use Rattle.bsc_session.specs.Taking.{Opening, IsOpening, opened, stop_before}
 use Rattle.bsc_session.specs.Turns.{Turn, IsTurn}
-use Rattle.bsc_session.specs.Answering.{Fits, calls_hub, last_step, step_of}
+use Rattle.bsc_session.specs.Answering.{Fits, calls_hub, put_after, step_of}
 use Rattle.bsc_session.specs.Course.{Course, empties_of, end_of, entries_of, frames_of, readings_of, talk_of}
 use Rattle.bsc_session.specs.Judging.{LacksAtPass}
-use Rattle.bsc_session.specs.Puts.{HasPut, octets_in}
+use Rattle.bsc_session.specs.Puts.{HasPut}
+use Rattle.bsc_session.proofs.Recording.{no_line}
 
 -- the octets of the hub's identity, and of A's
 abbrev pub hub_octets : List ℕ
@@ -33,18 +34,22 @@ a_octets = 0x02 ∷ 0x00 ∷ 0x00 ∷ 0x00 ∷ 0x00 ∷ 0x0A ∷ 0x0A ∷ 0x0A �
 
 -- a session of caller 3, with the usual waits and a hundred receives
 abbrev pub terms : Terms
-terms = record { caller = 3; hub = identity_of hub_octets; times = record { connect_wait = 10000; disconnect_wait = 10000; heartbeat = 300000 }; turns = 100 }
+terms = record { caller = 3; hub = identity_of hub_octets; times = record { connect_wait = 10000; disconnect_wait = 10000; heartbeat = 300000 }; turns = 100; policy = None }
 
 -- an opening that takes nothing, at a reading
 abbrev pub reads : ℕ → Opening
-reads now = record { reading = now; frames = []; met = None; fault = None }
+reads now = record { reading = now; frames = []; met = None; lost = None; fault = None }
 
 pub bare : (s : Standing) (now : ℕ) → IsOpening terms s (reads now)
-bare s now = record { takes = inr (refl, refl); few = lit≤ tt; not_left = λ h. cc; cause = tt }
+bare s now = record { takes = inr (refl, refl); few = lit≤ tt; not_left = λ h. cc; line = tt; cause = tt }
+
+-- what comes from a receive on, with no line lost
+abbrev pub heard_so : Result Incoming LinkFault → Bool → Option Answer → Option LinkFault → Hearing
+heard_so given judged answer fault = record { given = given; judged = judged; answer = answer; lost = None; fault = fault }
 
 -- a thing given at a reading, with the hub's answer, and with the answer of the last put where that failed
 abbrev pub given_at : ℕ → Result Incoming LinkFault → Option Answer → Option LinkFault → Turn
-given_at now given answer fault = record { opening = reads now; hearing = Some (record { given = given; judged = true; answer = answer; fault = fault }) }
+given_at now given answer fault = record { opening = reads now; hearing = Some (heard_so given true answer fault) }
 
 abbrev pub gives : Incoming → Turn
 gives x = given_at 0 (Ok x) None None
@@ -60,7 +65,7 @@ abbrev pub connects : Said
 connects = Gave 500 (Ok (Message connect))
 
 abbrev pub joins_as : ℕ → Turn
-joins_as c = given_at 0 (Ok (Message connect)) (Some (replies [] (Joined c None))) None
+joins_as c = given_at 0 (Ok (Message connect)) (Some (replies 0 [] (Joined c None))) None
 
 abbrev pub joins : Turn
 joins = joins_as 1
@@ -104,17 +109,18 @@ farewell_ack = 0x09 ∷ 0x00 ∷ 0x00 ∷ 0x01 ∷ []
 
 -- a unicast forwarded by c, to the outbox of a connection from which nothing was taken
 abbrev pub forwards_to : ℕ → List ℕ → (ℕ → Reply) → Turn
-forwards_to c m reply = given_at 0 (Ok (Message m)) (Some (replies (record { conn = c; taken = 0 } ∷ []) (reply c))) None
+forwards_to c m reply = given_at 0 (Ok (Message m)) (Some (replies 1 (record { conn = c; taken = 0 } ∷ []) (reply c))) None
 
 abbrev pub forwarded : ℕ → ℕ → List ℕ → (ℕ → Reply) → Entry
 forwarded sender c m reply = record { caller = 3; call = Forward sender m; looks = record { conn = c; taken = 0 } ∷ []; reply = reply c }
 
--- a turn that takes nothing and receives, as it may be
-pub hears : (s : Standing) (now : ℕ) (h : Hearing) → s.receives < terms.turns → true ≡ is_none (stop_before terms s (reads now))
-    → LacksAtPass terms (opened s (reads now)) h.judged h.given → is_some h.answer ≡ calls_hub (step_of terms (opened s (reads now)) now h)
-    → Fits (step_of terms (opened s (reads now)) now h) h.answer → HasPut (octets_in (last_step terms (opened s (reads now)) now h)) h.fault
-    → IsTurn terms s (record { opening = reads now; hearing = Some h })
-hears s now h room on memory calls fits cause = record { room = room; opening = bare s now; heard = on; hearing = record { memory = memory; calls = calls; fits = fits; cause = cause } }
+-- a turn that takes nothing, receives, and loses no line, as it may be
+pub hears : (s : Standing) (now : ℕ) (given : Result Incoming LinkFault) (judged : Bool) (answer : Option Answer) (fault : Option LinkFault) → s.receives < terms.turns → true ≡ is_none (stop_before terms s (reads now))
+    → LacksAtPass terms (opened s (reads now)) judged given
+    → is_some answer ≡ calls_hub terms (opened s (reads now)) (step_of terms (opened s (reads now)) now (heard_so given judged answer fault)) given
+    → Fits (step_of terms (opened s (reads now)) now (heard_so given judged answer fault)) answer → HasPut (put_after terms (opened s (reads now)) now (heard_so given judged answer fault)) fault
+    → IsTurn terms s (record { opening = reads now; hearing = Some (heard_so given judged answer fault) })
+hears s now given judged answer fault room on memory calls fits cause = record { room = room; opening = bare s now; heard = on; hearing = record { memory = memory; calls = calls; fits = fits; line = no_line _; cause = cause } }
 
 -- what a course comes to is a session's
 pub told_by : (v : Terms) (c : Course v) (reply : End) → ((n : ℕ) (e : End) → (end_of c).conn ≡ Some n → (end_of c).ended ≡ Some e → reply ≡ e)
@@ -124,6 +130,9 @@ told_by v c reply replied = record {
   course = c;
   reply = reply;
   replied = replied;
+  left_at = 0;
+  left_lost = None;
+  line = no_line _;
   talk = refl;
   readings = refl;
   entries = refl;

@@ -19,7 +19,7 @@ use Rattle.bsc_session.specs.Inner.{has_joined}
 use Rattle.bsc_session.specs.Reading.{started, wanted_at, ticked}
 use Rattle.bsc_session.specs.Receiving.{Hearing}
 use Rattle.bsc_session.specs.Standings.{Standing, Terms, start_of}
-use Rattle.bsc_session.specs.Stops.{closes, closing_in, first_of, stop_at, stop_if}
+use Rattle.bsc_session.specs.Stops.{closes, closing_in, first_of, stop_at, stop_if, stop_lost, stop_unrecorded}
 use Rattle.bsc_session.specs.Taking.{Opening, end_step, ended_by, stop_before, waiting_for}
 use Rattle.bsc_session.specs.Turns.{after, stop_in}
 use Rattle.bsc_session.proofs.Causing.{Ends, closes_why, waits_before, why_is}
@@ -75,11 +75,18 @@ end_waits v s None now stop is h = cc
 end_waits v s (Some e) now stop is (inl h) = (let k : EndedBy e ≡ WaitExpired = sym (closes_why (EndedBy e) (closing_in (end_step v s now (Some e))) stop is) ∙ h in cc)
 end_waits v s (Some e) now stop is (inr h) = (let k : EndedBy e ≡ Idle = sym (closes_why (EndedBy e) (closing_in (end_step v s now (Some e))) stop is) ∙ h in cc)
 
--- neither a fault nor an End gives such a cause
-later_waits : (v : Terms) (s : Standing) (met : Option End) (now : ℕ) (fault : Option LinkFault) (stop : Stop)
-    → first_of (stop_if fault) (closes (ended_by met) (closing_in (end_step v s now met))) ≡ Some stop → IsWaiting stop.why → ⊥
-later_waits v s met now None stop is h = end_waits v s met now stop is h
-later_waits v s met now (Some f) stop is h = (let k : IsWaiting (stop_at f).why = rw (why_is (stop_at f) stop is) at h in fault_waits f k)
+lost_waits : (f : LinkFault) → IsWaiting (stop_unrecorded f).why → ⊥
+lost_waits Failed (inl h) = cc
+lost_waits Failed (inr h) = cc
+lost_waits MemoryFault (inl h) = cc
+lost_waits MemoryFault (inr h) = cc
+
+-- neither a lost line nor a fault nor an End gives such a cause
+later_waits : (v : Terms) (s : Standing) (met : Option End) (now : ℕ) (lost fault : Option LinkFault) (stop : Stop)
+    → first_of (stop_lost lost) (first_of (stop_if fault) (closes (ended_by met) (closing_in (end_step v s now met)))) ≡ Some stop → IsWaiting stop.why → ⊥
+later_waits v s met now (Some f) fault stop is h = (let k : IsWaiting (stop_unrecorded f).why = rw (why_is (stop_unrecorded f) stop is) at h in lost_waits f k)
+later_waits v s met now None None stop is h = end_waits v s met now stop is h
+later_waits v s met now None (Some f) stop is h = (let k : IsWaiting (stop_at f).why = rw (why_is (stop_at f) stop is) at h in fault_waits f k)
 
 -- the reading closes
 reading_closes : (conn : Option ℕ) (tick : Option Closing) (later : Option Stop) (stop : Stop) → (later ≡ Some stop → IsWaiting stop.why → ⊥)
@@ -88,7 +95,7 @@ reading_closes conn None later stop not is h = absurd (not is h)
 reading_closes conn (Some c) later stop not is h = (why_is _ stop is, (c, refl))
 
 opening_closes : (v : Terms) (s : Standing) (o : Opening) (stop : Stop) → stop_before v s o ≡ Some stop → IsWaiting stop.why → (stop.why ≡ waiting_for s.conn) × ((c : Closing) × (closing_in (wanted_at v s o.reading) ≡ Some c))
-opening_closes v s o stop is h = reading_closes s.conn (closing_in (wanted_at v s o.reading)) _ stop (later_waits v (ticked s o.reading) o.met o.reading o.fault stop) is h
+opening_closes v s o stop is h = reading_closes s.conn (closing_in (wanted_at v s o.reading)) _ stop (later_waits v (ticked s o.reading) o.met o.reading o.lost o.fault stop) is h
 
 -- where the reading closes, that is how the turn stops
 stops_closed : (conn : Option ℕ) (tick : Option Closing) (c : Closing) (later last : Option Stop) (stop : Stop) → tick ≡ Some c → first_of (first_of (closes (waiting_for conn) tick) later) last ≡ Some stop → stop.why ≡ waiting_for conn

@@ -48,9 +48,9 @@ an_end_has_frames_before_it : Session terms
 unfolding verdict_on_literals
 an_end_has_frames_before_it = told_by terms (record {
   went_on = joins ∷ [];
-  last = Some (record { opening = record { reading = 0; frames = back ∷ back ∷ []; met = Some Full; fault = None }; hearing = None });
+  last = Some (record { opening = record { reading = 0; frames = back ∷ back ∷ []; met = Some Full; lost = None; fault = None }; hearing = None });
   stop = stop_closing (EndedBy Full) 1008 OutboxFull;
-  turns = (hears _ 0 _ (lit< tt) refl tt refl refl tt, (record { room = lit< tt; opening = record { takes = inl (refl, refl); few = lit≤ tt; not_left = λ h. cc; cause = tt }; heard = refl; hearing = tt }, tt));
+  turns = (hears _ 0 _ _ _ _ (lit< tt) refl tt refl refl tt, (record { room = lit< tt; opening = record { takes = inl (refl, refl); few = lit≤ tt; not_left = λ h. cc; line = tt; cause = tt }; heard = refl; hearing = tt }, tt));
   goes_on = (refl, tt);
   stops = refl;
 }) Full (λ c e joined met. cc)
@@ -67,7 +67,7 @@ the_hub_is_worn = told_by terms (record {
   went_on = joins ∷ [];
   last = Some (given_at 0 (Ok (Message (to_b 1))) (Some worn) None);
   stop = stop_closing WhyWorn 1008 HubWorn;
-  turns = (hears _ 0 _ (lit< tt) refl tt refl refl tt, (hears _ 0 _ (lit< tt) refl tt refl tt tt, tt));
+  turns = (hears _ 0 _ _ _ _ (lit< tt) refl tt refl refl tt, (hears _ 0 _ _ _ _ (lit< tt) refl tt refl tt tt, tt));
   goes_on = (refl, tt);
   stops = refl;
 }) Left (λ c e joined met. cc)
@@ -82,9 +82,9 @@ no_memory_is_found : Session terms
 unfolding verdict_on_literals
 no_memory_is_found = told_by terms (record {
   went_on = [];
-  last = Some (record { opening = reads 0; hearing = Some (record { given = Ok (Message connect); judged = false; answer = None; fault = None }) });
+  last = Some (record { opening = reads 0; hearing = Some (record { given = Ok (Message connect); judged = false; answer = None; lost = None; fault = None }) });
   stop = stop_at NoMemory;
-  turns = (hears _ 0 _ (lit< tt) refl (to_peer 1 (ConnectRequest (identity_of a_octets)), refl) refl tt tt, tt);
+  turns = (hears _ 0 _ _ _ _ (lit< tt) refl (to_peer 1 (ConnectRequest (identity_of a_octets)), refl) refl tt tt, tt);
   goes_on = tt;
   stops = refl;
 }) Left (λ c e joined met. cc)
@@ -99,9 +99,9 @@ a_replaced_one_answers : Session terms
 unfolding verdict_on_literals
 a_replaced_one_answers = told_by terms (record {
   went_on = joins ∷ [];
-  last = Some (record { opening = record { reading = 0; frames = []; met = Some Replaced; fault = None }; hearing = Some (record { given = Ok (Message farewell_ack); judged = true; answer = None; fault = None }) });
+  last = Some (record { opening = record { reading = 0; frames = []; met = Some Replaced; lost = None; fault = None }; hearing = Some (record { given = Ok (Message farewell_ack); judged = true; answer = None; lost = None; fault = None }) });
   stop = stop_closing PeerLeft 1000 NoReason;
-  turns = (hears _ 0 _ (lit< tt) refl tt refl refl tt, (record { room = lit< tt; opening = record { takes = inl (refl, refl); few = lit≤ tt; not_left = λ h. cc; cause = tt }; heard = refl; hearing = record { memory = tt; calls = refl; fits = tt; cause = tt } }, tt));
+  turns = (hears _ 0 _ _ _ _ (lit< tt) refl tt refl refl tt, (record { room = lit< tt; opening = record { takes = inl (refl, refl); few = lit≤ tt; not_left = λ h. cc; line = tt; cause = tt }; heard = refl; hearing = record { memory = tt; calls = refl; fits = tt; line = tt; cause = tt } }, tt));
   goes_on = (refl, tt);
   stops = refl;
 }) Replaced (λ c e joined met. cc)
@@ -109,11 +109,11 @@ a_replaced_one_answers = told_by terms (record {
 -- ---- what no session has
 
 -- A put fails, and the outbox is asked again and gives an End.
-no_end_after_a_fault : (s : Standing) → IsOpening terms s (record { reading = 0; frames = back ∷ []; met = Some Full; fault = Some Failed }) → ⊥
+no_end_after_a_fault : (s : Standing) → IsOpening terms s (record { reading = 0; frames = back ∷ []; met = Some Full; lost = None; fault = Some Failed }) → ⊥
 no_end_after_a_fault s is = is.cause
 
 -- The outbox gives the End of one that left.
-no_end_of_one_that_left : (s : Standing) (frames : List (List ℕ)) → IsOpening terms s (record { reading = 0; frames = frames; met = Some Left; fault = None }) → ⊥
+no_end_of_one_that_left : (s : Standing) (frames : List (List ℕ)) → IsOpening terms s (record { reading = 0; frames = frames; met = Some Left; lost = None; fault = None }) → ⊥
 no_end_of_one_that_left s frames is = is.not_left refl
 
 -- A turn is made though the receives are spent.

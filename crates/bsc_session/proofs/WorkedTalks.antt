@@ -29,7 +29,7 @@ nothing_fails = told_by terms (record {
   went_on = (joins ∷ []);
   last = Some (gives Closed);
   stop = stop_for PeerClosed None;
-  turns = (hears _ 0 _ (lit< tt) refl tt refl refl tt, (hears _ 0 _ (lit< tt) refl tt refl tt tt, tt));
+  turns = (hears _ 0 _ _ _ _ (lit< tt) refl tt refl refl tt, (hears _ 0 _ _ _ _ (lit< tt) refl tt refl tt tt, tt));
   goes_on = (refl, tt);
   stops = refl;
 }) Left (λ c e joined met. cc)
@@ -46,7 +46,7 @@ call_1_fails = told_by terms (record {
   went_on = [];
   last = Some (given_at 0 (Err Failed) None None);
   stop = stop_at Failed;
-  turns = (hears _ 0 _ (lit< tt) refl tt refl tt tt, tt);
+  turns = (hears _ 0 _ _ _ _ (lit< tt) refl tt refl tt tt, tt);
   goes_on = tt;
   stops = refl;
 }) Left (λ c e joined met. cc)
@@ -61,9 +61,9 @@ call_2_fails : Session terms
 unfolding verdict_on_literals
 call_2_fails = told_by terms (record {
   went_on = [];
-  last = Some (given_at 0 (Ok (Message connect)) (Some (replies [] (Joined 1 None))) (Some Failed));
+  last = Some (given_at 0 (Ok (Message connect)) (Some (replies 0 [] (Joined 1 None))) (Some Failed));
   stop = stop_at Failed;
-  turns = (hears _ 0 _ (lit< tt) refl tt refl refl tt, tt);
+  turns = (hears _ 0 _ _ _ _ (lit< tt) refl tt refl refl tt, tt);
   goes_on = tt;
   stops = refl;
 }) Left (λ c e joined met. cc)
@@ -80,7 +80,7 @@ call_3_fails = told_by terms (record {
   went_on = (joins ∷ []);
   last = Some (given_at 0 (Err Failed) None None);
   stop = stop_at Failed;
-  turns = (hears _ 0 _ (lit< tt) refl tt refl refl tt, (hears _ 0 _ (lit< tt) refl tt refl tt tt, tt));
+  turns = (hears _ 0 _ _ _ _ (lit< tt) refl tt refl refl tt, (hears _ 0 _ _ _ _ (lit< tt) refl tt refl tt tt, tt));
   goes_on = (refl, tt);
   stops = refl;
 }) Left (λ c e joined met. cc)
@@ -95,9 +95,9 @@ a_frame_cannot_leave : Session terms
 unfolding verdict_on_literals
 a_frame_cannot_leave = told_by terms (record {
   went_on = (joins ∷ forwards_to 1 to_itself Appended ∷ []);
-  last = Some (record { opening = record { reading = 0; frames = back ∷ []; met = None; fault = Some Failed }; hearing = None });
+  last = Some (record { opening = record { reading = 0; frames = back ∷ []; met = None; lost = None; fault = Some Failed }; hearing = None });
   stop = stop_at Failed;
-  turns = (hears _ 0 _ (lit< tt) refl tt refl refl tt, (hears _ 0 _ (lit< tt) refl tt refl tt tt, (record { room = lit< tt; opening = record { takes = inl (refl, refl); few = lit≤ tt; not_left = λ h. cc; cause = tt }; heard = refl; hearing = tt }, tt)));
+  turns = (hears _ 0 _ _ _ _ (lit< tt) refl tt refl refl tt, (hears _ 0 _ _ _ _ (lit< tt) refl tt refl tt tt, (record { room = lit< tt; opening = record { takes = inl (refl, refl); few = lit≤ tt; not_left = λ h. cc; line = tt; cause = tt }; heard = refl; hearing = tt }, tt)));
   goes_on = (refl, (refl, tt));
   stops = refl;
 }) Left (λ c e joined met. cc)
@@ -114,7 +114,7 @@ a_text_comes = told_by terms (record {
   went_on = (joins ∷ []);
   last = Some (gives Text);
   stop = stop_closing NotBinary 1003 NoReason;
-  turns = (hears _ 0 _ (lit< tt) refl tt refl refl tt, (hears _ 0 _ (lit< tt) refl tt refl tt tt, tt));
+  turns = (hears _ 0 _ _ _ _ (lit< tt) refl tt refl refl tt, (hears _ 0 _ _ _ _ (lit< tt) refl tt refl tt tt, tt));
   goes_on = (refl, tt);
   stops = refl;
 }) Left (λ c e joined met. cc)
@@ -131,7 +131,7 @@ a_text_comes_and_the_closing_fails = told_by terms (record {
   went_on = (joins ∷ []);
   last = Some (gives Text);
   stop = stop_closing NotBinary 1003 NoReason;
-  turns = (hears _ 0 _ (lit< tt) refl tt refl refl tt, (hears _ 0 _ (lit< tt) refl tt refl tt tt, tt));
+  turns = (hears _ 0 _ _ _ _ (lit< tt) refl tt refl refl tt, (hears _ 0 _ _ _ _ (lit< tt) refl tt refl tt tt, tt));
   goes_on = (refl, tt);
   stops = refl;
 }) Left (λ c e joined met. cc)
@@ -148,7 +148,7 @@ the_ack_cannot_leave = told_by terms (record {
   went_on = (joins ∷ []);
   last = Some (given_at 0 (Ok (Message leaves)) None (Some Failed));
   stop = stop_at Failed;
-  turns = (hears _ 0 _ (lit< tt) refl tt refl refl tt, (hears _ 0 _ (lit< tt) refl tt refl tt tt, tt));
+  turns = (hears _ 0 _ _ _ _ (lit< tt) refl tt refl refl tt, (hears _ 0 _ _ _ _ (lit< tt) refl tt refl tt tt, tt));
   goes_on = (refl, tt);
   stops = refl;
 }) Left (λ c e joined met. cc)
@@ -165,7 +165,7 @@ the_peer_leaves = told_by terms (record {
   went_on = (joins ∷ []);
   last = Some (gives (Message leaves));
   stop = stop_closing PeerLeft 1000 NoReason;
-  turns = (hears _ 0 _ (lit< tt) refl tt refl refl tt, (hears _ 0 _ (lit< tt) refl tt refl tt tt, tt));
+  turns = (hears _ 0 _ _ _ _ (lit< tt) refl tt refl refl tt, (hears _ 0 _ _ _ _ (lit< tt) refl tt refl tt tt, tt));
   goes_on = (refl, tt);
   stops = refl;
 }) Left (λ c e joined met. cc)
@@ -182,7 +182,7 @@ a_cut_head_comes = told_by terms (record {
   went_on = (joins ∷ gives (Message cut) ∷ []);
   last = Some (gives Closed);
   stop = stop_for PeerClosed None;
-  turns = (hears _ 0 _ (lit< tt) refl tt refl refl tt, (hears _ 0 _ (lit< tt) refl tt refl tt tt, (hears _ 0 _ (lit< tt) refl tt refl tt tt, tt)));
+  turns = (hears _ 0 _ _ _ _ (lit< tt) refl tt refl refl tt, (hears _ 0 _ _ _ _ (lit< tt) refl tt refl tt tt, (hears _ 0 _ _ _ _ (lit< tt) refl tt refl tt tt, tt)));
   goes_on = (refl, (refl, tt));
   stops = refl;
 }) Left (λ c e joined met. cc)
@@ -199,7 +199,7 @@ a_message_too_long_comes = told_by terms (record {
   went_on = (joins ∷ gives (Message too_long) ∷ []);
   last = Some (gives Closed);
   stop = stop_for PeerClosed None;
-  turns = (hears _ 0 _ (lit< tt) refl tt refl refl tt, (hears _ 0 _ (lit< tt) refl tt refl tt tt, (hears _ 0 _ (lit< tt) refl tt refl tt tt, tt)));
+  turns = (hears _ 0 _ _ _ _ (lit< tt) refl tt refl refl tt, (hears _ 0 _ _ _ _ (lit< tt) refl tt refl tt tt, (hears _ 0 _ _ _ _ (lit< tt) refl tt refl tt tt, tt)));
   goes_on = (refl, (refl, tt));
   stops = refl;
 }) Left (λ c e joined met. cc)
@@ -216,7 +216,7 @@ no_connect_comes = told_by terms (record {
   went_on = (gives Quiet ∷ given_at 9999 (Ok Quiet) None None ∷ []);
   last = Some (record { opening = reads 10000; hearing = None });
   stop = stop_closing WaitExpired 1008 ConnectWait;
-  turns = (hears _ 0 _ (lit< tt) refl tt refl tt tt, (hears _ 9999 _ (lit< tt) refl tt refl tt tt, (record { room = lit< tt; opening = bare _ 10000; heard = refl; hearing = tt }, tt)));
+  turns = (hears _ 0 _ _ _ _ (lit< tt) refl tt refl tt tt, (hears _ 9999 _ _ _ _ (lit< tt) refl tt refl tt tt, (record { room = lit< tt; opening = bare _ 10000; heard = refl; hearing = tt }, tt)));
   goes_on = (refl, (refl, tt));
   stops = refl;
 }) Left (λ c e joined met. cc)
@@ -231,9 +231,9 @@ the_hub_has_stopped : Session terms
 unfolding verdict_on_literals
 the_hub_has_stopped = told_by terms (record {
   went_on = [];
-  last = Some (given_at 0 (Ok (Message connect)) (Some (replies [] (Refused Stopped))) None);
+  last = Some (given_at 0 (Ok (Message connect)) (Some (replies 0 [] (Refused Stopped))) None);
   stop = stop_closing (WhyRefused Stopped) 1001 NoReason;
-  turns = (hears _ 0 _ (lit< tt) refl tt refl refl tt, tt);
+  turns = (hears _ 0 _ _ _ _ (lit< tt) refl tt refl refl tt, tt);
   goes_on = tt;
   stops = refl;
 }) Left (λ c e joined met. cc)
@@ -250,7 +250,7 @@ an_outbox_is_full = told_by terms (record {
   went_on = (joins_as 2 ∷ forwards_to 1 (to_b 1) Appended ∷ forwards_to 1 (to_b 2) Appended ∷ forwards_to 1 (to_b 3) ClosedReply ∷ []);
   last = Some (gives Closed);
   stop = stop_for PeerClosed None;
-  turns = (hears _ 0 _ (lit< tt) refl tt refl refl tt, (hears _ 0 _ (lit< tt) refl tt refl tt tt, (hears _ 0 _ (lit< tt) refl tt refl tt tt, (hears _ 0 _ (lit< tt) refl tt refl tt tt, (hears _ 0 _ (lit< tt) refl tt refl tt tt, tt)))));
+  turns = (hears _ 0 _ _ _ _ (lit< tt) refl tt refl refl tt, (hears _ 0 _ _ _ _ (lit< tt) refl tt refl tt tt, (hears _ 0 _ _ _ _ (lit< tt) refl tt refl tt tt, (hears _ 0 _ _ _ _ (lit< tt) refl tt refl tt tt, (hears _ 0 _ _ _ _ (lit< tt) refl tt refl tt tt, tt)))));
   goes_on = (refl, (refl, (refl, (refl, tt))));
   stops = refl;
 }) Left (λ c e joined met. cc)
@@ -265,9 +265,9 @@ more_may_wait : Session terms
 unfolding verdict_on_literals
 more_may_wait = told_by terms (record {
   went_on = (joins ∷ []);
-  last = Some (record { opening = record { reading = 0; frames = replicate 16 back; met = None; fault = None }; hearing = Some (record { given = Ok Closed; judged = true; answer = None; fault = None }) });
+  last = Some (record { opening = record { reading = 0; frames = replicate 16 back; met = None; lost = None; fault = None }; hearing = Some (record { given = Ok Closed; judged = true; answer = None; lost = None; fault = None }) });
   stop = stop_for PeerClosed None;
-  turns = (hears _ 0 _ (lit< tt) refl tt refl refl tt, (record { room = lit< tt; opening = record { takes = inl (refl, refl); few = lit≤ tt; not_left = λ h. cc; cause = tt }; heard = refl; hearing = record { memory = tt; calls = refl; fits = tt; cause = tt } }, tt));
+  turns = (hears _ 0 _ _ _ _ (lit< tt) refl tt refl refl tt, (record { room = lit< tt; opening = record { takes = inl (refl, refl); few = lit≤ tt; not_left = λ h. cc; line = tt; cause = tt }; heard = refl; hearing = record { memory = tt; calls = refl; fits = tt; line = tt; cause = tt } }, tt));
   goes_on = (refl, tt);
   stops = refl;
 }) Left (λ c e joined met. cc)

@@ -18,14 +18,18 @@ use Rattle.bsc_edge.specs.declared.incoming.Incoming.TheVariants.{Closed, Messag
 use Rattle.bsc_edge.specs.declared.said.Said.{Said}
 use Rattle.bsc_session.specs.declared.ended.Ended.{Ended}
 use Rattle.bsc_session.specs.declared.why.Why.{Why}
-use Rattle.bsc_session.specs.declared.why.Why.TheVariants.{EndedBy, Idle, LinkFault as WhyLinkFault, NoMemory, NotBinary, PeerClosed, PeerLeft, Refused, Spent, WaitExpired, Worn}
+use Rattle.bsc_session.specs.declared.why.Why.TheVariants.{Denied, EndedBy, Idle, JournalFault, LinkFault as WhyLinkFault, NoMemory, NotBinary, PeerClosed, PeerLeft, Refused, Spent, WaitExpired, Worn}
+use Rattle.bsc_octets.specs.declared.identity.Identity.{Identity}
+use Rattle.bsc_accept.specs.declared.step.Step.TheVariants.{Ask}
+use Rattle.bsc_lines.specs.declared.denial.Denial.{Denial}
+use Rattle.bsc_session.specs.Answering.{denial_in, step_of}
 use Rattle.bsc_session.specs.Course.{end_of, standing}
 use Rattle.bsc_session.specs.Judging.{verdict_on}
 use Rattle.bsc_session.specs.Reading.{started}
 use Rattle.bsc_session.specs.Receiving.{Answer, replies, worn, no_memory, Hearing}
 use Rattle.bsc_session.specs.Standings.{Standing, Terms, begun, start_of}
 use Rattle.bsc_session.specs.Taking.{opened}
-use Rattle.bsc_session.specs.Talk.{Session}
+use Rattle.bsc_session.specs.Talk.{Session, lost_of}
 use Rattle.bsc_session.specs.Turns.{Turn}
 
 -- ---- what came last
@@ -73,7 +77,7 @@ last_fault (Some t) = hearing_fault t.opening.fault t.hearing
 
 -- The hub refused so.
 abbrev pub IsRefused : Option Answer → Refusal → Type 0
-IsRefused answer r = (looks : List Look) × (answer ≡ Some (replies looks (RefusedReply r)))
+IsRefused answer r = (at : ℕ) × (looks : List Look) × (answer ≡ Some (replies at looks (RefusedReply r)))
 
 -- Memory was wanting: in the last call on the link, in judging, or in the call of the hub.
 abbrev pub LacksMemory : Option Turn → Type 0
@@ -112,10 +116,26 @@ abbrev pub AnswersLeavingIn : Terms → Standing → Option Hearing → Type 0
 AnswersLeavingIn v s None = ⊥
 AnswersLeavingIn v s (Some h) = AnswersLeaving v s h
 
+-- The step of the message given asks to join, and the policy denies it.
+pub record AsksDenied (v : Terms) (s : Standing) (now : ℕ) (h : Hearing) : Type 0 where
+  pub who : Identity
+  pub asks : step_of v s now h ≡ Ask who
+  pub denial : Denial
+  pub denies : denial_in v s now h ≡ Some denial
+
+abbrev pub IsDeniedIn : Terms → Standing → ℕ → Option Hearing → Type 0
+IsDeniedIn v s now None = ⊥
+IsDeniedIn v s now (Some h) = AsksDenied v s now h
+
 -- In the last turn a Disconnect-Request was answered.
 abbrev pub HasAnswered : Terms → Standing → Option Turn → Type 0
 HasAnswered v s None = ⊥
 HasAnswered v s (Some t) = AnswersLeavingIn v (opened s t.opening) t.hearing
+
+-- In the last turn a device asked to join that isn't admitted.
+abbrev pub IsDenied : Terms → Standing → Option Turn → Type 0
+IsDenied v s None = ⊥
+IsDenied v s (Some t) = IsDeniedIn v (opened s t.opening) t.opening.reading t.hearing
 
 -- ---- the causes
 
@@ -125,8 +145,9 @@ pub record EndsOtherwise (last : Option Turn) : Type 0 where
   pub memory : ¬ (LacksMemory last)
   pub receives : last ≢ None
 
--- The cause of a session's end, by where the session stood before its last turn, that turn, and the End that the outlet
--- gave: the link, memory and the count of receives come first; then that End; and the others come where it gave none.
+-- The cause of a session's end whose lines were all put, by where the session stood before its last turn, that turn, and
+-- the End that the outlet gave: the link, memory and the count of receives come first; then that End; and the others come
+-- where it gave none.
 pub record AreExact (v : Terms) (s : Standing) (last : Option Turn) (met : Option End) (why : Why) : Type 0 where
   pub link_fault : why ≡ WhyLinkFault ↔ (last_fault last ≡ Some Failed)
   pub no_memory : why ≡ NoMemory ↔ LacksMemory last
@@ -137,13 +158,20 @@ pub record AreExact (v : Terms) (s : Standing) (last : Option Turn) (met : Optio
   pub is_worn : why ≡ Worn ↔ ((met ≡ None) × (last_answer last ≡ Some worn))
   pub refused : (r : Refusal) → why ≡ Refused r ↔ ((met ≡ None) × IsRefused (last_answer last) r × (last_fault last ≡ None))
   pub peer_left : why ≡ PeerLeft ↔ ((met ≡ None) × HasAnswered v s last)
+  pub denied : (rule : ℕ) → why ≡ Denied rule ↔ ((met ≡ None) × (rule ≡ 0) × IsDenied v s last)
   pub wait_expired : why ≡ WaitExpired ↔ ((met ≡ None) × HasWaited v s last)
   pub idle : why ≡ Idle ↔ ((met ≡ None) × HasIdled v s last)
+
+-- The cause of any session's end, by why a line wasn't put, where one wasn't: a lost line comes before all else.
+pub record AreExactBy (v : Terms) (s : Standing) (last : Option Turn) (met : Option End) (lost : Option LinkFault) (why : Why) : Type 0 where
+  pub journal_fault : why ≡ JournalFault ↔ (lost ≡ Some Failed)
+  pub no_memory : lost ≡ Some MemoryFault → why ≡ NoMemory
+  pub others : lost ≡ None → AreExact v s last met why
 
 -- Whatever session this is the end of, its cause is exact.
 abbrev pub HasExactCause : Terms → Ended → Type 0
 HasExactCause v ended = (T : List Said) (R : List ℕ) (E : List Entry) (frames : List (List ℕ)) (x : Session v T R E frames ended)
-    → AreExact v (standing v begun x.course.went_on) x.course.last (end_of x.course).ended ended.why
+    → AreExactBy v (standing v begun x.course.went_on) x.course.last (end_of x.course).ended (lost_of x) ended.why
 
 -- It is so of each session.
 abbrev pub CausesAreExact : Type 0

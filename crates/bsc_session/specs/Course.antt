@@ -8,9 +8,10 @@ use Rattle.bsc_accept.specs.declared.reason.Reason.TheVariants.{Nothing as NoRea
 use Rattle.bsc_accept.specs.Reasons.{reason_text}
 use Rattle.bsc_session.specs.declared.stop.Stop.{Stop}
 use Rattle.bsc_session.specs.declared.why.Why.TheVariants.{Spent}
+use Rattle.bsc_notes.specs.Notes.{Note}
 use Rattle.bsc_session.specs.Standings.{Standing, Terms, begun}
 use Rattle.bsc_session.specs.Stops.{stop_closing}
-use Rattle.bsc_session.specs.Turns.{IsTurn, Turn, after, empties_in, entries_in, frames_in, reading_in, said_in, stop_in}
+use Rattle.bsc_session.specs.Turns.{IsTurn, Turn, after, empties_in, entries_in, frames_in, notes_in, reading_in, said_in, stop_in}
 
 -- Where a session stands after some turns.
 abbrev pub standing : Terms → Standing → List Turn → Standing
@@ -81,6 +82,10 @@ entries_of {v} c = shares entries_in v begun (all_turns c)
 -- The frames of all turns.
 abbrev pub frames_of : {v : Terms} → Course v → List (List ℕ)
 frames_of {v} c = shares frames_in v begun (all_turns c)
+
+-- What all turns note in the journal.
+abbrev pub notes_of : {v : Terms} → Course v → List Note
+notes_of {v} c = shares notes_in v begun (all_turns c)
 
 -- How many turns found the outbox empty.
 abbrev pub empties_of : {v : Terms} → Course v → ℕ

@@ -1,5 +1,5 @@
 -- What a serving call says.
-use Rattle.std.specs.Prelude.{◌≡◌, ◌<◌, ◌≤◌, ℕ, List, [], ◌++◌, length, take, Option, Some, None}
+use Rattle.std.specs.Prelude.{◌≡◌, ◌<◌, ◌≤◌, ℕ, List, [], ◌∷◌, ◌++◌, length, take, slice_get, Option, Some, None, ⊤}
 use Rattle.bsc_history.specs.declared.ending.End.{End}
 use Rattle.bsc_history.specs.declared.entry.Entry.{Entry}
 use Rattle.bsc_history.specs.declared.limits.About.{About}
@@ -16,13 +16,15 @@ use Rattle.bsc_session.specs.declared.ended.Ended.{Ended}
 use Rattle.bsc_session.specs.declared.limits.SessionLimits.{SessionLimits}
 use Rattle.bsc_session.specs.Causes.{last_answer}
 use Rattle.bsc_session.specs.Course.{end_of}
+use Rattle.bsc_policy.specs.declared.policy.Policy.{Policy}
+use Rattle.bsc_notes.specs.Notes.{Note, Records, denied, made}
 use Rattle.bsc_session.specs.Receiving.{worn}
 use Rattle.bsc_session.specs.Standings.{Terms}
-use Rattle.bsc_session.specs.Talk.{Session}
+use Rattle.bsc_session.specs.Talk.{Session, journal_of, lost_of}
 
--- The terms of a session with this pass at this hub.
-abbrev pub terms_of : Hub → Pass → SessionLimits → ℕ → Terms
-terms_of h p limits turns = record { caller = number_of p; hub = (about_of h).hub; times = limits.times; turns = turns }
+-- The terms of a session with this pass at this hub, guarded by this policy if there is one.
+abbrev pub terms_of : Hub → Pass → SessionLimits → ℕ → Option Policy → Terms
+terms_of h p limits turns policy = record { caller = number_of p; hub = (about_of h).hub; times = limits.times; turns = turns; policy = policy }
 
 -- What a connection received: the first frames that entered its outbox, as many as it took.
 abbrev pub received : About → List Entry → Option ℕ → ℕ → List (List ℕ)
@@ -45,6 +47,15 @@ abbrev pub WasWorn : About → List Entry → Option ℕ → Type 0
 WasWorn a H None = a.limits.calls ≤ length H
 WasWorn a H (Some c) = a.limits.calls < length H
 
+-- Each entry that is noted stands at its place in the history.
+abbrev pub StandsAt : List Entry → Note → Type 0
+StandsAt H (made at e) = slice_get H at ≡ Some e
+StandsAt H (denied d) = ⊤
+
+abbrev pub AllStand : List Entry → List Note → Type 0
+AllStand H [] = ⊤
+AllStand H (n ∷ ns) = StandsAt H n × AllStand H ns
+
 -- What a serving call says: the talk, the readings and the own list grew by those of a session, whose frames are the
 -- first that entered the outbox of its connection, by what the pass has then seen, and all of them where an End was met;
 -- and the hub answers that it is worn only where it is.
@@ -59,3 +70,16 @@ pub record Serves (v : Terms) (h : Hub) (p q : Pass) (old new : Option (List Sai
   pub all : (c : ℕ) (e : End) → ended.conn ≡ Some c → (end_of session.course).ended ≡ Some e
       → received (about_of h) (entries (seen q)) ended.conn ended.taken ≡ sent (about_of h) (entries (seen q)) c
   pub is_worn : last_answer session.course.last ≡ Some worn → WasWorn (about_of h) (entries (seen q)) ended.conn
+
+-- What a serving call without a journal says: it is such a session, and no line of it was lost, as none was made.
+pub record ServesUnrecorded (v : Terms) (h : Hub) (p q : Pass) (old new : Option (List Said)) (read read' : Option (List ℕ)) (ended : Ended) : Type 0 where
+  pub serves : Serves v h p q old new read read' ended
+  pub unlost : lost_of serves.session ≡ None
+
+-- What a serving call with a journal says: it is such a session, each own entry that it notes stands at its place in the
+-- history, and what it notes is in the journal, where that tells what it holds: the line of each own entry and of each denial,
+-- in order; and where a line wasn't put, all lines before that one and some first part of it.
+pub record ServesNoting (v : Terms) (h : Hub) (p q : Pass) (old new : Option (List Said)) (read read' : Option (List ℕ)) (held held' : Option (List ℕ)) (ended : Ended) : Type 0 where
+  pub serves : Serves v h p q old new read read' ended
+  pub stand : AllStand (entries (seen q)) (journal_of serves.session)
+  pub records : Records held held' (journal_of serves.session) (lost_of serves.session)

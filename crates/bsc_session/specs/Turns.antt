@@ -4,13 +4,14 @@ use Rattle.std.specs.Prelude.{List, None, Option, Some, [], if◌then◌else◌,
 use Rattle.bsc_history.specs.declared.entry.Entry.{Entry}
 use Rattle.bsc_edge.specs.declared.said.Said.{Said}
 use Rattle.bsc_session.specs.declared.stop.Stop.{Stop}
-use Rattle.bsc_session.specs.Answering.{IsHearing, after_hearing, entries_hearing, said_hearing, stop_hearing}
+use Rattle.bsc_session.specs.Answering.{IsHearing, after_hearing, entries_hearing, notes_hearing, said_hearing, stop_hearing}
+use Rattle.bsc_notes.specs.Notes.{Note}
 use Rattle.bsc_session.specs.Puts.{puts}
 use Rattle.bsc_session.specs.Reading.{ticked}
 use Rattle.bsc_session.specs.Receiving.{Hearing}
 use Rattle.bsc_session.specs.Standings.{Standing, Terms, is_connected}
 use Rattle.bsc_session.specs.Stops.{first_of}
-use Rattle.bsc_session.specs.Taking.{IsOpening, Opening, opened, put_first, stop_before, wait_in}
+use Rattle.bsc_session.specs.Taking.{IsOpening, Opening, notes_opening, opened, put_first, stop_before, wait_in}
 
 -- A turn. One that stops before the receive has no hearing.
 pub record Turn : Type 0 where
@@ -20,7 +21,7 @@ pub record Turn : Type 0 where
 abbrev pub reading_in : Terms → Standing → Turn → List ℕ
 reading_in v s t = t.opening.reading ∷ []
 
--- The frames that a turn took from the outlet, the last of which may not have left.
+-- The frames that a turn took from the outlet: a piece of what was received, whether the policy lets them through or not.
 abbrev pub frames_in : Terms → Standing → Turn → List (List ℕ)
 frames_in v s t = t.opening.frames
 
@@ -40,6 +41,14 @@ entries_after v s now (Some h) = entries_hearing v s now h
 -- The entries that a turn makes.
 abbrev pub entries_in : Terms → Standing → Turn → List Entry
 entries_in v s t = entries_after v (opened s t.opening) t.opening.reading t.hearing
+
+abbrev pub notes_after : Terms → Standing → ℕ → Option Hearing → List Note
+notes_after v s now None = []
+notes_after v s now (Some h) = notes_hearing v s now h
+
+-- What a turn notes in the journal: the denials of frames, then what the thing given comes to.
+abbrev pub notes_in : Terms → Standing → Turn → List Note
+notes_in v s t = notes_opening v s t.opening ++ notes_after v (opened s t.opening) t.opening.reading t.hearing
 
 abbrev pub stands_after : Terms → Standing → ℕ → Option Hearing → Standing
 stands_after v s now None = s

@@ -1,5 +1,5 @@
 //! What follows from a message.
-ghost use Rattle.std.specs.Prelude.{◌≡◌, ◌≤◌, ◌≢◌, ℕ, Result, Ok, Some, None, IsTrue, IsFalse, is_some};
+ghost use Rattle.std.specs.Prelude.{◌≡◌, ◌≤◌, ◌≢◌, ℕ, Bool, Result, Ok, Some, None, IsTrue, IsFalse, is_some, option_map};
 ghost use Rattle.bsc_octets.specs.declared.identity.Identity.{Identity};
 ghost use Rattle.bsc_octets.specs.Addresses.{broadcast, same_vmac, zero_vmac};
 ghost use Rattle.bsc_octets.specs.Forwarding.{has_route, is_broadcast};
@@ -12,15 +12,18 @@ ghost use Rattle.bsc_accept.specs.declared.event.Event.{Event};
 ghost use Rattle.bsc_accept.specs.declared.step.Step.{Step};
 ghost use Rattle.bsc_hub.specs.Passing.{IsCaller, IsOwnAs, about_of};
 ghost use Rattle.bsc_session.specs.declared.why.Why.{Why};
-ghost use Rattle.bsc_session.specs.Inner.{Answers, Carries, Forwards, HasStanding, HearsMessage, Held, IsMember, RoseIf, Runs, Tied};
+ghost use Rattle.bsc_session.specs.Inner.{Answers, Carries, Forwards, HasStanding, HearsMessage, Held, IsMember, RoseFor, RoseIf, Runs, Tied, TurnsAway, UnputBy, UnputIf};
+ghost use Rattle.bsc_session.specs.Answering.{denied_in};
 ghost use Rattle.bsc_session.specs.Standings.{Standing, Terms, start_of, wanted};
 ghost use Rattle.bsc_session.specs.Stops.{stop_closing};
 
 use crate::at::At;
+use crate::guarding::{denied_connect, denied_message};
 use crate::judging::verdict;
 use crate::member::Member;
+use crate::noting::{note_all, note_denial, note_joined, note_one, note_refused, stop_lost};
 use crate::stop::Stop;
-use crate::stopping::{carry_out, stop_at, stop_closing};
+use crate::stopping::{carry_out, stop_at, stop_closing, stop_unrecorded};
 use crate::waking::{introduce, wake_all, wake_one};
 use crate::why::Why;
 use bsc_accept::{Closing, Step};
@@ -28,7 +31,10 @@ use bsc_desk::{AllRefusal, Prepared, prepare};
 use bsc_edge::{Link, LinkFault};
 use bsc_history::Refusal;
 use bsc_hub::{ConnectRefusal, Hub, Joined, Pass};
+use bsc_lines::Denial;
+use bsc_notes::Journal;
 use bsc_octets::{Identity, Vmac};
+use bsc_policy::Policy;
 use std::alloc::Global;
 use std::sync::Wait;
 
@@ -49,9 +55,23 @@ fn refuse<L: Link>(alloc: Global, link: &mut L, at: &mut At, refusal: Refusal) -
     ensures receives { at.new.receives ≡ at.old.receives }
     ensures later { L.faults link.old ≤ L.faults link.new }
     ensures failed { RoseIf result (L.faults link.old) (L.faults link.new) }
+    ensures recorded { (makes : Bool) (a b : ℕ) → UnputIf makes result a b }
 {
     let step = at.machine.refused(&refusal);
     carry_out(alloc, link, step, Why::Refused(refusal))
+}
+
+/// A device that isn't admitted is turned away, once that is noted.
+fn turned_away<J: Journal>(alloc: Global, journal: &mut J, denial: Denial) -> Stop
+    ensures away { TurnsAway denial (J.held journal.old) (J.held journal.new) result }
+    ensures other { (n : ℕ) → RoseFor result.why n n }
+    ensures unrecorded { UnputBy J.makes_lines result.lost (J.faults journal.old) (J.faults journal.new) }
+    ensures journal_later { J.faults journal.old ≤ J.faults journal.new }
+{
+    match note_denial(alloc, journal, denial) {
+        Ok(()) => stop_closing(Why::Denied { rule: 0 }, Closing::POLICY),
+        Err(fault) => stop_unrecorded(fault),
+    }
 }
 
 fn address_of(who: &Identity) -> Vmac
@@ -61,12 +81,13 @@ fn address_of(who: &Identity) -> Vmac
 }
 
 /// Asks the hub to join, and answers the peer.
-fn ask<R: Wait, L: Link>(
+fn ask<R: Wait, L: Link, J: Journal>(
     rt: &R,
     alloc: Global,
     hub: &Hub,
     pass: &mut Pass,
     link: &mut L,
+    journal: &mut J,
     at: &mut At,
     who: Identity,
 ) -> Option<Stop>
@@ -77,20 +98,26 @@ fn ask<R: Wait, L: Link>(
     requires not_broadcast { IsFalse (same_vmac who.vmac broadcast) }
     ensures answered { (v : Terms) (s : Standing) (given : Result Incoming LinkFault) → Held hub.now v pass.old at.old s
         → StandsFor at.old.machine (start_of v s) s.events → Tied s
-        → Answers v s (Step.Ask who) given hub.now pass.old pass.new at.old at.new (L.talk link.old) (L.talk link.new) result }
+        → denied_in v s (Step.Ask who) given ≡ None
+        → Answers v s (Step.Ask who) given hub.now pass.old pass.new at.old at.new (L.talk link.old) (L.talk link.new)
+        (J.held journal.old) (J.held journal.new) result }
     ensures later { L.faults link.old ≤ L.faults link.new }
     ensures failed { RoseIf result (L.faults link.old) (L.faults link.new) }
+    ensures unrecorded { UnputIf J.makes_lines result (J.faults journal.old) (J.faults journal.new) }
+    ensures journal_later { J.faults journal.old ≤ J.faults journal.new }
 {
     let address = address_of(&who);
+    let caller = pass.number();
     match hub.connect(rt, alloc, pass, who) {
         Ok(
             Joined {
+                at: place,
                 conn,
                 replaced,
                 outlet,
-                ..
             },
         ) => {
+            let noted = note_joined(alloc, journal, place, caller, who, conn, replaced);
             introduce(link, conn, replaced);
             let member = Member {
                 conn,
@@ -98,61 +125,86 @@ fn ask<R: Wait, L: Link>(
                 outlet,
             };
             let _none = at.member.replace(member);
-            let step = at.machine.joined();
-            carry_out(alloc, link, step, Why::PeerLeft)
+            match noted {
+                Ok(()) => {
+                    let step = at.machine.joined();
+                    carry_out(alloc, link, step, Why::PeerLeft)
+                }
+                Err(fault) => Some(stop_unrecorded(fault)),
+            }
         }
-        Err(ConnectRefusal::Refused { refusal, .. }) => { refuse(alloc, link, at, refusal) }
+        Err(ConnectRefusal::Refused { at: place, refusal }) => {
+            match note_refused(alloc, journal, place, caller, who, refusal) {
+                Ok(()) => refuse(alloc, link, at, refusal),
+                Err(fault) => Some(stop_unrecorded(fault)),
+            }
+        }
         Err(ConnectRefusal::Worn(_)) => Some(worn()),
         Err(ConnectRefusal::NoMemory) => Some(stop_at(LinkFault::NoMemory)),
     }
 }
 
 /// Forwards a unicast.
-fn forward_one<R: Wait, L: Link>(
+fn forward_one<R: Wait, L: Link, J: Journal>(
     rt: &R,
+    alloc: Global,
     hub: &Hub,
     pass: &mut Pass,
     link: &mut L,
+    journal: &mut J,
     conn: u64,
+    m: &[u8],
     frame: Prepared,
 ) -> Option<Stop>
     requires caller { IsCaller hub.now pass.old }
     requires own { IsOwnAs pass.old conn frame.sender }
+    requires same { m.now ≡ frame.message }
     requires unicast { IsFalse (is_broadcast frame.message) }
-    ensures forwarded { Forwards hub.now pass.old pass.new conn frame.message (L.talk link.old) (L.talk link.new) result }
+    ensures forwarded { Forwards hub.now pass.old pass.new conn frame.message (L.talk link.old) (L.talk link.new) (J.held journal.old) (J.held journal.new) result }
     ensures same { L.faults link.new ≡ L.faults link.old }
     ensures other { (n : ℕ) → RoseIf result n n }
+    ensures unrecorded { UnputIf J.makes_lines result (J.faults journal.old) (J.faults journal.new) }
+    ensures journal_later { J.faults journal.old ≤ J.faults journal.new }
 {
+    let caller = pass.number();
     match hub.forward_one(rt, pass, conn, frame) {
         Ok(told) => {
+            let noted = note_one(alloc, journal, told.at, caller, conn, m, told.said);
             wake_one(link, told.said);
-            None
+            stop_lost(noted)
         }
         Err(_) => Some(worn()),
     }
 }
 
 /// Forwards a broadcast.
-fn forward_all<R: Wait, L: Link>(
+fn forward_all<R: Wait, L: Link, J: Journal>(
     rt: &R,
     alloc: Global,
     hub: &Hub,
     pass: &mut Pass,
     link: &mut L,
+    journal: &mut J,
     conn: u64,
+    m: &[u8],
     frame: &Prepared,
 ) -> Option<Stop>
     requires caller { IsCaller hub.now pass.old }
     requires own { IsOwnAs pass.old conn frame.now.sender }
+    requires same { m.now ≡ frame.now.message }
     requires broadcast { IsTrue (is_broadcast frame.now.message) }
-    ensures forwarded { Forwards hub.now pass.old pass.new conn frame.now.message (L.talk link.old) (L.talk link.new) result }
+    ensures forwarded { Forwards hub.now pass.old pass.new conn frame.now.message (L.talk link.old) (L.talk link.new) (J.held journal.old) (J.held journal.new) result }
     ensures same { L.faults link.new ≡ L.faults link.old }
     ensures other { (n : ℕ) → RoseIf result n n }
+    ensures unrecorded { UnputIf J.makes_lines result (J.faults journal.old) (J.faults journal.new) }
+    ensures journal_later { J.faults journal.old ≤ J.faults journal.new }
 {
+    let caller = pass.number();
     match hub.forward_all(rt, alloc, pass, conn, frame) {
         Ok(told) => {
+            let noted = note_all(alloc, journal, told.at, caller, conn, m, &told.said);
             wake_all(link, &told.said);
-            None
+            stop_lost(noted)
         }
         Err(AllRefusal::Worn(_)) => Some(worn()),
         Err(AllRefusal::NoMemory) => Some(stop_at(LinkFault::NoMemory)),
@@ -160,12 +212,13 @@ fn forward_all<R: Wait, L: Link>(
 }
 
 /// Forwards a message of the connection that has this address.
-fn forward<R: Wait, L: Link>(
+fn forward<R: Wait, L: Link, J: Journal>(
     rt: &R,
     alloc: Global,
     hub: &Hub,
     pass: &mut Pass,
     link: &mut L,
+    journal: &mut J,
     conn: u64,
     address: Vmac,
     m: &[u8],
@@ -173,27 +226,31 @@ fn forward<R: Wait, L: Link>(
     requires caller { IsCaller hub.now pass.old }
     requires own { IsOwnAs pass.old conn address }
     requires route { IsTrue (has_route m.now) }
-    ensures forwarded { Forwards hub.now pass.old pass.new conn m.now (L.talk link.old) (L.talk link.new) result }
+    ensures forwarded { Forwards hub.now pass.old pass.new conn m.now (L.talk link.old) (L.talk link.new) (J.held journal.old) (J.held journal.new) result }
     ensures same { L.faults link.new ≡ L.faults link.old }
     ensures other { (n : ℕ) → RoseIf result n n }
+    ensures unrecorded { UnputIf J.makes_lines result (J.faults journal.old) (J.faults journal.new) }
+    ensures journal_later { J.faults journal.old ≤ J.faults journal.new }
 {
     let Ok(frame) = prepare(alloc, m, address) else {
         return Some(stop_at(LinkFault::NoMemory));
     };
     if frame.is_broadcast() {
-        forward_all(rt, alloc, hub, pass, link, conn, &frame)
+        forward_all(rt, alloc, hub, pass, link, journal, conn, m, &frame)
     } else {
-        forward_one(rt, hub, pass, link, conn, frame)
+        forward_one(rt, alloc, hub, pass, link, journal, conn, m, frame)
     }
 }
 
 /// Carries out the step of a message.
-fn answer<R: Wait, L: Link>(
+fn answer<R: Wait, L: Link, J: Journal>(
     rt: &R,
     alloc: Global,
     hub: &Hub,
     pass: &mut Pass,
     link: &mut L,
+    journal: &mut J,
+    policy: Option<&Policy>,
     at: &mut At,
     step: Step,
     m: &[u8],
@@ -208,14 +265,25 @@ fn answer<R: Wait, L: Link>(
     requires route { step ≡ Step.Carry → IsTrue (has_route m.now) }
     ensures answered { (v : Terms) (s : Standing) → Held hub.now v pass.old at.old s
         → StandsFor at.old.machine (start_of v s) s.events → Tied s
-        → Answers v s step (Ok (Incoming.Message m.now)) hub.now pass.old pass.new at.old at.new (L.talk link.old) (L.talk link.new) result }
+        → v.policy ≡ option_map (λ p. p.now) policy.entry
+        → Answers v s step (Ok (Incoming.Message m.now)) hub.now pass.old pass.new at.old at.new (L.talk link.old) (L.talk link.new) (J.held journal.old) (J.held journal.new) result }
     ensures later { L.faults link.old ≤ L.faults link.new }
     ensures failed { RoseIf result (L.faults link.old) (L.faults link.new) }
+    ensures unrecorded { UnputIf J.makes_lines result (J.faults journal.old) (J.faults journal.new) }
+    ensures journal_later { J.faults journal.old ≤ J.faults journal.new }
 {
     match step {
-        Step::Ask(who) => ask(rt, alloc, hub, pass, link, at, who),
+        Step::Ask(who) => match denied_connect(policy, &who) {
+            Some(denial) => Some(turned_away(alloc, journal, denial)),
+            None => ask(rt, alloc, hub, pass, link, journal, at, who),
+        },
         Step::Carry => match &at.member {
-            Some(member) => forward(rt, alloc, hub, pass, link, member.conn, member.address, m),
+            Some(member) => match denied_message(policy, member.address, m) {
+                Some(denial) => stop_lost(note_denial(alloc, journal, denial)),
+                None => forward(
+                    rt, alloc, hub, pass, link, journal, member.conn, member.address, m,
+                ),
+            },
             None => unreachable!(),
         },
         Step::Reply(_) | Step::ReplyClose(_, _) | Step::Close(_) | Step::Nothing => {
@@ -225,26 +293,30 @@ fn answer<R: Wait, L: Link>(
 }
 
 /// Judges a message, tells the machine, and carries out its step.
-pub fn take_message<R: Wait, L: Link>(
+pub fn take_message<R: Wait, L: Link, J: Journal>(
     rt: &R,
     alloc: Global,
     hub: &Hub,
     pass: &mut Pass,
     link: &mut L,
+    journal: &mut J,
+    policy: Option<&Policy>,
     at: &mut At,
     now: u64,
     m: &[u8],
 ) -> Option<Stop>
     requires { HasStanding hub.now pass.old at.old }
-    ensures heard { (v : Terms) (s : Standing) → v.hub ≡ (about_of hub.now).hub → Held hub.now v pass.old at.old s → Runs v at.old s
-        → HearsMessage v s now m.now hub.now pass.old pass.new at.old at.new (L.talk link.old) (L.talk link.new) result }
+    ensures heard { (v : Terms) (s : Standing) → v.hub ≡ (about_of hub.now).hub → v.policy ≡ option_map (λ p. p.now) policy.entry → Held hub.now v pass.old at.old s → Runs v at.old s
+        → HearsMessage v s now m.now hub.now pass.old pass.new at.old at.new (L.talk link.old) (L.talk link.new) (J.held journal.old) (J.held journal.new) result }
     ensures later { L.faults link.old ≤ L.faults link.new }
     ensures failed { RoseIf result (L.faults link.old) (L.faults link.new) }
+    ensures unrecorded { UnputIf J.makes_lines result (J.faults journal.old) (J.faults journal.new) }
+    ensures journal_later { J.faults journal.old ≤ J.faults journal.new }
 {
     match verdict(alloc, m, at.machine.phase(), hub.identity().max_bvlc) {
         Ok(verdict) => {
             let step = at.machine.message(now, &verdict);
-            answer(rt, alloc, hub, pass, link, at, step, m)
+            answer(rt, alloc, hub, pass, link, journal, policy, at, step, m)
         }
         Err(_) => Some(stop_at(LinkFault::NoMemory)),
     }

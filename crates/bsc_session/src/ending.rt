@@ -1,20 +1,26 @@
 //! The last acts.
-ghost use Rattle.std.specs.Prelude.{◌≡◌, ◌≤◌, Option};
+ghost use Rattle.std.specs.Prelude.{◌≡◌, ◌≤◌, [], ◌∷◌, Option, Some};
 ghost use Rattle.bsc_history.specs.declared.ending.End.{End};
 ghost use Rattle.bsc_turn.specs.Passes.{number_of};
 ghost use Rattle.bsc_hub.specs.Passing.{IsCaller};
 ghost use Rattle.bsc_edge.specs.Told.{Grows};
 ghost use Rattle.bsc_session.specs.Course.{said_closing};
-ghost use Rattle.bsc_session.specs.Inner.{HasFound, IsMember, Parts};
+ghost use Rattle.bsc_session.specs.Inner.{HasFound, IsMember, Parts, UnputBy};
 ghost use Rattle.bsc_session.specs.Standings.{Terms};
-ghost use Rattle.bsc_session.specs.Talk.{named};
+ghost use Rattle.bsc_desk.specs.Entries.{leave_entry};
+ghost use Rattle.bsc_notes.specs.Notes.{HasLine, Records};
+ghost use Rattle.bsc_session.specs.declared.why.Why.{Why};
+ghost use Rattle.bsc_session.specs.Talk.{named, named_lost, noted_leaving};
 
 use crate::member::Member;
+use crate::noting::note_left;
 use crate::why::Why;
 use bsc_accept::Closing;
-use bsc_edge::Link;
+use bsc_desk::Gone;
+use bsc_edge::{Link, LinkFault};
 use bsc_history::End;
 use bsc_hub::{Hub, Pass};
+use bsc_notes::Journal;
 use std::alloc::Global;
 use std::sync::Wait;
 
@@ -24,19 +30,59 @@ pub struct Parted {
     pub conn: Option<u64>,
     pub taken: u64,
     pub empties: u64,
+    /// Why the Leave's line wasn't put into the journal, where it wasn't.
+    pub lost: Option<LinkFault>,
 }
 
-/// An End that was met names the end of the session, unless the link, memory or the count of receives ends it.
+/// An End that was met names the end of the session, unless the journal, the link, memory or the count of receives ends it.
 pub fn named(ended: Option<End>, why: Why) -> Why
     ensures { result ≡ named ended why }
 {
     match ended {
         None => why,
         Some(end) => match why {
+            Why::JournalFault => Why::JournalFault,
             Why::LinkFault => Why::LinkFault,
             Why::NoMemory => Why::NoMemory,
             Why::Spent => Why::Spent,
             _ => Why::EndedBy(end),
+        },
+    }
+}
+
+/// A lost line names the end of the session before all else.
+pub fn named_lost(lost: Option<LinkFault>, why: Why) -> Why
+    ensures is { result ≡ named_lost lost why }
+    ensures link { result ≡ Why.LinkFault → why ≡ Why.LinkFault }
+{
+    match lost {
+        None => why,
+        Some(LinkFault::Failed) => Why::JournalFault,
+        Some(LinkFault::NoMemory) => Why::NoMemory,
+    }
+}
+
+/// Notes the Leave, unless a line was lost before. Says why it wasn't put, if it wasn't.
+fn note_leave<J: Journal>(
+    alloc: Global,
+    journal: &mut J,
+    lost: Option<LinkFault>,
+    at: u64,
+    caller: u64,
+    conn: u64,
+    empties: u64,
+    gone: Gone,
+) -> Option<LinkFault>
+    ensures noted { Records (J.held journal.old) (J.held journal.new) (noted_leaving lost at (leave_entry caller conn empties gone ∷ [])) result }
+    ensures line { HasLine (noted_leaving lost at (leave_entry caller conn empties gone ∷ [])) result }
+    ensures unrecorded { UnputBy J.makes_lines result (J.faults journal.old) (J.faults journal.new) }
+    ensures journal_later { J.faults journal.old ≤ J.faults journal.new }
+{
+    match lost {
+        Some(_) => None,
+        None => match note_left(alloc, journal, at, caller, conn, empties, gone) {
+            Ok(()) => None,
+            Err(fault) => Some(fault),
         },
     }
 }
@@ -55,26 +101,41 @@ pub fn close<L: Link>(alloc: Global, link: &mut L, closing: Option<Closing>)
 }
 
 /// Leaves, where the session had joined.
-pub fn part<R: Wait>(rt: &R, hub: &Hub, pass: &mut Pass, member: Option<Member>) -> Parted
+pub fn part<R: Wait, J: Journal>(
+    rt: &R,
+    alloc: Global,
+    hub: &Hub,
+    pass: &mut Pass,
+    journal: &mut J,
+    lost: Option<LinkFault>,
+    member: Option<Member>,
+) -> Parted
     requires caller { IsCaller hub.now pass.old }
     requires member { IsMember pass.old member }
-    ensures { (v : Terms) (ended : Option End) → v.caller ≡ number_of pass.old → HasFound ended member
-        → Parts v hub.now pass.old pass.new member ended result.conn result.taken result.empties }
+    ensures parts { (v : Terms) (ended : Option End) → v.caller ≡ number_of pass.old → HasFound ended member
+        → Parts v hub.now pass.old pass.new (J.held journal.old) (J.held journal.new) lost member ended result.conn result.taken result.empties result.lost }
+    ensures unrecorded { UnputBy J.makes_lines result.lost (J.faults journal.old) (J.faults journal.new) }
+    ensures journal_later { J.faults journal.old ≤ J.faults journal.new }
 {
     match member {
         Some(Member { conn, outlet, .. }) => {
             let empties = outlet.empties();
+            let caller = pass.number();
             let told = hub.leave(rt, pass, conn, outlet);
             Parted {
                 conn: Some(conn),
                 taken: told.said.taken,
                 empties,
+                lost: note_leave(
+                    alloc, journal, lost, told.at, caller, conn, empties, told.said,
+                ),
             }
         }
         None => Parted {
             conn: None,
             taken: 0,
             empties: 0,
+            lost: None,
         },
     }
 }

@@ -1,17 +1,17 @@
 //! One connection's session.
-ghost use Rattle.std.specs.Prelude.{◌≡◌, ◌≤◌, [], None};
+ghost use Rattle.std.specs.Prelude.{◌≡◌, ◌≢◌, ◌≤◌, [], None, Some, option_map};
 ghost use Rattle.bsc_outside.specs.Faults.{HasRisen};
 ghost use Rattle.bsc_accept.specs.Standing.{IsOpen, StandsFor};
 ghost use Rattle.bsc_hub.specs.Passing.{IsCaller, about_of};
 ghost use Rattle.bsc_session.specs.declared.why.Why.{Why};
 ghost use Rattle.bsc_session.specs.Causes.{HasExactCause};
-ghost use Rattle.bsc_session.specs.Inner.{Ran, RoseFor};
+ghost use Rattle.bsc_session.specs.Inner.{Ran, RoseFor, ServesBy, UnputBy};
 ghost use Rattle.bsc_session.specs.Laws.{GrowsToFault};
-ghost use Rattle.bsc_session.specs.Serving.{Serves, terms_of};
+ghost use Rattle.bsc_session.specs.Serving.{ServesNoting, ServesUnrecorded, terms_of};
 
 use crate::at::At;
 use crate::ended::Ended;
-use crate::ending::{close, named, part};
+use crate::ending::{close, named, named_lost, part};
 use crate::limits::SessionLimits;
 use crate::stop::Stop;
 use crate::stopping::stop_closing;
@@ -20,6 +20,9 @@ use crate::why::Why;
 use bsc_accept::{Accepting, Closing};
 use bsc_edge::{Clock, Link};
 use bsc_hub::{Hub, Pass};
+use bsc_notes::{Journal, NoJournal};
+use bsc_outside::Sink;
+use bsc_policy::Policy;
 use std::alloc::Global;
 use std::sync::Wait;
 
@@ -40,12 +43,14 @@ fn begin(hub: &Hub, limits: &SessionLimits) -> At
 }
 
 /// Makes turns until one stops the session, or the receives are spent.
-fn run<R: Wait, L: Link, C: Clock>(
+fn run<R: Wait, L: Link, C: Clock, J: Journal>(
     rt: &R,
     alloc: Global,
     hub: &Hub,
     pass: &mut Pass,
     link: &mut L,
+    journal: &mut J,
+    policy: Option<&Policy>,
     clock: &mut C,
     limits: &SessionLimits,
     turns: u64,
@@ -57,17 +62,63 @@ fn run<R: Wait, L: Link, C: Clock>(
     requires member { at.old.member ≡ None }
     requires ended { at.old.ended ≡ None }
     requires receives { at.old.receives ≡ 0 }
-    ensures ran { Ran (terms_of hub.now pass.old limits.now turns) hub.now pass.old pass.new at.new (L.talk link.old) (L.talk link.new)
-        (C.readings clock.old) (C.readings clock.new) result }
+    ensures ran { Ran (terms_of hub.now pass.old limits.now turns (option_map (λ p. p.now) policy.entry)) hub.now pass.old pass.new at.new (L.talk link.old) (L.talk link.new)
+        (C.readings clock.old) (C.readings clock.new) (J.held journal.old) (J.held journal.new) result }
     ensures later { L.faults link.old ≤ L.faults link.new }
     ensures failed { RoseFor result.why (L.faults link.old) (L.faults link.new) }
+    ensures unrecorded { UnputBy J.makes_lines result.lost (J.faults journal.old) (J.faults journal.new) }
+    ensures journal_later { J.faults journal.old ≤ J.faults journal.new }
 {
     while at.receives < turns {
-        if let Some(stop) = turn(rt, alloc, hub, pass, link, clock, limits, at) {
+        if let Some(stop) = turn(rt, alloc, hub, pass, link, journal, policy, clock, limits, at) {
             return stop;
         }
     }
     stop_closing(Why::Spent, Closing::GOING_AWAY)
+}
+
+/// Serves one connection with a journal, and with a policy if there is one: makes at most so many receives, then closes
+/// the link and leaves the hub. After a line that wasn't put, it puts none.
+fn serve<R: Wait, L: Link, C: Clock, J: Journal>(
+    rt: &R,
+    alloc: Global,
+    hub: &Hub,
+    pass: &mut Pass,
+    link: &mut L,
+    clock: &mut C,
+    limits: &SessionLimits,
+    turns: u64,
+    journal: &mut J,
+    policy: Option<&Policy>,
+) -> Ended
+    requires { IsCaller hub.now pass.old }
+    ensures served { ServesBy J.makes_lines (terms_of hub.now pass.old limits.now turns (option_map (λ p. p.now) policy.entry)) hub.now pass.old pass.new (L.talk link.old) (L.talk link.new)
+        (C.readings clock.old) (C.readings clock.new) (J.held journal.old) (J.held journal.new) result }
+    ensures ends { GrowsToFault (L.talk link.old) (L.talk link.new) }
+    ensures caused { HasExactCause (terms_of hub.now pass.old limits.now turns (option_map (λ p. p.now) policy.entry)) result }
+    ensures failed { result.why ≡ Why.LinkFault → HasRisen (L.faults link.old) (L.faults link.new) }
+    ensures unrecorded { result.why ≡ Why.JournalFault → HasRisen (J.faults journal.old) (J.faults journal.new) }
+    ensures later { L.faults link.old ≤ L.faults link.new }
+{
+    let mut at = begin(hub, limits);
+    let stop = run(
+        rt, alloc, hub, pass, link, journal, policy, clock, limits, turns, &mut at,
+    );
+    close(alloc, link, stop.closing);
+    let At {
+        member,
+        ended,
+        receives,
+        ..
+    } = at;
+    let parted = part(rt, alloc, hub, pass, journal, stop.lost, member);
+    Ended {
+        why: named_lost(parted.lost, named(ended, stop.why)),
+        conn: parted.conn,
+        taken: parted.taken,
+        empties: parted.empties,
+        turns: receives,
+    }
 }
 
 /// Serves one connection: makes at most so many receives, then closes the link and leaves the hub.
@@ -84,34 +135,77 @@ pub fn serve_connection<R: Wait, L: Link, C: Clock>(
     requires { IsCaller hub.now pass.old }
 
     // The own list grew by the entries of a session, the link's talk by its talk, the clock's readings by its readings.
-    ensures served { Serves (terms_of hub.now pass.old limits.now turns) hub.now pass.old pass.new (L.talk link.old) (L.talk link.new)
+    ensures served { ServesUnrecorded (terms_of hub.now pass.old limits.now turns None) hub.now pass.old pass.new (L.talk link.old) (L.talk link.new)
         (C.readings clock.old) (C.readings clock.new) result }
 
     // No call on the link followed one that failed, but the one closing with 1011 after want of memory.
     ensures ends { GrowsToFault (L.talk link.old) (L.talk link.new) }
 
-    // The cause comes exactly where it should.
-    ensures caused { HasExactCause (terms_of hub.now pass.old limits.now turns) result }
+    // The cause comes exactly where it should, and it is no journal's.
+    ensures caused { HasExactCause (terms_of hub.now pass.old limits.now turns None) result }
+    ensures recorded { result.why ≢ Why.JournalFault }
 
     // A fault of the link is told only where its count rose.
     ensures failed { result.why ≡ Why.LinkFault → HasRisen (L.faults link.old) (L.faults link.new) }
     ensures later { L.faults link.old ≤ L.faults link.new }
 {
-    let mut at = begin(hub, limits);
-    let stop = run(rt, alloc, hub, pass, link, clock, limits, turns, &mut at);
-    close(alloc, link, stop.closing);
-    let At {
-        member,
-        ended,
-        receives,
-        ..
-    } = at;
-    let parted = part(rt, hub, pass, member);
-    Ended {
-        why: named(ended, stop.why),
-        conn: parted.conn,
-        taken: parted.taken,
-        empties: parted.empties,
-        turns: receives,
-    }
+    serve(
+        rt, alloc, hub, pass, link, clock, limits, turns, &mut NoJournal, None,
+    )
+}
+
+/// The same, and each own entry of the hub's history has its line put into the journal.
+pub fn serve_recorded<R: Wait, L: Link, C: Clock, K: Sink>(
+    rt: &R,
+    alloc: Global,
+    hub: &Hub,
+    pass: &mut Pass,
+    link: &mut L,
+    clock: &mut C,
+    limits: &SessionLimits,
+    turns: u64,
+    journal: &mut K,
+) -> Ended
+    requires { IsCaller hub.now pass.old }
+    ensures served { ServesNoting (terms_of hub.now pass.old limits.now turns None) hub.now pass.old pass.new (L.talk link.old) (L.talk link.new)
+        (C.readings clock.old) (C.readings clock.new) (K.held journal.old) (K.held journal.new) result }
+    ensures ends { GrowsToFault (L.talk link.old) (L.talk link.new) }
+    ensures caused { HasExactCause (terms_of hub.now pass.old limits.now turns None) result }
+    ensures failed { result.why ≡ Why.LinkFault → HasRisen (L.faults link.old) (L.faults link.new) }
+    ensures unrecorded { result.why ≡ Why.JournalFault → HasRisen (K.faults journal.old) (K.faults journal.new) }
+    ensures later { L.faults link.old ≤ L.faults link.new }
+{
+    let mut pages = journal;
+    serve(
+        rt, alloc, hub, pass, link, clock, limits, turns, &mut pages, None,
+    )
+}
+
+/// The same by a policy: whom it doesn't admit doesn't join, a unicast that it denies isn't forwarded, and a frame that it
+/// denies isn't put on the link. Each denial has its line in the journal.
+pub fn serve_guarded<R: Wait, L: Link, C: Clock, K: Sink>(
+    rt: &R,
+    alloc: Global,
+    hub: &Hub,
+    pass: &mut Pass,
+    link: &mut L,
+    clock: &mut C,
+    limits: &SessionLimits,
+    turns: u64,
+    journal: &mut K,
+    policy: &Policy,
+) -> Ended
+    requires { IsCaller hub.now pass.old }
+    ensures served { ServesNoting (terms_of hub.now pass.old limits.now turns (Some policy.now)) hub.now pass.old pass.new (L.talk link.old) (L.talk link.new)
+        (C.readings clock.old) (C.readings clock.new) (K.held journal.old) (K.held journal.new) result }
+    ensures ends { GrowsToFault (L.talk link.old) (L.talk link.new) }
+    ensures caused { HasExactCause (terms_of hub.now pass.old limits.now turns (Some policy.now)) result }
+    ensures failed { result.why ≡ Why.LinkFault → HasRisen (L.faults link.old) (L.faults link.new) }
+    ensures unrecorded { result.why ≡ Why.JournalFault → HasRisen (K.faults journal.old) (K.faults journal.new) }
+    ensures later { L.faults link.old ≤ L.faults link.new }
+{
+    let mut pages = journal;
+    serve(
+        rt, alloc, hub, pass, link, clock, limits, turns, &mut pages, Some(policy),
+    )
 }

@@ -1,8 +1,9 @@
 //! How sessions are stopped.
-ghost use Rattle.std.specs.Prelude.{◌≡◌, ◌≢◌, ◌≤◌, Some};
+ghost use Rattle.std.specs.Prelude.{◌≡◌, ◌≢◌, ◌≤◌, ℕ, Bool, Some};
+ghost use Rattle.bsc_edge.specs.declared.fault.LinkFault.{LinkFault};
 ghost use Rattle.bsc_session.specs.declared.why.Why.{Why};
-ghost use Rattle.bsc_session.specs.Inner.{Carries, RoseIf};
-ghost use Rattle.bsc_session.specs.Stops.{stop_at, stop_for};
+ghost use Rattle.bsc_session.specs.Inner.{Carries, RoseFor, RoseIf, UnputIf};
+ghost use Rattle.bsc_session.specs.Stops.{stop_at, stop_for, stop_unrecorded};
 
 use crate::stop::Stop;
 use crate::why::Why;
@@ -18,10 +19,32 @@ pub fn stop_at(fault: LinkFault) -> Stop
         LinkFault::Failed => Stop {
             why: Why::LinkFault,
             closing: None,
+            lost: None,
         },
         LinkFault::NoMemory => Stop {
             why: Why::NoMemory,
             closing: Some(Closing::NO_MEMORY),
+            lost: None,
+        },
+    }
+}
+
+/// A line that wasn't put into the journal closes the link with 1011.
+pub fn stop_unrecorded(fault: LinkFault) -> Stop
+    ensures is { result ≡ stop_unrecorded fault }
+    ensures lost { result.lost ≡ Some fault }
+    ensures other { (a b : ℕ) → RoseFor result.why a b }
+{
+    match fault {
+        LinkFault::Failed => Stop {
+            why: Why::JournalFault,
+            closing: Some(Closing::UNRECORDED),
+            lost: Some(fault),
+        },
+        LinkFault::NoMemory => Stop {
+            why: Why::NoMemory,
+            closing: Some(Closing::NO_MEMORY),
+            lost: Some(fault),
         },
     }
 }
@@ -33,6 +56,7 @@ pub fn stop_closing(why: Why, closing: Closing) -> Stop
     Stop {
         why,
         closing: Some(closing),
+        lost: None,
     }
 }
 
@@ -42,6 +66,7 @@ pub fn carry_out<L: Link>(alloc: Global, link: &mut L, step: Step, why: Why) -> 
     ensures carried { Carries (L.talk link.old) (L.talk link.new) step why result }
     ensures later { L.faults link.old ≤ L.faults link.new }
     ensures failed { RoseIf result (L.faults link.old) (L.faults link.new) }
+    ensures recorded { (makes : Bool) (a b : ℕ) → UnputIf makes result a b }
 {
     match step {
         Step::Reply(o) => match link.put(alloc, o.as_slice()) {

@@ -1,41 +1,82 @@
 //! What is taken from the outlet, and put.
-ghost use Rattle.std.specs.Prelude.{◌≡◌, ◌≢◌, ◌≤◌, ◌<◌, IsTrue, false, is_some};
+ghost use Rattle.std.specs.Prelude.{◌≡◌, ◌≢◌, ◌≤◌, ◌<◌, ℕ, Bool, IsTrue, Some, false, is_some, option_map};
 ghost use Rattle.bsc_history.specs.declared.ending.End.{End};
 ghost use Rattle.bsc_accept.specs.Standing.{IsConnected, StandsFor};
 ghost use Rattle.bsc_ring.specs.Ends.{empties_of};
 ghost use Rattle.bsc_outside.specs.Faults.{HasRisen};
 ghost use Rattle.bsc_edge.specs.declared.fault.LinkFault.{LinkFault};
 ghost use Rattle.bsc_session.specs.declared.taken.Taken.{Taken};
-ghost use Rattle.bsc_session.specs.Inner.{Attends, Follows, Meets, RoseIf, Runs, Takes, TakesFrom, TellsMore, Tied, empties_by, stop_of};
+ghost use Rattle.bsc_session.specs.Inner.{Attends, Follows, HandsOn, Meets, RoseIf, Runs, Takes, TakesFrom, TellsMore, Tied, UnputBy, UnputIf, empties_by, stop_of, unput_by, unput_in};
 ghost use Rattle.bsc_session.specs.Standings.{Standing, Terms, start_of};
 
 use crate::at::At;
 use crate::backlog::Backlog;
+use crate::guarding::denied_frame;
 use crate::member::Member;
 use crate::stop::Stop;
-use crate::stopping::{carry_out, stop_at};
+use crate::stopping::{carry_out, stop_at, stop_unrecorded};
 use crate::taken::Taken;
 use crate::why::Why;
 use bsc_edge::Link;
 use bsc_history::End;
+use bsc_notes::{Journal, Noted};
+use bsc_octets::Vmac;
+use bsc_policy::Policy;
 use bsc_ring::{Outlet, Take};
 use std::alloc::Global;
 
 /// How often the outlet is asked in a turn.
 const TAKES: u64 = 16;
 
-/// Takes up to sixteen times, and puts each frame.
-pub fn take_frames<L: Link>(alloc: Global, link: &mut L, outlet: &mut Outlet) -> Taken
-    requires { empties_of outlet.old < 18446744073709551615 }
-    ensures took { Takes outlet.old outlet.new (L.talk link.old) (L.talk link.new) result }
+/// Puts a frame, or notes that it is denied. Says how that cuts the taking, if it does.
+fn hand_on<L: Link, J: Journal>(
+    alloc: Global,
+    link: &mut L,
+    journal: &mut J,
+    policy: Option<&Policy>,
+    to: Vmac,
+    frame: &[u8],
+) -> Option<Taken>
+    ensures handed { HandsOn (option_map (λ p. p.now) policy.entry) to frame.now (L.talk link.old) (L.talk link.new) (J.held journal.old) (J.held journal.new) result }
     ensures later { L.faults link.old ≤ L.faults link.new }
+    ensures journal_later { J.faults journal.old ≤ J.faults journal.new }
+    ensures failed { result ≡ Some (Taken.Cut LinkFault.Failed) → HasRisen (L.faults link.old) (L.faults link.new) }
+    ensures unrecorded { UnputBy J.makes_lines (unput_by result) (J.faults journal.old) (J.faults journal.new) }
+{
+    if let Some(policy) = policy {
+        if let Some(denial) = denied_frame(policy, to, frame) {
+            return match journal.note(alloc, &Noted::Denied(denial)) {
+                Ok(()) => None,
+                Err(fault) => Some(Taken::Lost(fault)),
+            };
+        }
+    }
+    match link.put(alloc, frame) {
+        Ok(()) => None,
+        Err(fault) => Some(Taken::Cut(fault)),
+    }
+}
+
+/// Takes up to sixteen times, and puts each frame that the policy lets through.
+pub fn take_frames<L: Link, J: Journal>(
+    alloc: Global,
+    link: &mut L,
+    journal: &mut J,
+    policy: Option<&Policy>,
+    to: Vmac,
+    outlet: &mut Outlet,
+) -> Taken
+    requires { empties_of outlet.old < 18446744073709551615 }
+    ensures took { Takes (option_map (λ p. p.now) policy.entry) to outlet.old outlet.new (L.talk link.old) (L.talk link.new) (J.held journal.old) (J.held journal.new) result }
+    ensures later { L.faults link.old ≤ L.faults link.new }
+    ensures journal_later { J.faults journal.old ≤ J.faults journal.new }
     ensures failed { result ≡ Taken.Cut LinkFault.Failed → HasRisen (L.faults link.old) (L.faults link.new) }
+    ensures unrecorded { UnputBy J.makes_lines (unput_in result) (J.faults journal.old) (J.faults journal.new) }
 {
     for i in 0..TAKES {
         match outlet.take() {
-            Take::Frame(frame) => match link.put(alloc, frame.as_slice()) {
-                Ok(()) => (),
-                Err(fault) => return Taken::Cut(fault),
+            Take::Frame(frame) => if let Some(cut) = hand_on(alloc, link, journal, policy, to, frame.as_slice()) {
+                return cut;
             },
             Take::Empty => return Taken::All,
             Take::Closed(end) => return Taken::Met(end),
@@ -52,6 +93,7 @@ fn meet<L: Link>(alloc: Global, link: &mut L, at: &mut At, end: End, now: u64) -
         → Meets v s now end at.old at.new (L.talk link.old) (L.talk link.new) result }
     ensures later { L.faults link.old ≤ L.faults link.new }
     ensures failed { RoseIf result (L.faults link.old) (L.faults link.new) }
+    ensures recorded { (makes : Bool) (a b : ℕ) → UnputIf makes result a b }
 {
     at.ended = Some(end);
     let step = at.machine.ended(now, end);
@@ -59,15 +101,23 @@ fn meet<L: Link>(alloc: Global, link: &mut L, at: &mut At, end: End, now: u64) -
 }
 
 /// Takes from the outlet of a connection.
-fn take_from<L: Link>(alloc: Global, link: &mut L, member: &mut Option<Member>) -> Taken
+fn take_from<L: Link, J: Journal>(
+    alloc: Global,
+    link: &mut L,
+    journal: &mut J,
+    policy: Option<&Policy>,
+    member: &mut Option<Member>,
+) -> Taken
     requires some { IsTrue (is_some member.old) }
     requires room { empties_by member.old < 18446744073709551615 }
-    ensures took { TakesFrom member.old member.new (L.talk link.old) (L.talk link.new) result }
+    ensures took { TakesFrom (option_map (λ p. p.now) policy.entry) member.old member.new (L.talk link.old) (L.talk link.new) (J.held journal.old) (J.held journal.new) result }
     ensures later { L.faults link.old ≤ L.faults link.new }
+    ensures journal_later { J.faults journal.old ≤ J.faults journal.new }
     ensures failed { result ≡ Taken.Cut LinkFault.Failed → HasRisen (L.faults link.old) (L.faults link.new) }
+    ensures unrecorded { UnputBy J.makes_lines (unput_in result) (J.faults journal.old) (J.faults journal.new) }
 {
     match member {
-        Some(member) => take_frames(alloc, link, &mut member.outlet),
+        Some(member) => take_frames(alloc, link, journal, policy, member.address, &mut member.outlet),
         None => unreachable!(),
     }
 }
@@ -84,19 +134,29 @@ fn nothing_left(stop: Option<Stop>) -> Result<Backlog, Stop>
 }
 
 /// In Connected, takes from the outlet, and meets its End. Says whether there may be more.
-pub fn attend<L: Link>(alloc: Global, link: &mut L, at: &mut At, now: u64) -> Result<Backlog, Stop>
+pub fn attend<L: Link, J: Journal>(
+    alloc: Global,
+    link: &mut L,
+    journal: &mut J,
+    policy: Option<&Policy>,
+    at: &mut At,
+    now: u64,
+) -> Result<Backlog, Stop>
     requires connected { IsConnected at.old.machine }
     requires some { IsTrue (is_some at.old.member) }
     requires room { empties_by at.old.member < 18446744073709551615 }
-    ensures attended { (v : Terms) (s : Standing) → Follows at.old s → Runs v at.old s
-        → Attends v s now at.old at.new (L.talk link.old) (L.talk link.new) result }
+    ensures attended { (v : Terms) (s : Standing) → v.policy ≡ option_map (λ p. p.now) policy.entry → Follows at.old s → Runs v at.old s
+        → Attends v s now at.old at.new (L.talk link.old) (L.talk link.new) (J.held journal.old) (J.held journal.new) result }
     ensures later { L.faults link.old ≤ L.faults link.new }
     ensures failed { RoseIf (stop_of result) (L.faults link.old) (L.faults link.new) }
+    ensures unrecorded { UnputIf J.makes_lines (stop_of result) (J.faults journal.old) (J.faults journal.new) }
+    ensures journal_later { J.faults journal.old ≤ J.faults journal.new }
 {
-    match take_from(alloc, link, &mut at.member) {
+    match take_from(alloc, link, journal, policy, &mut at.member) {
         Taken::All => Ok(Backlog::Nothing),
         Taken::Part => Ok(Backlog::MaybeMore),
         Taken::Cut(fault) => Err(stop_at(fault)),
+        Taken::Lost(fault) => Err(stop_unrecorded(fault)),
         Taken::Met(end) => nothing_left(meet(alloc, link, at, end, now)),
     }
 }

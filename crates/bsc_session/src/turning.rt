@@ -1,8 +1,8 @@
 //! One turn.
-ghost use Rattle.std.specs.Prelude.{◌≡◌, ◌≤◌, ◌<◌, ◌≢◌, None, Some, IsTrue, is_some};
+ghost use Rattle.std.specs.Prelude.{◌≡◌, ◌≤◌, ◌<◌, ◌≢◌, ℕ, Bool, None, Some, IsTrue, is_some, option_map};
 ghost use Rattle.bsc_hub.specs.Passing.{about_of};
 ghost use Rattle.bsc_accept.specs.Standing.{IsConnected, IsOpen, StandsFor};
-ghost use Rattle.bsc_session.specs.Inner.{AreTerms, HasTerms, Starts, empties_by, Between, Follows, HasStanding, Hears, Held, IsFollowed, Makes, Opens, RoseIf, Runs, Ticks, conn_of, is_more, stop_of};
+ghost use Rattle.bsc_session.specs.Inner.{AreTerms, HasTerms, Starts, empties_by, Between, Follows, HasStanding, Hears, Held, IsFollowed, Makes, Opens, RoseIf, Runs, Ticks, UnputIf, conn_of, is_more, stop_of};
 ghost use Rattle.bsc_session.specs.Reading.{started};
 ghost use Rattle.bsc_session.specs.Stops.{closing_in};
 ghost use Rattle.bsc_session.specs.Taking.{wait_by, waiting_for};
@@ -22,6 +22,8 @@ use bsc_accept::{Accepting, Closing, Step};
 use bsc_checks::Phase;
 use bsc_edge::{Clock, Incoming, Link};
 use bsc_hub::{Hub, Pass};
+use bsc_notes::Journal;
+use bsc_policy::Policy;
 use std::alloc::Global;
 use std::sync::Wait;
 
@@ -55,7 +57,9 @@ fn closing_in(step: Step) -> Option<Closing>
 /// Tells the machine the time.
 fn tick(at: &mut At, now: u64) -> Option<Stop>
     requires { IsOpen at.old.machine }
-    ensures { (v : Terms) (s : Standing) → Follows at.old s → Runs v at.old s → Ticks v s now at.old at.new result }
+    ensures told { (v : Terms) (s : Standing) → Follows at.old s → Runs v at.old s → Ticks v s now at.old at.new result }
+    ensures other { (n : ℕ) → RoseIf result n n }
+    ensures recorded { (makes : Bool) (a b : ℕ) → UnputIf makes result a b }
 {
     let why = waiting_for(&at.member);
     let step = at.machine.tick(now);
@@ -78,19 +82,29 @@ fn is_connected(machine: &Accepting) -> bool
 }
 
 /// Opens a turn at a reading: the time, and in Connected what the outlet has. Says whether it may have more.
-fn open<L: Link>(alloc: Global, link: &mut L, at: &mut At, now: u64) -> Result<Backlog, Stop>
+fn open<L: Link, J: Journal>(
+    alloc: Global,
+    link: &mut L,
+    journal: &mut J,
+    policy: Option<&Policy>,
+    at: &mut At,
+    now: u64,
+) -> Result<Backlog, Stop>
     requires stands { IsFollowed at.old }
     requires room { empties_by at.old.member < 18446744073709551615 }
     ensures opened { (v : Terms) (s s0 : Standing) → s0 ≡ started s now → Follows at.old s0 → Runs v at.old s0
-        → Opens v s now at.old at.new (L.talk link.old) (L.talk link.new) result }
+        → v.policy ≡ option_map (λ p. p.now) policy.entry
+        → Opens v s now at.old at.new (L.talk link.old) (L.talk link.new) (J.held journal.old) (J.held journal.new) result }
     ensures later { L.faults link.old ≤ L.faults link.new }
     ensures failed { RoseIf (stop_of result) (L.faults link.old) (L.faults link.new) }
+    ensures unrecorded { UnputIf J.makes_lines (stop_of result) (J.faults journal.old) (J.faults journal.new) }
+    ensures journal_later { J.faults journal.old ≤ J.faults journal.new }
 {
     if let Some(stop) = tick(at, now) {
         return Err(stop);
     }
     if is_connected(&at.machine) {
-        attend(alloc, link, at, now)
+        attend(alloc, link, journal, policy, at, now)
     } else {
         Ok(Backlog::Nothing)
     }
@@ -107,31 +121,40 @@ fn wait_ms(backlog: Backlog) -> u32
 }
 
 /// Receives within this time, and does what follows.
-fn hear<R: Wait, L: Link>(
+fn hear<R: Wait, L: Link, J: Journal>(
     rt: &R,
     alloc: Global,
     hub: &Hub,
     pass: &mut Pass,
     link: &mut L,
+    journal: &mut J,
+    policy: Option<&Policy>,
     at: &mut At,
     now: u64,
     wait_ms: u32,
 ) -> Option<Stop>
     requires stands { HasStanding hub.now pass.old at.old }
     requires room { at.old.receives < 18446744073709551615 }
-    ensures heard { (v : Terms) (s : Standing) → v.hub ≡ (about_of hub.now).hub → Held hub.now v pass.old at.old s → Runs v at.old s
-        → Hears v s now wait_ms hub.now pass.old pass.new at.old at.new (L.talk link.old) (L.talk link.new) result }
+    ensures heard { (v : Terms) (s : Standing) → v.hub ≡ (about_of hub.now).hub → v.policy ≡ option_map (λ p. p.now) policy.entry
+        → Held hub.now v pass.old at.old s → Runs v at.old s
+        → Hears v s now wait_ms hub.now pass.old pass.new at.old at.new (L.talk link.old) (L.talk link.new)
+        (J.held journal.old) (J.held journal.new) result }
     ensures later { L.faults link.old ≤ L.faults link.new }
     ensures failed { RoseIf result (L.faults link.old) (L.faults link.new) }
+    ensures unrecorded { UnputIf J.makes_lines result (J.faults journal.old) (J.faults journal.new) }
+    ensures journal_later { J.faults journal.old ≤ J.faults journal.new }
 {
     at.receives += 1;
     match link.receive(alloc, wait_ms) {
-        Ok(Incoming::Message(m)) => take_message(rt, alloc, hub, pass, link, at, now, m.as_slice()),
+        Ok(Incoming::Message(m)) => {
+            take_message(rt, alloc, hub, pass, link, journal, policy, at, now, m.as_slice())
+        },
         Ok(Incoming::Quiet) => None,
         Ok(Incoming::Text) => Some(stop_closing(Why::NotBinary, Closing::NOT_BINARY)),
         Ok(Incoming::Closed) => Some(Stop {
             why: Why::PeerClosed,
             closing: None,
+            lost: None,
         }),
         Err(fault) => Some(stop_at(fault)),
     }
@@ -148,29 +171,35 @@ fn start(hub: &Hub, limits: &SessionLimits, at: &mut At, now: u64)
 }
 
 /// Makes a turn.
-pub fn turn<R: Wait, L: Link, C: Clock>(
+pub fn turn<R: Wait, L: Link, C: Clock, J: Journal>(
     rt: &R,
     alloc: Global,
     hub: &Hub,
     pass: &mut Pass,
     link: &mut L,
+    journal: &mut J,
+    policy: Option<&Policy>,
     clock: &mut C,
     limits: &SessionLimits,
     at: &mut At,
 ) -> Option<Stop>
-    requires stands { HasTerms hub.now pass.old limits.now at.old }
+    requires stands { HasTerms hub.now pass.old limits.now (option_map (λ p. p.now) policy) at.old }
     requires room { at.old.receives < 18446744073709551615 }
     ensures made { (v : Terms) (s : Standing) → AreTerms v hub.now limits.now → s.receives < v.turns → Held hub.now v pass.old at.old s
-        → Between v at.old s
+        → Between v at.old s → v.policy ≡ option_map (λ p. p.now) policy.entry
         → Makes v s hub.now pass.old pass.new at.old at.new (L.talk link.old) (L.talk link.new)
-        (C.readings clock.old) (C.readings clock.new) result }
+        (C.readings clock.old) (C.readings clock.new) (J.held journal.old) (J.held journal.new) result }
     ensures later { L.faults link.old ≤ L.faults link.new }
     ensures failed { RoseIf result (L.faults link.old) (L.faults link.new) }
+    ensures unrecorded { UnputIf J.makes_lines result (J.faults journal.old) (J.faults journal.new) }
+    ensures journal_later { J.faults journal.old ≤ J.faults journal.new }
 {
     let now = clock.now();
     start(hub, limits, at, now);
-    match open(alloc, link, at, now) {
-        Ok(backlog) => hear(rt, alloc, hub, pass, link, at, now, wait_ms(backlog)),
+    match open(alloc, link, journal, policy, at, now) {
+        Ok(backlog) => hear(
+            rt, alloc, hub, pass, link, journal, policy, at, now, wait_ms(backlog),
+        ),
         Err(stop) => Some(stop),
     }
 }

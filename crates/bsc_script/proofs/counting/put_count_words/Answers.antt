@@ -1,5 +1,5 @@
 use Rattle.std.proofs.Common.{ℕ, List, ◌++◌, codes, decimal}
-use Rattle.bsc_script.proofs.Chains.{behind}
+use Rattle.bsc_lines.proofs.Chains.{behind}
 use Rattle.bsc_script.proofs.counting.put_count_words.Goals as goal
 
 pub returns : goal.returns

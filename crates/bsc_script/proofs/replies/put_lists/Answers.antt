@@ -1,6 +1,6 @@
 use Rattle.std.proofs.Common.{ℕ, List, ◌++◌, codes}
-use Rattle.bsc_script.specs.Texts.{list_words}
-use Rattle.bsc_script.proofs.Chains.{onto, behind}
+use Rattle.bsc_lines.specs.Replies.{list_words}
+use Rattle.bsc_lines.proofs.Chains.{onto, behind}
 use Rattle.bsc_script.proofs.replies.put_lists.Goals as goal
 
 pub returns : goal.returns

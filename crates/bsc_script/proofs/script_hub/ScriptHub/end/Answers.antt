@@ -2,7 +2,7 @@
 use Rattle.std.proofs.Common.{◌≡◌, ◌++◌, Some, slice_get, sym, ap, ◌∙◌, refl}
 use Rattle.bsc_desk.specs.Entries.{gone_reply}
 use Rattle.bsc_script.specs.Written.{says, line_text}
-use Rattle.bsc_script.specs.Texts.{gone_words}
+use Rattle.bsc_lines.specs.Replies.{gone_words}
 use Rattle.bsc_script.proofs.Leaving.{may_leave, closed_carried, left_carried}
 use Rattle.bsc_script.proofs.script_hub.ScriptHub.end.Goals as goal
 use Rattle.std.proofs.lemmas.Result.{on_ok_weaker as on_ok}

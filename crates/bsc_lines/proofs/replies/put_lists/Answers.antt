@@ -1,7 +1,7 @@
 use Rattle.std.proofs.Common.{ℕ, List, ◌++◌, codes}
-use Rattle.bsc_script.specs.Texts.{list_words}
-use Rattle.bsc_script.proofs.Chains.{onto, behind}
-use Rattle.bsc_journal.proofs.replies.put_lists.Goals as goal
+use Rattle.bsc_lines.specs.Replies.{list_words}
+use Rattle.bsc_lines.proofs.Chains.{onto, behind}
+use Rattle.bsc_lines.proofs.replies.put_lists.Goals as goal
 
 pub returns : goal.returns
 returns c =

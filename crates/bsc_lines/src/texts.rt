@@ -1,14 +1,14 @@
 //! Words, numbers and octets, put at the end of a text.
 ghost use Rattle.std.specs.Prelude.{◌≡◌, ◌++◌, IfOk, decimal};
 ghost use Rattle.hex.specs.Hex.{encode_upper};
-ghost use Rattle.bsc_script.specs.Texts.{numbered_word};
-ghost use Rattle.bsc_journal.specs.Lines.{then_number};
+ghost use Rattle.bsc_lines.specs.Replies.{numbered_word};
+ghost use Rattle.bsc_lines.specs.Lines.{then_number};
 
 use bsc_octets::NoMemory;
 use std::alloc::Global;
 
 /// Puts words of text.
-pub(crate) fn put_words(text: &mut Vec<u8>, words: &str) -> Result<(), NoMemory>
+pub fn put_words(text: &mut Vec<u8>, words: &str) -> Result<(), NoMemory>
     ensures { IfOk result (λ _. text.new.items ≡ text.old.items ++ words.now) }
 {
     text.extend_from_slice(words.as_bytes())?;
@@ -16,7 +16,7 @@ pub(crate) fn put_words(text: &mut Vec<u8>, words: &str) -> Result<(), NoMemory>
 }
 
 /// Puts a number in decimal digits.
-pub(crate) fn put_number(text: &mut Vec<u8>, alloc: Global, n: u64) -> Result<(), NoMemory>
+pub fn put_number(text: &mut Vec<u8>, alloc: Global, n: u64) -> Result<(), NoMemory>
     ensures { IfOk result (λ _. text.new.items ≡ text.old.items ++ decimal n) }
 {
     let digits = format!(in alloc; "{n}")?;
@@ -24,7 +24,7 @@ pub(crate) fn put_number(text: &mut Vec<u8>, alloc: Global, n: u64) -> Result<()
 }
 
 /// Puts a number behind a space.
-pub(crate) fn put_then(text: &mut Vec<u8>, alloc: Global, n: u64) -> Result<(), NoMemory>
+pub fn put_then(text: &mut Vec<u8>, alloc: Global, n: u64) -> Result<(), NoMemory>
     ensures { IfOk result (λ _. text.new.items ≡ text.old.items ++ then_number n) }
 {
     put_words(text, " ")?;
@@ -32,7 +32,7 @@ pub(crate) fn put_then(text: &mut Vec<u8>, alloc: Global, n: u64) -> Result<(), 
 }
 
 /// Puts a word, and a number behind it.
-pub(crate) fn put_numbered(
+pub fn put_numbered(
     text: &mut Vec<u8>,
     alloc: Global,
     word: &str,
@@ -46,7 +46,7 @@ pub(crate) fn put_numbered(
 }
 
 /// Puts octets as hexadecimal digits, with letters in upper case.
-pub(crate) fn put_hex(text: &mut Vec<u8>, alloc: Global, octets: &[u8]) -> Result<(), NoMemory>
+pub fn put_hex(text: &mut Vec<u8>, alloc: Global, octets: &[u8]) -> Result<(), NoMemory>
     ensures { IfOk result (λ _. text.new.items ≡ text.old.items ++ encode_upper octets.now) }
 {
     let Ok(digits) = hex::encode_upper(alloc, octets) else {

@@ -1,6 +1,6 @@
 //! The line of an entry.
 ghost use Rattle.std.specs.Prelude.{◌≡◌, ◌++◌, IfOk};
-ghost use Rattle.bsc_journal.specs.Lines.{entry_line};
+ghost use Rattle.bsc_lines.specs.Lines.{entry_line};
 
 use crate::calls::put_call;
 use crate::replies::put_reply;
@@ -11,7 +11,7 @@ use std::alloc::Global;
 
 /// Puts the line of an entry at its place, without its end.
 #[tactic(auto, unfolding(crate::specs::Lines::entry_line))]
-pub(crate) fn put_entry(
+pub fn put_entry(
     text: &mut Vec<u8>,
     alloc: Global,
     place: u64,

@@ -1,6 +1,6 @@
 use Rattle.std.proofs.Common.{ℕ, List, ◌++◌, codes, decimal}
-use Rattle.bsc_script.proofs.Chains.{behind}
-use Rattle.bsc_journal.proofs.replies.put_counts.Goals as goal
+use Rattle.bsc_lines.proofs.Chains.{behind}
+use Rattle.bsc_lines.proofs.replies.put_counts.Goals as goal
 
 pub returns : goal.returns
 returns c =

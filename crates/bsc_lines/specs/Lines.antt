@@ -8,7 +8,7 @@ use Rattle.bsc_history.specs.declared.entry.Entry.{Entry}
 use Rattle.bsc_history.specs.declared.looks.Look.{Look}
 use Rattle.bsc_history.specs.declared.reply.Reply.{Reply}
 use Rattle.bsc_history.specs.declared.reply.Reply.TheVariants.{Joined, Refused, Gone, Counted}
-use Rattle.bsc_script.specs.Texts.{joined_words, refusal_words, forward_words, gone_words, counts_words}
+use Rattle.bsc_lines.specs.Replies.{joined_words, refusal_words, forward_words, gone_words, counts_words}
 
 -- a number behind a space
 abbrev pub then_number : ℕ → List ℕ

@@ -1,9 +1,9 @@
 //! Replies, put at the end of a line.
 ghost use Rattle.std.specs.Prelude.{◌≡◌, ◌++◌, flat_map, IfOk, codes, decimal};
 ghost use Rattle.bsc_history.specs.declared.reply.Reply.TheVariants.{SentAll as SentAllReply};
-ghost use Rattle.bsc_script.specs.Texts.{replacing_words, joined_words, holder_words, refusal_words, ending_word, forward_words};
-ghost use Rattle.bsc_script.specs.Texts.{gone_words, list_words, counts_words};
-ghost use Rattle.bsc_journal.specs.Lines.{reply_text};
+ghost use Rattle.bsc_lines.specs.Replies.{replacing_words, joined_words, holder_words, refusal_words, ending_word, forward_words};
+ghost use Rattle.bsc_lines.specs.Replies.{gone_words, list_words, counts_words};
+ghost use Rattle.bsc_lines.specs.Lines.{reply_text};
 
 use crate::texts::{put_number, put_numbered, put_words};
 use bsc_history::{Counts, End, Refusal, Reply};
@@ -21,7 +21,7 @@ fn put_replacing(text: &mut Vec<u8>, alloc: Global, replaced: Option<u64>) -> Re
 }
 
 /// The reply to a connect that joined.
-fn put_joined(
+pub fn put_joined(
     text: &mut Vec<u8>,
     alloc: Global,
     conn: u64,
@@ -44,7 +44,7 @@ fn put_holder(text: &mut Vec<u8>, alloc: Global, holder: Option<u64>) -> Result<
 }
 
 /// The reply to a connect that is refused.
-fn put_refusal(text: &mut Vec<u8>, alloc: Global, refusal: Refusal) -> Result<(), NoMemory>
+pub fn put_refusal(text: &mut Vec<u8>, alloc: Global, refusal: Refusal) -> Result<(), NoMemory>
     ensures { IfOk result (λ _. text.new.items ≡ text.old.items ++ refusal_words refusal) }
 {
     match refusal {
@@ -67,7 +67,7 @@ fn word_of(ending: End) -> &'static str
 }
 
 /// The reply to a sender that has ended.
-fn put_not_current(text: &mut Vec<u8>, ending: End) -> Result<(), NoMemory>
+pub fn put_not_current(text: &mut Vec<u8>, ending: End) -> Result<(), NoMemory>
     ensures { IfOk result (λ _. text.new.items ≡ text.old.items ++ (codes "notcurrent " ++ ending_word ending)) }
 {
     put_words(text, "notcurrent ")?;
@@ -99,7 +99,7 @@ fn put_list(text: &mut Vec<u8>, alloc: Global, numbers: &[u64]) -> Result<(), No
 }
 
 /// The lists of a broadcast's reply.
-fn put_lists(
+pub fn put_lists(
     text: &mut Vec<u8>,
     alloc: Global,
     to: &[u64],
@@ -118,7 +118,7 @@ fn put_lists(
 }
 
 /// The reply to a leave.
-fn put_gone(text: &mut Vec<u8>, alloc: Global, ending: End, taken: u64) -> Result<(), NoMemory>
+pub fn put_gone(text: &mut Vec<u8>, alloc: Global, ending: End, taken: u64) -> Result<(), NoMemory>
     ensures { IfOk result (λ _. text.new.items ≡ text.old.items ++ gone_words (Reply.Gone ending taken)) }
 {
     put_words(text, "gone ")?;
@@ -134,7 +134,7 @@ fn put_pair(text: &mut Vec<u8>, alloc: Global, word: &str, n: u64) -> Result<(),
 }
 
 /// The counts of a hub.
-fn put_counts(text: &mut Vec<u8>, alloc: Global, counts: &Counts) -> Result<(), NoMemory>
+pub fn put_counts(text: &mut Vec<u8>, alloc: Global, counts: &Counts) -> Result<(), NoMemory>
     ensures { IfOk result (λ _. text.new.items ≡ text.old.items ++ counts_words counts.now) }
 {
     put_words(text, "counts")?;
@@ -150,7 +150,7 @@ fn put_counts(text: &mut Vec<u8>, alloc: Global, counts: &Counts) -> Result<(), 
 }
 
 /// A reply.
-pub(crate) fn put_reply(text: &mut Vec<u8>, alloc: Global, reply: &Reply) -> Result<(), NoMemory>
+pub fn put_reply(text: &mut Vec<u8>, alloc: Global, reply: &Reply) -> Result<(), NoMemory>
     ensures { IfOk result (λ _. text.new.items ≡ text.old.items ++ reply_text reply.now) }
 {
     match reply {

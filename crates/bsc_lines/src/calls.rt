@@ -3,7 +3,7 @@ ghost use Rattle.std.specs.Prelude.{◌≡◌, ◌++◌, flat_map, IfOk, codes};
 ghost use Rattle.hex.specs.Hex.{encode_upper};
 ghost use Rattle.bsc_octets.specs.Identities.{identity_octets};
 ghost use Rattle.bsc_history.specs.declared.call.Call.TheVariants.{Forward};
-ghost use Rattle.bsc_journal.specs.Lines.{call_text, look_text, looks_text, then_number};
+ghost use Rattle.bsc_lines.specs.Lines.{call_text, look_text, looks_text, then_number};
 
 use crate::texts::{put_hex, put_number, put_then, put_words};
 use bsc_history::{Call, Look};
@@ -31,7 +31,7 @@ fn put_more_looks(text: &mut Vec<u8>, alloc: Global, looks: &[Look]) -> Result<(
 }
 
 /// Looks with commas between.
-fn put_looks(text: &mut Vec<u8>, alloc: Global, looks: &[Look]) -> Result<(), NoMemory>
+pub fn put_looks(text: &mut Vec<u8>, alloc: Global, looks: &[Look]) -> Result<(), NoMemory>
     ensures { IfOk result (λ _. text.new.items ≡ text.old.items ++ looks_text looks.now) }
 {
     match looks {
@@ -44,7 +44,7 @@ fn put_looks(text: &mut Vec<u8>, alloc: Global, looks: &[Look]) -> Result<(), No
 }
 
 /// A connect.
-fn put_connect(text: &mut Vec<u8>, alloc: Global, who: &Identity) -> Result<(), NoMemory>
+pub fn put_connect(text: &mut Vec<u8>, alloc: Global, who: &Identity) -> Result<(), NoMemory>
     ensures { IfOk result (λ _. text.new.items ≡ text.old.items ++ (codes "connect " ++ encode_upper (identity_octets who.now))) }
 {
     put_words(text, "connect ")?;
@@ -52,7 +52,7 @@ fn put_connect(text: &mut Vec<u8>, alloc: Global, who: &Identity) -> Result<(), 
 }
 
 /// A forward, with its looks.
-fn put_forward(
+pub fn put_forward(
     text: &mut Vec<u8>,
     alloc: Global,
     conn: u64,
@@ -70,7 +70,7 @@ fn put_forward(
 }
 
 /// A leave.
-fn put_leave(
+pub fn put_leave(
     text: &mut Vec<u8>,
     alloc: Global,
     conn: u64,
@@ -87,7 +87,7 @@ fn put_leave(
 }
 
 /// A call, with its looks where it is a forward.
-pub(crate) fn put_call(
+pub fn put_call(
     text: &mut Vec<u8>,
     alloc: Global,
     call: &Call,

@@ -1,0 +1,170 @@
+//! The line of what is noted.
+ghost use Rattle.std.specs.Prelude.{◌≡◌, ◌++◌, ℕ, IfOk};
+ghost use Rattle.bsc_history.specs.declared.call.Call.TheVariants.{Forward};
+ghost use Rattle.bsc_desk.specs.Entries.{all_looks, all_reply, one_looks, one_reply};
+ghost use Rattle.bsc_lines.specs.Lines.{call_text, entry_line, reply_text};
+ghost use Rattle.bsc_notes.specs.Notes.{line_feed, line_of};
+ghost use Rattle.bsc_notes.specs.Noting.{entry_of, note_of};
+
+use crate::noted::{Made, Noted};
+use bsc_desk::{AllReply, OneReply};
+use bsc_lines::{
+    put_connect, put_counts, put_denial, put_forward, put_gone, put_joined, put_leave, put_lists,
+    put_not_current, put_number, put_numbered, put_refusal, put_then, put_words,
+};
+use bsc_octets::{NoMemory, Octets};
+use std::alloc::Global;
+
+/// Puts a unicast, with its look where it made one.
+fn put_one(
+    text: &mut Vec<u8>,
+    alloc: Global,
+    conn: u64,
+    message: &[u8],
+    said: OneReply,
+) -> Result<(), NoMemory>
+    ensures { IfOk result (λ _. text.new.items ≡ text.old.items ++ call_text (Forward conn message.now) (one_looks said)) }
+{
+    match said {
+        OneReply::Appended(look) => put_forward(text, alloc, conn, message, &[look]),
+        OneReply::Closed(look) => put_forward(text, alloc, conn, message, &[look]),
+        OneReply::Skipped { .. }
+        | OneReply::NoHolder
+        | OneReply::NotCurrent { .. }
+        | OneReply::Stopped => put_forward(text, alloc, conn, message, &[]),
+    }
+}
+
+/// Puts a broadcast, with its looks.
+fn put_all(
+    text: &mut Vec<u8>,
+    alloc: Global,
+    conn: u64,
+    message: &[u8],
+    said: &AllReply,
+) -> Result<(), NoMemory>
+    ensures { IfOk result (λ _. text.new.items ≡ text.old.items ++ call_text (Forward conn message.now) (all_looks said.now)) }
+{
+    match said {
+        AllReply::Sent { looks, .. } => put_forward(text, alloc, conn, message, looks.as_slice()),
+        AllReply::NotCurrent { .. } | AllReply::Stopped => {
+            put_forward(text, alloc, conn, message, &[])
+        }
+    }
+}
+
+/// Puts a call.
+fn put_call(text: &mut Vec<u8>, alloc: Global, made: &Made<'_>) -> Result<(), NoMemory>
+    ensures { (n : ℕ) → IfOk result (λ _. text.new.items
+        ≡ text.old.items ++ call_text (entry_of n made.now).call (entry_of n made.now).looks) }
+{
+    match made {
+        Made::Joined { who, .. } => put_connect(text, alloc, who),
+        Made::Refused { who, .. } => put_connect(text, alloc, who),
+        Made::One {
+            conn,
+            message,
+            said,
+        } => put_one(text, alloc, *conn, *message, *said),
+        Made::All {
+            conn,
+            message,
+            said,
+        } => put_all(text, alloc, *conn, *message, *said),
+        Made::Left {
+            conn,
+            empties,
+            gone,
+        } => put_leave(text, alloc, *conn, gone.taken, *empties),
+        Made::Stopped(_) => put_words(text, "stop"),
+    }
+}
+
+/// Puts the reply to a unicast.
+fn put_one_reply(text: &mut Vec<u8>, alloc: Global, said: OneReply) -> Result<(), NoMemory>
+    ensures { IfOk result (λ _. text.new.items ≡ text.old.items ++ reply_text (one_reply said)) }
+{
+    match said {
+        OneReply::Appended(look) => put_numbered(text, alloc, "sent", look.conn),
+        OneReply::Closed(look) => put_numbered(text, alloc, "full", look.conn),
+        OneReply::Skipped { conn } => put_numbered(text, alloc, "long", conn),
+        OneReply::NoHolder => put_words(text, "noholder"),
+        OneReply::NotCurrent { ending } => put_not_current(text, ending),
+        OneReply::Stopped => put_words(text, "stopped"),
+    }
+}
+
+/// Puts the reply to a broadcast.
+fn put_all_reply(text: &mut Vec<u8>, alloc: Global, said: &AllReply) -> Result<(), NoMemory>
+    ensures { IfOk result (λ _. text.new.items ≡ text.old.items ++ reply_text (all_reply said.now)) }
+{
+    match said {
+        AllReply::Sent {
+            to,
+            missed,
+            skipped,
+            ..
+        } => put_lists(
+            text,
+            alloc,
+            to.as_slice(),
+            missed.as_slice(),
+            skipped.as_slice(),
+        ),
+        AllReply::NotCurrent { ending } => put_not_current(text, *ending),
+        AllReply::Stopped => put_words(text, "stopped"),
+    }
+}
+
+/// Puts a reply.
+fn put_reply(text: &mut Vec<u8>, alloc: Global, made: &Made<'_>) -> Result<(), NoMemory>
+    ensures { (n : ℕ) → IfOk result (λ _. text.new.items ≡ text.old.items ++ reply_text (entry_of n made.now).reply) }
+{
+    match made {
+        Made::Joined { conn, replaced, .. } => put_joined(text, alloc, *conn, *replaced),
+        Made::Refused { refusal, .. } => put_refusal(text, alloc, *refusal),
+        Made::One { said, .. } => put_one_reply(text, alloc, *said),
+        Made::All { said, .. } => put_all_reply(text, alloc, *said),
+        Made::Left { gone, .. } => put_gone(text, alloc, gone.ending, gone.taken),
+        Made::Stopped(counts) => put_counts(text, alloc, counts),
+    }
+}
+
+/// Puts the line of an entry, without its end.
+#[tactic(auto, unfolding(bsc_lines::specs::Lines::entry_line))]
+fn put_entry(
+    text: &mut Vec<u8>,
+    alloc: Global,
+    at: u64,
+    caller: u64,
+    made: &Made<'_>,
+) -> Result<(), NoMemory>
+    ensures { IfOk result (λ _. text.new.items ≡ text.old.items ++ entry_line at (entry_of caller made.now)) }
+{
+    put_number(text, alloc, at)?;
+    put_then(text, alloc, caller)?;
+    put_words(text, " ")?;
+    put_call(text, alloc, made)?;
+    put_words(text, " ")?;
+    put_reply(text, alloc, made)
+}
+
+/// Puts the line of what is noted, without its end.
+fn put_noted(text: &mut Vec<u8>, alloc: Global, noted: &Noted<'_>) -> Result<(), NoMemory>
+    ensures { IfOk result (λ _. text.new.items ++ line_feed ≡ text.old.items ++ line_of (note_of noted.now)) }
+{
+    match noted {
+        Noted::Entry { at, caller, made } => put_entry(text, alloc, *at, *caller, made),
+        Noted::Denied(denial) => put_denial(text, alloc, *denial),
+    }
+}
+
+/// The line of what is noted, with its end. Memory may run out.
+pub fn line_of(alloc: Global, noted: &Noted<'_>) -> Result<Octets, NoMemory>
+    ensures { IfOk result (λ line. line ≡ line_of (note_of noted.now)) }
+{
+    let mut text = Vec::new(alloc);
+    put_noted(&mut text, alloc, noted)?;
+    put_words(&mut text, "\n")?;
+    Ok(Octets::from_vec(text))
+}
