@@ -83,7 +83,7 @@ denied_first : (v : Terms) (s : Standing) (o : Opening) (h : Option Hearing) (st
 denied_first v s o None stop rule e unlost is stops why = absurd (denied_after rule e why)
 denied_first v s o (Some x) stop rule e unlost is stops why =
     let k = given_denied v (opened s o) (heard v (opened s o) o.reading x.judged x.given) o.reading x.given x.judged (denial_in v (opened s o) o.reading x) x.answer x.fault stop rule
-            (rw unlost at (after_none (stop_before v s o) _ stop (no_stop (stop_before v s o) is.heard) stops)) why in
+    (rw unlost at (after_none (stop_before v s o) _ stop (no_stop (stop_before v s o) is.heard) stops)) why in
     (k.0, record { who = k.1.0; asks = k.1.2; denial = k.1.1; denies = k.1.3 })
 
 denied_last : (v : Terms) (s : Standing) (o : Opening) (h : Option Hearing) (stop : Stop) → lost_after h ≡ None

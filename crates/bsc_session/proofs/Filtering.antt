@@ -106,8 +106,7 @@ records_more a b c ns [] (Some fault) h k line = absurd line
 records_more a b c ns (m ∷ ms) (Some fault) h k line =
     let low = length-lines ns (all_but_last (m ∷ ms)) in
     let high = length-lines ns (m ∷ ms) in
-    let first = ap (λ w. length (lines_of w)) (last-append ns m ms) in
-    (
+    let first = ap (λ w. length (lines_of w)) (last-append ns m ms) in (
       length (lines_of ns) + k.0,
       omega (arith, low, first, k.1),
       omega (arith, high, k.2),

@@ -100,9 +100,12 @@ lost_ticked w (Some c) lost later h (inl quiet) = cc
 lost_ticked w (Some c) lost later h (inr none) = sym none
 
 quiet_or_unlost : (v : Terms) (s : Standing) (o : Opening) → IsOpening v s o → (closing_in (wanted_at v s o.reading) ≡ None) ⊎ (o.lost ≡ None)
-quiet_or_unlost v s o is = elim is.takes [ inl a ↦ inl a.1 | inr b ↦ inr (unnoted o.lost (
-  let k : HasLine (noted_last None (noted_of v s [])) o.lost = rw (b.0, b.1) at is.line in
-  subst (λ ns. HasLine ns o.lost) (noted-nil v s) k)) ]
+quiet_or_unlost v s o is = elim is.takes [
+  | inl a ↦ inl a.1
+  | inr b ↦ inr (unnoted o.lost (
+      let k : HasLine (noted_last None (noted_of v s [])) o.lost = rw (b.0, b.1) at is.line in
+      subst (λ ns. HasLine ns o.lost) (noted-nil v s) k))
+]
 
 -- an opening's stop has its lost line
 pub lost_before : (v : Terms) (s : Standing) (o : Opening) → IsOpening v s o → lost_by (stop_before v s o) ≡ o.lost
@@ -159,8 +162,8 @@ lost_given v s s' now false (Ok (Message m)) d a lost fault none = sym (none ref
 -- a hearing's stop has its lost line
 pub lost_hearing : (v : Terms) (s : Standing) (now : ℕ) (h : Hearing) → IsHearing v s now h → lost_by (stop_hearing v s now h) ≡ h.lost
 lost_hearing v s now h is = lost_given v s _ now h.judged h.given (denial_in v s now h) h.answer h.lost h.fault (λ quiet. unnoted h.lost (
-  let k : HasLine (map denied (if_any (denied_in v s Nothing h.given)) ++ made_at h.answer (called v s Nothing h.given h.answer)) h.lost = rw quiet at is.line in
-  subst (λ ns. HasLine ns h.lost) (unheard_notes v s h.given h.answer) k))
+    let k : HasLine (map denied (if_any (denied_in v s Nothing h.given)) ++ made_at h.answer (called v s Nothing h.given h.answer)) h.lost = rw quiet at is.line in
+    subst (λ ns. HasLine ns h.lost) (unheard_notes v s h.given h.answer) k))
 
 pub wrote_lost : (p q : Pass) (a b c : Option (List ℕ)) (ns ms : List Note) (lost : Option LinkFault) → StartsWith (seen q) (seen p) → Wrote p a b ns None → Wrote q b c ms lost → HasLine ms lost → Wrote q a c (ns ++ ms) lost
 wrote_lost p q a b c ns ms lost more h k line = record {

@@ -206,8 +206,8 @@ wrote_left : (p q : Pass) (conn found empties : ℕ) (t : Told Gone) (pages page
     → Records pages pages' (noted_leaving before t.at (leave_entry (number_of p) conn empties t.said ∷ [])) lost
     → Wrote q pages pages' (noted_leaving before t.at (leave_entry (number_of p) conn empties t.said ∷ [])) lost
 wrote_left p q conn found empties t pages pages' None lost counted makes records = (
-  let m : Placed = record { at = t.at; stamped = leave_stamped (number_of p) conn found t.said } in
-  wrote_made p q m (leave_entry (number_of p) conn empties t.said) pages pages' lost makes (rw counted refl) records)
+    let m : Placed = record { at = t.at; stamped = leave_stamped (number_of p) conn found t.said } in
+    wrote_made p q m (leave_entry (number_of p) conn empties t.said) pages pages' lost makes (rw counted refl) records)
 wrote_left p q conn found empties t pages pages' (Some fault) lost counted makes records = record { records = records; stand = tt }
 
 -- the session hadn't joined, and notes nothing

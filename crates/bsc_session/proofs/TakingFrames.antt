@@ -132,8 +132,8 @@ takes_few policy to o p q old new a c n t few room took mark =
       fits = rw t.many few;
       said = t.said;
       cause = well (let_through policy (Some to) (last_alone t.frames));
-  records = t.records;
-  line = no_line (map denied (denials policy (Some to) (last_alone t.frames)));
+      records = t.records;
+      line = no_line (map denied (denials policy (Some to) (last_alone t.frames)));
     }
 
 -- an End was there

@@ -281,7 +281,15 @@ fn answer<R: Wait, L: Link, J: Journal>(
             Some(member) => match denied_message(policy, member.address, m) {
                 Some(denial) => stop_lost(note_denial(alloc, journal, denial)),
                 None => forward(
-                    rt, alloc, hub, pass, link, journal, member.conn, member.address, m,
+                    rt,
+                    alloc,
+                    hub,
+                    pass,
+                    link,
+                    journal,
+                    member.conn,
+                    member.address,
+                    m,
                 ),
             },
             None => unreachable!(),

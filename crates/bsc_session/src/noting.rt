@@ -130,7 +130,11 @@ pub fn note_left<J: Journal>(
 }
 
 /// Notes a denial.
-pub fn note_denial<J: Journal>(alloc: Global, journal: &mut J, denial: Denial) -> Result<(), LinkFault>
+pub fn note_denial<J: Journal>(
+    alloc: Global,
+    journal: &mut J,
+    denial: Denial,
+) -> Result<(), LinkFault>
     ensures noted { Records (J.held journal.old) (J.held journal.new) (denied denial ∷ []) (fault_in result) }
     ensures made { IsErr result → J.makes_lines ≡ true }
     ensures later { J.faults journal.old ≤ J.faults journal.new }

@@ -70,7 +70,9 @@ fn run<R: Wait, L: Link, C: Clock, J: Journal>(
     ensures journal_later { J.faults journal.old ≤ J.faults journal.new }
 {
     while at.receives < turns {
-        if let Some(stop) = turn(rt, alloc, hub, pass, link, journal, policy, clock, limits, at) {
+        if let Some(stop) = turn(
+            rt, alloc, hub, pass, link, journal, policy, clock, limits, at,
+        ) {
             return stop;
         }
     }
@@ -150,7 +152,16 @@ pub fn serve_connection<R: Wait, L: Link, C: Clock>(
     ensures later { L.faults link.old ≤ L.faults link.new }
 {
     serve(
-        rt, alloc, hub, pass, link, clock, limits, turns, &mut NoJournal, None,
+        rt,
+        alloc,
+        hub,
+        pass,
+        link,
+        clock,
+        limits,
+        turns,
+        &mut NoJournal,
+        None,
     )
 }
 
@@ -206,6 +217,15 @@ pub fn serve_guarded<R: Wait, L: Link, C: Clock, K: Sink>(
 {
     let mut pages = journal;
     serve(
-        rt, alloc, hub, pass, link, clock, limits, turns, &mut pages, Some(policy),
+        rt,
+        alloc,
+        hub,
+        pass,
+        link,
+        clock,
+        limits,
+        turns,
+        &mut pages,
+        Some(policy),
     )
 }

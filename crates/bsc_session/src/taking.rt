@@ -75,7 +75,14 @@ pub fn take_frames<L: Link, J: Journal>(
 {
     for i in 0..TAKES {
         match outlet.take() {
-            Take::Frame(frame) => if let Some(cut) = hand_on(alloc, link, journal, policy, to, frame.as_slice()) {
+            Take::Frame(frame) => if let Some(cut) = hand_on(
+                alloc,
+                link,
+                journal,
+                policy,
+                to,
+                frame.as_slice(),
+            ) {
                 return cut;
             },
             Take::Empty => return Taken::All,
@@ -117,7 +124,14 @@ fn take_from<L: Link, J: Journal>(
     ensures unrecorded { UnputBy J.makes_lines (unput_in result) (J.faults journal.old) (J.faults journal.new) }
 {
     match member {
-        Some(member) => take_frames(alloc, link, journal, policy, member.address, &mut member.outlet),
+        Some(member) => take_frames(
+            alloc,
+            link,
+            journal,
+            policy,
+            member.address,
+            &mut member.outlet,
+        ),
         None => unreachable!(),
     }
 }

@@ -147,7 +147,18 @@ fn hear<R: Wait, L: Link, J: Journal>(
     at.receives += 1;
     match link.receive(alloc, wait_ms) {
         Ok(Incoming::Message(m)) => {
-            take_message(rt, alloc, hub, pass, link, journal, policy, at, now, m.as_slice())
+            take_message(
+                rt,
+                alloc,
+                hub,
+                pass,
+                link,
+                journal,
+                policy,
+                at,
+                now,
+                m.as_slice(),
+            )
         },
         Ok(Incoming::Quiet) => None,
         Ok(Incoming::Text) => Some(stop_closing(Why::NotBinary, Closing::NOT_BINARY)),
@@ -198,7 +209,16 @@ pub fn turn<R: Wait, L: Link, C: Clock, J: Journal>(
     start(hub, limits, at, now);
     match open(alloc, link, journal, policy, at, now) {
         Ok(backlog) => hear(
-            rt, alloc, hub, pass, link, journal, policy, at, now, wait_ms(backlog),
+            rt,
+            alloc,
+            hub,
+            pass,
+            link,
+            journal,
+            policy,
+            at,
+            now,
+            wait_ms(backlog),
         ),
         Err(stop) => Some(stop),
     }
