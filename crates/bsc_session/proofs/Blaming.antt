@@ -15,12 +15,12 @@ use Rattle.bsc_lines.specs.declared.denial.Denial.{Denial}
 use Rattle.bsc_session.specs.declared.stop.Stop.{Stop}
 use Rattle.bsc_session.specs.declared.why.Why.{Why}
 use Rattle.bsc_session.specs.declared.why.Why.TheVariants.{JournalFault, LinkFault as WhyLinkFault, NoMemory, Spent}
-use Rattle.bsc_session.specs.Answering.{cause_of, stop_by, stop_denied, stop_given, stop_hearing, stop_judged, stop_message}
+use Rattle.bsc_session.specs.Answering.{cause_of, denial_in, stands_heard, step_of, stop_by, stop_denied, stop_given, stop_hearing, stop_judged, stop_message}
 use Rattle.bsc_session.specs.Course.{Stops}
 use Rattle.bsc_session.specs.Receiving.{Answer, Hearing, no_memory, replies, worn}
 use Rattle.bsc_session.specs.Standings.{Standing, Terms}
 use Rattle.bsc_session.specs.Stops.{closes, first_of, stop_at, stop_closing, stop_if, stop_lost}
-use Rattle.bsc_session.specs.Taking.{Opening, ended_by, stop_before, waiting_for}
+use Rattle.bsc_session.specs.Taking.{Opening, ended_by, opened, stop_before, waiting_for}
 use Rattle.bsc_session.specs.Talk.{first_lost, named, named_lost}
 use Rattle.bsc_session.specs.Turns.{Turn, stop_after, stop_in}
 
@@ -99,10 +99,10 @@ tells_given (Ok (Message m)) later h = h
 
 tells_after : (v : Terms) (s : Standing) (now : ℕ) (h : Option Hearing) → TellsIf (stop_after v s now h)
 tells_after v s now None = tt
-tells_after v s now (Some h) = tells_given h.given _ (tells_judged h.judged _ (tells_message v _ _ _ h.answer h.lost h.fault))
+tells_after v s now (Some h) = tells_given h.given _ (tells_judged h.judged _ (tells_message v (stands_heard v s now h) (step_of v s now h) (denial_in v s now h) h.answer h.lost h.fault))
 
 tells_in : (v : Terms) (s : Standing) (t : Turn) → TellsIf (stop_in v s t)
-tells_in v s t = tells_first (stop_before v s t.opening) _ (tells_before v s t.opening) (tells_after v _ t.opening.reading t.hearing)
+tells_in v s t = tells_first (stop_before v s t.opening) _ (tells_before v s t.opening) (tells_after v (opened s t.opening) t.opening.reading t.hearing)
 
 tells_some : (o : Option Stop) (s : Stop) → o ≡ Some s → TellsIf o → Tells s
 tells_some o s is h = (let k : TellsIf (Some s) = rw is at h in k)

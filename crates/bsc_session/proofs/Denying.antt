@@ -49,9 +49,9 @@ rule_is : (i j : ℕ) → Denied i ≡ Denied j → j ≡ i
 rule_is i j h = cc
 
 message_denied : (v : Terms) (s : Standing) (st : Step) (d : Option Denial) (a : Option Answer) (fault : Option LinkFault) (stop : Stop) (rule : ℕ) → stop_message v s st d a None fault ≡ Some stop → stop.why ≡ Denied rule → (rule ≡ 0) × IsTurnedAway st d
-message_denied v s st None a fault stop rule is why = absurd (answered_denied st a fault _ stop rule is why)
+message_denied v s st None a fault stop rule is why = absurd (answered_denied st a fault (closing_in (last_wanted v s st a)) stop rule is why)
 message_denied v s (Ask who) (Some x) a fault stop rule is why = (rule_is 0 rule (sym (why_is _ stop is) ∙ why), (who, x, refl, refl))
-message_denied v s st (Some x) a fault stop rule is why = absurd (answered_denied st a fault _ stop rule is why)
+message_denied v s st (Some x) a fault stop rule is why = absurd (answered_denied st a fault (closing_in (last_wanted v s st a)) stop rule is why)
 
 given_denied : (v : Terms) (s0 s : Standing) (now : ℕ) (given : Result Incoming LinkFault) (judged : Bool) (d : Option Denial) (a : Option Answer) (fault : Option LinkFault) (stop : Stop) (rule : ℕ)
     → stop_given given (stop_judged judged (stop_message v s (heard_step v s0 now judged given) d a None fault)) ≡ Some stop → stop.why ≡ Denied rule → (rule ≡ 0) × IsTurnedAway (heard_step v s0 now judged given) d

@@ -38,15 +38,16 @@ use Rattle.bsc_session.specs.Guarding.{denied_connect, denied_message}
 use Rattle.bsc_session.specs.declared.at.At.{At}
 use Rattle.bsc_session.specs.declared.member.Member.{Member}
 use Rattle.bsc_session.specs.declared.stop.Stop.{Stop}
-use Rattle.bsc_session.specs.Answering.{Fits, answered, called, calls_hub, denied_in, last_wanted, made_at, noted, put_unless, stop_by, stop_given, stop_judged, stop_message}
-use Rattle.bsc_session.specs.Inner.{Answers, Follows, Forwards, HasStanding, Hears, HearsMessage, Held, Runs, SeesWorn, Tied, TurnsAway, Wrote, address_by, conn_of, empties_by, forward_made, given_by, has_joined}
+use Rattle.bsc_session.specs.declared.why.Why.TheVariants.{PeerLeft}
+use Rattle.bsc_session.specs.Answering.{Fits, answered, called, calls, calls_hub, denied_in, last_wanted, made_at, noted, put_unless, stop_by, stop_given, stop_judged, stop_message}
+use Rattle.bsc_session.specs.Inner.{Answers, Carries, Follows, Forwards, HasStanding, Hears, HearsMessage, Held, Runs, SeesWorn, Tied, TurnsAway, Wrote, address_by, conn_of, empties_by, forward_made, given_by, has_joined}
 use Rattle.bsc_session.specs.Judging.{LacksAtPass, heard_step, heard_told, verdict_on}
 use Rattle.bsc_session.specs.Serving.{Goes}
 use Rattle.bsc_session.specs.Puts.{HasPut, octets_in, puts}
 use Rattle.bsc_session.specs.Receiving.{Answer, replies, worn, no_memory, received_one}
 use Rattle.bsc_session.specs.Standings.{Standing, Terms, start_of, told, wanted}
 use Rattle.bsc_session.specs.Stops.{first_of, stop_at, stop_lost}
-use Rattle.bsc_session.proofs.Asking.{answer_is}
+use Rattle.bsc_session.proofs.Asking.{answer_is, left_open}
 use Rattle.bsc_session.proofs.HubCalls.{goes_as, goes_nowhere, member_stays, one_line, unless_lost}
 use Rattle.bsc_session.proofs.Lists.{grown, grows-nil, grows_stays}
 use Rattle.bsc_session.proofs.Recording.{no_line, wrote_as, wrote_none}
@@ -168,6 +169,33 @@ ask_denied h v s given p a who denial old pages pages' stop held is away = recor
   empties_same = refl;
   held = held;
   runs = λ going. cc;
+}
+
+-- ---- the other steps
+
+-- a step that calls nobody was carried out
+pub carried_answers : (h : Hub) (v : Terms) (s : Standing) (p : CallerPass) (a : At) (m : List ℕ) (st : Step) (old new : Option (List Said)) (pages : Option (List ℕ)) (stop : Option Stop)
+    → Held h v p a s → StandsFor a.machine (start_of v s) s.events → Tied s → LeftBy st a.machine → calls st ≡ false → Carries old new st PeerLeft stop
+    → Answers v s st (Ok (Message m)) h p p a a old new pages pages stop
+carried_answers h v s p a m (Ask who) old new pages stop held stood tied left none k = cc
+carried_answers h v s p a m Carry old new pages stop held stood tied left none k = cc
+carried_answers h v s p a m st old new pages stop held stood tied left none k = record {
+  answer = None;
+  lost = None;
+  fault = k.fault;
+  calls = refl;
+  fits = tt;
+  goes = goes_nowhere h p held.caller;
+  wrote = wrote_none p pages;
+  line = tt;
+  said = k.said;
+  cause = k.cause;
+  stops = k.stops;
+  is_worn = λ e. cc;
+  given_same = refl;
+  empties_same = refl;
+  held = held;
+  runs = λ going. record { machine = stood; waits = left_open st a.machine k.fault PeerLeft stop left refl k.stops going; tied = tied };
 }
 
 -- ---- which step a message brings

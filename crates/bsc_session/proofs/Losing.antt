@@ -21,7 +21,7 @@ use Rattle.bsc_lines.specs.declared.denial.Denial.{Denial}
 use Rattle.bsc_notes.specs.Notes.{HasLine, Note, Records, RecordsPart, denied, lines_of}
 use Rattle.bsc_session.specs.declared.stop.Stop.{Stop}
 use Rattle.bsc_session.specs.declared.why.Why.{Why}
-use Rattle.bsc_session.specs.Answering.{IsHearing, called, denial_in, denied_in, made_at, notes_hearing, stop_by, stop_denied, stop_given, stop_hearing, stop_judged, stop_message}
+use Rattle.bsc_session.specs.Answering.{IsHearing, called, denial_in, denied_in, made_at, notes_hearing, stands_heard, stop_by, stop_denied, stop_given, stop_hearing, stop_judged, stop_message}
 use Rattle.bsc_session.specs.Guarding.{denials, denied_message, if_any}
 use Rattle.bsc_session.specs.Inner.{UnputBy, UnputIf, Wrote, lost_by}
 use Rattle.bsc_session.specs.Judging.{heard_step}
@@ -161,7 +161,7 @@ lost_given v s s' now false (Ok (Message m)) d a lost fault none = sym (none ref
 
 -- a hearing's stop has its lost line
 pub lost_hearing : (v : Terms) (s : Standing) (now : ℕ) (h : Hearing) → IsHearing v s now h → lost_by (stop_hearing v s now h) ≡ h.lost
-lost_hearing v s now h is = lost_given v s _ now h.judged h.given (denial_in v s now h) h.answer h.lost h.fault (λ quiet. unnoted h.lost (
+lost_hearing v s now h is = lost_given v s (stands_heard v s now h) now h.judged h.given (denial_in v s now h) h.answer h.lost h.fault (λ quiet. unnoted h.lost (
     let k : HasLine (map denied (if_any (denied_in v s Nothing h.given)) ++ made_at h.answer (called v s Nothing h.given h.answer)) h.lost = rw quiet at is.line in
     subst (λ ns. HasLine ns h.lost) (unheard_notes v s h.given h.answer) k))
 

@@ -177,6 +177,7 @@ records_leave a b c ns (Some fault) at es (Some other) h k line = absurd line
 pub serves_noting : (v : Terms) (h : Hub) (p0 p q : Pass) (a : At) (old mid new : Option (List Said)) (read read' pages pages' pages'' : Option (List ℕ)) (stop : Stop) (conn : Option ℕ) (taken empties : ℕ) (lost : Option LinkFault) (why : Why)
     → Ran v h p0 p a old mid read read' pages pages' stop → Grows mid new (said_closing stop.closing) → Parts v h p q pages' pages'' stop.lost a.member a.ended conn taken empties lost → why ≡ named_lost lost (named a.ended stop.why)
     → ServesNoting v h p0 q old new read read' pages pages'' (record { why = why; conn = conn; taken = taken; empties = empties; turns = a.receives })
+unfolding serves
 serves_noting v h p0 p q a old mid new read read' pages pages' pages'' stop conn taken empties lost why r closed left is = record {
   serves = serves v h p0 p q a old mid new read read' pages pages' pages'' stop conn taken empties lost why r closed left is;
   stand = stand_append (entries (seen q)) _ _ (stand_on (seen p) (seen q) (shares notes_in v begun (and_last r.went_on r.last)) left.goes.sees r.wrote.stand) left.wrote.stand;

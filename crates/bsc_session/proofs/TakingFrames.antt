@@ -1,5 +1,5 @@
 -- Frames are taken and put.
-use Rattle.std.proofs.Common.{◌≡◌, ℕ, Bool, true, false, ◌+◌, ◌<◌, List, [], ◌∷◌, ◌++◌, refl, ap, sym, ◌∙◌, append_assoc, length-append, arith, Option, Some, None}
+use Rattle.std.proofs.Common.{◌≡◌, ℕ, Bool, true, false, ◌+◌, ◌<◌, List, [], ◌∷◌, ◌++◌, refl, ap, sym, ◌∙◌, append_assoc, append-nil, length-append, arith, Option, Some, None}
 use Rattle.std.specs.Prelude.{◌^◌, ◌-◌, min, suc, zero, length}
 use Rattle.std.proofs.lemmas.Bool.{lt-ltb}
 use Rattle.bsc_history.specs.declared.ending.End.{End}
