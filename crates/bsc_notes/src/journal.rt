@@ -50,10 +50,10 @@ impl Journal for NoJournal {
     }
 }
 
-impl<K: Sink> Journal for &mut K {
-    ghost faults = { λ j. K.faults j.now };
+impl<K: Sink> Journal for K {
+    ghost faults = { λ j. K.faults j };
 
-    ghost held = { λ j. K.held j.now };
+    ghost held = { λ j. K.held j };
 
     ghost makes_lines = { true };
 

@@ -198,7 +198,7 @@ exact_by v c left clear =
     }
 
 -- where a line was lost before the Leave, that has none
-unleft : (l left : Option LinkFault) (at : ℕ) (es : List Entry) (f : LinkFault) → l ≡ Some f → HasLine (noted_leaving l at es) left → left ≡ None
+pub unleft : (l left : Option LinkFault) (at : ℕ) (es : List Entry) (f : LinkFault) → l ≡ Some f → HasLine (noted_leaving l at es) left → left ≡ None
 unleft l left at es f is line = (let k : HasLine (noted_leaving (Some f) at es) left = rw is at line in unnoted left k)
 
 pub causes_are_exact : CausesAreExact

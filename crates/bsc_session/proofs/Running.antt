@@ -189,9 +189,10 @@ pub serves_by : (makes : Bool) (v : Terms) (h : Hub) (p0 p q : Pass) (a : At) (o
     → Ran v h p0 p a old mid read read' pages pages' stop → Grows mid new (said_closing stop.closing) → Parts v h p q pages' pages'' stop.lost a.member a.ended conn taken empties lost → why ≡ named_lost lost (named a.ended stop.why)
     → UnputBy makes stop.lost m n → UnputBy makes lost k l
     → ServesBy makes v h p0 q old new read read' pages pages'' (record { why = why; conn = conn; taken = taken; empties = empties; turns = a.receives })
+unfolding serves serves_noting
 serves_by makes v h p0 p q a old mid new read read' pages pages' pages'' stop conn taken empties lost why m n k l r closed left is ran parted = record {
   noting = serves_noting v h p0 p q a old mid new read read' pages pages' pages'' stop conn taken empties lost why r closed left is;
-  unlost = λ unmade. rw (unmade_unlost makes stop.lost m n unmade ran, unmade_unlost makes lost k l unmade parted) refl;
+  unlost = λ unmade. ap (λ x. first_lost x lost) (unmade_unlost makes stop.lost m n unmade ran) ∙ unmade_unlost makes lost k l unmade parted;
 }
 
 -- the talk that was told ends at its fault

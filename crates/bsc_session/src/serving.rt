@@ -186,9 +186,8 @@ pub fn serve_recorded<R: Wait, L: Link, C: Clock, K: Sink>(
     ensures unrecorded { result.why ≡ Why.JournalFault → HasRisen (K.faults journal.old) (K.faults journal.new) }
     ensures later { L.faults link.old ≤ L.faults link.new }
 {
-    let mut pages = journal;
     serve(
-        rt, alloc, hub, pass, link, clock, limits, turns, &mut pages, None,
+        rt, alloc, hub, pass, link, clock, limits, turns, journal, None,
     )
 }
 
@@ -215,7 +214,6 @@ pub fn serve_guarded<R: Wait, L: Link, C: Clock, K: Sink>(
     ensures unrecorded { result.why ≡ Why.JournalFault → HasRisen (K.faults journal.old) (K.faults journal.new) }
     ensures later { L.faults link.old ≤ L.faults link.new }
 {
-    let mut pages = journal;
     serve(
         rt,
         alloc,
@@ -225,7 +223,7 @@ pub fn serve_guarded<R: Wait, L: Link, C: Clock, K: Sink>(
         clock,
         limits,
         turns,
-        &mut pages,
+        journal,
         Some(policy),
     )
 }

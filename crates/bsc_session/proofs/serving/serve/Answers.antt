@@ -1,8 +1,11 @@
 use Rattle.std.proofs.Common.{ap, sym, ◌∙◌, option_map}
+use Rattle.bsc_session.specs.Course.{standing}
 use Rattle.bsc_session.specs.Serving.{terms_of}
+use Rattle.bsc_session.specs.Standings.{begun}
 use Rattle.bsc_session.specs.Talk.{named_lost}
 use Rattle.bsc_session.proofs.Losing.{risen_so}
-use Rattle.bsc_session.proofs.Naming.{causes_are_exact}
+use Rattle.bsc_session.proofs.Blaming.{journal_row, tells_stop}
+use Rattle.bsc_session.proofs.Naming.{causes_are_exact, unleft}
 use Rattle.bsc_session.proofs.Running.{grows_to_fault, serves_by}
 use Rattle.bsc_session.proofs.serving.serve.Goals as goal
 
@@ -21,6 +24,10 @@ returns-clause-ends g c = grows_to_fault _ _ _ _ _ _ _ _ _ (returns-clause-serve
 
 pub returns-clause-unrecorded : goal.returns-clause-unrecorded
 returns-clause-unrecorded g c why =
-    let k = (returns-clause-served g c).noting.serves in
-    risen_so g.J.Journal.makes_lines (g.J.Journal.faults c.args.journal.now) (g.J.Journal.faults c.run-stop.new.journal) (g.J.Journal.faults c.part-parted.new.journal) c.run-stop.result.lost c.part-parted.result.lost c.run-stop.ensures.journal_later c.part-parted.ensures.journal_later c.run-stop.ensures.unrecorded c.part-parted.ensures.unrecorded
-    ((causes_are_exact (terms_of c.args.hub.now c.args.pass.now c.args.limits.now c.args.turns (option_map (λ p. p.now) c.args.policy)) _ k.T k.R k.E _ k.session).journal_fault.0 why)
+    let r = c.run-stop.ensures.ran in
+    let stop = c.run-stop.result in
+    let left = c.part-parted.ensures.parts (terms_of c.args.hub.now c.args.pass.now c.args.limits.now c.args.turns (option_map (λ p. p.now) c.args.policy)) c.run-stop.new.at.ended (sym r.held.number) r.held.follows.found in
+    let told = tells_stop (terms_of c.args.hub.now c.args.pass.now c.args.limits.now c.args.turns (option_map (λ p. p.now) c.args.policy)) (standing (terms_of c.args.hub.now c.args.pass.now c.args.limits.now c.args.turns (option_map (λ p. p.now) c.args.policy)) begun r.went_on) r.last stop r.stops in
+    let row = journal_row c.run-stop.new.at.ended stop.why stop.lost c.part-parted.result.lost told.journal told.failed (λ f is. unleft stop.lost c.part-parted.result.lost left.left_at _ f is left.line) in
+    risen_so g.J.Journal.makes_lines (g.J.Journal.faults c.args.journal.now) (g.J.Journal.faults c.run-stop.new.journal) (g.J.Journal.faults c.part-parted.new.journal) stop.lost c.part-parted.result.lost c.run-stop.ensures.journal_later c.part-parted.ensures.journal_later c.run-stop.ensures.unrecorded c.part-parted.ensures.unrecorded
+    (row.0 (sym (c.named_lost.ensures.is ∙ ap (named_lost c.part-parted.result.lost) c.named.ensures) ∙ why))
