@@ -1,5 +1,5 @@
 -- A line that wasn't put names the end of the session before all else.
-use Rattle.std.proofs.Common.{◌≡◌, ◌↔◌, ℕ, Bool, true, false, refl, sym, ◌∙◌, Option, Some, None, Result, Ok, Err}
+use Rattle.std.proofs.Common.{◌≡◌, ◌↔◌, ℕ, Bool, true, false, refl, Option, Some, None, Result, Ok, Err}
 use Rattle.std.specs.Prelude.{⊤}
 use Rattle.bsc_history.specs.declared.ending.End.{End}
 use Rattle.bsc_history.specs.declared.reply.Reply.TheVariants.{Refused as RefusedReply}
@@ -8,18 +8,17 @@ use Rattle.bsc_edge.specs.declared.fault.LinkFault.TheVariants.{Failed, NoMemory
 use Rattle.bsc_edge.specs.declared.incoming.Incoming.{Incoming}
 use Rattle.bsc_edge.specs.declared.incoming.Incoming.TheVariants.{Closed, Message, Quiet, Text}
 use Rattle.bsc_accept.specs.declared.closing.Closing.{Closing}
-use Rattle.bsc_accept.specs.declared.reason.Reason.TheVariants.{Nothing as NoReason}
 use Rattle.bsc_accept.specs.declared.step.Step.{Step}
 use Rattle.bsc_accept.specs.declared.step.Step.TheVariants.{Ask}
 use Rattle.bsc_lines.specs.declared.denial.Denial.{Denial}
 use Rattle.bsc_session.specs.declared.stop.Stop.{Stop}
 use Rattle.bsc_session.specs.declared.why.Why.{Why}
-use Rattle.bsc_session.specs.declared.why.Why.TheVariants.{JournalFault, LinkFault as WhyLinkFault, NoMemory, Spent}
-use Rattle.bsc_session.specs.Answering.{cause_of, denial_in, stands_heard, step_of, stop_by, stop_denied, stop_given, stop_hearing, stop_judged, stop_message}
+use Rattle.bsc_session.specs.declared.why.Why.TheVariants.{JournalFault, NoMemory}
+use Rattle.bsc_session.specs.Answering.{cause_of, denial_in, stands_heard, step_of, stop_by, stop_denied, stop_given, stop_judged, stop_message}
 use Rattle.bsc_session.specs.Course.{Stops}
 use Rattle.bsc_session.specs.Receiving.{Answer, Hearing, no_memory, replies, worn}
 use Rattle.bsc_session.specs.Standings.{Standing, Terms}
-use Rattle.bsc_session.specs.Stops.{closes, first_of, stop_at, stop_closing, stop_if, stop_lost}
+use Rattle.bsc_session.specs.Stops.{closes, first_of, stop_at, stop_if, stop_lost}
 use Rattle.bsc_session.specs.Taking.{Opening, ended_by, opened, stop_before, waiting_for}
 use Rattle.bsc_session.specs.Talk.{first_lost, named, named_lost}
 use Rattle.bsc_session.specs.Turns.{Turn, stop_after, stop_in}

@@ -17,14 +17,14 @@ use Rattle.bsc_session.specs.declared.why.Why.{Why}
 use Rattle.bsc_session.specs.declared.why.Why.TheVariants.{PeerClosed, NotBinary, PeerLeft, Refused, WaitExpired, Idle, EndedBy, Worn, LinkFault as WhyLinkFault, NoMemory, Spent, Denied, JournalFault}
 use Rattle.bsc_lines.specs.declared.denial.Denial.{Denial}
 use Rattle.bsc_session.specs.declared.stop.Stop.{Stop}
-use Rattle.bsc_session.specs.Answering.{Fits, calls, cause_of, denial_in, last_wanted, put_unless, stop_by, stop_denied, stop_given, stop_judged, stop_message}
+use Rattle.bsc_session.specs.Answering.{Fits, calls, cause_of, denial_in, last_wanted, stop_by, stop_given, stop_judged, stop_message}
 use Rattle.bsc_session.specs.Causes.{fault_at, given_in, judged_in, answer_in, hearing_fault, IsRefused}
 use Rattle.bsc_session.specs.Judging.{LacksAtPass, heard, heard_step}
 use Rattle.bsc_session.specs.Puts.{HasPut, octets_in}
 use Rattle.bsc_session.specs.Reading.{ticked, wanted_at}
 use Rattle.bsc_session.specs.Receiving.{Answer, replies, worn, no_memory, Hearing}
 use Rattle.bsc_session.specs.Standings.{Standing, Terms}
-use Rattle.bsc_session.specs.Stops.{stop_at, stop_if, stop_lost, closes, first_of, closing_in}
+use Rattle.bsc_session.specs.Stops.{stop_at, stop_if, closes, first_of, closing_in}
 use Rattle.bsc_session.specs.Taking.{Opening, put_first, waiting_for, ended_by, end_step, stop_before, opened}
 use Rattle.bsc_session.specs.Turns.{IsTurn, stop_in}
 use Rattle.bsc_session.proofs.EndingAtFault.{fault_put, nothing_put, some_is, alone, no_stop, after_none, none_put}

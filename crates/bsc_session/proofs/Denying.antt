@@ -1,19 +1,18 @@
 -- When a policy ends a session: a device asked to join that isn't admitted.
-use Rattle.std.proofs.Common.{◌≡◌, ◌↔◌, ℕ, Bool, true, false, List, refl, ap, sym, ◌∙◌, Option, Some, None, Result, Ok, Err}
+use Rattle.std.proofs.Common.{◌≡◌, ◌↔◌, ℕ, Bool, true, false, refl, ap, sym, ◌∙◌, Option, Some, None, Result, Ok, Err}
 use Rattle.bsc_octets.specs.declared.identity.Identity.{Identity}
 use Rattle.bsc_edge.specs.declared.fault.LinkFault.{LinkFault}
 use Rattle.bsc_edge.specs.declared.fault.LinkFault.TheVariants.{Failed, NoMemory as MemoryFault}
 use Rattle.bsc_edge.specs.declared.incoming.Incoming.{Incoming}
 use Rattle.bsc_edge.specs.declared.incoming.Incoming.TheVariants.{Closed, Message, Quiet, Text}
-use Rattle.bsc_history.specs.declared.reply.Reply.TheVariants.{Joined, Refused as RefusedReply}
+use Rattle.bsc_history.specs.declared.reply.Reply.TheVariants.{Refused as RefusedReply}
 use Rattle.bsc_accept.specs.declared.closing.Closing.{Closing}
 use Rattle.bsc_accept.specs.declared.step.Step.{Step}
-use Rattle.bsc_accept.specs.declared.step.Step.TheVariants.{Ask, Carry}
+use Rattle.bsc_accept.specs.declared.step.Step.TheVariants.{Ask}
 use Rattle.bsc_lines.specs.declared.denial.Denial.{Denial}
 use Rattle.bsc_session.specs.declared.stop.Stop.{Stop}
-use Rattle.bsc_session.specs.declared.why.Why.{Why}
-use Rattle.bsc_session.specs.declared.why.Why.TheVariants.{Denied, NoMemory, NotBinary, PeerClosed, PeerLeft, Refused, Worn}
-use Rattle.bsc_session.specs.Answering.{cause_of, denial_in, last_wanted, stop_by, stop_denied, stop_given, stop_judged, stop_message}
+use Rattle.bsc_session.specs.declared.why.Why.TheVariants.{Denied, NoMemory, NotBinary, PeerClosed, Worn}
+use Rattle.bsc_session.specs.Answering.{cause_of, denial_in, last_wanted, stop_by, stop_given, stop_judged, stop_message}
 use Rattle.bsc_session.specs.Causes.{IsDenied, answer_in, given_in, hearing_fault, judged_in}
 use Rattle.bsc_session.specs.Judging.{heard, heard_step}
 use Rattle.bsc_session.specs.Receiving.{Answer, Hearing, no_memory, replies, worn}

@@ -23,10 +23,10 @@ use Rattle.bsc_session.specs.Reading.{ticked, wanted_at}
 use Rattle.bsc_session.specs.Receiving.{Answer, worn, no_memory, Hearing}
 use Rattle.bsc_session.specs.Standings.{Standing, Terms, begun}
 use Rattle.bsc_session.specs.Stops.{stop_at, stop_if, stop_lost, closes, first_of, closing_in}
-use Rattle.bsc_session.specs.Taking.{Opening, IsOpening, end_step, last_alone, last_of, noted_last, noted_of, passing, put_first, stop_before, opened, wait_in}
+use Rattle.bsc_session.specs.Taking.{Opening, IsOpening, end_step, last_alone, last_of, passing, put_first, stop_before, opened, wait_in}
 use Rattle.bsc_session.specs.Turns.{Turn, IsTurn, said_in, stop_in, after}
 use Rattle.bsc_session.proofs.Filtering.{passing-nil, put_clear, through_last}
-use Rattle.bsc_session.proofs.Lists.{HasPut-append, shares-more, well}
+use Rattle.bsc_session.proofs.Lists.{HasPut-append, shares-more}
 
 -- no fault in it
 IsWell : List Said → Type 0

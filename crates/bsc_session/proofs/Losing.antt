@@ -1,5 +1,5 @@
 -- Lines that weren't put: by which stop, behind which others, and what a journal holds then.
-use Rattle.std.proofs.Common.{◌≡◌, ◌≤◌, ◌<◌, ◌⊎◌, ℕ, ◌+◌, Bool, true, false, is_some, is_none, ◌&&◌, List, [], ◌∷◌, ◌++◌, map, take, length, refl, ap, sym, subst, ◌∙◌, append-nil, append_assoc, arith, inl, inr, Option, Some, None, Result, Ok, Err}
+use Rattle.std.proofs.Common.{◌≡◌, ◌≤◌, ◌⊎◌, ℕ, Bool, true, false, ◌&&◌, List, [], ◌∷◌, ◌++◌, map, take, refl, ap, sym, subst, ◌∙◌, append-nil, arith, inl, inr, Option, Some, None, Result, Ok, Err}
 use Rattle.std.specs.Io.KnownBytes.{Appends}
 use Rattle.std.proofs.KnownBytes.{Appends-trans}
 use Rattle.bsc_octets.specs.declared.vmac.Vmac.{Vmac}
@@ -18,11 +18,11 @@ use Rattle.bsc_accept.specs.declared.closing.Closing.{Closing}
 use Rattle.bsc_accept.specs.declared.step.Step.{Step}
 use Rattle.bsc_accept.specs.declared.step.Step.TheVariants.{Ask, Nothing}
 use Rattle.bsc_lines.specs.declared.denial.Denial.{Denial}
-use Rattle.bsc_notes.specs.Notes.{HasLine, Note, Records, RecordsPart, denied, lines_of}
+use Rattle.bsc_notes.specs.Notes.{HasLine, Note, Records, denied, lines_of}
 use Rattle.bsc_session.specs.declared.stop.Stop.{Stop}
 use Rattle.bsc_session.specs.declared.why.Why.{Why}
 use Rattle.bsc_session.specs.Answering.{IsHearing, called, denial_in, denied_in, made_at, notes_hearing, stands_heard, stop_by, stop_denied, stop_given, stop_hearing, stop_judged, stop_message}
-use Rattle.bsc_session.specs.Guarding.{denials, denied_message, if_any}
+use Rattle.bsc_session.specs.Guarding.{denials, if_any}
 use Rattle.bsc_session.specs.Inner.{UnputBy, UnputIf, Wrote, lost_by}
 use Rattle.bsc_session.specs.Judging.{heard_step}
 use Rattle.bsc_session.specs.Reading.{ticked, wanted_at}

@@ -15,7 +15,7 @@ use Rattle.bsc_session.specs.declared.why.Why.TheVariants.{PeerClosed, NotBinary
 use Rattle.bsc_session.specs.Causes.{AreExact, AreExactBy, CausesAreExact, EndsOtherwise, HasAnswered, HasIdled, HasWaited, IsDenied, LacksMemory, answer_in, given_in, hearing_fault, judged_in, last_fault}
 use Rattle.bsc_session.specs.Course.{Course, EachTurn, Stops, and_last, end_of, standing}
 use Rattle.bsc_session.specs.Standings.{Standing, Terms, begun}
-use Rattle.bsc_session.specs.Talk.{first_lost, leaving, named, named_lost, noted_leaving}
+use Rattle.bsc_session.specs.Talk.{first_lost, named, named_lost, noted_leaving}
 use Rattle.bsc_session.specs.Turns.{IsTurn, Turn, after, stop_in}
 use Rattle.bsc_session.proofs.Causing.{Ends, turn_ends, row_peer_closed, row_not_binary, row_worn, row_refused, row_link_fault, row_no_memory, lost_after, not_journal, not_spent}
 use Rattle.bsc_session.proofs.Blaming.{journal_row, memory_row, none_lost, tells_stop}

@@ -5,7 +5,6 @@ use Rattle.std.proofs.lemmas.Bool.{lt-ltb}
 use Rattle.bsc_history.specs.declared.ending.End.{End}
 use Rattle.bsc_edge.specs.declared.fault.LinkFault.{LinkFault}
 use Rattle.bsc_edge.specs.declared.said.Said.{Said}
-use Rattle.bsc_edge.specs.declared.said.Said.TheVariants.{Put}
 use Rattle.bsc_edge.specs.Told.{Grows}
 use Rattle.bsc_ring.specs.declared.ends.Outlet.{Outlet}
 use Rattle.bsc_ring.specs.declared.take.Take.{Take}

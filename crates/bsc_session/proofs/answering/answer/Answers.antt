@@ -1,9 +1,7 @@
-use Rattle.std.proofs.Common.{◌≡◌, ◌∙◌, Ok, Some, None, false, refl, ap, sym, inl, inr, option_map, rules}
+use Rattle.std.proofs.Common.{◌≡◌, ◌∙◌, Ok, false, refl, sym, inl, inr, option_map, rules}
 use Rattle.bsc_session.specs.Answering.{calls}
-use Rattle.bsc_octets.specs.declared.vmac.Vmac.{Vmac}
 use Rattle.bsc_edge.specs.declared.incoming.Incoming.TheVariants.{Message}
 use Rattle.bsc_edge.specs.Told.{fault_in}
-use Rattle.bsc_accept.specs.declared.step.Step.TheVariants.{Ask, Carry}
 use Rattle.bsc_session.proofs.Hearing.{ask_denied, carried_answers, carry_answers, carry_denied, connect_so, message_so}
 use Rattle.bsc_session.proofs.answering.answer.Goals as goal
 
