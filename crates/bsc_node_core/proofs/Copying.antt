@@ -34,15 +34,15 @@ same-links old new p f i (Hub Failover) = ap kept_of f
 same-links old new p f i (Direct k) = ap (λ (ls : List Link). kept_in (slice_get ls k)) i
 
 -- One link was touched alone, and is kept now.
-pub caught-one : (old new links : Links) (touched : LinkName) (kept : Kept) → links.touched ≡ One touched → kept ≡ link_at links touched → Sets old new touched kept → AgreeUntouched old links
+pub caught-one : (old new links : Links) (touched : LinkName) → links.touched ≡ One touched → Sets old new touched (link_at links touched) → AgreeUntouched old links
     → (name : LinkName) → is_name name ≡ true → link_at new name ≡ link_at links name
-caught-one old new links touched kept is k sets agrees name n = by (same_link touched name) refl
+caught-one old new links touched is sets agrees name n = by (same_link touched name) refl
   where
     by : (b : Bool) → same_link touched name ≡ b → link_at new name ≡ link_at links name
     by true e =
         let one = same_link-is touched name e in
-        sets name ∙ ap (λ (b : Bool). cond (b && is_name touched) kept (link_at old name)) e ∙ ap (λ (b : Bool). cond b kept (link_at old name)) (ap is_name one ∙ n) ∙ k ∙ ap (link_at links) one
-    by false e = sets name ∙ ap (λ (b : Bool). cond (b && is_name touched) kept (link_at old name)) e ∙ sym (agrees name n (ap (λ (t : Touched). is_touched t name) is ∙ e))
+        sets name ∙ ap (λ (b : Bool). cond (b && is_name touched) (link_at links touched) (link_at old name)) e ∙ ap (λ (b : Bool). cond b (link_at links touched) (link_at old name)) (ap is_name one ∙ n) ∙ ap (link_at links) one
+    by false e = sets name ∙ ap (λ (b : Bool). cond (b && is_name touched) (link_at links touched) (link_at old name)) e ∙ sym (agrees name n (ap (λ (t : Touched). is_touched t name) is ∙ e))
 
 -- ---- states
 

@@ -70,6 +70,9 @@ AgreeUntouched spare links = (name : LinkName) → is_name name ≡ true → is_
 abbrev pub with_machine : Machine → Kept → Kept
 with_machine machine l = record l { machine = machine }
 
+abbrev pub with_peer : Identity → Kept → Kept
+with_peer who l = record l { peer = Some who }
+
 abbrev pub with_machine_and_peer : Machine → Option Identity → Kept → Kept
 with_machine_and_peer machine peer l = record l { machine = machine; peer = peer }
 

@@ -9,7 +9,7 @@ ghost use Rattle.bsc_accept.specs.Standing.{LeftBy as LeavesAccepting};
 ghost use Rattle.bsc_initiate.specs.Standing.{LeftBy as LeavesInitiating};
 ghost use Rattle.bsc_node_core.specs.Machines.{dialled_after, dialled_peer, is_fit, says_there, taken_after, taken_peer};
 ghost use Rattle.bsc_node_core.specs.Tables.{AgreeUntouched, Sets, Touches, begun, claimed, is_name, kept_in, kept_of, link_at, nothing_kept};
-ghost use Rattle.bsc_node_core.specs.Tables.{with_machine, with_machine_and_peer};
+ghost use Rattle.bsc_node_core.specs.Tables.{with_machine, with_machine_and_peer, with_peer};
 
 use crate::link::Link;
 use crate::links::{Links, SLOTS};
@@ -19,7 +19,7 @@ use bsc_accept::{Accepting, Step};
 use bsc_connector::Side;
 use bsc_initiate::{InitStep, Initiating};
 use bsc_node::LinkName;
-use bsc_octets::NoMemory;
+use bsc_octets::{Identity, NoMemory};
 use std::alloc::Global;
 
 /// Whether one of these links is there.
@@ -79,13 +79,26 @@ impl Links {
         write_over(&mut self.slots, links.slots.as_slice());
     }
 
+    /// Becomes this one of these.
+    fn copy_one(&mut self, links: &Links, name: LinkName)
+        ensures { Sets self.old self.new name (link_at links.now name) }
+    {
+        match name {
+            LinkName::Hub(Side::Primary) => self.primary = links.primary,
+            LinkName::Hub(Side::Failover) => self.failover = links.failover,
+            LinkName::Direct(k) => if k < SLOTS {
+                self.slots[k as usize] = links.slots[k as usize];
+            },
+        }
+    }
+
     /// Becomes the same as these, of which those that weren't touched are the same already.
     pub(crate) fn catch_up(&mut self, links: &Links)
         ensures { AgreeUntouched self.old links.now → (name : LinkName) → is_name name ≡ true → link_at self.new name ≡ link_at links.now name }
     {
         match links.touched {
             Touched::Nothing => {}
-            Touched::One(name) => self.set(name, links.get(name)),
+            Touched::One(name) => self.copy_one(links, name),
             Touched::Many => self.copy_from(links),
         }
     }
@@ -126,13 +139,42 @@ impl Links {
         self.get(name).is_there()
     }
 
+    /// The link's machine goes on.
+    fn go_on(&mut self, name: LinkName, machine: Machine)
+        requires { is_fit machine ≡ true }
+        ensures sets { Sets self.old self.new name (with_machine machine (link_at self.old name)) }
+        ensures touches { Touches self.old self.new name }
+    {
+        match name {
+            LinkName::Hub(side) => {
+                self.touched = self.touched.also(name);
+                match side {
+                    Side::Primary => self.primary.machine = machine,
+                    Side::Failover => self.failover.machine = machine,
+                }
+            }
+            LinkName::Direct(_) => {
+                let link = self.get(name);
+                self.set(name, link.with_machine(machine));
+            }
+        }
+    }
+
+    /// The peer of a link has named itself.
+    fn meet(&mut self, name: LinkName, who: Identity)
+        ensures sets { Sets self.old self.new name (with_peer who (link_at self.old name)) }
+        ensures touches { Touches self.old self.new name }
+    {
+        let link = self.get(name);
+        self.set(name, link.with_peer(who));
+    }
+
     /// A link is over. Its peer stays known.
     pub(crate) fn end(&mut self, name: LinkName)
         ensures sets { Sets self.old self.new name (with_machine Machine.Gone (link_at self.old name)) }
         ensures touches { Touches self.old self.new name }
     {
-        let link = self.get(name);
-        self.set(name, link.with_machine(Machine::Gone));
+        self.go_on(name, Machine::Gone);
     }
 
     /// A link begins, with this machine.
@@ -151,8 +193,18 @@ impl Links {
         ensures sets { Sets self.old self.new name (with_machine_and_peer (dialled_after machine step.now) (dialled_peer step.now (link_at self.old name).peer) (link_at self.old name)) }
         ensures touches { Touches self.old self.new name }
     {
-        let link = self.get(name);
-        self.set(name, link.dialled(machine, step));
+        match step {
+            InitStep::PutClose(_, _) | InitStep::Close(_) | InitStep::Refused { .. } => {
+                self.go_on(name, Machine::Over)
+            }
+            InitStep::Connected(who) => {
+                self.go_on(name, Machine::Dialled(machine));
+                self.meet(name, *who);
+            }
+            InitStep::Put(_) | InitStep::Up | InitStep::Nothing => {
+                self.go_on(name, Machine::Dialled(machine))
+            }
+        }
     }
 
     /// The machine of a link that was taken goes on by a step, by which its peer may have named itself.
@@ -161,8 +213,16 @@ impl Links {
         ensures sets { Sets self.old self.new name (with_machine_and_peer (taken_after machine step.now) (taken_peer step.now (link_at self.old name).peer) (link_at self.old name)) }
         ensures touches { Touches self.old self.new name }
     {
-        let link = self.get(name);
-        self.set(name, link.taken(machine, step));
+        match step {
+            Step::ReplyClose(_, _) | Step::Close(_) => self.go_on(name, Machine::Over),
+            Step::Ask(who) => {
+                self.go_on(name, Machine::Asked(machine));
+                self.meet(name, *who);
+            }
+            Step::Reply(_) | Step::Carry | Step::Nothing => {
+                self.go_on(name, Machine::Taken(machine))
+            }
+        }
     }
 
     /// The slot of a link was claimed: no link began in it since.
