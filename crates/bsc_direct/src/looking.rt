@@ -1,5 +1,5 @@
-//! What can be asked of the slots, and a copy of them.
-ghost use Rattle.std.specs.Prelude.{◌≡◌, ◌<◌, ◌&&◌, List, IfOk, IsTrue, is_none};
+//! What can be asked of the slots, and copies of them.
+ghost use Rattle.std.specs.Prelude.{◌≡◌, ◌<◌, ◌&&◌, List, IfOk, IsTrue, is_none, length, vec_len};
 ghost use Rattle.bsc_direct.specs.declared.call.SlotCall.{SlotCall};
 ghost use Rattle.bsc_direct.specs.Slots.{establish, established_peer, free_slot, is_claimed, wanted};
 ghost use Rattle.bsc_direct.specs.Kept.{says_peer, says_wanted, slot_at};
@@ -11,6 +11,15 @@ use crate::places::place_free;
 use crate::slot::Slot;
 use bsc_octets::{Identity, NoMemory, Vmac};
 use std::alloc::Global;
+
+/// Writes these slots over as many others.
+fn write_over(slots: &mut Vec<Slot>, from: &[Slot])
+    requires { vec_len slots.old ≡ length from.now }
+    ensures items { slots.new.items ≡ from.now }
+    ensures len { vec_len slots.new ≡ vec_len slots.old }
+{
+    slots.as_mut_slice().copy_from_slice(from);
+}
 
 impl Direct {
     /// The lowest free slot, where one is free.
@@ -71,5 +80,12 @@ impl Direct {
         Ok(Direct {
             slots: Vec::from_slice(alloc, self.slots.as_slice())?,
         })
+    }
+
+    /// Becomes the same slots as others, in the memory that it has.
+    pub fn copy_from(&mut self, other: &Direct)
+        ensures { self.new.slots.items ≡ other.now.slots.items }
+    {
+        write_over(&mut self.slots, other.slots.as_slice());
     }
 }

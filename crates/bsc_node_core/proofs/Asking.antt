@@ -74,6 +74,7 @@ both-told b out s r r' L call stands both =
         asked = refl;
         links = λ name n. link-kept b.made b.busy L m name (link_at s.links name) refl refl refl refl (h.links name n);
         tries = λ k w. ap (λ c. min c 18446744073709551615) (tries-kept k L m refl refl) ∙ h.tries k w;
+        spare = h.spare;
         actions = came-other (asked_by (L ++ m ∷ []) b) out L m refl (same-came b (resolve_calls L) (resolve_calls (L ++ m ∷ [])) out L h.actions);
       };
       resolution = subst (λ (calls : List ResolveCall). ResolveStands r' b.made.limits.times.connect_wait calls) (sym (filter-one_more resolve_call_of L m call refl)) stands;

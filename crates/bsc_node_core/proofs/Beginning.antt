@@ -34,10 +34,11 @@ use Rattle.bsc_node_core.specs.declared.machine.Machine.TheVariants.{Dialled, Ta
 use Rattle.bsc_node_core.specs.declared.links.Links.{Links}
 use Rattle.bsc_node_core.specs.declared.state.State.{State}
 use Rattle.bsc_node_core.specs.Machines.{says_there}
-use Rattle.bsc_node_core.specs.Tables.{Kept, link_at, is_name, Sets, begun}
+use Rattle.bsc_node_core.specs.Tables.{Kept, link_at, is_name, Sets, Touches, begun}
 use Rattle.bsc_node_core.specs.Standing.{Base, MachineStands, LinkStands, Stands}
 use Rattle.bsc_node_core.proofs.More.{now-kept, own-kept, next-kept, finishing-kept, renewals-kept, refusing-kept, dropped-kept, since-kept, since-now, count-kept, count-one_more}
 use Rattle.bsc_node_core.proofs.Lines.{link-kept, came-did}
+use Rattle.bsc_node_core.proofs.Untouched.{agrees-set}
 use Rattle.bsc_lemmas.proofs.Booleans.{or_true}
 use Rattle.bsc_node.proofs.Common.{hub_events-kept, resolve_calls-kept, same_link-is, slot_calls-kept}
 
@@ -155,9 +156,9 @@ module _ (a : Made) (busy : Option LinkName) (L : Log) (name : LinkName) (taken 
 
 -- A link begins.
 pub begin-stands : (b : Base) (out : List Action) (s : State) (L : Log) (name : LinkName) (taken : Bool) (action : Action) (machine : Machine) (ls : Links) → Begins name taken action
-    → Sets s.links ls name (begun machine (link_at s.links name)) → says_there machine ≡ true → MachineStands b.made b.busy (L ++ did action ∷ []) name machine
+    → Sets s.links ls name (begun machine (link_at s.links name)) → Touches s.links ls name → says_there machine ≡ true → MachineStands b.made b.busy (L ++ did action ∷ []) name machine
     → Stands b out s L → Stands b (out ++ action ∷ []) (record s { links = ls; dropped = cond (same_link name (Hub Failover)) false s.dropped }) (L ++ did action ∷ [])
-begin-stands b out s L name taken action machine ls g sets t m h = record {
+begin-stands b out s L name taken action machine ls g sets touches t m h = record {
   now = now-kept L (did action) refl ∙ h.now;
   own = own-kept b.made L (did action) refl ∙ h.own;
   next = next-kept L (did action) g.number ∙ h.next;
@@ -170,6 +171,7 @@ begin-stands b out s L name taken action machine ls g sets t m h = record {
   asked = resolve_calls-kept L (did action) refl ∙ h.asked;
   links = links-begun b.made b.busy L name taken action g s.links ls machine sets t m h.links;
   tries = λ k w. tries-begun b.made b.busy L name taken action g s.links ls machine k (lt-ltb k 64 w) sets (h.tries k w);
+  spare = agrees-set b.spare s ls name _ sets touches h.spare;
   actions = came-did b out L action h.actions;
 }
 
@@ -189,19 +191,19 @@ takes name = record { begins = λ other. refl; over = λ other. refl; number = r
 
 -- A URI is dialled.
 pub dial-stands : (b : Base) (out later : List Action) (s : State) (L : Log) (times : Times) (at : ℕ) (name : LinkName) (uri : List ℕ) (m : Initiating) (ls : Links) (d : Bool) → later ≡ out ++ Dial name uri ∷ []
-    → Sets s.links ls name (begun (Dialled m) (link_at s.links name)) → d ≡ cond (same_link name (Hub Failover)) false s.dropped → InitiatingStands m (record { own = s.own; times = times; at = at }) []
+    → Sets s.links ls name (begun (Dialled m) (link_at s.links name)) → Touches s.links ls name → d ≡ cond (same_link name (Hub Failover)) false s.dropped → InitiatingStands m (record { own = s.own; times = times; at = at }) []
     → b.made.limits.times ≡ times → b.now ≡ at → Stands b out s L → Stands b later (record s { links = ls; dropped = d }) (L ++ did (Dial name uri) ∷ [])
-dial-stands b out later s L times at name uri m ls d o sets de stands t n h =
+dial-stands b out later s L times at name uri m ls d o sets touches de stands t n h =
     subst (λ os. Stands b os (record s { links = ls; dropped = d }) (L ++ did (Dial name uri) ∷ [])) (sym o)
     (subst (λ (x : Bool). Stands b (out ++ Dial name uri ∷ []) (record s { links = ls; dropped = x }) (L ++ did (Dial name uri) ∷ [])) (sym de)
-    (begin-stands b out s L name false (Dial name uri) (Dialled m) ls (dials name uri) sets refl
+    (begin-stands b out s L name false (Dial name uri) (Dialled m) ls (dials name uri) sets touches refl
     (dialled-begun b.made b.busy L name false (Dial name uri) (dials name uri) m refl (subst (λ (x : Start). InitiatingStands m x []) (start-is b out s L times at t n h) stands)) h))
 
 -- A link that arrived is taken for a slot.
 pub take-stands : (b : Base) (out later : List Action) (s : State) (L : Log) (times : Times) (at k : ℕ) (m : Accepting) (ls : Links) → later ≡ out ++ Take (Direct k) ∷ []
-    → Sets s.links ls (Direct k) (begun (Taken m) (link_at s.links (Direct k))) → AcceptingStands m (record { own = s.own; times = times; at = at }) []
+    → Sets s.links ls (Direct k) (begun (Taken m) (link_at s.links (Direct k))) → Touches s.links ls (Direct k) → AcceptingStands m (record { own = s.own; times = times; at = at }) []
     → b.made.limits.times ≡ times → b.now ≡ at → Stands b out s L → Stands b later (record s { links = ls }) (L ++ did (Take (Direct k)) ∷ [])
-take-stands b out later s L times at k m ls o sets stands t n h =
+take-stands b out later s L times at k m ls o sets touches stands t n h =
     subst (λ os. Stands b os (record s { links = ls }) (L ++ did (Take (Direct k)) ∷ [])) (sym o)
-    (begin-stands b out s L (Direct k) true (Take (Direct k)) (Taken m) ls (takes (Direct k)) sets refl
+    (begin-stands b out s L (Direct k) true (Take (Direct k)) (Taken m) ls (takes (Direct k)) sets touches refl
     (taken-machine-begun b.made b.busy L (Direct k) true (Take (Direct k)) (takes (Direct k)) m refl refl (subst (λ (x : Start). AcceptingStands m x []) (start-is b out s L times at t n h) stands)) h)

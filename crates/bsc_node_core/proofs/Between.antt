@@ -36,7 +36,10 @@ use Rattle.bsc_node_core.specs.Node.{StandsFor, at_rest}
 use Rattle.bsc_node_core.specs.Resolving.{BothStand}
 use Rattle.bsc_node_core.specs.Standing.{Base, Stands}
 use Rattle.bsc_node_core.specs.Tables.{is_name}
+use Rattle.bsc_node_core.specs.declared.touched.Touched.TheVariants.{Many}
+use Rattle.bsc_node_core.specs.Spares.{Agrees, KeepsSame}
 use Rattle.bsc_node_core.proofs.Asking.{both-still}
+use Rattle.bsc_node_core.proofs.Copying.{begun-stands, restored-stands}
 use Rattle.bsc_node_core.proofs.More.{there-kept, taken-kept, initiating-kept}
 use Rattle.bsc_lemmas.proofs.Booleans.{and_left, first_of_three}
 use Rattle.bsc_lemmas.proofs.Lists.{same_rest as same-lines}
@@ -123,11 +126,11 @@ may-follow L t ev f h = tt
 -- ---- from one event to the next
 
 -- the base while an event is followed
-abbrev at_event : Made → Log → ℕ → Base
-at_event a L t = record { made = a; before = L; now = t; asked = resolve_calls L; busy = None }
+abbrev at_event : Made → Log → ℕ → State → Base
+at_event a L t spare = record { made = a; before = L; now = t; asked = resolve_calls L; busy = None; spare = spare }
 
-rested : (a : Made) (L M : Log) (t : ℕ) (out : List Action) (s : State) (r : Resolve) → BothStand (at_event a L t) out s r M → BothStand (at_rest a M) [] s r M
-rested a L M t out s r h =
+rested : (a : Made) (L M : Log) (t : ℕ) (out : List Action) (s spare : State) (r : Resolve) → BothStand (at_event a L t spare) out s r M → BothStand (at_rest a M spare) [] s r M
+rested a L M t out s spare r h =
     let k = h.state in record {
       state = record {
         now = refl;
@@ -142,37 +145,44 @@ rested a L M t out s r h =
         asked = refl;
         links = k.links;
         tries = k.tries;
+        spare = k.spare;
         actions = record { lines = []; log = sym (append-nil M); actions = refl };
       };
       resolution = h.resolution;
     }
 
 -- What an event comes to, by what it leaves and what follows from it.
-pub answered : (old new : Node) (a : Made) (L : Log) (t : ℕ) (ev : NodeEvent) (out : List Action) (mid : State) → new.limits ≡ old.limits
-    → ((b : Base) (os : List Action) (M : Log) (u : ℕ) → Stands b os old.state M → Stands (at_time u b) os mid (M ++ came (record { now = u; event = ev }) ∷ []))
+pub answered : (old new : Node) (a : Made) (L : Log) (t : ℕ) (ev : NodeEvent) (out : List Action) (start caught mid : State) → new.limits ≡ old.limits → new.spare ≡ caught → KeepsSame old.state start
+    → (Agrees old.spare old.state → KeepsSame old.state caught)
+    → ((b : Base) (os : List Action) (M : Log) (u : ℕ) → Stands b os start M → Stands (at_time u b) os mid (M ++ came (record { now = u; event = ev }) ∷ []))
     → ((b : Base) (M : Log) → b.made.limits ≡ old.limits → b.now ≡ t → b.busy ≡ None → MayFollow ev M → BothStand b [] mid old.resolve M → BothStand b out new.state new.resolve (M ++ follows b.made ev M))
     → StandsFor old a L → IsTrue (may_come L (record { now = t; event = ev }))
     → (out ≡ actions_at a L (record { now = t; event = ev })) × StandsFor new a (L ++ goes_on a (record { now = t; event = ev }) L)
-answered old new a L t ev out mid same comes goes h may =
+answered old new a L t ev out start caught mid same spared is catches comes goes h may =
     let e = at t ev in
     let f = fine old a L h in
     let M = L ++ came e ∷ [] in
-    let b = at_event a L t in
-    let first : Stands b [] mid M = comes (at_rest a L) [] L t h.kept.state in
+    let b = at_event a L t caught in
+    let first : Stands b [] mid M = comes (at_rest a L caught) [] L t (begun-stands (at_rest a L old.spare) [] old.state start caught L is catches h.kept.state) in
     let both : BothStand b [] mid old.resolve M = both-still b [] mid old.resolve L M h.kept.resolution first in
     let last : BothStand b out new.state new.resolve (M ++ follows a ev M) = goes b M h.limits refl refl (may-follow L t ev f may) both in
     let log : M ++ follows a ev M ≡ L ++ goes_on a e L = append_assoc L (came e ∷ []) (follows a ev M) ∙ ap (λ ms. L ++ ms) (sym (goes_on-is a L e)) in
     let end : BothStand b out new.state new.resolve (L ++ goes_on a e L) = subst (λ N. BothStand b out new.state new.resolve N) log last in
     let come = end.state.actions in (
       come.actions ∙ ap (filter_map action_of) (same-lines L come.lines (goes_on a e L) (sym come.log)),
-      record { limits = h.limits ∙ sym same; kept = rested a L (L ++ goes_on a e L) t out new.state new.resolve end; begun = (fine-goes_on a L e f may).begun },
+      record {
+        limits = h.limits ∙ sym same;
+        kept = subst (λ (x : State). BothStand (at_rest a (L ++ goes_on a e L) x) [] new.state new.resolve (L ++ goes_on a e L)) (sym spared)
+            (rested a L (L ++ goes_on a e L) t out new.state caught new.resolve end);
+        begun = (fine-goes_on a L e f may).begun;
+      },
     )
 
 -- Where memory was wanting, a node stands for what it stood.
-pub unchanged : (old new : Node) (a : Made) (L : Log) → new.limits ≡ old.limits → ((b : Base) (os : List Action) (M : Log) → Stands b os old.state M → Stands b os new.state M)
-    → IsUnchangedResolve old.resolve new.resolve → StandsFor old a L → StandsFor new a L
-unchanged old new a L same state resolve h = record {
+pub unchanged : (old new : Node) (a : Made) (L : Log) (caught failed : State) → new.limits ≡ old.limits → (Agrees old.spare old.state → KeepsSame old.state caught) → KeepsSame caught new.spare → new.spare.links.touched ≡ Many
+    → new.spare.direct_touched ≡ true → (Agrees failed new.spare → KeepsSame new.spare new.state) → IsUnchangedResolve old.resolve new.resolve → StandsFor old a L → StandsFor new a L
+unchanged old new a L caught failed same catches marks many all brings resolve h = record {
   limits = h.limits ∙ sym same;
-  kept = record { state = state (at_rest a L) [] L h.kept.state; resolution = resolve a.limits.times.connect_wait (resolve_calls L) h.kept.resolution };
+  kept = record { state = restored-stands (at_rest a L old.spare) [] old.state caught new.spare failed new.state L catches marks many all brings h.kept.state; resolution = resolve a.limits.times.connect_wait (resolve_calls L) h.kept.resolution };
   begun = h.begun;
 }

@@ -23,13 +23,14 @@ use Rattle.bsc_node.specs.Ending.{ends_slot}
 use Rattle.bsc_node.specs.Events.{arrives}
 use Rattle.bsc_node_core.specs.declared.links.Links.{Links}
 use Rattle.bsc_node_core.specs.declared.state.State.{State}
-use Rattle.bsc_node_core.specs.Tables.{Kept, link_at, is_name, Sets, claimed}
+use Rattle.bsc_node_core.specs.Tables.{Kept, link_at, is_name, Sets, Touches, claimed}
 use Rattle.std.proofs.lemmas.List.{append-nil}
 use Rattle.bsc_node_core.specs.Rules.{tells_down}
 use Rattle.bsc_node_core.specs.Standing.{Base, LinkStands, Stands}
 use Rattle.bsc_node_core.proofs.More.{now-kept, own-kept, next-kept, finishing-kept, renewals-kept, refusing-kept, dropped-kept, tries-kept, since-now, filter-one_more}
 use Rattle.bsc_node_core.proofs.Lines.{link-kept, came-other, quiet-stands}
 use Rattle.bsc_node_core.proofs.Together.{first-then, none-left}
+use Rattle.bsc_node_core.proofs.Untouched.{agrees-set, agrees-slots}
 use Rattle.bsc_node.proofs.Common.{hub_events-kept, resolve_calls-kept, same_link-is}
 
 same_kept : (b : Base) (L : Log) (name : LinkName) (l : Kept) → LinkStands b.made b.busy L name l → LinkStands b.made b.busy L name (claimed l)
@@ -67,8 +68,9 @@ tries-claimed old new L k j v w sets h = by (k == j) refl
 
 -- A slot is claimed.
 pub claim-stands : (b : Base) (out : List Action) (s : State) (L : Log) (k : ℕ) (v : Option Vmac) (d : SlotTable) (ls : Links) → DirectStands d (slot_calls L ++ Claim k v ∷ [])
-    → Sets s.links ls (Direct k) (claimed (link_at s.links (Direct k))) → Stands b out s L → Stands b out (record s { direct = d; links = ls }) (L ++ slot (Claim k v) ∷ [])
-claim-stands b out s L k v d ls stands sets h = record {
+    → Sets s.links ls (Direct k) (claimed (link_at s.links (Direct k))) → Touches s.links ls (Direct k) → Stands b out s L
+    → Stands b out (record s { direct = d; links = ls; direct_touched = true }) (L ++ slot (Claim k v) ∷ [])
+claim-stands b out s L k v d ls stands sets touches h = record {
   now = now-kept L (slot (Claim k v)) refl ∙ h.now;
   own = own-kept b.made L (slot (Claim k v)) refl ∙ h.own;
   next = next-kept L (slot (Claim k v)) refl ∙ h.next;
@@ -81,6 +83,7 @@ claim-stands b out s L k v d ls stands sets h = record {
   asked = resolve_calls-kept L (slot (Claim k v)) refl ∙ h.asked;
   links = links-claimed b s.links ls L k v sets h.links;
   tries = λ j w. tries-claimed s.links ls L k j v w sets (h.tries j w);
+  spare = agrees-slots b.spare (record s { links = ls }) d (agrees-set b.spare s ls (Direct k) _ sets touches h.spare);
   actions = came-other b out L (slot (Claim k v)) refl h.actions;
 }
 

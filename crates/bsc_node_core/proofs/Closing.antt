@@ -17,10 +17,11 @@ use Rattle.bsc_node.proofs.Told.{life-more}
 use Rattle.bsc_node_core.specs.declared.machine.Machine.TheVariants.{Gone}
 use Rattle.bsc_node_core.specs.declared.links.Links.{Links}
 use Rattle.bsc_node_core.specs.declared.state.State.{State}
-use Rattle.bsc_node_core.specs.Tables.{Kept, link_at, is_name, Sets, with_machine}
+use Rattle.bsc_node_core.specs.Tables.{Kept, link_at, is_name, Sets, Touches, with_machine}
 use Rattle.bsc_node_core.specs.Standing.{Base, LinkStands, Stands}
 use Rattle.bsc_node_core.proofs.More.{now-kept, own-kept, next-kept, finishing-kept, renewals-kept, refusing-kept, dropped-kept, tries-kept}
 use Rattle.bsc_node_core.proofs.Lines.{link-kept, peer-kept, came-did}
+use Rattle.bsc_node_core.proofs.Untouched.{agrees-set}
 use Rattle.bsc_node.proofs.Common.{hub_events-kept, resolve_calls-kept, same_link-is, slot_calls-kept}
 
 and_none : (a b : Bool) → (a && not (b || true)) ≡ false
@@ -70,8 +71,8 @@ tries-closed old new name k sets = by (same_link name (Direct k)) (is_name name)
     by false c e = ap (λ (l : Kept). l.tries) (sets (Direct k)) ∙ ap (λ b. (cond (b && is_name name) (with_machine Gone (link_at old name)) (link_at old (Direct k))).tries) e
 
 pub close-stands : (b : Base) (out : List Action) (s : State) (L : Log) (name : LinkName) (closing : Closing) (ls : Links) → Sets s.links ls name (with_machine Gone (link_at s.links name))
-    → Stands b out s L → Stands b (out ++ Close name closing ∷ []) (record s { links = ls }) (L ++ did (Close name closing) ∷ [])
-close-stands b out s L name closing ls sets h = record {
+    → Touches s.links ls name → Stands b out s L → Stands b (out ++ Close name closing ∷ []) (record s { links = ls }) (L ++ did (Close name closing) ∷ [])
+close-stands b out s L name closing ls sets touches h = record {
   now = now-kept L (did (Close name closing)) refl ∙ h.now;
   own = own-kept b.made L (did (Close name closing)) refl ∙ h.own;
   next = next-kept L (did (Close name closing)) refl ∙ h.next;
@@ -84,5 +85,6 @@ close-stands b out s L name closing ls sets h = record {
   asked = resolve_calls-kept L (did (Close name closing)) refl ∙ h.asked;
   links = closed-link b.made b.busy s.links ls L name closing sets h.links;
   tries = λ k w. ap (λ c. min c 18446744073709551615) (tries-kept k L (did (Close name closing)) refl refl) ∙ h.tries k w ∙ sym (tries-closed s.links ls name k sets);
+  spare = agrees-set b.spare s ls name _ sets touches h.spare;
   actions = came-did b out L (Close name closing) h.actions;
 }

@@ -24,12 +24,14 @@ use Rattle.bsc_node.specs.Meeting.{is_renewal, is_accept_of_hub, renewals, hub_m
 use Rattle.bsc_node_core.specs.declared.machine.Machine.TheVariants.{Gone}
 use Rattle.bsc_node_core.specs.declared.links.Links.{Links}
 use Rattle.bsc_node_core.specs.declared.state.State.{State}
-use Rattle.bsc_node_core.specs.Tables.{Kept, link_at, is_name, Sets, with_machine}
+use Rattle.bsc_node_core.specs.Tables.{Kept, link_at, is_name, Sets, Touches, with_machine}
+use Rattle.bsc_node_core.specs.Spares.{Agrees}
 use Rattle.bsc_node_core.specs.Standing.{Base, HaveCome, LinkStands, Stands}
 use Rattle.bsc_node_core.specs.Events.{at_time}
 use Rattle.bsc_node_core.proofs.More.{next-kept, own-kept, finishing-kept, renewals-kept, refusing-kept, dropped-kept, tries-kept, since-kept, count-one_more}
 use Rattle.bsc_node_core.proofs.Lines.{link-kept, peer-kept, came-other}
 use Rattle.bsc_node_core.proofs.Closing.{there-over, tries-closed}
+use Rattle.bsc_node_core.proofs.Untouched.{agrees-set}
 use Rattle.bsc_lemmas.proofs.Booleans.{or_true}
 use Rattle.bsc_node.proofs.Common.{hub_events-kept, resolve_calls-kept, same_link-is, slot_calls-kept}
 
@@ -43,8 +45,8 @@ came-told b out L e h = let more = came-other b out L (came e) refl h in record 
 came-stands : (b : Base) (out : List Action) (s : State) (L : Log) (e : TimedEvent) (i : Identity) (f : Bool) (r : ℕ) (side : Option Side) (ls : Links)
     → own b.made (L ++ came e ∷ []) ≡ i → is_finishing (L ++ came e ∷ []) ≡ f → min 8 (renewals (L ++ came e ∷ [])) ≡ r → refusing_side (L ++ came e ∷ []) ≡ side
     → ((name : LinkName) → is_name name ≡ true → LinkStands b.made b.busy (L ++ came e ∷ []) name (link_at ls name)) → ((k : ℕ) → (link_at ls (Direct k)).tries ≡ (link_at s.links (Direct k)).tries)
-    → Stands b out s L → Stands (at_time e.now b) out (known_at s i f r side ls) (L ++ came e ∷ [])
-came-stands b out s L e i f r side ls hi hf hr hs hl ht h = record {
+    → Agrees b.spare (record s { links = ls }) → Stands b out s L → Stands (at_time e.now b) out (known_at s i f r side ls) (L ++ came e ∷ [])
+came-stands b out s L e i f r side ls hi hf hr hs hl ht ha h = record {
   now = ap (λ o. unwrap_or (option_map (λ (x : TimedEvent). x.now) o) 0) (newest_of-more event_of L (came e));
   own = hi;
   next = next-kept L (came e) refl ∙ h.next;
@@ -57,6 +59,7 @@ came-stands b out s L e i f r side ls hi hf hr hs hl ht h = record {
   asked = resolve_calls-kept L (came e) refl ∙ h.asked;
   links = hl;
   tries = λ k w. ap (λ c. min c 18446744073709551615) (tries-kept k L (came e) refl refl) ∙ h.tries k w ∙ sym (ht k);
+  spare = ha;
   actions = came-told b out L e h.actions;
 }
 
@@ -74,7 +77,7 @@ quiet-came : (b : Base) (out : List Action) (s : State) (L : Log) (e : TimedEven
 quiet-came b out s L e q over h =
     came-stands b out s L e s.own s.finishing s.renewals s.newest_hub s.links (own-kept b.made L (came e) q.renewal ∙ h.own) (finishing-kept L (came e) q.finish ∙ h.finishing)
     (ap (λ k. min 8 k) (renewals-kept L (came e) q.counted refl) ∙ h.renewals) (refusing-kept L (came e) q.message ∙ h.newest_hub)
-    (λ name n. link-kept b.made b.busy L (came e) name (link_at s.links name) refl (over name) refl refl (h.links name n)) (λ k. refl) h
+    (λ name n. link-kept b.made b.busy L (came e) name (link_at s.links name) refl (over name) refl refl (h.links name n)) (λ k. refl) h.spare h
 
 -- ---- a link is over
 
@@ -98,11 +101,11 @@ links-over a busy old new L name e over sets h other n = by (same_link name othe
         subst (λ (y : Kept). LinkStands a busy (L ++ came e ∷ []) other y) (sym l) (link-kept a busy L (came e) other (link_at old other) refl (over other ∙ x) refl refl (h other n))
 
 over-came : (b : Base) (out : List Action) (s : State) (L : Log) (e : TimedEvent) (name : LinkName) (ls : Links) → SaysNothing e → ((other : LinkName) → is_over_by other (came e) ≡ same_link name other)
-    → Sets s.links ls name (with_machine Gone (link_at s.links name)) → Stands b out s L → Stands (at_time e.now b) out (record s { links = ls }) (L ++ came e ∷ [])
-over-came b out s L e name ls q over sets h =
+    → Sets s.links ls name (with_machine Gone (link_at s.links name)) → Touches s.links ls name → Stands b out s L → Stands (at_time e.now b) out (record s { links = ls }) (L ++ came e ∷ [])
+over-came b out s L e name ls q over sets touches h =
     came-stands b out s L e s.own s.finishing s.renewals s.newest_hub ls (own-kept b.made L (came e) q.renewal ∙ h.own) (finishing-kept L (came e) q.finish ∙ h.finishing)
     (ap (λ k. min 8 k) (renewals-kept L (came e) q.counted refl) ∙ h.renewals) (refusing-kept L (came e) q.message ∙ h.newest_hub)
-    (links-over b.made b.busy s.links ls L name e over sets h.links) (λ k. tries-closed s.links ls name k sets) h
+    (links-over b.made b.busy s.links ls L name e over sets h.links) (λ k. tries-closed s.links ls name k sets) (agrees-set b.spare s ls name _ sets touches h.spare) h
 
 -- ---- the events
 
@@ -117,14 +120,14 @@ abbrev Stands_at : Base → List Action → State → Log → ℕ → NodeEvent 
 Stands_at b out s L t ev = Stands (at_time t b) out s (L ++ came (at t ev) ∷ [])
 
 pub lost-came : (b : Base) (out : List Action) (s : State) (L : Log) (t : ℕ) (ev : NodeEvent) (name : LinkName) (ls : Links) → ev ≡ Lost name → Sets s.links ls name (with_machine Gone (link_at s.links name))
-    → Stands b out s L → Stands (at_time t b) out (record s { links = ls }) (L ++ came (at t ev) ∷ [])
-lost-came b out s L t ev name ls is sets h =
-    subst (Stands_at b out (record s { links = ls }) L t) (sym is) (over-came b out s L (at t (Lost name)) name ls (silent t (Lost name) refl refl refl refl) (λ other. refl) sets h)
+    → Touches s.links ls name → Stands b out s L → Stands (at_time t b) out (record s { links = ls }) (L ++ came (at t ev) ∷ [])
+lost-came b out s L t ev name ls is sets touches h =
+    subst (Stands_at b out (record s { links = ls }) L t) (sym is) (over-came b out s L (at t (Lost name)) name ls (silent t (Lost name) refl refl refl refl) (λ other. refl) sets touches h)
 
 pub failed-came : (b : Base) (out : List Action) (s : State) (L : Log) (t : ℕ) (ev : NodeEvent) (name : LinkName) (ls : Links) → ev ≡ DialFailed name → Sets s.links ls name (with_machine Gone (link_at s.links name))
-    → Stands b out s L → Stands (at_time t b) out (record s { links = ls }) (L ++ came (at t ev) ∷ [])
-failed-came b out s L t ev name ls is sets h =
-    subst (Stands_at b out (record s { links = ls }) L t) (sym is) (over-came b out s L (at t (DialFailed name)) name ls (silent t (DialFailed name) refl refl refl refl) (λ other. refl) sets h)
+    → Touches s.links ls name → Stands b out s L → Stands (at_time t b) out (record s { links = ls }) (L ++ came (at t ev) ∷ [])
+failed-came b out s L t ev name ls is sets touches h =
+    subst (Stands_at b out (record s { links = ls }) L t) (sym is) (over-came b out s L (at t (DialFailed name)) name ls (silent t (DialFailed name) refl refl refl refl) (λ other. refl) sets touches h)
 
 pub hub-came : (b : Base) (out : List Action) (s : State) (L : Log) (t : ℕ) (ev : NodeEvent) (side : Side) (o : List ℕ) → ev ≡ Came (Hub side) o → Stands b out s L
     → Stands (at_time t b) out (record s { newest_hub = Some side }) (L ++ came (at t ev) ∷ [])
@@ -133,7 +136,7 @@ hub-came b out s L t ev side o is h =
     subst (Stands_at b out (record s { newest_hub = Some side }) L t) (sym is)
     (came-stands b out s L e s.own s.finishing s.renewals (Some side) s.links (own-kept b.made L (came e) refl ∙ h.own) (finishing-kept L (came e) refl ∙ h.finishing)
     (ap (λ k. min 8 k) (renewals-kept L (came e) refl refl) ∙ h.renewals) (newest_of-more hub_message_of L (came e))
-    (λ name n. link-kept b.made b.busy L (came e) name (link_at s.links name) refl refl refl refl (h.links name n)) (λ k. refl) h)
+    (λ name n. link-kept b.made b.busy L (came e) name (link_at s.links name) refl refl refl refl (h.links name n)) (λ k. refl) h.spare h)
 
 pub slot-came : (b : Base) (out : List Action) (s : State) (L : Log) (t : ℕ) (ev : NodeEvent) (k : ℕ) (o : List ℕ) → ev ≡ Came (Direct k) o → Stands b out s L → Stands (at_time t b) out s (L ++ came (at t ev) ∷ [])
 slot-came b out s L t ev k o is h =
@@ -145,7 +148,7 @@ finish-came b out s L t ev is h =
     subst (Stands_at b out (record s { finishing = true }) L t) (sym is)
     (came-stands b out s L e s.own true s.renewals s.newest_hub s.links (own-kept b.made L (came e) refl ∙ h.own) (list_any-more is_finish L (came e) ∙ or_true (list_any is_finish L))
     (ap (λ k. min 8 k) (renewals-kept L (came e) refl refl) ∙ h.renewals) (refusing-kept L (came e) refl ∙ h.newest_hub)
-    (λ name n. link-kept b.made b.busy L (came e) name (link_at s.links name) refl refl refl refl (h.links name n)) (λ k. refl) h)
+    (λ name n. link-kept b.made b.busy L (came e) name (link_at s.links name) refl refl refl refl (h.links name n)) (λ k. refl) h.spare h)
 
 one_renewal : (L : Log) (t w : ℕ) → renewals (L ++ came (at t (Random w)) ∷ []) ≡ renewals L + 1
 one_renewal L t w =
@@ -163,7 +166,7 @@ word-came b out s L t ev w r v is ve re h =
     subst (Stands_at b out (record s { own = record s.own { vmac = v }; renewals = r }) L t) (sym is)
     (came-stands b out s L e (record s.own { vmac = v }) s.finishing r s.newest_hub s.links drawn (finishing-kept L (came e) refl ∙ h.finishing)
     (omega (arith, one, k, re)) (refusing-kept L (came e) refl ∙ h.newest_hub)
-    (λ name n. link-kept b.made b.busy L (came e) name (link_at s.links name) refl refl refl refl (h.links name n)) (λ j. refl) h)
+    (λ name n. link-kept b.made b.busy L (came e) name (link_at s.links name) refl refl refl refl (h.links name n)) (λ j. refl) h.spare h)
 
 pub other-came : (b : Base) (out : List Action) (s : State) (L : Log) (t : ℕ) (ev : NodeEvent) → ((name : LinkName) → ev ≡ DialFailed name → ⊥) → ((name : LinkName) (o : List ℕ) → ev ≡ Came name o → ⊥)
     → ((name : LinkName) → ev ≡ Lost name → ⊥) → (ev ≡ Finish → ⊥) → ((w : ℕ) → ev ≡ Random w → ⊥) → Stands b out s L → Stands (at_time t b) out s (L ++ came (at t ev) ∷ [])

@@ -1,4 +1,5 @@
 pub mod More
+pub mod Untouched
 pub mod Lines
 pub mod Closing
 pub mod Wants

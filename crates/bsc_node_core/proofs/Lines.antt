@@ -34,6 +34,7 @@ use Rattle.bsc_node_core.specs.declared.state.State.{State}
 use Rattle.bsc_node_core.specs.Tables.{Kept, link_at}
 use Rattle.bsc_node_core.specs.Standing.{Base, next_after, renewals_after, dropped_after, HaveCome, TakenStands, MachineStands, LinkStands, Stands}
 use Rattle.bsc_node_core.proofs.More.{now-kept, own-kept, next-kept, finishing-kept, renewals-kept, refusing-kept, dropped-kept, tries-kept, there-kept, taken-kept, start-kept, initiating-kept, accepting-kept, since-now, count-one_more, filter-one_more}
+use Rattle.bsc_node_core.proofs.Untouched.{agrees-slots}
 use Rattle.bsc_lemmas.proofs.Lists.{filter_map_none as filter-kept}
 use Rattle.bsc_node.proofs.Common.{hub_events-kept, resolve_calls-kept, slot_calls-kept}
 
@@ -112,6 +113,7 @@ acts b out s L action n begins over next h =
       asked = resolve_calls-kept L m refl ∙ h.asked;
       links = λ name n. link-kept b.made b.busy L m name (link_at s.links name) (begins name) (over name) refl refl (h.links name n);
       tries = λ k w. ap (λ c. min c 18446744073709551615) (tries-kept k L m (ap is_some (begins (Direct k))) refl) ∙ h.tries k w;
+      spare = h.spare;
       actions = came-did b out L action h.actions;
     }
 
@@ -141,7 +143,7 @@ came-other b out L m n h = record {
 
 -- Something that is no claim happens to the slots.
 pub slot-stands : (b : Base) (out : List Action) (s : State) (L : Log) (call : SlotCall) (d : SlotTable) → ((k : ℕ) → is_claim_of k (slot call) ≡ false) → DirectStands d (slot_calls L ++ call ∷ [])
-    → Stands b out s L → Stands b out (record s { direct = d }) (L ++ slot call ∷ [])
+    → Stands b out s L → Stands b out (record s { direct = d; direct_touched = true }) (L ++ slot call ∷ [])
 slot-stands b out s L call d claims stands h = record {
   now = now-kept L (slot call) refl ∙ h.now;
   own = own-kept b.made L (slot call) refl ∙ h.own;
@@ -155,6 +157,7 @@ slot-stands b out s L call d claims stands h = record {
   asked = resolve_calls-kept L (slot call) refl ∙ h.asked;
   links = λ name n. link-kept b.made b.busy L (slot call) name (link_at s.links name) refl refl refl refl (h.links name n);
   tries = λ k w. ap (λ c. min c 18446744073709551615) (tries-kept k L (slot call) refl (claims k)) ∙ h.tries k w;
+  spare = agrees-slots b.spare s d h.spare;
   actions = came-other b out L (slot call) refl h.actions;
 }
 
@@ -188,6 +191,7 @@ told-connector b out s L e c stands h = record {
   asked = resolve_calls-kept L (connector e) refl ∙ h.asked;
   links = λ name n. link-kept b.made b.busy L (connector e) name (link_at s.links name) refl refl refl refl (h.links name n);
   tries = λ k w. ap (λ n. min n 18446744073709551615) (tries-kept k L (connector e) refl refl) ∙ h.tries k w;
+  spare = h.spare;
   actions = came-other b out L (connector e) refl h.actions;
 }
 

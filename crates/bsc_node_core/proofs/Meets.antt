@@ -101,12 +101,12 @@ not-up e (inr h) u = up-not-wrong (sym u ∙ h.1)
 
 -- The slot comes up, and that is told.
 up-stands : (b : Base) (out told : List Action) (s : State) (L : Log) (k : ℕ) (who : Identity) (d : SlotTable) (answer : Establish) (r : Option ℕ) → Answers s.direct d s.own.vmac k who answer → answer ≡ IsUp r
-    → told ≡ out ++ Tell (DirectUp who.vmac) ∷ [] → Stands b out s L → Stands b told (record s { direct = d }) ((L ++ slot (Up k who) ∷ []) ++ did (Tell (DirectUp who.vmac)) ∷ [])
+    → told ≡ out ++ Tell (DirectUp who.vmac) ∷ [] → Stands b out s L → Stands b told (record s { direct = d; direct_touched = true }) ((L ++ slot (Up k who) ∷ []) ++ did (Tell (DirectUp who.vmac)) ∷ [])
 up-stands b out told s L k who d answer r a e t h =
     let stands : DirectStands d (slot_calls L ++ Up k who ∷ []) = subst (λ (x : Establish). DirectStands d (and_up x (slot_calls L) k who)) e (a (slot_calls L) h.direct).1 in
-    let up : Stands b out (record s { direct = d }) (L ++ slot (Up k who) ∷ []) = slot-stands b out s L (Up k who) d (λ j. refl) stands h in
-    subst (λ os. Stands b os (record s { direct = d }) ((L ++ slot (Up k who) ∷ []) ++ did (Tell (DirectUp who.vmac)) ∷ [])) (sym t)
-    (tell-stands b out (record s { direct = d }) (L ++ slot (Up k who) ∷ []) (DirectUp who.vmac) up)
+    let up : Stands b out (record s { direct = d; direct_touched = true }) (L ++ slot (Up k who) ∷ []) = slot-stands b out s L (Up k who) d (λ j. refl) stands h in
+    subst (λ os. Stands b os (record s { direct = d; direct_touched = true }) ((L ++ slot (Up k who) ∷ []) ++ did (Tell (DirectUp who.vmac)) ∷ [])) (sym t)
+    (tell-stands b out (record s { direct = d; direct_touched = true }) (L ++ slot (Up k who) ∷ []) (DirectUp who.vmac) up)
 
 -- The answer is the log's.
 pub answered-up : (b : Base) (out : List Action) (s : State) (L : Log) (k : ℕ) (who : Identity) (d : SlotTable) (answer : Establish) (replaced : Option ℕ) → Answers s.direct d s.own.vmac k who answer
@@ -115,7 +115,7 @@ answered-up b out s L k who d answer replaced a e h = (a (slot_calls L) h.direct
 
 pub came-up : (b : Base) (out told later : List Action) (s s' : State) (L : Log) (k : ℕ) (who : Identity) (d : SlotTable) (answer : Establish) (r replaced : Option ℕ) → Answers s.direct d s.own.vmac k who answer → answer ≡ IsUp r
     → told ≡ out ++ Tell (DirectUp who.vmac) ∷ [] → establish b.made k who L ≡ IsUp replaced → Stands b out s L
-    → ((M : Log) → ((j : ℕ) → r ≡ Some j → is_name (Direct j) ≡ true) → Stands b told (record s { direct = d }) M → Stands b later s' (M ++ finishes_replaced b.made r M))
+    → ((M : Log) → ((j : ℕ) → r ≡ Some j → is_name (Direct j) ≡ true) → Stands b told (record s { direct = d; direct_touched = true }) M → Stands b later s' (M ++ finishes_replaced b.made r M))
     → Stands b later s' (L ++ comes_up b.made k who replaced L)
 came-up b out told later s s' L k who d answer r replaced a ae t e h finishes =
     let same : r ≡ replaced = up-same (sym ae ∙ answered-up b out s L k who d answer replaced a e h) in

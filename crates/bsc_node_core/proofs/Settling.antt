@@ -56,6 +56,7 @@ any-busy b busy out s L rest h = record {
   asked = h.asked;
   links = λ name n. link-at-rest b.made b.busy busy L name (link_at s.links name) (rest name n) (h.links name n);
   tries = h.tries;
+  spare = h.spare;
   actions = same-actions b busy out L h.actions;
 }
 

@@ -14,7 +14,10 @@ use Rattle.bsc_node.specs.Logs.{Made}
 use Rattle.bsc_node_core.specs.declared.link.Link.{Link}
 use Rattle.bsc_node_core.specs.declared.links.Links.{Links}
 use Rattle.bsc_node_core.specs.Tables.{Kept, kept_of, kept_in, nothing_kept, link_at}
+use Rattle.bsc_node_core.specs.declared.state.State.{State}
+use Rattle.bsc_node_core.specs.Spares.{KeepsSame}
 use Rattle.bsc_node_core.specs.Standing.{LinkStands}
+use Rattle.bsc_node_core.proofs.Copying.{copy-agrees}
 use Rattle.bsc_node_core.specs.Resolving.{BothStand}
 use Rattle.bsc_node_core.specs.Node.{at_rest}
 
@@ -35,11 +38,14 @@ none-kept ls p f s (Direct k) = s k
 
 -- ---- the node
 
+-- what a node keeps to which nothing came
+abbrev pub as_made : Made → Connector → Links → SlotTable → State
+as_made a c ls d = record { own = a.own; next = 1; finishing = false; renewals = 0; newest_hub = None; dropped = false; connector = c; links = ls; direct = d; direct_touched = false }
+
 pub made-stands : (a : Made) (r : Resolve) (c : Connector) (d : SlotTable) (ls : Links) (failover : Bool) → failover ≡ is_some a.limits.failover
     → ConnectorStands c (record { failover = failover; least = a.limits.least_wait; greatest = a.limits.greatest_wait }) [] → DirectStands d [] → kept_of ls.primary ≡ nothing_kept → kept_of ls.failover ≡ nothing_kept → ((k : ℕ) → kept_in (slice_get ls.slots.items k) ≡ nothing_kept)
-    → ResolveStands r a.limits.times.connect_wait []
-    → BothStand (at_rest a []) [] (record { own = a.own; next = 1; finishing = false; renewals = 0; newest_hub = None; dropped = false; connector = c; links = ls; direct = d }) r []
-made-stands a r c d ls failover f cs ds primary other slots rs =
+    → ResolveStands r a.limits.times.connect_wait [] → (spare : State) → KeepsSame (as_made a c ls d) spare → BothStand (at_rest a [] spare) [] (as_made a c ls d) r []
+made-stands a r c d ls failover f cs ds primary other slots rs spare copy =
     let none = none-kept ls primary other slots in record {
       state = record {
         now = refl;
@@ -54,6 +60,7 @@ made-stands a r c d ls failover f cs ds primary other slots rs =
         asked = refl;
         links = λ name n. subst (λ (l : Kept). LinkStands a None [] name l) (sym (none name)) (record { there = refl; machine = tt; peer = refl });
         tries = λ k w. sym (ap (λ (l : Kept). l.tries) (none (Direct k)));
+        spare = copy-agrees (as_made a c ls d) spare copy;
         actions = record { lines = []; log = refl; actions = refl };
       };
       resolution = rs;

@@ -42,11 +42,12 @@ use Rattle.bsc_node_core.specs.declared.machine.Machine.TheVariants.{Gone, Over,
 use Rattle.bsc_node_core.specs.declared.links.Links.{Links}
 use Rattle.bsc_node_core.specs.declared.state.State.{State}
 use Rattle.bsc_node_core.specs.Machines.{says_there, asks, taken_in, dialled_after, taken_after, dialled_peer, taken_peer, may_tell_dialled, may_tell_taken}
-use Rattle.bsc_node_core.specs.Tables.{Kept, link_at, is_name, Sets, with_machine_and_peer}
+use Rattle.bsc_node_core.specs.Tables.{Kept, link_at, is_name, Sets, Touches, with_machine_and_peer}
 use Rattle.bsc_node_core.specs.Standing.{Base, DialledStands, TakenStands, MachineStands, LinkStands, Stands}
 use Rattle.bsc_node_core.specs.Telling.{busy_with, IsLeft, HasTold}
 use Rattle.bsc_node_core.proofs.More.{now-kept, own-kept, next-kept, finishing-kept, renewals-kept, refusing-kept, dropped-kept, tries-kept, there-kept, taken-kept, start-kept, initiating-kept, accepting-kept}
 use Rattle.bsc_node_core.proofs.Lines.{link-kept, came-other}
+use Rattle.bsc_node_core.proofs.Untouched.{agrees-set}
 use Rattle.bsc_node_core.proofs.Naming.{accept-goes-on, accepted-goes-on, ask-goes-on, asked-goes-on}
 use Rattle.bsc_node.proofs.Common.{hub_events-kept, resolve_calls-kept, same_link-is, slot_calls-kept}
 
@@ -138,9 +139,9 @@ tries-told old new name kept k n sets t = by (same_link name (Direct k)) refl
     by true x = subst (λ (other : LinkName). (link_at new other).tries ≡ (link_at old other).tries) (same_link-is name (Direct k) x) (ap (λ (l : Kept). l.tries) (set-at old new name kept n sets) ∙ t)
     by false x = ap (λ (l : Kept). l.tries) (set-other old new name (Direct k) kept x sets)
 
-told-stands : (b : Base) (out : List Action) (s : State) (L : Log) (name : LinkName) (m : Line) (kept : Kept) (ls : Links) → Tells name m → is_name name ≡ true → Sets s.links ls name kept → kept.tries ≡ (link_at s.links name).tries
+told-stands : (b : Base) (out : List Action) (s : State) (L : Log) (name : LinkName) (m : Line) (kept : Kept) (ls : Links) → Tells name m → is_name name ≡ true → Sets s.links ls name kept → Touches s.links ls name → kept.tries ≡ (link_at s.links name).tries
     → LinkStands b.made b.busy (L ++ m ∷ []) name kept → Stands b out s L → Stands b out (record s { links = ls }) (L ++ m ∷ [])
-told-stands b out s L name m kept ls t n sets same stands h = record {
+told-stands b out s L name m kept ls t n sets touches same stands h = record {
   now = now-kept L m t.event ∙ h.now;
   own = own-kept b.made L m t.renewal ∙ h.own;
   next = next-kept L m t.number ∙ h.next;
@@ -153,6 +154,7 @@ told-stands b out s L name m kept ls t n sets same stands h = record {
   asked = resolve_calls-kept L m t.resolve_call ∙ h.asked;
   links = links-told b.made b.busy L name m kept s.links ls t n sets stands h.links;
   tries = λ k w. ap (λ c. min c 18446744073709551615) (tries-kept k L m (ap is_some (t.beginning (Direct k))) (t.claim k)) ∙ h.tries k w ∙ sym (tries-told s.links ls name kept k n sets same);
+  spare = agrees-set b.spare s ls name kept sets touches h.spare;
   actions = came-other b out L m t.action h.actions;
 }
 
@@ -236,15 +238,15 @@ module _ (a : Made) (L : Log) (name : LinkName) (e : InitEvent) (before later : 
 
 -- The machine of a link that was dialled makes a step.
 pub dialled-told : (b : Base) (out : List Action) (s : State) (L : Log) (name : LinkName) (e : InitEvent) (before later : Initiating) (step : InitStep) (ls : Links) (u : Outcome) → initiating_outcome e step ≡ u
-    → Sets s.links ls name (with_machine_and_peer (dialled_after later step) (dialled_peer step (link_at s.links name).peer) (link_at s.links name))
+    → Sets s.links ls name (with_machine_and_peer (dialled_after later step) (dialled_peer step (link_at s.links name).peer) (link_at s.links name)) → Touches s.links ls name
     → (link_at s.links name).machine ≡ Dialled before → is_name name ≡ true → IN.Answers before later e step → may_tell_dialled before.stage e ≡ true → Stands (busy_with name b) out s L
     → HasTold b out (record s { links = ls }) (L ++ initiating name e ∷ []) name u
-dialled-told b out s L name e before later step ls u ou sets is n answers may h =
+dialled-told b out s L name e before later step ls u ou sets touches is n answers may h =
     let d : DialledStands b.made L name before = subst (λ (m : Machine). MachineStands b.made (Some name) L name m) is (h.links name n).machine in
     let ans = answers (start b.made L name) (initiating_events L name) d.machine in
     let kept : Kept = with_machine_and_peer (dialled_after later step) (dialled_peer step (link_at s.links name).peer) (link_at s.links name) in
     record {
-      stands = told-stands (busy_with name b) out s L name (initiating name e) kept ls (tells-dialled name e) n sets refl
+      stands = told-stands (busy_with name b) out s L name (initiating name e) kept ls (tells-dialled name e) n sets touches refl
           (dialled-link b.made L name e before later step d may ans (link_at s.links name) (h.links name n) (ap says_there is)) h;
       newest = dialled-outcome b.made L name e before later step d may ans ∙ ou;
       left = subst (λ (v : Outcome). IsLeft v (was_taken name (L ++ initiating name e ∷ [])) (link_at ls name).machine) ou
@@ -346,16 +348,16 @@ there-before (Asked m) before is = refl
 -- The machine of a link that was taken makes a step.
 pub taken-told : (b : Base) (out : List Action) (s : State) (L : Log) (name : LinkName) (e : Event) (before later : Accepting) (step : Step) (ls : Links) (u : Outcome)
     → accepting_outcome (A.standing (accepting_events L name)) e step ≡ u
-    → Sets s.links ls name (with_machine_and_peer (taken_after later step) (taken_peer step (link_at s.links name).peer) (link_at s.links name))
+    → Sets s.links ls name (with_machine_and_peer (taken_after later step) (taken_peer step (link_at s.links name).peer) (link_at s.links name)) → Touches s.links ls name
     → taken_in (link_at s.links name).machine ≡ Some before → is_name name ≡ true → AN.Answers before later e step → may_tell_taken before.stage e ≡ true → Stands (busy_with name b) out s L
     → HasTold b out (record s { links = ls }) (L ++ accepting name e ∷ []) name u
-taken-told b out s L name e before later step ls u ou sets is n answers may h =
+taken-told b out s L name e before later step ls u ou sets touches is n answers may h =
     let d : TakenStands b.made L name before = taken-before b.made (Some name) L name (link_at s.links name).machine before is (h.links name n).machine in
     let ans = answers (start b.made L name) (accepting_events L name) d.machine in
     let kept : Kept = with_machine_and_peer (taken_after later step) (taken_peer step (link_at s.links name).peer) (link_at s.links name) in
     let g = A.standing (accepting_events L name) in
     record {
-      stands = told-stands (busy_with name b) out s L name (accepting name e) kept ls (tells-taken name e) n sets refl
+      stands = told-stands (busy_with name b) out s L name (accepting name e) kept ls (tells-taken name e) n sets touches refl
           (taken-link b.made L name e before later step d may ans (link_at s.links name) (h.links name n) (there-before (link_at s.links name).machine before is)) h;
       newest = taken-outcome b.made L name e before later step d may ans ∙ ou;
       left = subst (λ (v : Outcome). IsLeft v (was_taken name (L ++ accepting name e ∷ [])) (link_at ls name).machine) ou

@@ -1,6 +1,7 @@
 pub mod Machines
 pub mod Events
 pub mod Tables
+pub mod Spares
 pub mod Standing
 pub mod Rules
 pub mod Resolving

@@ -9,17 +9,19 @@ use Rattle.bsc_node.specs.Node.{goes_on, actions_at}
 use Rattle.bsc_node.specs.Conditions.{may_come}
 use Rattle.bsc_node.specs.Soundness.{begins_in_slots}
 use Rattle.bsc_node_core.specs.declared.node.Node.{Node}
+use Rattle.bsc_node_core.specs.declared.state.State.{State}
 use Rattle.bsc_node_core.specs.Standing.{Base}
 use Rattle.bsc_node_core.specs.Resolving.{BothStand}
 
 -- between two events: nothing was done since this log, and no step of a link's machine is left to carry out
-abbrev pub at_rest : Made → Log → Base
-at_rest a L = record { made = a; before = L; now = now L; asked = resolve_calls L; busy = None }
+abbrev pub at_rest : Made → Log → State → Base
+at_rest a L spare = record { made = a; before = L; now = now L; asked = resolve_calls L; busy = None; spare = spare }
 
--- A node was made so, and what it keeps is what this log says. No link began in the log but those of its hubs and slots.
+-- A node was made so, and what it keeps is what this log says; what wasn't touched of it since, its spare keeps too. No link
+-- began in the log but those of its hubs and slots.
 pub record StandsFor (node : Node) (a : Made) (L : Log) : Type 0 where
   pub limits : a.limits ≡ node.limits
-  pub kept : BothStand (at_rest a L) [] node.state node.resolve L
+  pub kept : BothStand (at_rest a L node.spare) [] node.state node.resolve L
   pub begun : IsTrue (list_all begins_in_slots L)
 
 -- For whatever log it stood after which the event may come, it does what the definition asks for, and stands for the log

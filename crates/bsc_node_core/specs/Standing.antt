@@ -29,6 +29,7 @@ use Rattle.bsc_node_core.specs.declared.machine.Machine.TheVariants.{Gone, Over,
 use Rattle.bsc_node_core.specs.declared.state.State.{State}
 use Rattle.bsc_node_core.specs.Machines.{says_there}
 use Rattle.bsc_node_core.specs.Tables.{Kept, link_at, is_name}
+use Rattle.bsc_node_core.specs.Spares.{Agrees}
 
 -- Whether its peer has accepted, by the state of a machine that the node dialled with; before the Connect-Request no message
 -- came.
@@ -73,13 +74,14 @@ pub record LinkStands (a : Made) (busy : Option LinkName) (L : Log) (name : Link
   pub peer : peer L name ≡ l.peer
 
 -- What a node was made with; the log that it stood for before the newest event came, the time of that event, and what had
--- happened to its address resolution; and the link whose machine's newest step isn't carried out yet.
+-- happened to its address resolution; the link whose machine's newest step isn't carried out yet; and what the node kept then.
 pub record Base : Type 0 where
   pub made : Made
   pub before : Log
   pub now : ℕ
   pub asked : List ResolveCall
   pub busy : Option LinkName
+  pub spare : State
 
 -- The actions since then.
 pub record HaveCome (b : Base) (out : List Action) (L : Log) : Type 0 where
@@ -87,7 +89,7 @@ pub record HaveCome (b : Base) (out : List Action) (L : Log) : Type 0 where
   pub log : L ≡ b.before ++ lines
   pub actions : out ≡ filter_map action_of lines
 
--- What a node keeps is what the log says.
+-- What a node keeps is what the log says, and what wasn't touched of it is as it was before the newest event came.
 pub record Stands (b : Base) (out : List Action) (s : State) (L : Log) : Type 0 where
   pub now : now L ≡ b.now
   pub own : own b.made L ≡ s.own
@@ -101,6 +103,7 @@ pub record Stands (b : Base) (out : List Action) (s : State) (L : Log) : Type 0 
   pub asked : resolve_calls L ≡ b.asked
   pub links : (name : LinkName) → is_name name ≡ true → LinkStands b.made b.busy L name (link_at s.links name)
   pub tries : (k : ℕ) → k < 64 → min (tries k L) 18446744073709551615 ≡ (link_at s.links (Direct k)).tries
+  pub spare : Agrees b.spare s
   pub actions : HaveCome b out L
 
 -- the number of the next message once these octets are put: a response has none of its own

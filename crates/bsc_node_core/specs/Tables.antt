@@ -1,5 +1,5 @@
 -- What is kept of the links, by their names.
-use Rattle.std.specs.Prelude.{◌≡◌, ℕ, ◌+◌, ◌&&◌, nat_lt, if◌then◌else◌, min, Bool, true, Option, Some, None, slice_get}
+use Rattle.std.specs.Prelude.{◌≡◌, ℕ, ◌+◌, ◌&&◌, nat_lt, if◌then◌else◌, min, Bool, true, false, Option, Some, None, slice_get}
 use Rattle.std.specs.Option.{option_map}
 use Rattle.bsc_octets.specs.declared.identity.Identity.{Identity}
 use Rattle.bsc_octets.specs.declared.vmac.Vmac.{Vmac}
@@ -14,6 +14,8 @@ use Rattle.bsc_node_core.specs.declared.machine.Machine.TheVariants.{Gone}
 use Rattle.bsc_node_core.specs.Machines.{phase_kept}
 use Rattle.bsc_node_core.specs.declared.link.Link.{Link}
 use Rattle.bsc_node_core.specs.declared.links.Links.{Links}
+use Rattle.bsc_node_core.specs.declared.touched.Touched.{Touched}
+use Rattle.bsc_node_core.specs.declared.touched.Touched.TheVariants.{Nothing, One, Many}
 
 -- What is kept of one link: its machine, its peer, and how often it began since its slot was claimed.
 pub record Kept : Type 0 where
@@ -47,7 +49,23 @@ is_name (Direct k) = nat_lt k 64
 abbrev pub Sets : Links → Links → LinkName → Kept → Type 0
 Sets old new name kept = (other : LinkName) → link_at new other ≡ (if same_link name other && is_name name then kept else link_at old other)
 
--- how a link goes on
+-- ---- which links were touched
+
+-- Whether the link of a name is among those that were touched.
+abbrev pub is_touched : Touched → LinkName → Bool
+is_touched Nothing name = false
+is_touched (One touched) name = same_link touched name
+is_touched Many name = true
+
+-- The link of a name is touched, beside those that were.
+abbrev pub Touches : Links → Links → LinkName → Type 0
+Touches old new name = (other : LinkName) → is_touched new.touched other ≡ false → (same_link name other ≡ false) × (is_touched old.touched other ≡ false)
+
+-- A link that wasn't touched is as it is among these.
+abbrev pub AgreeUntouched : Links → Links → Type 0
+AgreeUntouched spare links = (name : LinkName) → is_name name ≡ true → is_touched links.touched name ≡ false → link_at links name ≡ link_at spare name
+
+-- ---- how a link goes on
 
 abbrev pub with_machine : Machine → Kept → Kept
 with_machine machine l = record l { machine = machine }

@@ -25,7 +25,8 @@ use bsc_resolve::Resolve;
 use std::alloc::Global;
 
 impl Node {
-    /// A node to which nothing came yet.
+    /// A node to which nothing came yet. What it keeps of its links and slots takes memory here, twice over, and later
+    /// no more.
     pub fn make(alloc: Global, own: Identity, limits: NodeLimits) -> Result<Node, NoMemory>
         requires { IfSome limits.uris IsUtf8 }
         ensures { IfOk result (λ node. StandsFor node (record { own = own; limits = limits }) []) }
@@ -46,10 +47,13 @@ impl Node {
             connector,
             links: Links::make(alloc)?,
             direct: Direct::make(alloc)?,
+            direct_touched: false,
         };
+        let spare = state.copy(alloc)?;
         Ok(Node {
             limits,
             state,
+            spare,
             resolve,
         })
     }
@@ -65,6 +69,7 @@ impl Node {
         requires time { now < 2 ^ 62 }
         requires octets { HasOctets event.now }
         ensures limits { self.new.limits ≡ self.old.limits }
+        ensures spare { self.new.spare ≡ self.old.spare }
         ensures goes { OnOk result ((b : Base) (L : Log) → b.made.limits ≡ self.old.limits → b.now ≡ now → b.busy ≡ None → MayFollow event.now L
             → BothStand b out.old self.old.state self.old.resolve L → BothStand b out.new self.new.state self.new.resolve (L ++ follows b.made event.now L)) }
         ensures err { OnErr result (IsUnchangedResolve self.old.resolve self.new.resolve) }
@@ -101,20 +106,23 @@ impl Node {
 
     /// Something comes to the node, at this time in milliseconds: what it does.
     ///
-    /// After `NoMemory` the node is as it was, and the same event may be given again.
+    /// Memory is taken for what is done alone. After `NoMemory` the node is as it was, and the same event may be given
+    /// again.
     pub fn event(&mut self, alloc: Global, now: u64, event: &NodeEvent) -> Result<Actions, NoMemory>
         requires time { now < 2 ^ 62 }
         requires octets { HasOctets event.now }
         ensures ok { IfOk result (λ actions. Answers self.old self.new (record { now = now; event = event.now }) actions) }
         ensures err { OnErr result (IsUnchanged self.old self.new) }
     {
-        let before = self.state.copy(alloc)?;
+        self.spare.catch_up(&self.state);
+        self.state.touch_nothing();
         let mut out = Actions::new(alloc);
         self.state.comes(event);
         match self.follow(&mut out, alloc, now, event) {
             Ok(()) => Ok(out),
             Err(NoMemory) => {
-                self.state = before;
+                self.spare.touch_all();
+                self.state.catch_up(&self.spare);
                 Err(NoMemory)
             }
         }

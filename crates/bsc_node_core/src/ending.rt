@@ -285,6 +285,7 @@ impl State {
     {
         self.tell_down(out, k)?;
         self.direct.release(k);
+        self.direct_touched = true;
         Ok(())
     }
 

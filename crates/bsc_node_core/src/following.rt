@@ -72,6 +72,7 @@ impl State {
     {
         match self.direct.claim(None) {
             Ok(k) => {
+                self.direct_touched = true;
                 self.links.claim(k);
                 self.take(out, limits.times, now, k)
             }

@@ -25,6 +25,7 @@ mod receiving;
 mod requesting;
 mod state;
 mod stepping;
+mod touched;
 mod underway;
 mod uris;
 mod way;

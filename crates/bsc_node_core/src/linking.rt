@@ -1,5 +1,5 @@
 //! The links of a node, by their names.
-ghost use Rattle.std.specs.Prelude.{◌≡◌, IfOk, not, true, ℕ, slice_get};
+ghost use Rattle.std.specs.Prelude.{◌≡◌, IfOk, not, true, ℕ, slice_get, length, vec_len};
 ghost use Rattle.std.specs.List.{list_any};
 ghost use Rattle.bsc_node.specs.declared.link_name.LinkName.{LinkName};
 ghost use Rattle.bsc_node.specs.Links.{names};
@@ -8,11 +8,13 @@ ghost use Rattle.bsc_node_core.specs.declared.machine.Machine.{Machine};
 ghost use Rattle.bsc_accept.specs.Standing.{LeftBy as LeavesAccepting};
 ghost use Rattle.bsc_initiate.specs.Standing.{LeftBy as LeavesInitiating};
 ghost use Rattle.bsc_node_core.specs.Machines.{dialled_after, dialled_peer, is_fit, says_there, taken_after, taken_peer};
-ghost use Rattle.bsc_node_core.specs.Tables.{Sets, begun, claimed, kept_in, kept_of, link_at, nothing_kept, with_machine, with_machine_and_peer, with_peer};
+ghost use Rattle.bsc_node_core.specs.Tables.{AgreeUntouched, Sets, Touches, begun, claimed, is_name, kept_in, kept_of, link_at, nothing_kept};
+ghost use Rattle.bsc_node_core.specs.Tables.{with_machine, with_machine_and_peer, with_peer};
 
 use crate::link::Link;
 use crate::links::{Links, SLOTS};
 use crate::machine::Machine;
+use crate::touched::Touched;
 use bsc_accept::{Accepting, Step};
 use bsc_connector::Side;
 use bsc_initiate::{InitStep, Initiating};
@@ -27,6 +29,15 @@ fn any_there(links: &[Link]) -> bool
     links.iter().any(|link| link.is_there())
 }
 
+/// Writes these links over as many others.
+fn write_over(links: &mut Vec<Link>, from: &[Link])
+    requires { vec_len links.old ≡ length from.now }
+    ensures items { links.new.items ≡ from.now }
+    ensures len { vec_len links.new ≡ vec_len links.old }
+{
+    links.as_mut_slice().copy_from_slice(from);
+}
+
 impl Links {
     /// No link ever began.
     pub(crate) fn make(alloc: Global) -> Result<Links, NoMemory>
@@ -39,6 +50,7 @@ impl Links {
             primary: none,
             failover: none,
             slots: vec![in alloc; none; 64]?,
+            touched: Touched::Nothing,
         })
     }
 
@@ -52,7 +64,43 @@ impl Links {
             primary: self.primary,
             failover: self.failover,
             slots: Vec::from_slice(alloc, self.slots.as_slice())?,
+            touched: self.touched,
         })
+    }
+
+    /// Becomes all of these, in the memory that it has.
+    fn copy_from(&mut self, links: &Links)
+        ensures primary { self.new.primary ≡ links.now.primary }
+        ensures failover { self.new.failover ≡ links.now.failover }
+        ensures slots { self.new.slots.items ≡ links.now.slots.items }
+    {
+        self.primary = links.primary;
+        self.failover = links.failover;
+        write_over(&mut self.slots, links.slots.as_slice());
+    }
+
+    /// Becomes this one of these.
+    fn copy_one(&mut self, links: &Links, name: LinkName)
+        ensures { Sets self.old self.new name (link_at links.now name) }
+    {
+        match name {
+            LinkName::Hub(Side::Primary) => self.primary = links.primary,
+            LinkName::Hub(Side::Failover) => self.failover = links.failover,
+            LinkName::Direct(k) => if k < SLOTS {
+                self.slots[k as usize] = links.slots[k as usize];
+            },
+        }
+    }
+
+    /// Becomes the same as these, of which those that weren't touched are the same already.
+    pub(crate) fn catch_up(&mut self, links: &Links)
+        ensures { AgreeUntouched self.old links.now → (name : LinkName) → is_name name ≡ true → link_at self.new name ≡ link_at links.now name }
+    {
+        match links.touched {
+            Touched::Nothing => {}
+            Touched::One(name) => self.copy_one(links, name),
+            Touched::Many => self.copy_from(links),
+        }
     }
 
     /// What is kept of a link.
@@ -71,8 +119,10 @@ impl Links {
 
     /// Keeps this of a link.
     pub(crate) fn set(&mut self, name: LinkName, link: Link)
-        ensures { Sets self.old self.new name (kept_of link) }
+        ensures sets { Sets self.old self.new name (kept_of link) }
+        ensures touches { Touches self.old self.new name }
     {
+        self.touched = self.touched.also(name);
         match name {
             LinkName::Hub(Side::Primary) => self.primary = link,
             LinkName::Hub(Side::Failover) => self.failover = link,
@@ -89,65 +139,96 @@ impl Links {
         self.get(name).is_there()
     }
 
-    /// A link is over. Its peer stays known.
-    pub(crate) fn end(&mut self, name: LinkName)
-        ensures { Sets self.old self.new name (with_machine Machine.Gone (link_at self.old name)) }
-    {
-        let link = self.get(name);
-        self.set(name, link.with_machine(Machine::Gone));
-    }
-
-    /// A link begins, with this machine.
-    pub(crate) fn begin(&mut self, name: LinkName, machine: Machine)
-        requires { is_fit machine ≡ true }
-        ensures { Sets self.old self.new name (begun machine (link_at self.old name)) }
-    {
-        let link = self.get(name);
-        self.set(name, link.begun(machine));
-    }
-
     /// The link's machine goes on.
-    pub(crate) fn go_on(&mut self, name: LinkName, machine: Machine)
+    fn go_on(&mut self, name: LinkName, machine: Machine)
         requires { is_fit machine ≡ true }
-        ensures { Sets self.old self.new name (with_machine machine (link_at self.old name)) }
+        ensures sets { Sets self.old self.new name (with_machine machine (link_at self.old name)) }
+        ensures touches { Touches self.old self.new name }
     {
-        let link = self.get(name);
-        self.set(name, link.with_machine(machine));
+        match name {
+            LinkName::Hub(side) => {
+                self.touched = self.touched.also(name);
+                match side {
+                    Side::Primary => self.primary.machine = machine,
+                    Side::Failover => self.failover.machine = machine,
+                }
+            }
+            LinkName::Direct(_) => {
+                let link = self.get(name);
+                self.set(name, link.with_machine(machine));
+            }
+        }
     }
 
     /// The peer of a link has named itself.
-    pub(crate) fn meet(&mut self, name: LinkName, who: Identity)
-        ensures { Sets self.old self.new name (with_peer who (link_at self.old name)) }
+    fn meet(&mut self, name: LinkName, who: Identity)
+        ensures sets { Sets self.old self.new name (with_peer who (link_at self.old name)) }
+        ensures touches { Touches self.old self.new name }
     {
         let link = self.get(name);
         self.set(name, link.with_peer(who));
     }
 
+    /// A link is over. Its peer stays known.
+    pub(crate) fn end(&mut self, name: LinkName)
+        ensures sets { Sets self.old self.new name (with_machine Machine.Gone (link_at self.old name)) }
+        ensures touches { Touches self.old self.new name }
+    {
+        self.go_on(name, Machine::Gone);
+    }
+
+    /// A link begins, with this machine.
+    pub(crate) fn begin(&mut self, name: LinkName, machine: Machine)
+        requires { is_fit machine ≡ true }
+        ensures sets { Sets self.old self.new name (begun machine (link_at self.old name)) }
+        ensures touches { Touches self.old self.new name }
+    {
+        let link = self.get(name);
+        self.set(name, link.begun(machine));
+    }
+
     /// The machine of a link that was dialled goes on by a step, by which its peer may have named itself.
     pub(crate) fn go_on_dialled(&mut self, name: LinkName, machine: Initiating, step: &InitStep)
         requires { LeavesInitiating step.now machine }
-        ensures { Sets self.old self.new name (with_machine_and_peer (dialled_after machine step.now) (dialled_peer step.now (link_at self.old name).peer) (link_at self.old name)) }
+        ensures sets { Sets self.old self.new name (with_machine_and_peer (dialled_after machine step.now) (dialled_peer step.now (link_at self.old name).peer) (link_at self.old name)) }
+        ensures touches { Touches self.old self.new name }
     {
-        self.go_on(name, Machine::dialled(machine, step));
-        if let InitStep::Connected(who) = step {
-            self.meet(name, *who);
+        match step {
+            InitStep::PutClose(_, _) | InitStep::Close(_) | InitStep::Refused { .. } => {
+                self.go_on(name, Machine::Over)
+            }
+            InitStep::Connected(who) => {
+                self.go_on(name, Machine::Dialled(machine));
+                self.meet(name, *who);
+            }
+            InitStep::Put(_) | InitStep::Up | InitStep::Nothing => {
+                self.go_on(name, Machine::Dialled(machine))
+            }
         }
     }
 
     /// The machine of a link that was taken goes on by a step, by which its peer may have named itself.
     pub(crate) fn go_on_taken(&mut self, name: LinkName, machine: Accepting, step: &Step)
         requires { LeavesAccepting step.now machine }
-        ensures { Sets self.old self.new name (with_machine_and_peer (taken_after machine step.now) (taken_peer step.now (link_at self.old name).peer) (link_at self.old name)) }
+        ensures sets { Sets self.old self.new name (with_machine_and_peer (taken_after machine step.now) (taken_peer step.now (link_at self.old name).peer) (link_at self.old name)) }
+        ensures touches { Touches self.old self.new name }
     {
-        self.go_on(name, Machine::taken(machine, step));
-        if let Step::Ask(who) = step {
-            self.meet(name, *who);
+        match step {
+            Step::ReplyClose(_, _) | Step::Close(_) => self.go_on(name, Machine::Over),
+            Step::Ask(who) => {
+                self.go_on(name, Machine::Asked(machine));
+                self.meet(name, *who);
+            }
+            Step::Reply(_) | Step::Carry | Step::Nothing => {
+                self.go_on(name, Machine::Taken(machine))
+            }
         }
     }
 
     /// The slot of a link was claimed: no link began in it since.
     pub(crate) fn claim(&mut self, k: u32)
-        ensures { Sets self.old self.new (LinkName.Direct k) (claimed (link_at self.old (LinkName.Direct k))) }
+        ensures sets { Sets self.old self.new (LinkName.Direct k) (claimed (link_at self.old (LinkName.Direct k))) }
+        ensures touches { Touches self.old self.new (LinkName.Direct k) }
     {
         let link = self.get(LinkName::Direct(k));
         self.set(LinkName::Direct(k), link.claimed());

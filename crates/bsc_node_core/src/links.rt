@@ -2,6 +2,7 @@
 ghost use Rattle.std.specs.Prelude.{◌≡◌, vec_len};
 
 use crate::link::Link;
+use crate::touched::Touched;
 
 /// How many slots there are.
 pub(crate) const SLOTS: u32 = 64;
@@ -12,5 +13,7 @@ pub(crate) struct Links {
     pub(crate) primary: Link,
     pub(crate) failover: Link,
     pub(crate) slots: Vec<Link>,
+    /// Which of them were touched since an event began.
+    pub(crate) touched: Touched,
     ghost all: { vec_len slots ≡ 64 },
 }

@@ -87,6 +87,7 @@ impl State {
         let own = self.own.vmac;
         let vmac = who.vmac;
         let answer = self.direct.establish(own, k, who);
+        self.direct_touched = true;
         tell(out, Note::DirectUp(vmac))?;
         match answer {
             Establish::Up { replaced } => self.finish_replaced(out, alloc, limits, now, replaced),

@@ -16,6 +16,8 @@ use bsc_resolve::Resolve;
 pub struct Node {
     pub(crate) limits: NodeLimits,
     pub(crate) state: State,
+    /// What it kept before the newest event, put back where memory was wanting.
+    pub(crate) spare: State,
     pub(crate) resolve: Resolve,
     ghost uris: { IfSome limits.uris IsUtf8 } by { Prim.hlevel props },
 }

@@ -222,6 +222,7 @@ fn dial_first(
         None => tell(out, Note::NoDirect(v)),
         Some(uri) => match state.direct.claim(Some(v)) {
             Ok(k) => {
+                state.direct_touched = true;
                 state.links.claim(k);
                 state.dial(out, limits.times, now, LinkName::Direct(k), uri)
             }

@@ -1,10 +1,9 @@
 //! What a node keeps, beside its settings and its address resolution.
-ghost use Rattle.std.specs.Prelude.{List, IfOk};
-ghost use Rattle.bsc_node.specs.declared.action.Action.{Action};
-ghost use Rattle.bsc_node.specs.Logs.{Log};
-ghost use Rattle.bsc_node_core.specs.Standing.{Base, Stands};
+ghost use Rattle.std.specs.Prelude.{◌≡◌, true, IfOk};
+ghost use Rattle.bsc_node_core.specs.Spares.{Agrees, KeepsSame};
 
 use crate::links::Links;
+use crate::touched::Touched;
 use bsc_connector::{Connector, Side};
 use bsc_direct::Direct;
 use bsc_octets::{Identity, NoMemory};
@@ -28,12 +27,14 @@ pub(crate) struct State {
     pub(crate) connector: Connector,
     pub(crate) links: Links,
     pub(crate) direct: Direct,
+    /// Whether `direct` was touched since an event began.
+    pub(crate) direct_touched: bool,
 }
 
 impl State {
-    /// The same in memory of its own: for whatever log the state stands, the copy does.
+    /// The same in memory of its own.
     pub(crate) fn copy(&self, alloc: Global) -> Result<State, NoMemory>
-        ensures { IfOk result (λ s. (b : Base) (out : List Action) (L : Log) → Stands b out self.now L → Stands b out s L) }
+        ensures { IfOk result (λ s. KeepsSame self.now s) }
     {
         Ok(State {
             own: self.own,
@@ -45,6 +46,42 @@ impl State {
             connector: self.connector,
             links: self.links.copy(alloc)?,
             direct: self.direct.copy(alloc)?,
+            direct_touched: self.direct_touched,
         })
+    }
+
+    /// Becomes the same as a state of which all that wasn't touched is the same already. No memory is taken.
+    pub(crate) fn catch_up(&mut self, state: &State)
+        ensures { Agrees self.old state.now → KeepsSame state.now self.new }
+    {
+        self.own = state.own;
+        self.next = state.next;
+        self.finishing = state.finishing;
+        self.renewals = state.renewals;
+        self.newest_hub = state.newest_hub;
+        self.dropped = state.dropped;
+        self.connector = state.connector;
+        self.links.catch_up(&state.links);
+        if state.direct_touched {
+            self.direct.copy_from(&state.direct);
+        }
+    }
+
+    /// Of the links and slots nothing was touched.
+    pub(crate) fn touch_nothing(&mut self)
+        ensures { KeepsSame self.old self.new }
+    {
+        self.links.touched = Touched::Nothing;
+        self.direct_touched = false;
+    }
+
+    /// It isn't known which links and slots were touched.
+    pub(crate) fn touch_all(&mut self)
+        ensures same { KeepsSame self.old self.new }
+        ensures links { self.new.links.touched ≡ Touched.Many }
+        ensures slots { self.new.direct_touched ≡ true }
+    {
+        self.links.touched = Touched::Many;
+        self.direct_touched = true;
     }
 }

@@ -1,46 +1,13 @@
-//! How a link's machine goes on at a step.
+//! How a link goes on.
 ghost use Rattle.std.specs.Prelude.{◌≡◌, true};
-ghost use Rattle.bsc_accept.specs.Standing.{LeftBy as LeavesAccepting};
-ghost use Rattle.bsc_initiate.specs.Standing.{LeftBy as LeavesInitiating};
-ghost use Rattle.bsc_node_core.specs.Machines.{dialled_after, is_fit, says_there, taken_after};
+ghost use Rattle.bsc_node_core.specs.Machines.{is_fit, says_there};
 ghost use Rattle.bsc_node_core.specs.Tables.{begun, claimed, kept_of, nothing_kept, with_machine, with_peer};
 
 use crate::link::Link;
 use crate::machine::Machine;
-use bsc_accept::{Accepting, Step};
-use bsc_initiate::{InitStep, Initiating};
 use bsc_octets::Identity;
 
 impl Machine {
-    /// That of a link that was dialled, after this step.
-    pub(crate) fn dialled(machine: Initiating, step: &InitStep) -> Machine
-        requires { LeavesInitiating step.now machine }
-        ensures fit { is_fit result ≡ true }
-        ensures kept { result ≡ dialled_after machine step.now }
-    {
-        match step {
-            InitStep::PutClose(_, _) | InitStep::Close(_) | InitStep::Refused { .. } => {
-                Machine::Over
-            }
-            InitStep::Put(_) | InitStep::Connected(_) | InitStep::Up | InitStep::Nothing => {
-                Machine::Dialled(machine)
-            }
-        }
-    }
-
-    /// That of a link that was taken, after this step.
-    pub(crate) fn taken(machine: Accepting, step: &Step) -> Machine
-        requires { LeavesAccepting step.now machine }
-        ensures fit { is_fit result ≡ true }
-        ensures kept { result ≡ taken_after machine step.now }
-    {
-        match step {
-            Step::ReplyClose(_, _) | Step::Close(_) => Machine::Over,
-            Step::Ask(_) => Machine::Asked(machine),
-            Step::Reply(_) | Step::Carry | Step::Nothing => Machine::Taken(machine),
-        }
-    }
-
     /// Whether the link is there.
     pub(crate) fn is_there(&self) -> bool
         ensures { result ≡ says_there self.now }

@@ -24,5 +24,5 @@ returns-in-Ok c = on_ok_weaker c.dial.result
     let name = slot-within (λ (j : ℕ). not (is_claimed (slot_calls L) j)) c.in-Ok.k a.0 in
     both-dialled b c.args.out.now _ c.args.state.now _ c.args.resolve.now L c.args.v text c.in-Some.uri c.in-Ok.k e l a.0 (sym c.in-Some.is ∙ c.in_ok-learnt_uri.ensures b.made.limits.times.connect_wait L 0 refl h.resolution)
     (g (asked_by L b) (L ++ slot (Claim c.in-Ok.k (Some c.args.v)) ∷ []) (ap (λ (x : NodeLimits). x.times) m) n name
-    (claim-stands (asked_by L b) c.args.out.now c.args.state.now L c.in-Ok.k (Some c.args.v) _ _ a.1 c.claim-in-Ok.ensures h.state)) h)
+    (claim-stands (asked_by L b) c.args.out.now c.args.state.now L c.in-Ok.k (Some c.args.v) _ _ a.1 c.claim-in-Ok.ensures.sets c.claim-in-Ok.ensures.touches h.state)) h)
     c.dial.ensures

@@ -5,10 +5,10 @@ use Rattle.bsc_node.specs.declared.node_event.NodeEvent.TheVariants.{Came}
 use Rattle.bsc_node_core.proofs.state.State.comes.Goals as goal
 
 pub returns-in-DialFailed : goal.returns-in-DialFailed
-returns-in-DialFailed c = λ b out L t h. failed-came b out c.args.self.now L t c.args.event.now c.in-DialFailed.name _ c.in-DialFailed.is c.end.ensures h
+returns-in-DialFailed c = λ b out L t h. failed-came b out c.args.self.now L t c.args.event.now c.in-DialFailed.name _ c.in-DialFailed.is c.end.ensures.sets c.end.ensures.touches h
 
 pub returns-in-Lost : goal.returns-in-Lost
-returns-in-Lost c = λ b out L t h. lost-came b out c.args.self.now L t c.args.event.now c.in-Lost.name _ c.in-Lost.is c.end-in-Lost.ensures h
+returns-in-Lost c = λ b out L t h. lost-came b out c.args.self.now L t c.args.event.now c.in-Lost.name _ c.in-Lost.is c.end-in-Lost.ensures.sets c.end-in-Lost.ensures.touches h
 
 pub returns-in-Hub : goal.returns-in-Hub
 returns-in-Hub c = λ b out L t h. hub-came b out c.args.self.now L t c.args.event.now c.in-Hub.side c.in-Came.field-1 (c.in-Came.is ∙ ap (λ (name : LinkName). Came name c.in-Came.field-1) c.in-Hub.is) h

@@ -1,6 +1,16 @@
-use Rattle.bsc_node_core.proofs.Copying.{copy-stands}
+use Rattle.std.proofs.Common.{refl}
+use Rattle.bsc_node_core.proofs.Copying.{same-links}
 use Rattle.bsc_node_core.proofs.state.State.copy.Goals as goal
 
 pub returns : goal.returns
-returns c = λ b out L h.
-    copy-stands b out c.args.self.now L _ _ c.in_ok-copy.ensures.primary c.in_ok-copy.ensures.failover c.in_ok-copy.ensures.slots c.in_ok-copy-2.ensures h
+returns c = record {
+  own = refl;
+  next = refl;
+  finishing = refl;
+  renewals = refl;
+  newest_hub = refl;
+  dropped = refl;
+  connector = refl;
+  links = λ name n. same-links c.args.self.now.links c.in_ok-copy.field-0 c.in_ok-copy.ensures.primary c.in_ok-copy.ensures.failover c.in_ok-copy.ensures.slots name;
+  direct = c.in_ok-copy-2.ensures;
+}
