@@ -114,13 +114,7 @@ pub struct Door<R: Clock + Net + Wait + Eprint + Copy + Drop> {
 }
 
 impl<R: Clock + Net + Wait + Eprint + Copy + Drop> Door<R> {
-    pub fn new(
-        rt: R,
-        alloc: Global,
-        kind: Kind,
-        notes: Notes,
-        shared: Shared,
-    ) -> Door<R> {
+    pub fn new(rt: R, alloc: Global, kind: Kind, notes: Notes, shared: Shared) -> Door<R> {
         Door {
             rt,
             alloc,

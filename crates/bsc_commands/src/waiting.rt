@@ -45,9 +45,7 @@ impl<R: Clock + Net + Wait + Drop> RealWaiter<R> {
         };
         let lingering = Arc::new(alloc, lingering)?;
         let watcher = match kind {
-            Kind::Direct => {
-                Some(Watcher::new(rt, alloc, SEATS)?.looks_at(again(&lingering)?))
-            }
+            Kind::Direct => { Some(Watcher::new(rt, alloc, SEATS)?.looks_at(again(&lingering)?)) }
             Kind::Hub => None,
         };
         Ok(RealWaiter { watcher, lingering })
