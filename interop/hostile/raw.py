@@ -105,9 +105,9 @@ class Peer:
         await asyncio.wait_for(all(), WAIT)
         return list(frames(self.came))
 
-    async def shake(self):
+    async def shake(self, head=HEAD):
         await self.connect()
-        if not await self.send(HEAD):
+        if not await self.send(head):
             raise Refused
         while b"\r\n\r\n" not in self.came:
             if not await asyncio.wait_for(self.read(), WAIT):

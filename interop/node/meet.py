@@ -1,5 +1,6 @@
 #!/usr/bin/env python3
-"""Nodes of `./bsc node` at two hubs of `./bsc hub` that are killed and started again, and one at a hub by another library."""
+"""Nodes of `./bsc node` at two hubs of `./bsc hub` that are killed and started again; one at a hub by another library; and one with
+32 direct connections by that library."""
 import asyncio
 import sys
 import tempfile
@@ -10,6 +11,7 @@ ROOT = Path(__file__).resolve().parents[2]
 sys.path += [str(ROOT / "bench" / "live"), str(ROOT / "interop" / "hub")]
 from live import Failed, TooBusy  # noqa: E402
 from nodes import Network, Watch  # noqa: E402
+import many  # noqa: E402
 import other_hub  # noqa: E402
 
 # How long the nodes run, in seconds, and how often each sends, in milliseconds.
@@ -26,20 +28,21 @@ def at_hubs(folder):
     return f"of {sent} NPDUs of three nodes {came} came, each once and as it was sent, the others while no hub was there for them"
 
 
-def at_other_hub(folder):
+def by_itself(scene, folder):
+    """A scene that tells its own time: what goes wrong goes wrong of itself where the machine is too busy."""
     watch = Watch()
     try:
-        came = asyncio.run(other_hub.meet(folder))
+        return asyncio.run(scene(folder))
     except Failed as why:
         watch.judge(str(why))
     finally:
         watch.is_over = True
-    return f"{came} came back from a hub by websockets"
 
 
 def main():
     with tempfile.TemporaryDirectory() as folder:
-        print(f"check-node: {at_hubs(folder)}; {at_other_hub(folder)}")
+        print(f"check-node: {at_hubs(folder)}; {by_itself(other_hub.meet, folder)} came back from a hub by websockets; "
+              f"{by_itself(many.meet, folder)} went by 32 direct connections")
 
 
 try:

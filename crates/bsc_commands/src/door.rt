@@ -1,9 +1,10 @@
 //! The real acceptor, and what an operator is told of it.
 ghost use Rattle.std.specs.Prelude.{◌≡◌, ◌≤◌, None};
 
+use crate::waiting::Shared;
 use bsc_edge::{Acceptor, Arrived, Failed, FileFault, Files, Kind, LinkFault};
 use bsc_gate::{AcceptedLink, Gate};
-use bsc_live::{Bells, Watch};
+use bsc_live::Bells;
 use bsc_octets::{Octets, Vmac};
 use bsc_settings::{KeyName, PolicyRefusal, SettingFault, Settings, read_settings, refusal_of};
 use std::alloc::Global;
@@ -99,34 +100,27 @@ impl<F: Files> Files for NotingFiles<F> {
     }
 }
 
-/// A gate that is made where it is bound, and tells on standard error what is behind it. It is waited for at a watch, where there
-/// is one.
+/// A gate that is made where it is bound, and tells on standard error what is behind it.
 #[derive(Drop)]
 pub struct Door<R: Clock + Net + Wait + Eprint + Copy + Drop> {
     rt: R,
     alloc: Global,
     kind: Kind,
     notes: Notes,
-    watch: Option<Arc<Watch>>,
+    shared: Shared,
     gate: Option<Gate<R>>,
     faults: u64,
     quiets: u64,
 }
 
 impl<R: Clock + Net + Wait + Eprint + Copy + Drop> Door<R> {
-    pub fn new(
-        rt: R,
-        alloc: Global,
-        kind: Kind,
-        notes: Notes,
-        watch: Option<Arc<Watch>>,
-    ) -> Door<R> {
+    pub fn new(rt: R, alloc: Global, kind: Kind, notes: Notes, shared: Shared) -> Door<R> {
         Door {
             rt,
             alloc,
             kind,
             notes,
-            watch,
+            shared,
             gate: None,
             faults: 0,
             quiets: 0,
@@ -134,12 +128,16 @@ impl<R: Clock + Net + Wait + Eprint + Copy + Drop> Door<R> {
     }
 }
 
-/// The same gate, at this watch, where there is one.
-fn watched<R: Clock + Net + Wait + Copy + Drop>(
+/// The same gate, which shares this with the links of the program.
+fn sharing<R: Clock + Net + Wait + Copy + Drop>(
     gate: Gate<R>,
-    watch: &Option<Arc<Watch>>,
+    shared: &Shared,
 ) -> io::Result<Gate<R>> {
-    match watch {
+    let Ok(lingering) = Arc::try_clone(&shared.lingering) else {
+        return Err(io::Error::from(io::ErrorKind::OutOfMemory));
+    };
+    let gate = gate.lingering_at(lingering);
+    match &shared.watch {
         Some(watch) => match Arc::try_clone(watch) {
             Ok(watch) => gate.watched_by(watch),
             Err(_) => Err(io::Error::from(io::ErrorKind::OutOfMemory)),
@@ -154,14 +152,14 @@ fn open<R: Clock + Net + Wait + Copy + Drop>(
     alloc: Global,
     kind: Kind,
     port: u16,
-    watch: &Option<Arc<Watch>>,
+    shared: &Shared,
 ) -> io::Result<Gate<R>> {
     let Ok(bells) = Bells::new(alloc) else {
         return Err(io::Error::from(io::ErrorKind::OutOfMemory));
     };
     let bells = Arc::new(alloc, bells)?;
     let gate = Gate::new(rt, alloc, Ipv4Addr::LOCALHOST, kind, bells, PLACES)?;
-    let mut gate = watched(gate, watch)?;
+    let mut gate = sharing(gate, shared)?;
     match gate.bind(port) {
         Ok(()) => Ok(gate),
         Err(_) => Err(io::Error::from(io::ErrorKind::AddrInUse)),
@@ -204,7 +202,7 @@ impl<R: Clock + Net + Wait + Eprint + Copy + Drop> Acceptor<AcceptedLink<R>> for
     ghost waits = { λ _. None };
 
     fn bind(&mut self, port: u16) -> Result<(), Failed> {
-        match open(self.rt, self.alloc, self.kind, port, &self.watch) {
+        match open(self.rt, self.alloc, self.kind, port, &self.shared) {
             Ok(gate) => {
                 tell_policy(&self.rt, self.kind, self.notes.get());
                 tell_open(&self.rt, self.kind, port, self.notes.get());

@@ -15,4 +15,4 @@ pub use door::{Door, Noted, Notes, NotingFiles};
 pub use links::{DialledLink, RealLink, real_dialer};
 pub use playing::{Command, play};
 pub use running::run;
-pub use waiting::RealWaiter;
+pub use waiting::{RealWaiter, Shared};

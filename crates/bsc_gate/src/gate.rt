@@ -4,7 +4,7 @@ ghost use Rattle.std.specs.Prelude.{◌≡◌, ◌≤◌, None};
 use crate::handshakes::{Handshakes, Turned};
 use crate::socket_link::{AcceptedLink, HANDSHAKE_MS, accepted};
 use bsc_edge::{Acceptor, Arrived, Failed, Kind, LinkFault};
-use bsc_live::{Bells, Moment, Seat, Watch};
+use bsc_live::{Bells, LOOK_MS, Lingering, Moment, Seat, Watch};
 use bsc_octets::NoMemory;
 use mio::net::{TcpListener, TcpStream};
 use mio::unix::SourceFd;
@@ -28,6 +28,9 @@ const SWEEP: u64 = 100_000;
 
 /// Where a stream couldn't be taken, the next try comes after so many microseconds.
 const AGAIN: u64 = 10_000;
+
+/// Sockets that linger are looked at this often, in microseconds.
+const LOOK: u64 = 1_000 * LOOK_MS as u64;
 
 /// So many links of a gate that is watched may wait to be handed out. Each has a seat, and others need some too.
 const DONE: usize = 256;
@@ -60,6 +63,7 @@ pub struct Gate<R: Clock + Net + Wait + Copy + Drop> {
     done: VecDeque<AcceptedLink<R>>,
     watch: Option<Arc<Watch>>,
     seat: Option<Seat>,
+    lingering: Option<Arc<Lingering>>,
     faults: u64,
     quiets: u64,
 }
@@ -106,6 +110,7 @@ impl<R: Clock + Net + Wait + Copy + Drop> Gate<R> {
             done: VecDeque::new(alloc),
             watch: None,
             seat: None,
+            lingering: None,
             faults: 0,
             quiets: 0,
         })
@@ -118,6 +123,21 @@ impl<R: Clock + Net + Wait + Copy + Drop> Gate<R> {
         gate.seat = Some(Seat::take(&watch, &mut SourceFd(&fd))?);
         gate.watch = Some(watch);
         Ok(gate)
+    }
+
+    /// The same gate, whose links' sockets linger here once they are dropped. While it waits, it looks at all that linger here.
+    pub fn lingering_at(self, lingering: Arc<Lingering>) -> Gate<R> {
+        let mut gate = self;
+        gate.lingering = Some(lingering);
+        gate
+    }
+
+    /// Looks at the sockets that linger. Whether others go on.
+    fn has_lingering(&self) -> bool {
+        match &self.lingering {
+            Some(lingering) => lingering.look(&self.rt),
+            None => false,
+        }
     }
 
     /// Says at its watch whether it has more of which no event will tell.
@@ -193,7 +213,15 @@ impl<R: Clock + Net + Wait + Copy + Drop> Gate<R> {
         if self.watch.is_some() && DONE <= self.done.len() {
             return;
         }
-        if let Ok(link) = accepted(self.rt, alloc, socket, &self.bells, &self.watch) {
+        let link = accepted(
+            self.rt,
+            alloc,
+            socket,
+            &self.bells,
+            &self.watch,
+            &self.lingering,
+        );
+        if let Ok(link) = link {
             let _ = self.done.push_back(link);
         }
     }
@@ -257,6 +285,11 @@ impl<R: Clock + Net + Wait + Copy + Drop> Gate<R> {
             Backlog::Empty => left.min(SWEEP),
             Backlog::More => 0,
             Backlog::Stuck => left.min(AGAIN),
+        };
+        let wait = if self.has_lingering() {
+            wait.min(LOOK)
+        } else {
+            wait
         };
         self.poll
             .poll(&mut self.events, Some(Duration::from_micros(wait)))?;

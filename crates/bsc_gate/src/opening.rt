@@ -1,7 +1,7 @@
 //! The opener of sockets.
 use crate::socket_link::{HANDSHAKE_MS, alive};
 use bsc_edge::LinkFault;
-use bsc_live::{Bells, LivePatience, LiveStream, Moment, Watch};
+use bsc_live::{Bells, Lingering, LivePatience, LiveStream, Moment, Watch};
 use bsc_ws::{Opener, RandomKeys};
 use mio::net::TcpStream;
 use std::alloc::Global;
@@ -16,6 +16,7 @@ pub struct SocketOpener<R> {
     rt: R,
     bells: Arc<Bells>,
     watch: Option<Arc<Watch>>,
+    lingering: Option<Arc<Lingering>>,
 }
 
 impl<R> SocketOpener<R> {
@@ -25,6 +26,7 @@ impl<R> SocketOpener<R> {
             rt,
             bells,
             watch: None,
+            lingering: None,
         }
     }
 
@@ -32,6 +34,13 @@ impl<R> SocketOpener<R> {
     pub fn watched_by(self, watch: Arc<Watch>) -> SocketOpener<R> {
         let mut opener = self;
         opener.watch = Some(watch);
+        opener
+    }
+
+    /// The same opener, whose links' sockets linger here once they are dropped.
+    pub fn lingering_at(self, lingering: Arc<Lingering>) -> SocketOpener<R> {
+        let mut opener = self;
+        opener.lingering = Some(lingering);
         opener
     }
 }
@@ -50,7 +59,14 @@ impl<R: Clock + Net + Wait + RandomSource + Copy + Drop> Opener<
         let Ok(socket) = TcpStream::connect(&self.rt, SocketAddr::V4(address)) else {
             return Err(LinkFault::Failed);
         };
-        let (stream, wait) = alive(self.rt, alloc, socket, &self.bells, &self.watch)?;
+        let (stream, wait) = alive(
+            self.rt,
+            alloc,
+            socket,
+            &self.bells,
+            &self.watch,
+            &self.lingering,
+        )?;
         let (Ok(now), Ok(bell)) = (Moment::now(&self.rt), stream.bell()) else {
             return Err(LinkFault::Failed);
         };

@@ -1,6 +1,6 @@
 //! Links over sockets.
 use bsc_edge::LinkFault;
-use bsc_live::{Bells, LivePatience, LiveStream, Watch};
+use bsc_live::{Bells, Lingering, LivePatience, LiveStream, Watch};
 use bsc_ws::{NoMask, StreamLink, settle};
 use mio::net::TcpStream;
 use std::alloc::Global;
@@ -18,14 +18,19 @@ pub const HANDSHAKE_MS: u32 = 1_000;
 /// The time in which a peer must take a put, in milliseconds.
 pub const WRITE_MS: u32 = 5_000;
 
-/// A live stream over a socket, which is waited for at this watch, where there is one.
-fn stream_over<R: Clock + Net + Copy + Drop>(
+/// A live stream over a socket, which is waited for at this watch and lingers here, where there is one.
+fn stream_over<R: Clock + Net + Wait + Copy + Drop>(
     rt: R,
     alloc: Global,
     socket: TcpStream,
     watch: &Option<Arc<Watch>>,
+    lingering: &Option<Arc<Lingering>>,
 ) -> io::Result<LiveStream<R>> {
     let stream = LiveStream::over(rt, alloc, socket, WRITE_MS)?;
+    let stream = match lingering {
+        Some(lingering) => stream.lingering_at(lingering)?,
+        None => stream,
+    };
     match watch {
         Some(watch) => stream.watched_by(watch),
         None => Ok(stream),
@@ -39,8 +44,9 @@ pub(crate) fn alive<R: Clock + Net + Wait + Copy + Drop>(
     socket: TcpStream,
     bells: &Arc<Bells>,
     watch: &Option<Arc<Watch>>,
+    lingering: &Option<Arc<Lingering>>,
 ) -> Result<(LiveStream<R>, LivePatience<R>), LinkFault> {
-    let Ok(stream) = stream_over(rt, alloc, socket, watch) else {
+    let Ok(stream) = stream_over(rt, alloc, socket, watch, lingering) else {
         return Err(LinkFault::Failed);
     };
     let Ok(bell) = stream.bell() else {
@@ -59,7 +65,8 @@ pub(crate) fn accepted<R: Clock + Net + Wait + Copy + Drop>(
     socket: TcpStream,
     bells: &Arc<Bells>,
     watch: &Option<Arc<Watch>>,
+    lingering: &Option<Arc<Lingering>>,
 ) -> Result<AcceptedLink<R>, LinkFault> {
-    let (stream, wait) = alive(rt, alloc, socket, bells, watch)?;
+    let (stream, wait) = alive(rt, alloc, socket, bells, watch, lingering)?;
     Ok(settle(alloc, stream, wait, NoMask))
 }

@@ -1,5 +1,6 @@
 //! Streams over sockets that don't block.
 use crate::bell::Bell;
+use crate::lingering::Lingering;
 use crate::moment::{Moment, wait_of};
 use crate::watch::{Seat, Watch};
 use mio::net::TcpStream;
@@ -7,7 +8,7 @@ use mio::{Events, Interest, Poll, Token, Waker};
 use std::alloc::Global;
 use std::io::{self, ErrorKind, Read, Write};
 use std::net::Net;
-use std::sync::Arc;
+use std::sync::{Arc, Wait};
 use std::time::Clock;
 
 const SOCKET: Token = Token(0);
@@ -16,9 +17,9 @@ const BELL: Token = Token(1);
 
 /// A stream over a socket that doesn't block. A read waits until octets are there, the bell rings or the time is over,
 /// and then answers `WouldBlock`; a write waits until its octets are taken, and answers `TimedOut` once its own time is
-/// over. It holds three descriptors: the socket, the poll and the bell's.
-#[derive(Drop)]
-pub struct LiveStream<R> {
+/// over. It holds three descriptors: the socket, the poll and the bell's. Where it has a place to linger at, its socket goes there
+/// when it is dropped.
+pub struct LiveStream<R: Clock + Wait + Drop> {
     clock: R,
     socket: TcpStream,
     poll: Poll,
@@ -29,9 +30,11 @@ pub struct LiveStream<R> {
     write_until: Option<Moment>,
     /// Where it is waited for with others.
     seat: Option<Seat>,
+    /// Where its socket lingers once it is dropped.
+    lingering: Option<Arc<Lingering>>,
 }
 
-impl<R: Clock + Net + Copy + Drop> LiveStream<R> {
+impl<R: Clock + Net + Wait + Copy + Drop> LiveStream<R> {
     /// A stream over this socket, whose small messages aren't held back. What is written between two flushes has
     /// `write_ms` milliseconds to leave.
     pub fn over(
@@ -60,16 +63,27 @@ impl<R: Clock + Net + Copy + Drop> LiveStream<R> {
             write_ms,
             write_until: None,
             seat: None,
+            lingering: None,
         })
     }
 }
 
-impl<R: Clock + Drop> LiveStream<R> {
+impl<R: Clock + Wait + Drop> LiveStream<R> {
     /// The same stream, which is waited for at this watch too. A read that doesn't wait asks the system for octets only where
     /// some may be there.
     pub fn watched_by(self, watch: &Arc<Watch>) -> io::Result<LiveStream<R>> {
         let mut stream = self;
         stream.seat = Some(Seat::take(watch, &mut stream.socket)?);
+        Ok(stream)
+    }
+
+    /// The same stream, whose socket lingers here once it is dropped.
+    pub fn lingering_at(self, lingering: &Arc<Lingering>) -> io::Result<LiveStream<R>> {
+        let mut stream = self;
+        let Ok(lingering) = Arc::try_clone(lingering) else {
+            return Err(io::Error::from(ErrorKind::OutOfMemory));
+        };
+        stream.lingering = Some(lingering);
         Ok(stream)
     }
 
@@ -136,7 +150,7 @@ impl<R: Clock + Drop> LiveStream<R> {
     }
 }
 
-impl<R: Clock + Drop> Read for LiveStream<R> {
+impl<R: Clock + Wait + Drop> Read for LiveStream<R> {
     fn read(&mut self, buf: &mut [u8]) -> io::Result<usize> {
         // A peer that never lets a message end can't keep its reader past the time.
         if !self.bell.is_first_read() && self.is_late()? {
@@ -167,7 +181,7 @@ impl<R: Clock + Drop> Read for LiveStream<R> {
     }
 }
 
-impl<R: Clock + Drop> Write for LiveStream<R> {
+impl<R: Clock + Wait + Drop> Write for LiveStream<R> {
     fn write(&mut self, buf: &[u8]) -> io::Result<usize> {
         for _ in 0..u64::MAX {
             match self.socket.write(buf) {
@@ -187,5 +201,28 @@ impl<R: Clock + Drop> Write for LiveStream<R> {
     fn flush(&mut self) -> io::Result<()> {
         self.write_until = None;
         Ok(())
+    }
+}
+
+impl<R: Clock + Wait + Drop> Drop for LiveStream<R> {
+    fn drop(self) {
+        let LiveStream {
+            clock,
+            socket,
+            poll: _,
+            events: _,
+            bell: _,
+            write_ms: _,
+            write_until: _,
+            seat,
+            lingering,
+        } = self;
+        let mut socket = socket;
+        if let Some(seat) = seat {
+            seat.leave(&mut socket);
+        }
+        if let Some(lingering) = lingering {
+            lingering.take(&clock, socket);
+        }
     }
 }

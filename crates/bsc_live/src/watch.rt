@@ -2,6 +2,7 @@
 //!
 //! Who has a seat at a `Watch` is hot or cold. An event makes it hot, and so does a read that gave octets; a read that would
 //! have blocked makes it cold. While somebody is hot a wait takes no time: more may be there of which no event tells.
+use crate::lingering::{LOOK_MS, Lingering};
 use crate::moment::wait_of;
 use bsc_edge::Waiter;
 use mio::event::Source;
@@ -9,8 +10,8 @@ use mio::{Events, Interest, Poll, Registry, Token};
 use std::alloc::Global;
 use std::io::{self, ErrorKind};
 use std::net::Net;
-use std::sync::Arc;
 use std::sync::atomic::{AtomicBool, Ordering};
+use std::sync::{Arc, Wait};
 use std::thread;
 use std::time::Clock;
 
@@ -93,6 +94,11 @@ impl Seat {
         Ok(seat)
     }
 
+    /// Leaves, and its watch is told no more of this source.
+    pub fn leave<S: Source>(self, source: &mut S) {
+        let _ = self.watch.registry.deregister(source);
+    }
+
     /// Says whether who sits here may have something.
     pub fn set_hot(&self, hot: bool) {
         self.watch.set_hot(self.place, hot);
@@ -111,13 +117,14 @@ impl Drop for Seat {
     }
 }
 
-/// Waits for all who have a seat at its watch.
+/// Waits for all who have a seat at its watch. Meanwhile it looks at the sockets that linger, where it has some.
 #[derive(Drop)]
 pub struct Watcher<R> {
     clock: R,
     poll: Poll,
     events: Events,
     watch: Arc<Watch>,
+    lingering: Option<Arc<Lingering>>,
 }
 
 impl<R: Clock + Net + Drop> Watcher<R> {
@@ -141,6 +148,7 @@ impl<R: Clock + Net + Drop> Watcher<R> {
             poll,
             events,
             watch,
+            lingering: None,
         })
     }
 }
@@ -153,27 +161,62 @@ impl<R> Watcher<R> {
             Err(_) => Err(io::Error::from(ErrorKind::OutOfMemory)),
         }
     }
+
+    /// The same watcher, which looks at the sockets that linger here.
+    pub fn looks_at(self, lingering: Arc<Lingering>) -> Watcher<R> {
+        let mut watcher = self;
+        watcher.lingering = Some(lingering);
+        watcher
+    }
 }
 
-impl<R: Clock> Waiter for Watcher<R> {
+impl<R: Clock + Wait> Watcher<R> {
+    /// Looks at the sockets that linger. Whether others go on.
+    fn has_lingering(&self) -> bool {
+        match &self.lingering {
+            Some(lingering) => lingering.look(&self.clock),
+            None => false,
+        }
+    }
+
+    /// Waits so many milliseconds, and makes those hot for whom something comes. Whether something came.
+    fn wait_once(&mut self, wait_ms: u32) -> bool {
+        let wait = wait_of(wait_ms as u64 * 1000);
+        match self.poll.poll(&mut self.events, Some(wait)) {
+            Ok(()) => {
+                let mut came = false;
+                for event in self.events.iter() {
+                    self.watch.set_hot(event.token().0, true);
+                    came = true;
+                }
+                came
+            }
+            // Turns without a wait would take a processor.
+            Err(_) => {
+                thread::sleep(&self.clock, wait);
+                false
+            }
+        }
+    }
+}
+
+impl<R: Clock + Wait> Waiter for Watcher<R> {
     ghost use Rattle.std.specs.Prelude.{None};
 
     ghost waits = { λ _. None };
 
     fn wait(&mut self, most_ms: u32) {
-        let wait = if self.watch.has_hot() {
-            wait_of(0)
-        } else {
-            wait_of(most_ms as u64 * 1000)
-        };
-        match self.poll.poll(&mut self.events, Some(wait)) {
-            Ok(()) => {
-                for event in self.events.iter() {
-                    self.watch.set_hot(event.token().0, true);
-                }
+        let mut left = if self.watch.has_hot() { 0 } else { most_ms };
+        for _ in 0..=most_ms {
+            let part = if self.has_lingering() {
+                left.min(LOOK_MS)
+            } else {
+                left
+            };
+            left = left.saturating_sub(part);
+            if self.wait_once(part) || left == 0 {
+                return;
             }
-            // Turns without a wait would take a processor.
-            Err(_) => thread::sleep(&self.clock, wait),
         }
     }
 }

@@ -86,7 +86,7 @@ fn main(rt: HostRuntime) -> ExitCode {
     let Ok(mut waiter) = RealWaiter::of(rt, alloc, kind) else {
         return ExitCode::from(out_of_memory(&mut sink));
     };
-    let (Ok(of_links), Ok(of_gate)) = (waiter.watch(), waiter.watch()) else {
+    let (Ok(of_links), Ok(of_gate)) = (waiter.shared(), waiter.shared()) else {
         return ExitCode::from(out_of_memory(&mut sink));
     };
     let Ok(dialer) = real_dialer(rt, alloc, of_links) else {
@@ -125,5 +125,6 @@ fn main(rt: HostRuntime) -> ExitCode {
     if let Some(refusal) = notes.get().refusal {
         let _ = eprintln!(rt; "bsc: {refusal}");
     }
+    waiter.outlast_lingering(&rt);
     ExitCode::from(status)
 }

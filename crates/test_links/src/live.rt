@@ -4,13 +4,13 @@ use bsc_live::{Bells, LivePatience, LiveStream, Moment};
 use mio::net::TcpStream;
 use std::io::{self, ErrorKind, Read, Write};
 use std::net::{self, Ipv4Addr, SocketAddr, TcpListener};
-use std::sync::Arc;
+use std::sync::{Arc, Wait};
 use std::test::*;
 use std::thread;
 use std::time::Clock;
 
 /// Two ends of a connection over loopback.
-fn ends(rt: &HostRuntime) -> io::Result<(TcpStream, net::TcpStream)> {
+pub(crate) fn ends(rt: &HostRuntime) -> io::Result<(TcpStream, net::TcpStream)> {
     let listener = TcpListener::bind(rt, SocketAddr::from((Ipv4Addr::LOCALHOST, 0)))?;
     let near = TcpStream::connect(rt, listener.local_addr()?)?;
     let (far, _) = listener.accept()?;
@@ -18,7 +18,7 @@ fn ends(rt: &HostRuntime) -> io::Result<(TcpStream, net::TcpStream)> {
 }
 
 /// Whether a read gives nothing, and long before its time of ten minutes is over.
-fn comes_back<R: Clock + Drop>(rt: &R, stream: &mut LiveStream<R>) -> bool {
+fn comes_back<R: Clock + Wait + Drop>(rt: &R, stream: &mut LiveStream<R>) -> bool {
     let Ok(begun) = Moment::now(rt) else {
         return false;
     };
@@ -34,7 +34,7 @@ fn comes_back<R: Clock + Drop>(rt: &R, stream: &mut LiveStream<R>) -> bool {
 }
 
 /// Whether a write runs out of its time, where the peer reads nothing.
-fn runs_late<R: Clock + Drop>(stream: &mut LiveStream<R>) -> bool {
+fn runs_late<R: Clock + Wait + Drop>(stream: &mut LiveStream<R>) -> bool {
     for _ in 0..100_000u32 {
         if let Err(error) = stream.write(&[0u8; 4096]) {
             return error.kind() == ErrorKind::TimedOut;

@@ -69,7 +69,7 @@ fn status_over_sockets<
     let Ok(mut waiter) = RealWaiter::of(rt, alloc, process.kind) else {
         return Err(NoMemory);
     };
-    let (Ok(of_links), Ok(of_gate)) = (waiter.watch(), waiter.watch()) else {
+    let (Ok(of_links), Ok(of_gate)) = (waiter.shared(), waiter.shared()) else {
         return Err(NoMemory);
     };
     let mut acceptor = PeerAcceptor::new(Door::new(rt, alloc, process.kind, notes, of_gate));
