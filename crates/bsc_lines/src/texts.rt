@@ -32,12 +32,7 @@ pub fn put_then(text: &mut Vec<u8>, alloc: Global, n: u64) -> Result<(), NoMemor
 }
 
 /// Puts a word, and a number behind it.
-pub fn put_numbered(
-    text: &mut Vec<u8>,
-    alloc: Global,
-    word: &str,
-    n: u64,
-) -> Result<(), NoMemory>
+pub fn put_numbered(text: &mut Vec<u8>, alloc: Global, word: &str, n: u64) -> Result<(), NoMemory>
     ensures { IfOk result (λ _. text.new.items ≡ text.old.items ++ numbered_word word.now n) }
 {
     put_words(text, word)?;

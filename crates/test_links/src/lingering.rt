@@ -8,11 +8,7 @@ use std::sync::Arc;
 use std::test::*;
 
 /// A stream that was dropped behind some octets, while octets of its peer were unread; and that peer.
-fn dropped(
-    rt: HostRuntime,
-    alloc: Global,
-    lingering: &Arc<Lingering>,
-) -> io::Result<TcpStream> {
+fn dropped(rt: HostRuntime, alloc: Global, lingering: &Arc<Lingering>) -> io::Result<TcpStream> {
     let (near, mut far) = ends(&rt)?;
     let mut stream = LiveStream::over(rt, alloc, near, 50)?.lingering_at(lingering)?;
     far.write_all(b"unread")?;
