@@ -1,19 +1,26 @@
 //! Sockets that linger, over loopback.
 use crate::live::ends;
 use bsc_live::{Lingering, LiveStream, Moment};
+use mio::net;
 use std::alloc::Global;
 use std::io::{self, Read, Write};
-use std::net::TcpStream;
-use std::sync::Arc;
+use std::net::{Net, TcpStream};
+use std::sync::{Arc, Wait};
 use std::test::*;
+use std::time::Clock;
 
-/// A stream that was dropped behind some octets, while octets of its peer were unread; and that peer.
-fn dropped(rt: HostRuntime, alloc: Global, lingering: &Arc<Lingering>) -> io::Result<TcpStream> {
-    let (near, mut far) = ends(&rt)?;
+/// Drops a stream behind some octets, while octets of its peer are unread.
+fn drops<R: Clock + Net + Wait + Copy + Drop>(
+    rt: R,
+    alloc: Global,
+    lingering: &Arc<Lingering>,
+    near: net::TcpStream,
+    far: &mut TcpStream,
+) -> io::Result<()> {
     let mut stream = LiveStream::over(rt, alloc, near, 50)?.lingering_at(lingering)?;
     far.write_all(b"unread")?;
     stream.write_all(b"last")?;
-    Ok(far)
+    Ok(())
 }
 
 /// Whether the peer reads what was written last, and then the end.
@@ -30,7 +37,8 @@ fn what_was_written_last_is_read(rt: HostRuntime) -> Result<(), Fail> {
     let lingering = Arc::new(alloc, Lingering::new(alloc)?)?;
     assert!(rt; !lingering.look(&rt));
     let begun = Moment::now(&rt)?;
-    let mut far = dropped(rt, alloc, &lingering)?;
+    let (near, mut far) = ends(&rt)?;
+    drops(rt, alloc, &lingering, near, &mut far)?;
     for _ in 0..20u32 {
         far.write_all(b"more")?;
         assert!(rt; lingering.look(&rt));
@@ -49,7 +57,8 @@ fn a_socket_lingers_for_a_second(rt: HostRuntime) -> Result<(), Fail> {
     let alloc = rt.alloc();
     let lingering = Arc::new(alloc, Lingering::new(alloc)?)?;
     let begun = Moment::now(&rt)?;
-    let mut far = dropped(rt, alloc, &lingering)?;
+    let (near, mut far) = ends(&rt)?;
+    drops(rt, alloc, &lingering, near, &mut far)?;
     lingering.outlast(&rt);
     lingering.outlast(&rt);
     assert!(rt; 900_000 < Moment::now(&rt)?.left(begun));
