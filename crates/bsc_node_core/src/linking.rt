@@ -190,7 +190,8 @@ impl Links {
     /// The machine of a link that was dialled goes on by a step, by which its peer may have named itself.
     pub(crate) fn go_on_dialled(&mut self, name: LinkName, machine: Initiating, step: &InitStep)
         requires { LeavesInitiating step.now machine }
-        ensures sets { Sets self.old self.new name (with_machine_and_peer (dialled_after machine step.now) (dialled_peer step.now (link_at self.old name).peer) (link_at self.old name)) }
+        ensures sets { Sets self.old self.new name
+            (with_machine_and_peer (dialled_after machine step.now) (dialled_peer step.now (link_at self.old name).peer) (link_at self.old name)) }
         ensures touches { Touches self.old self.new name }
     {
         match step {
@@ -210,7 +211,8 @@ impl Links {
     /// The machine of a link that was taken goes on by a step, by which its peer may have named itself.
     pub(crate) fn go_on_taken(&mut self, name: LinkName, machine: Accepting, step: &Step)
         requires { LeavesAccepting step.now machine }
-        ensures sets { Sets self.old self.new name (with_machine_and_peer (taken_after machine step.now) (taken_peer step.now (link_at self.old name).peer) (link_at self.old name)) }
+        ensures sets { Sets self.old self.new name
+            (with_machine_and_peer (taken_after machine step.now) (taken_peer step.now (link_at self.old name).peer) (link_at self.old name)) }
         ensures touches { Touches self.old self.new name }
     {
         match step {
