@@ -1,5 +1,8 @@
 -- What a session forwards is what came and is to be carried on; and the messages that are judged are those given.
-use Rattle.std.proofs.Common.{◌≡◌, ◌≢◌, ◌⊎◌, inl, inr, ℕ, Bool, true, false, cond, List, [], ◌∷◌, ◌++◌, map, Option, Some, None, Result, Ok, Err, is_some, refl, ap, sym, ◌∙◌, append-nil}
+use Rattle.std.proofs.Common.{◌≡◌, ◌≢◌, ◌⊎◌, inl, inr, ℕ, Bool, true, false, cond, ◌&&◌, List, [], ◌∷◌, ◌++◌, map, Option, Some, None, Result, Ok, Err, is_some, refl, ap, sym, ◌∙◌, append-nil}
+use Rattle.std.specs.Prelude.{is_none}
+use Rattle.bsc_octets.specs.declared.envelope.Envelope.{Envelope}
+use Rattle.bsc_lines.specs.declared.denial.Denial.{Denial}
 use Rattle.std.proofs.lemmas.Grind.{flat_map-append}
 use Rattle.std.proofs.lemmas.List.{map-append}
 use Rattle.bsc_frame.specs.declared.message.Message.{Message as Bvlc}
@@ -23,19 +26,21 @@ use Rattle.bsc_accept.specs.Past.{Standing as MachineStanding, awaiting_request,
 use Rattle.bsc_accept.specs.Steps.{message_step, normal, passed_step}
 use Rattle.bsc_session.specs.declared.ended.Ended.{Ended}
 use Rattle.bsc_session.specs.declared.stop.Stop.{Stop}
-use Rattle.bsc_session.specs.Answering.{IsHearing, called, calls_hub, entries_hearing, forwarded_by, last_step, stop_hearing, stop_message}
+use Rattle.bsc_session.specs.Answering.{IsHearing, called, calls_hub, denied_in, entries_hearing, forwarded_by, put_after, stop_hearing, stop_message}
 use Rattle.bsc_session.specs.Causes.{answer_in, given_in}
 use Rattle.bsc_session.specs.Course.{all_turns, entries_of, said_closing, shares}
+use Rattle.bsc_session.specs.Guarding.{denied_message}
 use Rattle.bsc_session.specs.Inner.{Tied, has_joined}
 use Rattle.bsc_session.specs.Judging.{verdict_on}
-use Rattle.bsc_session.specs.Puts.{octets_in, puts}
+use Rattle.bsc_session.specs.Puts.{puts}
 use Rattle.bsc_session.specs.Receiving.{Answer, replies, worn, no_memory, Hearing}
 use Rattle.bsc_session.specs.Standings.{Standing, Terms, begun}
+use Rattle.bsc_session.specs.Stops.{first_of, stop_lost}
 use Rattle.bsc_session.specs.Taking.{opened, put_first, stop_before, wait_in}
 use Rattle.bsc_session.specs.Talk.{Session, leaving}
 use Rattle.bsc_session.specs.Turns.{IsHearingIf, IsTurn, Turn, after, entries_after, entries_in, said_after, said_in, stop_after}
 use Rattle.bsc_session_laws.specs.Laws.{AreAllBut, IsUnentered}
-use Rattle.bsc_session_laws.specs.Messages.{JudgedMessage, carried, carried_by, forwarded, forwarded_in, given_by, given_in as given_by_link, message_after, message_by, message_in, messages_of}
+use Rattle.bsc_session_laws.specs.Messages.{JudgedMessage, allowed, allowed_by, carried, carried_by, forwarded, forwarded_in, given_by, given_in as given_by_link, message_after, message_by, message_in, messages_of}
 use Rattle.bsc_session_laws.proofs.Courses.{all_as, all_but, mapped_shares}
 use Rattle.bsc_session_laws.proofs.Turning.{at, first_none, hearing, tied_begun, tied_opened}
 use Rattle.bsc_session_laws.proofs.Verdicts.{carried_connected}
@@ -67,7 +72,7 @@ no_forward : (v : Terms) (s : Standing) (st : Step) (given : Result Incoming Lin
 no_forward v s (Ask who) given None isnt = refl
 no_forward v s (Ask who) given (Some worn) isnt = refl
 no_forward v s (Ask who) given (Some no_memory) isnt = refl
-no_forward v s (Ask who) given (Some (replies looks reply)) isnt = refl
+no_forward v s (Ask who) given (Some (replies place looks reply)) isnt = refl
 no_forward v s (ReplyStep octets) given answer isnt = refl
 no_forward v s (ReplyClose octets c) given answer isnt = refl
 no_forward v s Carry given answer isnt = absurd (isnt refl)
@@ -94,34 +99,43 @@ made : (v : Terms) (c : Option ℕ) (m : List ℕ) (looks : List Look) (reply : 
 made v None m looks reply h = cc
 made v (Some c) m looks reply h = refl
 
--- what is carried is forwarded, where the hub makes an entry
-carried_made : (v : Terms) (s x : Standing) (m : List ℕ) (answer : Option Answer) (fault : Option LinkFault) → is_some s.conn ≡ true → is_some answer ≡ true
-    → Lacks (Unentered (Ok (Message m)) answer) (stop_message v x Carry answer fault) (m ∷ []) (forwarded (called v s Carry (Ok (Message m)) answer))
-carried_made v s x m None fault own h = cc
-carried_made v s x m (Some (replies looks reply)) fault own h = inl (made v s.conn m looks reply own)
-carried_made v s x m (Some worn) fault own h = inr (m, (refl, inl refl), (λ e. cc), refl, refl)
-carried_made v s x m (Some no_memory) fault own h = inr (m, (refl, inr refl), (λ e. cc), refl, refl)
+-- a lost line stops the session before all else
+pub lost_or : (lost : Option LinkFault) (later : Option Stop) → later ≢ None → first_of (stop_lost lost) later ≢ None
+lost_or None later some = some
+lost_or (Some f) later some = λ e. cc
 
-verdict_forwards : (v : Terms) (s x : Standing) (m : List ℕ) (answer : Option Answer) (fault : Option LinkFault) → Tied s → (w : Verdict) → verdict_on v s m ≡ w → is_some answer ≡ calls_hub (message_step (standing s.events) w)
-    → Lacks (Unentered (Ok (Message m)) answer) (stop_message v x (message_step (standing s.events) w) answer fault) (carried_by m w ++ []) (forwarded (called v s (message_step (standing s.events) w) (Ok (Message m)) answer))
-verdict_forwards v s x m answer fault tied (Pass msg) is calls = inl (sym (no_forward v s (passed_step (standing s.events) msg) (Ok (Message m)) answer (passed_not_carried (standing s.events) msg)))
-verdict_forwards v s x m answer fault tied (Carried envelope) is calls =
-    carried_made v s x m answer fault (sym tied ∙ connected_in (standing s.events) (carried_connected m (phase s.events) v.hub.max_bvlc envelope is)) calls
-verdict_forwards v s x m answer fault tied (Silent check) is calls = inl refl
-verdict_forwards v s x m answer fault tied (Nak check octets) is calls = inl refl
+-- what is carried is forwarded, where nothing is denied of it and the hub makes an entry
+carried_made : (v : Terms) (s x : Standing) (m : List ℕ) (envelope : Envelope) (d : Option Denial) (answer : Option Answer) (lost fault : Option LinkFault) → is_some s.conn ≡ true → is_some answer ≡ is_none d && true
+    → Lacks (Unentered (Ok (Message m)) answer) (stop_message v x Carry d answer lost fault) (allowed_by m (Carried envelope) d ++ []) (forwarded (called v s Carry (Ok (Message m)) answer))
+carried_made v s x m envelope (Some d) None lost fault own h = inl refl
+carried_made v s x m envelope (Some d) (Some a) lost fault own h = cc
+carried_made v s x m envelope None None lost fault own h = cc
+carried_made v s x m envelope None (Some (replies place looks reply)) lost fault own h = inl (made v s.conn m looks reply own)
+carried_made v s x m envelope None (Some worn) lost fault own h = inr (m, (refl, inl refl), lost_or lost _ (λ e. cc), refl, refl)
+carried_made v s x m envelope None (Some no_memory) lost fault own h = inr (m, (refl, inr refl), lost_or lost _ (λ e. cc), refl, refl)
 
-hearing_forwards : (v : Terms) (s : Standing) (now : ℕ) (given : Result Incoming LinkFault) (judged : Bool) (answer : Option Answer) (fault : Option LinkFault) → Tied s → IsHearing v s now (hearing given judged answer fault)
-    → Lacks (Unentered given answer) (stop_hearing v s now (hearing given judged answer fault)) (carried (message_by v s given)) (forwarded (entries_hearing v s now (hearing given judged answer fault)))
-hearing_forwards v s now (Err f) true answer fault tied is = inl refl
-hearing_forwards v s now (Err f) false answer fault tied is = inl refl
-hearing_forwards v s now (Ok Closed) true answer fault tied is = inl refl
-hearing_forwards v s now (Ok Closed) false answer fault tied is = inl refl
-hearing_forwards v s now (Ok Text) true answer fault tied is = inl refl
-hearing_forwards v s now (Ok Text) false answer fault tied is = inl refl
-hearing_forwards v s now (Ok Quiet) true answer fault tied is = inl refl
-hearing_forwards v s now (Ok Quiet) false answer fault tied is = inl refl
-hearing_forwards v s now (Ok (Message m)) false answer fault tied is = inl (ap (λ (w : Verdict). carried_by m w ++ []) is.memory.1)
-hearing_forwards v s now (Ok (Message m)) true answer fault tied is = verdict_forwards v s (at s now (verdict_on v s m)) m answer fault tied (verdict_on v s m) refl is.calls
+verdict_forwards : (v : Terms) (s x : Standing) (m : List ℕ) (answer : Option Answer) (lost fault : Option LinkFault) → Tied s → (w : Verdict) → verdict_on v s m ≡ w
+    → is_some answer ≡ calls_hub v s (message_step (standing s.events) w) (Ok (Message m))
+    → Lacks (Unentered (Ok (Message m)) answer) (stop_message v x (message_step (standing s.events) w) (denied_in v s (message_step (standing s.events) w) (Ok (Message m))) answer lost fault)
+    (allowed_by m w (denied_message v.policy s.address m) ++ []) (forwarded (called v s (message_step (standing s.events) w) (Ok (Message m)) answer))
+verdict_forwards v s x m answer lost fault tied (Pass msg) is calls = inl (sym (no_forward v s (passed_step (standing s.events) msg) (Ok (Message m)) answer (passed_not_carried (standing s.events) msg)))
+verdict_forwards v s x m answer lost fault tied (Carried envelope) is calls =
+    carried_made v s x m envelope (denied_message v.policy s.address m) answer lost fault (sym tied ∙ connected_in (standing s.events) (carried_connected m (phase s.events) v.hub.max_bvlc envelope is)) calls
+verdict_forwards v s x m answer lost fault tied (Silent check) is calls = inl refl
+verdict_forwards v s x m answer lost fault tied (Nak check octets) is calls = inl refl
+
+hearing_forwards : (v : Terms) (s : Standing) (now : ℕ) (given : Result Incoming LinkFault) (judged : Bool) (answer : Option Answer) (lost fault : Option LinkFault) → Tied s → IsHearing v s now (hearing given judged answer lost fault)
+    → Lacks (Unentered given answer) (stop_hearing v s now (hearing given judged answer lost fault)) (allowed (message_by v s given)) (forwarded (entries_hearing v s now (hearing given judged answer lost fault)))
+hearing_forwards v s now (Err f) true answer lost fault tied is = inl refl
+hearing_forwards v s now (Err f) false answer lost fault tied is = inl refl
+hearing_forwards v s now (Ok Closed) true answer lost fault tied is = inl refl
+hearing_forwards v s now (Ok Closed) false answer lost fault tied is = inl refl
+hearing_forwards v s now (Ok Text) true answer lost fault tied is = inl refl
+hearing_forwards v s now (Ok Text) false answer lost fault tied is = inl refl
+hearing_forwards v s now (Ok Quiet) true answer lost fault tied is = inl refl
+hearing_forwards v s now (Ok Quiet) false answer lost fault tied is = inl refl
+hearing_forwards v s now (Ok (Message m)) false answer lost fault tied is = inl (ap (λ (w : Verdict). allowed_by m w (denied_message v.policy s.address m) ++ []) is.memory.1)
+hearing_forwards v s now (Ok (Message m)) true answer lost fault tied is = verdict_forwards v s (at s now (verdict_on v s m)) m answer lost fault tied (verdict_on v s m) refl is.calls
 
 -- ---- a turn
 
@@ -129,13 +143,13 @@ abbrev UnenteredIn : Option Hearing → List ℕ → Type 0
 UnenteredIn h m = (given_in h ≡ Some (Ok (Message m))) × ((answer_in h ≡ Some worn) ⊎ (answer_in h ≡ Some no_memory))
 
 turn_forwards : (v : Terms) (s : Standing) (t : Turn) → Tied s → IsTurn v s t
-    → Lacks (IsUnentered (Some t)) (stop_after v (opened s t.opening) t.opening.reading t.hearing) (carried (message_in v s t)) (forwarded (entries_in v s t))
+    → Lacks (IsUnentered (Some t)) (stop_after v (opened s t.opening) t.opening.reading t.hearing) (allowed (message_in v s t)) (forwarded (entries_in v s t))
 turn_forwards v s t tied is = by t.hearing is.hearing
   where
     by : (h : Option Hearing) → IsHearingIf v (opened s t.opening) t.opening.reading h
-        → Lacks (UnenteredIn h) (stop_after v (opened s t.opening) t.opening.reading h) (carried (message_after v (opened s t.opening) h)) (forwarded (entries_after v (opened s t.opening) t.opening.reading h))
+        → Lacks (UnenteredIn h) (stop_after v (opened s t.opening) t.opening.reading h) (allowed (message_after v (opened s t.opening) h)) (forwarded (entries_after v (opened s t.opening) t.opening.reading h))
     by None heard = inl refl
-    by (Some h) heard = hearing_forwards v (opened s t.opening) t.opening.reading h.given h.judged h.answer h.fault (tied_opened s t.opening tied) heard
+    by (Some h) heard = hearing_forwards v (opened s t.opening) t.opening.reading h.given h.judged h.answer h.lost h.fault (tied_opened s t.opening tied) heard
 
 -- ---- a session
 
@@ -144,23 +158,57 @@ leaves_forward_none caller None taken empties e = refl
 leaves_forward_none caller (Some c) taken empties e = refl
 
 pub forwards_made : (v : Terms) (T : List Said) (R : List ℕ) (E : List Entry) (frames : List (List ℕ)) (ended : Ended) (x : Session v T R E frames ended)
-    → AreAllBut (IsUnentered x.course.last) (carried (messages_of x.course)) (forwarded E)
+    → AreAllBut (IsUnentered x.course.last) (allowed (messages_of x.course)) (forwarded E)
 forwards_made v T R E frames ended x =
     let c = x.course in
-    let F = λ (v : Terms) (s : Standing) (t : Turn). carried (message_in v s t) in
+    let F = λ (v : Terms) (s : Standing) (t : Turn). allowed (message_in v s t) in
     let G = λ (v : Terms) (s : Standing) (t : Turn). forwarded (entries_in v s t) in
-    let all : carried (messages_of c) ≡ shares F v begun (all_turns c) = mapped_shares (λ m. carried_by m.octets m.verdict) message_in v begun (all_turns c) in
+    let all : allowed (messages_of c) ≡ shares F v begun (all_turns c) = mapped_shares (λ m. allowed_by m.octets m.verdict m.denied) message_in v begun (all_turns c) in
     let left = leaving v.caller ended.conn ended.taken ended.empties x.reply in
     let done : forwarded E ≡ shares G v begun (all_turns c) =
     ap forwarded x.entries ∙ flat_map-append (λ (e : Entry). forwarded_in e.call) (entries_of c) left
     ∙ ap (λ (l : List (List ℕ)). forwarded (entries_of c) ++ l) (leaves_forward_none v.caller ended.conn ended.taken ended.empties x.reply)
     ∙ append-nil (forwarded (entries_of c)) ∙ mapped_shares (λ (e : Entry). forwarded_in e.call) entries_in v begun (all_turns c) in
-    all_as (IsUnentered c.last) (carried (messages_of c)) (forwarded E) (shares F v begun (all_turns c)) (shares G v begun (all_turns c)) all done
+    all_as (IsUnentered c.last) (allowed (messages_of c)) (forwarded E) (shares F v begun (all_turns c)) (shares G v begun (all_turns c)) all done
     (all_but F G v
     (λ s t tied is on. lacks_none (IsUnentered (Some t)) (stop_after v (opened s t.opening) t.opening.reading t.hearing) (F v s t) (G v s t) (turn_forwards v s t tied is) (first_none (stop_before v s t.opening) (stop_after v (opened s t.opening) t.opening.reading t.hearing) on).1)
     IsUnentered
     (λ s t tied is. lacks_last (IsUnentered (Some t)) (stop_after v (opened s t.opening) t.opening.reading t.hearing) (F v s t) (G v s t) (turn_forwards v s t tied is))
     begun c.went_on c.last tied_begun c.turns c.goes_on)
+
+-- without a policy nothing is denied
+same_given : (v : Terms) (s : Standing) (given : Result Incoming LinkFault) → v.policy ≡ None → carried (message_by v s given) ≡ allowed (message_by v s given)
+same_given v s (Ok (Message m)) bare = rw bare (by (verdict_on v s m))
+  where
+    by : (w : Verdict) → carried_by m w ++ [] ≡ allowed_by m w None ++ []
+    by (Pass msg) = refl
+    by (Carried envelope) = refl
+    by (Silent check) = refl
+    by (Nak check octets) = refl
+same_given v s (Ok Closed) bare = refl
+same_given v s (Ok Text) bare = refl
+same_given v s (Ok Quiet) bare = refl
+same_given v s (Err fault) bare = refl
+
+same_in : (v : Terms) (s : Standing) (h : Option Hearing) → v.policy ≡ None → carried (message_after v s h) ≡ allowed (message_after v s h)
+same_in v s None bare = refl
+same_in v s (Some h) bare = same_given v s h.given bare
+
+same_all : (v : Terms) (s : Standing) (ts : List Turn) → v.policy ≡ None → carried (shares message_in v s ts) ≡ allowed (shares message_in v s ts)
+same_all v s [] bare = refl
+same_all v s (t ∷ ts) bare =
+    let here = message_in v s t in
+    let rest = shares message_in v (after v s t) ts in
+    flat_map-append (λ m. carried_by m.octets m.verdict) here rest
+    ∙ ap (λ (l : List (List ℕ)). l ++ carried rest) (same_in v (opened s t.opening) t.hearing bare)
+    ∙ ap (λ (l : List (List ℕ)). allowed here ++ l) (same_all v (after v s t) ts bare)
+    ∙ sym (flat_map-append (λ m. allowed_by m.octets m.verdict m.denied) here rest)
+
+pub forwards_made_bare : (v : Terms) (T : List Said) (R : List ℕ) (E : List Entry) (frames : List (List ℕ)) (ended : Ended) (x : Session v T R E frames ended) → v.policy ≡ None
+    → AreAllBut (IsUnentered x.course.last) (carried (messages_of x.course)) (forwarded E)
+forwards_made_bare v T R E frames ended x bare =
+    let c = x.course in
+    all_as (IsUnentered c.last) (carried (messages_of c)) (forwarded E) (allowed (messages_of c)) (forwarded E) (same_all v begun (all_turns c) bare) refl (forwards_made v T R E frames ended x)
 
 -- ---- the messages that are judged
 
@@ -187,7 +235,7 @@ given_once v s wait (Ok (Message m)) = refl
 hearing_gives : (v : Terms) (s : Standing) (now wait : ℕ) (h : Option Hearing) → given_by_link (said_after v s now wait h) ≡ map octets (message_after v s h)
 hearing_gives v s now wait None = refl
 hearing_gives v s now wait (Some h) =
-    ap (λ (l : List (List ℕ)). given_by (Gave wait h.given) ++ l) (puts_give_none (octets_in (last_step v s now h)) h.fault)
+    ap (λ (l : List (List ℕ)). given_by (Gave wait h.given) ++ l) (puts_give_none (put_after v s now h) h.fault)
     ∙ append-nil (given_by (Gave wait h.given)) ∙ given_once v s wait h.given
 
 turn_gives : (v : Terms) (s : Standing) (t : Turn) → given_by_link (said_in v s t) ≡ map octets (message_in v s t)

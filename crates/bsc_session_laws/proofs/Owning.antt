@@ -30,7 +30,7 @@ use Rattle.bsc_session.specs.Talk.{Session, leaving}
 use Rattle.bsc_session.specs.Turns.{Turn, after, entries_after, entries_in, stands_after}
 use Rattle.bsc_session_laws.specs.Laws.{ForwardsAreCarried, IsOfConnection}
 use Rattle.bsc_session_laws.proofs.Connecting.{not_asked_parting}
-use Rattle.bsc_session_laws.proofs.Forwarding.{forwards_made}
+use Rattle.bsc_session_laws.proofs.Forwarding.{forwards_made, forwards_made_bare}
 use Rattle.bsc_session_laws.proofs.Turning.{heard_in, is_in, opened_in, tied_after, tied_begun}
 use Rattle.bsc_accept.proofs.Common.{connected_asks as not_asked_connected}
 use Rattle.bsc_lemmas.proofs.Lists.{all_append}
@@ -94,11 +94,11 @@ own_forward v None end m looks reply keeps = tt
 own_forward v (Some c) end m looks reply keeps = ((λ sender n e. keeps c refl ∙ ap Some (same_sender c sender m n e)), tt)
 
 own_called : (v : Terms) (s : Standing) (st : Step) (given : Result Incoming LinkFault) (answer : Option Answer) (end : Option ℕ) → ((c : ℕ) → s.conn ≡ Some c → end ≡ Some c) → AllByRecursion (IsOfConnection end) (called v s st given answer)
-own_called v s (Ask who) given (Some (replies looks reply)) end keeps = ((λ sender n e. cc), tt)
+own_called v s (Ask who) given (Some (replies place looks reply)) end keeps = ((λ sender n e. cc), tt)
 own_called v s (Ask who) given (Some worn) end keeps = tt
 own_called v s (Ask who) given (Some no_memory) end keeps = tt
 own_called v s (Ask who) given None end keeps = tt
-own_called v s Carry (Ok (Message m)) (Some (replies looks reply)) end keeps = own_forward v s.conn end m looks reply keeps
+own_called v s Carry (Ok (Message m)) (Some (replies place looks reply)) end keeps = own_forward v s.conn end m looks reply keeps
 own_called v s Carry (Ok (Message m)) (Some worn) end keeps = tt
 own_called v s Carry (Ok (Message m)) (Some no_memory) end keeps = tt
 own_called v s Carry (Ok (Message m)) None end keeps = tt
@@ -136,5 +136,6 @@ forwards_are_carried v T R E frames ended x =
     let own = all_append (IsOfConnection (end_of c).conn) (entries_of c) left (own_turns v begun (all_turns c) tied_begun) (own_leave v.caller ended.conn (end_of c).conn ended.taken ended.empties x.reply) in
     record {
       made = forwards_made v T R E frames ended x;
+      unguarded = λ bare. forwards_made_bare v T R E frames ended x bare;
       own = subst (λ (o : Option ℕ). AllByRecursion (IsOfConnection o) E) (sym x.conn) (subst (λ (l : List Entry). AllByRecursion (IsOfConnection (end_of c).conn) l) (sym x.entries) own);
     }

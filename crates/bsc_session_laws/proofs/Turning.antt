@@ -1,7 +1,11 @@
 -- Who has joined, from turn to turn, and what a turn comes to before anybody has.
-use Rattle.std.proofs.Common.{◌≡◌, ◌⊎◌, inl, inr, ℕ, Bool, true, false, cond, List, [], ◌∷◌, ◌++◌, length, Option, Some, None, Result, Ok, Err, is_some, option_to_list, refl, ap, sym, ◌∙◌, subst}
+use Rattle.std.proofs.Common.{◌≡◌, ◌⊎◌, inl, inr, ℕ, Bool, true, false, cond, ◌&&◌, List, [], ◌∷◌, ◌++◌, length, Option, Some, None, Result, Ok, Err, is_some, option_to_list, refl, ap, sym, ◌∙◌, subst}
+use Rattle.std.specs.Prelude.{is_none}
 use Rattle.std.proofs.lemmas.Bool.{both_ways}
 use Rattle.bsc_octets.specs.declared.identity.Identity.{Identity}
+use Rattle.bsc_octets.specs.declared.vmac.Vmac.{Vmac}
+use Rattle.bsc_policy.specs.declared.policy.Policy.{Policy}
+use Rattle.bsc_lines.specs.declared.denial.Denial.{Denial}
 use Rattle.bsc_frame.specs.declared.message.Message.{Message as Bvlc}
 use Rattle.bsc_frame.specs.Spelling.{spelling}
 use Rattle.bsc_history.specs.declared.ending.End.{End}
@@ -29,8 +33,9 @@ use Rattle.bsc_accept.proofs.Looking.{standing-more}
 use Rattle.bsc_session.specs.declared.stop.Stop.{Stop}
 use Rattle.bsc_session.specs.declared.why.Why.{Why}
 use Rattle.bsc_session.specs.declared.why.Why.TheVariants.{Refused as WhyRefused}
-use Rattle.bsc_session.specs.Answering.{Fits, IsHearing, after_hearing, answered, calls_hub, last_wanted, said_hearing, stands_heard, stop_hearing, stop_message, step_of}
+use Rattle.bsc_session.specs.Answering.{Fits, IsHearing, after_hearing, answered, calls, denied_in, last_wanted, put_unless, said_hearing, stands_heard, stop_hearing, stop_message, step_of}
 use Rattle.bsc_session.specs.Course.{GoesOn}
+use Rattle.bsc_session.specs.Guarding.{denied_message, let_through}
 use Rattle.bsc_session.specs.Inner.{Tied, has_joined}
 use Rattle.bsc_session.specs.Judging.{heard, verdict_on}
 use Rattle.bsc_session.specs.Puts.{octets_in, puts}
@@ -38,7 +43,7 @@ use Rattle.bsc_session.specs.Reading.{started, ticked}
 use Rattle.bsc_session.specs.Receiving.{Answer, replies, worn, no_memory, Hearing, received_one}
 use Rattle.bsc_session.specs.Standings.{Standing, Terms, begun, is_connected, is_phase_connected, told}
 use Rattle.bsc_session.specs.Stops.{closes, closing_in, first_of, stop_if}
-use Rattle.bsc_session.specs.Taking.{Looks, Opening, end_step, end_told, full_wait, opened, put_first, stop_before, wait_in}
+use Rattle.bsc_session.specs.Taking.{Looks, Opening, end_step, end_told, full_wait, opened, passing, put_first, stop_before, wait_in}
 use Rattle.bsc_session.specs.Turns.{IsHearingIf, IsTurn, Turn, after, said_after, said_in, stands_after, stop_after}
 use Rattle.bsc_session_laws.specs.Messages.{JudgedMessage, asked, message_after, message_by, message_in}
 use Rattle.bsc_session_laws.proofs.Verdicts.{asked_awaiting}
@@ -97,8 +102,8 @@ heard_in v s now true (Err fault) = (refl, refl)
 heard_in v s now false given = (refl, refl)
 
 tied_answered : (s : Standing) (st : Step) (a : Option Answer) → Tied s → Tied (answered s st a)
-tied_answered s (Ask who) (Some (replies l (Joined c r))) k = told_joined_in s
-tied_answered s (Ask who) (Some (replies l (Refused r))) k = told_in s (RefusedEvent r) refl ∙ k
+tied_answered s (Ask who) (Some (replies place l (Joined c r))) k = told_joined_in s
+tied_answered s (Ask who) (Some (replies place l (Refused r))) k = told_in s (RefusedEvent r) refl ∙ k
 tied_answered s st a k = k
 
 tied_heard : (v : Terms) (s : Standing) (now : ℕ) (h : Option Hearing) → Tied s → Tied (stands_after v s now h)
@@ -145,9 +150,15 @@ takes_none v s o out (inr none) = none
 waits_long : (o : Opening) → o.frames ≡ [] → o.met ≡ None → full_wait ≡ wait_in o
 waits_long o none unmet = rw (none, unmet) refl
 
+-- of no frames none is let through
+pub through-nil : (policy : Option Policy) (to : Option Vmac) → let_through policy to [] ≡ []
+through-nil None to = refl
+through-nil (Some p) to = refl
+
 nothing_put : (v : Terms) (s : Standing) (o : Opening) → o.frames ≡ [] → o.met ≡ None → puts (put_first v s o) o.fault ≡ []
 nothing_put v s o none unmet =
-    ap (λ (l : List (List ℕ)). puts (l ++ octets_in (end_step v (ticked s o.reading) o.reading o.met)) o.fault) none
+    ap (λ (l : List (List ℕ)). puts (passing v s l ++ octets_in (end_step v (ticked s o.reading) o.reading o.met)) o.fault) none
+    ∙ ap (λ (l : List (List ℕ)). puts (l ++ octets_in (end_step v (ticked s o.reading) o.reading o.met)) o.fault) (through-nil v.policy s.address)
     ∙ ap (λ (e : Option End). puts ([] ++ octets_in (end_step v (ticked s o.reading) o.reading e)) o.fault) unmet
 
 -- By what was said, who asked joins, and the Connect-Accept is put.
@@ -166,68 +177,70 @@ Waits ms next = (is_in next ≡ false) × (asked ms ≡ [])
 abbrev pub Goes : Terms → List JudgedMessage → List Said → Standing → Type 0
 Goes v ms said next = Waits ms next ⊎ Joins v ms said next
 
--- a message with a verdict, and where the session stands once the machine was told
-abbrev pub message : List ℕ → Verdict → List JudgedMessage
-message m w = record { octets = m; verdict = w } ∷ []
+-- a message with a verdict and what is denied of it, and where the session stands once the machine was told
+abbrev pub message : List ℕ → Verdict → Option Denial → List JudgedMessage
+message m w d = record { octets = m; verdict = w; denied = d } ∷ []
 
 abbrev pub at : Standing → ℕ → Verdict → Standing
 at s now w = received_one (told s (Came now w))
 
 -- what comes of a message, by the step that the machine wants
-abbrev GoesBy : Terms → Standing → ℕ → List ℕ → Option Answer → Option LinkFault → Verdict → Step → Type 0
-GoesBy v s now m answer fault w st =
-    Fits st answer → is_some answer ≡ calls_hub st → stop_message v (at s now w) st answer fault ≡ None
-    → Goes v (message m w) (Gave full_wait (Ok (Message m)) ∷ puts (octets_in (last_wanted v (at s now w) st answer)) fault) (answered (at s now w) st answer)
+abbrev GoesBy : Terms → Standing → ℕ → List ℕ → Option Answer → Option LinkFault → Option LinkFault → Verdict → Step → Option Denial → Type 0
+GoesBy v s now m answer lost fault w st d =
+    Fits st answer → is_some answer ≡ is_none d && calls st → stop_message v (at s now w) st d answer lost fault ≡ None
+    → Goes v (message m w (denied_message v.policy s.address m)) (Gave full_wait (Ok (Message m)) ∷ puts (put_unless lost (octets_in (last_wanted v (at s now w) st answer))) fault) (answered (at s now w) st answer)
 
 module _ (v : Terms) (s : Standing) (now : ℕ) (m : List ℕ) (fault : Option LinkFault) (out : is_in s ≡ false) where
   -- who asks joins, where the session goes on
-  ask_goes : (msg : Bvlc) (who : Identity) → who_asks msg.body ≡ Some who → (answer : Option Answer) → GoesBy v s now m answer fault (Pass msg) (Ask who)
-  ask_goes msg who asks None fits calls stop = cc
-  ask_goes msg who asks (Some worn) fits calls stop = cc
-  ask_goes msg who asks (Some no_memory) fits calls stop = cc
-  ask_goes msg who asks (Some (replies looks (Joined c replaced))) fits calls stop = inr (record {
+  ask_goes : (msg : Bvlc) (who : Identity) → who_asks msg.body ≡ Some who → (lost : Option LinkFault) (d : Option Denial) (answer : Option Answer) → GoesBy v s now m answer lost fault (Pass msg) (Ask who) d
+  ask_goes msg who asks (Some f) d answer fits called stop = cc
+  ask_goes msg who asks None (Some d) answer fits called stop = cc
+  ask_goes msg who asks None None None fits called stop = cc
+  ask_goes msg who asks None None (Some worn) fits called stop = cc
+  ask_goes msg who asks None None (Some no_memory) fits called stop = cc
+  ask_goes msg who asks None None (Some (replies place looks (Joined c replaced))) fits called stop = inr (record {
     request = m;
     id = asked_id (at s now (Pass msg)).events;
     said_so = ap (λ (f : Option LinkFault). Gave full_wait (Ok (Message m)) ∷ Put (spelling (connect_accept (asked_id (at s now (Pass msg)).events) v.hub)) f ∷ []) (fault_none fault (first_none (stop_if fault) None stop).0);
     joined = told_joined_in (at s now (Pass msg));
     one = ap (λ (o : Option Identity). length (option_to_list o ++ [])) asks;
   })
-  ask_goes msg who asks (Some (replies looks (Refused r))) fits calls stop =
+  ask_goes msg who asks None None (Some (replies place looks (Refused r))) fits called stop =
       absurd (closes_none (WhyRefused r) r (asked_id (at s now (Pass msg)).events) (first_none (stop_if fault) (closes (WhyRefused r) (closing_in (refused_step (asked_id (at s now (Pass msg)).events) r))) stop).1)
-  ask_goes msg who asks (Some (replies looks (Appended c))) fits calls stop = absurd fits
-  ask_goes msg who asks (Some (replies looks (ClosedReply c))) fits calls stop = absurd fits
-  ask_goes msg who asks (Some (replies looks (Skipped c))) fits calls stop = absurd fits
-  ask_goes msg who asks (Some (replies looks NoHolder)) fits calls stop = absurd fits
-  ask_goes msg who asks (Some (replies looks (SentAll to missed skipped))) fits calls stop = absurd fits
-  ask_goes msg who asks (Some (replies looks (NotCurrent e))) fits calls stop = absurd fits
-  ask_goes msg who asks (Some (replies looks StoppedReply)) fits calls stop = absurd fits
-  ask_goes msg who asks (Some (replies looks (Gone e taken))) fits calls stop = absurd fits
-  ask_goes msg who asks (Some (replies looks (Counted k))) fits calls stop = absurd fits
+  ask_goes msg who asks None None (Some (replies place looks (Appended c))) fits called stop = absurd fits
+  ask_goes msg who asks None None (Some (replies place looks (ClosedReply c))) fits called stop = absurd fits
+  ask_goes msg who asks None None (Some (replies place looks (Skipped c))) fits called stop = absurd fits
+  ask_goes msg who asks None None (Some (replies place looks NoHolder)) fits called stop = absurd fits
+  ask_goes msg who asks None None (Some (replies place looks (SentAll to missed skipped))) fits called stop = absurd fits
+  ask_goes msg who asks None None (Some (replies place looks (NotCurrent e))) fits called stop = absurd fits
+  ask_goes msg who asks None None (Some (replies place looks StoppedReply)) fits called stop = absurd fits
+  ask_goes msg who asks None None (Some (replies place looks (Gone e taken))) fits called stop = absurd fits
+  ask_goes msg who asks None None (Some (replies place looks (Counted k))) fits called stop = absurd fits
 
-  asked_goes : (msg : Bvlc) (o : Option Identity) → who_asks msg.body ≡ o → (answer : Option Answer) → GoesBy v s now m answer fault (Pass msg) (ask_step o)
-  asked_goes msg None asks answer fits calls stop = inl (told_in s (Came now (Pass msg)) refl ∙ out, ap (λ (o : Option Identity). option_to_list o ++ []) asks)
-  asked_goes msg (Some who) asks answer fits calls stop = ask_goes msg who asks answer fits calls stop
+  asked_goes : (msg : Bvlc) (o : Option Identity) → who_asks msg.body ≡ o → (lost : Option LinkFault) (answer : Option Answer) → GoesBy v s now m answer lost fault (Pass msg) (ask_step o) (denied_in v s (ask_step o) (Ok (Message m)))
+  asked_goes msg None asks lost answer fits called stop = inl (told_in s (Came now (Pass msg)) refl ∙ out, ap (λ (o : Option Identity). option_to_list o ++ []) asks)
+  asked_goes msg (Some who) asks lost answer fits called stop = ask_goes msg who asks lost (denied_in v s (Ask who) (Ok (Message m))) answer fits called stop
 
-  verdict_goes : (w : Verdict) (answer : Option Answer) → GoesBy v s now m answer fault w (message_step (standing s.events) w)
-  verdict_goes (Pass msg) answer fits calls stop =
-      subst (λ (st : Step). GoesBy v s now m answer fault (Pass msg) st) (sym (ap (λ g. passed_step g msg) (awaits (standing s.events) out))) (asked_goes msg (who_asks msg.body) refl answer) fits calls stop
-  verdict_goes (Carried envelope) answer fits calls stop = inl (told_in s (Came now (Carried envelope)) refl ∙ out, refl)
-  verdict_goes (Silent check) answer fits calls stop = inl (told_in s (Came now (Silent check)) refl ∙ out, refl)
-  verdict_goes (Nak check octets) answer fits calls stop = inl (told_in s (Came now (Nak check octets)) refl ∙ out, refl)
+  verdict_goes : (w : Verdict) (lost : Option LinkFault) (answer : Option Answer) → GoesBy v s now m answer lost fault w (message_step (standing s.events) w) (denied_in v s (message_step (standing s.events) w) (Ok (Message m)))
+  verdict_goes (Pass msg) lost answer fits called stop =
+      subst (λ (st : Step). GoesBy v s now m answer lost fault (Pass msg) st (denied_in v s st (Ok (Message m)))) (sym (ap (λ g. passed_step g msg) (awaits (standing s.events) out))) (asked_goes msg (who_asks msg.body) refl lost answer) fits called stop
+  verdict_goes (Carried envelope) lost answer fits called stop = inl (told_in s (Came now (Carried envelope)) refl ∙ out, refl)
+  verdict_goes (Silent check) lost answer fits called stop = inl (told_in s (Came now (Silent check)) refl ∙ out, refl)
+  verdict_goes (Nak check octets) lost answer fits called stop = inl (told_in s (Came now (Nak check octets)) refl ∙ out, refl)
 
-abbrev pub hearing : Result Incoming LinkFault → Bool → Option Answer → Option LinkFault → Hearing
-hearing given judged answer fault = record { given = given; judged = judged; answer = answer; fault = fault }
+abbrev pub hearing : Result Incoming LinkFault → Bool → Option Answer → Option LinkFault → Option LinkFault → Hearing
+hearing given judged answer lost fault = record { given = given; judged = judged; answer = answer; lost = lost; fault = fault }
 
-hearing_goes : (v : Terms) (s : Standing) (now : ℕ) (given : Result Incoming LinkFault) (judged : Bool) (answer : Option Answer) (fault : Option LinkFault) → is_in s ≡ false
-    → IsHearing v s now (hearing given judged answer fault) → stop_hearing v s now (hearing given judged answer fault) ≡ None
-    → Goes v (message_by v s given) (said_hearing v s now full_wait (hearing given judged answer fault)) (after_hearing v s now (hearing given judged answer fault))
-hearing_goes v s now (Err f) judged answer fault out is stop = cc
-hearing_goes v s now (Ok Closed) judged answer fault out is stop = cc
-hearing_goes v s now (Ok Text) judged answer fault out is stop = cc
-hearing_goes v s now (Ok Quiet) true answer fault out is stop = inl (out, refl)
-hearing_goes v s now (Ok Quiet) false answer fault out is stop = inl (out, refl)
-hearing_goes v s now (Ok (Message m)) false answer fault out is stop = cc
-hearing_goes v s now (Ok (Message m)) true answer fault out is stop = verdict_goes v s now m fault out (verdict_on v s m) answer is.fits is.calls stop
+hearing_goes : (v : Terms) (s : Standing) (now : ℕ) (given : Result Incoming LinkFault) (judged : Bool) (answer : Option Answer) (lost fault : Option LinkFault) → is_in s ≡ false
+    → IsHearing v s now (hearing given judged answer lost fault) → stop_hearing v s now (hearing given judged answer lost fault) ≡ None
+    → Goes v (message_by v s given) (said_hearing v s now full_wait (hearing given judged answer lost fault)) (after_hearing v s now (hearing given judged answer lost fault))
+hearing_goes v s now (Err f) judged answer lost fault out is stop = cc
+hearing_goes v s now (Ok Closed) judged answer lost fault out is stop = cc
+hearing_goes v s now (Ok Text) judged answer lost fault out is stop = cc
+hearing_goes v s now (Ok Quiet) true answer lost fault out is stop = inl (out, refl)
+hearing_goes v s now (Ok Quiet) false answer lost fault out is stop = inl (out, refl)
+hearing_goes v s now (Ok (Message m)) false answer lost fault out is stop = cc
+hearing_goes v s now (Ok (Message m)) true answer lost fault out is stop = verdict_goes v s now m fault out (verdict_on v s m) lost answer is.fits is.calls stop
 
 -- A turn that goes on before anybody has joined.
 pub turn_goes : (v : Terms) (s : Standing) (t : Turn) → is_in s ≡ false → IsTurn v s t → GoesOn v s t → Goes v (message_in v s t) (said_in v s t) (after v s t)
@@ -255,13 +268,13 @@ turn_goes v s t out is goes = by t.hearing is.hearing (first_none (stop_before v
     by None heard stop = inl (still, refl)
     by (Some h) heard stop = subst
         (λ (wait : ℕ). Goes v (message_by v (opened s o) h.given) (puts (put_first v s o) o.fault ++ said_hearing v (opened s o) o.reading wait h) (after_hearing v (opened s o) o.reading h))
-        waits (behind h (hearing_goes v (opened s o) o.reading h.given h.judged h.answer h.fault still heard stop))
+        waits (behind h (hearing_goes v (opened s o) o.reading h.given h.judged h.answer h.lost h.fault still heard stop))
 
 -- ---- once somebody has joined
 
 answered_in : (s : Standing) (st : Step) (a : Option Answer) → is_in s ≡ true → is_in (answered s st a) ≡ true
-answered_in s (Ask who) (Some (replies l (Joined c r))) h = told_joined_in s
-answered_in s (Ask who) (Some (replies l (Refused r))) h = told_in s (RefusedEvent r) refl ∙ h
+answered_in s (Ask who) (Some (replies place l (Joined c r))) h = told_joined_in s
+answered_in s (Ask who) (Some (replies place l (Refused r))) h = told_in s (RefusedEvent r) refl ∙ h
 answered_in s st a h = h
 
 stays_heard : (v : Terms) (s : Standing) (now : ℕ) (h : Option Hearing) → is_in s ≡ true → is_in (stands_after v s now h) ≡ true
@@ -281,7 +294,7 @@ none_asks : (o : Option Identity) → ((who : Identity) → o ≡ Some who → �
 none_asks None h = refl
 none_asks (Some who) h = absurd (h who refl)
 
-asks_none : (v : Terms) (s : Standing) (m : List ℕ) (w : Verdict) → verdict_on v s m ≡ w → is_in s ≡ true → asked (message m w) ≡ []
+asks_none : (v : Terms) (s : Standing) (m : List ℕ) (w : Verdict) → verdict_on v s m ≡ w → is_in s ≡ true → asked (message m w (denied_message v.policy s.address m)) ≡ []
 asks_none v s m (Pass msg) is h = none_asks (who_asks msg.body) (λ who asks. joined_not_awaiting (standing s.events) h (asked_awaiting m (phase s.events) v.hub.max_bvlc msg who is asks))
 asks_none v s m (Carried envelope) is h = refl
 asks_none v s m (Silent check) is h = refl

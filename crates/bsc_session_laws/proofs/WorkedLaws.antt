@@ -35,7 +35,7 @@ over = record { why = PeerClosed; conn = Some 1; taken = 1; empties = 2; turns =
 
 -- the last turn: the frame is put, and then the link is closed
 abbrev gets_back : Turn
-gets_back = record { opening = record { reading = 0; frames = back ∷ []; met = None; fault = None }; hearing = Some (record { given = Ok Closed; judged = true; answer = None; fault = None }) }
+gets_back = record { opening = record { reading = 0; frames = back ∷ []; met = None; lost = None; fault = None }; hearing = Some (record { given = Ok Closed; judged = true; answer = None; lost = None; fault = None }) }
 
 abbrev turns : List Turn
 turns = joins ∷ forwards_to 1 to_itself Appended ∷ gets_back ∷ []
@@ -47,11 +47,11 @@ a_hears_itself = told_by terms (record {
   last = Some gets_back;
   stop = stop_for PeerClosed None;
   turns = (
-    hears _ 0 _ (lit< tt) refl tt refl refl tt,
+    hears _ 0 _ _ _ _ (lit< tt) refl tt refl refl tt,
     (
-      hears _ 0 _ (lit< tt) refl tt refl tt tt,
+      hears _ 0 _ _ _ _ (lit< tt) refl tt refl tt tt,
       (
-        record { room = lit< tt; opening = record { takes = inl (refl, refl); few = lit≤ tt; not_left = λ h. cc; cause = tt }; heard = refl; hearing = record { memory = tt; calls = refl; fits = tt; cause = tt } },
+        record { room = lit< tt; opening = record { takes = inl (refl, refl); few = lit≤ tt; not_left = λ h. cc; line = tt; cause = tt }; heard = refl; hearing = record { memory = tt; calls = refl; fits = tt; line = tt; cause = tt } },
         tt,
       ),
     ),

@@ -2,6 +2,8 @@
 use Rattle.std.specs.Prelude.{List, [], None, Ok, Option, Some, false, length, map, ℕ, ◌++◌, ◌∷◌, ◌≡◌, ◌≢◌, ◌≤◌, ◌⊎◌}
 use Rattle.std.specs.List.{AllByRecursion}
 use Rattle.bsc_octets.specs.declared.identity.Identity.{Identity}
+use Rattle.bsc_policy.specs.declared.policy.Policy.{Policy}
+use Rattle.bsc_policy.specs.Decisions.{is_admitted}
 use Rattle.bsc_history.specs.declared.call.Call.TheVariants.{Forward}
 use Rattle.bsc_history.specs.declared.entry.Entry.{Entry}
 use Rattle.bsc_frame.specs.Spelling.{spelling}
@@ -16,7 +18,7 @@ use Rattle.bsc_session.specs.Receiving.{worn, no_memory}
 use Rattle.bsc_session.specs.Standings.{Terms, begun}
 use Rattle.bsc_session.specs.Taking.{full_wait}
 use Rattle.bsc_session.specs.Turns.{Turn, frames_in, said_in}
-use Rattle.bsc_session_laws.specs.Messages.{asked, carried, connected, forwarded, given_in, messages_of}
+use Rattle.bsc_session_laws.specs.Messages.{allowed, asked, carried, connected, forwarded, given_in, messages_of}
 
 -- ---- the messages
 
@@ -42,10 +44,12 @@ IsUnentered last m = (last_given last ≡ Some (Ok (Message m))) × MadeNone las
 abbrev pub IsOfConnection : Option ℕ → Entry → Type 0
 IsOfConnection conn e = (sender : ℕ) (m : List ℕ) → e.call ≡ Forward sender m → conn ≡ Some sender
 
--- The Forwards among the entries are the messages that came and are to be carried on, in order: all of them, or all but the
--- last thing that was given, where the hub made no entry of its call. And all are of the session's connection.
+-- The Forwards among the entries are the messages that came, are to be carried on and aren't denied, in order: all of them, or
+-- all but the last thing that was given, where the hub made no entry of its call. Without a policy they are, so, those that are
+-- to be carried on. And all are of the session's connection.
 pub record ForwardsAreCarried (v : Terms) (E : List Entry) (ended : Ended) (c : Course v) : Type 0 where
-  pub made : AreAllBut (IsUnentered c.last) (carried (messages_of c)) (forwarded E)
+  pub made : AreAllBut (IsUnentered c.last) (allowed (messages_of c)) (forwarded E)
+  pub unguarded : v.policy ≡ None → AreAllBut (IsUnentered c.last) (carried (messages_of c)) (forwarded E)
   pub own : AllByRecursion (IsOfConnection ended.conn) E
 
 -- ---- connects
@@ -54,10 +58,20 @@ pub record ForwardsAreCarried (v : Terms) (E : List Entry) (ended : Ended) (c : 
 abbrev pub IsUnconnected : Option Turn → Identity → Type 0
 IsUnconnected last who = MadeNone last ⊎ (last_judged last ≡ false)
 
+-- The policy doesn't admit who asks.
+abbrev pub IsTurnedAway : Option Policy → Identity → Type 0
+IsTurnedAway policy who = (p : Policy) × (policy ≡ Some p) × (is_admitted p.members.items who ≡ false)
+
+-- That, or the policy doesn't admit who asks.
+abbrev pub IsUnconnectedBy : Option Policy → Option Turn → Identity → Type 0
+IsUnconnectedBy policy last who = IsUnconnected last who ⊎ IsTurnedAway policy who
+
 -- The Connects among the entries are for those who asked to connect, in order: all of them, or all but the last, where the
--- hub made no entry of the last turn's call or memory was wanting to judge its message. One asked at most.
+-- hub made no entry of the last turn's call, memory was wanting to judge its message, or the policy doesn't admit who asks.
+-- Without a policy the last of these is no cause. One asked at most.
 pub record ConnectsAreAsked (v : Terms) (E : List Entry) (c : Course v) : Type 0 where
-  pub made : AreAllBut (IsUnconnected c.last) (asked (messages_of c)) (connected E)
+  pub made : AreAllBut (IsUnconnectedBy v.policy c.last) (asked (messages_of c)) (connected E)
+  pub unguarded : v.policy ≡ None → AreAllBut (IsUnconnected c.last) (asked (messages_of c)) (connected E)
   pub once : length (asked (messages_of c)) ≤ 1
 
 -- ---- frames

@@ -12,7 +12,9 @@ use Rattle.bsc_edge.specs.declared.incoming.Incoming.{Incoming}
 use Rattle.bsc_edge.specs.declared.incoming.Incoming.TheVariants.{Message}
 use Rattle.bsc_edge.specs.declared.said.Said.{Said}
 use Rattle.bsc_edge.specs.declared.said.Said.TheVariants.{Gave}
+use Rattle.bsc_lines.specs.declared.denial.Denial.{Denial}
 use Rattle.bsc_session.specs.Course.{Course, all_turns, shares}
+use Rattle.bsc_session.specs.Guarding.{denied_message}
 use Rattle.bsc_session.specs.Judging.{verdict_on}
 use Rattle.bsc_session.specs.Receiving.{Hearing}
 use Rattle.bsc_session.specs.Standings.{Standing, Terms, begun}
@@ -21,14 +23,16 @@ use Rattle.bsc_session.specs.Turns.{Turn}
 
 -- ---- the messages that were given
 
--- A message that the link gave, and the verdict on it: at the hub port, in the phase in which it came.
+-- A message that the link gave; the verdict on it, at the hub port, in the phase in which it came; and what the policy
+-- denies of it, where it is a unicast to be carried on: nothing, where there is no policy.
 pub record JudgedMessage : Type 0 where
   pub octets : List ℕ
   pub verdict : Verdict
+  pub denied : Option Denial
 
 -- the message among things given, by where the session stood
 abbrev pub message_by : Terms → Standing → Result Incoming LinkFault → List JudgedMessage
-message_by v s (Ok (Message m)) = record { octets = m; verdict = verdict_on v s m } ∷ []
+message_by v s (Ok (Message m)) = record { octets = m; verdict = verdict_on v s m; denied = denied_message v.policy s.address m } ∷ []
 message_by v s given = []
 
 abbrev pub message_after : Terms → Standing → Option Hearing → List JudgedMessage
@@ -60,6 +64,15 @@ carried_by m verdict = []
 -- Those of some messages that are to be carried on.
 abbrev pub carried : List JudgedMessage → List (List ℕ)
 carried ms = flat_map (λ m. carried_by m.octets m.verdict) ms
+
+abbrev pub allowed_by : List ℕ → Verdict → Option Denial → List (List ℕ)
+allowed_by m (Carry envelope) None = m ∷ []
+allowed_by m (Carry envelope) (Some d) = []
+allowed_by m verdict denial = []
+
+-- Those of some messages that are to be carried on and aren't denied.
+abbrev pub allowed : List JudgedMessage → List (List ℕ)
+allowed ms = flat_map (λ m. allowed_by m.octets m.verdict m.denied) ms
 
 abbrev pub asked_by : Verdict → List Identity
 asked_by (Pass msg) = option_to_list (who_asks msg.body)
