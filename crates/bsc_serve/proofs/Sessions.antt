@@ -44,7 +44,7 @@ module _ {L C : Type 0} where
   pub our_end : (talk : L → Option (List Said)) (faults : L → ℕ) (readings : C → Option (List ℕ)) (h : Hub) (j : SessionJob L C)
       (d : SessionEnd) → IsOurs h j → Worked talk faults readings j d → IsOurEnd h j d × (ended_callers d.pass ≡ [])
   our_end talk faults readings h j d ours w =
-      let goes = w.served.goes in
+      let goes = w.served.serves.goes in
       ((subst (λ (y : Hub). IsCaller y d.pass) ours.0 goes.caller, goes.number), goes.took_in ∙ ours.1)
 
 drawn_same : (h : Hub) (w p q : Pass) → newest_number q ≡ newest_number p → (newest_number w ≤ newest_number p) ⊎ (newest_number p ≡ limit_of h) → (newest_number w ≤ newest_number q) ⊎ (newest_number q ≡ limit_of h)
