@@ -76,7 +76,8 @@ impl State {
         closing: Closing,
     ) -> Result<(), NoMemory>
         ensures direct { OnOk result (self.new.direct ≡ self.old.direct) }
-        ensures goes { OnOk result (Goes (λ a. in_order (does (Action.Put name octets) ∷ does (Action.Close name closing) ∷ [])) out.old self.old out.new self.new) }
+        ensures goes { OnOk result (Goes (λ a. in_order (does (Action.Put name octets) ∷ does (Action.Close name closing) ∷ []))
+            out.old self.old out.new self.new) }
     {
         self.put(out, name, octets)?;
         self.close(out, name, closing)
@@ -422,7 +423,8 @@ impl State {
         now: u64,
     ) -> Result<(), NoMemory>
         requires { now < 2 ^ 62 }
-        ensures { OnOk result (FollowsAtRest limits.now now (λ a. in_order (map (λ k. finishes_link a (LinkName.Direct k)) slots)) out.old self.old out.new self.new) }
+        ensures { OnOk result (FollowsAtRest limits.now now (λ a. in_order (map (λ k. finishes_link a (LinkName.Direct k)) slots))
+            out.old self.old out.new self.new) }
     {
         for k in 0..SLOTS {
             self.finish_link(out, alloc, limits, now, LinkName::Direct(k))?;

@@ -89,7 +89,8 @@ impl State {
         now: u64,
     ) -> Result<(), NoMemory>
         requires { now < 2 ^ 62 }
-        ensures { OnOk result (FollowsAtRest limits.now now (λ a. in_order (map (ticks_link a) names ++ tells_connector a ConnectorEvent.Tick ∷ [])) out.old self.old out.new self.new) }
+        ensures { OnOk result (FollowsAtRest limits.now now (λ a. in_order (map (ticks_link a) names
+            ++ tells_connector a ConnectorEvent.Tick ∷ [])) out.old self.old out.new self.new) }
     {
         self.tick_link(out, alloc, limits, now, LinkName::Hub(Side::Primary))?;
         self.tick_link(out, alloc, limits, now, LinkName::Hub(Side::Failover))?;
@@ -180,8 +181,10 @@ fn obey_heard(
     requires time { now < 2 ^ 62 }
     requires uris { IfSome limits.now.uris IsUtf8 }
     ensures goes { OnOk result ((b : Base) (L : Log) (M : Log) → b.made.limits ≡ limits.now → b.now ≡ now → b.busy ≡ None → is_name name ≡ true
-        → ((who : Identity) → outcome b.made M name ≡ meets who → same_vmac who.vmac broadcast ≡ false) → ResolveStands resolve.old b.made.limits.times.connect_wait (resolve_calls L)
-        → HasTold (asked_by L b) out.old state.old M name (outcome_of origin passed deed) → BothStand b out.new state.new resolve.new (M ++ obeys b.made name M)) }
+        → ((who : Identity) → outcome b.made M name ≡ meets who → same_vmac who.vmac broadcast ≡ false)
+        → ResolveStands resolve.old b.made.limits.times.connect_wait (resolve_calls L)
+        → HasTold (asked_by L b) out.old state.old M name (outcome_of origin passed deed)
+        → BothStand b out.new state.new resolve.new (M ++ obeys b.made name M)) }
     ensures err { OnErr result (IsUnchanged resolve.old resolve.new) }
 {
     match deed {

@@ -136,7 +136,8 @@ impl State {
         requires { LeavesAccepting step machine }
         ensures { IfOk result (λ d. (b : Base) (out : List Action) (L : Log) (before : Accepting) (e : Event) (origin : Option Vmac)
             → taken_in (link_at self.old.links name).machine ≡ Some before → is_name name ≡ true
-            → AnswersAccepting before machine e step → may_tell_taken before.stage e ≡ true → goes_up e (standing (accepting_events L name)) ≡ connected → Stands (busy_with name b) out self.old L
+            → AnswersAccepting before machine e step → may_tell_taken before.stage e ≡ true
+            → goes_up e (standing (accepting_events L name)) ≡ connected → Stands (busy_with name b) out self.old L
             → HasTold b out self.new (L ++ accepting name e ∷ []) name (outcome_of origin (message_taken e) d)) }
     {
         self.links.go_on_taken(name, machine, &step);

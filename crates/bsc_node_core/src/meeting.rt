@@ -184,7 +184,8 @@ impl State {
         requires unicast { who.vmac ≢ broadcast }
         ensures { OnOk result ((b : Base) (L : Log) → b.made.limits ≡ limits.now → b.now ≡ now → b.busy ≡ None
             → (link_at self.old.links (LinkName.Direct k)).machine ≡ Machine.Asked machine
-            → Stands (busy_with (LinkName.Direct k) b) out.old self.old L → Stands b out.new self.new (L ++ meets_taken b.made k who (establish b.made k who L) L)) }
+            → Stands (busy_with (LinkName.Direct k) b) out.old self.old L
+            → Stands b out.new self.new (L ++ meets_taken b.made k who (establish b.made k who L) L)) }
     {
         match self.direct.establishes(self.own.vmac, k, &who) {
             Establish::Up { .. } => {

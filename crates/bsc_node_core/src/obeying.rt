@@ -103,7 +103,8 @@ impl State {
         now: u64,
     ) -> Result<(), NoMemory>
         requires { now < 2 ^ 62 }
-        ensures { OnOk result (FollowsAtRest limits.now now (λ a. in_order (map (λ k. ticks_link a (LinkName.Direct k)) slots)) out.old self.old out.new self.new) }
+        ensures { OnOk result (FollowsAtRest limits.now now (λ a. in_order (map (λ k. ticks_link a (LinkName.Direct k)) slots))
+            out.old self.old out.new self.new) }
     {
         for k in 0..SLOTS {
             self.tick_link(out, alloc, limits, now, LinkName::Direct(k))?;

@@ -161,7 +161,9 @@ notes_hearing v s now h = noted v s (step_of v s now h) h.given h.answer
 
 -- How a hearing stops the session.
 abbrev pub stop_hearing : Terms → Standing → ℕ → Hearing → Option Stop
-stop_hearing v s now h = stop_given h.given (stop_judged h.judged (stop_message v (stands_heard v s now h) (step_of v s now h) (denial_in v s now h) h.answer h.lost h.fault))
+stop_hearing v s now h =
+    stop_given h.given (stop_judged h.judged
+    (stop_message v (stands_heard v s now h) (step_of v s now h) (denial_in v s now h) h.answer h.lost h.fault))
 
 -- a connect is told that it joined or was refused
 abbrev pub Fits : Step → Option Answer → Type 0

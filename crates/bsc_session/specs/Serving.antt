@@ -79,7 +79,8 @@ pub record ServesUnrecorded (v : Terms) (h : Hub) (p q : Pass) (old new : Option
 -- What a serving call with a journal says: it is such a session, each own entry that it notes stands at its place in the
 -- history, and what it notes is in the journal, where that tells what it holds: the line of each own entry and of each denial,
 -- in order; and where a line wasn't put, all lines before that one and some first part of it.
-pub record ServesNoting (v : Terms) (h : Hub) (p q : Pass) (old new : Option (List Said)) (read read' : Option (List ℕ)) (held held' : Option (List ℕ)) (ended : Ended) : Type 0 where
+pub record ServesNoting (v : Terms) (h : Hub) (p q : Pass) (old new : Option (List Said)) (read read' : Option (List ℕ))
+    (held held' : Option (List ℕ)) (ended : Ended) : Type 0 where
   pub serves : Serves v h p q old new read read' ended
   pub stand : AllStand (entries (seen q)) (journal_of serves.session)
   pub records : Records held held' (journal_of serves.session) (lost_of serves.session)

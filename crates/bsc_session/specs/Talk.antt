@@ -72,12 +72,15 @@ pub record Session (v : Terms) (T : List Said) (R : List ℕ) (E : List Entry) (
   pub made : ended.turns ≡ (end_of course).receives
 
 -- What a session notes in the journal: what its turns do, and then its Leave.
-abbrev pub leave_of : {v : Terms} {T : List Said} {R : List ℕ} {E : List Entry} {frames : List (List ℕ)} {ended : Ended} → Session v T R E frames ended → List Entry
+abbrev pub leave_of : {v : Terms} {T : List Said} {R : List ℕ} {E : List Entry} {frames : List (List ℕ)} {ended : Ended}
+    → Session v T R E frames ended → List Entry
 leave_of {v} {T} {R} {E} {frames} {ended} x = leaving v.caller ended.conn ended.taken ended.empties x.reply
 
-abbrev pub journal_of : {v : Terms} {T : List Said} {R : List ℕ} {E : List Entry} {frames : List (List ℕ)} {ended : Ended} → Session v T R E frames ended → List Note
+abbrev pub journal_of : {v : Terms} {T : List Said} {R : List ℕ} {E : List Entry} {frames : List (List ℕ)} {ended : Ended}
+    → Session v T R E frames ended → List Note
 journal_of x = notes_of x.course ++ noted_leaving x.course.stop.lost x.left_at (leave_of x)
 
 -- Why a line of a session wasn't put, where one wasn't.
-abbrev pub lost_of : {v : Terms} {T : List Said} {R : List ℕ} {E : List Entry} {frames : List (List ℕ)} {ended : Ended} → Session v T R E frames ended → Option Fault
+abbrev pub lost_of : {v : Terms} {T : List Said} {R : List ℕ} {E : List Entry} {frames : List (List ℕ)} {ended : Ended}
+    → Session v T R E frames ended → Option Fault
 lost_of x = first_lost x.course.stop.lost x.left_lost

@@ -68,7 +68,9 @@ stop_in v s t = first_of (stop_before v s t.opening) (stop_after v (opened s t.o
 
 -- One for a turn in Connected that found the outbox empty: it took fewer than sixteen frames, met no End, and received.
 abbrev pub empties_in : Terms → Standing → Turn → ℕ
-empties_in v s t = if is_none t.opening.met && (is_some t.hearing && (is_connected (ticked s t.opening.reading) && nat_lt (length t.opening.frames) 16)) then 1 else 0
+empties_in v s t =
+    if is_none t.opening.met && (is_some t.hearing && (is_connected (ticked s t.opening.reading) && nat_lt (length t.opening.frames) 16))
+    then 1 else 0
 
 abbrev pub IsHearingIf : Terms → Standing → ℕ → Option Hearing → Type 0
 IsHearingIf v s now None = ⊤

@@ -12,7 +12,8 @@ ghost use Rattle.bsc_accept.specs.declared.event.Event.{Event};
 ghost use Rattle.bsc_accept.specs.declared.step.Step.{Step};
 ghost use Rattle.bsc_hub.specs.Passing.{IsCaller, IsOwnAs, about_of};
 ghost use Rattle.bsc_session.specs.declared.why.Why.{Why};
-ghost use Rattle.bsc_session.specs.Inner.{Answers, Carries, Forwards, HasStanding, HearsMessage, Held, IsMember, RoseFor, RoseIf, Runs, Tied, TurnsAway, UnputBy, UnputIf};
+ghost use Rattle.bsc_session.specs.Inner.{Answers, Carries, Forwards, HasStanding, HearsMessage, Held, IsMember};
+ghost use Rattle.bsc_session.specs.Inner.{RoseFor, RoseIf, Runs, Tied, TurnsAway, UnputBy, UnputIf};
 ghost use Rattle.bsc_session.specs.Answering.{denied_in};
 ghost use Rattle.bsc_session.specs.Standings.{Standing, Terms, start_of, wanted};
 ghost use Rattle.bsc_session.specs.Stops.{stop_closing};
@@ -160,7 +161,8 @@ fn forward_one<R: Wait, L: Link, J: Journal>(
     requires own { IsOwnAs pass.old conn frame.sender }
     requires same { m.now ≡ frame.message }
     requires unicast { IsFalse (is_broadcast frame.message) }
-    ensures forwarded { Forwards hub.now pass.old pass.new conn frame.message (L.talk link.old) (L.talk link.new) (J.held journal.old) (J.held journal.new) result }
+    ensures forwarded { Forwards hub.now pass.old pass.new conn frame.message (L.talk link.old) (L.talk link.new)
+        (J.held journal.old) (J.held journal.new) result }
     ensures same { L.faults link.new ≡ L.faults link.old }
     ensures other { (n : ℕ) → RoseIf result n n }
     ensures unrecorded { UnputIf J.makes_lines result (J.faults journal.old) (J.faults journal.new) }
@@ -193,7 +195,8 @@ fn forward_all<R: Wait, L: Link, J: Journal>(
     requires own { IsOwnAs pass.old conn frame.now.sender }
     requires same { m.now ≡ frame.now.message }
     requires broadcast { IsTrue (is_broadcast frame.now.message) }
-    ensures forwarded { Forwards hub.now pass.old pass.new conn frame.now.message (L.talk link.old) (L.talk link.new) (J.held journal.old) (J.held journal.new) result }
+    ensures forwarded { Forwards hub.now pass.old pass.new conn frame.now.message (L.talk link.old) (L.talk link.new)
+        (J.held journal.old) (J.held journal.new) result }
     ensures same { L.faults link.new ≡ L.faults link.old }
     ensures other { (n : ℕ) → RoseIf result n n }
     ensures unrecorded { UnputIf J.makes_lines result (J.faults journal.old) (J.faults journal.new) }
@@ -314,7 +317,8 @@ pub fn take_message<R: Wait, L: Link, J: Journal>(
     m: &[u8],
 ) -> Option<Stop>
     requires { HasStanding hub.now pass.old at.old }
-    ensures heard { (v : Terms) (s : Standing) → v.hub ≡ (about_of hub.now).hub → v.policy ≡ option_map (λ p. p.now) policy.entry → Held hub.now v pass.old at.old s → Runs v at.old s
+    ensures heard { (v : Terms) (s : Standing) → v.hub ≡ (about_of hub.now).hub → v.policy ≡ option_map (λ p. p.now) policy.entry
+        → Held hub.now v pass.old at.old s → Runs v at.old s
         → HearsMessage v s now m.now hub.now pass.old pass.new at.old at.new (L.talk link.old) (L.talk link.new) (J.held journal.old) (J.held journal.new) result }
     ensures later { L.faults link.old ≤ L.faults link.new }
     ensures failed { RoseIf result (L.faults link.old) (L.faults link.new) }

@@ -29,7 +29,8 @@ pub fn note_joined<J: Journal>(
     conn: u64,
     replaced: Option<u64>,
 ) -> Result<(), LinkFault>
-    ensures noted { Records (J.held journal.old) (J.held journal.new) (made_note at (connect_entry caller who (Reply.Joined conn replaced)) ∷ []) (fault_in result) }
+    ensures noted { Records (J.held journal.old) (J.held journal.new)
+        (made_note at (connect_entry caller who (Reply.Joined conn replaced)) ∷ []) (fault_in result) }
     ensures made { IsErr result → J.makes_lines ≡ true }
     ensures later { J.faults journal.old ≤ J.faults journal.new }
     ensures failed { result ≡ Err LinkFault.Failed → HasRisen (J.faults journal.old) (J.faults journal.new) }
@@ -70,7 +71,8 @@ pub fn note_one<J: Journal>(
     message: &[u8],
     said: OneReply,
 ) -> Result<(), LinkFault>
-    ensures noted { Records (J.held journal.old) (J.held journal.new) (made_note at (forward_entry caller conn message.now (one_looks said) (one_reply said)) ∷ []) (fault_in result) }
+    ensures noted { Records (J.held journal.old) (J.held journal.new)
+        (made_note at (forward_entry caller conn message.now (one_looks said) (one_reply said)) ∷ []) (fault_in result) }
     ensures made { IsErr result → J.makes_lines ≡ true }
     ensures later { J.faults journal.old ≤ J.faults journal.new }
     ensures failed { result ≡ Err LinkFault.Failed → HasRisen (J.faults journal.old) (J.faults journal.new) }
@@ -93,7 +95,8 @@ pub fn note_all<J: Journal>(
     message: &[u8],
     said: &AllReply,
 ) -> Result<(), LinkFault>
-    ensures noted { Records (J.held journal.old) (J.held journal.new) (made_note at (forward_entry caller conn message.now (all_looks said.now) (all_reply said.now)) ∷ []) (fault_in result) }
+    ensures noted { Records (J.held journal.old) (J.held journal.new)
+        (made_note at (forward_entry caller conn message.now (all_looks said.now) (all_reply said.now)) ∷ []) (fault_in result) }
     ensures made { IsErr result → J.makes_lines ≡ true }
     ensures later { J.faults journal.old ≤ J.faults journal.new }
     ensures failed { result ≡ Err LinkFault.Failed → HasRisen (J.faults journal.old) (J.faults journal.new) }

@@ -62,7 +62,8 @@ fn run<R: Wait, L: Link, C: Clock, J: Journal>(
     requires member { at.old.member ≡ None }
     requires ended { at.old.ended ≡ None }
     requires receives { at.old.receives ≡ 0 }
-    ensures ran { Ran (terms_of hub.now pass.old limits.now turns (option_map (λ p. p.now) policy.entry)) hub.now pass.old pass.new at.new (L.talk link.old) (L.talk link.new)
+    ensures ran { Ran (terms_of hub.now pass.old limits.now turns (option_map (λ p. p.now) policy.entry))
+        hub.now pass.old pass.new at.new (L.talk link.old) (L.talk link.new)
         (C.readings clock.old) (C.readings clock.new) (J.held journal.old) (J.held journal.new) result }
     ensures later { L.faults link.old ≤ L.faults link.new }
     ensures failed { RoseFor result.why (L.faults link.old) (L.faults link.new) }
@@ -94,7 +95,8 @@ fn serve<R: Wait, L: Link, C: Clock, J: Journal>(
     policy: Option<&Policy>,
 ) -> Ended
     requires { IsCaller hub.now pass.old }
-    ensures served { ServesBy J.makes_lines (terms_of hub.now pass.old limits.now turns (option_map (λ p. p.now) policy.entry)) hub.now pass.old pass.new (L.talk link.old) (L.talk link.new)
+    ensures served { ServesBy J.makes_lines (terms_of hub.now pass.old limits.now turns (option_map (λ p. p.now) policy.entry))
+        hub.now pass.old pass.new (L.talk link.old) (L.talk link.new)
         (C.readings clock.old) (C.readings clock.new) (J.held journal.old) (J.held journal.new) result }
     ensures ends { GrowsToFault (L.talk link.old) (L.talk link.new) }
     ensures caused { HasExactCause (terms_of hub.now pass.old limits.now turns (option_map (λ p. p.now) policy.entry)) result }

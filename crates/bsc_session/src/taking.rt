@@ -6,7 +6,8 @@ ghost use Rattle.bsc_ring.specs.Ends.{empties_of};
 ghost use Rattle.bsc_outside.specs.Faults.{HasRisen};
 ghost use Rattle.bsc_edge.specs.declared.fault.LinkFault.{LinkFault};
 ghost use Rattle.bsc_session.specs.declared.taken.Taken.{Taken};
-ghost use Rattle.bsc_session.specs.Inner.{Attends, Follows, HandsOn, Meets, RoseIf, Runs, Takes, TakesFrom, TellsMore, Tied, UnputBy, UnputIf, empties_by, stop_of, unput_by, unput_in};
+ghost use Rattle.bsc_session.specs.Inner.{Attends, Follows, HandsOn, Meets, RoseIf, Runs, Takes, TakesFrom};
+ghost use Rattle.bsc_session.specs.Inner.{TellsMore, Tied, UnputBy, UnputIf, empties_by, stop_of, unput_by, unput_in};
 ghost use Rattle.bsc_session.specs.Standings.{Standing, Terms, start_of};
 
 use crate::at::At;
@@ -37,7 +38,8 @@ fn hand_on<L: Link, J: Journal>(
     to: Vmac,
     frame: &[u8],
 ) -> Option<Taken>
-    ensures handed { HandsOn (option_map (λ p. p.now) policy.entry) to frame.now (L.talk link.old) (L.talk link.new) (J.held journal.old) (J.held journal.new) result }
+    ensures handed { HandsOn (option_map (λ p. p.now) policy.entry) to frame.now (L.talk link.old) (L.talk link.new)
+        (J.held journal.old) (J.held journal.new) result }
     ensures later { L.faults link.old ≤ L.faults link.new }
     ensures journal_later { J.faults journal.old ≤ J.faults journal.new }
     ensures failed { result ≡ Some (Taken.Cut LinkFault.Failed) → HasRisen (L.faults link.old) (L.faults link.new) }
@@ -67,7 +69,8 @@ pub fn take_frames<L: Link, J: Journal>(
     outlet: &mut Outlet,
 ) -> Taken
     requires { empties_of outlet.old < 18446744073709551615 }
-    ensures took { Takes (option_map (λ p. p.now) policy.entry) to outlet.old outlet.new (L.talk link.old) (L.talk link.new) (J.held journal.old) (J.held journal.new) result }
+    ensures took { Takes (option_map (λ p. p.now) policy.entry) to outlet.old outlet.new (L.talk link.old) (L.talk link.new)
+        (J.held journal.old) (J.held journal.new) result }
     ensures later { L.faults link.old ≤ L.faults link.new }
     ensures journal_later { J.faults journal.old ≤ J.faults journal.new }
     ensures failed { result ≡ Taken.Cut LinkFault.Failed → HasRisen (L.faults link.old) (L.faults link.new) }
@@ -117,7 +120,8 @@ fn take_from<L: Link, J: Journal>(
 ) -> Taken
     requires some { IsTrue (is_some member.old) }
     requires room { empties_by member.old < 18446744073709551615 }
-    ensures took { TakesFrom (option_map (λ p. p.now) policy.entry) member.old member.new (L.talk link.old) (L.talk link.new) (J.held journal.old) (J.held journal.new) result }
+    ensures took { TakesFrom (option_map (λ p. p.now) policy.entry) member.old member.new (L.talk link.old) (L.talk link.new)
+        (J.held journal.old) (J.held journal.new) result }
     ensures later { L.faults link.old ≤ L.faults link.new }
     ensures journal_later { J.faults journal.old ≤ J.faults journal.new }
     ensures failed { result ≡ Taken.Cut LinkFault.Failed → HasRisen (L.faults link.old) (L.faults link.new) }
