@@ -5,7 +5,7 @@ use bsc_edge::{Acceptor, Arrived, Failed, FileFault, Files, Kind, LinkFault};
 use bsc_gate::{AcceptedLink, Gate};
 use bsc_live::{Bells, Watch};
 use bsc_octets::{Octets, Vmac};
-use bsc_settings::{KeyName, PolicyRefusal, SettingFault, Settings, read_settings, refusal_of};
+use bsc_settings::{Settings, read_settings};
 use std::alloc::Global;
 use std::cell::Cell;
 use std::io::{self, Eprint};
@@ -24,8 +24,6 @@ pub struct Noted {
     pub owner: Option<Vmac>,
     /// Whether they have a policy.
     pub guarded: bool,
-    /// Why their policy is refused, where it is.
-    pub refusal: Option<PolicyRefusal>,
 }
 
 impl Noted {
@@ -34,7 +32,6 @@ impl Noted {
         Noted {
             owner: None,
             guarded: false,
-            refusal: None,
         }
     }
 }
@@ -71,15 +68,6 @@ fn noted_of(alloc: Global, kind: Kind, text: &[u8]) -> Option<Noted> {
         Ok(settings) => Some(Noted {
             owner: Some(owner_in(&settings, kind)?),
             guarded: settings.policy.is_some(),
-            refusal: None,
-        }),
-        Err(
-            SettingFault::Key {
-                name: KeyName::PolicyMember | KeyName::PolicyRule,
-            },
-        ) => Some(Noted {
-            refusal: refusal_of(alloc, text),
-            ..Noted::nothing()
         }),
         Err(_) => None,
     }
