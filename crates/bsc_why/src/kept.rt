@@ -44,17 +44,17 @@ impl Kept {
     }
 
     /// Whether all that was read is kept.
-    pub fn is_whole(&self) -> bool {
+    pub(crate) fn is_whole(&self) -> bool {
         self.is_whole
     }
 
     /// Whether the input ended.
-    pub fn has_ended(&self) -> bool {
+    pub(crate) fn has_ended(&self) -> bool {
         self.has_ended
     }
 
     /// What is kept, from the beginning of a line on.
-    pub fn text(&self, alloc: Global) -> Result<Vec<u8>, NoMemory> {
+    pub(crate) fn text(&self, alloc: Global) -> Result<Vec<u8>, NoMemory> {
         let mut text = Vec::with_capacity(
             alloc,
             self.older.len().saturating_add(self.newer.len()),
