@@ -122,6 +122,7 @@ fn main(rt: HostRuntime) -> ExitCode {
         &mut spawner,
         &mut kept,
     );
+    let file = files.text();
     let heard = Heard {
         called: name_in(&room, length),
         words: words.as_slice(),
@@ -130,7 +131,7 @@ fn main(rt: HostRuntime) -> ExitCode {
         input_error: source.error(),
         line: sink.line(),
         files: files.given(),
-        file: files.text(),
+        file,
         file_error: unread.get(),
         door: acceptor.note(),
     };
