@@ -6,7 +6,7 @@ use bsc_edge::{Acceptor, Arrived, Failed, FileFault, Files, Kind, LinkFault};
 use bsc_gate::{AcceptedLink, Gate};
 use bsc_live::Bells;
 use bsc_octets::{Octets, Vmac};
-use bsc_settings::{KeyName, PolicyRefusal, SettingFault, Settings, read_settings, refusal_of};
+use bsc_settings::{Settings, read_settings};
 use std::alloc::Global;
 use std::cell::Cell;
 use std::io::{self, Eprint};
@@ -25,8 +25,6 @@ pub struct Noted {
     pub owner: Option<Vmac>,
     /// Whether they have a policy.
     pub guarded: bool,
-    /// Why their policy is refused, where it is.
-    pub refusal: Option<PolicyRefusal>,
 }
 
 impl Noted {
@@ -35,7 +33,6 @@ impl Noted {
         Noted {
             owner: None,
             guarded: false,
-            refusal: None,
         }
     }
 }
@@ -72,15 +69,6 @@ fn noted_of(alloc: Global, kind: Kind, text: &[u8]) -> Option<Noted> {
         Ok(settings) => Some(Noted {
             owner: Some(owner_in(&settings, kind)?),
             guarded: settings.policy.is_some(),
-            refusal: None,
-        }),
-        Err(
-            SettingFault::Key {
-                name: KeyName::PolicyMember | KeyName::PolicyRule,
-            },
-        ) => Some(Noted {
-            refusal: refusal_of(alloc, text),
-            ..Noted::nothing()
         }),
         Err(_) => None,
     }

@@ -1,25 +1,24 @@
 //! `bsc`: the switching layer of BACnet Secure Connect, on the command line.
 //!
 //! All that the program does is `run` of `bsc_commands`. `main` hands it standard input and output, the files, the clock,
-//! the random octets, the links and the threads of the machine that it is on, and says on standard error where to find
-//! how it is called, if its words are refused, and why a policy is, if it is.
+//! the random octets, the links and the threads of the machine that it is on. Where the run ends with a fault, `tell` of
+//! `bsc_why` says on standard error why, by what was heard of these.
 #![tactic(auto)]
 
 use bsc_commands::{Door, Noted, NotingFiles, RealLink, RealWaiter, real_dialer, run};
-use bsc_edge::{
-    Disk, Kind, Monotonic, Places, Promised, Running, ThreadSpawner, Unstarted, launch,
-};
+use bsc_edge::{Kind, Monotonic, Places, Promised, Running, ThreadSpawner, Unstarted, launch};
 use bsc_hub::Kept;
 use bsc_links::{PeerAcceptor, PeerDialer};
 use bsc_node_command::RandomWords;
 use bsc_octets::NoMemory;
-use bsc_outside::{ReaderSource, WriterSink};
+use bsc_outside::WriterSink;
 use bsc_player::out_of_memory;
 use bsc_session::{SessionEnd, SessionJob};
+use bsc_why::{Heard, KeptFiles, KeptSource, NotedAcceptor, NotedDisk, NotedSink, name_in, tell};
 use bsc_words::{Asked, WordsFault, read_words};
 use std::alloc::Global;
 use std::cell::Cell;
-use std::env;
+use std::env::{self, Env};
 use std::io::{self, ErrorKind};
 use std::process::ExitCode;
 use std::rc::Rc;
@@ -40,14 +39,14 @@ fn kind_of(alloc: Global, words: &[String]) -> Result<Kind, NoMemory> {
     }
 }
 
-/// The status of words that are refused.
-const REFUSED: u8 = 1;
-
 fn main(rt: HostRuntime) -> ExitCode {
     let alloc = rt.alloc();
-    let mut source = ReaderSource::new(rt.reader());
-    let mut sink = WriterSink::new(io::writer(&rt));
+    let mut source = KeptSource::new(alloc, rt.reader());
+    let mut sink = NotedSink::new(WriterSink::new(io::writer(&rt)));
+    let mut room = [0; 256];
+    let length = rt.arg(0, &mut room).ok();
     let mut words = Vec::new(alloc);
+    let mut has_texts = true;
     match env::args(&rt) {
         Ok(args) => {
             for word in args.skip(1) {
@@ -61,10 +60,12 @@ fn main(rt: HostRuntime) -> ExitCode {
                 return ExitCode::from(out_of_memory(&mut sink));
             }
             // A word that isn't UTF-8 names no command. The run is given no words then, which are refused too.
+            has_texts = false;
         }
     }
-    let (Ok(notes), Ok(places)) = (
+    let (Ok(notes), Ok(unread), Ok(places)) = (
         Rc::new(alloc, Cell::new(Noted::nothing())),
+        Rc::new(alloc, Cell::new(None)),
         Places::make(alloc, SESSIONS),
     ) else {
         return ExitCode::from(out_of_memory(&mut sink));
@@ -73,6 +74,9 @@ fn main(rt: HostRuntime) -> ExitCode {
         return ExitCode::from(out_of_memory(&mut sink));
     };
     let Ok(of_door) = notes.clone() else {
+        return ExitCode::from(out_of_memory(&mut sink));
+    };
+    let Ok(of_disk) = unread.clone() else {
         return ExitCode::from(out_of_memory(&mut sink));
     };
     let begin = move |alloc: Global, places: &Arc<Places>, job: Job| -> Result<
@@ -92,10 +96,12 @@ fn main(rt: HostRuntime) -> ExitCode {
     let Ok(dialer) = real_dialer(rt, alloc, of_links) else {
         return ExitCode::from(out_of_memory(&mut sink));
     };
-    let mut files = NotingFiles::new(Disk::new(rt), kind, of_files);
+    let disk = NotedDisk::new(rt, of_disk);
+    let mut files = KeptFiles::new(NotingFiles::new(disk, kind, of_files));
     let mut clock = Monotonic::new(rt);
     let mut random = RandomWords::new(rt);
-    let mut acceptor = PeerAcceptor::new(Door::new(rt, alloc, kind, of_door, of_gate));
+    let door = Door::new(rt, alloc, kind, of_door, of_gate);
+    let mut acceptor = NotedAcceptor::new(PeerAcceptor::new(door));
     let mut dialer = PeerDialer::new(dialer);
     let mut kept = Kept {
         hub: None,
@@ -116,15 +122,20 @@ fn main(rt: HostRuntime) -> ExitCode {
         &mut spawner,
         &mut kept,
     );
-    if status == REFUSED {
-        // Where nobody can be told, the status says it all the same.
-        let _ = eprintln!(rt;
-            "bsc: these words are no command; ./bsc --help in the repository says how to call it"
-        );
-    }
-    if let Some(refusal) = notes.get().refusal {
-        let _ = eprintln!(rt; "bsc: {refusal}");
-    }
+    let file = files.text();
+    let heard = Heard {
+        called: name_in(&room, length),
+        words: words.as_slice(),
+        has_texts,
+        input: source.kept(),
+        input_error: source.error(),
+        line: sink.line(),
+        files: files.given(),
+        file,
+        file_error: unread.get(),
+        door: acceptor.note(),
+    };
+    tell(&rt, alloc, status, &heard);
     waiter.outlast_lingering(&rt);
     ExitCode::from(status)
 }

@@ -1,5 +1,5 @@
 //! Tests of what is read and written by lines: the outside, text, words, settings, the player of lines, the languages of
-//! scripts and of `check`, and the commands `replay`, `check` and `load`.
+//! scripts and of `check`, the commands `replay`, `check` and `load`, and what is said of what is refused.
 //!
 //! They stand in a crate of their own, since a crate's own tests have all of its functions proved a second time. Each module
 //! has the tests of one crate, and is named for it.
@@ -23,5 +23,7 @@ mod script;
 mod settings;
 #[cfg(test)]
 mod text;
+#[cfg(test)]
+mod why;
 #[cfg(test)]
 mod words;

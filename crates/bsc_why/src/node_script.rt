@@ -1,0 +1,96 @@
+//! Lines of the script of a node (docs/OPERATING.md, "The script of a node").
+use crate::cutting::next_line;
+use crate::reason::Reason;
+use crate::rules::{destination, no_more, number, octets, one_node, only_word, word_of};
+use bsc_text::{begins_comment, next_word, read_number};
+
+const SEND: &str = "send VMAC OCTETS";
+
+/// What is sent: a VMAC that isn't zero, and at least one octet.
+fn hold_send<'a>(words: &'a [u8]) -> Result<(), Reason<'a>> {
+    let (dest, words) = word_of(words, SEND)?;
+    destination(dest)?;
+    let _ = word_of(words, SEND)?;
+    octets(words)
+}
+
+/// A line that does something, by its first word and those after it.
+fn hold_words<'a>(first: &'a [u8], words: &'a [u8]) -> Result<(), Reason<'a>> {
+    if first == b"at".as_slice() {
+        return number(only_word(words, "at MS")?);
+    }
+    if first == b"send".as_slice() {
+        return hold_send(words);
+    }
+    if first == b"resolve".as_slice() {
+        return one_node(only_word(words, "resolve VMAC")?);
+    }
+    if first == b"direct".as_slice() {
+        return one_node(only_word(words, "direct VMAC")?);
+    }
+    if first == b"solicit".as_slice() {
+        return one_node(only_word(words, "solicit VMAC")?);
+    }
+    if first == b"finish".as_slice() {
+        return no_more(words, "finish");
+    }
+    Err(Reason::Word {
+        word: first,
+        rule: "begins no line: at, send, resolve, direct, solicit and finish do",
+    })
+}
+
+/// The rule that a line breaks which has no form of a line of a node's script; None of one that has.
+pub(crate) fn why_form<'a>(line: &'a [u8]) -> Option<Reason<'a>> {
+    let (first, words) = next_word(line)?;
+    if begins_comment(first) {
+        return None;
+    }
+    match hold_words(first, words) {
+        Err(reason) => Some(reason),
+        Ok(()) => None,
+    }
+}
+
+/// Whether a line is that which ends the node.
+fn is_finish(line: &[u8]) -> bool {
+    match next_word(line) {
+        Some((first, _)) => first == b"finish".as_slice(),
+        None => false,
+    }
+}
+
+/// Whether a line of some lines is that which ends the node.
+fn have_finish(lines: &[u8]) -> bool {
+    let mut rest = lines;
+    while let Some((line, after)) = next_line(rest) {
+        if is_finish(line) {
+            return true;
+        }
+        rest = after;
+    }
+    false
+}
+
+/// The rule that a line breaks by where it stands, behind these lines.
+pub(crate) fn why_place<'a>(before: &[u8], line: &'a [u8]) -> Reason<'a> {
+    if have_finish(before) {
+        return Reason::Line {
+            rule: "it stands behind `finish`, which is the last line that does anything",
+        };
+    }
+    match next_word(line) {
+        Some((_, words)) => match next_word(words) {
+            Some((word, _)) if read_number(word).is_some() => Reason::Word {
+                word,
+                rule: "is less than the time of the `at` before it",
+            },
+            _ => Reason::Line {
+                rule: "it is no line of a node's script",
+            },
+        },
+        None => Reason::Line {
+            rule: "it is no line of a node's script",
+        },
+    }
+}
