@@ -5,4 +5,5 @@ mod Forwarding
 mod Connecting
 mod Owning
 mod Accepting
+mod Guarding
 mod WorkedLaws

@@ -4,8 +4,9 @@ ghost use Rattle.bsc_history.specs.declared.entry.Entry.{Entry};
 ghost use Rattle.bsc_edge.specs.declared.said.Said.{Said};
 ghost use Rattle.bsc_session.specs.declared.ended.Ended.{Ended};
 ghost use Rattle.bsc_session.specs.Standings.{Terms};
-ghost use Rattle.bsc_session.specs.Talk.{Session};
+ghost use Rattle.bsc_session.specs.Talk.{Session, journal_of};
 ghost use Rattle.bsc_session_laws.specs.Laws.{ConnectsAreAsked, ForwardsAreCarried, FramesFollowAccept, MessagesAreGiven};
+ghost use Rattle.bsc_session_laws.specs.Policies.{PolicyIsFollowed};
 
 /// The messages of a session that are judged are those that its link gave, in order.
 pub fn messages_are_given()
@@ -31,4 +32,12 @@ pub fn connects_are_asked()
 pub fn frames_follow_accept()
     ensures { (v : Terms) (T : List Said) (R : List ℕ) (E : List Entry) (frames : List (List ℕ)) (ended : Ended) →
         (x : Session v T R E frames ended) → FramesFollowAccept v T frames x.course }
+{}
+
+/// The frames from the outlet that a session puts are those received that its policy lets through to the address of its
+/// connection, in order: each was sent by an address that the policy allows there. Each of its Connects is for a device that
+/// the policy admits, each unicast that it forwards is allowed, and each denial that it notes is one of the policy.
+pub fn policy_is_followed()
+    ensures { (v : Terms) (T : List Said) (R : List ℕ) (E : List Entry) (frames : List (List ℕ)) (ended : Ended) →
+        (x : Session v T R E frames ended) → PolicyIsFollowed v E frames (journal_of x) x.course }
 {}

@@ -10,4 +10,5 @@ mod laws;
 
 pub use laws::{
     connects_are_asked, forwards_are_carried, frames_follow_accept, messages_are_given,
+    policy_is_followed,
 };
