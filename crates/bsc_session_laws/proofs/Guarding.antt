@@ -1,8 +1,10 @@
 -- A session that is guarded by a policy does as that says.
-use Rattle.std.proofs.Common.{◌≡◌, inl, inr, ℕ, Bool, true, false, cond, ◌&&◌, List, [], ◌∷◌, ◌++◌, map, Option, Some, None, Result, Ok, Err, is_some, option_to_list, refl, ap, sym, ◌∙◌, subst, append_assoc}
+use Rattle.std.proofs.Common.{◌≡◌, ◌⊎◌, inl, inr, ℕ, Bool, true, false, cond, ◌&&◌, List, [], ◌∷◌, ◌++◌, map, Option, Some, None, Result, Ok, Err, is_some, option_to_list, refl, ap, sym, ◌∙◌, subst, append_assoc}
 use Rattle.std.specs.Prelude.{if◌then◌else◌, is_none}
 use Rattle.std.specs.List.{AllByRecursion}
+use Rattle.std.proofs.lemmas.Grind.{flat_map-append}
 use Rattle.std.proofs.lemmas.List.Elements.{filter-append}
+use Rattle.std.proofs.lemmas.Option.{same_Some}
 use Rattle.bsc_lemmas.proofs.Lists.{all_append}
 use Rattle.bsc_octets.specs.declared.identity.Identity.{Identity}
 use Rattle.bsc_octets.specs.declared.vmac.Vmac.{Vmac}
@@ -42,8 +44,8 @@ use Rattle.bsc_session.specs.Standings.{Standing, Terms, begun}
 use Rattle.bsc_session.specs.Taking.{Opening, end_told, opened, passing}
 use Rattle.bsc_session.specs.Talk.{Session, journal_of, leave_of, leaving, noted_leaving}
 use Rattle.bsc_session.specs.Turns.{IsHearingIf, IsTurn, Turn, after, entries_after, entries_in, frames_in, notes_after, notes_in, stands_after}
-use Rattle.bsc_session_laws.specs.Messages.{asked, asked_by, message_after, message_by, message_in, messages_of}
-use Rattle.bsc_session_laws.specs.Policies.{Allows, AllowsCall, AllowsFrame, DeniesIfNoted, IsAmong, PolicyIsFollowed, put_in}
+use Rattle.bsc_session_laws.specs.Messages.{asked, asked_by, connected as connected_of, connected_in, message_after, message_by, message_in, messages_of}
+use Rattle.bsc_session_laws.specs.Policies.{Allows, AllowsCall, AllowsFrame, DeniesIfNoted, IsAmong, IsConnectedAs, PolicyIsFollowed, put_in}
 use Rattle.bsc_session_laws.proofs.Connecting.{passed_asks}
 use Rattle.bsc_session_laws.proofs.Courses.{mapped_shares}
 use Rattle.bsc_session_laws.proofs.Owning.{heard_asks_for_none}
@@ -111,6 +113,64 @@ turns_keep v s (t ∷ ts) k = turns_keep v (after v s t) ts (stays_in v s t k) �
 end_is : (v : Terms) (s : Standing) (t : Turn) (ts : List Turn) → is_in s ≡ true → (stands_after_all v (after v s t) ts).address ≡ s.address
 end_is v s t ts k = turns_keep v s (t ∷ ts) k
 
+-- ---- whose it is
+
+-- who is among some is among more
+among_left : (who : Identity) (xs ys : List Identity) → IsAmong who xs → IsAmong who (xs ++ ys)
+among_left who xs ys k = (k.0, k.1 ++ ys, ap (λ (l : List Identity). l ++ ys) k.2 ∙ append_assoc k.0 (who ∷ k.1) ys)
+
+among_right : (who : Identity) (xs ys : List Identity) → IsAmong who ys → IsAmong who (xs ++ ys)
+among_right who xs ys k = (xs ++ k.0, k.1, ap (λ (l : List Identity). xs ++ l) k.2 ∙ sym (append_assoc xs k.0 (who ∷ k.1)))
+
+-- the address was that before, or a device connected under it
+abbrev Came : Option Vmac → List Entry → Vmac → Type 0
+Came before E vmac = (before ≡ Some vmac) ⊎ IsConnectedAs E vmac
+
+came_answered : (v : Terms) (x s : Standing) (st : Step) (given : Result Incoming LinkFault) (a : Option Answer) (vmac : Vmac) → (answered s st a).address ≡ Some vmac → Came s.address (called v x st given a) vmac
+came_answered v x s (Ask who) given (Some (replies place l (Joined c r))) vmac e = inr (who, ([], [], refl), same_Some who.vmac vmac e)
+came_answered v x s st given a vmac e = inl e
+
+came_heard : (v : Terms) (s : Standing) (now : ℕ) (h : Option Hearing) (vmac : Vmac) → (stands_after v s now h).address ≡ Some vmac → Came s.address (entries_after v s now h) vmac
+came_heard v s now None vmac e = inl e
+came_heard v s now (Some h) vmac e = elim (came_answered v s (stands_heard v s now h) (step_of v s now h) h.given h.answer vmac e) [
+  | inl k ↦ inl (sym (heard_address v s now h.judged h.given) ∙ k)
+  | inr k ↦ inr k
+]
+
+came_turn : (v : Terms) (s : Standing) (t : Turn) (vmac : Vmac) → (after v s t).address ≡ Some vmac → Came s.address (entries_in v s t) vmac
+came_turn v s t vmac e = elim (came_heard v (opened s t.opening) t.opening.reading t.hearing vmac e) [
+  | inl k ↦ inl (sym (opened_address s t.opening) ∙ k)
+  | inr k ↦ inr k
+]
+
+connected-append : (xs ys : List Entry) → connected_of (xs ++ ys) ≡ connected_of xs ++ connected_of ys
+connected-append xs ys = flat_map-append (λ (e : Entry). connected_in e.call) xs ys
+
+among_first : (who : Identity) (xs ys : List Entry) → IsAmong who (connected_of xs) → IsAmong who (connected_of (xs ++ ys))
+among_first who xs ys k = subst (IsAmong who) (sym (connected-append xs ys)) (among_left who (connected_of xs) (connected_of ys) k)
+
+among_behind : (who : Identity) (xs ys : List Entry) → IsAmong who (connected_of ys) → IsAmong who (connected_of (xs ++ ys))
+among_behind who xs ys k = subst (IsAmong who) (sym (connected-append xs ys)) (among_right who (connected_of xs) (connected_of ys) k)
+
+came_turns : (v : Terms) (s : Standing) (ts : List Turn) (vmac : Vmac) → (stands_after_all v s ts).address ≡ Some vmac → Came s.address (shares entries_in v s ts) vmac
+came_turns v s [] vmac e = inl e
+came_turns v s (t ∷ ts) vmac e = by (came_turns v (after v s t) ts vmac e)
+  where
+    here : Came s.address (entries_in v s t) vmac → Came s.address (shares entries_in v s (t ∷ ts)) vmac
+    here (inl k) = inl k
+    here (inr k) = inr (k.0, among_first k.0 (entries_in v s t) (shares entries_in v (after v s t) ts) k.1, k.2)
+
+    by : Came (after v s t).address (shares entries_in v (after v s t) ts) vmac → Came s.address (shares entries_in v s (t ∷ ts)) vmac
+    by (inl k) = here (came_turn v s t vmac k)
+    by (inr k) = inr (k.0, among_behind k.0 (entries_in v s t) (shares entries_in v (after v s t) ts) k.1, k.2)
+
+connected_as : (v : Terms) (T : List Said) (R : List ℕ) (E : List Entry) (frames : List (List ℕ)) (ended : Ended) (x : Session v T R E frames ended) (vmac : Vmac) → (end_of x.course).address ≡ Some vmac → IsConnectedAs E vmac
+connected_as v T R E frames ended x vmac e = by (came_turns v begun (all_turns x.course) vmac e)
+  where
+    by : Came begun.address (entries_of x.course) vmac → IsConnectedAs E vmac
+    by (inl k) = cc
+    by (inr k) = (k.0, subst (λ (l : List Entry). IsAmong k.0 (connected_of l)) (sym x.entries) (among_first k.0 (entries_of x.course) (leave_of x) k.1), k.2)
+
 -- ---- the frames that are put
 
 let_through-append : (policy : Option Policy) (to : Option Vmac) (xs ys : List (List ℕ)) → let_through policy to (xs ++ ys) ≡ let_through policy to xs ++ let_through policy to ys
@@ -154,12 +214,6 @@ address_allowed p None end fs k e = cc
 address_allowed p (Some to) end fs k e = through_allowed p to end fs e
 
 -- ---- who asks is among those who asked
-
-among_left : (who : Identity) (xs ys : List Identity) → IsAmong who xs → IsAmong who (xs ++ ys)
-among_left who xs ys k = (k.0, k.1 ++ ys, ap (λ (l : List Identity). l ++ ys) k.2 ∙ append_assoc k.0 (who ∷ k.1) ys)
-
-among_right : (who : Identity) (xs ys : List Identity) → IsAmong who ys → IsAmong who (xs ++ ys)
-among_right who xs ys k = (xs ++ k.0, k.1, ap (λ (l : List Identity). xs ++ l) k.2 ∙ sym (append_assoc xs k.0 (who ∷ k.1)))
 
 denies_more : (p : Policy) (end : Option Vmac) (xs ys : List Identity) (ns : List Note) → ((who : Identity) → IsAmong who xs → IsAmong who ys) → AllByRecursion (DeniesIfNoted p end xs) ns → AllByRecursion (DeniesIfNoted p end ys) ns
 denies_more p end xs ys [] more all = tt
@@ -373,7 +427,7 @@ leave_denied : (p : Policy) (end : Option Vmac) (asks : List Identity) (lost : O
 leave_denied p end asks None place E = entries_denied p end asks place E
 leave_denied p end asks (Some fault) place E = tt
 
-pub policy_is_followed : (v : Terms) (T : List Said) (R : List ℕ) (E : List Entry) (frames : List (List ℕ)) (ended : Ended) (x : Session v T R E frames ended) → PolicyIsFollowed v E frames (journal_of x) x.course
+pub policy_is_followed : (v : Terms) (T : List Said) (R : List ℕ) (E : List Entry) (frames : List (List ℕ)) (ended : Ended) (x : Session v T R E frames ended) → PolicyIsFollowed v T E frames (journal_of x) x.course
 policy_is_followed v T R E frames ended x =
     let c = x.course in
     let end = (end_of c).address in
@@ -381,6 +435,8 @@ policy_is_followed v T R E frames ended x =
     let those = shares asks_in v begun (all_turns c) in
     let all : asked (messages_of c) ≡ those = mapped_shares (λ m. asked_by m.verdict) message_in v begun (all_turns c) in
     record {
+      talk = x.talk;
+      address = λ vmac e. connected_as v T R E frames ended x vmac e;
       put = turns_put v begun (all_turns c) c.turns ∙ ap (let_through v.policy end) (sym x.received);
       guarded = λ p guarded. record {
         frames = frames_turns v p guarded begun (all_turns c) refl c.turns;

@@ -39,5 +39,5 @@ pub fn frames_follow_accept()
 /// the policy admits, each unicast that it forwards is allowed, and each denial that it notes is one of the policy.
 pub fn policy_is_followed()
     ensures { (v : Terms) (T : List Said) (R : List ℕ) (E : List Entry) (frames : List (List ℕ)) (ended : Ended) →
-        (x : Session v T R E frames ended) → PolicyIsFollowed v E frames (journal_of x) x.course }
+        (x : Session v T R E frames ended) → PolicyIsFollowed v T E frames (journal_of x) x.course }
 {}
