@@ -7,3 +7,4 @@ mod Owning
 mod Accepting
 mod Guarding
 mod WorkedLaws
+mod WorkedPolicies
