@@ -14,15 +14,17 @@ pub fn messages_are_given()
         (x : Session v T R E frames ended) → MessagesAreGiven v T x.course }
 {}
 
-/// The Forwards of a session are the messages that came and are to be carried on, in order: all of them, or all but the last
-/// thing that the link gave, where the hub was worn or memory ran out in its call. All are of the session's connection.
+/// The Forwards of a session are the messages that came, are to be carried on and aren't denied, in order: all of them, or all
+/// but the last thing that the link gave, where the hub was worn or memory ran out in its call. Without a policy nothing is
+/// denied. All are of the session's connection. A line that wasn't put into the journal changes nothing of it.
 pub fn forwards_are_carried()
     ensures { (v : Terms) (T : List Said) (R : List ℕ) (E : List Entry) (frames : List (List ℕ)) (ended : Ended) →
         (x : Session v T R E frames ended) → ForwardsAreCarried v E ended x.course }
 {}
 
 /// The Connects of a session are for those who asked to connect, in order: all of them, or all but the last where the hub
-/// was worn or memory ran out. One asked at most.
+/// was worn, memory ran out, or the policy doesn't admit who asks. One asked at most. A line that wasn't put into the journal
+/// changes nothing of it.
 pub fn connects_are_asked()
     ensures { (v : Terms) (T : List Said) (R : List ℕ) (E : List Entry) (frames : List (List ℕ)) (ended : Ended) →
         (x : Session v T R E frames ended) → ConnectsAreAsked v E x.course }
@@ -34,8 +36,8 @@ pub fn frames_follow_accept()
         (x : Session v T R E frames ended) → FramesFollowAccept v T frames x.course }
 {}
 
-/// The frames from the outlet that a session puts are those received that its policy lets through to the address of its
-/// connection, in order: each was sent by an address that the policy allows there. Each of its Connects is for a device that
+/// The frames from the outlet that a session puts are those received that its policy lets through to the address under which
+/// it connected, in order: each was sent by an address that the policy allows there. Each of its Connects is for a device that
 /// the policy admits, each unicast that it forwards is allowed, and each denial that it notes is one of the policy.
 pub fn policy_is_followed()
     ensures { (v : Terms) (T : List Said) (R : List ℕ) (E : List Entry) (frames : List (List ℕ)) (ended : Ended) →
