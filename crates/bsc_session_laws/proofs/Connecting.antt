@@ -82,7 +82,7 @@ not_asked_parting true who e = cc
 not_asked_parting false who e = cc
 
 -- who isn't said to ask doesn't
-passed_asks : (g : MachineStanding) (msg : Bvlc) (who : Identity) → passed_step g msg ≡ Ask who → who_asks msg.body ≡ Some who
+pub passed_asks : (g : MachineStanding) (msg : Bvlc) (who : Identity) → passed_step g msg ≡ Ask who → who_asks msg.body ≡ Some who
 passed_asks awaiting_request msg who e = asked_so (who_asks msg.body) who e
 passed_asks connected_now msg who e = absurd (not_asked_connected msg.id msg.body who e)
 passed_asks (disconnecting f) msg who e = absurd (not_asked_parting (is_farewell_answer f.id msg) who e)

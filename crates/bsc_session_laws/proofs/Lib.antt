@@ -5,4 +5,6 @@ mod Forwarding
 mod Connecting
 mod Owning
 mod Accepting
+mod Guarding
 mod WorkedLaws
+mod WorkedPolicies

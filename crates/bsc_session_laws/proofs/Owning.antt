@@ -48,7 +48,7 @@ in_asks_for_none (disconnecting f) (Carried envelope) who h e = cc
 in_asks_for_none (disconnecting f) (Silent check) who h e = cc
 in_asks_for_none (disconnecting f) (Nak check octets) who h e = cc
 
-heard_asks_for_none : (v : Terms) (s : Standing) (now : ℕ) (judged : Bool) (given : Result Incoming LinkFault) (who : Identity) → is_in s ≡ true → heard_step v s now judged given ≡ Ask who → ⊥
+pub heard_asks_for_none : (v : Terms) (s : Standing) (now : ℕ) (judged : Bool) (given : Result Incoming LinkFault) (who : Identity) → is_in s ≡ true → heard_step v s now judged given ≡ Ask who → ⊥
 heard_asks_for_none v s now true (Ok (Message m)) who h e = in_asks_for_none (standing s.events) (verdict_on v s m) who h e
 heard_asks_for_none v s now true (Ok Closed) who h e = cc
 heard_asks_for_none v s now true (Ok Text) who h e = cc

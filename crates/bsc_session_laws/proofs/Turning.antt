@@ -69,10 +69,10 @@ joined_in connected = refl
 joined_in (disconnecting f) = refl
 
 -- an event that isn't a joining changes nothing of it
-told_in : (s : Standing) (e : Event) → is_joined e ≡ false → is_in (told s e) ≡ is_in s
+pub told_in : (s : Standing) (e : Event) → is_joined e ≡ false → is_in (told s e) ≡ is_in s
 told_in s e h = ap has_joined (standing-more s.events e) ∙ moved_in (standing s.events) e h
 
-told_joined_in : (s : Standing) → is_in (told s JoinedEvent) ≡ true
+pub told_joined_in : (s : Standing) → is_in (told s JoinedEvent) ≡ true
 told_joined_in s = ap has_joined (standing-more s.events JoinedEvent) ∙ joined_in (standing s.events)
 
 -- ---- a connection, exactly where the machine has joined

@@ -1,23 +1,24 @@
 -- Talks written out, sessions by computation, and what the laws say of them, computed: A connects, sends to itself, gets its
--- frame, and closes; and the hub is worn when A sends.
+-- frame, and closes; the hub is worn when A sends; and the line of A's Connect isn't put into the journal.
 use Rattle.std.proofs.Common.{◌≡◌, ◌≢◌, ℕ, true, List, [], ◌∷◌, Some, None, Ok, refl, inl, inr, lit<, lit≤}
 use Rattle.bsc_octets.specs.Identities.{identity_of}
 use Rattle.bsc_history.specs.declared.ending.End.TheVariants.{Left}
 use Rattle.bsc_history.specs.declared.entry.Entry.{Entry}
-use Rattle.bsc_history.specs.declared.reply.Reply.TheVariants.{Appended}
+use Rattle.bsc_history.specs.declared.reply.Reply.TheVariants.{Appended, Joined}
+use Rattle.bsc_edge.specs.declared.fault.LinkFault.TheVariants.{Failed}
 use Rattle.bsc_edge.specs.declared.incoming.Incoming.TheVariants.{Closed, Message}
 use Rattle.bsc_edge.specs.declared.said.Said.{Said}
-use Rattle.bsc_edge.specs.declared.said.Said.TheVariants.{Gave, Put}
+use Rattle.bsc_edge.specs.declared.said.Said.TheVariants.{Closed as SaidClosed, Gave, Put}
 use Rattle.bsc_verdict.proofs.OnLiterals.{verdict_on_literals}
 use Rattle.bsc_session.specs.declared.ended.Ended.{Ended}
-use Rattle.bsc_session.specs.declared.why.Why.TheVariants.{PeerClosed}
+use Rattle.bsc_session.specs.declared.why.Why.TheVariants.{JournalFault, PeerClosed}
 use Rattle.bsc_session.specs.Course.{shares}
-use Rattle.bsc_session.specs.Receiving.{worn}
+use Rattle.bsc_session.specs.Receiving.{replies, worn}
 use Rattle.bsc_session.specs.Standings.{begun}
-use Rattle.bsc_session.specs.Stops.{stop_for}
+use Rattle.bsc_session.specs.Stops.{stop_for, stop_unrecorded}
 use Rattle.bsc_session.specs.Talk.{Session}
 use Rattle.bsc_session.specs.Turns.{Turn}
-use Rattle.bsc_session.proofs.TalkWords.{a_octets, accept, back, connects, forwarded as forwarded_as, forwards_to, given_at, hears, joined_as, joins, left_as, terms, to_itself, told_by}
+use Rattle.bsc_session.proofs.TalkWords.{a_octets, accept, back, bare, connect, connects, forwarded as forwarded_as, forwards_to, given_at, hears, joined_as, joins, left_as, reads, terms, to_itself, told_by}
 use Rattle.bsc_session_laws.specs.Laws.{AcceptsFirst, AreAllBut, ConnectsAreAsked, ForwardsAreCarried, IsUnentered}
 use Rattle.bsc_session_laws.specs.Messages.{asked, carried, connected, forwarded, message_in}
 use Rattle.bsc_session_laws.proofs.Accepting.{frames_follow_accept}
@@ -105,3 +106,24 @@ it_is_not_all = λ e. one_is_not_none to_itself e
   where
     one_is_not_none : (m : List ℕ) → m ∷ [] ≡ [] → ⊥
     one_is_not_none m f = cc
+
+-- ---- one that loses a line
+
+-- the line of A's Connect isn't put into the journal: the session ends, and the entry stays
+abbrev loses_its_line : Turn
+loses_its_line = record { opening = reads 0; hearing = Some (record { given = Ok (Message connect); judged = true; answer = Some (replies 0 [] (Joined 1 None)); lost = Some Failed; fault = None }) }
+
+a_line_is_lost : Session terms (connects ∷ SaidClosed 1011 [] ∷ []) (0 ∷ []) (joined_as 1 ∷ left_as 1 0 0 ∷ []) [] (record { why = JournalFault; conn = Some 1; taken = 0; empties = 0; turns = 1 })
+unfolding verdict_on_literals
+a_line_is_lost = told_by terms (record {
+  went_on = [];
+  last = Some loses_its_line;
+  stop = stop_unrecorded Failed;
+  turns = (record { room = lit< tt; opening = bare begun 0; heard = refl; hearing = record { memory = tt; calls = refl; fits = refl; line = tt; cause = tt } }, tt);
+  goes_on = tt;
+  stops = refl;
+}) Left (λ c e joined met. cc)
+
+it_is_connected_still : connected (joined_as 1 ∷ left_as 1 0 0 ∷ []) ≡ asked (shares message_in terms begun (loses_its_line ∷ []))
+unfolding verdict_on_literals
+it_is_connected_still = refl

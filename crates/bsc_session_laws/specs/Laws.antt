@@ -45,8 +45,9 @@ abbrev pub IsOfConnection : Option ℕ → Entry → Type 0
 IsOfConnection conn e = (sender : ℕ) (m : List ℕ) → e.call ≡ Forward sender m → conn ≡ Some sender
 
 -- The Forwards among the entries are the messages that came, are to be carried on and aren't denied, in order: all of them, or
--- all but the last thing that was given, where the hub made no entry of its call. Without a policy they are, so, those that are
--- to be carried on. And all are of the session's connection.
+-- all but the last thing that was given, where the hub made no entry of its call. Without a policy these are the messages that
+-- are to be carried on. And all are of the session's connection. A line that isn't put is that of an entry that was made, so it
+-- is no cause here.
 pub record ForwardsAreCarried (v : Terms) (E : List Entry) (ended : Ended) (c : Course v) : Type 0 where
   pub made : AreAllBut (IsUnentered c.last) (allowed (messages_of c)) (forwarded E)
   pub unguarded : v.policy ≡ None → AreAllBut (IsUnentered c.last) (carried (messages_of c)) (forwarded E)
@@ -68,7 +69,7 @@ IsUnconnectedBy policy last who = IsUnconnected last who ⊎ IsTurnedAway policy
 
 -- The Connects among the entries are for those who asked to connect, in order: all of them, or all but the last, where the
 -- hub made no entry of the last turn's call, memory was wanting to judge its message, or the policy doesn't admit who asks.
--- Without a policy the last of these is no cause. One asked at most.
+-- Without a policy the last of these is no cause. One asked at most. A line that isn't put is no cause here either.
 pub record ConnectsAreAsked (v : Terms) (E : List Entry) (c : Course v) : Type 0 where
   pub made : AreAllBut (IsUnconnectedBy v.policy c.last) (asked (messages_of c)) (connected E)
   pub unguarded : v.policy ≡ None → AreAllBut (IsUnconnected c.last) (asked (messages_of c)) (connected E)
