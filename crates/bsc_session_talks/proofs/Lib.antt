@@ -1,0 +1,3 @@
+pub mod JournalWords
+mod LostLines
+mod GuardedTalks
