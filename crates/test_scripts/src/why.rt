@@ -400,7 +400,7 @@ const SETTINGS: [SettingsRow; 22] = [
     (
         "",
         "[hub]\nvmac = \"0200000000FF\n",
-        Some("line 2, column 8: invalid string"),
+        Some("line 2, column 21: invalid string"),
     ),
     (
         "",
