@@ -1,6 +1,8 @@
 //! Each object once, with a fault in it.
 ghost use Rattle.std.specs.Prelude.{⊤};
 
+mod journals;
+
 use bsc_edge::{
     Acceptor, Arrived, Clock, Dialer, Disk, Failed, FileFault, Files, Incoming, Job, Kind, Link,
     LinkFault, MemAcceptor, MemClock, MemDialer, MemFile, MemFiles, MemLink, MemPatience,

@@ -3,12 +3,14 @@ ghost use Rattle.std.specs.Prelude.{◌≡◌, ◌≤◌, IfOk};
 ghost use Rattle.bsc_hub.specs.Passing.{IsCaller};
 ghost use Rattle.bsc_hub.specs.Testing.{vmac_at};
 
+mod guarded;
 mod random;
+mod recorded;
 mod table;
 mod waits;
 
 use bsc_accept::Times;
-use bsc_edge::Incoming;
+use bsc_edge::{Incoming, Said};
 use bsc_history::Limits;
 use bsc_hub::{Hub, Pass};
 use bsc_octets::{Identity, NoMemory, Octets, Vmac, read_identity};
@@ -102,6 +104,14 @@ fn gives(alloc: Global, first: Given, others: &[Given]) -> Result<Vec<Incoming>,
         gives.push(incoming(alloc, *given)?)?;
     }
     Ok(gives)
+}
+
+/// The code of the closing that a talk ends with, 0 where it ends with none.
+fn code_in(talk: &[Said]) -> u16 {
+    match talk.last() {
+        Some(Said::Closed(code, _)) => *code,
+        _ => 0,
+    }
 }
 
 fn ended(why: Why, conn: Option<u64>, taken: u64, empties: u64, turns: u64) -> Ended {

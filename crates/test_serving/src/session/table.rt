@@ -2,8 +2,8 @@
 ghost use Rattle.std.specs.Prelude.{◌≡◌};
 ghost use Rattle.bsc_hub.specs.Passing.{IsCaller};
 
-use super::{CONNECT_A, Given, LIMITS, entries, gives, new_hub};
-use bsc_edge::{MemClock, MemLink, Said};
+use super::{CONNECT_A, Given, LIMITS, code_in, entries, gives, new_hub};
+use bsc_edge::{MemClock, MemLink};
 use bsc_history::Refusal;
 use bsc_hub::{Hub, Pass};
 use bsc_octets::NoMemory;
@@ -260,14 +260,6 @@ const ROWS: [Row; 13] = [
         entries: 0,
     },
 ];
-
-/// The code of the closing that the talk ends with, 0 where it ends with none.
-fn code_in(talk: &[Said]) -> u16 {
-    match talk.last() {
-        Some(Said::Closed(code, _)) => *code,
-        _ => 0,
-    }
-}
 
 fn stop_if<R: Wait>(rt: &R, hub: &Hub, pass: &mut Pass, stopped: bool)
     requires { IsCaller hub.now pass.old }
