@@ -56,7 +56,12 @@ fn in_files(rt: HostRuntime) -> Result<(), Fail> {
     };
     assert_eq!(rt; journal.write(b"one\n"), Ok(()));
     assert_eq!(rt; journal.write(b"two\n"), Ok(()));
-    assert!(rt; matches!(journals.begin(alloc, Some(prefix.as_str()), 3), Err(LinkFault::Failed)));
+    assert!(rt;
+        matches!(
+            journals.begin(alloc, Some(prefix.as_str()), 3),
+            Err(LinkFault::Failed)
+        )
+    );
     let Ok(mut dropping) = journals.begin(alloc, None, 4) else {
         panic!(rt; "it is begun");
     };
