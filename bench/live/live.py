@@ -33,20 +33,33 @@ class TooBusy(Failed):
     """The machine gave a driver so little time that a hub may have done right."""
 
 
+# Another program than the one that ./bsc builds and starts may be named, as one that was built elsewhere.
+PROGRAM = os.environ.get("BSC", str(ROOT / "bsc"))
+# The kind of a hub of bsc that writes journals.
+RECORDED = "bsc --journal"
+# How many octets an audit takes.
+AUDITED = 1 << 28
+
+
 class Bench:
     """The programs of this folder, built anew in a folder that is removed at the end."""
 
     def __init__(self):
         self.work = Path(tempfile.mkdtemp())
-        self.hubs = {}
-        # Another program than the one that ./bsc builds and starts may be named, as one that was built elsewhere.
-        self.hubs["bsc"] = [os.environ.get("BSC", str(ROOT / "bsc")), "hub"]
+        self.hubs = {"bsc": [PROGRAM, "hub"]}
+        # Where journals are put: another folder may be named, as one on a disk or in memory.
+        self.journals = Path(tempfile.mkdtemp(dir=os.environ.get("JOURNALS")))
 
     def __enter__(self):
         return self
 
     def __exit__(self, *_):
         shutil.rmtree(self.work, ignore_errors=True)
+        shutil.rmtree(self.journals, ignore_errors=True)
+
+    def add_recorded(self):
+        """The hub of bsc that writes journals."""
+        self.hubs[RECORDED] = self.hubs["bsc"]
 
     def compile(self, name, *words):
         """Builds a program by gcc; False where that can't be done."""
@@ -79,7 +92,10 @@ class Bench:
         if not due:
             raise Failed(f"the driver told no counts: {told}")
         compare_counts(kind, counts, due[0])
-        return figures_of(told.splitlines()[0])
+        figures = figures_of(told.splitlines()[0])
+        if kind == RECORDED:
+            figures |= look_at_journals(self.journals, links, counts)
+        return figures
 
 
 class Hub:
@@ -91,8 +107,12 @@ class Hub:
         self.port = int(subprocess.run([work / "driver", "port"], check=True, capture_output=True).stdout)
         settings, said = work / f"hub.{self.port}.toml", work / f"said.{self.port}"
         settings.write_text(SETTINGS.format(port=self.port))
-        if self.kind == "bsc":
+        if self.kind in ("bsc", RECORDED):
             words = [str(settings), "--sessions", str(self.links)]
+            if self.kind == RECORDED:
+                for file in self.bench.journals.iterdir():
+                    file.unlink()
+                words += ["--journal", str(self.bench.journals / "j")]
         else:
             words = [str(self.port), str(self.links)]
         self.said = open(said, "w")
@@ -130,6 +150,37 @@ class Hub:
             self.process.kill()
             self.process.wait()
         self.said.close()
+
+
+def look_at_journals(folder, links, counts):
+    """The journals of a hub whose links all joined, left, and sent what its counts tell: each entry has its line, and each place is
+    there once. Where they aren't too long, an audit has to find them legal. Gives how many octets they have, and how many lines."""
+    files = [folder / f"j.{number}" for number in range(links + 1)]
+    if sorted(files) != sorted(folder.iterdir()):
+        raise Failed(f"the journals aren't one for the hub and for each of {links} links")
+    calls, places, octets = {}, set(), 0
+    for file in files:
+        with file.open("rb") as lines:
+            for line in lines:
+                octets += len(line)
+                if not line.endswith(b"\n"):
+                    raise Failed(f"{file.name} ends in the middle of a line")
+                place, _, call = line[:60].split(b" ")[:3]
+                if place == b"hub":
+                    continue
+                places.add(int(place))
+                calls[call] = calls.get(call, 0) + 1
+    told = {name: int(number) for name, number in re.findall(r"(\w+)=(\d+)", counts)}
+    due = {b"connect": links, b"forward": told["unicasts"] + told["broadcasts"], b"leave": links, b"stop": 1}
+    total = sum(due.values())
+    if calls != {call: many for call, many in due.items() if many} or places != set(range(total)):
+        raise Failed(f"the journals have {calls}, with {len(places)} places; due are {due}")
+    if octets <= AUDITED:
+        with subprocess.Popen(["cat", *files], stdout=subprocess.PIPE) as all_of_them:
+            audit = subprocess.run([PROGRAM, "audit"], stdin=all_of_them.stdout, capture_output=True, text=True)
+        if audit.stdout != f"legal {total}\n":
+            raise Failed(f"the audit of {total} entries says {audit.stdout!r}")
+    return {"octets": octets, "lines": total, "audited": octets <= AUDITED}
 
 
 def figures_of(line):

@@ -47,6 +47,14 @@ class PythonClient(Client):
         except websockets.exceptions.ConnectionClosed:
             self.came.put_nowait(("close", (self.ws.close_code, self.ws.close_reason or "")))
 
+    async def pause(self):
+        """Reads nothing, from here on until `resume`."""
+        self.reading.cancel()
+        await asyncio.gather(self.reading, return_exceptions=True)
+
+    async def resume(self):
+        self.reading = asyncio.create_task(self.read())
+
     async def send(self, octets):
         self.log.append(("O", octets))
         await self.ws.send(octets)
@@ -99,6 +107,13 @@ class NodeClient(Client):
     async def tell(self, line):
         self.node.stdin.write(line.encode() + b"\n")
         await self.node.stdin.drain()
+
+    async def pause(self):
+        """Reads nothing, from here on until `resume`."""
+        await self.tell("pause")
+
+    async def resume(self):
+        await self.tell("resume")
 
     async def send(self, octets):
         self.log.append(("O", octets))

@@ -1,6 +1,6 @@
 // A link by node-ws that is led by lines: node-client.js URI
 //
-// Lines that are read: `send HEX`, `text WORDS`, `close`. Lines that are written: `open PROTOCOL`, `message HEX`,
+// Lines that are read: `send HEX`, `text WORDS`, `pause`, `resume`, `close`. Lines that are written: `open PROTOCOL`, `message HEX`,
 // `text WORDS`, `close CODE REASON`, `failed WHY`.
 'use strict';
 
@@ -11,10 +11,8 @@ const ws = new WebSocket(process.argv[2], ['hub.bsc.bacnet.org'], { perMessageDe
 ws.on('open', () => console.log(`open ${ws.protocol}`));
 ws.on('message', (m, binary) => console.log(binary ? `message ${m.toString('hex')}` : `text ${m}`));
 ws.on('error', (error) => console.log(`failed ${error.message}`));
-ws.on('close', (code, reason) => {
-  console.log(`close ${code} ${reason}`);
-  process.exit(0);
-});
+// Lines that wait for who reads them have to be out first.
+ws.on('close', (code, reason) => process.stdout.write(`close ${code} ${reason}\n`, () => process.exit(0)));
 
 const lines = readline.createInterface({ input: process.stdin });
 lines.on('line', (line) => {
@@ -24,6 +22,10 @@ lines.on('line', (line) => {
     ws.send(Buffer.from(rest, 'hex'));
   } else if (word === 'text') {
     ws.send(rest);
+  } else if (word === 'pause') {
+    ws.pause();
+  } else if (word === 'resume') {
+    ws.resume();
   } else if (word === 'close') {
     ws.close(1000);
   }

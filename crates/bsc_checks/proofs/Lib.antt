@@ -10,3 +10,17 @@ pub mod InPlace
 pub mod Verdicts
 pub mod WorkedRows
 pub mod Common
+pub mod Reflecting
+pub mod Walks
+pub mod TwoLists
+pub mod OptionTests
+pub mod Payloads
+pub mod PlaceTests
+pub mod Failing
+pub mod Envelopes
+pub mod Bodies
+pub mod Messages
+pub mod Outcomes
+pub mod Existence
+pub mod OnLiterals
+mod WorkedOutcomes

@@ -3,3 +3,8 @@ pub mod Table
 pub mod Naks
 pub mod Verdicts
 pub mod Walk
+pub mod PlaceTests
+pub mod Options
+pub mod Payloads
+pub mod Failing
+pub mod Outcomes

@@ -13,6 +13,7 @@ ghost use Rattle.bsc_checks.specs.Places.{is_to_carry};
 ghost use Rattle.bsc_checks.specs.Table.{code_of, IsFirst};
 ghost use Rattle.bsc_checks.specs.Naks.{IsMarker};
 ghost use Rattle.bsc_checks.specs.Verdicts.{Judged};
+ghost use Rattle.bsc_checks.specs.Outcomes.{outcome_of};
 ghost use Rattle.bsc_checks.specs.Walk.{IsHead, Answers, between, from_flags};
 
 use crate::addresses::is_unicast;
@@ -138,8 +139,12 @@ pub fn judge(alloc: Global, m: &[u8], place: &Place, max: u16) -> Result<Verdict
     ensures found { IfOk result (λ verdict. Judged m.now place.now max verdict) }
     ensures only { (verdict : Verdict) → Judged m.now place.now max verdict → (result ≡ Ok verdict) ⊎ IsErr result }
 
+    // It is the one that is computed of the octets.
+    ensures outcome { IfOk result (λ verdict. verdict ≡ outcome_of m.now place.now max) }
+
     // Memory can be wanting only where the message passes.
     ensures memory { IfErr result (λ _. (msg : Message) × Judged m.now place.now max (Verdict.Pass msg)) }
+    ensures passes { IfErr result (λ _. (msg : Message) × (outcome_of m.now place.now max ≡ Verdict.Pass msg)) }
 
     // So a message is carried on, dropped in silence or refused exactly where that is its verdict.
     ensures carry { (envelope : Envelope) →

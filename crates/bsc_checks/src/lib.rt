@@ -4,14 +4,16 @@
 //! Start at `place` (where and when a message comes) and `verdict`, then `judging`. The checks stand in one
 //! table, `specs/Table.antt`: what each finds wrong, in which order they are made, and which code each gives.
 //! `specs/Verdicts.antt` says which verdict a message has. Each check has a function of its own here, in that
-//! order. This crate stands on `bsc_frame` for the checks that octets alone decide, on `bsc_options` and
-//! `bsc_octets` below it, and on `arrayvec` for the octets of a NAK.
+//! order. `specs/Outcomes.antt` computes the verdict from the octets, for scripts, lines and machines that are
+//! defined as total functions, and `laws` holds the two together. This crate stands on `bsc_frame` for the checks
+//! that octets alone decide, on `bsc_options` and `bsc_octets` below it, and on `arrayvec` for the octets of a NAK.
 #![tactic(auto)]
 
 mod addresses;
 mod functions;
 mod head;
 mod judging;
+mod laws;
 mod nak;
 mod option_checks;
 mod options;
@@ -26,6 +28,7 @@ mod verdict;
 pub use bsc_frame::{Check, Message};
 pub use bsc_octets::Envelope;
 pub use judging::judge;
+pub use laws::{one_outcome, one_verdict};
 pub use phase::Phase;
 pub use place::Place;
 pub use putting::{put, put_number};

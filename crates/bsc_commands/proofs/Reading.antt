@@ -25,12 +25,12 @@ pub asks : (read : Option AskedOf) (a : AskedOf) → read ≡ Some a → read �
 asks read a is none = let both : Some a ≡ None = sym is ∙ none in cc
 
 -- what holds of the words of a hub or of a node holds of words that ask for the same
-abbrev pub OfHub : (Text → Option ℕ → Type 0) → AskedOf → Type 0
-OfHub P (hub path sessions) = P path sessions
+abbrev pub OfHub : (Text → Option ℕ → Option Text → Type 0) → AskedOf → Type 0
+OfHub P (hub path sessions journal) = P path sessions journal
 OfHub P asked = ⊤
 
-pub of_hub : (P : Text → Option ℕ → Type 0) (a p : Text) (b n : Option ℕ) → hub a b ≡ hub p n → P a b → P p n
-of_hub P a p b n same h = subst (OfHub P) same h
+pub of_hub : (P : Text → Option ℕ → Option Text → Type 0) (a p : Text) (b n : Option ℕ) (i j : Option Text) → hub a b i ≡ hub p n j → P a b i → P p n j
+of_hub P a p b n i j same h = subst (OfHub P) same h
 
 abbrev pub OfNode : (Text → Text → Type 0) → AskedOf → Type 0
 OfNode P (node path script) = P path script
@@ -58,14 +58,14 @@ fits_unless : (kinds : Kinds) (x : Option AskedOf) → Fits x → Fits (unless k
 fits_unless [] x f = f
 fits_unless (kind ∷ kinds) x f = tt
 
-fits_sessions : (path : Text) (n : Option ℕ) → Fits (option_map (λ n. hub path (Some n)) n)
-fits_sessions path None = tt
-fits_sessions path (Some n) = tt
+fits_sessions : (path : Text) (n : Option ℕ) (journal : Option Text) → Fits (option_map (λ n. hub path (Some n) journal) n)
+fits_sessions path None journal = tt
+fits_sessions path (Some n) journal = tt
 
-fits_hub : (path sessions : Option Text) → Fits (hub_of path sessions)
-fits_hub None sessions = tt
-fits_hub (Some path) None = tt
-fits_hub (Some path) (Some word) = fits_sessions path (sessions_of word)
+fits_hub : (path sessions journal : Option Text) → Fits (hub_of path sessions journal)
+fits_hub None sessions journal = tt
+fits_hub (Some path) None journal = tt
+fits_hub (Some path) (Some word) journal = fits_sessions path (sessions_of word) journal
 
 fits_node : (path script : Option Text) → Fits (node_of path script)
 fits_node None script = tt
@@ -90,7 +90,7 @@ fits_load (Some word) = fits_workers (number_of word)
 fits_run : (name : Text) (words : List Text) → Fits (run_of name words)
 fits_run name words =
     fits_chosen (same_octets name (codes "hub")) (hub_asked words) _
-    (fits_unless (fault_of hub_app words) _ (fits_hub (value_of hub_app words (codes "path")) (value_of hub_app words (codes "sessions"))))
+    (fits_unless (fault_of hub_app words) _ (fits_hub (value_of hub_app words (codes "path")) (value_of hub_app words (codes "sessions")) (value_of hub_app words (codes "journal"))))
     (fits_chosen (same_octets name (codes "node")) (node_asked words) _
     (fits_unless (fault_of node_app words) _ (fits_node (value_of node_app words (codes "path")) (value_of node_app words (codes "script"))))
     (fits_chosen (same_octets name (codes "load")) (load_asked words) None

@@ -4,8 +4,8 @@ use Rattle.bsc_outside.specs.Faults.{PutsPrefix}
 use Rattle.bsc_player.specs.Ends.{WritesAll, WritesSome, whole_lines, lines_read}
 use Rattle.bsc_player.specs.LastLines.{script_line, read_line, memory_line}
 use Rattle.bsc_player.specs.Statuses.{BreaksOff, IsMishap, RefusesInPart, RefusesSome, RunsOut, StatusTells, StopsInPart, StopsReading}
-use Rattle.bsc_simulate.specs.Scripts.{simulate_of}
-use Rattle.bsc_simulate.proofs.Telling.{lines_of, tells_all, tells_part, tells_script, whole_of, writes_some}
+use Rattle.bsc_network_script.specs.Scripts.{simulate_of}
+use Rattle.bsc_network_script_laws.proofs.Telling.{lines_of, tells_all, tells_part, tells_script, whole_of, writes_some}
 use Rattle.bsc_commands.specs.Commands.{WritesWhatWasSent}
 use Rattle.bsc_outside.proofs.Common.{puts_all}
 

@@ -4,8 +4,8 @@ use Rattle.bsc_outside.specs.Faults.{PutsPrefix}
 use Rattle.bsc_player.specs.Playing.{Played}
 use Rattle.bsc_player.specs.LastLines.{script_line, read_line, memory_line}
 use Rattle.bsc_script.specs.Scripts.{replay_of}
-use Rattle.bsc_simulate.specs.Scripts.{simulate_of}
-use Rattle.bsc_simulate.specs.Laws.{TellsWhatWasSent}
+use Rattle.bsc_network_script.specs.Scripts.{simulate_of}
+use Rattle.bsc_network_script_laws.specs.Laws.{TellsWhatWasSent}
 use Rattle.bsc_replay.specs.Checks.{check_of}
 use Rattle.bsc_commands.specs.declared.playing.Command.{Command}
 use Rattle.bsc_commands.specs.declared.playing.Command.TheVariants.{Replay, Simulate, Check}

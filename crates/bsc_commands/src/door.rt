@@ -23,17 +23,12 @@ const PLACES: usize = 256;
 pub struct Noted {
     /// Whose door it is, a hub's or a node's.
     pub owner: Option<Vmac>,
-    /// Whether they have a policy.
-    pub guarded: bool,
 }
 
 impl Noted {
     /// Nothing was read yet.
     pub fn nothing() -> Noted {
-        Noted {
-            owner: None,
-            guarded: false,
-        }
+        Noted { owner: None }
     }
 }
 
@@ -68,7 +63,6 @@ fn noted_of(alloc: Global, kind: Kind, text: &[u8]) -> Option<Noted> {
     match read_settings(alloc, text) {
         Ok(settings) => Some(Noted {
             owner: Some(owner_in(&settings, kind)?),
-            guarded: settings.policy.is_some(),
         }),
         Err(_) => None,
     }
@@ -154,15 +148,6 @@ fn open<R: Clock + Net + Wait + Copy + Drop>(
     }
 }
 
-/// Tells on standard error that a hub has a policy in its settings, and doesn't keep to it.
-fn tell_policy<R: Eprint>(rt: &R, kind: Kind, noted: Noted) {
-    if noted.guarded && kind == Kind::Hub {
-        let _ = eprintln!(rt;
-            "bsc: the policy in these settings isn't kept to yet: any device may join, and send to any other"
-        );
-    }
-}
-
 /// Tells on standard error who takes links of this kind at this port.
 fn tell_open<R: Eprint>(rt: &R, kind: Kind, port: u16, noted: Noted) {
     let [a, b, c, d, e, f] = match noted.owner {
@@ -192,7 +177,6 @@ impl<R: Clock + Net + Wait + Eprint + Copy + Drop> Acceptor<AcceptedLink<R>> for
     fn bind(&mut self, port: u16) -> Result<(), Failed> {
         match open(self.rt, self.alloc, self.kind, port, &self.shared) {
             Ok(gate) => {
-                tell_policy(&self.rt, self.kind, self.notes.get());
                 tell_open(&self.rt, self.kind, port, self.notes.get());
                 self.gate = Some(gate);
                 Ok(())

@@ -6,11 +6,12 @@ ghost use Rattle.bsc_player.specs.LastLines.{EndsWith, RanOut, words_line};
 ghost use Rattle.bsc_player.specs.Statuses.{StatusTells};
 ghost use Rattle.bsc_script.specs.Scripts.{replay_of};
 ghost use Rattle.bsc_replay.specs.Checks.{check_of};
-ghost use Rattle.bsc_simulate.specs.Scripts.{simulate_of};
+ghost use Rattle.bsc_network_script.specs.Scripts.{simulate_of};
 ghost use Rattle.bsc_audit_command.specs.Audits.{RunsAudit};
+ghost use Rattle.bsc_policy.specs.declared.policy.Policy.{Policy};
 ghost use Rattle.bsc_settings.specs.declared.hub.HubSettings.{HubSettings};
 ghost use Rattle.bsc_session.specs.Jobs.{Worked};
-ghost use Rattle.bsc_hub_command.specs.Served.{Runs};
+ghost use Rattle.bsc_hub_command.specs.Served.{HasFailed, Runs};
 ghost use Rattle.bsc_hub_command.specs.Settled.{IsSettled, Unsettled};
 ghost use Rattle.bsc_load_command.specs.Loaded.{RunsLoad};
 ghost use Rattle.bsc_node_command.specs.Comes.{RunsFiles};
@@ -26,7 +27,7 @@ ghost use Rattle.bsc_commands.specs.Statuses.{EndsBy};
 
 use crate::playing::{Command, play};
 use bsc_audit_command::run_audit;
-use bsc_edge::{Acceptor, Clock, Dialer, Files, Link, Spawner, Waiter};
+use bsc_edge::{Acceptor, Clock, Dialer, Files, Journals, Link, Spawner, Waiter};
 use bsc_hub::Kept;
 use bsc_hub_command::{HubWords, run_hub};
 use bsc_load_command::run_load;
@@ -66,7 +67,9 @@ fn run_asked<
     L: Link + Drop,
     A: Acceptor<L>,
     D: Dialer<L>,
-    P: Spawner<SessionJob<L, C>>,
+    N: Sink + Drop,
+    J: Journals<N>,
+    P: Spawner<SessionJob<L, C, N>>,
 >(
     rt: &R,
     alloc: Global,
@@ -81,13 +84,17 @@ fn run_asked<
     dialer: &mut D,
     spawner: &mut P,
     kept: &mut Kept,
+    journals: &mut J,
+    own: &mut Option<N>,
 ) -> u8
     requires can { P.can_start spawner.old }
     requires kept { kept.old.hub ≡ None }
+    requires own { own.old ≡ None }
     requires workers { (n : ℕ) → seen asked ≡ load n → (1 ≤ n) × (n ≤ 512) }
-    ensures hub { (path : Text) (sessions : Option ℕ) (made : _) → seen asked.entry ≡ hub path sessions → kept.new.hub ≡ Some made →
-        (v : HubSettings) × IsSettled (F.holds files.old path) v
-        × Runs (Worked L.talk L.faults C.readings) (record { settings = v; sessions = sessions }) kept.new
+    ensures hub { (path : Text) (sessions : Option ℕ) (journal : Option Text) (made : _) → seen asked.entry ≡ hub path sessions journal →
+        kept.new.hub ≡ Some made → (v : HubSettings) × (policy : Option Policy) × IsSettled (F.holds files.old path) v policy
+        × Runs (Worked L.talk L.faults C.readings N.held N.faults) J.begins N.held N.faults
+        (record { settings = v; policy = policy; sessions = sessions; prefix = journal }) kept.new own.new
         (record {
           links = A.left acceptor.old;
           waits = A.waits acceptor.old;
@@ -96,6 +103,7 @@ fn run_asked<
           jobs = P.jobs spawner.old;
           out = P.out spawner.old;
           unstarted = P.faults spawner.old;
+          unbegun = J.faults journals.old;
           written = K.held sink.old;
         })
         (record {
@@ -106,12 +114,14 @@ fn run_asked<
           jobs = P.jobs spawner.new;
           out = P.out spawner.new;
           unstarted = P.faults spawner.new;
+          unbegun = J.faults journals.new;
           written = K.held sink.new;
         }) result }
-    ensures no_hub { (path : Text) (sessions : Option ℕ) → seen asked.entry ≡ hub path sessions → kept.new.hub ≡ None →
+    ensures no_hub { (path : Text) (sessions : Option ℕ) (journal : Option Text) → seen asked.entry ≡ hub path sessions journal → kept.new.hub ≡ None →
         Unsettled (F.holds files.old path) (F.faults files.old) (F.faults files.new) result (K.held sink.old) (K.held sink.new) }
-    ensures no_hub_untouched { (path : Text) (sessions : Option ℕ) → seen asked.entry ≡ hub path sessions → kept.new.hub ≡ None →
-        (kept.new ≡ kept.old) × (clock.new ≡ clock.old) × (acceptor.new ≡ acceptor.old) × (spawner.new ≡ spawner.old) }
+    ensures no_hub_untouched { (path : Text) (sessions : Option ℕ) (journal : Option Text) → seen asked.entry ≡ hub path sessions journal →
+        kept.new.hub ≡ None → (kept.new ≡ kept.old) × (clock.new ≡ clock.old) × (acceptor.new ≡ acceptor.old) × (spawner.new ≡ spawner.old)
+        × (journals.new ≡ journals.old) × (own.new ≡ own.old) }
     ensures node { (path script : Text) → seen asked.entry ≡ node path script →
         RunsFiles L.talk W.gives W.faults (F.holds files.old path) (F.holds files.old script)
         (record {
@@ -171,6 +181,8 @@ fn run_asked<
           dialer = dialer.old;
           spawner = spawner.old;
           kept = kept.old;
+          journals = journals.old;
+          own = own.old;
         })
         (record {
           source = source.new;
@@ -182,10 +194,13 @@ fn run_asked<
           dialer = dialer.new;
           spawner = spawner.new;
           kept = kept.new;
+          journals = journals.new;
+          own = own.new;
         }) }
     ensures statuses { EndsBy (Some (seen asked.entry)) result }
     ensures read { result ≡ 3 → HasRisen (S.faults source.old) (S.faults source.new) ⊎ HasRisen (F.faults files.old) (F.faults files.new) }
-    ensures write { result ≡ 4 → HasRisen (K.faults sink.old) (K.faults sink.new) }
+    ensures write { result ≡ 4 → HasRisen (K.faults sink.old) (K.faults sink.new)
+        ⊎ HasRisen (J.faults journals.old) (J.faults journals.new) ⊎ HasFailed N.faults own.new }
     ensures link { result ≡ 6 → HasRisen (A.faults acceptor.old) (A.faults acceptor.new) }
 {
     match asked {
@@ -193,16 +208,26 @@ fn run_asked<
         Asked::Simulate => play(alloc, Command::Simulate, source, sink),
         Asked::Check => play(alloc, Command::Check, source, sink),
         Asked::Audit => run_audit(alloc, source, sink),
-        Asked::Hub { path, sessions } => run_hub(
+        Asked::Hub {
+            path,
+            sessions,
+            journal,
+        } => run_hub(
             rt,
             alloc,
-            HubWords { path, sessions },
+            HubWords {
+                path,
+                sessions,
+                journal,
+            },
             sink,
             files,
             clock,
             acceptor,
             spawner,
             kept,
+            journals,
+            own,
         ),
         Asked::Node { path, script } => run_node_files(
             alloc,
@@ -229,7 +254,7 @@ fn run_asked<
 /// | 1 | the words are no command | `fault words` |
 /// | 2 | line n of the input, or of the node's script, is refused | `fault script line n` |
 /// | 3 | a read of the source, of the settings or of the node's script failed | `fault read` |
-/// | 4 | a write to the sink failed, also one of a last line | none |
+/// | 4 | a write to the sink failed, also one of a last line; a journal of a hub couldn't be begun, or a write into the hub's own failed | none |
 /// | 5 | the settings are refused for this key | `fault settings KEY` |
 /// | 6 | the port can't be bound, or the acceptor failed | `fault link` |
 /// | 7 | memory ran out | `fault memory`, tried once |
@@ -247,7 +272,9 @@ pub fn run<
     L: Link + Drop,
     A: Acceptor<L>,
     D: Dialer<L>,
-    P: Spawner<SessionJob<L, C>>,
+    N: Sink + Drop,
+    J: Journals<N>,
+    P: Spawner<SessionJob<L, C, N>>,
 >(
     rt: &R,
     alloc: Global,
@@ -262,14 +289,20 @@ pub fn run<
     dialer: &mut D,
     spawner: &mut P,
     kept: &mut Kept,
+    journals: &mut J,
+    own: &mut Option<N>,
 ) -> u8
     requires can { P.can_start spawner.old }
     requires kept { kept.old.hub ≡ None }
+    requires own { own.old ≡ None }
 
-    // Of the words of a hub: once it is made, its settings are those of the file, and this is what became of it.
-    ensures hub { (path : Text) (sessions : Option ℕ) (made : _) → asked_by (map string_bytes words.now) ≡ Some (hub path sessions) →
-        kept.new.hub ≡ Some made → (v : HubSettings) × IsSettled (F.holds files.old path) v
-        × Runs (Worked L.talk L.faults C.readings) (record { settings = v; sessions = sessions }) kept.new
+    // Of the words of a hub: once it is made, its settings and its policy are those of the file, and this is what became of it and
+    // of its own journal, with journals under the prefix of the words.
+    ensures hub { (path : Text) (sessions : Option ℕ) (journal : Option Text) (made : _) →
+        asked_by (map string_bytes words.now) ≡ Some (hub path sessions journal) →
+        kept.new.hub ≡ Some made → (v : HubSettings) × (policy : Option Policy) × IsSettled (F.holds files.old path) v policy
+        × Runs (Worked L.talk L.faults C.readings N.held N.faults) J.begins N.held N.faults
+        (record { settings = v; policy = policy; sessions = sessions; prefix = journal }) kept.new own.new
         (record {
           links = A.left acceptor.old;
           waits = A.waits acceptor.old;
@@ -278,6 +311,7 @@ pub fn run<
           jobs = P.jobs spawner.old;
           out = P.out spawner.old;
           unstarted = P.faults spawner.old;
+          unbegun = J.faults journals.old;
           written = K.held sink.old;
         })
         (record {
@@ -288,13 +322,16 @@ pub fn run<
           jobs = P.jobs spawner.new;
           out = P.out spawner.new;
           unstarted = P.faults spawner.new;
+          unbegun = J.faults journals.new;
           written = K.held sink.new;
         }) result }
-    ensures no_hub { (path : Text) (sessions : Option ℕ) → asked_by (map string_bytes words.now) ≡ Some (hub path sessions) → kept.new.hub ≡ None →
+    ensures no_hub { (path : Text) (sessions : Option ℕ) (journal : Option Text) →
+        asked_by (map string_bytes words.now) ≡ Some (hub path sessions journal) → kept.new.hub ≡ None →
         Unsettled (F.holds files.old path) (F.faults files.old) (F.faults files.new) result (K.held sink.old) (K.held sink.new) }
-    ensures no_hub_untouched { (path : Text) (sessions : Option ℕ) → asked_by (map string_bytes words.now) ≡ Some (hub path sessions) →
-        kept.new.hub ≡ None →
-        (kept.new ≡ kept.old) × (clock.new ≡ clock.old) × (acceptor.new ≡ acceptor.old) × (spawner.new ≡ spawner.old) }
+    ensures no_hub_untouched { (path : Text) (sessions : Option ℕ) (journal : Option Text) →
+        asked_by (map string_bytes words.now) ≡ Some (hub path sessions journal) →
+        kept.new.hub ≡ None → (kept.new ≡ kept.old) × (clock.new ≡ clock.old) × (acceptor.new ≡ acceptor.old) × (spawner.new ≡ spawner.old)
+        × (journals.new ≡ journals.old) × (own.new ≡ own.old) }
 
     // Of the words of a node: what became of it, by its settings and its script as they were in their files.
     ensures node { (path script : Text) → asked_by (map string_bytes words.now) ≡ Some (node path script) →
@@ -375,6 +412,8 @@ pub fn run<
           dialer = dialer.old;
           spawner = spawner.old;
           kept = kept.old;
+          journals = journals.old;
+          own = own.old;
         })
         (record {
           source = source.new;
@@ -386,6 +425,8 @@ pub fn run<
           dialer = dialer.new;
           spawner = spawner.new;
           kept = kept.new;
+          journals = journals.new;
+          own = own.new;
         }) }
     ensures statuses { EndsBy (asked_by (map string_bytes words.now)) result }
 
@@ -395,13 +436,14 @@ pub fn run<
         ⊎ (asked_by (map string_bytes words.now) ≡ Some check) ⊎ (asked_by (map string_bytes words.now) ≡ Some audit) →
         result ≡ 3 → HasRisen (S.faults source.old) (S.faults source.new) }
     ensures read { result ≡ 3 → HasRisen (S.faults source.old) (S.faults source.new) ⊎ HasRisen (F.faults files.old) (F.faults files.new) }
-    ensures write { result ≡ 4 → HasRisen (K.faults sink.old) (K.faults sink.new) }
+    ensures write { result ≡ 4 → HasRisen (K.faults sink.old) (K.faults sink.new)
+        ⊎ HasRisen (J.faults journals.old) (J.faults journals.new) ⊎ HasFailed N.faults own.new }
     ensures link { result ≡ 6 → HasRisen (A.faults acceptor.old) (A.faults acceptor.new) }
 {
     match read_words(alloc, words) {
         Ok(asked) => run_asked(
             rt, alloc, asked, source, sink, files, clock, waiter, random, acceptor, dialer,
-            spawner, kept,
+            spawner, kept, journals, own,
         ),
         Err(fault) => end_unasked(sink, fault),
     }

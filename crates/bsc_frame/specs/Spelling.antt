@@ -14,7 +14,9 @@ flags_of msg = 8 * bit (is_some msg.origin) + 4 * bit (is_some msg.dest) + 2 * b
 
 -- The octets of a message: function, flags, Message ID with its high octet first, the addresses that it has, destination options, data options, payload.
 abbrev pub spelling : Message → List ℕ
-spelling msg = (function_of msg.body ∷ flags_of msg ∷ big_bytes 2 msg.id) ++ address_octets msg.origin ++ address_octets msg.dest ++ spelling_of msg.dest_options ++ spelling_of msg.data_options ++ payload_of msg.body
+spelling msg =
+    (function_of msg.body ∷ flags_of msg ∷ big_bytes 2 msg.id) ++ address_octets msg.origin ++ address_octets msg.dest
+    ++ spelling_of msg.dest_options ++ spelling_of msg.data_options ++ payload_of msg.body
 
 -- Data options go with an Encapsulated-NPDU and a Proprietary-Message.
 abbrev pub TakesDataOptions : ℕ → Type 0

@@ -58,7 +58,8 @@ pub(crate) fn alive<R: Clock + Net + Wait + Copy + Drop>(
     Ok((stream, LivePatience::new(rt, bell, bells)))
 }
 
-/// The link over a socket whose handshake is done.
+/// The link over a socket whose handshake is done. Where nobody waits for it together with others, what is put before the next
+/// receive leaves together: who waits at a watch does so before it receives, and what it has put is to have left by then.
 pub(crate) fn accepted<R: Clock + Net + Wait + Copy + Drop>(
     rt: R,
     alloc: Global,
@@ -68,5 +69,10 @@ pub(crate) fn accepted<R: Clock + Net + Wait + Copy + Drop>(
     lingering: &Option<Arc<Lingering>>,
 ) -> Result<AcceptedLink<R>, LinkFault> {
     let (stream, wait) = alive(rt, alloc, socket, bells, watch, lingering)?;
+    let stream = if watch.is_none() {
+        stream.holding()
+    } else {
+        stream
+    };
     Ok(settle(alloc, stream, wait, NoMask))
 }

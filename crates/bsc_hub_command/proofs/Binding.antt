@@ -1,15 +1,19 @@
 -- A hub that was served on a port that was bound.
-use Rattle.std.proofs.Common.{◌≡◌, ℕ, List, [], ◌++◌, Option, Some, None, refl, ap, sym, ◌∙◌, subst}
-use Rattle.bsc_turn.specs.declared.pass.Pass.{Pass}
+use Rattle.std.proofs.Common.{inl, inr, ◌≡◌, ℕ, List, ◌++◌, Option, Some, None, refl, ap, sym, ◌∙◌, subst, arith}
+use Rattle.std.specs.Prelude.{◌⊎◌, ◌≤◌, ◌≢◌}
+use Rattle.bsc_outside.specs.Faults.{HasRisen}
+use Rattle.bsc_player.specs.LastLines.{RanOut}
+use Rattle.bsc_edge.specs.declared.fault.LinkFault.{LinkFault}
+use Rattle.bsc_edge.specs.declared.fault.LinkFault.TheVariants.{Failed}
 use Rattle.bsc_edge.specs.Told.{Grows, Stays, Tells}
 use Rattle.bsc_session.specs.declared.job.SessionJob.{SessionJob}
 use Rattle.bsc_session.specs.declared.session_end.SessionEnd.{SessionEnd}
-use Rattle.bsc_settings.specs.declared.hub.HubSettings.{HubSettings}
 use Rattle.bsc_serve.specs.declared.end.ServeEnd.{ServeEnd}
 use Rattle.bsc_serve.specs.declared.terms.ServeTerms.{ServeTerms}
 use Rattle.bsc_serve.specs.Serving.{Loses, Serving}
+use Rattle.bsc_serve.specs.Terms.{all_terms}
 use Rattle.bsc_serve.specs.Worlds.{ServeWorld}
-use Rattle.bsc_hub_command.specs.Served.{Bound, Course, HubTerms, HubWorld, SaysEnd, terms_of, with_pass}
+use Rattle.bsc_hub_command.specs.Served.{Bound, Course, HasFailed, HubTerms, HubWorld, NotBound, SaysEnd, Titling, Untitled, terms_by, terms_of, with_pass}
 
 tells_still : {A : Type 0} → (a b : Option A) (x : A) → Tells a x → Stays a b → Tells b x
 tells_still a None x t s = tt
@@ -28,17 +32,19 @@ grows_from l None (Some n) xs s t = absurd t
 grows_from None (Some m) (Some n) xs s t = absurd s
 grows_from (Some l) (Some m) (Some n) xs s t = t ∙ ap (λ ys. ys ++ xs) s
 
-module _ {L C : Type 0} (works : SessionJob L C → SessionEnd → Type 0) where
-  pub bound_so : (asked : HubTerms) (k : Course) (before after : HubWorld L C) (links : Option (List L)) (waits : Option (List ℕ))
-      (told : Option (Option ℕ)) (s : ℕ) (end : ServeEnd) (terms : ServeTerms) (port : ℕ)
-      → terms ≡ terms_of asked.settings asked.sessions → port ≡ asked.settings.port → Tells told (Some port) → Stays told after.port
+module _ {L C N : Type 0} (works : SessionJob L C N → SessionEnd → Type 0) (begins : Option (List ℕ) → ℕ → N → Type 0)
+    (held : N → Option (List ℕ)) (unput : N → ℕ) where
+  pub bound_so : (asked : HubTerms) (k : Course) (titled held' : Option (List ℕ)) (before after : HubWorld L C N) (links : Option (List L))
+      (waits : Option (List ℕ)) (told : Option (Option ℕ)) (s : ℕ) (end : ServeEnd) (terms : ServeTerms) (port : ℕ)
+      → terms ≡ terms_by asked.settings asked.sessions → port ≡ asked.settings.port → Tells told (Some port) → Stays told after.port
       → Stays before.links links → Stays before.waits waits
-      → Serving works k.hub terms (record (with_pass k.first before) { links = links; waits = waits }) (with_pass k.last after) end
-      → SaysEnd end s before.written after.written → Bound works k asked before after s
-  bound_so asked k before after links waits told s end terms port same same_port bound stays left asks serving says =
-      let first : ServeWorld L C = record (with_pass k.first before) { links = links; waits = waits } in
-      let b : Serving works k.hub (terms_of asked.settings asked.sessions) first (with_pass k.last after) end =
-      subst (λ (t : ServeTerms). Serving works k.hub t first (with_pass k.last after) end) same serving in
+      → Serving works begins k.hub (all_terms terms asked.prefix asked.policy) (record (with_pass k.first before) { links = links; waits = waits })
+      (with_pass k.last after) titled held' end
+      → SaysEnd end s before.written after.written → Bound works begins held unput k asked titled held' before after s
+  bound_so asked k titled held' before after links waits told s end terms port same same_port bound stays left asks serving says =
+      let first : ServeWorld L C N = record (with_pass k.first before) { links = links; waits = waits } in
+      let b : Serving works begins k.hub (terms_of asked) first (with_pass k.last after) titled held' end =
+      subst (λ (t : ServeTerms). Serving works begins k.hub (all_terms t asked.prefix asked.policy) first (with_pass k.last after) titled held' end) same serving in
       record {
         end = end;
         bound = tells_still told after.port (Some asked.settings.port) (subst (λ (n : ℕ). Tells told (Some n)) same_port bound) stays;
@@ -47,6 +53,7 @@ module _ {L C : Type 0} (works : SessionJob L C → SessionEnd → Type 0) where
           cut = b.cut;
           still = b.still;
           stop = b.stop;
+          lost = b.lost;
           cut_last = b.cut_last;
           left = loses_from before.links links after.links _ left b.left;
           within = b.within;
@@ -60,7 +67,93 @@ module _ {L C : Type 0} (works : SessionJob L C → SessionEnd → Type 0) where
           went = b.went;
           stopped = b.stopped;
           stop_last = b.stop_last;
+          records = b.records;
+          has_line = b.has_line;
           ends = b.ends;
         };
         says = says;
       }
+
+-- what is said where the own journal failed
+pub says_lost : (s : ℕ) (fault : LinkFault) (before after : Option (List ℕ)) (failed : Type 0) → (fault ≡ Failed → failed)
+    → ((s ≡ 4) × (fault ≡ Failed) × (after ≡ before)) ⊎ RanOut s before after → ((s ≡ 4) × failed × (after ≡ before)) ⊎ RanOut s before after
+says_lost s fault before after failed so (inl x) = inl (x.0, so x.1, x.2)
+says_lost s fault before after failed so (inr x) = inr x
+
+-- ---- why the status is 4
+
+pub risen_from : (a b c : ℕ) → a ≤ b → HasRisen b c → HasRisen a c
+risen_from a b c later (inl x) = inl (omega (arith, later, x))
+risen_from a b c later (inr x) = inr x
+
+not_none : (a b : ℕ) → a ≡ 0 → HasRisen a b → b ≢ 0
+not_none a b fresh (inl x) e = omega (arith, fresh, x, e)
+not_none a b fresh (inr x) e = omega (arith, x, e)
+
+-- a journal that had put all, and then not
+pub written_so : {N : Type 0} → (unput : N → ℕ) (begun own : N) (k k' j m j' : ℕ) → unput begun ≡ 0 → j ≤ m
+    → HasRisen k k' ⊎ HasRisen m j' ⊎ HasRisen (unput begun) (unput own) → HasRisen k k' ⊎ HasRisen j j' ⊎ HasFailed unput (Some own)
+written_so unput begun own k k' j m j' fresh later (inl x) = inl x
+written_so unput begun own k k' j m j' fresh later (inr (inl x)) = inr (inl (risen_from j m j' later x))
+written_so unput begun own k k' j m j' fresh later (inr (inr x)) = inr (inr (own, refl, not_none (unput begun) (unput own) fresh x))
+
+-- a fault of a journal in serving, or a write that failed
+pub told_so : {F X Y Z : Type 0} → F ⊎ X → (X → Y ⊎ Z) → F ⊎ Y ⊎ Z
+told_so (inl x) f = inl x
+told_so (inr x) f = inr (f x)
+
+pub later_so : {X Y : Type 0} → (n m k : ℕ) → n ≤ m → X ⊎ Y ⊎ HasRisen m k → X ⊎ Y ⊎ HasRisen n k
+later_so n m k later (inl x) = inl x
+later_so n m k later (inr (inl x)) = inr (inl x)
+later_so n m k later (inr (inr x)) = inr (inr (risen_from n m k later x))
+
+pub sooner : {X : Type 0} → (a b c : ℕ) → a ≤ b → HasRisen b c ⊎ X → HasRisen a c ⊎ X
+sooner a b c later (inl x) = inl (risen_from a b c later x)
+sooner a b c later (inr x) = inr x
+
+-- ---- what became of a hub says nothing of the journals that couldn't be begun
+
+module _ {L C N : Type 0} (works : SessionJob L C N → SessionEnd → Type 0) (begins : Option (List ℕ) → ℕ → N → Type 0)
+    (held : N → Option (List ℕ)) (unput : N → ℕ) (k : Course) (asked : HubTerms) (begun own : N) (before after : HubWorld L C N) (n s : ℕ) where
+  untitled_since : Untitled held unput k begun own (record before { unbegun = n }) after s → Untitled held unput k begun own before after s
+  untitled_since u = record {
+    part = u.part;
+    untouched = record {
+      links = u.untouched.links;
+      waits = u.untouched.waits;
+      port = u.untouched.port;
+      faults = u.untouched.faults;
+      jobs = u.untouched.jobs;
+      out = u.untouched.out;
+      unstarted = u.untouched.unstarted;
+    };
+    stops = u.stops;
+    says = u.says;
+  }
+
+  unbound_since : NotBound k (record before { unbegun = n }) after s → NotBound k before after s
+  unbound_since b = record {
+    pass = b.pass;
+    links = b.links;
+    waits = b.waits;
+    jobs = b.jobs;
+    out = b.out;
+    unstarted = b.unstarted;
+    failed = b.failed;
+    says = b.says;
+  }
+
+  bound_since : (titled held' : Option (List ℕ)) → Bound works begins held unput k asked titled held' (record before { unbegun = n }) after s
+      → Bound works begins held unput k asked titled held' before after s
+  bound_since titled held' b = record { end = b.end; bound = b.bound; serving = b.serving; says = b.says }
+
+  went_since : (titled : Option (List ℕ))
+      → (NotBound k (record before { unbegun = n }) after s × (held own ≡ titled)) ⊎ Bound works begins held unput k asked titled (held own) (record before { unbegun = n }) after s
+      → (NotBound k before after s × (held own ≡ titled)) ⊎ Bound works begins held unput k asked titled (held own) before after s
+  went_since titled (inl b) = inl (unbound_since b.0, b.1)
+  went_since titled (inr b) = inr (bound_since titled (held own) b)
+
+  pub titling_since : Titling works begins held unput k asked begun own (record before { unbegun = n }) after s
+      → Titling works begins held unput k asked begun own before after s
+  titling_since (inl u) = inl (untitled_since u)
+  titling_since (inr t) = inr (t.0, t.1, went_since t.0 t.2)

@@ -1,1 +1,5 @@
 mod Binding
+mod Stopping
+mod HubBack
+mod Settling
+mod WorkedHubLine

@@ -1,3 +1,4 @@
+pub mod HubLines
 pub mod Lines
 pub mod Served
 pub mod Settled

@@ -1,14 +1,20 @@
 -- What serving a hub by its settings comes to.
-use Rattle.std.specs.Prelude.{◌≡◌, ℕ, ◌⊎◌, List, [], Option, Some, None}
+use Rattle.std.specs.Prelude.{◌≡◌, ◌≢◌, ℕ, ◌⊎◌, List, [], Option, Some, None, Result}
 use Rattle.std.specs.declared.alloc.Global.{Global}
 use Rattle.std.specs.declared.sync.Arc.{Arc}
 use Rattle.std.specs.Arc.{arc_value}
-use Rattle.bsc_outside.specs.Faults.{HasRisen}
+use Rattle.std.specs.Io.KnownBytes.{Appends}
+use Rattle.bsc_outside.specs.Faults.{HasRisen, PutsPrefix}
+use Rattle.bsc_policy.specs.declared.policy.Policy.{Policy}
+use Rattle.bsc_history.specs.declared.counts.Counts.{Counts}
+use Rattle.bsc_history.specs.declared.told.AlreadyStopped.{AlreadyStopped}
+use Rattle.bsc_history.specs.declared.told.Told.{Told}
 use Rattle.bsc_turn.specs.declared.pass.Pass.{Pass}
 use Rattle.bsc_turn.specs.Passes.{ended_callers, number_of, own_list, seen}
 use Rattle.bsc_hub.specs.declared.hub.Hub.{Hub}
 use Rattle.bsc_hub.specs.declared.kept.Kept.{Kept}
-use Rattle.bsc_hub.specs.Passing.{IsCaller, about_of}
+use Rattle.bsc_hub.specs.Calls.{stop_made}
+use Rattle.bsc_hub.specs.Passing.{IsCaller, Passed, about_of}
 use Rattle.bsc_edge.specs.Told.{Stays, Tells}
 use Rattle.bsc_player.specs.LastLines.{EndsWith, RanOut}
 use Rattle.bsc_session.specs.declared.job.SessionJob.{SessionJob}
@@ -17,10 +23,13 @@ use Rattle.bsc_session.specs.declared.session_end.SessionEnd.{SessionEnd}
 use Rattle.bsc_settings.specs.declared.hub.HubSettings.{HubSettings}
 use Rattle.bsc_settings.specs.Parts.{identity_of, limits_of, times_of}
 use Rattle.bsc_serve.specs.declared.end.ServeEnd.{ServeEnd}
-use Rattle.bsc_serve.specs.declared.end.ServeEnd.TheVariants.{Done, StoppedBefore, AcceptFault, NoMemory}
+use Rattle.bsc_serve.specs.declared.end.ServeEnd.TheVariants.{Done, StoppedBefore, AcceptFault, JournalFault, NoMemory}
 use Rattle.bsc_serve.specs.declared.terms.ServeTerms.{ServeTerms}
-use Rattle.bsc_serve.specs.Serving.{Serving}
+use Rattle.bsc_serve.specs.Serving.{Serving, StopAnswers}
+use Rattle.bsc_serve.specs.Terms.{Terms, all_terms}
 use Rattle.bsc_serve.specs.Worlds.{ServeWorld}
+use Rattle.bsc_journal.specs.Saying.{IsHubLine}
+use Rattle.bsc_hub_command.specs.HubLines.{hub_line, hub_text}
 use Rattle.bsc_hub_command.specs.Lines.{end_text, link_line}
 
 -- A text was written, and the status is the one that is wanted; or its write failed, and the status is 4; or there was no
@@ -33,6 +42,7 @@ abbrev pub SaysEnd : ServeEnd → ℕ → Option (List ℕ) → Option (List ℕ
 SaysEnd (Done c u) s before after = Says s 0 before after (end_text u (Some c))
 SaysEnd (StoppedBefore at u) s before after = Says s 0 before after (end_text u None)
 SaysEnd AcceptFault s before after = EndsWith s 6 before after link_line
+SaysEnd JournalFault s before after = (s ≡ 4) × (after ≡ before)
 SaysEnd NoMemory s before after = RanOut s before after
 
 -- the limits of a hub's sessions
@@ -40,26 +50,38 @@ abbrev pub session_limits : HubSettings → SessionLimits
 session_limits v = record { times = times_of v }
 
 -- what serving a hub of these settings is asked for
-abbrev pub terms_of : HubSettings → Option ℕ → ServeTerms
-terms_of v sessions = record { limits = session_limits v; turns = v.turns; sessions = sessions }
+abbrev pub terms_by : HubSettings → Option ℕ → ServeTerms
+terms_by v sessions = record { limits = session_limits v; turns = v.turns; sessions = sessions }
 
 -- What there is outside the command at a moment, each as far as it is told: the links that the acceptor has left, the waits
 -- that it was asked for, the port that it is bound to, and its count of faults; the jobs that the spawner has taken, those of
--- them that are out, and its count of jobs that weren't started; and what was written.
-pub record HubWorld (L C : Type 0) : Type 0 where
+-- them that are out, and its count of jobs that weren't started; the count of journals that couldn't be begun; and what was
+-- written.
+pub record HubWorld (L C N : Type 0) : Type 0 where
   pub links : Option (List L)
   pub waits : Option (List ℕ)
   pub port : Option (Option ℕ)
   pub faults : ℕ
-  pub jobs : Option (List (SessionJob L C))
-  pub out : List (SessionJob L C)
+  pub jobs : Option (List (SessionJob L C N))
+  pub out : List (SessionJob L C N)
   pub unstarted : ℕ
+  pub unbegun : ℕ
   pub written : Option (List ℕ)
 
--- What a hub is served by: its settings, and how many sessions are awaited.
+-- a sink is there that has failed
+abbrev pub HasFailed : {N : Type 0} → (N → ℕ) → Option N → Type 0
+HasFailed unput own = (sink : _) × (own ≡ Some sink) × (unput sink ≢ 0)
+
+-- What a hub is served by: its settings, the policy in them, if there is one, how many sessions are awaited, and the prefix of
+-- the journals, if there are journals.
 pub record HubTerms : Type 0 where
   pub settings : HubSettings
+  pub policy : Option Policy
   pub sessions : Option ℕ
+  pub prefix : Option (List ℕ)
+
+abbrev pub terms_of : HubTerms → Terms
+terms_of asked = all_terms (terms_by asked.settings asked.sessions) asked.prefix asked.policy
 
 -- A hub, with its own pass at first and at last.
 pub record Course : Type 0 where
@@ -67,14 +89,42 @@ pub record Course : Type 0 where
   pub first : Pass
   pub last : Pass
 
-module _ {L C : Type 0} where
+-- The hub was stopped by its own pass, or had been before, as that pass has then seen; and nothing else was asked of it.
+abbrev pub StopsAlone : Course → Type 0
+StopsAlone k =
+    (stop : Result (Told Counts) AlreadyStopped)
+    × Passed k.hub k.first [] (stop_made (number_of k.first) stop) k.last × StopAnswers k.last stop
+
+module _ {L C N : Type 0} where
   -- what serving a hub sees of it, beside the hub's own pass
-  abbrev pub with_pass : Pass → HubWorld L C → ServeWorld L C
+  abbrev pub with_pass : Pass → HubWorld L C N → ServeWorld L C N
   with_pass p w = record { pass = p; links = w.links; waits = w.waits; jobs = w.jobs; out = w.out; unstarted = w.unstarted }
+
+  -- Nothing was asked of the acceptor and the spawner.
+  pub record Untouched (before after : HubWorld L C N) : Type 0 where
+    pub links : after.links ≡ before.links
+    pub waits : after.waits ≡ before.waits
+    pub port : after.port ≡ before.port
+    pub faults : after.faults ≡ before.faults
+    pub jobs : after.jobs ≡ before.jobs
+    pub out : after.out ≡ before.out
+    pub unstarted : after.unstarted ≡ before.unstarted
+
+  -- What is said where the own journal failed: the status is 4, and nothing is written; or there was no memory.
+  abbrev pub SaysLost : HubWorld L C N → HubWorld L C N → Type 0 → ℕ → Type 0
+  SaysLost before after failed s =
+      ((s ≡ 4) × failed × (after.written ≡ before.written)) ⊎ RanOut s before.written after.written
+
+  -- The own journal couldn't be begun: the hub was stopped.
+  pub record Unbegun (k : Course) (own : Option N) (before after : HubWorld L C N) (s : ℕ) : Type 0 where
+    pub none : own ≡ None
+    pub untouched : Untouched before after
+    pub stops : StopsAlone k
+    pub says : SaysLost before after (HasRisen before.unbegun after.unbegun) s
 
   -- The port wasn't bound: the acceptor's count of faults rose, it was asked for no link, and the pass and the spawner are as
   -- they were.
-  pub record NotBound (k : Course) (before after : HubWorld L C) (s : ℕ) : Type 0 where
+  pub record NotBound (k : Course) (before after : HubWorld L C N) (s : ℕ) : Type 0 where
     pub pass : k.last ≡ k.first
     pub links : Stays before.links after.links
     pub waits : Stays before.waits after.waits
@@ -84,18 +134,45 @@ module _ {L C : Type 0} where
     pub failed : HasRisen before.faults after.faults
     pub says : EndsWith s 6 before.written after.written link_line
 
-module _ {L C : Type 0} (works : SessionJob L C → SessionEnd → Type 0) where
-  -- The port of the settings was bound, the hub was served with their limits and turns, where `works` says what may be left of
-  -- a job, and what is written tells how that ended.
-  pub record Bound (k : Course) (asked : HubTerms) (before after : HubWorld L C) (s : ℕ) : Type 0 where
+module _ {L C N : Type 0} (held : N → Option (List ℕ)) (unput : N → ℕ) where
+  -- The first line of the own journal, which was begun as one sink and is another since, wasn't put: the hub was stopped.
+  pub record Untitled (k : Course) (begun own : N) (before after : HubWorld L C N) (s : ℕ) : Type 0 where
+    pub part : PutsPrefix (held begun) (held own) (hub_line (about_of k.hub))
+    pub untouched : Untouched before after
+    pub stops : StopsAlone k
+    pub says : SaysLost before after (HasRisen (unput begun) (unput own)) s
+
+module _ {L C N : Type 0} (works : SessionJob L C N → SessionEnd → Type 0) (begins : Option (List ℕ) → ℕ → N → Type 0)
+    (held : N → Option (List ℕ)) (unput : N → ℕ) where
+  -- The port of the settings was bound, the hub was served with their limits, turns and policy, where `works` says what may be
+  -- left of a job, and what is written tells how that ended. Its own journal held the first line then, and what serving puts
+  -- into it came behind that.
+  pub record Bound (k : Course) (asked : HubTerms) (titled held' : Option (List ℕ)) (before after : HubWorld L C N) (s : ℕ) : Type 0 where
     pub end : ServeEnd
     pub bound : Tells after.port (Some asked.settings.port)
-    pub serving : Serving works k.hub (terms_of asked.settings asked.sessions) (with_pass k.first before) (with_pass k.last after) end
+    pub serving : Serving works begins k.hub (terms_of asked) (with_pass k.first before) (with_pass k.last after) titled held' end
     pub says : SaysEnd end s before.written after.written
 
-  -- A hub of the settings was made, and it and its pass, number 0 at first, with nothing seen, are kept; its port wasn't bound,
-  -- or it was served.
-  pub record Runs (asked : HubTerms) (kept : Kept) (before after : HubWorld L C) (s : ℕ) : Type 0 where
+  -- The own journal was begun as one sink and is another since. Its first line wasn't put; or it was, and then the port wasn't
+  -- bound, or the hub was served.
+  abbrev pub Titling : Course → HubTerms → N → N → HubWorld L C N → HubWorld L C N → ℕ → Type 0
+  Titling k asked begun own before after s =
+      Untitled held unput k begun own before after s
+      ⊎ ((titled : Option (List ℕ)) × Appends (held begun) titled (hub_line (about_of k.hub))
+      × ((NotBound k before after s × (held own ≡ titled)) ⊎ Bound k asked titled (held own) before after s))
+
+  -- The own journal was begun, as the journal of this prefix and of the number of the own pass, and it is kept.
+  pub record Begun (k : Course) (asked : HubTerms) (kept : Option N) (before after : HubWorld L C N) (s : ℕ) : Type 0 where
+    pub begun : N
+    pub own : N
+    pub of_pass : begins asked.prefix (number_of k.first) begun
+    pub fresh : unput begun ≡ 0
+    pub keeps : kept ≡ Some own
+    pub went : Titling k asked begun own before after s
+
+  -- A hub of the settings was made, and it and its pass, number 0 at first, with nothing seen, are kept; its own journal couldn't
+  -- be begun, or it was begun, and this is what became of both.
+  pub record Runs (asked : HubTerms) (kept : Kept) (own : Option N) (before after : HubWorld L C N) (s : ℕ) : Type 0 where
     pub hub : Arc Hub Global
     pub first : Pass
     pub last : Pass
@@ -104,5 +181,7 @@ module _ {L C : Type 0} (works : SessionJob L C → SessionEnd → Type 0) where
     pub caller : IsCaller (arc_value hub) first
     pub new : (number_of first ≡ 0) × (seen first ≡ []) × (own_list first ≡ []) × (ended_callers first ≡ [])
     pub about : about_of (arc_value hub) ≡ record { hub = identity_of asked.settings; limits = limits_of asked.settings }
-    pub went : NotBound (record { hub = arc_value hub; first = first; last = last }) before after s
-        ⊎ Bound (record { hub = arc_value hub; first = first; last = last }) asked before after s
+    -- who audits its own journal reads the first line as this hub;
+    pub said : IsHubLine (hub_text (about_of (arc_value hub))) (about_of (arc_value hub))
+    pub went : Unbegun (record { hub = arc_value hub; first = first; last = last }) own before after s
+        ⊎ Begun (record { hub = arc_value hub; first = first; last = last }) asked own before after s

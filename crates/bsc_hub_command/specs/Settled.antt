@@ -2,6 +2,8 @@
 use Rattle.std.specs.Prelude.{◌≡◌, ℕ, ◌⊎◌, List, codes, Option, Some, None}
 use Rattle.toml.specs.Data.{Members}
 use Rattle.bsc_outside.specs.Faults.{HasRisen}
+use Rattle.bsc_policy.specs.declared.policy.Policy.{Policy}
+use Rattle.bsc_session.specs.Jobs.{policy_of}
 use Rattle.bsc_player.specs.LastLines.{EndsWith, RanOut, read_line}
 use Rattle.bsc_settings.specs.declared.hub.HubSettings.{HubSettings}
 use Rattle.bsc_settings.specs.declared.key.KeyName.{KeyName}
@@ -13,8 +15,8 @@ use Rattle.bsc_settings.specs.Names.{name_of}
 use Rattle.bsc_hub_command.specs.Lines.{settings_line}
 use Rattle.bsc_hub_command.specs.Served.{Says}
 
--- The file has these octets, as far as that is told, and they are settings with these of a hub.
-pub record IsSettled (holds : List ℕ → Type 0) (v : HubSettings) : Type 0 where
+-- The file has these octets, as far as that is told, and they are settings with these of a hub, and with this policy, if any.
+pub record IsSettled (holds : List ℕ → Type 0) (v : HubSettings) (policy : Option Policy) : Type 0 where
   pub text : List ℕ
   pub held : holds text
   pub doc : Members
@@ -22,6 +24,7 @@ pub record IsSettled (holds : List ℕ → Type 0) (v : HubSettings) : Type 0 wh
   pub settings : Settings
   pub said : IsSaidBy doc settings
   pub hub : settings.hub ≡ Some v
+  pub guarded : policy_of settings.policy ≡ policy
 
 -- The octets are refused under this name: they are no document; or this key is the first at fault; or they have no hub.
 abbrev pub IsRefused : List ℕ → List ℕ → Type 0

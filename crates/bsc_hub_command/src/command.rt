@@ -1,22 +1,24 @@
 //! The command over a file of settings.
-ghost use Rattle.std.specs.Prelude.{◌≡◌, ◌≤◌, ◌⊎◌, IfErr, IfOk, None, Some};
+ghost use Rattle.std.specs.Prelude.{◌≡◌, ◌≤◌, ◌⊎◌, IfErr, IfOk, None, Option, Some, option_map};
 ghost use Rattle.bsc_outside.specs.Faults.{HasRisen};
 ghost use Rattle.bsc_player.specs.LastLines.{RanOut};
-ghost use Rattle.bsc_session.specs.Jobs.{Worked};
+ghost use Rattle.bsc_policy.specs.declared.policy.Policy.{Policy as PolicyType};
+ghost use Rattle.bsc_session.specs.Jobs.{Worked, policy_of};
 ghost use Rattle.bsc_settings.specs.declared.hub.HubSettings.{HubSettings as HubSettingsType};
 ghost use Rattle.bsc_hub_command.specs.Lines.{settings_line};
-ghost use Rattle.bsc_hub_command.specs.Served.{Runs, Says};
+ghost use Rattle.bsc_hub_command.specs.Served.{HasFailed, Runs, Says};
 ghost use Rattle.bsc_hub_command.specs.Settled.{IsSettled, Unsettled};
 
 use crate::serving::serve;
+use crate::settled::HubSettled;
 use crate::texts::settings_text;
 use crate::words::HubWords;
-use bsc_edge::{Acceptor, Clock, FileFault, Files, Link, Spawner};
+use bsc_edge::{Acceptor, Clock, FileFault, Files, Journals, Link, Spawner};
 use bsc_hub::Kept;
 use bsc_outside::Sink;
 use bsc_player::{end_with, out_of_memory};
 use bsc_session::SessionJob;
-use bsc_settings::{HubSettings, SettingFault, read_settings};
+use bsc_settings::{SettingFault, Settings, read_settings};
 use std::alloc::Global;
 use std::sync::Wait;
 
@@ -33,14 +35,14 @@ fn refuse<K: Sink>(alloc: Global, sink: &mut K, name: &str) -> u8
     }
 }
 
-/// The settings of a hub, or the status of a run that ends without them.
+/// The settings of a hub and the policy in them, or the status of a run that ends without them.
 fn load<K: Sink, F: Files>(
     alloc: Global,
     path: &str,
     files: &mut F,
     sink: &mut K,
-) -> Result<HubSettings, u8>
-    ensures settled { IfOk result (λ v. IsSettled (F.holds files.old path.now) v × (K.held sink.new ≡ K.held sink.old)) }
+) -> Result<HubSettled, u8>
+    ensures settled { IfOk result (λ v. IsSettled (F.holds files.old path.now) v.hub (policy_of v.policy) × (K.held sink.new ≡ K.held sink.old)) }
     ensures unsettled { IfErr result (λ s. Unsettled (F.holds files.old path.now) (F.faults files.old) (F.faults files.new) s
         (K.held sink.old) (K.held sink.new)) }
     ensures read { IfErr result (λ s. s ≡ 3 → HasRisen (F.faults files.old) (F.faults files.new)) }
@@ -54,10 +56,13 @@ fn load<K: Sink, F: Files>(
         Err(FileFault::NoMemory) => return Err(out_of_memory(sink)),
     };
     match read_settings(alloc, text.as_slice()) {
-        Ok(settings) => match &settings.hub {
-            Some(hub) => Ok(*hub),
-            None => Err(refuse(alloc, sink, "hub")),
-        },
+        Ok(settings) => {
+            let Settings { hub, policy, .. } = settings;
+            match hub {
+                Some(hub) => Ok(HubSettled { hub, policy }),
+                None => Err(refuse(alloc, sink, "hub")),
+            }
+        }
         Err(SettingFault::NotToml) => Err(refuse(alloc, sink, "-")),
         Err(SettingFault::Key { name }) => Err(refuse(alloc, sink, name.text())),
         Err(SettingFault::NoMemory) => Err(out_of_memory(sink)),
@@ -72,7 +77,9 @@ pub fn run_hub<
     C: Clock + Drop,
     L: Link + Drop,
     A: Acceptor<L>,
-    P: Spawner<SessionJob<L, C>>,
+    N: Sink + Drop,
+    J: Journals<N>,
+    P: Spawner<SessionJob<L, C, N>>,
 >(
     rt: &R,
     alloc: Global,
@@ -83,13 +90,19 @@ pub fn run_hub<
     acceptor: &mut A,
     spawner: &mut P,
     kept: &mut Kept,
+    journals: &mut J,
+    own: &mut Option<N>,
 ) -> u8
     requires can { P.can_start spawner.old }
     requires kept { kept.old.hub ≡ None }
+    requires own { own.old ≡ None }
 
     // Once a hub is made, its settings are those of the file, and this is what became of it.
-    ensures runs { (hub : _) → kept.new.hub ≡ Some hub → (v : HubSettingsType) × IsSettled (F.holds files.old words.entry.path.now) v
-        × Runs (Worked L.talk L.faults C.readings) (record { settings = v; sessions = words.entry.sessions }) kept.new
+    ensures runs { (hub : _) → kept.new.hub ≡ Some hub → (v : HubSettingsType) × (policy : Option PolicyType)
+        × IsSettled (F.holds files.old words.entry.path.now) v policy
+        × Runs (Worked L.talk L.faults C.readings N.held N.faults) J.begins N.held N.faults
+        (record { settings = v; policy = policy; sessions = words.entry.sessions; prefix = option_map (λ p. p.now) words.entry.journal })
+        kept.new own.new
         (record {
           links = A.left acceptor.old;
           waits = A.waits acceptor.old;
@@ -98,6 +111,7 @@ pub fn run_hub<
           jobs = P.jobs spawner.old;
           out = P.out spawner.old;
           unstarted = P.faults spawner.old;
+          unbegun = J.faults journals.old;
           written = K.held sink.old;
         })
         (record {
@@ -108,6 +122,7 @@ pub fn run_hub<
           jobs = P.jobs spawner.new;
           out = P.out spawner.new;
           unstarted = P.faults spawner.new;
+          unbegun = J.faults journals.new;
           written = K.held sink.new;
         }) result }
 
@@ -116,9 +131,11 @@ pub fn run_hub<
     ensures unmade { kept.new.hub ≡ None → Unsettled (F.holds files.old words.entry.path.now) (F.faults files.old) (F.faults files.new)
         result (K.held sink.old) (K.held sink.new) }
     ensures untouched { kept.new.hub ≡ None →
-        (kept.new ≡ kept.old) × (clock.new ≡ clock.old) × (acceptor.new ≡ acceptor.old) × (spawner.new ≡ spawner.old) }
+        (kept.new ≡ kept.old) × (clock.new ≡ clock.old) × (acceptor.new ≡ acceptor.old) × (spawner.new ≡ spawner.old)
+        × (journals.new ≡ journals.old) × (own.new ≡ own.old) }
     ensures read { result ≡ 3 → HasRisen (F.faults files.old) (F.faults files.new) }
-    ensures write { result ≡ 4 → HasRisen (K.faults sink.old) (K.faults sink.new) }
+    ensures write { result ≡ 4 → HasRisen (K.faults sink.old) (K.faults sink.new)
+        ⊎ HasRisen (J.faults journals.old) (J.faults journals.new) ⊎ HasFailed N.faults own.new }
     ensures link { result ≡ 6 → HasRisen (A.faults acceptor.old) (A.faults acceptor.new) }
     ensures statuses { (result ≡ 0) ⊎ (result ≡ 3) ⊎ (result ≡ 4) ⊎ (result ≡ 5) ⊎ (result ≡ 6) ⊎ (result ≡ 7) }
 {
@@ -126,13 +143,17 @@ pub fn run_hub<
         Ok(settings) => serve(
             rt,
             alloc,
-            &settings,
+            &settings.hub,
+            &settings.policy,
             words.sessions,
             sink,
             clock,
             acceptor,
             spawner,
             kept,
+            words.journal,
+            journals,
+            own,
         ),
         Err(status) => status,
     }

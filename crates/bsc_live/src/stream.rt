@@ -1,4 +1,6 @@
 //! Streams over sockets that don't block.
+ghost use Rattle.std.specs.Prelude.{◌≤◌, IfOk, length};
+
 use crate::bell::Bell;
 use crate::lingering::Lingering;
 use crate::moment::{Moment, wait_of};
@@ -7,6 +9,7 @@ use mio::net::TcpStream;
 use mio::{Events, Interest, Poll, Token, Waker};
 use std::alloc::Global;
 use std::io::{self, ErrorKind, Read, Write};
+use std::mem;
 use std::net::Net;
 use std::sync::{Arc, Wait};
 use std::time::Clock;
@@ -15,12 +18,22 @@ const SOCKET: Token = Token(0);
 
 const BELL: Token = Token(1);
 
+/// A stream that holds what is written holds so many octets at most.
+const HELD: usize = 16_384;
+
+/// Room for so many octets is kept once they have left.
+const ROOM: usize = 2_048;
+
 /// A stream over a socket that doesn't block. A read waits until octets are there, the bell rings or the time is over,
 /// and then answers `WouldBlock`; a write waits until its octets are taken, and answers `TimedOut` once its own time is
 /// over. It holds three descriptors: the socket, the poll and the bell's. Where it has a place to linger at, its socket goes there
 /// when it is dropped.
+///
+/// Where it holds what is written, that leaves together, in one call of the system: at the next read, once there is more than
+/// it holds, and when the stream is dropped. A fault of the socket shows there then.
 pub struct LiveStream<R: Clock + Wait + Drop> {
     clock: R,
+    alloc: Global,
     socket: TcpStream,
     poll: Poll,
     events: Events,
@@ -28,6 +41,10 @@ pub struct LiveStream<R: Clock + Wait + Drop> {
     write_ms: u32,
     /// When the octets that were written since the last flush must have left, once one of them had to wait.
     write_until: Option<Moment>,
+    /// Whether it holds what is written.
+    holds: bool,
+    /// What is written and hasn't left.
+    held: Vec<u8>,
     /// Where it is waited for with others.
     seat: Option<Seat>,
     /// Where its socket lingers once it is dropped.
@@ -56,12 +73,15 @@ impl<R: Clock + Net + Wait + Copy + Drop> LiveStream<R> {
         };
         Ok(LiveStream {
             clock: rt,
+            alloc,
             socket,
             poll,
             events,
             bell,
             write_ms,
             write_until: None,
+            holds: false,
+            held: Vec::new(alloc),
             seat: None,
             lingering: None,
         })
@@ -85,6 +105,13 @@ impl<R: Clock + Wait + Drop> LiveStream<R> {
         };
         stream.lingering = Some(lingering);
         Ok(stream)
+    }
+
+    /// The same stream, which holds what is written.
+    pub fn holding(self) -> LiveStream<R> {
+        let mut stream = self;
+        stream.holds = true;
+        stream
     }
 
     /// The stream's bell, to be shared.
@@ -126,6 +153,64 @@ impl<R: Clock + Wait + Drop> LiveStream<R> {
         self.poll.poll(&mut self.events, Some(wait_of(left)))
     }
 
+    /// Writes octets of these to the socket, waits until it takes some, and says how many.
+    fn writes(&mut self, buf: &[u8]) -> io::Result<usize>
+        ensures { IfOk result (λ n. n ≤ length buf.now) }
+    {
+        for _ in 0..u64::MAX {
+            match self.socket.write(buf) {
+                Ok(n) => return Ok(n),
+                Err(error) => {
+                    if error.kind() == ErrorKind::WouldBlock {
+                        self.waits_to_write()?;
+                    } else if error.kind() != ErrorKind::Interrupted {
+                        return Err(error);
+                    }
+                }
+            }
+        }
+        Err(io::Error::from(ErrorKind::TimedOut))
+    }
+
+    /// Sends what is held. Nothing is held then, also where that fails.
+    fn sends(&mut self) -> io::Result<()> {
+        if self.held.is_empty() {
+            return Ok(());
+        }
+        let mut held = mem::replace(&mut self.held, Vec::new(self.alloc));
+        let mut sent = 0;
+        for _ in 0..held.len() {
+            match held.as_slice().get(sent..) {
+                Some(left) if !left.is_empty() => match self.writes(left)? {
+                    0 => return Err(io::Error::from(ErrorKind::WriteZero)),
+                    n => sent = sent.saturating_add(n),
+                },
+                _ => break,
+            }
+        }
+        self.write_until = None;
+        if held.capacity() <= ROOM {
+            held.clear();
+            self.held = held;
+        }
+        Ok(())
+    }
+
+    /// Holds these octets, if it holds what is written and finds room. Else nothing is held any more. Says whether it did.
+    fn takes_up(&mut self, buf: &[u8]) -> io::Result<bool> {
+        if !self.holds {
+            return Ok(false);
+        }
+        if self.held.len().saturating_add(buf.len()) > HELD {
+            self.sends()?;
+        }
+        if buf.len() <= HELD && self.held.extend_from_slice(buf).is_ok() {
+            return Ok(true);
+        }
+        self.sends()?;
+        Ok(false)
+    }
+
     /// Whether the time of the reads is over.
     fn is_late(&self) -> io::Result<bool> {
         if !self.bell.waits() {
@@ -152,6 +237,7 @@ impl<R: Clock + Wait + Drop> LiveStream<R> {
 
 impl<R: Clock + Wait + Drop> Read for LiveStream<R> {
     fn read(&mut self, buf: &mut [u8]) -> io::Result<usize> {
+        self.sends()?;
         // A peer that never lets a message end can't keep its reader past the time.
         if !self.bell.is_first_read() && self.is_late()? {
             return Err(io::Error::from(ErrorKind::WouldBlock));
@@ -183,19 +269,10 @@ impl<R: Clock + Wait + Drop> Read for LiveStream<R> {
 
 impl<R: Clock + Wait + Drop> Write for LiveStream<R> {
     fn write(&mut self, buf: &[u8]) -> io::Result<usize> {
-        for _ in 0..u64::MAX {
-            match self.socket.write(buf) {
-                Ok(n) => return Ok(n),
-                Err(error) => {
-                    if error.kind() == ErrorKind::WouldBlock {
-                        self.waits_to_write()?;
-                    } else if error.kind() != ErrorKind::Interrupted {
-                        return Err(error);
-                    }
-                }
-            }
+        if self.takes_up(buf)? {
+            return Ok(buf.len());
         }
-        Err(io::Error::from(ErrorKind::TimedOut))
+        self.writes(buf)
     }
 
     fn flush(&mut self) -> io::Result<()> {
@@ -205,15 +282,20 @@ impl<R: Clock + Wait + Drop> Write for LiveStream<R> {
 }
 
 impl<R: Clock + Wait + Drop> Drop for LiveStream<R> {
-    fn drop(self) {
+    fn drop(mut self) {
+        // Where it can't leave, the peer sees the stream's end alone.
+        let _ = self.sends();
         let LiveStream {
             clock,
+            alloc: _,
             socket,
             poll: _,
             events: _,
             bell: _,
             write_ms: _,
             write_until: _,
+            holds: _,
+            held: _,
             seat,
             lingering,
         } = self;

@@ -10,7 +10,7 @@ use Rattle.bsc_history.specs.Outboxes.{looked, added_by, sent}
 use Rattle.bsc_history.specs.Counting.{counts}
 use Rattle.bsc_history.specs.Replies.{connect_reply, forward_reply}
 use Rattle.bsc_direct.specs.Slots.{slots}
-use Rattle.bsc_verdict.specs.Outcomes.{outcome_of}
+use Rattle.bsc_checks.specs.Outcomes.{outcome_of}
 use Rattle.bsc_network.specs.Outboxes.{frames_of}
 
 unfoldable pub world_on_literals : ⊤

@@ -12,7 +12,7 @@ use Rattle.bsc_frame.specs.declared.body.Body.TheVariants.{Npdu}
 use Rattle.bsc_checks.specs.declared.place.Place.{Place}
 use Rattle.bsc_checks.specs.declared.verdict.Verdict.TheVariants.{Pass}
 use Rattle.bsc_connector.specs.declared.side.Side.TheVariants.{Primary, Failover}
-use Rattle.bsc_verdict.specs.Outcomes.{outcome_of}
+use Rattle.bsc_checks.specs.Outcomes.{outcome_of}
 use Rattle.bsc_node.specs.declared.link_name.LinkName.{LinkName}
 use Rattle.bsc_node.specs.declared.link_name.LinkName.TheVariants.{Hub, Direct}
 use Rattle.bsc_node.specs.declared.node_event.NodeEvent.{NodeEvent}

@@ -12,9 +12,9 @@ use Rattle.bsc_frame.specs.declared.message.Message.{Message}
 use Rattle.bsc_frame.specs.declared.body.Body.{Body}
 use Rattle.bsc_frame.specs.declared.body.Body.TheVariants.{Npdu}
 use Rattle.bsc_checks.specs.declared.verdict.Verdict.TheVariants.{Pass}
-use Rattle.bsc_verdict.specs.Options.{rest_of, data_options_in}
-use Rattle.bsc_verdict.specs.Outcomes.{message_in, outcome_of}
-use Rattle.bsc_verdict.specs.Payloads.{body_in}
+use Rattle.bsc_checks.specs.Options.{rest_of, data_options_in}
+use Rattle.bsc_checks.specs.Outcomes.{message_in, outcome_of}
+use Rattle.bsc_checks.specs.Payloads.{body_in}
 use Rattle.bsc_node.specs.declared.link_name.LinkName.{LinkName}
 use Rattle.bsc_node.specs.declared.link_name.LinkName.TheVariants.{Hub as HubName, Direct}
 use Rattle.bsc_node.specs.declared.node_event.NodeEvent.{NodeEvent}

@@ -8,7 +8,7 @@ use Rattle.bsc_octets.specs.Addresses.{broadcast, same_vmac}
 use Rattle.bsc_octets.specs.Forwarding.{destination, out}
 use Rattle.bsc_frame.specs.declared.message.Message.{Message}
 use Rattle.bsc_frame.specs.declared.body.Body.TheVariants.{Npdu}
-use Rattle.bsc_verdict.specs.Outcomes.{outcome_of}
+use Rattle.bsc_checks.specs.Outcomes.{outcome_of}
 use Rattle.bsc_checks.specs.declared.place.Place.{Place}
 use Rattle.bsc_checks.specs.declared.verdict.Verdict.TheVariants.{Pass}
 use Rattle.bsc_history.specs.declared.connection.Connection.{Connection}

@@ -17,7 +17,7 @@ use Rattle.bsc_history.specs.Replies.{is_stopped}
 use Rattle.bsc_history.proofs.Lifting.{join_owned}
 use Rattle.bsc_history.proofs.More.{Legal-more}
 use Rattle.bsc_checks.specs.declared.place.Place.TheVariants.{HubPort}
-use Rattle.bsc_verdict.specs.Outcomes.{outcome_of}
+use Rattle.bsc_checks.specs.Outcomes.{outcome_of}
 use Rattle.bsc_accept.specs.declared.event.Event.TheVariants.{Joined as HasJoined}
 use Rattle.bsc_accept.specs.declared.step.Step.TheVariants.{Ask, Carry}
 use Rattle.bsc_accept.specs.Past.{phase, standing}

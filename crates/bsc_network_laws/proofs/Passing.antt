@@ -22,7 +22,7 @@ use Rattle.bsc_history.specs.Legality.{Legal}
 use Rattle.bsc_history.specs.Outboxes.{added_by, means, meant, out_of, sent, takes, vmac_in, vmac_of, is_too_long, is_found_full}
 use Rattle.bsc_history.proofs.Lists.{In, In-filter, any_gives, find_says, same_one}
 use Rattle.bsc_history.proofs.Numbers.{live_numbers}
-use Rattle.bsc_verdict.specs.Outcomes.{outcome_of}
+use Rattle.bsc_checks.specs.Outcomes.{outcome_of}
 use Rattle.bsc_checks.specs.declared.place.Place.TheVariants.{HubPort}
 use Rattle.bsc_accept.specs.Past.{phase, standing}
 use Rattle.bsc_accept.specs.declared.step.Step.TheVariants.{Carry}

@@ -12,11 +12,10 @@ use Rattle.bsc_lemmas.proofs.Lists.{range_below as below, filter_map_none as fil
 use Rattle.bsc_lemmas.proofs.Options.{or_none as or_last, or_none}
 use Rattle.bsc_node.specs.Conditions.{may_come, awaits_word, fits, brings_word}
 use Rattle.bsc_node.specs.Hubs.{hub_events, hub_event_of}
-use Rattle.bsc_node.specs.Links.{meets, same_link, who_accepted, request, accepts_by, asks_by, who_asked, none_there, begins, life}
+use Rattle.bsc_node.specs.Links.{meets, same_link, who_accepted, request, accepts_by, asks_by, who_asked, none_there, begins, life, is_in_slots}
 use Rattle.bsc_node.specs.Logs.{Line, Log, is_finishing, now}
 use Rattle.bsc_node.specs.Meeting.{may_draw, is_hub, renewals}
 use Rattle.bsc_node.specs.Messages.{duplicate_vmac_code}
-use Rattle.bsc_node.specs.Soundness.{is_in_slots}
 use Rattle.bsc_node.specs.Ways.{slot_call_of, slot_calls, resolve_call_of, resolve_calls}
 use Rattle.bsc_node.specs.declared.link_name.LinkName.{LinkName}
 use Rattle.bsc_node.specs.declared.link_name.LinkName.TheVariants.{Direct, Hub}

@@ -37,7 +37,7 @@ use Rattle.bsc_node.specs.Links.{was_taken, initiating_events, accepting_events,
 use Rattle.bsc_node.specs.Ways.{way}
 use Rattle.bsc_node.specs.Ending.{ends, closes_link, carries_out_by}
 use Rattle.bsc_node.specs.Receiving.{sender, delivers, takes_body}
-use Rattle.bsc_node.specs.Requesting.{puts_own, fits, sends}
+use Rattle.bsc_node.specs.Requesting.{puts_own, other_end_takes, sends}
 use Rattle.bsc_node.specs.Events.{obeys_by, obeys, follows}
 use Rattle.bsc_node.specs.Conditions.{may_come}
 use Rattle.bsc_node.specs.Laws.{with_event, with_heard, delivers_npdu, delivered_at, IsDeliveredOnce, DeliversWhatCame}
@@ -143,8 +143,8 @@ none-quiet rule q = lets-rule delivers_none quiet_delivers_none rule q
 
 none-sends : (v : Vmac) (npdu : List ℕ) → Passes delivers_none (sends v npdu)
 none-sends v npdu =
-    pass-found delivers_none (way v) (λ w. either (fits w npdu) (puts_own w (Npdu npdu)) (tells (TooLong v))) (tells (NoPath v))
-    (λ w. pass-either delivers_none (fits w npdu) (puts_own w (Npdu npdu)) (tells (TooLong v)) (λ L. refl) (λ L. refl)) (λ L. refl)
+    pass-found delivers_none (way v) (λ w. either (other_end_takes w npdu) (puts_own w (Npdu npdu)) (tells (TooLong v))) (tells (NoPath v))
+    (λ w. pass-either delivers_none (other_end_takes w npdu) (puts_own w (Npdu npdu)) (tells (TooLong v)) (λ L. refl) (λ L. refl)) (λ L. refl)
 
 none-follows : (a : Made) (M : Log) (ev : NodeEvent) → is_came ev ≡ false → ((name : LinkName) → ev ≡ Opened name → was_taken name M ≡ false) → list_all delivers_none (follows a ev M) ≡ true
 none-follows a M (Came name octets) s o = cc

@@ -22,7 +22,7 @@ use Rattle.bsc_node.specs.Meeting.{renews, keeps_vmac}
 use Rattle.bsc_node.specs.Requesting.{resolves, solicits}
 use Rattle.bsc_node.specs.Events.{obeys, follows, time_passes, is_to_end}
 use Rattle.bsc_node.specs.Node.{goes_on}
-use Rattle.bsc_node.specs.Conditions.{has_opened, awaits_word, brings_word, fits as may_fit, may_come}
+use Rattle.bsc_node.specs.Conditions.{has_opened, awaits_word, brings_word, fits, may_come}
 use Rattle.bsc_node.specs.Laws.{with_event}
 use Rattle.bsc_node.proofs.Order.{in_order-brought}
 use Rattle.bsc_node.proofs.Passing.{pass-weaker}
@@ -44,7 +44,7 @@ the_last false q r s h = cc
 -- A link that opens was dialled.
 pub opened-dialled : (L : Log) (e : TimedEvent) (name : LinkName) → e.event ≡ Opened name → IsTrue (may_come L e) → was_taken name (with_event L e) ≡ false
 opened-dialled L e name is h = ap (λ o. unwrap_or o false) (newest_of-more (beginning_of name) L (came e))
-    ∙ the_middle (is_there name L) (was_taken name L) (not (has_opened name L)) (sym (ap (may_fit L) is) ∙ the_last (nat_le (now L) e.now) (nat_lt e.now (2 ^ 62)) (if brings_word e.event then awaits_word L else not (awaits_word L)) (may_fit L e.event) h)
+    ∙ the_middle (is_there name L) (was_taken name L) (not (has_opened name L)) (sym (ap (fits L) is) ∙ the_last (nat_le (now L) e.now) (nat_lt e.now (2 ^ 62)) (if brings_word e.event then awaits_word L else not (awaits_word L)) (fits L e.event) h)
 
 -- A link that opens puts its Connect-Request, and nothing else follows.
 pub quiet-opened : (a : Made) (name : LinkName) (M : Log) → was_taken name M ≡ false → list_all is_quiet (follows a (Opened name) M) ≡ true

@@ -29,7 +29,7 @@ use Rattle.bsc_node.specs.declared.note.Note.TheVariants.{Uris, Advert as ToldAd
 use Rattle.bsc_node.specs.declared.action.Action.TheVariants.{Dial, Close, Draw, Take, Refuse}
 use Rattle.bsc_node.specs.Logs.{Made, Line, did, slot, accepting, Log, Rule, nothing, in_order, either, if_so, with_some, where_found, does, tells, now, next_id}
 use Rattle.bsc_node.specs.Links.{names, is_there, was_taken, start, accepting_events, by_machine, ticks, Outcome, puts, puts_and_closes, closes, meets, is_refused, passes_up, keeps_still, outcome}
-use Rattle.bsc_node.specs.Hubs.{is_tried}
+use Rattle.bsc_node.specs.Hubs.{is_under_way}
 use Rattle.bsc_node.specs.Ways.{Way, way, wanted, next_uri, free_slot, established, learnt, uris_to_dial, awaits_peer, establish, awaits, ask_refusal, slots_see, resolution_sees}
 use Rattle.bsc_node.specs.Ending.{carries_out, carries_out_by, tells_connector, tells_finished, ends, closes_link, finishes_link}
 use Rattle.bsc_node.specs.Meeting.{joins, refuses, finishes_replaced, comes_up, meets_dialled, meets_taken, meets_slot, meets_direct, meets_peer, wrong_peer, tells_refusal, may_draw, is_refused_by}
@@ -119,7 +119,7 @@ pass-meets_direct test lets a k who up =
 
 pub pass-meets_peer : (test : Line → Bool) → LetsQuiet test → ((k : ℕ) (who : Identity) → test (slot (Up k who)) ≡ true) → (a : Made) (name : LinkName) (who : Identity) → Passes test (meets_peer a name who)
 pass-meets_peer test lets up a (Hub s) who =
-    pass-when test (is_tried a s) (tells_connector a (ConnectorConnected s)) (lets-rule test lets (tells_connector a (ConnectorConnected s)) (quiet-tells_connector a (ConnectorConnected s)))
+    pass-when test (is_under_way a s) (tells_connector a (ConnectorConnected s)) (lets-rule test lets (tells_connector a (ConnectorConnected s)) (quiet-tells_connector a (ConnectorConnected s)))
 pass-meets_peer test lets up a (Direct k) who = pass-meets_direct test lets a k who (up k who)
 
 -- ---- a refusal: all is quiet but that a word is drawn

@@ -16,11 +16,11 @@ use Rattle.bsc_checks.specs.declared.place.Place.{Place}
 use Rattle.bsc_checks.specs.declared.verdict.Verdict.TheVariants.{Pass}
 use Rattle.bsc_checks.specs.Places.{dest_in, is_to_carry}
 use Rattle.bsc_checks.specs.Table.{code_of, checks_of, head_checks, later_checks}
-use Rattle.bsc_verdict.specs.Options.{Found, rest_of, data_options_in}
-use Rattle.bsc_verdict.specs.Payloads.{body_in, is_out_of_range, has_unknown_result, has_bad_details, has_bad_uris, has_unknown_status, has_unknown_accepts, has_no_nodes_vmac}
-use Rattle.bsc_verdict.specs.Places.{is_unicast, is_response}
-use Rattle.bsc_verdict.specs.Failing.{fails, of_payload}
-use Rattle.bsc_verdict.specs.Outcomes.{message_in, answered, refused, accepted, decided, first_failing, outcome_of}
+use Rattle.bsc_checks.specs.Options.{Found, rest_of, data_options_in}
+use Rattle.bsc_checks.specs.Payloads.{body_in, is_out_of_range, has_unknown_result, has_bad_details, has_bad_uris, has_unknown_status, has_unknown_accepts, has_no_nodes_vmac}
+use Rattle.bsc_checks.specs.PlaceTests.{is_unicast, is_response}
+use Rattle.bsc_checks.specs.Failing.{fails, of_payload}
+use Rattle.bsc_checks.specs.Outcomes.{message_in, answered, refused, accepted, decided, first_failing, outcome_of}
 use Rattle.bsc_checks.proofs.Common.{pass_same}
 use Rattle.bsc_lemmas.proofs.Booleans.{and_left, and_right, not_true as not_false, or_right}
 use Rattle.std.proofs.lemmas.Bool.{or_left as first_or, or_right as second_or}

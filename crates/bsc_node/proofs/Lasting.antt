@@ -29,16 +29,15 @@ use Rattle.bsc_node.specs.declared.action.Action.TheVariants.{Dial, Take, Put, C
 use Rattle.bsc_node.specs.declared.delivered.Delivered.{Delivered}
 use Rattle.bsc_node.specs.declared.note.Note.TheVariants.{NoPath, TooLong}
 use Rattle.bsc_node.specs.Logs.{Made, Line, came, did, Log, nothing, either, does, tells, now}
-use Rattle.bsc_node.specs.Links.{begins, is_over_by, life, is_there, was_taken, by_machine, hears, verdict, Outcome, puts, puts_and_closes, closes, meets, is_refused, passes_up, keeps_still, outcome}
-use Rattle.bsc_node.specs.Hubs.{is_tried}
+use Rattle.bsc_node.specs.Links.{begins, is_over_by, life, is_there, was_taken, by_machine, hears, verdict, Outcome, puts, puts_and_closes, closes, meets, is_refused, passes_up, keeps_still, outcome, is_in_slots, begins_in_slots}
+use Rattle.bsc_node.specs.Hubs.{is_under_way}
 use Rattle.bsc_node.specs.Ways.{way, slot_call_of, slot_calls, free_slot}
 use Rattle.bsc_node.specs.Ending.{carries_out_by, tells_connector, ends, closes_link}
 use Rattle.bsc_node.specs.Receiving.{sender, delivers, takes_body}
-use Rattle.bsc_node.specs.Requesting.{own_message, puts_own, fits, sends}
+use Rattle.bsc_node.specs.Requesting.{own_message, puts_own, other_end_takes, sends}
 use Rattle.bsc_node.specs.Events.{obeys_by, obeys, follows}
 use Rattle.bsc_node.specs.Node.{goes_on, log}
-use Rattle.bsc_node.specs.Conditions.{has_opened, awaits_word, brings_word, fits as may_fit, may_come, Watched, may_all_come}
-use Rattle.bsc_node.specs.Soundness.{is_in_slots, begins_in_slots}
+use Rattle.bsc_node.specs.Conditions.{has_opened, awaits_word, brings_word, fits, may_come, Watched, may_all_come}
 use Rattle.bsc_node.specs.Laws.{with_event, delivery}
 use Rattle.bsc_node.proofs.Order.{in_order-brought}
 use Rattle.bsc_node.proofs.Passing.{Passes, pass-in_order, pass-either, pass-when, pass-found, pass-nothing, pass-some}
@@ -106,16 +105,16 @@ pub record Fine (L : Log) : Type 0 where
 pub there_in_slots : (L : Log) (k : ℕ) → Fine L → is_there (Direct k) L ≡ true → is_in_slots k ≡ true
 there_in_slots L k f h = begun_slot L k f.begun (and_left (list_any (begins (Direct k)) L) (not (list_any (is_over_by (Direct k)) (life L (Direct k)))) h)
 
-pub event_fits : (L : Log) (e : TimedEvent) → IsTrue (may_come L e) → may_fit L e.event ≡ true
-event_fits L e h = the_last (nat_le (now L) e.now) (nat_lt e.now (2 ^ 62)) (if brings_word e.event then awaits_word L else not (awaits_word L)) (may_fit L e.event) h
+pub event_fits : (L : Log) (e : TimedEvent) → IsTrue (may_come L e) → fits L e.event ≡ true
+event_fits L e h = the_last (nat_le (now L) e.now) (nat_lt e.now (2 ^ 62)) (if brings_word e.event then awaits_word L else not (awaits_word L)) (fits L e.event) h
 
 came_in_slots : (L : Log) (e : TimedEvent) (k : ℕ) (o : List ℕ) → Fine L → IsTrue (may_come L e) → e.event ≡ Came (Direct k) o → is_in_slots k ≡ true
 came_in_slots L e k o f h is =
-    there_in_slots L k f (and_left (is_there (Direct k) L) (was_taken (Direct k) L || has_opened (Direct k) L) (sym (ap (may_fit L) is) ∙ event_fits L e h))
+    there_in_slots L k f (and_left (is_there (Direct k) L) (was_taken (Direct k) L || has_opened (Direct k) L) (sym (ap (fits L) is) ∙ event_fits L e h))
 
 failed_in_slots : (L : Log) (e : TimedEvent) (k : ℕ) → Fine L → IsTrue (may_come L e) → e.event ≡ DialFailed (Direct k) → is_in_slots k ≡ true
 failed_in_slots L e k f h is =
-    there_in_slots L k f (first_of_three (is_there (Direct k) L) (not (was_taken (Direct k) L)) (not (has_opened (Direct k) L)) (sym (ap (may_fit L) is) ∙ event_fits L e h))
+    there_in_slots L k f (first_of_three (is_there (Direct k) L) (not (was_taken (Direct k) L)) (not (has_opened (Direct k) L)) (sym (ap (fits L) is) ∙ event_fits L e h))
   where
     first_of_three : (p q r : Bool) → (p && q && r) ≡ true → p ≡ true
     first_of_three true q r g = refl
@@ -146,8 +145,8 @@ pass-takes_body test lets a name msg body = lets-rule test lets.quiet (takes_bod
 
 pub pass-sends : (test : Line → Bool) → LetsMessages test → (v : Vmac) (npdu : List ℕ) → Passes test (sends v npdu)
 pass-sends test lets v npdu =
-    pass-found test (way v) (λ w. either (fits w npdu) (puts_own w (Npdu npdu)) (tells (TooLong v))) (tells (NoPath v))
-    (λ w. pass-either test (fits w npdu) (puts_own w (Npdu npdu)) (tells (TooLong v)) (λ L. both (test (did (Put w.link (own_message w (Npdu npdu) L)))) true (lets.put w.link (own_message w (Npdu npdu) L)) refl)
+    pass-found test (way v) (λ w. either (other_end_takes w npdu) (puts_own w (Npdu npdu)) (tells (TooLong v))) (tells (NoPath v))
+    (λ w. pass-either test (other_end_takes w npdu) (puts_own w (Npdu npdu)) (tells (TooLong v)) (λ L. both (test (did (Put w.link (own_message w (Npdu npdu) L)))) true (lets.put w.link (own_message w (Npdu npdu) L)) refl)
     (lets-rule test lets.quiet (tells (TooLong v)) (λ L. refl)))
     (lets-rule test lets.quiet (tells (NoPath v)) (λ L. refl))
 
@@ -161,7 +160,7 @@ pass-obeys_by test lets draw a name (puts_and_closes o closing) h =
     (pass-in_order test (does (Put name o) ∷ does (Close name closing) ∷ []) (pass-puts test lets name o, (lets-rule test lets.quiet (does (Close name closing)) (λ L. refl), tt)), (lets-rule test lets.quiet (ends a name) (quiet-ends a name), tt))
 pass-obeys_by test lets draw a name (closes closing) h = lets-rule test lets.quiet (closes_link a name closing) (quiet-closes_link a name closing)
 pass-obeys_by test lets draw a (Hub s) (meets who) h =
-    pass-when test (is_tried a s) (tells_connector a (Connected s)) (lets-rule test lets.quiet (tells_connector a (Connected s)) (quiet-tells_connector a (Connected s)))
+    pass-when test (is_under_way a s) (tells_connector a (Connected s)) (lets-rule test lets.quiet (tells_connector a (Connected s)) (quiet-tells_connector a (Connected s)))
 pass-obeys_by test lets draw a (Direct k) (meets who) h = cc
 pass-obeys_by test lets draw a name (is_refused origin code) h = pass-is_refused_by test lets.quiet draw a name origin code
 pass-obeys_by test lets draw a name (passes_up msg) h = pass-takes_body test lets a name msg msg.body

@@ -23,7 +23,7 @@ use Rattle.bsc_node.specs.declared.action.Action.{Action}
 use Rattle.bsc_node.specs.declared.action.Action.TheVariants.{Dial, Take, Put, Close, Deliver, Draw}
 use Rattle.bsc_node.specs.Logs.{Made, Line, did, slot, initiating, accepting, Log, Rule, nothing, in_order, either, when, where_found, does, tells, own_vmac, now, next_id, is_finishing, came}
 use Rattle.bsc_node.specs.Links.{is_there, none_there, was_taken, start, initiating_events, accepting_events, by_machine, ticks, finishes, Outcome, puts, puts_and_closes, closes, meets, is_refused, passes_up, keeps_still, outcome}
-use Rattle.bsc_node.specs.Hubs.{hub_use, hub_use_before, is_up, is_tried, is_dropped, newest_step, told, same_use}
+use Rattle.bsc_node.specs.Hubs.{hub_use, hub_use_before, is_up, is_under_way, is_dropped, newest_step, told, same_use}
 use Rattle.bsc_node.specs.Ways.{established_peer, slots_see}
 use Rattle.bsc_node.specs.Ending.{carries_out_by, carries_out, finishes_machine, dials, dials_primary, dials_failover, tells_use, drops_failover, tells_connector, ends_hub, ends_slot, tells_finished, ends_by, ends, closes_link, finishes_link}
 use Rattle.bsc_node.specs.Meeting.{refusing_side, ends_refused, renews, keeps_vmac}
@@ -146,9 +146,9 @@ quiet-tells_connector a event =
 
 quiet-ends_hub : (a : Made) (s : Side) → Quiet (ends_hub a s)
 quiet-ends_hub a s =
-    pass-either is_quiet (is_dropped s) nothing (either (is_up s) (tells_connector a (Lost s)) (when (is_tried a s) (tells_connector a (Failed s)))) (pass-nothing is_quiet)
-    (pass-either is_quiet (is_up s) (tells_connector a (Lost s)) (when (is_tried a s) (tells_connector a (Failed s))) (quiet-tells_connector a (Lost s))
-    (pass-when is_quiet (is_tried a s) (tells_connector a (Failed s)) (quiet-tells_connector a (Failed s))))
+    pass-either is_quiet (is_dropped s) nothing (either (is_up s) (tells_connector a (Lost s)) (when (is_under_way a s) (tells_connector a (Failed s)))) (pass-nothing is_quiet)
+    (pass-either is_quiet (is_up s) (tells_connector a (Lost s)) (when (is_under_way a s) (tells_connector a (Failed s))) (quiet-tells_connector a (Lost s))
+    (pass-when is_quiet (is_under_way a s) (tells_connector a (Failed s)) (quiet-tells_connector a (Failed s))))
 
 quiet-ends_slot : (k : ℕ) → Quiet (ends_slot k)
 quiet-ends_slot k =

@@ -21,7 +21,7 @@ use Rattle.bsc_node.specs.Links.{was_taken, by_machine, hears, verdict, Outcome,
 use Rattle.bsc_node.specs.Ways.{Way, way}
 use Rattle.bsc_node.specs.Ending.{ends, closes_link, carries_out_by}
 use Rattle.bsc_node.specs.Receiving.{sender, delivers, takes_body}
-use Rattle.bsc_node.specs.Requesting.{puts_own, fits}
+use Rattle.bsc_node.specs.Requesting.{puts_own, other_end_takes}
 use Rattle.bsc_node.specs.Events.{obeys_by, obeys, follows}
 use Rattle.bsc_node.specs.Conditions.{may_come}
 use Rattle.bsc_node.specs.Laws.{with_event, puts_npdu, npdus_put, IsPutOnce, NpdusArePutOnce}
@@ -112,9 +112,9 @@ sent_by_way a L e dest npdu w is path true h = inr (dest, npdu, w, is, path, h)
 sent_by_way a L e dest npdu w is path false h = inl h
 
 sent_by : (a : Made) (L : Log) (e : TimedEvent) (dest : Vmac) (npdu : List ℕ) → e.event ≡ Send dest npdu → (o : Option Way) → way dest (with_event L e) ≡ o
-    → npdus_put a L e ≡ filter puts_npdu (filter_map action_of (with_some o (λ w. either (fits w npdu) (puts_own w (Npdu npdu)) (tells (TooLong dest))) (tells (NoPath dest)) (with_event L e))) → (npdus_put a L e ≡ []) ⊎ IsPutOnce a L e
+    → npdus_put a L e ≡ filter puts_npdu (filter_map action_of (with_some o (λ w. either (other_end_takes w npdu) (puts_own w (Npdu npdu)) (tells (TooLong dest))) (tells (NoPath dest)) (with_event L e))) → (npdus_put a L e ≡ []) ⊎ IsPutOnce a L e
 sent_by a L e dest npdu is None path h = inl h
-sent_by a L e dest npdu is (Some w) path h = sent_by_way a L e dest npdu w is path (fits w npdu (with_event L e)) h
+sent_by a L e dest npdu is (Some w) path h = sent_by_way a L e dest npdu w is path (other_end_takes w npdu (with_event L e)) h
 
 sent : (a : Made) (L : Log) (e : TimedEvent) (dest : Vmac) (npdu : List ℕ) → e.event ≡ Send dest npdu → (npdus_put a L e ≡ []) ⊎ IsPutOnce a L e
 sent a L e dest npdu is =

@@ -23,11 +23,10 @@ use Rattle.bsc_node.specs.declared.link_name.LinkName.TheVariants.{Direct}
 use Rattle.bsc_node.specs.declared.note.Note.TheVariants.{DirectUp}
 use Rattle.bsc_node.specs.declared.action.Action.TheVariants.{Put, Close}
 use Rattle.bsc_node.specs.Logs.{Made, Line, slot, Log, if_so, does, tells, own_vmac}
-use Rattle.bsc_node.specs.Links.{was_taken, Outcome, puts, puts_and_closes, closes, meets, is_refused, passes_up, keeps_still, outcome}
+use Rattle.bsc_node.specs.Links.{was_taken, Outcome, puts, puts_and_closes, closes, meets, is_refused, passes_up, keeps_still, outcome, is_in_slots}
 use Rattle.bsc_node.specs.Ways.{slot_call_of, slot_calls, awaits_peer, establish, slots_see}
 use Rattle.bsc_node.specs.Ending.{carries_out, carries_out_by, closes_link}
 use Rattle.bsc_node.specs.Meeting.{joins, finishes_replaced, comes_up, meets_dialled, meets_taken, meets_slot, meets_direct, wrong_peer}
-use Rattle.bsc_node.specs.Soundness.{is_in_slots}
 use Rattle.bsc_node.proofs.Order.{brought, in_order-brought}
 use Rattle.bsc_node.proofs.Passing.{pass-brought}
 use Rattle.bsc_node.proofs.Quiet.{is_quiet_call, quiet-closes_link}

@@ -13,8 +13,6 @@ use Rattle.bsc_node.specs.declared.note.Note.TheVariants.{HubNow, DirectUp, Dire
 use Rattle.bsc_node.specs.declared.action.Action.TheVariants.{Dial, Take, Refuse, Put, Close, Deliver, Tell}
 use Rattle.bsc_node.specs.Node.{each_actions, actions}
 use Rattle.bsc_node.specs.Conditions.{may_all_come}
-use Rattle.bsc_node.specs.Soundness.{is_always_sound}
-use Rattle.std.specs.Prelude.{◌&&◌}
 use Rattle.bsc_node.proofs.OnLiterals.{node_on_literals}
 use Rattle.bsc_node.proofs.WorkedMessages.{the_node, asks}
 use Rattle.bsc_node.proofs.Scenes.{a, b, c, peer, address, plain, from, for_node, primary, direct, at, hears, puts, connects}
@@ -204,26 +202,26 @@ falls_silent : actions the_node (connects ++ at 20 Arrived ∷ hears 20 (direct 
 unfolding node_on_literals
 falls_silent = refl
 
--- ---- these events may come, and the log is sound after each
+-- ---- these events may come
 
 abbrev double_dialled : List TimedEvent
 double_dialled = dials ++ at 32 Arrived ∷ hears 33 (direct 1) (plain 1 (ConnectRequest (peer 0x0A 0xDD))) ∷ hears 34 (direct 0) (plain 4 (ConnectAccept a)) ∷ at 35 (Send (address 10) (1 ∷ 0 ∷ [])) ∷ at 36 Arrived ∷ []
 
-double_dialled-lawful : (may_all_come the_node double_dialled && is_always_sound the_node double_dialled) ≡ true
+double_dialled-lawful : may_all_come the_node double_dialled ≡ true
 unfolding node_on_literals
 double_dialled-lawful = refl
 
 abbrev nak_over_it : List TimedEvent
 nak_over_it = meets ++ at 33 (Resolve (address 10)) ∷ hears 35 (direct 0) (plain 5 (nak 0x02 45)) ∷ at 36 (CameText (direct 0)) ∷ at 37 Arrived ∷ at 38 (CameText (direct 0)) ∷ []
 
-nak_over_it-lawful : (may_all_come the_node nak_over_it && is_always_sound the_node nak_over_it) ≡ true
+nak_over_it-lawful : may_all_come the_node nak_over_it ≡ true
 unfolding node_on_literals
 nak_over_it-lawful = refl
 
 abbrev replacing : List TimedEvent
 replacing = meets ++ at 40 Arrived ∷ hears 41 (direct 1) (plain 1 (ConnectRequest a)) ∷ at 42 (Send (address 10) (1 ∷ 0 ∷ [])) ∷ hears 43 (direct 0) (plain 5 DisconnectAck) ∷ at 44 (Lost (direct 1)) ∷ []
 
-replacing-lawful : (may_all_come the_node replacing && is_always_sound the_node replacing) ≡ true
+replacing-lawful : may_all_come the_node replacing ≡ true
 unfolding node_on_literals
 replacing-lawful = refl
 
@@ -231,13 +229,13 @@ abbrev crossing : List TimedEvent
 crossing =
     asks ++ at 28 Arrived ∷ at 29 (DirectTo (address 10)) ∷ at 30 (Opened (direct 1)) ∷ hears 31 (direct 0) (plain 1 (ConnectRequest a)) ∷ hears 32 (direct 1) (plain 4 (ConnectAccept a)) ∷ at 10032 Tick ∷ []
 
-crossing-lawful : (may_all_come the_node crossing && is_always_sound the_node crossing) ≡ true
+crossing-lawful : may_all_come the_node crossing ≡ true
 unfolding node_on_literals
 crossing-lawful = refl
 
 abbrev doubling : List TimedEvent
 doubling = meets ++ at 40 Arrived ∷ hears 41 (direct 1) (plain 1 (ConnectRequest (peer 0x0A 0xDD))) ∷ at 42 Arrived ∷ hears 43 (direct 1) (plain 1 (ConnectRequest (peer 0x0B 0xDD))) ∷ []
 
-doubling-lawful : (may_all_come the_node doubling && is_always_sound the_node doubling) ≡ true
+doubling-lawful : may_all_come the_node doubling ≡ true
 unfolding node_on_literals
 doubling-lawful = refl

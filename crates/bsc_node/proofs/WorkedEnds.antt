@@ -10,11 +10,10 @@ use Rattle.bsc_node.specs.declared.action.Action.TheVariants.{Dial, Take, Close,
 use Rattle.bsc_node.specs.Logs.{Made}
 use Rattle.bsc_node.specs.Node.{each_actions, actions}
 use Rattle.bsc_node.specs.Conditions.{may_all_come}
-use Rattle.bsc_node.specs.Soundness.{is_always_sound}
-use Rattle.std.specs.Prelude.{◌&&◌, codes, drop}
+use Rattle.std.specs.Prelude.{codes, drop}
 use Rattle.bsc_node.specs.Making.{MayBeMade}
 use Rattle.bsc_octets.specs.Addresses.{same_vmac, zero_vmac, broadcast}
-use Rattle.bsc_verdict.proofs.Reflecting.{fails_of, one_address}
+use Rattle.bsc_checks.proofs.Reflecting.{fails_of, one_address}
 use Rattle.bsc_node.proofs.OnLiterals.{node_on_literals}
 use Rattle.bsc_node.proofs.Scenes.{alone, peer, a, b, from, address, node, with_failover, primary_uri, plain, accept, primary, failover, direct, at, hears, puts, connects}
 
@@ -141,28 +140,28 @@ run_without_link :
 unfolding node_on_literals
 run_without_link = refl
 
--- ---- the events of these scenes may come, and the log is sound after each
+-- ---- the events of these scenes may come
 
 abbrev ends_with_slots : List TimedEvent
 ends_with_slots =
     connects ++ at 20 Arrived ∷ hears 21 (direct 0) (plain 1 (ConnectRequest a)) ∷ at 22 Arrived ∷ at 100 Finish ∷ hears 101 (direct 0) (plain 3 DisconnectAck) ∷ hears 102 primary (plain 2 DisconnectAck) ∷ []
 
-with_slots-lawful : (may_all_come two_hubs ends_with_slots && is_always_sound two_hubs ends_with_slots) ≡ true
+with_slots-lawful : may_all_come two_hubs ends_with_slots ≡ true
 unfolding node_on_literals
 with_slots-lawful = refl
 
-six_slots-lawful : (may_all_come (node alone) (six_slots ++ at 100 Finish ∷ []) && is_always_sound (node alone) (six_slots ++ at 100 Finish ∷ [])) ≡ true
+six_slots-lawful : may_all_come (node alone) (six_slots ++ at 100 Finish ∷ []) ≡ true
 unfolding node_on_literals
 six_slots-lawful = refl
 
-asked-lawful : (may_all_come two_hubs (asked ++ at 10100 Tick ∷ []) && is_always_sound two_hubs (asked ++ at 10100 Tick ∷ [])) ≡ true
+asked-lawful : may_all_come two_hubs (asked ++ at 10100 Tick ∷ []) ≡ true
 unfolding node_on_literals
 asked-lawful = refl
 
 abbrev both : List TimedEvent
 both = at 0 Start ∷ at 100 (DialFailed primary) ∷ at 2100 Tick ∷ at 2200 Finish ∷ at 50000 Tick ∷ []
 
-under_way-lawful : (may_all_come two_hubs both && is_always_sound two_hubs both) ≡ true
+under_way-lawful : may_all_come two_hubs both ≡ true
 unfolding node_on_literals
 under_way-lawful = refl
 

@@ -12,8 +12,7 @@ use Rattle.bsc_node.specs.declared.action.Action.TheVariants.{Dial, Close, Tell}
 use Rattle.bsc_node.specs.Logs.{Made}
 use Rattle.bsc_node.specs.Node.{each_actions, actions}
 use Rattle.bsc_node.specs.Conditions.{may_all_come}
-use Rattle.bsc_node.specs.Soundness.{is_always_sound}
-use Rattle.std.specs.Prelude.{◌&&◌, drop}
+use Rattle.std.specs.Prelude.{drop}
 use Rattle.bsc_node.proofs.OnLiterals.{node_on_literals}
 use Rattle.bsc_node.proofs.Scenes.{b, address, node, alone, with_failover, idle, connect_wait_over, from, primary_uri, failover_uri, plain, accept, primary, failover, at, hears, puts, connects}
 
@@ -187,29 +186,29 @@ naks : drop 3 (each_actions (node alone) (connects ++ hears 20 primary (plain 8 
 unfolding node_on_literals
 naks = refl
 
--- ---- these events may come, and the log is sound after each
+-- ---- these events may come
 
-comes_back-lawful : may_all_come two_hubs comes_back && is_always_sound two_hubs comes_back ≡ true
+comes_back-lawful : may_all_come two_hubs comes_back ≡ true
 unfolding node_on_literals
 comes_back-lawful = refl
 
 abbrev silence : List TimedEvent
 silence = connects ++ at 300010 Tick ∷ at 600009 Tick ∷ at 600010 Tick ∷ at 602010 Tick ∷ at 610010 Tick ∷ at 612010 Tick ∷ at 616010 Tick ∷ []
 
-silence-lawful : may_all_come two_hubs silence && is_always_sound two_hubs silence ≡ true
+silence-lawful : may_all_come two_hubs silence ≡ true
 unfolding node_on_literals
 silence-lawful = refl
 
 abbrev lingering : List TimedEvent
 lingering = lingers ++ at 2400 (Lost primary) ∷ at 2500 (Opened failover) ∷ at 12200 Tick ∷ []
 
-lingering-lawful : may_all_come two_hubs lingering && is_always_sound two_hubs lingering ≡ true
+lingering-lawful : may_all_come two_hubs lingering ≡ true
 unfolding node_on_literals
 lingering-lawful = refl
 
 abbrev waiting : List TimedEvent
 waiting = at 0 Start ∷ at 100 (DialFailed primary) ∷ at 150 (DialFailed failover) ∷ at 2100 Tick ∷ at 2110 (DialFailed primary) ∷ at 2150 Tick ∷ at 2160 (Opened failover) ∷ at 2170 (CameText failover) ∷ at 6110 Tick ∷ []
 
-waiting-lawful : may_all_come two_hubs waiting && is_always_sound two_hubs waiting ≡ true
+waiting-lawful : may_all_come two_hubs waiting ≡ true
 unfolding node_on_literals
 waiting-lawful = refl

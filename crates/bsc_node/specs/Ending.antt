@@ -13,7 +13,7 @@ use Rattle.bsc_node.specs.declared.note.Note.TheVariants.{HubNow, DirectDown, Fi
 use Rattle.bsc_node.specs.declared.action.Action.TheVariants.{Dial, Put, Close}
 use Rattle.bsc_node.specs.Logs.{Made, Log, Rule, nothing, in_order, either, when, where_found, does, tells, is_finishing}
 use Rattle.bsc_node.specs.Links.{Outcome, puts, puts_and_closes, closes, is_there, none_there, finishes, outcome}
-use Rattle.bsc_node.specs.Hubs.{hub_use, hub_use_before, is_up, is_tried, newest_step, is_dropped, told, same_use}
+use Rattle.bsc_node.specs.Hubs.{hub_use, hub_use_before, is_up, is_under_way, newest_step, is_dropped, told, same_use}
 use Rattle.bsc_node.specs.Ways.{established_peer, slots_see}
 
 -- ---- what a machine puts and closes by itself
@@ -72,7 +72,7 @@ tells_connector a event = in_order (told event ∷ dials_primary a ∷ dials_fai
 -- of a dropped failover is neither.
 abbrev pub ends_hub : Made → Side → Rule
 ends_hub a s =
-    either (is_dropped s) nothing (either (is_up s) (tells_connector a (Lost s)) (when (is_tried a s) (tells_connector a (Failed s))))
+    either (is_dropped s) nothing (either (is_up s) (tells_connector a (Lost s)) (when (is_under_way a s) (tells_connector a (Failed s))))
 
 -- A slot whose link is over is released. That a direct connection is down is told where it was established.
 abbrev pub ends_slot : ℕ → Rule

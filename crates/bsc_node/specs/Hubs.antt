@@ -39,8 +39,8 @@ abbrev pub is_up : Side → Log → Bool
 is_up s L = Sides.is_up s (hub_events L)
 
 -- Whether an attempt at the side is under way.
-abbrev pub is_tried : Made → Side → Log → Bool
-is_tried a s L = Sides.is_under_way (waits a) s (hub_events L)
+abbrev pub is_under_way : Made → Side → Log → Bool
+is_under_way a s L = Sides.is_under_way (waits a) s (hub_events L)
 
 -- The hub that was in use before the connector was last told something.
 abbrev pub hub_use_before : Log → HubUse

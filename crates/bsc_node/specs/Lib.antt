@@ -11,5 +11,4 @@ pub mod Events
 pub mod Node
 pub mod Making
 pub mod Conditions
-pub mod Soundness
 pub mod Laws

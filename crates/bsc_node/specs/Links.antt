@@ -10,7 +10,7 @@ use Rattle.bsc_connector.specs.Back.{first_of, newest_of, since, until, at_last}
 use Rattle.bsc_connector.specs.Sides.{same_side}
 use Rattle.bsc_accept.specs.declared.closing.Closing.{Closing}
 use Rattle.bsc_checks.specs.declared.phase.Phase.{Phase}
-use Rattle.bsc_checks.specs.declared.phase.Phase.TheVariants.{AwaitingAccept}
+use Rattle.bsc_checks.specs.declared.phase.Phase.TheVariants.{AwaitingAccept, Connected}
 use Rattle.bsc_checks.specs.declared.place.Place.{Place}
 use Rattle.bsc_checks.specs.declared.place.Place.TheVariants.{NodeHub, NodeDirect}
 use Rattle.bsc_checks.specs.declared.verdict.Verdict.{Verdict}
@@ -32,7 +32,7 @@ use Rattle.bsc_accept.specs.Messages.{who_asks}
 use Rattle.bsc_accept.specs.Past as Accepting
 use Rattle.bsc_accept.specs.Steps as AcceptingSteps
 use Rattle.bsc_direct.specs.Slots.{slots}
-use Rattle.bsc_verdict.specs.Outcomes.{outcome_of}
+use Rattle.bsc_checks.specs.Outcomes.{outcome_of}
 use Rattle.bsc_node.specs.declared.link_name.LinkName.{LinkName}
 use Rattle.bsc_node.specs.declared.link_name.LinkName.TheVariants.{Hub, Direct}
 use Rattle.bsc_node.specs.declared.node_event.NodeEvent.{NodeEvent}
@@ -66,6 +66,16 @@ beginning_of name m = None
 
 abbrev pub begins : LinkName → Line → Bool
 begins name m = is_some (beginning_of name m)
+
+-- whether it is the number of a slot
+abbrev pub is_in_slots : ℕ → Bool
+is_in_slots k = list_any (λ j. k == j) slots
+
+-- whether a line begins no link, or that of a hub or of a slot
+abbrev pub begins_in_slots : Line → Bool
+begins_in_slots (did (Dial (Direct k) uri)) = is_in_slots k
+begins_in_slots (did (Take (Direct k))) = is_in_slots k
+begins_in_slots m = true
 
 -- whether by this event, or by this action, the link is over
 abbrev pub is_over_by_event : LinkName → NodeEvent → Bool
@@ -150,6 +160,11 @@ phase_by true L name = Accepting.phase (accepting_events L name)
 -- The phase of the link, by what its machine was told. (No message comes before the WebSocket has opened.)
 abbrev pub phase : Log → LinkName → Phase
 phase L name = phase_by (was_taken name L) L name
+
+-- whether it is the phase Connected
+abbrev pub is_in_connected : Phase → Bool
+is_in_connected Connected = true
+is_in_connected phase = false
 
 -- The place of a message that comes over the link.
 abbrev pub place : Made → Log → LinkName → Place
@@ -240,7 +255,9 @@ accepting_outcome standing e AcceptNothing = up_by_accepting standing e
 
 abbrev pub outcome_by : Bool → Made → Log → LinkName → Outcome
 outcome_by false a L name = at_last (λ E e. initiating_outcome e (InitiatingSteps.step (start a L name) E e)) keeps_still (initiating_events L name)
-outcome_by true a L name = at_last (λ E e. accepting_outcome (Accepting.standing E) e (AcceptingSteps.step (start a L name) E e)) keeps_still (accepting_events L name)
+outcome_by true a L name =
+    at_last (λ E e. accepting_outcome (Accepting.standing E) e (AcceptingSteps.step (start a L name) E e)) keeps_still
+    (accepting_events L name)
 
 -- The step of the link's machine when it was last told something.
 abbrev pub outcome : Made → Log → LinkName → Outcome

@@ -23,7 +23,7 @@ use Rattle.bsc_node.specs.declared.action.Action.TheVariants.{Close, Draw}
 use Rattle.bsc_node.specs.Logs.{Made, Line, came, connector, accepting, Log, Rule, nothing, in_order, either, when, where_found, does}
 use Rattle.bsc_node.specs.Logs.{tells, own_vmac, is_finishing}
 use Rattle.bsc_node.specs.Links.{none_there, was_taken}
-use Rattle.bsc_node.specs.Hubs.{is_tried, is_connected_event}
+use Rattle.bsc_node.specs.Hubs.{is_under_way, is_connected_event}
 use Rattle.bsc_node.specs.Ways.{wanted, awaits_peer, establish, slots_see}
 use Rattle.bsc_node.specs.Ending.{carries_out, tells_connector, ends, closes_link, finishes_link}
 
@@ -70,7 +70,7 @@ meets_direct a k who = either (awaits_peer k) (meets_slot a k who) (closes_link 
 
 -- The peer of a link has named itself: a hub that is tried is connected, a direct connection is established or not.
 abbrev pub meets_peer : Made → LinkName → Identity → Rule
-meets_peer a (Hub s) who = when (is_tried a s) (tells_connector a (Connected s))
+meets_peer a (Hub s) who = when (is_under_way a s) (tells_connector a (Connected s))
 meets_peer a (Direct k) who = meets_direct a k who
 
 -- ---- refusals

@@ -36,12 +36,12 @@ takes_it npdu o None = false
 takes_it npdu o (Some who) = nat_le (length npdu) who.max_npdu && nat_le (length o) who.max_bvlc
 
 -- Whether the NPDU and the message are no longer than the other end takes: the hub, or the peer of the direct connection.
-abbrev pub fits : Way → List ℕ → Log → Bool
-fits w npdu L = takes_it npdu (own_message w (Npdu npdu) L) (peer L w.link)
+abbrev pub other_end_takes : Way → List ℕ → Log → Bool
+other_end_takes w npdu L = takes_it npdu (own_message w (Npdu npdu) L) (peer L w.link)
 
 -- An NPDU goes by the path, unless it is too long for the other end.
 abbrev pub sends : Vmac → List ℕ → Rule
-sends v npdu = by_path v (λ w. either (fits w npdu) (puts_own w (Npdu npdu)) (tells (TooLong v)))
+sends v npdu = by_path v (λ w. either (other_end_takes w npdu) (puts_own w (Npdu npdu)) (tells (TooLong v)))
 
 -- ---- asking
 

@@ -92,8 +92,8 @@ words_with word (c ∷ cs) = if c == 0x20 then word ∷ words_with [] cs else wo
     push_back (b ∷ bs) c = b ∷ push_back bs c
 
 -- whether a URI begins with `ws://`
-abbrev pub is_dialled : List ℕ → Bool
-is_dialled uri = starts_with nat_eq uri (0x77 ∷ 0x73 ∷ 0x3A ∷ 0x2F ∷ 0x2F ∷ [])
+abbrev pub is_ws_uri : List ℕ → Bool
+is_ws_uri uri = starts_with nat_eq uri (0x77 ∷ 0x73 ∷ 0x3A ∷ 0x2F ∷ 0x2F ∷ [])
 
 -- The URIs that were learnt of v, where any were: a text with one space between two.
 abbrev pub learnt : Vmac → Log → Option (List ℕ)
@@ -105,7 +105,7 @@ uris_to_dial v L = of_text (learnt v L)
   where
     of_text : Option (List ℕ) → List (List ℕ)
     of_text None = []
-    of_text (Some text) = filter is_dialled (words_with [] text)
+    of_text (Some text) = filter is_ws_uri (words_with [] text)
 
 abbrev pub is_claim_of : ℕ → Line → Bool
 is_claim_of k (slot (Claim j wanted)) = j == k

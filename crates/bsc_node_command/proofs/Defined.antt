@@ -19,9 +19,10 @@ use Rattle.bsc_node_run.specs.Running.{Run}
 use Rattle.bsc_node_run.specs.Scripts.{script_of, wish_of}
 use Rattle.bsc_node_run.specs.Stopping.{RunFails}
 use Rattle.bsc_node_run.specs.Worlds.{Admitting, Dialling}
+use Rattle.bsc_node_run.specs.Moments.{outside, run_moment}
 use Rattle.bsc_node_run.proofs.Asked.{asked_of}
 use Rattle.bsc_node_runs.specs.Alone.{NoLinkCame, alone}
-use Rattle.bsc_node_runs.specs.Courses.{FinishCame, Goes}
+use Rattle.bsc_node_runs.specs.Courses.{FinishCame, GoesAsDefined}
 use Rattle.bsc_node_runs.specs.Said.{EndsAsTold, IsSaid}
 use Rattle.bsc_node_runs.proofs.Beside.{Beside, Both, beside}
 use Rattle.bsc_node_runs.proofs.Courses.{lifted}
@@ -40,7 +41,7 @@ drawing_steps : {W : Type 0} (gives : W → Option ℕ → W → Type 0) (faults
 drawing_steps gives faults a n m L now e actions stands may goes = goes.0 a L stands may
 
 -- and so does a log
-log_steps : (a : Made) (n m L : Log) (now : ℕ) (e : NodeEvent) (actions : List Action) → n ≡ L → IsTrue (may_come L (record { now = now; event = e })) → Goes a n now e actions m
+log_steps : (a : Made) (n m L : Log) (now : ℕ) (e : NodeEvent) (actions : List Action) → n ≡ L → IsTrue (may_come L (record { now = now; event = e })) → GoesAsDefined a n now e actions m
     → (actions ≡ actions_at a L (record { now = now; event = e })) × (m ≡ L ++ goes_on a (record { now = now; event = e }) L)
 log_steps a n m L now e actions is may goes = subst (λ (K : Log). (actions ≡ actions_at a K (record { now = now; event = e })) × (m ≡ K ++ goes_on a (record { now = now; event = e }) K)) is (goes.1, goes.2)
 
@@ -51,11 +52,11 @@ abbrev log_beside : {N W : Type 0} → Beside (Drawing N W) → Drawing Log W
 log_beside b = record { node = b.log; words = b.core.words; awaits = b.core.awaits }
 
 log_draws : {N W : Type 0} (goes : N → ℕ → NodeEvent → List Action → N → Type 0) (gives : W → Option ℕ → W → Type 0) (failed : W → ℕ) (a : Made)
-    → Maps (Both (GoesDrawing goes gives failed) a) (GoesDrawing (Goes a) gives failed) log_beside
+    → Maps (Both (GoesDrawing goes gives failed) a) (GoesDrawing (GoesAsDefined a) gives failed) log_beside
 log_draws goes gives failed a n m t e actions (g, h) = (h, g.1, g.2)
 
 -- and as a log alone
-log_alone : {W : Type 0} (gives : W → Option ℕ → W → Type 0) (failed : W → ℕ) (a : Made) → Maps (GoesDrawing (Goes a) gives failed) (Goes a) (λ (d : Drawing Log W). d.node)
+log_alone : {W : Type 0} (gives : W → Option ℕ → W → Type 0) (failed : W → ℕ) (a : Made) → Maps (GoesDrawing (GoesAsDefined a) gives failed) (GoesAsDefined a) (λ (d : Drawing Log W). d.node)
 log_alone gives failed a n m t e actions g = g.0
 
 module _ {L W : Type 0} (talk : L → Option (List Said)) (gives : W → Option ℕ → W → Type 0) (failed : W → ℕ) where
@@ -63,13 +64,13 @@ module _ {L W : Type 0} (talk : L → Option (List Said)) (gives : W → Option 
   pub by_definition : (v : NodeSettings) (script : List ℕ) (lines : List Due) (first last : RunningNode) (u u' : W) (end : Result RunEnd Halt)
       (c c' : Dialling L) (l l' : Admitting L) (t t' : Option (List ℕ)) (b b' : Option (List ℕ))
       → script_of script ≡ Ok (map wish_of lines) → StandsFor first.node (made_by v) []
-      → IfOk end (λ e. Run (GoesDrawing AnswersAt gives failed) talk (is_some v.direct_port) e v.turns lines (at_rest first u) c b l t (at_rest last u') c' b' l' t')
-      → (M : Log) × IfOk end (λ e. Run (GoesDrawing (Goes (made_by v)) gives failed) talk (is_some v.direct_port) e v.turns lines (at_rest [] u) c b l t (at_rest M u') c' b' l' t')
+      → IfOk end (λ e. Run (GoesDrawing AnswersAt gives failed) talk (is_some v.direct_port) e v.turns lines (run_moment (at_rest first u) c b l t) (run_moment (at_rest last u') c' b' l' t'))
+      → (M : Log) × IfOk end (λ e. Run (GoesDrawing (GoesAsDefined (made_by v)) gives failed) talk (is_some v.direct_port) e v.turns lines (run_moment (at_rest [] u) c b l t) (run_moment (at_rest M u') c' b' l' t'))
   by_definition v script lines first last u u' (Ok end) c c' l l' t t' b b' reads made run =
       let two = lifted (GoesDrawing AnswersAt gives failed) (made_by v) (λ n (M : Log). StandsFor n.node.node (made_by v) M) (drawing_steps gives failed (made_by v))
       talk (is_some v.direct_port) end v.turns lines (asked_of script lines reads) (at_rest first u) (at_rest last u') c c' b b' l l' t t' made run in (
         two.0,
-        run_map (Both (GoesDrawing AnswersAt gives failed) (made_by v)) (GoesDrawing (Goes (made_by v)) gives failed) log_beside
+        run_map (Both (GoesDrawing AnswersAt gives failed) (made_by v)) (GoesDrawing (GoesAsDefined (made_by v)) gives failed) log_beside
             (log_draws AnswersAt gives failed (made_by v)) talk (is_some v.direct_port) end v.turns lines
             (beside (at_rest first u) []) (beside (at_rest last u') two.0) c c' b b' l l' t t' two.1,
       )
@@ -79,26 +80,26 @@ module _ {L W : Type 0} (talk : L → Option (List Said)) (gives : W → Option 
   pub fails_by_definition : (v : NodeSettings) (script : List ℕ) (lines : List Due) (first : RunningNode) (u : W) (end : Result RunEnd Halt)
       (c c' : Dialling L) (l l' : Admitting L) (t t' : Option (List ℕ)) (b b' : Option (List ℕ))
       → script_of script ≡ Ok (map wish_of lines) → StandsFor first.node (made_by v) []
-      → OnErr end (RunFails (GoesDrawing AnswersAt gives failed) talk (is_some v.direct_port) v.turns lines (at_rest first u) c b l t c' b' l' t')
-      → IfErr end (λ halt. RunFails (GoesDrawing (Goes (made_by v)) gives failed) talk (is_some v.direct_port) v.turns lines (at_rest [] u) c b l t c' b' l' t')
+      → OnErr end (RunFails (GoesDrawing AnswersAt gives failed) talk (is_some v.direct_port) v.turns lines (run_moment (at_rest first u) c b l t) (outside c' b' l' t'))
+      → IfErr end (λ halt. RunFails (GoesDrawing (GoesAsDefined (made_by v)) gives failed) talk (is_some v.direct_port) v.turns lines (run_moment (at_rest [] u) c b l t) (outside c' b' l' t'))
   fails_by_definition v script lines first u (Ok end) c c' l l' t t' b b' reads made run = tt
   fails_by_definition v script lines first u (Err halt) c c' l l' t t' b b' reads made run =
-      fails_map (Both (GoesDrawing AnswersAt gives failed) (made_by v)) (GoesDrawing (Goes (made_by v)) gives failed) log_beside
+      fails_map (Both (GoesDrawing AnswersAt gives failed) (made_by v)) (GoesDrawing (GoesAsDefined (made_by v)) gives failed) log_beside
       (log_draws AnswersAt gives failed (made_by v)) talk (is_some v.direct_port) v.turns lines (beside (at_rest first u) []) c c' b b' l l' t t'
       (fails_lifted (GoesDrawing AnswersAt gives failed) (made_by v) (λ n (M : Log). StandsFor n.node.node (made_by v) M) (drawing_steps gives failed (made_by v))
       talk (is_some v.direct_port) v.turns lines (asked_of script lines reads) (at_rest first u) c c' b b' l l' t t' made run)
 
   -- whatever words it draws
   alone_of : (a : Made) (listens : Bool) (end : RunEnd) (turns : ℕ) (lines : List Due) (u u' : W) (last : Log) (c c' : Dialling L) (l l' : Admitting L) (t t' : Option (List ℕ)) (b b' : Option (List ℕ))
-      → Run (GoesDrawing (Goes a) gives failed) talk listens end turns lines (at_rest [] u) c b l t (at_rest last u') c' b' l' t'
-      → Run (Goes a) talk listens end turns lines [] c b l t last c' b' l' t'
+      → Run (GoesDrawing (GoesAsDefined a) gives failed) talk listens end turns lines (run_moment (at_rest [] u) c b l t) (run_moment (at_rest last u') c' b' l' t')
+      → Run (GoesAsDefined a) talk listens end turns lines (run_moment [] c b l t) (run_moment last c' b' l' t')
   alone_of a listens end turns lines u u' last c c' l l' t t' b b' run =
-      run_map (GoesDrawing (Goes a) gives failed) (Goes a) (λ (d : Drawing Log W). d.node) (log_alone gives failed a) talk listens end turns lines
+      run_map (GoesDrawing (GoesAsDefined a) gives failed) (GoesAsDefined a) (λ (d : Drawing Log W). d.node) (log_alone gives failed a) talk listens end turns lines
       (at_rest [] u) (at_rest last u') c c' b b' l l' t t' run
 
   -- what it wrote and dialled, and how it ended, is what the log of its node has
   pub said_of : (v : NodeSettings) (lines : List Due) (u u' : W) (last : Log) (end : Result RunEnd Halt) (c c' : Dialling L) (l l' : Admitting L) (t t' : Option (List ℕ)) (b b' : Option (List ℕ))
-      → IfOk end (λ e. Run (GoesDrawing (Goes (made_by v)) gives failed) talk (is_some v.direct_port) e v.turns lines (at_rest [] u) c b l t (at_rest last u') c' b' l' t')
+      → IfOk end (λ e. Run (GoesDrawing (GoesAsDefined (made_by v)) gives failed) talk (is_some v.direct_port) e v.turns lines (run_moment (at_rest [] u) c b l t) (run_moment (at_rest last u') c' b' l' t'))
       → IfOk end (λ e. IsSaid last c.calls c'.calls b b' × EndsAsTold e last)
   said_of v lines u u' last (Ok end) c c' l l' t t' b b' run =
       let ran = alone_of (made_by v) (is_some v.direct_port) end v.turns lines u u' last c c' l l' t t' b b' run in (
@@ -110,7 +111,7 @@ module _ {L W : Type 0} (talk : L → Option (List Said)) (gives : W → Option 
   -- where no link came, the log is that of a node alone
   pub lonely_of : (v : NodeSettings) (script : List ℕ) (lines : List Due) (u u' : W) (last : Log) (end : Result RunEnd Halt) (c c' : Dialling L) (l l' : Admitting L) (t t' : Option (List ℕ)) (b b' : Option (List ℕ))
       → script_of script ≡ Ok (map wish_of lines)
-      → IfOk end (λ e. Run (GoesDrawing (Goes (made_by v)) gives failed) talk (is_some v.direct_port) e v.turns lines (at_rest [] u) c b l t (at_rest last u') c' b' l' t')
+      → IfOk end (λ e. Run (GoesDrawing (GoesAsDefined (made_by v)) gives failed) talk (is_some v.direct_port) e v.turns lines (run_moment (at_rest [] u) c b l t) (run_moment (at_rest last u') c' b' l' t'))
       → IfOk end (λ e. NoLinkCame c.calls c'.calls l.left l'.left → (times : List ℕ) × Grows t t' times × (last ≡ alone (made_by v) lines times))
   lonely_of v script lines u u' last (Ok end) c c' l l' t t' b b' reads run =
       lonely (made_by v) talk (is_some v.direct_port) end v.turns lines (asked_of script lines reads) c c' b b' l l' t t' last
@@ -120,9 +121,9 @@ module _ {L W : Type 0} (talk : L → Option (List Said)) (gives : W → Option 
   -- a run of the definition in which the node told that it has ended came to the time of its `finish`
   pub finish_came : (a : Made) (script : List ℕ) (listens : Bool) (turns : ℕ) (lines : List Due) (u u' : W) (last : Log) (c c' : Dialling L) (l l' : Admitting L) (t t' : Option (List ℕ)) (b b' : Option (List ℕ))
       → script_of script ≡ Ok (map wish_of lines)
-      → Run (GoesDrawing (Goes a) gives failed) talk listens Finished turns lines (at_rest [] u) c b l t (at_rest last u') c' b' l' t' → FinishCame lines t t'
+      → Run (GoesDrawing (GoesAsDefined a) gives failed) talk listens Finished turns lines (run_moment (at_rest [] u) c b l t) (run_moment (at_rest last u') c' b' l' t') → FinishCame lines t t'
   finish_came a script listens turns lines u u' last c c' l l' t t' b b' reads run =
-      let three = lifted (Goes a) a (λ (n M : Log). n ≡ M) (log_steps a)
+      let three = lifted (GoesAsDefined a) a (λ (n M : Log). n ≡ M) (log_steps a)
       talk listens Finished turns lines (asked_of script lines reads) [] last c c' b b' l l' t t' refl
       (alone_of a listens Finished turns lines u u' last c c' l l' t t' b b' run) in
       three.2 refl

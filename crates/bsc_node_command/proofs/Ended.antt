@@ -13,7 +13,8 @@ use Rattle.bsc_node_run.specs.Drawing.{GoesDrawing, at_rest}
 use Rattle.bsc_node_run.specs.Running.{Run}
 use Rattle.bsc_node_run.specs.Scripts.{script_of, wish_of}
 use Rattle.bsc_node_run.specs.Worlds.{Admitting, Dialling}
-use Rattle.bsc_node_runs.specs.Courses.{FinishCame, Goes}
+use Rattle.bsc_node_run.specs.Moments.{run_moment}
+use Rattle.bsc_node_runs.specs.Courses.{FinishCame, GoesAsDefined}
 use Rattle.bsc_node_command.specs.Lines.{Says, SaysEnd}
 use Rattle.bsc_node_command.specs.Settled.{Unread, Unsettled}
 use Rattle.bsc_node_command.specs.Comes.{made_by, CommandWorld, Comes, NodeWorld, NotRun, RunsScript, RunsFiles}
@@ -45,7 +46,7 @@ unsettled_fails holds r r' s b b' (inr k) is = said_fails 5 s b b' _ (omega arit
 
 module _ {L W : Type 0} (talk : L → Option (List Said)) (gives : W → Option ℕ → W → Type 0) (failed : W → ℕ) where
   over_of : (v : NodeSettings) (script : List ℕ) (lines : List Due) (u u' : W) (last : Log) (end : Result RunEnd Halt) (c c' : Dialling L) (l l' : Admitting L) (t t' : Option (List ℕ)) (s : ℕ) (b b' b'' : Option (List ℕ))
-      → script_of script ≡ Ok (map wish_of lines) → IfOk end (λ e. Run (GoesDrawing (Goes (made_by v)) gives failed) talk (is_some v.direct_port) e v.turns lines (at_rest [] u) c b l t (at_rest last u') c' b' l' t') → SaysEnd end s b' b'' → s ≡ 0
+      → script_of script ≡ Ok (map wish_of lines) → IfOk end (λ e. Run (GoesDrawing (GoesAsDefined (made_by v)) gives failed) talk (is_some v.direct_port) e v.turns lines (run_moment (at_rest [] u) c b l t) (run_moment (at_rest last u') c' b' l' t')) → SaysEnd end s b' b'' → s ≡ 0
       → FinishCame lines t t'
   over_of v script lines u u' last (Ok Finished) c c' l l' t t' s b b' b'' reads run h is = finish_came talk gives failed (made_by v) script (is_some v.direct_port) v.turns lines u u' last c c' l l' t t' b b' reads run
   over_of v script lines u u' last (Ok Spent) c c' l l' t t' s b b' b'' reads run h is = absurd (line_fails 8 s b' b'' _ (omega arith) h is)

@@ -13,7 +13,8 @@ use Rattle.bsc_node_run.specs.Drawing.{GoesDrawing, at_rest}
 use Rattle.bsc_node_run.specs.Running.{Run}
 use Rattle.bsc_node_run.specs.Scripts.{Wish, script_of, wish_of}
 use Rattle.bsc_node_run.specs.Worlds.{Admitting, Dialling}
-use Rattle.bsc_node_runs.specs.Courses.{Goes}
+use Rattle.bsc_node_run.specs.Moments.{run_moment}
+use Rattle.bsc_node_runs.specs.Courses.{GoesAsDefined}
 use Rattle.bsc_node_command.specs.Lines.{SaysEnd}
 use Rattle.bsc_node_command.specs.Comes.{made_by, Comes, NodeWorld, NotRun}
 
@@ -55,7 +56,7 @@ module _ {L W : Type 0} (talk : L → Option (List Said)) (gives : W → Option 
   refused_so v script before after s (inr r) n bad = absurd (good_or_bad (script_of script) (map wish_of r.lines) n r.reads bad)
 
   spent_turns : (v : NodeSettings) (lines : List Due) (u u' : W) (last : Log) (end : Result RunEnd Halt) (c c' : Dialling L) (l l' : Admitting L) (t t' : Option (List ℕ)) (s : ℕ) (b b' b'' : Option (List ℕ))
-      → IfOk end (λ e. Run (GoesDrawing (Goes (made_by v)) gives failed) talk (is_some v.direct_port) e v.turns lines (at_rest [] u) c b l t (at_rest last u') c' b' l' t') → SaysEnd end s b' b'' → s ≡ 8 → (times : List ℕ) × Grows t t' times × (length times ≡ v.turns)
+      → IfOk end (λ e. Run (GoesDrawing (GoesAsDefined (made_by v)) gives failed) talk (is_some v.direct_port) e v.turns lines (run_moment (at_rest [] u) c b l t) (run_moment (at_rest last u') c' b' l' t')) → SaysEnd end s b' b'' → s ≡ 8 → (times : List ℕ) × Grows t t' times × (length times ≡ v.turns)
   spent_turns v lines u u' last (Ok Finished) c c' l l' t t' s b b' b'' run h is = absurd (omega (arith, h.0, is))
   spent_turns v lines u u' last (Ok Spent) c c' l l' t t' s b b' b'' run h is = (run.times, run.readings, run.ends.0)
   spent_turns v lines u u' last (Err WriteFault) c c' l l' t t' s b b' b'' run h is = absurd (omega (arith, h.0, is))

@@ -10,7 +10,7 @@ use Rattle.bsc_node.specs.declared.node_limits.NodeLimits.{NodeLimits}
 use Rattle.bsc_node.specs.declared.node_event.NodeEvent.{NodeEvent}
 use Rattle.bsc_node.specs.declared.action.Action.{Action}
 use Rattle.bsc_node.specs.Logs.{Made, Log}
-use Rattle.bsc_node_core.specs.Node.{Answers}
+use Rattle.bsc_node_core.specs.Node.{NodeAnswers}
 use Rattle.bsc_node_run.specs.declared.due.Due.{Due}
 use Rattle.bsc_node_run.specs.declared.halt.Halt.{Halt}
 use Rattle.bsc_node_run.specs.declared.run_end.RunEnd.{RunEnd}
@@ -20,8 +20,9 @@ use Rattle.bsc_node_run.specs.Running.{Run}
 use Rattle.bsc_node_run.specs.Scripts.{script_of, wish_of}
 use Rattle.bsc_node_run.specs.Stopping.{RunFails}
 use Rattle.bsc_node_run.specs.Worlds.{Admitting, Dialling}
+use Rattle.bsc_node_run.specs.Moments.{outside, run_moment}
 use Rattle.bsc_node_runs.specs.Alone.{NoLinkCame, alone}
-use Rattle.bsc_node_runs.specs.Courses.{Goes}
+use Rattle.bsc_node_runs.specs.Courses.{GoesAsDefined}
 use Rattle.bsc_node_runs.specs.Said.{EndsAsTold, IsSaid}
 use Rattle.bsc_node_command.specs.declared.running_node.RunningNode.{RunningNode}
 use Rattle.bsc_node_command.specs.Lines.{Says, SaysEnd, link_line}
@@ -43,7 +44,7 @@ made_by v = record { own = node_identity_of v; limits = node_limits_of v }
 
 -- A node at an event: it answers what the definition of a node asks for.
 abbrev pub AnswersAt : RunningNode → ℕ → NodeEvent → List Action → RunningNode → Type 0
-AnswersAt old now e actions new = Answers old.node new.node (record { now = now; event = e }) actions
+AnswersAt old now e actions new = NodeAnswers old.node new.node (record { now = now; event = e }) actions
 
 -- The acceptor is bound to this port; where there is none, it is bound as before.
 abbrev pub IsBoundBy : Option ℕ → Option (Option ℕ) → Option (Option ℕ) → Type 0
@@ -98,13 +99,13 @@ module _ {L W : Type 0} (talk : L → Option (List Said)) (gives : W → Option 
   -- A node of the settings to which nothing had come was run, with the lines of the script, and the acceptor is bound by the
   -- settings. A run that came to its end was a whole run of a node as its definition has it: each event that came to it is
   -- one that may come, what was done is what the definition asks for, and each word that the node drew was drawn there. It
-  -- made as many turns as the settings allow at most, and accepts links exactly where they have a port. What the node of that log told is what was written, and what it
-  -- dialled is what was dialled; it told that it has ended exactly where the run is finished. Where no link came, the
-  -- log is that of a node alone, by the readings of the clock and the lines of the script. A run that a fault ended is such a
+  -- made as many turns as the settings allow at most, and accepts links exactly where they have a port. What the node of that log
+  -- told is what was written, and what it dialled is what was dialled; it told that it has ended exactly where the run is finished.
+  -- Where no link came, the log is that of a node alone, by the readings of the clock and the lines of the script. A run that a fault ended is such a
   -- run up to there, with one action more in part. However it ended, there was one wait before each turn: of no time before the
   -- first; and then of 50 ms at most, and no longer than it was, at the turn before, until the next line. What the run wrote stands
   -- before what is written of its end.
-  pub record Ran (v : NodeSettings) (script : List ℕ) (before after : NodeWorld L W) (s : ℕ) : Type 0 where
+  pub record NodeRan (v : NodeSettings) (script : List ℕ) (before after : NodeWorld L W) (s : ℕ) : Type 0 where
     pub lines : List Due
     pub reads : script_of script ≡ Ok (map wish_of lines)
     pub last : Log
@@ -113,12 +114,12 @@ module _ {L W : Type 0} (talk : L → Option (List Said)) (gives : W → Option 
     pub written : Option (List ℕ)
     pub bound : IsBoundBy v.direct_port before.port after.port
     pub unasked : IsUnasked before.door door
-    pub run : IfOk end (λ e. Run (GoesDrawing (Goes (made_by v)) gives failed) talk (is_some v.direct_port) e v.turns lines
-        (at_rest [] before.random) before.dialled before.written door before.readings
-        (at_rest last after.random) after.dialled written after.door after.readings)
-    pub fails : IfErr end (λ halt. RunFails (GoesDrawing (Goes (made_by v)) gives failed) talk (is_some v.direct_port) v.turns lines
-        (at_rest [] before.random) before.dialled before.written door before.readings
-        after.dialled written after.door after.readings)
+    pub run : IfOk end (λ e. Run (GoesDrawing (GoesAsDefined (made_by v)) gives failed) talk (is_some v.direct_port) e v.turns lines
+        (run_moment (at_rest [] before.random) before.dialled before.written door before.readings)
+        (run_moment (at_rest last after.random) after.dialled written after.door after.readings))
+    pub fails : IfErr end (λ halt. RunFails (GoesDrawing (GoesAsDefined (made_by v)) gives failed) talk (is_some v.direct_port) v.turns lines
+        (run_moment (at_rest [] before.random) before.dialled before.written door before.readings)
+        (outside after.dialled written after.door after.readings))
     pub said : IfOk end (λ e. IsSaid last before.dialled.calls after.dialled.calls before.written written × EndsAsTold e last)
     pub lonely : IfOk end (λ e. NoLinkCame before.dialled.calls after.dialled.calls door.left after.door.left
         → (times : List ℕ) × Grows before.readings after.readings times × (last ≡ alone (made_by v) lines times))
@@ -129,7 +130,7 @@ module _ {L W : Type 0} (talk : L → Option (List Said)) (gives : W → Option 
   -- was drawn; or a node was run.
   abbrev pub Comes : NodeSettings → List ℕ → NodeWorld L W → NodeWorld L W → ℕ → Type 0
   Comes v script before after s =
-      (IsIdle before after × NotRun v script before after s) ⊎ Ran v script before after s
+      (IsIdle before after × NotRun v script before after s) ⊎ NodeRan v script before after s
 
   -- Either the script wasn't read, and nothing was touched; or a node of these settings came to this by the script that the
   -- file has.

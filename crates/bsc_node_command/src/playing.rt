@@ -9,7 +9,7 @@ ghost use Rattle.bsc_node_run.specs.declared.due.Due.{Due};
 ghost use Rattle.bsc_node_run.specs.Scripts.{script_of, wish_of};
 ghost use Rattle.bsc_node_run.specs.Worlds.{Admitting, admitting, dialling};
 ghost use Rattle.bsc_node_runs.specs.Courses.{FinishCame};
-ghost use Rattle.bsc_node_command.specs.Comes.{Comes, IsBoundBy, IsUnasked, Ran, made_by};
+ghost use Rattle.bsc_node_command.specs.Comes.{Comes, IsBoundBy, IsUnasked, NodeRan, made_by};
 
 use crate::making::make_node;
 use crate::running_node::RunningNode;
@@ -69,7 +69,7 @@ fn run_made<K: Sink, C: Clock, V: Waiter, W: Words, L: Link + Drop, A: Acceptor<
     ensures ran { (script : List ℕ) (door : Admitting L) (port : Option (Option ℕ)) (faults : ℕ) →
         script_of script ≡ Ok (map wish_of lines.now) → IsUnasked door (admitting A.left A.waits acceptor.old) →
         IsBoundBy settings.now.direct_port port (A.bound acceptor.old) →
-        Ran L.talk W.gives W.faults settings.now script
+        NodeRan L.talk W.gives W.faults settings.now script
         (record {
           dialled = dialling D.calls D.left D.faults dialer.old;
           door = door;
@@ -97,7 +97,7 @@ fn run_made<K: Sink, C: Clock, V: Waiter, W: Words, L: Link + Drop, A: Acceptor<
     ensures links_later { A.faults acceptor.old ≤ A.faults acceptor.new }
 {
     let mut node = node;
-    let end = bsc_node_run::run_node(
+    let end = bsc_node_run::run_core(
         alloc,
         &mut node,
         lines,
@@ -279,7 +279,8 @@ pub fn run_node<
     ensures refuses { (n : ℕ) → script_of script.now ≡ Err n → (result ≡ 2) ⊎ (result ≡ 4) ⊎ (result ≡ 7) }
 
     // Status 0 comes only once the time of the script's `finish` has passed, from the first reading of the clock to the last.
-    ensures finished { result ≡ 0 → (lines : List Due) × (script_of script.now ≡ Ok (map wish_of lines)) × FinishCame lines (C.readings clock.old) (C.readings clock.new) }
+    ensures finished { result ≡ 0 → (lines : List Due) × (script_of script.now ≡ Ok (map wish_of lines))
+        × FinishCame lines (C.readings clock.old) (C.readings clock.new) }
 
     // Status 8 comes only where the clock was read as often as the settings allow turns.
     ensures spent { result ≡ 8 → (times : List ℕ) × Grows (C.readings clock.old) (C.readings clock.new) times × (length times ≡ settings.now.turns) }

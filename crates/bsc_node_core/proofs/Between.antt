@@ -21,18 +21,18 @@ use Rattle.bsc_node.specs.declared.node_event.NodeEvent.TheVariants.{Opened, Dia
 use Rattle.bsc_node.specs.declared.timed_event.TimedEvent.{TimedEvent}
 use Rattle.bsc_node.specs.declared.action.Action.{Action}
 use Rattle.bsc_node.specs.Logs.{Made, Line, came, Log, action_of}
-use Rattle.bsc_node.specs.Links.{is_over_by, is_there, was_taken, initiating_events, request}
+use Rattle.bsc_node.specs.Links.{is_over_by, is_there, was_taken, initiating_events, request, is_in_slots}
 use Rattle.bsc_node.specs.Ways.{slot_calls, resolve_calls}
 use Rattle.bsc_node.specs.Events.{follows}
 use Rattle.bsc_node.specs.Node.{goes_on, actions_at}
 use Rattle.bsc_node.specs.Conditions.{is_dialling, is_open, has_opened, may_come}
-use Rattle.bsc_node.specs.Soundness.{is_in_slots}
 use Rattle.bsc_node.proofs.Following.{goes_on-is}
 use Rattle.bsc_node.proofs.Lasting.{Fine, fine-goes_on, there_in_slots, event_fits}
 use Rattle.bsc_node_core.specs.declared.node.Node.{Node}
 use Rattle.bsc_node_core.specs.declared.state.State.{State}
 use Rattle.bsc_node_core.specs.Events.{MayFollow, at_time}
 use Rattle.bsc_node_core.specs.Node.{StandsFor, at_rest}
+use Rattle.bsc_node_core.specs.Resting.{IsAtRestFor}
 use Rattle.bsc_node_core.specs.Resolving.{BothStand}
 use Rattle.bsc_node_core.specs.Standing.{Base, Stands}
 use Rattle.bsc_node_core.specs.Tables.{is_name}
@@ -155,7 +155,7 @@ rested a L M t out s spare r h =
 pub answered : (old new : Node) (a : Made) (L : Log) (t : ℕ) (ev : NodeEvent) (out : List Action) (start caught mid : State) → new.limits ≡ old.limits → new.spare ≡ caught → KeepsSame old.state start
     → (Agrees old.spare old.state → KeepsSame old.state caught)
     → ((b : Base) (os : List Action) (M : Log) (u : ℕ) → Stands b os start M → Stands (at_time u b) os mid (M ++ came (record { now = u; event = ev }) ∷ []))
-    → ((b : Base) (M : Log) → b.made.limits ≡ old.limits → b.now ≡ t → b.busy ≡ None → MayFollow ev M → BothStand b [] mid old.resolve M → BothStand b out new.state new.resolve (M ++ follows b.made ev M))
+    → ((b : Base) (M : Log) → IsAtRestFor old.limits t b → MayFollow ev M → BothStand b [] mid old.resolve M → BothStand b out new.state new.resolve (M ++ follows b.made ev M))
     → StandsFor old a L → IsTrue (may_come L (record { now = t; event = ev }))
     → (out ≡ actions_at a L (record { now = t; event = ev })) × StandsFor new a (L ++ goes_on a (record { now = t; event = ev }) L)
 answered old new a L t ev out start caught mid same spared is catches comes goes h may =
@@ -165,7 +165,7 @@ answered old new a L t ev out start caught mid same spared is catches comes goes
     let b = at_event a L t caught in
     let first : Stands b [] mid M = comes (at_rest a L caught) [] L t (begun-stands (at_rest a L old.spare) [] old.state start caught L is catches h.kept.state) in
     let both : BothStand b [] mid old.resolve M = both-still b [] mid old.resolve L M h.kept.resolution first in
-    let last : BothStand b out new.state new.resolve (M ++ follows a ev M) = goes b M h.limits refl refl (may-follow L t ev f may) both in
+    let last : BothStand b out new.state new.resolve (M ++ follows a ev M) = goes b M (h.limits, refl, refl) (may-follow L t ev f may) both in
     let log : M ++ follows a ev M ≡ L ++ goes_on a e L = append_assoc L (came e ∷ []) (follows a ev M) ∙ ap (λ ms. L ++ ms) (sym (goes_on-is a L e)) in
     let end : BothStand b out new.state new.resolve (L ++ goes_on a e L) = subst (λ N. BothStand b out new.state new.resolve N) log last in
     let come = end.state.actions in (

@@ -9,7 +9,7 @@ use Rattle.bsc_node.specs.declared.note.Note.TheVariants.{NoUris, NoDirect, Slot
 use Rattle.bsc_node.specs.declared.action.Action.{Action}
 use Rattle.bsc_node.specs.declared.action.Action.TheVariants.{Dial, Tell}
 use Rattle.bsc_node.specs.Logs.{slot, did, Log, Rule, nothing, does, tells, with_some, where_found}
-use Rattle.bsc_node.specs.Ways.{is_dialled, words_with, established, learnt, uris_to_dial, free_slot, slots_see}
+use Rattle.bsc_node.specs.Ways.{is_ws_uri, words_with, established, learnt, uris_to_dial, free_slot, slots_see}
 use Rattle.bsc_node.specs.Requesting.{dials_first, directs}
 use Rattle.bsc_node_core.specs.declared.state.State.{State}
 use Rattle.bsc_node_core.specs.Standing.{Base, Stands}
@@ -21,7 +21,7 @@ use Rattle.std.proofs.lemmas.Option.{same_Some as some_same}
 
 -- ---- the URIs
 
-pub these-to-dial : (v : Vmac) (L : Log) (text : List ℕ) (n : ℕ) → learnt v L ≡ Some text → slice_get (uris_to_dial v L) n ≡ slice_get (filter is_dialled (words_with [] text)) n
+pub these-to-dial : (v : Vmac) (L : Log) (text : List ℕ) (n : ℕ) → learnt v L ≡ Some text → slice_get (uris_to_dial v L) n ≡ slice_get (filter is_ws_uri (words_with [] text)) n
 these-to-dial v L text n h = rw h refl
 
 no_first : (uris : List (List ℕ)) → slice_get uris 0 ≡ None → uris ≡ []

@@ -25,8 +25,7 @@ use Rattle.bsc_initiate.proofs.Following.{standing_of_open}
 use Rattle.bsc_node.specs.declared.link_name.LinkName.{LinkName}
 use Rattle.bsc_node.specs.declared.action.Action.{Action}
 use Rattle.bsc_node.specs.Logs.{Made, Line, initiating, accepting, Log, now, next_id}
-use Rattle.bsc_node.specs.Links.{Outcome, is_there, was_taken, start, initiating_events, request, accepts_by, origin_of, by_machine, opens, hears, ticks, finishes, verdict}
-use Rattle.bsc_node.specs.Soundness.{is_in_connected}
+use Rattle.bsc_node.specs.Links.{Outcome, is_there, was_taken, start, initiating_events, request, accepts_by, origin_of, by_machine, opens, hears, ticks, finishes, verdict, is_in_connected}
 use Rattle.bsc_node.specs.Conditions.{is_dialling, is_open, has_opened}
 use Rattle.bsc_node_core.specs.declared.deed.Deed.{Deed}
 use Rattle.bsc_node_core.specs.declared.machine.Machine.{Machine}

@@ -26,7 +26,7 @@ use Rattle.bsc_node.specs.declared.action.Action.{Action}
 use Rattle.bsc_node.specs.declared.action.Action.TheVariants.{Put, Close, Tell}
 use Rattle.bsc_node.specs.Logs.{Made, Line, slot, accepting, did, Log, does, tells, if_so, nothing, own_vmac, renewal_of}
 use Rattle.bsc_node.specs.Links.{Outcome, puts, puts_and_closes, closes, meets, is_refused, passes_up, keeps_still, was_taken, outcome, start, accepting_events}
-use Rattle.bsc_node.specs.Hubs.{is_tried}
+use Rattle.bsc_node.specs.Hubs.{is_under_way}
 use Rattle.bsc_node.specs.Ways.{slot_call_of, slot_calls, slots_see, establish, awaits_peer}
 use Rattle.bsc_node.specs.Ending.{carries_out_by, carries_out, ends, tells_connector, closes_link}
 use Rattle.bsc_node.specs.Meeting.{wrong_peer, joins, refuses, finishes_replaced, comes_up, meets_dialled, meets_taken, meets_slot, meets_direct, meets_peer}
@@ -249,10 +249,10 @@ hub-told b out s L side who none told =
     (told-dialled b out s L (Hub side) who (link_at s.links (Hub side)).machine none refl
     (hub-not-asked b.made (Some (Hub side)) L side (link_at s.links (Hub side)).machine (told.stands.links (Hub side) refl).machine) told).1
 
-pub hub-met : (b : Base) (out : List Action) (s : State) (L : Log) (side : Side) (who : Identity) → is_tried b.made side L ≡ true → Stands b out s (L ++ tells_connector b.made (Connected side) L) → Stands b out s (L ++ meets_peer b.made (Hub side) who L)
+pub hub-met : (b : Base) (out : List Action) (s : State) (L : Log) (side : Side) (who : Identity) → is_under_way b.made side L ≡ true → Stands b out s (L ++ tells_connector b.made (Connected side) L) → Stands b out s (L ++ meets_peer b.made (Hub side) who L)
 hub-met b out s L side who t h = subst (λ (x : Bool). Stands b out s (L ++ if_so x (tells_connector b.made (Connected side)) nothing L)) (sym t) h
 
-pub hub-unmet : (b : Base) (out : List Action) (s : State) (L : Log) (side : Side) (who : Identity) → is_tried b.made side L ≡ false → Stands b out s L → Stands b out s (L ++ meets_peer b.made (Hub side) who L)
+pub hub-unmet : (b : Base) (out : List Action) (s : State) (L : Log) (side : Side) (who : Identity) → is_under_way b.made side L ≡ false → Stands b out s L → Stands b out s (L ++ meets_peer b.made (Hub side) who L)
 hub-unmet b out s L side who t h = subst (λ (x : Bool). Stands b out s (L ++ if_so x (tells_connector b.made (Connected side)) nothing L)) (sym t) (nothing-more b out s L h)
 
 -- ---- a link of either kind

@@ -8,7 +8,7 @@ use Rattle.bsc_connector.specs.declared.side.Side.{Side}
 use Rattle.bsc_node.specs.declared.link_name.LinkName.{LinkName}
 use Rattle.bsc_node.specs.declared.link_name.LinkName.TheVariants.{Hub}
 use Rattle.bsc_node.specs.Logs.{Made, Log}
-use Rattle.bsc_node.specs.Ways.{is_dialled, words_with, learnt, uris_to_dial}
+use Rattle.bsc_node.specs.Ways.{is_ws_uri, words_with, learnt, uris_to_dial}
 use Rattle.bsc_node.specs.Ending.{ends}
 use Rattle.bsc_node.specs.Events.{dial_fails}
 use Rattle.bsc_node_core.proofs.Words.{one_more, at_the_end}
@@ -16,23 +16,23 @@ use Rattle.bsc_node_core.proofs.Connecting.{these-to-dial}
 
 -- ---- how many URIs a text has
 
-filtered : (word : List ℕ) (ws : List (List ℕ)) → length (filter is_dialled (word ∷ ws)) ≤ 1 + length (filter is_dialled ws)
-filtered word ws = by (is_dialled word) refl
+filtered : (word : List ℕ) (ws : List (List ℕ)) → length (filter is_ws_uri (word ∷ ws)) ≤ 1 + length (filter is_ws_uri ws)
+filtered word ws = by (is_ws_uri word) refl
   where
-    by : (b : Bool) → is_dialled word ≡ b → length (filter is_dialled (word ∷ ws)) ≤ 1 + length (filter is_dialled ws)
+    by : (b : Bool) → is_ws_uri word ≡ b → length (filter is_ws_uri (word ∷ ws)) ≤ 1 + length (filter is_ws_uri ws)
     by true h = rw h (omega arith)
     by false h = rw h (omega arith)
 
-last_word : (word : List ℕ) → length (filter is_dialled (word ∷ [])) ≤ length word
+last_word : (word : List ℕ) → length (filter is_ws_uri (word ∷ [])) ≤ length word
 last_word [] = omega arith
 last_word (c ∷ word) = let q = filtered (c ∷ word) [] in omega (arith, q)
 
-dialled : (text word : List ℕ) → length (filter is_dialled (words_with word text)) ≤ length word + length text
+dialled : (text word : List ℕ) → length (filter is_ws_uri (words_with word text)) ≤ length word + length text
 dialled [] word = let q = last_word word in omega (arith, q)
 dialled (c ∷ text) word = by (c == 0x20) refl (dialled text []) (dialled text (one_more word c))
   where
-    by : (b : Bool) → (c == 0x20) ≡ b → length (filter is_dialled (words_with [] text)) ≤ 0 + length text → length (filter is_dialled (words_with (one_more word c) text)) ≤ length (one_more word c) + length text
-        → length (filter is_dialled (words_with word (c ∷ text))) ≤ length word + length (c ∷ text)
+    by : (b : Bool) → (c == 0x20) ≡ b → length (filter is_ws_uri (words_with [] text)) ≤ 0 + length text → length (filter is_ws_uri (words_with (one_more word c) text)) ≤ length (one_more word c) + length text
+        → length (filter is_ws_uri (words_with word (c ∷ text))) ≤ length word + length (c ∷ text)
     by true h r s = rw h (let q = filtered word (words_with [] text) in omega (arith, q, r))
     by false h r s = rw h (let n : length (one_more word c) ≡ length word + 1 = ap length (at_the_end word c) ∙ length-append word (c ∷ []) in omega (arith, n, s))
 
@@ -47,9 +47,9 @@ same_uri uris n number few m = by (nat_le n 18446744073709551615) refl
         slice_get_past uris number (omega (arith, m, w, few)) ∙ sym (slice_get_past uris n (omega (arith, w, few)))
 
 pub learnt-of : (v : Vmac) (L : Log) (text : List ℕ) (o : Option (List ℕ)) (n number : ℕ) → length text < 2 ^ 64 → min n 18446744073709551615 ≡ number → learnt v L ≡ Some text
-    → o ≡ slice_get (filter is_dialled (words_with [] text)) number → o ≡ slice_get (uris_to_dial v L) n
+    → o ≡ slice_get (filter is_ws_uri (words_with [] text)) number → o ≡ slice_get (uris_to_dial v L) n
 learnt-of v L text o n number fits m l h =
-    h ∙ same_uri (filter is_dialled (words_with [] text)) n number (let q : length (filter is_dialled (words_with [] text)) ≤ 0 + length text = dialled text [] in omega (arith, q, fits)) m ∙ sym (these-to-dial v L text n l)
+    h ∙ same_uri (filter is_ws_uri (words_with [] text)) n number (let q : length (filter is_ws_uri (words_with [] text)) ≤ 0 + length text = dialled text [] in omega (arith, q, fits)) m ∙ sym (these-to-dial v L text n l)
 
 -- A dial of a hub that fails: its connection is over.
 pub hub-fails : (a : Made) (name : LinkName) (side : Side) (L : Log) → name ≡ Hub side → dial_fails a name L ≡ ends a name L

@@ -4,7 +4,7 @@ use Rattle.std.specs.Prelude.{◌-◌, ◌==◌, filter, slice_get}
 use Rattle.std.proofs.Math.ListN.{get_or}
 use Rattle.std.proofs.Math.Seq.{drop-cons, take-suc}
 use Rattle.std.proofs.lemmas.List.{get_or-drop, length-drop}
-use Rattle.bsc_node.specs.Ways.{is_dialled, words_with}
+use Rattle.bsc_node.specs.Ways.{is_ws_uri, words_with}
 
 -- a word with one octet more
 abbrev pub one_more : List ℕ → ℕ → List ℕ
@@ -20,15 +20,15 @@ within word cs c h = rw h (ap (λ w. words_with w cs) (at_the_end word c))
 
 -- the URI of this number, where such a word is read and these octets are left
 abbrev pub uri_after : List ℕ → List ℕ → ℕ → Option (List ℕ)
-uri_after word cs n = slice_get (filter is_dialled (words_with word cs)) n
+uri_after word cs n = slice_get (filter is_ws_uri (words_with word cs)) n
 
 pub more-of-word : (word cs : List ℕ) (c n : ℕ) → (c == 0x20) ≡ false → uri_after word (c ∷ cs) n ≡ uri_after (word ++ c ∷ []) cs n
-more-of-word word cs c n h = ap (λ ws. slice_get (filter is_dialled ws) n) (within word cs c h)
+more-of-word word cs c n h = ap (λ ws. slice_get (filter is_ws_uri ws) n) (within word cs c h)
 
-pub next-word : (word cs : List ℕ) (n : ℕ) → is_dialled word ≡ true → uri_after word (0x20 ∷ cs) (suc n) ≡ uri_after [] cs n
+pub next-word : (word cs : List ℕ) (n : ℕ) → is_ws_uri word ≡ true → uri_after word (0x20 ∷ cs) (suc n) ≡ uri_after [] cs n
 next-word word cs n h = rw h refl
 
-pub other-word : (word cs : List ℕ) (n : ℕ) → is_dialled word ≡ false → uri_after word (0x20 ∷ cs) n ≡ uri_after [] cs n
+pub other-word : (word cs : List ℕ) (n : ℕ) → is_ws_uri word ≡ false → uri_after word (0x20 ∷ cs) n ≡ uri_after [] cs n
 other-word word cs n h = rw h refl
 
 -- ---- a text, read up to a place
@@ -73,7 +73,7 @@ at_space text number start end left d r w c =
     ∙ ap (λ cs. uri_after (word_between text start end) cs left) (octet_first text end d w)
     ∙ ap (λ x. uri_after (word_between text start end) (x ∷ drop (end + 1) text) left) c
 
-pub read-next : (text : List ℕ) (number start end left d : ℕ) → IsRead text number start end left → end < length text → get_or text end d ≡ 0x20 → is_dialled (word_between text start end) ≡ true → 0 < left
+pub read-next : (text : List ℕ) (number start end left d : ℕ) → IsRead text number start end left → end < length text → get_or text end d ≡ 0x20 → is_ws_uri (word_between text start end) ≡ true → 0 < left
     → IsRead text number (end + 1) (end + 1) (left - 1)
 read-next text number start end left d r w c h p =
     let e : left ≡ suc (left - 1) = omega (arith, p) in (
@@ -84,7 +84,7 @@ read-next text number start end left d r w c h p =
           ∙ ap (λ word. uri_after word (drop (end + 1) text) (left - 1)) (sym (no_word text (end + 1))),
     )
 
-pub read-other : (text : List ℕ) (number start end left d : ℕ) → IsRead text number start end left → end < length text → get_or text end d ≡ 0x20 → is_dialled (word_between text start end) ≡ false
+pub read-other : (text : List ℕ) (number start end left d : ℕ) → IsRead text number start end left → end < length text → get_or text end d ≡ 0x20 → is_ws_uri (word_between text start end) ≡ false
     → IsRead text number (end + 1) (end + 1) left
 read-other text number start end left d r w c h = (
   omega arith,

@@ -7,7 +7,7 @@ use Rattle.bsc_node.specs.Logs.{Made, Log, now}
 use Rattle.bsc_node.specs.Ways.{resolve_calls}
 use Rattle.bsc_node.specs.Node.{goes_on, actions_at}
 use Rattle.bsc_node.specs.Conditions.{may_come}
-use Rattle.bsc_node.specs.Soundness.{begins_in_slots}
+use Rattle.bsc_node.specs.Links.{begins_in_slots}
 use Rattle.bsc_node_core.specs.declared.node.Node.{Node}
 use Rattle.bsc_node_core.specs.declared.state.State.{State}
 use Rattle.bsc_node_core.specs.Standing.{Base}
@@ -26,8 +26,8 @@ pub record StandsFor (node : Node) (a : Made) (L : Log) : Type 0 where
 
 -- For whatever log it stood after which the event may come, it does what the definition asks for, and stands for the log
 -- as it goes on.
-abbrev pub Answers : Node → Node → TimedEvent → List Action → Type 0
-Answers old new e actions =
+abbrev pub NodeAnswers : Node → Node → TimedEvent → List Action → Type 0
+NodeAnswers old new e actions =
     (a : Made) (L : Log) → StandsFor old a L → IsTrue (may_come L e) → (actions ≡ actions_at a L e) × StandsFor new a (L ++ goes_on a e L)
 
 -- Whatever log it stood for, it stands for still.

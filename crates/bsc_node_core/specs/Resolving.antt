@@ -1,9 +1,9 @@
 -- For which log a node's state and its address resolution stand together.
-use Rattle.std.specs.Prelude.{List, ◌++◌}
+use Rattle.std.specs.Prelude.{List}
 use Rattle.bsc_resolve.specs.declared.resolve.Resolve.{Resolve}
 use Rattle.bsc_resolve.specs.Standing.{StandsFor as ResolveStands}
 use Rattle.bsc_node.specs.declared.action.Action.{Action}
-use Rattle.bsc_node.specs.Logs.{Made, Log, Rule}
+use Rattle.bsc_node.specs.Logs.{Log}
 use Rattle.bsc_node.specs.Ways.{resolve_calls}
 use Rattle.bsc_node_core.specs.declared.state.State.{State}
 use Rattle.bsc_node_core.specs.Standing.{Base, Stands}
@@ -16,7 +16,3 @@ asked_by L b = record b { asked = resolve_calls L }
 pub record BothStand (b : Base) (out : List Action) (s : State) (r : Resolve) (L : Log) : Type 0 where
   pub state : Stands (asked_by L b) out s L
   pub resolution : ResolveStands r b.made.limits.times.connect_wait (resolve_calls L)
-
--- For whatever log both stood, they stand for that with the lines of the rule.
-abbrev pub BothGo : (Made → Rule) → List Action → State → Resolve → List Action → State → Resolve → Type 0
-BothGo rule out s r out' s' r' = (b : Base) (L : Log) → BothStand b out s r L → BothStand b out' s' r' (L ++ rule b.made L)

@@ -18,7 +18,6 @@ use Rattle.bsc_resolve.specs.declared.call.ResolveCall.{ResolveCall}
 use Rattle.bsc_node.specs.declared.link_name.LinkName.{LinkName}
 use Rattle.bsc_node.specs.declared.link_name.LinkName.TheVariants.{Direct}
 use Rattle.bsc_node.specs.declared.action.Action.{Action}
-use Rattle.bsc_node.specs.declared.node_limits.NodeLimits.{NodeLimits}
 use Rattle.bsc_node.specs.Logs.{Made, Line, Log, Rule, now, next_id, own, is_finishing, is_response, action_of}
 use Rattle.bsc_node.specs.Links.{is_there, was_taken, start, initiating_events, accepting_events, request, accepts_by, who_accepted, who_asked, peer}
 use Rattle.bsc_node.specs.Hubs.{waits, hub_events, is_dropped, is_connected_event}
@@ -118,10 +117,5 @@ abbrev pub dropped_after : ConnectorEvent → Bool → Bool
 dropped_after e d = d || connects Primary e
 
 -- For whatever log it stood, it stands for that with the lines of the rule.
-abbrev pub Goes : (Made → Rule) → List Action → State → List Action → State → Type 0
-Goes rule out s out' s' = (b : Base) (L : Log) → Stands b out s L → Stands b out' s' (L ++ rule b.made L)
-
--- The same at a time, for a node that was made with these settings.
-abbrev pub Follows : NodeLimits → ℕ → (Made → Rule) → List Action → State → List Action → State → Type 0
-Follows limits now rule out s out' s' =
-    (b : Base) (L : Log) → b.made.limits ≡ limits → b.now ≡ now → Stands b out s L → Stands b out' s' (L ++ rule b.made L)
+abbrev pub FollowsAlways : (Made → Rule) → List Action → State → List Action → State → Type 0
+FollowsAlways rule out s out' s' = (b : Base) (L : Log) → Stands b out s L → Stands b out' s' (L ++ rule b.made L)

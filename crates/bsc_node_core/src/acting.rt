@@ -8,7 +8,7 @@ ghost use Rattle.bsc_node.specs.Links.{same_link};
 ghost use Rattle.bsc_node_core.specs.Tables.{is_name};
 ghost use Rattle.bsc_node.specs.Logs.{Log, did, does};
 ghost use Rattle.bsc_node.specs.Hubs.{newest_step, told};
-ghost use Rattle.bsc_node_core.specs.Standing.{Base, Goes, Stands, dropped_after, next_after, renewals_after};
+ghost use Rattle.bsc_node_core.specs.Standing.{Base, FollowsAlways, Stands, dropped_after, next_after, renewals_after};
 
 use crate::actions::Actions;
 use crate::machine::Machine;
@@ -91,7 +91,7 @@ impl State {
         octets: Octets,
     ) -> Result<(), NoMemory>
         ensures direct { OnOk result (self.new.direct ≡ self.old.direct) }
-        ensures goes { OnOk result (Goes (λ a. does (Action.Put name octets)) out.old self.old out.new self.new) }
+        ensures goes { OnOk result (FollowsAlways (λ a. does (Action.Put name octets)) out.old self.old out.new self.new) }
     {
         let next = number_after(self.next, octets.as_slice());
         out.push(Action::Put(name, octets))?;
@@ -107,7 +107,7 @@ impl State {
         closing: Closing,
     ) -> Result<(), NoMemory>
         ensures direct { OnOk result (self.new.direct ≡ self.old.direct) }
-        ensures goes { OnOk result (Goes (λ a. does (Action.Close name closing)) out.old self.old out.new self.new) }
+        ensures goes { OnOk result (FollowsAlways (λ a. does (Action.Close name closing)) out.old self.old out.new self.new) }
     {
         out.push(Action::Close(name, closing))?;
         self.links.end(name);

@@ -1,5 +1,5 @@
 //! The calls of a node.
-ghost use Rattle.std.specs.Prelude.{◌≡◌, ◌<◌, ◌^◌, ◌++◌, [], None, IfOk, IfSome, OnOk, OnErr};
+ghost use Rattle.std.specs.Prelude.{◌≡◌, ◌<◌, ◌^◌, ◌++◌, [], IfOk, IfSome, OnOk, OnErr};
 ghost use Rattle.std.specs.Str.{IsUtf8};
 ghost use Rattle.bsc_resolve.specs.Standing.{IsUnchanged as IsUnchangedResolve};
 ghost use Rattle.bsc_node.specs.Logs.{Log};
@@ -7,9 +7,11 @@ ghost use Rattle.bsc_node.specs.Events.{follows};
 ghost use Rattle.bsc_node_core.specs.Events.{HasOctets, MayFollow};
 ghost use Rattle.bsc_node_core.specs.Standing.{Base};
 ghost use Rattle.bsc_node_core.specs.Resolving.{BothStand};
-ghost use Rattle.bsc_node_core.specs.Node.{Answers, IsUnchanged, StandsFor};
+ghost use Rattle.bsc_node_core.specs.Resting.{IsAtRestFor};
+ghost use Rattle.bsc_node_core.specs.Node.{NodeAnswers, IsUnchanged, StandsFor};
 
 use crate::actions::Actions;
+use crate::at::At;
 use crate::failing::fail_dial;
 use crate::following::{hear, pass_time};
 use crate::links::Links;
@@ -70,37 +72,33 @@ impl Node {
         requires octets { HasOctets event.now }
         ensures limits { self.new.limits ≡ self.old.limits }
         ensures spare { self.new.spare ≡ self.old.spare }
-        ensures goes { OnOk result ((b : Base) (L : Log) → b.made.limits ≡ self.old.limits → b.now ≡ now → b.busy ≡ None → MayFollow event.now L
+        ensures goes { OnOk result ((b : Base) (L : Log) → IsAtRestFor self.old.limits now b → MayFollow event.now L
             → BothStand b out.old self.old.state self.old.resolve L → BothStand b out.new self.new.state self.new.resolve (L ++ follows b.made event.now L)) }
         ensures err { OnErr result (IsUnchangedResolve self.old.resolve self.new.resolve) }
     {
-        let limits = &self.limits;
+        let at = At {
+            alloc,
+            limits: &self.limits,
+            time: now,
+        };
         let state = &mut self.state;
         let resolve = &mut self.resolve;
         match event {
-            NodeEvent::Start => {
-                state.tell_connector(out, alloc, limits, now, ConnectorEvent::Start)
-            }
-            NodeEvent::Opened(name) => state.open(out, alloc, limits, now, *name),
-            NodeEvent::DialFailed(name) => {
-                fail_dial(state, out, resolve, alloc, limits, now, *name)
-            }
-            NodeEvent::Arrived => state.arrive(out, limits, now),
-            NodeEvent::Came(name, octets) => {
-                hear(state, out, resolve, alloc, limits, now, *name, octets)
-            }
-            NodeEvent::CameText(name) => {
-                state.close_link(out, alloc, limits, now, *name, Closing::NOT_BINARY)
-            }
-            NodeEvent::Lost(name) => state.end(out, alloc, limits, now, *name),
-            NodeEvent::Tick => pass_time(state, out, resolve, alloc, limits, now),
+            NodeEvent::Start => { state.tell_connector(out, &at, ConnectorEvent::Start) }
+            NodeEvent::Opened(name) => state.open(out, &at, *name),
+            NodeEvent::DialFailed(name) => { fail_dial(state, out, resolve, &at, *name) }
+            NodeEvent::Arrived => state.arrive(out, &at),
+            NodeEvent::Came(name, octets) => { hear(state, out, resolve, &at, *name, octets) }
+            NodeEvent::CameText(name) => { state.close_link(out, &at, *name, Closing::NOT_BINARY) }
+            NodeEvent::Lost(name) => state.end(out, &at, *name),
+            NodeEvent::Tick => pass_time(state, out, resolve, &at),
             NodeEvent::Send { dest, npdu } => state.send(out, alloc, *dest, npdu),
-            NodeEvent::Resolve(v) => resolve_vmac(state, out, resolve, alloc, now, *v),
-            NodeEvent::DirectTo(v) => connect_to(state, out, resolve, alloc, limits, now, *v),
+            NodeEvent::Resolve(v) => resolve_vmac(state, out, resolve, &at, *v),
+            NodeEvent::DirectTo(v) => connect_to(state, out, resolve, &at, *v),
             NodeEvent::Solicit(v) => state.solicit(out, alloc, *v),
-            NodeEvent::Finish => state.finish(out, alloc, limits, now),
-            NodeEvent::Random(_) => state.renew(out, alloc, limits, now),
-            NodeEvent::NoRandom => state.keep_vmac(out, alloc, limits, now),
+            NodeEvent::Finish => state.finish(out, &at),
+            NodeEvent::Random(_) => state.renew(out, &at),
+            NodeEvent::NoRandom => state.keep_vmac(out, &at),
         }
     }
 
@@ -111,7 +109,7 @@ impl Node {
     pub fn event(&mut self, alloc: Global, now: u64, event: &NodeEvent) -> Result<Actions, NoMemory>
         requires time { now < 2 ^ 62 }
         requires octets { HasOctets event.now }
-        ensures ok { IfOk result (λ actions. Answers self.old self.new (record { now = now; event = event.now }) actions) }
+        ensures ok { IfOk result (λ actions. NodeAnswers self.old self.new (record { now = now; event = event.now }) actions) }
         ensures err { OnErr result (IsUnchanged self.old self.new) }
     {
         self.spare.catch_up(&self.state);

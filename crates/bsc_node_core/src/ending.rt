@@ -1,5 +1,5 @@
 //! What follows where a hub connection changes, and where a link ends.
-ghost use Rattle.std.specs.Prelude.{◌≡◌, ◌<◌, ◌^◌, true, List, ◌∷◌, ◌++◌, [], map, Option, None, unwrap_or, IfOk, OnOk};
+ghost use Rattle.std.specs.Prelude.{◌≡◌, true, List, ◌∷◌, ◌++◌, [], map, Option, None, unwrap_or, IfOk, OnOk};
 ghost use Rattle.bsc_octets.specs.declared.vmac.Vmac.{Vmac};
 ghost use Rattle.bsc_frame.specs.declared.message.Message.{Message};
 ghost use Rattle.bsc_connector.specs.Standing.{MayCome};
@@ -15,12 +15,13 @@ ghost use Rattle.bsc_node.specs.Hubs.{hub_use_before, is_dropped, newest_step, s
 ghost use Rattle.bsc_node.specs.Ending.{carries_out_by, closes_link, dials_failover, dials_primary, drops_failover, ends, ends_by};
 ghost use Rattle.bsc_node.specs.Ending.{ends_hub, ends_slot, finishes_link, finishes_machine, tells_connector, tells_finished, tells_use};
 ghost use Rattle.bsc_node_core.specs.Rules.{outcome_of, tells_down};
-ghost use Rattle.bsc_node_core.specs.Resting.{FollowsAtRest};
-ghost use Rattle.bsc_node_core.specs.Standing.{Base, Goes, Stands};
+ghost use Rattle.bsc_node_core.specs.Resting.{FollowsAtRest, IsAtRest};
+ghost use Rattle.bsc_node_core.specs.Standing.{Base, FollowsAlways, Stands};
 ghost use Rattle.bsc_node_core.specs.Telling.{busy_with};
 
 use crate::acting::tell;
 use crate::actions::Actions;
+use crate::at::At;
 use crate::deed::Deed;
 use crate::links::SLOTS;
 use crate::state::State;
@@ -57,7 +58,7 @@ impl State {
     ) -> Result<(), NoMemory>
         ensures direct { OnOk result (self.new.direct ≡ self.old.direct) }
         ensures goes { OnOk result ((origin : Option Vmac) (msg : Option Message)
-            → Goes (λ a. carries_out_by name (outcome_of origin msg deed)) out.old self.old out.new self.new) }
+            → FollowsAlways (λ a. carries_out_by name (outcome_of origin msg deed)) out.old self.old out.new self.new) }
     {
         match deed {
             Deed::Puts(octets) => self.put(out, name, octets),
@@ -76,7 +77,7 @@ impl State {
         closing: Closing,
     ) -> Result<(), NoMemory>
         ensures direct { OnOk result (self.new.direct ≡ self.old.direct) }
-        ensures goes { OnOk result (Goes (λ a. in_order (does (Action.Put name octets) ∷ does (Action.Close name closing) ∷ []))
+        ensures goes { OnOk result (FollowsAlways (λ a. in_order (does (Action.Put name octets) ∷ does (Action.Close name closing) ∷ []))
             out.old self.old out.new self.new) }
     {
         self.put(out, name, octets)?;
@@ -87,15 +88,14 @@ impl State {
     pub(crate) fn finish_machine(
         &mut self,
         out: &mut Actions,
-        alloc: Global,
-        now: u64,
+        at: &At,
         name: LinkName,
     ) -> Result<(), NoMemory>
-        ensures { OnOk result ((b : Base) (L : Log) → b.now ≡ now → b.busy ≡ None → is_name name ≡ true → Stands b out.old self.old L
+        ensures { OnOk result ((b : Base) (L : Log) → b.now ≡ at.now.time → b.busy ≡ None → is_name name ≡ true → Stands b out.old self.old L
             → Stands b out.new self.new (L ++ finishes_machine b.made name L)) }
     {
         if self.links.is_there(name) {
-            let deed = self.finishes(alloc, now, name)?;
+            let deed = self.finishes(at.alloc, at.time, name)?;
             self.carry_out(out, name, deed)
         } else {
             Ok(())
@@ -103,18 +103,18 @@ impl State {
     }
 
     /// Dials the primary hub.
-    fn dial_primary(
-        &mut self,
-        out: &mut Actions,
-        alloc: Global,
-        limits: &NodeLimits,
-        now: u64,
-    ) -> Result<(), NoMemory>
-        ensures { OnOk result ((b : Base) (L : Log) → b.made.limits.times ≡ limits.now.times → b.now ≡ now → Stands b out.old self.old L
-            → Stands b out.new self.new (L ++ did (Action.Dial (LinkName.Hub Side.Primary) limits.now.primary) ∷ [])) }
+    fn dial_primary(&mut self, out: &mut Actions, at: &At) -> Result<(), NoMemory>
+        ensures { OnOk result ((b : Base) (L : Log) → b.made.limits.times ≡ at.now.limits.now.times → b.now ≡ at.now.time → Stands b out.old self.old L
+            → Stands b out.new self.new (L ++ did (Action.Dial (LinkName.Hub Side.Primary) at.now.limits.now.primary) ∷ [])) }
     {
-        let uri = limits.primary.copy(alloc)?;
-        self.dial(out, limits.times, now, LinkName::Hub(Side::Primary), uri)
+        let uri = at.limits.primary.copy(at.alloc)?;
+        self.dial(
+            out,
+            at.limits.times,
+            at.time,
+            LinkName::Hub(Side::Primary),
+            uri,
+        )
     }
 
     /// Closes a link that is there.
@@ -130,37 +130,29 @@ impl State {
     }
 
     /// Dials the failover. The link of a dropped one, where it is still there, is closed first.
-    fn dial_failover(
-        &mut self,
-        out: &mut Actions,
-        alloc: Global,
-        limits: &NodeLimits,
-        now: u64,
-    ) -> Result<(), NoMemory>
-        ensures { OnOk result ((b : Base) (L : Log) → b.made.limits.times ≡ limits.now.times → b.now ≡ now → Stands b out.old self.old L
+    fn dial_failover(&mut self, out: &mut Actions, at: &At) -> Result<(), NoMemory>
+        ensures { OnOk result ((b : Base) (L : Log) → b.made.limits.times ≡ at.now.limits.now.times → b.now ≡ at.now.time → Stands b out.old self.old L
             → Stands b out.new self.new (L ++ in_order (when (is_there (LinkName.Hub Side.Failover)) (does (Action.Close (LinkName.Hub Side.Failover) normal))
-            ∷ does (Action.Dial (LinkName.Hub Side.Failover) (unwrap_or limits.now.failover [])) ∷ []) L)) }
+            ∷ does (Action.Dial (LinkName.Hub Side.Failover) (unwrap_or at.now.limits.now.failover [])) ∷ []) L)) }
     {
         let name = LinkName::Hub(Side::Failover);
         self.close_there(out, name)?;
-        let uri = failover_uri(alloc, limits)?;
-        self.dial(out, limits.times, now, name, uri)
+        let uri = failover_uri(at.alloc, at.limits)?;
+        self.dial(out, at.limits.times, at.time, name, uri)
     }
 
     /// Dials the primary hub where the connector's step says so, unless the node is to end.
     fn try_primary(
         &mut self,
         out: &mut Actions,
-        alloc: Global,
-        limits: &NodeLimits,
-        now: u64,
+        at: &At,
         step: &ConnectorStep,
     ) -> Result<(), NoMemory>
-        ensures { OnOk result ((b : Base) (L : Log) → b.made.limits ≡ limits.now → b.now ≡ now → newest_step b.made L ≡ step.now
+        ensures { OnOk result ((b : Base) (L : Log) → b.made.limits ≡ at.now.limits.now → b.now ≡ at.now.time → newest_step b.made L ≡ step.now
             → Stands b out.old self.old L → Stands b out.new self.new (L ++ dials_primary b.made L)) }
     {
         if step.dial_primary && !self.finishing {
-            self.dial_primary(out, alloc, limits, now)
+            self.dial_primary(out, at)
         } else {
             Ok(())
         }
@@ -170,16 +162,14 @@ impl State {
     fn try_failover(
         &mut self,
         out: &mut Actions,
-        alloc: Global,
-        limits: &NodeLimits,
-        now: u64,
+        at: &At,
         step: &ConnectorStep,
     ) -> Result<(), NoMemory>
-        ensures { OnOk result ((b : Base) (L : Log) → b.made.limits ≡ limits.now → b.now ≡ now → newest_step b.made L ≡ step.now
+        ensures { OnOk result ((b : Base) (L : Log) → b.made.limits ≡ at.now.limits.now → b.now ≡ at.now.time → newest_step b.made L ≡ step.now
             → Stands b out.old self.old L → Stands b out.new self.new (L ++ dials_failover b.made L)) }
     {
         if step.dial_failover && !self.finishing {
-            self.dial_failover(out, alloc, limits, now)
+            self.dial_failover(out, at)
         } else {
             Ok(())
         }
@@ -201,15 +191,14 @@ impl State {
     fn drop_failover(
         &mut self,
         out: &mut Actions,
-        alloc: Global,
-        now: u64,
+        at: &At,
         step: &ConnectorStep,
     ) -> Result<(), NoMemory>
-        ensures { OnOk result ((b : Base) (L : Log) → b.now ≡ now → b.busy ≡ None → newest_step b.made L ≡ step.now
+        ensures { OnOk result ((b : Base) (L : Log) → b.now ≡ at.now.time → b.busy ≡ None → newest_step b.made L ≡ step.now
             → Stands b out.old self.old L → Stands b out.new self.new (L ++ drops_failover b.made L)) }
     {
         if step.drop_failover {
-            self.finish_machine(out, alloc, now, LinkName::Hub(Side::Failover))
+            self.finish_machine(out, at, LinkName::Hub(Side::Failover))
         } else {
             Ok(())
         }
@@ -219,21 +208,18 @@ impl State {
     pub(crate) fn tell_connector(
         &mut self,
         out: &mut Actions,
-        alloc: Global,
-        limits: &NodeLimits,
-        now: u64,
+        at: &At,
         event: ConnectorEvent,
     ) -> Result<(), NoMemory>
-        requires time { now < 2 ^ 62 }
-        requires order { MayCome self.old.connector event }
-        ensures { OnOk result (FollowsAtRest limits.now now (λ a. tells_connector a event) out.old self.old out.new self.new) }
+        requires { MayCome self.old.connector event }
+        ensures { OnOk result (FollowsAtRest at.now (λ a. tells_connector a event) out.old self.old out.new self.new) }
     {
         let before = self.connector.hub_use();
-        let step = self.told(now, event);
-        self.try_primary(out, alloc, limits, now, &step)?;
-        self.try_failover(out, alloc, limits, now, &step)?;
+        let step = self.told(at.time, event);
+        self.try_primary(out, at, &step)?;
+        self.try_failover(out, at, &step)?;
         self.tell_use(out, before)?;
-        self.drop_failover(out, alloc, now, &step)
+        self.drop_failover(out, at, &step)
     }
 
     /// Whether the hub connection of a side was dropped.
@@ -248,23 +234,15 @@ impl State {
 
     /// A hub connection is over: it is lost where the side was up, and has failed where an attempt at it was under way.
     /// That of a dropped failover is neither.
-    fn end_hub(
-        &mut self,
-        out: &mut Actions,
-        alloc: Global,
-        limits: &NodeLimits,
-        now: u64,
-        side: Side,
-    ) -> Result<(), NoMemory>
-        requires { now < 2 ^ 62 }
-        ensures { OnOk result (FollowsAtRest limits.now now (λ a. ends_hub a side) out.old self.old out.new self.new) }
+    fn end_hub(&mut self, out: &mut Actions, at: &At, side: Side) -> Result<(), NoMemory>
+        ensures { OnOk result (FollowsAtRest at.now (λ a. ends_hub a side) out.old self.old out.new self.new) }
     {
         if self.is_dropped(side) {
             Ok(())
         } else if self.connector.is_up(side) {
-            self.tell_connector(out, alloc, limits, now, ConnectorEvent::Lost(side))
+            self.tell_connector(out, at, ConnectorEvent::Lost(side))
         } else if self.connector.is_under_way(side) {
-            self.tell_connector(out, alloc, limits, now, ConnectorEvent::Failed(side))
+            self.tell_connector(out, at, ConnectorEvent::Failed(side))
         } else {
             Ok(())
         }
@@ -282,7 +260,7 @@ impl State {
 
     /// The link of a slot is over, and the slot is released.
     fn end_slot(&mut self, out: &mut Actions, k: u32) -> Result<(), NoMemory>
-        ensures { OnOk result (Goes (λ a. ends_slot k) out.old self.old out.new self.new) }
+        ensures { OnOk result (FollowsAlways (λ a. ends_slot k) out.old self.old out.new self.new) }
     {
         self.tell_down(out, k)?;
         self.direct.release(k);
@@ -302,36 +280,20 @@ impl State {
     }
 
     /// A link is over: its hub connection has ended, or its slot is released.
-    fn end_by(
-        &mut self,
-        out: &mut Actions,
-        alloc: Global,
-        limits: &NodeLimits,
-        now: u64,
-        name: LinkName,
-    ) -> Result<(), NoMemory>
-        requires { now < 2 ^ 62 }
-        ensures { OnOk result (FollowsAtRest limits.now now (λ a. ends_by a name) out.old self.old out.new self.new) }
+    fn end_by(&mut self, out: &mut Actions, at: &At, name: LinkName) -> Result<(), NoMemory>
+        ensures { OnOk result (FollowsAtRest at.now (λ a. ends_by a name) out.old self.old out.new self.new) }
     {
         match name {
-            LinkName::Hub(side) => self.end_hub(out, alloc, limits, now, side),
+            LinkName::Hub(side) => self.end_hub(out, at, side),
             LinkName::Direct(k) => self.end_slot(out, k),
         }
     }
 
     /// What follows where a link is over.
-    pub(crate) fn end(
-        &mut self,
-        out: &mut Actions,
-        alloc: Global,
-        limits: &NodeLimits,
-        now: u64,
-        name: LinkName,
-    ) -> Result<(), NoMemory>
-        requires { now < 2 ^ 62 }
-        ensures { OnOk result (FollowsAtRest limits.now now (λ a. ends a name) out.old self.old out.new self.new) }
+    pub(crate) fn end(&mut self, out: &mut Actions, at: &At, name: LinkName) -> Result<(), NoMemory>
+        ensures { OnOk result (FollowsAtRest at.now (λ a. ends a name) out.old self.old out.new self.new) }
     {
-        self.end_by(out, alloc, limits, now, name)?;
+        self.end_by(out, at, name)?;
         self.tell_finished(out)
     }
 
@@ -339,95 +301,66 @@ impl State {
     pub(crate) fn close_link(
         &mut self,
         out: &mut Actions,
-        alloc: Global,
-        limits: &NodeLimits,
-        now: u64,
+        at: &At,
         name: LinkName,
         closing: Closing,
     ) -> Result<(), NoMemory>
-        requires { now < 2 ^ 62 }
-        ensures { OnOk result ((b : Base) (L : Log) → b.made.limits ≡ limits.now → b.now ≡ now → b.busy ≡ None → is_name name ≡ true
+        ensures { OnOk result ((b : Base) (L : Log) → IsAtRest at.now b → is_name name ≡ true
             → Stands (busy_with name b) out.old self.old L
             → Stands b out.new self.new (L ++ closes_link b.made name closing L)) }
     {
         self.close(out, name, closing)?;
-        self.end(out, alloc, limits, now, name)
+        self.end(out, at, name)
     }
 
     /// Where a link isn't there any more, it is over.
-    fn end_gone(
-        &mut self,
-        out: &mut Actions,
-        alloc: Global,
-        limits: &NodeLimits,
-        now: u64,
-        name: LinkName,
-    ) -> Result<(), NoMemory>
-        requires { now < 2 ^ 62 }
-        ensures { OnOk result ((b : Base) (L : Log) → b.made.limits ≡ limits.now → b.now ≡ now → b.busy ≡ None → is_name name ≡ true
+    fn end_gone(&mut self, out: &mut Actions, at: &At, name: LinkName) -> Result<(), NoMemory>
+        ensures { OnOk result ((b : Base) (L : Log) → IsAtRest at.now b → is_name name ≡ true
             → Stands b out.old self.old L
             → Stands b out.new self.new (L ++ either (is_there name) nothing (ends b.made name) L)) }
     {
         if self.links.is_there(name) {
             Ok(())
         } else {
-            self.end(out, alloc, limits, now, name)
+            self.end(out, at, name)
         }
     }
 
     /// A link that is there is told to finish, and is over where that closed it.
-    fn finish_there(
-        &mut self,
-        out: &mut Actions,
-        alloc: Global,
-        limits: &NodeLimits,
-        now: u64,
-        name: LinkName,
-    ) -> Result<(), NoMemory>
-        requires { now < 2 ^ 62 }
-        ensures { OnOk result ((b : Base) (L : Log) → b.made.limits ≡ limits.now → b.now ≡ now → b.busy ≡ None → is_name name ≡ true
+    fn finish_there(&mut self, out: &mut Actions, at: &At, name: LinkName) -> Result<(), NoMemory>
+        ensures { OnOk result ((b : Base) (L : Log) → IsAtRest at.now b → is_name name ≡ true
             → Stands b out.old self.old L
             → Stands b out.new self.new (L ++ in_order (finishes_machine b.made name ∷ either (is_there name) nothing (ends b.made name) ∷ []) L)) }
     {
-        self.finish_machine(out, alloc, now, name)?;
-        self.end_gone(out, alloc, limits, now, name)
+        self.finish_machine(out, at, name)?;
+        self.end_gone(out, at, name)
     }
 
     /// The link, where it is there, is told to finish, and is over where that closed it.
     pub(crate) fn finish_link(
         &mut self,
         out: &mut Actions,
-        alloc: Global,
-        limits: &NodeLimits,
-        now: u64,
+        at: &At,
         name: LinkName,
     ) -> Result<(), NoMemory>
-        requires { now < 2 ^ 62 }
-        ensures { OnOk result ((b : Base) (L : Log) → b.made.limits ≡ limits.now → b.now ≡ now → b.busy ≡ None → is_name name ≡ true
+        ensures { OnOk result ((b : Base) (L : Log) → IsAtRest at.now b → is_name name ≡ true
             → Stands b out.old self.old L
             → Stands b out.new self.new (L ++ finishes_link b.made name L)) }
     {
         if self.links.is_there(name) {
-            self.finish_there(out, alloc, limits, now, name)
+            self.finish_there(out, at, name)
         } else {
             Ok(())
         }
     }
 
     /// The links of all slots are told to finish, in order.
-    pub(crate) fn finish_slots(
-        &mut self,
-        out: &mut Actions,
-        alloc: Global,
-        limits: &NodeLimits,
-        now: u64,
-    ) -> Result<(), NoMemory>
-        requires { now < 2 ^ 62 }
-        ensures { OnOk result (FollowsAtRest limits.now now (λ a. in_order (map (λ k. finishes_link a (LinkName.Direct k)) slots))
+    pub(crate) fn finish_slots(&mut self, out: &mut Actions, at: &At) -> Result<(), NoMemory>
+        ensures { OnOk result (FollowsAtRest at.now (λ a. in_order (map (λ k. finishes_link a (LinkName.Direct k)) slots))
             out.old self.old out.new self.new) }
     {
         for k in 0..SLOTS {
-            self.finish_link(out, alloc, limits, now, LinkName::Direct(k))?;
+            self.finish_link(out, at, LinkName::Direct(k))?;
         }
         Ok(())
     }

@@ -1,5 +1,5 @@
 //! What follows where a dial failed.
-ghost use Rattle.std.specs.Prelude.{◌≡◌, ◌<◌, ◌^◌, ◌∷◌, ◌++◌, [], List, None, true, IfOk, OnOk};
+ghost use Rattle.std.specs.Prelude.{◌≡◌, ◌<◌, ◌∷◌, ◌++◌, [], List, true, IfOk, OnOk};
 ghost use Rattle.bsc_node.specs.declared.action.Action.{Action};
 ghost use Rattle.bsc_node.specs.declared.link_name.LinkName.{LinkName};
 ghost use Rattle.bsc_node.specs.declared.note.Note.{Note};
@@ -10,12 +10,14 @@ ghost use Rattle.bsc_node.specs.Events.{dial_fails, tries_next};
 ghost use Rattle.bsc_node_core.specs.Tables.{is_name};
 ghost use Rattle.bsc_node_core.specs.Standing.{Base, Stands};
 ghost use Rattle.bsc_node_core.specs.Resolving.{BothStand};
+ghost use Rattle.bsc_node_core.specs.Resting.{IsAtRest};
 
 use crate::acting::tell;
 use crate::actions::Actions;
+use crate::at::At;
 use crate::requesting::learnt_uri;
 use crate::state::State;
-use bsc_node::{LinkName, NodeLimits, Note};
+use bsc_node::{LinkName, Note};
 use bsc_octets::{NoMemory, Octets, Vmac};
 use bsc_resolve::Resolve;
 use std::alloc::Global;
@@ -55,18 +57,15 @@ fn tell_none(out: &mut Actions, k: u32, whom: Option<Vmac>) -> Result<(), NoMemo
 fn give_up(
     state: &mut State,
     out: &mut Actions,
-    alloc: Global,
-    limits: &NodeLimits,
-    now: u64,
+    at: &At,
     k: u32,
     whom: Option<Vmac>,
 ) -> Result<(), NoMemory>
-    requires { now < 2 ^ 62 }
-    ensures { OnOk result ((b : Base) (L : Log) → b.made.limits ≡ limits.now → b.now ≡ now → b.busy ≡ None → wanted k L ≡ whom → Stands b out.old state.old L
+    ensures { OnOk result ((b : Base) (L : Log) → IsAtRest at.now b → wanted k L ≡ whom → Stands b out.old state.old L
         → Stands b out.new state.new (L ++ in_order (where_found (wanted k) (λ v. tells (Note.NoDirect v)) nothing ∷ ends b.made (LinkName.Direct k) ∷ []) L)) }
 {
     tell_none(out, k, whom)?;
-    state.end(out, alloc, limits, now, LinkName::Direct(k))
+    state.end(out, at, LinkName::Direct(k))
 }
 
 /// A slot whose dial failed dials the next URI, or is released.
@@ -74,19 +73,16 @@ fn try_next(
     state: &mut State,
     out: &mut Actions,
     resolve: &Resolve,
-    alloc: Global,
-    limits: &NodeLimits,
-    now: u64,
+    at: &At,
     k: u32,
 ) -> Result<(), NoMemory>
-    requires { now < 2 ^ 62 }
-    ensures { OnOk result ((b : Base) (L : Log) → b.made.limits ≡ limits.now → b.now ≡ now → b.busy ≡ None → k < 64
+    ensures { OnOk result ((b : Base) (L : Log) → IsAtRest at.now b → k < 64
         → BothStand b out.old state.old resolve.now L → BothStand b out.new state.new resolve.now (L ++ tries_next b.made k L)) }
 {
     let whom = state.direct.wanted(k);
-    match next_uri(state, resolve, alloc, k, whom)? {
-        Some(uri) => state.dial(out, limits.times, now, LinkName::Direct(k), uri),
-        None => give_up(state, out, alloc, limits, now, k, whom),
+    match next_uri(state, resolve, at.alloc, k, whom)? {
+        Some(uri) => state.dial(out, at.limits.times, at.time, LinkName::Direct(k), uri),
+        None => give_up(state, out, at, k, whom),
     }
 }
 
@@ -95,17 +91,14 @@ pub(crate) fn fail_dial(
     state: &mut State,
     out: &mut Actions,
     resolve: &Resolve,
-    alloc: Global,
-    limits: &NodeLimits,
-    now: u64,
+    at: &At,
     name: LinkName,
 ) -> Result<(), NoMemory>
-    requires { now < 2 ^ 62 }
-    ensures { OnOk result ((b : Base) (L : Log) → b.made.limits ≡ limits.now → b.now ≡ now → b.busy ≡ None → is_name name ≡ true
+    ensures { OnOk result ((b : Base) (L : Log) → IsAtRest at.now b → is_name name ≡ true
         → BothStand b out.old state.old resolve.now L → BothStand b out.new state.new resolve.now (L ++ dial_fails b.made name L)) }
 {
     match name {
-        LinkName::Hub(_) => state.end(out, alloc, limits, now, name),
-        LinkName::Direct(k) => try_next(state, out, resolve, alloc, limits, now, k),
+        LinkName::Hub(_) => state.end(out, at, name),
+        LinkName::Direct(k) => try_next(state, out, resolve, at, k),
     }
 }

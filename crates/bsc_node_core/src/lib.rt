@@ -7,6 +7,7 @@
 
 mod acting;
 mod actions;
+mod at;
 mod calls;
 mod deed;
 mod ending;

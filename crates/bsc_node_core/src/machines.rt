@@ -12,9 +12,8 @@ ghost use Rattle.bsc_initiate.specs.declared.initiating.Initiating.{Initiating};
 ghost use Rattle.bsc_initiate.specs.Standing.{Answers as AnswersInitiating, AwaitsWebsocket, IsOpen as IsOpenInitiating, LeftBy as LeavesInitiating};
 ghost use Rattle.bsc_node.specs.declared.action.Action.{Action};
 ghost use Rattle.bsc_node.specs.Logs.{Log, accepting, initiating};
-ghost use Rattle.bsc_node.specs.Links.{accepting_events, finishes, hears, is_there, opens, origin_of, ticks};
+ghost use Rattle.bsc_node.specs.Links.{accepting_events, finishes, hears, is_there, opens, origin_of, ticks, is_in_connected};
 ghost use Rattle.bsc_node.specs.Links as Links;
-ghost use Rattle.bsc_node.specs.Soundness.{is_in_connected};
 ghost use Rattle.bsc_node.specs.Conditions.{is_dialling, is_open};
 ghost use Rattle.bsc_node_core.specs.declared.machine.Machine.{Machine};
 ghost use Rattle.bsc_node_core.specs.Machines.{may_tell_dialled, may_tell_taken, phase_kept, taken_in};
@@ -28,11 +27,10 @@ use crate::link::Link;
 use crate::machine::Machine;
 use crate::state::State;
 use bsc_accept::{Accepting, Step};
-use bsc_checks::{Message, Phase, Place, Verdict};
+use bsc_checks::{Message, Phase, Place, Verdict, judge};
 use bsc_initiate::{InitStep, Initiating};
 use bsc_node::LinkName;
 use bsc_octets::{Identity, NoMemory, Vmac};
-use bsc_verdict::judged;
 use std::alloc::Global;
 
 /// The phase of a link. (No message comes before the WebSocket has opened.)
@@ -308,7 +306,8 @@ impl State {
             → (link_at self.old.links name).machine ≡ Machine.Dialled machine → is_name name ≡ true
             → may_tell_dialled machine.stage (InitEvent.Message now verdict.now) ≡ true
             → Stands (busy_with name b) out self.old L
-            → HasTold b out self.new (L ++ initiating name (InitEvent.Message now verdict.now) ∷ []) name (outcome_of (origin_in verdict.now) (message_in verdict.now) d)) }
+            → HasTold b out self.new (L ++ initiating name (InitEvent.Message now verdict.now) ∷ []) name
+            (outcome_of (origin_in verdict.now) (message_in verdict.now) d)) }
     {
         let mut machine = machine;
         let step = machine.message(now, verdict);
@@ -327,7 +326,8 @@ impl State {
         requires { IsOpenAccepting machine }
         ensures { IfOk result (λ d. (b : Base) (out : List Action) (L : Log)
             → (link_at self.old.links name).machine ≡ Machine.Taken machine → is_name name ≡ true → Stands (busy_with name b) out self.old L
-            → HasTold b out self.new (L ++ accepting name (Event.Message now verdict.now) ∷ []) name (outcome_of (origin_in verdict.now) (message_in verdict.now) d)) }
+            → HasTold b out self.new (L ++ accepting name (Event.Message now verdict.now) ∷ []) name
+            (outcome_of (origin_in verdict.now) (message_in verdict.now) d)) }
     {
         let mut machine = machine;
         let connected = is_in_connected(machine.phase());
@@ -346,7 +346,7 @@ impl State {
             → is_open name L ≡ true → Stands b out self.now L → Links.verdict b.made L name octets.now ≡ found) }
     {
         let place = place_of(self.own.vmac, name, &self.links.get(name));
-        judged(alloc, octets, &place, self.own.max_bvlc)
+        judge(alloc, octets, &place, self.own.max_bvlc)
     }
 
     /// The machine of a link that is open gets a message, with its verdict. What its step is to the node.

@@ -1,5 +1,5 @@
 //! What follows where a peer has named itself or has refused, and where a VMAC is drawn anew.
-ghost use Rattle.std.specs.Prelude.{◌≡◌, ◌≢◌, ◌<◌, ◌^◌, ◌==◌, ◌&&◌, ◌++◌, nat_lt, not, ℕ, true, false, List, Option, None, OnOk};
+ghost use Rattle.std.specs.Prelude.{◌≡◌, ◌≢◌, ◌<◌, ◌==◌, ◌&&◌, ◌++◌, nat_lt, not, ℕ, true, false, List, Option, None, OnOk};
 ghost use Rattle.bsc_octets.specs.declared.identity.Identity.{Identity};
 ghost use Rattle.bsc_octets.specs.Addresses.{broadcast, same_vmac};
 ghost use Rattle.bsc_accept.specs.Standing.{AwaitsAnswer};
@@ -18,10 +18,11 @@ ghost use Rattle.bsc_node_core.specs.declared.machine.Machine.{Machine};
 ghost use Rattle.bsc_node_core.specs.Tables.{is_name, link_at};
 ghost use Rattle.bsc_node_core.specs.Standing.{Base, Stands};
 ghost use Rattle.bsc_node_core.specs.Telling.{HasTold, busy_with};
-ghost use Rattle.bsc_node_core.specs.Resting.{FollowsAtRest};
+ghost use Rattle.bsc_node_core.specs.Resting.{FollowsAtRest, IsAtRest};
 
 use crate::acting::tell;
 use crate::actions::Actions;
+use crate::at::At;
 use crate::deed::Deed;
 use crate::machine::Machine;
 use crate::state::State;
@@ -29,7 +30,7 @@ use bsc_accept::{Accepting, Closing};
 use bsc_connector::{ConnectorEvent, Side};
 use bsc_direct::Establish;
 use bsc_history::Refusal;
-use bsc_node::{Action, LinkName, NodeLimits, Note};
+use bsc_node::{Action, LinkName, Note};
 use bsc_octets::{Identity, NoMemory, Vmac, function, results};
 use std::alloc::Global;
 
@@ -51,36 +52,24 @@ impl State {
     fn finish_replaced(
         &mut self,
         out: &mut Actions,
-        alloc: Global,
-        limits: &NodeLimits,
-        now: u64,
+        at: &At,
         replaced: Option<u32>,
     ) -> Result<(), NoMemory>
-        requires { now < 2 ^ 62 }
-        ensures { OnOk result ((b : Base) (L : Log) → b.made.limits ≡ limits.now → b.now ≡ now → b.busy ≡ None → ((k : ℕ)
+        ensures { OnOk result ((b : Base) (L : Log) → IsAtRest at.now b → ((k : ℕ)
             → replaced ≡ Some k → is_name (LinkName.Direct k) ≡ true)
             → Stands b out.old self.old L → Stands b out.new self.new (L ++ finishes_replaced b.made replaced L)) }
     {
         match replaced {
-            Some(k) => self.finish_link(out, alloc, limits, now, LinkName::Direct(k)),
+            Some(k) => self.finish_link(out, at, LinkName::Direct(k)),
             None => Ok(()),
         }
     }
 
     /// A direct connection is established; the slot that it replaced is told to finish.
-    fn come_up(
-        &mut self,
-        out: &mut Actions,
-        alloc: Global,
-        limits: &NodeLimits,
-        now: u64,
-        k: u32,
-        who: Identity,
-    ) -> Result<(), NoMemory>
-        requires time { now < 2 ^ 62 }
+    fn come_up(&mut self, out: &mut Actions, at: &At, k: u32, who: Identity) -> Result<(), NoMemory>
         requires claimed { IsOnlyClaimed self.old.direct k }
         requires unicast { who.vmac ≢ broadcast }
-        ensures { OnOk result ((b : Base) (L : Log) (replaced : Option ℕ) → b.made.limits ≡ limits.now → b.now ≡ now → b.busy ≡ None
+        ensures { OnOk result ((b : Base) (L : Log) (replaced : Option ℕ) → IsAtRest at.now b
             → establish b.made k who L ≡ Establish.Up replaced
             → Stands b out.old self.old L → Stands b out.new self.new (L ++ comes_up b.made k who replaced L)) }
     {
@@ -90,7 +79,7 @@ impl State {
         self.direct_touched = true;
         tell(out, Note::DirectUp(vmac))?;
         match answer {
-            Establish::Up { replaced } => self.finish_replaced(out, alloc, limits, now, replaced),
+            Establish::Up { replaced } => self.finish_replaced(out, at, replaced),
             Establish::Duplicate { .. } | Establish::WrongPeer { .. } => Ok(()),
         }
     }
@@ -99,25 +88,20 @@ impl State {
     fn meet_dialled(
         &mut self,
         out: &mut Actions,
-        alloc: Global,
-        limits: &NodeLimits,
-        now: u64,
+        at: &At,
         k: u32,
         who: Identity,
     ) -> Result<(), NoMemory>
-        requires time { now < 2 ^ 62 }
         requires claimed { IsOnlyClaimed self.old.direct k }
         requires unicast { who.vmac ≢ broadcast }
-        ensures { OnOk result ((b : Base) (L : Log) → b.made.limits ≡ limits.now → b.now ≡ now → b.busy ≡ None
+        ensures { OnOk result ((b : Base) (L : Log) → IsAtRest at.now b
             → Stands b out.old self.old L → Stands b out.new self.new (L ++ meets_dialled b.made k who (establish b.made k who L) L)) }
     {
         match self.direct.establishes(self.own.vmac, k, &who) {
-            Establish::Up { .. } => self.come_up(out, alloc, limits, now, k, who),
+            Establish::Up { .. } => self.come_up(out, at, k, who),
             Establish::Duplicate { .. } | Establish::WrongPeer { .. } => self.close_link(
                 out,
-                alloc,
-                limits,
-                now,
+                at,
                 LinkName::Direct(k),
                 Closing::WRONG_PEER,
             ),
@@ -171,30 +155,27 @@ impl State {
     fn meet_taken(
         &mut self,
         out: &mut Actions,
-        alloc: Global,
-        limits: &NodeLimits,
-        now: u64,
+        at: &At,
         k: u32,
         machine: Accepting,
         who: Identity,
     ) -> Result<(), NoMemory>
-        requires time { now < 2 ^ 62 }
         requires asked { AwaitsAnswer machine }
         requires claimed { IsOnlyClaimed self.old.direct k }
         requires unicast { who.vmac ≢ broadcast }
-        ensures { OnOk result ((b : Base) (L : Log) → b.made.limits ≡ limits.now → b.now ≡ now → b.busy ≡ None
+        ensures { OnOk result ((b : Base) (L : Log) → IsAtRest at.now b
             → (link_at self.old.links (LinkName.Direct k)).machine ≡ Machine.Asked machine
             → Stands (busy_with (LinkName.Direct k) b) out.old self.old L
             → Stands b out.new self.new (L ++ meets_taken b.made k who (establish b.made k who L) L)) }
     {
         match self.direct.establishes(self.own.vmac, k, &who) {
             Establish::Up { .. } => {
-                self.join(out, alloc, k, machine)?;
-                self.come_up(out, alloc, limits, now, k, who)
+                self.join(out, at.alloc, k, machine)?;
+                self.come_up(out, at, k, who)
             }
             Establish::Duplicate { .. } | Establish::WrongPeer { .. } => {
-                self.refuse(out, alloc, k, machine)?;
-                self.end(out, alloc, limits, now, LinkName::Direct(k))
+                self.refuse(out, at.alloc, k, machine)?;
+                self.end(out, at, LinkName::Direct(k))
             }
         }
     }
@@ -203,24 +184,21 @@ impl State {
     fn meet_slot(
         &mut self,
         out: &mut Actions,
-        alloc: Global,
-        limits: &NodeLimits,
-        now: u64,
+        at: &At,
         k: u32,
         who: Identity,
     ) -> Result<(), NoMemory>
-        requires time { now < 2 ^ 62 }
-        requires claimed { IsOnlyClaimed self.old.direct k }
-        ensures { OnOk result ((b : Base) (L : Log) → b.made.limits ≡ limits.now → b.now ≡ now → b.busy ≡ None → same_vmac who.vmac broadcast ≡ false
+        requires { IsOnlyClaimed self.old.direct k }
+        ensures { OnOk result ((b : Base) (L : Log) → IsAtRest at.now b → same_vmac who.vmac broadcast ≡ false
             → HasTold b out.old self.old L (LinkName.Direct k) (meets who) → Stands b out.new self.new (L ++ meets_slot b.made k who L)) }
     {
         if who.vmac == Vmac::BROADCAST {
             return Ok(());
         }
         match self.links.get(LinkName::Direct(k)).machine {
-            Machine::Asked(machine) => { self.meet_taken(out, alloc, limits, now, k, machine, who) }
+            Machine::Asked(machine) => { self.meet_taken(out, at, k, machine, who) }
             Machine::Gone | Machine::Over | Machine::Dialled(_) | Machine::Taken(_) => {
-                self.meet_dialled(out, alloc, limits, now, k, who)
+                self.meet_dialled(out, at, k, who)
             }
         }
     }
@@ -229,46 +207,28 @@ impl State {
     fn meet_direct(
         &mut self,
         out: &mut Actions,
-        alloc: Global,
-        limits: &NodeLimits,
-        now: u64,
+        at: &At,
         k: u32,
         who: Identity,
     ) -> Result<(), NoMemory>
-        requires { now < 2 ^ 62 }
-        ensures { OnOk result ((b : Base) (L : Log) → b.made.limits ≡ limits.now → b.now ≡ now → b.busy ≡ None
+        ensures { OnOk result ((b : Base) (L : Log) → IsAtRest at.now b
             → is_name (LinkName.Direct k) ≡ true → same_vmac who.vmac broadcast ≡ false
             → HasTold b out.old self.old L (LinkName.Direct k) (meets who) → Stands b out.new self.new (L ++ meets_direct b.made k who L)) }
     {
         if self.direct.awaits_peer(k) {
-            self.meet_slot(out, alloc, limits, now, k, who)
+            self.meet_slot(out, at, k, who)
         } else {
-            self.close_link(
-                out,
-                alloc,
-                limits,
-                now,
-                LinkName::Direct(k),
-                Closing::WRONG_PEER,
-            )
+            self.close_link(out, at, LinkName::Direct(k), Closing::WRONG_PEER)
         }
     }
 
     /// The hub of a side has accepted.
-    fn meet_hub(
-        &mut self,
-        out: &mut Actions,
-        alloc: Global,
-        limits: &NodeLimits,
-        now: u64,
-        side: Side,
-    ) -> Result<(), NoMemory>
-        requires { now < 2 ^ 62 }
-        ensures { OnOk result ((b : Base) (L : Log) (who : Identity) → b.made.limits ≡ limits.now → b.now ≡ now → b.busy ≡ None
+    fn meet_hub(&mut self, out: &mut Actions, at: &At, side: Side) -> Result<(), NoMemory>
+        ensures { OnOk result ((b : Base) (L : Log) (who : Identity) → IsAtRest at.now b
             → HasTold b out.old self.old L (LinkName.Hub side) (meets who) → Stands b out.new self.new (L ++ meets_peer b.made (LinkName.Hub side) who L)) }
     {
         if self.connector.is_under_way(side) {
-            self.tell_connector(out, alloc, limits, now, ConnectorEvent::Connected(side))
+            self.tell_connector(out, at, ConnectorEvent::Connected(side))
         } else {
             Ok(())
         }
@@ -278,20 +238,17 @@ impl State {
     pub(crate) fn meet_peer(
         &mut self,
         out: &mut Actions,
-        alloc: Global,
-        limits: &NodeLimits,
-        now: u64,
+        at: &At,
         name: LinkName,
         who: Identity,
     ) -> Result<(), NoMemory>
-        requires { now < 2 ^ 62 }
-        ensures { OnOk result ((b : Base) (L : Log) → b.made.limits ≡ limits.now → b.now ≡ now → b.busy ≡ None → is_name name ≡ true
+        ensures { OnOk result ((b : Base) (L : Log) → IsAtRest at.now b → is_name name ≡ true
             → same_vmac who.vmac broadcast ≡ false
             → HasTold b out.old self.old L name (meets who) → Stands b out.new self.new (L ++ meets_peer b.made name who L)) }
     {
         match name {
-            LinkName::Hub(side) => self.meet_hub(out, alloc, limits, now, side),
-            LinkName::Direct(k) => self.meet_direct(out, alloc, limits, now, k, who),
+            LinkName::Hub(side) => self.meet_hub(out, at, side),
+            LinkName::Direct(k) => self.meet_direct(out, at, k, who),
         }
     }
 
@@ -331,15 +288,12 @@ impl State {
     pub(crate) fn be_refused(
         &mut self,
         out: &mut Actions,
-        alloc: Global,
-        limits: &NodeLimits,
-        now: u64,
+        at: &At,
         name: LinkName,
         origin: Option<Vmac>,
         code: u16,
     ) -> Result<(), NoMemory>
-        requires { now < 2 ^ 62 }
-        ensures { OnOk result ((b : Base) (L : Log) → b.made.limits ≡ limits.now → b.now ≡ now → b.busy ≡ None → is_name name ≡ true
+        ensures { OnOk result ((b : Base) (L : Log) → IsAtRest at.now b → is_name name ≡ true
             → Stands (busy_with name b) out.old self.old L → Stands b out.new self.new (L ++ is_refused_by b.made name origin code L)) }
     {
         self.close(out, name, Closing::NORMAL)?;
@@ -355,23 +309,16 @@ impl State {
         if self.may_draw(name, code) {
             out.push(Action::Draw)
         } else {
-            self.end(out, alloc, limits, now, name)
+            self.end(out, at, name)
         }
     }
 
     /// The link of the hub whose refusal the drawn word answers is over now.
-    pub(crate) fn end_refused(
-        &mut self,
-        out: &mut Actions,
-        alloc: Global,
-        limits: &NodeLimits,
-        now: u64,
-    ) -> Result<(), NoMemory>
-        requires { now < 2 ^ 62 }
-        ensures { OnOk result (FollowsAtRest limits.now now (λ a. ends_refused a) out.old self.old out.new self.new) }
+    pub(crate) fn end_refused(&mut self, out: &mut Actions, at: &At) -> Result<(), NoMemory>
+        ensures { OnOk result (FollowsAtRest at.now (λ a. ends_refused a) out.old self.old out.new self.new) }
     {
         match self.newest_hub {
-            Some(side) => self.end(out, alloc, limits, now, LinkName::Hub(side)),
+            Some(side) => self.end(out, at, LinkName::Hub(side)),
             None => Ok(()),
         }
     }

@@ -1,5 +1,5 @@
 //! What follows from a step of a link's machine.
-ghost use Rattle.std.specs.Prelude.{◌≡◌, ◌<◌, ◌^◌, ◌∷◌, ◌++◌, [], map, true, false, Option, None, OnOk};
+ghost use Rattle.std.specs.Prelude.{◌≡◌, ◌∷◌, ◌++◌, [], map, true, false, Option, None, OnOk};
 ghost use Rattle.bsc_octets.specs.declared.identity.Identity.{Identity};
 ghost use Rattle.bsc_octets.specs.Addresses.{broadcast, same_vmac};
 ghost use Rattle.bsc_frame.specs.declared.message.Message.{Message};
@@ -12,32 +12,29 @@ ghost use Rattle.bsc_node.specs.Events.{obeys, ticks_link};
 ghost use Rattle.bsc_node_core.specs.declared.deed.Deed.{Deed};
 ghost use Rattle.bsc_node_core.specs.Tables.{is_name};
 ghost use Rattle.bsc_node_core.specs.Rules.{outcome_of};
-ghost use Rattle.bsc_node_core.specs.Resting.{FollowsAtRest};
+ghost use Rattle.bsc_node_core.specs.Resting.{FollowsAtRest, IsAtRest};
 ghost use Rattle.bsc_node_core.specs.Standing.{Base, Stands};
 ghost use Rattle.bsc_node_core.specs.Telling.{HasTold};
 
 use crate::actions::Actions;
+use crate::at::At;
 use crate::deed::Deed;
 use crate::links::SLOTS;
 use crate::state::State;
-use bsc_node::{LinkName, NodeLimits};
+use bsc_node::LinkName;
 use bsc_octets::{NoMemory, Vmac};
-use std::alloc::Global;
 
 impl State {
     /// What follows from a step that passes no message up: what it puts and closes, and then what that brings about.
     pub(crate) fn obey(
         &mut self,
         out: &mut Actions,
-        alloc: Global,
-        limits: &NodeLimits,
-        now: u64,
+        at: &At,
         name: LinkName,
         origin: Option<Vmac>,
         deed: Deed,
     ) -> Result<(), NoMemory>
-        requires { now < 2 ^ 62 }
-        ensures { OnOk result ((b : Base) (L : Log) (msg : Option Message) → b.made.limits ≡ limits.now → b.now ≡ now → b.busy ≡ None → is_name name ≡ true
+        ensures { OnOk result ((b : Base) (L : Log) (msg : Option Message) → IsAtRest at.now b → is_name name ≡ true
             → ((who : Identity) → outcome b.made L name ≡ meets who → same_vmac who.vmac broadcast ≡ false) → (deed ≡ Deed.PassesUp → msg ≡ None)
             → HasTold b out.old self.old L name (outcome_of origin msg deed) → Stands b out.new self.new (L ++ obeys b.made name L)) }
     {
@@ -45,11 +42,11 @@ impl State {
             Deed::Puts(octets) => self.put(out, name, octets),
             Deed::PutsAndCloses(octets, closing) => {
                 self.put(out, name, octets)?;
-                self.close_link(out, alloc, limits, now, name, closing)
+                self.close_link(out, at, name, closing)
             }
-            Deed::Closes(closing) => self.close_link(out, alloc, limits, now, name, closing),
-            Deed::Meets(who) => self.meet_peer(out, alloc, limits, now, name, who),
-            Deed::IsRefused(code) => self.be_refused(out, alloc, limits, now, name, origin, code),
+            Deed::Closes(closing) => self.close_link(out, at, name, closing),
+            Deed::Meets(who) => self.meet_peer(out, at, name, who),
+            Deed::IsRefused(code) => self.be_refused(out, at, name, origin, code),
             Deed::PassesUp | Deed::KeepsStill => Ok(()),
         }
     }
@@ -58,56 +55,43 @@ impl State {
     pub(crate) fn open(
         &mut self,
         out: &mut Actions,
-        alloc: Global,
-        limits: &NodeLimits,
-        now: u64,
+        at: &At,
         name: LinkName,
     ) -> Result<(), NoMemory>
-        requires { now < 2 ^ 62 }
-        ensures { OnOk result ((b : Base) (L : Log) → b.made.limits ≡ limits.now → b.now ≡ now → b.busy ≡ None → is_name name ≡ true
+        ensures { OnOk result ((b : Base) (L : Log) → IsAtRest at.now b → is_name name ≡ true
             → is_dialling name L ≡ true → Stands b out.old self.old L
             → Stands b out.new self.new (L ++ in_order (opens name ∷ obeys b.made name ∷ []) L)) }
     {
-        let deed = self.opens(alloc, now, name)?;
-        self.obey(out, alloc, limits, now, name, None, deed)
+        let deed = self.opens(at.alloc, at.time, name)?;
+        self.obey(out, at, name, None, deed)
     }
 
     /// The machine of a link that is there is told the time.
     pub(crate) fn tick_link(
         &mut self,
         out: &mut Actions,
-        alloc: Global,
-        limits: &NodeLimits,
-        now: u64,
+        at: &At,
         name: LinkName,
     ) -> Result<(), NoMemory>
-        requires { now < 2 ^ 62 }
-        ensures { OnOk result ((b : Base) (L : Log) → b.made.limits ≡ limits.now → b.now ≡ now → b.busy ≡ None → is_name name ≡ true
+        ensures { OnOk result ((b : Base) (L : Log) → IsAtRest at.now b → is_name name ≡ true
             → Stands b out.old self.old L
             → Stands b out.new self.new (L ++ ticks_link b.made name L)) }
     {
         if self.links.is_there(name) {
-            let deed = self.ticks(alloc, now, name)?;
-            self.obey(out, alloc, limits, now, name, None, deed)
+            let deed = self.ticks(at.alloc, at.time, name)?;
+            self.obey(out, at, name, None, deed)
         } else {
             Ok(())
         }
     }
 
     /// The machines of the links of all slots are told the time, in order.
-    pub(crate) fn tick_slots(
-        &mut self,
-        out: &mut Actions,
-        alloc: Global,
-        limits: &NodeLimits,
-        now: u64,
-    ) -> Result<(), NoMemory>
-        requires { now < 2 ^ 62 }
-        ensures { OnOk result (FollowsAtRest limits.now now (λ a. in_order (map (λ k. ticks_link a (LinkName.Direct k)) slots))
+    pub(crate) fn tick_slots(&mut self, out: &mut Actions, at: &At) -> Result<(), NoMemory>
+        ensures { OnOk result (FollowsAtRest at.now (λ a. in_order (map (λ k. ticks_link a (LinkName.Direct k)) slots))
             out.old self.old out.new self.new) }
     {
         for k in 0..SLOTS {
-            self.tick_link(out, alloc, limits, now, LinkName::Direct(k))?;
+            self.tick_link(out, at, LinkName::Direct(k))?;
         }
         Ok(())
     }

@@ -16,11 +16,12 @@ ghost use Rattle.bsc_node.specs.declared.link_name.LinkName.{LinkName};
 ghost use Rattle.bsc_node.specs.Logs.{Log, nothing, tells, with_some};
 ghost use Rattle.bsc_node_core.specs.declared.state.State.{State};
 ghost use Rattle.bsc_node_core.specs.Tables.{is_name};
-ghost use Rattle.bsc_node_core.specs.Standing.{Base, Goes, Stands};
+ghost use Rattle.bsc_node_core.specs.Standing.{Base, FollowsAlways, Stands};
 ghost use Rattle.bsc_node_core.specs.Resolving.{BothStand};
 
 use crate::acting::tell;
 use crate::actions::Actions;
+use crate::at::At;
 use crate::messages::{message_octets, nak};
 use crate::state::State;
 use bsc_connector::HubUse;
@@ -108,7 +109,7 @@ impl State {
     ) -> Result<(), NoMemory>
         requires { IsUtf8 uris.now }
         ensures { OnOk result ((msg : Message) → msg.id ≡ id → answer_dest name msg ≡ dest
-            → Goes (λ a. answers_by name msg (Some uris.now)) out.old self.old out.new self.new) }
+            → FollowsAlways (λ a. answers_by name msg (Some uris.now)) out.old self.old out.new self.new) }
     {
         let body = Body::AddressResolutionAck(uris.copy(alloc)?);
         let octets = message_octets(alloc, id, dest, body)?;
@@ -126,7 +127,7 @@ impl State {
         for_all: bool,
     ) -> Result<(), NoMemory>
         ensures { OnOk result ((msg : Message) → msg.id ≡ id → answer_dest name msg ≡ dest → is_for_all msg ≡ for_all
-            → Goes (λ a. answers_by name msg None) out.old self.old out.new self.new) }
+            → FollowsAlways (λ a. answers_by name msg None) out.old self.old out.new self.new) }
     {
         if for_all {
             return Ok(());
@@ -140,20 +141,19 @@ impl State {
     fn answer_question(
         &mut self,
         out: &mut Actions,
-        alloc: Global,
-        limits: &NodeLimits,
+        at: &At,
         name: LinkName,
         id: u16,
         dest: Option<Vmac>,
         for_all: bool,
     ) -> Result<(), NoMemory>
-        requires { IfSome limits.now.uris IsUtf8 }
+        requires { IfSome at.now.limits.now.uris IsUtf8 }
         ensures { OnOk result ((msg : Message) → msg.id ≡ id → answer_dest name msg ≡ dest → is_for_all msg ≡ for_all
-            → Goes (λ a. answers_by name msg limits.now.uris) out.old self.old out.new self.new) }
+            → FollowsAlways (λ a. answers_by name msg at.now.limits.now.uris) out.old self.old out.new self.new) }
     {
-        match &limits.uris {
-            Some(uris) => self.answer_uris(out, alloc, uris, name, id, dest),
-            None => self.answer_nak(out, alloc, name, id, dest, for_all),
+        match &at.limits.uris {
+            Some(uris) => self.answer_uris(out, at.alloc, uris, name, id, dest),
+            None => self.answer_nak(out, at.alloc, name, id, dest, for_all),
         }
     }
 
@@ -175,16 +175,15 @@ impl State {
     fn advertise(
         &mut self,
         out: &mut Actions,
-        alloc: Global,
-        limits: &NodeLimits,
+        at: &At,
         name: LinkName,
         dest: Option<Vmac>,
     ) -> Result<(), NoMemory>
-        ensures { OnOk result ((b : Base) (L : Log) (msg : Message) → b.made.limits ≡ limits.now → answer_dest name msg ≡ dest
+        ensures { OnOk result ((b : Base) (L : Log) (msg : Message) → b.made.limits ≡ at.now.limits.now → answer_dest name msg ≡ dest
             → Stands b out.old self.old L → Stands b out.new self.new (L ++ advertises b.made name msg L)) }
     {
-        let body = Body::Advertisement(self.advert(limits));
-        let octets = message_octets(alloc, self.next, dest, body)?;
+        let body = Body::Advertisement(self.advert(at.limits));
+        let octets = message_octets(at.alloc, self.next, dest, body)?;
         self.put(out, name, octets)
     }
 }
@@ -333,13 +332,12 @@ pub(crate) fn take_up(
     state: &mut State,
     out: &mut Actions,
     resolve: &mut Resolve,
-    alloc: Global,
-    limits: &NodeLimits,
+    at: &At,
     name: LinkName,
     message: Message,
 ) -> Result<(), NoMemory>
-    requires { IfSome limits.now.uris IsUtf8 }
-    ensures goes { OnOk result ((b : Base) (L : Log) → b.made.limits ≡ limits.now → is_name name ≡ true
+    requires { IfSome at.now.limits.now.uris IsUtf8 }
+    ensures goes { OnOk result ((b : Base) (L : Log) → b.made.limits ≡ at.now.limits.now → is_name name ≡ true
         → BothStand b out.old state.old resolve.old L → BothStand b out.new state.new resolve.new (L ++ takes_up b.made name message L)) }
     ensures err { OnErr result (IsUnchanged resolve.old resolve.new) }
 {
@@ -357,12 +355,10 @@ pub(crate) fn take_up(
     match body {
         Body::BvlcResult(answer) => take_answer(out, resolve, from, id, &answer),
         Body::Npdu(npdu) => deliver(out, from, for_all, data_options, npdu),
-        Body::AddressResolution => {
-            state.answer_question(out, alloc, limits, name, id, dest, for_all)
-        }
-        Body::AddressResolutionAck(uris) => learn_from(out, resolve, alloc, from, id, uris),
+        Body::AddressResolution => { state.answer_question(out, at, name, id, dest, for_all) }
+        Body::AddressResolutionAck(uris) => learn_from(out, resolve, at.alloc, from, id, uris),
         Body::Advertisement(told) => tell_advert(out, from, told),
-        Body::AdvertisementSolicitation => state.advertise(out, alloc, limits, name, dest),
+        Body::AdvertisementSolicitation => state.advertise(out, at, name, dest),
         Body::ConnectRequest(_)
         | Body::ConnectAccept(_)
         | Body::DisconnectRequest

@@ -8,11 +8,12 @@ ghost use Rattle.bsc_node.specs.Logs.{Log};
 ghost use Rattle.bsc_node.specs.Ways.{established, free_slot, learnt, resolve_calls, uris_to_dial, way};
 ghost use Rattle.bsc_node.specs.Requesting.{directs, puts_own, resolves, sends, solicits, takes_it};
 ghost use Rattle.bsc_node_core.specs.Rules.{way_by, way_of};
-ghost use Rattle.bsc_node_core.specs.Standing.{Base, Goes, Stands};
+ghost use Rattle.bsc_node_core.specs.Standing.{Base, FollowsAlways, Stands};
 ghost use Rattle.bsc_node_core.specs.Resolving.{BothStand};
 
 use crate::acting::tell;
 use crate::actions::Actions;
+use crate::at::At;
 use crate::messages::message_octets;
 use crate::state::State;
 use crate::uris::uri_to_dial;
@@ -20,7 +21,7 @@ use crate::way::Way;
 use bsc_connector::{HubUse, Side};
 use bsc_direct::{Route, route};
 use bsc_frame::Body;
-use bsc_node::{Action, LinkName, NodeLimits, Note};
+use bsc_node::{Action, LinkName, Note};
 use bsc_octets::{Identity, NoMemory, Octets, Vmac};
 use bsc_resolve::{AskRefusal, Resolve};
 use std::alloc::Global;
@@ -77,7 +78,7 @@ impl State {
         npdu: &Octets,
     ) -> Result<(), NoMemory>
         requires { 0 < length npdu.now }
-        ensures { OnOk result (Goes (λ a. sends v npdu.now) out.old self.old out.new self.new) }
+        ensures { OnOk result (FollowsAlways (λ a. sends v npdu.now) out.old self.old out.new self.new) }
     {
         match self.way(v) {
             None => tell(out, Note::NoPath(v)),
@@ -115,7 +116,7 @@ impl State {
         alloc: Global,
         v: Vmac,
     ) -> Result<(), NoMemory>
-        ensures { OnOk result (Goes (λ a. solicits v) out.old self.old out.new self.new) }
+        ensures { OnOk result (FollowsAlways (λ a. solicits v) out.old self.old out.new self.new) }
     {
         match self.way(v) {
             None => tell(out, Note::NoPath(v)),
@@ -125,7 +126,7 @@ impl State {
 
     /// A solicitation of an Advertisement goes this way.
     fn solicit_by(&mut self, out: &mut Actions, alloc: Global, by: Way) -> Result<(), NoMemory>
-        ensures { OnOk result (Goes (λ a. puts_own (way_of by) Body.AdvertisementSolicitation) out.old self.old out.new self.new) }
+        ensures { OnOk result (FollowsAlways (λ a. puts_own (way_of by) Body.AdvertisementSolicitation) out.old self.old out.new self.new) }
     {
         let body = Body::AdvertisementSolicitation;
         let octets = message_octets(alloc, self.next, by.dest, body)?;
@@ -138,18 +139,17 @@ fn ask(
     state: &mut State,
     out: &mut Actions,
     resolve: &mut Resolve,
-    alloc: Global,
-    now: u64,
+    at: &At,
     v: Vmac,
     by: Way,
 ) -> Result<(), NoMemory>
-    ensures goes { OnOk result ((b : Base) (L : Log) → b.now ≡ now → way v L ≡ Some (way_of by)
+    ensures goes { OnOk result ((b : Base) (L : Log) → b.now ≡ at.now.time → way v L ≡ Some (way_of by)
         → BothStand b out.old state.old resolve.old L → BothStand b out.new state.new resolve.new (L ++ resolves b.made v L)) }
     ensures err { OnErr result (IsUnchanged resolve.old resolve.new) }
 {
-    let octets = message_octets(alloc, state.next, by.dest, Body::AddressResolution)?;
+    let octets = message_octets(at.alloc, state.next, by.dest, Body::AddressResolution)?;
     out.push(Action::Put(by.link, octets))?;
-    match resolve.ask(now, state.next, v) {
+    match resolve.ask(at.time, state.next, v) {
         Ok(()) => {
             state.count();
             Ok(())
@@ -171,17 +171,16 @@ pub(crate) fn resolve_vmac(
     state: &mut State,
     out: &mut Actions,
     resolve: &mut Resolve,
-    alloc: Global,
-    now: u64,
+    at: &At,
     v: Vmac,
 ) -> Result<(), NoMemory>
-    ensures goes { OnOk result ((b : Base) (L : Log) → b.now ≡ now
+    ensures goes { OnOk result ((b : Base) (L : Log) → b.now ≡ at.now.time
         → BothStand b out.old state.old resolve.old L → BothStand b out.new state.new resolve.new (L ++ resolves b.made v L)) }
     ensures err { OnErr result (IsUnchanged resolve.old resolve.new) }
 {
     match state.way(v) {
         None => tell(out, Note::NoPath(v)),
-        Some(way) => ask(state, out, resolve, alloc, now, v, way),
+        Some(way) => ask(state, out, resolve, at, v, way),
     }
 }
 
@@ -209,22 +208,20 @@ fn dial_first(
     state: &mut State,
     out: &mut Actions,
     resolve: &Resolve,
-    alloc: Global,
-    limits: &NodeLimits,
-    now: u64,
+    at: &At,
     v: Vmac,
 ) -> Result<(), NoMemory>
-    ensures { OnOk result ((b : Base) (L : Log) (text : List ℕ) (free : ℕ) → b.made.limits ≡ limits.now → b.now ≡ now
+    ensures { OnOk result ((b : Base) (L : Log) (text : List ℕ) (free : ℕ) → b.made.limits ≡ at.now.limits.now → b.now ≡ at.now.time
         → established v L ≡ None → learnt v L ≡ Some text → free_slot L ≡ Some free
         → BothStand b out.old state.old resolve.now L → BothStand b out.new state.new resolve.now (L ++ directs v L)) }
 {
-    match learnt_uri(alloc, resolve, v, 0)? {
+    match learnt_uri(at.alloc, resolve, v, 0)? {
         None => tell(out, Note::NoDirect(v)),
         Some(uri) => match state.direct.claim(Some(v)) {
             Ok(k) => {
                 state.direct_touched = true;
                 state.links.claim(k);
-                state.dial(out, limits.times, now, LinkName::Direct(k), uri)
+                state.dial(out, at.limits.times, at.time, LinkName::Direct(k), uri)
             }
             Err(_) => tell(out, Note::SlotsFull),
         },
@@ -237,12 +234,10 @@ pub(crate) fn connect_to(
     state: &mut State,
     out: &mut Actions,
     resolve: &Resolve,
-    alloc: Global,
-    limits: &NodeLimits,
-    now: u64,
+    at: &At,
     v: Vmac,
 ) -> Result<(), NoMemory>
-    ensures { OnOk result ((b : Base) (L : Log) → b.made.limits ≡ limits.now → b.now ≡ now
+    ensures { OnOk result ((b : Base) (L : Log) → b.made.limits ≡ at.now.limits.now → b.now ≡ at.now.time
         → BothStand b out.old state.old resolve.now L → BothStand b out.new state.new resolve.now (L ++ directs v L)) }
 {
     match state.direct.established(v) {
@@ -251,7 +246,7 @@ pub(crate) fn connect_to(
             None => tell(out, Note::NoUris(v)),
             Some(_) => match state.direct.free() {
                 None => tell(out, Note::SlotsFull),
-                Some(_) => dial_first(state, out, resolve, alloc, limits, now, v),
+                Some(_) => dial_first(state, out, resolve, at, v),
             },
         },
     }

@@ -14,13 +14,13 @@ use Rattle.bsc_checks.specs.declared.place.Place.{Place}
 use Rattle.bsc_checks.specs.declared.verdict.Verdict.TheVariants.{Pass}
 use Rattle.bsc_checks.specs.Places.{dest_in, is_to_carry}
 use Rattle.bsc_checks.specs.Table.{code_of, checks_of}
-use Rattle.bsc_verdict.specs.Options.{rest_of, data_options_in}
-use Rattle.bsc_verdict.specs.Payloads.{body_in}
-use Rattle.bsc_verdict.proofs.Payloads.{body_again}
+use Rattle.bsc_checks.specs.Options.{rest_of, data_options_in}
+use Rattle.bsc_checks.specs.Payloads.{body_in}
+use Rattle.bsc_checks.proofs.Payloads.{body_again}
 use Rattle.bsc_direct.proofs.OneMore.{both_ways}
-use Rattle.bsc_verdict.specs.Places.{is_unicast, is_response}
-use Rattle.bsc_verdict.specs.Failing.{fails}
-use Rattle.bsc_verdict.specs.Outcomes.{message_in, answered, refused, accepted, decided, first_failing, outcome_of}
+use Rattle.bsc_checks.specs.PlaceTests.{is_unicast, is_response}
+use Rattle.bsc_checks.specs.Failing.{fails}
+use Rattle.bsc_checks.specs.Outcomes.{message_in, answered, refused, accepted, decided, first_failing, outcome_of}
 use Rattle.bsc_node.specs.Messages.{message, message_octets}
 use Rattle.bsc_node_identity.specs.Naming.{named_by, ConnectsNameTheirPeer, OthersNameNobody}
 use Rattle.bsc_node_identity.specs.Carried.{IsCarriedOn, IsCarriedPlainly}

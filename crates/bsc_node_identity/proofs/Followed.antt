@@ -33,7 +33,7 @@ use Rattle.bsc_node.specs.declared.note.Note.TheVariants.{DirectUp, NoDirect, No
 use Rattle.bsc_node.specs.declared.action.Action.TheVariants.{Dial, Take, Refuse, Put, Close, Draw}
 use Rattle.bsc_node.specs.Logs.{Made, came, did, slot, initiating, accepting, resolution, Log, Rule, nothing, in_order, either, where_found, does, tells, now, next_id}
 use Rattle.bsc_node.specs.Links.{is_over_by_event, is_there, was_taken, start, accepting_events, peer, verdict, by_machine, opens, hears, Outcome, puts, meets, is_refused, passes_up, outcome}
-use Rattle.bsc_node.specs.Hubs.{is_tried}
+use Rattle.bsc_node.specs.Hubs.{is_under_way}
 use Rattle.bsc_node.specs.Ways.{free_slot, wanted, next_uri, established, learnt, uris_to_dial, awaits, awaits_peer, establish, slots_see, resolution_sees, tries}
 use Rattle.bsc_node.specs.Ending.{carries_out_by, carries_out, tells_connector, ends, closes_link}
 use Rattle.bsc_node.specs.Meeting.{joins, wrong_peer, finishes_replaced, comes_up, meets_dialled, meets_taken, meets_slot, meets_direct, meets_peer, tells_refusal, may_draw, is_refused_by, renews, keeps_vmac}
@@ -167,7 +167,7 @@ has_meets_taken a L e k who (WrongPeer v) N named there opened taken theirs = ea
 
 has_meets_hub : (a : Made) (L : Log) (e : TimedEvent) (s : Side) (who : Identity) (N : Log) → EachHas (Why a L e) N (meets_peer a (Hub s) who N)
 has_meets_hub a L e s who N =
-    each-when (Why a L e) (is_tried a s) (tells_connector a (ConnectorConnected s)) N (λ h. still-has a L e (tells_connector a (ConnectorConnected s)) (still-tells_connector a (ConnectorConnected s)) N)
+    each-when (Why a L e) (is_under_way a s) (tells_connector a (ConnectorConnected s)) N (λ h. still-has a L e (tells_connector a (ConnectorConnected s)) (still-tells_connector a (ConnectorConnected s)) N)
 
 has_meets_direct : (a : Made) (L : Log) (e : TimedEvent) (k : ℕ) (who : Identity) (N : Log) → IsNamedAt a L e (Direct k) who → is_there (Direct k) N ≡ true → was_open (Direct k) N ≡ true → IsTheirs L N k who
     → EachHas (Why a L e) N (meets_direct a k who N)

@@ -10,6 +10,8 @@ pub mod Followed
 pub mod Settled
 pub mod Events
 pub mod Timely
+pub mod Knowing
+pub mod Waiting
 pub mod Peers
 pub mod Carried
 pub mod Leading

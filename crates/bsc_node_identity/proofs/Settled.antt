@@ -21,12 +21,11 @@ use Rattle.bsc_node.specs.declared.node_event.NodeEvent.TheVariants.{Opened, Dia
 use Rattle.bsc_node.specs.declared.timed_event.TimedEvent.{TimedEvent}
 use Rattle.bsc_node.specs.declared.action.Action.TheVariants.{Draw}
 use Rattle.bsc_node.specs.Logs.{Made, Line, came, did, initiating, Log, renewal_in, own_vmac, event_of, now}
-use Rattle.bsc_node.specs.Links.{names, begins, is_there, none_there, was_taken, initiating_events, accepts_by}
+use Rattle.bsc_node.specs.Links.{names, begins, is_there, none_there, was_taken, initiating_events, accepts_by, is_in_slots}
 use Rattle.bsc_node.specs.Ways.{established_peer}
 use Rattle.bsc_node.specs.Events.{follows}
 use Rattle.bsc_node.specs.Node.{goes_on, log}
 use Rattle.bsc_node.specs.Conditions.{has_opened, is_draw, awaits_word, brings_word, fits, may_come, Watched, may_all_come}
-use Rattle.bsc_node.specs.Soundness.{is_in_slots}
 use Rattle.bsc_node.specs.Laws.{with_event}
 use Rattle.bsc_node.proofs.Told.{at_last-more}
 use Rattle.bsc_node.proofs.Following.{goes_on-is}

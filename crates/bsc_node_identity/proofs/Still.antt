@@ -34,12 +34,12 @@ use Rattle.bsc_node.specs.declared.action.Action.{Action}
 use Rattle.bsc_node.specs.declared.action.Action.TheVariants.{Dial, Take, Put, Close, Draw}
 use Rattle.bsc_node.specs.Logs.{Made, Line, came, did, slot, initiating, accepting, resolution, Log, Rule, nothing, in_order, either, when, with_some, where_found, does, tells, own_vmac, now, next_id, is_finishing}
 use Rattle.bsc_node.specs.Links.{names, is_there, none_there, was_taken, by_machine, ticks, finishes, Outcome, puts, puts_and_closes, closes, meets, is_refused, passes_up, keeps_still, outcome}
-use Rattle.bsc_node.specs.Hubs.{hub_use, hub_use_before, is_up, is_tried, is_dropped, newest_step, told, same_use}
+use Rattle.bsc_node.specs.Hubs.{hub_use, hub_use_before, is_up, is_under_way, is_dropped, newest_step, told, same_use}
 use Rattle.bsc_node.specs.Ways.{Way, way, established_peer, awaits, ask_refusal, slots_see, resolution_sees}
 use Rattle.bsc_node.specs.Ending.{carries_out_by, carries_out, finishes_machine, dials, dials_primary, dials_failover, tells_use, drops_failover, tells_connector, ends_hub, ends_slot, tells_finished, ends_by, ends, closes_link, finishes_link}
 use Rattle.bsc_node.specs.Meeting.{finishes_replaced, refuses, refusing_side, ends_refused, renews, keeps_vmac}
 use Rattle.bsc_node.specs.Receiving.{sender, drops_question, takes_answer}
-use Rattle.bsc_node.specs.Requesting.{puts_own, by_path, asks_unless, sends, resolves, solicits, fits}
+use Rattle.bsc_node.specs.Requesting.{puts_own, by_path, asks_unless, sends, resolves, solicits, other_end_takes}
 use Rattle.bsc_node.specs.Events.{obeys_by, obeys, ticks_link, ticks_resolution, time_passes, is_to_end}
 use Rattle.bsc_node.proofs.Order.{in_order-brought}
 use Rattle.bsc_node.proofs.Passing.{Passes, pass-in_order, pass-either, pass-nothing, pass-when, pass-found, pass-if, pass-some, pass-mapped, pass-each-append}
@@ -158,9 +158,9 @@ still-tells_connector a event =
 
 still_ends_hub : (a : Made) (s : Side) → Still a (ends_hub a s)
 still_ends_hub a s =
-    pass-either (is_still a) (is_dropped s) nothing (either (is_up s) (tells_connector a (Lost s)) (when (is_tried a s) (tells_connector a (Failed s)))) (pass-nothing (is_still a))
-    (pass-either (is_still a) (is_up s) (tells_connector a (Lost s)) (when (is_tried a s) (tells_connector a (Failed s))) (still-tells_connector a (Lost s))
-    (pass-when (is_still a) (is_tried a s) (tells_connector a (Failed s)) (still-tells_connector a (Failed s))))
+    pass-either (is_still a) (is_dropped s) nothing (either (is_up s) (tells_connector a (Lost s)) (when (is_under_way a s) (tells_connector a (Failed s)))) (pass-nothing (is_still a))
+    (pass-either (is_still a) (is_up s) (tells_connector a (Lost s)) (when (is_under_way a s) (tells_connector a (Failed s))) (still-tells_connector a (Lost s))
+    (pass-when (is_still a) (is_under_way a s) (tells_connector a (Failed s)) (still-tells_connector a (Failed s))))
 
 still_ends_slot : (a : Made) (k : ℕ) → Still a (ends_slot k)
 still_ends_slot a k =
@@ -239,8 +239,8 @@ still_by_path a v rule q = pass-found (is_still a) (way v) rule (tells (NoPath v
 
 pub still-sends : (a : Made) (v : Vmac) (npdu : List ℕ) → Still a (sends v npdu)
 still-sends a v npdu =
-    still_by_path a v (λ w. either (fits w npdu) (puts_own w (Npdu npdu)) (tells (TooLong v)))
-    (λ w. pass-either (is_still a) (fits w npdu) (puts_own w (Npdu npdu)) (tells (TooLong v)) (λ L. refl) (λ L. refl))
+    still_by_path a v (λ w. either (other_end_takes w npdu) (puts_own w (Npdu npdu)) (tells (TooLong v)))
+    (λ w. pass-either (is_still a) (other_end_takes w npdu) (puts_own w (Npdu npdu)) (tells (TooLong v)) (λ L. refl) (λ L. refl))
 
 still_asks_unless : (a : Made) (w : Way) (v : Vmac) (o : Option AskRefusal) → Still a (asks_unless w v o)
 still_asks_unless a w v None L = pass-in_order (is_still a) (puts_own w AddressResolution ∷ resolution_sees (Ask (now L) (next_id L) v) ∷ []) ((λ M. refl), ((λ M. refl), tt)) L

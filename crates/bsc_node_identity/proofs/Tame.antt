@@ -12,9 +12,9 @@ use Rattle.bsc_checks.specs.declared.verdict.Verdict.{Verdict}
 use Rattle.bsc_checks.specs.declared.verdict.Verdict.TheVariants.{Pass, Carry, Silent, Nak}
 use Rattle.bsc_checks.specs.Places.{dest_in, is_to_carry}
 use Rattle.bsc_checks.specs.Table.{code_of, checks_of}
-use Rattle.bsc_verdict.specs.Places.{is_unicast, is_response}
-use Rattle.bsc_verdict.specs.Failing.{fails}
-use Rattle.bsc_verdict.specs.Outcomes.{answered, refused, accepted, decided, first_failing, outcome_of}
+use Rattle.bsc_checks.specs.PlaceTests.{is_unicast, is_response}
+use Rattle.bsc_checks.specs.Failing.{fails}
+use Rattle.bsc_checks.specs.Outcomes.{answered, refused, accepted, decided, first_failing, outcome_of}
 use Rattle.bsc_accept.specs.declared.start.Start.{Start}
 use Rattle.bsc_accept.specs.declared.step.Step.{Step}
 use Rattle.bsc_accept.specs.declared.event.Event.{Event}

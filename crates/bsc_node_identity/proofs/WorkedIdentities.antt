@@ -13,7 +13,7 @@ use Rattle.bsc_connector.specs.declared.side.Side.TheVariants.{Primary}
 use Rattle.bsc_checks.specs.declared.phase.Phase.TheVariants.{AwaitingRequest, Connected}
 use Rattle.bsc_checks.specs.declared.place.Place.TheVariants.{NodeHub, NodeDirect}
 use Rattle.bsc_checks.specs.declared.verdict.Verdict.TheVariants.{Pass}
-use Rattle.bsc_verdict.specs.Outcomes.{outcome_of}
+use Rattle.bsc_checks.specs.Outcomes.{outcome_of}
 use Rattle.bsc_accept.specs.Messages.{connect_accept}
 use Rattle.bsc_initiate.specs.Messages.{connect_request}
 use Rattle.bsc_node.specs.Messages.{message, message_octets, nak}

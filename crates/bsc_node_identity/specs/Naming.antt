@@ -9,7 +9,7 @@ use Rattle.bsc_frame.specs.Payloads.{IsNode}
 use Rattle.bsc_frame.specs.Spelling.{spelling}
 use Rattle.bsc_checks.specs.declared.place.Place.{Place}
 use Rattle.bsc_checks.specs.declared.verdict.Verdict.TheVariants.{Pass}
-use Rattle.bsc_verdict.specs.Outcomes.{outcome_of}
+use Rattle.bsc_checks.specs.Outcomes.{outcome_of}
 use Rattle.bsc_accept.specs.Messages.{connect_accept}
 use Rattle.bsc_initiate.specs.Messages.{connect_request}
 use Rattle.bsc_direct.specs.declared.call.SlotCall.TheVariants.{Up}

@@ -19,7 +19,7 @@ use Rattle.bsc_node.specs.declared.note.Note.TheVariants.{DirectDown, Finished}
 use Rattle.bsc_node.specs.declared.action.Action.TheVariants.{Dial, Close}
 use Rattle.bsc_node.specs.Logs.{Made, Line, did, Log, Rule, nothing, in_order, if_so, either, when, with_some, where_found, does, tells, is_finishing}
 use Rattle.bsc_node.specs.Links.{begins, is_there, none_there}
-use Rattle.bsc_node.specs.Hubs.{is_up, is_tried, is_dropped, told}
+use Rattle.bsc_node.specs.Hubs.{is_up, is_under_way, is_dropped, told}
 use Rattle.bsc_node.specs.Ways.{established_peer, slots_see}
 use Rattle.bsc_node.specs.Ending.{dials, finishes_machine, dials_primary, dials_failover, tells_use, drops_failover, tells_connector}
 use Rattle.bsc_node.specs.Ending.{ends_hub, ends_slot, tells_finished, ends_by, ends, closes_link, finishes_link}
@@ -141,10 +141,10 @@ failed_fits Failover L o = tt
 
 fit_ends_hub : (a : Made) (s : Side) (L : Log) → Tied a L → OverAt (Hub s) L → EachFits a L (ends_hub a s L)
 fit_ends_hub a s L t o =
-    fit-either a (is_dropped s) nothing (either (is_up s) (tells_connector a (Lost s)) (when (is_tried a s) (tells_connector a (Failed s)))) L (λ d. tt)
-    (λ d. fit-either a (is_up s) (tells_connector a (Lost s)) (when (is_tried a s) (tells_connector a (Failed s))) L
+    fit-either a (is_dropped s) nothing (either (is_up s) (tells_connector a (Lost s)) (when (is_under_way a s) (tells_connector a (Failed s)))) L (λ d. tt)
+    (λ d. fit-either a (is_up s) (tells_connector a (Lost s)) (when (is_under_way a s) (tells_connector a (Failed s))) L
     (λ u. fit-tells_connector a (Lost s) L t refl (lost_fits s L o))
-    (λ u. fit-when a (is_tried a s) (tells_connector a (Failed s)) L (λ h. fit-tells_connector a (Failed s) L t refl (failed_fits s L o))))
+    (λ u. fit-when a (is_under_way a s) (tells_connector a (Failed s)) L (λ h. fit-tells_connector a (Failed s) L t refl (failed_fits s L o))))
 
 -- A slot is released only once its link isn't there.
 fit_ends_slot : (a : Made) (k : ℕ) (L : Log) → is_there (Direct k) L ≡ false → EachFits a L (ends_slot k L)

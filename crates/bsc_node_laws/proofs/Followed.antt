@@ -26,7 +26,7 @@ use Rattle.bsc_node.specs.Meeting.{ends_refused}
 use Rattle.bsc_node.specs.Requesting.{sends, resolves, solicits}
 use Rattle.bsc_node.specs.Events.{obeys, follows}
 use Rattle.bsc_node.specs.Node.{goes_on}
-use Rattle.bsc_node.specs.Conditions.{is_start, has_opened, brings_word, fits as may_fit, may_come}
+use Rattle.bsc_node.specs.Conditions.{is_start, has_opened, brings_word, fits, may_come}
 use Rattle.bsc_node.specs.Laws.{with_event}
 use Rattle.bsc_node.proofs.Order.{in_order-brought, in_order-cons}
 use Rattle.bsc_node.proofs.Told.{same_link-self}
@@ -54,8 +54,8 @@ ended_gone : (L : Log) (e : TimedEvent) (name : LinkName) (ev : NodeEvent) → e
 ended_gone L e name ev is h = there-over name L (came e) refl (ap (is_over_by_event name) is ∙ h)
 
 -- the condition on an event is met
-fitting : (L : Log) (e : TimedEvent) (ev : NodeEvent) → IsTrue (may_come L e) → e.event ≡ ev → may_fit L ev ≡ true
-fitting L e ev h is = sym (ap (may_fit L) is) ∙ event_fits L e h
+fitting : (L : Log) (e : TimedEvent) (ev : NodeEvent) → IsTrue (may_come L e) → e.event ≡ ev → fits L ev ≡ true
+fitting L e ev h is = sym (ap (fits L) is) ∙ event_fits L e h
 
 -- the link whose dial failed was there
 failed_there : (L : Log) (e : TimedEvent) (name : LinkName) → IsTrue (may_come L e) → e.event ≡ DialFailed name → is_there name L ≡ true

@@ -19,8 +19,8 @@ use Rattle.bsc_node.specs.declared.link_name.LinkName.TheVariants.{Hub, Direct}
 use Rattle.bsc_node.specs.declared.note.Note.TheVariants.{DirectUp, NoDirect, NoUris, SlotsFull, Nak}
 use Rattle.bsc_node.specs.declared.action.Action.TheVariants.{Dial, Put, Close, Draw, Tell}
 use Rattle.bsc_node.specs.Logs.{Made, Line, slot, did, Log, nothing, in_order, if_so, with_some, where_found, does, tells}
-use Rattle.bsc_node.specs.Links.{names, begins, is_there, was_taken, ticks, Outcome, puts, puts_and_closes, closes, meets, is_refused, passes_up, keeps_still, outcome}
-use Rattle.bsc_node.specs.Hubs.{is_tried}
+use Rattle.bsc_node.specs.Links.{names, begins, is_there, was_taken, ticks, Outcome, puts, puts_and_closes, closes, meets, is_refused, passes_up, keeps_still, outcome, is_in_slots}
+use Rattle.bsc_node.specs.Hubs.{is_under_way}
 use Rattle.bsc_node.specs.Ways.{slot_calls, free_slot, established, learnt, uris_to_dial, awaits_peer, establish, slots_see, wanted, next_uri}
 use Rattle.bsc_node.specs.Ending.{carries_out_by, carries_out, tells_connector, tells_finished, ends, closes_link, finishes_link}
 use Rattle.bsc_node.specs.Meeting.{joins, refuses, wrong_peer, finishes_replaced, comes_up, meets_dialled, meets_taken, meets_slot, meets_peer}
@@ -28,7 +28,6 @@ use Rattle.bsc_node.specs.Meeting.{refuser, tells_refusal, may_draw, is_refused_
 use Rattle.bsc_node.specs.Receiving.{takes_up}
 use Rattle.bsc_node.specs.Requesting.{dials_first, directs}
 use Rattle.bsc_node.specs.Events.{obeys_by, obeys, dial_fails, tries_next, ticks_link, ticks_resolution, time_passes, is_to_end}
-use Rattle.bsc_node.specs.Soundness.{is_in_slots}
 use Rattle.bsc_node.proofs.Order.{in_order-brought}
 use Rattle.bsc_node.proofs.Passing.{pass-some}
 use Rattle.bsc_node.proofs.Lasting.{free_in_slots}
@@ -84,7 +83,7 @@ fit_meets_taken a k who (Duplicate holder) L t taken met = fit_refused a k who L
 fit_meets_taken a k who (WrongPeer v) L t taken met = fit_refused a k who L t taken met
 
 fit_meets_peer : (a : Made) (name : LinkName) (who : Identity) (L : Log) → Tied a L → outcome a L name ≡ meets who → EachFits a L (meets_peer a name who L)
-fit_meets_peer a (Hub s) who L t met = fit-when a (is_tried a s) (tells_connector a (Connected s)) L (λ h. fit-tells_connector a (Connected s) L t refl tt)
+fit_meets_peer a (Hub s) who L t met = fit-when a (is_under_way a s) (tells_connector a (Connected s)) L (λ h. fit-tells_connector a (Connected s) L t refl tt)
 fit_meets_peer a (Direct k) who L t met =
     fit-either a (awaits_peer k) (meets_slot a k who) (closes_link a (Direct k) wrong_peer) L
     (λ h. fit-either a (was_taken (Direct k)) (meets_taken a k who (establish a k who L)) (meets_dialled a k who (establish a k who L)) L

@@ -33,7 +33,7 @@ use Rattle.bsc_node.specs.Hubs.{hub_use, hub_use_before, newest_step, same_use}
 use Rattle.bsc_node.specs.Ways.{Way, way, awaits, ask_refusal, resolution_sees}
 use Rattle.bsc_node.specs.Ending.{carries_out_by, carries_out, finishes_machine, tells_use, drops_failover}
 use Rattle.bsc_node.specs.Receiving.{sender, is_for_all, answers, answers_by, learns, drops_question, takes_answer, of_sender, takes_body, delivers}
-use Rattle.bsc_node.specs.Requesting.{puts_own, by_path, asks_unless, sends, resolves, solicits, fits}
+use Rattle.bsc_node.specs.Requesting.{puts_own, by_path, asks_unless, sends, resolves, solicits, other_end_takes}
 use Rattle.bsc_node.proofs.Passing.{Passes, pass-in_order, pass-either, pass-nothing, pass-when, pass-found, pass-if, pass-some}
 use Rattle.bsc_node_laws.proofs.Tied.{FitsHub, Fits, EachFits}
 use Rattle.bsc_lemmas.proofs.Booleans.{and_left, and_right}
@@ -186,8 +186,8 @@ plain_by_path v rule q = pass-found is_plain (way v) rule (tells (NoPath v)) q (
 
 pub plain-sends : (v : Vmac) (npdu : List ℕ) → Plain (sends v npdu)
 plain-sends v npdu =
-    plain_by_path v (λ w. either (fits w npdu) (puts_own w (Npdu npdu)) (tells (TooLong v)))
-    (λ w. pass-either is_plain (fits w npdu) (puts_own w (Npdu npdu)) (tells (TooLong v)) (λ L. refl) (λ L. refl))
+    plain_by_path v (λ w. either (other_end_takes w npdu) (puts_own w (Npdu npdu)) (tells (TooLong v)))
+    (λ w. pass-either is_plain (other_end_takes w npdu) (puts_own w (Npdu npdu)) (tells (TooLong v)) (λ L. refl) (λ L. refl))
 
 plain_asks_unless : (w : Way) (v : Vmac) (o : Option AskRefusal) → Plain (asks_unless w v o)
 plain_asks_unless w v None L = pass-in_order is_plain (puts_own w AddressResolution ∷ resolution_sees (Ask (now L) (next_id L) v) ∷ []) ((λ M. refl), ((λ M. refl), tt)) L

@@ -14,10 +14,9 @@ use Rattle.bsc_node.specs.declared.link_name.LinkName.TheVariants.{Hub, Direct}
 use Rattle.bsc_node.specs.declared.note.Note.TheVariants.{Finished}
 use Rattle.bsc_node.specs.declared.action.Action.TheVariants.{Dial, Take, Tell}
 use Rattle.bsc_node.specs.Logs.{Made, Line, came, initiating, connector, slot, did, Log, is_finishing}
-use Rattle.bsc_node.specs.Links.{is_there}
+use Rattle.bsc_node.specs.Links.{is_there, begins_in_slots}
 use Rattle.bsc_node.specs.Hubs.{waits, hub_events}
 use Rattle.bsc_node.specs.Ways.{slot_calls}
-use Rattle.bsc_node.specs.Soundness.{begins_in_slots}
 
 -- While the primary hub's link is there, no next attempt at it is due; and the slot of a link that is there is claimed.
 pub record Tied (a : Made) (L : Log) : Type 0 where

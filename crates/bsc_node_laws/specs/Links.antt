@@ -11,9 +11,8 @@ use Rattle.bsc_node.specs.declared.note.Note.TheVariants.{Finished}
 use Rattle.bsc_node.specs.declared.timed_event.TimedEvent.{TimedEvent}
 use Rattle.bsc_node.specs.declared.action.Action.TheVariants.{Dial, Take, Refuse, Tell}
 use Rattle.bsc_node.specs.Logs.{Made, Line, came, initiating, slot, did, Log, is_finishing}
-use Rattle.bsc_node.specs.Links.{is_there, opens}
+use Rattle.bsc_node.specs.Links.{is_there, opens, is_in_slots, begins_in_slots}
 use Rattle.bsc_node.specs.Node.{goes_on}
-use Rattle.bsc_node.specs.Soundness.{is_in_slots, begins_in_slots}
 use Rattle.bsc_node.specs.Laws.{with_event}
 
 -- A line may stand behind a log: a link is dialled only where none of its name is there, and its name is that of a hub or

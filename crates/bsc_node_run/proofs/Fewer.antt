@@ -9,7 +9,7 @@ use Rattle.bsc_node.specs.declared.action.Action.TheVariants.{Dial, Take, Refuse
 use Rattle.bsc_node_run.specs.declared.news.News.{News}
 use Rattle.bsc_node_run.specs.Worlds.{World, is_of, without}
 use Rattle.bsc_node_run.specs.Performing.{Dials, Takes, Refuses, Puts, Closes, Does, Carries}
-use Rattle.bsc_node_run.specs.Turning.{Answers, Gives, draws}
+use Rattle.bsc_node_run.specs.Turning.{GivesWord, Gives, draws}
 use Rattle.bsc_lemmas.proofs.Lists.{filter_le}
 
 as_many : (xs ys : List News) → xs ≡ ys → length xs ≤ length ys
@@ -60,7 +60,7 @@ module _ {L : Type 0} (talk : L → Option (List Said)) where
   carries_fewer (a ∷ xs) w v (m, d, k) = (let x = does_fewer a w m d in let y = carries_fewer xs m v k in omega (arith, x, y))
 
 module _ {N L : Type 0} (goes : N → ℕ → NodeEvent → List Action → N → Type 0) (talk : L → Option (List Said)) (now : ℕ) where
-  answers_fewer : (b : Bool) (n m : N) (w v : World L) → Answers goes talk now b n w m v → length v.due ≤ length w.due
+  answers_fewer : (b : Bool) (n m : N) (w v : World L) → GivesWord goes talk now b n w m v → length v.due ≤ length w.due
   answers_fewer false n m w v (e, s) = as_many v.due w.due s.due
   answers_fewer true n m w v (word, actions, b, g, k) = carries_fewer talk actions w v k
 

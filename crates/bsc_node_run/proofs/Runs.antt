@@ -9,6 +9,7 @@ use Rattle.bsc_node_run.specs.declared.due.Due.{Due}
 use Rattle.bsc_node_run.specs.Running.{DontFall, Turns}
 use Rattle.bsc_node_run.specs.Turning.{Turn}
 use Rattle.bsc_node_run.specs.Worlds.{Admitting, World}
+use Rattle.bsc_node_run.specs.Moments.{moment}
 use Rattle.bsc_node_run.proofs.Turns.{same}
 
 pub grows_none : {A : Type 0} (old : Option (List A)) → Grows old old []
@@ -47,17 +48,17 @@ module _ {N L : Type 0} (goes : N → ℕ → NodeEvent → List Action → N �
   -- One turn more behind those that were made.
   pub turns_more : (first : Option ℕ) (script : List Due) (n : N) (w : World L) (door : Admitting L) (times : List ℕ) (now : ℕ) (start : Option ℕ) (rest rest' : List Due) (p q : N) (x y : World L)
       (mid mid' : Admitting L)
-      → ((more : List ℕ) (m : N) (v : World L) (last : Admitting L) → Turns goes talk listens more start rest p x mid m v last → Turns goes talk listens (times ++ more) first script n w door m v last)
-      → x.finished ≡ false → Turn goes talk now start rest rest' listens p x mid q y mid'
-      → (more : List ℕ) (m : N) (v : World L) (last : Admitting L) → Turns goes talk listens more (Some (unwrap_or start now)) rest' q y mid' m v last
-      → Turns goes talk listens ((times ++ now ∷ []) ++ more) first script n w door m v last
+      → ((more : List ℕ) (m : N) (v : World L) (last : Admitting L) → Turns goes talk listens more start rest (moment p x mid) (moment m v last) → Turns goes talk listens (times ++ more) first script (moment n w door) (moment m v last))
+      → x.finished ≡ false → Turn goes talk now start rest rest' listens (moment p x mid) (moment q y mid')
+      → (more : List ℕ) (m : N) (v : World L) (last : Admitting L) → Turns goes talk listens more (Some (unwrap_or start now)) rest' (moment q y mid') (moment m v last)
+      → Turns goes talk listens ((times ++ now ∷ []) ++ more) first script (moment n w door) (moment m v last)
   turns_more first script n w door times now start rest rest' p q x y mid mid' made going t more m v last k =
-      subst (λ ts. Turns goes talk listens ts first script n w door m v last) (sym (append_assoc times (now ∷ []) more))
+      subst (λ ts. Turns goes talk listens ts first script (moment n w door) (moment m v last)) (sym (append_assoc times (now ∷ []) more))
       (made (now ∷ more) m v last (rest', q, y, mid', going, t, k))
 
   -- The turns that were made, and no more.
   pub turns_all : (first : Option ℕ) (script : List Due) (n : N) (w : World L) (door : Admitting L) (times : List ℕ) (start : Option ℕ) (rest : List Due) (p : N) (x : World L) (mid : Admitting L)
-      → ((more : List ℕ) (m : N) (v : World L) (last : Admitting L) → Turns goes talk listens more start rest p x mid m v last → Turns goes talk listens (times ++ more) first script n w door m v last)
-      → Turns goes talk listens times first script n w door p x mid
+      → ((more : List ℕ) (m : N) (v : World L) (last : Admitting L) → Turns goes talk listens more start rest (moment p x mid) (moment m v last) → Turns goes talk listens (times ++ more) first script (moment n w door) (moment m v last))
+      → Turns goes talk listens times first script (moment n w door) (moment p x mid)
   turns_all first script n w door times start rest p x mid made =
-      subst (λ ts. Turns goes talk listens ts first script n w door p x mid) (append-nil times) (made [] p x mid (refl, same x, refl))
+      subst (λ ts. Turns goes talk listens ts first script (moment n w door) (moment p x mid)) (append-nil times) (made [] p x mid (refl, same x, refl))

@@ -14,6 +14,7 @@ use Rattle.bsc_node_run.specs.Running.{DontFall}
 use Rattle.bsc_node_run.specs.Stopping.{EachStop, GiveStops, HearStops, StopsAt, TurnStops, TurnsStop}
 use Rattle.bsc_node_run.specs.Turning.{Hears, Turn, draws, slots_from}
 use Rattle.bsc_node_run.specs.Worlds.{Admitting, World}
+use Rattle.bsc_node_run.specs.Moments.{in_hands, moment}
 
 -- whatever fault it is
 pub at_err : {T E P : Type 0} (r : Result T E) → P → OnErr r P
@@ -59,18 +60,18 @@ module _ {N L : Type 0} (goes : N → ℕ → NodeEvent → List Action → N �
   -- One turn more behind those that were made.
   pub stops_more : (first : Option ℕ) (script : List Due) (n : N) (w : World L) (door : Admitting L) (times : List ℕ) (now : ℕ) (start : Option ℕ) (rest rest' : List Due) (p q : N) (x y : World L)
       (mid mid' : Admitting L)
-      → ((more : List ℕ) (v : World L) (last : Admitting L) → TurnsStop goes talk listens more start rest p x mid v last → TurnsStop goes talk listens (times ++ more) first script n w door v last)
-      → x.finished ≡ false → Turn goes talk now start rest rest' listens p x mid q y mid'
-      → (more : List ℕ) (v : World L) (last : Admitting L) → TurnsStop goes talk listens more (Some (unwrap_or start now)) rest' q y mid' v last
-      → TurnsStop goes talk listens ((times ++ now ∷ []) ++ more) first script n w door v last
+      → ((more : List ℕ) (v : World L) (last : Admitting L) → TurnsStop goes talk listens more start rest (moment p x mid) (in_hands v last) → TurnsStop goes talk listens (times ++ more) first script (moment n w door) (in_hands v last))
+      → x.finished ≡ false → Turn goes talk now start rest rest' listens (moment p x mid) (moment q y mid')
+      → (more : List ℕ) (v : World L) (last : Admitting L) → TurnsStop goes talk listens more (Some (unwrap_or start now)) rest' (moment q y mid') (in_hands v last)
+      → TurnsStop goes talk listens ((times ++ now ∷ []) ++ more) first script (moment n w door) (in_hands v last)
   stops_more first script n w door times now start rest rest' p q x y mid mid' made going t more v last k =
-      subst (λ ts. TurnsStop goes talk listens ts first script n w door v last) (sym (append_assoc times (now ∷ []) more))
+      subst (λ ts. TurnsStop goes talk listens ts first script (moment n w door) (in_hands v last)) (sym (append_assoc times (now ∷ []) more))
       (made (now ∷ more) v last (going, inr (rest', q, y, mid', t, k)))
 
   -- The turn that stopped.
   pub stops_now : (first : Option ℕ) (script : List Due) (n : N) (w : World L) (door : Admitting L) (times : List ℕ) (now : ℕ) (start : Option ℕ) (rest : List Due) (p : N) (x v : World L) (mid last : Admitting L)
-      → ((more : List ℕ) (v : World L) (last : Admitting L) → TurnsStop goes talk listens more start rest p x mid v last → TurnsStop goes talk listens (times ++ more) first script n w door v last)
-      → x.finished ≡ false → TurnStops goes talk now start rest listens p x mid v last → TurnsStop goes talk listens (times ++ now ∷ []) first script n w door v last
+      → ((more : List ℕ) (v : World L) (last : Admitting L) → TurnsStop goes talk listens more start rest (moment p x mid) (in_hands v last) → TurnsStop goes talk listens (times ++ more) first script (moment n w door) (in_hands v last))
+      → x.finished ≡ false → TurnStops goes talk now start rest listens (moment p x mid) (in_hands v last) → TurnsStop goes talk listens (times ++ now ∷ []) first script (moment n w door) (in_hands v last)
   stops_now first script n w door times now start rest p x v mid last made going t = made (now ∷ []) v last (going, inl (refl, t))
 
 -- The readings up to the one of that turn don't fall.

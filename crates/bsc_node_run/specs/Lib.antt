@@ -1,6 +1,8 @@
+pub mod Halts
 pub mod Requests
 pub mod Lines
 pub mod Worlds
+pub mod Moments
 pub mod Performing
 pub mod Turning
 pub mod Receiving

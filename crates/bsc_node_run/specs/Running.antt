@@ -8,6 +8,7 @@ use Rattle.bsc_node.specs.declared.action.Action.{Action}
 use Rattle.bsc_node_run.specs.declared.due.Due.{Due}
 use Rattle.bsc_node_run.specs.declared.run_end.RunEnd.{RunEnd}
 use Rattle.bsc_node_run.specs.declared.run_end.RunEnd.TheVariants.{Finished, Spent}
+use Rattle.bsc_node_run.specs.Moments.{Moment, RunMoment, moment}
 use Rattle.bsc_node_run.specs.Turning.{Turn}
 use Rattle.bsc_node_run.specs.Worlds.{Admitting, Dialling, World, Same}
 
@@ -35,23 +36,23 @@ DontFall from (t ∷ times) = (from ≤ t) × (t < 2 ^ 62) × DontFall t times
 module _ {N L : Type 0} (goes : N → ℕ → NodeEvent → List Action → N → Type 0) (talk : L → Option (List Said)) (listens : Bool) where
   -- Turns at these times, one after the other. The script goes on in each where the one before left it, and its times
   -- count from the first turn. No turn comes after one in which the node told that it has ended.
-  abbrev pub Turns : List ℕ → Option ℕ → List Due → N → World L → Admitting L → N → World L → Admitting L → Type 0
-  Turns [] start script n w door m v door' = (m ≡ n) × Same v w × (door' ≡ door)
-  Turns (now ∷ times) start script n w door m v door' =
-      (rest : List Due) × (p : N) × (x : World L) × (mid : Admitting L) × (w.finished ≡ false)
-      × Turn goes talk now start script rest listens n w door p x mid × Turns times (Some (unwrap_or start now)) rest p x mid m v door'
+  abbrev pub Turns : List ℕ → Option ℕ → List Due → Moment N L → Moment N L → Type 0
+  Turns [] start script before after =
+      (after.node ≡ before.node) × Same after.hands.world before.hands.world × (after.hands.door ≡ before.hands.door)
+  Turns (now ∷ times) start script before after =
+      (rest : List Due) × (p : N) × (x : World L) × (mid : Admitting L) × (before.hands.world.finished ≡ false)
+      × Turn goes talk now start script rest listens before (moment p x mid)
+      × Turns times (Some (unwrap_or start now)) rest (moment p x mid) after
 
   -- A whole run.
-  pub record Run (end : RunEnd) (turns : ℕ) (script : List Due) (n : N) (dialled : Dialling L) (held : Option (List ℕ))
-      (door : Admitting L) (told : Option (List ℕ)) (m : N) (dialled' : Dialling L) (held' : Option (List ℕ))
-      (door' : Admitting L) (told' : Option (List ℕ)) : Type 0 where
+  pub record Run (end : RunEnd) (turns : ℕ) (script : List Due) (before after : RunMoment N L) : Type 0 where
     pub times : List ℕ
     pub first : World L
     pub last : World L
-    pub empty : IsEmpty dialled held first
-    pub went : Turns times None script n first door m last door'
-    pub dials : last.dialled ≡ dialled'
-    pub holds : last.held ≡ held'
-    pub readings : Grows told told' times
+    pub empty : IsEmpty before.out.dialled before.out.written first
+    pub went : Turns times None script (moment before.node first before.out.door) (moment after.node last after.out.door)
+    pub dials : last.dialled ≡ after.out.dialled
+    pub holds : last.held ≡ after.out.written
+    pub readings : Grows before.out.readings after.out.readings times
     pub rise : DontFall 0 times
     pub ends : EndsSo end turns times last.finished

@@ -17,12 +17,13 @@ use Rattle.bsc_node.specs.Conditions.{brings_word}
 use Rattle.bsc_node_run.specs.declared.due.Due.{Due}
 use Rattle.bsc_node_run.specs.declared.news.News.{News}
 use Rattle.bsc_node_run.specs.Lines.{note_line, delivered_line}
+use Rattle.bsc_node_run.specs.Moments.{Hands, Moment, Outside, RunMoment, in_hands, moment}
 use Rattle.bsc_node_run.specs.Performing.{Carries, Does, kind_of}
 use Rattle.bsc_node_run.specs.Receiving.{Received}
 use Rattle.bsc_node_run.specs.Running.{DontFall, IsEmpty}
 use Rattle.bsc_node_run.specs.Turning.{AreDue, Gives, GivesLines, GivesNews, Hears, HearsEach, IsNotDue, Starts, Turn}
 use Rattle.bsc_node_run.specs.Turning.{accept_wait, draws, event_of, names, passed_by}
-use Rattle.bsc_node_run.specs.Worlds.{Admitting, Dialling, World, Same, begun, is_open}
+use Rattle.bsc_node_run.specs.Worlds.{Admitting, World, Same, begun, is_open}
 
 module _ {L : Type 0} where
   -- Nothing was dialled or written.
@@ -87,11 +88,12 @@ module _ {N L : Type 0} (goes : N → ℕ → NodeEvent → List Action → N �
       ⊎ ((p : N) × (x : World L) × Hears goes talk now name n w p x × EachStop names p x v)
 
   -- The acceptor failed, or there was no memory for what it gave; or it stopped at the link that arrived.
-  abbrev pub AdmitStops : Bool → N → World L → Admitting L → World L → Admitting L → Type 0
-  AdmitStops false n w door v door' = ⊥
-  AdmitStops true n w door v door' = Grows door.waits door'.waits (accept_wait ∷ [])
-      × (((fault : LinkFault) × Same v w × Leaves door.left door'.left (Err fault))
-      ⊎ ((l : L) × Leaves door.left door'.left (Ok (Link l)) × GiveStops Arrived n (record w { arrived = Some l }) v))
+  abbrev pub AdmitStops : Bool → Moment N L → Hands L → Type 0
+  AdmitStops false before after = ⊥
+  AdmitStops true before after = Grows before.hands.door.waits after.door.waits (accept_wait ∷ [])
+      × (((fault : LinkFault) × Same after.world before.hands.world × Leaves before.hands.door.left after.door.left (Err fault))
+      ⊎ ((l : L) × Leaves before.hands.door.left after.door.left (Ok (Link l))
+      × GiveStops Arrived before.node (record before.hands.world { arrived = Some l }) after.world))
 
   abbrev pub StartStops : Option ℕ → N → World L → World L → Type 0
   StartStops None n w v = GiveStops Start n w v
@@ -99,59 +101,59 @@ module _ {N L : Type 0} (goes : N → ℕ → NodeEvent → List Action → N �
 
   -- ---- a turn, from each of its parts on: it stopped there, or that went through
 
-  abbrev pub StopsFromLinks : Bool → N → World L → Admitting L → World L → Admitting L → Type 0
-  StopsFromLinks listens n w door v door' = (EachStop names n w v × (door' ≡ door))
-      ⊎ ((p : N) × (x : World L) × HearsEach goes talk now names n w p x × AdmitStops listens p x door v door')
+  abbrev pub StopsFromLinks : Bool → Moment N L → Hands L → Type 0
+  StopsFromLinks listens before after = (EachStop names before.node before.hands.world after.world × (after.door ≡ before.hands.door))
+      ⊎ ((p : N) × (x : World L) × HearsEach goes talk now names before.node before.hands.world p x
+      × AdmitStops listens (moment p x before.hands.door) after)
 
-  abbrev pub StopsFromLines : ℕ → List Due → Bool → N → World L → Admitting L → World L → Admitting L → Type 0
-  StopsFromLines passed script listens n w door v door' = (lines rest : List Due) × (script ≡ lines ++ rest) × AreDue passed lines
-      × ((LinesStop lines n w v × (door' ≡ door))
-      ⊎ ((p : N) × (x : World L) × IsNotDue passed rest × GivesLines goes talk now lines n w p x
-      × StopsFromLinks listens p x door v door'))
+  abbrev pub StopsFromLines : ℕ → List Due → Bool → Moment N L → Hands L → Type 0
+  StopsFromLines passed script listens before after = (lines rest : List Due) × (script ≡ lines ++ rest) × AreDue passed lines
+      × ((LinesStop lines before.node before.hands.world after.world × (after.door ≡ before.hands.door))
+      ⊎ ((p : N) × (x : World L) × IsNotDue passed rest × GivesLines goes talk now lines before.node before.hands.world p x
+      × StopsFromLinks listens (moment p x before.hands.door) after))
 
-  abbrev pub StopsFromNews : ℕ → List Due → Bool → N → World L → Admitting L → World L → Admitting L → Type 0
-  StopsFromNews passed script listens n w door v door' = (news : List News)
-      × ((NewsStop news n w v × (door' ≡ door))
-      ⊎ ((p : N) × (x : World L) × GivesNews goes talk now news n w p x × StopsFromLines passed script listens p x door v door'))
+  abbrev pub StopsFromNews : ℕ → List Due → Bool → Moment N L → Hands L → Type 0
+  StopsFromNews passed script listens before after = (news : List News)
+      × ((NewsStop news before.node before.hands.world after.world × (after.door ≡ before.hands.door))
+      ⊎ ((p : N) × (x : World L) × GivesNews goes talk now news before.node before.hands.world p x
+      × StopsFromLines passed script listens (moment p x before.hands.door) after))
 
-  abbrev pub StopsFromTick : ℕ → List Due → Bool → N → World L → Admitting L → World L → Admitting L → Type 0
-  StopsFromTick passed script listens n w door v door' = (GiveStops Tick n w v × (door' ≡ door))
-      ⊎ ((p : N) × (x : World L) × Gives goes talk now Tick n w p x × StopsFromNews passed script listens p x door v door')
+  abbrev pub StopsFromTick : ℕ → List Due → Bool → Moment N L → Hands L → Type 0
+  StopsFromTick passed script listens before after =
+      (GiveStops Tick before.node before.hands.world after.world × (after.door ≡ before.hands.door))
+      ⊎ ((p : N) × (x : World L) × Gives goes talk now Tick before.node before.hands.world p x
+      × StopsFromNews passed script listens (moment p x before.hands.door) after)
 
   -- A turn that stopped: its parts in their order, up to where it did.
-  abbrev pub TurnStops : Option ℕ → List Due → Bool → N → World L → Admitting L → World L → Admitting L → Type 0
-  TurnStops start script listens n w door v door' = (o : World L) × Same o (begun w)
-      × ((StartStops start n o v × (door' ≡ door))
-      ⊎ ((p : N) × (x : World L) × Starts goes talk now start n o p x
-      × StopsFromTick (passed_by start now) script listens p x door v door'))
+  abbrev pub TurnStops : Option ℕ → List Due → Bool → Moment N L → Hands L → Type 0
+  TurnStops start script listens before after = (o : World L) × Same o (begun before.hands.world)
+      × ((StartStops start before.node o after.world × (after.door ≡ before.hands.door))
+      ⊎ ((p : N) × (x : World L) × Starts goes talk now start before.node o p x
+      × StopsFromTick (passed_by start now) script listens (moment p x before.hands.door) after))
 
 module _ {N L : Type 0} (goes : N → ℕ → NodeEvent → List Action → N → Type 0) (talk : L → Option (List Said)) (listens : Bool) where
   -- Turns at these times, of which the last stopped.
-  abbrev pub TurnsStop : List ℕ → Option ℕ → List Due → N → World L → Admitting L → World L → Admitting L → Type 0
-  TurnsStop [] start script n w door v door' = ⊥
-  TurnsStop (now ∷ times) start script n w door v door' = (w.finished ≡ false)
-      × (((times ≡ []) × TurnStops goes talk now start script listens n w door v door')
+  abbrev pub TurnsStop : List ℕ → Option ℕ → List Due → Moment N L → Hands L → Type 0
+  TurnsStop [] start script before after = ⊥
+  TurnsStop (now ∷ times) start script before after = (before.hands.world.finished ≡ false)
+      × (((times ≡ []) × TurnStops goes talk now start script listens before after)
       ⊎ ((rest : List Due) × (p : N) × (x : World L) × (mid : Admitting L)
-      × Turn goes talk now start script rest listens n w door p x mid
-      × TurnsStop times (Some (unwrap_or start now)) rest p x mid v door'))
+      × Turn goes talk now start script rest listens before (moment p x mid)
+      × TurnsStop times (Some (unwrap_or start now)) rest (moment p x mid) after))
 
   -- A run that a fault stopped in one of its turns.
-  pub record RunStops (turns : ℕ) (script : List Due) (n : N) (dialled : Dialling L) (held : Option (List ℕ)) (door : Admitting L)
-      (told : Option (List ℕ)) (dialled' : Dialling L) (held' : Option (List ℕ)) (door' : Admitting L) (told' : Option (List ℕ)) : Type 0 where
+  pub record RunStops (turns : ℕ) (script : List Due) (before : RunMoment N L) (after : Outside L) : Type 0 where
     pub times : List ℕ
     pub first : World L
     pub last : World L
-    pub empty : IsEmpty dialled held first
-    pub went : TurnsStop times None script n first door last door'
-    pub dials : last.dialled ≡ dialled'
-    pub holds : last.held ≡ held'
-    pub readings : Grows told told' times
+    pub empty : IsEmpty before.out.dialled before.out.written first
+    pub went : TurnsStop times None script (moment before.node first before.out.door) (in_hands last after.door)
+    pub dials : last.dialled ≡ after.dialled
+    pub holds : last.held ≡ after.written
+    pub readings : Grows before.out.readings after.readings times
     pub rise : DontFall 0 times
     pub within : length times ≤ turns
 
   -- A run that ended by a fault: before its first turn, for want of memory, or in a turn.
-  abbrev pub RunFails : ℕ → List Due → N → Dialling L → Option (List ℕ) → Admitting L → Option (List ℕ)
-      → Dialling L → Option (List ℕ) → Admitting L → Option (List ℕ) → Type 0
-  RunFails turns script n dialled held door told dialled' held' door' told' =
-      ((dialled' ≡ dialled) × (held' ≡ held) × (door' ≡ door) × (told' ≡ told))
-      ⊎ RunStops turns script n dialled held door told dialled' held' door' told'
+  abbrev pub RunFails : ℕ → List Due → RunMoment N L → Outside L → Type 0
+  RunFails turns script before after = (after ≡ before.out) ⊎ RunStops turns script before after

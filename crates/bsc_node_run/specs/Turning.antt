@@ -23,6 +23,7 @@ use Rattle.bsc_node_run.specs.declared.news.Change.TheVariants.{Opened as DidOpe
 use Rattle.bsc_node_run.specs.declared.news.News.{News}
 use Rattle.bsc_node_run.specs.Performing.{Carries, is_draw}
 use Rattle.bsc_node_run.specs.Receiving.{link_wait}
+use Rattle.bsc_node_run.specs.Moments.{Moment, moment}
 use Rattle.bsc_node_run.specs.Worlds.{Admitting, World, Same, begun, ends, is_open, with_link}
 
 -- what a node is told of what is new of a link
@@ -69,14 +70,14 @@ module _ {N L : Type 0} (goes : N → ℕ → NodeEvent → List Action → N �
   -- ---- one event
 
   -- A word that the node draws is what it is told next.
-  abbrev pub Answers : Bool → N → World L → N → World L → Type 0
-  Answers false n w m v = (m ≡ n) × Same v w
-  Answers true n w m v = (word : NodeEvent) × (actions : List Action) × IsTrue (brings_word word) × goes n now word actions m × Carries talk actions w v
+  abbrev pub GivesWord : Bool → N → World L → N → World L → Type 0
+  GivesWord false n w m v = (m ≡ n) × Same v w
+  GivesWord true n w m v = (word : NodeEvent) × (actions : List Action) × IsTrue (brings_word word) × goes n now word actions m × Carries talk actions w v
 
   -- The node is told this, and what it does is carried out.
   abbrev pub Gives : NodeEvent → N → World L → N → World L → Type 0
   Gives e n w m v = (actions : List Action) × (p : N) × (x : World L)
-      × goes n now e actions p × Carries talk actions w x × Answers (draws actions) p x m v
+      × goes n now e actions p × Carries talk actions w x × GivesWord (draws actions) p x m v
 
   -- ---- what is new of its links
 
@@ -125,11 +126,13 @@ module _ {N L : Type 0} (goes : N → ℕ → NodeEvent → List Action → N �
 
   -- Where the node accepts direct connections, the acceptor is asked once, without waiting, and the node is told of the link
   -- that arrived.
-  abbrev pub Admits : Bool → N → World L → Admitting L → N → World L → Admitting L → Type 0
-  Admits false n w door m v door' = (m ≡ n) × Same v w × (door' ≡ door)
-  Admits true n w door m v door' = Grows door.waits door'.waits (accept_wait ∷ [])
-      × (((m ≡ n) × Same v w × Leaves door.left door'.left (Ok NoLink))
-      ⊎ ((l : L) × Leaves door.left door'.left (Ok (Link l)) × Gives Arrived n (record w { arrived = Some l }) m v))
+  abbrev pub Admits : Bool → Moment N L → Moment N L → Type 0
+  Admits false before after = (after.node ≡ before.node) × Same after.hands.world before.hands.world × (after.hands.door ≡ before.hands.door)
+  Admits true before after = Grows before.hands.door.waits after.hands.door.waits (accept_wait ∷ [])
+      × (((after.node ≡ before.node) × Same after.hands.world before.hands.world
+      × Leaves before.hands.door.left after.hands.door.left (Ok NoLink))
+      ⊎ ((l : L) × Leaves before.hands.door.left after.hands.door.left (Ok (Link l))
+      × Gives Arrived before.node (record before.hands.world { arrived = Some l }) after.node after.hands.world))
 
   -- ---- a turn
 
@@ -139,28 +142,27 @@ module _ {N L : Type 0} (goes : N → ℕ → NodeEvent → List Action → N �
 
   -- One turn: that the node starts, in the first turn; that time has passed; what is new of its links; what of the script
   -- is due; what comes of the links that are open, the hubs' first and then those in the slots; and the link that arrives.
-  pub record Turn (start : Option ℕ) (script rest : List Due) (listens : Bool) (n : N) (w : World L) (door : Admitting L)
-      (m : N) (v : World L) (door' : Admitting L) : Type 0 where
+  pub record Turn (start : Option ℕ) (script rest : List Due) (listens : Bool) (before after : Moment N L) : Type 0 where
     pub news : List News
     pub lines : List Due
-    pub w0 : World L
-    pub w1 : World L
-    pub w2 : World L
-    pub w3 : World L
-    pub w4 : World L
-    pub w5 : World L
-    pub n1 : N
-    pub n2 : N
-    pub n3 : N
-    pub n4 : N
-    pub n5 : N
-    pub begins : Same w0 (begun w)
-    pub starts : Starts start n w0 n1 w1
-    pub ticks : Gives Tick n1 w1 n2 w2
-    pub told : GivesNews news n2 w2 n3 w3
+    pub world_begun : World L
+    pub world_started : World L
+    pub world_ticked : World L
+    pub world_told : World L
+    pub world_given : World L
+    pub world_heard : World L
+    pub node_started : N
+    pub node_ticked : N
+    pub node_told : N
+    pub node_given : N
+    pub node_heard : N
+    pub begins : Same world_begun (begun before.hands.world)
+    pub starts : Starts start before.node world_begun node_started world_started
+    pub ticks : Gives Tick node_started world_started node_ticked world_ticked
+    pub told : GivesNews news node_ticked world_ticked node_told world_told
     pub parts : script ≡ lines ++ rest
     pub due : AreDue (passed_by start now) lines
     pub next : IsNotDue (passed_by start now) rest
-    pub given : GivesLines lines n3 w3 n4 w4
-    pub heard : HearsEach names n4 w4 n5 w5
-    pub admits : Admits listens n5 w5 door m v door'
+    pub given : GivesLines lines node_told world_told node_given world_given
+    pub heard : HearsEach names node_given world_given node_heard world_heard
+    pub admits : Admits listens (moment node_heard world_heard before.hands.door) after

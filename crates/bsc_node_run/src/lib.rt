@@ -4,6 +4,7 @@
 //! node does. `link_set` has the links of a node, and what is new of them.
 #![tactic(auto)]
 
+mod at;
 mod due;
 mod halt;
 mod line;
@@ -21,6 +22,7 @@ mod script;
 mod scripting;
 mod telling;
 mod texts;
+mod turn_end;
 mod turning;
 mod words;
 
@@ -33,7 +35,8 @@ pub use node_core::Core;
 pub use performing::perform;
 pub use reading::read_script;
 pub use run_end::RunEnd;
-pub use running::run_node;
+pub use running::run_core;
 pub use script::{Script, ScriptFault};
+pub use turn_end::TurnEnd;
 pub use turning::node_turn;
 pub use words::Words;

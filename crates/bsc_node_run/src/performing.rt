@@ -2,6 +2,7 @@
 ghost use Rattle.std.specs.Prelude.{◌≡◌, ◌≢◌, ◌≤◌, Err, List, ℕ, OnErr, OnOk, Option};
 ghost use Rattle.bsc_outside.specs.Faults.{HasRisen, PutsPrefix};
 ghost use Rattle.bsc_node.specs.declared.action.Action.TheVariants.{Dial};
+ghost use Rattle.bsc_node_run.specs.Halts.{RisesOnWriteFault};
 ghost use Rattle.bsc_node_run.specs.declared.halt.Halt.{Halt as HaltType};
 ghost use Rattle.bsc_node_run.specs.Lines.{delivered_line, note_line};
 ghost use Rattle.bsc_node_run.specs.declared.news.Change.TheVariants.{Lost};
@@ -169,7 +170,7 @@ fn close<L: Link + Drop>(
 fn write<K: Sink>(sink: &mut K, text: &[u8]) -> Result<(), Halt>
     ensures writes { OnOk result (Appends (K.held sink.old) (K.held sink.new) text.now) }
     ensures part { OnErr result (PutsPrefix (K.held sink.old) (K.held sink.new) text.now) }
-    ensures failed { result ≡ Err HaltType.WriteFault → HasRisen (K.faults sink.old) (K.faults sink.new) }
+    ensures failed { RisesOnWriteFault result (K.faults sink.old) (K.faults sink.new) }
     ensures later { K.faults sink.old ≤ K.faults sink.new }
     ensures accepts { result ≢ Err HaltType.AcceptFault }
 {
@@ -183,7 +184,7 @@ fn write<K: Sink>(sink: &mut K, text: &[u8]) -> Result<(), Halt>
 fn deliver<K: Sink>(alloc: Global, sink: &mut K, delivered: &Delivered) -> Result<(), Halt>
     ensures writes { OnOk result (Appends (K.held sink.old) (K.held sink.new) (delivered_line delivered.now)) }
     ensures part { OnErr result (PutsPrefix (K.held sink.old) (K.held sink.new) (delivered_line delivered.now)) }
-    ensures failed { result ≡ Err HaltType.WriteFault → HasRisen (K.faults sink.old) (K.faults sink.new) }
+    ensures failed { RisesOnWriteFault result (K.faults sink.old) (K.faults sink.new) }
     ensures later { K.faults sink.old ≤ K.faults sink.new }
     ensures accepts { result ≢ Err HaltType.AcceptFault }
 {
@@ -225,7 +226,7 @@ fn tell<K: Sink, L: Link + Drop>(
     ensures tells { OnOk result ((d : Dialling L) →
         Tells L.talk note.now (world_of set.old d (K.held sink.old)) (world_of set.new d (K.held sink.new))) }
     ensures part { OnErr result (PutsPrefix (K.held sink.old) (K.held sink.new) (note_line note.now)) }
-    ensures failed { result ≡ Err HaltType.WriteFault → HasRisen (K.faults sink.old) (K.faults sink.new) }
+    ensures failed { RisesOnWriteFault result (K.faults sink.old) (K.faults sink.new) }
     ensures later { K.faults sink.old ≤ K.faults sink.new }
     ensures accepts { result ≢ Err HaltType.AcceptFault }
 {
@@ -249,7 +250,7 @@ fn carry_out<K: Sink, L: Link + Drop, D: Dialer<L>>(
     ensures part { OnErr result (DoesPart action.now
         (world_of set.old (dialling D.calls D.left D.faults dialer.old) (K.held sink.old))
         (world_of set.new (dialling D.calls D.left D.faults dialer.new) (K.held sink.new))) }
-    ensures failed { result ≡ Err HaltType.WriteFault → HasRisen (K.faults sink.old) (K.faults sink.new) }
+    ensures failed { RisesOnWriteFault result (K.faults sink.old) (K.faults sink.new) }
     ensures later { K.faults sink.old ≤ K.faults sink.new }
     ensures accepts { result ≢ Err HaltType.AcceptFault }
 {
@@ -282,7 +283,7 @@ pub fn perform<K: Sink, L: Link + Drop, D: Dialer<L>>(
     ensures breaks { OnErr result (Breaks L.talk actions.now
         (world_of set.old (dialling D.calls D.left D.faults dialer.old) (K.held sink.old))
         (world_of set.new (dialling D.calls D.left D.faults dialer.new) (K.held sink.new))) }
-    ensures failed { result ≡ Err HaltType.WriteFault → HasRisen (K.faults sink.old) (K.faults sink.new) }
+    ensures failed { RisesOnWriteFault result (K.faults sink.old) (K.faults sink.new) }
     ensures later { K.faults sink.old ≤ K.faults sink.new }
     ensures accepts { result ≢ Err HaltType.AcceptFault }
 {

@@ -1,8 +1,7 @@
 //! A whole run of a node.
-ghost use Rattle.std.specs.Prelude.{◌≡◌, ◌≤◌, Err, IfOk, OnErr};
-ghost use Rattle.bsc_outside.specs.Faults.{HasRisen};
+ghost use Rattle.std.specs.Prelude.{◌≡◌, ◌≤◌, IfOk, OnErr};
 ghost use Rattle.bsc_edge.specs.Told.{Stays};
-ghost use Rattle.bsc_node_run.specs.declared.halt.Halt.{Halt as HaltType};
+ghost use Rattle.bsc_node_run.specs.Halts.{RisesOnAcceptFault, RisesOnWriteFault};
 ghost use Rattle.bsc_node_run.specs.Drawing.{GoesDrawing, at_rest};
 ghost use Rattle.bsc_node_run.specs.Resting.{HasRested, IsOverBy, longest_rest};
 ghost use Rattle.bsc_node_run.specs.Running.{Run};
@@ -47,7 +46,7 @@ fn rest_ms<L>(set: &LinkSet<L>, left: &[Due], passed: u64) -> u32
 /// Runs a node: makes turns until the node tells that it has ended, up to this number of them, and waits before each. The times
 /// of the turns don't fall.
 #[tactic(auto, using(crate::proofs::Told::stays_then))]
-pub fn run_node<
+pub fn run_core<
     N: Core,
     K: Sink,
     C: Clock,
@@ -70,22 +69,48 @@ pub fn run_node<
     dialer: &mut D,
 ) -> Result<RunEnd, Halt>
     ensures runs { IfOk result (λ end. Run (GoesDrawing N.goes W.gives W.faults) L.talk listens end turns script.now
-        (at_rest node.old random.old) (dialling D.calls D.left D.faults dialer.old) (K.held sink.old)
-        (admitting A.left A.waits acceptor.old) (C.readings clock.old)
-        (at_rest node.new random.new) (dialling D.calls D.left D.faults dialer.new) (K.held sink.new)
-        (admitting A.left A.waits acceptor.new) (C.readings clock.new)) }
+        (record {
+          node = at_rest node.old random.old;
+          out = record {
+            dialled = dialling D.calls D.left D.faults dialer.old;
+            written = K.held sink.old;
+            door = admitting A.left A.waits acceptor.old;
+            readings = C.readings clock.old;
+          };
+        })
+        (record {
+          node = at_rest node.new random.new;
+          out = record {
+            dialled = dialling D.calls D.left D.faults dialer.new;
+            written = K.held sink.new;
+            door = admitting A.left A.waits acceptor.new;
+            readings = C.readings clock.new;
+          };
+        })) }
 
     // Where it ends by a fault, what was done is as in a run up to there, and one action more in part.
     ensures fails { OnErr result (RunFails (GoesDrawing N.goes W.gives W.faults) L.talk listens turns script.now
-        (at_rest node.old random.old) (dialling D.calls D.left D.faults dialer.old) (K.held sink.old)
-        (admitting A.left A.waits acceptor.old) (C.readings clock.old)
-        (dialling D.calls D.left D.faults dialer.new) (K.held sink.new) (admitting A.left A.waits acceptor.new) (C.readings clock.new)) }
+        (record {
+          node = at_rest node.old random.old;
+          out = record {
+            dialled = dialling D.calls D.left D.faults dialer.old;
+            written = K.held sink.old;
+            door = admitting A.left A.waits acceptor.old;
+            readings = C.readings clock.old;
+          };
+        })
+        (record {
+          dialled = dialling D.calls D.left D.faults dialer.new;
+          written = K.held sink.new;
+          door = admitting A.left A.waits acceptor.new;
+          readings = C.readings clock.new;
+        })) }
 
     // Whatever ends it, there was one wait before each turn: of no time before the first; and then of 50 ms at most, and no longer
     // than it was, at the turn before, until the next line of the script.
     ensures rests { HasRested script.now (C.readings clock.old) (C.readings clock.new) (V.waits waiter.old) (V.waits waiter.new) }
-    ensures write { result ≡ Err HaltType.WriteFault → HasRisen (K.faults sink.old) (K.faults sink.new) }
-    ensures accept { result ≡ Err HaltType.AcceptFault → HasRisen (A.faults acceptor.old) (A.faults acceptor.new) }
+    ensures write { RisesOnWriteFault result (K.faults sink.old) (K.faults sink.new) }
+    ensures accept { RisesOnAcceptFault result (A.faults acceptor.old) (A.faults acceptor.new) }
     ensures writes_later { K.faults sink.old ≤ K.faults sink.new }
     ensures links_later { A.faults acceptor.old ≤ A.faults acceptor.new }
 
@@ -98,15 +123,15 @@ pub fn run_node<
     let mut wait_ms = 0;
     for made in 0..turns {
         waiter.wait(wait_ms);
-        let (now, rest) = node_turn(
+        let turn = node_turn(
             alloc, node, &mut set, left, start, listens, sink, clock, random, acceptor, dialer,
         )?;
         if set.finished {
             return Ok(RunEnd::Finished);
         }
-        start = Some(start.unwrap_or(now));
-        left = rest;
-        wait_ms = rest_ms(&set, left, passed_by(start, now));
+        start = Some(start.unwrap_or(turn.time));
+        left = turn.left;
+        wait_ms = rest_ms(&set, left, passed_by(start, turn.time));
     }
     Ok(RunEnd::Spent)
 }

@@ -1,16 +1,17 @@
 //! Telling a node what came, and carrying out what it does.
 ghost use Rattle.std.specs.Prelude.{◌≡◌, ◌≢◌, ◌<◌, ◌≤◌, ◌^◌, true, Err, IfOk, OnErr, OnOk, IsTrue};
-ghost use Rattle.bsc_outside.specs.Faults.{HasRisen};
 ghost use Rattle.bsc_node.specs.declared.node_event.NodeEvent.{NodeEvent as NodeEventType};
 ghost use Rattle.bsc_node.specs.Conditions.{brings_word};
+ghost use Rattle.bsc_node_run.specs.Halts.{RisesOnWriteFault};
 ghost use Rattle.bsc_node_run.specs.declared.halt.Halt.{Halt as HaltType};
 ghost use Rattle.bsc_node_run.specs.Drawing.{Draws, GoesDrawing, at_rest};
-ghost use Rattle.bsc_node_run.specs.Turning.{Answers, Gives, draws};
+ghost use Rattle.bsc_node_run.specs.Turning.{GivesWord, Gives, draws};
 ghost use Rattle.bsc_node_run.specs.Performing.{Carries, is_draw};
 ghost use Rattle.bsc_node_run.specs.Stopping.{GiveStops, StopsAt};
 ghost use Rattle.bsc_node_run.specs.Worlds.{dialling, world_of};
 ghost use Rattle.bsc_node_run.specs.Requests.{has_octets};
 
+use crate::at::At;
 use crate::halt::Halt;
 use crate::link_set::LinkSet;
 use crate::node_core::Core;
@@ -19,7 +20,6 @@ use crate::words::Words;
 use bsc_edge::{Dialer, Link};
 use bsc_node::{Action, NodeEvent};
 use bsc_outside::{Failed, Sink};
-use std::alloc::Global;
 
 /// Whether a random word is drawn.
 fn is_draw(action: &Action) -> bool
@@ -58,57 +58,53 @@ fn draw<W: Words>(random: &mut W) -> NodeEvent
 
 /// Tells a node what came, and carries out what it does, but for a random word that it draws.
 fn tell<N: Core, K: Sink, L: Link + Drop, D: Dialer<L>>(
-    alloc: Global,
+    at: At,
     node: &mut N,
     set: &mut LinkSet<L>,
     sink: &mut K,
     dialer: &mut D,
-    now: u64,
     event: &NodeEvent,
 ) -> Result<Vec<Action>, Halt>
-    requires time { now < 2 ^ 62 }
-    requires octets { has_octets event.now ≡ true }
-    ensures goes { IfOk result (λ actions. N.goes node.old now event.now actions.items node.new) }
+    requires { has_octets event.now ≡ true }
+    ensures goes { IfOk result (λ actions. N.goes node.old at.time event.now actions.items node.new) }
     ensures carries { IfOk result (λ actions. Carries L.talk actions.items
         (world_of set.old (dialling D.calls D.left D.faults dialer.old) (K.held sink.old))
         (world_of set.new (dialling D.calls D.left D.faults dialer.new) (K.held sink.new))) }
-    ensures stops { OnErr result (StopsAt N.goes L.talk now event.now node.old
+    ensures stops { OnErr result (StopsAt N.goes L.talk at.time event.now node.old
         (world_of set.old (dialling D.calls D.left D.faults dialer.old) (K.held sink.old))
         (world_of set.new (dialling D.calls D.left D.faults dialer.new) (K.held sink.new))) }
-    ensures failed { result ≡ Err HaltType.WriteFault → HasRisen (K.faults sink.old) (K.faults sink.new) }
+    ensures failed { RisesOnWriteFault result (K.faults sink.old) (K.faults sink.new) }
     ensures later { K.faults sink.old ≤ K.faults sink.new }
     ensures accepts { result ≢ Err HaltType.AcceptFault }
 {
-    let actions = node.event(alloc, now, event)?;
-    perform(alloc, actions.as_slice(), set, sink, dialer)?;
+    let actions = node.event(at.alloc, at.time, event)?;
+    perform(at.alloc, actions.as_slice(), set, sink, dialer)?;
     Ok(actions)
 }
 
 /// Draws a random word for a node, and tells it that.
 fn tell_word<N: Core, K: Sink, W: Words, L: Link + Drop, D: Dialer<L>>(
-    alloc: Global,
+    at: At,
     node: &mut N,
     set: &mut LinkSet<L>,
     sink: &mut K,
     random: &mut W,
     dialer: &mut D,
-    now: u64,
 ) -> Result<(), Halt>
-    requires { now < 2 ^ 62 }
-    ensures answers { OnOk result (Answers (GoesDrawing N.goes W.gives W.faults) L.talk now true
+    ensures answers { OnOk result (GivesWord (GoesDrawing N.goes W.gives W.faults) L.talk at.time true
         (record { node = node.old; words = random.old; awaits = true })
         (world_of set.old (dialling D.calls D.left D.faults dialer.old) (K.held sink.old))
         (at_rest node.new random.new) (world_of set.new (dialling D.calls D.left D.faults dialer.new) (K.held sink.new))) }
-    ensures stops { OnErr result ((word : NodeEventType) × IsTrue (brings_word word) × StopsAt (GoesDrawing N.goes W.gives W.faults) L.talk now word
+    ensures stops { OnErr result ((word : NodeEventType) × IsTrue (brings_word word) × StopsAt (GoesDrawing N.goes W.gives W.faults) L.talk at.time word
         (record { node = node.old; words = random.old; awaits = true })
         (world_of set.old (dialling D.calls D.left D.faults dialer.old) (K.held sink.old))
         (world_of set.new (dialling D.calls D.left D.faults dialer.new) (K.held sink.new))) }
-    ensures failed { result ≡ Err HaltType.WriteFault → HasRisen (K.faults sink.old) (K.faults sink.new) }
+    ensures failed { RisesOnWriteFault result (K.faults sink.old) (K.faults sink.new) }
     ensures later { K.faults sink.old ≤ K.faults sink.new }
     ensures accepts { result ≢ Err HaltType.AcceptFault }
 {
     let word = draw(random);
-    match tell(alloc, node, set, sink, dialer, now, &word) {
+    match tell(at, node, set, sink, dialer, &word) {
         Ok(_) => Ok(()),
         Err(halt) => Err(halt),
     }
@@ -116,30 +112,28 @@ fn tell_word<N: Core, K: Sink, W: Words, L: Link + Drop, D: Dialer<L>>(
 
 /// Tells a node what came, and carries out what it does. Where it draws a random word, that is what it is told next.
 pub(crate) fn give<N: Core, K: Sink, W: Words, L: Link + Drop, D: Dialer<L>>(
-    alloc: Global,
+    at: At,
     node: &mut N,
     set: &mut LinkSet<L>,
     sink: &mut K,
     random: &mut W,
     dialer: &mut D,
-    now: u64,
     event: &NodeEvent,
 ) -> Result<(), Halt>
-    requires time { now < 2 ^ 62 }
-    requires octets { has_octets event.now ≡ true }
-    ensures gives { OnOk result (Gives (GoesDrawing N.goes W.gives W.faults) L.talk now event.now
+    requires { has_octets event.now ≡ true }
+    ensures gives { OnOk result (Gives (GoesDrawing N.goes W.gives W.faults) L.talk at.time event.now
         (at_rest node.old random.old) (world_of set.old (dialling D.calls D.left D.faults dialer.old) (K.held sink.old))
         (at_rest node.new random.new) (world_of set.new (dialling D.calls D.left D.faults dialer.new) (K.held sink.new))) }
-    ensures stops { OnErr result (GiveStops (GoesDrawing N.goes W.gives W.faults) L.talk now event.now
+    ensures stops { OnErr result (GiveStops (GoesDrawing N.goes W.gives W.faults) L.talk at.time event.now
         (at_rest node.old random.old) (world_of set.old (dialling D.calls D.left D.faults dialer.old) (K.held sink.old))
         (world_of set.new (dialling D.calls D.left D.faults dialer.new) (K.held sink.new))) }
-    ensures failed { result ≡ Err HaltType.WriteFault → HasRisen (K.faults sink.old) (K.faults sink.new) }
+    ensures failed { RisesOnWriteFault result (K.faults sink.old) (K.faults sink.new) }
     ensures later { K.faults sink.old ≤ K.faults sink.new }
     ensures accepts { result ≢ Err HaltType.AcceptFault }
 {
-    let actions = tell(alloc, node, set, sink, dialer, now, event)?;
+    let actions = tell(at, node, set, sink, dialer, event)?;
     if draws(actions.as_slice()) {
-        tell_word(alloc, node, set, sink, random, dialer, now)
+        tell_word(at, node, set, sink, random, dialer)
     } else {
         Ok(())
     }

@@ -1,9 +1,9 @@
 //! One turn of a node.
 ghost use Rattle.std.specs.Prelude.{◌≡◌, ◌≢◌, ◌<◌, ◌≤◌, ◌^◌, ◌∷◌, ◌++◌, [], true, Err, IfSome, IfOk, OnErr, OnOk};
 ghost use Rattle.std.specs.Prelude.{List, ℕ, Option, Some};
-ghost use Rattle.bsc_outside.specs.Faults.{HasRisen};
 ghost use Rattle.bsc_edge.specs.Told.{Grows, Stays};
 ghost use Rattle.bsc_node.specs.declared.node_event.NodeEvent.TheVariants.{Lost as LostEvent};
+ghost use Rattle.bsc_node_run.specs.Halts.{RisesOnAcceptFault, RisesOnWriteFault};
 ghost use Rattle.bsc_node_run.specs.declared.due.Due.{Due as DueType};
 ghost use Rattle.bsc_node_run.specs.declared.halt.Halt.{Halt as HaltType};
 ghost use Rattle.bsc_node_run.specs.declared.news.News.{News as NewsType};
@@ -15,12 +15,14 @@ ghost use Rattle.bsc_node_run.specs.Turning.{Admits, AreDue, GivesLines, GivesNe
 ghost use Rattle.bsc_node_run.specs.Turning.{Starts, Turn, event_of, names, passed_by, slots_from};
 ghost use Rattle.bsc_node_run.specs.Worlds.{Dialling, Same, admitting, dialling, link_in, with_over, world_of};
 
+use crate::at::At;
 use crate::due::Due;
 use crate::halt::Halt;
 use crate::link_set::LinkSet;
 use crate::news::{Change, News};
 use crate::node_core::Core;
 use crate::telling::give;
+use crate::turn_end::TurnEnd;
 use crate::words::Words;
 use bsc_connector::Side;
 use bsc_edge::{Acceptor, Arrived, Clock, Dialer, Incoming, Link, LinkFault};
@@ -49,54 +51,50 @@ fn event_of(news: News) -> NodeEvent
 
 /// Tells the node what is new of its links, the oldest first.
 fn give_news<N: Core, K: Sink, W: Words, L: Link + Drop, D: Dialer<L>>(
-    alloc: Global,
+    at: At,
     node: &mut N,
     set: &mut LinkSet<L>,
     sink: &mut K,
     random: &mut W,
     dialer: &mut D,
-    now: u64,
 ) -> Result<(), Halt>
-    requires { now < 2 ^ 62 }
-    ensures gives { OnOk result ((news : List NewsType) × GivesNews (GoesDrawing N.goes W.gives W.faults) L.talk now news
+    ensures gives { OnOk result ((news : List NewsType) × GivesNews (GoesDrawing N.goes W.gives W.faults) L.talk at.time news
         (at_rest node.old random.old) (world_of set.old (dialling D.calls D.left D.faults dialer.old) (K.held sink.old))
         (at_rest node.new random.new) (world_of set.new (dialling D.calls D.left D.faults dialer.new) (K.held sink.new))) }
-    ensures stops { OnErr result ((news : List NewsType) × NewsStop (GoesDrawing N.goes W.gives W.faults) L.talk now news
+    ensures stops { OnErr result ((news : List NewsType) × NewsStop (GoesDrawing N.goes W.gives W.faults) L.talk at.time news
         (at_rest node.old random.old) (world_of set.old (dialling D.calls D.left D.faults dialer.old) (K.held sink.old))
         (world_of set.new (dialling D.calls D.left D.faults dialer.new) (K.held sink.new))) }
-    ensures failed { result ≡ Err HaltType.WriteFault → HasRisen (K.faults sink.old) (K.faults sink.new) }
+    ensures failed { RisesOnWriteFault result (K.faults sink.old) (K.faults sink.new) }
     ensures later { K.faults sink.old ≤ K.faults sink.new }
     ensures accepts { result ≢ Err HaltType.AcceptFault }
 {
     while let Some(news) = set.due.pop_front() {
-        give(alloc, node, set, sink, random, dialer, now, &event_of(news))?;
+        give(at, node, set, sink, random, dialer, &event_of(news))?;
     }
     Ok(())
 }
 
 /// Tells the node what is to be told by now, and gives what isn't.
 fn give_due<'a, N: Core, K: Sink, W: Words, L: Link + Drop, D: Dialer<L>>(
-    alloc: Global,
+    at: At,
     node: &mut N,
     set: &mut LinkSet<L>,
     sink: &mut K,
     random: &mut W,
     dialer: &mut D,
-    now: u64,
     passed: u64,
     script: &'a [Due],
 ) -> Result<&'a [Due], Halt>
-    requires { now < 2 ^ 62 }
     ensures gives { IfOk result (λ rest. (lines : List DueType)
         × (script.now ≡ lines ++ rest.now) × AreDue passed lines × IsNotDue passed rest.now
-        × GivesLines (GoesDrawing N.goes W.gives W.faults) L.talk now lines
+        × GivesLines (GoesDrawing N.goes W.gives W.faults) L.talk at.time lines
         (at_rest node.old random.old) (world_of set.old (dialling D.calls D.left D.faults dialer.old) (K.held sink.old))
         (at_rest node.new random.new) (world_of set.new (dialling D.calls D.left D.faults dialer.new) (K.held sink.new))) }
     ensures stops { OnErr result ((lines rest : List DueType) × (script.now ≡ lines ++ rest) × AreDue passed lines
-        × LinesStop (GoesDrawing N.goes W.gives W.faults) L.talk now lines
+        × LinesStop (GoesDrawing N.goes W.gives W.faults) L.talk at.time lines
         (at_rest node.old random.old) (world_of set.old (dialling D.calls D.left D.faults dialer.old) (K.held sink.old))
         (world_of set.new (dialling D.calls D.left D.faults dialer.new) (K.held sink.new))) }
-    ensures failed { result ≡ Err HaltType.WriteFault → HasRisen (K.faults sink.old) (K.faults sink.new) }
+    ensures failed { RisesOnWriteFault result (K.faults sink.old) (K.faults sink.new) }
     ensures later { K.faults sink.old ≤ K.faults sink.new }
     ensures accepts { result ≢ Err HaltType.AcceptFault }
 {
@@ -105,7 +103,7 @@ fn give_due<'a, N: Core, K: Sink, W: Words, L: Link + Drop, D: Dialer<L>>(
         if passed < due.at {
             return Ok(left);
         }
-        give(alloc, node, set, sink, random, dialer, now, &due.event)?;
+        give(at, node, set, sink, random, dialer, &due.event)?;
         left = rest;
     }
     Ok(left)
@@ -160,160 +158,150 @@ fn receive<L: Link + Drop>(
 
 /// Receives once on the link of a name, where the node was told that it is open, and tells the node what came.
 fn hear<N: Core, K: Sink, W: Words, L: Link + Drop, D: Dialer<L>>(
-    alloc: Global,
+    at: At,
     node: &mut N,
     set: &mut LinkSet<L>,
     sink: &mut K,
     random: &mut W,
     dialer: &mut D,
-    now: u64,
     name: LinkName,
 ) -> Result<(), Halt>
-    requires { now < 2 ^ 62 }
-    ensures hears { OnOk result (Hears (GoesDrawing N.goes W.gives W.faults) L.talk now name
+    ensures hears { OnOk result (Hears (GoesDrawing N.goes W.gives W.faults) L.talk at.time name
         (at_rest node.old random.old) (world_of set.old (dialling D.calls D.left D.faults dialer.old) (K.held sink.old))
         (at_rest node.new random.new) (world_of set.new (dialling D.calls D.left D.faults dialer.new) (K.held sink.new))) }
-    ensures stops { OnErr result (HearStops (GoesDrawing N.goes W.gives W.faults) L.talk now name
+    ensures stops { OnErr result (HearStops (GoesDrawing N.goes W.gives W.faults) L.talk at.time name
         (at_rest node.old random.old) (world_of set.old (dialling D.calls D.left D.faults dialer.old) (K.held sink.old))
         (world_of set.new (dialling D.calls D.left D.faults dialer.new) (K.held sink.new))) }
-    ensures failed { result ≡ Err HaltType.WriteFault → HasRisen (K.faults sink.old) (K.faults sink.new) }
+    ensures failed { RisesOnWriteFault result (K.faults sink.old) (K.faults sink.new) }
     ensures later { K.faults sink.old ≤ K.faults sink.new }
     ensures accepts { result ≢ Err HaltType.AcceptFault }
 {
     if !set.is_open(name) {
         return Ok(());
     }
-    match receive(alloc, set, name)? {
-        Some(event) => give(alloc, node, set, sink, random, dialer, now, &event),
+    match receive(at.alloc, set, name)? {
+        Some(event) => give(at, node, set, sink, random, dialer, &event),
         None => Ok(()),
     }
 }
 
 /// Receives once on each open link in a slot.
 fn hear_slots<N: Core, K: Sink, W: Words, L: Link + Drop, D: Dialer<L>>(
-    alloc: Global,
+    at: At,
     node: &mut N,
     set: &mut LinkSet<L>,
     sink: &mut K,
     random: &mut W,
     dialer: &mut D,
-    now: u64,
 ) -> Result<(), Halt>
-    requires { now < 2 ^ 62 }
-    ensures hears { OnOk result (HearsEach (GoesDrawing N.goes W.gives W.faults) L.talk now (slots_from 64 0)
+    ensures hears { OnOk result (HearsEach (GoesDrawing N.goes W.gives W.faults) L.talk at.time (slots_from 64 0)
         (at_rest node.old random.old) (world_of set.old (dialling D.calls D.left D.faults dialer.old) (K.held sink.old))
         (at_rest node.new random.new) (world_of set.new (dialling D.calls D.left D.faults dialer.new) (K.held sink.new))) }
-    ensures stops { OnErr result (EachStop (GoesDrawing N.goes W.gives W.faults) L.talk now (slots_from 64 0)
+    ensures stops { OnErr result (EachStop (GoesDrawing N.goes W.gives W.faults) L.talk at.time (slots_from 64 0)
         (at_rest node.old random.old) (world_of set.old (dialling D.calls D.left D.faults dialer.old) (K.held sink.old))
         (world_of set.new (dialling D.calls D.left D.faults dialer.new) (K.held sink.new))) }
-    ensures failed { result ≡ Err HaltType.WriteFault → HasRisen (K.faults sink.old) (K.faults sink.new) }
+    ensures failed { RisesOnWriteFault result (K.faults sink.old) (K.faults sink.new) }
     ensures later { K.faults sink.old ≤ K.faults sink.new }
     ensures accepts { result ≢ Err HaltType.AcceptFault }
 {
     for k in 0..64 {
-        hear(
-            alloc,
-            node,
-            set,
-            sink,
-            random,
-            dialer,
-            now,
-            LinkName::Direct(k),
-        )?;
+        hear(at, node, set, sink, random, dialer, LinkName::Direct(k))?;
     }
     Ok(())
 }
 
 /// Receives once on each open link: those of the hubs first, and then those in the slots.
 fn hear_all<N: Core, K: Sink, W: Words, L: Link + Drop, D: Dialer<L>>(
-    alloc: Global,
+    at: At,
     node: &mut N,
     set: &mut LinkSet<L>,
     sink: &mut K,
     random: &mut W,
     dialer: &mut D,
-    now: u64,
 ) -> Result<(), Halt>
-    requires { now < 2 ^ 62 }
-    ensures hears { OnOk result (HearsEach (GoesDrawing N.goes W.gives W.faults) L.talk now names
+    ensures hears { OnOk result (HearsEach (GoesDrawing N.goes W.gives W.faults) L.talk at.time names
         (at_rest node.old random.old) (world_of set.old (dialling D.calls D.left D.faults dialer.old) (K.held sink.old))
         (at_rest node.new random.new) (world_of set.new (dialling D.calls D.left D.faults dialer.new) (K.held sink.new))) }
-    ensures stops { OnErr result (EachStop (GoesDrawing N.goes W.gives W.faults) L.talk now names
+    ensures stops { OnErr result (EachStop (GoesDrawing N.goes W.gives W.faults) L.talk at.time names
         (at_rest node.old random.old) (world_of set.old (dialling D.calls D.left D.faults dialer.old) (K.held sink.old))
         (world_of set.new (dialling D.calls D.left D.faults dialer.new) (K.held sink.new))) }
-    ensures failed { result ≡ Err HaltType.WriteFault → HasRisen (K.faults sink.old) (K.faults sink.new) }
+    ensures failed { RisesOnWriteFault result (K.faults sink.old) (K.faults sink.new) }
     ensures later { K.faults sink.old ≤ K.faults sink.new }
     ensures accepts { result ≢ Err HaltType.AcceptFault }
 {
     hear(
-        alloc,
+        at,
         node,
         set,
         sink,
         random,
         dialer,
-        now,
         LinkName::Hub(Side::Primary),
     )?;
     hear(
-        alloc,
+        at,
         node,
         set,
         sink,
         random,
         dialer,
-        now,
         LinkName::Hub(Side::Failover),
     )?;
-    hear_slots(alloc, node, set, sink, random, dialer, now)
+    hear_slots(at, node, set, sink, random, dialer)
 }
 
 /// Asks the acceptor once, where the node accepts direct connections, and tells the node of the link that arrived.
 #[tactic(auto, using(crate::proofs::Told::stays_same))]
 fn admit<N: Core, K: Sink, W: Words, L: Link + Drop, A: Acceptor<L>, D: Dialer<L>>(
-    alloc: Global,
+    at: At,
     node: &mut N,
     set: &mut LinkSet<L>,
     sink: &mut K,
     random: &mut W,
     acceptor: &mut A,
     dialer: &mut D,
-    now: u64,
     listens: bool,
 ) -> Result<(), Halt>
-    requires { now < 2 ^ 62 }
-    ensures admits { OnOk result (Admits (GoesDrawing N.goes W.gives W.faults) L.talk now listens
-        (at_rest node.old random.old)
-        (world_of set.old (dialling D.calls D.left D.faults dialer.old) (K.held sink.old)) (admitting A.left A.waits acceptor.old)
-        (at_rest node.new random.new)
-        (world_of set.new (dialling D.calls D.left D.faults dialer.new) (K.held sink.new)) (admitting A.left A.waits acceptor.new)) }
-    ensures stops { OnErr result (AdmitStops (GoesDrawing N.goes W.gives W.faults) L.talk now listens
-        (at_rest node.old random.old)
-        (world_of set.old (dialling D.calls D.left D.faults dialer.old) (K.held sink.old)) (admitting A.left A.waits acceptor.old)
-        (world_of set.new (dialling D.calls D.left D.faults dialer.new) (K.held sink.new)) (admitting A.left A.waits acceptor.new)) }
-    ensures failed { result ≡ Err HaltType.WriteFault → HasRisen (K.faults sink.old) (K.faults sink.new) }
+    ensures admits { OnOk result (Admits (GoesDrawing N.goes W.gives W.faults) L.talk at.time listens
+        (record {
+          node = at_rest node.old random.old;
+          hands = record {
+            world = world_of set.old (dialling D.calls D.left D.faults dialer.old) (K.held sink.old);
+            door = admitting A.left A.waits acceptor.old;
+          };
+        })
+        (record {
+          node = at_rest node.new random.new;
+          hands = record {
+            world = world_of set.new (dialling D.calls D.left D.faults dialer.new) (K.held sink.new);
+            door = admitting A.left A.waits acceptor.new;
+          };
+        })) }
+    ensures stops { OnErr result (AdmitStops (GoesDrawing N.goes W.gives W.faults) L.talk at.time listens
+        (record {
+          node = at_rest node.old random.old;
+          hands = record {
+            world = world_of set.old (dialling D.calls D.left D.faults dialer.old) (K.held sink.old);
+            door = admitting A.left A.waits acceptor.old;
+          };
+        })
+        (record {
+          world = world_of set.new (dialling D.calls D.left D.faults dialer.new) (K.held sink.new);
+          door = admitting A.left A.waits acceptor.new;
+        })) }
+    ensures failed { RisesOnWriteFault result (K.faults sink.old) (K.faults sink.new) }
     ensures later { K.faults sink.old ≤ K.faults sink.new }
-    ensures accept { result ≡ Err HaltType.AcceptFault → HasRisen (A.faults acceptor.old) (A.faults acceptor.new) }
+    ensures accept { RisesOnAcceptFault result (A.faults acceptor.old) (A.faults acceptor.new) }
     ensures arrivals { A.faults acceptor.old ≤ A.faults acceptor.new }
     ensures bound { Stays (A.bound acceptor.old) (A.bound acceptor.new) }
 {
     if !listens {
         return Ok(());
     }
-    match acceptor.next(alloc, ACCEPT_WAIT_MS) {
+    match acceptor.next(at.alloc, ACCEPT_WAIT_MS) {
         Ok(Arrived::Link(link)) => {
             set.arrived = Some(link);
-            give(
-                alloc,
-                node,
-                set,
-                sink,
-                random,
-                dialer,
-                now,
-                &NodeEvent::Arrived,
-            )
+            give(at, node, set, sink, random, dialer, &NodeEvent::Arrived)
         }
         Ok(Arrived::Quiet) => Ok(()),
         Err(LinkFault::Failed) => Err(Halt::AcceptFault),
@@ -323,37 +311,26 @@ fn admit<N: Core, K: Sink, W: Words, L: Link + Drop, A: Acceptor<L>, D: Dialer<L
 
 /// Tells the node that it starts, where it has no start yet.
 fn begin<N: Core, K: Sink, W: Words, L: Link + Drop, D: Dialer<L>>(
-    alloc: Global,
+    at: At,
     node: &mut N,
     set: &mut LinkSet<L>,
     sink: &mut K,
     random: &mut W,
     dialer: &mut D,
-    now: u64,
     start: Option<u64>,
 ) -> Result<(), Halt>
-    requires { now < 2 ^ 62 }
-    ensures starts { OnOk result (Starts (GoesDrawing N.goes W.gives W.faults) L.talk now start
+    ensures starts { OnOk result (Starts (GoesDrawing N.goes W.gives W.faults) L.talk at.time start
         (at_rest node.old random.old) (world_of set.old (dialling D.calls D.left D.faults dialer.old) (K.held sink.old))
         (at_rest node.new random.new) (world_of set.new (dialling D.calls D.left D.faults dialer.new) (K.held sink.new))) }
-    ensures stops { OnErr result (StartStops (GoesDrawing N.goes W.gives W.faults) L.talk now start
+    ensures stops { OnErr result (StartStops (GoesDrawing N.goes W.gives W.faults) L.talk at.time start
         (at_rest node.old random.old) (world_of set.old (dialling D.calls D.left D.faults dialer.old) (K.held sink.old))
         (world_of set.new (dialling D.calls D.left D.faults dialer.new) (K.held sink.new))) }
-    ensures failed { result ≡ Err HaltType.WriteFault → HasRisen (K.faults sink.old) (K.faults sink.new) }
+    ensures failed { RisesOnWriteFault result (K.faults sink.old) (K.faults sink.new) }
     ensures later { K.faults sink.old ≤ K.faults sink.new }
     ensures accepts { result ≢ Err HaltType.AcceptFault }
 {
     match start {
-        None => give(
-            alloc,
-            node,
-            set,
-            sink,
-            random,
-            dialer,
-            now,
-            &NodeEvent::Start,
-        ),
+        None => give(at, node, set, sink, random, dialer, &NodeEvent::Start),
         Some(_) => Ok(()),
     }
 }
@@ -369,7 +346,7 @@ pub(crate) fn passed_by(start: Option<u64>, now: u64) -> u64
 /// that time has passed; what is new of its links; what of the script is due; what comes of each open link; and that a
 /// link arrived, where it accepts direct connections. What the node does at each is carried out before the next.
 ///
-/// `start` is the time of the first turn. It gives the time of this turn, and what of the script isn't due yet.
+/// `start` is the time of the first turn.
 #[tactic(auto, using(crate::proofs::Told::stays_same))]
 pub fn node_turn<
     'a,
@@ -392,62 +369,69 @@ pub fn node_turn<
     random: &mut W,
     acceptor: &mut A,
     dialer: &mut D,
-) -> Result<(u64, &'a [Due]), Halt>
-    ensures turns { IfOk result (λ r. Turn (GoesDrawing N.goes W.gives W.faults) L.talk r.0 start script.now r.1.now listens
-        (at_rest node.old random.old)
-        (world_of set.old (dialling D.calls D.left D.faults dialer.old) (K.held sink.old)) (admitting A.left A.waits acceptor.old)
-        (at_rest node.new random.new)
-        (world_of set.new (dialling D.calls D.left D.faults dialer.new) (K.held sink.new)) (admitting A.left A.waits acceptor.new)) }
+) -> Result<TurnEnd<'a>, Halt>
+    ensures turns { IfOk result (λ r. Turn (GoesDrawing N.goes W.gives W.faults) L.talk r.time start script.now r.left.now listens
+        (record {
+          node = at_rest node.old random.old;
+          hands = record {
+            world = world_of set.old (dialling D.calls D.left D.faults dialer.old) (K.held sink.old);
+            door = admitting A.left A.waits acceptor.old;
+          };
+        })
+        (record {
+          node = at_rest node.new random.new;
+          hands = record {
+            world = world_of set.new (dialling D.calls D.left D.faults dialer.new) (K.held sink.new);
+            door = admitting A.left A.waits acceptor.new;
+          };
+        })) }
 
     // Where it ends by a fault, its parts went through in this order, up to the one in which it stopped.
     ensures stops { OnErr result ((t : ℕ) × Grows (C.readings clock.old) (C.readings clock.new) (t ∷ []) × (t < 2 ^ 62)
         × (C.newest clock.old ≤ t) × TurnStops (GoesDrawing N.goes W.gives W.faults) L.talk t start script.now listens
-        (at_rest node.old random.old)
-        (world_of set.old (dialling D.calls D.left D.faults dialer.old) (K.held sink.old)) (admitting A.left A.waits acceptor.old)
-        (world_of set.new (dialling D.calls D.left D.faults dialer.new) (K.held sink.new)) (admitting A.left A.waits acceptor.new)) }
-    ensures reading { IfOk result (λ r. Grows (C.readings clock.old) (C.readings clock.new) (r.0 ∷ [])) }
-    ensures below { IfOk result (λ r. r.0 < 2 ^ 62) }
+        (record {
+          node = at_rest node.old random.old;
+          hands = record {
+            world = world_of set.old (dialling D.calls D.left D.faults dialer.old) (K.held sink.old);
+            door = admitting A.left A.waits acceptor.old;
+          };
+        })
+        (record {
+          world = world_of set.new (dialling D.calls D.left D.faults dialer.new) (K.held sink.new);
+          door = admitting A.left A.waits acceptor.new;
+        })) }
+    ensures reading { IfOk result (λ r. Grows (C.readings clock.old) (C.readings clock.new) (r.time ∷ [])) }
+    ensures below { IfOk result (λ r. r.time < 2 ^ 62) }
 
     // The time isn't less than the clock's newest reading before, and is its newest from then on.
-    ensures rises { IfOk result (λ r. C.newest clock.old ≤ r.0) }
-    ensures newest { IfOk result (λ r. C.newest clock.new ≡ r.0) }
+    ensures rises { IfOk result (λ r. C.newest clock.old ≤ r.time) }
+    ensures newest { IfOk result (λ r. C.newest clock.new ≡ r.time) }
 
-    ensures failed { result ≡ Err HaltType.WriteFault → HasRisen (K.faults sink.old) (K.faults sink.new) }
+    ensures failed { RisesOnWriteFault result (K.faults sink.old) (K.faults sink.new) }
     ensures later { K.faults sink.old ≤ K.faults sink.new }
-    ensures accept { result ≡ Err HaltType.AcceptFault → HasRisen (A.faults acceptor.old) (A.faults acceptor.new) }
+    ensures accept { RisesOnAcceptFault result (A.faults acceptor.old) (A.faults acceptor.new) }
     ensures arrivals { A.faults acceptor.old ≤ A.faults acceptor.new }
 
     // The acceptor stays bound to the port that it was bound to.
     ensures bound { Stays (A.bound acceptor.old) (A.bound acceptor.new) }
 {
     let now = clock.now();
+    let at = At { alloc, time: now };
     set.begin_turn(alloc);
-    begin(alloc, node, set, sink, random, dialer, now, start)?;
-    give(
-        alloc,
-        node,
-        set,
-        sink,
-        random,
-        dialer,
-        now,
-        &NodeEvent::Tick,
-    )?;
-    give_news(alloc, node, set, sink, random, dialer, now)?;
+    begin(at, node, set, sink, random, dialer, start)?;
+    give(at, node, set, sink, random, dialer, &NodeEvent::Tick)?;
+    give_news(at, node, set, sink, random, dialer)?;
     let left = give_due(
-        alloc,
+        at,
         node,
         set,
         sink,
         random,
         dialer,
-        now,
         passed_by(start, now),
         script,
     )?;
-    hear_all(alloc, node, set, sink, random, dialer, now)?;
-    admit(
-        alloc, node, set, sink, random, acceptor, dialer, now, listens,
-    )?;
-    Ok((now, left))
+    hear_all(at, node, set, sink, random, dialer)?;
+    admit(at, node, set, sink, random, acceptor, dialer, listens)?;
+    Ok(TurnEnd { time: now, left })
 }

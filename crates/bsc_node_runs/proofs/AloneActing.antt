@@ -28,8 +28,8 @@ use Rattle.bsc_node_run.specs.declared.news.Change.TheVariants.{DialFailed as Di
 use Rattle.bsc_node_run.specs.declared.news.News.{News}
 use Rattle.bsc_node_run.specs.Worlds.{Dialling, World, Same, without, forgets}
 use Rattle.bsc_node_run.specs.Performing.{Takes, Refuses, Puts, Closes, Does, Carries, is_draw, after_dial}
-use Rattle.bsc_node_run.specs.Turning.{Answers, Gives, draws}
-use Rattle.bsc_node_runs.specs.Courses.{Goes}
+use Rattle.bsc_node_run.specs.Turning.{GivesWord, Gives, draws}
+use Rattle.bsc_node_runs.specs.Courses.{GoesAsDefined}
 use Rattle.bsc_node_runs.specs.Alone.{Alone, all_but, after_action, told}
 use Rattle.bsc_node_runs.proofs.AloneBack.{LeadsTo, carries_back}
 use Rattle.bsc_lemmas.proofs.Booleans.{and_left, and_right, not_true}
@@ -182,12 +182,12 @@ module _ {L : Type 0} (talk : L → Option (List Said)) (all : List Dialled) whe
 
   -- ---- one event
 
-  answers_none : (b : Bool) (a : Made) (now : ℕ) (n m : Log) (w v : World L) → b ≡ false → Answers (Goes a) talk now b n w m v → (m ≡ n) × Same v w
+  answers_none : (b : Bool) (a : Made) (now : ℕ) (n m : Log) (w v : World L) → b ≡ false → GivesWord (GoesAsDefined a) talk now b n w m v → (m ≡ n) × Same v w
   answers_none true a now n m w v e g = cc
   answers_none false a now n m w v e g = g
 
   -- The node is told what brings no message.
-  pub gives_stands : (a : Made) (now : ℕ) (e : NodeEvent) (n m : Log) (w v : World L) (s : Alone) → is_came e ≡ false → Gives (Goes a) talk now e n w m v → LeadsTo all v.dialled.calls
+  pub gives_stands : (a : Made) (now : ℕ) (e : NodeEvent) (n m : Log) (w v : World L) (s : Alone) → is_came e ≡ false → Gives (GoesAsDefined a) talk now e n w m v → LeadsTo all v.dialled.calls
       → Stands all n w s → Stands all m v (told a now s e)
   gives_stands a now e n m w v s quiet (actions, p, x, (may, is, on), c, answers) later h =
       let at : TimedEvent = record { now = now; event = e } in

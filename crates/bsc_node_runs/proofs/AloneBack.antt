@@ -19,8 +19,9 @@ use Rattle.bsc_node_run.specs.declared.due.Due.{Due}
 use Rattle.bsc_node_run.specs.declared.news.News.{News}
 use Rattle.bsc_node_run.specs.Worlds.{Admitting, Dialling, World, is_open, with_link, ends}
 use Rattle.bsc_node_run.specs.Performing.{Takes, Refuses, Puts, Closes, Does, Carries}
-use Rattle.bsc_node_run.specs.Turning.{Answers, Gives, GivesNews, GivesLines, GivesIn, HearsOf, HearsIf, HearsEach, Admits, Starts, Turn, draws, event_of, names as all_names}
+use Rattle.bsc_node_run.specs.Turning.{GivesWord, Gives, GivesNews, GivesLines, GivesIn, HearsOf, HearsIf, HearsEach, Admits, Starts, Turn, draws, event_of, names as all_names}
 use Rattle.bsc_node_run.specs.Running.{Turns}
+use Rattle.bsc_node_run.specs.Moments.{moment}
 
 -- What was dialled at a moment is told, and all that was dialled at last begins with it.
 abbrev pub LeadsTo : List Dialled → Option (List Dialled) → Type 0
@@ -81,7 +82,7 @@ module _ {N L : Type 0} (goes : N → ℕ → NodeEvent → List Action → N �
 
   -- ---- one event
 
-  answers_back : (b : Bool) (n m : N) (w v : World L) → Answers goes talk now b n w m v → Later_on v → Later_on w
+  answers_back : (b : Bool) (n m : N) (w v : World L) → GivesWord goes talk now b n w m v → Later_on v → Later_on w
   answers_back false n m w v (e, s) h = as_before talk all v w s.dialled h
   answers_back true n m w v (word, actions, b, g, c) h = carries_back talk all actions w v c h
 
@@ -117,7 +118,7 @@ module _ {N L : Type 0} (goes : N → ℕ → NodeEvent → List Action → N �
   each_back [] n m w v (e, s) h = as_before talk all v w s.dialled h
   each_back (name ∷ names) n m w v (p, x, g, k) h = hears_back name (is_open name w) n p w x g (each_back names p m x v k h)
 
-  pub admits_back : (b : Bool) (n m : N) (w v : World L) (door door' : Admitting L) → Admits goes talk now b n w door m v door' → Later_on v → Later_on w
+  pub admits_back : (b : Bool) (n m : N) (w v : World L) (door door' : Admitting L) → Admits goes talk now b (moment n w door) (moment m v door') → Later_on v → Later_on w
   admits_back false n m w v door door' (e, s, k) h = as_before talk all v w s.dialled h
   admits_back true n m w v door door' (waits, inl (e, s, k)) h = as_before talk all v w s.dialled h
   admits_back true n m w v door door' (waits, inr (l, k, g)) h = gives_back Arrived n m (record w { arrived = Some l }) v g h
@@ -129,15 +130,15 @@ module _ {N L : Type 0} (goes : N → ℕ → NodeEvent → List Action → N �
   -- ---- a turn
 
   pub turn_back : (start : Option ℕ) (script rest : List Due) (listens : Bool) (n m : N) (w v : World L) (door door' : Admitting L)
-      → Turn goes talk now start script rest listens n w door m v door' → Later_on v → Later_on w
+      → Turn goes talk now start script rest listens (moment n w door) (moment m v door') → Later_on v → Later_on w
   turn_back start script rest listens n m w v door door' t h =
-      as_before talk all t.w0 w t.begins.dialled
-      (starts_back start n t.n1 t.w0 t.w1 t.starts
-      (gives_back Tick t.n1 t.n2 t.w1 t.w2 t.ticks
-      (news_back t.news t.n2 t.n3 t.w2 t.w3 t.told
-      (lines_back t.lines t.n3 t.n4 t.w3 t.w4 t.given
-      (each_back all_names t.n4 t.n5 t.w4 t.w5 t.heard
-      (admits_back listens t.n5 m t.w5 v door door' t.admits h))))))
+      as_before talk all t.world_begun w t.begins.dialled
+      (starts_back start n t.node_started t.world_begun t.world_started t.starts
+      (gives_back Tick t.node_started t.node_ticked t.world_started t.world_ticked t.ticks
+      (news_back t.news t.node_ticked t.node_told t.world_ticked t.world_told t.told
+      (lines_back t.lines t.node_told t.node_given t.world_told t.world_given t.given
+      (each_back all_names t.node_given t.node_heard t.world_given t.world_heard t.heard
+      (admits_back listens t.node_heard m t.world_heard v door door' t.admits h))))))
 
 -- ---- what is left of the acceptor
 
@@ -154,7 +155,7 @@ module _ {L : Type 0} (links : List L) where
 
 module _ {N L : Type 0} (goes : N → ℕ → NodeEvent → List Action → N → Type 0) (talk : L → Option (List Said)) where
   pub admits_left : (links : List L) (now : ℕ) (b : Bool) (n m : N) (w v : World L) (door door' : Admitting L)
-      → Admits goes talk now b n w door m v door' → StillLeft links door'.left → StillLeft links door.left
+      → Admits goes talk now b (moment n w door) (moment m v door') → StillLeft links door'.left → StillLeft links door.left
   admits_left links now false n m w v door door' (e, s, k) h = subst (λ (d : Admitting L). StillLeft links d.left) k h
   admits_left links now true n m w v door door' (waits, inl (e, s, k)) h = none_left links door.left door'.left k h
   admits_left links now true n m w v door door' (waits, inr (l, k, g)) h = one_left links l door.left door'.left k h
@@ -162,13 +163,13 @@ module _ {N L : Type 0} (goes : N → ℕ → NodeEvent → List Action → N �
   -- ---- turns
 
   pub turns_back : (all : List Dialled) (listens : Bool) (times : List ℕ) (start : Option ℕ) (script : List Due) (n m : N) (w v : World L) (door door' : Admitting L)
-      → Turns goes talk listens times start script n w door m v door' → LeadsTo all v.dialled.calls → LeadsTo all w.dialled.calls
+      → Turns goes talk listens times start script (moment n w door) (moment m v door') → LeadsTo all v.dialled.calls → LeadsTo all w.dialled.calls
   turns_back all listens [] start script n m w v door door' (e, s, k) h = as_before talk all v w s.dialled h
   turns_back all listens (now ∷ times) start script n m w v door door' (rest, p, x, mid, going, t, k) h =
       turn_back goes talk all now start script rest listens n p w x door mid t (turns_back all listens times (Some (unwrap_or start now)) rest p m x v mid door' k h)
 
   pub turns_left : (links : List L) (listens : Bool) (times : List ℕ) (start : Option ℕ) (script : List Due) (n m : N) (w v : World L) (door door' : Admitting L)
-      → Turns goes talk listens times start script n w door m v door' → StillLeft links door'.left → StillLeft links door.left
+      → Turns goes talk listens times start script (moment n w door) (moment m v door') → StillLeft links door'.left → StillLeft links door.left
   turns_left links listens [] start script n m w v door door' (e, s, k) h = subst (λ (d : Admitting L). StillLeft links d.left) k h
   turns_left links listens (now ∷ times) start script n m w v door door' (rest, p, x, mid, going, t, k) h =
-      admits_left links now listens t.n5 p t.w5 x door mid t.admits (turns_left links listens times (Some (unwrap_or start now)) rest p m x v mid door' k h)
+      admits_left links now listens t.node_heard p t.world_heard x door mid t.admits (turns_left links listens times (Some (unwrap_or start now)) rest p m x v mid door' k h)

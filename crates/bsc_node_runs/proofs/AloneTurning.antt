@@ -24,7 +24,8 @@ use Rattle.bsc_node_run.specs.declared.news.News.{News}
 use Rattle.bsc_node_run.specs.Requests.{is_asked}
 use Rattle.bsc_node_run.specs.Worlds.{Admitting, Dialling, World, Same, is_of, is_open, begun}
 use Rattle.bsc_node_run.specs.Turning.{Gives, GivesNews, GivesLines, HearsIf, HearsEach, Admits, Starts, Turn, AreDue, IsNotDue, event_of, names as all_names, passed_by}
-use Rattle.bsc_node_runs.specs.Courses.{Goes}
+use Rattle.bsc_node_run.specs.Moments.{moment}
+use Rattle.bsc_node_runs.specs.Courses.{GoesAsDefined}
 use Rattle.bsc_node_runs.specs.Alone.{Alone, after_action, told, told_oldest, told_failed, turn, due_by, not_due_by}
 use Rattle.bsc_node_runs.proofs.AloneBack.{LeadsTo, StillLeft, gives_back, news_back, lines_back, each_back, admits_back}
 use Rattle.bsc_node_runs.proofs.AloneActing.{NoneComes, failure, Stands, stays, gives_stands}
@@ -100,7 +101,7 @@ module _ {L : Type 0} (a : Made) (talk : L → Option (List Said)) (all : List D
   no_news (name ∷ names) e = cc
 
   -- What is new first is that the oldest of those dials failed.
-  oldest_stands : (one : News) (rest : List News) (n p : Log) (w x : World L) (s : Alone) → w.due ≡ one ∷ rest → Gives (Goes a) talk now (event_of one) n (record w { due = rest }) p x
+  oldest_stands : (one : News) (rest : List News) (n p : Log) (w x : World L) (s : Alone) → w.due ≡ one ∷ rest → Gives (GoesAsDefined a) talk now (event_of one) n (record w { due = rest }) p x
       → LeadsTo all x.dialled.calls → Stands all n w s → Stands all p x (told_oldest a now s)
   oldest_stands one rest n p w x s due g later h = by s.failed refl
     where
@@ -112,11 +113,11 @@ module _ {L : Type 0} (a : Made) (talk : L → Option (List Said)) (all : List D
           let others : rest ≡ map failure names = cc new in
           subst (λ (t : Alone). Stands all p x t) (sym (oldest_some a now s name names is))
           (gives_stands talk all a now (DialFailed name) n p (record w { due = rest }) x (record s { failed = names }) refl
-          (subst (λ (e : NodeEvent). Gives (Goes a) talk now e n (record w { due = rest }) p x) (ap event_of first) g) later
+          (subst (λ (e : NodeEvent). Gives (GoesAsDefined a) talk now e n (record w { due = rest }) p x) (ap event_of first) g) later
           (record { log = h.log; link = h.link; arrived = h.arrived; due = others; waiting = h.waiting; calls = h.calls }))
 
   -- All that is new is that those dials failed.
-  news_stands : (news : List News) (k : ℕ) (n m : Log) (w v : World L) (s : Alone) → length s.failed ≤ k → GivesNews (Goes a) talk now news n w m v → LeadsTo all v.dialled.calls
+  news_stands : (news : List News) (k : ℕ) (n m : Log) (w v : World L) (s : Alone) → length s.failed ≤ k → GivesNews (GoesAsDefined a) talk now news n w m v → LeadsTo all v.dialled.calls
       → Stands all n w s → Stands all m v (told_failed a now k s)
   news_stands [] k n m w v s few (none, e, same) later h =
       subst (λ (t : Alone). Stands all m v t) (sym (none_told a now k s (no_news s.failed (sym h.due ∙ none)))) (stays talk all n m w v s e same h)
@@ -125,7 +126,7 @@ module _ {L : Type 0} (a : Made) (talk : L → Option (List Said)) (all : List D
       absurd (omega (arith, some, few))
   news_stands (one ∷ more) (suc k) n m w v s few (rest, p, x, due, g, further) later h =
       news_stands more k p m x v (told_oldest a now s) (oldest_fewer a now k s few) further later
-      (oldest_stands one rest n p w x s due g (news_back (Goes a) talk all now more p m x v further later) h)
+      (oldest_stands one rest n p w x s due g (news_back (GoesAsDefined a) talk all now more p m x v further later) h)
 
   -- ---- the script
 
@@ -133,24 +134,24 @@ module _ {L : Type 0} (a : Made) (talk : L → Option (List Said)) (all : List D
   asked_quiet (Came name o) h = cc
   asked_quiet e h = refl
 
-  lines_stand : (lines : List Due) (n m : Log) (w v : World L) (s : Alone) → all_asked lines ≡ true → GivesLines (Goes a) talk now lines n w m v
+  lines_stand : (lines : List Due) (n m : Log) (w v : World L) (s : Alone) → all_asked lines ≡ true → GivesLines (GoesAsDefined a) talk now lines n w m v
       → LeadsTo all v.dialled.calls → Stands all n w s → Stands all m v (fold (told a now) s (map (λ (d : Due). d.event) lines))
   lines_stand [] n m w v s asked (e, same) later h = stays talk all n m w v s e same h
   lines_stand (d ∷ lines) n m w v s asked (p, x, g, k) later h =
       lines_stand lines p m x v (told a now s d.event) (and_right (is_asked d.event) (all_asked lines) asked) k later
       (gives_stands talk all a now d.event n p w x s (asked_quiet d.event (and_left (is_asked d.event) (all_asked lines) asked)) g
-      (lines_back (Goes a) talk all now lines p m x v k later) h)
+      (lines_back (GoesAsDefined a) talk all now lines p m x v k later) h)
 
   -- ---- what comes
 
-  hears_none : (name : LinkName) (b : Bool) (n m : Log) (w v : World L) → b ≡ false → HearsIf (Goes a) talk now name b n w m v → (m ≡ n) × Same v w
+  hears_none : (name : LinkName) (b : Bool) (n m : Log) (w v : World L) → b ≡ false → HearsIf (GoesAsDefined a) talk now name b n w m v → (m ≡ n) × Same v w
   hears_none name true n m w v e g = cc
   hears_none name false n m w v e g = g
 
   none_open : (name : LinkName) (w : World L) → w.link name ≡ None → is_open name w ≡ false
   none_open name w e = ap (λ (o : Option L). is_some o && not (list_any (is_of name) w.waiting)) e
 
-  each_stands : (names : List LinkName) (n m : Log) (w v : World L) (s : Alone) → HearsEach (Goes a) talk now names n w m v → Stands all n w s → Stands all m v s
+  each_stands : (names : List LinkName) (n m : Log) (w v : World L) (s : Alone) → HearsEach (GoesAsDefined a) talk now names n w m v → Stands all n w s → Stands all m v s
   each_stands [] n m w v s (e, same) h = stays talk all n m w v s e same h
   each_stands (name ∷ names) n m w v s (p, x, g, k) h =
       let quiet : (p ≡ n) × Same x w = hears_none name (is_open name w) n p w x (none_open name w (h.link name)) g in
@@ -170,7 +171,7 @@ module _ {L : Type 0} (a : Made) (talk : L → Option (List Said)) (all : List D
       let same : length new ≡ length ls = ap length (same_Some new ls some) in
       absurd (omega (arith, more, same, few))
 
-  admits_stands : (links : List L) (b : Bool) (n m : Log) (w v : World L) (door door' : Admitting L) (s : Alone) → Admits (Goes a) talk now b n w door m v door' → door.left ≡ Some links
+  admits_stands : (links : List L) (b : Bool) (n m : Log) (w v : World L) (door door' : Admitting L) (s : Alone) → Admits (GoesAsDefined a) talk now b (moment n w door) (moment m v door') → door.left ≡ Some links
       → StillLeft links door'.left → Stands all n w s → Stands all m v s × (door'.left ≡ Some links)
   admits_stands links false n m w v door door' s (e, same, k) is still h = (stays talk all n m w v s e same h, ap (λ (d : Admitting L). d.left) k ∙ is)
   admits_stands links true n m w v door door' s (waits, inl (e, same, k)) is still h = (stays talk all n m w v s e same h, none_arrived links door.left door'.left k is still)
@@ -196,32 +197,32 @@ module _ {L : Type 0} (a : Made) (talk : L → Option (List Said)) (all : List D
     pub asked : all_asked rest ≡ true
 
   -- The node starts, in the first turn, and time has passed.
-  ticks_stand : (start : Option ℕ) (n n1 m : Log) (w w1 v : World L) (s : Alone) → Starts (Goes a) talk now start n w n1 w1 → Gives (Goes a) talk now Tick n1 w1 m v → LeadsTo all v.dialled.calls
+  ticks_stand : (start : Option ℕ) (n n1 m : Log) (w w1 v : World L) (s : Alone) → Starts (GoesAsDefined a) talk now start n w n1 w1 → Gives (GoesAsDefined a) talk now Tick n1 w1 m v → LeadsTo all v.dialled.calls
       → Stands all n w s → Stands all m v (fold (told a now) s (first_events start))
   ticks_stand None n n1 m w w1 v s g t later h =
       gives_stands talk all a now Tick n1 m w1 v (told a now s Start) refl t later
-      (gives_stands talk all a now Start n n1 w w1 s refl g (gives_back (Goes a) talk all now Tick n1 m w1 v t later) h)
+      (gives_stands talk all a now Start n n1 w w1 s refl g (gives_back (GoesAsDefined a) talk all now Tick n1 m w1 v t later) h)
   ticks_stand (Some start) n n1 m w w1 v s (e, same) t later h = gives_stands talk all a now Tick n1 m w1 v s refl t later (stays talk all n n1 w w1 s e same h)
 
   pub turn_stands : (start : Option ℕ) (script rest : List Due) (listens : Bool) (n m : Log) (w v : World L) (door door' : Admitting L) (links : List L) (s : Alone)
-      → all_asked script ≡ true → Turn (Goes a) talk now start script rest listens n w door m v door' → LeadsTo all v.dialled.calls
+      → all_asked script ≡ true → Turn (GoesAsDefined a) talk now start script rest listens (moment n w door) (moment m v door') → LeadsTo all v.dialled.calls
       → door.left ≡ Some links → StillLeft links door'.left → Stands all n w s → Turned start script rest links m v door' s
   turn_stands start script rest listens n m w v door door' links s asked t later is still h =
-      let before5 = admits_back (Goes a) talk all now listens t.n5 m t.w5 v door door' t.admits later in
-      let before4 = each_back (Goes a) talk all now all_names t.n4 t.n5 t.w4 t.w5 t.heard before5 in
-      let before3 = lines_back (Goes a) talk all now t.lines t.n3 t.n4 t.w3 t.w4 t.given before4 in
-      let before2 = news_back (Goes a) talk all now t.news t.n2 t.n3 t.w2 t.w3 t.told before3 in
+      let before5 = admits_back (GoesAsDefined a) talk all now listens t.node_heard m t.world_heard v door door' t.admits later in
+      let before4 = each_back (GoesAsDefined a) talk all now all_names t.node_given t.node_heard t.world_given t.world_heard t.heard before5 in
+      let before3 = lines_back (GoesAsDefined a) talk all now t.lines t.node_told t.node_given t.world_told t.world_given t.given before4 in
+      let before2 = news_back (GoesAsDefined a) talk all now t.news t.node_ticked t.node_told t.world_ticked t.world_told t.told before3 in
       let begun_s : Alone = record s { failed = s.dialled; dialled = [] } in
       let ticked : Alone = fold (told a now) begun_s (first_events start) in
       let failed : Alone = told_failed a now (length ticked.failed) ticked in
       let both_asked : (all_asked t.lines && all_asked rest) ≡ true =
       sym (list_all-append (λ (d : Due). is_asked d.event) t.lines rest) ∙ ap all_asked (sym t.parts) ∙ asked in
-      let at2 : Stands all t.n2 t.w2 ticked = ticks_stand start n t.n1 t.n2 t.w0 t.w1 t.w2 begun_s t.starts t.ticks before2 (begins_stands n w t.w0 s t.begins h) in
-      let at3 : Stands all t.n3 t.w3 failed = news_stands t.news (length ticked.failed) t.n2 t.n3 t.w2 t.w3 ticked (omega arith) t.told before3 at2 in
-      let at4 : Stands all t.n4 t.w4 (fold (told a now) failed (map (λ (d : Due). d.event) t.lines)) =
-      lines_stand t.lines t.n3 t.n4 t.w3 t.w4 failed (and_left (all_asked t.lines) (all_asked rest) both_asked) t.given before4 at3 in
-      let at5 = each_stands all_names t.n4 t.n5 t.w4 t.w5 (fold (told a now) failed (map (λ (d : Due). d.event) t.lines)) t.heard at4 in
-      let last = admits_stands links listens t.n5 m t.w5 v door door' (fold (told a now) failed (map (λ (d : Due). d.event) t.lines)) t.admits is still at5 in
+      let at2 : Stands all t.node_ticked t.world_ticked ticked = ticks_stand start n t.node_started t.node_ticked t.world_begun t.world_started t.world_ticked begun_s t.starts t.ticks before2 (begins_stands n w t.world_begun s t.begins h) in
+      let at3 : Stands all t.node_told t.world_told failed = news_stands t.news (length ticked.failed) t.node_ticked t.node_told t.world_ticked t.world_told ticked (omega arith) t.told before3 at2 in
+      let at4 : Stands all t.node_given t.world_given (fold (told a now) failed (map (λ (d : Due). d.event) t.lines)) =
+      lines_stand t.lines t.node_told t.node_given t.world_told t.world_given failed (and_left (all_asked t.lines) (all_asked rest) both_asked) t.given before4 at3 in
+      let at5 = each_stands all_names t.node_given t.node_heard t.world_given t.world_heard (fold (told a now) failed (map (λ (d : Due). d.event) t.lines)) t.heard at4 in
+      let last = admits_stands links listens t.node_heard m t.world_heard v door door' (fold (told a now) failed (map (λ (d : Due). d.event) t.lines)) t.admits is still at5 in
       let passed : ℕ = passed_by start now in
       record {
         stands = subst (λ (lines : List Due). Stands all m v (turn a now (first_events start) lines s)) (sym (ap (due_by passed) t.parts ∙ due_first passed t.lines rest t.due t.next)) last.0;

@@ -3,7 +3,7 @@ use Rattle.std.proofs.Common.{◌≡◌, ℕ, List, ap}
 use Rattle.bsc_node.specs.declared.node_event.NodeEvent.{NodeEvent}
 use Rattle.bsc_node.specs.declared.action.Action.{Action}
 use Rattle.bsc_node.specs.Logs.{Made, Log}
-use Rattle.bsc_node_runs.specs.Courses.{Goes}
+use Rattle.bsc_node_runs.specs.Courses.{GoesAsDefined}
 
 pub record Beside (N : Type 0) : Type 0 where
   pub core : N
@@ -14,7 +14,7 @@ beside n M = record { core = n; log = M }
 
 -- The core takes a step, and the definition takes it too.
 abbrev pub Both : {N : Type 0} → (N → ℕ → NodeEvent → List Action → N → Type 0) → Made → Beside N → ℕ → NodeEvent → List Action → Beside N → Type 0
-Both goes a b now e actions c = goes b.core now e actions c.core × Goes a b.log now e actions c.log
+Both goes a b now e actions c = goes b.core now e actions c.core × GoesAsDefined a b.log now e actions c.log
 
 -- A core that is another's is beside the same log as that one.
 pub beside_same : {N : Type 0} (n m : N) (M : Log) → m ≡ n → beside m M ≡ beside n M

@@ -14,9 +14,8 @@ use Rattle.bsc_node.specs.declared.note.Note.TheVariants.{Finished}
 use Rattle.bsc_node.specs.declared.action.Action.{Action}
 use Rattle.bsc_node.specs.declared.action.Action.TheVariants.{Dial, Take, Refuse, Put, Close, Deliver, Tell, Draw}
 use Rattle.bsc_node.specs.Logs.{Line, came, initiating, did, Log, action_of, is_finishing}
-use Rattle.bsc_node.specs.Links.{same_link, begins, is_over_by, is_there, was_taken}
+use Rattle.bsc_node.specs.Links.{same_link, begins, is_over_by, is_there, was_taken, is_in_slots, begins_in_slots}
 use Rattle.bsc_node.specs.Conditions.{has_opened}
-use Rattle.bsc_node.specs.Soundness.{is_in_slots, begins_in_slots}
 use Rattle.bsc_node.proofs.Told.{same_link-self}
 use Rattle.bsc_node_laws.specs.Links.{MayStand, EachMay}
 use Rattle.bsc_node_laws.proofs.There.{begins-dial, begins-take, there-begun, closed-gone, taken-begun, opened-begun, opened-other, opened-told}

@@ -15,6 +15,7 @@ use Rattle.bsc_node_run.specs.declared.run_end.RunEnd.TheVariants.{Finished}
 use Rattle.bsc_node_run.specs.Running.{DontFall, EndsSo, IsEmpty, Run, Turns}
 use Rattle.bsc_node_run.specs.Turning.{Turn}
 use Rattle.bsc_node_run.specs.Worlds.{Admitting, Dialling, World, Same, begun}
+use Rattle.bsc_node_run.specs.Moments.{moment, run_moment}
 use Rattle.bsc_node_runs.specs.Courses.{last_from, FinishIsOver, FinishCame}
 use Rattle.bsc_node_runs.proofs.Agreeing.{Agrees}
 use Rattle.bsc_node_runs.proofs.Beside.{Both, beside, beside_same}
@@ -71,17 +72,17 @@ module _ {N L : Type 0} (goes : N → ℕ → NodeEvent → List Action → N �
   later_turns : (whole : List Due) (first : ℕ) (times : List ℕ) (from : ℕ) (script : List Due) → first ≤ from → DontFall from times
       → list_all asks script ≡ true → ((d : Due) → Contains script d → Contains whole d)
       → (n m : N) (w v : World L) (door door' : Admitting L) (M : Log) → Holds a Stands from (FinishBy whole first from) n w M → w.due ≡ []
-      → Turns goes talk listens times (Some first) script n w door m v door'
-      → (K : Log) × Turns (Both goes a) talk listens times (Some first) script (beside n M) w door (beside m K) v door' × (v.finished ≡ true → FinishBy whole first (last_from from times))
+      → Turns goes talk listens times (Some first) script (moment n w door) (moment m v door')
+      → (K : Log) × Turns (Both goes a) talk listens times (Some first) script (moment (beside n M) w door) (moment (beside m K) v door') × (v.finished ≡ true → FinishBy whole first (last_from from times))
   later_turns whole first [] from script early fall asked within n m w v door door' M h none (is, same, stays) =
       (M, (beside_same n m M is, same, stays), λ finished. h.0.by (h.0.agrees.finished (sym same.finished ∙ finished)))
   later_turns whole first (t ∷ times) from script early fall asked within n m w v door door' M h none (rest, p, x, mid, going, g, k) =
       let early_too : first ≤ t = omega (arith, fall.0) in
-      let q : (K : Log) × Turn (Both goes a) talk t (Some first) script rest listens (beside n M) w door (beside p K) x mid × Holds a Stands t (FinishBy whole first t) p x K × (x.due ≡ []) =
+      let q : (K : Log) × Turn (Both goes a) talk t (Some first) script rest listens (moment (beside n M) w door) (moment (beside p K) x mid) × Holds a Stands t (FinishBy whole first t) p x K × (x.due ≡ []) =
       turn goes talk a Stands steps t fall.1 (FinishBy whole first t) (Some first) script rest listens n p w x door mid M
       (λ o y z same s. goes_on_later goes talk a Stands steps t fall.1 (FinishBy whole first t) first n o w y z M (at_later whole first from t n w M fall.0 h) none same s)
       asked (λ d c is due. (d, within d c, is, by_due d.at first t early_too due)) g in
-      let r : (K : Log) × Turns (Both goes a) talk listens times (Some first) rest (beside p q.0) x mid (beside m K) v door' × (v.finished ≡ true → FinishBy whole first (last_from t times)) =
+      let r : (K : Log) × Turns (Both goes a) talk listens times (Some first) rest (moment (beside p q.0) x mid) (moment (beside m K) v door') × (v.finished ≡ true → FinishBy whole first (last_from t times)) =
       later_turns whole first times t rest early_too fall.2 (asked_rest script g.lines rest g.parts asked) (λ d c. within d (within_rest script g.lines rest g.parts d c))
       p m x v mid door' q.0 q.2 q.3 k in
       (r.0, (rest, beside p q.0, x, mid, going, q.1, r.1), r.2)
@@ -89,19 +90,19 @@ module _ {N L : Type 0} (goes : N → ℕ → NodeEvent → List Action → N �
   -- All turns, from a node that was made.
   all_turns : (times : List ℕ) (script : List Due) → DontFall 0 times → list_all asks script ≡ true
       → (calls : Dialling L) (text : Option (List ℕ)) (n m : N) (w v : World L) (door door' : Admitting L) → Stands n [] → IsEmpty calls text w
-      → Turns goes talk listens times None script n w door m v door'
-      → (K : Log) × Turns (Both goes a) talk listens times None script (beside n []) w door (beside m K) v door' × (v.finished ≡ true → FinishIsOver script times)
+      → Turns goes talk listens times None script (moment n w door) (moment m v door')
+      → (K : Log) × Turns (Both goes a) talk listens times None script (moment (beside n []) w door) (moment (beside m K) v door') × (v.finished ≡ true → FinishIsOver script times)
   all_turns [] script fall asked calls text n m w v door door' s empty (is, same, stays) =
       ([], (beside_same n m [] is, same, stays), no_true (FinishIsOver script []) v.finished (same.finished ∙ empty.finished))
   all_turns (t ∷ times) script fall asked calls text n m w v door door' s empty (rest, p, x, mid, going, g, k) =
       (r.0, (rest, beside p q.0, x, mid, going, q.1, r.1), λ finished. is_over script t times (r.2 finished))
     where
-      q : (K : Log) × Turn (Both goes a) talk t None script rest listens (beside n []) w door (beside p K) x mid × Holds a Stands t (FinishBy script t t) p x K × (x.due ≡ [])
+      q : (K : Log) × Turn (Both goes a) talk t None script rest listens (moment (beside n []) w door) (moment (beside p K) x mid) × Holds a Stands t (FinishBy script t t) p x K × (x.due ≡ [])
       q = turn goes talk a Stands steps t fall.1 (FinishBy script t t) None script rest listens n p w x door mid []
           (λ o y z same b. started goes talk a Stands steps t fall.1 (FinishBy script t t) n o y z s (at_first calls text w empty y same) b)
           asked (λ d c is due. (d, c, is, by_due d.at t t (omega arith) due)) g
 
-      r : (K : Log) × Turns (Both goes a) talk listens times (Some t) rest (beside p q.0) x mid (beside m K) v door' × (v.finished ≡ true → FinishBy script t (last_from t times))
+      r : (K : Log) × Turns (Both goes a) talk listens times (Some t) rest (moment (beside p q.0) x mid) (moment (beside m K) v door') × (v.finished ≡ true → FinishBy script t (last_from t times))
       r = later_turns script t times t rest (omega arith) fall.2 (asked_rest script g.lines rest g.parts asked) (within_rest script g.lines rest g.parts)
           p m x v mid door' q.0 q.2 q.3 k
 
@@ -109,8 +110,8 @@ module _ {N L : Type 0} (goes : N → ℕ → NodeEvent → List Action → N �
   -- script has passed.
   pub lifted : (end : RunEnd) (turns : ℕ) (script : List Due) → list_all asks script ≡ true
       → (n m : N) (dialled dialled' : Dialling L) (held held' : Option (List ℕ)) (door door' : Admitting L) (told told' : Option (List ℕ)) → Stands n []
-      → Run goes talk listens end turns script n dialled held door told m dialled' held' door' told'
-      → (M : Log) × Run (Both goes a) talk listens end turns script (beside n []) dialled held door told (beside m M) dialled' held' door' told' × (end ≡ Finished → FinishCame script told told')
+      → Run goes talk listens end turns script (run_moment n dialled held door told) (run_moment m dialled' held' door' told')
+      → (M : Log) × Run (Both goes a) talk listens end turns script (run_moment (beside n []) dialled held door told) (run_moment (beside m M) dialled' held' door' told') × (end ≡ Finished → FinishCame script told told')
   lifted end turns script asked n m dialled dialled' held held' door door' told told' s r = (
     q.0,
     record {
@@ -128,5 +129,5 @@ module _ {N L : Type 0} (goes : N → ℕ → NodeEvent → List Action → N �
     λ is. (r.times, r.readings, q.2 (subst (λ e. EndsSo e turns r.times r.last.finished) is r.ends)),
   )
     where
-      q : (K : Log) × Turns (Both goes a) talk listens r.times None script (beside n []) r.first door (beside m K) r.last door' × (r.last.finished ≡ true → FinishIsOver script r.times)
+      q : (K : Log) × Turns (Both goes a) talk listens r.times None script (moment (beside n []) r.first door) (moment (beside m K) r.last door') × (r.last.finished ≡ true → FinishIsOver script r.times)
       q = all_turns r.times script r.rise asked dialled held n m r.first r.last door door' s r.empty r.went

@@ -20,7 +20,7 @@ use Rattle.bsc_node_laws.proofs.Followed.{is_arrival}
 use Rattle.bsc_node_laws.proofs.Drawn.{draws_at, word_settles}
 use Rattle.bsc_node_laws.proofs.Bringing.{brings}
 use Rattle.bsc_node_run.specs.Performing.{Carries}
-use Rattle.bsc_node_run.specs.Turning.{Answers, Gives, GivesIn}
+use Rattle.bsc_node_run.specs.Turning.{GivesWord, Gives, GivesIn}
 use Rattle.bsc_node_run.specs.Turning as Turning
 use Rattle.bsc_node_run.specs.Worlds.{World, Same}
 use Rattle.bsc_node_runs.proofs.Agreeing.{Agrees}
@@ -163,8 +163,8 @@ module _ {N L : Type 0} (goes : N → ℕ → NodeEvent → List Action → N �
   ready_word n w M e s h b = cc
 
   -- A word that was drawn comes next, and then none is awaited.
-  answered : (b : Bool) (n m : N) (w v : World L) (M : Log) → After n w M → awaits_word M ≡ b → Answers goes talk t b n w m v
-      → (K : Log) × Answers (Both goes a) talk t b (beside n M) w (beside m K) v × Held m v K
+  answered : (b : Bool) (n m : N) (w v : World L) (M : Log) → After n w M → awaits_word M ≡ b → GivesWord goes talk t b n w m v
+      → (K : Log) × GivesWord (Both goes a) talk t b (beside n M) w (beside m K) v × Held m v K
   answered false n m w v M s h (is, same) = (M, (beside_same n m M is, same), (stood_same a Stands t P n m w v M is same s, h))
   answered true n m w v M s h (word, actions, b, g, c) =
       (M ++ goes_on a (at t word) M, (word, actions, b, (g, (r.may, k.0, refl)), c), (k.1, word_settles a M (at t word) r.may b))
@@ -186,7 +186,7 @@ module _ {N L : Type 0} (goes : N → ℕ → NodeEvent → List Action → N �
       k : (actions ≡ actions_at a M (at t e)) × After p x (M ++ goes_on a (at t e) M)
       k = after n p w x M e actions r g c
 
-      q : (K : Log) × Answers (Both goes a) talk t (Turning.draws actions) (beside p (M ++ goes_on a (at t e) M)) x (beside m K) v × Held m v K
+      q : (K : Log) × GivesWord (Both goes a) talk t (Turning.draws actions) (beside p (M ++ goes_on a (at t e) M)) x (beside m K) v × Held m v K
       q = answered (Turning.draws actions) p m x v (M ++ goes_on a (at t e) M) k.1 (draws_at a M (at t e) r.may ∙ sym (ap (list_any draws) k.0) ∙ draws-same actions) h
 
   -- In a world like this one.
@@ -196,7 +196,7 @@ module _ {N L : Type 0} (goes : N → ℕ → NodeEvent → List Action → N �
 
 module _ {N L : Type 0} (goes : N → ℕ → NodeEvent → List Action → N → Type 0) (talk : L → Option (List Said)) (t : ℕ) where
   -- Nothing new is due after it where nothing was.
-  answers_due : (b : Bool) (n m : N) (w v : World L) → Answers goes talk t b n w m v → w.due ≡ [] → v.due ≡ []
+  answers_due : (b : Bool) (n m : N) (w v : World L) → GivesWord goes talk t b n w m v → w.due ≡ [] → v.due ≡ []
   answers_due false n m w v (is, same) h = same.due ∙ h
   answers_due true n m w v (word, actions, b, g, c) h = carries_due talk actions w v c h
 

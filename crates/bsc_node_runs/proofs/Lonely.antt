@@ -10,7 +10,8 @@ use Rattle.bsc_node_run.specs.declared.run_end.RunEnd.{RunEnd}
 use Rattle.bsc_node_run.specs.Requests.{is_asked}
 use Rattle.bsc_node_run.specs.Worlds.{Admitting, Dialling, World}
 use Rattle.bsc_node_run.specs.Running.{Turns, Run}
-use Rattle.bsc_node_runs.specs.Courses.{Goes}
+use Rattle.bsc_node_run.specs.Moments.{moment, run_moment}
+use Rattle.bsc_node_runs.specs.Courses.{GoesAsDefined}
 use Rattle.bsc_node_runs.specs.Alone.{Alone, turn, turns_from, due_by, not_due_by, alone, NoLinkCame}
 use Rattle.bsc_node_runs.proofs.AloneBack.{LeadsTo, StillLeft, turns_back, turns_left}
 use Rattle.bsc_node_runs.proofs.AloneActing.{NoneComes, Stands, stays}
@@ -19,13 +20,13 @@ use Rattle.bsc_node_runs.proofs.AloneTurning.{all_asked, first_events, turn_stan
 module _ {L : Type 0} (a : Made) (talk : L → Option (List Said)) (all : List Dialled) (links : List L) (listens : Bool) where
   -- Turns after the first, which was at this time.
   turns_stand : (start : ℕ) (times : List ℕ) (script : List Due) (n m : Log) (w v : World L) (door door' : Admitting L) (s : Alone)
-      → all_asked script ≡ true → Turns (Goes a) talk listens times (Some start) script n w door m v door' → LeadsTo all v.dialled.calls
+      → all_asked script ≡ true → Turns (GoesAsDefined a) talk listens times (Some start) script (moment n w door) (moment m v door') → LeadsTo all v.dialled.calls
       → door.left ≡ Some links → StillLeft links door'.left → Stands all n w s → Stands all m v (turns_from a start script times s)
   turns_stand start [] script n m w v door door' s asked (e, same, k) later is still h = stays talk all n m w v s e same h
   turns_stand start (now ∷ times) script n m w v door door' s asked (rest, p, x, mid, going, t, k) later is still h =
       let done = turn_stands a talk all now (Some start) script rest listens n p w x door mid links s asked t
-      (turns_back (Goes a) talk all listens times (Some start) rest p m x v mid door' k later) is
-      (turns_left (Goes a) talk links listens times (Some start) rest p m x v mid door' k still) h in
+      (turns_back (GoesAsDefined a) talk all listens times (Some start) rest p m x v mid door' k later) is
+      (turns_left (GoesAsDefined a) talk links listens times (Some start) rest p m x v mid door' k still) h in
       subst (λ (lines : List Due). Stands all m v (turns_from a start lines times (turn a now (first_events (Some start)) (due_by (now - start) script) s))) done.goes_on
       (turns_stand start times rest p m x v mid door' (turn a now (first_events (Some start)) (due_by (now - start) script) s) done.asked k later done.left still done.stands)
 
@@ -35,14 +36,14 @@ module _ {L : Type 0} (a : Made) (talk : L → Option (List Said)) (all : List D
 
   -- All turns.
   run_stands : (times : List ℕ) (script : List Due) (m : Log) (w v : World L) (door door' : Admitting L) → all_asked script ≡ true
-      → Turns (Goes a) talk listens times None script [] w door m v door' → LeadsTo all v.dialled.calls → door.left ≡ Some links → StillLeft links door'.left
+      → Turns (GoesAsDefined a) talk listens times None script (moment [] w door) (moment m v door') → LeadsTo all v.dialled.calls → door.left ≡ Some links → StillLeft links door'.left
       → Stands all [] w (record { log = []; failed = []; dialled = [] }) → m ≡ alone a script times
   run_stands [] script m w v door door' asked (e, same, k) later is still h = e
   run_stands (now ∷ times) script m w v door door' asked (rest, p, x, mid, going, t, k) later is still h =
       let begun : Alone = record { log = []; failed = []; dialled = [] } in
       let done = turn_stands a talk all now None script rest listens [] p w x door mid links begun asked t
-      (turns_back (Goes a) talk all listens times (Some now) rest p m x v mid door' k later) is
-      (turns_left (Goes a) talk links listens times (Some now) rest p m x v mid door' k still) h in
+      (turns_back (GoesAsDefined a) talk all listens times (Some now) rest p m x v mid door' k later) is
+      (turns_left (GoesAsDefined a) talk links listens times (Some now) rest p m x v mid door' k still) h in
       let at : ℕ → Alone = λ passed. turn a now (first_events None) (due_by passed script) begun in
       let last = turns_stand now times rest p m x v mid door' (at (now - now)) done.asked k later done.left still done.stands in
       sym (subst (λ (passed : ℕ). (turns_from a now (not_due_by passed script) times (at passed)).log ≡ m) (none_passed now)
@@ -52,7 +53,7 @@ module _ {L : Type 0} (a : Made) (talk : L → Option (List Said)) (all : List D
 pub lonely : {L : Type 0} (a : Made) (talk : L → Option (List Said)) (listens : Bool) (end : RunEnd) (turns : ℕ) (script : List Due)
     → list_all (λ (d : Due). is_asked d.event) script ≡ true
     → (c c' : Dialling L) (b b' : Option (List ℕ)) (l l' : Admitting L) (t t' : Option (List ℕ)) (M : Log)
-    → Run (Goes a) talk listens end turns script [] c b l t M c' b' l' t' → NoLinkCame c.calls c'.calls l.left l'.left → (times : List ℕ) × Grows t t' times × (M ≡ alone a script times)
+    → Run (GoesAsDefined a) talk listens end turns script (run_moment [] c b l t) (run_moment M c' b' l' t') → NoLinkCame c.calls c'.calls l.left l'.left → (times : List ℕ) × Grows t t' times × (M ≡ alone a script times)
 lonely {L = L} a talk listens end turns script asked c c' b b' l l' t t' M r none =
     let all : List Dialled = none.before ++ none.calls in (
       r.times,

@@ -13,9 +13,10 @@ use Rattle.bsc_node_run.specs.declared.due.Due.{Due}
 use Rattle.bsc_node_run.specs.declared.news.News.{News}
 use Rattle.bsc_node_run.specs.declared.run_end.RunEnd.{RunEnd}
 use Rattle.bsc_node_run.specs.Running.{Run, Turns}
-use Rattle.bsc_node_run.specs.Turning.{Admits, Answers, Gives, GivesIn, GivesLines, GivesNews, HearsEach, HearsIf, HearsOf, Starts, Turn}
+use Rattle.bsc_node_run.specs.Turning.{Admits, GivesWord, Gives, GivesIn, GivesLines, GivesNews, HearsEach, HearsIf, HearsOf, Starts, Turn}
 use Rattle.bsc_node_run.specs.Turning.{draws, event_of, names}
 use Rattle.bsc_node_run.specs.Worlds.{Admitting, Dialling, World, ends, is_open, with_link}
+use Rattle.bsc_node_run.specs.Moments.{moment, run_moment}
 
 -- Each step of the one is a step of the other, between what it is seen as.
 abbrev pub Maps : {N P : Type 0} → (N → ℕ → NodeEvent → List Action → N → Type 0) → (P → ℕ → NodeEvent → List Action → P → Type 0) → (N → P) → Type 0
@@ -23,7 +24,7 @@ Maps {N} goes goes' f = (n m : N) (t : ℕ) (e : NodeEvent) (actions : List Acti
 
 module _ {N P L : Type 0} (goes : N → ℕ → NodeEvent → List Action → N → Type 0) (goes' : P → ℕ → NodeEvent → List Action → P → Type 0) (f : N → P)
     (step : Maps goes goes' f) (talk : L → Option (List Said)) (t : ℕ) where
-  answers_map : (b : Bool) (n m : N) (w v : World L) → Answers goes talk t b n w m v → Answers goes' talk t b (f n) w (f m) v
+  answers_map : (b : Bool) (n m : N) (w v : World L) → GivesWord goes talk t b n w m v → GivesWord goes' talk t b (f n) w (f m) v
   answers_map false n m w v (is, same) = (ap f is, same)
   answers_map true n m w v (word, actions, brings, g, c) = (word, actions, brings, step n m t word actions g, c)
 
@@ -59,7 +60,7 @@ module _ {N P L : Type 0} (goes : N → ℕ → NodeEvent → List Action → N 
   each_map (name ∷ links) n m w v (p, x, g, k) = (f p, x, hears_map name (is_open name w) n p w x g, each_map links p m x v k)
 
   pub admits_map : (listens : Bool) (n m : N) (w v : World L) (door door' : Admitting L)
-      → Admits goes talk t listens n w door m v door' → Admits goes' talk t listens (f n) w door (f m) v door'
+      → Admits goes talk t listens (moment n w door) (moment m v door') → Admits goes' talk t listens (moment (f n) w door) (moment (f m) v door')
   admits_map false n m w v door door' (is, same, stays) = (ap f is, same, stays)
   admits_map true n m w v door door' (waits, inl (is, same, none)) = (waits, inl (ap f is, same, none))
   admits_map true n m w v door door' (waits, inr (l, one, g)) = (waits, inr (l, one, gives_map Arrived n m (record w { arrived = Some l }) v g))
@@ -69,37 +70,37 @@ module _ {N P L : Type 0} (goes : N → ℕ → NodeEvent → List Action → N 
   starts_map (Some start) n m w v (is, same) = (ap f is, same)
 
   pub turn_map : (start : Option ℕ) (script rest : List Due) (listens : Bool) (n m : N) (w v : World L) (door door' : Admitting L)
-      → Turn goes talk t start script rest listens n w door m v door' → Turn goes' talk t start script rest listens (f n) w door (f m) v door'
+      → Turn goes talk t start script rest listens (moment n w door) (moment m v door') → Turn goes' talk t start script rest listens (moment (f n) w door) (moment (f m) v door')
   turn_map start script rest listens n m w v door door' r = record {
     news = r.news;
     lines = r.lines;
-    w0 = r.w0;
-    w1 = r.w1;
-    w2 = r.w2;
-    w3 = r.w3;
-    w4 = r.w4;
-    w5 = r.w5;
-    n1 = f r.n1;
-    n2 = f r.n2;
-    n3 = f r.n3;
-    n4 = f r.n4;
-    n5 = f r.n5;
+    world_begun = r.world_begun;
+    world_started = r.world_started;
+    world_ticked = r.world_ticked;
+    world_told = r.world_told;
+    world_given = r.world_given;
+    world_heard = r.world_heard;
+    node_started = f r.node_started;
+    node_ticked = f r.node_ticked;
+    node_told = f r.node_told;
+    node_given = f r.node_given;
+    node_heard = f r.node_heard;
     begins = r.begins;
-    starts = starts_map start n r.n1 r.w0 r.w1 r.starts;
-    ticks = gives_map Tick r.n1 r.n2 r.w1 r.w2 r.ticks;
-    told = news_map r.news r.n2 r.n3 r.w2 r.w3 r.told;
+    starts = starts_map start n r.node_started r.world_begun r.world_started r.starts;
+    ticks = gives_map Tick r.node_started r.node_ticked r.world_started r.world_ticked r.ticks;
+    told = news_map r.news r.node_ticked r.node_told r.world_ticked r.world_told r.told;
     parts = r.parts;
     due = r.due;
     next = r.next;
-    given = lines_map r.lines r.n3 r.n4 r.w3 r.w4 r.given;
-    heard = each_map names r.n4 r.n5 r.w4 r.w5 r.heard;
-    admits = admits_map listens r.n5 m r.w5 v door door' r.admits;
+    given = lines_map r.lines r.node_told r.node_given r.world_told r.world_given r.given;
+    heard = each_map names r.node_given r.node_heard r.world_given r.world_heard r.heard;
+    admits = admits_map listens r.node_heard m r.world_heard v door door' r.admits;
   }
 
 module _ {N P L : Type 0} (goes : N → ℕ → NodeEvent → List Action → N → Type 0) (goes' : P → ℕ → NodeEvent → List Action → P → Type 0) (f : N → P)
     (step : Maps goes goes' f) (talk : L → Option (List Said)) (listens : Bool) where
   pub turns_map : (times : List ℕ) (start : Option ℕ) (script : List Due) (n m : N) (w v : World L) (door door' : Admitting L)
-      → Turns goes talk listens times start script n w door m v door' → Turns goes' talk listens times start script (f n) w door (f m) v door'
+      → Turns goes talk listens times start script (moment n w door) (moment m v door') → Turns goes' talk listens times start script (moment (f n) w door) (moment (f m) v door')
   turns_map [] start script n m w v door door' (is, same, stays) = (ap f is, same, stays)
   turns_map (now ∷ times) start script n m w v door door' (rest, p, x, mid, going, r, k) = (
     rest,
@@ -112,7 +113,7 @@ module _ {N P L : Type 0} (goes : N → ℕ → NodeEvent → List Action → N 
   )
 
   pub run_map : (end : RunEnd) (turns : ℕ) (script : List Due) (n m : N) (c c' : Dialling L) (b b' : Option (List ℕ)) (l l' : Admitting L) (o o' : Option (List ℕ))
-      → Run goes talk listens end turns script n c b l o m c' b' l' o' → Run goes' talk listens end turns script (f n) c b l o (f m) c' b' l' o'
+      → Run goes talk listens end turns script (run_moment n c b l o) (run_moment m c' b' l' o') → Run goes' talk listens end turns script (run_moment (f n) c b l o) (run_moment (f m) c' b' l' o')
   run_map end turns script n m c c' b b' l l' o o' r = record {
     times = r.times;
     first = r.first;

@@ -9,7 +9,7 @@ use Rattle.bsc_node.specs.declared.node_event.NodeEvent.TheVariants.{DialFailed,
 use Rattle.bsc_node.specs.declared.timed_event.TimedEvent.{TimedEvent}
 use Rattle.bsc_node.specs.Logs.{Line, came, initiating, Log, now, next_id}
 use Rattle.bsc_node.specs.Links.{same_link, is_over_by_event, is_there, was_taken}
-use Rattle.bsc_node.specs.Conditions.{has_opened, fits as may_fit, is_open as is_open_in}
+use Rattle.bsc_node.specs.Conditions.{has_opened, fits, is_open as is_open_in}
 use Rattle.bsc_node.specs.Laws.{with_event}
 use Rattle.bsc_node.proofs.Told.{same_link-self}
 use Rattle.bsc_node_laws.specs.Links.{opens_at}
@@ -128,10 +128,10 @@ module _ {L : Type 0} where
       (told_first news rest w e) (A.links news.link (told_named news rest w M e A))
 
   -- What is new may be told.
-  pub news_may : (news : News) (rest : List News) (w : World L) (M : Log) → w.due ≡ news ∷ rest → Agrees w M → may_fit M (event_of news) ≡ true
+  pub news_may : (news : News) (rest : List News) (w : World L) (M : Log) → w.due ≡ news ∷ rest → Agrees w M → fits M (event_of news) ≡ true
   news_may news rest w M e A = by news.change (told_agrees news rest w M e A)
     where
-      by : (c : Change) → AgreesFirst news rest w M c → may_fit M (event_of (record { link = news.link; change = c })) ≡ true
+      by : (c : Change) → AgreesFirst news rest w M c → fits M (event_of (record { link = news.link; change = c })) ≡ true
       by DidOpen h = dialling_on (is_there news.link M) (was_taken news.link M) (has_opened news.link M) (w.link news.link) DidOpen (changes_of news.link (rest ++ w.waiting)) (inl refl) h
       by DidntOpen h = dialling_on (is_there news.link M) (was_taken news.link M) (has_opened news.link M) (w.link news.link) DidntOpen (changes_of news.link (rest ++ w.waiting)) (inr refl) h
       by WasLost h = there_on (is_there news.link M) (stands_open news.link M) (w.link news.link) WasLost (changes_of news.link (rest ++ w.waiting)) h

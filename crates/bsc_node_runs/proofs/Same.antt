@@ -12,9 +12,8 @@ use Rattle.bsc_direct.specs.Slots.{slots}
 use Rattle.bsc_node.specs.declared.link_name.LinkName.{LinkName}
 use Rattle.bsc_node.specs.declared.link_name.LinkName.TheVariants.{Direct}
 use Rattle.bsc_node.specs.Logs.{Line, Log, is_finish, is_finishing}
-use Rattle.bsc_node.specs.Links.{same_link, begins, is_over_by, is_there, was_taken}
+use Rattle.bsc_node.specs.Links.{same_link, begins, is_over_by, is_there, was_taken, is_in_slots}
 use Rattle.bsc_node.specs.Conditions.{has_opened}
-use Rattle.bsc_node.specs.Soundness.{is_in_slots}
 use Rattle.bsc_node.proofs.Told.{same_link-self}
 use Rattle.bsc_node_laws.proofs.There.{there-other, taken-other}
 use Rattle.bsc_node_run.specs.declared.news.Change.{Change}

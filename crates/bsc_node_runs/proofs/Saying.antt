@@ -30,10 +30,11 @@ use Rattle.bsc_node_run.specs.declared.run_end.RunEnd.TheVariants.{Finished as H
 use Rattle.bsc_node_run.specs.Lines.{delivered_line, note_line}
 use Rattle.bsc_node_run.specs.Performing.{Carries, Does, Closes, Puts, Refuses, Takes, after_dial, is_end}
 use Rattle.bsc_node_run.specs.Running.{Run, Turns, EndsSo}
-use Rattle.bsc_node_run.specs.Turning.{Admits, Answers, Gives, GivesIn, GivesLines, GivesNews, HearsEach, HearsIf, HearsOf, Starts, Turn, draws, event_of, names}
+use Rattle.bsc_node_run.specs.Turning.{Admits, GivesWord, Gives, GivesIn, GivesLines, GivesNews, HearsEach, HearsIf, HearsOf, Starts, Turn, draws, event_of, names}
 use Rattle.bsc_node_run.specs.Worlds.{Admitting, Dialling, World, Same, begun, ends, is_open, with_link}
+use Rattle.bsc_node_run.specs.Moments.{moment, run_moment}
 use Rattle.bsc_node_run.proofs.Runs.{grows_none, grows_then}
-use Rattle.bsc_node_runs.specs.Courses.{Goes}
+use Rattle.bsc_node_runs.specs.Courses.{GoesAsDefined}
 use Rattle.bsc_node_runs.specs.Said.{AreDialled, EndsAsTold, IsSaid, done_in, line_by, tells_end, uri_by}
 use Rattle.bsc_lemmas.proofs.Booleans.{or_false as or_none}
 
@@ -156,32 +157,32 @@ module _ {L : Type 0} where
 -- ---- a turn
 
 module _ {L : Type 0} (a : Made) (talk : L → Option (List Said)) (now : ℕ) where
-  goes-between : (e : NodeEvent) (actions : List Action) (M : Log) (w : World L) (N : Log) (v : World L) → Goes a M now e actions N → Carries talk actions w v → SaysBetween M w N v
+  goes-between : (e : NodeEvent) (actions : List Action) (M : Log) (w : World L) (N : Log) (v : World L) → GoesAsDefined a M now e actions N → Carries talk actions w v → SaysBetween M w N v
   goes-between e actions M w N v (may, are, on) c =
       (goes_on a (record { now = now; event = e }) M, on, subst (λ (xs : List Action). SaysIn xs w v) are (carries-says talk actions w v c))
 
-  answers-between : (drawn : Bool) (M : Log) (w : World L) (N : Log) (v : World L) → Answers (Goes a) talk now drawn M w N v → SaysBetween M w N v
+  answers-between : (drawn : Bool) (M : Log) (w : World L) (N : Log) (v : World L) → GivesWord (GoesAsDefined a) talk now drawn M w N v → SaysBetween M w N v
   answers-between false M w N v (e, s) = between-none M w N v e (still-same w v s)
   answers-between true M w N v (word, actions, brings, g, c) = goes-between word actions M w N v g c
 
-  gives-between : (e : NodeEvent) (M : Log) (w : World L) (N : Log) (v : World L) → Gives (Goes a) talk now e M w N v → SaysBetween M w N v
+  gives-between : (e : NodeEvent) (M : Log) (w : World L) (N : Log) (v : World L) → Gives (GoesAsDefined a) talk now e M w N v → SaysBetween M w N v
   gives-between e M w N v (actions, P, x, g, c, answer) =
       between-then M w P x N v (goes-between e actions M w P x g c) (answers-between (draws actions) P x N v answer)
 
-  news-between : (news : List News) (M : Log) (w : World L) (N : Log) (v : World L) → GivesNews (Goes a) talk now news M w N v → SaysBetween M w N v
+  news-between : (news : List News) (M : Log) (w : World L) (N : Log) (v : World L) → GivesNews (GoesAsDefined a) talk now news M w N v → SaysBetween M w N v
   news-between [] M w N v (none, e, s) = between-none M w N v e (still-same w v s)
   news-between (n ∷ news) M w N v (rest, P, x, is, g, later) =
       between-then M w P x N v (gives-between (event_of n) M (record w { due = rest }) P x g) (news-between news P x N v later)
 
-  lines-between : (lines : List Due) (M : Log) (w : World L) (N : Log) (v : World L) → GivesLines (Goes a) talk now lines M w N v → SaysBetween M w N v
+  lines-between : (lines : List Due) (M : Log) (w : World L) (N : Log) (v : World L) → GivesLines (GoesAsDefined a) talk now lines M w N v → SaysBetween M w N v
   lines-between [] M w N v (e, s) = between-none M w N v e (still-same w v s)
   lines-between (d ∷ lines) M w N v (P, x, g, later) = between-then M w P x N v (gives-between d.event M w P x g) (lines-between lines P x N v later)
 
-  given-between : (e : NodeEvent) (M : Log) (w : World L) (N : Log) (v : World L) → GivesIn (Goes a) talk now e M w N v → SaysBetween M w N v
+  given-between : (e : NodeEvent) (M : Log) (w : World L) (N : Log) (v : World L) → GivesIn (GoesAsDefined a) talk now e M w N v → SaysBetween M w N v
   given-between e M w N v (x, s, g) = between-from M w x N v (still-same w x s) (gives-between e M x N v g)
 
   heard-between : (name : LinkName) (l : L) (given : Result Incoming LinkFault) (M : Log) (w : World L) (N : Log) (v : World L)
-      → HearsOf (Goes a) talk now name l given M w N v → SaysBetween M w N v
+      → HearsOf (GoesAsDefined a) talk now name l given M w N v → SaysBetween M w N v
   heard-between name l (Ok (Message o)) M w N v g = given-between (Came name o) M (with_link name (Some l) w) N v g
   heard-between name l (Ok Text) M w N v g = given-between (CameText name) M (with_link name (Some l) w) N v g
   heard-between name l (Ok Quiet) M w N v (e, s) = between-none M w N v e (still-same (with_link name (Some l) w) v s)
@@ -189,40 +190,40 @@ module _ {L : Type 0} (a : Made) (talk : L → Option (List Said)) (now : ℕ) w
   heard-between name l (Err Failed) M w N v g = given-between (Lost name) M (ends name l w) N v g
   heard-between name l (Err NoMemory) M w N v g = absurd g
 
-  hears-between : (name : LinkName) (opened : Bool) (M : Log) (w : World L) (N : Log) (v : World L) → HearsIf (Goes a) talk now name opened M w N v → SaysBetween M w N v
+  hears-between : (name : LinkName) (opened : Bool) (M : Log) (w : World L) (N : Log) (v : World L) → HearsIf (GoesAsDefined a) talk now name opened M w N v → SaysBetween M w N v
   hears-between name false M w N v (e, s) = between-none M w N v e (still-same w v s)
   hears-between name true M w N v (k, l, given, is, grows, h) = heard-between name l given M w N v h
 
-  each-between : (all : List LinkName) (M : Log) (w : World L) (N : Log) (v : World L) → HearsEach (Goes a) talk now all M w N v → SaysBetween M w N v
+  each-between : (all : List LinkName) (M : Log) (w : World L) (N : Log) (v : World L) → HearsEach (GoesAsDefined a) talk now all M w N v → SaysBetween M w N v
   each-between [] M w N v (e, s) = between-none M w N v e (still-same w v s)
   each-between (name ∷ all) M w N v (P, x, h, later) = between-then M w P x N v (hears-between name (is_open name w) M w P x h) (each-between all P x N v later)
 
   admits-between : (listens : Bool) (M : Log) (w : World L) (door : Admitting L) (N : Log) (v : World L) (door' : Admitting L)
-      → Admits (Goes a) talk now listens M w door N v door' → SaysBetween M w N v
+      → Admits (GoesAsDefined a) talk now listens (moment M w door) (moment N v door') → SaysBetween M w N v
   admits-between false M w door N v door' (e, s, same) = between-none M w N v e (still-same w v s)
   admits-between true M w door N v door' (waits, inl (e, s, none)) = between-none M w N v e (still-same w v s)
   admits-between true M w door N v door' (waits, inr (l, leaves, g)) = gives-between Arrived M (record w { arrived = Some l }) N v g
 
-  starts-between : (start : Option ℕ) (M : Log) (w : World L) (N : Log) (v : World L) → Starts (Goes a) talk now start M w N v → SaysBetween M w N v
+  starts-between : (start : Option ℕ) (M : Log) (w : World L) (N : Log) (v : World L) → Starts (GoesAsDefined a) talk now start M w N v → SaysBetween M w N v
   starts-between None M w N v g = gives-between Start M w N v g
   starts-between (Some start) M w N v (e, s) = between-none M w N v e (still-same w v s)
 
   turn-between : (start : Option ℕ) (script rest : List Due) (listens : Bool) (M : Log) (w : World L) (door : Admitting L) (N : Log) (v : World L) (door' : Admitting L)
-      → Turn (Goes a) talk now start script rest listens M w door N v door' → SaysBetween M w N v
+      → Turn (GoesAsDefined a) talk now start script rest listens (moment M w door) (moment N v door') → SaysBetween M w N v
   turn-between start script rest listens M w door N v door' t =
-      between-from M w t.w0 N v (still-same (begun w) t.w0 t.begins)
-      (between-then M t.w0 t.n1 t.w1 N v (starts-between start M t.w0 t.n1 t.w1 t.starts)
-      (between-then t.n1 t.w1 t.n2 t.w2 N v (gives-between Tick t.n1 t.w1 t.n2 t.w2 t.ticks)
-      (between-then t.n2 t.w2 t.n3 t.w3 N v (news-between t.news t.n2 t.w2 t.n3 t.w3 t.told)
-      (between-then t.n3 t.w3 t.n4 t.w4 N v (lines-between t.lines t.n3 t.w3 t.n4 t.w4 t.given)
-      (between-then t.n4 t.w4 t.n5 t.w5 N v (each-between names t.n4 t.w4 t.n5 t.w5 t.heard)
-      (admits-between listens t.n5 t.w5 door N v door' t.admits))))))
+      between-from M w t.world_begun N v (still-same (begun w) t.world_begun t.begins)
+      (between-then M t.world_begun t.node_started t.world_started N v (starts-between start M t.world_begun t.node_started t.world_started t.starts)
+      (between-then t.node_started t.world_started t.node_ticked t.world_ticked N v (gives-between Tick t.node_started t.world_started t.node_ticked t.world_ticked t.ticks)
+      (between-then t.node_ticked t.world_ticked t.node_told t.world_told N v (news-between t.news t.node_ticked t.world_ticked t.node_told t.world_told t.told)
+      (between-then t.node_told t.world_told t.node_given t.world_given N v (lines-between t.lines t.node_told t.world_told t.node_given t.world_given t.given)
+      (between-then t.node_given t.world_given t.node_heard t.world_heard N v (each-between names t.node_given t.world_given t.node_heard t.world_heard t.heard)
+      (admits-between listens t.node_heard t.world_heard door N v door' t.admits))))))
 
 -- ---- a run
 
 module _ {L : Type 0} (a : Made) (talk : L → Option (List Said)) (listens : Bool) where
   turns-between : (times : List ℕ) (start : Option ℕ) (script : List Due) (M : Log) (w : World L) (door : Admitting L) (N : Log) (v : World L) (door' : Admitting L)
-      → Turns (Goes a) talk listens times start script M w door N v door' → SaysBetween M w N v
+      → Turns (GoesAsDefined a) talk listens times start script (moment M w door) (moment N v door') → SaysBetween M w N v
   turns-between [] start script M w door N v door' (e, s, same) = between-none M w N v e (still-same w v s)
   turns-between (now ∷ times) start script M w door N v door' (rest, P, x, mid, going, t, later) =
       between-then M w P x N v (turn-between a talk now start script rest listens M w door P x mid t)
@@ -230,14 +231,14 @@ module _ {L : Type 0} (a : Made) (talk : L → Option (List Said)) (listens : Bo
 
   -- What the whole log of a run says.
   ran : (end : RunEnd) (turns : ℕ) (script : List Due) (c c' : Dialling L) (b b' : Option (List ℕ)) (l l' : Admitting L) (t t' : Option (List ℕ)) (M : Log)
-      → (r : Run (Goes a) talk listens end turns script [] c b l t M c' b' l' t') → SaysIn (done_in M) r.first r.last
+      → (r : Run (GoesAsDefined a) talk listens end turns script (run_moment [] c b l t) (run_moment M c' b' l' t')) → SaysIn (done_in M) r.first r.last
   ran end turns script c c' b b' l l' t t' M r =
       let s = turns-between r.times None script [] r.first l M r.last l' r.went in
       subst (λ (N : Log). SaysIn (done_in N) r.first r.last) (sym s.1) s.2
 
   -- What a run has written and dialled is what its node told, delivered and dialled, by its log.
   pub said : (end : RunEnd) (turns : ℕ) (script : List Due) (c c' : Dialling L) (b b' : Option (List ℕ)) (l l' : Admitting L) (t t' : Option (List ℕ)) (M : Log)
-      → Run (Goes a) talk listens end turns script [] c b l t M c' b' l' t' → IsSaid M c.calls c'.calls b b'
+      → Run (GoesAsDefined a) talk listens end turns script (run_moment [] c b l t) (run_moment M c' b' l' t') → IsSaid M c.calls c'.calls b b'
   said end turns script c c' b b' l l' t t' M r =
       let s = ran end turns script c c' b b' l l' t t' M r in
       record {
@@ -247,7 +248,7 @@ module _ {L : Type 0} (a : Made) (talk : L → Option (List Said)) (listens : Bo
 
   -- A run is finished where its node told that it has ended, and spent where it didn't.
   pub ends_as_told : (end : RunEnd) (turns : ℕ) (script : List Due) (c c' : Dialling L) (b b' : Option (List ℕ)) (l l' : Admitting L) (t t' : Option (List ℕ)) (M : Log)
-      → Run (Goes a) talk listens end turns script [] c b l t M c' b' l' t' → EndsAsTold end M
+      → Run (GoesAsDefined a) talk listens end turns script (run_moment [] c b l t) (run_moment M c' b' l' t') → EndsAsTold end M
   ends_as_told end turns script c c' b b' l l' t t' M r = by end r.ends
     where
       told : list_any tells_end (done_in M) ≡ r.last.finished

@@ -23,6 +23,7 @@ use Rattle.bsc_node_run.specs.Stopping.{AdmitStops, EachStop, GiveStops, HearSto
 use Rattle.bsc_node_run.specs.Stopping.{RunFails, StopsFromLines, StopsFromLinks, StopsFromNews, StopsFromTick, TurnsStop}
 use Rattle.bsc_node_run.specs.Turning.{AreDue, Gives, GivesLines, GivesNews, Hears, HearsEach, Starts, Turn, event_of, names, passed_by}
 use Rattle.bsc_node_run.specs.Worlds.{Admitting, Dialling, World, Same, begun, is_name, is_open}
+use Rattle.bsc_node_run.specs.Moments.{in_hands, moment, outside, run_moment}
 use Rattle.bsc_node_runs.proofs.Beside.{Both, beside}
 use Rattle.bsc_node_runs.proofs.Coming.{draws-same}
 use Rattle.bsc_node_runs.proofs.Courses.{FinishBy, asked_rest, at_first, at_later, by_due, within_rest}
@@ -113,7 +114,7 @@ module _ {N L : Type 0} (goes : N → ℕ → NodeEvent → List Action → N �
       inr (beside p q.0, x, q.1, each_stop links p x v q.0 (and_right (is_name name) (list_all is_name links) named) q.2 q.3 k)
 
   admit_stops : (listens : Bool) (n : N) (w v : World L) (door door' : Admitting L) (M : Log) → Held n w M
-      → AdmitStops goes talk t listens n w door v door' → AdmitStops (Both goes a) talk t listens (beside n M) w door v door'
+      → AdmitStops goes talk t listens (moment n w door) (in_hands v door') → AdmitStops (Both goes a) talk t listens (moment (beside n M) w door) (in_hands v door')
   admit_stops false n w v door door' M h s = absurd s
   admit_stops true n w v door door' M h (waits, inl k) = (waits, inl k)
   admit_stops true n w v door door' M h (waits, inr (l, leaves, s)) =
@@ -122,7 +123,7 @@ module _ {N L : Type 0} (goes : N → ℕ → NodeEvent → List Action → N �
   -- ---- a turn, from each of its parts on
 
   from_links : (listens : Bool) (n : N) (w v : World L) (door door' : Admitting L) (M : Log) → Held n w M → w.due ≡ []
-      → StopsFromLinks goes talk t listens n w door v door' → StopsFromLinks (Both goes a) talk t listens (beside n M) w door v door'
+      → StopsFromLinks goes talk t listens (moment n w door) (in_hands v door') → StopsFromLinks (Both goes a) talk t listens (moment (beside n M) w door) (in_hands v door')
   from_links listens n w v door door' M h none (inl (s, stays)) = inl (each_stop names n w v M refl h none s, stays)
   from_links listens n w v door door' M h none (inr (p, x, g, k)) =
       let q : (K : Log) × HearsEach (Both goes a) talk t names (beside n M) w (beside p K) x × Held p x K × (x.due ≡ []) =
@@ -131,7 +132,7 @@ module _ {N L : Type 0} (goes : N → ℕ → NodeEvent → List Action → N �
 
   from_lines : (passed : ℕ) (script : List Due) (listens : Bool) (n : N) (w v : World L) (door door' : Admitting L) (M : Log) → Held n w M → w.due ≡ []
       → list_all asks script ≡ true → ((d : Due) → Contains script d → d.event ≡ Finish → d.at ≤ passed → P)
-      → StopsFromLines goes talk t passed script listens n w door v door' → StopsFromLines (Both goes a) talk t passed script listens (beside n M) w door v door'
+      → StopsFromLines goes talk t passed script listens (moment n w door) (in_hands v door') → StopsFromLines (Both goes a) talk t passed script listens (moment (beside n M) w door) (in_hands v door')
   from_lines passed script listens n w v door door' M h none asked over (lines, rest, parts, due, inl (s, stays)) = (
     lines,
     rest,
@@ -153,7 +154,7 @@ module _ {N L : Type 0} (goes : N → ℕ → NodeEvent → List Action → N �
 
   from_news : (passed : ℕ) (script : List Due) (listens : Bool) (n : N) (w v : World L) (door door' : Admitting L) (M : Log) → Held n w M
       → list_all asks script ≡ true → ((d : Due) → Contains script d → d.event ≡ Finish → d.at ≤ passed → P)
-      → StopsFromNews goes talk t passed script listens n w door v door' → StopsFromNews (Both goes a) talk t passed script listens (beside n M) w door v door'
+      → StopsFromNews goes talk t passed script listens (moment n w door) (in_hands v door') → StopsFromNews (Both goes a) talk t passed script listens (moment (beside n M) w door) (in_hands v door')
   from_news passed script listens n w v door door' M h asked over (news, inl (s, stays)) = (news, inl (news_stop news n w v M h s, stays))
   from_news passed script listens n w v door door' M h asked over (news, inr (p, x, g, k)) =
       let q : (K : Log) × GivesNews (Both goes a) talk t news (beside n M) w (beside p K) x × Held p x K × (x.due ≡ []) =
@@ -162,7 +163,7 @@ module _ {N L : Type 0} (goes : N → ℕ → NodeEvent → List Action → N �
 
   from_tick : (passed : ℕ) (script : List Due) (listens : Bool) (n : N) (w v : World L) (door door' : Admitting L) (M : Log) → Held n w M
       → list_all asks script ≡ true → ((d : Due) → Contains script d → d.event ≡ Finish → d.at ≤ passed → P)
-      → StopsFromTick goes talk t passed script listens n w door v door' → StopsFromTick (Both goes a) talk t passed script listens (beside n M) w door v door'
+      → StopsFromTick goes talk t passed script listens (moment n w door) (in_hands v door') → StopsFromTick (Both goes a) talk t passed script listens (moment (beside n M) w door) (in_hands v door')
   from_tick passed script listens n w v door door' M h asked over (inl (s, stays)) =
       inl (give_stops Tick n w v M (ready_tick goes talk a Stands steps t below P n w M h) s, stays)
   from_tick passed script listens n w v door door' M h asked over (inr (p, x, g, k)) =
@@ -175,7 +176,7 @@ module _ {N L : Type 0} (goes : N → ℕ → NodeEvent → List Action → N �
       → ((p : N) (x y : World L) → Same x (begun w) → Starts goes talk t start n x p y → (K : Log) × Starts (Both goes a) talk t start (beside n M) x (beside p K) y × Held p y K)
       → ((x y : World L) → Same x (begun w) → StartStops goes talk t start n x y → StartStops (Both goes a) talk t start (beside n M) x y)
       → list_all asks script ≡ true → ((d : Due) → Contains script d → d.event ≡ Finish → d.at ≤ passed_by start t → P)
-      → TurnStops goes talk t start script listens n w door v door' → TurnStops (Both goes a) talk t start script listens (beside n M) w door v door'
+      → TurnStops goes talk t start script listens (moment n w door) (in_hands v door') → TurnStops (Both goes a) talk t start script listens (moment (beside n M) w door) (in_hands v door')
   turn_stops start script listens n w v door door' M first at_once asked over (o, begins, inl (s, stays)) = (o, begins, inl (at_once o v begins s, stays))
   turn_stops start script listens n w v door door' M first at_once asked over (o, begins, inr (p, x, g, k)) =
       let q : (K : Log) × Starts (Both goes a) talk t start (beside n M) o (beside p K) x × Held p x K = first p o x begins g in
@@ -187,8 +188,8 @@ module _ {N L : Type 0} (goes : N → ℕ → NodeEvent → List Action → N �
   later_stops : (whole : List Due) (first : ℕ) (times : List ℕ) (from : ℕ) (script : List Due) → first ≤ from → DontFall from times
       → list_all asks script ≡ true → ((d : Due) → Contains script d → Contains whole d)
       → (n : N) (w v : World L) (door door' : Admitting L) (M : Log) → Holds a Stands from (FinishBy whole first from) n w M → w.due ≡ []
-      → TurnsStop goes talk listens times (Some first) script n w door v door'
-      → TurnsStop (Both goes a) talk listens times (Some first) script (beside n M) w door v door'
+      → TurnsStop goes talk listens times (Some first) script (moment n w door) (in_hands v door')
+      → TurnsStop (Both goes a) talk listens times (Some first) script (moment (beside n M) w door) (in_hands v door')
   later_stops whole first [] from script early fall asked within n w v door door' M h none s = absurd s
   later_stops whole first (t ∷ times) from script early fall asked within n w v door door' M h none (going, inl (over, s)) =
       let early_too : first ≤ t = omega (arith, fall.0) in (
@@ -203,7 +204,7 @@ module _ {N L : Type 0} (goes : N → ℕ → NodeEvent → List Action → N �
       )
   later_stops whole first (t ∷ times) from script early fall asked within n w v door door' M h none (going, inr (rest, p, x, mid, g, k)) =
       let early_too : first ≤ t = omega (arith, fall.0) in
-      let q : (K : Log) × Turn (Both goes a) talk t (Some first) script rest listens (beside n M) w door (beside p K) x mid × Holds a Stands t (FinishBy whole first t) p x K × (x.due ≡ []) =
+      let q : (K : Log) × Turn (Both goes a) talk t (Some first) script rest listens (moment (beside n M) w door) (moment (beside p K) x mid) × Holds a Stands t (FinishBy whole first t) p x K × (x.due ≡ []) =
       turn goes talk a Stands steps t fall.1 (FinishBy whole first t) (Some first) script rest listens n p w x door mid M
       (λ o y z same b. goes_on_later goes talk a Stands steps t fall.1 (FinishBy whole first t) first n o w y z M (at_later goes a Stands steps talk listens whole first from t n w M fall.0 h) none same b)
       asked (λ d c is due. (d, within d c, is, by_due d.at first t early_too due)) g in (
@@ -222,7 +223,7 @@ module _ {N L : Type 0} (goes : N → ℕ → NodeEvent → List Action → N �
   -- All turns of a node that was made.
   all_stop : (times : List ℕ) (script : List Due) → DontFall 0 times → list_all asks script ≡ true
       → (calls : Dialling L) (text : Option (List ℕ)) (n : N) (w v : World L) (door door' : Admitting L) → Stands n [] → IsEmpty calls text w
-      → TurnsStop goes talk listens times None script n w door v door' → TurnsStop (Both goes a) talk listens times None script (beside n []) w door v door'
+      → TurnsStop goes talk listens times None script (moment n w door) (in_hands v door') → TurnsStop (Both goes a) talk listens times None script (moment (beside n []) w door) (in_hands v door')
   all_stop [] script fall asked calls text n w v door door' s empty r = absurd r
   all_stop (t ∷ times) script fall asked calls text n w v door door' s empty (going, inl (over, r)) = (
     going,
@@ -235,7 +236,7 @@ module _ {N L : Type 0} (goes : N → ℕ → NodeEvent → List Action → N �
     ),
   )
   all_stop (t ∷ times) script fall asked calls text n w v door door' s empty (going, inr (rest, p, x, mid, g, k)) =
-      let q : (K : Log) × Turn (Both goes a) talk t None script rest listens (beside n []) w door (beside p K) x mid × Holds a Stands t (FinishBy script t t) p x K × (x.due ≡ []) =
+      let q : (K : Log) × Turn (Both goes a) talk t None script rest listens (moment (beside n []) w door) (moment (beside p K) x mid) × Holds a Stands t (FinishBy script t t) p x K × (x.due ≡ []) =
       turn goes talk a Stands steps t fall.1 (FinishBy script t t) None script rest listens n p w x door mid []
       (λ o y z same b. started goes talk a Stands steps t fall.1 (FinishBy script t t) n o y z s (at_first calls text w empty y same) b)
       asked (λ d c is due. (d, c, is, by_due d.at t t (omega arith) due)) g in (
@@ -254,7 +255,7 @@ module _ {N L : Type 0} (goes : N → ℕ → NodeEvent → List Action → N �
   -- A run that ended by a fault is one of the definition, up to there.
   pub fails_lifted : (turns : ℕ) (script : List Due) → list_all asks script ≡ true
       → (n : N) (c c' : Dialling L) (b b' : Option (List ℕ)) (l l' : Admitting L) (o o' : Option (List ℕ)) → Stands n []
-      → RunFails goes talk listens turns script n c b l o c' b' l' o' → RunFails (Both goes a) talk listens turns script (beside n []) c b l o c' b' l' o'
+      → RunFails goes talk listens turns script (run_moment n c b l o) (outside c' b' l' o') → RunFails (Both goes a) talk listens turns script (run_moment (beside n []) c b l o) (outside c' b' l' o')
   fails_lifted turns script asked n c c' b b' l l' o o' s (inl k) = inl k
   fails_lifted turns script asked n c c' b b' l l' o o' s (inr r) = inr (
       record {

@@ -11,6 +11,7 @@ use Rattle.bsc_node_run.specs.Stopping.{AdmitStops, EachStop, GiveStops, HearSto
 use Rattle.bsc_node_run.specs.Stopping.{RunFails, StopsFromLines, StopsFromLinks, StopsFromNews, StopsFromTick, TurnsStop}
 use Rattle.bsc_node_run.specs.Turning.{event_of, names, passed_by}
 use Rattle.bsc_node_run.specs.Worlds.{Admitting, Dialling, World, is_open}
+use Rattle.bsc_node_run.specs.Moments.{in_hands, moment, outside, run_moment}
 use Rattle.bsc_node_runs.proofs.Mapping.{Maps, each_map, gives_map, hears_map, lines_map, news_map, starts_map, turn_map}
 
 module _ {N P L : Type 0} (goes : N → ℕ → NodeEvent → List Action → N → Type 0) (goes' : P → ℕ → NodeEvent → List Action → P → Type 0) (f : N → P)
@@ -44,7 +45,7 @@ module _ {N P L : Type 0} (goes : N → ℕ → NodeEvent → List Action → N 
   each_stop (name ∷ links) n w v (inl s) = inl (hear_stops name n w v s)
   each_stop (name ∷ links) n w v (inr (p, x, g, k)) = inr (f p, x, hears_map goes goes' f step talk t name (is_open name w) n p w x g, each_stop links p x v k)
 
-  admit_stops : (listens : Bool) (n : N) (w v : World L) (door door' : Admitting L) → AdmitStops goes talk t listens n w door v door' → AdmitStops goes' talk t listens (f n) w door v door'
+  admit_stops : (listens : Bool) (n : N) (w v : World L) (door door' : Admitting L) → AdmitStops goes talk t listens (moment n w door) (in_hands v door') → AdmitStops goes' talk t listens (moment (f n) w door) (in_hands v door')
   admit_stops false n w v door door' s = absurd s
   admit_stops true n w v door door' (waits, inl k) = (waits, inl k)
   admit_stops true n w v door door' (waits, inr (l, one, s)) = (waits, inr (l, one, give_map Arrived n (record w { arrived = Some l }) v s))
@@ -54,30 +55,30 @@ module _ {N P L : Type 0} (goes : N → ℕ → NodeEvent → List Action → N 
   start_stops (Some start) n w v s = absurd s
 
   from_links : (listens : Bool) (n : N) (w v : World L) (door door' : Admitting L)
-      → StopsFromLinks goes talk t listens n w door v door' → StopsFromLinks goes' talk t listens (f n) w door v door'
+      → StopsFromLinks goes talk t listens (moment n w door) (in_hands v door') → StopsFromLinks goes' talk t listens (moment (f n) w door) (in_hands v door')
   from_links listens n w v door door' (inl (s, stays)) = inl (each_stop names n w v s, stays)
   from_links listens n w v door door' (inr (p, x, g, k)) = inr (f p, x, each_map goes goes' f step talk t names n p w x g, admit_stops listens p x v door door' k)
 
   from_lines : (passed : ℕ) (script : List Due) (listens : Bool) (n : N) (w v : World L) (door door' : Admitting L)
-      → StopsFromLines goes talk t passed script listens n w door v door' → StopsFromLines goes' talk t passed script listens (f n) w door v door'
+      → StopsFromLines goes talk t passed script listens (moment n w door) (in_hands v door') → StopsFromLines goes' talk t passed script listens (moment (f n) w door) (in_hands v door')
   from_lines passed script listens n w v door door' (lines, rest, parts, due, inl (s, stays)) = (lines, rest, parts, due, inl (lines_stop lines n w v s, stays))
   from_lines passed script listens n w v door door' (lines, rest, parts, due, inr (p, x, next, g, k)) =
       (lines, rest, parts, due, inr (f p, x, next, lines_map goes goes' f step talk t lines n p w x g, from_links listens p x v door door' k))
 
   from_news : (passed : ℕ) (script : List Due) (listens : Bool) (n : N) (w v : World L) (door door' : Admitting L)
-      → StopsFromNews goes talk t passed script listens n w door v door' → StopsFromNews goes' talk t passed script listens (f n) w door v door'
+      → StopsFromNews goes talk t passed script listens (moment n w door) (in_hands v door') → StopsFromNews goes' talk t passed script listens (moment (f n) w door) (in_hands v door')
   from_news passed script listens n w v door door' (news, inl (s, stays)) = (news, inl (news_stop news n w v s, stays))
   from_news passed script listens n w v door door' (news, inr (p, x, g, k)) =
       (news, inr (f p, x, news_map goes goes' f step talk t news n p w x g, from_lines passed script listens p x v door door' k))
 
   from_tick : (passed : ℕ) (script : List Due) (listens : Bool) (n : N) (w v : World L) (door door' : Admitting L)
-      → StopsFromTick goes talk t passed script listens n w door v door' → StopsFromTick goes' talk t passed script listens (f n) w door v door'
+      → StopsFromTick goes talk t passed script listens (moment n w door) (in_hands v door') → StopsFromTick goes' talk t passed script listens (moment (f n) w door) (in_hands v door')
   from_tick passed script listens n w v door door' (inl (s, stays)) = inl (give_map Tick n w v s, stays)
   from_tick passed script listens n w v door door' (inr (p, x, g, k)) =
       inr (f p, x, gives_map goes goes' f step talk t Tick n p w x g, from_news passed script listens p x v door door' k)
 
   pub turn_stops : (start : Option ℕ) (script : List Due) (listens : Bool) (n : N) (w v : World L) (door door' : Admitting L)
-      → TurnStops goes talk t start script listens n w door v door' → TurnStops goes' talk t start script listens (f n) w door v door'
+      → TurnStops goes talk t start script listens (moment n w door) (in_hands v door') → TurnStops goes' talk t start script listens (moment (f n) w door) (in_hands v door')
   turn_stops start script listens n w v door door' (o, begins, inl (s, stays)) = (o, begins, inl (start_stops start n o v s, stays))
   turn_stops start script listens n w v door door' (o, begins, inr (p, x, g, k)) =
       (o, begins, inr (f p, x, starts_map goes goes' f step talk t start n p o x g, from_tick (passed_by start t) script listens p x v door door' k))
@@ -85,14 +86,14 @@ module _ {N P L : Type 0} (goes : N → ℕ → NodeEvent → List Action → N 
 module _ {N P L : Type 0} (goes : N → ℕ → NodeEvent → List Action → N → Type 0) (goes' : P → ℕ → NodeEvent → List Action → P → Type 0) (f : N → P)
     (step : Maps goes goes' f) (talk : L → Option (List Said)) (listens : Bool) where
   turns_stop : (times : List ℕ) (start : Option ℕ) (script : List Due) (n : N) (w v : World L) (door door' : Admitting L)
-      → TurnsStop goes talk listens times start script n w door v door' → TurnsStop goes' talk listens times start script (f n) w door v door'
+      → TurnsStop goes talk listens times start script (moment n w door) (in_hands v door') → TurnsStop goes' talk listens times start script (moment (f n) w door) (in_hands v door')
   turns_stop [] start script n w v door door' s = absurd s
   turns_stop (now ∷ times) start script n w v door door' (going, inl (over, s)) = (going, inl (over, turn_stops goes goes' f step talk now start script listens n w v door door' s))
   turns_stop (now ∷ times) start script n w v door door' (going, inr (rest, p, x, mid, r, k)) =
       (going, inr (rest, f p, x, mid, turn_map goes goes' f step talk now start script rest listens n p w x door mid r, turns_stop times (Some (unwrap_or start now)) rest p x v mid door' k))
 
   pub fails_map : (turns : ℕ) (script : List Due) (n : N) (c c' : Dialling L) (b b' : Option (List ℕ)) (l l' : Admitting L) (o o' : Option (List ℕ))
-      → RunFails goes talk listens turns script n c b l o c' b' l' o' → RunFails goes' talk listens turns script (f n) c b l o c' b' l' o'
+      → RunFails goes talk listens turns script (run_moment n c b l o) (outside c' b' l' o') → RunFails goes' talk listens turns script (run_moment (f n) c b l o) (outside c' b' l' o')
   fails_map turns script n c c' b b' l l' o o' (inl k) = inl k
   fails_map turns script n c c' b b' l l' o o' (inr r) = inr (
       record {

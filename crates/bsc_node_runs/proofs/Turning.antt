@@ -31,6 +31,7 @@ use Rattle.bsc_node_run.specs.Receiving.{WasGiven, left_by, told_of}
 use Rattle.bsc_node_run.specs.Requests.{is_asked}
 use Rattle.bsc_node_run.specs.Turning.{event_of, names, passed_by, AreDue, Gives, GivesIn, GivesNews, GivesLines, HearsOf, HearsIf, Hears, HearsEach, Admits, Starts, Turn}
 use Rattle.bsc_node_run.specs.Worlds.{Admitting, World, Same, begun, ends, is_name, is_open, with_link}
+use Rattle.bsc_node_run.specs.Moments.{moment}
 use Rattle.bsc_node_runs.proofs.Agreeing.{Agrees}
 use Rattle.bsc_node_runs.proofs.Beside.{Both, beside, beside_same}
 use Rattle.bsc_node_runs.proofs.Same.{agrees-same}
@@ -278,8 +279,8 @@ module _ {N L : Type 0} (goes : N → ℕ → NodeEvent → List Action → N �
       b : Brings a M (at t Arrived) Arrived × Between a (M ++ goes_on a (at t Arrived) M)
       b = brings a M (at t Arrived) h.0.between may
 
-  admitted : (listens : Bool) (n m : N) (w v : World L) (door door' : Admitting L) (M : Log) → Held n w M → w.due ≡ [] → Admits goes talk t listens n w door m v door'
-      → (K : Log) × Admits (Both goes a) talk t listens (beside n M) w door (beside m K) v door' × Held m v K × (v.due ≡ [])
+  admitted : (listens : Bool) (n m : N) (w v : World L) (door door' : Admitting L) (M : Log) → Held n w M → w.due ≡ [] → Admits goes talk t listens (moment n w door) (moment m v door')
+      → (K : Log) × Admits (Both goes a) talk t listens (moment (beside n M) w door) (moment (beside m K) v door') × Held m v K × (v.due ≡ [])
   admitted false n m w v door door' M h none (is, same, leaves) = (M, (beside_same n m M is, same, leaves), held_same n m w v M is same h, same.due ∙ none)
   admitted true n m w v door door' M h none (waits, inl (is, same, leaves)) = (M, (waits, inl (beside_same n m M is, same, leaves)), held_same n m w v M is same h, same.due ∙ none)
   admitted true n m w v door door' M h none (waits, inr (l, leaves, g)) =
@@ -331,24 +332,24 @@ module _ {N L : Type 0} (goes : N → ℕ → NodeEvent → List Action → N �
   pub turn : (start : Option ℕ) (script rest : List Due) (listens : Bool) (n m : N) (w v : World L) (door door' : Admitting L) (M : Log)
       → ((p : N) (x y : World L) → Same x (begun w) → Starts goes talk t start n x p y → (K : Log) × Starts (Both goes a) talk t start (beside n M) x (beside p K) y × Held p y K)
       → list_all asks script ≡ true → ((d : Due) → Contains script d → d.event ≡ Finish → d.at ≤ passed_by start t → P)
-      → Turn goes talk t start script rest listens n w door m v door'
-      → (K : Log) × Turn (Both goes a) talk t start script rest listens (beside n M) w door (beside m K) v door' × Held m v K × (v.due ≡ [])
+      → Turn goes talk t start script rest listens (moment n w door) (moment m v door')
+      → (K : Log) × Turn (Both goes a) talk t start script rest listens (moment (beside n M) w door) (moment (beside m K) v door') × Held m v K × (v.due ≡ [])
   turn start script rest listens n m w v door door' M first asked over g = (
     q6.0,
     record {
       news = g.news;
       lines = g.lines;
-      w0 = g.w0;
-      w1 = g.w1;
-      w2 = g.w2;
-      w3 = g.w3;
-      w4 = g.w4;
-      w5 = g.w5;
-      n1 = beside g.n1 q1.0;
-      n2 = beside g.n2 q2.0;
-      n3 = beside g.n3 q3.0;
-      n4 = beside g.n4 q4.0;
-      n5 = beside g.n5 q5.0;
+      world_begun = g.world_begun;
+      world_started = g.world_started;
+      world_ticked = g.world_ticked;
+      world_told = g.world_told;
+      world_given = g.world_given;
+      world_heard = g.world_heard;
+      node_started = beside g.node_started q1.0;
+      node_ticked = beside g.node_ticked q2.0;
+      node_told = beside g.node_told q3.0;
+      node_given = beside g.node_given q4.0;
+      node_heard = beside g.node_heard q5.0;
       begins = g.begins;
       starts = q1.1;
       ticks = q2.1;
@@ -364,25 +365,25 @@ module _ {N L : Type 0} (goes : N → ℕ → NodeEvent → List Action → N �
     q6.3,
   )
     where
-      q1 : (K : Log) × Starts (Both goes a) talk t start (beside n M) g.w0 (beside g.n1 K) g.w1 × Held g.n1 g.w1 K
-      q1 = first g.n1 g.w0 g.w1 g.begins g.starts
+      q1 : (K : Log) × Starts (Both goes a) talk t start (beside n M) g.world_begun (beside g.node_started K) g.world_started × Held g.node_started g.world_started K
+      q1 = first g.node_started g.world_begun g.world_started g.begins g.starts
 
-      q2 : (K : Log) × Gives (Both goes a) talk t Tick (beside g.n1 q1.0) g.w1 (beside g.n2 K) g.w2 × Held g.n2 g.w2 K
-      q2 = gives goes talk a Stands steps t below P g.n1 g.n2 g.w1 g.w2 q1.0 Tick
-          (ready_tick g.n1 g.w1 q1.0 q1.2) g.ticks
+      q2 : (K : Log) × Gives (Both goes a) talk t Tick (beside g.node_started q1.0) g.world_started (beside g.node_ticked K) g.world_ticked × Held g.node_ticked g.world_ticked K
+      q2 = gives goes talk a Stands steps t below P g.node_started g.node_ticked g.world_started g.world_ticked q1.0 Tick
+          (ready_tick g.node_started g.world_started q1.0 q1.2) g.ticks
 
-      q3 : (K : Log) × GivesNews (Both goes a) talk t g.news (beside g.n2 q2.0) g.w2 (beside g.n3 K) g.w3 × Held g.n3 g.w3 K × (g.w3.due ≡ [])
-      q3 = given_news g.news g.n2 g.n3 g.w2 g.w3 q2.0 q2.2 g.told
+      q3 : (K : Log) × GivesNews (Both goes a) talk t g.news (beside g.node_ticked q2.0) g.world_ticked (beside g.node_told K) g.world_told × Held g.node_told g.world_told K × (g.world_told.due ≡ [])
+      q3 = given_news g.news g.node_ticked g.node_told g.world_ticked g.world_told q2.0 q2.2 g.told
 
-      q4 : (K : Log) × GivesLines (Both goes a) talk t g.lines (beside g.n3 q3.0) g.w3 (beside g.n4 K) g.w4 × Held g.n4 g.w4 K × (g.w4.due ≡ [])
+      q4 : (K : Log) × GivesLines (Both goes a) talk t g.lines (beside g.node_told q3.0) g.world_told (beside g.node_given K) g.world_given × Held g.node_given g.world_given K × (g.world_given.due ≡ [])
       q4 = given_lines (passed_by start t) g.lines
           (and_left (list_all asks g.lines) (list_all asks rest)
           (sym (ap (list_all asks) g.parts ∙ list_all-append asks g.lines rest) ∙ asked))
           g.due (λ d c. over d (subst (λ (lines : List Due). Contains lines d) (sym g.parts) (Contains-append_left g.lines rest d c)))
-          g.n3 g.n4 g.w3 g.w4 q3.0 q3.2 q3.3 g.given
+          g.node_told g.node_given g.world_told g.world_given q3.0 q3.2 q3.3 g.given
 
-      q5 : (K : Log) × HearsEach (Both goes a) talk t names (beside g.n4 q4.0) g.w4 (beside g.n5 K) g.w5 × Held g.n5 g.w5 K × (g.w5.due ≡ [])
-      q5 = heard_each names g.n4 g.n5 g.w4 g.w5 q4.0 refl q4.2 q4.3 g.heard
+      q5 : (K : Log) × HearsEach (Both goes a) talk t names (beside g.node_given q4.0) g.world_given (beside g.node_heard K) g.world_heard × Held g.node_heard g.world_heard K × (g.world_heard.due ≡ [])
+      q5 = heard_each names g.node_given g.node_heard g.world_given g.world_heard q4.0 refl q4.2 q4.3 g.heard
 
-      q6 : (K : Log) × Admits (Both goes a) talk t listens (beside g.n5 q5.0) g.w5 door (beside m K) v door' × Held m v K × (v.due ≡ [])
-      q6 = admitted listens g.n5 m g.w5 v door door' q5.0 q5.2 q5.3 g.admits
+      q6 : (K : Log) × Admits (Both goes a) talk t listens (moment (beside g.node_heard q5.0) g.world_heard door) (moment (beside m K) v door') × Held m v K × (v.due ≡ [])
+      q6 = admitted listens g.node_heard m g.world_heard v door door' q5.0 q5.2 q5.3 g.admits

@@ -1,5 +1,6 @@
 -- A node to which no link comes: what it is told, by the readings of the clock and its script alone.
-use Rattle.std.specs.Prelude.{◌≡◌, ℕ, zero, suc, ◌-◌, nat_le, true, not, if◌then◌else◌, List, [], ◌∷◌, ◌++◌, length, map, filter, fold, take_while, Option, Some}
+use Rattle.std.specs.Prelude.{◌≡◌, ℕ, zero, suc, ◌-◌, nat_le, true, not, if◌then◌else◌, List, [], ◌∷◌, ◌++◌, length, map, filter, fold}
+use Rattle.std.specs.Prelude.{take_while, Option, Some}
 use Rattle.std.specs.List.{list_all}
 use Rattle.bsc_edge.specs.declared.dialled.Dialled.{Dialled}
 use Rattle.bsc_node.specs.declared.link_name.LinkName.{LinkName}

@@ -16,8 +16,8 @@ abbrev pub GoesAt : Made → Log → TimedEvent → List Action → Log → Type
 GoesAt a L e actions M = IsTrue (may_come L e) × (actions ≡ actions_at a L e) × (M ≡ L ++ goes_on a e L)
 
 -- It comes at this time.
-abbrev pub Goes : Made → Log → ℕ → NodeEvent → List Action → Log → Type 0
-Goes a L now e actions M = GoesAt a L (record { now = now; event = e }) actions M
+abbrev pub GoesAsDefined : Made → Log → ℕ → NodeEvent → List Action → Log → Type 0
+GoesAsDefined a L now e actions M = GoesAt a L (record { now = now; event = e }) actions M
 
 -- the last of some readings, the first of which is this
 abbrev pub last_from : ℕ → List ℕ → ℕ

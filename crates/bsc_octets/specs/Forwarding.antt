@@ -49,4 +49,12 @@ out m v = (function_in m ∷ flags_out m ∷ id_in m) ++ v.0 ++ kept m ++ after_
 -- Originating Virtual Address, and as Destination Virtual Address the broadcast address for a broadcast and none for a
 -- unicast.
 abbrev pub envelope_out : List ℕ → Vmac → Envelope
-envelope_out m v = record { function = function_in m; flags = flags_out m; id = big_number 2 (id_in m); origin = Some v; dest = if is_broadcast m then Some broadcast else None; rest_at = if is_broadcast m then 16 else 10 }
+envelope_out m v =
+    record {
+      function = function_in m;
+      flags = flags_out m;
+      id = big_number 2 (id_in m);
+      origin = Some v;
+      dest = if is_broadcast m then Some broadcast else None;
+      rest_at = if is_broadcast m then 16 else 10;
+    }

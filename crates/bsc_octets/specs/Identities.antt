@@ -9,4 +9,10 @@ identity_octets who = ((who.vmac.0 ++ who.device.0) ++ big_bytes 2 who.max_bvlc)
 
 -- The identity that 26 octets say, each field read at its place.
 abbrev pub identity_of : List ℕ → Identity
-identity_of b = record { vmac = record { 0 = take 6 b }; device = record { 0 = take 16 (drop 6 b) }; max_bvlc = big_number 2 (drop 22 b); max_npdu = big_number 2 (drop 24 b) }
+identity_of b =
+    record {
+      vmac = record { 0 = take 6 b };
+      device = record { 0 = take 16 (drop 6 b) };
+      max_bvlc = big_number 2 (drop 22 b);
+      max_npdu = big_number 2 (drop 24 b);
+    }

@@ -6,19 +6,24 @@
 #![tactic(auto)]
 
 use bsc_commands::{Door, Noted, NotingFiles, RealLink, RealWaiter, real_dialer, run};
-use bsc_edge::{Kind, Monotonic, Places, Promised, Running, ThreadSpawner, Unstarted, launch};
+use bsc_edge::{
+    DiskJournal, DiskJournals, Kind, Monotonic, Places, Promised, Running, ThreadSpawner,
+    Unstarted, launch,
+};
 use bsc_hub::Kept;
 use bsc_links::{PeerAcceptor, PeerDialer};
 use bsc_node_command::RandomWords;
 use bsc_octets::NoMemory;
 use bsc_outside::WriterSink;
 use bsc_player::out_of_memory;
+use bsc_recorders::{KeptFiles, KeptSource, NotedAcceptor, NotedDisk, NotedSink};
 use bsc_session::{SessionEnd, SessionJob};
-use bsc_why::{Heard, KeptFiles, KeptSource, NotedAcceptor, NotedDisk, NotedSink, name_in, tell};
+use bsc_why::{Heard, name_in, tell};
 use bsc_words::{Asked, WordsFault, read_words};
 use std::alloc::Global;
 use std::cell::Cell;
 use std::env::{self, Env};
+use std::fs;
 use std::io::{self, ErrorKind};
 use std::process::ExitCode;
 use std::rc::Rc;
@@ -28,7 +33,11 @@ use std::sync::Arc;
 const SESSIONS: u64 = 2048;
 
 /// The session of a real link.
-type Job = SessionJob<RealLink<HostRuntime>, Monotonic<HostRuntime>>;
+type Job = SessionJob<
+    RealLink<HostRuntime>,
+    Monotonic<HostRuntime>,
+    DiskJournal<<HostRuntime as fs::Files>::File>,
+>;
 
 /// The kind of the links that are accepted by these words: a node accepts direct connections.
 fn kind_of(alloc: Global, words: &[String]) -> Result<Kind, NoMemory> {
@@ -107,6 +116,8 @@ fn main(rt: HostRuntime) -> ExitCode {
         hub: None,
         pass: None,
     };
+    let mut journals = DiskJournals::new(rt);
+    let mut own = None;
     let status = run(
         &rt,
         alloc,
@@ -121,6 +132,8 @@ fn main(rt: HostRuntime) -> ExitCode {
         &mut dialer,
         &mut spawner,
         &mut kept,
+        &mut journals,
+        &mut own,
     );
     let file = files.text();
     let heard = Heard {

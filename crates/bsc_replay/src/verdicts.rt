@@ -2,15 +2,14 @@
 ghost use Rattle.std.specs.Prelude.{◌≡◌, ◌≤◌, ℕ, List, Some, None};
 ghost use Rattle.bsc_outside.specs.Faults.{HasRisen};
 ghost use Rattle.bsc_player.specs.Ends.{PlaysOut, AcceptsLines};
-ghost use Rattle.bsc_verdict.specs.Outcomes.{outcome_of};
+ghost use Rattle.bsc_checks.specs.Outcomes.{outcome_of};
 ghost use Rattle.bsc_replay.specs.Checks.{check_of};
 
 use bsc_check_lines::{Judge, check_by};
-use bsc_checks::{Place, Verdict};
+use bsc_checks::{Place, Verdict, judge};
 use bsc_octets::NoMemory;
 use bsc_outside::{Sink, Source};
 use bsc_player::PlayEnd;
-use bsc_verdict::judged;
 use std::alloc::Global;
 
 /// The verdicts that messages have at their places.
@@ -27,7 +26,7 @@ impl Judge for Verdicts {
         place: &Place,
         max: u16,
     ) -> Result<Verdict, NoMemory> {
-        judged(alloc, message, place, max)
+        judge(alloc, message, place, max)
     }
 }
 

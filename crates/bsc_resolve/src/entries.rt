@@ -16,7 +16,8 @@ pub(crate) fn place_of(entries: &[Entry], v: Vmac) -> Option<usize>
 
 /// Adds an entry for a VMAC that has none, with its question.
 pub(crate) fn add(entries: &mut Vec<Entry>, v: Vmac, question: Question) -> Result<(), NoMemory>
-    ensures items { entries.new.items ≡ (if is_ok result then entries.old.items ++ record { vmac = v; question = Some question; uris = None } ∷ [] else entries.old.items) }
+    ensures items { entries.new.items ≡ (if is_ok result
+        then entries.old.items ++ record { vmac = v; question = Some question; uris = None } ∷ [] else entries.old.items) }
     ensures len { vec_len entries.new ≤ vec_len entries.old + 1 }
     ensures err { OnErr result (vec_len entries.new ≡ vec_len entries.old) }
 {

@@ -8,7 +8,7 @@ use Rattle.bsc_history.specs.Ends.{ended, joined_where}
 use Rattle.bsc_history.specs.Outboxes.{looked, added_by, sent}
 use Rattle.bsc_history.specs.Counting.{counts}
 use Rattle.bsc_history.specs.Replies.{connect_reply, forward_reply}
-use Rattle.bsc_verdict.specs.Outcomes.{outcome_of}
+use Rattle.bsc_checks.specs.Outcomes.{outcome_of}
 use Rattle.bsc_player.specs.Playing.{play}
 use Rattle.bsc_script.specs.Lines.{line_of}
 use Rattle.bsc_script.specs.Running.{run_line}

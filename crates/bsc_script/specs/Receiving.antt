@@ -7,7 +7,7 @@ use Rattle.bsc_history.specs.declared.reply.Reply.TheVariants.{Joined, Refused}
 use Rattle.bsc_checks.specs.declared.place.Place.TheVariants.{HubPort}
 use Rattle.bsc_checks.specs.declared.verdict.Verdict.{Verdict}
 use Rattle.bsc_checks.specs.declared.verdict.Verdict.TheVariants.{Silent}
-use Rattle.bsc_verdict.specs.Outcomes.{outcome_of}
+use Rattle.bsc_checks.specs.Outcomes.{outcome_of}
 use Rattle.bsc_accept.specs.declared.event.Event.TheVariants.{Message as Came, Joined as HasJoined, Refused as WasRefused}
 use Rattle.bsc_accept.specs.declared.reason.Reason.TheVariants.{HubWorn}
 use Rattle.bsc_accept.specs.declared.step.Step.{Step}

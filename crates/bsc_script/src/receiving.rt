@@ -11,9 +11,8 @@ use crate::due::Due;
 use crate::script_hub::ScriptHub;
 use crate::texts::put_silent;
 use bsc_accept::Step;
-use bsc_checks::{Place, Verdict};
+use bsc_checks::{Place, Verdict, judge};
 use bsc_octets::NoMemory;
-use bsc_verdict::judged;
 use std::alloc::Global;
 
 /// The line of a message that is met with silence; there is none for another verdict.
@@ -44,7 +43,7 @@ impl ScriptHub {
         let place = Place::HubPort {
             phase: self.peer_at(at).machine.phase(),
         };
-        let verdict = judged(alloc, message, &place, self.about.hub.max_bvlc)?;
+        let verdict = judge(alloc, message, &place, self.about.hub.max_bvlc)?;
         put_silence(text, self.name_at(at), &verdict)?;
         let now = self.clock;
         let (_, peer) = self.peers.pair_mut(at);

@@ -20,13 +20,13 @@ use Rattle.bsc_checks.specs.declared.verdict.Verdict.{Verdict}
 use Rattle.bsc_checks.specs.declared.verdict.Verdict.TheVariants.{Pass, Carry as Carried, Silent, Nak}
 use Rattle.bsc_checks.specs.Places.{origin_in, dest_in, is_to_carry}
 use Rattle.bsc_checks.specs.Table.{checks_of, code_of, head_checks, later_checks}
-use Rattle.bsc_verdict.specs.Options.{Found, data_options_in, rest_of}
-use Rattle.bsc_verdict.specs.Payloads.{body_in, has_bad_details, has_bad_uris, has_no_nodes_vmac, has_unknown_accepts, has_unknown_result, has_unknown_status, is_out_of_range}
-use Rattle.bsc_verdict.specs.Places.{is_in_place, is_response, is_unicast}
-use Rattle.bsc_verdict.specs.Failing.{fails, of_payload}
-use Rattle.bsc_verdict.specs.Outcomes.{accepted, answered, decided, first_failing, outcome_of, refused}
+use Rattle.bsc_checks.specs.Options.{Found, data_options_in, rest_of}
+use Rattle.bsc_checks.specs.Payloads.{body_in, has_bad_details, has_bad_uris, has_no_nodes_vmac, has_unknown_accepts, has_unknown_result, has_unknown_status, is_out_of_range}
+use Rattle.bsc_checks.specs.PlaceTests.{is_in_place, is_response, is_unicast}
+use Rattle.bsc_checks.specs.Failing.{fails, of_payload}
+use Rattle.bsc_checks.specs.Outcomes.{accepted, answered, decided, first_failing, outcome_of, refused}
 use Rattle.bsc_accept.specs.Messages.{who_asks}
-use Rattle.bsc_verdict.proofs.Common.{carries_when, none_fails, passes_when}
+use Rattle.bsc_checks.proofs.Common.{carries_when, none_fails, passes_when}
 use Rattle.std.proofs.lemmas.Option.{same_Some as same_some}
 
 -- ---- a message that no check refuses

@@ -15,7 +15,7 @@ use Rattle.bsc_history.specs.Replies.{is_stopped}
 use Rattle.bsc_history.proofs.Lists.{In, In_from_all, In_kept}
 use Rattle.bsc_checks.specs.declared.place.Place.TheVariants.{HubPort}
 use Rattle.bsc_checks.specs.declared.verdict.Verdict.TheVariants.{Pass}
-use Rattle.bsc_verdict.specs.Outcomes.{outcome_of}
+use Rattle.bsc_checks.specs.Outcomes.{outcome_of}
 use Rattle.bsc_accept.specs.declared.event.Event.{Event}
 use Rattle.bsc_accept.specs.declared.event.Event.TheVariants.{Message as Came, Refused as WasRefused, Tick}
 use Rattle.bsc_accept.specs.declared.step.Step.{Step}

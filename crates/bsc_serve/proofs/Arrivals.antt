@@ -19,53 +19,53 @@ use Rattle.bsc_serve.specs.Events.{AreFates, Event, OutAfter, arrived, callers_o
 use Rattle.bsc_serve.specs.Fates.{Fate, IsFate, IsSplitIn, caller_in, job_in, returned, spent, started, unstarted_in}
 use Rattle.bsc_serve.specs.Inner.{AllEnded, limit_of}
 use Rattle.bsc_serve.specs.Serving.{Loses, RoseBy}
-use Rattle.bsc_serve.specs.declared.terms.ServeTerms.{ServeTerms}
+use Rattle.bsc_serve.specs.Terms.{Terms}
 
 few_in : {J : Type 0} → (f : Fate J) → unstarted_in f ≤ 1
 few_in (started j) = omega arith
 few_in (returned e) = omega arith
 few_in spent = omega arith
 
-module _ {L C : Type 0} where
-  pub links-append : (more last : List (Event L C)) → links_of (more ++ last) ≡ links_of more ++ links_of last
+module _ {L C N : Type 0} where
+  pub links-append : (more last : List (Event L C N)) → links_of (more ++ last) ≡ links_of more ++ links_of last
   links-append [] last = refl
   links-append (arrived l f ∷ more) last = ap (λ (k : List L). l ∷ k) (links-append more last)
   links-append (ended j d ∷ more) last = links-append more last
 
-  pub jobs-append : (more last : List (Event L C)) → jobs_of (more ++ last) ≡ jobs_of more ++ jobs_of last
+  pub jobs-append : (more last : List (Event L C N)) → jobs_of (more ++ last) ≡ jobs_of more ++ jobs_of last
   jobs-append [] last = refl
-  jobs-append (arrived l f ∷ more) last = ap (λ (k : List (SessionJob L C)). job_in f ++ k) (jobs-append more last) ∙ sym (append_assoc (job_in f) (jobs_of more) (jobs_of last))
+  jobs-append (arrived l f ∷ more) last = ap (λ (k : List (SessionJob L C N)). job_in f ++ k) (jobs-append more last) ∙ sym (append_assoc (job_in f) (jobs_of more) (jobs_of last))
   jobs-append (ended j d ∷ more) last = jobs-append more last
 
-  pub callers-append : (more last : List (Event L C)) → callers_of (more ++ last) ≡ callers_of more ++ callers_of last
+  pub callers-append : (more last : List (Event L C N)) → callers_of (more ++ last) ≡ callers_of more ++ callers_of last
   callers-append [] last = refl
   callers-append (arrived l f ∷ more) last = ap (λ (k : List EndedCaller). caller_in f ++ k) (callers-append more last) ∙ sym (append_assoc (caller_in f) (callers_of more) (callers_of last))
   callers-append (ended j d ∷ more) last = ap (λ (k : List EndedCaller). ended_of (view_of d.pass) ∷ k) (callers-append more last)
 
-  pub returned-append : (more last : List (Event L C)) → returned_of (more ++ last) ≡ returned_of more + returned_of last
+  pub returned-append : (more last : List (Event L C N)) → returned_of (more ++ last) ≡ returned_of more + returned_of last
   returned-append [] last = omega arith
   returned-append (arrived l f ∷ more) last = (let k = returned-append more last in omega (arith, k))
   returned-append (ended j d ∷ more) last = returned-append more last
 
-  pub unstarted-append : (more last : List (Event L C)) → unstarted_of (more ++ last) ≡ unstarted_of more + unstarted_of last
+  pub unstarted-append : (more last : List (Event L C N)) → unstarted_of (more ++ last) ≡ unstarted_of more + unstarted_of last
   unstarted-append [] last = omega arith
   unstarted-append (arrived l f ∷ more) last = (let k = unstarted-append more last in omega (arith, k))
   unstarted-append (ended j d ∷ more) last = unstarted-append more last
 
   -- no more links have no job than there are
-  pub few_unstarted : (more : List (Event L C)) → unstarted_of more ≤ length (links_of more)
+  pub few_unstarted : (more : List (Event L C N)) → unstarted_of more ≤ length (links_of more)
   few_unstarted [] = omega arith
   few_unstarted (arrived l f ∷ more) = (let k = few_unstarted more in let n = few_in f in omega (arith, k, n))
   few_unstarted (ended j d ∷ more) = few_unstarted more
 
-  pub all_ended_then : (h : Hub) (more last : List (Event L C)) → AllEnded h more → AllEnded h last → AllEnded h (more ++ last)
+  pub all_ended_then : (h : Hub) (more last : List (Event L C N)) → AllEnded h more → AllEnded h last → AllEnded h (more ++ last)
   all_ended_then h [] last a b = b
   all_ended_then h (arrived l f ∷ more) last a b = all_ended_then h more last a b
   all_ended_then h (ended j d ∷ more) last a b = (a.0, all_ended_then h more last a.1 b)
 
-module _ {L C : Type 0} (works : SessionJob L C → SessionEnd → Type 0) where
-  pub out_then : (out mid still : List (SessionJob L C)) (more last : List (Event L C)) → OutAfter works out more mid → OutAfter works mid last still → OutAfter works out (more ++ last) still
-  out_then out mid still [] last a b = subst (λ (o : List (SessionJob L C)). OutAfter works o last still) a b
+module _ {L C N : Type 0} (works : SessionJob L C N → SessionEnd → Type 0) where
+  pub out_then : (out mid still : List (SessionJob L C N)) (more last : List (Event L C N)) → OutAfter works out more mid → OutAfter works mid last still → OutAfter works out (more ++ last) still
+  out_then out mid still [] last a b = subst (λ (o : List (SessionJob L C N)). OutAfter works o last still) a b
   out_then out mid still (arrived l f ∷ more) last a b = out_then (out ++ job_in f) mid still more last a b
   out_then out mid still (ended j d ∷ more) last a b = (a.0, a.1, a.2, a.3, out_then (a.0 ++ a.1) mid still more last a.4 b)
 
@@ -158,19 +158,19 @@ split_later h p m q x begins is = record {
   by = starts_then (seen x) (seen m) (seen q) is.by begins;
 }
 
-module _ {L C : Type 0} where
-  fate_later : (h : Hub) (terms : ServeTerms) (p m q : Pass) (l : L) (f : Fate (SessionJob L C)) → StartsWith (seen q) (seen m) → SpentStays h m q → IsFate h terms.limits terms.turns p m l f → IsFate h terms.limits terms.turns p q l f
-  fate_later h terms p m q l (started j) begins stays is = record { link = is.link; hub = is.hub; pass = split_later h p m q j.pass begins is.pass; limits = is.limits; turns = is.turns }
+module _ {L C N : Type 0} (begins : Option (List ℕ) → ℕ → N → Type 0) where
+  fate_later : (h : Hub) (terms : Terms) (p m q : Pass) (l : L) (f : Fate (SessionJob L C N)) → StartsWith (seen q) (seen m) → SpentStays h m q → IsFate begins h terms p m l f → IsFate begins h terms p q l f
+  fate_later h terms p m q l (started j) begins stays is = record { link = is.link; hub = is.hub; pass = split_later h p m q j.pass begins is.pass; limits = is.limits; turns = is.turns; journal = is.journal; is_recorded = is.is_recorded; policy = is.policy }
   fate_later h terms p m q l (returned e) begins stays is = is
   fate_later h terms p m q l spent begins stays is = stays is
 
   -- what became of links is so by what the pass has seen later
-  pub fates_later : (h : Hub) (terms : ServeTerms) (p m q : Pass) (more : List (Event L C)) → StartsWith (seen q) (seen m) → SpentStays h m q → AreFates h terms p m more → AreFates h terms p q more
+  pub fates_later : (h : Hub) (terms : Terms) (p m q : Pass) (more : List (Event L C N)) → StartsWith (seen q) (seen m) → SpentStays h m q → AreFates begins h terms p m more → AreFates begins h terms p q more
   fates_later h terms p m q [] begins stays are = tt
   fates_later h terms p m q (arrived l f ∷ more) begins stays are = (fate_later h terms p m q l f begins stays are.0, fates_later h terms p m q more begins stays are.1)
   fates_later h terms p m q (ended j d ∷ more) begins stays are = fates_later h terms p m q more begins stays are
 
-  pub fates_then : (h : Hub) (terms : ServeTerms) (p q : Pass) (more last : List (Event L C)) → AreFates h terms p q more → AreFates h terms p q last → AreFates h terms p q (more ++ last)
+  pub fates_then : (h : Hub) (terms : Terms) (p q : Pass) (more last : List (Event L C N)) → AreFates begins h terms p q more → AreFates begins h terms p q last → AreFates begins h terms p q (more ++ last)
   fates_then h terms p q [] last a b = b
   fates_then h terms p q (arrived l f ∷ more) last a b = (a.0, fates_then h terms p q more last a.1 b)
   fates_then h terms p q (ended j d ∷ more) last a b = fates_then h terms p q more last a b

@@ -1,6 +1,6 @@
 -- The end of serving.
 use Rattle.std.proofs.Common.{inl, inr, ◌≡◌, ℕ, ◌+◌, ◌≤◌, List, [], ◌++◌, length, take, true, false, Option, Some, None, Ok, Err, refl, ap, sym, ◌∙◌, subst, arith, append-nil}
-use Rattle.std.specs.Prelude.{Result, ◌<◌, ◌^◌}
+use Rattle.std.specs.Prelude.{Result, ◌<◌, ◌^◌, ◌⊎◌, ◌≢◌}
 use Rattle.std.proofs.lemmas.Bool.{false_from_ne_true}
 use Rattle.bsc_history.specs.declared.counts.Counts.{Counts}
 use Rattle.bsc_history.specs.declared.told.AlreadyStopped.{AlreadyStopped}
@@ -14,16 +14,20 @@ use Rattle.bsc_hub.specs.declared.hub.Hub.{Hub}
 use Rattle.bsc_hub.specs.Calls.{stop_made}
 use Rattle.bsc_hub.specs.Passing.{Placed, Went}
 use Rattle.bsc_hub.proofs.Following.{went_then}
+use Rattle.bsc_edge.specs.declared.fault.LinkFault.{LinkFault}
+use Rattle.bsc_edge.specs.declared.fault.LinkFault.TheVariants.{Failed, NoMemory as NoRoom}
 use Rattle.bsc_edge.specs.Told.{Stays}
+use Rattle.bsc_notes.specs.Notes.{HasLine, Records}
 use Rattle.bsc_serve.specs.declared.end.ServeEnd.{ServeEnd}
+use Rattle.bsc_serve.specs.declared.end.ServeEnd.TheVariants.{Done, StoppedBefore, AcceptFault, JournalFault, NoMemory}
 use Rattle.bsc_serve.specs.declared.halt.Halt.{Halt}
-use Rattle.bsc_serve.specs.declared.halt.Halt.TheVariants.{AcceptFault as HaltFault, NoMemory as HaltMemory}
+use Rattle.bsc_serve.specs.declared.halt.Halt.TheVariants.{AcceptFault as HaltFault, JournalFault as HaltJournal, NoMemory as HaltMemory}
 use Rattle.bsc_session.specs.declared.job.SessionJob.{SessionJob}
 use Rattle.bsc_session.specs.declared.session_end.SessionEnd.{SessionEnd}
-use Rattle.bsc_serve.specs.declared.terms.ServeTerms.{ServeTerms}
+use Rattle.bsc_serve.specs.Terms.{Terms}
 use Rattle.bsc_serve.specs.Events.{Event, OutAfter, callers_of, jobs_of, links_of, returned_of, unstarted_of}
-use Rattle.bsc_serve.specs.Inner.{CutAt, Halted, Stock, Stopped, Taken, halt_end, whole_end, world_of}
-use Rattle.bsc_serve.specs.Serving.{Cut, CutBy, EndsSo, IsWithin, Loses, RoseBy, Serving, StopAnswers, cut_callers, cut_links}
+use Rattle.bsc_serve.specs.Inner.{CutAt, Halted, Stock, Stopped, Taken, fault_halt, halt_end, whole_end, world_of}
+use Rattle.bsc_serve.specs.Serving.{Cut, CutBy, EndsSo, IsWithin, JournalFailed, Loses, RoseBy, Serving, StopAnswers, cut_callers, cut_links, stop_notes}
 use Rattle.bsc_serve.specs.Tallies.{CountsUp, Remains}
 use Rattle.bsc_serve.specs.Worlds.{ServeWorld}
 use Rattle.bsc_serve.proofs.Arrivals.{SpentStays, fates_later, few_unstarted, grows_from, grows_still, rose_later}
@@ -65,31 +69,92 @@ within_whole : (sessions : Option ℕ) (n : ℕ) → Remains sessions n (Some 0)
 within_whole None n r = absurd r
 within_whole (Some s) n r = omega (arith, r)
 
-cut_by : {L : Type 0} → (cut : Option (Cut L)) (halt : Halt) → CutAt cut halt → CutBy cut (halt_end halt)
-cut_by None halt c = tt
-cut_by (Some x) halt c = (ap halt_end c.0, c.1)
+-- a job whose journal couldn't be begun
+halts_failed : (fault : LinkFault) → HaltJournal ≡ fault_halt fault → fault ≡ Failed
+halts_failed Failed e = refl
+halts_failed NoRoom e = absurd (let k : HaltJournal ≡ HaltMemory = e in cc)
 
-module _ {L C : Type 0} where
-  ends_whole : (awaited : Option ℕ) (events : List (Event L C)) (u : ℕ) (r : Result (Told Counts) AlreadyStopped)
-      → awaited ≡ Some (length (links_of events)) → u ≡ unstarted_of events → EndsSo awaited events [] r (whole_end u r)
-  ends_whole awaited events u (Ok t) came same = (came, refl, same, (t.at, refl))
-  ends_whole awaited events u (Err already) came same = (came, refl, same, refl)
+-- no journal failed where none halted the loop and none was lost
+none_failed : {L : Type 0} → (cut : Option (Cut L)) (halt : Halt) (lost : Option LinkFault) → CutAt cut halt → halt ≢ HaltJournal → lost ≢ Some Failed → JournalFailed cut lost → ⊥
+none_failed cut halt lost at other put (inl f) = put f
+none_failed None halt lost at other put (inr f) = (let k : None ≡ Some Failed = f in cc)
+none_failed (Some c) halt lost at other put (inr f) = (let k : Some c.fault ≡ Some Failed = f in let is : c.fault ≡ Failed = cc in other (at.0 ∙ ap fault_halt is))
 
-  ends_halted : (awaited : Option ℕ) (events : List (Event L C)) (still : List (SessionJob L C)) (stop : Result (Told Counts) AlreadyStopped)
-      (halt : Halt) → EndsSo awaited events still stop (halt_end halt)
-  ends_halted awaited events still stop HaltFault = tt
-  ends_halted awaited events still stop HaltMemory = tt
+-- how serving ends where a job couldn't be made
+fault_ends : (fault : LinkFault) (lost : Option LinkFault) → (halt_end (fault_halt fault) lost ≡ NoMemory) ⊎ (halt_end (fault_halt fault) lost ≡ JournalFault)
+fault_ends Failed lost = inr refl
+fault_ends NoRoom None = inl refl
+fault_ends NoRoom (Some Failed) = inr refl
+fault_ends NoRoom (Some NoRoom) = inl refl
+
+cut_by : {L : Type 0} → (cut : Option (Cut L)) (halt : Halt) (lost : Option LinkFault) → CutAt cut halt → CutBy cut (halt_end halt lost)
+cut_by None halt lost c = tt
+cut_by (Some x) halt lost c =
+    (subst (λ t. (halt_end t lost ≡ NoMemory) ⊎ (halt_end t lost ≡ JournalFault)) (sym c.0) (fault_ends x.fault lost), c.1)
+
+module _ {L C N : Type 0} where
+  ends_whole : (awaited : Option ℕ) (events : List (Event L C N)) (u : ℕ) (r : Result (Told Counts) AlreadyStopped) (lost : Option LinkFault)
+      → awaited ≡ Some (length (links_of events)) → u ≡ unstarted_of events → EndsSo awaited events None [] r lost (whole_end u r lost)
+  ends_whole awaited events u (Ok t) None came same = (came, refl, same, (t.at, refl), refl)
+  ends_whole awaited events u (Err already) None came same = (came, refl, same, refl)
+  ends_whole awaited events u r (Some Failed) came same = inl refl
+  ends_whole awaited events u r (Some NoRoom) came same =
+      let cut : Option (Cut L) = None in
+      none_failed cut HaltMemory (Some NoRoom) (λ e. cc) (λ e. cc) (λ e. cc)
+
+  ends_halted : (awaited : Option ℕ) (events : List (Event L C N)) (cut : Option (Cut L)) (still : List (SessionJob L C N))
+      (stop : Result (Told Counts) AlreadyStopped) (lost : Option LinkFault) (halt : Halt) → CutAt cut halt
+      → EndsSo awaited events cut still stop lost (halt_end halt lost)
+  ends_halted awaited events None still stop lost HaltJournal at = absurd (at refl)
+  ends_halted awaited events (Some c) still stop lost HaltJournal at = inr (ap Some (halts_failed c.fault at.0))
+  ends_halted awaited events cut still stop None HaltFault at = refl
+  ends_halted awaited events cut still stop (Some Failed) HaltFault at = inl refl
+  ends_halted awaited events cut still stop (Some NoRoom) HaltFault at = none_failed cut HaltFault (Some NoRoom) at (λ e. cc) (λ e. cc)
+  ends_halted awaited events cut still stop None HaltMemory at = none_failed cut HaltMemory None at (λ e. cc) (λ e. cc)
+  ends_halted awaited events cut still stop (Some Failed) HaltMemory at = inl refl
+  ends_halted awaited events cut still stop (Some NoRoom) HaltMemory at = none_failed cut HaltMemory (Some NoRoom) at (λ e. cc) (λ e. cc)
+
+-- ---- what an end says of its causes
+
+pub whole_lost : (u : ℕ) (r : Result (Told Counts) AlreadyStopped) (lost : Option LinkFault) → whole_end u r lost ≡ JournalFault → lost ≡ Some Failed
+whole_lost u (Ok t) None e = absurd (let k : Done t.said u ≡ JournalFault = e in cc)
+whole_lost u (Err already) None e = absurd (let k : StoppedBefore already.at u ≡ JournalFault = e in cc)
+whole_lost u r (Some Failed) e = refl
+whole_lost u r (Some NoRoom) e = absurd (let k : NoMemory ≡ JournalFault = e in cc)
+
+pub whole_served : (u : ℕ) (r : Result (Told Counts) AlreadyStopped) (lost : Option LinkFault) → whole_end u r lost ≡ AcceptFault → ⊥
+whole_served u (Ok t) None e = (let k : Done t.said u ≡ AcceptFault = e in cc)
+whole_served u (Err already) None e = (let k : StoppedBefore already.at u ≡ AcceptFault = e in cc)
+whole_served u r (Some Failed) e = (let k : JournalFault ≡ AcceptFault = e in cc)
+whole_served u r (Some NoRoom) e = (let k : NoMemory ≡ AcceptFault = e in cc)
+
+pub halt_failed : (halt : Halt) (lost : Option LinkFault) → halt_end halt lost ≡ AcceptFault → halt ≡ HaltFault
+halt_failed HaltFault lost e = refl
+halt_failed HaltJournal lost e = absurd (let k : JournalFault ≡ AcceptFault = e in cc)
+halt_failed HaltMemory None e = absurd (let k : NoMemory ≡ AcceptFault = e in cc)
+halt_failed HaltMemory (Some Failed) e = absurd (let k : JournalFault ≡ AcceptFault = e in cc)
+halt_failed HaltMemory (Some NoRoom) e = absurd (let k : NoMemory ≡ AcceptFault = e in cc)
+
+pub halt_lost : {X Y : Type 0} → (halt : Halt) (lost : Option LinkFault) → halt_end halt lost ≡ JournalFault → (halt ≡ HaltJournal → X) → (lost ≡ Some Failed → Y) → X ⊎ Y
+halt_lost HaltJournal lost e x y = inl (x refl)
+halt_lost HaltFault None e x y = absurd (let k : AcceptFault ≡ JournalFault = e in cc)
+halt_lost HaltFault (Some Failed) e x y = inr (y refl)
+halt_lost HaltFault (Some NoRoom) e x y = absurd (let k : NoMemory ≡ JournalFault = e in cc)
+halt_lost HaltMemory None e x y = absurd (let k : NoMemory ≡ JournalFault = e in cc)
+halt_lost HaltMemory (Some Failed) e x y = inr (y refl)
+halt_lost HaltMemory (Some NoRoom) e x y = absurd (let k : NoMemory ≡ JournalFault = e in cc)
 
 rose_from : (n a b c : ℕ) → a ≤ b → RoseBy n b c → RoseBy n a c
 rose_from n a b c later (inl x) = inl (omega (arith, later, x))
 rose_from n a b c later (inr x) = inr x
 
-module _ {L C : Type 0} (works : SessionJob L C → SessionEnd → Type 0) where
+module _ {L C N : Type 0} (works : SessionJob L C N → SessionEnd → Type 0) (begins : Option (List ℕ) → ℕ → N → Type 0) where
   -- all arrived, all sessions ended and were taken in, and the hub was stopped
-  pub serves_whole : (h : Hub) (terms : ServeTerms) (w m : ServeWorld L C) (q : Pass) (u : ℕ) (r : Result (Told Counts) AlreadyStopped)
-      → ((s : ℕ) → terms.sessions ≡ Some s → s < 2 ^ 64) → Taken works h terms w m (record { remaining = Some 0; unstarted = u })
-      → m.out ≡ [] → Stopped h m.pass q r → Serving works h terms w (record m { pass = q }) (whole_end u r)
-  serves_whole h terms w m q u r fits t none s =
+  pub serves_whole : (h : Hub) (terms : Terms) (w m : ServeWorld L C N) (q : Pass) (u : ℕ) (r : Result (Told Counts) AlreadyStopped)
+      (lost : Option LinkFault) (held held' : Option (List ℕ)) → ((s : ℕ) → terms.sessions ≡ Some s → s < 2 ^ 64) → Taken works begins h terms w m (record { remaining = Some 0; unstarted = u })
+      → m.out ≡ [] → Stopped h m.pass q r → Records held held' (stop_notes (number_of m.pass) r) lost
+      → HasLine (stop_notes (number_of m.pass) r) lost → Serving works begins h terms w (record m { pass = q }) held held' (whole_end u r lost)
+  serves_whole h terms w m q u r lost held held' fits t none s noted line =
       let n = length (links_of t.events) in
       let all : n ≡ n + 0 = omega arith in
       let few = few_unstarted t.events in
@@ -106,28 +171,31 @@ module _ {L C : Type 0} (works : SessionJob L C → SessionEnd → Type 0) where
         cut = None;
         still = [];
         stop = r;
+        lost = lost;
         cut_last = tt;
         left = subst (λ xs. Loses w.links m.links xs) (sym (append-nil (links_of t.events))) t.left;
         within = within_whole terms.sessions n t.remains;
         asks = t.asks;
         asked = t.asked;
         jobs = t.jobs;
-        fates = fates_later h terms w.pass m.pass q t.events s.passed.grows (stays_stopped h m.pass q r s) t.fates;
+        fates = fates_later begins h terms w.pass m.pass q t.events s.passed.grows (stays_stopped h m.pass q r s) t.fates;
         returned = t.returned;
-        out = subst (λ (o : List (SessionJob L C)). OutAfter works [] t.events o) none t.out;
+        out = subst (λ (o : List (SessionJob L C N)). OutAfter works [] t.events o) none t.out;
         gathered = none;
         went = went;
         stopped = stop_answers h m.pass q r s;
         stop_last = stop_stands h w.pass q (n + 0) t.events [] r went t.all_ended;
-        ends = ends_whole terms.sessions t.events u r came (counted_so u (unstarted_of t.events) t.counted under);
+        records = subst (λ k. Records held held' (stop_notes k r) lost) t.went.number noted;
+        has_line = subst (λ k. HasLine (stop_notes k r) lost) t.went.number line;
+        ends = ends_whole terms.sessions t.events u r lost came (counted_so u (unstarted_of t.events) t.counted under);
       }
 
   -- the loop halted, the hub was stopped, and the sessions ended
-  pub serves_halted : (h : Hub) (terms : ServeTerms) (w m : ServeWorld L C) (q : Pass) (s : Stock L C) (halt : Halt)
-      (r : Result (Told Counts) AlreadyStopped) → Halted works h terms w m halt → Stays m.jobs s.jobs → s.out ≡ []
-      → m.unstarted ≤ s.unstarted → Stopped h m.pass q r
-      → Serving works h terms w (world_of q s m.links m.waits) (halt_end halt)
-  serves_halted h terms w m q s halt r t stays none later stopped =
+  pub serves_halted : (h : Hub) (terms : Terms) (w m : ServeWorld L C N) (q : Pass) (s : Stock L C N) (halt : Halt)
+      (r : Result (Told Counts) AlreadyStopped) (lost : Option LinkFault) (held held' : Option (List ℕ)) → Halted works begins h terms w m halt → Stays m.jobs s.jobs → s.out ≡ []
+      → m.unstarted ≤ s.unstarted → Stopped h m.pass q r → Records held held' (stop_notes (number_of m.pass) r) lost
+      → HasLine (stop_notes (number_of m.pass) r) lost → Serving works begins h terms w (world_of q s m.links m.waits) held held' (halt_end halt lost)
+  serves_halted h terms w m q s halt r lost held held' t stays none later stopped noted line =
       let n = length (links_of t.events) + length (cut_links t.cut) in
       let took : List EndedCaller = callers_of t.events ++ cut_callers t.cut in
       let went : Went h w.pass n took (stop_made (number_of w.pass) r) q = stops_so h w.pass m.pass q n took r t.went stopped in
@@ -136,30 +204,34 @@ module _ {L C : Type 0} (works : SessionJob L C → SessionEnd → Type 0) where
         cut = t.cut;
         still = m.out;
         stop = r;
-        cut_last = cut_by t.cut halt t.cut_last;
+        lost = lost;
+        cut_last = cut_by t.cut halt lost t.cut_last;
         left = t.left;
         within = t.within;
         asks = t.asks;
         asked = t.asked;
         jobs = grows_still w.jobs m.jobs s.jobs (jobs_of t.events) t.jobs stays;
-        fates = fates_later h terms w.pass m.pass q t.events stopped.passed.grows (stays_stopped h m.pass q r stopped) t.fates;
+        fates = fates_later begins h terms w.pass m.pass q t.events stopped.passed.grows (stays_stopped h m.pass q r stopped) t.fates;
         returned = rose_later (returned_of t.events) w.unstarted m.unstarted s.unstarted t.returned later;
         out = t.out;
         gathered = none;
         went = went;
         stopped = stop_answers h m.pass q r stopped;
         stop_last = stop_stands h w.pass q n t.events (cut_callers t.cut) r went t.all_ended;
-        ends = ends_halted terms.sessions t.events m.out r halt;
+        records = subst (λ k. Records held held' (stop_notes k r) lost) t.went.number noted;
+        has_line = subst (λ k. HasLine (stop_notes k r) lost) t.went.number line;
+        ends = ends_halted terms.sessions t.events t.cut m.out r lost halt t.cut_last;
       }
 
   -- what the spawner had out before was awaited at first
-  pub serves_after : (h : Hub) (terms : ServeTerms) (w v : ServeWorld L C) (s : Stock L C) (end : ServeEnd) → Stays w.jobs s.jobs
-      → w.unstarted ≤ s.unstarted → Serving works h terms (world_of w.pass s w.links w.waits) v end → Serving works h terms w v end
-  serves_after h terms w v s end stays later t = record {
+  pub serves_after : (h : Hub) (terms : Terms) (w v : ServeWorld L C N) (s : Stock L C N) (held held' : Option (List ℕ)) (end : ServeEnd) → Stays w.jobs s.jobs
+      → w.unstarted ≤ s.unstarted → Serving works begins h terms (world_of w.pass s w.links w.waits) v held held' end → Serving works begins h terms w v held held' end
+  serves_after h terms w v s held held' end stays later t = record {
     events = t.events;
     cut = t.cut;
     still = t.still;
     stop = t.stop;
+    lost = t.lost;
     cut_last = t.cut_last;
     left = t.left;
     within = t.within;
@@ -173,5 +245,7 @@ module _ {L C : Type 0} (works : SessionJob L C → SessionEnd → Type 0) where
     went = t.went;
     stopped = t.stopped;
     stop_last = t.stop_last;
+    records = t.records;
+    has_line = t.has_line;
     ends = t.ends;
   }

@@ -1,24 +1,24 @@
 -- A link gets its session, or doesn't.
 use Rattle.std.proofs.Common.{inl, inr, ◌≡◌, ℕ, List, [], ◌∷◌, Bool, true, false, None, Ok, Err, refl, sym, ◌∙◌, subst, arith, append-nil}
-use Rattle.std.specs.Prelude.{Result, ◌<◌}
+use Rattle.std.specs.Prelude.{Result, ◌<◌, Option, Some, is_some, option_map}
 use Rattle.std.specs.Arc.{arc_value}
 use Rattle.bsc_outside.specs.Faults.{HasRisen}
-use Rattle.bsc_octets.specs.declared.no_memory.NoMemory.{NoMemory}
 use Rattle.bsc_history.specs.declared.mark.Stamped.{Stamped}
 use Rattle.bsc_turn.specs.declared.pass.Pass.{Pass}
 use Rattle.bsc_turn.specs.declared.view.Ended.{Ended as EndedCaller}
 use Rattle.bsc_turn.specs.Effects.{ended_of}
 use Rattle.bsc_turn.specs.Histories.{StartsWith}
-use Rattle.bsc_turn.specs.Passes.{newest_number, seen, view_of}
+use Rattle.bsc_turn.specs.Passes.{newest_number, number_of, seen, view_of}
 use Rattle.bsc_hub.specs.declared.hub.Hub.{Hub}
 use Rattle.bsc_hub.specs.Passing.{Went, about_of}
 use Rattle.bsc_hub.proofs.Following.{starts_same, went_then}
+use Rattle.bsc_edge.specs.declared.fault.LinkFault.{LinkFault}
 use Rattle.bsc_edge.specs.declared.unstarted.Unstarted.{Unstarted}
 use Rattle.bsc_edge.specs.declared.unstarted.Unstarted.TheVariants.{Failed, NoMemory as NoRoom}
 use Rattle.bsc_edge.specs.Told.{ComesBack}
-use Rattle.bsc_session.specs.declared.limits.SessionLimits.{SessionLimits}
-use Rattle.bsc_serve.specs.declared.terms.ServeTerms.{ServeTerms}
+use Rattle.bsc_serve.specs.Terms.{Terms}
 use Rattle.bsc_session.specs.declared.job.SessionJob.{SessionJob}
+use Rattle.bsc_session.specs.Jobs.{policy_of}
 use Rattle.bsc_serve.specs.Fates.{IsJobOf, IsSplitIn, returned, spent, started}
 use Rattle.bsc_serve.specs.Inner.{Draws, Fares, HandsOver, LacksRoom, SplitsOff, Stock, TakesBack, limit_of}
 use Rattle.bsc_serve.specs.Serving.{RoseBy}
@@ -30,6 +30,10 @@ back_failed u job given is back = subst (λ x. ComesBack x given) is back
 
 pub back_memory : {J : Type 0} → (u : Unstarted J) (job given : J) → u ≡ NoRoom job → ComesBack u given → job ≡ given
 back_memory u job given is back = subst (λ x. ComesBack x given) is back
+
+pub is_mapped : {A B : Type 0} → (f : A → B) (o : Option A) → is_some o ≡ is_some (option_map f o)
+is_mapped f None = refl
+is_mapped f (Some x) = refl
 
 rose_one : (a b : ℕ) → HasRisen a b → RoseBy 1 a b
 rose_one a b (inl x) = inl (omega (arith, x))
@@ -56,10 +60,34 @@ back h p m q x s t =
     went_then h p m q 1 0 [] (ended_of (view_of x) ∷ []) None s.went
     (subst (λ (l : List EndedCaller). Went h m 0 (ended_of (view_of x) ∷ l) None q) s.ended t.0)
 
-module _ {L C : Type 0} where
+module _ {L C N : Type 0} where
+  -- its job couldn't be made
+  pub fares_unmade : (h : Hub) (p m q x : Pass) (s : Stock L C N) → SplitsOff h p m x → TakesBack h m q x → LacksRoom h p q s s
+  fares_unmade h p m q x s off t = record {
+    caller = ended_of (view_of x);
+    unused = (off.own, off.fresh);
+    jobs = grows_none s.jobs;
+    out = refl;
+    went = back h p m q x off t;
+    draws = draws_back h p m q x off t.1;
+    later = omega arith;
+  }
+
+module _ {L C N : Type 0} (begins : Option (List ℕ) → ℕ → N → Type 0) where
+  -- A job that was made for a link, with this pass.
+  pub record IsMadeFor (h : Hub) (terms : Terms) (x : Pass) (l : L) (j : SessionJob L C N) : Type 0 where
+    pub link : j.link ≡ l
+    pub hub : arc_value j.hub ≡ h
+    pub pass : j.pass ≡ x
+    pub limits : j.limits ≡ terms.limits
+    pub turns : j.turns ≡ terms.turns
+    pub journal : begins terms.prefix (number_of j.pass) j.journal
+    pub is_recorded : j.is_recorded ≡ is_some terms.prefix
+    pub policy : policy_of j.policy ≡ terms.policy
+
   -- there was no number
-  pub fares_spent : (h : Hub) (terms : ServeTerms) (p q : Pass) (l : L) (s : Stock L C)
-      → Went h p 1 [] None q → newest_number q ≡ (about_of h).limits.callers → Fares h terms p q l s s (Ok false)
+  pub fares_spent : (h : Hub) (terms : Terms) (p q : Pass) (l : L) (s : Stock L C N)
+      → Went h p 1 [] None q → newest_number q ≡ (about_of h).limits.callers → Fares begins h terms p q l s s (Ok false)
   fares_spent h terms p q l s went all = record {
     fate = spent;
     is = all;
@@ -71,36 +99,27 @@ module _ {L C : Type 0} where
     counts = refl;
   }
 
-  -- there was no memory to make a job
-  pub fares_unmade : (h : Hub) (p m q x : Pass) (s : Stock L C) → SplitsOff h p m x → TakesBack h m q x → LacksRoom h p q s s
-  fares_unmade h p m q x s off t = record {
-    caller = ended_of (view_of x);
-    unused = (off.own, off.fresh);
-    jobs = grows_none s.jobs;
-    out = refl;
-    went = back h p m q x off t;
-    draws = draws_back h p m q x off t.1;
-    later = omega arith;
-  }
-
-  started_so : (h : Hub) (v : SessionLimits) (n : ℕ) (p m x : Pass) (l : L) (job : SessionJob L C) → SplitsOff h p m x → job.link ≡ l → arc_value job.hub ≡ h → job.pass ≡ x → job.limits ≡ v → job.turns ≡ n → IsJobOf h v n p m l job
-  started_so h v n p m x l job s link hub pass limits turns = record {
-    link = link;
-    hub = hub;
-    pass = subst (λ (y : Pass). IsSplitIn h p m y) (sym pass) (split_in h p m x s);
-    limits = limits;
-    turns = turns;
+  started_so : (h : Hub) (terms : Terms) (p m x : Pass) (l : L) (job : SessionJob L C N) → SplitsOff h p m x → IsMadeFor h terms x l job
+      → IsJobOf begins h terms p m l job
+  started_so h terms p m x l job s made = record {
+    link = made.link;
+    hub = made.hub;
+    pass = subst (λ (y : Pass). IsSplitIn h p m y) (sym made.pass) (split_in h p m x s);
+    limits = made.limits;
+    turns = made.turns;
+    journal = made.journal;
+    is_recorded = made.is_recorded;
+    policy = made.policy;
   }
 
   -- a job was made and handed over
-  pub fares_made : (h : Hub) (terms : ServeTerms) (p m q x : Pass) (l : L) (job : SessionJob L C)
-      (s s' : Stock L C) (r : Result Bool NoMemory) → SplitsOff h p m x → job.link ≡ l
-      → arc_value job.hub ≡ h → job.pass ≡ x → job.limits ≡ terms.limits → job.turns ≡ terms.turns
-      → HandsOver h m q job s s' r → Fares h terms p q l s s' r
-  fares_made h terms p m q x l job s s' (Ok true) off link hub pass limits turns t = record {
+  pub fares_made : (h : Hub) (terms : Terms) (p m q x : Pass) (l : L) (job : SessionJob L C N)
+      (s s' : Stock L C N) (r : Result Bool LinkFault) → SplitsOff h p m x → IsMadeFor h terms x l job
+      → HandsOver h m q job s s' r → Fares begins h terms p q l s s' r
+  fares_made h terms p m q x l job s s' (Ok true) off made t = record {
     fate = started job;
-    is = subst (λ (y : Pass). IsJobOf h terms.limits terms.turns p y l job) (sym t.3)
-        (started_so h terms.limits terms.turns p m x l job off link hub pass limits turns);
+    is = subst (λ (y : Pass). IsJobOf begins h terms p y l job) (sym t.3)
+        (started_so h terms p m x l job off made);
     jobs = t.0;
     out = t.1;
     went = subst (λ (y : Pass). Went h p 1 [] None y) (sym t.3) off.went;
@@ -108,8 +127,8 @@ module _ {L C : Type 0} where
     rose = inl (let k = t.2 in omega (arith, k));
     counts = refl;
   }
-  fares_made h terms p m q x l job s s' (Ok false) off link hub pass limits turns t =
-      let b : TakesBack h m q x = subst (λ (y : Pass). TakesBack h m q y) pass t.3 in
+  fares_made h terms p m q x l job s s' (Ok false) off made t =
+      let b : TakesBack h m q x = subst (λ (y : Pass). TakesBack h m q y) made.pass t.3 in
       record {
         fate = returned (ended_of (view_of x));
         is = (off.own, off.fresh);
@@ -120,8 +139,8 @@ module _ {L C : Type 0} where
         rose = rose_one s.unstarted s'.unstarted t.2;
         counts = refl;
       }
-  fares_made h terms p m q x l job s s' (Err e) off link hub pass limits turns t =
-      let b : TakesBack h m q x = subst (λ (y : Pass). TakesBack h m q y) pass t.3 in
+  fares_made h terms p m q x l job s s' (Err e) off made t =
+      let b : TakesBack h m q x = subst (λ (y : Pass). TakesBack h m q y) made.pass t.3 in
       record {
         caller = ended_of (view_of x);
         unused = (off.own, off.fresh);

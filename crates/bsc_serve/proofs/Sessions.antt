@@ -35,37 +35,37 @@ use Rattle.bsc_serve.specs.Serving.{Loses, RoseBy}
 use Rattle.bsc_serve.specs.Tallies.{CountsUp, Remains}
 use Rattle.bsc_serve.proofs.Arrivals.{all_ended_then, callers-append, fates_later, fates_then, grows_still, jobs-append, links-append, out_then, returned-append, rose_later, unstarted-append}
 
-module _ {L C : Type 0} where
-  ours_split : (h : Hub) (before : List (SessionJob L C)) (j : SessionJob L C) (behind : List (SessionJob L C)) → AllOurs h (before ++ j ∷ behind) → IsOurs h j × AllOurs h (before ++ behind)
+module _ {L C N : Type 0} where
+  ours_split : (h : Hub) (before : List (SessionJob L C N)) (j : SessionJob L C N) (behind : List (SessionJob L C N)) → AllOurs h (before ++ j ∷ behind) → IsOurs h j × AllOurs h (before ++ behind)
   ours_split h [] j behind a = (a.0, a.1)
   ours_split h (x ∷ before) j behind a = (let k = ours_split h before j behind a.1 in (k.0, (a.0, k.1)))
 
   -- what is left of a job of this hub is of it, has its number, and no caller has ended in its pass
-  pub our_end : (talk : L → Option (List Said)) (faults : L → ℕ) (readings : C → Option (List ℕ)) (h : Hub) (j : SessionJob L C)
-      (d : SessionEnd) → IsOurs h j → Worked talk faults readings j d → IsOurEnd h j d × (ended_callers d.pass ≡ [])
-  our_end talk faults readings h j d ours w =
-      let goes = w.served.serves.goes in
+  pub our_end : (talk : L → Option (List Said)) (faults : L → ℕ) (readings : C → Option (List ℕ)) (held : N → Option (List ℕ)) (unput : N → ℕ)
+      (h : Hub) (j : SessionJob L C N) (d : SessionEnd) → IsOurs h j → Worked talk faults readings held unput j d → IsOurEnd h j d × (ended_callers d.pass ≡ [])
+  our_end talk faults readings held unput h j d ours w =
+      let goes = w.served.goes in
       ((subst (λ (y : Hub). IsCaller y d.pass) ours.0 goes.caller, goes.number), goes.took_in ∙ ours.1)
 
 drawn_same : (h : Hub) (w p q : Pass) → newest_number q ≡ newest_number p → (newest_number w ≤ newest_number p) ⊎ (newest_number p ≡ limit_of h) → (newest_number w ≤ newest_number q) ⊎ (newest_number q ≡ limit_of h)
 drawn_same h w p q e (inl x) = inl (omega (arith, e, x))
 drawn_same h w p q e (inr x) = inr (e ∙ x)
 
-module _ {L C : Type 0} (works : SessionJob L C → SessionEnd → Type 0) where
-  pub ours_ended : (h : Hub) (old new : List (SessionJob L C)) (d : SessionEnd) (e : Ends works old new d) → AllOurs h old → IsOurs h e.job
-  ours_ended h old new d e ours = (ours_split h e.before e.job e.behind (subst (λ (o : List (SessionJob L C)). AllOurs h o) e.was ours)).0
+module _ {L C N : Type 0} (works : SessionJob L C N → SessionEnd → Type 0) (begins : Option (List ℕ) → ℕ → N → Type 0) where
+  pub ours_ended : (h : Hub) (old new : List (SessionJob L C N)) (d : SessionEnd) (e : Ends works old new d) → AllOurs h old → IsOurs h e.job
+  ours_ended h old new d e ours = (ours_split h e.before e.job e.behind (subst (λ (o : List (SessionJob L C N)). AllOurs h o) e.was ours)).0
 
-  pub ours_left : (h : Hub) (old new : List (SessionJob L C)) (d : SessionEnd) (e : Ends works old new d) → AllOurs h old → AllOurs h new
+  pub ours_left : (h : Hub) (old new : List (SessionJob L C N)) (d : SessionEnd) (e : Ends works old new d) → AllOurs h old → AllOurs h new
   ours_left h old new d e ours =
-      subst (λ (o : List (SessionJob L C)). AllOurs h o) (sym e.left)
-      (ours_split h e.before e.job e.behind (subst (λ (o : List (SessionJob L C)). AllOurs h o) e.was ours)).1
+      subst (λ (o : List (SessionJob L C N)). AllOurs h o) (sym e.left)
+      (ours_split h e.before e.job e.behind (subst (λ (o : List (SessionJob L C N)). AllOurs h o) e.was ours)).1
 
   -- a session has ended, and its caller was taken in
-  pub goes_one : (h : Hub) (p q : Pass) (s t : Stock L C) (d : SessionEnd) (e : Ends works s.out t.out d) → IsOurEnd h e.job d
+  pub goes_one : (h : Hub) (p q : Pass) (s t : Stock L C N) (d : SessionEnd) (e : Ends works s.out t.out d) → IsOurEnd h e.job d
       → Passed h p (ended_of (view_of d.pass) ∷ []) None q → newest_number q ≡ newest_number p → Stays s.jobs t.jobs
-      → s.unstarted ≤ t.unstarted → GoesOn works h p s q t
+      → s.unstarted ≤ t.unstarted → GoesOn works begins h p s q t
   goes_one h p q s t d e is went loaded stays later terms first links waits tally taken =
-      let a : List (Event L C) = ended e.job d ∷ [] in
+      let a : List (Event L C N) = ended e.job d ∷ [] in
       let more = taken.events in
       let same_links : links_of (more ++ a) ≡ links_of more = links-append more a ∙ append-nil (links_of more) in
       let same_jobs : jobs_of (more ++ a) ≡ jobs_of more = jobs-append more a ∙ append-nil (jobs_of more) in
@@ -82,8 +82,8 @@ module _ {L C : Type 0} (works : SessionJob L C → SessionEnd → Type 0) where
         asks = taken.asks;
         asked = taken.asked;
         jobs = grows_still first.jobs s.jobs t.jobs (jobs_of (more ++ a))
-            (subst (λ (xs : List (SessionJob L C)). Grows first.jobs s.jobs xs) (sym same_jobs) taken.jobs) stays;
-        fates = fates_then h terms first.pass q more a (fates_later h terms first.pass p q more went.grows (λ x. loaded ∙ x) taken.fates) tt;
+            (subst (λ (xs : List (SessionJob L C N)). Grows first.jobs s.jobs xs) (sym same_jobs) taken.jobs) stays;
+        fates = fates_then begins h terms first.pass q more a (fates_later begins h terms first.pass p q more went.grows (λ x. loaded ∙ x) taken.fates) tt;
         returned = subst (λ k. RoseBy k first.unstarted t.unstarted) (sym back)
             (rose_later (returned_of more) first.unstarted s.unstarted t.unstarted taken.returned later);
         out = out_then works [] s.out t.out more a taken.out (e.before, e.behind, e.was, e.worked, e.left);
@@ -97,7 +97,7 @@ module _ {L C : Type 0} (works : SessionJob L C → SessionEnd → Type 0) where
       }
 
   -- none has ended
-  pub goes_none : (h : Hub) (p : Pass) (s t : Stock L C) → t.out ≡ s.out → Stays s.jobs t.jobs → s.unstarted ≤ t.unstarted → GoesOn works h p s p t
+  pub goes_none : (h : Hub) (p : Pass) (s t : Stock L C N) → t.out ≡ s.out → Stays s.jobs t.jobs → s.unstarted ≤ t.unstarted → GoesOn works begins h p s p t
   goes_none h p s t same stays later terms first links waits tally taken = record {
     events = taken.events;
     left = taken.left;
@@ -106,8 +106,8 @@ module _ {L C : Type 0} (works : SessionJob L C → SessionEnd → Type 0) where
     jobs = grows_still first.jobs s.jobs t.jobs (jobs_of taken.events) taken.jobs stays;
     fates = taken.fates;
     returned = rose_later (returned_of taken.events) first.unstarted s.unstarted t.unstarted taken.returned later;
-    out = subst (λ (o : List (SessionJob L C)). OutAfter works [] taken.events o) (sym same) taken.out;
-    ours = subst (λ (o : List (SessionJob L C)). AllOurs h o) (sym same) taken.ours;
+    out = subst (λ (o : List (SessionJob L C N)). OutAfter works [] taken.events o) (sym same) taken.out;
+    ours = subst (λ (o : List (SessionJob L C N)). AllOurs h o) (sym same) taken.ours;
     all_ended = taken.all_ended;
     went = taken.went;
     drawn = taken.drawn;
@@ -115,7 +115,7 @@ module _ {L C : Type 0} (works : SessionJob L C → SessionEnd → Type 0) where
     counted = taken.counted;
   }
 
-  pub goes_then : (h : Hub) (p m q : Pass) (s t u : Stock L C) → GoesOn works h p s m t → GoesOn works h m t q u → GoesOn works h p s q u
+  pub goes_then : (h : Hub) (p m q : Pass) (s t u : Stock L C N) → GoesOn works begins h p s m t → GoesOn works begins h m t q u → GoesOn works begins h p s q u
   goes_then h p m q s t u a b terms first links waits tally taken = b terms first links waits tally (a terms first links waits tally taken)
 
 -- a caller that ended in a pass has in what the pass has seen its own list and no more
@@ -126,8 +126,8 @@ ended_so q front e rest c same =
     let k = c.1 (length front) e has in
     (k.0, k.1)
 
-module _ {L C : Type 0} where
-  all_stand : (h : Hub) (q : Pass) (H : List Entry) (front rest : List EndedCaller) (more : List (Event L C)) → IsConsistent (view_of q)
+module _ {L C N : Type 0} where
+  all_stand : (h : Hub) (q : Pass) (H : List Entry) (front rest : List EndedCaller) (more : List (Event L C N)) → IsConsistent (view_of q)
       → ((n : ℕ) → (view_of q).number ≢ n → own H n ≡ own_of (seen q) n) → ended_callers q ≡ front ++ (callers_of more ++ rest)
       → AllEnded h more → AllStand H more
   all_stand h q H front rest [] c all same are = tt
@@ -157,9 +157,9 @@ stop_found h p q drew took (Ok t) w n apart =
     ap (λ (x : List Entry). own x n) found
     ∙ sym (ap (λ (x : List Stamped). own_of x n) m.ends ∙ own_else m.before s n (λ e. apart (mine ∙ w.number ∙ e)))
 
-module _ {L C : Type 0} where
+module _ {L C N : Type 0} where
   -- all that the callers of ended jobs entered stands in the history that the stop found
-  pub stop_stands : (h : Hub) (p q : Pass) (drew : ℕ) (more : List (Event L C)) (rest : List EndedCaller)
+  pub stop_stands : (h : Hub) (p q : Pass) (drew : ℕ) (more : List (Event L C N)) (rest : List EndedCaller)
       (r : Result (Told Counts) AlreadyStopped) → Went h p drew (callers_of more ++ rest) (stop_made (number_of p) r) q
       → AllEnded h more → AllStand (found_history (stop_made (number_of p) r) q) more
   stop_stands h p q drew more rest r w are =

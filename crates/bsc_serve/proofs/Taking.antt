@@ -12,14 +12,14 @@ use Rattle.bsc_edge.specs.declared.arrived.Arrived.TheVariants.{Link, Quiet}
 use Rattle.bsc_edge.specs.declared.fault.LinkFault.{LinkFault}
 use Rattle.bsc_edge.specs.Told.{Grows, Leaves}
 use Rattle.bsc_serve.specs.declared.halt.Halt.{Halt}
-use Rattle.bsc_serve.specs.declared.halt.Halt.TheVariants.{NoMemory}
+use Rattle.bsc_serve.specs.declared.halt.Halt.TheVariants.{JournalFault}
 use Rattle.bsc_session.specs.declared.job.SessionJob.{SessionJob}
 use Rattle.bsc_session.specs.declared.session_end.SessionEnd.{SessionEnd}
 use Rattle.bsc_serve.specs.Events.{Event, OutAfter, arrived, callers_of, jobs_of, links_of, returned_of, unstarted_of}
 use Rattle.bsc_serve.specs.Fates.{Fate, IsFate, IsSplitIn, caller_in, job_in, returned, spent, started}
 use Rattle.bsc_serve.specs.declared.tally.Tally.{Tally}
-use Rattle.bsc_serve.specs.declared.terms.ServeTerms.{ServeTerms}
-use Rattle.bsc_serve.specs.Inner.{AllOurs, Draws, DrawsFor, Fared, Halted, LacksRoom, Taken, limit_of, stock_of}
+use Rattle.bsc_serve.specs.Terms.{Terms}
+use Rattle.bsc_serve.specs.Inner.{AllOurs, Draws, DrawsFor, Fared, Halted, LacksRoom, Taken, fault_halt, limit_of, stock_of}
 use Rattle.bsc_serve.specs.Serving.{IsWithin, Loses, RoseBy}
 use Rattle.bsc_serve.specs.Tallies.{CountsUp, Remains, one_unless}
 use Rattle.bsc_serve.specs.Worlds.{ServeWorld}
@@ -76,25 +76,26 @@ within_now None n k r = tt
 within_now (Some s) n None r = absurd r
 within_now (Some s) n (Some k) r = omega (arith, r)
 
-module _ {L C : Type 0} where
-  fate_before : (h : Hub) (terms : ServeTerms) (p m q : Pass) (l : L) (f : Fate (SessionJob L C)) → number_of m ≡ number_of p → StartsWith (seen m) (seen p) → HasDrawn h p m → DrawsFor h m q f → IsFate h terms.limits terms.turns m q l f → IsFate h terms.limits terms.turns p q l f
-  fate_before h terms p m q l (started j) number begins drawn d is = record { link = is.link; hub = is.hub; pass = split_before h p m q j.pass number begins (drawn_past h p m q drawn d) is.pass; limits = is.limits; turns = is.turns }
-  fate_before h terms p m q l (returned e) number begins drawn d is = is
-  fate_before h terms p m q l spent number begins drawn d is = is
-
-  pub ours_then : (h : Hub) (xs ys : List (SessionJob L C)) → AllOurs h xs → AllOurs h ys → AllOurs h (xs ++ ys)
+module _ {L C N : Type 0} where
+  pub ours_then : (h : Hub) (xs ys : List (SessionJob L C N)) → AllOurs h xs → AllOurs h ys → AllOurs h (xs ++ ys)
   ours_then h [] ys a b = b
   ours_then h (x ∷ xs) ys a b = (a.0, ours_then h xs ys a.1 b)
 
-  fate_ours : (h : Hub) (terms : ServeTerms) (p q : Pass) (l : L) (f : Fate (SessionJob L C)) → IsFate h terms.limits terms.turns p q l f → AllOurs h (job_in f)
+module _ {L C N : Type 0} (begins : Option (List ℕ) → ℕ → N → Type 0) where
+  fate_before : (h : Hub) (terms : Terms) (p m q : Pass) (l : L) (f : Fate (SessionJob L C N)) → number_of m ≡ number_of p → StartsWith (seen m) (seen p) → HasDrawn h p m → DrawsFor h m q f → IsFate begins h terms m q l f → IsFate begins h terms p q l f
+  fate_before h terms p m q l (started j) number begins drawn d is = record { link = is.link; hub = is.hub; pass = split_before h p m q j.pass number begins (drawn_past h p m q drawn d) is.pass; limits = is.limits; turns = is.turns; journal = is.journal; is_recorded = is.is_recorded; policy = is.policy }
+  fate_before h terms p m q l (returned e) number begins drawn d is = is
+  fate_before h terms p m q l spent number begins drawn d is = is
+
+  fate_ours : (h : Hub) (terms : Terms) (p q : Pass) (l : L) (f : Fate (SessionJob L C N)) → IsFate begins h terms p q l f → AllOurs h (job_in f)
   fate_ours h terms p q l (started j) is = ((is.hub, is.pass.new.1), tt)
   fate_ours h terms p q l (returned e) is = tt
   fate_ours h terms p q l spent is = tt
 
-module _ {L C : Type 0} (works : SessionJob L C → SessionEnd → Type 0) where
+module _ {L C N : Type 0} (works : SessionJob L C N → SessionEnd → Type 0) (begins : Option (List ℕ) → ℕ → N → Type 0) where
   -- before the first link
-  pub taken_begins : (h : Hub) (terms : ServeTerms) (w : ServeWorld L C) (tally : Tally) → IsCaller h w.pass
-      → w.out ≡ [] → tally.remaining ≡ terms.sessions → tally.unstarted ≡ 0 → Taken works h terms w w tally
+  pub taken_begins : (h : Hub) (terms : Terms) (w : ServeWorld L C N) (tally : Tally) → IsCaller h w.pass
+      → w.out ≡ [] → tally.remaining ≡ terms.sessions → tally.unstarted ≡ 0 → Taken works begins h terms w w tally
   taken_begins h terms w tally is all_in same none = record {
     events = [];
     left = loses_none w.links;
@@ -104,7 +105,7 @@ module _ {L C : Type 0} (works : SessionJob L C → SessionEnd → Type 0) where
     fates = tt;
     returned = inl (omega arith);
     out = all_in;
-    ours = subst (λ (o : List (SessionJob L C)). AllOurs h o) (sym all_in) tt;
+    ours = subst (λ (o : List (SessionJob L C N)). AllOurs h o) (sym all_in) tt;
     all_ended = tt;
     went = passed_none h w.pass is;
     drawn = inl (omega arith);
@@ -113,9 +114,9 @@ module _ {L C : Type 0} (works : SessionJob L C → SessionEnd → Type 0) where
   }
 
   -- none arrived
-  pub taken_still : (h : Hub) (terms : ServeTerms) (w m : ServeWorld L C) (links : Option (List L)) (waits : Option (List ℕ))
-      (tally : Tally) → Taken works h terms w m tally → Leaves m.links links (Ok Quiet) → Grows m.waits waits (20 ∷ [])
-      → Taken works h terms w (record m { links = links; waits = waits }) tally
+  pub taken_still : (h : Hub) (terms : Terms) (w m : ServeWorld L C N) (links : Option (List L)) (waits : Option (List ℕ))
+      (tally : Tally) → Taken works begins h terms w m tally → Leaves m.links links (Ok Quiet) → Grows m.waits waits (20 ∷ [])
+      → Taken works begins h terms w (record m { links = links; waits = waits }) tally
   taken_still h terms w m links waits tally t lost asked = record {
     events = t.events;
     left = loses_still w.links m.links links (links_of t.events) t.left lost;
@@ -134,23 +135,23 @@ module _ {L C : Type 0} (works : SessionJob L C → SessionEnd → Type 0) where
   }
 
   -- one arrived, and this became of it
-  pub taken_more : (h : Hub) (terms : ServeTerms) (w m v : ServeWorld L C) (tally tally' : Tally) (x : L) (is_started : Bool)
-      → Taken works h terms w m tally → Leaves m.links v.links (Ok (Link x)) → Grows m.waits v.waits (20 ∷ [])
-      → Fared h terms m.pass v.pass x (stock_of m) (stock_of v) is_started
+  pub taken_more : (h : Hub) (terms : Terms) (w m v : ServeWorld L C N) (tally tally' : Tally) (x : L) (is_started : Bool)
+      → Taken works begins h terms w m tally → Leaves m.links v.links (Ok (Link x)) → Grows m.waits v.waits (20 ∷ [])
+      → Fared begins h terms m.pass v.pass x (stock_of m) (stock_of v) is_started
       → ((s : Option ℕ) (n : ℕ) → Remains s n tally.remaining → Remains s (n + 1) tally'.remaining)
       → ((u : ℕ) → CountsUp tally.unstarted u → CountsUp tally'.unstarted (u + one_unless is_started))
-      → Taken works h terms w v tally'
+      → Taken works begins h terms w v tally'
   taken_more h terms w m v tally tally' x is_started t lost asked r counts_on counts_up =
       let p = w.pass in
       let n = m.pass in
       let q = v.pass in
-      let a : List (Event L C) = arrived x r.fate ∷ [] in
+      let a : List (Event L C N) = arrived x r.fate ∷ [] in
       let more = t.events in
       let links : links_of (more ++ a) ≡ links_of more ++ x ∷ [] = links-append more a in
       let one : length (links_of (more ++ a)) ≡ length (links_of more) + 1 =
       ap (λ (xs : List L). length xs) links ∙ length-append (links_of more) (x ∷ []) in
       let jobs : jobs_of (more ++ a) ≡ jobs_of more ++ job_in r.fate =
-      jobs-append more a ∙ ap (λ (xs : List (SessionJob L C)). jobs_of more ++ xs) (append-nil (job_in r.fate)) in
+      jobs-append more a ∙ ap (λ (xs : List (SessionJob L C N)). jobs_of more ++ xs) (append-nil (job_in r.fate)) in
       let callers : callers_of (more ++ a) ≡ callers_of more ++ caller_in r.fate =
       callers-append more a ∙ ap (λ (xs : List EndedCaller). callers_of more ++ xs) (append-nil (caller_in r.fate)) in
       let many : returned_of (more ++ a) ≡ returned_of more + length (caller_in r.fate) =
@@ -159,7 +160,7 @@ module _ {L C : Type 0} (works : SessionJob L C → SessionEnd → Type 0) where
       (let k = unstarted-append more a in let c = r.counts in omega (arith, k, c)) in
       let went : Went h p (length (links_of more) + 1) (callers_of more ++ caller_in r.fate) None q =
       went_then h p n q (length (links_of more)) 1 (callers_of more) (caller_in r.fate) None t.went r.went in
-      let is = fate_before h terms p n q x r.fate t.went.number t.went.grows t.drawn r.draws r.is in
+      let is = fate_before begins h terms p n q x r.fate t.went.number t.went.grows t.drawn r.draws r.is in
       record {
         events = more ++ a;
         left = subst (λ xs. Loses w.links v.links xs) (sym links) (loses_more w.links m.links v.links (links_of more) x t.left lost);
@@ -167,13 +168,13 @@ module _ {L C : Type 0} (works : SessionJob L C → SessionEnd → Type 0) where
         asked = asks_once w.waits m.waits v.waits t.asks t.asked asked;
         jobs = subst (λ xs. Grows w.jobs v.jobs xs) (sym jobs)
             (grows_then w.jobs m.jobs v.jobs (jobs_of more) (job_in r.fate) t.jobs r.jobs);
-        fates = fates_then h terms p q more a
-            (fates_later h terms p n q more r.went.grows (spent_stays h n q r.fate r.draws) t.fates) (is, tt);
+        fates = fates_then begins h terms p q more a
+            (fates_later begins h terms p n q more r.went.grows (spent_stays h n q r.fate r.draws) t.fates) (is, tt);
         returned = subst (λ k. RoseBy k w.unstarted v.unstarted) (sym many)
             (rose_then (returned_of more) (length (caller_in r.fate)) w.unstarted m.unstarted v.unstarted t.returned r.rose);
         out = out_then works [] m.out v.out more a t.out r.out;
-        ours = subst (λ (o : List (SessionJob L C)). AllOurs h o) (sym r.out)
-            (ours_then h m.out (job_in r.fate) t.ours (fate_ours h terms n q x r.fate r.is));
+        ours = subst (λ (o : List (SessionJob L C N)). AllOurs h o) (sym r.out)
+            (ours_then h m.out (job_in r.fate) t.ours (fate_ours begins h terms n q x r.fate r.is));
         all_ended = all_ended_then h more a t.all_ended tt;
         went = subst (λ k. Went h p k (callers_of (more ++ a)) None q) (sym one)
             (subst (λ xs. Went h p (length (links_of more) + 1) xs None q) (sym callers) went);
@@ -184,15 +185,15 @@ module _ {L C : Type 0} (works : SessionJob L C → SessionEnd → Type 0) where
       }
 
   -- the acceptor failed
-  pub halted_now : (h : Hub) (terms : ServeTerms) (w m : ServeWorld L C) (links : Option (List L)) (waits : Option (List ℕ))
-      (tally : Tally) (fault : LinkFault) (halt : Halt) → Taken works h terms w m tally → Leaves m.links links (Err fault)
-      → Grows m.waits waits (20 ∷ []) → Halted works h terms w (record m { links = links; waits = waits }) halt
-  halted_now h terms w m links waits tally fault halt t lost asked =
+  pub halted_now : (h : Hub) (terms : Terms) (w m : ServeWorld L C N) (links : Option (List L)) (waits : Option (List ℕ))
+      (tally : Tally) (fault : LinkFault) (halt : Halt) → halt ≢ JournalFault → Taken works begins h terms w m tally → Leaves m.links links (Err fault)
+      → Grows m.waits waits (20 ∷ []) → Halted works begins h terms w (record m { links = links; waits = waits }) halt
+  halted_now h terms w m links waits tally fault halt other t lost asked =
       let all : length (links_of t.events) ≡ length (links_of t.events) + 0 = omega arith in
       record {
         events = t.events;
         cut = None;
-        cut_last = tt;
+        cut_last = other;
         left = subst (λ xs. Loses w.links links xs) (sym (append-nil (links_of t.events)))
             (loses_failed w.links m.links links (links_of t.events) fault t.left lost);
         within = within_now terms.sessions (length (links_of t.events)) tally.remaining t.remains;
@@ -207,24 +208,24 @@ module _ {L C : Type 0} (works : SessionJob L C → SessionEnd → Type 0) where
             (subst (λ xs. Went h w.pass (length (links_of t.events)) xs None m.pass) (sym (append-nil (callers_of t.events))) t.went);
       }
 
-  -- one arrived, for whose job there was no memory
-  pub halted_cut : (h : Hub) (terms : ServeTerms) (w m v : ServeWorld L C) (tally : Tally) (x : L)
-      → Taken works h terms w m tally → tally.remaining ≢ Some 0 → Leaves m.links v.links (Ok (Link x))
+  -- one arrived, whose job couldn't be made
+  pub halted_cut : (h : Hub) (terms : Terms) (w m v : ServeWorld L C N) (tally : Tally) (x : L) (fault : LinkFault) (halt : Halt)
+      → halt ≡ fault_halt fault → Taken works begins h terms w m tally → tally.remaining ≢ Some 0 → Leaves m.links v.links (Ok (Link x))
       → Grows m.waits v.waits (20 ∷ []) → LacksRoom h m.pass v.pass (stock_of m) (stock_of v)
-      → Halted works h terms w v NoMemory
-  halted_cut h terms w m v tally x t more_come lost asked r = record {
+      → Halted works begins h terms w v halt
+  halted_cut h terms w m v tally x fault halt so t more_come lost asked r = record {
     events = t.events;
-    cut = Some (record { link = x; caller = r.caller });
-    cut_last = (refl, r.unused);
+    cut = Some (record { link = x; caller = r.caller; fault = fault });
+    cut_last = (so, r.unused);
     left = loses_more w.links m.links v.links (links_of t.events) x t.left lost;
     within = within_more terms.sessions (length (links_of t.events)) tally.remaining more_come t.remains;
     asks = t.asks + 1;
     asked = asks_once w.waits m.waits v.waits t.asks t.asked asked;
     jobs = subst (λ xs. Grows w.jobs v.jobs xs) (append-nil (jobs_of t.events))
         (grows_then w.jobs m.jobs v.jobs (jobs_of t.events) [] t.jobs r.jobs);
-    fates = fates_later h terms w.pass m.pass v.pass t.events r.went.grows (stays_draws h m.pass v.pass r.draws) t.fates;
+    fates = fates_later begins h terms w.pass m.pass v.pass t.events r.went.grows (stays_draws h m.pass v.pass r.draws) t.fates;
     returned = rose_later (returned_of t.events) w.unstarted m.unstarted v.unstarted t.returned r.later;
-    out = subst (λ (o : List (SessionJob L C)). OutAfter works [] t.events o) (sym r.out) t.out;
+    out = subst (λ (o : List (SessionJob L C N)). OutAfter works [] t.events o) (sym r.out) t.out;
     all_ended = t.all_ended;
     went = went_then h w.pass m.pass v.pass (length (links_of t.events)) 1 (callers_of t.events) (r.caller ∷ []) None t.went r.went;
   }

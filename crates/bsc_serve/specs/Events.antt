@@ -1,5 +1,5 @@
 -- What happens while a hub is served, in order.
-use Rattle.std.specs.Prelude.{◌≡◌, ℕ, ◌+◌, List, [], ◌∷◌, ◌++◌, length, ⊤}
+use Rattle.std.specs.Prelude.{◌≡◌, ℕ, ◌+◌, List, [], ◌∷◌, ◌++◌, length, Option, ⊤}
 use Rattle.bsc_history.specs.declared.entry.Entry.{Entry}
 use Rattle.bsc_history.specs.Entries.{own}
 use Rattle.bsc_turn.specs.declared.pass.Pass.{Pass}
@@ -10,62 +10,63 @@ use Rattle.bsc_hub.specs.declared.hub.Hub.{Hub}
 use Rattle.bsc_session.specs.declared.job.SessionJob.{SessionJob}
 use Rattle.bsc_session.specs.declared.session_end.SessionEnd.{SessionEnd}
 use Rattle.bsc_serve.specs.Fates.{Fate, IsFate, caller_in, job_in, unstarted_in}
-use Rattle.bsc_serve.specs.declared.terms.ServeTerms.{ServeTerms}
+use Rattle.bsc_serve.specs.Terms.{Terms}
 
 -- A link left the acceptor, and this became of it; or a job that was out has ended, and this was left of it.
-pub data Event (L C : Type 0) : Type 0 where
-  arrived : L → Fate (SessionJob L C) → Event L C
-  ended : SessionJob L C → SessionEnd → Event L C
+pub data Event (L C N : Type 0) : Type 0 where
+  arrived : L → Fate (SessionJob L C N) → Event L C N
+  ended : SessionJob L C N → SessionEnd → Event L C N
 
-module _ {L C : Type 0} where
+module _ {L C N : Type 0} where
   -- The links, in the order in which they left the acceptor.
-  abbrev pub links_of : List (Event L C) → List L
+  abbrev pub links_of : List (Event L C N) → List L
   links_of [] = []
   links_of (arrived l f ∷ more) = l ∷ links_of more
   links_of (ended j d ∷ more) = links_of more
 
   -- The jobs that were taken, in order.
-  abbrev pub jobs_of : List (Event L C) → List (SessionJob L C)
+  abbrev pub jobs_of : List (Event L C N) → List (SessionJob L C N)
   jobs_of [] = []
   jobs_of (arrived l f ∷ more) = job_in f ++ jobs_of more
   jobs_of (ended j d ∷ more) = jobs_of more
 
   -- The callers that the hub's own pass took in, in order: that of each job that came back, and that of each that has ended.
-  abbrev pub callers_of : List (Event L C) → List EndedCaller
+  abbrev pub callers_of : List (Event L C N) → List EndedCaller
   callers_of [] = []
   callers_of (arrived l f ∷ more) = caller_in f ++ callers_of more
   callers_of (ended j d ∷ more) = ended_of (view_of d.pass) ∷ callers_of more
 
   -- How many jobs came back.
-  abbrev pub returned_of : List (Event L C) → ℕ
+  abbrev pub returned_of : List (Event L C N) → ℕ
   returned_of [] = 0
   returned_of (arrived l f ∷ more) = length (caller_in f) + returned_of more
   returned_of (ended j d ∷ more) = returned_of more
 
   -- How many links have no job.
-  abbrev pub unstarted_of : List (Event L C) → ℕ
+  abbrev pub unstarted_of : List (Event L C N) → ℕ
   unstarted_of [] = 0
   unstarted_of (arrived l f ∷ more) = unstarted_in f + unstarted_of more
   unstarted_of (ended j d ∷ more) = unstarted_of more
 
-  -- What became of each link is as it may be, in a call that had the hub's own pass as p and left it as q.
-  abbrev pub AreFates : Hub → ServeTerms → Pass → Pass → List (Event L C) → Type 0
-  AreFates h terms p q [] = ⊤
-  AreFates h terms p q (arrived l f ∷ more) = IsFate h terms.limits terms.turns p q l f × AreFates h terms p q more
-  AreFates h terms p q (ended j d ∷ more) = AreFates h terms p q more
-
   -- All that the callers of ended jobs entered stands in H: of each, its own list, as its pass had it at its end.
-  abbrev pub AllStand : List Entry → List (Event L C) → Type 0
+  abbrev pub AllStand : List Entry → List (Event L C N) → Type 0
   AllStand H [] = ⊤
   AllStand H (arrived l f ∷ more) = AllStand H more
   AllStand H (ended j d ∷ more) = (own H (number_of j.pass) ≡ own_list d.pass) × AllStand H more
 
   -- Which jobs are out, from before these events to behind them: one that was taken comes to them as the last; one that has
   -- ended was among them, is out no more, and this may be left of it.
-  abbrev pub OutAfter : (SessionJob L C → SessionEnd → Type 0) → List (SessionJob L C) → List (Event L C) → List (SessionJob L C)
+  abbrev pub OutAfter : (SessionJob L C N → SessionEnd → Type 0) → List (SessionJob L C N) → List (Event L C N) → List (SessionJob L C N)
       → Type 0
   OutAfter works out [] still = still ≡ out
   OutAfter works out (arrived l f ∷ more) still = OutAfter works (out ++ job_in f) more still
   OutAfter works out (ended j d ∷ more) still =
-      (before : List (SessionJob L C)) × (behind : List (SessionJob L C))
+      (before : List (SessionJob L C N)) × (behind : List (SessionJob L C N))
       × (out ≡ before ++ j ∷ behind) × works j d × OutAfter works (before ++ behind) more still
+
+module _ {L C N : Type 0} (begins : Option (List ℕ) → ℕ → N → Type 0) where
+  -- What became of each link is as it may be, in a call that had the hub's own pass as p and left it as q.
+  abbrev pub AreFates : Hub → Terms → Pass → Pass → List (Event L C N) → Type 0
+  AreFates h terms p q [] = ⊤
+  AreFates h terms p q (arrived l f ∷ more) = IsFate begins h terms p q l f × AreFates h terms p q more
+  AreFates h terms p q (ended j d ∷ more) = AreFates h terms p q more

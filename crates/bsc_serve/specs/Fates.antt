@@ -1,5 +1,5 @@
 -- What becomes of the links that leave an acceptor.
-use Rattle.std.specs.Prelude.{◌≡◌, ℕ, ◌<◌, List, [], ◌∷◌}
+use Rattle.std.specs.Prelude.{◌≡◌, ℕ, ◌<◌, List, [], ◌∷◌, Option, is_some}
 use Rattle.std.specs.Arc.{arc_value}
 use Rattle.bsc_turn.specs.declared.pass.Pass.{Pass}
 use Rattle.bsc_turn.specs.declared.view.Ended.{Ended as EndedCaller}
@@ -7,8 +7,9 @@ use Rattle.bsc_turn.specs.Histories.{StartsWith}
 use Rattle.bsc_turn.specs.Passes.{ended_callers, loads_made, newest_number, number_of, own_list, seen}
 use Rattle.bsc_hub.specs.declared.hub.Hub.{Hub}
 use Rattle.bsc_hub.specs.Passing.{IsCaller, about_of}
-use Rattle.bsc_session.specs.declared.limits.SessionLimits.{SessionLimits}
 use Rattle.bsc_session.specs.declared.job.SessionJob.{SessionJob}
+use Rattle.bsc_session.specs.Jobs.{policy_of}
+use Rattle.bsc_serve.specs.Terms.{Terms}
 
 -- What became of a link: its job was taken; or its job came back, and the caller of its pass ended; or there was no number
 -- left for a pass.
@@ -47,18 +48,24 @@ pub record IsSplitIn (h : Hub) (p q x : Pass) : Type 0 where
   pub since : StartsWith (seen x) (seen p)
   pub by : StartsWith (seen q) (seen x)
 
-module _ {L C : Type 0} where
-  -- The job of a link: it has this link, this hub, a pass that was split in this call, and these limits and turns.
-  pub record IsJobOf (h : Hub) (v : SessionLimits) (n : ℕ) (p q : Pass) (l : L) (j : SessionJob L C) : Type 0 where
+-- Where `begins` says whether a sink is the journal of a prefix and a number.
+module _ {L C N : Type 0} (begins : Option (List ℕ) → ℕ → N → Type 0) where
+  -- The job of a link: it has this link, this hub, a pass that was split in this call, and the limits and turns that were asked
+  -- for; a journal that was begun under their prefix, for the number of its own pass, where its lines go if there is a prefix;
+  -- and their policy.
+  pub record IsJobOf (h : Hub) (terms : Terms) (p q : Pass) (l : L) (j : SessionJob L C N) : Type 0 where
     pub link : j.link ≡ l
     pub hub : arc_value j.hub ≡ h
     pub pass : IsSplitIn h p q j.pass
-    pub limits : j.limits ≡ v
-    pub turns : j.turns ≡ n
+    pub limits : j.limits ≡ terms.limits
+    pub turns : j.turns ≡ terms.turns
+    pub journal : begins terms.prefix (number_of j.pass) j.journal
+    pub is_recorded : j.is_recorded ≡ is_some terms.prefix
+    pub policy : policy_of j.policy ≡ terms.policy
 
   -- What became of a link as it may be: its job is one of this call; or the caller whose pass came back was unused; or all
   -- numbers are drawn.
-  abbrev pub IsFate : Hub → SessionLimits → ℕ → Pass → Pass → L → Fate (SessionJob L C) → Type 0
-  IsFate h limits turns p q l (started j) = IsJobOf h limits turns p q l j
-  IsFate h limits turns p q l (returned e) = IsUnused e
-  IsFate h limits turns p q l spent = newest_number q ≡ (about_of h).limits.callers
+  abbrev pub IsFate : Hub → Terms → Pass → Pass → L → Fate (SessionJob L C N) → Type 0
+  IsFate h terms p q l (started j) = IsJobOf h terms p q l j
+  IsFate h terms p q l (returned e) = IsUnused e
+  IsFate h terms p q l spent = newest_number q ≡ (about_of h).limits.callers

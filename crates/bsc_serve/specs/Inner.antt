@@ -1,7 +1,6 @@
 -- What the inner functions of serving say of each other; no public clause cites any of it.
-use Rattle.std.specs.Prelude.{◌≡◌, ℕ, ◌≤◌, ◌+◌, ◌⊎◌, Bool, true, false, ◌<◌, List, [], ◌∷◌, ◌++◌, length, position, replicate, Option, Some, None, Result, Ok, Err, IfErr, IfOk, IsErr, IsTrue, ◌↔◌, ⊤}
+use Rattle.std.specs.Prelude.{◌≡◌, ◌≢◌, ℕ, ◌≤◌, ◌+◌, ◌⊎◌, Bool, true, false, ◌<◌, List, [], ◌∷◌, ◌++◌, length, position, replicate, Option, Some, None, Result, Ok, Err, IfErr, IfOk, IsErr, IsTrue, ◌↔◌, ⊤}
 use Rattle.std.specs.Arc.{arc_value}
-use Rattle.bsc_octets.specs.declared.no_memory.NoMemory.{NoMemory as MemoryFault}
 use Rattle.bsc_history.specs.declared.counts.Counts.{Counts}
 use Rattle.bsc_history.specs.declared.told.AlreadyStopped.{AlreadyStopped}
 use Rattle.bsc_history.specs.declared.told.Told.{Told}
@@ -17,11 +16,13 @@ use Rattle.bsc_hub.specs.declared.hub.Hub.{Hub}
 use Rattle.bsc_hub.specs.Calls.{stop_made}
 use Rattle.bsc_hub.specs.Passing.{IsCaller, Passed, Went, about_of, found_history}
 use Rattle.bsc_outside.specs.Faults.{HasRisen}
+use Rattle.bsc_edge.specs.declared.fault.LinkFault.{LinkFault}
+use Rattle.bsc_edge.specs.declared.fault.LinkFault.TheVariants.{Failed as FaultFailed, NoMemory as FaultMemory}
 use Rattle.bsc_edge.specs.Told.{Grows}
 use Rattle.bsc_serve.specs.declared.halt.Halt.{Halt}
-use Rattle.bsc_serve.specs.declared.halt.Halt.TheVariants.{AcceptFault as HaltFault, NoMemory as HaltMemory}
+use Rattle.bsc_serve.specs.declared.halt.Halt.TheVariants.{AcceptFault as HaltFault, JournalFault as HaltJournal, NoMemory as HaltMemory}
 use Rattle.bsc_serve.specs.declared.end.ServeEnd.{ServeEnd}
-use Rattle.bsc_serve.specs.declared.end.ServeEnd.TheVariants.{Done, StoppedBefore, AcceptFault, NoMemory}
+use Rattle.bsc_serve.specs.declared.end.ServeEnd.TheVariants.{Done, StoppedBefore, AcceptFault, JournalFault, NoMemory}
 use Rattle.bsc_session.specs.declared.job.SessionJob.{SessionJob}
 use Rattle.bsc_session.specs.declared.session_end.SessionEnd.{SessionEnd}
 use Rattle.bsc_serve.specs.Events.{AreFates, Event, OutAfter, arrived, callers_of, ended, jobs_of, links_of, returned_of, unstarted_of}
@@ -29,7 +30,7 @@ use Rattle.bsc_serve.specs.Fates.{Fate, IsFate, IsUnused, caller_in, job_in, ret
 use Rattle.bsc_serve.specs.declared.tally.Tally.{Tally}
 use Rattle.bsc_serve.specs.Tallies.{CountsUp, Remains, one_unless}
 use Rattle.bsc_serve.specs.Serving.{Cut, IsWithin, Loses, RoseBy, cut_callers, cut_links}
-use Rattle.bsc_serve.specs.declared.terms.ServeTerms.{ServeTerms}
+use Rattle.bsc_serve.specs.Terms.{Terms}
 use Rattle.bsc_serve.specs.Worlds.{ServeWorld}
 
 -- What the newest load of the number word found, before and after a split: a number was drawn, or all are drawn.
@@ -44,10 +45,15 @@ DrawsFor h p q (started j) = Draws h p q
 DrawsFor h p q (returned e) = Draws h p q
 DrawsFor h p q spent = newest_number q ≡ limit_of h
 
--- The link that was cut, if one was, had no memory for its job.
+-- how the loop halts where a job couldn't be made
+abbrev pub fault_halt : LinkFault → Halt
+fault_halt FaultFailed = HaltJournal
+fault_halt FaultMemory = HaltMemory
+
+-- The link that was cut, if one was, halted the loop. A fault of a journal cuts one.
 abbrev pub CutAt : {L : Type 0} → Option (Cut L) → Halt → Type 0
-CutAt None halt = ⊤
-CutAt (Some c) halt = (halt ≡ HaltMemory) × IsUnused c.caller
+CutAt None halt = halt ≢ HaltJournal
+CutAt (Some c) halt = (halt ≡ fault_halt c.fault) × IsUnused c.caller
 
 -- A pass x was split from p, which is m since.
 pub record SplitsOff (h : Hub) (p m x : Pass) : Type 0 where
@@ -66,51 +72,40 @@ pub record SplitsOff (h : Hub) (p m x : Pass) : Type 0 where
 abbrev pub TakesBack : Hub → Pass → Pass → Pass → Type 0
 TakesBack h m q x = Passed h m (ended_of (view_of x) ∷ ended_callers x) None q × (newest_number q ≡ newest_number m)
 
-module _ {L C : Type 0} where
+module _ {L C N : Type 0} where
   -- A job that is out: it is of this hub, and no caller has ended in its pass.
-  abbrev pub IsOurs : Hub → SessionJob L C → Type 0
+  abbrev pub IsOurs : Hub → SessionJob L C N → Type 0
   IsOurs h j = (arc_value j.hub ≡ h) × (ended_callers j.pass ≡ [])
 
-  abbrev pub AllOurs : Hub → List (SessionJob L C) → Type 0
+  abbrev pub AllOurs : Hub → List (SessionJob L C N) → Type 0
   AllOurs h [] = ⊤
   AllOurs h (j ∷ more) = IsOurs h j × AllOurs h more
 
   -- What is left of a job is of this hub, and has its number.
-  abbrev pub IsOurEnd : Hub → SessionJob L C → SessionEnd → Type 0
+  abbrev pub IsOurEnd : Hub → SessionJob L C N → SessionEnd → Type 0
   IsOurEnd h j d = IsCaller h d.pass × (number_of d.pass ≡ number_of j.pass)
 
-  abbrev pub AllEnded : Hub → List (Event L C) → Type 0
+  abbrev pub AllEnded : Hub → List (Event L C N) → Type 0
   AllEnded h [] = ⊤
   AllEnded h (arrived l f ∷ more) = AllEnded h more
   AllEnded h (ended j d ∷ more) = IsOurEnd h j d × AllEnded h more
 
 -- What is seen of a spawner.
-pub record Stock (L C : Type 0) : Type 0 where
-  pub jobs : Option (List (SessionJob L C))
-  pub out : List (SessionJob L C)
+pub record Stock (L C N : Type 0) : Type 0 where
+  pub jobs : Option (List (SessionJob L C N))
+  pub out : List (SessionJob L C N)
   pub unstarted : ℕ
 
-module _ {L C : Type 0} where
-  abbrev pub stock_of : ServeWorld L C → Stock L C
+module _ {L C N : Type 0} where
+  abbrev pub stock_of : ServeWorld L C N → Stock L C N
   stock_of w = record { jobs = w.jobs; out = w.out; unstarted = w.unstarted }
 
   -- the world with this pass and this of the spawner, and these links and waits
-  abbrev pub world_of : Pass → Stock L C → Option (List L) → Option (List ℕ) → ServeWorld L C
+  abbrev pub world_of : Pass → Stock L C N → Option (List L) → Option (List ℕ) → ServeWorld L C N
   world_of p s links waits = record { pass = p; links = links; waits = waits; jobs = s.jobs; out = s.out; unstarted = s.unstarted }
 
-  -- What became of one link.
-  pub record Fared (h : Hub) (terms : ServeTerms) (p q : Pass) (x : L) (s t : Stock L C) (is_started : Bool) : Type 0 where
-    pub fate : Fate (SessionJob L C)
-    pub is : IsFate h terms.limits terms.turns p q x fate
-    pub jobs : Grows s.jobs t.jobs (job_in fate)
-    pub out : t.out ≡ s.out ++ job_in fate
-    pub went : Went h p 1 (caller_in fate) None q
-    pub draws : DrawsFor h p q fate
-    pub rose : RoseBy (length (caller_in fate)) s.unstarted t.unstarted
-    pub counts : unstarted_in fate ≡ one_unless is_started
-
-  -- There was no memory for its job.
-  pub record LacksRoom (h : Hub) (p q : Pass) (s t : Stock L C) : Type 0 where
+  -- Its job couldn't be made.
+  pub record LacksRoom (h : Hub) (p q : Pass) (s t : Stock L C N) : Type 0 where
     pub caller : EndedCaller
     pub unused : IsUnused caller
     pub jobs : Grows s.jobs t.jobs []
@@ -119,12 +114,8 @@ module _ {L C : Type 0} where
     pub draws : Draws h p q
     pub later : s.unstarted ≤ t.unstarted
 
-  abbrev pub Fares : Hub → ServeTerms → Pass → Pass → L → Stock L C → Stock L C → Result Bool MemoryFault → Type 0
-  Fares h terms p q l s t (Ok is_started) = Fared h terms p q l s t is_started
-  Fares h terms p q l s t (Err e) = LacksRoom h p q s t
-
   -- A job was handed over, or it came back and its pass was joined.
-  abbrev pub HandsOver : Hub → Pass → Pass → SessionJob L C → Stock L C → Stock L C → Result Bool MemoryFault → Type 0
+  abbrev pub HandsOver : Hub → Pass → Pass → SessionJob L C N → Stock L C N → Stock L C N → Result Bool LinkFault → Type 0
   HandsOver h m q job s t (Ok true) =
       Grows s.jobs t.jobs (job ∷ []) × (t.out ≡ s.out ++ job ∷ []) × (s.unstarted ≤ t.unstarted) × (q ≡ m)
   HandsOver h m q job s t (Ok false) =
@@ -132,15 +123,31 @@ module _ {L C : Type 0} where
   HandsOver h m q job s t (Err e) =
       Grows s.jobs t.jobs [] × (t.out ≡ s.out) × (s.unstarted ≤ t.unstarted) × TakesBack h m q job.pass
 
-module _ {L C : Type 0} (works : SessionJob L C → SessionEnd → Type 0) where
+module _ {L C N : Type 0} (begins : Option (List ℕ) → ℕ → N → Type 0) where
+  -- What became of one link.
+  pub record Fared (h : Hub) (terms : Terms) (p q : Pass) (x : L) (s t : Stock L C N) (is_started : Bool) : Type 0 where
+    pub fate : Fate (SessionJob L C N)
+    pub is : IsFate begins h terms p q x fate
+    pub jobs : Grows s.jobs t.jobs (job_in fate)
+    pub out : t.out ≡ s.out ++ job_in fate
+    pub went : Went h p 1 (caller_in fate) None q
+    pub draws : DrawsFor h p q fate
+    pub rose : RoseBy (length (caller_in fate)) s.unstarted t.unstarted
+    pub counts : unstarted_in fate ≡ one_unless is_started
+
+  abbrev pub Fares : Hub → Terms → Pass → Pass → L → Stock L C N → Stock L C N → Result Bool LinkFault → Type 0
+  Fares h terms p q l s t (Ok is_started) = Fared h terms p q l s t is_started
+  Fares h terms p q l s t (Err fault) = LacksRoom h p q s t
+
+module _ {L C N : Type 0} (works : SessionJob L C N → SessionEnd → Type 0) (begins : Option (List ℕ) → ℕ → N → Type 0) where
   -- What has happened, in a loop that began with the world w and stands at v with this tally.
-  pub record Taken (h : Hub) (terms : ServeTerms) (w v : ServeWorld L C) (tally : Tally) : Type 0 where
-    pub events : List (Event L C)
+  pub record Taken (h : Hub) (terms : Terms) (w v : ServeWorld L C N) (tally : Tally) : Type 0 where
+    pub events : List (Event L C N)
     pub left : Loses w.links v.links (links_of events)
     pub asks : ℕ
     pub asked : Grows w.waits v.waits (replicate asks 20)
     pub jobs : Grows w.jobs v.jobs (jobs_of events)
-    pub fates : AreFates h terms w.pass v.pass events
+    pub fates : AreFates begins h terms w.pass v.pass events
     pub returned : RoseBy (returned_of events) w.unstarted v.unstarted
     pub out : OutAfter works [] events v.out
     pub ours : AllOurs h v.out
@@ -151,8 +158,8 @@ module _ {L C : Type 0} (works : SessionJob L C → SessionEnd → Type 0) where
     pub counted : CountsUp tally.unstarted (unstarted_of events)
 
   -- The loop halted.
-  pub record Halted (h : Hub) (terms : ServeTerms) (w v : ServeWorld L C) (halt : Halt) : Type 0 where
-    pub events : List (Event L C)
+  pub record Halted (h : Hub) (terms : Terms) (w v : ServeWorld L C N) (halt : Halt) : Type 0 where
+    pub events : List (Event L C N)
     pub cut : Option (Cut L)
     pub cut_last : CutAt cut halt
     pub left : Loses w.links v.links (links_of events ++ cut_links cut)
@@ -160,26 +167,26 @@ module _ {L C : Type 0} (works : SessionJob L C → SessionEnd → Type 0) where
     pub asks : ℕ
     pub asked : Grows w.waits v.waits (replicate asks 20)
     pub jobs : Grows w.jobs v.jobs (jobs_of events)
-    pub fates : AreFates h terms w.pass v.pass events
+    pub fates : AreFates begins h terms w.pass v.pass events
     pub returned : RoseBy (returned_of events) w.unstarted v.unstarted
     pub out : OutAfter works [] events v.out
     pub all_ended : AllEnded h events
     pub went : Went h w.pass (length (links_of events) + length (cut_links cut)) (callers_of events ++ cut_callers cut) None v.pass
 
   -- The loop goes on, or halts.
-  abbrev pub TakesOn : Hub → ServeTerms → ServeWorld L C → ServeWorld L C → Tally → Option Halt → Type 0
+  abbrev pub TakesOn : Hub → Terms → ServeWorld L C N → ServeWorld L C N → Tally → Option Halt → Type 0
   TakesOn h terms w v tally None = Taken h terms w v tally
   TakesOn h terms w v tally (Some halt) = Halted h terms w v halt
 
   -- All that are awaited have arrived, or the loop halted.
-  abbrev pub Accepts : Hub → ServeTerms → ServeWorld L C → ServeWorld L C → Result ℕ Halt → Type 0
+  abbrev pub Accepts : Hub → Terms → ServeWorld L C N → ServeWorld L C N → Result ℕ Halt → Type 0
   Accepts h terms w v (Ok unstarted) = Taken h terms w v (record { remaining = Some 0; unstarted = unstarted })
   Accepts h terms w v (Err halt) = Halted h terms w v halt
 
   -- From one pass and what is seen of the spawner to another: whatever has happened, it may have so since.
-  abbrev pub GoesOn : Hub → Pass → Stock L C → Pass → Stock L C → Type 0
+  abbrev pub GoesOn : Hub → Pass → Stock L C N → Pass → Stock L C N → Type 0
   GoesOn h p s q t =
-      (terms : ServeTerms) (first : ServeWorld L C) (links : Option (List L)) (waits : Option (List ℕ)) (tally : Tally)
+      (terms : Terms) (first : ServeWorld L C N) (links : Option (List L)) (waits : Option (List ℕ)) (tally : Tally)
       → Taken h terms first (world_of p s links waits) tally → Taken h terms first (world_of q t links waits) tally
 
 -- What a stop of the hub says, whose pass was m and is q.
@@ -190,12 +197,22 @@ pub record Stopped (h : Hub) (m q : Pass) (r : Result (Told Counts) AlreadyStopp
   pub place : IfErr r (λ already. position stops (entries (seen q)) ≡ Some already.at)
   pub loaded : newest_number q ≡ newest_number m
 
+-- How serving ends that would end so, by why the Stop's line wasn't put, if it wasn't.
+abbrev pub lost_or : ServeEnd → Option LinkFault → ServeEnd
+lost_or end None = end
+lost_or end (Some FaultFailed) = JournalFault
+lost_or end (Some FaultMemory) = NoMemory
+
 -- How serving ends that wasn't cut short, where so many links have no job.
-abbrev pub whole_end : ℕ → Result (Told Counts) AlreadyStopped → ServeEnd
-whole_end u (Ok t) = Done t.said u
-whole_end u (Err already) = StoppedBefore already.at u
+abbrev pub stop_end : ℕ → Result (Told Counts) AlreadyStopped → ServeEnd
+stop_end u (Ok t) = Done t.said u
+stop_end u (Err already) = StoppedBefore already.at u
+
+abbrev pub whole_end : ℕ → Result (Told Counts) AlreadyStopped → Option LinkFault → ServeEnd
+whole_end u stop lost = lost_or (stop_end u stop) lost
 
 -- How serving ends that halted.
-abbrev pub halt_end : Halt → ServeEnd
-halt_end HaltFault = AcceptFault
-halt_end HaltMemory = NoMemory
+abbrev pub halt_end : Halt → Option LinkFault → ServeEnd
+halt_end HaltJournal lost = JournalFault
+halt_end HaltFault lost = lost_or AcceptFault lost
+halt_end HaltMemory lost = lost_or NoMemory lost

@@ -1,3 +1,4 @@
+pub mod Terms
 pub mod Fates
 pub mod Events
 pub mod Worlds

@@ -13,14 +13,18 @@ use Rattle.bsc_turn.specs.Passes.{number_of, seen}
 use Rattle.bsc_hub.specs.declared.hub.Hub.{Hub}
 use Rattle.bsc_hub.specs.Calls.{stop_made}
 use Rattle.bsc_hub.specs.Passing.{Went, found_history}
+use Rattle.bsc_edge.specs.declared.fault.LinkFault.{LinkFault}
+use Rattle.bsc_edge.specs.declared.fault.LinkFault.TheVariants.{Failed}
 use Rattle.bsc_edge.specs.Told.{Grows}
+use Rattle.bsc_desk.specs.Entries.{stop_entry}
+use Rattle.bsc_notes.specs.Notes.{HasLine, Note, Records, made}
 use Rattle.bsc_serve.specs.declared.end.ServeEnd.{ServeEnd}
-use Rattle.bsc_serve.specs.declared.end.ServeEnd.TheVariants.{Done, StoppedBefore, AcceptFault, NoMemory}
+use Rattle.bsc_serve.specs.declared.end.ServeEnd.TheVariants.{Done, StoppedBefore, AcceptFault, JournalFault, NoMemory}
 use Rattle.bsc_session.specs.declared.job.SessionJob.{SessionJob}
 use Rattle.bsc_session.specs.declared.session_end.SessionEnd.{SessionEnd}
 use Rattle.bsc_serve.specs.Events.{AllStand, AreFates, Event, OutAfter, callers_of, jobs_of, links_of, returned_of, unstarted_of}
 use Rattle.bsc_serve.specs.Fates.{IsUnused}
-use Rattle.bsc_serve.specs.declared.terms.ServeTerms.{ServeTerms}
+use Rattle.bsc_serve.specs.Terms.{Terms}
 use Rattle.bsc_serve.specs.Worlds.{ServeWorld}
 
 -- What is left lost these, in order, and was told before. What isn't told any more says nothing.
@@ -33,10 +37,12 @@ Loses (Some old) (Some new) xs = old ≡ xs ++ new
 abbrev pub RoseBy : ℕ → ℕ → ℕ → Type 0
 RoseBy n old new = (old + n ≤ new) ⊎ (18446744073709551615 ≤ new)
 
--- A link for whose job there was no memory, and the caller whose pass was split for it.
+-- A link whose job couldn't be made, and the caller whose pass was split for it: its journal couldn't be begun, or there was no
+-- memory.
 pub record Cut (L : Type 0) : Type 0 where
   pub link : L
   pub caller : EndedCaller
+  pub fault : LinkFault
 
 module _ {L : Type 0} where
   abbrev pub cut_links : Option (Cut L) → List L
@@ -47,10 +53,20 @@ module _ {L : Type 0} where
   cut_callers None = []
   cut_callers (Some c) = c.caller ∷ []
 
-  -- It comes under want of memory alone.
+  -- why its job couldn't be made
+  abbrev pub cut_fault : Option (Cut L) → Option LinkFault
+  cut_fault None = None
+  cut_fault (Some c) = Some c.fault
+
+  -- It comes under want of memory and under a fault of a journal alone.
   abbrev pub CutBy : Option (Cut L) → ServeEnd → Type 0
   CutBy None end = ⊤
-  CutBy (Some c) end = (end ≡ NoMemory) × IsUnused c.caller
+  CutBy (Some c) end = ((end ≡ NoMemory) ⊎ (end ≡ JournalFault)) × IsUnused c.caller
+
+  -- A journal failed: the line of the Stop wasn't put, as its put failed, or the journal of the link that was cut couldn't be
+  -- begun.
+  abbrev pub JournalFailed : Option (Cut L) → Option LinkFault → Type 0
+  JournalFailed cut lost = (lost ≡ Some Failed) ⊎ (cut_fault cut ≡ Some Failed)
 
 -- No more links than are awaited, where that is said.
 abbrev pub IsWithin : Option ℕ → ℕ → Type 0
@@ -64,28 +80,38 @@ StopAnswers q (Ok t) =
     (t.said ≡ counts (take t.at (entries (seen q)))) × (is_stopped (take t.at (entries (seen q))) ≡ false)
 StopAnswers q (Err already) = position stops (entries (seen q)) ≡ Some already.at
 
-module _ {L C : Type 0} where
-  -- How serving ends, by what happened, the jobs that were out when the hub was stopped, and what the stop answered: as many
-  -- links arrived as were awaited, no job was out, and the end says how many of the links have no job, and the counts of the
-  -- stop or where the earlier one stands; or it was cut short.
-  abbrev pub EndsSo : Option ℕ → List (Event L C) → List (SessionJob L C) → Result (Told Counts) AlreadyStopped → ServeEnd → Type 0
-  EndsSo awaited events still stop (Done c u) =
-      (awaited ≡ Some (length (links_of events))) × (still ≡ []) × (u ≡ unstarted_of events)
-      × ((at : ℕ) × (stop ≡ Ok (record { at = at; said = c })))
-  EndsSo awaited events still stop (StoppedBefore at u) =
-      (awaited ≡ Some (length (links_of events))) × (still ≡ []) × (u ≡ unstarted_of events) × (stop ≡ Err (record { at = at }))
-  EndsSo awaited events still stop AcceptFault = ⊤
-  EndsSo awaited events still stop NoMemory = ⊤
+-- What a caller notes of its stop of the hub: the Stop that it made, with its place.
+abbrev pub stop_notes : ℕ → Result (Told Counts) AlreadyStopped → List Note
+stop_notes caller (Ok t) = made t.at (stop_entry caller t.said) ∷ []
+stop_notes caller (Err already) = []
 
-module _ {L C : Type 0} (works : SessionJob L C → SessionEnd → Type 0) where
-  -- What serving a hub comes to, on these terms, from one world to another, where `works` says what may be left of a job: there
-  -- is what happened, in order, under want of memory one link more, the jobs that were still out when the hub was stopped, and
-  -- an answer of its stop, such that ..
-  pub record Serving (h : Hub) (terms : ServeTerms) (before after : ServeWorld L C) (end : ServeEnd) : Type 0 where
-    pub events : List (Event L C)
+module _ {L C N : Type 0} where
+  -- How serving ends, by what happened, the link that was cut, the jobs that were out when the hub was stopped, what the stop
+  -- answered, and why its line wasn't put, if it wasn't. A journal failed; or none did, and then: as many links arrived as were
+  -- awaited, no job was out, the Stop's line was put, and the end says how many of the links have no job, and the counts of the
+  -- stop or where the earlier one stands; or it was cut short.
+  abbrev pub EndsSo : Option ℕ → List (Event L C N) → Option (Cut L) → List (SessionJob L C N) → Result (Told Counts) AlreadyStopped
+      → Option LinkFault → ServeEnd → Type 0
+  EndsSo awaited events cut still stop lost (Done c u) =
+      (awaited ≡ Some (length (links_of events))) × (still ≡ []) × (u ≡ unstarted_of events)
+      × ((at : ℕ) × (stop ≡ Ok (record { at = at; said = c }))) × (lost ≡ None)
+  EndsSo awaited events cut still stop lost (StoppedBefore at u) =
+      (awaited ≡ Some (length (links_of events))) × (still ≡ []) × (u ≡ unstarted_of events) × (stop ≡ Err (record { at = at }))
+  EndsSo awaited events cut still stop lost AcceptFault = lost ≡ None
+  EndsSo awaited events cut still stop lost JournalFault = JournalFailed cut lost
+  EndsSo awaited events cut still stop lost NoMemory = JournalFailed cut lost → ⊥
+
+module _ {L C N : Type 0} (works : SessionJob L C N → SessionEnd → Type 0) (begins : Option (List ℕ) → ℕ → N → Type 0) where
+  -- What serving a hub comes to, on these terms, from one world to another and with what its own journal held and holds, where
+  -- `works` says what may be left of a job, and `begins` whether a sink is the journal of a prefix and a number: there is what
+  -- happened, in order, under want of memory or a fault of a journal one link more, the jobs that were still out when the hub
+  -- was stopped, an answer of its stop, and why the Stop's line wasn't put, if it wasn't, such that ..
+  pub record Serving (h : Hub) (terms : Terms) (before after : ServeWorld L C N) (held held' : Option (List ℕ)) (end : ServeEnd) : Type 0 where
+    pub events : List (Event L C N)
     pub cut : Option (Cut L)
-    pub still : List (SessionJob L C)
+    pub still : List (SessionJob L C N)
     pub stop : Result (Told Counts) AlreadyStopped
+    pub lost : Option LinkFault
     pub cut_last : CutBy cut end
     -- .. these links left the acceptor, in order, no more than are awaited; and it was asked so often, for 20 ms each time;
     pub left : Loses before.links after.links (links_of events ++ cut_links cut)
@@ -93,9 +119,9 @@ module _ {L C : Type 0} (works : SessionJob L C → SessionEnd → Type 0) where
     pub asks : ℕ
     pub asked : Grows before.waits after.waits (replicate asks 20)
     -- for each that isn't unstarted the spawner took one job, in order, with that link, this hub, a pass that was split in
-    -- this call, and these limits and turns;
+    -- this call, these limits and turns, this policy, and a journal of this prefix and of the number of its own pass;
     pub jobs : Grows before.jobs after.jobs (jobs_of events)
-    pub fates : AreFates h terms before.pass after.pass events
+    pub fates : AreFates begins h terms before.pass after.pass events
     -- no more came back than the spawner's count rose by;
     pub returned : RoseBy (returned_of events) before.unstarted after.unstarted
     -- each job that ended was one that was out, and those that didn't were still out when the hub was stopped; none is at last;
@@ -108,5 +134,9 @@ module _ {L C : Type 0} (works : SessionJob L C → SessionEnd → Type 0) where
     pub stopped : StopAnswers after.pass stop
     -- all that the callers of these jobs entered stands in the history that the stop found, so before the Stop;
     pub stop_last : AllStand (found_history (stop_made (number_of before.pass) stop) after.pass) events
+    -- the own journal has the line of the Stop, if this call made it, and nothing more; or a first part of that line, where it
+    -- wasn't put;
+    pub records : Records held held' (stop_notes (number_of before.pass) stop) lost
+    pub has_line : HasLine (stop_notes (number_of before.pass) stop) lost
     -- and the end says what the stop answered, and how many links have no job.
-    pub ends : EndsSo terms.sessions events still stop end
+    pub ends : EndsSo terms.sessions events cut still stop lost end

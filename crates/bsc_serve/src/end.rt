@@ -11,6 +11,9 @@ pub enum ServeEnd {
     StoppedBefore { at: u64, unstarted: u64 },
     /// The acceptor failed.
     AcceptFault,
+    /// A session's journal couldn't be begun, or the line of the Stop couldn't be put into the hub's own. It goes before
+    /// all else.
+    JournalFault,
     /// There was no memory.
     NoMemory,
 }

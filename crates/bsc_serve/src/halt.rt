@@ -5,6 +5,8 @@
 pub(crate) enum Halt {
     /// The acceptor failed.
     AcceptFault,
+    /// A journal couldn't be begun.
+    JournalFault,
     /// There was no memory.
     NoMemory,
 }

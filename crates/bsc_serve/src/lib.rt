@@ -11,6 +11,7 @@ mod end;
 mod halt;
 mod serving;
 mod starting;
+mod stop_told;
 mod taking_in;
 mod tally;
 mod terms;

@@ -1,22 +1,32 @@
 //! Serving a hub.
-ghost use Rattle.std.specs.Prelude.{◌≡◌, ◌≤◌};
+ghost use Rattle.std.specs.Prelude.{◌≡◌, ◌≤◌, ◌⊎◌, ◌∷◌, [], IsErr, Err, Some, option_map};
 ghost use Rattle.std.specs.Arc.{arc_value};
 ghost use Rattle.bsc_outside.specs.Faults.{HasRisen};
+ghost use Rattle.bsc_turn.specs.Passes.{number_of};
 ghost use Rattle.bsc_hub.specs.Passing.{IsCaller};
+ghost use Rattle.bsc_desk.specs.Entries.{stop_entry};
 ghost use Rattle.bsc_serve.specs.declared.end.ServeEnd.{ServeEnd};
-ghost use Rattle.bsc_edge.specs.Told.{Stays};
-ghost use Rattle.bsc_session.specs.Jobs.{Worked};
-ghost use Rattle.bsc_serve.specs.Inner.{Stopped, halt_end, whole_end};
-ghost use Rattle.bsc_serve.specs.Serving.{Serving};
+ghost use Rattle.bsc_serve.specs.declared.halt.Halt.{Halt};
+ghost use Rattle.bsc_edge.specs.declared.fault.LinkFault.{LinkFault};
+ghost use Rattle.bsc_edge.specs.Told.{Stays, fault_in};
+ghost use Rattle.bsc_notes.specs.Notes.{HasLine, Records, made as made_note};
+ghost use Rattle.bsc_session.specs.Jobs.{Worked, policy_of};
+ghost use Rattle.bsc_serve.specs.Inner.{Stopped, halt_end, lost_or, stop_end, whole_end};
+ghost use Rattle.bsc_serve.specs.Serving.{Serving, stop_notes};
+ghost use Rattle.bsc_serve.specs.Terms.{all_terms};
 
 use crate::accepting::accept_all;
 use crate::end::ServeEnd;
 use crate::halt::Halt;
+use crate::stop_told::StopTold;
 use crate::taking_in::{await_all, take_ended};
 use crate::terms::ServeTerms;
-use bsc_edge::{Acceptor, Clock, Link, Spawner};
+use bsc_edge::{Acceptor, Clock, Journals, Link, LinkFault, Spawner};
 use bsc_history::{AlreadyStopped, Counts};
 use bsc_hub::{Hub, Pass, Told};
+use bsc_notes::{Journal, Made, Noted};
+use bsc_outside::Sink;
+use bsc_policy::Policy;
 use bsc_session::SessionJob;
 use std::alloc::Global;
 use std::sync::{Arc, Wait};
@@ -30,11 +40,81 @@ fn stop<R: Wait>(rt: &R, hub: &Hub, pass: &mut Pass) -> Result<Told<Counts>, Alr
     hub.stop(rt, pass)
 }
 
-/// How serving ends that wasn't cut short, by what the stop of the hub answered.
-fn done(unstarted: u64, stopped: Result<Told<Counts>, AlreadyStopped>) -> ServeEnd
-    ensures { result ≡ whole_end unstarted stopped }
+/// Notes a Stop.
+fn note_stop<N: Journal>(
+    alloc: Global,
+    own: &mut N,
+    at: u64,
+    caller: u64,
+    counts: Counts,
+) -> Result<(), LinkFault>
+    ensures noted { Records (N.held own.old) (N.held own.new) (made_note at (stop_entry caller counts) ∷ []) (fault_in result) }
+    ensures failed { result ≡ Err LinkFault.Failed → HasRisen (N.faults own.old) (N.faults own.new) }
+    ensures later { N.faults own.old ≤ N.faults own.new }
 {
-    match stopped {
+    let made = Made::Stopped(counts);
+    own.note(alloc, &Noted::Entry { at, caller, made })
+}
+
+/// Why a line wasn't put, if it wasn't.
+fn fault_of(noted: Result<(), LinkFault>) -> Option<LinkFault>
+    ensures fault { result ≡ fault_in noted }
+    ensures failed { result ≡ Some LinkFault.Failed → noted ≡ Err LinkFault.Failed }
+{
+    match noted {
+        Ok(()) => None,
+        Err(fault) => Some(fault),
+    }
+}
+
+/// Stops the hub, and puts the line of the Stop into the own journal, if this made it.
+fn finish<R: Wait, N: Sink>(
+    rt: &R,
+    alloc: Global,
+    hub: &Hub,
+    pass: &mut Pass,
+    own: &mut N,
+) -> StopTold
+    requires { IsCaller hub.now pass.old }
+    ensures stopped { Stopped hub.now pass.old pass.new result.answer }
+    ensures caller { IsCaller hub.now pass.new }
+    ensures records { Records (N.held own.old) (N.held own.new) (stop_notes (number_of pass.old) result.answer) result.lost }
+    ensures has_line { HasLine (stop_notes (number_of pass.old) result.answer) result.lost }
+    ensures failed { result.lost ≡ Some LinkFault.Failed → HasRisen (N.faults own.old) (N.faults own.new) }
+    ensures later { N.faults own.old ≤ N.faults own.new }
+{
+    let caller = pass.number();
+    match stop(rt, hub, pass) {
+        Ok(told) => {
+            let lost = fault_of(note_stop(alloc, own, told.at, caller, told.said));
+            StopTold {
+                answer: Ok(told),
+                lost,
+            }
+        }
+        Err(already) => StopTold {
+            answer: Err(already),
+            lost: None,
+        },
+    }
+}
+
+/// How serving ends that would end so, by why the Stop's line wasn't put, if it wasn't.
+fn lost_or(end: ServeEnd, lost: Option<LinkFault>) -> ServeEnd
+    ensures { result ≡ lost_or end lost }
+{
+    match lost {
+        None => end,
+        Some(LinkFault::Failed) => ServeEnd::JournalFault,
+        Some(LinkFault::NoMemory) => ServeEnd::NoMemory,
+    }
+}
+
+/// How serving ends that wasn't cut short, by what the stop of the hub answered, where its line was put.
+fn stop_end(unstarted: u64, answer: Result<Told<Counts>, AlreadyStopped>) -> ServeEnd
+    ensures { result ≡ stop_end unstarted answer }
+{
+    match answer {
         Ok(told) => ServeEnd::Done {
             counts: told.said,
             unstarted,
@@ -46,27 +126,39 @@ fn done(unstarted: u64, stopped: Result<Told<Counts>, AlreadyStopped>) -> ServeE
     }
 }
 
+/// How serving ends that wasn't cut short.
+fn done(unstarted: u64, stopped: StopTold) -> ServeEnd
+    ensures { result ≡ whole_end unstarted stopped.answer stopped.lost }
+{
+    lost_or(stop_end(unstarted, stopped.answer), stopped.lost)
+}
+
 /// How serving ends that halted.
-fn end_of(halt: Halt) -> ServeEnd
-    ensures { result ≡ halt_end halt }
+fn end_of(halt: Halt, lost: Option<LinkFault>) -> ServeEnd
+    ensures { result ≡ halt_end halt lost }
 {
     match halt {
-        Halt::AcceptFault => ServeEnd::AcceptFault,
-        Halt::NoMemory => ServeEnd::NoMemory,
+        Halt::JournalFault => ServeEnd::JournalFault,
+        Halt::AcceptFault => lost_or(ServeEnd::AcceptFault, lost),
+        Halt::NoMemory => lost_or(ServeEnd::NoMemory, lost),
     }
 }
 
 /// Serves a hub: takes links until as many have arrived as are asked for, for ever where none is asked for, and gives
-/// each a session in a job of its own, with a pass split from this one. When a session has ended it joins its pass to this
-/// one. Once all have come and all sessions have ended, it stops the hub. A link that gets no session is closed with 1001.
-/// Where the acceptor fails or memory runs out, it stops the hub first, which ends the sessions, and then waits for them.
-/// Jobs that the spawner had out before are awaited at first.
+/// each a session in a job of its own, with a pass split from this one, the journal of that pass's number under the prefix,
+/// and the policy. When a session has ended it joins its pass to this one. Once all have come and all sessions have ended,
+/// it stops the hub, and puts the line of the Stop into the own journal. A link that gets no session is closed with 1001.
+/// Where the acceptor fails, a journal can't be begun or memory runs out, it stops the hub first, which ends the sessions,
+/// and then waits for them. Without a prefix and a policy sessions make no lines. Jobs that the spawner had out before are
+/// awaited at first.
 pub fn serve_on<
     R: Wait,
     C: Clock + Drop,
     L: Link + Drop,
     A: Acceptor<L>,
-    P: Spawner<SessionJob<L, C>>,
+    N: Sink + Drop,
+    J: Journals<N>,
+    P: Spawner<SessionJob<L, C, N>>,
 >(
     rt: &R,
     alloc: Global,
@@ -76,13 +168,18 @@ pub fn serve_on<
     clock: &mut C,
     acceptor: &mut A,
     spawner: &mut P,
+    own: &mut N,
+    prefix: Option<&str>,
+    journals: &mut J,
+    policy: &Option<Arc<Policy>>,
 ) -> ServeEnd
     requires can { P.can_start spawner.old }
     requires pass { IsCaller (arc_value hub.now) pass.old }
     ensures again { P.can_start spawner.new }
 
     // What became of the links, which jobs were taken and ended, and what the hub was told at last.
-    ensures serving { Serving (Worked L.talk L.faults C.readings) (arc_value hub.now) terms.now
+    ensures serving { Serving (Worked L.talk L.faults C.readings N.held N.faults) J.begins (arc_value hub.now)
+        (all_terms terms.now (option_map (λ p. p.now) prefix.entry) (policy_of policy.now))
         (record {
           pass = pass.old;
           links = A.left acceptor.old;
@@ -98,7 +195,7 @@ pub fn serve_on<
           jobs = P.jobs spawner.new;
           out = P.out spawner.new;
           unstarted = P.faults spawner.new;
-        }) result }
+        }) (N.held own.old) (N.held own.new) result }
 
     // The pass is still one of the hub.
     ensures caller { IsCaller (arc_value hub.now) pass.new }
@@ -109,18 +206,26 @@ pub fn serve_on<
     // A fault of the acceptor is told only where its count rose.
     ensures failed { result ≡ ServeEnd.AcceptFault → HasRisen (A.faults acceptor.old) (A.faults acceptor.new) }
     ensures later { A.faults acceptor.old ≤ A.faults acceptor.new }
+
+    // A fault of a journal is told only where the journals' count rose, or that of the own one.
+    ensures unrecorded { result ≡ ServeEnd.JournalFault → HasRisen (J.faults journals.old) (J.faults journals.new)
+        ⊎ HasRisen (N.faults own.old) (N.faults own.new) }
+    ensures journals_later { J.faults journals.old ≤ J.faults journals.new }
+    ensures own_later { N.faults own.old ≤ N.faults own.new }
 {
     await_all(rt, spawner);
-    match accept_all(rt, alloc, hub, pass, terms, clock, acceptor, spawner) {
+    match accept_all(
+        rt, alloc, hub, pass, terms, prefix, policy, journals, clock, acceptor, spawner,
+    ) {
         Ok(unstarted) => {
-            take_ended(rt, hub, pass, spawner, true);
-            let stopped = stop(rt, hub, pass);
+            take_ended::<R, C, L, N, J, P>(rt, hub, pass, spawner, true);
+            let stopped = finish(rt, alloc, hub, pass, own);
             done(unstarted, stopped)
         }
         Err(halt) => {
-            let _told = stop(rt, hub, pass);
+            let told = finish(rt, alloc, hub, pass, own);
             await_all(rt, spawner);
-            end_of(halt)
+            end_of(halt, told.lost)
         }
     }
 }

@@ -7,8 +7,9 @@ ghost use Rattle.bsc_hub.specs.Passing.{IsCaller, Passed};
 ghost use Rattle.bsc_session.specs.Jobs.{Worked};
 ghost use Rattle.bsc_serve.specs.Inner.{AllOurs, GoesOn};
 
-use bsc_edge::{Clock, Job, Link, Spawner};
+use bsc_edge::{Clock, Job, Journals, Link, Spawner};
 use bsc_hub::{Hub, Pass};
+use bsc_outside::Sink;
 use bsc_session::{SessionEnd, SessionJob};
 use std::sync::Wait;
 
@@ -29,14 +30,16 @@ pub(crate) fn await_all<R: Wait, J: Job, P: Spawner<J>>(rt: &R, spawner: &mut P)
 
 /// What is left of a session that has ended: of one that has by now, or, where it `waits`, of the next that will. None says
 /// then that no session is out.
-fn next_end<R: Wait, C: Clock + Drop, L: Link + Drop, P: Spawner<SessionJob<L, C>>>(
-    rt: &R,
-    spawner: &mut P,
-    waits: bool,
-) -> Option<SessionEnd>
+fn next_end<
+    R: Wait,
+    C: Clock + Drop,
+    L: Link + Drop,
+    N: Sink + Drop,
+    P: Spawner<SessionJob<L, C, N>>,
+>(rt: &R, spawner: &mut P, waits: bool) -> Option<SessionEnd>
     ensures again { P.can_start spawner.old → P.can_start spawner.new }
     ensures jobs { Stays (P.jobs spawner.old) (P.jobs spawner.new) }
-    ensures out { Comes (Worked L.talk L.faults C.readings) (P.out spawner.old) (P.out spawner.new) result }
+    ensures out { Comes (Worked L.talk L.faults C.readings N.held N.faults) (P.out spawner.old) (P.out spawner.new) result }
     ensures none { waits ≡ true → result ≡ None → P.out spawner.new ≡ [] }
     ensures later { P.faults spawner.old ≤ P.faults spawner.new }
 {
@@ -58,19 +61,20 @@ fn take_in(hub: &Hub, pass: &mut Pass, left: SessionEnd)
 }
 
 /// Takes in the callers of the sessions that have ended: of those that have by now, or, where it `waits`, of all that are
-/// out.
-pub(crate) fn take_ended<R: Wait, C: Clock + Drop, L: Link + Drop, P: Spawner<SessionJob<L, C>>>(
-    rt: &R,
-    hub: &Hub,
-    pass: &mut Pass,
-    spawner: &mut P,
-    waits: bool,
-)
+/// out. `J` has begun their journals.
+pub(crate) fn take_ended<
+    R: Wait,
+    C: Clock + Drop,
+    L: Link + Drop,
+    N: Sink + Drop,
+    J: Journals<N>,
+    P: Spawner<SessionJob<L, C, N>>,
+>(rt: &R, hub: &Hub, pass: &mut Pass, spawner: &mut P, waits: bool)
     requires pass { IsCaller hub.now pass.old }
     requires ours { AllOurs hub.now (P.out spawner.old) }
     ensures again { P.can_start spawner.old → P.can_start spawner.new }
     ensures caller { IsCaller hub.now pass.new }
-    ensures goes_on { GoesOn (Worked L.talk L.faults C.readings) hub.now pass.old
+    ensures goes_on { GoesOn (Worked L.talk L.faults C.readings N.held N.faults) J.begins hub.now pass.old
         (record { jobs = P.jobs spawner.old; out = P.out spawner.old; unstarted = P.faults spawner.old }) pass.new
         (record { jobs = P.jobs spawner.new; out = P.out spawner.new; unstarted = P.faults spawner.new }) }
     ensures none { waits ≡ true → P.out spawner.new ≡ [] }

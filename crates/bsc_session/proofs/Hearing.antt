@@ -6,7 +6,7 @@ use Rattle.bsc_frame.specs.declared.message.Message.{Message as Bvlc}
 use Rattle.bsc_checks.specs.declared.phase.Phase.{Phase}
 use Rattle.bsc_checks.specs.declared.phase.Phase.TheVariants.{Connected as PhaseConnected}
 use Rattle.bsc_checks.specs.declared.place.Place.TheVariants.{HubPort}
-use Rattle.bsc_verdict.specs.Outcomes.{outcome_of}
+use Rattle.bsc_checks.specs.Outcomes.{outcome_of}
 use Rattle.bsc_checks.specs.declared.verdict.Verdict.{Verdict}
 use Rattle.bsc_checks.specs.declared.verdict.Verdict.TheVariants.{Pass, Carry as Carried, Silent, Nak}
 use Rattle.bsc_turn.specs.declared.pass.Pass.{Pass as CallerPass}

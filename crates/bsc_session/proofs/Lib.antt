@@ -23,3 +23,4 @@ mod Filtering
 mod Losing
 mod Denying
 mod Blaming
+mod DoneJobs

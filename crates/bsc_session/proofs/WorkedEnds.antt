@@ -12,7 +12,7 @@ use Rattle.bsc_edge.specs.declared.said.Said.TheVariants.{Gave, Put, Closed as S
 use Rattle.bsc_accept.specs.declared.reason.Reason.TheVariants.{Nothing as NoReason, HubWorn, NoMemory as MemoryReason, OutboxFull}
 use Rattle.bsc_accept.specs.Reasons.{reason_text}
 use Rattle.bsc_accept.specs.Messages.{to_peer}
-use Rattle.bsc_verdict.proofs.OnLiterals.{verdict_on_literals}
+use Rattle.bsc_checks.proofs.OnLiterals.{verdict_on_literals}
 use Rattle.bsc_session.specs.declared.why.Why.TheVariants.{PeerLeft, EndedBy, NoMemory as WhyNoMemory, Spent, Worn as WhyWorn}
 use Rattle.bsc_session.specs.Receiving.{worn}
 use Rattle.bsc_session.specs.Standings.{Standing, Terms}

@@ -10,7 +10,7 @@ use Rattle.bsc_edge.specs.declared.incoming.Incoming.TheVariants.{Message, Text,
 use Rattle.bsc_edge.specs.declared.said.Said.TheVariants.{Gave, Put, Closed as SaidClosed}
 use Rattle.bsc_accept.specs.declared.reason.Reason.TheVariants.{Nothing as NoReason, ConnectWait}
 use Rattle.bsc_accept.specs.Reasons.{reason_text}
-use Rattle.bsc_verdict.proofs.OnLiterals.{verdict_on_literals}
+use Rattle.bsc_checks.proofs.OnLiterals.{verdict_on_literals}
 use Rattle.bsc_session.specs.declared.why.Why.TheVariants.{PeerClosed, NotBinary, PeerLeft, Refused as WhyRefused, WaitExpired, LinkFault as WhyLinkFault}
 use Rattle.bsc_session.specs.Receiving.{replies}
 use Rattle.bsc_session.specs.Stops.{stop_at, stop_for, stop_closing}

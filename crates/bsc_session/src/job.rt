@@ -6,12 +6,13 @@ ghost use Rattle.bsc_hub.proofs.Unique.{IsCaller-prop};
 
 use crate::limits::SessionLimits;
 use bsc_hub::{Hub, Pass};
+use bsc_policy::Policy;
 use std::alloc::Global;
 use std::sync::Arc;
 
 /// A session for a thread: all that the serving call of one connection needs.
 #[derive(Drop)]
-pub struct SessionJob<L, C> {
+pub struct SessionJob<L, C, N> {
     pub alloc: Global,
     /// The hub that is served.
     pub hub: Arc<Hub>,
@@ -23,11 +24,17 @@ pub struct SessionJob<L, C> {
     pub limits: SessionLimits,
     /// How many receives the session may make.
     pub turns: u64,
+    /// Where the lines of the session go.
+    pub journal: N,
+    /// Whether entries have a line. Where they don't, a session without a policy makes none at all.
+    pub is_recorded: bool,
+    /// By what the session is guarded, if by anything. Its denials have a line in the journal in any case.
+    pub policy: Option<Arc<Policy>>,
     // The pass is of the hub.
     ghost of_hub: { IsCaller (arc_value hub) pass } by { IsCaller-prop (arc_value hub) pass },
 }
 
-impl<L, C> SessionJob<L, C> {
+impl<L, C, N> SessionJob<L, C, N> {
     /// A job that serves this link at this hub.
     pub fn new(
         alloc: Global,
@@ -37,7 +44,10 @@ impl<L, C> SessionJob<L, C> {
         clock: C,
         limits: SessionLimits,
         turns: u64,
-    ) -> SessionJob<L, C>
+        journal: N,
+        is_recorded: bool,
+        policy: Option<Arc<Policy>>,
+    ) -> SessionJob<L, C, N>
         requires { IsCaller (arc_value hub) pass }
         ensures hub { result.hub ≡ hub }
         ensures pass { result.pass ≡ pass }
@@ -45,6 +55,9 @@ impl<L, C> SessionJob<L, C> {
         ensures clock { result.clock ≡ clock }
         ensures limits { result.limits ≡ limits }
         ensures turns { result.turns ≡ turns }
+        ensures journal { result.journal ≡ journal }
+        ensures is_recorded { result.is_recorded ≡ is_recorded }
+        ensures policy { result.policy ≡ policy }
     {
         SessionJob {
             alloc,
@@ -54,12 +67,15 @@ impl<L, C> SessionJob<L, C> {
             clock,
             limits,
             turns,
+            journal,
+            is_recorded,
+            policy,
         }
     }
 }
 
-impl<L, C: Drop> SessionJob<L, C> {
-    /// The hub, the pass and the link of a job that isn't to be worked off: the pass is of the hub.
+impl<L, C: Drop, N: Drop> SessionJob<L, C, N> {
+    /// The hub, the pass and the link of a job that isn't to be worked off: the pass is of the hub. Its journal is let go.
     pub fn into_parts(self) -> (Arc<Hub>, Pass, L)
         ensures of_hub { IsCaller (arc_value result.0) result.1 }
         ensures hub { result.0 ≡ self.hub }

@@ -9,7 +9,7 @@ ghost use Rattle.bsc_checks.specs.declared.phase.Phase.{Phase};
 ghost use Rattle.bsc_checks.specs.declared.place.Place.{Place};
 ghost use Rattle.bsc_checks.specs.declared.verdict.Verdict.{Verdict};
 ghost use Rattle.bsc_accept.specs.Messages.{who_asks};
-ghost use Rattle.bsc_verdict.specs.Outcomes.{outcome_of};
+ghost use Rattle.bsc_checks.specs.Outcomes.{outcome_of};
 
 use bsc_checks::{Phase, Place, Verdict, judge};
 use bsc_octets::NoMemory;

@@ -1,16 +1,19 @@
 //! What the job of a session does.
 use crate::job::SessionJob;
-use crate::serving::serve_connection;
+use crate::serving::{serve_connection, serve_guarded, serve_recorded};
 use crate::session_end::SessionEnd;
 use bsc_edge::{Clock, Job, Link};
+use bsc_hub::Hub;
+use bsc_outside::Sink;
+use bsc_policy::Policy;
 use std::sync::Wait;
 
-impl<L: Link + Drop, C: Clock + Drop> Job for SessionJob<L, C> {
+impl<L: Link + Drop, C: Clock + Drop, N: Sink + Drop> Job for SessionJob<L, C, N> {
     ghost use Rattle.bsc_session.specs.Jobs.{Worked};
 
     type Done = SessionEnd;
 
-    ghost works = { Worked L.talk L.faults C.readings };
+    ghost works = { Worked L.talk L.faults C.readings N.held N.faults };
 
     fn work<R: Wait>(self, rt: &R) -> SessionEnd {
         let SessionJob {
@@ -21,12 +24,47 @@ impl<L: Link + Drop, C: Clock + Drop> Job for SessionJob<L, C> {
             clock,
             limits,
             turns,
+            journal,
+            is_recorded,
+            policy,
         } = self;
         let mut pass = pass;
         let mut link = link;
         let mut clock = clock;
+        let mut journal = journal;
+        let here: &Hub = &hub;
+        if let Some(policy) = &policy {
+            let guard: &Policy = policy;
+            let ended = serve_guarded(
+                rt,
+                alloc,
+                here,
+                &mut pass,
+                &mut link,
+                &mut clock,
+                &limits,
+                turns,
+                &mut journal,
+                guard,
+            );
+            return SessionEnd { pass, ended };
+        }
+        if is_recorded {
+            let ended = serve_recorded(
+                rt,
+                alloc,
+                here,
+                &mut pass,
+                &mut link,
+                &mut clock,
+                &limits,
+                turns,
+                &mut journal,
+            );
+            return SessionEnd { pass, ended };
+        }
         let ended = serve_connection(
-            rt, alloc, &hub, &mut pass, &mut link, &mut clock, &limits, turns,
+            rt, alloc, here, &mut pass, &mut link, &mut clock, &limits, turns,
         );
         SessionEnd { pass, ended }
     }

@@ -17,13 +17,13 @@ use Rattle.bsc_checks.specs.declared.verdict.Verdict.{Verdict}
 use Rattle.bsc_checks.specs.declared.verdict.Verdict.TheVariants.{Pass, Carry, Silent, Nak}
 use Rattle.bsc_checks.specs.Places.{dest_in, is_to_carry, origin_in}
 use Rattle.bsc_checks.specs.Table.{checks_of, code_of, head_checks, later_checks}
-use Rattle.bsc_verdict.specs.Failing.{fails}
-use Rattle.bsc_verdict.specs.Options.{data_options_in, rest_of}
-use Rattle.bsc_verdict.specs.Outcomes.{accepted, answered, decided, first_failing, outcome_of, refused}
-use Rattle.bsc_verdict.specs.Payloads.{body_in}
-use Rattle.bsc_verdict.specs.Places.{is_connected, is_in_place, is_response, is_unicast}
+use Rattle.bsc_checks.specs.Failing.{fails}
+use Rattle.bsc_checks.specs.Options.{data_options_in, rest_of}
+use Rattle.bsc_checks.specs.Outcomes.{accepted, answered, decided, first_failing, outcome_of, refused}
+use Rattle.bsc_checks.specs.Payloads.{body_in}
+use Rattle.bsc_checks.specs.PlaceTests.{is_connected, is_in_place, is_response, is_unicast}
 use Rattle.bsc_accept.specs.Messages.{who_asks}
-use Rattle.bsc_verdict.proofs.Common.{carries_when, none_fails, passes_when}
+use Rattle.bsc_checks.proofs.Common.{carries_when, none_fails, passes_when}
 
 -- ---- a message that no check refuses
 

@@ -9,7 +9,7 @@ use Rattle.bsc_edge.specs.declared.fault.LinkFault.TheVariants.{Failed}
 use Rattle.bsc_edge.specs.declared.incoming.Incoming.TheVariants.{Closed, Message}
 use Rattle.bsc_edge.specs.declared.said.Said.{Said}
 use Rattle.bsc_edge.specs.declared.said.Said.TheVariants.{Closed as SaidClosed, Gave, Put}
-use Rattle.bsc_verdict.proofs.OnLiterals.{verdict_on_literals}
+use Rattle.bsc_checks.proofs.OnLiterals.{verdict_on_literals}
 use Rattle.bsc_session.specs.declared.ended.Ended.{Ended}
 use Rattle.bsc_session.specs.declared.why.Why.TheVariants.{JournalFault, PeerClosed}
 use Rattle.bsc_session.specs.Course.{shares}

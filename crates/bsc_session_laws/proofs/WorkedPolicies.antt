@@ -15,7 +15,7 @@ use Rattle.bsc_accept.specs.declared.reason.Reason.TheVariants.{Policy as Policy
 use Rattle.bsc_accept.specs.Reasons.{reason_text}
 use Rattle.bsc_notes.specs.Notes.{denied}
 use Rattle.bsc_lines.specs.declared.denial.Denial.TheVariants.{OfConnect, OfPair}
-use Rattle.bsc_verdict.proofs.OnLiterals.{verdict_on_literals}
+use Rattle.bsc_checks.proofs.OnLiterals.{verdict_on_literals}
 use Rattle.bsc_session.specs.declared.why.Why.TheVariants.{Denied}
 use Rattle.bsc_session.specs.Course.{shares}
 use Rattle.bsc_session.specs.Guarding.{denials, let_through}

@@ -6,7 +6,7 @@ use Rattle.bsc_edge.specs.declared.incoming.Incoming.TheVariants.{Message, Close
 use Rattle.bsc_edge.specs.declared.said.Said.TheVariants.{Gave, Put, Closed as SaidClosed}
 use Rattle.bsc_accept.specs.declared.reason.Reason.TheVariants.{NoMemory as MemoryReason}
 use Rattle.bsc_accept.specs.Reasons.{reason_text}
-use Rattle.bsc_verdict.proofs.OnLiterals.{verdict_on_literals}
+use Rattle.bsc_checks.proofs.OnLiterals.{verdict_on_literals}
 use Rattle.bsc_notes.specs.Notes.{made}
 use Rattle.bsc_session.specs.declared.why.Why.TheVariants.{JournalFault, NoMemory as WhyNoMemory, PeerClosed}
 use Rattle.bsc_session.specs.Answering.{IsHearing}

@@ -10,8 +10,8 @@ use Rattle.bsc_network_laws.proofs.Delivered.{networks_deliver_what_was_sent}
 use Rattle.bsc_world.specs.declared.step_done.StepDone.{StepDone}
 use Rattle.bsc_world.specs.declared.world.World.{World as KeptWorld}
 use Rattle.bsc_world.specs.Standing.{StandsFor, Steps, timed}
-use Rattle.bsc_simulate.specs.Laws.{AddsWhatWasSent}
-use Rattle.bsc_simulate.proofs.Growing.{added_at}
+use Rattle.bsc_network_script_laws.specs.Laws.{AddsWhatWasSent}
+use Rattle.bsc_network_script_laws.proofs.Growing.{added_at}
 
 delivers_more : (added : List Added) (steps : List TimedStep) (t : TimedStep) → deliveries added (steps ++ t ∷ []) ≡ deliveries added steps ++ delivered_at (world added steps) t
 delivers_more added steps t = ap (λ (w : World). w.delivered) (fold-append makes (new_world added) steps (t ∷ [])) ∙ added_at (world added steps) t

@@ -18,35 +18,18 @@ use Rattle.bsc_network.specs.Refusals.{refusal}
 use Rattle.bsc_network.specs.Networks.{dialled_at, delivered_at, world}
 use Rattle.bsc_world.specs.Standing.{StandsFor, Says, Leaves, Steps, clock_of, steps_made, is_spent}
 use Rattle.bsc_simulate.specs.declared.simulation.Simulation.{Simulation}
-use Rattle.bsc_simulate.specs.Written.{step_text}
-use Rattle.bsc_simulate.specs.Scripts.{State, quietly, where_may, names_one, may_be_hub, hub_limits, may_add_hub, may_add_node, adds_hub, adds_node, may_try, at_clock, makes}
+use Rattle.bsc_network_script.specs.Written.{step_text}
+use Rattle.bsc_network_script.specs.Scripts.{State, quietly, where_may, names_one, may_be_hub, hub_limits, may_add_hub, may_add_node, adds_hub, adds_node, may_try, at_clock, makes}
+use Rattle.bsc_network_script_laws.proofs.First.{no_elements, hub_first, node_first}
 use Rattle.bsc_simulate.specs.Holding.{Holds}
 
 -- ---- words
-
-pub no_elements : {A : Type 0} (xs : List A) → length xs ≡ 0 → xs ≡ []
-no_elements [] e = refl
-no_elements (x ∷ xs) e = absurd (omega arith)
 
 -- a line that may stand here, and for which nothing is written
 stands_quietly : (stands : State → Type 0) (b : List ℕ) (may : Bool) (s : State) → may ≡ true → stands s → StandsAs stands b b (where_may may (quietly s))
 stands_quietly stands b may s e h = subst (λ m. StandsAs stands b b (where_may m (quietly s))) (sym e) (h, sym (append-nil b))
 
 -- ---- before the first step
-
--- a hub or a node is added before the first step
-pub hub_first : (made total : ℕ) (who : Identity) → may_add_hub made total who ≡ true → made ≡ 0
-hub_first made total who e =
-    let p = and_parts (nat_eq made 0 && nat_lt total 2) (may_be_hub who) e in
-    let q = and_parts (nat_eq made 0) (nat_lt total 2) p.0 in
-    eqb-true made 0 q.0
-
-pub node_first : (made hub_total node_total : ℕ) (own : Identity) → may_add_node made hub_total node_total own ≡ true → made ≡ 0
-node_first made hub_total node_total own e =
-    let p = and_parts (nat_eq made 0 && nat_le 1 hub_total && nat_lt node_total 64) (names_one own.vmac) e in
-    let q = and_parts (nat_eq made 0 && nat_le 1 hub_total) (nat_lt node_total 64) p.0 in
-    let r = and_parts (nat_eq made 0) (nat_le 1 hub_total) q.0 in
-    eqb-true made 0 r.0
 
 none_made : (it : Simulation) (s : State) → Holds it s → it.steps ≡ 0 → s.steps ≡ []
 none_made it s h e = no_elements s.steps (sym h.steps ∙ e)

@@ -4,7 +4,7 @@ use Rattle.bsc_script.specs.Running.{latest}
 use Rattle.bsc_network.specs.Settings.{hubs, nodes}
 use Rattle.bsc_world.specs.Standing.{StandsFor, clock_of, steps_made, is_spent}
 use Rattle.bsc_simulate.specs.declared.simulation.Simulation.{Simulation}
-use Rattle.bsc_simulate.specs.Scripts.{State}
+use Rattle.bsc_network_script.specs.Scripts.{State}
 
 -- Its world stands for the hubs, the nodes and the steps, at the clock, and found memory until now; what it counts is how many
 -- there are.

@@ -1,5 +1,1 @@
-pub mod Lines
-pub mod Written
-pub mod Scripts
 pub mod Holding
-pub mod Laws

@@ -1,16 +1,15 @@
 //! What a line does.
 ghost use Rattle.std.specs.Prelude.{◌≡◌, ℕ, List, IfOk};
 ghost use Rattle.bsc_player.specs.Languages.{StepsTo};
-ghost use Rattle.bsc_simulate.specs.Scripts.{State, nothing_yet, adds_hub, adds_node, sets, makes, line_after, simulation};
+ghost use Rattle.bsc_network_script.specs.Scripts.{State, nothing_yet, adds_hub, adds_node, sets, makes, line_after, simulation};
 ghost use Rattle.bsc_simulate.specs.Holding.{Holds, HoldsSome};
 
-use crate::line::Line;
 use crate::looking::{may_add_hub, may_add_node, may_set, may_try};
-use crate::reading::read_line;
 use crate::simulation::Simulation;
 use crate::texts::put_done;
 use bsc_history::Limits;
 use bsc_network::{StepRefusal, WorldStep};
+use bsc_network_script::{Line, read_line};
 use bsc_octets::{Identity, NoMemory};
 use bsc_player::{Language, LineFault};
 use bsc_world::World;

@@ -1,25 +1,18 @@
 //! Plays scripts of a whole BACnet/SC network (Annex AB): a script says which hubs and nodes there are and which steps are
 //! made, and what is written is which links were dialled and what was delivered.
 //!
-//! What a script comes to is `simulate_of` in `specs/Scripts.antt`: start there. What a line says is `line_of` in
-//! `specs/Lines.antt`, and the lines that are written are in `specs/Written.antt`. What a step does in the network, and which
-//! is refused, are definitions of `bsc_network`. `simulate` (`src/simulating.rt`) plays a script; the loop that reads, cuts
-//! lines, collects text and writes it is `play_lines` of `bsc_player`.
+//! What a script comes to is `simulate_of` of `bsc_network_script`: start there. What a step does in the network, and which is
+//! refused, are definitions of `bsc_network`. `simulate` (`src/simulating.rt`) plays a script; the loop that reads, cuts lines,
+//! collects text and writes it is `play_lines` of `bsc_player`.
 #![tactic(auto)]
 
 mod carrying;
 mod laws;
-mod line;
 mod looking;
-mod reading;
 mod simulating;
 mod simulation;
 mod texts;
 
 pub use bsc_player::PlayEnd;
-pub use laws::{
-    a_script_delivers_what_was_sent, a_script_is_of_its_steps, a_step_delivers_what_was_sent,
-};
-pub use line::Line;
-pub use reading::read_line;
+pub use laws::a_step_delivers_what_was_sent;
 pub use simulating::simulate;

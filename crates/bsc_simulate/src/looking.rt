@@ -1,6 +1,6 @@
 //! What a line is looked at for before it is carried out.
 ghost use Rattle.std.specs.Prelude.{◌≡◌};
-ghost use Rattle.bsc_simulate.specs.Scripts.{names_one, may_be_hub, may_add_hub, may_add_node, may_set, is_sendable, has_content, may_try};
+ghost use Rattle.bsc_network_script.specs.Scripts.{names_one, may_be_hub, may_add_hub, may_add_node, may_set, is_sendable, has_content, may_try};
 
 use bsc_network::WorldStep;
 use bsc_node::NodeEvent;

@@ -2,8 +2,8 @@
 ghost use Rattle.std.specs.Prelude.{◌≡◌, ◌≤◌, ◌++◌, ℕ, List, Some};
 ghost use Rattle.bsc_outside.specs.Faults.{HasRisen};
 ghost use Rattle.bsc_player.specs.Ends.{PlaysOut};
-ghost use Rattle.bsc_simulate.specs.Scripts.{simulate_of};
-ghost use Rattle.bsc_simulate.specs.Laws.{TellsWhatWasSent};
+ghost use Rattle.bsc_network_script.specs.Scripts.{simulate_of};
+ghost use Rattle.bsc_network_script_laws.specs.Laws.{TellsWhatWasSent};
 
 use crate::simulation::Simulation;
 use bsc_octets::NoMemory;

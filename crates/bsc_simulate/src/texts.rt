@@ -1,7 +1,7 @@
 //! The lines that are written of a step, put at the end of a text.
 ghost use Rattle.std.specs.Prelude.{◌≡◌, ◌++◌, IfOk, codes, decimal, flat_map};
 ghost use Rattle.hex.specs.Hex.{encode_upper};
-ghost use Rattle.bsc_simulate.specs.Written.{numbered, target_words, dialled_line, reach, delivered_words, delivery_line, step_text};
+ghost use Rattle.bsc_network_script.specs.Written.{numbered, target_words, dialled_line, reach, delivered_words, delivery_line, step_text};
 
 use bsc_network::{Dialled, Target, WorldDelivery};
 use bsc_node::Delivered;

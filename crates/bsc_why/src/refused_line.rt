@@ -1,15 +1,20 @@
 //! The rule that the refused line of an input breaks.
 ghost use Rattle.std.specs.Prelude.{◌≡◌, None, IfSome};
 ghost use Rattle.bsc_script.specs.Lines.{line_of as script_line};
-ghost use Rattle.bsc_simulate.specs.Lines.{line_of as network_line};
+ghost use Rattle.bsc_network_script.specs.Lines.{line_of as network_line};
 ghost use Rattle.bsc_check_lines.specs.Asking.{line_of as question_line};
 ghost use Rattle.bsc_journal.specs.declared.said.Said.{Said as SaidOf};
 ghost use Rattle.bsc_journal.specs.Saying.{Says};
 
-use crate::cutting::{before, behind, next_line};
+use crate::cutting::{before, behind};
 use crate::format::Format;
-use crate::reason::Reason;
-use crate::{journal, network, node_script, question, script};
+use crate::links::why_in_network;
+use bsc_diagnostics::{Diagnostic, next_line};
+use bsc_line_diagnostics::{
+    why_check_line, why_journal_line, why_node_line, why_node_place, why_script_line,
+    why_script_place,
+};
+use bsc_network_diagnostics::why_network_line;
 use std::alloc::Global;
 
 /// The most octets of a line of a journal.
@@ -30,7 +35,7 @@ pub struct Seen<'a> {
 }
 
 /// The rule that a line breaks which has no form of a line of a language; None of one that has, and where memory runs out.
-pub fn why_form<'a>(alloc: Global, format: Format, line: &'a [u8]) -> Option<Reason<'a>>
+pub fn why_form<'a>(alloc: Global, format: Format, line: &'a [u8]) -> Option<Diagnostic<'a>>
     // A rule is named only of what the reader refuses.
     ensures script { format ≡ Format.Script → IfSome result (λ reason. script_line line.now ≡ None) }
     ensures network { format ≡ Format.Network → IfSome result (λ reason. network_line line.now ≡ None) }
@@ -38,36 +43,36 @@ pub fn why_form<'a>(alloc: Global, format: Format, line: &'a [u8]) -> Option<Rea
     ensures journal { format ≡ Format.Journal → IfSome result (λ reason. (s : SaidOf) → Says line.now s → ⊥) }
 {
     match format {
-        Format::Script => script::why_form(alloc, line),
-        Format::Network => network::why_form(alloc, line),
-        Format::Question => question::why_form(alloc, line),
-        Format::NodeScript => node_script::why_form(line),
-        Format::Journal => journal::why_form(alloc, line),
+        Format::Script => why_script_line(alloc, line),
+        Format::Network => why_network_line(alloc, line),
+        Format::Question => why_check_line(alloc, line),
+        Format::NodeScript => why_node_line(line),
+        Format::Journal => why_journal_line(alloc, line),
     }
 }
 
 /// The rule that a line breaks which has the form of one, by where it stands behind these lines.
-fn why_place<'a>(alloc: Global, format: Format, before: &[u8], line: &'a [u8]) -> Reason<'a> {
+fn why_place<'a>(alloc: Global, format: Format, before: &[u8], line: &'a [u8]) -> Diagnostic<'a> {
     match format {
-        Format::Script => script::why_place(before, line),
-        Format::Network => network::why_place(alloc, before, line),
-        Format::NodeScript => node_script::why_place(before, line),
-        Format::Question | Format::Journal => Reason::Line {
+        Format::Script => why_script_place(before, line),
+        Format::Network => why_in_network(alloc, before, line),
+        Format::NodeScript => why_node_place(before, line),
+        Format::Question | Format::Journal => Diagnostic::Line {
             rule: "it goes past the most octets that an input may have",
         },
     }
 }
 
 /// The rule that an input breaks whose lines are all accepted.
-fn why_end(format: Format) -> Reason<'static> {
+fn why_end(format: Format) -> Diagnostic<'static> {
     match format {
-        Format::Script | Format::Network => Reason::Line {
+        Format::Script | Format::Network => Diagnostic::Line {
             rule: "the script ends without a hub line",
         },
-        Format::NodeScript => Reason::Line {
+        Format::NodeScript => Diagnostic::Line {
             rule: "the script ends without `finish`",
         },
-        Format::Question | Format::Journal => Reason::Line {
+        Format::Question | Format::Journal => Diagnostic::Line {
             rule: "the input ends too soon",
         },
     }
@@ -82,19 +87,19 @@ fn is_too_long(format: Format, line: &[u8]) -> bool {
 }
 
 /// The rule that a line breaks which is too long.
-fn too_long(format: Format) -> Reason<'static> {
+fn too_long(format: Format) -> Diagnostic<'static> {
     match format {
-        Format::Journal => Reason::Line {
+        Format::Journal => Diagnostic::Line {
             rule: "it is longer than 300,000 octets",
         },
-        _ => Reason::Line {
+        _ => Diagnostic::Line {
             rule: "it is longer than 140,000 octets",
         },
     }
 }
 
 /// The rule that the line with this number breaks, of a whole input.
-fn why_at<'a>(alloc: Global, format: Format, text: &'a [u8], number: u64) -> Reason<'a> {
+fn why_at<'a>(alloc: Global, format: Format, text: &'a [u8], number: u64) -> Diagnostic<'a> {
     let rest = behind(text, number.saturating_sub(1));
     let Some((line, _)) = next_line(rest) else {
         return why_end(format);
@@ -109,7 +114,7 @@ fn why_at<'a>(alloc: Global, format: Format, text: &'a [u8], number: u64) -> Rea
 }
 
 /// The rule that the first line breaks which is refused for itself, of the last part of an input.
-fn why_in<'a>(alloc: Global, format: Format, text: &'a [u8], has_ended: bool) -> Reason<'a> {
+fn why_in<'a>(alloc: Global, format: Format, text: &'a [u8], has_ended: bool) -> Diagnostic<'a> {
     let is_even = has_ended || text.ends_with(b"\n");
     let mut rest = text;
     while let Some((line, after)) = next_line(rest) {
@@ -124,7 +129,7 @@ fn why_in<'a>(alloc: Global, format: Format, text: &'a [u8], has_ended: bool) ->
         }
         rest = after;
     }
-    Reason::Line {
+    Diagnostic::Line {
         rule: "it has the form of a line, but may not stand behind the lines before it",
     }
 }
@@ -132,7 +137,7 @@ fn why_in<'a>(alloc: Global, format: Format, text: &'a [u8], has_ended: bool) ->
 /// The rule that a refused line breaks, by its number, counted from 1, and by what is left of its input.
 ///
 /// Of a whole input it is that line; of the last part of a long one the first line that is refused for itself.
-pub fn why_line<'a>(alloc: Global, format: Format, seen: Seen<'a>, number: u64) -> Reason<'a> {
+pub fn why_line<'a>(alloc: Global, format: Format, seen: Seen<'a>, number: u64) -> Diagnostic<'a> {
     if seen.is_whole {
         why_at(alloc, format, seen.text, number)
     } else {

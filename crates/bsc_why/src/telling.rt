@@ -1,12 +1,11 @@
 //! What is told of a run that ended with a fault.
 use crate::format::Format;
-use crate::kept::Kept;
-use crate::noted_acceptor::DoorNote;
 use crate::refused_line::{Seen, why_line};
-use crate::settings::why_settings;
-use crate::words::why_words;
 use bsc_octets::NoMemory;
+use bsc_recorders::{DoorNote, Kept};
+use bsc_settings_diagnostics::why_settings;
 use bsc_words::{Asked, read_words};
+use bsc_words_diagnostics::why_words;
 use std::alloc::Global;
 use std::io::{self, Eprint};
 use std::net::{Ipv4Addr, Net, SocketAddr};

@@ -28,12 +28,13 @@ module _ (app : App) (words : List Text) (rows : List Row) where
   same_rows : (other : App) → app ≡ other → rows ≡ matches_of app words → matches_of other words ≡ rows
   same_rows other is found = sym (found ∙ ap (λ a. matches_of a words) is)
 
-  pub hub_found : (path sessions : Option Text) (asked : Option AskedOf) → app ≡ hub_app → fault_of app words ≡ [] → rows ≡ matches_of app words
-      → path ≡ first_of (codes "path") rows → sessions ≡ first_of (codes "sessions") rows → asked ≡ hub_of path sessions → hub_asked words ≡ asked
-  hub_found path sessions asked is fine found p s a =
+  pub hub_found : (path sessions journal : Option Text) (asked : Option AskedOf) → app ≡ hub_app → fault_of app words ≡ [] → rows ≡ matches_of app words
+      → path ≡ first_of (codes "path") rows → sessions ≡ first_of (codes "sessions") rows → journal ≡ first_of (codes "journal") rows
+      → asked ≡ hub_of path sessions journal → hub_asked words ≡ asked
+  hub_found path sessions journal asked is fine found p s j a =
       asked_if_fine _ _ (same_fault hub_app is fine)
-      ∙ ap (λ r. hub_of (first_of (codes "path") r) (first_of (codes "sessions") r)) (same_rows hub_app is found)
-      ∙ sym (a ∙ ap₂ hub_of p s)
+      ∙ ap (λ r. hub_of (first_of (codes "path") r) (first_of (codes "sessions") r) (first_of (codes "journal") r)) (same_rows hub_app is found)
+      ∙ sym (a ∙ ap₂ (λ x y. hub_of x y journal) p s ∙ ap (λ z. hub_of (first_of (codes "path") rows) (first_of (codes "sessions") rows) z) j)
 
   pub node_found : (path script : Option Text) (asked : Option AskedOf) → app ≡ node_app → fault_of app words ≡ [] → rows ≡ matches_of app words
       → path ≡ first_of (codes "path") rows → script ≡ first_of (codes "script") rows → asked ≡ node_of path script → node_asked words ≡ asked

@@ -135,7 +135,7 @@ abbrev hub_shape : Shape
 hub_shape = (built hub_app).top
 
 abbrev hub_read : List Row → Option AskedOf
-hub_read rows = hub_of (first_of (codes "path") rows) (first_of (codes "sessions") rows)
+hub_read rows = hub_of (first_of (codes "path") rows) (first_of (codes "sessions") rows) (first_of (codes "journal") rows)
 
 hub_from : (name : Text) (words : List Text) → hub_asked (name ∷ words) ≡ asked_from hub_shape hub_read (at nothing_held 1) words
 hub_from name words = refl
@@ -153,11 +153,11 @@ pub hub_none : (name : Text) → hub_asked (name ∷ []) ≡ None
 unfolding clap_on_literals
 hub_none name = refl
 
-hub_end : (path : Text) → asked_from hub_shape hub_read (at (hub_first path) 2) [] ≡ Some (hub path None)
+hub_end : (path : Text) → asked_from hub_shape hub_read (at (hub_first path) 2) [] ≡ Some (hub path None None)
 unfolding clap_on_literals
 hub_end path = refl
 
-pub hub_one : (name path : Text) → has_hyphen path ≡ false → hub_asked (name ∷ path ∷ []) ≡ Some (hub path None)
+pub hub_one : (name path : Text) → has_hyphen path ≡ false → hub_asked (name ∷ path ∷ []) ≡ Some (hub path None None)
 hub_one name path h = hub_from name (path ∷ []) ∙ hub_step path [] h ∙ hub_end path
 
 hub_stray : (path : Text) → step_fault hub_shape 2 (hub_first path) value ≡ UnknownArgument ∷ []
@@ -187,12 +187,12 @@ hub_third path word =
     let met = option_word (arg_by_id hub_shape.rules (codes "sessions")) (codes "sessions") word held in
     record (awaiting (codes "sessions") held 2) { held = met.0; waiting = met.1 }
 
-served_end : (path word : Text) → asked_from hub_shape hub_read (hub_third path word) [] ≡ option_map (λ n. hub path (Some n)) (sessions_of word)
+served_end : (path word : Text) → asked_from hub_shape hub_read (hub_third path word) [] ≡ option_map (λ n. hub path (Some n) None) (sessions_of word)
 unfolding clap_on_literals
 served_end path word = refl
 
 pub hub_served : (name path word : Text) → has_hyphen path ≡ false → has_hyphen word ≡ false
-    → hub_asked (name ∷ path ∷ codes "--sessions" ∷ word ∷ []) ≡ option_map (λ n. hub path (Some n)) (sessions_of word)
+    → hub_asked (name ∷ path ∷ codes "--sessions" ∷ word ∷ []) ≡ option_map (λ n. hub path (Some n) None) (sessions_of word)
 hub_served name path word h i =
     let held = (hub_second path).held in
     hub_from name (path ∷ codes "--sessions" ∷ word ∷ []) ∙ hub_step path (codes "--sessions" ∷ word ∷ []) h
@@ -201,6 +201,76 @@ hub_served name path word h i =
     ∙ walks_on hub_shape hub_read (awaiting (codes "sessions") held 2) (hub_third path word) word [] (value_turn hub_shape (codes "sessions") held 2 word i)
     (value_walked hub_shape.rules (codes "sessions") held 2 word i)
     ∙ served_end path word
+
+-- and a prefix
+abbrev hub_other : Text → Walk
+hub_other path = walked hub_shape.rules [] (at (hub_first path) 2) (codes "--journal")
+
+other_turn : (path : Text) → turn_fault hub_shape [] (at (hub_first path) 2) (codes "--journal") ≡ []
+unfolding clap_on_literals
+other_turn path = refl
+
+other_walked : (path : Text) → hub_other path ≡ awaiting (codes "journal") (hub_other path).held 2
+unfolding clap_on_literals
+other_walked path = refl
+
+abbrev hub_prefixed : Text → Text → Walk
+hub_prefixed path prefix =
+    let held = (hub_other path).held in
+    let met = option_word (arg_by_id hub_shape.rules (codes "journal")) (codes "journal") prefix held in
+    record (awaiting (codes "journal") held 2) { held = met.0; waiting = met.1 }
+
+recorded_end : (path prefix : Text) → asked_from hub_shape hub_read (hub_prefixed path prefix) [] ≡ Some (hub path None (Some prefix))
+unfolding clap_on_literals
+recorded_end path prefix = refl
+
+pub hub_recorded : (name path prefix : Text) → has_hyphen path ≡ false → has_hyphen prefix ≡ false
+    → hub_asked (name ∷ path ∷ codes "--journal" ∷ prefix ∷ []) ≡ Some (hub path None (Some prefix))
+hub_recorded name path prefix h i =
+    let held = (hub_other path).held in
+    hub_from name (path ∷ codes "--journal" ∷ prefix ∷ []) ∙ hub_step path (codes "--journal" ∷ prefix ∷ []) h
+    ∙ walks_on hub_shape hub_read (at (hub_first path) 2) (awaiting (codes "journal") held 2) (codes "--journal") (prefix ∷ [])
+    (other_turn path) (other_walked path)
+    ∙ walks_on hub_shape hub_read (awaiting (codes "journal") held 2) (hub_prefixed path prefix) prefix [] (value_turn hub_shape (codes "journal") held 2 prefix i)
+    (value_walked hub_shape.rules (codes "journal") held 2 prefix i)
+    ∙ recorded_end path prefix
+
+-- and both
+abbrev hub_fourth : Text → Text → Walk
+hub_fourth path word = walked hub_shape.rules [] (hub_third path word) (codes "--journal")
+
+fourth_turn : (path word : Text) → turn_fault hub_shape [] (hub_third path word) (codes "--journal") ≡ []
+unfolding clap_on_literals
+fourth_turn path word = refl
+
+fourth_walked : (path word : Text) → hub_fourth path word ≡ awaiting (codes "journal") (hub_fourth path word).held 2
+unfolding clap_on_literals
+fourth_walked path word = refl
+
+abbrev hub_fifth : Text → Text → Text → Walk
+hub_fifth path word prefix =
+    let held = (hub_fourth path word).held in
+    let met = option_word (arg_by_id hub_shape.rules (codes "journal")) (codes "journal") prefix held in
+    record (awaiting (codes "journal") held 2) { held = met.0; waiting = met.1 }
+
+both_end : (path word prefix : Text) → asked_from hub_shape hub_read (hub_fifth path word prefix) [] ≡ option_map (λ n. hub path (Some n) (Some prefix)) (sessions_of word)
+unfolding clap_on_literals
+both_end path word prefix = refl
+
+pub hub_both : (name path word prefix : Text) → has_hyphen path ≡ false → has_hyphen word ≡ false → has_hyphen prefix ≡ false
+    → hub_asked (name ∷ path ∷ codes "--sessions" ∷ word ∷ codes "--journal" ∷ prefix ∷ []) ≡ option_map (λ n. hub path (Some n) (Some prefix)) (sessions_of word)
+hub_both name path word prefix h i j =
+    let held = (hub_second path).held in
+    let more = (hub_fourth path word).held in
+    hub_from name (path ∷ codes "--sessions" ∷ word ∷ codes "--journal" ∷ prefix ∷ []) ∙ hub_step path (codes "--sessions" ∷ word ∷ codes "--journal" ∷ prefix ∷ []) h
+    ∙ walks_on hub_shape hub_read (at (hub_first path) 2) (awaiting (codes "sessions") held 2) (codes "--sessions") (word ∷ codes "--journal" ∷ prefix ∷ [])
+    (option_turn path) (option_walked path)
+    ∙ walks_on hub_shape hub_read (awaiting (codes "sessions") held 2) (hub_third path word) word (codes "--journal" ∷ prefix ∷ []) (value_turn hub_shape (codes "sessions") held 2 word i)
+    (value_walked hub_shape.rules (codes "sessions") held 2 word i)
+    ∙ walks_on hub_shape hub_read (hub_third path word) (awaiting (codes "journal") more 2) (codes "--journal") (prefix ∷ []) (fourth_turn path word) (fourth_walked path word)
+    ∙ walks_on hub_shape hub_read (awaiting (codes "journal") more 2) (hub_fifth path word prefix) prefix [] (value_turn hub_shape (codes "journal") more 2 prefix j)
+    (value_walked hub_shape.rules (codes "journal") more 2 prefix j)
+    ∙ both_end path word prefix
 
 -- ---- `node` takes two paths
 

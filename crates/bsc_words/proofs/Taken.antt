@@ -1,5 +1,5 @@
 -- What words ask for as lists of a command and all that it takes.
-use Rattle.std.proofs.Common.{◌≡◌, ◌∙◌, ◌==◌, ◌&&◌, ℕ, Bool, true, false, not, codes, length, List, [], ◌∷◌, nat_le, refl, sym, ap, true≢false}
+use Rattle.std.proofs.Common.{◌≡◌, ◌∙◌, ◌==◌, ◌&&◌, ℕ, Bool, true, false, not, codes, length, List, [], ◌∷◌, nat_le, refl, sym, ap, ap₂, true≢false}
 use Rattle.std.proofs.Common.{Option, Some, None, is_some, option_map}
 use Rattle.std.proofs.lemmas.Bool.{and_parts, not-true, eqb-true}
 use Rattle.std.specs.Prelude.{if◌then◌else◌}
@@ -12,7 +12,7 @@ use Rattle.bsc_words.specs.Words.{AskedOf, replay, simulate, check, audit, hub, 
 use Rattle.bsc_words.specs.Words.{replay_asked, simulate_asked, check_asked, audit_asked, hub_asked, node_asked, load_asked, asked_by}
 use Rattle.bsc_words.specs.Listed.{has_hyphen, have_no_hyphen, has_plain_paths, listed, listed_alone, listed_hub, listed_node, listed_load}
 use Rattle.bsc_words.proofs.Plain.{replay_alone, replay_more, simulate_alone, simulate_more, check_alone, check_more, audit_alone, audit_more}
-use Rattle.bsc_words.proofs.Plain.{hub_none, hub_one, hub_more, hub_served}
+use Rattle.bsc_words.proofs.Plain.{hub_none, hub_one, hub_more, hub_served, hub_recorded, hub_both}
 use Rattle.bsc_words.proofs.Plain.{node_none, node_one, node_two, node_more, load_none, load_one, load_more}
 
 -- two choices by one test
@@ -48,6 +48,10 @@ no_option : (word : Text) → has_hyphen word ≡ false → same_octets word (co
 no_option [] h = refl
 no_option (c ∷ word) h = rw h refl
 
+no_prefix : (word : Text) → has_hyphen word ≡ false → same_octets word (codes "--journal") ≡ false
+no_prefix [] h = refl
+no_prefix (c ∷ word) h = rw h refl
+
 hub_plain : (name : Text) (words : List Text) → have_no_hyphen words ≡ true → hub_asked (name ∷ words) ≡ listed_hub words
 hub_plain name [] h = hub_none name
 hub_plain name (path ∷ []) h = hub_one name path (first_plain path [] h)
@@ -55,11 +59,20 @@ hub_plain name (path ∷ next ∷ []) h = hub_more name path next [] (first_plai
 hub_plain name (path ∷ next ∷ word ∷ []) h =
     let i : has_hyphen next ≡ false = first_plain next (word ∷ []) (rest_plain path (next ∷ word ∷ []) h) in
     let other : same_octets next (codes "--sessions") ≡ false = no_option next i in
+    let another : same_octets next (codes "--journal") ≡ false = no_prefix next i in
     hub_more name path next (word ∷ []) (first_plain path (next ∷ word ∷ []) h) i
-    ∙ sym (ap (λ b. if b then option_map (λ n. hub path (Some n)) (sessions_of word) else None) other)
-hub_plain name (path ∷ next ∷ word ∷ more ∷ words) h =
-    hub_more name path next (word ∷ more ∷ words) (first_plain path (next ∷ word ∷ more ∷ words) h)
-    (first_plain next (word ∷ more ∷ words) (rest_plain path (next ∷ word ∷ more ∷ words) h))
+    ∙ sym (ap₂ (λ b d. if b then option_map (λ n. hub path (Some n) None) (sessions_of word) else if d then Some (hub path None (Some word)) else None) other another)
+hub_plain name (path ∷ next ∷ word ∷ more ∷ []) h =
+    hub_more name path next (word ∷ more ∷ []) (first_plain path (next ∷ word ∷ more ∷ []) h)
+    (first_plain next (word ∷ more ∷ []) (rest_plain path (next ∷ word ∷ more ∷ []) h))
+hub_plain name (path ∷ next ∷ word ∷ more ∷ prefix ∷ []) h =
+    let i : has_hyphen next ≡ false = first_plain next (word ∷ more ∷ prefix ∷ []) (rest_plain path (next ∷ word ∷ more ∷ prefix ∷ []) h) in
+    let other : same_octets next (codes "--sessions") ≡ false = no_option next i in
+    hub_more name path next (word ∷ more ∷ prefix ∷ []) (first_plain path (next ∷ word ∷ more ∷ prefix ∷ []) h) i
+    ∙ sym (ap (λ b. if b && same_octets more (codes "--journal") then option_map (λ n. hub path (Some n) (Some prefix)) (sessions_of word) else None) other)
+hub_plain name (path ∷ next ∷ word ∷ more ∷ prefix ∷ last ∷ words) h =
+    hub_more name path next (word ∷ more ∷ prefix ∷ last ∷ words) (first_plain path (next ∷ word ∷ more ∷ prefix ∷ last ∷ words) h)
+    (first_plain next (word ∷ more ∷ prefix ∷ last ∷ words) (rest_plain path (next ∷ word ∷ more ∷ prefix ∷ last ∷ words) h))
 
 node_plain : (name : Text) (words : List Text) → have_no_hyphen words ≡ true → node_asked (name ∷ words) ≡ listed_node words
 node_plain name [] h = node_none name
@@ -140,29 +153,66 @@ audit_good : (name : Text) (words : List Text) → is_some (listed_alone audit w
 audit_good name [] s = audit_alone name
 audit_good name (word ∷ words) s = absurd (true≢false (sym s))
 
-mapped_plain : (path : Text) (o : Option ℕ) → is_some (option_map (λ n. hub path (Some n)) o) ≡ true → plain_in (option_map (λ n. hub path (Some n)) o) ≡ true
-    → has_hyphen path ≡ false
+mapped_plain : (path : Text) (o : Option ℕ) → is_some (option_map (λ n. hub path (Some n) None) o) ≡ true
+    → plain_in (option_map (λ n. hub path (Some n) None) o) ≡ true → has_hyphen path ≡ false
 mapped_plain path None s h = absurd (true≢false (sym s))
 mapped_plain path (Some n) s h = not-true (has_hyphen path) h
 
-hub_sessions : (name path option word : Text) (b : Bool) → same_octets option (codes "--sessions") ≡ b
-    → is_some (if b then option_map (λ n. hub path (Some n)) (sessions_of word) else None) ≡ true
-    → plain_in (if b then option_map (λ n. hub path (Some n)) (sessions_of word) else None) ≡ true
-    → hub_asked (name ∷ path ∷ option ∷ word ∷ []) ≡ (if b then option_map (λ n. hub path (Some n)) (sessions_of word) else None)
-hub_sessions name path option word false e s h = absurd (true≢false (sym s))
-hub_sessions name path option word true e s h =
+-- a path and a prefix that begin with no hyphen
+both_plain : (path prefix : Text) → not (has_hyphen path) && not (has_hyphen prefix) ≡ true → (has_hyphen path ≡ false) × (has_hyphen prefix ≡ false)
+both_plain path prefix h =
+    let each = and_parts (not (has_hyphen path)) (not (has_hyphen prefix)) h in
+    (not-true (has_hyphen path) each.0, not-true (has_hyphen prefix) each.1)
+
+mapped_both : (path prefix : Text) (o : Option ℕ) → is_some (option_map (λ n. hub path (Some n) (Some prefix)) o) ≡ true
+    → plain_in (option_map (λ n. hub path (Some n) (Some prefix)) o) ≡ true → (has_hyphen path ≡ false) × (has_hyphen prefix ≡ false)
+mapped_both path prefix None s h = absurd (true≢false (sym s))
+mapped_both path prefix (Some n) s h = both_plain path prefix h
+
+abbrev one_of : Text → Text → Bool → Bool → Option AskedOf
+one_of path word b d = if b then option_map (λ n. hub path (Some n) None) (sessions_of word) else if d then Some (hub path None (Some word)) else None
+
+hub_option : (name path option word : Text) (b d : Bool) → same_octets option (codes "--sessions") ≡ b → same_octets option (codes "--journal") ≡ d
+    → is_some (one_of path word b d) ≡ true → plain_in (one_of path word b d) ≡ true
+    → hub_asked (name ∷ path ∷ option ∷ word ∷ []) ≡ one_of path word b d
+hub_option name path option word false false e f s h = absurd (true≢false (sym s))
+hub_option name path option word false true e f s h =
+    let is : option ≡ codes "--journal" = (bytes_decides option (codes "--journal")).0 f in
+    let each = both_plain path word h in
+    ap (λ o. hub_asked (name ∷ path ∷ o ∷ word ∷ [])) is ∙ hub_recorded name path word each.0 each.1
+hub_option name path option word true d e f s h =
     let is : option ≡ codes "--sessions" = (bytes_decides option (codes "--sessions")).0 e in
     ap (λ o. hub_asked (name ∷ path ∷ o ∷ word ∷ [])) is
     ∙ hub_served name path word (mapped_plain path (sessions_of word) s h)
-    (number_plain word 1000000 (sym (some_mapped (λ n. hub path (Some n)) (sessions_of word)) ∙ s))
+    (number_plain word 1000000 (sym (some_mapped (λ n. hub path (Some n) None) (sessions_of word)) ∙ s))
+
+abbrev both_of : Text → Text → Text → Bool → Option AskedOf
+both_of path word prefix b = if b then option_map (λ n. hub path (Some n) (Some prefix)) (sessions_of word) else None
+
+hub_options : (name path option word next prefix : Text) (b : Bool) → same_octets option (codes "--sessions") && same_octets next (codes "--journal") ≡ b
+    → is_some (both_of path word prefix b) ≡ true → plain_in (both_of path word prefix b) ≡ true
+    → hub_asked (name ∷ path ∷ option ∷ word ∷ next ∷ prefix ∷ []) ≡ both_of path word prefix b
+hub_options name path option word next prefix false e s h = absurd (true≢false (sym s))
+hub_options name path option word next prefix true e s h =
+    let are = and_parts (same_octets option (codes "--sessions")) (same_octets next (codes "--journal")) e in
+    let is : option ≡ codes "--sessions" = (bytes_decides option (codes "--sessions")).0 are.0 in
+    let is_next : next ≡ codes "--journal" = (bytes_decides next (codes "--journal")).0 are.1 in
+    let each = mapped_both path prefix (sessions_of word) s h in
+    ap₂ (λ o q. hub_asked (name ∷ path ∷ o ∷ word ∷ q ∷ prefix ∷ [])) is is_next
+    ∙ hub_both name path word prefix each.0
+    (number_plain word 1000000 (sym (some_mapped (λ n. hub path (Some n) (Some prefix)) (sessions_of word)) ∙ s)) each.1
 
 hub_good : (name : Text) (words : List Text) → is_some (listed_hub words) ≡ true → plain_in (listed_hub words) ≡ true
     → hub_asked (name ∷ words) ≡ listed_hub words
 hub_good name [] s h = absurd (true≢false (sym s))
 hub_good name (path ∷ []) s h = hub_one name path (not-true (has_hyphen path) h)
 hub_good name (path ∷ option ∷ []) s h = absurd (true≢false (sym s))
-hub_good name (path ∷ option ∷ word ∷ []) s h = hub_sessions name path option word (same_octets option (codes "--sessions")) refl s h
-hub_good name (path ∷ option ∷ word ∷ more ∷ words) s h = absurd (true≢false (sym s))
+hub_good name (path ∷ option ∷ word ∷ []) s h =
+    hub_option name path option word (same_octets option (codes "--sessions")) (same_octets option (codes "--journal")) refl refl s h
+hub_good name (path ∷ option ∷ word ∷ next ∷ []) s h = absurd (true≢false (sym s))
+hub_good name (path ∷ option ∷ word ∷ next ∷ prefix ∷ []) s h =
+    hub_options name path option word next prefix (same_octets option (codes "--sessions") && same_octets next (codes "--journal")) refl s h
+hub_good name (path ∷ option ∷ word ∷ next ∷ prefix ∷ last ∷ words) s h = absurd (true≢false (sym s))
 
 node_good : (name : Text) (words : List Text) → is_some (listed_node words) ≡ true → plain_in (listed_node words) ≡ true
     → node_asked (name ∷ words) ≡ listed_node words

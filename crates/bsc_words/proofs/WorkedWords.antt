@@ -37,19 +37,19 @@ unfolding clap_on_literals
 audits_a_file = refl
 
 -- a hub, in each order of its words
-serves : asked_by (codes "hub" ∷ codes "a" ∷ []) ≡ Some (hub (codes "a") None)
+serves : asked_by (codes "hub" ∷ codes "a" ∷ []) ≡ Some (hub (codes "a") None None)
 unfolding clap_on_literals
 serves = refl
 
-serves_three : asked_by (codes "hub" ∷ codes "a" ∷ codes "--sessions" ∷ codes "3" ∷ []) ≡ Some (hub (codes "a") (Some 3))
+serves_three : asked_by (codes "hub" ∷ codes "a" ∷ codes "--sessions" ∷ codes "3" ∷ []) ≡ Some (hub (codes "a") (Some 3) None)
 unfolding clap_on_literals
 serves_three = refl
 
-serves_three_at_first : asked_by (codes "hub" ∷ codes "--sessions" ∷ codes "3" ∷ codes "a" ∷ []) ≡ Some (hub (codes "a") (Some 3))
+serves_three_at_first : asked_by (codes "hub" ∷ codes "--sessions" ∷ codes "3" ∷ codes "a" ∷ []) ≡ Some (hub (codes "a") (Some 3) None)
 unfolding clap_on_literals
 serves_three_at_first = refl
 
-serves_three_in_one_word : asked_by (codes "hub" ∷ codes "--sessions=3" ∷ codes "a" ∷ []) ≡ Some (hub (codes "a") (Some 3))
+serves_three_in_one_word : asked_by (codes "hub" ∷ codes "--sessions=3" ∷ codes "a" ∷ []) ≡ Some (hub (codes "a") (Some 3) None)
 unfolding clap_on_literals
 serves_three_in_one_word = refl
 
@@ -57,7 +57,7 @@ serves_none : asked_by (codes "hub" ∷ codes "a" ∷ codes "--sessions" ∷ cod
 unfolding clap_on_literals
 serves_none = refl
 
-serves_a_million : asked_by (codes "hub" ∷ codes "a" ∷ codes "--sessions" ∷ codes "1000000" ∷ []) ≡ Some (hub (codes "a") (Some 1000000))
+serves_a_million : asked_by (codes "hub" ∷ codes "a" ∷ codes "--sessions" ∷ codes "1000000" ∷ []) ≡ Some (hub (codes "a") (Some 1000000) None)
 unfolding clap_on_literals
 serves_a_million = refl
 
@@ -77,8 +77,26 @@ serves_twice : asked_by (codes "hub" ∷ codes "a" ∷ codes "--sessions" ∷ co
 unfolding clap_on_literals
 serves_twice = refl
 
+serves_with_journals : asked_by (codes "hub" ∷ codes "a" ∷ codes "--journal" ∷ codes "j" ∷ []) ≡ Some (hub (codes "a") None (Some (codes "j")))
+unfolding clap_on_literals
+serves_with_journals = refl
+
+serves_three_with_journals :
+    asked_by (codes "hub" ∷ codes "--journal" ∷ codes "j" ∷ codes "a" ∷ codes "--sessions" ∷ codes "3" ∷ [])
+    ≡ Some (hub (codes "a") (Some 3) (Some (codes "j")))
+unfolding clap_on_literals
+serves_three_with_journals = refl
+
+serves_without_a_prefix : asked_by (codes "hub" ∷ codes "a" ∷ codes "--journal" ∷ []) ≡ None
+unfolding clap_on_literals
+serves_without_a_prefix = refl
+
+serves_with_two_prefixes : asked_by (codes "hub" ∷ codes "a" ∷ codes "--journal" ∷ codes "j" ∷ codes "--journal" ∷ codes "k" ∷ []) ≡ None
+unfolding clap_on_literals
+serves_with_two_prefixes = refl
+
 -- paths that begin with a hyphen
-hyphen : asked_by (codes "hub" ∷ codes "-" ∷ []) ≡ Some (hub (codes "-") None)
+hyphen : asked_by (codes "hub" ∷ codes "-" ∷ []) ≡ Some (hub (codes "-") None None)
 unfolding clap_on_literals
 hyphen = refl
 
@@ -86,7 +104,7 @@ hyphen_a : asked_by (codes "hub" ∷ codes "-a" ∷ []) ≡ None
 unfolding clap_on_literals
 hyphen_a = refl
 
-hyphen_a_at_the_end : asked_by (codes "hub" ∷ codes "--" ∷ codes "-a" ∷ []) ≡ Some (hub (codes "-a") None)
+hyphen_a_at_the_end : asked_by (codes "hub" ∷ codes "--" ∷ codes "-a" ∷ []) ≡ Some (hub (codes "-a") None None)
 unfolding clap_on_literals
 hyphen_a_at_the_end = refl
 

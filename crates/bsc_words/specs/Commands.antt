@@ -1,4 +1,4 @@
--- The commands as arguments of `clap`: `replay`, `simulate`, `check`, `audit`, `hub PATH [--sessions N]`, `node PATH SCRIPT`, `load N`.
+-- The commands as arguments of `clap`: `replay`, `simulate`, `check`, `audit`, `hub PATH [--sessions N] [--journal PREFIX]`, `node PATH SCRIPT`, `load N`.
 use Rattle.std.specs.Prelude.{true, codes, Some}
 use Rattle.clap.specs.Words.{App, Rule, Text, new_app, new_rule, with_rule}
 
@@ -23,7 +23,8 @@ abbrev pub audit_app : App
 audit_app = new_app (codes "audit")
 
 abbrev pub hub_app : App
-hub_app = with_rule (with_rule (new_app (codes "hub")) (required (codes "path"))) (option (codes "sessions"))
+hub_app =
+    with_rule (with_rule (with_rule (new_app (codes "hub")) (required (codes "path"))) (option (codes "sessions"))) (option (codes "journal"))
 
 abbrev pub node_app : App
 node_app = with_rule (with_rule (new_app (codes "node")) (required (codes "path"))) (required (codes "script"))

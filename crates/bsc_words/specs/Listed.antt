@@ -19,11 +19,15 @@ abbrev pub listed_alone : AskedOf → List Text → Option AskedOf
 listed_alone asked [] = Some asked
 listed_alone asked (word ∷ words) = None
 
--- `PATH`, and `PATH --sessions N`
+-- `PATH`, `PATH --sessions N`, `PATH --journal PREFIX`, and `PATH --sessions N --journal PREFIX`
 abbrev pub listed_hub : List Text → Option AskedOf
-listed_hub (path ∷ []) = Some (hub path None)
+listed_hub (path ∷ []) = Some (hub path None None)
 listed_hub (path ∷ option ∷ word ∷ []) =
-    if same_octets option (codes "--sessions") then option_map (λ n. hub path (Some n)) (sessions_of word) else None
+    if same_octets option (codes "--sessions") then option_map (λ n. hub path (Some n) None) (sessions_of word)
+    else if same_octets option (codes "--journal") then Some (hub path None (Some word)) else None
+listed_hub (path ∷ option ∷ word ∷ next ∷ prefix ∷ []) =
+    if same_octets option (codes "--sessions") && same_octets next (codes "--journal")
+    then option_map (λ n. hub path (Some n) (Some prefix)) (sessions_of word) else None
 listed_hub words = None
 
 -- `PATH SCRIPT`
@@ -47,13 +51,15 @@ listed_of name words =
     else if same_octets name (codes "load") then listed_load words
     else None
 
--- What exactly the lists `replay`, `simulate`, `check`, `audit`, `hub PATH`, `hub PATH --sessions N`, `node PATH SCRIPT` and `load N` ask for.
+-- What exactly the lists `replay`, `simulate`, `check`, `audit`, `hub PATH`, `hub PATH --sessions N`, `hub PATH --journal PREFIX`,
+-- `hub PATH --sessions N --journal PREFIX`, `node PATH SCRIPT` and `load N` ask for.
 abbrev pub listed : List Text → Option AskedOf
 listed [] = None
 listed (name ∷ words) = listed_of name words
 
--- whether the paths in what is asked for begin with no hyphen
+-- whether the paths and the prefix in what is asked for begin with no hyphen
 abbrev pub has_plain_paths : AskedOf → Bool
-has_plain_paths (hub path sessions) = not (has_hyphen path)
+has_plain_paths (hub path sessions None) = not (has_hyphen path)
+has_plain_paths (hub path sessions (Some prefix)) = not (has_hyphen path) && not (has_hyphen prefix)
 has_plain_paths (node path script) = not (has_hyphen path) && not (has_hyphen script)
 has_plain_paths asked = true

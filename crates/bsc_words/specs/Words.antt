@@ -8,14 +8,15 @@ use Rattle.bsc_words.specs.declared.asked.Asked.{Asked}
 use Rattle.bsc_words.specs.declared.asked.Asked.TheVariants.{Replay, Simulate, Check, Audit, Hub, Node, Load}
 
 -- What words may ask for: a script of one hub is played, or one of a network; lines are checked; journals are audited; a hub
--- is served by the settings at a path, until so many links have ended or for ever; a node is run by the settings at a path
+-- is served by the settings at a path, until so many links have ended or for ever, and with journals under a prefix or without; a
+-- node is run by the settings at a path
 -- and the script at another; or a workload is run by so many workers.
 pub data AskedOf : Type 0 where
   replay : AskedOf
   simulate : AskedOf
   check : AskedOf
   audit : AskedOf
-  hub : Text → Option ℕ → AskedOf
+  hub : Text → Option ℕ → Option Text → AskedOf
   node : Text → Text → AskedOf
   load : ℕ → AskedOf
 
@@ -36,11 +37,11 @@ sessions_of word = up_to 1000000 (number_of word)
 abbrev pub workers_of : Text → Option ℕ
 workers_of word = up_to 512 (number_of word)
 
--- a hub by its path and what is said of its sessions, where both are good
-abbrev pub hub_of : Option Text → Option Text → Option AskedOf
-hub_of None sessions = None
-hub_of (Some path) None = Some (hub path None)
-hub_of (Some path) (Some word) = option_map (λ n. hub path (Some n)) (sessions_of word)
+-- a hub by its path, what is said of its sessions, where both are good, and the prefix of its journals
+abbrev pub hub_of : Option Text → Option Text → Option Text → Option AskedOf
+hub_of None sessions journal = None
+hub_of (Some path) None journal = Some (hub path None journal)
+hub_of (Some path) (Some word) journal = option_map (λ n. hub path (Some n) journal) (sessions_of word)
 
 -- a node by its path and its script
 abbrev pub node_of : Option Text → Option Text → Option AskedOf
@@ -73,7 +74,8 @@ audit_asked words = unless (fault_of audit_app words) (Some audit)
 
 abbrev pub hub_asked : List Text → Option AskedOf
 hub_asked words =
-    unless (fault_of hub_app words) (hub_of (value_of hub_app words (codes "path")) (value_of hub_app words (codes "sessions")))
+    unless (fault_of hub_app words)
+    (hub_of (value_of hub_app words (codes "path")) (value_of hub_app words (codes "sessions")) (value_of hub_app words (codes "journal")))
 
 abbrev pub node_asked : List Text → Option AskedOf
 node_asked words =
@@ -111,6 +113,6 @@ seen Replay = replay
 seen Simulate = simulate
 seen Check = check
 seen Audit = audit
-seen (Hub path sessions) = hub path.now sessions
+seen (Hub path sessions journal) = hub path.now sessions (option_map (λ p. p.now) journal)
 seen (Node path script) = node path.now script.now
 seen (Load workers) = load workers

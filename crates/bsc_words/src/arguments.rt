@@ -14,13 +14,17 @@ pub(crate) fn no_arguments<'a>(alloc: Global, name: &'a str) -> Command<'a>
     Command::new(alloc, name)
 }
 
-/// `hub PATH [--sessions N]`.
+/// `hub PATH [--sessions N] [--journal PREFIX]`.
 pub(crate) fn hub_arguments<'a>(alloc: Global) -> Result<Command<'a>, NoMemory>
     ensures { IfOk result (λ c. app_of c ≡ hub_app) }
 {
     let path = Arg::new(alloc, "path").required(true);
     let sessions = Arg::new(alloc, "sessions").long("sessions");
-    let command = Command::new(alloc, "hub").arg(path)?.arg(sessions)?;
+    let journal = Arg::new(alloc, "journal").long("journal");
+    let command = Command::new(alloc, "hub")
+        .arg(path)?
+        .arg(sessions)?
+        .arg(journal)?;
     Ok(command)
 }
 

@@ -11,12 +11,14 @@ pub enum Asked<'a> {
     Check,
     /// `audit`: says whether journals tell one legal history of one hub.
     Audit,
-    /// `hub PATH`, `hub PATH --sessions N`: serves a hub.
+    /// `hub PATH`, with `--sessions N` and `--journal PREFIX` where they are there: serves a hub.
     Hub {
         /// Where the settings are.
         path: &'a str,
         /// How many links are served: 1 to 1,000,000; None for ever.
         sessions: Option<u64>,
+        /// Under what prefix journals are kept, if they are.
+        journal: Option<&'a str>,
     },
     /// `node PATH SCRIPT`: runs a node.
     Node {

@@ -4,8 +4,8 @@ ghost use Rattle.clap.specs.Words.{Text};
 ghost use Rattle.bsc_words.specs.Words.{AskedOf, asked_by};
 ghost use Rattle.bsc_words.specs.Listed.{have_no_hyphen, has_plain_paths, listed};
 
-/// A list that names a command and all that it takes, the option last, asks for just that, where its paths begin with no
-/// hyphen.
+/// A list that names a command and all that it takes, the options last, asks for just that, where its paths and its prefix
+/// begin with no hyphen.
 pub fn listed_words_are_taken()
     ensures { (words : List Text) (asked : AskedOf) → listed words ≡ Some asked → has_plain_paths asked ≡ true
         → asked_by words ≡ Some asked }

@@ -57,19 +57,26 @@ fn read_workers(word: &[u8]) -> Option<u32>
     }
 }
 
-/// A hub by its path and what is said of its sessions.
-fn hub_of<'a>(path: Option<&'a str>, sessions: Option<&'a str>) -> Option<Asked<'a>>
-    ensures { option_map seen result ≡ hub_of (option_map (λ s. s.now) path.entry) (option_map (λ s. s.now) sessions.entry) }
+/// A hub by its path, what is said of its sessions, and the prefix of its journals.
+fn hub_of<'a>(
+    path: Option<&'a str>,
+    sessions: Option<&'a str>,
+    journal: Option<&'a str>,
+) -> Option<Asked<'a>>
+    ensures { option_map seen result ≡ hub_of (option_map (λ s. s.now) path.entry) (option_map (λ s. s.now) sessions.entry)
+        (option_map (λ s. s.now) journal.entry) }
 {
     let path = path?;
     match sessions {
         Some(word) => Some(Asked::Hub {
             path,
             sessions: Some(read_sessions(word.as_bytes())?),
+            journal,
         }),
         None => Some(Asked::Hub {
             path,
             sessions: None,
+            journal,
         }),
     }
 }
@@ -142,7 +149,10 @@ fn read_hub<'a>(alloc: Global, words: &'a [String]) -> Result<Asked<'a>, WordsFa
     ensures refused { result ≡ Err words_fault.Refused → hub_asked (map string_bytes words.entry.now) ≡ None }
 {
     let matches = parse(hub_arguments(alloc)?, words)?;
-    match hub_of(value_at(&matches, "path"), value_at(&matches, "sessions")) {
+    let path = value_at(&matches, "path");
+    let sessions = value_at(&matches, "sessions");
+    let journal = value_at(&matches, "journal");
+    match hub_of(path, sessions, journal) {
         Some(asked) => Ok(asked),
         None => Err(WordsFault::Refused),
     }
@@ -192,8 +202,9 @@ fn read_run<'a>(alloc: Global, name: &[u8], words: &'a [String]) -> Result<Asked
 /// What the words of the program ask for, the program's own name not among them.
 ///
 /// The first word is `replay`, `simulate`, `check`, `audit`, `hub`, `node` or `load`, and the words after it are read by
-/// `clap` as the arguments of that command: `hub` takes a path, and `--sessions` with a number from 1 to 1,000,000; `node` a path and the
-/// path of a script; `load` a number from 1 to 512; the others take none. A call for help is refused.
+/// `clap` as the arguments of that command: `hub` takes a path, `--sessions` with a number from 1 to 1,000,000, and
+/// `--journal` with a prefix; `node` a path and the path of a script; `load` a number from 1 to 512; the others take
+/// none. A call for help is refused.
 ///
 /// | error | when it comes |
 /// |---|---|

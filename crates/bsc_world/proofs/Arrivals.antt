@@ -26,7 +26,7 @@ use Rattle.bsc_world.specs.Standing.{StandsAs}
 use Rattle.bsc_world.specs.declared.kept_link.KeptLink.{KeptLink}
 use Rattle.std.specs.Prelude.{IfSome}
 use Rattle.bsc_world.proofs.LinkWays.{link_there}
-use Rattle.bsc_world.specs.Becoming.{Became, Becomes, Did, Does, DoesWhere, Goes, Keeps, StandsDoing}
+use Rattle.bsc_world.specs.Becoming.{Became, Becomes, Did, Does, DoesWhere, BecomesBusy, Keeps, StandsDoing}
 use Rattle.bsc_world.proofs.Goings.{busy_more, did_both, did_became, did_clock}
 use Rattle.bsc_world.proofs.Doings.{did_same}
 use Rattle.std.proofs.lemmas.Option.{same_Some as some_same}
@@ -100,7 +100,7 @@ lose_nothing t k l way d named base w at s told = by (node_at w k) refl
 
 -- ---- at a hub
 
-pub becomes_of : (l : ℕ) (f : Change) (t u : KeptWorld) → Goes (Some l) None f t u → Becomes f t u
+pub becomes_of : (l : ℕ) (f : Change) (t u : KeptWorld) → BecomesBusy (Some l) None f t u → Becomes f t u
 becomes_of l f t u p F w at s = p F w at (busy_more t F l w s)
 
 -- ---- the front of a way

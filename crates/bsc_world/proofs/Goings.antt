@@ -10,7 +10,7 @@ use Rattle.bsc_network.specs.Changes.{Change}
 use Rattle.bsc_network.specs.Networks.{dialled_from}
 use Rattle.bsc_world.specs.Kept.{IsReady}
 use Rattle.bsc_world.specs.Standing.{AreReadyBut, StandsAs}
-use Rattle.bsc_world.specs.Becoming.{Ends, ends, Became, Goes, Stands, HasSide, IsToldSince, Did, Does}
+use Rattle.bsc_world.specs.Becoming.{Ends, ends, Became, BecomesBusy, Stands, HasSide, IsToldSince, Did, Does}
 use Rattle.bsc_network.proofs.Places.{one_or_two}
 use Rattle.bsc_world.proofs.Spots.{stands_same}
 
@@ -31,10 +31,10 @@ became_both t u v F b c w x y p q = record {
 pub at_clock : (t u : KeptWorld) (F : List LinkName) (c : Option ℕ) (w x : World) → w.now ≡ t.clock → Became t u F c w x → x.now ≡ u.clock
 at_clock t u F c w x at p = p.now ∙ at ∙ sym p.clock
 
-pub goes_both : (a b c : Option ℕ) (f g : Change) (t u v : KeptWorld) → Goes a b f t u → Goes b c g u v → Goes a c (λ w. g (f w)) t v
+pub goes_both : (a b c : Option ℕ) (f g : Change) (t u v : KeptWorld) → BecomesBusy a b f t u → BecomesBusy b c g u v → BecomesBusy a c (λ w. g (f w)) t v
 goes_both a b c f g t u v p q F w at s = (let first = p F w at s in became_both t u v F b c w (f w) (g (f w)) first (q F (f w) (at_clock t u F b w (f w) at first) first.stands))
 
-pub stands_goes : (b c : Option ℕ) (f : Change) (t u : KeptWorld) → Goes b c f t u → Stands b t → Stands c u
+pub stands_goes : (b c : Option ℕ) (f : Change) (t u : KeptWorld) → BecomesBusy b c f t u → Stands b t → Stands c u
 stands_goes b c f t u p (F, w, at, s) = (let first = p F w at s in (F, f w, at_clock t u F c w (f w) at first, first.stands))
 
 -- nothing has changed

@@ -15,10 +15,10 @@ use Rattle.bsc_node.specs.Node.{goes_on, actions_at}
 use Rattle.bsc_node.specs.Events.{follows}
 use Rattle.bsc_node.specs.Laws.{draws, with_event}
 use Rattle.bsc_node.specs.Conditions.{brings_word, fits, is_start, may_come}
-use Rattle.bsc_node.specs.Soundness.{begins_in_slots}
+use Rattle.bsc_node.specs.Links.{begins_in_slots}
 use Rattle.bsc_node.proofs.Following.{opened-dialled, goes_on-is}
 use Rattle.bsc_node_core.specs.declared.node.Node.{Node as Core}
-use Rattle.bsc_node_core.specs.Node.{StandsFor as CoreStandsFor, Answers}
+use Rattle.bsc_node_core.specs.Node.{StandsFor as CoreStandsFor, NodeAnswers}
 use Rattle.bsc_world.specs.declared.kept_node.KeptNode.{KeptNode}
 use Rattle.bsc_world.specs.declared.world.World.{World as KeptWorld}
 use Rattle.bsc_network.specs.Worlds.{World, Node}
@@ -97,7 +97,7 @@ module _ (n : Node) (now : ℕ) (e : NodeEvent) (kept : KeptNode) (k : IsNodeKep
   kept_with lines after core bvlc uri holds started = record { core = core; bvlc = bvlc ∙ k.bvlc; uri = uri ∙ k.uri; started = started; holds = holds ∙ k.holds; named = k.named }
 
   -- The core drew no word.
-  pub heard_one : (after : KeptNode) (actions : List Action) → Answers kept.node after.node event actions → list_any draws actions ≡ false → after.max_bvlc ≡ kept.max_bvlc → after.uri ≡ kept.uri → after.holds.items ≡ kept.holds.items → after.has_started ≡ (kept.has_started || is_start_event e)
+  pub heard_one : (after : KeptNode) (actions : List Action) → NodeAnswers kept.node after.node event actions → list_any draws actions ≡ false → after.max_bvlc ≡ kept.max_bvlc → after.uri ≡ kept.uri → after.holds.items ≡ kept.holds.items → after.has_started ≡ (kept.has_started || is_start_event e)
       → HasHeard n now e actions after
   heard_one after actions answers none bvlc uri holds started =
       let ans = answers n.made n.log k.core may in
@@ -113,7 +113,7 @@ module _ (n : Node) (now : ℕ) (e : NodeEvent) (kept : KeptNode) (k : IsNodeKep
       }
 
   -- The core drew a word, and was told that there is none.
-  pub heard_two : (mid : Core) (after : KeptNode) (actions more : List Action) → Answers kept.node mid event actions → Answers mid after.node (record { now = now; event = NoRandom }) more → list_any draws actions ≡ true → after.max_bvlc ≡ kept.max_bvlc → after.uri ≡ kept.uri → after.holds.items ≡ kept.holds.items → after.has_started ≡ (kept.has_started || is_start_event e)
+  pub heard_two : (mid : Core) (after : KeptNode) (actions more : List Action) → NodeAnswers kept.node mid event actions → NodeAnswers mid after.node (record { now = now; event = NoRandom }) more → list_any draws actions ≡ true → after.max_bvlc ≡ kept.max_bvlc → after.uri ≡ kept.uri → after.holds.items ≡ kept.holds.items → after.has_started ≡ (kept.has_started || is_start_event e)
       → HasHeard n now e (actions ++ more) after
   heard_two mid after actions more answers then_answers drawn bvlc uri holds started =
       let none : TimedEvent = record { now = now; event = NoRandom } in

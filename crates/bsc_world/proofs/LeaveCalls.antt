@@ -37,7 +37,7 @@ use Rattle.bsc_network.specs.HubSides.{leaves, leaves_as, unless_over}
 use Rattle.bsc_world.specs.Sides.{IsSideOf}
 use Rattle.bsc_world.specs.Kept.{IsConnKept, IsConnKeptIf, IsLinkKept, IsSideKept, IsSideKeptIf, IsWayKept}
 use Rattle.bsc_world.specs.Standing.{AreReadyBut, IsHubAt, StandsAs}
-use Rattle.bsc_world.specs.Becoming.{Became, Goes, Stands, ends}
+use Rattle.bsc_world.specs.Becoming.{Became, BecomesBusy, Stands, ends}
 use Rattle.bsc_network.proofs.Places.{get-changed, get-other, get-set_other, length-changed, one_or_two}
 use Rattle.bsc_world.proofs.Spots.{LinkChange, link_changed}
 use Rattle.bsc_world.proofs.Goings.{became_as, settles}
@@ -155,7 +155,7 @@ module _ (t u : KeptWorld) (F : List LinkName) (w : World) (l : ℕ) (side : Opt
 
 -- ---- the cases
 
-pub leave_nowhere : (t : KeptWorld) (l : ℕ) → length t.links.items ≤ l → Goes (Some l) None (unless_over l (leaves l)) t t
+pub leave_nowhere : (t : KeptWorld) (l : ℕ) → length t.links.items ≤ l → BecomesBusy (Some l) None (unless_over l (leaves l)) t t
 leave_nowhere t l past F w at s =
     let none = no_link_at t F (Some l) w l s past in
     let same : unless_over l (leaves l) w ≡ w = of_side_none w l _ none in
@@ -169,7 +169,7 @@ leave_nowhere t l past F w at s =
       stands = settles t F l w s (λ k side got is. absurd (not_some (slice_get t.links.items l) k (slice_get_past t.links.items l past) got));
     })
 
-pub leave_node : (t u : KeptWorld) (l k : ℕ) (side : Option KeptSide) (kept after : KeptLink) → slice_get t.links.items l ≡ Some kept → OnLink t u l after → u.hubs.items ≡ t.hubs.items → LetsGo side kept after → kept.to ≡ ToNode k → Goes (Some l) None (unless_over l (leaves l)) t u
+pub leave_node : (t u : KeptWorld) (l k : ℕ) (side : Option KeptSide) (kept after : KeptLink) → slice_get t.links.items l ≡ Some kept → OnLink t u l after → u.hubs.items ≡ t.hubs.items → LetsGo side kept after → kept.to ≡ ToNode k → BecomesBusy (Some l) None (unless_over l (leaves l)) t u
 leave_node t u l k side kept after was o hubs g to F w at s =
     let x = link_there t F (Some l) w l kept s was in
     let leads : x.0.to ≡ ToNode k = sym x.2.to ∙ to in
@@ -179,7 +179,7 @@ leave_node t u l k side kept after was o hubs g to F w at s =
     apart : (a b : ℕ) → ToNode a ≡ ToHub b → ⊥
     apart a b e = cc
 
-pub leave_gone : (t u : KeptWorld) (l j : ℕ) (side : Option KeptSide) (kept after : KeptLink) → slice_get t.links.items l ≡ Some kept → OnLink t u l after → u.hubs.items ≡ t.hubs.items → LetsGo side kept after → kept.to ≡ ToHub j → side ≡ None → Goes (Some l) None (unless_over l (leaves l)) t u
+pub leave_gone : (t u : KeptWorld) (l j : ℕ) (side : Option KeptSide) (kept after : KeptLink) → slice_get t.links.items l ≡ Some kept → OnLink t u l after → u.hubs.items ≡ t.hubs.items → LetsGo side kept after → kept.to ≡ ToHub j → side ≡ None → BecomesBusy (Some l) None (unless_over l (leaves l)) t u
 leave_gone t u l j side kept after was o hubs g to none F w at s =
     let x = side_at t F (Some l) w l j kept s was to in
     let over : x.link.side.is_over ≡ true = subst (IsSideKeptIf l x.hub x.at.marks x.at.kept.desk x.link) (sym g.was ∙ none) x.side in
@@ -193,7 +193,7 @@ leaves_is w l j h link c p is =
     ∙ of_side_is w l j h link (λ i y x. in_order (leaves_as i l x.side x.side.conn ∷ with_side l (λ z. record z { is_over = true }) ∷ [])) p.there p.to p.hub
     ∙ ap (λ (o : Option ℕ). with_link l is_over_now (leaves_as j l link.side o w)) is
 
-pub leave_alone : (t u : KeptWorld) (l j : ℕ) (side : Option KeptSide) (k : KeptSide) (kept after : KeptLink) → slice_get t.links.items l ≡ Some kept → OnLink t u l after → u.hubs.items ≡ t.hubs.items → LetsGo side kept after → kept.to ≡ ToHub j → side ≡ Some k → k.joined ≡ None → Goes (Some l) None (unless_over l (leaves l)) t u
+pub leave_alone : (t u : KeptWorld) (l j : ℕ) (side : Option KeptSide) (k : KeptSide) (kept after : KeptLink) → slice_get t.links.items l ≡ Some kept → OnLink t u l after → u.hubs.items ≡ t.hubs.items → LetsGo side kept after → kept.to ≡ ToHub j → side ≡ Some k → k.joined ≡ None → BecomesBusy (Some l) None (unless_over l (leaves l)) t u
 leave_alone t u l j side k kept after was o hubs g to some none F w at s =
     let x = side_at t F (Some l) w l j kept s was to in
     let p : IsSideKept l x.hub x.at.marks x.at.kept.desk x.link k = subst (IsSideKeptIf l x.hub x.at.marks x.at.kept.desk x.link) (sym g.was ∙ some) x.side in
@@ -290,7 +290,7 @@ hub_left t u w v l j place kept after k hub x q left there here none else links_
     subst (λ (d : Entry). IsHubAt u v j (with_entry h d place)) is at
 
 pub leave_joined : (t u : KeptWorld) (l j : ℕ) (side : Option KeptSide) (k : KeptSide) (c : KeptConn) (kept after : KeptLink) (hub hub_after : KeptHub) → slice_get t.links.items l ≡ Some kept → OnLink t u l after → hub ≡ get_or t.hubs.items j hub → u.hubs.items ≡ set t.hubs.items j hub_after → LetsGo side kept after → kept.to ≡ ToHub j → side ≡ Some k → k.joined ≡ Some c
-    → ((S : List Stamped) → DeskStandsFor hub.desk S → HasLeft S l c hub hub_after) → Goes (Some l) None (unless_over l (leaves l)) t u
+    → ((S : List Stamped) → DeskStandsFor hub.desk S → HasLeft S l c hub hub_after) → BecomesBusy (Some l) None (unless_over l (leaves l)) t u
 leave_joined t u l j side k c kept after hub hub_after was o read hubs g to some joined left F w at s =
     let x = side_at t F (Some l) w l j kept s was to in
     let a = x.at in

@@ -37,7 +37,7 @@ use Rattle.bsc_network.specs.Changes.{Change, by_target, in_order, of_hub, puts_
 use Rattle.bsc_network.specs.HubSides.{carries_out, closes, leaves, of_side, start, step_at, tells, told, unless_over}
 use Rattle.bsc_world.specs.Kept.{IsConnKeptIf, IsLinkKept, IsReady, IsSideKept, IsSideKeptIf}
 use Rattle.bsc_world.specs.Standing.{AreReadyBut, StandsAs}
-use Rattle.bsc_world.specs.Becoming.{Became, Goes, HasSide, Keeps, Stands, ends}
+use Rattle.bsc_world.specs.Becoming.{Became, BecomesBusy, HasSide, Keeps, Stands, ends}
 use Rattle.bsc_world.specs.Sides.{IsReadyBy, IsSideOf, KeepsSides}
 use Rattle.bsc_world.specs.SideCalls.{Finds, HasNoSession, HasSession, Tells, asks}
 use Rattle.bsc_network.proofs.Places.{get-changed, get-set_other}
@@ -141,17 +141,17 @@ put_goes_on t u l f finds p b F w at s = (let x = finds F b w s in became_as t u
 pub put_nothing : (t : KeptWorld) (l : ℕ) (f : Change) → Finds false t l → Keeps (unless_over l f) t t
 put_nothing t l f finds b F w at s = became_as t t F b w w (unless_over l f w) (sym (unless_none w l f (finds F b w s))) (became_same t t F b w refl refl refl refl refl refl s)
 
-then_closes : (t u v : KeptWorld) (l : ℕ) (content : Content) (g : Change) → Keeps (unless_over l (puts_now l Down content)) t u → Goes (Some l) None (unless_over l g) u v → Goes (Some l) None (unless_over l (λ w. g (puts_now l Down content w))) t v
+then_closes : (t u v : KeptWorld) (l : ℕ) (content : Content) (g : Change) → Keeps (unless_over l (puts_now l Down content)) t u → BecomesBusy (Some l) None (unless_over l g) u v → BecomesBusy (Some l) None (unless_over l (λ w. g (puts_now l Down content w))) t v
 then_closes t u v l content g p q F w at s =
     became_as t v F None w (unless_over l g (unless_over l (puts_now l Down content) w)) (unless_over l (λ y. g (puts_now l Down content y)) w)
     (unless_then l (puts_now l Down content) g w (λ j h x i. put_session w l j h x w.steps content i))
     (goes_both (Some l) (Some l) None (unless_over l (puts_now l Down content)) (unless_over l g) t u v (p (Some l)) q F w at s)
 
-pub close_goes : (t u v : KeptWorld) (l : ℕ) → Keeps (unless_over l (puts_now l Down Closed)) t u → Goes (Some l) None (unless_over l (leaves l)) u v → Goes (Some l) None (unless_over l (closes l)) t v
+pub close_goes : (t u v : KeptWorld) (l : ℕ) → Keeps (unless_over l (puts_now l Down Closed)) t u → BecomesBusy (Some l) None (unless_over l (leaves l)) u v → BecomesBusy (Some l) None (unless_over l (closes l)) t v
 close_goes t u v l p q = then_closes t u v l Closed (leaves l) p q
 
-pub reply_close_goes : (t u v : KeptWorld) (l : ℕ) (octets : List ℕ) → Keeps (unless_over l (puts_now l Down (Message octets))) t u → Goes (Some l) None (unless_over l (closes l)) u v
-    → Goes (Some l) None (unless_over l (in_order (puts_now l Down (Message octets) ∷ closes l ∷ []))) t v
+pub reply_close_goes : (t u v : KeptWorld) (l : ℕ) (octets : List ℕ) → Keeps (unless_over l (puts_now l Down (Message octets))) t u → BecomesBusy (Some l) None (unless_over l (closes l)) u v
+    → BecomesBusy (Some l) None (unless_over l (in_order (puts_now l Down (Message octets) ∷ closes l ∷ []))) t v
 reply_close_goes t u v l octets p q = then_closes t u v l (Message octets) (closes l) p q
 
 -- ---- ready sides
@@ -176,10 +176,10 @@ still_ready t l s c a ready kept side got is = ready_by s c a side (ready kept s
 became_settled : (t u : KeptWorld) (F : List LinkName) (l : ℕ) (w v : World) → Became t u F (Some l) w v → HasSide u l IsReady → Became t u F None w v
 became_settled t u F l w v p ready = record { clock = p.clock; spent = p.spent; now = p.now; steps = p.steps; links = p.links; delivered = p.delivered; stands = settles u F l v p.stands ready }
 
-pub reply_goes : (t u : KeptWorld) (l : ℕ) (f : Change) → Keeps (unless_over l f) t u → HasSide u l IsReady → Goes (Some l) None (unless_over l f) t u
+pub reply_goes : (t u : KeptWorld) (l : ℕ) (f : Change) → Keeps (unless_over l f) t u → HasSide u l IsReady → BecomesBusy (Some l) None (unless_over l f) t u
 reply_goes t u l f p ready F w at s = became_settled t u F l w (unless_over l f w) (p (Some l) F w at s) ready
 
-pub idle_goes : (t : KeptWorld) (l : ℕ) → HasSide t l IsReady → Goes (Some l) None (unless_over l unchanged) t t
+pub idle_goes : (t : KeptWorld) (l : ℕ) → HasSide t l IsReady → BecomesBusy (Some l) None (unless_over l unchanged) t t
 idle_goes t l ready F w at s =
     became_settled t t F l w (unless_over l unchanged w)
     (became_as t t F (Some l) w w (unless_over l unchanged w) (sym (unless_unchanged l w)) (became_same t t F (Some l) w refl refl refl refl refl refl s)) ready
@@ -285,8 +285,8 @@ pub told_stands : (t u : KeptWorld) (l : ℕ) (kept after : KeptLink) (s : Step)
 told_stands t u l kept after s e was o hubs p (F, w, at, st) = (let i = is_told t u F w l kept after s e was o hubs p st in (F, told l e w, at_clock t u F (Some l) w (told l e w) at i.became, i.became.stands))
 
 -- Its step is carried out.
-pub tells_goes : (t u v : KeptWorld) (l : ℕ) (kept after : KeptLink) (s : Step) (e : Event) → slice_get t.links.items l ≡ Some kept → OnLink t u l after → u.hubs.items ≡ t.hubs.items → Tells s e kept after → Goes (Some l) None (unless_over l (carries_out l s)) u v
-    → Goes (Some l) None (unless_over l (tells l e)) t v
+pub tells_goes : (t u v : KeptWorld) (l : ℕ) (kept after : KeptLink) (s : Step) (e : Event) → slice_get t.links.items l ≡ Some kept → OnLink t u l after → u.hubs.items ≡ t.hubs.items → Tells s e kept after → BecomesBusy (Some l) None (unless_over l (carries_out l s)) u v
+    → BecomesBusy (Some l) None (unless_over l (tells l e)) t v
 tells_goes t u v l kept after s e was o hubs p q F w at st =
     let i = is_told t u F w l kept after s e was o hubs p st in
     let next : IsSideOf (told l e w) l i.hub i.h (hears e i.link) = side_with w l i.hub i.h i.link (hears e) i.side refl refl in
@@ -311,13 +311,13 @@ pub same_stands : (t u : KeptWorld) (l : ℕ) (kept after : KeptLink) → slice_
 same_stands t u l kept after was o hubs same b (F, w, at, s) = (let p = same_after t u l kept after was o hubs same F b w s in (F, w, at ∙ sym o.clock, p.stands))
 
 -- the session isn't there, and is let go
-pub left_goes : (t u : KeptWorld) (l : ℕ) (change : Change) → ((F : List LinkName) (b : Option ℕ) (w : World) → StandsAs t F b w → HasNoSession w l) → Goes (Some l) None (unless_over l (leaves l)) t u → Goes (Some l) None (unless_over l change) t u
+pub left_goes : (t u : KeptWorld) (l : ℕ) (change : Change) → ((F : List LinkName) (b : Option ℕ) (w : World) → StandsAs t F b w → HasNoSession w l) → BecomesBusy (Some l) None (unless_over l (leaves l)) t u → BecomesBusy (Some l) None (unless_over l change) t u
 left_goes t u l change none p F w at s =
     let n = none F (Some l) w s in
     became_as t u F None w (unless_over l (leaves l) w) (unless_over l change w) (unless_none w l (leaves l) n ∙ sym (unless_none w l change n)) (p F w at s)
 
 pub same_left_goes : (t u v : KeptWorld) (l : ℕ) (change : Change) (kept after : KeptLink) → slice_get t.links.items l ≡ Some kept → OnLink t u l after → u.hubs.items ≡ t.hubs.items → after ≡ kept → ((j : ℕ) → kept.to ≡ ToHub j → kept.side ≡ None)
-    → Goes (Some l) None (unless_over l (leaves l)) u v → Goes (Some l) None (unless_over l change) t v
+    → BecomesBusy (Some l) None (unless_over l (leaves l)) u v → BecomesBusy (Some l) None (unless_over l change) t v
 same_left_goes t u v l change kept after was o hubs same none p F w at s =
     let n = alone_session t l kept was none F (Some l) w s in
     let first = same_after t u l kept after was o hubs same F (Some l) w s in
@@ -386,5 +386,5 @@ ended_ready t l kept after s now ending was p st at named =
 pub busy_stands : (t : KeptWorld) (l : ℕ) → Stands None t → Stands (Some l) t
 busy_stands t l (F, w, at, s) = (F, w, at, busy_more t F l w s)
 
-pub ended_goes : (t v : KeptWorld) (l : ℕ) (ending : End) → Goes (Some l) None (unless_over l (tells l (Ended t.clock ending))) t v → (F : List LinkName) (w : World) → w.now ≡ t.clock → StandsAs t F None w → Became t v F None w (unless_over l (tells l (Ended w.now ending)) w)
+pub ended_goes : (t v : KeptWorld) (l : ℕ) (ending : End) → BecomesBusy (Some l) None (unless_over l (tells l (Ended t.clock ending))) t v → (F : List LinkName) (w : World) → w.now ≡ t.clock → StandsAs t F None w → Became t v F None w (unless_over l (tells l (Ended w.now ending)) w)
 ended_goes t v l ending p F w at s = subst (λ (n : ℕ). Became t v F None w (unless_over l (tells l (Ended n ending)) w)) (sym at) (p F w at (busy_more t F l w s))

@@ -24,7 +24,7 @@ use Rattle.bsc_network.specs.HubCalls.{called, entry_in, is_worn, reply_in}
 use Rattle.bsc_network.specs.HubSides.{closes, connects, forwards, gets_reply, joins_by, tells, unless_over}
 use Rattle.bsc_world.specs.Kept.{IsConnKeptIf, IsSideKept, IsSideKeptIf}
 use Rattle.bsc_world.specs.Standing.{StandsAs}
-use Rattle.bsc_world.specs.Becoming.{Became, Becomes, Goes, HasSide, Stands}
+use Rattle.bsc_world.specs.Becoming.{Became, Becomes, BecomesBusy, HasSide, Stands}
 use Rattle.bsc_world.specs.Sides.{IsSideOf, KeepsMachine, WasAsked, WasPassed}
 use Rattle.bsc_world.specs.SideCalls.{Finds}
 use Rattle.bsc_network.proofs.Places.{get-changed}
@@ -57,11 +57,11 @@ connects_is w l j h x place who p =
     unless_over_is w l j h x (connects l place who) p
     ∙ of_side_is w l j h x (λ i y z v. cond (is_worn y) (closes l) (joins_by i l place who (reply_in v y (Connect who))) v) p.there p.to p.hub
 
-pub worn_goes : (t u v : KeptWorld) (l place : ℕ) (who : Identity) → Finds true t l → Asks AskedWorn t u l place who → Goes (Some l) None (unless_over l (closes l)) u v → Goes (Some l) None (unless_over l (connects l place who)) t v
+pub worn_goes : (t u v : KeptWorld) (l place : ℕ) (who : Identity) → Finds true t l → Asks AskedWorn t u l place who → BecomesBusy (Some l) None (unless_over l (closes l)) u v → BecomesBusy (Some l) None (unless_over l (connects l place who)) t v
 worn_goes t u v l place who finds asked p F w at s =
     let x = finds F (Some l) w s in
     let a = asked F w at s x.0 x.1 x.2 x.3 in
-    let q : Goes (Some l) None (unless_over l (closes l)) t v = subst (λ y. Goes (Some l) None (unless_over l (closes l)) y v) a.1 p in
+    let q : BecomesBusy (Some l) None (unless_over l (closes l)) t v = subst (λ y. BecomesBusy (Some l) None (unless_over l (closes l)) y v) a.1 p in
     became_as t v F None w (unless_over l (closes l) w) (unless_over l (connects l place who) w)
     (unless_over_is w l x.0 x.1 x.2 (closes l) x.3
     ∙ sym (connects_is w l x.0 x.1 x.2 place who x.3 ∙ ap (λ b. cond b (closes l) (joins_by x.0 l place who (reply_in w x.1 (Connect who))) w) a.0))
@@ -76,7 +76,7 @@ worn_stands t u l place who finds asked (F, w, at, s) =
 abbrev seats : ℕ → HubSide → HubSide
 seats conn s = record s { conn = Some conn }
 
-pub joined_goes : (t u v : KeptWorld) (l place : ℕ) (who : Identity) → Finds true t l → Asks AskedJoined t u l place who → Goes (Some l) None (unless_over l (tells l Joined)) u v → Goes (Some l) None (unless_over l (connects l place who)) t v
+pub joined_goes : (t u v : KeptWorld) (l place : ℕ) (who : Identity) → Finds true t l → Asks AskedJoined t u l place who → BecomesBusy (Some l) None (unless_over l (tells l Joined)) u v → BecomesBusy (Some l) None (unless_over l (connects l place who)) t v
 joined_goes t u v l place who finds asked p F w at s =
     let x = finds F (Some l) w s in
     let a = asked F w at s x.0 x.1 x.2 x.3 in
@@ -100,7 +100,7 @@ joined_stands t u l place who finds asked (F, w, at, s) =
     let made : Became t u F (Some l) w y = a.1.3 in
     (F, y, at_clock t u F (Some l) w y at made, made.stands)
 
-pub refused_goes : (t u v : KeptWorld) (l place : ℕ) (who : Identity) (refusal : Refusal) → Finds true t l → Asks (AskedRefused refusal) t u l place who → Goes (Some l) None (unless_over l (tells l (Refused refusal))) u v → Goes (Some l) None (unless_over l (connects l place who)) t v
+pub refused_goes : (t u v : KeptWorld) (l place : ℕ) (who : Identity) (refusal : Refusal) → Finds true t l → Asks (AskedRefused refusal) t u l place who → BecomesBusy (Some l) None (unless_over l (tells l (Refused refusal))) u v → BecomesBusy (Some l) None (unless_over l (connects l place who)) t v
 refused_goes t u v l place who refusal finds asked p F w at s =
     let x = finds F (Some l) w s in
     let a = asked F w at s x.0 x.1 x.2 x.3 in
@@ -175,12 +175,12 @@ made_passes t u l place m finds passed F w at s =
     ∙ ap (λ (o : Option ℕ). with_found o (λ c. cond (is_worn x.1) (closes l) (called x.0 l place (Forward c m))) w) a.1
     ∙ ap (λ b. cond b (closes l) (called x.0 l place (Forward a.0 m)) w) a.2)) a.3
 
-pub worn_passes : (t u v : KeptWorld) (l place : ℕ) (m : List ℕ) → Finds true t l → Passes PassedWorn t u l place m → Goes (Some l) None (unless_over l (closes l)) u v → Becomes (unless_over l (forwards l place m)) t v
+pub worn_passes : (t u v : KeptWorld) (l place : ℕ) (m : List ℕ) → Finds true t l → Passes PassedWorn t u l place m → BecomesBusy (Some l) None (unless_over l (closes l)) u v → Becomes (unless_over l (forwards l place m)) t v
 worn_passes t u v l place m finds passed p F w at s =
     let x = finds F None w s in
     let a = passed F w at s x.0 x.1 x.2 x.3 in
     let c : ℕ = a.0.0 in
-    let q : Goes (Some l) None (unless_over l (closes l)) t v = subst (λ y. Goes (Some l) None (unless_over l (closes l)) y v) a.2 p in
+    let q : BecomesBusy (Some l) None (unless_over l (closes l)) t v = subst (λ y. BecomesBusy (Some l) None (unless_over l (closes l)) y v) a.2 p in
     became_as t v F None w (unless_over l (closes l) w) (unless_over l (forwards l place m) w)
     (unless_over_is w l x.0 x.1 x.2 (closes l) x.3
     ∙ sym (forwards_is w l x.0 x.1 x.2 place m x.3

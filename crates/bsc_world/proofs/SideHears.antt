@@ -16,7 +16,7 @@ use Rattle.bsc_accept.specs.declared.step.Step.TheVariants.{Ask, Reply, ReplyClo
 use Rattle.bsc_accept.specs.Past.{Standing, awaiting_request, standing, phase, phase_named}
 use Rattle.bsc_accept.specs.Steps.{message_step}
 use Rattle.bsc_accept.specs.Standing.{StandsFor as MachineStandsFor, IsOpen, IsOver, phase_of, is_open}
-use Rattle.bsc_verdict.specs.Outcomes.{outcome_of}
+use Rattle.bsc_checks.specs.Outcomes.{outcome_of}
 use Rattle.bsc_script.proofs.Judging.{routed, asking_node, other_vmac}
 use Rattle.bsc_script.proofs.Outboxes.{open_phase}
 use Rattle.bsc_script.proofs.Settling.{same_phase}
@@ -32,7 +32,7 @@ use Rattle.bsc_network.specs.Changes.{Change, in_order}
 use Rattle.bsc_network.specs.HubSides.{acts_on, carries_out, hears as hears_at, receives, start, step_at, told, unless_over, verdict_on}
 use Rattle.bsc_world.specs.Kept.{IsReady, IsSideKept, IsSideKeptIf}
 use Rattle.bsc_world.specs.Standing.{StandsAs}
-use Rattle.bsc_world.specs.Becoming.{Became, Becomes, Goes, HasSide, Stands}
+use Rattle.bsc_world.specs.Becoming.{Became, Becomes, BecomesBusy, HasSide, Stands}
 use Rattle.bsc_world.specs.Sides.{Heard, IsReadyBy, IsSideOf}
 use Rattle.bsc_world.specs.SideCalls.{HasMachine, HasNoSession, Hears, IsFor, IsPort, IsReadyFor, Tells, asks}
 use Rattle.bsc_world.proofs.Goings.{at_clock, became_as, became_both, became_same, busy_more, settles}
@@ -162,7 +162,7 @@ past_hub t l j kept was to past F b w s i h x p = (let y = side_at t F b w l j k
 
 -- ---- what is done about it
 
-pub settled_goes : (t u : KeptWorld) (l : ℕ) (f : Change) → HasSide t l IsReady → Becomes f t u → Goes (Some l) None f t u
+pub settled_goes : (t u : KeptWorld) (l : ℕ) (f : Change) → HasSide t l IsReady → Becomes f t u → BecomesBusy (Some l) None f t u
 settled_goes t u l f ready p F w at s = p F w at (settles t F l w s ready)
 
 pub settled_stands : (t : KeptWorld) (l : ℕ) → HasSide t l IsReady → Stands (Some l) t → Stands None t
@@ -193,7 +193,7 @@ heard_stands t u l m s hears (F, w, at, st) =
     let v = told l (Came w.now (verdict_on a.1 a.2 m)) w in
     (F, v, at_clock t u F (Some l) w v at a.5, a.5.stands)
 
-pub receives_goes : (t u v : KeptWorld) (l place : ℕ) (m : List ℕ) (s : Step) → ((F : List LinkName) (w : World) → w.now ≡ t.clock → StandsAs t F None w → Heard (Some s) l m t u F w) → Goes (Some l) None (unless_over l (acts_on l place m s)) u v → Becomes (unless_over l (receives l place m)) t v
+pub receives_goes : (t u v : KeptWorld) (l place : ℕ) (m : List ℕ) (s : Step) → ((F : List LinkName) (w : World) → w.now ≡ t.clock → StandsAs t F None w → Heard (Some s) l m t u F w) → BecomesBusy (Some l) None (unless_over l (acts_on l place m s)) u v → Becomes (unless_over l (receives l place m)) t v
 receives_goes t u v l place m s hears q F w at st =
     let a = hears F w at st in
     let e = Came w.now (verdict_on a.1 a.2 m) in

@@ -33,17 +33,17 @@ pub record Became (old new : KeptWorld) (failed : List LinkName) (busy : Option 
 
 -- For whatever network it was kept while the side of link `before` was busy, it is kept at the changed one, and the side of
 -- link `after` is busy.
-abbrev pub Goes : Option ℕ → Option ℕ → Change → KeptWorld → KeptWorld → Type 0
-Goes before after change old new = (failed : List LinkName) (w : World)
+abbrev pub BecomesBusy : Option ℕ → Option ℕ → Change → KeptWorld → KeptWorld → Type 0
+BecomesBusy before after change old new = (failed : List LinkName) (w : World)
     → w.now ≡ old.clock → StandsAs old failed before w → Became old new failed after w (change w)
 
 -- The same, where none is busy before and after.
 abbrev pub Becomes : Change → KeptWorld → KeptWorld → Type 0
-Becomes change old new = Goes None None change old new
+Becomes change old new = BecomesBusy None None change old new
 
 -- The same, whichever is busy.
 abbrev pub Keeps : Change → KeptWorld → KeptWorld → Type 0
-Keeps change old new = (busy : Option ℕ) → Goes busy busy change old new
+Keeps change old new = (busy : Option ℕ) → BecomesBusy busy busy change old new
 
 -- It is kept at some network: what inner functions ask, so that they may call a hub and a node.
 abbrev pub Stands : Option ℕ → KeptWorld → Type 0

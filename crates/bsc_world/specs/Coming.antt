@@ -9,7 +9,7 @@ use Rattle.bsc_node.specs.declared.action.Action.{Action}
 use Rattle.bsc_node.specs.declared.action.Action.TheVariants.{Dial, Take}
 use Rattle.bsc_node.specs.Conditions.{brings_word, fits}
 use Rattle.bsc_node.specs.Logs.{Log, action_of}
-use Rattle.bsc_node_core.specs.Node.{Answers}
+use Rattle.bsc_node_core.specs.Node.{NodeAnswers}
 use Rattle.bsc_node_core.specs.Tables.{is_name}
 use Rattle.bsc_network.specs.declared.arrival.Arrival.{Arrival}
 use Rattle.bsc_world.specs.declared.doing.Doing.{Doing}
@@ -65,7 +65,7 @@ pub record HasHeard (n : Node) (now : ℕ) (e : NodeEvent) (actions : List Actio
 -- A node has heard that there is no word, after it did this: all that it did.
 pub record DrewNone (now : ℕ) (actions : List Action) (old new : KeptNode) (all : List Action) : Type 0 where
   pub more : List Action
-  pub answers : Answers old.node new.node (record { now = now; event = NoRandom }) more
+  pub answers : NodeAnswers old.node new.node (record { now = now; event = NoRandom }) more
   pub items : all ≡ actions ++ more
   pub bvlc : new.max_bvlc ≡ old.max_bvlc
   pub uri : new.uri ≡ old.uri

@@ -13,7 +13,7 @@ ghost use Rattle.bsc_network.specs.HubCalls.{called, no_link};
 ghost use Rattle.bsc_world.specs.HubEntries.{HasLeft, HasStopped, IsAsked, IsSeated, LeadsNowhere, LeadsTo, LetsGo, MayLeave};
 ghost use Rattle.bsc_network.specs.HubSides.{leaves, unless_over};
 ghost use Rattle.bsc_world.specs.Standing.{StandsAs};
-ghost use Rattle.bsc_world.specs.Becoming.{Became, Goes, HasSide, Stands};
+ghost use Rattle.bsc_world.specs.Becoming.{Became, BecomesBusy, HasSide, Stands};
 ghost use Rattle.bsc_world.specs.Sides.{IsSideOf, KeepsMachine, WasAsked, WasPassed};
 ghost use Rattle.bsc_world.specs.Passing.{ConnIs};
 
@@ -221,7 +221,7 @@ impl World {
     /// The session at the hub's side of a link is over: where it has joined, its connection leaves. No memory is taken.
     pub(crate) fn call_leave(&mut self, link: u32)
         requires some { Stands (Some link) self.old }
-        ensures { Goes (Some link) None (unless_over link (leaves link)) self.old self.new }
+        ensures { BecomesBusy (Some link) None (unless_over link (leaves link)) self.old self.new }
     {
         let place = link as usize;
         if self.links.len() <= place {

@@ -9,7 +9,7 @@ ghost use Rattle.bsc_network.specs.Worlds.{World as WorldOf};
 ghost use Rattle.bsc_network.specs.Changes.{puts_now};
 ghost use Rattle.bsc_network.specs.HubSides.{acts_on, carries_out, closes, connects, forwards, receives, tells, unless_over};
 ghost use Rattle.bsc_world.specs.Standing.{StandsAs};
-ghost use Rattle.bsc_world.specs.Becoming.{Became, Becomes, Goes, HasSide, Keeps, Stands};
+ghost use Rattle.bsc_world.specs.Becoming.{Became, Becomes, BecomesBusy, HasSide, Keeps, Stands};
 ghost use Rattle.bsc_world.specs.Sides.{Heard, IsReadyBy, KeepsSides};
 ghost use Rattle.bsc_world.specs.SideCalls.{asks, Finds, FindsPort, HasMachine, Hears, IsFor, IsPort, IsReadyFor};
 
@@ -18,11 +18,10 @@ use crate::kept_link::KeptLink;
 use crate::passed::Passed;
 use crate::world::World;
 use bsc_accept::{Event, Step};
-use bsc_checks::{Phase, Place, Verdict};
+use bsc_checks::{Phase, Place, Verdict, judge};
 use bsc_history::{End, Refusal};
 use bsc_network::{Content, Target, Way};
 use bsc_octets::{Identity, NoMemory, Octets};
-use bsc_verdict::judged;
 use std::alloc::Global;
 
 /// These octets in memory of their own.
@@ -125,7 +124,7 @@ impl World {
     /// The hub's side closes the link, and so its session is over.
     fn close(&mut self, link: u32) -> Result<(), NoMemory>
         requires some { Stands (Some link) self.old }
-        ensures { OnOk result (Goes (Some link) None (unless_over link (closes link)) self.old self.new) }
+        ensures { OnOk result (BecomesBusy (Some link) None (unless_over link (closes link)) self.old self.new) }
     {
         self.put_down(link, Content::Closed)?;
         self.call_leave(link);
@@ -137,7 +136,7 @@ impl World {
         requires some { Stands (Some link) self.old }
         requires left { HasSide self.old link (λ side. IsReadyBy step side) }
         requires no_ask { asks step ≡ false }
-        ensures { OnOk result (Goes (Some link) None (unless_over link (carries_out link step)) self.old self.new) }
+        ensures { OnOk result (BecomesBusy (Some link) None (unless_over link (carries_out link step)) self.old self.new) }
     {
         match step {
             Step::Reply(octets) => {
@@ -158,7 +157,7 @@ impl World {
     fn tell_joined(&mut self, alloc: Global, link: u32) -> Result<(), NoMemory>
         requires some { Stands (Some link) self.old }
         requires asked { HasSide self.old link (λ side. AwaitsAnswer side.machine) }
-        ensures { OnOk result (Goes (Some link) None (unless_over link (tells link Event.Joined)) self.old self.new) }
+        ensures { OnOk result (BecomesBusy (Some link) None (unless_over link (tells link Event.Joined)) self.old self.new) }
     {
         let place = link as usize;
         if self.links.len() <= place {
@@ -180,7 +179,7 @@ impl World {
         requires some { Stands (Some link) self.old }
         requires asked { HasSide self.old link (λ side. AwaitsAnswer side.machine) }
         requires alone { HasSide self.old link (λ side. side.joined ≡ None) }
-        ensures { OnOk result (Goes (Some link) None (unless_over link (tells link (Event.Refused refusal.now))) self.old self.new) }
+        ensures { OnOk result (BecomesBusy (Some link) None (unless_over link (tells link (Event.Refused refusal.now))) self.old self.new) }
     {
         let place = link as usize;
         if self.links.len() <= place {
@@ -236,7 +235,7 @@ impl World {
         requires some { Stands (Some link) self.old }
         requires asked { HasSide self.old link (λ side. AwaitsAnswer side.machine) }
         requires alone { HasSide self.old link (λ side. side.joined ≡ None) }
-        ensures { OnOk result (Goes (Some link) None (unless_over link (connects link place who)) self.old self.new) }
+        ensures { OnOk result (BecomesBusy (Some link) None (unless_over link (connects link place who)) self.old self.new) }
     {
         if self.has_side(link) {
             match self.call_connect(alloc, link, place, who)? {
@@ -310,7 +309,7 @@ impl World {
         ensures told { IfOk result (λ o. (F : List NameOf) (w : WorldOf) → w.now ≡ self.old.clock → StandsAs self.old F None w
             → Heard o link m.now self.old self.new F w) }
     {
-        let verdict = judged(alloc, m, &Place::HubPort { phase }, max)?;
+        let verdict = judge(alloc, m, &Place::HubPort { phase }, max)?;
         let place = link as usize;
         if self.links.len() <= place {
             return Ok(None);
@@ -346,7 +345,7 @@ impl World {
         requires some { Stands (Some link) self.old }
         requires fits { IsFor m.now step }
         requires left { HasSide self.old link (λ side. IsReadyFor step side) }
-        ensures { OnOk result (Goes (Some link) None (unless_over link (acts_on link place m.now step)) self.old self.new) }
+        ensures { OnOk result (BecomesBusy (Some link) None (unless_over link (acts_on link place m.now step)) self.old self.new) }
     {
         match step {
             Step::Ask(who) => self.connect(alloc, link, place, who),

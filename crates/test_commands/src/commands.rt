@@ -1,8 +1,13 @@
 //! Each status of a run, with what stands written after it.
+ghost use Rattle.std.specs.Prelude.{◌≡◌, None};
+
 mod direct;
+mod journals;
 mod loopback;
 mod process;
 
+use crate::commands::journals::{KeptJournal, KeptJournals};
+use bsc_audit_command::run_audit;
 use bsc_commands::run;
 use bsc_edge::{
     Acceptor, Clock, Dialer, Files, Link, MemAcceptor, MemClock, MemDialer, MemFile, MemFiles,
@@ -87,6 +92,7 @@ const ONE_UNSTARTED: &str = concat!(
 /// The words of a run, the file `settings`, the script, which stands on standard input and in the file `script`, the calls
 /// that fail of the input and of the acceptor, how much the sink takes, and what the run comes to. A read gives 85 octets at
 /// most, and the first ends within the last line of a script. Three links arrive, and the second session isn't started.
+#[derive(Drop)]
 struct Case {
     words: &'static [&'static str],
     settings: &'static str,
@@ -298,7 +304,7 @@ fn status_of<
     L: Link + Drop,
     A: Acceptor<L>,
     D: Dialer<L>,
-    P: Spawner<SessionJob<L, C>>,
+    P: Spawner<SessionJob<L, C, KeptJournal>>,
 >(
     rt: &R,
     alloc: Global,
@@ -312,14 +318,17 @@ fn status_of<
     acceptor: &mut A,
     dialer: &mut D,
     spawner: &mut P,
+    own: &mut Option<KeptJournal>,
 ) -> Result<u8, NoMemory>
-    requires { P.can_start spawner.old }
+    requires can { P.can_start spawner.old }
+    requires own { own.old ≡ None }
 {
     let words = words_of(alloc, words)?;
     let mut kept = Kept {
         hub: None,
         pass: None,
     };
+    let mut journals = KeptJournals;
     Ok(run(
         rt,
         alloc,
@@ -334,6 +343,8 @@ fn status_of<
         dialer,
         spawner,
         &mut kept,
+        &mut journals,
+        own,
     ))
 }
 
@@ -343,8 +354,11 @@ fn status_in_memory<R: Threads + Wait + Sync>(
     alloc: Global,
     case: &Case,
     sink: &mut MemSink<'_>,
-) -> Result<u8, NoMemory> {
-    let mut spawner: MemSpawner<'_, SessionJob<MemLink<'static>, MemClock<'static>>> =
+    own: &mut Option<KeptJournal>,
+) -> Result<u8, NoMemory>
+    requires { own.old ≡ None }
+{
+    let mut spawner: MemSpawner<'_, SessionJob<MemLink<'static>, MemClock<'static>, KeptJournal>> =
         MemSpawner::new(alloc, &[2]);
     let mut files = files_of(alloc, case.settings, case.script)?;
     let mut acceptor = MemAcceptor::new(alloc, three_links(alloc)?, case.failing);
@@ -361,6 +375,7 @@ fn status_in_memory<R: Threads + Wait + Sync>(
         &mut acceptor,
         &mut MemDialer::new(alloc, Vec::new(alloc), &[]),
         &mut spawner,
+        own,
     )
 }
 
@@ -369,9 +384,40 @@ fn ends_with_a_status(rt: HostRuntime) -> Result<(), Fail> {
     let alloc = rt.alloc();
     for (at, case) in CASES.iter().enumerate() {
         let mut sink = MemSink::make(alloc, case.room, &[])?;
-        let status = status_in_memory(&rt, alloc, case, &mut sink)?;
+        let status = status_in_memory(&rt, alloc, case, &mut sink, &mut None)?;
         assert_eq!(rt; status, case.status, "in row {at}");
         assert!(rt; sink.held() == case.text.as_bytes(), "in row {at}");
     }
+    Ok(())
+}
+
+/// A hub that keeps journals.
+const RECORDED: Case = Case {
+    words: &["hub", "settings", "--sessions", "3", "--journal", "j"],
+    settings: SETTINGS,
+    script: "",
+    failing: &[],
+    room: 400,
+    status: 0,
+    text: ONE_UNSTARTED,
+};
+
+/// The hub's own journal has its line, and the Stop; an audit calls it legal.
+#[test]
+fn the_own_journal_is_legal(rt: HostRuntime) -> Result<(), Fail> {
+    let alloc = rt.alloc();
+    let mut own = None;
+    let mut sink = MemSink::make(alloc, RECORDED.room, &[])?;
+    let status = status_in_memory(&rt, alloc, &RECORDED, &mut sink, &mut own)?;
+    assert_eq!(rt; status, RECORDED.status);
+    assert!(rt; sink.held() == RECORDED.text.as_bytes());
+    let Some(journal) = &own else {
+        panic!(rt; "the own journal is kept");
+    };
+    let held = journal.octets.as_slice();
+    assert!(rt; held.starts_with(b"hub 0200000000FF 00112233445566778899AABBCCDDEEFF ".as_slice()));
+    let mut told = MemSink::make(alloc, 99, &[])?;
+    let status = run_audit(alloc, &mut MemSource::in_pieces(held, 85, &[]), &mut told);
+    assert!(rt; status == 0 && told.held() == b"legal 1\n".as_slice());
     Ok(())
 }

@@ -9,6 +9,8 @@ mod edge;
 #[cfg(test)]
 mod gate;
 #[cfg(test)]
+mod holding;
+#[cfg(test)]
 mod lingering;
 #[cfg(test)]
 mod live;

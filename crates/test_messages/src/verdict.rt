@@ -1,11 +1,10 @@
 //! One message of each verdict, each judged twice.
 ghost use Rattle.std.specs.Prelude.{◌≡◌, IfOk};
-ghost use Rattle.bsc_verdict.specs.Outcomes.{outcome_of};
+ghost use Rattle.bsc_checks.specs.Outcomes.{outcome_of};
 
 use crate::words::{RowOctets, is_called};
-use bsc_checks::{Phase, Place, Verdict};
+use bsc_checks::{Phase, Place, Verdict, judge};
 use bsc_octets::NoMemory;
-use bsc_verdict::judged;
 use std::alloc::Global;
 
 /// A message to the hub that its sender is connected to, and its verdict.
@@ -27,7 +26,7 @@ fn judged_again(
     requires { first.now ≡ outcome_of m.now place.now max }
     ensures { IfOk result (λ second. second ≡ first.now) }
 {
-    judged(alloc, m, place, max)
+    judge(alloc, m, place, max)
 }
 
 /// Whether octets that were judged before have the verdict of these words once more.
@@ -52,7 +51,7 @@ fn is_judged_twice(alloc: Global, m: &[u8], words: &str) -> bool {
     let place = Place::HubPort {
         phase: Phase::Connected,
     };
-    match judged(alloc, m, &place, 1600) {
+    match judge(alloc, m, &place, 1600) {
         Ok(first) => is_called(&first, words)
             && is_judged_again(alloc, m, &place, 1600, &first, words),
         Err(_) => false,

@@ -1,4 +1,5 @@
 //! Scenes of a node: what comes, and what it does.
+mod renewing;
 mod rows;
 
 use crate::nodes::{meet, node};

@@ -16,6 +16,8 @@ mod player;
 #[cfg(test)]
 mod policies;
 #[cfg(test)]
+mod recorders;
+#[cfg(test)]
 mod replay;
 #[cfg(test)]
 mod script;

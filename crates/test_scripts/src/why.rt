@@ -1,6 +1,8 @@
 //! What is said of refused lines, settings and words.
 use bsc_octets::NoMemory;
-use bsc_why::{Format, Seen, why_line, why_settings, why_words};
+use bsc_settings_diagnostics::why_settings;
+use bsc_why::{Format, Seen, why_line};
+use bsc_words_diagnostics::why_words;
 use std::alloc::Global;
 use std::process::Abort;
 use std::test::*;

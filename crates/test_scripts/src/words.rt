@@ -26,7 +26,7 @@ fn are_refused(alloc: Global, line: &str) -> Result<bool, NoMemory> {
     Ok(read_words(alloc, words.as_slice()) == Err(WordsFault::Refused))
 }
 
-const COMMANDS: [(&str, Asked<'static>); 10] = [
+const COMMANDS: [(&str, Asked<'static>); 12] = [
     ("replay", Asked::Replay),
     ("simulate", Asked::Simulate),
     ("check", Asked::Check),
@@ -36,6 +36,7 @@ const COMMANDS: [(&str, Asked<'static>); 10] = [
         Asked::Hub {
             path: "hub.toml",
             sessions: None,
+            journal: None,
         },
     ),
     (
@@ -43,6 +44,7 @@ const COMMANDS: [(&str, Asked<'static>); 10] = [
         Asked::Hub {
             path: "hub.toml",
             sessions: Some(1_000_000),
+            journal: None,
         },
     ),
     (
@@ -50,6 +52,23 @@ const COMMANDS: [(&str, Asked<'static>); 10] = [
         Asked::Hub {
             path: "hub.toml",
             sessions: Some(3),
+            journal: None,
+        },
+    ),
+    (
+        "hub hub.toml --journal j",
+        Asked::Hub {
+            path: "hub.toml",
+            sessions: None,
+            journal: Some("j"),
+        },
+    ),
+    (
+        "hub --journal=j --sessions 3 hub.toml",
+        Asked::Hub {
+            path: "hub.toml",
+            sessions: Some(3),
+            journal: Some("j"),
         },
     ),
     (
@@ -57,6 +76,7 @@ const COMMANDS: [(&str, Asked<'static>); 10] = [
         Asked::Hub {
             path: "-hub.toml",
             sessions: None,
+            journal: None,
         },
     ),
     (

@@ -4,8 +4,10 @@ ghost use Rattle.std.specs.Arc.{arc_value};
 ghost use Rattle.bsc_edge.specs.Threads.{Begins, job_of};
 ghost use Rattle.bsc_hub.specs.Passing.{IsCaller};
 
+mod books;
 mod scene;
 
+use crate::serve::books::{Books, KeptJournal};
 use crate::serve::scene::{CLOSING, CuedLink, FIRST, JOINING, LATER, Scene, Still, links};
 use crate::session::{self, LIMITS};
 use bsc_edge::{
@@ -23,7 +25,7 @@ use std::sync::{Arc, Wait};
 use std::test::*;
 use std::thread::Threads;
 
-type Session = SessionJob<CuedLink, Still>;
+type Session = SessionJob<CuedLink, Still, KeptJournal>;
 
 /// The thread of a session.
 type Thread = Running<Result<SessionEnd, Session>, Promised<Session>>;
@@ -62,6 +64,7 @@ fn serve<R: Wait, P: Spawner<Session>>(
     links: Vec<CuedLink>,
     failing: &[u64],
     spawner: &mut P,
+    books: &mut Books,
 ) -> ServeEnd
     requires pass { IsCaller (arc_value hub.now) pass.old }
     requires can { P.can_start spawner.old }
@@ -73,6 +76,7 @@ fn serve<R: Wait, P: Spawner<Session>>(
         sessions: Some(links.len() as u64),
     };
     let mut acceptor = MemAcceptor::new(alloc, links, failing);
+    let prefix = if books.is_recorded { Some("j") } else { None };
     serve_on(
         rt,
         alloc,
@@ -82,6 +86,10 @@ fn serve<R: Wait, P: Spawner<Session>>(
         &mut Still,
         &mut acceptor,
         spawner,
+        &mut books.own,
+        prefix,
+        &mut books.journals,
+        &None,
     )
 }
 
@@ -97,7 +105,8 @@ fn served<R: Wait, P: Spawner<Session>>(
     requires can { P.can_start spawner.old }
 {
     let (hub, mut pass) = new_hub(alloc, callers)?;
-    Ok(serve(rt, alloc, &hub, &mut pass, links, &[], spawner))
+    let mut books = Books::new(alloc, false, 0, false);
+    Ok(serve(rt, alloc, &hub, &mut pass, links, &[], spawner, &mut books))
 }
 
 /// Serves these links at a new hub, each session in a thread of its own.
@@ -225,6 +234,7 @@ fn served_until<R: Wait>(
     hub: &Arc<Hub>,
     pass: &mut Pass,
     failing: &[u64],
+    books: &mut Books,
 ) -> Result<ServeEnd, NoMemory>
     requires { IsCaller (arc_value hub.now) pass.old }
     ensures { IsCaller (arc_value hub.now) pass.new }
@@ -232,7 +242,7 @@ fn served_until<R: Wait>(
     let scene = Scene::new(alloc)?;
     let links = links(alloc, &scene, &[CLOSING, CLOSING])?;
     let mut spawner = MemSpawner::new(alloc, &[]);
-    Ok(serve(rt, alloc, hub, pass, links, failing, &mut spawner))
+    Ok(serve(rt, alloc, hub, pass, links, failing, &mut spawner, books))
 }
 
 /// A fault of the acceptor stops the hub. So it was stopped before, by its first entry, where it is served again.
@@ -240,13 +250,74 @@ fn served_until<R: Wait>(
 fn a_fault_of_the_acceptor_stops_the_hub(rt: HostRuntime) -> Result<(), Fail> {
     let alloc = rt.alloc();
     let (hub, mut pass) = new_hub(alloc, 8)?;
-    let end = served_until(&rt, alloc, &hub, &mut pass, &[2])?;
+    let mut books = Books::new(alloc, false, 0, false);
+    let end = served_until(&rt, alloc, &hub, &mut pass, &[2], &mut books)?;
     assert_eq!(rt; end, ServeEnd::AcceptFault);
-    let end = served_until(&rt, alloc, &hub, &mut pass, &[])?;
+    let end = served_until(&rt, alloc, &hub, &mut pass, &[], &mut books)?;
     let stopped = ServeEnd::StoppedBefore {
         at: 0,
         unstarted: 0,
     };
     assert_eq!(rt; end, stopped);
+    Ok(())
+}
+
+/// The line of the Stop of a hub at which nobody connected.
+const STOP_LINE: &str =
+    "0 0 stop counts joined=0 replaced=0 refused=0 unicasts=0 broadcasts=0 appended=0 dropped=0 full=0 missed=0\n";
+
+/// The line of the Stop is put into the hub's own journal, and no more where it is served again.
+#[test]
+fn the_own_journal_has_the_stop(rt: HostRuntime) -> Result<(), Fail> {
+    let alloc = rt.alloc();
+    let (hub, mut pass) = new_hub(alloc, 8)?;
+    let mut books = Books::new(alloc, true, 0, false);
+    let end = served_until(&rt, alloc, &hub, &mut pass, &[], &mut books)?;
+    let done = ServeEnd::Done {
+        counts: NONE,
+        unstarted: 0,
+    };
+    assert_eq!(rt; end, done);
+    assert!(rt; books.own.octets.as_slice() == STOP_LINE.as_bytes());
+    let _again = served_until(&rt, alloc, &hub, &mut pass, &[], &mut books)?;
+    assert!(rt; books.own.octets.as_slice() == STOP_LINE.as_bytes());
+    Ok(())
+}
+
+/// Whether a fault of a journal ends serving, where the call of `begin` with this number fails, or the own one is full, and had stopped the hub.
+fn a_journal_fails<R: Wait>(
+    rt: &R,
+    alloc: Global,
+    failing: u64,
+    is_full: bool,
+) -> Result<bool, NoMemory> {
+    let (hub, mut pass) = new_hub(alloc, 8)?;
+    let mut books = Books::new(alloc, true, failing, is_full);
+    let end = served_until(rt, alloc, &hub, &mut pass, &[], &mut books)?;
+    let again = served_until(rt, alloc, &hub, &mut pass, &[], &mut books)?;
+    let stopped = ServeEnd::StoppedBefore {
+        at: 0,
+        unstarted: 0,
+    };
+    Ok(end == ServeEnd::JournalFault && again == stopped)
+}
+
+/// A journal that can't be begun, for the second of two links, stops the hub, and so does an own one that takes no line.
+#[test]
+fn a_fault_of_a_journal_stops_the_hub(rt: HostRuntime) -> Result<(), Fail> {
+    let alloc = rt.alloc();
+    assert!(rt; a_journal_fails(&rt, alloc, 2, false)?);
+    assert!(rt; a_journal_fails(&rt, alloc, 0, true)?);
+    Ok(())
+}
+
+/// A fault of the own journal goes before one of the acceptor.
+#[test]
+fn a_fault_of_a_journal_goes_before_one_of_the_acceptor(rt: HostRuntime) -> Result<(), Fail> {
+    let alloc = rt.alloc();
+    let (hub, mut pass) = new_hub(alloc, 8)?;
+    let mut books = Books::new(alloc, true, 0, true);
+    let end = served_until(&rt, alloc, &hub, &mut pass, &[2], &mut books)?;
+    assert_eq!(rt; end, ServeEnd::JournalFault);
     Ok(())
 }

@@ -1,4 +1,5 @@
 //! A run of the program over sockets and threads, with its files and what it writes in memory.
+use crate::commands::journals::KeptJournal;
 use crate::commands::{files_of, status_of};
 use bsc_commands::{Door, Noted, RealLink, RealWaiter, real_dialer};
 use bsc_edge::{
@@ -20,7 +21,7 @@ use std::thread::Threads;
 use std::time::Clock;
 
 /// The session of a real link.
-type Session<R> = SessionJob<RealLink<R>, Monotonic<R>>;
+type Session<R> = SessionJob<RealLink<R>, Monotonic<R>, KeptJournal>;
 
 /// A process of the program: its words, what is settled of it as a node but its hub and its port, its script, the kind of
 /// the links that it accepts, and how what it writes begins and ends.
@@ -87,6 +88,7 @@ fn status_over_sockets<
         &mut acceptor,
         &mut dialer,
         &mut spawner,
+        &mut None,
     )
 }
 

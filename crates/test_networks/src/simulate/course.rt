@@ -1,4 +1,4 @@
-//! A course of 367 steps, whose text is computed in `proofs/WorkedCourse.antt` of `bsc_simulate`.
+//! A course of 367 steps, whose text is computed in `proofs/WorkedCourse.antt` of `bsc_network_script_laws`.
 
 pub const SCRIPT: &str = concat!(
     "hub 0200000000FF 00112233445566778899AABBCCDDEEFF 0640 05D9\n",

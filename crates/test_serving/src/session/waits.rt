@@ -1,6 +1,7 @@
 //! How long the receives of a session are asked to wait.
 use super::{CONNECT_A, CONNECT_B, Given, LIMITS, ended, gives, new_hub};
-use bsc_edge::{Incoming, Job, Link, LinkFault, MemClock, MemLink};
+use bsc_edge::{Incoming, Job, Link, LinkFault, MemClock, MemJournal, MemLink};
+use bsc_outside::MemSink;
 use bsc_session::{SessionJob, Why, serve_connection};
 use std::alloc::Global;
 use std::process::Abort;
@@ -76,12 +77,22 @@ fn frames_that_are_left(rt: HostRuntime) -> Result<(), Fail> {
     let Ok(ours) = gives(alloc, Given::Message(CONNECT_A), &[Given::Quiet; 3]) else {
         panic!(rt; "no memory");
     };
+    let Ok(sink) = MemSink::make(alloc, 0, &[]) else {
+        panic!(rt; "no memory");
+    };
+    let dropping = MemJournal {
+        prefix: None,
+        number: pass.number(),
+        sink,
+    };
     let other = MemLink::new(alloc, theirs, &[]);
     let clock = MemClock::new(alloc, &[]);
     let mut link = Noting {
         rt,
         link: MemLink::new(alloc, ours, &[]),
-        job: Some(SessionJob::new(alloc, shared, pass, other, clock, LIMITS, 100)),
+        job: Some(SessionJob::new(
+            alloc, shared, pass, other, clock, LIMITS, 100, dropping, false, None,
+        )),
         left: None,
         waits: Vec::new(alloc),
     };

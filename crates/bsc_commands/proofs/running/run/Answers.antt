@@ -2,7 +2,7 @@ use Rattle.std.proofs.Common.{◌≡◌, Some, Result, Err, Ok, IfOk, Option, ap
 use Rattle.std.specs.Prelude.{string_bytes}
 use Rattle.bsc_script.specs.Scripts.{replay_of}
 use Rattle.bsc_replay.specs.Checks.{check_of}
-use Rattle.bsc_simulate.specs.Scripts.{simulate_of}
+use Rattle.bsc_network_script.specs.Scripts.{simulate_of}
 use Rattle.bsc_words.specs.declared.asked.Asked.{Asked}
 use Rattle.bsc_words.specs.declared.fault.WordsFault.{WordsFault}
 use Rattle.bsc_words.specs.declared.fault.WordsFault.TheVariants.{Refused}
@@ -24,16 +24,16 @@ run_asked-requires-clause-workers g c κs within n named =
     workers_fit words (seen c.in-Ok.asked) n (said (asked_by words) c.read_words.result c.in-Ok.asked c.in-Ok.is c.read_words.ensures.ok) named
 
 pub returns-in-Ok-clause-hub : goal.returns-in-Ok-clause-hub
-returns-in-Ok-clause-hub g c path sessions made named kept =
+returns-in-Ok-clause-hub g c path sessions journal made named kept =
     let read = asked_by (map string_bytes c.args.words.now) in
     let asked = said read c.read_words.result c.in-Ok.asked c.in-Ok.is c.read_words.ensures.ok in
-    c.run_asked.ensures.hub path sessions made (asks_same read (seen c.in-Ok.asked) (hub path sessions) asked named) kept
+    c.run_asked.ensures.hub path sessions journal made (asks_same read (seen c.in-Ok.asked) (hub path sessions journal) asked named) kept
 
 pub returns-in-Ok-clause-no_hub : goal.returns-in-Ok-clause-no_hub
-returns-in-Ok-clause-no_hub g c path sessions named kept =
+returns-in-Ok-clause-no_hub g c path sessions journal named kept =
     let read = asked_by (map string_bytes c.args.words.now) in
     let asked = said read c.read_words.result c.in-Ok.asked c.in-Ok.is c.read_words.ensures.ok in
-    c.run_asked.ensures.no_hub path sessions (asks_same read (seen c.in-Ok.asked) (hub path sessions) asked named) kept
+    c.run_asked.ensures.no_hub path sessions journal (asks_same read (seen c.in-Ok.asked) (hub path sessions journal) asked named) kept
 
 pub returns-in-Ok-clause-node : goal.returns-in-Ok-clause-node
 returns-in-Ok-clause-node g c path script named =

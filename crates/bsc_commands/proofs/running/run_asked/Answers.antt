@@ -1,5 +1,6 @@
-use Rattle.std.proofs.Common.{◌≡◌, ℕ, List, Option, Ok, map, ap, sym, ◌∙◌}
+use Rattle.std.proofs.Common.{◌≡◌, ℕ, List, Option, Ok, map, option_map, ap, sym, ◌∙◌}
 use Rattle.clap.specs.Words.{Text}
+use Rattle.bsc_policy.specs.declared.policy.Policy.{Policy}
 use Rattle.bsc_settings.specs.declared.hub.HubSettings.{HubSettings}
 use Rattle.bsc_session.specs.Jobs.{Worked}
 use Rattle.bsc_hub_command.specs.Served.{HubWorld, Runs}
@@ -17,22 +18,23 @@ pub run_load-requires-clause-workers : goal.run_load-requires-clause-workers
 run_load-requires-clause-workers g c κs within = c.requires.workers c.in-Load.workers (ap seen c.in-Load.is)
 
 pub returns-in-Hub-clause-hub : goal.returns-in-Hub-clause-hub
-returns-in-Hub-clause-hub g c path sessions made named kept =
+returns-in-Hub-clause-hub g c path sessions journal made named kept =
     let A = g.A.Acceptor in
     let P = g.P.Spawner in
-    let before : HubWorld g.row.L.Denot g.row.C.Denot = record { links = A.left c.args.acceptor.now; waits = A.waits c.args.acceptor.now; port = A.bound c.args.acceptor.now; faults = A.faults c.args.acceptor.now; jobs = P.jobs c.args.spawner.now; out = P.out c.args.spawner.now; unstarted = P.faults c.args.spawner.now; written = g.K.Sink.held c.args.sink.now } in
-    let after : HubWorld g.row.L.Denot g.row.C.Denot = record { links = A.left c.run_hub.new.acceptor; waits = A.waits c.run_hub.new.acceptor; port = A.bound c.run_hub.new.acceptor; faults = A.faults c.run_hub.new.acceptor; jobs = P.jobs c.run_hub.new.spawner; out = P.out c.run_hub.new.spawner; unstarted = P.faults c.run_hub.new.spawner; written = g.K.Sink.held c.run_hub.new.sink } in
-    of_hub (λ (p : Text) (n : Option ℕ). (v : HubSettings) × IsSettled (g.F.Files.holds c.args.files.now p) v
-    × Runs (Worked g.L.Link.talk g.L.Link.faults g.C.Clock.readings) (record { settings = v; sessions = n }) c.run_hub.new.kept before after c.run_hub.result)
-    c.in-Hub.path.now path c.in-Hub.sessions sessions (sym (ap seen c.in-Hub.is) ∙ named) (c.run_hub.ensures.runs made kept)
+    let before : HubWorld g.row.L.Denot g.row.C.Denot g.row.N.Denot = record { links = A.left c.args.acceptor.now; waits = A.waits c.args.acceptor.now; port = A.bound c.args.acceptor.now; faults = A.faults c.args.acceptor.now; jobs = P.jobs c.args.spawner.now; out = P.out c.args.spawner.now; unstarted = P.faults c.args.spawner.now; unbegun = g.J.Journals.faults c.args.journals.now; written = g.K.Sink.held c.args.sink.now } in
+    let after : HubWorld g.row.L.Denot g.row.C.Denot g.row.N.Denot = record { links = A.left c.run_hub.new.acceptor; waits = A.waits c.run_hub.new.acceptor; port = A.bound c.run_hub.new.acceptor; faults = A.faults c.run_hub.new.acceptor; jobs = P.jobs c.run_hub.new.spawner; out = P.out c.run_hub.new.spawner; unstarted = P.faults c.run_hub.new.spawner; unbegun = g.J.Journals.faults c.run_hub.new.journals; written = g.K.Sink.held c.run_hub.new.sink } in
+    of_hub (λ (p : Text) (n : Option ℕ) (j : Option Text). (v : HubSettings) × (policy : Option Policy) × IsSettled (g.F.Files.holds c.args.files.now p) v policy
+    × Runs (Worked g.L.Link.talk g.L.Link.faults g.C.Clock.readings g.N.Sink.held g.N.Sink.faults) g.J.Journals.begins g.N.Sink.held g.N.Sink.faults
+    (record { settings = v; policy = policy; sessions = n; prefix = j }) c.run_hub.new.kept c.run_hub.new.own before after c.run_hub.result)
+    c.in-Hub.path.now path c.in-Hub.sessions sessions (option_map (λ q. q.now) c.in-Hub.journal) journal (sym (ap seen c.in-Hub.is) ∙ named) (c.run_hub.ensures.runs made kept)
 
 pub returns-in-Hub-clause-no_hub : goal.returns-in-Hub-clause-no_hub
-returns-in-Hub-clause-no_hub g c path sessions named none =
+returns-in-Hub-clause-no_hub g c path sessions journal named none =
     let F = g.F.Files in
     let K = g.K.Sink in
-    of_hub (λ (p : Text) (n : Option ℕ). Unsettled (F.holds c.args.files.now p) (F.faults c.args.files.now) (F.faults c.run_hub.new.files)
+    of_hub (λ (p : Text) (n : Option ℕ) (j : Option Text). Unsettled (F.holds c.args.files.now p) (F.faults c.args.files.now) (F.faults c.run_hub.new.files)
     c.run_hub.result (K.held c.args.sink.now) (K.held c.run_hub.new.sink))
-    c.in-Hub.path.now path c.in-Hub.sessions sessions (sym (ap seen c.in-Hub.is) ∙ named) (c.run_hub.ensures.unmade none)
+    c.in-Hub.path.now path c.in-Hub.sessions sessions (option_map (λ q. q.now) c.in-Hub.journal) journal (sym (ap seen c.in-Hub.is) ∙ named) (c.run_hub.ensures.unmade none)
 
 pub returns-in-Node-clause-node : goal.returns-in-Node-clause-node
 returns-in-Node-clause-node g c path script named =

@@ -3,6 +3,7 @@ use Rattle.bsc_node_run.specs.Drawing.{GoesDrawing, at_rest}
 use Rattle.bsc_node_run.specs.Running.{Run}
 use Rattle.bsc_node_run.specs.Stopping.{RunFails}
 use Rattle.bsc_node_run.specs.Worlds.{admitting, dialling}
+use Rattle.bsc_node_run.specs.Moments.{outside, run_moment}
 use Rattle.bsc_node_command.specs.Comes.{AnswersAt}
 use Rattle.bsc_node_command.proofs.Bound.{bound_still}
 use Rattle.bsc_node_command.proofs.Defined.{by_definition, fails_by_definition, lonely_of, said_of}
@@ -18,17 +19,13 @@ returns-clause-ran g c script door port faults reads unasked bound =
     let W = g.W.Words in
     let v = c.args.settings.now in
     let lines = c.args.lines.now in
-    let end = c.run_node-end.result in
+    let end = c.run_core-end.result in
     let old = c.args in
-    let new = c.run_node-end.new in
+    let new = c.run_core-end.new in
     let before = dialling D.calls D.left D.faults old.dialer.now in
     let after = dialling D.calls D.left D.faults new.dialer in
-    let run : IfOk end (λ e. Run (GoesDrawing AnswersAt W.gives W.faults) talk (is_some v.direct_port) e v.turns lines
-    (at_rest old.node old.random.now) before (K.held old.sink.now) (admitting A.left A.waits old.acceptor.now) (C.readings old.clock.now)
-    (at_rest new.node new.random) after (K.held new.sink) (admitting A.left A.waits new.acceptor) (C.readings new.clock)) = rw c.is_some.ensures at c.run_node-end.ensures.runs in
-    let fails : OnErr end (RunFails (GoesDrawing AnswersAt W.gives W.faults) talk (is_some v.direct_port) v.turns lines
-    (at_rest old.node old.random.now) before (K.held old.sink.now) (admitting A.left A.waits old.acceptor.now) (C.readings old.clock.now)
-    after (K.held new.sink) (admitting A.left A.waits new.acceptor) (C.readings new.clock)) = rw c.is_some.ensures at c.run_node-end.ensures.fails in
+    let run : IfOk end (λ e. Run (GoesDrawing AnswersAt W.gives W.faults) talk (is_some v.direct_port) e v.turns lines (run_moment (at_rest old.node old.random.now) before (K.held old.sink.now) (admitting A.left A.waits old.acceptor.now) (C.readings old.clock.now)) (run_moment (at_rest new.node new.random) after (K.held new.sink) (admitting A.left A.waits new.acceptor) (C.readings new.clock))) = rw c.is_some.ensures at c.run_core-end.ensures.runs in
+    let fails : OnErr end (RunFails (GoesDrawing AnswersAt W.gives W.faults) talk (is_some v.direct_port) v.turns lines (run_moment (at_rest old.node old.random.now) before (K.held old.sink.now) (admitting A.left A.waits old.acceptor.now) (C.readings old.clock.now)) (outside after (K.held new.sink) (admitting A.left A.waits new.acceptor) (C.readings new.clock))) = rw c.is_some.ensures at c.run_core-end.ensures.fails in
     let defined = by_definition talk W.gives W.faults v script lines old.node new.node old.random.now new.random end before after (admitting A.left A.waits old.acceptor.now) (admitting A.left A.waits new.acceptor)
     (C.readings old.clock.now) (C.readings new.clock) (K.held old.sink.now) (K.held new.sink) reads c.requires run in
     record {
@@ -38,7 +35,7 @@ returns-clause-ran g c script door port faults reads unasked bound =
       end = end;
       door = admitting A.left A.waits old.acceptor.now;
       written = K.held new.sink;
-      bound = bound_still v.direct_port port (A.bound old.acceptor.now) (A.bound new.acceptor) bound c.run_node-end.ensures.bound;
+      bound = bound_still v.direct_port port (A.bound old.acceptor.now) (A.bound new.acceptor) bound c.run_core-end.ensures.bound;
       unasked = unasked;
       run = defined.1;
       fails = fails_by_definition talk W.gives W.faults v script lines old.node old.random.now end before after (admitting A.left A.waits old.acceptor.now) (admitting A.left A.waits new.acceptor)
@@ -47,6 +44,6 @@ returns-clause-ran g c script door port faults reads unasked bound =
           (C.readings old.clock.now) (C.readings new.clock) (K.held old.sink.now) (K.held new.sink) defined.1;
       lonely = lonely_of talk W.gives W.faults v script lines old.random.now new.random defined.0 end before after (admitting A.left A.waits old.acceptor.now) (admitting A.left A.waits new.acceptor)
           (C.readings old.clock.now) (C.readings new.clock) (K.held old.sink.now) (K.held new.sink) reads defined.1;
-      rests = c.run_node-end.ensures.rests;
+      rests = c.run_core-end.ensures.rests;
       says = c.tell_end.ensures.says;
     }

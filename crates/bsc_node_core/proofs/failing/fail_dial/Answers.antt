@@ -8,7 +8,7 @@ use Rattle.bsc_node_core.proofs.failing.fail_dial.Goals as goal
 
 pub returns-in-Hub : goal.returns-in-Hub
 returns-in-Hub c = on_ok_weaker c.end.result
-    (λ g b L l n e name h.
+    (λ g b L r name h.
     both-still b c.end.new.out c.end.new.self c.args.resolve.now L _ h.resolution
-    (subst (λ ms. Stands (asked_by L b) c.end.new.out c.end.new.self (L ++ ms)) (sym (hub-fails b.made c.args.name c.in-Hub.field-0 L c.in-Hub.is)) (g (asked_by L b) L l n e h.state)))
+    (subst (λ ms. Stands (asked_by L b) c.end.new.out c.end.new.self (L ++ ms)) (sym (hub-fails b.made c.args.name c.in-Hub.field-0 L c.in-Hub.is)) (g (asked_by L b) L r h.state)))
     c.end.ensures

@@ -11,7 +11,7 @@ use Rattle.bsc_node_core.proofs.failing.give_up.Goals as goal
 
 pub returns : goal.returns
 returns c = on_ok_weaker c.end.result
-    (λ g b L l n e w h.
+    (λ g b L r w h.
     let first = where_found (wanted c.args.k) (λ v. tells (NoDirect v)) nothing in
-    two-in-order (λ M. Stands b c.end.new.out c.end.new.self M) L first (ends b.made (Direct c.args.k)) (g b (L ++ first L) l n e (c.in_ok-tell_none.ensures b c.args.state.now L w h)))
+    two-in-order (λ M. Stands b c.end.new.out c.end.new.self M) L first (ends b.made (Direct c.args.k)) (g b (L ++ first L) r (c.in_ok-tell_none.ensures b c.args.state.now L w h)))
     c.end.ensures

@@ -16,19 +16,19 @@ use Rattle.bsc_node_core.proofs.failing.try_next.Goals as goal
 
 pub returns-in-Some : goal.returns-in-Some
 returns-in-Some c = on_ok_weaker c.dial.result
-    (λ g b L l n e k h.
+    (λ g b L r k h.
     let w = sym (c.wanted-whom.ensures (slot_calls L) h.state.direct) in
     both-still b c.dial.new.out c.dial.new.self c.args.resolve.now L _ h.resolution
     (found-some (λ M. Stands (asked_by L b) c.dial.new.out c.dial.new.self M) L (next_uri c.args.k) (λ uri. does (Dial (Direct c.args.k) uri))
     (in_order (where_found (wanted c.args.k) (λ v. tells (NoDirect v)) nothing ∷ ends b.made (Direct c.args.k) ∷ [])) c.in-Some.uri (sym (c.in_ok-uri.ensures b c.args.out.now L k w h) ∙ c.in-Some.is)
-    (g (asked_by L b) L (ap (λ (x : NodeLimits). x.times) l) n (lt-ltb c.args.k 64 k) h.state)))
+    (g (asked_by L b) L (ap (λ (x : NodeLimits). x.times) r.0) r.1 (lt-ltb c.args.k 64 k) h.state)))
     c.dial.ensures
 
 pub returns-in-None : goal.returns-in-None
 returns-in-None c = on_ok_weaker c.give_up.result
-    (λ g b L l n e k h.
+    (λ g b L r k h.
     let w = sym (c.wanted-whom.ensures (slot_calls L) h.state.direct) in
     both-still b c.give_up.new.out c.give_up.new.state c.args.resolve.now L _ h.resolution
     (found-none (λ M. Stands (asked_by L b) c.give_up.new.out c.give_up.new.state M) L (next_uri c.args.k) (λ uri. does (Dial (Direct c.args.k) uri))
-    (in_order (where_found (wanted c.args.k) (λ v. tells (NoDirect v)) nothing ∷ ends b.made (Direct c.args.k) ∷ [])) (sym (c.in_ok-uri.ensures b c.args.out.now L k w h) ∙ c.in-None.is) (g (asked_by L b) L l n e w h.state)))
+    (in_order (where_found (wanted c.args.k) (λ v. tells (NoDirect v)) nothing ∷ ends b.made (Direct c.args.k) ∷ [])) (sym (c.in_ok-uri.ensures b c.args.out.now L k w h) ∙ c.in-None.is) (g (asked_by L b) L r w h.state)))
     c.give_up.ensures

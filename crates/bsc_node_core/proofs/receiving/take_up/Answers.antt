@@ -23,7 +23,7 @@ pub returns-in-AddressResolution-clause-goes : goal.returns-in-AddressResolution
 returns-in-AddressResolution-clause-goes c = on_ok_weaker c.answer_question.result
     (λ g b L l n h.
     state-taken-up b c.args.out.now _ c.args.state.now _ c.args.resolve.now L c.args.name c.args.message AddressResolution c.in-AddressResolution.is h
-    (question-stands (asked_by L b) _ _ L c.args.name c.args.message c.args.limits.now l
+    (question-stands (asked_by L b) _ _ L c.args.name c.args.message c.args.at.now.limits.now l
     (g c.args.message refl (sym (c.answer_dest-dest.ensures c.args.message refl)) (sym c.is_broadcast-for_all.ensures) (asked_by L b) L h.state)))
     c.answer_question.ensures
 

@@ -8,7 +8,7 @@ use Rattle.bsc_node_core.proofs.requesting.ask.Goals as goal
 
 pub returns-in-Ok-clause-goes : goal.returns-in-Ok-clause-goes
 returns-in-Ok-clause-goes c = λ b L n p h.
-    rw c.count.ensures (both-asked b c.args.out.now _ c.args.state.now c.args.resolve.now _ L (way_of c.args.by) c.args.v _ c.args.now n p c.in_ok-octets.ensures c.in_ok-push.ensures.ok c.in-Ok.ensures.asked h)
+    rw c.count.ensures (both-asked b c.args.out.now _ c.args.state.now c.args.resolve.now _ L (way_of c.args.by) c.args.v _ c.args.at.now.time n p c.in_ok-octets.ensures c.in_ok-push.ensures.ok c.in-Ok.ensures.asked h)
 
 pub returns-in-Err-Full-clause-goes : goal.returns-in-Err-Full-clause-goes
 returns-in-Err-Full-clause-goes c = on_ok_weaker c.tell.result

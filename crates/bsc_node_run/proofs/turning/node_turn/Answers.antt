@@ -2,6 +2,7 @@ use Rattle.std.proofs.Common.{inl, inr, refl}
 use Rattle.bsc_node_run.specs.Drawing.{GoesDrawing, at_rest}
 use Rattle.bsc_node_run.specs.Stopping.{TurnStops}
 use Rattle.bsc_node_run.specs.Worlds.{admitting, dialling, world_of}
+use Rattle.bsc_node_run.specs.Moments.{in_hands, moment}
 use Rattle.bsc_node_run.proofs.Stops.{Stopped, at_err}
 use Rattle.bsc_node_run.proofs.turning.node_turn.Goals as goal
 
@@ -9,17 +10,17 @@ pub returns-clause-turns : goal.returns-clause-turns
 returns-clause-turns g c = record {
   news = c.in_ok-give_news.ensures.gives.0;
   lines = c.in_ok-left.ensures.gives.0;
-  w0 = world_of c.begin_turn.new.self (dialling g.D.Dialer.calls g.D.Dialer.left g.D.Dialer.faults c.args.dialer.now) (g.K.Sink.held c.args.sink.now);
-  w1 = (world_of c.begin.new.set (dialling g.D.Dialer.calls g.D.Dialer.left g.D.Dialer.faults c.begin.new.dialer) (g.K.Sink.held c.begin.new.sink));
-  w2 = (world_of c.give.new.set (dialling g.D.Dialer.calls g.D.Dialer.left g.D.Dialer.faults c.give.new.dialer) (g.K.Sink.held c.give.new.sink));
-  w3 = (world_of c.give_news.new.set (dialling g.D.Dialer.calls g.D.Dialer.left g.D.Dialer.faults c.give_news.new.dialer) (g.K.Sink.held c.give_news.new.sink));
-  w4 = (world_of c.give_due.new.set (dialling g.D.Dialer.calls g.D.Dialer.left g.D.Dialer.faults c.give_due.new.dialer) (g.K.Sink.held c.give_due.new.sink));
-  w5 = (world_of c.hear_all.new.set (dialling g.D.Dialer.calls g.D.Dialer.left g.D.Dialer.faults c.hear_all.new.dialer) (g.K.Sink.held c.hear_all.new.sink));
-  n1 = at_rest c.begin.new.node c.begin.new.random;
-  n2 = at_rest c.give.new.node c.give.new.random;
-  n3 = at_rest c.give_news.new.node c.give_news.new.random;
-  n4 = at_rest c.give_due.new.node c.give_due.new.random;
-  n5 = at_rest c.hear_all.new.node c.hear_all.new.random;
+  world_begun = world_of c.begin_turn.new.self (dialling g.D.Dialer.calls g.D.Dialer.left g.D.Dialer.faults c.args.dialer.now) (g.K.Sink.held c.args.sink.now);
+  world_started = (world_of c.begin.new.set (dialling g.D.Dialer.calls g.D.Dialer.left g.D.Dialer.faults c.begin.new.dialer) (g.K.Sink.held c.begin.new.sink));
+  world_ticked = (world_of c.give.new.set (dialling g.D.Dialer.calls g.D.Dialer.left g.D.Dialer.faults c.give.new.dialer) (g.K.Sink.held c.give.new.sink));
+  world_told = (world_of c.give_news.new.set (dialling g.D.Dialer.calls g.D.Dialer.left g.D.Dialer.faults c.give_news.new.dialer) (g.K.Sink.held c.give_news.new.sink));
+  world_given = (world_of c.give_due.new.set (dialling g.D.Dialer.calls g.D.Dialer.left g.D.Dialer.faults c.give_due.new.dialer) (g.K.Sink.held c.give_due.new.sink));
+  world_heard = (world_of c.hear_all.new.set (dialling g.D.Dialer.calls g.D.Dialer.left g.D.Dialer.faults c.hear_all.new.dialer) (g.K.Sink.held c.hear_all.new.sink));
+  node_started = at_rest c.begin.new.node c.begin.new.random;
+  node_ticked = at_rest c.give.new.node c.give.new.random;
+  node_told = at_rest c.give_news.new.node c.give_news.new.random;
+  node_given = at_rest c.give_due.new.node c.give_due.new.random;
+  node_heard = at_rest c.hear_all.new.node c.hear_all.new.random;
   begins = c.begin_turn.ensures (dialling g.D.Dialer.calls g.D.Dialer.left g.D.Dialer.faults c.args.dialer.now) (g.K.Sink.held c.args.sink.now);
   starts = c.in_ok-begin.ensures.starts;
   ticks = c.in_ok-give.ensures.gives;
@@ -37,9 +38,7 @@ returns-in_err-begin-clause-stops g c =
     let w0 = world_of c.begin_turn.new.self (dialling g.D.Dialer.calls g.D.Dialer.left g.D.Dialer.faults c.args.dialer.now) (g.K.Sink.held c.args.sink.now) in
     let begins = c.begin_turn.ensures (dialling g.D.Dialer.calls g.D.Dialer.left g.D.Dialer.faults c.args.dialer.now) (g.K.Sink.held c.args.sink.now) in
     at_err {P = Stopped g.C.Clock.readings g.C.Clock.newest c.args.clock.now c.now-now.new.self
-    (λ t. TurnStops (GoesDrawing g.N.Core.goes g.W.Words.gives g.W.Words.faults) g.L.Link.talk t c.args.start c.args.script.now c.args.listens (at_rest c.args.node.now c.args.random.now)
-    (world_of c.args.set.now (dialling g.D.Dialer.calls g.D.Dialer.left g.D.Dialer.faults c.args.dialer.now) (g.K.Sink.held c.args.sink.now)) (admitting g.A.Acceptor.left g.A.Acceptor.waits c.args.acceptor.now)
-    (world_of c.begin.new.set (dialling g.D.Dialer.calls g.D.Dialer.left g.D.Dialer.faults c.begin.new.dialer) (g.K.Sink.held c.begin.new.sink)) (admitting g.A.Acceptor.left g.A.Acceptor.waits c.args.acceptor.now))} _
+    (λ t. TurnStops (GoesDrawing g.N.Core.goes g.W.Words.gives g.W.Words.faults) g.L.Link.talk t c.args.start c.args.script.now c.args.listens (moment (at_rest c.args.node.now c.args.random.now) (world_of c.args.set.now (dialling g.D.Dialer.calls g.D.Dialer.left g.D.Dialer.faults c.args.dialer.now) (g.K.Sink.held c.args.sink.now)) (admitting g.A.Acceptor.left g.A.Acceptor.waits c.args.acceptor.now)) (in_hands (world_of c.begin.new.set (dialling g.D.Dialer.calls g.D.Dialer.left g.D.Dialer.faults c.begin.new.dialer) (g.K.Sink.held c.begin.new.sink)) (admitting g.A.Acceptor.left g.A.Acceptor.waits c.args.acceptor.now)))} _
     ((c.now-now.result, c.now-now.ensures.told, c.now-now.ensures.below, c.now-now.ensures.rises, (w0, begins, inl (c.in_err-begin.ensures.stops, refl))))
 
 pub returns-in_err-give-clause-stops : goal.returns-in_err-give-clause-stops
@@ -47,9 +46,7 @@ returns-in_err-give-clause-stops g c =
     let w0 = world_of c.begin_turn.new.self (dialling g.D.Dialer.calls g.D.Dialer.left g.D.Dialer.faults c.args.dialer.now) (g.K.Sink.held c.args.sink.now) in
     let begins = c.begin_turn.ensures (dialling g.D.Dialer.calls g.D.Dialer.left g.D.Dialer.faults c.args.dialer.now) (g.K.Sink.held c.args.sink.now) in
     at_err {P = Stopped g.C.Clock.readings g.C.Clock.newest c.args.clock.now c.now-now.new.self
-    (λ t. TurnStops (GoesDrawing g.N.Core.goes g.W.Words.gives g.W.Words.faults) g.L.Link.talk t c.args.start c.args.script.now c.args.listens (at_rest c.args.node.now c.args.random.now)
-    (world_of c.args.set.now (dialling g.D.Dialer.calls g.D.Dialer.left g.D.Dialer.faults c.args.dialer.now) (g.K.Sink.held c.args.sink.now)) (admitting g.A.Acceptor.left g.A.Acceptor.waits c.args.acceptor.now)
-    (world_of c.give.new.set (dialling g.D.Dialer.calls g.D.Dialer.left g.D.Dialer.faults c.give.new.dialer) (g.K.Sink.held c.give.new.sink)) (admitting g.A.Acceptor.left g.A.Acceptor.waits c.args.acceptor.now))} _
+    (λ t. TurnStops (GoesDrawing g.N.Core.goes g.W.Words.gives g.W.Words.faults) g.L.Link.talk t c.args.start c.args.script.now c.args.listens (moment (at_rest c.args.node.now c.args.random.now) (world_of c.args.set.now (dialling g.D.Dialer.calls g.D.Dialer.left g.D.Dialer.faults c.args.dialer.now) (g.K.Sink.held c.args.sink.now)) (admitting g.A.Acceptor.left g.A.Acceptor.waits c.args.acceptor.now)) (in_hands (world_of c.give.new.set (dialling g.D.Dialer.calls g.D.Dialer.left g.D.Dialer.faults c.give.new.dialer) (g.K.Sink.held c.give.new.sink)) (admitting g.A.Acceptor.left g.A.Acceptor.waits c.args.acceptor.now)))} _
     ((
       c.now-now.result,
       c.now-now.ensures.told,
@@ -72,9 +69,7 @@ returns-in_err-give_news-clause-stops g c =
     let w0 = world_of c.begin_turn.new.self (dialling g.D.Dialer.calls g.D.Dialer.left g.D.Dialer.faults c.args.dialer.now) (g.K.Sink.held c.args.sink.now) in
     let begins = c.begin_turn.ensures (dialling g.D.Dialer.calls g.D.Dialer.left g.D.Dialer.faults c.args.dialer.now) (g.K.Sink.held c.args.sink.now) in
     at_err {P = Stopped g.C.Clock.readings g.C.Clock.newest c.args.clock.now c.now-now.new.self
-    (λ t. TurnStops (GoesDrawing g.N.Core.goes g.W.Words.gives g.W.Words.faults) g.L.Link.talk t c.args.start c.args.script.now c.args.listens (at_rest c.args.node.now c.args.random.now)
-    (world_of c.args.set.now (dialling g.D.Dialer.calls g.D.Dialer.left g.D.Dialer.faults c.args.dialer.now) (g.K.Sink.held c.args.sink.now)) (admitting g.A.Acceptor.left g.A.Acceptor.waits c.args.acceptor.now)
-    (world_of c.give_news.new.set (dialling g.D.Dialer.calls g.D.Dialer.left g.D.Dialer.faults c.give_news.new.dialer) (g.K.Sink.held c.give_news.new.sink)) (admitting g.A.Acceptor.left g.A.Acceptor.waits c.args.acceptor.now))} _
+    (λ t. TurnStops (GoesDrawing g.N.Core.goes g.W.Words.gives g.W.Words.faults) g.L.Link.talk t c.args.start c.args.script.now c.args.listens (moment (at_rest c.args.node.now c.args.random.now) (world_of c.args.set.now (dialling g.D.Dialer.calls g.D.Dialer.left g.D.Dialer.faults c.args.dialer.now) (g.K.Sink.held c.args.sink.now)) (admitting g.A.Acceptor.left g.A.Acceptor.waits c.args.acceptor.now)) (in_hands (world_of c.give_news.new.set (dialling g.D.Dialer.calls g.D.Dialer.left g.D.Dialer.faults c.give_news.new.dialer) (g.K.Sink.held c.give_news.new.sink)) (admitting g.A.Acceptor.left g.A.Acceptor.waits c.args.acceptor.now)))} _
     ((
       c.now-now.result,
       c.now-now.ensures.told,
@@ -102,9 +97,7 @@ returns-in_err-left-clause-stops g c =
     let w0 = world_of c.begin_turn.new.self (dialling g.D.Dialer.calls g.D.Dialer.left g.D.Dialer.faults c.args.dialer.now) (g.K.Sink.held c.args.sink.now) in
     let begins = c.begin_turn.ensures (dialling g.D.Dialer.calls g.D.Dialer.left g.D.Dialer.faults c.args.dialer.now) (g.K.Sink.held c.args.sink.now) in
     at_err {P = Stopped g.C.Clock.readings g.C.Clock.newest c.args.clock.now c.now-now.new.self
-    (λ t. TurnStops (GoesDrawing g.N.Core.goes g.W.Words.gives g.W.Words.faults) g.L.Link.talk t c.args.start c.args.script.now c.args.listens (at_rest c.args.node.now c.args.random.now)
-    (world_of c.args.set.now (dialling g.D.Dialer.calls g.D.Dialer.left g.D.Dialer.faults c.args.dialer.now) (g.K.Sink.held c.args.sink.now)) (admitting g.A.Acceptor.left g.A.Acceptor.waits c.args.acceptor.now)
-    (world_of c.give_due.new.set (dialling g.D.Dialer.calls g.D.Dialer.left g.D.Dialer.faults c.give_due.new.dialer) (g.K.Sink.held c.give_due.new.sink)) (admitting g.A.Acceptor.left g.A.Acceptor.waits c.args.acceptor.now))} _
+    (λ t. TurnStops (GoesDrawing g.N.Core.goes g.W.Words.gives g.W.Words.faults) g.L.Link.talk t c.args.start c.args.script.now c.args.listens (moment (at_rest c.args.node.now c.args.random.now) (world_of c.args.set.now (dialling g.D.Dialer.calls g.D.Dialer.left g.D.Dialer.faults c.args.dialer.now) (g.K.Sink.held c.args.sink.now)) (admitting g.A.Acceptor.left g.A.Acceptor.waits c.args.acceptor.now)) (in_hands (world_of c.give_due.new.set (dialling g.D.Dialer.calls g.D.Dialer.left g.D.Dialer.faults c.give_due.new.dialer) (g.K.Sink.held c.give_due.new.sink)) (admitting g.A.Acceptor.left g.A.Acceptor.waits c.args.acceptor.now)))} _
     ((
       c.now-now.result,
       c.now-now.ensures.told,
@@ -140,9 +133,7 @@ returns-in_err-hear_all-clause-stops g c =
     let w0 = world_of c.begin_turn.new.self (dialling g.D.Dialer.calls g.D.Dialer.left g.D.Dialer.faults c.args.dialer.now) (g.K.Sink.held c.args.sink.now) in
     let begins = c.begin_turn.ensures (dialling g.D.Dialer.calls g.D.Dialer.left g.D.Dialer.faults c.args.dialer.now) (g.K.Sink.held c.args.sink.now) in
     at_err {P = Stopped g.C.Clock.readings g.C.Clock.newest c.args.clock.now c.now-now.new.self
-    (λ t. TurnStops (GoesDrawing g.N.Core.goes g.W.Words.gives g.W.Words.faults) g.L.Link.talk t c.args.start c.args.script.now c.args.listens (at_rest c.args.node.now c.args.random.now)
-    (world_of c.args.set.now (dialling g.D.Dialer.calls g.D.Dialer.left g.D.Dialer.faults c.args.dialer.now) (g.K.Sink.held c.args.sink.now)) (admitting g.A.Acceptor.left g.A.Acceptor.waits c.args.acceptor.now)
-    (world_of c.hear_all.new.set (dialling g.D.Dialer.calls g.D.Dialer.left g.D.Dialer.faults c.hear_all.new.dialer) (g.K.Sink.held c.hear_all.new.sink)) (admitting g.A.Acceptor.left g.A.Acceptor.waits c.args.acceptor.now))} _
+    (λ t. TurnStops (GoesDrawing g.N.Core.goes g.W.Words.gives g.W.Words.faults) g.L.Link.talk t c.args.start c.args.script.now c.args.listens (moment (at_rest c.args.node.now c.args.random.now) (world_of c.args.set.now (dialling g.D.Dialer.calls g.D.Dialer.left g.D.Dialer.faults c.args.dialer.now) (g.K.Sink.held c.args.sink.now)) (admitting g.A.Acceptor.left g.A.Acceptor.waits c.args.acceptor.now)) (in_hands (world_of c.hear_all.new.set (dialling g.D.Dialer.calls g.D.Dialer.left g.D.Dialer.faults c.hear_all.new.dialer) (g.K.Sink.held c.hear_all.new.sink)) (admitting g.A.Acceptor.left g.A.Acceptor.waits c.args.acceptor.now)))} _
     ((
       c.now-now.result,
       c.now-now.ensures.told,
@@ -190,9 +181,7 @@ returns-in_err-admit-clause-stops g c =
     let w0 = world_of c.begin_turn.new.self (dialling g.D.Dialer.calls g.D.Dialer.left g.D.Dialer.faults c.args.dialer.now) (g.K.Sink.held c.args.sink.now) in
     let begins = c.begin_turn.ensures (dialling g.D.Dialer.calls g.D.Dialer.left g.D.Dialer.faults c.args.dialer.now) (g.K.Sink.held c.args.sink.now) in
     at_err {P = Stopped g.C.Clock.readings g.C.Clock.newest c.args.clock.now c.now-now.new.self
-    (λ t. TurnStops (GoesDrawing g.N.Core.goes g.W.Words.gives g.W.Words.faults) g.L.Link.talk t c.args.start c.args.script.now c.args.listens (at_rest c.args.node.now c.args.random.now)
-    (world_of c.args.set.now (dialling g.D.Dialer.calls g.D.Dialer.left g.D.Dialer.faults c.args.dialer.now) (g.K.Sink.held c.args.sink.now)) (admitting g.A.Acceptor.left g.A.Acceptor.waits c.args.acceptor.now)
-    (world_of c.admit.new.set (dialling g.D.Dialer.calls g.D.Dialer.left g.D.Dialer.faults c.admit.new.dialer) (g.K.Sink.held c.admit.new.sink)) (admitting g.A.Acceptor.left g.A.Acceptor.waits c.admit.new.acceptor))} _
+    (λ t. TurnStops (GoesDrawing g.N.Core.goes g.W.Words.gives g.W.Words.faults) g.L.Link.talk t c.args.start c.args.script.now c.args.listens (moment (at_rest c.args.node.now c.args.random.now) (world_of c.args.set.now (dialling g.D.Dialer.calls g.D.Dialer.left g.D.Dialer.faults c.args.dialer.now) (g.K.Sink.held c.args.sink.now)) (admitting g.A.Acceptor.left g.A.Acceptor.waits c.args.acceptor.now)) (in_hands (world_of c.admit.new.set (dialling g.D.Dialer.calls g.D.Dialer.left g.D.Dialer.faults c.admit.new.dialer) (g.K.Sink.held c.admit.new.sink)) (admitting g.A.Acceptor.left g.A.Acceptor.waits c.admit.new.acceptor)))} _
     ((
       c.now-now.result,
       c.now-now.ensures.told,

@@ -1,8 +1,10 @@
 use Rattle.std.proofs.Common.{arith, subst}
+use Rattle.std.specs.Prelude.{option_map}
 use Rattle.std.specs.Arc.{arc_value}
-use Rattle.bsc_session.specs.Jobs.{Worked}
+use Rattle.bsc_session.specs.Jobs.{Worked, policy_of}
 use Rattle.bsc_hub.specs.declared.hub.Hub.{Hub}
 use Rattle.bsc_serve.specs.Inner.{GoesOn, Stock}
+use Rattle.bsc_serve.specs.Terms.{all_terms}
 use Rattle.bsc_serve.specs.Worlds.{ServeWorld}
 use Rattle.bsc_serve.proofs.Arrivals.{stays_same, stays_then}
 use Rattle.bsc_serve.proofs.Taking.{taken_begins}
@@ -12,13 +14,16 @@ pub loop-init : goal.loop-init
 loop-init g c =
     let A = g.A.Acceptor in
     let P = g.P.Spawner in
-    let W = Worked g.L.Link.talk g.L.Link.faults g.C.Clock.readings in
-    let first : ServeWorld g.row.L.Denot g.row.C.Denot = record { pass = c.args.pass.now; links = A.left c.args.acceptor.now; waits = A.waits c.args.acceptor.now; jobs = P.jobs c.args.spawner.now; out = P.out c.args.spawner.now; unstarted = P.faults c.args.spawner.now } in (
+    let W = Worked g.L.Link.talk g.L.Link.faults g.C.Clock.readings g.N.Sink.held g.N.Sink.faults in
+    let B = g.J.Journals.begins in
+    let terms = all_terms c.args.terms.now (option_map (λ p. p.now) c.args.prefix) (policy_of c.args.policy.now) in
+    let first : ServeWorld g.row.L.Denot g.row.C.Denot g.row.N.Denot = record { pass = c.args.pass.now; links = A.left c.args.acceptor.now; waits = A.waits c.args.acceptor.now; jobs = P.jobs c.args.spawner.now; out = P.out c.args.spawner.now; unstarted = P.faults c.args.spawner.now } in (
       c.requires.can,
       c.requires.pass,
-      taken_begins W (arc_value c.args.hub.now) c.args.terms.now first c.of-tally.result c.requires.pass c.requires.none c.of-tally.ensures.remaining c.of-tally.ensures.unstarted,
+      taken_begins W B (arc_value c.args.hub.now) terms first c.of-tally.result c.requires.pass c.requires.none c.of-tally.ensures.remaining c.of-tally.ensures.unstarted,
       omega arith,
       stays_same (A.bound c.args.acceptor.now),
+      omega arith,
       (tt, tt),
     )
 
@@ -26,18 +31,21 @@ pub loop-preserved : goal.loop-preserved
 loop-preserved g c =
     let A = g.A.Acceptor in
     let P = g.P.Spawner in
-    let W = Worked g.L.Link.talk g.L.Link.faults g.C.Clock.readings in
-    let first : ServeWorld g.row.L.Denot g.row.C.Denot = record { pass = c.args.pass.now; links = A.left c.args.acceptor.now; waits = A.waits c.args.acceptor.now; jobs = P.jobs c.args.spawner.now; out = P.out c.args.spawner.now; unstarted = P.faults c.args.spawner.now } in
-    let before : Stock g.row.L.Denot g.row.C.Denot = record { jobs = P.jobs c.loop.spawner; out = P.out c.loop.spawner; unstarted = P.faults c.loop.spawner } in
-    let after : Stock g.row.L.Denot g.row.C.Denot = record { jobs = P.jobs c.take_ended.new.spawner; out = P.out c.take_ended.new.spawner; unstarted = P.faults c.take_ended.new.spawner } in
-    let goes : GoesOn W (arc_value c.args.hub.now) c.loop.pass before c.take_ended.new.pass after =
-    subst (λ (y : Hub). GoesOn W y c.loop.pass before c.take_ended.new.pass after) c.deref.ensures c.take_ended.ensures.goes_on in
-    let taken = goes c.args.terms.now first (A.left c.loop.acceptor) (A.waits c.loop.acceptor) c.loop.tally c.loop.invariant.2 in
+    let W = Worked g.L.Link.talk g.L.Link.faults g.C.Clock.readings g.N.Sink.held g.N.Sink.faults in
+    let B = g.J.Journals.begins in
+    let terms = all_terms c.args.terms.now (option_map (λ p. p.now) c.args.prefix) (policy_of c.args.policy.now) in
+    let first : ServeWorld g.row.L.Denot g.row.C.Denot g.row.N.Denot = record { pass = c.args.pass.now; links = A.left c.args.acceptor.now; waits = A.waits c.args.acceptor.now; jobs = P.jobs c.args.spawner.now; out = P.out c.args.spawner.now; unstarted = P.faults c.args.spawner.now } in
+    let before : Stock g.row.L.Denot g.row.C.Denot g.row.N.Denot = record { jobs = P.jobs c.loop.spawner; out = P.out c.loop.spawner; unstarted = P.faults c.loop.spawner } in
+    let after : Stock g.row.L.Denot g.row.C.Denot g.row.N.Denot = record { jobs = P.jobs c.take_ended.new.spawner; out = P.out c.take_ended.new.spawner; unstarted = P.faults c.take_ended.new.spawner } in
+    let goes : GoesOn W B (arc_value c.args.hub.now) c.loop.pass before c.take_ended.new.pass after =
+    subst (λ (y : Hub). GoesOn W B y c.loop.pass before c.take_ended.new.pass after) c.deref.ensures c.take_ended.ensures.goes_on in
+    let taken = goes terms first (A.left c.loop.acceptor) (A.waits c.loop.acceptor) c.loop.tally c.loop.invariant.2 in
     let t = c.in_default.ensures.taken first taken in (
       c.in_default.ensures.again,
       t.went.caller,
       t,
       omega (arith, c.loop.invariant.3, c.in_default.ensures.later),
       stays_then (A.bound c.args.acceptor.now) (A.bound c.loop.acceptor) (A.bound c.take_next.new.acceptor) c.loop.invariant.4 c.in_default.ensures.bound,
+      omega (arith, c.loop.invariant.5, c.in_default.ensures.journals_later),
       (tt, tt),
     )

@@ -9,7 +9,7 @@ invariant-loop g l =
     (P.can_start l.fn.spawner → P.can_start l.spawner)
     × IsCaller l.fn.hub l.pass
     × AllOurs l.fn.hub (P.out l.spawner)
-    × GoesOn (Worked g.L.Link.talk g.L.Link.faults g.C.Clock.readings) l.fn.hub l.fn.pass
+    × GoesOn (Worked g.L.Link.talk g.L.Link.faults g.C.Clock.readings g.N.Sink.held g.N.Sink.faults) g.J.Journals.begins l.fn.hub l.fn.pass
     (record { jobs = P.jobs l.fn.spawner; out = P.out l.fn.spawner; unstarted = P.faults l.fn.spawner }) l.pass
     (record { jobs = P.jobs l.spawner; out = P.out l.spawner; unstarted = P.faults l.spawner })
     × ((goal.iterator-loop g).can_next l.iterator' × (goal.iterator-loop g).is_finite l.iterator')

@@ -1,17 +1,15 @@
-use Rattle.std.proofs.Common.{arith}
 use Rattle.bsc_checks.specs.declared.place.Place.TheVariants.{HubPort}
 use Rattle.bsc_checks.specs.declared.verdict.Verdict.TheVariants.{Pass, Carry}
 use Rattle.bsc_checks.specs.Verdicts.{Judged}
 use Rattle.bsc_checks.proofs.Verdicts.{carried_connected}
-use Rattle.bsc_verdict.proofs.Outcomes.{found_is, memory_is}
 use Rattle.bsc_session.proofs.Verdicts.{carried_route, asks_not_zero, asks_not_broadcast}
 use Rattle.bsc_session.proofs.judging.verdict.Goals as goal
 
 pub returns-clause-found : goal.returns-clause-found
-returns-clause-found c = found_is c.args.m.now (HubPort c.args.phase) c.args.max c.judge.result (λ i. let f = c.type_inv.m i in omega (arith, f)) c.judge.ensures.found
+returns-clause-found c = c.judge.ensures.outcome
 
 pub returns-clause-memory : goal.returns-clause-memory
-returns-clause-memory c = memory_is c.args.m.now (HubPort c.args.phase) c.args.max c.judge.result (λ i. let f = c.type_inv.m i in omega (arith, f)) c.judge.ensures.memory
+returns-clause-memory c = c.judge.ensures.passes
 
 pub returns-clause-route : goal.returns-clause-route
 returns-clause-route c e is = (let k : Judged c.args.m.now (HubPort c.args.phase) c.args.max (Carry e) = rw is at c.judge.ensures.found in carried_route c.args.m.now c.args.phase c.args.max e k)

@@ -1,4 +1,4 @@
-use Rattle.bsc_simulate.proofs.Telling.{writes_what_was_sent}
+use Rattle.bsc_network_script_laws.proofs.Telling.{writes_what_was_sent}
 use Rattle.bsc_simulate.proofs.simulating.simulate.Goals as goal
 
 pub returns-clause-delivers : goal.returns-clause-delivers

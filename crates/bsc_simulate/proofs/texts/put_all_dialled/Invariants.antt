@@ -1,5 +1,5 @@
 use Rattle.std.proofs.Common.{◌≡◌, ◌++◌, take, flat_map}
-use Rattle.bsc_simulate.specs.Written.{dialled_line}
+use Rattle.bsc_network_script.specs.Written.{dialled_line}
 use Rattle.bsc_simulate.proofs.texts.put_all_dialled.Given as goal
 
 abbrev pub invariant-loop-d : goal.invariant-loop-d

@@ -1,5 +1,5 @@
 use Rattle.std.proofs.Common.{◌≡◌, ◌++◌, take, flat_map}
-use Rattle.bsc_simulate.specs.Written.{delivery_line}
+use Rattle.bsc_network_script.specs.Written.{delivery_line}
 use Rattle.bsc_simulate.proofs.texts.put_deliveries.Given as goal
 
 abbrev pub invariant-loop-delivery : goal.invariant-loop-delivery

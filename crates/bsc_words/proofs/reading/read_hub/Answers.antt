@@ -13,11 +13,11 @@ returns-in_err-matches-clause-refused c e =
 pub returns-in-Some-clause-ok : goal.returns-in-Some-clause-ok
 returns-in-Some-clause-ok c =
     hub_found (app_of c.in_ok-hub_arguments.field-0) (map string_bytes c.args.words.now) (rows_of (found_of c.in_ok-matches.matches))
-    (option_map (λ s. s.now) c.value_at.result) (option_map (λ s. s.now) c.value_at-2.result) (Some (seen c.in-Some.asked)) c.in_ok-hub_arguments.ensures
-    c.in_ok-matches.ensures.fine c.in_ok-matches.ensures.found c.value_at.ensures c.value_at-2.ensures c.in-Some.ensures
+    (option_map (λ s. s.now) c.value_at-path.result) (option_map (λ s. s.now) c.value_at-sessions.result) (option_map (λ s. s.now) c.value_at-journal.result) (Some (seen c.in-Some.asked)) c.in_ok-hub_arguments.ensures
+    c.in_ok-matches.ensures.fine c.in_ok-matches.ensures.found c.value_at-path.ensures c.value_at-sessions.ensures c.value_at-journal.ensures c.in-Some.ensures
 
 pub returns-clause-refused : goal.returns-clause-refused
 returns-clause-refused c e =
     hub_found (app_of c.in_ok-hub_arguments.field-0) (map string_bytes c.args.words.now) (rows_of (found_of c.in_ok-matches.matches))
-    (option_map (λ s. s.now) c.value_at.result) (option_map (λ s. s.now) c.value_at-2.result) None c.in_ok-hub_arguments.ensures
-    c.in_ok-matches.ensures.fine c.in_ok-matches.ensures.found c.value_at.ensures c.value_at-2.ensures c.in-None.ensures
+    (option_map (λ s. s.now) c.value_at-path.result) (option_map (λ s. s.now) c.value_at-sessions.result) (option_map (λ s. s.now) c.value_at-journal.result) None c.in_ok-hub_arguments.ensures
+    c.in_ok-matches.ensures.fine c.in_ok-matches.ensures.found c.value_at-path.ensures c.value_at-sessions.ensures c.value_at-journal.ensures c.in-None.ensures

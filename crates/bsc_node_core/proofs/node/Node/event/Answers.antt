@@ -9,7 +9,7 @@ use Rattle.bsc_node_core.proofs.node.Node.event.Goals as goal
 pub returns-in-Ok-clause-ok : goal.returns-in-Ok-clause-ok
 returns-in-Ok-clause-ok c = λ a L h may.
     answered c.args.self.now c.follow.new.self a L c.args.now c.args.event.now c.follow.new.out c.touch_nothing.new.self c.catch_up.new.self c.comes.new.self c.in-Ok.ensures.limits c.in-Ok.ensures.spare c.touch_nothing.ensures c.catch_up.ensures c.comes.ensures
-    (λ b M l n i f x. c.in-Ok.ensures.goes b M l n i f (subst (λ (os : List Action). BothStand b os c.comes.new.self c.args.self.now.resolve M) (sym c.new-out.ensures) x)) h may
+    (λ b M r f x. c.in-Ok.ensures.goes b M r f (subst (λ (os : List Action). BothStand b os c.comes.new.self c.args.self.now.resolve M) (sym c.new-out.ensures) x)) h may
 
 pub returns-in-Err-clause-err : goal.returns-in-Err-clause-err
 returns-in-Err-clause-err c = λ a L h.

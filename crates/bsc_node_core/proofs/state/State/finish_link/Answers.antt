@@ -9,12 +9,12 @@ use Rattle.bsc_node_core.proofs.state.State.finish_link.Goals as goal
 
 pub returns-then-is_there : goal.returns-then-is_there
 returns-then-is_there c = on_ok_weaker c.finish_there.result
-    (λ g b L l n rest name h.
+    (λ g b L r name h.
     when-so (Stands b _ _) L (is_there c.args.name) (in_order (finishes_machine b.made c.args.name ∷ either (is_there c.args.name) nothing (ends b.made c.args.name) ∷ []))
-    ((h.links c.args.name name).there ∙ sym c.is_there.ensures ∙ c.if-is_there.true) (g b L l n rest name h))
+    ((h.links c.args.name name).there ∙ sym c.is_there.ensures ∙ c.if-is_there.true) (g b L r name h))
     c.finish_there.ensures
 
 pub returns-else-is_there : goal.returns-else-is_there
-returns-else-is_there c = λ b L l n rest name h.
+returns-else-is_there c = λ b L r name h.
     when-not (Stands b _ _) L (is_there c.args.name) (in_order (finishes_machine b.made c.args.name ∷ either (is_there c.args.name) nothing (ends b.made c.args.name) ∷ []))
     ((h.links c.args.name name).there ∙ sym c.is_there.ensures ∙ c.if-is_there.false) h

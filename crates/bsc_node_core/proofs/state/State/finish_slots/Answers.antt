@@ -8,17 +8,17 @@ use Rattle.bsc_node_core.proofs.EachSlot.{slot_rules, slots-more, slots-all}
 use Rattle.bsc_node_core.proofs.state.State.finish_slots.Goals as goal
 
 pub loop-k-init : goal.loop-k-init
-loop-k-init c = λ b L l n rest h. h
+loop-k-init c = λ b L r h. h
 
 pub loop-k-preserved : goal.loop-k-preserved
-loop-k-preserved c = λ b L l n rest h.
+loop-k-preserved c = λ b L r h.
     slots-more (Stands b _ _) (λ k. finishes_link b.made (Direct k)) c.loop-k.k L
-    (c.in_ok-finish_link.ensures b (after (slot_rules (λ k. finishes_link b.made (Direct k)) c.loop-k.k) L) l n rest (lt-ltb c.loop-k.k 64 c.loop-k-test.true) (c.loop-k.invariant b L l n rest h))
+    (c.in_ok-finish_link.ensures b (after (slot_rules (λ k. finishes_link b.made (Direct k)) c.loop-k.k) L) r (lt-ltb c.loop-k.k 64 c.loop-k-test.true) (c.loop-k.invariant b L r h))
 
 pub returns : goal.returns
-returns c = λ b L l n rest h.
+returns c = λ b L r h.
     let past = c.loop-k-test.false in
     let end = c.loop-k.auto.k-end in
     let all : c.loop-k.k ≡ 64 = omega (arith, past, end) in
     slots-all (Stands b _ _) (λ k. finishes_link b.made (Direct k)) L
-    (subst (λ (n : ℕ). Stands b c.loop-k.out c.loop-k.self (after (slot_rules (λ k. finishes_link b.made (Direct k)) n) L)) all (c.loop-k.invariant b L l n rest h))
+    (subst (λ (n : ℕ). Stands b c.loop-k.out c.loop-k.self (after (slot_rules (λ k. finishes_link b.made (Direct k)) n) L)) all (c.loop-k.invariant b L r h))

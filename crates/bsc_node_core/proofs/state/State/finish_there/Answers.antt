@@ -9,7 +9,7 @@ use Rattle.bsc_node_core.proofs.state.State.finish_there.Goals as goal
 
 pub returns : goal.returns
 returns c = on_ok_weaker c.end_gone.result
-    (λ g b L l n rest name h.
+    (λ g b L r name h.
     two-in-order (Stands b _ _) L (finishes_machine b.made c.args.name) (either (is_there c.args.name) nothing (ends b.made c.args.name))
-    (g b (L ++ finishes_machine b.made c.args.name L) l n rest name (c.in_ok-finish_machine.ensures b L n rest name h)))
+    (g b (L ++ finishes_machine b.made c.args.name L) r name (c.in_ok-finish_machine.ensures b L r.1 r.2 name h)))
     c.end_gone.ensures

@@ -2,8 +2,7 @@ use Rattle.std.proofs.Common.{ap, sym, ◌∙◌, refl}
 use Rattle.std.proofs.lemmas.Result.{IfOk-weaker}
 use Rattle.bsc_accept.specs.declared.event.Event.TheVariants.{Message}
 use Rattle.bsc_accept.specs.Past.{standing}
-use Rattle.bsc_node.specs.Links.{accepting_events, start}
-use Rattle.bsc_node.specs.Soundness.{is_in_connected}
+use Rattle.bsc_node.specs.Links.{accepting_events, start, is_in_connected}
 use Rattle.bsc_node_core.specs.Machines.{taken_in}
 use Rattle.bsc_node_core.specs.Rules.{origin_in}
 use Rattle.bsc_node_core.specs.Telling.{busy_with}

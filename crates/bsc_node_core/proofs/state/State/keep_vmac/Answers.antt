@@ -10,7 +10,7 @@ use Rattle.bsc_node_core.proofs.state.State.keep_vmac.Goals as goal
 
 pub returns : goal.returns
 returns c = on_ok_weaker c.end_refused.result
-    (λ g b L l n rest h.
+    (λ g b L r h.
     two-in-order (Stands b _ _) L (tells NoRandom) (ends_refused b.made)
-    (g b (L ++ tells NoRandom L) l n rest (told-stands b c.args.out.now _ c.args.self.now L (tells NoRandom L) NoRandom c.in_ok-tell.ensures refl h)))
+    (g b (L ++ tells NoRandom L) r (told-stands b c.args.out.now _ c.args.self.now L (tells NoRandom L) NoRandom c.in_ok-tell.ensures refl h)))
     c.end_refused.ensures

@@ -6,12 +6,12 @@ use Rattle.bsc_node_core.proofs.state.State.meet_hub.Goals as goal
 
 pub returns-then-is_under_way : goal.returns-then-is_under_way
 returns-then-is_under_way c = on_ok_weaker c.tell_connector.result
-    (λ g b L who l n none told.
-    let h = hub-told b c.args.out.now c.args.self.now L c.args.side who none told in
-    hub-met b _ _ L c.args.side who (sym (c.is_under_way.ensures.told (waits b.made) (hub_events L) h.connector) ∙ c.if-is_under_way.true) (g b L l n none h))
+    (λ g b L who r told.
+    let h = hub-told b c.args.out.now c.args.self.now L c.args.side who r.2 told in
+    hub-met b _ _ L c.args.side who (sym (c.is_under_way.ensures.told (waits b.made) (hub_events L) h.connector) ∙ c.if-is_under_way.true) (g b L r h))
     c.tell_connector.ensures
 
 pub returns-else-is_under_way : goal.returns-else-is_under_way
-returns-else-is_under_way c = λ b L who l n none told.
-    let h = hub-told b c.args.out.now c.args.self.now L c.args.side who none told in
+returns-else-is_under_way c = λ b L who r told.
+    let h = hub-told b c.args.out.now c.args.self.now L c.args.side who r.2 told in
     hub-unmet b c.args.out.now c.args.self.now L c.args.side who (sym (c.is_under_way.ensures.told (waits b.made) (hub_events L) h.connector) ∙ c.if-is_under_way.false) h

@@ -8,15 +8,15 @@ use Rattle.bsc_node_core.proofs.state.State.meet_slot.Goals as goal
 
 pub returns-in-Asked : goal.returns-in-Asked
 returns-in-Asked c = on_ok_weaker c.meet_taken.result
-    (λ g b L l n none u told.
+    (λ g b L r u told.
     let is = sym (ap (λ (k : Kept). k.machine) c.get.ensures) ∙ c.in-Asked.is in
-    met-taken b _ _ L c.args.k c.args.who (asked-taken b c.args.out.now c.args.self.now L (Direct c.args.k) _ (lt-ltb c.args.k 64 c.requires.claimed.within) is told.stands)
-    (g b L l n none is told.stands))
+    met-taken b _ _ L c.args.k c.args.who (asked-taken b c.args.out.now c.args.self.now L (Direct c.args.k) _ (lt-ltb c.args.k 64 c.requires.within) is told.stands)
+    (g b L r is told.stands))
     c.meet_taken.ensures
 
 pub returns-in-Gone : goal.returns-in-Gone
 returns-in-Gone c = on_ok_weaker c.meet_dialled.result
-    (λ g b L l n none u told.
-    let d = told-dialled b c.args.out.now c.args.self.now L (Direct c.args.k) c.args.who _ none (ap (λ (k : Kept). k.machine) c.get.ensures) (not-asked _ c.in-Gone.is) told in
-    met-dialled b _ _ L c.args.k c.args.who d.0 (g b L l n none d.1))
+    (λ g b L r u told.
+    let d = told-dialled b c.args.out.now c.args.self.now L (Direct c.args.k) c.args.who _ r.2 (ap (λ (k : Kept). k.machine) c.get.ensures) (not-asked _ c.in-Gone.is) told in
+    met-dialled b _ _ L c.args.k c.args.who d.0 (g b L r d.1))
     c.meet_dialled.ensures

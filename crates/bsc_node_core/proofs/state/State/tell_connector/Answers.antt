@@ -8,9 +8,9 @@ use Rattle.bsc_node_core.proofs.state.State.tell_connector.Goals as goal
 
 pub returns : goal.returns
 returns c = on_ok_weaker c.drop_failover.result
-    (λ g b L l n rest h.
+    (λ g b L r h.
     let a = b.made in
-    let t = c.told-step.ensures b c.args.out.now L n h in
+    let t = c.told-step.ensures b c.args.out.now L r.1 h in
     let M = L ++ told c.args.event L in
     let N = M ++ dials_primary a M in
     let O = N ++ dials_failover a N in
@@ -19,12 +19,12 @@ returns c = on_ok_weaker c.drop_failover.result
     let later = step-kept a (dials_failover a) N (silent-failover a) ∙ step in
     let latest = step-kept a tells_use O silent-use ∙ later in
     let before = use_before-kept (dials_failover a) N (silent-failover a) ∙ use_before-kept (dials_primary a) M (silent-primary a) ∙ use_before-told L c.args.event ∙ sym (c.hub_use-before.ensures (waits a) (hub_events L) h.connector) in
-    let primary = c.in_ok-try_primary.ensures b M l n t.1 t.0 in
-    let failover = c.in_ok-try_failover.ensures b N l n step primary in
+    let primary = c.in_ok-try_primary.ensures b M r.0 r.1 t.1 t.0 in
+    let failover = c.in_ok-try_failover.ensures b N r.0 r.1 step primary in
     let used = c.in_ok-tell_use.ensures b O before failover in
     first-then b _ _ L (told c.args.event) (dials_primary a ∷ dials_failover a ∷ tells_use ∷ drops_failover a ∷ [])
     (first-then b _ _ M (dials_primary a) (dials_failover a ∷ tells_use ∷ drops_failover a ∷ [])
     (first-then b _ _ N (dials_failover a) (tells_use ∷ drops_failover a ∷ [])
     (first-then b _ _ O tells_use (drops_failover a ∷ [])
-    (first-then b _ _ Q (drops_failover a) [] (none-left b _ _ (Q ++ drops_failover a Q) (g b Q n rest latest used)))))))
+    (first-then b _ _ Q (drops_failover a) [] (none-left b _ _ (Q ++ drops_failover a Q) (g b Q r.1 r.2 latest used)))))))
     c.drop_failover.ensures

@@ -14,14 +14,14 @@ use Rattle.bsc_node_core.proofs.state.State.tick.Goals as goal
 
 pub returns : goal.returns
 returns c = on_ok_weaker c.tell_connector.result
-    (λ g b L l w rest h.
+    (λ g b L r h.
     let f = ticks_link b.made in
     let tells = tells_connector b.made Tick in
-    let primary = c.in_ok-tick_link.ensures b L l w rest refl h in
+    let primary = c.in_ok-tick_link.ensures b L r refl h in
     let M = L ++ f (Hub Primary) L in
-    let failover = c.in_ok-tick_link-2.ensures b M l w rest refl primary in
+    let failover = c.in_ok-tick_link-2.ensures b M r refl primary in
     let N = M ++ f (Hub Failover) M in
     let O = L ++ in_order (map f names) L in
-    let all = names-then (Stands b _ _) f L (c.in_ok-tick_slots.ensures b N l w rest failover) in
-    some-then (Stands b _ _) L (map f names) (tells ∷ []) (first-then b _ _ O tells [] (none-left b _ _ (O ++ tells O) (g b O l w rest all))))
+    let all = names-then (Stands b _ _) f L (c.in_ok-tick_slots.ensures b N r failover) in
+    some-then (Stands b _ _) L (map f names) (tells ∷ []) (first-then b _ _ O tells [] (none-left b _ _ (O ++ tells O) (g b O r all))))
     c.tell_connector.ensures

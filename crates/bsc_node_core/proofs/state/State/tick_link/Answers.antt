@@ -8,11 +8,11 @@ use Rattle.bsc_node_core.proofs.state.State.tick_link.Goals as goal
 
 pub returns-in_ok-deed : goal.returns-in_ok-deed
 returns-in_ok-deed c = on_ok_weaker c.obey.result
-    (λ g b L l w none n h.
+    (λ g b L r n h.
     let t = (h.links c.args.name n).there ∙ sym c.is_there.ensures ∙ c.if-is_there.true in
-    ticked b _ _ L c.args.name t (g b (L ++ ticks c.args.name L) None l w none n (unmet-ticked b.made c.args.name L) (λ e. refl) (c.in_ok-deed.ensures b c.args.out.now L w none n t h)))
+    ticked b _ _ L c.args.name t (g b (L ++ ticks c.args.name L) None r n (unmet-ticked b.made c.args.name L) (λ e. refl) (c.in_ok-deed.ensures b c.args.out.now L r.1 r.2 n t h)))
     c.obey.ensures
 
 pub returns-else-is_there : goal.returns-else-is_there
-returns-else-is_there c = λ b L l w none n h.
+returns-else-is_there c = λ b L r n h.
     when-not (Stands b c.args.out.now c.args.self.now) L (is_there c.args.name) _ ((h.links c.args.name n).there ∙ sym c.is_there.ensures ∙ c.if-is_there.false) h

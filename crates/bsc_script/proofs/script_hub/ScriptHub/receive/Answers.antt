@@ -1,9 +1,7 @@
 -- A message is judged, its machine is told, and the step is carried out.
-use Rattle.std.proofs.Common.{◌≡◌, ◌++◌, IfOk, arith, sym, ap, ◌∙◌, refl, subst}
+use Rattle.std.proofs.Common.{◌≡◌, ◌++◌, IfOk, ap, ◌∙◌, refl, subst}
 use Rattle.bsc_checks.specs.declared.place.Place.TheVariants.{HubPort}
 use Rattle.bsc_accept.specs.declared.event.Event.TheVariants.{Message as Came}
-use Rattle.bsc_verdict.proofs.Existence.{outcome_judged}
-use Rattle.bsc_checks.specs.Verdicts.{Judged}
 use Rattle.bsc_script.specs.Written.{text_of}
 use Rattle.bsc_script.specs.States.{told, with_peer}
 use Rattle.bsc_script.specs.Receiving.{silence, acts, gets_verdict, verdict_on}
@@ -14,7 +12,7 @@ use Rattle.bsc_script.proofs.Changes.{kept, within_still, some_at, indexed}
 use Rattle.bsc_script.proofs.Carried.{lines_carried}
 use Rattle.bsc_script.proofs.Ready.{open_some}
 use Rattle.bsc_script.proofs.Received.{awaits, judged_phase}
-use Rattle.bsc_verdict.specs.Outcomes.{outcome_of}
+use Rattle.bsc_checks.specs.Outcomes.{outcome_of}
 use Rattle.bsc_accept.specs.Past.{phase}
 use Rattle.bsc_script.specs.Carrying.{and_then, step_of}
 use Rattle.bsc_script.proofs.script_hub.ScriptHub.receive.Goals as goal
@@ -32,7 +30,7 @@ act-requires-clause-some c =
     let s = c.requires.some.0 in
     let h = c.requires.some.1 in
     let place = HubPort c.phase.result in
-    let judged = subst (Judged c.args.message.now place t.about.hub.max_bvlc) (sym c.in_ok-verdict.ensures.found) (outcome_judged c.args.message.now place t.about.hub.max_bvlc (λ i. let f = c.type_inv.message i in omega (arith, f))) in
+    let judged = c.in_ok-verdict.ensures.found in
     let k = some_at t s c.args.at (c.pair_mut-peer.result.0.now, c.pair_mut-peer.result.1.now) h.0 c.pair_mut-peer.ensures.value in (
       _,
       _,
@@ -46,13 +44,13 @@ returns c = λ s k h here. (
     let v = c.in_ok-verdict.verdict in
     let e = Came t.clock v in
     let place = HubPort c.phase.result in
-    let judged = subst (Judged c.args.message.now place t.about.hub.max_bvlc) (sym c.in_ok-verdict.ensures.found) (outcome_judged c.args.message.now place t.about.hub.max_bvlc (λ i. let f = c.type_inv.message i in omega (arith, f))) in
+    let judged = c.in_ok-verdict.ensures.found in
     let w = awaits t _ s c.args.at c.args.message.now k (c.pair_mut-peer.result.0.now, c.pair_mut-peer.result.1.now) v c.message-step.new.self c.message-step.result c.phase.result t.about.hub.max_bvlc h here c.pair_mut-peer.ensures.value
     c.message-step.ensures.step c.message-step.ensures.left judged refl refl refl refl refl in
     let same_phase = judged_phase t s c.args.at k (c.pair_mut-peer.result.0.now, c.pair_mut-peer.result.1.now) c.peer_at.result.now c.phase.result h here c.pair_mut-peer.ensures.value
     (c.peer_at.ensures (kept (c.pair_mut-peer.result.0.now, c.pair_mut-peer.result.1.now)) (get-map kept t.peers.entries c.args.at (c.pair_mut-peer.result.0.now, c.pair_mut-peer.result.1.now) c.pair_mut-peer.ensures.value)) c.phase.ensures.told in
     let verdict : v ≡ verdict_on s k c.args.message.now =
-    c.in_ok-verdict.ensures.found
+    c.in_ok-verdict.ensures.outcome
     ∙ ap (λ p. outcome_of c.args.message.now (HubPort p) t.about.hub.max_bvlc) same_phase
     ∙ ap (λ a. outcome_of c.args.message.now (HubPort (phase k.events)) a.hub.max_bvlc) h.0.same_hub in
     let name = c.name_at.ensures s.peers k (indexed t s h.0) here in

@@ -2,7 +2,7 @@ use Rattle.std.proofs.Common.{OnOk, Some, None, sym, ap, subst}
 use Rattle.bsc_accept.specs.Steps.{closes as is_closing}
 use Rattle.bsc_accept.specs.Standing.{LeftBy}
 use Rattle.bsc_network.specs.HubSides.{acts_on, forwards, unless_over}
-use Rattle.bsc_world.specs.Becoming.{Goes}
+use Rattle.bsc_world.specs.Becoming.{BecomesBusy}
 use Rattle.bsc_world.specs.SideCalls.{IsFor, asks}
 use Rattle.bsc_world.proofs.SideCalls.{still_ready}
 use Rattle.bsc_world.proofs.SideHears.{acts_other, asks_not, ready_for, settled_goes, settled_stands}
@@ -22,7 +22,7 @@ pub connect-requires-clause-alone : goal.connect-requires-clause-alone
 connect-requires-clause-alone c = λ kept side got is. (c.requires.left kept side got is).1 (ap asks c.in-Ask.is)
 
 pub returns-in-Ask : goal.returns-in-Ask
-returns-in-Ask c = subst (λ s. OnOk c.connect.result (Goes (Some c.args.link) None (unless_over c.args.link (acts_on c.args.link c.args.place c.args.m.now s)) c.args.self.now c.connect.new.self)) (sym c.in-Ask.is) c.connect.ensures
+returns-in-Ask c = subst (λ s. OnOk c.connect.result (BecomesBusy (Some c.args.link) None (unless_over c.args.link (acts_on c.args.link c.args.place c.args.m.now s)) c.args.self.now c.connect.new.self)) (sym c.in-Ask.is) c.connect.ensures
 
 pub forward-requires-clause-route : goal.forward-requires-clause-route
 forward-requires-clause-route c = subst (IsFor c.args.m.now) c.in-Carry.is c.requires.fits
@@ -38,7 +38,7 @@ returns-in-Carry c =
     let t = c.args.self.now in
     let l = c.args.link in
     let ready = still_ready t l c.args.step (ap is_closing c.in-Carry.is) (ap asks c.in-Carry.is) (ready_for t l c.args.step c.requires.left) in
-    subst (λ s. OnOk c.forward.result (Goes (Some l) None (unless_over l (acts_on l c.args.place c.args.m.now s)) t c.forward.new.self)) (sym c.in-Carry.is)
+    subst (λ s. OnOk c.forward.result (BecomesBusy (Some l) None (unless_over l (acts_on l c.args.place c.args.m.now s)) t c.forward.new.self)) (sym c.in-Carry.is)
     (on_ok c.forward.result (settled_goes t c.forward.new.self l (unless_over l (forwards l c.args.place c.args.m.now)) ready) c.forward.ensures)
 
 pub carry_out-requires-clause-left : goal.carry_out-requires-clause-left
@@ -51,4 +51,4 @@ pub returns-in_default : goal.returns-in_default
 returns-in_default c =
     let t = c.args.self.now in
     let l = c.args.link in
-    subst (λ f. OnOk c.carry_out.result (Goes (Some l) None (unless_over l f) t c.carry_out.new.self)) (sym (acts_other l c.args.place c.args.m.now c.args.step c.in_default.not-Ask c.in_default.not-Carry)) c.carry_out.ensures
+    subst (λ f. OnOk c.carry_out.result (BecomesBusy (Some l) None (unless_over l f) t c.carry_out.new.self)) (sym (acts_other l c.args.place c.args.m.now c.args.step c.in_default.not-Ask c.in_default.not-Carry)) c.carry_out.ensures

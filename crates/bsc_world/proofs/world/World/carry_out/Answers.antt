@@ -4,7 +4,7 @@ use Rattle.bsc_network.specs.declared.way.Way.TheVariants.{Down}
 use Rattle.bsc_network.specs.declared.parcel.Content.TheVariants.{Message}
 use Rattle.bsc_network.specs.Changes.{puts_now}
 use Rattle.bsc_network.specs.HubSides.{carries_out, unless_over}
-use Rattle.bsc_world.specs.Becoming.{Goes, Keeps}
+use Rattle.bsc_world.specs.Becoming.{BecomesBusy, Keeps}
 use Rattle.bsc_world.specs.SideCalls.{asks}
 use Rattle.bsc_world.proofs.Goings.{stands_goes}
 use Rattle.bsc_world.proofs.SideCalls.{idle_goes, kept_ready, reply_close_goes, reply_goes, still_ready}
@@ -22,7 +22,7 @@ returns-in_ok-message-in-Reply c =
     let l = c.args.link in
     let is = c.in-Reply.is in
     let same : c.in_ok-message-in-Reply.message ≡ c.in-Reply.octets.items = c.in_ok-message-in-Reply.ensures ∙ c.as_slice.ensures.value in
-    subst (λ st. OnOk c.put_down.result (Goes (Some l) None (unless_over l (carries_out l st)) t u)) (sym is)
+    subst (λ st. OnOk c.put_down.result (BecomesBusy (Some l) None (unless_over l (carries_out l st)) t u)) (sym is)
     (both_ok c.put_down.result (λ sides goes. reply_goes t u l (puts_now l Down (Message c.in-Reply.octets.items)) (subst (λ m. Keeps (unless_over l (puts_now l Down (Message m))) t u) same goes) (kept_ready t u l c.args.step (ap is_closing is) c.requires.no_ask c.requires.left sides))
     c.put_down.ensures.sides c.put_down.ensures.goes)
 
@@ -39,14 +39,14 @@ returns-in_ok-put_down-in-ReplyClose c =
     let is = c.in-ReplyClose.is in
     let same : c.in_ok-message-in-ReplyClose.message ≡ c.in-ReplyClose.octets.items = c.in_ok-message-in-ReplyClose.ensures ∙ c.as_slice-in-ReplyClose.ensures.value in
     let goes = subst (λ m. Keeps (unless_over l (puts_now l Down (Message m))) t u) same c.in_ok-put_down-in-ReplyClose.ensures.goes in
-    subst (λ st. OnOk c.close.result (Goes (Some l) None (unless_over l (carries_out l st)) t c.close.new.self)) (sym is)
+    subst (λ st. OnOk c.close.result (BecomesBusy (Some l) None (unless_over l (carries_out l st)) t c.close.new.self)) (sym is)
     (on_ok c.close.result (reply_close_goes t u c.close.new.self l c.in-ReplyClose.octets.items goes) c.close.ensures)
 
 pub returns-in-Close : goal.returns-in-Close
 returns-in-Close c =
     let t = c.args.self.now in
     let l = c.args.link in
-    subst (λ st. OnOk c.close-in-Close.result (Goes (Some l) None (unless_over l (carries_out l st)) t c.close-in-Close.new.self)) (sym c.in-Close.is) c.close-in-Close.ensures
+    subst (λ st. OnOk c.close-in-Close.result (BecomesBusy (Some l) None (unless_over l (carries_out l st)) t c.close-in-Close.new.self)) (sym c.in-Close.is) c.close-in-Close.ensures
 
 pub returns-in-Ask : goal.returns-in-Ask
 returns-in-Ask c =
@@ -55,8 +55,8 @@ returns-in-Ask c =
     elim c.in-Ask.is [
       | inl a ↦ absurd (true≢false (ap asks (sym a.1) ∙ c.requires.no_ask))
       | inr a ↦ elim a [
-        | inl e ↦ subst (λ st. Goes (Some l) None (unless_over l (carries_out l st)) t t) (sym e) (idle_goes t l (still_ready t l c.args.step (ap is_closing e) c.requires.no_ask c.requires.left))
-        | inr e ↦ subst (λ st. Goes (Some l) None (unless_over l (carries_out l st)) t t) (sym e) (idle_goes t l (still_ready t l c.args.step (ap is_closing e) c.requires.no_ask c.requires.left))
+        | inl e ↦ subst (λ st. BecomesBusy (Some l) None (unless_over l (carries_out l st)) t t) (sym e) (idle_goes t l (still_ready t l c.args.step (ap is_closing e) c.requires.no_ask c.requires.left))
+        | inr e ↦ subst (λ st. BecomesBusy (Some l) None (unless_over l (carries_out l st)) t t) (sym e) (idle_goes t l (still_ready t l c.args.step (ap is_closing e) c.requires.no_ask c.requires.left))
       ]
     ]
 

@@ -1,8 +1,6 @@
-use Rattle.std.proofs.Common.{◌≤◌, ◌<◌, length, refl, sym, subst, arith}
+use Rattle.std.proofs.Common.{◌≤◌, ◌<◌, length, refl, arith}
 use Rattle.std.proofs.lemmas.Option.{slice_get_read}
 use Rattle.bsc_checks.specs.declared.place.Place.TheVariants.{HubPort}
-use Rattle.bsc_checks.specs.Verdicts.{Judged}
-use Rattle.bsc_verdict.proofs.Existence.{outcome_judged}
 use Rattle.bsc_world.proofs.SideHears.{heard, heard_for, heard_left, heard_past, open_machine}
 use Rattle.bsc_world.proofs.world.World.hear_at.Goals as goal
 
@@ -29,7 +27,7 @@ returns-clause-fits c =
     let within : l < length t.links.items = omega (arith, c.if-len-place.false, c.len.ensures, t.links.ok.0) in
     let was = slice_get_read t.links.items (length t.links.items) l k refl within c.index_mut-kept.ensures.value in
     let place = HubPort c.args.phase in
-    let judged = subst (Judged c.args.m.now place c.args.max) (sym c.in_ok-verdict.ensures.found) (outcome_judged c.args.m.now place c.args.max (λ i. let f = c.type_inv.m i in omega (arith, f))) in
+    let judged = c.in_ok-verdict.ensures.found in
     heard_for t l k c.hear_message.new.self c.hear_message.result t.clock c.args.m.now c.args.phase c.args.max c.in_ok-verdict.verdict was c.hear_message.ensures c.requires.some judged
 
 pub returns-clause-left : goal.returns-clause-left
@@ -48,4 +46,4 @@ returns-clause-told c =
     let k = c.index_mut-kept.result.now in
     let within : l < length t.links.items = omega (arith, c.if-len-place.false, c.len.ensures, t.links.ok.0) in
     let was = slice_get_read t.links.items (length t.links.items) l k refl within c.index_mut-kept.ensures.value in
-    heard t _ l k c.hear_message.new.self c.hear_message.result c.args.m.now c.args.phase c.args.max c.in_ok-verdict.verdict was (record { clock = refl; made = refl; spent = refl; nodes = refl; links = refl }) refl c.hear_message.ensures c.requires.port c.in_ok-verdict.ensures.found
+    heard t _ l k c.hear_message.new.self c.hear_message.result c.args.m.now c.args.phase c.args.max c.in_ok-verdict.verdict was (record { clock = refl; made = refl; spent = refl; nodes = refl; links = refl }) refl c.hear_message.ensures c.requires.port c.in_ok-verdict.ensures.outcome

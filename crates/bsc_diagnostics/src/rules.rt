@@ -1,0 +1,201 @@
+//! Rules of words, which several languages share. Each is kept by exactly the words that the reader of such a word takes.
+ghost use Rattle.std.specs.Prelude.{◌≡◌, ◌<◌, ◌↔◌, true, [], ◌∷◌, length, is_some, IsOk, IsErr, IfOk};
+ghost use Rattle.bsc_text.specs.Words.{words_of};
+ghost use Rattle.bsc_text.specs.Grammar.{device_of_word, is_name, maximum_of_word, number_of, vmac_of_word};
+
+use crate::diagnostic::Diagnostic;
+use bsc_octets::Vmac;
+use bsc_text::{is_name, next_word, read_device, read_maximum, read_number, read_vmac};
+
+/// What a VMAC is.
+const VMAC: &str = "is no VMAC of 12 hexadecimal digits";
+
+/// What a number is.
+const NUMBER: &str = "is no number of 1 to 19 digits without a sign or a leading zero";
+
+/// The latest time that the clock of a script may be set to: 10^15 milliseconds.
+const LATEST: u64 = 1_000_000_000_000_000;
+
+/// Whether something is so of a word, by the rule that it breaks otherwise.
+pub fn hold<'a>(is_so: bool, word: &'a [u8], rule: &'static str) -> Result<(), Diagnostic<'a>>
+    ensures { IsOk result ↔ (is_so ≡ true) }
+{
+    if is_so {
+        Ok(())
+    } else {
+        Err(Diagnostic::Word { word, rule })
+    }
+}
+
+/// The next word of a line of this form, and those behind it.
+pub fn word_of<'a>(
+    words: &'a [u8],
+    form: &'static str,
+) -> Result<(&'a [u8], &'a [u8]), Diagnostic<'a>>
+    ensures word { IfOk result (λ p. words_of words.now ≡ p.0.now ∷ words_of p.1.now) }
+    ensures missing { IsErr result → words_of words.now ≡ [] }
+    ensures shorter { IfOk result (λ p. length p.1.now < length words.now) }
+{
+    match next_word(words) {
+        Some(found) => Ok(found),
+        None => Err(Diagnostic::Missing { form }),
+    }
+}
+
+/// No words, behind those of a line of this form.
+pub fn no_more<'a>(words: &'a [u8], form: &'static str) -> Result<(), Diagnostic<'a>>
+    ensures { IsOk result ↔ (words_of words.now ≡ []) }
+{
+    match next_word(words) {
+        Some((word, _)) => Err(Diagnostic::More { word, form }),
+        None => Ok(()),
+    }
+}
+
+/// The only word of a line of this form, behind its first.
+pub fn only_word<'a>(words: &'a [u8], form: &'static str) -> Result<&'a [u8], Diagnostic<'a>>
+    ensures { IfOk result (λ word. words_of words.now ≡ word.now ∷ []) }
+{
+    let (word, rest) = word_of(words, form)?;
+    no_more(rest, form)?;
+    Ok(word)
+}
+
+/// A name.
+pub fn hold_name<'a>(word: &'a [u8]) -> Result<(), Diagnostic<'a>>
+    ensures { IsOk result ↔ (is_name word.now ≡ true) }
+{
+    hold(
+        is_name(word),
+        word,
+        "is no name of 1 to 16 letters, digits or `_`, or is `hub`",
+    )
+}
+
+/// A VMAC.
+pub fn hold_vmac<'a>(word: &'a [u8]) -> Result<(), Diagnostic<'a>>
+    ensures { IsOk result ↔ (is_some (vmac_of_word word.now) ≡ true) }
+{
+    hold(read_vmac(word).is_some(), word, VMAC)
+}
+
+/// A VMAC that isn't zero.
+pub fn hold_destination<'a>(word: &'a [u8]) -> Result<(), Diagnostic<'a>>
+    ensures { IsOk result → is_some (vmac_of_word word.now) ≡ true }
+{
+    match read_vmac(word) {
+        Some(vmac) => hold(vmac != Vmac::ZERO, word, "is the VMAC zero"),
+        None => Err(Diagnostic::Word { word, rule: VMAC }),
+    }
+}
+
+/// A VMAC of one node.
+pub fn hold_one_node<'a>(word: &'a [u8]) -> Result<(), Diagnostic<'a>>
+    ensures { IsOk result → is_some (vmac_of_word word.now) ≡ true }
+{
+    match read_vmac(word) {
+        Some(vmac) => hold(
+            vmac != Vmac::ZERO && vmac != Vmac::BROADCAST,
+            word,
+            "is the VMAC zero or the broadcast, which are no one node's",
+        ),
+        None => Err(Diagnostic::Word { word, rule: VMAC }),
+    }
+}
+
+/// A device.
+pub fn hold_device<'a>(word: &'a [u8]) -> Result<(), Diagnostic<'a>>
+    ensures { IsOk result ↔ (is_some (device_of_word word.now) ≡ true) }
+{
+    hold(read_device(word).is_some(), word, "is no UUID")
+}
+
+/// A maximum length, whichever it is.
+pub fn hold_any_maximum<'a>(word: &'a [u8]) -> Result<(), Diagnostic<'a>>
+    ensures { IsOk result ↔ (is_some (maximum_of_word word.now) ≡ true) }
+{
+    hold(
+        read_maximum(word).is_some(),
+        word,
+        "is no maximum length of 4 hexadecimal digits",
+    )
+}
+
+/// A maximum length of at least so many octets.
+fn hold_maximum<'a>(word: &'a [u8], least: u16, rule: &'static str) -> Result<(), Diagnostic<'a>> {
+    match read_maximum(word) {
+        Some(n) => hold(least <= n, word, rule),
+        None => hold_any_maximum(word),
+    }
+}
+
+/// The longest message and the longest NPDU that a hub takes.
+pub fn hold_lengths<'a>(bvlc: &'a [u8], npdu: &'a [u8]) -> Result<(), Diagnostic<'a>> {
+    hold_maximum(bvlc, 64, "is a longest message below 0040")?;
+    hold_maximum(npdu, 1, "is a longest NPDU below 0001")
+}
+
+/// A number.
+pub fn hold_number<'a>(word: &'a [u8]) -> Result<(), Diagnostic<'a>>
+    ensures { IsOk result ↔ (is_some (number_of word.now) ≡ true) }
+{
+    hold(read_number(word).is_some(), word, NUMBER)
+}
+
+/// A number from one to another.
+pub fn hold_within<'a>(
+    word: &'a [u8],
+    least: u64,
+    greatest: u64,
+    rule: &'static str,
+) -> Result<(), Diagnostic<'a>> {
+    match read_number(word) {
+        Some(n) => hold(least <= n && n <= greatest, word, rule),
+        None => Err(Diagnostic::Word { word, rule }),
+    }
+}
+
+/// Whether an octet is a hexadecimal digit, in either case.
+fn is_digit(octet: u8) -> bool {
+    matches!(octet, b'0'..=b'9' | b'A'..=b'F' | b'a'..=b'f')
+}
+
+/// Hexadecimal digits.
+pub fn hold_digits<'a>(word: &'a [u8]) -> Result<(), Diagnostic<'a>> {
+    hold(
+        word.iter().all(|octet| is_digit(*octet)),
+        word,
+        "has octets that are no hexadecimal digits",
+    )
+}
+
+/// Octets, over any number of words.
+pub fn hold_octets<'a>(words: &'a [u8]) -> Result<(), Diagnostic<'a>> {
+    let mut rest = words;
+    let mut is_odd = false;
+    while let Some((word, after)) = next_word(rest) {
+        hold_digits(word)?;
+        is_odd = is_odd != (word.len() % 2 == 1);
+        rest = after;
+    }
+    if is_odd {
+        return Err(Diagnostic::Line {
+            rule: "its hexadecimal digits are an odd number",
+        });
+    }
+    Ok(())
+}
+
+/// The rule that a time breaks, to which the clock of a script can't be set.
+pub fn why_time<'a>(word: &'a [u8]) -> Diagnostic<'a> {
+    match read_number(word) {
+        Some(ms) if ms > LATEST => Diagnostic::Word {
+            word,
+            rule: "is above 10^15 milliseconds",
+        },
+        _ => Diagnostic::Word {
+            word,
+            rule: "is less than the time that the clock is set to",
+        },
+    }
+}

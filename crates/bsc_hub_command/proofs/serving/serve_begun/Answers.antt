@@ -1,0 +1,45 @@
+use Rattle.std.proofs.Common.{Err, ap, inl, inr, refl, subst, ℕ, ◌∙◌}
+use Rattle.std.specs.Prelude.{option_map}
+use Rattle.std.specs.Arc.{arc_value}
+use Rattle.bsc_session.specs.Jobs.{Worked, policy_of}
+use Rattle.bsc_hub_command.specs.Served.{HubTerms, HubWorld}
+use Rattle.bsc_hub_command.proofs.Binding.{says_lost, titling_since, written_so}
+use Rattle.bsc_hub_command.proofs.serving.serve_begun.Goals as goal
+
+pub returns-in-Ok-clause-went : goal.returns-in-Ok-clause-went
+returns-in-Ok-clause-went g c =
+    let A = g.A.Acceptor in
+    let P = g.P.Spawner in
+    let J = g.J.Journals in
+    let N = g.N.Sink in
+    let W = Worked g.L.Link.talk g.L.Link.faults g.C.Clock.readings N.held N.faults in
+    let asked : HubTerms = record { settings = c.args.settings.now; policy = policy_of c.args.policy.now; sessions = c.args.sessions; prefix = option_map (λ p. p.now) c.args.prefix } in
+    let before : HubWorld g.row.L.Denot g.row.C.Denot g.row.N.Denot = record { links = A.left c.args.acceptor.now; waits = A.waits c.args.acceptor.now; port = A.bound c.args.acceptor.now; faults = A.faults c.args.acceptor.now; jobs = P.jobs c.args.spawner.now; out = P.out c.args.spawner.now; unstarted = P.faults c.args.spawner.now; unbegun = J.faults c.args.journals.now; written = g.K.Sink.held c.args.sink.now } in
+    let n = c.serve_titled-status.new in
+    let after : HubWorld g.row.L.Denot g.row.C.Denot g.row.N.Denot = record { links = A.left n.acceptor; waits = A.waits n.acceptor; port = A.bound n.acceptor; faults = A.faults n.acceptor; jobs = P.jobs n.spawner; out = P.out n.spawner; unstarted = P.faults n.spawner; unbegun = J.faults n.journals; written = g.K.Sink.held n.sink } in
+    inr (record {
+      begun = c.in-Ok.begun;
+      own = c.serve_titled-status.new.own;
+      of_pass = subst (λ (n : ℕ). J.begins asked.prefix n c.in-Ok.begun) c.number.ensures c.in-Ok.ensures.begun;
+      fresh = c.in-Ok.ensures.fresh;
+      keeps = refl;
+      went = titling_since W J.begins N.held N.faults (record { hub = arc_value c.args.hub.now; first = c.args.pass.now; last = n.pass }) asked c.in-Ok.begun n.own before after
+          (J.faults c.begin.new.self) c.serve_titled-status.result c.serve_titled-status.ensures.went;
+    })
+
+pub returns-in-Err-clause-went : goal.returns-in-Err-clause-went
+returns-in-Err-clause-went g c =
+    inl (record {
+      none = c.requires.own;
+      untouched = record { links = refl; waits = refl; port = refl; faults = refl; jobs = refl; out = refl; unstarted = refl };
+      stops = c.stop_alone.ensures;
+      says = says_lost c.tell_lost.result c.in-Err.fault _ _ _ (λ e. c.begin.ensures.failed (c.in-Err.is ∙ ap Err e)) c.tell_lost.ensures.says;
+    })
+
+pub returns-in-Ok-clause-write : goal.returns-in-Ok-clause-write
+returns-in-Ok-clause-write g c e =
+    written_so g.N.Sink.faults c.in-Ok.begun c.serve_titled-status.new.own _ _ _ _ _ c.in-Ok.ensures.fresh c.begin.ensures.later
+    (c.serve_titled-status.ensures.write e)
+
+pub returns-in-Err-clause-write : goal.returns-in-Err-clause-write
+returns-in-Err-clause-write g c e = inr (inl (c.begin.ensures.failed (c.in-Err.is ∙ ap Err (c.tell_lost.ensures.failed e))))

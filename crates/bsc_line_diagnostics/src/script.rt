@@ -1,0 +1,190 @@
+//! Lines of a script of one hub (docs/SCRIPTS.md, "The lines of a script").
+ghost use Rattle.std.specs.Prelude.{◌≡◌, None, IfSome};
+ghost use Rattle.bsc_script.specs.Lines.{line_of};
+
+use bsc_diagnostics::{
+    Diagnostic, hold_any_maximum, hold_device, hold_lengths, hold_name, hold_number, hold_octets,
+    hold_one_node, hold_vmac, hold_within, next_line, no_more, only_word, why_time, word_of,
+};
+use bsc_player::LineFault;
+use bsc_script::read_line;
+use bsc_text::{begins_comment, next_word, read_maximum, read_number};
+use std::alloc::Global;
+
+const HUB: &str = "hub VMAC UUID MAXB MAXN ROWS OUTBOX [CALLS]";
+
+/// The most octets that all outboxes may hold together: 2^30.
+const MOST_OCTETS: u64 = 1 << 30;
+
+/// What has no form of a line, although each of its words is right.
+const NO_LINE: Diagnostic<'static> = Diagnostic::Line {
+    rule: "it is no line of a script",
+};
+
+/// The product of a hub's rows, frames and longest message.
+fn hold_product<'a>(bvlc: &[u8], rows: &[u8], outbox: &[u8]) -> Result<(), Diagnostic<'a>> {
+    let octets = match (read_maximum(bvlc), read_number(rows), read_number(outbox)) {
+        (Some(bvlc), Some(rows), Some(outbox)) => rows
+            .saturating_mul(outbox)
+            .saturating_mul(u64::from(bvlc)),
+        _ => 0,
+    };
+    if octets > MOST_OCTETS {
+        return Err(Diagnostic::Line {
+            rule: "ROWS times OUTBOX times MAXB is above 2^30",
+        });
+    }
+    Ok(())
+}
+
+/// A hub line, by the words after `hub`.
+pub(crate) fn hold_hub<'a>(words: &'a [u8]) -> Result<(), Diagnostic<'a>> {
+    let (address, words) = word_of(words, HUB)?;
+    let (uuid, words) = word_of(words, HUB)?;
+    let (bvlc, words) = word_of(words, HUB)?;
+    let (npdu, words) = word_of(words, HUB)?;
+    let (rows, words) = word_of(words, HUB)?;
+    let (outbox, words) = word_of(words, HUB)?;
+    hold_vmac(address)?;
+    hold_device(uuid)?;
+    hold_any_maximum(bvlc)?;
+    hold_any_maximum(npdu)?;
+    hold_one_node(address)?;
+    hold_lengths(bvlc, npdu)?;
+    hold_within(rows, 1, 1024, "is no number of rows from 1 to 1024")?;
+    hold_within(
+        outbox,
+        2,
+        1024,
+        "is no number of frames of an outbox from 2 to 1024",
+    )?;
+    if let Some((calls, words)) = next_word(words) {
+        no_more(words, HUB)?;
+        hold_within(calls, 1, 1 << 52, "is no number of calls from 1 to 2^52")?;
+    }
+    hold_product(bvlc, rows, outbox)
+}
+
+/// A line that has a name alone, by its form.
+fn hold_named<'a>(words: &'a [u8], form: &'static str) -> Result<(), Diagnostic<'a>> {
+    let _ = only_word(words, form)?;
+    Ok(())
+}
+
+/// A line of another kind than `hub`, `open` and `in`, by its first word and those after it.
+fn hold_other<'a>(first: &'a [u8], words: &'a [u8]) -> Result<(), Diagnostic<'a>> {
+    if first == b"text".as_slice() {
+        return hold_named(words, "text NAME");
+    }
+    if first == b"drop".as_slice() {
+        return hold_named(words, "drop NAME");
+    }
+    if first == b"hold".as_slice() {
+        return hold_named(words, "hold NAME");
+    }
+    if first == b"free".as_slice() {
+        return hold_named(words, "free NAME");
+    }
+    if first == b"at".as_slice() {
+        return hold_number(only_word(words, "at MS")?);
+    }
+    if first == b"stop".as_slice() {
+        return no_more(words, "stop");
+    }
+    if first == b"counts".as_slice() {
+        return no_more(words, "counts");
+    }
+    Err(Diagnostic::Word {
+        word: first,
+        rule: "begins no line: hub, open, in, text, drop, hold, free, at, stop and counts do",
+    })
+}
+
+/// A line that does something.
+fn hold_line<'a>(line: &'a [u8]) -> Result<(), Diagnostic<'a>> {
+    let Some((first, words)) = next_word(line) else {
+        return Ok(());
+    };
+    if first == b"hub".as_slice() {
+        return hold_hub(words);
+    }
+    if first == b"open".as_slice() {
+        return hold_name(only_word(words, "open NAME")?);
+    }
+    if first == b"in".as_slice() {
+        let (_, words) = word_of(words, "in NAME OCTETS")?;
+        return hold_octets(words);
+    }
+    hold_other(first, words)
+}
+
+/// The rule that a line breaks which has no form of a line of a script; None of one that has.
+pub fn why_script_line<'a>(alloc: Global, line: &'a [u8]) -> Option<Diagnostic<'a>>
+    ensures { IfSome result (λ reason. line_of line.now ≡ None) }
+{
+    match read_line(alloc, line) {
+        Ok(_) | Err(LineFault::NoMemory) => None,
+        Err(LineFault::Refused) => match hold_line(line) {
+            Err(reason) => Some(reason),
+            Ok(()) => Some(NO_LINE),
+        },
+    }
+}
+
+/// Whether a line does something.
+fn does_something(line: &[u8]) -> bool {
+    match next_word(line) {
+        Some((first, _)) => !begins_comment(first),
+        None => false,
+    }
+}
+
+/// Whether a line of some lines does something.
+fn do_something(lines: &[u8]) -> bool {
+    let mut rest = lines;
+    while let Some((line, after)) = next_line(rest) {
+        if does_something(line) {
+            return true;
+        }
+        rest = after;
+    }
+    false
+}
+
+/// The rule that a line breaks by where it stands, by its first word and those after it, where the hub was made.
+fn why_behind<'a>(first: &[u8], words: &'a [u8]) -> Diagnostic<'a> {
+    if first == b"hub".as_slice() {
+        return Diagnostic::Line {
+            rule: "there is a hub already",
+        };
+    }
+    let Some((word, _)) = next_word(words) else {
+        return NO_LINE;
+    };
+    if first == b"open".as_slice() {
+        return Diagnostic::Word {
+            word,
+            rule: "is open already, or 2,048 names are",
+        };
+    }
+    if first == b"at".as_slice() {
+        return why_time(word);
+    }
+    Diagnostic::Word {
+        word,
+        rule: "isn't open",
+    }
+}
+
+/// The rule that a line breaks by where it stands, behind these lines.
+pub fn why_script_place<'a>(before: &[u8], line: &'a [u8]) -> Diagnostic<'a> {
+    if !do_something(before) {
+        return Diagnostic::Line {
+            rule: "the first line that does something has to be the hub line",
+        };
+    }
+    match next_word(line) {
+        Some((first, words)) => why_behind(first, words),
+        None => NO_LINE,
+    }
+}

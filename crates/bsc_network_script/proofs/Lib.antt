@@ -1,0 +1,4 @@
+pub mod OnLiterals
+pub mod Playing
+mod WorkedScripts
+mod WorkedExamples

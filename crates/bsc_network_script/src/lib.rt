@@ -1,0 +1,12 @@
+//! The language of the scripts of networks: what a line says, and what a whole script comes to.
+//!
+//! Start at `simulate_of` in `specs/Scripts.antt`. A line adds a hub or a node, sets the clock, or makes a step; what it says is
+//! `line_of` in `specs/Lines.antt`, which `read_line` (`src/reading.rt`) reads. The lines that are written are in
+//! `specs/Written.antt`. `bsc_simulate` plays scripts.
+#![tactic(auto)]
+
+mod line;
+mod reading;
+
+pub use line::Line;
+pub use reading::read_line;

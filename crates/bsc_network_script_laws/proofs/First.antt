@@ -1,0 +1,34 @@
+-- Hubs and nodes are added before the first step.
+use Rattle.std.proofs.Common.{◌≡◌, ℕ, true, ◌&&◌, nat_eq, nat_lt, nat_le, List, [], ◌∷◌, ◌++◌, length, refl, sym, subst, arith, append-nil, append_assoc}
+use Rattle.std.proofs.lemmas.Bool.{and_parts, eqb-true}
+use Rattle.bsc_octets.specs.declared.identity.Identity.{Identity}
+use Rattle.bsc_network.specs.Settings.{Added}
+use Rattle.bsc_network.specs.Courses.{MayAdd, MayAddAll}
+use Rattle.bsc_network_script.specs.Scripts.{may_add_hub, may_add_node, may_be_hub, names_one}
+
+pub no_elements : {A : Type 0} (xs : List A) → length xs ≡ 0 → xs ≡ []
+no_elements [] e = refl
+no_elements (x ∷ xs) e = absurd (omega arith)
+
+-- a hub or a node is added before the first step
+pub hub_first : (made total : ℕ) (who : Identity) → may_add_hub made total who ≡ true → made ≡ 0
+hub_first made total who e =
+    let p = and_parts (nat_eq made 0 && nat_lt total 2) (may_be_hub who) e in
+    let q = and_parts (nat_eq made 0) (nat_lt total 2) p.0 in
+    eqb-true made 0 q.0
+
+pub node_first : (made hub_total node_total : ℕ) (own : Identity) → may_add_node made hub_total node_total own ≡ true → made ≡ 0
+node_first made hub_total node_total own e =
+    let p = and_parts (nat_eq made 0 && nat_le 1 hub_total && nat_lt node_total 64) (names_one own.vmac) e in
+    let q = and_parts (nat_eq made 0 && nat_le 1 hub_total) (nat_lt node_total 64) p.0 in
+    let r = and_parts (nat_eq made 0) (nat_le 1 hub_total) q.0 in
+    eqb-true made 0 r.0
+
+-- ---- one more is added
+
+one_more : (before added : List Added) (one : Added) → MayAddAll before added → MayAdd (before ++ added) one → MayAddAll before (added ++ one ∷ [])
+one_more before [] one all may = (subst (λ xs. MayAdd xs one) (append-nil before) may, tt)
+one_more before (x ∷ added) one all may = (all.0, one_more (before ++ x ∷ []) added one all.1 (subst (λ xs. MayAdd xs one) (sym (append_assoc before (x ∷ []) added)) may))
+
+pub may_add_one : (added : List Added) (one : Added) → MayAddAll [] added → MayAdd added one → MayAddAll [] (added ++ one ∷ [])
+may_add_one added one all may = one_more [] added one all may

@@ -1,7 +1,0 @@
--- What an answer unfolds to compute this crate's definitions on literal octets.
-use Rattle.std.specs.Prelude.{⊤}
-use Rattle.bsc_verdict.specs.Outcomes.{outcome_of}
-
-unfoldable pub verdict_on_literals : ⊤
-unfolding outcome_of
-verdict_on_literals = tt
