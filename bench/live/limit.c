@@ -212,7 +212,7 @@ static int take_masked(struct link *l, uint8_t **payload, size_t *length) {
     }
     if (there < head + *length) return 0;
     *payload = at + head;
-    uint64_t wide, word;
+    uint64_t wide = 0, word;
     memcpy(&wide, at + head - 4, 4);
     wide |= wide << 32;
     size_t i = 0;

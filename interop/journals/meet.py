@@ -406,9 +406,12 @@ async def is_refused(folder, prefix, line, status=4):
 
 
 async def prefixes(folder):
-    for prefix in (folder / "no" / "such" / "j", folder / "file" / "j"):
-        (folder / "file").write_text("no folder")
-        await is_refused(folder, prefix, f"bsc: the journal {prefix}.0 can't be made")
+    (folder / "file").write_text("no folder")
+    for prefix, error in (
+        (folder / "no" / "such" / "j", "No such file or directory (os error 2)"),
+        (folder / "file" / "j", "Not a directory (os error 20)"),
+    ):
+        await is_refused(folder, prefix, f"bsc: the journal {prefix}.0 can't be made: {error}")
     there = folder / "there.0"
     there.write_text("something\n")
     await is_refused(folder, folder / "there", f"bsc: the journal {there} is there already, and isn't written over")
@@ -532,13 +535,13 @@ async def disk_gets_full(folder):
             same(await it.hub.ended(), 4, "the status of a hub that can't begin a journal")
             took = time.monotonic() - begun
             same(it.hub.told(), "", "what it tells")
-            same(it.hub.said().splitlines()[1:], [f"bsc: the journal {disk / 'j.6'} can't be made"], "what it says")
+            same(it.hub.said().splitlines()[1:], [f"bsc: the journal {disk / 'j.6'} can't be made: No space left on device (os error 28)"], "what it says")
             look_at_what_is_there(it.hub)
         for file in disk.iterdir():
             file.unlink()
         # A disk that is full from the start: the hub line can't be put, and nothing is served.
         fill_up(disk / "all")
-        await is_refused(folder, disk / "late", "")
+        await is_refused(folder, disk / "late", f"bsc: the journal {disk / 'late.0'} can't be written")
         same((disk / "late.0").stat().st_size, 0, "a journal on a full disk")
     return f"a disk got full after {given} messages; the hub without a file more ended in {took:.1f} s"
 

@@ -2,7 +2,7 @@
 use crate::meeting::{End, bells, next_message};
 use bsc_edge::{Acceptor, Arrived, Kind, Link};
 use bsc_gate::Gate;
-use bsc_octets::Octets;
+use bsc_octets::{Octets, Vmac};
 use std::alloc::Global;
 use std::io::{self, ErrorKind};
 use std::net::{Ipv4Addr, Net};
@@ -70,7 +70,7 @@ fn open<R: Clock + Net + Wait + Copy + Drop>(
     kind: Kind,
 ) -> io::Result<(Gate<R>, u16)> {
     let mut gate = Gate::new(rt, alloc, Ipv4Addr::LOCALHOST, kind, bells(alloc)?, PLACES)?;
-    if gate.bind(port).is_err() {
+    if gate.bind(port, Vmac([0; 6])).is_err() {
         return Err(io::Error::from(ErrorKind::AddrInUse));
     }
     match gate.address() {

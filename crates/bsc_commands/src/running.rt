@@ -1,5 +1,5 @@
 //! What the program does.
-ghost use Rattle.std.specs.Prelude.{◌≡◌, ◌≢◌, ◌≤◌, ◌⊎◌, ◌++◌, ℕ, List, Option, None, Some, Ok, map, string_bytes};
+ghost use Rattle.std.specs.Prelude.{◌≡◌, ◌≢◌, ◌≤◌, ◌⊎◌, ◌++◌, ℕ, List, Option, None, Some, Ok, map};
 ghost use Rattle.clap.specs.Words.{Text};
 ghost use Rattle.bsc_outside.specs.Faults.{HasRisen, PutsPrefix};
 ghost use Rattle.bsc_player.specs.LastLines.{EndsWith, RanOut, words_line};
@@ -20,7 +20,8 @@ ghost use Rattle.bsc_node_run.specs.Scripts.{script_of, wish_of};
 ghost use Rattle.bsc_node_run.specs.Worlds.{admitting, dialling};
 ghost use Rattle.bsc_node_runs.specs.Courses.{FinishCame};
 ghost use Rattle.bsc_words.specs.declared.fault.WordsFault.TheVariants as words_fault;
-ghost use Rattle.bsc_words.specs.Words.{asked_by, audit, check, hub, load, node, replay, seen, simulate};
+ghost use Rattle.bsc_words.specs.Read.{asked_in};
+ghost use Rattle.bsc_words.specs.Words.{audit, check, hub, load, node, replay, seen, simulate};
 ghost use Rattle.bsc_commands.specs.Commands.{WritesWhatWasSent};
 ghost use Rattle.bsc_commands.specs.Outside.{TouchesOnly};
 ghost use Rattle.bsc_commands.specs.Statuses.{EndsBy};
@@ -36,7 +37,7 @@ use bsc_node_run::Words;
 use bsc_outside::{Sink, Source};
 use bsc_player::{end_with, out_of_memory};
 use bsc_session::SessionJob;
-use bsc_words::{Asked, WordsFault, read_words};
+use bsc_words::{Asked, ReadWords, WordsFault};
 use std::alloc::Global;
 use std::sync::Wait;
 use std::thread::Threads;
@@ -244,8 +245,8 @@ fn run_asked<
     }
 }
 
-/// Runs the program on its words, the program's own name not among them, and answers its status: serves a hub, runs a
-/// node or a workload, or plays or audits the source.
+/// Runs the program by its words, as they were read, and answers its status: serves a hub, runs a node or a workload, or
+/// plays or audits the source.
 ///
 /// | status | cause | last line written |
 /// |---|---|---|
@@ -278,7 +279,7 @@ pub fn run<
 >(
     rt: &R,
     alloc: Global,
-    words: &[String],
+    read: &ReadWords<'_>,
     source: &mut S,
     sink: &mut K,
     files: &mut F,
@@ -299,8 +300,8 @@ pub fn run<
     // Of the words of a hub: once it is made, its settings and its policy are those of the file, and this is what became of it and
     // of its own journal, with journals under the prefix of the words.
     ensures hub { (path : Text) (sessions : Option ℕ) (journal : Option Text) (made : _) →
-        asked_by (map string_bytes words.now) ≡ Some (hub path sessions journal) →
-        kept.new.hub ≡ Some made → (v : HubSettings) × (policy : Option Policy) × IsSettled (F.holds files.old path) v policy
+        asked_in read.now ≡ Some (hub path sessions journal) → kept.new.hub ≡ Some made →
+        (v : HubSettings) × (policy : Option Policy) × IsSettled (F.holds files.old path) v policy
         × Runs (Worked L.talk L.faults C.readings N.held N.faults) J.begins N.held N.faults
         (record { settings = v; policy = policy; sessions = sessions; prefix = journal }) kept.new own.new
         (record {
@@ -326,15 +327,15 @@ pub fn run<
           written = K.held sink.new;
         }) result }
     ensures no_hub { (path : Text) (sessions : Option ℕ) (journal : Option Text) →
-        asked_by (map string_bytes words.now) ≡ Some (hub path sessions journal) → kept.new.hub ≡ None →
+        asked_in read.now ≡ Some (hub path sessions journal) → kept.new.hub ≡ None →
         Unsettled (F.holds files.old path) (F.faults files.old) (F.faults files.new) result (K.held sink.old) (K.held sink.new) }
     ensures no_hub_untouched { (path : Text) (sessions : Option ℕ) (journal : Option Text) →
-        asked_by (map string_bytes words.now) ≡ Some (hub path sessions journal) →
-        kept.new.hub ≡ None → (kept.new ≡ kept.old) × (clock.new ≡ clock.old) × (acceptor.new ≡ acceptor.old) × (spawner.new ≡ spawner.old)
+        asked_in read.now ≡ Some (hub path sessions journal) → kept.new.hub ≡ None →
+        (kept.new ≡ kept.old) × (clock.new ≡ clock.old) × (acceptor.new ≡ acceptor.old) × (spawner.new ≡ spawner.old)
         × (journals.new ≡ journals.old) × (own.new ≡ own.old) }
 
     // Of the words of a node: what became of it, by its settings and its script as they were in their files.
-    ensures node { (path script : Text) → asked_by (map string_bytes words.now) ≡ Some (node path script) →
+    ensures node { (path script : Text) → asked_in read.now ≡ Some (node path script) →
         RunsFiles L.talk W.gives W.faults (F.holds files.old path) (F.holds files.old script)
         (record {
           unread = F.faults files.old;
@@ -365,43 +366,43 @@ pub fn run<
 
     // Status 0 comes of the words of a node only once the time of its script's `finish` has passed, from the first reading of
     // the clock to the last.
-    ensures finished { (path script : Text) → asked_by (map string_bytes words.now) ≡ Some (node path script) → result ≡ 0 →
+    ensures finished { (path script : Text) → asked_in read.now ≡ Some (node path script) → result ≡ 0 →
         (o : List ℕ) × F.holds files.old script o
         × (lines : List Due) × (script_of o ≡ Ok (map wish_of lines)) × FinishCame lines (C.readings clock.old) (C.readings clock.new) }
 
     // Of the words of a workload: once its hub is made, this is what became of it; else memory ran out.
-    ensures load { (n : ℕ) (made : _) → asked_by (map string_bytes words.now) ≡ Some (load n) → kept.new.hub ≡ Some made →
+    ensures load { (n : ℕ) (made : _) → asked_in read.now ≡ Some (load n) → kept.new.hub ≡ Some made →
         RunsLoad n kept.new made result (K.held sink.old) (K.held sink.new) }
-    ensures no_load { (n : ℕ) → asked_by (map string_bytes words.now) ≡ Some (load n) → kept.new.hub ≡ None →
+    ensures no_load { (n : ℕ) → asked_in read.now ≡ Some (load n) → kept.new.hub ≡ None →
         RanOut result (K.held sink.old) (K.held sink.new) }
 
     // Of the words of a command that plays its input, what the status says of that: what was read, and what was written.
-    ensures replayed { (o t : List ℕ) → asked_by (map string_bytes words.now) ≡ Some replay →
-        S.left source.old ≡ Some o → K.held sink.old ≡ Some t → StatusTells replay_of result o t (S.left source.new) (K.held sink.new)
+    ensures replayed { (o t : List ℕ) → asked_in read.now ≡ Some replay → S.left source.old ≡ Some o → K.held sink.old ≡ Some t →
+        StatusTells replay_of result o t (S.left source.new) (K.held sink.new)
         (S.faults source.old) (S.faults source.new) }
-    ensures simulated { (o t : List ℕ) → asked_by (map string_bytes words.now) ≡ Some simulate →
-        S.left source.old ≡ Some o → K.held sink.old ≡ Some t → StatusTells simulate_of result o t (S.left source.new) (K.held sink.new)
+    ensures simulated { (o t : List ℕ) → asked_in read.now ≡ Some simulate → S.left source.old ≡ Some o → K.held sink.old ≡ Some t →
+        StatusTells simulate_of result o t (S.left source.new) (K.held sink.new)
         (S.faults source.old) (S.faults source.new) }
 
     // Of the words of a network: each delivery that is written comes from the Send at its place, and no two are of one Send and
     // to one node.
-    ensures delivered { (o t : List ℕ) → asked_by (map string_bytes words.now) ≡ Some simulate →
-        S.left source.old ≡ Some o → K.held sink.old ≡ Some t → WritesWhatWasSent o t (K.held sink.new) }
-    ensures checked { (o t : List ℕ) → asked_by (map string_bytes words.now) ≡ Some check →
-        S.left source.old ≡ Some o → K.held sink.old ≡ Some t → StatusTells check_of result o t (S.left source.new) (K.held sink.new)
+    ensures delivered { (o t : List ℕ) → asked_in read.now ≡ Some simulate → S.left source.old ≡ Some o → K.held sink.old ≡ Some t →
+        WritesWhatWasSent o t (K.held sink.new) }
+    ensures checked { (o t : List ℕ) → asked_in read.now ≡ Some check → S.left source.old ≡ Some o → K.held sink.old ≡ Some t →
+        StatusTells check_of result o t (S.left source.new) (K.held sink.new)
         (S.faults source.old) (S.faults source.new) }
 
     // Of the words of an audit, what it answered of the source's octets, and what was written of that.
-    ensures audited { (o : List ℕ) → asked_by (map string_bytes words.now) ≡ Some audit → S.left source.old ≡ Some o →
+    ensures audited { (o : List ℕ) → asked_in read.now ≡ Some audit → S.left source.old ≡ Some o →
         RunsAudit o (S.left source.new) result (K.held sink.old) (K.held sink.new) }
 
     // Where the words ask for nothing, the last line that is written is that of the words, or there was no memory to read them.
-    ensures other_words { asked_by (map string_bytes words.now) ≡ None →
+    ensures other_words { asked_in read.now ≡ None →
         EndsWith result 1 (K.held sink.old) (K.held sink.new) words_line ⊎ RanOut result (K.held sink.old) (K.held sink.new) }
 
     // What the command that is asked for doesn't use is as it was: all, where none is. Only its own statuses come of it; status 1
     // of words that ask for nothing alone.
-    ensures untouched { TouchesOnly (asked_by (map string_bytes words.now))
+    ensures untouched { TouchesOnly (asked_in read.now)
         (record {
           source = source.old;
           files = files.old;
@@ -428,19 +429,18 @@ pub fn run<
           journals = journals.new;
           own = own.new;
         }) }
-    ensures statuses { EndsBy (asked_by (map string_bytes words.now)) result }
+    ensures statuses { EndsBy (asked_in read.now) result }
 
     // Faults of the source, the files, the sink and the acceptor are counted. Where an input is played or audited, status 3 is the
     // source's.
-    ensures source { (asked_by (map string_bytes words.now) ≡ Some replay) ⊎ (asked_by (map string_bytes words.now) ≡ Some simulate)
-        ⊎ (asked_by (map string_bytes words.now) ≡ Some check) ⊎ (asked_by (map string_bytes words.now) ≡ Some audit) →
-        result ≡ 3 → HasRisen (S.faults source.old) (S.faults source.new) }
+    ensures source { (asked_in read.now ≡ Some replay) ⊎ (asked_in read.now ≡ Some simulate) ⊎ (asked_in read.now ≡ Some check)
+        ⊎ (asked_in read.now ≡ Some audit) → result ≡ 3 → HasRisen (S.faults source.old) (S.faults source.new) }
     ensures read { result ≡ 3 → HasRisen (S.faults source.old) (S.faults source.new) ⊎ HasRisen (F.faults files.old) (F.faults files.new) }
     ensures write { result ≡ 4 → HasRisen (K.faults sink.old) (K.faults sink.new)
         ⊎ HasRisen (J.faults journals.old) (J.faults journals.new) ⊎ HasFailed N.faults own.new }
     ensures link { result ≡ 6 → HasRisen (A.faults acceptor.old) (A.faults acceptor.new) }
 {
-    match read_words(alloc, words) {
+    match read.asked {
         Ok(asked) => run_asked(
             rt, alloc, asked, source, sink, files, clock, waiter, random, acceptor, dialer,
             spawner, kept, journals, own,

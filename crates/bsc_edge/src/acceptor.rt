@@ -7,6 +7,7 @@ ghost use Rattle.bsc_outside.specs.Faults.{HasRisen};
 use crate::Failed;
 use crate::arrived::Arrived;
 use crate::fault::LinkFault;
+use bsc_octets::Vmac;
 use std::alloc::Global;
 
 /// Takes the links that peers make.
@@ -28,8 +29,8 @@ pub trait Acceptor<L> {
     /// The waits that `next` was asked for, in milliseconds, where they are told.
     ghost waits: { Self → Option (List ℕ) };
 
-    /// Takes the links that come to this TCP port from now on.
-    fn bind(&mut self, port: u16) -> Result<(), Failed>
+    /// Takes the links that come to this TCP port from now on, for the hub or the node at this VMAC.
+    fn bind(&mut self, port: u16, owner: Vmac) -> Result<(), Failed>
         ensures bound { IfOk result (λ _. Tells (bound self.new) (Some port)) }
         ensures left { Stays (left self.old) (left self.new) }
         ensures waits { Stays (waits self.old) (waits self.new) }

@@ -1,5 +1,5 @@
 //! A journal in a file, or in none.
-ghost use Rattle.std.specs.Prelude.{◌≡◌, None};
+ghost use Rattle.std.specs.Prelude.{◌≡◌, ◌<◌, None, false, true};
 
 use bsc_outside::{Failed, Sink, WriterSink};
 use std::io::Write;
@@ -35,6 +35,14 @@ impl<F: Write> DiskJournal<F> {
             file: Some(WriterSink::new(file)),
             faults: 0,
         }
+    }
+
+    /// Whether a write has failed.
+    pub fn has_failed(&self) -> bool
+        ensures failed { result ≡ true → 0 < self.now.faults }
+        ensures unfailed { result ≡ false → self.now.faults ≡ 0 }
+    {
+        self.faults > 0
     }
 }
 

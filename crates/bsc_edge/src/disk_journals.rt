@@ -6,7 +6,7 @@ use crate::fault::LinkFault;
 use crate::journals::Journals;
 use std::alloc::Global;
 use std::fs::{self, File};
-use std::io::{Eprint, ErrorKind};
+use std::io::{self, Eprint, ErrorKind};
 
 /// Journals in files: that of number N under the prefix PREFIX is the file `PREFIX.N`, which is made anew. A file that is
 /// there already isn't written into: then the journal isn't begun, and a line on standard error says so. Without a prefix
@@ -26,11 +26,11 @@ impl<R: fs::Files + Eprint> DiskJournals<R> {
 }
 
 /// Tells on standard error that a journal couldn't be begun. Where nobody can be told, the fault says it all the same.
-fn tell_unbegun<R: Eprint>(rt: &R, path: &str, kind: ErrorKind) {
-    if kind == ErrorKind::AlreadyExists {
+fn tell_unbegun<R: Eprint>(rt: &R, path: &str, error: io::Error) {
+    if error.kind() == ErrorKind::AlreadyExists {
         let _ = eprintln!(rt; "bsc: the journal {path} is there already, and isn't written over");
     } else {
-        let _ = eprintln!(rt; "bsc: the journal {path} can't be made");
+        let _ = eprintln!(rt; "bsc: the journal {path} can't be made: {error}");
     }
 }
 
@@ -54,11 +54,10 @@ impl<R: fs::Files + Eprint> Journals<DiskJournal<R::File>> for DiskJournals<R> {
         match File::create_new(&self.rt, path.as_str()) {
             Ok(file) => Ok(DiskJournal::into_file(file)),
             Err(error) => {
-                let kind = error.kind();
-                if kind == ErrorKind::OutOfMemory {
+                if error.kind() == ErrorKind::OutOfMemory {
                     return Err(LinkFault::NoMemory);
                 }
-                tell_unbegun(&self.rt, path.as_str(), kind);
+                tell_unbegun(&self.rt, path.as_str(), error);
                 self.faults = self.faults.saturating_add(1);
                 Err(LinkFault::Failed)
             }

@@ -8,6 +8,7 @@ use crate::arrived::Arrived;
 use crate::calls::Calls;
 use crate::fault::LinkFault;
 use crate::notes::note;
+use bsc_octets::Vmac;
 use std::alloc::Global;
 use std::collections::VecDeque;
 
@@ -70,7 +71,7 @@ impl<L> Acceptor<L> for MemAcceptor<'_, L> {
 
     ghost waits = { λ a. noted a.waits };
 
-    fn bind(&mut self, port: u16) -> Result<(), Failed> {
+    fn bind(&mut self, port: u16, _owner: Vmac) -> Result<(), Failed> {
         if self.calls.fails() {
             return Err(Failed);
         }

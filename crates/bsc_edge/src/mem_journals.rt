@@ -1,5 +1,5 @@
 //! Journals in memory, of which some calls fail.
-ghost use Rattle.std.specs.Prelude.{◌≡◌, Ok, IfOk, option_map};
+ghost use Rattle.std.specs.Prelude.{◌≡◌, [], Ok, IfOk, option_map};
 
 use crate::calls::Calls;
 use crate::fault::LinkFault;
@@ -46,7 +46,7 @@ fn copy_of(alloc: Global, prefix: Option<&str>) -> Result<Option<Octets>, NoMemo
 impl<'a> Journals<MemJournal<'a>> for MemJournals<'a> {
     ghost faults = { λ j. j.calls.faults };
 
-    ghost begins = { λ prefix number k. (k.prefix ≡ prefix) × (k.number ≡ number) };
+    ghost begins = { λ prefix number k. (k.prefix ≡ prefix) × (k.number ≡ number) × (k.sink.held.items ≡ []) };
 
     fn begin(
         &mut self,

@@ -5,7 +5,7 @@ use crate::handshakes::{Handshakes, Turned};
 use crate::socket_link::{AcceptedLink, HANDSHAKE_MS, accepted};
 use bsc_edge::{Acceptor, Arrived, Failed, Kind, LinkFault};
 use bsc_live::{Bells, LOOK_MS, Lingering, Moment, Seat, Watch};
-use bsc_octets::NoMemory;
+use bsc_octets::{NoMemory, Vmac};
 use mio::net::{TcpListener, TcpStream};
 use mio::unix::SourceFd;
 use mio::{Events, Interest, Poll, Token};
@@ -335,7 +335,7 @@ impl<R: Clock + Net + Wait + Copy + Drop> Acceptor<AcceptedLink<R>> for Gate<R> 
 
     ghost waits = { λ _. None };
 
-    fn bind(&mut self, port: u16) -> Result<(), Failed> {
+    fn bind(&mut self, port: u16, _owner: Vmac) -> Result<(), Failed> {
         match self.listen(port) {
             Ok(()) => Ok(()),
             Err(_) => {

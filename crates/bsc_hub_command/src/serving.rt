@@ -213,7 +213,7 @@ fn serve_hub<
     ensures journals_later { J.faults journals.old ≤ J.faults journals.new }
     ensures own_later { N.faults own.old ≤ N.faults own.new }
 {
-    match acceptor.bind(settings.port()) {
+    match acceptor.bind(settings.port(), settings.vmac) {
         Err(_) => end_with(sink, b"fault link\n", 6),
         Ok(()) => {
             let terms = terms_by(settings, sessions);

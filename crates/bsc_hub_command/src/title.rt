@@ -48,9 +48,9 @@ fn put_limits(text: &mut Vec<u8>, alloc: Global, limits: Limits) -> Result<(), N
     ensures { IfOk result (λ _. text.new.items
         ≡ text.old.items ++ (then_number limits.rows ++ (then_number limits.outbox ++ then_number limits.calls))) }
 {
-    put_then(text, alloc, u64::from(limits.rows))?;
-    put_then(text, alloc, u64::from(limits.outbox))?;
-    put_then(text, alloc, limits.calls)
+    put_then(text, u64::from(limits.rows))?;
+    put_then(text, u64::from(limits.outbox))?;
+    put_then(text, limits.calls)
 }
 
 /// Octets are octets.

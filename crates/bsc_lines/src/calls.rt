@@ -11,34 +11,34 @@ use bsc_octets::{Identity, NoMemory};
 use std::alloc::Global;
 
 /// A look: the connection, and how many frames were found taken.
-fn put_look(text: &mut Vec<u8>, alloc: Global, look: Look) -> Result<(), NoMemory>
+fn put_look(text: &mut Vec<u8>, look: Look) -> Result<(), NoMemory>
     ensures { IfOk result (λ _. text.new.items ≡ text.old.items ++ look_text look) }
 {
-    put_number(text, alloc, look.conn)?;
+    put_number(text, look.conn)?;
     put_words(text, ":")?;
-    put_number(text, alloc, look.taken)
+    put_number(text, look.taken)
 }
 
 /// Looks behind commas.
-fn put_more_looks(text: &mut Vec<u8>, alloc: Global, looks: &[Look]) -> Result<(), NoMemory>
+fn put_more_looks(text: &mut Vec<u8>, looks: &[Look]) -> Result<(), NoMemory>
     ensures { IfOk result (λ _. text.new.items ≡ text.old.items ++ flat_map (λ l. codes "," ++ look_text l) looks.now) }
 {
     for look in looks.iter() {
         put_words(text, ",")?;
-        put_look(text, alloc, *look)?;
+        put_look(text, *look)?;
     }
     Ok(())
 }
 
 /// Looks with commas between.
-pub fn put_looks(text: &mut Vec<u8>, alloc: Global, looks: &[Look]) -> Result<(), NoMemory>
+pub fn put_looks(text: &mut Vec<u8>, looks: &[Look]) -> Result<(), NoMemory>
     ensures { IfOk result (λ _. text.new.items ≡ text.old.items ++ looks_text looks.now) }
 {
     match looks {
         [] => put_words(text, "-"),
         [first, more @ ..] => {
-            put_look(text, alloc, *first)?;
-            put_more_looks(text, alloc, more)
+            put_look(text, *first)?;
+            put_more_looks(text, more)
         }
     }
 }
@@ -62,28 +62,22 @@ pub fn put_forward(
     ensures { IfOk result (λ _. text.new.items ≡ text.old.items ++ call_text (Forward conn frame.now) looks.now) }
 {
     put_words(text, "forward")?;
-    put_then(text, alloc, conn)?;
+    put_then(text, conn)?;
     put_words(text, " ")?;
     put_hex(text, alloc, frame)?;
     put_words(text, " looks ")?;
-    put_looks(text, alloc, looks)
+    put_looks(text, looks)
 }
 
 /// A leave.
-pub fn put_leave(
-    text: &mut Vec<u8>,
-    alloc: Global,
-    conn: u64,
-    taken: u64,
-    empties: u64,
-) -> Result<(), NoMemory>
+pub fn put_leave(text: &mut Vec<u8>, conn: u64, taken: u64, empties: u64) -> Result<(), NoMemory>
     ensures { IfOk result (λ _. text.new.items
         ≡ text.old.items ++ (codes "leave" ++ (then_number conn ++ (then_number taken ++ then_number empties)))) }
 {
     put_words(text, "leave")?;
-    put_then(text, alloc, conn)?;
-    put_then(text, alloc, taken)?;
-    put_then(text, alloc, empties)
+    put_then(text, conn)?;
+    put_then(text, taken)?;
+    put_then(text, empties)
 }
 
 /// A call, with its looks where it is a forward.
@@ -102,7 +96,7 @@ pub fn put_call(
             conn,
             taken,
             empties,
-        } => put_leave(text, alloc, *conn, *taken, *empties),
+        } => put_leave(text, *conn, *taken, *empties),
         Call::Stop => put_words(text, "stop"),
         Call::Count => put_words(text, "count"),
     }

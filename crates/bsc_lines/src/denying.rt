@@ -20,7 +20,7 @@ fn put_pair(
     ensures { IfOk result (λ _. text.new.items ≡ text.old.items ++ denial_line (OfPair rule from to)) }
 {
     put_words(text, "deny")?;
-    put_then(text, alloc, u64::from(rule))?;
+    put_then(text, u64::from(rule))?;
     put_words(text, " from ")?;
     put_hex(text, alloc, &from.0)?;
     put_words(text, " to ")?;

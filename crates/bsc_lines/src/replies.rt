@@ -8,49 +8,43 @@ ghost use Rattle.bsc_lines.specs.Lines.{reply_text};
 use crate::texts::{put_number, put_numbered, put_words};
 use bsc_history::{Counts, End, Refusal, Reply};
 use bsc_octets::NoMemory;
-use std::alloc::Global;
 
 /// What a join replaced, where it did.
-fn put_replacing(text: &mut Vec<u8>, alloc: Global, replaced: Option<u64>) -> Result<(), NoMemory>
+fn put_replacing(text: &mut Vec<u8>, replaced: Option<u64>) -> Result<(), NoMemory>
     ensures { IfOk result (λ _. text.new.items ≡ text.old.items ++ replacing_words replaced) }
 {
     match replaced {
-        Some(conn) => put_numbered(text, alloc, " replacing", conn),
+        Some(conn) => put_numbered(text, " replacing", conn),
         None => Ok(()),
     }
 }
 
 /// The reply to a connect that joined.
-pub fn put_joined(
-    text: &mut Vec<u8>,
-    alloc: Global,
-    conn: u64,
-    replaced: Option<u64>,
-) -> Result<(), NoMemory>
+pub fn put_joined(text: &mut Vec<u8>, conn: u64, replaced: Option<u64>) -> Result<(), NoMemory>
     ensures { IfOk result (λ _. text.new.items ≡ text.old.items ++ joined_words conn replaced) }
 {
-    put_numbered(text, alloc, "joined", conn)?;
-    put_replacing(text, alloc, replaced)
+    put_numbered(text, "joined", conn)?;
+    put_replacing(text, replaced)
 }
 
 /// Who holds an address: the hub itself, or a connection.
-fn put_holder(text: &mut Vec<u8>, alloc: Global, holder: Option<u64>) -> Result<(), NoMemory>
+fn put_holder(text: &mut Vec<u8>, holder: Option<u64>) -> Result<(), NoMemory>
     ensures { IfOk result (λ _. text.new.items ≡ text.old.items ++ holder_words holder) }
 {
     match holder {
-        Some(conn) => put_numbered(text, alloc, "duplicate", conn),
+        Some(conn) => put_numbered(text, "duplicate", conn),
         None => put_words(text, "duplicate hub"),
     }
 }
 
 /// The reply to a connect that is refused.
-pub fn put_refusal(text: &mut Vec<u8>, alloc: Global, refusal: Refusal) -> Result<(), NoMemory>
+pub fn put_refusal(text: &mut Vec<u8>, refusal: Refusal) -> Result<(), NoMemory>
     ensures { IfOk result (λ _. text.new.items ≡ text.old.items ++ refusal_words refusal) }
 {
     match refusal {
         Refusal::Stopped => put_words(text, "stopped"),
-        Refusal::Duplicate { holder } => put_holder(text, alloc, holder),
-        Refusal::TableFull { rows } => put_numbered(text, alloc, "tablefull", rows),
+        Refusal::Duplicate { holder } => put_holder(text, holder),
+        Refusal::TableFull { rows } => put_numbered(text, "tablefull", rows),
     }
 }
 
@@ -75,25 +69,25 @@ pub fn put_not_current(text: &mut Vec<u8>, ending: End) -> Result<(), NoMemory>
 }
 
 /// Numbers behind commas.
-fn put_more(text: &mut Vec<u8>, alloc: Global, numbers: &[u64]) -> Result<(), NoMemory>
+fn put_more(text: &mut Vec<u8>, numbers: &[u64]) -> Result<(), NoMemory>
     ensures { IfOk result (λ _. text.new.items ≡ text.old.items ++ flat_map (λ k. codes "," ++ decimal k) numbers.now) }
 {
     for n in numbers.iter() {
         put_words(text, ",")?;
-        put_number(text, alloc, *n)?;
+        put_number(text, *n)?;
     }
     Ok(())
 }
 
 /// Numbers with commas between.
-fn put_list(text: &mut Vec<u8>, alloc: Global, numbers: &[u64]) -> Result<(), NoMemory>
+fn put_list(text: &mut Vec<u8>, numbers: &[u64]) -> Result<(), NoMemory>
     ensures { IfOk result (λ _. text.new.items ≡ text.old.items ++ list_words numbers.now) }
 {
     match numbers {
         [] => put_words(text, "-"),
         [first, more @ ..] => {
-            put_number(text, alloc, *first)?;
-            put_more(text, alloc, more)
+            put_number(text, *first)?;
+            put_more(text, more)
         }
     }
 }
@@ -101,7 +95,6 @@ fn put_list(text: &mut Vec<u8>, alloc: Global, numbers: &[u64]) -> Result<(), No
 /// The lists of a broadcast's reply.
 pub fn put_lists(
     text: &mut Vec<u8>,
-    alloc: Global,
     to: &[u64],
     missed: &[u64],
     skipped: &[u64],
@@ -110,70 +103,64 @@ pub fn put_lists(
         ≡ text.old.items ++ forward_words (SentAllReply to.now missed.now skipped.now)) }
 {
     put_words(text, "sentall to=")?;
-    put_list(text, alloc, to)?;
+    put_list(text, to)?;
     put_words(text, " missed=")?;
-    put_list(text, alloc, missed)?;
+    put_list(text, missed)?;
     put_words(text, " skipped=")?;
-    put_list(text, alloc, skipped)
+    put_list(text, skipped)
 }
 
 /// The reply to a leave.
-pub fn put_gone(text: &mut Vec<u8>, alloc: Global, ending: End, taken: u64) -> Result<(), NoMemory>
+pub fn put_gone(text: &mut Vec<u8>, ending: End, taken: u64) -> Result<(), NoMemory>
     ensures { IfOk result (λ _. text.new.items ≡ text.old.items ++ gone_words (Reply.Gone ending taken)) }
 {
     put_words(text, "gone ")?;
-    put_numbered(text, alloc, word_of(ending), taken)
+    put_numbered(text, word_of(ending), taken)
 }
 
 /// A word and a number behind it.
-fn put_pair(text: &mut Vec<u8>, alloc: Global, word: &str, n: u64) -> Result<(), NoMemory>
+fn put_pair(text: &mut Vec<u8>, word: &str, n: u64) -> Result<(), NoMemory>
     ensures { IfOk result (λ _. text.new.items ≡ text.old.items ++ (word.now ++ decimal n)) }
 {
     put_words(text, word)?;
-    put_number(text, alloc, n)
+    put_number(text, n)
 }
 
 /// The counts of a hub.
-pub fn put_counts(text: &mut Vec<u8>, alloc: Global, counts: &Counts) -> Result<(), NoMemory>
+pub fn put_counts(text: &mut Vec<u8>, counts: &Counts) -> Result<(), NoMemory>
     ensures { IfOk result (λ _. text.new.items ≡ text.old.items ++ counts_words counts.now) }
 {
     put_words(text, "counts")?;
-    put_pair(text, alloc, " joined=", counts.joined)?;
-    put_pair(text, alloc, " replaced=", counts.replaced)?;
-    put_pair(text, alloc, " refused=", counts.refused)?;
-    put_pair(text, alloc, " unicasts=", counts.unicasts)?;
-    put_pair(text, alloc, " broadcasts=", counts.broadcasts)?;
-    put_pair(text, alloc, " appended=", counts.appended)?;
-    put_pair(text, alloc, " dropped=", counts.dropped)?;
-    put_pair(text, alloc, " full=", counts.full)?;
-    put_pair(text, alloc, " missed=", counts.missed)
+    put_pair(text, " joined=", counts.joined)?;
+    put_pair(text, " replaced=", counts.replaced)?;
+    put_pair(text, " refused=", counts.refused)?;
+    put_pair(text, " unicasts=", counts.unicasts)?;
+    put_pair(text, " broadcasts=", counts.broadcasts)?;
+    put_pair(text, " appended=", counts.appended)?;
+    put_pair(text, " dropped=", counts.dropped)?;
+    put_pair(text, " full=", counts.full)?;
+    put_pair(text, " missed=", counts.missed)
 }
 
 /// A reply.
-pub fn put_reply(text: &mut Vec<u8>, alloc: Global, reply: &Reply) -> Result<(), NoMemory>
+pub fn put_reply(text: &mut Vec<u8>, reply: &Reply) -> Result<(), NoMemory>
     ensures { IfOk result (λ _. text.new.items ≡ text.old.items ++ reply_text reply.now) }
 {
     match reply {
-        Reply::Joined { conn, replaced } => put_joined(text, alloc, *conn, *replaced),
-        Reply::Refused(refusal) => put_refusal(text, alloc, *refusal),
-        Reply::Appended { conn } => put_numbered(text, alloc, "sent", *conn),
-        Reply::Closed { conn } => put_numbered(text, alloc, "full", *conn),
-        Reply::Skipped { conn } => put_numbered(text, alloc, "long", *conn),
+        Reply::Joined { conn, replaced } => put_joined(text, *conn, *replaced),
+        Reply::Refused(refusal) => put_refusal(text, *refusal),
+        Reply::Appended { conn } => put_numbered(text, "sent", *conn),
+        Reply::Closed { conn } => put_numbered(text, "full", *conn),
+        Reply::Skipped { conn } => put_numbered(text, "long", *conn),
         Reply::NoHolder => put_words(text, "noholder"),
         Reply::SentAll {
             to,
             missed,
             skipped,
-        } => put_lists(
-            text,
-            alloc,
-            to.as_slice(),
-            missed.as_slice(),
-            skipped.as_slice(),
-        ),
+        } => put_lists(text, to.as_slice(), missed.as_slice(), skipped.as_slice()),
         Reply::NotCurrent { ending } => put_not_current(text, *ending),
         Reply::Stopped => put_words(text, "stopped"),
-        Reply::Gone { ending, taken } => put_gone(text, alloc, *ending, *taken),
-        Reply::Counted(counts) => put_counts(text, alloc, counts),
+        Reply::Gone { ending, taken } => put_gone(text, *ending, *taken),
+        Reply::Counted(counts) => put_counts(text, counts),
     }
 }

@@ -5,6 +5,7 @@ ghost use Rattle.bsc_lines.specs.Replies.{numbered_word};
 ghost use Rattle.bsc_lines.specs.Lines.{then_number};
 
 use bsc_octets::NoMemory;
+use itoa::Buffer;
 use std::alloc::Global;
 
 /// Puts words of text.
@@ -16,28 +17,28 @@ pub fn put_words(text: &mut Vec<u8>, words: &str) -> Result<(), NoMemory>
 }
 
 /// Puts a number in decimal digits.
-pub fn put_number(text: &mut Vec<u8>, alloc: Global, n: u64) -> Result<(), NoMemory>
+pub fn put_number(text: &mut Vec<u8>, n: u64) -> Result<(), NoMemory>
     ensures { IfOk result (λ _. text.new.items ≡ text.old.items ++ decimal n) }
 {
-    let digits = format!(in alloc; "{n}")?;
-    put_words(text, digits.as_str())
+    let mut digits = Buffer::new();
+    put_words(text, digits.format(n))
 }
 
 /// Puts a number behind a space.
-pub fn put_then(text: &mut Vec<u8>, alloc: Global, n: u64) -> Result<(), NoMemory>
+pub fn put_then(text: &mut Vec<u8>, n: u64) -> Result<(), NoMemory>
     ensures { IfOk result (λ _. text.new.items ≡ text.old.items ++ then_number n) }
 {
     put_words(text, " ")?;
-    put_number(text, alloc, n)
+    put_number(text, n)
 }
 
 /// Puts a word, and a number behind it.
-pub fn put_numbered(text: &mut Vec<u8>, alloc: Global, word: &str, n: u64) -> Result<(), NoMemory>
+pub fn put_numbered(text: &mut Vec<u8>, word: &str, n: u64) -> Result<(), NoMemory>
     ensures { IfOk result (λ _. text.new.items ≡ text.old.items ++ numbered_word word.now n) }
 {
     put_words(text, word)?;
     put_words(text, " ")?;
-    put_number(text, alloc, n)
+    put_number(text, n)
 }
 
 /// Puts octets as hexadecimal digits, with letters in upper case.

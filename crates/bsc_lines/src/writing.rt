@@ -19,12 +19,12 @@ pub fn put_entry(
 ) -> Result<(), NoMemory>
     ensures { IfOk result (λ _. text.new.items ≡ text.old.items ++ entry_line place entry.now) }
 {
-    put_number(text, alloc, place)?;
-    put_then(text, alloc, entry.caller)?;
+    put_number(text, place)?;
+    put_then(text, entry.caller)?;
     put_words(text, " ")?;
     put_call(text, alloc, &entry.call, entry.looks.as_slice())?;
     put_words(text, " ")?;
-    put_reply(text, alloc, &entry.reply)
+    put_reply(text, &entry.reply)
 }
 
 /// The line of an entry at its place in a history, without its end. Memory may run out.

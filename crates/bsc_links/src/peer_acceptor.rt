@@ -6,6 +6,7 @@ ghost use Rattle.bsc_links.specs.Links.{all_accepted};
 
 use crate::peer_link::PeerLink;
 use bsc_edge::{Acceptor, Arrived, Failed, LinkFault};
+use bsc_octets::Vmac;
 use std::alloc::Global;
 
 /// Takes links by an acceptor: each is one that was accepted.
@@ -48,8 +49,8 @@ impl<D, L, A: Acceptor<L>> Acceptor<PeerLink<D, L>> for PeerAcceptor<A> {
 
     ghost waits = { λ a. A.waits a.acceptor };
 
-    fn bind(&mut self, port: u16) -> Result<(), Failed> {
-        self.acceptor.bind(port)
+    fn bind(&mut self, port: u16, owner: Vmac) -> Result<(), Failed> {
+        self.acceptor.bind(port, owner)
     }
 
     fn next(&mut self, alloc: Global, wait_ms: u32) -> Result<Arrived<PeerLink<D, L>>, LinkFault> {

@@ -47,7 +47,7 @@ fn bind<L, A: Acceptor<L>>(settings: &NodeSettings, acceptor: &mut A) -> Result<
     ensures later { A.faults acceptor.old ≤ A.faults acceptor.new }
 {
     match settings.direct_port {
-        Some(port) => acceptor.bind(port),
+        Some(port) => acceptor.bind(port, settings.vmac),
         None => Ok(()),
     }
 }

@@ -15,6 +15,12 @@ use bsc_lines::{
 use bsc_octets::{NoMemory, Octets};
 use std::alloc::Global;
 
+/// So many octets are taken at first for a line, beside its message and its looks.
+const ROOM: usize = 256;
+
+/// So many octets are taken at first for a look, and for its connection in the reply.
+const ROOM_OF_LOOK: usize = 24;
+
 /// Puts a unicast, with its look where it made one.
 fn put_one(
     text: &mut Vec<u8>,
@@ -75,19 +81,19 @@ fn put_call(text: &mut Vec<u8>, alloc: Global, made: &Made<'_>) -> Result<(), No
             conn,
             empties,
             gone,
-        } => put_leave(text, alloc, *conn, gone.taken, *empties),
+        } => put_leave(text, *conn, gone.taken, *empties),
         Made::Stopped(_) => put_words(text, "stop"),
     }
 }
 
 /// Puts the reply to a unicast.
-fn put_one_reply(text: &mut Vec<u8>, alloc: Global, said: OneReply) -> Result<(), NoMemory>
+fn put_one_reply(text: &mut Vec<u8>, said: OneReply) -> Result<(), NoMemory>
     ensures { IfOk result (λ _. text.new.items ≡ text.old.items ++ reply_text (one_reply said)) }
 {
     match said {
-        OneReply::Appended(look) => put_numbered(text, alloc, "sent", look.conn),
-        OneReply::Closed(look) => put_numbered(text, alloc, "full", look.conn),
-        OneReply::Skipped { conn } => put_numbered(text, alloc, "long", conn),
+        OneReply::Appended(look) => put_numbered(text, "sent", look.conn),
+        OneReply::Closed(look) => put_numbered(text, "full", look.conn),
+        OneReply::Skipped { conn } => put_numbered(text, "long", conn),
         OneReply::NoHolder => put_words(text, "noholder"),
         OneReply::NotCurrent { ending } => put_not_current(text, ending),
         OneReply::Stopped => put_words(text, "stopped"),
@@ -95,7 +101,7 @@ fn put_one_reply(text: &mut Vec<u8>, alloc: Global, said: OneReply) -> Result<()
 }
 
 /// Puts the reply to a broadcast.
-fn put_all_reply(text: &mut Vec<u8>, alloc: Global, said: &AllReply) -> Result<(), NoMemory>
+fn put_all_reply(text: &mut Vec<u8>, said: &AllReply) -> Result<(), NoMemory>
     ensures { IfOk result (λ _. text.new.items ≡ text.old.items ++ reply_text (all_reply said.now)) }
 {
     match said {
@@ -104,29 +110,23 @@ fn put_all_reply(text: &mut Vec<u8>, alloc: Global, said: &AllReply) -> Result<(
             missed,
             skipped,
             ..
-        } => put_lists(
-            text,
-            alloc,
-            to.as_slice(),
-            missed.as_slice(),
-            skipped.as_slice(),
-        ),
+        } => put_lists(text, to.as_slice(), missed.as_slice(), skipped.as_slice()),
         AllReply::NotCurrent { ending } => put_not_current(text, *ending),
         AllReply::Stopped => put_words(text, "stopped"),
     }
 }
 
 /// Puts a reply.
-fn put_reply(text: &mut Vec<u8>, alloc: Global, made: &Made<'_>) -> Result<(), NoMemory>
+fn put_reply(text: &mut Vec<u8>, made: &Made<'_>) -> Result<(), NoMemory>
     ensures { (n : ℕ) → IfOk result (λ _. text.new.items ≡ text.old.items ++ reply_text (entry_of n made.now).reply) }
 {
     match made {
-        Made::Joined { conn, replaced, .. } => put_joined(text, alloc, *conn, *replaced),
-        Made::Refused { refusal, .. } => put_refusal(text, alloc, *refusal),
-        Made::One { said, .. } => put_one_reply(text, alloc, *said),
-        Made::All { said, .. } => put_all_reply(text, alloc, *said),
-        Made::Left { gone, .. } => put_gone(text, alloc, gone.ending, gone.taken),
-        Made::Stopped(counts) => put_counts(text, alloc, counts),
+        Made::Joined { conn, replaced, .. } => put_joined(text, *conn, *replaced),
+        Made::Refused { refusal, .. } => put_refusal(text, *refusal),
+        Made::One { said, .. } => put_one_reply(text, *said),
+        Made::All { said, .. } => put_all_reply(text, *said),
+        Made::Left { gone, .. } => put_gone(text, gone.ending, gone.taken),
+        Made::Stopped(counts) => put_counts(text, counts),
     }
 }
 
@@ -141,12 +141,12 @@ fn put_entry(
 ) -> Result<(), NoMemory>
     ensures { IfOk result (λ _. text.new.items ≡ text.old.items ++ entry_line at (entry_of caller made.now)) }
 {
-    put_number(text, alloc, at)?;
-    put_then(text, alloc, caller)?;
+    put_number(text, at)?;
+    put_then(text, caller)?;
     put_words(text, " ")?;
     put_call(text, alloc, made)?;
     put_words(text, " ")?;
-    put_reply(text, alloc, made)
+    put_reply(text, made)
 }
 
 /// Puts the line of what is noted, without its end.
@@ -159,11 +159,35 @@ fn put_noted(text: &mut Vec<u8>, alloc: Global, noted: &Noted<'_>) -> Result<(),
     }
 }
 
+/// How many octets are taken at first for the line of a forward: two digits for each of its message, and somewhat for each look.
+fn room_of_forward(message: &[u8], looks: usize) -> usize {
+    let digits = message.len().saturating_mul(2);
+    digits
+        .saturating_add(looks.saturating_mul(ROOM_OF_LOOK))
+        .saturating_add(ROOM)
+}
+
+/// How many octets are taken at first for the line of an entry. It may be longer.
+fn room_of(made: &Made<'_>) -> usize {
+    match made {
+        Made::One { message, .. } => room_of_forward(*message, 1),
+        Made::All { message, said, .. } => match said {
+            AllReply::Sent { looks, .. } => room_of_forward(*message, looks.len()),
+            AllReply::NotCurrent { .. } | AllReply::Stopped => room_of_forward(*message, 0),
+        },
+        Made::Joined { .. } | Made::Refused { .. } | Made::Left { .. } | Made::Stopped(_) => ROOM,
+    }
+}
+
 /// The line of what is noted, with its end. Memory may run out.
 pub fn line_of(alloc: Global, noted: &Noted<'_>) -> Result<Octets, NoMemory>
     ensures { IfOk result (λ line. line ≡ line_of (note_of noted.now)) }
 {
-    let mut text = Vec::new(alloc);
+    let room = match noted {
+        Noted::Entry { made, .. } => room_of(made),
+        Noted::Denied(_) => ROOM,
+    };
+    let mut text = Vec::with_capacity(alloc, room)?;
     put_noted(&mut text, alloc, noted)?;
     put_words(&mut text, "\n")?;
     Ok(Octets::from_vec(text))

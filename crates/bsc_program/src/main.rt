@@ -5,7 +5,7 @@
 //! `bsc_why` says on standard error why, by what was heard of these.
 #![tactic(auto)]
 
-use bsc_commands::{Door, Noted, NotingFiles, RealLink, RealWaiter, real_dialer, run};
+use bsc_commands::run;
 use bsc_edge::{
     DiskJournal, DiskJournals, Kind, Monotonic, Places, Promised, Running, ThreadSpawner,
     Unstarted, launch,
@@ -13,13 +13,13 @@ use bsc_edge::{
 use bsc_hub::Kept;
 use bsc_links::{PeerAcceptor, PeerDialer};
 use bsc_node_command::RandomWords;
-use bsc_octets::NoMemory;
 use bsc_outside::WriterSink;
 use bsc_player::out_of_memory;
 use bsc_recorders::{KeptFiles, KeptSource, NotedAcceptor, NotedDisk, NotedSink};
 use bsc_session::{SessionEnd, SessionJob};
+use bsc_sockets::{Door, RealLink, RealWaiter, real_dialer};
 use bsc_why::{Heard, name_in, tell};
-use bsc_words::{Asked, WordsFault, read_words};
+use bsc_words::{Asked, ReadWords};
 use std::alloc::Global;
 use std::cell::Cell;
 use std::env::{self, Env};
@@ -40,11 +40,10 @@ type Job = SessionJob<
 >;
 
 /// The kind of the links that are accepted by these words: a node accepts direct connections.
-fn kind_of(alloc: Global, words: &[String]) -> Result<Kind, NoMemory> {
-    match read_words(alloc, words) {
-        Ok(Asked::Node { .. }) => Ok(Kind::Direct),
-        Ok(_) | Err(WordsFault::Refused) => Ok(Kind::Hub),
-        Err(WordsFault::NoMemory) => Err(NoMemory),
+fn kind_of(read: &ReadWords<'_>) -> Kind {
+    match read.asked {
+        Ok(Asked::Node { .. }) => Kind::Direct,
+        Ok(_) | Err(_) => Kind::Hub,
     }
 }
 
@@ -72,17 +71,10 @@ fn main(rt: HostRuntime) -> ExitCode {
             has_texts = false;
         }
     }
-    let (Ok(notes), Ok(unread), Ok(places)) = (
-        Rc::new(alloc, Cell::new(Noted::nothing())),
+    let (Ok(unread), Ok(places)) = (
         Rc::new(alloc, Cell::new(None)),
         Places::make(alloc, SESSIONS),
     ) else {
-        return ExitCode::from(out_of_memory(&mut sink));
-    };
-    let Ok(of_files) = notes.clone() else {
-        return ExitCode::from(out_of_memory(&mut sink));
-    };
-    let Ok(of_door) = notes.clone() else {
         return ExitCode::from(out_of_memory(&mut sink));
     };
     let Ok(of_disk) = unread.clone() else {
@@ -93,9 +85,8 @@ fn main(rt: HostRuntime) -> ExitCode {
         Unstarted<Job>,
     > { launch(&rt, alloc, places, job) };
     let mut spawner = ThreadSpawner::new(rt, alloc, begin, places);
-    let Ok(kind) = kind_of(alloc, words.as_slice()) else {
-        return ExitCode::from(out_of_memory(&mut sink));
-    };
+    let read = ReadWords::of(alloc, words.as_slice());
+    let kind = kind_of(&read);
     let Ok(mut waiter) = RealWaiter::of(rt, alloc, kind) else {
         return ExitCode::from(out_of_memory(&mut sink));
     };
@@ -106,10 +97,10 @@ fn main(rt: HostRuntime) -> ExitCode {
         return ExitCode::from(out_of_memory(&mut sink));
     };
     let disk = NotedDisk::new(rt, of_disk);
-    let mut files = KeptFiles::new(NotingFiles::new(disk, kind, of_files));
+    let mut files = KeptFiles::new(disk);
     let mut clock = Monotonic::new(rt);
     let mut random = RandomWords::new(rt);
-    let door = Door::new(rt, alloc, kind, of_door, of_gate);
+    let door = Door::new(rt, alloc, kind, of_gate);
     let mut acceptor = NotedAcceptor::new(PeerAcceptor::new(door));
     let mut dialer = PeerDialer::new(dialer);
     let mut kept = Kept {
@@ -121,7 +112,7 @@ fn main(rt: HostRuntime) -> ExitCode {
     let status = run(
         &rt,
         alloc,
-        words.as_slice(),
+        &read,
         &mut source,
         &mut sink,
         &mut files,
@@ -136,9 +127,13 @@ fn main(rt: HostRuntime) -> ExitCode {
         &mut own,
     );
     let file = files.text();
+    let has_lost_a_line = match &own {
+        Some(journal) => journal.has_failed(),
+        None => false,
+    };
     let heard = Heard {
         called: name_in(&room, length),
-        words: words.as_slice(),
+        read,
         has_texts,
         input: source.kept(),
         input_error: source.error(),
@@ -147,6 +142,7 @@ fn main(rt: HostRuntime) -> ExitCode {
         file,
         file_error: unread.get(),
         door: acceptor.note(),
+        has_lost_a_line,
     };
     tell(&rt, alloc, status, &heard);
     waiter.outlast_lingering(&rt);

@@ -2,6 +2,7 @@
 ghost use Rattle.std.specs.Prelude.{◌≡◌};
 
 use bsc_edge::{Acceptor, Arrived, Failed, LinkFault};
+use bsc_octets::Vmac;
 use std::alloc::Global;
 
 /// What became of the port of an acceptor.
@@ -51,8 +52,8 @@ impl<L, A: Acceptor<L>> Acceptor<L> for NotedAcceptor<A> {
 
     ghost waits = { λ a. A.waits a.acceptor };
 
-    fn bind(&mut self, port: u16) -> Result<(), Failed> {
-        let answer = self.acceptor.bind(port);
+    fn bind(&mut self, port: u16, owner: Vmac) -> Result<(), Failed> {
+        let answer = self.acceptor.bind(port, owner);
         self.note = DoorNote {
             port: Some(port),
             is_bound: answer.is_ok(),

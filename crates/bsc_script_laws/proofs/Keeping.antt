@@ -34,7 +34,9 @@ use Rattle.bsc_script.specs.Holding.{name_of}
 use Rattle.bsc_script.proofs.Peers.{other_name}
 use Rattle.bsc_script_laws.proofs.Adding.{accepted, of_name}
 use Rattle.bsc_script_laws.proofs.Judged.{asks_for_node, routes}
-use Rattle.bsc_script_laws.proofs.Sound.{IsSound, changed_sound, closed_sound, found_in, joined_sound, left_sound, opened_sound, placed_in, placed_other, quiet_sound, told_sound}
+use Rattle.bsc_script_laws.proofs.Placed.{found_in, placed_in, placed_other}
+use Rattle.bsc_script_laws.proofs.Sound.{IsSound}
+use Rattle.bsc_script_laws.proofs.SoundSteps.{changed_sound, closed_sound, joined_sound, left_sound, opened_sound, quiet_sound, told_sound}
 use Rattle.bsc_accept.proofs.Common.{asks_by, carries_by}
 use Rattle.std.proofs.lemmas.Option.{same_Some as same_some}
 

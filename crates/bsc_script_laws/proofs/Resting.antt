@@ -28,9 +28,11 @@ use Rattle.bsc_script.specs.Emptying.{OnConnection, due_after, emptied, emptied_
 use Rattle.bsc_script.specs.Holding.{name_of, conn_of}
 use Rattle.bsc_script.proofs.Peers.{conn_has, has_conn, name_same, other_name}
 use Rattle.bsc_script_laws.proofs.Keeping.{does_sound}
-use Rattle.bsc_script_laws.proofs.Lasting.{AtMostOne, apart_one, in_order, on, one_joined, peers_joined, peers_on}
+use Rattle.bsc_script_laws.proofs.Once.{AtMostOne, apart_one, in_order, on, one_joined, peers_joined, peers_on}
 use Rattle.bsc_script_laws.proofs.Looking.{drop-front}
-use Rattle.bsc_script_laws.proofs.Sound.{IsSound, IsSoundPeer, In-left, In-right, changed_sound, in_map, in_placed, map_in, placed, placed_in, placed_other, told_sound}
+use Rattle.bsc_script_laws.proofs.Placed.{In-left, In-right, in_map, in_placed, map_in, placed, placed_in, placed_other}
+use Rattle.bsc_script_laws.proofs.Sound.{IsSound, IsSoundPeer}
+use Rattle.bsc_script_laws.proofs.SoundSteps.{changed_sound, told_sound}
 use Rattle.bsc_lemmas.proofs.Lists.{drop_all as drop-whole}
 use Rattle.bsc_lemmas.proofs.Options.{some_none as some_nothing}
 use Rattle.std.proofs.lemmas.Option.{none-some as nothing_some, same_Some as same_some}

@@ -41,7 +41,9 @@ use Rattle.bsc_session.specs.declared.stop.Stop.{Stop}
 use Rattle.bsc_session.specs.declared.why.Why.{Why}
 use Rattle.bsc_session.specs.declared.why.Why.TheVariants.{PeerLeft, Refused as WhyRefused}
 use Rattle.bsc_session.specs.Answering.{Fits, answered, called, calls, denied_in, last_wanted, noted, stop_by}
-use Rattle.bsc_session.specs.Inner.{Answers, Carries, HasFound, Held, SeesWorn, Tied, Wrote, has_joined}
+use Rattle.bsc_session.specs.CarryingOut.{Carries, SeesWorn, Wrote}
+use Rattle.bsc_session.specs.Following.{HasFound, Held, Tied, has_joined}
+use Rattle.bsc_session.specs.Hearing.{Answers}
 use Rattle.bsc_session.specs.Receiving.{Answer, replies, worn, no_memory}
 use Rattle.bsc_session.specs.Standings.{Standing, Terms, start_of, told, wanted}
 use Rattle.bsc_session.specs.Stops.{closes, closing_in, first_of, stop_if, stop_unrecorded}

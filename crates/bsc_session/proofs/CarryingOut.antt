@@ -9,7 +9,7 @@ use Rattle.bsc_accept.specs.declared.closing.Closing.{Closing}
 use Rattle.bsc_accept.specs.declared.step.Step.TheVariants.{Reply, ReplyClose}
 use Rattle.bsc_session.specs.declared.stop.Stop.{Stop}
 use Rattle.bsc_session.specs.declared.why.Why.{Why}
-use Rattle.bsc_session.specs.Inner.{Carries}
+use Rattle.bsc_session.specs.CarryingOut.{Carries}
 use Rattle.bsc_session.specs.Stops.{stop_at}
 
 pub reply_fails : (old new : Option (List Said)) (o : ArrayVec ℕ) (why : Why) (fault : LinkFault) (stop : Stop) → Grows old new (Put o.items (Some fault) ∷ []) → stop ≡ stop_at fault → Carries old new (Reply o) why (Some stop)

@@ -40,7 +40,9 @@ use Rattle.bsc_session.specs.declared.member.Member.{Member}
 use Rattle.bsc_session.specs.declared.stop.Stop.{Stop}
 use Rattle.bsc_session.specs.declared.why.Why.TheVariants.{PeerLeft}
 use Rattle.bsc_session.specs.Answering.{Fits, answered, called, calls, calls_hub, denied_in, last_wanted, made_at, noted, put_unless, stop_by, stop_given, stop_judged, stop_message}
-use Rattle.bsc_session.specs.Inner.{Answers, Carries, Follows, Forwards, HasStanding, Hears, HearsMessage, Held, Runs, SeesWorn, Tied, TurnsAway, Wrote, address_by, conn_of, empties_by, forward_made, given_by, has_joined}
+use Rattle.bsc_session.specs.CarryingOut.{Carries, SeesWorn, Wrote}
+use Rattle.bsc_session.specs.Following.{Follows, HasStanding, Held, Runs, Tied, address_by, conn_of, empties_by, given_by, has_joined}
+use Rattle.bsc_session.specs.Hearing.{Answers, Forwards, Hears, HearsMessage, TurnsAway, forward_made}
 use Rattle.bsc_session.specs.Judging.{LacksAtPass, heard_step, heard_told, verdict_on}
 use Rattle.bsc_session.specs.Serving.{Goes}
 use Rattle.bsc_session.specs.Puts.{HasPut, octets_in, puts}

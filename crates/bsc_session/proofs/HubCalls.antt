@@ -26,7 +26,9 @@ use Rattle.bsc_session.specs.declared.stop.Stop.{Stop}
 use Rattle.bsc_session.specs.Answering.{made_at, stop_by}
 use Rattle.bsc_session.specs.Stops.{first_of, stop_lost}
 use Rattle.bsc_session.proofs.Recording.{no_line, wrote_as, wrote_made, wrote_none}
-use Rattle.bsc_session.specs.Inner.{Calls, Forwards, IsMember, SeesWorn, Wrote, forward_made}
+use Rattle.bsc_session.specs.CarryingOut.{SeesWorn, Wrote}
+use Rattle.bsc_session.specs.Following.{IsMember}
+use Rattle.bsc_session.specs.Hearing.{Calls, Forwards, forward_made}
 use Rattle.bsc_session.specs.Serving.{Goes}
 use Rattle.bsc_session.specs.Receiving.{Answer, no_memory, replies, worn}
 

@@ -15,7 +15,7 @@ use Rattle.bsc_accept.specs.Past.{Standing as MachineStanding, awaiting_request,
 use Rattle.bsc_accept.proofs.Looking.{standing-more}
 use Rattle.bsc_session.specs.Answering.{answered, stands_heard, step_of}
 use Rattle.bsc_session.specs.Course.{standing as stands_at}
-use Rattle.bsc_session.specs.Inner.{Tied}
+use Rattle.bsc_session.specs.Following.{Tied}
 use Rattle.bsc_session.specs.Judging.{heard, verdict_on}
 use Rattle.bsc_session.specs.Reading.{started, ticked}
 use Rattle.bsc_session.specs.Receiving.{Answer, replies, Hearing}

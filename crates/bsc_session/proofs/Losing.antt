@@ -23,7 +23,8 @@ use Rattle.bsc_session.specs.declared.stop.Stop.{Stop}
 use Rattle.bsc_session.specs.declared.why.Why.{Why}
 use Rattle.bsc_session.specs.Answering.{IsHearing, called, denial_in, denied_in, made_at, notes_hearing, stands_heard, stop_by, stop_denied, stop_given, stop_hearing, stop_judged, stop_message}
 use Rattle.bsc_session.specs.Guarding.{denials, if_any}
-use Rattle.bsc_session.specs.Inner.{UnputBy, UnputIf, Wrote, lost_by}
+use Rattle.bsc_session.specs.CarryingOut.{UnputBy, UnputIf, Wrote}
+use Rattle.bsc_session.specs.MakingTurns.{lost_by}
 use Rattle.bsc_session.specs.Judging.{heard_step}
 use Rattle.bsc_session.specs.Reading.{ticked, wanted_at}
 use Rattle.bsc_session.specs.Receiving.{Answer, Hearing, no_memory, replies, worn}

@@ -18,7 +18,11 @@ use Rattle.bsc_edge.specs.declared.fault.LinkFault.{LinkFault}
 use Rattle.bsc_edge.specs.declared.incoming.Incoming.{Incoming}
 use Rattle.bsc_edge.specs.declared.incoming.Incoming.TheVariants.{Message}
 use Rattle.bsc_session.specs.Judging.{heard_told}
-use Rattle.bsc_session.specs.Inner.{Between, Follows, HasStanding, Hears, Held, IsFollowed, IsMember, Makes, Opens, SameMember, Starts, empties_by, is_more, lost_by, stop_of}
+use Rattle.bsc_session.specs.CarryingOut.{is_more, stop_of}
+use Rattle.bsc_session.specs.Following.{Follows, HasStanding, Held, IsFollowed, IsMember, empties_by}
+use Rattle.bsc_session.specs.Hearing.{Hears}
+use Rattle.bsc_session.specs.Opening.{Opens, SameMember}
+use Rattle.bsc_session.specs.MakingTurns.{Between, Makes, Starts, lost_by}
 use Rattle.bsc_session.specs.Puts.{puts}
 use Rattle.bsc_session.specs.Reading.{started, ticked}
 use Rattle.bsc_session.specs.Receiving.{Answer, replies, Hearing}

@@ -6,7 +6,7 @@ use Rattle.bsc_history.specs.declared.entry.Entry.{Entry}
 use Rattle.bsc_notes.specs.Notes.{HasLine}
 use Rattle.bsc_edge.specs.declared.fault.LinkFault.{LinkFault}
 use Rattle.bsc_edge.specs.declared.fault.LinkFault.TheVariants.{Failed}
-use Rattle.bsc_session.specs.Inner.{lost_by}
+use Rattle.bsc_session.specs.MakingTurns.{lost_by}
 use Rattle.bsc_session.specs.Receiving.{Hearing}
 use Rattle.bsc_session.specs.Taking.{Opening, opened, stop_before}
 use Rattle.bsc_session.specs.declared.stop.Stop.{Stop}

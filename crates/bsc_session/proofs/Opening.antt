@@ -33,7 +33,10 @@ use Rattle.bsc_session.specs.declared.why.Why.TheVariants.{EndedBy}
 use Rattle.bsc_session.specs.Answering.{calls}
 use Rattle.bsc_notes.specs.Notes.{HasLine, Records, denied}
 use Rattle.bsc_session.specs.Guarding.{denials, let_through}
-use Rattle.bsc_session.specs.Inner.{Attends, Carries, Follows, HasEnded, HasFound, Meets, Opens, Runs, SameMember, Takes, TakesFrom, TellsMore, Ticks, Tied, address_by, conn_of, cut_in, given_by, is_more, met_in, stop_of, unput_in}
+use Rattle.bsc_session.specs.CarryingOut.{Carries, TellsMore, is_more, stop_of}
+use Rattle.bsc_session.specs.Following.{Follows, HasEnded, HasFound, Runs, Tied, address_by, conn_of, given_by}
+use Rattle.bsc_session.specs.TakingFrames.{Takes, cut_in, met_in, unput_in}
+use Rattle.bsc_session.specs.Opening.{Attends, Meets, Opens, SameMember, TakesFrom, Ticks}
 use Rattle.bsc_session.specs.Puts.{HasPut, octets_in, puts}
 use Rattle.bsc_session.specs.Reading.{started, ticked, wanted_at}
 use Rattle.bsc_session.specs.Standings.{Standing, Terms, is_connected, is_phase_connected, start_of, told, wanted}

@@ -12,7 +12,7 @@ use Rattle.bsc_hub.specs.Passing.{MadeOne, Placed}
 use Rattle.bsc_edge.specs.declared.fault.LinkFault.{LinkFault}
 use Rattle.bsc_lines.specs.declared.denial.Denial.{Denial}
 use Rattle.bsc_notes.specs.Notes.{HasLine, Note, Records, denied, line_of, made, lines_of}
-use Rattle.bsc_session.specs.Inner.{Wrote}
+use Rattle.bsc_session.specs.CarryingOut.{Wrote}
 use Rattle.bsc_session.specs.Serving.{AllStand}
 
 -- the octets of notes behind notes

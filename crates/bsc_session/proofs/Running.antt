@@ -31,7 +31,10 @@ use Rattle.bsc_session.specs.declared.why.Why.{Why}
 use Rattle.bsc_session.specs.Course.{standing, shares, total, GoesOn, and_last, said_closing}
 use Rattle.bsc_session.specs.declared.ended.Ended.{Ended}
 use Rattle.bsc_session.specs.Laws.{GrowsToFault}
-use Rattle.bsc_session.specs.Inner.{AreTerms, HasEnded, HasFound, HasTerms, Held, Makes, Parts, Ran, ServesBy, Stood, UnputBy, Wrote, empties_by, given_by}
+use Rattle.bsc_session.specs.CarryingOut.{UnputBy, Wrote}
+use Rattle.bsc_session.specs.Following.{HasEnded, HasFound, Held, empties_by, given_by}
+use Rattle.bsc_session.specs.MakingTurns.{AreTerms, HasTerms, Makes}
+use Rattle.bsc_session.specs.Running.{Parts, Ran, ServesBy, Stood}
 use Rattle.bsc_session.specs.Serving.{Goes, Serves, ServesNoting, terms_of}
 use Rattle.bsc_session.specs.Standings.{Standing, Terms, begun, start_of}
 use Rattle.bsc_session.specs.Talk.{first_lost, leaving, named, named_lost, noted_leaving}

@@ -16,7 +16,8 @@ use Rattle.bsc_ring.specs.declared.found.Found.TheVariants.{Ending, Tail}
 use Rattle.bsc_ring.specs.Ends.{FoundEnd, Took, empties_of, found, given, known_pushed, knows_all, outlet_mark}
 use Rattle.bsc_session.specs.declared.taken.Taken.{Taken}
 use Rattle.bsc_session.specs.declared.taken.Taken.TheVariants.{All, Part, Met, Cut, Lost}
-use Rattle.bsc_session.specs.Inner.{FitsCount, HandsOn, HasEnded, IsCut, Taking, Takes, cut_in, met_in, nothing_found, unput_in}
+use Rattle.bsc_session.specs.Following.{HasEnded}
+use Rattle.bsc_session.specs.TakingFrames.{FitsCount, HandsOn, IsCut, Taking, Takes, cut_in, met_in, nothing_found, unput_in}
 use Rattle.bsc_session.specs.Puts.{puts, HasPut}
 use Rattle.bsc_session.proofs.Lists.{grows_as, grown, grows-nil, puts-append, well}
 use Rattle.bsc_history.proofs.Common.{end_is}

@@ -15,7 +15,7 @@ use Rattle.bsc_session.specs.declared.stop.Stop.{Stop}
 use Rattle.bsc_session.specs.declared.why.Why.{Why}
 use Rattle.bsc_session.specs.declared.why.Why.TheVariants.{EndedBy, Idle, WaitExpired}
 use Rattle.bsc_session.specs.Causes.{HasIdled, HasWaited, answer_in, given_in, hearing_fault, judged_in}
-use Rattle.bsc_session.specs.Inner.{has_joined}
+use Rattle.bsc_session.specs.Following.{has_joined}
 use Rattle.bsc_session.specs.Reading.{started, wanted_at, ticked}
 use Rattle.bsc_session.specs.Receiving.{Hearing}
 use Rattle.bsc_session.specs.Standings.{Standing, Terms, start_of}

@@ -26,7 +26,7 @@ use Rattle.bsc_hub.specs.declared.joined.Joined.{Joined}
 use Rattle.bsc_hub.specs.Calls.{all_made, all_told, connect_made, connect_told}
 use Rattle.bsc_hub.specs.Passing.{Passed, Placed, about_of, found_history}
 use Rattle.bsc_hub.proofs.Guarding.{parts}
-use Rattle.bsc_session.specs.Inner.{SeesWorn}
+use Rattle.bsc_session.specs.CarryingOut.{SeesWorn}
 use Rattle.bsc_history.proofs.Common.{due_none}
 
 longer : (F H : List Stamped) → StartsWith H F → length (entries F) ≤ length (entries H)

@@ -6,7 +6,7 @@ ghost use Rattle.bsc_desk.specs.Entries.{all_looks, all_reply, connect_entry, fo
 ghost use Rattle.bsc_edge.specs.declared.fault.LinkFault.{LinkFault};
 ghost use Rattle.bsc_edge.specs.Told.{fault_in};
 ghost use Rattle.bsc_notes.specs.Notes.{Records, denied, made as made_note};
-ghost use Rattle.bsc_session.specs.Inner.{RoseIf, UnputIf};
+ghost use Rattle.bsc_session.specs.CarryingOut.{RoseIf, UnputIf};
 ghost use Rattle.bsc_session.specs.Stops.{stop_lost};
 
 use crate::stop::Stop;

@@ -5,7 +5,8 @@ ghost use Rattle.bsc_accept.specs.Standing.{IsOpen, StandsFor};
 ghost use Rattle.bsc_hub.specs.Passing.{IsCaller, about_of};
 ghost use Rattle.bsc_session.specs.declared.why.Why.{Why};
 ghost use Rattle.bsc_session.specs.Causes.{HasExactCause};
-ghost use Rattle.bsc_session.specs.Inner.{Ran, RoseFor, ServesBy, UnputBy};
+ghost use Rattle.bsc_session.specs.CarryingOut.{RoseFor, UnputBy};
+ghost use Rattle.bsc_session.specs.Running.{Ran, ServesBy};
 ghost use Rattle.bsc_session.specs.Laws.{GrowsToFault};
 ghost use Rattle.bsc_session.specs.Serving.{ServesNoting, ServesUnrecorded, terms_of};
 

@@ -2,7 +2,7 @@
 ghost use Rattle.std.specs.Prelude.{◌≡◌, ◌≢◌, ◌≤◌, ℕ, Bool, Some};
 ghost use Rattle.bsc_edge.specs.declared.fault.LinkFault.{LinkFault};
 ghost use Rattle.bsc_session.specs.declared.why.Why.{Why};
-ghost use Rattle.bsc_session.specs.Inner.{Carries, RoseFor, RoseIf, UnputIf};
+ghost use Rattle.bsc_session.specs.CarryingOut.{Carries, RoseFor, RoseIf, UnputIf};
 ghost use Rattle.bsc_session.specs.Stops.{stop_at, stop_for, stop_unrecorded};
 
 use crate::stop::Stop;

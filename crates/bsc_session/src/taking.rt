@@ -6,8 +6,10 @@ ghost use Rattle.bsc_ring.specs.Ends.{empties_of};
 ghost use Rattle.bsc_outside.specs.Faults.{HasRisen};
 ghost use Rattle.bsc_edge.specs.declared.fault.LinkFault.{LinkFault};
 ghost use Rattle.bsc_session.specs.declared.taken.Taken.{Taken};
-ghost use Rattle.bsc_session.specs.Inner.{Attends, Follows, HandsOn, Meets, RoseIf, Runs, Takes, TakesFrom};
-ghost use Rattle.bsc_session.specs.Inner.{TellsMore, Tied, UnputBy, UnputIf, empties_by, stop_of, unput_by, unput_in};
+ghost use Rattle.bsc_session.specs.CarryingOut.{RoseIf, TellsMore, UnputBy, UnputIf, stop_of};
+ghost use Rattle.bsc_session.specs.Following.{Follows, Runs, Tied, empties_by};
+ghost use Rattle.bsc_session.specs.TakingFrames.{HandsOn, Takes, unput_by, unput_in};
+ghost use Rattle.bsc_session.specs.Opening.{Attends, Meets, TakesFrom};
 ghost use Rattle.bsc_session.specs.Standings.{Standing, Terms, start_of};
 
 use crate::at::At;

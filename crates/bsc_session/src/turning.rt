@@ -2,8 +2,11 @@
 ghost use Rattle.std.specs.Prelude.{◌≡◌, ◌≤◌, ◌<◌, ◌≢◌, ℕ, Bool, None, Some, IsTrue, is_some, option_map};
 ghost use Rattle.bsc_hub.specs.Passing.{about_of};
 ghost use Rattle.bsc_accept.specs.Standing.{IsConnected, IsOpen, StandsFor};
-ghost use Rattle.bsc_session.specs.Inner.{AreTerms, HasTerms, Starts, empties_by, Between, Follows, HasStanding, Hears, Held};
-ghost use Rattle.bsc_session.specs.Inner.{IsFollowed, Makes, Opens, RoseIf, Runs, Ticks, UnputIf, conn_of, is_more, stop_of};
+ghost use Rattle.bsc_session.specs.CarryingOut.{RoseIf, UnputIf, is_more, stop_of};
+ghost use Rattle.bsc_session.specs.Following.{empties_by, Follows, HasStanding, Held, IsFollowed, Runs, conn_of};
+ghost use Rattle.bsc_session.specs.Hearing.{Hears};
+ghost use Rattle.bsc_session.specs.Opening.{Opens, Ticks};
+ghost use Rattle.bsc_session.specs.MakingTurns.{AreTerms, HasTerms, Starts, Between, Makes};
 ghost use Rattle.bsc_session.specs.Reading.{started};
 ghost use Rattle.bsc_session.specs.Stops.{closing_in};
 ghost use Rattle.bsc_session.specs.Taking.{wait_by, waiting_for};

@@ -2,7 +2,7 @@
 use Rattle.std.proofs.Common.{◌≡◌, inl, inr, List, [], ◌∷◌, ◌++◌, flat_map, Option, Some, None, refl, ap, sym, ◌∙◌, append_assoc}
 use Rattle.std.proofs.lemmas.Grind.{flat_map-append}
 use Rattle.bsc_session.specs.Course.{EachTurn, GoesOn, and_last, shares, standing}
-use Rattle.bsc_session.specs.Inner.{Tied}
+use Rattle.bsc_session.specs.Following.{Tied}
 use Rattle.bsc_session.specs.Standings.{Standing, Terms}
 use Rattle.bsc_session.specs.Turns.{IsTurn, Turn, after}
 use Rattle.bsc_session.proofs.Lists.{shares-more}

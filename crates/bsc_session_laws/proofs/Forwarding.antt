@@ -30,7 +30,7 @@ use Rattle.bsc_session.specs.Answering.{IsHearing, called, calls_hub, denied_in,
 use Rattle.bsc_session.specs.Causes.{answer_in, given_in}
 use Rattle.bsc_session.specs.Course.{all_turns, entries_of, said_closing, shares}
 use Rattle.bsc_session.specs.Guarding.{denied_message}
-use Rattle.bsc_session.specs.Inner.{Tied, has_joined}
+use Rattle.bsc_session.specs.Following.{Tied, has_joined}
 use Rattle.bsc_session.specs.Judging.{verdict_on}
 use Rattle.bsc_session.specs.Puts.{puts}
 use Rattle.bsc_session.specs.Receiving.{Answer, replies, worn, no_memory, Hearing}

@@ -36,7 +36,7 @@ use Rattle.bsc_session.specs.declared.ended.Ended.{Ended}
 use Rattle.bsc_session.specs.Answering.{answered, called, calls_hub, denied_in, forwarded_by, made_at, stands_heard, step_of}
 use Rattle.bsc_session.specs.Course.{EachTurn, all_turns, end_of, entries_of, notes_of, shares, standing as stands_after_all}
 use Rattle.bsc_session.specs.Guarding.{denial_of, denials, denials_by, denied_by, denied_connect, denied_frame, denied_from, denied_message, denied_pair, if_any, let_through, origin}
-use Rattle.bsc_session.specs.Inner.{Tied}
+use Rattle.bsc_session.specs.Following.{Tied}
 use Rattle.bsc_session.specs.Judging.{heard, heard_step, verdict_on}
 use Rattle.bsc_session.specs.Reading.{ticked}
 use Rattle.bsc_session.specs.Receiving.{Answer, replies, worn, no_memory, Hearing}

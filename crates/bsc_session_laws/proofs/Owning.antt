@@ -21,7 +21,7 @@ use Rattle.bsc_accept.specs.Steps.{message_step}
 use Rattle.bsc_session.specs.declared.ended.Ended.{Ended}
 use Rattle.bsc_session.specs.Answering.{answered, called, forwarded_by, stands_heard, step_of}
 use Rattle.bsc_session.specs.Course.{all_turns, end_of, entries_of, shares, standing as stands_after_all}
-use Rattle.bsc_session.specs.Inner.{Tied, has_joined}
+use Rattle.bsc_session.specs.Following.{Tied, has_joined}
 use Rattle.bsc_session.specs.Judging.{heard_step, verdict_on}
 use Rattle.bsc_session.specs.Receiving.{Answer, replies, worn, no_memory, Hearing}
 use Rattle.bsc_session.specs.Standings.{Standing, Terms, begun}

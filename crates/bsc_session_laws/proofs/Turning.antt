@@ -36,7 +36,7 @@ use Rattle.bsc_session.specs.declared.why.Why.TheVariants.{Refused as WhyRefused
 use Rattle.bsc_session.specs.Answering.{Fits, IsHearing, after_hearing, answered, calls, denied_in, last_wanted, put_unless, said_hearing, stands_heard, stop_hearing, stop_message, step_of}
 use Rattle.bsc_session.specs.Course.{GoesOn}
 use Rattle.bsc_session.specs.Guarding.{denied_message, let_through}
-use Rattle.bsc_session.specs.Inner.{Tied, has_joined}
+use Rattle.bsc_session.specs.Following.{Tied, has_joined}
 use Rattle.bsc_session.specs.Judging.{heard, verdict_on}
 use Rattle.bsc_session.specs.Puts.{octets_in, puts}
 use Rattle.bsc_session.specs.Reading.{started, ticked}

@@ -4,7 +4,7 @@ use crate::refused_line::{Seen, why_line};
 use bsc_octets::NoMemory;
 use bsc_recorders::{DoorNote, Kept};
 use bsc_settings_diagnostics::why_settings;
-use bsc_words::{Asked, read_words};
+use bsc_words::{Asked, ReadWords};
 use bsc_words_diagnostics::why_words;
 use std::alloc::Global;
 use std::io::{self, Eprint};
@@ -15,8 +15,8 @@ use std::net::{Ipv4Addr, Net, SocketAddr};
 pub struct Heard<'a> {
     /// What the program was called as.
     pub called: &'a str,
-    /// Its words, none where one of them isn't UTF-8.
-    pub words: &'a [String],
+    /// Its words, and what they ask for. There are none where one of them isn't UTF-8.
+    pub read: ReadWords<'a>,
     /// Whether each of them is UTF-8.
     pub has_texts: bool,
     /// What is kept of its standard input.
@@ -33,6 +33,8 @@ pub struct Heard<'a> {
     pub file_error: Option<io::Error>,
     /// What became of its port.
     pub door: DoorNote,
+    /// Whether a line couldn't be written into the hub's own journal.
+    pub has_lost_a_line: bool,
 }
 
 /// The status of words that are refused.
@@ -43,6 +45,9 @@ const LINE: u8 = 2;
 
 /// The status of a read that failed.
 const READ: u8 = 3;
+
+/// The status of a journal that can't be kept, or of an output that can't be written.
+const WRITE: u8 = 4;
 
 /// The status of settings that are refused.
 const SETTINGS: u8 = 5;
@@ -58,7 +63,7 @@ fn of_words(alloc: Global, heard: &Heard<'_>) -> Result<Option<String>, NoMemory
             "a word isn't UTF-8; {called} --help says how to call it"
         )?));
     }
-    match why_words(alloc, heard.words)? {
+    match why_words(alloc, heard.read.words)? {
         Some(why) => Ok(Some(format!(in alloc; "{why}; {called} --help says how to call it")?)),
         None => Ok(None),
     }
@@ -95,7 +100,7 @@ fn of_script(alloc: Global, path: &str, heard: &Heard<'_>) -> Result<Option<Stri
 
 /// Of a line that is refused: why.
 fn of_line(alloc: Global, heard: &Heard<'_>) -> Result<Option<String>, NoMemory> {
-    match read_words(alloc, heard.words) {
+    match heard.read.asked {
         Ok(Asked::Replay) => of_input(alloc, Format::Script, heard),
         Ok(Asked::Simulate) => of_input(alloc, Format::Network, heard),
         Ok(Asked::Check) => of_input(alloc, Format::Question, heard),
@@ -119,7 +124,7 @@ fn of_path(
 
 /// Of a read that failed: of what, and why.
 fn of_read(alloc: Global, heard: &Heard<'_>) -> Result<Option<String>, NoMemory> {
-    match read_words(alloc, heard.words) {
+    match heard.read.asked {
         Ok(Asked::Hub { path, .. }) => of_path(alloc, path, heard.file_error),
         Ok(Asked::Node { path, script }) => of_path(
             alloc,
@@ -128,6 +133,21 @@ fn of_read(alloc: Global, heard: &Heard<'_>) -> Result<Option<String>, NoMemory>
         ),
         Ok(_) => of_path(alloc, "standard input", heard.input_error),
         Err(_) => Ok(None),
+    }
+}
+
+/// Of the hub's own journal: that it can't be written. Of one that can't be made, whoever begins journals tells.
+fn of_journal(alloc: Global, heard: &Heard<'_>) -> Result<Option<String>, NoMemory> {
+    match heard.read.asked {
+        Ok(
+            Asked::Hub {
+                journal: Some(prefix),
+                ..
+            },
+        ) if heard.has_lost_a_line => Ok(Some(format!(in alloc;
+            "the journal {prefix}.0 can't be written"
+        )?)),
+        _ => Ok(None),
     }
 }
 
@@ -149,7 +169,7 @@ fn of_table(
 
 /// Of settings that are refused: why.
 fn of_settings(alloc: Global, heard: &Heard<'_>) -> Result<Option<String>, NoMemory> {
-    match read_words(alloc, heard.words) {
+    match heard.read.asked {
         Ok(Asked::Hub { path, .. }) => of_table(alloc, path, "hub", heard),
         Ok(Asked::Node { path, .. }) => of_table(alloc, path, "node", heard),
         _ => Ok(None),
@@ -205,6 +225,9 @@ fn line_of(
     if status == READ {
         return of_read(alloc, heard);
     }
+    if status == WRITE {
+        return of_journal(alloc, heard);
+    }
     if status == SETTINGS {
         return of_settings(alloc, heard);
     }
@@ -214,8 +237,8 @@ fn line_of(
     Ok(None)
 }
 
-/// Tells on standard error why a run ended with this status, where a word, a line, a read, a setting or a port is at fault. It
-/// writes one line, or none where there is no memory for it.
+/// Tells on standard error why a run ended with this status, where a word, a line, a read, a setting, a port or the hub's own journal
+/// is at fault. It writes one line, or none where there is no memory for it.
 pub fn tell<R: Eprint + Net>(rt: &R, alloc: Global, status: u8, heard: &Heard<'_>) {
     let error = if status == LINK {
         bind_error(rt, heard.door)

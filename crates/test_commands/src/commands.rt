@@ -18,6 +18,7 @@ use bsc_node_run::{MemWords, Words};
 use bsc_octets::{NoMemory, Octets};
 use bsc_outside::{MemSink, MemSource};
 use bsc_session::SessionJob;
+use bsc_words::ReadWords;
 use std::alloc::Global;
 use std::process::Abort;
 use std::sync::Wait;
@@ -324,6 +325,7 @@ fn status_of<
     requires own { own.old ≡ None }
 {
     let words = words_of(alloc, words)?;
+    let read = ReadWords::of(alloc, words.as_slice());
     let mut kept = Kept {
         hub: None,
         pass: None,
@@ -332,7 +334,7 @@ fn status_of<
     Ok(run(
         rt,
         alloc,
-        words.as_slice(),
+        &read,
         source,
         sink,
         files,

@@ -9,7 +9,7 @@ use bsc_edge::{
     MemSpawner, MemWaiter, Monotonic, Patience, Places, Promised, Running, Said, Spawner,
     ThreadSpawner, Unstarted, Waiter, launch,
 };
-use bsc_octets::{NoMemory, Octets};
+use bsc_octets::{NoMemory, Octets, Vmac};
 use std::alloc::Global;
 use std::process::Abort;
 use std::sync::{Arc, Mutex, Wait};
@@ -138,8 +138,8 @@ fn arrived(answer: Result<Arrived<u64>, LinkFault>) -> Option<u64> {
 fn acceptors_and_waits_in_memory(rt: HostRuntime) -> Result<(), Fail> {
     let alloc = rt.alloc();
     let mut acceptor = MemAcceptor::new(alloc, Vec::from_slice(alloc, &[7])?, &[1, 3]);
-    assert_eq!(rt; acceptor.bind(1), Err(Failed));
-    assert_eq!(rt; acceptor.bind(4443), Ok(()));
+    assert_eq!(rt; acceptor.bind(1, Vmac([0; 6])), Err(Failed));
+    assert_eq!(rt; acceptor.bind(4443, Vmac([0; 6])), Ok(()));
     assert_eq!(rt; acceptor.bound(), Some(4443));
     assert_eq!(rt; arrived(acceptor.next(alloc, 20)), None);
     assert_eq!(rt; acceptor.left(), 1);

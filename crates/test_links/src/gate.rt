@@ -2,6 +2,7 @@
 use bsc_edge::{Acceptor, Arrived, Dialer, Incoming, Kind, Link, LinkFault};
 use bsc_gate::{Gate, SocketOpener};
 use bsc_live::Bells;
+use bsc_octets::Vmac;
 use bsc_ws::StreamDialer;
 use mio::net::TcpStream;
 use std::alloc::Global;
@@ -88,7 +89,7 @@ fn a_dialer_meets_a_gate(rt: HostRuntime) -> Result<(), Fail> {
     let bells = Arc::new(alloc, Bells::new(alloc)?)?;
     let others = Arc::try_clone(&bells)?;
     let mut gate = Gate::new(rt, alloc, Ipv4Addr::LOCALHOST, Kind::Hub, bells, 8)?;
-    assert!(rt; gate.bind(0).is_ok());
+    assert!(rt; gate.bind(0, Vmac([0; 6])).is_ok());
     let port = match gate.address() {
         Some(address) => address.port(),
         None => 0,

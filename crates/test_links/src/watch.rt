@@ -2,6 +2,7 @@
 use bsc_edge::{Acceptor, Arrived, Incoming, Kind, Link, Waiter};
 use bsc_gate::{AcceptedLink, Gate};
 use bsc_live::{Bells, Moment, Watcher};
+use bsc_octets::Vmac;
 use std::alloc::Global;
 use std::io::Write;
 use std::net::{Ipv4Addr, Net, SocketAddr, TcpStream};
@@ -74,7 +75,7 @@ fn a_wait_ends_when_something_comes(rt: HostRuntime) -> Result<(), Fail> {
         gate,
         link: None,
     };
-    assert!(rt; node.gate.bind(0).is_ok());
+    assert!(rt; node.gate.bind(0, Vmac([0; 6])).is_ok());
     let port = match node.gate.address() {
         Some(address) => address.port(),
         None => 0,

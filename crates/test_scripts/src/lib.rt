@@ -24,8 +24,12 @@ mod script;
 #[cfg(test)]
 mod settings;
 #[cfg(test)]
+mod settings_diagnostics;
+#[cfg(test)]
 mod text;
 #[cfg(test)]
 mod why;
 #[cfg(test)]
 mod words;
+#[cfg(test)]
+mod words_diagnostics;

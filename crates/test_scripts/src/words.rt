@@ -1,6 +1,6 @@
 //! Words, and what they say.
 use bsc_octets::NoMemory;
-use bsc_words::{Asked, WordsFault, read_words};
+use bsc_words::{Asked, ReadWords, WordsFault, read_words};
 use std::alloc::Global;
 use std::process::Abort;
 use std::test::*;
@@ -14,10 +14,11 @@ fn words_of(alloc: Global, line: &str) -> Result<Vec<String>, NoMemory> {
     Ok(words)
 }
 
-/// Whether the words of a line ask for this.
+/// Whether the words of a line, once they are read, are these and ask for this.
 fn ask_for(alloc: Global, line: &str, asked: Asked<'_>) -> Result<bool, NoMemory> {
     let words = words_of(alloc, line)?;
-    Ok(read_words(alloc, words.as_slice()) == Ok(asked))
+    let read = ReadWords::of(alloc, words.as_slice());
+    Ok(read.asked == Ok(asked) && read.words.len() == words.len())
 }
 
 /// Whether the words of a line are refused.

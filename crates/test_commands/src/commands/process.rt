@@ -1,7 +1,6 @@
 //! A run of the program over sockets and threads, with its files and what it writes in memory.
 use crate::commands::journals::KeptJournal;
 use crate::commands::{files_of, status_of};
-use bsc_commands::{Door, Noted, RealLink, RealWaiter, real_dialer};
 use bsc_edge::{
     Kind, MemFiles, Monotonic, Places, Promised, Running, ThreadSpawner, Unstarted, launch,
 };
@@ -10,12 +9,11 @@ use bsc_node_command::RandomWords;
 use bsc_octets::NoMemory;
 use bsc_outside::{MemSink, MemSource};
 use bsc_session::{SessionEnd, SessionJob};
+use bsc_sockets::{Door, RealLink, RealWaiter, real_dialer};
 use std::alloc::Global;
-use std::cell::Cell;
 use std::io::{self, Eprint};
 use std::net::{Ipv4Addr, Net, SocketAddr, TcpListener};
 use std::random::RandomSource;
-use std::rc::Rc;
 use std::sync::{Arc, Wait};
 use std::thread::Threads;
 use std::time::Clock;
@@ -66,14 +64,13 @@ fn status_over_sockets<
         Unstarted<Session<R>>,
     > { launch(&rt, alloc, places, job) };
     let mut spawner = ThreadSpawner::new(rt, alloc, begin, Places::make(alloc, 8)?);
-    let notes = Rc::new(alloc, Cell::new(Noted::nothing()))?;
     let Ok(mut waiter) = RealWaiter::of(rt, alloc, process.kind) else {
         return Err(NoMemory);
     };
     let (Ok(of_links), Ok(of_gate)) = (waiter.shared(), waiter.shared()) else {
         return Err(NoMemory);
     };
-    let mut acceptor = PeerAcceptor::new(Door::new(rt, alloc, process.kind, notes, of_gate));
+    let mut acceptor = PeerAcceptor::new(Door::new(rt, alloc, process.kind, of_gate));
     let mut dialer = PeerDialer::new(real_dialer(rt, alloc, of_links)?);
     status_of(
         &rt,

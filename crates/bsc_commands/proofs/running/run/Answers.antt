@@ -6,7 +6,8 @@ use Rattle.bsc_network_script.specs.Scripts.{simulate_of}
 use Rattle.bsc_words.specs.declared.asked.Asked.{Asked}
 use Rattle.bsc_words.specs.declared.fault.WordsFault.{WordsFault}
 use Rattle.bsc_words.specs.declared.fault.WordsFault.TheVariants.{Refused}
-use Rattle.bsc_words.specs.Words.{AskedOf, asked_by, audit, check, hub, node, replay, seen, simulate}
+use Rattle.bsc_words.specs.Read.{asked_in}
+use Rattle.bsc_words.specs.Words.{AskedOf, audit, check, hub, node, replay, seen, simulate}
 use Rattle.bsc_commands.proofs.Reading.{ran_out, unaudited, unread, workers_fit}
 use Rattle.bsc_commands.proofs.Sending.{writes_what_was_sent}
 use Rattle.bsc_commands.proofs.running.run.Goals as goal
@@ -20,47 +21,47 @@ asks_same read x y p q = let both : Some x ≡ Some y = sym p ∙ q in cc
 
 pub run_asked-requires-clause-workers : goal.run_asked-requires-clause-workers
 run_asked-requires-clause-workers g c κs within n named =
-    let words = map string_bytes c.args.words.now in
-    workers_fit words (seen c.in-Ok.asked) n (said (asked_by words) c.read_words.result c.in-Ok.asked c.in-Ok.is c.read_words.ensures.ok) named
+    let read = c.args.read.now in
+    workers_fit (map string_bytes read.words.now) (seen c.in-Ok.asked) n (said (asked_in read) read.asked c.in-Ok.asked c.in-Ok.is read.ok) named
 
 pub returns-in-Ok-clause-hub : goal.returns-in-Ok-clause-hub
 returns-in-Ok-clause-hub g c path sessions journal made named kept =
-    let read = asked_by (map string_bytes c.args.words.now) in
-    let asked = said read c.read_words.result c.in-Ok.asked c.in-Ok.is c.read_words.ensures.ok in
-    c.run_asked.ensures.hub path sessions journal made (asks_same read (seen c.in-Ok.asked) (hub path sessions journal) asked named) kept
+    let read = c.args.read.now in
+    let asked = said (asked_in read) read.asked c.in-Ok.asked c.in-Ok.is read.ok in
+    c.run_asked.ensures.hub path sessions journal made (asks_same (asked_in read) (seen c.in-Ok.asked) (hub path sessions journal) asked named) kept
 
 pub returns-in-Ok-clause-no_hub : goal.returns-in-Ok-clause-no_hub
 returns-in-Ok-clause-no_hub g c path sessions journal named kept =
-    let read = asked_by (map string_bytes c.args.words.now) in
-    let asked = said read c.read_words.result c.in-Ok.asked c.in-Ok.is c.read_words.ensures.ok in
-    c.run_asked.ensures.no_hub path sessions journal (asks_same read (seen c.in-Ok.asked) (hub path sessions journal) asked named) kept
+    let read = c.args.read.now in
+    let asked = said (asked_in read) read.asked c.in-Ok.asked c.in-Ok.is read.ok in
+    c.run_asked.ensures.no_hub path sessions journal (asks_same (asked_in read) (seen c.in-Ok.asked) (hub path sessions journal) asked named) kept
 
 pub returns-in-Ok-clause-node : goal.returns-in-Ok-clause-node
 returns-in-Ok-clause-node g c path script named =
-    let read = asked_by (map string_bytes c.args.words.now) in
-    let asked = said read c.read_words.result c.in-Ok.asked c.in-Ok.is c.read_words.ensures.ok in
-    c.run_asked.ensures.node path script (asks_same read (seen c.in-Ok.asked) (node path script) asked named)
+    let read = c.args.read.now in
+    let asked = said (asked_in read) read.asked c.in-Ok.asked c.in-Ok.is read.ok in
+    c.run_asked.ensures.node path script (asks_same (asked_in read) (seen c.in-Ok.asked) (node path script) asked named)
 
 pub returns-in-Err-clause-replayed : goal.returns-in-Err-clause-replayed
 returns-in-Err-clause-replayed g c o t named left held =
-    let none = λ (e : c.in-Err.fault ≡ Refused). c.read_words.ensures.refused (c.in-Err.is ∙ ap Err e) in
-    let out = ran_out c.in-Err.fault (asked_by (map string_bytes c.args.words.now)) replay c.end_unasked.result
+    let none = λ (e : c.in-Err.fault ≡ Refused). c.args.read.now.refused (c.in-Err.is ∙ ap Err e) in
+    let out = ran_out c.in-Err.fault (asked_in c.args.read.now) replay c.end_unasked.result
     (g.K.Sink.held c.args.sink.now) (g.K.Sink.held c.end_unasked.new.sink) none c.end_unasked.ensures.ran_out named in
     unread replay_of c.end_unasked.result o t (g.S.Source.left c.args.source.now) (g.K.Sink.held c.args.sink.now) (g.K.Sink.held c.end_unasked.new.sink)
     (g.S.Source.faults c.args.source.now) (g.S.Source.faults c.args.source.now) left held out
 
 pub returns-in-Err-clause-simulated : goal.returns-in-Err-clause-simulated
 returns-in-Err-clause-simulated g c o t named left held =
-    let none = λ (e : c.in-Err.fault ≡ Refused). c.read_words.ensures.refused (c.in-Err.is ∙ ap Err e) in
-    let out = ran_out c.in-Err.fault (asked_by (map string_bytes c.args.words.now)) simulate c.end_unasked.result
+    let none = λ (e : c.in-Err.fault ≡ Refused). c.args.read.now.refused (c.in-Err.is ∙ ap Err e) in
+    let out = ran_out c.in-Err.fault (asked_in c.args.read.now) simulate c.end_unasked.result
     (g.K.Sink.held c.args.sink.now) (g.K.Sink.held c.end_unasked.new.sink) none c.end_unasked.ensures.ran_out named in
     unread simulate_of c.end_unasked.result o t (g.S.Source.left c.args.source.now) (g.K.Sink.held c.args.sink.now) (g.K.Sink.held c.end_unasked.new.sink)
     (g.S.Source.faults c.args.source.now) (g.S.Source.faults c.args.source.now) left held out
 
 pub returns-in-Err-clause-delivered : goal.returns-in-Err-clause-delivered
 returns-in-Err-clause-delivered g c o t named left held =
-    let none = λ (e : c.in-Err.fault ≡ Refused). c.read_words.ensures.refused (c.in-Err.is ∙ ap Err e) in
-    let out = ran_out c.in-Err.fault (asked_by (map string_bytes c.args.words.now)) simulate c.end_unasked.result
+    let none = λ (e : c.in-Err.fault ≡ Refused). c.args.read.now.refused (c.in-Err.is ∙ ap Err e) in
+    let out = ran_out c.in-Err.fault (asked_in c.args.read.now) simulate c.end_unasked.result
     (g.K.Sink.held c.args.sink.now) (g.K.Sink.held c.end_unasked.new.sink) none c.end_unasked.ensures.ran_out named in
     writes_what_was_sent c.end_unasked.result o t (g.S.Source.left c.args.source.now) (g.K.Sink.held c.end_unasked.new.sink)
     (g.S.Source.faults c.args.source.now) (g.S.Source.faults c.args.source.now)
@@ -69,30 +70,30 @@ returns-in-Err-clause-delivered g c o t named left held =
 
 pub returns-in-Ok-clause-delivered : goal.returns-in-Ok-clause-delivered
 returns-in-Ok-clause-delivered g c o t named left held =
-    let read = asked_by (map string_bytes c.args.words.now) in
-    let asked = said read c.read_words.result c.in-Ok.asked c.in-Ok.is c.read_words.ensures.ok in
+    let read = c.args.read.now in
+    let asked = said (asked_in read) read.asked c.in-Ok.asked c.in-Ok.is read.ok in
     writes_what_was_sent c.run_asked.result o t (g.S.Source.left c.run_asked.new.source) (g.K.Sink.held c.run_asked.new.sink)
     (g.S.Source.faults c.args.source.now) (g.S.Source.faults c.run_asked.new.source)
-    (c.run_asked.ensures.simulated o t (asks_same read (seen c.in-Ok.asked) simulate asked named) left held)
+    (c.run_asked.ensures.simulated o t (asks_same (asked_in read) (seen c.in-Ok.asked) simulate asked named) left held)
 
 pub returns-in-Err-clause-checked : goal.returns-in-Err-clause-checked
 returns-in-Err-clause-checked g c o t named left held =
-    let none = λ (e : c.in-Err.fault ≡ Refused). c.read_words.ensures.refused (c.in-Err.is ∙ ap Err e) in
-    let out = ran_out c.in-Err.fault (asked_by (map string_bytes c.args.words.now)) check c.end_unasked.result
+    let none = λ (e : c.in-Err.fault ≡ Refused). c.args.read.now.refused (c.in-Err.is ∙ ap Err e) in
+    let out = ran_out c.in-Err.fault (asked_in c.args.read.now) check c.end_unasked.result
     (g.K.Sink.held c.args.sink.now) (g.K.Sink.held c.end_unasked.new.sink) none c.end_unasked.ensures.ran_out named in
     unread check_of c.end_unasked.result o t (g.S.Source.left c.args.source.now) (g.K.Sink.held c.args.sink.now) (g.K.Sink.held c.end_unasked.new.sink)
     (g.S.Source.faults c.args.source.now) (g.S.Source.faults c.args.source.now) left held out
 
 pub returns-in-Err-clause-audited : goal.returns-in-Err-clause-audited
 returns-in-Err-clause-audited g c o named left =
-    let none = λ (e : c.in-Err.fault ≡ Refused). c.read_words.ensures.refused (c.in-Err.is ∙ ap Err e) in
+    let none = λ (e : c.in-Err.fault ≡ Refused). c.args.read.now.refused (c.in-Err.is ∙ ap Err e) in
     unaudited c.end_unasked.result o (g.S.Source.left c.args.source.now) (g.K.Sink.held c.args.sink.now) (g.K.Sink.held c.end_unasked.new.sink)
-    (ran_out c.in-Err.fault (asked_by (map string_bytes c.args.words.now)) audit c.end_unasked.result
+    (ran_out c.in-Err.fault (asked_in c.args.read.now) audit c.end_unasked.result
     (g.K.Sink.held c.args.sink.now) (g.K.Sink.held c.end_unasked.new.sink) none c.end_unasked.ensures.ran_out named)
 
 pub returns-in-Err-clause-finished : goal.returns-in-Err-clause-finished
 returns-in-Err-clause-finished g c path script named is =
-    let none = λ (e : c.in-Err.fault ≡ Refused). c.read_words.ensures.refused (c.in-Err.is ∙ ap Err e) in
-    let out = ran_out c.in-Err.fault (asked_by (map string_bytes c.args.words.now)) (node path script) c.end_unasked.result
+    let none = λ (e : c.in-Err.fault ≡ Refused). c.args.read.now.refused (c.in-Err.is ∙ ap Err e) in
+    let out = ran_out c.in-Err.fault (asked_in c.args.read.now) (node path script) c.end_unasked.result
     (g.K.Sink.held c.args.sink.now) (g.K.Sink.held c.end_unasked.new.sink) none c.end_unasked.ensures.ran_out named in
     absurd (omega (arith, out.0, is))

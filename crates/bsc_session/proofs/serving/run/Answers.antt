@@ -1,6 +1,6 @@
 use Rattle.std.proofs.Common.{refl, None, arith, option_map}
 use Rattle.bsc_session.specs.Course.{standing}
-use Rattle.bsc_session.specs.Inner.{Makes}
+use Rattle.bsc_session.specs.MakingTurns.{Makes}
 use Rattle.bsc_session.specs.Serving.{terms_of}
 use Rattle.bsc_session.specs.Standings.{begun}
 use Rattle.bsc_session.proofs.Losing.{unput_before}

@@ -1,5 +1,5 @@
 use Rattle.std.proofs.Common.{◌≤◌, ◌-◌, option_map}
-use Rattle.bsc_session.specs.Inner.{Stood}
+use Rattle.bsc_session.specs.Running.{Stood}
 use Rattle.bsc_session.specs.Serving.{terms_of}
 use Rattle.bsc_session.proofs.serving.run.Given as goal
 

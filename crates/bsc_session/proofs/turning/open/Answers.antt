@@ -1,6 +1,6 @@
 use Rattle.std.proofs.Common.{◌∙◌, sym, refl, None}
 use Rattle.bsc_accept.specs.declared.event.Event.TheVariants.{Tick}
-use Rattle.bsc_session.specs.Inner.{Ticks}
+use Rattle.bsc_session.specs.Opening.{Ticks}
 use Rattle.bsc_session.specs.Reading.{started, ticked}
 use Rattle.bsc_session.specs.Standings.{told}
 use Rattle.bsc_session.proofs.Opening.{followed_some, opens_apart, opens_attended, opens_expired}

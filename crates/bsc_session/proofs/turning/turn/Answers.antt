@@ -1,5 +1,5 @@
 use Rattle.std.proofs.Common.{ap, refl}
-use Rattle.bsc_session.specs.Inner.{stop_of}
+use Rattle.bsc_session.specs.CarryingOut.{stop_of}
 use Rattle.bsc_session.specs.Reading.{started}
 use Rattle.bsc_session.specs.Taking.{opened}
 use Rattle.bsc_session.proofs.Losing.{unput_if_before}

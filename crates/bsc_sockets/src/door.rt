@@ -2,85 +2,18 @@
 ghost use Rattle.std.specs.Prelude.{◌≡◌, ◌≤◌, None};
 
 use crate::waiting::Shared;
-use bsc_edge::{Acceptor, Arrived, Failed, FileFault, Files, Kind, LinkFault};
+use bsc_edge::{Acceptor, Arrived, Failed, Kind, LinkFault};
 use bsc_gate::{AcceptedLink, Gate};
 use bsc_live::Bells;
-use bsc_octets::{Octets, Vmac};
-use bsc_settings::{Settings, read_settings};
+use bsc_octets::Vmac;
 use std::alloc::Global;
-use std::cell::Cell;
 use std::io::{self, Eprint};
 use std::net::{Ipv4Addr, Net};
-use std::rc::Rc;
 use std::sync::{Arc, Wait};
 use std::time::Clock;
 
 /// At most so many handshakes are at work.
 const PLACES: usize = 256;
-
-/// What is noted of settings when they are read, to be told on standard error.
-#[derive(Clone, Copy)]
-pub struct Noted {
-    /// Whose door it is, a hub's or a node's.
-    pub owner: Option<Vmac>,
-}
-
-impl Noted {
-    /// Nothing was read yet.
-    pub fn nothing() -> Noted {
-        Noted { owner: None }
-    }
-}
-
-/// What was noted, for all that tell of it.
-pub type Notes = Rc<Cell<Noted>>;
-
-/// Files that note what is to be told of the settings that they give: those of a hub or of a node, by the kind of the links
-/// at its door.
-#[derive(Drop)]
-pub struct NotingFiles<F> {
-    files: F,
-    kind: Kind,
-    notes: Notes,
-}
-
-impl<F> NotingFiles<F> {
-    pub fn new(files: F, kind: Kind, notes: Notes) -> NotingFiles<F> {
-        NotingFiles { files, kind, notes }
-    }
-}
-
-/// Who has links of this kind at its door, by these settings.
-fn owner_in(settings: &Settings, kind: Kind) -> Option<Vmac> {
-    match kind {
-        Kind::Hub => Some(settings.hub.as_ref()?.vmac),
-        Kind::Direct => Some(settings.node.as_ref()?.vmac),
-    }
-}
-
-/// What is to be noted of a file, where it has settings.
-fn noted_of(alloc: Global, kind: Kind, text: &[u8]) -> Option<Noted> {
-    match read_settings(alloc, text) {
-        Ok(settings) => Some(Noted {
-            owner: Some(owner_in(&settings, kind)?),
-        }),
-        Err(_) => None,
-    }
-}
-
-impl<F: Files> Files for NotingFiles<F> {
-    ghost faults = { λ n. F.faults n.files };
-
-    ghost holds = { λ n path o. F.holds n.files path o };
-
-    fn load(&mut self, alloc: Global, path: &str) -> Result<Octets, FileFault> {
-        let text = self.files.load(alloc, path)?;
-        if let Some(noted) = noted_of(alloc, self.kind, text.as_slice()) {
-            self.notes.set(noted);
-        }
-        Ok(text)
-    }
-}
 
 /// A gate that is made where it is bound, and tells on standard error what is behind it.
 #[derive(Drop)]
@@ -88,7 +21,6 @@ pub struct Door<R: Clock + Net + Wait + Eprint + Copy + Drop> {
     rt: R,
     alloc: Global,
     kind: Kind,
-    notes: Notes,
     shared: Shared,
     gate: Option<Gate<R>>,
     faults: u64,
@@ -96,12 +28,11 @@ pub struct Door<R: Clock + Net + Wait + Eprint + Copy + Drop> {
 }
 
 impl<R: Clock + Net + Wait + Eprint + Copy + Drop> Door<R> {
-    pub fn new(rt: R, alloc: Global, kind: Kind, notes: Notes, shared: Shared) -> Door<R> {
+    pub fn new(rt: R, alloc: Global, kind: Kind, shared: Shared) -> Door<R> {
         Door {
             rt,
             alloc,
             kind,
-            notes,
             shared,
             gate: None,
             faults: 0,
@@ -128,12 +59,13 @@ fn sharing<R: Clock + Net + Wait + Copy + Drop>(
     }
 }
 
-/// A gate for links of this kind that is bound to this port.
+/// A gate for links of this kind that is bound to this port, for this owner.
 fn open<R: Clock + Net + Wait + Copy + Drop>(
     rt: R,
     alloc: Global,
     kind: Kind,
     port: u16,
+    owner: Vmac,
     shared: &Shared,
 ) -> io::Result<Gate<R>> {
     let Ok(bells) = Bells::new(alloc) else {
@@ -142,18 +74,15 @@ fn open<R: Clock + Net + Wait + Copy + Drop>(
     let bells = Arc::new(alloc, bells)?;
     let gate = Gate::new(rt, alloc, Ipv4Addr::LOCALHOST, kind, bells, PLACES)?;
     let mut gate = sharing(gate, shared)?;
-    match gate.bind(port) {
+    match gate.bind(port, owner) {
         Ok(()) => Ok(gate),
         Err(_) => Err(io::Error::from(io::ErrorKind::AddrInUse)),
     }
 }
 
 /// Tells on standard error who takes links of this kind at this port.
-fn tell_open<R: Eprint>(rt: &R, kind: Kind, port: u16, noted: Noted) {
-    let [a, b, c, d, e, f] = match noted.owner {
-        Some(vmac) => vmac.0,
-        None => [0; 6],
-    };
+fn tell_open<R: Eprint>(rt: &R, kind: Kind, port: u16, owner: Vmac) {
+    let [a, b, c, d, e, f] = owner.0;
     let (who, takes, protocol) = match kind {
         Kind::Hub => ("hub", "serves", "hub.bsc.bacnet.org"),
         Kind::Direct => ("node", "accepts", "dc.bsc.bacnet.org"),
@@ -174,10 +103,10 @@ impl<R: Clock + Net + Wait + Eprint + Copy + Drop> Acceptor<AcceptedLink<R>> for
 
     ghost waits = { λ _. None };
 
-    fn bind(&mut self, port: u16) -> Result<(), Failed> {
-        match open(self.rt, self.alloc, self.kind, port, &self.shared) {
+    fn bind(&mut self, port: u16, owner: Vmac) -> Result<(), Failed> {
+        match open(self.rt, self.alloc, self.kind, port, owner, &self.shared) {
             Ok(gate) => {
-                tell_open(&self.rt, self.kind, port, self.notes.get());
+                tell_open(&self.rt, self.kind, port, owner);
                 self.gate = Some(gate);
                 Ok(())
             }
