@@ -4,10 +4,10 @@ use Rattle.bsc_accept.specs.Messages.{who_asks, is_farewell_answer}
 use Rattle.bsc_accept.specs.Past.{connected, awaiting_request, disconnecting, Standing, phase_named}
 use Rattle.bsc_accept.specs.Steps.{refused_step, closes, ask_step, connected_step, normal, message_step}
 use Rattle.bsc_accept.specs.declared.event.Event.TheVariants.{Joined}
-use Rattle.bsc_accept.specs.declared.step.Step.TheVariants.{Ask, Nothing, Close, Carry}
+use Rattle.bsc_accept.specs.declared.step.Step.TheVariants.{Ask, Nothing, Close, Up}
 use Rattle.bsc_checks.specs.declared.phase.Phase.TheVariants.{AwaitingRequest}
 use Rattle.bsc_checks.specs.declared.verdict.Verdict.{Verdict}
-use Rattle.bsc_checks.specs.declared.verdict.Verdict.TheVariants.{Carry as Carried, Pass, Nak, Silent}
+use Rattle.bsc_checks.specs.declared.verdict.Verdict.TheVariants.{Carry, Pass, Nak, Silent}
 use Rattle.bsc_frame.specs.Payloads.{HasPayload, IsNode}
 use Rattle.bsc_frame.specs.declared.body.Body.{Body}
 use Rattle.bsc_frame.specs.declared.body.Body.TheVariants.{ConnectRequest, DisconnectRequest, HeartbeatRequest}
@@ -44,25 +44,25 @@ pub asks_by : (g : Standing) (v : Verdict) (who : Identity) → Ask who ≡ mess
 asks_by awaiting_request (Pass msg) who e = (msg, refl, refl, asked_by (who_asks msg.body) who e)
 asks_by connected (Pass msg) who e = absurd (not_asked_connected msg.id msg.body who e)
 asks_by (disconnecting f) (Pass msg) who e = absurd (not_asked_parting (is_farewell_answer f.id msg) who e)
-asks_by g (Carried envelope) who e = cc
+asks_by g (Carry envelope) who e = cc
 asks_by g (Silent check) who e = cc
 asks_by g (Nak check octets) who e = cc
 
-pub not_carried_asked : (o : Option Identity) → Carry ≡ ask_step o → ⊥
+pub not_carried_asked : (o : Option Identity) → Up ≡ ask_step o → ⊥
 not_carried_asked None e = cc
 not_carried_asked (Some w) e = cc
 
-pub not_carried_connected : (id : ℕ) (body : Body) → Carry ≡ connected_step id body → ⊥
+pub not_carried_connected : (id : ℕ) (body : Body) → Up ≡ connected_step id body → ⊥
 not_carried_connected id HeartbeatRequest e = cc
 not_carried_connected id DisconnectRequest e = cc
 not_carried_connected id body e = cc
 
-pub not_carried_parting : (b : Bool) → Carry ≡ cond b (Close normal) Nothing → ⊥
+pub not_carried_parting : (b : Bool) → Up ≡ cond b (Close normal) Nothing → ⊥
 not_carried_parting true e = cc
 not_carried_parting false e = cc
 
-pub carries_by : (g : Standing) (v : Verdict) → Carry ≡ message_step g v → (e : Envelope) × (v ≡ Carried e)
-carries_by g (Carried envelope) e = (envelope, refl)
+pub carries_by : (g : Standing) (v : Verdict) → Up ≡ message_step g v → (e : Envelope) × (v ≡ Carry e)
+carries_by g (Carry envelope) e = (envelope, refl)
 carries_by awaiting_request (Pass msg) e = absurd (not_carried_asked (who_asks msg.body) e)
 carries_by connected (Pass msg) e = absurd (not_carried_connected msg.id msg.body e)
 carries_by (disconnecting f) (Pass msg) e = absurd (not_carried_parting (is_farewell_answer f.id msg) e)
@@ -79,7 +79,7 @@ connected_asks id HeartbeatRequest who h = cc
 connected_asks id DisconnectRequest who h = cc
 connected_asks id body who h = cc
 
-pub connected_carries : (id : ℕ) (body : Body) → connected_step id body ≡ Carry → ⊥
+pub connected_carries : (id : ℕ) (body : Body) → connected_step id body ≡ Up → ⊥
 connected_carries id HeartbeatRequest h = cc
 connected_carries id DisconnectRequest h = cc
 connected_carries id body h = cc
@@ -88,6 +88,6 @@ pub asked_so : (o : Option Identity) (who : Identity) → ask_step o ≡ Ask who
 asked_so None who h = cc
 asked_so (Some w) who h = cc
 
-pub no_ask_carries : (o : Option Identity) → ask_step o ≡ Carry → ⊥
+pub no_ask_carries : (o : Option Identity) → ask_step o ≡ Up → ⊥
 no_ask_carries None h = cc
 no_ask_carries (Some w) h = cc

@@ -6,7 +6,7 @@ use Rattle.bsc_history.specs.declared.ending.End.{End}
 use Rattle.bsc_frame.specs.declared.body.Body.{Body}
 use Rattle.bsc_frame.specs.declared.body.Body.TheVariants.{HeartbeatRequest, DisconnectRequest}
 use Rattle.bsc_checks.specs.declared.verdict.Verdict.{Verdict}
-use Rattle.bsc_checks.specs.declared.verdict.Verdict.TheVariants.{Pass, Carry as Carried, Silent, Nak}
+use Rattle.bsc_checks.specs.declared.verdict.Verdict.TheVariants.{Pass, Carry, Silent, Nak}
 use Rattle.bsc_checks.specs.declared.phase.Phase.TheVariants.{Connected as PhaseConnected}
 use Rattle.bsc_accept.specs.declared.start.Start.{Start}
 use Rattle.bsc_accept.specs.declared.event.Event.{Event}
@@ -14,7 +14,7 @@ use Rattle.bsc_accept.specs.declared.event.Event.TheVariants.{Message as Came, J
 use Rattle.bsc_accept.specs.declared.closing.Closing.{Closing}
 use Rattle.bsc_accept.specs.declared.reason.Reason.TheVariants.{ConnectWait, Idle as NoMessage}
 use Rattle.bsc_accept.specs.declared.step.Step.{Step}
-use Rattle.bsc_accept.specs.declared.step.Step.TheVariants.{Ask, Reply, ReplyClose, Carry, Close, Nothing}
+use Rattle.bsc_accept.specs.declared.step.Step.TheVariants.{Ask, Put, PutClose, Up, Close, Nothing}
 use Rattle.bsc_accept.specs.Messages.{octets_of, connect_accept, who_asks, is_farewell_answer}
 use Rattle.bsc_accept.specs.Waits.{connect_wait_is_over, is_idle, disconnect_wait_is_over}
 use Rattle.bsc_accept.specs.declared.stage.Stage.{Stage}
@@ -91,16 +91,16 @@ closing_or_not waits id false c = refl
 came : (waits : Stage) (now : ℕ) (v : Verdict) → is_open waits ≡ true
     → after_message waits v ≡ cond (closes (message_step (standing_at waits) v)) Idle (open_stage (moved (standing_at waits) (Came now v)) (asked_at (Came now v)))
 came AwaitingRequest now (Pass msg) o = asking msg.id (who_asks msg.body)
-came AwaitingRequest now (Carried envelope) o = refl
+came AwaitingRequest now (Carry envelope) o = refl
 came AwaitingRequest now (Silent check) o = refl
 came AwaitingRequest now (Nak check octets) o = refl
 came (Asked id) now v o = cc
 came Connected now (Pass msg) o = serving msg.id msg.body
-came Connected now (Carried envelope) o = refl
+came Connected now (Carry envelope) o = refl
 came Connected now (Silent check) o = refl
 came Connected now (Nak check octets) o = refl
 came (Disconnecting f) now (Pass msg) o = closing_or_not (Disconnecting f) msg.id (is_farewell_answer f.id msg) normal
-came (Disconnecting f) now (Carried envelope) o = refl
+came (Disconnecting f) now (Carry envelope) o = refl
 came (Disconnecting f) now (Silent check) o = refl
 came (Disconnecting f) now (Nak check octets) o = refl
 came Idle now v o = cc
@@ -122,11 +122,11 @@ message_answers m n s E now v answer h o is new =
 -- ---- the answer on who asked
 
 pub joined_answers : (m n : Accepting) (s : Start) (E : List Event) (id : ℕ) (answer : Step) → StandsFor m s E → m.stage ≡ Asked id
-    → answer ≡ Reply (octets_of (connect_accept id m.start.own)) → n ≡ record m { stage = Connected }
+    → answer ≡ Put (octets_of (connect_accept id m.start.own)) → n ≡ record m { stage = Connected }
     → (answer ≡ step s E Joined) × StandsFor n s (E ++ Joined ∷ [])
 joined_answers m n s E id answer h a is new =
     let k : (standing E ≡ awaiting_request) × (asked_id E ≡ id) = standing_of_asked m s E id h a in (
-      is ∙ ap (λ own. Reply (octets_of (connect_accept id own))) (ap (λ x. x.own) h.start) ∙ ap (λ i. Reply (octets_of (connect_accept i s.own))) (sym k.1),
+      is ∙ ap (λ own. Put (octets_of (connect_accept id own))) (ap (λ x. x.own) h.start) ∙ ap (λ i. Put (octets_of (connect_accept i s.own))) (sym k.1),
       goes_on m n s E Joined h (ap (λ x. x.start) new) (ap (λ x. x.last) new) (ap (λ x. x.stage) new ∙ ap (λ g. open_stage (moved g Joined) None) (sym k.0)),
     )
 
@@ -188,8 +188,8 @@ tick_answers m n s E now answer h o is new =
 
 pub left_after : (m n : Accepting) (id : ℕ) (answer : Step) → is_open m.stage ≡ true → n ≡ record m { stage = after m.stage id answer } → LeftBy answer n
 left_after m n id (Ask who) o new = record { id = id; asked = ap (λ x. x.stage) new }
-left_after m n id (Reply octets) o new = ap (λ x. is_open x.stage) new ∙ o
-left_after m n id (ReplyClose octets c) o new = ap (λ x. x.stage) new
-left_after m n id Carry o new = ap (λ x. is_open x.stage) new ∙ o
+left_after m n id (Put octets) o new = ap (λ x. is_open x.stage) new ∙ o
+left_after m n id (PutClose octets c) o new = ap (λ x. x.stage) new
+left_after m n id Up o new = ap (λ x. is_open x.stage) new ∙ o
 left_after m n id (Close c) o new = ap (λ x. x.stage) new
 left_after m n id Nothing o new = ap (λ x. is_open x.stage) new ∙ o

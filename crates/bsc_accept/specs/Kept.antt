@@ -4,7 +4,7 @@ use Rattle.bsc_checks.specs.declared.verdict.Verdict.{Verdict}
 use Rattle.bsc_checks.specs.declared.verdict.Verdict.TheVariants.{Pass}
 use Rattle.bsc_accept.specs.declared.event.Event.{Event}
 use Rattle.bsc_accept.specs.declared.step.Step.{Step}
-use Rattle.bsc_accept.specs.declared.step.Step.TheVariants.{Ask, ReplyClose, Close}
+use Rattle.bsc_accept.specs.declared.step.Step.TheVariants.{Ask, PutClose, Close}
 use Rattle.bsc_accept.specs.declared.stage.Stage.{Stage}
 use Rattle.bsc_accept.specs.declared.stage.Stage.TheVariants.{Asked, Connected, Disconnecting, Idle}
 use Rattle.bsc_accept.specs.Past.{Standing, awaiting_request, connected, disconnecting, is_joined, farewell_at, until_farewell}
@@ -25,7 +25,7 @@ moved (disconnecting f) e = disconnecting f
 -- What a machine waits for after a step that a message with this Message ID brought about.
 abbrev pub after : Stage → ℕ → Step → Stage
 after waits id (Ask who) = Asked id
-after waits id (ReplyClose octets c) = Idle
+after waits id (PutClose octets c) = Idle
 after waits id (Close c) = Idle
 after waits id other = waits
 

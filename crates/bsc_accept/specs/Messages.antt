@@ -8,6 +8,7 @@ use Rattle.bsc_frame.specs.declared.body.Body.TheVariants.{BvlcResult, ConnectRe
 use Rattle.bsc_frame.specs.declared.answer.Answer.{Answer}
 use Rattle.bsc_frame.specs.declared.answer.Answer.TheVariants.{Ack, Nak}
 use Rattle.bsc_frame.specs.Spelling.{spelling}
+use Rattle.bsc_checks.specs.Naks.{communication}
 
 -- ---- those that it puts
 
@@ -19,10 +20,14 @@ to_peer id body = record { id = id; origin = None; dest = None; dest_options = [
 abbrev pub connect_accept : ℕ → Identity → Message
 connect_accept id own = to_peer id (ConnectAccept own)
 
+-- The error code NODE_DUPLICATE_VMAC.
+abbrev pub duplicate_vmac_code : ℕ
+duplicate_vmac_code = 151
+
 -- The NAK of a Connect-Request (06) from a VMAC that another device has: error class COMMUNICATION (7), error code
 -- NODE_DUPLICATE_VMAC (151), no header marker and no details.
 abbrev pub duplicate_vmac : ℕ → Message
-duplicate_vmac id = to_peer id (BvlcResult (Nak 0x06 0 7 151 []))
+duplicate_vmac id = to_peer id (BvlcResult (Nak 0x06 0 communication duplicate_vmac_code []))
 
 -- A Disconnect-Request.
 abbrev pub disconnect_request : ℕ → Message

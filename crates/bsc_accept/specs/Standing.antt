@@ -5,7 +5,7 @@ use Rattle.bsc_checks.specs.declared.phase.Phase.TheVariants.{AwaitingRequest as
 use Rattle.bsc_accept.specs.declared.start.Start.{Start}
 use Rattle.bsc_accept.specs.declared.event.Event.{Event}
 use Rattle.bsc_accept.specs.declared.step.Step.{Step}
-use Rattle.bsc_accept.specs.declared.step.Step.TheVariants.{Ask, ReplyClose, Close}
+use Rattle.bsc_accept.specs.declared.step.Step.TheVariants.{Ask, PutClose, Close}
 use Rattle.bsc_accept.specs.declared.stage.Stage.{Stage}
 use Rattle.bsc_accept.specs.declared.stage.Stage.TheVariants.{AwaitingRequest, Asked, Connected, Disconnecting, Idle}
 use Rattle.bsc_accept.specs.declared.accepting.Accepting.{Accepting}
@@ -80,6 +80,6 @@ IsOver m = m.stage ≡ Idle
 -- How a step leaves the machine: after an Ask it awaits the answer, after a closing it is over, and else it is open.
 abbrev pub LeftBy : Step → Accepting → Type 0
 LeftBy (Ask who) m = AwaitsAnswer m
-LeftBy (ReplyClose octets c) m = IsOver m
+LeftBy (PutClose octets c) m = IsOver m
 LeftBy (Close c) m = IsOver m
 LeftBy other m = IsOpen m

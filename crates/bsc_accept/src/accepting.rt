@@ -21,7 +21,7 @@ use bsc_octets::Identity;
 /// The machine of a peer that accepts a connection.
 ///
 /// `message`, `tick` and `finish` may come from the start on. After an `Ask` the next call is `joined` or `refused`,
-/// or the machine is let go; `ended` may come in the phase Connected; and after a `Close` or a `ReplyClose` nothing
+/// or the machine is let go; `ended` may come in the phase Connected; and after a `Close` or a `PutClose` nothing
 /// may. Each call that has a time is given it in milliseconds, by any one clock: what is later by a wait or more has
 /// waited, and a clock that falls makes no wait over.
 #[derive(Clone, Copy, Debug)]
@@ -40,7 +40,7 @@ fn refused_step(id: u16, refusal: &Refusal) -> Step
     ensures { result ≡ refused_step id refusal.now }
 {
     match refusal {
-        Refusal::Duplicate { .. } => Step::ReplyClose(duplicate_vmac(id), Closing::NORMAL),
+        Refusal::Duplicate { .. } => Step::PutClose(duplicate_vmac(id), Closing::NORMAL),
         Refusal::TableFull { .. } => Step::Close(Closing::TABLE_FULL),
         Refusal::Stopped => Step::Close(Closing::GOING_AWAY),
     }
@@ -86,9 +86,9 @@ impl Accepting {
         self.last = now;
         match verdict {
             Verdict::Pass(message) => self.passed(message),
-            Verdict::Carry(_) => Step::Carry,
+            Verdict::Carry(_) => Step::Up,
             Verdict::Silent(_) => Step::Nothing,
-            Verdict::Nak(_, octets) => Step::Reply(with_room(octets)),
+            Verdict::Nak(_, octets) => Step::Put(with_room(octets)),
         }
     }
 
@@ -103,7 +103,7 @@ impl Accepting {
             Stage::Asked { id } => {
                 let accept = connect_accept(id, &self.start.own);
                 self.enter(Stage::Connected);
-                Step::Reply(accept)
+                Step::Put(accept)
             }
             _ => unreachable!(),
         }

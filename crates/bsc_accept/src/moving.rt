@@ -43,10 +43,10 @@ impl Accepting {
 
     /// A Disconnect-Request with this Message ID goes out.
     pub(crate) fn disconnect(&mut self, now: u64, id: u16) -> Step
-        ensures step { result ≡ Step.Reply (octets_of (disconnect_request id)) }
+        ensures step { result ≡ Step.Put (octets_of (disconnect_request id)) }
         ensures waits { self.new ≡ record self.old { stage = Stage.Disconnecting (record { since = now; id = id }) } }
     {
         self.stage = Stage::Disconnecting(Farewell { since: now, id });
-        Step::Reply(disconnect_request(id))
+        Step::Put(disconnect_request(id))
     }
 }

@@ -27,7 +27,7 @@ fn is_for_disconnect(answer: &Answer) -> bool
 }
 
 /// Whether the message is the answer to a Disconnect-Request that was put.
-fn is_farewell_answer(farewell: Farewell, message: &Message) -> bool
+pub fn is_farewell_answer(farewell: Farewell, message: &Message) -> bool
     ensures { result ≡ is_farewell_answer farewell.id message.now }
 {
     message.id == farewell.id
@@ -73,10 +73,10 @@ impl Accepting {
         ensures stage { self.new ≡ record self.old { stage = after self.old.stage message.now.id result } }
     {
         match &message.body {
-            Body::HeartbeatRequest => Step::Reply(heartbeat_ack(message.id)),
+            Body::HeartbeatRequest => Step::Put(heartbeat_ack(message.id)),
             Body::DisconnectRequest => {
                 self.stage = Stage::Idle;
-                Step::ReplyClose(disconnect_ack(message.id), Closing::NORMAL)
+                Step::PutClose(disconnect_ack(message.id), Closing::NORMAL)
             }
             _ => Step::Nothing,
         }

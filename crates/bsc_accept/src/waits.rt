@@ -2,14 +2,14 @@
 ghost use Rattle.std.specs.Prelude.{◌≡◌, ◌-◌, ◌*◌, nat_le};
 
 /// Whether a wait is over: so long ago it began.
-pub(crate) fn is_over(since: u64, wait: u64, now: u64) -> bool
+pub fn is_over(since: u64, wait: u64, now: u64) -> bool
     ensures { result ≡ nat_le wait (now - since) }
 {
     now.saturating_sub(since) >= wait
 }
 
 /// Twice a wait.
-pub(crate) fn twice(wait: u32) -> u64
+pub fn twice(wait: u32) -> u64
     ensures { result ≡ 2 * wait }
 {
     2 * u64::from(wait)

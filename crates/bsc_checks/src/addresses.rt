@@ -26,7 +26,7 @@ pub(crate) fn is_unicast(dest: Option<Vmac>) -> bool
 fn is_of_connection(function: u8) -> bool
     ensures { IsTrue result ↔ IsOfConnection function }
 {
-    (0x06..=0x0B).contains(&function)
+    (function::CONNECT_REQUEST..=function::HEARTBEAT_ACK).contains(&function)
 }
 
 /// Whether there is no Originating address, though the function needs one.

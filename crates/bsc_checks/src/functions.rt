@@ -5,7 +5,7 @@ ghost use Rattle.bsc_checks.specs.Naks.{IsResponse};
 
 use crate::phase::Phase;
 use crate::place::Place;
-use bsc_octets::Vmac;
+use bsc_octets::{Vmac, function};
 
 impl Place {
     /// The phase of the connection.
@@ -24,7 +24,14 @@ impl Place {
 pub(crate) fn is_response(function: u8) -> bool
     ensures { IsTrue result ↔ IsResponse function }
 {
-    matches!(function, 0x00 | 0x03 | 0x07 | 0x09 | 0x0B)
+    matches!(
+        function,
+        function::BVLC_RESULT
+            | function::ADDRESS_RESOLUTION_ACK
+            | function::CONNECT_ACCEPT
+            | function::DISCONNECT_ACK
+            | function::HEARTBEAT_ACK
+    )
 }
 
 /// Whether the function is in place once the connection is made.
@@ -32,11 +39,28 @@ fn is_in_place_connected(place: &Place, function: u8, origin: Option<Vmac>) -> b
     ensures { IsTrue result ↔ IsInPlaceConnected place.now function origin }
 {
     match place {
-        Place::HubPort { .. } => matches!(function, 0x08 | 0x0A),
+        Place::HubPort { .. } => matches!(
+            function,
+            function::DISCONNECT_REQUEST | function::HEARTBEAT_REQUEST
+        ),
         Place::NodeHub { .. } => {
-            function <= 0x05 || (matches!(function, 0x08 | 0x0A | 0x0B) && origin.is_none())
+            function <= function::ADVERTISEMENT_SOLICITATION
+                || (matches!(
+                    function,
+                    function::DISCONNECT_REQUEST
+                        | function::HEARTBEAT_REQUEST
+                        | function::HEARTBEAT_ACK
+                ) && origin.is_none())
         }
-        Place::NodeDirect { .. } => function <= 0x05 || matches!(function, 0x08 | 0x0A | 0x0B),
+        Place::NodeDirect { .. } => {
+            function <= function::ADVERTISEMENT_SOLICITATION
+                || matches!(
+                    function,
+                    function::DISCONNECT_REQUEST
+                        | function::HEARTBEAT_REQUEST
+                        | function::HEARTBEAT_ACK
+                )
+        }
     }
 }
 
@@ -45,10 +69,16 @@ fn is_in_place(place: &Place, function: u8, origin: Option<Vmac>) -> bool
     ensures { IsTrue result ↔ IsInPlaceIn (phase_of place.now) place.now function origin }
 {
     match place.phase() {
-        Phase::AwaitingRequest => function == 0x06,
-        Phase::AwaitingAccept => matches!(function, 0x00 | 0x07),
+        Phase::AwaitingRequest => function == function::CONNECT_REQUEST,
+        Phase::AwaitingAccept => matches!(
+            function,
+            function::BVLC_RESULT | function::CONNECT_ACCEPT
+        ),
         Phase::Connected => is_in_place_connected(place, function, origin),
-        Phase::Disconnecting => matches!(function, 0x00 | 0x09),
+        Phase::Disconnecting => matches!(
+            function,
+            function::BVLC_RESULT | function::DISCONNECT_ACK
+        ),
     }
 }
 

@@ -13,7 +13,7 @@ use crate::options::Ends;
 use crate::refusal::Refusal;
 use crate::understood::first_not_understood;
 use bsc_frame::Check;
-use bsc_octets::{Envelope, control};
+use bsc_octets::{Envelope, control, function};
 use bsc_options::{check_options, options_end};
 
 #[tactic(auto, using(bsc_frame::proofs::Flags::option_flags))]
@@ -89,7 +89,8 @@ fn has_misplaced_data_options(m: &[u8], head: &Envelope) -> bool
     ensures { IsTrue result ↔ HasMisplacedDataOptions m.now }
 {
     announces_data_options(head.flags)
-        && (head.function == 0x00 || (0x02..=0x0B).contains(&head.function))
+        && (head.function == function::BVLC_RESULT
+            || (function::ADDRESS_RESOLUTION..=function::HEARTBEAT_ACK).contains(&head.function))
 }
 
 /// C9: the marker of the first destination option that has to be understood and is not.

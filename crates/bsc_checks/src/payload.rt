@@ -19,7 +19,7 @@ ghost use Rattle.bsc_checks.specs.Walk.{PayloadAnswers};
 
 use crate::addresses::is_same;
 use bsc_frame::Check;
-use bsc_octets::{Vmac, results};
+use bsc_octets::{Vmac, function, results};
 
 /// How many octets a NAK has before its details.
 const NAK_PART: usize = 7;
@@ -38,7 +38,14 @@ fn result_code(p: &[u8]) -> u8
 fn expects_payload(function: u8) -> bool
     ensures { result ≡ expects_payload function }
 {
-    matches!(function, 0x01 | 0x04 | 0x06 | 0x07 | 0x0C)
+    matches!(
+        function,
+        function::ENCAPSULATED_NPDU
+            | function::ADVERTISEMENT
+            | function::CONNECT_REQUEST
+            | function::CONNECT_ACCEPT
+            | function::PROPRIETARY_MESSAGE
+    )
 }
 
 /// How many octets the payload has at least.
@@ -46,12 +53,12 @@ fn fixed_part(function: u8, p: &[u8]) -> usize
     ensures { result ≡ fixed_part function p.now }
 {
     match function {
-        0x00 if result_code(p) == results::NAK => NAK_PART,
-        0x00 => 2,
-        0x01 => 1,
-        0x04 => 6,
-        0x06 | 0x07 => 26,
-        0x0C => 3,
+        function::BVLC_RESULT if result_code(p) == results::NAK => NAK_PART,
+        function::BVLC_RESULT => 2,
+        function::ENCAPSULATED_NPDU => 1,
+        function::ADVERTISEMENT => 6,
+        function::CONNECT_REQUEST | function::CONNECT_ACCEPT => 26,
+        function::PROPRIETARY_MESSAGE => 3,
         _ => 0,
     }
 }
@@ -60,7 +67,12 @@ fn fixed_part(function: u8, p: &[u8]) -> usize
 fn takes_rest(function: u8, p: &[u8]) -> bool
     ensures { result ≡ takes_rest function p.now }
 {
-    matches!(function, 0x01 | 0x03 | 0x0C) || (function == 0x00 && result_code(p) != results::ACK)
+    matches!(
+        function,
+        function::ENCAPSULATED_NPDU
+            | function::ADDRESS_RESOLUTION_ACK
+            | function::PROPRIETARY_MESSAGE
+    ) || (function == function::BVLC_RESULT && result_code(p) != results::ACK)
 }
 
 /// C10: whether there is no payload, though the function has one always.
@@ -136,10 +148,10 @@ fn is_out_of_range(function: u8, p: &[u8]) -> bool
     ensures { IsTrue result ↔ IsOutOfRange function p.now }
 {
     match function {
-        0x00 => is_bad_result(p),
-        0x03 => !is_utf8(p),
-        0x04 => is_bad_advert(p),
-        0x06 | 0x07 => is_no_node(p),
+        function::BVLC_RESULT => is_bad_result(p),
+        function::ADDRESS_RESOLUTION_ACK => !is_utf8(p),
+        function::ADVERTISEMENT => is_bad_advert(p),
+        function::CONNECT_REQUEST | function::CONNECT_ACCEPT => is_no_node(p),
         _ => false,
     }
 }

@@ -12,7 +12,7 @@ use crate::fault::FrameFault;
 use crate::npdu::read_npdu;
 use crate::proprietary::{put_proprietary, read_proprietary};
 use crate::uris::read_uris;
-use bsc_octets::NoMemory;
+use bsc_octets::{NoMemory, function};
 use std::alloc::Global;
 
 /// The body of this function that a payload says. Memory is taken only where nothing is wrong with the payload.
@@ -21,18 +21,18 @@ pub(crate) fn read_body(alloc: Global, function: u8, p: &[u8]) -> Result<Body, F
     ensures { BodyAnswers function p.now result }
 {
     match function {
-        0x00 => read_answer(alloc, p),
-        0x01 => read_npdu(alloc, p),
-        0x02 => read_bare(p, Body::AddressResolution),
-        0x03 => read_uris(alloc, p),
-        0x04 => read_advert(p),
-        0x05 => read_bare(p, Body::AdvertisementSolicitation),
-        0x06 => read_request(p),
-        0x07 => read_accept(p),
-        0x08 => read_bare(p, Body::DisconnectRequest),
-        0x09 => read_bare(p, Body::DisconnectAck),
-        0x0A => read_bare(p, Body::HeartbeatRequest),
-        0x0B => read_bare(p, Body::HeartbeatAck),
+        function::BVLC_RESULT => read_answer(alloc, p),
+        function::ENCAPSULATED_NPDU => read_npdu(alloc, p),
+        function::ADDRESS_RESOLUTION => read_bare(p, Body::AddressResolution),
+        function::ADDRESS_RESOLUTION_ACK => read_uris(alloc, p),
+        function::ADVERTISEMENT => read_advert(p),
+        function::ADVERTISEMENT_SOLICITATION => read_bare(p, Body::AdvertisementSolicitation),
+        function::CONNECT_REQUEST => read_request(p),
+        function::CONNECT_ACCEPT => read_accept(p),
+        function::DISCONNECT_REQUEST => read_bare(p, Body::DisconnectRequest),
+        function::DISCONNECT_ACK => read_bare(p, Body::DisconnectAck),
+        function::HEARTBEAT_REQUEST => read_bare(p, Body::HeartbeatRequest),
+        function::HEARTBEAT_ACK => read_bare(p, Body::HeartbeatAck),
         _ => read_proprietary(alloc, p),
     }
 }

@@ -10,7 +10,7 @@ use crate::body::Body;
 use crate::message::Message;
 use crate::number::put_number;
 use crate::payload::put_body;
-use bsc_octets::{NoMemory, Octets, Vmac};
+use bsc_octets::{NoMemory, Octets, Vmac, function};
 use bsc_options::{Options, write_options};
 use std::alloc::Global;
 
@@ -19,19 +19,19 @@ fn function_of(body: &Body) -> u8
     ensures { result ≡ function_of body.now }
 {
     match body {
-        Body::BvlcResult(_) => 0x00,
-        Body::Npdu(_) => 0x01,
-        Body::AddressResolution => 0x02,
-        Body::AddressResolutionAck(_) => 0x03,
-        Body::Advertisement(_) => 0x04,
-        Body::AdvertisementSolicitation => 0x05,
-        Body::ConnectRequest(_) => 0x06,
-        Body::ConnectAccept(_) => 0x07,
-        Body::DisconnectRequest => 0x08,
-        Body::DisconnectAck => 0x09,
-        Body::HeartbeatRequest => 0x0A,
-        Body::HeartbeatAck => 0x0B,
-        Body::Proprietary { .. } => 0x0C,
+        Body::BvlcResult(_) => function::BVLC_RESULT,
+        Body::Npdu(_) => function::ENCAPSULATED_NPDU,
+        Body::AddressResolution => function::ADDRESS_RESOLUTION,
+        Body::AddressResolutionAck(_) => function::ADDRESS_RESOLUTION_ACK,
+        Body::Advertisement(_) => function::ADVERTISEMENT,
+        Body::AdvertisementSolicitation => function::ADVERTISEMENT_SOLICITATION,
+        Body::ConnectRequest(_) => function::CONNECT_REQUEST,
+        Body::ConnectAccept(_) => function::CONNECT_ACCEPT,
+        Body::DisconnectRequest => function::DISCONNECT_REQUEST,
+        Body::DisconnectAck => function::DISCONNECT_ACK,
+        Body::HeartbeatRequest => function::HEARTBEAT_REQUEST,
+        Body::HeartbeatAck => function::HEARTBEAT_ACK,
+        Body::Proprietary { .. } => function::PROPRIETARY_MESSAGE,
     }
 }
 

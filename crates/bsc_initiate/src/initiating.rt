@@ -8,8 +8,7 @@ ghost use Rattle.bsc_initiate.specs.Standing.{StandsFor, Answers, AwaitsWebsocke
 use crate::requests::connect_request;
 use crate::stage::Stage;
 use crate::step::InitStep;
-use crate::waits::is_over;
-use bsc_accept::{Closing, Start, Times, with_room};
+use bsc_accept::{Closing, Start, Times, is_over, with_room};
 use bsc_checks::{Phase, Verdict};
 use bsc_octets::Identity;
 

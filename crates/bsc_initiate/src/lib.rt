@@ -14,7 +14,6 @@ mod passing;
 mod requests;
 mod stage;
 mod step;
-mod waits;
 
 pub use event::InitEvent;
 pub use initiating::Initiating;

@@ -10,8 +10,7 @@ use crate::initiating::Initiating;
 use crate::requests::heartbeat_request;
 use crate::stage::Stage;
 use crate::step::InitStep;
-use crate::waits::{is_over, twice};
-use bsc_accept::{Closing, Farewell, disconnect_request};
+use bsc_accept::{Closing, Farewell, disconnect_request, is_over, twice};
 
 impl Initiating {
     /// It closes, where a wait is over.

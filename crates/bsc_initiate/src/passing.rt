@@ -1,6 +1,5 @@
 //! Messages that passed.
 ghost use Rattle.std.specs.Prelude.{◌≡◌};
-ghost use Rattle.bsc_accept.specs.Messages.{answers_function, is_farewell_answer};
 ghost use Rattle.bsc_initiate.specs.Messages.{code_of, who_accepts, refusing_code};
 ghost use Rattle.bsc_initiate.specs.Past.{awaiting_accept, disconnecting};
 ghost use Rattle.bsc_initiate.specs.Steps.{answer_step, connected_step, passed_step};
@@ -10,32 +9,10 @@ ghost use Rattle.bsc_initiate.specs.Kept.{standing_at, after};
 use crate::initiating::Initiating;
 use crate::stage::Stage;
 use crate::step::InitStep;
-use bsc_accept::{Closing, Farewell, disconnect_ack, heartbeat_ack};
+use bsc_accept::{Closing, Farewell, disconnect_ack, heartbeat_ack, is_farewell_answer};
 use bsc_checks::Message;
 use bsc_frame::{Answer, Body};
 use bsc_octets::function;
-
-/// Whether a BVLC-Result answers a Disconnect-Request, as an ACK or as a NAK.
-fn is_for_disconnect(answer: &Answer) -> bool
-    ensures { result ≡ answers_function 0x08 answer.now }
-{
-    match answer {
-        Answer::Ack { function } => *function == function::DISCONNECT_REQUEST,
-        Answer::Nak { function, .. } => *function == function::DISCONNECT_REQUEST,
-    }
-}
-
-/// Whether the message is the answer to a Disconnect-Request that was put.
-fn is_farewell_answer(farewell: Farewell, message: &Message) -> bool
-    ensures { result ≡ is_farewell_answer farewell.id message.now }
-{
-    message.id == farewell.id
-        && match &message.body {
-            Body::DisconnectAck => true,
-            Body::BvlcResult(answer) => is_for_disconnect(answer),
-            _ => false,
-        }
-}
 
 /// The error code of a NAK of a Connect-Request.
 fn refusing_code(answer: &Answer) -> Option<u16>

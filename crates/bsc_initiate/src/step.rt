@@ -3,7 +3,8 @@ use arrayvec::ArrayVec;
 use bsc_accept::Closing;
 use bsc_octets::Identity;
 
-/// What a machine does at an event. After a `Close`, a `PutClose` or a `Refused` it is told nothing more.
+/// What a machine does at an event. What an accepting machine does too has the name that it has there. After a `Close`,
+/// a `PutClose` or a `Refused` it is told nothing more.
 #[derive(Debug, Drop, PartialEq, Eq)]
 pub enum InitStep {
     /// These octets are put.

@@ -12,7 +12,7 @@ use Rattle.bsc_accept.specs.declared.start.Start.{Start}
 use Rattle.bsc_accept.specs.declared.event.Event.{Event}
 use Rattle.bsc_accept.specs.declared.event.Event.TheVariants.{Message as Came, Joined as HasJoined, Refused as WasRefused}
 use Rattle.bsc_accept.specs.declared.step.Step.{Step}
-use Rattle.bsc_accept.specs.declared.step.Step.TheVariants.{Ask, Carry, Reply as Replies, ReplyClose, Close}
+use Rattle.bsc_accept.specs.declared.step.Step.TheVariants.{Ask, Up as GoesUp, Put, PutClose, Close}
 use Rattle.bsc_accept.specs.Past.{phase}
 use Rattle.bsc_accept.specs.Steps.{step}
 use Rattle.bsc_script.specs.States.{default_times}
@@ -61,8 +61,8 @@ told l e = with_side l (λ s. record s { events = s.events ++ e ∷ [] })
 
 -- A step that needs no call is carried out: octets are put, and the link is closed.
 abbrev pub carries_out : ℕ → Step → Change
-carries_out l (Replies o) = puts_now l Down (Message o.items)
-carries_out l (ReplyClose o c) = in_order (puts_now l Down (Message o.items) ∷ closes l ∷ [])
+carries_out l (Put o) = puts_now l Down (Message o.items)
+carries_out l (PutClose o c) = in_order (puts_now l Down (Message o.items) ∷ closes l ∷ [])
 carries_out l (Close c) = closes l
 carries_out l other = unchanged
 
@@ -102,7 +102,7 @@ verdict_on h link m = outcome_of m (HubPort (phase link.side.events)) h.about.hu
 -- The step of the machine at a message is carried out.
 abbrev pub acts_on : ℕ → ℕ → List ℕ → Step → Change
 acts_on l place m (Ask who) = connects l place who
-acts_on l place m Carry = forwards l place m
+acts_on l place m GoesUp = forwards l place m
 acts_on l place m other = carries_out l other
 
 -- the machine is told a message, with its verdict

@@ -9,7 +9,7 @@ use Rattle.bsc_history.specs.Replies.{is_stopped}
 use Rattle.bsc_accept.specs.declared.event.Event.{Event}
 use Rattle.bsc_accept.specs.declared.event.Event.TheVariants.{Joined as HasJoined}
 use Rattle.bsc_accept.specs.declared.step.Step.{Step}
-use Rattle.bsc_accept.specs.declared.step.Step.TheVariants.{Ask, Carry}
+use Rattle.bsc_accept.specs.declared.step.Step.TheVariants.{Ask, Up as GoesUp}
 use Rattle.bsc_accept.specs.Past.{is_joined}
 use Rattle.bsc_script.specs.Emptying.{empties_after}
 use Rattle.bsc_node.specs.declared.link_name.LinkName.{LinkName}
@@ -63,7 +63,7 @@ pub record EachFrom (B : World) (D : WorldStep) (R : World → World → Type 0)
       → HasArrived w l Up (record { content = Message m; sent_at = place }) → IsSaid h k m (Ask who) → reply_in w h (Connect who) ≡ Joined c replaced
       → R w (told l HasJoined (with_side l (λ s. record s { conn = Some c }) (called j l place (Connect who) w)))
   pub forwards : (w : World) (l j place : ℕ) (h : Hub) (k : Link) (m : List ℕ) (c : ℕ) → IsSide w l j h k → k.side.conn ≡ Some c
-      → HasArrived w l Up (record { content = Message m; sent_at = place }) → IsSaid h k m Carry → HasJustCome B w l → R w (called j l place (Forward c m) w)
+      → HasArrived w l Up (record { content = Message m; sent_at = place }) → IsSaid h k m GoesUp → HasJustCome B w l → R w (called j l place (Forward c m) w)
   -- its taking
   pub takes : (w : World) (l j : ℕ) (h : Hub) (k : Link) (c : ℕ) (f : Frame) → IsSide w l j h k → k.side.conn ≡ Some c → slice_get (frames h c) k.side.taken ≡ Some f
       → R w (puts_at l Down f.sent_at (Message f.octets) (with_side l (λ s. record s { taken = s.taken + 1 }) w))
@@ -124,7 +124,7 @@ pub record EachStep (B : World) (D : WorldStep) (R : World → World → Type 0)
       → HasArrived w l Up (record { content = Message m; sent_at = place }) → IsSaid h k m (Ask who) → reply_in w h (Connect who) ≡ Joined c replaced
       → R w (told l HasJoined (with_side l (λ s. record s { conn = Some c }) (called j l place (Connect who) w)))
   pub forwards : (w : World) (l j place : ℕ) (h : Hub) (k : Link) (m : List ℕ) (c : ℕ) → IsSide w l j h k → k.side.conn ≡ Some c
-      → HasArrived w l Up (record { content = Message m; sent_at = place }) → IsSaid h k m Carry → HasJustCome B w l → R w (called j l place (Forward c m) w)
+      → HasArrived w l Up (record { content = Message m; sent_at = place }) → IsSaid h k m GoesUp → HasJustCome B w l → R w (called j l place (Forward c m) w)
   -- its taking
   pub takes : (w : World) (l j : ℕ) (h : Hub) (k : Link) (c : ℕ) (f : Frame) → IsSide w l j h k → k.side.conn ≡ Some c → slice_get (frames h c) k.side.taken ≡ Some f
       → R w (puts_at l Down f.sent_at (Message f.octets) (with_side l (λ s. record s { taken = s.taken + 1 }) w))

@@ -19,7 +19,7 @@ use Rattle.bsc_history.proofs.More.{Legal-more}
 use Rattle.bsc_checks.specs.declared.place.Place.TheVariants.{HubPort}
 use Rattle.bsc_checks.specs.Outcomes.{outcome_of}
 use Rattle.bsc_accept.specs.declared.event.Event.TheVariants.{Joined as HasJoined}
-use Rattle.bsc_accept.specs.declared.step.Step.TheVariants.{Ask, Carry}
+use Rattle.bsc_accept.specs.declared.step.Step.TheVariants.{Ask, Up as GoesUp}
 use Rattle.bsc_accept.specs.Past.{phase, standing}
 use Rattle.bsc_script_laws.proofs.Judged.{routes}
 use Rattle.bsc_node.specs.declared.link_name.LinkName.{LinkName}
@@ -198,7 +198,7 @@ module _ (cast : Cast) (fit : IsFit cast) (T place : ℕ) where
       and_from (not (same_vmac who.vmac zero_vmac) && not (same_vmac who.vmac broadcast)) (nat_lt (length (history h)) h.about.limits.calls)
       (and_from (not (same_vmac who.vmac zero_vmac)) (not (same_vmac who.vmac broadcast)) address.0 address.1) (not_worn h said.fresh)
 
-  may_forward : (w : World) (l j : ℕ) (h : Hub) (k : Link) (m : List ℕ) (c : ℕ) → Legally w → IsSide w l j h k → k.side.conn ≡ Some c → IsSaid h k m Carry → may_call h.about (history h) l (Forward c m) ≡ true
+  may_forward : (w : World) (l j : ℕ) (h : Hub) (k : Link) (m : List ℕ) (c : ℕ) → Legally w → IsSide w l j h k → k.side.conn ≡ Some c → IsSaid h k m GoesUp → may_call h.about (history h) l (Forward c m) ≡ true
   may_forward w l j h k m c s side conn said =
       let carried = carries_by (standing said.events) (outcome_of m (HubPort (phase said.events)) h.about.hub.max_bvlc) said.is in
       let route : has_route m ≡ true = routes m (phase said.events) h.about.hub.max_bvlc carried.0 carried.1 in

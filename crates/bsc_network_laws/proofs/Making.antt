@@ -12,7 +12,7 @@ use Rattle.bsc_accept.specs.declared.event.Event.{Event}
 use Rattle.bsc_accept.specs.declared.event.Event.TheVariants.{Message as CameToHub, Joined as HasJoined, Refused as WasRefused, Ended}
 use Rattle.bsc_accept.specs.Past.{is_joined, phase}
 use Rattle.bsc_accept.specs.declared.step.Step.{Step}
-use Rattle.bsc_accept.specs.declared.step.Step.TheVariants.{Ask, Carry, Reply as Replies, ReplyClose, Close as ClosesLink}
+use Rattle.bsc_accept.specs.declared.step.Step.TheVariants.{Ask, Up as GoesUp, Put, PutClose, Close as ClosesLink}
 use Rattle.bsc_network.specs.declared.world_step.WorldStep.{WorldStep}
 use Rattle.bsc_network.specs.declared.way.Way.{Way}
 use Rattle.bsc_network.specs.declared.way.Way.TheVariants.{Up, Down}
@@ -59,10 +59,10 @@ lets-closes B D R M w l j h k side =
 -- ---- the machine
 
 pub lets-carries_out : (B : World) (D : WorldStep) (R : World → World → Type 0) → Lets B D R → (w : World) (l j : ℕ) (h : Hub) (k : Link) (st : Step) → IsSide w l j h k → IsWanted h.about st → R w (carries_out l st w)
-lets-carries_out B D R M w l j h k (Replies o) side wanted = M.each.hub_puts w l j h k (Replies o) o.items side wanted refl
-lets-carries_out B D R M w l j h k (ReplyClose o c) side wanted =
+lets-carries_out B D R M w l j h k (Put o) side wanted = M.each.hub_puts w l j h k (Put o) o.items side wanted refl
+lets-carries_out B D R M w l j h k (PutClose o c) side wanted =
     let v = puts_now l Down (Message o.items) w in
-    M.then w v (closes l v) (M.each.hub_puts w l j h k (ReplyClose o c) o.items side wanted refl) (lets-closes B D R M v l j h _ (side-puts w l j w.steps h k (Message o.items) side))
+    M.then w v (closes l v) (M.each.hub_puts w l j h k (PutClose o c) o.items side wanted refl) (lets-closes B D R M v l j h _ (side-puts w l j w.steps h k (Message o.items) side))
 lets-carries_out B D R M w l j h k (ClosesLink c) side wanted = lets-closes B D R M w l j h k side
 lets-carries_out B D R M w l j h k st side wanted = M.none w
 
@@ -115,13 +115,13 @@ lets-connects B D R M w l j place h k m who side arrived said =
     (λ fresh. lets-gets_reply B D R M w l j place h k m who (reply_in w h (Connect who)) side arrived (said_fresh h k m (Ask who) said fresh) refl))
 
 lets-forwards : (B : World) (D : WorldStep) (R : World → World → Type 0) → Lets B D R → (w : World) (l j place : ℕ) (h : Hub) (k : Link) (m : List ℕ) → IsSide w l j h k
-    → HasArrived w l Up (record { content = Message m; sent_at = place }) → IsTold h k m Carry → HasJustCome B w l → R w (forwards l place m w)
+    → HasArrived w l Up (record { content = Message m; sent_at = place }) → IsTold h k m GoesUp → HasJustCome B w l → R w (forwards l place m w)
 lets-forwards B D R M w l j place h k m side arrived said now =
     lets-at R w w l j h k (λ j h link. with_found link.side.conn (λ c. if is_worn h then closes l else called j l place (Forward c m))) side
     (found R k.side.conn (λ c. if is_worn h then closes l else called j l place (Forward c m)) w (M.none w) (λ c conn.
     chosen R (is_worn h) (closes l) (called j l place (Forward c m)) w
     (λ worn. lets-closes B D R M w l j h k side)
-    (λ fresh. M.each.forwards w l j place h k m c side conn arrived (said_fresh h k m Carry said fresh) now)))
+    (λ fresh. M.each.forwards w l j place h k m c side conn arrived (said_fresh h k m GoesUp said fresh) now)))
 
 -- ---- a message
 
@@ -132,7 +132,7 @@ wanted_at h k m st said = (said.started, said.events, CameToHub said.time _, sai
 lets-acts_on : (B : World) (D : WorldStep) (R : World → World → Type 0) → Lets B D R → (w : World) (l j place : ℕ) (h : Hub) (k : Link) (m : List ℕ) (st : Step) → IsSide w l j h k
     → HasArrived w l Up (record { content = Message m; sent_at = place }) → IsTold h k m st → HasJustCome B w l → R w (acts_on l place m st w)
 lets-acts_on B D R M w l j place h k m (Ask who) side arrived said now = lets-connects B D R M w l j place h k m who side arrived said
-lets-acts_on B D R M w l j place h k m Carry side arrived said now = lets-forwards B D R M w l j place h k m side arrived said now
+lets-acts_on B D R M w l j place h k m GoesUp side arrived said now = lets-forwards B D R M w l j place h k m side arrived said now
 lets-acts_on B D R M w l j place h k m st side arrived said now = lets-carries_out B D R M w l j h k st side (wanted_at h k m st said)
 
 traffic-side : (way : Way) (f : HubSide → HubSide) (k : Link) → traffic way (record k { side = f k.side }) ≡ traffic way k

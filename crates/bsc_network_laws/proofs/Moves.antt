@@ -15,7 +15,7 @@ use Rattle.bsc_accept.specs.declared.start.Start.{Start}
 use Rattle.bsc_accept.specs.declared.event.Event.{Event}
 use Rattle.bsc_accept.specs.declared.event.Event.TheVariants.{Message as CameToHub, Joined as HasJoined}
 use Rattle.bsc_accept.specs.declared.step.Step.{Step}
-use Rattle.bsc_accept.specs.declared.step.Step.TheVariants.{Ask, Carry, Reply as Replies, ReplyClose}
+use Rattle.bsc_accept.specs.declared.step.Step.TheVariants.{Ask, Up as GoesUp, Put, PutClose}
 use Rattle.bsc_accept.specs.Past.{phase, is_joined}
 use Rattle.bsc_accept.specs.Steps.{step}
 use Rattle.bsc_script.specs.Emptying.{empties_after}
@@ -69,8 +69,8 @@ pub record HasArrived (w : World) (l : ℕ) (way : Way) (x : Parcel) : Type 0 wh
 
 -- the octets that a step of a hub's machine puts
 abbrev pub octets_wanted : Step → Option (List ℕ)
-octets_wanted (Replies o) = Some o.items
-octets_wanted (ReplyClose o c) = Some o.items
+octets_wanted (Put o) = Some o.items
+octets_wanted (PutClose o c) = Some o.items
 octets_wanted other = None
 
 -- a message that comes with a verdict was judged so
@@ -139,7 +139,7 @@ pub record Each (D : WorldStep) (R : World → World → Type 0) : Type 0 where
       → HasArrived w l Up (record { content = Message m; sent_at = place }) → IsSaid h k m (Ask who) → reply_in w h (Connect who) ≡ Joined c replaced
       → R w (told l HasJoined (with_side l (λ s. record s { conn = Some c }) (called j l place (Connect who) w)))
   pub forwards : (w : World) (l j place : ℕ) (h : Hub) (k : Link) (m : List ℕ) (c : ℕ) → IsSide w l j h k → k.side.conn ≡ Some c
-      → HasArrived w l Up (record { content = Message m; sent_at = place }) → IsSaid h k m Carry → R w (called j l place (Forward c m) w)
+      → HasArrived w l Up (record { content = Message m; sent_at = place }) → IsSaid h k m GoesUp → R w (called j l place (Forward c m) w)
   -- its taking
   pub takes : (w : World) (l j : ℕ) (h : Hub) (k : Link) (c : ℕ) (f : Frame) → IsSide w l j h k → k.side.conn ≡ Some c → slice_get (frames h c) k.side.taken ≡ Some f
       → R w (puts_at l Down f.sent_at (Message f.octets) (with_side l (λ s. record s { taken = s.taken + 1 }) w))
@@ -177,7 +177,7 @@ pub record EachWhole (D : WorldStep) (R : World → World → Type 0) : Type 0 w
       → HasArrived w l Up (record { content = Message m; sent_at = place }) → IsSaid h k m (Ask who) → reply_in w h (Connect who) ≡ Joined c replaced
       → R w (told l HasJoined (with_side l (λ s. record s { conn = Some c }) (called j l place (Connect who) w)))
   pub forwards : (w : World) (l j place : ℕ) (h : Hub) (k : Link) (m : List ℕ) (c : ℕ) → IsSide w l j h k → k.side.conn ≡ Some c
-      → HasArrived w l Up (record { content = Message m; sent_at = place }) → IsSaid h k m Carry → R w (called j l place (Forward c m) w)
+      → HasArrived w l Up (record { content = Message m; sent_at = place }) → IsSaid h k m GoesUp → R w (called j l place (Forward c m) w)
   -- its taking
   pub takes : (w : World) (l j : ℕ) (h : Hub) (k : Link) (c : ℕ) (f : Frame) → IsSide w l j h k → k.side.conn ≡ Some c → slice_get (frames h c) k.side.taken ≡ Some f
       → R w (puts_at l Down f.sent_at (Message f.octets) (with_side l (λ s. record s { taken = s.taken + 1 }) w))

@@ -7,7 +7,7 @@ use Rattle.std.proofs.lemmas.List.Elements.{filter_map-append}
 use Rattle.bsc_octets.specs.declared.identity.Identity.{Identity}
 use Rattle.bsc_history.specs.declared.call.Call.{Call}
 use Rattle.bsc_history.specs.declared.call.Call.TheVariants.{Connect, Forward}
-use Rattle.bsc_accept.specs.declared.step.Step.TheVariants.{Carry}
+use Rattle.bsc_accept.specs.declared.step.Step.TheVariants.{Up as GoesUp}
 use Rattle.bsc_node.specs.declared.link_name.LinkName.{LinkName}
 use Rattle.bsc_node.specs.declared.node_event.NodeEvent.{NodeEvent}
 use Rattle.bsc_node.specs.declared.timed_event.TimedEvent.{TimedEvent}
@@ -212,7 +212,7 @@ named-hub_puts cast w l j h k o side c right =
     named-puts cast w l w.steps Down (Message o) (λ x here names.
     (h.about.hub, ap (identity_in cast) (ap (λ (y : Link). y.to) (some_same x k (sym here ∙ side.link)) ∙ side.leads) ∙ hub-identity cast w j h c side.hub, right names))
 
-forwards-plain : (cast : Cast) (w : World) (l j place : ℕ) (h : Hub) (k : Link) (m : List ℕ) → IsSide w l j h k → HasArrived w l Up (record { content = Message m; sent_at = place }) → IsSaid h k m Carry → Named cast w → is_connect m ≡ false
+forwards-plain : (cast : Cast) (w : World) (l j place : ℕ) (h : Hub) (k : Link) (m : List ℕ) → IsSide w l j h k → HasArrived w l Up (record { content = Message m; sent_at = place }) → IsSaid h k m GoesUp → Named cast w → is_connect m ≡ false
 forwards-plain cast w l j place h k m side arrival said s = by (is_connect m) refl
   where
     by : (b : Bool) → is_connect m ≡ b → is_connect m ≡ false

@@ -35,7 +35,7 @@ use Rattle.bsc_accept.specs.declared.start.Start.{Start}
 use Rattle.bsc_accept.specs.declared.event.Event.{Event}
 use Rattle.bsc_accept.specs.declared.event.Event.TheVariants.{Message as Came, Joined, Refused, Ended, Finish, Tick}
 use Rattle.bsc_accept.specs.declared.step.Step.{Step}
-use Rattle.bsc_accept.specs.declared.step.Step.TheVariants.{Carry}
+use Rattle.bsc_accept.specs.declared.step.Step.TheVariants.{Up as GoesUp}
 use Rattle.bsc_accept.specs.Messages.{who_asks, is_farewell_answer}
 use Rattle.bsc_accept.specs.Past.{Standing, awaiting_request, connected, disconnecting, standing, phase, last_message}
 use Rattle.bsc_accept.specs.Waits.{connect_wait_is_over, is_idle, disconnect_wait_is_over}
@@ -147,7 +147,7 @@ own_names a st wanted = subst (λ who. PutsAs who st) wanted.3 (subst (PutsAs wa
 -- ---- what a hub carries
 
 abbrev carries : Step → Bool
-carries Carry = true
+carries GoesUp = true
 carries other = false
 
 carries-if : (b : Bool) (x y : Step) → carries x ≡ false → carries y ≡ false → carries (cond b x y) ≡ false
@@ -193,7 +193,7 @@ without_dest who m (id, inl is) = ap (λ (o : List ℕ). announces_dest (flags_i
 without_dest who m (id, inr is) = ap (λ (o : List ℕ). announces_dest (flags_in o)) is ∙ refl
 
 -- What a hub carries names nobody, where it would name who put it.
-pub carried_names_nobody : (h : Hub) (k : Link) (m : List ℕ) (who : Identity) → IsSaid h k m Carry → (is_connect m ≡ true → IsConnectOf who m) → is_connect m ≡ false
+pub carried_names_nobody : (h : Hub) (k : Link) (m : List ℕ) (who : Identity) → IsSaid h k m GoesUp → (is_connect m ≡ true → IsConnectOf who m) → is_connect m ≡ false
 carried_names_nobody h k m who said right = by (is_connect m) refl
   where
     by : (b : Bool) → is_connect m ≡ b → b ≡ false

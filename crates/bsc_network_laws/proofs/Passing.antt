@@ -25,7 +25,7 @@ use Rattle.bsc_history.proofs.Numbers.{live_numbers}
 use Rattle.bsc_checks.specs.Outcomes.{outcome_of}
 use Rattle.bsc_checks.specs.declared.place.Place.TheVariants.{HubPort}
 use Rattle.bsc_accept.specs.Past.{phase, standing}
-use Rattle.bsc_accept.specs.declared.step.Step.TheVariants.{Carry}
+use Rattle.bsc_accept.specs.declared.step.Step.TheVariants.{Up as GoesUp}
 use Rattle.bsc_script_laws.proofs.Judged.{routes}
 use Rattle.bsc_node.specs.Messages.{message_octets}
 use Rattle.bsc_node.specs.declared.node_event.NodeEvent.{NodeEvent}
@@ -243,7 +243,7 @@ pub record KnowsHistories (cast : Cast) (S : Sendings) (T place : ℕ) (w : Worl
   pub sent : AllSent S w
 
 passes-forwards : (cast : Cast) (S : Sendings) (T place : ℕ) (w : World) (l j p : ℕ) (h : Hub) (k : Link) (m : List ℕ) (d : ℕ) → IsSide w l j h k → k.side.conn ≡ Some d → HasArrived w l Up (record { content = Message m; sent_at = p })
-    → IsSaid h k m Carry → KnowsHistories cast S T place w → (c : ℕ)
+    → IsSaid h k m GoesUp → KnowsHistories cast S T place w → (c : ℕ)
     → AllByRecursion (IsPassedTo S w (with_call w l p (Forward d m) h).posted c) (npdus (frames_by h.about (entries h.posted) c (record { entry = entry_in w h l (Forward d m); sent_at = p })))
 passes-forwards cast S T place w l j p h k m d side conn arrival said known c =
     all_filtered P holds_npdu (frames_by h.about H c new)

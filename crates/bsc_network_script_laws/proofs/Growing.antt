@@ -11,7 +11,7 @@ use Rattle.bsc_history.specs.Ends.{ended}
 use Rattle.bsc_accept.specs.declared.event.Event.{Event}
 use Rattle.bsc_accept.specs.declared.event.Event.TheVariants.{Message as Came, Joined as HasJoined, Refused as WasRefused, Ended}
 use Rattle.bsc_accept.specs.declared.step.Step.{Step}
-use Rattle.bsc_accept.specs.declared.step.Step.TheVariants.{Ask, Carry, Reply as Replies, ReplyClose, Close}
+use Rattle.bsc_accept.specs.declared.step.Step.TheVariants.{Ask, Up as GoesUp, Put as PutStep, PutClose, Close}
 use Rattle.bsc_node.specs.declared.link_name.LinkName.{LinkName}
 use Rattle.bsc_node.specs.declared.node_event.NodeEvent.{NodeEvent}
 use Rattle.bsc_node.specs.declared.node_event.NodeEvent.TheVariants.{DialFailed, Lost}
@@ -122,8 +122,8 @@ unless_over-grows l c g =
     at_side l (λ j h link. if link.side.is_over then unchanged else c) (λ j h link. chosen link.side.is_over unchanged c (λ w. no_more w) g)
 
 side_carries_out-grows : (l : ℕ) (t : Step) → GrowsBy (side_carries_out l t)
-side_carries_out-grows l (Replies o) = λ w. no_more w
-side_carries_out-grows l (ReplyClose o c) = two (puts_now l Down (Message o.items)) (closes l) (λ w. no_more w) (closes-grows l)
+side_carries_out-grows l (PutStep o) = λ w. no_more w
+side_carries_out-grows l (PutClose o c) = two (puts_now l Down (Message o.items)) (closes l) (λ w. no_more w) (closes-grows l)
 side_carries_out-grows l (Close c) = closes-grows l
 side_carries_out-grows l other = λ w. no_more w
 
@@ -152,7 +152,7 @@ forwards-grows l place m =
 
 acts_on-grows : (l place : ℕ) (m : List ℕ) (t : Step) → GrowsBy (acts_on l place m t)
 acts_on-grows l place m (Ask who) = connects-grows l place who
-acts_on-grows l place m Carry = forwards-grows l place m
+acts_on-grows l place m GoesUp = forwards-grows l place m
 acts_on-grows l place m other = side_carries_out-grows l other
 
 side_hears-grows : (l place : ℕ) (m : List ℕ) (e : Event) → GrowsBy (side_hears l place m e)

@@ -1,4 +1,5 @@
 -- Lemmas that crates above cite too.
+use Rattle.bsc_accept.specs.Messages.{duplicate_vmac_code}
 use Rattle.bsc_accept.specs.declared.event.Event.{Event}
 use Rattle.bsc_connector.proofs.BackLemmas.{since-more}
 use Rattle.bsc_connector.proofs.Common.{first_of-more, first_of-more as first-more}
@@ -15,7 +16,6 @@ use Rattle.bsc_node.specs.Hubs.{hub_events, hub_event_of}
 use Rattle.bsc_node.specs.Links.{meets, same_link, who_accepted, request, accepts_by, asks_by, who_asked, none_there, begins, life, is_in_slots}
 use Rattle.bsc_node.specs.Logs.{Line, Log, is_finishing, now}
 use Rattle.bsc_node.specs.Meeting.{may_draw, is_hub, renewals}
-use Rattle.bsc_node.specs.Messages.{duplicate_vmac_code}
 use Rattle.bsc_node.specs.Ways.{slot_call_of, slot_calls, resolve_call_of, resolve_calls}
 use Rattle.bsc_node.specs.declared.link_name.LinkName.{LinkName}
 use Rattle.bsc_node.specs.declared.link_name.LinkName.TheVariants.{Direct, Hub}

@@ -19,12 +19,12 @@ use Rattle.bsc_accept.specs.declared.start.Start.{Start}
 use Rattle.bsc_initiate.specs.declared.event.InitEvent.{InitEvent}
 use Rattle.bsc_initiate.specs.declared.event.InitEvent.TheVariants.{Opened, Message as InitMessage, Tick as InitTick, Finish as InitFinish}
 use Rattle.bsc_initiate.specs.declared.step.InitStep.{InitStep}
-use Rattle.bsc_initiate.specs.declared.step.InitStep.TheVariants.{Put, PutClose, Connected as InitConnected, Refused, Up}
+use Rattle.bsc_initiate.specs.declared.step.InitStep.TheVariants.{Put as InitPut, PutClose as InitPutClose, Connected as InitConnected, Refused, Up as InitUp}
 use Rattle.bsc_initiate.specs.declared.step.InitStep.TheVariants.{Close as InitClose, Nothing as InitNothing}
 use Rattle.bsc_accept.specs.declared.event.Event.{Event}
 use Rattle.bsc_accept.specs.declared.event.Event.TheVariants.{Message as AcceptMessage, Tick as AcceptTick, Finish as AcceptFinish}
 use Rattle.bsc_accept.specs.declared.step.Step.{Step}
-use Rattle.bsc_accept.specs.declared.step.Step.TheVariants.{Ask, Reply, ReplyClose, Carry, Close as AcceptClose, Nothing as AcceptNothing}
+use Rattle.bsc_accept.specs.declared.step.Step.TheVariants.{Ask, Put as AcceptPut, PutClose as AcceptPutClose, Up as AcceptUp, Close as AcceptClose, Nothing as AcceptNothing}
 use Rattle.bsc_initiate.specs.Messages.{who_accepts}
 use Rattle.bsc_initiate.specs.Past as Initiating
 use Rattle.bsc_initiate.specs.Steps as InitiatingSteps
@@ -231,12 +231,13 @@ abbrev pub origin_of : InitEvent → Option Vmac
 origin_of (InitMessage now (Pass msg)) = msg.origin
 origin_of e = None
 
+-- What a step of an initiating machine is to the node.
 abbrev pub initiating_outcome : InitEvent → InitStep → Outcome
-initiating_outcome e (Put o) = puts o.items
-initiating_outcome e (PutClose o closing) = puts_and_closes o.items closing
+initiating_outcome e (InitPut o) = puts o.items
+initiating_outcome e (InitPutClose o closing) = puts_and_closes o.items closing
 initiating_outcome e (InitConnected who) = meets who
 initiating_outcome e (Refused code) = is_refused (origin_of e) code
-initiating_outcome e Up = up_by_initiating e
+initiating_outcome e InitUp = up_by_initiating e
 initiating_outcome e (InitClose closing) = closes closing
 initiating_outcome e InitNothing = keeps_still
 
@@ -245,11 +246,13 @@ abbrev pub up_by_accepting : Accepting.Standing → Event → Outcome
 up_by_accepting Accepting.connected (AcceptMessage now v) = up_from v
 up_by_accepting standing e = keeps_still
 
+-- What a step of an accepting machine is to the node. No message that comes to a node is judged to be carried on, so none
+-- goes up so.
 abbrev pub accepting_outcome : Accepting.Standing → Event → Step → Outcome
 accepting_outcome standing e (Ask who) = meets who
-accepting_outcome standing e (Reply o) = puts o.items
-accepting_outcome standing e (ReplyClose o closing) = puts_and_closes o.items closing
-accepting_outcome standing e Carry = keeps_still
+accepting_outcome standing e (AcceptPut o) = puts o.items
+accepting_outcome standing e (AcceptPutClose o closing) = puts_and_closes o.items closing
+accepting_outcome standing e AcceptUp = keeps_still
 accepting_outcome standing e (AcceptClose closing) = closes closing
 accepting_outcome standing e AcceptNothing = up_by_accepting standing e
 

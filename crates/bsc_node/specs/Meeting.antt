@@ -8,9 +8,9 @@ use Rattle.bsc_connector.specs.Back.{newest_of, since}
 use Rattle.bsc_accept.specs.declared.closing.Closing.{Closing}
 use Rattle.bsc_accept.specs.declared.reason.Reason.TheVariants.{WrongPeer as ReasonWrongPeer}
 use Rattle.bsc_accept.specs.declared.event.Event.TheVariants.{Joined, Refused}
+use Rattle.bsc_accept.specs.Messages.{duplicate_vmac_code}
 use Rattle.bsc_accept.specs.Steps.{closing, normal}
 use Rattle.bsc_history.specs.declared.reply.Refusal.TheVariants.{Duplicate}
-use Rattle.bsc_node.specs.Messages.{duplicate_vmac_code}
 use Rattle.bsc_direct.specs.declared.call.SlotCall.TheVariants.{Up}
 use Rattle.bsc_direct.specs.declared.establish.Establish.{Establish}
 use Rattle.bsc_direct.specs.declared.establish.Establish.TheVariants.{Up as IsUp}

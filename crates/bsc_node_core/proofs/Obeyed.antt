@@ -14,7 +14,7 @@ use Rattle.bsc_node.specs.Ending.{ends, closes_link}
 use Rattle.bsc_node.specs.Meeting.{meets_peer, is_refused_by}
 use Rattle.bsc_node.specs.Events.{obeys_by, obeys}
 use Rattle.bsc_node_core.specs.declared.deed.Deed.{Deed}
-use Rattle.bsc_node_core.specs.declared.deed.Deed.TheVariants.{PassesUp, KeepsStill}
+use Rattle.bsc_node_core.specs.declared.deed.Deed.TheVariants.{Up, Nothing}
 use Rattle.bsc_node_core.specs.declared.state.State.{State}
 use Rattle.bsc_node_core.specs.Rules.{outcome_of}
 use Rattle.bsc_node_core.specs.Standing.{Base, Stands}
@@ -65,12 +65,12 @@ obeyed-still : (b : Base) (out : List Action) (s : State) (L : Log) (name : Link
 obeyed-still b out s L name none told =
     obeyed b out out s s L name keeps_still told (subst (λ (M : Log). Stands b out s M) (sym (append-nil L)) (settles b out s L name none told.left told.stands))
 
-passed-still : (b : Base) (out : List Action) (s : State) (L : Log) (name : LinkName) (origin : Option Vmac) (msg : Option Message) → msg ≡ None → HasTold b out s L name (outcome_of origin msg PassesUp)
+passed-still : (b : Base) (out : List Action) (s : State) (L : Log) (name : LinkName) (origin : Option Vmac) (msg : Option Message) → msg ≡ None → HasTold b out s L name (outcome_of origin msg Up)
     → HasTold b out s L name keeps_still
-passed-still b out s L name origin msg e told = subst (λ (m : Option Message). HasTold b out s L name (outcome_of origin m PassesUp)) e told
+passed-still b out s L name origin msg e told = subst (λ (m : Option Message). HasTold b out s L name (outcome_of origin m Up)) e told
 
 -- A message that doesn't come is passed up, or the step is nothing to the node.
-pub obeyed-nothing : (b : Base) (out : List Action) (s : State) (L : Log) (name : LinkName) (origin : Option Vmac) (msg : Option Message) (deed : Deed) → b.busy ≡ None → (deed ≡ PassesUp → msg ≡ None)
-    → HasTold b out s L name (outcome_of origin msg deed) → (deed ≡ PassesUp) ⊎ (deed ≡ KeepsStill) → Stands b out s (L ++ obeys b.made name L)
-obeyed-nothing b out s L name origin msg deed none p told (inl e) = obeyed-still b out s L name none (passed-still b out s L name origin msg (p e) (told-by b out s L name origin msg deed PassesUp e told))
-obeyed-nothing b out s L name origin msg deed none p told (inr e) = obeyed-still b out s L name none (told-by b out s L name origin msg deed KeepsStill e told)
+pub obeyed-nothing : (b : Base) (out : List Action) (s : State) (L : Log) (name : LinkName) (origin : Option Vmac) (msg : Option Message) (deed : Deed) → b.busy ≡ None → (deed ≡ Up → msg ≡ None)
+    → HasTold b out s L name (outcome_of origin msg deed) → (deed ≡ Up) ⊎ (deed ≡ Nothing) → Stands b out s (L ++ obeys b.made name L)
+obeyed-nothing b out s L name origin msg deed none p told (inl e) = obeyed-still b out s L name none (passed-still b out s L name origin msg (p e) (told-by b out s L name origin msg deed Up e told))
+obeyed-nothing b out s L name origin msg deed none p told (inr e) = obeyed-still b out s L name none (told-by b out s L name origin msg deed Nothing e told)

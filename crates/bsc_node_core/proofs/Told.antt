@@ -10,7 +10,7 @@ use Rattle.bsc_accept.specs.declared.start.Start.{Start}
 use Rattle.bsc_accept.specs.declared.event.Event.{Event}
 use Rattle.bsc_accept.specs.declared.event.Event.TheVariants.{Message as Heard}
 use Rattle.bsc_accept.specs.declared.step.Step.{Step}
-use Rattle.bsc_accept.specs.declared.step.Step.TheVariants.{Ask, Reply, ReplyClose, Carry as StepCarry, Close as StepClose, Nothing as StepNothing}
+use Rattle.bsc_accept.specs.declared.step.Step.TheVariants.{Ask, Put as StepPut, PutClose as StepPutClose, Up as StepUp, Close as StepClose, Nothing as StepNothing}
 use Rattle.bsc_accept.specs.declared.accepting.Accepting.{Accepting}
 use Rattle.bsc_accept.specs.Past as A
 use Rattle.bsc_accept.specs.Steps as AS
@@ -265,9 +265,9 @@ left-nothing g e m = refl
 
 left-taken : (g : A.Standing) (e : Event) (step : Step) (m : Accepting) → IsLeft (accepting_outcome g e step) true (taken_after m step)
 left-taken g e (Ask who) m = refl
-left-taken g e (Reply o) m = refl
-left-taken g e (ReplyClose o closing) m = refl
-left-taken g e StepCarry m = refl
+left-taken g e (StepPut o) m = refl
+left-taken g e (StepPutClose o closing) m = refl
+left-taken g e StepUp m = refl
 left-taken g e (StepClose closing) m = refl
 left-taken g e StepNothing m = left-nothing g e m
 

@@ -21,7 +21,7 @@ use Rattle.bsc_node.specs.Logs.{Rule, nothing, tells, where_found}
 use Rattle.bsc_node.specs.Hubs.{link_in_use}
 use Rattle.bsc_node.specs.Ways as Ways
 use Rattle.bsc_node_core.specs.declared.deed.Deed.{Deed}
-use Rattle.bsc_node_core.specs.declared.deed.Deed.TheVariants.{Puts, PutsAndCloses, Closes, Meets, IsRefused, PassesUp, KeepsStill}
+use Rattle.bsc_node_core.specs.declared.deed.Deed.TheVariants.{Put, PutClose, Close, Met, Refused, Up, Nothing}
 use Rattle.bsc_node_core.specs.declared.way.Way.{Way}
 
 -- ---- ways
@@ -66,13 +66,13 @@ goes_up e standing = false
 
 -- What a deed is, with the address that a message came from and the message, where one came.
 abbrev pub outcome_of : Option Vmac → Option Message → Deed → Outcome
-outcome_of origin msg (Puts o) = puts o
-outcome_of origin msg (PutsAndCloses o closing) = puts_and_closes o closing
-outcome_of origin msg (Closes closing) = closes closing
-outcome_of origin msg (Meets who) = meets who
-outcome_of origin msg (IsRefused code) = is_refused origin code
-outcome_of origin msg PassesUp = up_from msg
-outcome_of origin msg KeepsStill = keeps_still
+outcome_of origin msg (Put o) = puts o
+outcome_of origin msg (PutClose o closing) = puts_and_closes o closing
+outcome_of origin msg (Close closing) = closes closing
+outcome_of origin msg (Met who) = meets who
+outcome_of origin msg (Refused code) = is_refused origin code
+outcome_of origin msg Up = up_from msg
+outcome_of origin msg Nothing = keeps_still
 
 -- ---- a slot
 

@@ -12,23 +12,24 @@ use bsc_initiate::InitStep;
 use bsc_octets::{Identity, NoMemory, Octets};
 use std::alloc::Global;
 
-/// What a machine's step is to the node, whichever of the two machines it is.
+/// What a machine's step is to the node, whichever of the two machines it is. What both machines do has its name there;
+/// `Met` is an `Ask` of the one that accepts and a `Connected` of the one that initiates.
 #[derive(Debug, Drop)]
 pub(crate) enum Deed {
     /// A message is put.
-    Puts(Octets),
+    Put(Octets),
     /// A message is put, and the link is closed.
-    PutsAndCloses(Octets, Closing),
+    PutClose(Octets, Closing),
     /// The link is closed.
-    Closes(Closing),
+    Close(Closing),
     /// The peer has named itself.
-    Meets(Identity),
+    Met(Identity),
     /// The peer refused, with this error code.
-    IsRefused(u16),
+    Refused(u16),
     /// The message is for the node.
-    PassesUp,
+    Up,
     /// Nothing.
-    KeepsStill,
+    Nothing,
 }
 
 /// These octets in memory of their own.
@@ -44,38 +45,35 @@ impl Deed {
         ensures { IfOk result (λ d. (e : InitEvent) → initiating_outcome e step ≡ outcome_of (origin_of e) (message_of e) d) }
     {
         Ok(match step {
-            InitStep::Put(octets) => Deed::Puts(owned(alloc, octets.as_slice())?),
-            InitStep::PutClose(octets, closing) => Deed::PutsAndCloses(
+            InitStep::Put(octets) => Deed::Put(owned(alloc, octets.as_slice())?),
+            InitStep::PutClose(octets, closing) => Deed::PutClose(
                 owned(alloc, octets.as_slice())?,
                 closing,
             ),
-            InitStep::Connected(who) => Deed::Meets(who),
-            InitStep::Refused { code } => Deed::IsRefused(code),
-            InitStep::Up => Deed::PassesUp,
-            InitStep::Close(closing) => Deed::Closes(closing),
-            InitStep::Nothing => Deed::KeepsStill,
+            InitStep::Connected(who) => Deed::Met(who),
+            InitStep::Refused { code } => Deed::Refused(code),
+            InitStep::Up => Deed::Up,
+            InitStep::Close(closing) => Deed::Close(closing),
+            InitStep::Nothing => Deed::Nothing,
         })
     }
 
-    /// That of a step of a link that was taken. In Connected what the machine does nothing with is for the node.
+    /// That of a step of a link that was taken. In Connected what the machine does nothing with is for the node. What is to
+    /// be carried on isn't: a node carries nothing on, and no message that comes to it is judged so.
     pub(crate) fn of_taken(alloc: Global, step: Step, connected: bool) -> Result<Deed, NoMemory>
         ensures { IfOk result (λ d. (origin : Option Vmac) (standing : Standing) (e : Event) → goes_up e standing ≡ connected
             → accepting_outcome standing e step ≡ outcome_of origin (message_taken e) d) }
     {
         Ok(match step {
-            Step::Ask(who) => Deed::Meets(who),
-            Step::Reply(octets) => Deed::Puts(owned(alloc, octets.as_slice())?),
-            Step::ReplyClose(octets, closing) => Deed::PutsAndCloses(
+            Step::Ask(who) => Deed::Met(who),
+            Step::Put(octets) => Deed::Put(owned(alloc, octets.as_slice())?),
+            Step::PutClose(octets, closing) => Deed::PutClose(
                 owned(alloc, octets.as_slice())?,
                 closing,
             ),
-            Step::Carry => Deed::KeepsStill,
-            Step::Close(closing) => Deed::Closes(closing),
-            Step::Nothing => if connected {
-                Deed::PassesUp
-            } else {
-                Deed::KeepsStill
-            },
+            Step::Up => Deed::Nothing,
+            Step::Close(closing) => Deed::Close(closing),
+            Step::Nothing => if connected { Deed::Up } else { Deed::Nothing },
         })
     }
 }

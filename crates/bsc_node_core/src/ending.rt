@@ -61,10 +61,10 @@ impl State {
             → FollowsAlways (λ a. carries_out_by name (outcome_of origin msg deed)) out.old self.old out.new self.new) }
     {
         match deed {
-            Deed::Puts(octets) => self.put(out, name, octets),
-            Deed::PutsAndCloses(octets, closing) => self.put_and_close(out, name, octets, closing),
-            Deed::Closes(closing) => self.close(out, name, closing),
-            Deed::Meets(_) | Deed::IsRefused(_) | Deed::PassesUp | Deed::KeepsStill => Ok(()),
+            Deed::Put(octets) => self.put(out, name, octets),
+            Deed::PutClose(octets, closing) => self.put_and_close(out, name, octets, closing),
+            Deed::Close(closing) => self.close(out, name, closing),
+            Deed::Met(_) | Deed::Refused(_) | Deed::Up | Deed::Nothing => Ok(()),
         }
     }
 

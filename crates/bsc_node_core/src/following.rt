@@ -150,7 +150,7 @@ fn obey_heard(
     let origin = origin_in(&verdict);
     let passed = message_in(verdict);
     match deed {
-        Deed::PassesUp => match passed {
+        Deed::Up => match passed {
             Some(message) => take_up(state, out, resolve, at, name, message),
             None => Ok(()),
         },

@@ -216,14 +216,12 @@ impl Links {
         ensures touches { Touches self.old self.new name }
     {
         match step {
-            Step::ReplyClose(_, _) | Step::Close(_) => self.go_on(name, Machine::Over),
+            Step::PutClose(_, _) | Step::Close(_) => self.go_on(name, Machine::Over),
             Step::Ask(who) => {
                 self.go_on(name, Machine::Asked(machine));
                 self.meet(name, *who);
             }
-            Step::Reply(_) | Step::Carry | Step::Nothing => {
-                self.go_on(name, Machine::Taken(machine))
-            }
+            Step::Put(_) | Step::Up | Step::Nothing => { self.go_on(name, Machine::Taken(machine)) }
         }
     }
 

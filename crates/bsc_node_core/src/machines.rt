@@ -192,7 +192,7 @@ impl State {
         match self.links.get(name).machine {
             Machine::Dialled(machine) => self.finish_dialled(alloc, now, name, machine),
             Machine::Taken(machine) => self.finish_taken(alloc, now, name, machine),
-            Machine::Gone | Machine::Over | Machine::Asked(_) => Ok(Deed::KeepsStill),
+            Machine::Gone | Machine::Over | Machine::Asked(_) => Ok(Deed::Nothing),
         }
     }
 
@@ -246,7 +246,7 @@ impl State {
         match self.links.get(name).machine {
             Machine::Dialled(machine) => self.tick_dialled(alloc, now, name, machine),
             Machine::Taken(machine) => self.tick_taken(alloc, now, name, machine),
-            Machine::Gone | Machine::Over | Machine::Asked(_) => Ok(Deed::KeepsStill),
+            Machine::Gone | Machine::Over | Machine::Asked(_) => Ok(Deed::Nothing),
         }
     }
 
@@ -282,12 +282,12 @@ impl State {
         match self.links.get(name).machine {
             Machine::Dialled(machine) => {
                 if machine.phase().is_some() {
-                    return Ok(Deed::KeepsStill);
+                    return Ok(Deed::Nothing);
                 }
                 self.open_dialled(alloc, now, name, machine)
             }
             Machine::Gone | Machine::Over | Machine::Taken(_) | Machine::Asked(_) => {
-                Ok(Deed::KeepsStill)
+                Ok(Deed::Nothing)
             }
         }
     }
@@ -364,7 +364,7 @@ impl State {
         match self.links.get(name).machine {
             Machine::Dialled(machine) => self.hear_dialled(alloc, now, name, machine, verdict),
             Machine::Taken(machine) => self.hear_taken(alloc, now, name, machine, verdict),
-            Machine::Gone | Machine::Over | Machine::Asked(_) => Ok(Deed::KeepsStill),
+            Machine::Gone | Machine::Over | Machine::Asked(_) => Ok(Deed::Nothing),
         }
     }
 }

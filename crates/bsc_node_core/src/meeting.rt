@@ -2,13 +2,13 @@
 ghost use Rattle.std.specs.Prelude.{◌≡◌, ◌≢◌, ◌<◌, ◌==◌, ◌&&◌, ◌++◌, nat_lt, not, ℕ, true, false, List, Option, None, OnOk};
 ghost use Rattle.bsc_octets.specs.declared.identity.Identity.{Identity};
 ghost use Rattle.bsc_octets.specs.Addresses.{broadcast, same_vmac};
+ghost use Rattle.bsc_accept.specs.Messages.{duplicate_vmac_code};
 ghost use Rattle.bsc_accept.specs.Standing.{AwaitsAnswer};
 ghost use Rattle.bsc_direct.specs.declared.establish.Establish.{Establish};
 ghost use Rattle.bsc_direct.specs.Standing.{IsOnlyClaimed};
 ghost use Rattle.bsc_node.specs.declared.action.Action.{Action};
 ghost use Rattle.bsc_node.specs.declared.link_name.LinkName.{LinkName};
 ghost use Rattle.bsc_node.specs.Logs.{Log, is_finishing};
-ghost use Rattle.bsc_node.specs.Messages.{duplicate_vmac_code};
 ghost use Rattle.bsc_node.specs.Links.{meets};
 ghost use Rattle.bsc_node.specs.Ways.{establish};
 ghost use Rattle.bsc_node.specs.Ending.{carries_out};

@@ -35,19 +35,19 @@ impl State {
         deed: Deed,
     ) -> Result<(), NoMemory>
         ensures { OnOk result ((b : Base) (L : Log) (msg : Option Message) → IsAtRest at.now b → is_name name ≡ true
-            → ((who : Identity) → outcome b.made L name ≡ meets who → same_vmac who.vmac broadcast ≡ false) → (deed ≡ Deed.PassesUp → msg ≡ None)
+            → ((who : Identity) → outcome b.made L name ≡ meets who → same_vmac who.vmac broadcast ≡ false) → (deed ≡ Deed.Up → msg ≡ None)
             → HasTold b out.old self.old L name (outcome_of origin msg deed) → Stands b out.new self.new (L ++ obeys b.made name L)) }
     {
         match deed {
-            Deed::Puts(octets) => self.put(out, name, octets),
-            Deed::PutsAndCloses(octets, closing) => {
+            Deed::Put(octets) => self.put(out, name, octets),
+            Deed::PutClose(octets, closing) => {
                 self.put(out, name, octets)?;
                 self.close_link(out, at, name, closing)
             }
-            Deed::Closes(closing) => self.close_link(out, at, name, closing),
-            Deed::Meets(who) => self.meet_peer(out, at, name, who),
-            Deed::IsRefused(code) => self.be_refused(out, at, name, origin, code),
-            Deed::PassesUp | Deed::KeepsStill => Ok(()),
+            Deed::Close(closing) => self.close_link(out, at, name, closing),
+            Deed::Met(who) => self.meet_peer(out, at, name, who),
+            Deed::Refused(code) => self.be_refused(out, at, name, origin, code),
+            Deed::Up | Deed::Nothing => Ok(()),
         }
     }
 

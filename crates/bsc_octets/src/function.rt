@@ -12,6 +12,12 @@ pub const ADDRESS_RESOLUTION: u8 = 0x02;
 /// Address-Resolution-ACK.
 pub const ADDRESS_RESOLUTION_ACK: u8 = 0x03;
 
+/// Advertisement.
+pub const ADVERTISEMENT: u8 = 0x04;
+
+/// Advertisement-Solicitation.
+pub const ADVERTISEMENT_SOLICITATION: u8 = 0x05;
+
 /// Connect-Request.
 pub const CONNECT_REQUEST: u8 = 0x06;
 

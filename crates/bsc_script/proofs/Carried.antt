@@ -2,7 +2,7 @@
 use Rattle.std.proofs.Common.{◌≡◌, ℕ, suc, Bool, true, false, List, [], ◌∷◌, ◌++◌, flat_map, fold, length, set, take, drop, remove, filter, not, slice_get, Option, Some, None, refl, ap, sym, ◌∙◌, subst, append_assoc, append-nil, true≢false}
 use Rattle.bsc_history.specs.Laws.{Apart}
 use Rattle.bsc_accept.specs.declared.step.Step.{Step}
-use Rattle.bsc_accept.specs.declared.step.Step.TheVariants.{Ask, Reply, ReplyClose, Carry, Close, Nothing}
+use Rattle.bsc_accept.specs.declared.step.Step.TheVariants.{Ask, Put, PutClose, Up, Close, Nothing}
 use Rattle.bsc_accept.specs.Steps.{closes as is_closing}
 use Rattle.bsc_script.specs.declared.script_hub.ScriptHub.{ScriptHub}
 use Rattle.bsc_script.specs.States.{State, Peer, is_named}
@@ -51,18 +51,18 @@ ends_peers s k (Some c) = refl
 -- A step that closes takes the peer out.
 pub closing_peers : (s : State) (at : ℕ) (k : Peer) (step : Step) → Apart name_of s.peers → slice_get s.peers at ≡ Some k → is_closing step ≡ true → (does s k step).state.peers ≡ remove s.peers at
 closing_peers s at k (Ask who) apart here c = absurd (true≢false (sym c))
-closing_peers s at k (Reply octets) apart here c = absurd (true≢false (sym c))
-closing_peers s at k (ReplyClose octets x) apart here c = ends_peers s k k.conn ∙ taken_out s.peers at k apart here
-closing_peers s at k Carry apart here c = absurd (true≢false (sym c))
+closing_peers s at k (Put octets) apart here c = absurd (true≢false (sym c))
+closing_peers s at k (PutClose octets x) apart here c = ends_peers s k k.conn ∙ taken_out s.peers at k apart here
+closing_peers s at k Up apart here c = absurd (true≢false (sym c))
 closing_peers s at k (Close x) apart here c = ends_peers s k k.conn ∙ taken_out s.peers at k apart here
 closing_peers s at k Nothing apart here c = absurd (true≢false (sym c))
 
 -- Another step leaves the peers.
 pub other_peers : (s : State) (k : Peer) (step : Step) → is_closing step ≡ false → (does s k step).state.peers ≡ s.peers
 other_peers s k (Ask who) c = refl
-other_peers s k (Reply octets) c = refl
-other_peers s k (ReplyClose octets x) c = absurd (true≢false c)
-other_peers s k Carry c = refl
+other_peers s k (Put octets) c = refl
+other_peers s k (PutClose octets x) c = absurd (true≢false c)
+other_peers s k Up c = refl
 other_peers s k (Close x) c = absurd (true≢false c)
 other_peers s k Nothing c = refl
 

@@ -9,7 +9,7 @@ use Rattle.bsc_checks.specs.Verdicts.{Judged}
 use Rattle.bsc_accept.specs.declared.accepting.Accepting.{Accepting}
 use Rattle.bsc_accept.specs.declared.event.Event.TheVariants.{Message as Came}
 use Rattle.bsc_accept.specs.declared.step.Step.{Step}
-use Rattle.bsc_accept.specs.declared.step.Step.TheVariants.{Ask, Reply, ReplyClose, Carry, Close, Nothing}
+use Rattle.bsc_accept.specs.declared.step.Step.TheVariants.{Ask, Put, PutClose, Up, Close, Nothing}
 use Rattle.bsc_accept.specs.Past.{standing, phase, phase_named}
 use Rattle.bsc_accept.specs.Steps.{closes, message_step}
 use Rattle.bsc_accept.specs.declared.event.Event.{Event}
@@ -49,11 +49,11 @@ asked_of n at m phase max now s k v es x y (Ask who) judged own is stands left w
       (λ e here. subst (λ z. AwaitsAnswer z.1.machine) (one_some y e (sym (ap (λ l. slice_get l at) kept_so ∙ get-set es at x y was) ∙ here)) left),
       own.fits.1 (ap phase_named a.2),
     )
-asked_of n at m phase max now s k v es x y Carry judged own is stands left was kept_so =
+asked_of n at m phase max now s k v es x y Up judged own is stands left was kept_so =
     let a = carries_by (standing k.events) v is in
     (routed m phase max a.0 (subst (Judged m (HubPort phase) max) a.1 judged), settled_told [] s.about s.history k (Came now v) own refl refl (sym (ap is_open stands.stage) ∙ left))
-asked_of n at m phase max now s k v es x y (Reply octets) judged own is stands left was kept_so = λ still. settled_told [] s.about s.history k (Came now v) own refl refl (sym (ap is_open stands.stage) ∙ left)
-asked_of n at m phase max now s k v es x y (ReplyClose octets c) judged own is stands left was kept_so = λ still. absurd (true≢false still)
+asked_of n at m phase max now s k v es x y (Put octets) judged own is stands left was kept_so = λ still. settled_told [] s.about s.history k (Came now v) own refl refl (sym (ap is_open stands.stage) ∙ left)
+asked_of n at m phase max now s k v es x y (PutClose octets c) judged own is stands left was kept_so = λ still. absurd (true≢false still)
 asked_of n at m phase max now s k v es x y (Close c) judged own is stands left was kept_so = λ still. absurd (true≢false still)
 asked_of n at m phase max now s k v es x y Nothing judged own is stands left was kept_so = λ still. settled_told [] s.about s.history k (Came now v) own refl refl (sym (ap is_open stands.stage) ∙ left)
 
@@ -83,18 +83,18 @@ judged_phase t s at k x p phase_result h here was is told_so =
 -- ---- the other steps
 
 -- A step that neither asks nor carries is carried out as it is.
-pub acts_other : (s : State) (k : Peer) (m : List ℕ) (step : Step) → ((who : Identity) → step ≡ Ask who → ⊥) → (step ≡ Carry → ⊥) → acts s k m step ≡ does s k step
+pub acts_other : (s : State) (k : Peer) (m : List ℕ) (step : Step) → ((who : Identity) → step ≡ Ask who → ⊥) → (step ≡ Up → ⊥) → acts s k m step ≡ does s k step
 acts_other s k m (Ask who) asks carries = absurd (asks who refl)
-acts_other s k m Carry asks carries = absurd (carries refl)
-acts_other s k m (Reply octets) asks carries = refl
-acts_other s k m (ReplyClose octets c) asks carries = refl
+acts_other s k m Up asks carries = absurd (carries refl)
+acts_other s k m (Put octets) asks carries = refl
+acts_other s k m (PutClose octets c) asks carries = refl
 acts_other s k m (Close c) asks carries = refl
 acts_other s k m Nothing asks carries = refl
 
-pub own_other : (t : ScriptHub) (at : ℕ) (m : List ℕ) (s : State) (k : Peer) (step : Step) → ((who : Identity) → step ≡ Ask who → ⊥) → (step ≡ Carry → ⊥) → AsksOf t at m s k step → closes step ≡ false → IsSettledBut [] s.about s.history k
+pub own_other : (t : ScriptHub) (at : ℕ) (m : List ℕ) (s : State) (k : Peer) (step : Step) → ((who : Identity) → step ≡ Ask who → ⊥) → (step ≡ Up → ⊥) → AsksOf t at m s k step → closes step ≡ false → IsSettledBut [] s.about s.history k
 own_other t at m s k (Ask who) asks carries h = absurd (asks who refl)
-own_other t at m s k Carry asks carries h = absurd (carries refl)
-own_other t at m s k (Reply octets) asks carries h = h
-own_other t at m s k (ReplyClose octets c) asks carries h = h
+own_other t at m s k Up asks carries h = absurd (carries refl)
+own_other t at m s k (Put octets) asks carries h = h
+own_other t at m s k (PutClose octets c) asks carries h = h
 own_other t at m s k (Close c) asks carries h = h
 own_other t at m s k Nothing asks carries h = h

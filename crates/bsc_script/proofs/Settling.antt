@@ -12,7 +12,7 @@ use Rattle.bsc_accept.specs.declared.start.Start.{Start}
 use Rattle.bsc_accept.specs.declared.event.Event.{Event}
 use Rattle.bsc_accept.specs.declared.event.Event.TheVariants.{Joined, Ended}
 use Rattle.bsc_accept.specs.declared.step.Step.{Step}
-use Rattle.bsc_accept.specs.declared.step.Step.TheVariants.{Ask, Reply, ReplyClose, Carry, Close, Nothing}
+use Rattle.bsc_accept.specs.declared.step.Step.TheVariants.{Ask, Put, PutClose, Up, Close, Nothing}
 use Rattle.bsc_accept.specs.Past.{Standing, awaiting_request, connected, disconnecting, standing, phase, phase_named, until_farewell, farewell_at, is_joined}
 use Rattle.bsc_accept.specs.Steps.{closes, tick_step, ended_step}
 use Rattle.bsc_accept.specs.Waits.{connect_wait_is_over, is_idle, disconnect_wait_is_over}
@@ -34,9 +34,9 @@ asks other = false
 -- A machine that made a step which neither closes nor asks is open.
 pub open_after : (answer : Step) (m : Accepting) → LeftBy answer m → closes answer ≡ false → asks answer ≡ false → is_open m.stage ≡ true
 open_after (Ask who) m h c a = absurd (true≢false a)
-open_after (Reply octets) m h c a = h
-open_after (ReplyClose octets x) m h c a = absurd (true≢false c)
-open_after Carry m h c a = h
+open_after (Put octets) m h c a = h
+open_after (PutClose octets x) m h c a = absurd (true≢false c)
+open_after Up m h c a = h
 open_after (Close x) m h c a = absurd (true≢false c)
 open_after Nothing m h c a = h
 

@@ -2,7 +2,7 @@
 use Rattle.std.specs.Prelude.{ℕ, List, [], ◌∷◌, ◌++◌, Option, Some, None}
 use Rattle.bsc_accept.specs.declared.event.Event.{Event}
 use Rattle.bsc_accept.specs.declared.step.Step.{Step}
-use Rattle.bsc_accept.specs.declared.step.Step.TheVariants.{Reply, ReplyClose, Close}
+use Rattle.bsc_accept.specs.declared.step.Step.TheVariants.{Put, PutClose, Close}
 use Rattle.bsc_accept.specs.declared.closing.Closing.{Closing}
 use Rattle.bsc_accept.specs.Steps.{step}
 use Rattle.bsc_script.specs.Written.{Said, says}
@@ -55,8 +55,8 @@ closes s k c = writes (says k.name (close_words c)) (ends s k)
 
 -- What a step does that needs no call for what it says: octets are put, and the WebSocket is closed.
 abbrev pub does : State → Peer → Step → Outcome
-does s k (Reply octets) = writes (says k.name (out_words octets.items)) (quietly s)
-does s k (ReplyClose octets c) = writes (says k.name (out_words octets.items)) (closes s k c)
+does s k (Put octets) = writes (says k.name (out_words octets.items)) (quietly s)
+does s k (PutClose octets c) = writes (says k.name (out_words octets.items)) (closes s k c)
 does s k (Close c) = closes s k c
 does s k other = quietly s
 

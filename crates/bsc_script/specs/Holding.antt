@@ -20,7 +20,7 @@ use Rattle.bsc_desk.specs.Standing.{StandsFor}
 use Rattle.bsc_octets.specs.Addresses.{same_vmac, zero_vmac, broadcast}
 use Rattle.bsc_octets.specs.Forwarding.{has_route}
 use Rattle.bsc_accept.specs.declared.step.Step.{Step}
-use Rattle.bsc_accept.specs.declared.step.Step.TheVariants.{Ask, Carry}
+use Rattle.bsc_accept.specs.declared.step.Step.TheVariants.{Ask, Up}
 use Rattle.bsc_accept.specs.Steps.{closes as is_closing}
 use Rattle.bsc_accept.specs.Standing.{StandsFor as MachineStandsFor, AwaitsAnswer, phase_of}
 use Rattle.bsc_player.specs.Languages.{StandsAs as LineStandsAs}
@@ -177,7 +177,7 @@ abbrev pub AsksOf : ScriptHub → ℕ → List ℕ → State → Peer → Step �
 AsksOf t at m s k (Ask who) =
     (same_vmac who.vmac zero_vmac ≡ Bool.false) × (same_vmac who.vmac broadcast ≡ Bool.false)
     × KeepsAt t at (λ p. AwaitsAnswer p.machine) × (k.conn ≡ None)
-AsksOf t at m s k Carry = (has_route m ≡ Bool.true) × IsSettledBut [] s.about s.history k
+AsksOf t at m s k Up = (has_route m ≡ Bool.true) × IsSettledBut [] s.about s.history k
 AsksOf t at m s k step = is_closing step ≡ Bool.false → IsSettledBut [] s.about s.history k
 
 -- The peer at a place was told a message, and the step of its machine is to be carried out.

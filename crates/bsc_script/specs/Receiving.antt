@@ -11,7 +11,7 @@ use Rattle.bsc_checks.specs.Outcomes.{outcome_of}
 use Rattle.bsc_accept.specs.declared.event.Event.TheVariants.{Message as Came, Joined as HasJoined, Refused as WasRefused}
 use Rattle.bsc_accept.specs.declared.reason.Reason.TheVariants.{HubWorn}
 use Rattle.bsc_accept.specs.declared.step.Step.{Step}
-use Rattle.bsc_accept.specs.declared.step.Step.TheVariants.{Ask, Carry}
+use Rattle.bsc_accept.specs.declared.step.Step.TheVariants.{Ask, Up}
 use Rattle.bsc_accept.specs.Past.{phase}
 use Rattle.bsc_accept.specs.Steps.{closing}
 use Rattle.bsc_script.specs.Written.{Said, says}
@@ -59,7 +59,7 @@ verdict_on s k m = outcome_of m (HubPort (phase k.events)) s.about.hub.max_bvlc
 -- What a message comes to, by the step of the machine.
 abbrev pub acts : State → Peer → List ℕ → Step → Outcome
 acts s k m (Ask who) = connects s k who
-acts s k m Carry = forwards_if s k k.conn m
+acts s k m Up = forwards_if s k k.conn m
 acts s k m step = does s k step
 
 -- the line of a message that is met with silence; there is none for another verdict

@@ -84,13 +84,13 @@ impl ScriptHub {
             (CarriesOut self.new text.old.items text.new.items cs (does s k step)) }
     {
         match step {
-            Step::Reply(octets) => put_out(text, alloc, self.name_at(at), octets.as_slice()),
-            Step::ReplyClose(octets, closing) => {
+            Step::Put(octets) => put_out(text, alloc, self.name_at(at), octets.as_slice()),
+            Step::PutClose(octets, closing) => {
                 put_out(text, alloc, self.name_at(at), octets.as_slice())?;
                 self.close(alloc, at, closing, text)
             }
             Step::Close(closing) => self.close(alloc, at, closing, text),
-            Step::Ask(_) | Step::Carry | Step::Nothing => Ok(()),
+            Step::Ask(_) | Step::Up | Step::Nothing => Ok(()),
         }
     }
 }

@@ -67,7 +67,7 @@ impl ScriptHub {
     {
         match step {
             Step::Ask(who) => self.connect(alloc, at, &who, text),
-            Step::Carry => self.forward(alloc, at, message, text),
+            Step::Up => self.forward(alloc, at, message, text),
             step => {
                 self.carry_out(alloc, at, step, text)?;
                 Ok(Due::Nobody)

@@ -22,8 +22,8 @@ fn next_place(step: &Step, at: usize) -> usize
     ensures { result ≡ (if is_closing step.now then at else at + 1) }
 {
     match step {
-        Step::Close(_) | Step::ReplyClose(_, _) => at,
-        Step::Ask(_) | Step::Reply(_) | Step::Carry | Step::Nothing => at + 1,
+        Step::Close(_) | Step::PutClose(_, _) => at,
+        Step::Ask(_) | Step::Put(_) | Step::Up | Step::Nothing => at + 1,
     }
 }
 

@@ -15,7 +15,7 @@ use Rattle.bsc_history.specs.Replies.{is_stopped}
 use Rattle.bsc_accept.specs.declared.event.Event.{Event}
 use Rattle.bsc_accept.specs.declared.event.Event.TheVariants.{Message as Came, Joined as HasJoined, Refused as WasRefused, Ended, Tick}
 use Rattle.bsc_accept.specs.declared.step.Step.{Step}
-use Rattle.bsc_accept.specs.declared.step.Step.TheVariants.{Ask, Reply as Answer, ReplyClose, Carry, Close, Nothing as NoStep}
+use Rattle.bsc_accept.specs.declared.step.Step.TheVariants.{Ask, Put, PutClose, Up, Close, Nothing as NoStep}
 use Rattle.bsc_script.specs.declared.line.Line.{Line}
 use Rattle.bsc_script.specs.declared.line.Line.TheVariants.{Nothing, Hub, Open, In, Text, Drop, Hold, Free, At, Stop, Counts}
 use Rattle.bsc_script.specs.Written.{says}
@@ -75,9 +75,9 @@ ends_added P plain s k = leaving_added P plain s k k.conn
 
 does_added : (P : Entry → Type 0) → HoldsPlain P → (s : State) (k : Peer) (x : Step) → Adds P s.about s.history (does s k x).state
 does_added P plain s k (Ask who) = nothing_added P s
-does_added P plain s k (Answer octets) = nothing_added P s
-does_added P plain s k (ReplyClose octets c) = ends_added P plain s k
-does_added P plain s k Carry = nothing_added P s
+does_added P plain s k (Put octets) = nothing_added P s
+does_added P plain s k (PutClose octets c) = ends_added P plain s k
+does_added P plain s k Up = nothing_added P s
 does_added P plain s k (Close c) = ends_added P plain s k
 does_added P plain s k NoStep = nothing_added P s
 
@@ -114,9 +114,9 @@ forwards_added P plain s k (Some c) m f =
 
 acts_added : (P : Entry → Type 0) → HoldsPlain P → (s : State) (k : Peer) (m : List ℕ) (x : Step) → ((c : ℕ) → P (entry_in s (Forward c m))) → Adds P s.about s.history (acts s k m x).state
 acts_added P plain s k m (Ask who) f = connects_added P plain s k who
-acts_added P plain s k m Carry f = forwards_added P plain s k k.conn m f
-acts_added P plain s k m (Answer octets) f = does_added P plain s k (Answer octets)
-acts_added P plain s k m (ReplyClose octets c) f = does_added P plain s k (ReplyClose octets c)
+acts_added P plain s k m Up f = forwards_added P plain s k k.conn m f
+acts_added P plain s k m (Put octets) f = does_added P plain s k (Put octets)
+acts_added P plain s k m (PutClose octets c) f = does_added P plain s k (PutClose octets c)
 acts_added P plain s k m (Close c) f = does_added P plain s k (Close c)
 acts_added P plain s k m NoStep f = does_added P plain s k NoStep
 

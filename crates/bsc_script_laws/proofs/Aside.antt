@@ -15,7 +15,7 @@ use Rattle.bsc_checks.specs.declared.verdict.Verdict.TheVariants.{Silent}
 use Rattle.bsc_accept.specs.declared.event.Event.{Event}
 use Rattle.bsc_accept.specs.declared.event.Event.TheVariants.{Message as Came, Joined as HasJoined, Refused as WasRefused, Ended, Tick}
 use Rattle.bsc_accept.specs.declared.step.Step.{Step}
-use Rattle.bsc_accept.specs.declared.step.Step.TheVariants.{Ask, Reply as Answer, ReplyClose, Carry, Close, Nothing as NoStep}
+use Rattle.bsc_accept.specs.declared.step.Step.TheVariants.{Ask, Put, PutClose, Up, Close, Nothing as NoStep}
 use Rattle.bsc_script.specs.declared.line.Line.{Line}
 use Rattle.bsc_script.specs.declared.line.Line.TheVariants.{Nothing, Hub, Open, In, Text, Drop, Hold, Free, At, Stop, Counts}
 use Rattle.bsc_script.specs.Written.{Said, says}
@@ -89,9 +89,9 @@ ends_aside n s k other h = leaving_aside n s k k.conn other h
 
 does_aside : (n : List ℕ) (s : State) (k : Peer) (x : Step) → k.name ≢ n → AreOthers n s → IsAside n (does s k x)
 does_aside n s k (Ask who) other h = quiet_aside n s h
-does_aside n s k (Answer octets) other h = record { lines = (other, tt); others = h }
-does_aside n s k (ReplyClose octets c) other h = (let e = ends_aside n s k other h in record { lines = (other, (other, e.lines)); others = e.others })
-does_aside n s k Carry other h = quiet_aside n s h
+does_aside n s k (Put octets) other h = record { lines = (other, tt); others = h }
+does_aside n s k (PutClose octets c) other h = (let e = ends_aside n s k other h in record { lines = (other, (other, e.lines)); others = e.others })
+does_aside n s k Up other h = quiet_aside n s h
 does_aside n s k (Close c) other h = (let e = ends_aside n s k other h in record { lines = (other, e.lines); others = e.others })
 does_aside n s k NoStep other h = quiet_aside n s h
 
@@ -130,9 +130,9 @@ forwards_aside n s k (Some c) m other h =
 
 acts_aside : (n : List ℕ) (s : State) (k : Peer) (m : List ℕ) (x : Step) → k.name ≢ n → AreOthers n s → IsAside n (acts s k m x)
 acts_aside n s k m (Ask who) other h = connects_aside n s k who other h
-acts_aside n s k m Carry other h = forwards_aside n s k k.conn m other h
-acts_aside n s k m (Answer octets) other h = does_aside n s k (Answer octets) other h
-acts_aside n s k m (ReplyClose octets c) other h = does_aside n s k (ReplyClose octets c) other h
+acts_aside n s k m Up other h = forwards_aside n s k k.conn m other h
+acts_aside n s k m (Put octets) other h = does_aside n s k (Put octets) other h
+acts_aside n s k m (PutClose octets c) other h = does_aside n s k (PutClose octets c) other h
 acts_aside n s k m (Close c) other h = does_aside n s k (Close c) other h
 acts_aside n s k m NoStep other h = does_aside n s k NoStep other h
 

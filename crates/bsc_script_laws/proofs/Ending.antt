@@ -16,7 +16,7 @@ use Rattle.bsc_accept.specs.declared.event.Event.{Event}
 use Rattle.bsc_accept.specs.declared.event.Event.TheVariants.{Message as Came, Joined as HasJoined, Refused as WasRefused, Ended}
 use Rattle.bsc_accept.specs.declared.reason.Reason.TheVariants.{HubWorn}
 use Rattle.bsc_accept.specs.declared.step.Step.{Step}
-use Rattle.bsc_accept.specs.declared.step.Step.TheVariants.{Ask, Reply as Answer, ReplyClose, Carry, Close, Nothing as NoStep}
+use Rattle.bsc_accept.specs.declared.step.Step.TheVariants.{Ask, Put, PutClose, Up, Close, Nothing as NoStep}
 use Rattle.bsc_accept.specs.Steps.{closing}
 use Rattle.bsc_script.specs.Written.{Said, says}
 use Rattle.bsc_script.specs.Texts.{out_words}
@@ -144,9 +144,9 @@ either_only n k false x y f g = g
 
 does_only : (n : List ℕ) (s : State) (k : Peer) (x : Step) → EndsOnly n k (does s k x)
 does_only n s k (Ask who) = inl tt
-does_only n s k (Answer octets) = inl ((λ e. (refl, refl)), tt)
-does_only n s k (ReplyClose octets c) = one_plain n k (out_words octets.items) (closes s k c) (refl, refl) (closes_only n s k c)
-does_only n s k Carry = inl tt
+does_only n s k (Put octets) = inl ((λ e. (refl, refl)), tt)
+does_only n s k (PutClose octets c) = one_plain n k (out_words octets.items) (closes s k c) (refl, refl) (closes_only n s k c)
+does_only n s k Up = inl tt
 does_only n s k (Close c) = closes_only n s k c
 does_only n s k NoStep = inl tt
 
@@ -202,9 +202,9 @@ forwards_only n s k (Some c) m =
 
 acts_only : (n : List ℕ) (s : State) (k : Peer) (m : List ℕ) (x : Step) → EndsOnly n k (acts s k m x)
 acts_only n s k m (Ask who) = connects_only n s k who
-acts_only n s k m Carry = forwards_only n s k k.conn m
-acts_only n s k m (Answer octets) = does_only n s k (Answer octets)
-acts_only n s k m (ReplyClose octets c) = does_only n s k (ReplyClose octets c)
+acts_only n s k m Up = forwards_only n s k k.conn m
+acts_only n s k m (Put octets) = does_only n s k (Put octets)
+acts_only n s k m (PutClose octets c) = does_only n s k (PutClose octets c)
 acts_only n s k m (Close c) = does_only n s k (Close c)
 acts_only n s k m NoStep = does_only n s k NoStep
 

@@ -19,7 +19,7 @@ use Rattle.bsc_checks.specs.Outcomes.{outcome_of}
 use Rattle.bsc_accept.specs.declared.event.Event.{Event}
 use Rattle.bsc_accept.specs.declared.event.Event.TheVariants.{Message as Came, Refused as WasRefused, Tick}
 use Rattle.bsc_accept.specs.declared.step.Step.{Step}
-use Rattle.bsc_accept.specs.declared.step.Step.TheVariants.{Ask, Reply as Answer, ReplyClose, Carry, Close, Nothing as NoStep}
+use Rattle.bsc_accept.specs.declared.step.Step.TheVariants.{Ask, Put, PutClose, Up, Close, Nothing as NoStep}
 use Rattle.bsc_accept.specs.Past.{phase, phase_named, standing}
 use Rattle.bsc_script.specs.declared.line.Line.{Line}
 use Rattle.bsc_script.specs.declared.line.Line.TheVariants.{Nothing, Hub, Open, In as InLine, Text, Drop, Hold, Free, At, Stop, Counts}
@@ -51,9 +51,9 @@ ends_sound s h k m = leaving_sound s h k m k.conn refl
 
 pub does_sound : (s : State) → IsSound s → (k : Peer) → In k s.peers → (x : Step) → IsSound (does s k x).state
 does_sound s h k m (Ask who) = h
-does_sound s h k m (Answer octets) = h
-does_sound s h k m (ReplyClose octets c) = ends_sound s h k m
-does_sound s h k m Carry = h
+does_sound s h k m (Put octets) = h
+does_sound s h k m (PutClose octets c) = ends_sound s h k m
+does_sound s h k m Up = h
 does_sound s h k m (Close c) = ends_sound s h k m
 does_sound s h k m NoStep = h
 
@@ -124,11 +124,11 @@ receives_sound s h k m i = by (step_of s k e) refl
         let passes : outcome_of m (HubPort (phase_named (standing k.events))) s.about.hub.max_bvlc ≡ Pass a.0 = a.1 in
         let node = asks_for_node m s.about.hub.max_bvlc a.0 who (ap (λ p. outcome_of m (HubPort p) s.about.hub.max_bvlc) (sym awaits) ∙ passes) a.3 in
         connects_sound t sound j who here ((h.peers k i).waits awaits) node.0 node.1
-    by Carry is =
+    by Up is =
         let a = carries_by (standing k.events) (verdict_on s k m) (sym is) in
         forwards_sound t sound j m here (routes m (phase k.events) s.about.hub.max_bvlc a.0 a.1) j.conn refl
-    by (Answer octets) is = does_sound t sound j here (Answer octets)
-    by (ReplyClose octets c) is = does_sound t sound j here (ReplyClose octets c)
+    by (Put octets) is = does_sound t sound j here (Put octets)
+    by (PutClose octets c) is = does_sound t sound j here (PutClose octets c)
     by (Close c) is = does_sound t sound j here (Close c)
     by NoStep is = does_sound t sound j here NoStep
 
@@ -141,9 +141,9 @@ leaving_stays s k q (Some c) m isnt = In_kept (λ p. not (is_named k.name p)) q 
 
 does_stays : (s : State) (k q : Peer) (x : Step) → In q s.peers → is_named k.name q ≡ false → In q (does s k x).state.peers
 does_stays s k q (Ask who) m isnt = m
-does_stays s k q (Answer octets) m isnt = m
-does_stays s k q (ReplyClose octets c) m isnt = leaving_stays s k q k.conn m isnt
-does_stays s k q Carry m isnt = m
+does_stays s k q (Put octets) m isnt = m
+does_stays s k q (PutClose octets c) m isnt = leaving_stays s k q k.conn m isnt
+does_stays s k q Up m isnt = m
 does_stays s k q (Close c) m isnt = leaving_stays s k q k.conn m isnt
 does_stays s k q NoStep m isnt = m
 

@@ -11,7 +11,7 @@ use Rattle.bsc_history.specs.Laws.{Apart}
 use Rattle.bsc_accept.specs.declared.event.Event.{Event}
 use Rattle.bsc_accept.specs.declared.event.Event.TheVariants.{Message as Came, Joined as HasJoined, Refused as WasRefused, Tick}
 use Rattle.bsc_accept.specs.declared.step.Step.{Step}
-use Rattle.bsc_accept.specs.declared.step.Step.TheVariants.{Ask, Reply as Answer, ReplyClose, Carry, Close, Nothing as NoStep}
+use Rattle.bsc_accept.specs.declared.step.Step.TheVariants.{Ask, Put, PutClose, Up, Close, Nothing as NoStep}
 use Rattle.bsc_script.specs.Written.{says}
 use Rattle.bsc_lines.specs.Replies.{forward_words}
 use Rattle.bsc_script.specs.States.{State, Peer, is_named, has_joined_as, told, joined_as, with_peer}
@@ -87,9 +87,9 @@ ends_one n s k h = left_one n s k k.conn h
 
 does_one : (n : List ℕ) (s : State) (k : Peer) (x : Step) → OneIn n s → OneIn n (does s k x).state
 does_one n s k (Ask who) h = h
-does_one n s k (Answer octets) h = h
-does_one n s k (ReplyClose octets c) h = ends_one n s k h
-does_one n s k Carry h = h
+does_one n s k (Put octets) h = h
+does_one n s k (PutClose octets c) h = ends_one n s k h
+does_one n s k Up h = h
 does_one n s k (Close c) h = ends_one n s k h
 does_one n s k NoStep h = h
 
@@ -120,9 +120,9 @@ forwards_one n s k (Some c) m h =
 
 acts_one : (n : List ℕ) (s : State) (k : Peer) (m : List ℕ) (x : Step) → OneIn n s → OneIn n (acts s k m x).state
 acts_one n s k m (Ask who) h = connects_one n s k who h
-acts_one n s k m Carry h = forwards_one n s k k.conn m h
-acts_one n s k m (Answer octets) h = h
-acts_one n s k m (ReplyClose octets c) h = ends_one n s k h
+acts_one n s k m Up h = forwards_one n s k k.conn m h
+acts_one n s k m (Put octets) h = h
+acts_one n s k m (PutClose octets c) h = ends_one n s k h
 acts_one n s k m (Close c) h = ends_one n s k h
 acts_one n s k m NoStep h = h
 

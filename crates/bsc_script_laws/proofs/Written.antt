@@ -14,7 +14,7 @@ use Rattle.bsc_history.specs.Replies.{is_stopped}
 use Rattle.bsc_accept.specs.declared.event.Event.{Event}
 use Rattle.bsc_accept.specs.declared.event.Event.TheVariants.{Message as Came, Joined as HasJoined, Refused as WasRefused, Ended, Tick}
 use Rattle.bsc_accept.specs.declared.step.Step.{Step}
-use Rattle.bsc_accept.specs.declared.step.Step.TheVariants.{Ask, Reply as Answer, ReplyClose, Carry, Close, Nothing as NoStep}
+use Rattle.bsc_accept.specs.declared.step.Step.TheVariants.{Ask, Put, PutClose, Up, Close, Nothing as NoStep}
 use Rattle.bsc_script.specs.declared.line.Line.{Line}
 use Rattle.bsc_script.specs.declared.line.Line.TheVariants.{Nothing, Hub, Open, In, Text, Drop, Hold, Free, At, Stop, Counts}
 use Rattle.bsc_script.specs.Written.{Said, says}
@@ -92,9 +92,9 @@ ends_frames n F s k h = leaving_frames n F s k k.conn h
 
 does_frames : (n : List ℕ) (F : List (List ℕ)) (s : State) (k : Peer) (x : Step) → HaveFrames n F s → HaveFrames n F (does s k x).state
 does_frames n F s k (Ask who) h = h
-does_frames n F s k (Answer octets) h = h
-does_frames n F s k (ReplyClose octets c) h = ends_frames n F s k h
-does_frames n F s k Carry h = h
+does_frames n F s k (Put octets) h = h
+does_frames n F s k (PutClose octets c) h = ends_frames n F s k h
+does_frames n F s k Up h = h
 does_frames n F s k (Close c) h = ends_frames n F s k h
 does_frames n F s k NoStep h = h
 
@@ -126,9 +126,9 @@ forwards_frames n F s k (Some c) m h =
 
 acts_frames : (n : List ℕ) (F : List (List ℕ)) (s : State) (k : Peer) (m : List ℕ) (x : Step) → HasFrames n F k → HaveFrames n F s → HaveFrames n F (acts s k m x).state
 acts_frames n F s k m (Ask who) has h = connects_frames n F s k who has h
-acts_frames n F s k m Carry has h = forwards_frames n F s k k.conn m h
-acts_frames n F s k m (Answer octets) has h = h
-acts_frames n F s k m (ReplyClose octets c) has h = ends_frames n F s k h
+acts_frames n F s k m Up has h = forwards_frames n F s k k.conn m h
+acts_frames n F s k m (Put octets) has h = h
+acts_frames n F s k m (PutClose octets c) has h = ends_frames n F s k h
 acts_frames n F s k m (Close c) has h = ends_frames n F s k h
 acts_frames n F s k m NoStep has h = h
 
@@ -233,9 +233,9 @@ other_left n s k (Some c) other = find_without n k.name s.peers other
 
 other_done : (n : List ℕ) (s : State) (k : Peer) (x : Step) → k.name ≢ n → peer_of (does s k x).state n ≡ peer_of s n
 other_done n s k (Ask who) other = refl
-other_done n s k (Answer octets) other = refl
-other_done n s k (ReplyClose octets c) other = other_left n s k k.conn other
-other_done n s k Carry other = refl
+other_done n s k (Put octets) other = refl
+other_done n s k (PutClose octets c) other = other_left n s k k.conn other
+other_done n s k Up other = refl
 other_done n s k (Close c) other = other_left n s k k.conn other
 other_done n s k NoStep other = refl
 

@@ -29,7 +29,7 @@ use Rattle.bsc_accept.specs.declared.event.Event.{Event}
 use Rattle.bsc_accept.specs.declared.farewell.Farewell.{Farewell}
 use Rattle.bsc_accept.specs.declared.event.Event.TheVariants.{Joined as JoinedEvent, Refused as RefusedEvent}
 use Rattle.bsc_accept.specs.declared.step.Step.{Step}
-use Rattle.bsc_accept.specs.declared.step.Step.TheVariants.{Ask, Reply as ReplyStep, ReplyClose, Carry, Close, Nothing}
+use Rattle.bsc_accept.specs.declared.step.Step.TheVariants.{Ask, Put, PutClose, Up, Close, Nothing}
 use Rattle.bsc_accept.specs.Kept.{moved}
 use Rattle.bsc_accept.specs.Past.{Standing as MachineStanding, awaiting_request, connected, disconnecting, farewell_at, is_joined, standing, until_farewell}
 use Rattle.bsc_accept.specs.Standing.{Answers as MachineAnswers, IsOpen, LeftBy, StandsFor}
@@ -61,9 +61,9 @@ no_stop_closes (Some f) s h = cc
 pub left_open : (st : Step) (m : Accepting) (fault : Option LinkFault) (why : Why) (stop : Option Stop) → LeftBy st m → calls st ≡ false
     → stop ≡ first_of (stop_if fault) (closes why (closing_in st)) → stop ≡ None → IsOpen m
 left_open (Ask who) m fault why stop left calls is going = cc
-left_open (ReplyStep o) m fault why stop left calls is going = left
-left_open (ReplyClose o c) m fault why stop left calls is going = absurd (no_stop_closes fault _ (sym going ∙ is))
-left_open Carry m fault why stop left calls is going = cc
+left_open (Put o) m fault why stop left calls is going = left
+left_open (PutClose o c) m fault why stop left calls is going = absurd (no_stop_closes fault _ (sym going ∙ is))
+left_open Up m fault why stop left calls is going = cc
 left_open (Close c) m fault why stop left calls is going = absurd (no_stop_closes fault _ (sym going ∙ is))
 left_open Nothing m fault why stop left calls is going = left
 

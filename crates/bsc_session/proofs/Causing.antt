@@ -12,7 +12,7 @@ use Rattle.bsc_edge.specs.declared.incoming.Incoming.{Incoming}
 use Rattle.bsc_edge.specs.declared.incoming.Incoming.TheVariants.{Message, Text, Quiet, Closed}
 use Rattle.bsc_accept.specs.declared.closing.Closing.{Closing}
 use Rattle.bsc_accept.specs.declared.step.Step.{Step}
-use Rattle.bsc_accept.specs.declared.step.Step.TheVariants.{Ask, Carry}
+use Rattle.bsc_accept.specs.declared.step.Step.TheVariants.{Ask, Up}
 use Rattle.bsc_session.specs.declared.why.Why.{Why}
 use Rattle.bsc_session.specs.declared.why.Why.TheVariants.{PeerClosed, NotBinary, PeerLeft, Refused, WaitExpired, Idle, EndedBy, Worn, LinkFault as WhyLinkFault, NoMemory, Spent, Denied, JournalFault}
 use Rattle.bsc_lines.specs.declared.denial.Denial.{Denial}
@@ -117,7 +117,7 @@ left_ends : (x : List ℕ) (v : Terms) (s : Standing) (st : Step) (a : Option An
 left_ends x v s (Ask who) (Some (replies at l (RefusedReply r))) stop h fits is calls = rw (closes_why (Refused r) (closing_in (last_wanted v s (Ask who) (Some (replies at l (RefusedReply r))))) stop is) (refused x at l r)
 left_ends x v s (Ask who) (Some (replies at l (Joined c y))) stop h fits is calls = rw (closes_why PeerLeft (closing_in (last_wanted v s (Ask who) (Some (replies at l (Joined c y))))) stop is) (left x (Some (replies at l (Joined c y))) refl (joined_refused at l c y))
 left_ends x v s (Ask who) a stop h fits is calls = cc
-left_ends x v s Carry a stop h fits is calls = cc
+left_ends x v s Up a stop h fits is calls = cc
 left_ends x v s st None stop h fits is calls = rw (closes_why PeerLeft (closing_in (last_wanted v s st None)) stop is) (left x None refl none_refused)
 left_ends x v s st (Some a) stop h fits is calls = cc
 
@@ -137,7 +137,7 @@ message_ends : (x : List ℕ) (v : Terms) (s : Standing) (st : Step) (d : Option
 message_ends x v s st None a fault stop calls fits put is = answered_ends x v s st a fault stop calls fits put is
 message_ends x v s st (Some d) (Some a) fault stop calls fits put is = cc
 message_ends x v s (Ask who) (Some d) None fault stop calls fits put is = rw (no_put fault put, why_is _ stop is) (denied x)
-message_ends x v s Carry (Some d) None fault stop calls fits put is = (let k : None ≡ Some stop = rw (no_put fault put) at is in cc)
+message_ends x v s Up (Some d) None fault stop calls fits put is = (let k : None ≡ Some stop = rw (no_put fault put) at is in cc)
 message_ends x v s st (Some d) None fault stop calls fits put is = answered_ends x v s st None fault stop refl fits put is
 
 judged_ends : (x : List ℕ) (v : Terms) (s0 s : Standing) (now : ℕ) (judged : Bool) (d : Option Denial) (a : Option Answer) (fault : Option LinkFault) (stop : Stop)

@@ -10,7 +10,7 @@ use Rattle.bsc_edge.specs.declared.said.Said.{Said}
 use Rattle.bsc_edge.specs.declared.said.Said.TheVariants.{Gave}
 use Rattle.bsc_accept.specs.declared.closing.Closing.{Closing}
 use Rattle.bsc_accept.specs.declared.step.Step.{Step}
-use Rattle.bsc_accept.specs.declared.step.Step.TheVariants.{Ask, Reply, ReplyClose, Carry, Close, Nothing}
+use Rattle.bsc_accept.specs.declared.step.Step.TheVariants.{Ask, Put, PutClose, Up, Close, Nothing}
 use Rattle.bsc_lines.specs.declared.denial.Denial.{Denial}
 use Rattle.bsc_session.specs.declared.why.Why.{Why}
 use Rattle.bsc_session.specs.declared.stop.Stop.{Stop}
@@ -121,9 +121,9 @@ well_opening v s o h = well_stop _ (put_first v s o) o.lost o.fault _ h
 pub nothing_put : (v : Terms) (s : Standing) (st : Step) (a : Answer) → (a ≡ worn) ⊎ (a ≡ no_memory) → true ≡ calls st → octets_in (last_wanted v s st (Some a)) ≡ []
 nothing_put v s (Ask who) a (inl h) calls = rw h refl
 nothing_put v s (Ask who) a (inr h) calls = rw h refl
-nothing_put v s Carry a h calls = refl
-nothing_put v s (Reply o) a h calls = cc
-nothing_put v s (ReplyClose o c) a h calls = cc
+nothing_put v s Up a h calls = refl
+nothing_put v s (Put o) a h calls = cc
+nothing_put v s (PutClose o c) a h calls = cc
 nothing_put v s (Close c) a h calls = cc
 nothing_put v s Nothing a h calls = cc
 

@@ -26,7 +26,7 @@ use Rattle.bsc_accept.specs.declared.closing.Closing.{Closing}
 use Rattle.bsc_accept.specs.declared.stage.Stage.{Stage}
 use Rattle.bsc_accept.specs.declared.stage.Stage.TheVariants.{Idle}
 use Rattle.bsc_accept.specs.declared.step.Step.{Step}
-use Rattle.bsc_accept.specs.declared.step.Step.TheVariants.{Ask, Carry, Close, Nothing}
+use Rattle.bsc_accept.specs.declared.step.Step.TheVariants.{Ask, Up, Close, Nothing}
 use Rattle.bsc_accept.specs.Messages.{is_farewell_answer, who_asks}
 use Rattle.bsc_accept.specs.Past.{Standing as MachineStanding, awaiting_request, connected, disconnecting, phase, phase_named, standing}
 use Rattle.bsc_accept.specs.Standing.{Answers as MachineAnswers, IsOpen, IsOver, LeftBy, StandsFor, is_open}
@@ -61,7 +61,7 @@ is_conn : (m : Option Member) (c : ℕ) (n : Member) → m ≡ Some n → n.conn
 is_conn m c n is e = rw (is, e) refl
 
 forward_called : (v : Terms) (s : Standing) (p : CallerPass) (m : List ℕ) (c : ℕ) (answer : Answer) → number_of p ≡ v.caller → s.conn ≡ Some c
-    → forward_made (number_of p) c m answer ≡ called v s Carry (Ok (Message m)) (Some answer)
+    → forward_made (number_of p) c m answer ≡ called v s Up (Ok (Message m)) (Some answer)
 forward_called v s p m c (replies at looks reply) n is = rw (n, is) refl
 forward_called v s p m c worn n is = refl
 forward_called v s p m c no_memory n is = refl
@@ -82,15 +82,15 @@ no_put None = tt
 no_put (Some lost) = tt
 
 -- what is noted of a message that is forwarded: the entry, where the hub's answer makes one
-noted_forward : (v : Terms) (s : Standing) (p : CallerPass) (m : List ℕ) (c : ℕ) (answer : Answer) → number_of p ≡ v.caller → s.conn ≡ Some c → denied_in v s Carry (Ok (Message m)) ≡ None
-    → made_at (Some answer) (forward_made (number_of p) c m answer) ≡ noted v s Carry (Ok (Message m)) (Some answer)
+noted_forward : (v : Terms) (s : Standing) (p : CallerPass) (m : List ℕ) (c : ℕ) (answer : Answer) → number_of p ≡ v.caller → s.conn ≡ Some c → denied_in v s Up (Ok (Message m)) ≡ None
+    → made_at (Some answer) (forward_made (number_of p) c m answer) ≡ noted v s Up (Ok (Message m)) (Some answer)
 noted_forward v s p m c answer n is free = rw free (ap (made_at (Some answer)) (forward_called v s p m c answer n is))
 
 -- a forward's answer stops the session, or it goes on as it stood
 pub carry_answers : (h : Hub) (v : Terms) (s : Standing) (p q : CallerPass) (a : At) (m : List ℕ) (n : Member) (old new : Option (List Said)) (pages pages' : Option (List ℕ)) (stop : Option Stop)
-    → Held h v p a s → StandsFor a.machine (start_of v s) s.events → Tied s → LeftBy Carry a.machine → a.member ≡ Some n → denied_in v s Carry (Ok (Message m)) ≡ None
+    → Held h v p a s → StandsFor a.machine (start_of v s) s.events → Tied s → LeftBy Up a.machine → a.member ≡ Some n → denied_in v s Up (Ok (Message m)) ≡ None
     → Forwards h p q n.conn m old new pages pages' stop
-    → Answers v s Carry (Ok (Message m)) h p q a a old new pages pages' stop
+    → Answers v s Up (Ok (Message m)) h p q a a old new pages pages' stop
 carry_answers h v s p q a m n old new pages pages' stop held stood tied left is free f =
     let conn : s.conn ≡ Some n.conn = sym held.follows.conn ∙ is_conn a.member n.conn n is refl in
     let notes = noted_forward v s p m n.conn f.answer held.number conn free in
@@ -123,14 +123,14 @@ from_member : (m : Option Member) (n : Member) → m ≡ Some n → address_by m
 from_member m n is = ap address_by is
 
 pub message_so : (v : Terms) (s : Standing) (policy : Option Policy) (a : At) (n : Member) (m : List ℕ) (o : Option Denial) → v.policy ≡ policy → Follows a s → a.member ≡ Some n → denied_message policy (Some n.address) m ≡ o
-    → denied_in v s Carry (Ok (Message m)) ≡ o
+    → denied_in v s Up (Ok (Message m)) ≡ o
 message_so v s policy a n m o fixed f is denies = ap (λ x. denied_message x s.address m) fixed ∙ ap (λ x. denied_message policy x m) (sym f.address ∙ from_member a.member n is) ∙ denies
 
 -- a unicast that is denied is noted, and else the session goes on as it stood
 pub carry_denied : (h : Hub) (v : Terms) (s : Standing) (p : CallerPass) (a : At) (m : List ℕ) (denial : Denial) (old : Option (List Said)) (pages pages' : Option (List ℕ)) (lost : Option LinkFault) (stop : Option Stop)
-    → Held h v p a s → StandsFor a.machine (start_of v s) s.events → Tied s → LeftBy Carry a.machine → denied_in v s Carry (Ok (Message m)) ≡ Some denial
+    → Held h v p a s → StandsFor a.machine (start_of v s) s.events → Tied s → LeftBy Up a.machine → denied_in v s Up (Ok (Message m)) ≡ Some denial
     → Records pages pages' (denied denial ∷ []) lost → stop ≡ stop_lost lost
-    → Answers v s Carry (Ok (Message m)) h p p a a old old pages pages' stop
+    → Answers v s Up (Ok (Message m)) h p p a a old old pages pages' stop
 carry_denied h v s p a m denial old pages pages' lost stop held stood tied left is records by = record {
   answer = None;
   lost = lost;
@@ -180,7 +180,7 @@ pub carried_answers : (h : Hub) (v : Terms) (s : Standing) (p : CallerPass) (a :
     → Held h v p a s → StandsFor a.machine (start_of v s) s.events → Tied s → LeftBy st a.machine → calls st ≡ false → Carries old new st PeerLeft stop
     → Answers v s st (Ok (Message m)) h p p a a old new pages pages stop
 carried_answers h v s p a m (Ask who) old new pages stop held stood tied left none k = cc
-carried_answers h v s p a m Carry old new pages stop held stood tied left none k = cc
+carried_answers h v s p a m Up old new pages stop held stood tied left none k = cc
 carried_answers h v s p a m st old new pages stop held stood tied left none k = record {
   answer = None;
   lost = None;
@@ -202,7 +202,7 @@ carried_answers h v s p a m st old new pages stop held stood tied left none k = 
 
 -- ---- which step a message brings
 
-no_carries : (b : Bool) (c : Closing) → cond b (Close c) Nothing ≡ Carry → ⊥
+no_carries : (b : Bool) (c : Closing) → cond b (Close c) Nothing ≡ Up → ⊥
 no_carries true c h = cc
 no_carries false c h = cc
 
@@ -213,7 +213,7 @@ record IsAsked (g : MachineStanding) (verdict : Verdict) (who : Identity) : Type
   passes : verdict ≡ Pass msg
   says : who_asks msg.body ≡ Some who
 
-carries_by : (g : MachineStanding) (verdict : Verdict) → message_step g verdict ≡ Carry → (e : Envelope) × (verdict ≡ Carried e)
+carries_by : (g : MachineStanding) (verdict : Verdict) → message_step g verdict ≡ Up → (e : Envelope) × (verdict ≡ Carried e)
 carries_by awaiting_request (Pass msg) h = absurd (no_ask_carries (who_asks msg.body) h)
 carries_by connected (Pass msg) h = absurd (connected_carries msg.id msg.body h)
 carries_by (disconnecting f) (Pass msg) h = absurd (no_carries (is_farewell_answer f.id msg) normal h)
@@ -231,7 +231,7 @@ some_of None c h k = (let e = sym h in let z : true ≡ is_some (conn_of None) =
 some_of (Some n) c h k = refl
 
 pub carries_so : (v : Terms) (s : Standing) (a : At) (now : ℕ) (verdict : Verdict) (m : Accepting) (st : Step) (P : Type 0)
-    → Runs v a s → MachineAnswers a.machine m (Came now verdict) st → st ≡ Carry
+    → Runs v a s → MachineAnswers a.machine m (Came now verdict) st → st ≡ Up
     → ((e : Envelope) → verdict ≡ Carried e → P) → P
 carries_so v s a now verdict m st P runs answers is so =
     let does = answers (start_of v s) s.events runs.machine in

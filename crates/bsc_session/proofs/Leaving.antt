@@ -15,7 +15,7 @@ use Rattle.bsc_edge.specs.declared.incoming.Incoming.{Incoming}
 use Rattle.bsc_edge.specs.declared.incoming.Incoming.TheVariants.{Message, Text, Quiet, Closed}
 use Rattle.bsc_accept.specs.declared.closing.Closing.{Closing}
 use Rattle.bsc_accept.specs.declared.step.Step.{Step}
-use Rattle.bsc_accept.specs.declared.step.Step.TheVariants.{Ask, ReplyClose, Carry, Close}
+use Rattle.bsc_accept.specs.declared.step.Step.TheVariants.{Ask, PutClose, Up, Close}
 use Rattle.bsc_accept.specs.Messages.{disconnect_ack, octets_of, who_asks}
 use Rattle.bsc_accept.specs.Past.{Standing as MachineStanding, awaiting_request, connected, disconnecting, phase_named, standing}
 use Rattle.bsc_accept.specs.Steps.{ask_step, connected_step, message_step, normal}
@@ -104,8 +104,8 @@ step_left v s (Ask who) (Some (replies at l (RefusedReply r))) stop is calls fit
     let k : Refused r ≡ PeerLeft = sym (closes_why (Refused r) (closing_in (last_wanted v s (Ask who) (Some (replies at l (RefusedReply r))))) stop is) ∙ why in cc
 step_left v s (Ask who) (Some (replies at l (Joined c y))) stop is calls fits why = cc
 step_left v s (Ask who) a stop is calls fits why = cc
-step_left v s Carry a stop is calls fits why = cc
-step_left v s (ReplyClose o c) a stop is calls fits why = (c, refl)
+step_left v s Up a stop is calls fits why = cc
+step_left v s (PutClose o c) a stop is calls fits why = (c, refl)
 step_left v s (Close c) a stop is calls fits why = (c, refl)
 step_left v s st None stop is calls fits why = cc
 step_left v s st (Some a) stop is calls fits why = cc
@@ -128,7 +128,7 @@ message_left : (v : Terms) (s : Standing) (st : Step) (d : Option Denial) (a : O
 message_left v s st None a fault stop calls fits is why = answered_left v s st a fault stop calls fits is why
 message_left v s st (Some d) (Some a) fault stop calls fits is why = cc
 message_left v s (Ask who) (Some d) None fault stop calls fits is why = (let k : Denied 0 ≡ PeerLeft = sym (why_is _ stop is) ∙ why in cc)
-message_left v s Carry (Some d) None fault stop calls fits is why = absurd (carried_left v s fault stop is why)
+message_left v s Up (Some d) None fault stop calls fits is why = absurd (carried_left v s fault stop is why)
 message_left v s st (Some d) None fault stop calls fits is why = answered_left v s st None fault stop refl fits is why
 
 judged_left : (v : Terms) (s0 s : Standing) (now : ℕ) (m : List ℕ) (judged : Bool) (d : Option Denial) (a : Option Answer) (lost fault : Option LinkFault) (stop : Stop) → (has_quit (standing s0.events) ≡ true → ⊥)
@@ -152,18 +152,18 @@ given_left v s0 s now (Ok Quiet) judged d a lost fault stop quit calls fits is w
 given_left v s0 s now (Ok (Message m)) judged d a lost fault stop quit calls fits is why = judged_left v s0 s now m judged d a lost fault stop quit calls fits is why
 
 -- where a Disconnect-Request was answered, it is so that the session stops
-departs_step : (g : MachineStanding) (x : Verdict) (msg : Bvlc) → phase_named g ≡ Connected → x ≡ Pass msg → msg.body ≡ DisconnectRequest → message_step g x ≡ ReplyClose (octets_of (disconnect_ack msg.id)) normal
+departs_step : (g : MachineStanding) (x : Verdict) (msg : Bvlc) → phase_named g ≡ Connected → x ≡ Pass msg → msg.body ≡ DisconnectRequest → message_step g x ≡ PutClose (octets_of (disconnect_ack msg.id)) normal
 departs_step awaiting_request x msg live is leaves = cc
 departs_step connected x msg live is leaves = rw (is, leaves) refl
 departs_step (disconnecting f) x msg live is leaves = cc
 
-closing_stops : (v : Terms) (s : Standing) (o : ArrayVec ℕ) (c : Closing) (d : Option Denial) (a : Option Answer) (stop : Stop) → is_some a ≡ is_none d && calls (ReplyClose o c) → stop_message v s (ReplyClose o c) d a None None ≡ Some stop → stop.why ≡ PeerLeft
+closing_stops : (v : Terms) (s : Standing) (o : ArrayVec ℕ) (c : Closing) (d : Option Denial) (a : Option Answer) (stop : Stop) → is_some a ≡ is_none d && calls (PutClose o c) → stop_message v s (PutClose o c) d a None None ≡ Some stop → stop.why ≡ PeerLeft
 closing_stops v s o c None None stop calls is = why_is (stop_for PeerLeft (Some c)) stop is
 closing_stops v s o c (Some d) None stop calls is = why_is (stop_for PeerLeft (Some c)) stop is
 closing_stops v s o c None (Some a) stop calls is = cc
 closing_stops v s o c (Some d) (Some a) stop calls is = cc
 
-step_stops : (v : Terms) (s : Standing) (st : Step) (o : ArrayVec ℕ) (c : Closing) (d : Option Denial) (a : Option Answer) (stop : Stop) → st ≡ ReplyClose o c → is_some a ≡ is_none d && calls st → stop_message v s st d a None None ≡ Some stop → stop.why ≡ PeerLeft
+step_stops : (v : Terms) (s : Standing) (st : Step) (o : ArrayVec ℕ) (c : Closing) (d : Option Denial) (a : Option Answer) (stop : Stop) → st ≡ PutClose o c → is_some a ≡ is_none d && calls st → stop_message v s st d a None None ≡ Some stop → stop.why ≡ PeerLeft
 step_stops v s st o c d a stop e calls is = closing_stops v s o c d a stop (rw e at calls) (rw e at is)
 
 answered_stops : (v : Terms) (s0 s : Standing) (now : ℕ) (given : Result Incoming LinkFault) (judged : Bool) (d : Option Denial) (a : Option Answer) (fault : Option LinkFault) (stop : Stop) (m : List ℕ) (msg : Bvlc)

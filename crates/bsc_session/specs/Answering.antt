@@ -14,7 +14,7 @@ use Rattle.bsc_edge.specs.declared.said.Said.TheVariants.{Gave}
 use Rattle.bsc_accept.specs.declared.event.Event.TheVariants.{Joined as JoinedEvent, Refused as RefusedEvent}
 use Rattle.bsc_accept.specs.declared.reason.Reason.TheVariants.{HubWorn, Nothing as NoReason, Policy as PolicyReason}
 use Rattle.bsc_accept.specs.declared.step.Step.{Step}
-use Rattle.bsc_accept.specs.declared.step.Step.TheVariants.{Ask, Carry, Nothing}
+use Rattle.bsc_accept.specs.declared.step.Step.TheVariants.{Ask, Up, Nothing}
 use Rattle.bsc_session.specs.declared.stop.Stop.{Stop}
 use Rattle.bsc_session.specs.declared.why.Why.{Why}
 use Rattle.bsc_session.specs.declared.why.Why.TheVariants.{Denied as WhyDenied, NotBinary, PeerClosed, PeerLeft, Refused as WhyRefused, Worn as WhyWorn}
@@ -32,7 +32,7 @@ use Rattle.bsc_session.specs.Stops.{closes, closing_in, first_of, stop_at, stop_
 -- Whether a step would call the hub.
 abbrev pub calls : Step → Bool
 calls (Ask who) = true
-calls Carry = true
+calls Up = true
 calls st = false
 
 -- What the policy denies of a step, where the session stands.
@@ -48,10 +48,10 @@ abbrev pub forwarded_by : Terms → Option ℕ → List ℕ → List Look → Re
 forwarded_by v None m looks reply = []
 forwarded_by v (Some c) m looks reply = record { caller = v.caller; call = Forward c m; looks = looks; reply = reply } ∷ []
 
--- The entry of the call: a Connect for an Ask, a Forward for a Carry, where the hub's answer makes one.
+-- The entry of the call: a Connect for an Ask, a Forward for an Up, where the hub's answer makes one.
 abbrev pub called : Terms → Standing → Step → Result Incoming LinkFault → Option Answer → List Entry
 called v s (Ask who) given (Some (replies at looks reply)) = record { caller = v.caller; call = Connect who; looks = looks; reply = reply } ∷ []
-called v s Carry (Ok (Message m)) (Some (replies at looks reply)) = forwarded_by v s.conn m looks reply
+called v s Up (Ok (Message m)) (Some (replies at looks reply)) = forwarded_by v s.conn m looks reply
 called v s st given answer = []
 
 -- What is noted then: the entry of the call with its place, or the denial.
@@ -69,7 +69,7 @@ abbrev pub last_wanted : Terms → Standing → Step → Option Answer → Step
 last_wanted v s (Ask who) (Some (replies at looks (Joined c replaced))) = wanted v s JoinedEvent
 last_wanted v s (Ask who) (Some (replies at looks (Refused r))) = wanted v s (RefusedEvent r)
 last_wanted v s (Ask who) answer = Nothing
-last_wanted v s Carry answer = Nothing
+last_wanted v s Up answer = Nothing
 last_wanted v s st answer = st
 
 -- Where the session stands after the hub's answer.
@@ -173,7 +173,7 @@ Fits (Ask who) (Some (replies at looks reply)) = ⊥
 Fits st answer = ⊤
 
 -- A hearing as it may be: memory for judging is wanting only where a message passes; the hub is called exactly at an Ask
--- and a Carry of which nothing is denied; a connect is told that it joined or was refused; a lost line is that of a note;
+-- and an Up of which nothing is denied; a connect is told that it joined or was refused; a lost line is that of a note;
 -- and a fault is that of a put.
 pub record IsHearing (v : Terms) (s : Standing) (now : ℕ) (h : Hearing) : Type 0 where
   pub memory : LacksAtPass v s h.judged h.given

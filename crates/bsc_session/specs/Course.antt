@@ -75,7 +75,7 @@ talk_of {v} c = shares said_in v begun (all_turns c) ++ said_closing c.stop.clos
 abbrev pub readings_of : {v : Terms} → Course v → List ℕ
 readings_of {v} c = shares reading_in v begun (all_turns c)
 
--- One Connect for each Ask, one Forward for each Carry, where the hub's answer makes an entry.
+-- One Connect for each Ask, one Forward for each Up, where the hub's answer makes an entry.
 abbrev pub entries_of : {v : Terms} → Course v → List Entry
 entries_of {v} c = shares entries_in v begun (all_turns c)
 

@@ -15,7 +15,7 @@ use Rattle.bsc_edge.specs.declared.fault.LinkFault.{LinkFault}
 use Rattle.bsc_edge.specs.declared.incoming.Incoming.{Incoming}
 use Rattle.bsc_edge.specs.declared.incoming.Incoming.TheVariants.{Message}
 use Rattle.bsc_accept.specs.declared.step.Step.{Step}
-use Rattle.bsc_accept.specs.declared.step.Step.TheVariants.{Ask, Carry}
+use Rattle.bsc_accept.specs.declared.step.Step.TheVariants.{Ask, Up}
 use Rattle.bsc_lines.specs.declared.denial.Denial.{Denial}
 use Rattle.bsc_lines.specs.declared.denial.Denial.TheVariants.{OfConnect, OfPair}
 
@@ -81,5 +81,5 @@ denials (Some p) to frames = denials_by p to frames
 -- What is denied of a step that would call the hub.
 abbrev pub denial_of : Option Policy → Option Vmac → Step → Result Incoming LinkFault → Option Denial
 denial_of policy address (Ask who) given = denied_connect policy who
-denial_of policy address Carry (Ok (Message m)) = denied_message policy address m
+denial_of policy address Up (Ok (Message m)) = denied_message policy address m
 denial_of policy address st given = None

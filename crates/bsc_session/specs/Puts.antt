@@ -4,12 +4,12 @@ use Rattle.bsc_edge.specs.declared.fault.LinkFault.{LinkFault}
 use Rattle.bsc_edge.specs.declared.said.Said.{Said}
 use Rattle.bsc_edge.specs.declared.said.Said.TheVariants.{Put}
 use Rattle.bsc_accept.specs.declared.step.Step.{Step}
-use Rattle.bsc_accept.specs.declared.step.Step.TheVariants.{Reply, ReplyClose}
+use Rattle.bsc_accept.specs.declared.step.Step.TheVariants.{Put as PutStep, PutClose}
 
 -- The octets that a step puts.
 abbrev pub octets_in : Step → List (List ℕ)
-octets_in (Reply o) = o.items ∷ []
-octets_in (ReplyClose o c) = o.items ∷ []
+octets_in (PutStep o) = o.items ∷ []
+octets_in (PutClose o c) = o.items ∷ []
 octets_in st = []
 
 -- These are put, in order, all answered well but the last where there is a fault.

@@ -265,8 +265,8 @@ fn answer<R: Wait, L: Link, J: Journal>(
     requires alone { (who : Identity) → step ≡ Step.Ask who → at.old.member ≡ None }
     requires not_zero { (who : Identity) → step ≡ Step.Ask who → IsFalse (same_vmac who.vmac zero_vmac) }
     requires not_broadcast { (who : Identity) → step ≡ Step.Ask who → IsFalse (same_vmac who.vmac broadcast) }
-    requires some { step ≡ Step.Carry → IsTrue (is_some at.old.member) }
-    requires route { step ≡ Step.Carry → IsTrue (has_route m.now) }
+    requires some { step ≡ Step.Up → IsTrue (is_some at.old.member) }
+    requires route { step ≡ Step.Up → IsTrue (has_route m.now) }
     ensures answered { (v : Terms) (s : Standing) → Held hub.now v pass.old at.old s
         → StandsFor at.old.machine (start_of v s) s.events → Tied s
         → v.policy ≡ option_map (λ p. p.now) policy.entry
@@ -281,7 +281,7 @@ fn answer<R: Wait, L: Link, J: Journal>(
             Some(denial) => Some(turned_away(alloc, journal, denial)),
             None => ask(rt, alloc, hub, pass, link, journal, at, who),
         },
-        Step::Carry => match &at.member {
+        Step::Up => match &at.member {
             Some(member) => match denied_message(policy, member.address, m) {
                 Some(denial) => stop_lost(note_denial(alloc, journal, denial)),
                 None => forward(
@@ -298,7 +298,7 @@ fn answer<R: Wait, L: Link, J: Journal>(
             },
             None => unreachable!(),
         },
-        Step::Reply(_) | Step::ReplyClose(_, _) | Step::Close(_) | Step::Nothing => {
+        Step::Put(_) | Step::PutClose(_, _) | Step::Close(_) | Step::Nothing => {
             carry_out(alloc, link, step, Why::PeerLeft)
         }
     }

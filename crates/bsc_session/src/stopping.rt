@@ -69,15 +69,15 @@ pub fn carry_out<L: Link>(alloc: Global, link: &mut L, step: Step, why: Why) -> 
     ensures recorded { (makes : Bool) (a b : ℕ) → UnputIf makes result a b }
 {
     match step {
-        Step::Reply(o) => match link.put(alloc, o.as_slice()) {
+        Step::Put(o) => match link.put(alloc, o.as_slice()) {
             Ok(()) => None,
             Err(fault) => Some(stop_at(fault)),
         },
-        Step::ReplyClose(o, closing) => match link.put(alloc, o.as_slice()) {
+        Step::PutClose(o, closing) => match link.put(alloc, o.as_slice()) {
             Ok(()) => Some(stop_closing(why, closing)),
             Err(fault) => Some(stop_at(fault)),
         },
         Step::Close(closing) => Some(stop_closing(why, closing)),
-        Step::Ask(_) | Step::Carry | Step::Nothing => None,
+        Step::Ask(_) | Step::Up | Step::Nothing => None,
     }
 }

@@ -52,9 +52,9 @@ fn closing_in(step: Step) -> Option<Closing>
     ensures { result ≡ closing_in step }
 {
     match step {
-        Step::ReplyClose(_, closing) => Some(closing),
+        Step::PutClose(_, closing) => Some(closing),
         Step::Close(closing) => Some(closing),
-        Step::Ask(_) | Step::Reply(_) | Step::Carry | Step::Nothing => None,
+        Step::Ask(_) | Step::Put(_) | Step::Up | Step::Nothing => None,
     }
 }
 

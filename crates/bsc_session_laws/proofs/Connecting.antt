@@ -21,7 +21,7 @@ use Rattle.bsc_edge.specs.declared.incoming.Incoming.{Incoming}
 use Rattle.bsc_edge.specs.declared.incoming.Incoming.TheVariants.{Closed, Message, Quiet, Text}
 use Rattle.bsc_edge.specs.declared.said.Said.{Said}
 use Rattle.bsc_accept.specs.declared.step.Step.{Step}
-use Rattle.bsc_accept.specs.declared.step.Step.TheVariants.{Ask, Reply as ReplyStep, ReplyClose, Carry, Close, Nothing}
+use Rattle.bsc_accept.specs.declared.step.Step.TheVariants.{Ask, Put, PutClose, Up, Close, Nothing}
 use Rattle.bsc_accept.specs.Messages.{is_farewell_answer, who_asks}
 use Rattle.bsc_accept.specs.Past.{Standing as MachineStanding, awaiting_request, connected as connected_now, disconnecting, phase, phase_named, standing}
 use Rattle.bsc_accept.specs.Steps.{ask_step, message_step, normal, passed_step}
@@ -68,12 +68,12 @@ forwards_connect_none v (Some c) m looks reply = refl
 -- a step that doesn't ask makes no Connect
 no_connect : (v : Terms) (s : Standing) (st : Step) (m : List ℕ) (answer : Option Answer) → ((who : Identity) → st ≡ Ask who → ⊥) → connected (called v s st (Ok (Message m)) answer) ≡ []
 no_connect v s (Ask who) m answer isnt = absurd (isnt who refl)
-no_connect v s (ReplyStep octets) m answer isnt = refl
-no_connect v s (ReplyClose octets c) m answer isnt = refl
-no_connect v s Carry m None isnt = refl
-no_connect v s Carry m (Some worn) isnt = refl
-no_connect v s Carry m (Some no_memory) isnt = refl
-no_connect v s Carry m (Some (replies place looks reply)) isnt = forwards_connect_none v s.conn m looks reply
+no_connect v s (Put octets) m answer isnt = refl
+no_connect v s (PutClose octets c) m answer isnt = refl
+no_connect v s Up m None isnt = refl
+no_connect v s Up m (Some worn) isnt = refl
+no_connect v s Up m (Some no_memory) isnt = refl
+no_connect v s Up m (Some (replies place looks reply)) isnt = forwards_connect_none v s.conn m looks reply
 no_connect v s (Close c) m answer isnt = refl
 no_connect v s Nothing m answer isnt = refl
 
@@ -120,7 +120,7 @@ verdict_connects : (v : Terms) (s x : Standing) (m : List ℕ) (answer : Option 
     (asked_by w ++ []) (connected (called v s (message_step (standing s.events) w) (Ok (Message m)) answer))
 verdict_connects v s x m answer lost fault (Pass msg) is calls =
     passed_connects v s x m answer lost fault msg (who_asks msg.body) refl (λ who asks. awaiting_named (standing s.events) (asked_awaiting m (phase s.events) v.hub.max_bvlc msg who is asks)) calls
-verdict_connects v s x m answer lost fault (Carried envelope) is calls = inl (sym (no_connect v s Carry m answer (λ who e. cc)))
+verdict_connects v s x m answer lost fault (Carried envelope) is calls = inl (sym (no_connect v s Up m answer (λ who e. cc)))
 verdict_connects v s x m answer lost fault (Silent check) is calls = inl refl
 verdict_connects v s x m answer lost fault (Nak check octets) is calls = inl refl
 

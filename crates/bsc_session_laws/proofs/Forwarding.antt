@@ -20,7 +20,7 @@ use Rattle.bsc_edge.specs.declared.said.Said.{Said}
 use Rattle.bsc_edge.specs.declared.said.Said.TheVariants.{Gave}
 use Rattle.bsc_accept.specs.declared.closing.Closing.{Closing}
 use Rattle.bsc_accept.specs.declared.step.Step.{Step}
-use Rattle.bsc_accept.specs.declared.step.Step.TheVariants.{Ask, Reply as ReplyStep, ReplyClose, Carry, Close, Nothing}
+use Rattle.bsc_accept.specs.declared.step.Step.TheVariants.{Ask, Put, PutClose, Up, Close, Nothing}
 use Rattle.bsc_accept.specs.Messages.{is_farewell_answer, who_asks}
 use Rattle.bsc_accept.specs.Past.{Standing as MachineStanding, awaiting_request, connected, disconnecting, phase, phase_named, standing}
 use Rattle.bsc_accept.specs.Steps.{message_step, normal, passed_step}
@@ -68,23 +68,23 @@ Unentered given answer m = (Some given ≡ Some (Ok (Message m))) × ((answer �
 -- ---- a hearing
 
 -- a step that doesn't carry makes no Forward
-no_forward : (v : Terms) (s : Standing) (st : Step) (given : Result Incoming LinkFault) (answer : Option Answer) → (st ≡ Carry → ⊥) → forwarded (called v s st given answer) ≡ []
+no_forward : (v : Terms) (s : Standing) (st : Step) (given : Result Incoming LinkFault) (answer : Option Answer) → (st ≡ Up → ⊥) → forwarded (called v s st given answer) ≡ []
 no_forward v s (Ask who) given None isnt = refl
 no_forward v s (Ask who) given (Some worn) isnt = refl
 no_forward v s (Ask who) given (Some no_memory) isnt = refl
 no_forward v s (Ask who) given (Some (replies place looks reply)) isnt = refl
-no_forward v s (ReplyStep octets) given answer isnt = refl
-no_forward v s (ReplyClose octets c) given answer isnt = refl
-no_forward v s Carry given answer isnt = absurd (isnt refl)
+no_forward v s (Put octets) given answer isnt = refl
+no_forward v s (PutClose octets c) given answer isnt = refl
+no_forward v s Up given answer isnt = absurd (isnt refl)
 no_forward v s (Close c) given answer isnt = refl
 no_forward v s Nothing given answer isnt = refl
 
-not_carried_parting : (b : Bool) → cond b (Close normal) Nothing ≡ Carry → ⊥
+not_carried_parting : (b : Bool) → cond b (Close normal) Nothing ≡ Up → ⊥
 not_carried_parting true e = cc
 not_carried_parting false e = cc
 
 -- what passes isn't carried
-passed_not_carried : (g : MachineStanding) (msg : Bvlc) → passed_step g msg ≡ Carry → ⊥
+passed_not_carried : (g : MachineStanding) (msg : Bvlc) → passed_step g msg ≡ Up → ⊥
 passed_not_carried awaiting_request msg e = not_carried_asked (who_asks msg.body) e
 passed_not_carried connected msg e = not_carried_connected msg.id msg.body e
 passed_not_carried (disconnecting f) msg e = not_carried_parting (is_farewell_answer f.id msg) e
@@ -106,7 +106,7 @@ lost_or (Some f) later some = λ e. cc
 
 -- what is carried is forwarded, where nothing is denied of it and the hub makes an entry
 carried_made : (v : Terms) (s x : Standing) (m : List ℕ) (envelope : Envelope) (d : Option Denial) (answer : Option Answer) (lost fault : Option LinkFault) → is_some s.conn ≡ true → is_some answer ≡ is_none d && true
-    → Lacks (Unentered (Ok (Message m)) answer) (stop_message v x Carry d answer lost fault) (allowed_by m (Carried envelope) d ++ []) (forwarded (called v s Carry (Ok (Message m)) answer))
+    → Lacks (Unentered (Ok (Message m)) answer) (stop_message v x Up d answer lost fault) (allowed_by m (Carried envelope) d ++ []) (forwarded (called v s Up (Ok (Message m)) answer))
 carried_made v s x m envelope (Some d) None lost fault own h = inl refl
 carried_made v s x m envelope (Some d) (Some a) lost fault own h = cc
 carried_made v s x m envelope None None lost fault own h = cc

@@ -29,7 +29,7 @@ use Rattle.bsc_edge.specs.declared.incoming.Incoming.TheVariants.{Closed, Messag
 use Rattle.bsc_edge.specs.declared.said.Said.{Said}
 use Rattle.bsc_accept.specs.declared.event.Event.TheVariants.{Refused as RefusedEvent}
 use Rattle.bsc_accept.specs.declared.step.Step.{Step}
-use Rattle.bsc_accept.specs.declared.step.Step.TheVariants.{Ask, Reply as ReplyStep, ReplyClose, Carry, Close, Nothing}
+use Rattle.bsc_accept.specs.declared.step.Step.TheVariants.{Ask, Put, PutClose, Up, Close, Nothing}
 use Rattle.bsc_accept.specs.Past.{Standing as MachineStanding, awaiting_request, connected, disconnecting, standing}
 use Rattle.bsc_accept.specs.Steps.{message_step}
 use Rattle.bsc_session.specs.declared.ended.Ended.{Ended}
@@ -91,9 +91,9 @@ placed_after v s t k = placed_heard v (opened s t.opening) t.opening.reading t.h
 
 same_address : (s : Standing) (st : Step) (a : Option Answer) → ((who : Identity) → st ≡ Ask who → ⊥) → (answered s st a).address ≡ s.address
 same_address s (Ask who) a not = absurd (not who refl)
-same_address s (ReplyStep octets) a not = refl
-same_address s (ReplyClose octets c) a not = refl
-same_address s Carry a not = refl
+same_address s (Put octets) a not = refl
+same_address s (PutClose octets c) a not = refl
+same_address s Up a not = refl
 same_address s (Close c) a not = refl
 same_address s Nothing a not = refl
 
@@ -275,13 +275,13 @@ connect_denied p end asks who false is among = ((who, among, refl, is), tt)
 step_denied : (p : Policy) (a end : Option Vmac) (asks : List Identity) (st : Step) (given : Result Incoming LinkFault) → ((who : Identity) → st ≡ Ask who → IsAmong who asks) → ((from : Vmac) → a ≡ Some from → end ≡ Some from)
     → AllByRecursion (DeniesIfNoted p end asks) (map denied (if_any (denial_of (Some p) a st given)))
 step_denied p a end asks (Ask who) given among at_end = connect_denied p end asks who (is_admitted p.members.items who) refl (among who refl)
-step_denied p a end asks Carry (Ok (Message m)) among at_end = message_denied p a end asks m at_end
-step_denied p a end asks Carry (Ok Closed) among at_end = tt
-step_denied p a end asks Carry (Ok Text) among at_end = tt
-step_denied p a end asks Carry (Ok Quiet) among at_end = tt
-step_denied p a end asks Carry (Err fault) among at_end = tt
-step_denied p a end asks (ReplyStep octets) given among at_end = tt
-step_denied p a end asks (ReplyClose octets c) given among at_end = tt
+step_denied p a end asks Up (Ok (Message m)) among at_end = message_denied p a end asks m at_end
+step_denied p a end asks Up (Ok Closed) among at_end = tt
+step_denied p a end asks Up (Ok Text) among at_end = tt
+step_denied p a end asks Up (Ok Quiet) among at_end = tt
+step_denied p a end asks Up (Err fault) among at_end = tt
+step_denied p a end asks (Put octets) given among at_end = tt
+step_denied p a end asks (PutClose octets c) given among at_end = tt
 step_denied p a end asks (Close c) given among at_end = tt
 step_denied p a end asks Nothing given among at_end = tt
 
@@ -326,17 +326,17 @@ called_allowed v p s (Ask who) given (Some (replies place looks reply)) end guar
 called_allowed v p s (Ask who) given (Some worn) end guarded own calls = tt
 called_allowed v p s (Ask who) given (Some no_memory) end guarded own calls = tt
 called_allowed v p s (Ask who) given None end guarded own calls = tt
-called_allowed v p s Carry (Ok (Message m)) (Some (replies place looks reply)) end guarded own calls =
+called_allowed v p s Up (Ok (Message m)) (Some (replies place looks reply)) end guarded own calls =
     forward_allowed v p s.conn s.address end m looks reply own (calls ∙ ap (λ (q : Option Policy). is_none (denied_message q s.address m) && true) guarded)
-called_allowed v p s Carry (Ok (Message m)) (Some worn) end guarded own calls = tt
-called_allowed v p s Carry (Ok (Message m)) (Some no_memory) end guarded own calls = tt
-called_allowed v p s Carry (Ok (Message m)) None end guarded own calls = tt
-called_allowed v p s Carry (Ok Closed) answer end guarded own calls = tt
-called_allowed v p s Carry (Ok Text) answer end guarded own calls = tt
-called_allowed v p s Carry (Ok Quiet) answer end guarded own calls = tt
-called_allowed v p s Carry (Err fault) answer end guarded own calls = tt
-called_allowed v p s (ReplyStep octets) given answer end guarded own calls = tt
-called_allowed v p s (ReplyClose octets c) given answer end guarded own calls = tt
+called_allowed v p s Up (Ok (Message m)) (Some worn) end guarded own calls = tt
+called_allowed v p s Up (Ok (Message m)) (Some no_memory) end guarded own calls = tt
+called_allowed v p s Up (Ok (Message m)) None end guarded own calls = tt
+called_allowed v p s Up (Ok Closed) answer end guarded own calls = tt
+called_allowed v p s Up (Ok Text) answer end guarded own calls = tt
+called_allowed v p s Up (Ok Quiet) answer end guarded own calls = tt
+called_allowed v p s Up (Err fault) answer end guarded own calls = tt
+called_allowed v p s (Put octets) given answer end guarded own calls = tt
+called_allowed v p s (PutClose octets c) given answer end guarded own calls = tt
 called_allowed v p s (Close c) given answer end guarded own calls = tt
 called_allowed v p s Nothing given answer end guarded own calls = tt
 

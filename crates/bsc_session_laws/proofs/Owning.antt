@@ -14,7 +14,7 @@ use Rattle.bsc_edge.specs.declared.incoming.Incoming.{Incoming}
 use Rattle.bsc_edge.specs.declared.incoming.Incoming.TheVariants.{Closed, Message, Quiet, Text}
 use Rattle.bsc_edge.specs.declared.said.Said.{Said}
 use Rattle.bsc_accept.specs.declared.step.Step.{Step}
-use Rattle.bsc_accept.specs.declared.step.Step.TheVariants.{Ask, Reply as ReplyStep, ReplyClose, Carry, Close, Nothing}
+use Rattle.bsc_accept.specs.declared.step.Step.TheVariants.{Ask, Put, PutClose, Up, Close, Nothing}
 use Rattle.bsc_accept.specs.Messages.{is_farewell_answer}
 use Rattle.bsc_accept.specs.Past.{Standing as MachineStanding, awaiting_request, connected, disconnecting, standing}
 use Rattle.bsc_accept.specs.Steps.{message_step}
@@ -58,9 +58,9 @@ heard_asks_for_none v s now false given who h e = cc
 
 same_conn : (s : Standing) (st : Step) (a : Option Answer) → ((who : Identity) → st ≡ Ask who → ⊥) → (answered s st a).conn ≡ s.conn
 same_conn s (Ask who) a not = absurd (not who refl)
-same_conn s (ReplyStep octets) a not = refl
-same_conn s (ReplyClose octets c) a not = refl
-same_conn s Carry a not = refl
+same_conn s (Put octets) a not = refl
+same_conn s (PutClose octets c) a not = refl
+same_conn s Up a not = refl
 same_conn s (Close c) a not = refl
 same_conn s Nothing a not = refl
 
@@ -98,16 +98,16 @@ own_called v s (Ask who) given (Some (replies place looks reply)) end keeps = ((
 own_called v s (Ask who) given (Some worn) end keeps = tt
 own_called v s (Ask who) given (Some no_memory) end keeps = tt
 own_called v s (Ask who) given None end keeps = tt
-own_called v s Carry (Ok (Message m)) (Some (replies place looks reply)) end keeps = own_forward v s.conn end m looks reply keeps
-own_called v s Carry (Ok (Message m)) (Some worn) end keeps = tt
-own_called v s Carry (Ok (Message m)) (Some no_memory) end keeps = tt
-own_called v s Carry (Ok (Message m)) None end keeps = tt
-own_called v s Carry (Ok Closed) answer end keeps = tt
-own_called v s Carry (Ok Text) answer end keeps = tt
-own_called v s Carry (Ok Quiet) answer end keeps = tt
-own_called v s Carry (Err fault) answer end keeps = tt
-own_called v s (ReplyStep octets) given answer end keeps = tt
-own_called v s (ReplyClose octets c) given answer end keeps = tt
+own_called v s Up (Ok (Message m)) (Some (replies place looks reply)) end keeps = own_forward v s.conn end m looks reply keeps
+own_called v s Up (Ok (Message m)) (Some worn) end keeps = tt
+own_called v s Up (Ok (Message m)) (Some no_memory) end keeps = tt
+own_called v s Up (Ok (Message m)) None end keeps = tt
+own_called v s Up (Ok Closed) answer end keeps = tt
+own_called v s Up (Ok Text) answer end keeps = tt
+own_called v s Up (Ok Quiet) answer end keeps = tt
+own_called v s Up (Err fault) answer end keeps = tt
+own_called v s (Put octets) given answer end keeps = tt
+own_called v s (PutClose octets c) given answer end keeps = tt
 own_called v s (Close c) given answer end keeps = tt
 own_called v s Nothing given answer end keeps = tt
 

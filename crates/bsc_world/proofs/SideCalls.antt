@@ -13,7 +13,7 @@ use Rattle.bsc_accept.specs.declared.start.Start.{Start}
 use Rattle.bsc_accept.specs.declared.event.Event.{Event}
 use Rattle.bsc_accept.specs.declared.event.Event.TheVariants.{Joined, Refused, Ended}
 use Rattle.bsc_accept.specs.declared.step.Step.{Step}
-use Rattle.bsc_accept.specs.declared.step.Step.TheVariants.{Ask, Reply, ReplyClose, Carry, Close, Nothing}
+use Rattle.bsc_accept.specs.declared.step.Step.TheVariants.{Ask, Put, PutClose, Up, Close, Nothing}
 use Rattle.bsc_accept.specs.Past.{Standing, connected, standing, phase_named}
 use Rattle.bsc_accept.specs.Kept.{moved}
 use Rattle.bsc_accept.specs.Steps.{step, closes as is_closing, ended_step, refused_step}
@@ -150,17 +150,17 @@ then_closes t u v l content g p q F w at s =
 pub close_goes : (t u v : KeptWorld) (l : ℕ) → Keeps (unless_over l (puts_now l Down Closed)) t u → BecomesBusy (Some l) None (unless_over l (leaves l)) u v → BecomesBusy (Some l) None (unless_over l (closes l)) t v
 close_goes t u v l p q = then_closes t u v l Closed (leaves l) p q
 
-pub reply_close_goes : (t u v : KeptWorld) (l : ℕ) (octets : List ℕ) → Keeps (unless_over l (puts_now l Down (Message octets))) t u → BecomesBusy (Some l) None (unless_over l (closes l)) u v
+pub put_close_goes : (t u v : KeptWorld) (l : ℕ) (octets : List ℕ) → Keeps (unless_over l (puts_now l Down (Message octets))) t u → BecomesBusy (Some l) None (unless_over l (closes l)) u v
     → BecomesBusy (Some l) None (unless_over l (in_order (puts_now l Down (Message octets) ∷ closes l ∷ []))) t v
-reply_close_goes t u v l octets p q = then_closes t u v l (Message octets) (closes l) p q
+put_close_goes t u v l octets p q = then_closes t u v l (Message octets) (closes l) p q
 
 -- ---- ready sides
 
 pub open_by : (s : Step) (m : Accepting) → LeftBy s m → is_closing s ≡ false → asks s ≡ false → is_open m.stage ≡ true
 open_by (Ask who) m h c a = absurd (true≢false a)
-open_by (Reply octets) m h c a = h
-open_by (ReplyClose octets x) m h c a = absurd (true≢false c)
-open_by Carry m h c a = h
+open_by (Put octets) m h c a = h
+open_by (PutClose octets x) m h c a = absurd (true≢false c)
+open_by Up m h c a = h
 open_by (Close x) m h c a = absurd (true≢false c)
 open_by Nothing m h c a = h
 
@@ -176,8 +176,8 @@ still_ready t l s c a ready kept side got is = ready_by s c a side (ready kept s
 became_settled : (t u : KeptWorld) (F : List LinkName) (l : ℕ) (w v : World) → Became t u F (Some l) w v → HasSide u l IsReady → Became t u F None w v
 became_settled t u F l w v p ready = record { clock = p.clock; spent = p.spent; now = p.now; steps = p.steps; links = p.links; delivered = p.delivered; stands = settles u F l v p.stands ready }
 
-pub reply_goes : (t u : KeptWorld) (l : ℕ) (f : Change) → Keeps (unless_over l f) t u → HasSide u l IsReady → BecomesBusy (Some l) None (unless_over l f) t u
-reply_goes t u l f p ready F w at s = became_settled t u F l w (unless_over l f w) (p (Some l) F w at s) ready
+pub put_step_goes : (t u : KeptWorld) (l : ℕ) (f : Change) → Keeps (unless_over l f) t u → HasSide u l IsReady → BecomesBusy (Some l) None (unless_over l f) t u
+put_step_goes t u l f p ready F w at s = became_settled t u F l w (unless_over l f w) (p (Some l) F w at s) ready
 
 pub idle_goes : (t : KeptWorld) (l : ℕ) → HasSide t l IsReady → BecomesBusy (Some l) None (unless_over l unchanged) t t
 idle_goes t l ready F w at s =

@@ -12,7 +12,7 @@ use Rattle.bsc_accept.specs.declared.start.Start.{Start}
 use Rattle.bsc_accept.specs.declared.event.Event.{Event}
 use Rattle.bsc_accept.specs.declared.event.Event.TheVariants.{Message as Came}
 use Rattle.bsc_accept.specs.declared.step.Step.{Step}
-use Rattle.bsc_accept.specs.declared.step.Step.TheVariants.{Ask, Reply, ReplyClose, Carry, Close, Nothing}
+use Rattle.bsc_accept.specs.declared.step.Step.TheVariants.{Ask, Put, PutClose, Up, Close, Nothing}
 use Rattle.bsc_accept.specs.Past.{Standing, awaiting_request, standing, phase, phase_named}
 use Rattle.bsc_accept.specs.Steps.{message_step}
 use Rattle.bsc_accept.specs.Standing.{StandsFor as MachineStandsFor, IsOpen, IsOver, phase_of, is_open}
@@ -57,17 +57,17 @@ fits_message m p max g v (Ask who) judged is =
     let a = asks_by g v who is in
     let node = asking_node m p max a.0 who (subst (Judged m (HubPort p) max) a.1 judged) a.3 in
     (other_vmac who.vmac zero_vmac node.reserved, other_vmac who.vmac broadcast node.broadcast)
-fits_message m p max g v Carry judged is = (let a = carries_by g v is in routed m p max a.0 (subst (Judged m (HubPort p) max) a.1 judged))
-fits_message m p max g v (Reply octets) judged is = tt
-fits_message m p max g v (ReplyClose octets c) judged is = tt
+fits_message m p max g v Up judged is = (let a = carries_by g v is in routed m p max a.0 (subst (Judged m (HubPort p) max) a.1 judged))
+fits_message m p max g v (Put octets) judged is = tt
+fits_message m p max g v (PutClose octets c) judged is = tt
 fits_message m p max g v (Close c) judged is = tt
 fits_message m p max g v Nothing judged is = tt
 
 asked_or_not : (g : Standing) (v : Verdict) (s : Step) → s ≡ message_step g v → (asks s ≡ false) ⊎ (g ≡ awaiting_request)
 asked_or_not g v (Ask who) is = inr (asks_by g v who is).2
-asked_or_not g v Carry is = inl refl
-asked_or_not g v (Reply octets) is = inl refl
-asked_or_not g v (ReplyClose octets c) is = inl refl
+asked_or_not g v Up is = inl refl
+asked_or_not g v (Put octets) is = inl refl
+asked_or_not g v (PutClose octets c) is = inl refl
 asked_or_not g v (Close c) is = inl refl
 asked_or_not g v Nothing is = inl refl
 
@@ -171,19 +171,19 @@ settled_stands t l ready (F, w, at, s) = (F, w, at, settles t F l w s ready)
 pub ready_for : (t : KeptWorld) (l : ℕ) (s : Step) → HasSide t l (λ side. IsReadyFor s side) → HasSide t l (λ side. IsReadyBy s side)
 ready_for t l s ready kept side got is = (ready kept side got is).0
 
-pub acts_other : (l place : ℕ) (m : List ℕ) (s : Step) → ((who : Identity) → s ≡ Ask who → ⊥) → (s ≡ Carry → ⊥) → acts_on l place m s ≡ carries_out l s
+pub acts_other : (l place : ℕ) (m : List ℕ) (s : Step) → ((who : Identity) → s ≡ Ask who → ⊥) → (s ≡ Up → ⊥) → acts_on l place m s ≡ carries_out l s
 acts_other l place m (Ask who) asking carries = absurd (asking who refl)
-acts_other l place m Carry asking carries = absurd (carries refl)
-acts_other l place m (Reply octets) asking carries = refl
-acts_other l place m (ReplyClose octets c) asking carries = refl
+acts_other l place m Up asking carries = absurd (carries refl)
+acts_other l place m (Put octets) asking carries = refl
+acts_other l place m (PutClose octets c) asking carries = refl
 acts_other l place m (Close c) asking carries = refl
 acts_other l place m Nothing asking carries = refl
 
 pub asks_not : (s : Step) → ((who : Identity) → s ≡ Ask who → ⊥) → asks s ≡ false
 asks_not (Ask who) asking = absurd (asking who refl)
-asks_not Carry asking = refl
-asks_not (Reply octets) asking = refl
-asks_not (ReplyClose octets c) asking = refl
+asks_not Up asking = refl
+asks_not (Put octets) asking = refl
+asks_not (PutClose octets c) asking = refl
 asks_not (Close c) asking = refl
 asks_not Nothing asking = refl
 

@@ -6,7 +6,7 @@ use Rattle.bsc_checks.specs.declared.phase.Phase.{Phase}
 use Rattle.bsc_accept.specs.declared.accepting.Accepting.{Accepting}
 use Rattle.bsc_accept.specs.declared.event.Event.{Event}
 use Rattle.bsc_accept.specs.declared.step.Step.{Step}
-use Rattle.bsc_accept.specs.declared.step.Step.TheVariants.{Ask, Carry}
+use Rattle.bsc_accept.specs.declared.step.Step.TheVariants.{Ask, Up}
 use Rattle.bsc_accept.specs.Past.{phase}
 use Rattle.bsc_accept.specs.Standing.{Answers, LeftBy}
 use Rattle.bsc_node.specs.declared.link_name.LinkName.{LinkName}
@@ -77,7 +77,7 @@ FindsPort (Some port) t l = (F : List LinkName) (w : World) → StandsAs t F Non
 -- What is known of a step that a message led to: who asks has an address of a node, and what is carried has a route.
 abbrev pub IsFor : List ℕ → Step → Type 0
 IsFor m (Ask who) = (same_vmac who.vmac zero_vmac ≡ false) × (same_vmac who.vmac broadcast ≡ false)
-IsFor m Carry = has_route m ≡ true
+IsFor m Up = has_route m ≡ true
 IsFor m s = ⊤
 
 -- How such a step leaves its side: where it asks, the side hasn't joined.

@@ -8,7 +8,7 @@ use Rattle.bsc_history.specs.declared.reply.Reply.TheVariants.{Joined as JoinedR
 use Rattle.bsc_checks.specs.declared.phase.Phase.TheVariants.{AwaitingRequest}
 use Rattle.bsc_accept.specs.declared.event.Event.TheVariants.{Message as Came}
 use Rattle.bsc_accept.specs.declared.step.Step.{Step}
-use Rattle.bsc_accept.specs.declared.step.Step.TheVariants.{Ask, Carry}
+use Rattle.bsc_accept.specs.declared.step.Step.TheVariants.{Ask, Up}
 use Rattle.bsc_accept.specs.Standing.{LeftBy, phase_of}
 use Rattle.bsc_accept.specs.Steps.{closes}
 use Rattle.bsc_node.specs.declared.link_name.LinkName.{LinkName}
@@ -66,7 +66,7 @@ pub record IsReadyBy (step : Step) (side : KeptSide) : Type 0 where
 -- carried has a route.
 abbrev pub AsksOf : List ℕ → KeptSide → Step → Type 0
 AsksOf m side (Ask who) = (same_vmac who.vmac zero_vmac ≡ false) × (same_vmac who.vmac broadcast ≡ false) × (side.joined ≡ None)
-AsksOf m side Carry = has_route m ≡ true
+AsksOf m side Up = has_route m ≡ true
 AsksOf m side step = ⊤
 
 -- What a message comes to at a side: nothing where there is none, or the step of its machine, which was told it.

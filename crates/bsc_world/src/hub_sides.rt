@@ -139,17 +139,17 @@ impl World {
         ensures { OnOk result (BecomesBusy (Some link) None (unless_over link (carries_out link step)) self.old self.new) }
     {
         match step {
-            Step::Reply(octets) => {
+            Step::Put(octets) => {
                 let message = owned(alloc, octets.as_slice())?;
                 self.put_down(link, Content::Message(message))
             }
-            Step::ReplyClose(octets, _) => {
+            Step::PutClose(octets, _) => {
                 let message = owned(alloc, octets.as_slice())?;
                 self.put_down(link, Content::Message(message))?;
                 self.close(link)
             }
             Step::Close(_) => self.close(link),
-            Step::Ask(_) | Step::Carry | Step::Nothing => Ok(()),
+            Step::Ask(_) | Step::Up | Step::Nothing => Ok(()),
         }
     }
 
@@ -349,7 +349,7 @@ impl World {
     {
         match step {
             Step::Ask(who) => self.connect(alloc, link, place, who),
-            Step::Carry => self.forward(alloc, link, place, m),
+            Step::Up => self.forward(alloc, link, place, m),
             step => self.carry_out(alloc, link, step),
         }
     }

@@ -6,13 +6,13 @@ use Rattle.bsc_accept.specs.declared.stage.Stage.{Stage}
 use Rattle.bsc_accept.specs.declared.stage.Stage.TheVariants.{AwaitingRequest, Asked, Connected, Disconnecting, Idle}
 use Rattle.bsc_accept.specs.declared.accepting.Accepting.{Accepting}
 use Rattle.bsc_accept.specs.declared.step.Step.{Step}
-use Rattle.bsc_accept.specs.declared.step.Step.TheVariants.{Ask, Reply, ReplyClose, Carry, Close, Nothing}
+use Rattle.bsc_accept.specs.declared.step.Step.TheVariants.{Ask, Put, PutClose, Up, Close, Nothing}
 use Rattle.bsc_accept.specs.Standing.{AwaitsAnswer, LeftBy, is_open}
 use Rattle.bsc_initiate.specs.declared.stage.Stage.{Stage as InitStage}
 use Rattle.bsc_initiate.specs.declared.stage.Stage.TheVariants.{AwaitingWebsocket, AwaitingAccept, Connected as InitConnected, Disconnecting as InitDisconnecting, Idle as InitIdle}
 use Rattle.bsc_initiate.specs.declared.initiating.Initiating.{Initiating}
 use Rattle.bsc_initiate.specs.declared.step.InitStep.{InitStep}
-use Rattle.bsc_initiate.specs.declared.step.InitStep.TheVariants.{Put, PutClose, Connected as NowConnected, Refused, Up, Close as InitClose, Nothing as InitNothing}
+use Rattle.bsc_initiate.specs.declared.step.InitStep.TheVariants.{Put as InitPut, PutClose as InitPutClose, Connected as NowConnected, Refused, Up as InitUp, Close as InitClose, Nothing as InitNothing}
 use Rattle.bsc_initiate.specs.Standing.{AwaitsWebsocket, LeftBy as InitLeftBy, is_open as is_open_initiating, phase_at}
 use Rattle.test_machines.specs.Waiting.{is_asked, is_unopened, asks, goes_on, init_goes_on}
 
@@ -28,17 +28,17 @@ asked_awaits m e = let found = asked_id m.stage e in record { id = found.0; aske
 
 pub left_asked : (step : Step) (m : Accepting) → LeftBy step m → asks step ≡ true → is_asked m.stage ≡ true
 left_asked (Ask who) m h e = ap is_asked h.asked
-left_asked (Reply octets) m h e = absurd (false≢true e)
-left_asked (ReplyClose octets c) m h e = absurd (false≢true e)
-left_asked Carry m h e = absurd (false≢true e)
+left_asked (Put octets) m h e = absurd (false≢true e)
+left_asked (PutClose octets c) m h e = absurd (false≢true e)
+left_asked Up m h e = absurd (false≢true e)
 left_asked (Close c) m h e = absurd (false≢true e)
 left_asked Nothing m h e = absurd (false≢true e)
 
 pub left_open : (step : Step) (m : Accepting) → LeftBy step m → goes_on step ≡ true → is_open m.stage ≡ true
 left_open (Ask who) m h e = absurd (false≢true e)
-left_open (Reply octets) m h e = h
-left_open (ReplyClose octets c) m h e = absurd (false≢true e)
-left_open Carry m h e = h
+left_open (Put octets) m h e = h
+left_open (PutClose octets c) m h e = absurd (false≢true e)
+left_open Up m h e = h
 left_open (Close c) m h e = absurd (false≢true e)
 left_open Nothing m h e = h
 
@@ -63,10 +63,10 @@ connected_open (InitDisconnecting f) e = refl
 connected_open InitIdle e = absurd (false≢true (sym (ap is_none e)))
 
 pub left_running : (step : InitStep) (m : Initiating) → InitLeftBy step m → init_goes_on step ≡ true → is_open_initiating m.stage ≡ true
-left_running (Put octets) m h e = h
-left_running (PutClose octets c) m h e = absurd (false≢true e)
+left_running (InitPut octets) m h e = h
+left_running (InitPutClose octets c) m h e = absurd (false≢true e)
 left_running (NowConnected who) m h e = connected_open m.stage h
 left_running (Refused code) m h e = absurd (false≢true e)
-left_running Up m h e = h
+left_running InitUp m h e = h
 left_running (InitClose c) m h e = absurd (false≢true e)
 left_running InitNothing m h e = h

@@ -57,8 +57,8 @@ fn machines_make_the_worked_steps(rt: HostRuntime) {
 /// Whether a machine puts these octets where it is told something.
 fn puts(alloc: Global, machine: &mut Machine, told: Told, wanted: &[u8]) -> bool {
     match machine.tell(alloc, 1, told) {
-        Some(Step::Reply(octets)) => octets.as_slice() == wanted,
-        Some(Step::ReplyClose(octets, _)) => octets.as_slice() == wanted,
+        Some(Step::Put(octets)) => octets.as_slice() == wanted,
+        Some(Step::PutClose(octets, _)) => octets.as_slice() == wanted,
         _ => false,
     }
 }

@@ -34,7 +34,6 @@ pub enum Does {
     Asks,
     Puts(u8, u16),
     PutsAndCloses(u8, u16, Closing),
-    Carries,
     /// It is connected with the hub of the worked scripts.
     Connects,
     IsRefused(u16),

@@ -97,7 +97,7 @@ impl Reading {
     fn message(&mut self, came: Came) -> Does {
         match came {
             Came::Refused(id) => Does::Puts(0x00, id),
-            Came::Carried => Does::Carries,
+            Came::Carried => Does::HandsUp,
             Came::Request(id) if !self.joined => {
                 self.request = id;
                 Does::Asks

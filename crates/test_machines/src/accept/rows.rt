@@ -73,7 +73,7 @@ pub const CONNECTED: [&[Row]; 12] = [
     &[
         (400_000, Told::Came(Came::Silence), Does::Nothing),
         (999_999, Told::Tick, Does::Nothing),
-        (999_999, Told::Came(Came::Carried), Does::Carries),
+        (999_999, Told::Came(Came::Carried), Does::HandsUp),
         (1_599_998, Told::Tick, Does::Nothing),
     ],
     // It disconnects of itself.
@@ -85,7 +85,7 @@ pub const CONNECTED: [&[Row]; 12] = [
     // A Connect-Request asks no more.
     &[
         (7, Told::Came(Came::Request(7)), Does::Nothing),
-        (8, Told::Came(Came::Carried), Does::Carries),
+        (8, Told::Came(Came::Carried), Does::HandsUp),
     ],
     // A node finishes it, and once is enough.
     &[

@@ -30,15 +30,15 @@ fn done(step: &Step) -> Does {
         } else {
             Does::Nothing
         },
-        Step::Reply(octets) => {
+        Step::Put(octets) => {
             let (function, id) = put(octets);
             Does::Puts(function, id)
         }
-        Step::ReplyClose(octets, closing) => {
+        Step::PutClose(octets, closing) => {
             let (function, id) = put(octets);
             Does::PutsAndCloses(function, id, *closing)
         }
-        Step::Carry => Does::Carries,
+        Step::Up => Does::HandsUp,
         Step::Close(closing) => Does::Closes(*closing),
         Step::Nothing => Does::Nothing,
     }
@@ -70,8 +70,8 @@ fn goes_on(step: &Step) -> bool
     ensures { result ≡ goes_on step.now }
 {
     match step {
-        Step::Ask(_) | Step::ReplyClose(..) | Step::Close(_) => false,
-        Step::Reply(_) | Step::Carry | Step::Nothing => true,
+        Step::Ask(_) | Step::PutClose(..) | Step::Close(_) => false,
+        Step::Put(_) | Step::Up | Step::Nothing => true,
     }
 }
 

@@ -23,19 +23,19 @@ returns-in-Ask c = λ s k w. subst (λ st. IfOk c.connect.result (λ due. Carrie
     (c.connect.ensures s k w.0 (subst (λ st. AsksOf c.args.self.now c.args.at c.args.message.now s k st) c.in-Ask.is w.1).3)
 
 pub forward-requires-clause-route : goal.forward-requires-clause-route
-forward-requires-clause-route c = (subst (λ st. AsksOf c.args.self.now c.args.at c.args.message.now c.requires.some.0 c.requires.some.1 st) c.in-Carry.is c.requires.some.2.1).0
+forward-requires-clause-route c = (subst (λ st. AsksOf c.args.self.now c.args.at c.args.message.now c.requires.some.0 c.requires.some.1 st) c.in-Up.is c.requires.some.2.1).0
 
 pub forward-requires-clause-some : goal.forward-requires-clause-some
-forward-requires-clause-some c = (c.requires.some.0, c.requires.some.1, c.requires.some.2.0, (subst (λ st. AsksOf c.args.self.now c.args.at c.args.message.now c.requires.some.0 c.requires.some.1 st) c.in-Carry.is c.requires.some.2.1).1)
+forward-requires-clause-some c = (c.requires.some.0, c.requires.some.1, c.requires.some.2.0, (subst (λ st. AsksOf c.args.self.now c.args.at c.args.message.now c.requires.some.0 c.requires.some.1 st) c.in-Up.is c.requires.some.2.1).1)
 
-pub returns-in-Carry : goal.returns-in-Carry
-returns-in-Carry c = λ s k w. subst (λ st. IfOk c.forward.result (λ due. CarriesOut c.forward.new.self c.args.text.now.items c.forward.new.text.items (dues due) (acts s k c.args.message.now st))) (sym c.in-Carry.is)
-    (c.forward.ensures s k w.0 (subst (λ st. AsksOf c.args.self.now c.args.at c.args.message.now s k st) c.in-Carry.is w.1).1)
+pub returns-in-Up : goal.returns-in-Up
+returns-in-Up c = λ s k w. subst (λ st. IfOk c.forward.result (λ due. CarriesOut c.forward.new.self c.args.text.now.items c.forward.new.text.items (dues due) (acts s k c.args.message.now st))) (sym c.in-Up.is)
+    (c.forward.ensures s k w.0 (subst (λ st. AsksOf c.args.self.now c.args.at c.args.message.now s k st) c.in-Up.is w.1).1)
 
 pub carry_out-requires-clause-some : goal.carry_out-requires-clause-some
 carry_out-requires-clause-some c = (c.requires.some.0, c.requires.some.2.0.stands)
 
 pub returns-in_ok-carry_out-in_default : goal.returns-in_ok-carry_out-in_default
 returns-in_ok-carry_out-in_default c = λ s k w.
-    subst (CarriesOut c.carry_out.new.self c.args.text.now.items c.carry_out.new.text.items []) (sym (acts_other s k c.args.message.now c.args.step c.in_default.not-Ask c.in_default.not-Carry))
-    (c.in_ok-carry_out-in_default.ensures s k [] w.0 (own_other c.args.self.now c.args.at c.args.message.now s k c.args.step c.in_default.not-Ask c.in_default.not-Carry w.1))
+    subst (CarriesOut c.carry_out.new.self c.args.text.now.items c.carry_out.new.text.items []) (sym (acts_other s k c.args.message.now c.args.step c.in_default.not-Ask c.in_default.not-Up))
+    (c.in_ok-carry_out-in_default.ensures s k [] w.0 (own_other c.args.self.now c.args.at c.args.message.now s k c.args.step c.in_default.not-Ask c.in_default.not-Up w.1))

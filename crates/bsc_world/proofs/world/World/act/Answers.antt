@@ -25,20 +25,20 @@ pub returns-in-Ask : goal.returns-in-Ask
 returns-in-Ask c = subst (λ s. OnOk c.connect.result (BecomesBusy (Some c.args.link) None (unless_over c.args.link (acts_on c.args.link c.args.place c.args.m.now s)) c.args.self.now c.connect.new.self)) (sym c.in-Ask.is) c.connect.ensures
 
 pub forward-requires-clause-route : goal.forward-requires-clause-route
-forward-requires-clause-route c = subst (IsFor c.args.m.now) c.in-Carry.is c.requires.fits
+forward-requires-clause-route c = subst (IsFor c.args.m.now) c.in-Up.is c.requires.fits
 
 pub forward-requires-clause-some : goal.forward-requires-clause-some
 forward-requires-clause-some c =
     let t = c.args.self.now in
     let l = c.args.link in
-    settled_stands t l (still_ready t l c.args.step (ap is_closing c.in-Carry.is) (ap asks c.in-Carry.is) (ready_for t l c.args.step c.requires.left)) c.requires.some
+    settled_stands t l (still_ready t l c.args.step (ap is_closing c.in-Up.is) (ap asks c.in-Up.is) (ready_for t l c.args.step c.requires.left)) c.requires.some
 
-pub returns-in-Carry : goal.returns-in-Carry
-returns-in-Carry c =
+pub returns-in-Up : goal.returns-in-Up
+returns-in-Up c =
     let t = c.args.self.now in
     let l = c.args.link in
-    let ready = still_ready t l c.args.step (ap is_closing c.in-Carry.is) (ap asks c.in-Carry.is) (ready_for t l c.args.step c.requires.left) in
-    subst (λ s. OnOk c.forward.result (BecomesBusy (Some l) None (unless_over l (acts_on l c.args.place c.args.m.now s)) t c.forward.new.self)) (sym c.in-Carry.is)
+    let ready = still_ready t l c.args.step (ap is_closing c.in-Up.is) (ap asks c.in-Up.is) (ready_for t l c.args.step c.requires.left) in
+    subst (λ s. OnOk c.forward.result (BecomesBusy (Some l) None (unless_over l (acts_on l c.args.place c.args.m.now s)) t c.forward.new.self)) (sym c.in-Up.is)
     (on_ok c.forward.result (settled_goes t c.forward.new.self l (unless_over l (forwards l c.args.place c.args.m.now)) ready) c.forward.ensures)
 
 pub carry_out-requires-clause-left : goal.carry_out-requires-clause-left
@@ -51,4 +51,4 @@ pub returns-in_default : goal.returns-in_default
 returns-in_default c =
     let t = c.args.self.now in
     let l = c.args.link in
-    subst (λ f. OnOk c.carry_out.result (BecomesBusy (Some l) None (unless_over l f) t c.carry_out.new.self)) (sym (acts_other l c.args.place c.args.m.now c.args.step c.in_default.not-Ask c.in_default.not-Carry)) c.carry_out.ensures
+    subst (λ f. OnOk c.carry_out.result (BecomesBusy (Some l) None (unless_over l f) t c.carry_out.new.self)) (sym (acts_other l c.args.place c.args.m.now c.args.step c.in_default.not-Ask c.in_default.not-Up)) c.carry_out.ensures

@@ -7,7 +7,7 @@ use Rattle.bsc_network.specs.HubSides.{carries_out, unless_over}
 use Rattle.bsc_world.specs.Becoming.{BecomesBusy, Keeps}
 use Rattle.bsc_world.specs.SideCalls.{asks}
 use Rattle.bsc_world.proofs.Goings.{stands_goes}
-use Rattle.bsc_world.proofs.SideCalls.{idle_goes, kept_ready, reply_close_goes, reply_goes, still_ready}
+use Rattle.bsc_world.proofs.SideCalls.{idle_goes, kept_ready, put_close_goes, put_step_goes, still_ready}
 use Rattle.bsc_world.proofs.world.World.carry_out.Goals as goal
 use Rattle.std.proofs.lemmas.Result.{on_ok_weaker as on_ok}
 
@@ -15,32 +15,32 @@ both_ok : {X E P Q R : Type 0} (r : Result X E) → (P → Q → R) → OnOk r P
 both_ok (Ok x) f a b = f a b
 both_ok (Err e) f a b = a
 
-pub returns-in_ok-message-in-Reply : goal.returns-in_ok-message-in-Reply
-returns-in_ok-message-in-Reply c =
+pub returns-in_ok-message-in-Put : goal.returns-in_ok-message-in-Put
+returns-in_ok-message-in-Put c =
     let t = c.args.self.now in
     let u = c.put_down.new.self in
     let l = c.args.link in
-    let is = c.in-Reply.is in
-    let same : c.in_ok-message-in-Reply.message ≡ c.in-Reply.octets.items = c.in_ok-message-in-Reply.ensures ∙ c.as_slice.ensures.value in
+    let is = c.in-Put.is in
+    let same : c.in_ok-message-in-Put.message ≡ c.in-Put.octets.items = c.in_ok-message-in-Put.ensures ∙ c.as_slice.ensures.value in
     subst (λ st. OnOk c.put_down.result (BecomesBusy (Some l) None (unless_over l (carries_out l st)) t u)) (sym is)
-    (both_ok c.put_down.result (λ sides goes. reply_goes t u l (puts_now l Down (Message c.in-Reply.octets.items)) (subst (λ m. Keeps (unless_over l (puts_now l Down (Message m))) t u) same goes) (kept_ready t u l c.args.step (ap is_closing is) c.requires.no_ask c.requires.left sides))
+    (both_ok c.put_down.result (λ sides goes. put_step_goes t u l (puts_now l Down (Message c.in-Put.octets.items)) (subst (λ m. Keeps (unless_over l (puts_now l Down (Message m))) t u) same goes) (kept_ready t u l c.args.step (ap is_closing is) c.requires.no_ask c.requires.left sides))
     c.put_down.ensures.sides c.put_down.ensures.goes)
 
 pub close-requires : goal.close-requires
 close-requires c =
     let l = c.args.link in
-    record { some = stands_goes (Some l) (Some l) (unless_over l (puts_now l Down (Message c.in_ok-message-in-ReplyClose.message))) c.args.self.now c.put_down-in-ReplyClose.new.self (c.in_ok-put_down-in-ReplyClose.ensures.goes (Some l)) c.requires.some }
+    record { some = stands_goes (Some l) (Some l) (unless_over l (puts_now l Down (Message c.in_ok-message-in-PutClose.message))) c.args.self.now c.put_down-in-PutClose.new.self (c.in_ok-put_down-in-PutClose.ensures.goes (Some l)) c.requires.some }
 
-pub returns-in_ok-put_down-in-ReplyClose : goal.returns-in_ok-put_down-in-ReplyClose
-returns-in_ok-put_down-in-ReplyClose c =
+pub returns-in_ok-put_down-in-PutClose : goal.returns-in_ok-put_down-in-PutClose
+returns-in_ok-put_down-in-PutClose c =
     let t = c.args.self.now in
-    let u = c.put_down-in-ReplyClose.new.self in
+    let u = c.put_down-in-PutClose.new.self in
     let l = c.args.link in
-    let is = c.in-ReplyClose.is in
-    let same : c.in_ok-message-in-ReplyClose.message ≡ c.in-ReplyClose.octets.items = c.in_ok-message-in-ReplyClose.ensures ∙ c.as_slice-in-ReplyClose.ensures.value in
-    let goes = subst (λ m. Keeps (unless_over l (puts_now l Down (Message m))) t u) same c.in_ok-put_down-in-ReplyClose.ensures.goes in
+    let is = c.in-PutClose.is in
+    let same : c.in_ok-message-in-PutClose.message ≡ c.in-PutClose.octets.items = c.in_ok-message-in-PutClose.ensures ∙ c.as_slice-in-PutClose.ensures.value in
+    let goes = subst (λ m. Keeps (unless_over l (puts_now l Down (Message m))) t u) same c.in_ok-put_down-in-PutClose.ensures.goes in
     subst (λ st. OnOk c.close.result (BecomesBusy (Some l) None (unless_over l (carries_out l st)) t c.close.new.self)) (sym is)
-    (on_ok c.close.result (reply_close_goes t u c.close.new.self l c.in-ReplyClose.octets.items goes) c.close.ensures)
+    (on_ok c.close.result (put_close_goes t u c.close.new.self l c.in-PutClose.octets.items goes) c.close.ensures)
 
 pub returns-in-Close : goal.returns-in-Close
 returns-in-Close c =
