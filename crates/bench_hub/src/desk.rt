@@ -10,6 +10,7 @@ mod sending;
 use crate::desk::joining::make_full;
 use crate::desk::sending::{Cast, send_rounds};
 use crate::tally::tell;
+use bsc_history::MOST_ROWS;
 use std::alloc::Global;
 use std::io;
 use std::time::{Clock, Instant};
@@ -24,7 +25,7 @@ fn measure_one<R: Clock + Print + Eprint>(
     frames: u32,
 ) -> io::Result<()>
     requires some { 2 ≤ rows }
-    requires few { rows ≤ 1024 }
+    requires few { rows ≤ MOST_ROWS }
 {
     let Some((mut desk, sender, mut outlets)) = make_full(alloc, rows) else {
         return println!(rt; "{name}: no memory");

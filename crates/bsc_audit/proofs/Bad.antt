@@ -2,6 +2,7 @@
 use Rattle.std.proofs.Common.{◌≡◌, ℕ, ◌+◌, ◌<◌, ◌≤◌, ◌⊎◌, true, List, [], ◌∷◌, ◌++◌, length, drop, inl, inr, ⊎_elim, refl, ap, sym, ◌∙◌, subst, arith, append-nil, length-append}
 use Rattle.bsc_text.specs.Lines.{BeginsLine, has_no_lf, line_in, pieces_of}
 use Rattle.bsc_text.proofs.Cutting.{line_in-length, pieces_of-begin}
+use Rattle.bsc_journal.specs.declared.bounds.TheConstants.{MOST_IN_ALL, MOST_IN_LINE}
 use Rattle.bsc_journal.specs.declared.said.Said.{Said}
 use Rattle.bsc_journal.specs.Good.{IsGood, is_too_big}
 use Rattle.bsc_audit.specs.declared.heard.Heard.{Heard}
@@ -37,7 +38,7 @@ pub bad_piece_at : (o rest : List ℕ) (h : Heard) (n : ℕ) → rest ≡ drop h
 bad_piece_at o rest h n e so b refused = bad_piece o h n h.lines so refl (subst (λ (x : List ℕ). BeginsLine n x) e b) refused
 
 -- octets of which none is an LF may be too many for any piece
-too_long : (before : ℕ) (rest more : List ℕ) → has_no_lf rest ≡ true → 0 < length rest → (300001 < length rest) ⊎ (268435456 < before + length rest) →
+too_long : (before : ℕ) (rest more : List ℕ) → has_no_lf rest ≡ true → 0 < length rest → (MOST_IN_LINE + 1 < length rest) ⊎ (MOST_IN_ALL < before + length rest) →
     (bad : List ℕ) × (later : List (List ℕ)) × (pieces_of (rest ++ more) ≡ bad ∷ later) × (is_too_big before bad ≡ true)
 too_long before [] more no_lf some big = let no : ⊥ = omega (arith, some) in absurd no
 too_long before (c ∷ q) more no_lf some big =
@@ -48,15 +49,15 @@ too_long before (c ∷ q) more no_lf some big =
       bad,
       f.1,
       f.2,
-      either 300000 268435456 (length (line_in bad)) (before + length bad)
-          (⊎_elim (λ (k : 300001 < length (c ∷ q)). inl (omega (arith, k, short))) (λ (k : 268435456 < before + length (c ∷ q)). inr (omega (arith, k, long))) big),
+      either MOST_IN_LINE MOST_IN_ALL (length (line_in bad)) (before + length bad)
+          (⊎_elim (λ (k : MOST_IN_LINE + 1 < length (c ∷ q)). inl (omega (arith, k, short))) (λ (k : MOST_IN_ALL < before + length (c ∷ q)). inr (omega (arith, k, long))) big),
     )
 
-pub bad_rest : (o : List ℕ) (h : Heard) (k : ℕ) → HasHeard o h → k ≡ h.lines → has_no_lf (drop h.at o) ≡ true → h.at ≤ 268435456 →
-    (300001 < length (drop h.at o)) ⊎ (268435456 < h.at + length (drop h.at o)) → IsBadAnyhow (k + 1) o
+pub bad_rest : (o : List ℕ) (h : Heard) (k : ℕ) → HasHeard o h → k ≡ h.lines → has_no_lf (drop h.at o) ≡ true → h.at ≤ MOST_IN_ALL →
+    (MOST_IN_LINE + 1 < length (drop h.at o)) ⊎ (MOST_IN_ALL < h.at + length (drop h.at o)) → IsBadAnyhow (k + 1) o
 bad_rest o h k so is no_lf short big = λ more.
     let rest = drop h.at o in
-    let some : 0 < length rest = ⊎_elim (λ (b : 300001 < length rest). omega (arith, b)) (λ (b : 268435456 < h.at + length rest). omega (arith, b, short)) big in
+    let some : 0 < length rest = ⊎_elim (λ (b : MOST_IN_LINE + 1 < length rest). omega (arith, b)) (λ (b : MOST_IN_ALL < h.at + length rest). omega (arith, b, short)) big in
     let t = too_long h.at rest more no_lf some big in
     refuses o (o ++ more) t.0 t.1 h k so is (so.cut more ∙ ap (λ (l : List (List ℕ)). so.pieces ++ l) t.2) (λ s good. told t.3 good.fits)
 

@@ -3,13 +3,8 @@ ghost use Rattle.std.specs.Prelude.{◌≡◌, ◌≢◌, ◌+◌, ◌≤◌, �
 ghost use Rattle.bsc_text.specs.Lines.{BeginsLine, has_no_lf, line_in};
 ghost use Rattle.bsc_journal.specs.Good.{is_too_big};
 
+use bsc_journal::{MOST_IN_ALL, MOST_IN_LINE};
 use memchr::memchr;
-
-/// The most octets that a line may have.
-const MAX_LINE_LEN: usize = 300_000;
-
-/// The most octets that all journals may have together: 2^28.
-const MAX_LEN: usize = 268_435_456;
 
 /// The octets from one place to another.
 pub(crate) fn between(octets: &[u8], from: usize, to: usize) -> &[u8]
@@ -53,28 +48,28 @@ pub(crate) fn line_in(piece: &[u8]) -> &[u8]
 
 /// Whether a piece that stands after `before` octets is too big.
 pub(crate) fn is_too_big(before: usize, piece: &[u8]) -> bool
-    requires { before ≤ 268435456 }
+    requires { before ≤ MOST_IN_ALL }
     ensures big { result ≡ is_too_big before piece.now }
-    ensures fits { result ≡ false → before + length piece.now ≤ 268435456 }
+    ensures fits { result ≡ false → before + length piece.now ≤ MOST_IN_ALL }
 {
-    line_in(piece).len() > MAX_LINE_LEN || MAX_LEN - before < piece.len()
+    line_in(piece).len() > MOST_IN_LINE || MOST_IN_ALL - before < piece.len()
 }
 
 /// Whether `len` octets without an LF are already too many: then each piece that begins with them is too big.
 pub(crate) fn cannot_fit(before: usize, len: usize) -> bool
-    requires { before ≤ 268435456 }
-    ensures cannot { result ≡ true → (300001 < len) ⊎ (268435456 < before + len) }
-    ensures may { result ≡ false → before + len ≤ 268435456 }
+    requires { before ≤ MOST_IN_ALL }
+    ensures cannot { result ≡ true → (MOST_IN_LINE + 1 < len) ⊎ (MOST_IN_ALL < before + len) }
+    ensures may { result ≡ false → before + len ≤ MOST_IN_ALL }
 {
-    len > MAX_LINE_LEN + 1 || MAX_LEN - before < len
+    len > MOST_IN_LINE + 1 || MOST_IN_ALL - before < len
 }
 
 /// How many octets more may be read behind `len`: as many as all journals may have, and one that is past them.
 pub(crate) fn room_behind(len: usize) -> usize
-    requires { len ≤ 268435456 }
-    ensures { result + len ≡ 268435457 }
+    requires { len ≤ MOST_IN_ALL }
+    ensures { result + len ≡ MOST_IN_ALL + 1 }
 {
-    MAX_LEN + 1 - len
+    MOST_IN_ALL + 1 - len
 }
 
 /// How many octets stand in front of the first LF; all of them, where there is none.

@@ -1,5 +1,6 @@
 //! What the lines came to that were heard so far.
 ghost use Rattle.std.specs.Prelude.{◌≤◌};
+ghost use Rattle.bsc_journal.specs.declared.bounds.TheConstants.{MOST_IN_ALL};
 
 use bsc_history::About;
 use bsc_places::Spot;
@@ -17,7 +18,7 @@ pub(crate) struct Heard {
     pub(crate) about: Option<About>,
     /// Where the line of each entry stands.
     pub(crate) spots: Vec<Spot>,
-    ghost in_journal: { at ≤ 268435456 },
+    ghost in_journal: { at ≤ MOST_IN_ALL },
     ghost few_lines: { lines ≤ at },
     ghost few_hubs: { hubs ≤ lines },
 }

@@ -9,7 +9,7 @@ ghost use Rattle.bsc_audit.specs.Verdicts.{IsFirstBad};
 use crate::cutting::{after, between, cannot_fit, first_lf, is_too_big, line_in};
 use crate::heard::Heard;
 use crate::room::room_for_one;
-use bsc_journal::{Said, read_said};
+use bsc_journal::{MOST_IN_ALL, Said, read_said};
 use bsc_octets::NoMemory;
 use bsc_places::Spot;
 use bsc_player::LineFault;
@@ -32,7 +32,7 @@ pub(crate) fn nothing_heard(alloc: Global) -> Heard
 fn add(heard: &mut Heard, said: Said, end: usize, next: usize) -> Result<(), NoMemory>
     requires after { heard.old.at < next }
     requires within { end ≤ next }
-    requires fits { next ≤ 268435456 }
+    requires fits { next ≤ MOST_IN_ALL }
     ensures { OnOk result (Adds heard.old heard.new said end next) }
 {
     let start = heard.at;
@@ -85,7 +85,7 @@ pub(crate) fn hear_whole(heard: &mut Heard, alloc: Global, octets: &[u8]) -> Res
     requires { HasHeard octets.now heard.old }
     ensures heard { OnOk result (HasHeard octets.now heard.new) }
     ensures rest { OnOk result (has_no_lf (drop heard.new.at octets.now) ≡ true) }
-    ensures fits { OnOk result (length octets.now ≤ 268435456) }
+    ensures fits { OnOk result (length octets.now ≤ MOST_IN_ALL) }
     ensures refused { result ≡ Err LineFault.Refused → IsBadAnyhow (heard.new.lines + 1) octets.now }
 {
     while let Some(n) = first_lf(after(octets, heard.at)) {

@@ -1,5 +1,5 @@
 //! Taking in journals: all that a source has is read and kept, and each line is heard as it comes.
-ghost use Rattle.std.specs.Prelude.{◌≡◌, ◌≤◌, ◌<◌, ◌⊎◌, ℕ, List, [], ◌++◌, length, drop, true, false, Some, IfOk, IfErr, OnOk, Ok, Err};
+ghost use Rattle.std.specs.Prelude.{◌≡◌, ◌≤◌, ◌<◌, ◌+◌, ◌⊎◌, ℕ, List, [], ◌++◌, length, drop, true, false, Some, IfOk, IfErr, OnOk, Ok, Err};
 ghost use Rattle.std.specs.Io.KnownBytes.{Consumes, IsAtEnd};
 ghost use Rattle.bsc_text.specs.Lines.{has_no_lf};
 ghost use Rattle.bsc_outside.specs.Faults.{HasRisen};
@@ -12,6 +12,7 @@ use crate::cutting::room_behind;
 use crate::heard::Heard;
 use crate::hearing::{hear_last, hear_whole, nothing_heard};
 use crate::room::room_for;
+use bsc_journal::MOST_IN_ALL;
 use bsc_outside::{Failed, Source};
 use bsc_player::LineFault;
 use std::alloc::Global;
@@ -58,9 +59,9 @@ fn read_more<S: Source>(
     chunk: &mut Vec<u8>,
 ) -> Result<bool, AuditEnd>
     requires room { 0 < length chunk.old.items }
-    requires fits { length octets.old.items ≤ 268435456 }
+    requires fits { length octets.old.items ≤ MOST_IN_ALL }
     ensures room { 0 < length chunk.new.items }
-    ensures within { OnOk result (length octets.new.items ≤ 268435457) }
+    ensures within { OnOk result (length octets.new.items ≤ MOST_IN_ALL + 1) }
     ensures more { result ≡ Ok true → ReadsMore (S.left source.old) (S.left source.new) octets.old.items octets.new.items }
     ensures end { result ≡ Ok false → (octets.new.items ≡ octets.old.items) × Consumes (S.left source.old) (S.left source.new) []
         × IsAtEnd (S.left source.new) }
@@ -85,7 +86,7 @@ fn go_on(heard: &mut Heard, alloc: Global, octets: &[u8]) -> Result<(), AuditEnd
     requires { HasHeard octets.now heard.old }
     ensures heard { OnOk result (HasHeard octets.now heard.new) }
     ensures rest { OnOk result (has_no_lf (drop heard.new.at octets.now) ≡ true) }
-    ensures fits { OnOk result (length octets.now ≤ 268435456) }
+    ensures fits { OnOk result (length octets.now ≤ MOST_IN_ALL) }
     ensures stopped { IfErr result (StopsWithin octets.now) }
 {
     match hear_whole(heard, alloc, octets) {

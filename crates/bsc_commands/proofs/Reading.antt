@@ -7,6 +7,8 @@ use Rattle.bsc_text.specs.Grammar.{number_of}
 use Rattle.bsc_text.specs.Lines.{same_octets}
 use Rattle.bsc_outside.specs.Faults.{PutsPrefix}
 use Rattle.bsc_player.specs.declared.play_end.PlayEnd.TheVariants as play_end
+use Rattle.bsc_load.specs.declared.bounds.TheConstants.{WORKERS as LOAD_WORKERS}
+use Rattle.bsc_words.specs.declared.bounds.TheConstants.{WORKERS}
 use Rattle.bsc_words.specs.declared.fault.WordsFault.{WordsFault}
 use Rattle.bsc_words.specs.declared.fault.WordsFault.TheVariants.{Refused, NoMemory}
 use Rattle.bsc_player.specs.Playing.{Played}
@@ -44,10 +46,14 @@ pub ran_out : (fault : WordsFault) (read : Option AskedOf) (a : AskedOf) (s : �
 ran_out Refused read a s b b' none ran is = absurd (asks read a is (none refl))
 ran_out NoMemory read a s b b' none ran is = ran refl
 
--- ---- the workers of a workload are 1 to 512
+-- ---- the workers of a workload
+
+-- Words may ask for as many as a workload has at most, and for no more.
+pub as_many : WORKERS ≡ LOAD_WORKERS
+as_many = refl
 
 abbrev pub Fits : Option AskedOf → Type 0
-Fits (Some (load n)) = (1 ≤ n) × (n ≤ 512)
+Fits (Some (load n)) = (1 ≤ n) × (n ≤ WORKERS)
 Fits asked = ⊤
 
 fits_chosen : (b : Bool) (x y : Option AskedOf) → Fits x → Fits y → Fits (if b then x else y)
@@ -72,16 +78,16 @@ fits_node None script = tt
 fits_node (Some path) None = tt
 fits_node (Some path) (Some script) = tt
 
-fits_range : (n : ℕ) (b : Bool) → (b ≡ true → (1 ≤ n) × (n ≤ 512)) → Fits (option_map load (if b then Some n else None))
+fits_range : (n : ℕ) (b : Bool) → (b ≡ true → (1 ≤ n) × (n ≤ WORKERS)) → Fits (option_map load (if b then Some n else None))
 fits_range n true f = f refl
 fits_range n false f = tt
 
-in_range : (n : ℕ) → (nat_le 1 n && nat_le n 512) ≡ true → (1 ≤ n) × (n ≤ 512)
-in_range n h = let two = and_parts (nat_le 1 n) (nat_le n 512) h in (leb-true 1 n two.0, leb-true n 512 two.1)
+in_range : (n : ℕ) → (nat_le 1 n && nat_le n WORKERS) ≡ true → (1 ≤ n) × (n ≤ WORKERS)
+in_range n h = let two = and_parts (nat_le 1 n) (nat_le n WORKERS) h in (leb-true 1 n two.0, leb-true n WORKERS two.1)
 
-fits_workers : (n : Option ℕ) → Fits (option_map load (up_to 512 n))
+fits_workers : (n : Option ℕ) → Fits (option_map load (up_to WORKERS n))
 fits_workers None = tt
-fits_workers (Some n) = fits_range n (nat_le 1 n && nat_le n 512) (in_range n)
+fits_workers (Some n) = fits_range n (nat_le 1 n && nat_le n WORKERS) (in_range n)
 
 fits_load : (workers : Option Text) → Fits (load_of workers)
 fits_load None = tt
@@ -110,7 +116,7 @@ fits_asked (name ∷ words) =
     (fits_unless (fault_of audit_app (name ∷ words)) (Some audit) tt)
     (fits_run name (name ∷ words)))))
 
-pub workers_fit : (words : List Text) (a : AskedOf) (n : ℕ) → asked_by words ≡ Some a → a ≡ load n → (1 ≤ n) × (n ≤ 512)
+pub workers_fit : (words : List Text) (a : AskedOf) (n : ℕ) → asked_by words ≡ Some a → a ≡ load n → (1 ≤ n) × (n ≤ WORKERS)
 workers_fit words a n is named = subst Fits (is ∙ ap Some named) (fits_asked words)
 
 -- ---- memory ran out before the input was read

@@ -37,7 +37,7 @@ use bsc_node_run::Words;
 use bsc_outside::{Sink, Source};
 use bsc_player::{end_with, out_of_memory};
 use bsc_session::SessionJob;
-use bsc_words::{Asked, ReadWords, WordsFault};
+use bsc_words::{Asked, ReadWords, WORKERS, WordsFault};
 use std::alloc::Global;
 use std::sync::Wait;
 use std::thread::Threads;
@@ -91,7 +91,7 @@ fn run_asked<
     requires can { P.can_start spawner.old }
     requires kept { kept.old.hub ≡ None }
     requires own { own.old ≡ None }
-    requires workers { (n : ℕ) → seen asked ≡ load n → (1 ≤ n) × (n ≤ 512) }
+    requires workers { (n : ℕ) → seen asked ≡ load n → (1 ≤ n) × (n ≤ WORKERS) }
     ensures hub { (path : Text) (sessions : Option ℕ) (journal : Option Text) (made : _) → seen asked.entry ≡ hub path sessions journal →
         kept.new.hub ≡ Some made → (v : HubSettings) × (policy : Option Policy) × IsSettled (F.holds files.old path) v policy
         × Runs (Worked L.talk L.faults C.readings N.held N.faults) J.begins N.held N.faults

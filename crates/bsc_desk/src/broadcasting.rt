@@ -23,7 +23,7 @@ use crate::offering::{count_offered, offer_all};
 use crate::prepared::Prepared;
 use crate::rows::end_at;
 use crate::tally::{NOTHING, one_if};
-use bsc_history::{Conns, Counts, End, Looks, Worn};
+use bsc_history::{Conns, Counts, End, Looks, MOST_ROWS, Worn};
 use bsc_octets::NoMemory;
 use std::alloc::Global;
 
@@ -68,10 +68,10 @@ fn all_unserved(ended: Option<End>) -> AllReply
 
 /// What a broadcast counts that joined so many outboxes, and that so many connections missed.
 fn counts_of(to: usize, missed: usize) -> Counts
-    requires few_to { to ≤ 1024 }
-    requires few_missed { missed ≤ 1024 }
+    requires few_to { to ≤ MOST_ROWS }
+    requires few_missed { missed ≤ MOST_ROWS }
     ensures value { result ≡ broadcast_counts to missed }
-    ensures small { AreAtMost result 1024 }
+    ensures small { AreAtMost result MOST_ROWS }
 {
     Counts {
         broadcasts: 1,

@@ -24,7 +24,7 @@ use crate::prepared::Prepared;
 use crate::row::Row;
 use crate::rows::end_at;
 use crate::tally::NOTHING;
-use bsc_history::{Counts, End, Look, Worn};
+use bsc_history::{Counts, End, Look, MOST_ROWS, Worn};
 use bsc_octets::Octets;
 
 /// The reply to a unicast.
@@ -69,7 +69,7 @@ fn one_unserved(ended: Option<End>) -> OneReply
 /// What a unicast counts.
 fn counts_of(reply: OneReply) -> Counts
     ensures value { result ≡ unicast_counts (one_reply reply) }
-    ensures small { AreAtMost result 1024 }
+    ensures small { AreAtMost result MOST_ROWS }
 {
     match reply {
         OneReply::Appended(_) => Counts {

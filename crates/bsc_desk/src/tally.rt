@@ -2,6 +2,7 @@
 #![tactic(auto)]
 
 ghost use Rattle.std.specs.Prelude.{◌≡◌, ◌<◌, ◌+◌, ◌*◌, ◌^◌};
+ghost use Rattle.bsc_history.specs.declared.limits.TheConstants.{MOST_ROWS};
 ghost use Rattle.bsc_history.specs.Counting.{one_if, plus};
 ghost use Rattle.bsc_desk.specs.Tallies.{AreAtMost, no_counts};
 
@@ -12,8 +13,8 @@ use bsc_history::Counts;
 pub struct Tally {
     pub(crate) made: u64,
     pub(crate) counts: Counts,
-    // An entry counts at most 1,024 of a kind: a broadcast has no more receivers.
-    ghost bounded: { AreAtMost counts (made * 1024) },
+    // An entry counts at most `MOST_ROWS` of a kind: a broadcast has no more receivers.
+    ghost bounded: { AreAtMost counts (made * MOST_ROWS) },
 }
 
 /// What counts nothing.
@@ -51,7 +52,7 @@ impl Tally {
     /// One entry more, which counts `more`.
     pub(crate) fn add(&mut self, more: Counts)
         requires few { self.old.made < 2 ^ 53 }
-        requires small { AreAtMost more 1024 }
+        requires small { AreAtMost more MOST_ROWS }
         ensures made { self.new.made ≡ self.old.made + 1 }
         ensures counts { self.new.counts ≡ plus self.old.counts more }
     {

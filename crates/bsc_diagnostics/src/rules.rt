@@ -4,17 +4,14 @@ ghost use Rattle.bsc_text.specs.Words.{words_of};
 ghost use Rattle.bsc_text.specs.Grammar.{device_of_word, is_name, maximum_of_word, number_of, vmac_of_word};
 
 use crate::diagnostic::Diagnostic;
-use bsc_octets::Vmac;
-use bsc_text::{is_name, next_word, read_device, read_maximum, read_number, read_vmac};
+use bsc_octets::{LEAST_BVLC, Vmac};
+use bsc_text::{LATEST, is_name, next_word, read_device, read_maximum, read_number, read_vmac};
 
 /// What a VMAC is.
 const VMAC: &str = "is no VMAC of 12 hexadecimal digits";
 
 /// What a number is.
 const NUMBER: &str = "is no number of 1 to 19 digits without a sign or a leading zero";
-
-/// The latest time that the clock of a script may be set to: 10^15 milliseconds.
-const LATEST: u64 = 1_000_000_000_000_000;
 
 /// Whether something is so of a word, by the rule that it breaks otherwise.
 pub fn hold<'a>(is_so: bool, word: &'a [u8], rule: &'static str) -> Result<(), Diagnostic<'a>>
@@ -131,7 +128,7 @@ fn hold_maximum<'a>(word: &'a [u8], least: u16, rule: &'static str) -> Result<()
 
 /// The longest message and the longest NPDU that a hub takes.
 pub fn hold_lengths<'a>(bvlc: &'a [u8], npdu: &'a [u8]) -> Result<(), Diagnostic<'a>> {
-    hold_maximum(bvlc, 64, "is a longest message below 0040")?;
+    hold_maximum(bvlc, LEAST_BVLC, "is a longest message below 0040")?;
     hold_maximum(npdu, 1, "is a longest NPDU below 0001")
 }
 

@@ -2,6 +2,7 @@
 use Rattle.std.proofs.Common.{◌≡◌, ◌+◌, ℕ, zero, suc, Bool, true, false, cond, List, [], ◌∷◌, length, get_or, find, Option, Some, None, refl, ap, sym, ◌∙◌, arith}
 use Rattle.std.specs.List.{position, range_with_len}
 use Rattle.std.specs.Option.{option_map}
+use Rattle.bsc_direct.specs.declared.bounds.TheConstants.{SLOTS}
 use Rattle.bsc_direct.specs.Slots.{slots}
 use Rattle.bsc_lemmas.proofs.Lists.{position-cons}
 
@@ -39,7 +40,7 @@ unmoved None = refl
 unmoved (Some i) = ap Some (let q : 0 + i ≡ i = omega arith in q)
 
 -- where a slot passes exactly where its number does
-pub found_as_kept : {X : Type 0} (p : X → Bool) (test : ℕ → Bool) (d : X) (xs : List X) → length xs ≡ 64 → ((k : ℕ) → p (get_or xs k d) ≡ test k) → position p xs ≡ find test slots
+pub found_as_kept : {X : Type 0} (p : X → Bool) (test : ℕ → Bool) (d : X) (xs : List X) → length xs ≡ SLOTS → ((k : ℕ) → p (get_or xs k d) ≡ test k) → position p xs ≡ find test slots
 unfolding slots
 found_as_kept p test d xs len h =
     sym (unmoved (position p xs)) ∙ sym (searched p test d xs 0 (λ k. h k ∙ ap test (let q : k ≡ 0 + k = omega arith in q))) ∙ ap (λ (n : ℕ). find test (range_with_len 0 n)) len

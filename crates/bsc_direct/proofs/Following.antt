@@ -11,6 +11,7 @@ use Rattle.bsc_octets.specs.declared.vmac.Vmac.{Vmac}
 use Rattle.bsc_octets.specs.declared.device_id.DeviceId.{DeviceId}
 use Rattle.bsc_octets.specs.declared.identity.Identity.{Identity}
 use Rattle.bsc_octets.specs.Addresses.{same_vmac, same_device, broadcast}
+use Rattle.bsc_direct.specs.declared.bounds.TheConstants.{SLOTS}
 use Rattle.bsc_direct.specs.declared.slot.Slot.{Slot}
 use Rattle.bsc_direct.specs.declared.slot.Slot.TheVariants.{Free, Claimed, Established}
 use Rattle.bsc_direct.specs.declared.establish.Establish.{Establish}
@@ -204,10 +205,10 @@ up_stands calls items slot who replaced st apart within is here claimed k = by (
 
 -- ---- what looking finds
 
-kept_as_told : (calls : List SlotCall) (items : List Slot) (test : Identity → Bool) → length items ≡ 64 → Stand items calls → kept_with test items ≡ established_with test calls
+kept_as_told : (calls : List SlotCall) (items : List Slot) (test : Identity → Bool) → length items ≡ SLOTS → Stand items calls → kept_with test items ≡ established_with test calls
 kept_as_told calls items test len st = found_as_kept (λ (s : Slot). is_peer test (says_peer s)) (λ (k : ℕ). is_peer test (established_peer calls k)) Free items len (λ k. ap (is_peer test) (sym (st k).peer))
 
-pub answer_is : (calls : List SlotCall) (items : List Slot) (own : Vmac) (slot : ℕ) (who : Identity) → length items ≡ 64 → Stand items calls → establish_kept own items slot who ≡ establish own calls slot who
+pub answer_is : (calls : List SlotCall) (items : List Slot) (own : Vmac) (slot : ℕ) (who : Identity) → length items ≡ SLOTS → Stand items calls → establish_kept own items slot who ≡ establish own calls slot who
 answer_is calls items own slot who len st =
     ap (λ (w : Option Vmac). unless_wrong w who (unless_own (same_vmac who.vmac own) (unless_rival (kept_with (is_rival who) items) (kept_with (by_device who) items)))) (sym (st slot).wanted)
     ∙ ap (λ (r : Option ℕ). unless_wrong (wanted calls slot) who (unless_own (same_vmac who.vmac own) (unless_rival r (kept_with (by_device who) items)))) (kept_as_told calls items (is_rival who) len st)
@@ -237,14 +238,14 @@ free_at zero k = refl
 free_at (suc n) zero = refl
 free_at (suc n) (suc k) = free_at n k
 
-pub made : (d : Direct) → d.slots.items ≡ replicate 64 Free → StandsFor d []
+pub made : (d : Direct) → d.slots.items ≡ replicate SLOTS Free → StandsFor d []
 made d items = record {
-  slots = λ k. subst (λ (l : List Slot). SlotStands [] k (slot_at l k)) (sym items) (subst (λ (s : Slot). SlotStands [] k s) (sym (free_at 64 k)) (record { claimed = refl; wanted = refl; peer = refl }));
+  slots = λ k. subst (λ (l : List Slot). SlotStands [] k (slot_at l k)) (sym items) (subst (λ (s : Slot). SlotStands [] k s) (sym (free_at SLOTS k)) (record { claimed = refl; wanted = refl; peer = refl }));
   apart = λ i j x y n hi hj. some_none x (sym hi);
   unicast = λ k who h. some_none who (sym h);
 }
 
-pub claimed_slot : (old new : Direct) (slot : ℕ) (v : Option Vmac) → length old.slots.items ≡ 64 → position (λ s. not (says_claimed s)) old.slots.items ≡ Some slot → new.slots.items ≡ set old.slots.items slot (Claimed v) → IsClaimed old new slot v
+pub claimed_slot : (old new : Direct) (slot : ℕ) (v : Option Vmac) → length old.slots.items ≡ SLOTS → position (λ s. not (says_claimed s)) old.slots.items ≡ Some slot → new.slots.items ≡ set old.slots.items slot (Claimed v) → IsClaimed old new slot v
 claimed_slot old new slot v len placed items calls s =
     let es = old.slots.items in (
       sym (found_as_kept (λ (x : Slot). not (says_claimed x)) (λ (k : ℕ). not (is_claimed calls k)) Free es len (λ k. ap not (sym (s.slots k).claimed))) ∙ placed,
@@ -255,7 +256,7 @@ claimed_slot old new slot v len placed items calls s =
       },
     )
 
-pub none_free : (old : Direct) (calls : List SlotCall) → length old.slots.items ≡ 64 → position (λ s. not (says_claimed s)) old.slots.items ≡ None → StandsFor old calls → free_slot calls ≡ None
+pub none_free : (old : Direct) (calls : List SlotCall) → length old.slots.items ≡ SLOTS → position (λ s. not (says_claimed s)) old.slots.items ≡ None → StandsFor old calls → free_slot calls ≡ None
 none_free old calls len placed s = sym (found_as_kept (λ (x : Slot). not (says_claimed x)) (λ (k : ℕ). not (is_claimed calls k)) Free old.slots.items len (λ k. ap not (sym (s.slots k).claimed))) ∙ placed
 
 pub released : (old new : Direct) (slot : ℕ) → slot < length old.slots.items → new.slots.items ≡ set old.slots.items slot Free → StandsOn old new (Release slot)
@@ -272,7 +273,7 @@ released_past old slot past calls s = record {
   unicast = quiet-unicast calls (Release slot) (λ k. refl) (λ k w. refl) s.unicast;
 }
 
-pub came_up : (old new : Direct) (own : Vmac) (slot : ℕ) (who : Identity) (replaced : Option ℕ) → length old.slots.items ≡ 64 → slot < 64 → says_claimed (slot_at old.slots.items slot) ≡ true → same_vmac who.vmac broadcast ≡ false
+pub came_up : (old new : Direct) (own : Vmac) (slot : ℕ) (who : Identity) (replaced : Option ℕ) → length old.slots.items ≡ SLOTS → slot < SLOTS → says_claimed (slot_at old.slots.items slot) ≡ true → same_vmac who.vmac broadcast ≡ false
     → establish_kept own old.slots.items slot who ≡ IsUp replaced → new.slots.items ≡ slots_up slot who replaced old.slots.items → Answers old new own slot who (IsUp replaced)
 came_up old new own slot who replaced len within claimed unicast is items calls s =
     let es = old.slots.items in
@@ -286,11 +287,11 @@ came_up old new own slot who replaced len within claimed unicast is items calls 
       },
     )
 
-pub stays_down : (old : Direct) (own : Vmac) (slot : ℕ) (who : Identity) (answer : Establish) → length old.slots.items ≡ 64 → establish_kept own old.slots.items slot who ≡ answer
+pub stays_down : (old : Direct) (own : Vmac) (slot : ℕ) (who : Identity) (answer : Establish) → length old.slots.items ≡ SLOTS → establish_kept own old.slots.items slot who ≡ answer
     → ((calls : List SlotCall) → and_up answer calls slot who ≡ calls) → Answers old old own slot who answer
 stays_down old own slot who answer len is same calls s = (sym is ∙ answer_is calls old.slots.items own slot who len s.slots, subst (StandsFor old) (sym (same calls)) s)
 
-pub established_is : (d : Direct) (v : Vmac) (calls : List SlotCall) → length d.slots.items ≡ 64 → StandsFor d calls → kept_with (λ who. same_vmac who.vmac v) d.slots.items ≡ established calls v
+pub established_is : (d : Direct) (v : Vmac) (calls : List SlotCall) → length d.slots.items ≡ SLOTS → StandsFor d calls → kept_with (λ who. same_vmac who.vmac v) d.slots.items ≡ established calls v
 established_is d v calls len s = kept_as_told calls d.slots.items (λ who. same_vmac who.vmac v) len s.slots
 
 -- ---- the broadcast

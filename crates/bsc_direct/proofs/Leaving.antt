@@ -4,6 +4,7 @@ use Rattle.std.specs.Prelude.{◌==◌}
 use Rattle.std.proofs.Math.ListN.{set}
 use Rattle.bsc_octets.specs.declared.vmac.Vmac.{Vmac}
 use Rattle.bsc_octets.specs.declared.identity.Identity.{Identity}
+use Rattle.bsc_direct.specs.declared.bounds.TheConstants.{SLOTS}
 use Rattle.bsc_direct.specs.declared.slot.Slot.{Slot}
 use Rattle.bsc_direct.specs.declared.slot.Slot.TheVariants.{Claimed, Established}
 use Rattle.bsc_direct.specs.declared.direct.Direct.{Direct}
@@ -22,7 +23,7 @@ set_leaves old new slot s items = record {
 pub same_leaves : (d : Direct) (slot : ℕ) → LeavesOthers d d slot
 same_leaves d slot = record { held = λ k n h. h; alone = λ k n h. h }
 
-pub set_only : (d : Direct) (items : List Slot) (slot : ℕ) (v : Option Vmac) → slot < 64 → slot < length items → d.slots.items ≡ set items slot (Claimed v) → IsOnlyClaimed d slot
+pub set_only : (d : Direct) (items : List Slot) (slot : ℕ) (v : Option Vmac) → slot < SLOTS → slot < length items → d.slots.items ≡ set items slot (Claimed v) → IsOnlyClaimed d slot
 set_only d items slot v within inside is = record {
   within = within;
   claimed = ap (λ (l : List Slot). says_claimed (slot_at l slot)) is ∙ ap says_claimed (set_here items slot slot (Claimed v) inside (eq_self slot));

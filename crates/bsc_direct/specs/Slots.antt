@@ -7,14 +7,15 @@ use Rattle.bsc_octets.specs.declared.device_id.DeviceId.{DeviceId}
 use Rattle.bsc_octets.specs.declared.identity.Identity.{Identity}
 use Rattle.bsc_octets.specs.Addresses.{same_vmac, same_device}
 use Rattle.bsc_connector.specs.Back.{newest_of, since}
+use Rattle.bsc_direct.specs.declared.bounds.TheConstants.{SLOTS}
 use Rattle.bsc_direct.specs.declared.call.SlotCall.{SlotCall}
 use Rattle.bsc_direct.specs.declared.call.SlotCall.TheVariants.{Claim, Up, Release}
 use Rattle.bsc_direct.specs.declared.establish.Establish.{Establish}
 use Rattle.bsc_direct.specs.declared.establish.Establish.TheVariants.{Up as IsUp, Duplicate, WrongPeer}
 
--- The slots of a node: 64, numbered from 0.
+-- The slots of a node, numbered from 0.
 unfoldable pub slots : List ℕ
-slots = range_with_len 0 64
+slots = range_with_len 0 SLOTS
 
 -- ---- what one call says
 

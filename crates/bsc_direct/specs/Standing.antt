@@ -3,6 +3,7 @@ use Rattle.std.specs.Prelude.{◌≡◌, ◌<◌, ℕ, Bool, true, false, List, 
 use Rattle.bsc_octets.specs.declared.vmac.Vmac.{Vmac}
 use Rattle.bsc_octets.specs.declared.identity.Identity.{Identity}
 use Rattle.bsc_octets.specs.Addresses.{same_vmac, broadcast}
+use Rattle.bsc_direct.specs.declared.bounds.TheConstants.{SLOTS}
 use Rattle.bsc_direct.specs.declared.slot.Slot.{Slot}
 use Rattle.bsc_direct.specs.declared.slots_full.SlotsFull.{SlotsFull}
 use Rattle.bsc_direct.specs.declared.establish.Establish.{Establish}
@@ -39,9 +40,9 @@ abbrev pub IsClaimed : Direct → Direct → ℕ → Option Vmac → Type 0
 IsClaimed old new slot wanted =
     (calls : List SlotCall) → StandsFor old calls → (free_slot calls ≡ Some slot) × StandsFor new (calls ++ Claim slot wanted ∷ [])
 
--- For whatever it stood, no slot was free, of 64.
+-- For whatever it stood, no slot was free, and the fault says how many there are.
 abbrev pub IsFull : Direct → SlotsFull → Type 0
-IsFull old fault = (fault.slots ≡ 64) × ((calls : List SlotCall) → StandsFor old calls → free_slot calls ≡ None)
+IsFull old fault = (fault.slots ≡ SLOTS) × ((calls : List SlotCall) → StandsFor old calls → free_slot calls ≡ None)
 
 -- what happened, where the answer is that the connection is established
 abbrev pub and_up : Establish → List SlotCall → ℕ → Identity → List SlotCall
@@ -57,6 +58,6 @@ Answers old new own slot who answer =
 
 -- The slot is claimed and not established.
 pub record IsOnlyClaimed (d : Direct) (slot : ℕ) : Type 0 where
-  pub within : slot < 64
+  pub within : slot < SLOTS
   pub claimed : says_claimed (slot_at d.slots.items slot) ≡ true
   pub alone : says_peer (slot_at d.slots.items slot) ≡ None

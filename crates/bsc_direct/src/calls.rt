@@ -7,6 +7,7 @@ ghost use Rattle.bsc_direct.specs.Kept.{establish_kept, slots_up, slots_without}
 ghost use Rattle.bsc_direct.specs.Left.{IsHeld, LeavesOthers};
 ghost use Rattle.bsc_direct.specs.Standing.{StandsFor, IsClaimed, IsFull, Answers, StandsOn, IsOnlyClaimed};
 
+use crate::bounds::SLOTS;
 use crate::direct::Direct;
 use crate::establish::Establish;
 use crate::places::{place_free, rival_of, with_device, with_vmac};
@@ -15,16 +16,13 @@ use crate::slots_full::SlotsFull;
 use bsc_octets::{Identity, NoMemory, Vmac};
 use std::alloc::Global;
 
-/// How many slots there are.
-const SLOTS: u32 = 64;
-
 impl Direct {
     /// Slots that are all free.
     pub fn make(alloc: Global) -> Result<Direct, NoMemory>
         ensures { IfOk result (λ d. StandsFor d []) }
     {
         Ok(Direct {
-            slots: vec![in alloc; Slot::Free; 64]?,
+            slots: vec![in alloc; Slot::Free; SLOTS as usize]?,
         })
     }
 
@@ -66,7 +64,7 @@ impl Direct {
 
     /// Whether the connection of a slot is established with this peer.
     pub(crate) fn answer(&self, own: Vmac, slot: u32, peer: &Identity) -> Establish
-        requires { slot < 64 }
+        requires { slot < SLOTS }
         ensures { result ≡ establish_kept own self.now.slots.items slot peer.now }
     {
         if let Some(wanted) = self.slots[slot as usize].wanted() {
@@ -89,8 +87,8 @@ impl Direct {
 
     /// The slot's connection is established with this peer, in place of that of another slot where one is given.
     fn come_up(&mut self, slot: u32, peer: Identity, replaced: Option<u32>)
-        requires slot { slot < 64 }
-        requires replaced { (k : ℕ) → replaced ≡ Some k → k < 64 }
+        requires slot { slot < SLOTS }
+        requires replaced { (k : ℕ) → replaced ≡ Some k → k < SLOTS }
         ensures { self.new.slots.items ≡ slots_up slot peer replaced self.old.slots.items }
     {
         if let Some(replaced) = replaced {
@@ -102,7 +100,7 @@ impl Direct {
 
     /// The slot is no longer established.
     fn replace(&mut self, slot: u32)
-        requires { slot < 64 }
+        requires { slot < SLOTS }
         ensures { self.new.slots.items ≡ slots_without (Some slot) self.old.slots.items }
     {
         let without = self.slots[slot as usize].without_peer();

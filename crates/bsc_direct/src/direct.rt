@@ -1,5 +1,6 @@
 //! The slots of direct connections.
 ghost use Rattle.std.specs.Prelude.{◌≡◌, vec_len};
+ghost use Rattle.bsc_direct.specs.declared.bounds.TheConstants.{SLOTS};
 
 use crate::slot::Slot;
 
@@ -10,5 +11,5 @@ use crate::slot::Slot;
 #[derive(Drop)]
 pub struct Direct {
     pub(crate) slots: Vec<Slot>,
-    ghost all: { vec_len slots ≡ 64 },
+    ghost all: { vec_len slots ≡ SLOTS },
 }

@@ -7,6 +7,7 @@
 //! (`specs/Paths.antt`).
 #![tactic(auto)]
 
+mod bounds;
 mod call;
 mod calls;
 mod direct;
@@ -19,6 +20,7 @@ mod routes;
 mod slot;
 mod slots_full;
 
+pub use bounds::SLOTS;
 pub use call::SlotCall;
 pub use direct::Direct;
 pub use establish::Establish;

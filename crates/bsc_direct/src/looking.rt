@@ -5,6 +5,7 @@ ghost use Rattle.bsc_direct.specs.Slots.{establish, established_peer, free_slot,
 ghost use Rattle.bsc_direct.specs.Kept.{says_peer, says_wanted, slot_at};
 ghost use Rattle.bsc_direct.specs.Standing.{IsOnlyClaimed, StandsFor};
 
+use crate::bounds::SLOTS;
 use crate::direct::Direct;
 use crate::establish::Establish;
 use crate::places::place_free;
@@ -67,7 +68,7 @@ impl Direct {
 
     /// What `establish` answers, with nothing established yet.
     pub fn establishes(&self, own: Vmac, slot: u32, peer: &Identity) -> Establish
-        requires { slot < 64 }
+        requires { slot < SLOTS }
         ensures { (calls : List SlotCall) → StandsFor self.now calls → result ≡ establish own calls slot peer.now }
     {
         self.answer(own, slot, peer)

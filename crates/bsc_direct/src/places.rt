@@ -4,12 +4,13 @@ ghost use Rattle.bsc_octets.specs.Addresses.{same_vmac, same_device};
 ghost use Rattle.bsc_direct.specs.Slots.{is_rival};
 ghost use Rattle.bsc_direct.specs.Kept.{says_claimed, kept_with};
 
+use crate::bounds::SLOTS;
 use crate::slot::Slot;
 use bsc_octets::{DeviceId, Identity, Vmac};
 
 /// The number of the slot at a place.
 fn number(place: Option<usize>) -> Option<u32>
-    requires { (k : ℕ) → place ≡ Some k → k < 64 }
+    requires { (k : ℕ) → place ≡ Some k → k < SLOTS }
     ensures { result ≡ place }
 {
     match place {
@@ -45,7 +46,7 @@ fn place_of_rival(slots: &[Slot], who: &Identity) -> Option<usize>
 
 /// The slot that is established with this VMAC.
 pub(crate) fn with_vmac(slots: &[Slot], v: Vmac) -> Option<u32>
-    requires { length slots.now ≡ 64 }
+    requires { length slots.now ≡ SLOTS }
     ensures { result ≡ kept_with (λ who. same_vmac who.vmac v) slots.now }
 {
     number(place_of_vmac(slots, v))
@@ -53,7 +54,7 @@ pub(crate) fn with_vmac(slots: &[Slot], v: Vmac) -> Option<u32>
 
 /// The slot that is established with this device.
 pub(crate) fn with_device(slots: &[Slot], device: DeviceId) -> Option<u32>
-    requires { length slots.now ≡ 64 }
+    requires { length slots.now ≡ SLOTS }
     ensures { result ≡ kept_with (λ who. same_device who.device device) slots.now }
 {
     number(place_of_device(slots, device))
@@ -61,7 +62,7 @@ pub(crate) fn with_device(slots: &[Slot], device: DeviceId) -> Option<u32>
 
 /// The slot that is established with this VMAC by another device.
 pub(crate) fn rival_of(slots: &[Slot], who: &Identity) -> Option<u32>
-    requires { length slots.now ≡ 64 }
+    requires { length slots.now ≡ SLOTS }
     ensures { result ≡ kept_with (is_rival who.now) slots.now }
 {
     number(place_of_rival(slots, who))

@@ -34,7 +34,7 @@ pub use laws::{
     one_of_device, one_of_three, refusal_changes_none, unicast_joins, unicast_to_holder_alone,
     until_end, within,
 };
-pub use limits::{About, Limits};
+pub use limits::{About, Limits, MOST_CALLERS, MOST_CALLS, MOST_OCTETS, MOST_OUTBOX, MOST_ROWS};
 pub use looks::{Look, Looks};
 pub use making::Makes;
 pub use mark::{Mark, Stamped};

@@ -13,21 +13,22 @@ use Rattle.uuid.proofs.TextLemmas.{by_index_same}
 use Rattle.bsc_octets.specs.declared.identity.Identity.{Identity}
 use Rattle.bsc_octets.specs.Identities.{identity_octets, identity_of}
 use Rattle.bsc_history.specs.declared.limits.About.{About}
+use Rattle.bsc_history.specs.declared.limits.TheConstants.{MOST_CALLERS, MOST_CALLS, MOST_OUTBOX, MOST_ROWS}
 use Rattle.bsc_text.specs.Grammar.{decoded, device_in, is_digit, is_letter, maximum_of_word, number_in, vmac_in}
 use Rattle.bsc_text.specs.Lines.{in_front}
 use Rattle.bsc_text.specs.Words.{words_of}
 use Rattle.bsc_script.specs.declared.line.Line.TheVariants.{Hub}
-use Rattle.bsc_script.specs.Lines.{hub_line as said_line, hub_of, lies_within, line_of, line_of_words, may_be_hub, most_calls}
+use Rattle.bsc_script.specs.Lines.{hub_line as said_line, hub_of, lies_within, line_of, line_of_words, may_be_hub}
 use Rattle.bsc_journal.specs.Saying.{IsHubLine, IsIdentity, are_octets, is_short}
 use Rattle.bsc_journal.proofs.Loosening.{hex_plain, hex_some, plain}
 use Rattle.bsc_journal.proofs.Numbers.{digits, number_back, some_digits}
 use Rattle.bsc_hub_command.specs.HubLines.{hub_text}
 
--- A script may make this hub: its line takes these numbers, and it has 2^62 callers.
+-- A script may make this hub: its line takes these numbers, and it has the most callers.
 abbrev pub CanBeSaid : About → Type 0
 CanBeSaid a =
     (may_be_hub a.hub.vmac a.hub.max_bvlc a.hub.max_npdu a.limits.rows a.limits.outbox a.limits.calls ≡ true)
-    × (a.limits.callers ≡ 4611686018427387904)
+    × (a.limits.callers ≡ MOST_CALLERS)
 
 -- ---- words
 
@@ -186,7 +187,7 @@ plain_digits (c ∷ w) h =
 number_word : (n : ℕ) → is_short n ≡ true → IsWord (decimal n)
 number_word n h = (some_digits n h, plain_digits (decimal n) (digits n h))
 
-short : (low n high : ℕ) → high ≤ most_calls → lies_within low n high ≡ true → is_short n ≡ true
+short : (low n high : ℕ) → high ≤ MOST_CALLS → lies_within low n high ≡ true → is_short n ≡ true
 short low n high most h =
     let within = leb-true n high (and_parts (nat_le low n) (nat_le n high) h).1 in
     lt-ltb n (10 ^ 19) (omega (arith, most, within))
@@ -208,10 +209,10 @@ hub_back a is can =
     let o : List ℕ = identity_octets a.hub in
     let long : length o ≡ 26 = is.long in
     let h : are_octets o ≡ true = is.octets in
-    let tests = last_tests _ (lies_within 1 a.limits.rows 1024) (lies_within 2 a.limits.outbox 1024) (lies_within 1 a.limits.calls most_calls) _ can.0 in
-    let rows = short 1 a.limits.rows 1024 (omega arith) tests.0 in
-    let outbox = short 2 a.limits.outbox 1024 (omega arith) tests.1 in
-    let calls = short 1 a.limits.calls most_calls (omega arith) tests.2 in
+    let tests = last_tests _ (lies_within 1 a.limits.rows MOST_ROWS) (lies_within 2 a.limits.outbox MOST_OUTBOX) (lies_within 1 a.limits.calls MOST_CALLS) _ can.0 in
+    let rows = short 1 a.limits.rows MOST_ROWS (omega arith) tests.0 in
+    let outbox = short 2 a.limits.outbox MOST_OUTBOX (omega arith) tests.1 in
+    let calls = short 1 a.limits.calls MOST_CALLS (omega arith) tests.2 in
     let v : List ℕ = take 6 o in
     let v_long : length v ≡ 6 = length-take-le 6 o (omega (arith, long)) in
     let v_octets = octets_take 6 o h in

@@ -1,7 +1,9 @@
 -- A hub by settings is one that a script may make.
 use Rattle.std.proofs.Common.{◌≡◌, ℕ, ◌≤◌, Bool, true, false, not, ◌||◌, refl, ◌*◌}
 use Rattle.std.proofs.lemmas.Bool.{and_from, le-leb}
+use Rattle.bsc_octets.specs.declared.bounds.TheConstants.{LEAST_BVLC}
 use Rattle.bsc_octets.specs.Addresses.{broadcast, same_vmac, zero_vmac}
+use Rattle.bsc_history.specs.declared.limits.TheConstants.{MOST_OCTETS, MOST_OUTBOX, MOST_ROWS}
 use Rattle.bsc_settings.specs.declared.hub.HubSettings.{HubSettings}
 use Rattle.bsc_settings.specs.Parts.{identity_of, limits_of}
 use Rattle.bsc_script.specs.Lines.{lies_within}
@@ -24,11 +26,11 @@ can_be_said s =
           (and_from _ _
           (and_from _ _
           (and_from _ _ named.0 named.1)
-          (within 64 s.max_bvlc 65535 s.max_bvlc_fits))
+          (within LEAST_BVLC s.max_bvlc 65535 s.max_bvlc_fits))
           (within 1 s.max_npdu 65535 s.max_npdu_fits))
-          (within 1 s.rows 1024 s.rows_fit))
-          (within 2 s.outbox 1024 s.outbox_fits))
+          (within 1 s.rows MOST_ROWS s.rows_fit))
+          (within 2 s.outbox MOST_OUTBOX s.outbox_fits))
           refl)
-          (le-leb (s.rows * s.outbox * s.max_bvlc) 1073741824 s.product),
+          (le-leb (s.rows * s.outbox * s.max_bvlc) MOST_OCTETS s.product),
       refl,
     )

@@ -6,15 +6,16 @@ use Rattle.bsc_history.specs.declared.limits.About.{About}
 use Rattle.bsc_history.specs.Legality.{Legal}
 use Rattle.bsc_text.specs.Lines.{line_in, pieces_of}
 use Rattle.bsc_lines.specs.Lines.{entry_line}
+use Rattle.bsc_journal.specs.declared.bounds.TheConstants.{MOST_IN_ALL, MOST_IN_LINE}
 use Rattle.bsc_journal.specs.Saying.{HasLine, IsHubLine, is_denial}
 
--- the most octets that all journals may have together, with the ends of lines: 2^28
+-- the most octets that all journals may have together, with the ends of lines
 abbrev pub most_octets : ℕ
-most_octets = 268435456
+most_octets = MOST_IN_ALL
 
 -- the most octets that a line may have, without its end
 abbrev pub most_in_line : ℕ
-most_in_line = 300000
+most_in_line = MOST_IN_LINE
 
 -- The lines of octets, each without its end. They are cut as those of scripts are.
 abbrev pub lines_of : List ℕ → List (List ℕ)

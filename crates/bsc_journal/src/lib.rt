@@ -5,6 +5,7 @@
 //! `entry_line` of `bsc_lines` writes the line of an entry, and `read_said` reads what a line of a journal says.
 #![tactic(auto)]
 
+mod bounds;
 mod finding;
 mod having;
 mod read_calls;
@@ -13,6 +14,7 @@ mod reading;
 mod said;
 mod saying;
 
+pub use bounds::{MOST_IN_ALL, MOST_IN_LINE};
 pub use bsc_lines::entry_line;
 pub use finding::read_entry;
 pub use said::Said;

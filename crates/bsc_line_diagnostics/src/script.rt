@@ -6,15 +6,13 @@ use bsc_diagnostics::{
     Diagnostic, hold_any_maximum, hold_device, hold_lengths, hold_name, hold_number, hold_octets,
     hold_one_node, hold_vmac, hold_within, next_line, no_more, only_word, why_time, word_of,
 };
+use bsc_history::{MOST_CALLS, MOST_OCTETS, MOST_OUTBOX, MOST_ROWS};
 use bsc_player::LineFault;
 use bsc_script::read_line;
 use bsc_text::{begins_comment, next_word, read_maximum, read_number};
 use std::alloc::Global;
 
 const HUB: &str = "hub VMAC UUID MAXB MAXN ROWS OUTBOX [CALLS]";
-
-/// The most octets that all outboxes may hold together: 2^30.
-const MOST_OCTETS: u64 = 1 << 30;
 
 /// What has no form of a line, although each of its words is right.
 const NO_LINE: Diagnostic<'static> = Diagnostic::Line {
@@ -51,16 +49,16 @@ pub(crate) fn hold_hub<'a>(words: &'a [u8]) -> Result<(), Diagnostic<'a>> {
     hold_any_maximum(npdu)?;
     hold_one_node(address)?;
     hold_lengths(bvlc, npdu)?;
-    hold_within(rows, 1, 1024, "is no number of rows from 1 to 1024")?;
+    hold_within(rows, 1, MOST_ROWS, "is no number of rows from 1 to 1024")?;
     hold_within(
         outbox,
         2,
-        1024,
+        MOST_OUTBOX,
         "is no number of frames of an outbox from 2 to 1024",
     )?;
     if let Some((calls, words)) = next_word(words) {
         no_more(words, HUB)?;
-        hold_within(calls, 1, 1 << 52, "is no number of calls from 1 to 2^52")?;
+        hold_within(calls, 1, MOST_CALLS, "is no number of calls from 1 to 2^52")?;
     }
     hold_product(bvlc, rows, outbox)
 }

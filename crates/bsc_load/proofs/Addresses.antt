@@ -8,6 +8,7 @@ use Rattle.bsc_history.specs.Outboxes.{vmac_of}
 use Rattle.bsc_turn.specs.declared.pass.Pass.{Pass}
 use Rattle.bsc_turn.specs.Passes.{seen}
 use Rattle.bsc_hub.specs.Passing.{IsOwnAs}
+use Rattle.bsc_load.specs.declared.bounds.TheConstants.{WORKERS}
 use Rattle.bsc_load.specs.Peers.{address, receiver, sender}
 
 -- the number of an address
@@ -18,7 +19,7 @@ number_at-address : (n : ℕ) → n < 65536 → number_at (address n) ≡ n
 unfolding number_at
 number_at-address n small = ap (big_number 2) (sym (append-nil (big_bytes 2 n))) ∙ two_octet_number n [] small
 
-pub addresses_differ : (i : ℕ) → i < 512 → (sender i).vmac ≢ (receiver i).vmac
+pub addresses_differ : (i : ℕ) → i < WORKERS → (sender i).vmac ≢ (receiver i).vmac
 addresses_differ i small same =
     let one = number_at-address (2 * i + 1) (omega (arith, small)) in
     let two = number_at-address (2 * i + 2) (omega (arith, small)) in
@@ -26,5 +27,5 @@ addresses_differ i small same =
     omega (arith, e)
 
 -- the two connections of a worker differ, since their addresses do
-pub connections_differ : (q : Pass) (i s r : ℕ) → i < 512 → IsOwnAs q s (sender i).vmac → IsOwnAs q r (receiver i).vmac → r ≢ s
+pub connections_differ : (q : Pass) (i s r : ℕ) → i < WORKERS → IsOwnAs q s (sender i).vmac → IsOwnAs q r (receiver i).vmac → r ≢ s
 connections_differ q i s r small a b same = addresses_differ i small (sym a.1 ∙ ap (λ (c : ℕ). vmac_of (entries (seen q)) c) (sym same) ∙ b.1)

@@ -25,6 +25,7 @@ use Rattle.bsc_hub.specs.Calls.{connect_made, leave_made, leave_stamped}
 use Rattle.bsc_hub.specs.Passing.{IsCaller, IsOwnAs, Passed, about_of}
 use Rattle.bsc_hub.proofs.Owning.{owned_kept}
 use Rattle.bsc_hub.proofs.Staying.{connect_stays, leave_stays}
+use Rattle.bsc_load.specs.declared.bounds.TheConstants.{WORKERS}
 use Rattle.bsc_load.specs.declared.jobs.Cut.{Cut}
 use Rattle.bsc_load.specs.declared.jobs.Cut.TheVariants.{NoMemory, Short}
 use Rattle.bsc_load.specs.Inner.{AfterBoth, Goes, Holds, RanAll, ShowsBy, WasWorn}
@@ -74,12 +75,12 @@ cut_shows h n q k E e l NoMemory few many later worn = tt
 cut_shows h n q k E e l Short few many later worn = inr (omega (arith, length_between E e l, few, many), omega (arith, later, worn))
 
 -- what was the sender's stays its own when the receiver leaves
-pub owns_between : (h : Hub) (i s : ℕ) (n q : Pass) (c : ℕ) (o : Outlet) (told : Told Gone) → i < 512 → IsCaller h n → IsOwnAs n s (sender i).vmac → IsOwnAs n c (receiver i).vmac → Passed h n [] (leave_made (number_of n) c (empties_of o) told) q → IsOwnAs q s (sender i).vmac
+pub owns_between : (h : Hub) (i s : ℕ) (n q : Pass) (c : ℕ) (o : Outlet) (told : Told Gone) → i < WORKERS → IsCaller h n → IsOwnAs n s (sender i).vmac → IsOwnAs n c (receiver i).vmac → Passed h n [] (leave_made (number_of n) c (empties_of o) told) q → IsOwnAs q s (sender i).vmac
 owns_between h i s n q c o told small is mine its left =
     owned_kept h n q [] (leave_made (number_of n) c (empties_of o) told) s (sender i).vmac is left (leave_stays (number_of n) c (empties_of o) told s (connections_differ n i s c small mine its)) mine
 
 pub after_both : (h : Hub) (i s : ℕ) (p m n q : Pass) (j : Joined) (o : Outlet) (told : Told Gone) (result : Result ℕ Cut) →
-    i < 512 → IsCaller h p → IsOwnAs p s (sender i).vmac →
+    i < WORKERS → IsCaller h p → IsOwnAs p s (sender i).vmac →
     Passed h p [] (connect_made (number_of p) (receiver i) (Ok j)) m → IsOwnAs m j.conn (receiver i).vmac →
     RanAll h i s m n o result →
     Passed h n [] (leave_made (number_of n) j.conn (empties_of o) told) q →

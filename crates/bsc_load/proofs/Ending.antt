@@ -15,6 +15,7 @@ use Rattle.bsc_hub.specs.declared.hub.Hub.{Hub}
 use Rattle.bsc_hub.specs.Calls.{stop_made}
 use Rattle.bsc_hub.specs.Passing.{Passed, Placed, Went, about_of}
 use Rattle.bsc_hub.proofs.Following.{passed_none, passed_then}
+use Rattle.bsc_load.specs.declared.bounds.TheConstants.{WORKERS}
 use Rattle.bsc_load.specs.declared.ends.LoadEnd.{LoadEnd}
 use Rattle.bsc_load.specs.declared.ends.LoadStop.{LoadStop}
 use Rattle.bsc_load.specs.declared.ends.LoadStop.TheVariants.{Short as ShortStop}
@@ -55,7 +56,7 @@ same_stop : (h : Hub) (p m v q : Pass) (told : Result (Told Counts) AlreadyStopp
 same_stop h p m v q told n js ws sum split j s = subst (λ k. Passed h v [] (stop_made k told) q) (j.passed.number ∙ split.went.number) s.passed
 
 -- at least one worker was cut short or got no pass
-some_short : (h : Hub) (p m v q : Pass) (n without short : ℕ) (js : List Job) (ws : List Work) (sum : Sum) (told : Result (Told Counts) AlreadyStopped) → n ≤ 512 → without ≡ n - length js → short ≡ within_32_bits (sum.short + without) →
+some_short : (h : Hub) (p m v q : Pass) (n without short : ℕ) (js : List Job) (ws : List Work) (sum : Sum) (told : Result (Told Counts) AlreadyStopped) → n ≤ WORKERS → without ≡ n - length js → short ≡ within_32_bits (sum.short + without) →
     Splits h p m n js → HaveRun h js ws → Joins h ws m v sum → Stops h v q told → 0 < short → Loads h p q n (Err (ShortStop short))
 some_short h p m v q n without short js ws sum told few rest all split run j s some =
     let xs = j.workers in
@@ -74,7 +75,7 @@ some_short h p m v q n without short js ws sum told few rest all split run j s s
     }
 
 -- none was
-none_short : (h : Hub) (p m v q : Pass) (n without short : ℕ) (js : List Job) (ws : List Work) (sum : Sum) (told : Result (Told Counts) AlreadyStopped) → n ≤ 512 → without ≡ n - length js → short ≡ within_32_bits (sum.short + without) →
+none_short : (h : Hub) (p m v q : Pass) (n without short : ℕ) (js : List Job) (ws : List Work) (sum : Sum) (told : Result (Told Counts) AlreadyStopped) → n ≤ WORKERS → without ≡ n - length js → short ≡ within_32_bits (sum.short + without) →
     Splits h p m n js → HaveRun h js ws → Joins h ws m v sum → Stops h v q told → short ≤ 0 → sum.lacks_memory ≡ false → Loads h p q n (ends_as told sum.octets)
 none_short h p m v q n without short js ws sum (Ok t) few rest all split run j s none fine =
     let xs = j.workers in
@@ -103,13 +104,13 @@ none_short h p m v q n without short js ws sum (Err already) few rest all split 
       place = s.place;
     }
 
-answered : (h : Hub) (p m v q : Pass) (n without short : ℕ) (js : List Job) (ws : List Work) (sum : Sum) (told : Result (Told Counts) AlreadyStopped) (b : Bool) → nat_lt 0 short ≡ b → n ≤ 512 → without ≡ n - length js → short ≡ within_32_bits (sum.short + without) →
+answered : (h : Hub) (p m v q : Pass) (n without short : ℕ) (js : List Job) (ws : List Work) (sum : Sum) (told : Result (Told Counts) AlreadyStopped) (b : Bool) → nat_lt 0 short ≡ b → n ≤ WORKERS → without ≡ n - length js → short ≡ within_32_bits (sum.short + without) →
     Splits h p m n js → HaveRun h js ws → Joins h ws m v sum → Stops h v q told → sum.lacks_memory ≡ false → Loads h p q n (cond b (Err (ShortStop short)) (ends_as told sum.octets))
 answered h p m v q n without short js ws sum told true is few rest all split run j s fine = some_short h p m v q n without short js ws sum told few rest all split run j s (ltb-true 0 short is)
 answered h p m v q n without short js ws sum told false is few rest all split run j s fine = none_short h p m v q n without short js ws sum told few rest all split run j s (ltb-false 0 short is) fine
 
 -- from the jobs on
-pub loads_from : (h : Hub) (m q : Pass) (n without : ℕ) (js : List Job) (ws : List Work) (result : Result LoadEnd LoadStop) → n ≤ 512 → without ≡ n - length js → HaveRun h js ws → Finishes h ws without m q result → LoadsFrom h m n js q result
+pub loads_from : (h : Hub) (m q : Pass) (n without : ℕ) (js : List Job) (ws : List Work) (result : Result LoadEnd LoadStop) → n ≤ WORKERS → without ≡ n - length js → HaveRun h js ws → Finishes h ws without m q result → LoadsFrom h m n js q result
 loads_from h m q n without js ws result few rest run f p split =
     elim f.ends [
       | inl lacks ↦ subst (λ (r : Result LoadEnd LoadStop). Loads h p q n r) (sym lacks.2)

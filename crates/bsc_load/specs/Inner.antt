@@ -30,6 +30,7 @@ use Rattle.bsc_hub.specs.declared.joined.ConnectRefusal.{ConnectRefusal}
 use Rattle.bsc_hub.specs.declared.joined.ConnectRefusal.TheVariants.{NoMemory as NoMemoryRefusal, Worn as WornRefusal, Refused}
 use Rattle.bsc_hub.specs.Calls.{stop_made}
 use Rattle.bsc_hub.specs.Passing.{IsCaller, IsOwnAs, Passed, Went, about_of, found_history}
+use Rattle.bsc_load.specs.declared.bounds.TheConstants.{WORKERS}
 use Rattle.bsc_load.specs.declared.ends.LoadEnd.{LoadEnd}
 use Rattle.bsc_load.specs.declared.ends.LoadStop.{LoadStop}
 use Rattle.bsc_load.specs.declared.ends.LoadStop.TheVariants.{NoMemory as NoMemoryStop, Short as ShortStop, Stopped}
@@ -175,7 +176,7 @@ pub record IsJob (h : Hub) (j : Job) : Type 0 where
   pub own : own_list j.pass ≡ []
   pub ended : ended_callers j.pass ≡ []
   pub fresh : loads_made j.pass ≡ 0
-  pub index : j.index < 512
+  pub index : j.index < WORKERS
 
 -- a worker that has run: all that its pass made is what the worker did
 pub record HasRun (h : Hub) (w : Work) : Type 0 where

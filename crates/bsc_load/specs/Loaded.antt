@@ -1,14 +1,16 @@
 -- A workload on a hub of its own.
-use Rattle.std.specs.Prelude.{◌≡◌, ℕ, ◌^◌, [], ◌∷◌, Result, Some}
+use Rattle.std.specs.Prelude.{◌≡◌, ℕ, [], ◌∷◌, Result, Some}
 use Rattle.std.specs.declared.sync.Arc.{Arc}
 use Rattle.std.specs.Arc.{arc_value}
 use Rattle.bsc_octets.specs.declared.identity.Identity.{Identity}
 use Rattle.bsc_history.specs.declared.limits.About.{About}
+use Rattle.bsc_history.specs.declared.limits.TheConstants.{MOST_CALLERS, MOST_CALLS}
 use Rattle.bsc_turn.specs.declared.pass.Pass.{Pass}
 use Rattle.bsc_turn.specs.Passes.{ended_callers, loads_made, number_of, own_list, seen}
 use Rattle.bsc_hub.specs.declared.hub.Hub.{Hub}
 use Rattle.bsc_hub.specs.declared.kept.Kept.{Kept}
 use Rattle.bsc_hub.specs.Passing.{IsCaller, about_of}
+use Rattle.bsc_load.specs.declared.bounds.TheConstants.{OUTBOX, ROWS}
 use Rattle.bsc_load.specs.declared.ends.LoadEnd.{LoadEnd}
 use Rattle.bsc_load.specs.declared.ends.LoadStop.{LoadStop}
 use Rattle.bsc_load.specs.Load.{Loads}
@@ -22,9 +24,9 @@ load_hub = record {
   max_npdu = 1497;
 }
 
--- It has 1024 rows and outboxes of 64 frames, and as many calls and callers as a hub can have.
+-- It has two rows for each worker of the greatest workload, and as many calls and callers as a hub can have.
 abbrev pub load_about : About
-load_about = record { hub = load_hub; limits = record { rows = 1024; outbox = 64; calls = 2 ^ 52; callers = 2 ^ 62 } }
+load_about = record { hub = load_hub; limits = record { rows = ROWS; outbox = OUTBOX; calls = MOST_CALLS; callers = MOST_CALLERS } }
 
 -- That hub was made, so many workers were run on it by its first pass, and it and the pass are kept.
 pub record Loaded {Z : Type 0} (n : ℕ) (kept : Kept) (hub : Arc Hub Z) (result : Result LoadEnd LoadStop) : Type 0 where

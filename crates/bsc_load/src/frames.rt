@@ -3,6 +3,7 @@ ghost use Rattle.std.specs.Prelude.{◌≡◌, ◌+◌, ◌%◌, ◌<◌, ◌∷
 ghost use Rattle.byteorder.specs.Endian.{big_bytes};
 ghost use Rattle.bsc_load.specs.Frames.{frame, npdu};
 
+use crate::bounds::WORKERS;
 use crate::peers::receiver;
 use bsc_octets::{NoMemory, Vmac};
 use byteorder::{BigEndian, ByteOrder};
@@ -40,7 +41,7 @@ fn head(id: u16, to: &Vmac) -> [u8; 10]
 
 /// Forward `k` of worker `i`.
 pub(crate) fn frame(alloc: Global, i: u16, k: u16) -> Result<Vec<u8>, NoMemory>
-    requires { i < 512 }
+    requires { i < WORKERS }
     ensures { IfOk result (λ v. v.items ≡ frame i k) }
 {
     let mut message = Vec::from_slice(alloc, &head(k, &receiver(i).vmac))?;

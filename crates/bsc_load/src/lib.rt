@@ -6,6 +6,7 @@
 //! of the counts.
 #![tactic(auto)]
 
+mod bounds;
 mod ends;
 mod frames;
 mod jobs;
@@ -17,6 +18,7 @@ mod taking;
 mod worker;
 mod workload;
 
+pub use bounds::{OUTBOX, ROWS, WORKERS};
 pub use ends::{LoadEnd, LoadStop};
 pub use laws::appended_is_sent;
 pub use loading::load;

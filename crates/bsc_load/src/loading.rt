@@ -7,9 +7,10 @@ ghost use Rattle.bsc_load.specs.declared.ends.LoadStop.TheVariants.{NoMemory as 
 ghost use Rattle.bsc_load.specs.Load.{Loads};
 ghost use Rattle.bsc_load.specs.Loaded.{Loaded, load_about, load_hub};
 
+use crate::bounds::{OUTBOX, ROWS, WORKERS};
 use crate::ends::{LoadEnd, LoadStop};
 use crate::workload::load_on;
-use bsc_history::Limits;
+use bsc_history::{Limits, MOST_CALLERS, MOST_CALLS};
 use bsc_hub::{Hub, Kept, Pass};
 use bsc_octets::{DeviceId, Identity, NoMemory, Vmac};
 use std::alloc::Global;
@@ -41,10 +42,10 @@ fn make_hub(alloc: Global) -> Result<(Arc<Hub>, Pass), NoMemory>
     ensures about { IfOk result (λ r. about_of (arc_value r.0) ≡ load_about) }
 {
     let limits = Limits {
-        rows: 1_024,
-        outbox: 64,
-        calls: 1 << 52,
-        callers: 1 << 62,
+        rows: ROWS,
+        outbox: OUTBOX,
+        calls: MOST_CALLS,
+        callers: MOST_CALLERS,
     };
     let (hub, pass) = Hub::make(alloc, hub_identity(), limits)?;
     Ok((Arc::new(alloc, hub)?, pass))
@@ -59,21 +60,21 @@ fn run_on<R: Threads + Wait + Sync>(
     workers: u32,
 ) -> Result<LoadEnd, LoadStop>
     requires caller { IsCaller (arc_value hub.now) pass.old }
-    requires workers { (1 ≤ workers) × (workers ≤ 512) }
+    requires workers { (1 ≤ workers) × (workers ≤ WORKERS) }
     ensures { Loads (arc_value hub.now) pass.old pass.new workers result }
 {
     load_on(rt, alloc, hub, pass, workers)
 }
 
-/// Makes a hub of 1,024 rows and outboxes of 64 frames, runs so many workers on it, 1 to 512, and puts it and its first
-/// pass into `kept`.
+/// Makes a hub of `ROWS` rows and outboxes of `OUTBOX` frames, runs so many workers on it, 1 to `WORKERS`, and puts it and
+/// its first pass into `kept`.
 pub fn load<R: Threads + Wait + Sync>(
     rt: &R,
     alloc: Global,
     workers: u32,
     kept: &mut Kept,
 ) -> Result<LoadEnd, LoadStop>
-    requires workers { (1 ≤ workers) × (workers ≤ 512) }
+    requires workers { (1 ≤ workers) × (workers ≤ WORKERS) }
     requires kept { kept.old.hub ≡ None }
 
     // Once the hub is made, it and its pass are kept, and what `load_on` says holds of them.

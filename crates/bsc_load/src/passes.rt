@@ -4,6 +4,7 @@ ghost use Rattle.std.specs.List.{AllByRecursion};
 ghost use Rattle.bsc_hub.specs.Passing.{IsCaller};
 ghost use Rattle.bsc_load.specs.Inner.{Asks, CountsIn, HasRun, HaveRun, IsJob, Joins, RunsJob, Splits};
 
+use crate::bounds::WORKERS;
 use crate::jobs::{Cut, Job, Sum, Work};
 use crate::worker::run_job;
 use bsc_hub::{Hub, Pass};
@@ -22,7 +23,7 @@ pub(crate) fn split_for<R: Wait>(
     workers: u16,
 ) -> Result<Vec<Job>, NoMemory>
     requires caller { IsCaller hub.now pass.old }
-    requires workers { workers ≤ 512 }
+    requires workers { workers ≤ WORKERS }
     ensures asks { Asks hub.now pass.old pass.new workers }
     ensures splits { IfOk result (λ v. Splits hub.now pass.old pass.new workers v.items) }
 {

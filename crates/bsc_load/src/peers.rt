@@ -3,6 +3,7 @@ ghost use Rattle.std.specs.Prelude.{◌≡◌, ◌+◌, ◌*◌, ◌<◌, ◌∷
 ghost use Rattle.byteorder.specs.Endian.{big_bytes};
 ghost use Rattle.bsc_load.specs.Peers.{address, device, peer, receiver, sender};
 
+use crate::bounds::WORKERS;
 use bsc_octets::{DeviceId, Identity, Vmac};
 use byteorder::{BigEndian, ByteOrder};
 use uuid::Uuid;
@@ -41,7 +42,7 @@ pub(crate) fn peer(n: u16) -> Identity
 
 /// Who sends for worker `i`.
 pub(crate) fn sender(i: u16) -> Identity
-    requires { i < 512 }
+    requires { i < WORKERS }
     ensures { result ≡ sender i }
 {
     peer(2 * i + 1)
@@ -49,7 +50,7 @@ pub(crate) fn sender(i: u16) -> Identity
 
 /// Who receives for worker `i`.
 pub(crate) fn receiver(i: u16) -> Identity
-    requires { i < 512 }
+    requires { i < WORKERS }
     ensures { result ≡ receiver i }
 {
     peer(2 * i + 2)

@@ -5,6 +5,7 @@ ghost use Rattle.bsc_hub.specs.Passing.{IsCaller, IsOwnAs};
 ghost use Rattle.bsc_load.specs.Inner.{AfterBoth, Forwards, IsJob, RanAll, Runs, RunsJob, cut_of, goes_on};
 ghost use Rattle.bsc_load.specs.Peers.{sender};
 
+use crate::bounds::WORKERS;
 use crate::frames::frame;
 use crate::jobs::{Cut, Job, Work};
 use crate::peers::{receiver, sender};
@@ -41,7 +42,7 @@ fn forward<R: Wait>(
 ) -> Result<(), Cut>
     requires caller { IsCaller hub.now pass.old }
     requires own { IsOwnAs pass.old conn (sender i).vmac }
-    requires index { i < 512 }
+    requires index { i < WORKERS }
     ensures { Forwards hub.now i conn k pass.old pass.new result }
 {
     let Ok(message) = frame(alloc, i, k) else {
@@ -66,7 +67,7 @@ fn forward_all<R: Wait>(
     requires caller { IsCaller hub.now pass.old }
     requires own { IsOwnAs pass.old conn (sender i).vmac }
     requires new { IsNewOutlet outlet.old }
-    requires index { i < 512 }
+    requires index { i < WORKERS }
     ensures ran { RanAll hub.now i conn pass.old pass.new outlet.new result }
     ensures mark { outlet_mark outlet.new ≡ outlet_mark outlet.old }
 {
@@ -102,7 +103,7 @@ fn run_both<R: Wait>(
 ) -> Result<u64, Cut>
     requires caller { IsCaller hub.now pass.old }
     requires own { IsOwnAs pass.old conn (sender i).vmac }
-    requires index { i < 512 }
+    requires index { i < WORKERS }
     ensures { AfterBoth hub.now i conn pass.old pass.new result }
 {
     match hub.connect(rt, alloc, pass, receiver(i)) {
@@ -119,7 +120,7 @@ fn run_both<R: Wait>(
 /// Joins the sender, and lets it leave in the end.
 fn run<R: Wait>(rt: &R, alloc: Global, hub: &Hub, pass: &mut Pass, i: u16) -> Result<u64, Cut>
     requires caller { IsCaller hub.now pass.old }
-    requires index { i < 512 }
+    requires index { i < WORKERS }
     ensures { Runs hub.now i pass.old pass.new result }
 {
     match hub.connect(rt, alloc, pass, sender(i)) {

@@ -5,6 +5,7 @@ ghost use Rattle.bsc_hub.specs.Passing.{IsCaller};
 ghost use Rattle.bsc_load.specs.Inner.{Answers, Finishes, HasRun, IsJob, LoadsFrom, Stops, answer};
 ghost use Rattle.bsc_load.specs.Load.{Loads};
 
+use crate::bounds::WORKERS;
 use crate::ends::{LoadEnd, LoadStop};
 use crate::jobs::{Job, Work};
 use crate::passes::{join_all, run_all, split_for};
@@ -89,7 +90,7 @@ fn run_jobs<R: Threads + Wait + Sync>(
     requires caller { IsCaller hub.now pass.old }
     requires jobs { AllByRecursion (IsJob hub.now) jobs.items }
     requires within { length jobs.items ≤ workers }
-    requires few { workers ≤ 512 }
+    requires few { workers ≤ WORKERS }
     ensures { LoadsFrom hub.now pass.old workers jobs.items pass.new result }
 {
     let without = workers - jobs.len() as u32;
@@ -99,7 +100,7 @@ fn run_jobs<R: Threads + Wait + Sync>(
     }
 }
 
-/// Runs so many workers on a hub, 1 to 512, each with a pass of its own that is split from this one and joined in the
+/// Runs so many workers on a hub, 1 to `WORKERS`, each with a pass of its own that is split from this one and joined in the
 /// end, and stops the hub. `Short` says how many workers got no pass, were refused, or met a hub that had made as many
 /// calls as it may; it comes before `Stopped`, which says by which entry the hub had been stopped before. The hub is
 /// stopped then, too, but not where memory ran out.
@@ -111,7 +112,7 @@ pub fn load_on<R: Threads + Wait + Sync>(
     workers: u32,
 ) -> Result<LoadEnd, LoadStop>
     requires caller { IsCaller hub.now pass.old }
-    requires workers { (1 ≤ workers) × (workers ≤ 512) }
+    requires workers { (1 ≤ workers) × (workers ≤ WORKERS) }
 
     // Whose callers the pass took in, each with exactly which calls, and what shows each answer.
     ensures { Loads hub.now pass.old pass.new workers result }

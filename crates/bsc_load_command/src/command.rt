@@ -7,7 +7,7 @@ ghost use Rattle.bsc_load_command.specs.Loaded.{RunsLoad};
 
 use crate::texts::load_text;
 use bsc_hub::Kept;
-use bsc_load::{LoadEnd, LoadStop, load};
+use bsc_load::{LoadEnd, LoadStop, WORKERS, load};
 use bsc_outside::Sink;
 use bsc_player::{end_with, out_of_memory};
 use std::alloc::Global;
@@ -41,8 +41,8 @@ fn tell<K: Sink>(alloc: Global, sink: &mut K, end: Result<LoadEnd, LoadStop>) ->
     }
 }
 
-/// Runs the command `load`: makes a hub, puts it and its first pass into `kept`, runs so many workers on it, 1 to 512,
-/// and writes what that came to.
+/// Runs the command `load`: makes a hub, puts it and its first pass into `kept`, runs so many workers on it, 1 to
+/// `WORKERS`, and writes what that came to.
 pub fn run_load<R: Threads + Wait + Sync, K: Sink>(
     rt: &R,
     alloc: Global,
@@ -50,7 +50,7 @@ pub fn run_load<R: Threads + Wait + Sync, K: Sink>(
     sink: &mut K,
     kept: &mut Kept,
 ) -> u8
-    requires workers { (1 ≤ workers) × (workers ≤ 512) }
+    requires workers { (1 ≤ workers) × (workers ≤ WORKERS) }
     requires kept { kept.old.hub ≡ None }
 
     // Once a hub is made, it and its pass are kept, and this is what became of it and what was written of it.

@@ -7,6 +7,7 @@ use Rattle.bsc_node.specs.declared.node_event.NodeEvent.{NodeEvent}
 use Rattle.bsc_node.specs.declared.node_event.NodeEvent.TheVariants.{Start, DialFailed, Resolve, DirectTo}
 use Rattle.bsc_node.specs.declared.timed_event.TimedEvent.{TimedEvent}
 use Rattle.bsc_node.specs.Logs.{event_of}
+use Rattle.bsc_network.specs.declared.limits.TheConstants.{LINKS}
 use Rattle.bsc_network.specs.declared.target.Target.TheVariants.{Hub as ToHub, Node as ToNode}
 use Rattle.bsc_network.specs.declared.world_step.WorldStep.{WorldStep}
 use Rattle.bsc_network.specs.declared.world_step.WorldStep.TheVariants.{Node as OfNode}
@@ -21,7 +22,7 @@ use Rattle.bsc_network.proofs.Scenes.{primary, failover, a, peer, address, at, j
 
 -- A network in which as many links were made as may be.
 abbrev pub all_made : World
-all_made = record (new_world (primary ∷ failover ∷ a ∷ [])) { links = replicate 4096 (new_link (new_world []) 0 (ToHub 0)) }
+all_made = record (new_world (primary ∷ failover ∷ a ∷ [])) { links = replicate LINKS (new_link (new_world []) 0 (ToHub 0)) }
 
 -- once its node has started
 abbrev pub started : World
@@ -39,7 +40,7 @@ none_untold : started.failed ≡ []
 unfolding world_on_literals
 none_untold = refl
 
-no_link_more : length started.links ≡ 4096
+no_link_more : length started.links ≡ LINKS
 unfolding world_on_literals
 no_link_more = refl
 

@@ -6,6 +6,7 @@ use Rattle.bsc_frame.specs.Payloads.{IsNode}
 use Rattle.bsc_history.specs.declared.limits.About.{About}
 use Rattle.bsc_node.specs.declared.node_event.NodeEvent.TheVariants.{Send}
 use Rattle.bsc_script.specs.Hubs.{IsHub}
+use Rattle.bsc_network.specs.declared.limits.TheConstants.{NODES}
 use Rattle.bsc_network.specs.declared.world_step.WorldStep.{WorldStep}
 use Rattle.bsc_network.specs.declared.world_step.WorldStep.TheVariants.{Node as OfNode}
 use Rattle.bsc_network.specs.declared.timed_step.TimedStep.{TimedStep}
@@ -20,10 +21,10 @@ pub record MayAddHub (before : List Added) (about : About) : Type 0 where
   pub who : IsNode about.hub
   pub fit : IsHub about
 
--- A node may be added once a hub was, where fewer than 64 nodes were.
+-- A node may be added once a hub was, where fewer nodes were than a network has at most.
 pub record MayAddNode (before : List Added) (own : Identity) : Type 0 where
   pub some_hub : 1 ≤ length (hubs before)
-  pub few : length (nodes before) < 64
+  pub few : length (nodes before) < NODES
   pub who : IsNode own
 
 abbrev pub MayAdd : List Added → Added → Type 0

@@ -8,14 +8,15 @@ use Rattle.bsc_history.specs.declared.reply.Reply.{Reply}
 use Rattle.bsc_history.specs.Ends.{joined, numbered}
 use Rattle.bsc_history.specs.Legality.{looks_at}
 use Rattle.bsc_history.specs.Replies.{reply}
+use Rattle.bsc_network.specs.declared.limits.TheConstants.{LINKS}
 use Rattle.bsc_network.specs.Worlds.{World, Hub, Link, history, link_at}
 use Rattle.bsc_network.specs.Changes.{Change, with_hub}
 
 -- ---- callers
 
--- The caller of a call that the hub's side of a link makes is the number of the link. There are at most 4096 links.
+-- The caller of a call that the hub's side of a link makes is the number of the link. There are at most so many links.
 abbrev pub most_links : ℕ
-most_links = 4096
+most_links = LINKS
 
 -- The caller of a Stop, which no link makes.
 abbrev pub no_link : ℕ

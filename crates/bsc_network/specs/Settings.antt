@@ -7,6 +7,7 @@ use Rattle.bsc_history.specs.declared.limits.Limits.{Limits}
 use Rattle.bsc_node.specs.declared.node_limits.NodeLimits.{NodeLimits}
 use Rattle.bsc_node.specs.Logs.{Made}
 use Rattle.bsc_script.specs.States.{default_times}
+use Rattle.bsc_network.specs.declared.limits.TheConstants.{GREATEST_WAIT_MS, LEAST_WAIT_MS}
 
 pub data Added : Type 0 where
   -- a hub, with its identity and its limits
@@ -44,15 +45,15 @@ hubs added = filter_map hub_in added
 -- ---- the nodes
 
 -- The settings of a node with this number, before which so many hubs were added. Hub 0 is its primary hub; hub 1 is its
--- failover where two hubs were added. Before it dials a hub again it waits 2 seconds at least, and 30 seconds at most.
+-- failover where two hubs were added.
 abbrev pub settings : ℕ → ℕ → Bool → NodeLimits
 settings hubs_before number direct = record {
   times = default_times;
   primary = hub_uri 0;
   failover = if nat_lt 1 hubs_before then Some (hub_uri 1) else None;
   uris = if direct then Some (node_uri number) else None;
-  least_wait = 2000;
-  greatest_wait = 30000;
+  least_wait = LEAST_WAIT_MS;
+  greatest_wait = GREATEST_WAIT_MS;
 }
 
 -- the nodes of a list of what was added after so many hubs and so many nodes

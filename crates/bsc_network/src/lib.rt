@@ -7,6 +7,7 @@
 mod arrival;
 mod dialled;
 mod hold;
+mod limits;
 mod parcel;
 mod step_refusal;
 mod target;
@@ -18,6 +19,7 @@ mod world_step;
 pub use arrival::Arrival;
 pub use dialled::Dialled;
 pub use hold::Hold;
+pub use limits::{GREATEST_WAIT_MS, LEAST_WAIT_MS, LINKS, NODES, STEPS};
 pub use parcel::{Content, Parcel};
 pub use step_refusal::StepRefusal;
 pub use target::Target;

@@ -3,7 +3,7 @@ use crate::form::{HUB, NO_LINE, NODE, SEND};
 use bsc_diagnostics::{
     Diagnostic, hold_destination, hold_lengths, hold_one_node, next_line, why_time, word_of,
 };
-use bsc_network::WorldStep;
+use bsc_network::{NODES, WorldStep};
 use bsc_network_script::{Line, read_line};
 use bsc_node::NodeEvent;
 use bsc_text::next_word;
@@ -117,7 +117,7 @@ fn why_node<'a>(stands: Stands, words: &'a [u8]) -> Result<(), Diagnostic<'a>> {
             rule: "a step was made, and nodes stand before all steps",
         });
     }
-    if stands.nodes >= 64 {
+    if stands.nodes >= u64::from(NODES) {
         return Err(Diagnostic::Line {
             rule: "there are 64 nodes already",
         });

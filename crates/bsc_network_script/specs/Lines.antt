@@ -11,6 +11,7 @@ use Rattle.bsc_node.specs.declared.node_event.NodeEvent.TheVariants.{Start, Tick
 use Rattle.bsc_network.specs.declared.way.Way.TheVariants.{Up, Down}
 use Rattle.bsc_network.specs.declared.world_step.WorldStep.{WorldStep}
 use Rattle.bsc_network.specs.declared.world_step.WorldStep.TheVariants.{Node as OfNode, Arrive, Lose, Take, Stop}
+use Rattle.bsc_network_script.specs.declared.limits.TheConstants.{MAX_BVLC, MAX_NPDU}
 use Rattle.bsc_network_script.specs.declared.line.Line.{Line}
 use Rattle.bsc_network_script.specs.declared.line.Line.TheVariants.{Nothing, Hub, Node, At, Step}
 
@@ -38,7 +39,7 @@ hub_line ws = option_map Hub (identity_of_words ws)
 
 -- a node of these, where each is what it should be; the maximum lengths are the same for all nodes
 abbrev pub node_of : Option Vmac → Option DeviceId → Option Bool → Option Line
-node_of (Some v) (Some u) (Some direct) = Some (Node (record { vmac = v; device = u; max_bvlc = 1600; max_npdu = 1497 }) direct)
+node_of (Some v) (Some u) (Some direct) = Some (Node (record { vmac = v; device = u; max_bvlc = MAX_BVLC; max_npdu = MAX_NPDU }) direct)
 node_of v u direct = None
 
 -- whether a node accepts direct connections, by the last words of its line: `direct`, or none

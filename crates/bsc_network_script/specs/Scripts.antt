@@ -1,13 +1,16 @@
 -- What the lines of a network's script mean, and what a whole script comes to.
 use Rattle.std.specs.Prelude.{ℕ, nat_eq, nat_le, nat_lt, Bool, true, not, ◌&&◌, if◌then◌else◌, List, [], ◌∷◌, ◌++◌, length, is_some, Option, Some, None}
+use Rattle.bsc_octets.specs.declared.bounds.TheConstants.{LEAST_BVLC}
 use Rattle.bsc_octets.specs.declared.vmac.Vmac.{Vmac}
 use Rattle.bsc_octets.specs.declared.identity.Identity.{Identity}
 use Rattle.bsc_octets.specs.Addresses.{same_vmac, zero_vmac, broadcast}
 use Rattle.bsc_history.specs.declared.limits.Limits.{Limits}
+use Rattle.bsc_history.specs.declared.limits.TheConstants.{MOST_CALLERS, MOST_CALLS}
 use Rattle.bsc_node.specs.declared.node_event.NodeEvent.{NodeEvent}
 use Rattle.bsc_node.specs.declared.node_event.NodeEvent.TheVariants.{Send}
 use Rattle.bsc_player.specs.Playing.{Played, Outcome, Meaning, played_of}
 use Rattle.bsc_script.specs.Running.{latest}
+use Rattle.bsc_network.specs.declared.limits.TheConstants.{NODES, STEPS}
 use Rattle.bsc_network.specs.declared.world_step.WorldStep.{WorldStep}
 use Rattle.bsc_network.specs.declared.world_step.WorldStep.TheVariants.{Node as OfNode}
 use Rattle.bsc_network.specs.declared.timed_step.TimedStep.{TimedStep}
@@ -15,6 +18,7 @@ use Rattle.bsc_network.specs.Settings.{Added, and_hub, and_node, hubs, nodes}
 use Rattle.bsc_network.specs.Worlds.{World}
 use Rattle.bsc_network.specs.Refusals.{refusal}
 use Rattle.bsc_network.specs.Networks.{dialled_at, delivered_at, world}
+use Rattle.bsc_network_script.specs.declared.limits.TheConstants.{OUTBOX, ROWS}
 use Rattle.bsc_network_script.specs.declared.line.Line.{Line}
 use Rattle.bsc_network_script.specs.declared.line.Line.TheVariants.{Nothing, Hub, Node, At, Step}
 use Rattle.bsc_network_script.specs.Lines.{line_of}
@@ -45,22 +49,21 @@ where_may may out = if may then Some out else None
 abbrev pub names_one : Vmac → Bool
 names_one v = not (same_vmac v zero_vmac) && not (same_vmac v broadcast)
 
--- What a hub may be: its VMAC names one node, and its maximum lengths are 64 and 1 at least, as in the hub line of a script of
--- one hub.
+-- What a hub may be: its VMAC names one node, and its maximum lengths are as in the hub line of a script of one hub.
 abbrev pub may_be_hub : Identity → Bool
-may_be_hub who = names_one who.vmac && nat_le 64 who.max_bvlc && nat_le 1 who.max_npdu
+may_be_hub who = names_one who.vmac && nat_le LEAST_BVLC who.max_bvlc && nat_le 1 who.max_npdu
 
--- Each hub has 256 rows and outboxes of 64 frames; it answers 2^52 calls, and so is never worn.
+-- What each hub is limited to; it answers the most calls, and so is never worn.
 abbrev pub hub_limits : Limits
-hub_limits = record { rows = 256; outbox = 64; calls = 4503599627370496; callers = 4611686018427387904 }
+hub_limits = record { rows = ROWS; outbox = OUTBOX; calls = MOST_CALLS; callers = MOST_CALLERS }
 
 -- Whether a hub may be added once so many steps were made and so many hubs were added: before the first step, and two of them.
 abbrev pub may_add_hub : ℕ → ℕ → Identity → Bool
 may_add_hub made hub_count who = nat_eq made 0 && nat_lt hub_count 2 && may_be_hub who
 
--- Whether a node may be added: before the first step, once there is a hub, and 64 of them.
+-- Whether a node may be added: before the first step, once there is a hub, and so many of them as a network has at most.
 abbrev pub may_add_node : ℕ → ℕ → ℕ → Identity → Bool
-may_add_node made hub_count node_count own = nat_eq made 0 && nat_le 1 hub_count && nat_lt node_count 64 && names_one own.vmac
+may_add_node made hub_count node_count own = nat_eq made 0 && nat_le 1 hub_count && nat_lt node_count NODES && names_one own.vmac
 
 abbrev pub adds_hub : State → Identity → Option (Outcome State)
 adds_hub s who =
@@ -83,9 +86,9 @@ sets s ms = where_may (may_set (length (hubs s.added)) s.clock ms) (quietly (rec
 
 -- ---- steps
 
--- the most steps that may be made: 2^63
+-- the most steps that may be made
 abbrev pub most_steps : ℕ
-most_steps = 9223372036854775808
+most_steps = STEPS
 
 -- What is sent has at least one octet, and a destination that isn't the reserved VMAC.
 abbrev pub is_sendable : NodeEvent → Bool

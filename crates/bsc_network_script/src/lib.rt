@@ -5,8 +5,10 @@
 //! `specs/Written.antt`. `bsc_simulate` plays scripts.
 #![tactic(auto)]
 
+mod limits;
 mod line;
 mod reading;
 
+pub use limits::{MAX_BVLC, MAX_NPDU, OUTBOX, ROWS};
 pub use line::Line;
 pub use reading::read_line;

@@ -5,6 +5,7 @@ ghost use Rattle.bsc_text.specs.Grammar.{octets_of_words, vmac_of_word, device_o
 ghost use Rattle.bsc_network_script.specs.Lines.{index_of, only_index, hub_line, node_of, direct_of_words, node_line, at_line, send_event};
 ghost use Rattle.bsc_network_script.specs.Lines.{only_vmac, bare_event, bare_event_of, other_event, event_of, node_step, step_of, line_of};
 
+use crate::limits::{MAX_BVLC, MAX_NPDU};
 use crate::line::Line;
 use bsc_network::{Way, WorldStep};
 use bsc_node::NodeEvent;
@@ -15,12 +16,6 @@ use bsc_text::{
     read_octets, read_vmac,
 };
 use std::alloc::Global;
-
-/// The longest message that each node takes, in octets.
-const MAX_BVLC: u16 = 1600;
-
-/// The longest NPDU that each node takes, in octets.
-const MAX_NPDU: u16 = 1497;
 
 // ---- numbers
 

@@ -2,6 +2,7 @@
 use Rattle.std.proofs.Common.{◌≡◌, ℕ, true, ◌&&◌, nat_eq, nat_lt, nat_le, List, [], ◌∷◌, ◌++◌, length, refl, sym, subst, arith, append-nil, append_assoc}
 use Rattle.std.proofs.lemmas.Bool.{and_parts, eqb-true}
 use Rattle.bsc_octets.specs.declared.identity.Identity.{Identity}
+use Rattle.bsc_network.specs.declared.limits.TheConstants.{NODES}
 use Rattle.bsc_network.specs.Settings.{Added}
 use Rattle.bsc_network.specs.Courses.{MayAdd, MayAddAll}
 use Rattle.bsc_network_script.specs.Scripts.{may_add_hub, may_add_node, may_be_hub, names_one}
@@ -19,8 +20,8 @@ hub_first made total who e =
 
 pub node_first : (made hub_total node_total : ℕ) (own : Identity) → may_add_node made hub_total node_total own ≡ true → made ≡ 0
 node_first made hub_total node_total own e =
-    let p = and_parts (nat_eq made 0 && nat_le 1 hub_total && nat_lt node_total 64) (names_one own.vmac) e in
-    let q = and_parts (nat_eq made 0 && nat_le 1 hub_total) (nat_lt node_total 64) p.0 in
+    let p = and_parts (nat_eq made 0 && nat_le 1 hub_total && nat_lt node_total NODES) (names_one own.vmac) e in
+    let q = and_parts (nat_eq made 0 && nat_le 1 hub_total) (nat_lt node_total NODES) p.0 in
     let r = and_parts (nat_eq made 0) (nat_le 1 hub_total) q.0 in
     eqb-true made 0 r.0
 

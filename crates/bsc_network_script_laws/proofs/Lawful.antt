@@ -3,6 +3,7 @@ use Rattle.std.proofs.Common.{◌≡◌, ◌≤◌, ℕ, ◌+◌, Bool, true, fa
 use Rattle.std.specs.Prelude.{is_some}
 use Rattle.std.specs.List.{AllByRecursion}
 use Rattle.std.proofs.lemmas.Bool.{and_parts, leb-true, ltb-true}
+use Rattle.bsc_octets.specs.declared.bounds.TheConstants.{LEAST_BVLC}
 use Rattle.bsc_octets.specs.declared.identity.Identity.{Identity}
 use Rattle.bsc_octets.specs.Addresses.{same_vmac, zero_vmac, broadcast}
 use Rattle.bsc_text.specs.Lines.{pieces_of, line_in}
@@ -12,6 +13,7 @@ use Rattle.bsc_node.specs.declared.node_event.NodeEvent.TheVariants.{Send}
 use Rattle.bsc_player.specs.Playing.{Outcome, piece_after}
 use Rattle.bsc_script.specs.Hubs.{IsHub}
 use Rattle.bsc_script.specs.Running.{latest}
+use Rattle.bsc_network.specs.declared.limits.TheConstants.{NODES}
 use Rattle.bsc_network.specs.declared.world_step.WorldStep.{WorldStep}
 use Rattle.bsc_network.specs.declared.world_step.WorldStep.TheVariants.{Node as OfNode}
 use Rattle.bsc_network.specs.declared.timed_step.TimedStep.{TimedStep}
@@ -66,16 +68,16 @@ hub_may : (s : State) (who : Identity) → IsMeasured who → may_add_hub (lengt
 hub_may s who m e =
     let p = and_parts (nat_eq (length s.steps) 0 && nat_lt (length (hubs s.added)) 2) (may_be_hub who) e in
     let q = and_parts (nat_eq (length s.steps) 0) (nat_lt (length (hubs s.added)) 2) p.0 in
-    let r = and_parts (names_one who.vmac && nat_le 64 who.max_bvlc) (nat_le 1 who.max_npdu) p.1 in
-    let n = and_parts (names_one who.vmac) (nat_le 64 who.max_bvlc) r.0 in
+    let r = and_parts (names_one who.vmac && nat_le LEAST_BVLC who.max_bvlc) (nat_le 1 who.max_npdu) p.1 in
+    let n = and_parts (names_one who.vmac) (nat_le LEAST_BVLC who.max_bvlc) r.0 in
     record { few = ltb-true (length (hubs s.added)) 2 q.1; who = is_node who m n.0; fit = is_hub who }
 
 node_may : (s : State) (own : Identity) (direct : Bool) → IsMeasured own → may_add_node (length s.steps) (length (hubs s.added)) (length (nodes s.added)) own ≡ true → MayAdd s.added (node own direct)
 node_may s own direct m e =
-    let p = and_parts (nat_eq (length s.steps) 0 && nat_le 1 (length (hubs s.added)) && nat_lt (length (nodes s.added)) 64) (names_one own.vmac) e in
-    let q = and_parts (nat_eq (length s.steps) 0 && nat_le 1 (length (hubs s.added))) (nat_lt (length (nodes s.added)) 64) p.0 in
+    let p = and_parts (nat_eq (length s.steps) 0 && nat_le 1 (length (hubs s.added)) && nat_lt (length (nodes s.added)) NODES) (names_one own.vmac) e in
+    let q = and_parts (nat_eq (length s.steps) 0 && nat_le 1 (length (hubs s.added))) (nat_lt (length (nodes s.added)) NODES) p.0 in
     let r = and_parts (nat_eq (length s.steps) 0) (nat_le 1 (length (hubs s.added))) q.0 in
-    record { some_hub = leb-true 1 (length (hubs s.added)) r.1; few = ltb-true (length (nodes s.added)) 64 q.1; who = is_node own m p.1 }
+    record { some_hub = leb-true 1 (length (hubs s.added)) r.1; few = ltb-true (length (nodes s.added)) NODES q.1; who = is_node own m p.1 }
 
 lawful_added : (s : State) (one : Added) → IsLawful s → MayAdd s.added one → IsLawful (record s { added = s.added ++ one ∷ [] })
 lawful_added s one h may = record {

@@ -5,6 +5,7 @@ use Rattle.bsc_connector.proofs.BackLemmas.{since-more}
 use Rattle.bsc_connector.proofs.Common.{first_of-more, first_of-more as first-more}
 use Rattle.bsc_connector.specs.Back.{first_of}
 use Rattle.bsc_connector.specs.declared.side.Side.TheVariants.{Failover, Primary}
+use Rattle.bsc_direct.specs.declared.bounds.TheConstants.{SLOTS}
 use Rattle.bsc_direct.specs.Slots.{slots}
 use Rattle.bsc_initiate.specs.Past.{request_at}
 use Rattle.bsc_initiate.specs.declared.event.InitEvent.{InitEvent}
@@ -17,6 +18,7 @@ use Rattle.bsc_node.specs.Links.{meets, same_link, who_accepted, request, accept
 use Rattle.bsc_node.specs.Logs.{Line, Log, is_finishing, now}
 use Rattle.bsc_node.specs.Meeting.{may_draw, is_hub, renewals}
 use Rattle.bsc_node.specs.Ways.{slot_call_of, slot_calls, resolve_call_of, resolve_calls}
+use Rattle.bsc_node.specs.declared.bounds.TheConstants.{RENEWALS}
 use Rattle.bsc_node.specs.declared.link_name.LinkName.{LinkName}
 use Rattle.bsc_node.specs.declared.link_name.LinkName.TheVariants.{Direct, Hub}
 use Rattle.bsc_node.specs.declared.node_event.NodeEvent.TheVariants.{NoRandom}
@@ -30,9 +32,9 @@ use Rattle.std.specs.Prelude.{nat_lt, ◌==◌, if◌then◌else◌, IsTrue, ◌
 pub same_who : (x y : Identity) → meets x ≡ meets y → Some x ≡ Some y
 same_who x y h = cc
 
-pub slot-named : (k : ℕ) → is_in_slots k ≡ true → nat_lt k 64 ≡ true
+pub slot-named : (k : ℕ) → is_in_slots k ≡ true → nat_lt k SLOTS ≡ true
 unfolding slots
-slot-named k h = lt-ltb k 64 (let w = below 64 0 k h in omega (arith, w))
+slot-named k h = lt-ltb k SLOTS (let w = below SLOTS 0 k h in omega (arith, w))
 
 pub same_link-is : (name other : LinkName) → same_link name other ≡ true → name ≡ other
 same_link-is (Hub Primary) (Hub Primary) h = refl
@@ -67,7 +69,7 @@ pub draws_where_none : (name : LinkName) (code : ℕ) (C : Log) → may_draw nam
 draws_where_none name code C h =
     and_right (is_hub name && (code == duplicate_vmac_code)) (none_there C)
     (and_left (is_hub name && (code == duplicate_vmac_code) && none_there C) (not (is_finishing C))
-    (and_left (is_hub name && (code == duplicate_vmac_code) && none_there C && not (is_finishing C)) (nat_lt (renewals C) 8) h))
+    (and_left (is_hub name && (code == duplicate_vmac_code) && none_there C && not (is_finishing C)) (nat_lt (renewals C) RENEWALS) h))
 
 pub life_begun : (name : LinkName) (L : Log) (m : Line) → begins name m ≡ true → life (L ++ m ∷ []) name ≡ []
 life_begun name L m b = since-more (begins name) L m ∙ ap (λ (d : Bool). cond d [] (life L name ++ m ∷ [])) b

@@ -1,9 +1,10 @@
 -- Scenes of direct connections, by computation.
-use Rattle.std.proofs.Common.{◌≡◌, true, false, List, [], ◌∷◌, ◌++◌, Some, replicate, refl}
+use Rattle.std.proofs.Common.{◌≡◌, ◌+◌, true, false, List, [], ◌∷◌, ◌++◌, Some, replicate, refl}
 use Rattle.std.specs.Prelude.{codes, drop}
 use Rattle.bsc_octets.specs.Addresses.{broadcast}
 use Rattle.bsc_frame.specs.declared.body.Body.TheVariants.{Npdu, AddressResolution, AdvertisementSolicitation, ConnectRequest, ConnectAccept, DisconnectRequest, DisconnectAck, HeartbeatRequest, HeartbeatAck}
 use Rattle.bsc_connector.specs.declared.hub_use.HubUse.TheVariants.{NoHub}
+use Rattle.bsc_direct.specs.declared.bounds.TheConstants.{SLOTS}
 use Rattle.bsc_accept.specs.declared.reason.Reason.TheVariants.{Nothing, TableFull, WrongPeer, Idle, ConnectWait}
 use Rattle.bsc_accept.specs.Steps.{closing, normal}
 use Rattle.bsc_node.specs.Messages.{nak}
@@ -184,15 +185,15 @@ unfolding node_on_literals
 duplicate = refl
 
 -- All slots are claimed: the next link is refused, and no slot is dialled. One that is lost can be claimed again.
-all_claimed : actions the_node (asks ++ replicate 65 (at 40 Arrived)) ≡ Refuse (closing 1008 TableFull) ∷ []
+all_claimed : actions the_node (asks ++ replicate (SLOTS + 1) (at 40 Arrived)) ≡ Refuse (closing 1008 TableFull) ∷ []
 unfolding node_on_literals
 all_claimed = refl
 
-all_claimed-direct : actions the_node (asks ++ replicate 64 (at 40 Arrived) ++ at 41 (DirectTo (address 10)) ∷ []) ≡ Tell SlotsFull ∷ []
+all_claimed-direct : actions the_node (asks ++ replicate SLOTS (at 40 Arrived) ++ at 41 (DirectTo (address 10)) ∷ []) ≡ Tell SlotsFull ∷ []
 unfolding node_on_literals
 all_claimed-direct = refl
 
-all_claimed-lost : actions the_node (connects ++ replicate 64 (at 40 Arrived) ++ at 41 (Lost (direct 7)) ∷ at 42 Arrived ∷ []) ≡ Take (direct 7) ∷ []
+all_claimed-lost : actions the_node (connects ++ replicate SLOTS (at 40 Arrived) ++ at 41 (Lost (direct 7)) ∷ at 42 Arrived ∷ []) ≡ Take (direct 7) ∷ []
 unfolding node_on_literals
 all_claimed-lost = refl
 

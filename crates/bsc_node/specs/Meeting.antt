@@ -16,6 +16,7 @@ use Rattle.bsc_direct.specs.declared.establish.Establish.{Establish}
 use Rattle.bsc_direct.specs.declared.establish.Establish.TheVariants.{Up as IsUp}
 use Rattle.bsc_node.specs.declared.link_name.LinkName.{LinkName}
 use Rattle.bsc_node.specs.declared.link_name.LinkName.TheVariants.{Hub, Direct}
+use Rattle.bsc_node.specs.declared.bounds.TheConstants.{RENEWALS}
 use Rattle.bsc_node.specs.declared.node_event.NodeEvent.{NodeEvent}
 use Rattle.bsc_node.specs.declared.node_event.NodeEvent.TheVariants.{Came, Random}
 use Rattle.bsc_node.specs.declared.note.Note.TheVariants.{DirectUp, Nak, Renewed, NoRandom}
@@ -106,9 +107,9 @@ is_hub (Hub s) = true
 is_hub (Direct k) = false
 
 -- The node may draw another VMAC: a hub refused it as a duplicate, no link is there, the node isn't to end, and it
--- renewed its VMAC fewer than 8 times since a hub last accepted it.
+-- renewed its VMAC fewer times than it may since a hub last accepted it.
 abbrev pub may_draw : LinkName → ℕ → Log → Bool
-may_draw name code L = is_hub name && (code == duplicate_vmac_code) && none_there L && not (is_finishing L) && nat_lt (renewals L) 8
+may_draw name code L = is_hub name && (code == duplicate_vmac_code) && none_there L && not (is_finishing L) && nat_lt (renewals L) RENEWALS
 
 -- A link whose Connect-Request was refused is closed, and the refusal is told. Then another VMAC is drawn, and what
 -- follows where a link is over waits for it; or that follows at once.

@@ -5,6 +5,7 @@
 #![tactic(auto)]
 
 mod action;
+mod bounds;
 mod delivered;
 mod laws;
 mod link_name;
@@ -14,6 +15,7 @@ mod note;
 mod timed_event;
 
 pub use action::Action;
+pub use bounds::RENEWALS;
 pub use delivered::Delivered;
 pub use laws::{
     broadcasts_keep_off_slots, delivers_what_came, draws_last, npdus_are_put_once, slots_keep_apart,

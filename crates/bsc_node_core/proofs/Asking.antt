@@ -12,6 +12,7 @@ use Rattle.bsc_resolve.specs.declared.ask_refusal.AskRefusal.{AskRefusal}
 use Rattle.bsc_resolve.specs.declared.ask_refusal.AskRefusal.TheVariants.{Full, Pending}
 use Rattle.bsc_resolve.specs.declared.resolve.Resolve.{Resolve}
 use Rattle.bsc_resolve.specs.Standing.{StandsFor as ResolveStands, IsAsked, IsRefused, IsUnchanged}
+use Rattle.bsc_node.specs.declared.bounds.TheConstants.{RENEWALS}
 use Rattle.bsc_node.specs.Messages.{message_octets}
 use Rattle.bsc_node.specs.declared.note.Note.{Note}
 use Rattle.bsc_node.specs.declared.note.Note.TheVariants.{NoPath, AsksFull, AskPending}
@@ -66,7 +67,7 @@ both-told b out s r r' L call stands both =
         own = own-kept b.made L m refl ∙ h.own;
         next = next-kept L m refl ∙ h.next;
         finishing = finishing-kept L m refl ∙ h.finishing;
-        renewals = ap (λ k. min 8 k) (renewals-kept L m refl refl) ∙ h.renewals;
+        renewals = ap (λ k. min RENEWALS k) (renewals-kept L m refl refl) ∙ h.renewals;
         newest_hub = refusing-kept L m refl ∙ h.newest_hub;
         dropped = dropped-kept L m refl refl ∙ h.dropped;
         connector = subst (λ E. ConnectorStands s.connector (waits b.made) E) (sym (hub_events-kept L m refl)) h.connector;

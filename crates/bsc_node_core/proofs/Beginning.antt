@@ -11,6 +11,7 @@ use Rattle.bsc_connector.specs.Back.{newest_of, since, until}
 use Rattle.bsc_connector.specs.Sides as Sides
 use Rattle.bsc_connector.specs.Standing.{StandsFor as ConnectorStands}
 use Rattle.bsc_connector.proofs.BackLemmas.{newest_of-more, list_any-more}
+use Rattle.bsc_direct.specs.declared.bounds.TheConstants.{SLOTS}
 use Rattle.bsc_direct.specs.Standing.{StandsFor as DirectStands}
 use Rattle.bsc_octets.specs.declared.identity.Identity.{Identity}
 use Rattle.bsc_accept.specs.declared.times.Times.{Times}
@@ -19,6 +20,7 @@ use Rattle.bsc_accept.specs.declared.accepting.Accepting.{Accepting}
 use Rattle.bsc_accept.specs.Standing.{StandsFor as AcceptingStands}
 use Rattle.bsc_initiate.specs.declared.initiating.Initiating.{Initiating}
 use Rattle.bsc_initiate.specs.Standing.{StandsFor as InitiatingStands}
+use Rattle.bsc_node.specs.declared.bounds.TheConstants.{RENEWALS}
 use Rattle.bsc_node.specs.declared.link_name.LinkName.{LinkName}
 use Rattle.bsc_node.specs.declared.link_name.LinkName.TheVariants.{Hub, Direct}
 use Rattle.bsc_node.specs.declared.action.Action.{Action}
@@ -163,14 +165,14 @@ begin-stands b out s L name taken action machine ls g sets touches t m h = recor
   own = own-kept b.made L (did action) refl ∙ h.own;
   next = next-kept L (did action) g.number ∙ h.next;
   finishing = finishing-kept L (did action) refl ∙ h.finishing;
-  renewals = ap (λ k. min 8 k) (renewals-kept L (did action) refl refl) ∙ h.renewals;
+  renewals = ap (λ k. min RENEWALS k) (renewals-kept L (did action) refl refl) ∙ h.renewals;
   newest_hub = refusing-kept L (did action) refl ∙ h.newest_hub;
   dropped = dropped-begun b.made b.busy L name taken action g s.dropped h.dropped;
   connector = subst (λ E. ConnectorStands s.connector (waits b.made) E) (sym (hub_events-kept L (did action) refl)) h.connector;
   direct = subst (λ E. DirectStands s.direct E) (sym (slot_calls-kept L (did action) refl)) h.direct;
   asked = resolve_calls-kept L (did action) refl ∙ h.asked;
   links = links-begun b.made b.busy L name taken action g s.links ls machine sets t m h.links;
-  tries = λ k w. tries-begun b.made b.busy L name taken action g s.links ls machine k (lt-ltb k 64 w) sets (h.tries k w);
+  tries = λ k w. tries-begun b.made b.busy L name taken action g s.links ls machine k (lt-ltb k SLOTS w) sets (h.tries k w);
   spare = agrees-set b.spare s ls name _ sets touches h.spare;
   actions = came-did b out L action h.actions;
 }

@@ -5,6 +5,7 @@ use Rattle.std.specs.List.{list_any, range_with_len}
 use Rattle.std.proofs.lemmas.Bool.{ltb-true, ltb-false}
 use Rattle.std.proofs.lemmas.List.{append-nil}
 use Rattle.bsc_octets.specs.declared.identity.Identity.{Identity}
+use Rattle.bsc_direct.specs.declared.bounds.TheConstants.{SLOTS}
 use Rattle.bsc_direct.specs.declared.direct.Direct.{Direct as SlotTable}
 use Rattle.bsc_direct.specs.declared.call.SlotCall.{SlotCall}
 use Rattle.bsc_direct.specs.declared.slot.Slot.{Slot}
@@ -56,9 +57,9 @@ in_range (suc n) a (suc k) h =
     or_second ((a + suc k) == a) (list_any (λ j. (a + suc k) == j) (range_with_len (a + 1) n))
     (subst (λ (x : ℕ). list_any (λ j. x == j) (range_with_len (a + 1) n) ≡ true) (omega arith) (in_range n (a + 1) k (omega (arith, h))))
 
-in-slots : (k : ℕ) → k < 64 → is_in_slots k ≡ true
+in-slots : (k : ℕ) → k < SLOTS → is_in_slots k ≡ true
 unfolding slots
-in-slots k h = subst (λ (x : ℕ). list_any (λ j. x == j) (range_with_len 0 64) ≡ true) (let e : 0 + k ≡ k = omega arith in e) (in_range 64 0 k h)
+in-slots k h = subst (λ (x : ℕ). list_any (λ j. x == j) (range_with_len 0 SLOTS) ≡ true) (let e : 0 + k ≡ k = omega arith in e) (in_range SLOTS 0 k h)
 
 -- ---- what holds of the log that a node stands for
 
@@ -68,11 +69,11 @@ past (s ∷ items) zero h = absurd (omega (arith, h))
 past (s ∷ items) (suc k) h = past items k (omega (arith, h))
 
 within : (d : SlotTable) (calls : List SlotCall) (k : ℕ) (who : Identity) → DirectStands d calls → established_peer calls k ≡ Some who → is_in_slots k ≡ true
-within d calls k who h e = by (nat_lt k 64) refl
+within d calls k who h e = by (nat_lt k SLOTS) refl
   where
-    by : (b : Bool) → nat_lt k 64 ≡ b → is_in_slots k ≡ true
-    by true w = in-slots k (ltb-true k 64 w)
-    by false w = some_none who (sym e ∙ (h.slots k).peer ∙ ap says_peer (past d.slots.items k (let n = ltb-false k 64 w in omega (arith, d.slots.ok.0, d.all, n))))
+    by : (b : Bool) → nat_lt k SLOTS ≡ b → is_in_slots k ≡ true
+    by true w = in-slots k (ltb-true k SLOTS w)
+    by false w = some_none who (sym e ∙ (h.slots k).peer ∙ ap says_peer (past d.slots.items k (let n = ltb-false k SLOTS w in omega (arith, d.slots.ok.0, d.all, n))))
 
 pub fine : (node : Node) (a : Made) (L : Log) → StandsFor node a L → Fine L
 fine node a L h =

@@ -5,11 +5,13 @@ use Rattle.std.proofs.lemmas.Bool.{lt-ltb, eqb-true}
 use Rattle.bsc_octets.specs.declared.vmac.Vmac.{Vmac}
 use Rattle.bsc_octets.specs.declared.identity.Identity.{Identity}
 use Rattle.bsc_connector.specs.Standing.{StandsFor as ConnectorStands}
+use Rattle.bsc_direct.specs.declared.bounds.TheConstants.{SLOTS}
 use Rattle.bsc_direct.specs.declared.direct.Direct.{Direct as SlotTable}
 use Rattle.bsc_direct.specs.declared.call.SlotCall.TheVariants.{Claim, Release}
 use Rattle.bsc_direct.specs.Standing.{StandsFor as DirectStands}
 use Rattle.bsc_accept.specs.declared.reason.Reason.TheVariants.{TableFull}
 use Rattle.bsc_accept.specs.Steps.{closing}
+use Rattle.bsc_node.specs.declared.bounds.TheConstants.{RENEWALS}
 use Rattle.bsc_node.specs.declared.link_name.LinkName.{LinkName}
 use Rattle.bsc_node.specs.declared.link_name.LinkName.TheVariants.{Direct}
 use Rattle.bsc_node.specs.declared.note.Note.TheVariants.{DirectDown}
@@ -53,14 +55,14 @@ links-claimed b old new L k v sets h other n = by (same_link (Direct k) other) r
         let l : link_at new other ≡ link_at old other = sets other ∙ ap (λ c. cond (c && is_name (Direct k)) (claimed (link_at old (Direct k))) (link_at old other)) e in
         subst (λ (x : Kept). LinkStands b.made b.busy (L ++ slot (Claim k v) ∷ []) other x) (sym l) kept
 
-tries-claimed : (old new : Links) (L : Log) (k j : ℕ) (v : Option Vmac) → j < 64 → Sets old new (Direct k) (claimed (link_at old (Direct k))) → min (tries j L) 18446744073709551615 ≡ (link_at old (Direct j)).tries
+tries-claimed : (old new : Links) (L : Log) (k j : ℕ) (v : Option Vmac) → j < SLOTS → Sets old new (Direct k) (claimed (link_at old (Direct k))) → min (tries j L) 18446744073709551615 ≡ (link_at old (Direct j)).tries
     → min (tries j (L ++ slot (Claim k v) ∷ [])) 18446744073709551615 ≡ (link_at new (Direct j)).tries
 tries-claimed old new L k j v w sets h = by (k == j) refl
   where
     by : (c : Bool) → (k == j) ≡ c → min (tries j (L ++ slot (Claim k v) ∷ [])) 18446744073709551615 ≡ (link_at new (Direct j)).tries
     by true e =
         let l : link_at new (Direct j) ≡ claimed (link_at old (Direct k)) = sets (Direct j) ∙ ap (λ c. cond (c && is_name (Direct k)) (claimed (link_at old (Direct k))) (link_at old (Direct j))) e
-        ∙ ap (λ c. cond c (claimed (link_at old (Direct k))) (link_at old (Direct j))) (ap (λ x. is_name (Direct x)) (eqb-true k j e) ∙ lt-ltb j 64 w) in
+        ∙ ap (λ c. cond c (claimed (link_at old (Direct k))) (link_at old (Direct j))) (ap (λ x. is_name (Direct x)) (eqb-true k j e) ∙ lt-ltb j SLOTS w) in
         ap (λ ys. min (count_by (begins (Direct j)) ys) 18446744073709551615) (since-now (is_claim_of j) L (slot (Claim k v)) e) ∙ sym (ap (λ (x : Kept). x.tries) l)
     by false e =
         let l : link_at new (Direct j) ≡ link_at old (Direct j) = sets (Direct j) ∙ ap (λ c. cond (c && is_name (Direct k)) (claimed (link_at old (Direct k))) (link_at old (Direct j))) e in
@@ -75,7 +77,7 @@ claim-stands b out s L k v d ls stands sets touches h = record {
   own = own-kept b.made L (slot (Claim k v)) refl ∙ h.own;
   next = next-kept L (slot (Claim k v)) refl ∙ h.next;
   finishing = finishing-kept L (slot (Claim k v)) refl ∙ h.finishing;
-  renewals = ap (λ n. min 8 n) (renewals-kept L (slot (Claim k v)) refl refl) ∙ h.renewals;
+  renewals = ap (λ n. min RENEWALS n) (renewals-kept L (slot (Claim k v)) refl refl) ∙ h.renewals;
   newest_hub = refusing-kept L (slot (Claim k v)) refl ∙ h.newest_hub;
   dropped = dropped-kept L (slot (Claim k v)) refl refl ∙ h.dropped;
   connector = subst (λ E. ConnectorStands s.connector (waits b.made) E) (sym (hub_events-kept L (slot (Claim k v)) refl)) h.connector;

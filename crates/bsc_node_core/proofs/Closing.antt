@@ -6,6 +6,7 @@ use Rattle.bsc_connector.specs.Standing.{StandsFor as ConnectorStands}
 use Rattle.bsc_connector.proofs.BackLemmas.{list_any-more}
 use Rattle.bsc_direct.specs.Standing.{StandsFor as DirectStands}
 use Rattle.bsc_accept.specs.declared.closing.Closing.{Closing}
+use Rattle.bsc_node.specs.declared.bounds.TheConstants.{RENEWALS}
 use Rattle.bsc_node.specs.declared.link_name.LinkName.{LinkName}
 use Rattle.bsc_node.specs.declared.link_name.LinkName.TheVariants.{Direct}
 use Rattle.bsc_node.specs.declared.action.Action.TheVariants.{Close}
@@ -77,7 +78,7 @@ close-stands b out s L name closing ls sets touches h = record {
   own = own-kept b.made L (did (Close name closing)) refl ∙ h.own;
   next = next-kept L (did (Close name closing)) refl ∙ h.next;
   finishing = finishing-kept L (did (Close name closing)) refl ∙ h.finishing;
-  renewals = ap (λ k. min 8 k) (renewals-kept L (did (Close name closing)) refl refl) ∙ h.renewals;
+  renewals = ap (λ k. min RENEWALS k) (renewals-kept L (did (Close name closing)) refl refl) ∙ h.renewals;
   newest_hub = refusing-kept L (did (Close name closing)) refl ∙ h.newest_hub;
   dropped = dropped-kept L (did (Close name closing)) refl refl ∙ h.dropped;
   connector = subst (λ E. ConnectorStands s.connector (waits b.made) E) (sym (hub_events-kept L (did (Close name closing)) refl)) h.connector;

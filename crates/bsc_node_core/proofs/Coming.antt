@@ -11,6 +11,7 @@ use Rattle.bsc_connector.specs.Back.{since}
 use Rattle.bsc_connector.specs.Standing.{StandsFor as ConnectorStands}
 use Rattle.bsc_connector.proofs.BackLemmas.{newest_of-more, list_any-more}
 use Rattle.bsc_direct.specs.Standing.{StandsFor as DirectStands}
+use Rattle.bsc_node.specs.declared.bounds.TheConstants.{RENEWALS}
 use Rattle.bsc_node.specs.declared.link_name.LinkName.{LinkName}
 use Rattle.bsc_node.specs.declared.link_name.LinkName.TheVariants.{Hub, Direct}
 use Rattle.bsc_node.specs.declared.node_event.NodeEvent.{NodeEvent}
@@ -43,7 +44,7 @@ came-told : (b : Base) (out : List Action) (L : Log) (e : TimedEvent) → HaveCo
 came-told b out L e h = let more = came-other b out L (came e) refl h in record { lines = more.lines; log = more.log; actions = more.actions }
 
 came-stands : (b : Base) (out : List Action) (s : State) (L : Log) (e : TimedEvent) (i : Identity) (f : Bool) (r : ℕ) (side : Option Side) (ls : Links)
-    → own b.made (L ++ came e ∷ []) ≡ i → is_finishing (L ++ came e ∷ []) ≡ f → min 8 (renewals (L ++ came e ∷ [])) ≡ r → refusing_side (L ++ came e ∷ []) ≡ side
+    → own b.made (L ++ came e ∷ []) ≡ i → is_finishing (L ++ came e ∷ []) ≡ f → min RENEWALS (renewals (L ++ came e ∷ [])) ≡ r → refusing_side (L ++ came e ∷ []) ≡ side
     → ((name : LinkName) → is_name name ≡ true → LinkStands b.made b.busy (L ++ came e ∷ []) name (link_at ls name)) → ((k : ℕ) → (link_at ls (Direct k)).tries ≡ (link_at s.links (Direct k)).tries)
     → Agrees b.spare (record s { links = ls }) → Stands b out s L → Stands (at_time e.now b) out (known_at s i f r side ls) (L ++ came e ∷ [])
 came-stands b out s L e i f r side ls hi hf hr hs hl ht ha h = record {
@@ -76,7 +77,7 @@ record SaysNothing (e : TimedEvent) : Type 0 where
 quiet-came : (b : Base) (out : List Action) (s : State) (L : Log) (e : TimedEvent) → SaysNothing e → ((name : LinkName) → is_over_by name (came e) ≡ false) → Stands b out s L → Stands (at_time e.now b) out s (L ++ came e ∷ [])
 quiet-came b out s L e q over h =
     came-stands b out s L e s.own s.finishing s.renewals s.newest_hub s.links (own-kept b.made L (came e) q.renewal ∙ h.own) (finishing-kept L (came e) q.finish ∙ h.finishing)
-    (ap (λ k. min 8 k) (renewals-kept L (came e) q.counted refl) ∙ h.renewals) (refusing-kept L (came e) q.message ∙ h.newest_hub)
+    (ap (λ k. min RENEWALS k) (renewals-kept L (came e) q.counted refl) ∙ h.renewals) (refusing-kept L (came e) q.message ∙ h.newest_hub)
     (λ name n. link-kept b.made b.busy L (came e) name (link_at s.links name) refl (over name) refl refl (h.links name n)) (λ k. refl) h.spare h
 
 -- ---- a link is over
@@ -104,7 +105,7 @@ over-came : (b : Base) (out : List Action) (s : State) (L : Log) (e : TimedEvent
     → Sets s.links ls name (with_machine Gone (link_at s.links name)) → Touches s.links ls name → Stands b out s L → Stands (at_time e.now b) out (record s { links = ls }) (L ++ came e ∷ [])
 over-came b out s L e name ls q over sets touches h =
     came-stands b out s L e s.own s.finishing s.renewals s.newest_hub ls (own-kept b.made L (came e) q.renewal ∙ h.own) (finishing-kept L (came e) q.finish ∙ h.finishing)
-    (ap (λ k. min 8 k) (renewals-kept L (came e) q.counted refl) ∙ h.renewals) (refusing-kept L (came e) q.message ∙ h.newest_hub)
+    (ap (λ k. min RENEWALS k) (renewals-kept L (came e) q.counted refl) ∙ h.renewals) (refusing-kept L (came e) q.message ∙ h.newest_hub)
     (links-over b.made b.busy s.links ls L name e over sets h.links) (λ k. tries-closed s.links ls name k sets) (agrees-set b.spare s ls name _ sets touches h.spare) h
 
 -- ---- the events
@@ -135,7 +136,7 @@ hub-came b out s L t ev side o is h =
     let e = at t (Came (Hub side) o) in
     subst (Stands_at b out (record s { newest_hub = Some side }) L t) (sym is)
     (came-stands b out s L e s.own s.finishing s.renewals (Some side) s.links (own-kept b.made L (came e) refl ∙ h.own) (finishing-kept L (came e) refl ∙ h.finishing)
-    (ap (λ k. min 8 k) (renewals-kept L (came e) refl refl) ∙ h.renewals) (newest_of-more hub_message_of L (came e))
+    (ap (λ k. min RENEWALS k) (renewals-kept L (came e) refl refl) ∙ h.renewals) (newest_of-more hub_message_of L (came e))
     (λ name n. link-kept b.made b.busy L (came e) name (link_at s.links name) refl refl refl refl (h.links name n)) (λ k. refl) h.spare h)
 
 pub slot-came : (b : Base) (out : List Action) (s : State) (L : Log) (t : ℕ) (ev : NodeEvent) (k : ℕ) (o : List ℕ) → ev ≡ Came (Direct k) o → Stands b out s L → Stands (at_time t b) out s (L ++ came (at t ev) ∷ [])
@@ -147,14 +148,14 @@ finish-came b out s L t ev is h =
     let e = at t Finish in
     subst (Stands_at b out (record s { finishing = true }) L t) (sym is)
     (came-stands b out s L e s.own true s.renewals s.newest_hub s.links (own-kept b.made L (came e) refl ∙ h.own) (list_any-more is_finish L (came e) ∙ or_true (list_any is_finish L))
-    (ap (λ k. min 8 k) (renewals-kept L (came e) refl refl) ∙ h.renewals) (refusing-kept L (came e) refl ∙ h.newest_hub)
+    (ap (λ k. min RENEWALS k) (renewals-kept L (came e) refl refl) ∙ h.renewals) (refusing-kept L (came e) refl ∙ h.newest_hub)
     (λ name n. link-kept b.made b.busy L (came e) name (link_at s.links name) refl refl refl refl (h.links name n)) (λ k. refl) h.spare h)
 
 one_renewal : (L : Log) (t w : ℕ) → renewals (L ++ came (at t (Random w)) ∷ []) ≡ renewals L + 1
 one_renewal L t w =
     ap (count_by is_renewal) (since-kept is_accept_of_hub L (came (at t (Random w))) refl) ∙ count-one_more is_renewal (since is_accept_of_hub L) (came (at t (Random w))) refl
 
-pub word-came : (b : Base) (out : List Action) (s : State) (L : Log) (t : ℕ) (ev : NodeEvent) (w r : ℕ) (v : Vmac) → ev ≡ Random w → v ≡ random48_of w → min 8 (s.renewals + 1) ≡ r → Stands b out s L
+pub word-came : (b : Base) (out : List Action) (s : State) (L : Log) (t : ℕ) (ev : NodeEvent) (w r : ℕ) (v : Vmac) → ev ≡ Random w → v ≡ random48_of w → min RENEWALS (s.renewals + 1) ≡ r → Stands b out s L
     → Stands (at_time t b) out (record s { own = record s.own { vmac = v }; renewals = r }) (L ++ came (at t ev) ∷ [])
 word-came b out s L t ev w r v is ve re h =
     let e = at t (Random w) in

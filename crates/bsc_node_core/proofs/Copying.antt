@@ -5,6 +5,7 @@ use Rattle.std.proofs.lemmas.Bool.{false≢true, lt-ltb}
 use Rattle.bsc_connector.specs.declared.side.Side.TheVariants.{Primary, Failover}
 use Rattle.bsc_connector.specs.declared.connector.Connector.{Connector}
 use Rattle.bsc_connector.specs.Standing.{StandsFor as ConnectorStands}
+use Rattle.bsc_direct.specs.declared.bounds.TheConstants.{SLOTS}
 use Rattle.bsc_direct.specs.declared.direct.Direct.{Direct as SlotTable}
 use Rattle.bsc_direct.specs.declared.call.SlotCall.{SlotCall}
 use Rattle.bsc_direct.specs.declared.slot.Slot.{Slot}
@@ -67,7 +68,7 @@ copied-stands b out s t spare L i agrees h = record {
   direct = same-slots s.direct t.direct _ i.direct h.direct;
   asked = h.asked;
   links = λ name n. subst (λ (x : Kept). LinkStands b.made b.busy L name x) (sym (i.links name n)) (h.links name n);
-  tries = λ k w. h.tries k w ∙ sym (ap (λ (x : Kept). x.tries) (i.links (Direct k) (lt-ltb k 64 w)));
+  tries = λ k w. h.tries k w ∙ sym (ap (λ (x : Kept). x.tries) (i.links (Direct k) (lt-ltb k SLOTS w)));
   spare = agrees;
   actions = record { lines = h.actions.lines; log = h.actions.log; actions = h.actions.actions };
 }

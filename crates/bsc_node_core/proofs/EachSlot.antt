@@ -5,6 +5,7 @@ use Rattle.std.proofs.lemmas.List.FromFn.{map-range_with_len_more}
 use Rattle.std.proofs.lemmas.List.Sums.{fold-append}
 use Rattle.std.proofs.lemmas.Simd.{map-map}
 use Rattle.bsc_connector.specs.declared.side.Side.TheVariants.{Primary, Failover}
+use Rattle.bsc_direct.specs.declared.bounds.TheConstants.{SLOTS}
 use Rattle.bsc_direct.specs.Slots.{slots}
 use Rattle.bsc_node.specs.declared.link_name.LinkName.{LinkName}
 use Rattle.bsc_node.specs.declared.link_name.LinkName.TheVariants.{Hub, Direct}
@@ -23,9 +24,9 @@ slots-more P f n L h =
     (subst P (sym (fold-append (λ (M : Log) (rule : Rule). M ++ rule M) L (slot_rules f n) (f n ∷ []))) h)
 
 -- All slots.
-pub slots-all : (P : Log → Type 0) (f : ℕ → Rule) (L : Log) → P (after (slot_rules f 64) L) → P (L ++ in_order (map f slots) L)
+pub slots-all : (P : Log → Type 0) (f : ℕ → Rule) (L : Log) → P (after (slot_rules f SLOTS) L) → P (L ++ in_order (map f slots) L)
 unfolding slots
-slots-all P f L h = subst P (after-brought (slot_rules f 64) L ∙ ap (λ ms. L ++ ms) (sym (in_order-brought (slot_rules f 64) L))) h
+slots-all P f L h = subst P (after-brought (slot_rules f SLOTS) L ∙ ap (λ ms. L ++ ms) (sym (in_order-brought (slot_rules f SLOTS) L))) h
 
 -- A rule, and then the others on the log that it left.
 pub one-then : (P : Log → Type 0) (L : Log) (rule : Rule) (rules : List Rule) → P ((L ++ rule L) ++ in_order rules (L ++ rule L)) → P (L ++ in_order (rule ∷ rules) L)

@@ -7,6 +7,7 @@ use Rattle.bsc_connector.specs.declared.side.Side.TheVariants.{Primary, Failover
 use Rattle.bsc_connector.specs.Standing.{StandsFor as ConnectorStands}
 use Rattle.bsc_direct.specs.Standing.{StandsFor as DirectStands}
 use Rattle.bsc_accept.specs.declared.accepting.Accepting.{Accepting}
+use Rattle.bsc_node.specs.declared.bounds.TheConstants.{RENEWALS}
 use Rattle.bsc_node.specs.declared.link_name.LinkName.{LinkName}
 use Rattle.bsc_node.specs.declared.link_name.LinkName.TheVariants.{Hub, Direct}
 use Rattle.bsc_node.specs.declared.action.Action.{Action}
@@ -105,7 +106,7 @@ acts b out s L action n begins over next h =
       own = own-kept b.made L m refl ∙ h.own;
       next = next;
       finishing = finishing-kept L m refl ∙ h.finishing;
-      renewals = ap (λ k. min 8 k) (renewals-kept L m refl refl) ∙ h.renewals;
+      renewals = ap (λ k. min RENEWALS k) (renewals-kept L m refl refl) ∙ h.renewals;
       newest_hub = refusing-kept L m refl ∙ h.newest_hub;
       dropped = dropped-kept L m (ap is_some (begins (Hub Failover))) refl ∙ h.dropped;
       connector = subst (λ E. ConnectorStands s.connector (waits b.made) E) (sym (hub_events-kept L m refl)) h.connector;
@@ -149,7 +150,7 @@ slot-stands b out s L call d claims stands h = record {
   own = own-kept b.made L (slot call) refl ∙ h.own;
   next = next-kept L (slot call) refl ∙ h.next;
   finishing = finishing-kept L (slot call) refl ∙ h.finishing;
-  renewals = ap (λ k. min 8 k) (renewals-kept L (slot call) refl refl) ∙ h.renewals;
+  renewals = ap (λ k. min RENEWALS k) (renewals-kept L (slot call) refl refl) ∙ h.renewals;
   newest_hub = refusing-kept L (slot call) refl ∙ h.newest_hub;
   dropped = dropped-kept L (slot call) refl refl ∙ h.dropped;
   connector = subst (λ E. ConnectorStands s.connector (waits b.made) E) (sym (hub_events-kept L (slot call) refl)) h.connector;
@@ -172,7 +173,7 @@ renewals-told : (L : Log) (e : HubEvent) (b : Bool) → is_connected_event e.eve
 renewals-told L e true h = ap (count_by is_renewal) (since-now is_accept_of_hub L (connector e) h)
 renewals-told L e false h = renewals-kept L (connector e) refl h
 
-least_by : (b : Bool) (n r : ℕ) → min 8 n ≡ r → min 8 (cond b 0 n) ≡ cond b 0 r
+least_by : (b : Bool) (n r : ℕ) → min RENEWALS n ≡ r → min RENEWALS (cond b 0 n) ≡ cond b 0 r
 least_by true n r h = refl
 least_by false n r h = h
 
@@ -183,7 +184,7 @@ told-connector b out s L e c stands h = record {
   own = own-kept b.made L (connector e) refl ∙ h.own;
   next = next-kept L (connector e) refl ∙ h.next;
   finishing = finishing-kept L (connector e) refl ∙ h.finishing;
-  renewals = ap (λ k. min 8 k) (renewals-told L e (is_connected_event e.event) refl) ∙ least_by (is_connected_event e.event) (renewals L) s.renewals h.renewals;
+  renewals = ap (λ k. min RENEWALS k) (renewals-told L e (is_connected_event e.event) refl) ∙ least_by (is_connected_event e.event) (renewals L) s.renewals h.renewals;
   newest_hub = refusing-kept L (connector e) refl ∙ h.newest_hub;
   dropped = dropped-told L e ∙ ap (λ d. d || Sides.connects Primary e.event) h.dropped;
   connector = subst (λ E. ConnectorStands c (waits b.made) E) (sym (filter-one_more hub_event_of L (connector e) e refl)) stands;

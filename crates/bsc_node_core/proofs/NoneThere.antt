@@ -4,6 +4,7 @@ use Rattle.std.specs.Prelude.{slice_get}
 use Rattle.std.specs.List.{list_any, range_with_len}
 use Rattle.std.proofs.lemmas.Bool.{lt-ltb}
 use Rattle.bsc_connector.specs.declared.side.Side.TheVariants.{Primary, Failover}
+use Rattle.bsc_direct.specs.declared.bounds.TheConstants.{SLOTS}
 use Rattle.bsc_direct.specs.Slots.{slots}
 use Rattle.bsc_node.specs.declared.link_name.LinkName.{LinkName}
 use Rattle.bsc_node.specs.declared.link_name.LinkName.TheVariants.{Hub, Direct}
@@ -36,10 +37,10 @@ names-agree : (f g : LinkName → Bool) → ((name : LinkName) → is_name name 
 unfolding slots
 names-agree f g h =
     let D : ℕ → LinkName = λ k. Direct k in
-    let rest = list_any f (map D (range_with_len 0 64)) in
+    let rest = list_any f (map D (range_with_len 0 SLOTS)) in
     ap (λ b. b || (f (Hub Failover) || rest)) (h (Hub Primary) refl)
     ∙ ap (λ b. g (Hub Primary) || (b || rest)) (h (Hub Failover) refl)
-    ∙ ap (λ b. g (Hub Primary) || (g (Hub Failover) || b)) (slots-agree f g 64 0 (λ k w. h (Direct k) (lt-ltb k 64 w)))
+    ∙ ap (λ b. g (Hub Primary) || (g (Hub Failover) || b)) (slots-agree f g SLOTS 0 (λ k w. h (Direct k) (lt-ltb k SLOTS w)))
 
 -- No link is there where none is kept that is.
 pub none-there-kept : (b : Base) (out : List Action) (s : State) (L : Log) → Stands b out s L → none_there L ≡ not (list_any (λ name. says_there (link_at s.links name).machine) names)
@@ -71,7 +72,7 @@ or_three true b c = refl
 or_three false b c = refl
 
 -- The three tests are that of all names.
-pub any-kept-there : (ls : Links) → length ls.slots.items ≡ 64
+pub any-kept-there : (ls : Links) → length ls.slots.items ≡ SLOTS
     → ((says_there ls.primary.machine || says_there ls.failover.machine) || list_any (λ (l : Link). says_there l.machine) ls.slots.items) ≡ list_any (λ name. says_there (link_at ls name).machine) names
 unfolding slots
 any-kept-there ls n =

@@ -4,6 +4,7 @@ use Rattle.std.specs.Prelude.{nat_lt, ◌==◌, min}
 use Rattle.std.proofs.lemmas.Bool.{ltb-true, ltb-false, lt-ltb, le-ltb}
 use Rattle.bsc_octets.specs.declared.vmac.Vmac.{Vmac}
 use Rattle.bsc_accept.specs.Steps.{normal}
+use Rattle.bsc_node.specs.declared.bounds.TheConstants.{RENEWALS}
 use Rattle.bsc_node.specs.declared.link_name.LinkName.{LinkName}
 use Rattle.bsc_node.specs.declared.note.Note.TheVariants.{Nak}
 use Rattle.bsc_node.specs.declared.action.Action.{Action}
@@ -66,12 +67,12 @@ not-drawn-stands b later s L name origin code may h = refused-then b later s L n
 
 -- ---- whether another VMAC may be drawn
 
-below-kept : (n r : ℕ) → min 8 n ≡ r → nat_lt r 8 ≡ nat_lt n 8
-below-kept n r h = by (nat_lt n 8) refl
+below-kept : (n r : ℕ) → min RENEWALS n ≡ r → nat_lt r RENEWALS ≡ nat_lt n RENEWALS
+below-kept n r h = by (nat_lt n RENEWALS) refl
   where
-    by : (c : Bool) → nat_lt n 8 ≡ c → nat_lt r 8 ≡ c
-    by true e = let l = ltb-true n 8 e in lt-ltb r 8 (omega (arith, l, h))
-    by false e = let l = ltb-false n 8 e in le-ltb r 8 (omega (arith, l, h))
+    by : (c : Bool) → nat_lt n RENEWALS ≡ c → nat_lt r RENEWALS ≡ c
+    by true e = let l = ltb-true n RENEWALS e in lt-ltb r RENEWALS (omega (arith, l, h))
+    by false e = let l = ltb-false n RENEWALS e in le-ltb r RENEWALS (omega (arith, l, h))
 
 regrouped : (v w x y z : Bool) → ((v && w) && (x && (y && z))) ≡ (v && w && x && y && z)
 regrouped false w x y z = refl
@@ -81,17 +82,17 @@ regrouped true true true false z = refl
 regrouped true true true true z = refl
 
 -- The answer by the parts.
-pub may-draw-by : (name : LinkName) (code : ℕ) (L : Log) (duplicate alone may : Bool) → duplicate ≡ (is_hub name && (code == 151)) → alone ≡ none_there L → may ≡ (not (is_finishing L) && nat_lt (renewals L) 8)
+pub may-draw-by : (name : LinkName) (code : ℕ) (L : Log) (duplicate alone may : Bool) → duplicate ≡ (is_hub name && (code == 151)) → alone ≡ none_there L → may ≡ (not (is_finishing L) && nat_lt (renewals L) RENEWALS)
     → (duplicate && (alone && may)) ≡ may_draw name code L
 may-draw-by name code L duplicate alone may d t m =
     ap (λ (x : Bool). x && (alone && may)) d
     ∙ ap (λ (x : Bool). (is_hub name && (code == 151)) && (x && may)) t
     ∙ ap (λ (x : Bool). (is_hub name && (code == 151)) && (none_there L && x)) m
-    ∙ regrouped (is_hub name) (code == 151) (none_there L) (not (is_finishing L)) (nat_lt (renewals L) 8)
+    ∙ regrouped (is_hub name) (code == 151) (none_there L) (not (is_finishing L)) (nat_lt (renewals L) RENEWALS)
 
 -- Whether the node may renew its VMAC.
-pub may-renew-so : (b : Base) (out : List Action) (s : State) (L : Log) → s.finishing ≡ false → Stands b out s L → nat_lt s.renewals 8 ≡ (not (is_finishing L) && nat_lt (renewals L) 8)
-may-renew-so b out s L f h = below-kept (renewals L) s.renewals h.renewals ∙ sym (ap (λ (x : Bool). not x && nat_lt (renewals L) 8) (h.finishing ∙ f))
+pub may-renew-so : (b : Base) (out : List Action) (s : State) (L : Log) → s.finishing ≡ false → Stands b out s L → nat_lt s.renewals RENEWALS ≡ (not (is_finishing L) && nat_lt (renewals L) RENEWALS)
+may-renew-so b out s L f h = below-kept (renewals L) s.renewals h.renewals ∙ sym (ap (λ (x : Bool). not x && nat_lt (renewals L) RENEWALS) (h.finishing ∙ f))
 
-pub may-renew-not : (b : Base) (out : List Action) (s : State) (L : Log) → s.finishing ≡ true → Stands b out s L → false ≡ (not (is_finishing L) && nat_lt (renewals L) 8)
-may-renew-not b out s L f h = sym (ap (λ (x : Bool). not x && nat_lt (renewals L) 8) (h.finishing ∙ f))
+pub may-renew-not : (b : Base) (out : List Action) (s : State) (L : Log) → s.finishing ≡ true → Stands b out s L → false ≡ (not (is_finishing L) && nat_lt (renewals L) RENEWALS)
+may-renew-not b out s L f h = sym (ap (λ (x : Bool). not x && nat_lt (renewals L) RENEWALS) (h.finishing ∙ f))

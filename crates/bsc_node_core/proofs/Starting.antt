@@ -4,6 +4,7 @@ use Rattle.std.specs.Prelude.{is_some, replicate, slice_get}
 use Rattle.bsc_connector.specs.declared.side.Side.TheVariants.{Primary, Failover}
 use Rattle.bsc_connector.specs.declared.connector.Connector.{Connector}
 use Rattle.bsc_connector.specs.Standing.{StandsFor as ConnectorStands}
+use Rattle.bsc_direct.specs.declared.bounds.TheConstants.{SLOTS}
 use Rattle.bsc_direct.specs.declared.direct.Direct.{Direct as SlotTable}
 use Rattle.bsc_direct.specs.Standing.{StandsFor as DirectStands}
 use Rattle.bsc_resolve.specs.declared.resolve.Resolve.{Resolve}
@@ -28,8 +29,8 @@ none-in zero k link h = refl
 none-in (suc n) zero link h = h
 none-in (suc n) (suc k) link h = none-in n k link h
 
-pub none-in-slots : (items : List Link) (link : Link) (k : ℕ) → kept_of link ≡ nothing_kept → items ≡ replicate 64 link → kept_in (slice_get items k) ≡ nothing_kept
-none-in-slots items link k h i = ap (λ (ls : List Link). kept_in (slice_get ls k)) i ∙ none-in 64 k link h
+pub none-in-slots : (items : List Link) (link : Link) (k : ℕ) → kept_of link ≡ nothing_kept → items ≡ replicate SLOTS link → kept_in (slice_get items k) ≡ nothing_kept
+none-in-slots items link k h i = ap (λ (ls : List Link). kept_in (slice_get ls k)) i ∙ none-in SLOTS k link h
 
 none-kept : (ls : Links) → kept_of ls.primary ≡ nothing_kept → kept_of ls.failover ≡ nothing_kept → ((k : ℕ) → kept_in (slice_get ls.slots.items k) ≡ nothing_kept) → (name : LinkName) → link_at ls name ≡ nothing_kept
 none-kept ls p f s (Hub Primary) = p

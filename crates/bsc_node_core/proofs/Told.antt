@@ -27,6 +27,7 @@ use Rattle.bsc_initiate.specs.declared.step.InitStep.TheVariants.{Put, PutClose,
 use Rattle.bsc_initiate.specs.Past as I
 use Rattle.bsc_initiate.specs.Steps as IS
 use Rattle.bsc_initiate.specs.Standing as IN
+use Rattle.bsc_node.specs.declared.bounds.TheConstants.{RENEWALS}
 use Rattle.bsc_node.specs.declared.link_name.LinkName.{LinkName}
 use Rattle.bsc_node.specs.declared.link_name.LinkName.TheVariants.{Hub, Direct}
 use Rattle.bsc_connector.specs.declared.side.Side.TheVariants.{Failover}
@@ -146,7 +147,7 @@ told-stands b out s L name m kept ls t n sets touches same stands h = record {
   own = own-kept b.made L m t.renewal ∙ h.own;
   next = next-kept L m t.number ∙ h.next;
   finishing = finishing-kept L m t.finish ∙ h.finishing;
-  renewals = ap (λ k. min 8 k) (renewals-kept L m t.renews t.accepts) ∙ h.renewals;
+  renewals = ap (λ k. min RENEWALS k) (renewals-kept L m t.renews t.accepts) ∙ h.renewals;
   newest_hub = refusing-kept L m t.hub_message ∙ h.newest_hub;
   dropped = dropped-kept L m (ap is_some (t.beginning (Hub Failover))) t.hub_event ∙ h.dropped;
   connector = subst (λ E. ConnectorStands s.connector (waits b.made) E) (sym (hub_events-kept L m t.hub_event)) h.connector;

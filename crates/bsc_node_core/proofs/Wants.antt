@@ -4,6 +4,7 @@ use Rattle.bsc_octets.specs.declared.vmac.Vmac.{Vmac}
 use Rattle.bsc_frame.specs.declared.body.Body.{Body}
 use Rattle.bsc_frame.specs.declared.body.Body.TheVariants.{Npdu, AdvertisementSolicitation}
 use Rattle.bsc_connector.specs.declared.hub_use.HubUse.{HubUse}
+use Rattle.bsc_direct.specs.declared.bounds.TheConstants.{SLOTS}
 use Rattle.bsc_direct.specs.declared.routes.Route.{Route}
 use Rattle.bsc_direct.specs.declared.routes.Route.TheVariants.{Direct as ByDirect, Hub as ByHub, NoPath as ByNone}
 use Rattle.bsc_direct.specs.Paths.{path}
@@ -102,11 +103,11 @@ found_within : (test : ℕ → Bool) (first n k : ℕ) → find test (range_with
 found_within test first zero k h = some_none k (sym h)
 found_within test first (suc n) k h = found_or_later (test first) first n k (λ e. found_within test (first + 1) n k e) h
 
-pub slot-within : (test : ℕ → Bool) (k : ℕ) → find test slots ≡ Some k → nat_lt k 64 ≡ true
+pub slot-within : (test : ℕ → Bool) (k : ℕ) → find test slots ≡ Some k → nat_lt k SLOTS ≡ true
 unfolding slots
-slot-within test k h = lt-ltb k 64 (found_within test 0 64 k h)
+slot-within test k h = lt-ltb k SLOTS (found_within test 0 SLOTS k h)
 
-way_name_by : (e : Option ℕ) (used : HubUse) (v : Vmac) (w : Way) → ((k : ℕ) → e ≡ Some k → nat_lt k 64 ≡ true) → way_by v used (slot_or e (hub_path used)) ≡ Some w → is_name w.link ≡ true
+way_name_by : (e : Option ℕ) (used : HubUse) (v : Vmac) (w : Way) → ((k : ℕ) → e ≡ Some k → nat_lt k SLOTS ≡ true) → way_by v used (slot_or e (hub_path used)) ≡ Some w → is_name w.link ≡ true
 way_name_by (Some k) used v w within h = subst (λ (x : Way). is_name x.link ≡ true) (some_same (record { link = Direct k; dest = None }) w h) (within k refl)
 way_name_by None NoHub v w within h = some_none w (sym h)
 way_name_by None Primary v w within h = subst (λ (x : Way). is_name x.link ≡ true) (some_same (record { link = Hub PrimarySide; dest = Some v }) w h) refl

@@ -5,6 +5,7 @@ use Rattle.bsc_connector.specs.declared.event.ConnectorEvent.{ConnectorEvent}
 use Rattle.bsc_connector.specs.Back.{first_of}
 use Rattle.bsc_connector.specs.Sides.{connects}
 use Rattle.bsc_connector.specs.Standing.{StandsFor as ConnectorStands}
+use Rattle.bsc_direct.specs.declared.bounds.TheConstants.{SLOTS}
 use Rattle.bsc_direct.specs.Standing.{StandsFor as DirectStands}
 use Rattle.bsc_initiate.specs.declared.event.InitEvent.{InitEvent}
 use Rattle.bsc_initiate.specs.declared.initiating.Initiating.{Initiating}
@@ -15,6 +16,7 @@ use Rattle.bsc_accept.specs.declared.accepting.Accepting.{Accepting}
 use Rattle.bsc_accept.specs.Past as AcceptingPast
 use Rattle.bsc_accept.specs.Standing.{StandsFor as AcceptingStands}
 use Rattle.bsc_resolve.specs.declared.call.ResolveCall.{ResolveCall}
+use Rattle.bsc_node.specs.declared.bounds.TheConstants.{RENEWALS}
 use Rattle.bsc_node.specs.declared.link_name.LinkName.{LinkName}
 use Rattle.bsc_node.specs.declared.link_name.LinkName.TheVariants.{Direct}
 use Rattle.bsc_node.specs.declared.action.Action.{Action}
@@ -94,14 +96,14 @@ pub record Stands (b : Base) (out : List Action) (s : State) (L : Log) : Type 0 
   pub own : own b.made L ≡ s.own
   pub next : next_id L ≡ s.next
   pub finishing : is_finishing L ≡ s.finishing
-  pub renewals : min 8 (renewals L) ≡ s.renewals
+  pub renewals : min RENEWALS (renewals L) ≡ s.renewals
   pub newest_hub : refusing_side L ≡ s.newest_hub
   pub dropped : is_dropped Failover L ≡ s.dropped
   pub connector : ConnectorStands s.connector (waits b.made) (hub_events L)
   pub direct : DirectStands s.direct (slot_calls L)
   pub asked : resolve_calls L ≡ b.asked
   pub links : (name : LinkName) → is_name name ≡ true → LinkStands b.made b.busy L name (link_at s.links name)
-  pub tries : (k : ℕ) → k < 64 → min (tries k L) 18446744073709551615 ≡ (link_at s.links (Direct k)).tries
+  pub tries : (k : ℕ) → k < SLOTS → min (tries k L) 18446744073709551615 ≡ (link_at s.links (Direct k)).tries
   pub spare : Agrees b.spare s
   pub actions : HaveCome b out L
 

@@ -6,6 +6,7 @@ use Rattle.bsc_octets.specs.declared.vmac.Vmac.{Vmac}
 use Rattle.bsc_checks.specs.declared.place.Place.{Place}
 use Rattle.bsc_checks.specs.declared.place.Place.TheVariants.{NodeHub, NodeDirect}
 use Rattle.bsc_connector.specs.declared.side.Side.TheVariants.{Primary, Failover}
+use Rattle.bsc_direct.specs.declared.bounds.TheConstants.{SLOTS}
 use Rattle.bsc_node.specs.declared.link_name.LinkName.{LinkName}
 use Rattle.bsc_node.specs.declared.link_name.LinkName.TheVariants.{Hub, Direct}
 use Rattle.bsc_node.specs.Links.{same_link}
@@ -40,10 +41,10 @@ link_at ls (Hub Primary) = kept_of ls.primary
 link_at ls (Hub Failover) = kept_of ls.failover
 link_at ls (Direct k) = kept_in (slice_get ls.slots.items k)
 
--- Whether it is the name of a link: a hub's, or that of one of 64 slots.
+-- Whether it is the name of a link: a hub's, or that of one of the slots.
 abbrev pub is_name : LinkName → Bool
 is_name (Hub s) = true
-is_name (Direct k) = nat_lt k 64
+is_name (Direct k) = nat_lt k SLOTS
 
 -- This is kept of the link of a name, and of all others what was.
 abbrev pub Sets : Links → Links → LinkName → Kept → Type 0

@@ -16,6 +16,7 @@ use crate::messages::is_response;
 use crate::state::State;
 use bsc_accept::{Accepting, Closing, Times};
 use bsc_connector::{ConnectorEvent, ConnectorStep, Side};
+use bsc_direct::SLOTS;
 use bsc_initiate::Initiating;
 use bsc_node::{Action, LinkName, Note};
 use bsc_octets::{NoMemory, Octets};
@@ -141,7 +142,7 @@ impl State {
         now: u64,
         k: u32,
     ) -> Result<(), NoMemory>
-        ensures { OnOk result ((b : Base) (L : Log) → b.made.limits.times ≡ times → b.now ≡ now → k < 64 → Stands b out.old self.old L
+        ensures { OnOk result ((b : Base) (L : Log) → b.made.limits.times ≡ times → b.now ≡ now → k < SLOTS → Stands b out.old self.old L
             → Stands b out.new self.new (L ++ did (Action.Take (LinkName.Direct k)) ∷ [])) }
     {
         out.push(Action::Take(LinkName::Direct(k)))?;

@@ -17,6 +17,7 @@ use crate::actions::Actions;
 use crate::at::At;
 use crate::requesting::learnt_uri;
 use crate::state::State;
+use bsc_direct::SLOTS;
 use bsc_node::{LinkName, Note};
 use bsc_octets::{NoMemory, Octets, Vmac};
 use bsc_resolve::Resolve;
@@ -30,7 +31,7 @@ fn next_uri(
     k: u32,
     whom: Option<Vmac>,
 ) -> Result<Option<Octets>, NoMemory>
-    ensures { IfOk result (λ uri. (b : Base) (out : List Action) (L : Log) → k < 64 → wanted k L ≡ whom
+    ensures { IfOk result (λ uri. (b : Base) (out : List Action) (L : Log) → k < SLOTS → wanted k L ≡ whom
         → BothStand b out state.now resolve.now L → uri ≡ next_uri k L) }
 {
     match whom {
@@ -76,7 +77,7 @@ fn try_next(
     at: &At,
     k: u32,
 ) -> Result<(), NoMemory>
-    ensures { OnOk result ((b : Base) (L : Log) → IsAtRest at.now b → k < 64
+    ensures { OnOk result ((b : Base) (L : Log) → IsAtRest at.now b → k < SLOTS
         → BothStand b out.old state.old resolve.now L → BothStand b out.new state.new resolve.now (L ++ tries_next b.made k L)) }
 {
     let whom = state.direct.wanted(k);

@@ -26,13 +26,12 @@ use crate::actions::Actions;
 use crate::at::At;
 use crate::deed::Deed;
 use crate::machines::{message_in, origin_in};
-use crate::meeting::RENEWALS;
 use crate::receiving::take_up;
 use crate::state::State;
 use bsc_accept::Closing;
 use bsc_checks::Verdict;
 use bsc_connector::{ConnectorEvent, Side};
-use bsc_node::{Action, LinkName, NodeEvent, Note};
+use bsc_node::{Action, LinkName, NodeEvent, Note, RENEWALS};
 use bsc_octets::{NoMemory, Octets, random48};
 use bsc_resolve::Resolve;
 

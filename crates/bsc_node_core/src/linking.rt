@@ -12,11 +12,12 @@ ghost use Rattle.bsc_node_core.specs.Tables.{AgreeUntouched, Sets, Touches, begu
 ghost use Rattle.bsc_node_core.specs.Tables.{with_machine, with_machine_and_peer, with_peer};
 
 use crate::link::Link;
-use crate::links::{Links, SLOTS};
+use crate::links::Links;
 use crate::machine::Machine;
 use crate::touched::Touched;
 use bsc_accept::{Accepting, Step};
 use bsc_connector::Side;
+use bsc_direct::SLOTS;
 use bsc_initiate::{InitStep, Initiating};
 use bsc_node::LinkName;
 use bsc_octets::{Identity, NoMemory};
@@ -49,7 +50,7 @@ impl Links {
         Ok(Links {
             primary: none,
             failover: none,
-            slots: vec![in alloc; none; 64]?,
+            slots: vec![in alloc; none; SLOTS as usize]?,
             touched: Touched::Nothing,
         })
     }

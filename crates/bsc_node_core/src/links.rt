@@ -1,11 +1,9 @@
 //! The links of a node.
 ghost use Rattle.std.specs.Prelude.{◌≡◌, vec_len};
+ghost use Rattle.bsc_direct.specs.declared.bounds.TheConstants.{SLOTS};
 
 use crate::link::Link;
 use crate::touched::Touched;
-
-/// How many slots there are.
-pub(crate) const SLOTS: u32 = 64;
 
 /// The links of a node: those of its two hubs, and those in its slots.
 #[derive(Drop)]
@@ -15,5 +13,5 @@ pub(crate) struct Links {
     pub(crate) slots: Vec<Link>,
     /// Which of them were touched since an event began.
     pub(crate) touched: Touched,
-    ghost all: { vec_len slots ≡ 64 },
+    ghost all: { vec_len slots ≡ SLOTS },
 }

@@ -30,12 +30,9 @@ use bsc_accept::{Accepting, Closing};
 use bsc_connector::{ConnectorEvent, Side};
 use bsc_direct::Establish;
 use bsc_history::Refusal;
-use bsc_node::{Action, LinkName, Note};
+use bsc_node::{Action, LinkName, Note, RENEWALS};
 use bsc_octets::{Identity, NoMemory, Vmac, function, results};
 use std::alloc::Global;
-
-/// How often a node renews its VMAC at most, since a hub accepted it.
-pub(crate) const RENEWALS: u8 = 8;
 
 /// Whether a refusal with this error code is that of a hub, of the node's VMAC as a duplicate.
 fn is_duplicate(name: LinkName, code: u16) -> bool
@@ -263,9 +260,9 @@ impl State {
         }
     }
 
-    /// Whether the node may renew its VMAC: it isn't to end, and it did so fewer than 8 times since a hub accepted it.
+    /// Whether the node may renew its VMAC: it isn't to end, and it did so fewer times than it may since a hub accepted it.
     fn may_renew(&self) -> bool
-        ensures { (b : Base) (out : List Action) (L : Log) → Stands b out self.now L → result ≡ (not (is_finishing L) && nat_lt (renewals L) 8) }
+        ensures { (b : Base) (out : List Action) (L : Log) → Stands b out self.now L → result ≡ (not (is_finishing L) && nat_lt (renewals L) RENEWALS) }
     {
         if self.finishing {
             return false;

@@ -19,8 +19,8 @@ ghost use Rattle.bsc_node_core.specs.Telling.{HasTold};
 use crate::actions::Actions;
 use crate::at::At;
 use crate::deed::Deed;
-use crate::links::SLOTS;
 use crate::state::State;
+use bsc_direct::SLOTS;
 use bsc_node::LinkName;
 use bsc_octets::{NoMemory, Vmac};
 

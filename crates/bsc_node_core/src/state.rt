@@ -18,7 +18,7 @@ pub(crate) struct State {
     pub(crate) next: u16,
     /// Whether it is to end.
     pub(crate) finishing: bool,
-    /// How often it renewed its VMAC since a hub accepted it, up to 8.
+    /// How often it renewed its VMAC since a hub accepted it, up to `RENEWALS`.
     pub(crate) renewals: u8,
     /// The side of the newest message of a hub.
     pub(crate) newest_hub: Option<Side>,

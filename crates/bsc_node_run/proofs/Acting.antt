@@ -4,6 +4,7 @@ use Rattle.std.proofs.lemmas.Bool.{eqb-true, false≢true, lt-ltb}
 use Rattle.std.proofs.lemmas.Option.{slice_get-get_or, slice_get_past}
 use Rattle.std.proofs.lemmas.List.{get_or-set_same, length-set}
 use Rattle.bsc_connector.specs.declared.side.Side.TheVariants.{Primary, Failover}
+use Rattle.bsc_direct.specs.declared.bounds.TheConstants.{SLOTS}
 use Rattle.bsc_edge.specs.declared.said.Said.{Said}
 use Rattle.bsc_edge.specs.Told.{Grows}
 use Rattle.bsc_accept.specs.declared.closing.Closing.{Closing}
@@ -42,14 +43,14 @@ module _ {L : Type 0} where
       by true e = subst (λ n. link_if (slice_get (slice_set xs k x) n) ≡ x) (eqb-true k j e) (set_here xs k x h) ∙ ap (λ c. if c then x else link_if (slice_get xs j)) (sym t)
       by false e = ap link_if (other_kept xs k j x (λ same. false≢true (sym e ∙ ap (λ n. k == n) (sym same) ∙ same_number k)))
 
-  pub slot_named : (name : LinkName) (k : ℕ) (p f : Option L) (xs ys : List (Option L)) (x : Option L) → name ≡ Direct k → ys ≡ slice_set xs k x → k < 64 → length xs ≡ 64 → (other : LinkName)
+  pub slot_named : (name : LinkName) (k : ℕ) (p f : Option L) (xs ys : List (Option L)) (x : Option L) → name ≡ Direct k → ys ≡ slice_set xs k x → k < SLOTS → length xs ≡ SLOTS → (other : LinkName)
       → link_among other p f ys ≡ (if same_link name other && is_name name then x else link_among other p f xs)
   slot_named name k p f xs ys x n e h l other =
       ap (λ (zs : List (Option L)). link_among other p f zs) e
-      ∙ slot_set p f xs k x (is_name (Direct k)) (lt-ltb k 64 h) (omega (arith, h, l)) other
+      ∙ slot_set p f xs k x (is_name (Direct k)) (lt-ltb k SLOTS h) (omega (arith, h, l)) other
       ∙ ap (λ m. if same_link m other && is_name m then x else link_among other p f xs) (sym n)
 
-  pub none_past : (name : LinkName) (k : ℕ) (p f : Option L) (xs : List (Option L)) → name ≡ Direct k → length xs ≡ 64 → 64 ≤ k → None ≡ link_among name p f xs
+  pub none_past : (name : LinkName) (k : ℕ) (p f : Option L) (xs : List (Option L)) → name ≡ Direct k → length xs ≡ SLOTS → SLOTS ≤ k → None ≡ link_among name p f xs
   none_past name k p f xs n l h = sym (ap (λ m. link_among m p f xs) n ∙ ap link_if (slice_get_past xs k (omega (arith, h, l))))
 
   -- ---- dials

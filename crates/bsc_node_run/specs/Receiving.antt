@@ -10,11 +10,12 @@ use Rattle.bsc_edge.specs.Told.{Grows}
 use Rattle.bsc_node.specs.declared.link_name.LinkName.{LinkName}
 use Rattle.bsc_node.specs.declared.node_event.NodeEvent.{NodeEvent}
 use Rattle.bsc_node.specs.declared.node_event.NodeEvent.TheVariants.{Came, CameText, Lost}
+use Rattle.bsc_node_run.specs.declared.bounds.TheConstants.{LINK_WAIT_MS}
 use Rattle.bsc_node_run.specs.Worlds.{World, Same, ends, with_link}
 
 -- How long a link is waited for in a turn, in milliseconds: it is asked for what is there already.
 abbrev pub link_wait : ℕ
-link_wait = 0
+link_wait = LINK_WAIT_MS
 
 -- what the node is told of it
 abbrev pub told_of : LinkName → Result Incoming LinkFault → Option NodeEvent

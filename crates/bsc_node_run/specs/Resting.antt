@@ -1,12 +1,13 @@
 -- How long a node waits between the turns of a run.
 use Rattle.std.specs.Prelude.{◌≡◌, ◌≤◌, ℕ, ◌+◌, ◌-◌, List, [], ◌∷◌, ◌++◌, Option, Some, None, unwrap_or, ⊤}
 use Rattle.bsc_edge.specs.Told.{Grows}
+use Rattle.bsc_node_run.specs.declared.bounds.TheConstants.{LONGEST_REST_MS}
 use Rattle.bsc_node_run.specs.declared.due.Due.{Due}
 use Rattle.bsc_node_run.specs.Turning.{AreDue, IsNotDue}
 
 -- No wait is longer, in milliseconds.
 abbrev pub longest_rest : ℕ
-longest_rest = 50
+longest_rest = LONGEST_REST_MS
 
 -- A wait that begins when so much time has passed is over by the time of the first of these, where there is one.
 abbrev pub IsOverBy : ℕ → ℕ → List Due → Type 0

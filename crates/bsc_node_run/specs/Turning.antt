@@ -3,6 +3,7 @@ use Rattle.std.specs.Prelude.{◌≡◌, ◌≤◌, ◌<◌, ◌⊎◌, ℕ, zer
 use Rattle.std.specs.Prelude.{Option, Some, None, unwrap_or, Result, Ok, Err, ⊤}
 use Rattle.std.specs.List.{list_any}
 use Rattle.bsc_connector.specs.declared.side.Side.TheVariants.{Primary, Failover}
+use Rattle.bsc_direct.specs.declared.bounds.TheConstants.{SLOTS}
 use Rattle.bsc_edge.specs.declared.arrived.Arrived.TheVariants.{Link, Quiet as NoLink}
 use Rattle.bsc_edge.specs.declared.fault.LinkFault.{LinkFault}
 use Rattle.bsc_edge.specs.declared.fault.LinkFault.TheVariants.{Failed, NoMemory}
@@ -17,6 +18,7 @@ use Rattle.bsc_node.specs.declared.node_event.NodeEvent.{NodeEvent}
 use Rattle.bsc_node.specs.declared.node_event.NodeEvent.TheVariants.{Start, Opened, DialFailed, Arrived, Came, CameText, Lost, Tick}
 use Rattle.bsc_node.specs.declared.action.Action.{Action}
 use Rattle.bsc_node.specs.Conditions.{brings_word}
+use Rattle.bsc_node_run.specs.declared.bounds.TheConstants.{ACCEPT_WAIT_MS}
 use Rattle.bsc_node_run.specs.declared.due.Due.{Due}
 use Rattle.bsc_node_run.specs.declared.news.Change.{Change}
 use Rattle.bsc_node_run.specs.declared.news.Change.TheVariants.{Opened as DidOpen, DialFailed as DidntOpen, Lost as WasLost}
@@ -46,11 +48,11 @@ slots_from (suc count) k = Direct k ∷ slots_from count (k + 1)
 
 -- All links: those of the hubs, and then those in the slots.
 abbrev pub names : List LinkName
-names = Hub Primary ∷ Hub Failover ∷ slots_from 64 0
+names = Hub Primary ∷ Hub Failover ∷ slots_from SLOTS 0
 
 -- How long the acceptor is waited for in a turn, in milliseconds: it is asked for a link that is there already.
 abbrev pub accept_wait : ℕ
-accept_wait = 0
+accept_wait = ACCEPT_WAIT_MS
 
 -- How much time has passed since the first turn, at this time.
 abbrev pub passed_by : Option ℕ → ℕ → ℕ

@@ -2,6 +2,7 @@
 use Rattle.std.specs.Prelude.{◌≡◌, ℕ, nat_lt, Bool, true, not, ◌&&◌, if◌then◌else◌, List, [], ◌∷◌, ◌++◌, filter, Option, Some, None, is_some, slice_get}
 use Rattle.std.specs.List.{list_any}
 use Rattle.bsc_connector.specs.declared.side.Side.TheVariants.{Primary, Failover}
+use Rattle.bsc_direct.specs.declared.bounds.TheConstants.{SLOTS}
 use Rattle.bsc_edge.specs.declared.dialled.Dialled.{Dialled}
 use Rattle.bsc_node.specs.declared.link_name.LinkName.{LinkName}
 use Rattle.bsc_node.specs.declared.link_name.LinkName.TheVariants.{Hub, Direct}
@@ -56,10 +57,10 @@ pub record Same {L : Type 0} (a b : World L) : Type 0 where
   pub dialled : a.dialled ≡ b.dialled
   pub held : a.held ≡ b.held
 
--- Whether it is the name of a link: a hub's, or that of one of 64 slots.
+-- Whether it is the name of a link: a hub's, or that of one of the slots.
 abbrev pub is_name : LinkName → Bool
 is_name (Hub s) = true
-is_name (Direct k) = nat_lt k 64
+is_name (Direct k) = nat_lt k SLOTS
 
 -- whether this is news of the link of a name
 abbrev pub is_of : LinkName → News → Bool

@@ -5,6 +5,7 @@
 #![tactic(auto)]
 
 mod at;
+mod bounds;
 mod due;
 mod halt;
 mod line;
@@ -26,6 +27,7 @@ mod turn_end;
 mod turning;
 mod words;
 
+pub use bounds::{ACCEPT_WAIT_MS, LINK_WAIT_MS, LONGEST_REST_MS};
 pub use due::Due;
 pub use halt::Halt;
 pub use link_set::LinkSet;

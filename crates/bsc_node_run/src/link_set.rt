@@ -1,5 +1,6 @@
 //! The links of a node, and what is new of them.
 ghost use Rattle.std.specs.Prelude.{◌≡◌, vec_len};
+ghost use Rattle.bsc_direct.specs.declared.bounds.TheConstants.{SLOTS};
 
 use crate::news::News;
 use std::collections::VecDeque;
@@ -21,5 +22,5 @@ pub struct LinkSet<L> {
     pub(crate) waiting: VecDeque<News>,
     /// Whether the node told that it has ended.
     pub(crate) finished: bool,
-    ghost all: { vec_len slots ≡ 64 },
+    ghost all: { vec_len slots ≡ SLOTS },
 }

@@ -10,14 +10,12 @@ ghost use Rattle.bsc_node_run.specs.Worlds.{with_link, with_news, with_over, wit
 use crate::link_set::LinkSet;
 use crate::news::{Change, News};
 use bsc_connector::Side;
+use bsc_direct::SLOTS;
 use bsc_node::LinkName;
 use bsc_octets::NoMemory;
 use std::alloc::Global;
 use std::collections::VecDeque;
 use std::mem;
-
-/// How many slots there are.
-const SLOTS: u32 = 64;
 
 /// Whether this is news of the link of a name.
 fn is_of(name: LinkName, news: &News) -> bool
@@ -47,11 +45,11 @@ pub(crate) fn same_link(a: LinkName, b: LinkName) -> bool
 
 /// Puts a link into a slot, and gives the one that was there.
 fn replace_in<L: Drop>(slots: &mut Vec<Option<L>>, k: u32, link: Option<L>) -> Option<L>
-    requires within { k < 64 }
-    requires all { vec_len slots.old ≡ 64 }
+    requires within { k < SLOTS }
+    requires all { vec_len slots.old ≡ SLOTS }
     ensures old { result ≡ link_if (slice_get slots.old.items k) }
     ensures new { slots.new.items ≡ slice_set slots.old.items k link }
-    ensures len { vec_len slots.new ≡ 64 }
+    ensures len { vec_len slots.new ≡ SLOTS }
 {
     mem::replace(&mut slots[k as usize], link)
 }

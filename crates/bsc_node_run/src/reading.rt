@@ -15,13 +15,8 @@ use crate::line::{Line, LineFault};
 use crate::saying::read_line;
 use crate::script::{Script, ScriptFault};
 use bsc_node::NodeEvent;
+use bsc_text::{MAX_INPUT_LEN, MAX_LINE_LEN};
 use std::alloc::Global;
-
-/// The most octets that a line may have.
-const MAX_LINE_LEN: usize = 140_000;
-
-/// The most octets that a whole script may have: 2^40.
-const MAX_SCRIPT_LEN: u64 = 1_099_511_627_776;
 
 /// What stands behind some lines.
 #[derive(Drop)]
@@ -57,10 +52,10 @@ fn line_in(piece: &[u8]) -> &[u8]
 
 /// Whether a piece that stands after `before` octets is too big.
 fn is_too_big(before: u64, piece: &[u8]) -> bool
-    requires { before ≤ 1099511627776 }
+    requires { before ≤ MAX_INPUT_LEN }
     ensures { result ≡ is_too_big before piece.now }
 {
-    line_in(piece).len() > MAX_LINE_LEN || MAX_SCRIPT_LEN - before < piece.len() as u64
+    line_in(piece).len() > MAX_LINE_LEN || MAX_INPUT_LEN - before < piece.len() as u64
 }
 
 /// How many octets stand in front of the first LF; all of them, where there is none.
@@ -158,12 +153,12 @@ impl Reading {
 
     /// Goes on with a piece that stands behind so many octets, where it may stand there.
     fn read_piece(&mut self, alloc: Global, before: u64, piece: &[u8]) -> Result<(), LineFault>
-        requires { before ≤ 1099511627776 }
+        requires { before ≤ MAX_INPUT_LEN }
         ensures taken { OnOk result ((pieces : List (List ℕ)) → before ≡ length (concat pieces) →
             Kept self.old.at self.old.ended (map wish_of self.old.lines.items) (lines_in pieces) →
             (fits_behind pieces piece.now ≡ true)
             × Kept self.new.at self.new.ended (map wish_of self.new.lines.items) (lines_in (pieces ++ piece.now ∷ []))) }
-        ensures fits { OnOk result (before + length piece.now ≤ 1099511627776) }
+        ensures fits { OnOk result (before + length piece.now ≤ MAX_INPUT_LEN) }
         ensures refused { result ≡ Err IsRefused → (pieces : List (List ℕ)) → before ≡ length (concat pieces) →
             Kept self.old.at self.old.ended (map wish_of self.old.lines.items) (lines_in pieces) → fits_behind pieces piece.now ≡ false }
     {

@@ -9,6 +9,7 @@ ghost use Rattle.bsc_node_run.specs.Stopping.{RunFails};
 ghost use Rattle.bsc_node_run.specs.Turning.{IsNotDue};
 ghost use Rattle.bsc_node_run.specs.Worlds.{admitting, dialling};
 
+use crate::bounds::LONGEST_REST_MS;
 use crate::due::Due;
 use crate::halt::Halt;
 use crate::link_set::LinkSet;
@@ -19,9 +20,6 @@ use crate::words::Words;
 use bsc_edge::{Acceptor, Clock, Dialer, Link, Waiter};
 use bsc_outside::Sink;
 use std::alloc::Global;
-
-/// No wait between two turns is longer, in milliseconds: the times of the node's own come to it with no event.
-const LONGEST_REST_MS: u32 = 50;
 
 /// How long may be waited before the next turn, once so much time had passed at the last one: not at all where something is new
 /// of a link, and not past the time of the next line.

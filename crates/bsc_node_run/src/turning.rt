@@ -16,6 +16,7 @@ ghost use Rattle.bsc_node_run.specs.Turning.{Starts, Turn, event_of, names, pass
 ghost use Rattle.bsc_node_run.specs.Worlds.{Dialling, Same, admitting, dialling, link_in, with_over, world_of};
 
 use crate::at::At;
+use crate::bounds::{ACCEPT_WAIT_MS, LINK_WAIT_MS};
 use crate::due::Due;
 use crate::halt::Halt;
 use crate::link_set::LinkSet;
@@ -25,17 +26,12 @@ use crate::telling::give;
 use crate::turn_end::TurnEnd;
 use crate::words::Words;
 use bsc_connector::Side;
+use bsc_direct::SLOTS;
 use bsc_edge::{Acceptor, Arrived, Clock, Dialer, Incoming, Link, LinkFault};
 use bsc_node::{LinkName, NodeEvent};
 use bsc_octets::NoMemory;
 use bsc_outside::Sink;
 use std::alloc::Global;
-
-/// How long each link is waited for in a turn, in milliseconds: what there is to wait for was waited for before it.
-const LINK_WAIT_MS: u32 = 0;
-
-/// How long the acceptor is waited for in a turn.
-const ACCEPT_WAIT_MS: u32 = 0;
 
 /// What a node is told of what is new.
 fn event_of(news: News) -> NodeEvent
@@ -194,17 +190,17 @@ fn hear_slots<N: Core, K: Sink, W: Words, L: Link + Drop, D: Dialer<L>>(
     random: &mut W,
     dialer: &mut D,
 ) -> Result<(), Halt>
-    ensures hears { OnOk result (HearsEach (GoesDrawing N.goes W.gives W.faults) L.talk at.time (slots_from 64 0)
+    ensures hears { OnOk result (HearsEach (GoesDrawing N.goes W.gives W.faults) L.talk at.time (slots_from SLOTS 0)
         (at_rest node.old random.old) (world_of set.old (dialling D.calls D.left D.faults dialer.old) (K.held sink.old))
         (at_rest node.new random.new) (world_of set.new (dialling D.calls D.left D.faults dialer.new) (K.held sink.new))) }
-    ensures stops { OnErr result (EachStop (GoesDrawing N.goes W.gives W.faults) L.talk at.time (slots_from 64 0)
+    ensures stops { OnErr result (EachStop (GoesDrawing N.goes W.gives W.faults) L.talk at.time (slots_from SLOTS 0)
         (at_rest node.old random.old) (world_of set.old (dialling D.calls D.left D.faults dialer.old) (K.held sink.old))
         (world_of set.new (dialling D.calls D.left D.faults dialer.new) (K.held sink.new))) }
     ensures failed { RisesOnWriteFault result (K.faults sink.old) (K.faults sink.new) }
     ensures later { K.faults sink.old ≤ K.faults sink.new }
     ensures accepts { result ≢ Err HaltType.AcceptFault }
 {
-    for k in 0..64 {
+    for k in 0..SLOTS {
         hear(at, node, set, sink, random, dialer, LinkName::Direct(k))?;
     }
     Ok(())

@@ -8,6 +8,7 @@ use Rattle.std.proofs.lemmas.List.{append_assoc, map-append}
 use Rattle.std.proofs.lemmas.List.Elements.{filter-append}
 use Rattle.std.proofs.lemmas.List.Folds.{list_all-append}
 use Rattle.bsc_connector.proofs.BackLemmas.{list_any-more}
+use Rattle.bsc_direct.specs.declared.bounds.TheConstants.{SLOTS}
 use Rattle.bsc_direct.specs.Slots.{slots}
 use Rattle.bsc_node.specs.declared.link_name.LinkName.{LinkName}
 use Rattle.bsc_node.specs.declared.link_name.LinkName.TheVariants.{Direct}
@@ -26,12 +27,12 @@ use Rattle.std.proofs.lemmas.Bool.{and_from as and_both, or_left as or_first}
 
 -- ---- names
 
-in_numbers : (k : ℕ) (ks : List ℕ) → list_any (λ j. k == j) ks ≡ true → list_all (λ j. nat_lt j 64) ks ≡ true → nat_lt k 64 ≡ true
+in_numbers : (k : ℕ) (ks : List ℕ) → list_any (λ j. k == j) ks ≡ true → list_all (λ j. nat_lt j SLOTS) ks ≡ true → nat_lt k SLOTS ≡ true
 in_numbers k [] h all = cc
-in_numbers k (j ∷ ks) h all = by (k == j) refl h (λ g. in_numbers k ks g (and_right (nat_lt j 64) (list_all (λ i. nat_lt i 64) ks) all))
+in_numbers k (j ∷ ks) h all = by (k == j) refl h (λ g. in_numbers k ks g (and_right (nat_lt j SLOTS) (list_all (λ i. nat_lt i SLOTS) ks) all))
   where
-    by : (b : Bool) → (k == j) ≡ b → (b || list_any (λ i. k == i) ks) ≡ true → (list_any (λ i. k == i) ks ≡ true → nat_lt k 64 ≡ true) → nat_lt k 64 ≡ true
-    by true e g later = ap (λ i. nat_lt i 64) (eqb-true k j e) ∙ and_left (nat_lt j 64) (list_all (λ i. nat_lt i 64) ks) all
+    by : (b : Bool) → (k == j) ≡ b → (b || list_any (λ i. k == i) ks) ≡ true → (list_any (λ i. k == i) ks ≡ true → nat_lt k SLOTS ≡ true) → nat_lt k SLOTS ≡ true
+    by true e g later = ap (λ i. nat_lt i SLOTS) (eqb-true k j e) ∙ and_left (nat_lt j SLOTS) (list_all (λ i. nat_lt i SLOTS) ks) all
     by false e g later = later g
 
 -- The number of a slot names a link.

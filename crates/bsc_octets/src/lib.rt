@@ -5,6 +5,7 @@
 //! stands on `byteorder` for numbers and on `uuid` for device identifiers.
 #![tactic(auto)]
 
+mod bounds;
 pub mod control;
 mod device_id;
 mod envelope;
@@ -16,6 +17,7 @@ mod octets;
 pub mod results;
 mod vmac;
 
+pub use bounds::LEAST_BVLC;
 pub use device_id::DeviceId;
 pub use envelope::{Envelope, EnvelopeFault, read_envelope};
 pub use forwarding::forwarded;

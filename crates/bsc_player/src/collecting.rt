@@ -31,7 +31,7 @@ pub fn hand_over<K: Sink>(sink: &mut K, text: &mut Vec<u8>) -> Result<(), Failed
 pub fn relieve<K: Sink>(sink: &mut K, text: &mut Vec<u8>) -> Result<(), Failed>
     ensures over { OnOk result
         (HandsOver (K.held sink.old) (K.held sink.new) text.old.items text.new.items) }
-    ensures little { OnOk result (vec_len text.new < 1048576) }
+    ensures little { OnOk result (vec_len text.new < FULL_TEXT_LEN) }
     ensures part { OnErr result (PutsPrefix (K.held sink.old) (K.held sink.new) text.old.items) }
     ensures failed { IsErr result → HasRisen (K.faults sink.old) (K.faults sink.new) }
     ensures later { K.faults sink.old ≤ K.faults sink.new }

@@ -1,7 +1,7 @@
 //! Classes of groups.
 
 /// The classes of a group: that among what rules have as their side `from`, and that among what they have as their side
-/// `to`. Both are at most 256.
+/// `to`. Both are below `NAMES`.
 #[derive(Clone, Copy)]
 pub(crate) struct Classes {
     pub(crate) from: u16,

@@ -5,6 +5,7 @@
 //! and no decision depends on them.
 #![tactic(auto)]
 
+mod bounds;
 mod classes;
 mod decision;
 mod directory;
@@ -18,6 +19,7 @@ mod policy;
 mod rule;
 mod tables;
 
+pub use bounds::{MEMBERS, NAMES, RULES};
 pub use decision::Decision;
 pub use fault::PolicyFault;
 pub use member::Member;

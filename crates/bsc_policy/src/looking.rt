@@ -4,6 +4,7 @@ ghost use Rattle.bsc_octets.specs.Addresses.{same_vmac};
 ghost use Rattle.bsc_policy.specs.Decisions.{applies, decided_by, group_in, number_between, number_of};
 ghost use Rattle.bsc_policy.specs.Writing.{is_taken_by};
 
+use crate::bounds::RULES;
 use crate::decision::Decision;
 use crate::member::Member;
 use crate::rule::{Rule, applies};
@@ -34,7 +35,7 @@ fn first_at(rules: &[Rule], from: &[u8], to: &[u8]) -> Option<usize>
 
 /// The number of the first rule that applies. It is 0 where none does.
 pub(crate) fn number_of(rules: &[Rule], from: &[u8], to: &[u8]) -> u16
-    requires { length rules.now ≤ 256 }
+    requires { length rules.now ≤ RULES }
     ensures { result ≡ number_of rules.now from.now to.now }
 {
     match first_at(rules, from, to) {
@@ -45,7 +46,7 @@ pub(crate) fn number_of(rules: &[Rule], from: &[u8], to: &[u8]) -> u16
 
 /// The number of the rule that decides between two members, where there are both.
 pub(crate) fn number_between(rules: &[Rule], from: Option<&Member>, to: Option<&Member>) -> u16
-    requires { length rules.now ≤ 256 }
+    requires { length rules.now ≤ RULES }
     ensures { result ≡ number_between rules.now (group_in (option_map (λ m. m.now) from.entry)) (group_in (option_map (λ m. m.now) to.entry)) }
 {
     match from {

@@ -1,6 +1,7 @@
 //! The names of the classes that groups fall into.
 ghost use Rattle.std.specs.Prelude.{◌≡◌, ◌≤◌, [], ◌∷◌, codes, length, map, nat_eq, IfOk, OnOk};
 ghost use Rattle.std.specs.Cmp.Lexicographic.{pointwise};
+ghost use Rattle.bsc_policy.specs.declared.bounds.TheConstants.{NAMES, RULES};
 ghost use Rattle.bsc_policy.specs.Classes.{class_of, is_among, names_of, place_of, with_name};
 
 use crate::classes::Classes;
@@ -14,7 +15,7 @@ use std::alloc::Global;
 pub(crate) struct Names {
     pub(crate) froms: Vec<Octets>,
     pub(crate) tos: Vec<Octets>,
-    ghost few: { (length froms.items ≤ 257) × (length tos.items ≤ 257) },
+    ghost few: { (length froms.items ≤ NAMES) × (length tos.items ≤ NAMES) },
 }
 
 /// The same octets in memory of their own.
@@ -89,7 +90,7 @@ fn tos_of(alloc: Global, rules: &[Rule]) -> Result<Vec<Octets>, NoMemory>
 
 /// The class of a group: the place of its name, or 0 where it isn't among these.
 fn class_of(names: &[Octets], group: &[u8]) -> u16
-    requires { length names.now ≤ 257 }
+    requires { length names.now ≤ NAMES }
     ensures { result ≡ class_of names.now group.now }
 {
     match place_of(names, group) {
@@ -103,7 +104,7 @@ impl Names {
 
     /// The names of the classes by these rules.
     pub(crate) fn make(alloc: Global, rules: &[Rule]) -> Result<Names, NoMemory>
-        requires { length rules.now ≤ 256 }
+        requires { length rules.now ≤ RULES }
         ensures { IfOk result (AreNamesOf rules.now) }
     {
         let froms = froms_of(alloc, rules)?;

@@ -2,6 +2,7 @@
 ghost use Rattle.std.specs.Prelude.{◌≡◌, ◌≤◌, IfOk, length, map, slice_get};
 ghost use Rattle.bsc_policy.specs.Filing.{number_in, row_of, rows_of};
 
+use crate::bounds::RULES;
 use crate::looking::number_of;
 use crate::rule::Rule;
 use bsc_octets::{NoMemory, Octets};
@@ -22,7 +23,7 @@ pub(crate) fn number_at(rows: &[Vec<u16>], row: u16, place: u16) -> u16
 
 /// The numbers of the first rules that apply from one group to each of these.
 fn row_of(alloc: Global, rules: &[Rule], tos: &[Octets], from: &[u8]) -> Result<Vec<u16>, NoMemory>
-    requires { length rules.now ≤ 256 }
+    requires { length rules.now ≤ RULES }
     ensures { IfOk result (λ row. row.items ≡ row_of rules.now tos.now from.now) }
 {
     let mut row = Vec::with_capacity(alloc, tos.len())?;
@@ -39,7 +40,7 @@ pub(crate) fn rows_of(
     froms: &[Octets],
     tos: &[Octets],
 ) -> Result<Vec<Vec<u16>>, NoMemory>
-    requires { length rules.now ≤ 256 }
+    requires { length rules.now ≤ RULES }
     ensures { IfOk result (λ rows. map (λ r. r.items) rows.items ≡ rows_of rules.now froms.now tos.now) }
 {
     let mut rows = Vec::with_capacity(alloc, froms.len())?;

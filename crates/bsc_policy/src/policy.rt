@@ -1,11 +1,13 @@
 //! A policy over groups of devices.
 ghost use Rattle.std.specs.Prelude.{◌≡◌, ◌≢◌, ◌≤◌, ◌<◌, ◌↔◌, ℕ, [], ◌∷◌, ◌++◌, length, position, Some, IfSome, IsSome, Err, OnOk, OnErr};
 ghost use Rattle.std.proofs.Props.{props};
+ghost use Rattle.bsc_policy.specs.declared.bounds.TheConstants.{MEMBERS, RULES};
 ghost use Rattle.bsc_policy.specs.declared.fault.PolicyFault.{PolicyFault};
 ghost use Rattle.bsc_policy.specs.Decisions.{decided_of, group_of, is_admitted, number_between};
 ghost use Rattle.bsc_policy.specs.Tables.{AreTablesOf};
 ghost use Rattle.bsc_policy.specs.Writing.{is_taken_by};
 
+use crate::bounds::{MEMBERS, RULES};
 use crate::decision::Decision;
 use crate::fault::PolicyFault;
 use crate::looking::{decided_by, member_at, number_between, taken_at};
@@ -16,11 +18,11 @@ use crate::tables::Tables;
 use bsc_octets::{DeviceId, Identity, NoMemory, Octets, Vmac};
 use std::alloc::Global;
 
-/// At most so many members are taken.
-const MEMBERS: usize = 1024;
+/// Room for the most members.
+const MEMBER_ROOM: usize = MEMBERS as usize;
 
-/// At most so many rules are taken.
-const RULES: usize = 256;
+/// Room for the most rules.
+const RULE_ROOM: usize = RULES as usize;
 
 /// A policy: its members and its rules, in the order in which they were taken.
 ///
@@ -33,8 +35,8 @@ pub struct Policy {
     pub(crate) members: Vec<Member>,
     pub(crate) rules: Vec<Rule>,
     tables: Option<Tables>,
-    ghost few: { length members.items ≤ 1024 },
-    ghost short: { length rules.items ≤ 256 },
+    ghost few: { length members.items ≤ MEMBERS },
+    ghost short: { length rules.items ≤ RULES },
     ghost told: { IfSome tables (AreTablesOf members.items rules.items) } by { Prim.hlevel props },
 }
 
@@ -63,18 +65,18 @@ impl Policy {
         }
     }
 
-    /// Takes a member more: a device that is admitted under an address, and the group that it is in. 1,024 are taken, and
-    /// no two with the same address or the same device.
+    /// Takes a member more: a device that is admitted under an address, and the group that it is in. `MEMBERS` are taken,
+    /// and no two with the same address or the same device.
     pub fn member(&mut self, device: DeviceId, vmac: Vmac, group: &str) -> Result<(), PolicyFault>
-        ensures full { (held : ℕ) → (result ≡ Err (PolicyFault.Full held)) ↔ ((held ≡ 1024) × (1024 ≤ length self.old.members.items)) }
+        ensures full { (held : ℕ) → (result ≡ Err (PolicyFault.Full held)) ↔ ((held ≡ MEMBERS) × (MEMBERS ≤ length self.old.members.items)) }
         ensures twice { (i : ℕ) → (result ≡ Err (PolicyFault.Twice i))
-            ↔ ((length self.old.members.items < 1024) × (position (is_taken_by vmac device) self.old.members.items ≡ Some i)) }
+            ↔ ((length self.old.members.items < MEMBERS) × (position (is_taken_by vmac device) self.old.members.items ≡ Some i)) }
         ensures ok { OnOk result (self.new.members.items ≡ self.old.members.items ++ record { device = device; vmac = vmac; group = group.now } ∷ []) }
         ensures err { OnErr result (self.new.members.items ≡ self.old.members.items) }
         ensures rules { self.new.rules.items ≡ self.old.rules.items }
     {
-        if self.members.len() >= MEMBERS {
-            return Err(PolicyFault::Full { held: 1024 });
+        if self.members.len() >= MEMBER_ROOM {
+            return Err(PolicyFault::Full { held: MEMBERS });
         }
         if let Some(place) = taken_at(&self.members, vmac, &device) {
             return Err(PolicyFault::Twice {
@@ -90,16 +92,16 @@ impl Policy {
     }
 
     /// Takes a rule more, behind the others: it allows or denies what goes from the members of one group to those of
-    /// another, and `*` stands for all groups. 256 are taken.
+    /// another, and `*` stands for all groups. `RULES` are taken.
     pub fn rule(&mut self, allow: bool, from: &str, to: &str) -> Result<(), PolicyFault>
-        ensures full { (held : ℕ) → (result ≡ Err (PolicyFault.Full held)) ↔ ((held ≡ 256) × (256 ≤ length self.old.rules.items)) }
+        ensures full { (held : ℕ) → (result ≡ Err (PolicyFault.Full held)) ↔ ((held ≡ RULES) × (RULES ≤ length self.old.rules.items)) }
         ensures twice { (i : ℕ) → result ≢ Err (PolicyFault.Twice i) }
         ensures ok { OnOk result (self.new.rules.items ≡ self.old.rules.items ++ record { allows = allow; from = from.now; to = to.now } ∷ []) }
         ensures err { OnErr result (self.new.rules.items ≡ self.old.rules.items) }
         ensures members { self.new.members.items ≡ self.old.members.items }
     {
-        if self.rules.len() >= RULES {
-            return Err(PolicyFault::Full { held: 256 });
+        if self.rules.len() >= RULE_ROOM {
+            return Err(PolicyFault::Full { held: RULES });
         }
         let from = copy_of(self.alloc, from.as_bytes())?;
         let to = copy_of(self.alloc, to.as_bytes())?;

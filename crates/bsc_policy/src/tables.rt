@@ -1,6 +1,7 @@
 //! What makes a decision cost the same with any number of members and rules.
 ghost use Rattle.std.specs.Prelude.{◌≤◌, IfOk, length};
 
+use crate::bounds::RULES;
 use crate::directory::Directory;
 use crate::member::Member;
 use crate::names::Names;
@@ -26,7 +27,7 @@ impl Tables {
         members: &[Member],
         rules: &[Rule],
     ) -> Result<Tables, NoMemory>
-        requires { length rules.now ≤ 256 }
+        requires { length rules.now ≤ RULES }
         ensures { IfOk result (AreTablesOf members.now rules.now) }
     {
         let names = Names::make(alloc, rules)?;

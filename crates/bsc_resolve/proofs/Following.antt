@@ -10,6 +10,7 @@ use Rattle.std.proofs.lemmas.Map.Keys.{IsDistinct-push, IsDistinct-from_apart}
 use Rattle.std.proofs.lemmas.Map.Made.{length-from_keys, is_member-filter}
 use Rattle.bsc_octets.specs.declared.vmac.Vmac.{Vmac}
 use Rattle.bsc_octets.specs.Addresses.{same_vmac}
+use Rattle.bsc_resolve.specs.declared.bounds.TheConstants.{ROOM}
 use Rattle.bsc_resolve.specs.declared.question.Question.{Question}
 use Rattle.bsc_resolve.specs.declared.call.ResolveCall.{ResolveCall}
 use Rattle.bsc_resolve.specs.declared.call.ResolveCall.TheVariants.{Ask, Answered, Refused, Tick}
@@ -169,7 +170,7 @@ held_count r wait calls s =
 
 -- a refusal by whether the VMAC is held, how many are, and the question for it
 abbrev refusal_of : Bool → ℕ → Option Question → Option AskRefusal
-refusal_of h n o = cond (not h && nat_le 256 n) (Some (Full n)) (option_map (λ (q : Question). Pending q.id) o)
+refusal_of h n o = cond (not h && nat_le ROOM n) (Some (Full n)) (option_map (λ (q : Question). Pending q.id) o)
 
 refusal_by : (r : Resolve) (wait : ℕ) (calls : List ResolveCall) (v : Vmac) → StandsFor r wait calls
     → ask_refusal wait calls v ≡ refusal_of (is_some (entry_of r.entries.items v)) (length r.entries.items) (kept_question (entry_of r.entries.items v))
@@ -203,16 +204,16 @@ asked_twice old v place e q placed at some wait calls s =
     refusal_by old wait calls v s ∙ ap (λ (o : Option Entry). refusal_of (is_some o) (length old.entries.items) (kept_question o)) found ∙ ap (refusal_of true (length old.entries.items)) some
 
 -- no entry
-refusal_without : (old : Resolve) (v : Vmac) (wait : ℕ) (calls : List ResolveCall) → position (is_for v) old.entries.items ≡ None → StandsFor old wait calls → ask_refusal wait calls v ≡ cond (nat_le 256 (length old.entries.items)) (Some (Full (length old.entries.items))) None
+refusal_without : (old : Resolve) (v : Vmac) (wait : ℕ) (calls : List ResolveCall) → position (is_for v) old.entries.items ≡ None → StandsFor old wait calls → ask_refusal wait calls v ≡ cond (nat_le ROOM (length old.entries.items)) (Some (Full (length old.entries.items))) None
 refusal_without old v wait calls placed s = refusal_by old wait calls v s ∙ ap (λ (o : Option Entry). refusal_of (is_some o) (length old.entries.items) (kept_question o)) (none_found (is_for v) old.entries.items placed)
 
-pub asked_full : (old : Resolve) (v : Vmac) (n : ℕ) → position (is_for v) old.entries.items ≡ None → 256 ≤ length old.entries.items → n ≡ length old.entries.items → IsRefused old v (Full n)
-asked_full old v n placed big same wait calls s = refusal_without old v wait calls placed s ∙ ap (λ (b : Bool). cond b (Some (Full (length old.entries.items))) None) (le-leb 256 (length old.entries.items) big) ∙ ap (λ (k : ℕ). Some (Full k)) (sym same)
+pub asked_full : (old : Resolve) (v : Vmac) (n : ℕ) → position (is_for v) old.entries.items ≡ None → ROOM ≤ length old.entries.items → n ≡ length old.entries.items → IsRefused old v (Full n)
+asked_full old v n placed big same wait calls s = refusal_without old v wait calls placed s ∙ ap (λ (b : Bool). cond b (Some (Full (length old.entries.items))) None) (le-leb ROOM (length old.entries.items) big) ∙ ap (λ (k : ℕ). Some (Full k)) (sym same)
 
-pub asked_in_vain : (old : Resolve) (v : Vmac) → position (is_for v) old.entries.items ≡ None → length old.entries.items < 256 → IsRefused old v NoMemory
-asked_in_vain old v placed small wait calls s = refusal_without old v wait calls placed s ∙ ap (λ (b : Bool). cond b (Some (Full (length old.entries.items))) None) (lt-leb 256 (length old.entries.items) small)
+pub asked_in_vain : (old : Resolve) (v : Vmac) → position (is_for v) old.entries.items ≡ None → length old.entries.items < ROOM → IsRefused old v NoMemory
+asked_in_vain old v placed small wait calls s = refusal_without old v wait calls placed s ∙ ap (λ (b : Bool). cond b (Some (Full (length old.entries.items))) None) (lt-leb ROOM (length old.entries.items) small)
 
-pub asked_first : (old new : Resolve) (v : Vmac) (now id : ℕ) → position (is_for v) old.entries.items ≡ None → length old.entries.items < 256 → new.wait ≡ old.wait
+pub asked_first : (old new : Resolve) (v : Vmac) (now id : ℕ) → position (is_for v) old.entries.items ≡ None → length old.entries.items < ROOM → new.wait ≡ old.wait
     → new.entries.items ≡ old.entries.items ++ record { vmac = v; question = Some (record { id = id; asked = now }); uris = None } ∷ [] → IsAsked old new now id v
 asked_first old new v now id placed small waits items wait calls s =
     let es = old.entries.items in
@@ -325,8 +326,8 @@ made r wait waits items = record {
 
 -- ---- laws
 
-pub few_held : (r : Resolve) (wait : ℕ) (calls : List ResolveCall) → StandsFor r wait calls → held wait calls ≤ 256
-few_held r wait calls s = subst (λ (n : ℕ). n ≤ 256) (held_count r wait calls s) (let few : vec_len r.entries ≤ 256 = r.few in omega (arith, few, r.entries.ok.0))
+pub few_held : (r : Resolve) (wait : ℕ) (calls : List ResolveCall) → StandsFor r wait calls → held wait calls ≤ ROOM
+few_held r wait calls s = subst (λ (n : ℕ). n ≤ ROOM) (held_count r wait calls s) (let few : vec_len r.entries ≤ ROOM = r.few in omega (arith, few, r.entries.ok.0))
 
 pub learnt_stays : (calls : List ResolveCall) (call : ResolveCall) (v : Vmac) → uris_for v call ≡ None → learnt (calls ++ call ∷ []) v ≡ learnt calls v
 learnt_stays calls call v none = learnt-more calls call v ∙ ap (λ (o : Option (List ℕ)). option_or o (learnt calls v)) none

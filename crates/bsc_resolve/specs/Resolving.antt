@@ -7,6 +7,7 @@ use Rattle.std.specs.Set.{distinct_count}
 use Rattle.bsc_octets.specs.declared.vmac.Vmac.{Vmac}
 use Rattle.bsc_octets.specs.Addresses.{same_vmac}
 use Rattle.bsc_connector.specs.Back.{newest_of, since}
+use Rattle.bsc_resolve.specs.declared.bounds.TheConstants.{ROOM}
 use Rattle.bsc_resolve.specs.declared.question.Question.{Question}
 use Rattle.bsc_resolve.specs.declared.call.ResolveCall.{ResolveCall}
 use Rattle.bsc_resolve.specs.declared.call.ResolveCall.TheVariants.{Ask, Answered, Refused, Tick}
@@ -66,14 +67,10 @@ is_held wait calls v = is_some (question wait calls v) || is_some (learnt calls 
 abbrev pub held : ℕ → List ResolveCall → ℕ
 held wait calls = distinct_count same_vmac (filter (is_held wait calls) (filter_map vmac_of calls))
 
--- how many VMACs are held at most
-abbrev pub room : ℕ
-room = 256
-
 -- Why a question for v isn't asked: there is no room for another VMAC, or one for it is under way.
 abbrev pub ask_refusal : ℕ → List ResolveCall → Vmac → Option AskRefusal
 ask_refusal wait calls v =
-    if not (is_held wait calls v) && nat_le room (held wait calls) then Some (Full (held wait calls))
+    if not (is_held wait calls v) && nat_le ROOM (held wait calls) then Some (Full (held wait calls))
     else option_map (λ (q : Question). Pending q.id) (question wait calls v)
 
 -- whether it is a question with this Message ID

@@ -7,14 +7,12 @@ ghost use Rattle.bsc_resolve.specs.Kept.{awaiting_place};
 ghost use Rattle.bsc_resolve.specs.Standing.{StandsFor, IsAsked, IsRefused, AnswersAnswer, AnswersRefusal, StandsOn, IsUnchanged};
 
 use crate::ask_refusal::AskRefusal;
+use crate::bounds::ROOM;
 use crate::entries::{add, ask_at, drop_at, learn_at, let_go, place_of, tick};
 use crate::question::Question;
 use crate::resolve::Resolve;
 use bsc_octets::{NoMemory, Octets, Vmac};
 use std::alloc::Global;
-
-/// How many VMACs are held at most.
-const ROOM: usize = 256;
 
 /// For how many VMACs there is room at first.
 const FIRST_ROOM: usize = 16;

@@ -6,9 +6,11 @@ ghost use Rattle.bsc_resolve.specs.declared.resolve.Resolve.{Resolve};
 ghost use Rattle.bsc_resolve.specs.Resolving.{uris_for, learnt, held};
 ghost use Rattle.bsc_resolve.specs.Standing.{StandsFor};
 
-/// At most 256 VMACs are held.
-pub fn at_most_256_are_held()
-    ensures { (r : Resolve) (wait : ℕ) (calls : List ResolveCall) → StandsFor r wait calls → held wait calls ≤ 256 }
+use crate::bounds::ROOM;
+
+/// At most `ROOM` VMACs are held.
+pub fn at_most_room_are_held()
+    ensures { (r : Resolve) (wait : ℕ) (calls : List ResolveCall) → StandsFor r wait calls → held wait calls ≤ ROOM }
 {}
 
 /// What is learnt of a VMAC stays until another answer for it comes: through a new question, its NAK, and time.

@@ -6,6 +6,7 @@
 #![tactic(auto)]
 
 mod ask_refusal;
+mod bounds;
 mod call;
 mod calls;
 mod entries;
@@ -15,7 +16,8 @@ mod question;
 mod resolve;
 
 pub use ask_refusal::AskRefusal;
+pub use bounds::ROOM;
 pub use call::ResolveCall;
-pub use laws::{at_most_256_are_held, what_is_learnt_stays};
+pub use laws::{at_most_room_are_held, what_is_learnt_stays};
 pub use question::Question;
 pub use resolve::Resolve;

@@ -1,5 +1,6 @@
 //! Address resolution.
 ghost use Rattle.std.specs.Prelude.{◌≤◌, vec_len};
+ghost use Rattle.bsc_resolve.specs.declared.bounds.TheConstants.{ROOM};
 
 use crate::entry::Entry;
 
@@ -10,5 +11,5 @@ use crate::entry::Entry;
 pub struct Resolve {
     pub(crate) wait: u32,
     pub(crate) entries: Vec<Entry>,
-    ghost few: { vec_len entries ≤ 256 },
+    ghost few: { vec_len entries ≤ ROOM },
 }

@@ -1,6 +1,7 @@
 //! The two ends of a ring. Their calls stand in `pushing`, `taking` and `meeting`.
 ghost use Rattle.std.specs.Prelude.{◌≡◌, ◌%◌, ◌<◌, ◌≤◌, length};
 ghost use Rattle.std.specs.Arc.{arc_value};
+ghost use Rattle.bsc_history.specs.declared.limits.TheConstants.{MOST_OUTBOX};
 ghost use Rattle.bsc_ring.specs.Lists.{newest};
 ghost use Rattle.bsc_ring.specs.Effects.{InletRests, OutletRests};
 
@@ -19,7 +20,7 @@ pub struct Inlet {
     ghost placed: { seat.table_id ≡ (arc_value table).shared.table_id },
     // The table has three words, and a slot for each item of the capacity.
     ghost sized: { (seat.table_id.words ≡ 3) × (seat.table_id.slots ≡ capacity) },
-    ghost bounds: { (2 ≤ capacity) × (capacity ≤ 1024) },
+    ghost bounds: { (2 ≤ capacity) × (capacity ≤ MOST_OUTBOX) },
     // Between two calls no slot is in hand.
     ghost rests: { InletRests seat.me },
     // `sent` counts the items that were pushed.
@@ -43,7 +44,7 @@ pub struct Outlet {
     ghost placed: { seat.table_id ≡ (arc_value table).shared.table_id },
     // The table has three words, and a slot for each item of the capacity.
     ghost sized: { (seat.table_id.words ≡ 3) × (seat.table_id.slots ≡ capacity) },
-    ghost bounds: { (2 ≤ capacity) × (capacity ≤ 1024) },
+    ghost bounds: { (2 ≤ capacity) × (capacity ≤ MOST_OUTBOX) },
     // Between two calls no slot is in hand.
     ghost rests: { OutletRests seat.me },
     // `taken` counts the items that were given.

@@ -4,6 +4,7 @@ ghost use Rattle.bsc_ring.specs.Ends.{IsNewInlet, IsNewOutlet, capacity_of, inle
 
 use crate::ends::{Inlet, Outlet};
 use crate::steps::lay_out;
+use bsc_history::MOST_OUTBOX;
 use bsc_octets::NoMemory;
 use std::alloc::Global;
 use std::sync::Arc;
@@ -11,7 +12,7 @@ use std::sync::Arc;
 /// The two ends of a new ring, which holds up to `capacity` items.
 #[tactic(auto, using(crate::proofs::Counting::newest_none))]
 pub fn make(alloc: Global, capacity: u32) -> Result<(Inlet, Outlet), NoMemory>
-    requires { (2 ≤ capacity) × (capacity ≤ 1024) }
+    requires { (2 ≤ capacity) × (capacity ≤ MOST_OUTBOX) }
     ensures mark { IfOk result (λ ends. inlet_mark ends.0 ≡ outlet_mark ends.1) }
     ensures capacity { IfOk result (λ ends. capacity_of ends.0 ≡ capacity) }
     ensures inlet { IfOk result (λ ends. IsNewInlet ends.0) }

@@ -16,7 +16,7 @@ use crate::plays::{
 };
 use crate::words::{END_WORD, HEAD_WORD, TAIL_WORD};
 use atomic_table::Table;
-use bsc_history::End;
+use bsc_history::{End, MOST_OUTBOX};
 use bsc_octets::{NoMemory, Octets};
 use std::alloc::Global;
 
@@ -49,7 +49,7 @@ pub(crate) fn put_in(
 ) -> Result<u64, (Octets, u64)>
     requires placed { seat.old.table_id ≡ table.now.shared.table_id }
     requires sized { (seat.old.table_id.words ≡ 3) × (seat.old.table_id.slots ≡ capacity) }
-    requires bounds { (2 ≤ capacity) × (capacity ≤ 1024) }
+    requires bounds { (2 ≤ capacity) × (capacity ≤ MOST_OUTBOX) }
     requires rests { InletRests seat.old.me × (sent ≡ length seat.old.me.0.pushed) }
     requires at { (slot ≡ sent % capacity) × (slot < capacity) }
     requires in_range { sent < 2 ^ 63 }
@@ -126,7 +126,7 @@ pub(crate) fn take_next(
 ) -> Option<Octets>
     requires placed { seat.old.table_id ≡ table.now.shared.table_id }
     requires sized { (seat.old.table_id.words ≡ 3) × (seat.old.table_id.slots ≡ capacity) }
-    requires bounds { (2 ≤ capacity) × (capacity ≤ 1024) }
+    requires bounds { (2 ≤ capacity) × (capacity ≤ MOST_OUTBOX) }
     requires rests { OutletRests seat.old.me × (taken ≡ length seat.old.me.0.given) }
     requires at { (slot ≡ taken % capacity) × (slot < capacity) }
     ensures placed { seat.new.table_id ≡ seat.old.table_id }

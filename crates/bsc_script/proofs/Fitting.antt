@@ -4,40 +4,42 @@ use Rattle.std.specs.Prelude.{IfOk, Result, Ok, Err}
 use Rattle.std.specs.Option.{option_map}
 use Rattle.bsc_player.specs.declared.language.LineFault.{LineFault}
 use Rattle.std.proofs.lemmas.Bool.{and_parts, leb-true}
+use Rattle.bsc_octets.specs.declared.bounds.TheConstants.{LEAST_BVLC}
 use Rattle.bsc_octets.specs.declared.vmac.Vmac.{Vmac}
 use Rattle.bsc_octets.specs.declared.device_id.DeviceId.{DeviceId}
 use Rattle.bsc_octets.specs.Addresses.{same_vmac, zero_vmac, broadcast}
 use Rattle.bsc_history.specs.declared.limits.About.{About}
+use Rattle.bsc_history.specs.declared.limits.TheConstants.{MOST_CALLS, MOST_OCTETS, MOST_OUTBOX, MOST_ROWS}
 use Rattle.bsc_script.specs.declared.line.Line.{Line}
 use Rattle.bsc_script.specs.declared.line.Line.TheVariants.{Nothing, Hub, Open, In, Text, Drop, Hold, Free, At, Stop, Counts}
 use Rattle.bsc_text.specs.Lines.{same_octets}
 use Rattle.bsc_text.specs.Words.{words_of, begins_comment}
 use Rattle.bsc_text.specs.Grammar.{number_of, vmac_of_word, maximum_of_word, device_of_word, octets_of_words, is_name}
-use Rattle.bsc_script.specs.Lines.{lies_within, may_be_hub, hub_of, hub_line, hub_line_of_words, open_line_of_words, in_line, in_line_of_words, name_line_of_words, at_line_of_words, bare_line_of_words, hubs_line_of_words, other_line_of_words, calls_of_words, most_calls, line_of_words, line_of}
+use Rattle.bsc_script.specs.Lines.{lies_within, may_be_hub, hub_of, hub_line, hub_line_of_words, open_line_of_words, in_line, in_line_of_words, name_line_of_words, at_line_of_words, bare_line_of_words, hubs_line_of_words, other_line_of_words, calls_of_words, line_of_words, line_of}
 use Rattle.bsc_script.specs.Hubs.{IsHub, IsFit}
 
 fit_hub : (v : Vmac) (u : DeviceId) (b n r o k : ℕ) → may_be_hub v b n r o k ≡ true → IsHub (hub_of v u b n r o k)
 fit_hub v u b n r o k h =
     let first = not (same_vmac v zero_vmac) && not (same_vmac v broadcast) in
-    let bvlc = lies_within 64 b 65535 in
+    let bvlc = lies_within LEAST_BVLC b 65535 in
     let npdu = lies_within 1 n 65535 in
-    let rows = lies_within 1 r 1024 in
-    let outbox = lies_within 2 o 1024 in
-    let product = nat_le (r * o * b) 1073741824 in
-    let calls = lies_within 1 k most_calls in
+    let rows = lies_within 1 r MOST_ROWS in
+    let outbox = lies_within 2 o MOST_OUTBOX in
+    let product = nat_le (r * o * b) MOST_OCTETS in
+    let calls = lies_within 1 k MOST_CALLS in
     let p0 = and_parts (first && bvlc && npdu && rows && outbox && calls) product h in
     let p1 = and_parts (first && bvlc && npdu && rows && outbox) calls p0.0 in
     let p2 = and_parts (first && bvlc && npdu && rows) outbox p1.0 in
     let p3 = and_parts (first && bvlc && npdu) rows p2.0 in
-    let rs = and_parts (nat_le 1 r) (nat_le r 1024) p3.1 in
-    let os = and_parts (nat_le 2 o) (nat_le o 1024) p2.1 in
-    let ks = and_parts (nat_le 1 k) (nat_le k most_calls) p1.1 in
-    let few = leb-true k most_calls ks.1 in
+    let rs = and_parts (nat_le 1 r) (nat_le r MOST_ROWS) p3.1 in
+    let os = and_parts (nat_le 2 o) (nat_le o MOST_OUTBOX) p2.1 in
+    let ks = and_parts (nat_le 1 k) (nat_le k MOST_CALLS) p1.1 in
+    let few = leb-true k MOST_CALLS ks.1 in
     record {
       some_rows = leb-true 1 r rs.0;
-      few_rows = leb-true r 1024 rs.1;
+      few_rows = leb-true r MOST_ROWS rs.1;
       some_room = leb-true 2 o os.0;
-      little_room = leb-true o 1024 os.1;
+      little_room = leb-true o MOST_OUTBOX os.1;
       some_calls = leb-true 1 k ks.0;
       few_calls = omega (arith, few);
       some_callers = omega arith;

@@ -27,15 +27,15 @@ use Rattle.bsc_lemmas.proofs.Lists.{all_append as all-push}
 -- ---- whether it may
 
 pub may_where_closed : (t : ScriptHub) (s : State) (n : List ℕ) (o : Option ℕ) (len : ℕ) → StandsAs t s → o ≡ position (is_named n) s.peers → is_some o ≡ false → len ≡ length t.peers.entries
-    → nat_lt len 2048 ≡ (not (is_open s n) && nat_lt (length s.peers) most_names)
+    → nat_lt len most_names ≡ (not (is_open s n) && nat_lt (length s.peers) most_names)
 may_where_closed t s n o len h place none size =
     let closed : is_open s n ≡ false = sym (placed (is_named n) s.peers) ∙ ap is_some (sym place) ∙ none in
-    sym (ap (λ b. not b && nat_lt (length s.peers) 2048) closed ∙ ap (λ m. nat_lt m 2048) (names_length t s.peers (indexed t s h) ∙ sym size))
+    sym (ap (λ b. not b && nat_lt (length s.peers) most_names) closed ∙ ap (λ m. nat_lt m most_names) (names_length t s.peers (indexed t s h) ∙ sym size))
 
 pub may_not_where_open : (s : State) (n : List ℕ) (o : Option ℕ) → o ≡ position (is_named n) s.peers → is_some o ≡ true → false ≡ (not (is_open s n) && nat_lt (length s.peers) most_names)
 may_not_where_open s n o place some =
     let is : is_open s n ≡ true = sym (placed (is_named n) s.peers) ∙ ap is_some (sym place) ∙ some in
-    sym (ap (λ b. not b && nat_lt (length s.peers) 2048) is)
+    sym (ap (λ b. not b && nat_lt (length s.peers) most_names) is)
 
 -- ---- what is kept
 

@@ -1,10 +1,12 @@
 -- What a line of a script says.
 use Rattle.std.specs.Prelude.{ℕ, ◌*◌, nat_le, Bool, not, ◌&&◌, if◌then◌else◌, List, [], ◌∷◌, codes, Option, Some, None}
 use Rattle.std.specs.Option.{option_map}
+use Rattle.bsc_octets.specs.declared.bounds.TheConstants.{LEAST_BVLC}
 use Rattle.bsc_octets.specs.declared.vmac.Vmac.{Vmac}
 use Rattle.bsc_octets.specs.declared.device_id.DeviceId.{DeviceId}
 use Rattle.bsc_octets.specs.Addresses.{same_vmac, zero_vmac, broadcast}
 use Rattle.bsc_history.specs.declared.limits.About.{About}
+use Rattle.bsc_history.specs.declared.limits.TheConstants.{MOST_CALLERS, MOST_CALLS, MOST_OCTETS, MOST_OUTBOX, MOST_ROWS}
 use Rattle.bsc_script.specs.declared.line.Line.{Line}
 use Rattle.bsc_script.specs.declared.line.Line.TheVariants.{Nothing, Hub, Open, In, Text, Drop, Hold, Free, At, Stop, Counts}
 use Rattle.bsc_text.specs.Lines.{same_octets}
@@ -17,24 +19,21 @@ use Rattle.bsc_text.specs.Grammar.{number_of, vmac_of_word, maximum_of_word, dev
 abbrev pub lies_within : ℕ → ℕ → ℕ → Bool
 lies_within low n high = nat_le low n && nat_le n high
 
--- how many calls a hub answers where its line doesn't say: 2^52
-abbrev pub most_calls : ℕ
-most_calls = 4503599627370496
-
--- What a hub may be: a VMAC that names one node, maximum lengths of 64 to 65,535 and 1 to 65,535, 1 to 1024 rows,
--- outboxes of 2 to 1024 frames, 1 to 2^52 calls, and a product of rows, outbox and maximum BVLC length of at most 2^30.
+-- What a hub may be: a VMAC that names one node; a longest message and a longest NPDU of no fewer octets than they may have
+-- and at most 65,535; at least 1 row, outboxes of 2 frames and 1 call, and no more of each than a hub may have; and no more
+-- octets in all outboxes than they may hold.
 abbrev pub may_be_hub : Vmac → ℕ → ℕ → ℕ → ℕ → ℕ → Bool
 may_be_hub v max_bvlc max_npdu rows outbox calls =
     not (same_vmac v zero_vmac) && not (same_vmac v broadcast)
-    && lies_within 64 max_bvlc 65535 && lies_within 1 max_npdu 65535
-    && lies_within 1 rows 1024 && lies_within 2 outbox 1024 && lies_within 1 calls most_calls
-    && nat_le (rows * outbox * max_bvlc) 1073741824
+    && lies_within LEAST_BVLC max_bvlc 65535 && lies_within 1 max_npdu 65535
+    && lies_within 1 rows MOST_ROWS && lies_within 2 outbox MOST_OUTBOX && lies_within 1 calls MOST_CALLS
+    && nat_le (rows * outbox * max_bvlc) MOST_OCTETS
 
--- a hub of these, with 2^62 callers
+-- a hub of these, with the most callers
 abbrev pub hub_of : Vmac → DeviceId → ℕ → ℕ → ℕ → ℕ → ℕ → About
 hub_of v u max_bvlc max_npdu rows outbox calls = record {
   hub = record { vmac = v; device = u; max_bvlc = max_bvlc; max_npdu = max_npdu };
-  limits = record { rows = rows; outbox = outbox; calls = calls; callers = 4611686018427387904 };
+  limits = record { rows = rows; outbox = outbox; calls = calls; callers = MOST_CALLERS };
 }
 
 -- a hub line, where each of its words is what it should be
@@ -46,7 +45,7 @@ hub_line v u max_bvlc max_npdu rows outbox calls = None
 
 -- how many calls the last words of a hub line say: one number, or none, which is 2^52
 abbrev pub calls_of_words : List (List ℕ) → Option ℕ
-calls_of_words [] = Some most_calls
+calls_of_words [] = Some MOST_CALLS
 calls_of_words (calls ∷ []) = number_of calls
 calls_of_words ws = None
 

@@ -7,6 +7,8 @@ use Rattle.bsc_history.specs.Counting.{counts}
 use Rattle.bsc_accept.specs.declared.event.Event.TheVariants.{Tick}
 use Rattle.bsc_accept.specs.declared.reason.Reason.TheVariants.{Nothing as NoReason}
 use Rattle.bsc_accept.specs.Steps.{closing}
+use Rattle.bsc_text.specs.declared.bounds.TheConstants.{LATEST}
+use Rattle.bsc_script.specs.declared.bounds.TheConstants.{MOST_NAMES}
 use Rattle.bsc_script.specs.declared.line.Line.{Line}
 use Rattle.bsc_script.specs.declared.line.Line.TheVariants.{Nothing, Hub, Open, In, Text, Drop, Hold, Free, At, Stop, Counts}
 use Rattle.bsc_script.specs.Written.{Said, says}
@@ -21,7 +23,7 @@ use Rattle.bsc_script.specs.Emptying.{emptied}
 
 -- the most names that may be open at once
 abbrev pub most_names : ℕ
-most_names = 2048
+most_names = MOST_NAMES
 
 -- A name opens, and a machine starts for it, unless it is open or as many are open as may be.
 abbrev pub opens : State → List ℕ → Option Outcome
@@ -39,9 +41,9 @@ holds s k held = quietly (with_peer (with_held held k) s)
 
 -- ---- the clock
 
--- the latest time that the clock may be set to: 10^15 milliseconds
+-- the latest time that the clock may be set to, in milliseconds
 abbrev pub latest : ℕ
-latest = 1000000000000000
+latest = LATEST
 
 -- the machine of a peer is told the time, after something
 abbrev pub ticks_one : Outcome → Peer → Outcome

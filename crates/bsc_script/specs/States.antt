@@ -5,6 +5,7 @@ use Rattle.bsc_history.specs.declared.entry.Entry.{Entry}
 use Rattle.bsc_accept.specs.declared.event.Event.{Event}
 use Rattle.bsc_accept.specs.declared.start.Start.{Start}
 use Rattle.bsc_accept.specs.declared.times.Times.{Times}
+use Rattle.bsc_script.specs.declared.bounds.TheConstants.{CONNECT_WAIT_MS, DISCONNECT_WAIT_MS, HEARTBEAT_MS}
 use Rattle.bsc_history.specs.Ends.{is_one}
 use Rattle.bsc_text.specs.Lines.{same_octets}
 
@@ -36,10 +37,9 @@ pub record State : Type 0 where
 abbrev pub new_hub : About → State
 new_hub a = record { about = a; clock = 0; history = []; peers = [] }
 
--- How long the hub waits for a peer: 10 seconds for a Connect-Request, as long for the answer to a Disconnect-Request,
--- and a heartbeat of 300 seconds.
+-- How long the hub waits for a peer.
 abbrev pub default_times : Times
-default_times = record { connect_wait = 10000; disconnect_wait = 10000; heartbeat = 300000 }
+default_times = record { connect_wait = CONNECT_WAIT_MS; disconnect_wait = DISCONNECT_WAIT_MS; heartbeat = HEARTBEAT_MS }
 
 -- With what the machine of a peer started, at such a hub.
 abbrev pub start_at : About → Peer → Start

@@ -5,15 +5,9 @@ ghost use Rattle.bsc_text.specs.Grammar.{vmac_of_word, device_of_word, maximum_o
 ghost use Rattle.bsc_script.specs.Lines.{may_be_hub, hub_of, hub_line, hub_line_of_words, calls_of_words};
 
 use crate::line::Line;
-use bsc_history::{About, Limits};
-use bsc_octets::{DeviceId, Identity, Vmac};
+use bsc_history::{About, Limits, MOST_CALLERS, MOST_CALLS, MOST_OCTETS, MOST_OUTBOX, MOST_ROWS};
+use bsc_octets::{DeviceId, Identity, LEAST_BVLC, Vmac};
 use bsc_text::{next_word, read_device, read_maximum, read_number, read_vmac};
-
-/// How many calls a hub answers where its line doesn't say: 2^52.
-const MOST_CALLS: u64 = 1 << 52;
-
-/// How many callers a hub of a script may have: 2^62.
-const CALLERS: u64 = 1 << 62;
 
 /// Whether a hub may be made so.
 fn may_be_hub(vmac: Vmac, max_bvlc: u16, max_npdu: u16, rows: u64, outbox: u64, calls: u64) -> bool
@@ -21,15 +15,15 @@ fn may_be_hub(vmac: Vmac, max_bvlc: u16, max_npdu: u16, rows: u64, outbox: u64, 
 {
     vmac != Vmac::ZERO
         && vmac != Vmac::BROADCAST
-        && max_bvlc >= 64
+        && max_bvlc >= LEAST_BVLC
         && max_npdu >= 1
         && 1 <= rows
-        && rows <= 1024
+        && rows <= MOST_ROWS
         && 2 <= outbox
-        && outbox <= 1024
+        && outbox <= MOST_OUTBOX
         && 1 <= calls
         && calls <= MOST_CALLS
-        && rows * outbox * u64::from(max_bvlc) <= 1 << 30
+        && rows * outbox * u64::from(max_bvlc) <= MOST_OCTETS
 }
 
 /// A line that makes a hub of these, with the callers of a script's hub.
@@ -58,7 +52,7 @@ fn hub_of(
         rows: rows as u32,
         outbox: outbox as u32,
         calls,
-        callers: CALLERS,
+        callers: MOST_CALLERS,
     };
     Some(Line::Hub(About { hub, limits }))
 }

@@ -7,6 +7,7 @@
 //! (`src/script.rt`) is the language as the player takes it.
 #![tactic(auto)]
 
+mod bounds;
 mod carrying;
 mod connecting;
 mod counting;
@@ -30,6 +31,7 @@ mod telling;
 mod texts;
 mod ticking;
 
+pub use bounds::{CONNECT_WAIT_MS, DISCONNECT_WAIT_MS, HEARTBEAT_MS, MOST_NAMES};
 pub use counting::counts_line;
 pub use line::Line;
 pub use reading::read_line;

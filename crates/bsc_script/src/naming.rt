@@ -6,6 +6,7 @@ ghost use Rattle.bsc_script.specs.States.{State, Peer as PeerOf, new_hub, is_nam
 ghost use Rattle.bsc_script.specs.Running.{opens, most_names};
 ghost use Rattle.bsc_script.specs.Holding.{StandsAs, Holds, IsIndexed, KeepsAt, RunsTo};
 
+use crate::bounds::{CONNECT_WAIT_MS, DISCONNECT_WAIT_MS, HEARTBEAT_MS, MOST_NAMES};
 use crate::peer::Peer;
 use crate::script_hub::ScriptHub;
 use bsc_accept::{Accepting, Times};
@@ -17,15 +18,11 @@ use indexmap::IndexMap;
 use std::alloc::Global;
 use std::collections::BTreeMap;
 
-/// The most names that may be open at once.
-const MOST_NAMES: usize = 2048;
-
-/// How long the hub of a script waits for a peer: 10 seconds for a Connect-Request, as long for the answer to a
-/// Disconnect-Request, and a heartbeat of 300 seconds.
+/// How long the hub of a script waits for a peer.
 const DEFAULT_TIMES: Times = Times {
-    connect_wait: 10_000,
-    disconnect_wait: 10_000,
-    heartbeat: 300_000,
+    connect_wait: CONNECT_WAIT_MS,
+    disconnect_wait: DISCONNECT_WAIT_MS,
+    heartbeat: HEARTBEAT_MS,
 };
 
 impl ScriptHub {

@@ -1,5 +1,6 @@
 //! The hub of a script, with the peers that the script names.
 ghost use Rattle.std.specs.Prelude.{◌≤◌};
+ghost use Rattle.bsc_history.specs.declared.limits.TheConstants.{MOST_OUTBOX};
 
 use crate::peer::Peer;
 use bsc_desk::Desk;
@@ -18,5 +19,5 @@ pub struct ScriptHub {
     pub(crate) peers: IndexMap<Vec<u8>, Peer>,
     pub(crate) names: BTreeMap<u64, Octets>,
     ghost some_room: { 2 ≤ about.limits.outbox },
-    ghost little_room: { about.limits.outbox ≤ 1024 },
+    ghost little_room: { about.limits.outbox ≤ MOST_OUTBOX },
 }

@@ -11,10 +11,8 @@ use crate::script_hub::ScriptHub;
 use bsc_accept::{Event, Step};
 use bsc_octets::NoMemory;
 use bsc_player::LineFault;
+use bsc_text::LATEST;
 use std::alloc::Global;
-
-/// The latest time that the clock may be set to: 10^15 milliseconds.
-const LATEST: u64 = 1_000_000_000_000_000;
 
 /// The place of the next name after a step of the one at a place: the same, where this one was closed.
 fn next_place(step: &Step, at: usize) -> usize

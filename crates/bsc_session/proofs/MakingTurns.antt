@@ -9,6 +9,7 @@ use Rattle.bsc_edge.specs.declared.said.Said.{Said}
 use Rattle.bsc_edge.specs.Told.{Grows}
 use Rattle.bsc_accept.specs.declared.step.Step.{Step}
 use Rattle.bsc_accept.specs.declared.step.Step.TheVariants.{Ask}
+use Rattle.bsc_session.specs.declared.bounds.TheConstants.{TAKES}
 use Rattle.bsc_session.specs.declared.at.At.{At}
 use Rattle.bsc_session.specs.declared.backlog.Backlog.{Backlog}
 use Rattle.bsc_session.specs.declared.member.Member.{Member}
@@ -57,7 +58,7 @@ makes_opening h v s now p a a1 b old new read read' pages pages' stop room held 
   goes = goes_nowhere h p held.caller;
   gave = rw (sym st.member) k.gave;
   empties = rw (sym st.member) (
-      let e : empties_by b.member ≡ empties_by a1.member + (if is_none k.opening.met && (false && (is_connected (ticked s k.opening.reading) && nat_lt (length k.opening.frames) 16)) then 1 else 0) = rw (sym k.stops) at k.empties in e);
+      let e : empties_by b.member ≡ empties_by a1.member + (if is_none k.opening.met && (false && (is_connected (ticked s k.opening.reading) && nat_lt (length k.opening.frames) TAKES)) then 1 else 0) = rw (sym k.stops) at k.empties in e);
   said = grows_as old new _ _ (sym (append-nil (puts (put_first v s k.opening) k.opening.fault))) k.said;
   reads = rw k.read reads;
   wrote = wrote_opening v s p k.opening pages pages' (Some stop) k.is k.stops k.records;
@@ -83,7 +84,7 @@ makes_hearing h v s now p q a a1 b c old mid new read read' pages pages' pages''
       goes = l.goes;
       gave = rw (sym st.member) (l.given_same ∙ k.gave);
       empties = rw (sym st.member) (l.empties_same ∙ (
-          let e : empties_by b.member ≡ empties_by a1.member + (if is_none k.opening.met && (true && (is_connected (ticked s k.opening.reading) && nat_lt (length k.opening.frames) 16)) then 1 else 0) = rw (sym k.stops) at k.empties in e));
+          let e : empties_by b.member ≡ empties_by a1.member + (if is_none k.opening.met && (true && (is_connected (ticked s k.opening.reading) && nat_lt (length k.opening.frames) TAKES)) then 1 else 0) = rw (sym k.stops) at k.empties in e));
       said = grown old mid new (puts (put_first v s k.opening) k.opening.fault) (said_hearing v (opened s k.opening) k.opening.reading (wait_in k.opening) l.hearing) k.said l.said;
       reads = rw k.read reads;
       wrote = rw same at (wrote_hearing v s p q k.opening l.hearing pages pages' pages'' (rw unlost at k.records) l.goes.sees l.wrote l.is.line);
@@ -144,7 +145,7 @@ between_more v s h p q a b old new read read' pages pages' between k =
     record {
       runs = k.runs refl;
       fresh = λ z. absurd (not_zero (after v s k.turn).receives s.receives more z);
-      bounded = (let e = k.empties in let x = between.bounded in let o = at_most_one (is_none k.turn.opening.met && (is_some k.turn.hearing && (is_connected (ticked s k.turn.opening.reading) && nat_lt (length k.turn.opening.frames) 16))) in omega (arith, e, x, o, more));
+      bounded = (let e = k.empties in let x = between.bounded in let o = at_most_one (is_none k.turn.opening.met && (is_some k.turn.hearing && (is_connected (ticked s k.turn.opening.reading) && nat_lt (length k.turn.opening.frames) TAKES))) in omega (arith, e, x, o, more));
     }
 
 pub followed_started : (v : Terms) (s : Standing) (now : ℕ) (a b : At) → Starts v s now a b → IsFollowed b

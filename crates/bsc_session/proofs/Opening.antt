@@ -21,6 +21,7 @@ use Rattle.bsc_accept.specs.Past.{Standing as MachineStanding, awaiting_request,
 use Rattle.bsc_accept.specs.Standing.{Answers as MachineAnswers, LeftBy, StandsFor}
 use Rattle.bsc_accept.specs.Steps.{ended_step, normal, tick_step}
 use Rattle.bsc_accept.specs.Waits.{connect_wait_is_over, disconnect_wait_is_over, is_idle}
+use Rattle.bsc_session.specs.declared.bounds.TheConstants.{TAKES}
 use Rattle.bsc_session.specs.declared.at.At.{At}
 use Rattle.bsc_session.specs.declared.backlog.Backlog.{Backlog}
 use Rattle.bsc_session.specs.declared.backlog.Backlog.TheVariants.{MaybeMore, Nothing as NothingLeft}
@@ -183,12 +184,12 @@ attends_on v s now policy a n old new pages pages' taken backlog fixed unmet unc
   runs = λ going. record { machine = r.machine; waits = r.waits; tied = r.tied };
 }
 
--- after fewer than sixteen frames there is no more, and after sixteen there may be
-few_more : (frames : List (List ℕ)) → length frames < 16 → false ≡ may_be_more frames None
-few_more frames few = ap not (sym (lt-ltb (length frames) 16 few))
+-- after fewer frames than a turn takes there is no more, and after as many there may be
+few_more : (frames : List (List ℕ)) → length frames < TAKES → false ≡ may_be_more frames None
+few_more frames few = ap not (sym (lt-ltb (length frames) TAKES few))
 
-many_more : (frames : List (List ℕ)) → length frames ≡ 16 → true ≡ may_be_more frames None
-many_more frames many = ap (λ (n : ℕ). not (nat_lt n 16)) (sym many)
+many_more : (frames : List (List ℕ)) → length frames ≡ TAKES → true ≡ may_be_more frames None
+many_more frames many = ap (λ (n : ℕ). not (nat_lt n TAKES)) (sym many)
 
 -- nothing more was there
 pub attends_all : (v : Terms) (s : Standing) (now : ℕ) (policy : Option Policy) (a : At) (n : Option Member) (old new : Option (List Said)) (pages pages' : Option (List ℕ))

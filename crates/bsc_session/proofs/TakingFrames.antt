@@ -14,6 +14,7 @@ use lib.ListN.{get_elem?}
 use Rattle.bsc_ring.specs.declared.found.Found.{Found}
 use Rattle.bsc_ring.specs.declared.found.Found.TheVariants.{Ending, Tail}
 use Rattle.bsc_ring.specs.Ends.{FoundEnd, Took, empties_of, found, given, known_pushed, knows_all, outlet_mark}
+use Rattle.bsc_session.specs.declared.bounds.TheConstants.{TAKES}
 use Rattle.bsc_session.specs.declared.taken.Taken.{Taken}
 use Rattle.bsc_session.specs.declared.taken.Taken.TheVariants.{All, Part, Met, Cut, Lost}
 use Rattle.bsc_session.specs.Following.{HasEnded}
@@ -93,9 +94,9 @@ taking_more policy to o p q old mid new a b c n f t took mark hands = record {
   records = noted_more policy to t.frames f a b c None t.records hands.records hands.line;
 }
 
--- sixteen were taken
-pub takes_sixteen : (policy : Option Policy) (to : Vmac) (o p : Outlet) (old new : Option (List Said)) (a c : Option (List ℕ)) → Taking policy to o p old new a c 16 → Takes policy to o p old new a c Part
-takes_sixteen policy to o p old new a c t = record {
+-- as many were taken as a turn takes
+pub takes_part : (policy : Option Policy) (to : Vmac) (o p : Outlet) (old new : Option (List Said)) (a c : Option (List ℕ)) → Taking policy to o p old new a c TAKES → Takes policy to o p old new a c Part
+takes_part policy to o p old new a c t = record {
   frames = t.frames;
   mark = t.mark;
   keeps = t.keeps;
@@ -115,7 +116,7 @@ counted : (a b : ℕ) → a < 18446744073709551615 → b ≡ min (a + 1) (2 ^ 64
 counted a b h is = omega (arith, h, is)
 
 -- fewer were there
-pub takes_few : (policy : Option Policy) (to : Vmac) (o p q : Outlet) (old new : Option (List Said)) (a c : Option (List ℕ)) (n : ℕ) → Taking policy to o p old new a c n → n < 16 → empties_of o < 18446744073709551615
+pub takes_few : (policy : Option Policy) (to : Vmac) (o p q : Outlet) (old new : Option (List Said)) (a c : Option (List ℕ)) (n : ℕ) → Taking policy to o p old new a c n → n < TAKES → empties_of o < 18446744073709551615
     → Took p Empty q → outlet_mark q ≡ outlet_mark p → Takes policy to o q old new a c All
 takes_few policy to o p q old new a c n t few room took mark =
     let less : empties_of p < 18446744073709551615 = rw t.empties room in
@@ -127,7 +128,7 @@ takes_few policy to o p q old new a c n t few room took mark =
       found = λ e h. cc;
       left = λ e h. cc;
       gave = took.0.0 ∙ t.gave;
-      empties = rw (t.many, lt-ltb n 16 few) (one ∙ ap (λ k. k + 1) t.empties);
+      empties = rw (t.many, lt-ltb n TAKES few) (one ∙ ap (λ k. k + 1) t.empties);
       few = (let k = t.many in omega (arith, k, few));
       fits = rw t.many few;
       said = t.said;
@@ -137,7 +138,7 @@ takes_few policy to o p q old new a c n t few room took mark =
     }
 
 -- an End was there
-pub takes_met : (policy : Option Policy) (to : Vmac) (o p q : Outlet) (old new : Option (List Said)) (a c : Option (List ℕ)) (n : ℕ) (e : End) → Taking policy to o p old new a c n → n < 16
+pub takes_met : (policy : Option Policy) (to : Vmac) (o p q : Outlet) (old new : Option (List Said)) (a c : Option (List ℕ)) (n : ℕ) (e : End) → Taking policy to o p old new a c n → n < TAKES
     → Took p (Closed e) q → outlet_mark q ≡ outlet_mark p → HasEnded q e → Takes policy to o q old new a c (Met e)
 takes_met policy to o p q old new a c n e t few took mark finds = record {
   frames = t.frames;
@@ -180,7 +181,7 @@ unmet_end : (o : Option End) (e : End) → o ≡ None → o ≡ Some e → ⊥
 unmet_end o e h k = (let x : None ≡ Some e = sym h ∙ k in cc)
 
 -- a put failed, or a line was lost
-pub takes_cut : (policy : Option Policy) (to : Vmac) (o p q : Outlet) (old mid new : Option (List Said)) (a b c : Option (List ℕ)) (n : ℕ) (f : List ℕ) (cut : Taken) → Taking policy to o p old mid a b n → n < 16
+pub takes_cut : (policy : Option Policy) (to : Vmac) (o p q : Outlet) (old mid new : Option (List Said)) (a b c : Option (List ℕ)) (n : ℕ) (f : List ℕ) (cut : Taken) → Taking policy to o p old mid a b n → n < TAKES
     → Took p (Frame f) q → outlet_mark q ≡ outlet_mark p → HandsOn policy to f mid new b c (Some cut) → Takes policy to o q old new a c cut
 takes_cut policy to o p q old mid new a b c n f cut t few took mark hands = record {
   frames = t.frames ++ f ∷ [];

@@ -11,6 +11,7 @@ use Rattle.bsc_edge.specs.declared.said.Said.TheVariants.{Gave, Put, Closed as S
 use Rattle.bsc_accept.specs.declared.reason.Reason.TheVariants.{Nothing as NoReason, ConnectWait}
 use Rattle.bsc_accept.specs.Reasons.{reason_text}
 use Rattle.bsc_checks.proofs.OnLiterals.{verdict_on_literals}
+use Rattle.bsc_session.specs.declared.bounds.TheConstants.{TAKES}
 use Rattle.bsc_session.specs.declared.why.Why.TheVariants.{PeerClosed, NotBinary, PeerLeft, Refused as WhyRefused, WaitExpired, LinkFault as WhyLinkFault}
 use Rattle.bsc_session.specs.Receiving.{replies}
 use Rattle.bsc_session.specs.Stops.{stop_at, stop_for, stop_closing}
@@ -255,17 +256,17 @@ an_outbox_is_full = told_by terms (record {
   stops = refl;
 }) Left (λ c e joined met. cc)
 
--- Sixteen frames wait in A's outbox, as many as a turn takes: the receive behind them only looks.
+-- As many frames wait in A's outbox as a turn takes: the receive behind them only looks.
 more_may_wait : Session terms
-    (connects ∷ Put accept None ∷ (replicate 16 (Put back None) ++ Gave 0 (Ok Closed) ∷ []))
+    (connects ∷ Put accept None ∷ (replicate TAKES (Put back None) ++ Gave 0 (Ok Closed) ∷ []))
     (0 ∷ 0 ∷ [])
-    (joined_as 1 ∷ left_as 1 16 0 ∷ [])
-    (replicate 16 back)
-    (record { why = PeerClosed; conn = Some 1; taken = 16; empties = 0; turns = 2 })
+    (joined_as 1 ∷ left_as 1 TAKES 0 ∷ [])
+    (replicate TAKES back)
+    (record { why = PeerClosed; conn = Some 1; taken = TAKES; empties = 0; turns = 2 })
 unfolding verdict_on_literals
 more_may_wait = told_by terms (record {
   went_on = (joins ∷ []);
-  last = Some (record { opening = record { reading = 0; frames = replicate 16 back; met = None; lost = None; fault = None }; hearing = Some (record { given = Ok Closed; judged = true; answer = None; lost = None; fault = None }) });
+  last = Some (record { opening = record { reading = 0; frames = replicate TAKES back; met = None; lost = None; fault = None }; hearing = Some (record { given = Ok Closed; judged = true; answer = None; lost = None; fault = None }) });
   stop = stop_for PeerClosed None;
   turns = (hears _ 0 _ _ _ _ (lit< tt) refl tt refl refl tt, (record { room = lit< tt; opening = record { takes = inl (refl, refl); few = lit≤ tt; not_left = λ h. cc; line = tt; cause = tt }; heard = refl; hearing = record { memory = tt; calls = refl; fits = tt; line = tt; cause = tt } }, tt));
   goes_on = (refl, tt);

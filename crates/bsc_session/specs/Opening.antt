@@ -8,6 +8,7 @@ use Rattle.bsc_edge.specs.Told.{Grows}
 use Rattle.bsc_accept.specs.declared.event.Event.TheVariants.{Ended, Tick}
 use Rattle.bsc_history.specs.declared.ending.End.TheVariants.{Left}
 use Rattle.bsc_ring.specs.Ends.{outlet_mark}
+use Rattle.bsc_session.specs.declared.bounds.TheConstants.{TAKES}
 use Rattle.bsc_session.specs.declared.at.At.{At}
 use Rattle.bsc_session.specs.declared.backlog.Backlog.{Backlog}
 use Rattle.bsc_session.specs.declared.member.Member.{Member}
@@ -41,7 +42,7 @@ pub record TakesFrom (policy : Option Policy) (m n : Option Member) (old new : O
   pub left : (e : End) → met_in taken ≡ Some e → e ≢ Left
   pub gave : given_by n ≡ given_by m ++ frames
   pub empties : empties_by n ≡ empties_by m + nothing_found frames (met_in taken) (is_none (cut_in taken) && is_none (unput_in taken))
-  pub few : length frames + count_of (met_in taken) ≤ 16
+  pub few : length frames + count_of (met_in taken) ≤ TAKES
   pub fits : FitsCount taken frames
   pub said : Grows old new (puts (let_through policy (address_by m) frames) (cut_in taken))
   pub cause : HasPut (let_through policy (address_by m) (last_alone frames)) (cut_in taken)
@@ -72,7 +73,7 @@ pub record Attends (v : Terms) (s : Standing) (now : ℕ) (a b : At) (old new : 
   pub same : SameMember a.member b.member
   pub gave : given_by b.member ≡ given_by a.member ++ frames
   pub empties : empties_by b.member ≡ empties_by a.member + nothing_found frames met (is_none (stop_of result))
-  pub few : length frames + count_of met ≤ 16
+  pub few : length frames + count_of met ≤ TAKES
   pub left : met ≢ Some Left
   pub said : Grows old new (puts (passing v s frames ++ octets_in (end_step v s now met)) fault)
   pub cause : HasPut (last_of (passing v s (last_alone frames)) (octets_in (end_step v s now met)) met) fault
@@ -85,7 +86,7 @@ pub record Attends (v : Terms) (s : Standing) (now : ℕ) (a b : At) (old new : 
 
 -- one for an opening in Connected that goes on and found the outbox empty
 abbrev pub empties_opening : Terms → Standing → Opening → ℕ
-empties_opening v s o = if is_none o.met && (is_none (stop_before v s o) && (is_connected (ticked s o.reading) && nat_lt (length o.frames) 16)) then 1 else 0
+empties_opening v s o = if is_none o.met && (is_none (stop_before v s o) && (is_connected (ticked s o.reading) && nat_lt (length o.frames) TAKES)) then 1 else 0
 
 -- A turn was opened.
 pub record Opens (v : Terms) (s : Standing) (now : ℕ) (a b : At) (old new : Option (List Said)) (pages pages' : Option (List ℕ)) (result : Result Backlog Stop) : Type 0 where

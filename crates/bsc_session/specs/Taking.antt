@@ -6,6 +6,7 @@ use Rattle.bsc_edge.specs.declared.fault.LinkFault.{LinkFault}
 use Rattle.bsc_accept.specs.declared.event.Event.TheVariants.{Ended}
 use Rattle.bsc_accept.specs.declared.step.Step.{Step}
 use Rattle.bsc_accept.specs.declared.step.Step.TheVariants.{Nothing}
+use Rattle.bsc_session.specs.declared.bounds.TheConstants.{TAKES, WAIT_MS}
 use Rattle.bsc_session.specs.declared.stop.Stop.{Stop}
 use Rattle.bsc_session.specs.declared.why.Why.{Why}
 use Rattle.bsc_session.specs.declared.why.Why.TheVariants.{EndedBy, Idle, WaitExpired}
@@ -100,11 +101,11 @@ count_of (Some e) = 1
 
 -- Whether the outlet may have more for the link: as many frames came as a turn takes, and no End was met.
 abbrev pub may_be_more : List (List ℕ) → Option End → Bool
-may_be_more frames met = is_none met && not (nat_lt (length frames) 16)
+may_be_more frames met = is_none met && not (nat_lt (length frames) TAKES)
 
 -- How long a receive waits at most, in milliseconds.
 abbrev pub full_wait : ℕ
-full_wait = 500
+full_wait = WAIT_MS
 
 -- how long one waits, by whether the outlet may have more: then it only looks
 abbrev pub wait_by : Bool → ℕ
@@ -121,12 +122,12 @@ wait_in o = wait_by (may_be_more o.frames o.met)
 abbrev pub Looks : Terms → Standing → ℕ → Type 0
 Looks v s now = (is_connected (ticked s now) ≡ true) × (closing_in (wanted_at v s now) ≡ None)
 
--- An opening as it may be: frames and an End come only where the outlet is looked at, at most sixteen of them; the End
--- isn't Left, which only a Leave gives; a lost line is that of the last frame, which is denied, and no End comes after it;
--- and a fault is that of the last put: of the last frame, which is let through, or of the octets at an End.
+-- An opening as it may be: frames and an End come only where the outlet is looked at, at most as many of them as a turn
+-- takes; the End isn't Left, which only a Leave gives; a lost line is that of the last frame, which is denied, and no End
+-- comes after it; and a fault is that of the last put: of the last frame, which is let through, or of the octets at an End.
 pub record IsOpening (v : Terms) (s : Standing) (o : Opening) : Type 0 where
   pub takes : Looks v s o.reading ⊎ ((o.frames ≡ []) × (o.met ≡ None))
-  pub few : length o.frames + count_of o.met ≤ 16
+  pub few : length o.frames + count_of o.met ≤ TAKES
   pub not_left : o.met ≢ Some Left
   pub line : HasLine (noted_last o.met (noted_of v s (last_alone o.frames))) o.lost
   pub cause : HasPut (put_last v s o) o.fault

@@ -8,6 +8,7 @@ use Rattle.bsc_edge.specs.Told.{Grows}
 use Rattle.bsc_history.specs.declared.ending.End.TheVariants.{Left}
 use Rattle.bsc_ring.specs.declared.ends.Outlet.{Outlet}
 use Rattle.bsc_ring.specs.Ends.{empties_of, given, outlet_mark}
+use Rattle.bsc_session.specs.declared.bounds.TheConstants.{TAKES}
 use Rattle.bsc_session.specs.declared.taken.Taken.{Taken}
 use Rattle.bsc_session.specs.declared.taken.Taken.TheVariants.{All, Part, Met, Cut, Lost}
 use Rattle.bsc_policy.specs.declared.policy.Policy.{Policy}
@@ -45,15 +46,15 @@ abbrev pub unput_by : Option Taken → Option LinkFault
 unput_by None = None
 unput_by (Some t) = unput_in t
 
--- Fewer than sixteen frames were all that there were; sixteen may be a part.
+-- Fewer frames than a turn takes were all that there were; as many may be a part.
 abbrev pub FitsCount : Taken → List (List ℕ) → Type 0
-FitsCount All frames = length frames < 16
-FitsCount Part frames = length frames ≡ 16
+FitsCount All frames = length frames < TAKES
+FitsCount Part frames = length frames ≡ TAKES
 FitsCount t frames = ⊤
 
--- one where fewer than sixteen frames were found, and nothing else
+-- one where fewer frames were found than a turn takes, and nothing else
 abbrev pub nothing_found : List (List ℕ) → Option End → Bool → ℕ
-nothing_found frames met goes_on = if is_none met && (goes_on && nat_lt (length frames) 16) then 1 else 0
+nothing_found frames met goes_on = if is_none met && (goes_on && nat_lt (length frames) TAKES) then 1 else 0
 
 -- A frame was put, or noted as denied, and that may cut the taking.
 pub record HandsOn (policy : Option Policy) (to : Vmac) (f : List ℕ) (old new : Option (List Said)) (pages pages' : Option (List ℕ)) (cut : Option Taken) : Type 0 where
@@ -83,7 +84,7 @@ pub record Takes (policy : Option Policy) (to : Vmac) (o p : Outlet) (old new : 
   pub left : (e : End) → met_in taken ≡ Some e → e ≢ Left
   pub gave : given p ≡ given o ++ frames
   pub empties : empties_of p ≡ empties_of o + nothing_found frames (met_in taken) (is_none (cut_in taken) && is_none (unput_in taken))
-  pub few : length frames + count_of (met_in taken) ≤ 16
+  pub few : length frames + count_of (met_in taken) ≤ TAKES
   pub fits : FitsCount taken frames
   pub said : Grows old new (puts (let_through policy (Some to) frames) (cut_in taken))
   pub cause : HasPut (let_through policy (Some to) (last_alone frames)) (cut_in taken)

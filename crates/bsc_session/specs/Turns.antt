@@ -3,6 +3,7 @@
 use Rattle.std.specs.Prelude.{List, None, Option, Some, [], if◌then◌else◌, is_none, is_some, length, nat_lt, ℕ, ⊤, ◌&&◌, ◌++◌, ◌<◌, ◌∷◌, ◌≡◌}
 use Rattle.bsc_history.specs.declared.entry.Entry.{Entry}
 use Rattle.bsc_edge.specs.declared.said.Said.{Said}
+use Rattle.bsc_session.specs.declared.bounds.TheConstants.{TAKES}
 use Rattle.bsc_session.specs.declared.stop.Stop.{Stop}
 use Rattle.bsc_session.specs.Answering.{IsHearing, after_hearing, entries_hearing, notes_hearing, said_hearing, stop_hearing}
 use Rattle.bsc_notes.specs.Notes.{Note}
@@ -66,10 +67,11 @@ stop_after v s now (Some h) = stop_hearing v s now h
 abbrev pub stop_in : Terms → Standing → Turn → Option Stop
 stop_in v s t = first_of (stop_before v s t.opening) (stop_after v (opened s t.opening) t.opening.reading t.hearing)
 
--- One for a turn in Connected that found the outbox empty: it took fewer than sixteen frames, met no End, and received.
+-- One for a turn in Connected that found the outbox empty: it took fewer frames than a turn takes, met no End,
+-- and received.
 abbrev pub empties_in : Terms → Standing → Turn → ℕ
 empties_in v s t =
-    if is_none t.opening.met && (is_some t.hearing && (is_connected (ticked s t.opening.reading) && nat_lt (length t.opening.frames) 16))
+    if is_none t.opening.met && (is_some t.hearing && (is_connected (ticked s t.opening.reading) && nat_lt (length t.opening.frames) TAKES))
     then 1 else 0
 
 abbrev pub IsHearingIf : Terms → Standing → ℕ → Option Hearing → Type 0

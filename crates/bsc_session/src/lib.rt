@@ -7,6 +7,7 @@
 mod answering;
 mod at;
 mod backlog;
+mod bounds;
 mod ended;
 mod ending;
 mod guarding;
@@ -27,6 +28,7 @@ mod waking;
 mod why;
 mod working;
 
+pub use bounds::{TAKES, WAIT_MS};
 pub use ended::Ended;
 pub use job::SessionJob;
 pub use laws::{causes_are_exact, sessions_end_at_fault};

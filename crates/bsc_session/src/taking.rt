@@ -14,6 +14,7 @@ ghost use Rattle.bsc_session.specs.Standings.{Standing, Terms, start_of};
 
 use crate::at::At;
 use crate::backlog::Backlog;
+use crate::bounds::TAKES;
 use crate::guarding::denied_frame;
 use crate::member::Member;
 use crate::stop::Stop;
@@ -27,9 +28,6 @@ use bsc_octets::Vmac;
 use bsc_policy::Policy;
 use bsc_ring::{Outlet, Take};
 use std::alloc::Global;
-
-/// How often the outlet is asked in a turn.
-const TAKES: u64 = 16;
 
 /// Puts a frame, or notes that it is denied. Says how that cuts the taking, if it does.
 fn hand_on<L: Link, J: Journal>(
@@ -61,7 +59,7 @@ fn hand_on<L: Link, J: Journal>(
     }
 }
 
-/// Takes up to sixteen times, and puts each frame that the policy lets through.
+/// Takes up to `TAKES` times, and puts each frame that the policy lets through.
 pub fn take_frames<L: Link, J: Journal>(
     alloc: Global,
     link: &mut L,

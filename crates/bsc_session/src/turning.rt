@@ -16,6 +16,7 @@ ghost use Rattle.bsc_session.specs.Standings.{Standing, Terms, is_connected, sta
 use crate::answering::take_message;
 use crate::at::At;
 use crate::backlog::Backlog;
+use crate::bounds::WAIT_MS;
 use crate::limits::SessionLimits;
 use crate::member::Member;
 use crate::stop::Stop;
@@ -30,11 +31,6 @@ use bsc_notes::Journal;
 use bsc_policy::Policy;
 use std::alloc::Global;
 use std::sync::Wait;
-
-/// How long a receive waits at most, in milliseconds. A wake ends it, so no frame waits so long. A wait of the machine
-/// that is over and a stop of the hub are seen so much later at most. With less, sessions that have nothing to do cost
-/// more: 1,000 of them make 2,000 turns a second.
-const WAIT_MS: u32 = 500;
 
 /// What a session waits for that its reading closes.
 fn waiting_for(member: &Option<Member>) -> Why

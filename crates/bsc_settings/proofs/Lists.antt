@@ -10,6 +10,7 @@ use Rattle.std.proofs.lemmas.List.Folds.{list_all-map, list_any-append}
 use Rattle.toml.specs.Data.{Data, as_array}
 use Rattle.toml.specs.View.{items_of, items_view, view}
 use Rattle.toml.specs.declared.value.Value.{Value}
+use Rattle.bsc_policy.specs.declared.bounds.TheConstants.{MEMBERS, RULES}
 use Rattle.bsc_policy.specs.declared.fault.PolicyFault.{PolicyFault}
 use Rattle.bsc_policy.specs.declared.fault.PolicyFault.TheVariants as policy_fault
 use Rattle.bsc_policy.specs.declared.member.Member.{Member}
@@ -121,12 +122,12 @@ le-kept n m most h = grind (arith, nat_tests)
 
 pub members-kept : Keeps are_members
 members-kept xs ys h =
-    let (few, apart) = and_parts (nat_le (length (xs ++ ys)) 1024) (are_apart (xs ++ ys)) h in
-    let short : nat_le (length xs + length ys) 1024 ≡ true = ap (λ n. nat_le n 1024) (sym (length-append xs ys)) ∙ few in
-    rw (le-kept (length xs) (length ys) 1024 short, apart-kept xs ys apart) refl
+    let (few, apart) = and_parts (nat_le (length (xs ++ ys)) MEMBERS) (are_apart (xs ++ ys)) h in
+    let short : nat_le (length xs + length ys) MEMBERS ≡ true = ap (λ n. nat_le n MEMBERS) (sym (length-append xs ys)) ∙ few in
+    rw (le-kept (length xs) (length ys) MEMBERS short, apart-kept xs ys apart) refl
 
 pub rules-kept : Keeps are_rules
-rules-kept xs ys h = le-kept (length xs) (length ys) 256 (ap (λ n. nat_le n 256) (sym (length-append xs ys)) ∙ h)
+rules-kept xs ys h = le-kept (length xs) (length ys) RULES (ap (λ n. nat_le n RULES) (sym (length-append xs ys)) ∙ h)
 
 -- ---- one more is taken, or isn't
 
@@ -158,22 +159,22 @@ none-taken p ms none = any-position p ms ∙ there (position p ms) none
     there None isnt = refl
     there (Some i) isnt = absurd (isnt i refl)
 
-fits : (ms : List Member) (m : Member) → length ms < 1024 → list_any (is_taken_by m.vmac m.device) ms ≡ false → are_members ms ≡ true → are_members (ms ++ m ∷ []) ≡ true
+fits : (ms : List Member) (m : Member) → length ms < MEMBERS → list_any (is_taken_by m.vmac m.device) ms ≡ false → are_members ms ≡ true → are_members (ms ++ m ∷ []) ≡ true
 fits ms m short none held =
-    let (few, apart) = and_parts (nat_le (length ms) 1024) (are_apart ms) held in
-    let room : nat_le (length ms + 1) 1024 ≡ true = le-leb (length ms + 1) 1024 (omega arith) in
+    let (few, apart) = and_parts (nat_le (length ms) MEMBERS) (are_apart ms) held in
+    let room : nat_le (length ms + 1) MEMBERS ≡ true = le-leb (length ms + 1) MEMBERS (omega arith) in
     rw (length-append ms (m ∷ []), room, apart-more ms m, apart, none) refl
 
-full : (ms : List Member) (m : Member) → 1024 ≤ length ms → are_members (ms ++ m ∷ []) ≡ false
+full : (ms : List Member) (m : Member) → MEMBERS ≤ length ms → are_members (ms ++ m ∷ []) ≡ false
 full ms m many =
-    let over : nat_le (length ms + 1) 1024 ≡ false = grind (arith, nat_tests) in
+    let over : nat_le (length ms + 1) MEMBERS ≡ false = grind (arith, nat_tests) in
     rw (length-append ms (m ∷ []), over) refl
 
 twice : (ms : List Member) (m : Member) (i : ℕ) → position (is_taken_by m.vmac m.device) ms ≡ Some i → are_members (ms ++ m ∷ []) ≡ false
 twice ms m i at =
     let any : list_any (is_taken_by m.vmac m.device) ms ≡ true = any-position (is_taken_by m.vmac m.device) ms ∙ ap is_some at in
     let apart : are_apart (ms ++ m ∷ []) ≡ false = apart-more ms m ∙ and-false (are_apart ms) (not (list_any (is_taken_by m.vmac m.device) ms)) (ap not any) in
-    and-false (nat_le (length (ms ++ m ∷ [])) 1024) (are_apart (ms ++ m ∷ [])) apart
+    and-false (nat_le (length (ms ++ m ∷ [])) MEMBERS) (are_apart (ms ++ m ∷ [])) apart
 
 passing-yes : {T : Type 0} (test : List T → Bool) (xs : List T) → test xs ≡ true → passing test (Some xs) ≡ Some xs
 passing-yes test xs holds = rw holds refl
@@ -183,23 +184,23 @@ passing-no test xs fails = rw fails refl
 
 -- what a policy answers of a member
 abbrev pub IsAnswered : {T : Type 0} → Result T PolicyFault → List Member → Member → Type 0
-IsAnswered r ms m = ((held : ℕ) → (r ≡ Err (policy_fault.Full held)) ↔ ((held ≡ 1024) × (1024 ≤ length ms)))
-    × ((i : ℕ) → (r ≡ Err (policy_fault.Twice i)) ↔ ((length ms < 1024) × (position (is_taken_by m.vmac m.device) ms ≡ Some i)))
+IsAnswered r ms m = ((held : ℕ) → (r ≡ Err (policy_fault.Full held)) ↔ ((held ≡ MEMBERS) × (MEMBERS ≤ length ms)))
+    × ((i : ℕ) → (r ≡ Err (policy_fault.Twice i)) ↔ ((length ms < MEMBERS) × (position (is_taken_by m.vmac m.device) ms ≡ Some i)))
 
 pub member-taken : {T : Type 0} (r : Result T PolicyFault) (x : T) (ms now : List Member) (m : Member) (said : Option Member) → r ≡ Ok x → IsAnswered r ms m
     → are_members ms ≡ true → said ≡ Some m → now ≡ ms ++ m ∷ [] → passing are_members (behind ms said) ≡ Some now
 member-taken r x ms now m said ok answered held is new =
     let isnt : (f : PolicyFault) → r ≢ Err f = λ f err. ok-err x f (sym ok ∙ err) in
-    let short : length ms < 1024 = not-full (length ms) (λ many. isnt (policy_fault.Full 1024) ((answered.0 1024).1 (refl, many))) in
+    let short : length ms < MEMBERS = not-full (length ms) (λ many. isnt (policy_fault.Full MEMBERS) ((answered.0 MEMBERS).1 (refl, many))) in
     let none = none-taken (is_taken_by m.vmac m.device) ms (λ i at. isnt (policy_fault.Twice i) ((answered.1 i).1 (short, at))) in
     rw (is, new) (passing-yes are_members (ms ++ m ∷ []) (fits ms m short none held))
   where
     ok-err : {T : Type 0} (x : T) (f : PolicyFault) → Ok x ≢ Err f
     ok-err x f same = cc
 
-    not-full : (n : ℕ) → (1024 ≤ n → ⊥) → n < 1024
-    not-full n room = elim (cases_Bool (nat_le 1024 n)) [
-      | inl many ↦ absurd (room (leb-true 1024 n many))
+    not-full : (n : ℕ) → (MEMBERS ≤ n → ⊥) → n < MEMBERS
+    not-full n room = elim (cases_Bool (nat_le MEMBERS n)) [
+      | inl many ↦ absurd (room (leb-true MEMBERS n many))
       | inr few ↦ grind (arith, nat_tests)
     ]
 
@@ -259,10 +260,10 @@ pub unread-for : {T : Type 0} (why : Unread) (key : KeyName) (said : Option T) �
 unread-for (Refused refusal) key said is none = (is, none)
 unread-for NoMemory key said is none = absurd is
 
-rules-full : (rs : List Rule) (r : Rule) → 256 ≤ length rs → are_rules (rs ++ r ∷ []) ≡ false
+rules-full : (rs : List Rule) (r : Rule) → RULES ≤ length rs → are_rules (rs ++ r ∷ []) ≡ false
 rules-full rs r many =
-    let over : nat_le (length rs + 1) 256 ≡ false = grind (arith, nat_tests) in
+    let over : nat_le (length rs + 1) RULES ≡ false = grind (arith, nat_tests) in
     rw (length-append rs (r ∷ []), over) refl
 
-pub rule-full : (rs : List Rule) (r : Rule) (said : Option Rule) → 256 ≤ length rs → said ≡ Some r → passing are_rules (behind rs said) ≡ None
+pub rule-full : (rs : List Rule) (r : Rule) (said : Option Rule) → RULES ≤ length rs → said ≡ Some r → passing are_rules (behind rs said) ≡ None
 rule-full rs r said many is = rw is (passing-no are_rules (rs ++ r ∷ []) (rules-full rs r many))

@@ -1,7 +1,8 @@
 -- Rows, faults and names, worked by hand.
-use Rattle.std.proofs.Common.{◌≡◌, ◌++◌, codes, pos, negsuc, true, false, map, [], ◌∷◌, Some, None, refl}
+use Rattle.std.proofs.Common.{◌≡◌, ◌+◌, ◌++◌, codes, pos, negsuc, true, false, map, [], ◌∷◌, Some, None, refl}
 use Rattle.hex.specs.Hex.{decode_pairs}
 use Rattle.toml.specs.Data.{member, no_members, table, string, integer}
+use Rattle.bsc_history.specs.declared.limits.TheConstants.{MOST_ROWS}
 use Rattle.bsc_settings.specs.declared.key.KeyName.TheVariants.{HubVmac, HubUuid, NodeVmac, Unknown}
 use Rattle.bsc_settings.specs.Table.{hub_table, vmac_row, port_row, rows_row, turns_row, node_table, failover_row, direct_port_row, direct_uris_row, greatest_reconnect_row}
 use Rattle.bsc_settings.specs.Uris.{cut_at_spaces}
@@ -17,10 +18,10 @@ named_node : map (λ r. name_of r.key) (node_table true 100) ≡ map (λ r. code
 named_node = refl
 
 -- a number that stands there, at its limit and past it
-most_rows : value_at rows_row (member (codes "rows") (integer (pos 1024)) no_members) ≡ Some (number 1024)
+most_rows : value_at rows_row (member (codes "rows") (integer (pos MOST_ROWS)) no_members) ≡ Some (number MOST_ROWS)
 most_rows = refl
 
-too_many_rows : value_at rows_row (member (codes "rows") (integer (pos 1025)) no_members) ≡ None
+too_many_rows : value_at rows_row (member (codes "rows") (integer (pos (MOST_ROWS + 1))) no_members) ≡ None
 too_many_rows = refl
 
 -- minus one

@@ -1,11 +1,12 @@
 -- The first fault of a document.
 use Rattle.std.specs.Prelude.{◌≡◌, ⊤, ◌*◌, nat_le, Bool, List, [], ◌∷◌, if◌then◌else◌, Option, Some, None, is_some}
 use Rattle.toml.specs.Data.{Members}
+use Rattle.bsc_history.specs.declared.limits.TheConstants.{MOST_OCTETS}
 use Rattle.bsc_settings.specs.declared.key.KeyName.{KeyName}
 use Rattle.bsc_settings.specs.declared.key.KeyName.TheVariants.{PolicyMember, PolicyRule, HubProduct, Unknown}
 use Rattle.bsc_settings.specs.declared.fault.SettingFault.{SettingFault}
 use Rattle.bsc_settings.specs.declared.fault.SettingFault.TheVariants.{NotToml, Key, NoMemory}
-use Rattle.bsc_settings.specs.Table.{Row, hub_table, rows_row, outbox_row, max_bvlc_row, most_octets}
+use Rattle.bsc_settings.specs.Table.{Row, hub_table, rows_row, outbox_row, max_bvlc_row}
 use Rattle.bsc_settings.specs.Values.{value_at}
 use Rattle.bsc_settings.specs.Documents.{hub_of, node_of, amount, policy_of, node_rows_of, has_known_alone}
 use Rattle.bsc_settings.specs.Policies.{members_in, rules_in}
@@ -19,7 +20,7 @@ first_at_fault (r ∷ rows) table =
 -- whether all outboxes together hold no more octets than they may
 abbrev pub has_small_product : Members → Bool
 has_small_product table =
-    nat_le (amount (value_at rows_row table) * amount (value_at outbox_row table) * amount (value_at max_bvlc_row table)) most_octets
+    nat_le (amount (value_at rows_row table) * amount (value_at outbox_row table) * amount (value_at max_bvlc_row table)) MOST_OCTETS
 
 -- the key of a rule that is broken
 abbrev pub unless : Bool → KeyName → Option KeyName

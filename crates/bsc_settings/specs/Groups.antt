@@ -3,10 +3,11 @@ use Rattle.std.specs.Prelude.{ℕ, nat_le, Bool, true, false, ◌&&◌, ◌||◌
 use Rattle.std.specs.List.{list_all}
 use Rattle.bsc_text.specs.Grammar.{is_letter}
 use Rattle.bsc_text.specs.Lines.{same_octets}
+use Rattle.bsc_settings.specs.declared.bounds.TheConstants.{MAX_GROUP_LEN}
 
--- Whether a text is the name of a group: 1 to 16 letters.
+-- Whether a text is the name of a group: letters, from 1 to the most.
 abbrev pub is_group : List ℕ → Bool
-is_group text = nat_le 1 (length text) && nat_le (length text) 16 && list_all is_letter text
+is_group text = nat_le 1 (length text) && nat_le (length text) MAX_GROUP_LEN && list_all is_letter text
 
 -- Whether a text may stand at either side of a rule: it is `*`, which stands for all groups, or the name of one.
 abbrev pub is_group_or_all : List ℕ → Bool

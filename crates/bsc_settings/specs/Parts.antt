@@ -1,6 +1,7 @@
 -- What settings say to the crates that serve a hub and run a node.
 use Rattle.bsc_octets.specs.declared.identity.Identity.{Identity}
 use Rattle.bsc_history.specs.declared.limits.Limits.{Limits}
+use Rattle.bsc_history.specs.declared.limits.TheConstants.{MOST_CALLERS, MOST_CALLS}
 use Rattle.bsc_accept.specs.declared.times.Times.{Times}
 use Rattle.bsc_settings.specs.declared.hub.HubSettings.{HubSettings}
 use Rattle.bsc_settings.specs.declared.node.NodeSettings.{NodeSettings}
@@ -9,9 +10,9 @@ use Rattle.bsc_settings.specs.declared.node.NodeSettings.{NodeSettings}
 abbrev pub identity_of : HubSettings → Identity
 identity_of h = record { vmac = h.vmac; device = h.uuid; max_bvlc = h.max_bvlc; max_npdu = h.max_npdu }
 
--- The limits that it is made with: 2^52 calls and 2^62 callers.
+-- The limits that it is made with: its rows and its outboxes, the most calls and the most callers.
 abbrev pub limits_of : HubSettings → Limits
-limits_of h = record { rows = h.rows; outbox = h.outbox; calls = 4503599627370496; callers = 4611686018427387904 }
+limits_of h = record { rows = h.rows; outbox = h.outbox; calls = MOST_CALLS; callers = MOST_CALLERS }
 
 -- How long its sessions wait.
 abbrev pub times_of : HubSettings → Times

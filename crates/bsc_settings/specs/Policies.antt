@@ -2,6 +2,7 @@
 use Rattle.std.specs.Prelude.{nat_le, Bool, true, not, ◌&&◌, if◌then◌else◌, List, [], ◌∷◌, codes, length, Option, Some, None, option_and_then}
 use Rattle.std.specs.List.{list_any}
 use Rattle.toml.specs.Data.{Data, Items, no_items, item, Members, as_array, as_table, get_member}
+use Rattle.bsc_policy.specs.declared.bounds.TheConstants.{MEMBERS, RULES}
 use Rattle.bsc_policy.specs.declared.member.Member.{Member}
 use Rattle.bsc_policy.specs.declared.policy.Policy.{Policy}
 use Rattle.bsc_policy.specs.declared.rule.Rule.{Rule}
@@ -66,13 +67,13 @@ abbrev pub are_apart : List Member → Bool
 are_apart [] = true
 are_apart (m ∷ members) = not (list_any (is_taken_by m.vmac m.device) members) && are_apart members
 
--- Whether a policy takes these members: there are at most 1,024, and no address and no device stands twice.
+-- Whether a policy takes these members: there are no more than it takes, and no address and no device stands twice.
 abbrev pub are_members : List Member → Bool
-are_members members = nat_le (length members) 1024 && are_apart members
+are_members members = nat_le (length members) MEMBERS && are_apart members
 
--- Whether it takes these rules: there are at most 256.
+-- Whether it takes these rules: there are no more than it takes.
 abbrev pub are_rules : List Rule → Bool
-are_rules rules = nat_le (length rules) 256
+are_rules rules = nat_le (length rules) RULES
 
 -- The members that a table `policy` lists, where they are members that a policy takes.
 abbrev pub members_in : Members → Option (List Member)

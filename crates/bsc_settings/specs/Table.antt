@@ -2,6 +2,9 @@
 use Rattle.std.specs.Prelude.{ℕ, ◌≤◌, Bool, true, false, not, ◌||◌, List, [], ◌∷◌, codes, IsTrue}
 use Rattle.bsc_octets.specs.declared.vmac.Vmac.{Vmac}
 use Rattle.bsc_octets.specs.Addresses.{same_vmac, zero_vmac, broadcast}
+use Rattle.bsc_octets.specs.declared.bounds.TheConstants.{LEAST_BVLC}
+use Rattle.bsc_history.specs.declared.limits.TheConstants.{MOST_OUTBOX, MOST_ROWS}
+use Rattle.bsc_settings.specs.declared.bounds.TheConstants.{GREATEST_MS, LEAST_MS, MOST_TURNS}
 use Rattle.bsc_settings.specs.declared.key.KeyName.{KeyName}
 use Rattle.bsc_settings.specs.declared.key.KeyName.TheVariants.{HubVmac, HubUuid, HubPort, HubMaxBvlc, HubMaxNpdu, HubRows, HubOutbox}
 use Rattle.bsc_settings.specs.declared.key.KeyName.TheVariants.{HubConnectWaitMs, HubDisconnectWaitMs, HubHeartbeatMs, HubTurns}
@@ -52,28 +55,28 @@ abbrev pub port_row : Row
 port_row = row HubPort (codes "port") (integer 1 65535) required
 
 abbrev pub max_bvlc_row : Row
-max_bvlc_row = row HubMaxBvlc (codes "max_bvlc") (integer 64 65535) (or_else 16384)
+max_bvlc_row = row HubMaxBvlc (codes "max_bvlc") (integer LEAST_BVLC 65535) (or_else 16384)
 
 abbrev pub max_npdu_row : Row
 max_npdu_row = row HubMaxNpdu (codes "max_npdu") (integer 1 65535) (or_else 1497)
 
 abbrev pub rows_row : Row
-rows_row = row HubRows (codes "rows") (integer 1 1024) (or_else 256)
+rows_row = row HubRows (codes "rows") (integer 1 MOST_ROWS) (or_else 256)
 
 abbrev pub outbox_row : Row
-outbox_row = row HubOutbox (codes "outbox") (integer 2 1024) (or_else 64)
+outbox_row = row HubOutbox (codes "outbox") (integer 2 MOST_OUTBOX) (or_else 64)
 
 abbrev pub connect_wait_row : Row
-connect_wait_row = row HubConnectWaitMs (codes "connect_wait_ms") (integer 100 3600000) (or_else 10000)
+connect_wait_row = row HubConnectWaitMs (codes "connect_wait_ms") (integer LEAST_MS GREATEST_MS) (or_else 10000)
 
 abbrev pub disconnect_wait_row : Row
-disconnect_wait_row = row HubDisconnectWaitMs (codes "disconnect_wait_ms") (integer 100 3600000) (or_else 10000)
+disconnect_wait_row = row HubDisconnectWaitMs (codes "disconnect_wait_ms") (integer LEAST_MS GREATEST_MS) (or_else 10000)
 
 abbrev pub heartbeat_row : Row
-heartbeat_row = row HubHeartbeatMs (codes "heartbeat_ms") (integer 100 3600000) (or_else 300000)
+heartbeat_row = row HubHeartbeatMs (codes "heartbeat_ms") (integer LEAST_MS GREATEST_MS) (or_else 300000)
 
 abbrev pub turns_row : Row
-turns_row = row HubTurns (codes "turns") (integer 1 1099511627776) (or_else 1099511627776)
+turns_row = row HubTurns (codes "turns") (integer 1 MOST_TURNS) (or_else MOST_TURNS)
 
 -- The table `hub`. Faults are looked for in its order.
 abbrev pub hub_table : List Row
@@ -110,29 +113,29 @@ abbrev pub direct_uris_row : Bool → Row
 direct_uris_row accepts = row NodeDirectUris (codes "direct_uris") (uris_kind accepts) (uris_default accepts)
 
 abbrev pub node_max_bvlc_row : Row
-node_max_bvlc_row = row NodeMaxBvlc (codes "max_bvlc") (integer 64 65535) (or_else 16384)
+node_max_bvlc_row = row NodeMaxBvlc (codes "max_bvlc") (integer LEAST_BVLC 65535) (or_else 16384)
 
 abbrev pub node_max_npdu_row : Row
 node_max_npdu_row = row NodeMaxNpdu (codes "max_npdu") (integer 1 65535) (or_else 1497)
 
 abbrev pub node_connect_wait_row : Row
-node_connect_wait_row = row NodeConnectWaitMs (codes "connect_wait_ms") (integer 100 3600000) (or_else 10000)
+node_connect_wait_row = row NodeConnectWaitMs (codes "connect_wait_ms") (integer LEAST_MS GREATEST_MS) (or_else 10000)
 
 abbrev pub node_disconnect_wait_row : Row
-node_disconnect_wait_row = row NodeDisconnectWaitMs (codes "disconnect_wait_ms") (integer 100 3600000) (or_else 10000)
+node_disconnect_wait_row = row NodeDisconnectWaitMs (codes "disconnect_wait_ms") (integer LEAST_MS GREATEST_MS) (or_else 10000)
 
 abbrev pub node_heartbeat_row : Row
-node_heartbeat_row = row NodeHeartbeatMs (codes "heartbeat_ms") (integer 100 3600000) (or_else 300000)
+node_heartbeat_row = row NodeHeartbeatMs (codes "heartbeat_ms") (integer LEAST_MS GREATEST_MS) (or_else 300000)
 
 abbrev pub least_reconnect_row : Row
-least_reconnect_row = row NodeLeastReconnectMs (codes "least_reconnect_ms") (integer 100 3600000) (or_else 2000)
+least_reconnect_row = row NodeLeastReconnectMs (codes "least_reconnect_ms") (integer LEAST_MS GREATEST_MS) (or_else 2000)
 
 -- The greatest wait is the least one or more.
 abbrev pub greatest_reconnect_row : ℕ → Row
-greatest_reconnect_row least = row NodeGreatestReconnectMs (codes "greatest_reconnect_ms") (integer least 3600000) (or_else 30000)
+greatest_reconnect_row least = row NodeGreatestReconnectMs (codes "greatest_reconnect_ms") (integer least GREATEST_MS) (or_else 30000)
 
 abbrev pub node_turns_row : Row
-node_turns_row = row NodeTurns (codes "turns") (integer 1 1099511627776) (or_else 1099511627776)
+node_turns_row = row NodeTurns (codes "turns") (integer 1 MOST_TURNS) (or_else MOST_TURNS)
 
 -- The table `node`, of a node that accepts direct connections or doesn't, and whose least wait this is. Faults are looked
 -- for in its order.
@@ -171,11 +174,6 @@ rule_to_row = row PolicyRule (codes "to") group_or_all required
 abbrev pub rule_table : List Row
 rule_table =
     rule_do_row ∷ rule_from_row ∷ rule_to_row ∷ []
-
--- The most octets that all outboxes may hold together: 2^30. So many are the rows, times the frames of an outbox,
--- times the longest message.
-abbrev pub most_octets : ℕ
-most_octets = 1073741824
 
 -- Whether an address names one node: it is neither zero nor the broadcast address.
 abbrev pub is_node_address : Vmac → Bool

@@ -4,8 +4,7 @@ ghost use Rattle.std.specs.List.{list_all};
 ghost use Rattle.bsc_text.specs.Grammar.{is_letter};
 ghost use Rattle.bsc_settings.specs.Groups.{allows_of, is_group, is_group_or_all};
 
-/// The longest name of a group, in letters.
-const LONGEST: usize = 16;
+use crate::bounds::MAX_GROUP_LEN;
 
 /// Whether an octet is a letter, in either case.
 fn is_letter(octet: u8) -> bool
@@ -21,11 +20,11 @@ fn are_letters(text: &[u8]) -> bool
     text.iter().all(|octet| is_letter(*octet))
 }
 
-/// Whether a text is the name of a group: 1 to 16 letters.
+/// Whether a text is the name of a group: 1 to `MAX_GROUP_LEN` letters.
 pub(crate) fn is_group(text: &[u8]) -> bool
     ensures { result ≡ is_group text.now }
 {
-    1 <= text.len() && text.len() <= LONGEST && are_letters(text)
+    1 <= text.len() && text.len() <= MAX_GROUP_LEN && are_letters(text)
 }
 
 /// Whether a text may stand at either side of a rule: it is `*`, which stands for all groups, or the name of one.

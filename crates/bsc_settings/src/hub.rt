@@ -1,5 +1,6 @@
 //! What is settled before a hub starts.
-ghost use Rattle.std.specs.Prelude.{◌≤◌, ◌*◌, ◌^◌};
+ghost use Rattle.std.specs.Prelude.{◌≤◌, ◌*◌};
+ghost use Rattle.bsc_history.specs.declared.limits.TheConstants.{MOST_OCTETS};
 ghost use Rattle.bsc_settings.specs.Table.{port_row, max_bvlc_row, max_npdu_row, rows_row, outbox_row, connect_wait_row};
 ghost use Rattle.bsc_settings.specs.Table.{disconnect_wait_row, heartbeat_row, turns_row, Fits, IsNodeAddress};
 
@@ -14,21 +15,21 @@ pub struct HubSettings {
     pub uuid: DeviceId,
     /// The TCP port that it binds: 1 to 65,535.
     pub port: u16,
-    /// Its Maximum BVLC Length, in octets: 64 to 65,535.
+    /// Its Maximum BVLC Length, in octets: `LEAST_BVLC` of `bsc_octets` to 65,535.
     pub max_bvlc: u16,
     /// Its Maximum NPDU Length, in octets: 1 to 65,535.
     pub max_npdu: u16,
-    /// How many connections there may be that haven't left: 1 to 1,024.
+    /// How many connections there may be that haven't left: 1 to `MOST_ROWS`.
     pub rows: u32,
-    /// How many frames an outbox holds: 2 to 1,024.
+    /// How many frames an outbox holds: 2 to `MOST_OUTBOX`.
     pub outbox: u32,
-    /// How long a Connect-Request is waited for, in milliseconds: 100 to 3,600,000.
+    /// How long a Connect-Request is waited for, in milliseconds: `LEAST_MS` to `GREATEST_MS`.
     pub connect_wait_ms: u32,
-    /// How long the answer to a Disconnect-Request is waited for, in milliseconds: 100 to 3,600,000.
+    /// How long the answer to a Disconnect-Request is waited for, in milliseconds: `LEAST_MS` to `GREATEST_MS`.
     pub disconnect_wait_ms: u32,
-    /// The time of a heartbeat, in milliseconds: 100 to 3,600,000.
+    /// The time of a heartbeat, in milliseconds: `LEAST_MS` to `GREATEST_MS`.
     pub heartbeat_ms: u32,
-    /// How many turns a session makes at most: 1 to 2^40.
+    /// How many turns a session makes at most: 1 to `MOST_TURNS`.
     pub turns: u64,
     // The hub has an address that names one node.
     pub ghost address: { IsNodeAddress vmac },
@@ -42,6 +43,6 @@ pub struct HubSettings {
     pub ghost disconnect_wait_fits: { Fits disconnect_wait_row disconnect_wait_ms },
     pub ghost heartbeat_fits: { Fits heartbeat_row heartbeat_ms },
     pub ghost turns_fit: { Fits turns_row turns },
-    // All outboxes together hold at most 2^30 octets.
-    pub ghost product: { rows * outbox * max_bvlc ≤ 2 ^ 30 },
+    // All outboxes together hold no more octets than they may.
+    pub ghost product: { rows * outbox * max_bvlc ≤ MOST_OCTETS },
 }

@@ -13,10 +13,8 @@ use crate::rows::{
     TURNS, UUID, VMAC,
 };
 use crate::values::{read_address, read_number, read_uuid};
+use bsc_history::MOST_OCTETS;
 use toml::Table;
-
-/// The most octets that all outboxes may hold together.
-const MOST_OCTETS: u64 = 1 << 30;
 
 /// What a table says of a hub, or the first key of it at fault.
 pub(crate) fn read_hub(table: &Table) -> Result<HubSaid, KeyName>

@@ -5,6 +5,7 @@
 //! a document without a fault says. `reading` has `read_settings`, which is held to both.
 #![tactic(auto)]
 
+mod bounds;
 mod fault;
 mod groups;
 mod hub;
@@ -31,6 +32,7 @@ mod unread;
 mod uris;
 mod values;
 
+pub use bounds::{GREATEST_MS, LEAST_MS, MAX_GROUP_LEN, MOST_TURNS};
 pub use fault::SettingFault;
 pub use hub::HubSettings;
 pub use key::KeyName;

@@ -24,21 +24,21 @@ pub struct NodeSettings {
     pub direct_port: Option<u16>,
     /// The URIs at which it accepts direct connections, with one space between two; None where it accepts none.
     pub direct_uris: Option<Octets>,
-    /// Its Maximum BVLC Length, in octets: 64 to 65,535.
+    /// Its Maximum BVLC Length, in octets: `LEAST_BVLC` of `bsc_octets` to 65,535.
     pub max_bvlc: u16,
     /// Its Maximum NPDU Length, in octets: 1 to 65,535.
     pub max_npdu: u16,
-    /// How long an accept or a Connect-Request is waited for, in milliseconds: 100 to 3,600,000.
+    /// How long an accept or a Connect-Request is waited for, in milliseconds: `LEAST_MS` to `GREATEST_MS`.
     pub connect_wait_ms: u32,
-    /// How long the answer to a Disconnect-Request is waited for, in milliseconds: 100 to 3,600,000.
+    /// How long the answer to a Disconnect-Request is waited for, in milliseconds: `LEAST_MS` to `GREATEST_MS`.
     pub disconnect_wait_ms: u32,
-    /// The time of a heartbeat, in milliseconds: 100 to 3,600,000.
+    /// The time of a heartbeat, in milliseconds: `LEAST_MS` to `GREATEST_MS`.
     pub heartbeat_ms: u32,
-    /// How long a hub isn't dialled after one failure, in milliseconds: 100 to 3,600,000.
+    /// How long a hub isn't dialled after one failure, in milliseconds: `LEAST_MS` to `GREATEST_MS`.
     pub least_reconnect_ms: u32,
-    /// How long it isn't dialled after many failures in a row, in milliseconds: the least wait to 3,600,000.
+    /// How long it isn't dialled after many failures in a row, in milliseconds: the least wait to `GREATEST_MS`.
     pub greatest_reconnect_ms: u32,
-    /// How many turns the node makes at most: 1 to 2^40.
+    /// How many turns the node makes at most: 1 to `MOST_TURNS`.
     pub turns: u64,
     // The node has an address that names one node.
     pub ghost address: { IsNodeAddress vmac },

@@ -1,17 +1,12 @@
 //! What the settings of a hub say to the crates that serve it.
-ghost use Rattle.std.specs.Prelude.{◌≡◌, ◌≤◌, ◌^◌};
+ghost use Rattle.std.specs.Prelude.{◌≡◌, ◌≤◌};
 ghost use Rattle.bsc_settings.specs.Parts.{identity_of, limits_of, times_of};
 
+use crate::bounds::MOST_TURNS;
 use crate::hub::HubSettings;
 use bsc_accept::Times;
-use bsc_history::Limits;
+use bsc_history::{Limits, MOST_CALLERS, MOST_CALLS, MOST_OUTBOX, MOST_ROWS};
 use bsc_octets::Identity;
-
-/// The most calls that a hub answers.
-const CALLS: u64 = 1 << 52;
-
-/// The most callers that a hub has.
-const CALLERS: u64 = 1 << 62;
 
 impl HubSettings {
     /// Who the hub is.
@@ -26,18 +21,18 @@ impl HubSettings {
         }
     }
 
-    /// The limits that the hub is made with: its rows and its outboxes, 2^52 calls and 2^62 callers.
+    /// The limits that the hub is made with: its rows and its outboxes, the most calls and the most callers.
     pub fn limits(&self) -> Limits
         ensures limits { result ≡ limits_of self.now }
         // They are ones that a hub can be made with.
-        ensures rows { (1 ≤ result.rows) × (result.rows ≤ 1024) }
-        ensures outbox { (2 ≤ result.outbox) × (result.outbox ≤ 1024) }
+        ensures rows { (1 ≤ result.rows) × (result.rows ≤ MOST_ROWS) }
+        ensures outbox { (2 ≤ result.outbox) × (result.outbox ≤ MOST_OUTBOX) }
     {
         Limits {
             rows: self.rows,
             outbox: self.outbox,
-            calls: CALLS,
-            callers: CALLERS,
+            calls: MOST_CALLS,
+            callers: MOST_CALLERS,
         }
     }
 
@@ -60,10 +55,10 @@ impl HubSettings {
         self.port
     }
 
-    /// How many turns a session makes at most: 1 to 2^40.
+    /// How many turns a session makes at most: 1 to `MOST_TURNS`.
     pub fn turns(&self) -> u64
         ensures turns { result ≡ self.now.turns }
-        ensures range { (1 ≤ result) × (result ≤ 2 ^ 40) }
+        ensures range { (1 ≤ result) × (result ≤ MOST_TURNS) }
     {
         self.turns
     }

@@ -1,6 +1,9 @@
 //! The rows of the table of keys, as the code has them. `specs/Table.antt` has the table; that these are its rows is
 //! proved where they are read.
+use crate::bounds::{GREATEST_MS, LEAST_MS, MOST_TURNS};
 use crate::key::KeyName;
+use bsc_history::{MOST_OUTBOX, MOST_ROWS};
+use bsc_octets::LEAST_BVLC;
 
 /// A key that takes an integer.
 #[derive(Clone, Copy)]
@@ -22,11 +25,8 @@ pub(crate) struct TextRow {
     pub(crate) word: &'static str,
 }
 
-/// The least of the times, in milliseconds.
-const LEAST_MS: u64 = 100;
-
-/// The greatest of the times, in milliseconds: an hour.
-const GREATEST_MS: u64 = 3_600_000;
+/// The least of the longest messages.
+const LEAST_MESSAGE: u64 = LEAST_BVLC as u64;
 
 pub(crate) const VMAC: TextRow = TextRow {
     key: KeyName::HubVmac,
@@ -49,7 +49,7 @@ pub(crate) const PORT: NumberRow = NumberRow {
 pub(crate) const MAX_BVLC: NumberRow = NumberRow {
     key: KeyName::HubMaxBvlc,
     word: "max_bvlc",
-    least: 64,
+    least: LEAST_MESSAGE,
     greatest: 65_535,
     default: Some(16_384),
 };
@@ -66,7 +66,7 @@ pub(crate) const ROWS: NumberRow = NumberRow {
     key: KeyName::HubRows,
     word: "rows",
     least: 1,
-    greatest: 1_024,
+    greatest: MOST_ROWS,
     default: Some(256),
 };
 
@@ -74,7 +74,7 @@ pub(crate) const OUTBOX: NumberRow = NumberRow {
     key: KeyName::HubOutbox,
     word: "outbox",
     least: 2,
-    greatest: 1_024,
+    greatest: MOST_OUTBOX,
     default: Some(64),
 };
 
@@ -106,6 +106,6 @@ pub(crate) const TURNS: NumberRow = NumberRow {
     key: KeyName::HubTurns,
     word: "turns",
     least: 1,
-    greatest: 1 << 40,
-    default: Some(1 << 40),
+    greatest: MOST_TURNS,
+    default: Some(MOST_TURNS),
 };

@@ -1,5 +1,8 @@
 -- The ranges of numbers that an operator is told of, and that they are those of the tables of keys.
 use Rattle.std.specs.Prelude.{ℕ, ◌≡◌, ⊤, List, [], ◌∷◌, Option, Some, None}
+use Rattle.bsc_octets.specs.declared.bounds.TheConstants.{LEAST_BVLC}
+use Rattle.bsc_history.specs.declared.limits.TheConstants.{MOST_OUTBOX, MOST_ROWS}
+use Rattle.bsc_settings.specs.declared.bounds.TheConstants.{GREATEST_MS, LEAST_MS, MOST_TURNS}
 use Rattle.bsc_settings.specs.declared.key.KeyName.{KeyName}
 use Rattle.bsc_settings.specs.declared.key.KeyName.TheVariants.{HubVmac, HubUuid, HubPort, HubMaxBvlc, HubMaxNpdu, HubRows, HubOutbox}
 use Rattle.bsc_settings.specs.declared.key.KeyName.TheVariants.{HubConnectWaitMs, HubDisconnectWaitMs, HubHeartbeatMs, HubTurns}
@@ -15,28 +18,28 @@ abbrev pub range_of : ℕ → KeyName → Option (ℕ × ℕ)
 range_of least HubVmac = None
 range_of least HubUuid = None
 range_of least HubPort = Some (1, 65535)
-range_of least HubMaxBvlc = Some (64, 65535)
+range_of least HubMaxBvlc = Some (LEAST_BVLC, 65535)
 range_of least HubMaxNpdu = Some (1, 65535)
-range_of least HubRows = Some (1, 1024)
-range_of least HubOutbox = Some (2, 1024)
-range_of least HubConnectWaitMs = Some (100, 3600000)
-range_of least HubDisconnectWaitMs = Some (100, 3600000)
-range_of least HubHeartbeatMs = Some (100, 3600000)
-range_of least HubTurns = Some (1, 1099511627776)
+range_of least HubRows = Some (1, MOST_ROWS)
+range_of least HubOutbox = Some (2, MOST_OUTBOX)
+range_of least HubConnectWaitMs = Some (LEAST_MS, GREATEST_MS)
+range_of least HubDisconnectWaitMs = Some (LEAST_MS, GREATEST_MS)
+range_of least HubHeartbeatMs = Some (LEAST_MS, GREATEST_MS)
+range_of least HubTurns = Some (1, MOST_TURNS)
 range_of least NodeVmac = None
 range_of least NodeUuid = None
 range_of least NodePrimary = None
 range_of least NodeFailover = None
 range_of least NodeDirectPort = Some (1, 65535)
 range_of least NodeDirectUris = None
-range_of least NodeMaxBvlc = Some (64, 65535)
+range_of least NodeMaxBvlc = Some (LEAST_BVLC, 65535)
 range_of least NodeMaxNpdu = Some (1, 65535)
-range_of least NodeConnectWaitMs = Some (100, 3600000)
-range_of least NodeDisconnectWaitMs = Some (100, 3600000)
-range_of least NodeHeartbeatMs = Some (100, 3600000)
-range_of least NodeLeastReconnectMs = Some (100, 3600000)
-range_of least NodeGreatestReconnectMs = Some (least, 3600000)
-range_of least NodeTurns = Some (1, 1099511627776)
+range_of least NodeConnectWaitMs = Some (LEAST_MS, GREATEST_MS)
+range_of least NodeDisconnectWaitMs = Some (LEAST_MS, GREATEST_MS)
+range_of least NodeHeartbeatMs = Some (LEAST_MS, GREATEST_MS)
+range_of least NodeLeastReconnectMs = Some (LEAST_MS, GREATEST_MS)
+range_of least NodeGreatestReconnectMs = Some (least, GREATEST_MS)
+range_of least NodeTurns = Some (1, MOST_TURNS)
 range_of least PolicyMember = None
 range_of least PolicyRule = None
 range_of least HubProduct = None

@@ -2,13 +2,12 @@
 ghost use Rattle.std.specs.Prelude.{◌≡◌};
 ghost use Rattle.bsc_settings_diagnostics.specs.Ranges.{range_of};
 
-use bsc_settings::KeyName;
+use bsc_history::{MOST_OUTBOX, MOST_ROWS};
+use bsc_octets::LEAST_BVLC;
+use bsc_settings::{GREATEST_MS, KeyName, LEAST_MS, MOST_TURNS};
 
-/// The least of the times, in milliseconds.
-const LEAST_MS: u64 = 100;
-
-/// The greatest of the times, in milliseconds.
-const GREATEST_MS: u64 = 3_600_000;
+/// The least of the longest messages.
+const LEAST_MESSAGE: u64 = LEAST_BVLC as u64;
 
 /// The least and the greatest number that a key takes, where it takes a number; the greatest wait of a node is at least its
 /// least one, which is handed in.
@@ -17,10 +16,10 @@ pub(crate) fn range_of(least: u64, key: KeyName) -> Option<(u64, u64)>
 {
     match key {
         KeyName::HubPort | KeyName::NodeDirectPort => Some((1, 65_535)),
-        KeyName::HubMaxBvlc | KeyName::NodeMaxBvlc => Some((64, 65_535)),
+        KeyName::HubMaxBvlc | KeyName::NodeMaxBvlc => Some((LEAST_MESSAGE, 65_535)),
         KeyName::HubMaxNpdu | KeyName::NodeMaxNpdu => Some((1, 65_535)),
-        KeyName::HubRows => Some((1, 1_024)),
-        KeyName::HubOutbox => Some((2, 1_024)),
+        KeyName::HubRows => Some((1, MOST_ROWS)),
+        KeyName::HubOutbox => Some((2, MOST_OUTBOX)),
         KeyName::HubConnectWaitMs
         | KeyName::HubDisconnectWaitMs
         | KeyName::HubHeartbeatMs
@@ -29,7 +28,7 @@ pub(crate) fn range_of(least: u64, key: KeyName) -> Option<(u64, u64)>
         | KeyName::NodeHeartbeatMs
         | KeyName::NodeLeastReconnectMs => Some((LEAST_MS, GREATEST_MS)),
         KeyName::NodeGreatestReconnectMs => Some((least, GREATEST_MS)),
-        KeyName::HubTurns | KeyName::NodeTurns => Some((1, 1 << 40)),
+        KeyName::HubTurns | KeyName::NodeTurns => Some((1, MOST_TURNS)),
         KeyName::HubVmac
         | KeyName::HubUuid
         | KeyName::NodeVmac

@@ -7,20 +7,20 @@ ghost use Rattle.bsc_simulate.specs.Holding.{Holds, HoldsSome};
 use crate::looking::{may_add_hub, may_add_node, may_set, may_try};
 use crate::simulation::Simulation;
 use crate::texts::put_done;
-use bsc_history::Limits;
+use bsc_history::{Limits, MOST_CALLERS, MOST_CALLS};
 use bsc_network::{StepRefusal, WorldStep};
-use bsc_network_script::{Line, read_line};
+use bsc_network_script::{Line, OUTBOX, ROWS, read_line};
 use bsc_octets::{Identity, NoMemory};
 use bsc_player::{Language, LineFault};
 use bsc_world::World;
 use std::alloc::Global;
 
-/// What each hub is limited to: 256 rows, outboxes of 64 frames, 2^52 calls and 2^62 callers.
+/// What each hub is limited to: its rows, its outboxes, the most calls and the most callers.
 const HUB_LIMITS: Limits = Limits {
-    rows: 256,
-    outbox: 64,
-    calls: 1 << 52,
-    callers: 1 << 62,
+    rows: ROWS,
+    outbox: OUTBOX,
+    calls: MOST_CALLS,
+    callers: MOST_CALLERS,
 };
 
 impl Simulation {

@@ -2,20 +2,13 @@
 ghost use Rattle.std.specs.Prelude.{◌≡◌};
 ghost use Rattle.bsc_network_script.specs.Scripts.{names_one, may_be_hub, may_add_hub, may_add_node, may_set, is_sendable, has_content, may_try};
 
-use bsc_network::WorldStep;
+use bsc_network::{NODES, STEPS, WorldStep};
 use bsc_node::NodeEvent;
-use bsc_octets::{Identity, Vmac};
+use bsc_octets::{Identity, LEAST_BVLC, Vmac};
+use bsc_text::LATEST;
 
-/// The most hubs and the most nodes of a network.
+/// The most hubs of a network.
 const MOST_HUBS: u32 = 2;
-
-const MOST_NODES: u32 = 64;
-
-/// The latest time that the clock may be set to: 10^15 milliseconds.
-const LATEST: u64 = 1_000_000_000_000_000;
-
-/// The most steps that may be made: 2^63.
-const MOST_STEPS: u64 = 1 << 63;
 
 /// Whether a VMAC may name one node.
 fn names_one(vmac: Vmac) -> bool
@@ -28,7 +21,7 @@ fn names_one(vmac: Vmac) -> bool
 fn may_be_hub(who: &Identity) -> bool
     ensures { result ≡ may_be_hub who.now }
 {
-    names_one(who.vmac) && who.max_bvlc >= 64 && who.max_npdu >= 1
+    names_one(who.vmac) && who.max_bvlc >= LEAST_BVLC && who.max_npdu >= 1
 }
 
 /// Whether a hub may be added once so many steps were made and so many hubs were added.
@@ -42,7 +35,7 @@ pub(crate) fn may_add_hub(made: u64, hubs: u32, who: &Identity) -> bool
 pub(crate) fn may_add_node(made: u64, hubs: u32, nodes: u32, own: &Identity) -> bool
     ensures { result ≡ may_add_node made hubs nodes own.now }
 {
-    made == 0 && hubs >= 1 && nodes < MOST_NODES && names_one(own.vmac)
+    made == 0 && hubs >= 1 && nodes < NODES && names_one(own.vmac)
 }
 
 /// Whether the clock may be set to this time.
@@ -76,5 +69,5 @@ fn has_content(step: &WorldStep) -> bool
 pub(crate) fn may_try(made: u64, step: &WorldStep) -> bool
     ensures { result ≡ may_try made step.now }
 {
-    made < MOST_STEPS && has_content(step)
+    made < STEPS && has_content(step)
 }

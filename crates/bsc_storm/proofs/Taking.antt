@@ -17,6 +17,7 @@ use Rattle.bsc_ring.specs.Ends.{FoundEnd, Took, empties_of, found, given}
 use Rattle.bsc_desk.specs.declared.leaving.Gone.{Gone}
 use Rattle.bsc_desk.specs.Entries.{gone_reply}
 use Rattle.bsc_load.specs.Workers.{calls}
+use Rattle.bsc_storm.specs.declared.bounds.TheConstants.{TAKES}
 use Rattle.bsc_storm.specs.Inner.{TookSome}
 use Rattle.bsc_storm.specs.Workers.{HasTaken, TakesAll}
 
@@ -30,12 +31,12 @@ pub took_frame : (o p : Outlet) (x : List ℕ) (k : ℕ) → Took o (Frame x) p 
 took_frame o p x k took many = ap (λ (l : List (List ℕ)). length l) took.0 ∙ length-append (given o) (x ∷ []) ∙ ap (λ (n : ℕ). n + 1) many
 
 -- the outbox was found empty, or an End was found
-pub took_empty : (o p : Outlet) (k : ℕ) → Took o Empty p → length (given o) ≡ k → empties_of o ≡ 0 → k < 64 → TookSome p
+pub took_empty : (o p : Outlet) (k : ℕ) → Took o Empty p → length (given o) ≡ k → empties_of o ≡ 0 → k < TAKES → TookSome p
 took_empty o p k took many none few =
     let same : length (given p) ≡ length (given o) = ap (λ (l : List (List ℕ)). length l) took.0.0 in
     inr (inl (omega (arith, same, many, few), omega (arith, took.2, none)))
 
-pub took_closed : (o p : Outlet) (e : End) (k : ℕ) → Took o (Closed e) p → length (given o) ≡ k → empties_of o ≡ 0 → k < 64 → TookSome p
+pub took_closed : (o p : Outlet) (e : End) (k : ℕ) → Took o (Closed e) p → length (given o) ≡ k → empties_of o ≡ 0 → k < TAKES → TookSome p
 took_closed o p e k took many none few =
     let same : length (given p) ≡ length (given o) = ap (λ (l : List (List ℕ)). length l) took.0.0 in
     let there = at_end (found o) (Tail (length (given o)) ∷ []) (Ending (Some e)) in

@@ -31,6 +31,7 @@ use Rattle.bsc_load.specs.declared.ends.LoadStop.{LoadStop}
 use Rattle.bsc_load.specs.declared.ends.LoadStop.TheVariants.{NoMemory as NoMemoryStop, Short as ShortStop, Stopped}
 use Rattle.bsc_load.specs.Inner.{Goes, Holds, Stops}
 use Rattle.bsc_load.specs.Workers.{calls, within_64_bits}
+use Rattle.bsc_storm.specs.declared.bounds.TheConstants.{TAKES}
 use Rattle.bsc_storm.specs.declared.ends.StormEnd.{StormEnd}
 use Rattle.bsc_storm.specs.declared.works.Cut.{Cut}
 use Rattle.bsc_storm.specs.declared.works.Cut.TheVariants.{NoMemory, Short}
@@ -55,11 +56,12 @@ abbrev pub ShowsBy : ℕ → Hub → List Stamped → List Entry → Cut → Typ
 ShowsBy n h S E NoMemory = ⊤
 ShowsBy n h S E Short = IsTrue (list_any (λ e. is_refused e.reply) E) ⊎ ((length E < n) × ((about_of h).limits.calls ≤ length (entries S)))
 
--- an outlet from which a stay has taken: it gave 64 frames, or fewer until it was found empty once, or until its End was
+-- an outlet from which a stay has taken: it gave as many frames as a stay takes, or fewer until it was found empty once, or
+-- until its End was
 abbrev pub TookSome : Outlet → Type 0
 TookSome o =
-    ((length (given o) ≡ 64) × (empties_of o ≡ 0)) ⊎ ((length (given o) < 64) × (empties_of o ≡ 1))
-    ⊎ ((length (given o) < 64) × (empties_of o ≡ 0) × ((e : End) × (e ≢ Left) × FoundEnd o e))
+    ((length (given o) ≡ TAKES) × (empties_of o ≡ 0)) ⊎ ((length (given o) < TAKES) × (empties_of o ≡ 1))
+    ⊎ ((length (given o) < TAKES) × (empties_of o ≡ 0) × ((e : End) × (e ≢ Left) × FoundEnd o e))
 
 -- one stay: a connect that joined, and a leave
 pub record StaysOnce (h : Hub) (p q : Pass) (taken : ℕ) : Type 0 where

@@ -13,6 +13,7 @@ use Rattle.bsc_history.specs.Counting.{is_refused}
 use Rattle.bsc_history.specs.Ends.{joined}
 use Rattle.bsc_history.specs.Replies.{numbers}
 use Rattle.bsc_load.specs.Workers.{calls}
+use Rattle.bsc_storm.specs.declared.bounds.TheConstants.{TAKES}
 use Rattle.bsc_storm.specs.Peers.{storm_frame, storm_sender, taken_over}
 
 -- One stay: its connection, how many frames its outlet gave, and how often it found its outbox empty.
@@ -30,11 +31,11 @@ stay_calls (s ∷ stays) = Connect taken_over ∷ Leave s.conn s.taken s.empties
 abbrev pub WasEnded : Reply → ℕ → Type 0
 WasEnded told taken = (ending : End) × (ending ≢ Left) × (told ≡ Gone ending taken)
 
--- Before a leave its outlet gave 64 frames, or fewer until its outbox was found empty once, or until the End was found that
--- the leave is then told.
+-- Before a leave its outlet gave as many frames as a stay takes, or fewer until its outbox was found empty once, or until the
+-- End was found that the leave is then told.
 abbrev pub HasTaken : Call → Reply → Type 0
 HasTaken (Leave conn taken empties) told =
-    ((taken ≡ 64) × (empties ≡ 0)) ⊎ ((taken < 64) × (empties ≡ 1)) ⊎ ((taken < 64) × (empties ≡ 0) × WasEnded told taken)
+    ((taken ≡ TAKES) × (empties ≡ 0)) ⊎ ((taken < TAKES) × (empties ≡ 1)) ⊎ ((taken < TAKES) × (empties ≡ 0) × WasEnded told taken)
 HasTaken call told = ⊤
 
 -- Each leave among some entries is such a leave.

@@ -6,6 +6,7 @@
 //! `storm` gives each a pass, joins them and stops the hub.
 #![tactic(auto)]
 
+mod bounds;
 mod ends;
 mod peers;
 mod sending;
@@ -14,5 +15,6 @@ mod storm;
 mod working;
 mod works;
 
+pub use bounds::TAKES;
 pub use ends::StormEnd;
 pub use storm::storm_on;

@@ -4,15 +4,13 @@ ghost use Rattle.bsc_ring.specs.Ends.{IsNewOutlet, outlet_mark};
 ghost use Rattle.bsc_hub.specs.Passing.{IsCaller};
 ghost use Rattle.bsc_storm.specs.Inner.{AfterStay, StayedOften, TookSome, cut_of};
 
+use crate::bounds::TAKES;
 use crate::peers::taken_over;
 use crate::works::Cut;
 use bsc_hub::{ConnectRefusal, Hub, Pass};
 use bsc_ring::{Outlet, Take};
 use std::alloc::Global;
 use std::sync::Wait;
-
-/// How often a stay takes at most.
-const TAKES: u32 = 64;
 
 /// Why a worker was cut short whose connect was refused.
 pub(crate) fn cut_of(refusal: ConnectRefusal) -> Cut
@@ -25,7 +23,7 @@ pub(crate) fn cut_of(refusal: ConnectRefusal) -> Cut
     }
 }
 
-/// Takes at most 64 times, and ends where the outlet is empty or closed.
+/// Takes at most `TAKES` times, and ends where the outlet is empty or closed.
 fn take_some(outlet: &mut Outlet)
     requires { IsNewOutlet outlet.old }
     ensures took { TookSome outlet.new }

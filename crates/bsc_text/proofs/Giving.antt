@@ -3,6 +3,7 @@ use Rattle.std.proofs.Common.{◌≡◌, ◌≢◌, ℕ, ◌+◌, ◌≤◌, ◌
 use Rattle.std.proofs.lemmas.List.{append-nil, take-append-drop}
 use Rattle.std.specs.Option.{option_map}
 use Rattle.std.specs.Io.KnownBytes.{IsAtEnd}
+use Rattle.bsc_text.specs.declared.bounds.TheConstants.{MAX_INPUT_LEN, MAX_LINE_LEN}
 use Rattle.bsc_text.specs.declared.feed.Feed.{Feed}
 use Rattle.bsc_text.specs.declared.feed.NextLine.{NextLine}
 use Rattle.bsc_text.specs.declared.feed.NextLine.TheVariants.{Line, More, End, Refused, NoMemory}
@@ -14,7 +15,7 @@ use Rattle.bsc_lemmas.proofs.Booleans.{either}
 
 -- octets of which none is an LF may be too many for any piece
 pub too_big : (o q rest : List ℕ) (old : Feed) → has_no_lf q ≡ true → o ≡ q ++ rest → 0 < length q →
-    (140001 < length q) ⊎ (1099511627776 < old.count + length q) → HasTooBig o old
+    (MAX_LINE_LEN + 1 < length q) ⊎ (MAX_INPUT_LEN < old.count + length q) → HasTooBig o old
 too_big o [] rest old h e n big = absurd (omega arith)
 too_big o (c ∷ q) rest old h e n big =
     let f = pieces_of-begin c q rest h in
@@ -24,7 +25,7 @@ too_big o (c ∷ q) rest old h e n big =
       piece = (c ∷ q) ++ f.0;
       pieces = f.1;
       first = ap pieces_of e ∙ f.2;
-      big = either 140000 1099511627776 (length (line_in ((c ∷ q) ++ f.0))) (old.count + length ((c ∷ q) ++ f.0)) (⊎_elim (λ k. inl (omega arith)) (λ k. inr (omega arith)) big);
+      big = either MAX_LINE_LEN MAX_INPUT_LEN (length (line_in ((c ∷ q) ++ f.0))) (old.count + length ((c ∷ q) ++ f.0)) (⊎_elim (λ k. inl (omega arith)) (λ k. inr (omega arith)) big);
     }
 
 -- what is left where the source tells it
@@ -114,7 +115,7 @@ fed-last old new NoMemory p u w h some m over g big more end = tt
 
 -- what is in reach has no LF, and may be too much for any line
 pub fed-long : (old : Feed) (C R q : List ℕ) (n : ℕ) → unread old ≡ C ++ R → has_no_lf C ≡ true → has_no_lf q ≡ true → q ≡ take n R → length q ≡ n →
-    (140001 < length C + n) ⊎ (1099511627776 < old.count + (length C + n)) → (left : List ℕ) → HasTooBig (unread old ++ left) old
+    (MAX_LINE_LEN + 1 < length C + n) ⊎ (MAX_INPUT_LEN < old.count + (length C + n)) → (left : List ℕ) → HasTooBig (unread old ++ left) old
 fed-long old C R q n w h k e m big left =
     let parts : length (C ++ q) ≡ length C + n = length-append C q ∙ ap (λ (x : ℕ). length C + x) m in
     let r : unread old ++ left ≡ (C ++ q) ++ (drop n R ++ left) =

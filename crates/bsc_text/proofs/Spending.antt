@@ -4,6 +4,7 @@ use Rattle.std.proofs.lemmas.List.{append-nil, length-take}
 use Rattle.std.proofs.lemmas.Bool.{eqb-true}
 use Rattle.std.proofs.lemmas.Bool.Decides.{nat_tests}
 use Rattle.std.proofs.Math.ListN.{drop_of_length-le}
+use Rattle.bsc_text.specs.declared.bounds.TheConstants.{MAX_INPUT_LEN, MAX_LINE_LEN}
 use Rattle.bsc_text.specs.declared.feed.Feed.{Feed}
 use Rattle.bsc_text.specs.declared.feed.NextLine.{NextLine}
 use Rattle.bsc_text.specs.declared.feed.NextLine.TheVariants.{Line}
@@ -30,11 +31,11 @@ fed-line old new (Line m) l h e =
     rw same at g
 fed-line old new r l h e = absurd cc
 
-short : (m n : ℕ) (b : Bool) → (nat_lt 140000 m || b) ≡ false → m ≤ 140000
+short : (m n : ℕ) (b : Bool) → (nat_lt MAX_LINE_LEN m || b) ≡ false → m ≤ MAX_LINE_LEN
 short m n b h = grind (arith, nat_tests)
 
-pub line-short : (old new : Feed) (l o : List ℕ) (left : Option (List ℕ)) → GivesLine o old new left l → length l ≤ 140000
-line-short old new l o left g = omega (arith, ap length g.line, short (length (line_in g.piece)) 0 (nat_lt 1099511627776 (old.count + length g.piece)) g.fits)
+pub line-short : (old new : Feed) (l o : List ℕ) (left : Option (List ℕ)) → GivesLine o old new left l → length l ≤ MAX_LINE_LEN
+line-short old new l o left g = omega (arith, ap length g.line, short (length (line_in g.piece)) 0 (nat_lt MAX_INPUT_LEN (old.count + length g.piece)) g.fits)
 
 pub line-on : (old new : Feed) (l o : List ℕ) (left : Option (List ℕ)) → GivesLine o old new left l → old.count < new.count
 line-on old new l o left g = omega (arith, g.counted, length-piece o g.piece (pieces_of g.rest) g.first)

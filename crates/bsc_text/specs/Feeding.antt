@@ -2,6 +2,7 @@
 use Rattle.std.specs.Prelude.{◌≡◌, ℕ, ◌+◌, ◌-◌, ◌*◌, ◌<◌, if◌then◌else◌, true, false, List, [], ◌∷◌, ◌++◌, length, take, drop, Option, Some, ⊤}
 use Rattle.std.specs.Option.{option_map}
 use Rattle.std.specs.Io.KnownBytes.{IsAtEnd}
+use Rattle.bsc_text.specs.declared.bounds.TheConstants.{CHUNK_LEN, MAX_INPUT_LEN, MAX_LINE_LEN}
 use Rattle.bsc_text.specs.declared.feed.NextLine.{NextLine}
 use Rattle.bsc_text.specs.declared.feed.NextLine.TheVariants.{Line, More, End, Refused, NoMemory}
 use Rattle.bsc_text.specs.declared.feed.Feed.{Feed}
@@ -21,7 +22,7 @@ IsUsedUp feed = (feed.at ≡ feed.end) × (feed.ended ≡ false)
 
 -- the most octets that a feed may have given and read: the longest script, the longest line with its end, and a chunk
 abbrev pub most_read : ℕ
-most_read = 1099511627776 + 140002 + 65536
+most_read = MAX_INPUT_LEN + (MAX_LINE_LEN + 2) + CHUNK_LEN
 
 -- What a caller's loop uses up: each line that is given and each chunk that is read makes it less.
 abbrev pub fuel : Feed → ℕ

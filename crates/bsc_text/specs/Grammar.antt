@@ -9,6 +9,7 @@ use Rattle.uuid.specs.Text.{parsed}
 use Rattle.bsc_octets.specs.declared.vmac.Vmac.{Vmac}
 use Rattle.bsc_octets.specs.declared.device_id.DeviceId.{DeviceId}
 use Rattle.bsc_octets.specs.declared.identity.Identity.{Identity}
+use Rattle.bsc_text.specs.declared.bounds.TheConstants.{MAX_NAME_LEN}
 use Rattle.bsc_text.specs.Lines.{same_octets}
 
 -- whether an octet is a decimal digit
@@ -83,8 +84,8 @@ identity_of_words ws = None
 abbrev pub octets_of_words : List (List ℕ) → Option (List ℕ)
 octets_of_words ws = decoded (decode_of (flat_map (λ w. w) ws))
 
--- A name: 1 to 16 letters, digits or `_`, but not `hub`.
+-- A name: letters, digits or `_`, from 1 to the most, but not `hub`.
 abbrev pub is_name : List ℕ → Bool
 is_name w =
-    nat_le 1 (length w) && nat_le (length w) 16
+    nat_le 1 (length w) && nat_le (length w) MAX_NAME_LEN
     && list_all (λ c. is_letter c || is_digit c || (c == 95)) w && not (same_octets w (codes "hub"))

@@ -1,6 +1,7 @@
 -- The lines of a script.
 use Rattle.std.specs.Prelude.{ℕ, ◌+◌, ◌==◌, nat_eq, nat_lt, Bool, true, false, ◌||◌, if◌then◌else◌, ◌≡◌, ◌<◌, List, [], ◌∷◌, ◌++◌, length, take}
 use Rattle.std.specs.Cmp.Lexicographic.{pointwise}
+use Rattle.bsc_text.specs.declared.bounds.TheConstants.{MAX_INPUT_LEN, MAX_LINE_LEN}
 
 -- the code of LF
 abbrev pub lf : ℕ
@@ -44,16 +45,8 @@ pub record BeginsLine (n : ℕ) (octets : List ℕ) : Type 0 where
   pub no_lf : has_no_lf (take n octets) ≡ true
   pub cut : take (n + 1) octets ≡ take n octets ++ lf ∷ []
 
--- the most octets that a line may have, without its end
-abbrev pub longest_line : ℕ
-longest_line = 140000
-
--- the most octets that a whole script may have: 2^40
-abbrev pub longest_script : ℕ
-longest_script = 1099511627776
-
 -- A piece that stands after `before` octets is too big where its line is too long, or where it goes past the longest
 -- script.
 abbrev pub is_too_big : ℕ → List ℕ → Bool
 is_too_big before piece =
-    nat_lt longest_line (length (line_in piece)) || nat_lt longest_script (before + length piece)
+    nat_lt MAX_LINE_LEN (length (line_in piece)) || nat_lt MAX_INPUT_LEN (before + length piece)

@@ -5,22 +5,15 @@
 //! one line. What a line is, and which lines are too big, stands in `specs/Lines.antt`.
 ghost use Rattle.std.specs.Prelude.{◌≡◌, ◌≢◌, ◌+◌, ◌≤◌, if◌then◌else◌, ℕ, List, [], ◌∷◌, ◌++◌, length, take, drop, slice_index};
 ghost use Rattle.std.specs.Prelude.{MatchOption, true, false, ◌⊎◌, ◌<◌};
+ghost use Rattle.bsc_text.specs.declared.bounds.TheConstants.{CHUNK_LEN, MAX_INPUT_LEN, MAX_LINE_LEN};
 ghost use Rattle.bsc_text.specs.Lines.{line_in, is_too_big, has_no_lf, BeginsLine};
 
+use crate::bounds::{CHUNK_LEN, MAX_INPUT_LEN, MAX_LINE_LEN};
 use bsc_octets::{NoMemory, Octets};
 use bsc_outside::{Failed, Source};
 use memchr::memchr;
 use std::alloc::Global;
 use std::mem;
-
-/// The most octets that one read gives: 64 KiB.
-const CHUNK_LEN: usize = 65_536;
-
-/// The most octets that a line may have.
-const MAX_LINE_LEN: usize = 140_000;
-
-/// The most octets that a whole input may have: 2^40.
-const MAX_INPUT_LEN: u64 = 1_099_511_627_776;
 
 /// What was read and not given yet: the front of a line, and the octets of a chunk from `at` to `end`. No
 /// octet of the front is an LF.
@@ -38,10 +31,10 @@ pub struct Feed {
     ended: bool,
     ghost in_order: { at ≤ end },
     ghost in_chunk: { end ≤ length chunk.items },
-    ghost one_chunk: { length chunk.items ≡ 65536 },
+    ghost one_chunk: { length chunk.items ≡ CHUNK_LEN },
     ghost one_line: { has_no_lf carry.items ≡ true },
-    ghost short_line: { length carry.items ≤ 140001 },
-    ghost in_script: { count + length carry.items ≤ 1099511627776 },
+    ghost short_line: { length carry.items ≤ MAX_LINE_LEN + 1 },
+    ghost in_script: { count + length carry.items ≤ MAX_INPUT_LEN },
 }
 
 /// What the next line is.
@@ -83,7 +76,7 @@ fn line_in(piece: &[u8]) -> &[u8]
 
 /// Whether a piece that stands after `before` octets is too big.
 fn is_too_big(before: u64, piece: &[u8]) -> bool
-    requires { before ≤ 1099511627776 }
+    requires { before ≤ MAX_INPUT_LEN }
     ensures { result ≡ is_too_big before piece.now }
 {
     line_in(piece).len() > MAX_LINE_LEN || MAX_INPUT_LEN - before < piece.len() as u64
@@ -91,9 +84,9 @@ fn is_too_big(before: u64, piece: &[u8]) -> bool
 
 /// Whether `len` octets without an LF are already too many: then each piece that begins with them is too big.
 fn cannot_fit(before: u64, len: usize) -> bool
-    requires { before ≤ 1099511627776 }
-    ensures cannot { result ≡ true → (140001 < len) ⊎ (1099511627776 < before + len) }
-    ensures may { result ≡ false → (len ≤ 140001) × (before + len ≤ 1099511627776) }
+    requires { before ≤ MAX_INPUT_LEN }
+    ensures cannot { result ≡ true → (MAX_LINE_LEN + 1 < len) ⊎ (MAX_INPUT_LEN < before + len) }
+    ensures may { result ≡ false → (len ≤ MAX_LINE_LEN + 1) × (before + len ≤ MAX_INPUT_LEN) }
 {
     len > MAX_LINE_LEN + 1 || MAX_INPUT_LEN - before < len as u64
 }
@@ -254,8 +247,8 @@ impl Feed {
         ensures fed { Feeds self.old self.new result }
         ensures ended { self.new.ended ≡ self.old.ended }
 
-        // What source it may be, a line is short, and moves the count on, which stays at most 2^40.
-        ensures short { (l : List ℕ) → result ≡ NextLine.Line l → length l ≤ 140000 }
+        // What source it may be, a line is short, and moves the count on, which stays at most `MAX_INPUT_LEN`.
+        ensures short { (l : List ℕ) → result ≡ NextLine.Line l → length l ≤ MAX_LINE_LEN }
         ensures on { (l : List ℕ) → result ≡ NextLine.Line l → self.old.count < self.new.count }
         ensures less { (l : List ℕ) → result ≡ NextLine.Line l → fuel self.new < fuel self.old }
         ensures no_less { result ≡ NextLine.More → fuel self.new ≡ fuel self.old }

@@ -5,6 +5,7 @@ ghost use Rattle.bsc_text.specs.Grammar.{is_name, has_leading_zero, is_letter, i
 ghost use Rattle.bsc_text.specs.Words.{words_of};
 ghost use Rattle.std.specs.List.{list_all};
 
+use crate::bounds::MAX_NAME_LEN;
 use crate::words::next_word;
 use bsc_octets::{DeviceId, Identity, Vmac};
 use byteorder::{BigEndian, ByteOrder};
@@ -12,9 +13,6 @@ use uuid::Uuid;
 
 /// The most digits that a number may have.
 const MAX_NUMBER_DIGITS: usize = 19;
-
-/// The most octets that a name may have.
-const MAX_NAME_LEN: usize = 16;
 
 /// Whether digits begin with a zero that isn't the only one.
 fn has_leading_zero(word: &[u8]) -> bool
@@ -116,7 +114,7 @@ fn has_name_octets(word: &[u8]) -> bool
     word.iter().all(|c| is_name_octet(*c))
 }
 
-/// Whether a word is a name: 1 to 16 letters, digits or `_`, but not `hub`.
+/// Whether a word is a name: 1 to `MAX_NAME_LEN` letters, digits or `_`, but not `hub`.
 pub fn is_name(word: &[u8]) -> bool
     ensures { result ≡ is_name word.now }
 {

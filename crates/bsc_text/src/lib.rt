@@ -5,12 +5,14 @@
 //! read by these.
 #![tactic(auto)]
 
+mod bounds;
 mod feed;
 mod grammar;
 mod octets;
 mod text;
 mod words;
 
+pub use bounds::{CHUNK_LEN, LATEST, MAX_INPUT_LEN, MAX_LINE_LEN, MAX_NAME_LEN};
 pub use feed::{Feed, NextLine};
 pub use grammar::{
     is_name, read_device, read_identity_words, read_maximum, read_number, read_vmac,

@@ -10,18 +10,14 @@ use crate::cutting::{before, behind};
 use crate::format::Format;
 use crate::links::why_in_network;
 use bsc_diagnostics::{Diagnostic, next_line};
+use bsc_journal::MOST_IN_LINE;
 use bsc_line_diagnostics::{
     why_check_line, why_journal_line, why_node_line, why_node_place, why_script_line,
     why_script_place,
 };
 use bsc_network_diagnostics::why_network_line;
+use bsc_text::MAX_LINE_LEN;
 use std::alloc::Global;
-
-/// The most octets of a line of a journal.
-const LONGEST_OF_JOURNAL: usize = 300_000;
-
-/// The most octets of any other line.
-const LONGEST: usize = 140_000;
 
 /// What is left of an input that was read.
 #[derive(Clone, Copy, Debug)]
@@ -81,8 +77,8 @@ fn why_end(format: Format) -> Diagnostic<'static> {
 /// Whether a line is too long.
 fn is_too_long(format: Format, line: &[u8]) -> bool {
     match format {
-        Format::Journal => line.len() > LONGEST_OF_JOURNAL,
-        _ => line.len() > LONGEST,
+        Format::Journal => line.len() > MOST_IN_LINE,
+        _ => line.len() > MAX_LINE_LEN,
     }
 }
 

@@ -8,6 +8,7 @@ use Rattle.std.specs.Cmp.Lexicographic.{bytes_decides}
 use Rattle.clap.specs.Words.{Text}
 use Rattle.bsc_text.specs.Grammar.{is_digit, has_leading_zero, decimal_value, number_of}
 use Rattle.bsc_text.specs.Lines.{same_octets}
+use Rattle.bsc_words.specs.declared.bounds.TheConstants.{SESSIONS, WORKERS}
 use Rattle.bsc_words.specs.Words.{AskedOf, replay, simulate, check, audit, hub, load, up_to, sessions_of, workers_of}
 use Rattle.bsc_words.specs.Words.{replay_asked, simulate_asked, check_asked, audit_asked, hub_asked, node_asked, load_asked, asked_by}
 use Rattle.bsc_words.specs.Listed.{has_hyphen, have_no_hyphen, has_plain_paths, listed, listed_alone, listed_hub, listed_node, listed_load}
@@ -184,7 +185,7 @@ hub_option name path option word true d e f s h =
     let is : option ≡ codes "--sessions" = (bytes_decides option (codes "--sessions")).0 e in
     ap (λ o. hub_asked (name ∷ path ∷ o ∷ word ∷ [])) is
     ∙ hub_served name path word (mapped_plain path (sessions_of word) s h)
-    (number_plain word 1000000 (sym (some_mapped (λ n. hub path (Some n) None) (sessions_of word)) ∙ s))
+    (number_plain word SESSIONS (sym (some_mapped (λ n. hub path (Some n) None) (sessions_of word)) ∙ s))
 
 abbrev both_of : Text → Text → Text → Bool → Option AskedOf
 both_of path word prefix b = if b then option_map (λ n. hub path (Some n) (Some prefix)) (sessions_of word) else None
@@ -200,7 +201,7 @@ hub_options name path option word next prefix true e s h =
     let each = mapped_both path prefix (sessions_of word) s h in
     ap₂ (λ o q. hub_asked (name ∷ path ∷ o ∷ word ∷ q ∷ prefix ∷ [])) is is_next
     ∙ hub_both name path word prefix each.0
-    (number_plain word 1000000 (sym (some_mapped (λ n. hub path (Some n) (Some prefix)) (sessions_of word)) ∙ s)) each.1
+    (number_plain word SESSIONS (sym (some_mapped (λ n. hub path (Some n) (Some prefix)) (sessions_of word)) ∙ s)) each.1
 
 hub_good : (name : Text) (words : List Text) → is_some (listed_hub words) ≡ true → plain_in (listed_hub words) ≡ true
     → hub_asked (name ∷ words) ≡ listed_hub words
@@ -225,7 +226,7 @@ node_good name (path ∷ script ∷ word ∷ words) s h = absurd (true≢false (
 
 load_good : (name : Text) (words : List Text) → is_some (listed_load words) ≡ true → load_asked (name ∷ words) ≡ listed_load words
 load_good name [] s = absurd (true≢false (sym s))
-load_good name (word ∷ []) s = load_one name word (number_plain word 512 (sym (some_mapped load (workers_of word)) ∙ s))
+load_good name (word ∷ []) s = load_one name word (number_plain word WORKERS (sym (some_mapped load (workers_of word)) ∙ s))
 load_good name (word ∷ next ∷ words) s = absurd (true≢false (sym s))
 
 listed_good : (words : List Text) → is_some (listed words) ≡ true → plain_in (listed words) ≡ true → asked_by words ≡ listed words

@@ -4,6 +4,7 @@ use Rattle.clap.specs.Words.{App, Kinds, Text, fault_of, first_of, matches_of}
 use Rattle.bsc_text.specs.Grammar.{number_of}
 use Rattle.bsc_text.specs.Lines.{same_octets}
 use Rattle.bsc_words.specs.Commands.{replay_app, simulate_app, check_app, audit_app, hub_app, node_app, load_app}
+use Rattle.bsc_words.specs.declared.bounds.TheConstants.{SESSIONS, WORKERS}
 use Rattle.bsc_words.specs.declared.asked.Asked.{Asked}
 use Rattle.bsc_words.specs.declared.asked.Asked.TheVariants.{Replay, Simulate, Check, Audit, Hub, Node, Load}
 
@@ -29,13 +30,13 @@ abbrev pub up_to : ℕ → Option ℕ → Option ℕ
 up_to most None = None
 up_to most (Some n) = if nat_le 1 n && nat_le n most then Some n else None
 
--- how many links a word says: 1 to 1,000,000
+-- how many links a word says, from 1 to the most
 abbrev pub sessions_of : Text → Option ℕ
-sessions_of word = up_to 1000000 (number_of word)
+sessions_of word = up_to SESSIONS (number_of word)
 
--- how many workers a word says: 1 to 512
+-- how many workers a word says, from 1 to the most
 abbrev pub workers_of : Text → Option ℕ
-workers_of word = up_to 512 (number_of word)
+workers_of word = up_to WORKERS (number_of word)
 
 -- a hub by its path, what is said of its sessions, where both are good, and the prefix of its journals
 abbrev pub hub_of : Option Text → Option Text → Option Text → Option AskedOf

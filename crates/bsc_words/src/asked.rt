@@ -29,7 +29,7 @@ pub enum Asked<'a> {
     },
     /// `load N`: runs a workload.
     Load {
-        /// How many workers it has: 1 to 512.
+        /// How many workers it has: 1 to `WORKERS`.
         workers: u32,
     },
 }

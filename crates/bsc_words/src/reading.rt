@@ -7,6 +7,7 @@ ghost use Rattle.bsc_words.specs.Words.{replay_asked, simulate_asked, check_aske
 
 use crate::arguments::{hub_arguments, load_arguments, no_arguments, node_arguments};
 use crate::asked::Asked;
+use crate::bounds::{SESSIONS, WORKERS};
 use crate::fault::WordsFault;
 use bsc_text::read_number;
 use clap::error::ErrorKind;
@@ -38,7 +39,7 @@ fn read_sessions(word: &[u8]) -> Option<u64>
     ensures { result ≡ sessions_of word.now }
 {
     let number = read_number(word)?;
-    if 1 <= number && number <= 1_000_000 {
+    if 1 <= number && number <= SESSIONS {
         Some(number)
     } else {
         None
@@ -50,7 +51,7 @@ fn read_workers(word: &[u8]) -> Option<u32>
     ensures { result ≡ workers_of word.now }
 {
     let number = read_number(word)?;
-    if 1 <= number && number <= 512 {
+    if 1 <= number && number <= WORKERS {
         Some(number as u32)
     } else {
         None
@@ -203,7 +204,7 @@ fn read_run<'a>(alloc: Global, name: &[u8], words: &'a [String]) -> Result<Asked
 ///
 /// The first word is `replay`, `simulate`, `check`, `audit`, `hub`, `node` or `load`, and the words after it are read by
 /// `clap` as the arguments of that command: `hub` takes a path, `--sessions` with a number from 1 to 1,000,000, and
-/// `--journal` with a prefix; `node` a path and the path of a script; `load` a number from 1 to 512; the others take
+/// `--journal` with a prefix; `node` a path and the path of a script; `load` a number from 1 to `WORKERS`; the others take
 /// none. A call for help is refused.
 ///
 /// | error | when it comes |

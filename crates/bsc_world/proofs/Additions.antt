@@ -13,6 +13,7 @@ use Rattle.bsc_script.specs.Hubs.{IsHub}
 use Rattle.bsc_world.specs.declared.kept_hub.KeptHub.{KeptHub}
 use Rattle.bsc_world.specs.declared.kept_node.KeptNode.{KeptNode}
 use Rattle.bsc_world.specs.declared.world.World.{World as KeptWorld}
+use Rattle.bsc_network.specs.declared.limits.TheConstants.{NODES}
 use Rattle.bsc_network.specs.Settings.{Added, hub, node, hubs, nodes, nodes_after, settings, and_hub, and_node}
 use Rattle.bsc_network.specs.Worlds.{World, Hub, Node, history, new_hub, new_node, new_world}
 use Rattle.bsc_network.specs.Courses.{MayAdd, MayAddAll}
@@ -139,7 +140,7 @@ added_hub t u added who limits kept f made clock hubs_so nodes_so links_so few n
 
 pub added_node : (t u : KeptWorld) (added : List Added) (own : Identity) (direct : Bool) (kept : KeptNode) → StandsFor t added []
     → u.made ≡ t.made → u.clock ≡ t.clock → u.hubs.items ≡ t.hubs.items → u.nodes.items ≡ t.nodes.items ++ kept ∷ [] → u.links.items ≡ t.links.items
-    → 1 ≤ length t.hubs.items → length t.nodes.items < 64 → IsNode own → IsNodeKept (new_node (record { own = own; limits = settings (length t.hubs.items) (length t.nodes.items) direct })) kept
+    → 1 ≤ length t.hubs.items → length t.nodes.items < NODES → IsNode own → IsNodeKept (new_node (record { own = own; limits = settings (length t.hubs.items) (length t.nodes.items) direct })) kept
     → StandsFor u (and_node added own direct) []
 added_node t u added own direct kept f made clock hubs_so nodes_so links_so some few node_own is =
     let s = f.kept in
@@ -150,7 +151,7 @@ added_node t u added own direct kept f made clock hubs_so nodes_so links_so some
     let hubs_are : (new_world (added ++ node own direct ∷ [])).hubs ≡ (new_world added).hubs = ap (map new_hub) (hubs-node added own direct) in
     let kept_is : IsNodeKept (new_node m) kept = subst (λ n. IsNodeKept (new_node (record { own = own; limits = settings n (length (nodes added)) direct })) kept) hub_count (subst (λ n. IsNodeKept (new_node (record { own = own; limits = settings (length t.hubs.items) n direct })) kept) node_count is) in
     record {
-      course = record { added_all = may_add_one added (node own direct) f.course.added_all (record { some_hub = subst (λ n. 1 ≤ n) hub_count some; few = subst (λ n. n < 64) node_count few; who = node_own }); made_all = tt };
+      course = record { added_all = may_add_one added (node own direct) f.course.added_all (record { some_hub = subst (λ n. 1 ≤ n) hub_count some; few = subst (λ n. n < NODES) node_count few; who = node_own }); made_all = tt };
       newest = refl;
       clock = (let c = f.clock in omega arith);
       kept = record {

@@ -14,6 +14,7 @@ use Rattle.bsc_script.proofs.Pairs.{position-same, position-gives}
 use Rattle.bsc_node.specs.declared.link_name.LinkName.{LinkName}
 use Rattle.bsc_network.specs.declared.dialled.Dialled.{Dialled}
 use Rattle.bsc_world.specs.declared.doing.Doing.{Doing}
+use Rattle.bsc_network.specs.declared.limits.TheConstants.{LINKS}
 use Rattle.bsc_network.specs.declared.target.Target.{Target}
 use Rattle.bsc_network.specs.declared.target.Target.TheVariants.{Hub as ToHub, Node as ToNode}
 use Rattle.bsc_network.specs.declared.way.Way.TheVariants.{Down}
@@ -83,13 +84,13 @@ leads_to_node_found t F b w uri o none is s =
     ap (option_map (λ k. ToNode k)) (is ∙ node_found t F b w uri s)
     ∙ sym (ap (λ p. option_or (option_map (λ j. ToHub j) p) (option_map (λ k. ToNode k) (node_with w uri))) (sym (none ∙ hub_found t F b w uri s)))
 
-pub leads_where_room : (t : KeptWorld) (F : List LinkName) (b : Option ℕ) (w : World) (uri : List ℕ) (o : Option Target) → length t.links.items < 4096 → o ≡ target_of w uri → StandsAs t F b w → o ≡ leads_to w uri
+pub leads_where_room : (t : KeptWorld) (F : List LinkName) (b : Option ℕ) (w : World) (uri : List ℕ) (o : Option Target) → length t.links.items < LINKS → o ≡ target_of w uri → StandsAs t F b w → o ≡ leads_to w uri
 leads_where_room t F b w uri o room is s =
-    is ∙ sym (ap (λ c. if_room c (target_of w uri)) (lt-ltb (length w.links) 4096 (subst (λ n. n < 4096) s.link_count room)))
+    is ∙ sym (ap (λ c. if_room c (target_of w uri)) (lt-ltb (length w.links) LINKS (subst (λ n. n < LINKS) s.link_count room)))
 
 -- what is found is there
-pub target_there : (w : World) (uri : List ℕ) (target : Target) → Some target ≡ leads_to w uri → (length w.links < 4096) × ((j : ℕ) → target ≡ ToHub j → j < length w.hubs)
-target_there w uri target is = by_room (nat_lt (length w.links) 4096) refl is
+pub target_there : (w : World) (uri : List ℕ) (target : Target) → Some target ≡ leads_to w uri → (length w.links < LINKS) × ((j : ℕ) → target ≡ ToHub j → j < length w.hubs)
+target_there w uri target is = by_room (nat_lt (length w.links) LINKS) refl is
   where
     by_hub : (o : Option ℕ) → hub_with w uri ≡ o → Some target ≡ option_or (option_map (λ j. ToHub j) o) (option_map (λ k. ToNode k) (node_with w uri)) → (j : ℕ) → target ≡ ToHub j → j < length w.hubs
     by_hub None e p j same = by_node (node_with w uri) p
@@ -110,8 +111,8 @@ target_there w uri target is = by_room (nat_lt (length w.links) 4096) refl is
         hub_same : (i : ℕ) → ToHub i ≡ ToHub j → i ≡ j
         hub_same i e = cc
 
-    by_room : (c : Bool) → nat_lt (length w.links) 4096 ≡ c → Some target ≡ if_room c (target_of w uri) → (length w.links < 4096) × ((j : ℕ) → target ≡ ToHub j → j < length w.hubs)
-    by_room true e p = (ltb-true (length w.links) 4096 e, by_hub (hub_with w uri) refl p)
+    by_room : (c : Bool) → nat_lt (length w.links) LINKS ≡ c → Some target ≡ if_room c (target_of w uri) → (length w.links < LINKS) × ((j : ℕ) → target ≡ ToHub j → j < length w.hubs)
+    by_room true e p = (ltb-true (length w.links) LINKS e, by_hub (hub_with w uri) refl p)
     by_room false e p = cc
 
 -- ---- one link more

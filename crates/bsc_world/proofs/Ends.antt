@@ -2,6 +2,7 @@
 use Rattle.std.proofs.Common.{◌≡◌, ◌≤◌, ◌<◌, ℕ, zero, suc, ◌+◌, ◌-◌, Bool, true, cond, List, [], ◌∷◌, ◌++◌, length, map, find, set, slice_get, Option, Some, None, refl, ap, sym, ◌∙◌, subst, arith}
 use Rattle.std.specs.List.{range_with_len}
 use Rattle.std.specs.Option.{option_and_then}
+use Rattle.bsc_direct.specs.declared.bounds.TheConstants.{SLOTS}
 use Rattle.bsc_direct.specs.Slots.{slots}
 use Rattle.bsc_node.specs.declared.link_name.LinkName.{LinkName}
 use Rattle.bsc_node.specs.declared.link_name.LinkName.TheVariants.{Direct}
@@ -28,18 +29,18 @@ use Rattle.std.proofs.lemmas.Option.{same_Some as some_same}
 
 -- the slots from one on
 abbrev pub slots_from : ℕ → List LinkName
-slots_from k = map (λ j. Direct j) (range_with_len k (64 - k))
+slots_from k = map (λ j. Direct j) (range_with_len k (SLOTS - k))
 
-pub slot_step : (test : LinkName → Bool) (k : ℕ) → k < 64 → find test (slots_from k) ≡ cond (test (Direct k)) (Some (Direct k)) (find test (slots_from (k + 1)))
+pub slot_step : (test : LinkName → Bool) (k : ℕ) → k < SLOTS → find test (slots_from k) ≡ cond (test (Direct k)) (Some (Direct k)) (find test (slots_from (k + 1)))
 slot_step test k below =
-    let one : 64 - k ≡ suc (64 - (k + 1)) = omega arith in
+    let one : SLOTS - k ≡ suc (SLOTS - (k + 1)) = omega arith in
     ap (λ n. find test (map (λ j. Direct j) (range_with_len k n))) one
 
 pub slots_first : slots_from 0 ≡ map (λ j. Direct j) slots
 unfolding slots
 slots_first = refl
 
-pub slots_last : slots_from 64 ≡ []
+pub slots_last : slots_from SLOTS ≡ []
 slots_last = refl
 
 -- ---- a node that is kept

@@ -4,6 +4,7 @@ use Rattle.std.proofs.Common.{◌≡◌, ◌≢◌, ◌≤◌, ◌<◌, inl, inr
 use Rattle.std.specs.Option.{option_map}
 use Rattle.std.proofs.lemmas.Option.{get_or_from_slice_get}
 use Rattle.bsc_node.specs.declared.link_name.LinkName.{LinkName}
+use Rattle.bsc_network.specs.declared.limits.TheConstants.{LINKS}
 use Rattle.bsc_network.specs.declared.target.Target.TheVariants.{Hub as ToHub}
 use Rattle.bsc_world.specs.declared.kept_link.KeptLink.{KeptLink}
 use Rattle.bsc_world.specs.declared.world.World.{World as KeptWorld}
@@ -137,7 +138,7 @@ module _ (t u : KeptWorld) (F : List LinkName) (b c : Option ℕ) (w v : World) 
     hub_count = ch.hub_count ∙ s.hub_count ∙ sym (length-changed j g w.hubs) ∙ ap length (sym ch.hubs_at);
     node_count = ap length ch.nodes ∙ s.node_count ∙ ap length (sym ch.nodes_at);
     link_count = ch.link_count ∙ s.link_count ∙ sym ch.link_count_at;
-    few_links = subst (λ (n : ℕ). n ≤ 4096) (sym ch.link_count_at) s.few_links;
+    few_links = subst (λ (n : ℕ). n ≤ LINKS) (sym ch.link_count_at) s.few_links;
     leads = λ m i x at to. (let p = link_before m x at in
         let count : length v.hubs ≡ length w.hubs = ap length ch.hubs_at ∙ length-changed j g w.hubs in
         subst (λ (n : ℕ). i < n) (sym count) (s.leads m i p.0 p.1 (sym p.2.to ∙ to)));

@@ -6,6 +6,7 @@ use Rattle.bsc_node_core.specs.Tables.{is_name}
 use Rattle.bsc_history.specs.declared.mark.Stamped.{Stamped}
 use Rattle.bsc_desk.specs.declared.desk.Desk.{Desk}
 use Rattle.bsc_node.specs.declared.link_name.LinkName.{LinkName}
+use Rattle.bsc_network.specs.declared.limits.TheConstants.{LINKS}
 use Rattle.bsc_network.specs.declared.target.Target.TheVariants.{Hub as ToHub}
 use Rattle.bsc_world.specs.declared.kept_link.KeptLink.{KeptLink}
 use Rattle.bsc_world.specs.declared.kept_node.KeptNode.{KeptNode}
@@ -38,7 +39,7 @@ stands_moved t u F G b w v p made failed named s = record {
   hub_count = ap length p.hubs ∙ s.hub_count ∙ sym (ap length p.hubs_at);
   node_count = ap length p.nodes ∙ s.node_count ∙ sym (ap length p.nodes_at);
   link_count = ap length p.links ∙ s.link_count ∙ sym (ap length p.links_at);
-  few_links = subst (λ xs. length xs ≤ 4096) (sym p.links_at) s.few_links;
+  few_links = subst (λ xs. length xs ≤ LINKS) (sym p.links_at) s.few_links;
   leads = λ l j link at to. subst (λ xs. j < length xs) (sym p.hubs_at) (s.leads l j link (ap (λ xs. slice_get xs l) (sym p.links_at) ∙ at) to);
   hubs = λ j h at. (let a = s.hubs j h (ap (λ xs. slice_get xs j) (sym p.hubs_at) ∙ at) in record {
     kept = a.kept;
@@ -135,7 +136,7 @@ module _ (t u : KeptWorld) (F : List LinkName) (b c : Option ℕ) (w : World) (l
     hub_count = ap length ch.hubs ∙ s.hub_count;
     node_count = ap length ch.nodes ∙ s.node_count;
     link_count = ap length ch.links ∙ length-set t.links.items l after ∙ s.link_count ∙ sym (length-changed l f w.links);
-    few_links = subst (λ (n : ℕ). n ≤ 4096) (sym (length-changed l f w.links)) s.few_links;
+    few_links = subst (λ (n : ℕ). n ≤ LINKS) (sym (length-changed l f w.links)) s.few_links;
     leads = λ m j x at to. leads_after m j x to (after_change l f w link m x ch.here at);
     hubs = λ j h at. (let a = s.hubs j h at in record {
       kept = a.kept;

@@ -12,7 +12,8 @@ use crate::kept_node::KeptNode;
 use crate::settings::{hub_uri, settings};
 use crate::world::World;
 use bsc_desk::Desk;
-use bsc_history::{About, Limits};
+use bsc_history::{About, Limits, MOST_CALLERS, MOST_CALLS, MOST_OUTBOX, MOST_ROWS};
+use bsc_network::NODES;
 use bsc_node_core::Node;
 use bsc_octets::{DeviceId, Identity, NoMemory, Octets, Vmac};
 use std::alloc::Global;
@@ -51,13 +52,13 @@ fn is_node(who: &Identity)
 /// A hub on which no call was made.
 fn new_hub(alloc: Global, number: u64, hub: Identity, limits: Limits) -> Result<KeptHub, NoMemory>
     requires some_rows { 1 ≤ limits.rows }
-    requires few_rows { limits.rows ≤ 1024 }
+    requires few_rows { limits.rows ≤ MOST_ROWS }
     requires some_room { 2 ≤ limits.outbox }
-    requires little_room { limits.outbox ≤ 1024 }
+    requires little_room { limits.outbox ≤ MOST_OUTBOX }
     requires some_calls { 1 ≤ limits.calls }
-    requires few_calls { limits.calls ≤ 2 ^ 52 }
+    requires few_calls { limits.calls ≤ MOST_CALLS }
     requires some_callers { 1 ≤ limits.callers }
-    requires few_callers { limits.callers ≤ 2 ^ 62 }
+    requires few_callers { limits.callers ≤ MOST_CALLERS }
     ensures { IfOk result (λ kept. IsHubKept number (new_hub (record { hub = hub; limits = limits })) [] kept) }
 {
     Ok(KeptHub {
@@ -107,13 +108,13 @@ impl World {
         requires not_zero { IsFalse (same_vmac hub.vmac zero_vmac) }
         requires not_broadcast { IsFalse (same_vmac hub.vmac broadcast) }
         requires some_rows { 1 ≤ limits.rows }
-        requires few_rows { limits.rows ≤ 1024 }
+        requires few_rows { limits.rows ≤ MOST_ROWS }
         requires some_room { 2 ≤ limits.outbox }
-        requires little_room { limits.outbox ≤ 1024 }
+        requires little_room { limits.outbox ≤ MOST_OUTBOX }
         requires some_calls { 1 ≤ limits.calls }
-        requires few_calls { limits.calls ≤ 2 ^ 52 }
+        requires few_calls { limits.calls ≤ MOST_CALLS }
         requires some_callers { 1 ≤ limits.callers }
-        requires few_callers { limits.callers ≤ 2 ^ 62 }
+        requires few_callers { limits.callers ≤ MOST_CALLERS }
         ensures ok { (added : List Added) → StandsFor self.old added [] → OnOk result (StandsFor self.new (and_hub added hub limits) []) }
         ensures clock { clock_of self.new ≡ clock_of self.old }
         ensures spent { is_spent self.new ≡ is_spent self.old }
@@ -129,7 +130,7 @@ impl World {
     pub fn add_node(&mut self, alloc: Global, own: Identity, direct: bool) -> Result<(), NoMemory>
         requires new { steps_made self.old ≡ 0 }
         requires some_hub { 1 ≤ hub_count self.old }
-        requires few { node_count self.old < 64 }
+        requires few { node_count self.old < NODES }
         requires not_zero { IsFalse (same_vmac own.vmac zero_vmac) }
         requires not_broadcast { IsFalse (same_vmac own.vmac broadcast) }
         ensures ok { (added : List Added) → StandsFor self.old added [] → OnOk result (StandsFor self.new (and_node added own direct) []) }

@@ -17,14 +17,11 @@ use crate::kept_node::KeptNode;
 use crate::settings::TIMES;
 use crate::world::World;
 use bsc_accept::Accepting;
-use bsc_network::{Content, Dialled, Hold, Parcel, Target, Way};
+use bsc_network::{Content, Dialled, Hold, LINKS, Parcel, Target, Way};
 use bsc_node::LinkName;
 use bsc_octets::{NoMemory, Octets};
 use std::alloc::Global;
 use std::collections::VecDeque;
-
-/// How many links a network has at most.
-const LINKS: usize = 4096;
 
 /// Whether two URIs have the same octets.
 fn same_uri(uri: &[u8], other: &[u8]) -> bool
@@ -101,7 +98,7 @@ impl World {
 
     /// Where a dial leads, unless it fails.
     fn leads_to(&self, uri: &[u8]) -> Option<Target>
-        ensures room { IfSome result (λ target. length self.now.links.items < 4096) }
+        ensures room { IfSome result (λ target. length self.now.links.items < LINKS) }
         ensures leads { (F : List NameOf) (b : Option ℕ) (w : WorldOf) → StandsAs self.now F b w → result ≡ leads_to w uri.now }
     {
         if self.links.len() < LINKS {
@@ -129,7 +126,7 @@ impl World {
 
     /// The link that a node dials now is made.
     fn make_link(&mut self, alloc: Global, node: u32, target: Target) -> Result<(), NoMemory>
-        requires { length self.old.links.items < 4096 }
+        requires { length self.old.links.items < LINKS }
         ensures { OnOk result (MakesLink node target self.old self.new) }
     {
         let kept = KeptLink {
@@ -154,7 +151,7 @@ impl World {
         target: Target,
     ) -> Result<(), NoMemory>
         requires named { is_name name ≡ true }
-        requires room { length self.old.links.items < 4096 }
+        requires room { length self.old.links.items < LINKS }
         ensures { OnOk result (DoesWhere (MayDial target) (dials node name target) self.old doing.old self.new doing.new) }
     {
         let link = self.links.len() as u32;

@@ -24,13 +24,13 @@ use crate::passed::Passed;
 use crate::world::World;
 use bsc_desk::{NoRow, make};
 use bsc_history::Refusal;
-use bsc_network::Target;
+use bsc_network::{LINKS, Target};
 use bsc_octets::{Identity, NoMemory, Vmac};
 use std::alloc::Global;
 use std::collections::VecDeque;
 
 /// The caller of a Stop: the number of no link.
-const NO_LINK: u64 = 4096;
+const NO_LINK: u64 = LINKS as u64;
 
 /// What a connect comes to at a hub.
 pub(crate) enum HubAsked {

@@ -5,13 +5,15 @@ ghost use Rattle.bsc_network.specs.Settings.{Added};
 ghost use Rattle.bsc_world.specs.Standing.{StandsFor, clock_of, is_spent};
 
 use crate::world::World;
+use bsc_network::NODES;
 use bsc_octets::NoMemory;
 use std::alloc::Global;
 
-/// The most hubs and the most nodes of a network.
+/// The most hubs of a network.
 const HUBS: usize = 2;
 
-const NODES: usize = 64;
+/// Room for the most nodes of a network.
+const NODE_ROOM: usize = NODES as usize;
 
 impl World {
     /// A network without hubs and nodes, at the time 0.
@@ -25,7 +27,7 @@ impl World {
             made: 0,
             spent: false,
             hubs: Vec::with_capacity(alloc, HUBS)?,
-            nodes: Vec::with_capacity(alloc, NODES)?,
+            nodes: Vec::with_capacity(alloc, NODE_ROOM)?,
             links: Vec::new(alloc),
         })
     }

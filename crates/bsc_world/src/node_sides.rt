@@ -16,12 +16,10 @@ ghost use Rattle.bsc_world.specs.Standing.{StandsAs};
 use crate::kept_node::KeptNode;
 use crate::world::World;
 use bsc_connector::Side;
+use bsc_direct::SLOTS;
 use bsc_network::{Content, Hold, Way};
 use bsc_node::LinkName;
 use bsc_octets::NoMemory;
-
-/// How many slots a node has.
-const SLOTS: u32 = 64;
 
 /// Whether two names are one.
 fn same_link(name: LinkName, other: LinkName) -> bool

@@ -14,7 +14,7 @@ use crate::doing::Doing;
 use crate::step_done::StepDone;
 use crate::world::World;
 use crate::world_deliveries::WorldDeliveries;
-use bsc_network::{StepRefusal, WorldStep};
+use bsc_network::{STEPS, StepRefusal, WorldStep};
 use bsc_octets::NoMemory;
 use std::alloc::Global;
 
@@ -63,7 +63,7 @@ impl World {
     /// Makes a step that isn't refused, and counts it.
     fn count_step(&mut self, alloc: Global, step: &WorldStep) -> Result<StepDone, StepRefusal>
         requires ready { is_spent self.old ≡ false }
-        requires few { steps_made self.old < 2 ^ 63 }
+        requires few { steps_made self.old < STEPS }
         requires time { clock_of self.old < 2 ^ 62 }
         requires content { HasContent step.now }
         requires some { StandsForSome self.old }
@@ -91,7 +91,7 @@ impl World {
     /// Makes a step. One that is refused counts, and changes nothing else; after `NoMemory` the network is spent.
     pub fn step(&mut self, alloc: Global, step: &WorldStep) -> Result<StepDone, StepRefusal>
         requires ready { is_spent self.old ≡ false }
-        requires few { steps_made self.old < 2 ^ 63 }
+        requires few { steps_made self.old < STEPS }
         requires time { clock_of self.old < 2 ^ 62 }
         requires content { HasContent step.now }
         requires some { StandsForSome self.old }

@@ -1,5 +1,5 @@
 //! One hub that real threads share. Each test says the same whatever the schedule.
-ghost use Rattle.std.specs.Prelude.{◌≡◌, ◌≤◌, ◌^◌, IfOk, IfSome};
+ghost use Rattle.std.specs.Prelude.{◌≡◌, ◌≤◌, IfOk, IfSome};
 ghost use Rattle.bsc_hub.specs.Passing.{IsCaller, IsOwnAs};
 ghost use Rattle.bsc_hub.specs.Testing.{vmac_at};
 
@@ -7,7 +7,7 @@ mod calls;
 mod threads;
 
 use crate::crossing::{is_sent, is_shared};
-use bsc_history::Limits;
+use bsc_history::{Limits, MOST_CALLERS, MOST_CALLS, MOST_ROWS};
 use bsc_hub::{Hub, Pass};
 use bsc_octets::{Identity, NoMemory, Vmac, read_identity};
 use bsc_ring::Outlet;
@@ -42,9 +42,9 @@ pub(crate) fn new_hub(
     calls: u64,
     callers: u64,
 ) -> Result<(Hub, Pass), NoMemory>
-    requires rows { (1 ≤ rows) × (rows ≤ 1024) }
-    requires calls { (1 ≤ calls) × (calls ≤ 2 ^ 52) }
-    requires callers { (1 ≤ callers) × (callers ≤ 2 ^ 62) }
+    requires rows { (1 ≤ rows) × (rows ≤ MOST_ROWS) }
+    requires calls { (1 ≤ calls) × (calls ≤ MOST_CALLS) }
+    requires callers { (1 ≤ callers) × (callers ≤ MOST_CALLERS) }
     ensures { IfOk result (λ r. IsCaller r.0 r.1) }
 {
     let limits = Limits {

@@ -1,10 +1,10 @@
 //! Workloads that run.
-ghost use Rattle.std.specs.Prelude.{◌≤◌, ◌^◌};
+ghost use Rattle.std.specs.Prelude.{◌≤◌};
 
 use crate::hub::{new_hub, stop_if};
-use bsc_history::Counts;
+use bsc_history::{Counts, MOST_CALLS, MOST_ROWS};
 use bsc_hub::Kept;
-use bsc_load::{LoadEnd, LoadStop, load, load_on};
+use bsc_load::{LoadEnd, LoadStop, WORKERS, load, load_on};
 use std::alloc::Global;
 use std::sync::Wait;
 use std::test::Fail;
@@ -51,9 +51,9 @@ fn loaded<R: Threads + Wait + Sync>(
     stopped: bool,
     workers: u32,
 ) -> Result<LoadEnd, LoadStop>
-    requires rows { (1 ≤ rows) × (rows ≤ 1024) }
-    requires calls { (1 ≤ calls) × (calls ≤ 2 ^ 52) }
-    requires workers { (1 ≤ workers) × (workers ≤ 512) }
+    requires rows { (1 ≤ rows) × (rows ≤ MOST_ROWS) }
+    requires calls { (1 ≤ calls) × (calls ≤ MOST_CALLS) }
+    requires workers { (1 ≤ workers) × (workers ≤ WORKERS) }
 {
     let Ok((hub, mut pass)) = new_hub(alloc, rows, calls, 1 << 20) else {
         return Err(LoadStop::NoMemory);

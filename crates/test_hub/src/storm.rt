@@ -1,7 +1,8 @@
 //! Storms that run.
-ghost use Rattle.std.specs.Prelude.{◌≤◌, ◌^◌};
+ghost use Rattle.std.specs.Prelude.{◌≤◌};
 
 use crate::hub::{new_hub, stop_if};
+use bsc_history::{MOST_CALLERS, MOST_CALLS};
 use bsc_load::LoadStop;
 use bsc_storm::{StormEnd, storm_on};
 use std::alloc::Global;
@@ -20,8 +21,8 @@ fn stormed<R: Threads + Wait + Sync>(
     callers: u64,
     stopped: bool,
 ) -> Result<StormEnd, LoadStop>
-    requires calls { (1 ≤ calls) × (calls ≤ 2 ^ 52) }
-    requires callers { (1 ≤ callers) × (callers ≤ 2 ^ 62) }
+    requires calls { (1 ≤ calls) × (calls ≤ MOST_CALLS) }
+    requires callers { (1 ≤ callers) × (callers ≤ MOST_CALLERS) }
 {
     let Ok((hub, mut pass)) = new_hub(alloc, 1_024, calls, callers) else {
         return Err(LoadStop::NoMemory);

@@ -92,21 +92,24 @@ fn a_course_of_connections(rt: HostRuntime) -> Result<(), Fail> {
     Ok(())
 }
 
-const FULL: SlotsFull = SlotsFull { slots: 64 };
+const FULL: SlotsFull = SlotsFull { slots: SLOTS };
+
+/// The number of the last slot.
+const LAST: u32 = SLOTS - 1;
 
 /// All slots are claimed, and two are released and claimed again.
 fn fills(rt: &impl Abort, direct: &mut Direct) {
-    for slot in 0..64 {
+    for slot in 0..SLOTS {
         assert!(rt; direct.claim(None) == Ok(slot));
     }
     assert!(rt; direct.claim(None) == Err(FULL));
-    direct.release(64);
+    direct.release(SLOTS);
     direct.release(u32::MAX);
     assert!(rt; direct.claim(None) == Err(FULL));
-    direct.release(63);
+    direct.release(LAST);
     direct.release(17);
     assert!(rt; direct.claim(None) == Ok(17));
-    assert!(rt; direct.claim(None) == Ok(63));
+    assert!(rt; direct.claim(None) == Ok(LAST));
 }
 
 #[test]

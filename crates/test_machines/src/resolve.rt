@@ -81,30 +81,32 @@ fn a_course_of_questions(rt: HostRuntime) -> Result<(), Fail> {
 
 /// As many VMACs are asked for as are held at most, and one more.
 fn fills(rt: &impl Abort, resolve: &mut Resolve) {
-    for k in 0..256 {
+    let next = ROOM as u16;
+    for k in 0..next {
         assert!(rt; resolve.ask(0, k, address(k)) == Ok(()));
     }
-    assert!(rt; resolve.ask(0, 256, address(256)) == Err(AskRefusal::Full { held: 256 }));
-    assert!(rt; resolve.ask(0, 256, address(5)) == Err(AskRefusal::Pending { id: 5 }));
+    assert!(rt; resolve.ask(0, next, address(next)) == Err(AskRefusal::Full { held: ROOM as u32 }));
+    assert!(rt; resolve.ask(0, next, address(5)) == Err(AskRefusal::Pending { id: 5 }));
 }
 
 /// A VMAC whose question is refused is held no more, and one of which URIs are learnt is.
 fn lets_go(rt: &impl Abort, alloc: Global, resolve: &mut Resolve) {
+    let next = ROOM as u16;
     assert!(rt; answer(alloc, resolve, 5, address(5), "ws://5") == Some(true));
-    assert!(rt; resolve.ask(1, 256, address(5)) == Ok(()));
+    assert!(rt; resolve.ask(1, next, address(5)) == Ok(()));
     assert!(rt; resolve.refused(9, address(9)));
-    assert!(rt; resolve.ask(1, 257, address(256)) == Ok(()));
+    assert!(rt; resolve.ask(1, next + 1, address(next)) == Ok(()));
     resolve.tick(10_000);
     assert!(rt;
         answer(alloc, resolve, 4, address(4), "ws://4") == Some(false),
         "it was dropped"
     );
-    assert!(rt; answer(alloc, resolve, 256, address(5), "ws://6") == Some(true));
+    assert!(rt; answer(alloc, resolve, next, address(5), "ws://6") == Some(true));
     assert!(rt; has_uris(resolve, address(5), "ws://6"));
 }
 
 #[test]
-fn at_most_256_vmacs(rt: HostRuntime) -> Result<(), Fail> {
+fn at_most_room_vmacs(rt: HostRuntime) -> Result<(), Fail> {
     let mut resolve = Resolve::make(rt.alloc(), 10_000)?;
     fills(&rt, &mut resolve);
     lets_go(&rt, rt.alloc(), &mut resolve);

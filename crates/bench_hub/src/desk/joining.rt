@@ -6,6 +6,7 @@ ghost use Rattle.bench_hub.specs.Ready.{IsOpen, IsReady};
 
 use crate::members::{Sender, address, identity};
 use bsc_desk::{Desk, Inlet, Limits, NewRow, NoRow, Outlet, make};
+use bsc_history::{MOST_CALLS, MOST_ROWS};
 use bsc_octets::Identity;
 use std::alloc::Global;
 
@@ -82,7 +83,7 @@ fn join_other(alloc: Global, desk: &mut Desk, sender: Sender, member: u16) -> Op
 
 /// Joins the members from 2 on, and answers their outlets.
 fn join_others(alloc: Global, desk: &mut Desk, sender: Sender, rows: u16) -> Option<Vec<Outlet>>
-    requires few { rows ≤ 1024 }
+    requires few { rows ≤ MOST_ROWS }
     requires ready { IsReady desk.old sender.conn sender.address }
     ensures { IsReady desk.new sender.conn sender.address }
 {
@@ -97,13 +98,13 @@ fn join_others(alloc: Global, desk: &mut Desk, sender: Sender, rows: u16) -> Opt
 /// A desk with so many members: member 1, and the outlets of the others. None where memory ran out.
 pub(crate) fn make_full(alloc: Global, rows: u16) -> Option<(Desk, Sender, Vec<Outlet>)>
     requires some { 1 ≤ rows }
-    requires few { rows ≤ 1024 }
+    requires few { rows ≤ MOST_ROWS }
     ensures { IfSome result (λ full. IsReady full.0 full.1.conn full.1.address) }
 {
     let limits = Limits {
         rows: u32::from(rows),
         outbox: OUTBOX,
-        calls: 1 << 52,
+        calls: MOST_CALLS,
         callers: 1 << 20,
     };
     let mut desk = Desk::make(alloc, identity(0, address(0)), limits).ok()?;

@@ -3,7 +3,7 @@ ghost use Rattle.std.specs.Prelude.{◌≡◌, ◌+◌, ◌≤◌, ◌<◌, ◌^
 ghost use Rattle.bsc_ring.specs.Ends.{ending_of, given, inlet_mark, known_pushed, knows_all, outlet_mark, pushed};
 
 use crate::ring::frame;
-use bsc_history::End;
+use bsc_history::{End, MOST_OUTBOX};
 use bsc_octets::{NoMemory, Octets};
 use bsc_ring::{Inlet, Outlet, Take, make, unite};
 use std::alloc::Global;
@@ -13,7 +13,7 @@ use std::thread::Threads;
 
 /// One thread pushes a frame and takes it, so many times. The answer is how many were taken.
 pub(crate) fn alone(alloc: Global, capacity: u32, items: u32) -> Result<u64, NoMemory>
-    requires { (2 ≤ capacity) × (capacity ≤ 1024) }
+    requires { (2 ≤ capacity) × (capacity ≤ MOST_OUTBOX) }
 {
     let (mut inlet, mut outlet) = make(alloc, capacity)?;
     for item in 0..items {
@@ -73,7 +73,7 @@ pub(crate) fn between_two<R: Threads + Wait + Sync>(
     capacity: u32,
     items: u32,
 ) -> Result<u64, NoMemory>
-    requires { (2 ≤ capacity) × (capacity ≤ 1024) }
+    requires { (2 ≤ capacity) × (capacity ≤ MOST_OUTBOX) }
     ensures { IfOk result (λ taken. taken ≡ items) }
 {
     let (inlet, outlet) = make(alloc, capacity)?;

@@ -4,20 +4,16 @@ ghost use Rattle.bsc_node_core.specs.Events.{HasOctets};
 
 use bsc_accept::Times;
 use bsc_connector::Side;
+use bsc_direct::SLOTS;
 use bsc_node::{Action, LinkName, NodeEvent, NodeLimits, Note};
 use bsc_node_core::{Actions, Node};
 use bsc_octets::{DeviceId, Identity, NoMemory, Octets, Vmac};
+use bsc_resolve::ROOM;
 use std::alloc::Global;
 use uuid::Uuid;
 
 /// The link to the hub.
 pub(crate) const HUB: LinkName = LinkName::Hub(Side::Primary);
-
-/// How many slots a node has.
-const SLOTS: u32 = 64;
-
-/// Of how many addresses a node learns URIs.
-const ADDRESSES: u16 = 256;
 
 /// An event comes to a node at the time 0.
 fn tell(alloc: Global, node: &mut Node, event: NodeEvent) -> Result<Actions, NoMemory>
@@ -101,7 +97,7 @@ fn ups(actions: &Actions) -> u32 {
 
 /// A peer dials the node for a slot, and is accepted: how many direct connections came up.
 fn dialled(alloc: Global, node: &mut Node, slot: u32) -> Result<u32, NoMemory>
-    requires { slot < 64 }
+    requires { slot < SLOTS }
 {
     tell(alloc, node, NodeEvent::Arrived)?;
     let number = slot as u8;
@@ -152,7 +148,8 @@ fn learns(alloc: Global, node: &mut Node, v: Vmac) -> Result<bool, NoMemory> {
 /// The node learns the URIs of as many addresses as it may: of how many it did.
 pub(crate) fn learnt_addresses(alloc: Global, node: &mut Node) -> u32 {
     let mut learnt = 0u32;
-    for number in 0..ADDRESSES {
+    let all = ROOM as u16;
+    for number in 0..all {
         let [high, low] = number.to_be_bytes();
         if learns(alloc, node, Vmac([2, 0, 0, 1, high, low])).unwrap_or(false) {
             learnt = learnt.saturating_add(1);

@@ -1,6 +1,7 @@
 -- A piece with its LF is heard or bad, and a rest that is too long already is bad.
 use Rattle.std.proofs.Common.{◌≡◌, ◌<◌, ◌+◌, ◌-◌, ℕ, true, length, drop, refl, ap, subst, sym, ◌∙◌, ⊎_elim, inl, inr, arith, length-drop}
 use Rattle.bsc_text.specs.Lines.{has_no_lf}
+use Rattle.bsc_journal.specs.declared.bounds.TheConstants.{MOST_IN_ALL, MOST_IN_LINE}
 use Rattle.bsc_audit.specs.Hearing.{IsBadAnyhow}
 use Rattle.bsc_audit.proofs.Bad.{bad_piece_at, bad_rest}
 use Rattle.bsc_audit.proofs.SoFar.{heard_piece_at}
@@ -21,4 +22,4 @@ returns-then-cannot_fit-clause-refused c = λ e.
     let size = length-drop h.at o in
     let no_lf : has_no_lf (drop h.at o) ≡ true = ap has_no_lf (sym c.after.ensures) ∙ c.in_default.ensures in
     bad_rest o h h.lines c.loop-n.invariant refl no_lf h.in_journal
-    (⊎_elim (λ (k : 300001 < length o - h.at). inl (omega (arith, size, k))) (λ (k : 268435456 < h.at + (length o - h.at)). inr (omega (arith, size, k))) (c.cannot_fit.ensures.cannot c.if-cannot_fit.true))
+    (⊎_elim (λ (k : MOST_IN_LINE + 1 < length o - h.at). inl (omega (arith, size, k))) (λ (k : MOST_IN_ALL < h.at + (length o - h.at)). inr (omega (arith, size, k))) (c.cannot_fit.ensures.cannot c.if-cannot_fit.true))

@@ -1,7 +1,8 @@
 -- What is read is heard; reading stops at a bad line or goes on to the end.
-use Rattle.std.proofs.Common.{◌≡◌, ◌≤◌, ◌<◌, ◌-◌, ℕ, Bool, true, List, [], length, drop, Some, Ok, Err, ap, sym, ◌∙◌, subst, arith, append-nil, length-append}
+use Rattle.std.proofs.Common.{◌≡◌, ◌≤◌, ◌<◌, ◌+◌, ◌-◌, ℕ, Bool, true, List, [], length, drop, Some, Ok, Err, ap, sym, ◌∙◌, subst, arith, append-nil, length-append}
 use Rattle.std.specs.Io.KnownBytes.{Consumes, IsAtEnd}
 use Rattle.bsc_text.specs.Lines.{has_no_lf}
+use Rattle.bsc_journal.specs.declared.bounds.TheConstants.{MOST_IN_ALL}
 use Rattle.bsc_audit.specs.declared.audit_end.AuditEnd.{AuditEnd}
 use Rattle.bsc_audit.specs.declared.audit_end.AuditEnd.TheVariants.{ReadFault}
 use Rattle.bsc_audit.specs.Hearing.{HasHeard, HasHeardAll}
@@ -75,8 +76,8 @@ reading-smaller g c =
     let grown = ap length more.grown in
     let sum = length-append c.reading.octets.items more.chunk in
     let some = more.some in
-    let fits : length c.reading.octets.items ≤ 268435456 = subst (λ (x : List ℕ). length x ≤ 268435456) c.as_slice.ensures.value c.in_default-go_on.ensures.fits in
-    let less : 268435457 - length c.read_more.new.octets.items < 268435457 - length c.reading.octets.items = omega (arith, grown, sum, some, fits) in
+    let fits : length c.reading.octets.items ≤ MOST_IN_ALL = subst (λ (x : List ℕ). length x ≤ MOST_IN_ALL) c.as_slice.ensures.value c.in_default-go_on.ensures.fits in
+    let less : (MOST_IN_ALL + 1) - length c.read_more.new.octets.items < (MOST_IN_ALL + 1) - length c.reading.octets.items = omega (arith, grown, sum, some, fits) in
     less
 
 pub reading-preserved : goal.reading-preserved

@@ -1,6 +1,7 @@
 -- What was read so far was heard; a read that gives octets leaves less to be read.
-use Rattle.std.proofs.Common.{◌≤◌, ◌<◌, ◌-◌, length}
+use Rattle.std.proofs.Common.{◌≤◌, ◌<◌, ◌+◌, ◌-◌, length}
 use Rattle.std.specs.Io.KnownBytes.{Consumes}
+use Rattle.bsc_journal.specs.declared.bounds.TheConstants.{MOST_IN_ALL}
 use Rattle.bsc_audit.specs.Hearing.{HasHeard}
 use Rattle.bsc_audit.proofs.taking.take_in.Given as goal
 
@@ -13,4 +14,4 @@ invariant-reading g l = record {
 }
 
 abbrev pub decreases-reading : goal.decreases-reading
-decreases-reading g l = 268435457 - length l.octets.items
+decreases-reading g l = (MOST_IN_ALL + 1) - length l.octets.items

@@ -1,6 +1,7 @@
 use Rattle.std.proofs.Common.{[], ◌∷◌, ap, sym, ◌∙◌}
 use Rattle.std.proofs.lemmas.Bool.{lt-ltb}
 use Rattle.std.proofs.lemmas.Result.{on_ok_weaker}
+use Rattle.bsc_direct.specs.declared.bounds.TheConstants.{SLOTS}
 use Rattle.bsc_node.specs.declared.link_name.LinkName.TheVariants.{Direct}
 use Rattle.bsc_node.specs.declared.node_limits.NodeLimits.{NodeLimits}
 use Rattle.bsc_node.specs.declared.note.Note.TheVariants.{NoDirect}
@@ -21,7 +22,7 @@ returns-in-Some c = on_ok_weaker c.dial.result
     both-still b c.dial.new.out c.dial.new.self c.args.resolve.now L _ h.resolution
     (found-some (λ M. Stands (asked_by L b) c.dial.new.out c.dial.new.self M) L (next_uri c.args.k) (λ uri. does (Dial (Direct c.args.k) uri))
     (in_order (where_found (wanted c.args.k) (λ v. tells (NoDirect v)) nothing ∷ ends b.made (Direct c.args.k) ∷ [])) c.in-Some.uri (sym (c.in_ok-uri.ensures b c.args.out.now L k w h) ∙ c.in-Some.is)
-    (g (asked_by L b) L (ap (λ (x : NodeLimits). x.times) r.0) r.1 (lt-ltb c.args.k 64 k) h.state)))
+    (g (asked_by L b) L (ap (λ (x : NodeLimits). x.times) r.0) r.1 (lt-ltb c.args.k SLOTS k) h.state)))
     c.dial.ensures
 
 pub returns-in-None : goal.returns-in-None

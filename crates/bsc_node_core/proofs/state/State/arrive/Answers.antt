@@ -1,6 +1,7 @@
 use Rattle.std.proofs.Common.{ap, sym, subst, not, [], ◌∷◌, ◌++◌, None, ℕ}
 use Rattle.std.proofs.lemmas.Result.{on_ok_weaker}
 use Rattle.std.proofs.lemmas.Bool.{ltb-true}
+use Rattle.bsc_direct.specs.declared.bounds.TheConstants.{SLOTS}
 use Rattle.bsc_direct.specs.declared.direct.Direct.{Direct as SlotTable}
 use Rattle.bsc_direct.specs.declared.call.SlotCall.TheVariants.{Claim}
 use Rattle.bsc_direct.specs.Slots.{is_claimed}
@@ -17,7 +18,7 @@ pub returns-in-Ok : goal.returns-in-Ok
 returns-in-Ok c = on_ok_weaker c.take.result
     (λ g b L m n h.
     let a = c.in-Ok.ensures.claimed (slot_calls L) h.direct in
-    let within = ltb-true c.in-Ok.k 64 (slot-within (λ (j : ℕ). not (is_claimed (slot_calls L) j)) c.in-Ok.k a.0) in
+    let within = ltb-true c.in-Ok.k SLOTS (slot-within (λ (j : ℕ). not (is_claimed (slot_calls L) j)) c.in-Ok.k a.0) in
     arrival-stands b _ _ L c.in-Ok.k a.0
     (g b (L ++ slot (Claim c.in-Ok.k None) ∷ []) (ap (λ (l : NodeLimits). l.times) m) n within (claim-stands b c.args.out.now c.args.self.now L c.in-Ok.k None _ _ a.1 c.claim-in-Ok.ensures.sets c.claim-in-Ok.ensures.touches h)))
     c.take.ensures

@@ -1,5 +1,6 @@
 use Rattle.std.proofs.Common.{Bool, not, ◌&&◌, ap, sym, ◌∙◌, refl}
 use Rattle.std.specs.Prelude.{nat_lt}
+use Rattle.bsc_node.specs.declared.bounds.TheConstants.{RENEWALS}
 use Rattle.bsc_node.specs.Logs.{is_finishing}
 use Rattle.bsc_node.specs.Links.{none_there}
 use Rattle.bsc_node.specs.Meeting.{renewals}
@@ -15,7 +16,7 @@ returns-then-none_there c = λ b out L h.
 
 pub returns-else-is_duplicate : goal.returns-else-is_duplicate
 returns-else-is_duplicate c = λ b out L h.
-    let may = not (is_finishing L) && nat_lt (renewals L) 8 in
+    let may = not (is_finishing L) && nat_lt (renewals L) RENEWALS in
     elim c.else-is_duplicate.branch [
       | else-is_duplicate-via-then-is_duplicate+else-none_there w ↦
           sym (ap (λ (x : Bool). x && (w.none_there.result && may)) w.if-is_duplicate.true ∙ ap (λ (x : Bool). x && may) w.if-none_there.false)

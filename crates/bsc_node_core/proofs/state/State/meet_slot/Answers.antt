@@ -1,6 +1,7 @@
 use Rattle.std.proofs.Common.{ap, sym, ◌∙◌}
 use Rattle.std.proofs.lemmas.Result.{on_ok_weaker}
 use Rattle.std.proofs.lemmas.Bool.{lt-ltb}
+use Rattle.bsc_direct.specs.declared.bounds.TheConstants.{SLOTS}
 use Rattle.bsc_node.specs.declared.link_name.LinkName.TheVariants.{Direct}
 use Rattle.bsc_node_core.specs.Tables.{Kept}
 use Rattle.bsc_node_core.proofs.Meets.{asked-taken, not-asked, told-dialled, met-taken, met-dialled}
@@ -10,7 +11,7 @@ pub returns-in-Asked : goal.returns-in-Asked
 returns-in-Asked c = on_ok_weaker c.meet_taken.result
     (λ g b L r u told.
     let is = sym (ap (λ (k : Kept). k.machine) c.get.ensures) ∙ c.in-Asked.is in
-    met-taken b _ _ L c.args.k c.args.who (asked-taken b c.args.out.now c.args.self.now L (Direct c.args.k) _ (lt-ltb c.args.k 64 c.requires.within) is told.stands)
+    met-taken b _ _ L c.args.k c.args.who (asked-taken b c.args.out.now c.args.self.now L (Direct c.args.k) _ (lt-ltb c.args.k SLOTS c.requires.within) is told.stands)
     (g b L r is told.stands))
     c.meet_taken.ensures
 
