@@ -59,7 +59,8 @@ pub(crate) fn alive<R: Clock + Net + Wait + Copy + Drop>(
 }
 
 /// The link over a socket whose handshake is done. Where nobody waits for it together with others, what is put before the next
-/// receive leaves together: who waits at a watch does so before it receives, and what it has put is to have left by then.
+/// receive leaves together, and whom it wakes by then is woken behind that: who waits at a watch does so before it receives, and what
+/// it has put is to have left by then.
 pub(crate) fn accepted<R: Clock + Net + Wait + Copy + Drop>(
     rt: R,
     alloc: Global,
@@ -69,10 +70,11 @@ pub(crate) fn accepted<R: Clock + Net + Wait + Copy + Drop>(
     lingering: &Option<Arc<Lingering>>,
 ) -> Result<AcceptedLink<R>, LinkFault> {
     let (stream, wait) = alive(rt, alloc, socket, bells, watch, lingering)?;
-    let stream = if watch.is_none() {
-        stream.holding()
-    } else {
-        stream
+    if watch.is_some() {
+        return Ok(settle(alloc, stream, wait, NoMask));
+    }
+    let Ok(stream) = stream.holding().ringing(bells) else {
+        return Err(LinkFault::NoMemory);
     };
     Ok(settle(alloc, stream, wait, NoMask))
 }

@@ -2,6 +2,7 @@
 ghost use Rattle.std.specs.Prelude.{◌≤◌, IfOk, length};
 
 use crate::bell::Bell;
+use crate::bells::Bells;
 use crate::lingering::Lingering;
 use crate::moment::{Moment, wait_of};
 use crate::watch::{Seat, Watch};
@@ -30,7 +31,11 @@ const ROOM: usize = 2_048;
 /// when it is dropped.
 ///
 /// Where it holds what is written, that leaves together, in one call of the system: at the next read, once there is more than
-/// it holds, and when the stream is dropped. A fault of the socket shows there then.
+/// it holds, and when the stream is dropped. A fault of the socket shows there then. It may also ring the bells that its link owes
+/// a ring: at the next read, and before a write waits.
+///
+/// A read that waits asks the socket only where it may have something: not behind one that took all that was there, until the poll
+/// has told of more, or of nothing in the time of the reads.
 pub struct LiveStream<R: Clock + Wait + Drop> {
     clock: R,
     alloc: Global,
@@ -38,6 +43,14 @@ pub struct LiveStream<R: Clock + Wait + Drop> {
     poll: Poll,
     events: Events,
     bell: Arc<Bell>,
+    /// When the reads are over, once one had to know.
+    until: Option<Moment>,
+    /// The socket had no more at the last read of it, and the poll will tell when it has.
+    is_drained: bool,
+    /// The poll told that the peer's stream has ended or broken off.
+    is_ended: bool,
+    /// The poll tells also when the socket takes octets again.
+    tells_room: bool,
     write_ms: u32,
     /// When the octets that were written since the last flush must have left, once one of them had to wait.
     write_until: Option<Moment>,
@@ -45,10 +58,36 @@ pub struct LiveStream<R: Clock + Wait + Drop> {
     holds: bool,
     /// What is written and hasn't left.
     held: Vec<u8>,
+    /// Where the bells are that its link may owe a ring.
+    bells: Option<Arc<Bells>>,
     /// Where it is waited for with others.
     seat: Option<Seat>,
     /// Where its socket lingers once it is dropped.
     lingering: Option<Arc<Lingering>>,
+}
+
+/// What a poll told of the socket.
+#[derive(Clone, Copy)]
+struct Told {
+    /// It may have octets, or its end; also where the poll told of nothing at all.
+    more: bool,
+    /// The peer's stream has ended or broken off.
+    end: bool,
+}
+
+/// What the events of a poll tell of the socket.
+fn told_by(events: &Events) -> Told {
+    let mut told = Told {
+        more: events.is_empty(),
+        end: false,
+    };
+    for event in events.iter() {
+        if event.token() == SOCKET {
+            told.more = true;
+            told.end = told.end || event.is_read_closed() || event.is_error();
+        }
+    }
+    told
 }
 
 impl<R: Clock + Net + Wait + Copy + Drop> LiveStream<R> {
@@ -64,11 +103,12 @@ impl<R: Clock + Net + Wait + Copy + Drop> LiveStream<R> {
         socket.set_nodelay(true)?;
         let poll = Poll::new(&rt)?;
         let waker = Waker::new(poll.registry(), BELL)?;
-        poll.registry().register(&mut socket, SOCKET, Interest::READABLE | Interest::WRITABLE)?;
+        poll.registry()
+            .register(&mut socket, SOCKET, Interest::READABLE)?;
         let Ok(events) = Events::with_capacity(alloc, 4) else {
             return Err(io::Error::from(ErrorKind::OutOfMemory));
         };
-        let Ok(bell) = Arc::new(alloc, Bell::new(waker)) else {
+        let Ok(bell) = Arc::new(alloc, Bell::new(alloc, waker)) else {
             return Err(io::Error::from(ErrorKind::OutOfMemory));
         };
         Ok(LiveStream {
@@ -78,10 +118,15 @@ impl<R: Clock + Net + Wait + Copy + Drop> LiveStream<R> {
             poll,
             events,
             bell,
+            until: None,
+            is_drained: false,
+            is_ended: false,
+            tells_room: false,
             write_ms,
             write_until: None,
             holds: false,
             held: Vec::new(alloc),
+            bells: None,
             seat: None,
             lingering: None,
         })
@@ -114,6 +159,17 @@ impl<R: Clock + Wait + Drop> LiveStream<R> {
         stream
     }
 
+    /// The same stream, which rings the bells of these that its link owes a ring.
+    pub fn ringing(self, bells: &Arc<Bells>) -> io::Result<LiveStream<R>> {
+        let mut stream = self;
+        let Ok(bells) = Arc::try_clone(bells) else {
+            return Err(io::Error::from(ErrorKind::OutOfMemory));
+        };
+        stream.bells = Some(bells);
+        stream.bell.set_debtor();
+        Ok(stream)
+    }
+
     /// The stream's bell, to be shared.
     pub fn bell(&self) -> io::Result<Arc<Bell>> {
         match Arc::try_clone(&self.bell) {
@@ -122,24 +178,70 @@ impl<R: Clock + Wait + Drop> LiveStream<R> {
         }
     }
 
+    /// Rings the bells that its link owes a ring.
+    fn rings(&self) {
+        if let Some(bells) = &self.bells {
+            bells.ring_owed(&self.clock, &self.bell);
+        }
+    }
+
+    /// When the reads are over. Their time begins now, where none had to know before.
+    fn until(&mut self, now: Moment) -> Moment {
+        let until = match self.until {
+            Some(until) => until,
+            None => self.bell.until(now),
+        };
+        self.until = Some(until);
+        until
+    }
+
+    /// Notes what the last poll told of the socket.
+    fn looks(&mut self) {
+        let told = told_by(&self.events);
+        self.is_drained = self.is_drained && !told.more;
+        self.is_ended = self.is_ended || told.end;
+    }
+
     /// Sleeps until something is new. False where the time is over or the bell has rung; true may come for no reason,
-    /// so that the caller tries the socket again.
+    /// so that the caller looks again.
     fn sleeps(&mut self) -> io::Result<bool> {
         if !self.bell.waits() {
             return Ok(false);
         }
-        let left = self.bell.until().left(Moment::now(&self.clock)?);
-        if left == 0 || !self.bell.falls_asleep() {
+        let now = Moment::now(&self.clock)?;
+        let left = self.until(now).left(now);
+        if left == 0 {
+            return Ok(false);
+        }
+        if !self.bell.falls_asleep() {
+            // Rings without end can't keep the socket from being read.
+            self.is_drained = false;
             return Ok(false);
         }
         let polled = self.poll.poll(&mut self.events, Some(wait_of(left)));
         let rung = self.bell.wakes_up_rung();
+        self.looks();
         polled?;
         Ok(!rung)
     }
 
+    /// Has the poll tell when the socket takes octets again.
+    fn asks_for_room(&mut self) -> io::Result<()> {
+        if !self.tells_room {
+            self.poll.registry().reregister(
+                &mut self.socket,
+                SOCKET,
+                Interest::READABLE | Interest::WRITABLE,
+            )?;
+            self.tells_room = true;
+        }
+        Ok(())
+    }
+
     /// Waits until the socket takes octets again, within the time of a write. A ring is kept for the next read.
     fn waits_to_write(&mut self) -> io::Result<()> {
+        self.rings();
+        self.asks_for_room()?;
         let now = Moment::now(&self.clock)?;
         let until = match self.write_until {
             Some(until) => until,
@@ -150,7 +252,9 @@ impl<R: Clock + Wait + Drop> LiveStream<R> {
         if left == 0 {
             return Err(io::Error::from(ErrorKind::TimedOut));
         }
-        self.poll.poll(&mut self.events, Some(wait_of(left)))
+        let polled = self.poll.poll(&mut self.events, Some(wait_of(left)));
+        self.looks();
+        polled
     }
 
     /// Writes octets of these to the socket, waits until it takes some, and says how many.
@@ -212,11 +316,21 @@ impl<R: Clock + Wait + Drop> LiveStream<R> {
     }
 
     /// Whether the time of the reads is over.
-    fn is_late(&self) -> io::Result<bool> {
+    fn is_late(&mut self) -> io::Result<bool> {
         if !self.bell.waits() {
             return Ok(true);
         }
-        Ok(self.bell.until().left(Moment::now(&self.clock)?) == 0)
+        let now = Moment::now(&self.clock)?;
+        Ok(self.until(now).left(now) == 0)
+    }
+
+    /// Whether this read comes too late. A peer that never lets a message end can't keep its reader past the time.
+    fn is_too_late(&mut self) -> io::Result<bool> {
+        if self.bell.is_first_read() {
+            self.until = None;
+            return Ok(false);
+        }
+        self.is_late()
     }
 
     /// Whether there is nothing to read and nothing to wait for.
@@ -238,27 +352,33 @@ impl<R: Clock + Wait + Drop> LiveStream<R> {
 impl<R: Clock + Wait + Drop> Read for LiveStream<R> {
     fn read(&mut self, buf: &mut [u8]) -> io::Result<usize> {
         self.sends()?;
-        // A peer that never lets a message end can't keep its reader past the time.
-        if !self.bell.is_first_read() && self.is_late()? {
-            return Err(io::Error::from(ErrorKind::WouldBlock));
-        }
-        if self.is_cold() {
+        self.rings();
+        if self.is_too_late()? || self.is_cold() {
             return Err(io::Error::from(ErrorKind::WouldBlock));
         }
         for _ in 0..u64::MAX {
-            match self.socket.read(buf) {
-                Ok(n) => {
-                    self.note(true);
-                    return Ok(n);
+            if self.is_drained && self.bell.waits() {
+                if !self.sleeps()? {
+                    return Err(io::Error::from(ErrorKind::WouldBlock));
                 }
-                Err(error) => {
-                    if error.kind() == ErrorKind::WouldBlock {
-                        self.note(false);
-                        if !self.sleeps()? {
+            } else {
+                match self.socket.read(buf) {
+                    Ok(n) => {
+                        self.note(true);
+                        // Where the stream has ended no event need tell so again.
+                        self.is_drained = 0 < n && n < buf.len() && !self.is_ended;
+                        return Ok(n);
+                    }
+                    Err(error) => {
+                        if error.kind() == ErrorKind::WouldBlock {
+                            self.note(false);
+                            self.is_drained = true;
+                            if !self.bell.waits() {
+                                return Err(error);
+                            }
+                        } else if error.kind() != ErrorKind::Interrupted {
                             return Err(error);
                         }
-                    } else if error.kind() != ErrorKind::Interrupted {
-                        return Err(error);
                     }
                 }
             }
@@ -292,10 +412,15 @@ impl<R: Clock + Wait + Drop> Drop for LiveStream<R> {
             poll: _,
             events: _,
             bell: _,
+            until: _,
+            is_drained: _,
+            is_ended: _,
+            tells_room: _,
             write_ms: _,
             write_until: _,
             holds: _,
             held: _,
+            bells: _,
             seat,
             lingering,
         } = self;

@@ -1,5 +1,5 @@
 //! Links over any stream.
-ghost use Rattle.std.specs.Prelude.{◌≡◌, ◌≤◌, ◌⊎◌, [], ◌∷◌, Some, None, Ok, Err, OnOk, IfErr, ⊤};
+ghost use Rattle.std.specs.Prelude.{◌≡◌, ◌≤◌, ◌⊎◌, [], ◌∷◌, Some, None, Ok, Err, OnOk, IfOk, IfErr, ⊤};
 ghost use Rattle.bsc_edge.specs.Told.{Grows, Stays, IsQuiet, fault_in};
 ghost use Rattle.bsc_edge.specs.declared.fault.LinkFault.{LinkFault};
 ghost use Rattle.bsc_edge.specs.declared.said.Said.{Said};
@@ -13,10 +13,10 @@ ghost use Rattle.websocket.specs.CloseCode.{close_code_of};
 
 use crate::failure::{failure, fault_of};
 use bsc_edge::{Incoming, Link, LinkFault, Patience};
-use bsc_octets::Octets;
+use bsc_octets::{NoMemory, Octets};
 use std::alloc::Global;
 use std::io::{Read, Write};
-use tungstenite::{CloseCode, CloseFrame, Error, MaskKeys, Message, Utf8Bytes, WebSocket};
+use tungstenite::{Bytes, CloseCode, CloseFrame, Error, MaskKeys, Message, Utf8Bytes, WebSocket};
 
 /// A link over a stream, of which a patience sets the waits. Only a client's link draws keys.
 #[derive(Drop)]
@@ -27,13 +27,26 @@ pub struct StreamLink<T, W, K> {
     quiets: u64,
 }
 
+/// The octets of a message. They stay in the memory that was taken for the message, where nobody shares it.
+fn octets_of(alloc: Global, bytes: Bytes) -> Result<Octets, NoMemory>
+    ensures { IfOk result (λ o. o ≡ bytes) }
+{
+    match bytes.try_into_mut() {
+        Ok(own) => match own.into_vec() {
+            Ok(octets) => Ok(Octets::from_vec(octets)),
+            Err(_) => Err(NoMemory),
+        },
+        Err(bytes) => Ok(Octets::from_vec(Vec::from_slice(alloc, bytes.as_slice())?)),
+    }
+}
+
 /// What `receive` answers where the socket read this.
 fn answer(alloc: Global, read: Result<Message, Error>) -> Result<Incoming, LinkFault>
     ensures { Answers read result }
 {
     match read {
-        Ok(Message::Binary(bytes)) => match Vec::from_slice(alloc, bytes.as_slice()) {
-            Ok(copy) => Ok(Incoming::Message(Octets::from_vec(copy))),
+        Ok(Message::Binary(bytes)) => match octets_of(alloc, bytes) {
+            Ok(octets) => Ok(Incoming::Message(octets)),
             Err(_) => Err(LinkFault::NoMemory),
         },
         Ok(Message::Text(_)) => Ok(Incoming::Text),

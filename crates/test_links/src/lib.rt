@@ -15,6 +15,8 @@ mod lingering;
 #[cfg(test)]
 mod live;
 #[cfg(test)]
+mod telling;
+#[cfg(test)]
 mod watch;
 #[cfg(test)]
 mod ws;
