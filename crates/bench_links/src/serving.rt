@@ -6,6 +6,7 @@ use bsc_octets::{Octets, Vmac};
 use std::alloc::Global;
 use std::io::{self, ErrorKind};
 use std::net::{Ipv4Addr, Net};
+use std::random::RandomSource;
 use std::sync::Wait;
 use std::time::Clock;
 
@@ -63,7 +64,7 @@ fn echo<L: Link>(alloc: Global, link: &mut L) -> (Came, End) {
 }
 
 /// A gate that listens at this port of 127.0.0.1, and which port that is.
-fn open<R: Clock + Net + Wait + Copy + Drop>(
+fn open<R: Clock + Net + Wait + RandomSource + Copy + Drop>(
     rt: R,
     alloc: Global,
     port: u16,
@@ -97,7 +98,7 @@ fn serve_one<R: Print, L: Link>(
 }
 
 /// Takes so many links, one after the other. False where the gate failed.
-fn serve_all<R: Clock + Net + Wait + Print + Copy + Drop>(
+fn serve_all<R: Clock + Net + Wait + RandomSource + Print + Copy + Drop>(
     rt: R,
     alloc: Global,
     gate: &mut Gate<R>,
@@ -123,7 +124,7 @@ fn serve_all<R: Clock + Net + Wait + Print + Copy + Drop>(
 
 /// Takes so many links of this kind at a port, one after the other, and tells of each what came. False where the gate
 /// failed.
-pub(crate) fn serve<R: Clock + Net + Wait + Print + Copy + Drop>(
+pub(crate) fn serve<R: Clock + Net + Wait + RandomSource + Print + Copy + Drop>(
     rt: R,
     alloc: Global,
     port: u16,

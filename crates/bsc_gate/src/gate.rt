@@ -2,7 +2,7 @@
 ghost use Rattle.std.specs.Prelude.{◌≡◌, ◌≤◌, None};
 
 use crate::handshakes::{Handshakes, Turned};
-use crate::socket_link::{AcceptedLink, HANDSHAKE_MS, accepted};
+use crate::socket_link::{HANDSHAKE_MS, SocketLink, accepted};
 use bsc_edge::{Acceptor, Arrived, Failed, Kind, LinkFault};
 use bsc_live::{Bells, LOOK_MS, Lingering, Moment, Seat, Watch};
 use bsc_octets::{NoMemory, Vmac};
@@ -14,6 +14,7 @@ use std::collections::VecDeque;
 use std::io::{self, ErrorKind};
 use std::net::{Ipv4Addr, Net, SocketAddr};
 use std::os::fd::AsRawFd;
+use std::random::RandomSource;
 use std::sync::{Arc, Wait};
 use std::time::{Clock, Duration};
 
@@ -60,7 +61,7 @@ pub struct Gate<R: Clock + Net + Wait + Copy + Drop> {
     listener: Option<TcpListener>,
     backlog: Backlog,
     handshakes: Handshakes,
-    done: VecDeque<AcceptedLink<R>>,
+    done: VecDeque<SocketLink<R>>,
     watch: Option<Arc<Watch>>,
     seat: Option<Seat>,
     lingering: Option<Arc<Lingering>>,
@@ -81,7 +82,7 @@ fn tokens_of(events: &Events) -> ([Token; BATCH], usize) {
     (tokens, count)
 }
 
-impl<R: Clock + Net + Wait + Copy + Drop> Gate<R> {
+impl<R: Clock + Net + Wait + RandomSource + Copy + Drop> Gate<R> {
     /// A gate that will listen at this host for links of this kind, and has at most `places` handshakes at work.
     pub fn new(
         rt: R,
@@ -305,7 +306,7 @@ impl<R: Clock + Net + Wait + Copy + Drop> Gate<R> {
     }
 
     /// The link that is done first, within so many milliseconds.
-    fn wait_for(&mut self, alloc: Global, wait_ms: u32) -> io::Result<Option<AcceptedLink<R>>>
+    fn wait_for(&mut self, alloc: Global, wait_ms: u32) -> io::Result<Option<SocketLink<R>>>
         ensures faults { self.new.faults ≡ self.old.faults }
         ensures quiets { self.new.quiets ≡ self.old.quiets }
     {
@@ -324,7 +325,7 @@ impl<R: Clock + Net + Wait + Copy + Drop> Gate<R> {
     }
 }
 
-impl<R: Clock + Net + Wait + Copy + Drop> Acceptor<AcceptedLink<R>> for Gate<R> {
+impl<R: Clock + Net + Wait + RandomSource + Copy + Drop> Acceptor<SocketLink<R>> for Gate<R> {
     ghost faults = { λ g. g.faults };
 
     ghost quiets = { λ g. g.quiets };
@@ -345,7 +346,7 @@ impl<R: Clock + Net + Wait + Copy + Drop> Acceptor<AcceptedLink<R>> for Gate<R> 
         }
     }
 
-    fn next(&mut self, alloc: Global, wait_ms: u32) -> Result<Arrived<AcceptedLink<R>>, LinkFault> {
+    fn next(&mut self, alloc: Global, wait_ms: u32) -> Result<Arrived<SocketLink<R>>, LinkFault> {
         match self.wait_for(alloc, wait_ms) {
             Ok(Some(link)) => Ok(Arrived::Link(link)),
             Ok(None) => {

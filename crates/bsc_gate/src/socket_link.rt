@@ -1,16 +1,18 @@
 //! Links over sockets.
+use crate::boxed_link::BoxedLink;
 use bsc_edge::LinkFault;
 use bsc_live::{Bells, Lingering, LivePatience, LiveStream, Watch};
-use bsc_ws::{NoMask, StreamLink, settle};
+use bsc_ws::{RandomKeys, StreamLink, settle};
 use mio::net::TcpStream;
 use std::alloc::Global;
 use std::io;
 use std::net::Net;
+use std::random::RandomSource;
 use std::sync::{Arc, Wait};
 use std::time::Clock;
 
-/// A link that a gate accepted.
-pub type AcceptedLink<R> = StreamLink<LiveStream<R>, LivePatience<R>, NoMask>;
+/// A link over a socket, dialled or accepted. It draws its keys from the machine; one that was accepted draws none.
+pub type SocketLink<R> = BoxedLink<StreamLink<LiveStream<R>, LivePatience<R>, RandomKeys<R>>>;
 
 /// A handshake's time as a whole, in milliseconds.
 pub const HANDSHAKE_MS: u32 = 1_000;
@@ -61,20 +63,20 @@ pub(crate) fn alive<R: Clock + Net + Wait + Copy + Drop>(
 /// The link over a socket whose handshake is done. Where nobody waits for it together with others, what is put before the next
 /// receive leaves together, and whom it wakes by then is woken behind that: who waits at a watch does so before it receives, and what
 /// it has put is to have left by then.
-pub(crate) fn accepted<R: Clock + Net + Wait + Copy + Drop>(
+pub(crate) fn accepted<R: Clock + Net + Wait + RandomSource + Copy + Drop>(
     rt: R,
     alloc: Global,
     socket: TcpStream,
     bells: &Arc<Bells>,
     watch: &Option<Arc<Watch>>,
     lingering: &Option<Arc<Lingering>>,
-) -> Result<AcceptedLink<R>, LinkFault> {
+) -> Result<SocketLink<R>, LinkFault> {
     let (stream, wait) = alive(rt, alloc, socket, bells, watch, lingering)?;
     if watch.is_some() {
-        return Ok(settle(alloc, stream, wait, NoMask));
+        return BoxedLink::new(alloc, settle(alloc, stream, wait, RandomKeys::new(rt)));
     }
     let Ok(stream) = stream.holding().ringing(bells) else {
         return Err(LinkFault::NoMemory);
     };
-    Ok(settle(alloc, stream, wait, NoMask))
+    BoxedLink::new(alloc, settle(alloc, stream, wait, RandomKeys::new(rt)))
 }

@@ -11,7 +11,6 @@ use bsc_edge::{
     Unstarted, launch,
 };
 use bsc_hub::Kept;
-use bsc_links::{PeerAcceptor, PeerDialer};
 use bsc_node_command::RandomWords;
 use bsc_outside::WriterSink;
 use bsc_player::out_of_memory;
@@ -93,7 +92,7 @@ fn main(rt: HostRuntime) -> ExitCode {
     let (Ok(of_links), Ok(of_gate)) = (waiter.shared(), waiter.shared()) else {
         return ExitCode::from(out_of_memory(&mut sink));
     };
-    let Ok(dialer) = real_dialer(rt, alloc, of_links) else {
+    let Ok(mut dialer) = real_dialer(rt, alloc, of_links) else {
         return ExitCode::from(out_of_memory(&mut sink));
     };
     let disk = NotedDisk::new(rt, of_disk);
@@ -101,8 +100,7 @@ fn main(rt: HostRuntime) -> ExitCode {
     let mut clock = Monotonic::new(rt);
     let mut random = RandomWords::new(rt);
     let door = Door::new(rt, alloc, kind, of_gate);
-    let mut acceptor = NotedAcceptor::new(PeerAcceptor::new(door));
-    let mut dialer = PeerDialer::new(dialer);
+    let mut acceptor = NotedAcceptor::new(door);
     let mut kept = Kept {
         hub: None,
         pass: None,

@@ -1,28 +1,33 @@
 //! The real acceptor, and what an operator is told of it.
 ghost use Rattle.std.specs.Prelude.{◌≡◌, ◌≤◌, None};
 
+use crate::links::RealLink;
 use crate::waiting::Shared;
 use bsc_edge::{Acceptor, Arrived, Failed, Kind, LinkFault};
-use bsc_gate::{AcceptedLink, Gate};
+use bsc_gate::Gate;
 use bsc_live::Bells;
+use bsc_log::{LoggedAcceptor, logging_of};
 use bsc_octets::Vmac;
 use std::alloc::Global;
+use std::env::Env;
 use std::io::{self, Eprint};
 use std::net::{Ipv4Addr, Net};
+use std::random::RandomSource;
 use std::sync::{Arc, Wait};
 use std::time::Clock;
 
 /// At most so many handshakes are at work.
 const PLACES: usize = 256;
 
-/// A gate that is made where it is bound, and tells on standard error what is behind it.
+/// A gate that is made where it is bound, and tells on standard error what is behind it; with a log, where the environment asks for
+/// one.
 #[derive(Drop)]
 pub struct Door<R: Clock + Net + Wait + Eprint + Copy + Drop> {
     rt: R,
     alloc: Global,
     kind: Kind,
     shared: Shared,
-    gate: Option<Gate<R>>,
+    gate: Option<LoggedAcceptor<Gate<R>, R>>,
     faults: u64,
     quiets: u64,
 }
@@ -42,7 +47,7 @@ impl<R: Clock + Net + Wait + Eprint + Copy + Drop> Door<R> {
 }
 
 /// The same gate, which shares this with the links of the program.
-fn sharing<R: Clock + Net + Wait + Copy + Drop>(
+fn sharing<R: Clock + Net + Wait + RandomSource + Copy + Drop>(
     gate: Gate<R>,
     shared: &Shared,
 ) -> io::Result<Gate<R>> {
@@ -60,7 +65,7 @@ fn sharing<R: Clock + Net + Wait + Copy + Drop>(
 }
 
 /// A gate for links of this kind that is bound to this port, for this owner.
-fn open<R: Clock + Net + Wait + Copy + Drop>(
+fn open<R: Clock + Net + Wait + RandomSource + Copy + Drop>(
     rt: R,
     alloc: Global,
     kind: Kind,
@@ -92,7 +97,8 @@ fn tell_open<R: Eprint>(rt: &R, kind: Kind, port: u16, owner: Vmac) {
     );
 }
 
-impl<R: Clock + Net + Wait + Eprint + Copy + Drop> Acceptor<AcceptedLink<R>> for Door<R> {
+impl<R: Clock + Net + Wait + Eprint + Env + RandomSource + Copy + Drop> Acceptor<RealLink<R>>
+    for Door<R> {
     ghost faults = { λ d. d.faults };
 
     ghost quiets = { λ d. d.quiets };
@@ -107,7 +113,8 @@ impl<R: Clock + Net + Wait + Eprint + Copy + Drop> Acceptor<AcceptedLink<R>> for
         match open(self.rt, self.alloc, self.kind, port, owner, &self.shared) {
             Ok(gate) => {
                 tell_open(&self.rt, self.kind, port, owner);
-                self.gate = Some(gate);
+                let logging = logging_of(self.rt, self.alloc, self.kind);
+                self.gate = Some(LoggedAcceptor::new(gate, logging));
                 Ok(())
             }
             Err(_) => {
@@ -117,7 +124,7 @@ impl<R: Clock + Net + Wait + Eprint + Copy + Drop> Acceptor<AcceptedLink<R>> for
         }
     }
 
-    fn next(&mut self, alloc: Global, wait_ms: u32) -> Result<Arrived<AcceptedLink<R>>, LinkFault> {
+    fn next(&mut self, alloc: Global, wait_ms: u32) -> Result<Arrived<RealLink<R>>, LinkFault> {
         let answer = match &mut self.gate {
             Some(gate) => gate.next(alloc, wait_ms),
             None => Err(LinkFault::Failed),

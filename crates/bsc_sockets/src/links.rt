@@ -1,30 +1,31 @@
 //! The links of the program, and what dials them.
 use crate::waiting::Shared;
-use bsc_gate::{AcceptedLink, SocketOpener};
-use bsc_links::PeerLink;
-use bsc_live::{Bells, LivePatience, LiveStream};
+use bsc_gate::{BoxingDialer, SocketLink, SocketOpener};
+use bsc_live::Bells;
+use bsc_log::{LoggedLink, UnloggedDialer};
 use bsc_octets::NoMemory;
-use bsc_ws::{RandomKeys, StreamDialer, StreamLink};
+use bsc_ws::StreamDialer;
 use std::alloc::Global;
 use std::sync::Arc;
 
-/// A link that is dialled over a socket.
-pub type DialledLink<R> = StreamLink<LiveStream<R>, LivePatience<R>, RandomKeys<R>>;
+/// A link of the program: over a socket, dialled or accepted. A log may be told of one that was accepted.
+pub type RealLink<R> = LoggedLink<SocketLink<R>, R>;
 
-/// A link of the program: over a socket, dialled or accepted.
-pub type RealLink<R> = PeerLink<DialledLink<R>, AcceptedLink<R>>;
+/// The dialer of the program's links.
+pub type RealDialer<R> = UnloggedDialer<BoxingDialer<StreamDialer<SocketOpener<R>>>>;
 
 /// The dialer of links over sockets, which share this.
 pub fn real_dialer<R: Drop>(
     rt: R,
     alloc: Global,
     shared: Shared,
-) -> Result<StreamDialer<SocketOpener<R>>, NoMemory> {
+) -> Result<RealDialer<R>, NoMemory> {
     let bells = Arc::new(alloc, Bells::new(alloc)?)?;
     let Shared { watch, lingering } = shared;
     let opener = SocketOpener::new(rt, bells).lingering_at(lingering);
-    Ok(StreamDialer::new(match watch {
+    let dialer = StreamDialer::new(match watch {
         Some(watch) => opener.watched_by(watch),
         None => opener,
-    }))
+    });
+    Ok(UnloggedDialer::new(BoxingDialer::new(dialer)))
 }

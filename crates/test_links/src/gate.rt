@@ -26,7 +26,10 @@ fn message<L: Link>(alloc: Global, link: &mut L) -> Option<Vec<u8>> {
 }
 
 /// Sends the first message of the first link back, until a refused and a late stream were turned away too.
-fn serves<R: Clock + Net + Wait + Copy + Drop>(alloc: Global, gate: &mut Gate<R>) -> bool {
+fn serves<R: Clock + Net + Wait + RandomSource + Copy + Drop>(
+    alloc: Global,
+    gate: &mut Gate<R>,
+) -> bool {
     let mut echoed = false;
     for _ in 0..200 {
         if let Ok(Arrived::Link(link)) = gate.next(alloc, 50) {

@@ -1,11 +1,12 @@
 //! One wait for a gate and for a link, over loopback.
 use bsc_edge::{Acceptor, Arrived, Incoming, Kind, Link, Waiter};
-use bsc_gate::{AcceptedLink, Gate};
+use bsc_gate::{Gate, SocketLink};
 use bsc_live::{Bells, Moment, Watcher};
 use bsc_octets::Vmac;
 use std::alloc::Global;
 use std::io::Write;
 use std::net::{Ipv4Addr, Net, SocketAddr, TcpStream};
+use std::random::RandomSource;
 use std::sync::{Arc, Wait};
 use std::test::*;
 use std::time::Clock;
@@ -22,7 +23,7 @@ const HANDSHAKE: &str = concat!(
 struct Waiting<R: Clock + Net + Wait + Copy + Drop> {
     watcher: Watcher<R>,
     gate: Gate<R>,
-    link: Option<AcceptedLink<R>>,
+    link: Option<SocketLink<R>>,
 }
 
 /// The first octet of what a link has at once, or a letter.
@@ -35,7 +36,7 @@ fn given<L: Link>(alloc: Global, link: &mut L) -> Option<u8> {
     }
 }
 
-impl<R: Clock + Net + Wait + Copy + Drop> Waiting<R> {
+impl<R: Clock + Net + Wait + RandomSource + Copy + Drop> Waiting<R> {
     /// One wait, and then what is there.
     fn turn(&mut self, alloc: Global, most_ms: u32) -> Option<u8> {
         self.watcher.wait(most_ms);

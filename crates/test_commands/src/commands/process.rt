@@ -4,13 +4,13 @@ use crate::commands::{files_of, status_of};
 use bsc_edge::{
     Kind, MemFiles, Monotonic, Places, Promised, Running, ThreadSpawner, Unstarted, launch,
 };
-use bsc_links::{PeerAcceptor, PeerDialer};
 use bsc_node_command::RandomWords;
 use bsc_octets::NoMemory;
 use bsc_outside::{MemSink, MemSource};
 use bsc_session::{SessionEnd, SessionJob};
 use bsc_sockets::{Door, RealLink, RealWaiter, real_dialer};
 use std::alloc::Global;
+use std::env::Env;
 use std::io::{self, Eprint};
 use std::net::{Ipv4Addr, Net, SocketAddr, TcpListener};
 use std::random::RandomSource;
@@ -51,7 +51,18 @@ fn settings_of(alloc: Global, node: &str, hub_port: u16, port: u16) -> Result<St
 
 /// The status of a process, what it writes going into the sink.
 fn status_over_sockets<
-    R: Clock + Net + RandomSource + Threads + Wait + Eprint + Copy + Send + Sync + Drop + 'static,
+    R: Clock
+        + Net
+        + RandomSource
+        + Threads
+        + Wait
+        + Eprint
+        + Env
+        + Copy
+        + Send
+        + Sync
+        + Drop
+        + 'static,
 >(
     rt: R,
     alloc: Global,
@@ -70,8 +81,8 @@ fn status_over_sockets<
     let (Ok(of_links), Ok(of_gate)) = (waiter.shared(), waiter.shared()) else {
         return Err(NoMemory);
     };
-    let mut acceptor = PeerAcceptor::new(Door::new(rt, alloc, process.kind, of_gate));
-    let mut dialer = PeerDialer::new(real_dialer(rt, alloc, of_links)?);
+    let mut acceptor = Door::new(rt, alloc, process.kind, of_gate);
+    let mut dialer = real_dialer(rt, alloc, of_links)?;
     status_of(
         &rt,
         alloc,
@@ -91,7 +102,18 @@ fn status_over_sockets<
 
 /// Whether a process at these ports ends with status 0, and with what it is to write.
 pub(crate) fn ends_well<
-    R: Clock + Net + RandomSource + Threads + Wait + Eprint + Copy + Send + Sync + Drop + 'static,
+    R: Clock
+        + Net
+        + RandomSource
+        + Threads
+        + Wait
+        + Eprint
+        + Env
+        + Copy
+        + Send
+        + Sync
+        + Drop
+        + 'static,
 >(rt: R, alloc: Global, process: &Process, hub_port: u16, port: u16) -> Result<bool, NoMemory> {
     let settings = settings_of(alloc, process.node, hub_port, port)?;
     let mut files = files_of(alloc, settings.as_str(), process.script)?;

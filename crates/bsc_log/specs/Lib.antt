@@ -1,0 +1,7 @@
+pub mod Asking
+pub mod Courses
+pub mod Fields
+pub mod Lines
+pub mod Logged
+pub mod Stamps
+pub mod Words

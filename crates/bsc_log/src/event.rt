@@ -1,0 +1,62 @@
+//! What a line tells of a link.
+
+/// Why a hub refused a device that asked to join.
+#[derive(Clone, Copy, Debug, PartialEq, Eq)]
+pub enum Refusal {
+    /// Its VMAC is held, or is the hub's own.
+    DuplicateVmac,
+    /// The hub's rows are taken.
+    TableFull,
+    /// The hub has stopped.
+    Stopped,
+}
+
+/// Why a link ended that was neither refused nor denied.
+#[derive(Clone, Copy, Debug, PartialEq, Eq)]
+pub enum Cause {
+    /// The peer closed the link.
+    PeerClosed,
+    /// The peer asked to be disconnected.
+    PeerLeft,
+    /// The peer sent a text message.
+    TextMessage,
+    /// No Connect-Request joined within the connect wait.
+    ConnectWait,
+    /// No message came for twice the heartbeat.
+    Idle,
+    /// A unicast found the connection's outbox full.
+    OutboxFull,
+    /// A connection of the same device joined in its place.
+    Replaced,
+    /// The hub asked the peer to leave, and no takeover of the connection is known: the hub stopped.
+    Disconnected,
+    /// The hub makes no more calls.
+    HubWorn,
+    /// A line couldn't be put into the session's journal.
+    JournalFault,
+    /// A call on the link failed.
+    LinkFault,
+    /// There was no memory.
+    NoMemory,
+    /// As many receives were made as a session may make.
+    Spent,
+    /// The hub closed the link for something else.
+    Other,
+}
+
+/// What a line tells of a link.
+#[derive(Clone, Copy, Debug, PartialEq, Eq)]
+pub enum Event {
+    /// It joined, as a connection.
+    Joined,
+    /// Its connection took the place of this one, which is of the same device.
+    TookOver(u64),
+    /// The hub refused it.
+    Refused(Refusal),
+    /// The policy doesn't admit its device.
+    Denied,
+    /// It ended.
+    Ended(Cause),
+    /// It got no session.
+    NoSession,
+}

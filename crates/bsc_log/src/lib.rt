@@ -1,0 +1,35 @@
+//! An operator's log: a line on standard error for what becomes of each link of a hub.
+//!
+//! Start at `logged_link`: a `LoggedLink` is a link over another, and tells a line where what is said on it joins, is refused or
+//! ends. `course` has what is known of a link so far, and `closing` what its last call says of it; neither tells anybody.
+//! `logged_acceptor` makes such links of those that arrive, `unlogged_dialer` of those that are dialled, which have no log, and
+//! `logging_of` says whether lines are wanted. Of a line `event` has
+//! what it tells, `line` what stands in it, `writing` its text.
+#![tactic(auto)]
+
+mod asking;
+mod closing;
+mod course;
+mod event;
+mod fields;
+mod line;
+mod log;
+mod logged_acceptor;
+mod logged_link;
+mod logging;
+mod stage;
+mod stamp;
+mod takeovers;
+mod unlogged_dialer;
+mod wanted;
+mod words;
+mod writing;
+
+pub use event::{Cause, Event, Refusal};
+pub use line::Line;
+pub use logged_acceptor::LoggedAcceptor;
+pub use logged_link::LoggedLink;
+pub use logging::Logging;
+pub use stamp::{Stamp, stamp_of};
+pub use unlogged_dialer::UnloggedDialer;
+pub use wanted::logging_of;

@@ -1,0 +1,78 @@
+//! An acceptor of links of which lines are told.
+ghost use Rattle.std.specs.Prelude.{◌≡◌, None, IsSome, List, Option};
+ghost use Rattle.bsc_edge.specs.Told.{Leaves};
+ghost use Rattle.bsc_log.specs.Logged.{Covers, left_by};
+
+use crate::log::Log;
+use crate::logged_link::LoggedLink;
+use crate::logging::Logging;
+use bsc_edge::{Acceptor, Arrived, Failed, LinkFault};
+use bsc_octets::Vmac;
+use std::alloc::Global;
+
+/// An acceptor over another: each link that arrives there is told of, where there is a logging.
+#[derive(Drop)]
+pub struct LoggedAcceptor<A, R> {
+    acceptor: A,
+    logging: Option<Logging<R>>,
+}
+
+impl<A, R> LoggedAcceptor<A, R> {
+    pub fn new(acceptor: A, logging: Option<Logging<R>>) -> LoggedAcceptor<A, R>
+        ensures acceptor { result.acceptor ≡ acceptor }
+        ensures logging { result.logging ≡ logging }
+    {
+        LoggedAcceptor { acceptor, logging }
+    }
+}
+
+/// The log of the next link, where there is a logging.
+fn next_log<R: Copy>(logging: &mut Option<Logging<R>>) -> Option<Log<R>>
+    ensures off { logging.old ≡ None → (result ≡ None) × (logging.new ≡ None) }
+    ensures on { IsSome logging.old → IsSome logging.new }
+{
+    match logging {
+        Some(logging) => logging.next_log(),
+        None => None,
+    }
+}
+
+/// What an acceptor answered, with a log for its link.
+fn covered<L, R: Copy>(
+    logging: &mut Option<Logging<R>>,
+    answer: Result<Arrived<L>, LinkFault>,
+) -> Result<Arrived<LoggedLink<L, R>>, LinkFault>
+    ensures covers { Covers answer result }
+    ensures leaves { (l l' : Option (List L)) → Leaves l l' answer → Leaves (left_by logging.old l) (left_by logging.new l') result }
+{
+    match answer {
+        Ok(Arrived::Link(link)) => { Ok(Arrived::Link(LoggedLink::new(link, next_log(logging)))) }
+        Ok(Arrived::Quiet) => Ok(Arrived::Quiet),
+        Err(fault) => Err(fault),
+    }
+}
+
+impl<L, R: Copy, A: Acceptor<L>> Acceptor<LoggedLink<L, R>> for LoggedAcceptor<A, R> {
+    ghost faults = { λ a. A.faults a.acceptor };
+
+    ghost quiets = { λ a. A.quiets a.acceptor };
+
+    ghost bound = { λ a. A.bound a.acceptor };
+
+    ghost left = { λ a. left_by a.logging (A.left a.acceptor) };
+
+    ghost waits = { λ a. A.waits a.acceptor };
+
+    fn bind(&mut self, port: u16, owner: Vmac) -> Result<(), Failed> {
+        self.acceptor.bind(port, owner)
+    }
+
+    fn next(
+        &mut self,
+        alloc: Global,
+        wait_ms: u32,
+    ) -> Result<Arrived<LoggedLink<L, R>>, LinkFault> {
+        let answer = self.acceptor.next(alloc, wait_ms);
+        covered(&mut self.logging, answer)
+    }
+}

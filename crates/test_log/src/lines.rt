@@ -1,0 +1,114 @@
+//! The text of a line.
+use bsc_log::{Cause, Event, Line, Refusal, stamp_of};
+use bsc_octets::{Identity, NoMemory, read_identity};
+use std::process::Abort;
+use std::test::*;
+use std::time::Duration;
+
+/// Instants in milliseconds of 1970, as Python's `datetime` has them.
+const STAMPS: [(u64, &str); 8] = [
+    (0, "1970-01-01T00:00:00.000Z"),
+    (946_684_799_999, "1999-12-31T23:59:59.999Z"),
+    (951_825_600_000, "2000-02-29T12:00:00.000Z"),
+    (1_709_251_199_001, "2024-02-29T23:59:59.001Z"),
+    (1_795_928_601_123, "2026-11-29T05:03:21.123Z"),
+    (2_147_483_648_500, "2038-01-19T03:14:08.500Z"),
+    (4_107_542_400_010, "2100-03-01T00:00:00.010Z"),
+    // Past the last instant of the calendar that is used, its last one is told.
+    (u64::MAX, "9999-12-30T22:00:00.999Z"),
+];
+
+#[test]
+fn stamps_are_those_of_the_calendar(rt: HostRuntime) {
+    for (millis, wanted) in STAMPS {
+        let stamp = stamp_of(Duration::from_millis(millis));
+        assert!(rt; stamp.as_str() == wanted, "{millis}");
+    }
+}
+
+/// The device 0A0A0A0A-0a0a-.. at 02:00:AB:CD:EF:09, say.
+fn device() -> Identity {
+    read_identity(&[
+        2, 0, 0xAB, 0xCD, 0xEF, 9, 0x01, 0x23, 0x45, 0x67, 0x89, 0xAB, 0xCD, 0xEF, 0x01, 0x23,
+        0x45, 0x67, 0x89, 0xAB, 0xCD, 0xEF, 6, 64, 5, 217,
+    ])
+}
+
+/// What a line tells, whether its link has joined, and what stands behind its link's number.
+const LINES: [(Event, Option<u64>, bool, &str, &str); 8] = [
+    (
+        Event::Joined,
+        Some(12),
+        true,
+        "joined",
+        "connection 12 vmac 0200ABCDEF09 device 01234567-89ab-cdef-0123-456789abcdef received 1 sent 20 cause -",
+    ),
+    (
+        Event::TookOver(7),
+        Some(12),
+        true,
+        "takeover",
+        "connection 12 vmac 0200ABCDEF09 device 01234567-89ab-cdef-0123-456789abcdef received 1 sent 20 cause took over connection 7",
+    ),
+    (
+        Event::Refused(Refusal::DuplicateVmac),
+        None,
+        true,
+        "refused",
+        "connection - vmac 0200ABCDEF09 device 01234567-89ab-cdef-0123-456789abcdef received 1 sent 20 cause duplicate vmac",
+    ),
+    (
+        Event::Refused(Refusal::TableFull),
+        None,
+        true,
+        "refused",
+        "connection - vmac 0200ABCDEF09 device 01234567-89ab-cdef-0123-456789abcdef received 1 sent 20 cause table full",
+    ),
+    (
+        Event::Denied,
+        None,
+        true,
+        "denied",
+        "connection - vmac 0200ABCDEF09 device 01234567-89ab-cdef-0123-456789abcdef received 1 sent 20 cause policy",
+    ),
+    (
+        Event::Ended(Cause::PeerLeft),
+        Some(18_446_744_073_709_551_615),
+        true,
+        "ended",
+        "connection 18446744073709551615 vmac 0200ABCDEF09 device 01234567-89ab-cdef-0123-456789abcdef received 1 sent 20 cause peer left",
+    ),
+    (
+        Event::Ended(Cause::ConnectWait),
+        None,
+        false,
+        "ended",
+        "connection - vmac - device - received 1 sent 20 cause connect wait",
+    ),
+    (
+        Event::NoSession,
+        None,
+        false,
+        "unserved",
+        "connection - vmac - device - received 1 sent 20 cause no session",
+    ),
+];
+
+#[test]
+fn lines_have_one_form(rt: HostRuntime) -> Result<(), NoMemory> {
+    for (event, conn, has_asked, word, rest) in LINES {
+        let line = Line {
+            stamp: stamp_of(Duration::from_millis(1_795_928_601_123)),
+            event,
+            link: 3,
+            conn,
+            who: if has_asked { Some(device()) } else { None },
+            received: 1,
+            sent: 20,
+        };
+        let wanted = format!(in rt.alloc(); "2026-11-29T05:03:21.123Z hub {word} link 3 {rest}")?;
+        let text = format!(in rt.alloc(); "{line}")?;
+        assert!(rt; text.as_str() == wanted.as_str(), "{text}");
+    }
+    Ok(())
+}
