@@ -27,14 +27,14 @@ use Rattle.bsc_desk.specs.declared.forwarding.OneReply.{OneReply}
 use Rattle.bsc_desk.specs.declared.broadcasting.AllReply.{AllReply}
 use Rattle.bsc_desk.specs.declared.broadcasting.AllRefusal.{AllRefusal}
 use Rattle.bsc_desk.specs.Live.{connection}
-use Rattle.bsc_desk.specs.Standing.{StandsFor}
+use Rattle.bsc_desk.specs.Standing.{DeskStands}
 use Rattle.bsc_desk.specs.Entries.{connect_entry, connect_said, connect_adds, connect_stamped, plain, forward_entry, one_adds, one_looks, one_reply, all_adds, all_looks, all_reply}
 use Rattle.bsc_desk.proofs.LiveRows.{any_row}
 use Rattle.bench_hub.specs.Ready.{IsOpen, IsReady}
 use Rattle.bsc_history.proofs.Common.{none_leave as all_stay}
 
 -- what passes for an unleft connection passes for its row
-any_unleft : (d : Desk) (S : List Stamped) (p : Connection → Bool) → StandsFor d S → list_any (λ r. p (connection r)) d.rows.items ≡ list_any p (unleft (entries S))
+any_unleft : (d : Desk) (S : List Stamped) (p : Connection → Bool) → DeskStands d S → list_any (λ r. p (connection r)) d.rows.items ≡ list_any p (unleft (entries S))
 any_unleft d S p s = any_row p d.rows.items ∙ ap (list_any p) s.unleft_rows
 
 -- whose entries are no leaves
@@ -55,7 +55,7 @@ stay_one s stays S p any =
 abbrev is_sender : ℕ → Vmac → Connection → Bool
 is_sender c v x = (x.number == c) && (x.caller == 1) && same_vmac x.who.vmac v
 
-ready_by : (d n : Desk) (c : ℕ) (v : Vmac) (adds : List Stamped) → Stay adds → n.about ≡ d.about → ((S : List Stamped) → StandsFor d S → StandsFor n (S ++ adds)) → IsReady d c v → IsReady n c v
+ready_by : (d n : Desk) (c : ℕ) (v : Vmac) (adds : List Stamped) → Stay adds → n.about ≡ d.about → ((S : List Stamped) → DeskStands d S → DeskStands n (S ++ adds)) → IsReady d c v → IsReady n c v
 ready_by d n c v adds stay about steps ready =
     let S = ready.stands.0 in
     let s = ready.stands.1 in
@@ -78,18 +78,18 @@ stay_broadcast : (conn : ℕ) (m : List ℕ) (r : Result AllReply AllRefusal) �
 stay_broadcast conn m (Ok r) = stay_one (plain (forward_entry 1 conn m (all_looks r) (all_reply r))) (λ c. refl)
 stay_broadcast conn m (Err refusal) = stay_none
 
-pub after_connect : (d n : Desk) (c : ℕ) (v : Vmac) (caller : ℕ) (who : Identity) (m : Mark) (said : Option Reply) → n.about ≡ d.about → ((S : List Stamped) → StandsFor d S → StandsFor n (S ++ connect_adds caller who m said)) → IsReady d c v → IsReady n c v
+pub after_connect : (d n : Desk) (c : ℕ) (v : Vmac) (caller : ℕ) (who : Identity) (m : Mark) (said : Option Reply) → n.about ≡ d.about → ((S : List Stamped) → DeskStands d S → DeskStands n (S ++ connect_adds caller who m said)) → IsReady d c v → IsReady n c v
 after_connect d n c v caller who m said = ready_by d n c v (connect_adds caller who m said) (stay_connect caller who m said)
 
-pub after_unicast : (d n : Desk) (c : ℕ) (v : Vmac) (m : List ℕ) (r : Result OneReply Worn) → n.about ≡ d.about → ((S : List Stamped) → StandsFor d S → StandsFor n (S ++ one_adds 1 c m r)) → IsReady d c v → IsReady n c v
+pub after_unicast : (d n : Desk) (c : ℕ) (v : Vmac) (m : List ℕ) (r : Result OneReply Worn) → n.about ≡ d.about → ((S : List Stamped) → DeskStands d S → DeskStands n (S ++ one_adds 1 c m r)) → IsReady d c v → IsReady n c v
 after_unicast d n c v m r = ready_by d n c v (one_adds 1 c m r) (stay_unicast c m r)
 
-pub after_broadcast : (d n : Desk) (c : ℕ) (v : Vmac) (m : List ℕ) (r : Result AllReply AllRefusal) → n.about ≡ d.about → ((S : List Stamped) → StandsFor d S → StandsFor n (S ++ all_adds 1 c m r)) → IsReady d c v → IsReady n c v
+pub after_broadcast : (d n : Desk) (c : ℕ) (v : Vmac) (m : List ℕ) (r : Result AllReply AllRefusal) → n.about ≡ d.about → ((S : List Stamped) → DeskStands d S → DeskStands n (S ++ all_adds 1 c m r)) → IsReady d c v → IsReady n c v
 after_broadcast d n c v m r = ready_by d n c v (all_adds 1 c m r) (stay_broadcast c m r)
 
 -- member 1 has a row where it joined
 
-joined_any : (n : Desk) (S : List Stamped) (who : Identity) (m : Mark) (conn : ℕ) (replaced : Option ℕ) (p : Connection → Bool) → StandsFor n (S ++ connect_stamped 1 who m (Joined conn replaced) ∷ []) → p (record { number = conn; caller = 1; who = who }) ≡ true → list_any (λ r. p (connection r)) n.rows.items ≡ true
+joined_any : (n : Desk) (S : List Stamped) (who : Identity) (m : Mark) (conn : ℕ) (replaced : Option ℕ) (p : Connection → Bool) → DeskStands n (S ++ connect_stamped 1 who m (Joined conn replaced) ∷ []) → p (record { number = conn; caller = 1; who = who }) ≡ true → list_any (λ r. p (connection r)) n.rows.items ≡ true
 joined_any n S who m conn replaced p s passes =
     let e = connect_entry 1 who (Joined conn replaced) in
     let new : Connection = record { number = conn; caller = 1; who = who } in
@@ -100,7 +100,7 @@ joined_any n S who m conn replaced p s passes =
     ∙ list_any-append p old (new ∷ [])
     ∙ or_right (list_any p old) (list_any p (new ∷ [])) (or_left (p new) false passes)
 
-pub first_ready : (d n : Desk) (who : Identity) (m : Mark) (r : Result NewRow (NoRow × Inlet)) → n.about ≡ d.about → ((S : List Stamped) → StandsFor d S → StandsFor n (S ++ connect_adds 1 who m (connect_said r))) → IsOpen d → IfOk r (λ row. IsReady n row.conn who.vmac)
+pub first_ready : (d n : Desk) (who : Identity) (m : Mark) (r : Result NewRow (NoRow × Inlet)) → n.about ≡ d.about → ((S : List Stamped) → DeskStands d S → DeskStands n (S ++ connect_adds 1 who m (connect_said r))) → IsOpen d → IfOk r (λ row. IsReady n row.conn who.vmac)
 first_ready d n who m (Ok row) about steps o =
     let same = and_from (row.conn == row.conn) (1 == 1) (eq-eqb row.conn row.conn refl) refl in
     record {

@@ -7,9 +7,9 @@ use Rattle.bsc_hub.specs.Passing.{IsCaller, IsOwnAs}
 use Rattle.bench_hub.specs.declared.hub.member.Member.{Member}
 
 -- The pass is of this hub, and its caller has the connection c with the address v.
-abbrev pub Sends : Hub → Pass → ℕ → Vmac → Type 0
-Sends h p c v = IsCaller h p × IsOwnAs p c v
+abbrev pub SendsAs : Hub → Pass → ℕ → Vmac → Type 0
+SendsAs h p c v = IsCaller h p × IsOwnAs p c v
 
 -- A member sends by its pass and its connection.
 abbrev pub IsMember : Hub → Member → Type 0
-IsMember h m = Sends h m.pass m.sender.conn m.sender.address
+IsMember h m = SendsAs h m.pass m.sender.conn m.sender.address

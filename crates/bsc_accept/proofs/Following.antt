@@ -22,7 +22,7 @@ use Rattle.bsc_accept.specs.declared.stage.Stage.TheVariants.{AwaitingRequest, A
 use Rattle.bsc_accept.specs.declared.accepting.Accepting.{Accepting}
 use Rattle.bsc_accept.specs.Past.{Standing, awaiting_request, connected, disconnecting, standing, question, asked_at, message_time, last_message}
 use Rattle.bsc_accept.specs.Steps.{step, closes, message_step, ask_step, connected_step, ended_step, finish_step, tick_step, asked_id, closing, normal}
-use Rattle.bsc_accept.specs.Standing.{StandsFor, open_stage, has_closed, is_open, phase_at, LeftBy}
+use Rattle.bsc_accept.specs.Standing.{AcceptingStands, open_stage, has_closed, is_open, phase_at, LeavesAccepting}
 use Rattle.bsc_accept.specs.Kept.{standing_at, moved, after, after_message}
 use Rattle.bsc_accept.proofs.Looking.{standing-more, last-more, question-more, closed-more}
 
@@ -36,7 +36,7 @@ open_standing false awaiting_request (Some id) st h o = cc
 open_standing false connected q st h o = ap standing_at (sym h)
 open_standing false (disconnecting f) q st h o = ap standing_at (sym h)
 
-pub standing_of_open : (m : Accepting) (s : Start) (E : List Event) → StandsFor m s E → is_open m.stage ≡ true → standing E ≡ standing_at m.stage
+pub standing_of_open : (m : Accepting) (s : Start) (E : List Event) → AcceptingStands m s E → is_open m.stage ≡ true → standing E ≡ standing_at m.stage
 standing_of_open m s E h o = open_standing (has_closed s E) (standing E) (question E) m.stage h.stage o
 
 -- One that has asked has its question before it, and nobody has joined.
@@ -47,7 +47,7 @@ asked_standing false awaiting_request (Some n) id h = (refl, cc)
 asked_standing false connected q id h = cc
 asked_standing false (disconnecting f) q id h = cc
 
-pub standing_of_asked : (m : Accepting) (s : Start) (E : List Event) (id : ℕ) → StandsFor m s E → m.stage ≡ Asked id → (standing E ≡ awaiting_request) × (asked_id E ≡ id)
+pub standing_of_asked : (m : Accepting) (s : Start) (E : List Event) (id : ℕ) → AcceptingStands m s E → m.stage ≡ Asked id → (standing E ≡ awaiting_request) × (asked_id E ≡ id)
 standing_of_asked m s E id h a = asked_standing (has_closed s E) (standing E) (question E) id (sym a ∙ h.stage)
 
 -- Only a connected machine has the phase Connected.
@@ -61,8 +61,8 @@ connected_stage Idle p = cc
 -- ---- one event more
 
 -- A machine that keeps what an event leaves stands for the events with this one.
-goes_on : (m n : Accepting) (s : Start) (E : List Event) (e : Event) → StandsFor m s E → n.start ≡ m.start → n.last ≡ unwrap_or (message_time e) m.last
-    → n.stage ≡ cond (closes (step s E e)) Idle (open_stage (moved (standing E) e) (asked_at e)) → StandsFor n s (E ++ e ∷ [])
+goes_on : (m n : Accepting) (s : Start) (E : List Event) (e : Event) → AcceptingStands m s E → n.start ≡ m.start → n.last ≡ unwrap_or (message_time e) m.last
+    → n.stage ≡ cond (closes (step s E e)) Idle (open_stage (moved (standing E) e) (asked_at e)) → AcceptingStands n s (E ++ e ∷ [])
 goes_on m n s E e h start last waits = record {
   start = start ∙ h.start;
   last = last ∙ ap (λ t. unwrap_or (message_time e) t) h.last ∙ sym (last-more s E e);
@@ -105,9 +105,9 @@ came (Disconnecting f) now (Silent check) o = refl
 came (Disconnecting f) now (Nak check octets) o = refl
 came Idle now v o = cc
 
-pub message_answers : (m n : Accepting) (s : Start) (E : List Event) (now : ℕ) (v : Verdict) (answer : Step) → StandsFor m s E → is_open m.stage ≡ true
+pub message_answers : (m n : Accepting) (s : Start) (E : List Event) (now : ℕ) (v : Verdict) (answer : Step) → AcceptingStands m s E → is_open m.stage ≡ true
     → answer ≡ message_step (standing_at m.stage) v → n ≡ record m { last = now; stage = after_message m.stage v }
-    → (answer ≡ step s E (Came now v)) × StandsFor n s (E ++ Came now v ∷ [])
+    → (answer ≡ step s E (Came now v)) × AcceptingStands n s (E ++ Came now v ∷ [])
 message_answers m n s E now v answer h o is new =
     let g : standing E ≡ standing_at m.stage = standing_of_open m s E h o in (
       is ∙ ap (λ t. message_step t v) (sym g),
@@ -121,9 +121,9 @@ message_answers m n s E now v answer h o is new =
 
 -- ---- the answer on who asked
 
-pub joined_answers : (m n : Accepting) (s : Start) (E : List Event) (id : ℕ) (answer : Step) → StandsFor m s E → m.stage ≡ Asked id
+pub joined_answers : (m n : Accepting) (s : Start) (E : List Event) (id : ℕ) (answer : Step) → AcceptingStands m s E → m.stage ≡ Asked id
     → answer ≡ Put (octets_of (connect_accept id m.start.own)) → n ≡ record m { stage = Connected }
-    → (answer ≡ step s E Joined) × StandsFor n s (E ++ Joined ∷ [])
+    → (answer ≡ step s E Joined) × AcceptingStands n s (E ++ Joined ∷ [])
 joined_answers m n s E id answer h a is new =
     let k : (standing E ≡ awaiting_request) × (asked_id E ≡ id) = standing_of_asked m s E id h a in (
       is ∙ ap (λ own. Put (octets_of (connect_accept id own))) (ap (λ x. x.own) h.start) ∙ ap (λ i. Put (octets_of (connect_accept i s.own))) (sym k.1),
@@ -132,9 +132,9 @@ joined_answers m n s E id answer h a is new =
 
 -- ---- the end
 
-pub ended_answers : (m n : Accepting) (s : Start) (E : List Event) (now : ℕ) (ending : End) (answer : Step) → StandsFor m s E → m.stage ≡ Connected
+pub ended_answers : (m n : Accepting) (s : Start) (E : List Event) (now : ℕ) (ending : End) (answer : Step) → AcceptingStands m s E → m.stage ≡ Connected
     → answer ≡ ended_step ending → n ≡ record m { stage = cond (closes (ended_step ending)) Idle (open_stage (moved connected (Ended now ending)) None) }
-    → (answer ≡ step s E (Ended now ending)) × StandsFor n s (E ++ Ended now ending ∷ [])
+    → (answer ≡ step s E (Ended now ending)) × AcceptingStands n s (E ++ Ended now ending ∷ [])
 ended_answers m n s E now ending answer h a is new =
     let g : standing E ≡ standing_at m.stage = standing_of_open m s E h (ap is_open a) in
     let k : standing E ≡ connected = g ∙ ap standing_at a in (
@@ -143,10 +143,10 @@ ended_answers m n s E now ending answer h a is new =
           (ap (λ x. x.stage) new ∙ ap (λ t. cond (closes (ended_step ending)) Idle (open_stage (moved t (Ended now ending)) None)) (sym k)),
     )
 
-pub finish_answers : (m n : Accepting) (s : Start) (E : List Event) (now id : ℕ) (answer : Step) → StandsFor m s E → is_open m.stage ≡ true
+pub finish_answers : (m n : Accepting) (s : Start) (E : List Event) (now id : ℕ) (answer : Step) → AcceptingStands m s E → is_open m.stage ≡ true
     → answer ≡ finish_step (standing_at m.stage) id
     → n ≡ record m { stage = cond (closes (finish_step (standing_at m.stage) id)) Idle (open_stage (moved (standing_at m.stage) (Finish now id)) None) }
-    → (answer ≡ step s E (Finish now id)) × StandsFor n s (E ++ Finish now id ∷ [])
+    → (answer ≡ step s E (Finish now id)) × AcceptingStands n s (E ++ Finish now id ∷ [])
 finish_answers m n s E now id answer h o is new =
     let g : standing E ≡ standing_at m.stage = standing_of_open m s E h o in (
       is ∙ ap (λ t. finish_step t id) (sym g),
@@ -164,9 +164,9 @@ ticking s last now Connected o = closing_or_not Connected 0 (is_idle s last now)
 ticking s last now (Disconnecting f) o = closing_or_not (Disconnecting f) 0 (disconnect_wait_is_over s f now) normal
 ticking s last now Idle o = cc
 
-pub tick_answers : (m n : Accepting) (s : Start) (E : List Event) (now : ℕ) (answer : Step) → StandsFor m s E → is_open m.stage ≡ true
+pub tick_answers : (m n : Accepting) (s : Start) (E : List Event) (now : ℕ) (answer : Step) → AcceptingStands m s E → is_open m.stage ≡ true
     → answer ≡ tick_step m.start m.last now (standing_at m.stage) → n ≡ record m { stage = after m.stage 0 answer }
-    → (answer ≡ step s E (Tick now)) × StandsFor n s (E ++ Tick now ∷ [])
+    → (answer ≡ step s E (Tick now)) × AcceptingStands n s (E ++ Tick now ∷ [])
 tick_answers m n s E now answer h o is new =
     let g : standing E ≡ standing_at m.stage = standing_of_open m s E h o in
     let here : answer ≡ step s E (Tick now) =
@@ -186,7 +186,7 @@ tick_answers m n s E now answer h o is new =
 
 -- ---- which calls may be made next
 
-pub left_after : (m n : Accepting) (id : ℕ) (answer : Step) → is_open m.stage ≡ true → n ≡ record m { stage = after m.stage id answer } → LeftBy answer n
+pub left_after : (m n : Accepting) (id : ℕ) (answer : Step) → is_open m.stage ≡ true → n ≡ record m { stage = after m.stage id answer } → LeavesAccepting answer n
 left_after m n id (Ask who) o new = record { id = id; asked = ap (λ x. x.stage) new }
 left_after m n id (Put octets) o new = ap (λ x. is_open x.stage) new ∙ o
 left_after m n id (PutClose octets c) o new = ap (λ x. x.stage) new

@@ -34,15 +34,15 @@ abbrev pub stage : Start → List Event → Stage
 stage s E = if has_closed s E then Idle else open_stage (standing E) (question E)
 
 -- The machine started so and was told these events, newest last.
-pub record StandsFor (m : Accepting) (s : Start) (E : List Event) : Type 0 where
+pub record AcceptingStands (m : Accepting) (s : Start) (E : List Event) : Type 0 where
   pub start : m.start ≡ s
   pub last : m.last ≡ last_message s E
   pub stage : m.stage ≡ stage s E
 
 -- For whatever start and events it stood, the step is theirs, and it stands for them and this event.
-abbrev pub Answers : Accepting → Accepting → Event → Step → Type 0
-Answers old new e answer = (s : Start) (E : List Event) → StandsFor old s E
-    → (answer ≡ step s E e) × StandsFor new s (E ++ e ∷ [])
+abbrev pub AcceptingAnswers : Accepting → Accepting → Event → Step → Type 0
+AcceptingAnswers old new e answer = (s : Start) (E : List Event) → AcceptingStands old s E
+    → (answer ≡ step s E e) × AcceptingStands new s (E ++ e ∷ [])
 
 -- ---- which calls may be made
 
@@ -78,8 +78,8 @@ abbrev pub IsOver : Accepting → Type 0
 IsOver m = m.stage ≡ Idle
 
 -- How a step leaves the machine: after an Ask it awaits the answer, after a closing it is over, and else it is open.
-abbrev pub LeftBy : Step → Accepting → Type 0
-LeftBy (Ask who) m = AwaitsAnswer m
-LeftBy (PutClose octets c) m = IsOver m
-LeftBy (Close c) m = IsOver m
-LeftBy other m = IsOpen m
+abbrev pub LeavesAccepting : Step → Accepting → Type 0
+LeavesAccepting (Ask who) m = AwaitsAnswer m
+LeavesAccepting (PutClose octets c) m = IsOver m
+LeavesAccepting (Close c) m = IsOver m
+LeavesAccepting other m = IsOpen m

@@ -5,7 +5,7 @@ ghost use Rattle.bsc_accept.specs.declared.start.Start.{Start};
 ghost use Rattle.bsc_accept.specs.declared.event.Event.{Event};
 ghost use Rattle.bsc_accept.specs.Past.{phase};
 ghost use Rattle.bsc_accept.specs.Steps.{refused_step};
-ghost use Rattle.bsc_accept.specs.Standing.{StandsFor, Answers, AwaitsAnswer, IsOpen, IsConnected, IsOver, LeftBy, phase_of};
+ghost use Rattle.bsc_accept.specs.Standing.{AcceptingStands, AcceptingAnswers, AwaitsAnswer, IsOpen, IsConnected, IsOver, LeavesAccepting, phase_of};
 
 use crate::closing::Closing;
 use crate::replies::{connect_accept, duplicate_vmac, with_room};
@@ -49,7 +49,7 @@ fn refused_step(id: u16, refusal: &Refusal) -> Step
 impl Accepting {
     /// A machine that starts now.
     pub fn start(own: Identity, times: Times, now: u64) -> Accepting
-        ensures stands { StandsFor result (record { own = own; times = times; at = now }) [] }
+        ensures stands { AcceptingStands result (record { own = own; times = times; at = now }) [] }
         ensures open { IsOpen result }
     {
         let start = Start {
@@ -67,7 +67,7 @@ impl Accepting {
     /// The phase.
     pub fn phase(&self) -> Phase
         ensures kept { result ≡ phase_of self.now }
-        ensures told { (s : Start) (E : List Event) → StandsFor self.now s E → ¬ IsOver self.now
+        ensures told { (s : Start) (E : List Event) → AcceptingStands self.now s E → ¬ IsOver self.now
             → result ≡ phase E }
     {
         match self.stage {
@@ -80,8 +80,8 @@ impl Accepting {
     /// A message came, and was judged so.
     pub fn message(&mut self, now: u64, verdict: &Verdict) -> Step
         requires { IsOpen self.old }
-        ensures step { Answers self.old self.new (Event.Message now verdict.now) result }
-        ensures left { LeftBy result self.new }
+        ensures step { AcceptingAnswers self.old self.new (Event.Message now verdict.now) result }
+        ensures left { LeavesAccepting result self.new }
     {
         self.last = now;
         match verdict {
@@ -95,8 +95,8 @@ impl Accepting {
     /// Who asked has joined.
     pub fn joined(&mut self) -> Step
         requires { AwaitsAnswer self.old }
-        ensures step { Answers self.old self.new Event.Joined result }
-        ensures left { LeftBy result self.new }
+        ensures step { AcceptingAnswers self.old self.new Event.Joined result }
+        ensures left { LeavesAccepting result self.new }
         ensures connected { IsConnected self.new }
     {
         match self.stage {
@@ -112,8 +112,8 @@ impl Accepting {
     /// Who asked was refused.
     pub fn refused(&mut self, refusal: &Refusal) -> Step
         requires { AwaitsAnswer self.old }
-        ensures step { Answers self.old self.new (Event.Refused refusal.now) result }
-        ensures left { LeftBy result self.new }
+        ensures step { AcceptingAnswers self.old self.new (Event.Refused refusal.now) result }
+        ensures left { LeavesAccepting result self.new }
     {
         match self.stage {
             Stage::Asked { id } => {
@@ -128,8 +128,8 @@ impl Accepting {
     pub fn ended(&mut self, now: u64, ending: End) -> Step
         requires connected { IsConnected self.old }
         requires ending { ending ≢ End.Left }
-        ensures step { Answers self.old self.new (Event.Ended now ending) result }
-        ensures left { LeftBy result self.new }
+        ensures step { AcceptingAnswers self.old self.new (Event.Ended now ending) result }
+        ensures left { LeavesAccepting result self.new }
     {
         match ending {
             End::Full => self.close(Closing::OUTBOX_FULL),
@@ -141,8 +141,8 @@ impl Accepting {
     /// The connection is to end, by a Disconnect-Request with this Message ID.
     pub fn finish(&mut self, now: u64, id: u16) -> Step
         requires { IsOpen self.old }
-        ensures step { Answers self.old self.new (Event.Finish now id) result }
-        ensures left { LeftBy result self.new }
+        ensures step { AcceptingAnswers self.old self.new (Event.Finish now id) result }
+        ensures left { LeavesAccepting result self.new }
     {
         match self.stage {
             Stage::AwaitingRequest => self.close(Closing::NORMAL),
@@ -155,8 +155,8 @@ impl Accepting {
     /// Time has passed.
     pub fn tick(&mut self, now: u64) -> Step
         requires { IsOpen self.old }
-        ensures step { Answers self.old self.new (Event.Tick now) result }
-        ensures left { LeftBy result self.new }
+        ensures step { AcceptingAnswers self.old self.new (Event.Tick now) result }
+        ensures left { LeavesAccepting result self.new }
     {
         let times = self.start.times;
         match self.stage {

@@ -7,7 +7,7 @@ use Rattle.bsc_history.specs.declared.limits.About.{About}
 use Rattle.bsc_history.specs.Legality.{Legal}
 use Rattle.bsc_places.specs.declared.spot.Spot.{Spot}
 use Rattle.bsc_legality.specs.declared.legality.Legality.{Legality}
-use Rattle.bsc_legality.specs.Standing.{StandsFor}
+use Rattle.bsc_legality.specs.Standing.{LegalityStands}
 use Rattle.bsc_lines.specs.Lines.{entry_line}
 use Rattle.bsc_journal.specs.Saying.{IsLineOf}
 use Rattle.bsc_journal.specs.Journals.{HaveLines, lines_from}
@@ -20,11 +20,11 @@ pub record Judged (about : About) (o : List ℕ) (left : List Spot) (l : Legalit
   pub others : List Entry
   pub parts : H ≡ done ++ others
   pub count : place ≡ length done
-  pub stands : StandsFor l about done
+  pub stands : LegalityStands l about done
   pub lines : map (line_at o) left ≡ lines_from place others
   pub have : HaveLines place others
 
-pub none_judged : (about : About) (o : List ℕ) (spots : List Spot) (l : Legality) (H : List Entry) → StandsFor l about [] → AreInOrder o spots H → Judged about o spots l 0 H
+pub none_judged : (about : About) (o : List ℕ) (spots : List Spot) (l : Legality) (H : List Entry) → LegalityStands l about [] → AreInOrder o spots H → Judged about o spots l 0 H
 none_judged about o spots l H stands order = record { done = []; others = H; parts = refl; count = refl; stands = stands; lines = order.lines; have = order.have }
 
 -- The next entry, whose line stands at a spot.
@@ -34,7 +34,7 @@ pub record IsNext (about : About) (o : List ℕ) (spot : Spot) (left : List Spot
   pub others : List Entry
   pub parts : H ≡ done ++ entry ∷ others
   pub count : place ≡ length done
-  pub stands : StandsFor l about done
+  pub stands : LegalityStands l about done
   pub is : IsLineOf (line_at o spot) place entry
   pub lines : map (line_at o) left ≡ lines_from (place + 1) others
   pub have : HaveLines (place + 1) others
@@ -44,7 +44,7 @@ first_line l [] = l
 first_line l (m ∷ ms) = m
 
 next_of : (about : About) (o : List ℕ) (spot : Spot) (left : List Spot) (l : Legality) (place : ℕ) (H done others : List Entry) →
-    H ≡ done ++ others → place ≡ length done → StandsFor l about done → map (line_at o) (spot ∷ left) ≡ lines_from place others → HaveLines place others →
+    H ≡ done ++ others → place ≡ length done → LegalityStands l about done → map (line_at o) (spot ∷ left) ≡ lines_from place others → HaveLines place others →
     IsNext about o spot left l place H
 unfolding first_line
 next_of about o spot left l place H done [] parts count stands lines have = absurd (let no : line_at o spot ∷ map (line_at o) left ≡ [] = lines in cc)
@@ -65,7 +65,7 @@ next_judged about o spot left l place H j = next_of about o spot left l place H 
 
 -- the next entry is legal behind those before it
 pub one_judged : (about : About) (o : List ℕ) (spot : Spot) (left : List Spot) (l l' : Legality) (place : ℕ) (H : List Entry) (next : IsNext about o spot left l place H) →
-    StandsFor l' about (next.done ++ next.entry ∷ []) → Judged about o left l' (place + 1) H
+    LegalityStands l' about (next.done ++ next.entry ∷ []) → Judged about o left l' (place + 1) H
 one_judged about o spot left l l' place H next stands = record {
   done = next.done ++ next.entry ∷ [];
   others = next.others;

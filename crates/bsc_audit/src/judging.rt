@@ -3,7 +3,7 @@ ghost use Rattle.std.specs.Prelude.{◌≡◌, ◌<◌, ◌^◌, ◌↔◌, ◌+
 ghost use Rattle.bsc_history.specs.declared.entry.Entry.{Entry as EntryOf};
 ghost use Rattle.bsc_history.specs.declared.limits.About.{About as AboutOf};
 ghost use Rattle.bsc_history.specs.Legality.{Legal};
-ghost use Rattle.bsc_legality.specs.Standing.{StandsFor};
+ghost use Rattle.bsc_legality.specs.Standing.{LegalityStands};
 ghost use Rattle.bsc_journal.specs.Saying.{IsLineOf};
 ghost use Rattle.bsc_audit.specs.Hearing.{AreInOrder, HasHeardAll, line_at};
 ghost use Rattle.bsc_audit.specs.Judging.{IsOfWhole, Judges};
@@ -58,14 +58,14 @@ fn judge_one(
     legality: &mut Legality,
 ) -> Result<bool, NoMemory>
     requires line { (place : ℕ) × (e : EntryOf) × IsLineOf (line_at octets.now spot.now) place e }
-    requires some { (about : AboutOf) × (H : List EntryOf) × StandsFor legality.old about H }
+    requires some { (about : AboutOf) × (H : List EntryOf) × LegalityStands legality.old about H }
     requires few { legality.old.entries < 2 ^ 31 }
     ensures legal { IfOk result (λ lawful. (about : AboutOf) (H : List EntryOf) (place : ℕ) (e : EntryOf) →
-        StandsFor legality.old about H → IsLineOf (line_at octets.now spot.now) place e →
+        LegalityStands legality.old about H → IsLineOf (line_at octets.now spot.now) place e →
         IsTrue lawful ↔ Legal about (H ++ e ∷ [])) }
     ensures stands { IfOk result (λ lawful. (about : AboutOf) (H : List EntryOf) (place : ℕ) (e : EntryOf) →
-        StandsFor legality.old about H → IsLineOf (line_at octets.now spot.now) place e → IsTrue lawful →
-        StandsFor legality.new about (H ++ e ∷ [])) }
+        LegalityStands legality.old about H → IsLineOf (line_at octets.now spot.now) place e → IsTrue lawful →
+        LegalityStands legality.new about (H ++ e ∷ [])) }
 {
     let entry = entry_at(alloc, octets, spot)?;
     Ok(legality.entry(&entry))

@@ -4,6 +4,7 @@ ghost use Rattle.hex.specs.Hex.{encode_upper};
 ghost use Rattle.bsc_check_lines.specs.Answering.{check_name, verdict_line};
 
 use bsc_checks::{Check, Verdict};
+use bsc_lines::{put_hex, put_words};
 use bsc_octets::NoMemory;
 use std::alloc::Global;
 
@@ -29,24 +30,6 @@ pub fn check_name(check: Check) -> &'static str
         Check::C12 => "C12",
         Check::C13 => "C13",
     }
-}
-
-/// Puts words of text.
-fn put_words(text: &mut Vec<u8>, words: &str) -> Result<(), NoMemory>
-    ensures { IfOk result (λ _. text.new.items ≡ text.old.items ++ words.now) }
-{
-    text.extend_from_slice(words.as_bytes())?;
-    Ok(())
-}
-
-/// Puts octets as hexadecimal digits, with letters in upper case.
-fn put_hex(text: &mut Vec<u8>, alloc: Global, octets: &[u8]) -> Result<(), NoMemory>
-    ensures { IfOk result (λ _. text.new.items ≡ text.old.items ++ encode_upper octets.now) }
-{
-    let Ok(digits) = hex::encode_upper(alloc, octets) else {
-        return Err(NoMemory);
-    };
-    put_words(text, digits.as_str())
 }
 
 /// Puts the line of silence at a check.

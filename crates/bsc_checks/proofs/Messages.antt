@@ -9,7 +9,7 @@ use Rattle.bsc_options.specs.declared.item.OptionItem.{OptionItem}
 use Rattle.bsc_options.specs.Spelling.{spelling_of}
 use Rattle.bsc_frame.specs.declared.message.Message.{Message}
 use Rattle.bsc_frame.specs.Layout.{announces_dest_options, announces_data_options, options_at, IsList, IsPayload}
-use Rattle.bsc_frame.specs.Checks.{Fails, order, IsShort, LacksAddressOctets, HasBadOption, HasMisplacedDataOptions}
+use Rattle.bsc_frame.specs.Checks.{MessageFails, order, IsShort, LacksAddressOctets, HasBadOption, HasMisplacedDataOptions}
 use Rattle.bsc_frame.specs.Payloads.{function_of, payload_of}
 use Rattle.bsc_frame.specs.Spelling.{Spells, TakesDataOptions}
 use Rattle.bsc_frame.specs.Walk.{HasHead}
@@ -91,7 +91,7 @@ list_within b m at items end list le =
     let spelled = list_spelled b m at items end list in
     omega (arith, ap length spelled, length-append (spelling_of items) (drop end m), length-drop at m, length-drop end m)
 
-spelled_by : (m : List ℕ) (d e : Option Found) → AreOctets m → BothSay m d e → Pass (Fails m) order → Spells (message_of (envelope_in m) (items_of d) (items_of e) (body_in (function_in m) (rest_of e))) m
+spelled_by : (m : List ℕ) (d e : Option Found) → AreOctets m → BothSay m d e → Pass (MessageFails m) order → Spells (message_of (envelope_in m) (items_of d) (items_of e) (body_in (function_in m) (rest_of e))) m
 spelled_by m None None octets says pass = absurd (pass.1.1.1.1.0 (inl says))
 spelled_by m None (Some g) octets says pass = absurd says
 spelled_by m (Some f) None octets says pass = absurd (pass.1.1.1.1.0 (inr (data_of m says.0 f.items _ says.1 (says.2, says.3))))
@@ -121,5 +121,5 @@ spelled_by m (Some f) (Some g) octets says pass =
     }) body in
     subst (λ (p : List ℕ). Spells (message_of (envelope_in m) f.items g.items (body_in (function_in m) p)) m) (sym says.3) spells
 
-pub message_spelled : (m : List ℕ) → AreOctets m → Pass (Fails m) order → Spells (message_in m) m
+pub message_spelled : (m : List ℕ) → AreOctets m → Pass (MessageFails m) order → Spells (message_in m) m
 message_spelled m octets pass = spelled_by m (dest_options_in m) (data_options_in m) octets (both_say m octets) pass

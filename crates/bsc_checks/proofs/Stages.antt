@@ -18,7 +18,7 @@ use Rattle.bsc_checks.specs.declared.refusal.Refusal.{Refusal}
 use Rattle.bsc_checks.specs.Places.{origin_in, is_to_carry, IsInPlace}
 use Rattle.bsc_checks.specs.Table.{Fails, later_checks, IsOutOfPlace}
 use Rattle.bsc_checks.specs.Naks.{IsMarker}
-use Rattle.bsc_checks.specs.Walk.{IsHead, HasEnds, NoneOf, Answers, OptionsAnswer, PayloadAnswers, between, from_flags, option_checks}
+use Rattle.bsc_checks.specs.Walk.{IsHead, HasEnds, NoneOf, ChecksAnswer, OptionsAnswer, PayloadAnswers, between, from_flags, option_checks}
 use Rattle.bsc_checks.proofs.Firsts.{first_here, first_after}
 use Rattle.bsc_checks.proofs.Lists.{plain}
 use Rattle.bsc_frame.proofs.Common.{of_payload}
@@ -52,10 +52,10 @@ plain_marker m f p k fault = refl
 abbrev last_checks : List Check
 last_checks = payload_checks ++ C12 ∷ []
 
-between_first : (m : List ℕ) (place : Place) (max : ℕ) (b : Bool) (r : Refusal) → b ≡ false → IsFirstOf later_checks (Fails m place max) r.check → IsMarker m r.check r.marker → Answers (between b) m place max (Some r)
+between_first : (m : List ℕ) (place : Place) (max : ℕ) (b : Bool) (r : Refusal) → b ≡ false → IsFirstOf later_checks (Fails m place max) r.check → IsMarker m r.check r.marker → ChecksAnswer (between b) m place max (Some r)
 between_first m place max b r clear first marker = rw clear (first, marker)
 
-pub unknown_first : (m : List ℕ) (e : Envelope) (place : Place) (max : ℕ) (b : Bool) (r : Refusal) → b ≡ false → r ≡ plain C6 → IsHead m e → 0x0C < e.function → Answers (between b) m place max (Some r)
+pub unknown_first : (m : List ℕ) (e : Envelope) (place : Place) (max : ℕ) (b : Bool) (r : Refusal) → b ≡ false → r ≡ plain C6 → IsHead m e → 0x0C < e.function → ChecksAnswer (between b) m place max (Some r)
 unknown_first m e place max b r clear is head unknown =
     let same = head.function in
     rw is (between_first m place max b (plain C6) clear (first_here (Fails m place max) C6 (option_checks ++ last_checks) (omega arith)) refl)
@@ -63,7 +63,7 @@ unknown_first m e place max b r clear is head unknown =
 known : (m : List ℕ) (e : Envelope) (place : Place) (max : ℕ) → IsHead m e → e.function ≤ 0x0C → Fails m place max C6 → ⊥
 known m e place max head few unknown = absurd (let same = head.function in omega arith)
 
-pub options_first : (m : List ℕ) (e : Envelope) (place : Place) (max : ℕ) (b : Bool) (r : Refusal) → b ≡ false → IsHead m e → e.function ≤ 0x0C → OptionsAnswer m place max (Err r) → Answers (between b) m place max (Some r)
+pub options_first : (m : List ℕ) (e : Envelope) (place : Place) (max : ℕ) (b : Bool) (r : Refusal) → b ≡ false → IsHead m e → e.function ≤ 0x0C → OptionsAnswer m place max (Err r) → ChecksAnswer (between b) m place max (Some r)
 options_first m e place max b r clear head few answer =
     between_first m place max b r clear (first_after (Fails m place max) C6 (option_checks ++ last_checks) r.check (known m e place max head few) (first_earlier (Fails m place max) option_checks last_checks r.check answer.0)) answer.1
 
@@ -72,7 +72,7 @@ front_passes : (m : List ℕ) (e : Envelope) (place : Place) (max : ℕ) (ends :
 front_passes m e place max ends head few answer = (known m e place max head few, answer.1)
 
 pub payload_first : (m : List ℕ) (e : Envelope) (place : Place) (max : ℕ) (b : Bool) (r : Refusal) (ends : Ends) (p : List ℕ) (k : Check) → b ≡ false → IsHead m e → e.function ≤ 0x0C → OptionsAnswer m place max (Ok ends) → p ≡ drop ends.data m
-    → r ≡ plain k → PayloadAnswers e.function p (Some k) → Answers (between b) m place max (Some r)
+    → r ≡ plain k → PayloadAnswers e.function p (Some k) → ChecksAnswer (between b) m place max (Some r)
 payload_first m e place max b r ends p k clear head few answer rest is first =
     let fails = Fails m place max in
     let has = answer.0 in
@@ -94,13 +94,13 @@ all_but_last m e place max ends p head few answer rest pass =
     (payload_passes m place max e.function p (payload_from m place max e.function p head.function (one_here m ends has.0 has.1 p has.2 rest)) pass)
 
 pub proprietary_first : (m : List ℕ) (e : Envelope) (place : Place) (max : ℕ) (b : Bool) (r : Refusal) (ends : Ends) (p : List ℕ) → b ≡ false → IsHead m e → e.function ≤ 0x0C → OptionsAnswer m place max (Ok ends) → p ≡ drop ends.data m
-    → PayloadAnswers e.function p None → r ≡ plain C12 → e.function ≡ 0x0C → Answers (between b) m place max (Some r)
+    → PayloadAnswers e.function p None → r ≡ plain C12 → e.function ≡ 0x0C → ChecksAnswer (between b) m place max (Some r)
 proprietary_first m e place max b r ends p clear head few answer rest pass is own =
     let fails = Fails m place max in
     rw is (between_first m place max b (plain C12) clear (first_later fails ((C6 ∷ option_checks) ++ payload_checks) (C12 ∷ []) C12 (all_but_last m e place max ends p head few answer rest pass) (first_here fails C12 [] (head.function ∙ own))) refl)
 
 pub between_pass : (m : List ℕ) (e : Envelope) (place : Place) (max : ℕ) (b : Bool) (ends : Ends) (p : List ℕ) → b ≡ false → IsHead m e → e.function ≤ 0x0C → OptionsAnswer m place max (Ok ends) → p ≡ drop ends.data m
-    → PayloadAnswers e.function p None → (e.function ≡ 0x0C → ⊥) → Answers (between b) m place max None
+    → PayloadAnswers e.function p None → (e.function ≡ 0x0C → ⊥) → ChecksAnswer (between b) m place max None
 between_pass m e place max b ends p clear head few answer rest pass other =
     let all : NoneOf later_checks m place max =
     pass_append (Fails m place max) ((C6 ∷ option_checks) ++ payload_checks) (C12 ∷ []) (all_but_last m e place max ends p head few answer rest pass) ((λ own. other (sym head.function ∙ own)), tt) in
@@ -108,7 +108,7 @@ between_pass m e place max b ends p clear head few answer rest pass other =
 
 -- ---- the checks from that of the reserved flags on
 
-pub reserved_first : (m : List ℕ) (e : Envelope) (place : Place) (max : ℕ) (r : Refusal) → r ≡ plain C5 → IsHead m e → 0x0F < e.flags → Answers (from_flags (is_to_carry place m)) m place max (Some r)
+pub reserved_first : (m : List ℕ) (e : Envelope) (place : Place) (max : ℕ) (r : Refusal) → r ≡ plain C5 → IsHead m e → 0x0F < e.flags → ChecksAnswer (from_flags (is_to_carry place m)) m place max (Some r)
 reserved_first m e place max r is head reserved =
     let same = head.flags in
     rw is (first_here (Fails m place max) C5 (between (is_to_carry place m) ++ C13 ∷ []) (omega arith), refl)
@@ -116,10 +116,10 @@ reserved_first m e place max r is head reserved =
 not_reserved : (m : List ℕ) (e : Envelope) (place : Place) (max : ℕ) → IsHead m e → e.flags ≤ 0x0F → Fails m place max C5 → ⊥
 not_reserved m e place max head few reserved = absurd (let same = head.flags in omega arith)
 
-pub later_first : (m : List ℕ) (e : Envelope) (place : Place) (max : ℕ) (b : Bool) (r : Refusal) → b ≡ is_to_carry place m → IsHead m e → e.flags ≤ 0x0F → Answers (between b) m place max (Some r) → Answers (from_flags (is_to_carry place m)) m place max (Some r)
+pub later_first : (m : List ℕ) (e : Envelope) (place : Place) (max : ℕ) (b : Bool) (r : Refusal) → b ≡ is_to_carry place m → IsHead m e → e.flags ≤ 0x0F → ChecksAnswer (between b) m place max (Some r) → ChecksAnswer (from_flags (is_to_carry place m)) m place max (Some r)
 later_first m e place max b r is head few answer =
     let fails = Fails m place max in
-    subst (λ (c : Bool). Answers (from_flags c) m place max (Some r)) is
+    subst (λ (c : Bool). ChecksAnswer (from_flags c) m place max (Some r)) is
     (first_after fails C5 (between b ++ C13 ∷ []) r.check (not_reserved m e place max head few) (first_earlier fails (between b) (C13 ∷ []) r.check answer.0), answer.1)
 
 -- the message is out of place where its function and its address are
@@ -133,18 +133,18 @@ out_of m e place b is head out inside =
     out (subst (λ (f : ℕ). IsInPlace (is_to_carry place m) place f (origin_in m)) (sym head.function)
     (subst (λ (v : Option Vmac). IsInPlace (is_to_carry place m) place e.function v) head.origin (subst (λ (c : Bool). IsInPlace c place e.function e.origin) is inside)))
 
-pub out_first : (m : List ℕ) (e : Envelope) (place : Place) (max : ℕ) (b : Bool) (r : Refusal) → b ≡ is_to_carry place m → IsHead m e → e.flags ≤ 0x0F → Answers (between b) m place max None → r ≡ plain C13 → (IsInPlace b place e.function e.origin → ⊥)
-    → Answers (from_flags (is_to_carry place m)) m place max (Some r)
+pub out_first : (m : List ℕ) (e : Envelope) (place : Place) (max : ℕ) (b : Bool) (r : Refusal) → b ≡ is_to_carry place m → IsHead m e → e.flags ≤ 0x0F → ChecksAnswer (between b) m place max None → r ≡ plain C13 → (IsInPlace b place e.function e.origin → ⊥)
+    → ChecksAnswer (from_flags (is_to_carry place m)) m place max (Some r)
 out_first m e place max b r is head few pass plainly out =
     let fails = Fails m place max in
-    let whole : Answers (from_flags b) m place max (Some (plain C13)) =
+    let whole : ChecksAnswer (from_flags b) m place max (Some (plain C13)) =
     (first_after fails C5 (between b ++ C13 ∷ []) C13 (not_reserved m e place max head few) (first_later fails (between b) (C13 ∷ []) C13 pass (first_here fails C13 [] (out_by m e place b is head out))), refl) in
-    rw plainly (subst (λ (c : Bool). Answers (from_flags c) m place max (Some (plain C13))) is whole)
+    rw plainly (subst (λ (c : Bool). ChecksAnswer (from_flags c) m place max (Some (plain C13))) is whole)
 
-pub from_flags_pass : (m : List ℕ) (e : Envelope) (place : Place) (max : ℕ) (b : Bool) → b ≡ is_to_carry place m → IsHead m e → e.flags ≤ 0x0F → Answers (between b) m place max None → ((IsInPlace b place e.function e.origin → ⊥) → ⊥)
-    → Answers (from_flags (is_to_carry place m)) m place max None
+pub from_flags_pass : (m : List ℕ) (e : Envelope) (place : Place) (max : ℕ) (b : Bool) → b ≡ is_to_carry place m → IsHead m e → e.flags ≤ 0x0F → ChecksAnswer (between b) m place max None → ((IsInPlace b place e.function e.origin → ⊥) → ⊥)
+    → ChecksAnswer (from_flags (is_to_carry place m)) m place max None
 from_flags_pass m e place max b is head few pass inside =
     let fails = Fails m place max in
-    let whole : Answers (from_flags b) m place max None =
+    let whole : ChecksAnswer (from_flags b) m place max None =
     (not_reserved m e place max head few, pass_append fails (between b) (C13 ∷ []) pass ((λ out. inside (out_of m e place b is head out)), tt)) in
-    subst (λ (c : Bool). Answers (from_flags c) m place max None) is whole
+    subst (λ (c : Bool). ChecksAnswer (from_flags c) m place max None) is whole

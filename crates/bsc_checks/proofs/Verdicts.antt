@@ -8,7 +8,7 @@ use Rattle.bsc_frame.specs.declared.message.Message.{Message}
 use Rattle.bsc_frame.specs.declared.fault.FrameFault.{FrameFault}
 use Rattle.bsc_frame.specs.Spelling.{Spells}
 use Rattle.bsc_frame.specs.Checks.{order}
-use Rattle.bsc_frame.specs.Checks.{Fails as FrameFails}
+use Rattle.bsc_frame.specs.Checks.{MessageFails}
 use Rattle.bsc_frame.specs.Checks.{IsFirst as IsFrameFirst}
 use Rattle.bsc_frame.specs.declared.fault.FrameFault.TheVariants as faults
 use Rattle.bsc_frame.proofs.First.{pass_append, first_later, first_earlier, first_or_none}
@@ -20,7 +20,7 @@ use Rattle.bsc_checks.specs.Places.{origin_in, is_to_carry, phase_of, IsInPlace}
 use Rattle.bsc_checks.specs.Table.{Fails, IsFirst, NoneFails}
 use Rattle.bsc_checks.specs.Verdicts.{Judged}
 use Rattle.bsc_checks.proofs.InPlace.{connected_or_not}
-use Rattle.bsc_checks.specs.Walk.{IsHead, NoneOf, Answers, HeadAnswers, from_flags, silent_checks}
+use Rattle.bsc_checks.specs.Walk.{IsHead, NoneOf, ChecksAnswer, HeadAnswers, from_flags, silent_checks}
 
 -- ---- from the stages to the whole
 
@@ -28,10 +28,10 @@ pub silent_head : (m : List ℕ) (place : Place) (max : ℕ) (k : Check) → Hea
 silent_head m place max k answer =
     (first_earlier (Fails m place max) silent_checks (from_flags (is_to_carry place m)) k answer.0, (λ code answered. let both : ◌≡◌ {A = Option ℕ} None (Some code) = sym answer.1 ∙ answered.code_is in absurd cc))
 
-pub first_of_all : (m : List ℕ) (place : Place) (max : ℕ) (r : Refusal) → NoneOf silent_checks m place max → Answers (from_flags (is_to_carry place m)) m place max (Some r) → IsFirst r.check m place max
+pub first_of_all : (m : List ℕ) (place : Place) (max : ℕ) (r : Refusal) → NoneOf silent_checks m place max → ChecksAnswer (from_flags (is_to_carry place m)) m place max (Some r) → IsFirst r.check m place max
 first_of_all m place max r pass answer = first_later (Fails m place max) silent_checks (from_flags (is_to_carry place m)) r.check pass answer.0
 
-pub none_of_all : (m : List ℕ) (place : Place) (max : ℕ) → NoneOf silent_checks m place max → Answers (from_flags (is_to_carry place m)) m place max None → NoneFails m place max
+pub none_of_all : (m : List ℕ) (place : Place) (max : ℕ) → NoneOf silent_checks m place max → ChecksAnswer (from_flags (is_to_carry place m)) m place max None → NoneFails m place max
 none_of_all m place max pass rest = pass_append (Fails m place max) silent_checks (from_flags (is_to_carry place m)) pass rest
 
 pub carried : (m : List ℕ) (e : Envelope) (place : Place) (max : ℕ) (b : Bool) → b ≡ is_to_carry place m → b ≡ true → IsHead m e → NoneFails m place max → Judged m place max (Carry e)
@@ -41,7 +41,7 @@ carried m e place max b is set head none = (none, sym is ∙ set, head.spells, h
 not_carried : (m : List ℕ) (place : Place) (max : ℕ) → is_to_carry place m ≡ false → NoneFails m place max → NoneOf (silent_checks ++ from_flags false) m place max
 not_carried m place max other none = subst (λ (b : Bool). NoneOf (silent_checks ++ from_flags b) m place max) other none
 
-pub frame_passes : (m : List ℕ) (place : Place) (max : ℕ) (b : Bool) → b ≡ is_to_carry place m → b ≡ false → NoneFails m place max → AllByRecursion (λ check. ¬ FrameFails m check) order
+pub frame_passes : (m : List ℕ) (place : Place) (max : ℕ) (b : Bool) → b ≡ is_to_carry place m → b ≡ false → NoneFails m place max → AllByRecursion (λ check. ¬ MessageFails m check) order
 frame_passes m place max b is clear none =
     let all = not_carried m place max (sym is ∙ clear) none in
     let lists = all.1.1.1.1.1 in
@@ -53,8 +53,8 @@ passed m place max b msg is clear none spells = (none, sym is ∙ clear, spells)
 
 -- where octets spell a message, reading them wants memory or finds it
 pub memory_of : (m : List ℕ) (r : Result Message FrameFault) (fault : FrameFault) → (r ≡ Err faults.NoMemory → (msg : Message) × Spells msg m) → ((k : Check) → r ≡ Err (faults.Fails k) → IsFrameFirst k m) → r ≡ Err fault
-    → AllByRecursion (λ check. ¬ FrameFails m check) order → (msg : Message) × Spells msg m
-memory_of m r (faults.Fails k) memory fails is pass = absurd (first_or_none (FrameFails m) order k pass (fails k is))
+    → AllByRecursion (λ check. ¬ MessageFails m check) order → (msg : Message) × Spells msg m
+memory_of m r (faults.Fails k) memory fails is pass = absurd (first_or_none (MessageFails m) order k pass (fails k is))
 memory_of m r faults.NoMemory memory fails is pass = memory is
 
 -- ---- the NAK

@@ -60,9 +60,9 @@ HeadAnswers m place max (Err check) = IsFirstOf silent_checks (Fails m place max
 -- ---- the checks behind it
 
 -- What making some checks in their order may answer: none fails, or which is the first, with its marker.
-abbrev pub Answers : List Check → List ℕ → Place → ℕ → Option Refusal → Type 0
-Answers checks m place max None = NoneOf checks m place max
-Answers checks m place max (Some refusal) = IsFirstOf checks (Fails m place max) refusal.check × IsMarker m refusal.check refusal.marker
+abbrev pub ChecksAnswer : List Check → List ℕ → Place → ℕ → Option Refusal → Type 0
+ChecksAnswer checks m place max None = NoneOf checks m place max
+ChecksAnswer checks m place max (Some refusal) = IsFirstOf checks (Fails m place max) refusal.check × IsMarker m refusal.check refusal.marker
 
 -- The checks between that of the reserved flags and that of the place, of a message that is to be carried on or not.
 abbrev pub between : Bool → List Check
@@ -92,8 +92,8 @@ marker_refused (item ∷ rest) = if item.must && not (item.kind == 1) then Some 
 
 -- What looking at the lists may answer.
 abbrev pub OptionsAnswer : List ℕ → Place → ℕ → Result Ends Refusal → Type 0
-OptionsAnswer m place max (Ok ends) = ((xs : List OptionItem) × (ys : List OptionItem) × HasEnds m ends xs ys) × Answers option_checks m place max None
-OptionsAnswer m place max (Err refusal) = Answers option_checks m place max (Some refusal)
+OptionsAnswer m place max (Ok ends) = ((xs : List OptionItem) × (ys : List OptionItem) × HasEnds m ends xs ys) × ChecksAnswer option_checks m place max None
+OptionsAnswer m place max (Err refusal) = ChecksAnswer option_checks m place max (Some refusal)
 
 -- ---- the payload
 

@@ -5,7 +5,7 @@ ghost use Rattle.arrayvec.specs.ArrayVec.{ArrayVec};
 ghost use Rattle.bsc_octets.specs.declared.envelope.Envelope.{Envelope};
 ghost use Rattle.bsc_frame.specs.declared.check.Check.{Check};
 ghost use Rattle.bsc_frame.specs.declared.message.Message.{Message};
-ghost use Rattle.bsc_frame.specs.Checks.{Fails, order};
+ghost use Rattle.bsc_frame.specs.Checks.{MessageFails, order};
 ghost use Rattle.bsc_frame.specs.Spelling.{Spells};
 ghost use Rattle.bsc_checks.specs.declared.place.Place.{Place};
 ghost use Rattle.bsc_checks.specs.declared.verdict.Verdict.{Verdict};
@@ -14,7 +14,7 @@ ghost use Rattle.bsc_checks.specs.Table.{code_of, IsFirst};
 ghost use Rattle.bsc_checks.specs.Naks.{IsMarker};
 ghost use Rattle.bsc_checks.specs.Verdicts.{Judged};
 ghost use Rattle.bsc_checks.specs.Outcomes.{outcome_of};
-ghost use Rattle.bsc_checks.specs.Walk.{IsHead, Answers, between, from_flags};
+ghost use Rattle.bsc_checks.specs.Walk.{IsHead, ChecksAnswer, between, from_flags};
 
 use crate::addresses::is_unicast;
 use crate::functions::{is_out_of_place, is_response};
@@ -56,7 +56,7 @@ fn is_to_carry(place: &Place, head: &Envelope) -> bool
 /// The first of C6 to C12 that fails, of a message that is not to be carried on.
 fn later_refusal(m: &[u8], head: &Envelope, to_carry: bool) -> Option<Refusal>
     requires { IsHead m.now head.now }
-    ensures { (place : Place) (max : ℕ) → Answers (between to_carry) m.now place max result }
+    ensures { (place : Place) (max : ℕ) → ChecksAnswer (between to_carry) m.now place max result }
 {
     if to_carry {
         return None;
@@ -80,7 +80,7 @@ fn later_refusal(m: &[u8], head: &Envelope, to_carry: bool) -> Option<Refusal>
 /// The first of C5 to C13 that fails.
 fn refusal(m: &[u8], head: &Envelope, place: &Place) -> Option<Refusal>
     requires { IsHead m.now head.now }
-    ensures { (max : ℕ) → Answers (from_flags (is_to_carry place.now m.now)) m.now place.now max result }
+    ensures { (max : ℕ) → ChecksAnswer (from_flags (is_to_carry place.now m.now)) m.now place.now max result }
 {
     if head.flags > control::FLAGS {
         return Some(Refusal::of(Check::C5));
@@ -116,7 +116,7 @@ fn refused(head: &Envelope, place: &Place, refusal: Refusal) -> Verdict
 
 /// The message that the octets spell, where none of their checks fails.
 fn passed(alloc: Global, m: &[u8]) -> Result<Message, NoMemory>
-    requires { AllByRecursion (λ check. ¬ Fails m.now check) order }
+    requires { AllByRecursion (λ check. ¬ MessageFails m.now check) order }
     ensures found { IfOk result (λ msg. Spells msg m.now) }
     ensures memory { IfErr result (λ _. (msg : Message) × Spells msg m.now) }
 {

@@ -11,7 +11,7 @@ ghost use Rattle.bsc_audit_command.specs.Audits.{RunsAudit};
 ghost use Rattle.bsc_policy.specs.declared.policy.Policy.{Policy};
 ghost use Rattle.bsc_settings.specs.declared.hub.HubSettings.{HubSettings};
 ghost use Rattle.bsc_session.specs.Jobs.{Worked};
-ghost use Rattle.bsc_hub_command.specs.Served.{HasFailed, Runs};
+ghost use Rattle.bsc_hub_command.specs.Served.{HasFailed, HubRuns, world_by};
 ghost use Rattle.bsc_hub_command.specs.Settled.{IsSettled, Unsettled};
 ghost use Rattle.bsc_load_command.specs.Loaded.{RunsLoad};
 ghost use Rattle.bsc_node_command.specs.Comes.{RunsFiles};
@@ -26,10 +26,10 @@ ghost use Rattle.bsc_commands.specs.Commands.{WritesWhatWasSent};
 ghost use Rattle.bsc_commands.specs.Outside.{TouchesOnly};
 ghost use Rattle.bsc_commands.specs.Statuses.{EndsBy};
 
+use crate::outside::Outside;
 use crate::playing::{Command, play};
 use bsc_audit_command::run_audit;
 use bsc_edge::{Acceptor, Clock, Dialer, Files, Journals, Link, Spawner, Waiter};
-use bsc_hub::Kept;
 use bsc_hub_command::{HubWords, run_hub};
 use bsc_load_command::run_load;
 use bsc_node_command::{NodeWords, run_node_files};
@@ -75,140 +75,109 @@ fn run_asked<
     rt: &R,
     alloc: Global,
     asked: Asked<'_>,
-    source: &mut S,
-    sink: &mut K,
-    files: &mut F,
-    clock: &mut C,
-    waiter: &mut V,
-    random: &mut W,
-    acceptor: &mut A,
-    dialer: &mut D,
-    spawner: &mut P,
-    kept: &mut Kept,
-    journals: &mut J,
-    own: &mut Option<N>,
+    outside: &mut Outside<S, K, F, C, V, W, A, D, N, J, P>,
 ) -> u8
-    requires can { P.can_start spawner.old }
-    requires kept { kept.old.hub ≡ None }
-    requires own { own.old ≡ None }
+    requires can { P.can_start outside.old.parts.spawner }
+    requires kept { outside.old.place.kept.hub ≡ None }
+    requires own { outside.old.place.own ≡ None }
     requires workers { (n : ℕ) → seen asked ≡ load n → (1 ≤ n) × (n ≤ WORKERS) }
-    ensures hub { (path : Text) (sessions : Option ℕ) (journal : Option Text) (made : _) → seen asked.entry ≡ hub path sessions journal →
-        kept.new.hub ≡ Some made → (v : HubSettings) × (policy : Option Policy) × IsSettled (F.holds files.old path) v policy
-        × Runs (Worked L.talk L.faults C.readings N.held N.faults) J.begins N.held N.faults
-        (record { settings = v; policy = policy; sessions = sessions; prefix = journal }) kept.new own.new
-        (record {
-          links = A.left acceptor.old;
-          waits = A.waits acceptor.old;
-          port = A.bound acceptor.old;
-          faults = A.faults acceptor.old;
-          jobs = P.jobs spawner.old;
-          out = P.out spawner.old;
-          unstarted = P.faults spawner.old;
-          unbegun = J.faults journals.old;
-          written = K.held sink.old;
-        })
-        (record {
-          links = A.left acceptor.new;
-          waits = A.waits acceptor.new;
-          port = A.bound acceptor.new;
-          faults = A.faults acceptor.new;
-          jobs = P.jobs spawner.new;
-          out = P.out spawner.new;
-          unstarted = P.faults spawner.new;
-          unbegun = J.faults journals.new;
-          written = K.held sink.new;
-        }) result }
-    ensures no_hub { (path : Text) (sessions : Option ℕ) (journal : Option Text) → seen asked.entry ≡ hub path sessions journal → kept.new.hub ≡ None →
-        Unsettled (F.holds files.old path) (F.faults files.old) (F.faults files.new) result (K.held sink.old) (K.held sink.new) }
-    ensures no_hub_untouched { (path : Text) (sessions : Option ℕ) (journal : Option Text) → seen asked.entry ≡ hub path sessions journal →
-        kept.new.hub ≡ None → (kept.new ≡ kept.old) × (clock.new ≡ clock.old) × (acceptor.new ≡ acceptor.old) × (spawner.new ≡ spawner.old)
-        × (journals.new ≡ journals.old) × (own.new ≡ own.old) }
+    ensures hub { (path : Text) (sessions : Option ℕ) (journal : Option Text) (made : _) →
+        seen asked.entry ≡ hub path sessions journal → outside.new.place.kept.hub ≡ Some made →
+        (v : HubSettings) × (policy : Option Policy) × IsSettled (F.holds outside.old.files path) v policy
+        × HubRuns (Worked L.talk L.faults C.readings N.held N.faults) J.begins N.held N.faults
+        (record { settings = v; policy = policy; sessions = sessions; prefix = journal })
+        outside.new.place.kept outside.new.place.own
+        (world_by A.left A.waits A.bound A.faults P.jobs P.out P.faults J.faults outside.old.parts (K.held outside.old.sink))
+        (world_by A.left A.waits A.bound A.faults P.jobs P.out P.faults J.faults outside.new.parts (K.held outside.new.sink))
+        result }
+    ensures no_hub { (path : Text) (sessions : Option ℕ) (journal : Option Text) →
+        seen asked.entry ≡ hub path sessions journal → outside.new.place.kept.hub ≡ None →
+        Unsettled (F.holds outside.old.files path) (F.faults outside.old.files) (F.faults outside.new.files) result
+        (K.held outside.old.sink) (K.held outside.new.sink) }
+    ensures no_hub_untouched { (path : Text) (sessions : Option ℕ) (journal : Option Text) →
+        seen asked.entry ≡ hub path sessions journal → outside.new.place.kept.hub ≡ None →
+        (outside.new.place ≡ outside.old.place) × (outside.new.parts ≡ outside.old.parts) }
     ensures node { (path script : Text) → seen asked.entry ≡ node path script →
-        RunsFiles L.talk W.gives W.faults (F.holds files.old path) (F.holds files.old script)
+        RunsFiles L.talk W.gives W.faults (F.holds outside.old.files path) (F.holds outside.old.files script)
         (record {
-          unread = F.faults files.old;
+          unread = F.faults outside.old.files;
           beside = record {
-            dialled = dialling D.calls D.left D.faults dialer.old;
-            door = admitting A.left A.waits acceptor.old;
-            port = A.bound acceptor.old;
-            faults = A.faults acceptor.old;
-            readings = C.readings clock.old;
-            waited = V.waits waiter.old;
-            random = random.old;
-            written = K.held sink.old;
+            dialled = dialling D.calls D.left D.faults outside.old.node.dialer;
+            door = admitting A.left A.waits outside.old.parts.acceptor;
+            port = A.bound outside.old.parts.acceptor;
+            faults = A.faults outside.old.parts.acceptor;
+            readings = C.readings outside.old.parts.clock;
+            waited = V.waits outside.old.node.waiter;
+            random = outside.old.node.random;
+            written = K.held outside.old.sink;
           };
         })
         (record {
-          unread = F.faults files.new;
+          unread = F.faults outside.new.files;
           beside = record {
-            dialled = dialling D.calls D.left D.faults dialer.new;
-            door = admitting A.left A.waits acceptor.new;
-            port = A.bound acceptor.new;
-            faults = A.faults acceptor.new;
-            readings = C.readings clock.new;
-            waited = V.waits waiter.new;
-            random = random.new;
-            written = K.held sink.new;
+            dialled = dialling D.calls D.left D.faults outside.new.node.dialer;
+            door = admitting A.left A.waits outside.new.parts.acceptor;
+            port = A.bound outside.new.parts.acceptor;
+            faults = A.faults outside.new.parts.acceptor;
+            readings = C.readings outside.new.parts.clock;
+            waited = V.waits outside.new.node.waiter;
+            random = outside.new.node.random;
+            written = K.held outside.new.sink;
           };
         }) result }
-    ensures finished { (path script : Text) → seen asked.entry ≡ node path script → result ≡ 0 → (o : List ℕ) × F.holds files.old script o
-        × (lines : List Due) × (script_of o ≡ Ok (map wish_of lines)) × FinishCame lines (C.readings clock.old) (C.readings clock.new) }
-    ensures load { (n : ℕ) (made : _) → seen asked.entry ≡ load n → kept.new.hub ≡ Some made →
-        RunsLoad n kept.new made result (K.held sink.old) (K.held sink.new) }
-    ensures no_load { (n : ℕ) → seen asked.entry ≡ load n → kept.new.hub ≡ None →
-        RanOut result (K.held sink.old) (K.held sink.new) }
-    ensures replayed { (o t : List ℕ) → seen asked.entry ≡ replay → S.left source.old ≡ Some o → K.held sink.old ≡ Some t →
-        StatusTells replay_of result o t (S.left source.new) (K.held sink.new)
-        (S.faults source.old) (S.faults source.new) }
-    ensures simulated { (o t : List ℕ) → seen asked.entry ≡ simulate → S.left source.old ≡ Some o → K.held sink.old ≡ Some t →
-        StatusTells simulate_of result o t (S.left source.new) (K.held sink.new)
-        (S.faults source.old) (S.faults source.new) }
-    ensures checked { (o t : List ℕ) → seen asked.entry ≡ check → S.left source.old ≡ Some o → K.held sink.old ≡ Some t →
-        StatusTells check_of result o t (S.left source.new) (K.held sink.new)
-        (S.faults source.old) (S.faults source.new) }
-    ensures audited { (o : List ℕ) → seen asked.entry ≡ audit → S.left source.old ≡ Some o →
-        RunsAudit o (S.left source.new) result (K.held sink.old) (K.held sink.new) }
-    ensures source { (seen asked.entry ≡ replay) ⊎ (seen asked.entry ≡ simulate) ⊎ (seen asked.entry ≡ check) ⊎ (seen asked.entry ≡ audit) →
-        result ≡ 3 →
-        HasRisen (S.faults source.old) (S.faults source.new) }
-    ensures untouched { TouchesOnly (Some (seen asked.entry))
-        (record {
-          source = source.old;
-          files = files.old;
-          clock = clock.old;
-          waiter = waiter.old;
-          random = random.old;
-          acceptor = acceptor.old;
-          dialer = dialer.old;
-          spawner = spawner.old;
-          kept = kept.old;
-          journals = journals.old;
-          own = own.old;
-        })
-        (record {
-          source = source.new;
-          files = files.new;
-          clock = clock.new;
-          waiter = waiter.new;
-          random = random.new;
-          acceptor = acceptor.new;
-          dialer = dialer.new;
-          spawner = spawner.new;
-          kept = kept.new;
-          journals = journals.new;
-          own = own.new;
-        }) }
+    ensures finished { (path script : Text) → seen asked.entry ≡ node path script → result ≡ 0 →
+        (o : List ℕ) × F.holds outside.old.files script o
+        × (lines : List Due) × (script_of o ≡ Ok (map wish_of lines))
+        × FinishCame lines (C.readings outside.old.parts.clock) (C.readings outside.new.parts.clock) }
+    ensures load { (n : ℕ) (made : _) → seen asked.entry ≡ load n → outside.new.place.kept.hub ≡ Some made →
+        RunsLoad n outside.new.place.kept made result (K.held outside.old.sink) (K.held outside.new.sink) }
+    ensures no_load { (n : ℕ) → seen asked.entry ≡ load n → outside.new.place.kept.hub ≡ None →
+        RanOut result (K.held outside.old.sink) (K.held outside.new.sink) }
+    ensures replayed { (o t : List ℕ) → seen asked.entry ≡ replay →
+        S.left outside.old.source ≡ Some o → K.held outside.old.sink ≡ Some t →
+        StatusTells replay_of result o t (S.left outside.new.source) (K.held outside.new.sink)
+        (S.faults outside.old.source) (S.faults outside.new.source) }
+    ensures simulated { (o t : List ℕ) → seen asked.entry ≡ simulate →
+        S.left outside.old.source ≡ Some o → K.held outside.old.sink ≡ Some t →
+        StatusTells simulate_of result o t (S.left outside.new.source) (K.held outside.new.sink)
+        (S.faults outside.old.source) (S.faults outside.new.source) }
+    ensures checked { (o t : List ℕ) → seen asked.entry ≡ check →
+        S.left outside.old.source ≡ Some o → K.held outside.old.sink ≡ Some t →
+        StatusTells check_of result o t (S.left outside.new.source) (K.held outside.new.sink)
+        (S.faults outside.old.source) (S.faults outside.new.source) }
+    ensures audited { (o : List ℕ) → seen asked.entry ≡ audit → S.left outside.old.source ≡ Some o →
+        RunsAudit o (S.left outside.new.source) result (K.held outside.old.sink) (K.held outside.new.sink) }
+    ensures source { (seen asked.entry ≡ replay) ⊎ (seen asked.entry ≡ simulate) ⊎ (seen asked.entry ≡ check)
+        ⊎ (seen asked.entry ≡ audit) → result ≡ 3 → HasRisen (S.faults outside.old.source) (S.faults outside.new.source) }
+    ensures untouched { TouchesOnly (Some (seen asked.entry)) outside.old outside.new }
     ensures statuses { EndsBy (Some (seen asked.entry)) result }
-    ensures read { result ≡ 3 → HasRisen (S.faults source.old) (S.faults source.new) ⊎ HasRisen (F.faults files.old) (F.faults files.new) }
-    ensures write { result ≡ 4 → HasRisen (K.faults sink.old) (K.faults sink.new)
-        ⊎ HasRisen (J.faults journals.old) (J.faults journals.new) ⊎ HasFailed N.faults own.new }
-    ensures link { result ≡ 6 → HasRisen (A.faults acceptor.old) (A.faults acceptor.new) }
+    ensures read { result ≡ 3 → HasRisen (S.faults outside.old.source) (S.faults outside.new.source)
+        ⊎ HasRisen (F.faults outside.old.files) (F.faults outside.new.files) }
+    ensures write { result ≡ 4 → HasRisen (K.faults outside.old.sink) (K.faults outside.new.sink)
+        ⊎ HasRisen (J.faults outside.old.parts.journals) (J.faults outside.new.parts.journals)
+        ⊎ HasFailed N.faults outside.new.place.own }
+    ensures link { result ≡ 6 → HasRisen (A.faults outside.old.parts.acceptor) (A.faults outside.new.parts.acceptor) }
 {
     match asked {
-        Asked::Replay => play(alloc, Command::Replay, source, sink),
-        Asked::Simulate => play(alloc, Command::Simulate, source, sink),
-        Asked::Check => play(alloc, Command::Check, source, sink),
-        Asked::Audit => run_audit(alloc, source, sink),
+        Asked::Replay => play(
+            alloc,
+            Command::Replay,
+            &mut outside.source,
+            &mut outside.sink,
+        ),
+        Asked::Simulate => play(
+            alloc,
+            Command::Simulate,
+            &mut outside.source,
+            &mut outside.sink,
+        ),
+        Asked::Check => play(
+            alloc,
+            Command::Check,
+            &mut outside.source,
+            &mut outside.sink,
+        ),
+        Asked::Audit => run_audit(alloc, &mut outside.source, &mut outside.sink),
         Asked::Hub {
             path,
             sessions,
@@ -221,27 +190,24 @@ fn run_asked<
                 sessions,
                 journal,
             },
-            sink,
-            files,
-            clock,
-            acceptor,
-            spawner,
-            kept,
-            journals,
-            own,
+            &mut outside.files,
+            &mut outside.place,
+            &mut outside.sink,
+            &mut outside.parts,
         ),
         Asked::Node { path, script } => run_node_files(
             alloc,
             NodeWords { path, script },
-            sink,
-            files,
-            clock,
-            waiter,
-            random,
-            acceptor,
-            dialer,
+            &mut outside.sink,
+            &mut outside.files,
+            &mut outside.parts.clock,
+            &mut outside.parts.acceptor,
+            &mut outside.node,
         ),
-        Asked::Load { workers } => run_load(rt, alloc, workers, sink, kept),
+        Asked::Load { workers } => {
+            let kept = &mut outside.place.kept;
+            run_load(rt, alloc, workers, &mut outside.sink, kept)
+        }
     }
 }
 
@@ -280,171 +246,121 @@ pub fn run<
     rt: &R,
     alloc: Global,
     read: &ReadWords<'_>,
-    source: &mut S,
-    sink: &mut K,
-    files: &mut F,
-    clock: &mut C,
-    waiter: &mut V,
-    random: &mut W,
-    acceptor: &mut A,
-    dialer: &mut D,
-    spawner: &mut P,
-    kept: &mut Kept,
-    journals: &mut J,
-    own: &mut Option<N>,
+    outside: &mut Outside<S, K, F, C, V, W, A, D, N, J, P>,
 ) -> u8
-    requires can { P.can_start spawner.old }
-    requires kept { kept.old.hub ≡ None }
-    requires own { own.old ≡ None }
+    requires can { P.can_start outside.old.parts.spawner }
+    requires kept { outside.old.place.kept.hub ≡ None }
+    requires own { outside.old.place.own ≡ None }
 
     // Of the words of a hub: once it is made, its settings and its policy are those of the file, and this is what became of it and
     // of its own journal, with journals under the prefix of the words.
     ensures hub { (path : Text) (sessions : Option ℕ) (journal : Option Text) (made : _) →
-        asked_in read.now ≡ Some (hub path sessions journal) → kept.new.hub ≡ Some made →
-        (v : HubSettings) × (policy : Option Policy) × IsSettled (F.holds files.old path) v policy
-        × Runs (Worked L.talk L.faults C.readings N.held N.faults) J.begins N.held N.faults
-        (record { settings = v; policy = policy; sessions = sessions; prefix = journal }) kept.new own.new
-        (record {
-          links = A.left acceptor.old;
-          waits = A.waits acceptor.old;
-          port = A.bound acceptor.old;
-          faults = A.faults acceptor.old;
-          jobs = P.jobs spawner.old;
-          out = P.out spawner.old;
-          unstarted = P.faults spawner.old;
-          unbegun = J.faults journals.old;
-          written = K.held sink.old;
-        })
-        (record {
-          links = A.left acceptor.new;
-          waits = A.waits acceptor.new;
-          port = A.bound acceptor.new;
-          faults = A.faults acceptor.new;
-          jobs = P.jobs spawner.new;
-          out = P.out spawner.new;
-          unstarted = P.faults spawner.new;
-          unbegun = J.faults journals.new;
-          written = K.held sink.new;
-        }) result }
+        asked_in read.now ≡ Some (hub path sessions journal) → outside.new.place.kept.hub ≡ Some made →
+        (v : HubSettings) × (policy : Option Policy) × IsSettled (F.holds outside.old.files path) v policy
+        × HubRuns (Worked L.talk L.faults C.readings N.held N.faults) J.begins N.held N.faults
+        (record { settings = v; policy = policy; sessions = sessions; prefix = journal })
+        outside.new.place.kept outside.new.place.own
+        (world_by A.left A.waits A.bound A.faults P.jobs P.out P.faults J.faults outside.old.parts (K.held outside.old.sink))
+        (world_by A.left A.waits A.bound A.faults P.jobs P.out P.faults J.faults outside.new.parts (K.held outside.new.sink))
+        result }
     ensures no_hub { (path : Text) (sessions : Option ℕ) (journal : Option Text) →
-        asked_in read.now ≡ Some (hub path sessions journal) → kept.new.hub ≡ None →
-        Unsettled (F.holds files.old path) (F.faults files.old) (F.faults files.new) result (K.held sink.old) (K.held sink.new) }
+        asked_in read.now ≡ Some (hub path sessions journal) → outside.new.place.kept.hub ≡ None →
+        Unsettled (F.holds outside.old.files path) (F.faults outside.old.files) (F.faults outside.new.files) result
+        (K.held outside.old.sink) (K.held outside.new.sink) }
     ensures no_hub_untouched { (path : Text) (sessions : Option ℕ) (journal : Option Text) →
-        asked_in read.now ≡ Some (hub path sessions journal) → kept.new.hub ≡ None →
-        (kept.new ≡ kept.old) × (clock.new ≡ clock.old) × (acceptor.new ≡ acceptor.old) × (spawner.new ≡ spawner.old)
-        × (journals.new ≡ journals.old) × (own.new ≡ own.old) }
+        asked_in read.now ≡ Some (hub path sessions journal) → outside.new.place.kept.hub ≡ None →
+        (outside.new.place ≡ outside.old.place) × (outside.new.parts ≡ outside.old.parts) }
 
     // Of the words of a node: what became of it, by its settings and its script as they were in their files.
     ensures node { (path script : Text) → asked_in read.now ≡ Some (node path script) →
-        RunsFiles L.talk W.gives W.faults (F.holds files.old path) (F.holds files.old script)
+        RunsFiles L.talk W.gives W.faults (F.holds outside.old.files path) (F.holds outside.old.files script)
         (record {
-          unread = F.faults files.old;
+          unread = F.faults outside.old.files;
           beside = record {
-            dialled = dialling D.calls D.left D.faults dialer.old;
-            door = admitting A.left A.waits acceptor.old;
-            port = A.bound acceptor.old;
-            faults = A.faults acceptor.old;
-            readings = C.readings clock.old;
-            waited = V.waits waiter.old;
-            random = random.old;
-            written = K.held sink.old;
+            dialled = dialling D.calls D.left D.faults outside.old.node.dialer;
+            door = admitting A.left A.waits outside.old.parts.acceptor;
+            port = A.bound outside.old.parts.acceptor;
+            faults = A.faults outside.old.parts.acceptor;
+            readings = C.readings outside.old.parts.clock;
+            waited = V.waits outside.old.node.waiter;
+            random = outside.old.node.random;
+            written = K.held outside.old.sink;
           };
         })
         (record {
-          unread = F.faults files.new;
+          unread = F.faults outside.new.files;
           beside = record {
-            dialled = dialling D.calls D.left D.faults dialer.new;
-            door = admitting A.left A.waits acceptor.new;
-            port = A.bound acceptor.new;
-            faults = A.faults acceptor.new;
-            readings = C.readings clock.new;
-            waited = V.waits waiter.new;
-            random = random.new;
-            written = K.held sink.new;
+            dialled = dialling D.calls D.left D.faults outside.new.node.dialer;
+            door = admitting A.left A.waits outside.new.parts.acceptor;
+            port = A.bound outside.new.parts.acceptor;
+            faults = A.faults outside.new.parts.acceptor;
+            readings = C.readings outside.new.parts.clock;
+            waited = V.waits outside.new.node.waiter;
+            random = outside.new.node.random;
+            written = K.held outside.new.sink;
           };
         }) result }
 
     // Status 0 comes of the words of a node only once the time of its script's `finish` has passed, from the first reading of
     // the clock to the last.
     ensures finished { (path script : Text) → asked_in read.now ≡ Some (node path script) → result ≡ 0 →
-        (o : List ℕ) × F.holds files.old script o
-        × (lines : List Due) × (script_of o ≡ Ok (map wish_of lines)) × FinishCame lines (C.readings clock.old) (C.readings clock.new) }
+        (o : List ℕ) × F.holds outside.old.files script o
+        × (lines : List Due) × (script_of o ≡ Ok (map wish_of lines))
+        × FinishCame lines (C.readings outside.old.parts.clock) (C.readings outside.new.parts.clock) }
 
     // Of the words of a workload: once its hub is made, this is what became of it; else memory ran out.
-    ensures load { (n : ℕ) (made : _) → asked_in read.now ≡ Some (load n) → kept.new.hub ≡ Some made →
-        RunsLoad n kept.new made result (K.held sink.old) (K.held sink.new) }
-    ensures no_load { (n : ℕ) → asked_in read.now ≡ Some (load n) → kept.new.hub ≡ None →
-        RanOut result (K.held sink.old) (K.held sink.new) }
+    ensures load { (n : ℕ) (made : _) → asked_in read.now ≡ Some (load n) → outside.new.place.kept.hub ≡ Some made →
+        RunsLoad n outside.new.place.kept made result (K.held outside.old.sink) (K.held outside.new.sink) }
+    ensures no_load { (n : ℕ) → asked_in read.now ≡ Some (load n) → outside.new.place.kept.hub ≡ None →
+        RanOut result (K.held outside.old.sink) (K.held outside.new.sink) }
 
     // Of the words of a command that plays its input, what the status says of that: what was read, and what was written.
-    ensures replayed { (o t : List ℕ) → asked_in read.now ≡ Some replay → S.left source.old ≡ Some o → K.held sink.old ≡ Some t →
-        StatusTells replay_of result o t (S.left source.new) (K.held sink.new)
-        (S.faults source.old) (S.faults source.new) }
-    ensures simulated { (o t : List ℕ) → asked_in read.now ≡ Some simulate → S.left source.old ≡ Some o → K.held sink.old ≡ Some t →
-        StatusTells simulate_of result o t (S.left source.new) (K.held sink.new)
-        (S.faults source.old) (S.faults source.new) }
+    ensures replayed { (o t : List ℕ) → asked_in read.now ≡ Some replay →
+        S.left outside.old.source ≡ Some o → K.held outside.old.sink ≡ Some t →
+        StatusTells replay_of result o t (S.left outside.new.source) (K.held outside.new.sink)
+        (S.faults outside.old.source) (S.faults outside.new.source) }
+    ensures simulated { (o t : List ℕ) → asked_in read.now ≡ Some simulate →
+        S.left outside.old.source ≡ Some o → K.held outside.old.sink ≡ Some t →
+        StatusTells simulate_of result o t (S.left outside.new.source) (K.held outside.new.sink)
+        (S.faults outside.old.source) (S.faults outside.new.source) }
 
     // Of the words of a network: each delivery that is written comes from the Send at its place, and no two are of one Send and
     // to one node.
-    ensures delivered { (o t : List ℕ) → asked_in read.now ≡ Some simulate → S.left source.old ≡ Some o → K.held sink.old ≡ Some t →
-        WritesWhatWasSent o t (K.held sink.new) }
-    ensures checked { (o t : List ℕ) → asked_in read.now ≡ Some check → S.left source.old ≡ Some o → K.held sink.old ≡ Some t →
-        StatusTells check_of result o t (S.left source.new) (K.held sink.new)
-        (S.faults source.old) (S.faults source.new) }
+    ensures delivered { (o t : List ℕ) → asked_in read.now ≡ Some simulate →
+        S.left outside.old.source ≡ Some o → K.held outside.old.sink ≡ Some t →
+        WritesWhatWasSent o t (K.held outside.new.sink) }
+    ensures checked { (o t : List ℕ) → asked_in read.now ≡ Some check →
+        S.left outside.old.source ≡ Some o → K.held outside.old.sink ≡ Some t →
+        StatusTells check_of result o t (S.left outside.new.source) (K.held outside.new.sink)
+        (S.faults outside.old.source) (S.faults outside.new.source) }
 
     // Of the words of an audit, what it answered of the source's octets, and what was written of that.
-    ensures audited { (o : List ℕ) → asked_in read.now ≡ Some audit → S.left source.old ≡ Some o →
-        RunsAudit o (S.left source.new) result (K.held sink.old) (K.held sink.new) }
+    ensures audited { (o : List ℕ) → asked_in read.now ≡ Some audit → S.left outside.old.source ≡ Some o →
+        RunsAudit o (S.left outside.new.source) result (K.held outside.old.sink) (K.held outside.new.sink) }
 
     // Where the words ask for nothing, the last line that is written is that of the words, or there was no memory to read them.
     ensures other_words { asked_in read.now ≡ None →
-        EndsWith result 1 (K.held sink.old) (K.held sink.new) words_line ⊎ RanOut result (K.held sink.old) (K.held sink.new) }
+        EndsWith result 1 (K.held outside.old.sink) (K.held outside.new.sink) words_line
+        ⊎ RanOut result (K.held outside.old.sink) (K.held outside.new.sink) }
 
     // What the command that is asked for doesn't use is as it was: all, where none is. Only its own statuses come of it; status 1
     // of words that ask for nothing alone.
-    ensures untouched { TouchesOnly (asked_in read.now)
-        (record {
-          source = source.old;
-          files = files.old;
-          clock = clock.old;
-          waiter = waiter.old;
-          random = random.old;
-          acceptor = acceptor.old;
-          dialer = dialer.old;
-          spawner = spawner.old;
-          kept = kept.old;
-          journals = journals.old;
-          own = own.old;
-        })
-        (record {
-          source = source.new;
-          files = files.new;
-          clock = clock.new;
-          waiter = waiter.new;
-          random = random.new;
-          acceptor = acceptor.new;
-          dialer = dialer.new;
-          spawner = spawner.new;
-          kept = kept.new;
-          journals = journals.new;
-          own = own.new;
-        }) }
+    ensures untouched { TouchesOnly (asked_in read.now) outside.old outside.new }
     ensures statuses { EndsBy (asked_in read.now) result }
 
     // Faults of the source, the files, the sink and the acceptor are counted. Where an input is played or audited, status 3 is the
     // source's.
     ensures source { (asked_in read.now ≡ Some replay) ⊎ (asked_in read.now ≡ Some simulate) ⊎ (asked_in read.now ≡ Some check)
-        ⊎ (asked_in read.now ≡ Some audit) → result ≡ 3 → HasRisen (S.faults source.old) (S.faults source.new) }
-    ensures read { result ≡ 3 → HasRisen (S.faults source.old) (S.faults source.new) ⊎ HasRisen (F.faults files.old) (F.faults files.new) }
-    ensures write { result ≡ 4 → HasRisen (K.faults sink.old) (K.faults sink.new)
-        ⊎ HasRisen (J.faults journals.old) (J.faults journals.new) ⊎ HasFailed N.faults own.new }
-    ensures link { result ≡ 6 → HasRisen (A.faults acceptor.old) (A.faults acceptor.new) }
+        ⊎ (asked_in read.now ≡ Some audit) → result ≡ 3 → HasRisen (S.faults outside.old.source) (S.faults outside.new.source) }
+    ensures read { result ≡ 3 → HasRisen (S.faults outside.old.source) (S.faults outside.new.source)
+        ⊎ HasRisen (F.faults outside.old.files) (F.faults outside.new.files) }
+    ensures write { result ≡ 4 → HasRisen (K.faults outside.old.sink) (K.faults outside.new.sink)
+        ⊎ HasRisen (J.faults outside.old.parts.journals) (J.faults outside.new.parts.journals)
+        ⊎ HasFailed N.faults outside.new.place.own }
+    ensures link { result ≡ 6 → HasRisen (A.faults outside.old.parts.acceptor) (A.faults outside.new.parts.acceptor) }
 {
     match read.asked {
-        Ok(asked) => run_asked(
-            rt, alloc, asked, source, sink, files, clock, waiter, random, acceptor, dialer,
-            spawner, kept, journals, own,
-        ),
-        Err(fault) => end_unasked(sink, fault),
+        Ok(asked) => run_asked(rt, alloc, asked, outside),
+        Err(fault) => end_unasked(&mut outside.sink, fault),
     }
 }

@@ -14,7 +14,7 @@ use Rattle.bsc_connector.specs.declared.waits.Waits.{Waits}
 use Rattle.bsc_connector.specs.declared.connector.Connector.{Connector}
 use Rattle.bsc_connector.specs.Sides.{is_start, is_tick, fails, connects, clears, due, failures, wait, is_tried, is_up, trouble}
 use Rattle.bsc_connector.specs.Steps.{has_come, is_idle, dials_primary, dials_failover}
-use Rattle.bsc_connector.specs.Standing.{StandsFor}
+use Rattle.bsc_connector.specs.Standing.{ConnectorStands}
 use Rattle.bsc_connector.specs.Kept.{says_due, says_tried}
 use Rattle.bsc_connector.proofs.SideLemmas.{due-cleared, due-failed, due-same, due-ticked, due-started, tried-failover, starts, unless_come}
 use Rattle.bsc_lemmas.proofs.Booleans.{and_left as and_first, and_right as and_last, or_left, or_right}
@@ -146,7 +146,7 @@ due_tried UnderWay at h = cc
 due_tried Up at h = cc
 due_tried (Waiting n) at h = refl
 
-failover_tried : (c : Connector) (w : Waits) (E : List HubEvent) (now : ℕ) (e : ConnectorEvent) → StandsFor c w E → dials_failover w E (record { now = now; event = e }) ≡ true
+failover_tried : (c : Connector) (w : Waits) (E : List HubEvent) (now : ℕ) (e : ConnectorEvent) → ConnectorStands c w E → dials_failover w E (record { now = now; event = e }) ≡ true
     → is_tried w Failover (E ++ record { now = now; event = e } ∷ []) ≡ true
 failover_tried c w E now Start k d = cc
 failover_tried c w E now (Connected t) k d = cc
@@ -179,7 +179,7 @@ second_due w E now (Lost Primary) i d = let k : is_idle w E ≡ true = or_false 
 second_due w E now (Lost Failover) i d = cc
 second_due w E now Tick i d = and_first (has_come now (due w Failover E)) (not (is_up Primary E)) d
 
-pub failover_apart : (c : Connector) (w : Waits) (E F : List HubEvent) (d e : HubEvent) → StandsFor c w E → w.least ≤ w.greatest → dials_failover w E d ≡ true
+pub failover_apart : (c : Connector) (w : Waits) (E F : List HubEvent) (d e : HubEvent) → ConnectorStands c w E → w.least ≤ w.greatest → dials_failover w E d ≡ true
     → AllByRecursion (λ x. d.now ≤ x.now) F → list_any (λ x. connects Primary x.event) F ≡ false
     → dials_failover w ((E ++ d ∷ []) ++ F) e ≡ true → d.now + w.least ≤ e.now
 failover_apart c w E F d e k range first later quiet second =

@@ -15,7 +15,7 @@ use Rattle.bsc_connector.specs.declared.step.ConnectorStep.{ConnectorStep}
 use Rattle.bsc_connector.specs.Sides.{same_side, is_start, is_tick, fails, loses, connects, clears, is_up, is_tried, is_under_way, failures, wait, trouble}
 use Rattle.bsc_connector.specs.Steps.{connector_step}
 use Rattle.bsc_connector.specs.declared.connector.Connector.{Connector}
-use Rattle.bsc_connector.specs.Standing.{SideStands, StandsFor, attempt_at, MayCome}
+use Rattle.bsc_connector.specs.Standing.{SideStands, ConnectorStands, attempt_at, MayCome}
 use Rattle.bsc_connector.specs.Kept.{says_up, says_due, says_tried, says_under_way, accepted, dropped, failed, ticked, started, begun, primary_after, failover_after, attempt_after_tick, attempt_started, attempt_begun, step_kept}
 use Rattle.bsc_connector.proofs.SideLemmas.{up-stays, up-said, failures-cleared, failures-same, failures-one_more, due-cleared, due-failed, due-same, due-ticked, due-started, tried-primary, tried-failover, tried-cleared, wait-doubled, wait-first, unless_come, starts}
 use Rattle.bsc_lemmas.proofs.Booleans.{and_false, or_false, or_true}
@@ -269,10 +269,10 @@ step-follows : (w : Waits) (E : List HubEvent) (p f : SideState) (now : ℕ) (e 
 step-follows w E p f now e k m = rw (k.up, k.due, m.up, m.due, m.tried) refl
 
 -- What is kept goes on as a connector's does that is told this.
-pub event_answers : (c d : Connector) (w : Waits) (E : List HubEvent) (now : ℕ) (e : ConnectorEvent) (step : ConnectorStep) → StandsFor c w E → MayCome c e
+pub event_answers : (c d : Connector) (w : Waits) (E : List HubEvent) (now : ℕ) (e : ConnectorEvent) (step : ConnectorStep) → ConnectorStands c w E → MayCome c e
     → step ≡ step_kept c.waits now c.primary.attempt c.failover.attempt e
     → d ≡ record { waits = c.waits; primary = primary_after c.waits now c.primary e; failover = failover_after c.waits now c.failover e }
-    → (step ≡ connector_step w E (record { now = now; event = e })) × StandsFor d w (E ++ record { now = now; event = e } ∷ [])
+    → (step ≡ connector_step w E (record { now = now; event = e })) × ConnectorStands d w (E ++ record { now = now; event = e } ∷ [])
 event_answers c d w E now e step h may is new = (
   is ∙ ap (λ v. step_kept v now c.primary.attempt c.failover.attempt e) h.waits ∙ step-follows w E c.primary c.failover now e h.primary h.failover,
   record {
@@ -287,6 +287,6 @@ event_answers c d w E now e step h may is new = (
 )
 
 -- A side is under way, or up, by the events exactly where the connector keeps it so.
-pub under_way_by_events : (c : Connector) (w : Waits) (E : List HubEvent) (s : Side) → StandsFor c w E → is_under_way w s E ≡ says_under_way (attempt_at c s)
+pub under_way_by_events : (c : Connector) (w : Waits) (E : List HubEvent) (s : Side) → ConnectorStands c w E → is_under_way w s E ≡ says_under_way (attempt_at c s)
 under_way_by_events c w E Primary h = rw (h.primary.tried, h.primary.up, h.primary.due) refl
 under_way_by_events c w E Failover h = rw (h.failover.tried, h.failover.up, h.failover.due) refl

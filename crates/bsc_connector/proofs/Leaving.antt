@@ -10,7 +10,7 @@ use Rattle.bsc_connector.specs.declared.side_state.Attempt.TheVariants.{Idle, Un
 use Rattle.bsc_connector.specs.declared.side_state.SideState.{SideState}
 use Rattle.bsc_connector.specs.declared.waits.Waits.{Waits}
 use Rattle.bsc_connector.specs.declared.connector.Connector.{Connector}
-use Rattle.bsc_connector.specs.Left.{is_live, LeftBy}
+use Rattle.bsc_connector.specs.Left.{is_live, LeavesConnector}
 use Rattle.bsc_connector.specs.Sides.{is_start, connects, fails, clears}
 use Rattle.bsc_connector.specs.Steps.{has_come}
 use Rattle.bsc_connector.specs.Standing.{attempt_at}
@@ -131,7 +131,7 @@ idle_stays w now p (Lost Primary) idle s h = absurd (false≢true (sym h))
 idle_stays w now p (Lost Failover) idle s h = idle
 idle_stays w now p Tick idle s h = rw idle refl
 
-pub left_by : (w : Waits) (p f : SideState) (now : ℕ) (e : ConnectorEvent) → LeftBy (record { waits = w; primary = p; failover = f }) e (step_kept w now p.attempt f.attempt e) (told_kept (record { waits = w; primary = p; failover = f }) now e)
+pub left_by : (w : Waits) (p f : SideState) (now : ℕ) (e : ConnectorEvent) → LeavesConnector (record { waits = w; primary = p; failover = f }) e (step_kept w now p.attempt f.attempt e) (told_kept (record { waits = w; primary = p; failover = f }) now e)
 left_by w p f now e = record {
   primary_dialled = primary_dials w now p f e;
   failover_dialled = failover_dials w now p f e;

@@ -18,7 +18,7 @@ is_live attempt = false
 
 -- How an event leaves the sides: one that was dialled is under way, one whose hub accepted is up, one that was under
 -- way or up and of which nothing was told stays so, and a failover that was is dropped where the primary hub accepted.
-pub record LeftBy (old : Connector) (e : ConnectorEvent) (step : ConnectorStep) (new : Connector) : Type 0 where
+pub record LeavesConnector (old : Connector) (e : ConnectorEvent) (step : ConnectorStep) (new : Connector) : Type 0 where
   pub primary_dialled : (is_start e ≡ true → old.primary.attempt ≡ Idle) → step.dial_primary ≡ true → new.primary.attempt ≡ UnderWay
   pub failover_dialled : step.dial_failover ≡ true → new.failover.attempt ≡ UnderWay
   pub accepted : (s : Side) → connects s e ≡ true → attempt_at new s ≡ Up

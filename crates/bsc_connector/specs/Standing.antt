@@ -22,15 +22,15 @@ pub record SideStands (w : Waits) (s : Side) (E : List HubEvent) (side : SideSta
   pub wait : side.next_wait ≡ wait w (failures s E + 1)
 
 -- A connector was made with these waits and told these events, newest last.
-pub record StandsFor (c : Connector) (w : Waits) (E : List HubEvent) : Type 0 where
+pub record ConnectorStands (c : Connector) (w : Waits) (E : List HubEvent) : Type 0 where
   pub waits : c.waits ≡ w
   pub primary : SideStands w Primary E c.primary
   pub failover : SideStands w Failover E c.failover
 
 -- For whatever waits and events it stood, the step is theirs, and it stands for them and this event.
-abbrev pub Answers : Connector → Connector → HubEvent → ConnectorStep → Type 0
-Answers old new e step = (w : Waits) (E : List HubEvent) → StandsFor old w E
-    → (step ≡ connector_step w E e) × StandsFor new w (E ++ e ∷ [])
+abbrev pub ConnectorAnswers : Connector → Connector → HubEvent → ConnectorStep → Type 0
+ConnectorAnswers old new e step = (w : Waits) (E : List HubEvent) → ConnectorStands old w E
+    → (step ≡ connector_step w E e) × ConnectorStands new w (E ++ e ∷ [])
 
 -- ---- what a connector may be told
 

@@ -4,8 +4,8 @@ ghost use Rattle.bsc_connector.specs.declared.waits.Waits.{Waits};
 ghost use Rattle.bsc_connector.specs.declared.event.HubEvent.{HubEvent};
 ghost use Rattle.bsc_connector.specs.Sides.{hub_use, is_under_way, is_up};
 ghost use Rattle.bsc_connector.specs.Kept.{says_under_way, says_up};
-ghost use Rattle.bsc_connector.specs.Left.{LeftBy};
-ghost use Rattle.bsc_connector.specs.Standing.{StandsFor, Answers, MayCome, attempt_at};
+ghost use Rattle.bsc_connector.specs.Left.{LeavesConnector};
+ghost use Rattle.bsc_connector.specs.Standing.{ConnectorStands, ConnectorAnswers, MayCome, attempt_at};
 
 use crate::event::ConnectorEvent;
 use crate::hub_use::HubUse;
@@ -30,7 +30,7 @@ impl Connector {
     /// A connector that was told nothing yet: whether there is a failover, and the least and the greatest wait
     /// between two attempts at a side, in milliseconds.
     pub fn make(failover: bool, least_wait: u32, greatest_wait: u32) -> Connector
-        ensures { StandsFor result (record { failover = failover; least = least_wait; greatest = greatest_wait }) [] }
+        ensures { ConnectorStands result (record { failover = failover; least = least_wait; greatest = greatest_wait }) [] }
     {
         let waits = Waits {
             failover,
@@ -48,8 +48,8 @@ impl Connector {
     pub fn event(&mut self, now: u64, event: ConnectorEvent) -> ConnectorStep
         requires time { now < 2 ^ 62 }
         requires order { MayCome self.old event }
-        ensures step { Answers self.old self.new (record { now = now; event = event }) result }
-        ensures left { LeftBy self.old event result self.new }
+        ensures step { ConnectorAnswers self.old self.new (record { now = now; event = event }) result }
+        ensures left { LeavesConnector self.old event result self.new }
     {
         let step = step_of(
             &self.waits,
@@ -65,7 +65,7 @@ impl Connector {
 
     /// The hub in use.
     pub fn hub_use(&self) -> HubUse
-        ensures { (w : Waits) (E : List HubEvent) → StandsFor self.now w E → result ≡ hub_use E }
+        ensures { (w : Waits) (E : List HubEvent) → ConnectorStands self.now w E → result ≡ hub_use E }
     {
         if self.primary.attempt == Attempt::Up {
             HubUse::Primary
@@ -78,7 +78,7 @@ impl Connector {
 
     /// Whether an attempt at a side is under way.
     pub fn is_under_way(&self, side: Side) -> bool
-        ensures told { (w : Waits) (E : List HubEvent) → StandsFor self.now w E → result ≡ is_under_way w side E }
+        ensures told { (w : Waits) (E : List HubEvent) → ConnectorStands self.now w E → result ≡ is_under_way w side E }
         ensures kept { result ≡ says_under_way (attempt_at self.now side) }
     {
         match side {
@@ -89,7 +89,7 @@ impl Connector {
 
     /// Whether the hub of a side is connected.
     pub fn is_up(&self, side: Side) -> bool
-        ensures told { (w : Waits) (E : List HubEvent) → StandsFor self.now w E → result ≡ is_up side E }
+        ensures told { (w : Waits) (E : List HubEvent) → ConnectorStands self.now w E → result ≡ is_up side E }
         ensures kept { result ≡ says_up (attempt_at self.now side) }
     {
         match side {

@@ -9,7 +9,7 @@ ghost use Rattle.bsc_connector.specs.declared.waits.Waits.{Waits};
 ghost use Rattle.bsc_connector.specs.declared.connector.Connector.{Connector};
 ghost use Rattle.bsc_connector.specs.Sides.{hub_use, is_up, is_tried, is_under_way, is_start, connects, fails, wait};
 ghost use Rattle.bsc_connector.specs.Steps.{dials_primary, dials_failover};
-ghost use Rattle.bsc_connector.specs.Standing.{StandsFor};
+ghost use Rattle.bsc_connector.specs.Standing.{ConnectorStands};
 
 /// While the primary hub is connected, it is the hub in use.
 pub fn the_primary_is_used()
@@ -35,11 +35,11 @@ pub fn waits_double()
 
 /// A side that is connected, or to which an attempt is under way, is not dialled. (A node starts once.)
 pub fn a_side_that_is_tried_is_not_dialled()
-    ensures primary { (c : Connector) (w : Waits) (E : List HubEvent) (e : HubEvent) → StandsFor c w E
+    ensures primary { (c : Connector) (w : Waits) (E : List HubEvent) (e : HubEvent) → ConnectorStands c w E
         → (is_start e.event ≡ true → is_tried w Side.Primary E ≡ false)
         → dials_primary w E e ≡ true
         → (is_up Side.Primary E ≡ false) × (is_under_way w Side.Primary E ≡ false) }
-    ensures failover { (c : Connector) (w : Waits) (E : List HubEvent) (e : HubEvent) → StandsFor c w E
+    ensures failover { (c : Connector) (w : Waits) (E : List HubEvent) (e : HubEvent) → ConnectorStands c w E
         → dials_failover w E e ≡ true → (is_up Side.Failover E ≡ false) × (is_under_way w Side.Failover E ≡ false) }
 {}
 
@@ -49,7 +49,7 @@ pub fn dials_keep_apart()
     ensures primary { (w : Waits) (E F : List HubEvent) (d e : HubEvent) → w.least ≤ w.greatest
         → dials_primary w E d ≡ true → AllByRecursion (λ x. d.now ≤ x.now) F
         → is_start e.event ≡ false → dials_primary w ((E ++ d ∷ []) ++ F) e ≡ true → d.now + w.least ≤ e.now }
-    ensures failover { (c : Connector) (w : Waits) (E F : List HubEvent) (d e : HubEvent) → StandsFor c w E
+    ensures failover { (c : Connector) (w : Waits) (E F : List HubEvent) (d e : HubEvent) → ConnectorStands c w E
         → w.least ≤ w.greatest → dials_failover w E d ≡ true → AllByRecursion (λ x. d.now ≤ x.now) F
         → list_any (λ x. connects Side.Primary x.event) F ≡ false
         → dials_failover w ((E ++ d ∷ []) ++ F) e ≡ true → d.now + w.least ≤ e.now }

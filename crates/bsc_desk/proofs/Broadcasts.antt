@@ -29,7 +29,7 @@ use Rattle.bsc_desk.specs.Fates.{AllBefall, Befalls, is_meant, looks_in, looks_o
 use Rattle.bsc_desk.specs.Frames.{Frame}
 use Rattle.bsc_desk.specs.Live.{connection, is_open, number}
 use Rattle.bsc_desk.specs.Rows.{IsRowOf, end_of}
-use Rattle.bsc_desk.specs.Standing.{IsInletOf, StandsFor}
+use Rattle.bsc_desk.specs.Standing.{DeskStands, IsInletOf}
 use Rattle.bsc_desk.proofs.Fared.{AllFates, Told, all_test, can_all, ends_by, enters, full_seen, is_full, more_said}
 use Rattle.bsc_desk.proofs.Forwards.{lawful_served, looks_named, picks, served, stands_sent}
 use Rattle.bsc_desk.proofs.LiveRows.{live_rows}
@@ -179,7 +179,7 @@ record IsSentAll (d : Desk) (S : List Stamped) (caller conn : ℕ) (f : Frame) (
   lawful : Lawful d.about (moment (entries S) (forward_entry caller conn f.message (looks_of fates) (SentAll (to_of fates) (missed_of fates) (skipped_of fates))))
   told : AllFates (λ y z. Told None (SentAll (to_of fates) (missed_of fates) (skipped_of fates)) (looks_of fates) (number y) z) d.rows.items fates
 
-core : (d : Desk) (S : List Stamped) (caller conn : ℕ) (f : Frame) (fates : List Fate) (after : List Row) → StandsFor d S → IsRowOf d caller conn f.sender → has_route f.message ≡ true → is_broadcast f.message ≡ true → d.tally.made < d.about.limits.calls → d.stopped_at ≡ None → end_of d conn ≡ None → AllBefall (is_meant conn) None (out f.message f.sender) d.rows.items fates after → IsSentAll d S caller conn f fates
+core : (d : Desk) (S : List Stamped) (caller conn : ℕ) (f : Frame) (fates : List Fate) (after : List Row) → DeskStands d S → IsRowOf d caller conn f.sender → has_route f.message ≡ true → is_broadcast f.message ≡ true → d.tally.made < d.about.limits.calls → d.stopped_at ≡ None → end_of d conn ≡ None → AllBefall (is_meant conn) None (out f.message f.sender) d.rows.items fates after → IsSentAll d S caller conn f fates
 core d S caller conn f fates after p is route every calls on current all =
     let a = d.about in
     let H = entries S in
@@ -205,10 +205,10 @@ core d S caller conn f fates after p is route every calls on current all =
     let lawful = lawful_served d S caller conn f looks reply p is route calls on current says (looks_named d S conn m o None fates after p meant_all) (can_all a S T None o rows fates after p.inlets meant_all) in
     record { lawful = lawful; told = told }
 
-pub lawful_all : (d : Desk) (S : List Stamped) (caller conn : ℕ) (f : Frame) (fates : List Fate) (after : List Row) (to missed skipped : List ℕ) (looks : List Look) → StandsFor d S → IsRowOf d caller conn f.sender → has_route f.message ≡ true → is_broadcast f.message ≡ true → d.tally.made < d.about.limits.calls → d.stopped_at ≡ None → end_of d conn ≡ None → AllBefall (is_meant conn) None (out f.message f.sender) d.rows.items fates after → to ≡ to_of fates → missed ≡ missed_of fates → skipped ≡ skipped_of fates → looks ≡ looks_of fates → Lawful d.about (moment (entries S) (forward_entry caller conn f.message looks (SentAll to missed skipped)))
+pub lawful_all : (d : Desk) (S : List Stamped) (caller conn : ℕ) (f : Frame) (fates : List Fate) (after : List Row) (to missed skipped : List ℕ) (looks : List Look) → DeskStands d S → IsRowOf d caller conn f.sender → has_route f.message ≡ true → is_broadcast f.message ≡ true → d.tally.made < d.about.limits.calls → d.stopped_at ≡ None → end_of d conn ≡ None → AllBefall (is_meant conn) None (out f.message f.sender) d.rows.items fates after → to ≡ to_of fates → missed ≡ missed_of fates → skipped ≡ skipped_of fates → looks ≡ looks_of fates → Lawful d.about (moment (entries S) (forward_entry caller conn f.message looks (SentAll to missed skipped)))
 lawful_all d S caller conn f fates after to missed skipped looks p is route every calls on current all a b c e = rw (a, b, c, e) (core d S caller conn f fates after p is route every calls on current all).lawful
 
-pub stands_all : (d n : Desk) (S : List Stamped) (caller conn : ℕ) (f : Frame) (fates : List Fate) (to missed skipped : List ℕ) (looks : List Look) (count_to count_missed : ℕ) → StandsFor d S → IsRowOf d caller conn f.sender → has_route f.message ≡ true → is_broadcast f.message ≡ true → d.tally.made < d.about.limits.calls → d.stopped_at ≡ None → end_of d conn ≡ None → AllBefall (is_meant conn) None (out f.message f.sender) d.rows.items fates n.rows.items → to ≡ to_of fates → missed ≡ missed_of fates → skipped ≡ skipped_of fates → looks ≡ looks_of fates → count_to ≡ length (to_of fates) → count_missed ≡ length (missed_of fates) → n.about ≡ d.about → n.stopped_at ≡ d.stopped_at → n.tally.made ≡ d.tally.made + 1 → n.tally.counts ≡ plus d.tally.counts (broadcast_counts count_to count_missed) → StandsFor n (S ++ plain (forward_entry caller conn f.message looks (SentAll to missed skipped)) ∷ [])
+pub stands_all : (d n : Desk) (S : List Stamped) (caller conn : ℕ) (f : Frame) (fates : List Fate) (to missed skipped : List ℕ) (looks : List Look) (count_to count_missed : ℕ) → DeskStands d S → IsRowOf d caller conn f.sender → has_route f.message ≡ true → is_broadcast f.message ≡ true → d.tally.made < d.about.limits.calls → d.stopped_at ≡ None → end_of d conn ≡ None → AllBefall (is_meant conn) None (out f.message f.sender) d.rows.items fates n.rows.items → to ≡ to_of fates → missed ≡ missed_of fates → skipped ≡ skipped_of fates → looks ≡ looks_of fates → count_to ≡ length (to_of fates) → count_missed ≡ length (missed_of fates) → n.about ≡ d.about → n.stopped_at ≡ d.stopped_at → n.tally.made ≡ d.tally.made + 1 → n.tally.counts ≡ plus d.tally.counts (broadcast_counts count_to count_missed) → DeskStands n (S ++ plain (forward_entry caller conn f.message looks (SentAll to missed skipped)) ∷ [])
 stands_all d n S caller conn f fates to missed skipped looks k j p is route every calls on current all a b c e g h about stop made count =
     let it = core d S caller conn f fates n.rows.items p is route every calls on current all in
     let reply = SentAll (to_of fates) (missed_of fates) (skipped_of fates) in

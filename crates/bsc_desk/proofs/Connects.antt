@@ -34,7 +34,7 @@ use Rattle.bsc_desk.specs.declared.row.Row.{Row}
 use Rattle.bsc_desk.specs.Changes.{EachBecomes, FinishesIf}
 use Rattle.bsc_desk.specs.Entries.{connect_entry, connect_stamped}
 use Rattle.bsc_desk.specs.Live.{connection, is_row, known_in}
-use Rattle.bsc_desk.specs.Standing.{IsInletOf, StandsFor, all_found}
+use Rattle.bsc_desk.specs.Standing.{DeskStands, IsInletOf, all_found}
 use Rattle.bsc_desk.specs.Tallies.{no_counts}
 use Rattle.bsc_desk.proofs.Looks.{all_found-more, fresh_found}
 use Rattle.bsc_desk.proofs.Standings.{Goes, Keeps, goes_all, kept, stands_more, stands_same}
@@ -44,7 +44,7 @@ use Rattle.bsc_lemmas.proofs.Lists.{all-push}
 use Rattle.bsc_lemmas.proofs.Numbers.{eq_turned as eqb_comm}
 use Rattle.bsc_lemmas.proofs.Options.{or_none}
 
-pub lawful_connect : (d : Desk) (S : List Stamped) (caller : ℕ) (who : Identity) (reply : Reply) → StandsFor d S → same_vmac who.vmac zero_vmac ≡ false → same_vmac who.vmac broadcast ≡ false → d.tally.made < d.about.limits.calls → reply ≡ connect_reply d.about (entries S) who → Lawful d.about (moment (entries S) (connect_entry caller who reply))
+pub lawful_connect : (d : Desk) (S : List Stamped) (caller : ℕ) (who : Identity) (reply : Reply) → DeskStands d S → same_vmac who.vmac zero_vmac ≡ false → same_vmac who.vmac broadcast ≡ false → d.tally.made < d.about.limits.calls → reply ≡ connect_reply d.about (entries S) who → Lawful d.about (moment (entries S) (connect_entry caller who reply))
 lawful_connect d S caller who reply p zero all calls says = record {
   replied = says;
   named = refl;
@@ -54,7 +54,7 @@ lawful_connect d S caller who reply p zero all calls says = record {
 }
 
 -- a refusal
-pub stands_refused : (d n : Desk) (S : List Stamped) (caller : ℕ) (who : Identity) (m : Mark) (refusal : Refusal) → StandsFor d S → Lawful d.about (moment (entries S) (connect_entry caller who (RefusedReply refusal))) → n.about ≡ d.about → n.stopped_at ≡ d.stopped_at → n.tally.made ≡ d.tally.made + 1 → n.tally.counts ≡ plus d.tally.counts (record no_counts { refused = 1 }) → n.rows.items ≡ d.rows.items → StandsFor n (S ++ connect_stamped caller who m (RefusedReply refusal) ∷ [])
+pub stands_refused : (d n : Desk) (S : List Stamped) (caller : ℕ) (who : Identity) (m : Mark) (refusal : Refusal) → DeskStands d S → Lawful d.about (moment (entries S) (connect_entry caller who (RefusedReply refusal))) → n.about ≡ d.about → n.stopped_at ≡ d.stopped_at → n.tally.made ≡ d.tally.made + 1 → n.tally.counts ≡ plus d.tally.counts (record no_counts { refused = 1 }) → n.rows.items ≡ d.rows.items → DeskStands n (S ++ connect_stamped caller who m (RefusedReply refusal) ∷ [])
 unfolding added_by
 stands_refused d n S caller who m refusal p lawful about stop made count rows =
     let s = connect_stamped caller who m (RefusedReply refusal) in
@@ -121,7 +121,7 @@ none_leave : (xs : List Connection) → filter (λ x. not false) xs ≡ xs
 none_leave [] = refl
 none_leave (x ∷ xs) = ap (λ (l : List Connection). x ∷ l) (none_leave xs)
 
-pub stands_joined : (d n : Desk) (S : List Stamped) (caller : ℕ) (who : Identity) (conn : ℕ) (replaced : Option ℕ) (after : List Row) (new : Row) → StandsFor d S → Lawful d.about (moment (entries S) (connect_entry caller who (JoinedReply conn replaced))) → n.about ≡ d.about → n.stopped_at ≡ d.stopped_at → n.tally.made ≡ d.tally.made + 1 → n.tally.counts ≡ plus d.tally.counts (record no_counts { joined = 1; replaced = one_if (is_some replaced) }) → EachBecomes (λ r t. FinishesIf (is_row replaced r) Replaced r t) d.rows.items after → n.rows.items ≡ after ++ new ∷ [] → connection new ≡ record { number = conn; caller = caller; who = who } → IsNewInlet new.inlet → capacity_of new.inlet ≡ d.about.limits.outbox → StandsFor n (S ++ connect_stamped caller who (inlet_mark new.inlet) (JoinedReply conn replaced) ∷ [])
+pub stands_joined : (d n : Desk) (S : List Stamped) (caller : ℕ) (who : Identity) (conn : ℕ) (replaced : Option ℕ) (after : List Row) (new : Row) → DeskStands d S → Lawful d.about (moment (entries S) (connect_entry caller who (JoinedReply conn replaced))) → n.about ≡ d.about → n.stopped_at ≡ d.stopped_at → n.tally.made ≡ d.tally.made + 1 → n.tally.counts ≡ plus d.tally.counts (record no_counts { joined = 1; replaced = one_if (is_some replaced) }) → EachBecomes (λ r t. FinishesIf (is_row replaced r) Replaced r t) d.rows.items after → n.rows.items ≡ after ++ new ∷ [] → connection new ≡ record { number = conn; caller = caller; who = who } → IsNewInlet new.inlet → capacity_of new.inlet ≡ d.about.limits.outbox → DeskStands n (S ++ connect_stamped caller who (inlet_mark new.inlet) (JoinedReply conn replaced) ∷ [])
 stands_joined d n S caller who conn replaced after new p lawful about stop made count each rows is fresh holds =
     let a = d.about in
     let H = entries S in

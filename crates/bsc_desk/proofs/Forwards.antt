@@ -33,7 +33,7 @@ use Rattle.bsc_desk.specs.Fates.{AllBefall, Befalls, FewPushed, looks_in, looks_
 use Rattle.bsc_desk.specs.Frames.{Frame}
 use Rattle.bsc_desk.specs.Live.{connection, is_open, number}
 use Rattle.bsc_desk.specs.Rows.{IsRowOf, IsUnserved, end_of}
-use Rattle.bsc_desk.specs.Standing.{IsInletOf, StandsFor}
+use Rattle.bsc_desk.specs.Standing.{DeskStands, IsInletOf}
 use Rattle.bsc_desk.proofs.Fared.{AllFates, Told, each_fate, goes, more_said}
 use Rattle.bsc_desk.proofs.LiveRows.{address_of_row, by_of, live_rows, owns, stopped_so}
 use Rattle.bsc_desk.proofs.Orders.{all-weaker}
@@ -46,7 +46,7 @@ pub record Sends (d : Desk) (S : List Stamped) (caller conn : ℕ) (f : Frame) :
   pub ends : end_of d conn ≡ ended (entries S) conn
   pub passes : out_of (entries S) conn f.message ≡ out f.message f.sender
 
-pub sends : (d : Desk) (S : List Stamped) (caller conn : ℕ) (f : Frame) → StandsFor d S → IsRowOf d caller conn f.sender → Sends d S caller conn f
+pub sends : (d : Desk) (S : List Stamped) (caller conn : ℕ) (f : Frame) → DeskStands d S → IsRowOf d caller conn f.sender → Sends d S caller conn f
 sends d S caller conn f p is =
     let own = owns d S caller conn p (by_of d caller conn f.sender is) in
     record {
@@ -55,20 +55,20 @@ sends d S caller conn f p is =
       passes = ap (out f.message) (address_of_row d S caller conn f.sender p is);
     }
 
-may : (d : Desk) (S : List Stamped) (caller conn : ℕ) (f : Frame) → StandsFor d S → IsRowOf d caller conn f.sender → has_route f.message ≡ true → d.tally.made < d.about.limits.calls → (is_of (entries S) caller conn && has_route f.message && nat_lt (length (entries S)) d.about.limits.calls) ≡ true
+may : (d : Desk) (S : List Stamped) (caller conn : ℕ) (f : Frame) → DeskStands d S → IsRowOf d caller conn f.sender → has_route f.message ≡ true → d.tally.made < d.about.limits.calls → (is_of (entries S) caller conn && has_route f.message && nat_lt (length (entries S)) d.about.limits.calls) ≡ true
 may d S caller conn f p is route calls =
     and_from (is_of (entries S) caller conn && has_route f.message) _ (and_from (is_of (entries S) caller conn) (has_route f.message) (sends d S caller conn f p is).mine route)
     (ap (λ (n : ℕ). nat_lt n d.about.limits.calls) (length_entries S ∙ sym p.entered) ∙ lt-ltb d.tally.made d.about.limits.calls calls)
 
 -- the hub goes on, and the sender is live
-pub serves : (d : Desk) (S : List Stamped) (caller conn : ℕ) (f : Frame) → StandsFor d S → IsRowOf d caller conn f.sender → d.stopped_at ≡ None → end_of d conn ≡ None → (is_stopped (entries S) ≡ false) × (ended (entries S) conn ≡ None)
+pub serves : (d : Desk) (S : List Stamped) (caller conn : ℕ) (f : Frame) → DeskStands d S → IsRowOf d caller conn f.sender → d.stopped_at ≡ None → end_of d conn ≡ None → (is_stopped (entries S) ≡ false) × (ended (entries S) conn ≡ None)
 serves d S caller conn f p is on current = (sym (stopped_so d S p) ∙ ap is_some on, sym (sends d S caller conn f p is).ends ∙ current)
 
 -- the reply to a live sender's frame, whose octets are passed on as o
 abbrev pub served : About → List Entry → ℕ → List ℕ → List ℕ → List Look → Reply
 served a H conn m o looks = cond (is_broadcast m) (broadcast_reply a H o looks (meant H conn m)) (unicast_reply a H m o looks (holder H (destination m)))
 
-pub lawful_served : (d : Desk) (S : List Stamped) (caller conn : ℕ) (f : Frame) (looks : List Look) (reply : Reply) → StandsFor d S → IsRowOf d caller conn f.sender → has_route f.message ≡ true → d.tally.made < d.about.limits.calls → d.stopped_at ≡ None → end_of d conn ≡ None → reply ≡ served d.about (entries S) conn f.message (out f.message f.sender) looks → map (λ k. k.conn) looks ≡ numbers (filter (λ c. not (is_too_long (out f.message f.sender) c)) (meant (entries S) conn f.message)) → list_all (λ k. can_find d.about (entries S) k.conn k.taken) looks ≡ true → Lawful d.about (moment (entries S) (forward_entry caller conn f.message looks reply))
+pub lawful_served : (d : Desk) (S : List Stamped) (caller conn : ℕ) (f : Frame) (looks : List Look) (reply : Reply) → DeskStands d S → IsRowOf d caller conn f.sender → has_route f.message ≡ true → d.tally.made < d.about.limits.calls → d.stopped_at ≡ None → end_of d conn ≡ None → reply ≡ served d.about (entries S) conn f.message (out f.message f.sender) looks → map (λ k. k.conn) looks ≡ numbers (filter (λ c. not (is_too_long (out f.message f.sender) c)) (meant (entries S) conn f.message)) → list_all (λ k. can_find d.about (entries S) k.conn k.taken) looks ≡ true → Lawful d.about (moment (entries S) (forward_entry caller conn f.message looks reply))
 unfolding forward_reply
 lawful_served d S caller conn f looks reply p is route calls on current says names_so can =
     let a = d.about in
@@ -87,7 +87,7 @@ lawful_served d S caller conn f looks reply p is route calls on current says nam
     }
 
 -- A frame that goes nowhere, as the hub has stopped or its sender has ended.
-pub lawful_unserved : (d : Desk) (S : List Stamped) (caller conn : ℕ) (f : Frame) (w : Option End) → StandsFor d S → IsRowOf d caller conn f.sender → has_route f.message ≡ true → d.tally.made < d.about.limits.calls → IsUnserved d conn w → Lawful d.about (moment (entries S) (forward_entry caller conn f.message [] (unserved w)))
+pub lawful_unserved : (d : Desk) (S : List Stamped) (caller conn : ℕ) (f : Frame) (w : Option End) → DeskStands d S → IsRowOf d caller conn f.sender → has_route f.message ≡ true → d.tally.made < d.about.limits.calls → IsUnserved d conn w → Lawful d.about (moment (entries S) (forward_entry caller conn f.message [] (unserved w)))
 unfolding forward_reply
 lawful_unserved d S caller conn f None p is route calls idle =
     let H = entries S in
@@ -117,7 +117,7 @@ none_named : (w : Option End) (c : ℕ) → names c (unserved w) ≡ false
 none_named None c = refl
 none_named (Some e) c = refl
 
-pub stands_unserved : (d n : Desk) (S : List Stamped) (caller conn : ℕ) (f : Frame) (w : Option End) → StandsFor d S → IsRowOf d caller conn f.sender → has_route f.message ≡ true → d.tally.made < d.about.limits.calls → IsUnserved d conn w → n.about ≡ d.about → n.stopped_at ≡ d.stopped_at → n.tally.made ≡ d.tally.made + 1 → n.tally.counts ≡ plus d.tally.counts (counts_of (forward_entry caller conn f.message [] (unserved w))) → n.rows.items ≡ d.rows.items → StandsFor n (S ++ plain (forward_entry caller conn f.message [] (unserved w)) ∷ [])
+pub stands_unserved : (d n : Desk) (S : List Stamped) (caller conn : ℕ) (f : Frame) (w : Option End) → DeskStands d S → IsRowOf d caller conn f.sender → has_route f.message ≡ true → d.tally.made < d.about.limits.calls → IsUnserved d conn w → n.about ≡ d.about → n.stopped_at ≡ d.stopped_at → n.tally.made ≡ d.tally.made + 1 → n.tally.counts ≡ plus d.tally.counts (counts_of (forward_entry caller conn f.message [] (unserved w))) → n.rows.items ≡ d.rows.items → DeskStands n (S ++ plain (forward_entry caller conn f.message [] (unserved w)) ∷ [])
 stands_unserved d n S caller conn f w p is route calls idle about stop made count rows =
     let H = entries S in
     let e = forward_entry caller conn f.message [] (unserved w) in
@@ -133,7 +133,7 @@ stands_unserved d n S caller conn f w p is route calls idle about stop made coun
     ends_nobody (Some e) c = refl
 
 -- A frame that went through the rows makes its one entry.
-pub stands_sent : (d n : Desk) (S : List Stamped) (caller conn : ℕ) (f : Frame) (looks : List Look) (reply : Reply) (t : Row → Bool) (full : Option End) (fates : List Fate) → StandsFor d S → IsRowOf d caller conn f.sender → Lawful d.about (moment (entries S) (forward_entry caller conn f.message looks reply)) → ((r : Row) → t r ≡ true → is_open r ≡ true) → AllBefall t full (out f.message f.sender) d.rows.items fates n.rows.items → AllFates (λ r x. Told full reply looks (number r) x) d.rows.items fates → n.about ≡ d.about → n.stopped_at ≡ d.stopped_at → n.tally.made ≡ d.tally.made + 1 → n.tally.counts ≡ plus d.tally.counts (counts_of (forward_entry caller conn f.message looks reply)) → StandsFor n (S ++ plain (forward_entry caller conn f.message looks reply) ∷ [])
+pub stands_sent : (d n : Desk) (S : List Stamped) (caller conn : ℕ) (f : Frame) (looks : List Look) (reply : Reply) (t : Row → Bool) (full : Option End) (fates : List Fate) → DeskStands d S → IsRowOf d caller conn f.sender → Lawful d.about (moment (entries S) (forward_entry caller conn f.message looks reply)) → ((r : Row) → t r ≡ true → is_open r ≡ true) → AllBefall t full (out f.message f.sender) d.rows.items fates n.rows.items → AllFates (λ r x. Told full reply looks (number r) x) d.rows.items fates → n.about ≡ d.about → n.stopped_at ≡ d.stopped_at → n.tally.made ≡ d.tally.made + 1 → n.tally.counts ≡ plus d.tally.counts (counts_of (forward_entry caller conn f.message looks reply)) → DeskStands n (S ++ plain (forward_entry caller conn f.message looks reply) ∷ [])
 stands_sent d n S caller conn f looks reply t full fates p is lawful opens all told about stop made count =
     let a = d.about in
     let H = entries S in
@@ -189,7 +189,7 @@ no_facts [] [] [] t full o h = tt
 no_facts (r ∷ rows) (x ∷ fates) (s ∷ after) t full o h = (refl, no_facts rows fates after t full o h.1)
 no_facts rows fates after t full o h = absurd h
 
-pub looks_named : (d : Desk) (S : List Stamped) (conn : ℕ) (m o : List ℕ) (full : Option End) (fates : List Fate) (after : List Row) → StandsFor d S → AllBefall (λ r. is_open r && means m conn (connection r)) full o d.rows.items fates after → map (λ k. k.conn) (looks_of fates) ≡ numbers (filter (λ c. not (is_too_long o c)) (meant (entries S) conn m))
+pub looks_named : (d : Desk) (S : List Stamped) (conn : ℕ) (m o : List ℕ) (full : Option End) (fates : List Fate) (after : List Row) → DeskStands d S → AllBefall (λ r. is_open r && means m conn (connection r)) full o d.rows.items fates after → map (λ k. k.conn) (looks_of fates) ≡ numbers (filter (λ c. not (is_too_long o c)) (meant (entries S) conn m))
 looks_named d S conn m o full fates after p h =
     let q = means m conn in
     let t = λ (r : Row). is_open r && q (connection r) in
@@ -200,7 +200,7 @@ looks_named d S conn m o full fates after p h =
     ∙ ap (λ (l : List Connection). numbers (filter (λ c. not (is_too_long o c)) (filter q l))) (sym (live_rows d S p))
 
 -- a push more is possible at each ring
-pub few_pushed : (d : Desk) (S : List Stamped) → StandsFor d S → FewPushed d.rows.items
+pub few_pushed : (d : Desk) (S : List Stamped) → DeskStands d S → FewPushed d.rows.items
 few_pushed d S p = all-weaker (λ r. IsInletOf d.about S r.connection.number r.inlet) (λ r. length (pushed r.inlet) < 2 ^ 63) d.rows.items (λ r i.
     let short = sent_short d.about (entries S) r.connection.number in
     let same = ap length i.items in

@@ -29,7 +29,7 @@ use Rattle.bsc_desk.specs.Entries.{count_entry, leave_entry, plain, stop_entry}
 use Rattle.bsc_desk.specs.Live.{connection, number}
 use Rattle.bsc_desk.specs.Meetings.{IsOutletOf}
 use Rattle.bsc_desk.specs.Rows.{IsMarkOf, IsRowBy}
-use Rattle.bsc_desk.specs.Standing.{IsInletOf, StandsFor}
+use Rattle.bsc_desk.specs.Standing.{DeskStands, IsInletOf}
 use Rattle.bsc_desk.specs.Tallies.{no_counts}
 use Rattle.bsc_desk.proofs.LiveRows.{owns, stopped_so}
 use Rattle.bsc_desk.proofs.Looks.{newest_look}
@@ -46,14 +46,14 @@ module _ (d : Desk) (conn i : ℕ) (r : Row) (there : position (has_number conn)
   pub of_conn : r.connection.number ≡ conn
   of_conn = eqb-true r.connection.number conn (subst (λ z. (z.connection.number == conn) ≡ true) (sym at) (position-Some (has_number conn) d.rows.items i r there).1)
 
-  pub inlet_at : (S : List Stamped) → StandsFor d S → IsInletOf d.about S conn r.inlet
+  pub inlet_at : (S : List Stamped) → DeskStands d S → IsInletOf d.about S conn r.inlet
   inlet_at S p = subst (λ k. IsInletOf d.about S k r.inlet) of_conn (all_at (λ x. IsInletOf d.about S x.connection.number x.inlet) d.rows.items i r (position-Some (has_number conn) d.rows.items i r there).0 at p.inlets)
 
   pub mark_at : (o : Outlet) → IsMarkOf d conn (outlet_mark o) → inlet_mark r.inlet ≡ outlet_mark o
   mark_at o marks = all_at (λ x. x.connection.number ≡ conn → inlet_mark x.inlet ≡ outlet_mark o) d.rows.items i r (position-Some (has_number conn) d.rows.items i r there).0 at marks of_conn
 
   -- what the outlet gave, by what was pushed
-  pub outlet_fits : (S : List Stamped) (o : Outlet) → StandsFor d S → Fit r.inlet o → IsOutletOf d.about (entries S) conn o
+  pub outlet_fits : (S : List Stamped) (o : Outlet) → DeskStands d S → Fit r.inlet o → IsOutletOf d.about (entries S) conn o
   outlet_fits S o p fit =
       let its = inlet_at S p in
       record {
@@ -67,7 +67,7 @@ given_first d S conn t o is count =
     let rest = is.begins.0 in
     sym (ap (λ (l : List Item). take t l) is.begins.1 ∙ ap (λ k. take k (given o ++ rest)) count ∙ take-append_seam (given o) rest)
 
-pub lawful_leave : (d : Desk) (S : List Stamped) (caller conn empties : ℕ) (r : Row) (o : Outlet) (g : Gone) → StandsFor d S → IsRowBy d caller conn → IsInletOf d.about S conn r.inlet → IsOutletOf d.about (entries S) conn o → g.ending ≡ unwrap_or r.ending Left → g.taken ≡ length (given o) → Lawful d.about (moment (entries S) (leave_entry caller conn empties g))
+pub lawful_leave : (d : Desk) (S : List Stamped) (caller conn empties : ℕ) (r : Row) (o : Outlet) (g : Gone) → DeskStands d S → IsRowBy d caller conn → IsInletOf d.about S conn r.inlet → IsOutletOf d.about (entries S) conn o → g.ending ≡ unwrap_or r.ending Left → g.taken ≡ length (given o) → Lawful d.about (moment (entries S) (leave_entry caller conn empties g))
 lawful_leave d S caller conn empties r o g p is its out ending taken =
     let a = d.about in
     let H = entries S in
@@ -106,7 +106,7 @@ commuted conn (x ∷ xs) =
     ap (λ (b : Bool). cond (not b) (x ∷ A) A) (eqb_comm x.number conn)
     ∙ elim (conn == x.number) as (λ b. cond (not b) (x ∷ A) A ≡ cond (not b) (x ∷ B) B ++ []) [ true ↦ commuted conn xs | false ↦ ap (λ (l : List Connection). x ∷ l) (commuted conn xs) ]
 
-pub stands_left : (d n : Desk) (S : List Stamped) (caller conn empties i : ℕ) (r : Row) (g : Gone) → StandsFor d S → Lawful d.about (moment (entries S) (leave_entry caller conn empties g)) → position (has_number conn) d.rows.items ≡ Some i → n.about ≡ d.about → n.stopped_at ≡ d.stopped_at → n.tally.made ≡ d.tally.made + 1 → n.tally.counts ≡ plus d.tally.counts no_counts → n.rows.items ≡ remove d.rows.items i → StandsFor n (S ++ plain (leave_entry caller conn empties g) ∷ [])
+pub stands_left : (d n : Desk) (S : List Stamped) (caller conn empties i : ℕ) (r : Row) (g : Gone) → DeskStands d S → Lawful d.about (moment (entries S) (leave_entry caller conn empties g)) → position (has_number conn) d.rows.items ≡ Some i → n.about ≡ d.about → n.stopped_at ≡ d.stopped_at → n.tally.made ≡ d.tally.made + 1 → n.tally.counts ≡ plus d.tally.counts no_counts → n.rows.items ≡ remove d.rows.items i → DeskStands n (S ++ plain (leave_entry caller conn empties g) ∷ [])
 stands_left d n S caller conn empties i r g p lawful there about stop made count rows =
     let s = plain (leave_entry caller conn empties g) in
     let out = rows ∙ removed conn i r d.rows.items there (rows_apart d S p) in
@@ -121,7 +121,7 @@ stands_left d n S caller conn empties i r g p lawful there about stop made count
 
 -- a stop
 
-pub lawful_stop : (d : Desk) (S : List Stamped) (caller : ℕ) → StandsFor d S → d.stopped_at ≡ None → Lawful d.about (moment (entries S) (stop_entry caller d.tally.counts))
+pub lawful_stop : (d : Desk) (S : List Stamped) (caller : ℕ) → DeskStands d S → d.stopped_at ≡ None → Lawful d.about (moment (entries S) (stop_entry caller d.tally.counts))
 lawful_stop d S caller p none = record {
   replied = ap CountedReply p.counted;
   named = refl;
@@ -142,7 +142,7 @@ stop_one d H caller k r t f = (
   },
 )
 
-pub stands_stopped : (d n : Desk) (S : List Stamped) (caller : ℕ) → StandsFor d S → d.stopped_at ≡ None → n.about ≡ d.about → n.stopped_at ≡ Some d.tally.made → n.tally.made ≡ d.tally.made + 1 → n.tally.counts ≡ plus d.tally.counts no_counts → EachBecomes (λ r t. FinishesIf true Stopped r t) d.rows.items n.rows.items → StandsFor n (S ++ plain (stop_entry caller d.tally.counts) ∷ [])
+pub stands_stopped : (d n : Desk) (S : List Stamped) (caller : ℕ) → DeskStands d S → d.stopped_at ≡ None → n.about ≡ d.about → n.stopped_at ≡ Some d.tally.made → n.tally.made ≡ d.tally.made + 1 → n.tally.counts ≡ plus d.tally.counts no_counts → EachBecomes (λ r t. FinishesIf true Stopped r t) d.rows.items n.rows.items → DeskStands n (S ++ plain (stop_entry caller d.tally.counts) ∷ [])
 stands_stopped d n S caller p none about stop made count each =
     let s = plain (stop_entry caller d.tally.counts) in
     let goes = each_weaker (λ r t. FinishesIf true Stopped r t) (Goes d.about (entries S) s.entry) d.rows.items n.rows.items (stop_one d (entries S) caller d.tally.counts) each in
@@ -161,7 +161,7 @@ stands_stopped d n S caller p none about stop made count each =
 
 -- a count
 
-pub lawful_count : (d : Desk) (S : List Stamped) (caller : ℕ) → StandsFor d S → d.tally.made < d.about.limits.calls → Lawful d.about (moment (entries S) (count_entry caller d.tally.counts))
+pub lawful_count : (d : Desk) (S : List Stamped) (caller : ℕ) → DeskStands d S → d.tally.made < d.about.limits.calls → Lawful d.about (moment (entries S) (count_entry caller d.tally.counts))
 lawful_count d S caller p calls = record {
   replied = ap CountedReply p.counted;
   named = refl;
@@ -169,13 +169,13 @@ lawful_count d S caller p calls = record {
   called = ap (λ (n : ℕ). nat_lt n d.about.limits.calls) (length_entries S ∙ sym p.entered) ∙ lt-ltb d.tally.made d.about.limits.calls calls;
 }
 
-pub stands_counted : (d n : Desk) (S : List Stamped) (caller : ℕ) → StandsFor d S → d.tally.made < d.about.limits.calls → n.about ≡ d.about → n.stopped_at ≡ d.stopped_at → n.tally.made ≡ d.tally.made + 1 → n.tally.counts ≡ plus d.tally.counts no_counts → n.rows.items ≡ d.rows.items → StandsFor n (S ++ plain (count_entry caller d.tally.counts) ∷ [])
+pub stands_counted : (d n : Desk) (S : List Stamped) (caller : ℕ) → DeskStands d S → d.tally.made < d.about.limits.calls → n.about ≡ d.about → n.stopped_at ≡ d.stopped_at → n.tally.made ≡ d.tally.made + 1 → n.tally.counts ≡ plus d.tally.counts no_counts → n.rows.items ≡ d.rows.items → DeskStands n (S ++ plain (count_entry caller d.tally.counts) ∷ [])
 unfolding added_by
 stands_counted d n S caller p calls about stop made count rows =
     stands_same d n S (plain (count_entry caller d.tally.counts)) p (lawful_count d S caller p calls) (record { goes_on = refl; stays = λ c. refl; joins_none = refl }) (record { ends_none = λ c. refl; looks_none = refl; adds_nothing = λ c. refl }) about stop made count rows
 
-pub stopped_before : (d : Desk) (S : List Stamped) (place : ℕ) → StandsFor d S → d.stopped_at ≡ Some place → is_stopped (entries S) ≡ true
+pub stopped_before : (d : Desk) (S : List Stamped) (place : ℕ) → DeskStands d S → d.stopped_at ≡ Some place → is_stopped (entries S) ≡ true
 stopped_before d S place p at = sym (stopped_so d S p) ∙ ap is_some at
 
-pub never_stopped : (d : Desk) (S : List Stamped) → StandsFor d S → d.stopped_at ≡ None → is_stopped (entries S) ≡ false
+pub never_stopped : (d : Desk) (S : List Stamped) → DeskStands d S → d.stopped_at ≡ None → is_stopped (entries S) ≡ false
 never_stopped d S p none = sym (stopped_so d S p) ∙ ap is_some none

@@ -7,7 +7,6 @@ pub mod Walks
 pub mod Numbers
 pub mod Removals
 pub mod Finishing
-pub mod Histories
 pub mod Looks
 pub mod Standings
 pub mod LiveRows

@@ -20,8 +20,8 @@ use Rattle.bsc_desk.specs.declared.row.Row.{Row}
 use Rattle.bsc_desk.specs.declared.desk.Desk.{Desk}
 use Rattle.bsc_desk.specs.Live.{connection, end_in, is_open, number}
 use Rattle.bsc_desk.specs.Rows.{IsRowBy, IsRowOf, end_of}
-use Rattle.bsc_desk.specs.Standing.{IsInletOf, StandsFor}
-use Rattle.bsc_desk.proofs.Histories.{live_unended, vmac_unleft}
+use Rattle.bsc_desk.specs.Standing.{DeskStands, IsInletOf}
+use Rattle.bsc_history.proofs.Connections.{live_unended, vmac_unleft}
 use Rattle.bsc_desk.proofs.Standings.{In-map, rows_apart}
 use Rattle.bsc_desk.proofs.Walks.{has_number}
 use Rattle.bsc_lemmas.proofs.Lists.{position_any}
@@ -40,7 +40,7 @@ open_rows a S (r ∷ rows) all =
     ap (λ (b : Bool). cond b (connection r ∷ filter E (map connection rows)) (filter E (map connection rows))) same
     ∙ elim (is_open r) as (λ b. cond b (connection r ∷ filter E (map connection rows)) (filter E (map connection rows)) ≡ map connection (cond b (r ∷ filter is_open rows) (filter is_open rows))) [ true ↦ ap (λ (l : List Connection). connection r ∷ l) rest | false ↦ rest ]
 
-pub live_rows : (d : Desk) (S : List Stamped) → StandsFor d S → live (entries S) ≡ map connection (filter is_open d.rows.items)
+pub live_rows : (d : Desk) (S : List Stamped) → DeskStands d S → live (entries S) ≡ map connection (filter is_open d.rows.items)
 live_rows d S p = live_unended d.about (entries S) p.legal ∙ ap (filter (λ x. is_none (ended (entries S) x.number))) (sym p.unleft_rows) ∙ open_rows d.about S d.rows.items p.inlets
 
 find_open : (p : Connection → Bool) (rows : List Row) → find p (map connection (filter is_open rows)) ≡ option_map connection (find (λ r. is_open r && p (connection r)) rows)
@@ -52,7 +52,7 @@ find_open p (r ∷ rows) =
     ]
 
 -- what is found among the live connections is found among the open rows
-pub live_found : (d : Desk) (S : List Stamped) (p : Connection → Bool) → StandsFor d S → find p (live (entries S)) ≡ option_map connection (find (λ r. is_open r && p (connection r)) d.rows.items)
+pub live_found : (d : Desk) (S : List Stamped) (p : Connection → Bool) → DeskStands d S → find p (live (entries S)) ≡ option_map connection (find (λ r. is_open r && p (connection r)) d.rows.items)
 live_found d S p s = ap (find p) (live_rows d S s) ∙ find_open p d.rows.items
 
 -- of rows whose numbers are apart, each is the one that is found by its number
@@ -63,7 +63,7 @@ found_each r (y ∷ rows) apart (inr m) =
     rw (ne_eqb y.connection.number r.connection.number (In_from_all (λ (x : Row). y.connection.number ≢ x.connection.number) r rows apart.0 m)) (found_each r rows apart.1 m)
 
 -- the hub has stopped exactly where the desk keeps a place
-pub stopped_so : (d : Desk) (S : List Stamped) → StandsFor d S → is_some d.stopped_at ≡ is_stopped (entries S)
+pub stopped_so : (d : Desk) (S : List Stamped) → DeskStands d S → is_some d.stopped_at ≡ is_stopped (entries S)
 stopped_so d S p = ap is_some p.stop_place ∙ position_any stops (entries S)
 
 -- r is a row that a test finds among some
@@ -94,7 +94,7 @@ pub any_row : (p : Connection → Bool) (rows : List Row) → list_any (λ r. p 
 any_row p [] = refl
 any_row p (r ∷ rows) = ap (λ (b : Bool). p (connection r) || b) (any_row p rows)
 
-pub owns : (d : Desk) (S : List Stamped) (caller conn : ℕ) → StandsFor d S → IsRowBy d caller conn → Owns d S caller conn
+pub owns : (d : Desk) (S : List Stamped) (caller conn : ℕ) → DeskStands d S → IsRowBy d caller conn → Owns d S caller conn
 owns d S caller conn p is =
     let t = λ (x : Connection). (x.number == conn) && (x.caller == caller) in
     let r = finds (λ r. t (connection r)) d.rows.items is in
@@ -126,7 +126,7 @@ pub has_by : (d : Desk) (caller conn : ℕ) → IsRowBy d caller conn → list_a
 has_by d caller conn is = weaker (λ r. (r.connection.number == conn) && (r.connection.caller == caller)) (has_number conn) d.rows.items (λ r h. (and_parts (r.connection.number == conn) (r.connection.caller == caller) h).0) is
 
 -- the sender of a frame joined with its address
-pub address_of_row : (d : Desk) (S : List Stamped) (caller conn : ℕ) (v : Vmac) → StandsFor d S → IsRowOf d caller conn v → vmac_of (entries S) conn ≡ v
+pub address_of_row : (d : Desk) (S : List Stamped) (caller conn : ℕ) (v : Vmac) → DeskStands d S → IsRowOf d caller conn v → vmac_of (entries S) conn ≡ v
 address_of_row d S caller conn v p is =
     let r = finds (λ (r : Row). (r.connection.number == conn) && (r.connection.caller == caller) && same_vmac r.connection.who.vmac v) d.rows.items is in
     let two = and_parts ((r.0.connection.number == conn) && (r.0.connection.caller == caller)) (same_vmac r.0.connection.who.vmac v) r.1.passes in

@@ -17,7 +17,7 @@ use Rattle.bsc_desk.specs.declared.row.Row.{Row}
 use Rattle.bsc_desk.specs.declared.tally.Tally.{Tally}
 use Rattle.bsc_desk.specs.Changes.{EachBecomes, IsSameRow}
 use Rattle.bsc_desk.specs.Meetings.{KnowsOutbox}
-use Rattle.bsc_desk.specs.Standing.{IsInletOf, StandsFor}
+use Rattle.bsc_desk.specs.Standing.{DeskStands, IsInletOf}
 use Rattle.bsc_desk.proofs.Filing.{StaysFiled}
 use Rattle.bsc_desk.proofs.Walks.{changes_each, changes_set, each_all, each_connections, has_number}
 
@@ -41,7 +41,7 @@ inlet_same a S r s p h = subst (λ n. IsInletOf a S n s.inlet) (sym (ap (λ (k :
   finished = s.tied ∙ h.ends ∙ sym r.tied ∙ p.finished;
 })
 
-pub stands_met : (d n : Desk) (S : List Stamped) → StandsFor d S → n.about ≡ d.about → n.stopped_at ≡ d.stopped_at → n.tally ≡ d.tally → EachBecomes IsSameRow d.rows.items n.rows.items → StandsFor n S
+pub stands_met : (d n : Desk) (S : List Stamped) → DeskStands d S → n.about ≡ d.about → n.stopped_at ≡ d.stopped_at → n.tally ≡ d.tally → EachBecomes IsSameRow d.rows.items n.rows.items → DeskStands n S
 stands_met d n S p about stop tally each = record {
   legal = subst (λ b. Legal b (entries S)) (sym about) p.legal;
   stop_place = stop ∙ p.stop_place;

@@ -23,8 +23,8 @@ use Rattle.bsc_ring.specs.Ends.{inlet_mark}
 use Rattle.bsc_desk.specs.Entries.{connect_stamped}
 use Rattle.bsc_desk.specs.Live.{connection}
 use Rattle.bsc_desk.specs.Rows.{HasRow, IsMarkOf, IsRowOf, IsRowBy}
-use Rattle.bsc_desk.specs.Standing.{IsInletOf, StandsFor}
-use Rattle.bsc_desk.proofs.Histories.{vmac_unleft}
+use Rattle.bsc_desk.specs.Standing.{DeskStands, IsInletOf}
+use Rattle.bsc_history.proofs.Connections.{vmac_unleft}
 use Rattle.bsc_desk.proofs.LiveRows.{any_row}
 use Rattle.bsc_desk.proofs.Orders.{all-weaker}
 
@@ -37,11 +37,11 @@ any_more p q (x ∷ xs) each any =
     ]
 
 -- an unleft connection has a row
-pub has_unleft : (d : Desk) (S : List Stamped) (c : ℕ) → StandsFor d S → list_any (λ x. x.number == c) (unleft (entries S)) ≡ true → HasRow d c
+pub has_unleft : (d : Desk) (S : List Stamped) (c : ℕ) → DeskStands d S → list_any (λ x. x.number == c) (unleft (entries S)) ≡ true → HasRow d c
 has_unleft d S c s came = any_row (λ (x : Connection). x.number == c) d.rows.items ∙ ap (list_any (λ (x : Connection). x.number == c)) s.unleft_rows ∙ came
 
 -- an unleft connection of a caller is the row of that caller, with the address with which it joined
-pub is_row_of : (d : Desk) (S : List Stamped) (caller c : ℕ) (v : Vmac) → StandsFor d S → is_of (entries S) caller c ≡ true → vmac_of (entries S) c ≡ v → IsRowOf d caller c v
+pub is_row_of : (d : Desk) (S : List Stamped) (caller c : ℕ) (v : Vmac) → DeskStands d S → is_of (entries S) caller c ≡ true → vmac_of (entries S) c ≡ v → IsRowOf d caller c v
 is_row_of d S caller c v s mine address =
     let p = λ (x : Connection). (x.number == c) && (x.caller == caller) in
     let q = λ (x : Connection). (x.number == c) && (x.caller == caller) && same_vmac x.who.vmac v in
@@ -52,18 +52,18 @@ is_row_of d S caller c v s mine address =
     any_row q d.rows.items ∙ ap (list_any q) s.unleft_rows ∙ any_more p q (unleft (entries S)) each mine
 
 -- an unleft connection of a caller is a row of that caller
-pub is_row_by : (d : Desk) (S : List Stamped) (caller c : ℕ) → StandsFor d S → is_of (entries S) caller c ≡ true → IsRowBy d caller c
+pub is_row_by : (d : Desk) (S : List Stamped) (caller c : ℕ) → DeskStands d S → is_of (entries S) caller c ≡ true → IsRowBy d caller c
 is_row_by d S caller c s mine = any_row (λ (x : Connection). (x.number == c) && (x.caller == caller)) d.rows.items ∙ ap (list_any (λ (x : Connection). (x.number == c) && (x.caller == caller))) s.unleft_rows ∙ mine
 
 same_mark : (m n : Mark) → Some m ≡ Some n → m ≡ n
 same_mark m n e = cc
 
 -- the mark that the history keeps for a connection is that of its inlet
-pub is_mark_of : (d : Desk) (S : List Stamped) (c : ℕ) (m : Mark) → StandsFor d S → mark_of S c ≡ Some m → IsMarkOf d c m
+pub is_mark_of : (d : Desk) (S : List Stamped) (c : ℕ) (m : Mark) → DeskStands d S → mark_of S c ≡ Some m → IsMarkOf d c m
 is_mark_of d S c m s h = all-weaker (λ r. IsInletOf d.about S r.connection.number r.inlet) (λ r. r.connection.number ≡ c → inlet_mark r.inlet ≡ m) d.rows.items (λ r i same. same_mark (inlet_mark r.inlet) m (sym i.marked ∙ ap (mark_of S) same ∙ h)) s.inlets
 
 -- a history is no longer than the limit of calls, but for the leaves of all rows and one stop
-pub few_entries : (d : Desk) (S : List Stamped) → StandsFor d S → length S ≤ d.about.limits.calls + d.about.limits.rows + 1
+pub few_entries : (d : Desk) (S : List Stamped) → DeskStands d S → length S ≤ d.about.limits.calls + d.about.limits.rows + 1
 few_entries d S s =
     let few = d.few_calls in
     let count = s.entered in
@@ -71,7 +71,7 @@ few_entries d S s =
 
 -- who joined has the row of its caller, and the history keeps the mark of its inlet
 
-pub joined_mark : (n : Desk) (S : List Stamped) (caller : ℕ) (who : Identity) (m : Mark) (conn : ℕ) (replaced : Option ℕ) → StandsFor n (S ++ connect_stamped caller who m (Joined conn replaced) ∷ []) → mark_of (S ++ connect_stamped caller who m (Joined conn replaced) ∷ []) conn ≡ Some m
+pub joined_mark : (n : Desk) (S : List Stamped) (caller : ℕ) (who : Identity) (m : Mark) (conn : ℕ) (replaced : Option ℕ) → DeskStands n (S ++ connect_stamped caller who m (Joined conn replaced) ∷ []) → mark_of (S ++ connect_stamped caller who m (Joined conn replaced) ∷ []) conn ≡ Some m
 joined_mark n S caller who m conn replaced s =
     let e = connect_stamped caller who m (Joined conn replaced) in
     let x : Connection = record { number = conn; caller = caller; who = who } in

@@ -15,9 +15,10 @@ use Rattle.bsc_history.specs.Laws.{Apart}
 use Rattle.bsc_history.specs.Legality.{Lawful, Legal}
 use Rattle.bsc_history.specs.Marks.{entries}
 use Rattle.bsc_history.specs.Outboxes.{added, sent}
-use Rattle.bsc_history.proofs.Lists.{In, In_from_all, all_from_In}
+use Rattle.bsc_history.proofs.Connections.{apart_new, unleft_joined}
+use Rattle.bsc_history.proofs.Lists.{Apart-filter, Apart-push, In, In-filter, In_from_all, all_from_In}
 use Rattle.bsc_history.proofs.Marks.{mark_grows}
-use Rattle.bsc_history.proofs.More.{Legal-more, counts-more, ended-more, entries-more, sent-more, unleft-more}
+use Rattle.bsc_history.proofs.More.{Legal-more, along, counts-more, ended-more, entries-more, sent-more, unleft-more}
 use Rattle.bsc_ring.specs.declared.ends.Inlet.{Inlet}
 use Rattle.bsc_ring.specs.Ends.{capacity_of, ending_of, inlet_mark, loads, pushed}
 use Rattle.bsc_ring.specs.Lists.{Item}
@@ -25,9 +26,8 @@ use Rattle.bsc_desk.specs.declared.desk.Desk.{Desk}
 use Rattle.bsc_desk.specs.declared.row.Row.{Row}
 use Rattle.bsc_desk.specs.Changes.{EachBecomes}
 use Rattle.bsc_desk.specs.Live.{connection, number}
-use Rattle.bsc_desk.specs.Standing.{IsInletOf, StandsFor, all_found, found_at}
+use Rattle.bsc_desk.specs.Standing.{DeskStands, IsInletOf, all_found, found_at}
 use Rattle.bsc_desk.specs.Tallies.{no_counts}
-use Rattle.bsc_desk.proofs.Histories.{unleft_apart, unleft_joined}
 use Rattle.bsc_desk.proofs.Looks.{all_found-more}
 use Rattle.bsc_desk.proofs.Walks.{apart_rows, each_all, each_connections}
 use Rattle.bsc_history.proofs.Common.{length_entries, none_leave}
@@ -79,14 +79,21 @@ In-map r [] m = absurd m
 In-map r (x ∷ rows) (inl e) = inl (ap connection e)
 In-map r (x ∷ rows) (inr m) = inr (In-map r rows m)
 
-pub rows_apart : (d : Desk) (S : List Stamped) → StandsFor d S → Apart number d.rows.items
+-- numbers of those who haven't left are apart
+unleft_apart : (a : About) (H : List Entry) → Legal a H → Apart (λ (c : Connection). c.number) (unleft H)
+unfolding joined_where
+unleft_apart a H legal = along a (λ G. Apart (λ (c : Connection). c.number) (unleft G)) tt (λ G e legalG p lawful.
+    let L = λ (x : Connection). not (leaves x.number e) in
+    rw unleft-more (Apart-push (λ (c : Connection). c.number) (filter L (unleft G)) (connection_of e) (Apart-filter (λ (c : Connection). c.number) L (unleft G) p) (λ x y m same. apart_new a G e legalG lawful x y (unleft_joined G x (In-filter L x (unleft G) m).0).1 same))) H legal
+
+pub rows_apart : (d : Desk) (S : List Stamped) → DeskStands d S → Apart number d.rows.items
 rows_apart d S p = apart_rows d.rows.items (subst (Apart (λ (c : Connection). c.number)) (sym p.unleft_rows) (unleft_apart d.about (entries S) p.legal))
 
 -- each row is of a connection that joined, and its inlet is its connection's
 abbrev pub IsKept : About → List Stamped → Row → Type 0
 IsKept a S r = (list_any (joins r.connection.number) (entries S) ≡ true) × IsInletOf a S r.connection.number r.inlet
 
-pub kept : (d : Desk) (S : List Stamped) → StandsFor d S → AllByRecursion (IsKept d.about S) d.rows.items
+pub kept : (d : Desk) (S : List Stamped) → DeskStands d S → AllByRecursion (IsKept d.about S) d.rows.items
 kept d S p = all_from_In (IsKept d.about S) d.rows.items (λ r m. (
   (unleft_joined (entries S) (connection r) (subst (In (connection r)) p.unleft_rows (In-map r d.rows.items m))).1,
   In_from_all (λ (x : Row). IsInletOf d.about S x.connection.number x.inlet) r d.rows.items p.inlets m,
@@ -106,7 +113,7 @@ pub record Keeps (d n : Desk) (e : Entry) : Type 0 where
   pub count : n.tally.counts ≡ plus d.tally.counts (counts_of e)
   pub rows : map connection n.rows.items ≡ filter (λ x. not (leaves x.number e)) (map connection d.rows.items) ++ option_to_list (connection_of e)
 
-pub stands_more : (d n : Desk) (S : List Stamped) (s : Stamped) → StandsFor d S → Lawful d.about (moment (entries S) s.entry) → Keeps d n s.entry → AllByRecursion (λ r. IsInletOf d.about (S ++ s ∷ []) r.connection.number r.inlet) n.rows.items → StandsFor n (S ++ s ∷ [])
+pub stands_more : (d n : Desk) (S : List Stamped) (s : Stamped) → DeskStands d S → Lawful d.about (moment (entries S) s.entry) → Keeps d n s.entry → AllByRecursion (λ r. IsInletOf d.about (S ++ s ∷ []) r.connection.number r.inlet) n.rows.items → DeskStands n (S ++ s ∷ [])
 stands_more d n S s p lawful keeps all =
     let H = entries S in
     let e = s.entry in
@@ -137,7 +144,7 @@ keeps_on d n e still about stop made count rows = record {
 }
 
 -- Rows that go row by row, by an entry that is no Stop and no Leave and by which nobody joins.
-pub stands_on : (d n : Desk) (S : List Stamped) (s : Stamped) → StandsFor d S → Lawful d.about (moment (entries S) s.entry) → Stays s.entry → n.about ≡ d.about → n.stopped_at ≡ d.stopped_at → n.tally.made ≡ d.tally.made + 1 → n.tally.counts ≡ plus d.tally.counts (counts_of s.entry) → EachBecomes (Goes d.about (entries S) s.entry) d.rows.items n.rows.items → StandsFor n (S ++ s ∷ [])
+pub stands_on : (d n : Desk) (S : List Stamped) (s : Stamped) → DeskStands d S → Lawful d.about (moment (entries S) s.entry) → Stays s.entry → n.about ≡ d.about → n.stopped_at ≡ d.stopped_at → n.tally.made ≡ d.tally.made + 1 → n.tally.counts ≡ plus d.tally.counts (counts_of s.entry) → EachBecomes (Goes d.about (entries S) s.entry) d.rows.items n.rows.items → DeskStands n (S ++ s ∷ [])
 stands_on d n S s p lawful still about stop made count each =
     stands_more d n S s p lawful (keeps_on d n s.entry still about stop made count (each_connections (Goes d.about (entries S) s.entry) d.rows.items n.rows.items (λ r t g. g.0) each))
     (goes_all d.about S s d.rows.items n.rows.items (kept d S p) each)
@@ -152,11 +159,11 @@ quiet_each : (a : About) (H : List Entry) (e : Entry) (rows : List Row) → Quie
 quiet_each a H e [] q = tt
 quiet_each a H e (r ∷ rows) q = ((refl, follows_same a H e r.connection.number r.inlet (q.adds_nothing r.connection.number) (rw q.looks_none refl) (q.ends_none r.connection.number)), quiet_each a H e rows q)
 
-pub stands_same : (d n : Desk) (S : List Stamped) (s : Stamped) → StandsFor d S → Lawful d.about (moment (entries S) s.entry) → Stays s.entry → Quiet d.about (entries S) s.entry → n.about ≡ d.about → n.stopped_at ≡ d.stopped_at → n.tally.made ≡ d.tally.made + 1 → n.tally.counts ≡ plus d.tally.counts (counts_of s.entry) → n.rows.items ≡ d.rows.items → StandsFor n (S ++ s ∷ [])
+pub stands_same : (d n : Desk) (S : List Stamped) (s : Stamped) → DeskStands d S → Lawful d.about (moment (entries S) s.entry) → Stays s.entry → Quiet d.about (entries S) s.entry → n.about ≡ d.about → n.stopped_at ≡ d.stopped_at → n.tally.made ≡ d.tally.made + 1 → n.tally.counts ≡ plus d.tally.counts (counts_of s.entry) → n.rows.items ≡ d.rows.items → DeskStands n (S ++ s ∷ [])
 stands_same d n S s p lawful still quiet about stop made count rows = stands_on d n S s p lawful still about stop made count (subst (EachBecomes (Goes d.about (entries S) s.entry) d.rows.items) (sym rows) (quiet_each d.about (entries S) s.entry d.rows.items quiet))
 
 -- no entries
-pub stands_none : (d : Desk) → d.stopped_at ≡ None → d.tally.made ≡ 0 → d.tally.counts ≡ no_counts → d.rows.items ≡ [] → StandsFor d []
+pub stands_none : (d : Desk) → d.stopped_at ≡ None → d.tally.made ≡ 0 → d.tally.counts ≡ no_counts → d.rows.items ≡ [] → DeskStands d []
 unfolding joined_where counts
 stands_none d stop made count rows = record {
   legal = record { lawful = tt };

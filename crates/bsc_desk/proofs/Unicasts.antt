@@ -41,7 +41,7 @@ use Rattle.bsc_desk.specs.Directories.{gives_way}
 use Rattle.bsc_desk.specs.Live.{connection, is_open, number}
 use Rattle.bsc_desk.specs.Orders.{address_of, in_order, same_key}
 use Rattle.bsc_desk.specs.Rows.{IsRowOf, end_of}
-use Rattle.bsc_desk.specs.Standing.{IsInletOf, StandsFor}
+use Rattle.bsc_desk.specs.Standing.{DeskStands, IsInletOf}
 use Rattle.bsc_desk.proofs.Fared.{AllFates, Told, all_test, can_all, full_seen}
 use Rattle.bsc_desk.proofs.Forwards.{lawful_served, looks_named, served, stands_sent}
 use Rattle.bsc_desk.proofs.LiveRows.{live_found}
@@ -247,7 +247,7 @@ record Sends (d : Desk) (S : List Stamped) (caller conn : ℕ) (f : Frame) (x : 
   lawful : Lawful d.about (moment (entries S) (forward_entry caller conn f.message (looks_in x) (one_reply (one_said x))))
   goes : GoesToHolder d.about S f.message (out f.message f.sender) (holds (destination f.message)) x d.rows.items after
 
-core : (d : Desk) (S : List Stamped) (caller conn : ℕ) (f : Frame) (place : Option ℕ) (x : Fate) (after : List Row) → StandsFor d S → IsRowOf d caller conn f.sender → has_route f.message ≡ true → is_broadcast f.message ≡ false → d.tally.made < d.about.limits.calls → d.stopped_at ≡ None → end_of d conn ≡ None → place ≡ position (holds (destination f.message)) d.rows.items → FaresAt place (out f.message f.sender) d.rows.items x after → Sends d S caller conn f x after
+core : (d : Desk) (S : List Stamped) (caller conn : ℕ) (f : Frame) (place : Option ℕ) (x : Fate) (after : List Row) → DeskStands d S → IsRowOf d caller conn f.sender → has_route f.message ≡ true → is_broadcast f.message ≡ false → d.tally.made < d.about.limits.calls → d.stopped_at ≡ None → end_of d conn ≡ None → place ≡ position (holds (destination f.message)) d.rows.items → FaresAt place (out f.message f.sender) d.rows.items x after → Sends d S caller conn f x after
 core d S caller conn f place x after p is route one calls on current at fares =
     let a = d.about in
     let H = entries S in
@@ -264,22 +264,22 @@ core d S caller conn f place x after p is route one calls on current at fares =
     let can = ap (list_all (λ (k : Look). can_find a H k.conn k.taken)) (sym go.looks) ∙ can_all a S (holds v) (Some Full) o rows go.fates after p.inlets go.all in
     record { lawful = lawful_served d S caller conn f (looks_in x) (one_reply (one_said x)) p is route calls on current says named can; goes = go }
 
-by_parts : (d : Desk) (S : List Stamped) (caller conn : ℕ) (f : Frame) (v : Vmac) (o : List ℕ) (place : Option ℕ) (x : Fate) (after : List Row) → StandsFor d S → IsRowOf d caller conn f.sender → has_route f.message ≡ true → is_broadcast f.message ≡ false → d.tally.made < d.about.limits.calls → d.stopped_at ≡ None → end_of d conn ≡ None → v ≡ destination f.message → o ≡ out f.message f.sender → place ≡ position (holds v) d.rows.items → FaresAt place o d.rows.items x after → Sends d S caller conn f x after
+by_parts : (d : Desk) (S : List Stamped) (caller conn : ℕ) (f : Frame) (v : Vmac) (o : List ℕ) (place : Option ℕ) (x : Fate) (after : List Row) → DeskStands d S → IsRowOf d caller conn f.sender → has_route f.message ≡ true → is_broadcast f.message ≡ false → d.tally.made < d.about.limits.calls → d.stopped_at ≡ None → end_of d conn ≡ None → v ≡ destination f.message → o ≡ out f.message f.sender → place ≡ position (holds v) d.rows.items → FaresAt place o d.rows.items x after → Sends d S caller conn f x after
 by_parts d S caller conn f v o place x after p is route one calls on current to octets at fares = core d S caller conn f place x after p is route one calls on current (at ∙ ap (λ (w : Vmac). position (holds w) d.rows.items) to) (subst (λ (z : List ℕ). FaresAt place z d.rows.items x after) octets fares)
 
-pub lawful_one : (d : Desk) (S : List Stamped) (caller conn : ℕ) (f : Frame) (v : Vmac) (o : List ℕ) (place : Option ℕ) (x : Fate) (after : List Row) (r : OneReply) → StandsFor d S → IsRowOf d caller conn f.sender → has_route f.message ≡ true → is_broadcast f.message ≡ false → d.tally.made < d.about.limits.calls → d.stopped_at ≡ None → end_of d conn ≡ None → v ≡ destination f.message → o ≡ out f.message f.sender → place ≡ position (holds v) d.rows.items → FaresAt place o d.rows.items x after → r ≡ one_said x → Lawful d.about (moment (entries S) (forward_entry caller conn f.message (one_looks r) (one_reply r)))
+pub lawful_one : (d : Desk) (S : List Stamped) (caller conn : ℕ) (f : Frame) (v : Vmac) (o : List ℕ) (place : Option ℕ) (x : Fate) (after : List Row) (r : OneReply) → DeskStands d S → IsRowOf d caller conn f.sender → has_route f.message ≡ true → is_broadcast f.message ≡ false → d.tally.made < d.about.limits.calls → d.stopped_at ≡ None → end_of d conn ≡ None → v ≡ destination f.message → o ≡ out f.message f.sender → place ≡ position (holds v) d.rows.items → FaresAt place o d.rows.items x after → r ≡ one_said x → Lawful d.about (moment (entries S) (forward_entry caller conn f.message (one_looks r) (one_reply r)))
 lawful_one d S caller conn f v o place x after r p is route one calls on current to octets at fares reply =
     let s = by_parts d S caller conn f v o place x after p is route one calls on current to octets at fares in
     subst (λ (y : OneReply). Lawful d.about (moment (entries S) (forward_entry caller conn f.message (one_looks y) (one_reply y)))) (sym reply)
     (subst (λ (l : List Look). Lawful d.about (moment (entries S) (forward_entry caller conn f.message l (one_reply (one_said x))))) (sym (looks_said x)) s.lawful)
 
-pub stands_one : (d n : Desk) (S : List Stamped) (caller conn : ℕ) (f : Frame) (v : Vmac) (o : List ℕ) (place : Option ℕ) (x : Fate) (r : OneReply) → StandsFor d S → IsRowOf d caller conn f.sender → has_route f.message ≡ true → is_broadcast f.message ≡ false → d.tally.made < d.about.limits.calls → d.stopped_at ≡ None → end_of d conn ≡ None → v ≡ destination f.message → o ≡ out f.message f.sender → place ≡ position (holds v) d.rows.items → FaresAt place o d.rows.items x n.rows.items → r ≡ one_said x → n.about ≡ d.about → n.stopped_at ≡ d.stopped_at → n.tally.made ≡ d.tally.made + 1 → n.tally.counts ≡ plus d.tally.counts (unicast_counts (one_reply r)) → StandsFor n (S ++ plain (forward_entry caller conn f.message (one_looks r) (one_reply r)) ∷ [])
+pub stands_one : (d n : Desk) (S : List Stamped) (caller conn : ℕ) (f : Frame) (v : Vmac) (o : List ℕ) (place : Option ℕ) (x : Fate) (r : OneReply) → DeskStands d S → IsRowOf d caller conn f.sender → has_route f.message ≡ true → is_broadcast f.message ≡ false → d.tally.made < d.about.limits.calls → d.stopped_at ≡ None → end_of d conn ≡ None → v ≡ destination f.message → o ≡ out f.message f.sender → place ≡ position (holds v) d.rows.items → FaresAt place o d.rows.items x n.rows.items → r ≡ one_said x → n.about ≡ d.about → n.stopped_at ≡ d.stopped_at → n.tally.made ≡ d.tally.made + 1 → n.tally.counts ≡ plus d.tally.counts (unicast_counts (one_reply r)) → DeskStands n (S ++ plain (forward_entry caller conn f.message (one_looks r) (one_reply r)) ∷ [])
 stands_one d n S caller conn f v o place x r p is route one calls on current to octets at fares reply about stop made count =
     let s = by_parts d S caller conn f v o place x n.rows.items p is route one calls on current to octets at fares in
     let counted = count ∙ ap (λ (y : OneReply). plus d.tally.counts (unicast_counts (one_reply y))) reply ∙ ap (plus d.tally.counts) (counted_one caller conn f.message (looks_in x) (one_said x) one) in
     let stands = stands_sent d n S caller conn f (looks_in x) (one_reply (one_said x)) (holds (destination f.message)) (Some Full) s.goes.fates p is s.lawful (holds_open (destination f.message)) s.goes.all s.goes.told about stop made counted in
-    subst (λ (y : OneReply). StandsFor n (S ++ plain (forward_entry caller conn f.message (one_looks y) (one_reply y)) ∷ [])) (sym reply)
-    (subst (λ (l : List Look). StandsFor n (S ++ plain (forward_entry caller conn f.message l (one_reply (one_said x))) ∷ [])) (sym (looks_said x)) stands)
+    subst (λ (y : OneReply). DeskStands n (S ++ plain (forward_entry caller conn f.message (one_looks y) (one_reply y)) ∷ [])) (sym reply)
+    (subst (λ (l : List Look). DeskStands n (S ++ plain (forward_entry caller conn f.message l (one_reply (one_said x))) ∷ [])) (sym (looks_said x)) stands)
 
 -- the same without a history: the fates by which the rows changed, and the looks
 pub reaches : (v : Vmac) (o : List ℕ) (place : Option ℕ) (x : Fate) (r : OneReply) (rows after : List Row) → in_order (gives_way address_of) rows ≡ true → place ≡ position (holds v) rows → FaresAt place o rows x after → r ≡ one_said x → (fates : List Fate) × AllBefall (holds v) (Some Full) o rows fates after × (one_looks r ≡ looks_of fates)

@@ -36,7 +36,7 @@ pub record IsInletOf (a : About) (S : List Stamped) (c : ℕ) (i : Inlet) : Type
 
 -- A desk stands for a history with its marks: the history is legal, the numbers are those of the history, the rows are
 -- the connections that haven't left, in the order of joining, and each row's inlet is its connection's.
-pub record StandsFor (d : Desk) (S : List Stamped) : Type 0 where
+pub record DeskStands (d : Desk) (S : List Stamped) : Type 0 where
   pub legal : Legal d.about (entries S)
   pub stop_place : d.stopped_at ≡ position stops (entries S)
   pub entered : d.tally.made ≡ length S

@@ -13,7 +13,7 @@ ghost use Rattle.bsc_desk.specs.Entries.{AllSaysLimit, all_adds, all_looks, all_
 ghost use Rattle.bsc_desk.specs.Fates.{HasRoom, Tell, count_offered};
 ghost use Rattle.bsc_desk.specs.Knowing.{Learns};
 ghost use Rattle.bsc_desk.specs.Rows.{IsRowOf, IsUnserved, end_of};
-ghost use Rattle.bsc_desk.specs.Standing.{StandsFor};
+ghost use Rattle.bsc_desk.specs.Standing.{DeskStands};
 ghost use Rattle.bsc_desk.specs.Tallies.{AreAtMost};
 
 use crate::copies::Copies;
@@ -99,18 +99,18 @@ impl Desk {
         requires unleft { IsRowOf self.old caller conn frame.now.sender }
 
         // The desk stands for some history, by which few frames were pushed.
-        requires some { (S : List Stamped) × StandsFor self.old S }
+        requires some { (S : List Stamped) × DeskStands self.old S }
 
-        ensures due { (S : List Stamped) → StandsFor self.old S → IfOk result (λ r.
+        ensures due { (S : List Stamped) → DeskStands self.old S → IfOk result (λ r.
             all_reply r ≡ forward_reply self.old.about (entries S) conn frame.now.message (all_looks r)) }
-        ensures worn { (S : List Stamped) → StandsFor self.old S →
+        ensures worn { (S : List Stamped) → DeskStands self.old S →
             IsTrue (is_all_worn result) ↔ (self.old.about.limits.calls ≤ length S) }
 
         // Memory is only taken where the broadcast is sent.
-        ensures memory { (S : List Stamped) → StandsFor self.old S → IsTrue (lacks_memory result) →
+        ensures memory { (S : List Stamped) → DeskStands self.old S → IsTrue (lacks_memory result) →
             IsFalse (is_stopped (entries S)) × (ended (entries S) conn ≡ None) }
-        ensures stands { (S : List Stamped) → StandsFor self.old S →
-            StandsFor self.new (S ++ all_adds caller conn frame.now.message result) }
+        ensures stands { (S : List Stamped) → DeskStands self.old S →
+            DeskStands self.new (S ++ all_adds caller conn frame.now.message result) }
         ensures about { self.new.about ≡ self.old.about }
 
         // The looks are those of the call's own pushes.
@@ -143,10 +143,10 @@ impl Desk {
         requires unserved { IsUnserved self.old conn ended }
         requires unleft { IsRowOf self.old caller conn frame.now.sender }
         ensures value { result ≡ all_unserved ended }
-        ensures due { (S : List Stamped) → StandsFor self.old S →
+        ensures due { (S : List Stamped) → DeskStands self.old S →
             unserved ended ≡ forward_reply self.old.about (entries S) conn frame.now.message [] }
-        ensures stands { (S : List Stamped) → StandsFor self.old S →
-            StandsFor self.new (S ++ plain (forward_entry caller conn frame.now.message [] (unserved ended)) ∷ []) }
+        ensures stands { (S : List Stamped) → DeskStands self.old S →
+            DeskStands self.new (S ++ plain (forward_entry caller conn frame.now.message [] (unserved ended)) ∷ []) }
         ensures about { self.new.about ≡ self.old.about }
         ensures rows { self.new.rows ≡ self.old.rows }
     {
@@ -165,14 +165,14 @@ impl Desk {
     ) -> Result<AllReply, NoMemory>
         requires broadcast { IsTrue (is_broadcast frame.now.message) }
         requires unleft { IsRowOf self.old caller conn frame.now.sender }
-        requires some { (S : List Stamped) × StandsFor self.old S }
+        requires some { (S : List Stamped) × DeskStands self.old S }
         requires calls { self.old.tally.made < self.old.about.limits.calls }
         requires goes_on { self.old.stopped_at ≡ None }
         requires current { end_of self.old conn ≡ None }
-        ensures due { (S : List Stamped) → StandsFor self.old S → IfOk result (λ r.
+        ensures due { (S : List Stamped) → DeskStands self.old S → IfOk result (λ r.
             all_reply r ≡ forward_reply self.old.about (entries S) conn frame.now.message (all_looks r)) }
-        ensures stands { (S : List Stamped) → StandsFor self.old S → IfOk result (λ r.
-            StandsFor self.new (S ++ plain (forward_entry caller conn frame.now.message (all_looks r) (all_reply r)) ∷ [])) }
+        ensures stands { (S : List Stamped) → DeskStands self.old S → IfOk result (λ r.
+            DeskStands self.new (S ++ plain (forward_entry caller conn frame.now.message (all_looks r) (all_reply r)) ∷ [])) }
         ensures about { self.new.about ≡ self.old.about }
         ensures learns { IfOk result (λ r. Learns self.old (all_looks r) self.new) }
         ensures err { OnErr result (self.new ≡ self.old) }
@@ -194,7 +194,7 @@ impl Desk {
     ) -> AllReply
         requires broadcast { IsTrue (is_broadcast frame.now.message) }
         requires unleft { IsRowOf self.old caller conn frame.now.sender }
-        requires some { (S : List Stamped) × StandsFor self.old S }
+        requires some { (S : List Stamped) × DeskStands self.old S }
         requires calls { self.old.tally.made < self.old.about.limits.calls }
         requires goes_on { self.old.stopped_at ≡ None }
         requires current { end_of self.old conn ≡ None }
@@ -202,10 +202,10 @@ impl Desk {
         requires each { AreCopies (out frame.now.message frame.now.sender) copies }
         requires room { HasRoom notes (vec_len self.old.rows) }
         requires empty { Tell notes [] }
-        ensures due { (S : List Stamped) → StandsFor self.old S →
+        ensures due { (S : List Stamped) → DeskStands self.old S →
             all_reply result ≡ forward_reply self.old.about (entries S) conn frame.now.message (all_looks result) }
-        ensures stands { (S : List Stamped) → StandsFor self.old S →
-            StandsFor self.new (S ++ plain (forward_entry caller conn frame.now.message (all_looks result) (all_reply result)) ∷ []) }
+        ensures stands { (S : List Stamped) → DeskStands self.old S →
+            DeskStands self.new (S ++ plain (forward_entry caller conn frame.now.message (all_looks result) (all_reply result)) ∷ []) }
         ensures about { self.new.about ≡ self.old.about }
         ensures learns { Learns self.old (all_looks result) self.new }
     {

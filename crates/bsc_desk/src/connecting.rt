@@ -16,7 +16,7 @@ ghost use Rattle.bsc_history.specs.Replies.{connect_reply, rival, number_of};
 ghost use Rattle.bsc_ring.specs.Ends.{IsNewInlet, capacity_of, inlet_mark};
 ghost use Rattle.bsc_desk.specs.declared.row.Row.{Row};
 ghost use Rattle.bsc_desk.specs.Rows.{known_of};
-ghost use Rattle.bsc_desk.specs.Standing.{StandsFor};
+ghost use Rattle.bsc_desk.specs.Standing.{DeskStands};
 ghost use Rattle.bsc_desk.specs.Live.{connection, is_open};
 ghost use Rattle.bsc_desk.specs.Orders.{in_order};
 ghost use Rattle.bsc_desk.specs.Rising.{rises};
@@ -147,12 +147,12 @@ impl Desk {
         requires capacity { capacity_of inlet ≡ self.old.about.limits.outbox }
 
         // What is answered is what the definition of replies asks for, after each history.
-        ensures due { (S : List Stamped) → StandsFor self.old S →
+        ensures due { (S : List Stamped) → DeskStands self.old S →
             connect_said result ≡ connect_due self.old.about (entries S) who }
 
         // With the entry of a connect that joined, the history keeps the mark of the inlet.
-        ensures stands { (S : List Stamped) → StandsFor self.old S →
-            StandsFor self.new (S ++ connect_adds caller who (inlet_mark inlet) (connect_said result)) }
+        ensures stands { (S : List Stamped) → DeskStands self.old S →
+            DeskStands self.new (S ++ connect_adds caller who (inlet_mark inlet) (connect_said result)) }
         ensures about { self.new.about ≡ self.old.about }
         ensures known { (c : ℕ) → known_of self.new c ≡ known_of self.old c }
         ensures back { IfErr result (λ no. no.1 ≡ inlet) }
@@ -216,7 +216,7 @@ impl Desk {
 
     /// The reply of a connect after every history that the desk stands for.
     fn choose(&self, who: &Identity) -> Choice
-        ensures reply { (S : List Stamped) → StandsFor self.now S →
+        ensures reply { (S : List Stamped) → DeskStands self.now S →
             choice_reply result ≡ connect_reply self.now.about (entries S) who.now }
         ensures room { IfJoined result (λ row. vec_len self.now.rows < self.now.about.limits.rows) }
         ensures number { IfJoined result (λ row. row.conn ≡ 1 + self.now.tally.counts.joined) }
@@ -243,9 +243,9 @@ impl Desk {
     /// A refused connect adds its entry, and changes nothing else.
     fn refuse(&mut self, caller: u64, who: Identity, refusal: Refusal)
         requires calls { self.old.tally.made < self.old.about.limits.calls }
-        ensures stands { (S : List Stamped) (m : Mark) → StandsFor self.old S →
+        ensures stands { (S : List Stamped) (m : Mark) → DeskStands self.old S →
             Lawful self.old.about (moment (entries S) (connect_entry caller who (RefusedReply refusal))) →
-            StandsFor self.new (S ++ connect_stamped caller who m (RefusedReply refusal) ∷ []) }
+            DeskStands self.new (S ++ connect_stamped caller who m (RefusedReply refusal) ∷ []) }
         ensures about { self.new.about ≡ self.old.about }
         ensures rows { self.new.rows ≡ self.old.rows }
     {
@@ -263,9 +263,9 @@ impl Desk {
         requires capacity { capacity_of inlet ≡ self.old.about.limits.outbox }
         requires number { row.conn ≡ 1 + self.old.tally.counts.joined }
         requires free { IsTrue (list_all (gives_place who row.replaced) self.old.rows.items) }
-        ensures stands { (S : List Stamped) → StandsFor self.old S →
+        ensures stands { (S : List Stamped) → DeskStands self.old S →
             Lawful self.old.about (moment (entries S) (connect_entry caller who (JoinedReply row.conn row.replaced))) →
-            StandsFor self.new (S ++ connect_stamped caller who (inlet_mark inlet) (JoinedReply row.conn row.replaced) ∷ []) }
+            DeskStands self.new (S ++ connect_stamped caller who (inlet_mark inlet) (JoinedReply row.conn row.replaced) ∷ []) }
         ensures about { self.new.about ≡ self.old.about }
         ensures known { (c : ℕ) → known_of self.new c ≡ known_of self.old c }
     {

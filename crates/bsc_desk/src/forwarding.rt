@@ -15,7 +15,7 @@ ghost use Rattle.bsc_desk.specs.Fates.{FaresAt, FewPushed, IsOpenAt, one_said};
 ghost use Rattle.bsc_desk.specs.Knowing.{Learns};
 ghost use Rattle.bsc_desk.specs.Live.{is_open};
 ghost use Rattle.bsc_desk.specs.Rows.{IsRowOf, IsUnserved, end_of};
-ghost use Rattle.bsc_desk.specs.Standing.{StandsFor};
+ghost use Rattle.bsc_desk.specs.Standing.{DeskStands};
 ghost use Rattle.bsc_desk.specs.Tallies.{AreAtMost};
 
 use crate::desk::Desk;
@@ -137,14 +137,14 @@ impl Desk {
         requires unleft { IsRowOf self.old caller conn frame.sender }
 
         // The desk stands for some history, by which few frames were pushed.
-        requires some { (S : List Stamped) × StandsFor self.old S }
+        requires some { (S : List Stamped) × DeskStands self.old S }
 
-        ensures due { (S : List Stamped) → StandsFor self.old S → IfOk result (λ r.
+        ensures due { (S : List Stamped) → DeskStands self.old S → IfOk result (λ r.
             one_reply r ≡ forward_reply self.old.about (entries S) conn frame.message (one_looks r)) }
-        ensures worn { (S : List Stamped) → StandsFor self.old S →
+        ensures worn { (S : List Stamped) → DeskStands self.old S →
             IsErr result ↔ (self.old.about.limits.calls ≤ length S) }
-        ensures stands { (S : List Stamped) → StandsFor self.old S →
-            StandsFor self.new (S ++ one_adds caller conn frame.message result) }
+        ensures stands { (S : List Stamped) → DeskStands self.old S →
+            DeskStands self.new (S ++ one_adds caller conn frame.message result) }
         ensures about { self.new.about ≡ self.old.about }
 
         // The look is that of the call's own push.
@@ -172,10 +172,10 @@ impl Desk {
         requires unserved { IsUnserved self.old conn ended }
         requires unleft { IsRowOf self.old caller conn frame.now.sender }
         ensures value { result ≡ one_unserved ended }
-        ensures due { (S : List Stamped) → StandsFor self.old S →
+        ensures due { (S : List Stamped) → DeskStands self.old S →
             unserved ended ≡ forward_reply self.old.about (entries S) conn frame.now.message [] }
-        ensures stands { (S : List Stamped) → StandsFor self.old S →
-            StandsFor self.new (S ++ plain (forward_entry caller conn frame.now.message [] (unserved ended)) ∷ []) }
+        ensures stands { (S : List Stamped) → DeskStands self.old S →
+            DeskStands self.new (S ++ plain (forward_entry caller conn frame.now.message [] (unserved ended)) ∷ []) }
         ensures about { self.new.about ≡ self.old.about }
         ensures rows { self.new.rows ≡ self.old.rows }
     {
@@ -189,14 +189,14 @@ impl Desk {
     fn send_one(&mut self, caller: u64, conn: u64, frame: Prepared) -> OneReply
         requires unicast { IsFalse (is_broadcast frame.message) }
         requires unleft { IsRowOf self.old caller conn frame.sender }
-        requires some { (S : List Stamped) × StandsFor self.old S }
+        requires some { (S : List Stamped) × DeskStands self.old S }
         requires calls { self.old.tally.made < self.old.about.limits.calls }
         requires goes_on { self.old.stopped_at ≡ None }
         requires current { end_of self.old conn ≡ None }
-        ensures due { (S : List Stamped) → StandsFor self.old S →
+        ensures due { (S : List Stamped) → DeskStands self.old S →
             one_reply result ≡ forward_reply self.old.about (entries S) conn frame.message (one_looks result) }
-        ensures stands { (S : List Stamped) → StandsFor self.old S →
-            StandsFor self.new (S ++ plain (forward_entry caller conn frame.message (one_looks result) (one_reply result)) ∷ []) }
+        ensures stands { (S : List Stamped) → DeskStands self.old S →
+            DeskStands self.new (S ++ plain (forward_entry caller conn frame.message (one_looks result) (one_reply result)) ∷ []) }
         ensures about { self.new.about ≡ self.old.about }
         ensures learns { Learns self.old (one_looks result) self.new }
     {

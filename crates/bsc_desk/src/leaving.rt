@@ -13,7 +13,7 @@ ghost use Rattle.bsc_ring.specs.Ends.{FoundEnd, empties_of, given, known_pushed,
 ghost use Rattle.bsc_desk.specs.Entries.{gone_reply, leave_entry, plain};
 ghost use Rattle.bsc_desk.specs.Meetings.{IsOutletOf};
 ghost use Rattle.bsc_desk.specs.Rows.{IsMarkOf, IsRowBy, row_of};
-ghost use Rattle.bsc_desk.specs.Standing.{StandsFor};
+ghost use Rattle.bsc_desk.specs.Standing.{DeskStands};
 
 use crate::desk::Desk;
 use crate::row::Row;
@@ -41,23 +41,23 @@ impl Desk {
         requires mark { IsMarkOf self.old conn (outlet_mark outlet) }
 
         // What is answered is what the definition of replies asks for, after each history.
-        ensures due { (S : List Stamped) → StandsFor self.old S →
+        ensures due { (S : List Stamped) → DeskStands self.old S →
             gone_reply result ≡ reply self.old.about (entries S) (Leave conn result.taken (empties_of outlet)) [] }
-        ensures stands { (S : List Stamped) → StandsFor self.old S →
-            StandsFor self.new (S ++ plain (leave_entry caller conn (empties_of outlet) result) ∷ []) }
+        ensures stands { (S : List Stamped) → DeskStands self.old S →
+            DeskStands self.new (S ++ plain (leave_entry caller conn (empties_of outlet) result) ∷ []) }
         ensures about { self.new.about ≡ self.old.about }
 
         // The outlet gave so many frames, the first of those that entered the outbox; and where its loads found an
         // End, that End is the one answered.
         ensures taken { result.taken ≡ length (given outlet) }
-        ensures outlet { (S : List Stamped) → StandsFor self.old S →
+        ensures outlet { (S : List Stamped) → DeskStands self.old S →
             IsOutletOf self.old.about (entries S) conn outlet }
-        ensures given { (S : List Stamped) → StandsFor self.old S →
+        ensures given { (S : List Stamped) → DeskStands self.old S →
             given outlet ≡ take result.taken (sent self.old.about (entries S) conn) }
         ensures found { (e : End) → FoundEnd outlet e → result.ending ≡ e }
 
         // An outlet that knows all, as one that met its End does, knows all that entered the outbox.
-        ensures all { (S : List Stamped) → StandsFor self.old S → knows_all outlet ≡ true →
+        ensures all { (S : List Stamped) → DeskStands self.old S → knows_all outlet ≡ true →
             known_pushed outlet ≡ sent self.old.about (entries S) conn }
 
         ensures row { row_of self.new conn ≡ None }
@@ -74,18 +74,18 @@ impl Desk {
         requires unleft { IsRowBy self.old caller conn }
         requires mark { IsMarkOf self.old conn (outlet_mark outlet) }
         requires place { position (λ r. r.connection.number == conn) self.old.rows.items ≡ Some place }
-        ensures due { (S : List Stamped) → StandsFor self.old S →
+        ensures due { (S : List Stamped) → DeskStands self.old S →
             gone_reply result ≡ reply self.old.about (entries S) (Leave conn result.taken (empties_of outlet)) [] }
-        ensures stands { (S : List Stamped) → StandsFor self.old S →
-            StandsFor self.new (S ++ plain (leave_entry caller conn (empties_of outlet) result) ∷ []) }
+        ensures stands { (S : List Stamped) → DeskStands self.old S →
+            DeskStands self.new (S ++ plain (leave_entry caller conn (empties_of outlet) result) ∷ []) }
         ensures about { self.new.about ≡ self.old.about }
         ensures taken { result.taken ≡ length (given outlet) }
-        ensures outlet { (S : List Stamped) → StandsFor self.old S →
+        ensures outlet { (S : List Stamped) → DeskStands self.old S →
             IsOutletOf self.old.about (entries S) conn outlet }
-        ensures given { (S : List Stamped) → StandsFor self.old S →
+        ensures given { (S : List Stamped) → DeskStands self.old S →
             given outlet ≡ take result.taken (sent self.old.about (entries S) conn) }
         ensures found { (e : End) → FoundEnd outlet e → result.ending ≡ e }
-        ensures all { (S : List Stamped) → StandsFor self.old S → knows_all outlet ≡ true →
+        ensures all { (S : List Stamped) → DeskStands self.old S → knows_all outlet ≡ true →
             known_pushed outlet ≡ sent self.old.about (entries S) conn }
         ensures row { row_of self.new conn ≡ None }
         ensures others { (k : ℕ) → k ≢ conn → row_of self.new k ≡ row_of self.old k }

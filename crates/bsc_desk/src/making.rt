@@ -3,7 +3,7 @@
 
 ghost use Rattle.std.specs.Prelude.{◌≡◌, ◌≤◌, List, [], length, IfOk};
 ghost use Rattle.bsc_history.specs.declared.mark.Stamped.{Stamped};
-ghost use Rattle.bsc_desk.specs.Standing.{StandsFor};
+ghost use Rattle.bsc_desk.specs.Standing.{DeskStands};
 
 use crate::desk::Desk;
 use crate::directory::Directory;
@@ -24,7 +24,7 @@ impl Desk {
         requires few_calls { limits.calls ≤ MOST_CALLS }
         requires some_callers { 1 ≤ limits.callers }
         requires few_callers { limits.callers ≤ MOST_CALLERS }
-        ensures stands { IfOk result (λ d. StandsFor d []) }
+        ensures stands { IfOk result (λ d. DeskStands d []) }
         ensures about { IfOk result (λ d. d.about ≡ record { hub = hub; limits = limits }) }
     {
         Ok(Desk {
@@ -38,7 +38,7 @@ impl Desk {
 
     /// How many entries were made.
     pub fn made(&self) -> u64
-        ensures { (S : List Stamped) → StandsFor self.now S → result ≡ length S }
+        ensures { (S : List Stamped) → DeskStands self.now S → result ≡ length S }
     {
         self.tally.made
     }

@@ -7,7 +7,7 @@ ghost use Rattle.bsc_history.specs.Marks.{entries};
 ghost use Rattle.bsc_ring.specs.Ends.{SameOutlet, given, outlet_mark};
 ghost use Rattle.bsc_desk.specs.Meetings.{IsOutletOf, KnowsOutbox};
 ghost use Rattle.bsc_desk.specs.Rows.{HasRow, IsMarkOf, IsRowBy, known_of, row_of};
-ghost use Rattle.bsc_desk.specs.Standing.{StandsFor};
+ghost use Rattle.bsc_desk.specs.Standing.{DeskStands};
 
 use crate::desk::Desk;
 use crate::rows::place_of;
@@ -31,17 +31,17 @@ impl Desk {
     pub fn meet(&mut self, conn: u64, outlet: &mut Outlet)
         requires row { HasRow self.old conn }
         requires mark { IsMarkOf self.old conn (outlet_mark outlet.old) }
-        ensures stands { (S : List Stamped) → StandsFor self.old S → StandsFor self.new S }
+        ensures stands { (S : List Stamped) → DeskStands self.old S → DeskStands self.new S }
         ensures about { self.new.about ≡ self.old.about }
 
         // What the outlet gave until now fits what entered the outbox.
-        ensures outlet { (S : List Stamped) → StandsFor self.old S →
+        ensures outlet { (S : List Stamped) → DeskStands self.old S →
             IsOutletOf self.old.about (entries S) conn outlet.old }
         ensures same { SameOutlet outlet.old outlet.new }
 
         // From now on each knows of the other.
         ensures known { known_of self.new conn ≡ length (given outlet.old) }
-        ensures knows { (S : List Stamped) → StandsFor self.old S →
+        ensures knows { (S : List Stamped) → DeskStands self.old S →
             KnowsOutbox self.old.about (entries S) conn outlet.new }
         ensures others { (k : ℕ) → k ≢ conn → row_of self.new k ≡ row_of self.old k }
     {
@@ -55,13 +55,13 @@ impl Desk {
     fn meet_at(&mut self, conn: u64, place: usize, outlet: &mut Outlet)
         requires place { position (λ r. r.connection.number == conn) self.old.rows.items ≡ Some place }
         requires mark { IsMarkOf self.old conn (outlet_mark outlet.old) }
-        ensures stands { (S : List Stamped) → StandsFor self.old S → StandsFor self.new S }
+        ensures stands { (S : List Stamped) → DeskStands self.old S → DeskStands self.new S }
         ensures about { self.new.about ≡ self.old.about }
-        ensures outlet { (S : List Stamped) → StandsFor self.old S →
+        ensures outlet { (S : List Stamped) → DeskStands self.old S →
             IsOutletOf self.old.about (entries S) conn outlet.old }
         ensures same { SameOutlet outlet.old outlet.new }
         ensures known { known_of self.new conn ≡ length (given outlet.old) }
-        ensures knows { (S : List Stamped) → StandsFor self.old S →
+        ensures knows { (S : List Stamped) → DeskStands self.old S →
             KnowsOutbox self.old.about (entries S) conn outlet.new }
         ensures others { (k : ℕ) → k ≢ conn → row_of self.new k ≡ row_of self.old k }
     {

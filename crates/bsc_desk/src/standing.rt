@@ -3,9 +3,9 @@ use crate::desk::Desk;
 use bsc_history::Stands;
 
 impl Stands for Desk {
-    ghost use Rattle.bsc_desk.specs.Standing.{StandsFor};
+    ghost use Rattle.bsc_desk.specs.Standing.{DeskStands};
 
-    ghost stands = { StandsFor };
+    ghost stands = { DeskStands };
 
     ghost about = { λ d. d.about };
 }

@@ -9,7 +9,7 @@ ghost use Rattle.bsc_history.specs.Marks.{entries};
 ghost use Rattle.bsc_history.specs.Replies.{is_stopped};
 ghost use Rattle.bsc_desk.specs.Entries.{count_adds, count_entry, plain, stop_adds, stop_entry};
 ghost use Rattle.bsc_desk.specs.Rows.{known_of, row_of};
-ghost use Rattle.bsc_desk.specs.Standing.{StandsFor};
+ghost use Rattle.bsc_desk.specs.Standing.{DeskStands};
 
 use crate::desk::Desk;
 use crate::rows::finish_all;
@@ -21,11 +21,11 @@ impl Desk {
     /// connection joins and nothing is forwarded. It is refused exactly where the hub has been stopped before,
     /// and then nothing changes. No memory is taken.
     pub fn stop(&mut self, caller: u64) -> Result<Counts, AlreadyStopped>
-        ensures due { (S : List Stamped) → StandsFor self.old S → IfOk result (λ k. k ≡ counts (entries S)) }
-        ensures refused { (S : List Stamped) → StandsFor self.old S → IsErr result ↔ IsTrue (is_stopped (entries S)) }
-        ensures place { (S : List Stamped) → StandsFor self.old S →
+        ensures due { (S : List Stamped) → DeskStands self.old S → IfOk result (λ k. k ≡ counts (entries S)) }
+        ensures refused { (S : List Stamped) → DeskStands self.old S → IsErr result ↔ IsTrue (is_stopped (entries S)) }
+        ensures place { (S : List Stamped) → DeskStands self.old S →
             IfErr result (λ already. position stops (entries S) ≡ Some already.at) }
-        ensures stands { (S : List Stamped) → StandsFor self.old S → StandsFor self.new (S ++ stop_adds caller result) }
+        ensures stands { (S : List Stamped) → DeskStands self.old S → DeskStands self.new (S ++ stop_adds caller result) }
         ensures about { self.new.about ≡ self.old.about }
         ensures known { (c : ℕ) → known_of self.new c ≡ known_of self.old c }
         ensures err { OnErr result (self.new ≡ self.old) }
@@ -40,8 +40,8 @@ impl Desk {
     fn stop_now(&mut self, caller: u64) -> Counts
         requires goes_on { self.old.stopped_at ≡ None }
         ensures value { result ≡ self.old.tally.counts }
-        ensures stands { (S : List Stamped) → StandsFor self.old S →
-            StandsFor self.new (S ++ plain (stop_entry caller result) ∷ []) }
+        ensures stands { (S : List Stamped) → DeskStands self.old S →
+            DeskStands self.new (S ++ plain (stop_entry caller result) ∷ []) }
         ensures about { self.new.about ≡ self.old.about }
         ensures known { (c : ℕ) → known_of self.new c ≡ known_of self.old c }
     {
@@ -55,10 +55,10 @@ impl Desk {
     /// The counts of the history before. Worn comes exactly where the hub has made as many calls as it may, and
     /// then no entry is made. No memory is taken.
     pub fn count(&mut self, caller: u64) -> Result<Counts, Worn>
-        ensures due { (S : List Stamped) → StandsFor self.old S → IfOk result (λ k. k ≡ counts (entries S)) }
-        ensures worn { (S : List Stamped) → StandsFor self.old S →
+        ensures due { (S : List Stamped) → DeskStands self.old S → IfOk result (λ k. k ≡ counts (entries S)) }
+        ensures worn { (S : List Stamped) → DeskStands self.old S →
             IsErr result ↔ (self.old.about.limits.calls ≤ length S) }
-        ensures stands { (S : List Stamped) → StandsFor self.old S → StandsFor self.new (S ++ count_adds caller result) }
+        ensures stands { (S : List Stamped) → DeskStands self.old S → DeskStands self.new (S ++ count_adds caller result) }
         ensures about { self.new.about ≡ self.old.about }
         ensures others { (c : ℕ) → row_of self.new c ≡ row_of self.old c }
         ensures err { OnErr result (self.new ≡ self.old) }
@@ -75,8 +75,8 @@ impl Desk {
     fn count_now(&mut self, caller: u64) -> Counts
         requires calls { self.old.tally.made < self.old.about.limits.calls }
         ensures value { result ≡ self.old.tally.counts }
-        ensures stands { (S : List Stamped) → StandsFor self.old S →
-            StandsFor self.new (S ++ plain (count_entry caller result) ∷ []) }
+        ensures stands { (S : List Stamped) → DeskStands self.old S →
+            DeskStands self.new (S ++ plain (count_entry caller result) ∷ []) }
         ensures about { self.new.about ≡ self.old.about }
         ensures rows { self.new.rows ≡ self.old.rows }
     {

@@ -126,8 +126,26 @@ fn hold_maximum<'a>(word: &'a [u8], least: u16, rule: &'static str) -> Result<()
     }
 }
 
-/// The longest message and the longest NPDU that a hub takes.
-pub fn hold_lengths<'a>(bvlc: &'a [u8], npdu: &'a [u8]) -> Result<(), Diagnostic<'a>> {
+/// The words of an identity: a VMAC, a device, the longest message and the longest NPDU, whichever they are.
+pub fn hold_identity<'a>(
+    vmac: &'a [u8],
+    device: &'a [u8],
+    bvlc: &'a [u8],
+    npdu: &'a [u8],
+) -> Result<(), Diagnostic<'a>> {
+    hold_vmac(vmac)?;
+    hold_device(device)?;
+    hold_any_maximum(bvlc)?;
+    hold_any_maximum(npdu)
+}
+
+/// What a hub may have of them: the VMAC of one node, and lengths that aren't too short.
+pub fn hold_hub_identity<'a>(
+    vmac: &'a [u8],
+    bvlc: &'a [u8],
+    npdu: &'a [u8],
+) -> Result<(), Diagnostic<'a>> {
+    hold_one_node(vmac)?;
     hold_maximum(bvlc, LEAST_BVLC, "is a longest message below 0040")?;
     hold_maximum(npdu, 1, "is a longest NPDU below 0001")
 }
@@ -137,6 +155,11 @@ pub fn hold_number<'a>(word: &'a [u8]) -> Result<(), Diagnostic<'a>>
     ensures { IsOk result ↔ (is_some (number_of word.now) ≡ true) }
 {
     hold(read_number(word).is_some(), word, NUMBER)
+}
+
+/// The time of a line `at`, by the words after its first.
+pub fn hold_time<'a>(words: &'a [u8]) -> Result<(), Diagnostic<'a>> {
+    hold_number(only_word(words, "at MS")?)
 }
 
 /// A number from one to another.

@@ -22,7 +22,7 @@ use Rattle.bsc_direct.specs.declared.direct.Direct.{Direct}
 use Rattle.bsc_direct.specs.Slots.{replaces, is_claimed, wanted, established_peer, free_slot, is_peer, established_with, established, is_rival, unless_rival, unless_own, unless_wrong, establish, slots}
 use Rattle.bsc_direct.specs.Laws.{PeersAreApart}
 use Rattle.bsc_direct.specs.Kept.{says_claimed, says_wanted, says_peer, without_peer, slot_at, kept_with, establish_kept, slots_without, slots_up}
-use Rattle.bsc_direct.specs.Standing.{SlotStands, StandsFor, StandsOn, IsClaimed, Answers, and_up}
+use Rattle.bsc_direct.specs.Standing.{SlotStands, DirectStands, StandsOn, IsClaimed, DirectAnswers, and_up}
 use Rattle.bsc_direct.proofs.OneMore.{device_laws, claimed-kept, claimed-said, wanted-kept, wanted-said, unless_now, peer-more, peer-cleared, peer-up}
 use Rattle.bsc_direct.proofs.Keeping.{HasNoRival, quiet-apart, quiet-unicast, up-apart, up-unicast}
 use Rattle.bsc_direct.proofs.Finding.{none_passes, found_as_kept, none_found}
@@ -238,7 +238,7 @@ free_at zero k = refl
 free_at (suc n) zero = refl
 free_at (suc n) (suc k) = free_at n k
 
-pub made : (d : Direct) → d.slots.items ≡ replicate SLOTS Free → StandsFor d []
+pub made : (d : Direct) → d.slots.items ≡ replicate SLOTS Free → DirectStands d []
 made d items = record {
   slots = λ k. subst (λ (l : List Slot). SlotStands [] k (slot_at l k)) (sym items) (subst (λ (s : Slot). SlotStands [] k s) (sym (free_at SLOTS k)) (record { claimed = refl; wanted = refl; peer = refl }));
   apart = λ i j x y n hi hj. some_none x (sym hi);
@@ -256,7 +256,7 @@ claimed_slot old new slot v len placed items calls s =
       },
     )
 
-pub none_free : (old : Direct) (calls : List SlotCall) → length old.slots.items ≡ SLOTS → position (λ s. not (says_claimed s)) old.slots.items ≡ None → StandsFor old calls → free_slot calls ≡ None
+pub none_free : (old : Direct) (calls : List SlotCall) → length old.slots.items ≡ SLOTS → position (λ s. not (says_claimed s)) old.slots.items ≡ None → DirectStands old calls → free_slot calls ≡ None
 none_free old calls len placed s = sym (found_as_kept (λ (x : Slot). not (says_claimed x)) (λ (k : ℕ). not (is_claimed calls k)) Free old.slots.items len (λ k. ap not (sym (s.slots k).claimed))) ∙ placed
 
 pub released : (old new : Direct) (slot : ℕ) → slot < length old.slots.items → new.slots.items ≡ set old.slots.items slot Free → StandsOn old new (Release slot)
@@ -274,7 +274,7 @@ released_past old slot past calls s = record {
 }
 
 pub came_up : (old new : Direct) (own : Vmac) (slot : ℕ) (who : Identity) (replaced : Option ℕ) → length old.slots.items ≡ SLOTS → slot < SLOTS → says_claimed (slot_at old.slots.items slot) ≡ true → same_vmac who.vmac broadcast ≡ false
-    → establish_kept own old.slots.items slot who ≡ IsUp replaced → new.slots.items ≡ slots_up slot who replaced old.slots.items → Answers old new own slot who (IsUp replaced)
+    → establish_kept own old.slots.items slot who ≡ IsUp replaced → new.slots.items ≡ slots_up slot who replaced old.slots.items → DirectAnswers old new own slot who (IsUp replaced)
 came_up old new own slot who replaced len within claimed unicast is items calls s =
     let es = old.slots.items in
     let u = up_by (says_wanted (slot_at es slot)) who (same_vmac who.vmac own) (kept_with (is_rival who) es) (kept_with (by_device who) es) replaced is in
@@ -288,10 +288,10 @@ came_up old new own slot who replaced len within claimed unicast is items calls 
     )
 
 pub stays_down : (old : Direct) (own : Vmac) (slot : ℕ) (who : Identity) (answer : Establish) → length old.slots.items ≡ SLOTS → establish_kept own old.slots.items slot who ≡ answer
-    → ((calls : List SlotCall) → and_up answer calls slot who ≡ calls) → Answers old old own slot who answer
-stays_down old own slot who answer len is same calls s = (sym is ∙ answer_is calls old.slots.items own slot who len s.slots, subst (StandsFor old) (sym (same calls)) s)
+    → ((calls : List SlotCall) → and_up answer calls slot who ≡ calls) → DirectAnswers old old own slot who answer
+stays_down old own slot who answer len is same calls s = (sym is ∙ answer_is calls old.slots.items own slot who len s.slots, subst (DirectStands old) (sym (same calls)) s)
 
-pub established_is : (d : Direct) (v : Vmac) (calls : List SlotCall) → length d.slots.items ≡ SLOTS → StandsFor d calls → kept_with (λ who. same_vmac who.vmac v) d.slots.items ≡ established calls v
+pub established_is : (d : Direct) (v : Vmac) (calls : List SlotCall) → length d.slots.items ≡ SLOTS → DirectStands d calls → kept_with (λ who. same_vmac who.vmac v) d.slots.items ≡ established calls v
 established_is d v calls len s = kept_as_told calls d.slots.items (λ who. same_vmac who.vmac v) len s.slots
 
 -- ---- the broadcast
@@ -299,7 +299,7 @@ established_is d v calls len s = kept_as_told calls d.slots.items (λ who. same_
 pub is_unicast : (who : Identity) → (who.vmac ≡ broadcast → ⊥) → same_vmac who.vmac broadcast ≡ false
 is_unicast who n = false_from_ne_true (same_vmac who.vmac broadcast) (λ h. n (vmac_same who.vmac broadcast h))
 
-pub never_broadcast : (d : Direct) (calls : List SlotCall) → StandsFor d calls → established calls broadcast ≡ None
+pub never_broadcast : (d : Direct) (calls : List SlotCall) → DirectStands d calls → established calls broadcast ≡ None
 never_broadcast d calls s = none_found (λ (k : ℕ). is_peer (λ who. same_vmac who.vmac broadcast) (established_peer calls k)) slots (λ k. by k (established_peer calls k) refl)
   where
     by : (k : ℕ) (o : Option Identity) → established_peer calls k ≡ o → is_peer (λ who. same_vmac who.vmac broadcast) o ≡ false

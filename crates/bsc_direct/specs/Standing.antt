@@ -26,23 +26,23 @@ abbrev pub PeersAreUnicast : List SlotCall → Type 0
 PeersAreUnicast calls = (k : ℕ) (who : Identity) → established_peer calls k ≡ Some who → same_vmac who.vmac broadcast ≡ false
 
 -- A Direct was made, and these calls happened to it, newest last.
-pub record StandsFor (d : Direct) (calls : List SlotCall) : Type 0 where
+pub record DirectStands (d : Direct) (calls : List SlotCall) : Type 0 where
   pub slots : (k : ℕ) → SlotStands calls k (slot_at d.slots.items k)
   pub apart : PeersAreApart calls
   pub unicast : PeersAreUnicast calls
 
 -- For whatever it stood, it stands for that and this call.
 abbrev pub StandsOn : Direct → Direct → SlotCall → Type 0
-StandsOn old new call = (calls : List SlotCall) → StandsFor old calls → StandsFor new (calls ++ call ∷ [])
+StandsOn old new call = (calls : List SlotCall) → DirectStands old calls → DirectStands new (calls ++ call ∷ [])
 
 -- For whatever it stood, the slot was the lowest free one, and it stands for that and the claim.
 abbrev pub IsClaimed : Direct → Direct → ℕ → Option Vmac → Type 0
 IsClaimed old new slot wanted =
-    (calls : List SlotCall) → StandsFor old calls → (free_slot calls ≡ Some slot) × StandsFor new (calls ++ Claim slot wanted ∷ [])
+    (calls : List SlotCall) → DirectStands old calls → (free_slot calls ≡ Some slot) × DirectStands new (calls ++ Claim slot wanted ∷ [])
 
 -- For whatever it stood, no slot was free, and the fault says how many there are.
 abbrev pub IsFull : Direct → SlotsFull → Type 0
-IsFull old fault = (fault.slots ≡ SLOTS) × ((calls : List SlotCall) → StandsFor old calls → free_slot calls ≡ None)
+IsFull old fault = (fault.slots ≡ SLOTS) × ((calls : List SlotCall) → DirectStands old calls → free_slot calls ≡ None)
 
 -- what happened, where the answer is that the connection is established
 abbrev pub and_up : Establish → List SlotCall → ℕ → Identity → List SlotCall
@@ -51,10 +51,10 @@ and_up (Duplicate holder) calls slot who = calls
 and_up (WrongPeer v) calls slot who = calls
 
 -- For whatever it stood, the answer is as the rules ask, and it stands for that and an established connection.
-abbrev pub Answers : Direct → Direct → Vmac → ℕ → Identity → Establish → Type 0
-Answers old new own slot who answer =
-    (calls : List SlotCall) → StandsFor old calls
-    → (answer ≡ establish own calls slot who) × StandsFor new (and_up answer calls slot who)
+abbrev pub DirectAnswers : Direct → Direct → Vmac → ℕ → Identity → Establish → Type 0
+DirectAnswers old new own slot who answer =
+    (calls : List SlotCall) → DirectStands old calls
+    → (answer ≡ establish own calls slot who) × DirectStands new (and_up answer calls slot who)
 
 -- The slot is claimed and not established.
 pub record IsOnlyClaimed (d : Direct) (slot : ℕ) : Type 0 where

@@ -5,7 +5,7 @@ ghost use Rattle.bsc_direct.specs.declared.call.SlotCall.{SlotCall};
 ghost use Rattle.bsc_direct.specs.Slots.{established};
 ghost use Rattle.bsc_direct.specs.Kept.{establish_kept, slots_up, slots_without};
 ghost use Rattle.bsc_direct.specs.Left.{IsHeld, LeavesOthers};
-ghost use Rattle.bsc_direct.specs.Standing.{StandsFor, IsClaimed, IsFull, Answers, StandsOn, IsOnlyClaimed};
+ghost use Rattle.bsc_direct.specs.Standing.{DirectStands, IsClaimed, IsFull, DirectAnswers, StandsOn, IsOnlyClaimed};
 
 use crate::bounds::SLOTS;
 use crate::direct::Direct;
@@ -19,7 +19,7 @@ use std::alloc::Global;
 impl Direct {
     /// Slots that are all free.
     pub fn make(alloc: Global) -> Result<Direct, NoMemory>
-        ensures { IfOk result (λ d. StandsFor d []) }
+        ensures { IfOk result (λ d. DirectStands d []) }
     {
         Ok(Direct {
             slots: vec![in alloc; Slot::Free; SLOTS as usize]?,
@@ -48,7 +48,7 @@ impl Direct {
     pub fn establish(&mut self, own: Vmac, slot: u32, peer: Identity) -> Establish
         requires claimed { IsOnlyClaimed self.old slot }
         requires unicast { peer.vmac ≢ broadcast }
-        ensures answer { Answers self.old self.new own slot peer result }
+        ensures answer { DirectAnswers self.old self.new own slot peer result }
         ensures held { IsHeld self.new slot }
         ensures left { LeavesOthers self.old self.new slot }
     {
@@ -119,7 +119,7 @@ impl Direct {
 
     /// The slot that is established for a VMAC.
     pub fn established(&self, v: Vmac) -> Option<u32>
-        ensures { (calls : List SlotCall) → StandsFor self.now calls → result ≡ established calls v }
+        ensures { (calls : List SlotCall) → DirectStands self.now calls → result ≡ established calls v }
     {
         with_vmac(&self.slots, v)
     }

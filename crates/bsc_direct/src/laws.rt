@@ -6,16 +6,16 @@ ghost use Rattle.bsc_direct.specs.declared.call.SlotCall.{SlotCall};
 ghost use Rattle.bsc_direct.specs.declared.direct.Direct.{Direct};
 ghost use Rattle.bsc_direct.specs.Slots.{established, is_claimed};
 ghost use Rattle.bsc_direct.specs.Laws.{PeersAreApart};
-ghost use Rattle.bsc_direct.specs.Standing.{StandsFor};
+ghost use Rattle.bsc_direct.specs.Standing.{DirectStands};
 
 /// Two established slots never have the same VMAC or the same device.
 pub fn established_slots_are_apart()
-    ensures { (d : Direct) (calls : List SlotCall) → StandsFor d calls → PeersAreApart calls }
+    ensures { (d : Direct) (calls : List SlotCall) → DirectStands d calls → PeersAreApart calls }
 {}
 
 /// No slot is established for the broadcast VMAC.
 pub fn no_slot_is_established_for_the_broadcast()
-    ensures { (d : Direct) (calls : List SlotCall) → StandsFor d calls → established calls broadcast ≡ None }
+    ensures { (d : Direct) (calls : List SlotCall) → DirectStands d calls → established calls broadcast ≡ None }
 {}
 
 /// A connection that comes up claims no slot and frees none: one that is replaced stays claimed until it is released.

@@ -3,7 +3,7 @@ ghost use Rattle.std.specs.Prelude.{◌≡◌, ◌<◌, ◌&&◌, List, IfOk, Is
 ghost use Rattle.bsc_direct.specs.declared.call.SlotCall.{SlotCall};
 ghost use Rattle.bsc_direct.specs.Slots.{establish, established_peer, free_slot, is_claimed, wanted};
 ghost use Rattle.bsc_direct.specs.Kept.{says_peer, says_wanted, slot_at};
-ghost use Rattle.bsc_direct.specs.Standing.{IsOnlyClaimed, StandsFor};
+ghost use Rattle.bsc_direct.specs.Standing.{DirectStands, IsOnlyClaimed};
 
 use crate::bounds::SLOTS;
 use crate::direct::Direct;
@@ -25,7 +25,7 @@ fn write_over(slots: &mut Vec<Slot>, from: &[Slot])
 impl Direct {
     /// The lowest free slot, where one is free.
     pub fn free(&self) -> Option<u32>
-        ensures { (calls : List SlotCall) → StandsFor self.now calls → result ≡ free_slot calls }
+        ensures { (calls : List SlotCall) → DirectStands self.now calls → result ≡ free_slot calls }
     {
         match place_free(&self.slots) {
             Some(place) => Some(place as u32),
@@ -45,14 +45,14 @@ impl Direct {
 
     /// The VMAC that is wanted of the peer of a slot that is claimed, where one is.
     pub fn wanted(&self, slot: u32) -> Option<Vmac>
-        ensures { (calls : List SlotCall) → StandsFor self.now calls → result ≡ wanted calls slot }
+        ensures { (calls : List SlotCall) → DirectStands self.now calls → result ≡ wanted calls slot }
     {
         self.slot(slot).wanted()
     }
 
     /// The peer with which a slot is established, where it is.
     pub fn peer(&self, slot: u32) -> Option<Identity>
-        ensures { (calls : List SlotCall) → StandsFor self.now calls → result ≡ established_peer calls slot }
+        ensures { (calls : List SlotCall) → DirectStands self.now calls → result ≡ established_peer calls slot }
     {
         self.slot(slot).peer()
     }
@@ -60,7 +60,7 @@ impl Direct {
     /// Whether a slot is claimed and not established.
     pub fn awaits_peer(&self, slot: u32) -> bool
         ensures kept { IsTrue result → IsOnlyClaimed self.now slot }
-        ensures told { (calls : List SlotCall) → StandsFor self.now calls
+        ensures told { (calls : List SlotCall) → DirectStands self.now calls
             → result ≡ (is_claimed calls slot && is_none (established_peer calls slot)) }
     {
         self.slot(slot).awaits_peer()
@@ -69,7 +69,7 @@ impl Direct {
     /// What `establish` answers, with nothing established yet.
     pub fn establishes(&self, own: Vmac, slot: u32, peer: &Identity) -> Establish
         requires { slot < SLOTS }
-        ensures { (calls : List SlotCall) → StandsFor self.now calls → result ≡ establish own calls slot peer.now }
+        ensures { (calls : List SlotCall) → DirectStands self.now calls → result ≡ establish own calls slot peer.now }
     {
         self.answer(own, slot, peer)
     }

@@ -15,9 +15,9 @@ Grows None (Some new) xs = ⊥
 Grows (Some old) (Some new) xs = new ≡ old ++ xs
 
 -- What is told is this.
-abbrev pub Tells : {A : Type 0} → Option A → A → Type 0
-Tells None x = ⊤
-Tells (Some y) x = y ≡ x
+abbrev pub ToldIs : {A : Type 0} → Option A → A → Type 0
+ToldIs None x = ⊤
+ToldIs (Some y) x = y ≡ x
 
 -- What is told is what was told before.
 abbrev pub Stays : {A : Type 0} → Option A → Option A → Type 0

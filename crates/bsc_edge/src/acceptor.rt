@@ -1,7 +1,7 @@
 //! Who takes the links that peers make.
 ghost use Rattle.std.specs.Prelude.{◌≡◌, ◌≤◌, [], ◌∷◌, Some, Err, IsErr, IfOk};
 ghost use Rattle.bsc_edge.specs.declared.fault.LinkFault.{LinkFault};
-ghost use Rattle.bsc_edge.specs.Told.{Grows, Tells, Stays, Leaves, IsNoLink};
+ghost use Rattle.bsc_edge.specs.Told.{Grows, ToldIs, Stays, Leaves, IsNoLink};
 ghost use Rattle.bsc_outside.specs.Faults.{HasRisen};
 
 use crate::Failed;
@@ -31,7 +31,7 @@ pub trait Acceptor<L> {
 
     /// Takes the links that come to this TCP port from now on, for the hub or the node at this VMAC.
     fn bind(&mut self, port: u16, owner: Vmac) -> Result<(), Failed>
-        ensures bound { IfOk result (λ _. Tells (bound self.new) (Some port)) }
+        ensures bound { IfOk result (λ _. ToldIs (bound self.new) (Some port)) }
         ensures left { Stays (left self.old) (left self.new) }
         ensures waits { Stays (waits self.old) (waits self.new) }
         ensures later { faults self.old ≤ faults self.new }

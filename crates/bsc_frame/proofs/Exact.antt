@@ -17,8 +17,8 @@ use Rattle.bsc_frame.specs.declared.fault.FrameFault.TheVariants.{Fails, NoMemor
 use Rattle.bsc_frame.specs.Spelling.{Spells}
 use Rattle.bsc_frame.specs.Layout.{announces_data_options, IsList, IsPayload}
 use Rattle.bsc_frame.specs.Checks.{IsFirstOf, IsFirst, order}
-use Rattle.bsc_frame.specs.Checks.{Fails as MessageFails}
-use Rattle.bsc_frame.specs.Walk.{Answers, BodyAnswers, HasHead, HasLists, IsBody, PayloadFails, head_checks, option_checks, payload_checks}
+use Rattle.bsc_frame.specs.Checks.{MessageFails}
+use Rattle.bsc_frame.specs.Walk.{BodyAnswers, HasHead, HasLists, IsBody, MessageAnswers, PayloadFails, head_checks, option_checks, payload_checks}
 use Rattle.bsc_frame.proofs.First.{Pass, pass_append, first_later, first_earlier, first_as, first_or_none, one_first}
 use Rattle.bsc_frame.proofs.Heads.{head_facts, head_passes}
 use Rattle.bsc_frame.proofs.OptionLists.{list_one, lists_pass, well}
@@ -100,20 +100,20 @@ one_message x y m spells other =
 
 -- ---- what reading answers, stage by stage
 
-pub check_answers : (m : List ℕ) (r : Result Message FrameFault) (fault : FrameFault) (k : Check) → r ≡ Err fault → fault ≡ Fails k → IsFirst k m → Answers m r
+pub check_answers : (m : List ℕ) (r : Result Message FrameFault) (fault : FrameFault) (k : Check) → r ≡ Err fault → fault ≡ Fails k → IsFirst k m → MessageAnswers m r
 check_answers m r fault k is fails first = rw (is, fails) first
 
 pub memory_answers : (m : List ℕ) (r : Result Message FrameFault) (fault : FrameFault) (e : Envelope) (at end : ℕ) (xs ys : List OptionItem) (body : Body) → r ≡ Err fault → fault ≡ NoMemory
-    → HasHead m e → HasLists m e at end xs ys → IsBody e.function (drop end m) body → Answers m r
+    → HasHead m e → HasLists m e at end xs ys → IsBody e.function (drop end m) body → MessageAnswers m r
 memory_answers m r fault e at end xs ys body is none head lists has = rw (is, none) (message_of e xs ys body, spells_by m e at end xs ys body head lists has)
 
 -- the answer of reading the payload
-body_answers : (m : List ℕ) (e : Envelope) (at end : ℕ) (xs ys : List OptionItem) (fault : FrameFault) → HasHead m e → HasLists m e at end xs ys → BodyAnswers e.function (drop end m) (Err fault) → Answers m (Err fault)
+body_answers : (m : List ℕ) (e : Envelope) (at end : ℕ) (xs ys : List OptionItem) (fault : FrameFault) → HasHead m e → HasLists m e at end xs ys → BodyAnswers e.function (drop end m) (Err fault) → MessageAnswers m (Err fault)
 body_answers m e at end xs ys (Fails k) head lists a = payload_first m e at end xs ys k head lists a
 body_answers m e at end xs ys NoMemory head lists a = (message_of e xs ys a.0, spells_by m e at end xs ys a.0 head lists a.1)
 
 pub payload_answers : (m : List ℕ) (r : Result Message FrameFault) (fault its : FrameFault) (e : Envelope) (at end : ℕ) (xs ys : List OptionItem) (p : List ℕ) → r ≡ Err fault → fault ≡ its → p ≡ drop end m
-    → HasHead m e → HasLists m e at end xs ys → BodyAnswers e.function p (Err its) → Answers m r
+    → HasHead m e → HasLists m e at end xs ys → BodyAnswers e.function p (Err its) → MessageAnswers m r
 payload_answers m r fault its e at end xs ys p is same rest head lists a =
     rw (is, same) (body_answers m e at end xs ys its head lists (subst (λ (q : List ℕ). BodyAnswers e.function q (Err its)) rest a))
 
@@ -128,24 +128,24 @@ message_answers m e at end xs ys body list more p rest first second head lists h
 
 -- ---- the clauses of reading
 
-pub only_of : (m : List ℕ) (r : Result Message FrameFault) → Answers m r → (msg : Message) → Spells msg m → (r ≡ Ok msg) ⊎ (r ≡ Err NoMemory)
+pub only_of : (m : List ℕ) (r : Result Message FrameFault) → MessageAnswers m r → (msg : Message) → Spells msg m → (r ≡ Ok msg) ⊎ (r ≡ Err NoMemory)
 only_of m (Ok found) a msg spells = inl (ap (λ (x : Message). Ok x) (one_message found msg m a spells))
 only_of m (Err (Fails k)) a msg spells = absurd (first_or_none (MessageFails m) order k (spelled_passes msg m spells) a)
 only_of m (Err NoMemory) a msg spells = inr refl
 
-fails_then : (m : List ℕ) (r : Result Message FrameFault) → Answers m r → (k : Check) → r ≡ Err (Fails k) → IsFirst k m
-fails_then m r a k e = subst (Answers m) e a
+fails_then : (m : List ℕ) (r : Result Message FrameFault) → MessageAnswers m r → (k : Check) → r ≡ Err (Fails k) → IsFirst k m
+fails_then m r a k e = subst (MessageAnswers m) e a
 
-fails_if : (m : List ℕ) (r : Result Message FrameFault) → Answers m r → (k : Check) → IsFirst k m → r ≡ Err (Fails k)
+fails_if : (m : List ℕ) (r : Result Message FrameFault) → MessageAnswers m r → (k : Check) → IsFirst k m → r ≡ Err (Fails k)
 fails_if m (Ok found) a k first = absurd (first_or_none (MessageFails m) order k (spelled_passes found m a) first)
 fails_if m (Err (Fails j)) a k first = ap (λ (check : Check). Err (Fails check)) (one_first (MessageFails m) order j k a first)
 fails_if m (Err NoMemory) a k first = absurd (first_or_none (MessageFails m) order k (spelled_passes a.0 m a.1) first)
 
-pub fails_where : (m : List ℕ) (r : Result Message FrameFault) → Answers m r → (k : Check) → (r ≡ Err (Fails k)) ↔ IsFirst k m
+pub fails_where : (m : List ℕ) (r : Result Message FrameFault) → MessageAnswers m r → (k : Check) → (r ≡ Err (Fails k)) ↔ IsFirst k m
 fails_where m r a k = (fails_then m r a k, fails_if m r a k)
 
-pub memory_then : (m : List ℕ) (r : Result Message FrameFault) → Answers m r → r ≡ Err NoMemory → (msg : Message) × Spells msg m
-memory_then m r a e = subst (Answers m) e a
+pub memory_then : (m : List ℕ) (r : Result Message FrameFault) → MessageAnswers m r → r ≡ Err NoMemory → (msg : Message) × Spells msg m
+memory_then m r a e = subst (MessageAnswers m) e a
 
 -- what was written is read back
 pub read_back : (msg : Message) (r : Result Message FrameFault) → (r ≡ Ok msg) ⊎ (r ≡ Err NoMemory) → MatchResult r (λ again. again ≡ msg) (λ fault. fault ≡ NoMemory)

@@ -6,7 +6,7 @@ use Rattle.bsc_octets.specs.Envelopes.{flags_in, announces_origin, announces_des
 use Rattle.bsc_octets.specs.Forwarding.{function_in}
 use Rattle.bsc_frame.specs.declared.check.Check.TheVariants.{C1, C3, C5, C6}
 use Rattle.bsc_frame.specs.Layout.{options_at}
-use Rattle.bsc_frame.specs.Checks.{Fails, IsFirstOf, IsShort, LacksAddressOctets}
+use Rattle.bsc_frame.specs.Checks.{IsFirstOf, IsShort, LacksAddressOctets, MessageFails}
 use Rattle.bsc_frame.specs.Walk.{HasHead, head_checks}
 use Rattle.bsc_frame.proofs.First.{Pass}
 
@@ -51,7 +51,7 @@ not_short m e facts short = absurd (let four = facts.four in let within = facts.
 pub lacks_none : (m : List ℕ) (e : Envelope) → HeadFacts m e → LacksAddressOctets m → ⊥
 lacks_none m e facts lacks = absurd (let place = facts.place in let within = facts.within in let less = lacks.1 in omega arith)
 
-pub head_passes : (m : List ℕ) (e : Envelope) → HasHead m e → Pass (Fails m) head_checks
+pub head_passes : (m : List ℕ) (e : Envelope) → HasHead m e → Pass (MessageFails m) head_checks
 head_passes m e head =
     let facts = head_facts m e head.spells head.whole in (
       not_short m e facts,
@@ -64,18 +64,18 @@ head_passes m e head =
       ),
     )
 
-pub first_short : (m : List ℕ) → length m < 4 → IsFirstOf head_checks (Fails m) C1
+pub first_short : (m : List ℕ) → length m < 4 → IsFirstOf head_checks (MessageFails m) C1
 first_short m short = record { before = []; after = C3 ∷ C5 ∷ C6 ∷ []; place = refl; earlier = tt; fault = short }
 
-pub first_cut : (m : List ℕ) → 4 ≤ length m → length m < options_at m → IsFirstOf head_checks (Fails m) C3
+pub first_cut : (m : List ℕ) → 4 ≤ length m → length m < options_at m → IsFirstOf head_checks (MessageFails m) C3
 first_cut m four less = record { before = C1 ∷ []; after = C5 ∷ C6 ∷ []; place = refl; earlier = ((λ short. absurd (omega arith)), tt); fault = (four, less) }
 
-pub first_reserved : (m : List ℕ) (e : Envelope) → SpellsEnvelope e m → HasWholeAddresses e → 0x0F < e.flags → IsFirstOf head_checks (Fails m) C5
+pub first_reserved : (m : List ℕ) (e : Envelope) → SpellsEnvelope e m → HasWholeAddresses e → 0x0F < e.flags → IsFirstOf head_checks (MessageFails m) C5
 first_reserved m e spells whole reserved =
     let facts = head_facts m e spells whole in
     record { before = C1 ∷ C3 ∷ []; after = C6 ∷ []; place = refl; earlier = (not_short m e facts, (lacks_none m e facts, tt)); fault = (let same = facts.flags in omega arith) }
 
-pub first_unknown : (m : List ℕ) (e : Envelope) → SpellsEnvelope e m → HasWholeAddresses e → e.flags ≤ 0x0F → 0x0C < e.function → IsFirstOf head_checks (Fails m) C6
+pub first_unknown : (m : List ℕ) (e : Envelope) → SpellsEnvelope e m → HasWholeAddresses e → e.flags ≤ 0x0F → 0x0C < e.function → IsFirstOf head_checks (MessageFails m) C6
 first_unknown m e spells whole few unknown =
     let facts = head_facts m e spells whole in
     record {

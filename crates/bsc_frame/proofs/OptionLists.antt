@@ -16,7 +16,7 @@ use Rattle.bsc_options.proofs.Exact.{fit_all, one_reading}
 use Rattle.bsc_frame.specs.declared.check.Check.TheVariants.{C7, C7b, C8}
 use Rattle.bsc_frame.specs.Spelling.{TakesDataOptions}
 use Rattle.bsc_frame.specs.Layout.{announces_dest_options, announces_data_options, options_at, IsList}
-use Rattle.bsc_frame.specs.Checks.{Fails, IsFirstOf, HasItemAtFault, LacksOptionOctets, OfDestOptions, OfDataOptions, HasBadOption, HasMisplacedDataOptions}
+use Rattle.bsc_frame.specs.Checks.{MessageFails, IsFirstOf, HasItemAtFault, LacksOptionOctets, OfDestOptions, OfDataOptions, HasBadOption, HasMisplacedDataOptions}
 use Rattle.bsc_frame.specs.Walk.{option_checks}
 use Rattle.bsc_frame.proofs.First.{Pass}
 use Rattle.bsc_frame.proofs.Heads.{HeadFacts}
@@ -111,13 +111,13 @@ well_placed m place wrong =
     ]
 
 pub lists_pass : (m : List ℕ) (at end : ℕ) (xs ys : List OptionItem) → AreLists m at end xs ys → AllByRecursion HasShape xs → AllByRecursion HasShape ys
-    → (IsTrue (announces_data_options (flags_in m)) → TakesDataOptions (function_in m)) → Pass (Fails m) option_checks
+    → (IsTrue (announces_data_options (flags_in m)) → TakesDataOptions (function_in m)) → Pass (MessageFails m) option_checks
 lists_pass m at end xs ys lists shapes others place = (no_octets_lack m at end xs ys lists, (no_bad_option m at end xs ys lists shapes others, (well_placed m place, tt)))
 
-pub first_lacks : (m : List ℕ) → LacksOptionOctets m → IsFirstOf option_checks (Fails m) C7
+pub first_lacks : (m : List ℕ) → LacksOptionOctets m → IsFirstOf option_checks (MessageFails m) C7
 first_lacks m lack = record { before = []; after = C7b ∷ C8 ∷ []; place = refl; earlier = tt; fault = lack }
 
-pub first_bad : (m : List ℕ) (at end : ℕ) (xs ys : List OptionItem) → AreLists m at end xs ys → HasBadOption m → IsFirstOf option_checks (Fails m) C7b
+pub first_bad : (m : List ℕ) (at end : ℕ) (xs ys : List OptionItem) → AreLists m at end xs ys → HasBadOption m → IsFirstOf option_checks (MessageFails m) C7b
 first_bad m at end xs ys lists bad = record { before = C7 ∷ []; after = C8 ∷ []; place = refl; earlier = (no_octets_lack m at end xs ys lists, tt); fault = bad }
 
 -- data options on a function of its envelope that takes none
@@ -132,6 +132,6 @@ misplaced m e facts c also set low npdu own = (ap announces_data_options facts.f
 pub well : (m : List ℕ) (e : Envelope) → HeadFacts m e → (c : Bool) → c ≡ announces_data_options e.flags → (c ≡ true → TakesDataOptions e.function) → IsTrue (announces_data_options (flags_in m)) → TakesDataOptions (function_in m)
 well m e facts c also place set = subst TakesDataOptions (sym facts.function) (place (also ∙ ap announces_data_options (sym facts.flags) ∙ set))
 
-pub first_misplaced : (m : List ℕ) (at end : ℕ) (xs ys : List OptionItem) → AreLists m at end xs ys → AllByRecursion HasShape xs → AllByRecursion HasShape ys → HasMisplacedDataOptions m → IsFirstOf option_checks (Fails m) C8
+pub first_misplaced : (m : List ℕ) (at end : ℕ) (xs ys : List OptionItem) → AreLists m at end xs ys → AllByRecursion HasShape xs → AllByRecursion HasShape ys → HasMisplacedDataOptions m → IsFirstOf option_checks (MessageFails m) C8
 first_misplaced m at end xs ys lists shapes others wrong =
     record { before = C7 ∷ C7b ∷ []; after = []; place = refl; earlier = (no_octets_lack m at end xs ys lists, (no_bad_option m at end xs ys lists shapes others, tt)); fault = wrong }

@@ -77,19 +77,19 @@ HasValueOutOfRange m = OfPayload m IsOutOfRange
 
 -- The check fails of these octets. The checks that refuse a message are not made here: C9 and C12, by which its receiver
 -- does not understand it, and C2, C4 and C13, which ask for the place at which it came.
-abbrev pub Fails : List ℕ → Check → Type 0
-Fails m C1 = IsShort m
-Fails m C3 = LacksAddressOctets m
-Fails m C5 = HasReservedFlag m
-Fails m C6 = HasUnknownFunction m
-Fails m C7 = LacksOptionOctets m
-Fails m C7b = HasBadOption m
-Fails m C8 = HasMisplacedDataOptions m
-Fails m C10 = LacksPayload m
-Fails m C10b = HasShortPayload m
-Fails m C10c = HasLongPayload m
-Fails m C11 = HasValueOutOfRange m
-Fails m check = ⊥
+abbrev pub MessageFails : List ℕ → Check → Type 0
+MessageFails m C1 = IsShort m
+MessageFails m C3 = LacksAddressOctets m
+MessageFails m C5 = HasReservedFlag m
+MessageFails m C6 = HasUnknownFunction m
+MessageFails m C7 = LacksOptionOctets m
+MessageFails m C7b = HasBadOption m
+MessageFails m C8 = HasMisplacedDataOptions m
+MessageFails m C10 = LacksPayload m
+MessageFails m C10b = HasShortPayload m
+MessageFails m C10c = HasLongPayload m
+MessageFails m C11 = HasValueOutOfRange m
+MessageFails m check = ⊥
 
 -- In this order of checks, the check k fails and none before it does.
 pub record IsFirstOf (order : List Check) (fails : Check → Type 0) (k : Check) : Type 0 where
@@ -105,4 +105,4 @@ order = C1 ∷ C3 ∷ C5 ∷ C6 ∷ C7 ∷ C7b ∷ C8 ∷ C10 ∷ C10b ∷ C10c 
 
 -- The check k is the first of them that fails.
 abbrev pub IsFirst : Check → List ℕ → Type 0
-IsFirst k m = IsFirstOf order (Fails m) k
+IsFirst k m = IsFirstOf order (MessageFails m) k

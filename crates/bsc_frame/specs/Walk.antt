@@ -19,7 +19,7 @@ use Rattle.bsc_frame.specs.Spelling.{Spells, TakesDataOptions}
 use Rattle.bsc_frame.specs.Layout.{IsList, announces_dest_options, announces_data_options}
 use Rattle.bsc_frame.specs.PayloadChecks.{expects_payload, fixed_part, takes_rest, IsMissing, IsBelowFixedPart, IsBeyondFixedPart, IsOutOfRange}
 use Rattle.bsc_frame.specs.Checks.{IsFirstOf, IsFirst, HasItemAtFault}
-use Rattle.bsc_frame.specs.Checks.{Fails as MessageFails}
+use Rattle.bsc_frame.specs.Checks.{MessageFails}
 
 -- ---- a payload
 
@@ -104,7 +104,7 @@ EndsAnswers m e (Err check) = IsFirstOf option_checks (MessageFails m) check
 -- ---- the whole
 
 -- What reading a message may answer.
-abbrev pub Answers : List ℕ → Result Message FrameFault → Type 0
-Answers m (Ok msg) = Spells msg m
-Answers m (Err (Fails check)) = IsFirst check m
-Answers m (Err NoMemory) = (msg : Message) × Spells msg m
+abbrev pub MessageAnswers : List ℕ → Result Message FrameFault → Type 0
+MessageAnswers m (Ok msg) = Spells msg m
+MessageAnswers m (Err (Fails check)) = IsFirst check m
+MessageAnswers m (Err NoMemory) = (msg : Message) × Spells msg m

@@ -9,7 +9,7 @@ use Rattle.bsc_turn.specs.declared.view.Ended.{Ended}
 use Rattle.bsc_turn.specs.Histories.{StartsWith}
 use Rattle.bsc_turn.specs.Passes.{ended_callers, loads_made, own_list, seen}
 use Rattle.bsc_hub.specs.declared.hub.Hub.{Hub}
-use Rattle.bsc_hub.specs.Passing.{IsCaller, Made, Passed, Placed, Went}
+use Rattle.bsc_hub.specs.Passing.{IsCaller, MadeEntry, Passed, Placed, Went}
 
 pub starts_then : (F G H : List Stamped) → StartsWith G F → StartsWith H G → StartsWith H F
 starts_then F G H a b = (a.0 ++ b.0, b.1 ∙ ap (λ (l : List Stamped). l ++ b.0) a.1 ∙ append_assoc F a.0 b.0)
@@ -17,7 +17,7 @@ starts_then F G H a b = (a.0 ++ b.0, b.1 ∙ ap (λ (l : List Stamped). l ++ b.0
 pub starts_same : (F : List Stamped) → StartsWith F F
 starts_same F = ([], sym (append-nil F))
 
-made_then : (p m q : Pass) (made : Option Placed) → own_list m ≡ own_list p → StartsWith (seen m) (seen p) → Made m made q → Made p made q
+made_then : (p m q : Pass) (made : Option Placed) → own_list m ≡ own_list p → StartsWith (seen m) (seen p) → MadeEntry m made q → MadeEntry p made q
 made_then p m q None own begins b = b ∙ own
 made_then p m q (Some x) own begins b = record {
   before = b.before;

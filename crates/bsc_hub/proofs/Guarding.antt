@@ -23,7 +23,7 @@ use Rattle.bsc_turn.specs.Histories.{StartsWith, own_of}
 use Rattle.bsc_turn.specs.Passes.{number_of, seen, view_of}
 use Rattle.bsc_desk.specs.declared.desk.Desk.{Desk}
 use Rattle.bsc_desk.specs.Rows.{IsMarkOf, IsRowBy, IsRowOf}
-use Rattle.bsc_desk.specs.Standing.{StandsFor}
+use Rattle.bsc_desk.specs.Standing.{DeskStands}
 use Rattle.bsc_desk.proofs.Rowed.{is_mark_of, is_row_by, is_row_of}
 use Rattle.bsc_hub.specs.Passing.{IsOwn, IsOwnAs}
 use Rattle.bsc_history.proofs.Common.{length_entries, take_all}
@@ -56,16 +56,16 @@ guard_own a p n c w legal begins same tw tv is num mine =
     (ap (λ k. is_of (entries (seen p)) k c) num ∙ mine)
 
 -- so the desk in hand has a row for it
-pub guard_row : (d : Desk) (p : Pass) (n c : ℕ) (w : View) → StandsFor d w.seen → StartsWith w.seen (seen p) → w ≡ having_seen w.seen (view_of p) → IsConsistent w → IsConsistent (view_of p) → (view_of p).number ≡ number_of p → n ≡ number_of p → IsOwn p c → IsRowBy d n c
+pub guard_row : (d : Desk) (p : Pass) (n c : ℕ) (w : View) → DeskStands d w.seen → StartsWith w.seen (seen p) → w ≡ having_seen w.seen (view_of p) → IsConsistent w → IsConsistent (view_of p) → (view_of p).number ≡ number_of p → n ≡ number_of p → IsOwn p c → IsRowBy d n c
 guard_row d p n c w stands begins same tw tv is num mine = is_row_by d w.seen n c stands (guard_own d.about p n c w stands.legal begins same tw tv is num mine)
 
 -- with its address
-pub guard_sender : (d : Desk) (p : Pass) (n c : ℕ) (v : Vmac) (w : View) → StandsFor d w.seen → StartsWith w.seen (seen p) → w ≡ having_seen w.seen (view_of p) → IsConsistent w → IsConsistent (view_of p) → (view_of p).number ≡ number_of p → n ≡ number_of p → IsOwnAs p c v → IsRowOf d n c v
+pub guard_sender : (d : Desk) (p : Pass) (n c : ℕ) (v : Vmac) (w : View) → DeskStands d w.seen → StartsWith w.seen (seen p) → w ≡ having_seen w.seen (view_of p) → IsConsistent w → IsConsistent (view_of p) → (view_of p).number ≡ number_of p → n ≡ number_of p → IsOwnAs p c v → IsRowOf d n c v
 guard_sender d p n c v w stands begins same tw tv is num mine =
     is_row_of d w.seen n c v stands (guard_own d.about p n c w stands.legal begins same tw tv is num mine.0) (address_lifted (seen p) w.seen (number_of p) c begins mine.0 ∙ mine.1)
 
 -- and the mark of its inlet is that of the outlet
-pub guard_mark : (d : Desk) (F H : List Stamped) (c : ℕ) (o : Outlet) → StandsFor d H → StartsWith H F → mark_of F c ≡ Some (outlet_mark o) → IsMarkOf d c (outlet_mark o)
+pub guard_mark : (d : Desk) (F H : List Stamped) (c : ℕ) (o : Outlet) → DeskStands d H → StartsWith H F → mark_of F c ≡ Some (outlet_mark o) → IsMarkOf d c (outlet_mark o)
 guard_mark d F H c o stands begins h = is_mark_of d H c (outlet_mark o) stands (subst (λ l. mark_of l c ≡ Some (outlet_mark o)) (sym begins.1) (mark_grows F begins.0 c (outlet_mark o) h))
 
 -- the history before an entry is its first part up to the entry's place

@@ -14,7 +14,7 @@ use Rattle.bsc_turn.specs.Effects.{having_seen}
 use Rattle.bsc_turn.specs.Histories.{StartsWith}
 use Rattle.bsc_turn.specs.Passes.{IsPassOf, after_back, after_commit, ended_callers, loads_made, seen, view_of}
 use Rattle.bsc_desk.specs.declared.desk.Desk.{Desk}
-use Rattle.bsc_desk.specs.Standing.{StandsFor}
+use Rattle.bsc_desk.specs.Standing.{DeskStands}
 use Rattle.bsc_hub.specs.declared.hub.Hub.{Hub}
 use Rattle.bsc_hub.specs.Calls.{placed}
 use Rattle.bsc_hub.specs.Passing.{IsCaller, Passed, about_of, fixed_of, found_history}
@@ -22,11 +22,11 @@ use Rattle.bsc_hub.proofs.Guarding.{before_place}
 use Rattle.bsc_history.proofs.Common.{length_entries}
 
 -- the desk stands for a history of this hub
-legal_of : (h : Hub) (d : Desk) (S : List Stamped) → StandsFor d S → d.about ≡ about_of h → Legal (about_of h) (entries S)
+legal_of : (h : Hub) (d : Desk) (S : List Stamped) → DeskStands d S → d.about ≡ about_of h → Legal (about_of h) (entries S)
 legal_of h d S stands about = subst (λ a. Legal a (entries S)) about stands.legal
 
 -- The entry s was committed by a guard with the view w.
-pub passed_with : (h : Hub) (p q : Pass) (w : View) (s : Stamped) (at : ℕ) (d : Desk) → IsCaller h p → IsPassOf fixed_of h.turn q → view_of q ≡ after_commit s w → at ≡ length w.seen → w ≡ having_seen w.seen (view_of p) → StartsWith w.seen (seen p) → StandsFor d (w.seen ++ s ∷ []) → d.about ≡ about_of h → Passed h p [] (placed at s) q
+pub passed_with : (h : Hub) (p q : Pass) (w : View) (s : Stamped) (at : ℕ) (d : Desk) → IsCaller h p → IsPassOf fixed_of h.turn q → view_of q ≡ after_commit s w → at ≡ length w.seen → w ≡ having_seen w.seen (view_of p) → StartsWith w.seen (seen p) → DeskStands d (w.seen ++ s ∷ []) → d.about ≡ about_of h → Passed h p [] (placed at s) q
 passed_with h p q w s at d is pass knows place same begins stands about =
     let sound = pass.1.1 in
     let whole : seen q ≡ w.seen ++ s ∷ [] = ap (λ (v : View). v.seen) knows in

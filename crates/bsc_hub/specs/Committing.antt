@@ -4,9 +4,9 @@ use Rattle.bsc_history.specs.declared.mark.Stamped.{Stamped}
 use Rattle.bsc_turn.specs.declared.guard.Guard.{Guard}
 use Rattle.bsc_turn.specs.declared.pass.Pass.{Pass}
 use Rattle.bsc_turn.specs.declared.turn.Turn.{Turn}
-use Rattle.bsc_turn.specs.Passes.{IsFor, IsGuardOf, IsPassOf, after_commit, first_state, guard_view, history, number_of, view_of}
+use Rattle.bsc_turn.specs.Passes.{IsForGuard, IsGuardOf, IsPassOf, after_commit, first_state, guard_view, history, number_of, view_of}
 use Rattle.bsc_desk.specs.declared.desk.Desk.{Desk}
-use Rattle.bsc_desk.specs.Standing.{StandsFor}
+use Rattle.bsc_desk.specs.Standing.{DeskStands}
 use Rattle.bsc_hub.specs.Passing.{fixed_of}
 
 module _ {T : Type 0} where
@@ -14,8 +14,8 @@ module _ {T : Type 0} where
   -- it.
   abbrev pub CanCommit : Turn Desk → Guard T Desk → Pass → Stamped → Type 0
   CanCommit t d p s =
-      IsGuardOf fixed_of t d × IsFor p d × (s.entry.caller ≡ number_of p)
-      × StandsFor d.state (history d ++ s ∷ []) × (d.state.about ≡ (first_state t).about)
+      IsGuardOf fixed_of t d × IsForGuard p d × (s.entry.caller ≡ number_of p)
+      × DeskStands d.state (history d ++ s ∷ []) × (d.state.about ≡ (first_state t).about)
       × (length (history d) < 2 ^ 63)
 
   -- It has, at this place, and the pass knows.

@@ -53,9 +53,9 @@ pub record MadeOne (p : Pass) (m : Placed) (q : Pass) : Type 0 where
   pub grew : own_list q ≡ own_list p ++ m.stamped.entry ∷ []
 
 -- A call made this entry, or it made none, and then the own list is as before.
-abbrev pub Made : Pass → Option Placed → Pass → Type 0
-Made p (Some m) q = MadeOne p m q
-Made p None q = own_list q ≡ own_list p
+abbrev pub MadeEntry : Pass → Option Placed → Pass → Type 0
+MadeEntry p (Some m) q = MadeOne p m q
+MadeEntry p None q = own_list q ≡ own_list p
 
 -- The pass clause. A call with the pass p asked for so many numbers of new callers, took these callers in, made this entry
 -- or none, and left the pass as q: it is of this hub and what it has seen is legal; its number is unchanged; what it has
@@ -68,7 +68,7 @@ pub record Went (h : Hub) (p : Pass) (drew : ℕ) (took : List Ended) (made : Op
   pub grows : StartsWith (seen q) (seen p)
   pub all_own : own (entries (seen q)) (number_of q) ≡ own_list q
   pub takes_in : ended_callers q ≡ ended_callers p ++ took
-  pub makes : Made p made q
+  pub makes : MadeEntry p made q
   pub draws : loads_made q ≡ loads_made p + drew
 
 -- The pass clause of a call that asked for no number, as each call of a hub but a split: it made no caller.

@@ -5,7 +5,7 @@ use Rattle.bsc_outside.specs.Faults.{HasRisen}
 use Rattle.bsc_player.specs.LastLines.{RanOut}
 use Rattle.bsc_edge.specs.declared.fault.LinkFault.{LinkFault}
 use Rattle.bsc_edge.specs.declared.fault.LinkFault.TheVariants.{Failed}
-use Rattle.bsc_edge.specs.Told.{Grows, Stays, Tells}
+use Rattle.bsc_edge.specs.Told.{Grows, Stays, ToldIs}
 use Rattle.bsc_session.specs.declared.job.SessionJob.{SessionJob}
 use Rattle.bsc_session.specs.declared.session_end.SessionEnd.{SessionEnd}
 use Rattle.bsc_serve.specs.declared.end.ServeEnd.{ServeEnd}
@@ -13,9 +13,9 @@ use Rattle.bsc_serve.specs.declared.terms.ServeTerms.{ServeTerms}
 use Rattle.bsc_serve.specs.Serving.{Loses, Serving}
 use Rattle.bsc_serve.specs.Terms.{all_terms}
 use Rattle.bsc_serve.specs.Worlds.{ServeWorld}
-use Rattle.bsc_hub_command.specs.Served.{Bound, Course, HasFailed, HubTerms, HubWorld, NotBound, SaysEnd, Titling, Untitled, terms_by, terms_of, with_pass}
+use Rattle.bsc_hub_command.specs.Served.{Bound, HasFailed, HubCourse, HubTerms, HubWorld, NotBound, SaysEnd, Titling, Untitled, terms_by, terms_of, with_pass}
 
-tells_still : {A : Type 0} → (a b : Option A) (x : A) → Tells a x → Stays a b → Tells b x
+tells_still : {A : Type 0} → (a b : Option A) (x : A) → ToldIs a x → Stays a b → ToldIs b x
 tells_still a None x t s = tt
 tells_still None (Some y) x t s = absurd s
 tells_still (Some z) (Some y) x t s = s ∙ t
@@ -34,9 +34,9 @@ grows_from (Some l) (Some m) (Some n) xs s t = t ∙ ap (λ ys. ys ++ xs) s
 
 module _ {L C N : Type 0} (works : SessionJob L C N → SessionEnd → Type 0) (begins : Option (List ℕ) → ℕ → N → Type 0)
     (held : N → Option (List ℕ)) (unput : N → ℕ) where
-  pub bound_so : (asked : HubTerms) (k : Course) (titled held' : Option (List ℕ)) (before after : HubWorld L C N) (links : Option (List L))
+  pub bound_so : (asked : HubTerms) (k : HubCourse) (titled held' : Option (List ℕ)) (before after : HubWorld L C N) (links : Option (List L))
       (waits : Option (List ℕ)) (told : Option (Option ℕ)) (s : ℕ) (end : ServeEnd) (terms : ServeTerms) (port : ℕ)
-      → terms ≡ terms_by asked.settings asked.sessions → port ≡ asked.settings.port → Tells told (Some port) → Stays told after.port
+      → terms ≡ terms_by asked.settings asked.sessions → port ≡ asked.settings.port → ToldIs told (Some port) → Stays told after.port
       → Stays before.links links → Stays before.waits waits
       → Serving works begins k.hub (all_terms terms asked.prefix asked.policy) (record (with_pass k.first before) { links = links; waits = waits })
       (with_pass k.last after) titled held' end
@@ -47,7 +47,7 @@ module _ {L C N : Type 0} (works : SessionJob L C N → SessionEnd → Type 0) (
       subst (λ (t : ServeTerms). Serving works begins k.hub (all_terms t asked.prefix asked.policy) first (with_pass k.last after) titled held' end) same serving in
       record {
         end = end;
-        bound = tells_still told after.port (Some asked.settings.port) (subst (λ (n : ℕ). Tells told (Some n)) same_port bound) stays;
+        bound = tells_still told after.port (Some asked.settings.port) (subst (λ (n : ℕ). ToldIs told (Some n)) same_port bound) stays;
         serving = record {
           events = b.events;
           cut = b.cut;
@@ -114,7 +114,7 @@ sooner a b c later (inr x) = inr x
 -- ---- what became of a hub says nothing of the journals that couldn't be begun
 
 module _ {L C N : Type 0} (works : SessionJob L C N → SessionEnd → Type 0) (begins : Option (List ℕ) → ℕ → N → Type 0)
-    (held : N → Option (List ℕ)) (unput : N → ℕ) (k : Course) (asked : HubTerms) (begun own : N) (before after : HubWorld L C N) (n s : ℕ) where
+    (held : N → Option (List ℕ)) (unput : N → ℕ) (k : HubCourse) (asked : HubTerms) (begun own : N) (before after : HubWorld L C N) (n s : ℕ) where
   untitled_since : Untitled held unput k begun own (record before { unbegun = n }) after s → Untitled held unput k begun own before after s
   untitled_since u = record {
     part = u.part;

@@ -1,17 +1,11 @@
 -- The lines that the command writes.
 use Rattle.std.specs.Prelude.{ℕ, ◌==◌, if◌then◌else◌, List, [], ◌++◌, codes, decimal, Option, Some, None}
 use Rattle.bsc_history.specs.declared.counts.Counts.{Counts}
-use Rattle.bsc_script.specs.Running.{hub_says}
-use Rattle.bsc_lines.specs.Replies.{counts_words}
-use Rattle.bsc_script.specs.Written.{line_text}
+use Rattle.bsc_script.specs.Running.{counts_text}
 
 -- the line of the links that got no session, where there are such
 abbrev pub unstarted_line : ℕ → List ℕ
 unstarted_line n = if n == 0 then [] else codes "unstarted " ++ decimal n ++ codes "\n"
-
--- the line of the counts, as a script writes it
-abbrev pub counts_text : Counts → List ℕ
-counts_text c = line_text (hub_says (counts_words c))
 
 -- the line that stands for the counts, where the hub had been stopped before
 abbrev pub stopped_text : List ℕ

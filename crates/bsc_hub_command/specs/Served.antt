@@ -1,5 +1,5 @@
 -- What serving a hub by its settings comes to.
-use Rattle.std.specs.Prelude.{◌≡◌, ◌≢◌, ℕ, ◌⊎◌, List, [], Option, Some, None, Result}
+use Rattle.std.specs.Prelude.{◌≡◌, ◌≢◌, ℕ, ◌⊎◌, List, [], Option, Some, None, Result, option_map}
 use Rattle.std.specs.declared.alloc.Global.{Global}
 use Rattle.std.specs.declared.sync.Arc.{Arc}
 use Rattle.std.specs.Arc.{arc_value}
@@ -15,32 +15,35 @@ use Rattle.bsc_hub.specs.declared.hub.Hub.{Hub}
 use Rattle.bsc_hub.specs.declared.kept.Kept.{Kept}
 use Rattle.bsc_hub.specs.Calls.{stop_made}
 use Rattle.bsc_hub.specs.Passing.{IsCaller, Passed, about_of}
-use Rattle.bsc_edge.specs.Told.{Stays, Tells}
+use Rattle.bsc_edge.specs.Told.{Stays, ToldIs}
 use Rattle.bsc_player.specs.LastLines.{EndsWith, RanOut}
 use Rattle.bsc_session.specs.declared.job.SessionJob.{SessionJob}
 use Rattle.bsc_session.specs.declared.limits.SessionLimits.{SessionLimits}
 use Rattle.bsc_session.specs.declared.session_end.SessionEnd.{SessionEnd}
+use Rattle.bsc_session.specs.Jobs.{policy_of}
 use Rattle.bsc_settings.specs.declared.hub.HubSettings.{HubSettings}
 use Rattle.bsc_settings.specs.Parts.{identity_of, limits_of, times_of}
 use Rattle.bsc_serve.specs.declared.end.ServeEnd.{ServeEnd}
 use Rattle.bsc_serve.specs.declared.end.ServeEnd.TheVariants.{Done, StoppedBefore, AcceptFault, JournalFault, NoMemory}
+use Rattle.bsc_serve.specs.declared.parts.ServingParts.{ServingParts}
 use Rattle.bsc_serve.specs.declared.terms.ServeTerms.{ServeTerms}
 use Rattle.bsc_serve.specs.Serving.{Serving, StopAnswers}
 use Rattle.bsc_serve.specs.Terms.{Terms, all_terms}
 use Rattle.bsc_serve.specs.Worlds.{ServeWorld}
 use Rattle.bsc_journal.specs.Saying.{IsHubLine}
+use Rattle.bsc_hub_command.specs.declared.asked.HubAsked.{HubAsked}
 use Rattle.bsc_hub_command.specs.HubLines.{hub_line, hub_text}
 use Rattle.bsc_hub_command.specs.Lines.{end_text, link_line}
 
 -- A text was written, and the status is the one that is wanted; or its write failed, and the status is 4; or there was no
 -- memory for it.
-abbrev pub Says : ℕ → ℕ → Option (List ℕ) → Option (List ℕ) → List ℕ → Type 0
-Says s wanted before after text = EndsWith s wanted before after text ⊎ RanOut s before after
+abbrev pub HubSays : ℕ → ℕ → Option (List ℕ) → Option (List ℕ) → List ℕ → Type 0
+HubSays s wanted before after text = EndsWith s wanted before after text ⊎ RanOut s before after
 
 -- What is written of the end of serving, and its status.
 abbrev pub SaysEnd : ServeEnd → ℕ → Option (List ℕ) → Option (List ℕ) → Type 0
-SaysEnd (Done c u) s before after = Says s 0 before after (end_text u (Some c))
-SaysEnd (StoppedBefore at u) s before after = Says s 0 before after (end_text u None)
+SaysEnd (Done c u) s before after = HubSays s 0 before after (end_text u (Some c))
+SaysEnd (StoppedBefore at u) s before after = HubSays s 0 before after (end_text u None)
 SaysEnd AcceptFault s before after = EndsWith s 6 before after link_line
 SaysEnd JournalFault s before after = (s ≡ 4) × (after ≡ before)
 SaysEnd NoMemory s before after = RanOut s before after
@@ -68,6 +71,23 @@ pub record HubWorld (L C N : Type 0) : Type 0 where
   pub unbegun : ℕ
   pub written : Option (List ℕ)
 
+module _ {A C P J L N : Type 0} where
+  -- The same of the parts that a hub is served by, as these tell it, and of what was written.
+  abbrev pub world_by : (A → Option (List L)) → (A → Option (List ℕ)) → (A → Option (Option ℕ)) → (A → ℕ)
+      → (P → Option (List (SessionJob L C N))) → (P → List (SessionJob L C N)) → (P → ℕ) → (J → ℕ)
+      → ServingParts A C P J → Option (List ℕ) → HubWorld L C N
+  world_by left waits bound faults jobs out unstarted unbegun parts written = record {
+    links = left parts.acceptor;
+    waits = waits parts.acceptor;
+    port = bound parts.acceptor;
+    faults = faults parts.acceptor;
+    jobs = jobs parts.spawner;
+    out = out parts.spawner;
+    unstarted = unstarted parts.spawner;
+    unbegun = unbegun parts.journals;
+    written = written;
+  }
+
 -- a sink is there that has failed
 abbrev pub HasFailed : {N : Type 0} → (N → ℕ) → Option N → Type 0
 HasFailed unput own = (sink : _) × (own ≡ Some sink) × (unput sink ≢ 0)
@@ -80,17 +100,21 @@ pub record HubTerms : Type 0 where
   pub sessions : Option ℕ
   pub prefix : Option (List ℕ)
 
+-- what a hub is served by, of what the functions of the command hand down
+abbrev pub terms_in : HubAsked → HubTerms
+terms_in asked = record { settings = asked.settings.now; policy = policy_of asked.policy.now; sessions = asked.sessions; prefix = option_map (λ p. p.now) asked.prefix }
+
 abbrev pub terms_of : HubTerms → Terms
 terms_of asked = all_terms (terms_by asked.settings asked.sessions) asked.prefix asked.policy
 
 -- A hub, with its own pass at first and at last.
-pub record Course : Type 0 where
+pub record HubCourse : Type 0 where
   pub hub : Hub
   pub first : Pass
   pub last : Pass
 
 -- The hub was stopped by its own pass, or had been before, as that pass has then seen; and nothing else was asked of it.
-abbrev pub StopsAlone : Course → Type 0
+abbrev pub StopsAlone : HubCourse → Type 0
 StopsAlone k =
     (stop : Result (Told Counts) AlreadyStopped)
     × Passed k.hub k.first [] (stop_made (number_of k.first) stop) k.last × StopAnswers k.last stop
@@ -116,7 +140,7 @@ module _ {L C N : Type 0} where
       ((s ≡ 4) × failed × (after.written ≡ before.written)) ⊎ RanOut s before.written after.written
 
   -- The own journal couldn't be begun: the hub was stopped.
-  pub record Unbegun (k : Course) (own : Option N) (before after : HubWorld L C N) (s : ℕ) : Type 0 where
+  pub record Unbegun (k : HubCourse) (own : Option N) (before after : HubWorld L C N) (s : ℕ) : Type 0 where
     pub none : own ≡ None
     pub untouched : Untouched before after
     pub stops : StopsAlone k
@@ -124,7 +148,7 @@ module _ {L C N : Type 0} where
 
   -- The port wasn't bound: the acceptor's count of faults rose, it was asked for no link, and the pass and the spawner are as
   -- they were.
-  pub record NotBound (k : Course) (before after : HubWorld L C N) (s : ℕ) : Type 0 where
+  pub record NotBound (k : HubCourse) (before after : HubWorld L C N) (s : ℕ) : Type 0 where
     pub pass : k.last ≡ k.first
     pub links : Stays before.links after.links
     pub waits : Stays before.waits after.waits
@@ -136,7 +160,7 @@ module _ {L C N : Type 0} where
 
 module _ {L C N : Type 0} (held : N → Option (List ℕ)) (unput : N → ℕ) where
   -- The first line of the own journal, which was begun as one sink and is another since, wasn't put: the hub was stopped.
-  pub record Untitled (k : Course) (begun own : N) (before after : HubWorld L C N) (s : ℕ) : Type 0 where
+  pub record Untitled (k : HubCourse) (begun own : N) (before after : HubWorld L C N) (s : ℕ) : Type 0 where
     pub part : PutsPrefix (held begun) (held own) (hub_line (about_of k.hub))
     pub untouched : Untouched before after
     pub stops : StopsAlone k
@@ -147,22 +171,22 @@ module _ {L C N : Type 0} (works : SessionJob L C N → SessionEnd → Type 0) (
   -- The port of the settings was bound, the hub was served with their limits, turns and policy, where `works` says what may be
   -- left of a job, and what is written tells how that ended. Its own journal held the first line then, and what serving puts
   -- into it came behind that.
-  pub record Bound (k : Course) (asked : HubTerms) (titled held' : Option (List ℕ)) (before after : HubWorld L C N) (s : ℕ) : Type 0 where
+  pub record Bound (k : HubCourse) (asked : HubTerms) (titled held' : Option (List ℕ)) (before after : HubWorld L C N) (s : ℕ) : Type 0 where
     pub end : ServeEnd
-    pub bound : Tells after.port (Some asked.settings.port)
+    pub bound : ToldIs after.port (Some asked.settings.port)
     pub serving : Serving works begins k.hub (terms_of asked) (with_pass k.first before) (with_pass k.last after) titled held' end
     pub says : SaysEnd end s before.written after.written
 
   -- The own journal was begun as one sink and is another since. Its first line wasn't put; or it was, and then the port wasn't
   -- bound, or the hub was served.
-  abbrev pub Titling : Course → HubTerms → N → N → HubWorld L C N → HubWorld L C N → ℕ → Type 0
+  abbrev pub Titling : HubCourse → HubTerms → N → N → HubWorld L C N → HubWorld L C N → ℕ → Type 0
   Titling k asked begun own before after s =
       Untitled held unput k begun own before after s
       ⊎ ((titled : Option (List ℕ)) × Appends (held begun) titled (hub_line (about_of k.hub))
       × ((NotBound k before after s × (held own ≡ titled)) ⊎ Bound k asked titled (held own) before after s))
 
   -- The own journal was begun, as the journal of this prefix and of the number of the own pass, and it is kept.
-  pub record Begun (k : Course) (asked : HubTerms) (kept : Option N) (before after : HubWorld L C N) (s : ℕ) : Type 0 where
+  pub record Begun (k : HubCourse) (asked : HubTerms) (kept : Option N) (before after : HubWorld L C N) (s : ℕ) : Type 0 where
     pub begun : N
     pub own : N
     pub of_pass : begins asked.prefix (number_of k.first) begun
@@ -172,7 +196,7 @@ module _ {L C N : Type 0} (works : SessionJob L C N → SessionEnd → Type 0) (
 
   -- A hub of the settings was made, and it and its pass, number 0 at first, with nothing seen, are kept; its own journal couldn't
   -- be begun, or it was begun, and this is what became of both.
-  pub record Runs (asked : HubTerms) (kept : Kept) (own : Option N) (before after : HubWorld L C N) (s : ℕ) : Type 0 where
+  pub record HubRuns (asked : HubTerms) (kept : Kept) (own : Option N) (before after : HubWorld L C N) (s : ℕ) : Type 0 where
     pub hub : Arc Hub Global
     pub first : Pass
     pub last : Pass

@@ -13,7 +13,7 @@ use Rattle.bsc_settings.specs.Faults.{fault_of}
 use Rattle.bsc_settings.specs.Fields.{IsSaidBy}
 use Rattle.bsc_settings.specs.Names.{name_of}
 use Rattle.bsc_hub_command.specs.Lines.{settings_line}
-use Rattle.bsc_hub_command.specs.Served.{Says}
+use Rattle.bsc_hub_command.specs.Served.{HubSays}
 
 -- The file has these octets, as far as that is told, and they are settings with these of a hub, and with this policy, if any.
 pub record IsSettled (holds : List ℕ → Type 0) (v : HubSettings) (policy : Option Policy) : Type 0 where
@@ -27,8 +27,8 @@ pub record IsSettled (holds : List ℕ → Type 0) (v : HubSettings) (policy : O
   pub guarded : policy_of settings.policy ≡ policy
 
 -- The octets are refused under this name: they are no document; or this key is the first at fault; or they have no hub.
-abbrev pub IsRefused : List ℕ → List ℕ → Type 0
-IsRefused text name =
+abbrev pub IsRefusedAsHub : List ℕ → List ℕ → Type 0
+IsRefusedAsHub text name =
     ((name ≡ codes "-") × ((doc : Members) → IsDocument text doc → ⊥))
     ⊎ ((key : KeyName) × (doc : Members) × (name ≡ name_of key) × IsDocument text doc × (fault_of doc ≡ Some key))
     ⊎ ((settings : Settings) × (doc : Members) × (name ≡ codes "hub") × IsDocument text doc × IsSaidBy doc settings × (settings.hub ≡ None))
@@ -37,5 +37,5 @@ IsRefused text name =
 abbrev pub Unsettled : (List ℕ → Type 0) → ℕ → ℕ → ℕ → Option (List ℕ) → Option (List ℕ) → Type 0
 Unsettled holds f f' s before after =
     (HasRisen f f' × EndsWith s 3 before after read_line)
-    ⊎ ((text : List ℕ) × (name : List ℕ) × holds text × IsRefused text name × Says s 5 before after (settings_line name))
+    ⊎ ((text : List ℕ) × (name : List ℕ) × holds text × IsRefusedAsHub text name × HubSays s 5 before after (settings_line name))
     ⊎ RanOut s before after

@@ -6,17 +6,19 @@ ghost use Rattle.bsc_policy.specs.declared.policy.Policy.{Policy as PolicyType};
 ghost use Rattle.bsc_session.specs.Jobs.{Worked, policy_of};
 ghost use Rattle.bsc_settings.specs.declared.hub.HubSettings.{HubSettings as HubSettingsType};
 ghost use Rattle.bsc_hub_command.specs.Lines.{settings_line};
-ghost use Rattle.bsc_hub_command.specs.Served.{HasFailed, Runs, Says};
+ghost use Rattle.bsc_hub_command.specs.Served.{HasFailed, HubRuns, HubSays, world_by};
 ghost use Rattle.bsc_hub_command.specs.Settled.{IsSettled, Unsettled};
 
+use crate::asked::HubAsked;
+use crate::place::HubPlace;
 use crate::serving::serve;
 use crate::settled::HubSettled;
 use crate::texts::settings_text;
 use crate::words::HubWords;
 use bsc_edge::{Acceptor, Clock, FileFault, Files, Journals, Link, Spawner};
-use bsc_hub::Kept;
 use bsc_outside::Sink;
 use bsc_player::{end_with, out_of_memory};
+use bsc_serve::ServingParts;
 use bsc_session::SessionJob;
 use bsc_settings::{SettingFault, Settings, read_settings};
 use std::alloc::Global;
@@ -24,7 +26,7 @@ use std::sync::Wait;
 
 /// Ends a run whose settings are refused.
 fn refuse<K: Sink>(alloc: Global, sink: &mut K, name: &str) -> u8
-    ensures says { Says result 5 (K.held sink.old) (K.held sink.new) (settings_line name.now) }
+    ensures says { HubSays result 5 (K.held sink.old) (K.held sink.new) (settings_line name.now) }
     ensures failed { (result ≡ 5) ⊎ (result ≡ 7)
         ⊎ ((result ≡ 4) × HasRisen (K.faults sink.old) (K.faults sink.new)) }
     ensures later { K.faults sink.old ≤ K.faults sink.new }
@@ -84,76 +86,49 @@ pub fn run_hub<
     rt: &R,
     alloc: Global,
     words: HubWords<'_>,
-    sink: &mut K,
     files: &mut F,
-    clock: &mut C,
-    acceptor: &mut A,
-    spawner: &mut P,
-    kept: &mut Kept,
-    journals: &mut J,
-    own: &mut Option<N>,
+    place: &mut HubPlace<N>,
+    sink: &mut K,
+    parts: &mut ServingParts<A, C, P, J>,
 ) -> u8
-    requires can { P.can_start spawner.old }
-    requires kept { kept.old.hub ≡ None }
-    requires own { own.old ≡ None }
+    requires can { P.can_start parts.old.spawner }
+    requires kept { place.old.kept.hub ≡ None }
+    requires own { place.old.own ≡ None }
 
     // Once a hub is made, its settings are those of the file, and this is what became of it.
-    ensures runs { (hub : _) → kept.new.hub ≡ Some hub → (v : HubSettingsType) × (policy : Option PolicyType)
+    ensures runs { (hub : _) → place.new.kept.hub ≡ Some hub → (v : HubSettingsType) × (policy : Option PolicyType)
         × IsSettled (F.holds files.old words.entry.path.now) v policy
-        × Runs (Worked L.talk L.faults C.readings N.held N.faults) J.begins N.held N.faults
+        × HubRuns (Worked L.talk L.faults C.readings N.held N.faults) J.begins N.held N.faults
         (record { settings = v; policy = policy; sessions = words.entry.sessions; prefix = option_map (λ p. p.now) words.entry.journal })
-        kept.new own.new
-        (record {
-          links = A.left acceptor.old;
-          waits = A.waits acceptor.old;
-          port = A.bound acceptor.old;
-          faults = A.faults acceptor.old;
-          jobs = P.jobs spawner.old;
-          out = P.out spawner.old;
-          unstarted = P.faults spawner.old;
-          unbegun = J.faults journals.old;
-          written = K.held sink.old;
-        })
-        (record {
-          links = A.left acceptor.new;
-          waits = A.waits acceptor.new;
-          port = A.bound acceptor.new;
-          faults = A.faults acceptor.new;
-          jobs = P.jobs spawner.new;
-          out = P.out spawner.new;
-          unstarted = P.faults spawner.new;
-          unbegun = J.faults journals.new;
-          written = K.held sink.new;
-        }) result }
+        place.new.kept place.new.own
+        (world_by A.left A.waits A.bound A.faults P.jobs P.out P.faults J.faults parts.old (K.held sink.old))
+        (world_by A.left A.waits A.bound A.faults P.jobs P.out P.faults J.faults parts.new (K.held sink.new)) result }
 
     // Where none is made, the file wasn't read, its settings were refused, or memory ran out; and nothing was touched but the
     // files and the sink.
-    ensures unmade { kept.new.hub ≡ None → Unsettled (F.holds files.old words.entry.path.now) (F.faults files.old) (F.faults files.new)
+    ensures unmade { place.new.kept.hub ≡ None →
+        Unsettled (F.holds files.old words.entry.path.now) (F.faults files.old) (F.faults files.new)
         result (K.held sink.old) (K.held sink.new) }
-    ensures untouched { kept.new.hub ≡ None →
-        (kept.new ≡ kept.old) × (clock.new ≡ clock.old) × (acceptor.new ≡ acceptor.old) × (spawner.new ≡ spawner.old)
-        × (journals.new ≡ journals.old) × (own.new ≡ own.old) }
+    ensures untouched { place.new.kept.hub ≡ None → (place.new ≡ place.old) × (parts.new ≡ parts.old) }
     ensures read { result ≡ 3 → HasRisen (F.faults files.old) (F.faults files.new) }
     ensures write { result ≡ 4 → HasRisen (K.faults sink.old) (K.faults sink.new)
-        ⊎ HasRisen (J.faults journals.old) (J.faults journals.new) ⊎ HasFailed N.faults own.new }
-    ensures link { result ≡ 6 → HasRisen (A.faults acceptor.old) (A.faults acceptor.new) }
+        ⊎ HasRisen (J.faults parts.old.journals) (J.faults parts.new.journals) ⊎ HasFailed N.faults place.new.own }
+    ensures link { result ≡ 6 → HasRisen (A.faults parts.old.acceptor) (A.faults parts.new.acceptor) }
     ensures statuses { (result ≡ 0) ⊎ (result ≡ 3) ⊎ (result ≡ 4) ⊎ (result ≡ 5) ⊎ (result ≡ 6) ⊎ (result ≡ 7) }
 {
     match load(alloc, words.path, files, sink) {
         Ok(settings) => serve(
             rt,
             alloc,
-            &settings.hub,
-            &settings.policy,
-            words.sessions,
+            HubAsked {
+                settings: &settings.hub,
+                policy: &settings.policy,
+                sessions: words.sessions,
+                prefix: words.journal,
+            },
+            place,
             sink,
-            clock,
-            acceptor,
-            spawner,
-            kept,
-            words.journal,
-            journals,
-            own,
+            parts,
         ),
         Err(status) => status,
     }

@@ -2,17 +2,23 @@
 //!
 //! Start at `specs/Served.antt`, which says what a served hub writes and with which status it ends. `command` has
 //! `run_hub`, which loads the settings; `serving` has `serve`, which makes the hub, begins its own journal and serves it.
-//! `title` has the first line of that journal.
+//! `asked` has what it is served on, `made` the hub once it is made, `place` where it is put for the caller, and `title` the
+//! first line of that journal.
 #![tactic(auto)]
 
+mod asked;
 mod command;
+mod made;
+mod place;
 mod serving;
 mod settled;
 mod texts;
 mod title;
 mod words;
 
+pub use asked::HubAsked;
 pub use command::run_hub;
+pub use place::HubPlace;
 pub use serving::serve;
 pub use title::hub_line;
 pub use words::HubWords;

@@ -1,5 +1,5 @@
 //! Making a hub by its settings, and serving it.
-ghost use Rattle.std.specs.Prelude.{◌≡◌, ◌≤◌, ◌⊎◌, [], None, Option, Some, Err, IfOk, OnOk, OnErr, option_map};
+ghost use Rattle.std.specs.Prelude.{◌≡◌, ◌≤◌, ◌⊎◌, [], None, Option, Some, Err, IfOk, OnOk, OnErr};
 ghost use Rattle.std.specs.Io.KnownBytes.{Appends};
 ghost use Rattle.std.specs.Arc.{arc_value};
 ghost use Rattle.bsc_outside.specs.Faults.{HasRisen, PutsPrefix};
@@ -8,23 +8,25 @@ ghost use Rattle.bsc_turn.specs.Passes.{ended_callers, number_of, own_list, seen
 ghost use Rattle.bsc_hub.specs.Passing.{IsCaller, about_of};
 ghost use Rattle.bsc_player.specs.LastLines.{RanOut};
 ghost use Rattle.bsc_settings.specs.Parts.{identity_of, limits_of};
-ghost use Rattle.bsc_session.specs.Jobs.{Worked, policy_of};
+ghost use Rattle.bsc_session.specs.Jobs.{Worked};
 ghost use Rattle.bsc_serve.specs.declared.end.ServeEnd.{ServeEnd};
 ghost use Rattle.bsc_journal.specs.Saying.{IsHubLine};
 ghost use Rattle.bsc_hub_command.specs.HubLines.{hub_line, hub_text};
 ghost use Rattle.bsc_hub_command.specs.Lines.{end_text};
-ghost use Rattle.bsc_hub_command.specs.Served.{Begun, Bound, HasFailed, NotBound, Runs, Says, SaysEnd, StopsAlone, Titling, Unbegun, terms_by};
+ghost use Rattle.bsc_hub_command.specs.Served.{Begun, Bound, HasFailed, HubRuns, HubSays, NotBound, SaysEnd, StopsAlone, Titling, Unbegun, terms_by, terms_in, world_by};
 
+use crate::asked::HubAsked;
+use crate::made::MadeHub;
+use crate::place::HubPlace;
 use crate::texts::done_text;
 use crate::title::{hub_line, is_identity};
 use bsc_edge::{Acceptor, Clock, Journals, Link, LinkFault, Spawner};
 use bsc_history::{About, Counts};
-use bsc_hub::{Hub, Kept, Pass};
+use bsc_hub::{Hub, Pass};
 use bsc_octets::NoMemory;
 use bsc_outside::Sink;
 use bsc_player::{end_with, out_of_memory};
-use bsc_policy::Policy;
-use bsc_serve::{ServeEnd, ServeTerms, serve_on};
+use bsc_serve::{ServeEnd, ServeTerms, ServedHub, ServingParts, serve_on};
 use bsc_session::{SessionJob, SessionLimits};
 use bsc_settings::HubSettings;
 use std::alloc::Global;
@@ -32,7 +34,7 @@ use std::sync::{Arc, Wait};
 
 /// Writes what an end comes to that all sessions came to.
 fn tell_done<K: Sink>(alloc: Global, sink: &mut K, unstarted: u64, counts: Option<Counts>) -> u8
-    ensures says { Says result 0 (K.held sink.old) (K.held sink.new) (end_text unstarted counts) }
+    ensures says { HubSays result 0 (K.held sink.old) (K.held sink.new) (end_text unstarted counts) }
     ensures failed { (result ≡ 0) ⊎ (result ≡ 7)
         ⊎ ((result ≡ 4) × HasRisen (K.faults sink.old) (K.faults sink.new)) }
     ensures later { K.faults sink.old ≤ K.faults sink.new }
@@ -87,6 +89,16 @@ fn terms_by(settings: &HubSettings, sessions: Option<u64>) -> ServeTerms
     }
 }
 
+/// What is fixed of a hub of these settings.
+fn about_by(settings: &HubSettings) -> About
+    ensures { result ≡ record { hub = identity_of settings.now; limits = limits_of settings.now } }
+{
+    About {
+        hub: settings.identity(),
+        limits: settings.limits(),
+    }
+}
+
 /// A hub by its settings, and its first pass.
 fn make_hub(alloc: Global, settings: &HubSettings) -> Result<(Arc<Hub>, Pass), NoMemory>
     ensures pass { IfOk result (λ r. IsCaller (arc_value r.0) r.1) }
@@ -138,90 +150,50 @@ fn serve_hub<
     J: Journals<N>,
     P: Spawner<SessionJob<L, C, N>>,
 >(
-    rt: &R,
-    alloc: Global,
-    settings: &HubSettings,
-    policy: &Option<Arc<Policy>>,
-    sessions: Option<u64>,
-    sink: &mut K,
-    clock: &mut C,
-    acceptor: &mut A,
-    spawner: &mut P,
-    hub: &Arc<Hub>,
+    made: MadeHub<'_, R>,
+    asked: HubAsked<'_>,
     pass: &mut Pass,
     own: &mut N,
-    prefix: Option<&str>,
-    journals: &mut J,
+    sink: &mut K,
+    parts: &mut ServingParts<A, C, P, J>,
 ) -> u8
-    requires can { P.can_start spawner.old }
-    requires pass { IsCaller (arc_value hub.now) pass.old }
-    ensures went { (NotBound (record { hub = arc_value hub.now; first = pass.old; last = pass.new })
-        (record {
-          links = A.left acceptor.old;
-          waits = A.waits acceptor.old;
-          port = A.bound acceptor.old;
-          faults = A.faults acceptor.old;
-          jobs = P.jobs spawner.old;
-          out = P.out spawner.old;
-          unstarted = P.faults spawner.old;
-          unbegun = J.faults journals.old;
-          written = K.held sink.old;
-        })
-        (record {
-          links = A.left acceptor.new;
-          waits = A.waits acceptor.new;
-          port = A.bound acceptor.new;
-          faults = A.faults acceptor.new;
-          jobs = P.jobs spawner.new;
-          out = P.out spawner.new;
-          unstarted = P.faults spawner.new;
-          unbegun = J.faults journals.new;
-          written = K.held sink.new;
-        }) result × (N.held own.new ≡ N.held own.old))
+    requires can { P.can_start parts.old.spawner }
+    requires pass { IsCaller (arc_value made.hub.now) pass.old }
+    ensures went { (NotBound (record { hub = arc_value made.entry.hub.now; first = pass.old; last = pass.new })
+        (world_by A.left A.waits A.bound A.faults P.jobs P.out P.faults J.faults parts.old (K.held sink.old))
+        (world_by A.left A.waits A.bound A.faults P.jobs P.out P.faults J.faults parts.new (K.held sink.new)) result
+        × (N.held own.new ≡ N.held own.old))
         ⊎ Bound (Worked L.talk L.faults C.readings N.held N.faults) J.begins N.held N.faults
-        (record { hub = arc_value hub.now; first = pass.old; last = pass.new })
-        (record { settings = settings.now; policy = policy_of policy.now; sessions = sessions; prefix = option_map (λ p. p.now) prefix.entry })
+        (record { hub = arc_value made.entry.hub.now; first = pass.old; last = pass.new })
+        (terms_in asked.entry)
         (N.held own.old) (N.held own.new)
-        (record {
-          links = A.left acceptor.old;
-          waits = A.waits acceptor.old;
-          port = A.bound acceptor.old;
-          faults = A.faults acceptor.old;
-          jobs = P.jobs spawner.old;
-          out = P.out spawner.old;
-          unstarted = P.faults spawner.old;
-          unbegun = J.faults journals.old;
-          written = K.held sink.old;
-        })
-        (record {
-          links = A.left acceptor.new;
-          waits = A.waits acceptor.new;
-          port = A.bound acceptor.new;
-          faults = A.faults acceptor.new;
-          jobs = P.jobs spawner.new;
-          out = P.out spawner.new;
-          unstarted = P.faults spawner.new;
-          unbegun = J.faults journals.new;
-          written = K.held sink.new;
-        }) result }
+        (world_by A.left A.waits A.bound A.faults P.jobs P.out P.faults J.faults parts.old (K.held sink.old))
+        (world_by A.left A.waits A.bound A.faults P.jobs P.out P.faults J.faults parts.new (K.held sink.new)) result }
     ensures write { result ≡ 4 → HasRisen (K.faults sink.old) (K.faults sink.new)
-        ⊎ HasRisen (J.faults journals.old) (J.faults journals.new) ⊎ HasRisen (N.faults own.old) (N.faults own.new) }
-    ensures link { result ≡ 6 → HasRisen (A.faults acceptor.old) (A.faults acceptor.new) }
+        ⊎ HasRisen (J.faults parts.old.journals) (J.faults parts.new.journals)
+        ⊎ HasRisen (N.faults own.old) (N.faults own.new) }
+    ensures link { result ≡ 6 → HasRisen (A.faults parts.old.acceptor) (A.faults parts.new.acceptor) }
     ensures not_read { (result ≡ 0) ⊎ (result ≡ 4) ⊎ (result ≡ 6) ⊎ (result ≡ 7) }
     ensures writes_later { K.faults sink.old ≤ K.faults sink.new }
-    ensures links_later { A.faults acceptor.old ≤ A.faults acceptor.new }
-    ensures journals_later { J.faults journals.old ≤ J.faults journals.new }
+    ensures links_later { A.faults parts.old.acceptor ≤ A.faults parts.new.acceptor }
+    ensures journals_later { J.faults parts.old.journals ≤ J.faults parts.new.journals }
     ensures own_later { N.faults own.old ≤ N.faults own.new }
 {
-    match acceptor.bind(settings.port(), settings.vmac) {
+    let settings = asked.settings;
+    match parts.acceptor.bind(settings.port(), settings.vmac) {
         Err(_) => end_with(sink, b"fault link\n", 6),
         Ok(()) => {
-            let terms = terms_by(settings, sessions);
-            let end = serve_on(
-                rt, alloc, hub, pass, &terms, clock, acceptor, spawner, own, prefix, journals,
-                policy,
-            );
-            tell_end(alloc, sink, end)
+            let terms = terms_by(settings, asked.sessions);
+            let served = ServedHub {
+                rt: made.rt,
+                alloc: made.alloc,
+                hub: made.hub,
+                terms,
+                prefix: asked.prefix,
+                policy: asked.policy,
+            };
+            let end = serve_on(served, pass, own, parts);
+            tell_end(made.alloc, sink, end)
         }
     }
 }
@@ -237,67 +209,37 @@ fn serve_titled<
     J: Journals<N>,
     P: Spawner<SessionJob<L, C, N>>,
 >(
-    rt: &R,
-    alloc: Global,
-    settings: &HubSettings,
-    policy: &Option<Arc<Policy>>,
-    sessions: Option<u64>,
-    sink: &mut K,
-    clock: &mut C,
-    acceptor: &mut A,
-    spawner: &mut P,
-    hub: &Arc<Hub>,
+    made: MadeHub<'_, R>,
+    asked: HubAsked<'_>,
     pass: &mut Pass,
     own: &mut N,
-    prefix: Option<&str>,
-    journals: &mut J,
-    about: About,
+    sink: &mut K,
+    parts: &mut ServingParts<A, C, P, J>,
 ) -> u8
-    requires can { P.can_start spawner.old }
-    requires pass { IsCaller (arc_value hub.now) pass.old }
-    requires about { about ≡ about_of (arc_value hub.now) }
+    requires can { P.can_start parts.old.spawner }
+    requires pass { IsCaller (arc_value made.hub.now) pass.old }
+    requires about { about_of (arc_value made.hub.now)
+        ≡ record { hub = identity_of asked.settings.now; limits = limits_of asked.settings.now } }
     ensures went { Titling (Worked L.talk L.faults C.readings N.held N.faults) J.begins N.held N.faults
-        (record { hub = arc_value hub.now; first = pass.old; last = pass.new })
-        (record { settings = settings.now; policy = policy_of policy.now; sessions = sessions; prefix = option_map (λ p. p.now) prefix.entry })
+        (record { hub = arc_value made.entry.hub.now; first = pass.old; last = pass.new })
+        (terms_in asked.entry)
         own.old own.new
-        (record {
-          links = A.left acceptor.old;
-          waits = A.waits acceptor.old;
-          port = A.bound acceptor.old;
-          faults = A.faults acceptor.old;
-          jobs = P.jobs spawner.old;
-          out = P.out spawner.old;
-          unstarted = P.faults spawner.old;
-          unbegun = J.faults journals.old;
-          written = K.held sink.old;
-        })
-        (record {
-          links = A.left acceptor.new;
-          waits = A.waits acceptor.new;
-          port = A.bound acceptor.new;
-          faults = A.faults acceptor.new;
-          jobs = P.jobs spawner.new;
-          out = P.out spawner.new;
-          unstarted = P.faults spawner.new;
-          unbegun = J.faults journals.new;
-          written = K.held sink.new;
-        }) result }
+        (world_by A.left A.waits A.bound A.faults P.jobs P.out P.faults J.faults parts.old (K.held sink.old))
+        (world_by A.left A.waits A.bound A.faults P.jobs P.out P.faults J.faults parts.new (K.held sink.new)) result }
     ensures write { result ≡ 4 → HasRisen (K.faults sink.old) (K.faults sink.new)
-        ⊎ HasRisen (J.faults journals.old) (J.faults journals.new) ⊎ HasRisen (N.faults own.old) (N.faults own.new) }
-    ensures link { result ≡ 6 → HasRisen (A.faults acceptor.old) (A.faults acceptor.new) }
+        ⊎ HasRisen (J.faults parts.old.journals) (J.faults parts.new.journals)
+        ⊎ HasRisen (N.faults own.old) (N.faults own.new) }
+    ensures link { result ≡ 6 → HasRisen (A.faults parts.old.acceptor) (A.faults parts.new.acceptor) }
     ensures not_read { (result ≡ 0) ⊎ (result ≡ 4) ⊎ (result ≡ 6) ⊎ (result ≡ 7) }
     ensures writes_later { K.faults sink.old ≤ K.faults sink.new }
-    ensures links_later { A.faults acceptor.old ≤ A.faults acceptor.new }
-    ensures journals_later { J.faults journals.old ≤ J.faults journals.new }
+    ensures links_later { A.faults parts.old.acceptor ≤ A.faults parts.new.acceptor }
+    ensures journals_later { J.faults parts.old.journals ≤ J.faults parts.new.journals }
     ensures own_later { N.faults own.old ≤ N.faults own.new }
 {
-    match put_title(alloc, own, about) {
-        Ok(()) => serve_hub(
-            rt, alloc, settings, policy, sessions, sink, clock, acceptor, spawner, hub, pass, own,
-            prefix, journals,
-        ),
+    match put_title(made.alloc, own, about_by(asked.settings)) {
+        Ok(()) => serve_hub(made, asked, pass, own, sink, parts),
         Err(fault) => {
-            stop_alone(rt, hub, pass);
+            stop_alone(made.rt, made.hub, pass);
             tell_lost(sink, fault)
         }
     }
@@ -314,103 +256,53 @@ fn serve_begun<
     J: Journals<N>,
     P: Spawner<SessionJob<L, C, N>>,
 >(
-    rt: &R,
-    alloc: Global,
-    settings: &HubSettings,
-    policy: &Option<Arc<Policy>>,
-    sessions: Option<u64>,
-    sink: &mut K,
-    clock: &mut C,
-    acceptor: &mut A,
-    spawner: &mut P,
-    hub: &Arc<Hub>,
+    made: MadeHub<'_, R>,
+    asked: HubAsked<'_>,
     pass: &mut Pass,
     own: &mut Option<N>,
-    prefix: Option<&str>,
-    journals: &mut J,
-    about: About,
+    sink: &mut K,
+    parts: &mut ServingParts<A, C, P, J>,
 ) -> u8
-    requires can { P.can_start spawner.old }
-    requires pass { IsCaller (arc_value hub.now) pass.old }
-    requires about { about ≡ about_of (arc_value hub.now) }
+    requires can { P.can_start parts.old.spawner }
+    requires pass { IsCaller (arc_value made.hub.now) pass.old }
+    requires about { about_of (arc_value made.hub.now)
+        ≡ record { hub = identity_of asked.settings.now; limits = limits_of asked.settings.now } }
     requires own { own.old ≡ None }
-    ensures went { Unbegun (record { hub = arc_value hub.now; first = pass.old; last = pass.new }) own.new
-        (record {
-          links = A.left acceptor.old;
-          waits = A.waits acceptor.old;
-          port = A.bound acceptor.old;
-          faults = A.faults acceptor.old;
-          jobs = P.jobs spawner.old;
-          out = P.out spawner.old;
-          unstarted = P.faults spawner.old;
-          unbegun = J.faults journals.old;
-          written = K.held sink.old;
-        })
-        (record {
-          links = A.left acceptor.new;
-          waits = A.waits acceptor.new;
-          port = A.bound acceptor.new;
-          faults = A.faults acceptor.new;
-          jobs = P.jobs spawner.new;
-          out = P.out spawner.new;
-          unstarted = P.faults spawner.new;
-          unbegun = J.faults journals.new;
-          written = K.held sink.new;
-        }) result
+    ensures went { Unbegun (record { hub = arc_value made.entry.hub.now; first = pass.old; last = pass.new }) own.new
+        (world_by A.left A.waits A.bound A.faults P.jobs P.out P.faults J.faults parts.old (K.held sink.old))
+        (world_by A.left A.waits A.bound A.faults P.jobs P.out P.faults J.faults parts.new (K.held sink.new)) result
         ⊎ Begun (Worked L.talk L.faults C.readings N.held N.faults) J.begins N.held N.faults
-        (record { hub = arc_value hub.now; first = pass.old; last = pass.new })
-        (record { settings = settings.now; policy = policy_of policy.now; sessions = sessions; prefix = option_map (λ p. p.now) prefix.entry })
+        (record { hub = arc_value made.entry.hub.now; first = pass.old; last = pass.new })
+        (terms_in asked.entry)
         own.new
-        (record {
-          links = A.left acceptor.old;
-          waits = A.waits acceptor.old;
-          port = A.bound acceptor.old;
-          faults = A.faults acceptor.old;
-          jobs = P.jobs spawner.old;
-          out = P.out spawner.old;
-          unstarted = P.faults spawner.old;
-          unbegun = J.faults journals.old;
-          written = K.held sink.old;
-        })
-        (record {
-          links = A.left acceptor.new;
-          waits = A.waits acceptor.new;
-          port = A.bound acceptor.new;
-          faults = A.faults acceptor.new;
-          jobs = P.jobs spawner.new;
-          out = P.out spawner.new;
-          unstarted = P.faults spawner.new;
-          unbegun = J.faults journals.new;
-          written = K.held sink.new;
-        }) result }
+        (world_by A.left A.waits A.bound A.faults P.jobs P.out P.faults J.faults parts.old (K.held sink.old))
+        (world_by A.left A.waits A.bound A.faults P.jobs P.out P.faults J.faults parts.new (K.held sink.new)) result }
     ensures write { result ≡ 4 → HasRisen (K.faults sink.old) (K.faults sink.new)
-        ⊎ HasRisen (J.faults journals.old) (J.faults journals.new) ⊎ HasFailed N.faults own.new }
-    ensures link { result ≡ 6 → HasRisen (A.faults acceptor.old) (A.faults acceptor.new) }
+        ⊎ HasRisen (J.faults parts.old.journals) (J.faults parts.new.journals) ⊎ HasFailed N.faults own.new }
+    ensures link { result ≡ 6 → HasRisen (A.faults parts.old.acceptor) (A.faults parts.new.acceptor) }
     ensures not_read { (result ≡ 0) ⊎ (result ≡ 4) ⊎ (result ≡ 6) ⊎ (result ≡ 7) }
     ensures writes_later { K.faults sink.old ≤ K.faults sink.new }
-    ensures links_later { A.faults acceptor.old ≤ A.faults acceptor.new }
-    ensures journals_later { J.faults journals.old ≤ J.faults journals.new }
+    ensures links_later { A.faults parts.old.acceptor ≤ A.faults parts.new.acceptor }
+    ensures journals_later { J.faults parts.old.journals ≤ J.faults parts.new.journals }
 {
-    match journals.begin(alloc, prefix, pass.number()) {
+    let alloc = made.alloc;
+    match parts.journals.begin(alloc, asked.prefix, pass.number()) {
         Ok(begun) => {
             let mut begun = begun;
-            let status = serve_titled(
-                rt, alloc, settings, policy, sessions, sink, clock, acceptor, spawner, hub, pass,
-                &mut begun, prefix, journals, about,
-            );
+            let status = serve_titled(made, asked, pass, &mut begun, sink, parts);
             *own = Some(begun);
             status
         }
         Err(fault) => {
-            stop_alone(rt, hub, pass);
+            stop_alone(made.rt, made.hub, pass);
             tell_lost(sink, fault)
         }
     }
 }
 
-/// Makes the hub of the settings, puts it and its first pass into `kept`, begins the journal of that pass and puts it into
-/// `own`, binds the port, serves the hub, and writes what it comes to. Where the own journal fails, the hub is stopped, and
-/// the status is 4.
+/// Makes the hub of the settings, puts it and its first pass into the place, begins the journal of that pass and puts it
+/// there too, binds the port, serves the hub, and writes what it comes to. Where the own journal fails, the hub is stopped,
+/// and the status is 4.
 pub fn serve<
     R: Wait,
     K: Sink,
@@ -423,77 +315,53 @@ pub fn serve<
 >(
     rt: &R,
     alloc: Global,
-    settings: &HubSettings,
-    policy: &Option<Arc<Policy>>,
-    sessions: Option<u64>,
+    asked: HubAsked<'_>,
+    place: &mut HubPlace<N>,
     sink: &mut K,
-    clock: &mut C,
-    acceptor: &mut A,
-    spawner: &mut P,
-    kept: &mut Kept,
-    prefix: Option<&str>,
-    journals: &mut J,
-    own: &mut Option<N>,
+    parts: &mut ServingParts<A, C, P, J>,
 ) -> u8
-    requires can { P.can_start spawner.old }
-    requires kept { kept.old.hub ≡ None }
-    requires own { own.old ≡ None }
+    requires can { P.can_start parts.old.spawner }
+    requires kept { place.old.kept.hub ≡ None }
+    requires own { place.old.own ≡ None }
 
     // Once a hub is made, it, its pass and its journal are kept, and this is what became of it.
-    ensures runs { (hub : _) → kept.new.hub ≡ Some hub →
-        Runs (Worked L.talk L.faults C.readings N.held N.faults) J.begins N.held N.faults
-        (record { settings = settings.now; policy = policy_of policy.now; sessions = sessions; prefix = option_map (λ p. p.now) prefix.entry })
-        kept.new own.new
-        (record {
-          links = A.left acceptor.old;
-          waits = A.waits acceptor.old;
-          port = A.bound acceptor.old;
-          faults = A.faults acceptor.old;
-          jobs = P.jobs spawner.old;
-          out = P.out spawner.old;
-          unstarted = P.faults spawner.old;
-          unbegun = J.faults journals.old;
-          written = K.held sink.old;
-        })
-        (record {
-          links = A.left acceptor.new;
-          waits = A.waits acceptor.new;
-          port = A.bound acceptor.new;
-          faults = A.faults acceptor.new;
-          jobs = P.jobs spawner.new;
-          out = P.out spawner.new;
-          unstarted = P.faults spawner.new;
-          unbegun = J.faults journals.new;
-          written = K.held sink.new;
-        }) result }
+    ensures runs { (hub : _) → place.new.kept.hub ≡ Some hub →
+        HubRuns (Worked L.talk L.faults C.readings N.held N.faults) J.begins N.held N.faults
+        (terms_in asked.entry)
+        place.new.kept place.new.own
+        (world_by A.left A.waits A.bound A.faults P.jobs P.out P.faults J.faults parts.old (K.held sink.old))
+        (world_by A.left A.waits A.bound A.faults P.jobs P.out P.faults J.faults parts.new (K.held sink.new)) result }
 
     // Where none is made there was no memory, and nothing was touched but the sink.
-    ensures unmade { kept.new.hub ≡ None → RanOut result (K.held sink.old) (K.held sink.new) }
-    ensures untouched { kept.new.hub ≡ None → (kept.new ≡ kept.old) × (clock.new ≡ clock.old) × (acceptor.new ≡ acceptor.old)
-        × (spawner.new ≡ spawner.old) × (journals.new ≡ journals.old) × (own.new ≡ own.old) }
+    ensures unmade { place.new.kept.hub ≡ None → RanOut result (K.held sink.old) (K.held sink.new) }
+    ensures untouched { place.new.kept.hub ≡ None → (place.new ≡ place.old) × (parts.new ≡ parts.old) }
 
     // A failed write is told only where the count of the sink or of the journals rose, or where the own journal has failed.
     ensures write { result ≡ 4 → HasRisen (K.faults sink.old) (K.faults sink.new)
-        ⊎ HasRisen (J.faults journals.old) (J.faults journals.new) ⊎ HasFailed N.faults own.new }
-    ensures link { result ≡ 6 → HasRisen (A.faults acceptor.old) (A.faults acceptor.new) }
+        ⊎ HasRisen (J.faults parts.old.journals) (J.faults parts.new.journals) ⊎ HasFailed N.faults place.new.own }
+    ensures link { result ≡ 6 → HasRisen (A.faults parts.old.acceptor) (A.faults parts.new.acceptor) }
     ensures not_read { (result ≡ 0) ⊎ (result ≡ 4) ⊎ (result ≡ 6) ⊎ (result ≡ 7) }
     ensures writes_later { K.faults sink.old ≤ K.faults sink.new }
-    ensures links_later { A.faults acceptor.old ≤ A.faults acceptor.new }
-    ensures journals_later { J.faults journals.old ≤ J.faults journals.new }
+    ensures links_later { A.faults parts.old.acceptor ≤ A.faults parts.new.acceptor }
+    ensures journals_later { J.faults parts.old.journals ≤ J.faults parts.new.journals }
 {
-    let Ok((hub, pass)) = make_hub(alloc, settings) else {
+    let Ok((hub, pass)) = make_hub(alloc, asked.settings) else {
         return out_of_memory(sink);
     };
     let mut pass = pass;
-    let about = About {
-        hub: settings.identity(),
-        limits: settings.limits(),
-    };
     let status = serve_begun(
-        rt, alloc, settings, policy, sessions, sink, clock, acceptor, spawner, &hub, &mut pass,
-        own, prefix, journals, about,
+        MadeHub {
+            rt,
+            alloc,
+            hub: &hub,
+        },
+        asked,
+        &mut pass,
+        &mut place.own,
+        sink,
+        parts,
     );
-    kept.hub = Some(hub);
-    kept.pass = Some(pass);
+    place.kept.hub = Some(hub);
+    place.kept.pass = Some(pass);
     status
 }

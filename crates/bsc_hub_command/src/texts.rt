@@ -1,10 +1,10 @@
 //! The lines that the command writes.
 ghost use Rattle.std.specs.Prelude.{◌≡◌, ◌++◌, IfOk, string_bytes};
-ghost use Rattle.bsc_hub_command.specs.Lines.{counts_text, end_text, settings_line, unstarted_line};
+ghost use Rattle.bsc_hub_command.specs.Lines.{end_text, settings_line, unstarted_line};
 
 use bsc_history::Counts;
 use bsc_octets::NoMemory;
-use bsc_script::counts_line;
+use bsc_script::put_counts;
 use bsc_serve::ServeEnd;
 use std::alloc::Global;
 
@@ -20,15 +20,6 @@ fn put_unstarted(text: &mut Vec<u8>, alloc: Global, unstarted: u64) -> Result<()
     Ok(())
 }
 
-/// Puts the line of the counts.
-fn put_counts(text: &mut Vec<u8>, alloc: Global, counts: &Counts) -> Result<(), NoMemory>
-    ensures { IfOk result (λ _. text.new.items ≡ text.old.items ++ counts_text counts.now) }
-{
-    let line = counts_line(alloc, counts)?;
-    text.extend_from_slice(line.as_slice())?;
-    Ok(())
-}
-
 /// What is written of an end that all sessions came to.
 pub(crate) fn done_text(
     alloc: Global,
@@ -40,7 +31,7 @@ pub(crate) fn done_text(
     let mut text = Vec::new(alloc);
     put_unstarted(&mut text, alloc, unstarted)?;
     match counts {
-        Some(counts) => put_counts(&mut text, alloc, &counts)?,
+        Some(counts) => put_counts(&mut text, &counts)?,
         None => text.extend_from_slice(b"hub stopped already\n")?,
     }
     Ok(text)

@@ -1,25 +1,14 @@
 //! The first line of a hub's own journal.
 ghost use Rattle.std.specs.Prelude.{◌≡◌, ◌++◌, IfOk, IsTrue};
-ghost use Rattle.hex.specs.Hex.{encode_upper};
 ghost use Rattle.bsc_octets.specs.Identities.{identity_octets};
 ghost use Rattle.bsc_lines.specs.Lines.{then_number};
 ghost use Rattle.bsc_journal.specs.Saying.{IsIdentity, are_octets};
 ghost use Rattle.bsc_hub_command.specs.HubLines.{hub_line, identity_text, then_hex};
 
 use bsc_history::{About, Limits};
-use bsc_lines::{put_then, put_words};
+use bsc_lines::{put_hex, put_then, put_words};
 use bsc_octets::{Identity, NoMemory, Octets};
 use std::alloc::Global;
-
-/// Puts octets as hexadecimal digits, with letters in upper case.
-fn put_hex(text: &mut Vec<u8>, alloc: Global, octets: &[u8]) -> Result<(), NoMemory>
-    ensures { IfOk result (λ _. text.new.items ≡ text.old.items ++ encode_upper octets.now) }
-{
-    let Ok(digits) = hex::encode_upper(alloc, octets) else {
-        return Err(NoMemory);
-    };
-    put_words(text, digits.as_str())
-}
 
 /// Puts octets as hexadecimal digits behind a space.
 fn put_then_hex(text: &mut Vec<u8>, alloc: Global, octets: &[u8]) -> Result<(), NoMemory>

@@ -23,7 +23,7 @@ use Rattle.bsc_initiate.specs.declared.initiating.Initiating.{Initiating}
 use Rattle.bsc_initiate.specs.Messages.{connect_request, heartbeat_request, who_accepts, refusing_code, says_who}
 use Rattle.bsc_initiate.specs.Past.{Standing, awaiting_websocket, awaiting_accept, connected, disconnecting, standing, message_time, last_message, heartbeat_was_put, is_heartbeat_due}
 use Rattle.bsc_initiate.specs.Steps.{step, closes, message_step, passed_step, answer_step, connected_step, finish_step, tick_step}
-use Rattle.bsc_initiate.specs.Standing.{StandsFor, open_stage, has_closed, is_open}
+use Rattle.bsc_initiate.specs.Standing.{InitiatingStands, open_stage, has_closed, is_open}
 use Rattle.bsc_initiate.specs.Kept.{standing_at, put_at, moved, put_after, heard_at, after, after_tick, ticked}
 use Rattle.bsc_initiate.proofs.Looking.{standing-more, last-more, put-more, closed-more}
 
@@ -34,7 +34,7 @@ opened_up true there waits h o = cc
 opened_up false there waits h o = h
 
 -- A machine that is open waits for what its events say.
-pub stage_of_open : (m : Initiating) (s : Start) (E : List InitEvent) → StandsFor m s E → is_open m.stage ≡ true → m.stage ≡ open_stage (standing E) (heartbeat_was_put s E)
+pub stage_of_open : (m : Initiating) (s : Start) (E : List InitEvent) → InitiatingStands m s E → is_open m.stage ≡ true → m.stage ≡ open_stage (standing E) (heartbeat_was_put s E)
 stage_of_open m s E h o = opened_up (has_closed s E) (open_stage (standing E) (heartbeat_was_put s E)) m.stage h.stage o
 
 standing_there : (g : Standing) (put : Bool) → standing_at (open_stage g put) ≡ g
@@ -44,14 +44,14 @@ standing_there connected put = refl
 standing_there (disconnecting f) put = refl
 
 -- A machine that is open has the standing of its stage.
-pub standing_of_open : (m : Initiating) (s : Start) (E : List InitEvent) → StandsFor m s E → is_open m.stage ≡ true → standing E ≡ standing_at m.stage
+pub standing_of_open : (m : Initiating) (s : Start) (E : List InitEvent) → InitiatingStands m s E → is_open m.stage ≡ true → standing E ≡ standing_at m.stage
 standing_of_open m s E h o = sym (standing_there (standing E) (heartbeat_was_put s E)) ∙ ap standing_at (sym (stage_of_open m s E h o))
 
 -- ---- one event more
 
 -- A machine that keeps what an event leaves stands for the events with this one.
-goes_on : (m n : Initiating) (s : Start) (E : List InitEvent) (e : InitEvent) → StandsFor m s E → n.start ≡ m.start → n.last ≡ unwrap_or (message_time e) m.last
-    → n.stage ≡ cond (closes (step s E e)) Idle (open_stage (moved (standing E) e) (put_after s (last_message s E) (heartbeat_was_put s E) e)) → StandsFor n s (E ++ e ∷ [])
+goes_on : (m n : Initiating) (s : Start) (E : List InitEvent) (e : InitEvent) → InitiatingStands m s E → n.start ≡ m.start → n.last ≡ unwrap_or (message_time e) m.last
+    → n.stage ≡ cond (closes (step s E e)) Idle (open_stage (moved (standing E) e) (put_after s (last_message s E) (heartbeat_was_put s E) e)) → InitiatingStands n s (E ++ e ∷ [])
 goes_on m n s E e h start last waits = record {
   start = start ∙ h.start;
   last = last ∙ ap (λ t. unwrap_or (message_time e) t) h.last ∙ sym (last-more s E e);
@@ -63,9 +63,9 @@ goes_on m n s E e h start last waits = record {
 
 -- ---- the Connect-Request
 
-pub opened_answers : (m n : Initiating) (s : Start) (E : List InitEvent) (now id : ℕ) (answer : InitStep) → StandsFor m s E → m.stage ≡ AwaitingWebsocket
+pub opened_answers : (m n : Initiating) (s : Start) (E : List InitEvent) (now id : ℕ) (answer : InitStep) → InitiatingStands m s E → m.stage ≡ AwaitingWebsocket
     → answer ≡ Put (octets_of (connect_request id m.start.own)) → n ≡ record m { stage = AwaitingAccept id }
-    → (answer ≡ step s E (Opened now id)) × StandsFor n s (E ++ Opened now id ∷ [])
+    → (answer ≡ step s E (Opened now id)) × InitiatingStands n s (E ++ Opened now id ∷ [])
 opened_answers m n s E now id answer h a is new =
     let k : standing E ≡ awaiting_websocket = standing_of_open m s E h (ap is_open a) ∙ ap standing_at a in (
       is ∙ ap (λ own. Put (octets_of (connect_request id own))) (ap (λ x. x.own) h.start),
@@ -120,9 +120,9 @@ standing_heard (Connected put) = refl
 standing_heard (Disconnecting f) = refl
 standing_heard Idle = refl
 
-pub message_answers : (m n : Initiating) (s : Start) (E : List InitEvent) (now : ℕ) (v : Verdict) (answer : InitStep) → StandsFor m s E → is_open m.stage ≡ true
+pub message_answers : (m n : Initiating) (s : Start) (E : List InitEvent) (now : ℕ) (v : Verdict) (answer : InitStep) → InitiatingStands m s E → is_open m.stage ≡ true
     → answer ≡ message_step (standing_at (heard_at m.stage)) v → n ≡ record m { last = now; stage = after (heard_at m.stage) answer }
-    → (answer ≡ step s E (Came now v)) × StandsFor n s (E ++ Came now v ∷ [])
+    → (answer ≡ step s E (Came now v)) × InitiatingStands n s (E ++ Came now v ∷ [])
 message_answers m n s E now v answer h o is new =
     let here : answer ≡ message_step (standing E) v =
     is
@@ -141,9 +141,9 @@ message_answers m n s E now v answer h o is new =
 abbrev left_at : InitStep → Initiating → Initiating
 left_at answer m = record m { stage = after m.stage answer }
 
-pub passed_answers : (m heard n : Initiating) (s : Start) (E : List InitEvent) (now : ℕ) (v : Verdict) (msg : Message) (answer : InitStep) → StandsFor m s E → is_open m.stage ≡ true
+pub passed_answers : (m heard n : Initiating) (s : Start) (E : List InitEvent) (now : ℕ) (v : Verdict) (msg : Message) (answer : InitStep) → InitiatingStands m s E → is_open m.stage ≡ true
     → v ≡ Pass msg → heard ≡ record m { last = now; stage = heard_at m.stage } → answer ≡ passed_step (standing_at heard.stage) msg → n ≡ record heard { stage = after heard.stage answer }
-    → (answer ≡ step s E (Came now v)) × StandsFor n s (E ++ Came now v ∷ [])
+    → (answer ≡ step s E (Came now v)) × InitiatingStands n s (E ++ Came now v ∷ [])
 passed_answers m heard n s E now v msg answer h o said hears is new =
     message_answers m n s E now v answer h o
     (
@@ -162,10 +162,10 @@ finished (awaiting_accept request) p q now id = refl
 finished connected p q now id = refl
 finished (disconnecting f) p q now id = refl
 
-pub finish_answers : (m n : Initiating) (s : Start) (E : List InitEvent) (now id : ℕ) (answer : InitStep) → StandsFor m s E → is_open m.stage ≡ true
+pub finish_answers : (m n : Initiating) (s : Start) (E : List InitEvent) (now id : ℕ) (answer : InitStep) → InitiatingStands m s E → is_open m.stage ≡ true
     → answer ≡ finish_step (standing_at m.stage) id
     → n ≡ record m { stage = cond (closes (finish_step (standing_at m.stage) id)) Idle (open_stage (moved (standing_at m.stage) (Finish now id)) false) }
-    → (answer ≡ step s E (Finish now id)) × StandsFor n s (E ++ Finish now id ∷ [])
+    → (answer ≡ step s E (Finish now id)) × InitiatingStands n s (E ++ Finish now id ∷ [])
 finish_answers m n s E now id answer h o is new =
     let g : standing E ≡ standing_at m.stage = standing_of_open m s E h o in (
       is ∙ ap (λ t. finish_step t id) (sym g),
@@ -202,9 +202,9 @@ ticking s last now id connected put =
     beating s last put now (is_idle s last now) (is_heartbeat_due s last now && not put) (closing 1008 NoMessage) (octets_of (heartbeat_request id))
 ticking s last now id (disconnecting f) put = closing_or_not (Disconnecting f) (disconnect_wait_is_over s f now) normal
 
-pub tick_answers : (m n : Initiating) (s : Start) (E : List InitEvent) (now id : ℕ) (answer : InitStep) → StandsFor m s E → is_open m.stage ≡ true
+pub tick_answers : (m n : Initiating) (s : Start) (E : List InitEvent) (now id : ℕ) (answer : InitStep) → InitiatingStands m s E → is_open m.stage ≡ true
     → answer ≡ tick_step m.start m.last (put_at m.stage) now id (standing_at m.stage) → n ≡ record m { stage = ticked m.start m.last now m.stage answer }
-    → (answer ≡ step s E (Tick now id)) × StandsFor n s (E ++ Tick now id ∷ [])
+    → (answer ≡ step s E (Tick now id)) × InitiatingStands n s (E ++ Tick now id ∷ [])
 tick_answers m n s E now id answer h o is new =
     let there : m.stage ≡ open_stage (standing E) (heartbeat_was_put s E) = stage_of_open m s E h o in
     let here : answer ≡ step s E (Tick now id) =
@@ -237,9 +237,9 @@ unconnected s last now (Connected put) answer u = cc
 unconnected s last now (Disconnecting f) answer u = refl
 unconnected s last now Idle answer u = refl
 
-pub closing_answers : (m n : Initiating) (s : Start) (E : List InitEvent) (now id : ℕ) (answer : InitStep) → StandsFor m s E → is_open m.stage ≡ true → is_unconnected m.stage ≡ true
+pub closing_answers : (m n : Initiating) (s : Start) (E : List InitEvent) (now id : ℕ) (answer : InitStep) → InitiatingStands m s E → is_open m.stage ≡ true → is_unconnected m.stage ≡ true
     → answer ≡ tick_step m.start m.last (put_at m.stage) now id (standing_at m.stage) → n ≡ record m { stage = after m.stage answer }
-    → (answer ≡ step s E (Tick now id)) × StandsFor n s (E ++ Tick now id ∷ [])
+    → (answer ≡ step s E (Tick now id)) × InitiatingStands n s (E ++ Tick now id ∷ [])
 closing_answers m n s E now id answer h o u is new =
     tick_answers m n s E now id answer h o is (new ∙ ap (λ w. record m { stage = w }) (unconnected m.start m.last now m.stage answer u))
 

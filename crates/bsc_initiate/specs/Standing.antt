@@ -34,15 +34,15 @@ abbrev pub stage : Start → List InitEvent → Stage
 stage s E = if has_closed s E then Idle else open_stage (standing E) (heartbeat_was_put s E)
 
 -- The machine started so and was told these events, newest last.
-pub record StandsFor (m : Initiating) (s : Start) (E : List InitEvent) : Type 0 where
+pub record InitiatingStands (m : Initiating) (s : Start) (E : List InitEvent) : Type 0 where
   pub start : m.start ≡ s
   pub last : m.last ≡ last_message s E
   pub stage : m.stage ≡ stage s E
 
 -- For whatever start and events it stood, the step is theirs, and it stands for them and this event.
-abbrev pub Answers : Initiating → Initiating → InitEvent → InitStep → Type 0
-Answers old new e answer = (s : Start) (E : List InitEvent) → StandsFor old s E
-    → (answer ≡ step s E e) × StandsFor new s (E ++ e ∷ [])
+abbrev pub InitiatingAnswers : Initiating → Initiating → InitEvent → InitStep → Type 0
+InitiatingAnswers old new e answer = (s : Start) (E : List InitEvent) → InitiatingStands old s E
+    → (answer ≡ step s E e) × InitiatingStands new s (E ++ e ∷ [])
 
 -- ---- which calls may be made
 
@@ -78,9 +78,9 @@ IsOver m = m.stage ≡ Idle
 
 -- How a step leaves the machine: after a closing or a refusal it is over, after an accept it is connected, and else it
 -- is open.
-abbrev pub LeftBy : InitStep → Initiating → Type 0
-LeftBy (PutClose octets c) m = IsOver m
-LeftBy (Close c) m = IsOver m
-LeftBy (Refused code) m = IsOver m
-LeftBy (NowConnected who) m = IsConnected m
-LeftBy other m = IsOpen m
+abbrev pub LeavesInitiating : InitStep → Initiating → Type 0
+LeavesInitiating (PutClose octets c) m = IsOver m
+LeavesInitiating (Close c) m = IsOver m
+LeavesInitiating (Refused code) m = IsOver m
+LeavesInitiating (NowConnected who) m = IsConnected m
+LeavesInitiating other m = IsOpen m

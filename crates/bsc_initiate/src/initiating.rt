@@ -3,7 +3,7 @@ ghost use Rattle.std.specs.Prelude.{◌≡◌, List, []};
 ghost use Rattle.bsc_accept.specs.declared.start.Start.{Start};
 ghost use Rattle.bsc_initiate.specs.declared.event.InitEvent.{InitEvent};
 ghost use Rattle.bsc_initiate.specs.Past.{phase};
-ghost use Rattle.bsc_initiate.specs.Standing.{StandsFor, Answers, AwaitsWebsocket, IsOpen, IsOver, LeftBy, phase_of};
+ghost use Rattle.bsc_initiate.specs.Standing.{InitiatingStands, InitiatingAnswers, AwaitsWebsocket, IsOpen, IsOver, LeavesInitiating, phase_of};
 
 use crate::requests::connect_request;
 use crate::stage::Stage;
@@ -28,7 +28,7 @@ pub struct Initiating {
 impl Initiating {
     /// A machine that starts now: its WebSocket is being opened.
     pub fn start(own: Identity, times: Times, now: u64) -> Initiating
-        ensures stands { StandsFor result (record { own = own; times = times; at = now }) [] }
+        ensures stands { InitiatingStands result (record { own = own; times = times; at = now }) [] }
         ensures awaits { AwaitsWebsocket result }
         ensures open { IsOpen result }
     {
@@ -47,7 +47,7 @@ impl Initiating {
     /// The phase; `None` before the WebSocket has opened.
     pub fn phase(&self) -> Option<Phase>
         ensures kept { result ≡ phase_of self.now }
-        ensures told { (s : Start) (E : List InitEvent) → StandsFor self.now s E → ¬ IsOver self.now
+        ensures told { (s : Start) (E : List InitEvent) → InitiatingStands self.now s E → ¬ IsOver self.now
             → result ≡ phase E }
     {
         match self.stage {
@@ -61,8 +61,8 @@ impl Initiating {
     /// The WebSocket has opened: a Connect-Request with this Message ID goes out.
     pub fn opened(&mut self, now: u64, id: u16) -> InitStep
         requires { AwaitsWebsocket self.old }
-        ensures step { Answers self.old self.new (InitEvent.Opened now id) result }
-        ensures left { LeftBy result self.new }
+        ensures step { InitiatingAnswers self.old self.new (InitEvent.Opened now id) result }
+        ensures left { LeavesInitiating result self.new }
         ensures open { IsOpen self.new }
     {
         let request = connect_request(id, &self.start.own);
@@ -73,8 +73,8 @@ impl Initiating {
     /// A message came, and was judged so.
     pub fn message(&mut self, now: u64, verdict: &Verdict) -> InitStep
         requires { IsOpen self.old }
-        ensures step { Answers self.old self.new (InitEvent.Message now verdict.now) result }
-        ensures left { LeftBy result self.new }
+        ensures step { InitiatingAnswers self.old self.new (InitEvent.Message now verdict.now) result }
+        ensures left { LeavesInitiating result self.new }
     {
         self.hear(now);
         match verdict {
@@ -87,8 +87,8 @@ impl Initiating {
     /// The connection is to end, by a Disconnect-Request with this Message ID.
     pub fn finish(&mut self, now: u64, id: u16) -> InitStep
         requires { IsOpen self.old }
-        ensures step { Answers self.old self.new (InitEvent.Finish now id) result }
-        ensures left { LeftBy result self.new }
+        ensures step { InitiatingAnswers self.old self.new (InitEvent.Finish now id) result }
+        ensures left { LeavesInitiating result self.new }
     {
         match self.stage {
             Stage::AwaitingWebsocket | Stage::AwaitingAccept { .. } => self.close(Closing::NORMAL),
@@ -101,8 +101,8 @@ impl Initiating {
     /// Time has passed. A Heartbeat-Request, where one is put, has this Message ID.
     pub fn tick(&mut self, now: u64, id: u16) -> InitStep
         requires { IsOpen self.old }
-        ensures step { Answers self.old self.new (InitEvent.Tick now id) result }
-        ensures left { LeftBy result self.new }
+        ensures step { InitiatingAnswers self.old self.new (InitEvent.Tick now id) result }
+        ensures left { LeavesInitiating result self.new }
     {
         let times = self.start.times;
         match self.stage {

@@ -34,9 +34,9 @@ use Rattle.bsc_legality.specs.declared.legality.Legality.{Legality}
 use Rattle.bsc_legality.specs.Deciding.{accepts}
 use Rattle.bsc_legality.specs.Following.{Becomes, new_row, row_after}
 use Rattle.bsc_legality.specs.Rows.{connection}
-use Rattle.bsc_legality.specs.Standing.{IsRowOf, StandsFor}
+use Rattle.bsc_legality.specs.Standing.{IsRowOf, LegalityStands}
 use Rattle.bsc_legality.proofs.Decides.{accepts_lawful, stands_own}
-use Rattle.bsc_legality.proofs.Histories.{unleft_joined}
+use Rattle.bsc_history.proofs.Connections.{unleft_joined}
 use Rattle.bsc_legality.proofs.Live.{In-map}
 use Rattle.bsc_lemmas.proofs.Lists.{all_append}
 
@@ -140,13 +140,13 @@ new_connections (Some x) = refl
 -- ---- the theorem
 
 -- the rows are of connections that joined
-rows_joined : (l : Legality) (a : About) (H : List Entry) → StandsFor l a H → AllByRecursion (λ r. (list_any (joins r.connection.number) H ≡ true) × IsRowOf a H r) l.rows.items
+rows_joined : (l : Legality) (a : About) (H : List Entry) → LegalityStands l a H → AllByRecursion (λ r. (list_any (joins r.connection.number) H ≡ true) × IsRowOf a H r) l.rows.items
 rows_joined l a H s = all_from_In (λ r. (list_any (joins r.connection.number) H ≡ true) × IsRowOf a H r) l.rows.items (λ r m. (
   (unleft_joined H (connection r) (subst (In (connection r)) s.unleft_rows (In-map r l.rows.items m))).1,
   In_from_all (IsRowOf a H) r l.rows.items s.each_row m,
 ))
 
-pub advances : (l n : Legality) (a : About) (H : List Entry) (e : Entry) → StandsFor l a H → Lawful a (moment H e) → Becomes e l n → StandsFor n a (H ++ e ∷ [])
+pub advances : (l n : Legality) (a : About) (H : List Entry) (e : Entry) → LegalityStands l a H → Lawful a (moment H e) → Becomes e l n → LegalityStands n a (H ++ e ∷ [])
 advances l n a H e s lawful by =
     let old = filter (λ (r : Row). not (leaves r.connection.number e)) (map (row_after e) l.rows.items) in
     let new = map new_row (option_to_list (connection_of e)) in
@@ -162,11 +162,11 @@ advances l n a H e s lawful by =
     }
 
 -- an entry that is accepted
-pub follows : (l n : Legality) (a : About) (H : List Entry) (e : Entry) → StandsFor l a H → accepts l e ≡ true → Becomes e l n → StandsFor n a (H ++ e ∷ [])
+pub follows : (l n : Legality) (a : About) (H : List Entry) (e : Entry) → LegalityStands l a H → accepts l e ≡ true → Becomes e l n → LegalityStands n a (H ++ e ∷ [])
 follows l n a H e s agreed by = advances l n a H e s (subst (λ (b : About). Lawful b (moment H e)) s.about_so (accepts_lawful l H e (stands_own l a H s) agreed)) by
 
 -- the state of no entries
-pub stands_none : (l : Legality) (a : About) → l.about ≡ a → l.entries ≡ 0 → l.stopped ≡ false → l.counts ≡ record { joined = 0; replaced = 0; refused = 0; unicasts = 0; broadcasts = 0; appended = 0; dropped = 0; full = 0; missed = 0 } → l.rows.items ≡ [] → StandsFor l a []
+pub stands_none : (l : Legality) (a : About) → l.about ≡ a → l.entries ≡ 0 → l.stopped ≡ false → l.counts ≡ record { joined = 0; replaced = 0; refused = 0; unicasts = 0; broadcasts = 0; appended = 0; dropped = 0; full = 0; missed = 0 } → l.rows.items ≡ [] → LegalityStands l a []
 unfolding joined_where counts
 stands_none l a about entries stop count rows = record {
   legal = record { lawful = tt };

@@ -31,18 +31,18 @@ use Rattle.bsc_legality.specs.declared.legality.Legality.{Legality}
 use Rattle.bsc_legality.specs.Deciding.{accepts, all_due, all_looked, can_all, connect_due, conns, due, fares_so, is_full_at, is_long_at, is_meant_with, is_of_in, looks_due, may_call_in, one_due, one_looked, sent_due, sent_looked, size_in}
 use Rattle.bsc_legality.specs.Rows.{can_find_at, connection, end_in, finds_full_at, has_number, holder_in, is_open_with, number, row_of}
 use Rattle.bsc_legality.specs.Sameness.{same_numbers, same_reply}
-use Rattle.bsc_legality.specs.Standing.{IsRowOf, StandsFor}
+use Rattle.bsc_legality.specs.Standing.{IsRowOf, LegalityStands}
 use Rattle.bsc_legality.proofs.Fared.{filter_both, split}
-use Rattle.bsc_legality.proofs.Histories.{joined_counted, vmac_unleft}
+use Rattle.bsc_history.proofs.Connections.{joined_counted, vmac_unleft}
 use Rattle.bsc_legality.proofs.Live.{In-map, any_row, live_found, live_rows, meant_rows}
 use Rattle.bsc_legality.proofs.Sameness.{numbers_same, numbers_self, reply_same, reply_self}
 
 -- it stands for the history of the hub that it keeps
 abbrev pub Stands : Legality → List Entry → Type 0
-Stands l H = StandsFor l l.about H
+Stands l H = LegalityStands l l.about H
 
-pub stands_own : (l : Legality) (a : About) (H : List Entry) → StandsFor l a H → Stands l H
-stands_own l a H s = subst (λ (b : About). StandsFor l b H) (sym s.about_so) s
+pub stands_own : (l : Legality) (a : About) (H : List Entry) → LegalityStands l a H → Stands l H
+stands_own l a H s = subst (λ (b : About). LegalityStands l b H) (sym s.about_so) s
 
 -- ---- rows
 
@@ -388,5 +388,5 @@ own_decides l H e b s is = (
   λ legal. is ∙ lawful_accepts l H e s (Legal-front l.about H e legal).1,
 )
 
-pub decides : (l : Legality) (a : About) (H : List Entry) (e : Entry) (b : Bool) → StandsFor l a H → b ≡ accepts l e → IsTrue b ↔ Legal a (H ++ e ∷ [])
+pub decides : (l : Legality) (a : About) (H : List Entry) (e : Entry) (b : Bool) → LegalityStands l a H → b ≡ accepts l e → IsTrue b ↔ Legal a (H ++ e ∷ [])
 decides l a H e b s is = subst (λ (x : About). IsTrue b ↔ Legal x (H ++ e ∷ [])) s.about_so (own_decides l H e b (stands_own l a H s) is)

@@ -1,4 +1,3 @@
-pub mod Histories
 pub mod Places
 pub mod Orders
 pub mod Numbers

@@ -11,8 +11,8 @@ use Rattle.bsc_history.proofs.Lists.{In}
 use Rattle.bsc_legality.specs.declared.row.Row.{Row}
 use Rattle.bsc_legality.specs.declared.legality.Legality.{Legality}
 use Rattle.bsc_legality.specs.Rows.{connection, is_open, is_open_with, number}
-use Rattle.bsc_legality.specs.Standing.{IsRowOf, StandsFor}
-use Rattle.bsc_legality.proofs.Histories.{live_unended}
+use Rattle.bsc_legality.specs.Standing.{IsRowOf, LegalityStands}
+use Rattle.bsc_history.proofs.Connections.{live_unended}
 
 pub In-map : (r : Row) (rows : List Row) → In r rows → In (connection r) (map connection rows)
 In-map r [] m = absurd m
@@ -33,7 +33,7 @@ open_rows a H (r ∷ rows) all =
     ∙ elim (is_open r) as (λ b. cond b (connection r ∷ filter E (map connection rows)) (filter E (map connection rows)) ≡ map connection (cond b (r ∷ filter is_open rows) (filter is_open rows))) [ true ↦ ap (λ (l : List Connection). connection r ∷ l) rest | false ↦ rest ]
 
 -- the live connections are those of the rows that are open
-pub live_rows : (l : Legality) (a : About) (H : List Entry) → StandsFor l a H → live H ≡ map connection (filter is_open l.rows.items)
+pub live_rows : (l : Legality) (a : About) (H : List Entry) → LegalityStands l a H → live H ≡ map connection (filter is_open l.rows.items)
 live_rows l a H s = live_unended a H s.legal ∙ ap (filter (λ x. is_none (ended H x.number))) (sym s.unleft_rows) ∙ open_rows a H l.rows.items s.each_row
 
 find_open : (p : Connection → Bool) (rows : List Row) → find p (map connection (filter is_open rows)) ≡ option_map connection (find (is_open_with p) rows)
@@ -44,7 +44,7 @@ find_open p (r ∷ rows) =
       | false ↦ find_open p rows
     ]
 
-pub live_found : (l : Legality) (a : About) (H : List Entry) (p : Connection → Bool) → StandsFor l a H → find p (live H) ≡ option_map connection (find (is_open_with p) l.rows.items)
+pub live_found : (l : Legality) (a : About) (H : List Entry) (p : Connection → Bool) → LegalityStands l a H → find p (live H) ≡ option_map connection (find (is_open_with p) l.rows.items)
 live_found l a H p s = ap (find p) (live_rows l a H s) ∙ find_open p l.rows.items
 
 -- the live connections that a test of connections keeps, and a test of rows that agrees with one of connections

@@ -10,7 +10,7 @@ use Rattle.bsc_history.proofs.Uniqueness.{settled}
 use Rattle.bsc_legality.specs.declared.row.Row.{Row}
 use Rattle.bsc_legality.specs.declared.legality.Legality.{Legality}
 use Rattle.bsc_legality.specs.Rows.{AreAlone, connection, rising}
-use Rattle.bsc_legality.specs.Standing.{StandsFor}
+use Rattle.bsc_legality.specs.Standing.{LegalityStands}
 use Rattle.bsc_legality.proofs.Live.{live_rows}
 use Rattle.bsc_legality.proofs.Numbers.{below}
 use Rattle.bsc_legality.proofs.Orders.{Rise, unleft_rise}
@@ -23,8 +23,8 @@ rows_rise : (rows : List Row) → Rise (map connection rows) → rising rows ≡
 rows_rise [] h = refl
 rows_rise (r ∷ rows) h = and_from (list_all (below r) rows) (rising rows) (all_below r rows h.0) (rows_rise rows h.1)
 
-pub ordered : (l : Legality) (a : About) (H : List Entry) → StandsFor l a H → rising l.rows.items ≡ true
+pub ordered : (l : Legality) (a : About) (H : List Entry) → LegalityStands l a H → rising l.rows.items ≡ true
 ordered l a H s = rows_rise l.rows.items (subst Rise (sym s.unleft_rows) (unleft_rise a H s.legal))
 
-pub alone : (l : Legality) (a : About) (H : List Entry) → StandsFor l a H → AreAlone l.rows.items
+pub alone : (l : Legality) (a : About) (H : List Entry) → LegalityStands l a H → AreAlone l.rows.items
 alone l a H s = subst (λ (xs : List Connection). Apart (λ (c : Connection). c.who.vmac) xs) (live_rows l a H s) (settled a H s.legal).holders

@@ -11,7 +11,7 @@ use Rattle.bsc_history.specs.Legality.{Legal}
 use Rattle.bsc_history.proofs.Lists.{In, In-filter, all_from_In}
 use Rattle.bsc_history.proofs.More.{along, unleft-more}
 use Rattle.bsc_history.proofs.Uniqueness.{comes}
-use Rattle.bsc_legality.proofs.Histories.{number_bound, unleft_joined}
+use Rattle.bsc_history.proofs.Connections.{number_bound, unleft_joined}
 use Rattle.bsc_lemmas.proofs.Lists.{all-filter, all-push}
 
 -- the number of each connection is below those of all after it

@@ -21,7 +21,7 @@ pub record IsRowOf (a : About) (H : List Entry) (r : Row) : Type 0 where
 
 -- A state stands for the history H of a hub: the history is legal, the numbers are those of the history, and the rows
 -- are the connections that haven't left, in the order of joining.
-pub record StandsFor (l : Legality) (about : About) (H : List Entry) : Type 0 where
+pub record LegalityStands (l : Legality) (about : About) (H : List Entry) : Type 0 where
   pub legal : Legal about H
   pub about_so : l.about ≡ about
   pub count : l.entries ≡ length H

@@ -1,11 +1,16 @@
 //! Lines of the script of a node (docs/OPERATING.md, "The script of a node").
 use bsc_diagnostics::{
-    Diagnostic, hold_destination, hold_number, hold_octets, hold_one_node, next_line, no_more,
+    Diagnostic, hold_destination, hold_octets, hold_one_node, hold_time, next_line, no_more,
     only_word, word_of,
 };
 use bsc_text::{begins_comment, next_word, read_number};
 
 const SEND: &str = "send VMAC OCTETS";
+
+/// What has no form of a line.
+const NO_LINE: Diagnostic<'static> = Diagnostic::Line {
+    rule: "it is no line of a node's script",
+};
 
 /// What is sent: a VMAC that isn't zero, and at least one octet.
 fn hold_send<'a>(words: &'a [u8]) -> Result<(), Diagnostic<'a>> {
@@ -18,7 +23,7 @@ fn hold_send<'a>(words: &'a [u8]) -> Result<(), Diagnostic<'a>> {
 /// A line that does something, by its first word and those after it.
 fn hold_words<'a>(first: &'a [u8], words: &'a [u8]) -> Result<(), Diagnostic<'a>> {
     if first == b"at".as_slice() {
-        return hold_number(only_word(words, "at MS")?);
+        return hold_time(words);
     }
     if first == b"send".as_slice() {
         return hold_send(words);
@@ -86,12 +91,8 @@ pub fn why_node_place<'a>(before: &[u8], line: &'a [u8]) -> Diagnostic<'a> {
                 word,
                 rule: "is less than the time of the `at` before it",
             },
-            _ => Diagnostic::Line {
-                rule: "it is no line of a node's script",
-            },
+            _ => NO_LINE,
         },
-        None => Diagnostic::Line {
-            rule: "it is no line of a node's script",
-        },
+        None => NO_LINE,
     }
 }

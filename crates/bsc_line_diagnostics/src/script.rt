@@ -3,8 +3,8 @@ ghost use Rattle.std.specs.Prelude.{◌≡◌, None, IfSome};
 ghost use Rattle.bsc_script.specs.Lines.{line_of};
 
 use bsc_diagnostics::{
-    Diagnostic, hold_any_maximum, hold_device, hold_lengths, hold_name, hold_number, hold_octets,
-    hold_one_node, hold_vmac, hold_within, next_line, no_more, only_word, why_time, word_of,
+    Diagnostic, hold_hub_identity, hold_identity, hold_name, hold_octets, hold_time, hold_within,
+    next_line, no_more, only_word, why_time, word_of,
 };
 use bsc_history::{MOST_CALLS, MOST_OCTETS, MOST_OUTBOX, MOST_ROWS};
 use bsc_player::LineFault;
@@ -43,12 +43,8 @@ pub(crate) fn hold_hub<'a>(words: &'a [u8]) -> Result<(), Diagnostic<'a>> {
     let (npdu, words) = word_of(words, HUB)?;
     let (rows, words) = word_of(words, HUB)?;
     let (outbox, words) = word_of(words, HUB)?;
-    hold_vmac(address)?;
-    hold_device(uuid)?;
-    hold_any_maximum(bvlc)?;
-    hold_any_maximum(npdu)?;
-    hold_one_node(address)?;
-    hold_lengths(bvlc, npdu)?;
+    hold_identity(address, uuid, bvlc, npdu)?;
+    hold_hub_identity(address, bvlc, npdu)?;
     hold_within(rows, 1, MOST_ROWS, "is no number of rows from 1 to 1024")?;
     hold_within(
         outbox,
@@ -84,7 +80,7 @@ fn hold_other<'a>(first: &'a [u8], words: &'a [u8]) -> Result<(), Diagnostic<'a>
         return hold_named(words, "free NAME");
     }
     if first == b"at".as_slice() {
-        return hold_number(only_word(words, "at MS")?);
+        return hold_time(words);
     }
     if first == b"stop".as_slice() {
         return no_more(words, "stop");

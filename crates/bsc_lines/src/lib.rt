@@ -18,5 +18,5 @@ pub use denying::put_denial;
 pub use replies::{
     put_counts, put_gone, put_joined, put_lists, put_not_current, put_refusal, put_reply,
 };
-pub use texts::{put_number, put_numbered, put_then, put_words};
+pub use texts::{put_hex, put_number, put_numbered, put_then, put_words};
 pub use writing::{entry_line, put_entry};

@@ -28,7 +28,7 @@ use Rattle.bsc_hub.proofs.Staying.{connect_stays, leave_stays}
 use Rattle.bsc_load.specs.declared.bounds.TheConstants.{WORKERS}
 use Rattle.bsc_load.specs.declared.jobs.Cut.{Cut}
 use Rattle.bsc_load.specs.declared.jobs.Cut.TheVariants.{NoMemory, Short}
-use Rattle.bsc_load.specs.Inner.{AfterBoth, Goes, Holds, RanAll, ShowsBy, WasWorn}
+use Rattle.bsc_load.specs.Inner.{AfterBoth, KeepsOwn, LoadWasWorn, RanAll, ShowsBy, WorkerGoes}
 use Rattle.bsc_load.specs.Peers.{receiver, sender}
 use Rattle.bsc_load.specs.Workers.{calls, forwards}
 use Rattle.bsc_load.proofs.Addresses.{connections_differ}
@@ -60,8 +60,8 @@ pub length_between : (E : List Entry) (e l : Entry) → length (e ∷ E ++ l ∷
 length_between E e l = (let k : length (E ++ l ∷ []) ≡ length E + 1 = length-append E (l ∷ []) in omega arith)
 
 -- the pass went on
-pub goes_between : (h : Hub) (p m n q : Pass) (E : List Entry) (who : Identity) (j : Joined) (c : ℕ) (o : Outlet) (told : Told Gone) → Passed h p [] (connect_made (number_of p) who (Ok j)) m → Goes h m E n → Passed h n [] (leave_made (number_of n) c (empties_of o) told) q →
-    Goes h p (join_entry p who j ∷ E ++ leave_entry n c o told ∷ []) q
+pub goes_between : (h : Hub) (p m n q : Pass) (E : List Entry) (who : Identity) (j : Joined) (c : ℕ) (o : Outlet) (told : Told Gone) → Passed h p [] (connect_made (number_of p) who (Ok j)) m → WorkerGoes h m E n → Passed h n [] (leave_made (number_of n) c (empties_of o) told) q →
+    WorkerGoes h p (join_entry p who j ∷ E ++ leave_entry n c o told ∷ []) q
 goes_between h p m n q E who j c o told came went left =
     goes_then h p n q (join_entry p who j ∷ E) (leave_entry n c o told ∷ []) (goes_then h p m n (join_entry p who j ∷ []) E (goes_one h p m _ came) went) (goes_one h n q _ left)
 
@@ -70,7 +70,7 @@ few_made : (i s n : ℕ) (E : List Entry) → calls E ≡ forwards i s n → len
 few_made i s n E are = sym (length-map E (λ (e : Entry). e.call)) ∙ ap (λ (l : List Call). length l) are ∙ length_forwards i s n
 
 -- those that were cut short show it
-cut_shows : (h : Hub) (n q : Pass) (k : ℕ) (E : List Entry) (e l : Entry) (cut : Cut) → k < 1000 → length E ≡ k → length (entries (seen n)) ≤ length (entries (seen q)) → WasWorn h n cut → ShowsBy 1002 h (seen q) (e ∷ E ++ l ∷ []) cut
+cut_shows : (h : Hub) (n q : Pass) (k : ℕ) (E : List Entry) (e l : Entry) (cut : Cut) → k < 1000 → length E ≡ k → length (entries (seen n)) ≤ length (entries (seen q)) → LoadWasWorn h n cut → ShowsBy 1002 h (seen q) (e ∷ E ++ l ∷ []) cut
 cut_shows h n q k E e l NoMemory few many later worn = tt
 cut_shows h n q k E e l Short few many later worn = inr (omega (arith, length_between E e l, few, many), omega (arith, later, worn))
 
@@ -122,7 +122,7 @@ after_both h i s p m n q j o told (Err cut) small is mine came its ran left many
     }
 
 -- the pass after the forwards, whatever they came to
-pub forwards_went : (h : Hub) (i s : ℕ) (m n : Pass) (o : Outlet) (result : Result ℕ Cut) → RanAll h i s m n o result → IsCaller h n × StartsWith (seen n) (seen m) × Holds m n
+pub forwards_went : (h : Hub) (i s : ℕ) (m n : Pass) (o : Outlet) (result : Result ℕ Cut) → RanAll h i s m n o result → IsCaller h n × StartsWith (seen n) (seen m) × KeepsOwn m n
 forwards_went h i s m n o (Ok octets) ran = (ran.0.goes.caller, ran.0.goes.sees, ran.0.holds)
 forwards_went h i s m n o (Err cut) ran = (ran.2.goes.caller, ran.2.goes.sees, ran.2.holds)
 

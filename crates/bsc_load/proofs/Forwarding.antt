@@ -24,13 +24,13 @@ use Rattle.bsc_hub.specs.Passing.{IsCaller, Passed, about_of, found_history}
 use Rattle.bsc_hub.proofs.Staying.{one_stays}
 use Rattle.bsc_load.specs.declared.jobs.Cut.{Cut}
 use Rattle.bsc_load.specs.Frames.{frame, npdu_octets}
-use Rattle.bsc_load.specs.Inner.{Forwards, Goes, Holds, IsCounted, Ran, goes_on}
+use Rattle.bsc_load.specs.Inner.{IsCounted, KeepsOwn, LoadForwards, RanForwards, WorkerGoes, goes_on}
 use Rattle.bsc_load.specs.Workers.{forwards, within_64_bits}
 use Rattle.bsc_load.proofs.Calls.{forward_joins_none}
 use Rattle.bsc_load.proofs.Going.{goes_none, goes_one, goes_same, goes_then, holds_by, holds_same, holds_then}
 
 -- a forward, whatever it was told
-pub forwarded : (h : Hub) (i s k : ℕ) (p q : Pass) (r : Result (Told OneReply) Worn) → IsCaller h p → Passed h p [] (one_made (number_of p) s (frame i k) r) q → (IsErr r ↔ ((about_of h).limits.calls ≤ length (found_history (one_made (number_of p) s (frame i k) r) q))) → Forwards h i s k p q (goes_on r)
+pub forwarded : (h : Hub) (i s k : ℕ) (p q : Pass) (r : Result (Told OneReply) Worn) → IsCaller h p → Passed h p [] (one_made (number_of p) s (frame i k) r) q → (IsErr r ↔ ((about_of h).limits.calls ≤ length (found_history (one_made (number_of p) s (frame i k) r) q))) → LoadForwards h i s k p q (goes_on r)
 forwarded h i s k p q (Ok t) is x worn = (
   (one_stamped (number_of p) s (frame i k) t.said).entry,
   refl,
@@ -43,16 +43,16 @@ forwarded h i s k p q (Err e) is x worn = (
   worn.0 refl,
 )
 
-pub forwarded_as : (h : Hub) (i s k : ℕ) (p q : Pass) (r : Result (Told OneReply) Worn) (m : List ℕ) (said : Result ⊤ Cut) → m ≡ frame i k → said ≡ goes_on r → IsCaller h p → Passed h p [] (one_made (number_of p) s m r) q → (IsErr r ↔ ((about_of h).limits.calls ≤ length (found_history (one_made (number_of p) s m r) q))) → Forwards h i s k p q said
+pub forwarded_as : (h : Hub) (i s k : ℕ) (p q : Pass) (r : Result (Told OneReply) Worn) (m : List ℕ) (said : Result ⊤ Cut) → m ≡ frame i k → said ≡ goes_on r → IsCaller h p → Passed h p [] (one_made (number_of p) s m r) q → (IsErr r ↔ ((about_of h).limits.calls ≤ length (found_history (one_made (number_of p) s m r) q))) → LoadForwards h i s k p q said
 forwarded_as h i s k p q r m said same told is x worn =
-    subst (λ (a : Result ⊤ Cut). Forwards h i s k p q a) (sym told) (
+    subst (λ (a : Result ⊤ Cut). LoadForwards h i s k p q a) (sym told) (
     forwarded h i s k p q r is
     (subst (λ (m : List ℕ). Passed h p [] (one_made (number_of p) s m r) q) same x)
     (subst (λ (m : List ℕ). IsErr r ↔ ((about_of h).limits.calls ≤ length (found_history (one_made (number_of p) s m r) q))) same worn)
     )
 
 -- no forward yet
-pub ran_none : (h : Hub) (i s : ℕ) (p : Pass) → IsCaller h p → Ran h i s 0 p p
+pub ran_none : (h : Hub) (i s : ℕ) (p : Pass) → IsCaller h p → RanForwards h i s 0 p p
 unfolding joined_where
 ran_none h i s p is = record { made = []; calls = refl; quiet = refl; goes = goes_same h p is; holds = holds_same p }
 
@@ -61,7 +61,7 @@ pub counted_none : (o : Outlet) → IsNewOutlet o → IsCounted o 0
 counted_none o new = sym (ap (λ (l : List (List ℕ)). within_64_bits (npdu_octets l)) new.0)
 
 -- one forward more
-pub ran_more : (h : Hub) (i s k : ℕ) (p m q : Pass) (u : ⊤) → Ran h i s k p m → Forwards h i s k m q (Ok u) → Ran h i s (k + 1) p q
+pub ran_more : (h : Hub) (i s k : ℕ) (p m q : Pass) (u : ⊤) → RanForwards h i s k p m → LoadForwards h i s k m q (Ok u) → RanForwards h i s (k + 1) p q
 ran_more h i s k p m q u a b = record {
   made = a.made ++ b.0 ∷ [];
   calls =
@@ -75,11 +75,11 @@ ran_more h i s k p m q u a b = record {
 }
 
 -- a forward that failed
-pub ran_still : (h : Hub) (i s n : ℕ) (p m q : Pass) → Ran h i s n p m → Goes h m [] q → Holds m q → Ran h i s n p q
+pub ran_still : (h : Hub) (i s n : ℕ) (p m q : Pass) → RanForwards h i s n p m → WorkerGoes h m [] q → KeepsOwn m q → RanForwards h i s n p q
 ran_still h i s n p m q a b c = record {
   made = a.made;
   calls = a.calls;
   quiet = a.quiet;
-  goes = subst (λ (l : List Entry). Goes h p l q) (append-nil a.made) (goes_then h p m q a.made [] a.goes b);
+  goes = subst (λ (l : List Entry). WorkerGoes h p l q) (append-nil a.made) (goes_then h p m q a.made [] a.goes b);
   holds = holds_then p m q a.holds c;
 }

@@ -11,10 +11,10 @@ use Rattle.bsc_hub.specs.declared.hub.Hub.{Hub}
 use Rattle.bsc_hub.specs.Passing.{IsCaller, Passed, Placed, StaysBy}
 use Rattle.bsc_hub.proofs.Following.{drew_none, starts_same, starts_then}
 use Rattle.bsc_hub.proofs.Owning.{owned_kept}
-use Rattle.bsc_load.specs.Inner.{Goes, Holds}
+use Rattle.bsc_load.specs.Inner.{KeepsOwn, WorkerGoes}
 
 -- no call
-pub goes_same : (h : Hub) (p : Pass) → IsCaller h p → Goes h p [] p
+pub goes_same : (h : Hub) (p : Pass) → IsCaller h p → WorkerGoes h p [] p
 goes_same h p is = record {
   caller = is;
   number = refl;
@@ -25,7 +25,7 @@ goes_same h p is = record {
 }
 
 -- some calls, and then others
-pub goes_then : (h : Hub) (p m q : Pass) (E F : List Entry) → Goes h p E m → Goes h m F q → Goes h p (E ++ F) q
+pub goes_then : (h : Hub) (p m q : Pass) (E F : List Entry) → WorkerGoes h p E m → WorkerGoes h m F q → WorkerGoes h p (E ++ F) q
 goes_then h p m q E F a b = record {
   caller = b.caller;
   number = b.number ∙ a.number;
@@ -36,7 +36,7 @@ goes_then h p m q E F a b = record {
 }
 
 -- a call that made an entry, and one that made none
-pub goes_one : (h : Hub) (p q : Pass) (m : Placed) → Passed h p [] (Some m) q → Goes h p (m.stamped.entry ∷ []) q
+pub goes_one : (h : Hub) (p q : Pass) (m : Placed) → Passed h p [] (Some m) q → WorkerGoes h p (m.stamped.entry ∷ []) q
 goes_one h p q m x = record {
   caller = x.caller;
   number = x.number;
@@ -46,7 +46,7 @@ goes_one h p q m x = record {
   draws_none = drew_none h p q [] (Some m) x;
 }
 
-pub goes_none : (h : Hub) (p q : Pass) → Passed h p [] None q → Goes h p [] q
+pub goes_none : (h : Hub) (p q : Pass) → Passed h p [] None q → WorkerGoes h p [] q
 goes_none h p q x = record {
   caller = x.caller;
   number = x.number;
@@ -57,13 +57,13 @@ goes_none h p q x = record {
 }
 
 -- a call that is no leave keeps what is the caller's own
-pub holds_by : (h : Hub) (p q : Pass) (made : Option Placed) → IsCaller h p → Passed h p [] made q → ((c : ℕ) → StaysBy made c) → Holds p q
+pub holds_by : (h : Hub) (p q : Pass) (made : Option Placed) → IsCaller h p → Passed h p [] made q → ((c : ℕ) → StaysBy made c) → KeepsOwn p q
 holds_by h p q made is passed stays c v has = owned_kept h p q [] made c v is passed (stays c) has
 
-pub holds_then : (p m q : Pass) → Holds p m → Holds m q → Holds p q
+pub holds_then : (p m q : Pass) → KeepsOwn p m → KeepsOwn m q → KeepsOwn p q
 holds_then p m q a b c v has = b c v (a c v has)
 
-pub holds_same : (p : Pass) → Holds p p
+pub holds_same : (p : Pass) → KeepsOwn p p
 holds_same p c v has = has
 
 -- a mark that is kept stays

@@ -21,7 +21,7 @@ use Rattle.bsc_load.specs.declared.jobs.Cut.TheVariants.{NoMemory, Short}
 use Rattle.bsc_load.specs.declared.jobs.Sum.{Sum}
 use Rattle.bsc_load.specs.declared.jobs.Work.{Work}
 use Rattle.bsc_load.specs.Frames.{npdu_octets}
-use Rattle.bsc_load.specs.Inner.{AreFirst, CountsIn, Did, HasRun, Joins, Took, cut_short, within_32_bits, work_indices}
+use Rattle.bsc_load.specs.Inner.{AreFirst, CountsIn, HasRun, LoadJoins, LoadWorkerDid, Took, cut_short, within_32_bits, work_indices}
 use Rattle.bsc_load.specs.Load.{ShowsCut, Worker, WorksPart, WorksWhole}
 use Rattle.bsc_load.specs.Workers.{IsPart, ShowsShort, octets_taken, within_64_bits}
 use Rattle.bsc_load.proofs.Running.{part_of_whole}
@@ -106,7 +106,7 @@ known_later h w S T x begins k = record {
 abbrev KnownBy : Hub → Work → List Stamped → Worker → Result ℕ Cut → Type 0
 KnownBy h w S x r = IsPart x.index x.caller.own × (x.is_cut ≡ true → ShowsShort (about_of h) x.caller.own (length (entries S))) × Took (about_of h) S x × Says (about_of h) S x r × (x.index ≡ w.index) × (x.caller ≡ ended_of (view_of w.pass))
 
-known_by : (h : Hub) (w : Work) (r : Result ℕ Cut) → Did h w.index (own_list w.pass) (seen w.pass) r → (x : Worker) × KnownBy h w (seen w.pass) x r
+known_by : (h : Hub) (w : Work) (r : Result ℕ Cut) → LoadWorkerDid h w.index (own_list w.pass) (seen w.pass) r → (x : Worker) × KnownBy h w (seen w.pass) x r
 known_by h w (Ok octets) d =
     let x : Worker = record { index = w.index; caller = ended_of (view_of w.pass); is_cut = false; receiver = d.conn; taken = d.taken } in
     let part = part_of_whole w.index (own_list w.pass) d.conn d.taken d.whole in
@@ -165,7 +165,7 @@ whole_more a S T xs x (Err Short) s t begins took says counts whole lacks none =
 whole_more a S T xs x (Err NoMemory) s t begins took says counts whole lacks none = no_cut _ (sym lacks ∙ counts.2)
 
 -- before the first
-pub joins_none : (h : Hub) (p : Pass) (s : Sum) → IsCaller h p → s.octets ≡ 0 → s.short ≡ 0 → s.lacks_memory ≡ false → Joins h [] p p s
+pub joins_none : (h : Hub) (p : Pass) (s : Sum) → IsCaller h p → s.octets ≡ 0 → s.short ≡ 0 → s.lacks_memory ≡ false → LoadJoins h [] p p s
 joins_none h p s is octets short lacks = record {
   workers = [];
   passed = passed_none h p is;
@@ -179,8 +179,8 @@ joins_none h p s is octets short lacks = record {
 }
 
 -- one more
-pub joins_more : (h : Hub) (ws : List Work) (w : Work) (p m q : Pass) (s t : Sum) → Joins h ws p m s → HasRun h w →
-    Passed h m (ended_of (view_of w.pass) ∷ ended_callers w.pass) None q → StartsWith (seen q) (seen w.pass) → newest_number q ≡ newest_number m → CountsIn s w.octets t → Joins h (ws ++ w ∷ []) p q t
+pub joins_more : (h : Hub) (ws : List Work) (w : Work) (p m q : Pass) (s t : Sum) → LoadJoins h ws p m s → HasRun h w →
+    Passed h m (ended_of (view_of w.pass) ∷ ended_callers w.pass) None q → StartsWith (seen q) (seen w.pass) → newest_number q ≡ newest_number m → CountsIn s w.octets t → LoadJoins h (ws ++ w ∷ []) p q t
 joins_more h ws w p m q s t j run joined sees loaded counts =
     let one = known h w run in
     let x = one.0 in

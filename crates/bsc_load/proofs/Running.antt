@@ -22,9 +22,9 @@ use Rattle.bsc_hub.specs.Calls.{connect_made, leave_made}
 use Rattle.bsc_hub.specs.Passing.{Passed, about_of}
 use Rattle.bsc_load.specs.declared.jobs.Cut.{Cut}
 use Rattle.bsc_load.specs.declared.jobs.Cut.TheVariants.{NoMemory, Short}
-use Rattle.bsc_load.specs.Inner.{AfterBoth, Runs, ShowsBy, inner_calls}
+use Rattle.bsc_load.specs.Inner.{AfterBoth, LoadWorkerRuns, ShowsBy, inner_calls}
 use Rattle.bsc_load.specs.Peers.{receiver, sender}
-use Rattle.bsc_load.specs.Workers.{IsPart, IsWhole, calls, calls_up_to, forwards}
+use Rattle.bsc_load.specs.Workers.{IsPart, IsWholeWorker, calls, calls_up_to, forwards}
 use Rattle.bsc_load.proofs.Both.{calls_between, goes_between, join_entry, joined_between, leave_entry, length_between}
 use Rattle.bsc_load.proofs.Calls.{first_forwards}
 use Rattle.bsc_load.proofs.Unjoined.{first_later, longer}
@@ -58,7 +58,7 @@ cut_calls i s [] n taken empties = refl
 cut_calls i s (r ∷ others) n taken empties = whole_calls (Connect (receiver i) ∷ take n (forwards i s 1000)) (Connect (sender i)) (Leave r taken empties) (Leave s 0 0)
 
 -- a whole worker's entries are those of a worker
-pub part_of_whole : (i : ℕ) (E : List Entry) (r taken : ℕ) → IsWhole i E r taken → IsPart i E
+pub part_of_whole : (i : ℕ) (E : List Entry) (r taken : ℕ) → IsWholeWorker i E r taken → IsPart i E
 part_of_whole i E r taken w = record {
   who = w.sender ∷ r ∷ [];
   more = 1000;
@@ -73,7 +73,7 @@ part_of_whole i E r taken w = record {
 pub after_run : (h : Hub) (i : ℕ) (p m n q : Pass) (j : Joined) (o : Outlet) (told : Told Gone) (result : Result ℕ Cut) →
     Passed h p [] (connect_made (number_of p) (sender i) (Ok j)) m → AfterBoth h i j.conn m n result →
     IsNewOutlet o → Passed h n [] (leave_made (number_of n) j.conn (empties_of o) told) q → told.said.taken ≡ length (given o) →
-    Runs h i p q result
+    LoadWorkerRuns h i p q result
 after_run h i p m n q j o told (Ok octets) came b new left many =
     let E = b.made in
     let e = join_entry p (sender i) j in

@@ -27,7 +27,7 @@ use Rattle.bsc_hub.proofs.Guarding.{parts}
 use Rattle.bsc_hub.proofs.Staying.{connect_stays}
 use Rattle.bsc_load.specs.declared.jobs.Cut.{Cut}
 use Rattle.bsc_load.specs.declared.jobs.Cut.TheVariants.{NoMemory, Short}
-use Rattle.bsc_load.specs.Inner.{AreFirst, CutBoth, Runs, ShowsBy, Unjoined, cut_of}
+use Rattle.bsc_load.specs.Inner.{AreFirst, CutBoth, LoadWorkerRuns, ShowsBy, Unjoined, cut_of}
 use Rattle.bsc_load.specs.Peers.{receiver, sender}
 use Rattle.bsc_load.specs.Workers.{calls}
 use Rattle.bsc_load.proofs.Going.{goes_none, goes_one, holds_by}
@@ -115,7 +115,7 @@ both_unjoined h i s p q cut owns u =
     }
 
 -- a sender that didn't join
-pub runs_unjoined : (h : Hub) (i : ℕ) (p q : Pass) (cut : Cut) → Unjoined h (sender i) p q cut → Runs h i p q (Err cut)
+pub runs_unjoined : (h : Hub) (i : ℕ) (p q : Pass) (cut : Cut) → Unjoined h (sender i) p q cut → LoadWorkerRuns h i p q (Err cut)
 runs_unjoined h i p q cut u =
     let asked = asked_or_not u.made (sender i) u.calls in (
       u.made,

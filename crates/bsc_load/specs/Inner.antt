@@ -42,14 +42,14 @@ use Rattle.bsc_load.specs.declared.jobs.Work.{Work}
 use Rattle.bsc_load.specs.Frames.{frame, npdu_octets}
 use Rattle.bsc_load.specs.Load.{Loads, ShowsCut, Worker, WorksPart, WorksWhole, all_octets}
 use Rattle.bsc_load.specs.Peers.{receiver, sender}
-use Rattle.bsc_load.specs.Workers.{IsPart, IsWhole, calls, forwards, within_64_bits}
+use Rattle.bsc_load.specs.Workers.{IsPart, IsWholeWorker, calls, forwards, within_64_bits}
 
 -- the octets of NPDU that an outlet gave are so many
 abbrev pub IsCounted : Outlet → ℕ → Type 0
 IsCounted o octets = octets ≡ within_64_bits (npdu_octets (given o))
 
 -- The pass went on, and its own list grew by these. It asked for no number.
-pub record Goes (h : Hub) (p : Pass) (E : List Entry) (q : Pass) : Type 0 where
+pub record WorkerGoes (h : Hub) (p : Pass) (E : List Entry) (q : Pass) : Type 0 where
   pub caller : IsCaller h q
   pub number : number_of q ≡ number_of p
   pub sees : StartsWith (seen q) (seen p)
@@ -58,13 +58,13 @@ pub record Goes (h : Hub) (p : Pass) (E : List Entry) (q : Pass) : Type 0 where
   pub draws_none : loads_made q ≡ loads_made p
 
 -- what was the caller's own is so still
-abbrev pub Holds : Pass → Pass → Type 0
-Holds p q = (c : ℕ) (v : Vmac) → IsOwnAs p c v → IsOwnAs q c v
+abbrev pub KeepsOwn : Pass → Pass → Type 0
+KeepsOwn p q = (c : ℕ) (v : Vmac) → IsOwnAs p c v → IsOwnAs q c v
 
 -- a worker that was cut short, but not for want of memory, met a hub that was worn
-abbrev pub WasWorn : Hub → Pass → Cut → Type 0
-WasWorn h q NoMemory = ⊤
-WasWorn h q Short = (about_of h).limits.calls ≤ length (entries (seen q))
+abbrev pub LoadWasWorn : Hub → Pass → Cut → Type 0
+LoadWasWorn h q NoMemory = ⊤
+LoadWasWorn h q Short = (about_of h).limits.calls ≤ length (entries (seen q))
 
 -- a forward that was told a reply went on, and one that was worn was cut short
 abbrev pub goes_on : Result (Told OneReply) Worn → Result ⊤ Cut
@@ -72,22 +72,22 @@ goes_on (Ok t) = Ok tt
 goes_on (Err worn) = Err Short
 
 -- one forward
-abbrev pub Forwards : Hub → ℕ → ℕ → ℕ → Pass → Pass → Result ⊤ Cut → Type 0
-Forwards h i s k p q (Ok u) = (e : Entry) × (e.call ≡ Forward s (frame i k)) × Goes h p (e ∷ []) q × Holds p q
-Forwards h i s k p q (Err cut) = Goes h p [] q × Holds p q × WasWorn h q cut
+abbrev pub LoadForwards : Hub → ℕ → ℕ → ℕ → Pass → Pass → Result ⊤ Cut → Type 0
+LoadForwards h i s k p q (Ok u) = (e : Entry) × (e.call ≡ Forward s (frame i k)) × WorkerGoes h p (e ∷ []) q × KeepsOwn p q
+LoadForwards h i s k p q (Err cut) = WorkerGoes h p [] q × KeepsOwn p q × LoadWasWorn h q cut
 
 -- n forwards
-pub record Ran (h : Hub) (i s n : ℕ) (p q : Pass) : Type 0 where
+pub record RanForwards (h : Hub) (i s n : ℕ) (p q : Pass) : Type 0 where
   pub made : List Entry
   pub calls : calls made ≡ forwards i s n
   pub quiet : joined made ≡ []
-  pub goes : Goes h p made q
-  pub holds : Holds p q
+  pub goes : WorkerGoes h p made q
+  pub holds : KeepsOwn p q
 
 -- all forwards
 abbrev pub RanAll : Hub → ℕ → ℕ → Pass → Pass → Outlet → Result ℕ Cut → Type 0
-RanAll h i s p q o (Ok octets) = Ran h i s 1000 p q × IsCounted o octets
-RanAll h i s p q o (Err cut) = (n : ℕ) × (n < 1000) × Ran h i s n p q × WasWorn h q cut
+RanAll h i s p q o (Ok octets) = RanForwards h i s 1000 p q × IsCounted o octets
+RanAll h i s p q o (Err cut) = (n : ℕ) × (n < 1000) × RanForwards h i s n p q × LoadWasWorn h q cut
 
 -- the sign of a worker that was cut short, but for want of memory, by its entries, which are fewer than so many
 abbrev pub ShowsBy : ℕ → Hub → List Stamped → List Entry → Cut → Type 0
@@ -105,8 +105,8 @@ pub record Unjoined (h : Hub) (who : Identity) (p q : Pass) (cut : Cut) : Type 0
   pub made : List Entry
   pub calls : (calls made ≡ []) ⊎ (calls made ≡ Connect who ∷ [])
   pub quiet : joined made ≡ []
-  pub goes : Goes h p made q
-  pub holds : Holds p q
+  pub goes : WorkerGoes h p made q
+  pub holds : KeepsOwn p q
   pub shows : ShowsBy 1 h (seen q) made cut
 
 -- the frames are the first of what entered the outbox of c, by a history
@@ -122,7 +122,7 @@ pub record RanBoth (h : Hub) (i s : ℕ) (p q : Pass) (octets : ℕ) : Type 0 wh
   pub made : List Entry
   pub calls : calls made ≡ Connect (receiver i) ∷ forwards i s 1000 ++ Leave conn taken empties ∷ []
   pub joined : numbers (joined made) ≡ conn ∷ []
-  pub goes : Goes h p made q
+  pub goes : WorkerGoes h p made q
   pub owns : IsOwnAs q s (sender i).vmac
   pub many : length frames ≡ taken
   pub first : AreFirst (about_of h) (seen q) conn frames
@@ -143,7 +143,7 @@ pub record CutBoth (h : Hub) (i s : ℕ) (p q : Pass) (cut : Cut) : Type 0 where
   pub made : List Entry
   pub calls : calls made ≡ inner_calls i s who more taken empties
   pub joined : numbers (joined made) ≡ who
-  pub goes : Goes h p made q
+  pub goes : WorkerGoes h p made q
   pub owns : IsOwnAs q s (sender i).vmac
   pub shows : ShowsBy 1002 h (seen q) made cut
 
@@ -156,19 +156,19 @@ pub record DidAll (h : Hub) (i : ℕ) (E : List Entry) (S : List Stamped) (octet
   pub conn : ℕ
   pub taken : ℕ
   pub frames : List (List ℕ)
-  pub whole : IsWhole i E conn taken
+  pub whole : IsWholeWorker i E conn taken
   pub many : length frames ≡ taken
   pub first : AreFirst (about_of h) S conn frames
   pub counted : octets ≡ within_64_bits (npdu_octets frames)
 
 -- what a worker did, by its answer
-abbrev pub Did : Hub → ℕ → List Entry → List Stamped → Result ℕ Cut → Type 0
-Did h i E S (Ok octets) = DidAll h i E S octets
-Did h i E S (Err cut) = IsPart i E × ShowsBy 1004 h S E cut
+abbrev pub LoadWorkerDid : Hub → ℕ → List Entry → List Stamped → Result ℕ Cut → Type 0
+LoadWorkerDid h i E S (Ok octets) = DidAll h i E S octets
+LoadWorkerDid h i E S (Err cut) = IsPart i E × ShowsBy 1004 h S E cut
 
 -- a worker's run
-abbrev pub Runs : Hub → ℕ → Pass → Pass → Result ℕ Cut → Type 0
-Runs h i p q result = (made : List Entry) × Goes h p made q × Did h i made (seen q) result
+abbrev pub LoadWorkerRuns : Hub → ℕ → Pass → Pass → Result ℕ Cut → Type 0
+LoadWorkerRuns h i p q result = (made : List Entry) × WorkerGoes h p made q × LoadWorkerDid h i made (seen q) result
 
 -- a job has a pass that made no entry and asked for no number, and in which nobody ended
 pub record IsJob (h : Hub) (j : Job) : Type 0 where
@@ -183,7 +183,7 @@ pub record HasRun (h : Hub) (w : Work) : Type 0 where
   pub caller : IsCaller h w.pass
   pub ended : ended_callers w.pass ≡ []
   pub draws_none : loads_made w.pass ≡ 0
-  pub did : Did h w.index (own_list w.pass) (seen w.pass) w.octets
+  pub did : LoadWorkerDid h w.index (own_list w.pass) (seen w.pass) w.octets
 
 -- a job was run
 abbrev pub RunsJob : Hub → Job → Work → Type 0
@@ -231,7 +231,7 @@ abbrev pub cut_short : List Worker → ℕ
 cut_short workers = count_by (λ w. w.is_cut) workers
 
 -- all passes of workers that have run were joined
-pub record Joins (h : Hub) (ws : List Work) (p q : Pass) (sum : Sum) : Type 0 where
+pub record LoadJoins (h : Hub) (ws : List Work) (p q : Pass) (sum : Sum) : Type 0 where
   pub workers : List Worker
   pub passed : Passed h p (map (λ w. w.caller) workers) None q
   pub loaded : newest_number q ≡ newest_number p
@@ -266,8 +266,8 @@ abbrev pub answer : Result (Told Counts) AlreadyStopped → ℕ → ℕ → Resu
 answer told octets short = if nat_lt 0 short then Err (ShortStop short) else ends_as told octets
 
 -- the hub was stopped, and that was answered
-abbrev pub Answers : Hub → Pass → Pass → ℕ → ℕ → Result LoadEnd LoadStop → Type 0
-Answers h p q octets short result = (told : Result (Told Counts) AlreadyStopped) × Stops h p q told × (result ≡ answer told octets short)
+abbrev pub LoadAnswers : Hub → Pass → Pass → ℕ → ℕ → Result LoadEnd LoadStop → Type 0
+LoadAnswers h p q octets short result = (told : Result (Told Counts) AlreadyStopped) × Stops h p q told × (result ≡ answer told octets short)
 
 -- from the jobs on, a workload ends as its public clause says
 abbrev pub LoadsFrom : Hub → Pass → ℕ → List Job → Pass → Result LoadEnd LoadStop → Type 0
@@ -275,9 +275,9 @@ LoadsFrom h m n js q result = (p : Pass) → Splits h p m n js → Loads h p q n
 
 -- the workers were joined; where memory ran out that was all, and else the hub was stopped, and that was answered, with
 -- those who got no pass among those who were cut short
-pub record Finishes (h : Hub) (ws : List Work) (without : ℕ) (m q : Pass) (result : Result LoadEnd LoadStop) : Type 0 where
+pub record LoadFinishes (h : Hub) (ws : List Work) (without : ℕ) (m q : Pass) (result : Result LoadEnd LoadStop) : Type 0 where
   pub pass : Pass
   pub sum : Sum
-  pub joins : Joins h ws m pass sum
+  pub joins : LoadJoins h ws m pass sum
   pub ends : ((sum.lacks_memory ≡ true) × (q ≡ pass) × (result ≡ Err NoMemoryStop)) ⊎
-      ((sum.lacks_memory ≡ false) × Answers h pass q sum.octets (within_32_bits (sum.short + without)) result)
+      ((sum.lacks_memory ≡ false) × LoadAnswers h pass q sum.octets (within_32_bits (sum.short + without)) result)

@@ -18,7 +18,7 @@ use Rattle.bsc_hub.specs.Passing.{Placed, Went, about_of, found_history}
 use Rattle.bsc_load.specs.declared.ends.LoadEnd.{LoadEnd}
 use Rattle.bsc_load.specs.declared.ends.LoadStop.{LoadStop}
 use Rattle.bsc_load.specs.declared.ends.LoadStop.TheVariants.{NoMemory, Short, Stopped}
-use Rattle.bsc_load.specs.Workers.{IsPart, IsWhole, ShowsShort, octets_taken, within_64_bits}
+use Rattle.bsc_load.specs.Workers.{IsPart, IsWholeWorker, ShowsShort, octets_taken, within_64_bits}
 
 -- A worker that got a pass: its number, its caller as that ended, whether it was cut short, and of a whole one its
 -- receiver's connection and how many frames that took.
@@ -36,7 +36,7 @@ pub record WorksPart (w : Worker) : Type 0 where
 
 -- They are all of a worker's, and it wasn't cut short.
 abbrev pub WorksWhole : Worker → Type 0
-WorksWhole w = (w.is_cut ≡ false) × IsWhole w.index w.caller.own w.receiver w.taken
+WorksWhole w = (w.is_cut ≡ false) × IsWholeWorker w.index w.caller.own w.receiver w.taken
 
 -- Where it was cut short, they show it, by what the pass q has seen.
 abbrev pub ShowsCut : Hub → Pass → Worker → Type 0
@@ -45,7 +45,7 @@ ShowsCut h q w = w.is_cut ≡ true → ShowsShort (about_of h) w.caller.own (len
 -- The callers that a call took in, of n workers: those that got a pass, in order, each with its calls as far as it came.
 -- The call asked for so many numbers, no fewer than these and at most one for each worker, and made this entry with its own
 -- pass, or none.
-pub record Ran (h : Hub) (p q : Pass) (n : ℕ) (workers : List Worker) (made : Option Placed) : Type 0 where
+pub record LoadRan (h : Hub) (p q : Pass) (n : ℕ) (workers : List Worker) (made : Option Placed) : Type 0 where
   pub drew : ℕ
   pub went : Went h p drew (map (λ w. w.caller) workers) made q
   pub numbered : map (λ w. w.index) workers ≡ range_with_len 0 (length workers)
@@ -59,10 +59,10 @@ all_octets h H workers = within_64_bits (sum_by (λ w. octets_taken (about_of h)
 
 -- All workers got a pass and are whole, and the hub was stopped after them: its counts are those of the history before the
 -- stop, and the octets are those that the receivers took.
-pub record HasEnded (h : Hub) (p q : Pass) (n : ℕ) (end : LoadEnd) : Type 0 where
+pub record LoadHasEnded (h : Hub) (p q : Pass) (n : ℕ) (end : LoadEnd) : Type 0 where
   pub workers : List Worker
   pub told : Told Counts
-  pub ran : Ran h p q n workers (stop_made (number_of p) (Ok told))
+  pub ran : LoadRan h p q n workers (stop_made (number_of p) (Ok told))
   pub all : length workers ≡ n
   pub whole : AllByRecursion WorksWhole workers
   pub counts : end.counts ≡ counts (found_history (stop_made (number_of p) (Ok told)) q)
@@ -73,7 +73,7 @@ pub record HasEnded (h : Hub) (p q : Pass) (n : ℕ) (end : LoadEnd) : Type 0 wh
 pub record WasShort (h : Hub) (p q : Pass) (n short : ℕ) : Type 0 where
   pub workers : List Worker
   pub told : Result (Told Counts) AlreadyStopped
-  pub ran : Ran h p q n workers (stop_made (number_of p) told)
+  pub ran : LoadRan h p q n workers (stop_made (number_of p) told)
   pub some : 0 < short
   pub count : short ≡ count_by (λ w. w.is_cut) workers + (n - length workers)
   pub cut : AllByRecursion (ShowsCut h q) workers
@@ -84,14 +84,14 @@ pub record WasShort (h : Hub) (p q : Pass) (n short : ℕ) : Type 0 where
 -- All workers got a pass and are whole, and the hub had been stopped before, by the entry at this place.
 pub record WasStopped (h : Hub) (p q : Pass) (n at : ℕ) : Type 0 where
   pub workers : List Worker
-  pub ran : Ran h p q n workers None
+  pub ran : LoadRan h p q n workers None
   pub all : length workers ≡ n
   pub whole : AllByRecursion WorksWhole workers
   pub place : position stops (entries (seen q)) ≡ Some at
 
 -- What a workload of n workers says, by its answer. Where memory ran out it made no entry of its own.
 abbrev pub Loads : Hub → Pass → Pass → ℕ → Result LoadEnd LoadStop → Type 0
-Loads h p q n (Ok end) = HasEnded h p q n end
-Loads h p q n (Err NoMemory) = (workers : List Worker) × Ran h p q n workers None
+Loads h p q n (Ok end) = LoadHasEnded h p q n end
+Loads h p q n (Err NoMemory) = (workers : List Worker) × LoadRan h p q n workers None
 Loads h p q n (Err (Short short)) = WasShort h p q n short
 Loads h p q n (Err (Stopped at)) = WasStopped h p q n at

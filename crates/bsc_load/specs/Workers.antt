@@ -30,7 +30,7 @@ abbrev pub all_calls : ℕ → ℕ → ℕ → ℕ → ℕ → List Call
 all_calls i s r taken empties = asks i s ++ Leave r taken empties ∷ Leave s 0 0 ∷ []
 
 -- These are the entries of a whole worker i: exactly its calls, of which the two connects joined.
-pub record IsWhole (i : ℕ) (E : List Entry) (r taken : ℕ) : Type 0 where
+pub record IsWholeWorker (i : ℕ) (E : List Entry) (r taken : ℕ) : Type 0 where
   pub sender : ℕ
   pub empties : ℕ
   pub calls : calls E ≡ all_calls i sender r taken empties

@@ -2,7 +2,7 @@
 ghost use Rattle.std.specs.Prelude.{◌≤◌, IfOk};
 ghost use Rattle.std.specs.List.{AllByRecursion};
 ghost use Rattle.bsc_hub.specs.Passing.{IsCaller};
-ghost use Rattle.bsc_load.specs.Inner.{Asks, CountsIn, HasRun, HaveRun, IsJob, Joins, RunsJob, Splits};
+ghost use Rattle.bsc_load.specs.Inner.{Asks, CountsIn, HasRun, HaveRun, IsJob, LoadJoins, RunsJob, Splits};
 
 use crate::bounds::WORKERS;
 use crate::jobs::{Cut, Job, Sum, Work};
@@ -84,7 +84,7 @@ fn count_in(sum: Sum, octets: Result<u64, Cut>) -> Sum
 pub(crate) fn join_all(hub: &Hub, pass: &mut Pass, works: Vec<Work>) -> Sum
     requires caller { IsCaller hub.now pass.old }
     requires works { AllByRecursion (HasRun hub.now) works.items }
-    ensures { Joins hub.now works.items pass.old pass.new result }
+    ensures { LoadJoins hub.now works.items pass.old pass.new result }
 {
     let mut sum = Sum {
         octets: 0,

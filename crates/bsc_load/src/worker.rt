@@ -2,7 +2,7 @@
 ghost use Rattle.std.specs.Prelude.{◌≡◌, ◌<◌};
 ghost use Rattle.bsc_ring.specs.Ends.{IsNewOutlet, outlet_mark};
 ghost use Rattle.bsc_hub.specs.Passing.{IsCaller, IsOwnAs};
-ghost use Rattle.bsc_load.specs.Inner.{AfterBoth, Forwards, IsJob, RanAll, Runs, RunsJob, cut_of, goes_on};
+ghost use Rattle.bsc_load.specs.Inner.{AfterBoth, IsJob, LoadForwards, LoadWorkerRuns, RanAll, RunsJob, cut_of, goes_on};
 ghost use Rattle.bsc_load.specs.Peers.{sender};
 
 use crate::bounds::WORKERS;
@@ -43,7 +43,7 @@ fn forward<R: Wait>(
     requires caller { IsCaller hub.now pass.old }
     requires own { IsOwnAs pass.old conn (sender i).vmac }
     requires index { i < WORKERS }
-    ensures { Forwards hub.now i conn k pass.old pass.new result }
+    ensures { LoadForwards hub.now i conn k pass.old pass.new result }
 {
     let Ok(message) = frame(alloc, i, k) else {
         return Err(Cut::NoMemory);
@@ -121,7 +121,7 @@ fn run_both<R: Wait>(
 fn run<R: Wait>(rt: &R, alloc: Global, hub: &Hub, pass: &mut Pass, i: u16) -> Result<u64, Cut>
     requires caller { IsCaller hub.now pass.old }
     requires index { i < WORKERS }
-    ensures { Runs hub.now i pass.old pass.new result }
+    ensures { LoadWorkerRuns hub.now i pass.old pass.new result }
 {
     match hub.connect(rt, alloc, pass, sender(i)) {
         Err(refusal) => Err(cut_of(refusal)),

@@ -2,7 +2,7 @@
 ghost use Rattle.std.specs.Prelude.{◌≡◌, ◌≤◌, length};
 ghost use Rattle.std.specs.List.{AllByRecursion};
 ghost use Rattle.bsc_hub.specs.Passing.{IsCaller};
-ghost use Rattle.bsc_load.specs.Inner.{Answers, Finishes, HasRun, IsJob, LoadsFrom, Stops, answer};
+ghost use Rattle.bsc_load.specs.Inner.{HasRun, IsJob, LoadAnswers, LoadFinishes, LoadsFrom, Stops, answer};
 ghost use Rattle.bsc_load.specs.Load.{Loads};
 
 use crate::bounds::WORKERS;
@@ -53,7 +53,7 @@ fn end_of<R: Wait>(
     short: u32,
 ) -> Result<LoadEnd, LoadStop>
     requires { IsCaller hub.now pass.old }
-    ensures { Answers hub.now pass.old pass.new octets short result }
+    ensures { LoadAnswers hub.now pass.old pass.new octets short result }
 {
     let told = stop(rt, hub, pass);
     answer(told, octets, short)
@@ -69,7 +69,7 @@ fn finish<R: Wait>(
 ) -> Result<LoadEnd, LoadStop>
     requires caller { IsCaller hub.now pass.old }
     requires works { AllByRecursion (HasRun hub.now) works.items }
-    ensures { Finishes hub.now works.items without pass.old pass.new result }
+    ensures { LoadFinishes hub.now works.items without pass.old pass.new result }
 {
     let sum = join_all(hub, pass, works);
     if sum.lacks_memory {

@@ -1,17 +1,10 @@
 -- What the command writes.
 use Rattle.std.specs.Prelude.{◌≡◌, ℕ, ◌⊎◌, List, ◌++◌, codes, decimal, Option, Result, Ok, Err}
-use Rattle.bsc_history.specs.declared.counts.Counts.{Counts}
 use Rattle.bsc_load.specs.declared.ends.LoadEnd.{LoadEnd}
 use Rattle.bsc_load.specs.declared.ends.LoadStop.{LoadStop}
 use Rattle.bsc_load.specs.declared.ends.LoadStop.TheVariants.{NoMemory, Short, Stopped}
 use Rattle.bsc_player.specs.LastLines.{EndsWith, RanOut}
-use Rattle.bsc_script.specs.Running.{hub_says}
-use Rattle.bsc_lines.specs.Replies.{counts_words}
-use Rattle.bsc_script.specs.Written.{line_text}
-
--- the line of the counts, as a script writes it
-abbrev pub counts_text : Counts → List ℕ
-counts_text c = line_text (hub_says (counts_words c))
+use Rattle.bsc_script.specs.Running.{counts_text}
 
 -- the line of the octets that all workers took
 abbrev pub octets_text : ℕ → List ℕ

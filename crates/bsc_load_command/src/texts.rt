@@ -1,21 +1,11 @@
 //! What the command writes.
 ghost use Rattle.std.specs.Prelude.{◌≡◌, ◌++◌, IfOk};
-ghost use Rattle.bsc_load_command.specs.Lines.{counts_text, load_text, octets_text};
+ghost use Rattle.bsc_load_command.specs.Lines.{load_text, octets_text};
 
-use bsc_history::Counts;
 use bsc_load::LoadEnd;
 use bsc_octets::NoMemory;
-use bsc_script::counts_line;
+use bsc_script::put_counts;
 use std::alloc::Global;
-
-/// Puts the line of the counts.
-fn put_counts(text: &mut Vec<u8>, alloc: Global, counts: &Counts) -> Result<(), NoMemory>
-    ensures { IfOk result (λ _. text.new.items ≡ text.old.items ++ counts_text counts.now) }
-{
-    let line = counts_line(alloc, counts)?;
-    text.extend_from_slice(line.as_slice())?;
-    Ok(())
-}
 
 /// Puts the line of the octets.
 fn put_octets(text: &mut Vec<u8>, alloc: Global, octets: u64) -> Result<(), NoMemory>
@@ -31,7 +21,7 @@ pub(crate) fn load_text(alloc: Global, end: &LoadEnd) -> Result<Vec<u8>, NoMemor
     ensures { IfOk result (λ t. t.items ≡ load_text end.now) }
 {
     let mut text = Vec::new(alloc);
-    put_counts(&mut text, alloc, &end.counts)?;
+    put_counts(&mut text, &end.counts)?;
     put_octets(&mut text, alloc, end.octets)?;
     Ok(text)
 }

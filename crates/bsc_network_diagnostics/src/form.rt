@@ -4,7 +4,7 @@ ghost use Rattle.std.specs.Prelude.{◌≡◌, None, IfSome};
 ghost use Rattle.bsc_network_script.specs.Lines.{line_of};
 
 use bsc_diagnostics::{
-    Diagnostic, hold_any_maximum, hold_device, hold_number, hold_octets, hold_vmac, hold_within,
+    Diagnostic, hold_device, hold_identity, hold_octets, hold_time, hold_vmac, hold_within,
     no_more, only_word, word_of,
 };
 use bsc_network_script::read_line;
@@ -38,10 +38,7 @@ fn hold_hub<'a>(words: &'a [u8]) -> Result<(), Diagnostic<'a>> {
     let (bvlc, words) = word_of(words, HUB)?;
     let (npdu, words) = word_of(words, HUB)?;
     no_more(words, HUB)?;
-    hold_vmac(address)?;
-    hold_device(uuid)?;
-    hold_any_maximum(bvlc)?;
-    hold_any_maximum(npdu)
+    hold_identity(address, uuid, bvlc, npdu)
 }
 
 /// A node line, by the words after `node`.
@@ -139,7 +136,7 @@ fn hold_line<'a>(line: &'a [u8]) -> Result<(), Diagnostic<'a>> {
         return hold_node(words);
     }
     if first == b"at".as_slice() {
-        return hold_number(only_word(words, "at MS")?);
+        return hold_time(words);
     }
     hold_event(first, words)
 }

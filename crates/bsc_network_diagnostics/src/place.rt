@@ -1,7 +1,7 @@
 //! Which rule a line of a network's script breaks by where it stands.
 use crate::form::{HUB, NO_LINE, NODE, SEND};
 use bsc_diagnostics::{
-    Diagnostic, hold_destination, hold_lengths, hold_one_node, next_line, why_time, word_of,
+    Diagnostic, hold_destination, hold_hub_identity, hold_one_node, next_line, why_time, word_of,
 };
 use bsc_network::{NODES, WorldStep};
 use bsc_network_script::{Line, read_line};
@@ -106,8 +106,7 @@ fn why_hub<'a>(stands: Stands, words: &'a [u8]) -> Result<(), Diagnostic<'a>> {
     let (_, words) = word_of(words, HUB)?;
     let (bvlc, words) = word_of(words, HUB)?;
     let (npdu, _) = word_of(words, HUB)?;
-    hold_one_node(address)?;
-    hold_lengths(bvlc, npdu)
+    hold_hub_identity(address, bvlc, npdu)
 }
 
 /// The rule that a node breaks by where it stands, by the words after `node`.

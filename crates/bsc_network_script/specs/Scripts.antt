@@ -8,7 +8,7 @@ use Rattle.bsc_history.specs.declared.limits.Limits.{Limits}
 use Rattle.bsc_history.specs.declared.limits.TheConstants.{MOST_CALLERS, MOST_CALLS}
 use Rattle.bsc_node.specs.declared.node_event.NodeEvent.{NodeEvent}
 use Rattle.bsc_node.specs.declared.node_event.NodeEvent.TheVariants.{Send}
-use Rattle.bsc_player.specs.Playing.{Played, Outcome, Meaning, played_of}
+use Rattle.bsc_player.specs.Playing.{Played, LineOutcome, Meaning, played_of}
 use Rattle.bsc_script.specs.Running.{latest}
 use Rattle.bsc_network.specs.declared.limits.TheConstants.{NODES, STEPS}
 use Rattle.bsc_network.specs.declared.world_step.WorldStep.{WorldStep}
@@ -36,11 +36,11 @@ abbrev pub nothing_yet : State
 nothing_yet = record { added = []; clock = 0; steps = [] }
 
 -- a line after which this stands, and for which nothing is written
-abbrev pub quietly : State → Outcome State
+abbrev pub quietly : State → LineOutcome State
 quietly s = record { state = s; text = [] }
 
 -- what a line comes to that may stand here, and is refused where it may not
-abbrev pub where_may : Bool → Outcome State → Option (Outcome State)
+abbrev pub where_may : Bool → LineOutcome State → Option (LineOutcome State)
 where_may may out = if may then Some out else None
 
 -- ---- hubs and nodes
@@ -65,12 +65,12 @@ may_add_hub made hub_count who = nat_eq made 0 && nat_lt hub_count 2 && may_be_h
 abbrev pub may_add_node : ℕ → ℕ → ℕ → Identity → Bool
 may_add_node made hub_count node_count own = nat_eq made 0 && nat_le 1 hub_count && nat_lt node_count NODES && names_one own.vmac
 
-abbrev pub adds_hub : State → Identity → Option (Outcome State)
+abbrev pub adds_hub : State → Identity → Option (LineOutcome State)
 adds_hub s who =
     where_may (may_add_hub (length s.steps) (length (hubs s.added)) who)
     (quietly (record s { added = and_hub s.added who hub_limits }))
 
-abbrev pub adds_node : State → Identity → Bool → Option (Outcome State)
+abbrev pub adds_node : State → Identity → Bool → Option (LineOutcome State)
 adds_node s own direct =
     where_may (may_add_node (length s.steps) (length (hubs s.added)) (length (nodes s.added)) own)
     (quietly (record s { added = and_node s.added own direct }))
@@ -81,7 +81,7 @@ adds_node s own direct =
 abbrev pub may_set : ℕ → ℕ → ℕ → Bool
 may_set hub_count clock ms = nat_le 1 hub_count && nat_le clock ms && nat_le ms latest
 
-abbrev pub sets : State → ℕ → Option (Outcome State)
+abbrev pub sets : State → ℕ → Option (LineOutcome State)
 sets s ms = where_may (may_set (length (hubs s.added)) s.clock ms) (quietly (record s { clock = ms }))
 
 -- ---- steps
@@ -108,18 +108,18 @@ abbrev pub at_clock : State → WorldStep → TimedStep
 at_clock s step = record { now = s.clock; step = step }
 
 -- A step is made in the network that stands, unless that refuses it: the links that it dials and what it delivers are written.
-abbrev pub makes_in : World → State → TimedStep → Option (Outcome State)
+abbrev pub makes_in : World → State → TimedStep → Option (LineOutcome State)
 makes_in w s t =
     where_may (may_try (length s.steps) t.step && not (is_some (refusal w t.step)))
     (record { state = record s { steps = s.steps ++ t ∷ [] }; text = step_text (dialled_at w t) (delivered_at w t) })
 
-abbrev pub makes : State → WorldStep → Option (Outcome State)
+abbrev pub makes : State → WorldStep → Option (LineOutcome State)
 makes s step = makes_in (world s.added s.steps) s (at_clock s step)
 
 -- ---- lines
 
 -- What a line does; None where it is refused.
-abbrev pub line_after : State → Line → Option (Outcome State)
+abbrev pub line_after : State → Line → Option (LineOutcome State)
 line_after s Nothing = Some (quietly s)
 line_after s (Hub who) = adds_hub s who
 line_after s (Node own direct) = adds_node s own direct
@@ -127,7 +127,7 @@ line_after s (At ms) = sets s ms
 line_after s (Step step) = makes s step
 
 -- what the octets of a line do: those that have no form of a line are refused
-abbrev pub said_after : State → Option Line → Option (Outcome State)
+abbrev pub said_after : State → Option Line → Option (LineOutcome State)
 said_after s None = None
 said_after s (Some line) = line_after s line
 

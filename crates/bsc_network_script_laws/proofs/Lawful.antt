@@ -10,7 +10,7 @@ use Rattle.bsc_text.specs.Lines.{pieces_of, line_in}
 use Rattle.bsc_frame.specs.Payloads.{IsNode}
 use Rattle.bsc_history.proofs.Uniqueness.{vmac_refl}
 use Rattle.bsc_node.specs.declared.node_event.NodeEvent.TheVariants.{Send}
-use Rattle.bsc_player.specs.Playing.{Outcome, piece_after}
+use Rattle.bsc_player.specs.Playing.{LineOutcome, piece_after}
 use Rattle.bsc_script.specs.Hubs.{IsHub}
 use Rattle.bsc_script.specs.Running.{latest}
 use Rattle.bsc_network.specs.declared.limits.TheConstants.{NODES}
@@ -126,27 +126,27 @@ lawful_step s step h whole e =
 
 -- ---- lines
 
-lawful_line : (s : State) (line : Line) (out : Outcome State) → IsLawful s → IsSaid line → line_after s line ≡ Some out → IsLawful out.state
-lawful_line s Nothing out h said e = (let is : quietly s ≡ out = cc in subst (λ (x : Outcome State). IsLawful x.state) is h)
+lawful_line : (s : State) (line : Line) (out : LineOutcome State) → IsLawful s → IsSaid line → line_after s line ≡ Some out → IsLawful out.state
+lawful_line s Nothing out h said e = (let is : quietly s ≡ out = cc in subst (λ (x : LineOutcome State). IsLawful x.state) is h)
 lawful_line s (Hub who) out h said e =
     let w = where_some (may_add_hub (length s.steps) (length (hubs s.added)) who) (quietly (record s { added = and_hub s.added who hub_limits })) out e in
-    subst (λ (x : Outcome State). IsLawful x.state) w.1 (lawful_added s (hub (record { hub = who; limits = hub_limits })) h (hub_may s who said w.0))
+    subst (λ (x : LineOutcome State). IsLawful x.state) w.1 (lawful_added s (hub (record { hub = who; limits = hub_limits })) h (hub_may s who said w.0))
 lawful_line s (Node own direct) out h said e =
     let w = where_some (may_add_node (length s.steps) (length (hubs s.added)) (length (nodes s.added)) own) (quietly (record s { added = and_node s.added own direct })) out e in
-    subst (λ (x : Outcome State). IsLawful x.state) w.1 (lawful_added s (node own direct) h (node_may s own direct said w.0))
+    subst (λ (x : LineOutcome State). IsLawful x.state) w.1 (lawful_added s (node own direct) h (node_may s own direct said w.0))
 lawful_line s (At ms) out h said e =
     let w = where_some (may_set (length (hubs s.added)) s.clock ms) (quietly (record s { clock = ms })) out e in
-    subst (λ (x : Outcome State). IsLawful x.state) w.1 (lawful_set s ms h w.0)
+    subst (λ (x : LineOutcome State). IsLawful x.state) w.1 (lawful_set s ms h w.0)
 lawful_line s (Step step) out h said e =
     let w : World = world s.added s.steps in
     let t : TimedStep = at_clock s step in
-    let made : Outcome State = record { state = record s { steps = s.steps ++ t ∷ [] }; text = step_text (dialled_at w t) (delivered_at w t) } in
+    let made : LineOutcome State = record { state = record s { steps = s.steps ++ t ∷ [] }; text = step_text (dialled_at w t) (delivered_at w t) } in
     let is = where_some (may_try (length s.steps) step && not (is_some (refusal w step))) made out e in
     let p = and_parts (may_try (length s.steps) step) (not (is_some (refusal w step))) is.0 in
     let q = and_parts (nat_lt (length s.steps) most_steps) (has_content step) p.0 in
-    subst (λ (x : Outcome State). IsLawful x.state) is.1 (lawful_step s step h said q.1)
+    subst (λ (x : LineOutcome State). IsLawful x.state) is.1 (lawful_step s step h said q.1)
 
-lawful_said : (s : State) (said : Option Line) (out : Outcome State) → IsLawful s → IfSome said IsSaid → said_after s said ≡ Some out → IsLawful out.state
+lawful_said : (s : State) (said : Option Line) (out : LineOutcome State) → IsLawful s → IfSome said IsSaid → said_after s said ≡ Some out → IsLawful out.state
 lawful_said s None out h said e = cc
 lawful_said s (Some line) out h said e = lawful_line s line out h said e
 
@@ -154,7 +154,7 @@ lawful_after : (pieces : List (List ℕ)) (s : State) (before : ℕ) → IsLawfu
 lawful_after [] s before h = h
 lawful_after (piece ∷ pieces) s before h = by (λ u b. lawful_after pieces u b) (piece_after simulation s before piece) refl
   where
-    by : ((u : State) (b : ℕ) → IsLawful u → IsLawful (state_after u b pieces)) → (a : Option (Outcome State)) → piece_after simulation s before piece ≡ a → IsLawful (state_after s before (piece ∷ pieces))
+    by : ((u : State) (b : ℕ) → IsLawful u → IsLawful (state_after u b pieces)) → (a : Option (LineOutcome State)) → piece_after simulation s before piece ≡ a → IsLawful (state_after s before (piece ∷ pieces))
     by next None is = subst IsLawful (sym (state_after-none s before piece pieces is)) h
     by next (Some out) is =
         subst IsLawful (sym (state_after-more s before piece pieces out is))

@@ -1,10 +1,10 @@
 -- To which port an acceptor is bound.
 use Rattle.std.proofs.Common.{ℕ, Option, Some, None, ◌∙◌}
-use Rattle.bsc_edge.specs.Told.{Stays, Tells}
+use Rattle.bsc_edge.specs.Told.{Stays, ToldIs}
 use Rattle.bsc_node_run.proofs.Told.{stays_then}
 use Rattle.bsc_node_command.specs.Comes.{IsBoundBy}
 
-told_still : (p p' : Option (Option ℕ)) (port : Option ℕ) → Tells p port → Stays p p' → Tells p' port
+told_still : (p p' : Option (Option ℕ)) (port : Option ℕ) → ToldIs p port → Stays p p' → ToldIs p' port
 told_still p None port t s = tt
 told_still None (Some x) port t s = absurd s
 told_still (Some y) (Some x) port t s = s ∙ t

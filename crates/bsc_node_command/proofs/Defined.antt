@@ -9,7 +9,7 @@ use Rattle.bsc_node.specs.declared.action.Action.{Action}
 use Rattle.bsc_node.specs.Logs.{Made, Log}
 use Rattle.bsc_node.specs.Node.{goes_on, actions_at}
 use Rattle.bsc_node.specs.Conditions.{may_come}
-use Rattle.bsc_node_core.specs.Node.{StandsFor}
+use Rattle.bsc_node_core.specs.Node.{NodeStands}
 use Rattle.bsc_node_run.specs.declared.due.Due.{Due}
 use Rattle.bsc_node_run.specs.declared.halt.Halt.{Halt}
 use Rattle.bsc_node_run.specs.declared.run_end.RunEnd.{RunEnd}
@@ -35,9 +35,9 @@ use Rattle.bsc_node_command.specs.declared.running_node.RunningNode.{RunningNode
 use Rattle.bsc_node_command.specs.Comes.{AnswersAt, made_by}
 
 -- A node that answers what its definition asks for stands for the log as it goes on, whichever words it draws.
-drawing_steps : {W : Type 0} (gives : W → Option ℕ → W → Type 0) (faults : W → ℕ) (a : Made) (n m : Drawing RunningNode W) (L : Log) (now : ℕ) (e : NodeEvent) (actions : List Action) → StandsFor n.node.node a L
+drawing_steps : {W : Type 0} (gives : W → Option ℕ → W → Type 0) (faults : W → ℕ) (a : Made) (n m : Drawing RunningNode W) (L : Log) (now : ℕ) (e : NodeEvent) (actions : List Action) → NodeStands n.node.node a L
     → IsTrue (may_come L (record { now = now; event = e })) → GoesDrawing AnswersAt gives faults n now e actions m
-    → (actions ≡ actions_at a L (record { now = now; event = e })) × StandsFor m.node.node a (L ++ goes_on a (record { now = now; event = e }) L)
+    → (actions ≡ actions_at a L (record { now = now; event = e })) × NodeStands m.node.node a (L ++ goes_on a (record { now = now; event = e }) L)
 drawing_steps gives faults a n m L now e actions stands may goes = goes.0 a L stands may
 
 -- and so does a log
@@ -63,11 +63,11 @@ module _ {L W : Type 0} (talk : L → Option (List Said)) (gives : W → Option 
   -- A run of a node that was made so is a run of the definition, with the same words.
   pub by_definition : (v : NodeSettings) (script : List ℕ) (lines : List Due) (first last : RunningNode) (u u' : W) (end : Result RunEnd Halt)
       (c c' : Dialling L) (l l' : Admitting L) (t t' : Option (List ℕ)) (b b' : Option (List ℕ))
-      → script_of script ≡ Ok (map wish_of lines) → StandsFor first.node (made_by v) []
+      → script_of script ≡ Ok (map wish_of lines) → NodeStands first.node (made_by v) []
       → IfOk end (λ e. Run (GoesDrawing AnswersAt gives failed) talk (is_some v.direct_port) e v.turns lines (run_moment (at_rest first u) c b l t) (run_moment (at_rest last u') c' b' l' t'))
       → (M : Log) × IfOk end (λ e. Run (GoesDrawing (GoesAsDefined (made_by v)) gives failed) talk (is_some v.direct_port) e v.turns lines (run_moment (at_rest [] u) c b l t) (run_moment (at_rest M u') c' b' l' t'))
   by_definition v script lines first last u u' (Ok end) c c' l l' t t' b b' reads made run =
-      let two = lifted (GoesDrawing AnswersAt gives failed) (made_by v) (λ n (M : Log). StandsFor n.node.node (made_by v) M) (drawing_steps gives failed (made_by v))
+      let two = lifted (GoesDrawing AnswersAt gives failed) (made_by v) (λ n (M : Log). NodeStands n.node.node (made_by v) M) (drawing_steps gives failed (made_by v))
       talk (is_some v.direct_port) end v.turns lines (asked_of script lines reads) (at_rest first u) (at_rest last u') c c' b b' l l' t t' made run in (
         two.0,
         run_map (Both (GoesDrawing AnswersAt gives failed) (made_by v)) (GoesDrawing (GoesAsDefined (made_by v)) gives failed) log_beside
@@ -79,14 +79,14 @@ module _ {L W : Type 0} (talk : L → Option (List Said)) (gives : W → Option 
   -- One that a fault ended is such a run up to there.
   pub fails_by_definition : (v : NodeSettings) (script : List ℕ) (lines : List Due) (first : RunningNode) (u : W) (end : Result RunEnd Halt)
       (c c' : Dialling L) (l l' : Admitting L) (t t' : Option (List ℕ)) (b b' : Option (List ℕ))
-      → script_of script ≡ Ok (map wish_of lines) → StandsFor first.node (made_by v) []
+      → script_of script ≡ Ok (map wish_of lines) → NodeStands first.node (made_by v) []
       → OnErr end (RunFails (GoesDrawing AnswersAt gives failed) talk (is_some v.direct_port) v.turns lines (run_moment (at_rest first u) c b l t) (outside c' b' l' t'))
       → IfErr end (λ halt. RunFails (GoesDrawing (GoesAsDefined (made_by v)) gives failed) talk (is_some v.direct_port) v.turns lines (run_moment (at_rest [] u) c b l t) (outside c' b' l' t'))
   fails_by_definition v script lines first u (Ok end) c c' l l' t t' b b' reads made run = tt
   fails_by_definition v script lines first u (Err halt) c c' l l' t t' b b' reads made run =
       fails_map (Both (GoesDrawing AnswersAt gives failed) (made_by v)) (GoesDrawing (GoesAsDefined (made_by v)) gives failed) log_beside
       (log_draws AnswersAt gives failed (made_by v)) talk (is_some v.direct_port) v.turns lines (beside (at_rest first u) []) c c' b b' l l' t t'
-      (fails_lifted (GoesDrawing AnswersAt gives failed) (made_by v) (λ n (M : Log). StandsFor n.node.node (made_by v) M) (drawing_steps gives failed (made_by v))
+      (fails_lifted (GoesDrawing AnswersAt gives failed) (made_by v) (λ n (M : Log). NodeStands n.node.node (made_by v) M) (drawing_steps gives failed (made_by v))
       talk (is_some v.direct_port) v.turns lines (asked_of script lines reads) (at_rest first u) c c' b b' l l' t t' made run)
 
   -- whatever words it draws

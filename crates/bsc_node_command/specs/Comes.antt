@@ -2,7 +2,7 @@
 use Rattle.std.specs.Prelude.{◌≡◌, ℕ, ◌⊎◌, List, [], map, Option, Some, None, is_some, Result, Ok, Err, IfErr, IfOk}
 use Rattle.bsc_outside.specs.Faults.{HasRisen}
 use Rattle.bsc_edge.specs.declared.said.Said.{Said}
-use Rattle.bsc_edge.specs.Told.{Grows, Stays, Tells}
+use Rattle.bsc_edge.specs.Told.{Grows, Stays, ToldIs}
 use Rattle.bsc_player.specs.LastLines.{EndsWith, RanOut, script_line}
 use Rattle.bsc_settings.specs.declared.node.NodeSettings.{NodeSettings}
 use Rattle.bsc_settings.specs.Parts.{node_identity_of, node_times_of}
@@ -25,7 +25,7 @@ use Rattle.bsc_node_runs.specs.Alone.{NoLinkCame, alone}
 use Rattle.bsc_node_runs.specs.Courses.{GoesAsDefined}
 use Rattle.bsc_node_runs.specs.Said.{EndsAsTold, IsSaid}
 use Rattle.bsc_node_command.specs.declared.running_node.RunningNode.{RunningNode}
-use Rattle.bsc_node_command.specs.Lines.{Says, SaysEnd, link_line}
+use Rattle.bsc_node_command.specs.Lines.{NodeSays, SaysEnd, link_line}
 use Rattle.bsc_node_command.specs.Settled.{IsSettled, Unread, Unsettled}
 
 -- what a node of these settings is made with
@@ -48,7 +48,7 @@ AnswersAt old now e actions new = NodeAnswers old.node new.node (record { now = 
 
 -- The acceptor is bound to this port; where there is none, it is bound as before.
 abbrev pub IsBoundBy : Option ℕ → Option (Option ℕ) → Option (Option ℕ) → Type 0
-IsBoundBy (Some port) p p' = Tells p' (Some port)
+IsBoundBy (Some port) p p' = ToldIs p' (Some port)
 IsBoundBy None p p' = Stays p p'
 
 -- What there is outside a node that is run, at a moment, each as far as it is told: the dialer; the acceptor, with the port that
@@ -78,7 +78,7 @@ module _ {L W : Type 0} where
   -- bound, and the acceptor's count of faults rose; or memory ran out, before the port was bound or after.
   abbrev pub NotRun : NodeSettings → List ℕ → NodeWorld L W → NodeWorld L W → ℕ → Type 0
   NotRun v script before after s =
-      ((n : ℕ) × (script_of script ≡ Err n) × Stays before.port after.port × Says s 2 before.written after.written (script_line n))
+      ((n : ℕ) × (script_of script ≡ Err n) × Stays before.port after.port × NodeSays s 2 before.written after.written (script_line n))
       ⊎ ((lines : List Due) × (script_of script ≡ Ok (map wish_of lines)) × HasRisen before.faults after.faults
       × EndsWith s 6 before.written after.written link_line)
       ⊎ ((Stays before.port after.port ⊎ IsBoundBy v.direct_port before.port after.port) × RanOut s before.written after.written)

@@ -19,8 +19,8 @@ settings_line name = codes "fault settings " ++ name ++ codes "\n"
 
 -- A text was written, and the status is the one that is wanted; or its write failed, and the status is 4; or there was no
 -- memory for it.
-abbrev pub Says : ℕ → ℕ → Option (List ℕ) → Option (List ℕ) → List ℕ → Type 0
-Says s wanted before after text = EndsWith s wanted before after text ⊎ RanOut s before after
+abbrev pub NodeSays : ℕ → ℕ → Option (List ℕ) → Option (List ℕ) → List ℕ → Type 0
+NodeSays s wanted before after text = EndsWith s wanted before after text ⊎ RanOut s before after
 
 -- What is written of the end of a run, and its status.
 abbrev pub SaysEnd : Result RunEnd Halt → ℕ → Option (List ℕ) → Option (List ℕ) → Type 0

@@ -10,7 +10,7 @@ use Rattle.bsc_settings.specs.Documents.{IsDocument}
 use Rattle.bsc_settings.specs.Faults.{fault_of}
 use Rattle.bsc_settings.specs.Fields.{IsSaidBy}
 use Rattle.bsc_settings.specs.Names.{name_of}
-use Rattle.bsc_node_command.specs.Lines.{Says, settings_line}
+use Rattle.bsc_node_command.specs.Lines.{NodeSays, settings_line}
 
 -- The file has these octets, as far as that is told, and they are settings with these of a node.
 pub record IsSettled (holds : List ℕ → Type 0) (v : NodeSettings) : Type 0 where
@@ -23,8 +23,8 @@ pub record IsSettled (holds : List ℕ → Type 0) (v : NodeSettings) : Type 0 w
   pub node : settings.node ≡ Some v
 
 -- The octets are refused under this name: they are no document; or this key is the first at fault; or they have no node.
-abbrev pub IsRefused : List ℕ → List ℕ → Type 0
-IsRefused text name =
+abbrev pub IsRefusedAsNode : List ℕ → List ℕ → Type 0
+IsRefusedAsNode text name =
     ((name ≡ codes "-") × ((doc : Members) → IsDocument text doc → ⊥))
     ⊎ ((key : KeyName) × (doc : Members) × (name ≡ name_of key) × IsDocument text doc × (fault_of doc ≡ Some key))
     ⊎ ((settings : Settings) × (doc : Members) × (name ≡ codes "node") × IsDocument text doc × IsSaidBy doc settings × (settings.node ≡ None))
@@ -37,4 +37,4 @@ Unread f f' s before after = (HasRisen f f' × EndsWith s 3 before after read_li
 abbrev pub Unsettled : (List ℕ → Type 0) → ℕ → ℕ → ℕ → Option (List ℕ) → Option (List ℕ) → Type 0
 Unsettled holds f f' s before after =
     Unread f f' s before after
-    ⊎ ((text : List ℕ) × (name : List ℕ) × holds text × IsRefused text name × Says s 5 before after (settings_line name))
+    ⊎ ((text : List ℕ) × (name : List ℕ) × holds text × IsRefusedAsNode text name × NodeSays s 5 before after (settings_line name))

@@ -5,15 +5,16 @@ ghost use Rattle.bsc_node_run.specs.declared.due.Due.{Due};
 ghost use Rattle.bsc_node_run.specs.Scripts.{script_of, wish_of};
 ghost use Rattle.bsc_node_run.specs.Worlds.{admitting, dialling};
 ghost use Rattle.bsc_node_runs.specs.Courses.{FinishCame};
-ghost use Rattle.bsc_node_command.specs.Lines.{Says, settings_line};
+ghost use Rattle.bsc_node_command.specs.Lines.{NodeSays, settings_line};
 ghost use Rattle.bsc_node_command.specs.Settled.{IsSettled, Unread, Unsettled};
 ghost use Rattle.bsc_node_command.specs.Comes.{Comes, RunsScript, RunsFiles};
 
+use crate::here::Here;
 use crate::playing::run_node;
 use crate::texts::settings_text;
 use crate::words::NodeWords;
 use bsc_edge::{Acceptor, Clock, Dialer, FileFault, Files, Link, Waiter};
-use bsc_node_run::Words;
+use bsc_node_run::{NodeParts, Words};
 use bsc_octets::Octets;
 use bsc_outside::Sink;
 use bsc_player::{end_with, out_of_memory};
@@ -22,7 +23,7 @@ use std::alloc::Global;
 
 /// Ends a run whose settings are refused.
 fn refuse<K: Sink>(alloc: Global, sink: &mut K, name: &str) -> u8
-    ensures says { Says result 5 (K.held sink.old) (K.held sink.new) (settings_line name.now) }
+    ensures says { NodeSays result 5 (K.held sink.old) (K.held sink.new) (settings_line name.now) }
     ensures failed { (result ≡ 5) ⊎ (result ≡ 7)
         ⊎ ((result ≡ 4) × HasRisen (K.faults sink.old) (K.faults sink.new)) }
     ensures later { K.faults sink.old ≤ K.faults sink.new }
@@ -106,41 +107,38 @@ fn run_script<
     A: Acceptor<L>,
     D: Dialer<L>,
 >(
-    alloc: Global,
-    settings: &NodeSettings,
+    here: Here<'_>,
     path: &str,
     sink: &mut K,
     files: &mut F,
     clock: &mut C,
-    waiter: &mut V,
-    random: &mut W,
     acceptor: &mut A,
-    dialer: &mut D,
+    parts: &mut NodeParts<V, W, D>,
 ) -> u8
-    ensures runs { RunsScript L.talk W.gives W.faults settings.now (F.holds files.old path.now)
+    ensures runs { RunsScript L.talk W.gives W.faults here.entry.settings.now (F.holds files.old path.now)
         (record {
           unread = F.faults files.old;
           beside = record {
-            dialled = dialling D.calls D.left D.faults dialer.old;
+            dialled = dialling D.calls D.left D.faults parts.old.dialer;
             door = admitting A.left A.waits acceptor.old;
             port = A.bound acceptor.old;
             faults = A.faults acceptor.old;
             readings = C.readings clock.old;
-            waited = V.waits waiter.old;
-            random = random.old;
+            waited = V.waits parts.old.waiter;
+            random = parts.old.random;
             written = K.held sink.old;
           };
         })
         (record {
           unread = F.faults files.new;
           beside = record {
-            dialled = dialling D.calls D.left D.faults dialer.new;
+            dialled = dialling D.calls D.left D.faults parts.new.dialer;
             door = admitting A.left A.waits acceptor.new;
             port = A.bound acceptor.new;
             faults = A.faults acceptor.new;
             readings = C.readings clock.new;
-            waited = V.waits waiter.new;
-            random = random.new;
+            waited = V.waits parts.new.waiter;
+            random = parts.new.random;
             written = K.held sink.new;
           };
         }) result }
@@ -150,17 +148,15 @@ fn run_script<
     ensures statuses { (result ≡ 0) ⊎ (result ≡ 2) ⊎ (result ≡ 3) ⊎ (result ≡ 4) ⊎ (result ≡ 6) ⊎ (result ≡ 7) ⊎ (result ≡ 8) }
     ensures later { K.faults sink.old ≤ K.faults sink.new }
 {
-    match load(alloc, path, files, sink) {
+    match load(here.alloc, path, files, sink) {
         Ok(script) => run_node(
-            alloc,
-            settings,
+            here.alloc,
+            here.settings,
             script.as_slice(),
             sink,
             clock,
-            waiter,
-            random,
             acceptor,
-            dialer,
+            parts,
         ),
         Err(status) => status,
     }
@@ -182,10 +178,8 @@ pub fn run_node_files<
     sink: &mut K,
     files: &mut F,
     clock: &mut C,
-    waiter: &mut V,
-    random: &mut W,
     acceptor: &mut A,
-    dialer: &mut D,
+    parts: &mut NodeParts<V, W, D>,
 ) -> u8
     // The file of settings wasn't read or was refused; or a node of them was run by the script, where that was read.
     ensures runs { RunsFiles L.talk W.gives W.faults
@@ -193,26 +187,26 @@ pub fn run_node_files<
         (record {
           unread = F.faults files.old;
           beside = record {
-            dialled = dialling D.calls D.left D.faults dialer.old;
+            dialled = dialling D.calls D.left D.faults parts.old.dialer;
             door = admitting A.left A.waits acceptor.old;
             port = A.bound acceptor.old;
             faults = A.faults acceptor.old;
             readings = C.readings clock.old;
-            waited = V.waits waiter.old;
-            random = random.old;
+            waited = V.waits parts.old.waiter;
+            random = parts.old.random;
             written = K.held sink.old;
           };
         })
         (record {
           unread = F.faults files.new;
           beside = record {
-            dialled = dialling D.calls D.left D.faults dialer.new;
+            dialled = dialling D.calls D.left D.faults parts.new.dialer;
             door = admitting A.left A.waits acceptor.new;
             port = A.bound acceptor.new;
             faults = A.faults acceptor.new;
             readings = C.readings clock.new;
-            waited = V.waits waiter.new;
-            random = random.new;
+            waited = V.waits parts.new.waiter;
+            random = parts.new.random;
             written = K.held sink.new;
           };
         }) result }
@@ -227,18 +221,13 @@ pub fn run_node_files<
         ⊎ (result ≡ 8) }
 {
     match load_settings(alloc, words.path, files, sink) {
-        Ok(settings) => run_script(
-            alloc,
-            &settings,
-            words.script,
-            sink,
-            files,
-            clock,
-            waiter,
-            random,
-            acceptor,
-            dialer,
-        ),
+        Ok(settings) => {
+            let here = Here {
+                alloc,
+                settings: &settings,
+            };
+            run_script(here, words.script, sink, files, clock, acceptor, parts)
+        }
         Err(status) => status,
     }
 }

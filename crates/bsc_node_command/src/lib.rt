@@ -7,6 +7,7 @@
 #![tactic(auto)]
 
 mod command;
+mod here;
 mod making;
 mod playing;
 mod random_words;

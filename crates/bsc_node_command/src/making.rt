@@ -1,6 +1,6 @@
 //! Making a node by its settings.
 ghost use Rattle.std.specs.Prelude.{◌≡◌, [], IfOk};
-ghost use Rattle.bsc_node_core.specs.Node.{StandsFor};
+ghost use Rattle.bsc_node_core.specs.Node.{NodeStands};
 ghost use Rattle.bsc_node_command.specs.Comes.{made_by, node_limits_of};
 
 use crate::running_node::RunningNode;
@@ -39,7 +39,7 @@ fn limits_of(alloc: Global, settings: &NodeSettings) -> Result<NodeLimits, NoMem
 
 /// A node of these settings, to which nothing came yet.
 pub(crate) fn make_node(alloc: Global, settings: &NodeSettings) -> Result<RunningNode, NoMemory>
-    ensures { IfOk result (λ n. StandsFor n.node (made_by settings.now) []) }
+    ensures { IfOk result (λ n. NodeStands n.node (made_by settings.now) []) }
 {
     let limits = limits_of(alloc, settings)?;
     let node = Node::make(alloc, settings.identity(), limits)?;

@@ -2,7 +2,7 @@
 ghost use Rattle.std.specs.Prelude.{◌≡◌, ◌≤◌, ◌⊎◌, [], length, map, Ok, Err, IfOk, IsErr, ℕ, List, Option};
 ghost use Rattle.bsc_outside.specs.Faults.{HasRisen};
 ghost use Rattle.bsc_edge.specs.Told.{Grows, Stays};
-ghost use Rattle.bsc_node_core.specs.Node.{StandsFor};
+ghost use Rattle.bsc_node_core.specs.Node.{NodeStands};
 ghost use Rattle.bsc_node_run.specs.declared.halt.Halt.{Halt as HaltType};
 ghost use Rattle.bsc_node_command.specs.Lines.{SaysEnd};
 ghost use Rattle.bsc_node_run.specs.declared.due.Due.{Due};
@@ -11,10 +11,11 @@ ghost use Rattle.bsc_node_run.specs.Worlds.{Admitting, admitting, dialling};
 ghost use Rattle.bsc_node_runs.specs.Courses.{FinishCame};
 ghost use Rattle.bsc_node_command.specs.Comes.{Comes, IsBoundBy, IsUnasked, NodeRan, made_by};
 
+use crate::here::Here;
 use crate::making::make_node;
 use crate::running_node::RunningNode;
 use bsc_edge::{Acceptor, Clock, Dialer, Failed, Link, Waiter};
-use bsc_node_run::{Due, Halt, RunEnd, ScriptFault, Words, read_script};
+use bsc_node_run::{Due, Halt, NodeParts, RunEnd, RunTerms, ScriptFault, Words, read_script};
 use bsc_outside::Sink;
 use bsc_player::{PlayEnd, end_play, end_with, out_of_memory};
 use bsc_settings::NodeSettings;
@@ -54,40 +55,37 @@ fn bind<L, A: Acceptor<L>>(settings: &NodeSettings, acceptor: &mut A) -> Result<
 
 /// Runs a node that was made, and writes what it comes to.
 fn run_made<K: Sink, C: Clock, V: Waiter, W: Words, L: Link + Drop, A: Acceptor<L>, D: Dialer<L>>(
-    alloc: Global,
-    settings: &NodeSettings,
+    here: Here<'_>,
     node: RunningNode,
     lines: &[Due],
     sink: &mut K,
     clock: &mut C,
-    waiter: &mut V,
-    random: &mut W,
     acceptor: &mut A,
-    dialer: &mut D,
+    parts: &mut NodeParts<V, W, D>,
 ) -> u8
-    requires { StandsFor node.node (made_by settings.now) [] }
+    requires { NodeStands node.node (made_by here.settings.now) [] }
     ensures ran { (script : List ℕ) (door : Admitting L) (port : Option (Option ℕ)) (faults : ℕ) →
         script_of script ≡ Ok (map wish_of lines.now) → IsUnasked door (admitting A.left A.waits acceptor.old) →
-        IsBoundBy settings.now.direct_port port (A.bound acceptor.old) →
-        NodeRan L.talk W.gives W.faults settings.now script
+        IsBoundBy here.entry.settings.now.direct_port port (A.bound acceptor.old) →
+        NodeRan L.talk W.gives W.faults here.entry.settings.now script
         (record {
-          dialled = dialling D.calls D.left D.faults dialer.old;
+          dialled = dialling D.calls D.left D.faults parts.old.dialer;
           door = door;
           port = port;
           faults = faults;
           readings = C.readings clock.old;
-          waited = V.waits waiter.old;
-          random = random.old;
+          waited = V.waits parts.old.waiter;
+          random = parts.old.random;
           written = K.held sink.old;
         })
         (record {
-          dialled = dialling D.calls D.left D.faults dialer.new;
+          dialled = dialling D.calls D.left D.faults parts.new.dialer;
           door = admitting A.left A.waits acceptor.new;
           port = A.bound acceptor.new;
           faults = A.faults acceptor.new;
           readings = C.readings clock.new;
-          waited = V.waits waiter.new;
-          random = random.new;
+          waited = V.waits parts.new.waiter;
+          random = parts.new.random;
           written = K.held sink.new;
         }) result }
     ensures write { result ≡ 4 → HasRisen (K.faults sink.old) (K.faults sink.new) }
@@ -97,54 +95,45 @@ fn run_made<K: Sink, C: Clock, V: Waiter, W: Words, L: Link + Drop, A: Acceptor<
     ensures links_later { A.faults acceptor.old ≤ A.faults acceptor.new }
 {
     let mut node = node;
-    let end = bsc_node_run::run_core(
-        alloc,
-        &mut node,
-        lines,
-        settings.direct_port.is_some(),
-        settings.turns,
-        sink,
-        clock,
-        waiter,
-        random,
-        acceptor,
-        dialer,
-    );
+    let listens = here.settings.direct_port.is_some();
+    let terms = RunTerms {
+        script: lines,
+        listens,
+        turns: here.settings.turns,
+    };
+    let end = bsc_node_run::run_core(here.alloc, &mut node, terms, sink, clock, acceptor, parts);
     tell_end(sink, end)
 }
 
 /// Binds its port, where it has one, makes the node, and runs it.
 fn run_lines<K: Sink, C: Clock, V: Waiter, W: Words, L: Link + Drop, A: Acceptor<L>, D: Dialer<L>>(
-    alloc: Global,
-    settings: &NodeSettings,
+    here: Here<'_>,
     lines: &[Due],
     sink: &mut K,
     clock: &mut C,
-    waiter: &mut V,
-    random: &mut W,
     acceptor: &mut A,
-    dialer: &mut D,
+    parts: &mut NodeParts<V, W, D>,
 ) -> u8
     ensures comes { (script : List ℕ) → script_of script ≡ Ok (map wish_of lines.now) →
-        Comes L.talk W.gives W.faults settings.now script
+        Comes L.talk W.gives W.faults here.entry.settings.now script
         (record {
-          dialled = dialling D.calls D.left D.faults dialer.old;
+          dialled = dialling D.calls D.left D.faults parts.old.dialer;
           door = admitting A.left A.waits acceptor.old;
           port = A.bound acceptor.old;
           faults = A.faults acceptor.old;
           readings = C.readings clock.old;
-          waited = V.waits waiter.old;
-          random = random.old;
+          waited = V.waits parts.old.waiter;
+          random = parts.old.random;
           written = K.held sink.old;
         })
         (record {
-          dialled = dialling D.calls D.left D.faults dialer.new;
+          dialled = dialling D.calls D.left D.faults parts.new.dialer;
           door = admitting A.left A.waits acceptor.new;
           port = A.bound acceptor.new;
           faults = A.faults acceptor.new;
           readings = C.readings clock.new;
-          waited = V.waits waiter.new;
-          random = random.new;
+          waited = V.waits parts.new.waiter;
+          random = parts.new.random;
           written = K.held sink.new;
         }) result }
     ensures write { result ≡ 4 → HasRisen (K.faults sink.old) (K.faults sink.new) }
@@ -153,11 +142,9 @@ fn run_lines<K: Sink, C: Clock, V: Waiter, W: Words, L: Link + Drop, A: Acceptor
     ensures writes_later { K.faults sink.old ≤ K.faults sink.new }
     ensures links_later { A.faults acceptor.old ≤ A.faults acceptor.new }
 {
-    match bind(settings, acceptor) {
-        Ok(()) => match make_node(alloc, settings) {
-            Ok(node) => run_made(
-                alloc, settings, node, lines, sink, clock, waiter, random, acceptor, dialer,
-            ),
+    match bind(here.settings, acceptor) {
+        Ok(()) => match make_node(here.alloc, here.settings) {
+            Ok(node) => run_made(here, node, lines, sink, clock, acceptor, parts),
             Err(_) => out_of_memory(sink),
         },
         Err(_) => end_with(sink, b"fault link\n", 6),
@@ -166,35 +153,32 @@ fn run_lines<K: Sink, C: Clock, V: Waiter, W: Words, L: Link + Drop, A: Acceptor
 
 /// Reads the whole script, and runs a node of the settings by it.
 fn run_text<K: Sink, C: Clock, V: Waiter, W: Words, L: Link + Drop, A: Acceptor<L>, D: Dialer<L>>(
-    alloc: Global,
-    settings: &NodeSettings,
+    here: Here<'_>,
     script: &[u8],
     sink: &mut K,
     clock: &mut C,
-    waiter: &mut V,
-    random: &mut W,
     acceptor: &mut A,
-    dialer: &mut D,
+    parts: &mut NodeParts<V, W, D>,
 ) -> u8
-    ensures comes { Comes L.talk W.gives W.faults settings.now script.now
+    ensures comes { Comes L.talk W.gives W.faults here.entry.settings.now script.now
         (record {
-          dialled = dialling D.calls D.left D.faults dialer.old;
+          dialled = dialling D.calls D.left D.faults parts.old.dialer;
           door = admitting A.left A.waits acceptor.old;
           port = A.bound acceptor.old;
           faults = A.faults acceptor.old;
           readings = C.readings clock.old;
-          waited = V.waits waiter.old;
-          random = random.old;
+          waited = V.waits parts.old.waiter;
+          random = parts.old.random;
           written = K.held sink.old;
         })
         (record {
-          dialled = dialling D.calls D.left D.faults dialer.new;
+          dialled = dialling D.calls D.left D.faults parts.new.dialer;
           door = admitting A.left A.waits acceptor.new;
           port = A.bound acceptor.new;
           faults = A.faults acceptor.new;
           readings = C.readings clock.new;
-          waited = V.waits waiter.new;
-          random = random.new;
+          waited = V.waits parts.new.waiter;
+          random = parts.new.random;
           written = K.held sink.new;
         }) result }
     ensures write { result ≡ 4 → HasRisen (K.faults sink.old) (K.faults sink.new) }
@@ -203,19 +187,9 @@ fn run_text<K: Sink, C: Clock, V: Waiter, W: Words, L: Link + Drop, A: Acceptor<
     ensures writes_later { K.faults sink.old ≤ K.faults sink.new }
     ensures links_later { A.faults acceptor.old ≤ A.faults acceptor.new }
 {
-    match read_script(alloc, script) {
-        Ok(script) => run_lines(
-            alloc,
-            settings,
-            script.as_slice(),
-            sink,
-            clock,
-            waiter,
-            random,
-            acceptor,
-            dialer,
-        ),
-        Err(ScriptFault::BadLine { line }) => end_play(alloc, sink, PlayEnd::BadLine { line }),
+    match read_script(here.alloc, script) {
+        Ok(script) => run_lines(here, script.as_slice(), sink, clock, acceptor, parts),
+        Err(ScriptFault::BadLine { line }) => end_play(here.alloc, sink, PlayEnd::BadLine { line }),
         Err(ScriptFault::NoMemory) => out_of_memory(sink),
     }
 }
@@ -245,31 +219,29 @@ pub fn run_node<
     script: &[u8],
     sink: &mut K,
     clock: &mut C,
-    waiter: &mut V,
-    random: &mut W,
     acceptor: &mut A,
-    dialer: &mut D,
+    parts: &mut NodeParts<V, W, D>,
 ) -> u8
     // Either no node was run, and nothing was dialled; or a node of the settings was, to its end or to a fault.
     ensures comes { Comes L.talk W.gives W.faults settings.now script.now
         (record {
-          dialled = dialling D.calls D.left D.faults dialer.old;
+          dialled = dialling D.calls D.left D.faults parts.old.dialer;
           door = admitting A.left A.waits acceptor.old;
           port = A.bound acceptor.old;
           faults = A.faults acceptor.old;
           readings = C.readings clock.old;
-          waited = V.waits waiter.old;
-          random = random.old;
+          waited = V.waits parts.old.waiter;
+          random = parts.old.random;
           written = K.held sink.old;
         })
         (record {
-          dialled = dialling D.calls D.left D.faults dialer.new;
+          dialled = dialling D.calls D.left D.faults parts.new.dialer;
           door = admitting A.left A.waits acceptor.new;
           port = A.bound acceptor.new;
           faults = A.faults acceptor.new;
           readings = C.readings clock.new;
-          waited = V.waits waiter.new;
-          random = random.new;
+          waited = V.waits parts.new.waiter;
+          random = parts.new.random;
           written = K.held sink.new;
         }) result }
 
@@ -290,7 +262,6 @@ pub fn run_node<
     ensures writes_later { K.faults sink.old ≤ K.faults sink.new }
     ensures links_later { A.faults acceptor.old ≤ A.faults acceptor.new }
 {
-    run_text(
-        alloc, settings, script, sink, clock, waiter, random, acceptor, dialer,
-    )
+    let here = Here { alloc, settings };
+    run_text(here, script, sink, clock, acceptor, parts)
 }

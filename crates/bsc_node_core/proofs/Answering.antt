@@ -7,7 +7,7 @@ use Rattle.bsc_frame.specs.declared.message.Message.{Message}
 use Rattle.bsc_resolve.specs.declared.call.ResolveCall.{ResolveCall}
 use Rattle.bsc_resolve.specs.declared.call.ResolveCall.TheVariants.{Answered, Refused}
 use Rattle.bsc_resolve.specs.declared.resolve.Resolve.{Resolve}
-use Rattle.bsc_resolve.specs.Standing.{StandsFor as ResolveStands, AnswersAnswer, AnswersRefusal, if_it_counts}
+use Rattle.bsc_resolve.specs.Standing.{ResolveStands, AnswersAnswer, AnswersRefusal, if_it_counts}
 use Rattle.bsc_node.specs.declared.link_name.LinkName.{LinkName}
 use Rattle.bsc_node.specs.declared.note.Note.TheVariants.{Uris, Nak}
 use Rattle.bsc_node.specs.declared.action.Action.{Action}

@@ -4,14 +4,14 @@ use Rattle.std.specs.Prelude.{◌-◌, ◌%◌, min}
 use Rattle.std.proofs.Math.Seq.{take-append_seam}
 use Rattle.bsc_octets.specs.declared.vmac.Vmac.{Vmac}
 use Rattle.bsc_frame.specs.declared.body.Body.TheVariants.{AddressResolution}
-use Rattle.bsc_connector.specs.Standing.{StandsFor as ConnectorStands}
-use Rattle.bsc_direct.specs.Standing.{StandsFor as DirectStands}
+use Rattle.bsc_connector.specs.Standing.{ConnectorStands}
+use Rattle.bsc_direct.specs.Standing.{DirectStands}
 use Rattle.bsc_resolve.specs.declared.call.ResolveCall.{ResolveCall}
 use Rattle.bsc_resolve.specs.declared.call.ResolveCall.TheVariants.{Ask}
 use Rattle.bsc_resolve.specs.declared.ask_refusal.AskRefusal.{AskRefusal}
 use Rattle.bsc_resolve.specs.declared.ask_refusal.AskRefusal.TheVariants.{Full, Pending}
 use Rattle.bsc_resolve.specs.declared.resolve.Resolve.{Resolve}
-use Rattle.bsc_resolve.specs.Standing.{StandsFor as ResolveStands, IsAsked, IsRefused, IsUnchanged}
+use Rattle.bsc_resolve.specs.Standing.{ResolveStands, IsAsked, IsAskRefused, IsUnchanged}
 use Rattle.bsc_node.specs.declared.bounds.TheConstants.{RENEWALS}
 use Rattle.bsc_node.specs.Messages.{message_octets}
 use Rattle.bsc_node.specs.declared.note.Note.{Note}
@@ -135,13 +135,13 @@ both-refused b out put back later s r r' L v newest note pe be le lines u h =
     both-word b out later s r r' L (resolves b.made v L) note (le ∙ ap (λ os. os ++ Tell note ∷ []) (be ∙ before-newest out put newest pe)) lines u h
 
 pub both-full : (b : Base) (out put back later : List Action) (s : State) (r r' : Resolve) (L : Log) (w : Way) (v : Vmac) (newest : Action) (held : ℕ) → put ≡ out ++ newest ∷ [] → back ≡ take (length put - 1) put → later ≡ back ++ Tell AsksFull ∷ []
-    → way v L ≡ Some w → IsRefused r v (Full held) → IsUnchanged r r' → BothStand b out s r L → BothStand b later s r' (L ++ resolves b.made v L)
+    → way v L ≡ Some w → IsAskRefused r v (Full held) → IsUnchanged r r' → BothStand b out s r L → BothStand b later s r' (L ++ resolves b.made v L)
 both-full b out put back later s r r' L w v newest held pe be le p refused u h =
     both-refused b out put back later s r r' L v newest AsksFull pe be le
     (resolves-by b.made v L w (Some (Full held)) p (refused b.made.limits.times.connect_wait (resolve_calls L) h.resolution)) u h
 
 pub both-pending : (b : Base) (out put back later : List Action) (s : State) (r r' : Resolve) (L : Log) (w : Way) (v : Vmac) (newest : Action) (id : ℕ) → put ≡ out ++ newest ∷ [] → back ≡ take (length put - 1) put → later ≡ back ++ Tell (AskPending v) ∷ []
-    → way v L ≡ Some w → IsRefused r v (Pending id) → IsUnchanged r r' → BothStand b out s r L → BothStand b later s r' (L ++ resolves b.made v L)
+    → way v L ≡ Some w → IsAskRefused r v (Pending id) → IsUnchanged r r' → BothStand b out s r L → BothStand b later s r' (L ++ resolves b.made v L)
 both-pending b out put back later s r r' L w v newest id pe be le p refused u h =
     both-refused b out put back later s r r' L v newest (AskPending v) pe be le
     (resolves-by b.made v L w (Some (Pending id)) p (refused b.made.limits.times.connect_wait (resolve_calls L) h.resolution)) u h

@@ -9,17 +9,17 @@ use Rattle.bsc_connector.specs.declared.side.Side.TheVariants.{Primary, Failover
 use Rattle.bsc_connector.specs.declared.event.HubEvent.{HubEvent}
 use Rattle.bsc_connector.specs.Back.{newest_of, since, until}
 use Rattle.bsc_connector.specs.Sides as Sides
-use Rattle.bsc_connector.specs.Standing.{StandsFor as ConnectorStands}
+use Rattle.bsc_connector.specs.Standing.{ConnectorStands}
 use Rattle.bsc_connector.proofs.BackLemmas.{newest_of-more, list_any-more}
 use Rattle.bsc_direct.specs.declared.bounds.TheConstants.{SLOTS}
-use Rattle.bsc_direct.specs.Standing.{StandsFor as DirectStands}
+use Rattle.bsc_direct.specs.Standing.{DirectStands}
 use Rattle.bsc_octets.specs.declared.identity.Identity.{Identity}
 use Rattle.bsc_accept.specs.declared.times.Times.{Times}
 use Rattle.bsc_accept.specs.declared.start.Start.{Start}
 use Rattle.bsc_accept.specs.declared.accepting.Accepting.{Accepting}
-use Rattle.bsc_accept.specs.Standing.{StandsFor as AcceptingStands}
+use Rattle.bsc_accept.specs.Standing.{AcceptingStands}
 use Rattle.bsc_initiate.specs.declared.initiating.Initiating.{Initiating}
-use Rattle.bsc_initiate.specs.Standing.{StandsFor as InitiatingStands}
+use Rattle.bsc_initiate.specs.Standing.{InitiatingStands}
 use Rattle.bsc_node.specs.declared.bounds.TheConstants.{RENEWALS}
 use Rattle.bsc_node.specs.declared.link_name.LinkName.{LinkName}
 use Rattle.bsc_node.specs.declared.link_name.LinkName.TheVariants.{Hub, Direct}

@@ -12,7 +12,7 @@ use Rattle.bsc_direct.specs.declared.slot.Slot.{Slot}
 use Rattle.bsc_direct.specs.declared.slot.Slot.TheVariants.{Free}
 use Rattle.bsc_direct.specs.Kept.{says_peer, slot_at}
 use Rattle.bsc_direct.specs.Slots.{slots, established_peer}
-use Rattle.bsc_direct.specs.Standing.{StandsFor as DirectStands}
+use Rattle.bsc_direct.specs.Standing.{DirectStands}
 use Rattle.bsc_resolve.specs.declared.resolve.Resolve.{Resolve}
 use Rattle.bsc_resolve.specs.Standing.{IsUnchanged as IsUnchangedResolve}
 use Rattle.bsc_node.specs.declared.link_name.LinkName.{LinkName}
@@ -32,7 +32,7 @@ use Rattle.bsc_node.proofs.Lasting.{Fine, fine-goes_on, there_in_slots, event_fi
 use Rattle.bsc_node_core.specs.declared.node.Node.{Node}
 use Rattle.bsc_node_core.specs.declared.state.State.{State}
 use Rattle.bsc_node_core.specs.Events.{MayFollow, at_time}
-use Rattle.bsc_node_core.specs.Node.{StandsFor, at_rest}
+use Rattle.bsc_node_core.specs.Node.{NodeStands, at_rest}
 use Rattle.bsc_node_core.specs.Resting.{IsAtRestFor}
 use Rattle.bsc_node_core.specs.Resolving.{BothStand}
 use Rattle.bsc_node_core.specs.Standing.{Base, Stands}
@@ -75,7 +75,7 @@ within d calls k who h e = by (nat_lt k SLOTS) refl
     by true w = in-slots k (ltb-true k SLOTS w)
     by false w = some_none who (sym e ∙ (h.slots k).peer ∙ ap says_peer (past d.slots.items k (let n = ltb-false k SLOTS w in omega (arith, d.slots.ok.0, d.all, n))))
 
-pub fine : (node : Node) (a : Made) (L : Log) → StandsFor node a L → Fine L
+pub fine : (node : Node) (a : Made) (L : Log) → NodeStands node a L → Fine L
 fine node a L h =
     let d = h.kept.state.direct in record {
       slots = record { apart = d.apart; unicast = d.unicast; within = λ k who e. within node.state.direct (slot_calls L) k who d e };
@@ -157,8 +157,8 @@ pub answered : (old new : Node) (a : Made) (L : Log) (t : ℕ) (ev : NodeEvent) 
     → (Agrees old.spare old.state → KeepsSame old.state caught)
     → ((b : Base) (os : List Action) (M : Log) (u : ℕ) → Stands b os start M → Stands (at_time u b) os mid (M ++ came (record { now = u; event = ev }) ∷ []))
     → ((b : Base) (M : Log) → IsAtRestFor old.limits t b → MayFollow ev M → BothStand b [] mid old.resolve M → BothStand b out new.state new.resolve (M ++ follows b.made ev M))
-    → StandsFor old a L → IsTrue (may_come L (record { now = t; event = ev }))
-    → (out ≡ actions_at a L (record { now = t; event = ev })) × StandsFor new a (L ++ goes_on a (record { now = t; event = ev }) L)
+    → NodeStands old a L → IsTrue (may_come L (record { now = t; event = ev }))
+    → (out ≡ actions_at a L (record { now = t; event = ev })) × NodeStands new a (L ++ goes_on a (record { now = t; event = ev }) L)
 answered old new a L t ev out start caught mid same spared is catches comes goes h may =
     let e = at t ev in
     let f = fine old a L h in
@@ -181,7 +181,7 @@ answered old new a L t ev out start caught mid same spared is catches comes goes
 
 -- Where memory was wanting, a node stands for what it stood.
 pub unchanged : (old new : Node) (a : Made) (L : Log) (caught failed : State) → new.limits ≡ old.limits → (Agrees old.spare old.state → KeepsSame old.state caught) → KeepsSame caught new.spare → new.spare.links.touched ≡ Many
-    → new.spare.direct_touched ≡ true → (Agrees failed new.spare → KeepsSame new.spare new.state) → IsUnchangedResolve old.resolve new.resolve → StandsFor old a L → StandsFor new a L
+    → new.spare.direct_touched ≡ true → (Agrees failed new.spare → KeepsSame new.spare new.state) → IsUnchangedResolve old.resolve new.resolve → NodeStands old a L → NodeStands new a L
 unchanged old new a L caught failed same catches marks many all brings resolve h = record {
   limits = h.limits ∙ sym same;
   kept = record { state = restored-stands (at_rest a L old.spare) [] old.state caught new.spare failed new.state L catches marks many all brings h.kept.state; resolution = resolve a.limits.times.connect_wait (resolve_calls L) h.kept.resolution };

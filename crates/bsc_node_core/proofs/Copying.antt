@@ -4,13 +4,13 @@ use Rattle.std.specs.Prelude.{slice_get}
 use Rattle.std.proofs.lemmas.Bool.{false≢true, lt-ltb}
 use Rattle.bsc_connector.specs.declared.side.Side.TheVariants.{Primary, Failover}
 use Rattle.bsc_connector.specs.declared.connector.Connector.{Connector}
-use Rattle.bsc_connector.specs.Standing.{StandsFor as ConnectorStands}
+use Rattle.bsc_connector.specs.Standing.{ConnectorStands}
 use Rattle.bsc_direct.specs.declared.bounds.TheConstants.{SLOTS}
 use Rattle.bsc_direct.specs.declared.direct.Direct.{Direct as SlotTable}
 use Rattle.bsc_direct.specs.declared.call.SlotCall.{SlotCall}
 use Rattle.bsc_direct.specs.declared.slot.Slot.{Slot}
 use Rattle.bsc_direct.specs.Kept.{slot_at}
-use Rattle.bsc_direct.specs.Standing.{StandsFor as DirectStands, SlotStands}
+use Rattle.bsc_direct.specs.Standing.{DirectStands, SlotStands}
 use Rattle.bsc_node.specs.declared.link_name.LinkName.{LinkName}
 use Rattle.bsc_node.specs.declared.link_name.LinkName.TheVariants.{Hub, Direct}
 use Rattle.bsc_node.specs.declared.action.Action.{Action}

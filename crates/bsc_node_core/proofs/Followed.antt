@@ -4,7 +4,7 @@ use Rattle.std.specs.Prelude.{map}
 use Rattle.bsc_connector.specs.declared.event.ConnectorEvent.TheVariants.{Tick as ConnectorTick}
 use Rattle.bsc_resolve.specs.declared.call.ResolveCall.TheVariants.{Tick as ResolveTick}
 use Rattle.bsc_resolve.specs.declared.resolve.Resolve.{Resolve}
-use Rattle.bsc_resolve.specs.Standing.{StandsFor as ResolveStands, StandsOn}
+use Rattle.bsc_resolve.specs.Standing.{ResolveStands, StandsOn}
 use Rattle.bsc_node.specs.declared.node_event.NodeEvent.{NodeEvent}
 use Rattle.bsc_node.specs.declared.action.Action.{Action}
 use Rattle.bsc_node.specs.Logs.{Made, resolution, Log, Rule, after, in_order}

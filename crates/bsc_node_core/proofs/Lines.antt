@@ -4,8 +4,8 @@ use Rattle.std.specs.Prelude.{◌%◌, min, count_by, is_some}
 use Rattle.std.specs.Option.{option_or}
 use Rattle.std.proofs.Math.Nat.{mod-add-mod}
 use Rattle.bsc_connector.specs.declared.side.Side.TheVariants.{Primary, Failover}
-use Rattle.bsc_connector.specs.Standing.{StandsFor as ConnectorStands}
-use Rattle.bsc_direct.specs.Standing.{StandsFor as DirectStands}
+use Rattle.bsc_connector.specs.Standing.{ConnectorStands}
+use Rattle.bsc_direct.specs.Standing.{DirectStands}
 use Rattle.bsc_accept.specs.declared.accepting.Accepting.{Accepting}
 use Rattle.bsc_node.specs.declared.bounds.TheConstants.{RENEWALS}
 use Rattle.bsc_node.specs.declared.link_name.LinkName.{LinkName}

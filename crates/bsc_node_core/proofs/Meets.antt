@@ -18,7 +18,7 @@ use Rattle.bsc_direct.specs.declared.establish.Establish.{Establish}
 use Rattle.bsc_direct.specs.declared.establish.Establish.TheVariants.{Up as IsUp, Duplicate, WrongPeer}
 use Rattle.bsc_direct.specs.Slots as Slots
 use Rattle.bsc_direct.specs.Slots.{unless_rival, unless_own, unless_wrong, is_peer, established_peer, rival, of_device}
-use Rattle.bsc_direct.specs.Standing.{StandsFor as DirectStands, Answers, and_up}
+use Rattle.bsc_direct.specs.Standing.{DirectStands, DirectAnswers, and_up}
 use Rattle.bsc_node.specs.declared.link_name.LinkName.{LinkName}
 use Rattle.bsc_node.specs.declared.link_name.LinkName.TheVariants.{Hub, Direct}
 use Rattle.bsc_node.specs.declared.note.Note.TheVariants.{DirectUp}
@@ -100,7 +100,7 @@ not-up e (inr h) u = up-not-wrong (sym u ∙ h.1)
 -- ---- a connection comes up
 
 -- The slot comes up, and that is told.
-up-stands : (b : Base) (out told : List Action) (s : State) (L : Log) (k : ℕ) (who : Identity) (d : SlotTable) (answer : Establish) (r : Option ℕ) → Answers s.direct d s.own.vmac k who answer → answer ≡ IsUp r
+up-stands : (b : Base) (out told : List Action) (s : State) (L : Log) (k : ℕ) (who : Identity) (d : SlotTable) (answer : Establish) (r : Option ℕ) → DirectAnswers s.direct d s.own.vmac k who answer → answer ≡ IsUp r
     → told ≡ out ++ Tell (DirectUp who.vmac) ∷ [] → Stands b out s L → Stands b told (record s { direct = d; direct_touched = true }) ((L ++ slot (Up k who) ∷ []) ++ did (Tell (DirectUp who.vmac)) ∷ [])
 up-stands b out told s L k who d answer r a e t h =
     let stands : DirectStands d (slot_calls L ++ Up k who ∷ []) = subst (λ (x : Establish). DirectStands d (and_up x (slot_calls L) k who)) e (a (slot_calls L) h.direct).1 in
@@ -109,11 +109,11 @@ up-stands b out told s L k who d answer r a e t h =
     (tell-stands b out (record s { direct = d; direct_touched = true }) (L ++ slot (Up k who) ∷ []) (DirectUp who.vmac) up)
 
 -- The answer is the log's.
-pub answered-up : (b : Base) (out : List Action) (s : State) (L : Log) (k : ℕ) (who : Identity) (d : SlotTable) (answer : Establish) (replaced : Option ℕ) → Answers s.direct d s.own.vmac k who answer
+pub answered-up : (b : Base) (out : List Action) (s : State) (L : Log) (k : ℕ) (who : Identity) (d : SlotTable) (answer : Establish) (replaced : Option ℕ) → DirectAnswers s.direct d s.own.vmac k who answer
     → establish b.made k who L ≡ IsUp replaced → Stands b out s L → answer ≡ IsUp replaced
 answered-up b out s L k who d answer replaced a e h = (a (slot_calls L) h.direct).0 ∙ own-answer b out s L k who h ∙ e
 
-pub came-up : (b : Base) (out told later : List Action) (s s' : State) (L : Log) (k : ℕ) (who : Identity) (d : SlotTable) (answer : Establish) (r replaced : Option ℕ) → Answers s.direct d s.own.vmac k who answer → answer ≡ IsUp r
+pub came-up : (b : Base) (out told later : List Action) (s s' : State) (L : Log) (k : ℕ) (who : Identity) (d : SlotTable) (answer : Establish) (r replaced : Option ℕ) → DirectAnswers s.direct d s.own.vmac k who answer → answer ≡ IsUp r
     → told ≡ out ++ Tell (DirectUp who.vmac) ∷ [] → establish b.made k who L ≡ IsUp replaced → Stands b out s L
     → ((M : Log) → ((j : ℕ) → r ≡ Some j → is_name (Direct j) ≡ true) → Stands b told (record s { direct = d; direct_touched = true }) M → Stands b later s' (M ++ finishes_replaced b.made r M))
     → Stands b later s' (L ++ comes_up b.made k who replaced L)

@@ -8,7 +8,7 @@ use Rattle.bsc_octets.specs.declared.vmac.Vmac.{Vmac}
 use Rattle.bsc_frame.specs.declared.message.Message.{Message}
 use Rattle.bsc_initiate.specs.declared.event.InitEvent.TheVariants.{Opened}
 use Rattle.bsc_resolve.specs.declared.resolve.Resolve.{Resolve}
-use Rattle.bsc_resolve.specs.Standing.{StandsFor as ResolveStands}
+use Rattle.bsc_resolve.specs.Standing.{ResolveStands}
 use Rattle.bsc_node.specs.declared.link_name.LinkName.{LinkName}
 use Rattle.bsc_node.specs.declared.action.Action.{Action}
 use Rattle.bsc_node.specs.Logs.{Made, Log, Rule, in_order, now, next_id}

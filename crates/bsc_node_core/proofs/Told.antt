@@ -4,8 +4,8 @@ use Rattle.std.specs.Prelude.{min, is_some}
 use Rattle.std.specs.Option.{option_or}
 use Rattle.std.proofs.lemmas.Bool.{false≢true}
 use Rattle.bsc_checks.specs.declared.verdict.Verdict.TheVariants.{Pass, Carry, Silent, Nak}
-use Rattle.bsc_connector.specs.Standing.{StandsFor as ConnectorStands}
-use Rattle.bsc_direct.specs.Standing.{StandsFor as DirectStands}
+use Rattle.bsc_connector.specs.Standing.{ConnectorStands}
+use Rattle.bsc_direct.specs.Standing.{DirectStands}
 use Rattle.bsc_accept.specs.declared.start.Start.{Start}
 use Rattle.bsc_accept.specs.declared.event.Event.{Event}
 use Rattle.bsc_accept.specs.declared.event.Event.TheVariants.{Message as Heard}
@@ -192,7 +192,7 @@ open-dialled waits false there e h m = ap (λ w. may_tell_dialled w e) (sym h) �
 
 module _ (a : Made) (L : Log) (name : LinkName) (e : InitEvent) (before later : Initiating) (step : InitStep)
     (h : DialledStands a L name before) (may : may_tell_dialled before.stage e ≡ true)
-    (answers : (step ≡ IS.step (start a L name) (initiating_events L name) e) × IN.StandsFor later (start a L name) (initiating_events L name ++ e ∷ [])) where
+    (answers : (step ≡ IS.step (start a L name) (initiating_events L name) e) × IN.InitiatingStands later (start a L name) (initiating_events L name ++ e ∷ [])) where
   may-dialled : may_tell_dialled (IN.open_stage (I.standing (initiating_events L name)) (I.heartbeat_was_put (start a L name) (initiating_events L name))) e ≡ true
   may-dialled = open-dialled before.stage (IN.has_closed (start a L name) (initiating_events L name)) (IN.open_stage (I.standing (initiating_events L name)) (I.heartbeat_was_put (start a L name) (initiating_events L name))) e h.machine.stage may
 
@@ -240,7 +240,7 @@ module _ (a : Made) (L : Log) (name : LinkName) (e : InitEvent) (before later : 
 -- The machine of a link that was dialled makes a step.
 pub dialled-told : (b : Base) (out : List Action) (s : State) (L : Log) (name : LinkName) (e : InitEvent) (before later : Initiating) (step : InitStep) (ls : Links) (u : Outcome) → initiating_outcome e step ≡ u
     → Sets s.links ls name (with_machine_and_peer (dialled_after later step) (dialled_peer step (link_at s.links name).peer) (link_at s.links name)) → Touches s.links ls name
-    → (link_at s.links name).machine ≡ Dialled before → is_name name ≡ true → IN.Answers before later e step → may_tell_dialled before.stage e ≡ true → Stands (busy_with name b) out s L
+    → (link_at s.links name).machine ≡ Dialled before → is_name name ≡ true → IN.InitiatingAnswers before later e step → may_tell_dialled before.stage e ≡ true → Stands (busy_with name b) out s L
     → HasTold b out (record s { links = ls }) (L ++ initiating name e ∷ []) name u
 dialled-told b out s L name e before later step ls u ou sets touches is n answers may h =
     let d : DialledStands b.made L name before = subst (λ (m : Machine). MachineStands b.made (Some name) L name m) is (h.links name n).machine in
@@ -286,7 +286,7 @@ open-taken waits false there e h m = ap (λ w. may_tell_taken w e) (sym h) ∙ m
 
 module _ (a : Made) (L : Log) (name : LinkName) (e : Event) (before later : Accepting) (step : Step)
     (h : TakenStands a L name before) (may : may_tell_taken before.stage e ≡ true)
-    (answers : (step ≡ AS.step (start a L name) (accepting_events L name) e) × AN.StandsFor later (start a L name) (accepting_events L name ++ e ∷ [])) where
+    (answers : (step ≡ AS.step (start a L name) (accepting_events L name) e) × AN.AcceptingStands later (start a L name) (accepting_events L name ++ e ∷ [])) where
   may-taken : may_tell_taken (AN.open_stage (A.standing (accepting_events L name)) (A.question (accepting_events L name))) e ≡ true
   may-taken = open-taken before.stage (AN.has_closed (start a L name) (accepting_events L name)) (AN.open_stage (A.standing (accepting_events L name)) (A.question (accepting_events L name))) e h.machine.stage may
 
@@ -350,7 +350,7 @@ there-before (Asked m) before is = refl
 pub taken-told : (b : Base) (out : List Action) (s : State) (L : Log) (name : LinkName) (e : Event) (before later : Accepting) (step : Step) (ls : Links) (u : Outcome)
     → accepting_outcome (A.standing (accepting_events L name)) e step ≡ u
     → Sets s.links ls name (with_machine_and_peer (taken_after later step) (taken_peer step (link_at s.links name).peer) (link_at s.links name)) → Touches s.links ls name
-    → taken_in (link_at s.links name).machine ≡ Some before → is_name name ≡ true → AN.Answers before later e step → may_tell_taken before.stage e ≡ true → Stands (busy_with name b) out s L
+    → taken_in (link_at s.links name).machine ≡ Some before → is_name name ≡ true → AN.AcceptingAnswers before later e step → may_tell_taken before.stage e ≡ true → Stands (busy_with name b) out s L
     → HasTold b out (record s { links = ls }) (L ++ accepting name e ∷ []) name u
 taken-told b out s L name e before later step ls u ou sets touches is n answers may h =
     let d : TakenStands b.made L name before = taken-before b.made (Some name) L name (link_at s.links name).machine before is (h.links name n).machine in

@@ -19,7 +19,7 @@ at_rest a L spare = record { made = a; before = L; now = now L; asked = resolve_
 
 -- A node was made so, and what it keeps is what this log says; what wasn't touched of it since, its spare keeps too. No link
 -- began in the log but those of its hubs and slots.
-pub record StandsFor (node : Node) (a : Made) (L : Log) : Type 0 where
+pub record NodeStands (node : Node) (a : Made) (L : Log) : Type 0 where
   pub limits : a.limits ≡ node.limits
   pub kept : BothStand (at_rest a L node.spare) [] node.state node.resolve L
   pub begun : IsTrue (list_all begins_in_slots L)
@@ -28,8 +28,8 @@ pub record StandsFor (node : Node) (a : Made) (L : Log) : Type 0 where
 -- as it goes on.
 abbrev pub NodeAnswers : Node → Node → TimedEvent → List Action → Type 0
 NodeAnswers old new e actions =
-    (a : Made) (L : Log) → StandsFor old a L → IsTrue (may_come L e) → (actions ≡ actions_at a L e) × StandsFor new a (L ++ goes_on a e L)
+    (a : Made) (L : Log) → NodeStands old a L → IsTrue (may_come L e) → (actions ≡ actions_at a L e) × NodeStands new a (L ++ goes_on a e L)
 
 -- Whatever log it stood for, it stands for still.
 abbrev pub IsUnchanged : Node → Node → Type 0
-IsUnchanged old new = (a : Made) (L : Log) → StandsFor old a L → StandsFor new a L
+IsUnchanged old new = (a : Made) (L : Log) → NodeStands old a L → NodeStands new a L

@@ -1,7 +1,7 @@
 -- For which log a node's state and its address resolution stand together.
 use Rattle.std.specs.Prelude.{List}
 use Rattle.bsc_resolve.specs.declared.resolve.Resolve.{Resolve}
-use Rattle.bsc_resolve.specs.Standing.{StandsFor as ResolveStands}
+use Rattle.bsc_resolve.specs.Standing.{ResolveStands}
 use Rattle.bsc_node.specs.declared.action.Action.{Action}
 use Rattle.bsc_node.specs.Logs.{Log}
 use Rattle.bsc_node.specs.Ways.{resolve_calls}

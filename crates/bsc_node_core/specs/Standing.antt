@@ -4,17 +4,17 @@ use Rattle.bsc_connector.specs.declared.side.Side.TheVariants.{Primary, Failover
 use Rattle.bsc_connector.specs.declared.event.ConnectorEvent.{ConnectorEvent}
 use Rattle.bsc_connector.specs.Back.{first_of}
 use Rattle.bsc_connector.specs.Sides.{connects}
-use Rattle.bsc_connector.specs.Standing.{StandsFor as ConnectorStands}
+use Rattle.bsc_connector.specs.Standing.{ConnectorStands}
 use Rattle.bsc_direct.specs.declared.bounds.TheConstants.{SLOTS}
-use Rattle.bsc_direct.specs.Standing.{StandsFor as DirectStands}
+use Rattle.bsc_direct.specs.Standing.{DirectStands}
 use Rattle.bsc_initiate.specs.declared.event.InitEvent.{InitEvent}
 use Rattle.bsc_initiate.specs.declared.initiating.Initiating.{Initiating}
 use Rattle.bsc_initiate.specs.Past as InitiatingPast
-use Rattle.bsc_initiate.specs.Standing.{StandsFor as InitiatingStands}
+use Rattle.bsc_initiate.specs.Standing.{InitiatingStands}
 use Rattle.bsc_accept.specs.declared.event.Event.{Event}
 use Rattle.bsc_accept.specs.declared.accepting.Accepting.{Accepting}
 use Rattle.bsc_accept.specs.Past as AcceptingPast
-use Rattle.bsc_accept.specs.Standing.{StandsFor as AcceptingStands}
+use Rattle.bsc_accept.specs.Standing.{AcceptingStands}
 use Rattle.bsc_resolve.specs.declared.call.ResolveCall.{ResolveCall}
 use Rattle.bsc_node.specs.declared.bounds.TheConstants.{RENEWALS}
 use Rattle.bsc_node.specs.declared.link_name.LinkName.{LinkName}

@@ -8,7 +8,7 @@ ghost use Rattle.bsc_node_core.specs.Events.{HasOctets, MayFollow};
 ghost use Rattle.bsc_node_core.specs.Standing.{Base};
 ghost use Rattle.bsc_node_core.specs.Resolving.{BothStand};
 ghost use Rattle.bsc_node_core.specs.Resting.{IsAtRestFor};
-ghost use Rattle.bsc_node_core.specs.Node.{NodeAnswers, IsUnchanged, StandsFor};
+ghost use Rattle.bsc_node_core.specs.Node.{NodeAnswers, IsUnchanged, NodeStands};
 
 use crate::actions::Actions;
 use crate::at::At;
@@ -31,7 +31,7 @@ impl Node {
     /// no more.
     pub fn make(alloc: Global, own: Identity, limits: NodeLimits) -> Result<Node, NoMemory>
         requires { IfSome limits.uris IsUtf8 }
-        ensures { IfOk result (λ node. StandsFor node (record { own = own; limits = limits }) []) }
+        ensures { IfOk result (λ node. NodeStands node (record { own = own; limits = limits }) []) }
     {
         let connector = Connector::make(
             limits.failover.is_some(),

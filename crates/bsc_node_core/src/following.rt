@@ -8,7 +8,7 @@ ghost use Rattle.bsc_node.specs.Events.{arrives, is_to_end, obeys, ticks_link, t
 ghost use Rattle.bsc_node.specs.Meeting.{keeps_vmac, renews};
 ghost use Rattle.bsc_octets.specs.Addresses.{broadcast, same_vmac};
 ghost use Rattle.bsc_octets.specs.declared.identity.Identity.{Identity};
-ghost use Rattle.bsc_resolve.specs.Standing.{IsUnchanged, StandsFor as ResolveStands};
+ghost use Rattle.bsc_resolve.specs.Standing.{IsUnchanged, ResolveStands};
 ghost use Rattle.bsc_node.specs.Conditions.{is_open};
 ghost use Rattle.bsc_node.specs.Links.{hears, meets, names, outcome};
 ghost use Rattle.bsc_node.specs.Ways.{resolve_calls};

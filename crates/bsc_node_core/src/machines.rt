@@ -6,10 +6,10 @@ ghost use Rattle.bsc_octets.specs.declared.vmac.Vmac.{Vmac};
 ghost use Rattle.bsc_accept.specs.declared.accepting.Accepting.{Accepting};
 ghost use Rattle.bsc_accept.specs.declared.event.Event.{Event};
 ghost use Rattle.bsc_accept.specs.Past.{standing};
-ghost use Rattle.bsc_accept.specs.Standing.{Answers as AnswersAccepting, IsOpen as IsOpenAccepting, LeftBy as LeavesAccepting};
+ghost use Rattle.bsc_accept.specs.Standing.{AcceptingAnswers, IsOpen as IsOpenAccepting, LeavesAccepting};
 ghost use Rattle.bsc_initiate.specs.declared.event.InitEvent.{InitEvent};
 ghost use Rattle.bsc_initiate.specs.declared.initiating.Initiating.{Initiating};
-ghost use Rattle.bsc_initiate.specs.Standing.{Answers as AnswersInitiating, AwaitsWebsocket, IsOpen as IsOpenInitiating, LeftBy as LeavesInitiating};
+ghost use Rattle.bsc_initiate.specs.Standing.{AwaitsWebsocket, InitiatingAnswers, IsOpen as IsOpenInitiating, LeavesInitiating};
 ghost use Rattle.bsc_node.specs.declared.action.Action.{Action};
 ghost use Rattle.bsc_node.specs.Logs.{Log, accepting, initiating};
 ghost use Rattle.bsc_node.specs.Links.{accepting_events, finishes, hears, is_there, opens, origin_of, ticks, is_in_connected};
@@ -114,7 +114,7 @@ impl State {
         requires { LeavesInitiating step machine }
         ensures { IfOk result (λ d. (b : Base) (out : List Action) (L : Log) (before : Initiating) (e : InitEvent)
             → (link_at self.old.links name).machine ≡ Machine.Dialled before → is_name name ≡ true
-            → AnswersInitiating before machine e step → may_tell_dialled before.stage e ≡ true → Stands (busy_with name b) out self.old L
+            → InitiatingAnswers before machine e step → may_tell_dialled before.stage e ≡ true → Stands (busy_with name b) out self.old L
             → HasTold b out self.new (L ++ initiating name e ∷ []) name (outcome_of (origin_of e) (message_of e) d)) }
     {
         self.links.go_on_dialled(name, machine, &step);
@@ -134,7 +134,7 @@ impl State {
         requires { LeavesAccepting step machine }
         ensures { IfOk result (λ d. (b : Base) (out : List Action) (L : Log) (before : Accepting) (e : Event) (origin : Option Vmac)
             → taken_in (link_at self.old.links name).machine ≡ Some before → is_name name ≡ true
-            → AnswersAccepting before machine e step → may_tell_taken before.stage e ≡ true
+            → AcceptingAnswers before machine e step → may_tell_taken before.stage e ≡ true
             → goes_up e (standing (accepting_events L name)) ≡ connected → Stands (busy_with name b) out self.old L
             → HasTold b out self.new (L ++ accepting name e ∷ []) name (outcome_of origin (message_taken e) d)) }
     {

@@ -2,7 +2,7 @@
 ghost use Rattle.std.specs.Prelude.{◌≡◌, ℕ, ◌<◌, ◌++◌, List, None, Some, IfOk, OnErr, OnOk, length, min, slice_get};
 ghost use Rattle.std.specs.Option.{option_map};
 ghost use Rattle.bsc_frame.specs.declared.body.Body.{Body};
-ghost use Rattle.bsc_resolve.specs.Standing.{IsUnchanged, StandsFor as ResolveStands};
+ghost use Rattle.bsc_resolve.specs.Standing.{IsUnchanged, ResolveStands};
 ghost use Rattle.bsc_node.specs.declared.action.Action.{Action};
 ghost use Rattle.bsc_node.specs.Logs.{Log};
 ghost use Rattle.bsc_node.specs.Ways.{established, free_slot, learnt, resolve_calls, uris_to_dial, way};

@@ -4,7 +4,7 @@ ghost use Rattle.bsc_node.specs.Logs.{Made, Log};
 ghost use Rattle.bsc_node.specs.Links as Links;
 ghost use Rattle.bsc_node.specs.Conditions as Conditions;
 ghost use Rattle.bsc_node_core.specs.Machines.{says_dialling, says_open};
-ghost use Rattle.bsc_node_core.specs.Node.{StandsFor};
+ghost use Rattle.bsc_node_core.specs.Node.{NodeStands};
 ghost use Rattle.bsc_node_core.specs.Tables.{is_name};
 
 use crate::machine::Machine;
@@ -37,14 +37,15 @@ impl Machine {
 impl Node {
     /// Whether a link is there, open or under way: then it may be lost.
     pub fn is_there(&self, name: LinkName) -> bool
-        ensures { (a : Made) (L : Log) → StandsFor self.now a L → is_name name ≡ true → result ≡ Links.is_there name L }
+        ensures { (a : Made) (L : Log) → NodeStands self.now a L → is_name name ≡ true → result ≡ Links.is_there name L }
     {
         self.state.links.is_there(name)
     }
 
     /// Whether a link is under way: it was dialled and hasn't opened, so that it may open, or the dial fail.
     pub fn is_dialling(&self, name: LinkName) -> bool
-        ensures { (a : Made) (L : Log) → StandsFor self.now a L → is_name name ≡ true → result ≡ Conditions.is_dialling name L }
+        ensures { (a : Made) (L : Log) → NodeStands self.now a L → is_name name ≡ true
+            → result ≡ Conditions.is_dialling name L }
     {
         let link = self.state.links.get(name);
         link.machine.is_dialling()
@@ -52,7 +53,7 @@ impl Node {
 
     /// Whether a link is open: it was taken or has opened, so that messages may come over it.
     pub fn is_open(&self, name: LinkName) -> bool
-        ensures { (a : Made) (L : Log) → StandsFor self.now a L → is_name name ≡ true → result ≡ Conditions.is_open name L }
+        ensures { (a : Made) (L : Log) → NodeStands self.now a L → is_name name ≡ true → result ≡ Conditions.is_open name L }
     {
         let link = self.state.links.get(name);
         link.machine.is_open()

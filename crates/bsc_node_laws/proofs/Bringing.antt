@@ -19,7 +19,7 @@ use Rattle.bsc_node.specs.Conditions.{is_start, awaits_word, may_come}
 use Rattle.bsc_node.specs.Laws.{with_event}
 use Rattle.bsc_node.proofs.Following.{goes_on-is}
 use Rattle.bsc_node.proofs.Lasting.{Fine, fine-goes_on, fine-log}
-use Rattle.bsc_node_laws.specs.Links.{opens_at, GoesOn, Admits, Brings}
+use Rattle.bsc_node_laws.specs.Links.{opens_at, LogGoesOn, Admits, Brings}
 use Rattle.bsc_node_laws.proofs.Tied.{Tied}
 use Rattle.bsc_node_laws.proofs.Between.{Between}
 use Rattle.bsc_node_laws.proofs.Tying.{keeps, keeps_each, keeps_event, keeps_opened, keeps_taken, fits_may}
@@ -60,7 +60,7 @@ by_event a L e b may ev is = (goes, tied_followed a L e b.tied followed)
     followed : Follows a (with_event L e) e.event
     followed = fit_follows a L e b may (ap is_arrival is)
 
-    goes : GoesOn a L e
+    goes : LogGoesOn a L e
     goes = record {
       lines = followed.0;
       is = goes_on_followed a L e followed;

@@ -32,7 +32,7 @@ use Rattle.bsc_node.proofs.Order.{in_order-brought, in_order-cons}
 use Rattle.bsc_node.proofs.Told.{same_link-self}
 use Rattle.bsc_node.proofs.Following.{goes_on-is}
 use Rattle.bsc_node.proofs.Lasting.{free_in_slots, there_in_slots, event_fits}
-use Rattle.bsc_node_laws.specs.Links.{opens_at, GoesOn, Admits}
+use Rattle.bsc_node_laws.specs.Links.{opens_at, LogGoesOn, Admits}
 use Rattle.bsc_node_laws.proofs.Tied.{Tied, EachFits}
 use Rattle.bsc_node_laws.proofs.Between.{Between}
 use Rattle.bsc_node_laws.proofs.There.{there-over, gone-stays}
@@ -180,15 +180,15 @@ begun_is a n = refl
 begun_tied : (a : Made) (n : ℕ) → Tied a (goes_on a (start_at n) [])
 begun_tied a n = subst (Tied a) (sym (begun_is a n)) (record { primary = λ h. refl; claimed = λ k h. cc })
 
-begun_goes_on : (a : Made) (n : ℕ) → GoesOn a [] (start_at n)
+begun_goes_on : (a : Made) (n : ℕ) → LogGoesOn a [] (start_at n)
 begun_goes_on a n = record { lines = start_lines a n; is = begun_is a n; may = (tt, ((refl, refl), tt)) }
 
 start_is : (e : TimedEvent) → e.event ≡ Start → start_at e.now ≡ e
 start_is e is = ap (λ (ev : NodeEvent). record { now = e.now; event = ev }) (sym is)
 
 -- At the start the connector is told so and the primary hub is dialled, and the log is tied then.
-pub first_goes_on : (a : Made) (e : TimedEvent) → e.event ≡ Start → GoesOn a [] e
-first_goes_on a e is = subst (GoesOn a []) (start_is e is) (begun_goes_on a e.now)
+pub first_goes_on : (a : Made) (e : TimedEvent) → e.event ≡ Start → LogGoesOn a [] e
+first_goes_on a e is = subst (LogGoesOn a []) (start_is e is) (begun_goes_on a e.now)
 
 pub first_tied : (a : Made) (e : TimedEvent) → e.event ≡ Start → Tied a (goes_on a e [])
 first_tied a e is = subst (λ (x : TimedEvent). Tied a (goes_on a x [])) (start_is e is) (begun_tied a e.now)

@@ -37,7 +37,7 @@ opens_at e L = []
 
 -- What comes about at an event: first the event itself, then that a link opens, where one does, and then lines each of
 -- which may stand where it stands.
-pub record GoesOn (a : Made) (L : Log) (e : TimedEvent) : Type 0 where
+pub record LogGoesOn (a : Made) (L : Log) (e : TimedEvent) : Type 0 where
   pub lines : List Line
   pub is : goes_on a e L ≡ came e ∷ opens_at e.event (with_event L e) ++ lines
   pub may : EachMay (with_event L e ++ opens_at e.event (with_event L e)) lines
@@ -51,4 +51,4 @@ Admits a L e =
 -- What an event brings about, of links.
 abbrev pub Brings : Made → Log → TimedEvent → NodeEvent → Type 0
 Brings a L e Arrived = Admits a L e
-Brings a L e event = GoesOn a L e
+Brings a L e event = LogGoesOn a L e

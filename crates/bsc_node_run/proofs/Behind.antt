@@ -13,7 +13,7 @@ use Rattle.bsc_node_run.specs.declared.line.Line.{Line}
 use Rattle.bsc_node_run.specs.declared.line.Line.TheVariants.{Nothing, At, Ask}
 use Rattle.bsc_node_run.specs.Saying.{line_of}
 use Rattle.bsc_node_run.specs.Scripts.{Wish, wish_of, asked_from, first_bad, fits_behind, has_finish, is_finish, lines_in, may_follow, script_of, time_after, time_by}
-use Rattle.bsc_node_run.specs.Reading.{Kept}
+use Rattle.bsc_node_run.specs.Reading.{LinesKept}
 use Rattle.bsc_lemmas.proofs.Booleans.{or_false as or_none}
 
 pub on_ok : {T E P Q : Type 0} (r : Result T E) → OnOk r P → (P → Q) → OnOk r Q
@@ -44,7 +44,7 @@ asked-more ms (At new ∷ lines) l = asked-more new lines l
 asked-more ms (Ask event ∷ lines) l = ap (λ (x : List Wish). record { at = ms; event = event } ∷ x) (asked-more ms lines l)
 
 -- a line that says nothing
-pub kept_nothing : (at : ℕ) (ended : Bool) (asked : List Wish) (lines : List Line) → Kept at ended asked lines → Kept at ended asked (lines ++ Nothing ∷ [])
+pub kept_nothing : (at : ℕ) (ended : Bool) (asked : List Wish) (lines : List Line) → LinesKept at ended asked lines → LinesKept at ended asked (lines ++ Nothing ∷ [])
 kept_nothing at ended asked lines k = record {
   time = k.time ∙ sym (time-more lines Nothing);
   finish = k.finish ∙ sym (finish-more lines Nothing ∙ or_none (has_finish lines));
@@ -55,7 +55,7 @@ kept_nothing at ended asked lines k = record {
 may_at : (finish : Bool) (by ms : ℕ) → finish ≡ false → by ≤ ms → (not finish && nat_le by ms) ≡ true
 may_at finish by ms h le = rw h (grind (arith, nat_tests))
 
-pub follows_at : (at : ℕ) (ended : Bool) (asked : List Wish) (lines : List Line) (ms : ℕ) → Kept at ended asked lines → ended ≡ false → at ≤ ms → (may_follow lines (At ms) ≡ true) × Kept ms ended asked (lines ++ At ms ∷ [])
+pub follows_at : (at : ℕ) (ended : Bool) (asked : List Wish) (lines : List Line) (ms : ℕ) → LinesKept at ended asked lines → ended ≡ false → at ≤ ms → (may_follow lines (At ms) ≡ true) × LinesKept ms ended asked (lines ++ At ms ∷ [])
 follows_at at ended asked lines ms k going le = (
   may_at (has_finish lines) (time_by lines) ms (sym k.finish ∙ going) (omega (arith, k.time)),
   record {
@@ -66,7 +66,7 @@ follows_at at ended asked lines ms k going le = (
 )
 
 -- what is asked
-pub follows_ask : (at : ℕ) (ended : Bool) (asked : List Wish) (lines : List Line) (event : NodeEvent) → Kept at ended asked lines → ended ≡ false → (may_follow lines (Ask event) ≡ true) × Kept at (is_finish (Ask event)) (asked ++ record { at = at; event = event } ∷ []) (lines ++ Ask event ∷ [])
+pub follows_ask : (at : ℕ) (ended : Bool) (asked : List Wish) (lines : List Line) (event : NodeEvent) → LinesKept at ended asked lines → ended ≡ false → (may_follow lines (Ask event) ≡ true) × LinesKept at (is_finish (Ask event)) (asked ++ record { at = at; event = event } ∷ []) (lines ++ Ask event ∷ [])
 follows_ask at ended asked lines event k going =
     let none : has_finish lines ≡ false = sym k.finish ∙ going in (
       ap not none,
@@ -79,8 +79,8 @@ follows_ask at ended asked lines event k going =
 
 -- and kept as one element more of what the code has
 pub asked_more : (at : ℕ) (finish : Bool) (asked all : List Due) (d : Due) (lines : List Line) (event : NodeEvent) → finish ≡ is_finish (Ask event) → all ≡ asked ++ d ∷ []
-    → (may_follow lines (Ask event) ≡ true) × Kept at (is_finish (Ask event)) (map wish_of asked ++ wish_of d ∷ []) (lines ++ Ask event ∷ [])
-    → (may_follow lines (Ask event) ≡ true) × Kept at finish (map wish_of all) (lines ++ Ask event ∷ [])
+    → (may_follow lines (Ask event) ≡ true) × LinesKept at (is_finish (Ask event)) (map wish_of asked ++ wish_of d ∷ []) (lines ++ Ask event ∷ [])
+    → (may_follow lines (Ask event) ≡ true) × LinesKept at finish (map wish_of all) (lines ++ Ask event ∷ [])
 asked_more at finish asked all d lines event same more k =
     let wishes : map wish_of all ≡ map wish_of asked ++ wish_of d ∷ [] = ap (map wish_of) more ∙ map-append wish_of asked (d ∷ []) in
     (k.0, rw (same, wishes) k.1)
@@ -98,7 +98,7 @@ fits_piece pieces piece before l count small says may =
     let fits : is_too_big (length (concat pieces)) piece ≡ false = ap (λ (n : ℕ). is_too_big n piece) (sym count) ∙ small in
     rw (fits, says, may) refl
 
-pub kept_piece : (at : ℕ) (ended : Bool) (asked : List Wish) (pieces : List (List ℕ)) (piece : List ℕ) (l : Line) → line_of (line_in piece) ≡ Some l → Kept at ended asked (lines_in pieces ++ l ∷ []) → Kept at ended asked (lines_in (pieces ++ piece ∷ []))
+pub kept_piece : (at : ℕ) (ended : Bool) (asked : List Wish) (pieces : List (List ℕ)) (piece : List ℕ) (l : Line) → line_of (line_in piece) ≡ Some l → LinesKept at ended asked (lines_in pieces ++ l ∷ []) → LinesKept at ended asked (lines_in (pieces ++ piece ∷ []))
 kept_piece at ended asked pieces piece l says k = rw (lines-more pieces piece l says) k
 
 -- ---- a script that was read so far
@@ -110,7 +110,7 @@ pub record ReadSoFar (octets left : List ℕ) (before line at : ℕ) (ended : Bo
   pub count : before ≡ length (concat done)
   pub number : line ≡ length done + 1
   pub good : first_bad [] (pieces_of octets) ≡ first_bad done (pieces_of left)
-  pub kept : Kept at ended asked (lines_in done)
+  pub kept : LinesKept at ended asked (lines_in done)
 
 good-more : (done : List (List ℕ)) (piece : List ℕ) (pieces after : List (List ℕ)) → pieces ≡ piece ∷ after → fits_behind done piece ≡ true → first_bad done pieces ≡ first_bad (done ++ piece ∷ []) after
 good-more done piece pieces after cut fits = rw (cut, fits) refl
@@ -119,7 +119,7 @@ good-more done piece pieces after cut fits = rw (cut, fits) refl
 pub read_more : (octets left piece rest : List ℕ) (before line at at' : ℕ) (ended ended' : Bool) (asked asked' : List Wish)
     → (r : ReadSoFar octets left before line at ended asked)
     → pieces_of left ≡ piece ∷ pieces_of rest
-    → fits_behind r.done piece ≡ true → Kept at' ended' asked' (lines_in (r.done ++ piece ∷ []))
+    → fits_behind r.done piece ≡ true → LinesKept at' ended' asked' (lines_in (r.done ++ piece ∷ []))
     → ReadSoFar octets rest (before + length piece) (line + 1) at' ended' asked'
 read_more octets left piece rest before line at at' ended ended' asked asked' r cut fits kept = record {
   done = r.done ++ piece ∷ [];

@@ -22,6 +22,10 @@ grows_then old None (Some n) xs ys a b = absurd b
 grows_then None (Some m) (Some n) xs ys a b = absurd a
 grows_then (Some o) (Some m) (Some n) xs ys a b = b ∙ ap (λ l. l ++ ys) a ∙ append_assoc o xs ys
 
+-- What was told grew by these, and a later call told nothing more.
+pub grows_still : {A : Type 0} (old mid new : Option (List A)) (xs : List A) → new ≡ mid → Grows old mid xs → Grows old new xs
+grows_still {A = A} old mid new xs e a = subst (λ (t : Option (List A)). Grows old t xs) (sym e) a
+
 pub one_longer : (times : List ℕ) (now made : ℕ) → length times ≡ made → length (times ++ now ∷ []) ≡ made + 1
 one_longer times now made e = length-append times (now ∷ []) ∙ ap (λ n. n + 1) e
 

@@ -12,7 +12,7 @@ use Rattle.bsc_node_run.specs.Drawing.{Draws, GoesDrawing, at_rest}
 use Rattle.bsc_node_run.specs.Performing.{Carries}
 use Rattle.bsc_node_run.specs.Running.{DontFall}
 use Rattle.bsc_node_run.specs.Stopping.{EachStop, GiveStops, HearStops, StopsAt, TurnStops, TurnsStop}
-use Rattle.bsc_node_run.specs.Turning.{Hears, Turn, draws, slots_from}
+use Rattle.bsc_node_run.specs.Turning.{LinkHears, Turn, draws, slots_from}
 use Rattle.bsc_node_run.specs.Worlds.{Admitting, World}
 use Rattle.bsc_node_run.specs.Moments.{in_hands, moment}
 
@@ -50,7 +50,7 @@ module _ {N L : Type 0} (goes : N → ℕ → NodeEvent → List Action → N �
   pub slot_stops : (left rest k : ℕ) (n : N) (w v : World L) → left ≡ suc rest → HearStops goes talk now (Direct k) n w v → EachStop goes talk now (slots_from left k) n w v
   slot_stops left rest k n w v e h = subst (λ c. EachStop goes talk now (slots_from c k) n w v) (sym e) (inl h)
 
-  pub slot_stops_later : (left rest k : ℕ) (n p : N) (w x v : World L) → left ≡ suc rest → Hears goes talk now (Direct k) n w p x
+  pub slot_stops_later : (left rest k : ℕ) (n p : N) (w x v : World L) → left ≡ suc rest → LinkHears goes talk now (Direct k) n w p x
       → EachStop goes talk now (slots_from rest (k + 1)) p x v → EachStop goes talk now (slots_from left k) n w v
   slot_stops_later left rest k n p w x v e h r = subst (λ c. EachStop goes talk now (slots_from c k) n w v) (sym e) (inr (p, x, h, r))
 

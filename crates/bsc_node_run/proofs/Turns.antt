@@ -19,7 +19,7 @@ use Rattle.bsc_node.specs.declared.action.Action.{Action}
 use Rattle.bsc_node_run.specs.declared.due.Due.{Due}
 use Rattle.bsc_node_run.specs.declared.news.News.{News}
 use Rattle.bsc_node_run.specs.Receiving.{Received, WasGiven, left_by, link_wait, told_of}
-use Rattle.bsc_node_run.specs.Turning.{Gives, GivesIn, Hears, HearsEach, HearsIf, HearsOf, IsNotDue, slots_from}
+use Rattle.bsc_node_run.specs.Turning.{Gives, GivesIn, HearsEach, HearsIf, HearsOf, IsNotDue, LinkHears, slots_from}
 use Rattle.bsc_node_run.specs.Worlds.{World, Same, is_of, is_open, with_link, ends}
 
 module _ {L : Type 0} where
@@ -90,32 +90,32 @@ module _ {N L : Type 0} (goes : N → ℕ → NodeEvent → List Action → N �
   hears_quiet name l (Err NoMemory) n w v ok is s = absurd ok
 
   hears_some_in : (name : LinkName) (e : NodeEvent) (n m : N) (w x v : World L) (o : Option L) → w.link name ≡ o → true ≡ is_open name w
-      → Received talk name o (Some e) w x → Gives goes talk now e n x m v → Hears goes talk now name n w m v
+      → Received talk name o (Some e) w x → Gives goes talk now e n x m v → LinkHears goes talk now name n w m v
   hears_some_in name e n m w x v None is up r g = absurd (none-some e (sym r))
   hears_some_in name e n m w x v (Some k) is up (l, given, ok, grows, told, s) g =
       subst (λ b. HearsIf goes talk now name b n w m v) up (k, l, given, is, grows, hears_of name l given e n m w x v ok told s g)
 
   -- Something came.
   pub hears_some : (name : LinkName) (e : NodeEvent) (n m : N) (w x v : World L) → true ≡ is_open name w
-      → Received talk name (w.link name) (Some e) w x → Gives goes talk now e n x m v → Hears goes talk now name n w m v
+      → Received talk name (w.link name) (Some e) w x → Gives goes talk now e n x m v → LinkHears goes talk now name n w m v
   hears_some name e n m w x v up r g = hears_some_in name e n m w x v (w.link name) refl up r g
 
   hears_none_in : (name : LinkName) (n : N) (w v : World L) (o : Option L) → w.link name ≡ o → true ≡ is_open name w
-      → Received talk name o None w v → Hears goes talk now name n w n v
+      → Received talk name o None w v → LinkHears goes talk now name n w n v
   hears_none_in name n w v None is up r = absurd (false≢true (sym (up ∙ none_open name w is)))
   hears_none_in name n w v (Some k) is up (l, given, ok, grows, told, s) =
       subst (λ b. HearsIf goes talk now name b n w n v) up (k, l, given, is, grows, hears_quiet name l given n w v ok told s)
 
   -- Nothing came.
-  pub hears_none : (name : LinkName) (n : N) (w v : World L) → true ≡ is_open name w → Received talk name (w.link name) None w v → Hears goes talk now name n w n v
+  pub hears_none : (name : LinkName) (n : N) (w v : World L) → true ≡ is_open name w → Received talk name (w.link name) None w v → LinkHears goes talk now name n w n v
   hears_none name n w v up r = hears_none_in name n w v (w.link name) refl up r
 
   -- It isn't open.
-  pub hears_closed : (name : LinkName) (n : N) (w : World L) → false ≡ is_open name w → Hears goes talk now name n w n w
+  pub hears_closed : (name : LinkName) (n : N) (w : World L) → false ≡ is_open name w → LinkHears goes talk now name n w n w
   hears_closed name n w shut = subst (λ b. HearsIf goes talk now name b n w n w) shut (refl, same w)
 
   -- one slot more, of those that are left
-  pub slot_more : (left rest k : ℕ) (n p m : N) (w x v : World L) → left ≡ suc rest → Hears goes talk now (Direct k) n w p x
+  pub slot_more : (left rest k : ℕ) (n p m : N) (w x v : World L) → left ≡ suc rest → LinkHears goes talk now (Direct k) n w p x
       → HearsEach goes talk now (slots_from rest (k + 1)) p x m v → HearsEach goes talk now (slots_from left k) n w m v
   slot_more left rest k n p m w x v e h r = subst (λ c. HearsEach goes talk now (slots_from c k) n w m v) (sym e) (p, x, h, r)
 

@@ -1,7 +1,8 @@
 -- The lines that a node writes.
-use Rattle.std.specs.Prelude.{ℕ, Bool, true, false, List, [], ◌∷◌, ◌++◌, codes, decimal, Option, Some, None}
+use Rattle.std.specs.Prelude.{ℕ, Bool, true, false, List, [], ◌∷◌, ◌++◌, codes, Option, Some, None}
 use Rattle.hex.specs.Hex.{encode_upper}
 use Rattle.bsc_octets.specs.declared.vmac.Vmac.{Vmac}
+use Rattle.bsc_lines.specs.Lines.{then_number}
 use Rattle.bsc_frame.specs.declared.advert.Advert.{Advert}
 use Rattle.bsc_connector.specs.declared.hub_use.HubUse.{HubUse}
 use Rattle.bsc_connector.specs.declared.hub_use.HubUse.TheVariants.{NoHub, Primary, Failover}
@@ -15,10 +16,6 @@ use Rattle.bsc_node.specs.declared.note.Note.TheVariants.{Renewed, NoRandom, Fin
 abbrev pub behind_space : List ℕ → List ℕ
 behind_space [] = []
 behind_space (c ∷ o) = codes " " ++ encode_upper (c ∷ o)
-
--- a number behind a space
-abbrev pub field : ℕ → List ℕ
-field n = codes " " ++ decimal n
 
 -- a line of words
 abbrev pub line : List ℕ → List ℕ
@@ -49,7 +46,7 @@ uris_line v uris = codes "uris " ++ encode_upper v.0 ++ behind_space uris ++ cod
 
 -- An Advertisement of a VMAC: the hub status, whether it accepts direct connections, and the two maximum lengths.
 abbrev pub advert_line : Vmac → Advert → List ℕ
-advert_line v a = codes "advert " ++ encode_upper v.0 ++ field a.status ++ field a.accepts ++ field a.max_bvlc ++ field a.max_npdu ++ codes "\n"
+advert_line v a = codes "advert " ++ encode_upper v.0 ++ then_number a.status ++ then_number a.accepts ++ then_number a.max_bvlc ++ then_number a.max_npdu ++ codes "\n"
 
 -- whose a NAK is: a node's, or the hub's own
 abbrev pub whose : Option Vmac → List ℕ
@@ -58,7 +55,7 @@ whose (Some v) = encode_upper v.0
 
 -- A NAK: whose it is, the function that is refused in hexadecimal digits, and the error code.
 abbrev pub nak_line : Option Vmac → ℕ → ℕ → List ℕ
-nak_line from function code = codes "nak " ++ whose from ++ codes " " ++ encode_upper (function ∷ []) ++ field code ++ codes "\n"
+nak_line from function code = codes "nak " ++ whose from ++ codes " " ++ encode_upper (function ∷ []) ++ then_number code ++ codes "\n"
 
 -- What a node tells.
 abbrev pub note_line : Note → List ℕ

@@ -11,7 +11,7 @@ asks_octets (Ask event) = has_octets event
 asks_octets line = true
 
 -- Behind these lines the time is this, `finish` came or didn't, and this is asked.
-pub record Kept (at : ℕ) (ended : Bool) (asked : List Wish) (lines : List Line) : Type 0 where
+pub record LinesKept (at : ℕ) (ended : Bool) (asked : List Wish) (lines : List Line) : Type 0 where
   pub time : at ≡ time_by lines
   pub finish : ended ≡ has_finish lines
   pub all : asked ≡ asked_from 0 lines

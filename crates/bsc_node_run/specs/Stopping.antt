@@ -21,7 +21,7 @@ use Rattle.bsc_node_run.specs.Moments.{Hands, Moment, Outside, RunMoment, in_han
 use Rattle.bsc_node_run.specs.Performing.{Carries, Does, kind_of}
 use Rattle.bsc_node_run.specs.Receiving.{Received}
 use Rattle.bsc_node_run.specs.Running.{DontFall, IsEmpty}
-use Rattle.bsc_node_run.specs.Turning.{AreDue, Gives, GivesLines, GivesNews, Hears, HearsEach, IsNotDue, Starts, Turn}
+use Rattle.bsc_node_run.specs.Turning.{AreDue, Gives, GivesLines, GivesNews, HearsEach, IsNotDue, LinkHears, Starts, Turn}
 use Rattle.bsc_node_run.specs.Turning.{accept_wait, draws, event_of, names, passed_by}
 use Rattle.bsc_node_run.specs.Worlds.{Admitting, World, Same, begun, is_open}
 
@@ -85,7 +85,7 @@ module _ {N L : Type 0} (goes : N → ℕ → NodeEvent → List Action → N �
   abbrev pub EachStop : List LinkName → N → World L → World L → Type 0
   EachStop [] n w v = ⊥
   EachStop (name ∷ names) n w v = HearStops name n w v
-      ⊎ ((p : N) × (x : World L) × Hears goes talk now name n w p x × EachStop names p x v)
+      ⊎ ((p : N) × (x : World L) × LinkHears goes talk now name n w p x × EachStop names p x v)
 
   -- The acceptor failed, or there was no memory for what it gave; or it stopped at the link that arrived.
   abbrev pub AdmitStops : Bool → Moment N L → Hands L → Type 0

@@ -116,13 +116,13 @@ module _ {N L : Type 0} (goes : N → ℕ → NodeEvent → List Action → N �
   HearsIf name true n w m v = (k l : L) × (given : Result Incoming LinkFault)
       × (w.link name ≡ Some k) × Grows (talk k) (talk l) (Gave link_wait given ∷ []) × HearsOf name l given n w m v
 
-  abbrev pub Hears : LinkName → N → World L → N → World L → Type 0
-  Hears name n w m v = HearsIf name (is_open name w) n w m v
+  abbrev pub LinkHears : LinkName → N → World L → N → World L → Type 0
+  LinkHears name n w m v = HearsIf name (is_open name w) n w m v
 
   -- The links of these names, one after the other.
   abbrev pub HearsEach : List LinkName → N → World L → N → World L → Type 0
   HearsEach [] n w m v = (m ≡ n) × Same v w
-  HearsEach (name ∷ names) n w m v = (p : N) × (x : World L) × Hears name n w p x × HearsEach names p x m v
+  HearsEach (name ∷ names) n w m v = (p : N) × (x : World L) × LinkHears name n w p x × HearsEach names p x m v
 
   -- ---- a link that arrives
 

@@ -6,7 +6,7 @@ ghost use Rattle.bsc_text.specs.Lines.{is_too_big, line_in, pieces_of};
 ghost use Rattle.bsc_node_run.specs.declared.line.Line.{Line as LineType};
 ghost use Rattle.bsc_node_run.specs.declared.line.Line.TheVariants.{At, Ask};
 ghost use Rattle.bsc_node_run.specs.declared.line.LineFault.TheVariants.{Refused as IsRefused};
-ghost use Rattle.bsc_node_run.specs.Reading.{Kept, asks_octets};
+ghost use Rattle.bsc_node_run.specs.Reading.{LinesKept, asks_octets};
 ghost use Rattle.bsc_node_run.specs.Requests.{has_octets};
 ghost use Rattle.bsc_node_run.specs.Scripts.{fits_behind, is_finish, lines_in, may_follow, script_of, wish_of};
 
@@ -109,9 +109,9 @@ fn is_finish(event: &NodeEvent) -> bool
 impl Reading {
     /// Goes on at a time.
     fn set_time(&mut self, ms: u64) -> Result<(), LineFault>
-        ensures taken { OnOk result ((lines : List LineType) → Kept self.old.at self.old.ended (map wish_of self.old.lines.items) lines →
-            (may_follow lines (At ms) ≡ true) × Kept self.new.at self.new.ended (map wish_of self.new.lines.items) (lines ++ At ms ∷ [])) }
-        ensures refused { result ≡ Err IsRefused → (lines : List LineType) → Kept self.old.at self.old.ended (map wish_of self.old.lines.items) lines →
+        ensures taken { OnOk result ((lines : List LineType) → LinesKept self.old.at self.old.ended (map wish_of self.old.lines.items) lines →
+            (may_follow lines (At ms) ≡ true) × LinesKept self.new.at self.new.ended (map wish_of self.new.lines.items) (lines ++ At ms ∷ [])) }
+        ensures refused { result ≡ Err IsRefused → (lines : List LineType) → LinesKept self.old.at self.old.ended (map wish_of self.old.lines.items) lines →
             may_follow lines (At ms) ≡ false }
     {
         if self.ended || ms < self.at {
@@ -124,9 +124,9 @@ impl Reading {
     /// Goes on with what is asked.
     fn ask(&mut self, event: NodeEvent) -> Result<(), LineFault>
         requires { has_octets event ≡ true }
-        ensures taken { OnOk result ((lines : List LineType) → Kept self.old.at self.old.ended (map wish_of self.old.lines.items) lines →
-            (may_follow lines (Ask event) ≡ true) × Kept self.new.at self.new.ended (map wish_of self.new.lines.items) (lines ++ Ask event ∷ [])) }
-        ensures refused { result ≡ Err IsRefused → (lines : List LineType) → Kept self.old.at self.old.ended (map wish_of self.old.lines.items) lines →
+        ensures taken { OnOk result ((lines : List LineType) → LinesKept self.old.at self.old.ended (map wish_of self.old.lines.items) lines →
+            (may_follow lines (Ask event) ≡ true) × LinesKept self.new.at self.new.ended (map wish_of self.new.lines.items) (lines ++ Ask event ∷ [])) }
+        ensures refused { result ≡ Err IsRefused → (lines : List LineType) → LinesKept self.old.at self.old.ended (map wish_of self.old.lines.items) lines →
             may_follow lines (Ask event) ≡ false }
     {
         if self.ended {
@@ -139,9 +139,9 @@ impl Reading {
     /// Goes on with a line, where it may stand there.
     fn take_in(&mut self, line: Line) -> Result<(), LineFault>
         requires { asks_octets line ≡ true }
-        ensures taken { OnOk result ((lines : List LineType) → Kept self.old.at self.old.ended (map wish_of self.old.lines.items) lines →
-            (may_follow lines line ≡ true) × Kept self.new.at self.new.ended (map wish_of self.new.lines.items) (lines ++ line ∷ [])) }
-        ensures refused { result ≡ Err IsRefused → (lines : List LineType) → Kept self.old.at self.old.ended (map wish_of self.old.lines.items) lines →
+        ensures taken { OnOk result ((lines : List LineType) → LinesKept self.old.at self.old.ended (map wish_of self.old.lines.items) lines →
+            (may_follow lines line ≡ true) × LinesKept self.new.at self.new.ended (map wish_of self.new.lines.items) (lines ++ line ∷ [])) }
+        ensures refused { result ≡ Err IsRefused → (lines : List LineType) → LinesKept self.old.at self.old.ended (map wish_of self.old.lines.items) lines →
             may_follow lines line ≡ false }
     {
         match line {
@@ -155,12 +155,12 @@ impl Reading {
     fn read_piece(&mut self, alloc: Global, before: u64, piece: &[u8]) -> Result<(), LineFault>
         requires { before ≤ MAX_INPUT_LEN }
         ensures taken { OnOk result ((pieces : List (List ℕ)) → before ≡ length (concat pieces) →
-            Kept self.old.at self.old.ended (map wish_of self.old.lines.items) (lines_in pieces) →
+            LinesKept self.old.at self.old.ended (map wish_of self.old.lines.items) (lines_in pieces) →
             (fits_behind pieces piece.now ≡ true)
-            × Kept self.new.at self.new.ended (map wish_of self.new.lines.items) (lines_in (pieces ++ piece.now ∷ []))) }
+            × LinesKept self.new.at self.new.ended (map wish_of self.new.lines.items) (lines_in (pieces ++ piece.now ∷ []))) }
         ensures fits { OnOk result (before + length piece.now ≤ MAX_INPUT_LEN) }
         ensures refused { result ≡ Err IsRefused → (pieces : List (List ℕ)) → before ≡ length (concat pieces) →
-            Kept self.old.at self.old.ended (map wish_of self.old.lines.items) (lines_in pieces) → fits_behind pieces piece.now ≡ false }
+            LinesKept self.old.at self.old.ended (map wish_of self.old.lines.items) (lines_in pieces) → fits_behind pieces piece.now ≡ false }
     {
         if is_too_big(before, piece) {
             return Err(LineFault::Refused);

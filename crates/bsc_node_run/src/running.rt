@@ -3,6 +3,7 @@ ghost use Rattle.std.specs.Prelude.{◌≡◌, ◌≤◌, IfOk, OnErr};
 ghost use Rattle.bsc_edge.specs.Told.{Stays};
 ghost use Rattle.bsc_node_run.specs.Halts.{RisesOnAcceptFault, RisesOnWriteFault};
 ghost use Rattle.bsc_node_run.specs.Drawing.{GoesDrawing, at_rest};
+ghost use Rattle.bsc_node_run.specs.Moments.{outside, run_moment};
 ghost use Rattle.bsc_node_run.specs.Resting.{HasRested, IsOverBy, longest_rest};
 ghost use Rattle.bsc_node_run.specs.Running.{Run};
 ghost use Rattle.bsc_node_run.specs.Stopping.{RunFails};
@@ -14,7 +15,10 @@ use crate::due::Due;
 use crate::halt::Halt;
 use crate::link_set::LinkSet;
 use crate::node_core::Core;
+use crate::parts::NodeParts;
 use crate::run_end::RunEnd;
+use crate::run_terms::RunTerms;
+use crate::turn_start::TurnStart;
 use crate::turning::{node_turn, passed_by};
 use crate::words::Words;
 use bsc_edge::{Acceptor, Clock, Dialer, Link, Waiter};
@@ -56,57 +60,31 @@ pub fn run_core<
 >(
     alloc: Global,
     node: &mut N,
-    script: &[Due],
-    listens: bool,
-    turns: u64,
+    terms: RunTerms<'_>,
     sink: &mut K,
     clock: &mut C,
-    waiter: &mut V,
-    random: &mut W,
     acceptor: &mut A,
-    dialer: &mut D,
+    parts: &mut NodeParts<V, W, D>,
 ) -> Result<RunEnd, Halt>
-    ensures runs { IfOk result (λ end. Run (GoesDrawing N.goes W.gives W.faults) L.talk listens end turns script.now
-        (record {
-          node = at_rest node.old random.old;
-          out = record {
-            dialled = dialling D.calls D.left D.faults dialer.old;
-            written = K.held sink.old;
-            door = admitting A.left A.waits acceptor.old;
-            readings = C.readings clock.old;
-          };
-        })
-        (record {
-          node = at_rest node.new random.new;
-          out = record {
-            dialled = dialling D.calls D.left D.faults dialer.new;
-            written = K.held sink.new;
-            door = admitting A.left A.waits acceptor.new;
-            readings = C.readings clock.new;
-          };
-        })) }
+    ensures runs { IfOk result (λ end. Run (GoesDrawing N.goes W.gives W.faults) L.talk terms.entry.listens end
+        terms.entry.turns terms.entry.script.now
+        (run_moment (at_rest node.old parts.old.random) (dialling D.calls D.left D.faults parts.old.dialer)
+        (K.held sink.old) (admitting A.left A.waits acceptor.old) (C.readings clock.old))
+        (run_moment (at_rest node.new parts.new.random) (dialling D.calls D.left D.faults parts.new.dialer)
+        (K.held sink.new) (admitting A.left A.waits acceptor.new) (C.readings clock.new))) }
 
     // Where it ends by a fault, what was done is as in a run up to there, and one action more in part.
-    ensures fails { OnErr result (RunFails (GoesDrawing N.goes W.gives W.faults) L.talk listens turns script.now
-        (record {
-          node = at_rest node.old random.old;
-          out = record {
-            dialled = dialling D.calls D.left D.faults dialer.old;
-            written = K.held sink.old;
-            door = admitting A.left A.waits acceptor.old;
-            readings = C.readings clock.old;
-          };
-        })
-        (record {
-          dialled = dialling D.calls D.left D.faults dialer.new;
-          written = K.held sink.new;
-          door = admitting A.left A.waits acceptor.new;
-          readings = C.readings clock.new;
-        })) }
+    ensures fails { OnErr result (RunFails (GoesDrawing N.goes W.gives W.faults) L.talk terms.entry.listens
+        terms.entry.turns terms.entry.script.now
+        (run_moment (at_rest node.old parts.old.random) (dialling D.calls D.left D.faults parts.old.dialer)
+        (K.held sink.old) (admitting A.left A.waits acceptor.old) (C.readings clock.old))
+        (outside (dialling D.calls D.left D.faults parts.new.dialer) (K.held sink.new) (admitting A.left A.waits acceptor.new)
+        (C.readings clock.new))) }
 
     // Whatever ends it, there was one wait before each turn: of no time before the first; and then of 50 ms at most, and no longer
     // than it was, at the turn before, until the next line of the script.
-    ensures rests { HasRested script.now (C.readings clock.old) (C.readings clock.new) (V.waits waiter.old) (V.waits waiter.new) }
+    ensures rests { HasRested terms.entry.script.now (C.readings clock.old) (C.readings clock.new)
+        (V.waits parts.old.waiter) (V.waits parts.new.waiter) }
     ensures write { RisesOnWriteFault result (K.faults sink.old) (K.faults sink.new) }
     ensures accept { RisesOnAcceptFault result (A.faults acceptor.old) (A.faults acceptor.new) }
     ensures writes_later { K.faults sink.old ≤ K.faults sink.new }
@@ -115,15 +93,24 @@ pub fn run_core<
     // The acceptor stays bound to the port that it was bound to.
     ensures bound { Stays (A.bound acceptor.old) (A.bound acceptor.new) }
 {
+    let RunTerms {
+        script,
+        listens,
+        turns,
+    } = terms;
     let mut set = LinkSet::make(alloc)?;
     let mut start = None;
     let mut left = script;
     let mut wait_ms = 0;
     for made in 0..turns {
-        waiter.wait(wait_ms);
-        let turn = node_turn(
-            alloc, node, &mut set, left, start, listens, sink, clock, random, acceptor, dialer,
-        )?;
+        parts.waiter.wait(wait_ms);
+        let from = TurnStart {
+            alloc,
+            script: left,
+            start,
+            listens,
+        };
+        let turn = node_turn(from, node, &mut set, sink, clock, acceptor, parts)?;
         if set.finished {
             return Ok(RunEnd::Finished);
         }

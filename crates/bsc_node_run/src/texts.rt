@@ -1,40 +1,14 @@
 //! The lines that a node writes.
-ghost use Rattle.std.specs.Prelude.{◌≡◌, ◌++◌, IfOk, codes, decimal};
-ghost use Rattle.hex.specs.Hex.{encode_upper};
-ghost use Rattle.bsc_node_run.specs.Lines.{advert_line, behind_space, delivered_line, field, hub_line, line, line_of};
+ghost use Rattle.std.specs.Prelude.{◌≡◌, ◌++◌, IfOk};
+ghost use Rattle.bsc_node_run.specs.Lines.{advert_line, behind_space, delivered_line, hub_line, line, line_of};
 ghost use Rattle.bsc_node_run.specs.Lines.{nak_line, note_line, reach, uris_line, whose};
 
 use bsc_connector::HubUse;
 use bsc_frame::Advert;
+use bsc_lines::{put_hex, put_then, put_words};
 use bsc_node::{Delivered, Note};
 use bsc_octets::{NoMemory, Vmac};
 use std::alloc::Global;
-
-/// Puts words of text.
-fn put_words(text: &mut Vec<u8>, words: &str) -> Result<(), NoMemory>
-    ensures { IfOk result (λ _. text.new.items ≡ text.old.items ++ words.now) }
-{
-    text.extend_from_slice(words.as_bytes())?;
-    Ok(())
-}
-
-/// Puts a number in decimal digits.
-fn put_number(text: &mut Vec<u8>, alloc: Global, n: u64) -> Result<(), NoMemory>
-    ensures { IfOk result (λ _. text.new.items ≡ text.old.items ++ decimal n) }
-{
-    let digits = format!(in alloc; "{n}")?;
-    put_words(text, digits.as_str())
-}
-
-/// Puts octets as hexadecimal digits, with letters in upper case.
-fn put_hex(text: &mut Vec<u8>, alloc: Global, octets: &[u8]) -> Result<(), NoMemory>
-    ensures { IfOk result (λ _. text.new.items ≡ text.old.items ++ encode_upper octets.now) }
-{
-    let Ok(digits) = hex::encode_upper(alloc, octets) else {
-        return Err(NoMemory);
-    };
-    put_words(text, digits.as_str())
-}
 
 /// Puts octets behind a space, where there are any.
 fn put_behind_space(text: &mut Vec<u8>, alloc: Global, octets: &[u8]) -> Result<(), NoMemory>
@@ -113,14 +87,6 @@ fn uris_line(alloc: Global, v: &Vmac, uris: &[u8]) -> Result<Vec<u8>, NoMemory>
     Ok(text)
 }
 
-/// Puts a number in decimal digits behind a space.
-fn put_field(text: &mut Vec<u8>, alloc: Global, n: u64) -> Result<(), NoMemory>
-    ensures { IfOk result (λ _. text.new.items ≡ text.old.items ++ field n) }
-{
-    put_words(text, " ")?;
-    put_number(text, alloc, n)
-}
-
 /// The line of an Advertisement.
 fn advert_line(alloc: Global, v: &Vmac, advert: &Advert) -> Result<Vec<u8>, NoMemory>
     ensures { IfOk result (λ t. t.items ≡ advert_line v.now advert.now) }
@@ -128,10 +94,10 @@ fn advert_line(alloc: Global, v: &Vmac, advert: &Advert) -> Result<Vec<u8>, NoMe
     let mut text = Vec::new(alloc);
     put_words(&mut text, "advert ")?;
     put_hex(&mut text, alloc, &v.0)?;
-    put_field(&mut text, alloc, u64::from(advert.status))?;
-    put_field(&mut text, alloc, u64::from(advert.accepts))?;
-    put_field(&mut text, alloc, u64::from(advert.max_bvlc))?;
-    put_field(&mut text, alloc, u64::from(advert.max_npdu))?;
+    put_then(&mut text, u64::from(advert.status))?;
+    put_then(&mut text, u64::from(advert.accepts))?;
+    put_then(&mut text, u64::from(advert.max_bvlc))?;
+    put_then(&mut text, u64::from(advert.max_npdu))?;
     put_words(&mut text, "\n")?;
     Ok(text)
 }
@@ -160,7 +126,7 @@ fn nak_line(
     put_whose(&mut text, alloc, from)?;
     put_words(&mut text, " ")?;
     put_hex(&mut text, alloc, &[function])?;
-    put_field(&mut text, alloc, u64::from(code))?;
+    put_then(&mut text, u64::from(code))?;
     put_words(&mut text, "\n")?;
     Ok(text)
 }

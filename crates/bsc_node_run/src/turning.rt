@@ -8,10 +8,11 @@ ghost use Rattle.bsc_node_run.specs.declared.due.Due.{Due as DueType};
 ghost use Rattle.bsc_node_run.specs.declared.halt.Halt.{Halt as HaltType};
 ghost use Rattle.bsc_node_run.specs.declared.news.News.{News as NewsType};
 ghost use Rattle.bsc_node_run.specs.Drawing.{GoesDrawing, at_rest};
+ghost use Rattle.bsc_node_run.specs.Moments.{in_hands, moment};
 ghost use Rattle.bsc_node_run.specs.Receiving.{Received};
 ghost use Rattle.bsc_node_run.specs.Requests.{has_octets};
 ghost use Rattle.bsc_node_run.specs.Stopping.{AdmitStops, EachStop, HearStops, LinesStop, NewsStop, StartStops, TurnStops};
-ghost use Rattle.bsc_node_run.specs.Turning.{Admits, AreDue, GivesLines, GivesNews, Hears, HearsEach, IsNotDue};
+ghost use Rattle.bsc_node_run.specs.Turning.{Admits, AreDue, GivesLines, GivesNews, HearsEach, IsNotDue, LinkHears};
 ghost use Rattle.bsc_node_run.specs.Turning.{Starts, Turn, event_of, names, passed_by, slots_from};
 ghost use Rattle.bsc_node_run.specs.Worlds.{Dialling, Same, admitting, dialling, link_in, with_over, world_of};
 
@@ -22,8 +23,10 @@ use crate::halt::Halt;
 use crate::link_set::LinkSet;
 use crate::news::{Change, News};
 use crate::node_core::Core;
+use crate::parts::NodeParts;
 use crate::telling::give;
 use crate::turn_end::TurnEnd;
+use crate::turn_start::TurnStart;
 use crate::words::Words;
 use bsc_connector::Side;
 use bsc_direct::SLOTS;
@@ -78,15 +81,14 @@ fn give_due<'a, N: Core, K: Sink, W: Words, L: Link + Drop, D: Dialer<L>>(
     sink: &mut K,
     random: &mut W,
     dialer: &mut D,
-    passed: u64,
     script: &'a [Due],
 ) -> Result<&'a [Due], Halt>
     ensures gives { IfOk result (λ rest. (lines : List DueType)
-        × (script.now ≡ lines ++ rest.now) × AreDue passed lines × IsNotDue passed rest.now
+        × (script.now ≡ lines ++ rest.now) × AreDue at.passed lines × IsNotDue at.passed rest.now
         × GivesLines (GoesDrawing N.goes W.gives W.faults) L.talk at.time lines
         (at_rest node.old random.old) (world_of set.old (dialling D.calls D.left D.faults dialer.old) (K.held sink.old))
         (at_rest node.new random.new) (world_of set.new (dialling D.calls D.left D.faults dialer.new) (K.held sink.new))) }
-    ensures stops { OnErr result ((lines rest : List DueType) × (script.now ≡ lines ++ rest) × AreDue passed lines
+    ensures stops { OnErr result ((lines rest : List DueType) × (script.now ≡ lines ++ rest) × AreDue at.passed lines
         × LinesStop (GoesDrawing N.goes W.gives W.faults) L.talk at.time lines
         (at_rest node.old random.old) (world_of set.old (dialling D.calls D.left D.faults dialer.old) (K.held sink.old))
         (world_of set.new (dialling D.calls D.left D.faults dialer.new) (K.held sink.new))) }
@@ -96,7 +98,7 @@ fn give_due<'a, N: Core, K: Sink, W: Words, L: Link + Drop, D: Dialer<L>>(
 {
     let mut left = script;
     while let [due, rest @ ..] = left {
-        if passed < due.at {
+        if at.passed < due.at {
             return Ok(left);
         }
         give(at, node, set, sink, random, dialer, &due.event)?;
@@ -162,7 +164,7 @@ fn hear<N: Core, K: Sink, W: Words, L: Link + Drop, D: Dialer<L>>(
     dialer: &mut D,
     name: LinkName,
 ) -> Result<(), Halt>
-    ensures hears { OnOk result (Hears (GoesDrawing N.goes W.gives W.faults) L.talk at.time name
+    ensures hears { OnOk result (LinkHears (GoesDrawing N.goes W.gives W.faults) L.talk at.time name
         (at_rest node.old random.old) (world_of set.old (dialling D.calls D.left D.faults dialer.old) (K.held sink.old))
         (at_rest node.new random.new) (world_of set.new (dialling D.calls D.left D.faults dialer.new) (K.held sink.new))) }
     ensures stops { OnErr result (HearStops (GoesDrawing N.goes W.gives W.faults) L.talk at.time name
@@ -256,42 +258,24 @@ fn admit<N: Core, K: Sink, W: Words, L: Link + Drop, A: Acceptor<L>, D: Dialer<L
     random: &mut W,
     acceptor: &mut A,
     dialer: &mut D,
-    listens: bool,
 ) -> Result<(), Halt>
-    ensures admits { OnOk result (Admits (GoesDrawing N.goes W.gives W.faults) L.talk at.time listens
-        (record {
-          node = at_rest node.old random.old;
-          hands = record {
-            world = world_of set.old (dialling D.calls D.left D.faults dialer.old) (K.held sink.old);
-            door = admitting A.left A.waits acceptor.old;
-          };
-        })
-        (record {
-          node = at_rest node.new random.new;
-          hands = record {
-            world = world_of set.new (dialling D.calls D.left D.faults dialer.new) (K.held sink.new);
-            door = admitting A.left A.waits acceptor.new;
-          };
-        })) }
-    ensures stops { OnErr result (AdmitStops (GoesDrawing N.goes W.gives W.faults) L.talk at.time listens
-        (record {
-          node = at_rest node.old random.old;
-          hands = record {
-            world = world_of set.old (dialling D.calls D.left D.faults dialer.old) (K.held sink.old);
-            door = admitting A.left A.waits acceptor.old;
-          };
-        })
-        (record {
-          world = world_of set.new (dialling D.calls D.left D.faults dialer.new) (K.held sink.new);
-          door = admitting A.left A.waits acceptor.new;
-        })) }
+    ensures admits { OnOk result (Admits (GoesDrawing N.goes W.gives W.faults) L.talk at.time at.listens
+        (moment (at_rest node.old random.old) (world_of set.old (dialling D.calls D.left D.faults dialer.old) (K.held sink.old))
+        (admitting A.left A.waits acceptor.old))
+        (moment (at_rest node.new random.new) (world_of set.new (dialling D.calls D.left D.faults dialer.new) (K.held sink.new))
+        (admitting A.left A.waits acceptor.new))) }
+    ensures stops { OnErr result (AdmitStops (GoesDrawing N.goes W.gives W.faults) L.talk at.time at.listens
+        (moment (at_rest node.old random.old) (world_of set.old (dialling D.calls D.left D.faults dialer.old) (K.held sink.old))
+        (admitting A.left A.waits acceptor.old))
+        (in_hands (world_of set.new (dialling D.calls D.left D.faults dialer.new) (K.held sink.new))
+        (admitting A.left A.waits acceptor.new))) }
     ensures failed { RisesOnWriteFault result (K.faults sink.old) (K.faults sink.new) }
     ensures later { K.faults sink.old ≤ K.faults sink.new }
     ensures accept { RisesOnAcceptFault result (A.faults acceptor.old) (A.faults acceptor.new) }
     ensures arrivals { A.faults acceptor.old ≤ A.faults acceptor.new }
     ensures bound { Stays (A.bound acceptor.old) (A.bound acceptor.new) }
 {
-    if !listens {
+    if !at.listens {
         return Ok(());
     }
     match acceptor.next(at.alloc, ACCEPT_WAIT_MS) {
@@ -342,60 +326,45 @@ pub(crate) fn passed_by(start: Option<u64>, now: u64) -> u64
 /// that time has passed; what is new of its links; what of the script is due; what comes of each open link; and that a
 /// link arrived, where it accepts direct connections. What the node does at each is carried out before the next.
 ///
-/// `start` is the time of the first turn.
+/// Nothing is asked of what the node waits by: `run_core` waits between turns.
 #[tactic(auto, using(crate::proofs::Told::stays_same))]
 pub fn node_turn<
     'a,
     N: Core,
     K: Sink,
     C: Clock,
+    V,
     W: Words,
     L: Link + Drop,
     A: Acceptor<L>,
     D: Dialer<L>,
 >(
-    alloc: Global,
+    from: TurnStart<'a>,
     node: &mut N,
     set: &mut LinkSet<L>,
-    script: &'a [Due],
-    start: Option<u64>,
-    listens: bool,
     sink: &mut K,
     clock: &mut C,
-    random: &mut W,
     acceptor: &mut A,
-    dialer: &mut D,
+    parts: &mut NodeParts<V, W, D>,
 ) -> Result<TurnEnd<'a>, Halt>
-    ensures turns { IfOk result (λ r. Turn (GoesDrawing N.goes W.gives W.faults) L.talk r.time start script.now r.left.now listens
-        (record {
-          node = at_rest node.old random.old;
-          hands = record {
-            world = world_of set.old (dialling D.calls D.left D.faults dialer.old) (K.held sink.old);
-            door = admitting A.left A.waits acceptor.old;
-          };
-        })
-        (record {
-          node = at_rest node.new random.new;
-          hands = record {
-            world = world_of set.new (dialling D.calls D.left D.faults dialer.new) (K.held sink.new);
-            door = admitting A.left A.waits acceptor.new;
-          };
-        })) }
+    ensures turns { IfOk result (λ r. Turn (GoesDrawing N.goes W.gives W.faults) L.talk r.time
+        from.entry.start from.entry.script.now r.left.now from.entry.listens
+        (moment (at_rest node.old parts.old.random)
+        (world_of set.old (dialling D.calls D.left D.faults parts.old.dialer) (K.held sink.old))
+        (admitting A.left A.waits acceptor.old))
+        (moment (at_rest node.new parts.new.random)
+        (world_of set.new (dialling D.calls D.left D.faults parts.new.dialer) (K.held sink.new))
+        (admitting A.left A.waits acceptor.new))) }
 
     // Where it ends by a fault, its parts went through in this order, up to the one in which it stopped.
     ensures stops { OnErr result ((t : ℕ) × Grows (C.readings clock.old) (C.readings clock.new) (t ∷ []) × (t < 2 ^ 62)
-        × (C.newest clock.old ≤ t) × TurnStops (GoesDrawing N.goes W.gives W.faults) L.talk t start script.now listens
-        (record {
-          node = at_rest node.old random.old;
-          hands = record {
-            world = world_of set.old (dialling D.calls D.left D.faults dialer.old) (K.held sink.old);
-            door = admitting A.left A.waits acceptor.old;
-          };
-        })
-        (record {
-          world = world_of set.new (dialling D.calls D.left D.faults dialer.new) (K.held sink.new);
-          door = admitting A.left A.waits acceptor.new;
-        })) }
+        × (C.newest clock.old ≤ t) × TurnStops (GoesDrawing N.goes W.gives W.faults) L.talk t
+        from.entry.start from.entry.script.now from.entry.listens
+        (moment (at_rest node.old parts.old.random)
+        (world_of set.old (dialling D.calls D.left D.faults parts.old.dialer) (K.held sink.old))
+        (admitting A.left A.waits acceptor.old))
+        (in_hands (world_of set.new (dialling D.calls D.left D.faults parts.new.dialer) (K.held sink.new))
+        (admitting A.left A.waits acceptor.new))) }
     ensures reading { IfOk result (λ r. Grows (C.readings clock.old) (C.readings clock.new) (r.time ∷ [])) }
     ensures below { IfOk result (λ r. r.time < 2 ^ 62) }
 
@@ -410,24 +379,56 @@ pub fn node_turn<
 
     // The acceptor stays bound to the port that it was bound to.
     ensures bound { Stays (A.bound acceptor.old) (A.bound acceptor.new) }
+
+    // What the node waits by between its turns is as it was.
+    ensures waiter { parts.new.waiter ≡ parts.old.waiter }
 {
     let now = clock.now();
-    let at = At { alloc, time: now };
-    set.begin_turn(alloc);
-    begin(at, node, set, sink, random, dialer, start)?;
-    give(at, node, set, sink, random, dialer, &NodeEvent::Tick)?;
-    give_news(at, node, set, sink, random, dialer)?;
+    let passed = passed_by(from.start, now);
+    let at = At {
+        alloc: from.alloc,
+        time: now,
+        passed,
+        listens: from.listens,
+    };
+    set.begin_turn(from.alloc);
+    begin(
+        at,
+        node,
+        set,
+        sink,
+        &mut parts.random,
+        &mut parts.dialer,
+        from.start,
+    )?;
+    give(
+        at,
+        node,
+        set,
+        sink,
+        &mut parts.random,
+        &mut parts.dialer,
+        &NodeEvent::Tick,
+    )?;
+    give_news(at, node, set, sink, &mut parts.random, &mut parts.dialer)?;
     let left = give_due(
         at,
         node,
         set,
         sink,
-        random,
-        dialer,
-        passed_by(start, now),
-        script,
+        &mut parts.random,
+        &mut parts.dialer,
+        from.script,
     )?;
-    hear_all(at, node, set, sink, random, dialer)?;
-    admit(at, node, set, sink, random, acceptor, dialer, listens)?;
+    hear_all(at, node, set, sink, &mut parts.random, &mut parts.dialer)?;
+    admit(
+        at,
+        node,
+        set,
+        sink,
+        &mut parts.random,
+        acceptor,
+        &mut parts.dialer,
+    )?;
     Ok(TurnEnd { time: now, left })
 }

@@ -21,7 +21,7 @@ use Rattle.bsc_node.specs.declared.action.Action.TheVariants.{Take, Refuse, Draw
 use Rattle.bsc_node.specs.Logs.{Made, Line, came, slot, did, Log, event_of, action_of, now, is_finish, is_finishing}
 use Rattle.bsc_node.specs.Node.{goes_on, actions_at}
 use Rattle.bsc_node.specs.Laws.{with_event, draws}
-use Rattle.bsc_node_laws.specs.Links.{MayStand, EachMay, opens_at, GoesOn, Admits, Brings}
+use Rattle.bsc_node_laws.specs.Links.{MayStand, EachMay, opens_at, LogGoesOn, Admits, Brings}
 use Rattle.bsc_node_laws.proofs.There.{gone-stays, opened-other}
 use Rattle.bsc_node_laws.proofs.Drawn.{seam}
 use Rattle.bsc_node_run.specs.Performing.{Carries}
@@ -127,7 +127,7 @@ draws-same (action ∷ actions) = draws-same actions
 
 module _ {L : Type 0} (talk : L → Option (List Said)) (a : Made) (M : Log) (e : TimedEvent) (w v : World L) where
   -- What follows from any event but that a link arrives.
-  pub goes_keeps : GoesOn a M e → Agrees w (with_event M e ++ opens_at e.event (with_event M e)) → Carries talk (actions_at a M e) w v → Agrees v (M ++ goes_on a e M)
+  pub goes_keeps : LogGoesOn a M e → Agrees w (with_event M e ++ opens_at e.event (with_event M e)) → Carries talk (actions_at a M e) w v → Agrees v (M ++ goes_on a e M)
   goes_keeps g agrees c =
       subst (Agrees v) (sym (ap (λ lines. M ++ lines) g.is ∙ seam M (came e) (opens_at e.event (with_event M e)) g.lines))
       (carries_keeps talk g.lines w v (with_event M e ++ opens_at e.event (with_event M e)) g.may

@@ -14,7 +14,7 @@ use Rattle.bsc_node.specs.Logs.{Made, came, Log, now, is_finish, is_finishing}
 use Rattle.bsc_node.specs.Node.{goes_on, actions_at}
 use Rattle.bsc_node.specs.Conditions.{awaits_word, brings_word, fits, may_come}
 use Rattle.bsc_node.specs.Laws.{with_event, draws}
-use Rattle.bsc_node_laws.specs.Links.{opens_at, GoesOn, Brings}
+use Rattle.bsc_node_laws.specs.Links.{opens_at, LogGoesOn, Brings}
 use Rattle.bsc_node_laws.proofs.Between.{Between}
 use Rattle.bsc_node_laws.proofs.Followed.{is_arrival}
 use Rattle.bsc_node_laws.proofs.Drawn.{draws_at, word_settles}
@@ -41,7 +41,7 @@ is_plain (Opened name) = false
 is_plain Arrived = false
 is_plain e = true
 
-goes_on_of : (a : Made) (M : Log) (t : ℕ) (e : NodeEvent) → is_arrival e ≡ false → Brings a M (at t e) e → GoesOn a M (at t e)
+goes_on_of : (a : Made) (M : Log) (t : ℕ) (e : NodeEvent) → is_arrival e ≡ false → Brings a M (at t e) e → LogGoesOn a M (at t e)
 goes_on_of a M t Arrived h b = cc
 goes_on_of a M t e h b = b
 

@@ -21,7 +21,7 @@ use Rattle.bsc_node_run.specs.Requests.{is_asked}
 use Rattle.bsc_node_run.specs.Running.{DontFall, IsEmpty}
 use Rattle.bsc_node_run.specs.Stopping.{AdmitStops, EachStop, GiveStops, HearStops, LinesStop, NewsStop, StartStops, StopsAt, TurnStops}
 use Rattle.bsc_node_run.specs.Stopping.{RunFails, StopsFromLines, StopsFromLinks, StopsFromNews, StopsFromTick, TurnsStop}
-use Rattle.bsc_node_run.specs.Turning.{AreDue, Gives, GivesLines, GivesNews, Hears, HearsEach, Starts, Turn, event_of, names, passed_by}
+use Rattle.bsc_node_run.specs.Turning.{AreDue, Gives, GivesLines, GivesNews, HearsEach, LinkHears, Starts, Turn, event_of, names, passed_by}
 use Rattle.bsc_node_run.specs.Worlds.{Admitting, Dialling, World, Same, begun, is_name, is_open}
 use Rattle.bsc_node_run.specs.Moments.{in_hands, moment, outside, run_moment}
 use Rattle.bsc_node_runs.proofs.Beside.{Both, beside}
@@ -109,7 +109,7 @@ module _ {N L : Type 0} (goes : N → ℕ → NodeEvent → List Action → N �
   each_stop [] n w v M named h none s = absurd s
   each_stop (name ∷ links) n w v M named h none (inl s) = inl (hear_stops name n w v M h (and_left (is_name name) (list_all is_name links) named) none s)
   each_stop (name ∷ links) n w v M named h none (inr (p, x, g, k)) =
-      let q : (K : Log) × Hears (Both goes a) talk t name (beside n M) w (beside p K) x × Held p x K × (x.due ≡ []) =
+      let q : (K : Log) × LinkHears (Both goes a) talk t name (beside n M) w (beside p K) x × Held p x K × (x.due ≡ []) =
       heard_if goes talk a Stands steps t below P name (is_open name w) n p w x M h (and_left (is_name name) (list_all is_name links) named) none refl g in
       inr (beside p q.0, x, q.1, each_stop links p x v q.0 (and_right (is_name name) (list_all is_name links) named) q.2 q.3 k)
 

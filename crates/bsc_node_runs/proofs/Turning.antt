@@ -29,7 +29,7 @@ use Rattle.bsc_node_run.specs.declared.news.Change.TheVariants.{Opened as DidOpe
 use Rattle.bsc_node_run.specs.declared.news.News.{News}
 use Rattle.bsc_node_run.specs.Receiving.{WasGiven, left_by, told_of}
 use Rattle.bsc_node_run.specs.Requests.{is_asked}
-use Rattle.bsc_node_run.specs.Turning.{event_of, names, passed_by, AreDue, Gives, GivesIn, GivesNews, GivesLines, HearsOf, HearsIf, Hears, HearsEach, Admits, Starts, Turn}
+use Rattle.bsc_node_run.specs.Turning.{event_of, names, passed_by, AreDue, Gives, GivesIn, GivesNews, GivesLines, HearsOf, HearsIf, LinkHears, HearsEach, Admits, Starts, Turn}
 use Rattle.bsc_node_run.specs.Worlds.{Admitting, World, Same, begun, ends, is_name, is_open, with_link}
 use Rattle.bsc_node_run.specs.Moments.{moment}
 use Rattle.bsc_node_runs.proofs.Agreeing.{Agrees}
@@ -250,7 +250,7 @@ module _ {N L : Type 0} (goes : N → ℕ → NodeEvent → List Action → N �
       → (K : Log) × HearsEach (Both goes a) talk t links (beside n M) w (beside m K) v × Held m v K × (v.due ≡ [])
   heard_each [] n m w v M named h none (is, same) = (M, (beside_same n m M is, same), held_same n m w v M is same h, same.due ∙ none)
   heard_each (name ∷ links) n m w v M named h none (p, x, g, k) =
-      let q : (K : Log) × Hears (Both goes a) talk t name (beside n M) w (beside p K) x × Held p x K × (x.due ≡ []) =
+      let q : (K : Log) × LinkHears (Both goes a) talk t name (beside n M) w (beside p K) x × Held p x K × (x.due ≡ []) =
       heard_if name (is_open name w) n p w x M h (and_left (is_name name) (list_all is_name links) named) none refl g in
       let r : (K : Log) × HearsEach (Both goes a) talk t links (beside p q.0) x (beside m K) v × Held m v K × (v.due ≡ []) =
       heard_each links p m x v q.0 (and_right (is_name name) (list_all is_name links) named) q.2 q.3 k in

@@ -6,7 +6,7 @@ use Rattle.bsc_options.specs.declared.fault.OptionsFault.{OptionsFault}
 use Rattle.bsc_options.specs.declared.fault.OptionsFault.TheVariants.{Cut, BadKind, BadShape, NoMemory}
 use Rattle.bsc_options.specs.Spelling.{AreOptions, spelling_of}
 use Rattle.bsc_options.specs.Reading.{AreItems, BeginsWith, IsCut, IsFirstAtFault}
-use Rattle.bsc_options.specs.Walk.{Answers, Finds, EndsAt, first_fault}
+use Rattle.bsc_options.specs.Walk.{OptionListAnswers, Finds, EndsAt, first_fault}
 use Rattle.bsc_options.proofs.Exact.{SaysOf, begins_at, options_found, list_taken, fault_answers, spelled_some, within_of, only_of, cut_if, bad_kind_if, bad_shape_if, cut_or_whole}
 use Rattle.bsc_options.proofs.Faults.{fault_at, never_memory}
 
@@ -40,7 +40,7 @@ end_of (Err fault) = Err fault
 
 -- an answer of reading that is also one of looking
 abbrev AsRead : List ℕ → ℕ → Looked → Type 0
-AsRead m at r = (s : Found) × Answers m at s × (end_of s ≡ r)
+AsRead m at r = (s : Found) × OptionListAnswers m at s × (end_of s ≡ r)
 
 as_read : (m : List ℕ) (at : ℕ) (r : Looked) → Finds m at r → AsRead m at r
 as_read m at (Ok end) f = (Ok (f.0, end), (f.1, f.2), refl)

@@ -8,7 +8,7 @@ use Rattle.bsc_options.specs.declared.fault.OptionsFault.{OptionsFault}
 use Rattle.bsc_options.specs.declared.fault.OptionsFault.TheVariants.{Cut, BadKind, BadShape, NoMemory}
 use Rattle.bsc_options.specs.Spelling.{Fits, HasShape, AreOptions, SpellsOptions, spelling_of}
 use Rattle.bsc_options.specs.Reading.{AreItems, BeginsWith, IsCut, IsFirstAtFault}
-use Rattle.bsc_options.specs.Walk.{Answers, EndsAt, first_fault}
+use Rattle.bsc_options.specs.Walk.{EndsAt, OptionListAnswers, first_fault}
 use Rattle.bsc_options.proofs.Unique.{one_list}
 use Rattle.bsc_options.proofs.Faults.{FaultAt, fault_at, all_have_shape, shape_within, one_first, bad_kind_is, bad_shape_is, never_cut, never_memory}
 
@@ -31,13 +31,13 @@ pub options_found : (m o : List ℕ) (at n : ℕ) (e : o ≡ drop at m) (ends : 
 options_found m o at n e ends none =
     (record { some = ends.are.some; shapes = all_have_shape ends.items ends.are.fit (sym (none ends.items ends.are.fit (list_taken o n ends))) }, begins_at m o at n ends.items e ends.whole)
 
-pub list_answers : (m o : List ℕ) (at n : ℕ) (list : List OptionItem) → o ≡ drop at m → EndsAt o n → SaysOf o n (λ items. None ≡ first_fault items) → SaysOf o n (λ items. list ≡ items) → Answers m at (Ok (list, at + n))
+pub list_answers : (m o : List ℕ) (at n : ℕ) (list : List OptionItem) → o ≡ drop at m → EndsAt o n → SaysOf o n (λ items. None ≡ first_fault items) → SaysOf o n (λ items. list ≡ items) → OptionListAnswers m at (Ok (list, at + n))
 list_answers m o at n list e ends none read =
     let found = options_found m o at n e ends none in
     let same : list ≡ ends.items = read ends.items ends.are.fit (list_taken o n ends) in
     rw same found
 
-pub memory_answers : (m o : List ℕ) (at n : ℕ) → o ≡ drop at m → EndsAt o n → SaysOf o n (λ items. None ≡ first_fault items) → Answers m at (Err NoMemory)
+pub memory_answers : (m o : List ℕ) (at n : ℕ) → o ≡ drop at m → EndsAt o n → SaysOf o n (λ items. None ≡ first_fault items) → OptionListAnswers m at (Err NoMemory)
 memory_answers m o at n e ends none =
     let found = options_found m o at n e ends none in
     (ends.items, at + n, found.0, found.1)
@@ -55,7 +55,7 @@ first_found m o at n items fault found e are whole bad =
       fault = bad;
     }
 
-by_fault : (m o : List ℕ) (at n : ℕ) (items : List OptionItem) (fault : OptionsFault) → FaultAt items fault → o ≡ drop at m → AreItems items → BeginsWith o 0 items n → Answers m at (Err fault)
+by_fault : (m o : List ℕ) (at n : ℕ) (items : List OptionItem) (fault : OptionsFault) → FaultAt items fault → o ≡ drop at m → AreItems items → BeginsWith o 0 items n → OptionListAnswers m at (Err fault)
 by_fault m o at n items Cut found e are whole = absurd (never_cut found.item found.fault_is)
 by_fault m o at n items NoMemory found e are whole = absurd (never_memory found.item found.fault_is)
 by_fault m o at n items BadKind found e are whole =
@@ -65,7 +65,7 @@ by_fault m o at n items BadShape found e are whole =
     let is = bad_shape_is found.item found.fault_is in
     (found.item, first_found m o at n items BadShape found e are whole is.1, is.0)
 
-pub fault_answers : (m o : List ℕ) (at n : ℕ) (fault : OptionsFault) → o ≡ drop at m → EndsAt o n → SaysOf o n (λ items. Some fault ≡ first_fault items) → Answers m at (Err fault)
+pub fault_answers : (m o : List ℕ) (at n : ℕ) (fault : OptionsFault) → o ≡ drop at m → EndsAt o n → SaysOf o n (λ items. Some fault ≡ first_fault items) → OptionListAnswers m at (Err fault)
 fault_answers m o at n fault e ends bad =
     let first = bad ends.items ends.are.fit (list_taken o n ends) in
     by_fault m o at n ends.items fault (fault_at ends.items fault ends.are.fit (sym first)) e ends.are ends.whole
@@ -111,7 +111,7 @@ pub spelled_some : (list : List OptionItem) → 0 < length list → 0 < length (
 spelled_some [] some = absurd (omega arith)
 spelled_some (x ∷ list) some = omega arith
 
-pub within_of : (m : List ℕ) (at : ℕ) (r : Found) → at ≤ length m → Answers m at r → IfOk r (λ x. (at < x.1) × (x.1 ≤ length m))
+pub within_of : (m : List ℕ) (at : ℕ) (r : Found) → at ≤ length m → OptionListAnswers m at r → IfOk r (λ x. (at < x.1) × (x.1 ≤ length m))
 within_of m at (Ok x) le a =
     let some = spelled_some x.0 a.0.some in
     let long = ap length a.1.spelling in
@@ -120,7 +120,7 @@ within_of m at (Ok x) le a =
     (first, omega (arith, length-append (spelling_of x.0) (drop x.1 m), length-drop at m, length-drop x.1 m))
 within_of m at (Err e) le a = tt
 
-pub only_of : (m : List ℕ) (at : ℕ) (r : Found) → Answers m at r → (list : List OptionItem) (end : ℕ) → AreOptions list → BeginsWith m at list end → (r ≡ Ok (list, end)) ⊎ (r ≡ Err NoMemory)
+pub only_of : (m : List ℕ) (at : ℕ) (r : Found) → OptionListAnswers m at r → (list : List OptionItem) (end : ℕ) → AreOptions list → BeginsWith m at list end → (r ≡ Ok (list, end)) ⊎ (r ≡ Err NoMemory)
 only_of m at (Ok x) a list end are begins =
     let same = one_reading m at x.0 list x.1 end (items_of_options x.0 a.0) (items_of_options list are) a.1 begins in
     let first : x.0 ≡ list = same.0 in
@@ -131,33 +131,33 @@ only_of m at (Err BadKind) a list end are begins = absurd (options_or_fault m at
 only_of m at (Err BadShape) a list end are begins = absurd (options_or_fault m at list end a.0 are begins a.1)
 only_of m at (Err NoMemory) a list end are begins = inr refl
 
-pub memory_of : (m : List ℕ) (at : ℕ) (r : Found) → Answers m at r → r ≡ Err NoMemory → (list : List OptionItem) × (end : ℕ) × AreOptions list × BeginsWith m at list end
-memory_of m at r a e = subst (Answers m at) e a
+pub memory_of : (m : List ℕ) (at : ℕ) (r : Found) → OptionListAnswers m at r → r ≡ Err NoMemory → (list : List OptionItem) × (end : ℕ) × AreOptions list × BeginsWith m at list end
+memory_of m at r a e = subst (OptionListAnswers m at) e a
 
-pub cut_then : (m : List ℕ) (at : ℕ) (r : Found) → Answers m at r → r ≡ Err Cut → IsCut m at
-cut_then m at r a e = subst (Answers m at) e a
+pub cut_then : (m : List ℕ) (at : ℕ) (r : Found) → OptionListAnswers m at r → r ≡ Err Cut → IsCut m at
+cut_then m at r a e = subst (OptionListAnswers m at) e a
 
-pub cut_if : (m : List ℕ) (at : ℕ) (r : Found) → Answers m at r → IsCut m at → r ≡ Err Cut
+pub cut_if : (m : List ℕ) (at : ℕ) (r : Found) → OptionListAnswers m at r → IsCut m at → r ≡ Err Cut
 cut_if m at (Ok x) a cut = absurd (cut_or_whole m at x.0 x.1 (items_of_options x.0 a.0) a.1 cut)
 cut_if m at (Err Cut) a cut = refl
 cut_if m at (Err BadKind) a cut = absurd (cut_or_whole m at (a.1.before ++ a.0 ∷ a.1.after) a.1.end a.1.are a.1.whole cut)
 cut_if m at (Err BadShape) a cut = absurd (cut_or_whole m at (a.1.before ++ a.0 ∷ a.1.after) a.1.end a.1.are a.1.whole cut)
 cut_if m at (Err NoMemory) a cut = absurd (cut_or_whole m at a.0 a.1 (items_of_options a.0 a.2) a.3 cut)
 
-pub bad_kind_then : (m : List ℕ) (at : ℕ) (r : Found) → Answers m at r → r ≡ Err BadKind → (item : OptionItem) × IsFirstAtFault m at item × (item.kind ≡ 0)
-bad_kind_then m at r a e = subst (Answers m at) e a
+pub bad_kind_then : (m : List ℕ) (at : ℕ) (r : Found) → OptionListAnswers m at r → r ≡ Err BadKind → (item : OptionItem) × IsFirstAtFault m at item × (item.kind ≡ 0)
+bad_kind_then m at r a e = subst (OptionListAnswers m at) e a
 
-pub bad_kind_if : (m : List ℕ) (at : ℕ) (r : Found) → Answers m at r → (item : OptionItem) × IsFirstAtFault m at item × (item.kind ≡ 0) → r ≡ Err BadKind
+pub bad_kind_if : (m : List ℕ) (at : ℕ) (r : Found) → OptionListAnswers m at r → (item : OptionItem) × IsFirstAtFault m at item × (item.kind ≡ 0) → r ≡ Err BadKind
 bad_kind_if m at (Ok x) a first = absurd (options_or_fault m at x.0 x.1 first.0 a.0 a.1 first.1)
 bad_kind_if m at (Err Cut) a first = absurd (cut_or_whole m at (first.1.before ++ first.0 ∷ first.1.after) first.1.end first.1.are first.1.whole a)
 bad_kind_if m at (Err BadKind) a first = refl
 bad_kind_if m at (Err BadShape) a first = let same = one_fault m at a.0 first.0 a.1 first.1 in absurd (a.2 (ap (λ (i : OptionItem). i.kind) same ∙ first.2))
 bad_kind_if m at (Err NoMemory) a first = absurd (options_or_fault m at a.0 a.1 first.0 a.2 a.3 first.1)
 
-pub bad_shape_then : (m : List ℕ) (at : ℕ) (r : Found) → Answers m at r → r ≡ Err BadShape → (item : OptionItem) × IsFirstAtFault m at item × (item.kind ≢ 0)
-bad_shape_then m at r a e = subst (Answers m at) e a
+pub bad_shape_then : (m : List ℕ) (at : ℕ) (r : Found) → OptionListAnswers m at r → r ≡ Err BadShape → (item : OptionItem) × IsFirstAtFault m at item × (item.kind ≢ 0)
+bad_shape_then m at r a e = subst (OptionListAnswers m at) e a
 
-pub bad_shape_if : (m : List ℕ) (at : ℕ) (r : Found) → Answers m at r → (item : OptionItem) × IsFirstAtFault m at item × (item.kind ≢ 0) → r ≡ Err BadShape
+pub bad_shape_if : (m : List ℕ) (at : ℕ) (r : Found) → OptionListAnswers m at r → (item : OptionItem) × IsFirstAtFault m at item × (item.kind ≢ 0) → r ≡ Err BadShape
 bad_shape_if m at (Ok x) a first = absurd (options_or_fault m at x.0 x.1 first.0 a.0 a.1 first.1)
 bad_shape_if m at (Err Cut) a first = absurd (cut_or_whole m at (first.1.before ++ first.0 ∷ first.1.after) first.1.end first.1.are first.1.whole a)
 bad_shape_if m at (Err BadKind) a first = let same = one_fault m at a.0 first.0 a.1 first.1 in absurd (first.2 (ap (λ (i : OptionItem). i.kind) (sym same) ∙ a.2))

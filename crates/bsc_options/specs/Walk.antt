@@ -55,12 +55,12 @@ first_fault [] = None
 first_fault (item ∷ rest) = option_or (fault_of item) (first_fault rest)
 
 -- What reading octets from a place on may answer.
-abbrev pub Answers : List ℕ → ℕ → Result (List OptionItem × ℕ) OptionsFault → Type 0
-Answers m at (Ok found) = AreOptions found.0 × BeginsWith m at found.0 found.1
-Answers m at (Err Cut) = IsCut m at
-Answers m at (Err BadKind) = (item : OptionItem) × IsFirstAtFault m at item × (item.kind ≡ 0)
-Answers m at (Err BadShape) = (item : OptionItem) × IsFirstAtFault m at item × (item.kind ≢ 0)
-Answers m at (Err NoMemory) = (list : List OptionItem) × (end : ℕ) × AreOptions list × BeginsWith m at list end
+abbrev pub OptionListAnswers : List ℕ → ℕ → Result (List OptionItem × ℕ) OptionsFault → Type 0
+OptionListAnswers m at (Ok found) = AreOptions found.0 × BeginsWith m at found.0 found.1
+OptionListAnswers m at (Err Cut) = IsCut m at
+OptionListAnswers m at (Err BadKind) = (item : OptionItem) × IsFirstAtFault m at item × (item.kind ≡ 0)
+OptionListAnswers m at (Err BadShape) = (item : OptionItem) × IsFirstAtFault m at item × (item.kind ≢ 0)
+OptionListAnswers m at (Err NoMemory) = (list : List OptionItem) × (end : ℕ) × AreOptions list × BeginsWith m at list end
 
 -- What looking at octets from a place on may answer, where no list is made of them.
 abbrev pub Finds : List ℕ → ℕ → Result ℕ OptionsFault → Type 0

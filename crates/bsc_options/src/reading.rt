@@ -4,7 +4,7 @@ ghost use Rattle.std.specs.List.{AllByRecursion};
 ghost use Rattle.bsc_options.specs.declared.item.OptionItem.{OptionItem};
 ghost use Rattle.bsc_options.specs.Spelling.{Fits, AreOptions, spelling_of};
 ghost use Rattle.bsc_options.specs.Reading.{BeginsWith, IsCut, IsFirstAtFault};
-ghost use Rattle.bsc_options.specs.Walk.{Answers, EndsAt, first_fault, item_of, fault_of};
+ghost use Rattle.bsc_options.specs.Walk.{OptionListAnswers, EndsAt, first_fault, item_of, fault_of};
 
 use crate::fault::OptionsFault;
 use crate::first::{FirstItem, first_item};
@@ -95,7 +95,7 @@ fn items_of(alloc: Global, list: &[u8]) -> Result<Options, NoMemory>
 /// The list from place `at`, and the place after it. What is wrong is found before memory is taken.
 fn list_at(alloc: Global, m: &[u8], at: usize) -> Result<(Options, usize), OptionsFault>
     requires { at ≤ length m.now }
-    ensures { Answers m.now at result }
+    ensures { OptionListAnswers m.now at result }
 {
     let o = &m[at..];
     let Some(length) = list_length(o) else {

@@ -11,9 +11,9 @@ use Rattle.bsc_player.specs.declared.language.LineFault.{LineFault}
 use Rattle.bsc_player.specs.declared.language.LineFault.TheVariants.{Refused as LineRefused}
 use Rattle.bsc_player.specs.declared.play_end.PlayEnd.{PlayEnd}
 use Rattle.bsc_player.specs.declared.play_end.PlayEnd.TheVariants.{BadLine, WriteFault, NoMemory}
-use Rattle.bsc_player.specs.Playing.{Meaning, Played, Outcome, played_of}
+use Rattle.bsc_player.specs.Playing.{Meaning, Played, LineOutcome, played_of}
 use Rattle.bsc_player.specs.Ends.{WritesWhole, WritesSome, PlaysOut}
-use Rattle.bsc_player.specs.Languages.{StandsAs, StepsTo}
+use Rattle.bsc_player.specs.Languages.{LineStandsAs, StepsTo}
 use Rattle.bsc_player.specs.Collecting.{HandsOver, StopsAs, end_of}
 use Rattle.bsc_player.proofs.SoFar.{fits_after}
 use Rattle.bsc_player.proofs.Reached.{Reached, begins, plays_line, hands_over, reads_on}
@@ -34,7 +34,7 @@ loop_begins means sb left held feed collected some none going zero empty = recor
   reached = λ s0 o t start left_is held_is. rw empty (begins means s0 o t left held (unread feed) feed.ended feed.count sb start left_is held_is none going zero);
 }
 
-stood_in : {S : Type 0} (stands : S → Type 0) (before after : List ℕ) (o : Option (Outcome S)) → StandsAs stands before after o → (st : Outcome S) × (o ≡ Some st) × stands st.state × (after ≡ before ++ st.text)
+stood_in : {S : Type 0} (stands : S → Type 0) (before after : List ℕ) (o : Option (LineOutcome S)) → LineStandsAs stands before after o → (st : LineOutcome S) × (o ≡ Some st) × stands st.state × (after ≡ before ++ st.text)
 stood_in stands before after None h = absurd h
 stood_in stands before after (Some st) h = (st, refl, h.0, h.1)
 
@@ -42,7 +42,7 @@ stood_in stands before after (Some st) h = (st, refl, h.0, h.1)
 pub loop_plays : {S : Type 0} (means : Meaning S) (sb : S → Type 0) (lb hb left held : Option (List ℕ)) (feed new : Feed) (number : ℕ) (stands stands' : S → Type 0) (collected collected' l : List ℕ)
     → PlaysOn means sb lb hb left held feed number stands collected
     → Feeds feed new (Line l) → new.ended ≡ feed.ended → feed.count < new.count
-    → ((s : S) × stands' s) → ((s : S) → stands s → StandsAs stands' collected collected' (means.step s l))
+    → ((s : S) × stands' s) → ((s : S) → stands s → LineStandsAs stands' collected collected' (means.step s l))
     → PlaysOn means sb lb hb left held new (number + 1) stands' collected'
 loop_plays means sb lb hb left held feed new number stands stands' collected collected' l inv fed same on some played = record {
   some = some;

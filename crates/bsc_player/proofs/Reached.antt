@@ -3,7 +3,7 @@ use Rattle.std.proofs.Common.{◌≡◌, ℕ, ◌+◌, Bool, true, false, ◌⊎
 use Rattle.std.specs.Option.{option_map}
 use Rattle.std.specs.Io.KnownBytes.{Keeps, IsAtEnd}
 use Rattle.bsc_text.specs.Lines.{pieces_of, has_no_lf}
-use Rattle.bsc_player.specs.Playing.{Meaning, Outcome, piece_after}
+use Rattle.bsc_player.specs.Playing.{LineOutcome, Meaning, piece_after}
 use Rattle.bsc_player.specs.Ends.{whole_lines}
 use Rattle.bsc_player.specs.Collecting.{HandsOver}
 use Rattle.bsc_player.proofs.Cutting.{IsWhole, IsLast, pieces_of-none, first_piece, first_and_rest}
@@ -106,7 +106,7 @@ cut_more given pieces unread unread' rest piece ended g first lf = ⊎_elim
     (first_piece (unread ++ rest) piece (pieces_of (unread' ++ rest)) first)
 
 -- a line was given, and carried out
-next_line : {S : Type 0} (means : Meaning S) (s0 : S) (o t : List ℕ) (left held : Option (List ℕ)) (unread unread' : List ℕ) (ended : Bool) (count number : ℕ) (stands stands' : S → Type 0) (collected collected' piece : List ℕ) (st : Outcome S) (r : Reached means s0 o t left held unread ended count number stands collected)
+next_line : {S : Type 0} (means : Meaning S) (s0 : S) (o t : List ℕ) (left held : Option (List ℕ)) (unread unread' : List ℕ) (ended : Bool) (count number : ℕ) (stands stands' : S → Type 0) (collected collected' piece : List ℕ) (st : LineOutcome S) (r : Reached means s0 o t left held unread ended count number stands collected)
     → pieces_of (unread ++ r.rest) ≡ piece ∷ pieces_of (unread' ++ r.rest)
     → (has_no_lf piece ≡ true → ended ≡ true)
     → piece_after means r.state count piece ≡ Some st
@@ -132,7 +132,7 @@ next_line means s0 o t left held unread unread' ended count number stands stands
       parts = ap (λ (x : List ℕ). x ++ st.text) r.parts ∙ append_assoc r.written collected st.text ∙ ap (λ (x : List ℕ). r.written ++ x) (sym grown);
     }
 
-pub plays_line : {S : Type 0} (means : Meaning S) (s0 : S) (o t : List ℕ) (left held : Option (List ℕ)) (unread unread' : List ℕ) (ended ended' : Bool) (count count' number : ℕ) (stands stands' : S → Type 0) (collected collected' piece : List ℕ) (st : Outcome S) (r : Reached means s0 o t left held unread ended count number stands collected)
+pub plays_line : {S : Type 0} (means : Meaning S) (s0 : S) (o t : List ℕ) (left held : Option (List ℕ)) (unread unread' : List ℕ) (ended ended' : Bool) (count count' number : ℕ) (stands stands' : S → Type 0) (collected collected' piece : List ℕ) (st : LineOutcome S) (r : Reached means s0 o t left held unread ended count number stands collected)
     → pieces_of (unread ++ r.rest) ≡ piece ∷ pieces_of (unread' ++ r.rest)
     → (has_no_lf piece ≡ true → ended ≡ true)
     → piece_after means r.state count piece ≡ Some st

@@ -1,10 +1,10 @@
 -- What an input comes to, by the lines that were played.
 use Rattle.std.proofs.Common.{◌≡◌, ℕ, ◌+◌, Bool, true, false, List, [], ◌∷◌, ◌++◌, length, refl, ap, sym, ◌∙◌, append_assoc, append-nil, length-append, arith, Some, None}
 use Rattle.bsc_text.specs.Lines.{line_in, is_too_big}
-use Rattle.bsc_player.specs.Playing.{Meaning, Played, Outcome, piece_after, ended_at, play}
+use Rattle.bsc_player.specs.Playing.{Meaning, Played, LineOutcome, piece_after, ended_at, play}
 
 -- a line that is carried out
-pub play_line : {S : Type 0} (means : Meaning S) (s : S) (number before : ℕ) (piece : List ℕ) (pieces : List (List ℕ)) (st : Outcome S) → piece_after means s before piece ≡ Some st → play means s number before (piece ∷ pieces) ≡ record { text = st.text ++ (play means st.state (number + 1) (before + length piece) pieces).text; refused = (play means st.state (number + 1) (before + length piece) pieces).refused }
+pub play_line : {S : Type 0} (means : Meaning S) (s : S) (number before : ℕ) (piece : List ℕ) (pieces : List (List ℕ)) (st : LineOutcome S) → piece_after means s before piece ≡ Some st → play means s number before (piece ∷ pieces) ≡ record { text = st.text ++ (play means st.state (number + 1) (before + length piece) pieces).text; refused = (play means st.state (number + 1) (before + length piece) pieces).refused }
 unfolding play
 play_line means s number before piece pieces st h = rw (h, play) refl
 
@@ -36,7 +36,7 @@ pub plays_none : {S : Type 0} (means : Meaning S) (s0 : S) → Plays means s0 []
 plays_none means s0 = record { numbered = refl; says = λ more. refl; refuses = λ more. refl }
 
 -- one piece more
-pub plays_more : {S : Type 0} (means : Meaning S) (s0 : S) (pieces : List (List ℕ)) (state : S) (number count : ℕ) (text : List ℕ) (piece : List ℕ) (st : Outcome S) → Plays means s0 pieces state number count text → piece_after means state count piece ≡ Some st → Plays means s0 (pieces ++ piece ∷ []) st.state (number + 1) (count + length piece) (text ++ st.text)
+pub plays_more : {S : Type 0} (means : Meaning S) (s0 : S) (pieces : List (List ℕ)) (state : S) (number count : ℕ) (text : List ℕ) (piece : List ℕ) (st : LineOutcome S) → Plays means s0 pieces state number count text → piece_after means state count piece ≡ Some st → Plays means s0 (pieces ++ piece ∷ []) st.state (number + 1) (count + length piece) (text ++ st.text)
 plays_more means s0 pieces state number count text piece st p h = record {
   numbered = (let n = p.numbered in let l = length-append pieces (piece ∷ []) in omega arith);
   says = λ more. (

@@ -1,11 +1,11 @@
 -- A small language, which the tests play: it repeats its lines.
 use Rattle.std.specs.Prelude.{ℕ, Bool, true, false, if◌then◌else◌, List, [], ◌++◌, codes, Option, Some, None}
 use Rattle.bsc_text.specs.Lines.{same_octets}
-use Rattle.bsc_player.specs.Playing.{Outcome, Meaning}
+use Rattle.bsc_player.specs.Playing.{LineOutcome, Meaning}
 
 -- What a line does, where the echo has begun or hasn't: the first line is `begin`, each later one is repeated, and
 -- `stop` is refused.
-abbrev pub echo_step : Bool → List ℕ → Option (Outcome Bool)
+abbrev pub echo_step : Bool → List ℕ → Option (LineOutcome Bool)
 echo_step false line =
     if same_octets line (codes "begin") then Some (record { state = true; text = [] }) else None
 echo_step true line =

@@ -9,19 +9,19 @@ pub record Played : Type 0 where
   pub refused : Option ℕ
 
 -- What a line comes to that is accepted: what stands after it, and the text that is written for it.
-pub record Outcome (S : Type 0) : Type 0 where
+pub record LineOutcome (S : Type 0) : Type 0 where
   pub state : S
   pub text : List ℕ
 
 -- What a language of lines means, over what may stand after some lines: what the next line does, None where it is
 -- refused, and whether an input may end there.
 pub record Meaning (S : Type 0) : Type 0 where
-  pub step : S → List ℕ → Option (Outcome S)
+  pub step : S → List ℕ → Option (LineOutcome S)
   pub may_end : S → Bool
 
 -- What a piece does that stands after so many octets. It is refused where its line is, and where it is too big: its
 -- line is too long, or it goes past the longest input.
-abbrev pub piece_after : {S : Type 0} → Meaning S → S → ℕ → List ℕ → Option (Outcome S)
+abbrev pub piece_after : {S : Type 0} → Meaning S → S → ℕ → List ℕ → Option (LineOutcome S)
 piece_after means s before piece = if is_too_big before piece then None else means.step s (line_in piece)
 
 -- an input that ends: where it may not end, it is refused at the number after its last line

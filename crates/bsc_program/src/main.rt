@@ -5,16 +5,19 @@
 //! `bsc_why` says on standard error why, by what was heard of these.
 #![tactic(auto)]
 
-use bsc_commands::run;
+use bsc_commands::{Outside, run};
 use bsc_edge::{
     DiskJournal, DiskJournals, Kind, Monotonic, Places, Promised, Running, ThreadSpawner,
     Unstarted, launch,
 };
 use bsc_hub::Kept;
+use bsc_hub_command::HubPlace;
 use bsc_node_command::RandomWords;
+use bsc_node_run::NodeParts;
 use bsc_outside::WriterSink;
 use bsc_player::out_of_memory;
 use bsc_recorders::{KeptFiles, KeptSource, NotedAcceptor, NotedDisk, NotedSink};
+use bsc_serve::ServingParts;
 use bsc_session::{SessionEnd, SessionJob};
 use bsc_sockets::{Door, RealLink, RealWaiter, real_dialer};
 use bsc_why::{Heard, name_in, tell};
@@ -48,7 +51,7 @@ fn kind_of(read: &ReadWords<'_>) -> Kind {
 
 fn main(rt: HostRuntime) -> ExitCode {
     let alloc = rt.alloc();
-    let mut source = KeptSource::new(alloc, rt.reader());
+    let source = KeptSource::new(alloc, rt.reader());
     let mut sink = NotedSink::new(WriterSink::new(io::writer(&rt)));
     let mut room = [0; 256];
     let length = rt.arg(0, &mut room).ok();
@@ -83,49 +86,46 @@ fn main(rt: HostRuntime) -> ExitCode {
         Running<Result<SessionEnd, Job>, Promised<Job>>,
         Unstarted<Job>,
     > { launch(&rt, alloc, places, job) };
-    let mut spawner = ThreadSpawner::new(rt, alloc, begin, places);
+    let spawner = ThreadSpawner::new(rt, alloc, begin, places);
     let read = ReadWords::of(alloc, words.as_slice());
     let kind = kind_of(&read);
-    let Ok(mut waiter) = RealWaiter::of(rt, alloc, kind) else {
+    let Ok(waiter) = RealWaiter::of(rt, alloc, kind) else {
         return ExitCode::from(out_of_memory(&mut sink));
     };
     let (Ok(of_links), Ok(of_gate)) = (waiter.shared(), waiter.shared()) else {
         return ExitCode::from(out_of_memory(&mut sink));
     };
-    let Ok(mut dialer) = real_dialer(rt, alloc, of_links) else {
+    let Ok(dialer) = real_dialer(rt, alloc, of_links) else {
         return ExitCode::from(out_of_memory(&mut sink));
     };
     let disk = NotedDisk::new(rt, of_disk);
-    let mut files = KeptFiles::new(disk);
-    let mut clock = Monotonic::new(rt);
-    let mut random = RandomWords::new(rt);
     let door = Door::new(rt, alloc, kind, of_gate);
-    let mut acceptor = NotedAcceptor::new(door);
-    let mut kept = Kept {
-        hub: None,
-        pass: None,
+    let mut outside = Outside {
+        source,
+        sink,
+        files: KeptFiles::new(disk),
+        node: NodeParts {
+            waiter,
+            random: RandomWords::new(rt),
+            dialer,
+        },
+        place: HubPlace {
+            kept: Kept {
+                hub: None,
+                pass: None,
+            },
+            own: None,
+        },
+        parts: ServingParts {
+            acceptor: NotedAcceptor::new(door),
+            clock: Monotonic::new(rt),
+            spawner,
+            journals: DiskJournals::new(rt),
+        },
     };
-    let mut journals = DiskJournals::new(rt);
-    let mut own = None;
-    let status = run(
-        &rt,
-        alloc,
-        &read,
-        &mut source,
-        &mut sink,
-        &mut files,
-        &mut clock,
-        &mut waiter,
-        &mut random,
-        &mut acceptor,
-        &mut dialer,
-        &mut spawner,
-        &mut kept,
-        &mut journals,
-        &mut own,
-    );
-    let file = files.text();
-    let has_lost_a_line = match &own {
+    let status = run(&rt, alloc, &read, &mut outside);
+    let file = outside.files.text();
+    let has_lost_a_line = match &outside.place.own {
         Some(journal) => journal.has_failed(),
         None => false,
     };
@@ -133,16 +133,16 @@ fn main(rt: HostRuntime) -> ExitCode {
         called: name_in(&room, length),
         read,
         has_texts,
-        input: source.kept(),
-        input_error: source.error(),
-        line: sink.line(),
-        files: files.given(),
+        input: outside.source.kept(),
+        input_error: outside.source.error(),
+        line: outside.sink.line(),
+        files: outside.files.given(),
         file,
         file_error: unread.get(),
-        door: acceptor.note(),
+        door: outside.parts.acceptor.note(),
         has_lost_a_line,
     };
     tell(&rt, alloc, status, &heard);
-    waiter.outlast_lingering(&rt);
+    outside.node.waiter.outlast_lingering(&rt);
     ExitCode::from(status)
 }

@@ -11,6 +11,5 @@ mod script;
 mod verdicts;
 
 pub use bsc_player::PlayEnd as ReplayEnd;
-pub use bsc_script::counts_line;
 pub use script::replay;
 pub use verdicts::check;

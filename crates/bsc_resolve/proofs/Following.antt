@@ -20,7 +20,7 @@ use Rattle.bsc_resolve.specs.declared.entry.Entry.{Entry}
 use Rattle.bsc_resolve.specs.declared.resolve.Resolve.{Resolve}
 use Rattle.bsc_resolve.specs.Resolving.{vmac_of, uris_for, question, learnt, is_held, held, ask_refusal, has_id, awaits}
 use Rattle.bsc_resolve.specs.Kept.{is_for, entry_of, vmacs, kept_question, kept_uris, holds_something, at_first, ticked, unless_passed, with_question, with_uris, without_question, awaiting_place}
-use Rattle.bsc_resolve.specs.Standing.{Agrees, StandsFor, IsAsked, IsRefused, AnswersAnswer, AnswersRefusal, StandsOn, IsUnchanged}
+use Rattle.bsc_resolve.specs.Standing.{Agrees, ResolveStands, IsAsked, IsAskRefused, AnswersAnswer, AnswersRefusal, StandsOn, IsUnchanged}
 use Rattle.bsc_resolve.proofs.Finding.{find_placed, none_found, awaiting_is, awaiting_none, KeepsVmac, first_same, first_other, vmacs_first, full_first, entry_filtered, apart_filtered, full_filtered, held_question, held_uris, entry_ticked, vmacs_ticked, ticked_question, ticked_uris, is_among, is_held_kept, length_vmacs}
 use Rattle.bsc_resolve.proofs.OneMore.{unless_ends, question-more, question-asked, learnt-more, held_spoken}
 use Rattle.bsc_octets.proofs.Common.{vmac_laws, vmac_same}
@@ -153,13 +153,13 @@ ticked_agrees es wait calls now apart a =
 
 -- ---- how many VMACs are held
 
-held_by : (r : Resolve) (wait : ℕ) (calls : List ResolveCall) (v : Vmac) → StandsFor r wait calls → is_some (entry_of r.entries.items v) ≡ is_held wait calls v
+held_by : (r : Resolve) (wait : ℕ) (calls : List ResolveCall) (v : Vmac) → ResolveStands r wait calls → is_some (entry_of r.entries.items v) ≡ is_held wait calls v
 held_by r wait calls v s = is_held_kept v r.entries.items s.full ∙ ap (λ (o : Option Question). is_some o || is_some (kept_uris (entry_of r.entries.items v))) (s.agrees.question v) ∙ ap (λ (o : Option (List ℕ)). is_some (question wait calls v) || is_some o) (s.agrees.uris v)
 
 held_alike : (wait : ℕ) (calls : List ResolveCall) (v w : Vmac) → same_vmac v w ≡ true → is_held wait calls v ≡ is_held wait calls w
 held_alike wait calls v w h = ap (is_held wait calls) (vmac_same v w h)
 
-held_count : (r : Resolve) (wait : ℕ) (calls : List ResolveCall) → StandsFor r wait calls → length r.entries.items ≡ held wait calls
+held_count : (r : Resolve) (wait : ℕ) (calls : List ResolveCall) → ResolveStands r wait calls → length r.entries.items ≡ held wait calls
 held_count r wait calls s =
     sym (length_vmacs r.entries.items)
     ∙ length-from_keys vmac_laws (vmacs r.entries.items) (filter (is_held wait calls) (filter_map vmac_of calls)) s.apart (λ v.
@@ -172,7 +172,7 @@ held_count r wait calls s =
 abbrev refusal_of : Bool → ℕ → Option Question → Option AskRefusal
 refusal_of h n o = cond (not h && nat_le ROOM n) (Some (Full n)) (option_map (λ (q : Question). Pending q.id) o)
 
-refusal_by : (r : Resolve) (wait : ℕ) (calls : List ResolveCall) (v : Vmac) → StandsFor r wait calls
+refusal_by : (r : Resolve) (wait : ℕ) (calls : List ResolveCall) (v : Vmac) → ResolveStands r wait calls
     → ask_refusal wait calls v ≡ refusal_of (is_some (entry_of r.entries.items v)) (length r.entries.items) (kept_question (entry_of r.entries.items v))
 refusal_by r wait calls v s =
     ap (λ (h : Bool). refusal_of h (held wait calls) (question wait calls v)) (sym (held_by r wait calls v s))
@@ -198,19 +198,19 @@ asked_again old new v place e now id placed at none waits items wait calls s =
     )
 
 -- an entry with a question
-pub asked_twice : (old : Resolve) (v : Vmac) (place : ℕ) (e : Entry) (q : Question) → position (is_for v) old.entries.items ≡ Some place → e ≡ get_or old.entries.items place e → e.question ≡ Some q → IsRefused old v (Pending q.id)
+pub asked_twice : (old : Resolve) (v : Vmac) (place : ℕ) (e : Entry) (q : Question) → position (is_for v) old.entries.items ≡ Some place → e ≡ get_or old.entries.items place e → e.question ≡ Some q → IsAskRefused old v (Pending q.id)
 asked_twice old v place e q placed at some wait calls s =
     let found : entry_of old.entries.items v ≡ Some e = find_placed (is_for v) old.entries.items place e placed at in
     refusal_by old wait calls v s ∙ ap (λ (o : Option Entry). refusal_of (is_some o) (length old.entries.items) (kept_question o)) found ∙ ap (refusal_of true (length old.entries.items)) some
 
 -- no entry
-refusal_without : (old : Resolve) (v : Vmac) (wait : ℕ) (calls : List ResolveCall) → position (is_for v) old.entries.items ≡ None → StandsFor old wait calls → ask_refusal wait calls v ≡ cond (nat_le ROOM (length old.entries.items)) (Some (Full (length old.entries.items))) None
+refusal_without : (old : Resolve) (v : Vmac) (wait : ℕ) (calls : List ResolveCall) → position (is_for v) old.entries.items ≡ None → ResolveStands old wait calls → ask_refusal wait calls v ≡ cond (nat_le ROOM (length old.entries.items)) (Some (Full (length old.entries.items))) None
 refusal_without old v wait calls placed s = refusal_by old wait calls v s ∙ ap (λ (o : Option Entry). refusal_of (is_some o) (length old.entries.items) (kept_question o)) (none_found (is_for v) old.entries.items placed)
 
-pub asked_full : (old : Resolve) (v : Vmac) (n : ℕ) → position (is_for v) old.entries.items ≡ None → ROOM ≤ length old.entries.items → n ≡ length old.entries.items → IsRefused old v (Full n)
+pub asked_full : (old : Resolve) (v : Vmac) (n : ℕ) → position (is_for v) old.entries.items ≡ None → ROOM ≤ length old.entries.items → n ≡ length old.entries.items → IsAskRefused old v (Full n)
 asked_full old v n placed big same wait calls s = refusal_without old v wait calls placed s ∙ ap (λ (b : Bool). cond b (Some (Full (length old.entries.items))) None) (le-leb ROOM (length old.entries.items) big) ∙ ap (λ (k : ℕ). Some (Full k)) (sym same)
 
-pub asked_in_vain : (old : Resolve) (v : Vmac) → position (is_for v) old.entries.items ≡ None → length old.entries.items < ROOM → IsRefused old v NoMemory
+pub asked_in_vain : (old : Resolve) (v : Vmac) → position (is_for v) old.entries.items ≡ None → length old.entries.items < ROOM → IsAskRefused old v NoMemory
 asked_in_vain old v placed small wait calls s = refusal_without old v wait calls placed s ∙ ap (λ (b : Bool). cond b (Some (Full (length old.entries.items))) None) (lt-leb ROOM (length old.entries.items) small)
 
 pub asked_first : (old new : Resolve) (v : Vmac) (now id : ℕ) → position (is_for v) old.entries.items ≡ None → length old.entries.items < ROOM → new.wait ≡ old.wait
@@ -241,7 +241,7 @@ as_before old new waits items wait calls s = record {
 
 -- ---- answers, NAKs and the time
 
-awaits_by : (r : Resolve) (wait : ℕ) (calls : List ResolveCall) (id : ℕ) (v : Vmac) → StandsFor r wait calls → has_id id (kept_question (entry_of r.entries.items v)) ≡ awaits wait calls id v
+awaits_by : (r : Resolve) (wait : ℕ) (calls : List ResolveCall) (id : ℕ) (v : Vmac) → ResolveStands r wait calls → has_id id (kept_question (entry_of r.entries.items v)) ≡ awaits wait calls id v
 awaits_by r wait calls id v s = ap (has_id id) (s.agrees.question v)
 
 -- the entry and the question with that ID
@@ -307,13 +307,13 @@ time_passes old new now waits items wait calls s =
       full = subst (λ l. list_all holds_something l ≡ true) (sym told) (full_filtered (map (ticked wait now) es));
     }
 
-pub learnt_at : (r : Resolve) (v : Vmac) (place : ℕ) (e : Entry) (wait : ℕ) (calls : List ResolveCall) → position (is_for v) r.entries.items ≡ Some place → e ≡ get_or r.entries.items place e → StandsFor r wait calls → e.uris ≡ learnt calls v
+pub learnt_at : (r : Resolve) (v : Vmac) (place : ℕ) (e : Entry) (wait : ℕ) (calls : List ResolveCall) → position (is_for v) r.entries.items ≡ Some place → e ≡ get_or r.entries.items place e → ResolveStands r wait calls → e.uris ≡ learnt calls v
 learnt_at r v place e wait calls placed at s = ap kept_uris (sym (find_placed (is_for v) r.entries.items place e placed at)) ∙ s.agrees.uris v
 
-pub learnt_nowhere : (r : Resolve) (v : Vmac) (wait : ℕ) (calls : List ResolveCall) → position (is_for v) r.entries.items ≡ None → StandsFor r wait calls → None ≡ learnt calls v
+pub learnt_nowhere : (r : Resolve) (v : Vmac) (wait : ℕ) (calls : List ResolveCall) → position (is_for v) r.entries.items ≡ None → ResolveStands r wait calls → None ≡ learnt calls v
 learnt_nowhere r v wait calls placed s = ap kept_uris (sym (none_found (is_for v) r.entries.items placed)) ∙ s.agrees.uris v
 
-pub made : (r : Resolve) (wait : ℕ) → r.wait ≡ wait → r.entries.items ≡ [] → StandsFor r wait []
+pub made : (r : Resolve) (wait : ℕ) → r.wait ≡ wait → r.entries.items ≡ [] → ResolveStands r wait []
 made r wait waits items = record {
   waits = waits;
   agrees = subst (λ l. Agrees l wait []) (sym items) (record { question = λ v. refl; uris = λ v. refl });
@@ -326,7 +326,7 @@ made r wait waits items = record {
 
 -- ---- laws
 
-pub few_held : (r : Resolve) (wait : ℕ) (calls : List ResolveCall) → StandsFor r wait calls → held wait calls ≤ ROOM
+pub few_held : (r : Resolve) (wait : ℕ) (calls : List ResolveCall) → ResolveStands r wait calls → held wait calls ≤ ROOM
 few_held r wait calls s = subst (λ (n : ℕ). n ≤ ROOM) (held_count r wait calls s) (let few : vec_len r.entries ≤ ROOM = r.few in omega (arith, few, r.entries.ok.0))
 
 pub learnt_stays : (calls : List ResolveCall) (call : ResolveCall) (v : Vmac) → uris_for v call ≡ None → learnt (calls ++ call ∷ []) v ≡ learnt calls v

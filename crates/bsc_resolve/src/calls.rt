@@ -4,7 +4,7 @@ ghost use Rattle.bsc_octets.specs.Addresses.{same_vmac};
 ghost use Rattle.bsc_resolve.specs.declared.call.ResolveCall.{ResolveCall};
 ghost use Rattle.bsc_resolve.specs.Resolving.{learnt};
 ghost use Rattle.bsc_resolve.specs.Kept.{awaiting_place};
-ghost use Rattle.bsc_resolve.specs.Standing.{StandsFor, IsAsked, IsRefused, AnswersAnswer, AnswersRefusal, StandsOn, IsUnchanged};
+ghost use Rattle.bsc_resolve.specs.Standing.{ResolveStands, IsAsked, IsAskRefused, AnswersAnswer, AnswersRefusal, StandsOn, IsUnchanged};
 
 use crate::ask_refusal::AskRefusal;
 use crate::bounds::ROOM;
@@ -20,7 +20,7 @@ const FIRST_ROOM: usize = 16;
 impl Resolve {
     /// Address resolution that was asked nothing yet. A question waits so long for its answer, in milliseconds.
     pub fn make(alloc: Global, wait: u32) -> Result<Resolve, NoMemory>
-        ensures { IfOk result (λ r. StandsFor r wait []) }
+        ensures { IfOk result (λ r. ResolveStands r wait []) }
     {
         Ok(Resolve {
             wait,
@@ -31,7 +31,7 @@ impl Resolve {
     /// Asks for the URIs of a VMAC, by an Address-Resolution with this Message ID.
     pub fn ask(&mut self, now: u64, id: u16, v: Vmac) -> Result<(), AskRefusal>
         ensures asked { OnOk result (IsAsked self.old self.new now id v) }
-        ensures refused { IfErr result (λ r. IsRefused self.old v r) }
+        ensures refused { IfErr result (λ r. IsAskRefused self.old v r) }
         ensures err { OnErr result (IsUnchanged self.old self.new) }
     {
         let question = Question { id, asked: now };
@@ -45,7 +45,7 @@ impl Resolve {
     fn ask_again(&mut self, v: Vmac, place: usize, question: Question) -> Result<(), AskRefusal>
         requires { position (λ e. same_vmac v e.vmac) self.old.entries.items ≡ Some place }
         ensures asked { OnOk result (IsAsked self.old self.new question.asked question.id v) }
-        ensures refused { IfErr result (λ r. IsRefused self.old v r) }
+        ensures refused { IfErr result (λ r. IsAskRefused self.old v r) }
         ensures err { OnErr result (IsUnchanged self.old self.new) }
     {
         match self.entries[place].question {
@@ -61,7 +61,7 @@ impl Resolve {
     fn ask_first(&mut self, v: Vmac, question: Question) -> Result<(), AskRefusal>
         requires { position (λ e. same_vmac v e.vmac) self.old.entries.items ≡ None }
         ensures asked { OnOk result (IsAsked self.old self.new question.asked question.id v) }
-        ensures refused { IfErr result (λ r. IsRefused self.old v r) }
+        ensures refused { IfErr result (λ r. IsAskRefused self.old v r) }
         ensures err { OnErr result (IsUnchanged self.old self.new) }
     {
         if self.entries.len() >= ROOM {
@@ -128,7 +128,7 @@ impl Resolve {
 
     /// The URIs learnt of a VMAC.
     pub fn uris(&self, v: Vmac) -> Option<&Octets>
-        ensures { (wait : ℕ) (calls : List ResolveCall) → StandsFor self.now wait calls → option_copied result ≡ learnt calls v }
+        ensures { (wait : ℕ) (calls : List ResolveCall) → ResolveStands self.now wait calls → option_copied result ≡ learnt calls v }
     {
         match place_of(&self.entries, v) {
             Some(place) => self.entries[place].uris.as_ref(),

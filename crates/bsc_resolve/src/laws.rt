@@ -4,13 +4,13 @@ ghost use Rattle.bsc_octets.specs.declared.vmac.Vmac.{Vmac};
 ghost use Rattle.bsc_resolve.specs.declared.call.ResolveCall.{ResolveCall};
 ghost use Rattle.bsc_resolve.specs.declared.resolve.Resolve.{Resolve};
 ghost use Rattle.bsc_resolve.specs.Resolving.{uris_for, learnt, held};
-ghost use Rattle.bsc_resolve.specs.Standing.{StandsFor};
+ghost use Rattle.bsc_resolve.specs.Standing.{ResolveStands};
 
 use crate::bounds::ROOM;
 
 /// At most `ROOM` VMACs are held.
 pub fn at_most_room_are_held()
-    ensures { (r : Resolve) (wait : ℕ) (calls : List ResolveCall) → StandsFor r wait calls → held wait calls ≤ ROOM }
+    ensures { (r : Resolve) (wait : ℕ) (calls : List ResolveCall) → ResolveStands r wait calls → held wait calls ≤ ROOM }
 {}
 
 /// What is learnt of a VMAC stays until another answer for it comes: through a new question, its NAK, and time.

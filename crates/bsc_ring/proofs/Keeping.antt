@@ -12,7 +12,7 @@ use Rattle.bsc_ring.specs.declared.found.Found.{Found}
 use Rattle.bsc_ring.specs.declared.found.Found.TheVariants.{Ending, Tail}
 use Rattle.bsc_ring.specs.declared.view.View.{View}
 use Rattle.bsc_ring.specs.Lists.{Item, StartsWith}
-use Rattle.bsc_ring.specs.Rule.{Homes, end_number, count_given, Stored, Fits, AtMostOne, is_inlet, is_outlet, Kept, Recalls, end_in}
+use Rattle.bsc_ring.specs.Rule.{Homes, end_number, count_given, Stored, SeatFits, AtMostOne, is_inlet, is_outlet, RingKept, Recalls, end_in}
 use Rattle.bsc_ring.specs.Effects.{Seated, in_hand, LoadsHead, StoresTail, after_end, LoadsEnd, after_none, LoadsTail, StoresHead, StoresEnd}
 use Rattle.bsc_ring.proofs.Slots.{there, not_both, tail_home, tail_out, tail_back, head_home, head_out, head_back}
 use Rattle.bsc_ring.proofs.Views.{starts_whole, next_starts, starts_length, longer_starts, starts_trans, changed, one_after}
@@ -50,9 +50,9 @@ recalls_end : (v : View) (h : Option End) → ((d : End) → v.heard ≡ Some d 
 recalls_end v h keeps_ old i e at = ⊎_elim (λ there_. keeps_ e (old i e there_)) (λ new. ap (λ (f : Found). found_end h f) new) (at_snoc v.found (Ending h) (Ending (Some e)) i at)
 
 -- the rule where only the views are others, and the words say the same
-pub other_views : (s : State (Option Item) View) (k : Kept s) (ws : List ℕ) → ws ≡ k.head ∷ length k.pushed ∷ end_number k.ending ∷ [] → (views : List View)
-    → ((i : ℕ) (v : View) → get_elem? views i ≡ some v → Fits k.head k.pushed k.ending k.writing k.reading v) → AtMostOne is_inlet views → AtMostOne is_outlet views
-    → Kept (record { words = ws; homes = s.homes; views = views })
+pub other_views : (s : State (Option Item) View) (k : RingKept s) (ws : List ℕ) → ws ≡ k.head ∷ length k.pushed ∷ end_number k.ending ∷ [] → (views : List View)
+    → ((i : ℕ) (v : View) → get_elem? views i ≡ some v → SeatFits k.head k.pushed k.ending k.writing k.reading v) → AtMostOne is_inlet views → AtMostOne is_outlet views
+    → RingKept (record { words = ws; homes = s.homes; views = views })
 other_views s k ws words views fits one_inlet one_outlet =
     record {
       cap = k.cap;
@@ -69,7 +69,7 @@ other_views s k ws words views fits one_inlet one_outlet =
       one_outlet = one_outlet;
     }
 
-module _ (id slots : ℕ) (me : Seated) (s : State (Option Item) View) (k : Kept s) (wide : length s.homes ≡ slots) (at : get_elem? s.views id ≡ some me.0) where
+module _ (id slots : ℕ) (me : Seated) (s : State (Option Item) View) (k : RingKept s) (wide : length s.homes ≡ slots) (at : get_elem? s.views id ≡ some me.0) where
   abbrev homes : Homes
   homes = s.homes
 
@@ -102,10 +102,10 @@ module _ (id slots : ℕ) (me : Seated) (s : State (Option Item) View) (k : Kept
   abbrev KeepsRule : ℕ → ℕ → (Seated → Type 0) → List ℕ → Type 0
   KeepsRule i n told ws =
       (w : View) × (a : Act (Option Item)) × Valid homes me.1 a
-      × Kept (record { words = slice_set ws i n; homes = homes_after homes me.1 a; views = slice_set views id w })
+      × RingKept (record { words = slice_set ws i n; homes = homes_after homes me.1 a; views = slice_set views id w })
       × told (w, carried_after me.1 a)
 
-  mine : Fits head pushed ending writing reading me.0
+  mine : SeatFits head pushed ending writing reading me.0
   mine = k.fits id me.0 at
 
   others_inlet : me.0.inlet ≡ true → (i : ℕ) (x : View) → i ≢ id → get_elem? views i ≡ some x → x.inlet ≡ true → ⊥
@@ -116,10 +116,10 @@ module _ (id slots : ℕ) (me : Seated) (s : State (Option Item) View) (k : Kept
 
   remade : (head' : ℕ) (pushed' : List Item) (ending' : Option End) (writing' reading' : Bool) (ws : List ℕ) (homes' : Homes) (w : View)
       → ws ≡ head' ∷ length pushed' ∷ end_number ending' ∷ [] → ending' ≢ Some Left → Stored slots head' pushed' writing' reading' homes'
-      → Fits head' pushed' ending' writing' reading' w
-      → ((i : ℕ) (x : View) → i ≢ id → get_elem? views i ≡ some x → Fits head' pushed' ending' writing' reading' x)
+      → SeatFits head' pushed' ending' writing' reading' w
+      → ((i : ℕ) (x : View) → i ≢ id → get_elem? views i ≡ some x → SeatFits head' pushed' ending' writing' reading' x)
       → (w.inlet ≡ true → me.0.inlet ≡ true) → (w.outlet ≡ true → me.0.outlet ≡ true)
-      → Kept (record { words = ws; homes = homes'; views = set views id w })
+      → RingKept (record { words = ws; homes = homes'; views = set views id w })
   remade head' pushed' ending' writing' reading' ws homes' w e n st here there i o =
       record {
         cap = slots;
@@ -131,7 +131,7 @@ module _ (id slots : ℕ) (me : Seated) (s : State (Option Item) View) (k : Kept
         words = e;
         named = n;
         stored = st;
-        fits = changed views id w (Fits head' pushed' ending' writing' reading') here there;
+        fits = changed views id w (SeatFits head' pushed' ending' writing' reading') here there;
         one_inlet = one_after is_inlet views id me.0 at k.one_inlet w i;
         one_outlet = one_after is_outlet views id me.0 at k.one_outlet w o;
       }
@@ -289,46 +289,46 @@ module _ (id slots : ℕ) (me : Seated) (s : State (Option Item) View) (k : Kept
           )
 
 module _ (id slots : ℕ) (me : Seated) where
-  pub loads_head : me.1 ≡ [] → me.0.inlet ≡ true → me.0.writing ≡ false → Allows Kept slots id me 0 (λ n. n) (LoadsHead (step slots 0 0 0 none) me)
+  pub loads_head : me.1 ≡ [] → me.0.inlet ≡ true → me.0.writing ≡ false → Allows RingKept slots id me 0 (λ n. n) (LoadsHead (step slots 0 0 0 none) me)
   loads_head empty is idle s k wide at small =
       subst (λ (ws : List ℕ). KeepsRule id slots me s k wide at 0 (slice_index ws 0) (LoadsHead (step slots 0 0 0 none) me (slice_index ws 0)) ws)
       (sym k.words)
       (head_at id slots me s k wide at empty is idle)
 
   stores_next : (x : Item) → me.1 ≡ (length me.0.pushed % slots, Some x) ∷ [] → me.0.inlet ≡ true → me.0.writing ≡ true → me.0.ended ≡ None
-      → Allows Kept slots id me 1 (λ _. length me.0.pushed + 1) (λ _. StoresTail (step slots 1 (length me.0.pushed + 1) 0 none) me (length me.0.pushed + 1))
+      → Allows RingKept slots id me 1 (λ _. length me.0.pushed + 1) (λ _. StoresTail (step slots 1 (length me.0.pushed + 1) 0 none) me (length me.0.pushed + 1))
   stores_next x carried is busy open_ s k wide at small =
       subst (λ (ws : List ℕ). KeepsRule id slots me s k wide at 1 (length me.0.pushed + 1) (StoresTail (step slots 1 (length me.0.pushed + 1) 0 none) me (length me.0.pushed + 1)) ws)
       (sym k.words)
       (tail_put id slots me s k wide at x carried is busy open_)
 
   pub stores_tail : (n i cap : ℕ) (x : Item) → n ≡ length me.0.pushed → cap ≡ slots → me.1 ≡ (n % cap, Some x) ∷ [] → me.0.inlet ≡ true → me.0.writing ≡ true → me.0.ended ≡ None
-      → Allows Kept slots id me 1 (λ _. n + 1) (λ _. StoresTail (step slots 1 (n + 1) 0 none) me (n + 1))
+      → Allows RingKept slots id me 1 (λ _. n + 1) (λ _. StoresTail (step slots 1 (n + 1) 0 none) me (n + 1))
   stores_tail n i cap x e f carried is busy open_ =
-      subst (λ (m : ℕ). Allows Kept slots id me 1 (λ _. m + 1) (λ _. StoresTail (step slots 1 (m + 1) 0 none) me (m + 1))) (sym e)
+      subst (λ (m : ℕ). Allows RingKept slots id me 1 (λ _. m + 1) (λ _. StoresTail (step slots 1 (m + 1) 0 none) me (m + 1))) (sym e)
       (stores_next x (carried ∙ ap (λ (m : ℕ). (m % cap, Some x) ∷ []) e ∙ ap (λ (m : ℕ). (length me.0.pushed % m, Some x) ∷ []) f) is busy open_)
 
 module _ (id slots : ℕ) (me : Seated) where
-  pub stores_end : (n : ℕ) (e : End) → n ≡ end_number (Some e) → e ≢ Left → me.0.inlet ≡ true → me.0.ended ≡ None → Allows Kept slots id me 2 (λ _. n) (λ _. StoresEnd (step slots 2 n 0 none) me n)
+  pub stores_end : (n : ℕ) (e : End) → n ≡ end_number (Some e) → e ≢ Left → me.0.inlet ≡ true → me.0.ended ≡ None → Allows RingKept slots id me 2 (λ _. n) (λ _. StoresEnd (step slots 2 n 0 none) me n)
   stores_end n e means right is open_ s k wide at small =
       subst (λ (ws : List ℕ). KeepsRule id slots me s k wide at 2 n (StoresEnd (step slots 2 n 0 none) me n) ws)
       (sym k.words)
       (end_put id slots me s k wide at n e means right is open_)
 
 module _ (id slots : ℕ) (me : Seated) (is : me.0.outlet ≡ true) where
-  pub loads_end : Allows Kept slots id me 2 (λ n. n) (LoadsEnd (step slots 2 0 0 none) me)
+  pub loads_end : Allows RingKept slots id me 2 (λ n. n) (LoadsEnd (step slots 2 0 0 none) me)
   loads_end s k wide at small =
       subst (λ (ws : List ℕ). KeepsRule id slots me s k wide at 2 (slice_index ws 2) (LoadsEnd (step slots 2 0 0 none) me (slice_index ws 2)) ws)
       (sym k.words)
       (end_asked id slots me s k wide at is)
 
-  pub loads_tail : me.1 ≡ [] → me.0.reading ≡ false → Allows Kept slots id me 1 (λ n. n) (LoadsTail (step slots 1 0 0 none) me)
+  pub loads_tail : me.1 ≡ [] → me.0.reading ≡ false → Allows RingKept slots id me 1 (λ n. n) (LoadsTail (step slots 1 0 0 none) me)
   loads_tail empty idle s k wide at small =
       subst (λ (ws : List ℕ). KeepsRule id slots me s k wide at 1 (slice_index ws 1) (LoadsTail (step slots 1 0 0 none) me (slice_index ws 1)) ws)
       (sym k.words)
       (tail_at id slots me s k wide at is empty idle)
 
-  pub stores_head_of : (n cap : ℕ) → n + 1 ≡ length me.0.given → cap ≡ slots → me.1 ≡ (n % cap, None) ∷ [] → me.0.reading ≡ true → Allows Kept slots id me 0 (λ _. n + 1) (λ _. StoresHead (step slots 0 (n + 1) 0 none) me (n + 1))
+  pub stores_head_of : (n cap : ℕ) → n + 1 ≡ length me.0.given → cap ≡ slots → me.1 ≡ (n % cap, None) ∷ [] → me.0.reading ≡ true → Allows RingKept slots id me 0 (λ _. n + 1) (λ _. StoresHead (step slots 0 (n + 1) 0 none) me (n + 1))
   stores_head_of n cap counted e carried busy s k wide at small =
       subst (λ (ws : List ℕ). KeepsRule id slots me s k wide at 0 (n + 1) (StoresHead (step slots 0 (n + 1) 0 none) me (n + 1)) ws)
       (sym k.words)
@@ -343,7 +343,7 @@ item_in_hand slots n taken cap v w h more e f =
 
 -- the seat when that slot was emptied
 pub stores_head : (id slots n taken cap : ℕ) (v w u : Seated) → LoadsTail (step slots 1 0 0 none) v n w → n ≢ taken → taken ≡ length v.0.given → cap ≡ slots → v.0.outlet ≡ true
-    → u ≡ (w.0, (taken % cap, None) ∷ Rattle.atomic_table.specs.Table.rest w.1) → Allows Kept slots id u 0 (λ _. taken + 1) (λ _. StoresHead (step slots 0 (taken + 1) 0 none) u (taken + 1))
+    → u ≡ (w.0, (taken % cap, None) ∷ Rattle.atomic_table.specs.Table.rest w.1) → Allows RingKept slots id u 0 (λ _. taken + 1) (λ _. StoresHead (step slots 0 (taken + 1) 0 none) u (taken + 1))
 stores_head id slots n taken cap v w u h more e f is after =
     let got = h.1 (λ same. more (same ∙ sym e)) in
     let now : u ≡ (w.0, (taken % cap, None) ∷ []) = after ∙ ap (λ (m : Seated). (w.0, (taken % cap, None) ∷ Rattle.atomic_table.specs.Table.rest m.1)) got.3 in

@@ -9,7 +9,7 @@ use Rattle.bsc_history.specs.declared.ending.End.{End}
 use Rattle.bsc_ring.specs.declared.found.Found.TheVariants.{Ending}
 use Rattle.bsc_ring.specs.declared.view.View.{View}
 use Rattle.bsc_ring.specs.Lists.{Item, StartsWith}
-use Rattle.bsc_ring.specs.Rule.{count_given, Fits, is_inlet, is_outlet, Kept}
+use Rattle.bsc_ring.specs.Rule.{count_given, SeatFits, is_inlet, is_outlet, RingKept}
 use Rattle.bsc_ring.specs.Effects.{Seated, longer, either_end, note, spent_view, inlet_note, outlet_note, inlet_hears, outlet_hears, IsConsistent, Confirms, inlet_met, outlet_met, Agree}
 use Rattle.bsc_ring.proofs.Keeping.{other_views}
 use Rattle.bsc_ring.proofs.Slots.{not_both}
@@ -39,13 +39,13 @@ either_keeps : (a b : Option End) (e : End) → a ≡ Some e → either_end a b 
 either_keeps None b e h = absurd (let bad : None ≡ Some e = h in cc)
 either_keeps (Some d) b e h = h
 
-module _ (s : State (Option Item) View) (k : Kept s) where
+module _ (s : State (Option Item) View) (k : RingKept s) where
   abbrev Fit : View → Type 0
-  Fit v = Fits k.head k.pushed k.ending k.writing k.reading v
+  Fit v = SeatFits k.head k.pushed k.ending k.writing k.reading v
 
   -- a new seat with a note
   noted : (id : ℕ) (v : View) (least : ℕ) (known : List Item) (whole : Bool) (heard : Option End) → get_elem? s.views id ≡ some v → StartsWith k.pushed known → least ≤ k.head → ((e : End) → heard ≡ Some e → k.ending ≡ Some e) → (whole ≡ true → (known ≡ k.pushed) × (is_some k.ending ≡ true))
-      → Kept (record { words = s.words; homes = s.homes; views = set s.views id v ++ note least known whole heard ∷ [] })
+      → RingKept (record { words = s.words; homes = s.homes; views = set s.views id v ++ note least known whole heard ∷ [] })
   noted id v least known whole heard at b l h t =
       other_views s k s.words k.words (set s.views id v ++ note least known whole heard ∷ [])
       (split_all s.views id v (note least known whole heard) Fit (k.fits id v at)
@@ -85,7 +85,7 @@ module _ (s : State (Option Item) View) (k : Kept s) where
 
   joined : (id : ℕ) (v : View) (other : ℕ) (w both : View) → get_elem? s.views id ≡ some v → ¬ (other ≡ id) → get_elem? (set s.views id both) other ≡ some w
       → (Fit v → Fit w → Fit both) → (both.inlet ≡ true → v.inlet ≡ true) → (both.outlet ≡ true → v.outlet ≡ true)
-      → Kept (record { words = s.words; homes = s.homes; views = set (set s.views id both) other spent_view })
+      → RingKept (record { words = s.words; homes = s.homes; views = set (set s.views id both) other spent_view })
   joined id v other w both at apart there_ fit i o =
       let there' : get_elem? s.views other ≡ some w = sym (set_else s.views id other both apart) ∙ there_ in
       let fits' = changed s.views id both Fit (fit (k.fits id v at) (k.fits other w there')) (λ j x _ got. k.fits j x got) in
@@ -94,26 +94,26 @@ module _ (s : State (Option Item) View) (k : Kept s) where
       (one_after is_inlet (set s.views id both) other w there_ (one_after is_inlet s.views id v at k.one_inlet both i) spent_view (λ bad. absurd (not_both (sym bad))))
       (one_after is_outlet (set s.views id both) other w there_ (one_after is_outlet s.views id v at k.one_outlet both o) spent_view (λ bad. absurd (not_both (sym bad))))
 
-pub notes_inlet : (id : ℕ) (v : View) → v.inlet ≡ true → Splits Kept id v v (inlet_note v)
+pub notes_inlet : (id : ℕ) (v : View) → v.inlet ≡ true → Splits RingKept id v v (inlet_note v)
 notes_inlet id v is s k at =
     let mine = k.fits id v at in
     let own = mine.inlet is in
     noted s k id v v.least v.pushed (is_some v.ended) v.ended at ([], sym own.0 ∙ sym (append-nil v.pushed)) mine.low (λ e h. sym own.1 ∙ h) (λ h. (own.0, ap (λ (e : Option End). is_some e) (sym own.1) ∙ h))
 
-pub notes_outlet : (id : ℕ) (v : View) → v.outlet ≡ true → v.reading ≡ false → Splits Kept id v v (outlet_note v)
+pub notes_outlet : (id : ℕ) (v : View) → v.outlet ≡ true → v.reading ≡ false → Splits RingKept id v v (outlet_note v)
 notes_outlet id v is idle s k at =
     let mine = k.fits id v at in
     let own = mine.outlet is in
     let count : length v.given ≡ k.head = own.0 ∙ ap (λ (b : Bool). count_given b k.head) (sym own.1 ∙ idle) in
     noted s k id v (length v.given) v.known v.whole v.heard at mine.begins (omega (arith, count)) mine.heard mine.whole
 
-pub joins_inlet : (id : ℕ) (v : View) (other : ℕ) (w : View) → v.outlet ≡ false → Joins Kept id v other w (inlet_hears v w) spent_view
+pub joins_inlet : (id : ℕ) (v : View) (other : ℕ) (w : View) → v.outlet ≡ false → Joins RingKept id v other w (inlet_hears v w) spent_view
 joins_inlet id v other w not_outlet s k at apart there_ = joined s k id v other w (inlet_hears v w) at apart there_ (inlet_fits s k v w not_outlet) (λ h. h) (λ h. h)
 
-pub joins_outlet : (id : ℕ) (v : View) (other : ℕ) (w : View) → Joins Kept id v other w (outlet_hears v w) spent_view
+pub joins_outlet : (id : ℕ) (v : View) (other : ℕ) (w : View) → Joins RingKept id v other w (outlet_hears v w) spent_view
 joins_outlet id v other w s k at apart there_ = joined s k id v other w (outlet_hears v w) at apart there_ (heard_fits s k v w) (λ h. h) (λ h. h)
 
-consistent : (s : State (Option Item) View) (k : Kept s) (id : ℕ) (v : View) → get_elem? s.views id ≡ some v → IsConsistent v
+consistent : (s : State (Option Item) View) (k : RingKept s) (id : ℕ) (v : View) → get_elem? s.views id ≡ some v → IsConsistent v
 consistent s k id v at =
     let mine = k.fits id v at in (
       mine.gave,
@@ -125,9 +125,9 @@ consistent s k id v at =
           let l = mine.low in omega (arith, count, l),
     )
 
-pub confirms : (id slots : ℕ) (me : Seated) → Allows Kept slots id me 0 (λ n. n) (Confirms (step slots 0 0 0 none) me)
+pub confirms : (id slots : ℕ) (me : Seated) → Allows RingKept slots id me 0 (λ n. n) (Confirms (step slots 0 0 0 none) me)
 confirms id slots me s k wide at small =
-    let kept : Kept (record { words = set s.words 0 (slice_index s.words 0); homes = s.homes; views = set s.views id me.0 }) =
+    let kept : RingKept (record { words = set s.words 0 (slice_index s.words 0); homes = s.homes; views = set s.views id me.0 }) =
     other_views s k (set s.words 0 (slice_index s.words 0)) (ap (λ (ws : List ℕ). set ws 0 (slice_index ws 0)) k.words) (set s.views id me.0)
     (changed s.views id me.0 (Fit s k) (k.fits id me.0 at) (λ i x _ got. k.fits i x got))
     (one_after is_inlet s.views id me.0 at k.one_inlet me.0 (λ h. h))

@@ -7,7 +7,7 @@ use Rattle.atomic_table.specs.Table.{opening, Splits}
 use Rattle.bsc_ring.specs.declared.found.Found.TheVariants.{Ending}
 use Rattle.bsc_ring.specs.declared.view.View.{View}
 use Rattle.bsc_ring.specs.Lists.{Item}
-use Rattle.bsc_ring.specs.Rule.{Fits, is_inlet, is_outlet, Kept, first_view, inlet_part, outlet_part}
+use Rattle.bsc_ring.specs.Rule.{SeatFits, is_inlet, is_outlet, RingKept, first_view, inlet_part, outlet_part}
 use Rattle.bsc_ring.proofs.Keeping.{other_views}
 use Rattle.bsc_ring.proofs.Slots.{not_both}
 use Rattle.bsc_ring.proofs.Views.{split_all, one_split}
@@ -21,7 +21,7 @@ vacant_at zero i h = absurd (omega arith)
 vacant_at (suc n) zero h = refl
 vacant_at (suc n) (suc i) h = vacant_at n i (omega arith)
 
-pub opens : (cap : ℕ) → 0 < cap → Kept (opening (0 ∷ 0 ∷ 0 ∷ []) (replicate cap None) first_view)
+pub opens : (cap : ℕ) → 0 < cap → RingKept (opening (0 ∷ 0 ∷ 0 ∷ []) (replicate cap None) first_view)
 opens cap pos =
     record {
       cap = cap;
@@ -41,18 +41,18 @@ opens cap pos =
         full = λ p x _ _ at. absurd (some-ne-none x (sym at));
         free = λ p _ _ _. vacant_at cap (p % cap) (mod-lt p pos);
       };
-      fits = λ id v at. subst (Fits 0 [] None false false) (single first_view id v at).1 (record { begins = ([], refl); gave = ([], refl); low = omega arith; heard = λ e bad. absurd cc; recalls = λ i e bad. absurd (some-ne-none (Ending (Some e)) (sym bad)); whole = λ bad. absurd (not_both (sym bad)); inlet = λ _. (refl, refl, refl); outlet = λ _. (refl, refl) });
+      fits = λ id v at. subst (SeatFits 0 [] None false false) (single first_view id v at).1 (record { begins = ([], refl); gave = ([], refl); low = omega arith; heard = λ e bad. absurd cc; recalls = λ i e bad. absurd (some-ne-none (Ending (Some e)) (sym bad)); whole = λ bad. absurd (not_both (sym bad)); inlet = λ _. (refl, refl, refl); outlet = λ _. (refl, refl) });
       one_inlet = λ i j v w at at2 _ _. (single first_view i v at).0 ∙ sym (single first_view j w at2).0;
       one_outlet = λ i j v w at at2 _ _. (single first_view i v at).0 ∙ sym (single first_view j w at2).0;
     }
 
 -- a seat that was both ends becomes two, one of each
-pub cuts_in_two : (id : ℕ) (v : View) → v.inlet ≡ true → v.outlet ≡ true → Splits Kept id v (inlet_part v) (outlet_part v)
+pub cuts_in_two : (id : ℕ) (v : View) → v.inlet ≡ true → v.outlet ≡ true → Splits RingKept id v (inlet_part v) (outlet_part v)
 cuts_in_two id v is os s k at =
     let mine = k.fits id v at in
-    let left : Fits k.head k.pushed k.ending k.writing k.reading (inlet_part v) = record { begins = mine.begins; gave = mine.gave; low = mine.low; heard = mine.heard; recalls = mine.recalls; whole = mine.whole; inlet = mine.inlet; outlet = λ bad. absurd (not_both (sym bad)) } in
-    let right : Fits k.head k.pushed k.ending k.writing k.reading (outlet_part v) = record { begins = mine.begins; gave = mine.gave; low = mine.low; heard = mine.heard; recalls = mine.recalls; whole = mine.whole; inlet = λ bad. absurd (not_both (sym bad)); outlet = mine.outlet } in
+    let left : SeatFits k.head k.pushed k.ending k.writing k.reading (inlet_part v) = record { begins = mine.begins; gave = mine.gave; low = mine.low; heard = mine.heard; recalls = mine.recalls; whole = mine.whole; inlet = mine.inlet; outlet = λ bad. absurd (not_both (sym bad)) } in
+    let right : SeatFits k.head k.pushed k.ending k.writing k.reading (outlet_part v) = record { begins = mine.begins; gave = mine.gave; low = mine.low; heard = mine.heard; recalls = mine.recalls; whole = mine.whole; inlet = λ bad. absurd (not_both (sym bad)); outlet = mine.outlet } in
     other_views s k s.words k.words (set s.views id (inlet_part v) ++ outlet_part v ∷ [])
-    (split_all s.views id (inlet_part v) (outlet_part v) (Fits k.head k.pushed k.ending k.writing k.reading) left right k.fits)
+    (split_all s.views id (inlet_part v) (outlet_part v) (SeatFits k.head k.pushed k.ending k.writing k.reading) left right k.fits)
     (one_split is_inlet s.views id v at k.one_inlet (inlet_part v) (outlet_part v) (λ h. h) (λ bad. absurd (not_both (sym bad))))
     (one_split is_outlet s.views id v at k.one_outlet (inlet_part v) (outlet_part v) (λ _. os) (λ _. (os, refl)))

@@ -62,7 +62,7 @@ Recalls v = (i : ℕ) (e : End) → get_elem? v.found i ≡ some (Ending (Some e
 -- given ones are the first of them, as many as `least` are taken, the End that was heard is set, and where
 -- the view is whole nothing more is pushed. An inlet's view has the very list and the very End, and an
 -- outlet's as many given items as the head says.
-pub record Fits
+pub record SeatFits
     (head : ℕ) (pushed : List Item) (ending : Option End) (writing reading : Bool) (v : View) : Type 0 where
   pub begins : StartsWith pushed v.known
   pub gave : StartsWith v.known v.given
@@ -89,7 +89,7 @@ is_outlet v = v.outlet
 
 -- The rule: the words say the head, the number of pushed items and the End, which is never Left; the slots
 -- hold the items in between; each view fits; and one seat pushes and one takes.
-pub record Kept (s : State (Option Item) View) : Type 0 where
+pub record RingKept (s : State (Option Item) View) : Type 0 where
   pub cap : ℕ
   pub head : ℕ
   pub pushed : List Item
@@ -100,7 +100,7 @@ pub record Kept (s : State (Option Item) View) : Type 0 where
   pub named : ending ≢ Some Left
   pub stored : Stored cap head pushed writing reading s.homes
   pub fits : (id : ℕ) (v : View)
-      → get_elem? s.views id ≡ some v → Fits head pushed ending writing reading v
+      → get_elem? s.views id ≡ some v → SeatFits head pushed ending writing reading v
   pub one_inlet : AtMostOne is_inlet s.views
   pub one_outlet : AtMostOne is_outlet s.views
 

@@ -16,9 +16,9 @@ pub type RingTable = Table<Option<Octets>, View, (), RingRule, Global>;
 pub struct RingRule;
 
 impl TableRule<Option<Octets>, View, ()> for RingRule {
-    ghost use Rattle.bsc_ring.specs.Rule.{Kept, first_view};
+    ghost use Rattle.bsc_ring.specs.Rule.{RingKept, first_view};
 
-    ghost holds = { λ _. Kept };
+    ghost holds = { λ _. RingKept };
 
     ghost first = { λ _. first_view };
 }

@@ -8,17 +8,17 @@ use Rattle.bsc_script.specs.declared.line.Line.{Line}
 use Rattle.bsc_script.specs.declared.script_hub.ScriptHub.{ScriptHub}
 use Rattle.bsc_script.specs.States.{State, Peer}
 use Rattle.bsc_script.specs.Touching.{dues}
-use Rattle.bsc_script.specs.Carrying.{Outcome}
+use Rattle.bsc_script.specs.Carrying.{ScriptOutcome}
 use Rattle.bsc_script.specs.Emptying.{emptied}
 use Rattle.bsc_script.specs.Running.{line_outcome, run_line}
 use Rattle.bsc_script.specs.Holding.{CarriesOut, RunsTo, ActsTo}
 
 -- Where nothing is written any text may stand before.
-pub rebased : (n : ScriptHub) (b cs : List ℕ) (o : Outcome) → CarriesOut n [] [] cs o → CarriesOut n b b cs o
+pub rebased : (n : ScriptHub) (b cs : List ℕ) (o : ScriptOutcome) → CarriesOut n [] [] cs o → CarriesOut n b b cs o
 rebased n b cs o h = record { stands = h.stands; settled = h.settled; text = sym (append-nil b) ∙ ap (λ (l : List ℕ). b ++ l) h.text }
 
 -- A name that isn't open is refused.
-pub unknown_acts : (r : Result Due LineFault) (e f : LineFault) (n : ScriptHub) (b a : List ℕ) (g : Peer → Outcome) (o : Option Peer) → r ≡ Err e → e ≡ f → f ≡ Refused → o ≡ None → ActsTo r n b a (option_map g o)
+pub unknown_acts : (r : Result Due LineFault) (e f : LineFault) (n : ScriptHub) (b a : List ℕ) (g : Peer → ScriptOutcome) (o : Option Peer) → r ≡ Err e → e ≡ f → f ≡ Refused → o ≡ None → ActsTo r n b a (option_map g o)
 unknown_acts r e f n b a g o is same refused none =
     subst (λ (q : Result Due LineFault). ActsTo q n b a (option_map g o)) (sym (is ∙ ap Err (same ∙ refused))) (ap (option_map g) none)
 
@@ -27,19 +27,19 @@ pub by_line : (r : Result Due LineFault) (n : ScriptHub) (b a : List ℕ) (s : S
 by_line r n b a s line as_found is h = subst (λ l. ActsTo r n b a (line_outcome s l)) (sym is) h
 
 -- What is shown of the peer that was found is shown of the name.
-pub by_peer : (r : Result Due LineFault) (n : ScriptHub) (b a : List ℕ) (f : Peer → Outcome) (o : Option Peer) (k : Peer) → o ≡ Some k → ActsTo r n b a (Some (f k)) → ActsTo r n b a (option_map f o)
+pub by_peer : (r : Result Due LineFault) (n : ScriptHub) (b a : List ℕ) (f : Peer → ScriptOutcome) (o : Option Peer) (k : Peer) → o ≡ Some k → ActsTo r n b a (Some (f k)) → ActsTo r n b a (option_map f o)
 by_peer r n b a f o k is h = subst (λ p. ActsTo r n b a (option_map f p)) (sym is) h
 
 -- ---- the whole line
 
 -- A line that is carried out has an outcome.
-pub acted_some : (due : Due) (n : ScriptHub) (b a : List ℕ) (o : Option Outcome) → ActsTo (Ok due) n b a o → (u : Outcome) × (o ≡ Some u) × CarriesOut n b a (dues due) u
+pub acted_some : (due : Due) (n : ScriptHub) (b a : List ℕ) (o : Option ScriptOutcome) → ActsTo (Ok due) n b a o → (u : ScriptOutcome) × (o ≡ Some u) × CarriesOut n b a (dues due) u
 acted_some due n b a None h = absurd h
 acted_some due n b a (Some u) h = (u, refl, h)
 
 -- And then the outboxes are emptied.
 pub runs_emptied : (due : Due) (t n : ScriptHub) (s : State) (line : Line) (b a z : List ℕ) → ActsTo (Ok due) t b a (line_outcome s line)
-    → ((o : Outcome) → CarriesOut t b a (dues due) o → CarriesOut n b z [] (emptied o)) → RunsTo (Ok tt) n b z (run_line s line)
+    → ((o : ScriptOutcome) → CarriesOut t b a (dues due) o → CarriesOut n b z [] (emptied o)) → RunsTo (Ok tt) n b z (run_line s line)
 unfolding run_line
 runs_emptied due t n s line b a z h empty =
     let u = acted_some due t b a (line_outcome s line) h in

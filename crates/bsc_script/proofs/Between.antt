@@ -25,15 +25,15 @@ use Rattle.bsc_desk.specs.declared.desk.Desk.{Desk}
 use Rattle.bsc_desk.specs.Knowing.{Learns}
 use Rattle.bsc_desk.specs.Meetings.{IsOutletOf}
 use Rattle.bsc_desk.specs.Rows.{known_of}
-use Rattle.bsc_desk.specs.Standing.{StandsFor}
+use Rattle.bsc_desk.specs.Standing.{DeskStands}
 use Rattle.bsc_desk.proofs.Exact.{exact_look}
-use Rattle.bsc_accept.specs.Standing.{StandsFor as MachineStandsFor}
+use Rattle.bsc_accept.specs.Standing.{AcceptingStands}
 use Rattle.bsc_script.specs.declared.peer.Joined.{Joined}
 use Rattle.bsc_script.specs.declared.peer.Peer.{Peer as KeptPeer}
 use Rattle.bsc_script.specs.declared.script_hub.ScriptHub.{ScriptHub}
 use Rattle.bsc_script.specs.States.{State, Peer, start_at}
 use Rattle.bsc_script.specs.Emptying.{due_after}
-use Rattle.bsc_script.specs.Holding.{Pairs, IsPeer, IsJoinedPeer, IsJoinedIf, IsIndexed, StandsAs, name_of, conn_of, kept_conn, kept_in}
+use Rattle.bsc_script.specs.Holding.{Pairs, IsPeer, IsJoinedPeer, IsJoinedIf, IsIndexed, ScriptStands, name_of, conn_of, kept_conn, kept_in}
 use Rattle.bsc_script.specs.Between.{IsAtRest, IsJoinedIfBut, IsPeerBut, StandsBut}
 use Rattle.bsc_script.proofs.Pairs.{Pairs-map, Pairs-weaker}
 use Rattle.bsc_script.proofs.Touched.{is_of_same, newest_of}
@@ -48,7 +48,7 @@ joined_whole d S k (Some j) h =
     (h.0, record { joiner = h.1.joiner; address = h.1.address; marked = h.1.marked; outlet = r.outlet; frames = h.1.frames; empties = h.1.empties; known = r.known; waits = r.waits })
 
 -- It stands for a state where it does but for no connections.
-pub stands_whole : (t : ScriptHub) (s : State) → StandsBut [] t s → StandsAs t s
+pub stands_whole : (t : ScriptHub) (s : State) → StandsBut [] t s → ScriptStands t s
 stands_whole t s w = record {
   marked = w.marked;
   history = w.history;
@@ -122,7 +122,7 @@ module _ (d n : Desk) (S : List Stamped) (x : Stamped) (cs : List ℕ) (k : Peer
         waits = at_more (λ a F. j.waits ≡ due_after a F k j.conn) same (p.waits ∙ sym (due_same cs d.about H x.entry k j.conn h p.joiner un));
       }
 
-  joined_more : (o : Option Joined) → n.about ≡ d.about → StandsFor d S → Learns d x.entry.looks n → Changes cs d.about (entries S) x.entry → IsJoinedIf d S k o → IsJoinedIfBut cs n (S ++ x ∷ []) k o
+  joined_more : (o : Option Joined) → n.about ≡ d.about → DeskStands d S → Learns d x.entry.looks n → Changes cs d.about (entries S) x.entry → IsJoinedIf d S k o → IsJoinedIfBut cs n (S ++ x ∷ []) k o
   joined_more None same s l h p = p
   joined_more (Some j) same s l h p =
       let H = entries S in
@@ -141,21 +141,21 @@ module _ (d n : Desk) (S : List Stamped) (x : Stamped) (cs : List ℕ) (k : Peer
       )
 
 -- A peer is kept after an entry, but for those who gain by it.
-peer_more : (d n : Desk) (S : List Stamped) (x : Stamped) (cs : List ℕ) (k : Peer) (e : List ℕ × KeptPeer) → n.about ≡ d.about → StandsFor d S → Learns d x.entry.looks n → Changes cs d.about (entries S) x.entry → IsPeer d S k e → IsPeerBut cs n (S ++ x ∷ []) k e
+peer_more : (d n : Desk) (S : List Stamped) (x : Stamped) (cs : List ℕ) (k : Peer) (e : List ℕ × KeptPeer) → n.about ≡ d.about → DeskStands d S → Learns d x.entry.looks n → Changes cs d.about (entries S) x.entry → IsPeer d S k e → IsPeerBut cs n (S ++ x ∷ []) k e
 peer_more d n S x cs k e same s l h p = record {
   name = p.name;
-  machine = subst (λ (a : About). MachineStandsFor e.1.machine (start_at a k) k.events) (sym same) p.machine;
+  machine = subst (λ (a : About). AcceptingStands e.1.machine (start_at a k) k.events) (sym same) p.machine;
   held = p.held;
   joined = joined_more d n S x cs k e.1.joined same s l h p.joined;
 }
 
 -- All peers are.
-pub peers_more : (d n : Desk) (S : List Stamped) (x : Stamped) (cs : List ℕ) (ks : List Peer) (es : List (List ℕ × KeptPeer)) → n.about ≡ d.about → StandsFor d S → Learns d x.entry.looks n → Changes cs d.about (entries S) x.entry → Pairs (IsPeer d S) ks es → Pairs (IsPeerBut cs n (S ++ x ∷ [])) ks es
+pub peers_more : (d n : Desk) (S : List Stamped) (x : Stamped) (cs : List ℕ) (ks : List Peer) (es : List (List ℕ × KeptPeer)) → n.about ≡ d.about → DeskStands d S → Learns d x.entry.looks n → Changes cs d.about (entries S) x.entry → Pairs (IsPeer d S) ks es → Pairs (IsPeerBut cs n (S ++ x ∷ [])) ks es
 peers_more d n S x cs ks es same s l h p = Pairs-weaker (IsPeer d S) (IsPeerBut cs n (S ++ x ∷ [])) ks es (λ k e m q. peer_more d n S x cs k e same s l h q) p
 
 -- The desk made an entry by which nobody joined or left: the hub stands for the state with that entry, but for those who
 -- gain by it.
-pub stands_more : (t u : ScriptHub) (s : State) (w : StandsAs t s) (x : Stamped) (cs : List ℕ) → u.about ≡ t.about → u.clock ≡ t.clock → u.peers ≡ t.peers → u.names ≡ t.names → u.desk.about ≡ t.desk.about → StandsFor u.desk (w.marked ++ x ∷ []) → Learns t.desk x.entry.looks u.desk → Changes cs t.desk.about (entries w.marked) x.entry → connection_of x.entry ≡ None → StandsBut cs u (record s { history = s.history ++ x.entry ∷ [] })
+pub stands_more : (t u : ScriptHub) (s : State) (w : ScriptStands t s) (x : Stamped) (cs : List ℕ) → u.about ≡ t.about → u.clock ≡ t.clock → u.peers ≡ t.peers → u.names ≡ t.names → u.desk.about ≡ t.desk.about → DeskStands u.desk (w.marked ++ x ∷ []) → Learns t.desk x.entry.looks u.desk → Changes cs t.desk.about (entries w.marked) x.entry → connection_of x.entry ≡ None → StandsBut cs u (record s { history = s.history ++ x.entry ∷ [] })
 stands_more t u s w x cs same_about same_clock same_peers same_names same stands l h nobody = record {
   marked = w.marked ++ x ∷ [];
   history = entries-more w.marked x ∙ ap (λ (H : List Entry). H ++ x.entry ∷ []) w.history;

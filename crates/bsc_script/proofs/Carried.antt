@@ -7,9 +7,9 @@ use Rattle.bsc_accept.specs.Steps.{closes as is_closing}
 use Rattle.bsc_script.specs.declared.script_hub.ScriptHub.{ScriptHub}
 use Rattle.bsc_script.specs.States.{State, Peer, is_named}
 use Rattle.bsc_script.specs.Written.{Said, says, line_text, text_of}
-use Rattle.bsc_script.specs.Carrying.{Outcome, quietly, writes, and_then, leaves_if, ends, does}
+use Rattle.bsc_script.specs.Carrying.{ScriptOutcome, quietly, writes, and_then, leaves_if, ends, does}
 use Rattle.bsc_script.specs.Settled.{SettledBut}
-use Rattle.bsc_script.specs.Holding.{StandsAs, StandsAt, CarriesOut, name_of}
+use Rattle.bsc_script.specs.Holding.{ScriptStands, StandsAt, CarriesOut, name_of}
 use Rattle.bsc_script.proofs.Peers.{taken_out}
 
 -- ---- texts
@@ -19,11 +19,11 @@ text-append [] ys = refl
 text-append (x ∷ xs) ys = ap (λ (l : List ℕ). line_text x ++ l) (text-append xs ys) ∙ sym (append_assoc (line_text x) (text_of xs) (text_of ys))
 
 -- nothing is written
-pub quiet_carried : (n : ScriptHub) (before cs : List ℕ) (s : State) → StandsAs n s → SettledBut cs s → CarriesOut n before before cs (quietly s)
+pub quiet_carried : (n : ScriptHub) (before cs : List ℕ) (s : State) → ScriptStands n s → SettledBut cs s → CarriesOut n before before cs (quietly s)
 quiet_carried n before cs s stands settled = record { stands = stands; settled = settled; text = sym (append-nil before) }
 
 -- a line is written first
-pub line_carried : (n : ScriptHub) (before mid after cs : List ℕ) (l : Said) (o : Outcome) → mid ≡ before ++ line_text l → CarriesOut n mid after cs o → CarriesOut n before after cs (writes l o)
+pub line_carried : (n : ScriptHub) (before mid after cs : List ℕ) (l : Said) (o : ScriptOutcome) → mid ≡ before ++ line_text l → CarriesOut n mid after cs o → CarriesOut n before after cs (writes l o)
 line_carried n before mid after cs l o put h = record {
   stands = h.stands;
   settled = h.settled;
@@ -31,7 +31,7 @@ line_carried n before mid after cs l o put h = record {
 }
 
 -- some lines are written first
-pub lines_carried : (n : ScriptHub) (before mid after cs : List ℕ) (ls : List Said) (o : Outcome) → mid ≡ before ++ text_of ls → CarriesOut n mid after cs o → CarriesOut n before after cs (record { state = o.state; said = ls ++ o.said })
+pub lines_carried : (n : ScriptHub) (before mid after cs : List ℕ) (ls : List Said) (o : ScriptOutcome) → mid ≡ before ++ text_of ls → CarriesOut n mid after cs o → CarriesOut n before after cs (record { state = o.state; said = ls ++ o.said })
 lines_carried n before mid after cs ls o put h = record {
   stands = h.stands;
   settled = h.settled;
@@ -39,7 +39,7 @@ lines_carried n before mid after cs ls o put h = record {
 }
 
 -- one thing, and then another
-pub both_carried : (t n : ScriptHub) (before mid after cs ds : List ℕ) (o : Outcome) (next : State → Outcome) → CarriesOut t before mid cs o → CarriesOut n mid after ds (next o.state) → CarriesOut n before after ds (and_then o next)
+pub both_carried : (t n : ScriptHub) (before mid after cs ds : List ℕ) (o : ScriptOutcome) (next : State → ScriptOutcome) → CarriesOut t before mid cs o → CarriesOut n mid after ds (next o.state) → CarriesOut n before after ds (and_then o next)
 both_carried t n before mid after cs ds o next h g = lines_carried n before mid after ds o.said (next o.state) h.text g
 
 -- ---- who stands at which place after a step
@@ -67,5 +67,5 @@ other_peers s k (Close x) c = absurd (true≢false c)
 other_peers s k Nothing c = refl
 
 -- a line of a peer is written first
-pub said_carried : (n : ScriptHub) (before mid after cs name : List ℕ) (k : Peer) (words : List ℕ) (o : Outcome) → mid ≡ before ++ line_text (says name words) → name ≡ k.name → CarriesOut n mid after cs o → CarriesOut n before after cs (writes (says k.name words) o)
+pub said_carried : (n : ScriptHub) (before mid after cs name : List ℕ) (k : Peer) (words : List ℕ) (o : ScriptOutcome) → mid ≡ before ++ line_text (says name words) → name ≡ k.name → CarriesOut n mid after cs o → CarriesOut n before after cs (writes (says k.name words) o)
 said_carried n before mid after cs name k words o put same h = line_carried n before mid after cs (says k.name words) o (put ∙ ap (λ (m : List ℕ). before ++ line_text (says m words)) same) h

@@ -10,18 +10,18 @@ use Rattle.bsc_history.specs.Marks.{entries}
 use Rattle.bsc_history.specs.Ends.{ended}
 use Rattle.bsc_history.specs.Outboxes.{sent}
 use Rattle.bsc_desk.specs.declared.desk.Desk.{Desk}
-use Rattle.bsc_desk.specs.Standing.{StandsFor}
+use Rattle.bsc_desk.specs.Standing.{DeskStands}
 use Rattle.bsc_accept.specs.declared.accepting.Accepting.{Accepting}
 use Rattle.bsc_accept.specs.declared.event.Event.{Event}
 use Rattle.bsc_accept.specs.declared.step.Step.{Step}
-use Rattle.bsc_accept.specs.Standing.{Answers, StandsFor as MachineStandsFor}
+use Rattle.bsc_accept.specs.Standing.{AcceptingAnswers, AcceptingStands}
 use Rattle.bsc_script.specs.declared.peer.Joined.{Joined}
 use Rattle.bsc_script.specs.declared.peer.Peer.{Peer as KeptPeer}
 use Rattle.bsc_script.specs.declared.script_hub.ScriptHub.{ScriptHub}
 use Rattle.bsc_script.specs.States.{State, Peer, start_at, has_joined_as, peer_on, told, with_held, with_peer}
 use Rattle.bsc_script.specs.Carrying.{step_of}
 use Rattle.bsc_script.specs.Settled.{IsSettledBut, SettledBut}
-use Rattle.bsc_script.specs.Holding.{IsJoinedIf, IsPeer, ArePeers, name_of, conn_of, kept_in, kept_conn, IsIndexed, IsOfSome, StandsAs, StandsAt, IsAt, KeepsAt}
+use Rattle.bsc_script.specs.Holding.{IsJoinedIf, IsPeer, ArePeers, name_of, conn_of, kept_in, kept_conn, IsIndexed, IsOfSome, ScriptStands, StandsAt, IsAt, KeepsAt}
 use Rattle.bsc_script.proofs.Pairs.{pair_at, partner_of, partner_to, Pairs-set, Pairs-map, take-set, drop-set, map-set, get-map, all-take, all-drop, all-join}
 use Rattle.bsc_script.proofs.Peers.{changed, ConnsApart-same, found_same, some_name}
 use Rattle.bsc_script.proofs.Pairs.{Apart-same}
@@ -46,7 +46,7 @@ conn_kept d S k None p = p.0
 conn_kept d S k (Some j) p = p.0
 
 -- Of a hub that stands for a state the names and connections are kept of its peers.
-pub indexed : (t : ScriptHub) (s : State) → StandsAs t s → IsIndexed t s.peers
+pub indexed : (t : ScriptHub) (s : State) → ScriptStands t s → IsIndexed t s.peers
 indexed t s h = record {
   apart = h.apart;
   names = Pairs-map (IsPeer t.desk h.marked) name_of (λ e. e.0) s.peers (kept_in t) (λ k e p. p.name) h.peers;
@@ -74,7 +74,7 @@ joined_kept d S k j (Some x) c f e p = (
 )
 
 -- The machine of a peer is told something, and goes on so.
-pub told_peer : (d : Desk) (S : List Stamped) (k : Peer) (x : List ℕ × KeptPeer) (e : Event) (m : Accepting) → IsPeer d S k x → MachineStandsFor m (start_at d.about k) (k.events ++ e ∷ []) → IsPeer d S (told e k) (x.0, record x.1 { machine = m })
+pub told_peer : (d : Desk) (S : List Stamped) (k : Peer) (x : List ℕ × KeptPeer) (e : Event) (m : Accepting) → IsPeer d S k x → AcceptingStands m (start_at d.about k) (k.events ++ e ∷ []) → IsPeer d S (told e k) (x.0, record x.1 { machine = m })
 told_peer d S k x e m p h = record {
   name = p.name;
   machine = h;
@@ -94,16 +94,16 @@ held_peer d S k x held p = record {
 -- ---- the hub
 
 -- the peers after one is changed, that stands at a place
-pub peers_changed : (t : ScriptHub) (s : State) (at : ℕ) (k j : Peer) → StandsAs t s → IsAt at k s → j.name ≡ k.name → (with_peer j s).peers ≡ set s.peers at j
+pub peers_changed : (t : ScriptHub) (s : State) (at : ℕ) (k j : Peer) → ScriptStands t s → IsAt at k s → j.name ≡ k.name → (with_peer j s).peers ≡ set s.peers at j
 peers_changed t s at k j h here name = changed s.peers at k j h.apart here name
 
 -- One peer is changed, with its name and its connection kept: the hub stands for the state with that peer.
 pub stands_changed : (t n : ScriptHub) (s : State) (at : ℕ) (k j : Peer) (x e : List ℕ × KeptPeer)
-    → StandsAs t s → IsAt at k s → j.name ≡ k.name → j.conn ≡ k.conn
+    → ScriptStands t s → IsAt at k s → j.name ≡ k.name → j.conn ≡ k.conn
     → n.desk ≡ t.desk → n.about ≡ t.about → n.clock ≡ t.clock → n.names ≡ t.names
     → slice_get (kept_in t) at ≡ Some x → kept_in n ≡ set (kept_in t) at e
     → ((S : List Stamped) → IsPeer t.desk S k x → IsPeer t.desk S j e)
-    → StandsAs n (with_peer j s)
+    → ScriptStands n (with_peer j s)
 stands_changed t n s at k j x e h here name conn desk about clock names was kept_so new =
     let ps : List Peer = (with_peer j s).peers in
     let ks : ps ≡ set s.peers at j = peers_changed t s at k j h here name in
@@ -116,7 +116,7 @@ stands_changed t n s at k j x e h here name conn desk about clock names was kept
     record {
       marked = h.marked;
       history = h.history;
-      stands = subst (λ d. StandsFor d h.marked) (sym desk) h.stands;
+      stands = subst (λ d. DeskStands d h.marked) (sym desk) h.stands;
       about = ap (λ d. d.about) desk ∙ h.about;
       same_hub = about ∙ h.same_hub;
       clock = clock ∙ h.clock;
@@ -132,7 +132,7 @@ stands_changed t n s at k j x e h here name conn desk about clock names was kept
     one a b g = cc
 
 -- and the changed peer stands at its place, the others being settled as before
-pub at_changed : (t n : ScriptHub) (s : State) (at : ℕ) (cs : List ℕ) (k j : Peer) → StandsAt t at cs s k → j.name ≡ k.name → StandsAs n (with_peer j s) → StandsAt n at cs (with_peer j s) j
+pub at_changed : (t n : ScriptHub) (s : State) (at : ℕ) (cs : List ℕ) (k j : Peer) → StandsAt t at cs s k → j.name ≡ k.name → ScriptStands n (with_peer j s) → StandsAt n at cs (with_peer j s) j
 at_changed t n s at cs k j h name new =
     let ps : List Peer = (with_peer j s).peers in
     let ks : ps ≡ set s.peers at j = peers_changed t s at k j h.stands h.here name in
@@ -150,7 +150,7 @@ pub settled_at : (t : ScriptHub) (at : ℕ) (cs : List ℕ) (s : State) (k : Pee
 settled_at t at cs s k h own = record { peers = all-join (IsSettledBut cs s.about s.history) s.peers at k h.here h.before h.behind own; order = h.order }
 
 -- Where all are settled, those beside one are.
-pub at_settled : (t : ScriptHub) (at : ℕ) (cs : List ℕ) (s : State) (k : Peer) → StandsAs t s → SettledBut cs s → IsAt at k s → StandsAt t at cs s k
+pub at_settled : (t : ScriptHub) (at : ℕ) (cs : List ℕ) (s : State) (k : Peer) → ScriptStands t s → SettledBut cs s → IsAt at k s → StandsAt t at cs s k
 at_settled t at cs s k h all here = record {
   stands = h;
   here = here;
@@ -167,15 +167,15 @@ settled_one at cs s k all here = all-at (IsSettledBut cs s.about s.history) s.pe
 -- The machine of the peer at a place is told something: the hub stands for the state with that, and the step is the one
 -- that the state says.
 pub told_stands : (t n : ScriptHub) (s : State) (at : ℕ) (k : Peer) (x : List ℕ × KeptPeer) (e : Event) (m : Accepting) (answer : Step)
-    → StandsAs t s → IsAt at k s → slice_get (kept_in t) at ≡ Some x → Answers x.1.machine m e answer
+    → ScriptStands t s → IsAt at k s → slice_get (kept_in t) at ≡ Some x → AcceptingAnswers x.1.machine m e answer
     → n.desk ≡ t.desk → n.about ≡ t.about → n.clock ≡ t.clock → n.names ≡ t.names
     → kept_in n ≡ set (kept_in t) at (x.0, record x.1 { machine = m })
-    → StandsAs n (with_peer (told e k) s) × (answer ≡ step_of s k e) × MachineStandsFor m (start_at s.about k) (k.events ++ e ∷ [])
+    → ScriptStands n (with_peer (told e k) s) × (answer ≡ step_of s k e) × AcceptingStands m (start_at s.about k) (k.events ++ e ∷ [])
 told_stands t n s at k x e m answer h here was answers desk about clock names kept_so =
     let own = partner_of (IsPeer t.desk h.marked) s.peers (kept_in t) at k h.peers here in
     let same : own.0 ≡ x = one own.0 x (sym own.1 ∙ was) in
     let pair : IsPeer t.desk h.marked k x = subst (IsPeer t.desk h.marked k) same own.2 in
-    let machine : MachineStandsFor x.1.machine (start_at s.about k) k.events = subst (λ a. MachineStandsFor x.1.machine (start_at a k) k.events) h.about pair.machine in
+    let machine : AcceptingStands x.1.machine (start_at s.about k) k.events = subst (λ a. AcceptingStands x.1.machine (start_at a k) k.events) h.about pair.machine in
     let next = answers (start_at s.about k) k.events machine in (
       stands_changed t n s at k (told e k) x (x.0, record x.1 { machine = m }) h here refl refl desk about clock names was kept_so
           (λ S p. told_peer t.desk S k x e m p (answers (start_at t.desk.about k) k.events p.machine).1),
@@ -195,19 +195,19 @@ within_still t at p h = subst (λ n. at < n) (sym (index_map_len-with_value_at t
 
 -- The machine of the peer at a place is told something: as above, of the place.
 pub told_at : (t n : ScriptHub) (s : State) (at : ℕ) (cs : List ℕ) (k : Peer) (x : Vec ℕ Global × KeptPeer) (e : Event) (m : Accepting) (answer : Step)
-    → StandsAt t at cs s k → slice_get t.peers.entries at ≡ Some x → Answers x.1.machine m e answer
+    → StandsAt t at cs s k → slice_get t.peers.entries at ≡ Some x → AcceptingAnswers x.1.machine m e answer
     → n.desk ≡ t.desk → n.about ≡ t.about → n.clock ≡ t.clock → n.names ≡ t.names → n.peers ≡ with_value_at t.peers at (record x.1 { machine = m })
-    → StandsAt n at cs (with_peer (told e k) s) (told e k) × (answer ≡ step_of s k e) × MachineStandsFor m (start_at s.about k) (k.events ++ e ∷ [])
+    → StandsAt n at cs (with_peer (told e k) s) (told e k) × (answer ≡ step_of s k e) × AcceptingStands m (start_at s.about k) (k.events ++ e ∷ [])
 told_at t n s at cs k x e m answer h was answers desk about clock names new =
     let r = told_stands t n s at k (kept x) e m answer h.stands h.here (get-map kept t.peers.entries at x was) answers desk about clock names (kept_with t n at x (record x.1 { machine = m }) was new) in
     (at_changed t n s at cs k (told e k) h refl r.0, r.1, r.2)
 
 -- Some peer stands at each place that there is.
-pub some_at : (t : ScriptHub) (s : State) (at : ℕ) (x : Vec ℕ Global × KeptPeer) (h : StandsAs t s) → slice_get t.peers.entries at ≡ Some x → (k : Peer) × IsAt at k s × IsPeer t.desk h.marked k (kept x)
+pub some_at : (t : ScriptHub) (s : State) (at : ℕ) (x : Vec ℕ Global × KeptPeer) (h : ScriptStands t s) → slice_get t.peers.entries at ≡ Some x → (k : Peer) × IsAt at k s × IsPeer t.desk h.marked k (kept x)
 some_at t s at x h was = partner_to (IsPeer t.desk h.marked) s.peers (kept_in t) at (kept x) h.peers (get-map kept t.peers.entries at x was)
 
 -- What is kept at a place is kept of the peer there.
-pub kept_at : (t : ScriptHub) (s : State) (at : ℕ) (k : Peer) (x : Vec ℕ Global × KeptPeer) (h : StandsAs t s) → IsAt at k s → slice_get t.peers.entries at ≡ Some x → IsPeer t.desk h.marked k (kept x)
+pub kept_at : (t : ScriptHub) (s : State) (at : ℕ) (k : Peer) (x : Vec ℕ Global × KeptPeer) (h : ScriptStands t s) → IsAt at k s → slice_get t.peers.entries at ≡ Some x → IsPeer t.desk h.marked k (kept x)
 kept_at t s at k x h here was = pair_at (IsPeer t.desk h.marked) s.peers (kept_in t) at k (kept x) h.peers here (get-map kept t.peers.entries at x was)
 
 -- What is known of the peer that is kept at a place.
@@ -215,10 +215,10 @@ pub keeps_at : (t : ScriptHub) (at : ℕ) (x : Vec ℕ Global × KeptPeer) (p : 
 keeps_at t at x p was keeps = keeps (kept x) (get-map kept t.peers.entries at x was)
 
 -- The hub stands for some state with the machine told, where it stood for some.
-pub told_some : (t n : ScriptHub) (at : ℕ) (x : Vec ℕ Global × KeptPeer) (e : Event) (m : Accepting) (answer : Step) → IsOfSome t → slice_get t.peers.entries at ≡ Some x → Answers x.1.machine m e answer
+pub told_some : (t n : ScriptHub) (at : ℕ) (x : Vec ℕ Global × KeptPeer) (e : Event) (m : Accepting) (answer : Step) → IsOfSome t → slice_get t.peers.entries at ≡ Some x → AcceptingAnswers x.1.machine m e answer
     → n.desk ≡ t.desk → n.about ≡ t.about → n.clock ≡ t.clock → n.names ≡ t.names → n.peers ≡ with_value_at t.peers at (record x.1 { machine = m }) → IsOfSome n
 told_some t n at x e m answer some was answers desk about clock names new =
     let s = some.0 in
-    let h : StandsAs t s = some.1 in
+    let h : ScriptStands t s = some.1 in
     let k = some_at t s at x h was in
     (with_peer (told e k.0) s, (told_stands t n s at k.0 (kept x) e m answer h k.1 (get-map kept t.peers.entries at x was) answers desk about clock names (kept_with t n at x (record x.1 { machine = m }) was new)).0)

@@ -20,7 +20,7 @@ use Rattle.bsc_history.specs.Outboxes.{sent}
 use Rattle.bsc_history.specs.Replies.{connect_reply}
 use Rattle.bsc_ring.specs.Ends.{IsNewOutlet, outlet_mark}
 use Rattle.bsc_desk.specs.Entries.{connect_due, connect_entry, connect_stamped}
-use Rattle.bsc_desk.specs.Standing.{StandsFor}
+use Rattle.bsc_desk.specs.Standing.{DeskStands}
 use Rattle.bsc_accept.specs.declared.event.Event.{Event}
 use Rattle.bsc_accept.specs.declared.event.Event.TheVariants.{Joined as HasJoined, Refused as WasRefused}
 use Rattle.bsc_accept.specs.Standing.{AwaitsAnswer, stage}
@@ -36,7 +36,7 @@ use Rattle.bsc_script.specs.Receiving.{connects, gets_reply, wears}
 use Rattle.bsc_script.specs.Emptying.{due_after, is_due}
 use Rattle.bsc_script.specs.Settled.{IsSettledBut, ascends}
 use Rattle.bsc_script.specs.Touching.{replaced_list}
-use Rattle.bsc_script.specs.Holding.{CarriesOut, name_of, kept_conn, IsAt, IsIndexed, IsJoinedIf, IsPeer, KeepsAt, StandsAs, StandsAt, kept_in}
+use Rattle.bsc_script.specs.Holding.{CarriesOut, name_of, kept_conn, IsAt, IsIndexed, IsJoinedIf, IsPeer, KeepsAt, ScriptStands, StandsAt, kept_in}
 use Rattle.bsc_script.specs.Between.{Seats, StandsBut}
 use Rattle.bsc_script.proofs.Between.{Changes, stands_more, stands_whole}
 use Rattle.bsc_script.proofs.Carried.{said_carried}
@@ -66,13 +66,13 @@ worn_due true said r h = ((λ e. refl), (λ q e. (let bad : None ≡ Some q = sy
 worn_due false said r h = ((λ e. (let bad : Some r ≡ None = sym h ∙ e in cc)), (λ q e. refl))
 
 -- What a connect is answered says whether the hub is worn.
-pub connect_worn : (t : ScriptHub) (s : State) (who : Identity) (said : Option Reply) → StandsAs t s → ((S : List Stamped) → StandsFor t.desk S → said ≡ connect_due t.desk.about (entries S) who) → (said ≡ None → is_worn s ≡ true) × ((q : Reply) → said ≡ Some q → is_worn s ≡ false)
+pub connect_worn : (t : ScriptHub) (s : State) (who : Identity) (said : Option Reply) → ScriptStands t s → ((S : List Stamped) → DeskStands t.desk S → said ≡ connect_due t.desk.about (entries S) who) → (said ≡ None → is_worn s ≡ true) × ((q : Reply) → said ≡ Some q → is_worn s ≡ false)
 connect_worn t s who said h due =
     worn_due (is_worn s) said (connect_reply s.about s.history who) (due h.marked h.stands ∙ ap (λ (a : About). connect_due a (entries h.marked) who) h.about ∙ ap (λ (H : List Entry). connect_due s.about H who) h.history)
 
 -- ---- the entry
 
-connect_exact : (t u : ScriptHub) (s : State) (h : StandsAs t s) (who : Identity) (m : Mark) (r : Reply) → MakesEntry t u (connect_stamped 0 who m r) → r ≡ reply_in s (Connect who)
+connect_exact : (t u : ScriptHub) (s : State) (h : ScriptStands t s) (who : Identity) (m : Mark) (r : Reply) → MakesEntry t u (connect_stamped 0 who m r) → r ≡ reply_in s (Connect who)
 connect_exact t u s h who m r e =
     let lawful = newest_lawful t.desk u.desk h.marked (connect_stamped 0 who m r) e.desk_about (e.stands h.marked h.stands) in
     lawful.replied ∙ ap (λ (a : About). connect_reply a (entries h.marked) who) h.about ∙ ap (λ (H : List Entry). connect_reply s.about H who) h.history
@@ -80,7 +80,7 @@ connect_exact t u s h who m r e =
 -- ---- the machine
 
 -- A machine that awaits the answer still does.
-pub awaits_still : (t n : ScriptHub) (at : ℕ) (s z : State) (k i : Peer) → StandsAs t s → IsAt at k s → StandsAs n z → IsAt at i z → z.about ≡ s.about → i.since ≡ k.since → i.events ≡ k.events → KeepsAt t at (λ p. AwaitsAnswer p.machine) → KeepsAt n at (λ p. AwaitsAnswer p.machine)
+pub awaits_still : (t n : ScriptHub) (at : ℕ) (s z : State) (k i : Peer) → ScriptStands t s → IsAt at k s → ScriptStands n z → IsAt at i z → z.about ≡ s.about → i.since ≡ k.since → i.events ≡ k.events → KeepsAt t at (λ p. AwaitsAnswer p.machine) → KeepsAt n at (λ p. AwaitsAnswer p.machine)
 awaits_still t n at s z k i h here g there about since events asks e kept =
     let old = partner_of (IsPeer t.desk h.marked) s.peers (kept_in t) at k h.peers here in
     let was = asks old.0 old.1 in
@@ -108,7 +108,7 @@ order_of None = refl
 order_of (Some c) = refl
 
 -- The peer that joined stands at its place, and all others are settled but for whom it took over from.
-pub joined_at : (t u n : ScriptHub) (at : ℕ) (s : State) (k : Peer) (who : Identity) (m : Mark) (c : ℕ) (replaced : Option ℕ) → StandsAt t at [] s k → MakesEntry t u (connect_stamped 0 who m (JoinedReply c replaced)) → StandsAs n (with_peer (joined_as c k) (record s { history = s.history ++ connect_entry 0 who (JoinedReply c replaced) ∷ [] })) → StandsAt n at (replaced_list replaced) (with_peer (joined_as c k) (record s { history = s.history ++ connect_entry 0 who (JoinedReply c replaced) ∷ [] })) (joined_as c k)
+pub joined_at : (t u n : ScriptHub) (at : ℕ) (s : State) (k : Peer) (who : Identity) (m : Mark) (c : ℕ) (replaced : Option ℕ) → StandsAt t at [] s k → MakesEntry t u (connect_stamped 0 who m (JoinedReply c replaced)) → ScriptStands n (with_peer (joined_as c k) (record s { history = s.history ++ connect_entry 0 who (JoinedReply c replaced) ∷ [] })) → StandsAt n at (replaced_list replaced) (with_peer (joined_as c k) (record s { history = s.history ++ connect_entry 0 who (JoinedReply c replaced) ∷ [] })) (joined_as c k)
 joined_at t u n at s k who m c replaced w e new =
     let h = w.stands in
     let cs = replaced_list replaced in
@@ -146,7 +146,7 @@ may_note t u v at s k who m c replaced j cs w free h is =
     subst (λ (l : List ℕ). StandsBut l v (state_joined s k who c replaced)) (sym is) (joined_between t u v at s k who m c replaced j w free h.makes h.seat h.conn h.vmac h.mark h.fresh h.waits)
 
 -- After them it stands with the peer at its place.
-pub after_note : (t u v n : ScriptHub) (at : ℕ) (s : State) (k : Peer) (who : Identity) (m : Mark) (c : ℕ) (replaced : Option ℕ) (j : Joined) (cs : List ℕ) → StandsAt t at [] s k → k.conn ≡ None → Joins t u v at who m c replaced j → cs ≡ replaced_list replaced → ((z : State) → StandsBut cs v z → StandsAs n z) → StandsAt n at cs (state_joined s k who c replaced) (joined_as c k)
+pub after_note : (t u v n : ScriptHub) (at : ℕ) (s : State) (k : Peer) (who : Identity) (m : Mark) (c : ℕ) (replaced : Option ℕ) (j : Joined) (cs : List ℕ) → StandsAt t at [] s k → k.conn ≡ None → Joins t u v at who m c replaced j → cs ≡ replaced_list replaced → ((z : State) → StandsBut cs v z → ScriptStands n z) → StandsAt n at cs (state_joined s k who c replaced) (joined_as c k)
 after_note t u v n at s k who m c replaced j cs w free h is notes =
     subst (λ (l : List ℕ). StandsAt n at l (state_joined s k who c replaced) (joined_as c k)) (sym is) (joined_at t u n at s k who m c replaced w h.makes (notes (state_joined s k who c replaced) (may_note t u v at s k who m c replaced j cs w free h is)))
 
@@ -165,7 +165,7 @@ not_due t u at s k who m c replaced w free e =
     rw (sends, ends, empty) refl
 
 -- A connect that joins is carried out.
-pub connected : (t u v n r : ScriptHub) (at : ℕ) (s : State) (k : Peer) (who : Identity) (m : Mark) (c : ℕ) (replaced : Option ℕ) (j : Joined) (cs before mid after name : List ℕ) → StandsAt t at [] s k → k.conn ≡ None → Joins t u v at who m c replaced j → cs ≡ replaced_list replaced → is_worn s ≡ false → ((z : State) → StandsBut cs v z → StandsAs n z) → ((ks : List Peer) (p : Peer) → IsIndexed u ks → slice_get ks at ≡ Some p → name ≡ p.name) → mid ≡ before ++ line_text (says name (joined_words c replaced)) → ((z : State) (p : Peer) (ds : List ℕ) (b : ℕ) → StandsAt n at ds z p → p.conn ≡ Some b → (p.held ≡ false → is_due z p b ≡ true → is_among b ds ≡ true) → CarriesOut r mid after ds (tells z p HasJoined)) → CarriesOut r before after cs (connects s k who)
+pub connected : (t u v n r : ScriptHub) (at : ℕ) (s : State) (k : Peer) (who : Identity) (m : Mark) (c : ℕ) (replaced : Option ℕ) (j : Joined) (cs before mid after name : List ℕ) → StandsAt t at [] s k → k.conn ≡ None → Joins t u v at who m c replaced j → cs ≡ replaced_list replaced → is_worn s ≡ false → ((z : State) → StandsBut cs v z → ScriptStands n z) → ((ks : List Peer) (p : Peer) → IsIndexed u ks → slice_get ks at ≡ Some p → name ≡ p.name) → mid ≡ before ++ line_text (says name (joined_words c replaced)) → ((z : State) (p : Peer) (ds : List ℕ) (b : ℕ) → StandsAt n at ds z p → p.conn ≡ Some b → (p.held ≡ false → is_due z p b ≡ true → is_among b ds ≡ true) → CarriesOut r mid after ds (tells z p HasJoined)) → CarriesOut r before after cs (connects s k who)
 connected t u v n r at s k who m c replaced j cs before mid after name w free g is fresh notes named wrote tell =
     let h = w.stands in
     let e = g.makes in

@@ -23,7 +23,7 @@ use Rattle.bsc_desk.specs.Meetings.{IsOutletOf}
 use Rattle.bsc_desk.specs.Rows.{HasRow, IsMarkOf, known_of, row_of}
 use Rattle.bsc_desk.proofs.Rowed.{few_entries, has_unleft, is_mark_of}
 use Rattle.bsc_desk.specs.Live.{known_in}
-use Rattle.bsc_accept.specs.Standing.{StandsFor as MachineStandsFor}
+use Rattle.bsc_accept.specs.Standing.{AcceptingStands}
 use Rattle.bsc_history.specs.declared.limits.About.{About}
 use Rattle.bsc_script.specs.declared.peer.Joined.{Joined}
 use Rattle.bsc_script.specs.declared.peer.Peer.{Peer as KeptPeer}
@@ -37,7 +37,7 @@ use Rattle.bsc_script.proofs.Peers.{ConnsApart-same, changed, found_same, some_n
 use Rattle.bsc_script.specs.Written.{says, line_text, text_of}
 use Rattle.bsc_script.specs.Texts.{out_words}
 use Rattle.bsc_script.specs.Emptying.{due_after, empties_after, frame_lines, unwritten}
-use Rattle.bsc_script.specs.Between.{IsEmptied, IsJoinedAt, IsWritten, written_peer, Meets, OwnsOutlet, Stays, TakesOne, Writes, WritesAll}
+use Rattle.bsc_script.specs.Between.{IsEmptied, IsJoinedAt, IsWritten, written_peer, PeerMeets, OwnsOutlet, Stays, TakesOne, Writes, WritesAll}
 use Rattle.bsc_script.proofs.Carried.{text-append}
 use Rattle.bsc_desk.proofs.Common.{gave_all}
 use Rattle.bsc_history.proofs.Common.{length_entries}
@@ -50,7 +50,7 @@ owns_meets d S j w = (has_unleft d S j.conn w.stands w.unleft, is_mark_of d S j.
 
 -- ---- one take
 
-module _ (S : List Stamped) (d n : Desk) (i j : Joined) (w : OwnsOutlet d S i) (m : Meets d n i j) where
+module _ (S : List Stamped) (d n : Desk) (i j : Joined) (w : OwnsOutlet d S i) (m : PeerMeets d n i j) where
   -- the outlet that met owns what it did
   pub met_owns : OwnsOutlet n S j
   met_owns = record {
@@ -84,7 +84,7 @@ module _ (S : List Stamped) (d n : Desk) (i j : Joined) (w : OwnsOutlet d S i) (
       )
 
   -- nothing was left, and the two ends met again
-  emptied_by : (p : Outlet) (ending : Option End) (r : Desk) (k : Joined) (b : Bool) → b ≡ is_some ending → GaveAll j.outlet ending p → outlet_mark p ≡ outlet_mark j.outlet → Meets n r (record j { outlet = p }) k → ending ≡ ended (entries S) i.conn → ending ≢ Some Left → empties_of p ≡ empties_after ending (empties_of j.outlet) → IsEmptied S ending d r i (record k { waits = b }) × (given k.outlet ≡ given i.outlet)
+  emptied_by : (p : Outlet) (ending : Option End) (r : Desk) (k : Joined) (b : Bool) → b ≡ is_some ending → GaveAll j.outlet ending p → outlet_mark p ≡ outlet_mark j.outlet → PeerMeets n r (record j { outlet = p }) k → ending ≡ ended (entries S) i.conn → ending ≢ Some Left → empties_of p ≡ empties_after ending (empties_of j.outlet) → IsEmptied S ending d r i (record k { waits = b }) × (given k.outlet ≡ given i.outlet)
   emptied_by p ending r k b waits g same again ends named empties =
       let all : given p ≡ sent d.about (entries S) i.conn = gave_all d S i.conn j.outlet p ending (m.outlet S w.stands) (m.knows S w.stands) g in
       let whole : given k.outlet ≡ sent d.about (entries S) i.conn = again.given_same ∙ all in
@@ -117,13 +117,13 @@ module _ (S : List Stamped) (d n : Desk) (i j : Joined) (w : OwnsOutlet d S i) (
       )
 
   -- it is empty, and the connection is live
-  pub took_empty : (p : Outlet) (r : Desk) (k : Joined) (name before : List ℕ) → Took j.outlet Empty p → outlet_mark p ≡ outlet_mark j.outlet → Meets n r (record j { outlet = p }) k → TakesOne S (Some None) d r i (record k { waits = false }) name before before
+  pub took_empty : (p : Outlet) (r : Desk) (k : Joined) (name before : List ℕ) → Took j.outlet Empty p → outlet_mark p ≡ outlet_mark j.outlet → PeerMeets n r (record j { outlet = p }) k → TakesOne S (Some None) d r i (record k { waits = false }) name before before
   took_empty p r k name before g same again =
       let e = emptied_by p None r k false refl g.0 same again (sym g.1 ∙ (m.knows S w.stands).ending) (λ q. cc) g.2 in
       (e.0, e.1, refl)
 
   -- it is empty, and the connection has ended
-  pub took_closed : (p : Outlet) (ending : End) (r : Desk) (k : Joined) (name before : List ℕ) → Took j.outlet (Closed ending) p → outlet_mark p ≡ outlet_mark j.outlet → Meets n r (record j { outlet = p }) k → TakesOne S (Some (Some ending)) d r i k name before before
+  pub took_closed : (p : Outlet) (ending : End) (r : Desk) (k : Joined) (name before : List ℕ) → Took j.outlet (Closed ending) p → outlet_mark p ≡ outlet_mark j.outlet → PeerMeets n r (record j { outlet = p }) k → TakesOne S (Some (Some ending)) d r i k name before before
   took_closed p ending r k name before g same again =
       let at = length (found j.outlet) in
       let there : get_elem? (found k.outlet) at ≡ some (Ending (Some ending)) = ap (λ l. get_elem? l at) (again.found_same ∙ g.0.3.0) ∙ at_end (found j.outlet) (Tail (length (given j.outlet)) ∷ []) (Ending (Some ending)) in
@@ -197,7 +197,7 @@ never_full S n j w =
     omega arith
 
 -- what a second meeting asks
-pub met_again : (d n : Desk) (S : List Stamped) (i j : Joined) (p : Outlet) → OwnsOutlet d S i → Meets d n i j → outlet_mark p ≡ outlet_mark j.outlet → HasRow n j.conn × IsMarkOf n j.conn (outlet_mark p)
+pub met_again : (d n : Desk) (S : List Stamped) (i j : Joined) (p : Outlet) → OwnsOutlet d S i → PeerMeets d n i j → outlet_mark p ≡ outlet_mark j.outlet → HasRow n j.conn × IsMarkOf n j.conn (outlet_mark p)
 met_again d n S i j p w m same =
     let both = owns_meets n S j (met_owns S d n i j w m) in
     (both.0, subst (IsMarkOf n j.conn) (sym same) both.1)
@@ -223,7 +223,7 @@ other_joined_kept c d n S k (Some j) same others p away =
 other_kept : (c : ℕ) (d n : Desk) (S : List Stamped) (k : Peer) (x : List ℕ × KeptPeer) → n.about ≡ d.about → ((b : ℕ) → b ≢ c → row_of n b ≡ row_of d b) → IsPeer d S k x → (k.conn ≡ Some c → ⊥) → IsPeer n S k x
 other_kept c d n S k x same others p away = record {
   name = p.name;
-  machine = subst (λ (a : About). MachineStandsFor x.1.machine (start_at a k) k.events) (sym same) p.machine;
+  machine = subst (λ (a : About). AcceptingStands x.1.machine (start_at a k) k.events) (sym same) p.machine;
   held = p.held;
   joined = other_joined_kept c d n S k x.1.joined same others p.joined away;
 }
@@ -304,13 +304,13 @@ module _ (t : ScriptHub) (at c : ℕ) (s : State) (k : Peer) (w : IsJoinedAt t a
           by None = refl
           by (Some x) = refl
 
-      machine_so : MachineStandsFor p.machine (start_at u.desk.about wrote) wrote.events
+      machine_so : AcceptingStands p.machine (start_at u.desk.about wrote) wrote.events
       machine_so = by ending
         where
-          base : MachineStandsFor p.machine (start_at u.desk.about k) k.events
-          base = subst (λ (a : About). MachineStandsFor p.machine (start_at a k) k.events) (sym h.emptied.stays.about) kept_pair.machine
+          base : AcceptingStands p.machine (start_at u.desk.about k) k.events
+          base = subst (λ (a : About). AcceptingStands p.machine (start_at a k) k.events) (sym h.emptied.stays.about) kept_pair.machine
 
-          by : (e : Option End) → MachineStandsFor p.machine (start_at u.desk.about (written_peer e (unwritten s k c) k)) (written_peer e (unwritten s k c) k).events
+          by : (e : Option End) → AcceptingStands p.machine (start_at u.desk.about (written_peer e (unwritten s k c) k)) (written_peer e (unwritten s k c) k).events
           by None = base
           by (Some x) = base
 

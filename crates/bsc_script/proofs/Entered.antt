@@ -26,7 +26,7 @@ use Rattle.bsc_desk.specs.declared.row.Row.{Row}
 use Rattle.bsc_desk.specs.Knowing.{Learns}
 use Rattle.bsc_desk.specs.Live.{connection, is_open}
 use Rattle.bsc_desk.specs.Rows.{known_of}
-use Rattle.bsc_desk.specs.Standing.{StandsFor}
+use Rattle.bsc_desk.specs.Standing.{DeskStands}
 use Rattle.bsc_desk.proofs.LiveRows.{live_rows}
 use Rattle.bsc_script.specs.declared.peer.Joined.{Joined}
 use Rattle.bsc_script.specs.declared.peer.Peer.{Peer as KeptPeer}
@@ -36,7 +36,7 @@ use Rattle.bsc_script.specs.Calls.{entry_in, looks_in, reply_in, written_for, wr
 use Rattle.bsc_script.specs.Emptying.{is_connected}
 use Rattle.bsc_script.specs.Settled.{IsSettledBut}
 use Rattle.bsc_script.specs.Touching.{touched}
-use Rattle.bsc_script.specs.Holding.{Pairs, IsPeer, IsJoinedIf, StandsAs, kept_in}
+use Rattle.bsc_script.specs.Holding.{Pairs, IsPeer, IsJoinedIf, ScriptStands, kept_in}
 use Rattle.bsc_script.proofs.Between.{Changes, due_same}
 use Rattle.bsc_script.proofs.Peers.{found_conn}
 use Rattle.bsc_script.proofs.Touched.{among_In, ended_same, look_newest, looked_same, sent_named, sent_same, touched_so}
@@ -47,7 +47,7 @@ use Rattle.std.proofs.lemmas.Option.{same_Some as same_some}
 -- ---- the newest entry
 
 -- The entry that a desk made is lawful, after a legal history.
-pub newest_lawful : (d n : Desk) (S : List Stamped) (x : Stamped) → n.about ≡ d.about → StandsFor n (S ++ x ∷ []) → Lawful d.about (moment (entries S) x.entry)
+pub newest_lawful : (d n : Desk) (S : List Stamped) (x : Stamped) → n.about ≡ d.about → DeskStands n (S ++ x ∷ []) → Lawful d.about (moment (entries S) x.entry)
 newest_lawful d n S x same s =
     (Legal-front d.about (entries S) x.entry (subst (λ a. Legal a (entries S ++ x.entry ∷ [])) same (subst (Legal n.about) (entries-more S x) s.legal))).1
 
@@ -157,7 +157,7 @@ known_all d S [] (e ∷ es) p = absurd p
 known_all d S (k ∷ ks) [] p = absurd p
 known_all d S (k ∷ ks) (e ∷ es) p = ((λ c is. known_by d S k c e.1.joined p.0.joined is), known_all d S ks es p.1)
 
-live_unleft : (d : Desk) (S : List Stamped) (c : ℕ) → StandsFor d S → list_any (λ x. x.number == c) (live (entries S)) ≡ true → list_any (λ x. x.number == c) (unleft (entries S)) ≡ true
+live_unleft : (d : Desk) (S : List Stamped) (c : ℕ) → DeskStands d S → list_any (λ x. x.number == c) (live (entries S)) ≡ true → list_any (λ x. x.number == c) (unleft (entries S)) ≡ true
 live_unleft d S c s h =
     let p = λ (x : Connection). x.number == c in
     let q = λ (r : Row). p (connection r) in
@@ -166,7 +166,7 @@ live_unleft d S c s h =
 
 -- An entry of caller 0 is the one that the call makes, once the outboxes that it looked at have met: each look found
 -- just what was written.
-pub exact_entry : (t u : ScriptHub) (s : State) (w : StandsAs t s) (e : Entry) (n : Desk) → e.caller ≡ 0 → Lawful t.desk.about (moment (entries w.marked) e) → Learns t.desk e.looks n → StandsAs u (record s { history = s.history ++ e ∷ [] }) → e ≡ entry_in s e.call
+pub exact_entry : (t u : ScriptHub) (s : State) (w : ScriptStands t s) (e : Entry) (n : Desk) → e.caller ≡ 0 → Lawful t.desk.about (moment (entries w.marked) e) → Learns t.desk e.looks n → ScriptStands u (record s { history = s.history ++ e ∷ [] }) → e ≡ entry_in s e.call
 exact_entry t u s w e n mine lawful l v =
     let H = entries w.marked in
     let G = H ++ e ∷ [] in

@@ -13,7 +13,7 @@ use Rattle.bsc_script.specs.declared.script_hub.ScriptHub.{ScriptHub}
 use Rattle.bsc_script.specs.States.{State, Peer, with_held, with_peer}
 use Rattle.bsc_script.specs.Running.{holds}
 use Rattle.bsc_script.specs.Settled.{IsSettledBut, SettledBut, ascends}
-use Rattle.bsc_script.specs.Holding.{IsJoinedIf, IsPeer, StandsAs, StandsAt, Holds, IsAt, CarriesOut, kept_in}
+use Rattle.bsc_script.specs.Holding.{IsJoinedIf, IsPeer, ScriptStands, StandsAt, ScriptHolds, IsAt, CarriesOut, kept_in}
 use Rattle.bsc_script.proofs.Pairs.{get-map}
 use Rattle.bsc_script.proofs.Changes.{kept, kept_at, kept_with, held_peer, stands_changed, at_changed, at_settled, settled_at, settled_one}
 use Rattle.bsc_script.proofs.Carried.{quiet_carried}
@@ -30,7 +30,7 @@ all_settled_more cs a H (k ∷ ks) h = (settled_more cs a H k h.0, all_settled_m
 held_settled : (cs : List ℕ) (a : About) (H : List Entry) (k : Peer) (held : Bool) → ((c : ℕ) → k.conn ≡ Some c → is_among c cs ≡ true) → IsSettledBut [] a H k → IsSettledBut cs a H (with_held held k)
 held_settled cs a H k held among h = record { ready = h.ready; fits = h.fits; emptied = λ c e w. among c e }
 
-pub held_carried : (t n : ScriptHub) (s : State) (at : ℕ) (k : Peer) (x : Vec ℕ Global × KeptPeer) (held : Bool) (cs : List ℕ) → Holds t s → IsAt at k s → slice_get t.peers.entries at ≡ Some x
+pub held_carried : (t n : ScriptHub) (s : State) (at : ℕ) (k : Peer) (x : Vec ℕ Global × KeptPeer) (held : Bool) (cs : List ℕ) → ScriptHolds t s → IsAt at k s → slice_get t.peers.entries at ≡ Some x
     → ascends cs ≡ true → ((c : ℕ) → k.conn ≡ Some c → is_among c cs ≡ true)
     → n.desk ≡ t.desk → n.about ≡ t.about → n.clock ≡ t.clock → n.names ≡ t.names → n.peers ≡ with_value_at t.peers at (record x.1 { held = held })
     → CarriesOut n [] [] cs (holds s k held)
@@ -43,13 +43,13 @@ held_carried t n s at k x held cs h here was order among desk about clock names 
       behind = all_settled_more cs s.about s.history (drop (suc at) s.peers) (at_settled t at [] s k h.0 h.1 here).behind;
       order = order;
     } in
-    let stands : StandsAs n (with_peer j s) = stands_changed t n s at k j (kept x) (x.0.items, record x.1 { held = held }) h.0 here refl refl desk about clock names (get-map kept t.peers.entries at x was)
+    let stands : ScriptStands n (with_peer j s) = stands_changed t n s at k j (kept x) (x.0.items, record x.1 { held = held }) h.0 here refl refl desk about clock names (get-map kept t.peers.entries at x was)
     (kept_with t n at x (record x.1 { held = held }) was new) (λ S p. held_peer t.desk S k (kept x) held p) in
     quiet_carried n [] cs (with_peer j s) stands
     (settled_at n at cs (with_peer j s) j (at_changed t n s at cs k j all refl stands) (held_settled cs s.about s.history k held among (settled_one at [] s k h.1 here)))
 
 -- The connection of a peer is the one of whom it is kept that it has joined.
-pub conn_among : (t : ScriptHub) (s : State) (at : ℕ) (k : Peer) (x : Vec ℕ Global × KeptPeer) (j : Joined) → StandsAs t s → IsAt at k s → slice_get t.peers.entries at ≡ Some x → x.1.joined ≡ Some j
+pub conn_among : (t : ScriptHub) (s : State) (at : ℕ) (k : Peer) (x : Vec ℕ Global × KeptPeer) (j : Joined) → ScriptStands t s → IsAt at k s → slice_get t.peers.entries at ≡ Some x → x.1.joined ≡ Some j
     → (c : ℕ) → k.conn ≡ Some c → is_among c (j.conn ∷ []) ≡ true
 conn_among t s at k x j h here was is c conn =
     let p = kept_at t s at k x h here was in
@@ -59,7 +59,7 @@ conn_among t s at k x j h here was is c conn =
     one : (a b : ℕ) → Some a ≡ Some b → a ≡ b
     one a b e = cc
 
-pub no_conn_among : (t : ScriptHub) (s : State) (at : ℕ) (k : Peer) (x : Vec ℕ Global × KeptPeer) → StandsAs t s → IsAt at k s → slice_get t.peers.entries at ≡ Some x → x.1.joined ≡ None
+pub no_conn_among : (t : ScriptHub) (s : State) (at : ℕ) (k : Peer) (x : Vec ℕ Global × KeptPeer) → ScriptStands t s → IsAt at k s → slice_get t.peers.entries at ≡ Some x → x.1.joined ≡ None
     → (c : ℕ) → k.conn ≡ Some c → is_among c [] ≡ true
 no_conn_among t s at k x h here was is c conn =
     let p = kept_at t s at k x h here was in

@@ -38,8 +38,8 @@ use Rattle.bsc_desk.specs.Meetings.{IsOutletOf}
 use Rattle.bsc_desk.specs.Live.{known_in}
 use Rattle.bsc_desk.specs.Rows.{known_of, row_of, IsRowBy, IsMarkOf}
 use Rattle.bsc_desk.proofs.Rowed.{is_row_by, is_mark_of}
-use Rattle.bsc_desk.specs.Standing.{StandsFor}
-use Rattle.bsc_accept.specs.Standing.{StandsFor as MachineStandsFor}
+use Rattle.bsc_desk.specs.Standing.{DeskStands}
+use Rattle.bsc_accept.specs.Standing.{AcceptingStands}
 use Rattle.bsc_script.specs.declared.peer.Joined.{Joined}
 use Rattle.bsc_script.specs.declared.peer.Peer.{Peer as KeptPeer}
 use Rattle.bsc_script.specs.declared.script_hub.ScriptHub.{ScriptHub}
@@ -49,8 +49,8 @@ use Rattle.bsc_script.specs.Written.{line_text, says}
 use Rattle.bsc_lines.specs.Replies.{gone_words}
 use Rattle.bsc_script.specs.Settled.{IsSettledBut, SettledBut}
 use Rattle.bsc_script.specs.Emptying.{is_connected, due_after, emptied_after}
-use Rattle.bsc_script.specs.Carrying.{ends, leaves_if, quietly, Outcome}
-use Rattle.bsc_script.specs.Holding.{Pairs, IsJoinedPeer, IsJoinedIf, IsPeer, ArePeers, name_of, conn_of, ConnsApart, kept_in, StandsAs, StandsAt, IsAt, IsOfSome, CarriesOut}
+use Rattle.bsc_script.specs.Carrying.{ends, leaves_if, quietly, ScriptOutcome}
+use Rattle.bsc_script.specs.Holding.{Pairs, IsJoinedPeer, IsJoinedIf, IsPeer, ArePeers, name_of, conn_of, ConnsApart, kept_in, ScriptStands, StandsAt, IsAt, IsOfSome, CarriesOut}
 use Rattle.bsc_script.proofs.Pairs.{Pairs-remove, Pairs-weaker, all-remove, map-remove}
 use Rattle.bsc_script.proofs.Changes.{kept, kept_at, some_at}
 use Rattle.bsc_script.proofs.Carried.{quiet_carried, line_carried}
@@ -128,7 +128,7 @@ pub left_peer : (d n : Desk) (S : List Stamped) (c empties : ℕ) (g : Gone) (k 
     → ((b : ℕ) → c ≢ b → known_of n b ≡ known_of d b) → IsPeer d S k x → IsPeer n (S ++ plain (left c empties g) ∷ []) k x
 left_peer d n S c empties g k x other about known p = record {
   name = p.name;
-  machine = subst (λ a. MachineStandsFor x.1.machine (start_at a k) k.events) (sym about) p.machine;
+  machine = subst (λ a. AcceptingStands x.1.machine (start_at a k) k.events) (sym about) p.machine;
   held = p.held;
   joined = by x.1.joined p.joined;
 }
@@ -178,8 +178,8 @@ left_settled cs a H c empties g k other h = record {
 -- ---- a name is closed
 
 -- Its peer hasn't joined.
-pub closed_stands : (t n : ScriptHub) (s : State) (at : ℕ) (k : Peer) → StandsAs t s → IsAt at k s → k.conn ≡ None
-    → n.desk ≡ t.desk → n.about ≡ t.about → n.clock ≡ t.clock → n.names ≡ t.names → kept_in n ≡ remove (kept_in t) at → StandsAs n (without_name k.name s)
+pub closed_stands : (t n : ScriptHub) (s : State) (at : ℕ) (k : Peer) → ScriptStands t s → IsAt at k s → k.conn ≡ None
+    → n.desk ≡ t.desk → n.about ≡ t.about → n.clock ≡ t.clock → n.names ≡ t.names → kept_in n ≡ remove (kept_in t) at → ScriptStands n (without_name k.name s)
 closed_stands t n s at k h here none desk about clock names kept_so =
     let ps : List Peer = (without_name k.name s).peers in
     let ks : ps ≡ remove s.peers at = taken_out s.peers at k h.apart here in
@@ -187,7 +187,7 @@ closed_stands t n s at k h here none desk about clock names kept_so =
     record {
       marked = h.marked;
       history = h.history;
-      stands = subst (λ d. StandsFor d h.marked) (sym desk) h.stands;
+      stands = subst (λ d. DeskStands d h.marked) (sym desk) h.stands;
       about = ap (λ d. d.about) desk ∙ h.about;
       same_hub = about ∙ h.same_hub;
       clock = clock ∙ h.clock;
@@ -201,14 +201,14 @@ closed_stands t n s at k h here none desk about clock names kept_so =
     }
 
 -- Its peer has joined, and leaves.
-pub left_stands : (t n : ScriptHub) (s : State) (at : ℕ) (k : Peer) (c empties : ℕ) (g : Gone) → StandsAs t s → IsAt at k s → k.conn ≡ Some c
+pub left_stands : (t n : ScriptHub) (s : State) (at : ℕ) (k : Peer) (c empties : ℕ) (g : Gone) → ScriptStands t s → IsAt at k s → k.conn ≡ Some c
     → g.taken ≡ length k.frames → empties ≡ k.empties
-    → ((S : List Stamped) → StandsFor t.desk S → gone_reply g ≡ reply t.desk.about (entries S) (Leave c g.taken empties) [])
-    → ((S : List Stamped) → StandsFor t.desk S → StandsFor n.desk (S ++ plain (left c empties g) ∷ []))
+    → ((S : List Stamped) → DeskStands t.desk S → gone_reply g ≡ reply t.desk.about (entries S) (Leave c g.taken empties) [])
+    → ((S : List Stamped) → DeskStands t.desk S → DeskStands n.desk (S ++ plain (left c empties g) ∷ []))
     → n.desk.about ≡ t.desk.about → ((b : ℕ) → c ≢ b → known_of n.desk b ≡ known_of t.desk b)
     → n.about ≡ t.about → n.clock ≡ t.clock
     → get nat_cmp n.names c ≡ None → ((b : ℕ) → c ≢ b → get nat_cmp n.names b ≡ get nat_cmp t.names b)
-    → kept_in n ≡ remove (kept_in t) at → StandsAs n (without_name k.name (called s (leave_of c k)))
+    → kept_in n ≡ remove (kept_in t) at → ScriptStands n (without_name k.name (called s (leave_of c k)))
 left_stands t n s at k c empties g h here conn taken empty due stands desk known about clock gone_name names kept_so =
     let ps : List Peer = (without_name k.name s).peers in
     let ks : ps ≡ remove s.peers at = taken_out s.peers at k h.apart here in
@@ -290,7 +290,7 @@ other_place c b h = by (nat_lt c b) (c == b) refl
 pub may_leave : (t : ScriptHub) (at : ℕ) (x : Vec ℕ Global × KeptPeer) (j : Joined) → IsOfSome t → slice_get t.peers.entries at ≡ Some x → x.1.joined ≡ Some j
     → IsRowBy t.desk 0 j.conn × IsMarkOf t.desk j.conn (outlet_mark j.outlet)
 may_leave t at x j some was is =
-    let h : StandsAs t some.0 = some.1 in
+    let h : ScriptStands t some.0 = some.1 in
     let k = some_at t some.0 at x h was in
     let p : IsJoinedIf t.desk h.marked k.0 (Some j) = subst (λ o. IsJoinedIf t.desk h.marked k.0 o) is k.2.joined in
     (is_row_by t.desk h.marked 0 j.conn h.stands p.1.joiner, is_mark_of t.desk h.marked j.conn (outlet_mark j.outlet) h.stands p.1.marked)
@@ -311,8 +311,8 @@ closed_carried t n s at cs k x before h was none desk about clock names entries_
 pub left_carried : (t n : ScriptHub) (s : State) (at : ℕ) (cs : List ℕ) (k : Peer) (x : Vec ℕ Global × KeptPeer) (j : Joined) (g : Gone) (before after : List ℕ) → StandsAt t at cs s k
     → slice_get t.peers.entries at ≡ Some x → x.1.joined ≡ Some j
     → g.taken ≡ length (given j.outlet)
-    → ((S : List Stamped) → StandsFor t.desk S → gone_reply g ≡ reply t.desk.about (entries S) (Leave j.conn g.taken (empties_of j.outlet)) [])
-    → ((S : List Stamped) → StandsFor t.desk S → StandsFor n.desk (S ++ plain (leave_entry 0 j.conn (empties_of j.outlet) g) ∷ []))
+    → ((S : List Stamped) → DeskStands t.desk S → gone_reply g ≡ reply t.desk.about (entries S) (Leave j.conn g.taken (empties_of j.outlet)) [])
+    → ((S : List Stamped) → DeskStands t.desk S → DeskStands n.desk (S ++ plain (leave_entry 0 j.conn (empties_of j.outlet) g) ∷ []))
     → n.desk.about ≡ t.desk.about → ((b : ℕ) → b ≢ j.conn → row_of n.desk b ≡ row_of t.desk b)
     → n.about ≡ t.about → n.clock ≡ t.clock
     → ((q : ℕ) → get nat_cmp n.names q ≡ cond (is_eq (nat_cmp j.conn q)) None (get nat_cmp t.names q))
@@ -330,7 +330,7 @@ left_carried t n s at cs k x j g before after h was is taken due stands desk row
     let known : (b : ℕ) → c ≢ b → known_of n.desk b ≡ known_of t.desk b = λ b other. ap known_in (rows b (λ e. other (sym e))) in
     let gone_name : get nat_cmp n.names c ≡ None = names c ∙ ap (λ u. cond u None (get nat_cmp t.names c)) (same_place c) in
     let others : (b : ℕ) → c ≢ b → get nat_cmp n.names b ≡ get nat_cmp t.names b = λ b other. names b ∙ ap (λ u. cond u None (get nat_cmp t.names b)) (other_place c b other) in
-    let new : StandsAs n (without_name k.name (called s (leave_of c k))) = left_stands t n s at k c (empties_of j.outlet) g h.stands h.here conn so_many q.1.empties due stands desk known about clock gone_name others kept_so in
+    let new : ScriptStands n (without_name k.name (called s (leave_of c k))) = left_stands t n s at k c (empties_of j.outlet) g h.stands h.here conn so_many q.1.empties due stands desk known about clock gone_name others kept_so in
     let entry : left c (empties_of j.outlet) g ≡ entry_in s (leave_of c k) = left_entry t.desk m s k c (empties_of j.outlet) g h.stands.about h.stands.history so_many q.1.empties (due m h.stands.stands) in
     let settled : SettledBut cs (without_name k.name (called s (leave_of c k))) = left_settled_all t at cs s k c (empties_of j.outlet) g h conn entry in
     let line : line_text (says x.0.items (gone_words (gone_reply g))) ≡ line_text (says k.name (gone_words (reply_in s (leave_of c k)))) =

@@ -20,16 +20,16 @@ use Rattle.bsc_desk.specs.declared.desk.Desk.{Desk}
 use Rattle.bsc_desk.specs.Live.{known_in}
 use Rattle.bsc_desk.specs.Meetings.{IsOutletOf}
 use Rattle.bsc_desk.specs.Rows.{HasRow, IsMarkOf, known_of, row_of}
-use Rattle.bsc_desk.specs.Standing.{StandsFor}
+use Rattle.bsc_desk.specs.Standing.{DeskStands}
 use Rattle.bsc_desk.proofs.Rowed.{has_unleft, is_mark_of}
-use Rattle.bsc_accept.specs.Standing.{StandsFor as MachineStandsFor}
+use Rattle.bsc_accept.specs.Standing.{AcceptingStands}
 use Rattle.bsc_script.specs.declared.peer.Joined.{Joined}
 use Rattle.bsc_script.specs.declared.peer.Peer.{Peer as KeptPeer}
 use Rattle.bsc_script.specs.declared.script_hub.ScriptHub.{ScriptHub}
 use Rattle.bsc_script.specs.States.{State, Peer, start_at, has_joined_as}
 use Rattle.bsc_script.specs.Emptying.{due_after}
 use Rattle.bsc_script.specs.Holding.{Pairs, ConnsApart, kept_in}
-use Rattle.bsc_script.specs.Between.{Meets, IsAtRest, IsJoinedBut, IsJoinedIfBut, IsPeerBut, StandsBut}
+use Rattle.bsc_script.specs.Between.{PeerMeets, IsAtRest, IsJoinedBut, IsJoinedIfBut, IsPeerBut, StandsBut}
 use Rattle.bsc_script.proofs.Changes.{kept, kept-set}
 use Rattle.bsc_script.proofs.Pairs.{In-at, Pairs-weaker, get-map, pair_at, position-gives, position-none}
 use Rattle.bsc_script.proofs.Peers.{conn_has, has_conn}
@@ -86,7 +86,7 @@ module _ (c : ℕ) (cs : List ℕ) (d n : Desk) (S : List Stamped) where
   other_peer : (k : Peer) (x : List ℕ × KeptPeer) → n.about ≡ d.about → ((b : ℕ) → b ≢ c → row_of n b ≡ row_of d b) → IsPeerBut (c ∷ cs) d S k x → (k.conn ≡ Some c → ⊥) → IsPeerBut cs n S k x
   other_peer k x same others p away = record {
     name = p.name;
-    machine = subst (λ a. MachineStandsFor x.1.machine (start_at a k) k.events) (sym same) p.machine;
+    machine = subst (λ a. AcceptingStands x.1.machine (start_at a k) k.events) (sym same) p.machine;
     held = p.held;
     joined = other_joined k x.1.joined same others away p.joined;
   }
@@ -115,14 +115,14 @@ but_one Q c (p ∷ ks) (x ∷ es) (suc at) k e apart h g own new = (
 -- ---- who is met
 
 -- The outlet that met is at rest.
-met_peer : (cs : List ℕ) (d n : Desk) (S : List Stamped) (k : Peer) (x : List ℕ × KeptPeer) (i j : Joined) → StandsFor d S → Meets d n i j → x.1.joined ≡ Some i → IsPeerBut (i.conn ∷ cs) d S k x → IsPeerBut cs n S k (x.0, record x.1 { joined = Some j })
+met_peer : (cs : List ℕ) (d n : Desk) (S : List Stamped) (k : Peer) (x : List ℕ × KeptPeer) (i j : Joined) → DeskStands d S → PeerMeets d n i j → x.1.joined ≡ Some i → IsPeerBut (i.conn ∷ cs) d S k x → IsPeerBut cs n S k (x.0, record x.1 { joined = Some j })
 met_peer cs d n S k x i j s m is p =
     let old : IsJoinedIfBut (i.conn ∷ cs) d S k (Some i) = subst (IsJoinedIfBut (i.conn ∷ cs) d S k) is p.joined in
     let q = old.1 in
     let due : due_after n.about (entries S) k j.conn ≡ true = subst (λ a. due_after a (entries S) k j.conn ≡ true) (sym m.about) (subst (λ c. due_after d.about (entries S) k c ≡ true) (sym m.conn) (q.due (or_left (i.conn == i.conn) (is_among i.conn cs) (eq-eqb i.conn i.conn refl)))) in
     record {
       name = p.name;
-      machine = subst (λ a. MachineStandsFor x.1.machine (start_at a k) k.events) (sym m.about) p.machine;
+      machine = subst (λ a. AcceptingStands x.1.machine (start_at a k) k.events) (sym m.about) p.machine;
       held = p.held;
       joined = (
         old.0 ∙ ap Some (sym m.conn),
@@ -175,7 +175,7 @@ noted_nobody c cs t s w none =
         later false g = g
 
 -- The outlet of the connection met the desk: the hub stands without it.
-pub noted : (c : ℕ) (cs : List ℕ) (t u : ScriptHub) (s : State) (at : ℕ) (v : Vec ℕ) (p : KeptPeer) (i j : Joined) → StandsBut (c ∷ cs) t s → position (has_joined_as c) s.peers ≡ Some at → slice_get t.peers.entries at ≡ Some (v, p) → p.joined ≡ Some i → Meets t.desk u.desk i j → u.about ≡ t.about → u.clock ≡ t.clock → u.names ≡ t.names → u.peers.entries ≡ set_value_at t.peers.entries at (record p { joined = Some j }) → StandsBut cs u s
+pub noted : (c : ℕ) (cs : List ℕ) (t u : ScriptHub) (s : State) (at : ℕ) (v : Vec ℕ) (p : KeptPeer) (i j : Joined) → StandsBut (c ∷ cs) t s → position (has_joined_as c) s.peers ≡ Some at → slice_get t.peers.entries at ≡ Some (v, p) → p.joined ≡ Some i → PeerMeets t.desk u.desk i j → u.about ≡ t.about → u.clock ≡ t.clock → u.names ≡ t.names → u.peers.entries ≡ set_value_at t.peers.entries at (record p { joined = Some j }) → StandsBut cs u s
 noted c cs t u s at v p i j w place there is m same_about same_clock same_names written =
     let found = position-gives (has_joined_as c) s.peers at place in
     let k = found.0 in

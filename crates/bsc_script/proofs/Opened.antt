@@ -7,16 +7,16 @@ use Rattle.bsc_text.specs.Lines.{same_octets}
 use Rattle.bsc_history.specs.declared.limits.About.{About}
 use Rattle.bsc_history.specs.declared.entry.Entry.{Entry}
 use Rattle.bsc_history.proofs.Lists.{In, Apart-push, find_says}
-use Rattle.bsc_desk.specs.Standing.{StandsFor}
+use Rattle.bsc_desk.specs.Standing.{DeskStands}
 use Rattle.bsc_accept.specs.declared.accepting.Accepting.{Accepting}
-use Rattle.bsc_accept.specs.Standing.{StandsFor as MachineStandsFor}
+use Rattle.bsc_accept.specs.Standing.{AcceptingStands}
 use Rattle.bsc_script.specs.declared.peer.Peer.{Peer as KeptPeer}
 use Rattle.bsc_script.specs.declared.script_hub.ScriptHub.{ScriptHub}
 use Rattle.bsc_script.specs.States.{State, Peer, start_at, default_times, new_peer, is_named, has_joined_as, is_open, peer_on, with_opened}
 use Rattle.bsc_script.specs.Carrying.{quietly}
 use Rattle.bsc_script.specs.Running.{opens, most_names}
 use Rattle.bsc_script.specs.Settled.{IsSettledBut}
-use Rattle.bsc_script.specs.Holding.{IsPeer, ArePeers, StandsAs, Holds, CarriesOut, RunsTo, ConnsApart, name_of, kept_in}
+use Rattle.bsc_script.specs.Holding.{IsPeer, ArePeers, ScriptStands, ScriptHolds, CarriesOut, RunsTo, ConnsApart, name_of, kept_in}
 use Rattle.bsc_script.proofs.Pairs.{Pairs-push, map-push}
 use Rattle.bsc_script.proofs.Peers.{name_same, find-push}
 use Rattle.bsc_script.proofs.Changes.{kept, indexed}
@@ -26,7 +26,7 @@ use Rattle.bsc_lemmas.proofs.Lists.{all_append as all-push}
 
 -- ---- whether it may
 
-pub may_where_closed : (t : ScriptHub) (s : State) (n : List ℕ) (o : Option ℕ) (len : ℕ) → StandsAs t s → o ≡ position (is_named n) s.peers → is_some o ≡ false → len ≡ length t.peers.entries
+pub may_where_closed : (t : ScriptHub) (s : State) (n : List ℕ) (o : Option ℕ) (len : ℕ) → ScriptStands t s → o ≡ position (is_named n) s.peers → is_some o ≡ false → len ≡ length t.peers.entries
     → nat_lt len most_names ≡ (not (is_open s n) && nat_lt (length s.peers) most_names)
 may_where_closed t s n o len h place none size =
     let closed : is_open s n ≡ false = sym (placed (is_named n) s.peers) ∙ ap is_some (sym place) ∙ none in
@@ -84,8 +84,8 @@ new_settled a H name now = record {
 
 -- ---- the hub
 
-pub opened : (t n : ScriptHub) (s : State) (v : Vec ℕ Global) (m : Accepting) → Holds t s → is_open s v.items ≡ false
-    → MachineStandsFor m (record { own = t.about.hub; times = default_times; at = t.clock }) []
+pub opened : (t n : ScriptHub) (s : State) (v : Vec ℕ Global) (m : Accepting) → ScriptHolds t s → is_open s v.items ≡ false
+    → AcceptingStands m (record { own = t.about.hub; times = default_times; at = t.clock }) []
     → n.desk ≡ t.desk → n.about ≡ t.about → n.clock ≡ t.clock → n.names ≡ t.names
     → n.peers.entries ≡ insert_entry (λ (a b : Vec ℕ Global). same_octets a.items b.items) t.peers.entries v (record { machine = m; held = false; joined = None })
     → CarriesOut n [] [] [] (quietly (with_opened (new_peer v.items s.clock) s))
@@ -94,9 +94,9 @@ opened t n s v m h closed machine desk about clock names entries_so =
     let p : KeptPeer = record { machine = m; held = false; joined = None } in
     let none : find (is_named v.items) s.peers ≡ None = nobody (find (is_named v.items) s.peers) closed in
     let kept_so : kept_in n ≡ kept_in t ++ (v.items, p) ∷ [] = ap (map kept) (entries_so ∙ insert_new s.peers t.peers.entries v p (indexed t s h.0).names none) ∙ map-push kept t.peers.entries (v, p) in
-    let stands_machine : MachineStandsFor m (start_at t.desk.about k) [] =
-    subst (λ (a : About). MachineStandsFor m (record { own = a.hub; times = default_times; at = s.clock }) []) (h.0.same_hub ∙ sym h.0.about)
-    (subst (λ (c : ℕ). MachineStandsFor m (record { own = t.about.hub; times = default_times; at = c }) []) h.0.clock machine) in
+    let stands_machine : AcceptingStands m (start_at t.desk.about k) [] =
+    subst (λ (a : About). AcceptingStands m (record { own = a.hub; times = default_times; at = s.clock }) []) (h.0.same_hub ∙ sym h.0.about)
+    (subst (λ (c : ℕ). AcceptingStands m (record { own = t.about.hub; times = default_times; at = c }) []) h.0.clock machine) in
     let own : IsPeer t.desk h.0.marked k (v.items, p) = record { name = refl; machine = stands_machine; held = refl; joined = (refl, refl, refl) } in
     let all : ArePeers t.desk h.0.marked (s.peers ++ k ∷ []) (kept_in n) =
     subst (λ es. ArePeers t.desk h.0.marked (s.peers ++ k ∷ []) es) (sym kept_so) (Pairs-push (IsPeer t.desk h.0.marked) s.peers (kept_in t) k (v.items, p) h.0.peers own) in
@@ -106,7 +106,7 @@ opened t n s v m h closed machine desk about clock names entries_so =
     record {
       marked = h.0.marked;
       history = h.0.history;
-      stands = subst (λ d. StandsFor d h.0.marked) (sym desk) h.0.stands;
+      stands = subst (λ d. DeskStands d h.0.marked) (sym desk) h.0.stands;
       about = ap (λ d. d.about) desk ∙ h.0.about;
       same_hub = about ∙ h.0.same_hub;
       clock = clock ∙ h.0.clock;

@@ -17,7 +17,7 @@ use Rattle.bsc_accept.specs.declared.stage.Stage.TheVariants.{AwaitingRequest, A
 use Rattle.bsc_accept.specs.declared.start.Start.{Start}
 use Rattle.bsc_accept.specs.declared.event.Event.{Event}
 use Rattle.bsc_accept.specs.Past.{phase, phase_named}
-use Rattle.bsc_accept.specs.Standing.{StandsFor as MachineStandsFor, IsConnected, is_open, phase_at, phase_of}
+use Rattle.bsc_accept.specs.Standing.{AcceptingStands, IsConnected, is_open, phase_at, phase_of}
 use Rattle.bsc_accept.specs.Kept.{standing_at}
 use Rattle.bsc_accept.proofs.Following.{standing_of_open}
 use Rattle.bsc_script.specs.declared.peer.Joined.{Joined}
@@ -27,7 +27,7 @@ use Rattle.bsc_script.specs.States.{State, Peer, start_at, has_joined_as, peer_o
 use Rattle.bsc_script.specs.Carrying.{quietly, tells}
 use Rattle.bsc_script.specs.Emptying.{is_connected, unwritten, due_after, emptied_after, is_emptied, given_frames, found_empty, ends_as, empties, frame_lines, emptied_if, emptied_on}
 use Rattle.bsc_script.specs.Settled.{IsSettledBut, SettledBut, ascends}
-use Rattle.bsc_script.specs.Holding.{IsJoinedIf, IsPeer, StandsAs, StandsAt, IsAt, IsToEmpty, KeepsAt, CarriesOut, ConnsApart, conn_of, kept_in, waits_in}
+use Rattle.bsc_script.specs.Holding.{IsJoinedIf, IsPeer, ScriptStands, StandsAt, IsAt, IsToEmpty, KeepsAt, CarriesOut, ConnsApart, conn_of, kept_in, waits_in}
 use Rattle.bsc_script.specs.Between.{IsJoinedAt, IsWritten}
 use Rattle.bsc_history.proofs.Lists.{In, all_from_In, In_from_all, find_says}
 use Rattle.bsc_script.proofs.Pairs.{pair_at, partner_of, In-at}
@@ -102,7 +102,7 @@ by_stage Connected o = refl
 by_stage (Disconnecting f) o = refl
 by_stage Idle o = absurd (true≢false (sym o))
 
-pub open_phase : (m : Accepting) (i : Start) (E : List Event) → MachineStandsFor m i E → is_open m.stage ≡ true → phase_of m ≡ phase E
+pub open_phase : (m : Accepting) (i : Start) (E : List Event) → AcceptingStands m i E → is_open m.stage ≡ true → phase_of m ≡ phase E
 open_phase m i E h o = by_stage m.stage o ∙ ap phase_named (sym (standing_of_open m i E h o))
 
 -- The machine of a peer whose outbox is emptied is connected.
@@ -111,7 +111,7 @@ ended_connected n at c ds s k ending t before after w r = λ e is. (
     let j : Peer = given_frames (unwritten s k c) k in
     let place = ended_place t n at c ds s k ending before after w r in
     let p = pair_at (IsPeer n.desk r.stands.marked) (with_peer j s).peers (kept_in n) at j e r.stands.peers place.here is in
-    let m : MachineStandsFor e.1.machine (start_at s.about k) k.events = subst (λ a. MachineStandsFor e.1.machine (start_at a k) k.events) r.stands.about p.machine in
+    let m : AcceptingStands e.1.machine (start_at s.about k) k.events = subst (λ a. AcceptingStands e.1.machine (start_at a k) k.events) r.stands.about p.machine in
     let opened : is_open e.1.machine.stage ≡ true = ap is_open m.stage ∙ w.own.ready in
     let parts = and_parts (is_connected (phase k.events) && not k.held) (due_after s.about s.history k c) w.emptied in
     open_phase e.1.machine (start_at s.about k) k.events m opened ∙ connected_only (phase k.events) (and_parts (is_connected (phase k.events)) (not k.held) parts.0).0)
@@ -119,10 +119,10 @@ ended_connected n at c ds s k ending t before after w r = λ e is. (
 -- ---- whether it is to be
 
 -- What is kept of a peer says whether its outbox is to be emptied.
-pub kept_waits : (t : ScriptHub) (s : State) (at : ℕ) (k : Peer) (c : ℕ) (e : List ℕ × KeptPeer) (cs : List ℕ) (h : StandsAs t s) → IsAt at k s → slice_get (kept_in t) at ≡ Some e → k.conn ≡ Some c → IsSettledBut cs s.about s.history k → waits_in e.1 ≡ is_emptied s k c
+pub kept_waits : (t : ScriptHub) (s : State) (at : ℕ) (k : Peer) (c : ℕ) (e : List ℕ × KeptPeer) (cs : List ℕ) (h : ScriptStands t s) → IsAt at k s → slice_get (kept_in t) at ≡ Some e → k.conn ≡ Some c → IsSettledBut cs s.about s.history k → waits_in e.1 ≡ is_emptied s k c
 kept_waits t s at k c e cs h here is conn own =
     let p = pair_at (IsPeer t.desk h.marked) s.peers (kept_in t) at k e h.peers here is in
-    let m : MachineStandsFor e.1.machine (start_at s.about k) k.events = subst (λ a. MachineStandsFor e.1.machine (start_at a k) k.events) h.about p.machine in
+    let m : AcceptingStands e.1.machine (start_at s.about k) k.events = subst (λ a. AcceptingStands e.1.machine (start_at a k) k.events) h.about p.machine in
     let opened : is_open e.1.machine.stage ≡ true = ap is_open m.stage ∙ own.ready in
     let in_phase : phase_of e.1.machine ≡ phase k.events = open_phase e.1.machine (start_at s.about k) k.events m opened in
     by e.1.joined refl p.joined p.held in_phase
@@ -176,7 +176,7 @@ beside_drop P Q (p ∷ ks) zero k c f h g e all =
 beside_drop P Q (p ∷ ks) (suc at) k c f h g e all = beside_drop P Q ks at k c f h.1 g e all.1
 
 -- Beside who is on a connection all are settled but for the others.
-pub beside_at : (t : ScriptHub) (s : State) (at c : ℕ) (ds : List ℕ) (k : Peer) → StandsAs t s → SettledBut (c ∷ ds) s → IsAt at k s → k.conn ≡ Some c → StandsAt t at ds s k
+pub beside_at : (t : ScriptHub) (s : State) (at c : ℕ) (ds : List ℕ) (k : Peer) → ScriptStands t s → SettledBut (c ∷ ds) s → IsAt at k s → k.conn ≡ Some c → StandsAt t at ds s k
 beside_at t s at c ds k h g here conn =
     let P : Peer → Type 0 = IsSettledBut (c ∷ ds) s.about s.history in
     let Q : Peer → Type 0 = IsSettledBut ds s.about s.history in
@@ -191,7 +191,7 @@ beside_at t s at c ds k h g here conn =
 -- ---- where nothing is emptied
 
 -- The name of the connection isn't open.
-pub unopened : (t : ScriptHub) (s : State) (c : ℕ) (ds b : List ℕ) → StandsAs t s → SettledBut (c ∷ ds) s → peer_on s c ≡ None → CarriesOut t b b ds (emptied_on s c)
+pub unopened : (t : ScriptHub) (s : State) (c : ℕ) (ds b : List ℕ) → ScriptStands t s → SettledBut (c ∷ ds) s → peer_on s c ≡ None → CarriesOut t b b ds (emptied_on s c)
 unopened t s c ds b h g none =
     let says = subst (λ o. MatchOption o ((x : Peer) → In x s.peers → has_joined_as c x ≡ false) (λ x. In x s.peers × (has_joined_as c x ≡ true))) none (find_says (has_joined_as c) s.peers) in
     subst (λ o. CarriesOut t b b ds (emptied_if s c o)) (sym none)
@@ -201,7 +201,7 @@ unopened t s c ds b h g none =
     }))
 
 -- Its outbox isn't to be emptied.
-pub unemptied : (t : ScriptHub) (s : State) (at c : ℕ) (ds b : List ℕ) (k : Peer) → StandsAs t s → SettledBut (c ∷ ds) s → IsAt at k s → k.conn ≡ Some c → peer_on s c ≡ Some k → is_emptied s k c ≡ false → CarriesOut t b b ds (emptied_on s c)
+pub unemptied : (t : ScriptHub) (s : State) (at c : ℕ) (ds b : List ℕ) (k : Peer) → ScriptStands t s → SettledBut (c ∷ ds) s → IsAt at k s → k.conn ≡ Some c → peer_on s c ≡ Some k → is_emptied s k c ≡ false → CarriesOut t b b ds (emptied_on s c)
 unemptied t s at c ds b k h g here conn on off =
     let own : IsSettledBut (c ∷ ds) s.about s.history k = settled_one at (c ∷ ds) s k g here in
     let rest : IsSettledBut ds s.about s.history k = record {
@@ -217,7 +217,7 @@ unemptied t s at c ds b k h g here conn on off =
     one a b x = cc
 
 -- What is asked where it is to be emptied, and what is carried out then.
-pub to_empty : (t : ScriptHub) (s : State) (at c : ℕ) (ds : List ℕ) (k : Peer) → StandsAs t s → SettledBut (c ∷ ds) s → IsAt at k s → k.conn ≡ Some c → is_emptied s k c ≡ true → IsToEmpty t at c ds s k
+pub to_empty : (t : ScriptHub) (s : State) (at c : ℕ) (ds : List ℕ) (k : Peer) → ScriptStands t s → SettledBut (c ∷ ds) s → IsAt at k s → k.conn ≡ Some c → is_emptied s k c ≡ true → IsToEmpty t at c ds s k
 to_empty t s at c ds k h g here conn on = record { place = beside_at t s at c ds k h g here conn; conn = conn; own = settled_one at (c ∷ ds) s k g here; emptied = on }
 
 pub emptied_there : (n : ScriptHub) (s : State) (c : ℕ) (ds b a : List ℕ) (k : Peer) → peer_on s c ≡ Some k → is_emptied s k c ≡ true → CarriesOut n b a ds (empties s k c) → CarriesOut n b a ds (emptied_on s c)
@@ -225,7 +225,7 @@ emptied_there n s c ds b a k on due h =
     subst (λ o. CarriesOut n b a ds (emptied_if s c o)) (sym on) (subst (λ (u : Bool). CarriesOut n b a ds (cond u (empties s k c) (quietly s))) (sym due) h)
 
 -- What is kept at the place says whether the outbox of its peer is to be emptied.
-pub due_by : (t : ScriptHub) (s : State) (at : ℕ) (k : Peer) (c : ℕ) (cs : List ℕ) (p : KeptPeer) (b : Bool) → StandsAs t s → SettledBut cs s → IsAt at k s → k.conn ≡ Some c → KeepsAt t at (λ q. p ≡ q) → b ≡ waits_in p → is_emptied s k c ≡ b
+pub due_by : (t : ScriptHub) (s : State) (at : ℕ) (k : Peer) (c : ℕ) (cs : List ℕ) (p : KeptPeer) (b : Bool) → ScriptStands t s → SettledBut cs s → IsAt at k s → k.conn ≡ Some c → KeepsAt t at (λ q. p ≡ q) → b ≡ waits_in p → is_emptied s k c ≡ b
 due_by t s at k c cs p b h g here conn keeps says =
     let own = partner_of (IsPeer t.desk h.marked) s.peers (kept_in t) at k h.peers here in
     sym (says ∙ ap waits_in (keeps own.0 own.1) ∙ kept_waits t s at k c own.0 cs h here own.1 conn (settled_one at cs s k g here))
@@ -236,5 +236,5 @@ get_within (p ∷ ks) zero k h = omega arith
 get_within (p ∷ ks) (suc at) k h = (let r = get_within ks at k h in omega arith)
 
 -- Where a peer stands is a place.
-pub placed_within : (n : ScriptHub) (s : State) (at : ℕ) (k : Peer) → StandsAs n s → IsAt at k s → at < length n.peers.entries
+pub placed_within : (n : ScriptHub) (s : State) (at : ℕ) (k : Peer) → ScriptStands n s → IsAt at k s → at < length n.peers.entries
 placed_within n s at k h here = subst (λ m. at < m) (names_length n s.peers (indexed n s h)) (get_within s.peers at k here)

@@ -6,7 +6,7 @@ use Rattle.bsc_script.specs.declared.line.Line.TheVariants.{Hub}
 use Rattle.bsc_script.specs.Lines.{line_of}
 use Rattle.bsc_script.specs.Written.{text_of}
 use Rattle.bsc_script.specs.States.{new_hub}
-use Rattle.bsc_script.specs.Carrying.{Outcome, quietly, and_then}
+use Rattle.bsc_script.specs.Carrying.{ScriptOutcome, quietly, and_then}
 use Rattle.bsc_script.specs.Running.{run_line}
 
 -- lines of text, each with its end
@@ -14,32 +14,32 @@ abbrev pub lines : List (List ℕ) → List ℕ
 lines ls = flat_map (λ l. l ++ codes "\n") ls
 
 -- a new hub, by its line
-abbrev pub hub_of_line : Option Line → Option Outcome
+abbrev pub hub_of_line : Option Line → Option ScriptOutcome
 hub_of_line (Some (Hub about)) = Some (quietly (new_hub about))
 hub_of_line line = None
 
 -- an outcome, where a line has one, behind another
-abbrev pub behind : Outcome → Option Outcome → Option Outcome
+abbrev pub behind : ScriptOutcome → Option ScriptOutcome → Option ScriptOutcome
 behind o None = None
 behind o (Some n) = Some (record { state = n.state; said = o.said ++ n.said })
 
 -- one line more
-abbrev pub next : Outcome → List ℕ → Option Outcome
+abbrev pub next : ScriptOutcome → List ℕ → Option ScriptOutcome
 next o l = option_and_then (λ line. behind o (run_line o.state line)) (line_of l)
 
 -- lines, one after the other
-abbrev pub after_lines : Option Outcome → List (List ℕ) → Option Outcome
+abbrev pub after_lines : Option ScriptOutcome → List (List ℕ) → Option ScriptOutcome
 after_lines o [] = o
 after_lines o (l ∷ ls) = after_lines (option_and_then (λ u. next u l) o) ls
 
 -- the same with nothing written
-abbrev pub silent : Option Outcome → Option Outcome
-silent o = option_map (λ (u : Outcome). quietly u.state) o
+abbrev pub silent : Option ScriptOutcome → Option ScriptOutcome
+silent o = option_map (λ (u : ScriptOutcome). quietly u.state) o
 
 -- What is written for some lines, after a hub line and others.
 abbrev pub written_after : List ℕ → List (List ℕ) → List (List ℕ) → Option (List ℕ)
 written_after hub before ls =
-    option_map (λ (u : Outcome). text_of u.said) (after_lines (silent (after_lines (hub_of_line (line_of hub)) before)) ls)
+    option_map (λ (u : ScriptOutcome). text_of u.said) (after_lines (silent (after_lines (hub_of_line (line_of hub)) before)) ls)
 
 -- A joins, as connection 1 where it is the first.
 abbrev pub a_joins : List (List ℕ)

@@ -14,14 +14,14 @@ use Rattle.bsc_accept.specs.Past.{standing, phase, phase_named}
 use Rattle.bsc_accept.specs.Steps.{closes, message_step}
 use Rattle.bsc_accept.specs.declared.event.Event.{Event}
 use Rattle.bsc_accept.specs.declared.start.Start.{Start}
-use Rattle.bsc_accept.specs.Standing.{Answers, LeftBy, IsOver, AwaitsAnswer, StandsFor as MachineStandsFor, is_open}
+use Rattle.bsc_accept.specs.Standing.{AcceptingAnswers, LeavesAccepting, IsOver, AwaitsAnswer, AcceptingStands, is_open}
 use Rattle.bsc_script.specs.declared.peer.Peer.{Peer as KeptPeer}
 use Rattle.bsc_script.specs.declared.script_hub.ScriptHub.{ScriptHub}
 use Rattle.bsc_script.specs.States.{State, Peer, start_at, told, with_peer}
 use Rattle.bsc_script.specs.Settled.{IsSettledBut}
 use Rattle.bsc_script.specs.Carrying.{step_of, does}
 use Rattle.bsc_script.specs.Receiving.{acts}
-use Rattle.bsc_script.specs.Holding.{AsksOf, AwaitsStep, Holds, IsAt, kept_in}
+use Rattle.bsc_script.specs.Holding.{AsksOf, AwaitsStep, IsAt, ScriptHolds, kept_in}
 use Rattle.indexmap.specs.IndexMap.{with_value_at}
 use Rattle.bsc_script.proofs.Changes.{kept, kept_with, told_at, at_settled, settled_one}
 use Rattle.bsc_script.proofs.Ready.{machine_at, open_at}
@@ -39,7 +39,7 @@ use Rattle.std.proofs.lemmas.Option.{same_Some as one_some}
 -- The peer was told of the message, and the step is its machine's.
 pub asked_of : (n : ScriptHub) (at : ℕ) (m : List ℕ) (phase : Phase) (max now : ℕ) (s : State) (k : Peer) (v : Verdict) (es : List (List ℕ × KeptPeer)) (x y : List ℕ × KeptPeer) (step : Step)
     → Judged m (HubPort phase) max v → IsSettledBut [] s.about s.history k → step ≡ message_step (standing k.events) v
-    → MachineStandsFor y.1.machine (start_at s.about k) (k.events ++ Came now v ∷ []) → LeftBy step y.1.machine → slice_get es at ≡ Some x → kept_in n ≡ set es at y
+    → AcceptingStands y.1.machine (start_at s.about k) (k.events ++ Came now v ∷ []) → LeavesAccepting step y.1.machine → slice_get es at ≡ Some x → kept_in n ≡ set es at y
     → AsksOf n at m (with_peer (told (Came now v) k) s) (told (Came now v) k) step
 asked_of n at m phase max now s k v es x y (Ask who) judged own is stands left was kept_so =
     let a = asks_by (standing k.events) v who is in
@@ -59,7 +59,7 @@ asked_of n at m phase max now s k v es x y Nothing judged own is stands left was
 
 -- The machine of the peer at a place is told a message: its step is to be carried out.
 pub awaits : (t n : ScriptHub) (s : State) (at : ℕ) (m : List ℕ) (k : Peer) (x : Vec ℕ Global × KeptPeer) (v : Verdict) (machine : Accepting) (step : Step) (phase : Phase) (max : ℕ)
-    → Holds t s → IsAt at k s → slice_get t.peers.entries at ≡ Some x → Answers x.1.machine machine (Came t.clock v) step → LeftBy step machine → Judged m (HubPort phase) max v
+    → ScriptHolds t s → IsAt at k s → slice_get t.peers.entries at ≡ Some x → AcceptingAnswers x.1.machine machine (Came t.clock v) step → LeavesAccepting step machine → Judged m (HubPort phase) max v
     → n.desk ≡ t.desk → n.about ≡ t.about → n.clock ≡ t.clock → n.names ≡ t.names → n.peers ≡ with_value_at t.peers at (record x.1 { machine = machine })
     → AwaitsStep n at m (with_peer (told (Came t.clock v) k) s) (told (Came t.clock v) k) step × (step ≡ step_of s k (Came t.clock v))
 awaits t n s at m k x v machine step phase max h here was answers left judged desk about clock names new =
@@ -73,10 +73,10 @@ awaits t n s at m k x v machine step phase max h here was answers left judged de
     )
 
 -- The phase in which a message is judged is the one of all that the peer was told.
-pub judged_phase : (t : ScriptHub) (s : State) (at : ℕ) (k : Peer) (x : Vec ℕ Global × KeptPeer) (p : KeptPeer) (phase_result : Phase) → Holds t s → IsAt at k s → slice_get t.peers.entries at ≡ Some x → p ≡ x.1
-    → ((i : Start) (E : List Event) → MachineStandsFor p.machine i E → ¬ IsOver p.machine → phase_result ≡ phase E) → phase_result ≡ phase k.events
+pub judged_phase : (t : ScriptHub) (s : State) (at : ℕ) (k : Peer) (x : Vec ℕ Global × KeptPeer) (p : KeptPeer) (phase_result : Phase) → ScriptHolds t s → IsAt at k s → slice_get t.peers.entries at ≡ Some x → p ≡ x.1
+    → ((i : Start) (E : List Event) → AcceptingStands p.machine i E → ¬ IsOver p.machine → phase_result ≡ phase E) → phase_result ≡ phase k.events
 judged_phase t s at k x p phase_result h here was is told_so =
-    let m : MachineStandsFor p.machine (start_at s.about k) k.events = subst (λ (q : KeptPeer). MachineStandsFor q.machine (start_at s.about k) k.events) (sym is) (machine_at t s at k x h.0 here was) in
+    let m : AcceptingStands p.machine (start_at s.about k) k.events = subst (λ (q : KeptPeer). AcceptingStands q.machine (start_at s.about k) k.events) (sym is) (machine_at t s at k x h.0 here was) in
     let opened : is_open p.machine.stage ≡ true = ap (λ (q : KeptPeer). is_open q.machine.stage) is ∙ open_at t s at [] k x h.0 here was (settled_one at [] s k h.1 here) in
     told_so (start_at s.about k) k.events m (λ over. true≢false (sym opened ∙ ap is_open over))
 

@@ -17,10 +17,10 @@ use Rattle.bsc_accept.specs.Steps.{closes}
 use Rattle.bsc_script.specs.declared.peer.Joined.{Joined}
 use Rattle.bsc_script.specs.declared.script_hub.ScriptHub.{ScriptHub}
 use Rattle.bsc_script.specs.States.{State, Peer, has_joined_as, peer_on, told, with_peer}
-use Rattle.bsc_script.specs.Carrying.{Outcome, quietly, and_then, does, step_of}
+use Rattle.bsc_script.specs.Carrying.{ScriptOutcome, quietly, and_then, does, step_of}
 use Rattle.bsc_script.specs.Emptying.{OnConnection, is_emptied, unwritten, given_frames, found_empty, ends_as, empties, emptied_one, emptied, emptied_if, emptied_on}
 use Rattle.bsc_script.specs.Settled.{IsSettledBut, SettledBut, ascends}
-use Rattle.bsc_script.specs.Holding.{IsJoinedIf, IsPeer, StandsAs, CarriesOut, name_of, kept_in, ConnsApart}
+use Rattle.bsc_script.specs.Holding.{IsJoinedIf, IsPeer, ScriptStands, CarriesOut, name_of, kept_in, ConnsApart}
 use Rattle.bsc_script.proofs.Pairs.{partner_of, map-set, Apart-same}
 use Rattle.bsc_script.proofs.Peers.{changed, has_conn, found_conn, find-remove}
 use Rattle.bsc_script.proofs.Carried.{both_carried, closing_peers, other_peers}
@@ -123,20 +123,20 @@ in_pieces s (x ∷ xs) h =
 
 -- ---- what a round does at one connection
 
-quiet_after : (o : Outcome) → and_then o quietly ≡ o
+quiet_after : (o : ScriptOutcome) → and_then o quietly ≡ o
 quiet_after o = λ i. record { state = o.state; said = append-nil o.said i }
 
 -- at the connection that is due
-at_due : (now : Outcome) (c : ℕ) (o : Option Peer) (rest : List OnConnection) → fold emptied_one now (piece c o ++ rest) ≡ fold emptied_one (and_then now (λ u. emptied_if u c o)) rest
-at_due now c None rest = ap (λ (u : Outcome). fold emptied_one u rest) (sym (quiet_after now))
-at_due now c (Some k) rest = ap (λ (u : Outcome). fold emptied_one u rest) (by (is_emptied now.state k c))
+at_due : (now : ScriptOutcome) (c : ℕ) (o : Option Peer) (rest : List OnConnection) → fold emptied_one now (piece c o ++ rest) ≡ fold emptied_one (and_then now (λ u. emptied_if u c o)) rest
+at_due now c None rest = ap (λ (u : ScriptOutcome). fold emptied_one u rest) (sym (quiet_after now))
+at_due now c (Some k) rest = ap (λ (u : ScriptOutcome). fold emptied_one u rest) (by (is_emptied now.state k c))
   where
     by : (b : Bool) → cond b (and_then now (λ t. empties t k c)) now ≡ record { state = (cond b (empties now.state k c) (quietly now.state)).state; said = now.said ++ (cond b (empties now.state k c) (quietly now.state)).said }
     by true = refl
     by false = sym (quiet_after now)
 
 -- at one that isn't
-at_quiet : (now : Outcome) (n : ℕ) (o : Option Peer) (rest : List OnConnection) → ((k : Peer) → o ≡ Some k → is_emptied now.state k n ≡ false) → fold emptied_one now (piece n o ++ rest) ≡ fold emptied_one now rest
+at_quiet : (now : ScriptOutcome) (n : ℕ) (o : Option Peer) (rest : List OnConnection) → ((k : Peer) → o ≡ Some k → is_emptied now.state k n ≡ false) → fold emptied_one now (piece n o ++ rest) ≡ fold emptied_one now rest
 at_quiet now n None rest h = refl
 at_quiet now n (Some k) rest h = ap (λ (b : Bool). fold emptied_one (cond b (and_then now (λ t. empties t k n)) now) rest) (h k refl)
 
@@ -174,14 +174,14 @@ below_first m n cs h order =
 
 -- So far the outcome is this: what is left of the round are these numbers, on which the peers are as they were when it
 -- began, and they have each connection that is due and whose name is open.
-pub record Round (s : State) (o now : Outcome) (ns ds : List ℕ) : Type 0 where
+pub record Round (s : State) (o now : ScriptOutcome) (ns ds : List ℕ) : Type 0 where
   pub same : emptied o ≡ fold emptied_one now (pieces s ns)
   pub kept : AllByRecursion (λ (n : ℕ). peer_on now.state n ≡ peer_on s n) ns
   pub order : ascends ns ≡ true
   pub whole : (d : ℕ) → is_among d ds ≡ true → is_some (peer_on now.state d) ≡ true → is_among d ns ≡ true
 
 -- It begins with all connections that haven't left.
-pub round_begins : (t : ScriptHub) (o : Outcome) (cs : List ℕ) → StandsAs t o.state → Round o.state o o (numbers (unleft o.state.history)) cs
+pub round_begins : (t : ScriptHub) (o : ScriptOutcome) (cs : List ℕ) → ScriptStands t o.state → Round o.state o o (numbers (unleft o.state.history)) cs
 round_begins t o cs h =
     let s = o.state in
     let order : ascends (numbers (unleft (entries h.marked))) ≡ true =
@@ -223,7 +223,7 @@ round_begins t o cs h =
         number_among d (unleft o.state.history) (subst (λ H. is_of H 0 d ≡ true) h.history (joined_as d k q.0.1.joined q.2.joined f.0))
 
 -- It ends where nobody is due.
-pub round_ends : (s : State) (o now : Outcome) (ns : List ℕ) → SettledBut [] now.state → Round s o now ns [] → emptied o ≡ now
+pub round_ends : (s : State) (o now : ScriptOutcome) (ns : List ℕ) → SettledBut [] now.state → Round s o now ns [] → emptied o ≡ now
 round_ends s o now ns h r = r.same ∙ nothing ns r.kept
   where
     nothing : (ms : List ℕ) → AllByRecursion (λ (n : ℕ). peer_on now.state n ≡ peer_on s n) ms → fold emptied_one now (pieces s ms) ≡ now
@@ -231,7 +231,7 @@ round_ends s o now ns h r = r.same ∙ nothing ns r.kept
     nothing (m ∷ ms) k = at_quiet now m (peer_on s m) (pieces s ms) (λ p e. quiet_on now.state [] m p h refl (k.0 ∙ e)) ∙ nothing ms k.1
 
 -- The first of those that are due is emptied.
-pub round_goes : (s : State) (o now : Outcome) (ns : List ℕ) (c : ℕ) (ds : List ℕ) → Apart name_of now.state.peers → SettledBut (c ∷ ds) now.state → Round s o now ns (c ∷ ds)
+pub round_goes : (s : State) (o now : ScriptOutcome) (ns : List ℕ) (c : ℕ) (ds : List ℕ) → Apart name_of now.state.peers → SettledBut (c ∷ ds) now.state → Round s o now ns (c ∷ ds)
     → (ms : List ℕ) × Round s o (and_then now (λ u. emptied_on u c)) ms ds
 round_goes s o now [] c ds apart h r =
     let none : peer_on now.state c ≡ None = closed (peer_on now.state c) refl in
@@ -241,7 +241,7 @@ round_goes s o now [] c ds apart h r =
         same = r.same ∙ sym same;
         kept = tt;
         order = refl;
-        whole = λ d among some. r.whole d (or_right (c == d) (is_among d ds) among) (sym (ap (λ (u : Outcome). is_some (peer_on u.state d)) same) ∙ some);
+        whole = λ d among some. r.whole d (or_right (c == d) (is_among d ds) among) (sym (ap (λ (u : ScriptOutcome). is_some (peer_on u.state d)) same) ∙ some);
       },
     )
   where
@@ -308,10 +308,10 @@ round_goes s o now (n ∷ ns) c ds apart h r = by (nat_lt n c) (n == c) refl ref
         let none : peer_on now.state c ≡ None = closed (peer_on now.state c) refl gone in
         let same : and_then now (λ u. emptied_on u c) ≡ now = ap (λ p. record { state = (emptied_if now.state c p).state; said = now.said ++ (emptied_if now.state c p).said }) none ∙ quiet_after now in
         record {
-          same = r.same ∙ ap (λ (u : Outcome). fold emptied_one u (pieces s (n ∷ ns))) (sym same);
-          kept = subst (λ (u : Outcome). AllByRecursion (λ (m : ℕ). peer_on u.state m ≡ peer_on s m) (n ∷ ns)) (sym same) r.kept;
+          same = r.same ∙ ap (λ (u : ScriptOutcome). fold emptied_one u (pieces s (n ∷ ns))) (sym same);
+          kept = subst (λ (u : ScriptOutcome). AllByRecursion (λ (m : ℕ). peer_on u.state m ≡ peer_on s m) (n ∷ ns)) (sym same) r.kept;
           order = r.order;
-          whole = λ d among some. r.whole d (or_right (c == d) (is_among d ds) among) (sym (ap (λ (u : Outcome). is_some (peer_on u.state d)) same) ∙ some);
+          whole = λ d among some. r.whole d (or_right (c == d) (is_among d ds) among) (sym (ap (λ (u : ScriptOutcome). is_some (peer_on u.state d)) same) ∙ some);
         }
       where
         closed : (p : Option Peer) → peer_on now.state c ≡ p → is_among c (n ∷ ns) ≡ false → p ≡ None
@@ -326,17 +326,17 @@ round_goes s o now (n ∷ ns) c ds apart h r = by (nat_lt n c) (n == c) refl ref
 -- ---- the round as it is carried out
 
 -- So far it is carried out, and the outboxes of these are still to be emptied.
-pub record Goes (t : ScriptHub) (base b ds : List ℕ) (o : Outcome) : Type 0 where
-  pub now : Outcome
+pub record Goes (t : ScriptHub) (base b ds : List ℕ) (o : ScriptOutcome) : Type 0 where
+  pub now : ScriptOutcome
   pub ns : List ℕ
   pub carried : CarriesOut t base b ds now
   pub round : Round o.state o now ns ds
 
-pub goes_begins : (t : ScriptHub) (base b ds : List ℕ) (o : Outcome) → CarriesOut t base b ds o → Goes t base b ds o
+pub goes_begins : (t : ScriptHub) (base b ds : List ℕ) (o : ScriptOutcome) → CarriesOut t base b ds o → Goes t base b ds o
 goes_begins t base b ds o h = record { now = o; ns = numbers (unleft o.state.history); carried = h; round = round_begins t o ds h.stands }
 
-pub goes_on : (t n : ScriptHub) (base b b2 ds : List ℕ) (c : ℕ) (rest : List ℕ) (o : Outcome) → Goes t base b ds o → ds ≡ c ∷ rest
-    → ((s : State) (es : List ℕ) → StandsAs t s → SettledBut (c ∷ es) s → CarriesOut n b b2 es (emptied_on s c)) → Goes n base b2 rest o
+pub goes_on : (t n : ScriptHub) (base b b2 ds : List ℕ) (c : ℕ) (rest : List ℕ) (o : ScriptOutcome) → Goes t base b ds o → ds ≡ c ∷ rest
+    → ((s : State) (es : List ℕ) → ScriptStands t s → SettledBut (c ∷ es) s → CarriesOut n b b2 es (emptied_on s c)) → Goes n base b2 rest o
 goes_on t n base b b2 ds c rest o i is step =
     let j : Goes t base b (c ∷ rest) o = subst (λ es. Goes t base b es o) is i in
     let r = round_goes o.state o j.now j.ns c rest j.carried.stands.apart j.carried.settled j.round in
@@ -347,13 +347,13 @@ goes_on t n base b b2 ds c rest o i is step =
       round = r.1;
     }
 
-pub goes_ends : (t : ScriptHub) (base b ds : List ℕ) (o : Outcome) → Goes t base b ds o → ds ≡ [] → CarriesOut t base b [] (emptied o)
+pub goes_ends : (t : ScriptHub) (base b ds : List ℕ) (o : ScriptOutcome) → Goes t base b ds o → ds ≡ [] → CarriesOut t base b [] (emptied o)
 goes_ends t base b ds o i is =
     let j : Goes t base b [] o = subst (λ es. Goes t base b es o) is i in
     subst (CarriesOut t base b []) (sym (round_ends o.state o j.now j.ns j.carried.settled j.round)) j.carried
 
 -- The next one may be emptied.
-pub goes_some : (t : ScriptHub) (base b ds : List ℕ) (c : ℕ) (rest : List ℕ) (o : Outcome) → Goes t base b ds o → ds ≡ c ∷ rest → (s : State) × (es : List ℕ) × StandsAs t s × SettledBut (c ∷ es) s
+pub goes_some : (t : ScriptHub) (base b ds : List ℕ) (c : ℕ) (rest : List ℕ) (o : ScriptOutcome) → Goes t base b ds o → ds ≡ c ∷ rest → (s : State) × (es : List ℕ) × ScriptStands t s × SettledBut (c ∷ es) s
 goes_some t base b ds c rest o i is =
     let j : Goes t base b (c ∷ rest) o = subst (λ es. Goes t base b es o) is i in
     (j.now.state, rest, j.carried.stands, j.carried.settled)

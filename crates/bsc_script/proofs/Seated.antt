@@ -8,7 +8,7 @@ use Rattle.std.specs.declared.cmp.Ordering.TheVariants.{Less, Equal, Greater}
 use Rattle.std.specs.BTreeMap.{get}
 use Rattle.std.proofs.lemmas.Bool.{both_ways, eq-eqb, eqb-true, ne_eqb, false_from_ne_true, ltb-true, or_cases, or_left, or_right}
 use Rattle.std.proofs.lemmas.List.Folds.{find-append, list_any-append}
-use Rattle.bsc_accept.specs.Standing.{StandsFor as MachineStandsFor}
+use Rattle.bsc_accept.specs.Standing.{AcceptingStands}
 use Rattle.indexmap.specs.IndexMap.{index_map_len, set_value_at}
 use Rattle.bsc_octets.specs.declared.identity.Identity.{Identity}
 use Rattle.bsc_history.specs.declared.limits.About.{About}
@@ -39,7 +39,7 @@ use Rattle.bsc_desk.specs.Entries.{connect_entry, connect_stamped}
 use Rattle.bsc_desk.specs.Live.{connection, known_in}
 use Rattle.bsc_desk.specs.Meetings.{IsOutletOf}
 use Rattle.bsc_desk.specs.Rows.{known_of}
-use Rattle.bsc_desk.specs.Standing.{StandsFor}
+use Rattle.bsc_desk.specs.Standing.{DeskStands}
 use Rattle.bsc_desk.proofs.LiveRows.{any_row}
 use Rattle.bsc_desk.proofs.Rowed.{joined_mark}
 use Rattle.bsc_script.specs.declared.peer.Joined.{Joined}
@@ -48,7 +48,7 @@ use Rattle.bsc_script.specs.declared.script_hub.ScriptHub.{ScriptHub}
 use Rattle.bsc_script.specs.States.{State, Peer, has_joined_as, joined_as, peer_on, start_at, with_peer}
 use Rattle.bsc_script.specs.Emptying.{due_after}
 use Rattle.bsc_script.specs.Touching.{replaced_list}
-use Rattle.bsc_script.specs.Holding.{ConnsApart, IsJoinedIf, IsPeer, Pairs, StandsAs, StandsAt, name_of, kept_in}
+use Rattle.bsc_script.specs.Holding.{ConnsApart, IsJoinedIf, IsPeer, Pairs, ScriptStands, StandsAt, name_of, kept_in}
 use Rattle.bsc_script.specs.Between.{IsPeerBut, Seats, StandsBut}
 use Rattle.bsc_script.proofs.Between.{Changes, peers_more}
 use Rattle.bsc_script.proofs.Changes.{kept, kept-set}
@@ -131,7 +131,7 @@ new_address G e x new none =
     )
 
 -- a desk knows nothing of a connection that nobody joined
-unknown : (d : Desk) (S : List Stamped) (c : ℕ) → StandsFor d S → list_any (joins c) (entries S) ≡ false → known_of d c ≡ 0
+unknown : (d : Desk) (S : List Stamped) (c : ℕ) → DeskStands d S → list_any (joins c) (entries S) ≡ false → known_of d c ≡ 0
 unknown d S c s fresh =
     let p = λ (x : Connection). x.number == c in
     let any : list_any (λ (r : Row). p (connection r)) d.rows.items ≡ list_any p (unleft (entries S)) = any_row p d.rows.items ∙ ap (list_any p) s.unleft_rows in
@@ -176,7 +176,7 @@ module _ (d n : Desk) (S : List Stamped) (who : Identity) (m : Mark) (c : ℕ) (
   stamp = connect_stamped 0 who m (JoinedReply c replaced)
 
   -- The peer that joined is kept with its outlet, of which nothing was taken yet.
-  seated_peer : (k : Peer) (e : List ℕ × KeptPeer) (j : Joined) → n.about ≡ d.about → StandsFor d S → StandsFor n (S ++ stamp ∷ []) → known_of n c ≡ known_of d c → IsPeer d S k e → k.conn ≡ None → j.conn ≡ c → j.vmac ≡ who.vmac → m ≡ outlet_mark j.outlet → IsNewOutlet j.outlet → j.waits ≡ false → IsPeerBut (replaced_list replaced) n (S ++ stamp ∷ []) (joined_as c k) (e.0, record e.1 { joined = Some j })
+  seated_peer : (k : Peer) (e : List ℕ × KeptPeer) (j : Joined) → n.about ≡ d.about → DeskStands d S → DeskStands n (S ++ stamp ∷ []) → known_of n c ≡ known_of d c → IsPeer d S k e → k.conn ≡ None → j.conn ≡ c → j.vmac ≡ who.vmac → m ≡ outlet_mark j.outlet → IsNewOutlet j.outlet → j.waits ≡ false → IsPeerBut (replaced_list replaced) n (S ++ stamp ∷ []) (joined_as c k) (e.0, record e.1 { joined = Some j })
   seated_peer k e j same s t known p free conn vmac mark new waits =
       let H = entries S in
       let x = stamp.entry in
@@ -200,7 +200,7 @@ module _ (d n : Desk) (S : List Stamped) (who : Identity) (m : Mark) (c : ℕ) (
       } in
       record {
         name = p.name;
-        machine = subst (λ (a : About). MachineStandsFor e.1.machine (start_at a k) k.events) (sym same) p.machine;
+        machine = subst (λ (a : About). AcceptingStands e.1.machine (start_at a k) k.events) (sym same) p.machine;
         held = p.held;
         joined = (
           ap Some (sym conn),
@@ -223,7 +223,7 @@ module _ (d n : Desk) (S : List Stamped) (who : Identity) (m : Mark) (c : ℕ) (
 -- ---- the hub
 
 -- what a join changes
-pub join_changes : (t u : ScriptHub) (s : State) (h : StandsAs t s) (who : Identity) (m : Mark) (c : ℕ) (replaced : Option ℕ) → MakesEntry t u (connect_stamped 0 who m (JoinedReply c replaced)) → Changes (replaced_list replaced) t.desk.about (entries h.marked) (connect_entry 0 who (JoinedReply c replaced))
+pub join_changes : (t u : ScriptHub) (s : State) (h : ScriptStands t s) (who : Identity) (m : Mark) (c : ℕ) (replaced : Option ℕ) → MakesEntry t u (connect_stamped 0 who m (JoinedReply c replaced)) → Changes (replaced_list replaced) t.desk.about (entries h.marked) (connect_entry 0 who (JoinedReply c replaced))
 join_changes t u s h who m c replaced e =
     let x = connect_stamped 0 who m (JoinedReply c replaced) in
     changes_quiet t.desk.about (entries h.marked) x.entry h.stands.legal (newest_lawful t.desk u.desk h.marked x e.desk_about (e.stands h.marked h.stands)) refl (λ b. refl) refl (λ b. refl)
@@ -281,7 +281,7 @@ joined_between t u v at s k who m c replaced j w free e seat conn vmac mark new 
     record {
       marked = T;
       history = entries-more S x ∙ ap (λ (F : List Entry). F ++ x.entry ∷ []) h.history;
-      stands = subst (λ (q : Desk). StandsFor q T) (sym seat.same_desk) (e.stands S h.stands);
+      stands = subst (λ (q : Desk). DeskStands q T) (sym seat.same_desk) (e.stands S h.stands);
       about = ap (λ (q : Desk). q.about) seat.same_desk ∙ e.desk_about ∙ h.about;
       same_hub = seat.same_about ∙ e.same_about ∙ h.same_hub;
       clock = seat.same_clock ∙ e.same_clock ∙ h.clock;
@@ -324,7 +324,7 @@ kept_length [] = refl
 kept_length (e ∷ es) = ap suc (kept_length es)
 
 -- Where the state has a peer the hub keeps one.
-pub within_at : (n : ScriptHub) (z : State) (at : ℕ) (i : Peer) → StandsAs n z → slice_get z.peers at ≡ Some i → at < index_map_len n.peers
+pub within_at : (n : ScriptHub) (z : State) (at : ℕ) (i : Peer) → ScriptStands n z → slice_get z.peers at ≡ Some i → at < index_map_len n.peers
 within_at n z at i h there =
     let low = get_within z.peers at i there in
     let same = Pairs-length (IsPeer n.desk h.marked) z.peers (kept_in n) h.peers in

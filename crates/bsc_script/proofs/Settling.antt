@@ -16,7 +16,7 @@ use Rattle.bsc_accept.specs.declared.step.Step.TheVariants.{Ask, Put, PutClose, 
 use Rattle.bsc_accept.specs.Past.{Standing, awaiting_request, connected, disconnecting, standing, phase, phase_named, until_farewell, farewell_at, is_joined}
 use Rattle.bsc_accept.specs.Steps.{closes, tick_step, ended_step}
 use Rattle.bsc_accept.specs.Waits.{connect_wait_is_over, is_idle, disconnect_wait_is_over}
-use Rattle.bsc_accept.specs.Standing.{StandsFor, LeftBy, IsConnected, is_open, stage}
+use Rattle.bsc_accept.specs.Standing.{AcceptingStands, LeavesAccepting, IsConnected, is_open, stage}
 use Rattle.bsc_accept.specs.Kept.{moved, standing_at}
 use Rattle.bsc_accept.proofs.Looking.{standing-more}
 use Rattle.bsc_accept.proofs.Following.{standing_of_open, connected_stage}
@@ -32,7 +32,7 @@ asks (Ask who) = true
 asks other = false
 
 -- A machine that made a step which neither closes nor asks is open.
-pub open_after : (answer : Step) (m : Accepting) → LeftBy answer m → closes answer ≡ false → asks answer ≡ false → is_open m.stage ≡ true
+pub open_after : (answer : Step) (m : Accepting) → LeavesAccepting answer m → closes answer ≡ false → asks answer ≡ false → is_open m.stage ≡ true
 open_after (Ask who) m h c a = absurd (true≢false a)
 open_after (Put octets) m h c a = h
 open_after (PutClose octets x) m h c a = absurd (true≢false c)
@@ -78,7 +78,7 @@ parted now Full c l = absurd (true≢false c)
 parted now Stopped c l = ((λ e. cc), refl)
 
 -- A machine that is connected has had no Disconnect-Request go out.
-pub connected_standing : (m : Accepting) (s : Start) (E : List Event) → StandsFor m s E → IsConnected m → standing E ≡ connected
+pub connected_standing : (m : Accepting) (s : Start) (E : List Event) → AcceptingStands m s E → IsConnected m → standing E ≡ connected
 connected_standing m s E h c =
     let at = connected_stage m.stage c in
     standing_of_open m s E h (ap is_open at) ∙ ap standing_at at

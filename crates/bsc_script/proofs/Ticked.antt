@@ -10,12 +10,12 @@ use Rattle.bsc_accept.specs.Steps.{closes}
 use Rattle.bsc_script.specs.declared.peer.Peer.{Peer as KeptPeer}
 use Rattle.bsc_script.specs.declared.script_hub.ScriptHub.{ScriptHub}
 use Rattle.bsc_script.specs.States.{State, Peer, told, with_peer}
-use Rattle.bsc_script.specs.Carrying.{Outcome, quietly, and_then, does, tells, step_of}
+use Rattle.bsc_script.specs.Carrying.{ScriptOutcome, quietly, and_then, does, tells, step_of}
 use Rattle.bsc_script.specs.Running.{ticks, ticks_one, latest}
 use Rattle.bsc_script.specs.Settled.{SettledBut}
-use Rattle.bsc_script.specs.Holding.{StandsAs, StandsAt, Holds, IsAt, CarriesOut, ArePeers, kept_in, name_of}
+use Rattle.bsc_script.specs.Holding.{ScriptStands, StandsAt, ScriptHolds, IsAt, CarriesOut, ArePeers, kept_in, name_of}
 use Rattle.bsc_script.proofs.Pairs.{drop-set}
-use Rattle.bsc_desk.specs.Standing.{StandsFor}
+use Rattle.bsc_desk.specs.Standing.{DeskStands}
 use Rattle.std.specs.Ordering.{nat_cmp}
 use Rattle.std.specs.BTreeMap.{get}
 use Rattle.bsc_script.proofs.Changes.{kept, indexed, peers_changed, some_at}
@@ -58,7 +58,7 @@ rest_told n s at cs k e step apart changed h = by (closes step) refl
 -- ---- all of them
 
 -- what stands after these were told
-abbrev pub after : State → ℕ → List Peer → Outcome
+abbrev pub after : State → ℕ → List Peer → ScriptOutcome
 after s ms done = fold ticks_one (quietly (record s { clock = ms })) done
 
 -- So far these were told, and these not yet, who stand from a place on.
@@ -70,12 +70,12 @@ pub record Ticks (before b : List ℕ) (ms : ℕ) (t : ScriptHub) (at : ℕ) (s 
   pub rest : drop at (after s ms done).state.peers ≡ todo
 
 -- The clock is set, and nobody was told.
-pub ticks_begin : (t n : ScriptHub) (before : List ℕ) (ms : ℕ) (s : State) → Holds t s → n.desk ≡ t.desk → n.about ≡ t.about → n.clock ≡ ms → n.names ≡ t.names → n.peers ≡ t.peers → Ticks before before ms n 0 s
+pub ticks_begin : (t n : ScriptHub) (before : List ℕ) (ms : ℕ) (s : State) → ScriptHolds t s → n.desk ≡ t.desk → n.about ≡ t.about → n.clock ≡ ms → n.names ≡ t.names → n.peers ≡ t.peers → Ticks before before ms n 0 s
 ticks_begin t n before ms s h desk about clock names peers =
-    let stands : StandsAs n (record s { clock = ms }) = record {
+    let stands : ScriptStands n (record s { clock = ms }) = record {
       marked = h.0.marked;
       history = h.0.history;
-      stands = subst (λ d. StandsFor d h.0.marked) (sym desk) h.0.stands;
+      stands = subst (λ d. DeskStands d h.0.marked) (sym desk) h.0.stands;
       about = ap (λ d. d.about) desk ∙ h.0.about;
       same_hub = about ∙ h.0.same_hub;
       clock = clock;
@@ -95,7 +95,7 @@ ticks_begin t n before ms s h desk about clock names peers =
 
 -- One more is told.
 pub ticks_more : (t n : ScriptHub) (before b b2 : List ℕ) (ms at next : ℕ) (s : State) (x : Vec ℕ Global × KeptPeer) (i : Ticks before b ms t at s) → slice_get t.peers.entries at ≡ Some x
-    → ((u : State) (k : Peer) → Holds t u → IsAt at k u → CarriesOut n b b2 [] (tells u k (Tick u.clock)) × (drop next (tells u k (Tick u.clock)).state.peers ≡ drop (at + 1) u.peers))
+    → ((u : State) (k : Peer) → ScriptHolds t u → IsAt at k u → CarriesOut n b b2 [] (tells u k (Tick u.clock)) × (drop next (tells u k (Tick u.clock)).state.peers ≡ drop (at + 1) u.peers))
     → Ticks before b2 ms n next s
 ticks_more t n before b b2 ms at next s x i was told_one =
     let o = after s ms i.done in
@@ -108,7 +108,7 @@ ticks_more t n before b b2 ms at next s x i was told_one =
       todo = drop (suc at) o.state.peers;
       all = i.all ∙ ap (λ (l : List Peer). i.done ++ l) todo ∙ sym (append_assoc i.done (k.0 ∷ []) (drop (suc at) o.state.peers));
       carried = subst (CarriesOut n before b2 []) (sym one) (both_carried t n before b b2 [] [] o (λ u. tells u k.0 (Tick u.clock)) i.carried r.0);
-      rest = ap (λ (u : Outcome). drop next u.state.peers) one ∙ r.1 ∙ ap (λ m. drop m o.state.peers) (add-one at);
+      rest = ap (λ (u : ScriptOutcome). drop next u.state.peers) one ∙ r.1 ∙ ap (λ m. drop m o.state.peers) (add-one at);
     }
 
 -- Nobody is left.
@@ -121,7 +121,7 @@ ticks_end t before b ms at s i past =
     subst (λ l. CarriesOut t before b [] (after s ms l)) (sym all) i.carried
 
 -- Fewer are left after one is told.
-pub fewer : (t n : ScriptHub) (at next : ℕ) (u v : State) → StandsAs t u → StandsAs n v → at < length t.peers.entries → drop next v.peers ≡ drop (at + 1) u.peers → length n.peers.entries - next < length t.peers.entries - at
+pub fewer : (t n : ScriptHub) (at next : ℕ) (u v : State) → ScriptStands t u → ScriptStands n v → at < length t.peers.entries → drop next v.peers ≡ drop (at + 1) u.peers → length n.peers.entries - next < length t.peers.entries - at
 fewer t n at next u v h g within rest =
     let a : length u.peers ≡ length t.peers.entries = names_length t u.peers (indexed t u h) in
     let b : length v.peers ≡ length n.peers.entries = names_length n v.peers (indexed n v g) in

@@ -19,8 +19,8 @@ use Rattle.bsc_ring.specs.Ends.{found, given, empties_of, outlet_mark}
 use Rattle.bsc_desk.specs.declared.desk.Desk.{Desk}
 use Rattle.bsc_desk.specs.Meetings.{IsOutletOf, KnowsOutbox}
 use Rattle.bsc_desk.specs.Rows.{known_of, row_of}
-use Rattle.bsc_desk.specs.Standing.{StandsFor}
-use Rattle.bsc_accept.specs.Standing.{StandsFor as MachineStandsFor}
+use Rattle.bsc_desk.specs.Standing.{DeskStands}
+use Rattle.bsc_accept.specs.Standing.{AcceptingStands}
 use Rattle.bsc_script.specs.declared.peer.Joined.{Joined}
 use Rattle.bsc_script.specs.declared.peer.Peer.{Peer as KeptPeer}
 use Rattle.bsc_script.specs.declared.script_hub.ScriptHub.{ScriptHub}
@@ -28,7 +28,7 @@ use Rattle.bsc_script.specs.States.{State, Peer, start_at, peer_on, with_peer}
 use Rattle.bsc_script.specs.Emptying.{due_after, empties_after, found_empty, frame_lines, given_frames, unwritten}
 use Rattle.bsc_script.specs.Written.{text_of}
 use Rattle.bsc_script.specs.Settled.{IsSettledBut, ascends}
-use Rattle.bsc_script.specs.Holding.{Pairs, ConnsApart, name_of, kept_in, IsAt, StandsAs, StandsAt}
+use Rattle.bsc_script.specs.Holding.{Pairs, ConnsApart, name_of, kept_in, IsAt, ScriptStands, StandsAt}
 
 -- The outlet of a peer is at rest: what it gave fits the history, the desk knows how many frames were taken, and the mark
 -- of what is due says whether something is.
@@ -55,7 +55,7 @@ IsJoinedIfBut cs d S k (Some j) = (k.conn ≡ Some j.conn) × IsJoinedBut cs d S
 -- A peer is kept as the state has it, but for these connections.
 pub record IsPeerBut (cs : List ℕ) (d : Desk) (S : List Stamped) (k : Peer) (e : List ℕ × KeptPeer) : Type 0 where
   pub name : k.name ≡ e.0
-  pub machine : MachineStandsFor e.1.machine (start_at d.about k) k.events
+  pub machine : AcceptingStands e.1.machine (start_at d.about k) k.events
   pub held : k.held ≡ e.1.held
   pub joined : IsJoinedIfBut cs d S k e.1.joined
 
@@ -63,7 +63,7 @@ pub record IsPeerBut (cs : List ℕ) (d : Desk) (S : List Stamped) (k : Peer) (e
 pub record StandsBut (cs : List ℕ) (t : ScriptHub) (s : State) : Type 0 where
   pub marked : List Stamped
   pub history : entries marked ≡ s.history
-  pub stands : StandsFor t.desk marked
+  pub stands : DeskStands t.desk marked
   pub about : t.desk.about ≡ s.about
   pub same_hub : t.about ≡ s.about
   pub clock : t.clock ≡ s.clock
@@ -75,23 +75,23 @@ pub record StandsBut (cs : List ℕ) (t : ScriptHub) (s : State) : Type 0 where
 
 -- A meeting of the outlet of a peer that has joined: it and its inlet are as before, but that each knows of the other,
 -- and it waits to be emptied.
-pub record Meets (d n : Desk) (i j : Joined) : Type 0 where
+pub record PeerMeets (d n : Desk) (i j : Joined) : Type 0 where
   pub about : n.about ≡ d.about
-  pub stands : (S : List Stamped) → StandsFor d S → StandsFor n S
-  pub outlet : (S : List Stamped) → StandsFor d S → IsOutletOf d.about (entries S) i.conn j.outlet
+  pub stands : (S : List Stamped) → DeskStands d S → DeskStands n S
+  pub outlet : (S : List Stamped) → DeskStands d S → IsOutletOf d.about (entries S) i.conn j.outlet
   pub mark_same : outlet_mark j.outlet ≡ outlet_mark i.outlet
   pub given_same : given j.outlet ≡ given i.outlet
   pub empties_same : empties_of j.outlet ≡ empties_of i.outlet
   pub found_same : found j.outlet ≡ found i.outlet
   pub known : known_of n i.conn ≡ length (given j.outlet)
-  pub knows : (S : List Stamped) → StandsFor d S → KnowsOutbox d.about (entries S) i.conn j.outlet
+  pub knows : (S : List Stamped) → DeskStands d S → KnowsOutbox d.about (entries S) i.conn j.outlet
   pub others : (c : ℕ) → c ≢ i.conn → row_of n c ≡ row_of d c
   pub conn : j.conn ≡ i.conn
   pub vmac : j.vmac ≡ i.vmac
   pub waits : j.waits ≡ true
 
 -- The peer at a place, which is settled as all others are, has joined as a connection, with the address v.
-pub record Sends (t : ScriptHub) (at c : ℕ) (v : Vmac) (s : State) (k : Peer) : Type 0 where
+pub record PeerSends (t : ScriptHub) (at c : ℕ) (v : Vmac) (s : State) (k : Peer) : Type 0 where
   pub stands : StandsAt t at [] s k
   pub settled : IsSettledBut [] s.about s.history k
   pub conn : k.conn ≡ Some c
@@ -117,7 +117,7 @@ pub record Seats (t u : ScriptHub) (at : ℕ) (j : Joined) : Type 0 where
 -- The outlet of a peer that has joined is that of its connection's inlet, which hasn't left, and gave no more than one
 -- frame beyond what is known to have entered.
 pub record OwnsOutlet (d : Desk) (S : List Stamped) (j : Joined) : Type 0 where
-  pub stands : StandsFor d S
+  pub stands : DeskStands d S
   pub unleft : list_any (λ x. x.number == j.conn) (unleft (entries S)) ≡ true
   pub marked : mark_of S j.conn ≡ Some (outlet_mark j.outlet)
   pub few : length (given j.outlet) ≤ length (sent d.about (entries S) j.conn) + 1
@@ -162,7 +162,7 @@ pub record WritesAll (S : List Stamped) (ending : Option End) (d n : Desk) (i j 
 
 -- The peer at a place has joined as a connection.
 pub record IsJoinedAt (t : ScriptHub) (at c : ℕ) (s : State) (k : Peer) : Type 0 where
-  pub stands : StandsAs t s
+  pub stands : ScriptStands t s
   pub here : IsAt at k s
   pub conn : k.conn ≡ Some c
 
@@ -173,7 +173,7 @@ written_peer (Some ending) frames k = given_frames frames k
 
 -- What waited for the peer at a place was written, and its connection has ended so.
 pub record IsWritten (n : ScriptHub) (at c : ℕ) (s : State) (k : Peer) (ending : Option End) (before after : List ℕ) : Type 0 where
-  pub stands : StandsAs n (with_peer (written_peer ending (unwritten s k c) k) s)
+  pub stands : ScriptStands n (with_peer (written_peer ending (unwritten s k c) k) s)
   pub ends : ending ≡ ended s.history c
   pub not_left : ending ≢ Some Left
   pub text : after ≡ before ++ text_of (frame_lines k.name (unwritten s k c))

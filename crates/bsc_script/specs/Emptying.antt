@@ -13,7 +13,7 @@ use Rattle.bsc_accept.specs.Past.{phase}
 use Rattle.bsc_script.specs.Written.{Said, says}
 use Rattle.bsc_script.specs.Texts.{out_words}
 use Rattle.bsc_script.specs.States.{State, Peer, has_joined_as, peer_on, with_peer}
-use Rattle.bsc_script.specs.Carrying.{Outcome, quietly, and_then, tells}
+use Rattle.bsc_script.specs.Carrying.{ScriptOutcome, quietly, and_then, tells}
 
 -- ---- which outboxes are emptied
 
@@ -66,13 +66,13 @@ found_empty k = record k { empties = empties_after None k.empties }
 
 -- What the end of an outbox comes to, once its frames are written: where the connection has ended the machine is told,
 -- and else the outbox was found empty.
-abbrev pub ends_as : State → Peer → Option End → Outcome
+abbrev pub ends_as : State → Peer → Option End → ScriptOutcome
 ends_as s k None = quietly (with_peer (found_empty k) s)
 ends_as s k (Some ending) = tells (with_peer k s) k (Ended s.clock ending)
 
 -- The outbox of a peer that has joined as c is emptied: its frames are written, and then it is seen how the connection
 -- ended.
-abbrev pub empties : State → Peer → ℕ → Outcome
+abbrev pub empties : State → Peer → ℕ → ScriptOutcome
 empties s k c =
     let frames = unwritten s k c in
     and_then (record { state = s; said = frame_lines k.name frames })
@@ -91,19 +91,19 @@ in_order_of_joining s =
     flat_map (λ x. map (λ k. record { conn = x.number; peer = k }) (filter (has_joined_as x.number) s.peers)) (unleft s.history)
 
 -- after something, one outbox is emptied where it is to be
-abbrev pub emptied_one : Outcome → OnConnection → Outcome
+abbrev pub emptied_one : ScriptOutcome → OnConnection → ScriptOutcome
 emptied_one o x = if is_emptied o.state x.peer x.conn then and_then o (λ t. empties t x.peer x.conn) else o
 
 -- After something the outboxes are emptied, in the order of joining.
-abbrev pub emptied : Outcome → Outcome
+abbrev pub emptied : ScriptOutcome → ScriptOutcome
 emptied o = fold emptied_one o (in_order_of_joining o.state)
 
 -- ---- by the number of a connection
 
 -- The outbox of a connection is emptied where its name is open and it is to be.
-abbrev pub emptied_if : State → ℕ → Option Peer → Outcome
+abbrev pub emptied_if : State → ℕ → Option Peer → ScriptOutcome
 emptied_if s c None = quietly s
 emptied_if s c (Some k) = if is_emptied s k c then empties s k c else quietly s
 
-abbrev pub emptied_on : State → ℕ → Outcome
+abbrev pub emptied_on : State → ℕ → ScriptOutcome
 emptied_on s c = emptied_if s c (peer_on s c)

@@ -16,15 +16,15 @@ use Rattle.bsc_ring.specs.Ends.{given, empties_of, outlet_mark}
 use Rattle.bsc_desk.specs.declared.desk.Desk.{Desk}
 use Rattle.bsc_desk.specs.Meetings.{IsOutletOf}
 use Rattle.bsc_desk.specs.Rows.{known_of}
-use Rattle.bsc_desk.specs.Standing.{StandsFor}
+use Rattle.bsc_desk.specs.Standing.{DeskStands}
 use Rattle.bsc_octets.specs.Addresses.{same_vmac, zero_vmac, broadcast}
 use Rattle.bsc_octets.specs.Forwarding.{has_route}
 use Rattle.bsc_accept.specs.declared.step.Step.{Step}
 use Rattle.bsc_accept.specs.declared.step.Step.TheVariants.{Ask, Up}
 use Rattle.bsc_accept.specs.Steps.{closes as is_closing}
-use Rattle.bsc_accept.specs.Standing.{StandsFor as MachineStandsFor, AwaitsAnswer, phase_of}
-use Rattle.bsc_player.specs.Languages.{StandsAs as LineStandsAs}
-use Rattle.bsc_player.specs.Playing.{Outcome as LineOutcome}
+use Rattle.bsc_accept.specs.Standing.{AcceptingStands, AwaitsAnswer, phase_of}
+use Rattle.bsc_player.specs.Languages.{LineStandsAs}
+use Rattle.bsc_player.specs.Playing.{LineOutcome}
 use Rattle.bsc_player.specs.declared.language.LineFault.{LineFault}
 use Rattle.bsc_player.specs.declared.language.LineFault.TheVariants.{Refused, NoMemory}
 use Rattle.bsc_script.specs.declared.peer.Joined.{Joined}
@@ -32,7 +32,7 @@ use Rattle.bsc_script.specs.declared.peer.Peer.{Peer as KeptPeer}
 use Rattle.bsc_script.specs.declared.script_hub.ScriptHub.{ScriptHub}
 use Rattle.bsc_script.specs.Written.{text_of}
 use Rattle.bsc_script.specs.States.{State, Peer, start_at, has_joined_as, peer_on}
-use Rattle.bsc_script.specs.Carrying.{Outcome}
+use Rattle.bsc_script.specs.Carrying.{ScriptOutcome}
 use Rattle.bsc_script.specs.Emptying.{due_after, is_connected, is_emptied}
 use Rattle.bsc_script.specs.Settled.{IsSettledBut, SettledBut, Settled, ascends}
 use Rattle.bsc_script.specs.declared.due.Due.{Due}
@@ -67,7 +67,7 @@ IsJoinedIf d S k (Some j) = (k.conn ≡ Some j.conn) × IsJoinedPeer d S k j
 -- A peer is kept as the state has it, under its name.
 pub record IsPeer (d : Desk) (S : List Stamped) (k : Peer) (e : List ℕ × KeptPeer) : Type 0 where
   pub name : k.name ≡ e.0
-  pub machine : MachineStandsFor e.1.machine (start_at d.about k) k.events
+  pub machine : AcceptingStands e.1.machine (start_at d.about k) k.events
   pub held : k.held ≡ e.1.held
   pub joined : IsJoinedIf d S k e.1.joined
 
@@ -109,10 +109,10 @@ pub record IsIndexed (t : ScriptHub) (ks : List Peer) : Type 0 where
 -- The hub of a script stands for a state: its desk for the history, and its open names for the peers, of which no two
 -- have one name or one connection; the name of each connection is found by its number, and each that hasn't left has a
 -- name.
-pub record StandsAs (t : ScriptHub) (s : State) : Type 0 where
+pub record ScriptStands (t : ScriptHub) (s : State) : Type 0 where
   pub marked : List Stamped
   pub history : entries marked ≡ s.history
-  pub stands : StandsFor t.desk marked
+  pub stands : DeskStands t.desk marked
   pub about : t.desk.about ≡ s.about
   pub same_hub : t.about ≡ s.about
   pub clock : t.clock ≡ s.clock
@@ -124,15 +124,15 @@ pub record StandsAs (t : ScriptHub) (s : State) : Type 0 where
 
 -- It stands for some state.
 abbrev pub IsOfSome : ScriptHub → Type 0
-IsOfSome t = (s : State) × StandsAs t s
+IsOfSome t = (s : State) × ScriptStands t s
 
 -- It stands for a state that lines may leave.
-abbrev pub Holds : ScriptHub → State → Type 0
-Holds t s = StandsAs t s × Settled s
+abbrev pub ScriptHolds : ScriptHub → State → Type 0
+ScriptHolds t s = ScriptStands t s × Settled s
 
 -- It stands for some such state.
 abbrev pub HoldsSome : ScriptHub → Type 0
-HoldsSome t = (s : State) × Holds t s
+HoldsSome t = (s : State) × ScriptHolds t s
 
 -- The peer at a place is k.
 abbrev pub IsAt : ℕ → Peer → State → Type 0
@@ -140,7 +140,7 @@ IsAt at k s = slice_get s.peers at ≡ Some k
 
 -- The hub stands for a state, with k at a place; all other peers are settled, but for these connections.
 pub record StandsAt (t : ScriptHub) (at : ℕ) (cs : List ℕ) (s : State) (k : Peer) : Type 0 where
-  pub stands : StandsAs t s
+  pub stands : ScriptStands t s
   pub here : IsAt at k s
   pub before : AllByRecursion (IsSettledBut cs s.about s.history) (take at s.peers)
   pub behind : AllByRecursion (IsSettledBut cs s.about s.history) (drop (suc at) s.peers)
@@ -165,8 +165,8 @@ waits_in p = elim p.joined [ None ↦ Bool.false | Some j ↦ is_connected (phas
 
 -- The outcome is carried out: the hub stands for its state, in which all peers are settled but for these connections,
 -- and its lines were put at the end of the text.
-pub record CarriesOut (new : ScriptHub) (before after cs : List ℕ) (o : Outcome) : Type 0 where
-  pub stands : StandsAs new o.state
+pub record CarriesOut (new : ScriptHub) (before after cs : List ℕ) (o : ScriptOutcome) : Type 0 where
+  pub stands : ScriptStands new o.state
   pub settled : SettledBut cs o.state
   pub text : after ≡ before ++ text_of o.said
 
@@ -185,14 +185,14 @@ abbrev pub AwaitsStep : ScriptHub → ℕ → List ℕ → State → Peer → St
 AwaitsStep t at m s k step = StandsAt t at [] s k × AsksOf t at m s k step
 
 -- A line is carried out where it has an outcome, and is refused where it has none.
-abbrev pub RunsTo : Result ⊤ LineFault → ScriptHub → List ℕ → List ℕ → Option Outcome → Type 0
+abbrev pub RunsTo : Result ⊤ LineFault → ScriptHub → List ℕ → List ℕ → Option ScriptOutcome → Type 0
 RunsTo (Ok done) new before after (Some o) = CarriesOut new before after [] o
 RunsTo (Ok done) new before after None = ⊥
 RunsTo (Err Refused) new before after o = o ≡ None
 RunsTo (Err NoMemory) new before after o = ⊤
 
 -- A line is carried out, but that outboxes wait to be emptied, or is refused, as it should be.
-abbrev pub ActsTo : Result Due LineFault → ScriptHub → List ℕ → List ℕ → Option Outcome → Type 0
+abbrev pub ActsTo : Result Due LineFault → ScriptHub → List ℕ → List ℕ → Option ScriptOutcome → Type 0
 ActsTo (Ok due) new before after (Some o) = CarriesOut new before after (dues due) o
 ActsTo (Ok due) new before after None = ⊥
 ActsTo (Err Refused) new before after o = o ≡ None
@@ -203,7 +203,7 @@ ActsTo (Err NoMemory) new before after o = ⊤
 -- It stands for what may have no hub yet.
 abbrev pub HoldsIf : Option ScriptHub → Option State → Type 0
 HoldsIf None None = ⊤
-HoldsIf (Some t) (Some s) = Holds t s
+HoldsIf (Some t) (Some s) = ScriptHolds t s
 HoldsIf None (Some s) = ⊥
 HoldsIf (Some t) None = ⊥
 

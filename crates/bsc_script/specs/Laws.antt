@@ -13,7 +13,7 @@ use Rattle.bsc_script.specs.declared.line.Line.{Line}
 use Rattle.bsc_script.specs.Written.{Said}
 use Rattle.bsc_script.specs.States.{State, Peer, is_open, peer_of, new_hub}
 use Rattle.bsc_script.specs.Calls.{written_for}
-use Rattle.bsc_script.specs.Carrying.{Outcome, quietly}
+use Rattle.bsc_script.specs.Carrying.{ScriptOutcome, quietly}
 use Rattle.bsc_script.specs.Emptying.{frame_lines}
 use Rattle.bsc_script.specs.Running.{run_line}
 
@@ -64,7 +64,7 @@ AreWritten before after said =
 
 -- What a line adds: the calls that it made stand behind those before, their looks find what had been written, nothing is
 -- written under a name that isn't open, or after its close, and the frames that are new stand in the text, in order.
-pub record GoesOn (s : State) (o : Outcome) : Type 0 where
+pub record LineGoesOn (s : State) (o : ScriptOutcome) : Type 0 where
   pub behind : (more : List Entry) × (o.state.history ≡ s.history ++ more)
   pub looks : AllByRecursion (LooksAtWritten s) (drop (length s.history) o.state.history)
   pub closed : (name : List ℕ) → name ≢ codes "hub" → is_open s name ≡ false → AllByRecursion (λ (l : Said). l.name ≢ name) o.said

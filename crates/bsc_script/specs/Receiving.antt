@@ -19,34 +19,34 @@ use Rattle.bsc_script.specs.Texts.{silent_words}
 use Rattle.bsc_lines.specs.Replies.{joined_words, refusal_words, forward_words}
 use Rattle.bsc_script.specs.States.{State, Peer, told, joined_as, with_peer}
 use Rattle.bsc_script.specs.Calls.{called, reply_in, is_worn}
-use Rattle.bsc_script.specs.Carrying.{Outcome, quietly, writes, and_then, closes, does, step_of, tells}
+use Rattle.bsc_script.specs.Carrying.{ScriptOutcome, quietly, writes, and_then, closes, does, step_of, tells}
 
 -- ---- calls
 
 -- A call was worn: that is said, and the WebSocket is closed.
-abbrev pub wears : State → Peer → Outcome
+abbrev pub wears : State → Peer → ScriptOutcome
 wears s k = writes (says k.name (codes "worn")) (closes s k (closing 1008 HubWorn))
 
 -- What the reply to a connect leads to: it is said, and the machine is told who joined or was refused.
-abbrev pub gets_reply : State → Peer → Reply → Outcome
+abbrev pub gets_reply : State → Peer → Reply → ScriptOutcome
 gets_reply s k (Joined conn replaced) =
     writes (says k.name (joined_words conn replaced)) (tells s (joined_as conn k) HasJoined)
 gets_reply s k (Refused refusal) = writes (says k.name (refusal_words refusal)) (tells s k (WasRefused refusal))
 gets_reply s k other = quietly s
 
 -- A peer asks to be accepted: a connect.
-abbrev pub connects : State → Peer → Identity → Outcome
+abbrev pub connects : State → Peer → Identity → ScriptOutcome
 connects s k who =
     if is_worn s then wears s k else gets_reply (called s (Connect who)) k (reply_in s (Connect who))
 
 -- The message of a peer that has joined as c is carried on: a forward, whose reply is said.
-abbrev pub forwards : State → Peer → ℕ → List ℕ → Outcome
+abbrev pub forwards : State → Peer → ℕ → List ℕ → ScriptOutcome
 forwards s k c m =
     if is_worn s then wears s k
     else writes (says k.name (forward_words (reply_in s (Forward c m)))) (quietly (called s (Forward c m)))
 
 -- the same, where the peer has joined; no other message is to be carried on
-abbrev pub forwards_if : State → Peer → Option ℕ → List ℕ → Outcome
+abbrev pub forwards_if : State → Peer → Option ℕ → List ℕ → ScriptOutcome
 forwards_if s k None m = quietly s
 forwards_if s k (Some c) m = forwards s k c m
 
@@ -57,7 +57,7 @@ abbrev pub verdict_on : State → Peer → List ℕ → Verdict
 verdict_on s k m = outcome_of m (HubPort (phase k.events)) s.about.hub.max_bvlc
 
 -- What a message comes to, by the step of the machine.
-abbrev pub acts : State → Peer → List ℕ → Step → Outcome
+abbrev pub acts : State → Peer → List ℕ → Step → ScriptOutcome
 acts s k m (Ask who) = connects s k who
 acts s k m Up = forwards_if s k k.conn m
 acts s k m step = does s k step
@@ -68,12 +68,12 @@ silence name (Silent check) = says name (silent_words check) ∷ []
 silence name verdict = []
 
 -- The same, by the verdict on it: first comes what is said of silence.
-abbrev pub gets_verdict : State → Peer → List ℕ → Verdict → Outcome
+abbrev pub gets_verdict : State → Peer → List ℕ → Verdict → ScriptOutcome
 gets_verdict s k m verdict =
     let e = Came s.clock verdict in
     and_then (record { state = with_peer (told e k) s; said = silence k.name verdict })
     (λ t. acts t (told e k) m (step_of s k e))
 
 -- A message of a peer comes in.
-abbrev pub receives : State → Peer → List ℕ → Outcome
+abbrev pub receives : State → Peer → List ℕ → ScriptOutcome
 receives s k m = gets_verdict s k m (verdict_on s k m)

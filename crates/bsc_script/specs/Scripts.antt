@@ -1,12 +1,12 @@
 -- What the lines of a script mean, and what a whole script comes to.
 use Rattle.std.specs.Prelude.{ℕ, is_some, List, [], Option, Some, None}
-use Rattle.bsc_player.specs.Playing.{Played, Meaning, played_of, Outcome as LineOutcome}
+use Rattle.bsc_player.specs.Playing.{Played, Meaning, played_of, LineOutcome}
 use Rattle.bsc_script.specs.declared.line.Line.{Line}
 use Rattle.bsc_script.specs.declared.line.Line.TheVariants.{Nothing, Hub}
 use Rattle.bsc_script.specs.Lines.{line_of}
 use Rattle.bsc_script.specs.Written.{text_of}
 use Rattle.bsc_script.specs.States.{State, new_hub}
-use Rattle.bsc_script.specs.Carrying.{Outcome}
+use Rattle.bsc_script.specs.Carrying.{ScriptOutcome}
 use Rattle.bsc_script.specs.Running.{run_line}
 
 -- The first line that does something is the hub line.
@@ -16,7 +16,7 @@ before_hub (Hub about) = Some (record { state = Some (new_hub about); text = [] 
 before_hub line = None
 
 -- an outcome with its lines as text
-abbrev pub in_text : Option Outcome → Option (LineOutcome (Option State))
+abbrev pub in_text : Option ScriptOutcome → Option (LineOutcome (Option State))
 in_text None = None
 in_text (Some o) = Some (record { state = Some o.state; text = text_of o.said })
 

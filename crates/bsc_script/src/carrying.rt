@@ -26,12 +26,7 @@ fn joined_of(peer: Peer) -> Option<Joined>
 impl ScriptHub {
     /// The WebSocket of the peer at a place is over: its name is closed, and where it has joined its connection
     /// leaves.
-    pub(crate) fn end(
-        &mut self,
-        alloc: Global,
-        at: usize,
-        text: &mut Vec<u8>,
-    ) -> Result<(), NoMemory>
+    pub(crate) fn end(&mut self, at: usize, text: &mut Vec<u8>) -> Result<(), NoMemory>
         requires within { at < index_map_len self.old.peers }
         requires some { IsOfSome self.old }
         ensures { (s : State) (k : PeerOf) (cs : List ℕ) → StandsAt self.old at cs s k → OnOk result
@@ -44,7 +39,7 @@ impl ScriptHub {
             Some(joined) => {
                 self.names.remove(&joined.conn);
                 let gone = self.desk.leave(0, joined.conn, joined.outlet);
-                put_gone(text, alloc, name.as_slice(), gone)
+                put_gone(text, name.as_slice(), gone)
             }
             None => Ok(()),
         }
@@ -53,7 +48,6 @@ impl ScriptHub {
     /// The hub closes the WebSocket of the peer at a place.
     pub(crate) fn close(
         &mut self,
-        alloc: Global,
         at: usize,
         closing: Closing,
         text: &mut Vec<u8>,
@@ -63,8 +57,8 @@ impl ScriptHub {
         ensures { (s : State) (k : PeerOf) (cs : List ℕ) → StandsAt self.old at cs s k → OnOk result
             (CarriesOut self.new text.old.items text.new.items cs (closes s k closing)) }
     {
-        put_close(text, alloc, self.name_at(at), closing)?;
-        self.end(alloc, at, text)
+        put_close(text, self.name_at(at), closing)?;
+        self.end(at, text)
     }
 
     /// Carries out a step that needs no call for what it says: octets are put, and the WebSocket is closed.
@@ -87,9 +81,9 @@ impl ScriptHub {
             Step::Put(octets) => put_out(text, alloc, self.name_at(at), octets.as_slice()),
             Step::PutClose(octets, closing) => {
                 put_out(text, alloc, self.name_at(at), octets.as_slice())?;
-                self.close(alloc, at, closing, text)
+                self.close(at, closing, text)
             }
-            Step::Close(closing) => self.close(alloc, at, closing, text),
+            Step::Close(closing) => self.close(at, closing, text),
             Step::Ask(_) | Step::Up | Step::Nothing => Ok(()),
         }
     }

@@ -22,19 +22,14 @@ use std::alloc::Global;
 
 impl ScriptHub {
     /// A call of the peer at a place was worn: that is said, and its WebSocket is closed.
-    pub(crate) fn wear(
-        &mut self,
-        alloc: Global,
-        at: usize,
-        text: &mut Vec<u8>,
-    ) -> Result<(), NoMemory>
+    pub(crate) fn wear(&mut self, at: usize, text: &mut Vec<u8>) -> Result<(), NoMemory>
         requires within { at < index_map_len self.old.peers }
         requires some { IsOfSome self.old }
         ensures { (s : State) (k : PeerOf) (cs : List ℕ) → StandsAt self.old at cs s k → OnOk result
             (CarriesOut self.new text.old.items text.new.items cs (wears s k)) }
     {
         put_line(text, self.name_at(at), "worn")?;
-        self.close(alloc, at, Closing::HUB_WORN, text)
+        self.close(at, Closing::HUB_WORN, text)
     }
 
     /// The peer at a place gets what it has once it has joined, and its name stands with its connection.
@@ -71,7 +66,7 @@ impl ScriptHub {
         let (inlet, outlet) = make(alloc, self.about.limits.outbox)?;
         match self.desk.connect(0, *who, inlet) {
             Ok(row) => {
-                put_joined(text, alloc, self.name_at(at), row)?;
+                put_joined(text, self.name_at(at), row)?;
                 let joined = Joined {
                     conn: row.conn,
                     vmac: who.vmac,
@@ -85,11 +80,11 @@ impl ScriptHub {
                 Ok(due)
             }
             Err((NoRow::Worn(_), _)) => {
-                self.wear(alloc, at, text)?;
+                self.wear(at, text)?;
                 Ok(Due::Nobody)
             }
             Err((NoRow::Refused(refusal), _)) => {
-                put_refusal(text, alloc, self.name_at(at), refusal)?;
+                put_refusal(text, self.name_at(at), refusal)?;
                 self.tell_refused(alloc, at, &refusal, text)?;
                 Ok(Due::Nobody)
             }

@@ -2,20 +2,20 @@
 ghost use Rattle.std.specs.Prelude.{◌≡◌, ◌≢◌, ◌<◌, ◌++◌, List, ℕ, OnOk, IfOk, false, [], ◌∷◌, length, drop};
 ghost use Rattle.indexmap.specs.IndexMap.{index_map_len};
 ghost use Rattle.bsc_script.specs.States.{State, Peer as PeerOf};
-ghost use Rattle.bsc_script.specs.Carrying.{Outcome};
+ghost use Rattle.bsc_script.specs.Carrying.{ScriptOutcome};
 ghost use Rattle.bsc_history.specs.declared.mark.Stamped.{Stamped};
 ghost use Rattle.bsc_history.specs.Ends.{ended};
 ghost use Rattle.bsc_history.specs.Marks.{entries};
 ghost use Rattle.bsc_history.specs.Outboxes.{sent};
 ghost use Rattle.bsc_ring.specs.Ends.{empties_of, given, outlet_mark};
 ghost use Rattle.bsc_desk.specs.Rows.{HasRow, IsMarkOf, known_of, row_of};
-ghost use Rattle.bsc_desk.specs.Standing.{StandsFor};
+ghost use Rattle.bsc_desk.specs.Standing.{DeskStands};
 ghost use Rattle.bsc_script.specs.Written.{text_of};
 ghost use Rattle.bsc_script.specs.Emptying.{frame_lines, empties_after, empties, emptied, emptied_on};
 ghost use Rattle.bsc_script.specs.Settled.{SettledBut};
 ghost use Rattle.bsc_script.specs.Touching.{dues};
 ghost use Rattle.bsc_script.specs.Between.{IsJoinedAt, IsWritten, OwnsOutlet, TakesOne, WritesAll};
-ghost use Rattle.bsc_script.specs.Holding.{StandsAs, CarriesOut, IsToEmpty, waits_in};
+ghost use Rattle.bsc_script.specs.Holding.{ScriptStands, CarriesOut, IsToEmpty, waits_in};
 
 use crate::due::Due;
 use crate::noting::meet;
@@ -129,8 +129,8 @@ impl ScriptHub {
 
     /// Empties the outbox of a connection, where it is to be.
     fn empty_one(&mut self, alloc: Global, conn: u64, text: &mut Vec<u8>) -> Result<(), NoMemory>
-        requires some { (s : State) × (ds : List ℕ) × StandsAs self.old s × SettledBut (conn ∷ ds) s }
-        ensures { (s : State) (ds : List ℕ) → StandsAs self.old s → SettledBut (conn ∷ ds) s → OnOk result
+        requires some { (s : State) × (ds : List ℕ) × ScriptStands self.old s × SettledBut (conn ∷ ds) s }
+        ensures { (s : State) (ds : List ℕ) → ScriptStands self.old s → SettledBut (conn ∷ ds) s → OnOk result
             (CarriesOut self.new text.old.items text.new.items ds (emptied_on s conn)) }
     {
         match self.place_on(conn) {
@@ -150,8 +150,8 @@ impl ScriptHub {
         conns: &[u64],
         text: &mut Vec<u8>,
     ) -> Result<(), NoMemory>
-        requires some { (s : State) × StandsAs self.old s × SettledBut conns.now s }
-        ensures { (base : List ℕ) (o : Outcome) → CarriesOut self.old base text.old.items conns.now o → OnOk result
+        requires some { (s : State) × ScriptStands self.old s × SettledBut conns.now s }
+        ensures { (base : List ℕ) (o : ScriptOutcome) → CarriesOut self.old base text.old.items conns.now o → OnOk result
             (CarriesOut self.new base text.new.items [] (emptied o)) }
     {
         for conn in conns.iter() {
@@ -167,8 +167,8 @@ impl ScriptHub {
         due: &Due,
         text: &mut Vec<u8>,
     ) -> Result<(), NoMemory>
-        requires some { (s : State) × StandsAs self.old s × SettledBut (dues due.now) s }
-        ensures { (base : List ℕ) (o : Outcome) → CarriesOut self.old base text.old.items (dues due.now) o → OnOk result
+        requires some { (s : State) × ScriptStands self.old s × SettledBut (dues due.now) s }
+        ensures { (base : List ℕ) (o : ScriptOutcome) → CarriesOut self.old base text.old.items (dues due.now) o → OnOk result
             (CarriesOut self.new base text.new.items [] (emptied o)) }
     {
         match due {

@@ -7,7 +7,7 @@ ghost use Rattle.bsc_script.specs.Receiving.{forwards, forwards_if};
 ghost use Rattle.bsc_script.specs.Settled.{IsSettledBut};
 ghost use Rattle.bsc_script.specs.Touching.{dues};
 ghost use Rattle.bsc_script.specs.Holding.{StandsAt, CarriesOut};
-ghost use Rattle.bsc_script.specs.Between.{Sends};
+ghost use Rattle.bsc_script.specs.Between.{PeerSends};
 
 use crate::due::Due;
 use crate::replies::{put_all, put_reply};
@@ -20,7 +20,6 @@ impl ScriptHub {
     /// Forwards a unicast of the peer at a place, which has joined as a connection.
     fn forward_one(
         &mut self,
-        alloc: Global,
         at: usize,
         conn: u64,
         frame: Prepared,
@@ -28,19 +27,19 @@ impl ScriptHub {
     ) -> Result<Due, NoMemory>
         requires within { at < index_map_len self.old.peers }
         requires unicast { IsFalse (is_broadcast frame.message) }
-        requires some { (s : State) × (k : PeerOf) × Sends self.old at conn frame.sender s k }
-        ensures { (s : State) (k : PeerOf) → Sends self.old at conn frame.sender s k → IfOk result (λ due.
+        requires some { (s : State) × (k : PeerOf) × PeerSends self.old at conn frame.sender s k }
+        ensures { (s : State) (k : PeerOf) → PeerSends self.old at conn frame.sender s k → IfOk result (λ due.
             CarriesOut self.new text.old.items text.new.items (dues due) (forwards s k conn frame.message)) }
     {
         match self.desk.forward_one(0, conn, frame) {
             Ok(reply) => {
-                put_reply(text, alloc, self.name_at(at), reply)?;
+                put_reply(text, self.name_at(at), reply)?;
                 let due = Due::by_one(reply);
                 self.note(&due);
                 Ok(due)
             }
             Err(_) => {
-                self.wear(alloc, at, text)?;
+                self.wear(at, text)?;
                 Ok(Due::Nobody)
             }
         }
@@ -57,20 +56,20 @@ impl ScriptHub {
     ) -> Result<Due, NoMemory>
         requires within { at < index_map_len self.old.peers }
         requires broadcast { IsTrue (is_broadcast frame.now.message) }
-        requires some { (s : State) × (k : PeerOf) × Sends self.old at conn frame.now.sender s k }
-        ensures { (s : State) (k : PeerOf) → Sends self.old at conn frame.now.sender s k → IfOk result (λ due.
+        requires some { (s : State) × (k : PeerOf) × PeerSends self.old at conn frame.now.sender s k }
+        ensures { (s : State) (k : PeerOf) → PeerSends self.old at conn frame.now.sender s k → IfOk result (λ due.
             CarriesOut self.new text.old.items text.new.items (dues due) (forwards s k conn frame.now.message)) }
     {
         match self.desk.forward_all(alloc, 0, conn, frame) {
             Ok(reply) => {
-                put_all(text, alloc, self.name_at(at), &reply)?;
+                put_all(text, self.name_at(at), &reply)?;
                 let due = Due::by_all(reply);
                 self.note(&due);
                 Ok(due)
             }
             Err(AllRefusal::NoMemory) => Err(NoMemory),
             Err(AllRefusal::Worn(_)) => {
-                self.wear(alloc, at, text)?;
+                self.wear(at, text)?;
                 Ok(Due::Nobody)
             }
         }
@@ -98,7 +97,7 @@ impl ScriptHub {
         if frame.is_broadcast() {
             Ok(self.forward_all(alloc, at, conn, &frame, text)?)
         } else {
-            Ok(self.forward_one(alloc, at, conn, frame, text)?)
+            Ok(self.forward_one(at, conn, frame, text)?)
         }
     }
 }

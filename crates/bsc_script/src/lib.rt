@@ -32,7 +32,7 @@ mod texts;
 mod ticking;
 
 pub use bounds::{CONNECT_WAIT_MS, DISCONNECT_WAIT_MS, HEARTBEAT_MS, MOST_NAMES};
-pub use counting::counts_line;
+pub use counting::put_counts;
 pub use line::Line;
 pub use reading::read_line;
 pub use script::Script;

@@ -4,7 +4,7 @@ ghost use Rattle.indexmap.specs.IndexMap.{index_map_len};
 ghost use Rattle.bsc_script.specs.Hubs.{IsHub};
 ghost use Rattle.bsc_script.specs.States.{State, Peer as PeerOf, new_hub, is_named, has_joined_as, is_open};
 ghost use Rattle.bsc_script.specs.Running.{opens, most_names};
-ghost use Rattle.bsc_script.specs.Holding.{StandsAs, Holds, IsIndexed, KeepsAt, RunsTo};
+ghost use Rattle.bsc_script.specs.Holding.{ScriptStands, ScriptHolds, IsIndexed, KeepsAt, RunsTo};
 
 use crate::bounds::{CONNECT_WAIT_MS, DISCONNECT_WAIT_MS, HEARTBEAT_MS, MOST_NAMES};
 use crate::peer::Peer;
@@ -29,7 +29,7 @@ impl ScriptHub {
     /// A new hub at the time 0, with no open names. Memory may run out.
     pub fn make(alloc: Global, about: About) -> Result<ScriptHub, NoMemory>
         requires { IsHub about }
-        ensures { IfOk result (λ t. Holds t (new_hub about)) }
+        ensures { IfOk result (λ t. ScriptHolds t (new_hub about)) }
     {
         let desk = Desk::make(alloc, about.hub, about.limits)?;
         Ok(ScriptHub {
@@ -84,7 +84,7 @@ impl ScriptHub {
 
     /// Whether a name may open: it isn't open, and fewer are than may be.
     fn may_open(&self, name: &[u8]) -> bool
-        ensures { (s : State) → StandsAs self.now s →
+        ensures { (s : State) → ScriptStands self.now s →
             result ≡ (not (is_open s name.now) && nat_lt (length s.peers) most_names) }
     {
         self.place_of(name).is_none() && self.peers.len() < MOST_NAMES
@@ -92,7 +92,7 @@ impl ScriptHub {
 
     /// Opens a name, and starts a machine for it.
     pub(crate) fn open(&mut self, name: Octets) -> Result<(), LineFault>
-        ensures { (s : State) → Holds self.old s → RunsTo result self.new [] [] (opens s name) }
+        ensures { (s : State) → ScriptHolds self.old s → RunsTo result self.new [] [] (opens s name) }
     {
         if !self.may_open(name.as_slice()) {
             return Err(LineFault::Refused);

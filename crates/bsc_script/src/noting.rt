@@ -4,8 +4,8 @@ ghost use Rattle.bsc_ring.specs.Ends.{outlet_mark};
 ghost use Rattle.bsc_desk.specs.Rows.{HasRow, IsMarkOf};
 ghost use Rattle.bsc_script.specs.States.{State};
 ghost use Rattle.bsc_script.specs.Touching.{dues};
-ghost use Rattle.bsc_script.specs.Holding.{StandsAs};
-ghost use Rattle.bsc_script.specs.Between.{AreConnections, Meets, StandsBut};
+ghost use Rattle.bsc_script.specs.Holding.{ScriptStands};
+ghost use Rattle.bsc_script.specs.Between.{AreConnections, PeerMeets, StandsBut};
 
 use crate::due::Due;
 use crate::peer::Joined;
@@ -19,7 +19,7 @@ use std::alloc::Global;
 pub(crate) fn meet(desk: &mut Desk, joined: &mut Joined)
     requires row { HasRow desk.old joined.old.conn }
     requires mark { IsMarkOf desk.old joined.old.conn (outlet_mark joined.old.outlet) }
-    ensures { Meets desk.old desk.new joined.old joined.new }
+    ensures { PeerMeets desk.old desk.new joined.old joined.new }
 {
     desk.meet(joined.conn, &mut joined.outlet);
     joined.waits = true;
@@ -53,7 +53,7 @@ impl ScriptHub {
     /// The outboxes that a line changed wait to be emptied.
     pub(crate) fn note(&mut self, due: &Due)
         requires some { (s : State) × StandsBut (dues due.now) self.old s }
-        ensures { (s : State) → StandsBut (dues due.now) self.old s → StandsAs self.new s }
+        ensures { (s : State) → StandsBut (dues due.now) self.old s → ScriptStands self.new s }
     {
         match due {
             Due::Nobody => {}

@@ -5,7 +5,7 @@ ghost use Rattle.bsc_script.specs.States.{State, Peer as PeerOf};
 ghost use Rattle.bsc_script.specs.Written.{text_of};
 ghost use Rattle.bsc_script.specs.Receiving.{silence, acts, receives};
 ghost use Rattle.bsc_script.specs.Touching.{dues};
-ghost use Rattle.bsc_script.specs.Holding.{Holds, HoldsSome, IsAt, CarriesOut, AwaitsStep};
+ghost use Rattle.bsc_script.specs.Holding.{ScriptHolds, HoldsSome, IsAt, CarriesOut, AwaitsStep};
 
 use crate::due::Due;
 use crate::script_hub::ScriptHub;
@@ -37,7 +37,7 @@ impl ScriptHub {
     ) -> Result<Due, NoMemory>
         requires within { at < index_map_len self.old.peers }
         requires some { HoldsSome self.old }
-        ensures { (s : State) (k : PeerOf) → Holds self.old s → IsAt at k s → IfOk result (λ due.
+        ensures { (s : State) (k : PeerOf) → ScriptHolds self.old s → IsAt at k s → IfOk result (λ due.
             CarriesOut self.new text.old.items text.new.items (dues due) (receives s k message.now)) }
     {
         let place = Place::HubPort {

@@ -1,6 +1,6 @@
 //! Scripts, as a language of the player.
 ghost use Rattle.std.specs.Prelude.{◌≡◌, ℕ, List, Option, None, IfOk, IfErr};
-ghost use Rattle.bsc_player.specs.Languages.{StandsAs as LineStandsAs};
+ghost use Rattle.bsc_player.specs.Languages.{LineStandsAs};
 ghost use Rattle.bsc_script.specs.States.{State};
 ghost use Rattle.bsc_script.specs.Hubs.{IsFit};
 ghost use Rattle.bsc_script.specs.Scripts.{before_hub, line_after, script};

@@ -3,13 +3,13 @@ ghost use Rattle.std.specs.Prelude.{[], IfOk, OnOk};
 ghost use Rattle.bsc_script.specs.States.{State};
 ghost use Rattle.bsc_script.specs.Running.{stops, says_counts};
 ghost use Rattle.bsc_script.specs.Touching.{dues};
-ghost use Rattle.bsc_script.specs.Holding.{Holds, HoldsSome, CarriesOut};
+ghost use Rattle.bsc_script.specs.Holding.{ScriptHolds, HoldsSome, CarriesOut};
 
 use crate::counting::put_counts;
 use crate::due::Due;
 use crate::script_hub::ScriptHub;
-use crate::texts::put_words;
 use bsc_history::Conns;
+use bsc_lines::put_words;
 use bsc_octets::NoMemory;
 use std::alloc::Global;
 
@@ -17,13 +17,13 @@ impl ScriptHub {
     /// Stops the hub.
     pub(crate) fn stop(&mut self, alloc: Global, text: &mut Vec<u8>) -> Result<Due, NoMemory>
         requires some { HoldsSome self.old }
-        ensures { (s : State) → Holds self.old s → IfOk result (λ due.
+        ensures { (s : State) → ScriptHolds self.old s → IfOk result (λ due.
             CarriesOut self.new text.old.items text.new.items (dues due) (stops s)) }
     {
         let conns = self.connections(alloc)?;
         match self.desk.stop(0) {
             Ok(counts) => {
-                put_counts(text, alloc, &counts)?;
+                put_counts(text, &counts)?;
                 let due = Due::Each(Conns::from_vec(conns));
                 self.note(&due);
                 Ok(due)
@@ -36,13 +36,13 @@ impl ScriptHub {
     }
 
     /// Has the hub tell its counts.
-    pub(crate) fn count(&mut self, alloc: Global, text: &mut Vec<u8>) -> Result<(), NoMemory>
+    pub(crate) fn count(&mut self, text: &mut Vec<u8>) -> Result<(), NoMemory>
         requires some { HoldsSome self.old }
-        ensures { (s : State) → Holds self.old s → OnOk result
+        ensures { (s : State) → ScriptHolds self.old s → OnOk result
             (CarriesOut self.new text.old.items text.new.items [] (says_counts s)) }
     {
         match self.desk.count(0) {
-            Ok(counts) => put_counts(text, alloc, &counts),
+            Ok(counts) => put_counts(text, &counts),
             Err(_) => put_words(text, "hub worn\n"),
         }
     }

@@ -1,6 +1,5 @@
 //! The lines that are written, put at the end of a text.
-ghost use Rattle.std.specs.Prelude.{◌≡◌, ◌++◌, IfOk, codes, decimal};
-ghost use Rattle.hex.specs.Hex.{encode_upper};
+ghost use Rattle.std.specs.Prelude.{◌≡◌, ◌++◌, IfOk, codes};
 ghost use Rattle.bsc_script.specs.Written.{says, line_text};
 ghost use Rattle.bsc_script.specs.Texts.{out_words, silent_words, behind_space, close_words};
 ghost use Rattle.bsc_lines.specs.Replies.{numbered_word};
@@ -8,16 +7,9 @@ ghost use Rattle.bsc_lines.specs.Replies.{numbered_word};
 use bsc_accept::Closing;
 use bsc_check_lines::check_name;
 use bsc_checks::Check;
+use bsc_lines::{put_hex, put_number, put_words};
 use bsc_octets::NoMemory;
 use std::alloc::Global;
-
-/// Puts words of text.
-pub(crate) fn put_words(text: &mut Vec<u8>, words: &str) -> Result<(), NoMemory>
-    ensures { IfOk result (λ _. text.new.items ≡ text.old.items ++ words.now) }
-{
-    text.extend_from_slice(words.as_bytes())?;
-    Ok(())
-}
 
 /// Puts octets as they stand.
 fn put_octets(text: &mut Vec<u8>, octets: &[u8]) -> Result<(), NoMemory>
@@ -25,24 +17,6 @@ fn put_octets(text: &mut Vec<u8>, octets: &[u8]) -> Result<(), NoMemory>
 {
     text.extend_from_slice(octets)?;
     Ok(())
-}
-
-/// Puts a number in decimal digits.
-pub(crate) fn put_number(text: &mut Vec<u8>, alloc: Global, n: u64) -> Result<(), NoMemory>
-    ensures { IfOk result (λ _. text.new.items ≡ text.old.items ++ decimal n) }
-{
-    let digits = format!(in alloc; "{n}")?;
-    put_words(text, digits.as_str())
-}
-
-/// Puts octets as hexadecimal digits, with letters in upper case.
-fn put_hex(text: &mut Vec<u8>, alloc: Global, octets: &[u8]) -> Result<(), NoMemory>
-    ensures { IfOk result (λ _. text.new.items ≡ text.old.items ++ encode_upper octets.now) }
-{
-    let Ok(digits) = hex::encode_upper(alloc, octets) else {
-        return Err(NoMemory);
-    };
-    put_words(text, digits.as_str())
 }
 
 /// Begins a line that says something of a name.
@@ -65,7 +39,6 @@ pub(crate) fn put_line(text: &mut Vec<u8>, name: &[u8], words: &str) -> Result<(
 /// A line of a word and a number.
 pub(crate) fn put_numbered(
     text: &mut Vec<u8>,
-    alloc: Global,
     name: &[u8],
     word: &str,
     n: u64,
@@ -74,9 +47,7 @@ pub(crate) fn put_numbered(
         ≡ text.old.items ++ line_text (says name.now (numbered_word word.now n))) }
 {
     begin_line(text, name)?;
-    put_words(text, word)?;
-    put_words(text, " ")?;
-    put_number(text, alloc, n)?;
+    bsc_lines::put_numbered(text, word, n)?;
     put_words(text, "\n")
 }
 
@@ -117,17 +88,12 @@ fn put_behind_space(text: &mut Vec<u8>, word: &str) -> Result<(), NoMemory>
 }
 
 /// The line of a WebSocket that is closed.
-pub(crate) fn put_close(
-    text: &mut Vec<u8>,
-    alloc: Global,
-    name: &[u8],
-    closing: Closing,
-) -> Result<(), NoMemory>
+pub(crate) fn put_close(text: &mut Vec<u8>, name: &[u8], closing: Closing) -> Result<(), NoMemory>
     ensures { IfOk result (λ _. text.new.items ≡ text.old.items ++ line_text (says name.now (close_words closing))) }
 {
     begin_line(text, name)?;
     put_words(text, "close ")?;
-    put_number(text, alloc, u64::from(closing.code))?;
+    put_number(text, u64::from(closing.code))?;
     put_behind_space(text, closing.reason.text())?;
     put_words(text, "\n")
 }

@@ -5,7 +5,7 @@ ghost use Rattle.bsc_accept.specs.Steps.{closes as is_closing};
 ghost use Rattle.bsc_script.specs.States.{State, Peer as PeerOf};
 ghost use Rattle.bsc_script.specs.Carrying.{tells};
 ghost use Rattle.bsc_script.specs.Running.{ticks};
-ghost use Rattle.bsc_script.specs.Holding.{Holds, HoldsSome, IsAt, CarriesOut, RunsTo};
+ghost use Rattle.bsc_script.specs.Holding.{ScriptHolds, HoldsSome, IsAt, CarriesOut, RunsTo};
 
 use crate::script_hub::ScriptHub;
 use bsc_accept::{Event, Step};
@@ -32,7 +32,7 @@ impl ScriptHub {
         requires within { at < index_map_len self.old.peers }
         requires small { at < 2 ^ 63 }
         requires some { HoldsSome self.old }
-        ensures { (s : State) (k : PeerOf) → Holds self.old s → IsAt at k s → IfOk result (λ next.
+        ensures { (s : State) (k : PeerOf) → ScriptHolds self.old s → IsAt at k s → IfOk result (λ next.
             CarriesOut self.new text.old.items text.new.items [] (tells s k (Event.Tick s.clock))
             × (drop next (tells s k (Event.Tick s.clock)).state.peers ≡ drop (at + 1) s.peers)) }
     {
@@ -52,7 +52,7 @@ impl ScriptHub {
         text: &mut Vec<u8>,
     ) -> Result<(), LineFault>
         requires some { HoldsSome self.old }
-        ensures { (s : State) → Holds self.old s →
+        ensures { (s : State) → ScriptHolds self.old s →
             RunsTo result self.new text.old.items text.new.items (ticks s ms) }
     {
         if ms < self.clock || LATEST < ms {

@@ -22,7 +22,7 @@ use Rattle.bsc_script.specs.Written.{says}
 use Rattle.bsc_lines.specs.Replies.{counts_words, forward_words}
 use Rattle.bsc_script.specs.States.{State, Peer, new_peer, told, joined_as, is_open, peer_of, with_peer, with_opened}
 use Rattle.bsc_script.specs.Calls.{called, entry_in, reply_in, is_worn, leave_of}
-use Rattle.bsc_script.specs.Carrying.{Outcome, quietly, writes, leaves_if, ends, does, step_of, tells}
+use Rattle.bsc_script.specs.Carrying.{ScriptOutcome, quietly, writes, leaves_if, ends, does, step_of, tells}
 use Rattle.bsc_script.specs.Receiving.{wears, gets_reply, connects, forwards_if, verdict_on, acts, receives}
 use Rattle.bsc_script.specs.Emptying.{OnConnection, unwritten, given_frames, found_empty, is_emptied, ends_as, empties, emptied_one, emptied, in_order_of_joining}
 use Rattle.bsc_script.specs.Running.{most_names, hub_says, gets_text, holds, latest, ticks_one, stops, says_counts, line_outcome, run_line}
@@ -60,7 +60,7 @@ pub call_added : (P : Entry → Type 0) (s : State) (call : Call) → P (entry_i
 call_added P s call h = record { about = refl; more = entry_in s call ∷ []; behind = refl; each = (h, tt) }
 
 -- one of two
-either_added : (P : Entry → Type 0) (a : About) (H : List Entry) (b : Bool) (x y : Outcome) → Adds P a H x.state → Adds P a H y.state → Adds P a H (cond b x y).state
+either_added : (P : Entry → Type 0) (a : About) (H : List Entry) (b : Bool) (x y : ScriptOutcome) → Adds P a H x.state → Adds P a H y.state → Adds P a H (cond b x y).state
 either_added P a H true x y f g = f
 either_added P a H false x y f g = g
 
@@ -131,7 +131,7 @@ receives_added P plain s f name k m is =
 
 -- ---- the clock, and the outboxes
 
-ticks_added : (P : Entry → Type 0) → HoldsPlain P → (a : About) (H : List Entry) (ks : List Peer) (o : Outcome) → Adds P a H o.state → Adds P a H (fold ticks_one o ks).state
+ticks_added : (P : Entry → Type 0) → HoldsPlain P → (a : About) (H : List Entry) (ks : List Peer) (o : ScriptOutcome) → Adds P a H o.state → Adds P a H (fold ticks_one o ks).state
 ticks_added P plain a H [] o h = h
 ticks_added P plain a H (k ∷ ks) o h = ticks_added P plain a H ks (ticks_one o k) (both_added P a H o.state (ticks_one o k).state h (tells_added P plain o.state k (Tick o.state.clock)))
 
@@ -139,7 +139,7 @@ ending_added : (P : Entry → Type 0) → HoldsPlain P → (s : State) (k : Peer
 ending_added P plain s k None = kept_added P s.about s.history (with_peer (found_empty k) s) refl refl
 ending_added P plain s k (Some ending) = tells_added P plain (with_peer k s) k (Ended s.clock ending)
 
-emptied_one_added : (P : Entry → Type 0) → HoldsPlain P → (a : About) (H : List Entry) (o : Outcome) (x : OnConnection) → Adds P a H o.state → Adds P a H (emptied_one o x).state
+emptied_one_added : (P : Entry → Type 0) → HoldsPlain P → (a : About) (H : List Entry) (o : ScriptOutcome) (x : OnConnection) → Adds P a H o.state → Adds P a H (emptied_one o x).state
 emptied_one_added P plain a H o x h = by (is_emptied o.state x.peer x.conn)
   where
     u : State
@@ -152,26 +152,26 @@ emptied_one_added P plain a H o x h = by (is_emptied o.state x.peer x.conn)
     by true = more
     by false = h
 
-pub all_emptied_added : (P : Entry → Type 0) → HoldsPlain P → (a : About) (H : List Entry) (xs : List OnConnection) (o : Outcome) → Adds P a H o.state → Adds P a H (fold emptied_one o xs).state
+pub all_emptied_added : (P : Entry → Type 0) → HoldsPlain P → (a : About) (H : List Entry) (xs : List OnConnection) (o : ScriptOutcome) → Adds P a H o.state → Adds P a H (fold emptied_one o xs).state
 all_emptied_added P plain a H [] o h = h
 all_emptied_added P plain a H (x ∷ xs) o h = all_emptied_added P plain a H xs (emptied_one o x) (emptied_one_added P plain a H o x h)
 
 -- ---- a line
 
 -- what is accepted on a condition
-pub accepted : (b : Bool) (x o : Outcome) → cond b (Some x) None ≡ Some o → x ≡ o
+pub accepted : (b : Bool) (x o : ScriptOutcome) → cond b (Some x) None ≡ Some o → x ≡ o
 accepted true x o e = same_some x o e
 accepted false x o e = cc
 
 -- what is done to the peer of a name
-pub of_name : (f : Peer → Outcome) (p : Option Peer) (o : Outcome) → option_map f p ≡ Some o → (k : Peer) × (p ≡ Some k) × (f k ≡ o)
+pub of_name : (f : Peer → ScriptOutcome) (p : Option Peer) (o : ScriptOutcome) → option_map f p ≡ Some o → (k : Peer) × (p ≡ Some k) × (f k ≡ o)
 of_name f None o e = cc
 of_name f (Some k) o e = (k, refl, same_some (f k) o e)
 
-as_outcome : (P : Entry → Type 0) (a : About) (H : List Entry) (x o : Outcome) → x ≡ o → Adds P a H x.state → Adds P a H o.state
-as_outcome P a H x o e h = subst (λ (u : Outcome). Adds P a H u.state) e h
+as_outcome : (P : Entry → Type 0) (a : About) (H : List Entry) (x o : ScriptOutcome) → x ≡ o → Adds P a H x.state → Adds P a H o.state
+as_outcome P a H x o e h = subst (λ (u : ScriptOutcome). Adds P a H u.state) e h
 
-pub outcome_added : (P : Entry → Type 0) → HoldsPlain P → (s : State) → HoldsForward P s → (line : Line) (o : Outcome) → line_outcome s line ≡ Some o → Adds P s.about s.history o.state
+pub outcome_added : (P : Entry → Type 0) → HoldsPlain P → (s : State) → HoldsForward P s → (line : Line) (o : ScriptOutcome) → line_outcome s line ≡ Some o → Adds P s.about s.history o.state
 outcome_added P plain s f Nothing o e = as_outcome P s.about s.history (quietly s) o (same_some (quietly s) o e) (nothing_added P s)
 outcome_added P plain s f (Hub about) o e = cc
 outcome_added P plain s f (Open name) o e =
@@ -203,12 +203,12 @@ outcome_added P plain s f Counts o e =
     as_outcome P s.about s.history (says_counts s) o (same_some (says_counts s) o e)
     (either_added P s.about s.history (is_worn s) (writes (hub_says (codes "worn")) (quietly s)) (writes (hub_says (counts_words (counts s.history))) (quietly (called s Count))) (nothing_added P s) (call_added P s Count (plain (entry_in s Count) refl refl)))
 
-pub then_emptied : (p : Option Outcome) (o : Outcome) → option_map emptied p ≡ Some o → (u : Outcome) × (p ≡ Some u) × (emptied u ≡ o)
+pub then_emptied : (p : Option ScriptOutcome) (o : ScriptOutcome) → option_map emptied p ≡ Some o → (u : ScriptOutcome) × (p ≡ Some u) × (emptied u ≡ o)
 then_emptied None o e = cc
 then_emptied (Some u) o e = (u, refl, same_some (emptied u) o e)
 
 -- A line adds entries of which P holds.
-pub line_added : (P : Entry → Type 0) → HoldsPlain P → (s : State) → HoldsForward P s → (line : Line) (o : Outcome) → run_line s line ≡ Some o → Adds P s.about s.history o.state
+pub line_added : (P : Entry → Type 0) → HoldsPlain P → (s : State) → HoldsForward P s → (line : Line) (o : ScriptOutcome) → run_line s line ≡ Some o → Adds P s.about s.history o.state
 unfolding run_line
 line_added P plain s f line o e =
     let u = then_emptied (line_outcome s line) o e in
@@ -221,7 +221,7 @@ line_added P plain s f line o e =
 abbrev pub IsOfCaller0 : Entry → Type 0
 IsOfCaller0 e = e.caller ≡ 0
 
-line_callers : (s : State) (line : Line) (o : Outcome) → run_line s line ≡ Some o → AllByRecursion IsOfCaller0 s.history → AllByRecursion IsOfCaller0 o.state.history
+line_callers : (s : State) (line : Line) (o : ScriptOutcome) → run_line s line ≡ Some o → AllByRecursion IsOfCaller0 s.history → AllByRecursion IsOfCaller0 o.state.history
 line_callers s line o e h =
     let a = line_added IsOfCaller0 (λ x c l. c) s (λ name k x c m is. refl) line o e in
     subst (λ (l : List Entry). AllByRecursion IsOfCaller0 l) (sym a.behind) (all-push IsOfCaller0 s.history a.more h a.each)
@@ -232,10 +232,10 @@ none_after [] u e = cc
 none_after (line ∷ lines) u e = none_after lines u e
 
 -- what stands after a line that comes to this
-abbrev pub state_of : Option Outcome → Option State
+abbrev pub state_of : Option ScriptOutcome → Option State
 state_of p = elim p [ None ↦ None | Some o ↦ Some o.state ]
 
-callers_by : (s u : State) (line : Line) (lines : List Line) (p : Option Outcome) → run_line s line ≡ p → AllByRecursion IsOfCaller0 s.history
+callers_by : (s u : State) (line : Line) (lines : List Line) (p : Option ScriptOutcome) → run_line s line ≡ p → AllByRecursion IsOfCaller0 s.history
     → ((t : State) → AllByRecursion IsOfCaller0 t.history → after_lines (Some t) lines ≡ Some u → AllByRecursion IsOfCaller0 u.history)
     → after_lines (state_of p) lines ≡ Some u → AllByRecursion IsOfCaller0 u.history
 callers_by s u line lines None is h later e = absurd (none_after lines u e)

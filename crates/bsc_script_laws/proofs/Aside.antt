@@ -22,7 +22,7 @@ use Rattle.bsc_script.specs.Written.{Said, says}
 use Rattle.bsc_lines.specs.Replies.{counts_words, forward_words}
 use Rattle.bsc_script.specs.States.{State, Peer, is_named, has_joined_as, new_peer, told, joined_as, is_open, peer_of, with_peer, with_opened, without_name, with_held}
 use Rattle.bsc_script.specs.Calls.{called, reply_in, is_worn}
-use Rattle.bsc_script.specs.Carrying.{Outcome, quietly, writes, leaves_if, ends, does, step_of, tells}
+use Rattle.bsc_script.specs.Carrying.{ScriptOutcome, quietly, writes, leaves_if, ends, does, step_of, tells}
 use Rattle.bsc_script.specs.Receiving.{wears, gets_reply, connects, forwards_if, verdict_on, acts, silence, receives}
 use Rattle.bsc_script.specs.Emptying.{OnConnection, frame_lines, unwritten, given_frames, found_empty, is_emptied, ends_as, empties, emptied_one, emptied, in_order_of_joining}
 use Rattle.bsc_script.specs.Running.{most_names, hub_says, gets_text, holds, latest, ticks_one, stops, says_counts, line_outcome, run_line}
@@ -46,7 +46,7 @@ abbrev pub AreOthers : List ℕ → State → Type 0
 AreOthers n s = AllByRecursion (IsOther n) s.peers
 
 -- What something comes to leaves a name aside: no line is of it, and it hasn't joined.
-pub record IsAside (n : List ℕ) (o : Outcome) : Type 0 where
+pub record IsAside (n : List ℕ) (o : ScriptOutcome) : Type 0 where
   pub lines : AreAside n o.said
   pub others : AreOthers n o.state
 
@@ -71,10 +71,10 @@ without_others n m s h = all_from_In (IsOther n) (filter (λ p. not (is_named m 
 quiet_aside : (n : List ℕ) (s : State) → AreOthers n s → IsAside n (quietly s)
 quiet_aside n s h = record { lines = tt; others = h }
 
-more_aside : (n : List ℕ) (ls : List Said) (o : Outcome) → AreAside n ls → IsAside n o → IsAside n (record { state = o.state; said = ls ++ o.said })
+more_aside : (n : List ℕ) (ls : List Said) (o : ScriptOutcome) → AreAside n ls → IsAside n o → IsAside n (record { state = o.state; said = ls ++ o.said })
 more_aside n ls o before h = record { lines = all-push (λ (l : Said). l.name ≢ n) ls o.said before h.lines; others = h.others }
 
-either_aside : (n : List ℕ) (b : Bool) (x y : Outcome) → IsAside n x → IsAside n y → IsAside n (cond b x y)
+either_aside : (n : List ℕ) (b : Bool) (x y : ScriptOutcome) → IsAside n x → IsAside n y → IsAside n (cond b x y)
 either_aside n true x y f g = f
 either_aside n false x y f g = g
 
@@ -151,10 +151,10 @@ receives_aside n s k m other h =
 -- ---- the clock, and the outboxes
 
 -- one thing, and then another
-both_aside : (n : List ℕ) (o : Outcome) (u : Outcome) → IsAside n o → IsAside n u → IsAside n (record { state = u.state; said = o.said ++ u.said })
+both_aside : (n : List ℕ) (o : ScriptOutcome) (u : ScriptOutcome) → IsAside n o → IsAside n u → IsAside n (record { state = u.state; said = o.said ++ u.said })
 both_aside n o u h g = more_aside n o.said u h.lines g
 
-ticks_aside : (n : List ℕ) (ks : List Peer) (o : Outcome) → AllByRecursion (λ (k : Peer). k.name ≢ n) ks → IsAside n o → IsAside n (fold ticks_one o ks)
+ticks_aside : (n : List ℕ) (ks : List Peer) (o : ScriptOutcome) → AllByRecursion (λ (k : Peer). k.name ≢ n) ks → IsAside n o → IsAside n (fold ticks_one o ks)
 ticks_aside n [] o others h = h
 ticks_aside n (k ∷ ks) o others h =
     ticks_aside n ks (ticks_one o k) others.1
@@ -175,7 +175,7 @@ empties_aside n s k c other h =
     (frames_aside n k.name frames other)
     (ending_aside n s (given_frames frames k) (ended s.history c) other h)
 
-all_emptied_aside : (n : List ℕ) (xs : List OnConnection) (o : Outcome) → AllByRecursion (λ (x : OnConnection). x.peer.name ≢ n) xs → IsAside n o → IsAside n (fold emptied_one o xs)
+all_emptied_aside : (n : List ℕ) (xs : List OnConnection) (o : ScriptOutcome) → AllByRecursion (λ (x : OnConnection). x.peer.name ≢ n) xs → IsAside n o → IsAside n (fold emptied_one o xs)
 all_emptied_aside n [] o others h = h
 all_emptied_aside n (x ∷ xs) o others h =
     all_emptied_aside n xs (emptied_one o x) others.1
@@ -203,13 +203,13 @@ in_order_others n (x ∷ xs) ks h =
     (flat_map (λ (y : Connection). map (λ (k : Peer). record { conn = y.number; peer = k }) (filter (has_joined_as y.number) ks)) xs)
     (on_others n x.number ks h) (in_order_others n xs ks h)
 
-pub emptied_aside : (n : List ℕ) (o : Outcome) → IsAside n o → IsAside n (emptied o)
+pub emptied_aside : (n : List ℕ) (o : ScriptOutcome) → IsAside n o → IsAside n (emptied o)
 emptied_aside n o h = all_emptied_aside n (in_order_of_joining o.state) o (in_order_others n (unleft o.state.history) o.state.peers h.others) h
 
 -- ---- a line
 
-as_aside : (n : List ℕ) (x o : Outcome) → x ≡ o → IsAside n x → IsAside n o
-as_aside n x o e h = subst (λ (u : Outcome). IsAside n u) e h
+as_aside : (n : List ℕ) (x o : ScriptOutcome) → x ≡ o → IsAside n x → IsAside n o
+as_aside n x o e h = subst (λ (u : ScriptOutcome). IsAside n u) e h
 
 -- a name that isn't open is none of those that are
 pub none_of : (n : List ℕ) (ks : List Peer) → is_some (find (is_named n) ks) ≡ false → AllByRecursion (λ (k : Peer). k.name ≢ n) ks
@@ -236,7 +236,7 @@ found_other s n name k closed is same =
 opened_others : (n : List ℕ) (s : State) (name : List ℕ) → AreOthers n s → AreOthers n (with_opened (new_peer name s.clock) s)
 opened_others n s name h = all-push (IsOther n) s.peers (new_peer name s.clock ∷ []) h ((λ c e. cc), tt)
 
-pub outcome_aside : (n : List ℕ) (s : State) (line : Line) (o : Outcome) → n ≢ codes "hub" → is_open s n ≡ false → line_outcome s line ≡ Some o → IsAside n o
+pub outcome_aside : (n : List ℕ) (s : State) (line : Line) (o : ScriptOutcome) → n ≢ codes "hub" → is_open s n ≡ false → line_outcome s line ≡ Some o → IsAside n o
 outcome_aside n s line o own closed = by line
   where
     named : AllByRecursion (λ (k : Peer). k.name ≢ n) s.peers
@@ -280,7 +280,7 @@ outcome_aside n s line o own closed = by line
         (either_aside n (is_worn s) (writes (hub_says (codes "worn")) (quietly s)) (writes (hub_says (counts_words (counts s.history))) (quietly (called s Count)))
         (record { lines = ((λ e. own (sym e)), tt); others = h }) (record { lines = ((λ e. own (sym e)), tt); others = h }))
 
-pub line_aside : (n : List ℕ) (s : State) (line : Line) (o : Outcome) → n ≢ codes "hub" → is_open s n ≡ false → run_line s line ≡ Some o → AreAside n o.said
+pub line_aside : (n : List ℕ) (s : State) (line : Line) (o : ScriptOutcome) → n ≢ codes "hub" → is_open s n ≡ false → run_line s line ≡ Some o → AreAside n o.said
 unfolding run_line
 line_aside n s line o own closed e =
     let u = then_emptied (line_outcome s line) o e in

@@ -23,7 +23,7 @@ use Rattle.bsc_script.specs.Texts.{out_words}
 use Rattle.bsc_lines.specs.Replies.{forward_words, refusal_words, joined_words}
 use Rattle.bsc_script.specs.States.{State, Peer, is_named, told, joined_as, with_peer, without_name}
 use Rattle.bsc_script.specs.Calls.{called, reply_in, is_worn}
-use Rattle.bsc_script.specs.Carrying.{Outcome, quietly, writes, leaves_if, ends, closes, does, step_of, tells}
+use Rattle.bsc_script.specs.Carrying.{ScriptOutcome, quietly, writes, leaves_if, ends, closes, does, step_of, tells}
 use Rattle.bsc_script.specs.Receiving.{wears, gets_reply, connects, forwards_if, verdict_on, acts, silence, receives}
 use Rattle.bsc_script.specs.Emptying.{frame_lines, unwritten, given_frames, ends_as, empties}
 use Rattle.bsc_script.specs.Laws.{is_close, is_gone, EndsByClosing}
@@ -77,12 +77,12 @@ then_aside n (l ∷ xs) ys h g = (
 -- ---- a name that is over
 
 -- What is written closes a name as it should, and the name hasn't joined.
-pub record IsOver (n : List ℕ) (o : Outcome) : Type 0 where
+pub record IsOver (n : List ℕ) (o : ScriptOutcome) : Type 0 where
   pub lines : EndsByClosing n o.said
   pub others : AreOthers n o.state
 
 -- What is done to a peer writes plain lines of the name, or the name is that of the peer, and is over.
-abbrev pub EndsOnly : List ℕ → Peer → Outcome → Type 0
+abbrev pub EndsOnly : List ℕ → Peer → ScriptOutcome → Type 0
 EndsOnly n k o = ArePlain n o.said ⊎ ((k.name ≡ n) × IsOver n o)
 
 own_without : (n : List ℕ) (k : Peer) (s : State) → k.name ≡ n → AreOthers n (without_name k.name s)
@@ -129,14 +129,14 @@ closes_only n s k c =
     (λ other. inl ((λ e. absurd (other e)), aside_plain n (ends s k).said (left_aside n s k k.conn other)))
 
 -- plain lines before
-plain_first : (n : List ℕ) (k : Peer) (ls : List Said) (o : Outcome) → ArePlain n ls → EndsOnly n k o → EndsOnly n k (record { state = o.state; said = ls ++ o.said })
+plain_first : (n : List ℕ) (k : Peer) (ls : List Said) (o : ScriptOutcome) → ArePlain n ls → EndsOnly n k o → EndsOnly n k (record { state = o.state; said = ls ++ o.said })
 plain_first n k ls o h (inl g) = inl (all-push (λ (l : Said). l.name ≡ n → IsPlain l) ls o.said h g)
 plain_first n k ls o h (inr g) = inr (g.0, record { lines = plain_then n ls o.said h g.1.lines; others = g.1.others })
 
-one_plain : (n : List ℕ) (k : Peer) (words : List ℕ) (o : Outcome) → IsPlain (says k.name words) → EndsOnly n k o → EndsOnly n k (writes (says k.name words) o)
+one_plain : (n : List ℕ) (k : Peer) (words : List ℕ) (o : ScriptOutcome) → IsPlain (says k.name words) → EndsOnly n k o → EndsOnly n k (writes (says k.name words) o)
 one_plain n k words o h g = plain_first n k (says k.name words ∷ []) o ((λ e. h), tt) g
 
-either_only : (n : List ℕ) (k : Peer) (b : Bool) (x y : Outcome) → EndsOnly n k x → EndsOnly n k y → EndsOnly n k (cond b x y)
+either_only : (n : List ℕ) (k : Peer) (b : Bool) (x y : ScriptOutcome) → EndsOnly n k x → EndsOnly n k y → EndsOnly n k (cond b x y)
 either_only n k true x y f g = f
 either_only n k false x y f g = g
 

@@ -27,7 +27,7 @@ use Rattle.bsc_script.specs.Written.{says}
 use Rattle.bsc_lines.specs.Replies.{counts_words, forward_words}
 use Rattle.bsc_script.specs.States.{State, Peer, is_named, is_open, new_peer, peer_of, told, with_held, with_opened, with_peer}
 use Rattle.bsc_script.specs.Calls.{called, reply_in, is_worn}
-use Rattle.bsc_script.specs.Carrying.{Outcome, quietly, writes, leaves_if, ends, does, step_of, tells}
+use Rattle.bsc_script.specs.Carrying.{ScriptOutcome, quietly, writes, leaves_if, ends, does, step_of, tells}
 use Rattle.bsc_script.specs.Receiving.{wears, gets_reply, connects, forwards_if, verdict_on, acts, receives}
 use Rattle.bsc_script.specs.Running.{most_names, hub_says, gets_text, holds, latest, ticks_one, stops, says_counts, line_outcome}
 use Rattle.bsc_script.specs.Holding.{name_of}
@@ -150,7 +150,7 @@ does_stays s k q NoStep m isnt = m
 pub tells_stays : (s : State) (k q : Peer) (e : Event) → In q s.peers → is_named k.name q ≡ false → In q (tells s k e).state.peers
 tells_stays s k q e m isnt = does_stays (with_peer (told e k) s) (told e k) q (step_of s k e) (placed_other (told e k) q s.peers m isnt) isnt
 
-ticks_sound : (ks : List Peer) (o : Outcome) → IsSound o.state → Apart name_of ks → ((k : Peer) → In k ks → In k o.state.peers) → IsSound (fold ticks_one o ks).state
+ticks_sound : (ks : List Peer) (o : ScriptOutcome) → IsSound o.state → Apart name_of ks → ((k : Peer) → In k ks → In k o.state.peers) → IsSound (fold ticks_one o ks).state
 ticks_sound [] o h apart there = h
 ticks_sound (k ∷ ks) o h apart there =
     let e = Tick o.state.clock in
@@ -162,15 +162,15 @@ at_time s ms h = record { legal = h.legal; apart = h.apart; peers = h.peers; con
 
 -- ---- a line
 
-as_sound : (x o : Outcome) → x ≡ o → IsSound x.state → IsSound o.state
-as_sound x o e h = subst (λ (u : Outcome). IsSound u.state) e h
+as_sound : (x o : ScriptOutcome) → x ≡ o → IsSound x.state → IsSound o.state
+as_sound x o e h = subst (λ (u : ScriptOutcome). IsSound u.state) e h
 
 held_sound : (s : State) → IsSound s → (k : Peer) (held : Bool) → In k s.peers → IsSound (with_peer (with_held held k) s)
 held_sound s h k held m =
     let p = h.peers k m in
     changed_sound s h k (with_held held k) m refl refl (record { own = p.own; begins = p.begins; behind = p.behind; waits = p.waits; none = p.none })
 
-opening_sound : (s : State) → IsSound s → (name : List ℕ) (o : Outcome) (b : Bool) → is_open s name ≡ b → cond (not b && nat_lt (length s.peers) most_names) (Some (quietly (with_opened (new_peer name s.clock) s))) None ≡ Some o → IsSound o.state
+opening_sound : (s : State) → IsSound s → (name : List ℕ) (o : ScriptOutcome) (b : Bool) → is_open s name ≡ b → cond (not b && nat_lt (length s.peers) most_names) (Some (quietly (with_opened (new_peer name s.clock) s))) None ≡ Some o → IsSound o.state
 opening_sound s h name o true is e = cc
 opening_sound s h name o false is e =
     let x = quietly (with_opened (new_peer name s.clock) s) in
@@ -190,7 +190,7 @@ says_counts_sound s h = by (is_worn s) refl
     by true is = h
     by false is = quiet_sound s h Count (unworn s is) refl (λ c. refl)
 
-pub outcome_sound : (s : State) → IsSound s → (line : Line) (o : Outcome) → line_outcome s line ≡ Some o → IsSound o.state
+pub outcome_sound : (s : State) → IsSound s → (line : Line) (o : ScriptOutcome) → line_outcome s line ≡ Some o → IsSound o.state
 outcome_sound s h Nothing o e = as_sound (quietly s) o (same_some (quietly s) o e) h
 outcome_sound s h (Hub about) o e = cc
 outcome_sound s h (Open name) o e = opening_sound s h name o (is_open s name) refl e

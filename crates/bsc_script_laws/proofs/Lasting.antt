@@ -21,7 +21,7 @@ use Rattle.bsc_script.specs.Written.{Said}
 use Rattle.bsc_lines.specs.Replies.{counts_words}
 use Rattle.bsc_script.specs.States.{State, Peer, new_peer, is_open, peer_of, with_peer, with_opened, with_held}
 use Rattle.bsc_script.specs.Calls.{called, is_worn}
-use Rattle.bsc_script.specs.Carrying.{Outcome, quietly, writes, ends, tells}
+use Rattle.bsc_script.specs.Carrying.{ScriptOutcome, quietly, writes, ends, tells}
 use Rattle.bsc_script.specs.Receiving.{receives}
 use Rattle.bsc_script.specs.Emptying.{OnConnection, is_emptied, empties, emptied_one, emptied, in_order_of_joining}
 use Rattle.bsc_script.specs.Holding.{name_of}
@@ -37,10 +37,10 @@ use Rattle.bsc_script_laws.proofs.Once.{AtMostOne, OneIn, apart_one, ends_one, o
 -- ---- one peer after the other
 
 -- So far the name wrote plain lines, or it is over and none of these peers has it.
-abbrev pub SoFar : List ℕ → List Peer → Outcome → Type 0
+abbrev pub SoFar : List ℕ → List Peer → ScriptOutcome → Type 0
 SoFar n ks o = ArePlain n o.said ⊎ (IsOver n o × AllByRecursion (λ (q : Peer). q.name ≢ n) ks)
 
-next : (n : List ℕ) (p : Peer) (ks : List Peer) (o : Outcome) (u : Outcome) → AtMostOne n (p ∷ ks) → SoFar n (p ∷ ks) o → EndsOnly n p u → (p.name ≢ n → AreOthers n o.state → IsAside n u)
+next : (n : List ℕ) (p : Peer) (ks : List Peer) (o : ScriptOutcome) (u : ScriptOutcome) → AtMostOne n (p ∷ ks) → SoFar n (p ∷ ks) o → EndsOnly n p u → (p.name ≢ n → AreOthers n o.state → IsAside n u)
     → SoFar n ks (record { state = u.state; said = o.said ++ u.said })
 next n p ks o u one (inl f) (inl g) aside = inl (all-push (λ (l : Said). l.name ≡ n → IsPlain l) o.said u.said f g)
 next n p ks o u one (inl f) (inr g) aside = inr (record { lines = plain_then n o.said u.said f g.1.lines; others = g.1.others }, one.0 g.0)
@@ -48,21 +48,21 @@ next n p ks o u one (inr v) g aside =
     let a = aside v.1.0 v.0.others in
     inr (record { lines = then_aside n o.said u.said v.0.lines a.lines; others = a.others }, v.1.1)
 
-ticks_so_far : (n : List ℕ) (ks : List Peer) (o : Outcome) → AtMostOne n ks → SoFar n ks o → SoFar n [] (fold ticks_one o ks)
+ticks_so_far : (n : List ℕ) (ks : List Peer) (o : ScriptOutcome) → AtMostOne n ks → SoFar n ks o → SoFar n [] (fold ticks_one o ks)
 ticks_so_far n [] o one h = h
 ticks_so_far n (k ∷ ks) o one h =
     let e = Tick o.state.clock in
     ticks_so_far n ks (ticks_one o k) one.1 (next n k ks o (tells o.state k e) one h (tells_only n o.state k e) (λ other others. tells_aside n o.state k e other others))
 
-skipped : (n : List ℕ) (p : Peer) (ks : List Peer) (o : Outcome) → SoFar n (p ∷ ks) o → SoFar n ks o
+skipped : (n : List ℕ) (p : Peer) (ks : List Peer) (o : ScriptOutcome) → SoFar n (p ∷ ks) o → SoFar n ks o
 skipped n p ks o (inl f) = inl f
 skipped n p ks o (inr v) = inr (v.0, v.1.1)
 
-either_so_far : (n : List ℕ) (ks : List Peer) (b : Bool) (x y : Outcome) → SoFar n ks x → SoFar n ks y → SoFar n ks (cond b x y)
+either_so_far : (n : List ℕ) (ks : List Peer) (b : Bool) (x y : ScriptOutcome) → SoFar n ks x → SoFar n ks y → SoFar n ks (cond b x y)
 either_so_far n ks true x y f g = f
 either_so_far n ks false x y f g = g
 
-emptied_so_far : (n : List ℕ) (xs : List OnConnection) (o : Outcome) → AtMostOne n (map (λ (x : OnConnection). x.peer) xs) → SoFar n (map (λ (x : OnConnection). x.peer) xs) o → SoFar n [] (fold emptied_one o xs)
+emptied_so_far : (n : List ℕ) (xs : List OnConnection) (o : ScriptOutcome) → AtMostOne n (map (λ (x : OnConnection). x.peer) xs) → SoFar n (map (λ (x : OnConnection). x.peer) xs) o → SoFar n [] (fold emptied_one o xs)
 emptied_so_far n [] o one h = h
 emptied_so_far n (x ∷ xs) o one h =
     let ks = map (λ (y : OnConnection). y.peer) xs in
@@ -75,30 +75,30 @@ emptied_so_far n (x ∷ xs) o one h =
 -- ---- a line, before the outboxes are emptied
 
 -- The name wrote plain lines, or is over; and it is open once at most.
-pub record IsFit (n : List ℕ) (o : Outcome) : Type 0 where
+pub record IsFit (n : List ℕ) (o : ScriptOutcome) : Type 0 where
   pub lines : SoFar n [] o
   pub one : OneIn n o.state
 
-only_so_far : (n : List ℕ) (k : Peer) (o : Outcome) → EndsOnly n k o → SoFar n [] o
+only_so_far : (n : List ℕ) (k : Peer) (o : ScriptOutcome) → EndsOnly n k o → SoFar n [] o
 only_so_far n k o (inl f) = inl f
 only_so_far n k o (inr g) = inr (g.1, tt)
 
-as_fit : (n : List ℕ) (x o : Outcome) → x ≡ o → IsFit n x → IsFit n o
+as_fit : (n : List ℕ) (x o : ScriptOutcome) → x ≡ o → IsFit n x → IsFit n o
 as_fit n x o e h = subst (IsFit n) e h
 
 quiet_fit : (n : List ℕ) (s : State) → OneIn n s → IsFit n (quietly s)
 quiet_fit n s h = record { lines = inl tt; one = h }
 
-either_fit : (n : List ℕ) (b : Bool) (x y : Outcome) → IsFit n x → IsFit n y → IsFit n (cond b x y)
+either_fit : (n : List ℕ) (b : Bool) (x y : ScriptOutcome) → IsFit n x → IsFit n y → IsFit n (cond b x y)
 either_fit n true x y f g = f
 either_fit n false x y f g = g
 
-outcome_fit : (n : List ℕ) (s : State) (line : Line) (o : Outcome) → OneIn n s → line_outcome s line ≡ Some o → IsFit n o
+outcome_fit : (n : List ℕ) (s : State) (line : Line) (o : ScriptOutcome) → OneIn n s → line_outcome s line ≡ Some o → IsFit n o
 outcome_fit n s Nothing o h e = as_fit n (quietly s) o (same_some (quietly s) o e) (quiet_fit n s h)
 outcome_fit n s (Hub about) o h e = cc
 outcome_fit n s (Open name) o h e = opening (is_open s name) refl e
   where
-    x : Outcome
+    x : ScriptOutcome
     x = quietly (with_opened (new_peer name s.clock) s)
 
     opening : (b : Bool) → is_open s name ≡ b → cond (not b && nat_lt (length s.peers) most_names) (Some x) None ≡ Some o → IsFit n o
@@ -140,11 +140,11 @@ all_on : (n : List ℕ) (xs : List OnConnection) → AllByRecursion (λ (x : OnC
 all_on n [] h = tt
 all_on n (x ∷ xs) h = (h.0, all_on n xs h.1)
 
-before_emptied : (n : List ℕ) (u : Outcome) → SoFar n [] u → SoFar n (peers_on (in_order_of_joining u.state)) u
+before_emptied : (n : List ℕ) (u : ScriptOutcome) → SoFar n [] u → SoFar n (peers_on (in_order_of_joining u.state)) u
 before_emptied n u (inl f) = inl f
 before_emptied n u (inr v) = inr (v.0, all_on n (in_order_of_joining u.state) (in_order_others n (unleft u.state.history) u.state.peers v.0.others))
 
-so_far_ends : (n : List ℕ) (o : Outcome) → SoFar n [] o → EndsByClosing n o.said
+so_far_ends : (n : List ℕ) (o : ScriptOutcome) → SoFar n [] o → EndsByClosing n o.said
 so_far_ends n o (inl f) = plain_ends n o.said f
 so_far_ends n o (inr v) = v.0.lines
 
@@ -152,7 +152,7 @@ legal_before : (a : About) (H more : List Entry) → Legal a (H ++ more) → Leg
 legal_before a H [] h = subst (Legal a) (append-nil H) h
 legal_before a H (e ∷ more) h = (Legal-front a H e (legal_before a (H ++ e ∷ []) more (subst (Legal a) (sym (append_assoc H (e ∷ []) more)) h))).0
 
-emptied_ends : (n : List ℕ) (a : About) (u : Outcome) → Legal a (emptied u).state.history → IsFit n u → EndsByClosing n (emptied u).said
+emptied_ends : (n : List ℕ) (a : About) (u : ScriptOutcome) → Legal a (emptied u).state.history → IsFit n u → EndsByClosing n (emptied u).said
 emptied_ends n a u legal fit =
     let xs = in_order_of_joining u.state in
     let more = all_emptied_added (λ e. ⊤) (λ e c l. tt) u.state.about u.state.history xs u (nothing_added (λ e. ⊤) u.state) in
@@ -160,9 +160,9 @@ emptied_ends n a u legal fit =
     let one = subst (AtMostOne n) (sym (peers_joined u.state.peers (unleft u.state.history))) (one_joined n u.state.peers (unleft u.state.history) fit.one (numbers_are_new a u.state.history before)) in
     so_far_ends n (emptied u) (emptied_so_far n xs u one (before_emptied n u fit.lines))
 
-pub line_ends : (n : List ℕ) (a : About) (s : State) → Apart name_of s.peers → (line : Line) (o : Outcome) → Legal a o.state.history → run_line s line ≡ Some o → EndsByClosing n o.said
+pub line_ends : (n : List ℕ) (a : About) (s : State) → Apart name_of s.peers → (line : Line) (o : ScriptOutcome) → Legal a o.state.history → run_line s line ≡ Some o → EndsByClosing n o.said
 unfolding run_line
 line_ends n a s apart line o legal e =
     let u = then_emptied (line_outcome s line) o e in
-    subst (λ (w : Outcome). EndsByClosing n w.said) u.2
-    (emptied_ends n a u.0 (subst (λ (w : Outcome). Legal a w.state.history) (sym u.2) legal) (outcome_fit n s line u.0 (apart_one n s.peers apart) u.1))
+    subst (λ (w : ScriptOutcome). EndsByClosing n w.said) u.2
+    (emptied_ends n a u.0 (subst (λ (w : ScriptOutcome). Legal a w.state.history) (sym u.2) legal) (outcome_fit n s line u.0 (apart_one n s.peers apart) u.1))

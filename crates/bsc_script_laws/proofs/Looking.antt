@@ -11,7 +11,7 @@ use Rattle.bsc_accept.specs.declared.event.Event.{Event}
 use Rattle.bsc_script.specs.declared.line.Line.{Line}
 use Rattle.bsc_script.specs.States.{State, Peer, is_named, has_joined_as, told, peer_of, with_peer}
 use Rattle.bsc_script.specs.Calls.{written_in, written_for}
-use Rattle.bsc_script.specs.Carrying.{Outcome}
+use Rattle.bsc_script.specs.Carrying.{ScriptOutcome}
 use Rattle.bsc_script.specs.Holding.{name_of}
 use Rattle.bsc_script.specs.Running.{run_line}
 use Rattle.bsc_script.specs.Laws.{LooksAtWritten}
@@ -92,7 +92,7 @@ all_found s t (c ∷ cs) h = (h c, all_found s t cs h)
 plain_looks : (s : State) (e : Entry) → e.looks ≡ [] → LooksAtWritten s e
 plain_looks s e none = subst (λ (ls : List Look). AllByRecursion (λ (l : Look). l.taken ≡ written_for s l.conn) ls) (sym none) tt
 
-pub line_looks : (s : State) → Apart name_of s.peers → (line : Line) (o : Outcome) → run_line s line ≡ Some o → Adds (LooksAtWritten s) s.about s.history o.state
+pub line_looks : (s : State) → Apart name_of s.peers → (line : Line) (o : ScriptOutcome) → run_line s line ≡ Some o → Adds (LooksAtWritten s) s.about s.history o.state
 line_looks s apart line o e =
     line_added (LooksAtWritten s) (λ x c l. plain_looks s x l) s
     (λ name k v c m is. all_found s (with_peer (told v k) s) (looks_at s.history (Forward c m)) (λ d. told_written s name k v d apart is))
@@ -102,10 +102,10 @@ pub drop-front : {A : Type 0} (xs ys : List A) → drop (length xs) (xs ++ ys) �
 drop-front [] ys = refl
 drop-front (x ∷ xs) ys = drop-front xs ys
 
-pub looks_of : (s : State) → Apart name_of s.peers → (line : Line) (o : Outcome) → run_line s line ≡ Some o → AllByRecursion (LooksAtWritten s) (drop (length s.history) o.state.history)
+pub looks_of : (s : State) → Apart name_of s.peers → (line : Line) (o : ScriptOutcome) → run_line s line ≡ Some o → AllByRecursion (LooksAtWritten s) (drop (length s.history) o.state.history)
 looks_of s apart line o e =
     let a = line_looks s apart line o e in
     subst (λ (l : List Entry). AllByRecursion (LooksAtWritten s) l) (sym (ap (drop (length s.history)) a.behind ∙ drop-front s.history a.more)) a.each
 
-pub behind_of : (s : State) → Apart name_of s.peers → (line : Line) (o : Outcome) → run_line s line ≡ Some o → (more : List Entry) × (o.state.history ≡ s.history ++ more)
+pub behind_of : (s : State) → Apart name_of s.peers → (line : Line) (o : ScriptOutcome) → run_line s line ≡ Some o → (more : List Entry) × (o.state.history ≡ s.history ++ more)
 behind_of s apart line o e = (let a = line_looks s apart line o e in (a.more, a.behind))

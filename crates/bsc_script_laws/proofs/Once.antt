@@ -16,7 +16,7 @@ use Rattle.bsc_script.specs.Written.{says}
 use Rattle.bsc_lines.specs.Replies.{forward_words}
 use Rattle.bsc_script.specs.States.{State, Peer, is_named, has_joined_as, told, joined_as, with_peer}
 use Rattle.bsc_script.specs.Calls.{called, reply_in, is_worn}
-use Rattle.bsc_script.specs.Carrying.{Outcome, quietly, writes, leaves_if, ends, does, step_of, tells}
+use Rattle.bsc_script.specs.Carrying.{ScriptOutcome, quietly, writes, leaves_if, ends, does, step_of, tells}
 use Rattle.bsc_script.specs.Receiving.{wears, gets_reply, connects, forwards_if, verdict_on, acts, receives}
 use Rattle.bsc_script.specs.Emptying.{OnConnection}
 use Rattle.bsc_script.specs.Holding.{name_of}
@@ -74,7 +74,7 @@ one_pushed n (p ∷ ks) k h new = (
 abbrev pub OneIn : List ℕ → State → Type 0
 OneIn n s = AtMostOne n s.peers
 
-either_one : (n : List ℕ) (b : Bool) (x y : Outcome) → OneIn n x.state → OneIn n y.state → OneIn n (cond b x y).state
+either_one : (n : List ℕ) (b : Bool) (x y : ScriptOutcome) → OneIn n x.state → OneIn n y.state → OneIn n (cond b x y).state
 either_one n true x y f g = f
 either_one n false x y f g = g
 
@@ -131,7 +131,7 @@ receives_one n s k m h =
     let e = Came s.clock (verdict_on s k m) in
     acts_one n (with_peer (told e k) s) (told e k) m (step_of s k e) (one_mapped n (told e k) s.peers h)
 
-pub ticks_one_kept : (n : List ℕ) (ks : List Peer) (o : Outcome) → OneIn n o.state → OneIn n (fold ticks_one o ks).state
+pub ticks_one_kept : (n : List ℕ) (ks : List Peer) (o : ScriptOutcome) → OneIn n o.state → OneIn n (fold ticks_one o ks).state
 ticks_one_kept n [] o h = h
 ticks_one_kept n (k ∷ ks) o h = ticks_one_kept n ks (ticks_one o k) (tells_one n o.state k (Tick o.state.clock) h)
 

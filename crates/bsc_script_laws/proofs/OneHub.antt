@@ -10,7 +10,7 @@ use Rattle.bsc_ring.specs.Lists.{StartsWith}
 use Rattle.bsc_accept.specs.Past.{phase}
 use Rattle.bsc_script.specs.declared.line.Line.{Line}
 use Rattle.bsc_script.specs.States.{State, new_hub}
-use Rattle.bsc_script.specs.Carrying.{Outcome}
+use Rattle.bsc_script.specs.Carrying.{ScriptOutcome}
 use Rattle.bsc_script.specs.Emptying.{is_connected, unwritten_after}
 use Rattle.bsc_script.specs.Running.{line_outcome, run_line}
 use Rattle.bsc_script.specs.Laws.{IsOfOneHub, WritesInOrder, WritesAll, after_lines}
@@ -32,13 +32,13 @@ new_rests a = record {
 }
 
 -- A line leaves a state at rest.
-pub line_rests : (s : State) → AtRest s → (line : Line) (o : Outcome) → run_line s line ≡ Some o → AtRest o.state
+pub line_rests : (s : State) → AtRest s → (line : Line) (o : ScriptOutcome) → run_line s line ≡ Some o → AtRest o.state
 unfolding run_line
 line_rests s h line o e =
     let u = then_emptied (line_outcome s line) o e in
-    subst (λ (w : Outcome). AtRest w.state) u.2 (emptied_rests u.0 (outcome_sound s h.sound line u.0 u.1))
+    subst (λ (w : ScriptOutcome). AtRest w.state) u.2 (emptied_rests u.0 (outcome_sound s h.sound line u.0 u.1))
 
-rests_by : (s u : State) (line : Line) (lines : List Line) (p : Option Outcome) → run_line s line ≡ p → AtRest s → ((t : State) → AtRest t → after_lines (Some t) lines ≡ Some u → AtRest u)
+rests_by : (s u : State) (line : Line) (lines : List Line) (p : Option ScriptOutcome) → run_line s line ≡ p → AtRest s → ((t : State) → AtRest t → after_lines (Some t) lines ≡ Some u → AtRest u)
     → after_lines (state_of p) lines ≡ Some u → AtRest u
 rests_by s u line lines None is h later e = absurd (none_after lines u e)
 rests_by s u line lines (Some o) is h later e = later o.state (line_rests s h line o is) e

@@ -23,7 +23,7 @@ use Rattle.bsc_accept.proofs.Looking.{standing-more}
 use Rattle.bsc_ring.specs.Lists.{StartsWith}
 use Rattle.bsc_script.specs.States.{State, Peer, has_joined_as, is_named, told, with_peer}
 use Rattle.bsc_script.specs.Calls.{entry_in, leave_of}
-use Rattle.bsc_script.specs.Carrying.{Outcome, and_then, does, leaves_if}
+use Rattle.bsc_script.specs.Carrying.{ScriptOutcome, and_then, does, leaves_if}
 use Rattle.bsc_script.specs.Emptying.{OnConnection, due_after, emptied, emptied_after, emptied_one, empties, ends_as, found_empty, given_frames, in_order_of_joining, is_connected, is_emptied, unwritten}
 use Rattle.bsc_script.specs.Holding.{name_of, conn_of}
 use Rattle.bsc_script.proofs.Peers.{conn_has, has_conn, name_same, other_name}
@@ -220,7 +220,7 @@ ending_emptied s h k c m is due (Some ending) over = over_emptied s h k c m is d
 
 -- After something these outboxes are still to be looked at: what comes of it is sound, they are those of peers that are
 -- there, each once, and no other is to be emptied.
-pub record Round (xs : List OnConnection) (o : Outcome) : Type 0 where
+pub record Round (xs : List OnConnection) (o : ScriptOutcome) : Type 0 where
   pub sound : IsSound o.state
   pub one : (n : List ℕ) → AtMostOne n (peers_on xs)
   pub there : (x : OnConnection) → In x xs → In x.peer o.state.peers × (x.peer.conn ≡ Some x.conn)
@@ -231,7 +231,7 @@ pub record AtRest (s : State) : Type 0 where
   pub sound : IsSound s
   pub rests : (k : Peer) (c : ℕ) → In k s.peers → k.conn ≡ Some c → is_emptied s k c ≡ false
 
-skipped : (x : OnConnection) (xs : List OnConnection) (o : Outcome) → Round (x ∷ xs) o → is_emptied o.state x.peer x.conn ≡ false → Round xs o
+skipped : (x : OnConnection) (xs : List OnConnection) (o : ScriptOutcome) → Round (x ∷ xs) o → is_emptied o.state x.peer x.conn ≡ false → Round xs o
 skipped x xs o r isnt = record {
   sound = r.sound;
   one = λ n. (r.one n).1;
@@ -244,7 +244,7 @@ skipped x xs o r isnt = record {
     by k c (inl (inr i)) = inl i
     by k c (inr f) = inr f
 
-emptied_next : (x : OnConnection) (xs : List OnConnection) (o u : Outcome) → Round (x ∷ xs) o → IsEmptied x.peer x.conn o.state u.state → Round xs u
+emptied_next : (x : OnConnection) (xs : List OnConnection) (o u : ScriptOutcome) → Round (x ∷ xs) o → IsEmptied x.peer x.conn o.state u.state → Round xs u
 emptied_next x xs o u r e = record {
   sound = e.sound;
   one = λ n. (r.one n).1;
@@ -264,10 +264,10 @@ emptied_next x xs o u r e = record {
     by q d f (inl g) = was q d f g.0 g.1 (r.due q d g.0 f)
     by q d f (inr rest) = inr (rest d f)
 
-round_next : (x : OnConnection) (xs : List OnConnection) (o : Outcome) → Round (x ∷ xs) o → Round xs (emptied_one o x)
+round_next : (x : OnConnection) (xs : List OnConnection) (o : ScriptOutcome) → Round (x ∷ xs) o → Round xs (emptied_one o x)
 round_next x xs o r = by (is_emptied o.state x.peer x.conn) refl
   where
-    more : Outcome
+    more : ScriptOutcome
     more = and_then o (λ t. empties t x.peer x.conn)
 
     here : In x.peer o.state.peers × (x.peer.conn ≡ Some x.conn)
@@ -277,7 +277,7 @@ round_next x xs o r = by (is_emptied o.state x.peer x.conn) refl
     by true is = emptied_next x xs o more r (ending_emptied o.state r.sound x.peer x.conn here.0 here.1 is (ended o.state.history x.conn) refl)
     by false is = skipped x xs o r is
 
-round_ends : (xs : List OnConnection) (o : Outcome) → Round xs o → AtRest (fold emptied_one o xs).state
+round_ends : (xs : List OnConnection) (o : ScriptOutcome) → Round xs o → AtRest (fold emptied_one o xs).state
 round_ends [] o r = record { sound = r.sound; rests = λ k c m e. by k c (r.due k c m e) }
   where
     by : (k : Peer) (c : ℕ) → In (on c k) [] ⊎ (is_emptied o.state k c ≡ false) → is_emptied o.state k c ≡ false
@@ -312,7 +312,7 @@ joining_in ks (c ∷ cs) x k (inl same) m e =
 joining_in ks (c ∷ cs) x k (inr i) m e =
     In-right (on x.number k) (map (λ (j : Peer). record { conn = c.number; peer = j }) (filter (has_joined_as c.number) ks)) (in_order ks cs) (joining_in ks cs x k i m e)
 
-round_begins : (o : Outcome) → IsSound o.state → Round (in_order_of_joining o.state) o
+round_begins : (o : ScriptOutcome) → IsSound o.state → Round (in_order_of_joining o.state) o
 round_begins o h = record {
   sound = h;
   one = λ n. subst (AtMostOne n) (sym (peers_joined ks cs)) (one_joined n ks cs (apart_one n ks h.apart) (numbers_are_new o.state.about o.state.history h.legal));
@@ -332,5 +332,5 @@ round_begins o h = record {
         subst (λ (n : ℕ). In (on n k) (in_order ks cs)) number (joining_in ks cs r.0 k r.1 m (e ∙ ap Some (sym number)))
 
 -- Once the outboxes are emptied, none is to be emptied.
-pub emptied_rests : (o : Outcome) → IsSound o.state → AtRest (emptied o).state
+pub emptied_rests : (o : ScriptOutcome) → IsSound o.state → AtRest (emptied o).state
 emptied_rests o h = round_ends (in_order_of_joining o.state) o (round_begins o h)

@@ -19,7 +19,7 @@ use Rattle.bsc_history.proofs.More.{looked-more, sent-more}
 use Rattle.bsc_checks.specs.declared.phase.Phase.TheVariants.{AwaitingRequest}
 use Rattle.bsc_accept.specs.Past.{phase}
 use Rattle.bsc_ring.specs.Lists.{StartsWith}
-use Rattle.bsc_desk.proofs.Histories.{live_unended}
+use Rattle.bsc_history.proofs.Connections.{live_unended}
 use Rattle.bsc_script.specs.States.{State, Peer, has_joined_as, is_named, peer_on}
 use Rattle.bsc_script.specs.Calls.{entry_in, looks_in, written_for, written_in}
 use Rattle.bsc_script.specs.Holding.{name_of, conn_of}

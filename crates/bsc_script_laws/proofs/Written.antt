@@ -21,7 +21,7 @@ use Rattle.bsc_script.specs.Written.{Said, says}
 use Rattle.bsc_lines.specs.Replies.{counts_words, forward_words}
 use Rattle.bsc_script.specs.States.{State, Peer, is_named, has_joined_as, new_peer, told, joined_as, is_open, peer_of, with_peer, with_opened, without_name, with_held}
 use Rattle.bsc_script.specs.Calls.{called, reply_in, is_worn}
-use Rattle.bsc_script.specs.Carrying.{Outcome, quietly, writes, leaves_if, ends, does, step_of, tells}
+use Rattle.bsc_script.specs.Carrying.{ScriptOutcome, quietly, writes, leaves_if, ends, does, step_of, tells}
 use Rattle.bsc_script.specs.Receiving.{wears, gets_reply, connects, forwards_if, verdict_on, acts, receives}
 use Rattle.bsc_script.specs.Emptying.{OnConnection, frame_lines, unwritten, given_frames, found_empty, is_emptied, ends_as, empties, emptied_one, emptied, in_order_of_joining}
 use Rattle.bsc_script.specs.Holding.{name_of}
@@ -77,7 +77,7 @@ alone_frames : (n : List ℕ) (k : Peer) (ks : List Peer) → IsAloneIn n k ks �
 alone_frames n k [] h = tt
 alone_frames n k (p ∷ ks) h = ((λ e. ap (λ (q : Peer). q.frames) (h.0 (name_same p.name n e))), alone_frames n k ks h.1)
 
-either_frames : (n : List ℕ) (F : List (List ℕ)) (b : Bool) (x y : Outcome) → HaveFrames n F x.state → HaveFrames n F y.state → HaveFrames n F (cond b x y).state
+either_frames : (n : List ℕ) (F : List (List ℕ)) (b : Bool) (x y : ScriptOutcome) → HaveFrames n F x.state → HaveFrames n F y.state → HaveFrames n F (cond b x y).state
 either_frames n F true x y f g = f
 either_frames n F false x y f g = g
 
@@ -137,22 +137,22 @@ receives_frames n F s k m has h =
     let e = Came s.clock (verdict_on s k m) in
     acts_frames n F (with_peer (told e k) s) (told e k) m (step_of s k e) has (frames_mapped n F (told e k) s.peers has h)
 
-ticks_frames : (n : List ℕ) (F : List (List ℕ)) (ks : List Peer) (o : Outcome) → AllByRecursion (HasFrames n F) ks → HaveFrames n F o.state → HaveFrames n F (fold ticks_one o ks).state
+ticks_frames : (n : List ℕ) (F : List (List ℕ)) (ks : List Peer) (o : ScriptOutcome) → AllByRecursion (HasFrames n F) ks → HaveFrames n F o.state → HaveFrames n F (fold ticks_one o ks).state
 ticks_frames n F [] o have h = h
 ticks_frames n F (k ∷ ks) o have h = ticks_frames n F ks (ticks_one o k) have.1 (tells_frames n F o.state k (Tick o.state.clock) have.0 h)
 
-as_frames : (n : List ℕ) (F : List (List ℕ)) (x o : Outcome) → x ≡ o → HaveFrames n F x.state → HaveFrames n F o.state
-as_frames n F x o e h = subst (λ (u : Outcome). HaveFrames n F u.state) e h
+as_frames : (n : List ℕ) (F : List (List ℕ)) (x o : ScriptOutcome) → x ≡ o → HaveFrames n F x.state → HaveFrames n F o.state
+as_frames n F x o e h = subst (λ (u : ScriptOutcome). HaveFrames n F u.state) e h
 
 opened_has : (n name : List ℕ) (F : List (List ℕ)) (now : ℕ) → name ≢ n → HasFrames n F (new_peer name now)
 opened_has n name F now other = λ e. absurd (other e)
 
-outcome_frames : (n : List ℕ) (k : Peer) (s : State) (line : Line) (o : Outcome) → peer_of s n ≡ Some k → HaveFrames n k.frames s → line_outcome s line ≡ Some o → HaveFrames n k.frames o.state
+outcome_frames : (n : List ℕ) (k : Peer) (s : State) (line : Line) (o : ScriptOutcome) → peer_of s n ≡ Some k → HaveFrames n k.frames s → line_outcome s line ≡ Some o → HaveFrames n k.frames o.state
 outcome_frames n k s Nothing o own h e = as_frames n k.frames (quietly s) o (same_some (quietly s) o e) h
 outcome_frames n k s (Hub about) o own h e = cc
 outcome_frames n k s (Open name) o own h e = opening (is_open s name) refl e
   where
-    x : Outcome
+    x : ScriptOutcome
     x = quietly (with_opened (new_peer name s.clock) s)
 
     -- a name that opens isn't open, and n is
@@ -266,7 +266,7 @@ pub record HasNew (n : List ℕ) (F : List (List ℕ)) (said : List Said) (j : P
   pub tail : List Said
   pub text : said ≡ head ++ frame_lines n new ++ tail
 
-abbrev pub WritesNew : List ℕ → List (List ℕ) → Outcome → Type 0
+abbrev pub WritesNew : List ℕ → List (List ℕ) → ScriptOutcome → Type 0
 WritesNew n F o = (j : Peer) → peer_of o.state n ≡ Some j → HasNew n F o.said j
 
 -- what is written behind changes nothing
@@ -280,14 +280,14 @@ behind_new n F said more j h = record {
       ap (λ (l : List Said). l ++ more) h.text ∙ append_assoc (h.head ++ frame_lines n h.new) h.tail more;
 }
 
-emptied_new : (n : List ℕ) (F : List (List ℕ)) (o : Outcome) (k : Peer) (c : ℕ) → HasFrames n F k → WritesNew n F o
+emptied_new : (n : List ℕ) (F : List (List ℕ)) (o : ScriptOutcome) (k : Peer) (c : ℕ) → HasFrames n F k → WritesNew n F o
     → WritesNew n F (record { state = (empties o.state k c).state; said = o.said ++ (empties o.state k c).said })
 emptied_new n F o k c has h = by (is_named n k) refl
   where
     frames : List (List ℕ)
     frames = unwritten o.state k c
 
-    last : Outcome
+    last : ScriptOutcome
     last = ends_as o.state (given_frames frames k) (ended o.state.history c)
 
     by : (b : Bool) → is_named n k ≡ b → WritesNew n F (record { state = last.state; said = o.said ++ (frame_lines k.name frames ++ last.said) })
@@ -304,11 +304,11 @@ emptied_new n F o k c has h = by (is_named n k) refl
         let other : k.name ≢ n = λ e. true≢false (sym (name_same k.name n e) ∙ is) in
         λ j found. behind_new n F o.said (frame_lines k.name frames ++ last.said) j (h j (sym (other_ended n o.state (given_frames frames k) (ended o.state.history c) other) ∙ found))
 
-either_new : (n : List ℕ) (F : List (List ℕ)) (b : Bool) (x y : Outcome) → WritesNew n F x → WritesNew n F y → WritesNew n F (cond b x y)
+either_new : (n : List ℕ) (F : List (List ℕ)) (b : Bool) (x y : ScriptOutcome) → WritesNew n F x → WritesNew n F y → WritesNew n F (cond b x y)
 either_new n F true x y f g = f
 either_new n F false x y f g = g
 
-all_emptied_new : (n : List ℕ) (F : List (List ℕ)) (xs : List OnConnection) (o : Outcome) → AllByRecursion (λ (x : OnConnection). HasFrames n F x.peer) xs → WritesNew n F o → WritesNew n F (fold emptied_one o xs)
+all_emptied_new : (n : List ℕ) (F : List (List ℕ)) (xs : List OnConnection) (o : ScriptOutcome) → AllByRecursion (λ (x : OnConnection). HasFrames n F x.peer) xs → WritesNew n F o → WritesNew n F (fold emptied_one o xs)
 all_emptied_new n F [] o has h = h
 all_emptied_new n F (x ∷ xs) o has h =
     all_emptied_new n F xs (emptied_one o x) has.1
@@ -336,7 +336,7 @@ in_order_frames n F (x ∷ xs) ks h =
     (on_frames n F x.number ks h) (in_order_frames n F xs ks h)
 
 -- Before the outboxes are emptied nothing is new.
-none_new : (n : List ℕ) (F : List (List ℕ)) (o : Outcome) → HaveFrames n F o.state → WritesNew n F o
+none_new : (n : List ℕ) (F : List (List ℕ)) (o : ScriptOutcome) → HaveFrames n F o.state → WritesNew n F o
 none_new n F o h = λ j found. record {
   new = [];
   frames = found_frames n n F j o.state.peers h found (found_name n j o.state.peers found) ∙ sym (append-nil F);
@@ -345,7 +345,7 @@ none_new n F o h = λ j found. record {
   text = sym (append-nil o.said) ∙ sym (append-nil (o.said ++ []));
 }
 
-all_new : (n : List ℕ) (F : List (List ℕ)) (o : Outcome) → HaveFrames n F o.state → WritesNew n F (emptied o)
+all_new : (n : List ℕ) (F : List (List ℕ)) (o : ScriptOutcome) → HaveFrames n F o.state → WritesNew n F (emptied o)
 all_new n F o h = all_emptied_new n F (in_order_of_joining o.state) o (in_order_frames n F (unleft o.state.history) o.state.peers h) (none_new n F o h)
 
 -- ---- a line
@@ -355,7 +355,7 @@ are_written n k j said name h =
     let new : drop (length k.frames) j.frames ≡ h.new = ap (drop (length k.frames)) h.frames ∙ drop-front k.frames h.new in
     (h.head, h.tail, h.text ∙ ap (λ (m : List ℕ). h.head ++ frame_lines m h.new ++ h.tail) (sym name) ∙ ap (λ (l : List (List ℕ)). h.head ++ frame_lines j.name l ++ h.tail) (sym new))
 
-pub line_written : (s : State) → Apart name_of s.peers → (line : Line) (o : Outcome) → run_line s line ≡ Some o → (name : List ℕ) (k j : Peer) → peer_of s name ≡ Some k → peer_of o.state name ≡ Some j → AreWritten k j o.said
+pub line_written : (s : State) → Apart name_of s.peers → (line : Line) (o : ScriptOutcome) → run_line s line ≡ Some o → (name : List ℕ) (k j : Peer) → peer_of s name ≡ Some k → peer_of o.state name ≡ Some j → AreWritten k j o.said
 unfolding run_line
 line_written s apart line o e name k j before after =
     let u = then_emptied (line_outcome s line) o e in

@@ -12,17 +12,16 @@ ghost use Rattle.bsc_serve.specs.Terms.{all_terms};
 ghost use Rattle.bsc_serve.specs.Worlds.{ServeWorld};
 
 use crate::halt::Halt;
+use crate::parts::ServingParts;
+use crate::served::ServedHub;
 use crate::starting::start_session;
 use crate::taking_in::take_ended;
 use crate::tally::Tally;
-use crate::terms::ServeTerms;
 use bsc_edge::{Acceptor, Arrived, Clock, Journals, Link, LinkFault, Spawner};
-use bsc_hub::{Hub, Pass};
+use bsc_hub::Pass;
 use bsc_outside::Sink;
-use bsc_policy::Policy;
 use bsc_session::SessionJob;
-use std::alloc::Global;
-use std::sync::{Arc, Wait};
+use std::sync::Wait;
 
 /// How long the acceptor is asked for a link at a time, in milliseconds.
 const WAIT_MS: u32 = 20;
@@ -50,62 +49,50 @@ fn take_next<
     J: Journals<N>,
     P: Spawner<SessionJob<L, C, N>>,
 >(
-    rt: &R,
-    alloc: Global,
-    hub: &Arc<Hub>,
+    served: ServedHub<'_, R>,
     pass: &mut Pass,
-    terms: &ServeTerms,
-    prefix: Option<&str>,
-    policy: &Option<Arc<Policy>>,
-    journals: &mut J,
-    clock: &C,
-    acceptor: &mut A,
-    spawner: &mut P,
+    parts: &mut ServingParts<A, C, P, J>,
     tally: &mut Tally,
 ) -> Option<Halt>
-    requires can { P.can_start spawner.old }
-    requires pass { IsCaller (arc_value hub.now) pass.old }
+    requires can { P.can_start parts.old.spawner }
+    requires pass { IsCaller (arc_value served.hub.now) pass.old }
     requires awaits { tally.old.remaining ≢ Some 0 }
-    ensures again { P.can_start spawner.new }
+    ensures again { P.can_start parts.new.spawner }
     ensures taken { (first : ServeWorld L C N) →
-        Taken (Worked L.talk L.faults C.readings N.held N.faults) J.begins (arc_value hub.now)
-        (all_terms terms.now (option_map (λ p. p.now) prefix.entry) (policy_of policy.now)) first
+        Taken (Worked L.talk L.faults C.readings N.held N.faults) J.begins (arc_value served.entry.hub.now)
+        (all_terms served.entry.terms (option_map (λ p. p.now) served.entry.prefix) (policy_of served.entry.policy.now)) first
         (record {
           pass = pass.old;
-          links = A.left acceptor.old;
-          waits = A.waits acceptor.old;
-          jobs = P.jobs spawner.old;
-          out = P.out spawner.old;
-          unstarted = P.faults spawner.old;
+          links = A.left parts.old.acceptor;
+          waits = A.waits parts.old.acceptor;
+          jobs = P.jobs parts.old.spawner;
+          out = P.out parts.old.spawner;
+          unstarted = P.faults parts.old.spawner;
         }) tally.old →
-        TakesOn (Worked L.talk L.faults C.readings N.held N.faults) J.begins (arc_value hub.now)
-        (all_terms terms.now (option_map (λ p. p.now) prefix.entry) (policy_of policy.now)) first
+        TakesOn (Worked L.talk L.faults C.readings N.held N.faults) J.begins (arc_value served.entry.hub.now)
+        (all_terms served.entry.terms (option_map (λ p. p.now) served.entry.prefix) (policy_of served.entry.policy.now)) first
         (record {
           pass = pass.new;
-          links = A.left acceptor.new;
-          waits = A.waits acceptor.new;
-          jobs = P.jobs spawner.new;
-          out = P.out spawner.new;
-          unstarted = P.faults spawner.new;
+          links = A.left parts.new.acceptor;
+          waits = A.waits parts.new.acceptor;
+          jobs = P.jobs parts.new.spawner;
+          out = P.out parts.new.spawner;
+          unstarted = P.faults parts.new.spawner;
         }) tally.new result }
-    ensures bound { Stays (A.bound acceptor.old) (A.bound acceptor.new) }
-    ensures later { A.faults acceptor.old ≤ A.faults acceptor.new }
-    ensures failed { result ≡ Some Halt.AcceptFault → HasRisen (A.faults acceptor.old) (A.faults acceptor.new) }
-    ensures unbegun { result ≡ Some Halt.JournalFault → HasRisen (J.faults journals.old) (J.faults journals.new) }
-    ensures journals_later { J.faults journals.old ≤ J.faults journals.new }
+    ensures bound { Stays (A.bound parts.old.acceptor) (A.bound parts.new.acceptor) }
+    ensures later { A.faults parts.old.acceptor ≤ A.faults parts.new.acceptor }
+    ensures failed { result ≡ Some Halt.AcceptFault → HasRisen (A.faults parts.old.acceptor) (A.faults parts.new.acceptor) }
+    ensures unbegun { result ≡ Some Halt.JournalFault → HasRisen (J.faults parts.old.journals) (J.faults parts.new.journals) }
+    ensures journals_later { J.faults parts.old.journals ≤ J.faults parts.new.journals }
 {
-    match acceptor.next(alloc, WAIT_MS) {
-        Ok(Arrived::Link(link)) => {
-            match start_session(
-                rt, alloc, hub, pass, terms, prefix, policy, journals, clock, link, spawner,
-            ) {
-                Ok(started) => {
-                    tally.count(started);
-                    None
-                }
-                Err(fault) => Some(halt_of(fault)),
+    match parts.acceptor.next(served.alloc, WAIT_MS) {
+        Ok(Arrived::Link(link)) => match start_session(served, pass, parts, link) {
+            Ok(started) => {
+                tally.count(started);
+                None
             }
-        }
+            Err(fault) => Some(halt_of(fault)),
+        },
         Ok(Arrived::Quiet) => None,
         Err(LinkFault::Failed) => Some(Halt::AcceptFault),
         Err(LinkFault::NoMemory) => Some(Halt::NoMemory),
@@ -123,57 +110,47 @@ pub(crate) fn accept_all<
     J: Journals<N>,
     P: Spawner<SessionJob<L, C, N>>,
 >(
-    rt: &R,
-    alloc: Global,
-    hub: &Arc<Hub>,
+    served: ServedHub<'_, R>,
     pass: &mut Pass,
-    terms: &ServeTerms,
-    prefix: Option<&str>,
-    policy: &Option<Arc<Policy>>,
-    journals: &mut J,
-    clock: &C,
-    acceptor: &mut A,
-    spawner: &mut P,
+    parts: &mut ServingParts<A, C, P, J>,
 ) -> Result<u64, Halt>
-    requires can { P.can_start spawner.old }
-    requires pass { IsCaller (arc_value hub.now) pass.old }
-    requires none { P.out spawner.old ≡ [] }
-    ensures again { P.can_start spawner.new }
-    ensures accepts { Accepts (Worked L.talk L.faults C.readings N.held N.faults) J.begins (arc_value hub.now)
-        (all_terms terms.now (option_map (λ p. p.now) prefix.entry) (policy_of policy.now))
+    requires can { P.can_start parts.old.spawner }
+    requires pass { IsCaller (arc_value served.hub.now) pass.old }
+    requires none { P.out parts.old.spawner ≡ [] }
+    ensures again { P.can_start parts.new.spawner }
+    ensures accepts { Accepts (Worked L.talk L.faults C.readings N.held N.faults) J.begins (arc_value served.entry.hub.now)
+        (all_terms served.entry.terms (option_map (λ p. p.now) served.entry.prefix) (policy_of served.entry.policy.now))
         (record {
           pass = pass.old;
-          links = A.left acceptor.old;
-          waits = A.waits acceptor.old;
-          jobs = P.jobs spawner.old;
-          out = P.out spawner.old;
-          unstarted = P.faults spawner.old;
+          links = A.left parts.old.acceptor;
+          waits = A.waits parts.old.acceptor;
+          jobs = P.jobs parts.old.spawner;
+          out = P.out parts.old.spawner;
+          unstarted = P.faults parts.old.spawner;
         })
         (record {
           pass = pass.new;
-          links = A.left acceptor.new;
-          waits = A.waits acceptor.new;
-          jobs = P.jobs spawner.new;
-          out = P.out spawner.new;
-          unstarted = P.faults spawner.new;
+          links = A.left parts.new.acceptor;
+          waits = A.waits parts.new.acceptor;
+          jobs = P.jobs parts.new.spawner;
+          out = P.out parts.new.spawner;
+          unstarted = P.faults parts.new.spawner;
         }) result }
-    ensures fits { (n : ℕ) → terms.now.sessions ≡ Some n → n < 2 ^ 64 }
-    ensures bound { Stays (A.bound acceptor.old) (A.bound acceptor.new) }
-    ensures later { A.faults acceptor.old ≤ A.faults acceptor.new }
-    ensures failed { result ≡ Err Halt.AcceptFault → HasRisen (A.faults acceptor.old) (A.faults acceptor.new) }
-    ensures unbegun { result ≡ Err Halt.JournalFault → HasRisen (J.faults journals.old) (J.faults journals.new) }
-    ensures journals_later { J.faults journals.old ≤ J.faults journals.new }
+    ensures fits { (n : ℕ) → served.entry.terms.sessions ≡ Some n → n < 2 ^ 64 }
+    ensures bound { Stays (A.bound parts.old.acceptor) (A.bound parts.new.acceptor) }
+    ensures later { A.faults parts.old.acceptor ≤ A.faults parts.new.acceptor }
+    ensures failed { result ≡ Err Halt.AcceptFault → HasRisen (A.faults parts.old.acceptor) (A.faults parts.new.acceptor) }
+    ensures unbegun { result ≡ Err Halt.JournalFault → HasRisen (J.faults parts.old.journals) (J.faults parts.new.journals) }
+    ensures journals_later { J.faults parts.old.journals ≤ J.faults parts.new.journals }
 {
-    let mut tally = Tally::of(terms.sessions);
+    let rt = served.rt;
+    let mut tally = Tally::of(served.terms.sessions);
     for _ in rt.forever() {
         if tally.is_full() {
             return Ok(tally.unstarted);
         }
-        take_ended::<R, C, L, N, J, P>(rt, hub, pass, spawner, false);
-        if let Some(halt) = take_next(
-            rt, alloc, hub, pass, terms, prefix, policy, journals, clock, acceptor, spawner,
-            &mut tally,
-        ) {
+        take_ended::<R, C, L, N, J, P>(rt, served.hub, pass, &mut parts.spawner, false);
+        if let Some(halt) = take_next(served, pass, parts, &mut tally) {
             return Err(halt);
         }
     }

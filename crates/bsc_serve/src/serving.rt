@@ -18,18 +18,18 @@ ghost use Rattle.bsc_serve.specs.Terms.{all_terms};
 use crate::accepting::accept_all;
 use crate::end::ServeEnd;
 use crate::halt::Halt;
+use crate::parts::ServingParts;
+use crate::served::ServedHub;
 use crate::stop_told::StopTold;
 use crate::taking_in::{await_all, take_ended};
-use crate::terms::ServeTerms;
 use bsc_edge::{Acceptor, Clock, Journals, Link, LinkFault, Spawner};
 use bsc_history::{AlreadyStopped, Counts};
 use bsc_hub::{Hub, Pass, Told};
 use bsc_notes::{Journal, Made, Noted};
 use bsc_outside::Sink;
-use bsc_policy::Policy;
 use bsc_session::SessionJob;
 use std::alloc::Global;
-use std::sync::{Arc, Wait};
+use std::sync::Wait;
 
 /// Stops the hub. What it answers is one value, so that it is known as a whole.
 fn stop<R: Wait>(rt: &R, hub: &Hub, pass: &mut Pass) -> Result<Told<Counts>, AlreadyStopped>
@@ -160,71 +160,61 @@ pub fn serve_on<
     J: Journals<N>,
     P: Spawner<SessionJob<L, C, N>>,
 >(
-    rt: &R,
-    alloc: Global,
-    hub: &Arc<Hub>,
+    served: ServedHub<'_, R>,
     pass: &mut Pass,
-    terms: &ServeTerms,
-    clock: &mut C,
-    acceptor: &mut A,
-    spawner: &mut P,
     own: &mut N,
-    prefix: Option<&str>,
-    journals: &mut J,
-    policy: &Option<Arc<Policy>>,
+    parts: &mut ServingParts<A, C, P, J>,
 ) -> ServeEnd
-    requires can { P.can_start spawner.old }
-    requires pass { IsCaller (arc_value hub.now) pass.old }
-    ensures again { P.can_start spawner.new }
+    requires can { P.can_start parts.old.spawner }
+    requires pass { IsCaller (arc_value served.hub.now) pass.old }
+    ensures again { P.can_start parts.new.spawner }
 
     // What became of the links, which jobs were taken and ended, and what the hub was told at last.
-    ensures serving { Serving (Worked L.talk L.faults C.readings N.held N.faults) J.begins (arc_value hub.now)
-        (all_terms terms.now (option_map (λ p. p.now) prefix.entry) (policy_of policy.now))
+    ensures serving { Serving (Worked L.talk L.faults C.readings N.held N.faults) J.begins (arc_value served.entry.hub.now)
+        (all_terms served.entry.terms (option_map (λ p. p.now) served.entry.prefix) (policy_of served.entry.policy.now))
         (record {
           pass = pass.old;
-          links = A.left acceptor.old;
-          waits = A.waits acceptor.old;
-          jobs = P.jobs spawner.old;
-          out = P.out spawner.old;
-          unstarted = P.faults spawner.old;
+          links = A.left parts.old.acceptor;
+          waits = A.waits parts.old.acceptor;
+          jobs = P.jobs parts.old.spawner;
+          out = P.out parts.old.spawner;
+          unstarted = P.faults parts.old.spawner;
         })
         (record {
           pass = pass.new;
-          links = A.left acceptor.new;
-          waits = A.waits acceptor.new;
-          jobs = P.jobs spawner.new;
-          out = P.out spawner.new;
-          unstarted = P.faults spawner.new;
+          links = A.left parts.new.acceptor;
+          waits = A.waits parts.new.acceptor;
+          jobs = P.jobs parts.new.spawner;
+          out = P.out parts.new.spawner;
+          unstarted = P.faults parts.new.spawner;
         }) (N.held own.old) (N.held own.new) result }
 
     // The pass is still one of the hub.
-    ensures caller { IsCaller (arc_value hub.now) pass.new }
+    ensures caller { IsCaller (arc_value served.entry.hub.now) pass.new }
 
     // The acceptor stays bound to the port that it was bound to.
-    ensures bound { Stays (A.bound acceptor.old) (A.bound acceptor.new) }
+    ensures bound { Stays (A.bound parts.old.acceptor) (A.bound parts.new.acceptor) }
 
     // A fault of the acceptor is told only where its count rose.
-    ensures failed { result ≡ ServeEnd.AcceptFault → HasRisen (A.faults acceptor.old) (A.faults acceptor.new) }
-    ensures later { A.faults acceptor.old ≤ A.faults acceptor.new }
+    ensures failed { result ≡ ServeEnd.AcceptFault → HasRisen (A.faults parts.old.acceptor) (A.faults parts.new.acceptor) }
+    ensures later { A.faults parts.old.acceptor ≤ A.faults parts.new.acceptor }
 
     // A fault of a journal is told only where the journals' count rose, or that of the own one.
-    ensures unrecorded { result ≡ ServeEnd.JournalFault → HasRisen (J.faults journals.old) (J.faults journals.new)
+    ensures unrecorded { result ≡ ServeEnd.JournalFault → HasRisen (J.faults parts.old.journals) (J.faults parts.new.journals)
         ⊎ HasRisen (N.faults own.old) (N.faults own.new) }
-    ensures journals_later { J.faults journals.old ≤ J.faults journals.new }
+    ensures journals_later { J.faults parts.old.journals ≤ J.faults parts.new.journals }
     ensures own_later { N.faults own.old ≤ N.faults own.new }
 {
-    await_all(rt, spawner);
-    match accept_all(
-        rt, alloc, hub, pass, terms, prefix, policy, journals, clock, acceptor, spawner,
-    ) {
+    await_all(served.rt, &mut parts.spawner);
+    match accept_all(served, pass, parts) {
         Ok(unstarted) => {
-            take_ended::<R, C, L, N, J, P>(rt, hub, pass, spawner, true);
-            let stopped = finish(rt, alloc, hub, pass, own);
+            take_ended::<R, C, L, N, J, P>(served.rt, served.hub, pass, &mut parts.spawner, true);
+            let stopped = finish(served.rt, served.alloc, served.hub, pass, own);
             done(unstarted, stopped)
         }
         Err(halt) => {
-            let told = finish(rt, alloc, hub, pass, own);
-            await_all(rt, spawner);
+            let told = finish(served.rt, served.alloc, served.hub, pass, own);
+            await_all(served.rt, &mut parts.spawner);
             end_of(halt, told.lost)
         }
     }

@@ -8,14 +8,15 @@ ghost use Rattle.bsc_session.specs.Jobs.{policy_of};
 ghost use Rattle.bsc_serve.specs.Inner.{Fares, HandsOver};
 ghost use Rattle.bsc_serve.specs.Terms.{all_terms};
 
-use crate::terms::ServeTerms;
+use crate::parts::ServingParts;
+use crate::served::ServedHub;
 use crate::turning_away::{drop_link, take_back};
 use bsc_edge::{Clock, Journals, Link, LinkFault, Spawner, Unstarted};
 use bsc_hub::{Hub, Pass};
 use bsc_octets::NoMemory;
 use bsc_outside::Sink;
 use bsc_policy::Policy;
-use bsc_session::SessionJob;
+use bsc_session::{JobTerms, SessionJob};
 use std::alloc::Global;
 use std::sync::{Arc, Wait};
 
@@ -73,43 +74,48 @@ fn share(policy: &Option<Arc<Policy>>) -> Result<Option<Arc<Policy>>, NoMemory>
 }
 
 /// Starts a session for a link that arrived, with a pass split for it and the journal of that pass's number. Says whether it
-/// was started: it isn't where the spawner fails, or where there is no number left for a pass.
+/// was started: it isn't where the spawner fails, or where there is no number left for a pass. The acceptor isn't asked.
 pub(crate) fn start_session<
     R: Wait,
     C: Clock + Drop,
     L: Link + Drop,
+    A,
     N: Sink + Drop,
     J: Journals<N>,
     P: Spawner<SessionJob<L, C, N>>,
 >(
-    rt: &R,
-    alloc: Global,
-    hub: &Arc<Hub>,
+    served: ServedHub<'_, R>,
     pass: &mut Pass,
-    terms: &ServeTerms,
-    prefix: Option<&str>,
-    policy: &Option<Arc<Policy>>,
-    journals: &mut J,
-    clock: &C,
+    parts: &mut ServingParts<A, C, P, J>,
     link: L,
-    spawner: &mut P,
 ) -> Result<bool, LinkFault>
-    requires can { P.can_start spawner.old }
-    requires pass { IsCaller (arc_value hub.now) pass.old }
-    ensures again { P.can_start spawner.new }
-    ensures fares { Fares J.begins (arc_value hub.now) (all_terms terms.now (option_map (λ p. p.now) prefix.entry) (policy_of policy.now))
+    requires can { P.can_start parts.old.spawner }
+    requires pass { IsCaller (arc_value served.hub.now) pass.old }
+    ensures again { P.can_start parts.new.spawner }
+    ensures fares { Fares J.begins (arc_value served.entry.hub.now)
+        (all_terms served.entry.terms (option_map (λ p. p.now) served.entry.prefix) (policy_of served.entry.policy.now))
         pass.old pass.new link
-        (record { jobs = P.jobs spawner.old; out = P.out spawner.old; unstarted = P.faults spawner.old })
-        (record { jobs = P.jobs spawner.new; out = P.out spawner.new; unstarted = P.faults spawner.new }) result }
-    ensures unbegun { result ≡ Err LinkFault.Failed → HasRisen (J.faults journals.old) (J.faults journals.new) }
-    ensures journals_later { J.faults journals.old ≤ J.faults journals.new }
+        (record { jobs = P.jobs parts.old.spawner; out = P.out parts.old.spawner; unstarted = P.faults parts.old.spawner })
+        (record { jobs = P.jobs parts.new.spawner; out = P.out parts.new.spawner; unstarted = P.faults parts.new.spawner })
+        result }
+    ensures unbegun { result ≡ Err LinkFault.Failed → HasRisen (J.faults parts.old.journals) (J.faults parts.new.journals) }
+    ensures journals_later { J.faults parts.old.journals ≤ J.faults parts.new.journals }
+    ensures acceptor { parts.new.acceptor ≡ parts.old.acceptor }
 {
+    let ServedHub {
+        rt,
+        alloc,
+        hub,
+        terms,
+        prefix,
+        policy,
+    } = served;
     let here: &Hub = hub;
     let Ok(other) = here.split(rt, pass) else {
         drop_link(alloc, link);
         return Ok(false);
     };
-    let journal = match journals.begin(alloc, prefix, other.number()) {
+    let journal = match parts.journals.begin(alloc, prefix, other.number()) {
         Ok(journal) => journal,
         Err(fault) => {
             take_back(alloc, here, pass, link, other);
@@ -117,7 +123,7 @@ pub(crate) fn start_session<
         }
     };
     let (Ok(clock), Ok(shared), Ok(policy)) = (
-        clock.another(alloc),
+        parts.clock.another(alloc),
         Arc::try_clone(hub),
         share(policy),
     ) else {
@@ -130,11 +136,13 @@ pub(crate) fn start_session<
         other,
         link,
         clock,
-        terms.limits,
-        terms.turns,
         journal,
-        prefix.is_some(),
-        policy,
+        JobTerms {
+            limits: terms.limits,
+            turns: terms.turns,
+            is_recorded: prefix.is_some(),
+            policy,
+        },
     );
-    hand_over(rt, alloc, here, pass, job, spawner)
+    hand_over(rt, alloc, here, pass, job, &mut parts.spawner)
 }

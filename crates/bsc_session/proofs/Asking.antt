@@ -32,7 +32,7 @@ use Rattle.bsc_accept.specs.declared.step.Step.{Step}
 use Rattle.bsc_accept.specs.declared.step.Step.TheVariants.{Ask, Put, PutClose, Up, Close, Nothing}
 use Rattle.bsc_accept.specs.Kept.{moved}
 use Rattle.bsc_accept.specs.Past.{Standing as MachineStanding, awaiting_request, connected, disconnecting, farewell_at, is_joined, standing, until_farewell}
-use Rattle.bsc_accept.specs.Standing.{Answers as MachineAnswers, IsOpen, LeftBy, StandsFor}
+use Rattle.bsc_accept.specs.Standing.{AcceptingAnswers, AcceptingStands, IsOpen, LeavesAccepting}
 use Rattle.bsc_accept.specs.Steps.{refused_step}
 use Rattle.bsc_accept.proofs.Looking.{standing-more}
 use Rattle.bsc_session.specs.declared.at.At.{At}
@@ -40,10 +40,10 @@ use Rattle.bsc_session.specs.declared.member.Member.{Member}
 use Rattle.bsc_session.specs.declared.stop.Stop.{Stop}
 use Rattle.bsc_session.specs.declared.why.Why.{Why}
 use Rattle.bsc_session.specs.declared.why.Why.TheVariants.{PeerLeft, Refused as WhyRefused}
-use Rattle.bsc_session.specs.Answering.{Fits, answered, called, calls, denied_in, last_wanted, noted, stop_by}
+use Rattle.bsc_session.specs.Answering.{AnswerFits, answered, called, calls, denied_in, last_wanted, noted, stop_by}
 use Rattle.bsc_session.specs.CarryingOut.{Carries, SeesWorn, Wrote}
 use Rattle.bsc_session.specs.Following.{HasFound, Held, Tied, has_joined}
-use Rattle.bsc_session.specs.Hearing.{Answers}
+use Rattle.bsc_session.specs.Hearing.{AnswersMessage}
 use Rattle.bsc_session.specs.Receiving.{Answer, replies, worn, no_memory}
 use Rattle.bsc_session.specs.Standings.{Standing, Terms, start_of, told, wanted}
 use Rattle.bsc_session.specs.Stops.{closes, closing_in, first_of, stop_if, stop_unrecorded}
@@ -58,7 +58,7 @@ no_stop_closes None s h = cc
 no_stop_closes (Some f) s h = cc
 
 -- a machine whose step was carried out and doesn't stop the session is open
-pub left_open : (st : Step) (m : Accepting) (fault : Option LinkFault) (why : Why) (stop : Option Stop) → LeftBy st m → calls st ≡ false
+pub left_open : (st : Step) (m : Accepting) (fault : Option LinkFault) (why : Why) (stop : Option Stop) → LeavesAccepting st m → calls st ≡ false
     → stop ≡ first_of (stop_if fault) (closes why (closing_in st)) → stop ≡ None → IsOpen m
 left_open (Ask who) m fault why stop left calls is going = cc
 left_open (Put o) m fault why stop left calls is going = left
@@ -135,15 +135,15 @@ joined_held h v s p q a who j address m mem held alone passed owns mark is set =
 
 -- the hub let it join, and that was noted
 pub ask_joined : (h : Hub) (v : Terms) (s : Standing) (given : Result Incoming LinkFault) (p q : Pass) (a : At) (old mid new : Option (List Said)) (held0 held1 : Option (List ℕ)) (who : Identity) (j : Joined) (address : Vmac) (m : Accepting) (st : Step) (stop : Option Stop) (mem : Option Member)
-    → Held h v p a s → StandsFor a.machine (start_of v s) s.events → a.member ≡ None → denied_in v s (Ask who) given ≡ None
+    → Held h v p a s → AcceptingStands a.machine (start_of v s) s.events → a.member ≡ None → denied_in v s (Ask who) given ≡ None
     → Passed h p [] (connect_made (number_of p) who (Ok j)) q → IsOwnAs q j.conn who.vmac → IsNewOutlet j.outlet → mark_of (seen q) j.conn ≡ Some (outlet_mark j.outlet)
-    → address ≡ who.vmac → mem ≡ Some (record { conn = j.conn; address = address; outlet = j.outlet }) → Stays old mid → MachineAnswers a.machine m JoinedEvent st → LeftBy st m → Carries mid new st PeerLeft stop
+    → address ≡ who.vmac → mem ≡ Some (record { conn = j.conn; address = address; outlet = j.outlet }) → Stays old mid → AcceptingAnswers a.machine m JoinedEvent st → LeavesAccepting st m → Carries mid new st PeerLeft stop
     → Records held0 held1 (made j.at (connect_entry (number_of p) who (JoinedReply j.conn j.replaced)) ∷ []) None
-    → Answers v s (Ask who) given h p q a (record { machine = m; member = mem; ended = a.ended; receives = a.receives }) old new held0 held1 stop
+    → AnswersMessage v s (Ask who) given h p q a (record { machine = m; member = mem; ended = a.ended; receives = a.receives }) old new held0 held1 stop
 ask_joined h v s given p q a old mid new held0 held1 who j address m st stop mem held stood alone admitted passed owns fresh mark is set stays answers left carried records =
     let does = answers (start_of v s) s.events stood in
     let k : Carries mid new (wanted v s JoinedEvent) PeerLeft stop = rw does.0 at carried in
-    let l : LeftBy (wanted v s JoinedEvent) m = rw does.0 at left in
+    let l : LeavesAccepting (wanted v s JoinedEvent) m = rw does.0 at left in
     record {
       answer = Some (replies j.at [] (JoinedReply j.conn j.replaced));
       lost = None;
@@ -172,7 +172,7 @@ pub ask_joined_lost : (h : Hub) (v : Terms) (s : Standing) (given : Result Incom
     → Passed h p [] (connect_made (number_of p) who (Ok j)) q → IsOwnAs q j.conn who.vmac → IsNewOutlet j.outlet → mark_of (seen q) j.conn ≡ Some (outlet_mark j.outlet)
     → address ≡ who.vmac → mem ≡ Some (record { conn = j.conn; address = address; outlet = j.outlet }) → Stays old new → stop ≡ stop_unrecorded fault
     → Records held0 held1 (made j.at (connect_entry (number_of p) who (JoinedReply j.conn j.replaced)) ∷ []) (Some fault)
-    → Answers v s (Ask who) given h p q a (record { machine = a.machine; member = mem; ended = a.ended; receives = a.receives }) old new held0 held1 (Some stop)
+    → AnswersMessage v s (Ask who) given h p q a (record { machine = a.machine; member = mem; ended = a.ended; receives = a.receives }) old new held0 held1 (Some stop)
 ask_joined_lost h v s given p q a old new held0 held1 who j address mem fault stop held alone admitted passed owns fresh mark is set stays by records =
     let noted_so = noted_connect v s given who j.at (JoinedReply j.conn j.replaced) admitted in
     record {
@@ -200,7 +200,7 @@ refused_stops id (TableFull rows) fault why h = no_stop_closes fault _ h
 refused_stops id HubStopped fault why h = no_stop_closes fault _ h
 
 pub refuse_carries : (v : Terms) (s : Standing) (a m : Accepting) (r : Refusal) (st : Step) (old new : Option (List Said)) (stop : Option Stop)
-    → StandsFor a (start_of v s) s.events → MachineAnswers a m (RefusedEvent r) st → Carries old new st (WhyRefused r) stop → Carries old new (wanted v s (RefusedEvent r)) (WhyRefused r) stop
+    → AcceptingStands a (start_of v s) s.events → AcceptingAnswers a m (RefusedEvent r) st → Carries old new st (WhyRefused r) stop → Carries old new (wanted v s (RefusedEvent r)) (WhyRefused r) stop
 refuse_carries v s a m r st old new stop stood answers carried = (let does = answers (start_of v s) s.events stood in rw does.0 at carried)
 
 refused_held : (h : Hub) (v : Terms) (s : Standing) (p q : Pass) (a b : At) (put : Option Placed) (e : Event)
@@ -218,7 +218,7 @@ pub ask_refused : (h : Hub) (v : Terms) (s : Standing) (given : Result Incoming 
     → Passed h p [] (placed at (refused_stamped (number_of p) who r)) q
     → Carries old new (wanted v s (RefusedEvent r)) (WhyRefused r) stop → b.member ≡ a.member → b.ended ≡ a.ended → b.receives ≡ a.receives
     → Records held0 held1 (made at (connect_entry (number_of p) who (RefusedReply r)) ∷ []) None
-    → Answers v s (Ask who) given h p q a b old new held0 held1 stop
+    → AnswersMessage v s (Ask who) given h p q a b old new held0 held1 stop
 ask_refused h v s given p q a b old new held0 held1 who at r stop held alone admitted passed k member ended receives records =
     record {
       answer = Some (replies at [] (RefusedReply r));
@@ -244,7 +244,7 @@ pub ask_refused_lost : (h : Hub) (v : Terms) (s : Standing) (given : Result Inco
     → Held h v p a s → a.member ≡ None → denied_in v s (Ask who) given ≡ None
     → Passed h p [] (placed at (refused_stamped (number_of p) who r)) q → stop ≡ stop_unrecorded fault
     → Records held0 held1 (made at (connect_entry (number_of p) who (RefusedReply r)) ∷ []) (Some fault)
-    → Answers v s (Ask who) given h p q a a old old held0 held1 (Some stop)
+    → AnswersMessage v s (Ask who) given h p q a a old old held0 held1 (Some stop)
 ask_refused_lost h v s given p q a old held0 held1 who at r fault stop held alone admitted passed by records =
     let noted_so = noted_connect v s given who at (RefusedReply r) admitted in
     record {
@@ -272,9 +272,9 @@ answer_is a b h = cc
 -- the hub's answer to a connect asks for no step, and nothing is noted
 pub ask_ends : (h : Hub) (v : Terms) (s : Standing) (given : Result Incoming LinkFault) (p q : Pass) (a : At) (old : Option (List Said)) (held0 : Option (List ℕ)) (who : Identity) (answer : Answer) (stop : Stop)
     → Held h v p a s → a.member ≡ None → denied_in v s (Ask who) given ≡ None → Passed h p [] None q
-    → last_wanted v s (Ask who) (Some answer) ≡ Nothing → answered s (Ask who) (Some answer) ≡ s → called v s (Ask who) given (Some answer) ≡ [] → Fits (Ask who) (Some answer)
+    → last_wanted v s (Ask who) (Some answer) ≡ Nothing → answered s (Ask who) (Some answer) ≡ s → called v s (Ask who) given (Some answer) ≡ [] → AnswerFits (Ask who) (Some answer)
     → Some stop ≡ stop_by (Some answer) → (answer ≡ worn → SeesWorn h q)
-    → Answers v s (Ask who) given h p q a a old old held0 held0 (Some stop)
+    → AnswersMessage v s (Ask who) given h p q a a old old held0 held0 (Some stop)
 ask_ends h v s given p q a old held0 who answer stop held alone admitted passed quiet same none fits stops wears = record {
   answer = Some answer;
   lost = None;

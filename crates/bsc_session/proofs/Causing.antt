@@ -17,8 +17,8 @@ use Rattle.bsc_session.specs.declared.why.Why.{Why}
 use Rattle.bsc_session.specs.declared.why.Why.TheVariants.{PeerClosed, NotBinary, PeerLeft, Refused, WaitExpired, Idle, EndedBy, Worn, LinkFault as WhyLinkFault, NoMemory, Spent, Denied, JournalFault}
 use Rattle.bsc_lines.specs.declared.denial.Denial.{Denial}
 use Rattle.bsc_session.specs.declared.stop.Stop.{Stop}
-use Rattle.bsc_session.specs.Answering.{Fits, calls, cause_of, denial_in, last_wanted, stop_by, stop_given, stop_judged, stop_message}
-use Rattle.bsc_session.specs.Causes.{fault_at, given_in, judged_in, answer_in, hearing_fault, IsRefused}
+use Rattle.bsc_session.specs.Answering.{AnswerFits, calls, cause_of, denial_in, last_wanted, stop_by, stop_given, stop_judged, stop_message}
+use Rattle.bsc_session.specs.Causes.{fault_at, given_in, judged_in, answer_in, hearing_fault, IsHubRefusal}
 use Rattle.bsc_session.specs.Judging.{LacksAtPass, heard, heard_step}
 use Rattle.bsc_session.specs.Puts.{HasPut, octets_in}
 use Rattle.bsc_session.specs.Reading.{ticked, wanted_at}
@@ -51,7 +51,7 @@ pub data Ends : Option (Result Incoming LinkFault) → Bool → Option Answer �
   failed_memory : (x : List ℕ) (a : Option Answer) → IsTaken a → Ends (Some (Ok (Message x))) true a (Some MemoryFault) NoMemory
   refused : (x : List ℕ) (at : ℕ) (l : List Look) (r : Refusal) → Ends (Some (Ok (Message x))) true (Some (replies at l (RefusedReply r))) None (Refused r)
   denied : (x : List ℕ) → Ends (Some (Ok (Message x))) true None None (Denied 0)
-  left : (x : List ℕ) (a : Option Answer) → IsTaken a → ((r : Refusal) → IsRefused a r → ⊥) → Ends (Some (Ok (Message x))) true a None PeerLeft
+  left : (x : List ℕ) (a : Option Answer) → IsTaken a → ((r : Refusal) → IsHubRefusal a r → ⊥) → Ends (Some (Ok (Message x))) true a None PeerLeft
 
 pub why_is : (a b : Stop) → Some a ≡ Some b → b.why ≡ a.why
 why_is a b h = ap (λ (s : Stop). s.why) (some_is a b h)
@@ -105,14 +105,14 @@ failed_ends : (x : List ℕ) (a : Option Answer) (f : LinkFault) → IsTaken a �
 failed_ends x a Failed h = failed x a h
 failed_ends x a MemoryFault h = failed_memory x a h
 
-none_refused : (r : Refusal) → IsRefused None r → ⊥
+none_refused : (r : Refusal) → IsHubRefusal None r → ⊥
 none_refused r h = (let k = h.2 in cc)
 
-joined_refused : (at : ℕ) (l : List Look) (c : ℕ) (x : Option ℕ) (r : Refusal) → IsRefused (Some (replies at l (Joined c x))) r → ⊥
+joined_refused : (at : ℕ) (l : List Look) (c : ℕ) (x : Option ℕ) (r : Refusal) → IsHubRefusal (Some (replies at l (Joined c x))) r → ⊥
 joined_refused at l c x r h = (let k = h.2 in cc)
 
 -- a message that was answered with no fault
-left_ends : (x : List ℕ) (v : Terms) (s : Standing) (st : Step) (a : Option Answer) (stop : Stop) → IsTaken a → Fits st a → closes (cause_of st a) (closing_in (last_wanted v s st a)) ≡ Some stop → is_some a ≡ calls st
+left_ends : (x : List ℕ) (v : Terms) (s : Standing) (st : Step) (a : Option Answer) (stop : Stop) → IsTaken a → AnswerFits st a → closes (cause_of st a) (closing_in (last_wanted v s st a)) ≡ Some stop → is_some a ≡ calls st
     → Ends (Some (Ok (Message x))) true a None stop.why
 left_ends x v s (Ask who) (Some (replies at l (RefusedReply r))) stop h fits is calls = rw (closes_why (Refused r) (closing_in (last_wanted v s (Ask who) (Some (replies at l (RefusedReply r))))) stop is) (refused x at l r)
 left_ends x v s (Ask who) (Some (replies at l (Joined c y))) stop h fits is calls = rw (closes_why PeerLeft (closing_in (last_wanted v s (Ask who) (Some (replies at l (Joined c y))))) stop is) (left x (Some (replies at l (Joined c y))) refl (joined_refused at l c y))
@@ -121,7 +121,7 @@ left_ends x v s Up a stop h fits is calls = cc
 left_ends x v s st None stop h fits is calls = rw (closes_why PeerLeft (closing_in (last_wanted v s st None)) stop is) (left x None refl none_refused)
 left_ends x v s st (Some a) stop h fits is calls = cc
 
-answered_ends : (x : List ℕ) (v : Terms) (s : Standing) (st : Step) (a : Option Answer) (fault : Option LinkFault) (stop : Stop) → is_some a ≡ calls st → Fits st a → HasPut (octets_in (last_wanted v s st a)) fault
+answered_ends : (x : List ℕ) (v : Terms) (s : Standing) (st : Step) (a : Option Answer) (fault : Option LinkFault) (stop : Stop) → is_some a ≡ calls st → AnswerFits st a → HasPut (octets_in (last_wanted v s st a)) fault
     → first_of (stop_by a) (first_of (stop_if fault) (closes (cause_of st a) (closing_in (last_wanted v s st a)))) ≡ Some stop → Ends (Some (Ok (Message x))) true a fault stop.why
 answered_ends x v s st (Some worn) fault stop calls fits put is =
     let k : HasPut [] fault = rw (nothing_put v s st worn (inl refl) calls) at put in
@@ -132,7 +132,7 @@ answered_ends x v s st (Some no_memory) fault stop calls fits put is =
 answered_ends x v s st a None stop calls fits put is = left_ends x v s st a stop refl fits is calls
 answered_ends x v s st a (Some f) stop calls fits put is = rw (why_is (stop_at f) stop is) (failed_ends x a f refl)
 
-message_ends : (x : List ℕ) (v : Terms) (s : Standing) (st : Step) (d : Option Denial) (a : Option Answer) (fault : Option LinkFault) (stop : Stop) → is_some a ≡ is_none d && calls st → Fits st a → HasPut (octets_in (last_wanted v s st a)) fault
+message_ends : (x : List ℕ) (v : Terms) (s : Standing) (st : Step) (d : Option Denial) (a : Option Answer) (fault : Option LinkFault) (stop : Stop) → is_some a ≡ is_none d && calls st → AnswerFits st a → HasPut (octets_in (last_wanted v s st a)) fault
     → stop_message v s st d a None fault ≡ Some stop → Ends (Some (Ok (Message x))) true a fault stop.why
 message_ends x v s st None a fault stop calls fits put is = answered_ends x v s st a fault stop calls fits put is
 message_ends x v s st (Some d) (Some a) fault stop calls fits put is = cc
@@ -141,14 +141,14 @@ message_ends x v s Up (Some d) None fault stop calls fits put is = (let k : None
 message_ends x v s st (Some d) None fault stop calls fits put is = answered_ends x v s st None fault stop refl fits put is
 
 judged_ends : (x : List ℕ) (v : Terms) (s0 s : Standing) (now : ℕ) (judged : Bool) (d : Option Denial) (a : Option Answer) (fault : Option LinkFault) (stop : Stop)
-    → is_some a ≡ is_none d && calls (heard_step v s0 now judged (Ok (Message x))) → Fits (heard_step v s0 now judged (Ok (Message x))) a → HasPut (octets_in (last_wanted v s (heard_step v s0 now judged (Ok (Message x))) a)) fault
+    → is_some a ≡ is_none d && calls (heard_step v s0 now judged (Ok (Message x))) → AnswerFits (heard_step v s0 now judged (Ok (Message x))) a → HasPut (octets_in (last_wanted v s (heard_step v s0 now judged (Ok (Message x))) a)) fault
     → stop_judged judged (stop_message v s (heard_step v s0 now judged (Ok (Message x))) d a None fault) ≡ Some stop
     → Ends (Some (Ok (Message x))) judged a fault stop.why
 judged_ends x v s0 s now true d a fault stop calls fits put is = message_ends x v s (heard_step v s0 now true (Ok (Message x))) d a fault stop calls fits put is
 judged_ends x v s0 s now false d a fault stop calls fits put is = rw (no_answer d a calls, no_put fault put, why_is _ stop is) (unjudged x)
 
 given_ends : (v : Terms) (s0 s : Standing) (now : ℕ) (judged : Bool) (given : Result Incoming LinkFault) (d : Option Denial) (a : Option Answer) (fault : Option LinkFault) (stop : Stop)
-    → LacksAtPass v s0 judged given → is_some a ≡ is_none d && calls (heard_step v s0 now judged given) → Fits (heard_step v s0 now judged given) a → HasPut (octets_in (last_wanted v s (heard_step v s0 now judged given) a)) fault
+    → LacksAtPass v s0 judged given → is_some a ≡ is_none d && calls (heard_step v s0 now judged given) → AnswerFits (heard_step v s0 now judged given) a → HasPut (octets_in (last_wanted v s (heard_step v s0 now judged given) a)) fault
     → stop_given given (stop_judged judged (stop_message v s (heard_step v s0 now judged given) d a None fault)) ≡ Some stop
     → Ends (Some given) judged a (fault_at given fault) stop.why
 given_ends v s0 s now true (Err f) d a fault stop lacks calls fits put is = rw (no_answer d a calls, why_is (stop_at f) stop is) (unheard_ends f)
@@ -200,7 +200,7 @@ row_worn e = (λ h. cc, λ h. cc)
 reply_is : (i j : ℕ) (l k : List Look) (p q : Reply) → Some (replies i l p) ≡ Some (replies j k q) → p ≡ q
 reply_is i j l k p q h = cc
 
-pub row_refused : {g : Option (Result Incoming LinkFault)} {j : Bool} {a : Option Answer} {f : Option LinkFault} {w : Why} → (r : Refusal) → Ends g j a f w → w ≡ Refused r ↔ (IsRefused a r × (f ≡ None))
+pub row_refused : {g : Option (Result Incoming LinkFault)} {j : Bool} {a : Option Answer} {f : Option LinkFault} {w : Why} → (r : Refusal) → Ends g j a f w → w ≡ Refused r ↔ (IsHubRefusal a r × (f ≡ None))
 row_refused r (refused x at l k) = (λ h. ((at, l, cc), refl), λ h. (let e = reply_is at h.0.0 l h.0.1 (RefusedReply k) (RefusedReply r) h.0.2 in cc))
 row_refused r (failed x a t) = (λ h. ((0, [], cc), cc), λ h. (let e = h.1 in cc))
 row_refused r (failed_memory x a t) = (λ h. ((0, [], cc), cc), λ h. (let e = h.1 in cc))

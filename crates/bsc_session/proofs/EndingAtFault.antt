@@ -15,7 +15,7 @@ use Rattle.bsc_lines.specs.declared.denial.Denial.{Denial}
 use Rattle.bsc_session.specs.declared.why.Why.{Why}
 use Rattle.bsc_session.specs.declared.stop.Stop.{Stop}
 use Rattle.bsc_session.specs.Answering.{calls, denied_in, last_wanted, put_unless, said_hearing, stop_by, stop_denied, stop_given, stop_judged, stop_message}
-use Rattle.bsc_session.specs.Course.{standing, shares, EachTurn, GoesOn, and_last, Stops, said_closing}
+use Rattle.bsc_session.specs.Course.{standing, shares, EachTurn, TurnGoesOn, and_last, Stops, said_closing}
 use Rattle.bsc_session.specs.Judging.{heard, heard_step}
 use Rattle.bsc_session.specs.Laws.{fault_of, EndsAtFault, SessionsEndAtFault}
 use Rattle.bsc_session.specs.Puts.{puts, HasPut, octets_in}
@@ -240,7 +240,7 @@ well_turn v s o (Some h) on = well-append (puts (put_first v s o) o.fault) (said
 
 -- ---- the course
 
-well_turns : (v : Terms) (s : Standing) (ts : List Turn) → EachTurn GoesOn v s ts → IsWell (shares said_in v s ts)
+well_turns : (v : Terms) (s : Standing) (ts : List Turn) → EachTurn TurnGoesOn v s ts → IsWell (shares said_in v s ts)
 unfolding IsWell
 well_turns v s [] each = tt
 well_turns v s (t ∷ ts) each = well-append (said_in v s t) (shares said_in v (after v s t) ts) (well_turn v s t.opening t.hearing each.0) (well_turns v (after v s t) ts each.1)
@@ -249,7 +249,7 @@ pub each_last : (P : Terms → Standing → Turn → Type 0) (v : Terms) (s : St
 each_last P v s [] t each = each.0
 each_last P v s (u ∷ ts) t each = each_last P v (after v s u) ts t each.1
 
-ends_course : (v : Terms) (s : Standing) (ts : List Turn) (last : Option Turn) (stop : Stop) → EachTurn IsTurn v s (and_last ts last) → EachTurn GoesOn v s ts → Stops v (standing v s ts) last stop
+ends_course : (v : Terms) (s : Standing) (ts : List Turn) (last : Option Turn) (stop : Stop) → EachTurn IsTurn v s (and_last ts last) → EachTurn TurnGoesOn v s ts → Stops v (standing v s ts) last stop
     → EndsAtFault (shares said_in v s (and_last ts last) ++ said_closing stop.closing)
 ends_course v s ts None stop are on stops = well_then (shares said_in v s ts) (said_closing stop.closing) (well_turns v s ts on) (ends_closing stop.closing)
 ends_course v s ts (Some t) stop are on stops =

@@ -29,7 +29,7 @@ use Rattle.bsc_accept.specs.declared.step.Step.{Step}
 use Rattle.bsc_accept.specs.declared.step.Step.TheVariants.{Ask, Up, Close, Nothing}
 use Rattle.bsc_accept.specs.Messages.{is_farewell_answer, who_asks}
 use Rattle.bsc_accept.specs.Past.{Standing as MachineStanding, awaiting_request, connected, disconnecting, phase, phase_named, standing}
-use Rattle.bsc_accept.specs.Standing.{Answers as MachineAnswers, IsOpen, IsOver, LeftBy, StandsFor, is_open}
+use Rattle.bsc_accept.specs.Standing.{AcceptingAnswers, AcceptingStands, IsOpen, IsOver, LeavesAccepting, is_open}
 use Rattle.bsc_accept.specs.Steps.{message_step, normal}
 use Rattle.bsc_lines.specs.declared.denial.Denial.{Denial}
 use Rattle.bsc_notes.specs.Notes.{HasLine, Records, denied}
@@ -39,12 +39,12 @@ use Rattle.bsc_session.specs.declared.at.At.{At}
 use Rattle.bsc_session.specs.declared.member.Member.{Member}
 use Rattle.bsc_session.specs.declared.stop.Stop.{Stop}
 use Rattle.bsc_session.specs.declared.why.Why.TheVariants.{PeerLeft}
-use Rattle.bsc_session.specs.Answering.{Fits, answered, called, calls, calls_hub, denied_in, last_wanted, made_at, noted, put_unless, stop_by, stop_given, stop_judged, stop_message}
+use Rattle.bsc_session.specs.Answering.{AnswerFits, answered, called, calls, calls_hub, denied_in, last_wanted, made_at, noted, put_unless, stop_by, stop_given, stop_judged, stop_message}
 use Rattle.bsc_session.specs.CarryingOut.{Carries, SeesWorn, Wrote}
-use Rattle.bsc_session.specs.Following.{Follows, HasStanding, Held, Runs, Tied, address_by, conn_of, empties_by, given_by, has_joined}
-use Rattle.bsc_session.specs.Hearing.{Answers, Forwards, Hears, HearsMessage, TurnsAway, forward_made}
+use Rattle.bsc_session.specs.Following.{Follows, HasStanding, Held, SessionRuns, Tied, address_by, conn_of, empties_by, given_by, has_joined}
+use Rattle.bsc_session.specs.Hearing.{AnswersMessage, Forwards, Hears, HearsMessage, TurnsAway, forward_made}
 use Rattle.bsc_session.specs.Judging.{LacksAtPass, heard_step, heard_told, verdict_on}
-use Rattle.bsc_session.specs.Serving.{Goes}
+use Rattle.bsc_session.specs.Serving.{PassGoes}
 use Rattle.bsc_session.specs.Puts.{HasPut, octets_in, puts}
 use Rattle.bsc_session.specs.Receiving.{Answer, replies, worn, no_memory, received_one}
 use Rattle.bsc_session.specs.Standings.{Standing, Terms, start_of, told, wanted}
@@ -88,9 +88,9 @@ noted_forward v s p m c answer n is free = rw free (ap (made_at (Some answer)) (
 
 -- a forward's answer stops the session, or it goes on as it stood
 pub carry_answers : (h : Hub) (v : Terms) (s : Standing) (p q : CallerPass) (a : At) (m : List ℕ) (n : Member) (old new : Option (List Said)) (pages pages' : Option (List ℕ)) (stop : Option Stop)
-    → Held h v p a s → StandsFor a.machine (start_of v s) s.events → Tied s → LeftBy Up a.machine → a.member ≡ Some n → denied_in v s Up (Ok (Message m)) ≡ None
+    → Held h v p a s → AcceptingStands a.machine (start_of v s) s.events → Tied s → LeavesAccepting Up a.machine → a.member ≡ Some n → denied_in v s Up (Ok (Message m)) ≡ None
     → Forwards h p q n.conn m old new pages pages' stop
-    → Answers v s Up (Ok (Message m)) h p q a a old new pages pages' stop
+    → AnswersMessage v s Up (Ok (Message m)) h p q a a old new pages pages' stop
 carry_answers h v s p q a m n old new pages pages' stop held stood tied left is free f =
     let conn : s.conn ≡ Some n.conn = sym held.follows.conn ∙ is_conn a.member n.conn n is refl in
     let notes = noted_forward v s p m n.conn f.answer held.number conn free in
@@ -128,9 +128,9 @@ message_so v s policy a n m o fixed f is denies = ap (λ x. denied_message x s.a
 
 -- a unicast that is denied is noted, and else the session goes on as it stood
 pub carry_denied : (h : Hub) (v : Terms) (s : Standing) (p : CallerPass) (a : At) (m : List ℕ) (denial : Denial) (old : Option (List Said)) (pages pages' : Option (List ℕ)) (lost : Option LinkFault) (stop : Option Stop)
-    → Held h v p a s → StandsFor a.machine (start_of v s) s.events → Tied s → LeftBy Up a.machine → denied_in v s Up (Ok (Message m)) ≡ Some denial
+    → Held h v p a s → AcceptingStands a.machine (start_of v s) s.events → Tied s → LeavesAccepting Up a.machine → denied_in v s Up (Ok (Message m)) ≡ Some denial
     → Records pages pages' (denied denial ∷ []) lost → stop ≡ stop_lost lost
-    → Answers v s Up (Ok (Message m)) h p p a a old old pages pages' stop
+    → AnswersMessage v s Up (Ok (Message m)) h p p a a old old pages pages' stop
 carry_denied h v s p a m denial old pages pages' lost stop held stood tied left is records by = record {
   answer = None;
   lost = lost;
@@ -153,7 +153,7 @@ carry_denied h v s p a m denial old pages pages' lost stop held stood tied left 
 -- a device that isn't admitted is turned away
 pub ask_denied : (h : Hub) (v : Terms) (s : Standing) (given : Result Incoming LinkFault) (p : CallerPass) (a : At) (who : Identity) (denial : Denial) (old : Option (List Said)) (pages pages' : Option (List ℕ)) (stop : Stop)
     → Held h v p a s → denied_in v s (Ask who) given ≡ Some denial → TurnsAway denial pages pages' stop
-    → Answers v s (Ask who) given h p p a a old old pages pages' (Some stop)
+    → AnswersMessage v s (Ask who) given h p p a a old old pages pages' (Some stop)
 ask_denied h v s given p a who denial old pages pages' stop held is away = record {
   answer = None;
   lost = away.lost;
@@ -177,8 +177,8 @@ ask_denied h v s given p a who denial old pages pages' stop held is away = recor
 
 -- a step that calls nobody was carried out
 pub carried_answers : (h : Hub) (v : Terms) (s : Standing) (p : CallerPass) (a : At) (m : List ℕ) (st : Step) (old new : Option (List Said)) (pages : Option (List ℕ)) (stop : Option Stop)
-    → Held h v p a s → StandsFor a.machine (start_of v s) s.events → Tied s → LeftBy st a.machine → calls st ≡ false → Carries old new st PeerLeft stop
-    → Answers v s st (Ok (Message m)) h p p a a old new pages pages stop
+    → Held h v p a s → AcceptingStands a.machine (start_of v s) s.events → Tied s → LeavesAccepting st a.machine → calls st ≡ false → Carries old new st PeerLeft stop
+    → AnswersMessage v s st (Ok (Message m)) h p p a a old new pages pages stop
 carried_answers h v s p a m (Ask who) old new pages stop held stood tied left none k = cc
 carried_answers h v s p a m Up old new pages stop held stood tied left none k = cc
 carried_answers h v s p a m st old new pages stop held stood tied left none k = record {
@@ -231,7 +231,7 @@ some_of None c h k = (let e = sym h in let z : true ≡ is_some (conn_of None) =
 some_of (Some n) c h k = refl
 
 pub carries_so : (v : Terms) (s : Standing) (a : At) (now : ℕ) (verdict : Verdict) (m : Accepting) (st : Step) (P : Type 0)
-    → Runs v a s → MachineAnswers a.machine m (Came now verdict) st → st ≡ Up
+    → SessionRuns v a s → AcceptingAnswers a.machine m (Came now verdict) st → st ≡ Up
     → ((e : Envelope) → verdict ≡ Carried e → P) → P
 carries_so v s a now verdict m st P runs answers is so =
     let does = answers (start_of v s) s.events runs.machine in
@@ -254,7 +254,7 @@ held_received h v s p a n is held = record {
   follows = record { conn = held.follows.conn; address = held.follows.address; ended = held.follows.ended; receives = is ∙ ap (λ k. k + 1) held.follows.receives; found = held.follows.found };
 }
 
-pub runs_received : (v : Terms) (s : Standing) (a : At) (n : ℕ) → Runs v a s → Runs v (record { machine = a.machine; member = a.member; ended = a.ended; receives = n }) (received_one s)
+pub runs_received : (v : Terms) (s : Standing) (a : At) (n : ℕ) → SessionRuns v a s → SessionRuns v (record { machine = a.machine; member = a.member; ended = a.ended; receives = n }) (received_one s)
 runs_received v s a n runs = record { machine = runs.machine; waits = runs.waits; tied = runs.tied }
 
 -- ---- the message
@@ -263,10 +263,10 @@ runs_received v s a n runs = record { machine = runs.machine; waits = runs.waits
 pub message_heard : (h : Hub) (v : Terms) (s : Standing) (now : ℕ) (m : List ℕ) (p q : CallerPass) (a a' b : At) (old new : Option (List Said)) (pages pages' : Option (List ℕ)) (verdict : Verdict) (st : Step) (stop : Option Stop)
     → verdict ≡ verdict_on v s m → st ≡ wanted v s (Came now verdict)
     → a'.member ≡ a.member
-    → Answers v (told s (Came now verdict)) st (Ok (Message m)) h p q a' b old new pages pages' stop
+    → AnswersMessage v (told s (Came now verdict)) st (Ok (Message m)) h p q a' b old new pages pages' stop
     → HearsMessage v s now m h p q a b old new pages pages' stop
 message_heard h v s now m p q a a' b old new pages pages' verdict st stop is does same k =
-    let l : Answers v (told s (Came now (verdict_on v s m))) (wanted v s (Came now (verdict_on v s m))) (Ok (Message m)) h p q a' b old new pages pages' stop = rw (does, is) at k in
+    let l : AnswersMessage v (told s (Came now (verdict_on v s m))) (wanted v s (Came now (verdict_on v s m))) (Ok (Message m)) h p q a' b old new pages pages' stop = rw (does, is) at k in
     record {
       judged = true;
       answer = l.answer;
@@ -335,8 +335,8 @@ standing_received h p a n is k = (k.0, received_one k.1, held_received h k.0 k.1
 
 hears_judged : (h : Hub) (v : Terms) (s : Standing) (now wait : ℕ) (m : List ℕ) (p q : CallerPass) (a a' b : At) (old mid new : Option (List Said)) (pages pages' : Option (List ℕ)) (stop : Option Stop) (judged : Bool) (answer : Option Answer) (lost fault : Option LinkFault)
     → Grows old mid (Gave wait (Ok (Message m)) ∷ []) → a'.member ≡ a.member
-    → LacksAtPass v (received_one s) judged (Ok (Message m)) → is_some answer ≡ calls_hub v (received_one s) (heard_step v (received_one s) now judged (Ok (Message m))) (Ok (Message m)) → Fits (heard_step v (received_one s) now judged (Ok (Message m))) answer
-    → Goes h p (called v (received_one s) (heard_step v (received_one s) now judged (Ok (Message m))) (Ok (Message m)) answer) q
+    → LacksAtPass v (received_one s) judged (Ok (Message m)) → is_some answer ≡ calls_hub v (received_one s) (heard_step v (received_one s) now judged (Ok (Message m))) (Ok (Message m)) → AnswerFits (heard_step v (received_one s) now judged (Ok (Message m))) answer
+    → PassGoes h p (called v (received_one s) (heard_step v (received_one s) now judged (Ok (Message m))) (Ok (Message m)) answer) q
     → Wrote q pages pages' (noted v (received_one s) (heard_step v (received_one s) now judged (Ok (Message m))) (Ok (Message m)) answer) lost
     → HasLine (noted v (received_one s) (heard_step v (received_one s) now judged (Ok (Message m))) (Ok (Message m)) answer) lost
     → Grows mid new (puts (put_unless lost (octets_in (last_wanted v (heard_told v (received_one s) now judged (Ok (Message m))) (heard_step v (received_one s) now judged (Ok (Message m))) answer))) fault)
@@ -345,7 +345,7 @@ hears_judged : (h : Hub) (v : Terms) (s : Standing) (now wait : ℕ) (m : List �
     → (answer ≡ Some worn → SeesWorn h q)
     → given_by b.member ≡ given_by a'.member → empties_by b.member ≡ empties_by a'.member
     → Held h v q b (answered (heard_told v (received_one s) now judged (Ok (Message m))) (heard_step v (received_one s) now judged (Ok (Message m))) answer)
-    → (stop ≡ None → Runs v b (answered (heard_told v (received_one s) now judged (Ok (Message m))) (heard_step v (received_one s) now judged (Ok (Message m))) answer))
+    → (stop ≡ None → SessionRuns v b (answered (heard_told v (received_one s) now judged (Ok (Message m))) (heard_step v (received_one s) now judged (Ok (Message m))) answer))
     → Hears v s now wait h p q a b old new pages pages' stop
 hears_judged h v s now wait m p q a a' b old mid new pages pages' stop true answer lost fault told_ same memory calls fits goes wrote line said cause stops worns given empties held runs = record {
   hearing = record { given = Ok (Message m); judged = true; answer = answer; lost = lost; fault = fault };
@@ -384,7 +384,7 @@ hears_message h v s now wait m p q a a' b old mid new pages pages' stop told_ sa
 pub hears_nothing : (h : Hub) (v : Terms) (s : Standing) (now wait : ℕ) (p : CallerPass) (a b : At) (old new : Option (List Said)) (pages : Option (List ℕ)) (given : Result Incoming LinkFault) (stop : Option Stop)
     → Grows old new (Gave wait given ∷ []) → heard_step v s now true given ≡ Nothing → heard_told v s now true given ≡ s
     → stop ≡ stop_given given (stop_judged true (stop_message v (received_one s) Nothing None None None None))
-    → b.member ≡ a.member → Held h v p b (received_one s) → (stop ≡ None → Runs v b (received_one s))
+    → b.member ≡ a.member → Held h v p b (received_one s) → (stop ≡ None → SessionRuns v b (received_one s))
     → Hears v s now wait h p p a b old new pages pages stop
 hears_nothing h v s now wait p a b old new pages given stop told_ quiet stays stops same held runs = record {
   hearing = record { given = given; judged = true; answer = None; lost = None; fault = None };

@@ -15,7 +15,7 @@ use Rattle.bsc_history.specs.declared.mark.Stamped.{Stamped}
 use Rattle.bsc_history.specs.declared.reply.Reply.{Reply}
 use Rattle.bsc_edge.specs.declared.fault.LinkFault.{LinkFault}
 use Rattle.bsc_notes.specs.Notes.{HasLine, Note, Records, made as made_note}
-use Rattle.bsc_hub.specs.Passing.{IsCaller, Made, Passed, Placed, StaysBy}
+use Rattle.bsc_hub.specs.Passing.{IsCaller, MadeEntry, Passed, Placed, StaysBy}
 use Rattle.bsc_hub.proofs.Following.{drew_none}
 use Rattle.bsc_hub.proofs.Owning.{owned_kept, mark_kept}
 use Rattle.bsc_hub.proofs.Staying.{all_stays, one_stays}
@@ -29,7 +29,7 @@ use Rattle.bsc_session.proofs.Recording.{no_line, wrote_as, wrote_made, wrote_no
 use Rattle.bsc_session.specs.CarryingOut.{SeesWorn, Wrote}
 use Rattle.bsc_session.specs.Following.{IsMember}
 use Rattle.bsc_session.specs.Hearing.{Calls, Forwards, forward_made}
-use Rattle.bsc_session.specs.Serving.{Goes}
+use Rattle.bsc_session.specs.Serving.{PassGoes}
 use Rattle.bsc_session.specs.Receiving.{Answer, no_memory, replies, worn}
 
 -- the entry that a call made, or none
@@ -37,11 +37,11 @@ abbrev pub entry_made : Option Placed → List Entry
 entry_made None = []
 entry_made (Some m) = m.stamped.entry ∷ []
 
-own_grew : (p q : Pass) (made : Option Placed) → Made p made q → own_list q ≡ own_list p ++ entry_made made
+own_grew : (p q : Pass) (made : Option Placed) → MadeEntry p made q → own_list q ≡ own_list p ++ entry_made made
 own_grew p q None h = h ∙ sym (append-nil (own_list p))
 own_grew p q (Some m) h = h.grew
 
-pub goes_passed : (h : Hub) (p q : Pass) (made : Option Placed) → Passed h p [] made q → Goes h p (entry_made made) q
+pub goes_passed : (h : Hub) (p q : Pass) (made : Option Placed) → Passed h p [] made q → PassGoes h p (entry_made made) q
 goes_passed h p q made k = record { caller = k.caller; number = k.number; sees = k.grows; own = own_grew p q made k.makes; took_in = k.takes_in ∙ append-nil (ended_callers p); draws_none = drew_none h p q [] made k }
 
 pub call_passed : (h : Hub) (p q : Pass) (made : Option Placed) → IsCaller h p → Passed h p [] made q → ((c : ℕ) → StaysBy made c) → Calls h p (entry_made made) q
@@ -51,17 +51,17 @@ call_passed h p q made is k stays = record {
   marks = λ c m has. mark_kept h p q [] made c m k has;
 }
 
-pub goes_as : (h : Hub) (p q : Pass) (E F : List Entry) → E ≡ F → Goes h p E q → Goes h p F q
+pub goes_as : (h : Hub) (p q : Pass) (E F : List Entry) → E ≡ F → PassGoes h p E q → PassGoes h p F q
 goes_as h p q E F e k = rw e at k
 
 pub calls_as : (h : Hub) (p q : Pass) (E F : List Entry) → E ≡ F → Calls h p E q → Calls h p F q
 calls_as h p q E F e k = rw e at k
 
 -- no call was made
-pub goes_nowhere : (h : Hub) (p : Pass) → IsCaller h p → Goes h p [] p
+pub goes_nowhere : (h : Hub) (p : Pass) → IsCaller h p → PassGoes h p [] p
 goes_nowhere h p is = record { caller = is; number = refl; sees = ([], sym (append-nil (seen p))); own = sym (append-nil (own_list p)); took_in = refl; draws_none = refl }
 
-pub goes_on : (h : Hub) (p q r : Pass) (E F : List Entry) → Goes h p E q → Goes h q F r → Goes h p (E ++ F) r
+pub goes_on : (h : Hub) (p q r : Pass) (E F : List Entry) → PassGoes h p E q → PassGoes h q F r → PassGoes h p (E ++ F) r
 goes_on h p q r E F k l = record {
   caller = l.caller;
   number = l.number ∙ k.number;
@@ -89,7 +89,7 @@ none_noted n conn m no_memory none = refl
 
 -- what is noted of a forward
 one_wrote : (p q : Pass) (conn at : ℕ) (m : List ℕ) (looks : List Look) (reply : Reply) (x : Stamped) (pages pages' : Option (List ℕ)) (lost : Option LinkFault) → x.entry ≡ forward_entry (number_of p) conn m looks reply
-    → Made p (placed at x) q → Records pages pages' (made_note at (forward_entry (number_of p) conn m looks reply) ∷ []) lost
+    → MadeEntry p (placed at x) q → Records pages pages' (made_note at (forward_entry (number_of p) conn m looks reply) ∷ []) lost
     → Wrote q pages pages' (made_at (Some (replies at looks reply)) (forward_made (number_of p) conn m (replies at looks reply))) lost
 one_wrote p q conn at m looks reply x pages pages' lost is makes records = (let k : Placed = record { at = at; stamped = x } in wrote_made p q k (forward_entry (number_of p) conn m looks reply) pages pages' lost makes is records)
 

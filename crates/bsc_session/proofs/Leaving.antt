@@ -23,7 +23,7 @@ use Rattle.arrayvec.specs.ArrayVec.{ArrayVec}
 use Rattle.bsc_session.specs.declared.stop.Stop.{Stop}
 use Rattle.bsc_session.specs.declared.why.Why.TheVariants.{Denied, EndedBy, NoMemory, NotBinary, PeerClosed, PeerLeft, Refused, Worn}
 use Rattle.bsc_lines.specs.declared.denial.Denial.{Denial}
-use Rattle.bsc_session.specs.Answering.{Fits, calls, cause_of, denial_in, last_wanted, stop_by, stop_given, stop_judged, stop_message}
+use Rattle.bsc_session.specs.Answering.{AnswerFits, calls, cause_of, denial_in, last_wanted, stop_by, stop_given, stop_judged, stop_message}
 use Rattle.bsc_session.specs.Causes.{AnswersLeaving, HasAnswered, answer_in, given_in, hearing_fault, judged_in}
 use Rattle.bsc_session.specs.Judging.{heard, heard_step, verdict_on}
 use Rattle.bsc_session.specs.Receiving.{Answer, replies, worn, no_memory, Hearing}
@@ -98,7 +98,7 @@ fault_left : (f : LinkFault) → (stop_at f).why ≡ PeerLeft → ⊥
 fault_left Failed h = cc
 fault_left MemoryFault h = cc
 
-step_left : (v : Terms) (s : Standing) (st : Step) (a : Option Answer) (stop : Stop) → closes (cause_of st a) (closing_in (last_wanted v s st a)) ≡ Some stop → is_some a ≡ calls st → Fits st a → stop.why ≡ PeerLeft
+step_left : (v : Terms) (s : Standing) (st : Step) (a : Option Answer) (stop : Stop) → closes (cause_of st a) (closing_in (last_wanted v s st a)) ≡ Some stop → is_some a ≡ calls st → AnswerFits st a → stop.why ≡ PeerLeft
     → (c : Closing) × (closing_in st ≡ Some c)
 step_left v s (Ask who) (Some (replies at l (RefusedReply r))) stop is calls fits why =
     let k : Refused r ≡ PeerLeft = sym (closes_why (Refused r) (closing_in (last_wanted v s (Ask who) (Some (replies at l (RefusedReply r))))) stop is) ∙ why in cc
@@ -111,7 +111,7 @@ step_left v s st None stop is calls fits why = cc
 step_left v s st (Some a) stop is calls fits why = cc
 
 -- a stop that has the cause of a peer that left is by a step that closes, and no put failed
-answered_left : (v : Terms) (s : Standing) (st : Step) (a : Option Answer) (fault : Option LinkFault) (stop : Stop) → is_some a ≡ calls st → Fits st a
+answered_left : (v : Terms) (s : Standing) (st : Step) (a : Option Answer) (fault : Option LinkFault) (stop : Stop) → is_some a ≡ calls st → AnswerFits st a
     → first_of (stop_by a) (first_of (stop_if fault) (closes (cause_of st a) (closing_in (last_wanted v s st a)))) ≡ Some stop → stop.why ≡ PeerLeft
     → (fault ≡ None) × ((c : Closing) × (closing_in st ≡ Some c))
 answered_left v s st (Some worn) fault stop calls fits is why = (let k : Worn ≡ PeerLeft = sym (why_is _ stop is) ∙ why in cc)
@@ -123,7 +123,7 @@ carried_left : (v : Terms) (s : Standing) (fault : Option LinkFault) (stop : Sto
 carried_left v s None stop is why = cc
 carried_left v s (Some f) stop is why = fault_left f (sym (why_is (stop_at f) stop is) ∙ why)
 
-message_left : (v : Terms) (s : Standing) (st : Step) (d : Option Denial) (a : Option Answer) (fault : Option LinkFault) (stop : Stop) → is_some a ≡ is_none d && calls st → Fits st a → stop_message v s st d a None fault ≡ Some stop → stop.why ≡ PeerLeft
+message_left : (v : Terms) (s : Standing) (st : Step) (d : Option Denial) (a : Option Answer) (fault : Option LinkFault) (stop : Stop) → is_some a ≡ is_none d && calls st → AnswerFits st a → stop_message v s st d a None fault ≡ Some stop → stop.why ≡ PeerLeft
     → (fault ≡ None) × ((c : Closing) × (closing_in st ≡ Some c))
 message_left v s st None a fault stop calls fits is why = answered_left v s st a fault stop calls fits is why
 message_left v s st (Some d) (Some a) fault stop calls fits is why = cc
@@ -132,7 +132,7 @@ message_left v s Up (Some d) None fault stop calls fits is why = absurd (carried
 message_left v s st (Some d) None fault stop calls fits is why = answered_left v s st None fault stop refl fits is why
 
 judged_left : (v : Terms) (s0 s : Standing) (now : ℕ) (m : List ℕ) (judged : Bool) (d : Option Denial) (a : Option Answer) (lost fault : Option LinkFault) (stop : Stop) → (has_quit (standing s0.events) ≡ true → ⊥)
-    → is_some a ≡ is_none d && calls (heard_step v s0 now judged (Ok (Message m))) → Fits (heard_step v s0 now judged (Ok (Message m))) a
+    → is_some a ≡ is_none d && calls (heard_step v s0 now judged (Ok (Message m))) → AnswerFits (heard_step v s0 now judged (Ok (Message m))) a
     → stop_judged judged (stop_message v s (heard_step v s0 now judged (Ok (Message m))) d a None fault) ≡ Some stop → stop.why ≡ PeerLeft
     → AnswersLeaving v s0 (record { given = Ok (Message m); judged = judged; answer = a; lost = lost; fault = fault })
 judged_left v s0 s now m true d a lost fault stop quit calls fits is why =
@@ -142,7 +142,7 @@ judged_left v s0 s now m true d a lost fault stop quit calls fits is why =
 judged_left v s0 s now m false d a lost fault stop quit calls fits is why = (let k : NoMemory ≡ PeerLeft = sym (why_is _ stop is) ∙ why in cc)
 
 given_left : (v : Terms) (s0 s : Standing) (now : ℕ) (given : Result Incoming LinkFault) (judged : Bool) (d : Option Denial) (a : Option Answer) (lost fault : Option LinkFault) (stop : Stop) → (has_quit (standing s0.events) ≡ true → ⊥)
-    → is_some a ≡ is_none d && calls (heard_step v s0 now judged given) → Fits (heard_step v s0 now judged given) a
+    → is_some a ≡ is_none d && calls (heard_step v s0 now judged given) → AnswerFits (heard_step v s0 now judged given) a
     → stop_given given (stop_judged judged (stop_message v s (heard_step v s0 now judged given) d a None fault)) ≡ Some stop → stop.why ≡ PeerLeft
     → AnswersLeaving v s0 (record { given = given; judged = judged; answer = a; lost = lost; fault = fault })
 given_left v s0 s now (Err f) judged d a lost fault stop quit calls fits is why = absurd (fault_left f (sym (why_is (stop_at f) stop is) ∙ why))

@@ -13,7 +13,7 @@ use Rattle.bsc_session.specs.declared.stop.Stop.{Stop}
 use Rattle.bsc_session.specs.declared.why.Why.{Why}
 use Rattle.bsc_session.specs.declared.why.Why.TheVariants.{PeerClosed, NotBinary, PeerLeft, Refused, WaitExpired, Idle, EndedBy, Worn, LinkFault as WhyLinkFault, JournalFault, NoMemory, Spent, Denied}
 use Rattle.bsc_session.specs.Causes.{AreExact, AreExactBy, CausesAreExact, EndsOtherwise, HasAnswered, HasIdled, HasWaited, IsDenied, LacksMemory, answer_in, given_in, hearing_fault, judged_in, last_fault}
-use Rattle.bsc_session.specs.Course.{Course, EachTurn, Stops, and_last, end_of, standing}
+use Rattle.bsc_session.specs.Course.{EachTurn, SessionCourse, Stops, and_last, end_of, standing}
 use Rattle.bsc_session.specs.Standings.{Standing, Terms, begun}
 use Rattle.bsc_session.specs.Talk.{first_lost, named, named_lost, noted_leaving}
 use Rattle.bsc_session.specs.Turns.{IsTurn, Turn, after, stop_in}
@@ -187,7 +187,7 @@ exact : (v : Terms) (ts : List Turn) (last : Option Turn) (stop : Stop) → stop
 exact v ts None stop unlost are stops = rw (stops.1) (exact_spent v (standing v begun ts) (standing v begun ts).ended)
 exact v ts (Some t) stop unlost are stops = rw (standing-more v begun ts t) (exact_turn v (standing v begun ts) t _ stop.why (stops_by v (standing v begun ts) t stop unlost (sound_turns v begun ts sound_begun) (each_last IsTurn v begun ts t are) stops))
 
-exact_by : (v : Terms) (c : Course v) (left : Option LinkFault) → ((f : LinkFault) → c.stop.lost ≡ Some f → left ≡ None)
+exact_by : (v : Terms) (c : SessionCourse v) (left : Option LinkFault) → ((f : LinkFault) → c.stop.lost ≡ Some f → left ≡ None)
     → AreExactBy v (standing v begun c.went_on) c.last (end_of c).ended (first_lost c.stop.lost left) (named_lost left (named (end_of c).ended c.stop.why))
 exact_by v c left clear =
     let told = tells_stop v (standing v begun c.went_on) c.last c.stop c.stops in

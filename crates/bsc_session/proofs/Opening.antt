@@ -18,7 +18,7 @@ use Rattle.bsc_accept.specs.declared.start.Start.{Start}
 use Rattle.bsc_accept.specs.declared.step.Step.{Step}
 use Rattle.bsc_accept.specs.declared.step.Step.TheVariants.{Close, Nothing}
 use Rattle.bsc_accept.specs.Past.{Standing as MachineStanding, awaiting_request, connected, disconnecting, last_message, phase, standing}
-use Rattle.bsc_accept.specs.Standing.{Answers as MachineAnswers, LeftBy, StandsFor}
+use Rattle.bsc_accept.specs.Standing.{AcceptingAnswers, AcceptingStands, LeavesAccepting}
 use Rattle.bsc_accept.specs.Steps.{ended_step, normal, tick_step}
 use Rattle.bsc_accept.specs.Waits.{connect_wait_is_over, disconnect_wait_is_over, is_idle}
 use Rattle.bsc_session.specs.declared.bounds.TheConstants.{TAKES}
@@ -35,9 +35,9 @@ use Rattle.bsc_session.specs.Answering.{calls}
 use Rattle.bsc_notes.specs.Notes.{HasLine, Records, denied}
 use Rattle.bsc_session.specs.Guarding.{denials, let_through}
 use Rattle.bsc_session.specs.CarryingOut.{Carries, TellsMore, is_more, stop_of}
-use Rattle.bsc_session.specs.Following.{Follows, HasEnded, HasFound, Runs, Tied, address_by, conn_of, given_by}
+use Rattle.bsc_session.specs.Following.{Follows, HasFound, OutletHasEnded, SessionRuns, Tied, address_by, conn_of, given_by}
 use Rattle.bsc_session.specs.TakingFrames.{Takes, cut_in, met_in, unput_in}
-use Rattle.bsc_session.specs.Opening.{Attends, Meets, Opens, SameMember, TakesFrom, Ticks}
+use Rattle.bsc_session.specs.Opening.{Attends, MeetsEnd, Opens, SameMember, TakesFrom, Ticks}
 use Rattle.bsc_session.specs.Puts.{HasPut, octets_in, puts}
 use Rattle.bsc_session.specs.Reading.{started, ticked, wanted_at}
 use Rattle.bsc_session.specs.Standings.{Standing, Terms, is_connected, is_phase_connected, start_of, told, wanted}
@@ -64,7 +64,7 @@ follows_told : (a : At) (s : Standing) (m : Accepting) (now : ℕ) → Follows a
 follows_told a s m now f = record { conn = f.conn; address = f.address; ended = f.ended; receives = f.receives; found = f.found }
 
 -- the reading closes the session
-pub ticks_closed : (v : Terms) (s : Standing) (now : ℕ) (a : At) (m : Accepting) (st : Step) (c : Closing) (why : Why) (stop : Stop) → Follows a s → Runs v a s → MachineAnswers a.machine m (Tick now) st
+pub ticks_closed : (v : Terms) (s : Standing) (now : ℕ) (a : At) (m : Accepting) (st : Step) (c : Closing) (why : Why) (stop : Stop) → Follows a s → SessionRuns v a s → AcceptingAnswers a.machine m (Tick now) st
     → closing_in st ≡ Some c → why ≡ waiting_for (conn_of a.member) → stop ≡ stop_for why (Some c)
     → Ticks v s now a (record { machine = m; member = a.member; ended = a.ended; receives = a.receives }) (Some stop)
 ticks_closed v s now a m st c why stop f r answers closing waits is =
@@ -74,12 +74,12 @@ ticks_closed v s now a m st c why stop f r answers closing waits is =
     record { member = refl; stops = rw (k, is, w) refl; follows = follows_told a s m now f; runs = λ going. cc }
 
 -- it doesn't
-pub ticks_on : (v : Terms) (s : Standing) (now : ℕ) (a : At) (m : Accepting) (st : Step) → Follows a s → Runs v a s → MachineAnswers a.machine m (Tick now) st → LeftBy st m
+pub ticks_on : (v : Terms) (s : Standing) (now : ℕ) (a : At) (m : Accepting) (st : Step) → Follows a s → SessionRuns v a s → AcceptingAnswers a.machine m (Tick now) st → LeavesAccepting st m
     → closing_in st ≡ None → Ticks v s now a (record { machine = m; member = a.member; ended = a.ended; receives = a.receives }) None
 ticks_on v s now a m st f r answers left closing =
     let does = answers (start_of v s) s.events r.machine in
     let k : closing_in (wanted v s (Tick now)) ≡ None = rw does.0 at closing in
-    let l : LeftBy (wanted v s (Tick now)) m = rw does.0 at left in
+    let l : LeavesAccepting (wanted v s (Tick now)) m = rw does.0 at left in
     record {
       member = refl;
       stops = rw k refl;
@@ -95,7 +95,7 @@ ticks_on v s now a m st f r answers left closing =
 
 -- ---- the taking
 
-keep_end : (e : Option End) (m : Member) (p : Outlet) → ((d : End) → HasEnded m.outlet d → HasEnded p d) → HasFound e (Some m) → HasFound e (Some (record { conn = m.conn; address = m.address; outlet = p }))
+keep_end : (e : Option End) (m : Member) (p : Outlet) → ((d : End) → OutletHasEnded m.outlet d → OutletHasEnded p d) → HasFound e (Some m) → HasFound e (Some (record { conn = m.conn; address = m.address; outlet = p }))
 keep_end None m p keeps h = tt
 keep_end (Some d) m p keeps h = keeps d h
 
@@ -162,7 +162,7 @@ line_so v s policy m n old new pages pages' taken fixed there t = subst (λ w. H
 attends_on : (v : Terms) (s : Standing) (now : ℕ) (policy : Option Policy) (a : At) (n : Option Member) (old new : Option (List Said)) (pages pages' : Option (List ℕ)) (taken : Taken) (backlog : Backlog)
     → v.policy ≡ policy → met_in taken ≡ None → cut_in taken ≡ None → unput_in taken ≡ None
     → (t : TakesFrom policy a.member n old new pages pages' taken) → is_more backlog ≡ may_be_more t.frames None
-    → Follows a s → Runs v a s
+    → Follows a s → SessionRuns v a s
     → Attends v s now a (record { machine = a.machine; member = n; ended = a.ended; receives = a.receives }) old new pages pages' (Ok backlog)
 attends_on v s now policy a n old new pages pages' taken backlog fixed unmet uncut unlost t more f r = record {
   frames = t.frames;
@@ -193,13 +193,13 @@ many_more frames many = ap (λ (n : ℕ). not (nat_lt n TAKES)) (sym many)
 
 -- nothing more was there
 pub attends_all : (v : Terms) (s : Standing) (now : ℕ) (policy : Option Policy) (a : At) (n : Option Member) (old new : Option (List Said)) (pages pages' : Option (List ℕ))
-    → v.policy ≡ policy → TakesFrom policy a.member n old new pages pages' All → Follows a s → Runs v a s
+    → v.policy ≡ policy → TakesFrom policy a.member n old new pages pages' All → Follows a s → SessionRuns v a s
     → Attends v s now a (record { machine = a.machine; member = n; ended = a.ended; receives = a.receives }) old new pages pages' (Ok NothingLeft)
 attends_all v s now policy a n old new pages pages' fixed t f r = attends_on v s now policy a n old new pages pages' All NothingLeft fixed refl refl refl t (few_more t.frames t.fits) f r
 
 -- there may be more
 pub attends_part : (v : Terms) (s : Standing) (now : ℕ) (policy : Option Policy) (a : At) (n : Option Member) (old new : Option (List Said)) (pages pages' : Option (List ℕ))
-    → v.policy ≡ policy → TakesFrom policy a.member n old new pages pages' Part → Follows a s → Runs v a s
+    → v.policy ≡ policy → TakesFrom policy a.member n old new pages pages' Part → Follows a s → SessionRuns v a s
     → Attends v s now a (record { machine = a.machine; member = n; ended = a.ended; receives = a.receives }) old new pages pages' (Ok MaybeMore)
 attends_part v s now policy a n old new pages pages' fixed t f r = attends_on v s now policy a n old new pages pages' Part MaybeMore fixed refl refl refl t (many_more t.frames t.fits) f r
 
@@ -256,13 +256,13 @@ ended_calls Full = refl
 ended_calls e = refl
 
 -- the machine was told an End
-pub meets : (v : Terms) (s : Standing) (now : ℕ) (e : End) (a : At) (m : Accepting) (st : Step) (old new : Option (List Said)) (stop : Option Stop) → StandsFor a.machine (start_of v s) s.events → Tied s
-    → MachineAnswers a.machine m (Ended now e) st → LeftBy st m → Carries old new st (EndedBy e) stop
-    → Meets v s now e a (record { machine = m; member = a.member; ended = Some e; receives = a.receives }) old new stop
+pub meets : (v : Terms) (s : Standing) (now : ℕ) (e : End) (a : At) (m : Accepting) (st : Step) (old new : Option (List Said)) (stop : Option Stop) → AcceptingStands a.machine (start_of v s) s.events → Tied s
+    → AcceptingAnswers a.machine m (Ended now e) st → LeavesAccepting st m → Carries old new st (EndedBy e) stop
+    → MeetsEnd v s now e a (record { machine = m; member = a.member; ended = Some e; receives = a.receives }) old new stop
 meets v s now e a m st old new stop stood tied answers left carried =
     let does = answers (start_of v s) s.events stood in
     let k : Carries old new (wanted v s (Ended now e)) (EndedBy e) stop = rw does.0 at carried in
-    let l : LeftBy (wanted v s (Ended now e)) m = rw does.0 at left in
+    let l : LeavesAccepting (wanted v s (Ended now e)) m = rw does.0 at left in
     record {
       carried = k;
       member = refl;
@@ -276,7 +276,7 @@ not_left e h is = h cc
 
 -- the taking came to an End, and what the machine then wanted was carried out
 pub attends_met : (v : Terms) (s : Standing) (now : ℕ) (policy : Option Policy) (a b : At) (n : Option Member) (old mid new : Option (List Said)) (pages pages' : Option (List ℕ)) (e : End) (stop : Option Stop) (result : Result Backlog Stop)
-    → v.policy ≡ policy → TakesFrom policy a.member n old mid pages pages' (Met e) → Follows a s → Meets v s now e (record { machine = a.machine; member = n; ended = a.ended; receives = a.receives }) b mid new stop
+    → v.policy ≡ policy → TakesFrom policy a.member n old mid pages pages' (Met e) → Follows a s → MeetsEnd v s now e (record { machine = a.machine; member = n; ended = a.ended; receives = a.receives }) b mid new stop
     → stop_of result ≡ stop → TellsMore result false → Attends v s now a b old new pages pages' result
 attends_met v s now policy a b n old mid new pages pages' e stop result fixed t f k is more = record {
   frames = t.frames;
@@ -369,5 +369,5 @@ phase_connected PhaseConnected h = refl
 phase_connected p h = cc
 
 -- in Connected there is a connection
-pub followed_some : (v : Terms) (s : Standing) (a : At) → Follows a s → Runs v a s → is_connected s ≡ true → is_some a.member ≡ true
+pub followed_some : (v : Terms) (s : Standing) (a : At) → Follows a s → SessionRuns v a s → is_connected s ≡ true → is_some a.member ≡ true
 followed_some v s a f r h = some_of a.member s.conn f.conn (sym (connected_joined (standing s.events) (phase_connected (phase s.events) h)) ∙ r.tied)

@@ -12,12 +12,12 @@ use Rattle.bsc_ring.specs.Ends.{FoundEnd, empties_of, given, known_pushed, knows
 use Rattle.bsc_hub.specs.Calls.{leave_made, leave_stamped}
 use Rattle.bsc_desk.specs.Entries.{leave_entry}
 use Rattle.bsc_history.specs.Marks.{entries}
-use Rattle.bsc_accept.specs.Standing.{IsOpen, StandsFor}
+use Rattle.bsc_accept.specs.Standing.{AcceptingStands, IsOpen}
 use Rattle.bsc_turn.specs.declared.pass.Pass.{Pass}
 use Rattle.bsc_turn.specs.Histories.{StartsWith}
 use Rattle.bsc_turn.specs.Passes.{number_of, seen}
 use Rattle.bsc_hub.specs.declared.hub.Hub.{Hub}
-use Rattle.bsc_hub.specs.Passing.{IsCaller, Made, Passed, Placed, about_of}
+use Rattle.bsc_hub.specs.Passing.{IsCaller, MadeEntry, Passed, Placed, about_of}
 use Rattle.bsc_policy.specs.declared.policy.Policy.{Policy}
 use Rattle.bsc_notes.specs.Notes.{HasLine, Note, Records, made}
 use Rattle.bsc_edge.specs.declared.fault.LinkFault.{LinkFault}
@@ -28,14 +28,14 @@ use Rattle.bsc_session.specs.declared.limits.SessionLimits.{SessionLimits}
 use Rattle.bsc_session.specs.declared.member.Member.{Member}
 use Rattle.bsc_session.specs.declared.stop.Stop.{Stop}
 use Rattle.bsc_session.specs.declared.why.Why.{Why}
-use Rattle.bsc_session.specs.Course.{standing, shares, total, GoesOn, and_last, said_closing}
+use Rattle.bsc_session.specs.Course.{standing, shares, total, TurnGoesOn, and_last, said_closing}
 use Rattle.bsc_session.specs.declared.ended.Ended.{Ended}
 use Rattle.bsc_session.specs.Laws.{GrowsToFault}
 use Rattle.bsc_session.specs.CarryingOut.{UnputBy, Wrote}
-use Rattle.bsc_session.specs.Following.{HasEnded, HasFound, Held, empties_by, given_by}
+use Rattle.bsc_session.specs.Following.{HasFound, Held, OutletHasEnded, empties_by, given_by}
 use Rattle.bsc_session.specs.MakingTurns.{AreTerms, HasTerms, Makes}
-use Rattle.bsc_session.specs.Running.{Parts, Ran, ServesBy, Stood}
-use Rattle.bsc_session.specs.Serving.{Goes, Serves, ServesNoting, terms_of}
+use Rattle.bsc_session.specs.Running.{Parts, ServesBy, SessionRan, Stood}
+use Rattle.bsc_session.specs.Serving.{PassGoes, Serves, ServesNoting, terms_of}
 use Rattle.bsc_session.specs.Standings.{Standing, Terms, begun, start_of}
 use Rattle.bsc_session.specs.Talk.{first_lost, leaving, named, named_lost, noted_leaving}
 use Rattle.bsc_session.specs.Turns.{Turn, IsTurn, reading_in, frames_in, notes_in, said_in, entries_in, empties_in}
@@ -50,7 +50,7 @@ use Rattle.bsc_session.proofs.Wearing.{wears_left}
 use Rattle.bsc_lemmas.proofs.Options.{same_some_number as conn_is}
 
 -- before the first turn
-pub stood_begins : (v : Terms) (h : Hub) (p : Pass) (a : At) (old : Option (List Said)) (read pages : Option (List ℕ)) → IsCaller h p → number_of p ≡ v.caller → StandsFor a.machine (start_of v begun) [] → IsOpen a.machine
+pub stood_begins : (v : Terms) (h : Hub) (p : Pass) (a : At) (old : Option (List Said)) (read pages : Option (List ℕ)) → IsCaller h p → number_of p ≡ v.caller → AcceptingStands a.machine (start_of v begun) [] → IsOpen a.machine
     → a.member ≡ None → a.ended ≡ None → a.receives ≡ 0 → Stood v h p p a old old read read pages pages
 stood_begins v h p a old read pages is number stands waits alone unended none = record {
   turns = [];
@@ -82,7 +82,7 @@ pub received_more : (v : Terms) (s : Standing) (h : Hub) (p q : Pass) (a b : At)
 received_more v s h p q a b old new read read' pages pages' held k = k.held.follows.receives ∙ receives_more v s h p q a b old new read read' pages pages' k ∙ ap (λ n. n + 1) (sym held.follows.receives)
 
 -- what so many turns and one more come to
-more_goes : (v : Terms) (h : Hub) (p0 p q : Pass) (ts : List Turn) (t : Turn) → Goes h p0 (shares entries_in v begun ts) p → Goes h p (entries_in v (standing v begun ts) t) q → Goes h p0 (shares entries_in v begun (ts ++ t ∷ [])) q
+more_goes : (v : Terms) (h : Hub) (p0 p q : Pass) (ts : List Turn) (t : Turn) → PassGoes h p0 (shares entries_in v begun ts) p → PassGoes h p (entries_in v (standing v begun ts) t) q → PassGoes h p0 (shares entries_in v begun (ts ++ t ∷ [])) q
 more_goes v h p0 p q ts t k l = goes_as h p0 q _ _ (sym (shares-more entries_in v begun ts t)) (goes_on h p0 p q _ _ k l)
 
 more_gave : (v : Terms) (m n : Option Member) (ts : List Turn) (t : Turn) → given_by m ≡ shares frames_in v begun ts → given_by n ≡ given_by m ++ t.opening.frames → given_by n ≡ shares frames_in v begun (ts ++ t ∷ [])
@@ -102,12 +102,12 @@ more_wrote v p q ts t a b c lost more k l line = wrote_as q a c _ _ lost (sym (s
 pub stood_more : (v : Terms) (h : Hub) (p0 p q : Pass) (a b : At) (old mid new : Option (List Said)) (read read' read'' pages pages' pages'' : Option (List ℕ)) → (k : Stood v h p0 p a old mid read read' pages pages')
     → Makes v (standing v begun k.turns) h p q a b mid new read' read'' pages' pages'' None → Stood v h p0 q b old new read read'' pages pages''
 stood_more v h p0 p q a b old mid new read read' read'' pages pages' pages'' k m =
-    let on : GoesOn v (standing v begun k.turns) m.turn = sym m.stops in
+    let on : TurnGoesOn v (standing v begun k.turns) m.turn = sym m.stops in
     let next = standing-more v begun k.turns m.turn in
     record {
       turns = k.turns ++ m.turn ∷ [];
       are = each-more IsTurn v begun k.turns m.turn k.are m.is;
-      on = each-more GoesOn v begun k.turns m.turn k.on on;
+      on = each-more TurnGoesOn v begun k.turns m.turn k.on on;
       goes = more_goes v h p0 p q k.turns m.turn k.goes m.goes;
       gave = more_gave v a.member b.member k.turns m.turn k.gave m.gave;
       empties = more_empties v a.member b.member k.turns m.turn k.empties m.empties;
@@ -120,7 +120,7 @@ stood_more v h p0 p q a b old mid new read read' read'' pages pages' pages'' k m
 
 -- a turn that stops the session
 pub ran_stopped : (v : Terms) (h : Hub) (p0 p q : Pass) (a b : At) (old mid new : Option (List Said)) (read read' read'' pages pages' pages'' : Option (List ℕ)) (stop : Stop) → (k : Stood v h p0 p a old mid read read' pages pages')
-    → Makes v (standing v begun k.turns) h p q a b mid new read' read'' pages' pages'' (Some stop) → Ran v h p0 q b old new read read'' pages pages'' stop
+    → Makes v (standing v begun k.turns) h p q a b mid new read' read'' pages' pages'' (Some stop) → SessionRan v h p0 q b old new read read'' pages pages'' stop
 ran_stopped v h p0 p q a b old mid new read read' read'' pages pages' pages'' stop k m = record {
   went_on = k.turns;
   last = Some m.turn;
@@ -139,7 +139,7 @@ ran_stopped v h p0 p q a b old mid new read read' read'' pages pages' pages'' st
 
 -- the link was closed and the hub left
 pub serves : (v : Terms) (h : Hub) (p0 p q : Pass) (a : At) (old mid new : Option (List Said)) (read read' pages pages' pages'' : Option (List ℕ)) (stop : Stop) (conn : Option ℕ) (taken empties : ℕ) (lost : Option LinkFault) (why : Why)
-    → Ran v h p0 p a old mid read read' pages pages' stop → Grows mid new (said_closing stop.closing) → Parts v h p q pages' pages'' stop.lost a.member a.ended conn taken empties lost → why ≡ named_lost lost (named a.ended stop.why)
+    → SessionRan v h p0 p a old mid read read' pages pages' stop → Grows mid new (said_closing stop.closing) → Parts v h p q pages' pages'' stop.lost a.member a.ended conn taken empties lost → why ≡ named_lost lost (named a.ended stop.why)
     → Serves v h p0 q old new read read' (record { why = why; conn = conn; taken = taken; empties = empties; turns = a.receives })
 serves v h p0 p q a old mid new read read' pages pages' pages'' stop conn taken empties lost why r closed left is = record {
   T = shares said_in v begun (and_last r.went_on r.last) ++ said_closing stop.closing;
@@ -178,7 +178,7 @@ records_leave a b c ns (Some fault) at es (Some other) h k line = absurd line
 
 -- and what was noted of all is in the journal
 pub serves_noting : (v : Terms) (h : Hub) (p0 p q : Pass) (a : At) (old mid new : Option (List Said)) (read read' pages pages' pages'' : Option (List ℕ)) (stop : Stop) (conn : Option ℕ) (taken empties : ℕ) (lost : Option LinkFault) (why : Why)
-    → Ran v h p0 p a old mid read read' pages pages' stop → Grows mid new (said_closing stop.closing) → Parts v h p q pages' pages'' stop.lost a.member a.ended conn taken empties lost → why ≡ named_lost lost (named a.ended stop.why)
+    → SessionRan v h p0 p a old mid read read' pages pages' stop → Grows mid new (said_closing stop.closing) → Parts v h p q pages' pages'' stop.lost a.member a.ended conn taken empties lost → why ≡ named_lost lost (named a.ended stop.why)
     → ServesNoting v h p0 q old new read read' pages pages'' (record { why = why; conn = conn; taken = taken; empties = empties; turns = a.receives })
 unfolding serves
 serves_noting v h p0 p q a old mid new read read' pages pages' pages'' stop conn taken empties lost why r closed left is = record {
@@ -189,7 +189,7 @@ serves_noting v h p0 p q a old mid new read read' pages pages' pages'' stop conn
 
 -- and none of its lines was lost, where none is made
 pub serves_by : (makes : Bool) (v : Terms) (h : Hub) (p0 p q : Pass) (a : At) (old mid new : Option (List Said)) (read read' pages pages' pages'' : Option (List ℕ)) (stop : Stop) (conn : Option ℕ) (taken empties : ℕ) (lost : Option LinkFault) (why : Why) (m n k l : ℕ)
-    → Ran v h p0 p a old mid read read' pages pages' stop → Grows mid new (said_closing stop.closing) → Parts v h p q pages' pages'' stop.lost a.member a.ended conn taken empties lost → why ≡ named_lost lost (named a.ended stop.why)
+    → SessionRan v h p0 p a old mid read read' pages pages' stop → Grows mid new (said_closing stop.closing) → Parts v h p q pages' pages'' stop.lost a.member a.ended conn taken empties lost → why ≡ named_lost lost (named a.ended stop.why)
     → UnputBy makes stop.lost m n → UnputBy makes lost k l
     → ServesBy makes v h p0 q old new read read' pages pages'' (record { why = why; conn = conn; taken = taken; empties = empties; turns = a.receives })
 unfolding serves serves_noting
@@ -202,12 +202,12 @@ serves_by makes v h p0 p q a old mid new read read' pages pages' pages'' stop co
 pub grows_to_fault : (v : Terms) (h : Hub) (p q : Pass) (old new : Option (List Said)) (read read' : Option (List ℕ)) (ended : Ended) → Serves v h p q old new read read' ended → GrowsToFault old new
 grows_to_fault v h p q old new read read' ended k = (k.T, k.talk, sessions_end_at_fault v k.T k.R k.E _ ended k.session)
 
-ended_found : (e : End) (d : Option End) (m : Member) → d ≡ Some e → HasFound d (Some m) → HasEnded m.outlet e
+ended_found : (e : End) (d : Option End) (m : Member) → d ≡ Some e → HasFound d (Some m) → OutletHasEnded m.outlet e
 ended_found e None m is h = cc
 ended_found e (Some x) m is h = (let k : HasFound (Some e) (Some m) = rw is at h in k)
 
 -- the line of a Leave, unless one was lost before
-wrote_left : (p q : Pass) (conn found empties : ℕ) (t : Told Gone) (pages pages' : Option (List ℕ)) (before lost : Option LinkFault) → empties ≡ found → Made p (leave_made (number_of p) conn found t) q
+wrote_left : (p q : Pass) (conn found empties : ℕ) (t : Told Gone) (pages pages' : Option (List ℕ)) (before lost : Option LinkFault) → empties ≡ found → MadeEntry p (leave_made (number_of p) conn found t) q
     → Records pages pages' (noted_leaving before t.at (leave_entry (number_of p) conn empties t.said ∷ [])) lost
     → Wrote q pages pages' (noted_leaving before t.at (leave_entry (number_of p) conn empties t.said ∷ [])) lost
 wrote_left p q conn found empties t pages pages' None lost counted makes records = (

@@ -17,7 +17,7 @@ use Rattle.bsc_ring.specs.Ends.{FoundEnd, Took, empties_of, found, given, known_
 use Rattle.bsc_session.specs.declared.bounds.TheConstants.{TAKES}
 use Rattle.bsc_session.specs.declared.taken.Taken.{Taken}
 use Rattle.bsc_session.specs.declared.taken.Taken.TheVariants.{All, Part, Met, Cut, Lost}
-use Rattle.bsc_session.specs.Following.{HasEnded}
+use Rattle.bsc_session.specs.Following.{OutletHasEnded}
 use Rattle.bsc_session.specs.TakingFrames.{FitsCount, HandsOn, IsCut, Taking, Takes, cut_in, met_in, nothing_found, unput_in}
 use Rattle.bsc_session.specs.Puts.{puts, HasPut}
 use Rattle.bsc_session.proofs.Lists.{grows_as, grown, grows-nil, puts-append, well}
@@ -63,7 +63,7 @@ keeps_all o p (Frame x) h whole all =
 keeps_all o p Empty h whole all = absurd (no_longer (knows_all p) (h.0.4.2 whole).1 h.0.3.3)
 keeps_all o p (Closed e) h whole all = (h.0.3.3, h.0.1 ∙ sym h.0.0)
 
-keeps_ended : (o p : Outlet) (t : Take) (e : End) → Took o t p → HasEnded o e → HasEnded p e
+keeps_ended : (o p : Outlet) (t : Take) (e : End) → Took o t p → OutletHasEnded o e → OutletHasEnded p e
 keeps_ended o p t e took h = (let k = keeps_all o p t took h.1 h.2 in (keeps_found o p t e took h.0, k.0, k.1))
 
 pub taking_begins : (policy : Option Policy) (to : Vmac) (o : Outlet) (old : Option (List Said)) (pages : Option (List ℕ)) → Taking policy to o o old old pages pages 0
@@ -139,7 +139,7 @@ takes_few policy to o p q old new a c n t few room took mark =
 
 -- an End was there
 pub takes_met : (policy : Option Policy) (to : Vmac) (o p q : Outlet) (old new : Option (List Said)) (a c : Option (List ℕ)) (n : ℕ) (e : End) → Taking policy to o p old new a c n → n < TAKES
-    → Took p (Closed e) q → outlet_mark q ≡ outlet_mark p → HasEnded q e → Takes policy to o q old new a c (Met e)
+    → Took p (Closed e) q → outlet_mark q ≡ outlet_mark p → OutletHasEnded q e → Takes policy to o q old new a c (Met e)
 takes_met policy to o p q old new a c n e t few took mark finds = record {
   frames = t.frames;
   mark = mark ∙ t.mark;
@@ -204,7 +204,7 @@ elem_there [] ys x = (0, refl)
 elem_there (y ∷ xs) ys x = (let k = elem_there xs ys x in (suc k.0, k.1))
 
 -- the loads of a take that answers Closed find that End, and all was given
-pub finds_end : (p q : Outlet) (e : End) → Took p (Closed e) q → HasEnded q e
+pub finds_end : (p q : Outlet) (e : End) → Took p (Closed e) q → OutletHasEnded q e
 finds_end p q e took =
     let there = elem_there (found p) (Tail (length (given p)) ∷ []) (Ending (Some e)) in
     let finds : FoundEnd q e = (there.0, rw took.0.3.0 there.1) in

@@ -19,8 +19,8 @@ use Rattle.bsc_session.specs.Standings.{Standing, Terms}
 use Rattle.bsc_session.specs.Talk.{Session, leaving, named}
 use Rattle.bsc_session.specs.Taking.{Opening, IsOpening, opened, stop_before}
 use Rattle.bsc_session.specs.Turns.{Turn, IsTurn}
-use Rattle.bsc_session.specs.Answering.{Fits, calls_hub, put_after, step_of}
-use Rattle.bsc_session.specs.Course.{Course, empties_of, end_of, entries_of, frames_of, readings_of, talk_of}
+use Rattle.bsc_session.specs.Answering.{AnswerFits, calls_hub, put_after, step_of}
+use Rattle.bsc_session.specs.Course.{SessionCourse, empties_of, end_of, entries_of, frames_of, readings_of, talk_of}
 use Rattle.bsc_session.specs.Judging.{LacksAtPass}
 use Rattle.bsc_session.specs.Puts.{HasPut}
 use Rattle.bsc_session.proofs.Recording.{no_line}
@@ -118,12 +118,12 @@ forwarded sender c m reply = record { caller = 3; call = Forward sender m; looks
 pub hears : (s : Standing) (now : ℕ) (given : Result Incoming LinkFault) (judged : Bool) (answer : Option Answer) (fault : Option LinkFault) → s.receives < terms.turns → true ≡ is_none (stop_before terms s (reads now))
     → LacksAtPass terms (opened s (reads now)) judged given
     → is_some answer ≡ calls_hub terms (opened s (reads now)) (step_of terms (opened s (reads now)) now (heard_so given judged answer fault)) given
-    → Fits (step_of terms (opened s (reads now)) now (heard_so given judged answer fault)) answer → HasPut (put_after terms (opened s (reads now)) now (heard_so given judged answer fault)) fault
+    → AnswerFits (step_of terms (opened s (reads now)) now (heard_so given judged answer fault)) answer → HasPut (put_after terms (opened s (reads now)) now (heard_so given judged answer fault)) fault
     → IsTurn terms s (record { opening = reads now; hearing = Some (heard_so given judged answer fault) })
 hears s now given judged answer fault room on memory calls fits cause = record { room = room; opening = bare s now; heard = on; hearing = record { memory = memory; calls = calls; fits = fits; line = no_line _; cause = cause } }
 
 -- what a course comes to is a session's
-pub told_by : (v : Terms) (c : Course v) (reply : End) → ((n : ℕ) (e : End) → (end_of c).conn ≡ Some n → (end_of c).ended ≡ Some e → reply ≡ e)
+pub told_by : (v : Terms) (c : SessionCourse v) (reply : End) → ((n : ℕ) (e : End) → (end_of c).conn ≡ Some n → (end_of c).ended ≡ Some e → reply ≡ e)
     → Session v (talk_of c) (readings_of c) (entries_of c ++ leaving v.caller (end_of c).conn (length (frames_of c)) (empties_of c) reply) (frames_of c)
     (record { why = named (end_of c).ended c.stop.why; conn = (end_of c).conn; taken = length (frames_of c); empties = empties_of c; turns = (end_of c).receives })
 told_by v c reply replied = record {

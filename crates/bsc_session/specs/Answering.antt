@@ -166,11 +166,11 @@ stop_hearing v s now h =
     (stop_message v (stands_heard v s now h) (step_of v s now h) (denial_in v s now h) h.answer h.lost h.fault))
 
 -- a connect is told that it joined or was refused
-abbrev pub Fits : Step → Option Answer → Type 0
-Fits (Ask who) (Some (replies at looks (Joined c replaced))) = looks ≡ []
-Fits (Ask who) (Some (replies at looks (Refused r))) = looks ≡ []
-Fits (Ask who) (Some (replies at looks reply)) = ⊥
-Fits st answer = ⊤
+abbrev pub AnswerFits : Step → Option Answer → Type 0
+AnswerFits (Ask who) (Some (replies at looks (Joined c replaced))) = looks ≡ []
+AnswerFits (Ask who) (Some (replies at looks (Refused r))) = looks ≡ []
+AnswerFits (Ask who) (Some (replies at looks reply)) = ⊥
+AnswerFits st answer = ⊤
 
 -- A hearing as it may be: memory for judging is wanting only where a message passes; the hub is called exactly at an Ask
 -- and an Up of which nothing is denied; a connect is told that it joined or was refused; a lost line is that of a note;
@@ -178,6 +178,6 @@ Fits st answer = ⊤
 pub record IsHearing (v : Terms) (s : Standing) (now : ℕ) (h : Hearing) : Type 0 where
   pub memory : LacksAtPass v s h.judged h.given
   pub calls : is_some h.answer ≡ calls_hub v s (step_of v s now h) h.given
-  pub fits : Fits (step_of v s now h) h.answer
+  pub fits : AnswerFits (step_of v s now h) h.answer
   pub line : HasLine (notes_hearing v s now h) h.lost
   pub cause : HasPut (put_after v s now h) h.fault

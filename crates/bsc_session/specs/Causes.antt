@@ -76,8 +76,8 @@ last_fault None = None
 last_fault (Some t) = hearing_fault t.opening.fault t.hearing
 
 -- The hub refused so.
-abbrev pub IsRefused : Option Answer → Refusal → Type 0
-IsRefused answer r = (at : ℕ) × (looks : List Look) × (answer ≡ Some (replies at looks (RefusedReply r)))
+abbrev pub IsHubRefusal : Option Answer → Refusal → Type 0
+IsHubRefusal answer r = (at : ℕ) × (looks : List Look) × (answer ≡ Some (replies at looks (RefusedReply r)))
 
 -- Memory was wanting: in the last call on the link, in judging, or in the call of the hub.
 abbrev pub LacksMemory : Option Turn → Type 0
@@ -156,7 +156,7 @@ pub record AreExact (v : Terms) (s : Standing) (last : Option Turn) (met : Optio
   pub peer_closed : why ≡ PeerClosed ↔ ((met ≡ None) × (last_given last ≡ Some (Ok Closed)))
   pub not_binary : why ≡ NotBinary ↔ ((met ≡ None) × (last_given last ≡ Some (Ok Text)))
   pub is_worn : why ≡ Worn ↔ ((met ≡ None) × (last_answer last ≡ Some worn))
-  pub refused : (r : Refusal) → why ≡ Refused r ↔ ((met ≡ None) × IsRefused (last_answer last) r × (last_fault last ≡ None))
+  pub refused : (r : Refusal) → why ≡ Refused r ↔ ((met ≡ None) × IsHubRefusal (last_answer last) r × (last_fault last ≡ None))
   pub peer_left : why ≡ PeerLeft ↔ ((met ≡ None) × HasAnswered v s last)
   pub denied : (rule : ℕ) → why ≡ Denied rule ↔ ((met ≡ None) × (rule ≡ 0) × IsDenied v s last)
   pub wait_expired : why ≡ WaitExpired ↔ ((met ≡ None) × HasWaited v s last)

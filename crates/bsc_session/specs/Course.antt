@@ -34,8 +34,8 @@ EachTurn P v s [] = ⊤
 EachTurn P v s (t ∷ ts) = P v s t × EachTurn P v (after v s t) ts
 
 -- The turn doesn't stop the session.
-abbrev pub GoesOn : Terms → Standing → Turn → Type 0
-GoesOn v s t = stop_in v s t ≡ None
+abbrev pub TurnGoesOn : Terms → Standing → Turn → Type 0
+TurnGoesOn v s t = stop_in v s t ≡ None
 
 -- the turns that went on, and the last one where there is one
 abbrev pub and_last : List Turn → Option Turn → List Turn
@@ -53,44 +53,44 @@ said_closing None = []
 said_closing (Some c) = Closed c.code (reason_text c.reason) ∷ []
 
 -- The course of a session: turns that went on, the last one, and the stop.
-pub record Course (v : Terms) : Type 0 where
+pub record SessionCourse (v : Terms) : Type 0 where
   pub went_on : List Turn
   pub last : Option Turn
   pub stop : Stop
   -- each turn is as it may be
   pub turns : EachTurn IsTurn v begun (and_last went_on last)
   -- all but the last go on
-  pub goes_on : EachTurn GoesOn v begun went_on
+  pub goes_on : EachTurn TurnGoesOn v begun went_on
   -- the last stops the session, or the receives are spent
   pub stops : Stops v (standing v begun went_on) last stop
 
-abbrev pub all_turns : {v : Terms} → Course v → List Turn
+abbrev pub all_turns : {v : Terms} → SessionCourse v → List Turn
 all_turns c = and_last c.went_on c.last
 
 -- What the turns say, and then the closing of the stop.
-abbrev pub talk_of : {v : Terms} → Course v → List Said
+abbrev pub talk_of : {v : Terms} → SessionCourse v → List Said
 talk_of {v} c = shares said_in v begun (all_turns c) ++ said_closing c.stop.closing
 
 -- One reading a turn.
-abbrev pub readings_of : {v : Terms} → Course v → List ℕ
+abbrev pub readings_of : {v : Terms} → SessionCourse v → List ℕ
 readings_of {v} c = shares reading_in v begun (all_turns c)
 
 -- One Connect for each Ask, one Forward for each Up, where the hub's answer makes an entry.
-abbrev pub entries_of : {v : Terms} → Course v → List Entry
+abbrev pub entries_of : {v : Terms} → SessionCourse v → List Entry
 entries_of {v} c = shares entries_in v begun (all_turns c)
 
 -- The frames of all turns.
-abbrev pub frames_of : {v : Terms} → Course v → List (List ℕ)
+abbrev pub frames_of : {v : Terms} → SessionCourse v → List (List ℕ)
 frames_of {v} c = shares frames_in v begun (all_turns c)
 
 -- What all turns note in the journal.
-abbrev pub notes_of : {v : Terms} → Course v → List Note
+abbrev pub notes_of : {v : Terms} → SessionCourse v → List Note
 notes_of {v} c = shares notes_in v begun (all_turns c)
 
 -- How many turns found the outbox empty.
-abbrev pub empties_of : {v : Terms} → Course v → ℕ
+abbrev pub empties_of : {v : Terms} → SessionCourse v → ℕ
 empties_of {v} c = total empties_in v begun (all_turns c)
 
 -- Where the session stands at its end.
-abbrev pub end_of : {v : Terms} → Course v → Standing
+abbrev pub end_of : {v : Terms} → SessionCourse v → Standing
 end_of {v} c = standing v begun (all_turns c)

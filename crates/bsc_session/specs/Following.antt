@@ -4,7 +4,7 @@ use Rattle.bsc_octets.specs.declared.vmac.Vmac.{Vmac}
 use Rattle.bsc_history.specs.declared.ending.End.{End}
 use Rattle.bsc_history.specs.Marks.{mark_of}
 use Rattle.bsc_accept.specs.Past.{Standing as MachineStanding, awaiting_request, connected, disconnecting, standing}
-use Rattle.bsc_accept.specs.Standing.{StandsFor, IsOpen}
+use Rattle.bsc_accept.specs.Standing.{AcceptingStands, IsOpen}
 use Rattle.bsc_ring.specs.declared.ends.Outlet.{Outlet}
 use Rattle.bsc_ring.specs.Ends.{FoundEnd, empties_of, given, known_pushed, knows_all, outlet_mark}
 use Rattle.bsc_turn.specs.declared.pass.Pass.{Pass}
@@ -38,14 +38,14 @@ IsMember p None = ⊤
 IsMember p (Some m) = IsOwnAs p m.conn m.address × (mark_of (seen p) m.conn ≡ Some (outlet_mark m.outlet))
 
 -- The outlet's loads found this End, and it gave all that was pushed.
-abbrev pub HasEnded : Outlet → End → Type 0
-HasEnded o e = FoundEnd o e × (knows_all o ≡ true) × (known_pushed o ≡ given o)
+abbrev pub OutletHasEnded : Outlet → End → Type 0
+OutletHasEnded o e = FoundEnd o e × (knows_all o ≡ true) × (known_pushed o ≡ given o)
 
 -- An End that was met was found by the outlet, which had then given all.
 abbrev pub HasFound : Option End → Option Member → Type 0
 HasFound None m = ⊤
 HasFound (Some e) None = ⊥
-HasFound (Some e) (Some m) = HasEnded m.outlet e
+HasFound (Some e) (Some m) = OutletHasEnded m.outlet e
 
 -- The code stands where the session stands, but for its machine and its pass.
 pub record Follows (a : At) (s : Standing) : Type 0 where
@@ -73,14 +73,14 @@ abbrev pub Tied : Standing → Type 0
 Tied s = has_joined (standing s.events) ≡ is_some s.conn
 
 -- The machine stands where the session stands, and is open.
-pub record Runs (v : Terms) (a : At) (s : Standing) : Type 0 where
-  pub machine : StandsFor a.machine (start_of v s) s.events
+pub record SessionRuns (v : Terms) (a : At) (s : Standing) : Type 0 where
+  pub machine : AcceptingStands a.machine (start_of v s) s.events
   pub waits : IsOpen a.machine
   pub tied : Tied s
 
 -- Some session stands where the code stands.
 abbrev pub HasStanding : Hub → Pass → At → Type 0
-HasStanding h p a = (v : Terms) × (s : Standing) × Held h v p a s × Runs v a s
+HasStanding h p a = (v : Terms) × (s : Standing) × Held h v p a s × SessionRuns v a s
 
 abbrev pub IsFollowed : At → Type 0
-IsFollowed a = (v : Terms) × (s : Standing) × Follows a s × Runs v a s
+IsFollowed a = (v : Terms) × (s : Standing) × Follows a s × SessionRuns v a s

@@ -19,23 +19,23 @@ use Rattle.bsc_hub.specs.Passing.{IsOwnAs}
 use Rattle.bsc_session.specs.declared.at.At.{At}
 use Rattle.bsc_session.specs.declared.stop.Stop.{Stop}
 use Rattle.bsc_session.specs.declared.why.Why.TheVariants.{Denied as WhyDenied}
-use Rattle.bsc_session.specs.Answering.{Fits, IsHearing, after_hearing, answered, called, calls_hub, denied_in, entries_hearing, last_wanted, made_at, noted, notes_hearing, put_unless, said_hearing, stop_by, stop_hearing, stop_judged, stop_message}
+use Rattle.bsc_session.specs.Answering.{AnswerFits, IsHearing, after_hearing, answered, called, calls_hub, denied_in, entries_hearing, last_wanted, made_at, noted, notes_hearing, put_unless, said_hearing, stop_by, stop_hearing, stop_judged, stop_message}
 use Rattle.bsc_lines.specs.declared.denial.Denial.{Denial}
 use Rattle.bsc_notes.specs.Notes.{HasLine, Records, denied}
 use Rattle.bsc_session.specs.Puts.{HasPut, octets_in, puts}
-use Rattle.bsc_session.specs.Serving.{Goes}
+use Rattle.bsc_session.specs.Serving.{PassGoes}
 use Rattle.bsc_session.specs.Receiving.{Answer, replies, worn, no_memory, Hearing}
 use Rattle.bsc_session.specs.Standings.{Standing, Terms}
 use Rattle.bsc_session.specs.Judging.{LacksAtPass, heard_step, heard_told}
 use Rattle.bsc_session.specs.Stops.{first_of, stop_closing, stop_lost}
 use Rattle.bsc_session.specs.CarryingOut.{SeesWorn, Wrote}
-use Rattle.bsc_session.specs.Following.{Held, Runs, empties_by, given_by}
+use Rattle.bsc_session.specs.Following.{Held, SessionRuns, empties_by, given_by}
 
 -- ---- the hub's calls
 
 -- A call of the hub made these entries: the pass went on, and what was the caller's own stays so, with its mark.
 pub record Calls (h : Hub) (p : Pass) (E : List Entry) (q : Pass) : Type 0 where
-  pub goes : Goes h p E q
+  pub goes : PassGoes h p E q
   pub owns : (c : ℕ) (w : Vmac) → IsOwnAs p c w → IsOwnAs q c w
   pub marks : (c : ℕ) (k : Mark) → mark_of (seen p) c ≡ Some k → mark_of (seen q) c ≡ Some k
 
@@ -59,13 +59,13 @@ pub record Forwards (h : Hub) (p q : Pass) (conn : ℕ) (m : List ℕ) (old new 
 -- ---- the hearing
 
 -- A message's step was carried out, with the hub's answer where the hub was called.
-pub record Answers (v : Terms) (s : Standing) (st : Step) (thing : Result Incoming LinkFault) (h : Hub) (p q : Pass) (a b : At) (old new : Option (List Said)) (pages pages' : Option (List ℕ)) (stop : Option Stop) : Type 0 where
+pub record AnswersMessage (v : Terms) (s : Standing) (st : Step) (thing : Result Incoming LinkFault) (h : Hub) (p q : Pass) (a b : At) (old new : Option (List Said)) (pages pages' : Option (List ℕ)) (stop : Option Stop) : Type 0 where
   pub answer : Option Answer
   pub lost : Option LinkFault
   pub fault : Option LinkFault
   pub calls : is_some answer ≡ calls_hub v s st thing
-  pub fits : Fits st answer
-  pub goes : Goes h p (called v s st thing answer) q
+  pub fits : AnswerFits st answer
+  pub goes : PassGoes h p (called v s st thing answer) q
   pub wrote : Wrote q pages pages' (noted v s st thing answer) lost
   pub line : HasLine (noted v s st thing answer) lost
   pub said : Grows old new (puts (put_unless lost (octets_in (last_wanted v s st answer))) fault)
@@ -75,7 +75,7 @@ pub record Answers (v : Terms) (s : Standing) (st : Step) (thing : Result Incomi
   pub given_same : given_by b.member ≡ given_by a.member
   pub empties_same : empties_by b.member ≡ empties_by a.member
   pub held : Held h v q b (answered s st answer)
-  pub runs : stop ≡ None → Runs v b (answered s st answer)
+  pub runs : stop ≡ None → SessionRuns v b (answered s st answer)
 
 -- A connect that is denied was noted, and the session stops.
 pub record TurnsAway (denial : Denial) (pages pages' : Option (List ℕ)) (stop : Stop) : Type 0 where
@@ -91,8 +91,8 @@ pub record HearsMessage (v : Terms) (s : Standing) (now : ℕ) (m : List ℕ) (h
   pub fault : Option LinkFault
   pub memory : LacksAtPass v s judged (Ok (Message m))
   pub calls : is_some answer ≡ calls_hub v s (heard_step v s now judged (Ok (Message m))) (Ok (Message m))
-  pub fits : Fits (heard_step v s now judged (Ok (Message m))) answer
-  pub goes : Goes h p (called v s (heard_step v s now judged (Ok (Message m))) (Ok (Message m)) answer) q
+  pub fits : AnswerFits (heard_step v s now judged (Ok (Message m))) answer
+  pub goes : PassGoes h p (called v s (heard_step v s now judged (Ok (Message m))) (Ok (Message m)) answer) q
   pub wrote : Wrote q pages pages' (noted v s (heard_step v s now judged (Ok (Message m))) (Ok (Message m)) answer) lost
   pub line : HasLine (noted v s (heard_step v s now judged (Ok (Message m))) (Ok (Message m)) answer) lost
   pub said : Grows old new (puts (put_unless lost (octets_in (last_wanted v (heard_told v s now judged (Ok (Message m))) (heard_step v s now judged (Ok (Message m))) answer))) fault)
@@ -102,13 +102,13 @@ pub record HearsMessage (v : Terms) (s : Standing) (now : ℕ) (m : List ℕ) (h
   pub given_same : given_by b.member ≡ given_by a.member
   pub empties_same : empties_by b.member ≡ empties_by a.member
   pub held : Held h v q b (answered (heard_told v s now judged (Ok (Message m))) (heard_step v s now judged (Ok (Message m))) answer)
-  pub runs : stop ≡ None → Runs v b (answered (heard_told v s now judged (Ok (Message m))) (heard_step v s now judged (Ok (Message m))) answer)
+  pub runs : stop ≡ None → SessionRuns v b (answered (heard_told v s now judged (Ok (Message m))) (heard_step v s now judged (Ok (Message m))) answer)
 
 -- A thing was given, and what follows it was done.
 pub record Hears (v : Terms) (s : Standing) (now wait : ℕ) (h : Hub) (p q : Pass) (a b : At) (old new : Option (List Said)) (pages pages' : Option (List ℕ)) (stop : Option Stop) : Type 0 where
   pub hearing : Hearing
   pub is : IsHearing v s now hearing
-  pub goes : Goes h p (entries_hearing v s now hearing) q
+  pub goes : PassGoes h p (entries_hearing v s now hearing) q
   pub wrote : Wrote q pages pages' (notes_hearing v s now hearing) hearing.lost
   pub said : Grows old new (said_hearing v s now wait hearing)
   pub stops : stop ≡ stop_hearing v s now hearing
@@ -116,4 +116,4 @@ pub record Hears (v : Terms) (s : Standing) (now wait : ℕ) (h : Hub) (p q : Pa
   pub given_same : given_by b.member ≡ given_by a.member
   pub empties_same : empties_by b.member ≡ empties_by a.member
   pub held : Held h v q b (after_hearing v s now hearing)
-  pub runs : stop ≡ None → Runs v b (after_hearing v s now hearing)
+  pub runs : stop ≡ None → SessionRuns v b (after_hearing v s now hearing)

@@ -11,14 +11,14 @@ use Rattle.bsc_session.specs.declared.stop.Stop.{Stop}
 use Rattle.bsc_session.specs.Causes.{answer_in}
 use Rattle.bsc_policy.specs.declared.policy.Policy.{Policy}
 use Rattle.bsc_notes.specs.Notes.{HasLine}
-use Rattle.bsc_session.specs.Serving.{Goes}
+use Rattle.bsc_session.specs.Serving.{PassGoes}
 use Rattle.bsc_session.specs.Receiving.{worn}
 use Rattle.bsc_session.specs.Standings.{Standing, Terms}
 use Rattle.bsc_session.specs.declared.limits.SessionLimits.{SessionLimits}
 use Rattle.bsc_session.specs.Reading.{started}
 use Rattle.bsc_session.specs.Turns.{IsTurn, Turn, after, empties_in, entries_in, notes_in, said_in, stop_in}
 use Rattle.bsc_session.specs.CarryingOut.{SeesWorn, Wrote}
-use Rattle.bsc_session.specs.Following.{Follows, Held, Runs, empties_by, given_by}
+use Rattle.bsc_session.specs.Following.{Follows, Held, SessionRuns, empties_by, given_by}
 
 -- the lost line by which a turn stops the session
 abbrev pub lost_by : Option Stop → Option LinkFault
@@ -27,7 +27,7 @@ lost_by (Some s) = s.lost
 
 -- Where a session stands between two turns: before the first the machine was told nothing.
 pub record Between (v : Terms) (a : At) (s : Standing) : Type 0 where
-  pub runs : Runs v a s
+  pub runs : SessionRuns v a s
   pub fresh : s.receives ≡ 0 → s.events ≡ []
   pub bounded : empties_by a.member ≤ s.receives
 
@@ -35,7 +35,7 @@ pub record Between (v : Terms) (a : At) (s : Standing) : Type 0 where
 pub record Makes (v : Terms) (s : Standing) (h : Hub) (p q : Pass) (a b : At) (old new : Option (List Said)) (read read' : Option (List ℕ)) (pages pages' : Option (List ℕ)) (stop : Option Stop) : Type 0 where
   pub turn : Turn
   pub is : IsTurn v s turn
-  pub goes : Goes h p (entries_in v s turn) q
+  pub goes : PassGoes h p (entries_in v s turn) q
   pub gave : given_by b.member ≡ given_by a.member ++ turn.opening.frames
   pub empties : empties_by b.member ≡ empties_by a.member + empties_in v s turn
   pub said : Grows old new (said_in v s turn)
@@ -45,13 +45,13 @@ pub record Makes (v : Terms) (s : Standing) (h : Hub) (p q : Pass) (a b : At) (o
   pub stops : stop ≡ stop_in v s turn
   pub is_worn : answer_in turn.hearing ≡ Some worn → SeesWorn h q
   pub held : Held h v q b (after v s turn)
-  pub runs : stop ≡ None → Runs v b (after v s turn)
+  pub runs : stop ≡ None → SessionRuns v b (after v s turn)
 
 -- The machine was started, in the first turn.
 pub record Starts (v : Terms) (s : Standing) (now : ℕ) (a b : At) : Type 0 where
   pub member : b.member ≡ a.member
   pub follows : Follows b (started s now)
-  pub runs : Runs v b (started s now)
+  pub runs : SessionRuns v b (started s now)
 
 -- What is fixed of the session is fixed of the hub and of the call.
 pub record AreTerms (v : Terms) (h : Hub) (limits : SessionLimits) : Type 0 where

@@ -24,7 +24,7 @@ use Rattle.bsc_session.specs.Reading.{ticked}
 use Rattle.bsc_session.specs.Taking.{IsOpening, Opening, count_of, end_step, end_told, ended_by, last_alone, last_of, may_be_more, noted_last, noted_of, notes_opening, opened, passing, put_first, stop_before, waiting_for}
 use Rattle.bsc_session.specs.Stops.{closes, closing_in, first_of, stop_if, stop_lost}
 use Rattle.bsc_session.specs.CarryingOut.{Carries, TellsMore, stop_of}
-use Rattle.bsc_session.specs.Following.{Follows, HasFound, Runs, address_by, empties_by, given_by}
+use Rattle.bsc_session.specs.Following.{Follows, HasFound, SessionRuns, address_by, empties_by, given_by}
 use Rattle.bsc_session.specs.TakingFrames.{FitsCount, cut_in, met_in, nothing_found, unput_in}
 
 -- The same connection, from whose outbox more was taken.
@@ -50,19 +50,19 @@ pub record TakesFrom (policy : Option Policy) (m n : Option Member) (old new : O
   pub line : HasLine (map denied (denials policy (address_by m) (last_alone frames))) (unput_in taken)
 
 -- The machine was told an End.
-pub record Meets (v : Terms) (s : Standing) (now : ℕ) (e : End) (a b : At) (old new : Option (List Said)) (stop : Option Stop) : Type 0 where
+pub record MeetsEnd (v : Terms) (s : Standing) (now : ℕ) (e : End) (a b : At) (old new : Option (List Said)) (stop : Option Stop) : Type 0 where
   pub carried : Carries old new (wanted v s (Ended now e)) (EndedBy e) stop
   pub member : b.member ≡ a.member
   pub ended : b.ended ≡ Some e
   pub receives : b.receives ≡ a.receives
-  pub runs : stop ≡ None → Runs v b (end_told s now (Some e))
+  pub runs : stop ≡ None → SessionRuns v b (end_told s now (Some e))
 
 -- The machine was told the time.
 pub record Ticks (v : Terms) (s : Standing) (now : ℕ) (a b : At) (stop : Option Stop) : Type 0 where
   pub member : b.member ≡ a.member
   pub stops : stop ≡ closes (waiting_for s.conn) (closing_in (wanted v s (Tick now)))
   pub follows : Follows b (told s (Tick now))
-  pub runs : stop ≡ None → Runs v b (told s (Tick now))
+  pub runs : stop ≡ None → SessionRuns v b (told s (Tick now))
 
 -- In Connected the frames were taken and the End was met, after the reading.
 pub record Attends (v : Terms) (s : Standing) (now : ℕ) (a b : At) (old new : Option (List Said)) (pages pages' : Option (List ℕ)) (result : Result Backlog Stop) : Type 0 where
@@ -82,7 +82,7 @@ pub record Attends (v : Terms) (s : Standing) (now : ℕ) (a b : At) (old new : 
   pub stops : stop_of result ≡ first_of (stop_lost lost) (first_of (stop_if fault) (closes (ended_by met) (closing_in (end_step v s now met))))
   pub more : TellsMore result (may_be_more frames met)
   pub follows : Follows b (end_told s now met)
-  pub runs : stop_of result ≡ None → Runs v b (end_told s now met)
+  pub runs : stop_of result ≡ None → SessionRuns v b (end_told s now met)
 
 -- one for an opening in Connected that goes on and found the outbox empty
 abbrev pub empties_opening : Terms → Standing → Opening → ℕ
@@ -101,4 +101,4 @@ pub record Opens (v : Terms) (s : Standing) (now : ℕ) (a b : At) (old new : Op
   pub stops : stop_of result ≡ stop_before v s opening
   pub more : TellsMore result (may_be_more opening.frames opening.met)
   pub follows : Follows b (opened s opening)
-  pub runs : stop_of result ≡ None → Runs v b (opened s opening)
+  pub runs : stop_of result ≡ None → SessionRuns v b (opened s opening)

@@ -16,8 +16,8 @@ use Rattle.bsc_session.specs.declared.member.Member.{Member}
 use Rattle.bsc_session.specs.declared.stop.Stop.{Stop}
 use Rattle.bsc_session.specs.Causes.{last_answer}
 use Rattle.bsc_notes.specs.Notes.{HasLine}
-use Rattle.bsc_session.specs.Course.{EachTurn, GoesOn, Stops, and_last, shares, standing as stands_at, total}
-use Rattle.bsc_session.specs.Serving.{Goes, ServesNoting, WasWorn, received}
+use Rattle.bsc_session.specs.Course.{EachTurn, Stops, TurnGoesOn, and_last, shares, standing as stands_at, total}
+use Rattle.bsc_session.specs.Serving.{PassGoes, ServesNoting, WasWorn, received}
 use Rattle.bsc_session.specs.Talk.{leaving, lost_of, noted_leaving}
 use Rattle.bsc_session.specs.Receiving.{worn}
 use Rattle.bsc_session.specs.Standings.{Terms, begun}
@@ -30,8 +30,8 @@ use Rattle.bsc_session.specs.MakingTurns.{Between}
 pub record Stood (v : Terms) (h : Hub) (p0 p : Pass) (a : At) (old new : Option (List Said)) (read read' : Option (List ℕ)) (pages pages' : Option (List ℕ)) : Type 0 where
   pub turns : List Turn
   pub are : EachTurn IsTurn v begun turns
-  pub on : EachTurn GoesOn v begun turns
-  pub goes : Goes h p0 (shares entries_in v begun turns) p
+  pub on : EachTurn TurnGoesOn v begun turns
+  pub goes : PassGoes h p0 (shares entries_in v begun turns) p
   pub gave : given_by a.member ≡ shares frames_in v begun turns
   pub empties : empties_by a.member ≡ total empties_in v begun turns
   pub said : Grows old new (shares said_in v begun turns)
@@ -41,14 +41,14 @@ pub record Stood (v : Terms) (h : Hub) (p0 p : Pass) (a : At) (old new : Option 
   pub between : Between v a (stands_at v begun turns)
 
 -- All turns of a session were made, up to its stop.
-pub record Ran (v : Terms) (h : Hub) (p0 p : Pass) (a : At) (old new : Option (List Said)) (read read' : Option (List ℕ)) (pages pages' : Option (List ℕ)) (stop : Stop) : Type 0 where
+pub record SessionRan (v : Terms) (h : Hub) (p0 p : Pass) (a : At) (old new : Option (List Said)) (read read' : Option (List ℕ)) (pages pages' : Option (List ℕ)) (stop : Stop) : Type 0 where
   pub went_on : List Turn
   pub last : Option Turn
   pub are : EachTurn IsTurn v begun (and_last went_on last)
-  pub on : EachTurn GoesOn v begun went_on
+  pub on : EachTurn TurnGoesOn v begun went_on
   pub stops : Stops v (stands_at v begun went_on) last stop
   pub is_worn : last_answer last ≡ Some worn → SeesWorn h p
-  pub goes : Goes h p0 (shares entries_in v begun (and_last went_on last)) p
+  pub goes : PassGoes h p0 (shares entries_in v begun (and_last went_on last)) p
   pub gave : given_by a.member ≡ shares frames_in v begun (and_last went_on last)
   pub empties : empties_by a.member ≡ total empties_in v begun (and_last went_on last)
   pub said : Grows old new (shares said_in v begun (and_last went_on last))
@@ -62,7 +62,7 @@ pub record Parts (v : Terms) (h : Hub) (p q : Pass) (pages pages' : Option (List
   pub left_at : ℕ
   pub wrote : Wrote q pages pages' (noted_leaving before left_at (leaving v.caller conn taken empties reply)) lost
   pub line : HasLine (noted_leaving before left_at (leaving v.caller conn taken empties reply)) lost
-  pub goes : Goes h p (leaving v.caller conn taken empties reply) q
+  pub goes : PassGoes h p (leaving v.caller conn taken empties reply) q
   pub conn_is : conn ≡ conn_of m
   pub took : taken ≡ length (given_by m)
   pub empties_is : empties ≡ empties_by m

@@ -33,7 +33,7 @@ received a H (Some c) taken = take taken (sent a H c)
 
 -- The pass went on: it is of the hub; its number is unchanged; what it has seen goes on; its own list grew by these; the
 -- callers that ended in it are those that had; and it asked for no number, so no other caller was made with it.
-pub record Goes (h : Hub) (p : Pass) (E : List Entry) (q : Pass) : Type 0 where
+pub record PassGoes (h : Hub) (p : Pass) (E : List Entry) (q : Pass) : Type 0 where
   pub caller : IsCaller h q
   pub number : number_of q ≡ number_of p
   pub sees : StartsWith (seen q) (seen p)
@@ -65,7 +65,7 @@ pub record Serves (v : Terms) (h : Hub) (p q : Pass) (old new : Option (List Sai
   pub E : List Entry
   pub talk : Grows old new T
   pub readings : Grows read read' R
-  pub goes : Goes h p E q
+  pub goes : PassGoes h p E q
   pub session : Session v T R E (received (about_of h) (entries (seen q)) ended.conn ended.taken) ended
   pub all : (c : ℕ) (e : End) → ended.conn ≡ Some c → (end_of session.course).ended ≡ Some e
       → received (about_of h) (entries (seen q)) ended.conn ended.taken ≡ sent (about_of h) (entries (seen q)) c

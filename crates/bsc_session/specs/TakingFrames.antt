@@ -16,7 +16,7 @@ use Rattle.bsc_notes.specs.Notes.{HasLine, Records, denied}
 use Rattle.bsc_session.specs.Guarding.{denials, let_through}
 use Rattle.bsc_session.specs.Puts.{HasPut, puts}
 use Rattle.bsc_session.specs.Taking.{count_of, last_alone}
-use Rattle.bsc_session.specs.Following.{HasEnded}
+use Rattle.bsc_session.specs.Following.{OutletHasEnded}
 
 -- how a taking ended
 abbrev pub met_in : Taken → Option End
@@ -69,7 +69,7 @@ pub record Taking (policy : Option Policy) (to : Vmac) (o p : Outlet) (old new :
   pub frames : List (List ℕ)
   pub many : length frames ≡ n
   pub mark : outlet_mark p ≡ outlet_mark o
-  pub keeps : (e : End) → HasEnded o e → HasEnded p e
+  pub keeps : (e : End) → OutletHasEnded o e → OutletHasEnded p e
   pub gave : given p ≡ given o ++ frames
   pub empties : empties_of p ≡ empties_of o
   pub said : Grows old new (puts (let_through policy (Some to) frames) None)
@@ -79,8 +79,8 @@ pub record Taking (policy : Option Policy) (to : Vmac) (o p : Outlet) (old new :
 pub record Takes (policy : Option Policy) (to : Vmac) (o p : Outlet) (old new : Option (List Said)) (pages pages' : Option (List ℕ)) (taken : Taken) : Type 0 where
   pub frames : List (List ℕ)
   pub mark : outlet_mark p ≡ outlet_mark o
-  pub keeps : (e : End) → HasEnded o e → HasEnded p e
-  pub found : (e : End) → met_in taken ≡ Some e → HasEnded p e
+  pub keeps : (e : End) → OutletHasEnded o e → OutletHasEnded p e
+  pub found : (e : End) → met_in taken ≡ Some e → OutletHasEnded p e
   pub left : (e : End) → met_in taken ≡ Some e → e ≢ Left
   pub gave : given p ≡ given o ++ frames
   pub empties : empties_of p ≡ empties_of o + nothing_found frames (met_in taken) (is_none (cut_in taken) && is_none (unput_in taken))

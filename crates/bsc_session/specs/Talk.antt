@@ -10,7 +10,7 @@ use Rattle.bsc_edge.specs.declared.said.Said.{Said}
 use Rattle.bsc_session.specs.declared.ended.Ended.{Ended}
 use Rattle.bsc_session.specs.declared.why.Why.{Why}
 use Rattle.bsc_session.specs.declared.why.Why.TheVariants.{EndedBy, JournalFault, LinkFault, NoMemory, Spent}
-use Rattle.bsc_session.specs.Course.{Course, empties_of, end_of, entries_of, frames_of, notes_of, readings_of, talk_of}
+use Rattle.bsc_session.specs.Course.{SessionCourse, empties_of, end_of, entries_of, frames_of, notes_of, readings_of, talk_of}
 use Rattle.bsc_notes.specs.Notes.{HasLine, Note, made}
 use Rattle.bsc_session.specs.Standings.{Terms}
 
@@ -47,7 +47,7 @@ named_lost (Some NoMemoryFault) why = NoMemory
 -- The talk T, the readings R, the own entries E, the frames received and the end of a session on these terms: there is a
 -- course such that ..
 pub record Session (v : Terms) (T : List Said) (R : List ℕ) (E : List Entry) (frames : List (List ℕ)) (ended : Ended) : Type 0 where
-  pub course : Course v
+  pub course : SessionCourse v
   -- .. the talk is what its turns say, and then its closing;
   pub talk : T ≡ talk_of course
   -- each turn has one reading;

@@ -14,14 +14,15 @@ ghost use Rattle.bsc_notes.specs.Notes.{HasLine, Records};
 ghost use Rattle.bsc_session.specs.declared.why.Why.{Why};
 ghost use Rattle.bsc_session.specs.Talk.{named, named_lost, noted_leaving};
 
+use crate::here::Here;
 use crate::member::Member;
 use crate::noting::note_left;
 use crate::why::Why;
 use bsc_accept::Closing;
 use bsc_desk::Gone;
 use bsc_edge::{Link, LinkFault};
-use bsc_history::End;
-use bsc_hub::{Hub, Pass};
+use bsc_history::{End, Told};
+use bsc_hub::Pass;
 use bsc_notes::Journal;
 use std::alloc::Global;
 use std::sync::Wait;
@@ -69,20 +70,20 @@ fn note_leave<J: Journal>(
     alloc: Global,
     journal: &mut J,
     lost: Option<LinkFault>,
-    at: u64,
     caller: u64,
     conn: u64,
     empties: u64,
-    gone: Gone,
+    told: Told<Gone>,
 ) -> Option<LinkFault>
-    ensures noted { Records (J.held journal.old) (J.held journal.new) (noted_leaving lost at (leave_entry caller conn empties gone ∷ [])) result }
-    ensures line { HasLine (noted_leaving lost at (leave_entry caller conn empties gone ∷ [])) result }
+    ensures noted { Records (J.held journal.old) (J.held journal.new)
+        (noted_leaving lost told.at (leave_entry caller conn empties told.said ∷ [])) result }
+    ensures line { HasLine (noted_leaving lost told.at (leave_entry caller conn empties told.said ∷ [])) result }
     ensures unrecorded { UnputBy J.makes_lines result (J.faults journal.old) (J.faults journal.new) }
     ensures journal_later { J.faults journal.old ≤ J.faults journal.new }
 {
     match lost {
         Some(_) => None,
-        None => match note_left(alloc, journal, at, caller, conn, empties, gone) {
+        None => match note_left(alloc, journal, told.at, caller, conn, empties, told.said) {
             Ok(()) => None,
             Err(fault) => Some(fault),
         },
@@ -104,18 +105,17 @@ pub fn close<L: Link>(alloc: Global, link: &mut L, closing: Option<Closing>)
 
 /// Leaves, where the session had joined.
 pub fn part<R: Wait, J: Journal>(
-    rt: &R,
-    alloc: Global,
-    hub: &Hub,
+    here: Here<'_, R>,
     pass: &mut Pass,
     journal: &mut J,
     lost: Option<LinkFault>,
     member: Option<Member>,
 ) -> Parted
-    requires caller { IsCaller hub.now pass.old }
+    requires caller { IsCaller here.hub.now pass.old }
     requires member { IsMember pass.old member }
     ensures parts { (v : Terms) (ended : Option End) → v.caller ≡ number_of pass.old → HasFound ended member
-        → Parts v hub.now pass.old pass.new (J.held journal.old) (J.held journal.new) lost member ended result.conn result.taken result.empties result.lost }
+        → Parts v here.entry.hub.now pass.old pass.new (J.held journal.old) (J.held journal.new) lost member ended
+        result.conn result.taken result.empties result.lost }
     ensures unrecorded { UnputBy J.makes_lines result.lost (J.faults journal.old) (J.faults journal.new) }
     ensures journal_later { J.faults journal.old ≤ J.faults journal.new }
 {
@@ -123,14 +123,12 @@ pub fn part<R: Wait, J: Journal>(
         Some(Member { conn, outlet, .. }) => {
             let empties = outlet.empties();
             let caller = pass.number();
-            let told = hub.leave(rt, pass, conn, outlet);
+            let told = here.hub.leave(here.rt, pass, conn, outlet);
             Parted {
                 conn: Some(conn),
                 taken: told.said.taken,
                 empties,
-                lost: note_leave(
-                    alloc, journal, lost, told.at, caller, conn, empties, told.said,
-                ),
+                lost: note_leave(here.alloc, journal, lost, caller, conn, empties, told),
             }
         }
         None => Parted {

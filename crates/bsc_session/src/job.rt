@@ -4,6 +4,7 @@ ghost use Rattle.std.specs.Arc.{arc_value};
 ghost use Rattle.bsc_hub.specs.Passing.{IsCaller};
 ghost use Rattle.bsc_hub.proofs.Unique.{IsCaller-prop};
 
+use crate::job_terms::JobTerms;
 use crate::limits::SessionLimits;
 use bsc_hub::{Hub, Pass};
 use bsc_policy::Policy;
@@ -35,30 +36,33 @@ pub struct SessionJob<L, C, N> {
 }
 
 impl<L, C, N> SessionJob<L, C, N> {
-    /// A job that serves this link at this hub.
+    /// A job that serves this link at this hub, on these terms.
     pub fn new(
         alloc: Global,
         hub: Arc<Hub>,
         pass: Pass,
         link: L,
         clock: C,
-        limits: SessionLimits,
-        turns: u64,
         journal: N,
-        is_recorded: bool,
-        policy: Option<Arc<Policy>>,
+        terms: JobTerms,
     ) -> SessionJob<L, C, N>
         requires { IsCaller (arc_value hub) pass }
         ensures hub { result.hub ≡ hub }
         ensures pass { result.pass ≡ pass }
         ensures link { result.link ≡ link }
         ensures clock { result.clock ≡ clock }
-        ensures limits { result.limits ≡ limits }
-        ensures turns { result.turns ≡ turns }
+        ensures limits { result.limits ≡ terms.limits }
+        ensures turns { result.turns ≡ terms.turns }
         ensures journal { result.journal ≡ journal }
-        ensures is_recorded { result.is_recorded ≡ is_recorded }
-        ensures policy { result.policy ≡ policy }
+        ensures is_recorded { result.is_recorded ≡ terms.is_recorded }
+        ensures policy { result.policy ≡ terms.policy }
     {
+        let JobTerms {
+            limits,
+            turns,
+            is_recorded,
+            policy,
+        } = terms;
         SessionJob {
             alloc,
             hub,

@@ -1,15 +1,15 @@
 //! What is taken from the outlet, and put.
 ghost use Rattle.std.specs.Prelude.{◌≡◌, ◌≢◌, ◌≤◌, ◌<◌, ℕ, Bool, IsTrue, Some, false, is_some, option_map};
 ghost use Rattle.bsc_history.specs.declared.ending.End.{End};
-ghost use Rattle.bsc_accept.specs.Standing.{IsConnected, StandsFor};
+ghost use Rattle.bsc_accept.specs.Standing.{AcceptingStands, IsConnected};
 ghost use Rattle.bsc_ring.specs.Ends.{empties_of};
 ghost use Rattle.bsc_outside.specs.Faults.{HasRisen};
 ghost use Rattle.bsc_edge.specs.declared.fault.LinkFault.{LinkFault};
 ghost use Rattle.bsc_session.specs.declared.taken.Taken.{Taken};
 ghost use Rattle.bsc_session.specs.CarryingOut.{RoseIf, TellsMore, UnputBy, UnputIf, stop_of};
-ghost use Rattle.bsc_session.specs.Following.{Follows, Runs, Tied, empties_by};
+ghost use Rattle.bsc_session.specs.Following.{Follows, SessionRuns, Tied, empties_by};
 ghost use Rattle.bsc_session.specs.TakingFrames.{HandsOn, Takes, unput_by, unput_in};
-ghost use Rattle.bsc_session.specs.Opening.{Attends, Meets, TakesFrom};
+ghost use Rattle.bsc_session.specs.Opening.{Attends, MeetsEnd, TakesFrom};
 ghost use Rattle.bsc_session.specs.Standings.{Standing, Terms, start_of};
 
 use crate::at::At;
@@ -99,8 +99,8 @@ pub fn take_frames<L: Link, J: Journal>(
 fn meet<L: Link>(alloc: Global, link: &mut L, at: &mut At, end: End, now: u64) -> Option<Stop>
     requires connected { IsConnected at.old.machine }
     requires ending { end ≢ End.Left }
-    ensures met { (v : Terms) (s : Standing) → StandsFor at.old.machine (start_of v s) s.events → Tied s
-        → Meets v s now end at.old at.new (L.talk link.old) (L.talk link.new) result }
+    ensures met { (v : Terms) (s : Standing) → AcceptingStands at.old.machine (start_of v s) s.events → Tied s
+        → MeetsEnd v s now end at.old at.new (L.talk link.old) (L.talk link.new) result }
     ensures later { L.faults link.old ≤ L.faults link.new }
     ensures failed { RoseIf result (L.faults link.old) (L.faults link.new) }
     ensures recorded { (makes : Bool) (a b : ℕ) → UnputIf makes result a b }
@@ -163,7 +163,7 @@ pub fn attend<L: Link, J: Journal>(
     requires connected { IsConnected at.old.machine }
     requires some { IsTrue (is_some at.old.member) }
     requires room { empties_by at.old.member < 18446744073709551615 }
-    ensures attended { (v : Terms) (s : Standing) → v.policy ≡ option_map (λ p. p.now) policy.entry → Follows at.old s → Runs v at.old s
+    ensures attended { (v : Terms) (s : Standing) → v.policy ≡ option_map (λ p. p.now) policy.entry → Follows at.old s → SessionRuns v at.old s
         → Attends v s now at.old at.new (L.talk link.old) (L.talk link.new) (J.held journal.old) (J.held journal.new) result }
     ensures later { L.faults link.old ≤ L.faults link.new }
     ensures failed { RoseIf (stop_of result) (L.faults link.old) (L.faults link.new) }

@@ -1,9 +1,9 @@
 //! One turn.
 ghost use Rattle.std.specs.Prelude.{◌≡◌, ◌≤◌, ◌<◌, ◌≢◌, ℕ, Bool, None, Some, IsTrue, is_some, option_map};
 ghost use Rattle.bsc_hub.specs.Passing.{about_of};
-ghost use Rattle.bsc_accept.specs.Standing.{IsConnected, IsOpen, StandsFor};
+ghost use Rattle.bsc_accept.specs.Standing.{AcceptingStands, IsConnected, IsOpen};
 ghost use Rattle.bsc_session.specs.CarryingOut.{RoseIf, UnputIf, is_more, stop_of};
-ghost use Rattle.bsc_session.specs.Following.{empties_by, Follows, HasStanding, Held, IsFollowed, Runs, conn_of};
+ghost use Rattle.bsc_session.specs.Following.{empties_by, Follows, HasStanding, Held, IsFollowed, SessionRuns, conn_of};
 ghost use Rattle.bsc_session.specs.Hearing.{Hears};
 ghost use Rattle.bsc_session.specs.Opening.{Opens, Ticks};
 ghost use Rattle.bsc_session.specs.MakingTurns.{AreTerms, HasTerms, Starts, Between, Makes};
@@ -17,6 +17,7 @@ use crate::answering::take_message;
 use crate::at::At;
 use crate::backlog::Backlog;
 use crate::bounds::WAIT_MS;
+use crate::here::Here;
 use crate::limits::SessionLimits;
 use crate::member::Member;
 use crate::stop::Stop;
@@ -57,7 +58,7 @@ fn closing_in(step: Step) -> Option<Closing>
 /// Tells the machine the time.
 fn tick(at: &mut At, now: u64) -> Option<Stop>
     requires { IsOpen at.old.machine }
-    ensures told { (v : Terms) (s : Standing) → Follows at.old s → Runs v at.old s → Ticks v s now at.old at.new result }
+    ensures told { (v : Terms) (s : Standing) → Follows at.old s → SessionRuns v at.old s → Ticks v s now at.old at.new result }
     ensures other { (n : ℕ) → RoseIf result n n }
     ensures recorded { (makes : Bool) (a b : ℕ) → UnputIf makes result a b }
 {
@@ -72,7 +73,7 @@ fn tick(at: &mut At, now: u64) -> Option<Stop>
 /// Whether the machine is in the phase Connected.
 fn is_connected(machine: &Accepting) -> bool
     requires { IsOpen machine.now }
-    ensures told { (v : Terms) (s : Standing) → StandsFor machine.now (start_of v s) s.events → result ≡ is_connected s }
+    ensures told { (v : Terms) (s : Standing) → AcceptingStands machine.now (start_of v s) s.events → result ≡ is_connected s }
     ensures holds { IsTrue result → IsConnected machine.now }
 {
     match machine.phase() {
@@ -92,7 +93,7 @@ fn open<L: Link, J: Journal>(
 ) -> Result<Backlog, Stop>
     requires stands { IsFollowed at.old }
     requires room { empties_by at.old.member < 18446744073709551615 }
-    ensures opened { (v : Terms) (s s0 : Standing) → s0 ≡ started s now → Follows at.old s0 → Runs v at.old s0
+    ensures opened { (v : Terms) (s s0 : Standing) → s0 ≡ started s now → Follows at.old s0 → SessionRuns v at.old s0
         → v.policy ≡ option_map (λ p. p.now) policy.entry
         → Opens v s now at.old at.new (L.talk link.old) (L.talk link.new) (J.held journal.old) (J.held journal.new) result }
     ensures later { L.faults link.old ≤ L.faults link.new }
@@ -122,22 +123,20 @@ fn wait_ms(backlog: Backlog) -> u32
 
 /// Receives within this time, and does what follows.
 fn hear<R: Wait, L: Link, J: Journal>(
-    rt: &R,
-    alloc: Global,
-    hub: &Hub,
+    here: Here<'_, R>,
     pass: &mut Pass,
     link: &mut L,
     journal: &mut J,
-    policy: Option<&Policy>,
     at: &mut At,
     now: u64,
     wait_ms: u32,
 ) -> Option<Stop>
-    requires stands { HasStanding hub.now pass.old at.old }
+    requires stands { HasStanding here.hub.now pass.old at.old }
     requires room { at.old.receives < 18446744073709551615 }
-    ensures heard { (v : Terms) (s : Standing) → v.hub ≡ (about_of hub.now).hub → v.policy ≡ option_map (λ p. p.now) policy.entry
-        → Held hub.now v pass.old at.old s → Runs v at.old s
-        → Hears v s now wait_ms hub.now pass.old pass.new at.old at.new (L.talk link.old) (L.talk link.new)
+    ensures heard { (v : Terms) (s : Standing) → v.hub ≡ (about_of here.entry.hub.now).hub
+        → v.policy ≡ option_map (λ p. p.now) here.entry.policy
+        → Held here.entry.hub.now v pass.old at.old s → SessionRuns v at.old s
+        → Hears v s now wait_ms here.entry.hub.now pass.old pass.new at.old at.new (L.talk link.old) (L.talk link.new)
         (J.held journal.old) (J.held journal.new) result }
     ensures later { L.faults link.old ≤ L.faults link.new }
     ensures failed { RoseIf result (L.faults link.old) (L.faults link.new) }
@@ -145,21 +144,8 @@ fn hear<R: Wait, L: Link, J: Journal>(
     ensures journal_later { J.faults journal.old ≤ J.faults journal.new }
 {
     at.receives += 1;
-    match link.receive(alloc, wait_ms) {
-        Ok(Incoming::Message(m)) => {
-            take_message(
-                rt,
-                alloc,
-                hub,
-                pass,
-                link,
-                journal,
-                policy,
-                at,
-                now,
-                m.as_slice(),
-            )
-        },
+    match link.receive(here.alloc, wait_ms) {
+        Ok(Incoming::Message(m)) => take_message(here, pass, link, journal, at, now, m.as_slice()),
         Ok(Incoming::Quiet) => None,
         Ok(Incoming::Text) => Some(stop_closing(Why::NotBinary, Closing::NOT_BINARY)),
         Ok(Incoming::Closed) => Some(Stop {
@@ -183,22 +169,19 @@ fn start(hub: &Hub, limits: &SessionLimits, at: &mut At, now: u64)
 
 /// Makes a turn.
 pub fn turn<R: Wait, L: Link, C: Clock, J: Journal>(
-    rt: &R,
-    alloc: Global,
-    hub: &Hub,
+    here: Here<'_, R>,
     pass: &mut Pass,
     link: &mut L,
     journal: &mut J,
-    policy: Option<&Policy>,
     clock: &mut C,
-    limits: &SessionLimits,
     at: &mut At,
 ) -> Option<Stop>
-    requires stands { HasTerms hub.now pass.old limits.now (option_map (λ p. p.now) policy) at.old }
+    requires stands { HasTerms here.hub.now pass.old here.limits.now (option_map (λ p. p.now) here.policy) at.old }
     requires room { at.old.receives < 18446744073709551615 }
-    ensures made { (v : Terms) (s : Standing) → AreTerms v hub.now limits.now → s.receives < v.turns → Held hub.now v pass.old at.old s
-        → Between v at.old s → v.policy ≡ option_map (λ p. p.now) policy.entry
-        → Makes v s hub.now pass.old pass.new at.old at.new (L.talk link.old) (L.talk link.new)
+    ensures made { (v : Terms) (s : Standing) → AreTerms v here.entry.hub.now here.entry.limits.now → s.receives < v.turns
+        → Held here.entry.hub.now v pass.old at.old s → Between v at.old s
+        → v.policy ≡ option_map (λ p. p.now) here.entry.policy
+        → Makes v s here.entry.hub.now pass.old pass.new at.old at.new (L.talk link.old) (L.talk link.new)
         (C.readings clock.old) (C.readings clock.new) (J.held journal.old) (J.held journal.new) result }
     ensures later { L.faults link.old ≤ L.faults link.new }
     ensures failed { RoseIf result (L.faults link.old) (L.faults link.new) }
@@ -206,20 +189,9 @@ pub fn turn<R: Wait, L: Link, C: Clock, J: Journal>(
     ensures journal_later { J.faults journal.old ≤ J.faults journal.new }
 {
     let now = clock.now();
-    start(hub, limits, at, now);
-    match open(alloc, link, journal, policy, at, now) {
-        Ok(backlog) => hear(
-            rt,
-            alloc,
-            hub,
-            pass,
-            link,
-            journal,
-            policy,
-            at,
-            now,
-            wait_ms(backlog),
-        ),
+    start(here.hub, here.limits, at, now);
+    match open(here.alloc, link, journal, here.policy, at, now) {
+        Ok(backlog) => hear(here, pass, link, journal, at, now, wait_ms(backlog)),
         Err(stop) => Some(stop),
     }
 }

@@ -1,4 +1,5 @@
 //! What the job of a session does.
+use crate::hub_side::HubSide;
 use crate::job::SessionJob;
 use crate::serving::{serve_connection, serve_guarded, serve_recorded};
 use crate::session_end::SessionEnd;
@@ -33,39 +34,23 @@ impl<L: Link + Drop, C: Clock + Drop, N: Sink + Drop> Job for SessionJob<L, C, N
         let mut clock = clock;
         let mut journal = journal;
         let here: &Hub = &hub;
+        let side = HubSide {
+            rt,
+            alloc,
+            hub: here,
+            limits: &limits,
+            turns,
+        };
         if let Some(policy) = &policy {
             let guard: &Policy = policy;
-            let ended = serve_guarded(
-                rt,
-                alloc,
-                here,
-                &mut pass,
-                &mut link,
-                &mut clock,
-                &limits,
-                turns,
-                &mut journal,
-                guard,
-            );
+            let ended = serve_guarded(side, &mut pass, &mut link, &mut clock, &mut journal, guard);
             return SessionEnd { pass, ended };
         }
         if is_recorded {
-            let ended = serve_recorded(
-                rt,
-                alloc,
-                here,
-                &mut pass,
-                &mut link,
-                &mut clock,
-                &limits,
-                turns,
-                &mut journal,
-            );
+            let ended = serve_recorded(side, &mut pass, &mut link, &mut clock, &mut journal);
             return SessionEnd { pass, ended };
         }
-        let ended = serve_connection(
-            rt, alloc, here, &mut pass, &mut link, &mut clock, &limits, turns,
-        );
+        let ended = serve_connection(side, &mut pass, &mut link, &mut clock);
         SessionEnd { pass, ended }
     }
 }

@@ -7,7 +7,7 @@ use Rattle.bsc_edge.specs.declared.incoming.Incoming.TheVariants.{Message}
 use Rattle.bsc_edge.specs.declared.said.Said.{Said}
 use Rattle.bsc_edge.specs.declared.said.Said.TheVariants.{Gave, Put}
 use Rattle.bsc_session.specs.declared.ended.Ended.{Ended}
-use Rattle.bsc_session.specs.Course.{EachTurn, GoesOn, and_last, said_closing, shares}
+use Rattle.bsc_session.specs.Course.{EachTurn, TurnGoesOn, and_last, said_closing, shares}
 use Rattle.bsc_session.specs.Standings.{Standing, Terms, begun}
 use Rattle.bsc_session.specs.Taking.{full_wait}
 use Rattle.bsc_session.specs.Talk.{Session}
@@ -63,7 +63,7 @@ accepts_later v s t ts none r = record {
   talk = ap (λ (l : List Said). said_in v s t ++ l) r.talk ∙ sym (append_assoc (said_in v s t) (shares said_in v (after v s t) r.before) (Gave full_wait (Ok (Message r.request)) ∷ Put (spelling (connect_accept r.id v.hub)) None ∷ r.said_later));
 }
 
-accepts : (v : Terms) (s : Standing) (ts : List Turn) (last : Option Turn) → is_in s ≡ false → EachTurn IsTurn v s (and_last ts last) → EachTurn GoesOn v s ts → shares frames_in v s (and_last ts last) ≢ [] → Accepts v s (and_last ts last)
+accepts : (v : Terms) (s : Standing) (ts : List Turn) (last : Option Turn) → is_in s ≡ false → EachTurn IsTurn v s (and_last ts last) → EachTurn TurnGoesOn v s ts → shares frames_in v s (and_last ts last) ≢ [] → Accepts v s (and_last ts last)
 accepts v s [] None out is on some = absurd (some refl)
 accepts v s [] (Some t) out is on some = absurd (some (append-nil (frames_in v s t) ∙ none_in v s t out is.0))
 accepts v s (t ∷ ts) last out is on some =

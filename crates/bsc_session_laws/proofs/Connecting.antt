@@ -29,7 +29,7 @@ use Rattle.bsc_session.specs.declared.ended.Ended.{Ended}
 use Rattle.bsc_session.specs.declared.stop.Stop.{Stop}
 use Rattle.bsc_session.specs.Answering.{IsHearing, called, calls_hub, denied_in, entries_hearing, forwarded_by, stop_hearing, stop_message}
 use Rattle.bsc_session.specs.Causes.{answer_in, judged_in}
-use Rattle.bsc_session.specs.Course.{EachTurn, GoesOn, all_turns, and_last, entries_of, shares}
+use Rattle.bsc_session.specs.Course.{EachTurn, TurnGoesOn, all_turns, and_last, entries_of, shares}
 use Rattle.bsc_session.specs.Guarding.{denied_connect}
 use Rattle.bsc_session.specs.Judging.{verdict_on}
 use Rattle.bsc_session.specs.Receiving.{Answer, replies, worn, no_memory, Hearing}
@@ -189,7 +189,7 @@ none_later v s (t ∷ ts) h = ap (λ (l : List Identity). l ++ shares Asks v (af
 one_then : (xs ys : List Identity) → length xs ≤ 1 → ys ≡ [] → length (xs ++ ys) ≤ 1
 one_then xs ys few none = subst (λ (l : List Identity). length l ≤ 1) (sym (ap (λ (l : List Identity). xs ++ l) none ∙ append-nil xs)) few
 
-asks_once : (v : Terms) (s : Standing) (ts : List Turn) (last : Option Turn) → is_in s ≡ false → EachTurn IsTurn v s (and_last ts last) → EachTurn GoesOn v s ts → length (shares Asks v s (and_last ts last)) ≤ 1
+asks_once : (v : Terms) (s : Standing) (ts : List Turn) (last : Option Turn) → is_in s ≡ false → EachTurn IsTurn v s (and_last ts last) → EachTurn TurnGoesOn v s ts → length (shares Asks v s (and_last ts last)) ≤ 1
 asks_once v s [] None out is on = lit≤ tt
 asks_once v s [] (Some t) out is on = one_then (Asks v s t) [] (few_in v (opened s t.opening) t.hearing) refl
 asks_once v s (t ∷ ts) last out is on = by last is (turn_goes v s t out (first_is last is) on.0) (λ l e f. asks_once v (after v s t) ts l f (later_are l e) on.1)

@@ -1,7 +1,7 @@
 -- What turns come to, one after the other: the last of them apart.
 use Rattle.std.proofs.Common.{◌≡◌, inl, inr, List, [], ◌∷◌, ◌++◌, flat_map, Option, Some, None, refl, ap, sym, ◌∙◌, append_assoc}
 use Rattle.std.proofs.lemmas.Grind.{flat_map-append}
-use Rattle.bsc_session.specs.Course.{EachTurn, GoesOn, and_last, shares, standing}
+use Rattle.bsc_session.specs.Course.{EachTurn, TurnGoesOn, and_last, shares, standing}
 use Rattle.bsc_session.specs.Following.{Tied}
 use Rattle.bsc_session.specs.Standings.{Standing, Terms}
 use Rattle.bsc_session.specs.Turns.{IsTurn, Turn, after}
@@ -26,9 +26,9 @@ pub mapped_shares : {A B : Type 0} (h : A → List B) (f : Share A) (v : Terms) 
 mapped_shares h f v s [] = refl
 mapped_shares {A} {B} h f v s (t ∷ ts) = flat_map-append h (f v s t) (shares f v (after v s t) ts) ∙ ap (λ (l : List B). flat_map h (f v s t) ++ l) (mapped_shares h f v (after v s t) ts)
 
-module _ {A : Type 0} (f g : Share A) (v : Terms) (goes : (s : Standing) (t : Turn) → Tied s → IsTurn v s t → GoesOn v s t → f v s t ≡ g v s t) where
+module _ {A : Type 0} (f g : Share A) (v : Terms) (goes : (s : Standing) (t : Turn) → Tied s → IsTurn v s t → TurnGoesOn v s t → f v s t ≡ g v s t) where
   -- turns that go on give the same by f and by g
-  same_shares : (s : Standing) (ts : List Turn) → Tied s → EachTurn IsTurn v s ts → EachTurn GoesOn v s ts → shares f v s ts ≡ shares g v s ts
+  same_shares : (s : Standing) (ts : List Turn) → Tied s → EachTurn IsTurn v s ts → EachTurn TurnGoesOn v s ts → shares f v s ts ≡ shares g v s ts
   same_shares s [] k is on = refl
   same_shares s (t ∷ ts) k is on =
       ap (λ (l : List A). l ++ shares f v (after v s t) ts) (goes s t k is.0 on.0)
@@ -36,7 +36,7 @@ module _ {A : Type 0} (f g : Share A) (v : Terms) (goes : (s : Standing) (t : Tu
 
   -- and all turns do, but for what the last one lacks
   pub all_but : (N : Option Turn → A → Type 0) → ((s : Standing) (t : Turn) → Tied s → IsTurn v s t → AreAllBut (N (Some t)) (f v s t) (g v s t))
-      → (s : Standing) (ts : List Turn) (last : Option Turn) → Tied s → EachTurn IsTurn v s (and_last ts last) → EachTurn GoesOn v s ts
+      → (s : Standing) (ts : List Turn) (last : Option Turn) → Tied s → EachTurn IsTurn v s (and_last ts last) → EachTurn TurnGoesOn v s ts
       → AreAllBut (N last) (shares f v s (and_last ts last)) (shares g v s (and_last ts last))
   all_but N ends s ts None k is on = inl (same_shares s ts k is on)
   all_but N ends s ts (Some t) k is on = by (ends (standing v s ts) t (tied_turns v s ts k) two.1)

@@ -33,8 +33,8 @@ use Rattle.bsc_accept.proofs.Looking.{standing-more}
 use Rattle.bsc_session.specs.declared.stop.Stop.{Stop}
 use Rattle.bsc_session.specs.declared.why.Why.{Why}
 use Rattle.bsc_session.specs.declared.why.Why.TheVariants.{Refused as WhyRefused}
-use Rattle.bsc_session.specs.Answering.{Fits, IsHearing, after_hearing, answered, calls, denied_in, last_wanted, put_unless, said_hearing, stands_heard, stop_hearing, stop_message, step_of}
-use Rattle.bsc_session.specs.Course.{GoesOn}
+use Rattle.bsc_session.specs.Answering.{AnswerFits, IsHearing, after_hearing, answered, calls, denied_in, last_wanted, put_unless, said_hearing, stands_heard, stop_hearing, stop_message, step_of}
+use Rattle.bsc_session.specs.Course.{TurnGoesOn}
 use Rattle.bsc_session.specs.Guarding.{denied_message, let_through}
 use Rattle.bsc_session.specs.Following.{Tied, has_joined}
 use Rattle.bsc_session.specs.Judging.{heard, verdict_on}
@@ -187,7 +187,7 @@ at s now w = received_one (told s (Came now w))
 -- what comes of a message, by the step that the machine wants
 abbrev GoesBy : Terms → Standing → ℕ → List ℕ → Option Answer → Option LinkFault → Option LinkFault → Verdict → Step → Option Denial → Type 0
 GoesBy v s now m answer lost fault w st d =
-    Fits st answer → is_some answer ≡ is_none d && calls st → stop_message v (at s now w) st d answer lost fault ≡ None
+    AnswerFits st answer → is_some answer ≡ is_none d && calls st → stop_message v (at s now w) st d answer lost fault ≡ None
     → Goes v (message m w (denied_message v.policy s.address m)) (Gave full_wait (Ok (Message m)) ∷ puts (put_unless lost (octets_in (last_wanted v (at s now w) st answer))) fault) (answered (at s now w) st answer)
 
 module _ (v : Terms) (s : Standing) (now : ℕ) (m : List ℕ) (fault : Option LinkFault) (out : is_in s ≡ false) where
@@ -243,7 +243,7 @@ hearing_goes v s now (Ok (Message m)) false answer lost fault out is stop = cc
 hearing_goes v s now (Ok (Message m)) true answer lost fault out is stop = verdict_goes v s now m fault out (verdict_on v s m) lost answer is.fits is.calls stop
 
 -- A turn that goes on before anybody has joined.
-pub turn_goes : (v : Terms) (s : Standing) (t : Turn) → is_in s ≡ false → IsTurn v s t → GoesOn v s t → Goes v (message_in v s t) (said_in v s t) (after v s t)
+pub turn_goes : (v : Terms) (s : Standing) (t : Turn) → is_in s ≡ false → IsTurn v s t → TurnGoesOn v s t → Goes v (message_in v s t) (said_in v s t) (after v s t)
 turn_goes v s t out is goes = by t.hearing is.hearing (first_none (stop_before v s t.opening) (stop_after v (opened s t.opening) t.opening.reading t.hearing) goes).1
   where
     o : Opening

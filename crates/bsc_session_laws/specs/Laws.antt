@@ -13,7 +13,7 @@ use Rattle.bsc_edge.specs.declared.said.Said.{Said}
 use Rattle.bsc_edge.specs.declared.said.Said.TheVariants.{Gave, Put}
 use Rattle.bsc_session.specs.declared.ended.Ended.{Ended}
 use Rattle.bsc_session.specs.Causes.{last_answer, last_given, last_judged}
-use Rattle.bsc_session.specs.Course.{Course, all_turns, shares}
+use Rattle.bsc_session.specs.Course.{SessionCourse, all_turns, shares}
 use Rattle.bsc_session.specs.Receiving.{worn, no_memory}
 use Rattle.bsc_session.specs.Standings.{Terms, begun}
 use Rattle.bsc_session.specs.Taking.{full_wait}
@@ -23,7 +23,7 @@ use Rattle.bsc_session_laws.specs.Messages.{allowed, asked, carried, connected, 
 -- ---- the messages
 
 -- The messages that are judged are those that the link gave, in order.
-abbrev pub MessagesAreGiven : (v : Terms) → List Said → Course v → Type 0
+abbrev pub MessagesAreGiven : (v : Terms) → List Said → SessionCourse v → Type 0
 MessagesAreGiven v T c = map (λ m. m.octets) (messages_of c) ≡ given_in T
 
 -- ---- forwards
@@ -48,7 +48,7 @@ IsOfConnection conn e = (sender : ℕ) (m : List ℕ) → e.call ≡ Forward sen
 -- all but the last thing that was given, where the hub made no entry of its call. Without a policy these are the messages that
 -- are to be carried on. And all are of the session's connection. A line that isn't put is that of an entry that was made, so it
 -- is no cause here.
-pub record ForwardsAreCarried (v : Terms) (E : List Entry) (ended : Ended) (c : Course v) : Type 0 where
+pub record ForwardsAreCarried (v : Terms) (E : List Entry) (ended : Ended) (c : SessionCourse v) : Type 0 where
   pub made : AreAllBut (IsUnentered c.last) (allowed (messages_of c)) (forwarded E)
   pub unguarded : v.policy ≡ None → AreAllBut (IsUnentered c.last) (carried (messages_of c)) (forwarded E)
   pub own : AllByRecursion (IsOfConnection ended.conn) E
@@ -70,7 +70,7 @@ IsUnconnectedBy policy last who = IsUnconnected last who ⊎ IsTurnedAway policy
 -- The Connects among the entries are for those who asked to connect, in order: all of them, or all but the last, where the
 -- hub made no entry of the last turn's call, memory was wanting to judge its message, or the policy doesn't admit who asks.
 -- Without a policy the last of these is no cause. One asked at most. A line that isn't put is no cause here either.
-pub record ConnectsAreAsked (v : Terms) (E : List Entry) (c : Course v) : Type 0 where
+pub record ConnectsAreAsked (v : Terms) (E : List Entry) (c : SessionCourse v) : Type 0 where
   pub made : AreAllBut (IsUnconnectedBy v.policy c.last) (asked (messages_of c)) (connected E)
   pub unguarded : v.policy ≡ None → AreAllBut (IsUnconnected c.last) (asked (messages_of c)) (connected E)
   pub once : length (asked (messages_of c)) ≤ 1
@@ -79,7 +79,7 @@ pub record ConnectsAreAsked (v : Terms) (E : List Entry) (c : Course v) : Type 0
 
 -- Some turns took no frame, and the last of them put the Connect-Accept behind the request that it answers; all other turns
 -- come after them.
-pub record AcceptsFirst (v : Terms) (T : List Said) (c : Course v) : Type 0 where
+pub record AcceptsFirst (v : Terms) (T : List Said) (c : SessionCourse v) : Type 0 where
   pub before : List Turn
   pub joining : Turn
   pub later : List Turn
@@ -92,5 +92,5 @@ pub record AcceptsFirst (v : Terms) (T : List Said) (c : Course v) : Type 0 wher
       ++ Gave full_wait (Ok (Message request)) ∷ Put (spelling (connect_accept id v.hub)) None ∷ said_later
 
 -- A session that takes frames has put the Connect-Accept before it takes the first.
-abbrev pub FramesFollowAccept : (v : Terms) → List Said → List (List ℕ) → Course v → Type 0
+abbrev pub FramesFollowAccept : (v : Terms) → List Said → List (List ℕ) → SessionCourse v → Type 0
 FramesFollowAccept v T frames c = frames ≢ [] → AcceptsFirst v T c

@@ -13,7 +13,7 @@ use Rattle.bsc_edge.specs.declared.incoming.Incoming.TheVariants.{Message}
 use Rattle.bsc_edge.specs.declared.said.Said.{Said}
 use Rattle.bsc_edge.specs.declared.said.Said.TheVariants.{Gave}
 use Rattle.bsc_lines.specs.declared.denial.Denial.{Denial}
-use Rattle.bsc_session.specs.Course.{Course, all_turns, shares}
+use Rattle.bsc_session.specs.Course.{SessionCourse, all_turns, shares}
 use Rattle.bsc_session.specs.Guarding.{denied_message}
 use Rattle.bsc_session.specs.Judging.{verdict_on}
 use Rattle.bsc_session.specs.Receiving.{Hearing}
@@ -44,7 +44,7 @@ abbrev pub message_in : Terms → Standing → Turn → List JudgedMessage
 message_in v s t = message_after v (opened s t.opening) t.hearing
 
 -- The messages of all turns, in order.
-abbrev pub messages_of : {v : Terms} → Course v → List JudgedMessage
+abbrev pub messages_of : {v : Terms} → SessionCourse v → List JudgedMessage
 messages_of {v} c = shares message_in v begun (all_turns c)
 
 -- the messages that the link gave, by the talk alone

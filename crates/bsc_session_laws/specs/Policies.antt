@@ -14,7 +14,7 @@ use Rattle.bsc_lines.specs.declared.denial.Denial.{Denial}
 use Rattle.bsc_lines.specs.declared.denial.Denial.TheVariants.{OfConnect, OfPair}
 use Rattle.bsc_notes.specs.Notes.{Note, denied, made}
 use Rattle.bsc_edge.specs.declared.said.Said.{Said}
-use Rattle.bsc_session.specs.Course.{Course, all_turns, end_of, said_closing, shares}
+use Rattle.bsc_session.specs.Course.{SessionCourse, all_turns, end_of, said_closing, shares}
 use Rattle.bsc_session.specs.Guarding.{let_through, origin}
 use Rattle.bsc_session.specs.Puts.{octets_in, puts}
 use Rattle.bsc_session.specs.Reading.{ticked}
@@ -62,7 +62,7 @@ abbrev pub put_in : Terms → Standing → Turn → List (List ℕ)
 put_in v s t = passing v s t.opening.frames
 
 -- The frames from the outlet that all turns put, in order.
-abbrev pub put_of : {v : Terms} → Course v → List (List ℕ)
+abbrev pub put_of : {v : Terms} → SessionCourse v → List (List ℕ)
 put_of {v} c = shares put_in v begun (all_turns c)
 
 -- What a turn says: these frames are put first, and then what answers an End; the receive comes behind, with what follows it.
@@ -85,7 +85,7 @@ pub record FollowsPolicy (p : Policy) (address : Option Vmac) (asks : List Ident
 -- The frames from the outlet that are put are those received that are let through to the address of the connection, in order:
 -- all of them, where there is no policy. The address is that under which it connected. And a session that is guarded by a
 -- policy does as that says.
-pub record PolicyIsFollowed (v : Terms) (T : List Said) (E : List Entry) (frames : List (List ℕ)) (notes : List Note) (c : Course v) : Type 0 where
+pub record PolicyIsFollowed (v : Terms) (T : List Said) (E : List Entry) (frames : List (List ℕ)) (notes : List Note) (c : SessionCourse v) : Type 0 where
   pub talk : T ≡ shares says_in v begun (all_turns c) ++ said_closing c.stop.closing
   pub address : (vmac : Vmac) → (end_of c).address ≡ Some vmac → IsConnectedAs E vmac
   pub put : put_of c ≡ let_through v.policy (end_of c).address frames

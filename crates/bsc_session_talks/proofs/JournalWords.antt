@@ -18,8 +18,8 @@ use Rattle.bsc_edge.specs.declared.said.Said.{Said}
 use Rattle.bsc_edge.specs.declared.said.Said.TheVariants.{Gave}
 use Rattle.bsc_notes.specs.Notes.{HasLine, Note}
 use Rattle.bsc_session.specs.declared.ended.Ended.{Ended}
-use Rattle.bsc_session.specs.Answering.{Fits, calls_hub, notes_hearing, step_of}
-use Rattle.bsc_session.specs.Course.{Course, empties_of, end_of, entries_of, frames_of, notes_of, readings_of, talk_of}
+use Rattle.bsc_session.specs.Answering.{AnswerFits, calls_hub, notes_hearing, step_of}
+use Rattle.bsc_session.specs.Course.{SessionCourse, empties_of, end_of, entries_of, frames_of, notes_of, readings_of, talk_of}
 use Rattle.bsc_session.specs.Puts.{HasPut}
 use Rattle.bsc_session.specs.Receiving.{Answer, Hearing, replies}
 use Rattle.bsc_session.specs.Standings.{Standing, Terms}
@@ -117,7 +117,7 @@ bare_by v s = record { takes = inr (refl, refl); few = lit≤ tt; not_left = λ 
 pub hears_by : (v : Terms) (s : Standing) (given : Result Incoming LinkFault) (answer : Option Answer) (lost : Option LinkFault)
     → s.receives < v.turns → true ≡ is_none (stop_before v s (reads 0))
     → is_some answer ≡ calls_hub v (opened s (reads 0)) (step_of v (opened s (reads 0)) 0 (heard_with given answer lost)) given
-    → Fits (step_of v (opened s (reads 0)) 0 (heard_with given answer lost)) answer
+    → AnswerFits (step_of v (opened s (reads 0)) 0 (heard_with given answer lost)) answer
     → HasLine (notes_hearing v (opened s (reads 0)) 0 (heard_with given answer lost)) lost
     → IsTurn v s (turn_with given answer lost)
 hears_by v s given answer lost room on calls fits line =
@@ -130,7 +130,7 @@ no_end x y h = cc
 
 -- What a course comes to that met no End is a session's, whose Leave has a place, and a line that is lost or not. Its talk
 -- and its notes are given, since these wait for what a policy decides.
-pub told_as : (v : Terms) (c : Course v) (left_at : ℕ) (left_lost : Option LinkFault) (T : List Said) (notes : List Note)
+pub told_as : (v : Terms) (c : SessionCourse v) (left_at : ℕ) (left_lost : Option LinkFault) (T : List Said) (notes : List Note)
     → (end_of c).ended ≡ None
     → HasLine (noted_leaving c.stop.lost left_at (leaving v.caller (end_of c).conn (length (frames_of c)) (empties_of c) Left)) left_lost
     → T ≡ talk_of c

@@ -22,7 +22,7 @@ use Rattle.bsc_settings.specs.declared.unread.Unread.TheVariants.{Refused, NoMem
 use Rattle.bsc_settings.specs.Faults.{policy_fault}
 use Rattle.bsc_settings.specs.Policies.{all_said, are_apart, are_members, are_rules, before_all, list_said, listed, passing}
 use Rattle.bsc_settings.specs.Documents.{is_known}
-use Rattle.bsc_settings.specs.Lists.{IsFor, IsUnread, after, after_all, behind}
+use Rattle.bsc_settings.specs.Lists.{IsForKey, IsUnread, after, after_all, behind}
 use Rattle.bsc_settings.specs.Table.{Row}
 use Rattle.bsc_lemmas.proofs.Booleans.{not_or as not-either}
 use Rattle.std.proofs.lemmas.Bool.{and_right as and-false}
@@ -256,7 +256,7 @@ no-list says test at value is none = ap (list_said says test) is ∙ ap (λ item
 
 -- ---- which key is named
 
-pub unread-for : {T : Type 0} (why : Unread) (key : KeyName) (said : Option T) → IsFor key why → said ≡ None → IsUnread why key said
+pub unread-for : {T : Type 0} (why : Unread) (key : KeyName) (said : Option T) → IsForKey key why → said ≡ None → IsUnread why key said
 unread-for (Refused refusal) key said is none = (is, none)
 unread-for NoMemory key said is none = absurd is
 

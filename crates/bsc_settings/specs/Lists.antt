@@ -27,9 +27,9 @@ Refuses (Refused refusal) first = first ≡ Some (key_of refusal)
 Refuses NoMemory first = ⊤
 
 -- A policy is refused for this key.
-abbrev pub IsFor : KeyName → Unread → Type 0
-IsFor key (Refused refusal) = key_of refusal ≡ key
-IsFor key NoMemory = ⊥
+abbrev pub IsForKey : KeyName → Unread → Type 0
+IsForKey key (Refused refusal) = key_of refusal ≡ key
+IsForKey key NoMemory = ⊥
 
 -- A list isn't read: it is refused for this key, and says nothing. Want of memory tells nothing.
 abbrev pub IsUnread : {T : Type 0} → Unread → KeyName → Option T → Type 0

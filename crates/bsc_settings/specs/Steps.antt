@@ -18,9 +18,9 @@ use Rattle.bsc_settings.specs.Faults.{product_fault}
 use Rattle.bsc_settings.specs.Fields.{fields_of, values_of}
 
 -- What the table `hub` says, where its keys have no fault.
-abbrev pub Says : Option Members → HubSaid → Type 0
-Says table (Settings hub) = (product_fault table ≡ None) × (option_map fields_of hub ≡ option_map (values_of hub_table) table)
-Says table LargeProduct = product_fault table ≡ Some HubProduct
+abbrev pub TableSays : Option Members → HubSaid → Type 0
+TableSays table (Settings hub) = (product_fault table ≡ None) × (option_map fields_of hub ≡ option_map (values_of hub_table) table)
+TableSays table LargeProduct = product_fault table ≡ Some HubProduct
 
 -- The key that is at fault behind those of the tables: the product of the limits, or what isn't known.
 abbrev pub IsLate : HubSaid → Bool → KeyName → Type 0

@@ -188,5 +188,5 @@ IsWithin (integer least greatest) n = (least ≤ n) × (n ≤ greatest)
 IsWithin kind n = ⊥
 
 -- A number is one that the row takes.
-abbrev pub Fits : Row → ℕ → Type 0
-Fits r n = IsWithin r.kind n
+abbrev pub RowTakes : Row → ℕ → Type 0
+RowTakes r n = IsWithin r.kind n

@@ -2,7 +2,7 @@
 ghost use Rattle.std.specs.Prelude.{◌≤◌, ◌*◌};
 ghost use Rattle.bsc_history.specs.declared.limits.TheConstants.{MOST_OCTETS};
 ghost use Rattle.bsc_settings.specs.Table.{port_row, max_bvlc_row, max_npdu_row, rows_row, outbox_row, connect_wait_row};
-ghost use Rattle.bsc_settings.specs.Table.{disconnect_wait_row, heartbeat_row, turns_row, Fits, IsNodeAddress};
+ghost use Rattle.bsc_settings.specs.Table.{disconnect_wait_row, heartbeat_row, turns_row, RowTakes, IsNodeAddress};
 
 use bsc_octets::{DeviceId, Vmac};
 
@@ -34,15 +34,15 @@ pub struct HubSettings {
     // The hub has an address that names one node.
     pub ghost address: { IsNodeAddress vmac },
     // Each number is one that its row of the table takes.
-    pub ghost port_fits: { Fits port_row port },
-    pub ghost max_bvlc_fits: { Fits max_bvlc_row max_bvlc },
-    pub ghost max_npdu_fits: { Fits max_npdu_row max_npdu },
-    pub ghost rows_fit: { Fits rows_row rows },
-    pub ghost outbox_fits: { Fits outbox_row outbox },
-    pub ghost connect_wait_fits: { Fits connect_wait_row connect_wait_ms },
-    pub ghost disconnect_wait_fits: { Fits disconnect_wait_row disconnect_wait_ms },
-    pub ghost heartbeat_fits: { Fits heartbeat_row heartbeat_ms },
-    pub ghost turns_fit: { Fits turns_row turns },
+    pub ghost port_fits: { RowTakes port_row port },
+    pub ghost max_bvlc_fits: { RowTakes max_bvlc_row max_bvlc },
+    pub ghost max_npdu_fits: { RowTakes max_npdu_row max_npdu },
+    pub ghost rows_fit: { RowTakes rows_row rows },
+    pub ghost outbox_fits: { RowTakes outbox_row outbox },
+    pub ghost connect_wait_fits: { RowTakes connect_wait_row connect_wait_ms },
+    pub ghost disconnect_wait_fits: { RowTakes disconnect_wait_row disconnect_wait_ms },
+    pub ghost heartbeat_fits: { RowTakes heartbeat_row heartbeat_ms },
+    pub ghost turns_fit: { RowTakes turns_row turns },
     // All outboxes together hold no more octets than they may.
     pub ghost product: { rows * outbox * max_bvlc ≤ MOST_OCTETS },
 }

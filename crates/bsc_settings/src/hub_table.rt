@@ -3,7 +3,7 @@ ghost use Rattle.std.specs.Prelude.{◌≡◌, Some, None, IfOk, IfErr};
 ghost use Rattle.toml.specs.View.{table_view};
 ghost use Rattle.bsc_settings.specs.Table.{hub_table};
 ghost use Rattle.bsc_settings.specs.Faults.{first_at_fault};
-ghost use Rattle.bsc_settings.specs.Steps.{Says};
+ghost use Rattle.bsc_settings.specs.Steps.{TableSays};
 
 use crate::hub::HubSettings;
 use crate::hub_said::HubSaid;
@@ -18,7 +18,7 @@ use toml::Table;
 
 /// What a table says of a hub, or the first key of it at fault.
 pub(crate) fn read_hub(table: &Table) -> Result<HubSaid, KeyName>
-    ensures says { IfOk result (Says (Some (table_view table.now))) }
+    ensures says { IfOk result (TableSays (Some (table_view table.now))) }
     ensures fine { IfOk result (λ _. first_at_fault hub_table (table_view table.now) ≡ None) }
     ensures fault { IfErr result (λ key. first_at_fault hub_table (table_view table.now) ≡ Some key) }
 {

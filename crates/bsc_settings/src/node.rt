@@ -3,7 +3,7 @@ ghost use Rattle.std.specs.Prelude.{◌≡◌, ◌≤◌, IfSome, is_some};
 ghost use Rattle.std.specs.Str.{IsUtf8};
 ghost use Rattle.std.proofs.Props.{props};
 ghost use Rattle.bsc_settings.specs.Table.{node_max_bvlc_row, node_max_npdu_row, node_connect_wait_row, node_disconnect_wait_row};
-ghost use Rattle.bsc_settings.specs.Table.{node_heartbeat_row, least_reconnect_row, greatest_reconnect_row, node_turns_row, Fits};
+ghost use Rattle.bsc_settings.specs.Table.{node_heartbeat_row, least_reconnect_row, greatest_reconnect_row, node_turns_row, RowTakes};
 ghost use Rattle.bsc_settings.specs.Table.{IsNodeAddress};
 ghost use Rattle.bsc_settings.specs.Uris.{IsHubUri, AreUris};
 
@@ -51,12 +51,12 @@ pub struct NodeSettings {
     pub ghost uris_of_port: { is_some direct_uris ≡ is_some direct_port },
     // Each number is one that its row of the table takes.
     pub ghost direct_port_fits: { IfSome direct_port (λ p. (1 ≤ p) × (p ≤ 65535)) } by { Prim.hlevel props },
-    pub ghost max_bvlc_fits: { Fits node_max_bvlc_row max_bvlc },
-    pub ghost max_npdu_fits: { Fits node_max_npdu_row max_npdu },
-    pub ghost connect_wait_fits: { Fits node_connect_wait_row connect_wait_ms },
-    pub ghost disconnect_wait_fits: { Fits node_disconnect_wait_row disconnect_wait_ms },
-    pub ghost heartbeat_fits: { Fits node_heartbeat_row heartbeat_ms },
-    pub ghost least_reconnect_fits: { Fits least_reconnect_row least_reconnect_ms },
-    pub ghost greatest_reconnect_fits: { Fits (greatest_reconnect_row least_reconnect_ms) greatest_reconnect_ms },
-    pub ghost turns_fit: { Fits node_turns_row turns },
+    pub ghost max_bvlc_fits: { RowTakes node_max_bvlc_row max_bvlc },
+    pub ghost max_npdu_fits: { RowTakes node_max_npdu_row max_npdu },
+    pub ghost connect_wait_fits: { RowTakes node_connect_wait_row connect_wait_ms },
+    pub ghost disconnect_wait_fits: { RowTakes node_disconnect_wait_row disconnect_wait_ms },
+    pub ghost heartbeat_fits: { RowTakes node_heartbeat_row heartbeat_ms },
+    pub ghost least_reconnect_fits: { RowTakes least_reconnect_row least_reconnect_ms },
+    pub ghost greatest_reconnect_fits: { RowTakes (greatest_reconnect_row least_reconnect_ms) greatest_reconnect_ms },
+    pub ghost turns_fit: { RowTakes node_turns_row turns },
 }

@@ -2,7 +2,7 @@
 ghost use Rattle.std.specs.Prelude.{◌≡◌, ◌≤◌, IfSome, is_some};
 ghost use Rattle.std.proofs.Props.{props};
 ghost use Rattle.bsc_settings.specs.Table.{node_max_bvlc_row, node_max_npdu_row, node_connect_wait_row, node_disconnect_wait_row};
-ghost use Rattle.bsc_settings.specs.Table.{node_heartbeat_row, least_reconnect_row, node_turns_row, Fits, IsNodeAddress};
+ghost use Rattle.bsc_settings.specs.Table.{node_heartbeat_row, least_reconnect_row, node_turns_row, RowTakes, IsNodeAddress};
 ghost use Rattle.bsc_settings.specs.Uris.{IsHubUri, AreUris};
 
 use bsc_octets::{DeviceId, Vmac};
@@ -33,12 +33,12 @@ pub(crate) struct NodeSizes {
     pub(crate) disconnect_wait_ms: u32,
     pub(crate) heartbeat_ms: u32,
     pub(crate) least_reconnect_ms: u32,
-    ghost max_bvlc_fits: { Fits node_max_bvlc_row max_bvlc },
-    ghost max_npdu_fits: { Fits node_max_npdu_row max_npdu },
-    ghost connect_wait_fits: { Fits node_connect_wait_row connect_wait_ms },
-    ghost disconnect_wait_fits: { Fits node_disconnect_wait_row disconnect_wait_ms },
-    ghost heartbeat_fits: { Fits node_heartbeat_row heartbeat_ms },
-    ghost least_reconnect_fits: { Fits least_reconnect_row least_reconnect_ms },
+    ghost max_bvlc_fits: { RowTakes node_max_bvlc_row max_bvlc },
+    ghost max_npdu_fits: { RowTakes node_max_npdu_row max_npdu },
+    ghost connect_wait_fits: { RowTakes node_connect_wait_row connect_wait_ms },
+    ghost disconnect_wait_fits: { RowTakes node_disconnect_wait_row disconnect_wait_ms },
+    ghost heartbeat_fits: { RowTakes node_heartbeat_row heartbeat_ms },
+    ghost least_reconnect_fits: { RowTakes least_reconnect_row least_reconnect_ms },
 }
 
 /// How long it waits at most before it dials a hub again, and how many turns it makes.
@@ -46,5 +46,5 @@ pub(crate) struct NodeSizes {
 pub(crate) struct NodeBounds {
     pub(crate) greatest_reconnect_ms: u32,
     pub(crate) turns: u64,
-    ghost turns_fit: { Fits node_turns_row turns },
+    ghost turns_fit: { RowTakes node_turns_row turns },
 }

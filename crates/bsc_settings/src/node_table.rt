@@ -3,7 +3,7 @@ ghost use Rattle.std.specs.Prelude.{◌≡◌, ◌++◌, None, Some, IfOk, IfErr
 ghost use Rattle.std.specs.Str.{IsUtf8};
 ghost use Rattle.toml.specs.Data.{get_member};
 ghost use Rattle.toml.specs.View.{table_view};
-ghost use Rattle.bsc_settings.specs.Table.{greatest_reconnect_row, least_reconnect_row, Fits};
+ghost use Rattle.bsc_settings.specs.Table.{greatest_reconnect_row, least_reconnect_row, RowTakes};
 ghost use Rattle.bsc_settings.specs.Rows.{number_row};
 ghost use Rattle.bsc_settings.specs.Values.{value_at};
 ghost use Rattle.bsc_settings.specs.Documents.{amount, node_rows_of};
@@ -110,7 +110,7 @@ fn read_bounds(table: &Table, least: u32) -> Result<NodeBounds, KeyName>
     ensures fields { IfOk result (λ b. bound_fields b ≡ values_of (bound_rows least) (table_view table.now)) }
     ensures fine { IfOk result (λ _. first_at_fault (bound_rows least) (table_view table.now) ≡ None) }
     ensures fault { IfErr result (λ key. first_at_fault (bound_rows least) (table_view table.now) ≡ Some key) }
-    ensures fits { IfOk result (λ b. Fits (greatest_reconnect_row least) b.greatest_reconnect_ms) }
+    ensures fits { IfOk result (λ b. RowTakes (greatest_reconnect_row least) b.greatest_reconnect_ms) }
 {
     let greatest_reconnect_ms = read_number(table, greatest_reconnect(u64::from(least)))?;
     let turns = read_number(table, NODE_TURNS)?;
@@ -127,7 +127,7 @@ fn join_parts(
     sizes: &NodeSizes,
     bounds: &NodeBounds,
 ) -> Result<NodeSettings, NoMemory>
-    requires { Fits (greatest_reconnect_row sizes.now.least_reconnect_ms) bounds.now.greatest_reconnect_ms }
+    requires { RowTakes (greatest_reconnect_row sizes.now.least_reconnect_ms) bounds.now.greatest_reconnect_ms }
     ensures { IfOk result (λ n. node_fields_of n ≡ peer_fields peers.now ++ size_fields sizes.now ++ bound_fields bounds.now) }
 {
     let primary = octets_of(alloc, peers.primary)?;

@@ -3,7 +3,7 @@ ghost use Rattle.std.specs.Prelude.{◌≡◌, [], map, Some, None, IfOk, IfErr,
 ghost use Rattle.toml.specs.View.{table_view, view};
 ghost use Rattle.bsc_settings.specs.Faults.{policy_fault};
 ghost use Rattle.bsc_settings.specs.declared.key.KeyName.TheVariants.{PolicyMember, PolicyRule};
-ghost use Rattle.bsc_settings.specs.Lists.{IsFor, IsUnread, Refuses, after, after_all};
+ghost use Rattle.bsc_settings.specs.Lists.{IsForKey, IsUnread, Refuses, after, after_all};
 ghost use Rattle.bsc_settings.specs.Policies.{are_members, are_rules, member_in, member_said, members_in, parts_in, parts_of, rule_in, rule_said, rules_in};
 
 use crate::policy_rows::{MEMBER_DEVICE, MEMBER_GROUP, MEMBER_VMAC, RULE_DO, RULE_FROM, RULE_TO};
@@ -103,14 +103,14 @@ fn rule_said<'a>(value: &'a Value) -> Result<RuleSaid<'a>, EntryFault>
 
 /// A policy that is refused for a member.
 fn unfit_member(entry: u32, fault: EntryFault) -> Unread
-    ensures { IsFor PolicyMember result }
+    ensures { IsForKey PolicyMember result }
 {
     Unread::Refused(PolicyRefusal::Member { entry, fault })
 }
 
 /// A policy that is refused for a rule.
 fn unfit_rule(entry: u32, fault: EntryFault) -> Unread
-    ensures { IsFor PolicyRule result }
+    ensures { IsForKey PolicyRule result }
 {
     Unread::Refused(PolicyRefusal::Rule { entry, fault })
 }

@@ -12,7 +12,7 @@ ghost use Rattle.bsc_settings.specs.Faults.{fault_in, fault_of, policy_fault, Na
 ghost use Rattle.bsc_settings.specs.Fields.{node_fields_of, values_of, IsSaidBy};
 ghost use Rattle.bsc_settings.specs.Names.{key_of};
 ghost use Rattle.bsc_settings.specs.Policies.{parts_in, parts_of};
-ghost use Rattle.bsc_settings.specs.Steps.{Says, IsLate};
+ghost use Rattle.bsc_settings.specs.Steps.{TableSays, IsLate};
 
 use crate::fault::SettingFault;
 use crate::hub_said::HubSaid;
@@ -32,7 +32,7 @@ use toml::Table;
 
 /// What a document says of a hub, or the first key of `hub` at fault.
 fn hub_in(doc: &Table) -> Result<HubSaid, KeyName>
-    ensures says { IfOk result (Says (hub_of (table_view doc.now))) }
+    ensures says { IfOk result (TableSays (hub_of (table_view doc.now))) }
     ensures fine { IfOk result (λ _. fault_in (λ _. hub_table) (hub_of (table_view doc.now)) ≡ None) }
     ensures fault { IfErr result (λ key. fault_in (λ _. hub_table) (hub_of (table_view doc.now)) ≡ Some key) }
 {

@@ -9,7 +9,7 @@ use Rattle.bsc_network.specs.Networks.{makes, delivered_at, deliveries, world}
 use Rattle.bsc_network_laws.proofs.Delivered.{networks_deliver_what_was_sent}
 use Rattle.bsc_world.specs.declared.step_done.StepDone.{StepDone}
 use Rattle.bsc_world.specs.declared.world.World.{World as KeptWorld}
-use Rattle.bsc_world.specs.Standing.{StandsFor, Steps, timed}
+use Rattle.bsc_world.specs.Standing.{Steps, WorldStands, timed}
 use Rattle.bsc_network_script_laws.specs.Laws.{AddsWhatWasSent}
 use Rattle.bsc_network_script_laws.proofs.Growing.{added_at}
 
@@ -17,7 +17,7 @@ delivers_more : (added : List Added) (steps : List TimedStep) (t : TimedStep) �
 delivers_more added steps t = ap (λ (w : World). w.delivered) (fold-append makes (new_world added) steps (t ∷ [])) ∙ added_at (world added steps) t
 
 pub adds_what_was_sent : (old new : KeptWorld) (step : WorldStep) (done : StepDone) → Steps old new step (Ok done)
-    → (added : List Added) (steps : List TimedStep) → StandsFor old added steps → AddsWhatWasSent added steps (timed old step) done.deliveries
+    → (added : List Added) (steps : List TimedStep) → WorldStands old added steps → AddsWhatWasSent added steps (timed old step) done.deliveries
 adds_what_was_sent old new step done answers added steps stands =
     let a = answers added steps stands in
     record {

@@ -5,8 +5,8 @@ use Rattle.std.proofs.lemmas.Bool.{and_parts, eqb-true}
 use Rattle.std.proofs.lemmas.List.{length-append}
 use Rattle.bsc_octets.specs.declared.identity.Identity.{Identity}
 use Rattle.bsc_history.specs.declared.limits.About.{About}
-use Rattle.bsc_player.specs.Playing.{Outcome}
-use Rattle.bsc_player.specs.Languages.{StandsAs}
+use Rattle.bsc_player.specs.Playing.{LineOutcome}
+use Rattle.bsc_player.specs.Languages.{LineStandsAs}
 use Rattle.bsc_network.specs.declared.world_step.WorldStep.{WorldStep}
 use Rattle.bsc_network.specs.declared.timed_step.TimedStep.{TimedStep}
 use Rattle.bsc_world.specs.declared.step_done.StepDone.{StepDone}
@@ -16,7 +16,7 @@ use Rattle.bsc_network.specs.Settings.{Added, hub, node, and_hub, and_node, hubs
 use Rattle.bsc_network.specs.Worlds.{World}
 use Rattle.bsc_network.specs.Refusals.{refusal}
 use Rattle.bsc_network.specs.Networks.{dialled_at, delivered_at, world}
-use Rattle.bsc_world.specs.Standing.{StandsFor, Says, Leaves, Steps, clock_of, steps_made, is_spent}
+use Rattle.bsc_world.specs.Standing.{WorldStands, WorldAnswers, Leaves, Steps, clock_of, steps_made, is_spent}
 use Rattle.bsc_simulate.specs.declared.simulation.Simulation.{Simulation}
 use Rattle.bsc_network_script.specs.Written.{step_text}
 use Rattle.bsc_network_script.specs.Scripts.{State, quietly, where_may, names_one, may_be_hub, hub_limits, may_add_hub, may_add_node, adds_hub, adds_node, may_try, at_clock, makes}
@@ -26,16 +26,16 @@ use Rattle.bsc_simulate.specs.Holding.{Holds}
 -- ---- words
 
 -- a line that may stand here, and for which nothing is written
-stands_quietly : (stands : State → Type 0) (b : List ℕ) (may : Bool) (s : State) → may ≡ true → stands s → StandsAs stands b b (where_may may (quietly s))
-stands_quietly stands b may s e h = subst (λ m. StandsAs stands b b (where_may m (quietly s))) (sym e) (h, sym (append-nil b))
+stands_quietly : (stands : State → Type 0) (b : List ℕ) (may : Bool) (s : State) → may ≡ true → stands s → LineStandsAs stands b b (where_may may (quietly s))
+stands_quietly stands b may s e h = subst (λ m. LineStandsAs stands b b (where_may m (quietly s))) (sym e) (h, sym (append-nil b))
 
 -- ---- before the first step
 
 none_made : (it : Simulation) (s : State) → Holds it s → it.steps ≡ 0 → s.steps ≡ []
 none_made it s h e = no_elements s.steps (sym h.steps ∙ e)
 
-before_steps : (it : Simulation) (s : State) → Holds it s → it.steps ≡ 0 → StandsFor it.world s.added []
-before_steps it s h e = subst (λ xs. StandsFor it.world s.added xs) (none_made it s h e) h.stands
+before_steps : (it : Simulation) (s : State) → Holds it s → it.steps ≡ 0 → WorldStands it.world s.added []
+before_steps it s h e = subst (λ xs. WorldStands it.world s.added xs) (none_made it s h e) h.stands
 
 -- ---- one more
 
@@ -65,20 +65,20 @@ hub_as : (it : Simulation) (s : State) (who : Identity) → Holds it s → may_a
 hub_as it s who h = ap (λ n. may_add_hub n it.hubs who) h.steps ∙ ap (λ n. may_add_hub (length s.steps) n who) h.hubs
 
 pub hub_added : (old new : Simulation) (s : State) (who : Identity) → Holds old s → may_add_hub old.steps old.hubs who ≡ true
-    → ((added : List Added) → StandsFor old.world added [] → StandsFor new.world (and_hub added who hub_limits) [])
+    → ((added : List Added) → WorldStands old.world added [] → WorldStands new.world (and_hub added who hub_limits) [])
     → clock_of new.world ≡ clock_of old.world → is_spent new.world ≡ is_spent old.world
     → new.clock ≡ old.clock → new.steps ≡ old.steps → new.hubs ≡ old.hubs + 1 → new.nodes ≡ old.nodes
-    → (b : List ℕ) → StandsAs (Holds new) b b (adds_hub s who)
+    → (b : List ℕ) → LineStandsAs (Holds new) b b (adds_hub s who)
 hub_added old new s who h may stands time spent clock steps more same b =
     let none : old.steps ≡ 0 = hub_first old.steps old.hubs who may in
-    let after : StandsFor new.world (and_hub s.added who hub_limits) [] = stands s.added (before_steps old s h none) in
+    let after : WorldStands new.world (and_hub s.added who hub_limits) [] = stands s.added (before_steps old s h none) in
     let empty : s.steps ≡ [] = none_made old s h none in
     let one_hub = hubs-hub s.added (record { hub = who; limits = hub_limits }) in
     let no_node = nodes-hub 0 0 s.added (record { hub = who; limits = hub_limits }) in
     let hubs_were = h.hubs in
     stands_quietly (Holds new) b (may_add_hub (length s.steps) (length (hubs s.added)) who) (record s { added = and_hub s.added who hub_limits }) (sym (hub_as old s who h) ∙ may)
     (record {
-      stands = subst (λ xs. StandsFor new.world (and_hub s.added who hub_limits) xs) (sym empty) after;
+      stands = subst (λ xs. WorldStands new.world (and_hub s.added who hub_limits) xs) (sym empty) after;
       time = time ∙ h.time;
       clock = clock ∙ h.clock;
       soon = h.soon;
@@ -98,13 +98,13 @@ node_as it s own h =
     ∙ ap (λ n. may_add_node (length s.steps) (length (hubs s.added)) n own) h.nodes
 
 pub node_added : (old new : Simulation) (s : State) (own : Identity) (direct : Bool) → Holds old s → may_add_node old.steps old.hubs old.nodes own ≡ true
-    → ((added : List Added) → StandsFor old.world added [] → StandsFor new.world (and_node added own direct) [])
+    → ((added : List Added) → WorldStands old.world added [] → WorldStands new.world (and_node added own direct) [])
     → clock_of new.world ≡ clock_of old.world → is_spent new.world ≡ is_spent old.world
     → new.clock ≡ old.clock → new.steps ≡ old.steps → new.hubs ≡ old.hubs → new.nodes ≡ old.nodes + 1
-    → (b : List ℕ) → StandsAs (Holds new) b b (adds_node s own direct)
+    → (b : List ℕ) → LineStandsAs (Holds new) b b (adds_node s own direct)
 node_added old new s own direct h may stands time spent clock steps same more b =
     let none : old.steps ≡ 0 = node_first old.steps old.hubs old.nodes own may in
-    let after : StandsFor new.world (and_node s.added own direct) [] = stands s.added (before_steps old s h none) in
+    let after : WorldStands new.world (and_node s.added own direct) [] = stands s.added (before_steps old s h none) in
     let empty : s.steps ≡ [] = none_made old s h none in
     let no_hub = hubs-node s.added own direct in
     let one_more = nodes-node 0 0 s.added own direct in
@@ -112,7 +112,7 @@ node_added old new s own direct h may stands time spent clock steps same more b 
     stands_quietly (Holds new) b (may_add_node (length s.steps) (length (hubs s.added)) (length (nodes s.added)) own) (record s { added = and_node s.added own direct })
     (sym (node_as old s own h) ∙ may)
     (record {
-      stands = subst (λ xs. StandsFor new.world (and_node s.added own direct) xs) (sym empty) after;
+      stands = subst (λ xs. WorldStands new.world (and_node s.added own direct) xs) (sym empty) after;
       time = time ∙ h.time;
       clock = clock ∙ h.clock;
       soon = h.soon;
@@ -127,16 +127,16 @@ node_added old new s own direct h may stands time spent clock steps same more b 
 
 -- what is answered to a step speaks of the step at the clock
 answered : (it : Simulation) (new : KeptWorld) (s : State) (step : WorldStep) (answer : Result StepDone StepRefusal) → Holds it s → Steps it.world new step answer
-    → Says (world s.added s.steps) (at_clock s step) answer × Leaves new s.added (s.steps ++ at_clock s step ∷ []) answer
+    → WorldAnswers (world s.added s.steps) (at_clock s step) answer × Leaves new s.added (s.steps ++ at_clock s step ∷ []) answer
 answered it new s step answer h e =
     subst
-    (λ (n : ℕ). Says (world s.added s.steps) (record { now = n; step = step }) answer × Leaves new s.added (s.steps ++ record { now = n; step = step } ∷ []) answer)
+    (λ (n : ℕ). WorldAnswers (world s.added s.steps) (record { now = n; step = step }) answer × Leaves new s.added (s.steps ++ record { now = n; step = step } ∷ []) answer)
     h.time (e s.added s.steps h.stands)
 
 pub step_made : (old new : Simulation) (s : State) (step : WorldStep) (done : StepDone) (before after : List ℕ) → Holds old s → may_try old.steps step ≡ true
     → Steps old.world new.world step (Ok done) → clock_of new.world ≡ clock_of old.world → steps_made new.world ≡ steps_made old.world + 1
     → new.clock ≡ old.clock → new.steps ≡ old.steps + 1 → new.hubs ≡ old.hubs → new.nodes ≡ old.nodes
-    → after ≡ before ++ step_text done.dialled done.deliveries → StandsAs (Holds new) before after (makes s step)
+    → after ≡ before ++ step_text done.dialled done.deliveries → LineStandsAs (Holds new) before after (makes s step)
 step_made old new s step done before after h may e time made clock steps same_hubs same_nodes written =
     let w : World = world s.added s.steps in
     let t : TimedStep = at_clock s step in
@@ -150,8 +150,8 @@ step_made old new s step done before after h may e time made clock steps same_hu
     let made_were = h.made in
     let text : step_text done.dialled done.deliveries ≡ step_text (dialled_at w t) (delivered_at w t) =
     ap (λ d. step_text d done.deliveries) a.0.1 ∙ ap (λ d. step_text (dialled_at w t) d) a.0.2 in
-    let out : Outcome State = record { state = record s { steps = s.steps ++ t ∷ [] }; text = step_text (dialled_at w t) (delivered_at w t) } in
-    subst (λ b. StandsAs (Holds new) before after (where_may b out)) (sym may_be) (
+    let out : LineOutcome State = record { state = record s { steps = s.steps ++ t ∷ [] }; text = step_text (dialled_at w t) (delivered_at w t) } in
+    subst (λ b. LineStandsAs (Holds new) before after (where_may b out)) (sym may_be) (
       record {
         stands = a.1.1;
         time = time ∙ h.time;

@@ -1,76 +1,50 @@
 //! The lines that are written of a step, put at the end of a text.
-ghost use Rattle.std.specs.Prelude.{◌≡◌, ◌++◌, IfOk, codes, decimal, flat_map};
-ghost use Rattle.hex.specs.Hex.{encode_upper};
+ghost use Rattle.std.specs.Prelude.{◌≡◌, ◌++◌, IfOk, flat_map};
 ghost use Rattle.bsc_network_script.specs.Written.{numbered, target_words, dialled_line, reach, delivered_words, delivery_line, step_text};
 
+use bsc_lines::{put_hex, put_number, put_words};
 use bsc_network::{Dialled, Target, WorldDelivery};
 use bsc_node::Delivered;
 use bsc_octets::NoMemory;
 use bsc_world::StepDone;
 use std::alloc::Global;
 
-/// Puts words of text.
-fn put_words(text: &mut Vec<u8>, words: &str) -> Result<(), NoMemory>
-    ensures { IfOk result (λ _. text.new.items ≡ text.old.items ++ words.now) }
-{
-    text.extend_from_slice(words.as_bytes())?;
-    Ok(())
-}
-
-/// Puts a number in decimal digits.
-fn put_number(text: &mut Vec<u8>, alloc: Global, n: u64) -> Result<(), NoMemory>
-    ensures { IfOk result (λ _. text.new.items ≡ text.old.items ++ decimal n) }
-{
-    let digits = format!(in alloc; "{n}")?;
-    put_words(text, digits.as_str())
-}
-
-/// Puts octets as hexadecimal digits, with letters in upper case.
-fn put_hex(text: &mut Vec<u8>, alloc: Global, octets: &[u8]) -> Result<(), NoMemory>
-    ensures { IfOk result (λ _. text.new.items ≡ text.old.items ++ encode_upper octets.now) }
-{
-    let Ok(digits) = hex::encode_upper(alloc, octets) else {
-        return Err(NoMemory);
-    };
-    put_words(text, digits.as_str())
-}
-
 /// Puts a word, and the number of what it names.
-fn put_numbered(text: &mut Vec<u8>, alloc: Global, word: &str, n: u64) -> Result<(), NoMemory>
+fn put_numbered(text: &mut Vec<u8>, word: &str, n: u64) -> Result<(), NoMemory>
     ensures { IfOk result (λ _. text.new.items ≡ text.old.items ++ numbered word.now n) }
 {
     put_words(text, word)?;
-    put_number(text, alloc, n)
+    put_number(text, n)
 }
 
 // ---- links
 
 /// Puts what a link leads to.
-fn put_target(text: &mut Vec<u8>, alloc: Global, target: Target) -> Result<(), NoMemory>
+fn put_target(text: &mut Vec<u8>, target: Target) -> Result<(), NoMemory>
     ensures { IfOk result (λ _. text.new.items ≡ text.old.items ++ target_words target) }
 {
     match target {
-        Target::Hub(hub) => put_numbered(text, alloc, " hub ", u64::from(hub)),
-        Target::Node(node) => put_numbered(text, alloc, " node ", u64::from(node)),
+        Target::Hub(hub) => put_numbered(text, " hub ", u64::from(hub)),
+        Target::Node(node) => put_numbered(text, " node ", u64::from(node)),
     }
 }
 
 /// Puts the line of a link that was dialled.
-fn put_dialled(text: &mut Vec<u8>, alloc: Global, dialled: &Dialled) -> Result<(), NoMemory>
+fn put_dialled(text: &mut Vec<u8>, dialled: &Dialled) -> Result<(), NoMemory>
     ensures { IfOk result (λ _. text.new.items ≡ text.old.items ++ dialled_line dialled.now) }
 {
-    put_numbered(text, alloc, "link ", u64::from(dialled.link))?;
-    put_numbered(text, alloc, " ", u64::from(dialled.from))?;
-    put_target(text, alloc, dialled.to)?;
+    put_numbered(text, "link ", u64::from(dialled.link))?;
+    put_numbered(text, " ", u64::from(dialled.from))?;
+    put_target(text, dialled.to)?;
     put_words(text, "\n")
 }
 
 /// Puts the lines of links that were dialled.
-fn put_all_dialled(text: &mut Vec<u8>, alloc: Global, dialled: &[Dialled]) -> Result<(), NoMemory>
+fn put_all_dialled(text: &mut Vec<u8>, dialled: &[Dialled]) -> Result<(), NoMemory>
     ensures { IfOk result (λ _. text.new.items ≡ text.old.items ++ flat_map dialled_line dialled.now) }
 {
     for d in dialled.iter() {
-        put_dialled(text, alloc, d)?;
+        put_dialled(text, d)?;
     }
     Ok(())
 }
@@ -103,8 +77,8 @@ fn put_delivered(text: &mut Vec<u8>, alloc: Global, delivered: &Delivered) -> Re
 fn put_delivery(text: &mut Vec<u8>, alloc: Global, delivery: &WorldDelivery) -> Result<(), NoMemory>
     ensures { IfOk result (λ _. text.new.items ≡ text.old.items ++ delivery_line delivery.now) }
 {
-    put_number(text, alloc, u64::from(delivery.node))?;
-    put_numbered(text, alloc, " got ", delivery.sent_at)?;
+    put_number(text, u64::from(delivery.node))?;
+    put_numbered(text, " got ", delivery.sent_at)?;
     put_delivered(text, alloc, &delivery.delivered)
 }
 
@@ -128,6 +102,6 @@ fn put_deliveries(
 pub(crate) fn put_done(text: &mut Vec<u8>, alloc: Global, done: &StepDone) -> Result<(), NoMemory>
     ensures { IfOk result (λ _. text.new.items ≡ text.old.items ++ step_text done.now.dialled done.now.deliveries) }
 {
-    put_all_dialled(text, alloc, done.dialled.as_slice())?;
+    put_all_dialled(text, done.dialled.as_slice())?;
     put_deliveries(text, alloc, done.deliveries.as_slice())
 }

@@ -38,10 +38,10 @@ use Rattle.bsc_storm.specs.declared.ends.StormEnd.{StormEnd}
 use Rattle.bsc_storm.specs.declared.works.Cut.{Cut}
 use Rattle.bsc_storm.specs.declared.works.Cut.TheVariants.{NoMemory, Short}
 use Rattle.bsc_storm.specs.declared.works.Work.{Work}
-use Rattle.bsc_storm.specs.Inner.{Did, Finishes, HasRun, Joins, MayRun, SeesAll, ShowsBy, Splits, StormsFrom, all_short, all_taken_of, any_lacks, came_of, ended_in, ends_as, lacks, short_of, taken_of}
+use Rattle.bsc_storm.specs.Inner.{HasRun, MayRun, SeesAll, ShowsBy, Splits, StormFinishes, StormJoins, StormWorkerDid, StormsFrom, all_short, all_taken_of, any_lacks, came_of, ended_in, ends_as, lacks, short_of, taken_of}
 use Rattle.bsc_storm.specs.Peers.{taken_over}
-use Rattle.bsc_storm.specs.Storms.{Crew, LackedMemory, Ran, ShowsCut, Storms, Worker, WorksPart, WorksWhole, in_list, short_as}
-use Rattle.bsc_storm.specs.Workers.{AreStays, IsPart, IsWhole, ShowsShort, Stay, stay_calls, whole_length}
+use Rattle.bsc_storm.specs.Storms.{Crew, LackedMemory, ShowsCut, StormRan, Storms, Worker, WorksPart, WorksWhole, in_list, short_as}
+use Rattle.bsc_storm.specs.Workers.{AreStays, IsPart, IsWholeStormWorker, ShowsShort, Stay, stay_calls, whole_length}
 use Rattle.bsc_storm.proofs.Forwarding.{part_of_sender}
 use Rattle.bsc_storm.proofs.Stays.{part_of_stays}
 use Rattle.bsc_storm.proofs.Taken.{all_taken, own_two, taken_by, taken_few}
@@ -52,7 +52,7 @@ use Rattle.bsc_load.proofs.Common.{stopped_now}
 
 -- what a work is as a worker, by the history that was seen in the end
 
-part_of_whole : (sends : Bool) (n : ℕ) (E : List Entry) (t : ℕ) → IsWhole sends n E t → IsPart sends n E
+part_of_whole : (sends : Bool) (n : ℕ) (E : List Entry) (t : ℕ) → IsWholeStormWorker sends n E t → IsPart sends n E
 part_of_whole false n E t w = part_of_stays n E t w
 part_of_whole true n E t w = part_of_sender n E t w
 
@@ -96,7 +96,7 @@ module _ (h : Hub) (sends : Bool) (n : ℕ) (k : Pass) (w : Work) (q : Pass) (be
   at_pass : (e : Ended) → Some (ended_of (view_of w.pass)) ≡ Some e → (a : Pass) × (Some k ≡ Some a) × (e.number ≡ number_of a)
   at_pass e is = (k, refl, number_as h sends n k w run e is)
 
-  known_by : (r : Result ℕ Cut) → Did h sends n (own_list w.pass) (seen w.pass) r → (x : Worker) × Known h sends n (Some k) (ended_of (view_of w.pass) ∷ []) q r x
+  known_by : (r : Result ℕ Cut) → StormWorkerDid h sends n (own_list w.pass) (seen w.pass) r → (x : Worker) × Known h sends n (Some k) (ended_of (view_of w.pass) ∷ []) q r x
   known_by (Ok said) d = (
     record { caller = Some (ended_of (view_of w.pass)); is_cut = false; taken = d.taken },
     record {
@@ -221,10 +221,10 @@ record Three (h : Hub) (n : ℕ) (p q : Pass) (one other sends : Option Pass) (x
   pub first : Known h false n one (ended_in x) q (came_of x) crew.one
   pub second : Known h false n other (ended_in y) q (came_of y) crew.other
   pub third : Known h true n sends (ended_in z) q (came_of z) crew.sends
-  pub ran : Ran h p q n crew made
+  pub ran : StormRan h p q n crew made
 
 -- what the two took is no more than was appended
-took_few : (h : Hub) (n : ℕ) (p q : Pass) (w : Crew) (made : Option Placed) → Ran h p q n w made → (a : WorksWhole false n w.one) → (b : WorksWhole false n w.other) → WorksWhole true n w.sends → a.ended.number ≢ b.ended.number →
+took_few : (h : Hub) (n : ℕ) (p q : Pass) (w : Crew) (made : Option Placed) → StormRan h p q n w made → (a : WorksWhole false n w.one) → (b : WorksWhole false n w.other) → WorksWhole true n w.sends → a.ended.number ≢ b.ended.number →
     w.one.taken + w.other.taken ≤ (counts (entries (seen q))).appended
 took_few h n p q w made ran a b c apart =
     let H = entries (seen q) in
@@ -240,7 +240,7 @@ took_few h n p q w made ran a b c apart =
 add_within : (t a b c d : ℕ) → a ≡ within_64_bits c → b ≡ within_64_bits d → within_64_bits (a + b) ≡ within_64_bits (c + d)
 add_within t a b c d first second = omega (arith, first, second)
 
-module _ (h : Hub) (n : ℕ) (p m v : Pass) (one other sends : Option Pass) (x y z : Option Work) (split : Splits h p m one other sends) (j : Joins h m v x y z)
+module _ (h : Hub) (n : ℕ) (p m v : Pass) (one other sends : Option Pass) (x y z : Option Work) (split : Splits h p m one other sends) (j : StormJoins h m v x y z)
     (rx : MayRun h false n one x) (ry : MayRun h false n other y) (rz : MayRun h true n sends z) where
   three_by : (q : Pass) (made : Option Placed) → Passed h v [] made q → newest_number q ≡ newest_number v → Three h n p q one other sends x y z made
   three_by q made last loaded =
@@ -333,7 +333,7 @@ module _ (h : Hub) (n : ℕ) (p m v : Pass) (one other sends : Option Pass) (x y
       record { workers = t.crew; ran = t.ran }
 
 pub storms_from : (h : Hub) (n : ℕ) (m q : Pass) (one other sends : Option Pass) (x y z : Option Work) (result : Result StormEnd LoadStop) →
-    MayRun h false n one x → MayRun h false n other y → MayRun h true n sends z → Finishes h m q x y z result → StormsFrom h m one other sends n q result
+    MayRun h false n one x → MayRun h false n other y → MayRun h true n sends z → StormFinishes h m q x y z result → StormsFrom h m one other sends n q result
 storms_from h n m q one other sends x y z result rx ry rz f p split =
     let v = f.pass in
     elim f.ends [

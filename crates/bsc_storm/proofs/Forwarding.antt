@@ -27,7 +27,7 @@ use Rattle.bsc_hub.specs.declared.joined.Joined.{Joined}
 use Rattle.bsc_hub.specs.Calls.{connect_made, leave_made, one_made, one_stamped}
 use Rattle.bsc_hub.specs.Passing.{IsCaller, Passed, about_of, found_history}
 use Rattle.bsc_hub.proofs.Staying.{one_stays}
-use Rattle.bsc_load.specs.Inner.{Goes, Holds, Unjoined, cut_of as load_cut_of}
+use Rattle.bsc_load.specs.Inner.{KeepsOwn, Unjoined, WorkerGoes, cut_of as load_cut_of}
 use Rattle.bsc_load.specs.Workers.{calls}
 use Rattle.bsc_load.proofs.Both.{goes_between, join_entry, joined_between, leave_entry, length_between}
 use Rattle.bsc_load.proofs.Calls.{forward_joins_none}
@@ -36,13 +36,13 @@ use Rattle.bsc_load.proofs.Running.{outer_calls}
 use Rattle.bsc_load.proofs.Unjoined.{asked_or_not, longer}
 use Rattle.bsc_storm.specs.declared.works.Cut.{Cut}
 use Rattle.bsc_storm.specs.declared.works.Cut.TheVariants.{NoMemory, Short}
-use Rattle.bsc_storm.specs.Inner.{Forwards, Runs, Sent, SentAll, ShowsBy, WasWorn, cut_of, goes_on}
+use Rattle.bsc_storm.specs.Inner.{Sent, SentAll, ShowsBy, StormForwards, StormWasWorn, StormWorkerRuns, cut_of, goes_on}
 use Rattle.bsc_storm.specs.Peers.{storm_frame, storm_sender}
 use Rattle.bsc_storm.specs.Workers.{IsPart, IsSender, storm_forwards}
 use Rattle.bsc_storm.proofs.Stays.{shows_own}
 
 -- a forward, whatever it was told
-forwarded : (h : Hub) (s k : ℕ) (p q : Pass) (r : Result (Told OneReply) Worn) → IsCaller h p → Passed h p [] (one_made (number_of p) s (storm_frame k) r) q → (IsErr r ↔ ((about_of h).limits.calls ≤ length (found_history (one_made (number_of p) s (storm_frame k) r) q))) → Forwards h s k p q (goes_on r)
+forwarded : (h : Hub) (s k : ℕ) (p q : Pass) (r : Result (Told OneReply) Worn) → IsCaller h p → Passed h p [] (one_made (number_of p) s (storm_frame k) r) q → (IsErr r ↔ ((about_of h).limits.calls ≤ length (found_history (one_made (number_of p) s (storm_frame k) r) q))) → StormForwards h s k p q (goes_on r)
 forwarded h s k p q (Ok t) is x worn = (
   (one_stamped (number_of p) s (storm_frame k) t.said).entry,
   refl,
@@ -55,9 +55,9 @@ forwarded h s k p q (Err e) is x worn = (
   worn.0 refl,
 )
 
-pub forwarded_as : (h : Hub) (s k : ℕ) (p q : Pass) (r : Result (Told OneReply) Worn) (m : List ℕ) (said : Result ⊤ Cut) → m ≡ storm_frame k → said ≡ goes_on r → IsCaller h p → Passed h p [] (one_made (number_of p) s m r) q → (IsErr r ↔ ((about_of h).limits.calls ≤ length (found_history (one_made (number_of p) s m r) q))) → Forwards h s k p q said
+pub forwarded_as : (h : Hub) (s k : ℕ) (p q : Pass) (r : Result (Told OneReply) Worn) (m : List ℕ) (said : Result ⊤ Cut) → m ≡ storm_frame k → said ≡ goes_on r → IsCaller h p → Passed h p [] (one_made (number_of p) s m r) q → (IsErr r ↔ ((about_of h).limits.calls ≤ length (found_history (one_made (number_of p) s m r) q))) → StormForwards h s k p q said
 forwarded_as h s k p q r m said same told is x worn =
-    subst (λ (a : Result ⊤ Cut). Forwards h s k p q a) (sym told) (
+    subst (λ (a : Result ⊤ Cut). StormForwards h s k p q a) (sym told) (
     forwarded h s k p q r is
     (subst (λ (m : List ℕ). Passed h p [] (one_made (number_of p) s m r) q) same x)
     (subst (λ (m : List ℕ). IsErr r ↔ ((about_of h).limits.calls ≤ length (found_history (one_made (number_of p) s m r) q))) same worn)
@@ -69,7 +69,7 @@ unfolding joined_where
 sent_none h s p is = record { made = []; calls = refl; quiet = refl; goes = goes_same h p is; holds = holds_same p }
 
 -- one forward more
-pub sent_more : (h : Hub) (s k : ℕ) (p m q : Pass) (u : ⊤) → Sent h s k p m → Forwards h s k m q (Ok u) → Sent h s (k + 1) p q
+pub sent_more : (h : Hub) (s k : ℕ) (p m q : Pass) (u : ⊤) → Sent h s k p m → StormForwards h s k m q (Ok u) → Sent h s (k + 1) p q
 sent_more h s k p m q u a b = record {
   made = a.made ++ b.0 ∷ [];
   calls =
@@ -83,17 +83,17 @@ sent_more h s k p m q u a b = record {
 }
 
 -- a forward that failed
-pub sent_still : (h : Hub) (s n : ℕ) (p m q : Pass) → Sent h s n p m → Goes h m [] q → Holds m q → Sent h s n p q
+pub sent_still : (h : Hub) (s n : ℕ) (p m q : Pass) → Sent h s n p m → WorkerGoes h m [] q → KeepsOwn m q → Sent h s n p q
 sent_still h s n p m q a b c = record {
   made = a.made;
   calls = a.calls;
   quiet = a.quiet;
-  goes = subst (λ (l : List Entry). Goes h p l q) (append-nil a.made) (goes_then h p m q a.made [] a.goes b);
+  goes = subst (λ (l : List Entry). WorkerGoes h p l q) (append-nil a.made) (goes_then h p m q a.made [] a.goes b);
   holds = holds_then p m q a.holds c;
 }
 
 -- the pass after the forwards, whatever they came to
-pub sent_went : (h : Hub) (s n : ℕ) (m q : Pass) (result : Result ℕ Cut) → SentAll h s n m q result → IsCaller h q × StartsWith (seen q) (seen m) × Holds m q
+pub sent_went : (h : Hub) (s n : ℕ) (m q : Pass) (result : Result ℕ Cut) → SentAll h s n m q result → IsCaller h q × StartsWith (seen q) (seen m) × KeepsOwn m q
 sent_went h s n m q (Ok taken) ran = (ran.0.goes.caller, ran.0.goes.sees, ran.0.holds)
 sent_went h s n m q (Err cut) ran = (ran.2.goes.caller, ran.2.goes.sees, ran.2.holds)
 
@@ -114,13 +114,13 @@ part_of_sender n E t w = record {
 }
 
 -- those that were cut short show it
-cut_shows : (h : Hub) (m q : Pass) (n k : ℕ) (E : List Entry) (e l : Entry) (cut : Cut) → k < 2 * n → length E ≡ k → StartsWith (seen q) (seen m) → WasWorn h m cut → ShowsBy (2 * n + 2) h (seen q) (e ∷ E ++ l ∷ []) cut
+cut_shows : (h : Hub) (m q : Pass) (n k : ℕ) (E : List Entry) (e l : Entry) (cut : Cut) → k < 2 * n → length E ≡ k → StartsWith (seen q) (seen m) → StormWasWorn h m cut → ShowsBy (2 * n + 2) h (seen q) (e ∷ E ++ l ∷ []) cut
 cut_shows h m q n k E e l NoMemory few many later worn = tt
 cut_shows h m q n k E e l Short few many later worn = inr (omega (arith, length_between E e l, few, many), omega (arith, longer (seen m) (seen q) later, worn))
 
 pub after_send : (h : Hub) (n : ℕ) (p m v q : Pass) (j : Joined) (o : Outlet) (told : Told Gone) (result : Result ℕ Cut) →
     Passed h p [] (connect_made (number_of p) storm_sender (Ok j)) m → SentAll h j.conn (2 * n) m v result →
-    IsNewOutlet o → Passed h v [] (leave_made (number_of v) j.conn (empties_of o) told) q → told.said.taken ≡ length (given o) → Runs h true n p q result
+    IsNewOutlet o → Passed h v [] (leave_made (number_of v) j.conn (empties_of o) told) q → told.said.taken ≡ length (given o) → StormWorkerRuns h true n p q result
 after_send h n p m v q j o told (Ok t) came ran new left many =
     let E = ran.0.made in
     let e = join_entry p storm_sender j in
@@ -165,7 +165,7 @@ shows_few h n q E NoMemory so = tt
 shows_few h n q E Short so = elim so [ inl refused ↦ inl refused | inr worn ↦ inr (omega (arith, worn.0), worn.1) ]
 
 -- a sender that didn't join
-pub unsent : (h : Hub) (n : ℕ) (p q : Pass) (refusal : ConnectRefusal) → Unjoined h storm_sender p q (load_cut_of refusal) → Runs h true n p q (Err (cut_of refusal))
+pub unsent : (h : Hub) (n : ℕ) (p q : Pass) (refusal : ConnectRefusal) → Unjoined h storm_sender p q (load_cut_of refusal) → StormWorkerRuns h true n p q (Err (cut_of refusal))
 unsent h n p q refusal u =
     let asked = asked_or_not u.made storm_sender u.calls in (
       u.made,

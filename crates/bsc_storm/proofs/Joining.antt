@@ -9,7 +9,7 @@ use Rattle.bsc_hub.specs.declared.hub.Hub.{Hub}
 use Rattle.bsc_hub.specs.Passing.{IsCaller, Passed}
 use Rattle.bsc_hub.proofs.Following.{passed_none, passed_then, starts_then}
 use Rattle.bsc_storm.specs.declared.works.Work.{Work}
-use Rattle.bsc_storm.specs.Inner.{Joins, JoinsOne, MayJoin, SeesAll, ended_in}
+use Rattle.bsc_storm.specs.Inner.{JoinsOne, MayJoin, SeesAll, StormJoins, ended_in}
 
 pub joined_none : (h : Hub) (p : Pass) (o : Option Work) → o ≡ None → IsCaller h p → JoinsOne h p p o
 joined_none h p o none is = subst (λ (x : Option Work). JoinsOne h p p x) (sym none) (record { passed = passed_none h p is; loaded = refl; sees = tt })
@@ -28,7 +28,7 @@ sees_later : (q r : Pass) (w : Option Work) → StartsWith (seen r) (seen q) →
 sees_later q r None grows sees = tt
 sees_later q r (Some w) grows sees = starts_then (seen w.pass) (seen q) (seen r) sees grows
 
-pub joins_three : (h : Hub) (p m n q : Pass) (x y z : Option Work) → JoinsOne h p m x → JoinsOne h m n y → JoinsOne h n q z → Joins h p q x y z
+pub joins_three : (h : Hub) (p m n q : Pass) (x y z : Option Work) → JoinsOne h p m x → JoinsOne h m n y → JoinsOne h n q z → StormJoins h p q x y z
 joins_three h p m n q x y z one other sends = record {
   passed = passed_then h p m q (ended_in x) (ended_in y ++ ended_in z) None one.passed (passed_then h m n q (ended_in y) (ended_in z) None other.passed sends.passed);
   loaded = sends.loaded ∙ other.loaded ∙ one.loaded;

@@ -34,7 +34,7 @@ use Rattle.bsc_load.proofs.Unjoined.{asked_or_not}
 use Rattle.bsc_storm.specs.declared.works.Cut.{Cut}
 use Rattle.bsc_storm.specs.declared.works.Cut.TheVariants.{NoMemory, Short}
 use Rattle.bsc_storm.specs.declared.works.Work.{Work}
-use Rattle.bsc_storm.specs.Inner.{Did, HasRun, IsNew, MayRun, NoStay, Runs, ShowsBy, Stayed, StayedOften, StaysOnce, TookSome, WasCut, cut_of}
+use Rattle.bsc_storm.specs.Inner.{HasRun, IsNew, MayRun, NoStay, ShowsBy, Stayed, StayedOften, StaysOnce, StormWorkerDid, StormWorkerRuns, TookSome, WasCut, cut_of}
 use Rattle.bsc_storm.specs.Peers.{taken_over}
 use Rattle.bsc_storm.specs.Workers.{AreStays, HasTaken, IsPart, Stay, stay_calls}
 use Rattle.bsc_storm.proofs.Taking.{has_taken, takes_unjoined}
@@ -150,7 +150,7 @@ part_of_stays n E t w = record {
   takes = w.takes;
 }
 
-pub stays_run : (h : Hub) (n : ℕ) (p q : Pass) (result : Result ℕ Cut) → StayedOften h n p q result → Runs h false n p q result
+pub stays_run : (h : Hub) (n : ℕ) (p q : Pass) (result : Result ℕ Cut) → StayedOften h n p q result → StormWorkerRuns h false n p q result
 stays_run h n p q (Ok all) s = (
   s.made,
   s.goes,
@@ -163,14 +163,14 @@ stays_run h n p q (Ok all) s = (
 stays_run h n p q (Err cut) w = (w.made, w.goes, (w.part, w.shows))
 
 -- a pass that had made no entry
-pub has_run : (h : Hub) (sends : Bool) (n : ℕ) (p : Pass) (w : Work) → IsNew h p → Runs h sends n p w.pass w.taken → HasRun h sends n (number_of p) w
+pub has_run : (h : Hub) (sends : Bool) (n : ℕ) (p : Pass) (w : Work) → IsNew h p → StormWorkerRuns h sends n p w.pass w.taken → HasRun h sends n (number_of p) w
 has_run h sends n p w new r = record {
   caller = r.1.caller;
   number = r.1.number;
   ended = r.1.took_in ∙ new.ended;
   draws_none = r.1.draws_none ∙ new.fresh;
   did =
-      subst (λ (l : List Entry). Did h sends n l (seen w.pass) w.taken)
+      subst (λ (l : List Entry). StormWorkerDid h sends n l (seen w.pass) w.taken)
       (sym (r.1.own ∙ ap (λ (l : List Entry). l ++ r.0) new.own)) r.2;
 }
 

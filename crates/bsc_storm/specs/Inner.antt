@@ -29,7 +29,7 @@ use Rattle.bsc_hub.specs.declared.joined.ConnectRefusal.TheVariants.{NoMemory as
 use Rattle.bsc_hub.specs.Passing.{IsCaller, Passed, Went, about_of}
 use Rattle.bsc_load.specs.declared.ends.LoadStop.{LoadStop}
 use Rattle.bsc_load.specs.declared.ends.LoadStop.TheVariants.{NoMemory as NoMemoryStop, Short as ShortStop, Stopped}
-use Rattle.bsc_load.specs.Inner.{Goes, Holds, Stops}
+use Rattle.bsc_load.specs.Inner.{KeepsOwn, Stops, WorkerGoes}
 use Rattle.bsc_load.specs.Workers.{calls, within_64_bits}
 use Rattle.bsc_storm.specs.declared.bounds.TheConstants.{TAKES}
 use Rattle.bsc_storm.specs.declared.ends.StormEnd.{StormEnd}
@@ -38,7 +38,7 @@ use Rattle.bsc_storm.specs.declared.works.Cut.TheVariants.{NoMemory, Short}
 use Rattle.bsc_storm.specs.declared.works.Work.{Work}
 use Rattle.bsc_storm.specs.Peers.{storm_frame, taken_over}
 use Rattle.bsc_storm.specs.Storms.{Storms}
-use Rattle.bsc_storm.specs.Workers.{IsPart, IsWhole, Stay, TakesAll, stay_calls, storm_forwards, whole_length}
+use Rattle.bsc_storm.specs.Workers.{IsPart, IsWholeStormWorker, Stay, TakesAll, stay_calls, storm_forwards, whole_length}
 
 -- why a worker was cut short whose connect was refused
 abbrev pub cut_of : ConnectRefusal → Cut
@@ -47,9 +47,9 @@ cut_of (WornRefusal worn) = Short
 cut_of (Refused at refusal) = Short
 
 -- a worker that was cut short, but not for want of memory, met a hub that was worn
-abbrev pub WasWorn : Hub → Pass → Cut → Type 0
-WasWorn h q NoMemory = ⊤
-WasWorn h q Short = (about_of h).limits.calls ≤ length (entries (seen q))
+abbrev pub StormWasWorn : Hub → Pass → Cut → Type 0
+StormWasWorn h q NoMemory = ⊤
+StormWasWorn h q Short = (about_of h).limits.calls ≤ length (entries (seen q))
 
 -- the sign of a worker that was cut short, but for want of memory, by its entries, which are fewer than so many
 abbrev pub ShowsBy : ℕ → Hub → List Stamped → List Entry → Cut → Type 0
@@ -73,14 +73,14 @@ pub record StaysOnce (h : Hub) (p q : Pass) (taken : ℕ) : Type 0 where
   pub leaves : last.call ≡ Leave conn taken empties
   pub who : numbers (joined (first ∷ last ∷ [])) ≡ conn ∷ []
   pub takes : TakesAll (first ∷ last ∷ [])
-  pub goes : Goes h p (first ∷ last ∷ []) q
+  pub goes : WorkerGoes h p (first ∷ last ∷ []) q
 
 -- a connect that didn't join, and nothing else
 pub record NoStay (h : Hub) (p q : Pass) (cut : Cut) : Type 0 where
   pub made : List Entry
   pub calls : (calls made ≡ []) ⊎ (calls made ≡ Connect taken_over ∷ [])
   pub quiet : joined made ≡ []
-  pub goes : Goes h p made q
+  pub goes : WorkerGoes h p made q
   pub shows : ShowsBy 1 h (seen q) made cut
 
 abbrev pub AfterStay : Hub → Pass → Pass → Result ℕ Cut → Type 0
@@ -95,14 +95,14 @@ pub record Stayed (h : Hub) (n : ℕ) (p q : Pass) (all : ℕ) : Type 0 where
   pub calls : calls made ≡ stay_calls stays
   pub joined : numbers (joined made) ≡ map (λ s. s.conn) stays
   pub takes : TakesAll made
-  pub goes : Goes h p made q
+  pub goes : WorkerGoes h p made q
   pub taken : all ≡ within_64_bits (sum_by (λ s. s.taken) stays)
 
 -- a worker that was cut short
 pub record WasCut (h : Hub) (sends : Bool) (rounds : ℕ) (p q : Pass) (cut : Cut) : Type 0 where
   pub made : List Entry
   pub part : IsPart sends rounds made
-  pub goes : Goes h p made q
+  pub goes : WorkerGoes h p made q
   pub shows : ShowsBy (whole_length sends rounds) h (seen q) made cut
 
 abbrev pub StayedOften : Hub → ℕ → Pass → Pass → Result ℕ Cut → Type 0
@@ -115,36 +115,36 @@ goes_on (Ok t) = Ok tt
 goes_on (Err worn) = Err Short
 
 -- one forward
-abbrev pub Forwards : Hub → ℕ → ℕ → Pass → Pass → Result ⊤ Cut → Type 0
-Forwards h s k p q (Ok u) = (e : Entry) × (e.call ≡ Forward s (storm_frame k)) × Goes h p (e ∷ []) q × Holds p q
-Forwards h s k p q (Err cut) = Goes h p [] q × Holds p q × WasWorn h q cut
+abbrev pub StormForwards : Hub → ℕ → ℕ → Pass → Pass → Result ⊤ Cut → Type 0
+StormForwards h s k p q (Ok u) = (e : Entry) × (e.call ≡ Forward s (storm_frame k)) × WorkerGoes h p (e ∷ []) q × KeepsOwn p q
+StormForwards h s k p q (Err cut) = WorkerGoes h p [] q × KeepsOwn p q × StormWasWorn h q cut
 
 -- n forwards
 pub record Sent (h : Hub) (s n : ℕ) (p q : Pass) : Type 0 where
   pub made : List Entry
   pub calls : calls made ≡ storm_forwards s n
   pub quiet : joined made ≡ []
-  pub goes : Goes h p made q
-  pub holds : Holds p q
+  pub goes : WorkerGoes h p made q
+  pub holds : KeepsOwn p q
 
 -- all forwards
 abbrev pub SentAll : Hub → ℕ → ℕ → Pass → Pass → Result ℕ Cut → Type 0
 SentAll h s n p q (Ok taken) = Sent h s n p q × (taken ≡ 0)
-SentAll h s n p q (Err cut) = (k : ℕ) × (k < n) × Sent h s k p q × WasWorn h q cut
+SentAll h s n p q (Err cut) = (k : ℕ) × (k < n) × Sent h s k p q × StormWasWorn h q cut
 
 -- all that a worker did, by its answer: what it says that it took is the greatest number of 64 bits where that was more
 pub record DidAll (sends : Bool) (rounds : ℕ) (E : List Entry) (answer : ℕ) : Type 0 where
   pub taken : ℕ
-  pub whole : IsWhole sends rounds E taken
+  pub whole : IsWholeStormWorker sends rounds E taken
   pub said : answer ≡ within_64_bits taken
 
-abbrev pub Did : Hub → Bool → ℕ → List Entry → List Stamped → Result ℕ Cut → Type 0
-Did h sends rounds E S (Ok said) = DidAll sends rounds E said
-Did h sends rounds E S (Err cut) = IsPart sends rounds E × ShowsBy (whole_length sends rounds) h S E cut
+abbrev pub StormWorkerDid : Hub → Bool → ℕ → List Entry → List Stamped → Result ℕ Cut → Type 0
+StormWorkerDid h sends rounds E S (Ok said) = DidAll sends rounds E said
+StormWorkerDid h sends rounds E S (Err cut) = IsPart sends rounds E × ShowsBy (whole_length sends rounds) h S E cut
 
 -- a worker's run
-abbrev pub Runs : Hub → Bool → ℕ → Pass → Pass → Result ℕ Cut → Type 0
-Runs h sends rounds p q result = (made : List Entry) × Goes h p made q × Did h sends rounds made (seen q) result
+abbrev pub StormWorkerRuns : Hub → Bool → ℕ → Pass → Pass → Result ℕ Cut → Type 0
+StormWorkerRuns h sends rounds p q result = (made : List Entry) × WorkerGoes h p made q × StormWorkerDid h sends rounds made (seen q) result
 
 -- a pass for a worker: it made no entry and asked for no number, and nobody ended in it
 pub record IsNew (h : Hub) (p : Pass) : Type 0 where
@@ -159,7 +159,7 @@ pub record HasRun (h : Hub) (sends : Bool) (rounds k : ℕ) (w : Work) : Type 0 
   pub number : number_of w.pass ≡ k
   pub ended : ended_callers w.pass ≡ []
   pub draws_none : loads_made w.pass ≡ 0
-  pub did : Did h sends rounds (own_list w.pass) (seen w.pass) w.taken
+  pub did : StormWorkerDid h sends rounds (own_list w.pass) (seen w.pass) w.taken
 
 -- A pass was split off for a worker, with a greater number than was known; or as many numbers are drawn as there may be.
 abbrev pub HasSplit : Hub → Pass → Pass → Option Pass → Type 0
@@ -212,7 +212,7 @@ pub record JoinsOne (h : Hub) (p q : Pass) (w : Option Work) : Type 0 where
   pub sees : SeesAll q w
 
 -- the passes of three were joined
-pub record Joins (h : Hub) (p q : Pass) (x y z : Option Work) : Type 0 where
+pub record StormJoins (h : Hub) (p q : Pass) (x y z : Option Work) : Type 0 where
   pub passed : Passed h p (ended_in x ++ (ended_in y ++ ended_in z)) None q
   pub loaded : newest_number q ≡ newest_number p
   pub one : SeesAll q x
@@ -243,8 +243,8 @@ abbrev pub answer : Result (Told Counts) AlreadyStopped → ℕ → ℕ → Resu
 answer told taken short = if nat_lt 0 short then Err (ShortStop short) else ends_as told taken
 
 -- the hub was stopped, and that was answered
-abbrev pub Answers : Hub → Pass → Pass → ℕ → ℕ → Result StormEnd LoadStop → Type 0
-Answers h p q taken short result = (told : Result (Told Counts) AlreadyStopped) × Stops h p q told × (result ≡ answer told taken short)
+abbrev pub StormAnswers : Hub → Pass → Pass → ℕ → ℕ → Result StormEnd LoadStop → Type 0
+StormAnswers h p q taken short result = (told : Result (Told Counts) AlreadyStopped) × Stops h p q told × (result ≡ answer told taken short)
 
 -- what three came to: whether one lacked memory, how many frames the first two took, and how many were short
 abbrev pub any_lacks : Option Work → Option Work → Option Work → Bool
@@ -257,11 +257,11 @@ abbrev pub all_short : Option Work → Option Work → Option Work → ℕ
 all_short x y z = short_of (came_of x) + short_of (came_of y) + short_of (came_of z)
 
 -- the workers were joined; where memory ran out that was all, and else the hub was stopped, and that was answered
-pub record Finishes (h : Hub) (p q : Pass) (x y z : Option Work) (result : Result StormEnd LoadStop) : Type 0 where
+pub record StormFinishes (h : Hub) (p q : Pass) (x y z : Option Work) (result : Result StormEnd LoadStop) : Type 0 where
   pub pass : Pass
-  pub joins : Joins h p pass x y z
+  pub joins : StormJoins h p pass x y z
   pub ends : ((any_lacks x y z ≡ true) × (q ≡ pass) × (result ≡ Err NoMemoryStop))
-      ⊎ ((any_lacks x y z ≡ false) × Answers h pass q (all_taken_of x y) (all_short x y z) result)
+      ⊎ ((any_lacks x y z ≡ false) × StormAnswers h pass q (all_taken_of x y) (all_short x y z) result)
 
 -- from the passes on, a storm ends as its public clause says
 abbrev pub StormsFrom : Hub → Pass → Option Pass → Option Pass → Option Pass → ℕ → Pass → Result StormEnd LoadStop → Type 0

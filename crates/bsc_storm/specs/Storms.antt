@@ -20,7 +20,7 @@ use Rattle.bsc_load.specs.declared.ends.LoadStop.{LoadStop}
 use Rattle.bsc_load.specs.declared.ends.LoadStop.TheVariants.{NoMemory, Short, Stopped}
 use Rattle.bsc_load.specs.Workers.{within_64_bits}
 use Rattle.bsc_storm.specs.declared.ends.StormEnd.{StormEnd}
-use Rattle.bsc_storm.specs.Workers.{IsPart, IsWhole, ShowsShort}
+use Rattle.bsc_storm.specs.Workers.{IsPart, IsWholeStormWorker, ShowsShort}
 
 -- A worker: its caller as that ended, where it got a pass; whether it was cut short; and how many frames a whole one took.
 pub record Worker : Type 0 where
@@ -60,7 +60,7 @@ pub record WorksPart (sends : Bool) (rounds : ℕ) (w : Worker) : Type 0 where
 
 -- The callers that a call took in are those of the workers, as far as they got passes, each with its calls as far as it
 -- came. The call asked for three numbers, one for each, and made this entry with its own pass, or none.
-pub record Ran (h : Hub) (p q : Pass) (rounds : ℕ) (w : Crew) (made : Option Placed) : Type 0 where
+pub record StormRan (h : Hub) (p q : Pass) (rounds : ℕ) (w : Crew) (made : Option Placed) : Type 0 where
   pub went : Went h p 3 (callers w) made q
   pub one : WorksPart false rounds w.one
   pub other : WorksPart false rounds w.other
@@ -71,7 +71,7 @@ pub record WorksWhole (sends : Bool) (rounds : ℕ) (w : Worker) : Type 0 where
   pub ended : Ended
   pub caller : w.caller ≡ Some ended
   pub uncut : w.is_cut ≡ false
-  pub whole : IsWhole sends rounds ended.own w.taken
+  pub whole : IsWholeStormWorker sends rounds ended.own w.taken
 
 -- All three are whole.
 pub record AllWhole (rounds : ℕ) (w : Crew) : Type 0 where
@@ -90,7 +90,7 @@ pub record ShowsCut (h : Hub) (q : Pass) (sends : Bool) (rounds : ℕ) (w : Work
 pub record HasStormed (h : Hub) (p q : Pass) (rounds : ℕ) (end : StormEnd) : Type 0 where
   pub workers : Crew
   pub told : Told Counts
-  pub ran : Ran h p q rounds workers (stop_made (number_of p) (Ok told))
+  pub ran : StormRan h p q rounds workers (stop_made (number_of p) (Ok told))
   pub whole : AllWhole rounds workers
   pub counts : end.counts ≡ counts (found_history (stop_made (number_of p) (Ok told)) q)
   pub taken : end.taken ≡ within_64_bits (workers.one.taken + workers.other.taken)
@@ -109,7 +109,7 @@ cut_short w = short_as w.one.caller w.one.is_cut + short_as w.other.caller w.oth
 pub record WasShort (h : Hub) (p q : Pass) (rounds short : ℕ) : Type 0 where
   pub workers : Crew
   pub told : Result (Told Counts) AlreadyStopped
-  pub ran : Ran h p q rounds workers (stop_made (number_of p) told)
+  pub ran : StormRan h p q rounds workers (stop_made (number_of p) told)
   pub some : 0 < short
   pub count : short ≡ cut_short workers
   pub one : ShowsCut h q false rounds workers.one
@@ -120,14 +120,14 @@ pub record WasShort (h : Hub) (p q : Pass) (rounds short : ℕ) : Type 0 where
 -- All three are whole, and the hub had been stopped before, by the entry at this place.
 pub record WasStopped (h : Hub) (p q : Pass) (rounds at : ℕ) : Type 0 where
   pub workers : Crew
-  pub ran : Ran h p q rounds workers None
+  pub ran : StormRan h p q rounds workers None
   pub whole : AllWhole rounds workers
   pub place : position stops (entries (seen q)) ≡ Some at
 
 -- Memory ran out in one of the three. The hub wasn't stopped.
 pub record LackedMemory (h : Hub) (p q : Pass) (rounds : ℕ) : Type 0 where
   pub workers : Crew
-  pub ran : Ran h p q rounds workers None
+  pub ran : StormRan h p q rounds workers None
 
 -- What a storm of so many rounds says, by its answer.
 abbrev pub Storms : Hub → Pass → Pass → ℕ → Result StormEnd LoadStop → Type 0

@@ -85,9 +85,9 @@ pub record IsSomeSender (n : ℕ) (E : List Entry) : Type 0 where
   pub joined : numbers (joined E) ≡ who
 
 -- These are all entries of a worker that stays, or of the one that sends.
-abbrev pub IsWhole : Bool → ℕ → List Entry → ℕ → Type 0
-IsWhole false rounds E taken = AreStays rounds E taken
-IsWhole true rounds E taken = IsSender (2 * rounds) E taken
+abbrev pub IsWholeStormWorker : Bool → ℕ → List Entry → ℕ → Type 0
+IsWholeStormWorker false rounds E taken = AreStays rounds E taken
+IsWholeStormWorker true rounds E taken = IsSender (2 * rounds) E taken
 
 -- How many they are.
 abbrev pub whole_length : Bool → ℕ → ℕ

@@ -1,7 +1,7 @@
 //! What the worker does that forwards to who is taken over.
 ghost use Rattle.std.specs.Prelude.{◌≡◌, ◌≤◌, true};
 ghost use Rattle.bsc_hub.specs.Passing.{IsCaller, IsOwnAs};
-ghost use Rattle.bsc_storm.specs.Inner.{Forwards, Runs, SentAll, goes_on};
+ghost use Rattle.bsc_storm.specs.Inner.{SentAll, StormForwards, StormWorkerRuns, goes_on};
 ghost use Rattle.bsc_storm.specs.Peers.{storm_sender};
 
 use crate::peers::{storm_frame, storm_sender};
@@ -34,7 +34,7 @@ fn forward<R: Wait>(
 ) -> Result<(), Cut>
     requires caller { IsCaller hub.now pass.old }
     requires own { IsOwnAs pass.old conn storm_sender.vmac }
-    ensures { Forwards hub.now conn id pass.old pass.new result }
+    ensures { StormForwards hub.now conn id pass.old pass.new result }
 {
     let message = storm_frame(id);
     let Ok(ready) = prepare(alloc, &message, storm_sender().vmac) else {
@@ -75,7 +75,7 @@ pub(crate) fn send<R: Wait>(
 ) -> Result<u64, Cut>
     requires caller { IsCaller hub.now pass.old }
     requires rounds { rounds ≤ 30000 }
-    ensures { Runs hub.now true rounds pass.old pass.new result }
+    ensures { StormWorkerRuns hub.now true rounds pass.old pass.new result }
 {
     match hub.connect(rt, alloc, pass, storm_sender()) {
         Err(refusal) => Err(cut_of(refusal)),

@@ -2,7 +2,7 @@
 ghost use Rattle.std.specs.Prelude.{◌≡◌, ◌≤◌, IfSome};
 ghost use Rattle.bsc_hub.specs.Passing.{IsCaller};
 ghost use Rattle.bsc_load.specs.Inner.{Stops};
-ghost use Rattle.bsc_storm.specs.Inner.{Answers, Finishes, IsNew, Joins, JoinsOne, MayJoin, Splits, SplitsOne, StormsFrom};
+ghost use Rattle.bsc_storm.specs.Inner.{IsNew, JoinsOne, MayJoin, Splits, SplitsOne, StormAnswers, StormFinishes, StormJoins, StormsFrom};
 ghost use Rattle.bsc_storm.specs.Inner.{answer, came_of, lacks, short_of, taken_of};
 ghost use Rattle.bsc_storm.specs.Storms.{Storms};
 
@@ -121,7 +121,7 @@ fn end_of<R: Wait>(
     short: u32,
 ) -> Result<StormEnd, LoadStop>
     requires { IsCaller hub.now pass.old }
-    ensures { Answers hub.now pass.old pass.new taken short result }
+    ensures { StormAnswers hub.now pass.old pass.new taken short result }
 {
     let told = stop(rt, hub, pass);
     answer(told, taken, short)
@@ -145,7 +145,7 @@ fn join_three(hub: &Hub, pass: &mut Pass, x: Option<Work>, y: Option<Work>, z: O
     requires x { MayJoin hub.now x }
     requires y { MayJoin hub.now y }
     requires z { MayJoin hub.now z }
-    ensures { Joins hub.now pass.old pass.new x y z }
+    ensures { StormJoins hub.now pass.old pass.new x y z }
 {
     join_one(hub, pass, x);
     join_one(hub, pass, y);
@@ -165,7 +165,7 @@ fn finish<R: Wait>(
     requires x { MayJoin hub.now x }
     requires y { MayJoin hub.now y }
     requires z { MayJoin hub.now z }
-    ensures { Finishes hub.now pass.old pass.new x y z result }
+    ensures { StormFinishes hub.now pass.old pass.new x y z result }
 {
     let one = came_of(&x);
     let other = came_of(&y);

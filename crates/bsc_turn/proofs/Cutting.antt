@@ -11,14 +11,14 @@ use Rattle.bsc_turn.specs.declared.phase.SeatPhase.TheVariants.{Holding, Drawn}
 use Rattle.bsc_turn.specs.declared.view.Ended.{Ended}
 use Rattle.bsc_turn.specs.declared.view.View.{View}
 use Rattle.bsc_turn.specs.Histories.{own_of}
-use Rattle.bsc_turn.specs.Rule.{holds_turn, has_state, knows_next, turn_word, number_word, At, DistinctNumbers, NoSeatOfEnded, Held, Fits, Stored, Kept}
+use Rattle.bsc_turn.specs.Rule.{holds_turn, has_state, knows_next, turn_word, number_word, At, DistinctNumbers, NoSeatOfEnded, Held, ViewFits, Stored, TurnKept}
 use Rattle.bsc_turn.specs.Effects.{in_phase, next_pass}
 use Rattle.bsc_turn.proofs.Beginnings.{own_none}
 use Rattle.bsc_turn.proofs.Views.{not_also, next_holds, at_changed, apart_after, gone_after, none_else}
 use Rattle.bsc_lemmas.proofs.Lists.{get_elem_below as at_below, get_of_pushed as at_end}
 
 -- as many passes were made, and one more
-fits_later : (a : About) (limit made : ℕ) (log : List Stamped) (v : View) → Fits a limit made log v → knows_next v.phase ≡ false → Fits a limit (suc made) log v
+fits_later : (a : About) (limit made : ℕ) (log : List Stamped) (v : View) → ViewFits a limit made log v → knows_next v.phase ≡ false → ViewFits a limit (suc made) log v
 fits_later a limit made log v f never =
     record {
       begins = f.begins;
@@ -35,11 +35,11 @@ fits_later a limit made log v f never =
     }
 
 module _ {S : Type 0} (stands : S → List Stamped → Type 0) (about : S → About) (a : About) (limit id : ℕ) (v : View) (live : v.live ≡ true) (drawn : v.phase ≡ Drawn) where
-  module _ (s : State (Option S) View) (k : Kept stands about a limit s) (here : get_elem? s.views id ≡ some v) where
+  module _ (s : State (Option S) View) (k : TurnKept stands about a limit s) (here : get_elem? s.views id ≡ some v) where
     abbrev at : At s.views id v
     at = (here, live)
 
-    abbrev mine : Fits a limit k.made k.log v
+    abbrev mine : ViewFits a limit k.made k.log v
     mine = k.fits id v at
 
     abbrev left : View
@@ -64,7 +64,7 @@ module _ {S : Type 0} (stands : S → List Stamped → Type 0) (about : S → Ab
     who : (i : ℕ) (x : View) → At views i x → (At (set s.views id left) i x) ⊎ ((i ≡ length (set s.views id left)) × (right ≡ x))
     who i x got = ⊎_elim (λ h. inl (h, got.1)) (λ h. inr h) (at_end (set s.views id left) right x i got.0)
 
-    fits_left : Fits a limit (suc k.made) k.log left
+    fits_left : ViewFits a limit (suc k.made) k.log left
     fits_left =
         record {
           begins = mine.begins;
@@ -80,7 +80,7 @@ module _ {S : Type 0} (stands : S → List Stamped → Type 0) (about : S → Ab
           past = λ _ _. omega (arith, next);
         }
 
-    fits_right : Fits a limit (suc k.made) k.log right
+    fits_right : ViewFits a limit (suc k.made) k.log right
     fits_right =
         let none : own_of k.log v.loaded ≡ [] = k.strangers v.loaded (omega (arith, next)) in
         record {
@@ -104,14 +104,14 @@ module _ {S : Type 0} (stands : S → List Stamped → Type 0) (about : S → Ab
           | false ↦ (λ _. refl)
         ] refl
 
-    fits_all : (i : ℕ) (x : View) → At views i x → Fits a limit (suc k.made) k.log x
+    fits_all : (i : ℕ) (x : View) → At views i x → ViewFits a limit (suc k.made) k.log x
     fits_all i x got =
         ⊎_elim
         (λ h. ⊎_elim
-        (λ e. subst (Fits a limit (suc k.made) k.log) e.1 fits_left)
+        (λ e. subst (ViewFits a limit (suc k.made) k.log) e.1 fits_left)
         (λ e. fits_later a limit k.made k.log x (k.fits i x e.1) (idle_now i x e.0 e.1))
         (at_changed s.views id left i x h))
-        (λ h. subst (Fits a limit (suc k.made) k.log) h.1 fits_right)
+        (λ h. subst (ViewFits a limit (suc k.made) k.log) h.1 fits_right)
         (who i x got)
 
     -- whoever was there has a smaller number
@@ -168,7 +168,7 @@ module _ {S : Type 0} (stands : S → List Stamped → Type 0) (about : S → Ab
           there = λ _. (left, (at_longer (set s.views id left) (right ∷ []) id left (set_here s.views id left (at_below s.views id v here)), live), refl);
         }
 
-    split_at : Kept stands about a limit (record { words = s.words; homes = s.homes; views = views })
+    split_at : TurnKept stands about a limit (record { words = s.words; homes = s.homes; views = views })
     split_at =
         record {
           log = k.log;
@@ -184,5 +184,5 @@ module _ {S : Type 0} (stands : S → List Stamped → Type 0) (about : S → Ab
           held = held_all;
         }
 
-  pub splits : Splits (Kept stands about a limit) id v (in_phase Holding v) (next_pass v)
+  pub splits : Splits (TurnKept stands about a limit) id v (in_phase Holding v) (next_pass v)
   splits s k here = split_at s k here

@@ -10,7 +10,7 @@ use Rattle.bsc_history.specs.declared.mark.Stamped.{Stamped}
 use Rattle.bsc_turn.specs.declared.phase.SeatPhase.{SeatPhase}
 use Rattle.bsc_turn.specs.declared.phase.SeatPhase.TheVariants.{Outside, Holding, Entered, Committed, Numbered, Drawn}
 use Rattle.bsc_turn.specs.declared.view.View.{View}
-use Rattle.bsc_turn.specs.Rule.{holds_turn, has_state, knows_next, turn_word, number_word, At, Fits, Home, Stored, Kept, first_view}
+use Rattle.bsc_turn.specs.Rule.{holds_turn, has_state, knows_next, turn_word, number_word, At, ViewFits, Home, Stored, TurnKept, first_view}
 use Rattle.bsc_turn.specs.Effects.{in_phase, having_seen, having_made, Acquires, Counts, Commits, Releases}
 use Rattle.bsc_turn.proofs.Beginnings.{starts_self, starts_more, starts_trans, own_mine, own_else}
 use Rattle.bsc_turn.proofs.Views.{not_also, free_or_held, state_holds, none_else}
@@ -19,10 +19,10 @@ use Rattle.bsc_lemmas.proofs.Booleans.{false_true as idle}
 use Rattle.bsc_lemmas.proofs.Lists.{get_of_one as single}
 
 module _ {S : Type 0} (stands : S → List Stamped → Type 0) (about : S → About) where
-  pub starts : (a : About) (limit : ℕ) (st : S) → 1 ≤ limit → stands st [] → about st ≡ a → Kept stands about a limit (opening (0 ∷ 0 ∷ 1 ∷ []) (Some st ∷ []) (first_view a limit))
+  pub starts : (a : About) (limit : ℕ) (st : S) → 1 ≤ limit → stands st [] → about st ≡ a → TurnKept stands about a limit (opening (0 ∷ 0 ∷ 1 ∷ []) (Some st ∷ []) (first_view a limit))
   starts a limit st in_range h e =
       let first : View = first_view a limit in
-      let f : Fits a limit 1 [] first = record { begins = ([], refl); about = refl; callers = refl; below = omega arith; loaded = omega arith; all = refl; own = refl; kept = λ i x got. absurd (some-ne-none x (sym got)); whole = idle ([] ≡ []); next = idle (0 ≡ 1); past = λ _ _. omega arith } in
+      let f : ViewFits a limit 1 [] first = record { begins = ([], refl); about = refl; callers = refl; below = omega arith; loaded = omega arith; all = refl; own = refl; kept = λ i x got. absurd (some-ne-none x (sym got)); whole = idle ([] ≡ []); next = idle (0 ≡ 1); past = λ _ _. omega arith } in
       record {
         log = [];
         made = 1;
@@ -31,17 +31,17 @@ module _ {S : Type 0} (stands : S → List Stamped → Type 0) (about : S → Ab
         stored = (st, refl, h, e);
         in_range = in_range;
         strangers = λ n _. refl;
-        fits = λ id v got. subst (Fits a limit 1 []) (single first id v got.0).1 f;
+        fits = λ id v got. subst (ViewFits a limit 1 []) (single first id v got.0).1 f;
         apart = λ i j v w at at2 _. (single first i v at.0).0 ∙ sym (single first j w at2.0).0;
         gone = λ i j n v w x at got at2 _. some-ne-none x (sym (subst (λ (u : View). get_elem? u.ended n ≡ some x) (sym (single first i v at.0).1) got));
         held = record { holder = 0; alone = λ i v got holds. absurd (not_also (ap (λ (u : View). holds_turn u.phase) (single first i v got.0).1 ∙ holds)); there = idle ((v : View) × At (first ∷ []) 0 v × (v.phase ≡ Outside)) };
       }
 
-  module _ (a : About) (limit id slots : ℕ) (me : Me (Option S) View) (live : me.0.live ≡ true) (s : State (Option S) View) (k : Kept stands about a limit s) (here : get_elem? s.views id ≡ some me.0) where
+  module _ (a : About) (limit id slots : ℕ) (me : Me (Option S) View) (live : me.0.live ≡ true) (s : State (Option S) View) (k : TurnKept stands about a limit s) (here : get_elem? s.views id ≡ some me.0) where
     abbrev at : At s.views id me.0
     at = (here, live)
 
-    abbrev mine : Fits a limit k.made k.log me.0
+    abbrev mine : ViewFits a limit k.made k.log me.0
     mine = k.fits id me.0 at
 
     abbrev Steps : ℕ → ℕ → (Me (Option S) View → Type 0) → Type 0
@@ -83,7 +83,7 @@ module _ {S : Type 0} (stands : S → List Stamped → Type 0) (about : S → Ab
         let now : k.phase ≡ Holding = phase_of_turn holds ∙ holding in
         let home : Home stands about a k.log s.homes = subst (λ (st : SeatPhase). Stored stands about a (has_state st) k.log s.homes) now k.stored in
         let w : View = having_seen k.log me.0 in
-        let fit : Fits a limit k.made k.log w = record {
+        let fit : ViewFits a limit k.made k.log w = record {
           begins = starts_self k.log;
           about = mine.about;
           callers = mine.callers;
@@ -119,7 +119,7 @@ module _ {S : Type 0} (stands : S → List Stamped → Type 0) (about : S → Ab
         let below : e.entry.caller < k.made = let b = mine.below in omega (arith, b, caller) in
         let w : View = having_made e me.0 in
         let alone = none_else s.views id me.0 at k.phase k.held (inl holds) in
-        let fit : Fits a limit k.made log w = record {
+        let fit : ViewFits a limit k.made log w = record {
           begins = ([], sym (append-nil (me.0.seen ++ e ∷ []) ∙ ap (λ (l : List Stamped). l ++ e ∷ []) whole));
           about = mine.about;
           callers = mine.callers;
@@ -135,7 +135,7 @@ module _ {S : Type 0} (stands : S → List Stamped → Type 0) (about : S → Ab
           next = idle (me.0.loaded ≡ k.made);
           past = λ _. mine.past (ap (λ (st : SeatPhase). knows_next st) entered);
         } in
-        let there : (i : ℕ) (x : View) → i ≢ id → At s.views i x → Fits a limit k.made log x = λ i x not_me got.
+        let there : (i : ℕ) (x : View) → i ≢ id → At s.views i x → ViewFits a limit k.made log x = λ i x not_me got.
         let f = k.fits i x got in
         let other : e.entry.caller ≢ x.number = λ same. not_me (k.apart i id x me.0 got at (sym same ∙ caller)) in
         record {
@@ -199,16 +199,16 @@ module _ {S : Type 0} (stands : S → List Stamped → Type 0) (about : S → Ab
         only_state Drawn e = absurd (not_also e)
 
   module _ (a : About) (limit id slots : ℕ) (me : Me (Option S) View) (live : me.0.live ≡ true) where
-    pub acquires : me.0.phase ≡ Outside → Allows (Kept stands about a limit) slots id me 0 (λ n. either (n == 0) 1 n) (Acquires (step slots 0 0 1 none) me)
+    pub acquires : me.0.phase ≡ Outside → Allows (TurnKept stands about a limit) slots id me 0 (λ n. either (n == 0) 1 n) (Acquires (step slots 0 0 1 none) me)
     acquires out s k wide at small = acquire_at a limit id slots me live s k at out
 
-    pub counts : me.0.phase ≡ Holding → Allows (Kept stands about a limit) slots id me 1 (λ n. n) (Counts stands about (step slots 1 0 0 none) me)
+    pub counts : me.0.phase ≡ Holding → Allows (TurnKept stands about a limit) slots id me 1 (λ n. n) (Counts stands about (step slots 1 0 0 none) me)
     counts holding s k wide at small = count_at a limit id slots me live s k at holding
 
-    pub commits : (e : Stamped) → me.0.phase ≡ Entered → me.1 ≡ (0, None) ∷ [] → e.entry.caller ≡ me.0.number → length me.0.seen < 2 ^ 63 → Allows (Kept stands about a limit) slots id me 1 (λ n. (n + 1) % 2 ^ 64) (Commits e (step slots 1 1 0 none) me)
+    pub commits : (e : Stamped) → me.0.phase ≡ Entered → me.1 ≡ (0, None) ∷ [] → e.entry.caller ≡ me.0.number → length me.0.seen < 2 ^ 63 → Allows (TurnKept stands about a limit) slots id me 1 (λ n. (n + 1) % 2 ^ 64) (Commits e (step slots 1 1 0 none) me)
     commits e entered empty caller in_range s k wide at small = commit_at a limit id slots me live s k at e entered empty caller in_range
 
-    pub releases : (st : S) → has_state me.0.phase ≡ true → me.1 ≡ (0, Some st) ∷ [] → stands st me.0.seen → about st ≡ me.0.about → Allows (Kept stands about a limit) slots id me 0 (λ _. 0) (λ _. Releases (step slots 0 0 0 none) me 0)
+    pub releases : (st : S) → has_state me.0.phase ≡ true → me.1 ≡ (0, Some st) ∷ [] → stands st me.0.seen → about st ≡ me.0.about → Allows (TurnKept stands about a limit) slots id me 0 (λ _. 0) (λ _. Releases (step slots 0 0 0 none) me 0)
     releases st out carried h same s k wide at small = release_at a limit id slots me live s k at st out carried h same
 
   -- what lies in the slot in hand after the load of the count

@@ -9,7 +9,7 @@ use Rattle.bsc_history.specs.declared.mark.Stamped.{Stamped}
 use Rattle.bsc_turn.specs.declared.phase.SeatPhase.{SeatPhase}
 use Rattle.bsc_turn.specs.declared.phase.SeatPhase.TheVariants.{Outside, Holding, Entered, Committed, Numbered, Drawn}
 use Rattle.bsc_turn.specs.declared.view.View.{View}
-use Rattle.bsc_turn.specs.Rule.{holds_turn, has_state, knows_next, turn_word, number_word, Fits, Stored, Kept}
+use Rattle.bsc_turn.specs.Rule.{holds_turn, has_state, knows_next, turn_word, number_word, ViewFits, Stored, TurnKept}
 use Rattle.bsc_turn.specs.Effects.{in_phase, having_loaded, may_leave, Releases, LoadsNumber, Draws, Confirms}
 use Rattle.bsc_turn.proofs.Beginnings.{own_none}
 use Rattle.bsc_turn.proofs.Views.{not_also}
@@ -17,8 +17,8 @@ use Rattle.bsc_turn.proofs.Remaking.{consistent, fits_in, KeepsRule, phase_is, r
 use Rattle.bsc_lemmas.proofs.Booleans.{false_true as idle}
 
 module _ {S : Type 0} (stands : S → List Stamped → Type 0) (about : S → About) where
-  module _ (a : About) (limit id slots : ℕ) (me : Me (Option S) View) (live : me.0.live ≡ true) (s : State (Option S) View) (k : Kept stands about a limit s) (here : get_elem? s.views id ≡ some me.0) where
-    abbrev mine : Fits a limit k.made k.log me.0
+  module _ (a : About) (limit id slots : ℕ) (me : Me (Option S) View) (live : me.0.live ≡ true) (s : State (Option S) View) (k : TurnKept stands about a limit s) (here : get_elem? s.views id ≡ some me.0) where
+    abbrev mine : ViewFits a limit k.made k.log me.0
     mine = k.fits id me.0 (here, live)
 
     abbrev Steps : ℕ → ℕ → (Me (Option S) View → Type 0) → Type 0
@@ -111,14 +111,14 @@ module _ {S : Type 0} (stands : S → List Stamped → Type 0) (about : S → Ab
     )
 
   module _ (a : About) (limit id slots : ℕ) (me : Me (Option S) View) (live : me.0.live ≡ true) where
-    pub leaves : may_leave me.0.phase ≡ true → (knows_next me.0.phase ≡ true → me.0.loaded ≡ me.0.callers) → me.1 ≡ [] → Allows (Kept stands about a limit) slots id me 0 (λ _. 0) (λ _. Releases (step slots 0 0 0 none) me 0)
+    pub leaves : may_leave me.0.phase ≡ true → (knows_next me.0.phase ≡ true → me.0.loaded ≡ me.0.callers) → me.1 ≡ [] → Allows (TurnKept stands about a limit) slots id me 0 (λ _. 0) (λ _. Releases (step slots 0 0 0 none) me 0)
     leaves may all_drawn empty s k wide at small = leave_at a limit id slots me live s k at may all_drawn empty
 
-    pub numbers : me.0.phase ≡ Holding → Allows (Kept stands about a limit) slots id me 2 (λ n. n) (LoadsNumber (step slots 2 0 0 none) me)
+    pub numbers : me.0.phase ≡ Holding → Allows (TurnKept stands about a limit) slots id me 2 (λ n. n) (LoadsNumber (step slots 2 0 0 none) me)
     numbers holding s k wide at small = number_at a limit id slots me live s k at holding
 
-    pub draws : me.0.phase ≡ Numbered → me.0.loaded < me.0.callers → me.0.callers ≤ 2 ^ 62 → Allows (Kept stands about a limit) slots id me 2 (λ n. (n + 1) % 2 ^ 64) (Draws (step slots 2 1 0 none) me)
+    pub draws : me.0.phase ≡ Numbered → me.0.loaded < me.0.callers → me.0.callers ≤ 2 ^ 62 → Allows (TurnKept stands about a limit) slots id me 2 (λ n. (n + 1) % 2 ^ 64) (Draws (step slots 2 1 0 none) me)
     draws numbered room bounds s k wide at small = draw_at a limit id slots me live s k at numbered room bounds
 
-    pub confirms : Allows (Kept stands about a limit) slots id me 1 (λ n. n) (Confirms (step slots 1 0 0 none) me)
+    pub confirms : Allows (TurnKept stands about a limit) slots id me 1 (λ n. n) (Confirms (step slots 1 0 0 none) me)
     confirms s k wide at small = confirm_at a limit id slots me live s k at

@@ -11,7 +11,7 @@ use Rattle.bsc_turn.specs.declared.phase.SeatPhase.TheVariants.{Outside}
 use Rattle.bsc_turn.specs.declared.view.Ended.{Ended}
 use Rattle.bsc_turn.specs.declared.view.View.{View}
 use Rattle.bsc_turn.specs.Histories.{StartsWith}
-use Rattle.bsc_turn.specs.Rule.{holds_turn, has_state, At, DistinctNumbers, NoSeatOfEnded, Held, IsKept, Fits, Kept, spent_view}
+use Rattle.bsc_turn.specs.Rule.{holds_turn, has_state, At, DistinctNumbers, NoSeatOfEnded, Held, IsKept, ViewFits, TurnKept, spent_view}
 use Rattle.bsc_turn.specs.Effects.{ended_of, after_join}
 use Rattle.bsc_turn.proofs.Beginnings.{starts_longer, longer_first, longer_second, own_between, starts_trans}
 use Rattle.bsc_turn.proofs.Views.{not_also, at_changed}
@@ -29,7 +29,7 @@ in_both (y ∷ ys) a m (suc i) x e = in_both ys a m i x e
 
 module _ {S : Type 0} (stands : S → List Stamped → Type 0) (about : S → About) (a : About) (limit id : ℕ) (v : View) (other : ℕ) (w : View)
     (live : v.live ≡ true) (out : v.phase ≡ Outside) (live_other : w.live ≡ true) (out_other : w.phase ≡ Outside) where
-  module _ (s : State (Option S) View) (k : Kept stands about a limit s) (here : get_elem? s.views id ≡ some v) (distinct : ¬ (other ≡ id)) (there : get_elem? (set s.views id (after_join v w)) other ≡ some w) where
+  module _ (s : State (Option S) View) (k : TurnKept stands about a limit s) (here : get_elem? s.views id ≡ some v) (distinct : ¬ (other ≡ id)) (there : get_elem? (set s.views id (after_join v w)) other ≡ some w) where
     abbrev both : View
     both = after_join v w
 
@@ -42,10 +42,10 @@ module _ {S : Type 0} (stands : S → List Stamped → Type 0) (about : S → Ab
     at_other : At s.views other w
     at_other = (sym (set_else s.views id other both distinct) ∙ there, live_other)
 
-    abbrev f : Fits a limit k.made k.log v
+    abbrev f : ViewFits a limit k.made k.log v
     f = k.fits id v at_id
 
-    abbrev g : Fits a limit k.made k.log w
+    abbrev g : ViewFits a limit k.made k.log w
     g = k.fits other w at_other
 
     -- who is there: the one that stays, or one that was there before, and not the one that ended
@@ -76,7 +76,7 @@ module _ {S : Type 0} (stands : S → List Stamped → Type 0) (about : S → Ab
         h)
         (in_both v.ended (ended_of w) w.ended i e got)
 
-    fits_both : Fits a limit k.made k.log both
+    fits_both : ViewFits a limit k.made k.log both
     fits_both =
         record {
           begins = begins;
@@ -92,8 +92,8 @@ module _ {S : Type 0} (stands : S → List Stamped → Type 0) (about : S → Ab
           past = f.past;
         }
 
-    fits_all : (i : ℕ) (x : View) → At views i x → Fits a limit k.made k.log x
-    fits_all i x got = ⊎_elim (λ e. subst (Fits a limit k.made k.log) e.1 fits_both) (λ e. k.fits i x e) (who i x got).1
+    fits_all : (i : ℕ) (x : View) → At views i x → ViewFits a limit k.made k.log x
+    fits_all i x got = ⊎_elim (λ e. subst (ViewFits a limit k.made k.log) e.1 fits_both) (λ e. k.fits i x e) (who i x got).1
 
     -- who was there, with the same number
     was : (i : ℕ) (x : View) → At views i x → (y : View) × At s.views i y × (x.number ≡ y.number)
@@ -144,7 +144,7 @@ module _ {S : Type 0} (stands : S → List Stamped → Type 0) (about : S → Ab
               (h.0, (set_else (set s.views id both) other k.held.holder spent_view not_other ∙ (set_else s.views id k.held.holder both not_id ∙ h.1.0), h.1.1), h.2);
         }
 
-    join_at : Kept stands about a limit (record { words = s.words; homes = s.homes; views = views })
+    join_at : TurnKept stands about a limit (record { words = s.words; homes = s.homes; views = views })
     join_at =
         record {
           log = k.log;
@@ -160,5 +160,5 @@ module _ {S : Type 0} (stands : S → List Stamped → Type 0) (about : S → Ab
           held = held_all;
         }
 
-  pub joins : Joins (Kept stands about a limit) id v other w (after_join v w) spent_view
+  pub joins : Joins (TurnKept stands about a limit) id v other w (after_join v w) spent_view
   joins s k here distinct there = join_at s k here distinct there

@@ -81,8 +81,8 @@ module _ {T S : Type 0} where
   history d = (guard_view d).seen
 
   -- The pass is the one that entered for this guard.
-  abbrev pub IsFor : Pass → Guard T S → Type 0
-  IsFor p d = IsOut p × (p.number ≡ (guard_view d).number)
+  abbrev pub IsForGuard : Pass → Guard T S → Type 0
+  IsForGuard p d = IsOut p × (p.number ≡ (guard_view d).number)
 
   -- The guard is of this turn.
   abbrev pub IsGuardOf : (S → About) → Turn S → Guard T S → Type 0

@@ -57,7 +57,7 @@ pub record IsKept (made : ℕ) (log : List Stamped) (n : ℕ) (seen : List Stamp
 -- A view fits the history: it has seen a first part of it, which is the whole while it has the state in
 -- hand; its own list is all that the history has of its number; each caller that ended in it is kept. The
 -- number that it keeps was drawn already, unless it is the limit or the next to be drawn.
-pub record Fits (a : About) (limit made : ℕ) (log : List Stamped) (v : View) : Type 0 where
+pub record ViewFits (a : About) (limit made : ℕ) (log : List Stamped) (v : View) : Type 0 where
   pub begins : StartsWith log v.seen
   pub about : v.about ≡ a
   pub callers : v.callers ≡ limit
@@ -98,7 +98,7 @@ module _ {S : Type 0} (stands : S → List Stamped → Type 0) (about : S → Ab
 
   -- The rule. There is one history; the words say whether the turn is held, how long the history is and
   -- how many passes were made; no entry is of a caller that wasn't made yet.
-  pub record Kept (a : About) (limit : ℕ) (s : State (Option S) View) : Type 0 where
+  pub record TurnKept (a : About) (limit : ℕ) (s : State (Option S) View) : Type 0 where
     pub log : List Stamped
     pub made : ℕ
     pub phase : SeatPhase
@@ -106,7 +106,7 @@ module _ {S : Type 0} (stands : S → List Stamped → Type 0) (about : S → Ab
     pub stored : Stored a (has_state phase) log s.homes
     pub in_range : number_word phase made ≤ limit
     pub strangers : (n : ℕ) → made ≤ n → own_of log n ≡ []
-    pub fits : (id : ℕ) (v : View) → At s.views id v → Fits a limit made log v
+    pub fits : (id : ℕ) (v : View) → At s.views id v → ViewFits a limit made log v
     pub apart : DistinctNumbers s.views
     pub gone : NoSeatOfEnded s.views
     pub held : Held s.views phase

@@ -2,7 +2,7 @@
 ghost use Rattle.std.specs.Prelude.{◌≡◌, ◌<◌, ◌^◌, ◌++◌, [], ◌∷◌, length};
 ghost use Rattle.bsc_turn.specs.Histories.{StartsWith};
 ghost use Rattle.bsc_turn.specs.Effects.{having_seen};
-ghost use Rattle.bsc_turn.specs.Passes.{IsFor, IsGuardOf, IsPassOf, first_state, after_back, after_commit, guard_view, history, number_of, seen, view_of};
+ghost use Rattle.bsc_turn.specs.Passes.{IsForGuard, IsGuardOf, IsPassOf, first_state, after_back, after_commit, guard_view, history, number_of, seen, view_of};
 
 use crate::guard::Guard;
 use crate::pass::Pass;
@@ -19,7 +19,7 @@ impl<S: Stands + Drop> Turn<S> {
     pub fn enter<'a, R: Wait>(&'a self, rt: &R, pass: &mut Pass) -> Guard<&'a Turn<S>, S>
         requires { IsPassOf S.about self.now pass.old }
         ensures guard { (result.turn.now ≡ self.now) × IsGuardOf S.about self.now result }
-        ensures pass { IsFor pass.new result × (number_of pass.new ≡ number_of pass.old) }
+        ensures pass { IsForGuard pass.new result × (number_of pass.new ≡ number_of pass.old) }
         ensures stands { S.stands result.state (history result) }
         ensures about { S.about result.state ≡ S.about (first_state self.now) }
         ensures seen { StartsWith (history result) (seen pass.old) }
@@ -42,7 +42,7 @@ impl<S: Stands + Drop> Guard<&Turn<S>, S> {
     /// has then seen up to and with this entry, and owns it.
     pub fn commit<E: Makes>(self, pass: &mut Pass) -> u64
         requires guard { IsGuardOf S.about self.turn.now self }
-        requires pass { IsFor pass.old self }
+        requires pass { IsForGuard pass.old self }
         requires own { E.stamped.entry.caller ≡ number_of pass.old }
         requires stands { S.stands self.state (history self ++ E.stamped ∷ []) }
         requires about { S.about self.state ≡ S.about (first_state self.turn.now) }
@@ -65,7 +65,7 @@ impl<S: Stands + Drop> Guard<&Turn<S>, S> {
     /// Puts the state back, which stands for the history as it was entered. Nothing has changed.
     pub fn back(self, pass: &mut Pass)
         requires guard { IsGuardOf S.about self.turn.now self }
-        requires pass { IsFor pass.old self }
+        requires pass { IsForGuard pass.old self }
         requires stands { S.stands self.state (history self) }
         requires about { S.about self.state ≡ S.about (first_state self.turn.now) }
         ensures pass { IsPassOf S.about self.entry.turn.now pass.new }

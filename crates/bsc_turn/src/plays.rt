@@ -25,9 +25,9 @@ pub type TurnTable<S> = Table<Option<S>, View, Fixed<S>, TurnRule, Global>;
 pub struct TurnRule;
 
 impl<S: Stands> TableRule<Option<S>, View, Fixed<S>> for TurnRule {
-    ghost use Rattle.bsc_turn.specs.Rule.{Kept, first_view};
+    ghost use Rattle.bsc_turn.specs.Rule.{TurnKept, first_view};
 
-    ghost holds = { λ key. Kept S.stands S.about (S.about key.first.value) key.callers };
+    ghost holds = { λ key. TurnKept S.stands S.about (S.about key.first.value) key.callers };
 
     ghost first = { λ key. first_view (S.about key.first.value) key.callers };
 }

@@ -18,7 +18,7 @@ use Rattle.bsc_network.specs.Settings.{Added, hub, node, hubs, nodes, nodes_afte
 use Rattle.bsc_network.specs.Worlds.{World, Hub, Node, history, new_hub, new_node, new_world}
 use Rattle.bsc_network.specs.Courses.{MayAdd, MayAddAll}
 use Rattle.bsc_world.specs.Kept.{IsHubKept, IsNodeKept, IsCalm}
-use Rattle.bsc_world.specs.Standing.{StandsFor, IsHubAt, IsNodeAt}
+use Rattle.bsc_world.specs.Standing.{WorldStands, IsHubAt, IsNodeAt}
 use Rattle.bsc_network.proofs.Places.{got-last, got-last_of, got-longer}
 
 -- ---- what was added
@@ -81,10 +81,10 @@ nobody_joined : (l c : ℕ) → is_of [] l c ≡ true → ⊥
 unfolding joined_where
 nobody_joined l c p = cc
 
-pub added_hub : (t u : KeptWorld) (added : List Added) (who : Identity) (limits : Limits) (kept : KeptHub) → StandsFor t added []
+pub added_hub : (t u : KeptWorld) (added : List Added) (who : Identity) (limits : Limits) (kept : KeptHub) → WorldStands t added []
     → u.made ≡ t.made → u.clock ≡ t.clock → u.hubs.items ≡ t.hubs.items ++ kept ∷ [] → u.nodes.items ≡ t.nodes.items → u.links.items ≡ t.links.items
     → length t.hubs.items < 2 → IsNode who → IsHub (record { hub = who; limits = limits }) → IsHubKept (length t.hubs.items) (new_hub (record { hub = who; limits = limits })) [] kept
-    → StandsFor u (and_hub added who limits) []
+    → WorldStands u (and_hub added who limits) []
 added_hub t u added who limits kept f made clock hubs_so nodes_so links_so few node_who fit is =
     let a : About = record { hub = who; limits = limits } in
     let s = f.kept in
@@ -138,10 +138,10 @@ added_hub t u added who limits kept f made clock hubs_so nodes_so links_so few n
 
 -- ---- a node
 
-pub added_node : (t u : KeptWorld) (added : List Added) (own : Identity) (direct : Bool) (kept : KeptNode) → StandsFor t added []
+pub added_node : (t u : KeptWorld) (added : List Added) (own : Identity) (direct : Bool) (kept : KeptNode) → WorldStands t added []
     → u.made ≡ t.made → u.clock ≡ t.clock → u.hubs.items ≡ t.hubs.items → u.nodes.items ≡ t.nodes.items ++ kept ∷ [] → u.links.items ≡ t.links.items
     → 1 ≤ length t.hubs.items → length t.nodes.items < NODES → IsNode own → IsNodeKept (new_node (record { own = own; limits = settings (length t.hubs.items) (length t.nodes.items) direct })) kept
-    → StandsFor u (and_node added own direct) []
+    → WorldStands u (and_node added own direct) []
 added_node t u added own direct kept f made clock hubs_so nodes_so links_so some few node_own is =
     let s = f.kept in
     let hub_count : length t.hubs.items ≡ length (hubs added) = s.hub_count ∙ length-map (hubs added) new_hub in

@@ -35,7 +35,7 @@ use Rattle.bsc_desk.specs.Entries.{connect_entry, connect_stamped}
 use Rattle.bsc_desk.specs.Live.{connection, known_in}
 use Rattle.bsc_desk.specs.Meetings.{IsOutletOf}
 use Rattle.bsc_desk.specs.Rows.{known_of}
-use Rattle.bsc_desk.specs.Standing.{StandsFor as DeskStandsFor}
+use Rattle.bsc_desk.specs.Standing.{DeskStands}
 use Rattle.bsc_desk.proofs.LiveRows.{any_row}
 use Rattle.bsc_desk.proofs.Rowed.{joined_mark}
 use Rattle.bsc_world.specs.declared.asked.Asked.TheVariants.{Joined as AskedJoined, Refused as AskedRefused}
@@ -52,7 +52,7 @@ use Rattle.bsc_network.specs.HubCalls.{called, entry_in, is_worn, reply_in}
 use Rattle.bsc_world.specs.HubEntries.{HasJoined, HasRefused, IsSeated, LeadsNowhere, LeadsTo}
 use Rattle.bsc_world.specs.Sides.{IsSideOf, WasAsked}
 use Rattle.bsc_world.specs.Kept.{IsConnKept, IsConnKeptIf, IsHubKept, IsSideKept, IsSideKeptIf, places_of}
-use Rattle.bsc_world.specs.Standing.{AreReadyBut, IsHubAt, StandsAs}
+use Rattle.bsc_world.specs.Standing.{AreReadyBut, IsHubAt, WorldKeptAs}
 use Rattle.bsc_world.specs.Becoming.{Became, HasSide, Stands, ends}
 use Rattle.bsc_network.proofs.Places.{get-changed, get-other, get-set_other, length-changed, one_or_two}
 use Rattle.bsc_world.proofs.LinkWays.{link_there, map-changed}
@@ -92,7 +92,7 @@ pub leads_to : (t : KeptWorld) (l j : ℕ) (kept : KeptLink) → l < length t.li
 leads_to t l j kept within read to fits = record { inside = within; kept = kept; there = slice_get_read t.links.items (length t.links.items) l kept refl within read; to = to; within = fits }
 
 -- what a link leads to, as it is kept
-pub target_at : (t : KeptWorld) (F : List LinkName) (b : Option ℕ) (w : World) (l j : ℕ) (h : Hub) (link : Link) (kept : KeptLink) → StandsAs t F b w → IsSideOf w l j h link → slice_get t.links.items l ≡ Some kept → kept.to ≡ ToHub j
+pub target_at : (t : KeptWorld) (F : List LinkName) (b : Option ℕ) (w : World) (l j : ℕ) (h : Hub) (link : Link) (kept : KeptLink) → WorldKeptAs t F b w → IsSideOf w l j h link → slice_get t.links.items l ≡ Some kept → kept.to ≡ ToHub j
 target_at t F b w l j h link kept s p was =
     let x = link_there t F b w l kept s was in
     x.2.to ∙ ap (λ (y : Link). y.to) (some_same x.0 link (sym x.1 ∙ p.there)) ∙ p.to
@@ -132,7 +132,7 @@ hub_refused t u w v j place l who r h after a e there links links_at =
     subst (λ (y : Entry). IsHubAt u v j (with_entry h y place)) is at
 
 -- a refused connect of link l
-pub call_refused : (t u : KeptWorld) (F : List LinkName) (b : Option ℕ) (w : World) (j l place : ℕ) (who : Identity) (r : Refusal) (h : Hub) (kept after : KeptHub) → kept ≡ get_or t.hubs.items j kept → OnHub t u j after → ((S : List Stamped) → DeskStandsFor kept.desk S → (nat_le kept.desk.about.limits.calls (length S) ≡ false) × HasRefused S l who r kept after) → StandsAs t F b w → hub_at w j ≡ Some h
+pub call_refused : (t u : KeptWorld) (F : List LinkName) (b : Option ℕ) (w : World) (j l place : ℕ) (who : Identity) (r : Refusal) (h : Hub) (kept after : KeptHub) → kept ≡ get_or t.hubs.items j kept → OnHub t u j after → ((S : List Stamped) → DeskStands kept.desk S → (nat_le kept.desk.about.limits.calls (length S) ≡ false) × HasRefused S l who r kept after) → WorldKeptAs t F b w → hub_at w j ≡ Some h
     → (is_worn h ≡ false) × (reply_in w h (Connect who) ≡ RefusedReply r) × Became t u F b w (called j l place (Connect who) w)
 call_refused t u F b w j l place who r h kept after read o says s at =
     let v = called j l place (Connect who) w in
@@ -141,7 +141,7 @@ call_refused t u F b w j l place who r h kept after read o says s at =
     let was = read_there t.hubs.items j a.kept kept a.there read in
     let same : a.kept ≡ kept = some_same a.kept kept (sym a.there ∙ was) in
     let said : (nat_le a.kept.desk.about.limits.calls (length a.marks) ≡ false) × HasRefused a.marks l who r a.kept after =
-    subst (λ (y : KeptHub). (nat_le y.desk.about.limits.calls (length a.marks) ≡ false) × HasRefused a.marks l who r y after) (sym same) (says a.marks (subst (λ (y : KeptHub). DeskStandsFor y.desk a.marks) same a.hub.desk)) in
+    subst (λ (y : KeptHub). (nat_le y.desk.about.limits.calls (length a.marks) ≡ false) × HasRefused a.marks l who r y after) (sym same) (says a.marks (subst (λ (y : KeptHub). DeskStands y.desk a.marks) same a.hub.desk)) in
     let e = said.1 in
     let there : slice_get u.hubs.items j ≡ Some after = ap (λ xs. slice_get xs j) o.hubs ∙ get-set_here t.hubs.items j kept after was in
     let change : HubChange t u w v j g = record {
@@ -192,7 +192,7 @@ new_address G e x new none =
     )
 
 -- a desk knows nothing of a connection that nobody joined
-unknown : (d : Desk) (S : List Stamped) (c : ℕ) → DeskStandsFor d S → list_any (joins c) (entries_of S) ≡ false → known_of d c ≡ 0
+unknown : (d : Desk) (S : List Stamped) (c : ℕ) → DeskStands d S → list_any (joins c) (entries_of S) ≡ false → known_of d c ≡ 0
 unknown d S c s fresh =
     let p = λ (x : Connection). x.number == c in
     let any : list_any (λ (r : Row). p (connection r)) d.rows.items ≡ list_any p (unleft (entries_of S)) = any_row p d.rows.items ∙ ap (list_any p) s.unleft_rows in
@@ -341,7 +341,7 @@ joined_reply w j l h S kept after who k p e =
 
 -- link l has joined
 call_joined_at : (t u : KeptWorld) (F : List LinkName) (w : World) (j l place : ℕ) (who : Identity) (k : KeptConn) (kept after : KeptLink) (hub hub_after : KeptHub) → slice_get t.links.items l ≡ Some kept → kept.to ≡ ToHub j → slice_get t.hubs.items j ≡ Some hub → OnBoth t u j l hub_after after → IsSeated k kept after → (x : SideAt t w l j kept) (side : KeptSide) → kept.side ≡ Some side → IsSideKept l x.hub x.at.marks x.at.kept.desk x.link side → side.joined ≡ None
-    → HasJoined x.at.marks l who k x.at.kept hub_after → StandsAs t F (Some l) w → Became t u F (Some l) w (with_side l (λ z. record z { conn = Some k.conn }) (called j l place (Connect who) w))
+    → HasJoined x.at.marks l who k x.at.kept hub_after → WorldKeptAs t F (Some l) w → Became t u F (Some l) w (with_side l (λ z. record z { conn = Some k.conn }) (called j l place (Connect who) w))
 call_joined_at t u F w j l place who k kept after hub hub_after was to hub_was o g x side is p none e s =
     let h = x.hub in
     let c = k.conn in
@@ -393,7 +393,7 @@ call_joined_at t u F w j l place who k kept after hub hub_after was to hub_was o
     }
 
 pub call_joined : (t u : KeptWorld) (F : List LinkName) (w : World) (j l place : ℕ) (who : Identity) (k : KeptConn) (kept after : KeptLink) (hub hub_after : KeptHub) → slice_get t.links.items l ≡ Some kept → kept.to ≡ ToHub j → hub ≡ get_or t.hubs.items j hub → OnBoth t u j l hub_after after → IsSeated k kept after
-    → ((S : List Stamped) → DeskStandsFor hub.desk S → (nat_le hub.desk.about.limits.calls (length S) ≡ false) × HasJoined S l who k hub hub_after) → HasSide t l (λ side. side.joined ≡ None) → StandsAs t F (Some l) w → (h : Hub) (link : Link) → IsSideOf w l j h link → WasAsked AskedJoined t u F w j h l place who
+    → ((S : List Stamped) → DeskStands hub.desk S → (nat_le hub.desk.about.limits.calls (length S) ≡ false) × HasJoined S l who k hub hub_after) → HasSide t l (λ side. side.joined ≡ None) → WorldKeptAs t F (Some l) w → (h : Hub) (link : Link) → IsSideOf w l j h link → WasAsked AskedJoined t u F w j h l place who
 call_joined t u F w j l place who k kept after hub hub_after was to read o g says unjoined s h0 link0 of =
     let x = side_at t F (Some l) w l j kept s was to in
     let h = x.hub in
@@ -404,7 +404,7 @@ call_joined t u F w j l place who k kept after hub hub_after was to read o g say
     let hub_was = read_there t.hubs.items j a.kept hub a.there read in
     let same : a.kept ≡ hub = some_same a.kept hub (sym a.there ∙ hub_was) in
     let said : (nat_le a.kept.desk.about.limits.calls (length a.marks) ≡ false) × HasJoined a.marks l who k a.kept hub_after =
-    subst (λ (y : KeptHub). (nat_le y.desk.about.limits.calls (length a.marks) ≡ false) × HasJoined a.marks l who k y hub_after) (sym same) (says a.marks (subst (λ (y : KeptHub). DeskStandsFor y.desk a.marks) same a.hub.desk)) in
+    subst (λ (y : KeptHub). (nat_le y.desk.about.limits.calls (length a.marks) ≡ false) × HasJoined a.marks l who k y hub_after) (sym same) (says a.marks (subst (λ (y : KeptHub). DeskStands y.desk a.marks) same a.hub.desk)) in
     let e = said.1 in
     let v = with_side l (λ z. record z { conn = Some c }) (called j l place (Connect who) w) in
     let h_is : h ≡ h0 = some_same h h0 (sym x.hub_there ∙ of.hub) in
@@ -435,23 +435,23 @@ about_at t b j kept (F, w, at, s) within read =
     subst (λ (z : KeptHub). z.desk.about ≡ z.about) same (a.hub.about ∙ sym a.hub.own)
 
 -- the hub is that of the side
-pub hub_is : (t : KeptWorld) (F : List LinkName) (b : Option ℕ) (w : World) (l i j : ℕ) (h : Hub) (link : Link) → LeadsTo t l i → StandsAs t F b w → IsSideOf w l j h link → i ≡ j
+pub hub_is : (t : KeptWorld) (F : List LinkName) (b : Option ℕ) (w : World) (l i j : ℕ) (h : Hub) (link : Link) → LeadsTo t l i → WorldKeptAs t F b w → IsSideOf w l j h link → i ≡ j
 hub_is t F b w l i j h link q s p = target_same i j (sym q.to ∙ target_at t F b w l j h link q.kept s p q.there)
 
-pub asked_worn : (t : KeptWorld) (F : List LinkName) (w : World) (l i j place : ℕ) (who : Identity) (kept : KeptHub) (h : Hub) (link : Link) → LeadsTo t l i → kept ≡ get_or t.hubs.items i kept → ((S : List Stamped) → DeskStandsFor kept.desk S → nat_le kept.desk.about.limits.calls (length S) ≡ true) → StandsAs t F (Some l) w → IsSideOf w l j h link → is_worn h ≡ true
+pub asked_worn : (t : KeptWorld) (F : List LinkName) (w : World) (l i j place : ℕ) (who : Identity) (kept : KeptHub) (h : Hub) (link : Link) → LeadsTo t l i → kept ≡ get_or t.hubs.items i kept → ((S : List Stamped) → DeskStands kept.desk S → nat_le kept.desk.about.limits.calls (length S) ≡ true) → WorldKeptAs t F (Some l) w → IsSideOf w l j h link → is_worn h ≡ true
 asked_worn t F w l i j place who kept h link q read says s p =
     let at = hub_is t F (Some l) w l i j h link q s p in
     let a = s.hubs j h p.hub in
     let same : a.kept ≡ kept = some_same a.kept kept (sym a.there ∙ read_there t.hubs.items j a.kept kept a.there (subst (λ n. kept ≡ get_or t.hubs.items n kept) at read)) in
-    worn_as j h a.marks a.kept true a.hub (subst (λ (y : KeptHub). nat_le y.desk.about.limits.calls (length a.marks) ≡ true) (sym same) (says a.marks (subst (λ (y : KeptHub). DeskStandsFor y.desk a.marks) same a.hub.desk)))
+    worn_as j h a.marks a.kept true a.hub (subst (λ (y : KeptHub). nat_le y.desk.about.limits.calls (length a.marks) ≡ true) (sym same) (says a.marks (subst (λ (y : KeptHub). DeskStands y.desk a.marks) same a.hub.desk)))
 
-pub asked_refused : (t u : KeptWorld) (F : List LinkName) (w : World) (l i j place : ℕ) (who : Identity) (r : Refusal) (kept after : KeptHub) (h : Hub) (link : Link) → LeadsTo t l i → kept ≡ get_or t.hubs.items i kept → OnHub t u i after → ((S : List Stamped) → DeskStandsFor kept.desk S → (nat_le kept.desk.about.limits.calls (length S) ≡ false) × HasRefused S l who r kept after) → StandsAs t F (Some l) w → IsSideOf w l j h link → WasAsked (AskedRefused r) t u F w j h l place who
+pub asked_refused : (t u : KeptWorld) (F : List LinkName) (w : World) (l i j place : ℕ) (who : Identity) (r : Refusal) (kept after : KeptHub) (h : Hub) (link : Link) → LeadsTo t l i → kept ≡ get_or t.hubs.items i kept → OnHub t u i after → ((S : List Stamped) → DeskStands kept.desk S → (nat_le kept.desk.about.limits.calls (length S) ≡ false) × HasRefused S l who r kept after) → WorldKeptAs t F (Some l) w → IsSideOf w l j h link → WasAsked (AskedRefused r) t u F w j h l place who
 asked_refused t u F w l i j place who r kept after h link q read o says s p =
     let at = hub_is t F (Some l) w l i j h link q s p in
     subst (λ n. WasAsked (AskedRefused r) t u F w n h l place who) at (call_refused t u F (Some l) w i l place who r h kept after read o says s (ap (hub_at w) at ∙ p.hub))
 
 pub asked_joined : (t u : KeptWorld) (F : List LinkName) (w : World) (l i j place : ℕ) (who : Identity) (k : KeptConn) (kept after : KeptLink) (hub hub_after : KeptHub) (h : Hub) (link : Link) → LeadsTo t l i → kept ≡ get_or t.links.items l kept → hub ≡ get_or t.hubs.items i hub → OnBoth t u i l hub_after after → IsSeated k kept after
-    → ((S : List Stamped) → DeskStandsFor hub.desk S → (nat_le hub.desk.about.limits.calls (length S) ≡ false) × HasJoined S l who k hub hub_after) → HasSide t l (λ side. side.joined ≡ None) → StandsAs t F (Some l) w → IsSideOf w l j h link → WasAsked AskedJoined t u F w j h l place who
+    → ((S : List Stamped) → DeskStands hub.desk S → (nat_le hub.desk.about.limits.calls (length S) ≡ false) × HasJoined S l who k hub hub_after) → HasSide t l (λ side. side.joined ≡ None) → WorldKeptAs t F (Some l) w → IsSideOf w l j h link → WasAsked AskedJoined t u F w j h l place who
 asked_joined t u F w l i j place who k kept after hub hub_after h link q link_read read o g says unjoined s p =
     let at = hub_is t F (Some l) w l i j h link q s p in
     let was = read_there t.links.items l q.kept kept q.there link_read in
@@ -460,12 +460,12 @@ asked_joined t u F w l i j place who k kept after hub hub_after h link q link_re
     subst (λ n. WasAsked AskedJoined t u F w n h l place who) at (call_joined t u F w i l place who k kept after hub hub_after was to read o g says unjoined s h link of)
 
 -- A hub that isn't worn doesn't answer that it is.
-pub asked_never : (t : KeptWorld) (b : Option ℕ) (l i : ℕ) (one two : KeptHub) → Stands b t → LeadsTo t l i → one ≡ get_or t.hubs.items i one → two ≡ get_or t.hubs.items i two → ((S : List Stamped) → DeskStandsFor one.desk S → nat_le one.desk.about.limits.calls (length S) ≡ false) → ((S : List Stamped) → DeskStandsFor two.desk S → nat_le two.desk.about.limits.calls (length S) ≡ true) → ⊥
+pub asked_never : (t : KeptWorld) (b : Option ℕ) (l i : ℕ) (one two : KeptHub) → Stands b t → LeadsTo t l i → one ≡ get_or t.hubs.items i one → two ≡ get_or t.hubs.items i two → ((S : List Stamped) → DeskStands one.desk S → nat_le one.desk.about.limits.calls (length S) ≡ false) → ((S : List Stamped) → DeskStands two.desk S → nat_le two.desk.about.limits.calls (length S) ≡ true) → ⊥
 asked_never t b l i one two (F, w, at, s) q read also fresh worn =
     let y = got-at w.hubs i (subst (λ n. i < n) s.hub_count q.within) in
     let a = s.hubs i y.0 y.1 in
     let first : a.kept ≡ one = some_same a.kept one (sym a.there ∙ read_there t.hubs.items i a.kept one a.there read) in
     let second : a.kept ≡ two = some_same a.kept two (sym a.there ∙ read_there t.hubs.items i a.kept two a.there also) in
-    let no : nat_le a.kept.desk.about.limits.calls (length a.marks) ≡ false = subst (λ (z : KeptHub). nat_le z.desk.about.limits.calls (length a.marks) ≡ false) (sym first) (fresh a.marks (subst (λ (z : KeptHub). DeskStandsFor z.desk a.marks) first a.hub.desk)) in
-    let yes : nat_le a.kept.desk.about.limits.calls (length a.marks) ≡ true = subst (λ (z : KeptHub). nat_le z.desk.about.limits.calls (length a.marks) ≡ true) (sym second) (worn a.marks (subst (λ (z : KeptHub). DeskStandsFor z.desk a.marks) second a.hub.desk)) in
+    let no : nat_le a.kept.desk.about.limits.calls (length a.marks) ≡ false = subst (λ (z : KeptHub). nat_le z.desk.about.limits.calls (length a.marks) ≡ false) (sym first) (fresh a.marks (subst (λ (z : KeptHub). DeskStands z.desk a.marks) first a.hub.desk)) in
+    let yes : nat_le a.kept.desk.about.limits.calls (length a.marks) ≡ true = subst (λ (z : KeptHub). nat_le z.desk.about.limits.calls (length a.marks) ≡ true) (sym second) (worn a.marks (subst (λ (z : KeptHub). DeskStands z.desk a.marks) second a.hub.desk)) in
     both_ways (nat_le a.kept.desk.about.limits.calls (length a.marks)) no yes

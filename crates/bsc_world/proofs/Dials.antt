@@ -8,7 +8,7 @@ use Rattle.std.proofs.lemmas.Bool.{lt-ltb, ltb-true}
 use Rattle.std.proofs.lemmas.List.FromFn.{length-map-range_with_len}
 use Rattle.bsc_history.specs.declared.mark.Stamped.{Stamped}
 use Rattle.bsc_desk.specs.declared.desk.Desk.{Desk}
-use Rattle.bsc_accept.specs.Standing.{StandsFor as MachineStandsFor}
+use Rattle.bsc_accept.specs.Standing.{AcceptingStands}
 use Rattle.bsc_script.specs.States.{default_times}
 use Rattle.bsc_script.proofs.Pairs.{position-same, position-gives}
 use Rattle.bsc_node.specs.declared.link_name.LinkName.{LinkName}
@@ -31,7 +31,7 @@ use Rattle.bsc_network.specs.NodeSides.{holds}
 use Rattle.bsc_network.specs.Networks.{dialled_from}
 use Rattle.bsc_world.specs.Kept.{IsLinkKept, IsConnKeptIf, IsSideKeptIf, IsReady}
 use Rattle.bsc_world.specs.Fresh.{IsNewLink, MakesLink, MayDial}
-use Rattle.bsc_world.specs.Standing.{AreSidesKept, IsLinkAt, StandsAs}
+use Rattle.bsc_world.specs.Standing.{AreSidesKept, IsLinkAt, WorldKeptAs}
 use Rattle.bsc_world.specs.Becoming.{Became, Did, Does, DoesWhere, Keeps}
 use Rattle.bsc_network.proofs.Places.{got-beside, got-last, got-last_of, got-longer}
 use Rattle.bsc_world.proofs.Goings.{did_both, did_became}
@@ -48,7 +48,7 @@ hubs_named uri a (x ∷ xs) each =
     let rest = hubs_named uri (a + 1) xs (λ i y got. each (suc i) y got ∙ ap hub_uri (let e : a + suc i ≡ (a + 1) + i = omega arith in e)) in
     ap (λ u. same_uri uri u ∷ map (λ (h : KeptHub). same_uri uri h.uri) xs) here ∙ ap (λ bs. same_uri uri (hub_uri a) ∷ bs) rest
 
-pub hub_found : (t : KeptWorld) (F : List LinkName) (b : Option ℕ) (w : World) (uri : List ℕ) → StandsAs t F b w → position (λ (h : KeptHub). same_uri uri h.uri) t.hubs.items ≡ hub_with w uri
+pub hub_found : (t : KeptWorld) (F : List LinkName) (b : Option ℕ) (w : World) (uri : List ℕ) → WorldKeptAs t F b w → position (λ (h : KeptHub). same_uri uri h.uri) t.hubs.items ≡ hub_with w uri
 hub_found t F b w uri s =
     position-same (λ (h : KeptHub). same_uri uri h.uri) (same_uri uri) t.hubs.items (map hub_uri (range_with_len 0 (length t.hubs.items))) (hubs_named uri 0 t.hubs.items each)
     ∙ ap (λ n. position (same_uri uri) (map hub_uri (range_with_len 0 n))) s.hub_count
@@ -68,23 +68,23 @@ nodes_named uri (x ∷ xs) (n ∷ ns) e each =
     let short : length xs ≡ length ns = cc in
     ap (λ u. is_uri uri u ∷ map (λ (y : KeptNode). is_uri uri y.uri) xs) (each 0 x n refl refl) ∙ ap (λ bs. is_uri uri n.made.limits.uris ∷ bs) (nodes_named uri xs ns short (λ i y m got there. each (suc i) y m got there))
 
-pub node_found : (t : KeptWorld) (F : List LinkName) (b : Option ℕ) (w : World) (uri : List ℕ) → StandsAs t F b w → position (λ (n : KeptNode). is_uri uri n.uri) t.nodes.items ≡ node_with w uri
+pub node_found : (t : KeptWorld) (F : List LinkName) (b : Option ℕ) (w : World) (uri : List ℕ) → WorldKeptAs t F b w → position (λ (n : KeptNode). is_uri uri n.uri) t.nodes.items ≡ node_with w uri
 node_found t F b w uri s =
     position-same (λ (n : KeptNode). is_uri uri n.uri) (λ (n : Node). is_uri uri n.made.limits.uris) t.nodes.items w.nodes (nodes_named uri t.nodes.items w.nodes s.node_count each)
   where
     each : (i : ℕ) (x : KeptNode) (n : Node) → slice_get t.nodes.items i ≡ Some x → slice_get w.nodes i ≡ Some n → x.uri ≡ n.made.limits.uris
     each i x n got there = (let a = s.nodes i n there in ap (λ (y : KeptNode). y.uri) (some_same x a.kept (sym got ∙ a.there)) ∙ a.node.uri)
 
-pub leads_to_hub_found : (t : KeptWorld) (F : List LinkName) (b : Option ℕ) (w : World) (uri : List ℕ) (place : ℕ) → Some place ≡ position (λ (h : KeptHub). same_uri uri h.uri) t.hubs.items → StandsAs t F b w → Some (ToHub place) ≡ target_of w uri
+pub leads_to_hub_found : (t : KeptWorld) (F : List LinkName) (b : Option ℕ) (w : World) (uri : List ℕ) (place : ℕ) → Some place ≡ position (λ (h : KeptHub). same_uri uri h.uri) t.hubs.items → WorldKeptAs t F b w → Some (ToHub place) ≡ target_of w uri
 leads_to_hub_found t F b w uri place is s =
     sym (ap (λ o. option_or (option_map (λ j. ToHub j) o) (option_map (λ k. ToNode k) (node_with w uri))) (sym (is ∙ hub_found t F b w uri s)))
 
-pub leads_to_node_found : (t : KeptWorld) (F : List LinkName) (b : Option ℕ) (w : World) (uri : List ℕ) (o : Option ℕ) → None ≡ position (λ (h : KeptHub). same_uri uri h.uri) t.hubs.items → o ≡ position (λ (n : KeptNode). is_uri uri n.uri) t.nodes.items → StandsAs t F b w → option_map (λ k. ToNode k) o ≡ target_of w uri
+pub leads_to_node_found : (t : KeptWorld) (F : List LinkName) (b : Option ℕ) (w : World) (uri : List ℕ) (o : Option ℕ) → None ≡ position (λ (h : KeptHub). same_uri uri h.uri) t.hubs.items → o ≡ position (λ (n : KeptNode). is_uri uri n.uri) t.nodes.items → WorldKeptAs t F b w → option_map (λ k. ToNode k) o ≡ target_of w uri
 leads_to_node_found t F b w uri o none is s =
     ap (option_map (λ k. ToNode k)) (is ∙ node_found t F b w uri s)
     ∙ sym (ap (λ p. option_or (option_map (λ j. ToHub j) p) (option_map (λ k. ToNode k) (node_with w uri))) (sym (none ∙ hub_found t F b w uri s)))
 
-pub leads_where_room : (t : KeptWorld) (F : List LinkName) (b : Option ℕ) (w : World) (uri : List ℕ) (o : Option Target) → length t.links.items < LINKS → o ≡ target_of w uri → StandsAs t F b w → o ≡ leads_to w uri
+pub leads_where_room : (t : KeptWorld) (F : List LinkName) (b : Option ℕ) (w : World) (uri : List ℕ) (o : Option Target) → length t.links.items < LINKS → o ≡ target_of w uri → WorldKeptAs t F b w → o ≡ leads_to w uri
 leads_where_room t F b w uri o room is s =
     is ∙ sym (ap (λ c. if_room c (target_of w uri)) (lt-ltb (length w.links) LINKS (subst (λ n. n < LINKS) s.link_count room)))
 
@@ -117,7 +117,7 @@ target_there w uri target is = by_room (nat_lt (length w.links) LINKS) refl is
 
 -- ---- one link more
 
-new_link_kept : (t : KeptWorld) (F : List LinkName) (w : World) (k : ℕ) (target : Target) (kept : KeptLink) → StandsAs t F None w → IsNewLink t k target kept → IsLinkKept (new_link w k target) kept
+new_link_kept : (t : KeptWorld) (F : List LinkName) (w : World) (k : ℕ) (target : Target) (kept : KeptLink) → WorldKeptAs t F None w → IsNewLink t k target kept → IsLinkKept (new_link w k target) kept
 new_link_kept t F w k target kept s n = record {
   from = n.from;
   to = n.to;
@@ -128,7 +128,7 @@ new_link_kept t F w k target kept s n = record {
   };
 }
 
-new_side_kept : (t : KeptWorld) (F : List LinkName) (w : World) (k l : ℕ) (target : Target) (kept : KeptLink) → w.now ≡ t.clock → StandsAs t F None w → IsNewLink t k target kept → (j : ℕ) (h : Hub) (S : List Stamped) (d : Desk) → hub_at w j ≡ Some h → target ≡ ToHub j → IsSideKeptIf l h S d (new_link w k target) kept.side
+new_side_kept : (t : KeptWorld) (F : List LinkName) (w : World) (k l : ℕ) (target : Target) (kept : KeptLink) → w.now ≡ t.clock → WorldKeptAs t F None w → IsNewLink t k target kept → (j : ℕ) (h : Hub) (S : List Stamped) (d : Desk) → hub_at w j ≡ Some h → target ≡ ToHub j → IsSideKeptIf l h S d (new_link w k target) kept.side
 new_side_kept t F w k l (ToNode m) kept at s n j h S d here to = absurd (not_both to)
   where
     not_both : ToNode m ≡ ToHub j → ⊥
@@ -138,12 +138,12 @@ new_side_kept t F w k l (ToHub i) kept at s n j h S d here to =
     let a = s.hubs j h here in
     let new = n.side a.kept (ap (slice_get t.hubs.items) one ∙ a.there) in
     let side = new.0 in
-    let machine : MachineStandsFor side.machine (record { own = h.about.hub; times = default_times; at = w.now }) [] =
-    subst (λ (T : ℕ). MachineStandsFor side.machine (record { own = h.about.hub; times = default_times; at = T }) []) (sym at) (subst (λ x. MachineStandsFor side.machine (record { own = x; times = default_times; at = t.clock }) []) (ap (λ y. y.hub) a.hub.own) new.2.machine) in
+    let machine : AcceptingStands side.machine (record { own = h.about.hub; times = default_times; at = w.now }) [] =
+    subst (λ (T : ℕ). AcceptingStands side.machine (record { own = h.about.hub; times = default_times; at = T }) []) (sym at) (subst (λ x. AcceptingStands side.machine (record { own = x; times = default_times; at = t.clock }) []) (ap (λ y. y.hub) a.hub.own) new.2.machine) in
     let made : IsSideKeptIf l h S d (new_link w k (ToHub i)) (Some side) = record { lasts = refl; machine = machine; joined = subst (λ o. IsConnKeptIf l h S d (new_link w k (ToHub i)).side o) (sym new.2.joined) (refl, refl, refl) } in
     subst (IsSideKeptIf l h S d (new_link w k (ToHub i))) (sym new.1) made
 
-new_side_ready : (t : KeptWorld) (F : List LinkName) (w : World) (k : ℕ) (target : Target) (kept : KeptLink) (side : KeptSide) → StandsAs t F None w → MayDial target w → IsNewLink t k target kept → kept.side ≡ Some side → IsReady side
+new_side_ready : (t : KeptWorld) (F : List LinkName) (w : World) (k : ℕ) (target : Target) (kept : KeptLink) (side : KeptSide) → WorldKeptAs t F None w → MayDial target w → IsNewLink t k target kept → kept.side ≡ Some side → IsReady side
 new_side_ready t F w k (ToNode m) kept side s may n is = absurd (not_both (sym n.side ∙ is))
   where
     not_both : None ≡ Some side → ⊥
@@ -164,7 +164,7 @@ new_side_ready t F w k (ToHub i) kept side s may n is =
     within_got (x ∷ xs) (suc i) h = within_got xs i (omega arith)
 
 -- One link more is kept, and nobody holds it yet.
-pub link_added : (t u : KeptWorld) (F : List LinkName) (w : World) (k : ℕ) (target : Target) → w.now ≡ t.clock → StandsAs t F None w → MayDial target w → MakesLink k target t u → StandsAs u F None (record w { links = w.links ++ new_link w k target ∷ [] })
+pub link_added : (t u : KeptWorld) (F : List LinkName) (w : World) (k : ℕ) (target : Target) → w.now ≡ t.clock → WorldKeptAs t F None w → MayDial target w → MakesLink k target t u → WorldKeptAs u F None (record w { links = w.links ++ new_link w k target ∷ [] })
 link_added t u F w k target at s may m = record {
   steps = m.made ∙ s.steps;
   untold = s.untold;
@@ -247,20 +247,20 @@ dial_does t u v k name target d e m hold dialled deliveries failed base w at s t
         delivered = told.delivered;
         deliveries = deliveries ∙ told.deliveries;
       };
-      stands = subst (λ (G : List LinkName). StandsAs u G None y) (sym failed) (link_added t u d.failed.items w k target at s may m);
+      stands = subst (λ (G : List LinkName). WorldKeptAs u G None y) (sym failed) (link_added t u d.failed.items w k target at s may m);
     } in
     let there : Became u v e.failed.items None y (holds k (record { name = name; link = length t.links.items; hears = Down }) y) = hold None e.failed.items y (at ∙ sym m.clock) first.stands in
     let second : Did u v e base y (holds k (record { name = name; link = length t.links.items; hears = Down }) y) = did_became u v e base y (holds k (record { name = name; link = length t.links.items; hears = Down }) y) first.told there in
     subst (λ (i : ℕ). Did t v e base w (holds k (record { name = name; link = i; hears = Down }) y)) s.link_count (did_both t u v e e base w y (holds k (record { name = name; link = length t.links.items; hears = Down }) y) first second)
 
 -- A URI is dialled.
-pub dial_to_some : (t v : KeptWorld) (k : ℕ) (name : LinkName) (uri : List ℕ) (target : Target) (d e : Doing) → ((F : List LinkName) (b : Option ℕ) (w : World) → StandsAs t F b w → Some target ≡ leads_to w uri) → DoesWhere (MayDial target) (dials k name target) t d v e
+pub dial_to_some : (t v : KeptWorld) (k : ℕ) (name : LinkName) (uri : List ℕ) (target : Target) (d e : Doing) → ((F : List LinkName) (b : Option ℕ) (w : World) → WorldKeptAs t F b w → Some target ≡ leads_to w uri) → DoesWhere (MayDial target) (dials k name target) t d v e
     → Does (λ w. dials_to k name (leads_to w uri) w) t d v e
 dial_to_some t v k name uri target d e leads p base w at s told =
     let is = leads d.failed.items None w s in
     let may = target_there w uri target is in
     subst (λ o. Did t v e base w (dials_to k name o w)) is (p base w at s told (record { room = may.0; there = may.1 }))
 
-pub dial_to_none : (t : KeptWorld) (k : ℕ) (name : LinkName) (uri : List ℕ) (d e : Doing) → ((F : List LinkName) (b : Option ℕ) (w : World) → StandsAs t F b w → None ≡ leads_to w uri) → Does (fails name) t d t e
+pub dial_to_none : (t : KeptWorld) (k : ℕ) (name : LinkName) (uri : List ℕ) (d e : Doing) → ((F : List LinkName) (b : Option ℕ) (w : World) → WorldKeptAs t F b w → None ≡ leads_to w uri) → Does (fails name) t d t e
     → Does (λ w. dials_to k name (leads_to w uri) w) t d t e
 dial_to_none t k name uri d e leads p base w at s told = subst (λ o. Did t t e base w (dials_to k name o w)) (leads d.failed.items None w s) (p base w at s told)

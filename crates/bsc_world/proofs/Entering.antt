@@ -19,11 +19,11 @@ use Rattle.bsc_history.proofs.Marks.{mark_grows}
 use Rattle.bsc_history.proofs.More.{ended-more, entries-more, is_stopped-more, sent-more}
 use Rattle.bsc_history.proofs.Parts.{vmac_stays}
 use Rattle.bsc_ring.specs.Ends.{empties_of, found, given, outlet_mark}
-use Rattle.bsc_accept.specs.Standing.{StandsFor as MachineStandsFor}
+use Rattle.bsc_accept.specs.Standing.{AcceptingStands}
 use Rattle.bsc_desk.specs.declared.desk.Desk.{Desk}
 use Rattle.bsc_desk.specs.Meetings.{IsOutletOf}
 use Rattle.bsc_desk.specs.Rows.{known_of}
-use Rattle.bsc_desk.specs.Standing.{StandsFor as DeskStandsFor}
+use Rattle.bsc_desk.specs.Standing.{DeskStands}
 use Rattle.bsc_script.proofs.Touched.{is_of_same}
 use Rattle.bsc_world.specs.declared.kept_hub.KeptHub.{KeptHub}
 use Rattle.bsc_world.specs.declared.kept_link.KeptConn.{KeptConn}
@@ -110,7 +110,7 @@ pub side_more : (m : ℕ) (h : Hub) (S : List Stamped) (d n : Desk) (link : Link
     → IsSideKept m h S d link side → IsSideKept m (with_entry h x.entry place) (S ++ x ∷ []) n link after
 side_more m h S d n link side after x place legal lawful machine joined p = record {
   lasts = p.lasts;
-  machine = subst (λ y. MachineStandsFor y (start h link) link.side.events) (sym machine) p.machine;
+  machine = subst (λ y. AcceptingStands y (start h link) link.side.events) (sym machine) p.machine;
   joined = joined side.joined after.joined refl refl p.joined;
 }
 
@@ -133,7 +133,7 @@ stays_quiet m h S d n s k x place p stays behind known nothing = record {
 -- ---- the hub
 
 -- A hub is kept with an entry more.
-pub hub_more : (j : ℕ) (h : Hub) (S : List Stamped) (kept after : KeptHub) (x : Stamped) (place : ℕ) → IsHubKept j h S kept → DeskStandsFor after.desk (S ++ x ∷ []) → after.desk.about ≡ kept.desk.about → after.about ≡ kept.about → after.uri ≡ kept.uri
+pub hub_more : (j : ℕ) (h : Hub) (S : List Stamped) (kept after : KeptHub) (x : Stamped) (place : ℕ) → IsHubKept j h S kept → DeskStands after.desk (S ++ x ∷ []) → after.desk.about ≡ kept.desk.about → after.about ≡ kept.about → after.uri ≡ kept.uri
     → after.has_stopped ≡ (kept.has_stopped || stops x.entry) → IsHubKept j (with_entry h x.entry place) (S ++ x ∷ []) after
 hub_more j h S kept after x place k stands about own uri stopped = record {
   about = about ∙ k.about;

@@ -26,8 +26,8 @@ use Rattle.bsc_desk.specs.declared.row.Row.{Row}
 use Rattle.bsc_desk.specs.Entries.{forward_entry, plain}
 use Rattle.bsc_desk.specs.Live.{connection, is_open}
 use Rattle.bsc_desk.specs.Rows.{IsRowOf, known_of}
-use Rattle.bsc_desk.specs.Standing.{StandsFor as DeskStandsFor}
-use Rattle.bsc_desk.proofs.Histories.{joined_apart, unleft_joined}
+use Rattle.bsc_desk.specs.Standing.{DeskStands}
+use Rattle.bsc_history.proofs.Connections.{joined_apart, unleft_joined}
 use Rattle.bsc_desk.proofs.LiveRows.{live_rows}
 use Rattle.bsc_desk.proofs.Rowed.{is_row_of}
 use Rattle.bsc_script.proofs.Touched.{among_In, look_newest}
@@ -45,7 +45,7 @@ use Rattle.bsc_world.specs.HubEntries.{LeadsTo}
 use Rattle.bsc_world.specs.Passing.{HasForwarded, Midway, MidwaySome, MidwayTo, SameEnd, is_one, looked_at}
 use Rattle.bsc_world.specs.Sides.{IsSideOf, WasPassed}
 use Rattle.bsc_world.specs.Kept.{IsConnKeptIf, IsSideKeptIf}
-use Rattle.bsc_world.specs.Standing.{AreReadyBut, IsHubAt, StandsAs}
+use Rattle.bsc_world.specs.Standing.{AreReadyBut, IsHubAt, WorldKeptAs}
 use Rattle.bsc_world.specs.Becoming.{Became, Stands}
 use Rattle.bsc_network.proofs.Places.{get-set_other, got-beside}
 use Rattle.bsc_world.proofs.Entering.{history-more, with_entry}
@@ -64,7 +64,7 @@ use Rattle.std.proofs.lemmas.Option.{same_Some as some_same}
 -- ---- who is looked at
 
 -- a live connection hasn't left
-pub live_unleft : (d : Desk) (S : List Stamped) (c : ℕ) → DeskStandsFor d S → list_any (λ x. x.number == c) (live (entries_of S)) ≡ true → list_any (λ x. x.number == c) (unleft (entries_of S)) ≡ true
+pub live_unleft : (d : Desk) (S : List Stamped) (c : ℕ) → DeskStands d S → list_any (λ x. x.number == c) (live (entries_of S)) ≡ true → list_any (λ x. x.number == c) (unleft (entries_of S)) ≡ true
 live_unleft d S c s h =
     let p = λ (x : Connection). x.number == c in
     let q = λ (r : Row). p (connection r) in
@@ -97,7 +97,7 @@ side_known m h S d link (Some side) b p is lasts = conn_known m h S d link side.
 -- ---- the call
 
 -- The entry was made, and no side has met the hub yet.
-pub midway_start : (t u : KeptWorld) (F : List LinkName) (w : World) (j l c place : ℕ) (m : List ℕ) (passing : Passing) (h : Hub) (a : IsHubAt t w j h) (after : KeptHub) → StandsAs t F None w → slice_get u.hubs.items j ≡ Some after → OnHub t u j after → (f : HasForwarded a.marks l c m passing a.kept after) → Midway t u w j h a (forward_entry l c m f.looks f.reply) place passing (is_one h (take 0 (looked_at passing)))
+pub midway_start : (t u : KeptWorld) (F : List LinkName) (w : World) (j l c place : ℕ) (m : List ℕ) (passing : Passing) (h : Hub) (a : IsHubAt t w j h) (after : KeptHub) → WorldKeptAs t F None w → slice_get u.hubs.items j ≡ Some after → OnHub t u j after → (f : HasForwarded a.marks l c m passing a.kept after) → Midway t u w j h a (forward_entry l c m f.looks f.reply) place passing (is_one h (take 0 (looked_at passing)))
 midway_start t u F w j l c place m passing h a after s there o f =
     let e = forward_entry l c m f.looks f.reply in
     record {
@@ -125,7 +125,7 @@ midway_start t u F w j l c place m passing h a after s there o f =
       rest = λ n off. ap (λ xs. slice_get xs n) o.links;
     }
 
-module _ (t u : KeptWorld) (F : List LinkName) (w : World) (j : ℕ) (h : Hub) (a : IsHubAt t w j h) (e : Entry) (place : ℕ) (passing : Passing) (met : ℕ → Bool) (g : Midway t u w j h a e place passing met) (s : StandsAs t F None w) (all : (m b : ℕ) → is_of (history h) m b ≡ true → is_among b (looked_at passing) ≡ true → met m ≡ true) where
+module _ (t u : KeptWorld) (F : List LinkName) (w : World) (j : ℕ) (h : Hub) (a : IsHubAt t w j h) (e : Entry) (place : ℕ) (passing : Passing) (met : ℕ → Bool) (g : Midway t u w j h a e place passing met) (s : WorldKeptAs t F None w) (all : (m b : ℕ) → is_of (history h) m b ≡ true → is_among b (looked_at passing) ≡ true → met m ≡ true) where
   abbrev hub_now : Hub
   hub_now = with_entry h e place
 
@@ -248,7 +248,7 @@ one_met h conns m b own looks =
 -- ---- by the link
 
 -- A connection may forward.
-pub may_forward : (t : KeptWorld) (b : Option ℕ) (l i : ℕ) (kept : KeptLink) (hub : KeptHub) (side : KeptSide) (k : KeptConn) (c : ℕ) (from : Vmac) → Stands b t → LeadsTo t l i → kept ≡ get_or t.links.items l kept → kept.side ≡ Some side → side.joined ≡ Some k → c ≡ k.conn → from ≡ k.vmac → hub ≡ get_or t.hubs.items i hub → IsRowOf hub.desk l c from × ((S : List Stamped) × DeskStandsFor hub.desk S)
+pub may_forward : (t : KeptWorld) (b : Option ℕ) (l i : ℕ) (kept : KeptLink) (hub : KeptHub) (side : KeptSide) (k : KeptConn) (c : ℕ) (from : Vmac) → Stands b t → LeadsTo t l i → kept ≡ get_or t.links.items l kept → kept.side ≡ Some side → side.joined ≡ Some k → c ≡ k.conn → from ≡ k.vmac → hub ≡ get_or t.hubs.items i hub → IsRowOf hub.desk l c from × ((S : List Stamped) × DeskStands hub.desk S)
 may_forward t b l i kept hub side k c from (F, w, at, s) q link_read is joins conn vmac read =
     let was = read_there t.links.items l q.kept kept q.there link_read in
     let to : kept.to ≡ ToHub i = ap (λ (y : KeptLink). y.to) (some_same kept q.kept (sym was ∙ q.there)) ∙ q.to in
@@ -258,11 +258,11 @@ may_forward t b l i kept hub side k c from (F, w, at, s) q link_read is joins co
     let own : is_of (entries_of x.at.marks) l k.conn ≡ true = subst (λ F. is_of F l k.conn ≡ true) (sym x.at.hub.calls) p.joiner in
     let address : vmac_of (entries_of x.at.marks) k.conn ≡ k.vmac = ap (λ F. vmac_of F k.conn) x.at.hub.calls ∙ p.address in
     let row : IsRowOf x.at.kept.desk l k.conn k.vmac = is_row_of x.at.kept.desk x.at.marks l k.conn k.vmac x.at.hub.desk own address in
-    let stands : (S : List Stamped) × DeskStandsFor hub.desk S = (x.at.marks, subst (λ (y : KeptHub). DeskStandsFor y.desk x.at.marks) same x.at.hub.desk) in
+    let stands : (S : List Stamped) × DeskStands hub.desk S = (x.at.marks, subst (λ (y : KeptHub). DeskStands y.desk x.at.marks) same x.at.hub.desk) in
     (subst (λ (n : ℕ). IsRowOf hub.desk l n from) (sym conn) (subst (IsRowOf hub.desk l k.conn) (sym vmac) (subst (λ (y : KeptHub). IsRowOf y.desk l k.conn k.vmac) same row)), stands)
 
 -- A side that hasn't joined passes nothing on.
-pub passed_alone : (t : KeptWorld) (F : List LinkName) (w : World) (l i j place : ℕ) (m : List ℕ) (kept : KeptLink) (h : Hub) (link : Link) → LeadsTo t l i → kept ≡ get_or t.links.items l kept → ((side : KeptSide) → kept.side ≡ Some side → side.joined ≡ None) → StandsAs t F None w → IsSideOf w l j h link → WasPassed Alone t t F w j h link l place m
+pub passed_alone : (t : KeptWorld) (F : List LinkName) (w : World) (l i j place : ℕ) (m : List ℕ) (kept : KeptLink) (h : Hub) (link : Link) → LeadsTo t l i → kept ≡ get_or t.links.items l kept → ((side : KeptSide) → kept.side ≡ Some side → side.joined ≡ None) → WorldKeptAs t F None w → IsSideOf w l j h link → WasPassed Alone t t F w j h link l place m
 passed_alone t F w l i j place m kept h link q link_read none s p =
     let was = read_there t.links.items l q.kept kept q.there link_read in
     let to = target_at t F None w l j h link kept s p was in
@@ -276,7 +276,7 @@ passed_alone t F w l i j place m kept h link q link_read none s p =
     alone h S d x (Some side) is lasts p = (subst (IsConnKeptIf l h S d x.side) (none side is) p.joined).0
 
 -- the connection of the side, in the network
-conn_then : (t : KeptWorld) (F : List LinkName) (w : World) (l j : ℕ) (kept : KeptLink) (side : KeptSide) (k : KeptConn) (c : ℕ) (h : Hub) (link : Link) → slice_get t.links.items l ≡ Some kept → kept.side ≡ Some side → side.joined ≡ Some k → c ≡ k.conn → StandsAs t F None w → IsSideOf w l j h link → link.side.conn ≡ Some c
+conn_then : (t : KeptWorld) (F : List LinkName) (w : World) (l j : ℕ) (kept : KeptLink) (side : KeptSide) (k : KeptConn) (c : ℕ) (h : Hub) (link : Link) → slice_get t.links.items l ≡ Some kept → kept.side ≡ Some side → side.joined ≡ Some k → c ≡ k.conn → WorldKeptAs t F None w → IsSideOf w l j h link → link.side.conn ≡ Some c
 conn_then t F w l j kept side k c h link was is joins conn s p =
     let to = target_at t F None w l j h link kept s p was in
     let x = side_at t F None w l j kept s was to in
@@ -284,22 +284,22 @@ conn_then t F w l j kept side k c h link was is joins conn s p =
     ap (λ (y : Link). y.side.conn) (some_same link x.link (sym p.there ∙ x.there)) ∙ q.conn ∙ ap Some (sym conn)
 
 pub passed_worn : (t u : KeptWorld) (F : List LinkName) (w : World) (l i j place : ℕ) (m : List ℕ) (kept : KeptLink) (side : KeptSide) (k : KeptConn) (c : ℕ) (hub : KeptHub) (h : Hub) (link : Link) → LeadsTo t l i → kept ≡ get_or t.links.items l kept → kept.side ≡ Some side → side.joined ≡ Some k → c ≡ k.conn → hub ≡ get_or t.hubs.items i hub
-    → ((S : List Stamped) → DeskStandsFor hub.desk S → nat_le hub.desk.about.limits.calls (length S) ≡ true) → u ≡ t → StandsAs t F None w → IsSideOf w l j h link → WasPassed PassedWorn t u F w j h link l place m
+    → ((S : List Stamped) → DeskStands hub.desk S → nat_le hub.desk.about.limits.calls (length S) ≡ true) → u ≡ t → WorldKeptAs t F None w → IsSideOf w l j h link → WasPassed PassedWorn t u F w j h link l place m
 passed_worn t u F w l i j place m kept side k c hub h link q link_read is joins conn read says same_world s p =
     let was = read_there t.links.items l q.kept kept q.there link_read in
     let at = hub_is t F None w l i j h link q s p in
     let a = s.hubs j h p.hub in
     let same : a.kept ≡ hub = some_same a.kept hub (sym a.there ∙ read_there t.hubs.items j a.kept hub a.there (subst (λ n. hub ≡ get_or t.hubs.items n hub) at read)) in
-    let worn = worn_as j h a.marks a.kept true a.hub (subst (λ (y : KeptHub). nat_le y.desk.about.limits.calls (length a.marks) ≡ true) (sym same) (says a.marks (subst (λ (y : KeptHub). DeskStandsFor y.desk a.marks) same a.hub.desk))) in
+    let worn = worn_as j h a.marks a.kept true a.hub (subst (λ (y : KeptHub). nat_le y.desk.about.limits.calls (length a.marks) ≡ true) (sym same) (says a.marks (subst (λ (y : KeptHub). DeskStands y.desk a.marks) same a.hub.desk))) in
     ((c, conn_then t F w l j kept side k c h link was is joins conn s p), worn, same_world)
 
-forwarded_at : (t : KeptWorld) (w : World) (i : ℕ) (h : Hub) (a : IsHubAt t w i h) (l c : ℕ) (m : List ℕ) (passing : Passing) (hub after : KeptHub) → a.kept ≡ hub → ((S : List Stamped) → DeskStandsFor hub.desk S → (nat_le hub.desk.about.limits.calls (length S) ≡ false) × HasForwarded S l c m passing hub after)
+forwarded_at : (t : KeptWorld) (w : World) (i : ℕ) (h : Hub) (a : IsHubAt t w i h) (l c : ℕ) (m : List ℕ) (passing : Passing) (hub after : KeptHub) → a.kept ≡ hub → ((S : List Stamped) → DeskStands hub.desk S → (nat_le hub.desk.about.limits.calls (length S) ≡ false) × HasForwarded S l c m passing hub after)
     → (nat_le a.kept.desk.about.limits.calls (length a.marks) ≡ false) × HasForwarded a.marks l c m passing a.kept after
 forwarded_at t w i h a l c m passing hub after same says =
-    subst (λ (y : KeptHub). (nat_le y.desk.about.limits.calls (length a.marks) ≡ false) × HasForwarded a.marks l c m passing y after) (sym same) (says a.marks (subst (λ (y : KeptHub). DeskStandsFor y.desk a.marks) same a.hub.desk))
+    subst (λ (y : KeptHub). (nat_le y.desk.about.limits.calls (length a.marks) ≡ false) × HasForwarded a.marks l c m passing y after) (sym same) (says a.marks (subst (λ (y : KeptHub). DeskStands y.desk a.marks) same a.hub.desk))
 
 -- The entry was made, and the sides at which it looked are to meet the hub.
-pub may_meet_each : (t u : KeptWorld) (l i place c : ℕ) (m : List ℕ) (passing : Passing) (hub after : KeptHub) → Stands None t → i < length t.hubs.items → hub ≡ get_or t.hubs.items i hub → OnHub t u i after → ((S : List Stamped) → DeskStandsFor hub.desk S → (nat_le hub.desk.about.limits.calls (length S) ≡ false) × HasForwarded S l c m passing hub after) → MidwaySome u i place passing 0
+pub may_meet_each : (t u : KeptWorld) (l i place c : ℕ) (m : List ℕ) (passing : Passing) (hub after : KeptHub) → Stands None t → i < length t.hubs.items → hub ≡ get_or t.hubs.items i hub → OnHub t u i after → ((S : List Stamped) → DeskStands hub.desk S → (nat_le hub.desk.about.limits.calls (length S) ≡ false) × HasForwarded S l c m passing hub after) → MidwaySome u i place passing 0
 may_meet_each t u l i place c m passing hub after (F, w, at, s) within read o says =
     let y = got-at w.hubs i (subst (λ n. i < n) s.hub_count within) in
     let a = s.hubs i y.0 y.1 in
@@ -308,7 +308,7 @@ may_meet_each t u l i place c m passing hub after (F, w, at, s) within read o sa
     (t, w, y.0, a, forward_entry l c m f.1.looks f.1.reply, midway_start t u F w i l c place m passing y.0 a after s (ap (λ xs. slice_get xs i) o.hubs ∙ get-set_here t.hubs.items i hub after was) o f.1)
 
 pub passed_made : (t u v : KeptWorld) (F : List LinkName) (w : World) (l i j place : ℕ) (m : List ℕ) (passing : Passing) (kept : KeptLink) (side : KeptSide) (k : KeptConn) (c : ℕ) (hub after : KeptHub) (h : Hub) (link : Link) → LeadsTo t l i → kept ≡ get_or t.links.items l kept → kept.side ≡ Some side → side.joined ≡ Some k → c ≡ k.conn → hub ≡ get_or t.hubs.items i hub → MidwayTo u v i place passing 0 (length (looked_at passing)) → OnHub t u i after
-    → ((S : List Stamped) → DeskStandsFor hub.desk S → (nat_le hub.desk.about.limits.calls (length S) ≡ false) × HasForwarded S l c m passing hub after) → StandsAs t F None w → IsSideOf w l j h link → WasPassed Made t v F w j h link l place m
+    → ((S : List Stamped) → DeskStands hub.desk S → (nat_le hub.desk.about.limits.calls (length S) ≡ false) × HasForwarded S l c m passing hub after) → WorldKeptAs t F None w → IsSideOf w l j h link → WasPassed Made t v F w j h link l place m
 passed_made t u v F w l i j place m passing kept side k c hub after h link q link_read is joins conn read meets o says s p =
     let was = read_there t.links.items l q.kept kept q.there link_read in
     let at : i ≡ j = hub_is t F None w l i j h link q s p in

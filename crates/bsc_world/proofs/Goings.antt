@@ -9,7 +9,7 @@ use Rattle.bsc_network.specs.Worlds.{World, Link}
 use Rattle.bsc_network.specs.Changes.{Change}
 use Rattle.bsc_network.specs.Networks.{dialled_from}
 use Rattle.bsc_world.specs.Kept.{IsReady}
-use Rattle.bsc_world.specs.Standing.{AreReadyBut, StandsAs}
+use Rattle.bsc_world.specs.Standing.{AreReadyBut, WorldKeptAs}
 use Rattle.bsc_world.specs.Becoming.{Ends, ends, Became, BecomesBusy, Stands, HasSide, IsToldSince, Did, Does}
 use Rattle.bsc_network.proofs.Places.{one_or_two}
 use Rattle.bsc_world.proofs.Spots.{stands_same}
@@ -38,7 +38,7 @@ pub stands_goes : (b c : Option ℕ) (f : Change) (t u : KeptWorld) → BecomesB
 stands_goes b c f t u p (F, w, at, s) = (let first = p F w at s in (F, f w, at_clock t u F c w (f w) at first, first.stands))
 
 -- nothing has changed
-pub became_same : (t u : KeptWorld) (F : List LinkName) (b : Option ℕ) (w : World) → u.clock ≡ t.clock → u.spent ≡ t.spent → u.made ≡ t.made → u.hubs.items ≡ t.hubs.items → u.nodes.items ≡ t.nodes.items → u.links.items ≡ t.links.items → StandsAs t F b w → Became t u F b w w
+pub became_same : (t u : KeptWorld) (F : List LinkName) (b : Option ℕ) (w : World) → u.clock ≡ t.clock → u.spent ≡ t.spent → u.made ≡ t.made → u.hubs.items ≡ t.hubs.items → u.nodes.items ≡ t.nodes.items → u.links.items ≡ t.links.items → WorldKeptAs t F b w → Became t u F b w w
 became_same t u F b w clock spent made hubs nodes links s = record {
   clock = clock;
   spent = spent;
@@ -55,7 +55,7 @@ became_as t u F c w x y e p = subst (Became t u F c w) e p
 
 -- ---- which side is busy
 
-with_busy : (t : KeptWorld) (F : List LinkName) (b c : Option ℕ) (w : World) → StandsAs t F b w → AreReadyBut c t → StandsAs t F c w
+with_busy : (t : KeptWorld) (F : List LinkName) (b c : Option ℕ) (w : World) → WorldKeptAs t F b w → AreReadyBut c t → WorldKeptAs t F c w
 with_busy t F b c w s ready = record {
   steps = s.steps;
   untold = s.untold;
@@ -75,11 +75,11 @@ none_busy : (l : ℕ) → None ≢ Some l
 none_busy l e = cc
 
 -- where none is busy, one may be
-pub busy_more : (t : KeptWorld) (F : List LinkName) (l : ℕ) (w : World) → StandsAs t F None w → StandsAs t F (Some l) w
+pub busy_more : (t : KeptWorld) (F : List LinkName) (l : ℕ) (w : World) → WorldKeptAs t F None w → WorldKeptAs t F (Some l) w
 busy_more t F l w s = with_busy t F None (Some l) w s (λ m kept side other got is. s.ready m kept side (none_busy m) got is)
 
 -- once the busy side is ready, none is busy
-pub settles : (t : KeptWorld) (F : List LinkName) (l : ℕ) (w : World) → StandsAs t F (Some l) w → HasSide t l IsReady → StandsAs t F None w
+pub settles : (t : KeptWorld) (F : List LinkName) (l : ℕ) (w : World) → WorldKeptAs t F (Some l) w → HasSide t l IsReady → WorldKeptAs t F None w
 settles t F l w s ready = with_busy t F (Some l) None w s each
   where
     each : AreReadyBut None t

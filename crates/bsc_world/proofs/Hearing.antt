@@ -18,13 +18,13 @@ use Rattle.bsc_node.specs.Conditions.{brings_word, fits, is_start, may_come}
 use Rattle.bsc_node.specs.Links.{begins_in_slots}
 use Rattle.bsc_node.proofs.Following.{opened-dialled, goes_on-is}
 use Rattle.bsc_node_core.specs.declared.node.Node.{Node as Core}
-use Rattle.bsc_node_core.specs.Node.{StandsFor as CoreStandsFor, NodeAnswers}
+use Rattle.bsc_node_core.specs.Node.{NodeStands, NodeAnswers}
 use Rattle.bsc_world.specs.declared.kept_node.KeptNode.{KeptNode}
 use Rattle.bsc_world.specs.declared.world.World.{World as KeptWorld}
 use Rattle.bsc_network.specs.Worlds.{World, Node}
 use Rattle.bsc_world.specs.Kept.{IsCalm, IsNodeKept}
-use Rattle.bsc_world.specs.Standing.{StandsAs}
-use Rattle.bsc_world.specs.Coming.{BeginsNamed, HasHeard, Hears, HearsAt, HearsIf, is_start_event, lines_of, with_lines}
+use Rattle.bsc_world.specs.Standing.{WorldKeptAs}
+use Rattle.bsc_world.specs.Coming.{BeginsNamed, HasHeard, HearsAt, HearsIf, NodeHears, is_start_event, lines_of, with_lines}
 use Rattle.bsc_world.proofs.Calm.{no_event, calm_then, lines-one, lines-two, may_then, none-follows, now_then}
 use Rattle.bsc_world.proofs.Ends.{node_there, no_node_there}
 use Rattle.bsc_world.proofs.Goings.{became_same}
@@ -93,7 +93,7 @@ module _ (n : Node) (now : ℕ) (e : NodeEvent) (kept : KeptNode) (k : IsNodeKep
   may : IsTrue (may_come n.log event)
   may = may_then now n.log e below62 calm wordless fit
 
-  kept_with : (lines : Log) (after : KeptNode) → CoreStandsFor after.node n.made (n.log ++ lines) → after.max_bvlc ≡ kept.max_bvlc → after.uri ≡ kept.uri → after.holds.items ≡ kept.holds.items → after.has_started ≡ list_any is_start (n.log ++ lines) → IsNodeKept (with_lines lines n) after
+  kept_with : (lines : Log) (after : KeptNode) → NodeStands after.node n.made (n.log ++ lines) → after.max_bvlc ≡ kept.max_bvlc → after.uri ≡ kept.uri → after.holds.items ≡ kept.holds.items → after.has_started ≡ list_any is_start (n.log ++ lines) → IsNodeKept (with_lines lines n) after
   kept_with lines after core bvlc uri holds started = record { core = core; bvlc = bvlc ∙ k.bvlc; uri = uri ∙ k.uri; started = started; holds = holds ∙ k.holds; named = k.named }
 
   -- The core drew no word.
@@ -104,7 +104,7 @@ module _ (n : Node) (now : ℕ) (e : NodeEvent) (kept : KeptNode) (k : IsNodeKep
       let quiet : list_any draws (actions_at n.made n.log event) ≡ false = ap (list_any draws) (sym ans.0) ∙ none in
       let lines : lines_of n now e ≡ goes_on n.made event n.log =
       ap (λ (b : Bool). in_order (map (goes_on n.made) (if b then event ∷ record { now = now; event = NoRandom } ∷ [] else event ∷ [])) n.log) quiet ∙ lines-one n.made event n.log in
-      let core : CoreStandsFor after.node n.made (n.log ++ lines_of n now e) = subst (λ xs. CoreStandsFor after.node n.made (n.log ++ xs)) (sym lines) ans.1 in
+      let core : NodeStands after.node n.made (n.log ++ lines_of n now e) = subst (λ xs. NodeStands after.node n.made (n.log ++ xs)) (sym lines) ans.1 in
       record {
         node = kept_with (lines_of n now e) after core bvlc uri holds (started ∙ ap (λ b. b || is_start_event e) k.started ∙ sym (started_after n.made n.log now e may) ∙ ap (λ xs. list_any is_start (n.log ++ xs)) (sym lines));
         calm = calm_then now n.made n.log e below62 calm wordless fit;
@@ -126,7 +126,7 @@ module _ (n : Node) (now : ℕ) (e : NodeEvent) (kept : KeptNode) (k : IsNodeKep
       let lines : lines_of n now e ≡ two =
       ap (λ (b : Bool). in_order (map (goes_on n.made) (if b then event ∷ none ∷ [] else event ∷ [])) n.log) draw ∙ lines-two n.made event none n.log in
       let whole : (n.log ++ goes_on n.made event n.log) ++ goes_on n.made none M ≡ n.log ++ lines_of n now e = append_assoc n.log (goes_on n.made event n.log) (goes_on n.made none M) ∙ ap (λ xs. n.log ++ xs) (sym lines) in
-      let core : CoreStandsFor after.node n.made (n.log ++ lines_of n now e) = subst (CoreStandsFor after.node n.made) whole then_ans.1 in
+      let core : NodeStands after.node n.made (n.log ++ lines_of n now e) = subst (NodeStands after.node n.made) whole then_ans.1 in
       let begun : list_all begins_in_slots (n.log ++ two) ≡ true = subst (λ xs. list_all begins_in_slots xs ≡ true) (append_assoc n.log (goes_on n.made event n.log) (goes_on n.made none M)) then_ans.1.begun in
       let both : actions ++ more ≡ filter_map action_of two = ap (λ xs. xs ++ more) ans.0 ∙ ap (λ xs. actions_at n.made n.log event ++ xs) then_ans.0 ∙ sym (filter-two (goes_on n.made event n.log) (goes_on n.made none M)) in
       record {
@@ -154,7 +154,7 @@ module _ (n : Node) (now : ℕ) (e : NodeEvent) (kept : KeptNode) (k : IsNodeKep
 pub world_hears : (t u : KeptWorld) (k : ℕ) (e : NodeEvent) (kept after : KeptNode) (actions : List Action) → slice_get t.nodes.items k ≡ Some kept → u.clock ≡ t.clock → u.spent ≡ t.spent → u.made ≡ t.made → u.hubs.items ≡ t.hubs.items → u.links.items ≡ t.links.items → u.nodes.items ≡ set t.nodes.items k after
     → ((n : Node) → IsNodeKept n kept → true ≡ fits n.log e)
     → ((n : Node) → IsNodeKept n kept → IsCalm t.clock n.log → fits n.log e ≡ true → HasHeard n t.clock e actions after)
-    → (F : List LinkName) (w : World) → w.now ≡ t.clock → StandsAs t F None w → Hears k e actions t u F w
+    → (F : List LinkName) (w : World) → w.now ≡ t.clock → WorldKeptAs t F None w → NodeHears k e actions t u F w
 world_hears t u k e kept after actions was clock spent made hubs links nodes fit heard F w at s =
     let there = node_there t F None w k kept s was in
     let n = there.0 in
@@ -169,13 +169,13 @@ world_hears t u k e kept after actions was clock spent made hubs links nodes fit
     subst (λ o. HearsAt o k e actions t u F w) (sym there.1) (subst (λ b. HearsIf b k e actions t u F w n) (sym fitting) done)
 
 pub world_drops : (t : KeptWorld) (k : ℕ) (e : NodeEvent) (kept : KeptNode) → slice_get t.nodes.items k ≡ Some kept → ((n : Node) → IsNodeKept n kept → false ≡ fits n.log e)
-    → (F : List LinkName) (w : World) → w.now ≡ t.clock → StandsAs t F None w → Hears k e [] t t F w
+    → (F : List LinkName) (w : World) → w.now ≡ t.clock → WorldKeptAs t F None w → NodeHears k e [] t t F w
 world_drops t k e kept was unfit F w at s =
     let there = node_there t F None w k kept s was in
     let done : HearsIf false k e [] t t F w there.0 = (refl, became_same t t F None w refl refl refl refl refl refl s) in
     subst (λ o. HearsAt o k e [] t t F w) (sym there.1) (subst (λ b. HearsIf b k e [] t t F w there.0) (unfit there.0 there.2) done)
 
-pub world_has_none : (t : KeptWorld) (k : ℕ) (e : NodeEvent) → length t.nodes.items ≤ k → (F : List LinkName) (w : World) → w.now ≡ t.clock → StandsAs t F None w → Hears k e [] t t F w
+pub world_has_none : (t : KeptWorld) (k : ℕ) (e : NodeEvent) → length t.nodes.items ≤ k → (F : List LinkName) (w : World) → w.now ≡ t.clock → WorldKeptAs t F None w → NodeHears k e [] t t F w
 world_has_none t k e past F w at s =
     let done : HearsAt None k e [] t t F w = (refl, became_same t t F None w refl refl refl refl refl refl s) in
     subst (λ o. HearsAt o k e [] t t F w) (sym (no_node_there t F None w k past s)) done

@@ -21,7 +21,7 @@ use Rattle.bsc_desk.specs.declared.desk.Desk.{Desk}
 use Rattle.bsc_desk.specs.declared.leaving.Gone.{Gone}
 use Rattle.bsc_desk.specs.Entries.{leave_entry, plain}
 use Rattle.bsc_desk.specs.Rows.{known_of}
-use Rattle.bsc_desk.specs.Standing.{StandsFor as DeskStandsFor}
+use Rattle.bsc_desk.specs.Standing.{DeskStands}
 use Rattle.bsc_desk.proofs.Rowed.{is_mark_of, is_row_by}
 use Rattle.bsc_network.specs.declared.target.Target.TheVariants.{Hub as ToHub, Node as ToNode}
 use Rattle.bsc_world.specs.declared.kept_hub.KeptHub.{KeptHub}
@@ -36,7 +36,7 @@ use Rattle.bsc_world.specs.HubEntries.{HasLeft, LetsGo, MayLeave}
 use Rattle.bsc_network.specs.HubSides.{leaves, leaves_as, unless_over}
 use Rattle.bsc_world.specs.Sides.{IsSideOf}
 use Rattle.bsc_world.specs.Kept.{IsConnKept, IsConnKeptIf, IsLinkKept, IsSideKept, IsSideKeptIf, IsWayKept}
-use Rattle.bsc_world.specs.Standing.{AreReadyBut, IsHubAt, StandsAs}
+use Rattle.bsc_world.specs.Standing.{AreReadyBut, IsHubAt, WorldKeptAs}
 use Rattle.bsc_world.specs.Becoming.{Became, BecomesBusy, Stands, ends}
 use Rattle.bsc_network.proofs.Places.{get-changed, get-other, get-set_other, length-changed, one_or_two}
 use Rattle.bsc_world.proofs.Spots.{LinkChange, link_changed}
@@ -83,7 +83,7 @@ gone_kept link side kept after g k = record {
 over_kept : (link : Link) (kept : KeptLink) → IsLinkKept link kept → IsLinkKept (is_over_now link) kept
 over_kept link kept k = record { from = k.from; to = k.to; lost = k.lost; ways = λ e. record { up = (k.ways e).up; down = (k.ways e).down } }
 
-module _ (t u : KeptWorld) (F : List LinkName) (w : World) (l : ℕ) (side : Option KeptSide) (kept after : KeptLink) (was : slice_get t.links.items l ≡ Some kept) (o : OnLink t u l after) (g : LetsGo side kept after) (s : StandsAs t F (Some l) w) where
+module _ (t u : KeptWorld) (F : List LinkName) (w : World) (l : ℕ) (side : Option KeptSide) (kept after : KeptLink) (was : slice_get t.links.items l ≡ Some kept) (o : OnLink t u l after) (g : LetsGo side kept after) (s : WorldKeptAs t F (Some l) w) where
   link_here : slice_get u.links.items l ≡ Some after
   link_here = ap (λ xs. slice_get xs l) o.links ∙ get-set_here t.links.items l kept after was
 
@@ -290,7 +290,7 @@ hub_left t u w v l j place kept after k hub x q left there here none else links_
     subst (λ (d : Entry). IsHubAt u v j (with_entry h d place)) is at
 
 pub leave_joined : (t u : KeptWorld) (l j : ℕ) (side : Option KeptSide) (k : KeptSide) (c : KeptConn) (kept after : KeptLink) (hub hub_after : KeptHub) → slice_get t.links.items l ≡ Some kept → OnLink t u l after → hub ≡ get_or t.hubs.items j hub → u.hubs.items ≡ set t.hubs.items j hub_after → LetsGo side kept after → kept.to ≡ ToHub j → side ≡ Some k → k.joined ≡ Some c
-    → ((S : List Stamped) → DeskStandsFor hub.desk S → HasLeft S l c hub hub_after) → BecomesBusy (Some l) None (unless_over l (leaves l)) t u
+    → ((S : List Stamped) → DeskStands hub.desk S → HasLeft S l c hub hub_after) → BecomesBusy (Some l) None (unless_over l (leaves l)) t u
 leave_joined t u l j side k c kept after hub hub_after was o read hubs g to some joined left F w at s =
     let x = side_at t F (Some l) w l j kept s was to in
     let a = x.at in
@@ -298,7 +298,7 @@ leave_joined t u l j side k c kept after hub hub_after was o read hubs g to some
     let q : IsConnKept l x.hub a.marks a.kept.desk x.link.side c = subst (IsConnKeptIf l x.hub a.marks a.kept.desk x.link.side) joined p.joined in
     let hub_was = read_there t.hubs.items j a.kept hub a.there read in
     let same : a.kept ≡ hub = some_same a.kept hub (sym a.there ∙ hub_was) in
-    let has_left : HasLeft a.marks l c a.kept hub_after = subst (λ (y : KeptHub). HasLeft a.marks l c y hub_after) (sym same) (left a.marks (subst (λ (y : KeptHub). DeskStandsFor y.desk a.marks) same a.hub.desk)) in
+    let has_left : HasLeft a.marks l c a.kept hub_after = subst (λ (y : KeptHub). HasLeft a.marks l c y hub_after) (sym same) (left a.marks (subst (λ (y : KeptHub). DeskStands y.desk a.marks) same a.hub.desk)) in
     let call : Call = Leave c.conn x.link.side.taken x.link.side.empties in
     let v = with_link l is_over_now (called j l w.steps call w) in
     let there = ap (λ xs. slice_get xs j) hubs ∙ get-set_here t.hubs.items j hub hub_after hub_was in

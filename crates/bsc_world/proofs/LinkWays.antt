@@ -2,7 +2,7 @@
 use Rattle.std.proofs.Common.{◌≡◌, ◌≤◌, ℕ, zero, suc, true, false, List, [], ◌∷◌, ◌++◌, length, map, drop, set, slice_get, Option, Some, None, refl, ap, sym, ◌∙◌, subst, arith, length-append}
 use Rattle.std.proofs.lemmas.List.{drop-append-le, drop-drop}
 use Rattle.bsc_history.specs.declared.mark.Stamped.{Stamped}
-use Rattle.bsc_accept.specs.Standing.{StandsFor as MachineStandsFor}
+use Rattle.bsc_accept.specs.Standing.{AcceptingStands}
 use Rattle.bsc_script.specs.States.{default_times}
 use Rattle.bsc_desk.specs.declared.desk.Desk.{Desk}
 use Rattle.bsc_node.specs.declared.link_name.LinkName.{LinkName}
@@ -19,7 +19,7 @@ use Rattle.bsc_network.specs.Changes.{changed_at, with_link, with_traffic, puts_
 use Rattle.bsc_world.specs.Kept.{IsWayKept, IsLinkKept, IsSideKeptIf, IsConnKeptIf}
 use Rattle.bsc_world.specs.Puts.{IsPut}
 use Rattle.bsc_world.specs.Fronts.{IsLost, TakesFront, front_gone}
-use Rattle.bsc_world.specs.Standing.{IsLinkAt, StandsAs}
+use Rattle.bsc_world.specs.Standing.{IsLinkAt, WorldKeptAs}
 use Rattle.bsc_world.specs.Becoming.{ends, Became, Keeps}
 use Rattle.bsc_network.proofs.Places.{got-beside}
 use Rattle.bsc_world.proofs.Spots.{LinkChange, link_changed, ready_same}
@@ -124,7 +124,7 @@ pub side_same : (l : ℕ) (h : Hub) (S : List Stamped) (d : Desk) (link other : 
 side_same l h S d link other None e p = ap (λ (s : HubSide). s.is_over) e ∙ p
 side_same l h S d link other (Some k) e p = record {
   lasts = ap (λ (s : HubSide). s.is_over) e ∙ p.lasts;
-  machine = subst (λ (s : HubSide). MachineStandsFor k.machine (record { own = h.about.hub; times = default_times; at = s.since }) s.events) (sym e) p.machine;
+  machine = subst (λ (s : HubSide). AcceptingStands k.machine (record { own = h.about.hub; times = default_times; at = s.since }) s.events) (sym e) p.machine;
   joined = subst (λ (s : HubSide). IsConnKeptIf l h S d s k.joined) (sym e) p.joined;
 }
 
@@ -144,13 +144,13 @@ pub record QuietChange (t u : KeptWorld) (l : ℕ) (f : Link → Link) (kept aft
   pub same_side : (x : Link) → (f x).side ≡ x.side
 
 -- the link that stands where one is kept
-pub link_there : (t : KeptWorld) (F : List LinkName) (b : Option ℕ) (w : World) (l : ℕ) (kept : KeptLink) → StandsAs t F b w → slice_get t.links.items l ≡ Some kept → (link : Link) × (link_at w l ≡ Some link) × IsLinkKept link kept
+pub link_there : (t : KeptWorld) (F : List LinkName) (b : Option ℕ) (w : World) (l : ℕ) (kept : KeptLink) → WorldKeptAs t F b w → slice_get t.links.items l ≡ Some kept → (link : Link) × (link_at w l ≡ Some link) × IsLinkKept link kept
 link_there t F b w l kept s was =
     let got = got-beside t.links.items w.links l kept (sym s.link_count) was in
     let at : IsLinkAt t l got.0 = s.links l got.0 got.1 in
     (got.0, got.1, subst (IsLinkKept got.0) (some_same at.kept kept (sym at.there ∙ was)) at.link_kept)
 
-pub quiet_change : (t u : KeptWorld) (F : List LinkName) (b : Option ℕ) (w : World) (l : ℕ) (f : Link → Link) (kept after : KeptLink) → QuietChange t u l f kept after → StandsAs t F b w
+pub quiet_change : (t u : KeptWorld) (F : List LinkName) (b : Option ℕ) (w : World) (l : ℕ) (f : Link → Link) (kept after : KeptLink) → QuietChange t u l f kept after → WorldKeptAs t F b w
     → (link : Link) → link_at w l ≡ Some link → IsLinkKept (f link) after → Became t u F b w (with_link l f w)
 quiet_change t u F b w l f kept after q s link here is =
     let change : LinkChange t u w l f link kept after = record {
@@ -216,7 +216,7 @@ put_now_goes t u l way content p = λ b F w at s. subst (λ (n : ℕ). Became t 
 -- ---- what is taken, and what is lost
 
 pub front_taken : (t u : KeptWorld) (l : ℕ) (way : Way) (taken : Option Parcel) (kept after : KeptLink) → slice_get t.links.items l ≡ Some kept → u.clock ≡ t.clock → u.spent ≡ t.spent → u.made ≡ t.made → u.hubs.items ≡ t.hubs.items → u.nodes.items ≡ t.nodes.items → u.links.items ≡ set t.links.items l after
-    → TakesFront way kept taken after → (F : List LinkName) (w : World) (link : Link) → StandsAs t F None w → link_at w l ≡ Some link → link.is_lost ≡ false
+    → TakesFront way kept taken after → (F : List LinkName) (w : World) (link : Link) → WorldKeptAs t F None w → link_at w l ≡ Some link → link.is_lost ≡ false
     → (taken ≡ front (traffic way link)) × Became t u F None w (with_link l (with_traffic way (front_gone taken)) w)
 front_taken t u l way taken kept after was clock spent made hubs nodes links p F w link s here lasts =
     let there = link_there t F None w l kept s was in
@@ -236,5 +236,5 @@ marks_lost t u l kept after was clock spent made hubs nodes links p = λ b F w a
     (record { was = was; clock = clock; spent = spent; made = made; hubs = hubs; nodes = nodes; links = links; side = p.side; same_ends = λ x. refl; same_side = λ x. refl })
     s there.0 there.1 (marked_kept there.0 kept after there.2 p))
 
-pub no_link_there : (t : KeptWorld) (F : List LinkName) (b : Option ℕ) (w : World) (l : ℕ) (f : Link → Link) → length t.links.items ≤ l → StandsAs t F b w → with_link l f w ≡ w
+pub no_link_there : (t : KeptWorld) (F : List LinkName) (b : Option ℕ) (w : World) (l : ℕ) (f : Link → Link) → length t.links.items ≤ l → WorldKeptAs t F b w → with_link l f w ≡ w
 no_link_there t F b w l f past s = ap (λ xs. record w { links = xs }) (changed_past l f w.links (subst (λ n. n ≤ l) s.link_count past))

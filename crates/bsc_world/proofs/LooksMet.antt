@@ -15,7 +15,7 @@ use Rattle.bsc_history.proofs.Lists.{In, any_In, any_gives}
 use Rattle.bsc_history.proofs.More.{unleft-same}
 use Rattle.bsc_desk.specs.Entries.{plain}
 use Rattle.bsc_desk.specs.Rows.{HasRow, IsRowBy}
-use Rattle.bsc_desk.specs.Standing.{StandsFor as DeskStandsFor}
+use Rattle.bsc_desk.specs.Standing.{DeskStands}
 use Rattle.bsc_desk.proofs.LiveRows.{owns}
 use Rattle.bsc_desk.proofs.Rowed.{has_unleft}
 use Rattle.bsc_script.proofs.Pairs.{In-at}
@@ -44,8 +44,8 @@ module _ (t u : KeptWorld) (w : World) (j : ℕ) (h : Hub) (a : IsHubAt t w j h)
   legal : Legal h.about (history h)
   legal = legal_at j h a.marks a.kept a.hub
 
-  stands : DeskStandsFor kept.desk marks_then
-  stands = subst (λ (y : KeptHub). DeskStandsFor y.desk marks_then) (some_same g.kept kept (sym g.there ∙ there)) g.hub.desk
+  stands : DeskStands kept.desk marks_then
+  stands = subst (λ (y : KeptHub). DeskStands y.desk marks_then) (some_same g.kept kept (sym g.there ∙ there)) g.hub.desk
 
   looks : is_among conn (looked_at passing) ≡ true
   looks = any_In (λ (c : ℕ). c == conn) conn (looked_at passing) (In-at (looked_at passing) i conn at) (eq-eqb conn conn refl)

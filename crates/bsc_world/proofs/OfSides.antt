@@ -11,7 +11,7 @@ use Rattle.bsc_network.specs.Changes.{Change, by_target, of_hub, unchanged, with
 use Rattle.bsc_network.specs.HubSides.{of_side, unless_over}
 use Rattle.bsc_world.specs.Sides.{IsSideOf}
 use Rattle.bsc_world.specs.Kept.{IsLinkKept, IsSideKeptIf}
-use Rattle.bsc_world.specs.Standing.{IsHubAt, StandsAs}
+use Rattle.bsc_world.specs.Standing.{IsHubAt, WorldKeptAs}
 use Rattle.bsc_world.proofs.LinkWays.{link_there}
 use Rattle.bsc_lemmas.proofs.Lists.{got-at}
 
@@ -60,7 +60,7 @@ pub record SideAt (t : KeptWorld) (w : World) (l j : ℕ) (kept : KeptLink) : Ty
   pub link_kept : IsLinkKept link kept
   pub side : IsSideKeptIf l hub at.marks at.kept.desk link kept.side
 
-pub side_at : (t : KeptWorld) (F : List LinkName) (b : Option ℕ) (w : World) (l j : ℕ) (kept : KeptLink) → StandsAs t F b w → slice_get t.links.items l ≡ Some kept → kept.to ≡ ToHub j → SideAt t w l j kept
+pub side_at : (t : KeptWorld) (F : List LinkName) (b : Option ℕ) (w : World) (l j : ℕ) (kept : KeptLink) → WorldKeptAs t F b w → slice_get t.links.items l ≡ Some kept → kept.to ≡ ToHub j → SideAt t w l j kept
 side_at t F b w l j kept s was to =
     let x = link_there t F b w l kept s was in
     let leads : x.0.to ≡ ToHub j = sym x.2.to ∙ to in
@@ -78,5 +78,5 @@ side_at t F b w l j kept s was to =
     }
 
 -- there is no link where none is kept
-pub no_link_at : (t : KeptWorld) (F : List LinkName) (b : Option ℕ) (w : World) (l : ℕ) → StandsAs t F b w → length t.links.items ≤ l → link_at w l ≡ None
+pub no_link_at : (t : KeptWorld) (F : List LinkName) (b : Option ℕ) (w : World) (l : ℕ) → WorldKeptAs t F b w → length t.links.items ≤ l → link_at w l ≡ None
 no_link_at t F b w l s past = slice_get_past w.links l (subst (λ n. n ≤ l) s.link_count past)

@@ -11,7 +11,7 @@ use Rattle.bsc_world.specs.declared.world.World.{World as KeptWorld}
 use Rattle.bsc_network.specs.Worlds.{World, Hub, Link, hub_at, link_at}
 use Rattle.bsc_network.specs.Changes.{changed_at}
 use Rattle.bsc_world.specs.Kept.{IsWayKept, IsCalm, IsSideKeptIf}
-use Rattle.bsc_world.specs.Standing.{IsHubAt, IsLinkAt, AreReadyBut, StandsAs}
+use Rattle.bsc_world.specs.Standing.{IsHubAt, IsLinkAt, AreReadyBut, WorldKeptAs}
 use Rattle.bsc_network.proofs.Places.{one_or_two, get-changed, get-other, got-beside, length-changed}
 use Rattle.bsc_network.proofs.Common.{same_hub as target_same}
 use Rattle.std.proofs.lemmas.Option.{same_Some as some_same}
@@ -61,7 +61,7 @@ pub record HubChange (t u : KeptWorld) (w v : World) (j : ℕ) (g : Hub → Hub)
   pub links_at : (m : ℕ) (x after : Link) → link_at w m ≡ Some x → link_at v m ≡ Some after → SameLink j x after
   pub hub : (h : Hub) → hub_at w j ≡ Some h → IsHubAt u v j (g h)
 
-module _ (t u : KeptWorld) (F : List LinkName) (b c : Option ℕ) (w v : World) (j : ℕ) (g : Hub → Hub) (ch : HubChange t u w v j g) (s : StandsAs t F b w) where
+module _ (t u : KeptWorld) (F : List LinkName) (b c : Option ℕ) (w v : World) (j : ℕ) (g : Hub → Hub) (ch : HubChange t u w v j g) (s : WorldKeptAs t F b w) where
   -- the link and what is kept of it, before and after
 
   link_before : (m : ℕ) (x : Link) → link_at v m ≡ Some x → (y : Link) × (link_at w m ≡ Some y) × SameLink j y x
@@ -130,7 +130,7 @@ module _ (t u : KeptWorld) (F : List LinkName) (b c : Option ℕ) (w v : World) 
       }
 
   -- All else is as it was.
-  pub hub_changed : AreReadyBut c u → StandsAs u F c v
+  pub hub_changed : AreReadyBut c u → WorldKeptAs u F c v
   hub_changed ready = record {
     steps = ch.made ∙ s.steps ∙ sym ch.steps;
     untold = ch.failed ∙ s.untold;

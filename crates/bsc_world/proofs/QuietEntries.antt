@@ -17,7 +17,7 @@ use Rattle.bsc_history.proofs.Numbers.{numbers_are_new}
 use Rattle.bsc_ring.specs.Ends.{given}
 use Rattle.bsc_desk.specs.declared.desk.Desk.{Desk}
 use Rattle.bsc_desk.specs.Rows.{known_of}
-use Rattle.bsc_desk.specs.Standing.{StandsFor as DeskStandsFor}
+use Rattle.bsc_desk.specs.Standing.{DeskStands}
 use Rattle.bsc_script.proofs.Entered.{newest_lawful}
 use Rattle.bsc_world.specs.declared.kept_hub.KeptHub.{KeptHub}
 use Rattle.bsc_world.specs.declared.kept_link.KeptConn.{KeptConn}
@@ -63,7 +63,7 @@ one_owner a H l m c legal p q =
 pub legal_at : (j : ℕ) (h : Hub) (S : List Stamped) (kept : KeptHub) → IsHubKept j h S kept → Legal h.about (history h)
 legal_at j h S kept k = subst (λ a. Legal a (history h)) k.about (subst (Legal kept.desk.about) k.calls k.desk.legal)
 
-pub lawful_at : (j : ℕ) (h : Hub) (S : List Stamped) (kept : KeptHub) (n : Desk) (x : Stamped) → IsHubKept j h S kept → n.about ≡ kept.desk.about → DeskStandsFor n (S ++ x ∷ []) → Lawful h.about (moment (history h) x.entry)
+pub lawful_at : (j : ℕ) (h : Hub) (S : List Stamped) (kept : KeptHub) (n : Desk) (x : Stamped) → IsHubKept j h S kept → n.about ≡ kept.desk.about → DeskStands n (S ++ x ∷ []) → Lawful h.about (moment (history h) x.entry)
 lawful_at j h S kept n x k about stands = subst (λ a. Lawful a (moment (history h) x.entry)) k.about (subst (λ H. Lawful kept.desk.about (moment H x.entry)) k.calls (newest_lawful kept.desk n S x about stands))
 
 -- The hub is kept with an entry more.

@@ -30,7 +30,7 @@ use Rattle.bsc_network.specs.HubSides.{start}
 use Rattle.bsc_network.specs.Refusals.{has_front, has_outbox, is_own, is_timely, leads_to_hub, refuses_event, refuses_link, refuses_stop, unless}
 use Rattle.bsc_world.specs.Kept.{IsWayKept, IsLinkKept, IsNodeKept, IsConnKeptIf, IsSideKeptIf, takes_in}
 use Rattle.bsc_world.specs.Puts.{waiting}
-use Rattle.bsc_world.specs.Standing.{StandsAs}
+use Rattle.bsc_world.specs.Standing.{WorldKeptAs}
 use Rattle.bsc_network.proofs.Places.{got-beside}
 use Rattle.bsc_world.proofs.Ends.{node_there, no_node_there}
 use Rattle.bsc_world.proofs.LinkWays.{link_there}
@@ -39,35 +39,35 @@ use Rattle.std.proofs.lemmas.Option.{same_Some as some_same}
 
 -- ---- an event
 
-pub no_node : (t : KeptWorld) (F : List LinkName) (b : Option ℕ) (w : World) (k : ℕ) (e : NodeEvent) → length t.nodes.items ≤ k → StandsAs t F b w → Some NoNode ≡ refuses_event e (node_at w k)
+pub no_node : (t : KeptWorld) (F : List LinkName) (b : Option ℕ) (w : World) (k : ℕ) (e : NodeEvent) → length t.nodes.items ≤ k → WorldKeptAs t F b w → Some NoNode ≡ refuses_event e (node_at w k)
 no_node t F b w k e past s = sym (ap (refuses_event e) (no_node_there t F b w k past s))
 
-pub event_refused : (t : KeptWorld) (F : List LinkName) (b : Option ℕ) (w : World) (k : ℕ) (e : NodeEvent) (kept : KeptNode) (r : Option StepRefusal) → slice_get t.nodes.items k ≡ Some kept → ((n : Node) → IsNodeKept n kept → r ≡ unless (is_own e && is_timely n e) NotNow) → StandsAs t F b w → r ≡ refuses_event e (node_at w k)
+pub event_refused : (t : KeptWorld) (F : List LinkName) (b : Option ℕ) (w : World) (k : ℕ) (e : NodeEvent) (kept : KeptNode) (r : Option StepRefusal) → slice_get t.nodes.items k ≡ Some kept → ((n : Node) → IsNodeKept n kept → r ≡ unless (is_own e && is_timely n e) NotNow) → WorldKeptAs t F b w → r ≡ refuses_event e (node_at w k)
 event_refused t F b w k e kept r was is s =
     let there = node_there t F b w k kept s was in
     is there.0 there.2 ∙ sym (ap (refuses_event e) there.1)
 
 -- ---- a link
 
-pub no_link : (t : KeptWorld) (F : List LinkName) (b : Option ℕ) (w : World) (l : ℕ) (has : Link → Bool) → length t.links.items ≤ l → StandsAs t F b w → Some NoLink ≡ refuses_link has (link_at w l)
+pub no_link : (t : KeptWorld) (F : List LinkName) (b : Option ℕ) (w : World) (l : ℕ) (has : Link → Bool) → length t.links.items ≤ l → WorldKeptAs t F b w → Some NoLink ≡ refuses_link has (link_at w l)
 no_link t F b w l has past s = sym (ap (refuses_link has) (gone w.links l (subst (λ n. n ≤ l) s.link_count past)))
 
 -- a link that is lost
-pub lost_refused : (t : KeptWorld) (F : List LinkName) (b : Option ℕ) (w : World) (l : ℕ) (has : Link → Bool) (kept : KeptLink) → slice_get t.links.items l ≡ Some kept → kept.is_lost ≡ true → StandsAs t F b w → Some NoLink ≡ refuses_link has (link_at w l)
+pub lost_refused : (t : KeptWorld) (F : List LinkName) (b : Option ℕ) (w : World) (l : ℕ) (has : Link → Bool) (kept : KeptLink) → slice_get t.links.items l ≡ Some kept → kept.is_lost ≡ true → WorldKeptAs t F b w → Some NoLink ≡ refuses_link has (link_at w l)
 lost_refused t F b w l has kept was lost s =
     let there = link_there t F b w l kept s was in
     let is : there.0.is_lost ≡ true = sym there.2.lost ∙ lost in
     sym (ap (refuses_link has) there.1 ∙ ap (λ c. if c then Some NoLink else unless (has there.0) NothingThere) is)
 
 -- one that isn't
-pub lasting_refused : (t : KeptWorld) (F : List LinkName) (b : Option ℕ) (w : World) (l : ℕ) (has : Link → Bool) (kept : KeptLink) (it : Bool) → slice_get t.links.items l ≡ Some kept → kept.is_lost ≡ false → ((link : Link) → link_at w l ≡ Some link → IsLinkKept link kept → it ≡ has link) → StandsAs t F b w → unless it NothingThere ≡ refuses_link has (link_at w l)
+pub lasting_refused : (t : KeptWorld) (F : List LinkName) (b : Option ℕ) (w : World) (l : ℕ) (has : Link → Bool) (kept : KeptLink) (it : Bool) → slice_get t.links.items l ≡ Some kept → kept.is_lost ≡ false → ((link : Link) → link_at w l ≡ Some link → IsLinkKept link kept → it ≡ has link) → WorldKeptAs t F b w → unless it NothingThere ≡ refuses_link has (link_at w l)
 lasting_refused t F b w l has kept it was lasts is s =
     let there = link_there t F b w l kept s was in
     let still : there.0.is_lost ≡ false = sym there.2.lost ∙ lasts in
     ap (λ c. unless c NothingThere) (is there.0 there.1 there.2) ∙ sym (ap (refuses_link has) there.1 ∙ ap (λ c. if c then Some NoLink else unless (has there.0) NothingThere) still)
 
 -- a link that is there, lost or not
-pub link_refused : (t : KeptWorld) (F : List LinkName) (b : Option ℕ) (w : World) (l : ℕ) (has : Link → Bool) (kept : KeptLink) (it : Bool) → slice_get t.links.items l ≡ Some kept → (kept.is_lost ≡ false → (link : Link) → link_at w l ≡ Some link → IsLinkKept link kept → it ≡ has link) → StandsAs t F b w
+pub link_refused : (t : KeptWorld) (F : List LinkName) (b : Option ℕ) (w : World) (l : ℕ) (has : Link → Bool) (kept : KeptLink) (it : Bool) → slice_get t.links.items l ≡ Some kept → (kept.is_lost ≡ false → (link : Link) → link_at w l ≡ Some link → IsLinkKept link kept → it ≡ has link) → WorldKeptAs t F b w
     → (if kept.is_lost then Some NoLink else unless it NothingThere) ≡ refuses_link has (link_at w l)
 link_refused t F b w l has kept it was is s = by kept.is_lost refl
   where
@@ -103,7 +103,7 @@ both_and : (b : Bool) → (b && not false) ≡ b
 both_and true = refl
 both_and false = refl
 
-takes_kept : (t : KeptWorld) (F : List LinkName) (w : World) (l : ℕ) (h : Hub) (S : List Stamped) (d : Desk) (link : Link) (kept : KeptLink) (o : Option KeptSide) → StandsAs t F None w → slice_get t.links.items l ≡ Some kept → kept.side ≡ o → IsSideKeptIf l h S d link o → takes_in o ≡ may_take link.side
+takes_kept : (t : KeptWorld) (F : List LinkName) (w : World) (l : ℕ) (h : Hub) (S : List Stamped) (d : Desk) (link : Link) (kept : KeptLink) (o : Option KeptSide) → WorldKeptAs t F None w → slice_get t.links.items l ≡ Some kept → kept.side ≡ o → IsSideKeptIf l h S d link o → takes_in o ≡ may_take link.side
 takes_kept t F w l h S d link kept None s was is k =
     sym (ap (λ b. is_some link.side.conn && is_connected (phase link.side.events) && not b) k ∙ none_left (is_some link.side.conn) (is_connected (phase link.side.events)))
 takes_kept t F w l h S d link kept (Some side) s was is k =
@@ -113,7 +113,7 @@ takes_kept t F w l h S d link kept (Some side) s was is k =
     ∙ ap (λ p. is_some link.side.conn && is_connected p) phase_is
     ∙ sym (ap (λ b. is_some link.side.conn && is_connected (phase link.side.events) && not b) k.lasts ∙ both_and (is_some link.side.conn && is_connected (phase link.side.events)))
 
-pub outbox_kept : (t : KeptWorld) (F : List LinkName) (w : World) (l : ℕ) (link : Link) (kept : KeptLink) → StandsAs t F None w → slice_get t.links.items l ≡ Some kept → link_at w l ≡ Some link → IsLinkKept link kept → (leads_to_hub kept.to && takes_in kept.side) ≡ has_outbox link
+pub outbox_kept : (t : KeptWorld) (F : List LinkName) (w : World) (l : ℕ) (link : Link) (kept : KeptLink) → WorldKeptAs t F None w → slice_get t.links.items l ≡ Some kept → link_at w l ≡ Some link → IsLinkKept link kept → (leads_to_hub kept.to && takes_in kept.side) ≡ has_outbox link
 outbox_kept t F w l link kept s was here k = by link.to refl
   where
     within_got : {A : Type 0} (xs : List A) (i : ℕ) → i < length xs → (x : A) × (slice_get xs i ≡ Some x)
@@ -133,10 +133,10 @@ outbox_kept t F w l link kept s was here k = by link.to refl
 
 -- ---- a hub
 
-pub no_hub : (t : KeptWorld) (F : List LinkName) (b : Option ℕ) (w : World) (j : ℕ) → length t.hubs.items ≤ j → StandsAs t F b w → Some NoHub ≡ refuses_stop (hub_at w j)
+pub no_hub : (t : KeptWorld) (F : List LinkName) (b : Option ℕ) (w : World) (j : ℕ) → length t.hubs.items ≤ j → WorldKeptAs t F b w → Some NoHub ≡ refuses_stop (hub_at w j)
 no_hub t F b w j past s = sym (ap refuses_stop (gone w.hubs j (subst (λ n. n ≤ j) s.hub_count past)))
 
-pub stop_refused : (t : KeptWorld) (F : List LinkName) (b : Option ℕ) (w : World) (j : ℕ) (kept : KeptHub) → slice_get t.hubs.items j ≡ Some kept → StandsAs t F b w → unless (not kept.has_stopped) AlreadyStopped ≡ refuses_stop (hub_at w j)
+pub stop_refused : (t : KeptWorld) (F : List LinkName) (b : Option ℕ) (w : World) (j : ℕ) (kept : KeptHub) → slice_get t.hubs.items j ≡ Some kept → WorldKeptAs t F b w → unless (not kept.has_stopped) AlreadyStopped ≡ refuses_stop (hub_at w j)
 stop_refused t F b w j kept was s =
     let there = got-beside t.hubs.items w.hubs j kept (sym s.hub_count) was in
     let a = s.hubs j there.0 there.1 in

@@ -17,7 +17,7 @@ use Rattle.bsc_accept.specs.declared.step.Step.TheVariants.{Ask, Put, PutClose, 
 use Rattle.bsc_accept.specs.Past.{Standing, connected, standing, phase_named}
 use Rattle.bsc_accept.specs.Kept.{moved}
 use Rattle.bsc_accept.specs.Steps.{step, closes as is_closing, ended_step, refused_step}
-use Rattle.bsc_accept.specs.Standing.{StandsFor as MachineStandsFor, IsConnected, LeftBy, is_open}
+use Rattle.bsc_accept.specs.Standing.{AcceptingStands, IsConnected, LeavesAccepting, is_open}
 use Rattle.bsc_accept.proofs.Looking.{standing-more}
 use Rattle.bsc_script.proofs.Outboxes.{open_phase}
 use Rattle.bsc_script.proofs.Settling.{connected_standing}
@@ -36,10 +36,10 @@ use Rattle.bsc_network.specs.Worlds.{World, Hub, HubSide, Link, hub_at, link_at}
 use Rattle.bsc_network.specs.Changes.{Change, by_target, in_order, of_hub, puts_at, puts_now, unchanged, with_found, with_link, with_traffic}
 use Rattle.bsc_network.specs.HubSides.{carries_out, closes, leaves, of_side, start, step_at, tells, told, unless_over}
 use Rattle.bsc_world.specs.Kept.{IsConnKeptIf, IsLinkKept, IsReady, IsSideKept, IsSideKeptIf}
-use Rattle.bsc_world.specs.Standing.{AreReadyBut, StandsAs}
+use Rattle.bsc_world.specs.Standing.{AreReadyBut, WorldKeptAs}
 use Rattle.bsc_world.specs.Becoming.{Became, BecomesBusy, HasSide, Keeps, Stands, ends}
 use Rattle.bsc_world.specs.Sides.{IsReadyBy, IsSideOf, KeepsSides}
-use Rattle.bsc_world.specs.SideCalls.{Finds, HasNoSession, HasSession, Tells, asks}
+use Rattle.bsc_world.specs.SideCalls.{Finds, HasNoSession, HasSession, MachineSteps, asks}
 use Rattle.bsc_network.proofs.Places.{get-changed, get-set_other}
 use Rattle.bsc_world.proofs.Spots.{LinkChange, link_changed}
 use Rattle.bsc_world.proofs.Goings.{at_clock, became_as, became_both, became_same, busy_more, goes_both, settles}
@@ -114,11 +114,11 @@ pub put_session : (w : World) (l j : ℕ) (h : Hub) (x : Link) (place : ℕ) (co
 put_session w l j h x place content p = (let f = with_traffic Down (and_then (record { content = content; sent_at = place })) in (j, h, f x, side_with w l j h x f p refl refl))
 
 -- there is none where no link is kept
-pub past_session : (t : KeptWorld) (l : ℕ) → length t.links.items ≤ l → (F : List LinkName) (b : Option ℕ) (w : World) → StandsAs t F b w → HasNoSession w l
+pub past_session : (t : KeptWorld) (l : ℕ) → length t.links.items ≤ l → (F : List LinkName) (b : Option ℕ) (w : World) → WorldKeptAs t F b w → HasNoSession w l
 past_session t l past F b w s j h x p = (let bad : None ≡ Some x = sym (no_link_at t F b w l s past) ∙ p.there in cc)
 
 -- nor where no side of a hub is kept
-pub alone_session : (t : KeptWorld) (l : ℕ) (kept : KeptLink) → slice_get t.links.items l ≡ Some kept → ((j : ℕ) → kept.to ≡ ToHub j → kept.side ≡ None) → (F : List LinkName) (b : Option ℕ) (w : World) → StandsAs t F b w → HasNoSession w l
+pub alone_session : (t : KeptWorld) (l : ℕ) (kept : KeptLink) → slice_get t.links.items l ≡ Some kept → ((j : ℕ) → kept.to ≡ ToHub j → kept.side ≡ None) → (F : List LinkName) (b : Option ℕ) (w : World) → WorldKeptAs t F b w → HasNoSession w l
 alone_session t l kept was none F b w s j h x p =
     let y = link_there t F b w l kept s was in
     let same : y.0 ≡ x = some_same y.0 x (sym y.1 ∙ p.there) in
@@ -127,7 +127,7 @@ alone_session t l kept was none F b w s j h x p =
     let over : x.side.is_over ≡ true = subst (IsSideKeptIf l h a.marks a.kept.desk x) (none j to) (a.sides l x kept p.there p.to was) in
     true≢false (sym over ∙ p.lasts)
 
-pub kept_session : (t : KeptWorld) (l j : ℕ) (kept : KeptLink) (side : KeptSide) → slice_get t.links.items l ≡ Some kept → kept.to ≡ ToHub j → kept.side ≡ Some side → (F : List LinkName) (b : Option ℕ) (w : World) → StandsAs t F b w → HasSession w l
+pub kept_session : (t : KeptWorld) (l j : ℕ) (kept : KeptLink) (side : KeptSide) → slice_get t.links.items l ≡ Some kept → kept.to ≡ ToHub j → kept.side ≡ Some side → (F : List LinkName) (b : Option ℕ) (w : World) → WorldKeptAs t F b w → HasSession w l
 kept_session t l j kept side was to is F b w s =
     let x = side_at t F b w l j kept s was to in
     let k : IsSideKept l x.hub x.at.marks x.at.kept.desk x.link side = subst (IsSideKeptIf l x.hub x.at.marks x.at.kept.desk x.link) is x.side in
@@ -156,7 +156,7 @@ put_close_goes t u v l octets p q = then_closes t u v l (Message octets) (closes
 
 -- ---- ready sides
 
-pub open_by : (s : Step) (m : Accepting) → LeftBy s m → is_closing s ≡ false → asks s ≡ false → is_open m.stage ≡ true
+pub open_by : (s : Step) (m : Accepting) → LeavesAccepting s m → is_closing s ≡ false → asks s ≡ false → is_open m.stage ≡ true
 open_by (Ask who) m h c a = absurd (true≢false a)
 open_by (Put octets) m h c a = h
 open_by (PutClose octets x) m h c a = absurd (true≢false c)
@@ -203,7 +203,7 @@ conn_told l h S d s events (Some c) k = record {
   places = k.places;
 }
 
-side_told : (l : ℕ) (h : Hub) (S : List Stamped) (d : Desk) (link : Link) (e : Event) (s : Step) (old new : KeptLink) → Tells s e old new → IsSideKeptIf l h S d link old.side → IsSideKeptIf l h S d (hears e link) new.side
+side_told : (l : ℕ) (h : Hub) (S : List Stamped) (d : Desk) (link : Link) (e : Event) (s : Step) (old new : KeptLink) → MachineSteps s e old new → IsSideKeptIf l h S d link old.side → IsSideKeptIf l h S d (hears e link) new.side
 side_told l h S d link e s old new p k =
     let was : IsSideKept l h S d link p.was = subst (IsSideKeptIf l h S d link) p.there k in
     let a = p.answers (start h link) link.side.events was.machine in
@@ -215,7 +215,7 @@ side_told l h S d link e s old new p k =
     let held : IsSideKeptIf l h S d (hears e link) (Some (record p.was { machine = p.machine })) = made in
     subst (λ (y : KeptLink). IsSideKeptIf l h S d (hears e link) y.side) (sym p.becomes) held
 
-told_kept : (link : Link) (e : Event) (s : Step) (old new : KeptLink) → Tells s e old new → IsLinkKept link old → IsLinkKept (hears e link) new
+told_kept : (link : Link) (e : Event) (s : Step) (old new : KeptLink) → MachineSteps s e old new → IsLinkKept link old → IsLinkKept (hears e link) new
 told_kept link e s old new p k =
     let made : IsLinkKept (hears e link) (record old { side = Some (record p.was { machine = p.machine }) }) = record {
       from = k.from;
@@ -238,7 +238,7 @@ pub record IsTold (t u : KeptWorld) (F : List LinkName) (w : World) (l : ℕ) (s
   pub is : s ≡ step_at h link e
   pub became : Became t u F (Some l) w (told l e w)
 
-pub is_told : (t u : KeptWorld) (F : List LinkName) (w : World) (l : ℕ) (kept after : KeptLink) (s : Step) (e : Event) → slice_get t.links.items l ≡ Some kept → OnLink t u l after → u.hubs.items ≡ t.hubs.items → Tells s e kept after → StandsAs t F (Some l) w → IsTold t u F w l s e
+pub is_told : (t u : KeptWorld) (F : List LinkName) (w : World) (l : ℕ) (kept after : KeptLink) (s : Step) (e : Event) → slice_get t.links.items l ≡ Some kept → OnLink t u l after → u.hubs.items ≡ t.hubs.items → MachineSteps s e kept after → WorldKeptAs t F (Some l) w → IsTold t u F w l s e
 is_told t u F w l kept after s e was o hubs p st =
     let x = side_at t F (Some l) w l p.hub kept st was p.to in
     let k : IsSideKept l x.hub x.at.marks x.at.kept.desk x.link p.was = subst (IsSideKeptIf l x.hub x.at.marks x.at.kept.desk x.link) p.there x.side in
@@ -273,7 +273,7 @@ is_told t u F w l kept after s e was o hubs p st =
       };
     }
 
-pub told_side : (P : KeptSide → Type 0) (t : KeptWorld) (l : ℕ) (kept after : KeptLink) (s : Step) (e : Event) → slice_get t.links.items l ≡ Some kept → (p : Tells s e kept after) → P (record p.was { machine = p.machine })
+pub told_side : (P : KeptSide → Type 0) (t : KeptWorld) (l : ℕ) (kept after : KeptLink) (s : Step) (e : Event) → slice_get t.links.items l ≡ Some kept → (p : MachineSteps s e kept after) → P (record p.was { machine = p.machine })
     → (k : KeptLink) (side : KeptSide) → slice_get (set t.links.items l after) l ≡ Some k → k.side ≡ Some side → P side
 told_side P t l kept after s e was p holds k side got is =
     let new : KeptSide = record p.was { machine = p.machine } in
@@ -281,11 +281,11 @@ told_side P t l kept after s e was p holds k side got is =
     let side_is : side ≡ new = some_same side new (sym is ∙ ap (λ (y : KeptLink). y.side) (k_is ∙ p.becomes)) in
     subst P (sym side_is) holds
 
-pub told_stands : (t u : KeptWorld) (l : ℕ) (kept after : KeptLink) (s : Step) (e : Event) → slice_get t.links.items l ≡ Some kept → OnLink t u l after → u.hubs.items ≡ t.hubs.items → Tells s e kept after → Stands (Some l) t → Stands (Some l) u
+pub told_stands : (t u : KeptWorld) (l : ℕ) (kept after : KeptLink) (s : Step) (e : Event) → slice_get t.links.items l ≡ Some kept → OnLink t u l after → u.hubs.items ≡ t.hubs.items → MachineSteps s e kept after → Stands (Some l) t → Stands (Some l) u
 told_stands t u l kept after s e was o hubs p (F, w, at, st) = (let i = is_told t u F w l kept after s e was o hubs p st in (F, told l e w, at_clock t u F (Some l) w (told l e w) at i.became, i.became.stands))
 
 -- Its step is carried out.
-pub tells_goes : (t u v : KeptWorld) (l : ℕ) (kept after : KeptLink) (s : Step) (e : Event) → slice_get t.links.items l ≡ Some kept → OnLink t u l after → u.hubs.items ≡ t.hubs.items → Tells s e kept after → BecomesBusy (Some l) None (unless_over l (carries_out l s)) u v
+pub tells_goes : (t u v : KeptWorld) (l : ℕ) (kept after : KeptLink) (s : Step) (e : Event) → slice_get t.links.items l ≡ Some kept → OnLink t u l after → u.hubs.items ≡ t.hubs.items → MachineSteps s e kept after → BecomesBusy (Some l) None (unless_over l (carries_out l s)) u v
     → BecomesBusy (Some l) None (unless_over l (tells l e)) t v
 tells_goes t u v l kept after s e was o hubs p q F w at st =
     let i = is_told t u F w l kept after s e was o hubs p st in
@@ -304,14 +304,14 @@ set-same [] i x h = cc
 set-same (y ∷ xs) zero x h = ap (λ z. z ∷ xs) (sym (some_same y x h))
 set-same (y ∷ xs) (suc i) x h = ap (λ ys. y ∷ ys) (set-same xs i x h)
 
-pub same_after : (t u : KeptWorld) (l : ℕ) (kept after : KeptLink) → slice_get t.links.items l ≡ Some kept → OnLink t u l after → u.hubs.items ≡ t.hubs.items → after ≡ kept → (F : List LinkName) (b : Option ℕ) (w : World) → StandsAs t F b w → Became t u F b w w
+pub same_after : (t u : KeptWorld) (l : ℕ) (kept after : KeptLink) → slice_get t.links.items l ≡ Some kept → OnLink t u l after → u.hubs.items ≡ t.hubs.items → after ≡ kept → (F : List LinkName) (b : Option ℕ) (w : World) → WorldKeptAs t F b w → Became t u F b w w
 same_after t u l kept after was o hubs same F b w s = became_same t u F b w o.clock o.spent o.made hubs o.nodes (o.links ∙ ap (set t.links.items l) same ∙ set-same t.links.items l kept was) s
 
 pub same_stands : (t u : KeptWorld) (l : ℕ) (kept after : KeptLink) → slice_get t.links.items l ≡ Some kept → OnLink t u l after → u.hubs.items ≡ t.hubs.items → after ≡ kept → (b : Option ℕ) → Stands b t → Stands b u
 same_stands t u l kept after was o hubs same b (F, w, at, s) = (let p = same_after t u l kept after was o hubs same F b w s in (F, w, at ∙ sym o.clock, p.stands))
 
 -- the session isn't there, and is let go
-pub left_goes : (t u : KeptWorld) (l : ℕ) (change : Change) → ((F : List LinkName) (b : Option ℕ) (w : World) → StandsAs t F b w → HasNoSession w l) → BecomesBusy (Some l) None (unless_over l (leaves l)) t u → BecomesBusy (Some l) None (unless_over l change) t u
+pub left_goes : (t u : KeptWorld) (l : ℕ) (change : Change) → ((F : List LinkName) (b : Option ℕ) (w : World) → WorldKeptAs t F b w → HasNoSession w l) → BecomesBusy (Some l) None (unless_over l (leaves l)) t u → BecomesBusy (Some l) None (unless_over l change) t u
 left_goes t u l change none p F w at s =
     let n = none F (Some l) w s in
     became_as t u F None w (unless_over l (leaves l) w) (unless_over l change w) (unless_none w l (leaves l) n ∙ sym (unless_none w l change n)) (p F w at s)
@@ -326,15 +326,15 @@ same_left_goes t u v l change kept after was o hubs same none p F w at s =
 
 -- ---- which steps they are
 
-pub machine_told : (t : KeptWorld) (l : ℕ) (kept after : KeptLink) (s : Step) (e : Event) → slice_get t.links.items l ≡ Some kept → (p : Tells s e kept after) → Stands (Some l) t
-    → (i : Start) × (E : List Event) × MachineStandsFor p.was.machine i E × (s ≡ step i E e) × MachineStandsFor p.machine i (E ++ e ∷ [])
+pub machine_told : (t : KeptWorld) (l : ℕ) (kept after : KeptLink) (s : Step) (e : Event) → slice_get t.links.items l ≡ Some kept → (p : MachineSteps s e kept after) → Stands (Some l) t
+    → (i : Start) × (E : List Event) × AcceptingStands p.was.machine i E × (s ≡ step i E e) × AcceptingStands p.machine i (E ++ e ∷ [])
 machine_told t l kept after s e was p (F, w, at, st) =
     let x = side_at t F (Some l) w l p.hub kept st was p.to in
     let k : IsSideKept l x.hub x.at.marks x.at.kept.desk x.link p.was = subst (IsSideKeptIf l x.hub x.at.marks x.at.kept.desk x.link) p.there x.side in
     let a = p.answers (start x.hub x.link) x.link.side.events k.machine in
     (start x.hub x.link, x.link.side.events, k.machine, a.0, a.1)
 
-pub joined_ready : (t : KeptWorld) (l : ℕ) (kept after : KeptLink) (s : Step) → slice_get t.links.items l ≡ Some kept → (p : Tells s Joined kept after) → Stands (Some l) t → (asks s ≡ false) × IsReadyBy s (record p.was { machine = p.machine })
+pub joined_ready : (t : KeptWorld) (l : ℕ) (kept after : KeptLink) (s : Step) → slice_get t.links.items l ≡ Some kept → (p : MachineSteps s Joined kept after) → Stands (Some l) t → (asks s ≡ false) × IsReadyBy s (record p.was { machine = p.machine })
 joined_ready t l kept after s was p st =
     let x = machine_told t l kept after s Joined was p st in
     let no : asks s ≡ false = ap asks x.3 in (
@@ -350,7 +350,7 @@ refused_asks id (Duplicate holder) = refl
 refused_asks id (TableFull rows) = refl
 refused_asks id HubStopped = refl
 
-pub refused_ready : (t : KeptWorld) (l : ℕ) (kept after : KeptLink) (s : Step) (refusal : Refusal) → slice_get t.links.items l ≡ Some kept → (p : Tells s (Refused refusal) kept after) → Stands (Some l) t → p.was.joined ≡ None → (asks s ≡ false) × IsReadyBy s (record p.was { machine = p.machine })
+pub refused_ready : (t : KeptWorld) (l : ℕ) (kept after : KeptLink) (s : Step) (refusal : Refusal) → slice_get t.links.items l ≡ Some kept → (p : MachineSteps s (Refused refusal) kept after) → Stands (Some l) t → p.was.joined ≡ None → (asks s ≡ false) × IsReadyBy s (record p.was { machine = p.machine })
 refused_ready t l kept after s refusal was p st alone =
     let x = machine_told t l kept after s (Refused refusal) was p st in (
       ap asks x.3 ∙ refused_asks _ refusal,
@@ -369,7 +369,7 @@ parted now Replaced c l e = cc
 parted now Full c l e = true≢false c
 parted now Stopped c l e = cc
 
-pub ended_ready : (t : KeptWorld) (l : ℕ) (kept after : KeptLink) (s : Step) (now : ℕ) (ending : End) → slice_get t.links.items l ≡ Some kept → (p : Tells s (Ended now ending) kept after) → Stands (Some l) t → IsConnected p.was.machine → ending ≢ Left → (asks s ≡ false) × IsReadyBy s (record p.was { machine = p.machine })
+pub ended_ready : (t : KeptWorld) (l : ℕ) (kept after : KeptLink) (s : Step) (now : ℕ) (ending : End) → slice_get t.links.items l ≡ Some kept → (p : MachineSteps s (Ended now ending) kept after) → Stands (Some l) t → IsConnected p.was.machine → ending ≢ Left → (asks s ≡ false) × IsReadyBy s (record p.was { machine = p.machine })
 ended_ready t l kept after s now ending was p st at named =
     let e = Ended now ending in
     let x = machine_told t l kept after s e was p st in
@@ -386,5 +386,5 @@ ended_ready t l kept after s now ending was p st at named =
 pub busy_stands : (t : KeptWorld) (l : ℕ) → Stands None t → Stands (Some l) t
 busy_stands t l (F, w, at, s) = (F, w, at, busy_more t F l w s)
 
-pub ended_goes : (t v : KeptWorld) (l : ℕ) (ending : End) → BecomesBusy (Some l) None (unless_over l (tells l (Ended t.clock ending))) t v → (F : List LinkName) (w : World) → w.now ≡ t.clock → StandsAs t F None w → Became t v F None w (unless_over l (tells l (Ended w.now ending)) w)
+pub ended_goes : (t v : KeptWorld) (l : ℕ) (ending : End) → BecomesBusy (Some l) None (unless_over l (tells l (Ended t.clock ending))) t v → (F : List LinkName) (w : World) → w.now ≡ t.clock → WorldKeptAs t F None w → Became t v F None w (unless_over l (tells l (Ended w.now ending)) w)
 ended_goes t v l ending p F w at s = subst (λ (n : ℕ). Became t v F None w (unless_over l (tells l (Ended n ending)) w)) (sym at) (p F w at (busy_more t F l w s))

@@ -15,7 +15,7 @@ use Rattle.bsc_accept.specs.declared.step.Step.{Step}
 use Rattle.bsc_accept.specs.declared.step.Step.TheVariants.{Ask, Put, PutClose, Up, Close, Nothing}
 use Rattle.bsc_accept.specs.Past.{Standing, awaiting_request, standing, phase, phase_named}
 use Rattle.bsc_accept.specs.Steps.{message_step}
-use Rattle.bsc_accept.specs.Standing.{StandsFor as MachineStandsFor, IsOpen, IsOver, phase_of, is_open}
+use Rattle.bsc_accept.specs.Standing.{AcceptingStands, IsOpen, IsOver, phase_of, is_open}
 use Rattle.bsc_checks.specs.Outcomes.{outcome_of}
 use Rattle.bsc_script.proofs.Judging.{routed, asking_node, other_vmac}
 use Rattle.bsc_script.proofs.Outboxes.{open_phase}
@@ -31,10 +31,10 @@ use Rattle.bsc_network.specs.Worlds.{World, Link}
 use Rattle.bsc_network.specs.Changes.{Change, in_order}
 use Rattle.bsc_network.specs.HubSides.{acts_on, carries_out, hears as hears_at, receives, start, step_at, told, unless_over, verdict_on}
 use Rattle.bsc_world.specs.Kept.{IsReady, IsSideKept, IsSideKeptIf}
-use Rattle.bsc_world.specs.Standing.{StandsAs}
+use Rattle.bsc_world.specs.Standing.{WorldKeptAs}
 use Rattle.bsc_world.specs.Becoming.{Became, Becomes, BecomesBusy, HasSide, Stands}
 use Rattle.bsc_world.specs.Sides.{Heard, IsReadyBy, IsSideOf}
-use Rattle.bsc_world.specs.SideCalls.{HasMachine, HasNoSession, Hears, IsFor, IsPort, IsReadyFor, Tells, asks}
+use Rattle.bsc_world.specs.SideCalls.{HasMachine, HasNoSession, IsForMessage, IsPort, IsReadyFor, MachineHears, MachineSteps, asks}
 use Rattle.bsc_world.proofs.Goings.{at_clock, became_as, became_both, became_same, busy_more, settles}
 use Rattle.bsc_world.proofs.OfSides.{of_side_is, side_at, unless_over_is}
 use Rattle.bsc_world.proofs.LeaveCalls.{OnLink}
@@ -52,7 +52,7 @@ alone None none = refl
 alone (Some j) none = absurd (none j refl)
 
 -- what is known of a step
-fits_message : (m : List ℕ) (p : Phase) (max : ℕ) (g : Standing) (v : Verdict) (s : Step) → Judged m (HubPort p) max v → s ≡ message_step g v → IsFor m s
+fits_message : (m : List ℕ) (p : Phase) (max : ℕ) (g : Standing) (v : Verdict) (s : Step) → Judged m (HubPort p) max v → s ≡ message_step g v → IsForMessage m s
 fits_message m p max g v (Ask who) judged is =
     let a = asks_by g v who is in
     let node = asking_node m p max a.0 who (subst (Judged m (HubPort p) max) a.1 judged) a.3 in
@@ -72,7 +72,7 @@ asked_or_not g v (Close c) is = inl refl
 asked_or_not g v Nothing is = inl refl
 
 -- The machine was told a message: its step is to be carried out.
-message_ready : (t : KeptWorld) (l : ℕ) (kept after : KeptLink) (s : Step) (now : ℕ) (v : Verdict) → slice_get t.links.items l ≡ Some kept → (y : Tells s (Came now v) kept after) → Stands None t → IsReadyFor s (record y.was { machine = y.machine })
+message_ready : (t : KeptWorld) (l : ℕ) (kept after : KeptLink) (s : Step) (now : ℕ) (v : Verdict) → slice_get t.links.items l ≡ Some kept → (y : MachineSteps s (Came now v) kept after) → Stands None t → IsReadyFor s (record y.was { machine = y.machine })
 message_ready t l kept after s now v was y (F, w, at, st) =
     let e = Came now v in
     let x = machine_told t l kept after s e was y (busy_stands t l (F, w, at, st)) in
@@ -92,7 +92,7 @@ message_ready t l kept after s now v was y (F, w, at, st) =
       ],
     )
 
-message_for : (t : KeptWorld) (l : ℕ) (kept after : KeptLink) (s : Step) (now : ℕ) (m : List ℕ) (p : Phase) (max : ℕ) (v : Verdict) → slice_get t.links.items l ≡ Some kept → Tells s (Came now v) kept after → Stands None t → Judged m (HubPort p) max v → IsFor m s
+message_for : (t : KeptWorld) (l : ℕ) (kept after : KeptLink) (s : Step) (now : ℕ) (m : List ℕ) (p : Phase) (max : ℕ) (v : Verdict) → slice_get t.links.items l ≡ Some kept → MachineSteps s (Came now v) kept after → Stands None t → Judged m (HubPort p) max v → IsForMessage m s
 message_for t l kept after s now m p max v was y st judged = (let x = machine_told t l kept after s (Came now v) was y (busy_stands t l st) in fits_message m p max (standing x.1) v s judged x.3)
 
 -- the machine of a side hears messages
@@ -102,7 +102,7 @@ open_machine t l kept was (F, w, at, st) side is = (st.ready l kept side (λ q. 
 -- ---- where it is judged
 
 pub port_at : (t : KeptWorld) (F : List LinkName) (w : World) (l j : ℕ) (kept : KeptLink) (side : KeptSide) (hub : KeptHub) (p : Phase) → slice_get t.links.items l ≡ Some kept → kept.to ≡ ToHub j → kept.side ≡ Some side → slice_get t.hubs.items j ≡ Some hub
-    → ((i : Start) (E : List Event) → MachineStandsFor side.machine i E → ¬ IsOver side.machine → p ≡ phase E) → StandsAs t F None w → IsPort w l p hub.about.hub.max_bvlc
+    → ((i : Start) (E : List Event) → AcceptingStands side.machine i E → ¬ IsOver side.machine → p ≡ phase E) → WorldKeptAs t F None w → IsPort w l p hub.about.hub.max_bvlc
 port_at t F w l j kept side hub p was to is there told_so s =
     let x = side_at t F None w l j kept s was to in
     let k : IsSideKept l x.hub x.at.marks x.at.kept.desk x.link side = subst (IsSideKeptIf l x.hub x.at.marks x.at.kept.desk x.link) is x.side in
@@ -121,8 +121,8 @@ port_at t F w l j kept side hub p was to is there told_so s =
 pub verdict_there : (w : World) (l : ℕ) (p : Phase) (max : ℕ) (m : List ℕ) (v : Verdict) (a : IsPort w l p max) → v ≡ outcome_of m (HubPort p) max → v ≡ verdict_on a.h a.link m
 verdict_there w l p max m v a is = is ∙ ap (λ q. outcome_of m (HubPort q) max) a.at ∙ ap (λ n. outcome_of m (HubPort (phase a.link.side.events)) n) a.most
 
-pub heard_some : (t u : KeptWorld) (F : List LinkName) (w : World) (l : ℕ) (kept after : KeptLink) (s : Step) (m : List ℕ) (p : Phase) (max : ℕ) (v : Verdict) → slice_get t.links.items l ≡ Some kept → OnLink t u l after → u.hubs.items ≡ t.hubs.items → Tells s (Came t.clock v) kept after
-    → w.now ≡ t.clock → StandsAs t F None w → IsPort w l p max → v ≡ outcome_of m (HubPort p) max → Heard (Some s) l m t u F w
+pub heard_some : (t u : KeptWorld) (F : List LinkName) (w : World) (l : ℕ) (kept after : KeptLink) (s : Step) (m : List ℕ) (p : Phase) (max : ℕ) (v : Verdict) → slice_get t.links.items l ≡ Some kept → OnLink t u l after → u.hubs.items ≡ t.hubs.items → MachineSteps s (Came t.clock v) kept after
+    → w.now ≡ t.clock → WorldKeptAs t F None w → IsPort w l p max → v ≡ outcome_of m (HubPort p) max → Heard (Some s) l m t u F w
 heard_some t u F w l kept after s m p max v was o hubs y at st port is =
     let i = is_told t u F w l kept after s (Came t.clock v) was o hubs y (busy_more t F l w st) in
     let link_is : port.link ≡ i.link = some_same port.link i.link (sym port.side.there ∙ i.side.there) in
@@ -137,27 +137,27 @@ heard_some t u F w l kept after s m p max v was o hubs y at st port is =
 
 -- ---- what is heard
 
-pub heard : (t u : KeptWorld) (l : ℕ) (kept after : KeptLink) (o : Option Step) (m : List ℕ) (p : Phase) (max : ℕ) (v : Verdict) → slice_get t.links.items l ≡ Some kept → OnLink t u l after → u.hubs.items ≡ t.hubs.items → Hears o (Came t.clock v) kept after
-    → ((F : List LinkName) (w : World) → StandsAs t F None w → IsPort w l p max) → v ≡ outcome_of m (HubPort p) max → (F : List LinkName) (w : World) → w.now ≡ t.clock → StandsAs t F None w → Heard o l m t u F w
+pub heard : (t u : KeptWorld) (l : ℕ) (kept after : KeptLink) (o : Option Step) (m : List ℕ) (p : Phase) (max : ℕ) (v : Verdict) → slice_get t.links.items l ≡ Some kept → OnLink t u l after → u.hubs.items ≡ t.hubs.items → MachineHears o (Came t.clock v) kept after
+    → ((F : List LinkName) (w : World) → WorldKeptAs t F None w → IsPort w l p max) → v ≡ outcome_of m (HubPort p) max → (F : List LinkName) (w : World) → w.now ≡ t.clock → WorldKeptAs t F None w → Heard o l m t u F w
 heard t u l kept after None m p max v was o hubs y port is F w at st = (let a = port F w st in absurd (alone_session t l kept was y.0 F None w st a.hub a.h a.link a.side))
 heard t u l kept after (Some s) m p max v was o hubs y port is F w at st = heard_some t u F w l kept after s m p max v was o hubs y at st (port F w st) is
 
-pub heard_left : (t : KeptWorld) (l : ℕ) (kept after : KeptLink) (o : Option Step) (now : ℕ) (v : Verdict) → slice_get t.links.items l ≡ Some kept → Hears o (Came now v) kept after → Stands None t
+pub heard_left : (t : KeptWorld) (l : ℕ) (kept after : KeptLink) (o : Option Step) (now : ℕ) (v : Verdict) → slice_get t.links.items l ≡ Some kept → MachineHears o (Came now v) kept after → Stands None t
     → IfSome o (λ s. (k : KeptLink) (side : KeptSide) → slice_get (set t.links.items l after) l ≡ Some k → k.side ≡ Some side → IsReadyFor s side)
 heard_left t l kept after None now v was y st = tt
 heard_left t l kept after (Some s) now v was y st = told_side (λ side. IsReadyFor s side) t l kept after s (Came now v) was y (message_ready t l kept after s now v was y st)
 
-pub heard_for : (t : KeptWorld) (l : ℕ) (kept after : KeptLink) (o : Option Step) (now : ℕ) (m : List ℕ) (p : Phase) (max : ℕ) (v : Verdict) → slice_get t.links.items l ≡ Some kept → Hears o (Came now v) kept after → Stands None t → Judged m (HubPort p) max v → IfSome o (λ s. IsFor m s)
+pub heard_for : (t : KeptWorld) (l : ℕ) (kept after : KeptLink) (o : Option Step) (now : ℕ) (m : List ℕ) (p : Phase) (max : ℕ) (v : Verdict) → slice_get t.links.items l ≡ Some kept → MachineHears o (Came now v) kept after → Stands None t → Judged m (HubPort p) max v → IfSome o (λ s. IsForMessage m s)
 heard_for t l kept after None now m p max v was y st judged = tt
 heard_for t l kept after (Some s) now m p max v was y st judged = message_for t l kept after s now m p max v was y st judged
 
-pub heard_past : (t : KeptWorld) (l : ℕ) (m : List ℕ) (p : Phase) (max : ℕ) → length t.links.items ≤ l → ((F : List LinkName) (w : World) → StandsAs t F None w → IsPort w l p max) → (F : List LinkName) (w : World) → w.now ≡ t.clock → StandsAs t F None w → Heard None l m t t F w
+pub heard_past : (t : KeptWorld) (l : ℕ) (m : List ℕ) (p : Phase) (max : ℕ) → length t.links.items ≤ l → ((F : List LinkName) (w : World) → WorldKeptAs t F None w → IsPort w l p max) → (F : List LinkName) (w : World) → w.now ≡ t.clock → WorldKeptAs t F None w → Heard None l m t t F w
 heard_past t l m p max past port F w at st = (let a = port F w st in absurd (past_session t l past F None w st a.hub a.h a.link a.side))
 
-pub heard_none : (t : KeptWorld) (l : ℕ) (m : List ℕ) → ((F : List LinkName) (b : Option ℕ) (w : World) → StandsAs t F b w → HasNoSession w l) → (F : List LinkName) (w : World) → w.now ≡ t.clock → StandsAs t F None w → Heard None l m t t F w
+pub heard_none : (t : KeptWorld) (l : ℕ) (m : List ℕ) → ((F : List LinkName) (b : Option ℕ) (w : World) → WorldKeptAs t F b w → HasNoSession w l) → (F : List LinkName) (w : World) → w.now ≡ t.clock → WorldKeptAs t F None w → Heard None l m t t F w
 heard_none t l m none F w at st = (none F None w st, refl)
 
-pub past_hub : (t : KeptWorld) (l j : ℕ) (kept : KeptLink) → slice_get t.links.items l ≡ Some kept → kept.to ≡ ToHub j → length t.hubs.items ≤ j → (F : List LinkName) (b : Option ℕ) (w : World) → StandsAs t F b w → HasNoSession w l
+pub past_hub : (t : KeptWorld) (l j : ℕ) (kept : KeptLink) → slice_get t.links.items l ≡ Some kept → kept.to ≡ ToHub j → length t.hubs.items ≤ j → (F : List LinkName) (b : Option ℕ) (w : World) → WorldKeptAs t F b w → HasNoSession w l
 past_hub t l j kept was to past F b w s i h x p = (let y = side_at t F b w l j kept s was to in let bad : None ≡ Some y.at.kept = sym (slice_get_past t.hubs.items j past) ∙ y.at.there in cc)
 
 -- ---- what is done about it
@@ -187,13 +187,13 @@ asks_not (PutClose octets c) asking = refl
 asks_not (Close c) asking = refl
 asks_not Nothing asking = refl
 
-pub heard_stands : (t u : KeptWorld) (l : ℕ) (m : List ℕ) (s : Step) → ((F : List LinkName) (w : World) → w.now ≡ t.clock → StandsAs t F None w → Heard (Some s) l m t u F w) → Stands None t → Stands (Some l) u
+pub heard_stands : (t u : KeptWorld) (l : ℕ) (m : List ℕ) (s : Step) → ((F : List LinkName) (w : World) → w.now ≡ t.clock → WorldKeptAs t F None w → Heard (Some s) l m t u F w) → Stands None t → Stands (Some l) u
 heard_stands t u l m s hears (F, w, at, st) =
     let a = hears F w at st in
     let v = told l (Came w.now (verdict_on a.1 a.2 m)) w in
     (F, v, at_clock t u F (Some l) w v at a.5, a.5.stands)
 
-pub receives_goes : (t u v : KeptWorld) (l place : ℕ) (m : List ℕ) (s : Step) → ((F : List LinkName) (w : World) → w.now ≡ t.clock → StandsAs t F None w → Heard (Some s) l m t u F w) → BecomesBusy (Some l) None (unless_over l (acts_on l place m s)) u v → Becomes (unless_over l (receives l place m)) t v
+pub receives_goes : (t u v : KeptWorld) (l place : ℕ) (m : List ℕ) (s : Step) → ((F : List LinkName) (w : World) → w.now ≡ t.clock → WorldKeptAs t F None w → Heard (Some s) l m t u F w) → BecomesBusy (Some l) None (unless_over l (acts_on l place m s)) u v → Becomes (unless_over l (receives l place m)) t v
 receives_goes t u v l place m s hears q F w at st =
     let a = hears F w at st in
     let e = Came w.now (verdict_on a.1 a.2 m) in
@@ -207,7 +207,7 @@ receives_goes t u v l place m s hears q F w at st =
     ∙ sym (unless_over_is w l a.0 a.1 a.2 (receives l place m) a.3))
     (became_both t u v F (Some l) None w (told l e w) (unless_over l (acts_on l place m s) (told l e w)) a.5 (q F (told l e w) (at_clock t u F (Some l) w (told l e w) at a.5) a.5.stands))
 
-pub receives_nothing : (t u : KeptWorld) (l place : ℕ) (m : List ℕ) → ((F : List LinkName) (w : World) → w.now ≡ t.clock → StandsAs t F None w → Heard None l m t u F w) → Becomes (unless_over l (receives l place m)) t u
+pub receives_nothing : (t u : KeptWorld) (l place : ℕ) (m : List ℕ) → ((F : List LinkName) (w : World) → w.now ≡ t.clock → WorldKeptAs t F None w → Heard None l m t u F w) → Becomes (unless_over l (receives l place m)) t u
 receives_nothing t u l place m hears F w at st =
     let a = hears F w at st in
     let same : Became t t F None w w = became_same t t F None w refl refl refl refl refl refl st in
@@ -215,4 +215,4 @@ receives_nothing t u l place m hears F w at st =
 
 -- what is known of a message that came to a side
 abbrev pub Listens : KeptWorld → KeptWorld → ℕ → List ℕ → Option Step → Type 0
-Listens t u l m o = (F : List LinkName) (w : World) → w.now ≡ t.clock → StandsAs t F None w → Heard o l m t u F w
+Listens t u l m o = (F : List LinkName) (w : World) → w.now ≡ t.clock → WorldKeptAs t F None w → Heard o l m t u F w

@@ -16,11 +16,11 @@ use Rattle.bsc_ring.specs.Ends.{given, outlet_mark}
 use Rattle.bsc_desk.specs.declared.desk.Desk.{Desk}
 use Rattle.bsc_desk.specs.Entries.{plain}
 use Rattle.bsc_desk.specs.Rows.{HasRow, IsMarkOf, known_of}
-use Rattle.bsc_desk.specs.Standing.{StandsFor as DeskStandsFor}
+use Rattle.bsc_desk.specs.Standing.{DeskStands}
 use Rattle.bsc_desk.proofs.Rowed.{has_unleft, is_mark_of}
 use Rattle.bsc_script.proofs.Meetings.{own_any}
 use Rattle.bsc_script.proofs.Touched.{is_of_same}
-use Rattle.bsc_accept.specs.Standing.{StandsFor as MachineStandsFor}
+use Rattle.bsc_accept.specs.Standing.{AcceptingStands}
 use Rattle.bsc_world.specs.declared.passing.Passing.{Passing}
 use Rattle.bsc_network.specs.declared.target.Target.TheVariants.{Hub as ToHub}
 use Rattle.bsc_world.specs.declared.kept_hub.KeptHub.{KeptHub}
@@ -81,7 +81,7 @@ record Passes (h : Hub) (e : Entry) (S : List Stamped) (passing : Passing) : Typ
   pub named : (b : ℕ) → is_among b (receivers passing) ≡ names b e.reply
   pub calls : entries_of (S ++ plain e ∷ []) ≡ history h ++ e ∷ []
 
-conn_met : (m : ℕ) (h : Hub) (S : List Stamped) (d b n : Desk) (s : HubSide) (k after : KeptConn) (e : Entry) (place : ℕ) (passing : Passing) → Passes h e S passing → DeskStandsFor b (S ++ plain e ∷ []) → IsConnKept m h S d s k → ConnMet b n passing place k after → IsConnKept m (hub_then h e place) (S ++ plain e ∷ []) n s after
+conn_met : (m : ℕ) (h : Hub) (S : List Stamped) (d b n : Desk) (s : HubSide) (k after : KeptConn) (e : Entry) (place : ℕ) (passing : Passing) → Passes h e S passing → DeskStands b (S ++ plain e ∷ []) → IsConnKept m h S d s k → ConnMet b n passing place k after → IsConnKept m (hub_then h e place) (S ++ plain e ∷ []) n s after
 conn_met m h S d b n s k after e place passing g stands p q =
     let H = history h in
     let c = k.conn in
@@ -102,16 +102,16 @@ conn_met m h S d b n s k after e place passing g stands p q =
       places = q.places ∙ ap (λ l. k.places.items ++ l) gained;
     })
 
-conn_met_if : (m : ℕ) (h : Hub) (S : List Stamped) (d b n : Desk) (s : HubSide) (o after : Option KeptConn) (e : Entry) (place : ℕ) (passing : Passing) → Passes h e S passing → DeskStandsFor b (S ++ plain e ∷ []) → IsConnKeptIf m h S d s o → ConnMetIf b n passing place o after → IsConnKeptIf m (hub_then h e place) (S ++ plain e ∷ []) n s after
+conn_met_if : (m : ℕ) (h : Hub) (S : List Stamped) (d b n : Desk) (s : HubSide) (o after : Option KeptConn) (e : Entry) (place : ℕ) (passing : Passing) → Passes h e S passing → DeskStands b (S ++ plain e ∷ []) → IsConnKeptIf m h S d s o → ConnMetIf b n passing place o after → IsConnKeptIf m (hub_then h e place) (S ++ plain e ∷ []) n s after
 conn_met_if m h S d b n s None after e place passing g stands p q = subst (IsConnKeptIf m (hub_then h e place) (S ++ plain e ∷ []) n s) (sym q.0) p
 conn_met_if m h S d b n s (Some k) after e place passing g stands p q = subst (IsConnKeptIf m (hub_then h e place) (S ++ plain e ∷ []) n s) (sym q.1) (conn_met m h S d b n s k q.0 e place passing g stands p q.2)
 
-side_met : (m : ℕ) (h : Hub) (S : List Stamped) (d b n : Desk) (link : Link) (o after : Option KeptSide) (e : Entry) (place : ℕ) (passing : Passing) → Passes h e S passing → DeskStandsFor b (S ++ plain e ∷ []) → IsSideKeptIf m h S d link o → SideMetIf b n passing place o after → IsSideKeptIf m (hub_then h e place) (S ++ plain e ∷ []) n link after
+side_met : (m : ℕ) (h : Hub) (S : List Stamped) (d b n : Desk) (link : Link) (o after : Option KeptSide) (e : Entry) (place : ℕ) (passing : Passing) → Passes h e S passing → DeskStands b (S ++ plain e ∷ []) → IsSideKeptIf m h S d link o → SideMetIf b n passing place o after → IsSideKeptIf m (hub_then h e place) (S ++ plain e ∷ []) n link after
 side_met m h S d b n link None after e place passing g stands p q = subst (IsSideKeptIf m (hub_then h e place) (S ++ plain e ∷ []) n link) (sym q.0) p
 side_met m h S d b n link (Some side) after e place passing g stands p q =
     let is : IsSideKept m (hub_then h e place) (S ++ plain e ∷ []) n link q.0 = record {
       lasts = p.lasts;
-      machine = subst (λ y. MachineStandsFor y (start h link) link.side.events) (sym q.2) p.machine;
+      machine = subst (λ y. AcceptingStands y (start h link) link.side.events) (sym q.2) p.machine;
       joined = conn_met_if m h S d b n link.side side.joined q.0.joined e place passing g stands p.joined q.3;
     } in
     subst (IsSideKeptIf m (hub_then h e place) (S ++ plain e ∷ []) n link) (sym q.1) is
@@ -121,13 +121,13 @@ side_met m h S d b n link (Some side) after e place passing g stands p q =
 -- The desk after a meeting stands for the same, and knows as much as before of all connections but that of the side.
 record DeskMet (d n : Desk) (o : Option KeptSide) : Type 0 where
   pub about : n.about ≡ d.about
-  pub stands : (S : List Stamped) → DeskStandsFor d S → DeskStandsFor n S
+  pub stands : (S : List Stamped) → DeskStands d S → DeskStands n S
   pub others : (b : ℕ) → ((side : KeptSide) (k : KeptConn) → o ≡ Some side → side.joined ≡ Some k → b ≢ k.conn) → known_of n b ≡ known_of d b
 
 desk_same : (d n : Desk) (o : Option KeptSide) → n ≡ d → DeskMet d n o
 desk_same d n o same = record {
   about = ap (λ (y : Desk). y.about) same;
-  stands = λ S s. subst (λ (y : Desk). DeskStandsFor y S) (sym same) s;
+  stands = λ S s. subst (λ (y : Desk). DeskStands y S) (sym same) s;
   others = λ b other. ap (λ (y : Desk). known_of y b) same;
 }
 

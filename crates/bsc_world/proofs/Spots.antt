@@ -14,7 +14,7 @@ use Rattle.bsc_world.specs.declared.world.World.{World as KeptWorld}
 use Rattle.bsc_network.specs.Worlds.{World, Hub, Node, Link, node_at, link_at}
 use Rattle.bsc_network.specs.Changes.{changed_at, with_node, with_link}
 use Rattle.bsc_world.specs.Kept.{IsNodeKept, IsCalm, IsLinkKept, IsSideKeptIf}
-use Rattle.bsc_world.specs.Standing.{IsJoinedBy, IsNodeAt, IsLinkAt, AreReadyBut, AreSidesKept, StandsAs}
+use Rattle.bsc_world.specs.Standing.{IsJoinedBy, IsNodeAt, IsLinkAt, AreReadyBut, AreSidesKept, WorldKeptAs}
 use Rattle.bsc_network.proofs.Places.{one_or_two, get-changed, get-other, get-set_other, length-changed}
 use Rattle.bsc_lemmas.proofs.Lists.{get-set as get-set_here}
 use Rattle.std.proofs.lemmas.Option.{same_Some as some_same}
@@ -31,7 +31,7 @@ pub record SameParts (t u : KeptWorld) (w v : World) : Type 0 where
   pub links_at : v.links ≡ w.links
   pub later : w.now ≤ v.now
 
-pub stands_moved : (t u : KeptWorld) (F G : List LinkName) (b : Option ℕ) (w v : World) → SameParts t u w v → u.made ≡ v.steps → v.failed ≡ G → AllByRecursion (λ name. is_name name ≡ true) G → StandsAs t F b w → StandsAs u G b v
+pub stands_moved : (t u : KeptWorld) (F G : List LinkName) (b : Option ℕ) (w v : World) → SameParts t u w v → u.made ≡ v.steps → v.failed ≡ G → AllByRecursion (λ name. is_name name ≡ true) G → WorldKeptAs t F b w → WorldKeptAs u G b v
 stands_moved t u F G b w v p made failed named s = record {
   steps = made;
   untold = failed;
@@ -55,7 +55,7 @@ stands_moved t u F G b w v p made failed named s = record {
 }
 
 -- A world whose parts are as they were is kept as before.
-pub stands_same : (t u : KeptWorld) (F : List LinkName) (b : Option ℕ) (w : World) → u.made ≡ t.made → u.hubs.items ≡ t.hubs.items → u.nodes.items ≡ t.nodes.items → u.links.items ≡ t.links.items → StandsAs t F b w → StandsAs u F b w
+pub stands_same : (t u : KeptWorld) (F : List LinkName) (b : Option ℕ) (w : World) → u.made ≡ t.made → u.hubs.items ≡ t.hubs.items → u.nodes.items ≡ t.nodes.items → u.links.items ≡ t.links.items → WorldKeptAs t F b w → WorldKeptAs u F b w
 stands_same t u F b w made hubs nodes links s = stands_moved t u F F b w w (record { hubs = hubs; nodes = nodes; links = links; hubs_at = refl; nodes_at = refl; links_at = refl; later = omega arith }) (made ∙ s.steps) s.untold s.named s
 
 -- ---- one link
@@ -84,7 +84,7 @@ after_change l f w link m x here at =
       | inr other ↦ inr (other, sym (get-other l f w.links m other) ∙ at)
     ]
 
-module _ (t u : KeptWorld) (F : List LinkName) (b c : Option ℕ) (w : World) (l : ℕ) (f : Link → Link) (link : Link) (kept after : KeptLink) (ch : LinkChange t u w l f link kept after) (s : StandsAs t F b w) where
+module _ (t u : KeptWorld) (F : List LinkName) (b c : Option ℕ) (w : World) (l : ℕ) (f : Link → Link) (link : Link) (kept after : KeptLink) (ch : LinkChange t u w l f link kept after) (s : WorldKeptAs t F b w) where
   kept_after : (m : ℕ) → l ≢ m → slice_get u.links.items m ≡ slice_get t.links.items m
   kept_after m other = ap (λ xs. slice_get xs m) ch.links ∙ get-set_other t.links.items l m after other
 
@@ -128,7 +128,7 @@ module _ (t u : KeptWorld) (F : List LinkName) (b c : Option ℕ) (w : World) (l
   leads_after m j x to (inr p) = s.leads m j x p.1 to
 
   -- All else is as it was.
-  pub link_changed : AreReadyBut c u → StandsAs u F c (with_link l f w)
+  pub link_changed : AreReadyBut c u → WorldKeptAs u F c (with_link l f w)
   link_changed ready = record {
     steps = ch.made ∙ s.steps;
     untold = s.untold;
@@ -174,7 +174,7 @@ pub record NodeChange (t u : KeptWorld) (w : World) (k : ℕ) (f : Node → Node
   pub calm : IsCalm w.now (f n).log
 
 -- All else is as it was.
-pub node_changed : (t u : KeptWorld) (F : List LinkName) (b : Option ℕ) (w : World) (k : ℕ) (f : Node → Node) (n : Node) (kept after : KeptNode) → NodeChange t u w k f n kept after → StandsAs t F b w → StandsAs u F b (with_node k f w)
+pub node_changed : (t u : KeptWorld) (F : List LinkName) (b : Option ℕ) (w : World) (k : ℕ) (f : Node → Node) (n : Node) (kept after : KeptNode) → NodeChange t u w k f n kept after → WorldKeptAs t F b w → WorldKeptAs u F b (with_node k f w)
 node_changed t u F b w k f n kept after ch s = record {
   steps = ch.made ∙ s.steps;
   untold = s.untold;

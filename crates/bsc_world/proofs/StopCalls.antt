@@ -17,13 +17,13 @@ use Rattle.bsc_history.proofs.More.{looked-more, unleft-same}
 use Rattle.bsc_desk.specs.declared.desk.Desk.{Desk}
 use Rattle.bsc_desk.specs.Entries.{plain, stop_entry}
 use Rattle.bsc_desk.specs.Rows.{known_of}
-use Rattle.bsc_desk.specs.Standing.{StandsFor as DeskStandsFor}
+use Rattle.bsc_desk.specs.Standing.{DeskStands}
 use Rattle.bsc_world.specs.declared.kept_hub.KeptHub.{KeptHub}
 use Rattle.bsc_world.specs.declared.world.World.{World as KeptWorld}
 use Rattle.bsc_network.specs.Worlds.{World, Hub, history, hub_at}
 use Rattle.bsc_network.specs.HubCalls.{called, entry_in, no_link}
 use Rattle.bsc_world.specs.HubEntries.{HasStopped}
-use Rattle.bsc_world.specs.Standing.{IsHubAt, StandsAs}
+use Rattle.bsc_world.specs.Standing.{IsHubAt, WorldKeptAs}
 use Rattle.bsc_world.specs.Becoming.{Became}
 use Rattle.bsc_network.proofs.Places.{get-set_other}
 use Rattle.bsc_world.proofs.Entering.{history-more, with_entry}
@@ -78,7 +78,7 @@ pub record OnHub (t u : KeptWorld) (j : ℕ) (after : KeptHub) : Type 0 where
   pub nodes : u.nodes.items ≡ t.nodes.items
   pub links : u.links.items ≡ t.links.items
 
-pub call_stopped : (t u : KeptWorld) (F : List LinkName) (w : World) (j : ℕ) (h : Hub) (kept after : KeptHub) → kept ≡ get_or t.hubs.items j kept → OnHub t u j after → ((S : List Stamped) → DeskStandsFor kept.desk S → is_stopped (entries_of S) ≡ false → HasStopped S kept after) → StandsAs t F None w → hub_at w j ≡ Some h → is_stopped (history h) ≡ false → Became t u F None w (called j no_link w.steps Stop w)
+pub call_stopped : (t u : KeptWorld) (F : List LinkName) (w : World) (j : ℕ) (h : Hub) (kept after : KeptHub) → kept ≡ get_or t.hubs.items j kept → OnHub t u j after → ((S : List Stamped) → DeskStands kept.desk S → is_stopped (entries_of S) ≡ false → HasStopped S kept after) → WorldKeptAs t F None w → hub_at w j ≡ Some h → is_stopped (history h) ≡ false → Became t u F None w (called j no_link w.steps Stop w)
 call_stopped t u F w j h kept after read o stops s at fresh =
     let v = called j no_link w.steps Stop w in
     let g = λ (y : Hub). with_entry y (entry_in w y no_link Stop) w.steps in
@@ -113,5 +113,5 @@ call_stopped t u F w j h kept after read o stops s at fresh =
       stands = hub_changed t u F None None w v j g change s (λ l k side other got is. s.ready l k side other (ap (λ xs. slice_get xs l) (sym o.links) ∙ got) is);
     }
   where
-    stops_at : (a : IsHubAt t w j h) → a.kept ≡ kept → ((S : List Stamped) → DeskStandsFor kept.desk S → is_stopped (entries_of S) ≡ false → HasStopped S kept after) → is_stopped (entries_of a.marks) ≡ false → HasStopped a.marks a.kept after
-    stops_at a same f not_yet = subst (λ (y : KeptHub). HasStopped a.marks y after) (sym same) (f a.marks (subst (λ (y : KeptHub). DeskStandsFor y.desk a.marks) same a.hub.desk) not_yet)
+    stops_at : (a : IsHubAt t w j h) → a.kept ≡ kept → ((S : List Stamped) → DeskStands kept.desk S → is_stopped (entries_of S) ≡ false → HasStopped S kept after) → is_stopped (entries_of a.marks) ≡ false → HasStopped a.marks a.kept after
+    stops_at a same f not_yet = subst (λ (y : KeptHub). HasStopped a.marks y after) (sym same) (f a.marks (subst (λ (y : KeptHub). DeskStands y.desk a.marks) same a.hub.desk) not_yet)

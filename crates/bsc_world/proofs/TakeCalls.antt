@@ -23,7 +23,7 @@ use Rattle.bsc_desk.specs.Rows.{known_of}
 use Rattle.bsc_accept.specs.declared.start.Start.{Start}
 use Rattle.bsc_accept.specs.declared.event.Event.TheVariants.{Ended}
 use Rattle.bsc_accept.specs.Past.{phase}
-use Rattle.bsc_accept.specs.Standing.{StandsFor as MachineStandsFor, IsConnected, phase_of}
+use Rattle.bsc_accept.specs.Standing.{AcceptingStands, IsConnected, phase_of}
 use Rattle.bsc_script.specs.States.{default_times}
 use Rattle.bsc_script.specs.Emptying.{empties_after, is_connected}
 use Rattle.bsc_script.proofs.Meetings.{own_any}
@@ -47,7 +47,7 @@ use Rattle.bsc_world.specs.declared.taking.Took.{Took}
 use Rattle.bsc_world.specs.declared.taking.Took.TheVariants.{Frame, Empty, Closed}
 use Rattle.bsc_world.specs.declared.world.World.{World as KeptWorld}
 use Rattle.bsc_world.specs.Kept.{IsConnKept, IsHubKept, IsLinkKept, IsReady, IsSideKept, IsSideKeptIf, places_of, takes_in}
-use Rattle.bsc_world.specs.Standing.{AreReadyBut, IsHubAt, StandsAs}
+use Rattle.bsc_world.specs.Standing.{AreReadyBut, IsHubAt, WorldKeptAs}
 use Rattle.bsc_world.specs.Becoming.{Became, BecomesWhere, Keeps, Stands, ends}
 use Rattle.bsc_world.specs.HubEntries.{LeadsTo}
 use Rattle.bsc_world.specs.Sides.{IsSideOf}
@@ -90,7 +90,7 @@ none_over b true e = absurd (true≢false (sym (and_parts b false e).1))
 none_over b false e = refl
 
 -- It leads to a hub, and its session lasts.
-outbox_side : (t : KeptWorld) (F : List LinkName) (b : Option ℕ) (w : World) (l : ℕ) (link : Link) → StandsAs t F b w → link_at w l ≡ Some link → has_outbox link ≡ true → (j : ℕ) × (h : Hub) × IsSideOf w l j h link
+outbox_side : (t : KeptWorld) (F : List LinkName) (b : Option ℕ) (w : World) (l : ℕ) (link : Link) → WorldKeptAs t F b w → link_at w l ≡ Some link → has_outbox link ≡ true → (j : ℕ) × (h : Hub) × IsSideOf w l j h link
 outbox_side t F b w l link s at has = by link.to refl (and_parts (leads_to_hub link.to) (may_take link.side) has).0
   where
     over : link.side.is_over ≡ false
@@ -101,14 +101,14 @@ outbox_side t F b w l link s at has = by link.to refl (and_parts (leads_to_hub l
     by (ToHub j) to e = (let h = got-at w.hubs j (s.leads l j link at to) in (j, h.0, record { there = at; to = to; hub = h.1; lasts = over }))
 
 -- Where no link leads to a hub the take is refused.
-pub taken_nowhere : (t : KeptWorld) (F : List LinkName) (w : World) (l : ℕ) → ((b : Option ℕ) → StandsAs t F b w → (j : ℕ) (h : Hub) (link : Link) → IsSideOf w l j h link → ⊥) → StandsAs t F None w → refusal w (Take l) ≢ None
+pub taken_nowhere : (t : KeptWorld) (F : List LinkName) (w : World) (l : ℕ) → ((b : Option ℕ) → WorldKeptAs t F b w → (j : ℕ) (h : Hub) (link : Link) → IsSideOf w l j h link → ⊥) → WorldKeptAs t F None w → refusal w (Take l) ≢ None
 taken_nowhere t F w l nowhere s may =
     let x = outbox_there w l may in
     let y = outbox_side t F None w l x.0 s x.1 x.2 in
     nowhere None s y.0 y.1 x.0 y.2
 
 -- So it is where the side that is kept may not take.
-taken_never : (t : KeptWorld) (F : List LinkName) (w : World) (l : ℕ) (kept : KeptLink) → slice_get t.links.items l ≡ Some kept → takes_in kept.side ≡ false → StandsAs t F None w → refusal w (Take l) ≢ None
+taken_never : (t : KeptWorld) (F : List LinkName) (w : World) (l : ℕ) (kept : KeptLink) → slice_get t.links.items l ≡ Some kept → takes_in kept.side ≡ false → WorldKeptAs t F None w → refusal w (Take l) ≢ None
 taken_never t F w l kept was not s may =
     let x = outbox_there w l may in
     let y = link_there t F None w l kept s was in
@@ -180,7 +180,7 @@ record FitsTaken (h : Hub) (c : ℕ) (k : KeptConn) (old new : HubSide) : Type 0
   pub empties : empties_of k.outlet ≡ new.empties
   pub places : k.places.items ≡ drop new.taken (places_of (frames h c))
 
-module _ (t u : KeptWorld) (F : List LinkName) (w : World) (l j : ℕ) (kept after : KeptLink) (n : Desk) (took : Took) (was : slice_get t.links.items l ≡ Some kept) (o : OnLink t u l after) (to : kept.to ≡ ToHub j) (s : StandsAs t F None w)
+module _ (t u : KeptWorld) (F : List LinkName) (w : World) (l j : ℕ) (kept after : KeptLink) (n : Desk) (took : Took) (was : slice_get t.links.items l ≡ Some kept) (o : OnLink t u l after) (to : kept.to ≡ ToHub j) (s : WorldKeptAs t F None w)
     (x : SideAt t w l j kept) (hubs : u.hubs.items ≡ set t.hubs.items j (record x.at.kept { desk = n })) (g : SideTook took x.at.kept.desk n kept after) where
   side_then : IsSideKept l x.hub x.at.marks x.at.kept.desk x.link g.was
   side_then = subst (IsSideKeptIf l x.hub x.at.marks x.at.kept.desk x.link) g.there x.side
@@ -238,8 +238,8 @@ module _ (t u : KeptWorld) (F : List LinkName) (w : World) (l j : ℕ) (kept aft
     kept_now : IsSideKept l x.hub x.at.marks n (link_then x.link) (record g.was { joined = Some g.after })
     kept_now = record {
       lasts = fits.over ∙ side_then.lasts;
-      machine = subst (MachineStandsFor g.was.machine (start x.hub (link_then x.link))) (sym fits.events)
-          (subst (λ (z : Start). MachineStandsFor g.was.machine z x.link.side.events) (ap (λ (a : ℕ). (let b : Start = record { own = x.hub.about.hub; times = default_times; at = a } in b)) (sym fits.since)) side_then.machine);
+      machine = subst (AcceptingStands g.was.machine (start x.hub (link_then x.link))) (sym fits.events)
+          (subst (λ (z : Start). AcceptingStands g.was.machine z x.link.side.events) (ap (λ (a : ℕ). (let b : Start = record { own = x.hub.about.hub; times = default_times; at = a } in b)) (sym fits.since)) side_then.machine);
       joined = conn_now;
     }
 
@@ -340,7 +340,7 @@ module _ (t u : KeptWorld) (F : List LinkName) (w : World) (l j : ℕ) (kept aft
 -- ---- the answer
 
 -- What a take comes to, by what the side took.
-taken_as : (t u : KeptWorld) (F : List LinkName) (w : World) (l j : ℕ) (kept after : KeptLink) (n : Desk) (took : Took) → slice_get t.links.items l ≡ Some kept → OnLink t u l after → kept.to ≡ ToHub j → StandsAs t F None w → (x : SideAt t w l j kept) → u.hubs.items ≡ set t.hubs.items j (record x.at.kept { desk = n })
+taken_as : (t u : KeptWorld) (F : List LinkName) (w : World) (l j : ℕ) (kept after : KeptLink) (n : Desk) (took : Took) → slice_get t.links.items l ≡ Some kept → OnLink t u l after → kept.to ≡ ToHub j → WorldKeptAs t F None w → (x : SideAt t w l j kept) → u.hubs.items ≡ set t.hubs.items j (record x.at.kept { desk = n })
     → (g : SideTook took x.at.kept.desk n kept after) → TookAt took t u F w l x.hub x.link g.before.conn
 taken_as t u F w l j kept after n (Frame frame place) was o to s x hubs g =
     let h = x.hub in
@@ -405,7 +405,7 @@ taken_as t u F w l j kept after n (Closed ending) was o to s x hubs g =
 
 -- What a take of a link comes to.
 pub was_taken : (t u : KeptWorld) (F : List LinkName) (w : World) (l j : ℕ) (kept after : KeptLink) (hub : KeptHub) (n : Desk) (r : Option Took) → slice_get t.links.items l ≡ Some kept → OnLink t u l after → kept.to ≡ ToHub j → slice_get t.hubs.items j ≡ Some hub → u.hubs.items ≡ set t.hubs.items j (record hub { desk = n })
-    → LinkTook r hub.desk n kept after → StandsAs t F None w → WasTaken r t u F w l
+    → LinkTook r hub.desk n kept after → WorldKeptAs t F None w → WasTaken r t u F w l
 was_taken t u F w l j kept after hub n None was o to there hubs g s = taken_never t F w l kept was g.0 s
 was_taken t u F w l j kept after hub n (Some took) was o to there hubs g s =
     let x = side_at t F None w l j kept s was to in
@@ -424,7 +424,7 @@ takes_is w l j h link c p conn =
     ∙ ap (λ (e : Option ℕ). with_found e (by h link) w) conn
 
 -- a frame was taken, and put
-pub takes_frame : (t u v : KeptWorld) (l place : ℕ) (frame : List ℕ) → ((F : List LinkName) (w : World) → w.now ≡ t.clock → StandsAs t F None w → WasTaken (Some (Frame frame place)) t u F w l) → Keeps (puts_at l Down place (Message frame)) u v → BecomesWhere (λ w. refusal w (Take l) ≡ None) (takes l) t v
+pub takes_frame : (t u v : KeptWorld) (l place : ℕ) (frame : List ℕ) → ((F : List LinkName) (w : World) → w.now ≡ t.clock → WorldKeptAs t F None w → WasTaken (Some (Frame frame place)) t u F w l) → Keeps (puts_at l Down place (Message frame)) u v → BecomesWhere (λ w. refusal w (Take l) ≡ None) (takes l) t v
 takes_frame t u v l place frame p put F w at s may =
     let x = p F w at s in
     let taken_then = with_side l (λ z. record z { taken = z.taken + 1 }) w in
@@ -433,8 +433,8 @@ takes_frame t u v l place frame p put F w at s may =
     (became_both t u v F None None w taken_then (puts_at l Down place (Message frame) taken_then) x.6.1 (put None F taken_then (at_clock t u F None w taken_then at x.6.1) x.6.1.stands))
 
 -- the connection has ended, and the machine was told
-pub takes_end : (t u v : KeptWorld) (l : ℕ) (ending : End) → ((F : List LinkName) (w : World) → w.now ≡ t.clock → StandsAs t F None w → WasTaken (Some (Closed ending)) t u F w l)
-    → ((F : List LinkName) (w : World) → w.now ≡ u.clock → StandsAs u F None w → Became u v F None w (unless_over l (tells l (Ended w.now ending)) w)) → BecomesWhere (λ w. refusal w (Take l) ≡ None) (takes l) t v
+pub takes_end : (t u v : KeptWorld) (l : ℕ) (ending : End) → ((F : List LinkName) (w : World) → w.now ≡ t.clock → WorldKeptAs t F None w → WasTaken (Some (Closed ending)) t u F w l)
+    → ((F : List LinkName) (w : World) → w.now ≡ u.clock → WorldKeptAs u F None w → Became u v F None w (unless_over l (tells l (Ended w.now ending)) w)) → BecomesWhere (λ w. refusal w (Take l) ≡ None) (takes l) t v
 takes_end t u v l ending p told F w at s may =
     let x = p F w at s in
     let e = tells l (Ended w.now ending) in

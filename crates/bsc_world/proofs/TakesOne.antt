@@ -17,7 +17,7 @@ use Rattle.bsc_desk.specs.Rows.{HasRow, IsMarkOf, known_of}
 use Rattle.bsc_desk.proofs.Rowed.{has_unleft, is_mark_of}
 use Rattle.bsc_script.specs.Emptying.{empties_after}
 use Rattle.bsc_world.specs.declared.kept_link.KeptConn.{KeptConn}
-use Rattle.bsc_world.specs.Takes.{Meets, OwnsOutlet, StaysMet, TookNext, TookNone}
+use Rattle.bsc_world.specs.Takes.{OutletMeets, OwnsOutlet, StaysMet, TookNext, TookNone}
 use Rattle.bsc_desk.proofs.Common.{gave_all}
 use Rattle.bsc_ring.proofs.Common.{at_end}
 
@@ -25,7 +25,7 @@ use Rattle.bsc_ring.proofs.Common.{at_end}
 pub owns_meets : (d : Desk) (S : List Stamped) (k : KeptConn) → OwnsOutlet d S k → HasRow d k.conn × IsMarkOf d k.conn (outlet_mark k.outlet)
 owns_meets d S k w = (has_unleft d S k.conn w.stands w.unleft, is_mark_of d S k.conn (outlet_mark k.outlet) w.stands w.marked)
 
-module _ (S : List Stamped) (d n : Desk) (i j : KeptConn) (w : OwnsOutlet d S i) (m : Meets d n i j) where
+module _ (S : List Stamped) (d n : Desk) (i j : KeptConn) (w : OwnsOutlet d S i) (m : OutletMeets d n i j) where
   -- the outlet that met owns what it did
   pub met_owns : OwnsOutlet n S j
   met_owns = record { stands = m.stands S w.stands; unleft = rw m.conn w.unleft; marked = rw (m.conn, m.mark_same) w.marked }
@@ -34,7 +34,7 @@ module _ (S : List Stamped) (d n : Desk) (i j : KeptConn) (w : OwnsOutlet d S i)
   pub took_owns : (p : Outlet) → outlet_mark p ≡ outlet_mark j.outlet → OwnsOutlet n S (record j { outlet = p })
   took_owns p same = record { stands = met_owns.stands; unleft = met_owns.unleft; marked = met_owns.marked ∙ ap Some (sym same) }
 
-  module _ (p : Outlet) (same : outlet_mark p ≡ outlet_mark j.outlet) (r : Desk) (k : KeptConn) (again : Meets n r (record j { outlet = p }) k) where
+  module _ (p : Outlet) (same : outlet_mark p ≡ outlet_mark j.outlet) (r : Desk) (k : KeptConn) (again : OutletMeets n r (record j { outlet = p }) k) where
     -- the two ends met again
     stays_met : StaysMet S d r i k
     stays_met = record {

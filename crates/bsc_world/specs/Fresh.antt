@@ -1,6 +1,6 @@
 -- A link as it is kept when it is made: words of inner functions.
 use Rattle.std.specs.Prelude.{◌≡◌, ◌<◌, ℕ, false, [], ◌∷◌, ◌++◌, length, slice_get, Option, Some, None}
-use Rattle.bsc_accept.specs.Standing.{StandsFor as MachineStandsFor, IsOpen}
+use Rattle.bsc_accept.specs.Standing.{AcceptingStands, IsOpen}
 use Rattle.bsc_script.specs.States.{default_times}
 use Rattle.bsc_network.specs.declared.target.Target.{Target}
 use Rattle.bsc_network.specs.declared.target.Target.TheVariants.{Hub as ToHub, Node as ToNode}
@@ -14,7 +14,7 @@ use Rattle.bsc_network.specs.Dialling.{first_down, first_up}
 
 -- A hub's side whose machine starts now, with that hub.
 pub record IsNewSide (t : KeptWorld) (hub : KeptHub) (side : KeptSide) : Type 0 where
-  pub machine : MachineStandsFor side.machine (record { own = hub.about.hub; times = default_times; at = t.clock }) []
+  pub machine : AcceptingStands side.machine (record { own = hub.about.hub; times = default_times; at = t.clock }) []
   pub waits : IsOpen side.machine
   pub joined : side.joined ≡ None
 

@@ -12,7 +12,7 @@ use Rattle.bsc_desk.specs.declared.desk.Desk.{Desk}
 use Rattle.bsc_desk.specs.declared.leaving.Gone.{Gone}
 use Rattle.bsc_desk.specs.Entries.{connect_stamped, leave_entry, plain, stop_entry}
 use Rattle.bsc_desk.specs.Rows.{IsMarkOf, IsRowBy, known_of}
-use Rattle.bsc_desk.specs.Standing.{StandsFor as DeskStandsFor}
+use Rattle.bsc_desk.specs.Standing.{DeskStands}
 use Rattle.bsc_node.specs.declared.link_name.LinkName.{LinkName}
 use Rattle.bsc_network.specs.declared.target.Target.TheVariants.{Hub as ToHub}
 use Rattle.bsc_world.specs.declared.hub_calls.HubAsked.{HubAsked}
@@ -24,12 +24,12 @@ use Rattle.bsc_world.specs.declared.kept_link.KeptSide.{KeptSide}
 use Rattle.bsc_world.specs.declared.world.World.{World as KeptWorld}
 use Rattle.bsc_network.specs.Worlds.{World, Hub, Link}
 use Rattle.bsc_network.specs.HubCalls.{no_link}
-use Rattle.bsc_world.specs.Standing.{StandsAs}
+use Rattle.bsc_world.specs.Standing.{WorldKeptAs}
 use Rattle.bsc_world.specs.Sides.{IsSideOf}
 
 -- The desk of a hub made the entry x after the entries S; all else that is kept of the hub is as the entry says.
 pub record HasEntered (S : List Stamped) (x : Stamped) (old new : KeptHub) : Type 0 where
-  pub stands : DeskStandsFor new.desk (S ++ x ∷ [])
+  pub stands : DeskStands new.desk (S ++ x ∷ [])
   pub desk_about : new.desk.about ≡ old.desk.about
   pub about : new.about ≡ old.about
   pub uri : new.uri ≡ old.uri
@@ -72,7 +72,7 @@ pub record LeadsTo (t : KeptWorld) (l j : ℕ) : Type 0 where
 
 -- No link l leads to a hub.
 abbrev pub LeadsNowhere : KeptWorld → ℕ → Type 0
-LeadsNowhere t l = (F : List LinkName) (b : Option ℕ) (w : World) → StandsAs t F b w → (j : ℕ) (h : Hub) (link : Link) → IsSideOf w l j h link → ⊥
+LeadsNowhere t l = (F : List LinkName) (b : Option ℕ) (w : World) → WorldKeptAs t F b w → (j : ℕ) (h : Hub) (link : Link) → IsSideOf w l j h link → ⊥
 
 -- Link l joined as the connection k: its mark and its number are those of the entry, and nothing was taken yet.
 pub record HasJoined (S : List Stamped) (l : ℕ) (who : Identity) (k : KeptConn) (old new : KeptHub) : Type 0 where

@@ -11,12 +11,12 @@ use Rattle.bsc_checks.specs.declared.phase.Phase.TheVariants.{AwaitingRequest}
 use Rattle.bsc_desk.specs.declared.desk.Desk.{Desk}
 use Rattle.bsc_desk.specs.Meetings.{IsOutletOf}
 use Rattle.bsc_desk.specs.Rows.{known_of}
-use Rattle.bsc_desk.specs.Standing.{StandsFor as DeskStandsFor}
-use Rattle.bsc_accept.specs.Standing.{StandsFor as MachineStandsFor, IsOpen, phase_of}
+use Rattle.bsc_desk.specs.Standing.{DeskStands}
+use Rattle.bsc_accept.specs.Standing.{AcceptingStands, IsOpen, phase_of}
 use Rattle.bsc_script.specs.Emptying.{is_connected}
 use Rattle.bsc_node.specs.Logs.{Log, now}
 use Rattle.bsc_node.specs.Conditions.{awaits_word}
-use Rattle.bsc_node_core.specs.Node.{StandsFor as NodeStandsFor}
+use Rattle.bsc_node_core.specs.Node.{NodeStands}
 use Rattle.bsc_node_core.specs.Tables.{is_name}
 use Rattle.bsc_network.specs.declared.parcel.Parcel.{Parcel}
 use Rattle.bsc_world.specs.declared.kept_hub.KeptHub.{KeptHub}
@@ -38,7 +38,7 @@ pub record IsHubKept (j : ℕ) (h : Hub) (S : List Stamped) (kept : KeptHub) : T
   pub about : kept.desk.about ≡ h.about
   pub own : kept.about ≡ h.about
   pub calls : entries_of S ≡ history h
-  pub desk : DeskStandsFor kept.desk S
+  pub desk : DeskStands kept.desk S
   pub uri : kept.uri ≡ hub_uri j
   pub stopped : kept.has_stopped ≡ is_stopped (history h)
 
@@ -51,7 +51,7 @@ pub record IsCalm (at : ℕ) (L : Log) : Type 0 where
 
 -- A node is kept so: its core stands for its log, and its holds are those that it has. They have names of links.
 pub record IsNodeKept (n : Node) (kept : KeptNode) : Type 0 where
-  pub core : NodeStandsFor kept.node n.made n.log
+  pub core : NodeStands kept.node n.made n.log
   pub bvlc : kept.max_bvlc ≡ n.made.own.max_bvlc
   pub uri : kept.uri ≡ n.made.limits.uris
   pub started : kept.has_started ≡ has_started n
@@ -85,7 +85,7 @@ IsConnKeptIf l h S d s (Some kept) = IsConnKept l h S d s kept
 -- The hub's side of link l while its session lasts.
 pub record IsSideKept (l : ℕ) (h : Hub) (S : List Stamped) (d : Desk) (link : Link) (kept : KeptSide) : Type 0 where
   pub lasts : link.side.is_over ≡ false
-  pub machine : MachineStandsFor kept.machine (start h link) link.side.events
+  pub machine : AcceptingStands kept.machine (start h link) link.side.events
   pub joined : IsConnKeptIf l h S d link.side kept.joined
 
 abbrev pub IsSideKeptIf : ℕ → Hub → List Stamped → Desk → Link → Option KeptSide → Type 0

@@ -17,7 +17,7 @@ use Rattle.bsc_desk.specs.Entries.{forward_entry, plain}
 use Rattle.bsc_desk.specs.Knowing.{Learns}
 use Rattle.bsc_desk.specs.Meetings.{IsOutletOf}
 use Rattle.bsc_desk.specs.Rows.{HasRow, IsMarkOf, known_of}
-use Rattle.bsc_desk.specs.Standing.{StandsFor as DeskStandsFor}
+use Rattle.bsc_desk.specs.Standing.{DeskStands}
 use Rattle.bsc_network.specs.declared.target.Target.TheVariants.{Hub as ToHub}
 use Rattle.bsc_world.specs.declared.passing.Passing.{Passing}
 use Rattle.bsc_world.specs.declared.passing.Passing.TheVariants.{Nobody, One, Full, Each}
@@ -68,7 +68,7 @@ gains place passing c = if is_among c (receivers passing) then place ∷ [] else
 
 -- The outlet of a connection met the desk, and the place of the message joined those that wait, where it was passed on to it.
 pub record ConnMet (d n : Desk) (passing : Passing) (place : ℕ) (old new : KeptConn) : Type 0 where
-  pub stands : (S : List Stamped) → DeskStandsFor d S → DeskStandsFor n S
+  pub stands : (S : List Stamped) → DeskStands d S → DeskStands n S
   pub about : n.about ≡ d.about
   pub conn : new.conn ≡ old.conn
   pub vmac : new.vmac ≡ old.vmac
@@ -76,7 +76,7 @@ pub record ConnMet (d n : Desk) (passing : Passing) (place : ℕ) (old new : Kep
   pub given_same : given new.outlet ≡ given old.outlet
   pub empties_same : empties_of new.outlet ≡ empties_of old.outlet
   pub found_same : found new.outlet ≡ found old.outlet
-  pub outlet : (S : List Stamped) → DeskStandsFor d S → IsOutletOf d.about (entries_of S) old.conn old.outlet
+  pub outlet : (S : List Stamped) → DeskStands d S → IsOutletOf d.about (entries_of S) old.conn old.outlet
   pub known : known_of n old.conn ≡ length (given old.outlet)
   pub others : (c : ℕ) → c ≢ old.conn → known_of n c ≡ known_of d c
   pub places : new.places.items ≡ old.places.items ++ gains place passing old.conn

@@ -8,14 +8,14 @@ use Rattle.bsc_accept.specs.declared.event.Event.{Event}
 use Rattle.bsc_accept.specs.declared.step.Step.{Step}
 use Rattle.bsc_accept.specs.declared.step.Step.TheVariants.{Ask, Up}
 use Rattle.bsc_accept.specs.Past.{phase}
-use Rattle.bsc_accept.specs.Standing.{Answers, LeftBy}
+use Rattle.bsc_accept.specs.Standing.{AcceptingAnswers, LeavesAccepting}
 use Rattle.bsc_node.specs.declared.link_name.LinkName.{LinkName}
 use Rattle.bsc_network.specs.declared.target.Target.TheVariants.{Hub as ToHub}
 use Rattle.bsc_world.specs.declared.kept_link.KeptLink.{KeptLink}
 use Rattle.bsc_world.specs.declared.kept_link.KeptSide.{KeptSide}
 use Rattle.bsc_world.specs.declared.world.World.{World as KeptWorld}
 use Rattle.bsc_network.specs.Worlds.{World, Hub, Link}
-use Rattle.bsc_world.specs.Standing.{StandsAs}
+use Rattle.bsc_world.specs.Standing.{WorldKeptAs}
 use Rattle.bsc_world.specs.Sides.{IsReadyBy, IsSideOf}
 
 -- ---- sessions
@@ -30,8 +30,8 @@ HasNoSession w l = (j : ℕ) (h : Hub) (link : Link) → IsSideOf w l j h link �
 
 -- Whether the session of link l lasts, for whatever network the world is kept at.
 abbrev pub Finds : Bool → KeptWorld → ℕ → Type 0
-Finds true t l = (F : List LinkName) (b : Option ℕ) (w : World) → StandsAs t F b w → HasSession w l
-Finds false t l = (F : List LinkName) (b : Option ℕ) (w : World) → StandsAs t F b w → HasNoSession w l
+Finds true t l = (F : List LinkName) (b : Option ℕ) (w : World) → WorldKeptAs t F b w → HasSession w l
+Finds false t l = (F : List LinkName) (b : Option ℕ) (w : World) → WorldKeptAs t F b w → HasNoSession w l
 
 -- ---- machines
 
@@ -45,20 +45,20 @@ abbrev pub HasMachine : (Accepting → Type 0) → KeptLink → Type 0
 HasMachine P kept = (side : KeptSide) → kept.side ≡ Some side → P side.machine
 
 -- The machine of a side made this step at an event, and is left as the step says; all else of the link is as it was.
-pub record Tells (s : Step) (e : Event) (old new : KeptLink) : Type 0 where
+pub record MachineSteps (s : Step) (e : Event) (old new : KeptLink) : Type 0 where
   pub hub : ℕ
   pub to : old.to ≡ ToHub hub
   pub was : KeptSide
   pub there : old.side ≡ Some was
   pub machine : Accepting
-  pub answers : Answers was.machine machine e s
-  pub left : LeftBy s machine
+  pub answers : AcceptingAnswers was.machine machine e s
+  pub left : LeavesAccepting s machine
   pub becomes : new ≡ record old { side = Some (record was { machine = machine }) }
 
 -- What the machine of a link's side was told: nothing where there is no such side.
-abbrev pub Hears : Option Step → Event → KeptLink → KeptLink → Type 0
-Hears None e old new = ((j : ℕ) → old.to ≡ ToHub j → old.side ≡ None) × (new ≡ old)
-Hears (Some s) e old new = Tells s e old new
+abbrev pub MachineHears : Option Step → Event → KeptLink → KeptLink → Type 0
+MachineHears None e old new = ((j : ℕ) → old.to ≡ ToHub j → old.side ≡ None) × (new ≡ old)
+MachineHears (Some s) e old new = MachineSteps s e old new
 
 -- What is judged at a link's side: the phase of its machine, and the greatest length of a message of its hub.
 pub record IsPort (w : World) (l : ℕ) (p : Phase) (max : ℕ) : Type 0 where
@@ -71,14 +71,14 @@ pub record IsPort (w : World) (l : ℕ) (p : Phase) (max : ℕ) : Type 0 where
 
 -- It is known for whatever network the world is kept at, or there is no session.
 abbrev pub FindsPort : Option (Phase × ℕ) → KeptWorld → ℕ → Type 0
-FindsPort None t l = (F : List LinkName) (b : Option ℕ) (w : World) → StandsAs t F b w → HasNoSession w l
-FindsPort (Some port) t l = (F : List LinkName) (w : World) → StandsAs t F None w → IsPort w l port.0 port.1
+FindsPort None t l = (F : List LinkName) (b : Option ℕ) (w : World) → WorldKeptAs t F b w → HasNoSession w l
+FindsPort (Some port) t l = (F : List LinkName) (w : World) → WorldKeptAs t F None w → IsPort w l port.0 port.1
 
 -- What is known of a step that a message led to: who asks has an address of a node, and what is carried has a route.
-abbrev pub IsFor : List ℕ → Step → Type 0
-IsFor m (Ask who) = (same_vmac who.vmac zero_vmac ≡ false) × (same_vmac who.vmac broadcast ≡ false)
-IsFor m Up = has_route m ≡ true
-IsFor m s = ⊤
+abbrev pub IsForMessage : List ℕ → Step → Type 0
+IsForMessage m (Ask who) = (same_vmac who.vmac zero_vmac ≡ false) × (same_vmac who.vmac broadcast ≡ false)
+IsForMessage m Up = has_route m ≡ true
+IsForMessage m s = ⊤
 
 -- How such a step leaves its side: where it asks, the side hasn't joined.
 abbrev pub IsReadyFor : Step → KeptSide → Type 0

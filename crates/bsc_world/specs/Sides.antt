@@ -9,7 +9,7 @@ use Rattle.bsc_checks.specs.declared.phase.Phase.TheVariants.{AwaitingRequest}
 use Rattle.bsc_accept.specs.declared.event.Event.TheVariants.{Message as Came}
 use Rattle.bsc_accept.specs.declared.step.Step.{Step}
 use Rattle.bsc_accept.specs.declared.step.Step.TheVariants.{Ask, Up}
-use Rattle.bsc_accept.specs.Standing.{LeftBy, phase_of}
+use Rattle.bsc_accept.specs.Standing.{LeavesAccepting, phase_of}
 use Rattle.bsc_accept.specs.Steps.{closes}
 use Rattle.bsc_node.specs.declared.link_name.LinkName.{LinkName}
 use Rattle.bsc_network.specs.declared.target.Target.TheVariants.{Hub as ToHub}
@@ -59,7 +59,7 @@ WasPassed Made old new failed w j h link l place m =
 -- How a step leaves a side: its machine as the step does, and a side that has joined doesn't wait for a Connect-Request, but
 -- where the session is to be over.
 pub record IsReadyBy (step : Step) (side : KeptSide) : Type 0 where
-  pub left : LeftBy step side.machine
+  pub left : LeavesAccepting step side.machine
   pub asked : closes step ≡ false → (joined : KeptConn) → side.joined ≡ Some joined → phase_of side.machine ≡ AwaitingRequest → ⊥
 
 -- What is known of a step that a message led to: who asks has an address of a node, and the side hasn't joined; and what is

@@ -91,7 +91,7 @@ AreReadyBut busy t = (l : ℕ) (kept : KeptLink) (side : KeptSide)
 
 -- A world is kept as the network has it, in which these dials failed whose node wasn't told yet, and the newest step of the
 -- machine of this link isn't carried out yet.
-pub record StandsAs (t : KeptWorld) (failed : List LinkName) (busy : Option ℕ) (w : World) : Type 0 where
+pub record WorldKeptAs (t : KeptWorld) (failed : List LinkName) (busy : Option ℕ) (w : World) : Type 0 where
   pub steps : t.made ≡ w.steps
   pub untold : w.failed ≡ failed
   pub named : AllByRecursion (λ name. is_name name ≡ true) failed
@@ -108,15 +108,15 @@ pub record StandsAs (t : KeptWorld) (failed : List LinkName) (busy : Option ℕ)
 -- ---- what a world stands for
 
 -- A world stands for some steps of a network of these hubs and nodes.
-pub record StandsFor (t : KeptWorld) (added : List Added) (steps : List TimedStep) : Type 0 where
+pub record WorldStands (t : KeptWorld) (added : List Added) (steps : List TimedStep) : Type 0 where
   pub course : IsCourse added steps
   pub newest : (world added steps).now ≡ end_time 0 steps
   pub clock : (world added steps).now ≤ t.clock
-  pub kept : StandsAs t [] None (world added steps)
+  pub kept : WorldKeptAs t [] None (world added steps)
 
 -- It stands for something.
 abbrev pub StandsForSome : KeptWorld → Type 0
-StandsForSome t = (added : List Added) × (steps : List TimedStep) × StandsFor t added steps
+StandsForSome t = (added : List Added) × (steps : List TimedStep) × WorldStands t added steps
 
 -- a step at the clock of a world
 abbrev pub timed : KeptWorld → WorldStep → TimedStep
@@ -124,18 +124,18 @@ timed t step = record { now = t.clock; step = step }
 
 -- What is answered to a step after these: what the network adds, where it isn't refused, and else why it is. Memory may be
 -- wanting where it isn't refused.
-abbrev pub Says : World → TimedStep → Result StepDone StepRefusal → Type 0
-Says w t (Ok done) = (refusal w t.step ≡ None) × (done.dialled ≡ dialled_at w t) × (done.deliveries ≡ delivered_at w t)
-Says w t (Err NoMemory) = refusal w t.step ≡ None
-Says w t (Err refused) = refusal w t.step ≡ Some refused
+abbrev pub WorldAnswers : World → TimedStep → Result StepDone StepRefusal → Type 0
+WorldAnswers w t (Ok done) = (refusal w t.step ≡ None) × (done.dialled ≡ dialled_at w t) × (done.deliveries ≡ delivered_at w t)
+WorldAnswers w t (Err NoMemory) = refusal w t.step ≡ None
+WorldAnswers w t (Err refused) = refusal w t.step ≡ Some refused
 
 -- What a step leaves, by its answer: one that found no memory spends the world, and after any other the world stands for
 -- one step more. A step that is refused counts, and changes nothing else.
 abbrev pub Leaves : KeptWorld → List Added → List TimedStep → Result StepDone StepRefusal → Type 0
 Leaves t added steps (Err NoMemory) = is_spent t ≡ true
-Leaves t added steps answer = (is_spent t ≡ false) × StandsFor t added steps
+Leaves t added steps answer = (is_spent t ≡ false) × WorldStands t added steps
 
 -- For whatever steps it stood, a step is answered and made after them.
 abbrev pub Steps : KeptWorld → KeptWorld → WorldStep → Result StepDone StepRefusal → Type 0
-Steps old new step answer = (added : List Added) (steps : List TimedStep) → StandsFor old added steps
-    → Says (world added steps) (timed old step) answer × Leaves new added (steps ++ timed old step ∷ []) answer
+Steps old new step answer = (added : List Added) (steps : List TimedStep) → WorldStands old added steps
+    → WorldAnswers (world added steps) (timed old step) answer × Leaves new added (steps ++ timed old step ∷ []) answer

@@ -11,7 +11,7 @@ use Rattle.bsc_ring.specs.Ends.{empties_of, found, given, outlet_mark}
 use Rattle.bsc_desk.specs.declared.desk.Desk.{Desk}
 use Rattle.bsc_desk.specs.Meetings.{IsOutletOf, KnowsOutbox}
 use Rattle.bsc_desk.specs.Rows.{known_of, row_of}
-use Rattle.bsc_desk.specs.Standing.{StandsFor}
+use Rattle.bsc_desk.specs.Standing.{DeskStands}
 use Rattle.bsc_accept.specs.Standing.{IsConnected}
 use Rattle.bsc_script.specs.Emptying.{empties_after}
 use Rattle.bsc_node.specs.declared.link_name.LinkName.{LinkName}
@@ -32,21 +32,21 @@ use Rattle.bsc_world.specs.Becoming.{Became}
 
 -- The outlet of a connection is that of its inlet, and the connection hasn't left.
 pub record OwnsOutlet (d : Desk) (S : List Stamped) (k : KeptConn) : Type 0 where
-  pub stands : StandsFor d S
+  pub stands : DeskStands d S
   pub unleft : list_any (λ x. x.number == k.conn) (unleft (entries S)) ≡ true
   pub marked : mark_of S k.conn ≡ Some (outlet_mark k.outlet)
 
 -- A meeting of an outlet and its inlet: both are as before, but that each knows of the other.
-pub record Meets (d n : Desk) (i j : KeptConn) : Type 0 where
+pub record OutletMeets (d n : Desk) (i j : KeptConn) : Type 0 where
   pub about : n.about ≡ d.about
-  pub stands : (S : List Stamped) → StandsFor d S → StandsFor n S
-  pub outlet : (S : List Stamped) → StandsFor d S → IsOutletOf d.about (entries S) i.conn j.outlet
+  pub stands : (S : List Stamped) → DeskStands d S → DeskStands n S
+  pub outlet : (S : List Stamped) → DeskStands d S → IsOutletOf d.about (entries S) i.conn j.outlet
   pub mark_same : outlet_mark j.outlet ≡ outlet_mark i.outlet
   pub given_same : given j.outlet ≡ given i.outlet
   pub empties_same : empties_of j.outlet ≡ empties_of i.outlet
   pub found_same : found j.outlet ≡ found i.outlet
   pub known : known_of n i.conn ≡ length (given j.outlet)
-  pub knows : (S : List Stamped) → StandsFor d S → KnowsOutbox d.about (entries S) i.conn j.outlet
+  pub knows : (S : List Stamped) → DeskStands d S → KnowsOutbox d.about (entries S) i.conn j.outlet
   pub others : (c : ℕ) → c ≢ i.conn → row_of n c ≡ row_of d c
   pub conn : j.conn ≡ i.conn
   pub vmac : j.vmac ≡ i.vmac
@@ -55,7 +55,7 @@ pub record Meets (d n : Desk) (i j : KeptConn) : Type 0 where
 -- What stays of a desk and of a connection that took once: the outlet fits the history, and the desk knows how many frames
 -- were taken.
 pub record StaysMet (S : List Stamped) (d n : Desk) (i j : KeptConn) : Type 0 where
-  pub stands : StandsFor n S
+  pub stands : DeskStands n S
   pub about : n.about ≡ d.about
   pub others : (c : ℕ) → c ≢ i.conn → row_of n c ≡ row_of d c
   pub conn : j.conn ≡ i.conn

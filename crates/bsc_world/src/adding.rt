@@ -5,7 +5,7 @@ ghost use Rattle.bsc_frame.specs.Payloads.{IsNode};
 ghost use Rattle.bsc_network.specs.Settings.{Added, and_hub, and_node, settings};
 ghost use Rattle.bsc_network.specs.Worlds.{new_hub, new_node};
 ghost use Rattle.bsc_world.specs.Kept.{IsHubKept, IsNodeKept};
-ghost use Rattle.bsc_world.specs.Standing.{StandsFor, clock_of, hub_count, is_spent, node_count, steps_made};
+ghost use Rattle.bsc_world.specs.Standing.{WorldStands, clock_of, hub_count, is_spent, node_count, steps_made};
 
 use crate::kept_hub::KeptHub;
 use crate::kept_node::KeptNode;
@@ -115,7 +115,7 @@ impl World {
         requires few_calls { limits.calls ≤ MOST_CALLS }
         requires some_callers { 1 ≤ limits.callers }
         requires few_callers { limits.callers ≤ MOST_CALLERS }
-        ensures ok { (added : List Added) → StandsFor self.old added [] → OnOk result (StandsFor self.new (and_hub added hub limits) []) }
+        ensures ok { (added : List Added) → WorldStands self.old added [] → OnOk result (WorldStands self.new (and_hub added hub limits) []) }
         ensures clock { clock_of self.new ≡ clock_of self.old }
         ensures spent { is_spent self.new ≡ is_spent self.old }
         ensures err { OnErr result (self.new ≡ self.old) }
@@ -133,7 +133,7 @@ impl World {
         requires few { node_count self.old < NODES }
         requires not_zero { IsFalse (same_vmac own.vmac zero_vmac) }
         requires not_broadcast { IsFalse (same_vmac own.vmac broadcast) }
-        ensures ok { (added : List Added) → StandsFor self.old added [] → OnOk result (StandsFor self.new (and_node added own direct) []) }
+        ensures ok { (added : List Added) → WorldStands self.old added [] → OnOk result (WorldStands self.new (and_node added own direct) []) }
         ensures clock { clock_of self.new ≡ clock_of self.old }
         ensures spent { is_spent self.new ≡ is_spent self.old }
         ensures err { OnErr result (self.new ≡ self.old) }

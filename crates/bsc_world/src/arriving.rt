@@ -12,7 +12,7 @@ ghost use Rattle.bsc_network.specs.Arriving.{arrives, event_of, is_lost, loses, 
 ghost use Rattle.bsc_network.specs.Refusals.{refusal};
 ghost use Rattle.bsc_world.specs.Coming.{MayBring};
 ghost use Rattle.bsc_world.specs.Fronts.{HasEnds, IsLost, TakesFront, ends_pair, front_gone, reaches_from};
-ghost use Rattle.bsc_world.specs.Standing.{StandsAs};
+ghost use Rattle.bsc_world.specs.Standing.{WorldKeptAs};
 ghost use Rattle.bsc_world.specs.Becoming.{Became, Becomes, Does, DoesWhere, Keeps, Stands, StandsDoing};
 
 use crate::doing::Doing;
@@ -62,7 +62,7 @@ impl KeptLink {
 impl World {
     /// Under which name a node has the end of a link that hears by a way.
     fn name_at(&self, node: u32, link: u32, way: Way) -> Option<LinkName>
-        ensures found { (F : List NameOf) (b : Option ℕ) (w : WorldOf) (n : Node) → StandsAs self.now F b w
+        ensures found { (F : List NameOf) (b : Option ℕ) (w : WorldOf) (n : Node) → WorldKeptAs self.now F b w
             → node_at w node ≡ Some n → result ≡ name_of link way n }
         ensures named { IfSome result (λ name. is_name name ≡ true) }
     {
@@ -117,10 +117,10 @@ impl World {
 
     /// Takes the front of a way, where there is one, of a link that isn't lost.
     fn take_front(&mut self, link: u32, way: Way) -> Option<Parcel>
-        ensures front { (F : List NameOf) (w : WorldOf) (at : Link) → w.now ≡ self.old.clock → StandsAs self.old F None w
+        ensures front { (F : List NameOf) (w : WorldOf) (at : Link) → w.now ≡ self.old.clock → WorldKeptAs self.old F None w
             → link_at w link ≡ Some at → at.is_lost ≡ false
             → (result ≡ front (traffic way at)) × Became self.old self.new F None w (with_link link (with_traffic way (front_gone result)) w) }
-        ensures lasts { IfSome result (λ parcel. (F : List NameOf) (w : WorldOf) (at : Link) → StandsAs self.old F None w
+        ensures lasts { IfSome result (λ parcel. (F : List NameOf) (w : WorldOf) (at : Link) → WorldKeptAs self.old F None w
             → link_at w link ≡ Some at → at.is_lost ≡ false) }
     {
         let place = link as usize;
@@ -136,7 +136,7 @@ impl World {
 
     /// Which node dialled a link, and what it leads to, where there is such a link.
     fn ends_of(&self, link: u32) -> Option<(u32, Target)>
-        ensures { (F : List NameOf) (b : Option ℕ) (w : WorldOf) → StandsAs self.now F b w → result ≡ option_map ends_pair (link_at w link) }
+        ensures { (F : List NameOf) (b : Option ℕ) (w : WorldOf) → WorldKeptAs self.now F b w → result ≡ option_map ends_pair (link_at w link) }
     {
         match self.links.get(link as usize) {
             Some(kept) => Some((kept.from, kept.to)),
@@ -203,7 +203,7 @@ impl World {
         requires time { self.old.clock < 2 ^ 62 }
         requires none { doing.old.failed.items ≡ [] }
         requires some { StandsDoing self.old doing.old }
-        requires ends { (F : List NameOf) (b : Option ℕ) (w : WorldOf) → StandsAs self.old F b w → HasEnds from to (link_at w link) }
+        requires ends { (F : List NameOf) (b : Option ℕ) (w : WorldOf) → WorldKeptAs self.old F b w → HasEnds from to (link_at w link) }
         ensures does { OnOk result (DoesWhere (λ w. refusal w (WorldStep.Arrive link way) ≡ None) (arrives link way) self.old doing.old self.new doing.new) }
         ensures none { OnOk result (doing.new.failed.items ≡ []) }
     {
@@ -301,7 +301,7 @@ impl World {
         requires time { self.old.clock < 2 ^ 62 }
         requires none { doing.old.failed.items ≡ [] }
         requires some { StandsDoing self.old doing.old }
-        requires ends { (F : List NameOf) (b : Option ℕ) (w : WorldOf) → StandsAs self.old F b w → HasEnds from to (link_at w link) }
+        requires ends { (F : List NameOf) (b : Option ℕ) (w : WorldOf) → WorldKeptAs self.old F b w → HasEnds from to (link_at w link) }
         ensures does { OnOk result (Does (is_lost link) self.old doing.old self.new doing.new) }
         ensures none { OnOk result (doing.new.failed.items ≡ []) }
     {

@@ -7,7 +7,7 @@ ghost use Rattle.bsc_world.specs.declared.kept_node.KeptNode.{KeptNode as KeptNo
 ghost use Rattle.bsc_network.specs.Worlds.{World as WorldOf};
 ghost use Rattle.bsc_network.specs.Dialling.{dials, dials_to, first_down, first_up, is_uri, leads_to, same_uri, target_of};
 ghost use Rattle.bsc_world.specs.Fresh.{IsNewSideTo, MakesLink, MayDial};
-ghost use Rattle.bsc_world.specs.Standing.{StandsAs};
+ghost use Rattle.bsc_world.specs.Standing.{WorldKeptAs};
 ghost use Rattle.bsc_world.specs.Becoming.{Does, DoesWhere};
 
 use crate::doing::Doing;
@@ -85,7 +85,7 @@ fn first_up(alloc: Global, place: u64, target: Target) -> Result<VecDeque<Parcel
 impl World {
     /// What has a URI: a hub, or a node that accepts direct connections.
     fn target_of(&self, uri: &[u8]) -> Option<Target>
-        ensures { (F : List NameOf) (b : Option ℕ) (w : WorldOf) → StandsAs self.now F b w → result ≡ target_of w uri.now }
+        ensures { (F : List NameOf) (b : Option ℕ) (w : WorldOf) → WorldKeptAs self.now F b w → result ≡ target_of w uri.now }
     {
         match hub_with(self.hubs.as_slice(), uri) {
             Some(place) => Some(Target::Hub(place as u32)),
@@ -99,7 +99,8 @@ impl World {
     /// Where a dial leads, unless it fails.
     fn leads_to(&self, uri: &[u8]) -> Option<Target>
         ensures room { IfSome result (λ target. length self.now.links.items < LINKS) }
-        ensures leads { (F : List NameOf) (b : Option ℕ) (w : WorldOf) → StandsAs self.now F b w → result ≡ leads_to w uri.now }
+        ensures leads { (F : List NameOf) (b : Option ℕ) (w : WorldOf) → WorldKeptAs self.now F b w
+            → result ≡ leads_to w uri.now }
     {
         if self.links.len() < LINKS {
             self.target_of(uri)

@@ -6,13 +6,13 @@ ghost use Rattle.bsc_history.specs.declared.call.Call.TheVariants.{Stop as StopC
 ghost use Rattle.bsc_history.specs.declared.mark.Stamped.{Stamped};
 ghost use Rattle.bsc_history.specs.Marks.{entries as entries_of};
 ghost use Rattle.bsc_history.specs.Replies.{is_stopped};
-ghost use Rattle.bsc_desk.specs.Standing.{StandsFor as DeskStandsFor};
+ghost use Rattle.bsc_desk.specs.Standing.{DeskStands};
 ghost use Rattle.bsc_node.specs.declared.link_name.LinkName.{LinkName as NameOf};
 ghost use Rattle.bsc_network.specs.Worlds.{World as WorldOf, Hub, Link as LinkOf, history, hub_at};
 ghost use Rattle.bsc_network.specs.HubCalls.{called, no_link};
 ghost use Rattle.bsc_world.specs.HubEntries.{HasLeft, HasStopped, IsAsked, IsSeated, LeadsNowhere, LeadsTo, LetsGo, MayLeave};
 ghost use Rattle.bsc_network.specs.HubSides.{leaves, unless_over};
-ghost use Rattle.bsc_world.specs.Standing.{StandsAs};
+ghost use Rattle.bsc_world.specs.Standing.{WorldKeptAs};
 ghost use Rattle.bsc_world.specs.Becoming.{Became, BecomesBusy, HasSide, Stands};
 ghost use Rattle.bsc_world.specs.Sides.{IsSideOf, KeepsMachine, WasAsked, WasPassed};
 ghost use Rattle.bsc_world.specs.Passing.{ConnIs};
@@ -46,7 +46,7 @@ impl KeptHub {
     /// Whether it has made as many entries as it may.
     fn is_worn(&self) -> bool
         requires same { self.now.desk.about ≡ self.now.about }
-        ensures { (S : List Stamped) → DeskStandsFor self.now.desk S → result ≡ nat_le self.now.desk.about.limits.calls (length S) }
+        ensures { (S : List Stamped) → DeskStands self.now.desk S → result ≡ nat_le self.now.desk.about.limits.calls (length S) }
     {
         self.about.limits.calls <= self.desk.made()
     }
@@ -56,7 +56,7 @@ impl KeptHub {
         requires not_zero { IsFalse (same_vmac who.vmac zero_vmac) }
         requires not_broadcast { IsFalse (same_vmac who.vmac broadcast) }
         requires same { self.old.desk.about ≡ self.old.about }
-        ensures { (S : List Stamped) → DeskStandsFor self.old.desk S → IfOk result (λ asked. IsAsked S link who asked self.old self.new) }
+        ensures { (S : List Stamped) → DeskStands self.old.desk S → IfOk result (λ asked. IsAsked S link who asked self.old self.new) }
     {
         let vmac = who.vmac;
         let (inlet, outlet) = make(alloc, self.about.limits.outbox)?;
@@ -77,7 +77,7 @@ impl KeptHub {
     /// The connection that a link joined leaves. No memory is taken.
     fn leave(&mut self, link: u32, joined: KeptConn)
         requires may { MayLeave self.old.desk link joined }
-        ensures { (S : List Stamped) → DeskStandsFor self.old.desk S → HasLeft S link joined self.old self.new }
+        ensures { (S : List Stamped) → DeskStands self.old.desk S → HasLeft S link joined self.old self.new }
     {
         let KeptConn {
             conn,
@@ -90,7 +90,7 @@ impl KeptHub {
 
     /// It stops, where it hasn't yet. No memory is taken.
     fn stop(&mut self)
-        ensures { (S : List Stamped) → DeskStandsFor self.old.desk S → is_stopped (entries_of S) ≡ false → HasStopped S self.old self.new }
+        ensures { (S : List Stamped) → DeskStands self.old.desk S → is_stopped (entries_of S) ≡ false → HasStopped S self.old self.new }
     {
         match self.desk.stop(NO_LINK) {
             Ok(_) => self.has_stopped = true,
@@ -165,7 +165,7 @@ impl World {
         requires some { Stands (Some link) self.old }
         requires unjoined { HasSide self.old link (λ side. side.joined ≡ None) }
         ensures machine { KeepsMachine link self.old self.new }
-        ensures made { IfOk result (λ asked. (F : List NameOf) (w : WorldOf) → w.now ≡ self.old.clock → StandsAs self.old F (Some link) w
+        ensures made { IfOk result (λ asked. (F : List NameOf) (w : WorldOf) → w.now ≡ self.old.clock → WorldKeptAs self.old F (Some link) w
             → (j : ℕ) (h : Hub) (at : LinkOf) → IsSideOf w link j h at → WasAsked asked self.old self.new F w j h link place who) }
     {
         let Some(hub) = self.hub_of(link) else {
@@ -196,7 +196,8 @@ impl World {
     ) -> Result<Passed, NoMemory>
         requires route { IsTrue (has_route m.now) }
         requires some { Stands None self.old }
-        ensures { IfOk result (λ passed. (F : List NameOf) (w : WorldOf) → w.now ≡ self.old.clock → StandsAs self.old F None w
+        ensures { IfOk result (λ passed. (F : List NameOf) (w : WorldOf) → w.now ≡ self.old.clock
+            → WorldKeptAs self.old F None w
             → (j : ℕ) (h : Hub) (at : LinkOf) → IsSideOf w link j h at → WasPassed passed self.old self.new F w j h at link place m.now) }
     {
         let Some(hub) = self.hub_of(link) else {
@@ -251,7 +252,7 @@ impl World {
     /// A hub stops. No memory is taken.
     pub(crate) fn call_stop(&mut self, hub: u32)
         requires some { Stands None self.old }
-        ensures { (F : List NameOf) (w : WorldOf) (h : Hub) → w.now ≡ self.old.clock → StandsAs self.old F None w → hub_at w hub ≡ Some h
+        ensures { (F : List NameOf) (w : WorldOf) (h : Hub) → w.now ≡ self.old.clock → WorldKeptAs self.old F None w → hub_at w hub ≡ Some h
             → is_stopped (history h) ≡ false → Became self.old self.new F None w (called hub no_link w.steps StopCall w) }
     {
         let place = hub as usize;

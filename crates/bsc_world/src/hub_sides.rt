@@ -8,10 +8,10 @@ ghost use Rattle.bsc_network.specs.declared.way.Way.TheVariants.{Down};
 ghost use Rattle.bsc_network.specs.Worlds.{World as WorldOf};
 ghost use Rattle.bsc_network.specs.Changes.{puts_now};
 ghost use Rattle.bsc_network.specs.HubSides.{acts_on, carries_out, closes, connects, forwards, receives, tells, unless_over};
-ghost use Rattle.bsc_world.specs.Standing.{StandsAs};
+ghost use Rattle.bsc_world.specs.Standing.{WorldKeptAs};
 ghost use Rattle.bsc_world.specs.Becoming.{Became, Becomes, BecomesBusy, HasSide, Keeps, Stands};
 ghost use Rattle.bsc_world.specs.Sides.{Heard, IsReadyBy, KeepsSides};
-ghost use Rattle.bsc_world.specs.SideCalls.{asks, Finds, FindsPort, HasMachine, Hears, IsFor, IsPort, IsReadyFor};
+ghost use Rattle.bsc_world.specs.SideCalls.{asks, Finds, FindsPort, HasMachine, MachineHears, IsForMessage, IsPort, IsReadyFor};
 
 use crate::asked::Asked;
 use crate::kept_link::KeptLink;
@@ -35,7 +35,7 @@ impl KeptLink {
     /// The machine of the hub's side, where there is one, hears that who asked has joined.
     fn hear_joined(&mut self) -> Option<Step>
         requires { HasMachine (λ m. AwaitsAnswer m) self.old }
-        ensures { Hears result Event.Joined self.old self.new }
+        ensures { MachineHears result Event.Joined self.old self.new }
     {
         let Target::Hub(_) = self.to else {
             return None;
@@ -49,7 +49,7 @@ impl KeptLink {
     /// It hears that who asked was refused.
     fn hear_refused(&mut self, refusal: &Refusal) -> Option<Step>
         requires { HasMachine (λ m. AwaitsAnswer m) self.old }
-        ensures { Hears result (Event.Refused refusal.now) self.old self.new }
+        ensures { MachineHears result (Event.Refused refusal.now) self.old self.new }
     {
         let Target::Hub(_) = self.to else {
             return None;
@@ -64,7 +64,7 @@ impl KeptLink {
     fn hear_ended(&mut self, now: u64, ending: End) -> Option<Step>
         requires connected { HasMachine (λ m. IsConnected m) self.old }
         requires ending { ending ≢ End.Left }
-        ensures { Hears result (Event.Ended now ending) self.old self.new }
+        ensures { MachineHears result (Event.Ended now ending) self.old self.new }
     {
         let Target::Hub(_) = self.to else {
             return None;
@@ -78,7 +78,7 @@ impl KeptLink {
     /// It hears a message, with its verdict.
     fn hear_message(&mut self, now: u64, verdict: &Verdict) -> Option<Step>
         requires { HasMachine (λ m. IsOpen m) self.old }
-        ensures { Hears result (Event.Message now verdict.now) self.old self.new }
+        ensures { MachineHears result (Event.Message now verdict.now) self.old self.new }
     {
         let Target::Hub(_) = self.to else {
             return None;
@@ -206,7 +206,7 @@ impl World {
         requires some { Stands None self.old }
         requires connected { HasSide self.old link (λ side. IsConnected side.machine) }
         requires ending { ending ≢ End.Left }
-        ensures { OnOk result ((F : List NameOf) (w : WorldOf) → w.now ≡ self.old.clock → StandsAs self.old F None w
+        ensures { OnOk result ((F : List NameOf) (w : WorldOf) → w.now ≡ self.old.clock → WorldKeptAs self.old F None w
             → Became self.old self.new F None w (unless_over link (tells link (Event.Ended w.now ending)) w)) }
     {
         let place = link as usize;
@@ -303,10 +303,11 @@ impl World {
         max: u16,
     ) -> Result<Option<Step>, NoMemory>
         requires some { Stands None self.old }
-        requires port { (F : List NameOf) (w : WorldOf) → StandsAs self.old F None w → IsPort w link phase max }
-        ensures fits { IfOk result (λ o. IfSome o (λ step. IsFor m.now step)) }
+        requires port { (F : List NameOf) (w : WorldOf) → WorldKeptAs self.old F None w → IsPort w link phase max }
+        ensures fits { IfOk result (λ o. IfSome o (λ step. IsForMessage m.now step)) }
         ensures left { IfOk result (λ o. IfSome o (λ step. HasSide self.new link (λ side. IsReadyFor step side))) }
-        ensures told { IfOk result (λ o. (F : List NameOf) (w : WorldOf) → w.now ≡ self.old.clock → StandsAs self.old F None w
+        ensures told { IfOk result (λ o. (F : List NameOf) (w : WorldOf) → w.now ≡ self.old.clock
+            → WorldKeptAs self.old F None w
             → Heard o link m.now self.old self.new F w) }
     {
         let verdict = judge(alloc, m, &Place::HubPort { phase }, max)?;
@@ -322,9 +323,10 @@ impl World {
     /// The machine hears a message, where the session lasts: its step.
     fn hear_from(&mut self, alloc: Global, link: u32, m: &[u8]) -> Result<Option<Step>, NoMemory>
         requires some { Stands None self.old }
-        ensures fits { IfOk result (λ o. IfSome o (λ step. IsFor m.now step)) }
+        ensures fits { IfOk result (λ o. IfSome o (λ step. IsForMessage m.now step)) }
         ensures left { IfOk result (λ o. IfSome o (λ step. HasSide self.new link (λ side. IsReadyFor step side))) }
-        ensures told { IfOk result (λ o. (F : List NameOf) (w : WorldOf) → w.now ≡ self.old.clock → StandsAs self.old F None w
+        ensures told { IfOk result (λ o. (F : List NameOf) (w : WorldOf) → w.now ≡ self.old.clock
+            → WorldKeptAs self.old F None w
             → Heard o link m.now self.old self.new F w) }
     {
         match self.port_of(link) {
@@ -343,7 +345,7 @@ impl World {
         step: Step,
     ) -> Result<(), NoMemory>
         requires some { Stands (Some link) self.old }
-        requires fits { IsFor m.now step }
+        requires fits { IsForMessage m.now step }
         requires left { HasSide self.old link (λ side. IsReadyFor step side) }
         ensures { OnOk result (BecomesBusy (Some link) None (unless_over link (acts_on link place m.now step)) self.old self.new) }
     {

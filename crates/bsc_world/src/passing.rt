@@ -6,7 +6,7 @@ ghost use Rattle.bsc_history.specs.Laws.{is_among, names};
 ghost use Rattle.bsc_ring.specs.Ends.{outlet_mark};
 ghost use Rattle.bsc_desk.specs.Entries.{all_looks, all_reply, one_looks, one_reply};
 ghost use Rattle.bsc_desk.specs.Rows.{HasRow, IsMarkOf, IsRowOf};
-ghost use Rattle.bsc_desk.specs.Standing.{StandsFor as DeskStandsFor};
+ghost use Rattle.bsc_desk.specs.Standing.{DeskStands};
 ghost use Rattle.bsc_world.specs.Passing.{ConnMet, IsForwarded, LinkMet, MayMeet, MidwaySome, MidwayTo, looked_at, receivers};
 
 use crate::kept_hub::KeptHub;
@@ -104,8 +104,8 @@ impl KeptHub {
     ) -> Result<Option<Passing>, NoMemory>
         requires route { IsTrue (has_route m.now) }
         requires unleft { IsRowOf self.old.desk link conn from }
-        requires some { (S : List Stamped) × DeskStandsFor self.old.desk S }
-        ensures { (S : List Stamped) → DeskStandsFor self.old.desk S → IfOk result (λ passing. IsForwarded S link conn m.now passing self.old self.new) }
+        requires some { (S : List Stamped) × DeskStands self.old.desk S }
+        ensures { (S : List Stamped) → DeskStands self.old.desk S → IfOk result (λ passing. IsForwarded S link conn m.now passing self.old self.new) }
     {
         let frame = prepare(alloc, m, from)?;
         if frame.is_broadcast() {

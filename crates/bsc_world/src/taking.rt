@@ -8,8 +8,8 @@ ghost use Rattle.bsc_node.specs.declared.link_name.LinkName.{LinkName as NameOf}
 ghost use Rattle.bsc_network.specs.Worlds.{World as WorldOf};
 ghost use Rattle.bsc_network.specs.Refusals.{refusal};
 ghost use Rattle.bsc_network.specs.Taking.{takes};
-ghost use Rattle.bsc_world.specs.Takes.{LinkTook, MayTake, Meets, OwnsOutlet, TookOne, WasTaken};
-ghost use Rattle.bsc_world.specs.Standing.{StandsAs};
+ghost use Rattle.bsc_world.specs.Takes.{LinkTook, MayTake, OutletMeets, OwnsOutlet, TookOne, WasTaken};
+ghost use Rattle.bsc_world.specs.Standing.{WorldKeptAs};
 ghost use Rattle.bsc_world.specs.Becoming.{BecomesWhere, HasSide, Stands};
 
 use crate::kept_link::{KeptConn, KeptLink};
@@ -36,7 +36,7 @@ pub(crate) enum Took {
 fn meet(desk: &mut Desk, conn: &mut KeptConn)
     requires row { HasRow desk.old conn.old.conn }
     requires mark { IsMarkOf desk.old conn.old.conn (outlet_mark conn.old.outlet) }
-    ensures { Meets desk.old desk.new conn.old conn.new }
+    ensures { OutletMeets desk.old desk.new conn.old conn.new }
 {
     desk.meet(conn.conn, &mut conn.outlet);
 }
@@ -91,7 +91,7 @@ impl World {
     fn take_from(&mut self, link: u32) -> Option<Took>
         requires some { Stands None self.old }
         ensures connected { IfSome result (λ took. HasSide self.new link (λ side. IsConnected side.machine)) }
-        ensures taken { (F : List NameOf) (w : WorldOf) → w.now ≡ self.old.clock → StandsAs self.old F None w
+        ensures taken { (F : List NameOf) (w : WorldOf) → w.now ≡ self.old.clock → WorldKeptAs self.old F None w
             → WasTaken result self.old self.new F w link }
     {
         let Some(hub) = self.hub_of(link) else {

@@ -13,22 +13,22 @@ use Rattle.tungstenite.specs.declared.message.Message.{Message}
 use Rattle.tungstenite.specs.declared.message.Message.TheVariants as M
 
 -- What is answered where the socket's read failed: the end is Closed, a stream that gave nothing in time is Quiet, and all else but want of memory is a fault.
-abbrev pub Fails : Error → Result Incoming LinkFault → Type 0
-Fails E.ConnectionClosed answer = answer ≡ Ok In.Closed
-Fails E.OutOfMemory answer = answer ≡ Err NoMemory
-Fails (E.Io cause) answer =
+abbrev pub AnswersError : Error → Result Incoming LinkFault → Type 0
+AnswersError E.ConnectionClosed answer = answer ≡ Ok In.Closed
+AnswersError E.OutOfMemory answer = answer ≡ Err NoMemory
+AnswersError (E.Io cause) answer =
     ((error_kind cause ≡ WouldBlock) × (answer ≡ Ok In.Quiet))
     ⊎ ((error_kind cause ≢ WouldBlock) × (answer ≡ Err Failed))
-Fails e answer = answer ≡ Err Failed
+AnswersError e answer = answer ≡ Err Failed
 
 -- What is answered where the socket read this: the octets of a binary message unless there is no memory for them, Text, Quiet of a ping and a pong, Closed of a close.
-abbrev pub Answers : Result Message Error → Result Incoming LinkFault → Type 0
-Answers (Ok (M.Binary octets)) answer = (answer ≡ Ok (In.Message octets)) ⊎ (answer ≡ Err NoMemory)
-Answers (Ok (M.Text text)) answer = answer ≡ Ok In.Text
-Answers (Ok (M.Ping octets)) answer = answer ≡ Ok In.Quiet
-Answers (Ok (M.Pong octets)) answer = answer ≡ Ok In.Quiet
-Answers (Ok (M.Close frame)) answer = answer ≡ Ok In.Closed
-Answers (Err e) answer = Fails e answer
+abbrev pub AnswersRead : Result Message Error → Result Incoming LinkFault → Type 0
+AnswersRead (Ok (M.Binary octets)) answer = (answer ≡ Ok (In.Message octets)) ⊎ (answer ≡ Err NoMemory)
+AnswersRead (Ok (M.Text text)) answer = answer ≡ Ok In.Text
+AnswersRead (Ok (M.Ping octets)) answer = answer ≡ Ok In.Quiet
+AnswersRead (Ok (M.Pong octets)) answer = answer ≡ Ok In.Quiet
+AnswersRead (Ok (M.Close frame)) answer = answer ≡ Ok In.Closed
+AnswersRead (Err e) answer = AnswersError e answer
 
 -- Where the peer closed, what waited to be sent went out behind what was read, as far as the stream took it. Else the socket is where the read left it.
 abbrev pub HasReplied : {S : Type 0} → (S → Option (List ℕ)) → Socket S → Socket S → Result Incoming LinkFault → Type 0
@@ -38,7 +38,7 @@ HasReplied contents left new answer = new ≡ left
 -- The answer is that of what the socket read from the octets of its stream, and a close was replied to.
 abbrev pub Receives : {S : Type 0} → (S → Option (List ℕ)) → (S → Option (List ℕ)) → Socket S → Socket S → Result Incoming LinkFault → Type 0
 Receives {S = S} remaining contents old new answer =
-    (read : Result Message Error) × (left : Socket S) × Reads remaining old left read × Answers read answer
+    (read : Result Message Error) × (left : Socket S) × Reads remaining old left read × AnswersRead read answer
     × HasReplied contents left new answer
 
 -- The wait couldn't be set: that is a fault, and nothing was read.

@@ -1,5 +1,5 @@
 //! What errors of a socket come to.
-ghost use Rattle.bsc_ws.specs.Receiving.{Fails};
+ghost use Rattle.bsc_ws.specs.Receiving.{AnswersError};
 ghost use Rattle.bsc_ws.specs.Sending.{FaultOf};
 
 use bsc_edge::{Incoming, LinkFault};
@@ -8,7 +8,7 @@ use tungstenite::Error;
 
 /// What `receive` answers where the socket's read failed by this.
 pub(crate) fn failure(error: Error) -> Result<Incoming, LinkFault>
-    ensures { Fails error result }
+    ensures { AnswersError error result }
 {
     match error {
         Error::ConnectionClosed => Ok(Incoming::Closed),

@@ -4,7 +4,7 @@ ghost use Rattle.bsc_edge.specs.Told.{Grows, Stays, IsQuiet, fault_in};
 ghost use Rattle.bsc_edge.specs.declared.fault.LinkFault.{LinkFault};
 ghost use Rattle.bsc_edge.specs.declared.said.Said.{Said};
 ghost use Rattle.bsc_outside.specs.Faults.{HasRisen};
-ghost use Rattle.bsc_ws.specs.Receiving.{Answers, Receives, HasReplied, IsUnset};
+ghost use Rattle.bsc_ws.specs.Receiving.{AnswersRead, Receives, HasReplied, IsUnset};
 ghost use Rattle.bsc_ws.specs.Sending.{FaultOf, Unsent};
 ghost use Rattle.tungstenite.specs.Connection.{write_step, close_step};
 ghost use Rattle.tungstenite.specs.Content.{binary};
@@ -42,7 +42,7 @@ fn octets_of(alloc: Global, bytes: Bytes) -> Result<Octets, NoMemory>
 
 /// What `receive` answers where the socket read this.
 fn answer(alloc: Global, read: Result<Message, Error>) -> Result<Incoming, LinkFault>
-    ensures { Answers read result }
+    ensures { AnswersRead read result }
 {
     match read {
         Ok(Message::Binary(bytes)) => match octets_of(alloc, bytes) {

@@ -1,24 +1,18 @@
 //! Each status of a run, with what stands written after it.
 ghost use Rattle.std.specs.Prelude.{◌≡◌, None};
 
-mod direct;
-mod journals;
-mod loopback;
-mod process;
-
-use crate::commands::journals::{KeptJournal, KeptJournals};
+use crate::journals::{KeptJournal, KeptJournals};
+use crate::runs::{files_of, status_of};
 use bsc_audit_command::run_audit;
-use bsc_commands::run;
-use bsc_edge::{
-    Acceptor, Clock, Dialer, Files, Link, MemAcceptor, MemClock, MemDialer, MemFile, MemFiles,
-    MemLink, MemSpawner, MemWaiter, Spawner, Waiter,
-};
+use bsc_commands::Outside;
+use bsc_edge::{MemAcceptor, MemClock, MemDialer, MemLink, MemSpawner, MemWaiter};
 use bsc_hub::Kept;
-use bsc_node_run::{MemWords, Words};
-use bsc_octets::{NoMemory, Octets};
+use bsc_hub_command::HubPlace;
+use bsc_node_run::{MemWords, NodeParts};
+use bsc_octets::NoMemory;
 use bsc_outside::{MemSink, MemSource};
+use bsc_serve::ServingParts;
 use bsc_session::SessionJob;
-use bsc_words::ReadWords;
 use std::alloc::Global;
 use std::process::Abort;
 use std::sync::Wait;
@@ -261,31 +255,6 @@ const CASES: [Case; 16] = [
     },
 ];
 
-/// The words as a run takes them.
-fn words_of(alloc: Global, words: &[&str]) -> Result<Vec<String>, NoMemory> {
-    let mut all = Vec::new(alloc);
-    for word in words {
-        all.push(String::from_str(alloc, word)?)?;
-    }
-    Ok(all)
-}
-
-/// A file by its path and its text.
-fn file_of(alloc: Global, path: &str, text: &str) -> Result<MemFile, NoMemory> {
-    Ok(MemFile {
-        path: Octets::from_vec(Vec::from_slice(alloc, path.as_bytes())?),
-        octets: Octets::from_vec(Vec::from_slice(alloc, text.as_bytes())?),
-    })
-}
-
-/// The files `settings` and `script`.
-fn files_of(alloc: Global, settings: &str, script: &str) -> Result<MemFiles<'static>, NoMemory> {
-    let mut files = Vec::new(alloc);
-    files.push(file_of(alloc, "settings", settings)?)?;
-    files.push(file_of(alloc, "script", script)?)?;
-    Ok(MemFiles::new(files, &[]))
-}
-
 /// Three links that close at once.
 fn three_links(alloc: Global) -> Result<Vec<MemLink<'static>>, NoMemory> {
     let mut links = Vec::new(alloc);
@@ -295,100 +264,61 @@ fn three_links(alloc: Global) -> Result<Vec<MemLink<'static>>, NoMemory> {
     Ok(links)
 }
 
-/// The status of a run on these words.
-fn status_of<
-    R: Threads + Wait + Sync,
-    F: Files,
-    C: Clock + Drop,
-    V: Waiter,
-    W: Words,
-    L: Link + Drop,
-    A: Acceptor<L>,
-    D: Dialer<L>,
-    P: Spawner<SessionJob<L, C, KeptJournal>>,
->(
-    rt: &R,
-    alloc: Global,
-    words: &[&str],
-    source: &mut MemSource<'_>,
-    sink: &mut MemSink<'_>,
-    files: &mut F,
-    clock: &mut C,
-    waiter: &mut V,
-    random: &mut W,
-    acceptor: &mut A,
-    dialer: &mut D,
-    spawner: &mut P,
-    own: &mut Option<KeptJournal>,
-) -> Result<u8, NoMemory>
-    requires can { P.can_start spawner.old }
-    requires own { own.old ≡ None }
-{
-    let words = words_of(alloc, words)?;
-    let read = ReadWords::of(alloc, words.as_slice());
-    let mut kept = Kept {
-        hub: None,
-        pass: None,
-    };
-    let mut journals = KeptJournals;
-    Ok(run(
-        rt,
-        alloc,
-        &read,
-        source,
-        sink,
-        files,
-        clock,
-        waiter,
-        random,
-        acceptor,
-        dialer,
-        spawner,
-        &mut kept,
-        &mut journals,
-        own,
-    ))
+/// What a run came to: its status, what stands written after it, and the own journal of its hub, if there is one.
+#[derive(Drop)]
+struct Came {
+    status: u8,
+    sink: MemSink<'static>,
+    own: Option<KeptJournal>,
 }
 
-/// The status of a case, what is written going into the sink.
-fn status_in_memory<R: Threads + Wait + Sync>(
+/// What a case comes to in memory.
+fn came_in_memory<R: Threads + Wait + Sync>(
     rt: &R,
     alloc: Global,
     case: &Case,
-    sink: &mut MemSink<'_>,
-    own: &mut Option<KeptJournal>,
-) -> Result<u8, NoMemory>
-    requires { own.old ≡ None }
-{
-    let mut spawner: MemSpawner<'_, SessionJob<MemLink<'static>, MemClock<'static>, KeptJournal>> =
+) -> Result<Came, NoMemory> {
+    let spawner: MemSpawner<'_, SessionJob<MemLink<'static>, MemClock<'static>, KeptJournal>> =
         MemSpawner::new(alloc, &[2]);
-    let mut files = files_of(alloc, case.settings, case.script)?;
-    let mut acceptor = MemAcceptor::new(alloc, three_links(alloc)?, case.failing);
-    status_of(
-        rt,
-        alloc,
-        case.words,
-        &mut MemSource::in_pieces(case.script.as_bytes(), 85, case.failing),
+    let sink = MemSink::make(alloc, case.room, &[])?;
+    let files = files_of(alloc, case.settings, case.script)?;
+    let links = three_links(alloc)?;
+    let mut outside = Outside {
+        source: MemSource::in_pieces(case.script.as_bytes(), 85, case.failing),
         sink,
-        &mut files,
-        &mut MemClock::new(alloc, READINGS),
-        &mut MemWaiter::new(alloc),
-        &mut MemWords::new(&[]),
-        &mut acceptor,
-        &mut MemDialer::new(alloc, Vec::new(alloc), &[]),
-        &mut spawner,
-        own,
-    )
+        files,
+        node: NodeParts {
+            waiter: MemWaiter::new(alloc),
+            random: MemWords::new(&[]),
+            dialer: MemDialer::new(alloc, Vec::new(alloc), &[]),
+        },
+        place: HubPlace {
+            kept: Kept {
+                hub: None,
+                pass: None,
+            },
+            own: None,
+        },
+        parts: ServingParts {
+            acceptor: MemAcceptor::new(alloc, links, case.failing),
+            clock: MemClock::new(alloc, READINGS),
+            spawner,
+            journals: KeptJournals,
+        },
+    };
+    let status = status_of(rt, alloc, case.words, &mut outside)?;
+    let Outside { sink, place, .. } = outside;
+    let HubPlace { own, .. } = place;
+    Ok(Came { status, sink, own })
 }
 
 #[test]
 fn ends_with_a_status(rt: HostRuntime) -> Result<(), Fail> {
     let alloc = rt.alloc();
     for (at, case) in CASES.iter().enumerate() {
-        let mut sink = MemSink::make(alloc, case.room, &[])?;
-        let status = status_in_memory(&rt, alloc, case, &mut sink, &mut None)?;
-        assert_eq!(rt; status, case.status, "in row {at}");
-        assert!(rt; sink.held() == case.text.as_bytes(), "in row {at}");
+        let came = came_in_memory(&rt, alloc, case)?;
+        assert_eq!(rt; came.status, case.status, "in row {at}");
+        assert!(rt; came.sink.held() == case.text.as_bytes(), "in row {at}");
     }
     Ok(())
 }
@@ -408,12 +338,10 @@ const RECORDED: Case = Case {
 #[test]
 fn the_own_journal_is_legal(rt: HostRuntime) -> Result<(), Fail> {
     let alloc = rt.alloc();
-    let mut own = None;
-    let mut sink = MemSink::make(alloc, RECORDED.room, &[])?;
-    let status = status_in_memory(&rt, alloc, &RECORDED, &mut sink, &mut own)?;
-    assert_eq!(rt; status, RECORDED.status);
-    assert!(rt; sink.held() == RECORDED.text.as_bytes());
-    let Some(journal) = &own else {
+    let came = came_in_memory(&rt, alloc, &RECORDED)?;
+    assert_eq!(rt; came.status, RECORDED.status);
+    assert!(rt; came.sink.held() == RECORDED.text.as_bytes());
+    let Some(journal) = &came.own else {
         panic!(rt; "the own journal is kept");
     };
     let held = journal.octets.as_slice();

@@ -2,7 +2,7 @@
 ghost use Rattle.std.specs.Prelude.{List, ◌≡◌, ◌+◌, ◌<◌, ◌≤◌, ◌^◌, ◌++◌, ◌∷◌, [], length, IfSome, IfNone};
 ghost use Rattle.bsc_history.specs.declared.mark.Stamped.{Stamped};
 ghost use Rattle.bsc_turn.specs.Counting.{MadeOne, counted};
-ghost use Rattle.bsc_turn.specs.Passes.{IsFor, IsGuardOf, IsPassOf, after_commit, first_state, guard_view, history, number_of, own_list, view_of};
+ghost use Rattle.bsc_turn.specs.Passes.{IsForGuard, IsGuardOf, IsPassOf, after_commit, first_state, guard_view, history, number_of, own_list, view_of};
 
 use crate::crossing::{is_sent, is_shared};
 use bsc_history::{About, Limits, Makes, Stands};
@@ -62,7 +62,7 @@ fn commit_count<'a, E: Makes>(
 ) -> u64
     requires picked { E.stamped ≡ counted caller }
     requires guard { IsGuardOf (λ s. s.about) guard.turn.now guard }
-    requires pass { IsFor pass.old guard × (caller ≡ number_of pass.old) }
+    requires pass { IsForGuard pass.old guard × (caller ≡ number_of pass.old) }
     requires stands { guard.state.count ≡ length (history guard ++ counted caller ∷ []) }
     requires about { guard.state.about ≡ (first_state guard.turn.now).about }
     requires room { length (history guard) < 2 ^ 63 }

@@ -1,11 +1,9 @@
-//! Tests of what a hub and its nodes talk with: the edge in memory and for real, and links over sockets.
+//! Tests of links over sockets: streams that wait and are woken, `bsc_live`, and gates, `bsc_gate`, over loopback.
 //!
-//! They stand in a crate of their own, since a crate's own tests have all of its functions proved a second time. Each
-//! module has the tests of the crate of its name.
+//! They stand in a crate of their own, since a crate's own tests have all of its functions proved a second time. `live` has
+//! the two ends of a connection that most of them are made with.
 #![tactic(auto)]
 
-#[cfg(test)]
-mod edge;
 #[cfg(test)]
 mod gate;
 #[cfg(test)]
@@ -18,5 +16,3 @@ mod live;
 mod telling;
 #[cfg(test)]
 mod watch;
-#[cfg(test)]
-mod ws;

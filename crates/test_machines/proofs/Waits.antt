@@ -7,13 +7,13 @@ use Rattle.bsc_accept.specs.declared.stage.Stage.TheVariants.{AwaitingRequest, A
 use Rattle.bsc_accept.specs.declared.accepting.Accepting.{Accepting}
 use Rattle.bsc_accept.specs.declared.step.Step.{Step}
 use Rattle.bsc_accept.specs.declared.step.Step.TheVariants.{Ask, Put, PutClose, Up, Close, Nothing}
-use Rattle.bsc_accept.specs.Standing.{AwaitsAnswer, LeftBy, is_open}
+use Rattle.bsc_accept.specs.Standing.{AwaitsAnswer, LeavesAccepting, is_open}
 use Rattle.bsc_initiate.specs.declared.stage.Stage.{Stage as InitStage}
 use Rattle.bsc_initiate.specs.declared.stage.Stage.TheVariants.{AwaitingWebsocket, AwaitingAccept, Connected as InitConnected, Disconnecting as InitDisconnecting, Idle as InitIdle}
 use Rattle.bsc_initiate.specs.declared.initiating.Initiating.{Initiating}
 use Rattle.bsc_initiate.specs.declared.step.InitStep.{InitStep}
 use Rattle.bsc_initiate.specs.declared.step.InitStep.TheVariants.{Put as InitPut, PutClose as InitPutClose, Connected as NowConnected, Refused, Up as InitUp, Close as InitClose, Nothing as InitNothing}
-use Rattle.bsc_initiate.specs.Standing.{AwaitsWebsocket, LeftBy as InitLeftBy, is_open as is_open_initiating, phase_at}
+use Rattle.bsc_initiate.specs.Standing.{AwaitsWebsocket, LeavesInitiating, is_open as is_open_initiating, phase_at}
 use Rattle.test_machines.specs.Waiting.{is_asked, is_unopened, asks, goes_on, init_goes_on}
 
 asked_id : (s : Stage) → is_asked s ≡ true → (id : ℕ) × (s ≡ Asked id)
@@ -26,7 +26,7 @@ asked_id Idle e = absurd (false≢true e)
 pub asked_awaits : (m : Accepting) → is_asked m.stage ≡ true → AwaitsAnswer m
 asked_awaits m e = let found = asked_id m.stage e in record { id = found.0; asked = found.1 }
 
-pub left_asked : (step : Step) (m : Accepting) → LeftBy step m → asks step ≡ true → is_asked m.stage ≡ true
+pub left_asked : (step : Step) (m : Accepting) → LeavesAccepting step m → asks step ≡ true → is_asked m.stage ≡ true
 left_asked (Ask who) m h e = ap is_asked h.asked
 left_asked (Put octets) m h e = absurd (false≢true e)
 left_asked (PutClose octets c) m h e = absurd (false≢true e)
@@ -34,7 +34,7 @@ left_asked Up m h e = absurd (false≢true e)
 left_asked (Close c) m h e = absurd (false≢true e)
 left_asked Nothing m h e = absurd (false≢true e)
 
-pub left_open : (step : Step) (m : Accepting) → LeftBy step m → goes_on step ≡ true → is_open m.stage ≡ true
+pub left_open : (step : Step) (m : Accepting) → LeavesAccepting step m → goes_on step ≡ true → is_open m.stage ≡ true
 left_open (Ask who) m h e = absurd (false≢true e)
 left_open (Put octets) m h e = h
 left_open (PutClose octets c) m h e = absurd (false≢true e)
@@ -62,7 +62,7 @@ connected_open (InitConnected put) e = refl
 connected_open (InitDisconnecting f) e = refl
 connected_open InitIdle e = absurd (false≢true (sym (ap is_none e)))
 
-pub left_running : (step : InitStep) (m : Initiating) → InitLeftBy step m → init_goes_on step ≡ true → is_open_initiating m.stage ≡ true
+pub left_running : (step : InitStep) (m : Initiating) → LeavesInitiating step m → init_goes_on step ≡ true → is_open_initiating m.stage ≡ true
 left_running (InitPut octets) m h e = h
 left_running (InitPutClose octets c) m h e = absurd (false≢true e)
 left_running (NowConnected who) m h e = connected_open m.stage h

@@ -1,7 +1,7 @@
 //! A machine against steps worked out by hand.
 ghost use Rattle.std.specs.Prelude.{◌≡◌, true, IfSome};
 ghost use Rattle.std.proofs.Props.{props};
-ghost use Rattle.bsc_initiate.specs.Standing.{is_open, AwaitsWebsocket, IsOpen, LeftBy};
+ghost use Rattle.bsc_initiate.specs.Standing.{is_open, AwaitsWebsocket, IsOpen, LeavesInitiating};
 ghost use Rattle.test_machines.specs.Waiting.{init_goes_on, is_unopened};
 
 use crate::messages::{Came, Does, put, verdict};
@@ -180,7 +180,7 @@ fn goes_on(step: &InitStep) -> bool
 /// A machine after its step.
 #[tactic(auto, using(crate::proofs::Waits::left_running))]
 fn left(initiating: Initiating, step: &InitStep) -> Machine
-    requires { LeftBy step.now initiating }
+    requires { LeavesInitiating step.now initiating }
 {
     Machine {
         initiating,
@@ -224,7 +224,7 @@ impl Machine {
 
     /// Its step where it is told something, and what it is then. None where that may not come.
     fn step(&self, alloc: Global, now: u64, told: Told) -> Option<(Initiating, InitStep)>
-        ensures { IfSome result (λ x. LeftBy x.1 x.0) }
+        ensures { IfSome result (λ x. LeavesInitiating x.1 x.0) }
     {
         match told {
             Told::Opened(id) => {

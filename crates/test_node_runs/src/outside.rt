@@ -3,7 +3,7 @@ use crate::log::Log;
 use crate::row::{Gives, Peer, Row};
 use crate::watched::Watched;
 use bsc_edge::{Incoming, MemAcceptor, MemClock, MemDialer, MemFile, MemFiles, MemLink, MemWaiter};
-use bsc_node_run::MemWords;
+use bsc_node_run::{MemWords, NodeParts};
 use bsc_octets::NoMemory;
 use bsc_outside::MemSink;
 use bsc_text::{OctetsFault, copy_of, read_octets};
@@ -22,10 +22,8 @@ pub struct Outside {
     pub sink: MemSink<'static>,
     pub files: MemFiles<'static>,
     pub clock: Watched<MemClock<'static>>,
-    pub waiter: MemWaiter,
-    pub random: MemWords<'static>,
     pub acceptor: MemAcceptor<'static, WatchedLink>,
-    pub dialer: Watched<MemDialer<'static, WatchedLink>>,
+    pub node: NodeParts<MemWaiter, MemWords<'static>, Watched<MemDialer<'static, WatchedLink>>>,
 }
 
 /// What a link gives, as it gives it.
@@ -130,10 +128,12 @@ impl Outside {
             sink: MemSink::make(alloc, ROOM, row.failing.writes)?,
             files: files(alloc, row)?,
             clock: clock(alloc, &log, row.readings)?,
-            waiter: MemWaiter::new(alloc),
-            random: MemWords::new(row.words),
             acceptor: acceptor(alloc, &log, row)?,
-            dialer: dialer(alloc, log, row)?,
+            node: NodeParts {
+                waiter: MemWaiter::new(alloc),
+                random: MemWords::new(row.words),
+                dialer: dialer(alloc, log, row)?,
+            },
         })
     }
 }

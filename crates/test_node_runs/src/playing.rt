@@ -18,14 +18,10 @@ fn run(alloc: Global, outside: &mut Outside) -> u8 {
         sink,
         files,
         clock,
-        waiter,
-        random,
         acceptor,
-        dialer,
+        node,
     } = outside;
-    run_node_files(
-        alloc, WORDS, sink, files, clock, waiter, random, acceptor, dialer,
-    )
+    run_node_files(alloc, WORDS, sink, files, clock, acceptor, node)
 }
 
 /// Whether a run wrote what it was to, and bound its port alone.
@@ -35,7 +31,7 @@ fn wrote(row: &Row, outside: &Outside) -> bool {
 
 /// Whether a run did outside what it was to.
 fn did(row: &Row, outside: &Outside) -> bool {
-    match outside.dialer.log.take() {
+    match outside.node.dialer.log.take() {
         Some(text) => text.as_str() == row.did,
         None => false,
     }
@@ -44,7 +40,7 @@ fn did(row: &Row, outside: &Outside) -> bool {
 /// Whether a run waited as long as it was to, where that is looked at.
 fn rested(row: &Row, outside: &Outside) -> bool {
     match row.rests {
-        Some(rests) => outside.waiter.waits().unwrap_or(&[]) == rests,
+        Some(rests) => outside.node.waiter.waits().unwrap_or(&[]) == rests,
         None => true,
     }
 }

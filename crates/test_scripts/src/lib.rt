@@ -1,5 +1,5 @@
-//! Tests of what is read and written by lines: the outside, text, words, settings, the player of lines, the languages of
-//! scripts and of `check`, the commands `replay`, `check` and `load`, and what is said of what is refused.
+//! Tests of what is read and written by lines: the outside, text, words, the player of lines, the languages of scripts and of
+//! `check`, and the commands `replay`, `check` and `load`.
 //!
 //! They stand in a crate of their own, since a crate's own tests have all of its functions proved a second time. Each module
 //! has the tests of one crate, and is named for it.
@@ -14,22 +14,10 @@ mod outside;
 #[cfg(test)]
 mod player;
 #[cfg(test)]
-mod policies;
-#[cfg(test)]
-mod recorders;
-#[cfg(test)]
 mod replay;
 #[cfg(test)]
 mod script;
 #[cfg(test)]
-mod settings;
-#[cfg(test)]
-mod settings_diagnostics;
-#[cfg(test)]
 mod text;
 #[cfg(test)]
-mod why;
-#[cfg(test)]
 mod words;
-#[cfg(test)]
-mod words_diagnostics;

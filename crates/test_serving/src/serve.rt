@@ -9,14 +9,13 @@ mod scene;
 
 use crate::serve::books::{Books, KeptJournal};
 use crate::serve::scene::{CLOSING, CuedLink, FIRST, JOINING, LATER, Scene, Still, links};
-use crate::session::{self, LIMITS};
 use bsc_edge::{
     MemAcceptor, MemSpawner, Places, Promised, Running, Spawner, ThreadSpawner, Unstarted, launch,
 };
 use bsc_history::Counts;
 use bsc_hub::{Hub, Pass};
 use bsc_octets::NoMemory;
-use bsc_serve::{ServeEnd, ServeTerms, serve_on};
+use bsc_serve::{ServeEnd, ServeTerms, ServedHub, ServingParts, serve_on};
 use bsc_session::{SessionEnd, SessionJob};
 use std::alloc::Global;
 use std::process::Abort;
@@ -24,6 +23,7 @@ use std::sync::atomic::Ordering;
 use std::sync::{Arc, Wait};
 use std::test::*;
 use std::thread::Threads;
+use test_sessions::LIMITS;
 
 type Session = SessionJob<CuedLink, Still, KeptJournal>;
 
@@ -51,23 +51,28 @@ fn new_hub(alloc: Global, callers: u64) -> Result<(Arc<Hub>, Pass), NoMemory>
     requires { (1 ≤ callers) × (callers ≤ 100) }
     ensures { IfOk result (λ r. IsCaller (arc_value r.0) r.1) }
 {
-    let (hub, pass) = session::new_hub(alloc, callers)?;
+    let (hub, pass) = test_sessions::new_hub(alloc, callers)?;
     Ok((Arc::new(alloc, hub)?, pass))
 }
 
-/// Serves these links at a hub. The calls of the acceptor with these numbers fail.
-fn serve<R: Wait, P: Spawner<Session>>(
-    rt: &R,
+/// The prefix of journals, for as long as the hub is there.
+fn prefix_beside(_: &Arc<Hub>) -> &str {
+    "j"
+}
+
+/// Serves these links at a hub, and gives the spawner back. The calls of the acceptor with these numbers fail.
+fn serve<'a, R: Wait, P: Spawner<Session>>(
+    rt: &'a R,
     alloc: Global,
-    hub: &Arc<Hub>,
+    hub: &'a Arc<Hub>,
     pass: &mut Pass,
     links: Vec<CuedLink>,
     failing: &[u64],
-    spawner: &mut P,
+    spawner: P,
     books: &mut Books,
-) -> ServeEnd
+) -> (ServeEnd, P)
     requires pass { IsCaller (arc_value hub.now) pass.old }
-    requires can { P.can_start spawner.old }
+    requires can { P.can_start spawner }
     ensures { IsCaller (arc_value hub.now) pass.new }
 {
     let terms = ServeTerms {
@@ -75,34 +80,49 @@ fn serve<R: Wait, P: Spawner<Session>>(
         turns: TURNS,
         sessions: Some(links.len() as u64),
     };
-    let mut acceptor = MemAcceptor::new(alloc, links, failing);
-    let prefix = if books.is_recorded { Some("j") } else { None };
-    serve_on(
-        rt,
-        alloc,
-        hub,
-        pass,
-        &terms,
-        &mut Still,
-        &mut acceptor,
+    let mut parts = ServingParts {
+        acceptor: MemAcceptor::new(alloc, links, failing),
+        clock: Still,
         spawner,
+        journals: books.journals,
+    };
+    let prefix = if books.is_recorded {
+        Some(prefix_beside(hub))
+    } else {
+        None
+    };
+    let end = serve_on(
+        ServedHub {
+            rt,
+            alloc,
+            hub,
+            terms,
+            prefix,
+            policy: &None,
+        },
+        pass,
         &mut books.own,
-        prefix,
-        &mut books.journals,
-        &None,
-    )
+        &mut parts,
+    );
+    let ServingParts {
+        spawner,
+        journals,
+        ..
+    } = parts;
+    books.journals = journals;
+    (end, spawner)
 }
 
-/// Serves these links at a new hub for so many callers.
-fn served<R: Wait, P: Spawner<Session>>(
+/// Serves these links at a new hub for so many callers, and gives the spawner back.
+fn served<R: Wait, P: Spawner<Session> + Drop>(
     rt: &R,
     alloc: Global,
     callers: u64,
     links: Vec<CuedLink>,
-    spawner: &mut P,
-) -> Result<ServeEnd, NoMemory>
+    spawner: P,
+) -> Result<(ServeEnd, P), NoMemory>
     requires callers { (1 ≤ callers) × (callers ≤ 100) }
-    requires can { P.can_start spawner.old }
+    requires can { P.can_start spawner }
 {
     let (hub, mut pass) = new_hub(alloc, callers)?;
     let mut books = Books::new(alloc, false, 0, false);
@@ -120,8 +140,9 @@ fn served_beside<R: Threads + Wait + Copy + Send + 'static>(
         Thread,
         Unstarted<Session>,
     > { launch(&handle, alloc, places, job) };
-    let mut spawner = ThreadSpawner::new(handle, alloc, begin, Places::make(alloc, 8)?);
-    served(rt, alloc, 8, links, &mut spawner)
+    let spawner = ThreadSpawner::new(handle, alloc, begin, Places::make(alloc, 8)?);
+    let (end, _spawner) = served(rt, alloc, 8, links, spawner)?;
+    Ok(end)
 }
 
 /// The sessions of two links run beside each other, and a session hands on a message before its next receive: the first
@@ -160,8 +181,8 @@ fn the_stop_comes_after_all_sessions(rt: HostRuntime) -> Result<(), Fail> {
     };
     let scene = Scene::new(alloc)?;
     let two = links(alloc, &scene, &[JOINING, JOINING])?;
-    let mut spawner = MemSpawner::new(alloc, &[]);
-    let end = served(&rt, alloc, 8, two, &mut spawner)?;
+    let spawner = MemSpawner::new(alloc, &[]);
+    let (end, spawner) = served(&rt, alloc, 8, two, spawner)?;
     assert!(rt; end == done && spawner.taken() == Some(2));
     assert_eq!(rt; scene.closed.load(Ordering::SeqCst), 2);
     Ok(())
@@ -178,9 +199,9 @@ fn three_closing<R: Wait>(
     requires { (1 ≤ callers) × (callers ≤ 100) }
 {
     let scene = Scene::new(alloc)?;
-    let mut spawner = MemSpawner::new(alloc, failing);
+    let spawner = MemSpawner::new(alloc, failing);
     let links = links(alloc, &scene, &[CLOSING, CLOSING, CLOSING])?;
-    let end = served(rt, alloc, callers, links, &mut spawner)?;
+    let (end, spawner) = served(rt, alloc, callers, links, spawner)?;
     let away = scene.away.load(Ordering::SeqCst);
     Ok((end, away, spawner.taken()))
 }
@@ -220,8 +241,8 @@ fn want_of_memory_ends_serving(rt: HostRuntime) -> Result<(), Fail> {
         Thread,
         Unstarted<Session>,
     > { begin_none(job) };
-    let mut spawner = ThreadSpawner::new(rt, alloc, begin, Places::make(alloc, 1)?);
-    let end = served(&rt, alloc, 8, links, &mut spawner)?;
+    let spawner = ThreadSpawner::new(rt, alloc, begin, Places::make(alloc, 1)?);
+    let (end, _spawner) = served(&rt, alloc, 8, links, spawner)?;
     assert_eq!(rt; end, ServeEnd::NoMemory);
     assert_eq!(rt; scene.away.load(Ordering::SeqCst), 1);
     Ok(())
@@ -241,8 +262,9 @@ fn served_until<R: Wait>(
 {
     let scene = Scene::new(alloc)?;
     let links = links(alloc, &scene, &[CLOSING, CLOSING])?;
-    let mut spawner = MemSpawner::new(alloc, &[]);
-    Ok(serve(rt, alloc, hub, pass, links, failing, &mut spawner, books))
+    let spawner = MemSpawner::new(alloc, &[]);
+    let (end, _spawner) = serve(rt, alloc, hub, pass, links, failing, spawner, books);
+    Ok(end)
 }
 
 /// A fault of the acceptor stops the hub. So it was stopped before, by its first entry, where it is served again.

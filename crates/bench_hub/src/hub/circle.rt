@@ -1,7 +1,7 @@
 //! Threads in a circle, each of which sends to the next.
 ghost use Rattle.std.specs.Prelude.{IfSome};
 ghost use Rattle.bsc_hub.specs.Passing.{IsCaller};
-ghost use Rattle.bench_hub.specs.Circle.{IsMember, Sends};
+ghost use Rattle.bench_hub.specs.Circle.{IsMember, SendsAs};
 
 use crate::hub::member::Member;
 use crate::members::{Sender, address, identity, to_one};
@@ -83,8 +83,8 @@ fn join_two<R: Wait>(
 
 /// Sends a frame of 40 octets, and says whether the hub answered.
 fn send<R: Wait>(rt: &R, alloc: Global, hub: &Hub, pass: &mut Pass, sender: Sender, to: u16) -> bool
-    requires { Sends hub.now pass.old sender.conn sender.address }
-    ensures { Sends hub.now pass.new sender.conn sender.address }
+    requires { SendsAs hub.now pass.old sender.conn sender.address }
+    ensures { SendsAs hub.now pass.new sender.conn sender.address }
 {
     let Ok(frame) = prepare(alloc, &to_one(to), sender.address) else {
         return false;
@@ -103,8 +103,8 @@ fn send_next<R: Wait>(
     to: u16,
     may_send: bool,
 ) -> u64
-    requires { Sends hub.now pass.old sender.conn sender.address }
-    ensures { Sends hub.now pass.new sender.conn sender.address }
+    requires { SendsAs hub.now pass.old sender.conn sender.address }
+    ensures { SendsAs hub.now pass.new sender.conn sender.address }
 {
     if !may_send {
         return 0;

@@ -1,7 +1,7 @@
 //! A machine with what may be told to it next.
 ghost use Rattle.std.specs.Prelude.{◌≡◌, true, IfSome};
 ghost use Rattle.std.proofs.Props.{props};
-ghost use Rattle.bsc_accept.specs.Standing.{is_open, AwaitsAnswer, IsConnected, IsOpen, LeftBy};
+ghost use Rattle.bsc_accept.specs.Standing.{is_open, AwaitsAnswer, IsConnected, IsOpen, LeavesAccepting};
 ghost use Rattle.test_machines.specs.Waiting.{asks, goes_on, is_asked};
 
 use crate::messages::{Came, Does, put, verdict};
@@ -78,7 +78,7 @@ fn goes_on(step: &Step) -> bool
 /// A machine after its step.
 #[tactic(auto, using(crate::proofs::Waits::left_asked, crate::proofs::Waits::left_open))]
 fn left(accepting: Accepting, step: &Step) -> Machine
-    requires { LeftBy step.now accepting }
+    requires { LeavesAccepting step.now accepting }
 {
     Machine {
         accepting,
@@ -132,7 +132,7 @@ impl Machine {
 
     /// Its step where it is told something, and what it is then. None where that may not come.
     fn step(&self, alloc: Global, now: u64, told: Told) -> Option<(Accepting, Step)>
-        ensures { IfSome result (λ x. LeftBy x.1 x.0) }
+        ensures { IfSome result (λ x. LeavesAccepting x.1 x.0) }
     {
         match told {
             Told::Joined => {

@@ -41,7 +41,7 @@ impl Sink for KeptJournal {
 }
 
 /// Begins journals, but for one: that of the call with this number, counted from 1.
-#[derive(Drop)]
+#[derive(Clone, Copy)]
 pub struct KeptJournals {
     failing: u64,
     begun: u64,

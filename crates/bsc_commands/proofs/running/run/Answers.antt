@@ -46,54 +46,54 @@ pub returns-in-Err-clause-replayed : goal.returns-in-Err-clause-replayed
 returns-in-Err-clause-replayed g c o t named left held =
     let none = λ (e : c.in-Err.fault ≡ Refused). c.args.read.now.refused (c.in-Err.is ∙ ap Err e) in
     let out = ran_out c.in-Err.fault (asked_in c.args.read.now) replay c.end_unasked.result
-    (g.K.Sink.held c.args.sink.now) (g.K.Sink.held c.end_unasked.new.sink) none c.end_unasked.ensures.ran_out named in
-    unread replay_of c.end_unasked.result o t (g.S.Source.left c.args.source.now) (g.K.Sink.held c.args.sink.now) (g.K.Sink.held c.end_unasked.new.sink)
-    (g.S.Source.faults c.args.source.now) (g.S.Source.faults c.args.source.now) left held out
+    (g.K.Sink.held c.args.outside.now.sink) (g.K.Sink.held c.end_unasked.new.sink) none c.end_unasked.ensures.ran_out named in
+    unread replay_of c.end_unasked.result o t (g.S.Source.left c.args.outside.now.source) (g.K.Sink.held c.args.outside.now.sink) (g.K.Sink.held c.end_unasked.new.sink)
+    (g.S.Source.faults c.args.outside.now.source) (g.S.Source.faults c.args.outside.now.source) left held out
 
 pub returns-in-Err-clause-simulated : goal.returns-in-Err-clause-simulated
 returns-in-Err-clause-simulated g c o t named left held =
     let none = λ (e : c.in-Err.fault ≡ Refused). c.args.read.now.refused (c.in-Err.is ∙ ap Err e) in
     let out = ran_out c.in-Err.fault (asked_in c.args.read.now) simulate c.end_unasked.result
-    (g.K.Sink.held c.args.sink.now) (g.K.Sink.held c.end_unasked.new.sink) none c.end_unasked.ensures.ran_out named in
-    unread simulate_of c.end_unasked.result o t (g.S.Source.left c.args.source.now) (g.K.Sink.held c.args.sink.now) (g.K.Sink.held c.end_unasked.new.sink)
-    (g.S.Source.faults c.args.source.now) (g.S.Source.faults c.args.source.now) left held out
+    (g.K.Sink.held c.args.outside.now.sink) (g.K.Sink.held c.end_unasked.new.sink) none c.end_unasked.ensures.ran_out named in
+    unread simulate_of c.end_unasked.result o t (g.S.Source.left c.args.outside.now.source) (g.K.Sink.held c.args.outside.now.sink) (g.K.Sink.held c.end_unasked.new.sink)
+    (g.S.Source.faults c.args.outside.now.source) (g.S.Source.faults c.args.outside.now.source) left held out
 
 pub returns-in-Err-clause-delivered : goal.returns-in-Err-clause-delivered
 returns-in-Err-clause-delivered g c o t named left held =
     let none = λ (e : c.in-Err.fault ≡ Refused). c.args.read.now.refused (c.in-Err.is ∙ ap Err e) in
     let out = ran_out c.in-Err.fault (asked_in c.args.read.now) simulate c.end_unasked.result
-    (g.K.Sink.held c.args.sink.now) (g.K.Sink.held c.end_unasked.new.sink) none c.end_unasked.ensures.ran_out named in
-    writes_what_was_sent c.end_unasked.result o t (g.S.Source.left c.args.source.now) (g.K.Sink.held c.end_unasked.new.sink)
-    (g.S.Source.faults c.args.source.now) (g.S.Source.faults c.args.source.now)
-    (unread simulate_of c.end_unasked.result o t (g.S.Source.left c.args.source.now) (g.K.Sink.held c.args.sink.now) (g.K.Sink.held c.end_unasked.new.sink)
-    (g.S.Source.faults c.args.source.now) (g.S.Source.faults c.args.source.now) left held out)
+    (g.K.Sink.held c.args.outside.now.sink) (g.K.Sink.held c.end_unasked.new.sink) none c.end_unasked.ensures.ran_out named in
+    writes_what_was_sent c.end_unasked.result o t (g.S.Source.left c.args.outside.now.source) (g.K.Sink.held c.end_unasked.new.sink)
+    (g.S.Source.faults c.args.outside.now.source) (g.S.Source.faults c.args.outside.now.source)
+    (unread simulate_of c.end_unasked.result o t (g.S.Source.left c.args.outside.now.source) (g.K.Sink.held c.args.outside.now.sink) (g.K.Sink.held c.end_unasked.new.sink)
+    (g.S.Source.faults c.args.outside.now.source) (g.S.Source.faults c.args.outside.now.source) left held out)
 
 pub returns-in-Ok-clause-delivered : goal.returns-in-Ok-clause-delivered
 returns-in-Ok-clause-delivered g c o t named left held =
     let read = c.args.read.now in
     let asked = said (asked_in read) read.asked c.in-Ok.asked c.in-Ok.is read.ok in
-    writes_what_was_sent c.run_asked.result o t (g.S.Source.left c.run_asked.new.source) (g.K.Sink.held c.run_asked.new.sink)
-    (g.S.Source.faults c.args.source.now) (g.S.Source.faults c.run_asked.new.source)
+    writes_what_was_sent c.run_asked.result o t (g.S.Source.left c.run_asked.new.outside.source) (g.K.Sink.held c.run_asked.new.outside.sink)
+    (g.S.Source.faults c.args.outside.now.source) (g.S.Source.faults c.run_asked.new.outside.source)
     (c.run_asked.ensures.simulated o t (asks_same (asked_in read) (seen c.in-Ok.asked) simulate asked named) left held)
 
 pub returns-in-Err-clause-checked : goal.returns-in-Err-clause-checked
 returns-in-Err-clause-checked g c o t named left held =
     let none = λ (e : c.in-Err.fault ≡ Refused). c.args.read.now.refused (c.in-Err.is ∙ ap Err e) in
     let out = ran_out c.in-Err.fault (asked_in c.args.read.now) check c.end_unasked.result
-    (g.K.Sink.held c.args.sink.now) (g.K.Sink.held c.end_unasked.new.sink) none c.end_unasked.ensures.ran_out named in
-    unread check_of c.end_unasked.result o t (g.S.Source.left c.args.source.now) (g.K.Sink.held c.args.sink.now) (g.K.Sink.held c.end_unasked.new.sink)
-    (g.S.Source.faults c.args.source.now) (g.S.Source.faults c.args.source.now) left held out
+    (g.K.Sink.held c.args.outside.now.sink) (g.K.Sink.held c.end_unasked.new.sink) none c.end_unasked.ensures.ran_out named in
+    unread check_of c.end_unasked.result o t (g.S.Source.left c.args.outside.now.source) (g.K.Sink.held c.args.outside.now.sink) (g.K.Sink.held c.end_unasked.new.sink)
+    (g.S.Source.faults c.args.outside.now.source) (g.S.Source.faults c.args.outside.now.source) left held out
 
 pub returns-in-Err-clause-audited : goal.returns-in-Err-clause-audited
 returns-in-Err-clause-audited g c o named left =
     let none = λ (e : c.in-Err.fault ≡ Refused). c.args.read.now.refused (c.in-Err.is ∙ ap Err e) in
-    unaudited c.end_unasked.result o (g.S.Source.left c.args.source.now) (g.K.Sink.held c.args.sink.now) (g.K.Sink.held c.end_unasked.new.sink)
+    unaudited c.end_unasked.result o (g.S.Source.left c.args.outside.now.source) (g.K.Sink.held c.args.outside.now.sink) (g.K.Sink.held c.end_unasked.new.sink)
     (ran_out c.in-Err.fault (asked_in c.args.read.now) audit c.end_unasked.result
-    (g.K.Sink.held c.args.sink.now) (g.K.Sink.held c.end_unasked.new.sink) none c.end_unasked.ensures.ran_out named)
+    (g.K.Sink.held c.args.outside.now.sink) (g.K.Sink.held c.end_unasked.new.sink) none c.end_unasked.ensures.ran_out named)
 
 pub returns-in-Err-clause-finished : goal.returns-in-Err-clause-finished
 returns-in-Err-clause-finished g c path script named is =
     let none = λ (e : c.in-Err.fault ≡ Refused). c.args.read.now.refused (c.in-Err.is ∙ ap Err e) in
     let out = ran_out c.in-Err.fault (asked_in c.args.read.now) (node path script) c.end_unasked.result
-    (g.K.Sink.held c.args.sink.now) (g.K.Sink.held c.end_unasked.new.sink) none c.end_unasked.ensures.ran_out named in
+    (g.K.Sink.held c.args.outside.now.sink) (g.K.Sink.held c.end_unasked.new.sink) none c.end_unasked.ensures.ran_out named in
     absurd (omega (arith, out.0, is))

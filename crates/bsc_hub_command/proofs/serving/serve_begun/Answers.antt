@@ -1,8 +1,7 @@
 use Rattle.std.proofs.Common.{Err, ap, inl, inr, refl, subst, ℕ, ◌∙◌}
-use Rattle.std.specs.Prelude.{option_map}
 use Rattle.std.specs.Arc.{arc_value}
-use Rattle.bsc_session.specs.Jobs.{Worked, policy_of}
-use Rattle.bsc_hub_command.specs.Served.{HubTerms, HubWorld}
+use Rattle.bsc_session.specs.Jobs.{Worked}
+use Rattle.bsc_hub_command.specs.Served.{HubTerms, HubWorld, terms_in}
 use Rattle.bsc_hub_command.proofs.Binding.{says_lost, titling_since, written_so}
 use Rattle.bsc_hub_command.proofs.serving.serve_begun.Goals as goal
 
@@ -13,17 +12,17 @@ returns-in-Ok-clause-went g c =
     let J = g.J.Journals in
     let N = g.N.Sink in
     let W = Worked g.L.Link.talk g.L.Link.faults g.C.Clock.readings N.held N.faults in
-    let asked : HubTerms = record { settings = c.args.settings.now; policy = policy_of c.args.policy.now; sessions = c.args.sessions; prefix = option_map (λ p. p.now) c.args.prefix } in
-    let before : HubWorld g.row.L.Denot g.row.C.Denot g.row.N.Denot = record { links = A.left c.args.acceptor.now; waits = A.waits c.args.acceptor.now; port = A.bound c.args.acceptor.now; faults = A.faults c.args.acceptor.now; jobs = P.jobs c.args.spawner.now; out = P.out c.args.spawner.now; unstarted = P.faults c.args.spawner.now; unbegun = J.faults c.args.journals.now; written = g.K.Sink.held c.args.sink.now } in
+    let asked : HubTerms = terms_in c.args.asked in
+    let before : HubWorld g.row.L.Denot g.row.C.Denot g.row.N.Denot = record { links = A.left c.args.parts.now.acceptor; waits = A.waits c.args.parts.now.acceptor; port = A.bound c.args.parts.now.acceptor; faults = A.faults c.args.parts.now.acceptor; jobs = P.jobs c.args.parts.now.spawner; out = P.out c.args.parts.now.spawner; unstarted = P.faults c.args.parts.now.spawner; unbegun = J.faults c.args.parts.now.journals; written = g.K.Sink.held c.args.sink.now } in
     let n = c.serve_titled-status.new in
-    let after : HubWorld g.row.L.Denot g.row.C.Denot g.row.N.Denot = record { links = A.left n.acceptor; waits = A.waits n.acceptor; port = A.bound n.acceptor; faults = A.faults n.acceptor; jobs = P.jobs n.spawner; out = P.out n.spawner; unstarted = P.faults n.spawner; unbegun = J.faults n.journals; written = g.K.Sink.held n.sink } in
+    let after : HubWorld g.row.L.Denot g.row.C.Denot g.row.N.Denot = record { links = A.left n.parts.acceptor; waits = A.waits n.parts.acceptor; port = A.bound n.parts.acceptor; faults = A.faults n.parts.acceptor; jobs = P.jobs n.parts.spawner; out = P.out n.parts.spawner; unstarted = P.faults n.parts.spawner; unbegun = J.faults n.parts.journals; written = g.K.Sink.held n.sink } in
     inr (record {
       begun = c.in-Ok.begun;
       own = c.serve_titled-status.new.own;
       of_pass = subst (λ (n : ℕ). J.begins asked.prefix n c.in-Ok.begun) c.number.ensures c.in-Ok.ensures.begun;
       fresh = c.in-Ok.ensures.fresh;
       keeps = refl;
-      went = titling_since W J.begins N.held N.faults (record { hub = arc_value c.args.hub.now; first = c.args.pass.now; last = n.pass }) asked c.in-Ok.begun n.own before after
+      went = titling_since W J.begins N.held N.faults (record { hub = arc_value c.args.made.hub.now; first = c.args.pass.now; last = n.pass }) asked c.in-Ok.begun n.own before after
           (J.faults c.begin.new.self) c.serve_titled-status.result c.serve_titled-status.ensures.went;
     })
 

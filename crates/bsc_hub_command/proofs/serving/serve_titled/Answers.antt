@@ -1,4 +1,4 @@
-use Rattle.std.proofs.Common.{Err, ap, inl, inr, refl, subst, ◌∙◌}
+use Rattle.std.proofs.Common.{Err, ap, inl, inr, refl, subst, sym, ◌∙◌}
 use Rattle.std.specs.Io.KnownBytes.{Appends}
 use Rattle.bsc_history.specs.declared.limits.About.{About}
 use Rattle.bsc_outside.specs.Faults.{PutsPrefix}
@@ -11,7 +11,7 @@ returns-in-Ok-clause-went g c =
     let held = g.N.Sink.held in
     inr (
       held c.put_title.new.own,
-      subst (λ (a : About). Appends (held c.args.own.now) (held c.put_title.new.own) (hub_line a)) c.requires.about c.in-Ok.ensures.put,
+      subst (λ (a : About). Appends (held c.args.own.now) (held c.put_title.new.own) (hub_line a)) (c.about_by.ensures ∙ sym c.requires.about) c.in-Ok.ensures.put,
       c.serve_hub.ensures.went,
     )
 
@@ -19,7 +19,7 @@ pub returns-in-Err-clause-went : goal.returns-in-Err-clause-went
 returns-in-Err-clause-went g c =
     let held = g.N.Sink.held in
     inl (record {
-      part = subst (λ (a : About). PutsPrefix (held c.args.own.now) (held c.put_title.new.own) (hub_line a)) c.requires.about c.in-Err.ensures.part;
+      part = subst (λ (a : About). PutsPrefix (held c.args.own.now) (held c.put_title.new.own) (hub_line a)) (c.about_by.ensures ∙ sym c.requires.about) c.in-Err.ensures.part;
       untouched = record { links = refl; waits = refl; port = refl; faults = refl; jobs = refl; out = refl; unstarted = refl };
       stops = c.stop_alone.ensures;
       says = says_lost c.tell_lost.result c.in-Err.fault _ _ _ (λ e. c.put_title.ensures.failed (c.in-Err.is ∙ ap Err e)) c.tell_lost.ensures.says;

@@ -5,7 +5,7 @@ use Rattle.bsc_turn.specs.Passes.{number_of}
 use Rattle.bsc_hub.specs.Calls.{connect_made}
 use Rattle.bsc_hub.specs.Passing.{Passed}
 use Rattle.bsc_load.specs.declared.jobs.Cut.{Cut}
-use Rattle.bsc_load.specs.Inner.{Runs, Unjoined, cut_of}
+use Rattle.bsc_load.specs.Inner.{LoadWorkerRuns, Unjoined, cut_of}
 use Rattle.bsc_load.proofs.Both.{both_went}
 use Rattle.bsc_load.proofs.Going.{mark_later}
 use Rattle.bsc_load.proofs.Running.{after_run}
@@ -27,7 +27,7 @@ returns-in-Err g c =
     let q = c.connect.new.pass in
     let refusal = c.in-Err.refusal in
     let none = unjoined h p q c.sender.result refusal c.requires.caller c.in-Err.ensures.pass c.in-Err.ensures.due in
-    subst (λ (cut : Cut). Runs h c.args.i p q (Err cut)) (sym c.cut_of.ensures)
+    subst (λ (cut : Cut). LoadWorkerRuns h c.args.i p q (Err cut)) (sym c.cut_of.ensures)
     (runs_unjoined h c.args.i p q (cut_of refusal) (subst (λ (who : Identity). Unjoined h who p q (cut_of refusal)) c.sender.ensures none))
 
 pub returns-in-Ok : goal.returns-in-Ok

@@ -1,7 +1,7 @@
-use Rattle.std.proofs.Common.{arith, inl, inr, refl, None, Some, ◌∷◌, [], ◌++◌, unwrap_or}
+use Rattle.std.proofs.Common.{ap, arith, inl, inr, refl, None, Some, ◌∷◌, [], ◌++◌, unwrap_or}
 use Rattle.bsc_node_run.specs.Drawing.{GoesDrawing, at_rest}
 use Rattle.bsc_node_run.specs.Worlds.{admitting, dialling, world_of}
-use Rattle.bsc_node_run.proofs.Runs.{grows_none, grows_then, one_longer, rise_all, rise_before, rise_more, turns_all, turns_more}
+use Rattle.bsc_node_run.proofs.Runs.{grows_none, grows_still, grows_then, one_longer, rise_all, rise_before, rise_more, turns_all, turns_more}
 use Rattle.bsc_node_run.proofs.Resting.{all_left, left_then, rest_so, rests_all, rests_more, rests_now}
 use Rattle.bsc_node_run.proofs.Told.{stays_same, stays_then}
 use Rattle.bsc_node_run.proofs.Stops.{at_err, rise_now, stops_more, stops_now}
@@ -17,10 +17,10 @@ loop-made-init g c = record {
   stops = λ more v door k. k;
   rise = λ more r. rise_before 0 (g.C.Clock.newest c.args.clock.now) more (omega arith) r;
   waits = [];
-  asked = grows_none (g.V.Waiter.waits c.args.waiter.now);
+  asked = grows_none (g.V.Waiter.waits c.args.parts.now.waiter);
   newest = 0;
   read = omega arith;
-  lines = all_left c.args.script.now;
+  lines = all_left c.args.terms.script.now;
   rest = refl;
   rests = λ more others k. k;
   writes_later = omega arith;
@@ -31,8 +31,8 @@ loop-made-init g c = record {
 pub returns-then-set-clause-runs : goal.returns-then-set-clause-runs
 returns-then-set-clause-runs g c = record {
   times = c.loop-made.invariant.times ++ c.in_ok-turn.turn.time ∷ [];
-  first = world_of c.in_ok-set.set (dialling g.D.Dialer.calls g.D.Dialer.left g.D.Dialer.faults c.args.dialer.now) (g.K.Sink.held c.args.sink.now);
-  last = (world_of c.node_turn.new.set (dialling g.D.Dialer.calls g.D.Dialer.left g.D.Dialer.faults c.node_turn.new.dialer) (g.K.Sink.held c.node_turn.new.sink));
+  first = world_of c.in_ok-set.set (dialling g.D.Dialer.calls g.D.Dialer.left g.D.Dialer.faults c.args.parts.now.dialer) (g.K.Sink.held c.args.sink.now);
+  last = (world_of c.node_turn.new.set (dialling g.D.Dialer.calls g.D.Dialer.left g.D.Dialer.faults c.node_turn.new.parts.dialer) (g.K.Sink.held c.node_turn.new.sink));
   empty = record {
     link = c.in_ok-set.ensures.links;
     arrived = c.in_ok-set.ensures.arrived;
@@ -42,11 +42,11 @@ returns-then-set-clause-runs g c = record {
     dialled = refl;
     held = refl;
   };
-  went = turns_all (GoesDrawing g.N.Core.goes g.W.Words.gives g.W.Words.faults) g.L.Link.talk c.args.listens None c.args.script.now (at_rest c.args.node.now c.args.random.now) (world_of c.in_ok-set.set (dialling g.D.Dialer.calls g.D.Dialer.left g.D.Dialer.faults c.args.dialer.now) (g.K.Sink.held c.args.sink.now)) (admitting g.A.Acceptor.left g.A.Acceptor.waits c.args.acceptor.now)
-      (c.loop-made.invariant.times ++ c.in_ok-turn.turn.time ∷ []) (Some (unwrap_or c.loop-made.start c.in_ok-turn.turn.time)) c.in_ok-turn.turn.left.now (at_rest c.node_turn.new.node c.node_turn.new.random) (world_of c.node_turn.new.set (dialling g.D.Dialer.calls g.D.Dialer.left g.D.Dialer.faults c.node_turn.new.dialer) (g.K.Sink.held c.node_turn.new.sink)) (admitting g.A.Acceptor.left g.A.Acceptor.waits c.node_turn.new.acceptor)
-      (turns_more (GoesDrawing g.N.Core.goes g.W.Words.gives g.W.Words.faults) g.L.Link.talk c.args.listens None c.args.script.now (at_rest c.args.node.now c.args.random.now) (world_of c.in_ok-set.set (dialling g.D.Dialer.calls g.D.Dialer.left g.D.Dialer.faults c.args.dialer.now) (g.K.Sink.held c.args.sink.now)) (admitting g.A.Acceptor.left g.A.Acceptor.waits c.args.acceptor.now)
-      c.loop-made.invariant.times c.in_ok-turn.turn.time c.loop-made.start c.loop-made.left.now c.in_ok-turn.turn.left.now (at_rest c.loop-made.node c.loop-made.random) (at_rest c.node_turn.new.node c.node_turn.new.random)
-      (world_of c.loop-made.set (dialling g.D.Dialer.calls g.D.Dialer.left g.D.Dialer.faults c.loop-made.dialer) (g.K.Sink.held c.loop-made.sink)) (world_of c.node_turn.new.set (dialling g.D.Dialer.calls g.D.Dialer.left g.D.Dialer.faults c.node_turn.new.dialer) (g.K.Sink.held c.node_turn.new.sink)) (admitting g.A.Acceptor.left g.A.Acceptor.waits c.loop-made.acceptor) (admitting g.A.Acceptor.left g.A.Acceptor.waits c.node_turn.new.acceptor)
+  went = turns_all (GoesDrawing g.N.Core.goes g.W.Words.gives g.W.Words.faults) g.L.Link.talk c.args.terms.listens None c.args.terms.script.now (at_rest c.args.node.now c.args.parts.now.random) (world_of c.in_ok-set.set (dialling g.D.Dialer.calls g.D.Dialer.left g.D.Dialer.faults c.args.parts.now.dialer) (g.K.Sink.held c.args.sink.now)) (admitting g.A.Acceptor.left g.A.Acceptor.waits c.args.acceptor.now)
+      (c.loop-made.invariant.times ++ c.in_ok-turn.turn.time ∷ []) (Some (unwrap_or c.loop-made.start c.in_ok-turn.turn.time)) c.in_ok-turn.turn.left.now (at_rest c.node_turn.new.node c.node_turn.new.parts.random) (world_of c.node_turn.new.set (dialling g.D.Dialer.calls g.D.Dialer.left g.D.Dialer.faults c.node_turn.new.parts.dialer) (g.K.Sink.held c.node_turn.new.sink)) (admitting g.A.Acceptor.left g.A.Acceptor.waits c.node_turn.new.acceptor)
+      (turns_more (GoesDrawing g.N.Core.goes g.W.Words.gives g.W.Words.faults) g.L.Link.talk c.args.terms.listens None c.args.terms.script.now (at_rest c.args.node.now c.args.parts.now.random) (world_of c.in_ok-set.set (dialling g.D.Dialer.calls g.D.Dialer.left g.D.Dialer.faults c.args.parts.now.dialer) (g.K.Sink.held c.args.sink.now)) (admitting g.A.Acceptor.left g.A.Acceptor.waits c.args.acceptor.now)
+      c.loop-made.invariant.times c.in_ok-turn.turn.time c.loop-made.start c.loop-made.left.now c.in_ok-turn.turn.left.now (at_rest c.loop-made.node c.loop-made.parts.random) (at_rest c.node_turn.new.node c.node_turn.new.parts.random)
+      (world_of c.loop-made.set (dialling g.D.Dialer.calls g.D.Dialer.left g.D.Dialer.faults c.loop-made.parts.dialer) (g.K.Sink.held c.loop-made.sink)) (world_of c.node_turn.new.set (dialling g.D.Dialer.calls g.D.Dialer.left g.D.Dialer.faults c.node_turn.new.parts.dialer) (g.K.Sink.held c.node_turn.new.sink)) (admitting g.A.Acceptor.left g.A.Acceptor.waits c.loop-made.acceptor) (admitting g.A.Acceptor.left g.A.Acceptor.waits c.node_turn.new.acceptor)
       c.loop-made.invariant.turns c.loop-made.invariant.going c.in_ok-turn.ensures.turns);
   dials = refl;
   holds = refl;
@@ -65,30 +65,30 @@ loop-made-preserved g c = record {
       c.loop-made.invariant.readings c.in_ok-turn.ensures.reading;
   count = one_longer c.loop-made.invariant.times c.in_ok-turn.turn.time c.loop-made.made c.loop-made.invariant.count;
   going = c.if-set.false;
-  turns = λ more m v door k. turns_more (GoesDrawing g.N.Core.goes g.W.Words.gives g.W.Words.faults) g.L.Link.talk c.args.listens None c.args.script.now (at_rest c.args.node.now c.args.random.now) (world_of c.in_ok-set.set (dialling g.D.Dialer.calls g.D.Dialer.left g.D.Dialer.faults c.args.dialer.now) (g.K.Sink.held c.args.sink.now)) (admitting g.A.Acceptor.left g.A.Acceptor.waits c.args.acceptor.now)
-      c.loop-made.invariant.times c.in_ok-turn.turn.time c.loop-made.start c.loop-made.left.now c.in_ok-turn.turn.left.now (at_rest c.loop-made.node c.loop-made.random) (at_rest c.node_turn.new.node c.node_turn.new.random)
-      (world_of c.loop-made.set (dialling g.D.Dialer.calls g.D.Dialer.left g.D.Dialer.faults c.loop-made.dialer) (g.K.Sink.held c.loop-made.sink)) (world_of c.node_turn.new.set (dialling g.D.Dialer.calls g.D.Dialer.left g.D.Dialer.faults c.node_turn.new.dialer) (g.K.Sink.held c.node_turn.new.sink)) (admitting g.A.Acceptor.left g.A.Acceptor.waits c.loop-made.acceptor) (admitting g.A.Acceptor.left g.A.Acceptor.waits c.node_turn.new.acceptor)
+  turns = λ more m v door k. turns_more (GoesDrawing g.N.Core.goes g.W.Words.gives g.W.Words.faults) g.L.Link.talk c.args.terms.listens None c.args.terms.script.now (at_rest c.args.node.now c.args.parts.now.random) (world_of c.in_ok-set.set (dialling g.D.Dialer.calls g.D.Dialer.left g.D.Dialer.faults c.args.parts.now.dialer) (g.K.Sink.held c.args.sink.now)) (admitting g.A.Acceptor.left g.A.Acceptor.waits c.args.acceptor.now)
+      c.loop-made.invariant.times c.in_ok-turn.turn.time c.loop-made.start c.loop-made.left.now c.in_ok-turn.turn.left.now (at_rest c.loop-made.node c.loop-made.parts.random) (at_rest c.node_turn.new.node c.node_turn.new.parts.random)
+      (world_of c.loop-made.set (dialling g.D.Dialer.calls g.D.Dialer.left g.D.Dialer.faults c.loop-made.parts.dialer) (g.K.Sink.held c.loop-made.sink)) (world_of c.node_turn.new.set (dialling g.D.Dialer.calls g.D.Dialer.left g.D.Dialer.faults c.node_turn.new.parts.dialer) (g.K.Sink.held c.node_turn.new.sink)) (admitting g.A.Acceptor.left g.A.Acceptor.waits c.loop-made.acceptor) (admitting g.A.Acceptor.left g.A.Acceptor.waits c.node_turn.new.acceptor)
       c.loop-made.invariant.turns c.loop-made.invariant.going c.in_ok-turn.ensures.turns
       more m v door (rw c.unwrap_or.ensures at k);
-  stops = λ more v door k. stops_more (GoesDrawing g.N.Core.goes g.W.Words.gives g.W.Words.faults) g.L.Link.talk c.args.listens None c.args.script.now (at_rest c.args.node.now c.args.random.now) (world_of c.in_ok-set.set (dialling g.D.Dialer.calls g.D.Dialer.left g.D.Dialer.faults c.args.dialer.now) (g.K.Sink.held c.args.sink.now)) (admitting g.A.Acceptor.left g.A.Acceptor.waits c.args.acceptor.now)
-      c.loop-made.invariant.times c.in_ok-turn.turn.time c.loop-made.start c.loop-made.left.now c.in_ok-turn.turn.left.now (at_rest c.loop-made.node c.loop-made.random) (at_rest c.node_turn.new.node c.node_turn.new.random)
-      (world_of c.loop-made.set (dialling g.D.Dialer.calls g.D.Dialer.left g.D.Dialer.faults c.loop-made.dialer) (g.K.Sink.held c.loop-made.sink)) (world_of c.node_turn.new.set (dialling g.D.Dialer.calls g.D.Dialer.left g.D.Dialer.faults c.node_turn.new.dialer) (g.K.Sink.held c.node_turn.new.sink)) (admitting g.A.Acceptor.left g.A.Acceptor.waits c.loop-made.acceptor) (admitting g.A.Acceptor.left g.A.Acceptor.waits c.node_turn.new.acceptor)
+  stops = λ more v door k. stops_more (GoesDrawing g.N.Core.goes g.W.Words.gives g.W.Words.faults) g.L.Link.talk c.args.terms.listens None c.args.terms.script.now (at_rest c.args.node.now c.args.parts.now.random) (world_of c.in_ok-set.set (dialling g.D.Dialer.calls g.D.Dialer.left g.D.Dialer.faults c.args.parts.now.dialer) (g.K.Sink.held c.args.sink.now)) (admitting g.A.Acceptor.left g.A.Acceptor.waits c.args.acceptor.now)
+      c.loop-made.invariant.times c.in_ok-turn.turn.time c.loop-made.start c.loop-made.left.now c.in_ok-turn.turn.left.now (at_rest c.loop-made.node c.loop-made.parts.random) (at_rest c.node_turn.new.node c.node_turn.new.parts.random)
+      (world_of c.loop-made.set (dialling g.D.Dialer.calls g.D.Dialer.left g.D.Dialer.faults c.loop-made.parts.dialer) (g.K.Sink.held c.loop-made.sink)) (world_of c.node_turn.new.set (dialling g.D.Dialer.calls g.D.Dialer.left g.D.Dialer.faults c.node_turn.new.parts.dialer) (g.K.Sink.held c.node_turn.new.sink)) (admitting g.A.Acceptor.left g.A.Acceptor.waits c.loop-made.acceptor) (admitting g.A.Acceptor.left g.A.Acceptor.waits c.node_turn.new.acceptor)
       c.loop-made.invariant.stops c.loop-made.invariant.going c.in_ok-turn.ensures.turns
       more v door (rw c.unwrap_or.ensures at k);
   rise = rise_more 0 c.loop-made.invariant.times (g.C.Clock.newest c.loop-made.clock) c.in_ok-turn.turn.time (g.C.Clock.newest c.node_turn.new.clock)
       c.loop-made.invariant.rise c.in_ok-turn.ensures.rises c.in_ok-turn.ensures.below c.in_ok-turn.ensures.newest;
   waits = c.loop-made.invariant.waits ++ c.loop-made.wait_ms ∷ [];
-  asked = grows_then (g.V.Waiter.waits c.args.waiter.now) (g.V.Waiter.waits c.loop-made.waiter) (g.V.Waiter.waits c.wait.new.self) c.loop-made.invariant.waits (c.loop-made.wait_ms ∷ [])
-      c.loop-made.invariant.asked c.wait.ensures.told;
+  asked = grows_still (g.V.Waiter.waits c.args.parts.now.waiter) (g.V.Waiter.waits c.wait.new.self) (g.V.Waiter.waits c.node_turn.new.parts.waiter) (c.loop-made.invariant.waits ++ c.loop-made.wait_ms ∷ []) (ap g.V.Waiter.waits c.node_turn.ensures.waiter)
+      (grows_then (g.V.Waiter.waits c.args.parts.now.waiter) (g.V.Waiter.waits c.loop-made.parts.waiter) (g.V.Waiter.waits c.wait.new.self) c.loop-made.invariant.waits (c.loop-made.wait_ms ∷ []) c.loop-made.invariant.asked c.wait.ensures.told);
   newest = c.in_ok-turn.turn.time;
   read = omega (arith, c.in_ok-turn.ensures.newest);
-  lines = left_then c.args.script.now c.loop-made.left.now c.in_ok-turn.turn.left.now c.in_ok-turn.ensures.turns.lines c.loop-made.start c.loop-made.invariant.newest c.in_ok-turn.turn.time c.unwrap_or.result
+  lines = left_then c.args.terms.script.now c.loop-made.left.now c.in_ok-turn.turn.left.now c.in_ok-turn.ensures.turns.lines c.loop-made.start c.loop-made.invariant.newest c.in_ok-turn.turn.time c.unwrap_or.result
       c.loop-made.invariant.lines (omega (arith, c.loop-made.invariant.read, c.in_ok-turn.ensures.rises)) c.in_ok-turn.ensures.turns.parts c.in_ok-turn.ensures.turns.due c.unwrap_or.ensures;
-  rest = rest_so c.args.script.now c.in_ok-turn.turn.left.now c.loop-made.start c.in_ok-turn.turn.time c.unwrap_or.result c.passed_by.result c.rest_ms-wait_ms.result
-      (left_then c.args.script.now c.loop-made.left.now c.in_ok-turn.turn.left.now c.in_ok-turn.ensures.turns.lines c.loop-made.start c.loop-made.invariant.newest c.in_ok-turn.turn.time c.unwrap_or.result
+  rest = rest_so c.args.terms.script.now c.in_ok-turn.turn.left.now c.loop-made.start c.in_ok-turn.turn.time c.unwrap_or.result c.passed_by.result c.rest_ms-wait_ms.result
+      (left_then c.args.terms.script.now c.loop-made.left.now c.in_ok-turn.turn.left.now c.in_ok-turn.ensures.turns.lines c.loop-made.start c.loop-made.invariant.newest c.in_ok-turn.turn.time c.unwrap_or.result
       c.loop-made.invariant.lines (omega (arith, c.loop-made.invariant.read, c.in_ok-turn.ensures.rises)) c.in_ok-turn.ensures.turns.parts c.in_ok-turn.ensures.turns.due c.unwrap_or.ensures)
       c.unwrap_or.ensures c.passed_by.ensures c.in_ok-turn.ensures.turns.next c.rest_ms-wait_ms.ensures.short c.rest_ms-wait_ms.ensures.over;
-  rests = rests_more c.args.script.now c.loop-made.invariant.times c.loop-made.invariant.waits c.loop-made.start c.loop-made.invariant.newest c.in_ok-turn.turn.time c.unwrap_or.result c.loop-made.wait_ms
+  rests = rests_more c.args.terms.script.now c.loop-made.invariant.times c.loop-made.invariant.waits c.loop-made.start c.loop-made.invariant.newest c.in_ok-turn.turn.time c.unwrap_or.result c.loop-made.wait_ms
       c.loop-made.invariant.rests c.loop-made.invariant.rest c.unwrap_or.ensures;
   writes_later = omega (arith, c.loop-made.invariant.writes_later, c.node_turn.ensures.later);
   links_later = omega (arith, c.loop-made.invariant.links_later, c.node_turn.ensures.arrivals);
@@ -98,8 +98,8 @@ loop-made-preserved g c = record {
 pub returns-clause-runs : goal.returns-clause-runs
 returns-clause-runs g c = record {
   times = c.loop-made.invariant.times;
-  first = world_of c.in_ok-set.set (dialling g.D.Dialer.calls g.D.Dialer.left g.D.Dialer.faults c.args.dialer.now) (g.K.Sink.held c.args.sink.now);
-  last = (world_of c.loop-made.set (dialling g.D.Dialer.calls g.D.Dialer.left g.D.Dialer.faults c.loop-made.dialer) (g.K.Sink.held c.loop-made.sink));
+  first = world_of c.in_ok-set.set (dialling g.D.Dialer.calls g.D.Dialer.left g.D.Dialer.faults c.args.parts.now.dialer) (g.K.Sink.held c.args.sink.now);
+  last = (world_of c.loop-made.set (dialling g.D.Dialer.calls g.D.Dialer.left g.D.Dialer.faults c.loop-made.parts.dialer) (g.K.Sink.held c.loop-made.sink));
   empty = record {
     link = c.in_ok-set.ensures.links;
     arrived = c.in_ok-set.ensures.arrived;
@@ -109,8 +109,8 @@ returns-clause-runs g c = record {
     dialled = refl;
     held = refl;
   };
-  went = turns_all (GoesDrawing g.N.Core.goes g.W.Words.gives g.W.Words.faults) g.L.Link.talk c.args.listens None c.args.script.now (at_rest c.args.node.now c.args.random.now) (world_of c.in_ok-set.set (dialling g.D.Dialer.calls g.D.Dialer.left g.D.Dialer.faults c.args.dialer.now) (g.K.Sink.held c.args.sink.now)) (admitting g.A.Acceptor.left g.A.Acceptor.waits c.args.acceptor.now)
-      c.loop-made.invariant.times c.loop-made.start c.loop-made.left.now (at_rest c.loop-made.node c.loop-made.random) (world_of c.loop-made.set (dialling g.D.Dialer.calls g.D.Dialer.left g.D.Dialer.faults c.loop-made.dialer) (g.K.Sink.held c.loop-made.sink)) (admitting g.A.Acceptor.left g.A.Acceptor.waits c.loop-made.acceptor)
+  went = turns_all (GoesDrawing g.N.Core.goes g.W.Words.gives g.W.Words.faults) g.L.Link.talk c.args.terms.listens None c.args.terms.script.now (at_rest c.args.node.now c.args.parts.now.random) (world_of c.in_ok-set.set (dialling g.D.Dialer.calls g.D.Dialer.left g.D.Dialer.faults c.args.parts.now.dialer) (g.K.Sink.held c.args.sink.now)) (admitting g.A.Acceptor.left g.A.Acceptor.waits c.args.acceptor.now)
+      c.loop-made.invariant.times c.loop-made.start c.loop-made.left.now (at_rest c.loop-made.node c.loop-made.parts.random) (world_of c.loop-made.set (dialling g.D.Dialer.calls g.D.Dialer.left g.D.Dialer.faults c.loop-made.parts.dialer) (g.K.Sink.held c.loop-made.sink)) (admitting g.A.Acceptor.left g.A.Acceptor.waits c.loop-made.acceptor)
       c.loop-made.invariant.turns;
   dials = refl;
   holds = refl;
@@ -129,8 +129,8 @@ returns-in_err-turn-clause-fails g c =
     at_err _ (inr (
     record {
       times = c.loop-made.invariant.times ++ k.0 ∷ [];
-      first = (world_of c.in_ok-set.set (dialling g.D.Dialer.calls g.D.Dialer.left g.D.Dialer.faults c.args.dialer.now) (g.K.Sink.held c.args.sink.now));
-      last = (world_of c.node_turn.new.set (dialling g.D.Dialer.calls g.D.Dialer.left g.D.Dialer.faults c.node_turn.new.dialer) (g.K.Sink.held c.node_turn.new.sink));
+      first = (world_of c.in_ok-set.set (dialling g.D.Dialer.calls g.D.Dialer.left g.D.Dialer.faults c.args.parts.now.dialer) (g.K.Sink.held c.args.sink.now));
+      last = (world_of c.node_turn.new.set (dialling g.D.Dialer.calls g.D.Dialer.left g.D.Dialer.faults c.node_turn.new.parts.dialer) (g.K.Sink.held c.node_turn.new.sink));
       empty = record {
         link = c.in_ok-set.ensures.links;
         arrived = c.in_ok-set.ensures.arrived;
@@ -140,8 +140,8 @@ returns-in_err-turn-clause-fails g c =
         dialled = refl;
         held = refl;
       };
-      went = stops_now (GoesDrawing g.N.Core.goes g.W.Words.gives g.W.Words.faults) g.L.Link.talk c.args.listens None c.args.script.now (at_rest c.args.node.now c.args.random.now) (world_of c.in_ok-set.set (dialling g.D.Dialer.calls g.D.Dialer.left g.D.Dialer.faults c.args.dialer.now) (g.K.Sink.held c.args.sink.now)) (admitting g.A.Acceptor.left g.A.Acceptor.waits c.args.acceptor.now)
-          c.loop-made.invariant.times k.0 c.loop-made.start c.loop-made.left.now (at_rest c.loop-made.node c.loop-made.random) (world_of c.loop-made.set (dialling g.D.Dialer.calls g.D.Dialer.left g.D.Dialer.faults c.loop-made.dialer) (g.K.Sink.held c.loop-made.sink)) (world_of c.node_turn.new.set (dialling g.D.Dialer.calls g.D.Dialer.left g.D.Dialer.faults c.node_turn.new.dialer) (g.K.Sink.held c.node_turn.new.sink))
+      went = stops_now (GoesDrawing g.N.Core.goes g.W.Words.gives g.W.Words.faults) g.L.Link.talk c.args.terms.listens None c.args.terms.script.now (at_rest c.args.node.now c.args.parts.now.random) (world_of c.in_ok-set.set (dialling g.D.Dialer.calls g.D.Dialer.left g.D.Dialer.faults c.args.parts.now.dialer) (g.K.Sink.held c.args.sink.now)) (admitting g.A.Acceptor.left g.A.Acceptor.waits c.args.acceptor.now)
+          c.loop-made.invariant.times k.0 c.loop-made.start c.loop-made.left.now (at_rest c.loop-made.node c.loop-made.parts.random) (world_of c.loop-made.set (dialling g.D.Dialer.calls g.D.Dialer.left g.D.Dialer.faults c.loop-made.parts.dialer) (g.K.Sink.held c.loop-made.sink)) (world_of c.node_turn.new.set (dialling g.D.Dialer.calls g.D.Dialer.left g.D.Dialer.faults c.node_turn.new.parts.dialer) (g.K.Sink.held c.node_turn.new.sink))
           (admitting g.A.Acceptor.left g.A.Acceptor.waits c.loop-made.acceptor) (admitting g.A.Acceptor.left g.A.Acceptor.waits c.node_turn.new.acceptor) c.loop-made.invariant.stops c.loop-made.invariant.going k.4;
       dials = refl;
       holds = refl;
@@ -154,7 +154,7 @@ returns-in_err-turn-clause-fails g c =
 
 pub returns-in_err-set-clause-rests : goal.returns-in_err-set-clause-rests
 returns-in_err-set-clause-rests g c =
-    ([], [], grows_none (g.C.Clock.readings c.args.clock.now), grows_none (g.V.Waiter.waits c.args.waiter.now), tt)
+    ([], [], grows_none (g.C.Clock.readings c.args.clock.now), grows_none (g.V.Waiter.waits c.args.parts.now.waiter), tt)
 
 pub returns-in_err-turn-clause-rests : goal.returns-in_err-turn-clause-rests
 returns-in_err-turn-clause-rests g c =
@@ -163,9 +163,9 @@ returns-in_err-turn-clause-rests g c =
       c.loop-made.invariant.waits ++ c.loop-made.wait_ms ∷ [],
       grows_then (g.C.Clock.readings c.args.clock.now) (g.C.Clock.readings c.loop-made.clock) (g.C.Clock.readings c.node_turn.new.clock) c.loop-made.invariant.times (k.0 ∷ [])
           c.loop-made.invariant.readings k.1,
-      grows_then (g.V.Waiter.waits c.args.waiter.now) (g.V.Waiter.waits c.loop-made.waiter) (g.V.Waiter.waits c.wait.new.self) c.loop-made.invariant.waits (c.loop-made.wait_ms ∷ [])
-          c.loop-made.invariant.asked c.wait.ensures.told,
-      rests_now c.args.script.now c.loop-made.invariant.times c.loop-made.invariant.waits c.loop-made.start c.loop-made.invariant.newest k.0 c.loop-made.wait_ms
+      grows_still (g.V.Waiter.waits c.args.parts.now.waiter) (g.V.Waiter.waits c.wait.new.self) (g.V.Waiter.waits c.node_turn.new.parts.waiter) (c.loop-made.invariant.waits ++ c.loop-made.wait_ms ∷ []) (ap g.V.Waiter.waits c.node_turn.ensures.waiter)
+          (grows_then (g.V.Waiter.waits c.args.parts.now.waiter) (g.V.Waiter.waits c.loop-made.parts.waiter) (g.V.Waiter.waits c.wait.new.self) c.loop-made.invariant.waits (c.loop-made.wait_ms ∷ []) c.loop-made.invariant.asked c.wait.ensures.told),
+      rests_now c.args.terms.script.now c.loop-made.invariant.times c.loop-made.invariant.waits c.loop-made.start c.loop-made.invariant.newest k.0 c.loop-made.wait_ms
           c.loop-made.invariant.rests c.loop-made.invariant.rest,
     )
 
@@ -175,9 +175,9 @@ returns-then-set-clause-rests g c = (
   c.loop-made.invariant.waits ++ c.loop-made.wait_ms ∷ [],
   grows_then (g.C.Clock.readings c.args.clock.now) (g.C.Clock.readings c.loop-made.clock) (g.C.Clock.readings c.node_turn.new.clock) c.loop-made.invariant.times (c.in_ok-turn.turn.time ∷ [])
       c.loop-made.invariant.readings c.in_ok-turn.ensures.reading,
-  grows_then (g.V.Waiter.waits c.args.waiter.now) (g.V.Waiter.waits c.loop-made.waiter) (g.V.Waiter.waits c.wait.new.self) c.loop-made.invariant.waits (c.loop-made.wait_ms ∷ [])
-      c.loop-made.invariant.asked c.wait.ensures.told,
-  rests_now c.args.script.now c.loop-made.invariant.times c.loop-made.invariant.waits c.loop-made.start c.loop-made.invariant.newest c.in_ok-turn.turn.time c.loop-made.wait_ms
+  grows_still (g.V.Waiter.waits c.args.parts.now.waiter) (g.V.Waiter.waits c.wait.new.self) (g.V.Waiter.waits c.node_turn.new.parts.waiter) (c.loop-made.invariant.waits ++ c.loop-made.wait_ms ∷ []) (ap g.V.Waiter.waits c.node_turn.ensures.waiter)
+      (grows_then (g.V.Waiter.waits c.args.parts.now.waiter) (g.V.Waiter.waits c.loop-made.parts.waiter) (g.V.Waiter.waits c.wait.new.self) c.loop-made.invariant.waits (c.loop-made.wait_ms ∷ []) c.loop-made.invariant.asked c.wait.ensures.told),
+  rests_now c.args.terms.script.now c.loop-made.invariant.times c.loop-made.invariant.waits c.loop-made.start c.loop-made.invariant.newest c.in_ok-turn.turn.time c.loop-made.wait_ms
       c.loop-made.invariant.rests c.loop-made.invariant.rest,
 )
 
@@ -187,5 +187,5 @@ returns-clause-rests g c = (
   c.loop-made.invariant.waits,
   c.loop-made.invariant.readings,
   c.loop-made.invariant.asked,
-  rests_all c.args.script.now c.loop-made.invariant.times c.loop-made.invariant.waits c.loop-made.start c.loop-made.invariant.newest c.loop-made.invariant.rests,
+  rests_all c.args.terms.script.now c.loop-made.invariant.times c.loop-made.invariant.waits c.loop-made.start c.loop-made.invariant.newest c.loop-made.invariant.rests,
 )

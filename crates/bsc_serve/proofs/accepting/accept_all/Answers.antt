@@ -16,13 +16,13 @@ loop-init g c =
     let P = g.P.Spawner in
     let W = Worked g.L.Link.talk g.L.Link.faults g.C.Clock.readings g.N.Sink.held g.N.Sink.faults in
     let B = g.J.Journals.begins in
-    let terms = all_terms c.args.terms.now (option_map (λ p. p.now) c.args.prefix) (policy_of c.args.policy.now) in
-    let first : ServeWorld g.row.L.Denot g.row.C.Denot g.row.N.Denot = record { pass = c.args.pass.now; links = A.left c.args.acceptor.now; waits = A.waits c.args.acceptor.now; jobs = P.jobs c.args.spawner.now; out = P.out c.args.spawner.now; unstarted = P.faults c.args.spawner.now } in (
+    let terms = all_terms c.args.served.terms (option_map (λ p. p.now) c.args.served.prefix) (policy_of c.args.served.policy.now) in
+    let first : ServeWorld g.row.L.Denot g.row.C.Denot g.row.N.Denot = record { pass = c.args.pass.now; links = A.left c.args.parts.now.acceptor; waits = A.waits c.args.parts.now.acceptor; jobs = P.jobs c.args.parts.now.spawner; out = P.out c.args.parts.now.spawner; unstarted = P.faults c.args.parts.now.spawner } in (
       c.requires.can,
       c.requires.pass,
-      taken_begins W B (arc_value c.args.hub.now) terms first c.of-tally.result c.requires.pass c.requires.none c.of-tally.ensures.remaining c.of-tally.ensures.unstarted,
+      taken_begins W B (arc_value c.args.served.hub.now) terms first c.of-tally.result c.requires.pass c.requires.none c.of-tally.ensures.remaining c.of-tally.ensures.unstarted,
       omega arith,
-      stays_same (A.bound c.args.acceptor.now),
+      stays_same (A.bound c.args.parts.now.acceptor),
       omega arith,
       (tt, tt),
     )
@@ -33,19 +33,19 @@ loop-preserved g c =
     let P = g.P.Spawner in
     let W = Worked g.L.Link.talk g.L.Link.faults g.C.Clock.readings g.N.Sink.held g.N.Sink.faults in
     let B = g.J.Journals.begins in
-    let terms = all_terms c.args.terms.now (option_map (λ p. p.now) c.args.prefix) (policy_of c.args.policy.now) in
-    let first : ServeWorld g.row.L.Denot g.row.C.Denot g.row.N.Denot = record { pass = c.args.pass.now; links = A.left c.args.acceptor.now; waits = A.waits c.args.acceptor.now; jobs = P.jobs c.args.spawner.now; out = P.out c.args.spawner.now; unstarted = P.faults c.args.spawner.now } in
-    let before : Stock g.row.L.Denot g.row.C.Denot g.row.N.Denot = record { jobs = P.jobs c.loop.spawner; out = P.out c.loop.spawner; unstarted = P.faults c.loop.spawner } in
+    let terms = all_terms c.args.served.terms (option_map (λ p. p.now) c.args.served.prefix) (policy_of c.args.served.policy.now) in
+    let first : ServeWorld g.row.L.Denot g.row.C.Denot g.row.N.Denot = record { pass = c.args.pass.now; links = A.left c.args.parts.now.acceptor; waits = A.waits c.args.parts.now.acceptor; jobs = P.jobs c.args.parts.now.spawner; out = P.out c.args.parts.now.spawner; unstarted = P.faults c.args.parts.now.spawner } in
+    let before : Stock g.row.L.Denot g.row.C.Denot g.row.N.Denot = record { jobs = P.jobs c.loop.parts.spawner; out = P.out c.loop.parts.spawner; unstarted = P.faults c.loop.parts.spawner } in
     let after : Stock g.row.L.Denot g.row.C.Denot g.row.N.Denot = record { jobs = P.jobs c.take_ended.new.spawner; out = P.out c.take_ended.new.spawner; unstarted = P.faults c.take_ended.new.spawner } in
-    let goes : GoesOn W B (arc_value c.args.hub.now) c.loop.pass before c.take_ended.new.pass after =
+    let goes : GoesOn W B (arc_value c.args.served.hub.now) c.loop.pass before c.take_ended.new.pass after =
     subst (λ (y : Hub). GoesOn W B y c.loop.pass before c.take_ended.new.pass after) c.deref.ensures c.take_ended.ensures.goes_on in
-    let taken = goes terms first (A.left c.loop.acceptor) (A.waits c.loop.acceptor) c.loop.tally c.loop.invariant.2 in
+    let taken = goes terms first (A.left c.loop.parts.acceptor) (A.waits c.loop.parts.acceptor) c.loop.tally c.loop.invariant.2 in
     let t = c.in_default.ensures.taken first taken in (
       c.in_default.ensures.again,
       t.went.caller,
       t,
       omega (arith, c.loop.invariant.3, c.in_default.ensures.later),
-      stays_then (A.bound c.args.acceptor.now) (A.bound c.loop.acceptor) (A.bound c.take_next.new.acceptor) c.loop.invariant.4 c.in_default.ensures.bound,
+      stays_then (A.bound c.args.parts.now.acceptor) (A.bound c.loop.parts.acceptor) (A.bound c.take_next.new.parts.acceptor) c.loop.invariant.4 c.in_default.ensures.bound,
       omega (arith, c.loop.invariant.5, c.in_default.ensures.journals_later),
       (tt, tt),
     )

@@ -12,13 +12,13 @@ abbrev pub invariant-loop : goal.invariant-loop
 invariant-loop g l =
     let A = g.A.Acceptor in
     let P = g.P.Spawner in
-    P.can_start l.spawner
-    × IsCaller (arc_value l.fn.hub) l.pass
-    × Taken (Worked g.L.Link.talk g.L.Link.faults g.C.Clock.readings g.N.Sink.held g.N.Sink.faults) g.J.Journals.begins (arc_value l.fn.hub)
-    (all_terms l.fn.terms (option_map (λ p. p.now) l.fn.prefix) (policy_of l.fn.policy))
-    (record { pass = l.fn.pass; links = A.left l.fn.acceptor; waits = A.waits l.fn.acceptor; jobs = P.jobs l.fn.spawner; out = P.out l.fn.spawner; unstarted = P.faults l.fn.spawner })
-    (record { pass = l.pass; links = A.left l.acceptor; waits = A.waits l.acceptor; jobs = P.jobs l.spawner; out = P.out l.spawner; unstarted = P.faults l.spawner }) l.tally
-    × (A.faults l.fn.acceptor ≤ A.faults l.acceptor)
-    × Stays (A.bound l.fn.acceptor) (A.bound l.acceptor)
-    × (g.J.Journals.faults l.fn.journals ≤ g.J.Journals.faults l.journals)
+    P.can_start l.parts.spawner
+    × IsCaller (arc_value l.fn.served.hub.now) l.pass
+    × Taken (Worked g.L.Link.talk g.L.Link.faults g.C.Clock.readings g.N.Sink.held g.N.Sink.faults) g.J.Journals.begins (arc_value l.fn.served.hub.now)
+    (all_terms l.fn.served.terms (option_map (λ p. p.now) l.fn.served.prefix) (policy_of l.fn.served.policy.now))
+    (record { pass = l.fn.pass; links = A.left l.fn.parts.acceptor; waits = A.waits l.fn.parts.acceptor; jobs = P.jobs l.fn.parts.spawner; out = P.out l.fn.parts.spawner; unstarted = P.faults l.fn.parts.spawner })
+    (record { pass = l.pass; links = A.left l.parts.acceptor; waits = A.waits l.parts.acceptor; jobs = P.jobs l.parts.spawner; out = P.out l.parts.spawner; unstarted = P.faults l.parts.spawner }) l.tally
+    × (A.faults l.fn.parts.acceptor ≤ A.faults l.parts.acceptor)
+    × Stays (A.bound l.fn.parts.acceptor) (A.bound l.parts.acceptor)
+    × (g.J.Journals.faults l.fn.parts.journals ≤ g.J.Journals.faults l.parts.journals)
     × ((goal.iterator-loop g).can_next l.iterator' × (goal.iterator-loop g).is_finite l.iterator')

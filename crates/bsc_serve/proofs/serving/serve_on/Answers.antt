@@ -17,16 +17,16 @@ returns-in-Ok-clause-serving g c =
     let P = g.P.Spawner in
     let W = Worked g.L.Link.talk g.L.Link.faults g.C.Clock.readings g.N.Sink.held g.N.Sink.faults in
     let B = g.J.Journals.begins in
-    let h = arc_value c.args.hub.now in
-    let terms = all_terms c.args.terms.now (option_map (λ p. p.now) c.args.prefix) (policy_of c.args.policy.now) in
+    let h = arc_value c.args.served.hub.now in
+    let terms = all_terms c.args.served.terms (option_map (λ p. p.now) c.args.served.prefix) (policy_of c.args.served.policy.now) in
     let own = g.N.Sink.held c.args.own.now in
     let own' = g.N.Sink.held c.finish-stopped.new.own in
-    let before : ServeWorld g.row.L.Denot g.row.C.Denot g.row.N.Denot = record { pass = c.args.pass.now; links = A.left c.args.acceptor.now; waits = A.waits c.args.acceptor.now; jobs = P.jobs c.args.spawner.now; out = P.out c.args.spawner.now; unstarted = P.faults c.args.spawner.now } in
+    let before : ServeWorld g.row.L.Denot g.row.C.Denot g.row.N.Denot = record { pass = c.args.pass.now; links = A.left c.args.parts.now.acceptor; waits = A.waits c.args.parts.now.acceptor; jobs = P.jobs c.args.parts.now.spawner; out = P.out c.args.parts.now.spawner; unstarted = P.faults c.args.parts.now.spawner } in
     let none_out : Stock g.row.L.Denot g.row.C.Denot g.row.N.Denot = record { jobs = P.jobs c.await_all.new.spawner; out = P.out c.await_all.new.spawner; unstarted = P.faults c.await_all.new.spawner } in
-    let all_came : Stock g.row.L.Denot g.row.C.Denot g.row.N.Denot = record { jobs = P.jobs c.accept_all.new.spawner; out = P.out c.accept_all.new.spawner; unstarted = P.faults c.accept_all.new.spawner } in
+    let all_came : Stock g.row.L.Denot g.row.C.Denot g.row.N.Denot = record { jobs = P.jobs c.accept_all.new.parts.spawner; out = P.out c.accept_all.new.parts.spawner; unstarted = P.faults c.accept_all.new.parts.spawner } in
     let all_ended : Stock g.row.L.Denot g.row.C.Denot g.row.N.Denot = record { jobs = P.jobs c.take_ended.new.spawner; out = P.out c.take_ended.new.spawner; unstarted = P.faults c.take_ended.new.spawner } in
-    let links = A.left c.accept_all.new.acceptor in
-    let waits = A.waits c.accept_all.new.acceptor in
+    let links = A.left c.accept_all.new.parts.acceptor in
+    let waits = A.waits c.accept_all.new.parts.acceptor in
     let first : ServeWorld g.row.L.Denot g.row.C.Denot g.row.N.Denot = world_of before.pass none_out before.links before.waits in
     let m : ServeWorld g.row.L.Denot g.row.C.Denot g.row.N.Denot = world_of c.take_ended.new.pass all_ended links waits in
     let after : ServeWorld g.row.L.Denot g.row.C.Denot g.row.N.Denot = world_of c.finish-stopped.new.pass all_ended links waits in
@@ -46,16 +46,16 @@ returns-in-Err-clause-serving g c =
     let P = g.P.Spawner in
     let W = Worked g.L.Link.talk g.L.Link.faults g.C.Clock.readings g.N.Sink.held g.N.Sink.faults in
     let B = g.J.Journals.begins in
-    let h = arc_value c.args.hub.now in
-    let terms = all_terms c.args.terms.now (option_map (λ p. p.now) c.args.prefix) (policy_of c.args.policy.now) in
+    let h = arc_value c.args.served.hub.now in
+    let terms = all_terms c.args.served.terms (option_map (λ p. p.now) c.args.served.prefix) (policy_of c.args.served.policy.now) in
     let own = g.N.Sink.held c.args.own.now in
     let own' = g.N.Sink.held c.finish-told.new.own in
-    let before : ServeWorld g.row.L.Denot g.row.C.Denot g.row.N.Denot = record { pass = c.args.pass.now; links = A.left c.args.acceptor.now; waits = A.waits c.args.acceptor.now; jobs = P.jobs c.args.spawner.now; out = P.out c.args.spawner.now; unstarted = P.faults c.args.spawner.now } in
+    let before : ServeWorld g.row.L.Denot g.row.C.Denot g.row.N.Denot = record { pass = c.args.pass.now; links = A.left c.args.parts.now.acceptor; waits = A.waits c.args.parts.now.acceptor; jobs = P.jobs c.args.parts.now.spawner; out = P.out c.args.parts.now.spawner; unstarted = P.faults c.args.parts.now.spawner } in
     let none_out : Stock g.row.L.Denot g.row.C.Denot g.row.N.Denot = record { jobs = P.jobs c.await_all.new.spawner; out = P.out c.await_all.new.spawner; unstarted = P.faults c.await_all.new.spawner } in
-    let came : Stock g.row.L.Denot g.row.C.Denot g.row.N.Denot = record { jobs = P.jobs c.accept_all.new.spawner; out = P.out c.accept_all.new.spawner; unstarted = P.faults c.accept_all.new.spawner } in
+    let came : Stock g.row.L.Denot g.row.C.Denot g.row.N.Denot = record { jobs = P.jobs c.accept_all.new.parts.spawner; out = P.out c.accept_all.new.parts.spawner; unstarted = P.faults c.accept_all.new.parts.spawner } in
     let all_ended : Stock g.row.L.Denot g.row.C.Denot g.row.N.Denot = record { jobs = P.jobs c.await_all-in-Err.new.spawner; out = P.out c.await_all-in-Err.new.spawner; unstarted = P.faults c.await_all-in-Err.new.spawner } in
-    let links = A.left c.accept_all.new.acceptor in
-    let waits = A.waits c.accept_all.new.acceptor in
+    let links = A.left c.accept_all.new.parts.acceptor in
+    let waits = A.waits c.accept_all.new.parts.acceptor in
     let first : ServeWorld g.row.L.Denot g.row.C.Denot g.row.N.Denot = world_of before.pass none_out before.links before.waits in
     let m : ServeWorld g.row.L.Denot g.row.C.Denot g.row.N.Denot = world_of c.accept_all.new.pass came links waits in
     let after : ServeWorld g.row.L.Denot g.row.C.Denot g.row.N.Denot = world_of c.finish-told.new.pass all_ended links waits in

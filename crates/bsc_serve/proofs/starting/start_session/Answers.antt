@@ -12,7 +12,7 @@ use Rattle.bsc_serve.proofs.starting.start_session.Goals as goal
 pub returns-in-Err-clause-fares : goal.returns-in-Err-clause-fares
 returns-in-Err-clause-fares g c =
     let P = g.P.Spawner in
-    let stock : Stock g.row.L.Denot g.row.C.Denot g.row.N.Denot = record { jobs = P.jobs c.args.spawner.now; out = P.out c.args.spawner.now; unstarted = P.faults c.args.spawner.now } in
+    let stock : Stock g.row.L.Denot g.row.C.Denot g.row.N.Denot = record { jobs = P.jobs c.args.parts.now.spawner; out = P.out c.args.parts.now.spawner; unstarted = P.faults c.args.parts.now.spawner } in
     let k = c.in-Ok.ensures in
     let s : SplitsOff c.deref-here.result.now c.args.pass.now c.split.new.pass c.in-Ok.other = record { went = k.pass; caller = k.new; same = k.seen.0; own = k.seen.1; ended = k.seen.2; fresh = k.fresh; number = k.number.0; more = k.number.1; newer = k.newer; room = k.room } in
     subst (λ (y : Hub). LacksRoom y c.args.pass.now c.take_back.new.pass stock stock) c.deref-here.ensures
@@ -21,7 +21,7 @@ returns-in-Err-clause-fares g c =
 pub returns-in_default-2-clause-fares : goal.returns-in_default-2-clause-fares
 returns-in_default-2-clause-fares g c =
     let P = g.P.Spawner in
-    let stock : Stock g.row.L.Denot g.row.C.Denot g.row.N.Denot = record { jobs = P.jobs c.args.spawner.now; out = P.out c.args.spawner.now; unstarted = P.faults c.args.spawner.now } in
+    let stock : Stock g.row.L.Denot g.row.C.Denot g.row.N.Denot = record { jobs = P.jobs c.args.parts.now.spawner; out = P.out c.args.parts.now.spawner; unstarted = P.faults c.args.parts.now.spawner } in
     let k = c.in-Ok.ensures in
     let s : SplitsOff c.deref-here.result.now c.args.pass.now c.split.new.pass c.in-Ok.other = record { went = k.pass; caller = k.new; same = k.seen.0; own = k.seen.1; ended = k.seen.2; fresh = k.fresh; number = k.number.0; more = k.number.1; newer = k.newer; room = k.room } in
     let b = c.take_back-in_default-2 in
@@ -32,9 +32,9 @@ pub returns-clause-fares : goal.returns-clause-fares
 returns-clause-fares g c =
     let P = g.P.Spawner in
     let B = g.J.Journals.begins in
-    let prefix = option_map (λ p. p.now) c.args.prefix in
-    let terms = all_terms c.args.terms.now prefix (policy_of c.args.policy.now) in
-    let before : Stock g.row.L.Denot g.row.C.Denot g.row.N.Denot = record { jobs = P.jobs c.args.spawner.now; out = P.out c.args.spawner.now; unstarted = P.faults c.args.spawner.now } in
+    let prefix = option_map (λ p. p.now) c.args.served.prefix in
+    let terms = all_terms c.args.served.terms prefix (policy_of c.args.served.policy.now) in
+    let before : Stock g.row.L.Denot g.row.C.Denot g.row.N.Denot = record { jobs = P.jobs c.args.parts.now.spawner; out = P.out c.args.parts.now.spawner; unstarted = P.faults c.args.parts.now.spawner } in
     let after : Stock g.row.L.Denot g.row.C.Denot g.row.N.Denot = record { jobs = P.jobs c.hand_over.new.spawner; out = P.out c.hand_over.new.spawner; unstarted = P.faults c.hand_over.new.spawner } in
     let k = c.in-Ok.ensures in
     let s : SplitsOff c.deref-here.result.now c.args.pass.now c.split.new.pass c.in-Ok.other = record { went = k.pass; caller = k.new; same = k.seen.0; own = k.seen.1; ended = k.seen.2; fresh = k.fresh; number = k.number.0; more = k.number.1; newer = k.newer; room = k.room } in
@@ -48,7 +48,7 @@ returns-clause-fares g c =
       limits = n.limits;
       turns = n.turns;
       journal = subst (λ (x : g.row.N.Denot). B prefix (number_of job.pass) x) (sym n.journal) begun;
-      is_recorded = n.is_recorded ∙ c.is_some.ensures ∙ is_mapped (λ p. p.now) c.args.prefix;
+      is_recorded = n.is_recorded ∙ c.is_some.ensures ∙ is_mapped (λ p. p.now) c.args.served.prefix;
       policy = ap policy_of n.policy ∙ c.in-Ok-Ok-Ok.ensures'';
     } in
     subst (λ (y : Hub). Fares B y terms c.args.pass.now c.hand_over.new.pass c.args.link before after c.hand_over.result) c.deref-here.ensures

@@ -8,29 +8,29 @@ use Rattle.bsc_session.proofs.Running.{are_terms, has_room, ran_stopped, receive
 use Rattle.bsc_session.proofs.serving.run.Goals as goal
 
 pub turn-requires-clause-stands : goal.turn-requires-clause-stands
-turn-requires-clause-stands g c = some_terms c.args.hub.now c.args.pass.now c.loop-at.pass c.args.limits.now c.args.turns (option_map (λ p. p.now) c.args.policy) c.loop-at.at (g.L.Link.talk c.args.link.now) (g.L.Link.talk c.loop-at.link) (g.C.Clock.readings c.args.clock.now) (g.C.Clock.readings c.loop-at.clock) (g.J.Journal.held c.args.journal.now) (g.J.Journal.held c.loop-at.journal) c.loop-at.invariant.0
+turn-requires-clause-stands g c = some_terms c.args.here.hub.now c.args.pass.now c.loop-at.pass c.args.here.limits.now c.args.turns (option_map (λ p. p.now) c.args.here.policy) c.loop-at.at (g.L.Link.talk c.args.link.now) (g.L.Link.talk c.loop-at.link) (g.C.Clock.readings c.args.clock.now) (g.C.Clock.readings c.loop-at.clock) (g.J.Journal.held c.args.journal.now) (g.J.Journal.held c.loop-at.journal) c.loop-at.invariant.0
 
 pub returns-in-Some-clause-ran : goal.returns-in-Some-clause-ran
 returns-in-Some-clause-ran g c =
     let k = c.loop-at.invariant.0 in
-    ran_stopped (terms_of c.args.hub.now c.args.pass.now c.args.limits.now c.args.turns (option_map (λ p. p.now) c.args.policy)) c.args.hub.now c.args.pass.now c.loop-at.pass c.turn.new.pass c.loop-at.at c.turn.new.at (g.L.Link.talk c.args.link.now) (g.L.Link.talk c.loop-at.link) (g.L.Link.talk c.turn.new.link) (g.C.Clock.readings c.args.clock.now) (g.C.Clock.readings c.loop-at.clock) (g.C.Clock.readings c.turn.new.clock) (g.J.Journal.held c.args.journal.now) (g.J.Journal.held c.loop-at.journal) (g.J.Journal.held c.turn.new.journal) c.in-Some.stop k
-    (c.in-Some.ensures.made (terms_of c.args.hub.now c.args.pass.now c.args.limits.now c.args.turns (option_map (λ p. p.now) c.args.policy)) (standing (terms_of c.args.hub.now c.args.pass.now c.args.limits.now c.args.turns (option_map (λ p. p.now) c.args.policy)) begun k.turns) (are_terms c.args.hub.now c.args.pass.now c.args.limits.now c.args.turns (option_map (λ p. p.now) c.args.policy)) (has_room _ _ c.args.hub.now c.loop-at.pass c.loop-at.at k.held c.loop-at-test.true) k.held k.between refl)
+    ran_stopped (terms_of c.args.here.hub.now c.args.pass.now c.args.here.limits.now c.args.turns (option_map (λ p. p.now) c.args.here.policy)) c.args.here.hub.now c.args.pass.now c.loop-at.pass c.turn.new.pass c.loop-at.at c.turn.new.at (g.L.Link.talk c.args.link.now) (g.L.Link.talk c.loop-at.link) (g.L.Link.talk c.turn.new.link) (g.C.Clock.readings c.args.clock.now) (g.C.Clock.readings c.loop-at.clock) (g.C.Clock.readings c.turn.new.clock) (g.J.Journal.held c.args.journal.now) (g.J.Journal.held c.loop-at.journal) (g.J.Journal.held c.turn.new.journal) c.in-Some.stop k
+    (c.in-Some.ensures.made (terms_of c.args.here.hub.now c.args.pass.now c.args.here.limits.now c.args.turns (option_map (λ p. p.now) c.args.here.policy)) (standing (terms_of c.args.here.hub.now c.args.pass.now c.args.here.limits.now c.args.turns (option_map (λ p. p.now) c.args.here.policy)) begun k.turns) (are_terms c.args.here.hub.now c.args.pass.now c.args.here.limits.now c.args.turns (option_map (λ p. p.now) c.args.here.policy)) (has_room _ _ c.args.here.hub.now c.loop-at.pass c.loop-at.at k.held c.loop-at-test.true) k.held k.between refl)
 
 pub loop-at-smaller : goal.loop-at-smaller
 loop-at-smaller g c =
     let k = c.loop-at.invariant.0 in
-    let m : Makes (terms_of c.args.hub.now c.args.pass.now c.args.limits.now c.args.turns (option_map (λ p. p.now) c.args.policy)) (standing (terms_of c.args.hub.now c.args.pass.now c.args.limits.now c.args.turns (option_map (λ p. p.now) c.args.policy)) begun k.turns) c.args.hub.now c.loop-at.pass c.turn.new.pass c.loop-at.at c.turn.new.at (g.L.Link.talk c.loop-at.link) (g.L.Link.talk c.turn.new.link) (g.C.Clock.readings c.loop-at.clock) (g.C.Clock.readings c.turn.new.clock) (g.J.Journal.held c.loop-at.journal) (g.J.Journal.held c.turn.new.journal) None =
-    rw c.in_default.is at (c.turn.ensures.made (terms_of c.args.hub.now c.args.pass.now c.args.limits.now c.args.turns (option_map (λ p. p.now) c.args.policy)) (standing (terms_of c.args.hub.now c.args.pass.now c.args.limits.now c.args.turns (option_map (λ p. p.now) c.args.policy)) begun k.turns) (are_terms c.args.hub.now c.args.pass.now c.args.limits.now c.args.turns (option_map (λ p. p.now) c.args.policy)) (has_room _ _ c.args.hub.now c.loop-at.pass c.loop-at.at k.held c.loop-at-test.true) k.held k.between refl) in
-    let r = received_more _ _ c.args.hub.now c.loop-at.pass c.turn.new.pass c.loop-at.at c.turn.new.at _ _ _ _ _ _ k.held m in
+    let m : Makes (terms_of c.args.here.hub.now c.args.pass.now c.args.here.limits.now c.args.turns (option_map (λ p. p.now) c.args.here.policy)) (standing (terms_of c.args.here.hub.now c.args.pass.now c.args.here.limits.now c.args.turns (option_map (λ p. p.now) c.args.here.policy)) begun k.turns) c.args.here.hub.now c.loop-at.pass c.turn.new.pass c.loop-at.at c.turn.new.at (g.L.Link.talk c.loop-at.link) (g.L.Link.talk c.turn.new.link) (g.C.Clock.readings c.loop-at.clock) (g.C.Clock.readings c.turn.new.clock) (g.J.Journal.held c.loop-at.journal) (g.J.Journal.held c.turn.new.journal) None =
+    rw c.in_default.is at (c.turn.ensures.made (terms_of c.args.here.hub.now c.args.pass.now c.args.here.limits.now c.args.turns (option_map (λ p. p.now) c.args.here.policy)) (standing (terms_of c.args.here.hub.now c.args.pass.now c.args.here.limits.now c.args.turns (option_map (λ p. p.now) c.args.here.policy)) begun k.turns) (are_terms c.args.here.hub.now c.args.pass.now c.args.here.limits.now c.args.turns (option_map (λ p. p.now) c.args.here.policy)) (has_room _ _ c.args.here.hub.now c.loop-at.pass c.loop-at.at k.held c.loop-at-test.true) k.held k.between refl) in
+    let r = received_more _ _ c.args.here.hub.now c.loop-at.pass c.turn.new.pass c.loop-at.at c.turn.new.at _ _ _ _ _ _ k.held m in
     omega (arith, c.loop-at-test.true, r)
 
 pub loop-at-preserved : goal.loop-at-preserved
 loop-at-preserved g c =
     let k = c.loop-at.invariant.0 in
-    let m : Makes (terms_of c.args.hub.now c.args.pass.now c.args.limits.now c.args.turns (option_map (λ p. p.now) c.args.policy)) (standing (terms_of c.args.hub.now c.args.pass.now c.args.limits.now c.args.turns (option_map (λ p. p.now) c.args.policy)) begun k.turns) c.args.hub.now c.loop-at.pass c.turn.new.pass c.loop-at.at c.turn.new.at (g.L.Link.talk c.loop-at.link) (g.L.Link.talk c.turn.new.link) (g.C.Clock.readings c.loop-at.clock) (g.C.Clock.readings c.turn.new.clock) (g.J.Journal.held c.loop-at.journal) (g.J.Journal.held c.turn.new.journal) None =
-    rw c.in_default.is at (c.turn.ensures.made (terms_of c.args.hub.now c.args.pass.now c.args.limits.now c.args.turns (option_map (λ p. p.now) c.args.policy)) (standing (terms_of c.args.hub.now c.args.pass.now c.args.limits.now c.args.turns (option_map (λ p. p.now) c.args.policy)) begun k.turns) (are_terms c.args.hub.now c.args.pass.now c.args.limits.now c.args.turns (option_map (λ p. p.now) c.args.policy)) (has_room _ _ c.args.hub.now c.loop-at.pass c.loop-at.at k.held c.loop-at-test.true) k.held k.between refl) in
-    let r = received_more _ _ c.args.hub.now c.loop-at.pass c.turn.new.pass c.loop-at.at c.turn.new.at _ _ _ _ _ _ k.held m in (
-      stood_more (terms_of c.args.hub.now c.args.pass.now c.args.limits.now c.args.turns (option_map (λ p. p.now) c.args.policy)) c.args.hub.now c.args.pass.now c.loop-at.pass c.turn.new.pass c.loop-at.at c.turn.new.at (g.L.Link.talk c.args.link.now) (g.L.Link.talk c.loop-at.link) (g.L.Link.talk c.turn.new.link) (g.C.Clock.readings c.args.clock.now) (g.C.Clock.readings c.loop-at.clock) (g.C.Clock.readings c.turn.new.clock) (g.J.Journal.held c.args.journal.now) (g.J.Journal.held c.loop-at.journal) (g.J.Journal.held c.turn.new.journal) k m,
+    let m : Makes (terms_of c.args.here.hub.now c.args.pass.now c.args.here.limits.now c.args.turns (option_map (λ p. p.now) c.args.here.policy)) (standing (terms_of c.args.here.hub.now c.args.pass.now c.args.here.limits.now c.args.turns (option_map (λ p. p.now) c.args.here.policy)) begun k.turns) c.args.here.hub.now c.loop-at.pass c.turn.new.pass c.loop-at.at c.turn.new.at (g.L.Link.talk c.loop-at.link) (g.L.Link.talk c.turn.new.link) (g.C.Clock.readings c.loop-at.clock) (g.C.Clock.readings c.turn.new.clock) (g.J.Journal.held c.loop-at.journal) (g.J.Journal.held c.turn.new.journal) None =
+    rw c.in_default.is at (c.turn.ensures.made (terms_of c.args.here.hub.now c.args.pass.now c.args.here.limits.now c.args.turns (option_map (λ p. p.now) c.args.here.policy)) (standing (terms_of c.args.here.hub.now c.args.pass.now c.args.here.limits.now c.args.turns (option_map (λ p. p.now) c.args.here.policy)) begun k.turns) (are_terms c.args.here.hub.now c.args.pass.now c.args.here.limits.now c.args.turns (option_map (λ p. p.now) c.args.here.policy)) (has_room _ _ c.args.here.hub.now c.loop-at.pass c.loop-at.at k.held c.loop-at-test.true) k.held k.between refl) in
+    let r = received_more _ _ c.args.here.hub.now c.loop-at.pass c.turn.new.pass c.loop-at.at c.turn.new.at _ _ _ _ _ _ k.held m in (
+      stood_more (terms_of c.args.here.hub.now c.args.pass.now c.args.here.limits.now c.args.turns (option_map (λ p. p.now) c.args.here.policy)) c.args.here.hub.now c.args.pass.now c.loop-at.pass c.turn.new.pass c.loop-at.at c.turn.new.at (g.L.Link.talk c.args.link.now) (g.L.Link.talk c.loop-at.link) (g.L.Link.talk c.turn.new.link) (g.C.Clock.readings c.args.clock.now) (g.C.Clock.readings c.loop-at.clock) (g.C.Clock.readings c.turn.new.clock) (g.J.Journal.held c.args.journal.now) (g.J.Journal.held c.loop-at.journal) (g.J.Journal.held c.turn.new.journal) k m,
       omega (arith, c.loop-at.invariant.1, c.turn.ensures.later),
       omega (arith, c.loop-at-test.true, r),
       omega (arith, c.loop-at.invariant.3, c.turn.ensures.journal_later),
@@ -38,7 +38,7 @@ loop-at-preserved g c =
 
 pub loop-at-init : goal.loop-at-init
 loop-at-init g c = (
-  stood_begins (terms_of c.args.hub.now c.args.pass.now c.args.limits.now c.args.turns (option_map (λ p. p.now) c.args.policy)) c.args.hub.now c.args.pass.now c.args.at.now (g.L.Link.talk c.args.link.now) (g.C.Clock.readings c.args.clock.now) (g.J.Journal.held c.args.journal.now) c.requires.caller refl c.requires.stands c.requires.waits c.requires.member c.requires.ended c.requires.receives,
+  stood_begins (terms_of c.args.here.hub.now c.args.pass.now c.args.here.limits.now c.args.turns (option_map (λ p. p.now) c.args.here.policy)) c.args.here.hub.now c.args.pass.now c.args.at.now (g.L.Link.talk c.args.link.now) (g.C.Clock.readings c.args.clock.now) (g.J.Journal.held c.args.journal.now) c.requires.caller refl c.requires.stands c.requires.waits c.requires.member c.requires.ended c.requires.receives,
   omega arith,
   omega (arith, c.requires.receives),
   omega arith,

@@ -4,7 +4,7 @@ use Rattle.bsc_session.specs.Serving.{terms_of}
 use Rattle.bsc_session.proofs.serving.run.Given as goal
 
 abbrev pub invariant-loop-at : goal.invariant-loop-at
-invariant-loop-at g l = Stood (terms_of l.fn.hub l.fn.pass l.fn.limits l.fn.turns (option_map (λ p. p.now) l.fn.policy)) l.fn.hub l.fn.pass l.pass l.at (g.L.Link.talk l.fn.link) (g.L.Link.talk l.link) (g.C.Clock.readings l.fn.clock) (g.C.Clock.readings l.clock) (g.J.Journal.held l.fn.journal) (g.J.Journal.held l.journal)
+invariant-loop-at g l = Stood (terms_of l.fn.here.hub.now l.fn.pass l.fn.here.limits.now l.fn.turns (option_map (λ p. p.now) l.fn.here.policy)) l.fn.here.hub.now l.fn.pass l.pass l.at (g.L.Link.talk l.fn.link) (g.L.Link.talk l.link) (g.C.Clock.readings l.fn.clock) (g.C.Clock.readings l.clock) (g.J.Journal.held l.fn.journal) (g.J.Journal.held l.journal)
     × (g.L.Link.faults l.fn.link ≤ g.L.Link.faults l.link) × (l.at.receives ≤ l.turns)
     × (g.J.Journal.faults l.fn.journal ≤ g.J.Journal.faults l.journal)
 

@@ -8,7 +8,7 @@ use Rattle.bsc_load.specs.Inner.{Unjoined, cut_of as load_cut_of}
 use Rattle.bsc_load.proofs.Going.{mark_later}
 use Rattle.bsc_load.proofs.Unjoined.{unjoined}
 use Rattle.bsc_storm.specs.declared.works.Cut.{Cut}
-use Rattle.bsc_storm.specs.Inner.{Runs}
+use Rattle.bsc_storm.specs.Inner.{StormWorkerRuns}
 use Rattle.bsc_storm.proofs.Forwarding.{after_send, sent_went, unsent}
 use Rattle.bsc_storm.proofs.sending.send.Goals as goal
 
@@ -32,7 +32,7 @@ returns-in-Err g c =
     let q = c.connect.new.pass in
     let refusal = c.in-Err.refusal in
     let none = unjoined h p q c.storm_sender.result refusal c.requires.caller c.in-Err.ensures.pass c.in-Err.ensures.due in
-    subst (λ (cut : Cut). Runs h true c.args.rounds p q (Err cut)) (sym c.cut_of.ensures)
+    subst (λ (cut : Cut). StormWorkerRuns h true c.args.rounds p q (Err cut)) (sym c.cut_of.ensures)
     (unsent h c.args.rounds p q refusal (subst (λ (who : Identity). Unjoined h who p q (load_cut_of refusal)) c.storm_sender.ensures none))
 
 pub returns-in-Ok : goal.returns-in-Ok

@@ -4,7 +4,7 @@ use Rattle.bsc_history.specs.declared.limits.About.{About}
 use Rattle.bsc_history.specs.Marks.{entries}
 use Rattle.bsc_turn.specs.Passes.{IsPassOf, after_commit, guard_view, seen, view_of}
 use Rattle.bsc_desk.specs.declared.desk.Desk.{Desk}
-use Rattle.bsc_desk.specs.Standing.{StandsFor}
+use Rattle.bsc_desk.specs.Standing.{DeskStands}
 use Rattle.bsc_hub.specs.Passing.{Passed, about_of, fixed_of}
 use Rattle.bsc_hub.proofs.Passing.{found_back, found_with, passed_with, worn_found}
 use Rattle.bsc_history.specs.Replies.{forward_reply}
@@ -18,7 +18,7 @@ forward_one-requires-clause-unleft g c =
     let h = c.args.self.now in
     let e = c.enter-guard.ensures in
     let w = guard_view c.enter-guard.result in
-    let stands : StandsFor c.state.result.now w.seen = subst (λ d. StandsFor d w.seen) (sym c.state.ensures.value) e.stands in
+    let stands : DeskStands c.state.result.now w.seen = subst (λ d. DeskStands d w.seen) (sym c.state.ensures.value) e.stands in
     let s = c.requires.caller.0.1.1 in
     guard_sender c.state.result.now c.args.pass.now c.number-caller.result c.args.conn c.args.frame.sender w stands e.seen e.same e.guard.1.2 s.5 s.2 c.number-caller.ensures c.requires.own
 
@@ -27,7 +27,7 @@ returns-in-Err-clause-worn g c =
     let h = c.args.self.now in
     let e = c.enter-guard.ensures in
     let w = guard_view c.enter-guard.result in
-    let stands : StandsFor c.state.result.now w.seen = subst (λ d. StandsFor d w.seen) (sym c.state.ensures.value) e.stands in
+    let stands : DeskStands c.state.result.now w.seen = subst (λ d. DeskStands d w.seen) (sym c.state.ensures.value) e.stands in
     let about : c.state.result.now.about ≡ about_of h = ap (λ (d : Desk). d.about) c.state.ensures.value ∙ e.about ∙ h.fixed in
     worn_found _ _ _ w.seen _ about (found_back c.back.new.pass w c.back.ensures.knows) (c.in-Err.ensures.worn w.seen stands)
 
@@ -36,7 +36,7 @@ returns-in-Ok-clause-pass g c =
     let h = c.args.self.now in
     let e = c.enter-guard.ensures in
     let w = guard_view c.enter-guard.result in
-    let stands : StandsFor c.state.result.now w.seen = subst (λ d. StandsFor d w.seen) (sym c.state.ensures.value) e.stands in
+    let stands : DeskStands c.state.result.now w.seen = subst (λ d. DeskStands d w.seen) (sym c.state.ensures.value) e.stands in
     let about : c.state.result.now.about ≡ about_of h = ap (λ (d : Desk). d.about) c.state.ensures.value ∙ e.about ∙ h.fixed in
     let p = c.args.pass.now in
     let q = c.commit_one-at.new.pass in
@@ -51,7 +51,7 @@ returns-in-Ok-clause-due g c =
     let h = c.args.self.now in
     let e = c.enter-guard.ensures in
     let w = guard_view c.enter-guard.result in
-    let stands : StandsFor c.state.result.now w.seen = subst (λ d. StandsFor d w.seen) (sym c.state.ensures.value) e.stands in
+    let stands : DeskStands c.state.result.now w.seen = subst (λ d. DeskStands d w.seen) (sym c.state.ensures.value) e.stands in
     let about : c.state.result.now.about ≡ about_of h = ap (λ (d : Desk). d.about) c.state.ensures.value ∙ e.about ∙ h.fixed in
     let found = found_with c.commit_one-at.new.pass w (one_stamped c.number-caller.result c.args.conn c.of-note.result.value.message c.in-Ok.said) c.commit_one-at.result c.commit_one-at.ensures.2 c.commit_one-at.ensures.0 in
     c.in-Ok.ensures.due w.seen stands
@@ -63,6 +63,6 @@ returns-in-Ok-clause-worn g c =
     let h = c.args.self.now in
     let e = c.enter-guard.ensures in
     let w = guard_view c.enter-guard.result in
-    let stands : StandsFor c.state.result.now w.seen = subst (λ d. StandsFor d w.seen) (sym c.state.ensures.value) e.stands in
+    let stands : DeskStands c.state.result.now w.seen = subst (λ d. DeskStands d w.seen) (sym c.state.ensures.value) e.stands in
     let about : c.state.result.now.about ≡ about_of h = ap (λ (d : Desk). d.about) c.state.ensures.value ∙ e.about ∙ h.fixed in
     worn_found _ _ _ w.seen _ about (found_with c.commit_one-at.new.pass w (one_stamped c.number-caller.result c.args.conn c.of-note.result.value.message c.in-Ok.said) c.commit_one-at.result c.commit_one-at.ensures.2 c.commit_one-at.ensures.0) (c.in-Ok.ensures.worn w.seen stands)

@@ -4,7 +4,7 @@ use Rattle.bsc_history.specs.declared.limits.About.{About}
 use Rattle.bsc_history.specs.Marks.{entries}
 use Rattle.bsc_turn.specs.Passes.{IsPassOf, guard_view, seen}
 use Rattle.bsc_desk.specs.declared.desk.Desk.{Desk}
-use Rattle.bsc_desk.specs.Standing.{StandsFor}
+use Rattle.bsc_desk.specs.Standing.{DeskStands}
 use Rattle.bsc_hub.specs.Passing.{Passed, about_of, fixed_of}
 use Rattle.bsc_hub.proofs.Passing.{found_back, found_with, passed_with, worn_found}
 use Rattle.std.proofs.Common.{take, unwrap_or}
@@ -24,7 +24,7 @@ leave-said-requires-clause-unleft g c =
     let h = c.args.self.now in
     let e = c.enter-guard.ensures in
     let w = guard_view c.enter-guard.result in
-    let stands : StandsFor c.state.result.now w.seen = subst (λ d. StandsFor d w.seen) (sym c.state.ensures.value) e.stands in
+    let stands : DeskStands c.state.result.now w.seen = subst (λ d. DeskStands d w.seen) (sym c.state.ensures.value) e.stands in
     let s = c.requires.caller.0.1.1 in
     guard_row c.state.result.now c.args.pass.now c.number-caller.result c.args.conn w stands e.seen e.same e.guard.1.2 s.5 s.2 c.number-caller.ensures c.requires.own
 
@@ -33,7 +33,7 @@ leave-said-requires-clause-mark g c =
     let h = c.args.self.now in
     let e = c.enter-guard.ensures in
     let w = guard_view c.enter-guard.result in
-    let stands : StandsFor c.state.result.now w.seen = subst (λ d. StandsFor d w.seen) (sym c.state.ensures.value) e.stands in
+    let stands : DeskStands c.state.result.now w.seen = subst (λ d. DeskStands d w.seen) (sym c.state.ensures.value) e.stands in
     guard_mark c.state.result.now (seen c.args.pass.now) w.seen c.args.conn c.args.outlet stands e.seen c.requires.mark
 
 pub returns-clause-pass : goal.returns-clause-pass
@@ -41,13 +41,13 @@ returns-clause-pass g c =
     let h = c.args.self.now in
     let e = c.enter-guard.ensures in
     let w = guard_view c.enter-guard.result in
-    let stands : StandsFor c.state.result.now w.seen = subst (λ d. StandsFor d w.seen) (sym c.state.ensures.value) e.stands in
+    let stands : DeskStands c.state.result.now w.seen = subst (λ d. DeskStands d w.seen) (sym c.state.ensures.value) e.stands in
     let about : c.state.result.now.about ≡ about_of h = ap (λ (d : Desk). d.about) c.state.ensures.value ∙ e.about ∙ h.fixed in
     let p = c.args.pass.now in
     let q = c.commit_leave-at.new.pass in
     let k = c.commit_leave-at.ensures in
     let gone = c.leave-said.result in
-    let made = passed_with h p q w (leave_stamped c.number-caller.result c.args.conn c.empties-empties.result gone) c.commit_leave-at.result c.leave-said.new.self c.requires.caller (subst (λ t. IsPassOf fixed_of t q) e.guard.0 k.1) k.2 k.0 e.same e.seen (subst (λ n. StandsFor c.leave-said.new.self (w.seen ++ leave_stamped c.number-caller.result c.args.conn n gone ∷ [])) (sym c.empties-empties.ensures) (c.leave-said.ensures.stands w.seen stands)) (c.leave-said.ensures.about ∙ about) in
+    let made = passed_with h p q w (leave_stamped c.number-caller.result c.args.conn c.empties-empties.result gone) c.commit_leave-at.result c.leave-said.new.self c.requires.caller (subst (λ t. IsPassOf fixed_of t q) e.guard.0 k.1) k.2 k.0 e.same e.seen (subst (λ n. DeskStands c.leave-said.new.self (w.seen ++ leave_stamped c.number-caller.result c.args.conn n gone ∷ [])) (sym c.empties-empties.ensures) (c.leave-said.ensures.stands w.seen stands)) (c.leave-said.ensures.about ∙ about) in
     subst (λ n. Passed h p [] (placed c.commit_leave-at.result (leave_stamped n c.args.conn (empties_of c.args.outlet) gone)) q) c.number-caller.ensures (
     subst (λ n. Passed h p [] (placed c.commit_leave-at.result (leave_stamped c.number-caller.result c.args.conn n gone)) q) c.empties-empties.ensures made
     )
@@ -57,7 +57,7 @@ returns-clause-due g c =
     let h = c.args.self.now in
     let e = c.enter-guard.ensures in
     let w = guard_view c.enter-guard.result in
-    let stands : StandsFor c.state.result.now w.seen = subst (λ d. StandsFor d w.seen) (sym c.state.ensures.value) e.stands in
+    let stands : DeskStands c.state.result.now w.seen = subst (λ d. DeskStands d w.seen) (sym c.state.ensures.value) e.stands in
     let about : c.state.result.now.about ≡ about_of h = ap (λ (d : Desk). d.about) c.state.ensures.value ∙ e.about ∙ h.fixed in
     let k = c.commit_leave-at.ensures in
     let gone = c.leave-said.result in
@@ -69,7 +69,7 @@ returns-clause-given g c =
     let h = c.args.self.now in
     let e = c.enter-guard.ensures in
     let w = guard_view c.enter-guard.result in
-    let stands : StandsFor c.state.result.now w.seen = subst (λ d. StandsFor d w.seen) (sym c.state.ensures.value) e.stands in
+    let stands : DeskStands c.state.result.now w.seen = subst (λ d. DeskStands d w.seen) (sym c.state.ensures.value) e.stands in
     let about : c.state.result.now.about ≡ about_of h = ap (λ (d : Desk). d.about) c.state.ensures.value ∙ e.about ∙ h.fixed in
     let gone = c.leave-said.result in
     let after : sent (about_of h) (entries (seen c.commit_leave-at.new.pass)) c.args.conn ≡ sent (about_of h) (entries w.seen) c.args.conn = ap (λ (v : View). sent (about_of h) (entries v.seen) c.args.conn) c.commit_leave-at.ensures.2 ∙ sent_left (about_of h) w.seen c.number-caller.result c.args.conn c.empties-empties.result gone c.args.conn in
@@ -80,7 +80,7 @@ returns-clause-all g c all =
     let h = c.args.self.now in
     let e = c.enter-guard.ensures in
     let w = guard_view c.enter-guard.result in
-    let stands : StandsFor c.state.result.now w.seen = subst (λ d. StandsFor d w.seen) (sym c.state.ensures.value) e.stands in
+    let stands : DeskStands c.state.result.now w.seen = subst (λ d. DeskStands d w.seen) (sym c.state.ensures.value) e.stands in
     let about : c.state.result.now.about ≡ about_of h = ap (λ (d : Desk). d.about) c.state.ensures.value ∙ e.about ∙ h.fixed in
     let gone = c.leave-said.result in
     let after : sent (about_of h) (entries (seen c.commit_leave-at.new.pass)) c.args.conn ≡ sent (about_of h) (entries w.seen) c.args.conn = ap (λ (v : View). sent (about_of h) (entries v.seen) c.args.conn) c.commit_leave-at.ensures.2 ∙ sent_left (about_of h) w.seen c.number-caller.result c.args.conn c.empties-empties.result gone c.args.conn in

@@ -1,22 +1,22 @@
 use Rattle.std.proofs.Common.{OnOk, Some, None, sym, ap, subst}
 use Rattle.bsc_accept.specs.Steps.{closes as is_closing}
-use Rattle.bsc_accept.specs.Standing.{LeftBy}
+use Rattle.bsc_accept.specs.Standing.{LeavesAccepting}
 use Rattle.bsc_network.specs.HubSides.{acts_on, forwards, unless_over}
 use Rattle.bsc_world.specs.Becoming.{BecomesBusy}
-use Rattle.bsc_world.specs.SideCalls.{IsFor, asks}
+use Rattle.bsc_world.specs.SideCalls.{IsForMessage, asks}
 use Rattle.bsc_world.proofs.SideCalls.{still_ready}
 use Rattle.bsc_world.proofs.SideHears.{acts_other, asks_not, ready_for, settled_goes, settled_stands}
 use Rattle.bsc_world.proofs.world.World.act.Goals as goal
 use Rattle.std.proofs.lemmas.Result.{on_ok_weaker as on_ok}
 
 pub connect-requires-clause-not_zero : goal.connect-requires-clause-not_zero
-connect-requires-clause-not_zero c = (subst (IsFor c.args.m.now) c.in-Ask.is c.requires.fits).0
+connect-requires-clause-not_zero c = (subst (IsForMessage c.args.m.now) c.in-Ask.is c.requires.fits).0
 
 pub connect-requires-clause-not_broadcast : goal.connect-requires-clause-not_broadcast
-connect-requires-clause-not_broadcast c = (subst (IsFor c.args.m.now) c.in-Ask.is c.requires.fits).1
+connect-requires-clause-not_broadcast c = (subst (IsForMessage c.args.m.now) c.in-Ask.is c.requires.fits).1
 
 pub connect-requires-clause-asked : goal.connect-requires-clause-asked
-connect-requires-clause-asked c = λ kept side got is. subst (λ s. LeftBy s side.machine) c.in-Ask.is (c.requires.left kept side got is).0.left
+connect-requires-clause-asked c = λ kept side got is. subst (λ s. LeavesAccepting s side.machine) c.in-Ask.is (c.requires.left kept side got is).0.left
 
 pub connect-requires-clause-alone : goal.connect-requires-clause-alone
 connect-requires-clause-alone c = λ kept side got is. (c.requires.left kept side got is).1 (ap asks c.in-Ask.is)
@@ -25,7 +25,7 @@ pub returns-in-Ask : goal.returns-in-Ask
 returns-in-Ask c = subst (λ s. OnOk c.connect.result (BecomesBusy (Some c.args.link) None (unless_over c.args.link (acts_on c.args.link c.args.place c.args.m.now s)) c.args.self.now c.connect.new.self)) (sym c.in-Ask.is) c.connect.ensures
 
 pub forward-requires-clause-route : goal.forward-requires-clause-route
-forward-requires-clause-route c = subst (IsFor c.args.m.now) c.in-Up.is c.requires.fits
+forward-requires-clause-route c = subst (IsForMessage c.args.m.now) c.in-Up.is c.requires.fits
 
 pub forward-requires-clause-some : goal.forward-requires-clause-some
 forward-requires-clause-some c =

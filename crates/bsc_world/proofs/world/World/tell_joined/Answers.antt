@@ -3,7 +3,7 @@ use Rattle.std.proofs.lemmas.Option.{slice_get_read}
 use Rattle.bsc_accept.specs.declared.event.Event.TheVariants.{Joined}
 use Rattle.bsc_network.specs.HubSides.{tells}
 use Rattle.bsc_world.specs.Sides.{IsReadyBy}
-use Rattle.bsc_world.specs.SideCalls.{Hears, Tells}
+use Rattle.bsc_world.specs.SideCalls.{MachineHears, MachineSteps}
 use Rattle.bsc_world.proofs.SideCalls.{joined_ready, left_goes, past_session, same_left_goes, same_stands, tells_goes, told_side, told_stands}
 use Rattle.bsc_world.proofs.world.World.tell_joined.Goals as goal
 use Rattle.std.proofs.lemmas.Result.{on_ok_weaker as on_ok}
@@ -24,7 +24,7 @@ carry_out-requires-clause-some c =
     let k = c.index_mut-kept.result.now in
     let within : l < length t.links.items = omega (arith, c.if-len-place.false, c.len.ensures, t.links.ok.0) in
     let was = slice_get_read t.links.items (length t.links.items) l k refl within c.index_mut-kept.ensures.value in
-    let p : Tells c.in-Some.step Joined k c.hear_joined.new.self = subst (λ o. Hears o Joined k c.hear_joined.new.self) c.in-Some.is c.hear_joined.ensures in
+    let p : MachineSteps c.in-Some.step Joined k c.hear_joined.new.self = subst (λ o. MachineHears o Joined k c.hear_joined.new.self) c.in-Some.is c.hear_joined.ensures in
     told_stands t _ l k c.hear_joined.new.self c.in-Some.step Joined was (record { clock = refl; made = refl; spent = refl; nodes = refl; links = refl }) refl p c.requires.some
 
 pub carry_out-requires-clause-left : goal.carry_out-requires-clause-left
@@ -34,7 +34,7 @@ carry_out-requires-clause-left c =
     let k = c.index_mut-kept.result.now in
     let within : l < length t.links.items = omega (arith, c.if-len-place.false, c.len.ensures, t.links.ok.0) in
     let was = slice_get_read t.links.items (length t.links.items) l k refl within c.index_mut-kept.ensures.value in
-    let p : Tells c.in-Some.step Joined k c.hear_joined.new.self = subst (λ o. Hears o Joined k c.hear_joined.new.self) c.in-Some.is c.hear_joined.ensures in
+    let p : MachineSteps c.in-Some.step Joined k c.hear_joined.new.self = subst (λ o. MachineHears o Joined k c.hear_joined.new.self) c.in-Some.is c.hear_joined.ensures in
     told_side (λ side. IsReadyBy c.in-Some.step side) t l k c.hear_joined.new.self c.in-Some.step Joined was p (joined_ready t l k c.hear_joined.new.self c.in-Some.step was p c.requires.some).1
 
 pub carry_out-requires-clause-no_ask : goal.carry_out-requires-clause-no_ask
@@ -44,7 +44,7 @@ carry_out-requires-clause-no_ask c =
     let k = c.index_mut-kept.result.now in
     let within : l < length t.links.items = omega (arith, c.if-len-place.false, c.len.ensures, t.links.ok.0) in
     let was = slice_get_read t.links.items (length t.links.items) l k refl within c.index_mut-kept.ensures.value in
-    let p : Tells c.in-Some.step Joined k c.hear_joined.new.self = subst (λ o. Hears o Joined k c.hear_joined.new.self) c.in-Some.is c.hear_joined.ensures in
+    let p : MachineSteps c.in-Some.step Joined k c.hear_joined.new.self = subst (λ o. MachineHears o Joined k c.hear_joined.new.self) c.in-Some.is c.hear_joined.ensures in
     (joined_ready t l k c.hear_joined.new.self c.in-Some.step was p c.requires.some).0
 
 pub returns-then-len-place : goal.returns-then-len-place
@@ -60,7 +60,7 @@ returns-in-Some c =
     let k = c.index_mut-kept.result.now in
     let within : l < length t.links.items = omega (arith, c.if-len-place.false, c.len.ensures, t.links.ok.0) in
     let was = slice_get_read t.links.items (length t.links.items) l k refl within c.index_mut-kept.ensures.value in
-    let p : Tells c.in-Some.step Joined k c.hear_joined.new.self = subst (λ o. Hears o Joined k c.hear_joined.new.self) c.in-Some.is c.hear_joined.ensures in
+    let p : MachineSteps c.in-Some.step Joined k c.hear_joined.new.self = subst (λ o. MachineHears o Joined k c.hear_joined.new.self) c.in-Some.is c.hear_joined.ensures in
     on_ok c.carry_out.result (tells_goes t _ c.carry_out.new.self l k c.hear_joined.new.self c.in-Some.step Joined was (record { clock = refl; made = refl; spent = refl; nodes = refl; links = refl }) refl p) c.carry_out.ensures
 
 pub call_leave-requires-in-None : goal.call_leave-requires-in-None
@@ -70,7 +70,7 @@ call_leave-requires-in-None c =
     let k = c.index_mut-kept.result.now in
     let within : l < length t.links.items = omega (arith, c.if-len-place.false, c.len.ensures, t.links.ok.0) in
     let was = slice_get_read t.links.items (length t.links.items) l k refl within c.index_mut-kept.ensures.value in
-    let p = subst (λ o. Hears o Joined k c.hear_joined.new.self) c.in-None.is c.hear_joined.ensures in
+    let p = subst (λ o. MachineHears o Joined k c.hear_joined.new.self) c.in-None.is c.hear_joined.ensures in
     record { some = same_stands t _ l k c.hear_joined.new.self was (record { clock = refl; made = refl; spent = refl; nodes = refl; links = refl }) refl p.1 (Some l) c.requires.some }
 
 pub returns-in-None : goal.returns-in-None
@@ -80,5 +80,5 @@ returns-in-None c =
     let k = c.index_mut-kept.result.now in
     let within : l < length t.links.items = omega (arith, c.if-len-place.false, c.len.ensures, t.links.ok.0) in
     let was = slice_get_read t.links.items (length t.links.items) l k refl within c.index_mut-kept.ensures.value in
-    let p = subst (λ o. Hears o Joined k c.hear_joined.new.self) c.in-None.is c.hear_joined.ensures in
+    let p = subst (λ o. MachineHears o Joined k c.hear_joined.new.self) c.in-None.is c.hear_joined.ensures in
     same_left_goes t _ c.call_leave-in-None.new.self l (tells l Joined) k c.hear_joined.new.self was (record { clock = refl; made = refl; spent = refl; nodes = refl; links = refl }) refl p.1 p.0 c.call_leave-in-None.ensures

@@ -1,0 +1,8 @@
+//! Tests of what a hub and its nodes ask of the outside, `bsc_edge`: the objects in memory, with calls that fail, and the real
+//! clock, files and threads.
+//!
+//! They stand in a crate of their own, since a crate's own tests have all of its functions proved a second time.
+#![tactic(auto)]
+
+#[cfg(test)]
+mod edge;

@@ -1,0 +1,9 @@
+//! Tests of what is settled before a hub or a node starts, `bsc_settings`: documents, and the policy in one.
+//!
+//! They stand in a crate of their own, since a crate's own tests have all of its functions proved a second time.
+#![tactic(auto)]
+
+#[cfg(test)]
+mod policies;
+#[cfg(test)]
+mod settings;
