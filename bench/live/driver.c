@@ -7,6 +7,9 @@
 //     driver broadcast PORT PROCESS CLIENTS OCTETS MS    one client sends to all others, as fast as it may
 //     driver idle PORT PROCESS CLIENTS EVERY MS          clients that send a heartbeat each EVERY milliseconds
 //     driver rows PORT PROCESS CLIENTS RATE MS           each client sends to the next one; RATE unicasts a second in all
+//     driver crowd PORT PROCESS CLIENTS EACH WAVES       clients join, some at a time, send EACH unicasts in pairs, and leave; and
+//                                                        so again, as many times as there are waves
+//     driver connects PORT PROCESS CLIENTS               clients that join and leave, one after another, beside one more
 //
 // PROCESS is the hub's. Figures go to standard output, `name key=number ..`, and then the counts that the hub is to
 // write, if it has no other links.
@@ -19,6 +22,9 @@
 // How many unicasts, or broadcasts, of one sender are under way at most: half of what an outbox holds by default, so
 // that none is ever full.
 enum { WINDOW = 32, LEAST = WINDOW / 2, PATIENCE = 20000 };
+
+// How many clients of a crowd are about to join at a time: fewer than the handshakes that a hub of bsc has at once.
+enum { JOINING = 64 };
 
 static int port, hub, clients;
 static struct link *links;
@@ -41,19 +47,22 @@ static void join_all(void) {
     }
 }
 
-// Leaves with a Disconnect-Request. Nothing else may have come, so no message was there twice.
-static void leave_all(void) {
+// Leaves with a Disconnect-Request, up to both closes. Nothing else may have come, so no message was there twice.
+static void leave(struct link *l, int i) {
     struct frame f;
+    put_short(l, DISCONNECT_REQUEST, 7);
+    if (!send_some(l)) fail("client %d: a Disconnect-Request can't be sent", i);
+    if (next_frame(l, &f, PATIENCE) != FRAME || !is_short(&f, DISCONNECT_ACK, 7)) fail("client %d: no Disconnect-ACK came next", i);
+    if (next_frame(l, &f, PATIENCE) != FRAME || f.operation != CLOSE || f.length < 2 || read_number(f.payload, 2) != 1000)
+        fail("client %d: no close with 1000 came", i);
+    put_frame(l, CLOSE, (const uint8_t *)"\x03\xE8", 2);
+    send_some(l);
+}
+
+static void leave_all(void) {
     for (int i = 0; i < clients; i++) {
-        struct link *l = &links[i];
-        put_short(l, DISCONNECT_REQUEST, 7);
-        if (!send_some(l)) fail("client %d: a Disconnect-Request can't be sent", i);
-        if (next_frame(l, &f, PATIENCE) != FRAME || !is_short(&f, DISCONNECT_ACK, 7)) fail("client %d: no Disconnect-ACK came next", i);
-        if (next_frame(l, &f, PATIENCE) != FRAME || f.operation != CLOSE || f.length < 2 || read_number(f.payload, 2) != 1000)
-            fail("client %d: no close with 1000 came", i);
-        put_frame(l, CLOSE, (const uint8_t *)"\x03\xE8", 2);
-        send_some(l);
-        close_link(l);
+        leave(&links[i], i);
+        close_link(&links[i]);
     }
 }
 
@@ -301,6 +310,155 @@ static void rows(int rate, int milliseconds) {
     tell_counts(total, 0, total);
 }
 
+// Joins all, JOINING at a time: each next one begins where one has joined.
+static void join_together(void) {
+    links = calloc((size_t)clients, sizeof *links);
+    who = calloc((size_t)clients, sizeof *who);
+    bool *upgraded = calloc((size_t)clients, sizeof *upgraded);
+    int watch = epoll_create1(EPOLL_CLOEXEC), begun = 0, joined = 0;
+    while (joined < clients) {
+        for (; begun < clients && begun - joined < JOINING; begun++) {
+            struct epoll_event e = {.events = EPOLLIN, .data.u32 = (uint32_t)begun};
+            who[begun] = identity_of((uint32_t)begun, (uint32_t)begun);
+            if (!begin_link(&links[begun], port, 0)) fail("client %d: the hub took no connection", begun);
+            if (epoll_ctl(watch, EPOLL_CTL_ADD, links[begun].socket, &e) < 0) fail("epoll: %s", strerror(errno));
+        }
+        struct epoll_event events[JOINING];
+        int ready = epoll_wait(watch, events, JOINING, PATIENCE);
+        if (ready == 0) fail("%d of %d clients joined", joined, clients);
+        for (int k = 0; k < ready; k++) {
+            int i = (int)events[k].data.u32;
+            struct link *l = &links[i];
+            struct frame f;
+            if (receive_some(l) < 0) fail("client %d: the hub ended the connection", i);
+            if (!upgraded[i]) {
+                enum upgrade answer = take_upgrade(l);
+                if (answer == REFUSED) fail("client %d: the hub took no link", i);
+                if (answer == PENDING) continue;
+                upgraded[i] = true;
+                put_connect_request(l, &who[i], 0);
+                if (!send_some(l)) fail("client %d: a Connect-Request can't be sent", i);
+            }
+            if (!take_frame(l, &f)) continue;
+            if (!is_connect_accept(&f, 0)) fail("client %d: no Connect-Accept came next", i);
+            if (epoll_ctl(watch, EPOLL_CTL_DEL, l->socket, NULL) < 0) fail("epoll: %s", strerror(errno));
+            joined++;
+        }
+    }
+    close(watch);
+    free(upgraded);
+}
+
+// What a crowd took.
+struct spent {
+    double joining, sending, leaving, joins, messages, driver;
+    long memory, most;
+};
+
+// All clients join, and each sends to the other one of its pair, as fast as what is under way allows; then all leave.
+static void wave(int each, struct spent *all) {
+    int n = clients;
+    uint64_t used = used_by(hub), begun = now();
+    join_together();
+    all->joining += (double)(now() - begun);
+    all->joins += (double)(used_by(hub) - used);
+    int watch = watch_all(), dues = n, *due = calloc((size_t)n, sizeof *due);
+    bool *is_due = calloc((size_t)n, sizeof *is_due);
+    uint64_t *sent = calloc((size_t)n, 8), *received = calloc((size_t)n, 8), total = (uint64_t)n * (uint64_t)each, came = 0;
+    for (int i = 0; i < n; i++) due[i] = i, is_due[i] = true;
+    used = used_by(hub);
+    uint64_t used_by_us = used_here();
+    begun = now();
+    while (came < total) {
+        for (int k = 0; k < dues; k++) {
+            int i = due[k], other = i ^ 1;
+            for (; sent[i] < (uint64_t)each && sent[i] - received[other] < WINDOW; sent[i]++)
+                put_npdu(&links[i], who[other].vmac, &(struct content){(uint32_t)i, (uint32_t)other, sent[i], 0}, 50);
+            send_now(&links[i]);
+            is_due[i] = false;
+        }
+        dues = 0;
+        struct epoll_event events[256];
+        int ready = epoll_wait(watch, events, 256, PATIENCE);
+        if (ready == 0) fail("%llu messages are lost", (unsigned long long)(total - came));
+        for (int k = 0; k < ready; k++) {
+            int i = (int)events[k].data.u32, other = i ^ 1;
+            struct frame f;
+            struct content c;
+            send_now(&links[i]);
+            if (!(events[k].events & ~(uint32_t)EPOLLOUT)) continue;
+            for (bool more = true; more;) {
+                more = receive_now(&links[i]);
+                while (take_frame(&links[i], &f)) {
+                    const uint8_t *from = read_npdu(&f, &c, 50);
+                    if (!from || memcmp(from, who[other].vmac, 6) || c.from != (uint32_t)other || c.to != (uint32_t)i || c.number != received[i])
+                        fail("client %d got something else", i);
+                    received[i]++;
+                    came++;
+                    if (!is_due[other] && sent[other] < (uint64_t)each && sent[other] - received[i] <= WINDOW - LEAST) due[dues++] = other, is_due[other] = true;
+                }
+            }
+        }
+    }
+    all->sending += (double)(now() - begun);
+    all->messages += (double)(used_by(hub) - used);
+    all->driver += (double)(used_here() - used_by_us);
+    all->memory = status_of(hub, "VmRSS");
+    all->most = status_of(hub, "VmHWM");
+    begun = now();
+    leave_all();
+    all->leaving += (double)(now() - begun);
+    close(watch);
+    free(due), free(is_due), free(sent), free(received), free(links), free(who);
+}
+
+static void crowd(int each, int waves) {
+    if (clients % 2) fail("a crowd is of pairs");
+    long before = status_of(hub, "VmRSS");
+    struct spent all = {0};
+    for (int i = 0; i < waves; i++) wave(each, &all);
+    int n = clients;
+    clients = n * waves;
+    uint64_t total = (uint64_t)clients * (uint64_t)each;
+    printf("crowd clients=%d messages=%llu joins_s=%.3f join_us=%.1f seconds=%.3f rate=%.0f hub_us=%.2f driver_share=%.2f leaves_s=%.3f "
+           "memory_kib=%.1f most_mib=%.1f\n", clients, (unsigned long long)total, all.joining / 1e9, all.joins / 1e3 / clients,
+           all.sending / 1e9, total / (all.sending / 1e9), all.messages / 1e3 / total, all.driver / all.sending, all.leaving / 1e9,
+           (double)(all.memory - before) / n, all.most / 1024.0);
+    tell_counts(total, 0, total);
+}
+
+// One after another: a connection, its upgrade, Connect-Request and Connect-Accept, Disconnect-Request and its answer, both
+// closes, and the ends of both streams. Only then the next one begins. One more is there from first to last, since a hub
+// may end with its last link, and what it has used is asked behind that of all others.
+static void connects(int n) {
+    uint64_t *joins = calloc((size_t)n, 8), *times = calloc((size_t)n, 8);
+    if (!joins || !times) fail("no memory");
+    clients = 1;
+    join_all();
+    uint64_t used = used_by(hub), begun = now();
+    for (int i = 0; i < n; i++) {
+        struct identity one = identity_of((uint32_t)i + 1, (uint32_t)i + 1);
+        struct link l;
+        struct frame f;
+        uint64_t at = now();
+        join(&l, port, &one, 0);
+        joins[i] = now() - at;
+        leave(&l, i + 1);
+        shutdown(l.socket, SHUT_WR);
+        if (next_frame(&l, &f, PATIENCE) != ENDED) fail("client %d: the hub didn't end the connection", i + 1);
+        close_link(&l);
+        times[i] = now() - at;
+    }
+    double seconds = (now() - begun) / 1e9;
+    used = used_by(hub) - used;
+    leave_all();
+    clients = n + 1;
+    qsort(joins, (size_t)n, sizeof *joins, by_size);
+    tell_times("connects", times, (size_t)n);
+    printf(" join_us=%.1f seconds=%.3f hub_us=%.1f\n", joins[n / 2] / 1e3, seconds, used / 1e3 / n);
+    tell_counts(0, 0, 0);
+}
+
 int main(int count, char **words) {
     const char *what = count > 1 ? words[1] : "";
     make_pattern();
@@ -316,13 +474,16 @@ int main(int count, char **words) {
         printf("%d\n", ntohs(at.sin_port));
         return 0;
     }
-    if (count < 6) fail("the words are wrong; the head of driver.c has them");
+    if (count < 5) fail("the words are wrong; the head of driver.c has them");
     port = atoi(words[2]);
     hub = atoi(words[3]);
     clients = atoi(words[4]);
-    if (!strcmp(what, "latency")) latency(clients, words[5]);
+    if (!strcmp(what, "connects")) connects(clients);
+    else if (count < 6) fail("the words are wrong; the head of driver.c has them");
+    else if (!strcmp(what, "latency")) latency(clients, words[5]);
     else if (count < 7) fail("the words are wrong; the head of driver.c has them");
     else if (!strcmp(what, "unicast") || !strcmp(what, "broadcast")) throughput(what[0] == 'b', (size_t)atol(words[5]), atoi(words[6]));
+    else if (!strcmp(what, "crowd")) crowd(atoi(words[5]), atoi(words[6]));
     else if (!strcmp(what, "idle")) idle(atoi(words[5]), atoi(words[6]));
     else if (!strcmp(what, "rows")) rows(atoi(words[5]), atoi(words[6]));
     else fail("the words are wrong; the head of driver.c has them");

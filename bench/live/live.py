@@ -17,10 +17,12 @@ uuid = "00112233-4455-6677-8899-aabbccddeeff"
 port = {port}
 max_bvlc = 1600
 max_npdu = 1497
-rows = 1024
+rows = {rows}
 outbox = 64
 """
 
+# How many rows a hub of bsc is told to have, where not more links are there at once.
+ROWS = 1024
 # How many seconds a hub may take to end, once its links have.
 PATIENCE = 60
 
@@ -35,8 +37,12 @@ class TooBusy(Failed):
 
 # Another program than the one that ./bsc builds and starts may be named, as one that was built elsewhere.
 PROGRAM = os.environ.get("BSC", str(ROOT / "bsc"))
+# Another program of bsc, as one of an earlier commit: it is met in place of the relays.
+BEFORE = os.environ.get("BEFORE")
 # The kind of a hub of bsc that writes journals.
 RECORDED = "bsc --journal"
+# The kinds of limit.c in each of its shapes. The first is the one that it has where none is named.
+SHAPES = [f"limit {shape}" for shape in ("epoll", "ppoll", "threads", "direct")]
 # How many octets an audit takes.
 AUDITED = 1 << 28
 
@@ -61,6 +67,14 @@ class Bench:
         """The hub of bsc that writes journals."""
         self.hubs[RECORDED] = self.hubs["bsc"]
 
+    def add_shapes(self):
+        """The shapes of limit.c; False where it can't be built."""
+        if not self.compile("limit"):
+            return False
+        for kind in SHAPES:
+            self.hubs[kind] = [str(self.work / "limit"), kind.split()[1]]
+        return True
+
     def compile(self, name, *words):
         """Builds a program by gcc; False where that can't be done."""
         if not shutil.which("gcc"):
@@ -69,7 +83,10 @@ class Bench:
         return subprocess.run(call, stderr=subprocess.DEVNULL).returncode == 0
 
     def add_peers(self):
-        """The relays whose libraries are installed, and the relay that has the hub's own shape."""
+        """The relays whose libraries are installed, and the relay that has the hub's own shape; or another program of bsc alone."""
+        if BEFORE:
+            self.hubs["before"] = [BEFORE, "hub"]
+            return
         node = shutil.which("node") or shutil.which("nodejs")
         library = "require('./interop/websocket/messages.js').library()"
         if node and subprocess.run([node, "-e", library], cwd=ROOT, stderr=subprocess.DEVNULL).returncode == 0:
@@ -79,13 +96,13 @@ class Bench:
         if self.compile("limit"):
             self.hubs["limit"] = [str(self.work / "limit")]
 
-    def start(self, kind, links):
-        return Hub(self, kind, links)
+    def start(self, kind, links, at_once=None):
+        return Hub(self, kind, links, at_once)
 
-    def meet(self, kind, links, driver, *words, seconds=120):
-        """Starts a hub for a number of links, lets a driver meet it, and compares the counts. Gives the driver's figures
-        back, as a dictionary with its name at "name"."""
-        with self.start(kind, links) as hub:
+    def meet(self, kind, links, driver, *words, seconds=120, at_once=None):
+        """Starts a hub for a number of links, of which so many are there at once as told, lets a driver meet it, and compares
+        the counts. Gives the driver's figures back, as a dictionary with its name at "name"."""
+        with self.start(kind, links, at_once) as hub:
             told = hub.drive(driver, *words, seconds=seconds)
             counts = hub.end()
         due = re.search("^hub counts .*$", told, re.M)
@@ -99,15 +116,15 @@ class Bench:
 
 
 class Hub:
-    def __init__(self, bench, kind, links):
-        self.bench, self.kind, self.links = bench, kind, links
+    def __init__(self, bench, kind, links, at_once):
+        self.bench, self.kind, self.links, self.at_once = bench, kind, links, at_once
 
     def __enter__(self):
         work = self.bench.work
         self.port = int(subprocess.run([work / "driver", "port"], check=True, capture_output=True).stdout)
         settings, said = work / f"hub.{self.port}.toml", work / f"said.{self.port}"
-        settings.write_text(SETTINGS.format(port=self.port))
-        if self.kind in ("bsc", RECORDED):
+        settings.write_text(SETTINGS.format(port=self.port, rows=max(ROWS, self.at_once or 0)))
+        if self.kind in ("bsc", "before", RECORDED):
             words = [str(settings), "--sessions", str(self.links)]
             if self.kind == RECORDED:
                 for file in self.bench.journals.iterdir():
@@ -115,6 +132,9 @@ class Hub:
                 words += ["--journal", str(self.bench.journals / "j")]
         else:
             words = [str(self.port), str(self.links)]
+            # This one has two loops, for few links at once and for many.
+            if self.kind == "libwebsockets" and self.at_once:
+                words.append(str(self.at_once))
         self.said = open(said, "w")
         self.process = subprocess.Popen(self.bench.hubs[self.kind] + words, stdout=subprocess.PIPE, stderr=self.said, text=True)
         # The program may be built first, where it is ./bsc.

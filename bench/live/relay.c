@@ -1,10 +1,11 @@
 // A relay that does the work of a hub by libwebsockets, in one thread with one event loop: nodes join by a
 // Connect-Request and get unicasts and broadcasts by their VMACs. It shares no line with bsc and proves nothing.
 //
-//     relay PORT LINKS
+//     relay PORT LINKS [AT_ONCE]
 //
 // It listens at 127.0.0.1, and after so many links it writes the counts that `bsc hub --sessions` writes, and ends. The
-// library's own loop is quick with few links and goes over all of them at each turn, so with more than 50 it is libev's.
+// library's own loop is quick with few links and goes over all of them at each turn, so with more than 50 it is libev's:
+// 50 that are there at once, where that is told.
 #include <libwebsockets.h>
 
 #include <stdbool.h>
@@ -268,12 +269,13 @@ int main(int count, char **words) {
         {"hub.bsc.bacnet.org", on_event, sizeof(struct peer), 4096, 0, NULL, 0},
         {NULL, NULL, 0, 0, 0, NULL, 0},
     };
-    if (count != 3) return 1;
+    if (count != 3 && count != 4) return 1;
     links = atol(words[2]);
+    long at_once = count == 4 ? atol(words[3]) : links;
     lws_set_log_level(LLL_ERR, NULL);
     struct lws_context_creation_info info = {
         .port = atoi(words[1]), .iface = "127.0.0.1", .protocols = protocols, .gid = (gid_t)-1, .uid = (uid_t)-1,
-        .pt_serv_buf_size = 65536, .options = LWS_SERVER_OPTION_DISABLE_IPV6 | (links > 50 ? LWS_SERVER_OPTION_LIBEV : 0),
+        .pt_serv_buf_size = 65536, .options = LWS_SERVER_OPTION_DISABLE_IPV6 | (at_once > 50 ? LWS_SERVER_OPTION_LIBEV : 0),
     };
     struct lws_context *context = lws_create_context(&info);
     if (!context) {

@@ -183,9 +183,10 @@ static inline enum next next_frame(struct link *l, struct frame *f, int millisec
     return FRAME;
 }
 
-// Opens a link to a hub on this machine, with a buffer for what comes of as many octets as told, or the usual one.
-// The key and its answer are those of RFC 6455, section 1.3. False where the hub took no link.
-static inline bool open_link(struct link *l, int port, int receive_buffer) {
+// Begins a link to a hub on this machine, with a buffer for what comes of as many octets as told, or the usual one: its
+// connection is made, and its upgrade asked for. The key and its answer are those of RFC 6455, section 1.3. False where
+// the hub took no connection.
+static inline bool begin_link(struct link *l, int port, int receive_buffer) {
     static const char asked[] =
         "GET / HTTP/1.1\r\nHost: 127.0.0.1\r\nUpgrade: websocket\r\nConnection: Upgrade\r\n"
         "Sec-WebSocket-Key: dGhlIHNhbXBsZSBub25jZQ==\r\nSec-WebSocket-Version: 13\r\n"
@@ -198,19 +199,33 @@ static inline bool open_link(struct link *l, int port, int receive_buffer) {
     if (receive_buffer) setsockopt(l->socket, SOL_SOCKET, SO_RCVBUF, &receive_buffer, sizeof receive_buffer);
     setsockopt(l->socket, IPPROTO_TCP, TCP_NODELAY, &yes, sizeof yes);
     if (connect(l->socket, (struct sockaddr *)&to, sizeof to) < 0) return false;
-    if (send(l->socket, asked, sizeof asked - 1, MSG_NOSIGNAL) != (ssize_t)sizeof asked - 1) return false;
+    return send(l->socket, asked, sizeof asked - 1, MSG_NOSIGNAL) == (ssize_t)sizeof asked - 1;
+}
+
+enum upgrade { UPGRADED, PENDING, REFUSED };
+
+// Reads the answer to an upgrade of what has come.
+static inline enum upgrade take_upgrade(struct link *l) {
+    make_room(&l->in, 1)[0] = 0;
+    if (l->in.from == l->in.to) return PENDING;
+    char *head = (char *)l->in.at, *end = strstr(head, "\r\n\r\n");
+    if (!end) return PENDING;
+    if (strncmp(head, "HTTP/1.1 101", 12)) return REFUSED;
+    if (!strstr(head, "s3pPLMBiTxaQ9kYGzzhZRbK+xOo=")) fail("another Sec-WebSocket-Accept");
+    if (!strstr(head, "hub.bsc.bacnet.org")) fail("another sub-protocol");
+    l->in.from += (size_t)(end + 4 - head);
+    return UPGRADED;
+}
+
+// Opens a link, as begin_link and take_upgrade do. False where the hub took no link.
+static inline bool open_link(struct link *l, int port, int receive_buffer) {
+    if (!begin_link(l, port, receive_buffer)) return false;
     for (;;) {
         struct pollfd waits = {l->socket, POLLIN, 0};
         if (poll(&waits, 1, 20000) == 0) return false;
         if (receive_some(l) < 0) return false;
-        make_room(&l->in, 1)[0] = 0;
-        char *head = (char *)l->in.at, *end = strstr(head, "\r\n\r\n");
-        if (!end) continue;
-        if (strncmp(head, "HTTP/1.1 101", 12)) return false;
-        if (!strstr(head, "s3pPLMBiTxaQ9kYGzzhZRbK+xOo=")) fail("another Sec-WebSocket-Accept");
-        if (!strstr(head, "hub.bsc.bacnet.org")) fail("another sub-protocol");
-        l->in.from += (size_t)(end + 4 - head);
-        return true;
+        enum upgrade answer = take_upgrade(l);
+        if (answer != PENDING) return answer == UPGRADED;
     }
 }
 
