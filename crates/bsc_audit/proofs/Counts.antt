@@ -1,5 +1,5 @@
 -- How many lines are hub lines, and which places entries have, whatever their order.
-use Rattle.std.proofs.Common.{◌≡◌, ℕ, ◌+◌, ◌==◌, Bool, true, false, not, cond, ◌&&◌, List, [], ◌∷◌, ◌++◌, length, filter, Option, Some, None, refl, ap, sym, ◌∙◌, arith, zero-add}
+use Rattle.std.proofs.Common.{◌≡◌, ℕ, ◌+◌, ◌==◌, Bool, true, false, not, cond, ◌&&◌, List, [], ◌∷◌, ◌++◌, length, filter, Option, refl, ap, sym, ◌∙◌, arith, zero-add}
 use Rattle.std.specs.List.{count_by, range_with_len}
 use Rattle.std.proofs.lemmas.Bool.{and_left, false_from_ne_true}
 use Rattle.std.proofs.lemmas.List.Sorted.{sum_by-IsPermutation}
@@ -18,7 +18,7 @@ use Rattle.bsc_journal.specs.Saying.{IsHubLine, IsLineOf}
 use Rattle.bsc_journal.specs.Journals.{HaveLines, Tells, lines_from, lines_of}
 use Rattle.bsc_journal.specs.Good.{SayAll}
 use Rattle.bsc_journal.proofs.HubLines.{hub_first}
-use Rattle.bsc_journal.proofs.ReadBack.{read_is}
+use Rattle.bsc_journal.proofs.ReadBack.{read_is, place_in as place_read}
 use Rattle.bsc_journal.proofs.SaidOnce.{entry_first, no_digit}
 use Rattle.bsc_audit.specs.Verdicts.{is_hub, places_of}
 use Rattle.bsc_audit.specs.Hearing.{entry_lines, hub_lines, hubs_of}
@@ -99,10 +99,6 @@ one_hub_said o about H said t all =
     omega (arith, told, parted, sum, hubs, none, hub, rest, counted)
 
 -- ---- places
-
-abbrev place_read : Option (ℕ × Entry) → ℕ
-place_read None = 0
-place_read (Some x) = x.0
 
 -- whether a line is that of an entry at place p
 abbrev is_at : ℕ → List ℕ → Bool

@@ -42,7 +42,7 @@ fn entry_at(alloc: Global, octets: &[u8], spot: &Spot) -> Result<Entry, NoMemory
 
 /// The first spot, and those after it.
 fn first_spot(spots: &[Spot]) -> Option<(Spot, &[Spot])>
-    ensures { MatchOption result (spots.now ≡ []) (λ p. spots.now ≡ p.0 ∷ p.1.now) }
+    ensures { MatchOption result (spots.now ≡ []) (λ (spot, rest). spots.now ≡ spot ∷ rest.now) }
 {
     match spots {
         [spot, rest @ ..] => Some((*spot, rest)),

@@ -1,6 +1,7 @@
 //! The command.
 ghost use Rattle.std.specs.Prelude.{◌≡◌, ◌≤◌, ◌⊎◌, ℕ, List, Some, string_bytes, IfOk};
 ghost use Rattle.bsc_outside.specs.Faults.{HasRisen};
+ghost use Rattle.bsc_player.specs.Faults.{RisesIf};
 ghost use Rattle.bsc_audit_command.specs.Audits.{IsStatus, RunsAudit};
 ghost use Rattle.bsc_audit_command.specs.Lines.{Ends, SaysAudit};
 
@@ -29,7 +30,7 @@ fn end_in<K: Sink>(sink: &mut K, line: Result<String, NoMemory>, status: u8) -> 
 fn tell<K: Sink>(alloc: Global, sink: &mut K, end: AuditEnd) -> u8
     ensures says { SaysAudit end result (K.held sink.old) (K.held sink.new) }
     ensures read { result ≡ 3 → end ≡ AuditEnd.ReadFault }
-    ensures write { result ≡ 4 → HasRisen (K.faults sink.old) (K.faults sink.new) }
+    ensures write { RisesIf result 4 (K.faults sink.old) (K.faults sink.new) }
     ensures statuses { IsStatus result }
     ensures later { K.faults sink.old ≤ K.faults sink.new }
 {
@@ -52,8 +53,8 @@ fn tell<K: Sink>(alloc: Global, sink: &mut K, end: AuditEnd) -> u8
 pub fn run_audit<S: Source, K: Sink>(alloc: Global, source: &mut S, sink: &mut K) -> u8
     ensures runs { (o : List ℕ) → S.left source.old ≡ Some o →
         RunsAudit o (S.left source.new) result (K.held sink.old) (K.held sink.new) }
-    ensures read { result ≡ 3 → HasRisen (S.faults source.old) (S.faults source.new) }
-    ensures write { result ≡ 4 → HasRisen (K.faults sink.old) (K.faults sink.new) }
+    ensures read { RisesIf result 3 (S.faults source.old) (S.faults source.new) }
+    ensures write { RisesIf result 4 (K.faults sink.old) (K.faults sink.new) }
     ensures statuses { IsStatus result }
     ensures reads_later { S.faults source.old ≤ S.faults source.new }
     ensures writes_later { K.faults sink.old ≤ K.faults sink.new }

@@ -1,7 +1,7 @@
 //! The language of `check`.
 ghost use Rattle.std.specs.Prelude.{◌≡◌, ◌≤◌, ℕ, List, ⊤, Some, None};
-ghost use Rattle.bsc_outside.specs.Faults.{HasRisen};
 ghost use Rattle.bsc_player.specs.Ends.{PlaysOut, AcceptsLines};
+ghost use Rattle.bsc_player.specs.Faults.{RisesIf};
 ghost use Rattle.bsc_check_lines.specs.Checking.{checking, checked_by};
 
 use crate::answering::put_verdict;
@@ -86,8 +86,8 @@ pub fn check_by<J: Judge + Drop, S: Source, K: Sink>(
     // An input may end anywhere: where its lines are accepted, none is refused.
     ensures accepts { (o : List ℕ) → AcceptsLines (checked_by J.verdict_of) o →
         (checked_by J.verdict_of o).refused ≡ None }
-    ensures read_fault { result ≡ PlayEnd.ReadFault → HasRisen (S.faults source.old) (S.faults source.new) }
-    ensures write_fault { result ≡ PlayEnd.WriteFault → HasRisen (K.faults sink.old) (K.faults sink.new) }
+    ensures read_fault { RisesIf result PlayEnd.ReadFault (S.faults source.old) (S.faults source.new) }
+    ensures write_fault { RisesIf result PlayEnd.WriteFault (K.faults sink.old) (K.faults sink.new) }
     ensures reads_later { S.faults source.old ≤ S.faults source.new }
     ensures writes_later { K.faults sink.old ≤ K.faults sink.new }
 {

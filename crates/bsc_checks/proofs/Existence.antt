@@ -3,6 +3,7 @@ use Rattle.std.proofs.Common.{◌≡◌, ℕ, ◌<◌, ◌≤◌, ◌*◌, Bool,
 use Rattle.byteorder.specs.Endian.{big_number}
 use Rattle.bsc_octets.specs.declared.vmac.Vmac.{Vmac}
 use Rattle.bsc_octets.specs.Forwarding.{function_in, id_in}
+use Rattle.bsc_octets.specs.Functions.{is_response}
 use Rattle.bsc_options.specs.Spelling.{bit}
 use Rattle.bsc_frame.specs.declared.check.Check.{Check}
 use Rattle.bsc_frame.specs.declared.check.Check.TheVariants.{C1, C2, C3, C5, C6, C7, C7b, C8, C9, C10, C10b, C10c, C11, C12}
@@ -20,7 +21,7 @@ use Rattle.bsc_checks.proofs.Firsts.{first_here, first_after}
 use Rattle.bsc_checks.proofs.NakOctets.{nak_spelled}
 use Rattle.bsc_checks.proofs.Verdicts.{frame_passes}
 use Rattle.bsc_checks.specs.Options.{AreOctets, dest_options_in}
-use Rattle.bsc_checks.specs.PlaceTests.{is_unicast, is_response}
+use Rattle.bsc_checks.specs.PlaceTests.{is_unicast}
 use Rattle.bsc_checks.specs.Failing.{fails}
 use Rattle.bsc_checks.specs.Outcomes.{marker_for, number_or_0, answered, refused, accepted, decided, first_failing, outcome_of}
 use Rattle.bsc_checks.proofs.Reflecting.{Reflects, fails_of}

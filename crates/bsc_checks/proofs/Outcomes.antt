@@ -2,6 +2,7 @@
 use Rattle.std.proofs.Common.{◌≡◌, ℕ, Bool, true, false, not, ◌&&◌, List, Option, Some, None, refl, sym, ap, ◌∙◌}
 use Rattle.arrayvec.specs.ArrayVec.{ArrayVec}
 use Rattle.bsc_octets.specs.Forwarding.{function_in}
+use Rattle.bsc_octets.specs.Functions.{is_response}
 use Rattle.bsc_frame.specs.declared.check.Check.{Check}
 use Rattle.bsc_frame.specs.declared.check.Check.TheVariants.{C9}
 use Rattle.bsc_frame.specs.declared.message.Message.{Message}
@@ -14,7 +15,7 @@ use Rattle.bsc_checks.specs.Table.{Fails, code_of, checks_of}
 use Rattle.bsc_checks.specs.Naks.{IsAnswered, IsNak, IsMarker, IsResponse, nak_to}
 use Rattle.bsc_checks.specs.Verdicts.{Judged}
 use Rattle.bsc_checks.specs.Options.{AreOctets, dest_options_in}
-use Rattle.bsc_checks.specs.PlaceTests.{is_unicast, is_response}
+use Rattle.bsc_checks.specs.PlaceTests.{is_unicast}
 use Rattle.bsc_checks.specs.Failing.{fails}
 use Rattle.bsc_checks.specs.Outcomes.{marker_for, number_or_0, answered, refused, accepted, decided, outcome_of}
 use Rattle.bsc_checks.proofs.Reflecting.{Reflects, also, never}

@@ -2,13 +2,14 @@
 use Rattle.std.proofs.Common.{◌≡◌, ◌≢◌, ℕ, ◌≤◌, ◌⊎◌, Bool, true, false, not, ◌&&◌, ◌||◌, eqb, leb, Option, Some, None, is_none, refl, sym, ap, ◌∙◌}
 use Rattle.bsc_octets.specs.declared.vmac.Vmac.{Vmac}
 use Rattle.bsc_octets.specs.Addresses.{broadcast, same_vmac}
+use Rattle.bsc_octets.specs.Functions.{is_response}
 use Rattle.bsc_checks.specs.declared.phase.Phase.{Phase}
 use Rattle.bsc_checks.specs.declared.phase.Phase.TheVariants.{AwaitingRequest, AwaitingAccept, Connected, Disconnecting}
 use Rattle.bsc_checks.specs.declared.place.Place.{Place}
 use Rattle.bsc_checks.specs.declared.place.Place.TheVariants.{HubPort, NodeHub, NodeDirect}
 use Rattle.bsc_checks.specs.Places.{phase_of, IsUnicast, IsOfConnection, LacksSender, IsForAnother, IsFromAnother, IsNotFor, HasWrongAddresses, IsInPlaceConnected, IsInPlaceIn, IsInPlace}
 use Rattle.bsc_checks.specs.Naks.{IsResponse}
-use Rattle.bsc_checks.specs.PlaceTests.{is_unicast, lacks_sender, is_for_another, is_peer, is_from_another, is_not_for, has_wrong_addresses, is_response, is_of_life, is_in_place_connected, is_in_place_in, is_connected, is_in_place}
+use Rattle.bsc_checks.specs.PlaceTests.{is_unicast, lacks_sender, is_for_another, is_peer, is_from_another, is_not_for, has_wrong_addresses, is_of_life, is_in_place_connected, is_in_place_in, is_connected, is_in_place}
 use Rattle.bsc_checks.proofs.Reflecting.{Reflects, also, three, either, never, alike, equal, at_most, one_address, absent, present}
 
 -- ---- the addresses
@@ -73,8 +74,7 @@ one_of_three : (f a b c : ℕ) → Reflects ((f ≡ a) ⊎ (f ≡ b) ⊎ (f ≡ 
 one_of_three f a b c = either (f ≡ a) ((f ≡ b) ⊎ (f ≡ c)) (eqb f a) (eqb f b || eqb f c) (equal f a) (one_of_two f b c)
 
 pub response : (f : ℕ) → Reflects (IsResponse f) (is_response f)
-response f =
-    either (f ≡ 0) _ (eqb f 0) _ (equal f 0) (either (f ≡ 3) ((f ≡ 7) ⊎ (f ≡ 9) ⊎ (f ≡ 11)) (eqb f 3) (eqb f 7 || (eqb f 9 || eqb f 11)) (equal f 3) (one_of_three f 7 9 11))
+response f = record { holds = (λ e. e); back = (λ h. h) }
 
 life : (f : ℕ) → Reflects ((f ≡ 0x08) ⊎ (f ≡ 0x0A) ⊎ (f ≡ 0x0B)) (is_of_life f)
 life f = one_of_three f 8 10 11

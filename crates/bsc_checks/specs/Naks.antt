@@ -1,8 +1,9 @@
 -- Whether a NAK answers a message that a check refuses, and its octets (Annex AB, "BVLC-Result").
-use Rattle.std.specs.Prelude.{◌≡◌, ◌⊎◌, ℕ, List, [], Option, Some, None}
+use Rattle.std.specs.Prelude.{◌≡◌, ℕ, List, [], IsTrue, Option, Some, None}
 use Rattle.byteorder.specs.Endian.{big_number}
 use Rattle.bsc_octets.specs.declared.vmac.Vmac.{Vmac}
 use Rattle.bsc_octets.specs.Forwarding.{function_in, id_in}
+use Rattle.bsc_octets.specs.Functions.{is_response}
 use Rattle.bsc_frame.specs.declared.answer.Answer.TheVariants.{Nak}
 use Rattle.bsc_frame.specs.declared.body.Body.TheVariants.{BvlcResult}
 use Rattle.bsc_frame.specs.declared.check.Check.{Check}
@@ -14,9 +15,9 @@ use Rattle.bsc_checks.specs.declared.place.Place.TheVariants.{NodeHub}
 use Rattle.bsc_checks.specs.Places.{origin_in, dest_in, IsUnicast}
 use Rattle.bsc_checks.specs.Table.{code_of, IsFirstNotUnderstood}
 
--- The functions that answer another message: BVLC-Result, Address-Resolution-ACK, Connect-Accept, Disconnect-ACK and Heartbeat-ACK.
+-- The functions that answer another message.
 abbrev pub IsResponse : ℕ → Type 0
-IsResponse function = (function ≡ 0x00) ⊎ (function ≡ 0x03) ⊎ (function ≡ 0x07) ⊎ (function ≡ 0x09) ⊎ (function ≡ 0x0B)
+IsResponse function = IsTrue (is_response function)
 
 -- A NAK with this code answers the message that the check refuses: the check has a code, the message is a unicast, and it is no response.
 pub record IsAnswered (m : List ℕ) (check : Check) (code : ℕ) : Type 0 where

@@ -4,6 +4,7 @@ use Rattle.byteorder.specs.Endian.{big_number}
 use Rattle.bsc_octets.specs.declared.envelope.Envelope.{Envelope}
 use Rattle.bsc_octets.specs.Envelopes.{flags_in}
 use Rattle.bsc_octets.specs.Forwarding.{function_in, id_in}
+use Rattle.bsc_octets.specs.Functions.{is_response}
 use Rattle.bsc_frame.specs.declared.check.Check.{Check}
 use Rattle.bsc_frame.specs.declared.check.Check.TheVariants.{C9}
 use Rattle.bsc_frame.specs.declared.message.Message.{Message}
@@ -17,7 +18,7 @@ use Rattle.bsc_checks.specs.Table.{code_of, checks_of}
 use Rattle.bsc_checks.specs.Naks.{nak_to}
 use Rattle.bsc_checks.specs.Options.{items_of, rest_of, dest_options_in, data_options_in}
 use Rattle.bsc_checks.specs.Payloads.{body_in}
-use Rattle.bsc_checks.specs.PlaceTests.{is_unicast, is_response}
+use Rattle.bsc_checks.specs.PlaceTests.{is_unicast}
 use Rattle.bsc_checks.specs.Failing.{fails, refused_marker}
 
 -- ---- what octets say

@@ -47,10 +47,6 @@ has_wrong_addresses (NodeDirect own peer phase) function origin dest = is_from_a
 
 -- ---- the function
 
--- Whether the function is one that answers another message.
-abbrev pub is_response : ℕ → Bool
-is_response function = (function == 0x00) || ((function == 0x03) || ((function == 0x07) || ((function == 0x09) || (function == 0x0B))))
-
 -- Whether the function is one of the three that say of a connection that it ends, or that it is still there.
 abbrev pub is_of_life : ℕ → Bool
 is_of_life function = (function == 0x08) || ((function == 0x0A) || (function == 0x0B))

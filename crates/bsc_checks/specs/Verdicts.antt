@@ -1,12 +1,11 @@
--- Which verdict a message has, and which a machine may be handed.
+-- Which verdict a message has.
 use Rattle.std.specs.Prelude.{◌≡◌, ℕ, ◌<◌, ◌^◌, true, false, List}
 use Rattle.bsc_octets.specs.Envelopes.{SpellsEnvelope, HasWholeAddresses}
 use Rattle.bsc_frame.specs.Spelling.{Spells}
-use Rattle.bsc_checks.specs.declared.phase.Phase.{Phase}
 use Rattle.bsc_checks.specs.declared.place.Place.{Place}
 use Rattle.bsc_checks.specs.declared.verdict.Verdict.{Verdict}
 use Rattle.bsc_checks.specs.declared.verdict.Verdict.TheVariants.{Pass, Carry, Silent, Nak}
-use Rattle.bsc_checks.specs.Places.{is_to_carry, phase_of}
+use Rattle.bsc_checks.specs.Places.{is_to_carry}
 use Rattle.bsc_checks.specs.Table.{IsFirst, NoneFails}
 use Rattle.bsc_checks.specs.Naks.{IsAnswered, IsNak}
 
@@ -20,11 +19,3 @@ Judged m place max (Carry envelope) = NoneFails m place max × (is_to_carry plac
     × HasWholeAddresses envelope × (envelope.id < 2 ^ 16)
 Judged m place max (Silent check) = IsFirst check m place max × ((code : ℕ) → ¬ IsAnswered m check code)
 Judged m place max (Nak check octets) = IsFirst check m place max × IsNak m place check octets.items
-
--- Some octets have this verdict at this place, with some greatest length.
-abbrev pub IsVerdictAt : Place → Verdict → Type 0
-IsVerdictAt place verdict = (m : List ℕ) × (max : ℕ) × Judged m place max verdict
-
--- Some octets have this verdict at some place in this phase: what a machine that is in this phase may be handed.
-abbrev pub IsVerdictIn : Phase → Verdict → Type 0
-IsVerdictIn phase verdict = (place : Place) × (phase_of place ≡ phase) × IsVerdictAt place verdict

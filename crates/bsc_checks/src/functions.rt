@@ -1,7 +1,6 @@
-//! The function at a place and in its phase: C13. Which functions are responses.
+//! The function at a place and in its phase: C13.
 ghost use Rattle.std.specs.Prelude.{◌↔◌, ◌≡◌, IsTrue};
 ghost use Rattle.bsc_checks.specs.Places.{IsInPlaceConnected, IsInPlaceIn, IsInPlace, phase_of};
-ghost use Rattle.bsc_checks.specs.Naks.{IsResponse};
 
 use crate::phase::Phase;
 use crate::place::Place;
@@ -18,20 +17,6 @@ impl Place {
             | Place::NodeDirect { phase, .. } => phase,
         }
     }
-}
-
-/// Whether the function is one that answers another message.
-pub(crate) fn is_response(function: u8) -> bool
-    ensures { IsTrue result ↔ IsResponse function }
-{
-    matches!(
-        function,
-        function::BVLC_RESULT
-            | function::ADDRESS_RESOLUTION_ACK
-            | function::CONNECT_ACCEPT
-            | function::DISCONNECT_ACK
-            | function::HEARTBEAT_ACK
-    )
 }
 
 /// Whether the function is in place once the connection is made.

@@ -17,7 +17,7 @@ ghost use Rattle.bsc_checks.specs.Outcomes.{outcome_of};
 ghost use Rattle.bsc_checks.specs.Walk.{IsHead, ChecksAnswer, between, from_flags};
 
 use crate::addresses::is_unicast;
-use crate::functions::{is_out_of_place, is_response};
+use crate::functions::is_out_of_place;
 use crate::head::read_head;
 use crate::nak::{nak, return_address};
 use crate::option_checks::read_options;
@@ -106,7 +106,7 @@ fn refused(head: &Envelope, place: &Place, refusal: Refusal) -> Verdict
     if !is_unicast(head.dest) {
         return Verdict::Silent(refusal.check);
     }
-    if is_response(head.function) {
+    if function::is_response(head.function) {
         return Verdict::Silent(refusal.check);
     }
     let dest = return_address(place, head.origin);

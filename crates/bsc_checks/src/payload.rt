@@ -18,11 +18,8 @@ ghost use Rattle.bsc_frame.specs.PayloadChecks.{IsBeyondFixedPart, IsOutOfRange}
 ghost use Rattle.bsc_checks.specs.Walk.{PayloadAnswers};
 
 use crate::addresses::is_same;
-use bsc_frame::Check;
+use bsc_frame::{Check, NAK_PART};
 use bsc_octets::{Vmac, function, results};
-
-/// How many octets a NAK has before its details.
-const NAK_PART: usize = 7;
 
 /// The result code of a BVLC-Result.
 fn result_code(p: &[u8]) -> u8

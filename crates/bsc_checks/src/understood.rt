@@ -5,33 +5,14 @@ ghost use Rattle.bsc_options.specs.declared.item.OptionItem.{OptionItem};
 ghost use Rattle.bsc_options.specs.Spelling.{Fits, data_octets, marker_of, spelling_of};
 ghost use Rattle.bsc_checks.specs.Walk.{marker_refused};
 
+use bsc_options::{SECURE_PATH, has_data, has_must, kind_in};
 use byteorder::{BigEndian, ByteOrder};
 
-/// Bit 6 of a marker: must understand.
-const MUST: u8 = 0x40;
-
-/// Bit 5 of a marker: data are present.
-const DATA: u8 = 0x20;
-
-/// Bits 4 to 0 of a marker: the type.
-const TYPE: u8 = 0x1F;
-
-/// The type of Secure Path, which is understood.
-const SECURE_PATH: u8 = 1;
-
-/// Whether the option with this marker has to be understood and is not.
-#[tactic(auto, using(bsc_options::proofs::Markers::bit_tests))]
+/// Whether the option with this marker has to be understood and is not: Secure Path alone is understood.
 fn is_refused(marker: u8) -> bool
     ensures { result ≡ ((marker / 64 % 2 == 1) && not (marker % 32 == 1)) }
 {
-    marker & MUST != 0 && marker & TYPE != SECURE_PATH
-}
-
-#[tactic(auto, using(bsc_options::proofs::Markers::bit_tests))]
-fn has_data(marker: u8) -> bool
-    ensures { result ≡ (marker / 32 % 2 == 1) }
-{
-    marker & DATA != 0
+    has_must(marker) && kind_in(marker) != SECURE_PATH
 }
 
 /// How many octets the data behind a marker have, with those of their length.

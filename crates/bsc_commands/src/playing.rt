@@ -1,8 +1,8 @@
 //! The commands that play their input.
 ghost use Rattle.std.specs.Prelude.{◌≡◌, ◌≢◌, ◌≤◌, ℕ, List, Some};
-ghost use Rattle.bsc_outside.specs.Faults.{HasRisen};
 ghost use Rattle.bsc_player.specs.Ends.{PlaysOut};
-ghost use Rattle.bsc_player.specs.Statuses.{StatusTells, IsStatus};
+ghost use Rattle.bsc_player.specs.Faults.{RisesIf};
+ghost use Rattle.bsc_player.specs.Statuses.{IsStatus, StatusSays, play_world};
 ghost use Rattle.bsc_commands.specs.Commands.{played_by};
 
 use bsc_outside::{Sink, Source};
@@ -31,8 +31,8 @@ fn play_command<S: Source, K: Sink>(
 ) -> ReplayEnd
     ensures played { (o t : List ℕ) → S.left source.old ≡ Some o → K.held sink.old ≡ Some t →
         PlaysOut (played_by command) result o t (S.left source.new) (K.held sink.new) }
-    ensures read_fault { result ≡ ReplayEnd.ReadFault → HasRisen (S.faults source.old) (S.faults source.new) }
-    ensures write_fault { result ≡ ReplayEnd.WriteFault → HasRisen (K.faults sink.old) (K.faults sink.new) }
+    ensures read_fault { RisesIf result ReplayEnd.ReadFault (S.faults source.old) (S.faults source.new) }
+    ensures write_fault { RisesIf result ReplayEnd.WriteFault (K.faults sink.old) (K.faults sink.new) }
     ensures reads_later { S.faults source.old ≤ S.faults source.new }
     ensures writes_later { K.faults sink.old ≤ K.faults sink.new }
 {
@@ -54,13 +54,12 @@ fn play_command<S: Source, K: Sink>(
 /// | 7 | memory ran out | `fault memory`, tried once |
 pub fn play<S: Source, K: Sink>(alloc: Global, command: Command, source: &mut S, sink: &mut K) -> u8
     // What the status says of the input: what was read, and what was written.
-    ensures played { (o t : List ℕ) → S.left source.old ≡ Some o → K.held sink.old ≡ Some t →
-        StatusTells (played_by command) result o t (S.left source.new) (K.held sink.new)
-        (S.faults source.old) (S.faults source.new) }
+    ensures played { StatusSays (played_by command) (play_world S.left S.faults K.held source.old sink.old)
+        (play_world S.left S.faults K.held source.new sink.new) result }
 
     // Faults of the source and the sink are counted.
-    ensures read { result ≡ 3 → HasRisen (S.faults source.old) (S.faults source.new) }
-    ensures write { result ≡ 4 → HasRisen (K.faults sink.old) (K.faults sink.new) }
+    ensures read { RisesIf result 3 (S.faults source.old) (S.faults source.new) }
+    ensures write { RisesIf result 4 (K.faults sink.old) (K.faults sink.new) }
     ensures reads_later { S.faults source.old ≤ S.faults source.new }
     ensures writes_later { K.faults sink.old ≤ K.faults sink.new }
     ensures statuses { IsStatus result × (result ≢ 1) }

@@ -2,8 +2,9 @@
 ghost use Rattle.std.specs.Prelude.{◌≡◌, ◌≢◌, ◌≤◌, ◌⊎◌, ◌++◌, ℕ, List, Option, None, Some, Ok, map};
 ghost use Rattle.clap.specs.Words.{Text};
 ghost use Rattle.bsc_outside.specs.Faults.{HasRisen, PutsPrefix};
+ghost use Rattle.bsc_player.specs.Faults.{RisesIf};
 ghost use Rattle.bsc_player.specs.LastLines.{EndsWith, RanOut, words_line};
-ghost use Rattle.bsc_player.specs.Statuses.{StatusTells};
+ghost use Rattle.bsc_player.specs.Statuses.{StatusSays, play_world};
 ghost use Rattle.bsc_script.specs.Scripts.{replay_of};
 ghost use Rattle.bsc_replay.specs.Checks.{check_of};
 ghost use Rattle.bsc_network_script.specs.Scripts.{simulate_of};
@@ -11,13 +12,14 @@ ghost use Rattle.bsc_audit_command.specs.Audits.{RunsAudit};
 ghost use Rattle.bsc_policy.specs.declared.policy.Policy.{Policy};
 ghost use Rattle.bsc_settings.specs.declared.hub.HubSettings.{HubSettings};
 ghost use Rattle.bsc_session.specs.Jobs.{Worked};
-ghost use Rattle.bsc_hub_command.specs.Served.{HasFailed, HubRuns, world_by};
+ghost use Rattle.bsc_hub_command.specs.Served.{HasFailed, HubRuns, door_by, stock_by, telling, world_by};
 ghost use Rattle.bsc_hub_command.specs.Settled.{IsSettled, Unsettled};
 ghost use Rattle.bsc_load_command.specs.Loaded.{RunsLoad};
-ghost use Rattle.bsc_node_command.specs.Comes.{RunsFiles};
+ghost use Rattle.bsc_node_command.specs.Comes.{RunsFiles, acceptor_world, node_world};
 ghost use Rattle.bsc_node_run.specs.declared.due.Due.{Due};
+ghost use Rattle.bsc_node_run.specs.Drawing.{Draws};
 ghost use Rattle.bsc_node_run.specs.Scripts.{script_of, wish_of};
-ghost use Rattle.bsc_node_run.specs.Worlds.{admitting, dialling};
+ghost use Rattle.bsc_node_run.specs.Worlds.{dialling};
 ghost use Rattle.bsc_node_runs.specs.Courses.{FinishCame};
 ghost use Rattle.bsc_words.specs.declared.fault.WordsFault.TheVariants as words_fault;
 ghost use Rattle.bsc_words.specs.Read.{asked_in};
@@ -46,7 +48,7 @@ use std::thread::Threads;
 fn end_unasked<K: Sink>(sink: &mut K, fault: WordsFault) -> u8
     ensures refused { fault ≡ words_fault.Refused → EndsWith result 1 (K.held sink.old) (K.held sink.new) words_line }
     ensures ran_out { fault ≡ words_fault.NoMemory → RanOut result (K.held sink.old) (K.held sink.new) }
-    ensures write { result ≡ 4 → HasRisen (K.faults sink.old) (K.faults sink.new) }
+    ensures write { RisesIf result 4 (K.faults sink.old) (K.faults sink.new) }
     ensures statuses { (result ≡ 1) ⊎ (result ≡ 4) ⊎ (result ≡ 7) }
     ensures cause { result ≡ 1 → fault ≡ words_fault.Refused }
 {
@@ -84,11 +86,11 @@ fn run_asked<
     ensures hub { (path : Text) (sessions : Option ℕ) (journal : Option Text) (made : _) →
         seen asked.entry ≡ hub path sessions journal → outside.new.place.kept.hub ≡ Some made →
         (v : HubSettings) × (policy : Option Policy) × IsSettled (F.holds outside.old.files path) v policy
-        × HubRuns (Worked L.talk L.faults C.readings N.held N.faults) J.begins N.held N.faults
+        × HubRuns (telling (Worked L.talk L.faults C.readings N.held N.faults) J.begins N.held N.faults)
         (record { settings = v; policy = policy; sessions = sessions; prefix = journal })
-        outside.new.place.kept outside.new.place.own
-        (world_by A.left A.waits A.bound A.faults P.jobs P.out P.faults J.faults outside.old.parts (K.held outside.old.sink))
-        (world_by A.left A.waits A.bound A.faults P.jobs P.out P.faults J.faults outside.new.parts (K.held outside.new.sink))
+        outside.new.place
+        (world_by (door_by A.left A.waits A.bound A.faults) (stock_by P.jobs P.out P.faults) J.faults outside.old.parts (K.held outside.old.sink))
+        (world_by (door_by A.left A.waits A.bound A.faults) (stock_by P.jobs P.out P.faults) J.faults outside.new.parts (K.held outside.new.sink))
         result }
     ensures no_hub { (path : Text) (sessions : Option ℕ) (journal : Option Text) →
         seen asked.entry ≡ hub path sessions journal → outside.new.place.kept.hub ≡ None →
@@ -98,32 +100,17 @@ fn run_asked<
         seen asked.entry ≡ hub path sessions journal → outside.new.place.kept.hub ≡ None →
         (outside.new.place ≡ outside.old.place) × (outside.new.parts ≡ outside.old.parts) }
     ensures node { (path script : Text) → seen asked.entry ≡ node path script →
-        RunsFiles L.talk W.gives W.faults (F.holds outside.old.files path) (F.holds outside.old.files script)
+        RunsFiles L.talk (Draws W.gives W.faults)
+        (record { settings = F.holds outside.old.files path; script = F.holds outside.old.files script })
         (record {
           unread = F.faults outside.old.files;
-          beside = record {
-            dialled = dialling D.calls D.left D.faults outside.old.node.dialer;
-            door = admitting A.left A.waits outside.old.parts.acceptor;
-            port = A.bound outside.old.parts.acceptor;
-            faults = A.faults outside.old.parts.acceptor;
-            readings = C.readings outside.old.parts.clock;
-            waited = V.waits outside.old.node.waiter;
-            random = outside.old.node.random;
-            written = K.held outside.old.sink;
-          };
+          beside = node_world (dialling D.calls D.left D.faults) V.waits outside.old.node
+              (acceptor_world A.left A.waits A.bound A.faults outside.old.parts.acceptor) (C.readings outside.old.parts.clock) (K.held outside.old.sink);
         })
         (record {
           unread = F.faults outside.new.files;
-          beside = record {
-            dialled = dialling D.calls D.left D.faults outside.new.node.dialer;
-            door = admitting A.left A.waits outside.new.parts.acceptor;
-            port = A.bound outside.new.parts.acceptor;
-            faults = A.faults outside.new.parts.acceptor;
-            readings = C.readings outside.new.parts.clock;
-            waited = V.waits outside.new.node.waiter;
-            random = outside.new.node.random;
-            written = K.held outside.new.sink;
-          };
+          beside = node_world (dialling D.calls D.left D.faults) V.waits outside.new.node
+              (acceptor_world A.left A.waits A.bound A.faults outside.new.parts.acceptor) (C.readings outside.new.parts.clock) (K.held outside.new.sink);
         }) result }
     ensures finished { (path script : Text) → seen asked.entry ≡ node path script → result ≡ 0 →
         (o : List ℕ) × F.holds outside.old.files script o
@@ -133,18 +120,15 @@ fn run_asked<
         RunsLoad n outside.new.place.kept made result (K.held outside.old.sink) (K.held outside.new.sink) }
     ensures no_load { (n : ℕ) → seen asked.entry ≡ load n → outside.new.place.kept.hub ≡ None →
         RanOut result (K.held outside.old.sink) (K.held outside.new.sink) }
-    ensures replayed { (o t : List ℕ) → seen asked.entry ≡ replay →
-        S.left outside.old.source ≡ Some o → K.held outside.old.sink ≡ Some t →
-        StatusTells replay_of result o t (S.left outside.new.source) (K.held outside.new.sink)
-        (S.faults outside.old.source) (S.faults outside.new.source) }
-    ensures simulated { (o t : List ℕ) → seen asked.entry ≡ simulate →
-        S.left outside.old.source ≡ Some o → K.held outside.old.sink ≡ Some t →
-        StatusTells simulate_of result o t (S.left outside.new.source) (K.held outside.new.sink)
-        (S.faults outside.old.source) (S.faults outside.new.source) }
-    ensures checked { (o t : List ℕ) → seen asked.entry ≡ check →
-        S.left outside.old.source ≡ Some o → K.held outside.old.sink ≡ Some t →
-        StatusTells check_of result o t (S.left outside.new.source) (K.held outside.new.sink)
-        (S.faults outside.old.source) (S.faults outside.new.source) }
+    ensures replayed { seen asked.entry ≡ replay → StatusSays replay_of
+        (play_world S.left S.faults K.held outside.old.source outside.old.sink)
+        (play_world S.left S.faults K.held outside.new.source outside.new.sink) result }
+    ensures simulated { seen asked.entry ≡ simulate → StatusSays simulate_of
+        (play_world S.left S.faults K.held outside.old.source outside.old.sink)
+        (play_world S.left S.faults K.held outside.new.source outside.new.sink) result }
+    ensures checked { seen asked.entry ≡ check → StatusSays check_of
+        (play_world S.left S.faults K.held outside.old.source outside.old.sink)
+        (play_world S.left S.faults K.held outside.new.source outside.new.sink) result }
     ensures audited { (o : List ℕ) → seen asked.entry ≡ audit → S.left outside.old.source ≡ Some o →
         RunsAudit o (S.left outside.new.source) result (K.held outside.old.sink) (K.held outside.new.sink) }
     ensures source { (seen asked.entry ≡ replay) ⊎ (seen asked.entry ≡ simulate) ⊎ (seen asked.entry ≡ check)
@@ -156,7 +140,7 @@ fn run_asked<
     ensures write { result ≡ 4 → HasRisen (K.faults outside.old.sink) (K.faults outside.new.sink)
         ⊎ HasRisen (J.faults outside.old.parts.journals) (J.faults outside.new.parts.journals)
         ⊎ HasFailed N.faults outside.new.place.own }
-    ensures link { result ≡ 6 → HasRisen (A.faults outside.old.parts.acceptor) (A.faults outside.new.parts.acceptor) }
+    ensures link { RisesIf result 6 (A.faults outside.old.parts.acceptor) (A.faults outside.new.parts.acceptor) }
 {
     match asked {
         Asked::Replay => play(
@@ -227,7 +211,7 @@ fn run_asked<
 /// | 7 | memory ran out | `fault memory`, tried once |
 /// | 8 | the node made as many turns as its settings allow | `fault turns` |
 /// | 9 | workers of a workload were cut short | `fault load` |
-/// | 10 | the journals tell no legal history of one hub: there are n hub lines; place p stands twice, or is missing; the entry at p isn't legal | `hubs n`, `twice p`, `missing p`, `illegal p` |
+/// | 10 | no legal history of one hub: n hub lines; place p twice, or missing; the entry at p isn't legal | `hubs n`, `twice p`, `missing p`, `illegal p` |
 pub fn run<
     R: Threads + Wait + Sync,
     S: Source,
@@ -257,11 +241,11 @@ pub fn run<
     ensures hub { (path : Text) (sessions : Option ℕ) (journal : Option Text) (made : _) →
         asked_in read.now ≡ Some (hub path sessions journal) → outside.new.place.kept.hub ≡ Some made →
         (v : HubSettings) × (policy : Option Policy) × IsSettled (F.holds outside.old.files path) v policy
-        × HubRuns (Worked L.talk L.faults C.readings N.held N.faults) J.begins N.held N.faults
+        × HubRuns (telling (Worked L.talk L.faults C.readings N.held N.faults) J.begins N.held N.faults)
         (record { settings = v; policy = policy; sessions = sessions; prefix = journal })
-        outside.new.place.kept outside.new.place.own
-        (world_by A.left A.waits A.bound A.faults P.jobs P.out P.faults J.faults outside.old.parts (K.held outside.old.sink))
-        (world_by A.left A.waits A.bound A.faults P.jobs P.out P.faults J.faults outside.new.parts (K.held outside.new.sink))
+        outside.new.place
+        (world_by (door_by A.left A.waits A.bound A.faults) (stock_by P.jobs P.out P.faults) J.faults outside.old.parts (K.held outside.old.sink))
+        (world_by (door_by A.left A.waits A.bound A.faults) (stock_by P.jobs P.out P.faults) J.faults outside.new.parts (K.held outside.new.sink))
         result }
     ensures no_hub { (path : Text) (sessions : Option ℕ) (journal : Option Text) →
         asked_in read.now ≡ Some (hub path sessions journal) → outside.new.place.kept.hub ≡ None →
@@ -273,32 +257,17 @@ pub fn run<
 
     // Of the words of a node: what became of it, by its settings and its script as they were in their files.
     ensures node { (path script : Text) → asked_in read.now ≡ Some (node path script) →
-        RunsFiles L.talk W.gives W.faults (F.holds outside.old.files path) (F.holds outside.old.files script)
+        RunsFiles L.talk (Draws W.gives W.faults)
+        (record { settings = F.holds outside.old.files path; script = F.holds outside.old.files script })
         (record {
           unread = F.faults outside.old.files;
-          beside = record {
-            dialled = dialling D.calls D.left D.faults outside.old.node.dialer;
-            door = admitting A.left A.waits outside.old.parts.acceptor;
-            port = A.bound outside.old.parts.acceptor;
-            faults = A.faults outside.old.parts.acceptor;
-            readings = C.readings outside.old.parts.clock;
-            waited = V.waits outside.old.node.waiter;
-            random = outside.old.node.random;
-            written = K.held outside.old.sink;
-          };
+          beside = node_world (dialling D.calls D.left D.faults) V.waits outside.old.node
+              (acceptor_world A.left A.waits A.bound A.faults outside.old.parts.acceptor) (C.readings outside.old.parts.clock) (K.held outside.old.sink);
         })
         (record {
           unread = F.faults outside.new.files;
-          beside = record {
-            dialled = dialling D.calls D.left D.faults outside.new.node.dialer;
-            door = admitting A.left A.waits outside.new.parts.acceptor;
-            port = A.bound outside.new.parts.acceptor;
-            faults = A.faults outside.new.parts.acceptor;
-            readings = C.readings outside.new.parts.clock;
-            waited = V.waits outside.new.node.waiter;
-            random = outside.new.node.random;
-            written = K.held outside.new.sink;
-          };
+          beside = node_world (dialling D.calls D.left D.faults) V.waits outside.new.node
+              (acceptor_world A.left A.waits A.bound A.faults outside.new.parts.acceptor) (C.readings outside.new.parts.clock) (K.held outside.new.sink);
         }) result }
 
     // Status 0 comes of the words of a node only once the time of its script's `finish` has passed, from the first reading of
@@ -315,24 +284,21 @@ pub fn run<
         RanOut result (K.held outside.old.sink) (K.held outside.new.sink) }
 
     // Of the words of a command that plays its input, what the status says of that: what was read, and what was written.
-    ensures replayed { (o t : List ℕ) → asked_in read.now ≡ Some replay →
-        S.left outside.old.source ≡ Some o → K.held outside.old.sink ≡ Some t →
-        StatusTells replay_of result o t (S.left outside.new.source) (K.held outside.new.sink)
-        (S.faults outside.old.source) (S.faults outside.new.source) }
-    ensures simulated { (o t : List ℕ) → asked_in read.now ≡ Some simulate →
-        S.left outside.old.source ≡ Some o → K.held outside.old.sink ≡ Some t →
-        StatusTells simulate_of result o t (S.left outside.new.source) (K.held outside.new.sink)
-        (S.faults outside.old.source) (S.faults outside.new.source) }
+    ensures replayed { asked_in read.now ≡ Some replay → StatusSays replay_of
+        (play_world S.left S.faults K.held outside.old.source outside.old.sink)
+        (play_world S.left S.faults K.held outside.new.source outside.new.sink) result }
+    ensures simulated { asked_in read.now ≡ Some simulate → StatusSays simulate_of
+        (play_world S.left S.faults K.held outside.old.source outside.old.sink)
+        (play_world S.left S.faults K.held outside.new.source outside.new.sink) result }
 
     // Of the words of a network: each delivery that is written comes from the Send at its place, and no two are of one Send and
     // to one node.
     ensures delivered { (o t : List ℕ) → asked_in read.now ≡ Some simulate →
         S.left outside.old.source ≡ Some o → K.held outside.old.sink ≡ Some t →
         WritesWhatWasSent o t (K.held outside.new.sink) }
-    ensures checked { (o t : List ℕ) → asked_in read.now ≡ Some check →
-        S.left outside.old.source ≡ Some o → K.held outside.old.sink ≡ Some t →
-        StatusTells check_of result o t (S.left outside.new.source) (K.held outside.new.sink)
-        (S.faults outside.old.source) (S.faults outside.new.source) }
+    ensures checked { asked_in read.now ≡ Some check → StatusSays check_of
+        (play_world S.left S.faults K.held outside.old.source outside.old.sink)
+        (play_world S.left S.faults K.held outside.new.source outside.new.sink) result }
 
     // Of the words of an audit, what it answered of the source's octets, and what was written of that.
     ensures audited { (o : List ℕ) → asked_in read.now ≡ Some audit → S.left outside.old.source ≡ Some o →
@@ -357,7 +323,7 @@ pub fn run<
     ensures write { result ≡ 4 → HasRisen (K.faults outside.old.sink) (K.faults outside.new.sink)
         ⊎ HasRisen (J.faults outside.old.parts.journals) (J.faults outside.new.parts.journals)
         ⊎ HasFailed N.faults outside.new.place.own }
-    ensures link { result ≡ 6 → HasRisen (A.faults outside.old.parts.acceptor) (A.faults outside.new.parts.acceptor) }
+    ensures link { RisesIf result 6 (A.faults outside.old.parts.acceptor) (A.faults outside.new.parts.acceptor) }
 {
     match read.asked {
         Ok(asked) => run_asked(rt, alloc, asked, outside),

@@ -63,7 +63,7 @@ come : (now : ℕ) (o : Option ℕ) → has_come now o ≡ true → (at : ℕ) �
 come now None h = cc
 come now (Some at) h = (at, refl, leb-true at now h)
 
-come_none : (now : ℕ) (o : Option ℕ) → has_come now o ≡ true → unless_come now o ≡ None
+pub come_none : (now : ℕ) (o : Option ℕ) → has_come now o ≡ true → unless_come now o ≡ None
 come_none now None h = refl
 come_none now (Some at) h = rw h refl
 

@@ -146,9 +146,6 @@ follows-start w E e side k h f g c tried = record {
 
 -- ---- the primary hub
 
-told : ℕ → ConnectorEvent → HubEvent
-told now event = record { now = now; event = event }
-
 abbrev stays_tried : (w : Waits) (E : List HubEvent) (now : ℕ) (e : ConnectorEvent) → is_start e ≡ false → is_tried w Primary (E ++ record { now = now; event = e } ∷ []) ≡ is_tried w Primary E
 stays_tried w E now e h = tried-primary w E (record { now = now; event = e }) ∙ rw h (or_false (is_tried w Primary E))
 

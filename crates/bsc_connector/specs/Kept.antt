@@ -8,8 +8,6 @@ use Rattle.bsc_connector.specs.declared.side_state.Attempt.TheVariants.{Idle, Un
 use Rattle.bsc_connector.specs.declared.side_state.SideState.{SideState}
 use Rattle.bsc_connector.specs.declared.waits.Waits.{Waits}
 use Rattle.bsc_connector.specs.declared.step.ConnectorStep.{ConnectorStep}
-use Rattle.bsc_connector.specs.declared.hub_use.HubUse.{HubUse}
-use Rattle.bsc_connector.specs.declared.hub_use.HubUse.TheVariants.{NoHub, Primary as UsesPrimary, Failover as UsesFailover}
 use Rattle.bsc_connector.specs.Sides.{is_start, is_tick, fails, connects}
 use Rattle.bsc_connector.specs.Steps.{has_come}
 
@@ -105,6 +103,3 @@ step_kept w now p f e = record {
   dial_failover = (fails Primary e && says_idle w f) || ((is_tick e && has_come now (says_due f)) && not (says_up p));
   drop_failover = connects Primary e && (says_up f || says_under_way f);
 }
-
-abbrev pub use_kept : Attempt → Attempt → HubUse
-use_kept p f = if says_up p then UsesPrimary else if says_up f then UsesFailover else NoHub

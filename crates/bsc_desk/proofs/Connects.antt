@@ -37,7 +37,7 @@ use Rattle.bsc_desk.specs.Live.{connection, is_row, known_in}
 use Rattle.bsc_desk.specs.Standing.{DeskStands, IsInletOf, all_found}
 use Rattle.bsc_desk.specs.Tallies.{no_counts}
 use Rattle.bsc_desk.proofs.Looks.{all_found-more, fresh_found}
-use Rattle.bsc_desk.proofs.Standings.{Goes, Keeps, goes_all, kept, stands_more, stands_same}
+use Rattle.bsc_desk.proofs.Standings.{Keeps, RowGoes, goes_all, kept, stands_more, stands_same}
 use Rattle.bsc_desk.proofs.Walks.{each_connections, each_found, each_weaker, has_number}
 use Rattle.bsc_history.proofs.Common.{length_entries}
 use Rattle.bsc_lemmas.proofs.Lists.{all-push}
@@ -66,12 +66,12 @@ same_test : (replaced : Option ℕ) (r : Row) → is_row replaced r ≡ is_one r
 same_test None r = refl
 same_test (Some k) r = eqb_comm r.connection.number k
 
-joined_one : (a : About) (H : List Entry) (caller : ℕ) (who : Identity) (conn : ℕ) (replaced : Option ℕ) (r t : Row) → FinishesIf (is_row replaced r) Replaced r t → Goes a H (connect_entry caller who (JoinedReply conn replaced)) r t
+joined_one : (a : About) (H : List Entry) (caller : ℕ) (who : Identity) (conn : ℕ) (replaced : Option ℕ) (r t : Row) → FinishesIf (is_row replaced r) Replaced r t → RowGoes a H (connect_entry caller who (JoinedReply conn replaced)) r t
 unfolding added_by
 joined_one a H caller who conn replaced r t fin =
     let e = connect_entry caller who (JoinedReply conn replaced) in
     let c = r.connection.number in
-    let by : (b : Bool) → is_one c replaced ≡ b → FinishesIf b Replaced r t → Goes a H e r t = λ b. elim b as (λ b. is_one c replaced ≡ b → FinishesIf b Replaced r t → Goes a H e r t) [
+    let by : (b : Bool) → is_one c replaced ≡ b → FinishesIf b Replaced r t → RowGoes a H e r t = λ b. elim b as (λ b. is_one c replaced ≡ b → FinishesIf b Replaced r t → RowGoes a H e r t) [
       | true ↦ λ h f. (
         f.same,
         record {
@@ -127,8 +127,8 @@ stands_joined d n S caller who conn replaced after new p lawful about stop made 
     let H = entries S in
     let s = connect_stamped caller who (inlet_mark new.inlet) (JoinedReply conn replaced) in
     let R = λ (r t : Row). FinishesIf (is_row replaced r) Replaced r t in
-    let goes = each_weaker R (Goes a H s.entry) d.rows.items after (λ r t f. joined_one a H caller who conn replaced r t f) each in
-    let same = each_connections (Goes a H s.entry) d.rows.items after (λ r t g. g.0) goes in
+    let goes = each_weaker R (RowGoes a H s.entry) d.rows.items after (λ r t f. joined_one a H caller who conn replaced r t f) each in
+    let same = each_connections (RowGoes a H s.entry) d.rows.items after (λ r t g. g.0) goes in
     let old = goes_all a S s d.rows.items after (kept d S p) goes in
     let one = subst (λ k. IsInletOf a (S ++ s ∷ []) k new.inlet) (sym (ap (λ (x : Connection). x.number) is)) (inlet_new a S caller who conn replaced new p.legal lawful fresh holds) in
     let keeps : Keeps d n s.entry = record {

@@ -30,7 +30,7 @@ use Rattle.bsc_desk.specs.Live.{connection, is_open, number}
 use Rattle.bsc_desk.specs.Standing.{IsInletOf}
 use Rattle.bsc_desk.proofs.Filing.{StaysFiled}
 use Rattle.bsc_desk.proofs.Looks.{newest_look}
-use Rattle.bsc_desk.proofs.Standings.{Goes, follows_same}
+use Rattle.bsc_desk.proofs.Standings.{RowGoes, follows_same}
 use Rattle.bsc_lemmas.proofs.Booleans.{or_false as or_last}
 use Rattle.bsc_lemmas.proofs.Options.{or_none}
 
@@ -140,9 +140,9 @@ module _ (a : About) (S : List Stamped) (caller conn : ℕ) (m : List ℕ) (look
   abbrev pub Adds : ℕ → Type 0
   Adds c = added a (moment (entries S) e) (sent a (entries S) c) c ≡ cond (names c reply) (o ∷ []) []
 
-  pub goes : ((r : Row) → t r ≡ true → is_open r ≡ true) → (r : Row) (x : Fate) (s : Row) → Adds (number r) → Told full reply looks (number r) x → Befalls t full o r x s → Goes a (entries S) e r s
-  goes opens r Unmeant s adds told h = subst (Goes a (entries S) e r) (sym h.1) (refl, follows_same a (entries S) e (number r) r.inlet (adds ∙ ap (λ (b : Bool). cond b (o ∷ []) []) told.named) (ap (map (λ (k : Look). k.taken)) told.seen) told.ended)
-  goes opens r (TooLong c) s adds told h = subst (Goes a (entries S) e r) (sym h.1.2) (refl, follows_same a (entries S) e (number r) r.inlet (adds ∙ ap (λ (b : Bool). cond b (o ∷ []) []) told.named) (ap (map (λ (k : Look). k.taken)) told.seen) told.ended)
+  pub goes : ((r : Row) → t r ≡ true → is_open r ≡ true) → (r : Row) (x : Fate) (s : Row) → Adds (number r) → Told full reply looks (number r) x → Befalls t full o r x s → RowGoes a (entries S) e r s
+  goes opens r Unmeant s adds told h = subst (RowGoes a (entries S) e r) (sym h.1) (refl, follows_same a (entries S) e (number r) r.inlet (adds ∙ ap (λ (b : Bool). cond b (o ∷ []) []) told.named) (ap (map (λ (k : Look). k.taken)) told.seen) told.ended)
+  goes opens r (TooLong c) s adds told h = subst (RowGoes a (entries S) e r) (sym h.1.2) (refl, follows_same a (entries S) e (number r) r.inlet (adds ∙ ap (λ (b : Bool). cond b (o ∷ []) []) told.named) (ap (map (λ (k : Look). k.taken)) told.seen) told.ended)
   goes opens r (Entered k) s adds told h = (
     h.1.0.same,
     record {

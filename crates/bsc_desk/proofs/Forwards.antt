@@ -37,7 +37,7 @@ use Rattle.bsc_desk.specs.Standing.{DeskStands, IsInletOf}
 use Rattle.bsc_desk.proofs.Fared.{AllFates, Told, each_fate, goes, more_said}
 use Rattle.bsc_desk.proofs.LiveRows.{address_of_row, by_of, live_rows, owns, stopped_so}
 use Rattle.bsc_desk.proofs.Orders.{all-weaker}
-use Rattle.bsc_desk.proofs.Standings.{Goes, IsKept, kept, stands_on, stands_same}
+use Rattle.bsc_desk.proofs.Standings.{IsKept, RowGoes, kept, stands_on, stands_same}
 use Rattle.bsc_history.proofs.Common.{length_entries}
 
 -- the sender of a frame, by the rows and by the history
@@ -141,7 +141,7 @@ stands_sent d n S caller conn f looks reply t full fates p is lawful opens all t
     let e = forward_entry caller conn f.message looks reply in
     let passes = (sends d S caller conn f p is).passes in
     let adds = λ (c : ℕ). adds_as_named a H p.legal e conn f.message c lawful refl ∙ ap (λ (x : List ℕ). cond (names c reply) (x ∷ []) []) passes in
-    let each = each_fate t full o (Goes a H e) (λ r x. Told full reply looks (number r) x) (IsKept a S) d.rows.items fates n.rows.items (λ r x s k says h. goes a S caller conn f.message looks reply t full o opens r x s (adds (number r)) says h) (kept d S p) told all in
+    let each = each_fate t full o (RowGoes a H e) (λ r x. Told full reply looks (number r) x) (IsKept a S) d.rows.items fates n.rows.items (λ r x s k says h. goes a S caller conn f.message looks reply t full o opens r x s (adds (number r)) says h) (kept d S p) told all in
     stands_on d n S (plain e) p lawful (record { goes_on = refl; stays = λ c. refl; joins_none = refl }) about stop made count each
 
 -- the connections that a frame means, of those that pass a test

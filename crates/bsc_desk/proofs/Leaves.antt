@@ -34,7 +34,7 @@ use Rattle.bsc_desk.specs.Tallies.{no_counts}
 use Rattle.bsc_desk.proofs.LiveRows.{owns, stopped_so}
 use Rattle.bsc_desk.proofs.Looks.{newest_look}
 use Rattle.bsc_desk.proofs.Removals.{connections-kept, removed}
-use Rattle.bsc_desk.proofs.Standings.{Goes, IsKept, Keeps, follows_same, goes_all, goes_one, kept, rows_apart, stands_more, stands_same}
+use Rattle.bsc_desk.proofs.Standings.{IsKept, Keeps, RowGoes, follows_same, goes_all, goes_one, kept, rows_apart, stands_more, stands_same}
 use Rattle.bsc_desk.proofs.Walks.{all_at, each_connections, each_weaker, has_number}
 use Rattle.bsc_history.proofs.Common.{length_entries}
 use Rattle.bsc_lemmas.proofs.Numbers.{eq_turned as eqb_comm}
@@ -129,7 +129,7 @@ lawful_stop d S caller p none = record {
   called = ap not (sym (stopped_so d S p) ∙ ap is_some none);
 }
 
-stop_one : (d : Desk) (H : List Entry) (caller : ℕ) (k : Counts) (r t : Row) → FinishesIf true Stopped r t → Goes d.about H (stop_entry caller k) r t
+stop_one : (d : Desk) (H : List Entry) (caller : ℕ) (k : Counts) (r t : Row) → FinishesIf true Stopped r t → RowGoes d.about H (stop_entry caller k) r t
 unfolding added_by
 stop_one d H caller k r t f = (
   f.same,
@@ -145,13 +145,13 @@ stop_one d H caller k r t f = (
 pub stands_stopped : (d n : Desk) (S : List Stamped) (caller : ℕ) → DeskStands d S → d.stopped_at ≡ None → n.about ≡ d.about → n.stopped_at ≡ Some d.tally.made → n.tally.made ≡ d.tally.made + 1 → n.tally.counts ≡ plus d.tally.counts no_counts → EachBecomes (λ r t. FinishesIf true Stopped r t) d.rows.items n.rows.items → DeskStands n (S ++ plain (stop_entry caller d.tally.counts) ∷ [])
 stands_stopped d n S caller p none about stop made count each =
     let s = plain (stop_entry caller d.tally.counts) in
-    let goes = each_weaker (λ r t. FinishesIf true Stopped r t) (Goes d.about (entries S) s.entry) d.rows.items n.rows.items (stop_one d (entries S) caller d.tally.counts) each in
+    let goes = each_weaker (λ r t. FinishesIf true Stopped r t) (RowGoes d.about (entries S) s.entry) d.rows.items n.rows.items (stop_one d (entries S) caller d.tally.counts) each in
     let keeps : Keeps d n s.entry = record {
       about = about;
       stop = stop ∙ sym (ap (λ (o : Option ℕ). option_or o (Some d.tally.made)) none);
       made = made;
       count = count;
-      rows = each_connections (Goes d.about (entries S) s.entry) d.rows.items n.rows.items (λ r t g. g.0) goes ∙ sym (append-nil _ ∙ none_leave (map connection d.rows.items));
+      rows = each_connections (RowGoes d.about (entries S) s.entry) d.rows.items n.rows.items (λ r t g. g.0) goes ∙ sym (append-nil _ ∙ none_leave (map connection d.rows.items));
     } in
     stands_more d n S s p (lawful_stop d S caller p none) keeps (goes_all d.about S s d.rows.items n.rows.items (kept d S p) goes)
   where

@@ -69,8 +69,8 @@ follows_same a H e c i none unlooked open_end = record {
 }
 
 -- what an entry makes of a row
-abbrev pub Goes : About → List Entry → Entry → Row → Row → Type 0
-Goes a H e r s = (s.connection ≡ r.connection) × Follows a H e r.connection.number r.inlet s.inlet
+abbrev pub RowGoes : About → List Entry → Entry → Row → Row → Type 0
+RowGoes a H e r s = (s.connection ≡ r.connection) × Follows a H e r.connection.number r.inlet s.inlet
 
 -- rows of a desk that stands for a history
 
@@ -99,11 +99,11 @@ kept d S p = all_from_In (IsKept d.about S) d.rows.items (λ r m. (
   In_from_all (λ (x : Row). IsInletOf d.about S x.connection.number x.inlet) r d.rows.items p.inlets m,
 ))
 
-pub goes_one : (a : About) (S : List Stamped) (s : Stamped) (r t : Row) → IsKept a S r → Goes a (entries S) s.entry r t → IsInletOf a (S ++ s ∷ []) t.connection.number t.inlet
+pub goes_one : (a : About) (S : List Stamped) (s : Stamped) (r t : Row) → IsKept a S r → RowGoes a (entries S) s.entry r t → IsInletOf a (S ++ s ∷ []) t.connection.number t.inlet
 goes_one a S s r t k g = subst (λ n. IsInletOf a (S ++ s ∷ []) n t.inlet) (sym (ap (λ (x : Connection). x.number) g.0)) (inlet_more a S s r.connection.number r.inlet t.inlet k.0 k.1 g.1)
 
-pub goes_all : (a : About) (S : List Stamped) (s : Stamped) (rows after : List Row) → AllByRecursion (IsKept a S) rows → EachBecomes (Goes a (entries S) s.entry) rows after → AllByRecursion (λ r. IsInletOf a (S ++ s ∷ []) r.connection.number r.inlet) after
-goes_all a S s rows after all each = each_all (Goes a (entries S) s.entry) (IsKept a S) (λ r. IsInletOf a (S ++ s ∷ []) r.connection.number r.inlet) rows after (λ r t k g. goes_one a S s r t k g) all each
+pub goes_all : (a : About) (S : List Stamped) (s : Stamped) (rows after : List Row) → AllByRecursion (IsKept a S) rows → EachBecomes (RowGoes a (entries S) s.entry) rows after → AllByRecursion (λ r. IsInletOf a (S ++ s ∷ []) r.connection.number r.inlet) after
+goes_all a S s rows after all each = each_all (RowGoes a (entries S) s.entry) (IsKept a S) (λ r. IsInletOf a (S ++ s ∷ []) r.connection.number r.inlet) rows after (λ r t k g. goes_one a S s r t k g) all each
 
 -- What the new desk n keeps of the old desk d beside its inlets.
 pub record Keeps (d n : Desk) (e : Entry) : Type 0 where
@@ -144,9 +144,9 @@ keeps_on d n e still about stop made count rows = record {
 }
 
 -- Rows that go row by row, by an entry that is no Stop and no Leave and by which nobody joins.
-pub stands_on : (d n : Desk) (S : List Stamped) (s : Stamped) → DeskStands d S → Lawful d.about (moment (entries S) s.entry) → Stays s.entry → n.about ≡ d.about → n.stopped_at ≡ d.stopped_at → n.tally.made ≡ d.tally.made + 1 → n.tally.counts ≡ plus d.tally.counts (counts_of s.entry) → EachBecomes (Goes d.about (entries S) s.entry) d.rows.items n.rows.items → DeskStands n (S ++ s ∷ [])
+pub stands_on : (d n : Desk) (S : List Stamped) (s : Stamped) → DeskStands d S → Lawful d.about (moment (entries S) s.entry) → Stays s.entry → n.about ≡ d.about → n.stopped_at ≡ d.stopped_at → n.tally.made ≡ d.tally.made + 1 → n.tally.counts ≡ plus d.tally.counts (counts_of s.entry) → EachBecomes (RowGoes d.about (entries S) s.entry) d.rows.items n.rows.items → DeskStands n (S ++ s ∷ [])
 stands_on d n S s p lawful still about stop made count each =
-    stands_more d n S s p lawful (keeps_on d n s.entry still about stop made count (each_connections (Goes d.about (entries S) s.entry) d.rows.items n.rows.items (λ r t g. g.0) each))
+    stands_more d n S s p lawful (keeps_on d n s.entry still about stop made count (each_connections (RowGoes d.about (entries S) s.entry) d.rows.items n.rows.items (λ r t g. g.0) each))
     (goes_all d.about S s d.rows.items n.rows.items (kept d S p) each)
 
 -- where no row changes
@@ -155,12 +155,12 @@ pub record Quiet (a : About) (H : List Entry) (e : Entry) : Type 0 where
   pub looks_none : e.looks ≡ []
   pub adds_nothing : (c : ℕ) → added a (moment H e) (sent a H c) c ≡ []
 
-quiet_each : (a : About) (H : List Entry) (e : Entry) (rows : List Row) → Quiet a H e → EachBecomes (Goes a H e) rows rows
+quiet_each : (a : About) (H : List Entry) (e : Entry) (rows : List Row) → Quiet a H e → EachBecomes (RowGoes a H e) rows rows
 quiet_each a H e [] q = tt
 quiet_each a H e (r ∷ rows) q = ((refl, follows_same a H e r.connection.number r.inlet (q.adds_nothing r.connection.number) (rw q.looks_none refl) (q.ends_none r.connection.number)), quiet_each a H e rows q)
 
 pub stands_same : (d n : Desk) (S : List Stamped) (s : Stamped) → DeskStands d S → Lawful d.about (moment (entries S) s.entry) → Stays s.entry → Quiet d.about (entries S) s.entry → n.about ≡ d.about → n.stopped_at ≡ d.stopped_at → n.tally.made ≡ d.tally.made + 1 → n.tally.counts ≡ plus d.tally.counts (counts_of s.entry) → n.rows.items ≡ d.rows.items → DeskStands n (S ++ s ∷ [])
-stands_same d n S s p lawful still quiet about stop made count rows = stands_on d n S s p lawful still about stop made count (subst (EachBecomes (Goes d.about (entries S) s.entry) d.rows.items) (sym rows) (quiet_each d.about (entries S) s.entry d.rows.items quiet))
+stands_same d n S s p lawful still quiet about stop made count rows = stands_on d n S s p lawful still about stop made count (subst (EachBecomes (RowGoes d.about (entries S) s.entry) d.rows.items) (sym rows) (quiet_each d.about (entries S) s.entry d.rows.items quiet))
 
 -- no entries
 pub stands_none : (d : Desk) → d.stopped_at ≡ None → d.tally.made ≡ 0 → d.tally.counts ≡ no_counts → d.rows.items ≡ [] → DeskStands d []

@@ -182,10 +182,6 @@ said_at a S m o t x i rows after only h all = absurd h
 
 -- all of it, by the place of the holder's row
 
-abbrev pub one_fates : Option ℕ → Fate → List Row → List Fate
-one_fates None x rows = nobody rows
-one_fates (Some i) x rows = somebody i x rows
-
 none_hold : (t : Row → Bool) (rows : List Row) → list_any t rows ≡ false → AllByRecursion (λ y. t y ≡ false) rows
 none_hold t [] none = tt
 none_hold t (r ∷ rows) none = let two = or_parts (t r) (list_any t rows) none in (two.0, none_hold t rows two.1)

@@ -18,15 +18,13 @@ ghost use Rattle.bsc_desk.specs.declared.row.Row.{Row};
 ghost use Rattle.bsc_desk.specs.Rows.{known_of};
 ghost use Rattle.bsc_desk.specs.Standing.{DeskStands};
 ghost use Rattle.bsc_desk.specs.Live.{connection, is_open};
-ghost use Rattle.bsc_desk.specs.Orders.{in_order};
-ghost use Rattle.bsc_desk.specs.Rising.{rises};
-ghost use Rattle.bsc_desk.specs.Directories.{gives_place, live_place};
+ghost use Rattle.bsc_desk.specs.Directories.{gives_place};
 ghost use Rattle.bsc_desk.specs.Choices.{choice_reply, first_reply, IfJoined};
 ghost use Rattle.bsc_desk.specs.Entries.{connect_said, connect_due, connect_adds, connect_entry, connect_stamped, SaysLimit};
 
 use crate::desk::Desk;
 use crate::row::Row;
-use crate::rows::{finish, holds_at, open_place};
+use crate::rows::finish;
 use crate::tally::{NOTHING, one_if};
 use bsc_history::{Connection, Counts, End, Refusal, Worn};
 use bsc_octets::{DeviceId, Identity, Vmac};
@@ -53,17 +51,6 @@ pub enum NoRow {
 pub(crate) enum Choice {
     Refused(Refusal),
     Joined(NewRow),
-}
-
-/// The place of the row of the connection, if it is live.
-fn live_place(rows: &[Row], found: Option<Connection>) -> Option<usize>
-    requires { IsTrue (in_order rises rows.now) }
-    ensures { result ≡ live_place rows.now found }
-{
-    match found {
-        Some(connection) => open_place(rows, connection.number),
-        None => None,
-    }
 }
 
 /// The connection of the row at a place, if there is one.
@@ -155,9 +142,9 @@ impl Desk {
             DeskStands self.new (S ++ connect_adds caller who (inlet_mark inlet) (connect_said result)) }
         ensures about { self.new.about ≡ self.old.about }
         ensures known { (c : ℕ) → known_of self.new c ≡ known_of self.old c }
-        ensures back { IfErr result (λ no. no.1 ≡ inlet) }
+        ensures back { IfErr result (λ (_, back). back ≡ inlet) }
         ensures worn { connect_said result ≡ None → self.new ≡ self.old }
-        ensures limit { IfErr result (λ no. SaysLimit no.0 self.old.about.limits.calls) }
+        ensures limit { IfErr result (λ (why, _). SaysLimit why self.old.about.limits.calls) }
     {
         let calls = self.about.limits.calls;
         if calls <= self.tally.made {
@@ -173,31 +160,6 @@ impl Desk {
                 Ok(row)
             }
         }
-    }
-
-    /// The place of the row of the live connection that holds an address.
-    pub(crate) fn holder_place(&self, v: Vmac) -> Option<usize>
-        ensures { result ≡ position (λ r. is_open r && same_vmac r.connection.who.vmac v) self.now.rows.items }
-    {
-        live_place(self.rows.as_slice(), self.directory.newest_at(v))
-    }
-
-    /// The same, where the hint is that it may be at a place.
-    pub(crate) fn holder_near(&self, v: Vmac, hint: usize) -> Option<usize>
-        ensures { result ≡ position (λ r. is_open r && same_vmac r.connection.who.vmac v) self.now.rows.items }
-    {
-        if holds_at(self.rows.as_slice(), v, hint) {
-            Some(hint)
-        } else {
-            self.holder_place(v)
-        }
-    }
-
-    /// The place of the row of the live connection of a device.
-    fn device_place(&self, device: &DeviceId) -> Option<usize>
-        ensures { result ≡ position (λ r. is_open r && same_device r.connection.who.device device.now) self.now.rows.items }
-    {
-        live_place(self.rows.as_slice(), self.directory.newest_of(device))
     }
 
     /// The live connection that holds an address.

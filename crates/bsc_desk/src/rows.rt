@@ -1,18 +1,20 @@
-//! Finding rows by the number of a connection. Rows stand in the order of their numbers.
+//! Finding rows by the number of a connection, by the address that it holds, and by its device. Rows stand in the order of
+//! their numbers.
 #![tactic(auto)]
 
 ghost use Rattle.std.specs.Prelude.{◌≡◌, ◌≢◌, ◌==◌, ◌&&◌, true, position, find, Some, vec_len, vec_capacity, IsTrue};
 ghost use Rattle.bsc_history.specs.declared.ending.End.TheVariants.{Left};
-ghost use Rattle.bsc_octets.specs.Addresses.{same_vmac};
+ghost use Rattle.bsc_octets.specs.Addresses.{same_device, same_vmac};
 ghost use Rattle.bsc_desk.specs.Orders.{address_of, in_order};
 ghost use Rattle.bsc_desk.specs.Rising.{rises};
 ghost use Rattle.bsc_desk.specs.Changes.{EachBecomes, FinishesIf};
-ghost use Rattle.bsc_desk.specs.Directories.{gives_way, open_place};
+ghost use Rattle.bsc_desk.specs.Directories.{gives_way, live_place, open_place};
 ghost use Rattle.bsc_desk.specs.Live.{end_in, is_open, is_row};
 
+use crate::desk::Desk;
 use crate::row::Row;
-use bsc_history::End;
-use bsc_octets::Vmac;
+use bsc_history::{Connection, End};
+use bsc_octets::{DeviceId, Vmac};
 
 /// Whether the row at a place is that of a connection.
 fn stands_at(rows: &[Row], conn: u64, place: usize) -> bool
@@ -30,7 +32,7 @@ fn is_holder(row: &Row, v: Vmac) -> bool
 }
 
 /// Whether the row at a place is that of the live connection that holds an address.
-pub(crate) fn holds_at(rows: &[Row], v: Vmac, place: usize) -> bool
+fn holds_at(rows: &[Row], v: Vmac, place: usize) -> bool
     requires { IsTrue (in_order (gives_way address_of) rows.now) }
     ensures { IsTrue result → position (λ r. is_open r && same_vmac r.connection.who.vmac v) rows.now ≡ Some place }
 {
@@ -68,7 +70,7 @@ fn searched_place(rows: &[Row], conn: u64) -> Option<usize>
 }
 
 /// The place of the row of a connection that is live.
-pub(crate) fn open_place(rows: &[Row], conn: u64) -> Option<usize>
+fn open_place(rows: &[Row], conn: u64) -> Option<usize>
     requires { IsTrue (in_order rises rows.now) }
     ensures { result ≡ open_place rows.now conn }
 {
@@ -79,6 +81,44 @@ pub(crate) fn open_place(rows: &[Row], conn: u64) -> Option<usize>
             None
         },
         None => None,
+    }
+}
+
+/// The place of the row of the connection, if it is live.
+fn live_place(rows: &[Row], found: Option<Connection>) -> Option<usize>
+    requires { IsTrue (in_order rises rows.now) }
+    ensures { result ≡ live_place rows.now found }
+{
+    match found {
+        Some(connection) => open_place(rows, connection.number),
+        None => None,
+    }
+}
+
+impl Desk {
+    /// The place of the row of the live connection that holds an address.
+    pub(crate) fn holder_place(&self, v: Vmac) -> Option<usize>
+        ensures { result ≡ position (λ r. is_open r && same_vmac r.connection.who.vmac v) self.now.rows.items }
+    {
+        live_place(self.rows.as_slice(), self.directory.newest_at(v))
+    }
+
+    /// The same, where the hint is that it may be at a place.
+    pub(crate) fn holder_near(&self, v: Vmac, hint: usize) -> Option<usize>
+        ensures { result ≡ position (λ r. is_open r && same_vmac r.connection.who.vmac v) self.now.rows.items }
+    {
+        if holds_at(self.rows.as_slice(), v, hint) {
+            Some(hint)
+        } else {
+            self.holder_place(v)
+        }
+    }
+
+    /// The place of the row of the live connection of a device.
+    pub(crate) fn device_place(&self, device: &DeviceId) -> Option<usize>
+        ensures { result ≡ position (λ r. is_open r && same_device r.connection.who.device device.now) self.now.rows.items }
+    {
+        live_place(self.rows.as_slice(), self.directory.newest_of(device))
     }
 }
 

@@ -21,7 +21,7 @@ fn line_in(piece: &[u8]) -> &[u8] {
 
 /// The first line of a text, without its end, and what comes behind it; None of an empty text.
 pub fn next_line(text: &[u8]) -> Option<(&[u8], &[u8])>
-    ensures shorter { IfSome result (λ p. length p.1.now < length text.now) }
+    ensures shorter { IfSome result (λ (_, rest). length rest.now < length text.now) }
 {
     if text.is_empty() {
         return None;

@@ -29,9 +29,9 @@ pub fn word_of<'a>(
     words: &'a [u8],
     form: &'static str,
 ) -> Result<(&'a [u8], &'a [u8]), Diagnostic<'a>>
-    ensures word { IfOk result (λ p. words_of words.now ≡ p.0.now ∷ words_of p.1.now) }
+    ensures word { IfOk result (λ (word, rest). words_of words.now ≡ word.now ∷ words_of rest.now) }
     ensures missing { IsErr result → words_of words.now ≡ [] }
-    ensures shorter { IfOk result (λ p. length p.1.now < length words.now) }
+    ensures shorter { IfOk result (λ (_, rest). length rest.now < length words.now) }
 {
     match next_word(words) {
         Some(found) => Ok(found),

@@ -5,6 +5,9 @@ ghost use Rattle.bsc_edge.specs.Told.{Grows, Stays};
 use bsc_octets::NoMemory;
 use std::alloc::Global;
 
+/// The greatest reading.
+pub(crate) const GREATEST: u64 = (1 << 62) - 1;
+
 /// What tells the time, in milliseconds from some beginning.
 pub trait Clock: Sized {
     ghost use Rattle.std.specs.Prelude.{List, ℕ, Option};

@@ -2,13 +2,10 @@
 ghost use Rattle.std.specs.Prelude.{◌≡◌, ◌<◌, ◌^◌, [], Some, IfOk};
 ghost use Rattle.bsc_edge.specs.Notes.{noted};
 
-use crate::clock::Clock;
+use crate::clock::{Clock, GREATEST};
 use crate::notes::note;
 use bsc_octets::NoMemory;
 use std::alloc::Global;
-
-/// The greatest reading.
-const GREATEST: u64 = (1 << 62) - 1;
 
 /// A clock that gives these readings, and then the last again; 0 where there are none. A reading below the one before
 /// is that one again, and one past the greatest is the greatest. It tells its readings while there is memory for it.

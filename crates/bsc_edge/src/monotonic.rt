@@ -1,13 +1,10 @@
 //! The real clock.
 ghost use Rattle.std.specs.Prelude.{◌≡◌, ◌<◌, ◌^◌, None};
 
-use crate::clock::Clock;
+use crate::clock::{Clock, GREATEST};
 use bsc_octets::NoMemory;
 use std::alloc::Global;
 use std::time;
-
-/// The greatest reading.
-const GREATEST: u64 = (1 << 62) - 1;
 
 /// The monotonic clock of the system.
 #[derive(Drop)]

@@ -43,7 +43,7 @@ pub enum Answer {
 const ACK_PART: usize = 2;
 
 /// How many octets a NAK has before its details.
-const NAK_PART: usize = 7;
+pub const NAK_PART: usize = 7;
 
 /// The BVLC-Result that a payload says.
 pub(crate) fn read_answer(alloc: Global, p: &[u8]) -> Result<Body, FrameFault>

@@ -29,7 +29,7 @@ mod uris;
 mod writing;
 
 pub use advert::Advert;
-pub use answer::Answer;
+pub use answer::{Answer, NAK_PART};
 pub use body::Body;
 pub use check::Check;
 pub use fault::FrameFault;

@@ -8,7 +8,7 @@ use bsc_options::Options;
 /// | octets | field |
 /// |---|---|
 /// | 1 | BVLC function: that of the body |
-/// | 1 | control flags: bit 3, an Originating address follows; bit 2, a Destination address; bit 1, destination options; bit 0, data options; bits 7 to 4 are clear |
+/// | 1 | control flags: bit 3, an Originating address follows; bit 2, a Destination; bit 1, destination options; bit 0, data options; the others are clear |
 /// | 2 | Message ID, the high octet first |
 /// | 0 or 6 | Originating Virtual Address |
 /// | 0 or 6 | Destination Virtual Address |

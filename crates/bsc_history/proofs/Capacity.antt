@@ -19,7 +19,7 @@ use Rattle.bsc_history.proofs.Named.{none_live, live_until_ended}
 use Rattle.bsc_history.proofs.More.{along, sent-more, looked-more}
 
 -- the newest of some looks at c is one of them, or there is none
-newest_of : (c : ℕ) (looks : List Look) (n : ℕ) → ((k : Look) × In k looks × (k.conn ≡ c) × (fold (newer c) n looks ≡ k.taken)) ⊎ ((is_among c (map (λ k. k.conn) looks) ≡ false) × (fold (newer c) n looks ≡ n))
+pub newest_of : (c : ℕ) (looks : List Look) (n : ℕ) → ((k : Look) × In k looks × (k.conn ≡ c) × (fold (newer c) n looks ≡ k.taken)) ⊎ ((is_among c (map (λ k. k.conn) looks) ≡ false) × (fold (newer c) n looks ≡ n))
 newest_of c [] n = inr (refl, refl)
 newest_of c (k ∷ ks) n =
     let Goal = λ (b : Bool). ((l : Look) × In l (k ∷ ks) × (l.conn ≡ c) × (fold (newer c) (cond b k.taken n) ks ≡ l.taken)) ⊎ (((b || is_among c (map (λ l. l.conn) ks)) ≡ false) × (fold (newer c) (cond b k.taken n) ks ≡ n)) in

@@ -1,5 +1,5 @@
 -- What holds of the joined, of the unleft and of the live connections of every legal history.
-use Rattle.std.proofs.Common.{◌≡◌, ◌≢◌, inl, inr, ℕ, ◌+◌, ◌≤◌, ◌==◌, Bool, true, false, not, ◌&&◌, cond, List, [], ◌∷◌, ◌++◌, length, filter, find, Option, Some, None, is_none, MatchOption, option_to_list, refl, ap, sym, ◌∙◌, arith, length-append}
+use Rattle.std.proofs.Common.{◌≡◌, ◌≢◌, inl, inr, ℕ, ◌+◌, ◌≤◌, ◌==◌, Bool, true, false, not, ◌&&◌, cond, List, [], ◌∷◌, ◌++◌, length, filter, find, Option, Some, None, is_none, MatchOption, option_to_list, refl, ap, sym, ◌∙◌, arith, length-append, is_some}
 use Rattle.std.specs.List.{list_any}
 use Rattle.std.specs.Option.{option_or}
 use Rattle.std.proofs.lemmas.Bool.{eq-eqb, eqb-true, both_ways, cases_lt, or_left, or_right, not-false}
@@ -9,7 +9,7 @@ use Rattle.bsc_history.specs.declared.ending.End.{End}
 use Rattle.bsc_history.specs.declared.entry.Entry.{Entry}
 use Rattle.bsc_history.specs.declared.connection.Connection.{Connection}
 use Rattle.bsc_history.specs.Entries.{connection_of, joins, moment}
-use Rattle.bsc_history.specs.Ends.{end_by, end_by_reply, leaves, joined_where, joined, live, unleft, ended}
+use Rattle.bsc_history.specs.Ends.{end_by, end_by_reply, leaves, joined_where, joined, live, unleft, ended, numbered}
 use Rattle.bsc_history.specs.Counting.{counts}
 use Rattle.bsc_history.specs.Outboxes.{vmac_in, vmac_of}
 use Rattle.bsc_history.specs.Legality.{Lawful, Legal}
@@ -18,6 +18,8 @@ use Rattle.bsc_history.proofs.Lists.{In, In-append, In-option, In-filter, find_s
 use Rattle.bsc_history.proofs.More.{along, live-more, unleft-more, joined-more, ended-more, counts-more}
 use Rattle.bsc_history.proofs.Uniqueness.{settled, comes, not_joined}
 use Rattle.bsc_history.proofs.Common.{counts_one, filter_only, leave_ends, none_both, number_is}
+use Rattle.std.proofs.lemmas.List.Folds.{find-append}
+use Rattle.bsc_history.proofs.Parts.{numbered_joined}
 
 In-left : {A : Type 0} (x : A) (xs ys : List A) → In x xs → In x (xs ++ ys)
 In-left x [] ys h = absurd h
@@ -133,3 +135,17 @@ live_unended a H legal = along a (λ G. live G ≡ filter (λ x. is_none (ended 
     ∙ ap (λ (l : List Connection). filter E' (filter L (unleft G)) ++ l) (sym (filter_only E' (connection_of e) new))
     ∙ sym (filter-append E' (filter L (unleft G)) o)
     ∙ ap (filter E') (sym (unleft-more G e))) H legal
+
+-- Of a connection x that joined after G, with a number that nobody had, the address is that of who joined.
+pub new_address : (G : List Entry) (e : Entry) (x : Connection) → connection_of e ≡ Some x → list_any (joins x.number) G ≡ false → vmac_of (G ++ e ∷ []) x.number ≡ x.who.vmac
+new_address G e x new none =
+    let c = x.number in
+    let nobody : (o : Option Connection) → is_some o ≡ false → option_or o (numbered c (x ∷ [])) ≡ Some x = λ o. elim o as (λ o. is_some o ≡ false → option_or o (numbered c (x ∷ [])) ≡ Some x) [
+      | None ↦ λ k. rw (eq-eqb c c refl) refl
+      | Some y ↦ λ k. cc
+    ] in
+    ap vmac_in (
+    ap (numbered c) (joined-more G e ∙ ap (λ (o : Option Connection). joined G ++ option_to_list o) new)
+    ∙ find-append (λ (y : Connection). y.number == c) (joined G) (x ∷ [])
+    ∙ nobody (numbered c (joined G)) (numbered_joined G c ∙ none)
+    )

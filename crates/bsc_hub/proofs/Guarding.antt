@@ -1,5 +1,5 @@
 -- What a caller knows from what its pass has seen, at the guard and after.
-use Rattle.std.proofs.Common.{◌≡◌, ℕ, true, false, List, [], ◌++◌, length, take, Some, refl, ap, sym, ◌∙◌, subst, append-nil}
+use Rattle.std.proofs.Common.{◌≡◌, ℕ, true, false, List, [], ◌++◌, length, take, Some, refl, ap, sym, ◌∙◌, subst, append-nil, ◌≤◌, ◌+◌, arith, length-append}
 use Rattle.std.specs.List.{list_any}
 use Rattle.std.proofs.lemmas.List.{map-append}
 use Rattle.bsc_octets.specs.declared.vmac.Vmac.{Vmac}
@@ -31,6 +31,12 @@ use Rattle.bsc_history.proofs.Common.{length_entries, take_all}
 -- the entries of a history that begins with another
 pub parts : (F H : List Stamped) → (begins : StartsWith H F) → entries H ≡ entries F ++ entries begins.0
 parts F H begins = ap entries begins.1 ∙ map-append (λ (s : Stamped). s.entry) F begins.0
+
+-- a history that begins with another is no shorter
+pub longer : (S T : List Stamped) → StartsWith T S → length (entries S) ≤ length (entries T)
+longer S T begins =
+    let all : length (entries T) ≡ length (entries S) + length (entries begins.0) = ap (λ (l : List Entry). length l) (parts S T begins) ∙ length-append (entries S) (entries begins.0) in
+    omega arith
 
 -- what caller n has by F, it has by H, which begins with F, where none of its entries since is a leave
 pub own_lifted : (a : About) (F H : List Stamped) (n c : ℕ) (own_since : List Entry) → Legal a (entries H) → StartsWith H F → own_of H n ≡ own_of F n ++ own_since → list_any (leaves c) own_since ≡ false → is_of (entries F) n c ≡ true → is_of (entries H) n c ≡ true

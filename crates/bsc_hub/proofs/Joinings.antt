@@ -1,25 +1,22 @@
 -- What a connect that joined gives its caller.
-use Rattle.std.proofs.Common.{◌≡◌, ℕ, ◌==◌, ◌<◌, ◌+◌, true, false, List, [], ◌∷◌, ◌++◌, length, Option, Some, None, is_some, option_to_list, refl, ap, sym, ◌∙◌, subst, arith}
+use Rattle.std.proofs.Common.{◌≡◌, ℕ, ◌<◌, ◌+◌, true, false, List, [], ◌∷◌, ◌++◌, length, Some, refl, ap, sym, ◌∙◌, subst, arith}
 use Rattle.std.specs.Prelude.{IfOk, Result, Ok, Err}
 use Rattle.std.specs.List.{list_any}
-use Rattle.std.specs.Option.{option_or}
 use Rattle.std.proofs.lemmas.Bool.{eq-eqb, both_ways}
-use Rattle.std.proofs.lemmas.List.Folds.{find-append}
 use Rattle.bsc_octets.specs.declared.identity.Identity.{Identity}
 use Rattle.bsc_history.specs.declared.connection.Connection.{Connection}
 use Rattle.bsc_history.specs.declared.entry.Entry.{Entry}
 use Rattle.bsc_history.specs.declared.mark.Stamped.{Stamped}
 use Rattle.bsc_history.specs.declared.reply.Reply.TheVariants.{Joined as JoinedReply}
-use Rattle.bsc_history.specs.Ends.{joined, numbered}
-use Rattle.bsc_history.specs.Entries.{connection_of, joins}
+use Rattle.bsc_history.specs.Ends.{joined}
+use Rattle.bsc_history.specs.Entries.{joins}
 use Rattle.bsc_history.specs.Legality.{Legal, is_of}
 use Rattle.bsc_history.specs.Marks.{entries, mark_of}
-use Rattle.bsc_history.specs.Outboxes.{vmac_in, vmac_of}
+use Rattle.bsc_history.specs.Outboxes.{vmac_of}
 use Rattle.bsc_history.proofs.Fresh.{fresh_joins}
 use Rattle.bsc_history.proofs.Lifting.{join_owned}
 use Rattle.bsc_history.proofs.Marks.{mark_new}
-use Rattle.bsc_history.proofs.More.{Legal-front, entries-more, joined-more}
-use Rattle.bsc_history.proofs.Parts.{numbered_joined}
+use Rattle.bsc_history.proofs.More.{Legal-front, entries-more}
 use Rattle.bsc_history.proofs.Uniqueness.{comes}
 use Rattle.bsc_ring.specs.Ends.{outlet_mark}
 use Rattle.bsc_turn.specs.declared.pass.Pass.{Pass}
@@ -30,20 +27,7 @@ use Rattle.bsc_hub.specs.declared.joined.ConnectRefusal.{ConnectRefusal}
 use Rattle.bsc_hub.specs.declared.joined.Joined.{Joined}
 use Rattle.bsc_hub.specs.Calls.{connect_made}
 use Rattle.bsc_hub.specs.Passing.{IsOwnAs, Passed, about_of}
-
--- Of a connection x that joined after G, with a number that nobody had, the address is that of who joined.
-new_address : (G : List Entry) (e : Entry) (x : Connection) → connection_of e ≡ Some x → list_any (joins x.number) G ≡ false → vmac_of (G ++ e ∷ []) x.number ≡ x.who.vmac
-new_address G e x new none =
-    let c = x.number in
-    let nobody : (o : Option Connection) → is_some o ≡ false → option_or o (numbered c (x ∷ [])) ≡ Some x = λ o. elim o as (λ o. is_some o ≡ false → option_or o (numbered c (x ∷ [])) ≡ Some x) [
-      | None ↦ λ k. rw (eq-eqb c c refl) refl
-      | Some y ↦ λ k. cc
-    ] in
-    ap vmac_in (
-    ap (numbered c) (joined-more G e ∙ ap (λ (o : Option Connection). joined G ++ option_to_list o) new)
-    ∙ find-append (λ (y : Connection). y.number == c) (joined G) (x ∷ [])
-    ∙ nobody (numbered c (joined G)) (numbered_joined G c ∙ none)
-    )
+use Rattle.bsc_history.proofs.Connections.{new_address}
 
 -- The connection is its caller's own under the address that it asked for, and the history keeps the mark of its outlet.
 owns_joined : (h : Hub) (p q : Pass) (who : Identity) (r : Result Joined ConnectRefusal) → Passed h p [] (connect_made (number_of p) who r) q → IfOk r (λ j. IsOwnAs q j.conn who.vmac × (mark_of (seen q) j.conn ≡ Some (outlet_mark j.outlet)))

@@ -30,11 +30,11 @@ impl Hub {
         requires outbox { (2 ≤ limits.outbox) × (limits.outbox ≤ MOST_OUTBOX) }
         requires calls { (1 ≤ limits.calls) × (limits.calls ≤ MOST_CALLS) }
         requires callers { (1 ≤ limits.callers) × (limits.callers ≤ MOST_CALLERS) }
-        ensures pass { IfOk result (λ r. IsCaller r.0 r.1) }
-        ensures new { IfOk result (λ r. (number_of r.1 ≡ 0) × (seen r.1 ≡ []) × (own_list r.1 ≡ [])
-            × (ended_callers r.1 ≡ [])) }
-        ensures fresh { IfOk result (λ r. loads_made r.1 ≡ 0) }
-        ensures about { IfOk result (λ r. about_of r.0 ≡ record { hub = hub; limits = limits }) }
+        ensures pass { IfOk result (λ (hub, pass). IsCaller hub pass) }
+        ensures new { IfOk result (λ (_, pass). (number_of pass ≡ 0) × (seen pass ≡ []) × (own_list pass ≡ [])
+            × (ended_callers pass ≡ [])) }
+        ensures fresh { IfOk result (λ (_, pass). loads_made pass ≡ 0) }
+        ensures about { IfOk result (λ (made, _). about_of made ≡ record { hub = hub; limits = limits }) }
     {
         let about = About { hub, limits };
         let desk = Desk::make(alloc, hub_of(&about), limits_of(&about))?;

@@ -6,14 +6,13 @@ use Rattle.bsc_player.specs.LastLines.{RanOut}
 use Rattle.bsc_edge.specs.declared.fault.LinkFault.{LinkFault}
 use Rattle.bsc_edge.specs.declared.fault.LinkFault.TheVariants.{Failed}
 use Rattle.bsc_edge.specs.Told.{Grows, Stays, ToldIs}
-use Rattle.bsc_session.specs.declared.job.SessionJob.{SessionJob}
-use Rattle.bsc_session.specs.declared.session_end.SessionEnd.{SessionEnd}
 use Rattle.bsc_serve.specs.declared.end.ServeEnd.{ServeEnd}
 use Rattle.bsc_serve.specs.declared.terms.ServeTerms.{ServeTerms}
 use Rattle.bsc_serve.specs.Serving.{Loses, Serving}
 use Rattle.bsc_serve.specs.Terms.{all_terms}
-use Rattle.bsc_serve.specs.Worlds.{ServeWorld}
-use Rattle.bsc_hub_command.specs.Served.{Bound, HasFailed, HubCourse, HubTerms, HubWorld, NotBound, SaysEnd, Titling, Untitled, terms_by, terms_of, with_pass}
+use Rattle.bsc_serve.specs.Worlds.{ServeWorld, served_world}
+use Rattle.bsc_hub_command.specs.Served.{Bound, HasFailed, HubCourse, HubTelling, HubTerms, HubWorld, NotBound, SaysEnd, Titling, Untitled, terms_by, terms_of, with_pass}
+use Rattle.bsc_outside.proofs.Common.{risen_from}
 
 tells_still : {A : Type 0} → (a b : Option A) (x : A) → ToldIs a x → Stays a b → ToldIs b x
 tells_still a None x t s = tt
@@ -32,19 +31,17 @@ grows_from l None (Some n) xs s t = absurd t
 grows_from None (Some m) (Some n) xs s t = absurd s
 grows_from (Some l) (Some m) (Some n) xs s t = t ∙ ap (λ ys. ys ++ xs) s
 
-module _ {L C N : Type 0} (works : SessionJob L C N → SessionEnd → Type 0) (begins : Option (List ℕ) → ℕ → N → Type 0)
-    (held : N → Option (List ℕ)) (unput : N → ℕ) where
+module _ {L C N : Type 0} (tells : HubTelling L C N) where
   pub bound_so : (asked : HubTerms) (k : HubCourse) (titled held' : Option (List ℕ)) (before after : HubWorld L C N) (links : Option (List L))
       (waits : Option (List ℕ)) (told : Option (Option ℕ)) (s : ℕ) (end : ServeEnd) (terms : ServeTerms) (port : ℕ)
       → terms ≡ terms_by asked.settings asked.sessions → port ≡ asked.settings.port → ToldIs told (Some port) → Stays told after.port
       → Stays before.links links → Stays before.waits waits
-      → Serving works begins k.hub (all_terms terms asked.prefix asked.policy) (record (with_pass k.first before) { links = links; waits = waits })
-      (with_pass k.last after) titled held' end
-      → SaysEnd end s before.written after.written → Bound works begins held unput k asked titled held' before after s
+      → Serving tells.works tells.begins (all_terms terms asked.prefix asked.policy) (served_world k.hub titled (record (with_pass k.first before) { links = links; waits = waits })) (served_world k.hub held' (with_pass k.last after)) end
+      → SaysEnd end s before.written after.written → Bound tells k asked titled held' before after s
   bound_so asked k titled held' before after links waits told s end terms port same same_port bound stays left asks serving says =
       let first : ServeWorld L C N = record (with_pass k.first before) { links = links; waits = waits } in
-      let b : Serving works begins k.hub (terms_of asked) first (with_pass k.last after) titled held' end =
-      subst (λ (t : ServeTerms). Serving works begins k.hub (all_terms t asked.prefix asked.policy) first (with_pass k.last after) titled held' end) same serving in
+      let b : Serving tells.works tells.begins (terms_of asked) (served_world k.hub titled first) (served_world k.hub held' (with_pass k.last after)) end =
+      subst (λ (t : ServeTerms). Serving tells.works tells.begins (all_terms t asked.prefix asked.policy) (served_world k.hub titled first) (served_world k.hub held' (with_pass k.last after)) end) same serving in
       record {
         end = end;
         bound = tells_still told after.port (Some asked.settings.port) (subst (λ (n : ℕ). ToldIs told (Some n)) same_port bound) stays;
@@ -55,6 +52,7 @@ module _ {L C N : Type 0} (works : SessionJob L C N → SessionEnd → Type 0) (
           stop = b.stop;
           lost = b.lost;
           cut_last = b.cut_last;
+          hub = b.hub;
           left = loses_from before.links links after.links _ left b.left;
           within = b.within;
           asks = b.asks;
@@ -81,10 +79,6 @@ says_lost s fault before after failed so (inl x) = inl (x.0, so x.1, x.2)
 says_lost s fault before after failed so (inr x) = inr x
 
 -- ---- why the status is 4
-
-pub risen_from : (a b c : ℕ) → a ≤ b → HasRisen b c → HasRisen a c
-risen_from a b c later (inl x) = inl (omega (arith, later, x))
-risen_from a b c later (inr x) = inr x
 
 not_none : (a b : ℕ) → a ≡ 0 → HasRisen a b → b ≢ 0
 not_none a b fresh (inl x) e = omega (arith, fresh, x, e)
@@ -113,9 +107,8 @@ sooner a b c later (inr x) = inr x
 
 -- ---- what became of a hub says nothing of the journals that couldn't be begun
 
-module _ {L C N : Type 0} (works : SessionJob L C N → SessionEnd → Type 0) (begins : Option (List ℕ) → ℕ → N → Type 0)
-    (held : N → Option (List ℕ)) (unput : N → ℕ) (k : HubCourse) (asked : HubTerms) (begun own : N) (before after : HubWorld L C N) (n s : ℕ) where
-  untitled_since : Untitled held unput k begun own (record before { unbegun = n }) after s → Untitled held unput k begun own before after s
+module _ {L C N : Type 0} (tells : HubTelling L C N) (k : HubCourse) (asked : HubTerms) (begun own : N) (before after : HubWorld L C N) (n s : ℕ) where
+  untitled_since : Untitled tells k begun own (record before { unbegun = n }) after s → Untitled tells k begun own before after s
   untitled_since u = record {
     part = u.part;
     untouched = record {
@@ -143,17 +136,17 @@ module _ {L C N : Type 0} (works : SessionJob L C N → SessionEnd → Type 0) (
     says = b.says;
   }
 
-  bound_since : (titled held' : Option (List ℕ)) → Bound works begins held unput k asked titled held' (record before { unbegun = n }) after s
-      → Bound works begins held unput k asked titled held' before after s
+  bound_since : (titled held' : Option (List ℕ)) → Bound tells k asked titled held' (record before { unbegun = n }) after s
+      → Bound tells k asked titled held' before after s
   bound_since titled held' b = record { end = b.end; bound = b.bound; serving = b.serving; says = b.says }
 
   went_since : (titled : Option (List ℕ))
-      → (NotBound k (record before { unbegun = n }) after s × (held own ≡ titled)) ⊎ Bound works begins held unput k asked titled (held own) (record before { unbegun = n }) after s
-      → (NotBound k before after s × (held own ≡ titled)) ⊎ Bound works begins held unput k asked titled (held own) before after s
+      → (NotBound k (record before { unbegun = n }) after s × (tells.held own ≡ titled)) ⊎ Bound tells k asked titled (tells.held own) (record before { unbegun = n }) after s
+      → (NotBound k before after s × (tells.held own ≡ titled)) ⊎ Bound tells k asked titled (tells.held own) before after s
   went_since titled (inl b) = inl (unbound_since b.0, b.1)
-  went_since titled (inr b) = inr (bound_since titled (held own) b)
+  went_since titled (inr b) = inr (bound_since titled (tells.held own) b)
 
-  pub titling_since : Titling works begins held unput k asked begun own (record before { unbegun = n }) after s
-      → Titling works begins held unput k asked begun own before after s
+  pub titling_since : Titling tells k asked begun own (record before { unbegun = n }) after s
+      → Titling tells k asked begun own before after s
   titling_since (inl u) = inl (untitled_since u)
   titling_since (inr t) = inr (t.0, t.1, went_since t.0 t.2)

@@ -1,11 +1,11 @@
 -- The text of a hub is read as that hub.
 use Rattle.std.proofs.Common.{◌≡◌, ℕ, zero, suc, ◌+◌, ◌*◌, ◌/◌, ◌%◌, ◌^◌, ◌<◌, ◌≤◌, ◌==◌, nat_le, nat_lt, Bool, true, false, not, ◌&&◌, cond, List, [], ◌∷◌, ◌++◌, length, slice_index, take, drop, codes, decimal, Some, None, refl, ap, sym, ◌∙◌, subst, append_assoc, arith}
 use Rattle.std.specs.List.{list_all}
-use Rattle.std.proofs.lemmas.Bool.{agree_below_at, and_from, and_parts, both_ways, eqb-true, leb-true, lt-ltb, ltb-true, ne_eqb, or_left}
+use Rattle.std.proofs.lemmas.Bool.{agree_below_at, and_from, and_parts, eqb-true, leb-true, lt-ltb, ltb-true}
 use Rattle.std.proofs.lemmas.List.{get_or_default, length-drop, length-take-le}
 use Rattle.byteorder.specs.Endian.{big_number}
 use Rattle.byteorder.specs.Numbers.{big_from-take}
-use Rattle.hex.specs.Hex.{IsBytes, decode_sized, encode_upper, encode_with, upper_digits}
+use Rattle.hex.specs.Hex.{decode_sized, encode_upper, encode_with, upper_digits}
 use Rattle.hex.proofs.HexLemmas.{IsDigits-upper_digits, decode_pairs-encode_with, length-encode_with}
 use Rattle.hex.proofs.Pairs.{decode_sized-pairs}
 use Rattle.uuid.specs.Text.{byte_of_digits, is_hex_digit, parsed, value_of}
@@ -14,15 +14,16 @@ use Rattle.bsc_octets.specs.declared.identity.Identity.{Identity}
 use Rattle.bsc_octets.specs.Identities.{identity_octets, identity_of}
 use Rattle.bsc_history.specs.declared.limits.About.{About}
 use Rattle.bsc_history.specs.declared.limits.TheConstants.{MOST_CALLERS, MOST_CALLS, MOST_OUTBOX, MOST_ROWS}
-use Rattle.bsc_text.specs.Grammar.{decoded, device_in, is_digit, is_letter, maximum_of_word, number_in, vmac_in}
+use Rattle.bsc_text.specs.Grammar.{decoded, device_in, maximum_of_word, number_in, vmac_in}
 use Rattle.bsc_text.specs.Lines.{in_front}
 use Rattle.bsc_text.specs.Words.{words_of}
 use Rattle.bsc_script.specs.declared.line.Line.TheVariants.{Hub}
 use Rattle.bsc_script.specs.Lines.{hub_line as said_line, hub_of, lies_within, line_of, line_of_words, may_be_hub}
 use Rattle.bsc_journal.specs.Saying.{IsHubLine, IsIdentity, are_octets, is_short}
-use Rattle.bsc_journal.proofs.Loosening.{hex_plain, hex_some, plain}
+use Rattle.bsc_journal.proofs.Loosening.{hex_plain, hex_some, plain, no_space, plain_digits}
 use Rattle.bsc_journal.proofs.Numbers.{digits, number_back, some_digits}
 use Rattle.bsc_hub_command.specs.HubLines.{hub_text}
+use Rattle.bsc_journal.proofs.CallsBack.{bytes}
 
 -- A script may make this hub: its line takes these numbers, and it has the most callers.
 abbrev pub CanBeSaid : About → Type 0
@@ -31,9 +32,6 @@ CanBeSaid a =
     × (a.limits.callers ≡ MOST_CALLERS)
 
 -- ---- words
-
-no_space : (c : ℕ) → plain c ≡ true → (c == 32) ≡ false
-no_space c h = ne_eqb c 32 (λ e. both_ways (plain c) (ap plain e) h)
 
 word_stops : (c : ℕ) (ws : List (List ℕ)) → (c == 32) ≡ false → cond (c == 32) ws ((c ∷ []) ∷ ws) ≡ (c ∷ []) ∷ ws
 word_stops c ws m = ap (λ (b : Bool). cond b ws ((c ∷ []) ∷ ws)) m
@@ -93,11 +91,6 @@ eight_words v u b n r s c hv hu hb hn hr hs hc =
     (front s c hs ∙ ap (λ (ws : List (List ℕ)). s ∷ ws) (only c hc)))))))
 
 -- ---- octets
-
-bytes : (o : List ℕ) → are_octets o ≡ true → IsBytes o
-bytes [] h i = omega arith
-bytes (c ∷ o) h zero = ltb-true c 256 (and_parts (nat_lt c 256) (are_octets o) h).0
-bytes (c ∷ o) h (suc i) = bytes o (and_parts (nat_lt c 256) (are_octets o) h).1 i
 
 octets_take : (n : ℕ) (o : List ℕ) → are_octets o ≡ true → are_octets (take n o) ≡ true
 octets_take zero [] h = refl
@@ -177,12 +170,6 @@ device_back o h long =
     rw (size, all) (ap Some (sym same))
 
 -- ---- numbers
-
-plain_digits : (w : List ℕ) → list_all is_digit w ≡ true → list_all plain w ≡ true
-plain_digits [] h = refl
-plain_digits (c ∷ w) h =
-    let p = and_parts (is_digit c) (list_all is_digit w) h in
-    and_from _ _ (or_left (is_digit c) (is_letter c) p.0) (plain_digits w p.1)
 
 number_word : (n : ℕ) → is_short n ≡ true → IsWord (decimal n)
 number_word n h = (some_digits n h, plain_digits (decimal n) (digits n h))

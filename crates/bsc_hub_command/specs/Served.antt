@@ -12,7 +12,6 @@ use Rattle.bsc_history.specs.declared.told.Told.{Told}
 use Rattle.bsc_turn.specs.declared.pass.Pass.{Pass}
 use Rattle.bsc_turn.specs.Passes.{ended_callers, number_of, own_list, seen}
 use Rattle.bsc_hub.specs.declared.hub.Hub.{Hub}
-use Rattle.bsc_hub.specs.declared.kept.Kept.{Kept}
 use Rattle.bsc_hub.specs.Calls.{stop_made}
 use Rattle.bsc_hub.specs.Passing.{IsCaller, Passed, about_of}
 use Rattle.bsc_edge.specs.Told.{Stays, ToldIs}
@@ -29,9 +28,10 @@ use Rattle.bsc_serve.specs.declared.parts.ServingParts.{ServingParts}
 use Rattle.bsc_serve.specs.declared.terms.ServeTerms.{ServeTerms}
 use Rattle.bsc_serve.specs.Serving.{Serving, StopAnswers}
 use Rattle.bsc_serve.specs.Terms.{Terms, all_terms}
-use Rattle.bsc_serve.specs.Worlds.{ServeWorld}
+use Rattle.bsc_serve.specs.Worlds.{ServeWorld, Stock, served_world}
 use Rattle.bsc_journal.specs.Saying.{IsHubLine}
 use Rattle.bsc_hub_command.specs.declared.asked.HubAsked.{HubAsked}
+use Rattle.bsc_hub_command.specs.declared.place.HubPlace.{HubPlace}
 use Rattle.bsc_hub_command.specs.HubLines.{hub_line, hub_text}
 use Rattle.bsc_hub_command.specs.Lines.{end_text, link_line}
 
@@ -71,22 +71,57 @@ pub record HubWorld (L C N : Type 0) : Type 0 where
   pub unbegun : ℕ
   pub written : Option (List ℕ)
 
+-- What an acceptor tells of itself, each as far as it tells it.
+pub record Door (L : Type 0) : Type 0 where
+  -- the links that it has left
+  pub links : Option (List L)
+  -- the waits that it was asked for
+  pub waits : Option (List ℕ)
+  -- the port that it is bound to
+  pub port : Option (Option ℕ)
+  -- its count of faults
+  pub faults : ℕ
+
+module _ {A L : Type 0} where
+  -- The same of an acceptor, by what tells it.
+  abbrev pub door_by : (A → Option (List L)) → (A → Option (List ℕ)) → (A → Option (Option ℕ)) → (A → ℕ) → A → Door L
+  door_by links waits port faults a = record { links = links a; waits = waits a; port = port a; faults = faults a }
+
+module _ {P L C N : Type 0} where
+  -- What is seen of a spawner, by what tells it.
+  abbrev pub stock_by : (P → Option (List (SessionJob L C N))) → (P → List (SessionJob L C N)) → (P → ℕ) → P → Stock L C N
+  stock_by jobs out unstarted p = record { jobs = jobs p; out = out p; unstarted = unstarted p }
+
 module _ {A C P J L N : Type 0} where
   -- The same of the parts that a hub is served by, as these tell it, and of what was written.
-  abbrev pub world_by : (A → Option (List L)) → (A → Option (List ℕ)) → (A → Option (Option ℕ)) → (A → ℕ)
-      → (P → Option (List (SessionJob L C N))) → (P → List (SessionJob L C N)) → (P → ℕ) → (J → ℕ)
-      → ServingParts A C P J → Option (List ℕ) → HubWorld L C N
-  world_by left waits bound faults jobs out unstarted unbegun parts written = record {
-    links = left parts.acceptor;
-    waits = waits parts.acceptor;
-    port = bound parts.acceptor;
-    faults = faults parts.acceptor;
-    jobs = jobs parts.spawner;
-    out = out parts.spawner;
-    unstarted = unstarted parts.spawner;
+  abbrev pub world_by : (A → Door L) → (P → Stock L C N) → (J → ℕ) → ServingParts A C P J → Option (List ℕ) → HubWorld L C N
+  world_by door stock unbegun parts written = record {
+    links = (door parts.acceptor).links;
+    waits = (door parts.acceptor).waits;
+    port = (door parts.acceptor).port;
+    faults = (door parts.acceptor).faults;
+    jobs = (stock parts.spawner).jobs;
+    out = (stock parts.spawner).out;
+    unstarted = (stock parts.spawner).unstarted;
     unbegun = unbegun parts.journals;
     written = written;
   }
+
+-- What the jobs of sessions and the journals tell of themselves.
+pub record HubTelling (L C N : Type 0) : Type 1 where
+  -- what may be left of a job
+  pub works : SessionJob L C N → SessionEnd → Type 0
+  -- whether a sink is the journal of a prefix and of a pass's number
+  pub begins : Option (List ℕ) → ℕ → N → Type 0
+  -- the octets that a journal holds, as far as it tells them
+  pub held : N → Option (List ℕ)
+  -- a journal's count of faults
+  pub unput : N → ℕ
+
+module _ {L C N : Type 0} where
+  abbrev pub telling : (SessionJob L C N → SessionEnd → Type 0) → (Option (List ℕ) → ℕ → N → Type 0) → (N → Option (List ℕ)) → (N → ℕ)
+      → HubTelling L C N
+  telling works begins held unput = record { works = works; begins = begins; held = held; unput = unput }
 
 -- a sink is there that has failed
 abbrev pub HasFailed : {N : Type 0} → (N → ℕ) → Option N → Type 0
@@ -102,7 +137,12 @@ pub record HubTerms : Type 0 where
 
 -- what a hub is served by, of what the functions of the command hand down
 abbrev pub terms_in : HubAsked → HubTerms
-terms_in asked = record { settings = asked.settings.now; policy = policy_of asked.policy.now; sessions = asked.sessions; prefix = option_map (λ p. p.now) asked.prefix }
+terms_in asked = record {
+  settings = asked.settings.now;
+  policy = policy_of asked.policy.now;
+  sessions = asked.sessions;
+  prefix = option_map (λ p. p.now) asked.prefix;
+}
 
 abbrev pub terms_of : HubTerms → Terms
 terms_of asked = all_terms (terms_by asked.settings asked.sessions) asked.prefix asked.policy
@@ -158,54 +198,52 @@ module _ {L C N : Type 0} where
     pub failed : HasRisen before.faults after.faults
     pub says : EndsWith s 6 before.written after.written link_line
 
-module _ {L C N : Type 0} (held : N → Option (List ℕ)) (unput : N → ℕ) where
+module _ {L C N : Type 0} (tells : HubTelling L C N) where
   -- The first line of the own journal, which was begun as one sink and is another since, wasn't put: the hub was stopped.
   pub record Untitled (k : HubCourse) (begun own : N) (before after : HubWorld L C N) (s : ℕ) : Type 0 where
-    pub part : PutsPrefix (held begun) (held own) (hub_line (about_of k.hub))
+    pub part : PutsPrefix (tells.held begun) (tells.held own) (hub_line (about_of k.hub))
     pub untouched : Untouched before after
     pub stops : StopsAlone k
-    pub says : SaysLost before after (HasRisen (unput begun) (unput own)) s
+    pub says : SaysLost before after (HasRisen (tells.unput begun) (tells.unput own)) s
 
-module _ {L C N : Type 0} (works : SessionJob L C N → SessionEnd → Type 0) (begins : Option (List ℕ) → ℕ → N → Type 0)
-    (held : N → Option (List ℕ)) (unput : N → ℕ) where
-  -- The port of the settings was bound, the hub was served with their limits, turns and policy, where `works` says what may be
-  -- left of a job, and what is written tells how that ended. Its own journal held the first line then, and what serving puts
-  -- into it came behind that.
+  -- The port of the settings was bound, the hub was served with their limits, turns and policy, and what is written tells how
+  -- that ended. Its own journal held the first line then, and what serving puts into it came behind that.
   pub record Bound (k : HubCourse) (asked : HubTerms) (titled held' : Option (List ℕ)) (before after : HubWorld L C N) (s : ℕ) : Type 0 where
     pub end : ServeEnd
     pub bound : ToldIs after.port (Some asked.settings.port)
-    pub serving : Serving works begins k.hub (terms_of asked) (with_pass k.first before) (with_pass k.last after) titled held' end
+    pub serving : Serving tells.works tells.begins (terms_of asked) (served_world k.hub titled (with_pass k.first before))
+        (served_world k.hub held' (with_pass k.last after)) end
     pub says : SaysEnd end s before.written after.written
 
   -- The own journal was begun as one sink and is another since. Its first line wasn't put; or it was, and then the port wasn't
   -- bound, or the hub was served.
   abbrev pub Titling : HubCourse → HubTerms → N → N → HubWorld L C N → HubWorld L C N → ℕ → Type 0
   Titling k asked begun own before after s =
-      Untitled held unput k begun own before after s
-      ⊎ ((titled : Option (List ℕ)) × Appends (held begun) titled (hub_line (about_of k.hub))
-      × ((NotBound k before after s × (held own ≡ titled)) ⊎ Bound k asked titled (held own) before after s))
+      Untitled k begun own before after s
+      ⊎ ((titled : Option (List ℕ)) × Appends (tells.held begun) titled (hub_line (about_of k.hub))
+      × ((NotBound k before after s × (tells.held own ≡ titled)) ⊎ Bound k asked titled (tells.held own) before after s))
 
   -- The own journal was begun, as the journal of this prefix and of the number of the own pass, and it is kept.
   pub record Begun (k : HubCourse) (asked : HubTerms) (kept : Option N) (before after : HubWorld L C N) (s : ℕ) : Type 0 where
     pub begun : N
     pub own : N
-    pub of_pass : begins asked.prefix (number_of k.first) begun
-    pub fresh : unput begun ≡ 0
+    pub of_pass : tells.begins asked.prefix (number_of k.first) begun
+    pub fresh : tells.unput begun ≡ 0
     pub keeps : kept ≡ Some own
     pub went : Titling k asked begun own before after s
 
-  -- A hub of the settings was made, and it and its pass, number 0 at first, with nothing seen, are kept; its own journal couldn't
-  -- be begun, or it was begun, and this is what became of both.
-  pub record HubRuns (asked : HubTerms) (kept : Kept) (own : Option N) (before after : HubWorld L C N) (s : ℕ) : Type 0 where
+  -- A hub of the settings was made, and it and its pass, number 0 at first, with nothing seen, are kept in the place; its own
+  -- journal couldn't be begun, or it was begun and is kept there too, and this is what became of both.
+  pub record HubRuns (asked : HubTerms) (place : HubPlace N) (before after : HubWorld L C N) (s : ℕ) : Type 0 where
     pub hub : Arc Hub Global
     pub first : Pass
     pub last : Pass
-    pub made : kept.hub ≡ Some hub
-    pub keeps : kept.pass ≡ Some last
+    pub made : place.kept.hub ≡ Some hub
+    pub keeps : place.kept.pass ≡ Some last
     pub caller : IsCaller (arc_value hub) first
     pub new : (number_of first ≡ 0) × (seen first ≡ []) × (own_list first ≡ []) × (ended_callers first ≡ [])
     pub about : about_of (arc_value hub) ≡ record { hub = identity_of asked.settings; limits = limits_of asked.settings }
     -- who audits its own journal reads the first line as this hub;
     pub said : IsHubLine (hub_text (about_of (arc_value hub))) (about_of (arc_value hub))
-    pub went : Unbegun (record { hub = arc_value hub; first = first; last = last }) own before after s
-        ⊎ Begun (record { hub = arc_value hub; first = first; last = last }) asked own before after s
+    pub went : Unbegun (record { hub = arc_value hub; first = first; last = last }) place.own before after s
+        ⊎ Begun (record { hub = arc_value hub; first = first; last = last }) asked place.own before after s

@@ -1,12 +1,13 @@
 //! The command over a file of settings.
 ghost use Rattle.std.specs.Prelude.{◌≡◌, ◌≤◌, ◌⊎◌, IfErr, IfOk, None, Option, Some, option_map};
 ghost use Rattle.bsc_outside.specs.Faults.{HasRisen};
+ghost use Rattle.bsc_player.specs.Faults.{RisesIf};
 ghost use Rattle.bsc_player.specs.LastLines.{RanOut};
 ghost use Rattle.bsc_policy.specs.declared.policy.Policy.{Policy as PolicyType};
 ghost use Rattle.bsc_session.specs.Jobs.{Worked, policy_of};
 ghost use Rattle.bsc_settings.specs.declared.hub.HubSettings.{HubSettings as HubSettingsType};
 ghost use Rattle.bsc_hub_command.specs.Lines.{settings_line};
-ghost use Rattle.bsc_hub_command.specs.Served.{HasFailed, HubRuns, HubSays, world_by};
+ghost use Rattle.bsc_hub_command.specs.Served.{HasFailed, HubRuns, HubSays, door_by, stock_by, telling, world_by};
 ghost use Rattle.bsc_hub_command.specs.Settled.{IsSettled, Unsettled};
 
 use crate::asked::HubAsked;
@@ -47,8 +48,8 @@ fn load<K: Sink, F: Files>(
     ensures settled { IfOk result (λ v. IsSettled (F.holds files.old path.now) v.hub (policy_of v.policy) × (K.held sink.new ≡ K.held sink.old)) }
     ensures unsettled { IfErr result (λ s. Unsettled (F.holds files.old path.now) (F.faults files.old) (F.faults files.new) s
         (K.held sink.old) (K.held sink.new)) }
-    ensures read { IfErr result (λ s. s ≡ 3 → HasRisen (F.faults files.old) (F.faults files.new)) }
-    ensures write { IfErr result (λ s. s ≡ 4 → HasRisen (K.faults sink.old) (K.faults sink.new)) }
+    ensures read { IfErr result (λ s. RisesIf s 3 (F.faults files.old) (F.faults files.new)) }
+    ensures write { IfErr result (λ s. RisesIf s 4 (K.faults sink.old) (K.faults sink.new)) }
     ensures other { IfErr result (λ s. (s ≡ 3) ⊎ (s ≡ 4) ⊎ (s ≡ 5) ⊎ (s ≡ 7)) }
     ensures writes_later { K.faults sink.old ≤ K.faults sink.new }
 {
@@ -98,11 +99,11 @@ pub fn run_hub<
     // Once a hub is made, its settings are those of the file, and this is what became of it.
     ensures runs { (hub : _) → place.new.kept.hub ≡ Some hub → (v : HubSettingsType) × (policy : Option PolicyType)
         × IsSettled (F.holds files.old words.entry.path.now) v policy
-        × HubRuns (Worked L.talk L.faults C.readings N.held N.faults) J.begins N.held N.faults
+        × HubRuns (telling (Worked L.talk L.faults C.readings N.held N.faults) J.begins N.held N.faults)
         (record { settings = v; policy = policy; sessions = words.entry.sessions; prefix = option_map (λ p. p.now) words.entry.journal })
-        place.new.kept place.new.own
-        (world_by A.left A.waits A.bound A.faults P.jobs P.out P.faults J.faults parts.old (K.held sink.old))
-        (world_by A.left A.waits A.bound A.faults P.jobs P.out P.faults J.faults parts.new (K.held sink.new)) result }
+        place.new
+        (world_by (door_by A.left A.waits A.bound A.faults) (stock_by P.jobs P.out P.faults) J.faults parts.old (K.held sink.old))
+        (world_by (door_by A.left A.waits A.bound A.faults) (stock_by P.jobs P.out P.faults) J.faults parts.new (K.held sink.new)) result }
 
     // Where none is made, the file wasn't read, its settings were refused, or memory ran out; and nothing was touched but the
     // files and the sink.
@@ -110,10 +111,10 @@ pub fn run_hub<
         Unsettled (F.holds files.old words.entry.path.now) (F.faults files.old) (F.faults files.new)
         result (K.held sink.old) (K.held sink.new) }
     ensures untouched { place.new.kept.hub ≡ None → (place.new ≡ place.old) × (parts.new ≡ parts.old) }
-    ensures read { result ≡ 3 → HasRisen (F.faults files.old) (F.faults files.new) }
+    ensures read { RisesIf result 3 (F.faults files.old) (F.faults files.new) }
     ensures write { result ≡ 4 → HasRisen (K.faults sink.old) (K.faults sink.new)
         ⊎ HasRisen (J.faults parts.old.journals) (J.faults parts.new.journals) ⊎ HasFailed N.faults place.new.own }
-    ensures link { result ≡ 6 → HasRisen (A.faults parts.old.acceptor) (A.faults parts.new.acceptor) }
+    ensures link { RisesIf result 6 (A.faults parts.old.acceptor) (A.faults parts.new.acceptor) }
     ensures statuses { (result ≡ 0) ⊎ (result ≡ 3) ⊎ (result ≡ 4) ⊎ (result ≡ 5) ⊎ (result ≡ 6) ⊎ (result ≡ 7) }
 {
     match load(alloc, words.path, files, sink) {

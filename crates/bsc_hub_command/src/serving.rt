@@ -6,6 +6,7 @@ ghost use Rattle.bsc_outside.specs.Faults.{HasRisen, PutsPrefix};
 ghost use Rattle.bsc_edge.specs.declared.fault.LinkFault.{LinkFault};
 ghost use Rattle.bsc_turn.specs.Passes.{ended_callers, number_of, own_list, seen};
 ghost use Rattle.bsc_hub.specs.Passing.{IsCaller, about_of};
+ghost use Rattle.bsc_player.specs.Faults.{RisesIf};
 ghost use Rattle.bsc_player.specs.LastLines.{RanOut};
 ghost use Rattle.bsc_settings.specs.Parts.{identity_of, limits_of};
 ghost use Rattle.bsc_session.specs.Jobs.{Worked};
@@ -13,7 +14,8 @@ ghost use Rattle.bsc_serve.specs.declared.end.ServeEnd.{ServeEnd};
 ghost use Rattle.bsc_journal.specs.Saying.{IsHubLine};
 ghost use Rattle.bsc_hub_command.specs.HubLines.{hub_line, hub_text};
 ghost use Rattle.bsc_hub_command.specs.Lines.{end_text};
-ghost use Rattle.bsc_hub_command.specs.Served.{Begun, Bound, HasFailed, HubRuns, HubSays, NotBound, SaysEnd, StopsAlone, Titling, Unbegun, terms_by, terms_in, world_by};
+ghost use Rattle.bsc_hub_command.specs.Served.{Begun, Bound, HasFailed, HubRuns, HubSays, NotBound, SaysEnd, StopsAlone, Titling, Unbegun, door_by, stock_by};
+ghost use Rattle.bsc_hub_command.specs.Served.{telling, terms_by, terms_in, world_by};
 
 use crate::asked::HubAsked;
 use crate::made::MadeHub;
@@ -101,12 +103,12 @@ fn about_by(settings: &HubSettings) -> About
 
 /// A hub by its settings, and its first pass.
 fn make_hub(alloc: Global, settings: &HubSettings) -> Result<(Arc<Hub>, Pass), NoMemory>
-    ensures pass { IfOk result (λ r. IsCaller (arc_value r.0) r.1) }
-    ensures new { IfOk result (λ r. (number_of r.1 ≡ 0) × (seen r.1 ≡ []) × (own_list r.1 ≡ [])
-        × (ended_callers r.1 ≡ [])) }
-    ensures about { IfOk result (λ r. about_of (arc_value r.0)
+    ensures pass { IfOk result (λ (hub, pass). IsCaller (arc_value hub) pass) }
+    ensures new { IfOk result (λ (_, pass). (number_of pass ≡ 0) × (seen pass ≡ []) × (own_list pass ≡ [])
+        × (ended_callers pass ≡ [])) }
+    ensures about { IfOk result (λ (hub, _). about_of (arc_value hub)
         ≡ record { hub = identity_of settings.now; limits = limits_of settings.now }) }
-    ensures said { IfOk result (λ r. IsHubLine (hub_text (about_of (arc_value r.0))) (about_of (arc_value r.0))) }
+    ensures said { IfOk result (λ (hub, _). IsHubLine (hub_text (about_of (arc_value hub))) (about_of (arc_value hub))) }
 {
     let who = settings.identity();
     is_identity(&who);
@@ -160,19 +162,19 @@ fn serve_hub<
     requires can { P.can_start parts.old.spawner }
     requires pass { IsCaller (arc_value made.hub.now) pass.old }
     ensures went { (NotBound (record { hub = arc_value made.entry.hub.now; first = pass.old; last = pass.new })
-        (world_by A.left A.waits A.bound A.faults P.jobs P.out P.faults J.faults parts.old (K.held sink.old))
-        (world_by A.left A.waits A.bound A.faults P.jobs P.out P.faults J.faults parts.new (K.held sink.new)) result
+        (world_by (door_by A.left A.waits A.bound A.faults) (stock_by P.jobs P.out P.faults) J.faults parts.old (K.held sink.old))
+        (world_by (door_by A.left A.waits A.bound A.faults) (stock_by P.jobs P.out P.faults) J.faults parts.new (K.held sink.new)) result
         × (N.held own.new ≡ N.held own.old))
-        ⊎ Bound (Worked L.talk L.faults C.readings N.held N.faults) J.begins N.held N.faults
+        ⊎ Bound (telling (Worked L.talk L.faults C.readings N.held N.faults) J.begins N.held N.faults)
         (record { hub = arc_value made.entry.hub.now; first = pass.old; last = pass.new })
         (terms_in asked.entry)
         (N.held own.old) (N.held own.new)
-        (world_by A.left A.waits A.bound A.faults P.jobs P.out P.faults J.faults parts.old (K.held sink.old))
-        (world_by A.left A.waits A.bound A.faults P.jobs P.out P.faults J.faults parts.new (K.held sink.new)) result }
+        (world_by (door_by A.left A.waits A.bound A.faults) (stock_by P.jobs P.out P.faults) J.faults parts.old (K.held sink.old))
+        (world_by (door_by A.left A.waits A.bound A.faults) (stock_by P.jobs P.out P.faults) J.faults parts.new (K.held sink.new)) result }
     ensures write { result ≡ 4 → HasRisen (K.faults sink.old) (K.faults sink.new)
         ⊎ HasRisen (J.faults parts.old.journals) (J.faults parts.new.journals)
         ⊎ HasRisen (N.faults own.old) (N.faults own.new) }
-    ensures link { result ≡ 6 → HasRisen (A.faults parts.old.acceptor) (A.faults parts.new.acceptor) }
+    ensures link { RisesIf result 6 (A.faults parts.old.acceptor) (A.faults parts.new.acceptor) }
     ensures not_read { (result ≡ 0) ⊎ (result ≡ 4) ⊎ (result ≡ 6) ⊎ (result ≡ 7) }
     ensures writes_later { K.faults sink.old ≤ K.faults sink.new }
     ensures links_later { A.faults parts.old.acceptor ≤ A.faults parts.new.acceptor }
@@ -220,16 +222,16 @@ fn serve_titled<
     requires pass { IsCaller (arc_value made.hub.now) pass.old }
     requires about { about_of (arc_value made.hub.now)
         ≡ record { hub = identity_of asked.settings.now; limits = limits_of asked.settings.now } }
-    ensures went { Titling (Worked L.talk L.faults C.readings N.held N.faults) J.begins N.held N.faults
+    ensures went { Titling (telling (Worked L.talk L.faults C.readings N.held N.faults) J.begins N.held N.faults)
         (record { hub = arc_value made.entry.hub.now; first = pass.old; last = pass.new })
         (terms_in asked.entry)
         own.old own.new
-        (world_by A.left A.waits A.bound A.faults P.jobs P.out P.faults J.faults parts.old (K.held sink.old))
-        (world_by A.left A.waits A.bound A.faults P.jobs P.out P.faults J.faults parts.new (K.held sink.new)) result }
+        (world_by (door_by A.left A.waits A.bound A.faults) (stock_by P.jobs P.out P.faults) J.faults parts.old (K.held sink.old))
+        (world_by (door_by A.left A.waits A.bound A.faults) (stock_by P.jobs P.out P.faults) J.faults parts.new (K.held sink.new)) result }
     ensures write { result ≡ 4 → HasRisen (K.faults sink.old) (K.faults sink.new)
         ⊎ HasRisen (J.faults parts.old.journals) (J.faults parts.new.journals)
         ⊎ HasRisen (N.faults own.old) (N.faults own.new) }
-    ensures link { result ≡ 6 → HasRisen (A.faults parts.old.acceptor) (A.faults parts.new.acceptor) }
+    ensures link { RisesIf result 6 (A.faults parts.old.acceptor) (A.faults parts.new.acceptor) }
     ensures not_read { (result ≡ 0) ⊎ (result ≡ 4) ⊎ (result ≡ 6) ⊎ (result ≡ 7) }
     ensures writes_later { K.faults sink.old ≤ K.faults sink.new }
     ensures links_later { A.faults parts.old.acceptor ≤ A.faults parts.new.acceptor }
@@ -269,17 +271,17 @@ fn serve_begun<
         ≡ record { hub = identity_of asked.settings.now; limits = limits_of asked.settings.now } }
     requires own { own.old ≡ None }
     ensures went { Unbegun (record { hub = arc_value made.entry.hub.now; first = pass.old; last = pass.new }) own.new
-        (world_by A.left A.waits A.bound A.faults P.jobs P.out P.faults J.faults parts.old (K.held sink.old))
-        (world_by A.left A.waits A.bound A.faults P.jobs P.out P.faults J.faults parts.new (K.held sink.new)) result
-        ⊎ Begun (Worked L.talk L.faults C.readings N.held N.faults) J.begins N.held N.faults
+        (world_by (door_by A.left A.waits A.bound A.faults) (stock_by P.jobs P.out P.faults) J.faults parts.old (K.held sink.old))
+        (world_by (door_by A.left A.waits A.bound A.faults) (stock_by P.jobs P.out P.faults) J.faults parts.new (K.held sink.new)) result
+        ⊎ Begun (telling (Worked L.talk L.faults C.readings N.held N.faults) J.begins N.held N.faults)
         (record { hub = arc_value made.entry.hub.now; first = pass.old; last = pass.new })
         (terms_in asked.entry)
         own.new
-        (world_by A.left A.waits A.bound A.faults P.jobs P.out P.faults J.faults parts.old (K.held sink.old))
-        (world_by A.left A.waits A.bound A.faults P.jobs P.out P.faults J.faults parts.new (K.held sink.new)) result }
+        (world_by (door_by A.left A.waits A.bound A.faults) (stock_by P.jobs P.out P.faults) J.faults parts.old (K.held sink.old))
+        (world_by (door_by A.left A.waits A.bound A.faults) (stock_by P.jobs P.out P.faults) J.faults parts.new (K.held sink.new)) result }
     ensures write { result ≡ 4 → HasRisen (K.faults sink.old) (K.faults sink.new)
         ⊎ HasRisen (J.faults parts.old.journals) (J.faults parts.new.journals) ⊎ HasFailed N.faults own.new }
-    ensures link { result ≡ 6 → HasRisen (A.faults parts.old.acceptor) (A.faults parts.new.acceptor) }
+    ensures link { RisesIf result 6 (A.faults parts.old.acceptor) (A.faults parts.new.acceptor) }
     ensures not_read { (result ≡ 0) ⊎ (result ≡ 4) ⊎ (result ≡ 6) ⊎ (result ≡ 7) }
     ensures writes_later { K.faults sink.old ≤ K.faults sink.new }
     ensures links_later { A.faults parts.old.acceptor ≤ A.faults parts.new.acceptor }
@@ -326,11 +328,10 @@ pub fn serve<
 
     // Once a hub is made, it, its pass and its journal are kept, and this is what became of it.
     ensures runs { (hub : _) → place.new.kept.hub ≡ Some hub →
-        HubRuns (Worked L.talk L.faults C.readings N.held N.faults) J.begins N.held N.faults
-        (terms_in asked.entry)
-        place.new.kept place.new.own
-        (world_by A.left A.waits A.bound A.faults P.jobs P.out P.faults J.faults parts.old (K.held sink.old))
-        (world_by A.left A.waits A.bound A.faults P.jobs P.out P.faults J.faults parts.new (K.held sink.new)) result }
+        HubRuns (telling (Worked L.talk L.faults C.readings N.held N.faults) J.begins N.held N.faults)
+        (terms_in asked.entry) place.new
+        (world_by (door_by A.left A.waits A.bound A.faults) (stock_by P.jobs P.out P.faults) J.faults parts.old (K.held sink.old))
+        (world_by (door_by A.left A.waits A.bound A.faults) (stock_by P.jobs P.out P.faults) J.faults parts.new (K.held sink.new)) result }
 
     // Where none is made there was no memory, and nothing was touched but the sink.
     ensures unmade { place.new.kept.hub ≡ None → RanOut result (K.held sink.old) (K.held sink.new) }
@@ -339,7 +340,7 @@ pub fn serve<
     // A failed write is told only where the count of the sink or of the journals rose, or where the own journal has failed.
     ensures write { result ≡ 4 → HasRisen (K.faults sink.old) (K.faults sink.new)
         ⊎ HasRisen (J.faults parts.old.journals) (J.faults parts.new.journals) ⊎ HasFailed N.faults place.new.own }
-    ensures link { result ≡ 6 → HasRisen (A.faults parts.old.acceptor) (A.faults parts.new.acceptor) }
+    ensures link { RisesIf result 6 (A.faults parts.old.acceptor) (A.faults parts.new.acceptor) }
     ensures not_read { (result ≡ 0) ⊎ (result ≡ 4) ⊎ (result ≡ 6) ⊎ (result ≡ 7) }
     ensures writes_later { K.faults sink.old ≤ K.faults sink.new }
     ensures links_later { A.faults parts.old.acceptor ≤ A.faults parts.new.acceptor }

@@ -85,7 +85,7 @@ looks_front (k ∷ ks) o h e =
 
 -- ---- octets
 
-bytes : (o : List ℕ) → are_octets o ≡ true → IsBytes o
+pub bytes : (o : List ℕ) → are_octets o ≡ true → IsBytes o
 bytes [] h i = omega arith
 bytes (c ∷ o) h zero = ltb-true c 256 (and_parts (nat_lt c 256) (are_octets o) h).0
 bytes (c ∷ o) h (suc i) = bytes o (and_parts (nat_lt c 256) (are_octets o) h).1 i

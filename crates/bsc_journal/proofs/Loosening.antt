@@ -21,7 +21,7 @@ ends (c ∷ o) = not (plain c)
 
 -- ---- one octet
 
-no_space : (c : ℕ) → plain c ≡ true → (c == 32) ≡ false
+pub no_space : (c : ℕ) → plain c ≡ true → (c == 32) ≡ false
 no_space c h = ne_eqb c 32 (λ e. both_ways (plain c) (ap plain e) h)
 
 stays : (c : ℕ) → plain c ≡ true → loosened c ≡ c
@@ -72,7 +72,7 @@ word_then w x o some h e = ap loose_words (append_assoc w x o) ∙ word_front w 
 
 -- ---- numbers
 
-plain_digits : (w : List ℕ) → list_all is_digit w ≡ true → list_all plain w ≡ true
+pub plain_digits : (w : List ℕ) → list_all is_digit w ≡ true → list_all plain w ≡ true
 plain_digits [] h = refl
 plain_digits (c ∷ w) h =
     let p = and_parts (is_digit c) (list_all is_digit w) h in

@@ -34,7 +34,7 @@ pub read_is : (l : List ℕ) (place : ℕ) (e : Entry) → IsLineOf l place e �
 read_is l place e is = ap read_of is.line ∙ line_back place e is.has
 
 -- the place and the entry of what was read
-abbrev place_in : Option (ℕ × Entry) → ℕ
+abbrev pub place_in : Option (ℕ × Entry) → ℕ
 place_in None = 0
 place_in (Some x) = x.0
 

@@ -17,7 +17,7 @@ use std::alloc::Global;
 
 /// The place and the entry that words say.
 fn read_words(alloc: Global, words: &[u8]) -> Result<(u64, Entry), LineFault>
-    ensures read { IfOk result (λ p. entry_in (words_of words.now) ≡ Some (p.0, p.1)) }
+    ensures read { IfOk result (λ (place, entry). entry_in (words_of words.now) ≡ Some (place, entry)) }
     ensures refused { result ≡ Err LineFault.Refused → entry_in (words_of words.now) ≡ None }
 {
     let Some((place, words)) = number_in(words) else {
@@ -43,7 +43,7 @@ fn read_words(alloc: Global, words: &[u8]) -> Result<(u64, Entry), LineFault>
 /// compared. Memory may run out.
 #[tactic(auto, using(crate::proofs::Found::nothing_loose, crate::proofs::Found::no_line, crate::proofs::Found::other_line))]
 pub fn read_entry(alloc: Global, line: &[u8]) -> Result<Option<(u64, Entry)>, NoMemory>
-    ensures found { IfOk result (λ o. IfSome o (λ p. IsLineOf line.now p.0 p.1)) }
+    ensures found { IfOk result (λ o. IfSome o (λ (place, entry). IsLineOf line.now place entry)) }
     ensures none { result ≡ Ok None → (place : ℕ) (e : EntryOf) → IsLineOf line.now place e → ⊥ }
 {
     let loose = loosen(alloc, line)?;

@@ -47,7 +47,7 @@ fn without_looks(alloc: Global, call: Call, words: &[u8]) -> (Call, Looks, &[u8]
 
 /// A connect, by the words after its name.
 fn read_connect(alloc: Global, words: &[u8]) -> Result<(Call, Looks, &[u8]), LineFault>
-    ensures read { IfOk result (λ p. connect_in (words_of words.now) ≡ Some (read (asked p.0 p.1) (words_of p.2.now))) }
+    ensures read { IfOk result (λ (call, looks, rest). connect_in (words_of words.now) ≡ Some (read (asked call looks) (words_of rest.now))) }
     ensures refused { result ≡ Err LineFault.Refused → connect_in (words_of words.now) ≡ None }
 {
     let (word, rest) = next_word(words).ok_or(LineFault::Refused)?;
@@ -61,7 +61,7 @@ fn read_connect(alloc: Global, words: &[u8]) -> Result<(Call, Looks, &[u8]), Lin
 /// A forward, by the words after its name.
 #[tactic(auto, using(crate::proofs::CallsIn::forward_first, crate::proofs::CallsIn::forward_short, crate::proofs::CallsIn::forward_bad, crate::proofs::CallsIn::forward_all))]
 fn read_forward(alloc: Global, words: &[u8]) -> Result<(Call, Looks, &[u8]), LineFault>
-    ensures read { IfOk result (λ p. forward_in (words_of words.now) ≡ Some (read (asked p.0 p.1) (words_of p.2.now))) }
+    ensures read { IfOk result (λ (call, looks, rest). forward_in (words_of words.now) ≡ Some (read (asked call looks) (words_of rest.now))) }
     ensures refused { result ≡ Err LineFault.Refused → forward_in (words_of words.now) ≡ None }
 {
     let (conn, words) = number_in(words).ok_or(LineFault::Refused)?;
@@ -74,7 +74,7 @@ fn read_forward(alloc: Global, words: &[u8]) -> Result<(Call, Looks, &[u8]), Lin
 
 /// A leave, by the words after its name.
 fn read_leave(alloc: Global, words: &[u8]) -> Result<(Call, Looks, &[u8]), LineFault>
-    ensures read { IfOk result (λ p. leave_in (words_of words.now) ≡ Some (read (asked p.0 p.1) (words_of p.2.now))) }
+    ensures read { IfOk result (λ (call, looks, rest). leave_in (words_of words.now) ≡ Some (read (asked call looks) (words_of rest.now))) }
     ensures refused { result ≡ Err LineFault.Refused → leave_in (words_of words.now) ≡ None }
 {
     let Some((conn, words)) = number_in(words) else {
@@ -96,7 +96,7 @@ fn read_leave(alloc: Global, words: &[u8]) -> Result<(Call, Looks, &[u8]), LineF
 
 /// The call that comes first, its looks, and the words after them.
 pub(crate) fn read_call(alloc: Global, words: &[u8]) -> Result<(Call, Looks, &[u8]), LineFault>
-    ensures read { IfOk result (λ p. call_in (words_of words.now) ≡ Some (read (asked p.0 p.1) (words_of p.2.now))) }
+    ensures read { IfOk result (λ (call, looks, rest). call_in (words_of words.now) ≡ Some (read (asked call looks) (words_of rest.now))) }
     ensures refused { result ≡ Err LineFault.Refused → call_in (words_of words.now) ≡ None }
 {
     let (word, words) = next_word(words).ok_or(LineFault::Refused)?;

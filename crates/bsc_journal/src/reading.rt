@@ -44,8 +44,8 @@ pub(crate) fn after_one(words: &[u8]) -> &[u8]
 pub(crate) fn number_in(words: &[u8]) -> Option<(u64, &[u8])>
     ensures read { MatchOption result
         (number_in (words_of words.now) ≡ None)
-        (λ p. number_in (words_of words.now) ≡ Some (read p.0 (words_of p.1.now))) }
-    ensures shorter { IfSome result (λ p. length p.1.now < length words.now) }
+        (λ (n, rest). number_in (words_of words.now) ≡ Some (read n (words_of rest.now))) }
+    ensures shorter { IfSome result (λ (_, rest). length rest.now < length words.now) }
 {
     let (word, rest) = next_word(words)?;
     Some((read_number(word)?, rest))
@@ -53,7 +53,7 @@ pub(crate) fn number_in(words: &[u8]) -> Option<(u64, &[u8])>
 
 /// The numbers that come first, as many as there are, and the words after them.
 pub(crate) fn numbers_in(alloc: Global, mut words: &[u8]) -> Result<(Vec<u64>, &[u8]), NoMemory>
-    ensures { IfOk result (λ p. numbers_in (words_of words.entry.now) ≡ read p.0.items (words_of p.1.now)) }
+    ensures { IfOk result (λ (numbers, rest). numbers_in (words_of words.entry.now) ≡ read numbers.items (words_of rest.now)) }
 {
     let mut numbers = Vec::new(alloc);
     while let Some((n, rest)) = number_in(words) {

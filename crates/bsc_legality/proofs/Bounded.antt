@@ -1,7 +1,7 @@
 -- The bounds of a state hold after an entry that is accepted, which has a row to join at.
-use Rattle.std.proofs.Common.{◌≡◌, inl, inr, ℕ, suc, ◌+◌, ◌*◌, ◌^◌, ◌<◌, ◌≤◌, ◌==◌, nat_le, nat_lt, Bool, true, false, not, ◌||◌, cond, List, [], ◌∷◌, ◌++◌, length, map, filter, Option, Some, None, is_none, option_to_list, refl, ap, sym, ◌∙◌, subst, arith}
+use Rattle.std.proofs.Common.{◌≡◌, ℕ, suc, ◌+◌, ◌*◌, ◌^◌, ◌<◌, ◌≤◌, ◌==◌, nat_le, nat_lt, Bool, true, false, not, ◌||◌, cond, List, [], ◌∷◌, ◌++◌, length, map, filter, Option, Some, None, is_none, option_to_list, refl, ap, sym, ◌∙◌, subst, arith}
 use Rattle.std.specs.List.{list_all}
-use Rattle.std.proofs.lemmas.Bool.{and_from, and_parts, both_ways, cases_lt, le-leb, leb-true, lt-ltb, ltb-true, ne_eqb}
+use Rattle.std.proofs.lemmas.Bool.{and_from, and_parts, le-leb, leb-true, lt-ltb, ltb-true, ne_eqb}
 use Rattle.bsc_octets.specs.Forwarding.{destination, is_broadcast}
 use Rattle.bsc_history.specs.declared.call.Call.{Call}
 use Rattle.bsc_history.specs.declared.call.Call.TheVariants.{Connect, Forward, Leave, Stop, Count}
@@ -13,7 +13,7 @@ use Rattle.bsc_history.specs.declared.looks.Look.{Look}
 use Rattle.bsc_history.specs.declared.reply.Reply.{Reply}
 use Rattle.bsc_history.specs.declared.reply.Reply.TheVariants.{Joined, Appended, Closed, Skipped, Stopped}
 use Rattle.bsc_history.specs.Counting.{appended_in, counts_of, missed_in, one_if, plus}
-use Rattle.bsc_history.specs.Entries.{connection_of, made_by}
+use Rattle.bsc_history.specs.Entries.{connection_of}
 use Rattle.bsc_history.specs.Ends.{leaves}
 use Rattle.bsc_history.specs.Laws.{is_among, names}
 use Rattle.bsc_history.specs.Replies.{unless_ended}
@@ -251,22 +251,3 @@ new_within n (Some x) = and_from _ _ (le-leb 0 (n + 1) (omega arith)) refl
 
 pub entered_within : (n : ℕ) (e : Entry) (rows : List Row) → list_all (λ r. nat_le r.entered n) rows ≡ true → list_all (λ r. nat_le r.entered (n + 1)) (rows_after e rows) ≡ true
 entered_within n e rows h = all_both (λ r. nat_le r.entered (n + 1)) _ _ (old_within n e rows h) (new_within n (connection_of e))
-
--- ---- who joins has room
-
-joins_below : (c k : ℕ) (p q : Option ℕ) (stopped is_hub : Bool) (held : Option ℕ) (full : Bool) (n : ℕ) → Joined c p ≡ first_reply stopped is_hub held full n (Joined k q) → full ≡ false
-joins_below c k p q true is_hub held full n h = cc
-joins_below c k p q false true held full n h = cc
-joins_below c k p q false false (Some x) full n h = cc
-joins_below c k p q false false None true n h = cc
-joins_below c k p q false false None false n h = refl
-
-below_of : (m n : ℕ) → nat_le m n ≡ false → n < m
-below_of m n h = elim (cases_lt n m) [ inl lt ↦ lt | inr le ↦ absurd (both_ways (nat_le m n) h (le-leb m n le)) ]
-
-room_by : (l : Legality) (looks : List Look) (x : Connection) (caller : ℕ) (call : Call) (r : Reply) → r ≡ due l call looks → made_by caller call r ≡ Some x → length l.rows.items < l.about.limits.rows
-room_by l looks x caller (Connect who) (Joined c p) h new = below_of l.about.limits.rows (length l.rows.items) (joins_below c _ p _ _ _ _ _ _ h)
-room_by l looks x caller call r h new = cc
-
-pub room : (l : Legality) (e : Entry) (x : Connection) → accepts l e ≡ true → connection_of e ≡ Some x → length l.rows.items < l.about.limits.rows
-room l e x h new = room_by l e.looks x e.caller e.call e.reply (accepted l e h).replied new

@@ -1,7 +1,7 @@
 -- Lemmas on lists that the kit lacks.
 use Rattle.bsc_lemmas.proofs.Booleans.{above_zero}
 use Rattle.bsc_lemmas.proofs.Numbers.{below_both}
-use Rattle.bsc_lemmas.proofs.Options.{position_shifted as shifted, some_map, position_later as later}
+use Rattle.bsc_lemmas.proofs.Options.{position_shifted as shifted, some_map, position_later as later, some_none}
 use Rattle.std.proofs.Common.{add-one, ◌≡◌, ◌∷◌, ◌+◌, take, ◌++◌, ◌∙◌, length, [], List, get_or, ◌<◌, ap, ℕ, nat_eq, Option, ◌-◌, MatchOption, Some, refl, false, ◌≢◌, None, true, sym, drop, Bool, cond, filter, not, suc, nat_lt, is_some, ◌||◌, arith, ◌≤◌, slice_get, subst, zero, set, ⊎_elim, inr, ◌⊎◌, inl, find}
 use Rattle.std.proofs.Math.Seq.{take-suc}
 use Rattle.std.proofs.lemmas.Bool.{false≢true, eqb-true, or_parts}
@@ -47,6 +47,19 @@ position-cons p x xs =
       | true ↦ ap (λ (b : Bool). cond b (Some 0) None) (above_zero (length xs))
       | false ↦ ap (λ (b : Bool). cond b (Some (1 + position_or_len p xs)) None) (below_both (position_or_len p xs) (length xs)) ∙ shifted (nat_lt (position_or_len p xs) (length xs)) (position_or_len p xs)
     ]
+
+-- where there is no place, none is found
+pub position-none : {A : Type 0} (p : A → Bool) (xs : List A) → position p xs ≡ None → find p xs ≡ None
+position-none p [] h = refl
+position-none {A} p (x ∷ xs) h = by (p x) refl (position-none p xs)
+  where
+    later : (position p xs ≡ None → find p xs ≡ None) → (o : Option ℕ) → position p xs ≡ o → option_map (λ n. 1 + n) o ≡ None → find p xs ≡ None
+    later rec None e g = rec e
+    later rec (Some n) e g = cc
+
+    by : (b : Bool) → p x ≡ b → (position p xs ≡ None → find p xs ≡ None) → find p (x ∷ xs) ≡ None
+    by true f rec = absurd (some_none 0 (sym (position-cons p x xs ∙ ap (λ (b : Bool). cond b (Some 0) (option_map (λ n. 1 + n) (position p xs))) f) ∙ h))
+    by false f rec = ap (λ (b : Bool). cond b (Some x) (find p xs)) f ∙ later rec (position p xs) refl (sym (position-cons p x xs ∙ ap (λ (b : Bool). cond b (Some 0) (option_map (λ n. 1 + n) (position p xs))) f) ∙ h)
 
 pub position_any : {X : Type 0} (p : X → Bool) (xs : List X) → is_some (position p xs) ≡ list_any p xs
 position_any p [] = refl

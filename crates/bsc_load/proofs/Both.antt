@@ -34,8 +34,8 @@ use Rattle.bsc_load.specs.Workers.{calls, forwards}
 use Rattle.bsc_load.proofs.Addresses.{connections_differ}
 use Rattle.bsc_load.proofs.Calls.{first_forwards, length_forwards}
 use Rattle.bsc_load.proofs.Going.{goes_one, goes_then, holds_by}
-use Rattle.bsc_load.proofs.Unjoined.{longer}
 use Rattle.bsc_history.proofs.Common.{joined-append}
+use Rattle.bsc_hub.proofs.Guarding.{longer}
 
 -- The entry of a connect that joined, and that of a leave.
 abbrev pub join_entry : Pass → Identity → Joined → Entry

@@ -25,9 +25,10 @@ use Rattle.bsc_load.specs.Inner.{AreFirst, CountsIn, HasRun, LoadJoins, LoadWork
 use Rattle.bsc_load.specs.Load.{ShowsCut, Worker, WorksPart, WorksWhole}
 use Rattle.bsc_load.specs.Workers.{IsPart, ShowsShort, octets_taken, within_64_bits}
 use Rattle.bsc_load.proofs.Running.{part_of_whole}
-use Rattle.bsc_load.proofs.Unjoined.{first_later, longer}
+use Rattle.bsc_load.proofs.Unjoined.{first_later}
 use Rattle.bsc_lemmas.proofs.Booleans.{false_true as no_cut}
 use Rattle.bsc_lemmas.proofs.Lists.{all-push as all_push}
+use Rattle.bsc_hub.proofs.Guarding.{longer}
 
 -- what stays of a worker by a longer history
 

@@ -27,7 +27,8 @@ use Rattle.bsc_load.specs.Peers.{receiver, sender}
 use Rattle.bsc_load.specs.Workers.{IsPart, IsWholeWorker, calls, calls_up_to, forwards}
 use Rattle.bsc_load.proofs.Both.{calls_between, goes_between, join_entry, joined_between, leave_entry, length_between}
 use Rattle.bsc_load.proofs.Calls.{first_forwards}
-use Rattle.bsc_load.proofs.Unjoined.{first_later, longer}
+use Rattle.bsc_load.proofs.Unjoined.{first_later}
+use Rattle.bsc_hub.proofs.Guarding.{longer}
 
 -- those that were cut short show it by all of their entries
 more_shows : (h : Hub) (S T : List Stamped) (E : List Entry) (e l : Entry) (cut : Cut) → length (entries S) ≤ length (entries T) → ShowsBy 1002 h S E cut → ShowsBy 1004 h T (e ∷ E ++ l ∷ []) cut

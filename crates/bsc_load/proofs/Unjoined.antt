@@ -1,5 +1,5 @@
 -- A connect that didn't join, and histories that grow.
-use Rattle.std.proofs.Common.{◌≡◌, ◌≢◌, ◌≤◌, ◌+◌, inl, inr, ℕ, true, List, [], ◌∷◌, ◌++◌, length, take, drop, None, Result, Err, refl, ap, sym, ◌∙◌, arith, append_assoc, length-append, take-append-drop}
+use Rattle.std.proofs.Common.{◌≡◌, ◌≢◌, ◌≤◌, ◌+◌, inl, inr, ℕ, true, List, [], ◌∷◌, ◌++◌, length, take, drop, None, Result, Err, refl, ap, sym, ◌∙◌, arith, append_assoc, take-append-drop}
 use Rattle.std.specs.Prelude.{◌⊎◌, nat_le}
 use Rattle.std.proofs.lemmas.Bool.{leb-true}
 use Rattle.std.proofs.Math.Seq.{take-append_seam}
@@ -32,12 +32,6 @@ use Rattle.bsc_load.specs.Peers.{receiver, sender}
 use Rattle.bsc_load.specs.Workers.{calls}
 use Rattle.bsc_load.proofs.Going.{goes_none, goes_one, holds_by}
 use Rattle.bsc_history.proofs.Common.{due_none as worn_where}
-
--- a history that begins with another is no shorter
-pub longer : (S T : List Stamped) → StartsWith T S → length (entries S) ≤ length (entries T)
-longer S T begins =
-    let all : length (entries T) ≡ length (entries S) + length (entries begins.0) = ap (λ (l : List Entry). length l) (parts S T begins) ∙ length-append (entries S) (entries begins.0) in
-    omega arith
 
 -- the first of what entered an outbox are the first by each longer history
 pub first_later : (a : About) (S T : List Stamped) (c : ℕ) (frames : List (List ℕ)) → StartsWith T S → AreFirst a S c frames → AreFirst a T c frames

@@ -35,11 +35,11 @@ fn hub_identity() -> Identity
 
 /// The hub, and its first pass.
 fn make_hub(alloc: Global) -> Result<(Arc<Hub>, Pass), NoMemory>
-    ensures pass { IfOk result (λ r. IsCaller (arc_value r.0) r.1) }
-    ensures new { IfOk result (λ r. (number_of r.1 ≡ 0) × (seen r.1 ≡ []) × (own_list r.1 ≡ [])
-        × (ended_callers r.1 ≡ [])) }
-    ensures fresh { IfOk result (λ r. loads_made r.1 ≡ 0) }
-    ensures about { IfOk result (λ r. about_of (arc_value r.0) ≡ load_about) }
+    ensures pass { IfOk result (λ (hub, pass). IsCaller (arc_value hub) pass) }
+    ensures new { IfOk result (λ (_, pass). (number_of pass ≡ 0) × (seen pass ≡ []) × (own_list pass ≡ [])
+        × (ended_callers pass ≡ [])) }
+    ensures fresh { IfOk result (λ (_, pass). loads_made pass ≡ 0) }
+    ensures about { IfOk result (λ (hub, _). about_of (arc_value hub) ≡ load_about) }
 {
     let limits = Limits {
         rows: ROWS,

@@ -1,6 +1,7 @@
 //! The command.
 ghost use Rattle.std.specs.Prelude.{◌≡◌, ◌≤◌, ◌⊎◌, None, Ok, Some};
 ghost use Rattle.bsc_outside.specs.Faults.{HasRisen};
+ghost use Rattle.bsc_player.specs.Faults.{RisesIf};
 ghost use Rattle.bsc_player.specs.LastLines.{RanOut};
 ghost use Rattle.bsc_load_command.specs.Lines.{SaysLoad};
 ghost use Rattle.bsc_load_command.specs.Loaded.{RunsLoad};
@@ -29,7 +30,7 @@ fn tell_end<K: Sink>(alloc: Global, sink: &mut K, end: LoadEnd) -> u8
 /// Writes what a workload came to, and gives its status.
 fn tell<K: Sink>(alloc: Global, sink: &mut K, end: Result<LoadEnd, LoadStop>) -> u8
     ensures says { SaysLoad end result (K.held sink.old) (K.held sink.new) }
-    ensures write { result ≡ 4 → HasRisen (K.faults sink.old) (K.faults sink.new) }
+    ensures write { RisesIf result 4 (K.faults sink.old) (K.faults sink.new) }
     ensures statuses { (result ≡ 0) ⊎ (result ≡ 4) ⊎ (result ≡ 7) ⊎ (result ≡ 9) }
     ensures later { K.faults sink.old ≤ K.faults sink.new }
 {
@@ -58,7 +59,7 @@ pub fn run_load<R: Threads + Wait + Sync, K: Sink>(
 
     // Where none is made there was no memory.
     ensures unmade { kept.new.hub ≡ None → RanOut result (K.held sink.old) (K.held sink.new) }
-    ensures write { result ≡ 4 → HasRisen (K.faults sink.old) (K.faults sink.new) }
+    ensures write { RisesIf result 4 (K.faults sink.old) (K.faults sink.new) }
     ensures statuses { (result ≡ 0) ⊎ (result ≡ 4) ⊎ (result ≡ 7) ⊎ (result ≡ 9) }
     ensures later { K.faults sink.old ≤ K.faults sink.new }
 {

@@ -1,4 +1,5 @@
 pub mod Asking
+pub mod Batches
 pub mod Courses
 pub mod Fields
 pub mod Lines

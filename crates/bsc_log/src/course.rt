@@ -7,7 +7,9 @@ ghost use Rattle.bsc_log.specs.declared.stage.Stage.{Stage};
 use crate::closing::{event_at, parted};
 use crate::event::{Cause, Event};
 use crate::stage::Stage;
+use crate::told::Told;
 use bsc_octets::{Identity, function};
+use std::time::Duration;
 
 /// What is known of a link so far, by the calls on it.
 #[derive(Clone, Copy, Debug)]
@@ -76,6 +78,27 @@ impl Course {
             who: None,
             received: 0,
             sent: 0,
+        }
+    }
+
+    /// What it tells where this becomes of it at this time.
+    pub(crate) fn tells(&self, since: Duration, event: Event) -> Told
+        ensures since { result.since ≡ since }
+        ensures event { result.event ≡ event }
+        ensures link { result.link ≡ self.now.link }
+        ensures conn { result.conn ≡ self.now.conn }
+        ensures who { result.who ≡ self.now.who }
+        ensures received { result.received ≡ self.now.received }
+        ensures sent { result.sent ≡ self.now.sent }
+    {
+        Told {
+            since,
+            event,
+            link: self.link,
+            conn: self.conn,
+            who: self.who,
+            received: self.received,
+            sent: self.sent,
         }
     }
 

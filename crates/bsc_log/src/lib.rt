@@ -1,13 +1,15 @@
 //! An operator's log: a line on standard error for what becomes of each link of a hub.
 //!
-//! Start at `logged_link`: a `LoggedLink` is a link over another, and tells a line where what is said on it joins, is refused or
-//! ends. `course` has what is known of a link so far, and `closing` what its last call says of it; neither tells anybody.
-//! `logged_acceptor` makes such links of those that arrive, `unlogged_dialer` of those that are dialled, which have no log, and
-//! `logging_of` says whether lines are wanted. Of a line `event` has
-//! what it tells, `line` what stands in it, `writing` its text.
+//! Start at `logged_link`: a `LoggedLink` is a link over another, and tells where what is said on it joins, is refused or ends.
+//! `course` has what is known of a link so far, and `closing` what its last call says of it; neither tells anybody. What a link
+//! tells is a `told`; it waits in `shared`, which all links of a hub have, until it is written with others, as a `batch`.
+//! `logged_acceptor` makes such links of those that arrive, and has what waits written; `unlogged_dialer` makes some of those that
+//! are dialled, which have no log, and `logging_of` says whether lines are wanted. Of a line `event` has what it tells, `line` what
+//! stands in it, `writing` its text.
 #![tactic(auto)]
 
 mod asking;
+mod batch;
 mod closing;
 mod course;
 mod event;
@@ -17,9 +19,11 @@ mod log;
 mod logged_acceptor;
 mod logged_link;
 mod logging;
+mod shared;
 mod stage;
 mod stamp;
 mod takeovers;
+mod told;
 mod unlogged_dialer;
 mod wanted;
 mod words;

@@ -2,54 +2,36 @@
 use crate::asking::asker_in;
 use crate::course::Course;
 use crate::event::Event;
-use crate::line::Line;
-use crate::stamp::stamp_of;
-use crate::takeovers::Takeovers;
+use crate::shared::Shared;
 use bsc_edge::{Incoming, LinkFault};
 use std::alloc::Global;
-use std::io::Eprint;
-use std::sync::Arc;
+use std::sync::{Arc, Wait};
 use std::time::{Clock, Duration};
 
 /// What is told of one link, and what that takes.
 #[derive(Drop)]
 pub(crate) struct Log<R> {
     pub(crate) rt: R,
-    pub(crate) takeovers: Arc<Takeovers>,
+    pub(crate) shared: Arc<Shared>,
     pub(crate) course: Course,
 }
 
-impl<R: Clock + Eprint> Log<R> {
-    /// Writes a line, where there is something to tell. One that can't be written is lost.
-    fn tell(&self, event: Option<Event>) {
-        if let Some(event) = event {
-            let since = self.rt.since_1970().unwrap_or(Duration::ZERO);
-            let Course {
-                link,
-                conn,
-                who,
-                received,
-                sent,
-                ..
-            } = self.course;
-            let line = Line {
-                stamp: stamp_of(since),
-                event,
-                link,
-                conn,
-                who,
-                received,
-                sent,
-            };
-            let _ = self.rt.eprintln(line);
-        }
-    }
-
+impl<R> Log<R> {
     /// Whether its connection is known to have been taken over.
     fn is_taken(&self) -> bool {
         match self.course.conn {
-            Some(conn) => self.takeovers.has(conn),
+            Some(conn) => self.shared.takeovers.has(conn),
             None => false,
+        }
+    }
+}
+
+impl<R: Clock + Wait> Log<R> {
+    /// Tells this, where there is something to tell.
+    fn tell(&self, event: Option<Event>) {
+        if let Some(event) = event {
+            let since = self.rt.since_1970().unwrap_or(Duration::ZERO);
+            self.shared.tell(&self.rt, self.course.tells(since, event));
         }
     }
 
@@ -107,7 +89,7 @@ impl<R: Clock + Eprint> Log<R> {
     /// Something is new for this other connection.
     pub(crate) fn wake(&mut self, conn: u64) {
         if self.course.takes_over() {
-            self.takeovers.note(conn);
+            self.shared.takeovers.note(conn);
             self.tell(Some(Event::TookOver(conn)));
         }
     }

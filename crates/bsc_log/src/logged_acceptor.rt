@@ -9,8 +9,11 @@ use crate::logging::Logging;
 use bsc_edge::{Acceptor, Arrived, Failed, LinkFault};
 use bsc_octets::Vmac;
 use std::alloc::Global;
+use std::sync::Wait;
+use std::time::Clock;
 
-/// An acceptor over another: each link that arrives there is told of, where there is a logging.
+/// An acceptor over another: each link that arrives there is told of, where there is a logging. At each call of `next` it has
+/// what its links told written, where much waits, where some has waited long, and where no link has come.
 #[derive(Drop)]
 pub struct LoggedAcceptor<A, R> {
     acceptor: A,
@@ -52,7 +55,23 @@ fn covered<L, R: Copy>(
     }
 }
 
-impl<L, R: Copy, A: Acceptor<L>> Acceptor<LoggedLink<L, R>> for LoggedAcceptor<A, R> {
+/// Whether a link has come.
+fn brings_link<L>(answer: &Result<Arrived<L>, LinkFault>) -> bool {
+    match answer {
+        Ok(Arrived::Link(_)) => true,
+        Ok(Arrived::Quiet) | Err(_) => false,
+    }
+}
+
+/// Has what links told written, where it is due.
+fn look<R: Clock + Wait>(logging: &Option<Logging<R>>, has_come: bool) {
+    if let Some(logging) = logging {
+        logging.look(has_come);
+    }
+}
+
+impl<L, R: Clock + Wait + Copy, A: Acceptor<L>> Acceptor<LoggedLink<L, R>>
+    for LoggedAcceptor<A, R> {
     ghost faults = { λ a. A.faults a.acceptor };
 
     ghost quiets = { λ a. A.quiets a.acceptor };
@@ -73,6 +92,7 @@ impl<L, R: Copy, A: Acceptor<L>> Acceptor<LoggedLink<L, R>> for LoggedAcceptor<A
         wait_ms: u32,
     ) -> Result<Arrived<LoggedLink<L, R>>, LinkFault> {
         let answer = self.acceptor.next(alloc, wait_ms);
+        look(&self.logging, brings_link(&answer));
         covered(&mut self.logging, answer)
     }
 }

@@ -4,7 +4,7 @@ ghost use Rattle.std.specs.Prelude.{◌≡◌};
 use crate::log::Log;
 use bsc_edge::{Incoming, Link, LinkFault};
 use std::alloc::Global;
-use std::io::Eprint;
+use std::sync::Wait;
 use std::time::Clock;
 
 /// A link over another, of which lines are told where it has a log. It is that other link in all that is said on it.
@@ -24,7 +24,7 @@ impl<L, R> LoggedLink<L, R> {
     }
 }
 
-fn note_given<R: Clock + Eprint>(
+fn note_given<R: Clock + Wait>(
     log: &mut Option<Log<R>>,
     alloc: Global,
     given: &Result<Incoming, LinkFault>,
@@ -34,31 +34,31 @@ fn note_given<R: Clock + Eprint>(
     }
 }
 
-fn note_put<R: Clock + Eprint>(log: &mut Option<Log<R>>, m: &[u8], answer: &Result<(), LinkFault>) {
+fn note_put<R: Clock + Wait>(log: &mut Option<Log<R>>, m: &[u8], answer: &Result<(), LinkFault>) {
     if let Some(log) = log {
         log.put(m, answer);
     }
 }
 
-fn note_closed<R: Clock + Eprint>(log: &mut Option<Log<R>>, code: u16, reason: &str) {
+fn note_closed<R: Clock + Wait>(log: &mut Option<Log<R>>, code: u16, reason: &str) {
     if let Some(log) = log {
         log.closed(code, reason);
     }
 }
 
-fn note_known<R: Clock + Eprint>(log: &mut Option<Log<R>>, conn: u64) {
+fn note_known<R: Clock + Wait>(log: &mut Option<Log<R>>, conn: u64) {
     if let Some(log) = log {
         log.known_as(conn);
     }
 }
 
-fn note_wake<R: Clock + Eprint>(log: &mut Option<Log<R>>, conn: u64) {
+fn note_wake<R: Clock + Wait>(log: &mut Option<Log<R>>, conn: u64) {
     if let Some(log) = log {
         log.wake(conn);
     }
 }
 
-impl<L: Link, R: Clock + Eprint> Link for LoggedLink<L, R> {
+impl<L: Link, R: Clock + Wait> Link for LoggedLink<L, R> {
     ghost faults = { λ l. L.faults l.link };
 
     ghost quiets = { λ l. L.quiets l.link };

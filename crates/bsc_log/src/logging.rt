@@ -1,25 +1,28 @@
 //! What the logs of links share.
 use crate::course::Course;
 use crate::log::Log;
-use crate::takeovers::Takeovers;
+use crate::shared::Shared;
 use bsc_octets::NoMemory;
 use std::alloc::Global;
-use std::sync::Arc;
+use std::io::Stderr;
+use std::sync::{Arc, Wait};
+use std::time::{Clock, Duration};
 
-/// What the logs of the links of a hub share.
+/// What the logs of the links of a hub share. What they told is written at the acceptor's looks, and what waits at the end once the
+/// last of them is gone.
 #[derive(Drop)]
 pub struct Logging<R> {
     rt: R,
-    takeovers: Arc<Takeovers>,
+    shared: Arc<Shared>,
     arrived: u64,
 }
 
 impl<R: Copy> Logging<R> {
-    /// A log of no links yet.
-    pub fn new(rt: R, alloc: Global) -> Result<Logging<R>, NoMemory> {
+    /// A log of no links yet, which is written there.
+    pub fn new(rt: R, stderr: Stderr, alloc: Global) -> Result<Logging<R>, NoMemory> {
         Ok(Logging {
             rt,
-            takeovers: Arc::new(alloc, Takeovers::new(alloc)?)?,
+            shared: Arc::new(alloc, Shared::new(alloc, stderr)?)?,
             arrived: 0,
         })
     }
@@ -27,13 +30,21 @@ impl<R: Copy> Logging<R> {
     /// The log of the next link that arrives. There is none where the share of it can't be counted.
     pub(crate) fn next_log(&mut self) -> Option<Log<R>> {
         self.arrived = self.arrived.saturating_add(1);
-        match Arc::try_clone(&self.takeovers) {
-            Ok(takeovers) => Some(Log {
+        match Arc::try_clone(&self.shared) {
+            Ok(shared) => Some(Log {
                 rt: self.rt,
-                takeovers,
+                shared,
                 course: Course::new(self.arrived),
             }),
             Err(_) => None,
         }
+    }
+}
+
+impl<R: Clock + Wait> Logging<R> {
+    /// The acceptor looks, and a link has come to it or not.
+    pub(crate) fn look(&self, has_come: bool) {
+        let since = self.rt.since_1970().unwrap_or(Duration::ZERO);
+        self.shared.look(&self.rt, since, has_come);
     }
 }

@@ -6,6 +6,7 @@ use crate::logging::Logging;
 use bsc_edge::Kind;
 use std::alloc::Global;
 use std::env::Env;
+use std::io::Stderr;
 
 /// The variable of the environment that asks for a log.
 const NAME: &str = "BSC_LOG";
@@ -19,13 +20,19 @@ fn is_asked_for<R: Env>(rt: &R) -> bool {
     }
 }
 
-/// What the logs of links of this kind share, where the environment asks for them and there is memory: those of a hub have logs.
-pub fn logging_of<R: Env + Copy>(rt: R, alloc: Global, kind: Kind) -> Option<Logging<R>>
+/// What the logs of links of this kind share, where the environment asks for them and there is memory: those of a hub have logs,
+/// which are written to this standard error.
+pub fn logging_of<R: Env + Copy>(
+    rt: R,
+    stderr: Stderr,
+    alloc: Global,
+    kind: Kind,
+) -> Option<Logging<R>>
     ensures node { kind ≡ KindType.Direct → result ≡ None }
 {
     match kind {
         Kind::Hub => if is_asked_for(&rt) {
-            Logging::new(rt, alloc).ok()
+            Logging::new(rt, stderr, alloc).ok()
         } else {
             None
         },

@@ -27,7 +27,7 @@ use Rattle.bsc_node.specs.Events.{follows}
 use Rattle.bsc_node.specs.Node.{goes_on, actions_at}
 use Rattle.bsc_node.specs.Laws.{with_event, draws}
 use Rattle.bsc_node.specs.Conditions.{fits, may_come, brings_word}
-use Rattle.bsc_node.proofs.Following.{goes_on-is}
+use Rattle.bsc_node.proofs.Following.{goes_on-is, brought-one, brought-two}
 use Rattle.bsc_node_laws.proofs.Drawn.{draws_at}
 use Rattle.bsc_node_identity.specs.Naming.{named_by, IsNamedAt}
 use Rattle.bsc_node_identity.specs.Carried.{LeadsTo}
@@ -42,7 +42,6 @@ use Rattle.bsc_node_identity.proofs.Timely.{Timely, may_then}
 use Rattle.bsc_network.specs.NodeEvents.{brings_about}
 use Rattle.bsc_network_laws.specs.Carrying.{is_npdu}
 use Rattle.bsc_network_laws.proofs.Acting.{Among}
-use Rattle.bsc_network_laws.proofs.Timing.{brought-one, brought-two}
 use Rattle.bsc_network_laws.proofs.Events.{among-both}
 use Rattle.bsc_network_laws.proofs.Sent.{IsOfSend, put_is_of_send}
 use Rattle.bsc_lemmas.proofs.Numbers.{small_id}

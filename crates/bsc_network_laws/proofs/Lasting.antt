@@ -8,7 +8,6 @@ use Rattle.bsc_history.specs.declared.call.Call.TheVariants.{Connect}
 use Rattle.bsc_node.specs.declared.link_name.LinkName.{LinkName}
 use Rattle.bsc_node.specs.declared.timed_event.TimedEvent.{TimedEvent}
 use Rattle.bsc_network.specs.declared.world_step.WorldStep.{WorldStep}
-use Rattle.bsc_network.specs.declared.timed_step.TimedStep.{TimedStep}
 use Rattle.bsc_network.specs.declared.way.Way.{Way}
 use Rattle.bsc_network.specs.declared.way.Way.TheVariants.{Up, Down}
 use Rattle.bsc_network.specs.declared.target.Target.{Target}
@@ -22,12 +21,10 @@ use Rattle.bsc_network.specs.Changes.{changed_at, with_found, with_hub, with_nod
 use Rattle.bsc_network.specs.HubCalls.{called}
 use Rattle.bsc_network.specs.NodeSides.{hold_of, puts_on, puts_by, holds}
 use Rattle.bsc_network.specs.Dialling.{dials, new_link}
-use Rattle.bsc_network.specs.Networks.{makes}
 use Rattle.bsc_network.proofs.Places.{get-changed, get-other, got-longer, one_or_two}
 use Rattle.bsc_network_laws.proofs.Moves.{Lets}
 use Rattle.bsc_network_laws.proofs.Acting.{goes_on_in, LetsActs, lets-hears}
 use Rattle.bsc_network_laws.proofs.Sides.{with_call}
-use Rattle.bsc_network_laws.proofs.Stepping.{begun, lets-makes}
 
 -- ---- lists
 
@@ -214,7 +211,3 @@ lets D = record {
     loses = λ w l. lasts-link w l _ (λ x. record { from = refl; to = refl; up = longer-none x.up.put; down = longer-none x.down.put });
   };
 }
-
--- Over a step all that stands grows.
-pub lasts-makes : (w : World) (t : TimedStep) → Lasts w (makes w t)
-lasts-makes w t = lasts-then w (begun w t) (makes w t) (lasts-same w _ refl refl refl) (lets-makes Lasts t (lets t.step) (λ u. lasts-same u _ refl refl refl) w)

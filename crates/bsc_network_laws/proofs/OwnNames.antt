@@ -7,6 +7,7 @@ use Rattle.bsc_octets.specs.declared.identity.Identity.{Identity}
 use Rattle.bsc_octets.specs.declared.vmac.Vmac.{Vmac}
 use Rattle.bsc_octets.specs.Envelopes.{announces_dest}
 use Rattle.bsc_octets.specs.Forwarding.{function_in, flags_in, out}
+use Rattle.bsc_octets.specs.Functions.{is_response}
 use Rattle.bsc_frame.specs.declared.check.Check.{Check}
 use Rattle.bsc_frame.specs.declared.message.Message.{Message}
 use Rattle.bsc_frame.specs.declared.body.Body.{Body}
@@ -28,7 +29,7 @@ use Rattle.bsc_checks.specs.declared.verdict.Verdict.{Verdict}
 use Rattle.bsc_checks.specs.declared.verdict.Verdict.TheVariants.{Pass, Carry as Carried, Silent, Nak}
 use Rattle.bsc_checks.specs.Places.{dest_in, is_to_carry}
 use Rattle.bsc_checks.specs.Table.{code_of, checks_of}
-use Rattle.bsc_checks.specs.PlaceTests.{is_unicast, is_response}
+use Rattle.bsc_checks.specs.PlaceTests.{is_unicast}
 use Rattle.bsc_checks.specs.Failing.{fails}
 use Rattle.bsc_checks.specs.Outcomes.{message_in, answered, refused, accepted, decided, first_failing, outcome_of}
 use Rattle.bsc_accept.specs.declared.start.Start.{Start}

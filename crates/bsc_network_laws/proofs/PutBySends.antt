@@ -35,9 +35,10 @@ use Rattle.bsc_network_laws.specs.Carrying.{Sendings, is_npdu, IsSentBy}
 use Rattle.bsc_network_laws.proofs.Acting.{Among}
 use Rattle.bsc_network_laws.proofs.Moves.{Comes}
 use Rattle.bsc_network_laws.proofs.Sent.{IsOfSend, put_is_of_send}
-use Rattle.bsc_network_laws.proofs.Timing.{brought-one, brought-two, no_word_comes}
+use Rattle.bsc_network_laws.proofs.Timing.{no_word_comes}
 use Rattle.bsc_lemmas.proofs.Numbers.{small_id}
 use Rattle.bsc_node.proofs.Common.{no_word_then}
+use Rattle.bsc_node.proofs.Following.{brought-one, brought-two}
 
 -- ---- the way of a Send
 

@@ -1,6 +1,6 @@
 -- After each step no node awaits a word, and none has met a time that is still to come. So each event that comes to a node is one
 -- that may come, on which the laws of a node stand.
-use Rattle.std.proofs.Common.{◌≡◌, ◌≤◌, ◌<◌, inl, inr, ℕ, Bool, true, false, [], ◌∷◌, ◌++◌, Option, Some, None, refl, ap, sym, subst, ◌∙◌, append_assoc, append-nil}
+use Rattle.std.proofs.Common.{◌≡◌, ◌≤◌, ◌<◌, inl, inr, ℕ, Bool, true, false, [], ◌∷◌, ◌++◌, Option, Some, None, refl, ap, sym, subst, ◌∙◌, append_assoc}
 use Rattle.std.specs.Prelude.{◌^◌, IsTrue, if◌then◌else◌, map, ⊤}
 use Rattle.std.specs.List.{AllByRecursion, list_any}
 use Rattle.bsc_node.specs.declared.node_event.NodeEvent.{NodeEvent}
@@ -11,7 +11,6 @@ use Rattle.bsc_node.specs.Logs.{Made, Log, in_order}
 use Rattle.bsc_node.specs.Laws.{draws}
 use Rattle.bsc_node.specs.Node.{goes_on, actions_at}
 use Rattle.bsc_node.specs.Conditions.{fits, may_come, brings_word}
-use Rattle.bsc_node.proofs.Order.{in_order-brought, in_order-cons}
 use Rattle.bsc_node_laws.proofs.Drawn.{draws_at}
 use Rattle.bsc_node_identity.proofs.Settled.{now_then}
 use Rattle.bsc_node_identity.proofs.Timely.{Timely, may_then, timely-undrawn, timely-settled, timely-later}
@@ -34,14 +33,9 @@ use Rattle.bsc_network_laws.proofs.Acting.{goes_on_in, LetsActs, lets-hears}
 use Rattle.bsc_network_laws.proofs.Stepping.{begun, done, lets-step}
 use Rattle.bsc_node.proofs.Common.{no_word_then}
 use Rattle.std.proofs.lemmas.Option.{same_Some as some_same}
+use Rattle.bsc_node.proofs.Following.{brought-one, brought-two}
 
 -- ---- the log of a node after an event of a step
-
-pub brought-one : (a : Made) (e : TimedEvent) (L : Log) → in_order (goes_on a e ∷ []) L ≡ goes_on a e L
-brought-one a e L = in_order-cons (goes_on a e) [] L ∙ ap (λ lines. goes_on a e L ++ lines) (in_order-brought [] (L ++ goes_on a e L)) ∙ append-nil (goes_on a e L)
-
-pub brought-two : (a : Made) (e r : TimedEvent) (L : Log) → in_order (goes_on a e ∷ goes_on a r ∷ []) L ≡ goes_on a e L ++ goes_on a r (L ++ goes_on a e L)
-brought-two a e r L = in_order-cons (goes_on a e) (goes_on a r ∷ []) L ∙ ap (λ lines. goes_on a e L ++ lines) (brought-one a r (L ++ goes_on a e L))
 
 -- The log is timely after them.
 pub timely-after : (T : ℕ) (a : Made) (L : Log) (e : NodeEvent) → T < 2 ^ 62 → Timely T L → brings_word e ≡ false → fits L e ≡ true → Timely T (L ++ brings_about a (record { now = T; event = e }) L)

@@ -36,12 +36,3 @@ b = codes "node 02000000000B BBBBBBBBBBBBBBBBBBBBBBBBBBBBBBBB"
 -- B, where it accepts direct connections
 abbrev pub b_direct : List ℕ
 b_direct = codes "node 02000000000B BBBBBBBBBBBBBBBBBBBBBBBBBBBBBBBB direct"
-
-abbrev pub c : List ℕ
-c = codes "node 02000000000C CCCCCCCCCCCCCCCCCCCCCCCCCCCCCCCC"
-
-abbrev pub d : List ℕ
-d = codes "node 02000000000D DDDDDDDDDDDDDDDDDDDDDDDDDDDDDDDD"
-
-abbrev pub e : List ℕ
-e = codes "node 02000000000E EEEEEEEEEEEEEEEEEEEEEEEEEEEEEEEE"

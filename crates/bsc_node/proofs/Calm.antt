@@ -7,7 +7,8 @@ use Rattle.bsc_checks.specs.declared.verdict.Verdict.{Verdict}
 use Rattle.bsc_checks.specs.declared.verdict.Verdict.TheVariants.{Nak}
 use Rattle.bsc_checks.specs.Places.{dest_in, is_to_carry}
 use Rattle.bsc_octets.specs.Forwarding.{function_in}
-use Rattle.bsc_checks.specs.PlaceTests.{is_unicast, is_response}
+use Rattle.bsc_octets.specs.Functions.{is_response}
+use Rattle.bsc_checks.specs.PlaceTests.{is_unicast}
 use Rattle.bsc_checks.specs.Failing.{fails}
 use Rattle.bsc_checks.specs.Outcomes.{answered, refused, accepted, decided, first_failing, outcome_of}
 use Rattle.bsc_checks.specs.Table.{code_of, checks_of}

@@ -38,7 +38,7 @@ abbrev pub draws_none : Line → Bool
 draws_none (did action) = not (draws action)
 draws_none m = true
 
-quiet_draws_none_by : (action : Action) → is_quiet_action action ≡ true → not (draws action) ≡ true
+pub quiet_draws_none_by : (action : Action) → is_quiet_action action ≡ true → not (draws action) ≡ true
 quiet_draws_none_by Draw h = h
 quiet_draws_none_by action h = refl
 
@@ -63,7 +63,7 @@ none_drawn (m ∷ lines) h = none_drawn_by m lines (and_left (draws_none m) (lis
 
 -- ---- every event but a message
 
-none-follows : (a : Made) (M : Log) (ev : NodeEvent) → is_came ev ≡ false → ((name : LinkName) → ev ≡ Opened name → was_taken name M ≡ false) → list_all draws_none (follows a ev M) ≡ true
+pub none-follows : (a : Made) (M : Log) (ev : NodeEvent) → is_came ev ≡ false → ((name : LinkName) → ev ≡ Opened name → was_taken name M ≡ false) → list_all draws_none (follows a ev M) ≡ true
 none-follows a M (Came name octets) s o = cc
 none-follows a M (Send dest npdu) s o = pass-sends draws_none messages dest npdu M
 none-follows a M ev s o = pass-follows draws_none quiet_draws_none a M ev refl refl (record { dialled = o; next = λ name k is named uri. refl; dial = λ k free uri. refl; take = λ k free. refl })
@@ -93,7 +93,7 @@ machine_acts true dialled taken name lines = refl
 machine_acts false dialled taken name lines = refl
 
 -- the actions at a message that came: those that follow from the machine's step
-came_acts : (a : Made) (L : Log) (e : TimedEvent) (name : LinkName) (o : List ℕ) → e.event ≡ Came name o → actions_at a L e ≡ filter_map action_of (obeys a name (with_heard a L e name o))
+pub came_acts : (a : Made) (L : Log) (e : TimedEvent) (name : LinkName) (o : List ℕ) → e.event ≡ Came name o → actions_at a L e ≡ filter_map action_of (obeys a name (with_heard a L e name o))
 came_acts a L e name o is =
     ap (filter_map action_of) (goes_on-is a L e)
     ∙ ap (λ (ev : NodeEvent). filter_map action_of (follows a ev (with_event L e))) is

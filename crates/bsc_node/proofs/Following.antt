@@ -14,7 +14,7 @@ use Rattle.bsc_node.specs.declared.node_event.NodeEvent.{NodeEvent}
 use Rattle.bsc_node.specs.declared.node_event.NodeEvent.TheVariants.{Start, Opened, DialFailed, Arrived, Came, CameText, Lost, Tick, Send, Resolve, DirectTo, Solicit, Finish, Random, NoRandom}
 use Rattle.bsc_node.specs.declared.timed_event.TimedEvent.{TimedEvent}
 use Rattle.bsc_node.specs.declared.action.Action.TheVariants.{Dial, Take}
-use Rattle.bsc_node.specs.Logs.{Made, Line, came, did, initiating, Log, now, next_id}
+use Rattle.bsc_node.specs.Logs.{Made, Line, came, did, initiating, Log, now, next_id, in_order}
 use Rattle.bsc_node.specs.Links.{is_there, was_taken, beginning_of, start, initiating_events, opens}
 use Rattle.bsc_node.specs.Ways.{free_slot}
 use Rattle.bsc_node.specs.Ending.{tells_connector, ends, closes_link}
@@ -24,7 +24,7 @@ use Rattle.bsc_node.specs.Events.{obeys, follows, time_passes, is_to_end}
 use Rattle.bsc_node.specs.Node.{goes_on}
 use Rattle.bsc_node.specs.Conditions.{has_opened, awaits_word, brings_word, fits, may_come}
 use Rattle.bsc_node.specs.Laws.{with_event}
-use Rattle.bsc_node.proofs.Order.{in_order-brought}
+use Rattle.bsc_node.proofs.Order.{in_order-brought, in_order-cons}
 use Rattle.bsc_node.proofs.Passing.{pass-weaker}
 use Rattle.bsc_node.proofs.Told.{outcome-initiating}
 use Rattle.bsc_node.proofs.Calm.{is_calm, calm-opened}
@@ -91,3 +91,11 @@ pass-follows test lets a M NoRandom s c l = lets-rule test lets (keeps_vmac a) (
 -- what comes about at an event: the event, and what follows from it
 pub goes_on-is : (a : Made) (L : Log) (e : TimedEvent) → goes_on a e L ≡ came e ∷ follows a e.event (with_event L e)
 goes_on-is a L e = in_order-brought ((λ M. came e ∷ []) ∷ follows a e.event ∷ []) L ∙ ap (λ lines. came e ∷ lines) (append-nil (follows a e.event (with_event L e)))
+
+-- ---- the lines of one event and of two
+
+pub brought-one : (a : Made) (e : TimedEvent) (L : Log) → in_order (goes_on a e ∷ []) L ≡ goes_on a e L
+brought-one a e L = in_order-cons (goes_on a e) [] L ∙ ap (λ lines. goes_on a e L ++ lines) (in_order-brought [] (L ++ goes_on a e L)) ∙ append-nil (goes_on a e L)
+
+pub brought-two : (a : Made) (e r : TimedEvent) (L : Log) → in_order (goes_on a e ∷ goes_on a r ∷ []) L ≡ goes_on a e L ++ goes_on a r (L ++ goes_on a e L)
+brought-two a e r L = in_order-cons (goes_on a e) (goes_on a r ∷ []) L ∙ ap (λ lines. goes_on a e L ++ lines) (brought-one a r (L ++ goes_on a e L))

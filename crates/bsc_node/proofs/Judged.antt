@@ -7,6 +7,7 @@ use Rattle.bsc_octets.specs.Addresses.{same_vmac, zero_vmac, broadcast}
 use Rattle.bsc_octets.specs.Envelopes.{vmac_at}
 use Rattle.bsc_octets.specs.Identities.{identity_of}
 use Rattle.bsc_octets.specs.Forwarding.{function_in}
+use Rattle.bsc_octets.specs.Functions.{is_response}
 use Rattle.bsc_frame.specs.declared.check.Check.{Check}
 use Rattle.bsc_frame.specs.declared.check.Check.TheVariants.{C7, C7b, C8, C9, C10, C10b, C10c, C11, C12, C13}
 use Rattle.bsc_frame.specs.declared.message.Message.{Message}
@@ -18,7 +19,7 @@ use Rattle.bsc_checks.specs.Places.{dest_in, is_to_carry}
 use Rattle.bsc_checks.specs.Table.{code_of, checks_of, head_checks, later_checks}
 use Rattle.bsc_checks.specs.Options.{Found, rest_of, data_options_in}
 use Rattle.bsc_checks.specs.Payloads.{body_in, is_out_of_range, has_unknown_result, has_bad_details, has_bad_uris, has_unknown_status, has_unknown_accepts, has_no_nodes_vmac}
-use Rattle.bsc_checks.specs.PlaceTests.{is_unicast, is_response}
+use Rattle.bsc_checks.specs.PlaceTests.{is_unicast}
 use Rattle.bsc_checks.specs.Failing.{fails, of_payload}
 use Rattle.bsc_checks.specs.Outcomes.{message_in, answered, refused, accepted, decided, first_failing, outcome_of}
 use Rattle.bsc_checks.proofs.Common.{pass_same}

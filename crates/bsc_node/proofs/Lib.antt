@@ -8,6 +8,7 @@ mod WorkedDirect
 pub mod Order
 pub mod Passing
 pub mod Told
+pub mod There
 pub mod Calm
 pub mod Quiet
 pub mod Heard

@@ -24,7 +24,8 @@ use Rattle.bsc_initiate.specs.declared.step.InitStep.TheVariants.{Close as InitC
 use Rattle.bsc_accept.specs.declared.event.Event.{Event}
 use Rattle.bsc_accept.specs.declared.event.Event.TheVariants.{Message as AcceptMessage, Tick as AcceptTick, Finish as AcceptFinish}
 use Rattle.bsc_accept.specs.declared.step.Step.{Step}
-use Rattle.bsc_accept.specs.declared.step.Step.TheVariants.{Ask, Put as AcceptPut, PutClose as AcceptPutClose, Up as AcceptUp, Close as AcceptClose, Nothing as AcceptNothing}
+use Rattle.bsc_accept.specs.declared.step.Step.TheVariants.{Ask, Put as AcceptPut, PutClose as AcceptPutClose}
+use Rattle.bsc_accept.specs.declared.step.Step.TheVariants.{Up as AcceptUp, Close as AcceptClose, Nothing as AcceptNothing}
 use Rattle.bsc_initiate.specs.Messages.{who_accepts}
 use Rattle.bsc_initiate.specs.Past as Initiating
 use Rattle.bsc_initiate.specs.Steps as InitiatingSteps

@@ -1,12 +1,14 @@
 -- The log of a node: what came to it, what it asked of its parts, and what it did, in the order in which it came about,
 -- newest last. All that a node knows is read off its log by looking back.
-use Rattle.std.specs.Prelude.{ℕ, ◌+◌, ◌%◌, ◌==◌, Bool, true, false, not, List, [], ◌∷◌, ◌++◌, drop, length, count_by, fold, slice_index}
+use Rattle.std.specs.Prelude.{ℕ, ◌+◌, ◌%◌, Bool, true, false, not, List, [], ◌∷◌, ◌++◌, drop, length, count_by, fold}
 use Rattle.std.specs.Prelude.{Option, Some, None, unwrap_or}
 use Rattle.std.specs.List.{list_any}
 use Rattle.std.specs.Option.{option_map}
 use Rattle.bsc_octets.specs.declared.vmac.Vmac.{Vmac}
 use Rattle.bsc_octets.specs.declared.identity.Identity.{Identity}
 use Rattle.bsc_octets.specs.Addresses.{random48_of}
+use Rattle.bsc_octets.specs.Forwarding.{function_in}
+use Rattle.bsc_octets.specs.Functions.{is_response}
 use Rattle.bsc_connector.specs.Back.{newest_of}
 use Rattle.bsc_connector.specs.declared.event.HubEvent.{HubEvent}
 use Rattle.bsc_initiate.specs.declared.event.InitEvent.{InitEvent}
@@ -109,14 +111,9 @@ action_of m = None
 abbrev pub now : Log → ℕ
 now L = unwrap_or (option_map (λ (e : TimedEvent). e.now) (newest_of event_of L)) 0
 
--- Whether these octets are a response: a BVLC-Result, an Address-Resolution-ACK, a Connect-Accept, a Disconnect-ACK or a
--- Heartbeat-ACK. A response has the Message ID of what it answers.
-abbrev pub is_response : List ℕ → Bool
-is_response o = list_any (λ function. slice_index o 0 == function) (0x00 ∷ 0x03 ∷ 0x07 ∷ 0x09 ∷ 0x0B ∷ [])
-
--- whether the node put a message of its own, which is numbered
+-- whether the node put a message of its own, which is numbered: no response
 abbrev pub is_numbered : Line → Bool
-is_numbered (did (Put name o)) = not (is_response o)
+is_numbered (did (Put name o)) = not (is_response (function_in o))
 is_numbered m = false
 
 -- The Message ID of the node's next message: its messages are numbered from 1, and after FFFF comes 0000.

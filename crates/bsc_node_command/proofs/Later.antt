@@ -2,6 +2,7 @@
 use Rattle.std.proofs.Common.{◌≤◌, ℕ, List, Option, inl, inr}
 use Rattle.bsc_edge.specs.declared.said.Said.{Said}
 use Rattle.bsc_settings.specs.declared.node.NodeSettings.{NodeSettings}
+use Rattle.bsc_node.specs.declared.node_event.NodeEvent.{NodeEvent}
 use Rattle.bsc_node_command.specs.Settled.{Unread}
 use Rattle.bsc_node_command.specs.Comes.{CommandWorld, NodeWorld, RunsScript}
 use Rattle.bsc_outside.proofs.Common.{risen_from}
@@ -10,17 +11,17 @@ pub unread_from : (f g h s : ℕ) (b b' : Option (List ℕ)) → f ≤ g → Unr
 unread_from f g h s b b' le (inl k) = inl (risen_from f g h le k.0, k.1)
 unread_from f g h s b b' le (inr k) = inr k
 
-module _ {L W : Type 0} (talk : L → Option (List Said)) (gives : W → Option ℕ → W → Type 0) (failed : W → ℕ) where
+module _ {L W : Type 0} (talk : L → Option (List Said)) (drawn : NodeEvent → W → W → Type 0) where
   -- what became of a script that was read by files that had failed no more before
   pub script_from : (v : NodeSettings) (holds : List ℕ → Type 0) (first unread : ℕ) (before : NodeWorld L W) (after : CommandWorld L W) (s : ℕ)
-      → first ≤ unread → RunsScript talk gives failed v holds (record { beside = before; unread = unread }) after s
-      → RunsScript talk gives failed v holds (record { beside = before; unread = first }) after s
+      → first ≤ unread → RunsScript talk drawn v holds (record { beside = before; unread = unread }) after s
+      → RunsScript talk drawn v holds (record { beside = before; unread = first }) after s
   script_from v holds first unread before after s le (inl x) =
       inl (x.0, unread_from first unread after.unread s before.written after.beside.written le x.1)
   script_from v holds first unread before after s le (inr x) = inr x
 
   -- what a file has, it had before
   pub script_of_more : (v : NodeSettings) (holds more : List ℕ → Type 0) (before after : CommandWorld L W) (s : ℕ)
-      → ((o : List ℕ) → holds o → more o) → RunsScript talk gives failed v holds before after s → RunsScript talk gives failed v more before after s
+      → ((o : List ℕ) → holds o → more o) → RunsScript talk drawn v holds before after s → RunsScript talk drawn v more before after s
   script_of_more v holds more before after s stays (inl x) = inl x
   script_of_more v holds more before after s stays (inr x) = inr (x.0, stays x.0 x.1, x.2)

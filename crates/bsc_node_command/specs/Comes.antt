@@ -13,13 +13,14 @@ use Rattle.bsc_node.specs.Logs.{Made, Log}
 use Rattle.bsc_node_core.specs.Node.{NodeAnswers}
 use Rattle.bsc_node_run.specs.declared.due.Due.{Due}
 use Rattle.bsc_node_run.specs.declared.halt.Halt.{Halt}
+use Rattle.bsc_node_run.specs.declared.parts.NodeParts.{NodeParts}
 use Rattle.bsc_node_run.specs.declared.run_end.RunEnd.{RunEnd}
 use Rattle.bsc_node_run.specs.Drawing.{GoesDrawing, at_rest}
 use Rattle.bsc_node_run.specs.Resting.{HasRested}
 use Rattle.bsc_node_run.specs.Running.{Run}
 use Rattle.bsc_node_run.specs.Scripts.{script_of, wish_of}
 use Rattle.bsc_node_run.specs.Stopping.{RunFails}
-use Rattle.bsc_node_run.specs.Worlds.{Admitting, Dialling}
+use Rattle.bsc_node_run.specs.Worlds.{Admitting, Dialling, admitting}
 use Rattle.bsc_node_run.specs.Moments.{outside, run_moment}
 use Rattle.bsc_node_runs.specs.Alone.{NoLinkCame, alone}
 use Rattle.bsc_node_runs.specs.Courses.{GoesAsDefined}
@@ -69,6 +70,42 @@ pub record CommandWorld (L W : Type 0) : Type 0 where
   pub beside : NodeWorld L W
   pub unread : ℕ
 
+-- What there is of an acceptor at a moment: its links and the waits that it was asked for, and the port that it is bound to, as far
+-- as these are told; and its count of faults.
+pub record AcceptorWorld (L : Type 0) : Type 0 where
+  pub door : Admitting L
+  pub port : Option (Option ℕ)
+  pub faults : ℕ
+
+-- that of an acceptor, by what acceptors of its type tell
+abbrev pub acceptor_world : {A L : Type 0} → (A → Option (List L)) → (A → Option (List ℕ)) → (A → Option (Option ℕ)) → (A → ℕ) → A → AcceptorWorld L
+acceptor_world left waits bound faults a = record { door = admitting left waits a; port = bound a; faults = faults a }
+
+-- What there is outside a node that is run by these parts, as those of their types tell it: behind the parts stand what there is of
+-- the acceptor, the readings of the clock, and what was written.
+abbrev pub node_world : {D L V W : Type 0} → (D → Dialling L) → (V → Option (List ℕ)) → NodeParts V W D → AcceptorWorld L
+    → Option (List ℕ) → Option (List ℕ) → NodeWorld L W
+node_world dialled waits parts acceptor readings written = record {
+  dialled = dialled parts.dialer;
+  door = acceptor.door;
+  port = acceptor.port;
+  faults = acceptor.faults;
+  readings = readings;
+  waited = waits parts.waiter;
+  random = parts.random;
+  written = written;
+}
+
+-- What a node is run by: its settings, and the text of its script.
+pub record NodeAsked : Type 0 where
+  pub settings : NodeSettings
+  pub script : List ℕ
+
+-- What the two files of a node may have, as far as that is told: that of its settings, and that of its script.
+pub record NodeFiles : Type 1 where
+  pub settings : List ℕ → Type 0
+  pub script : List ℕ → Type 0
+
 -- An acceptor gave no link, and was asked for none.
 abbrev pub IsUnasked : {L : Type 0} → Admitting L → Admitting L → Type 0
 IsUnasked old new = Stays old.left new.left × Stays old.waits new.waits
@@ -95,7 +132,7 @@ module _ {L W : Type 0} where
   abbrev pub IsUntouched : NodeWorld L W → NodeWorld L W → Type 0
   IsUntouched before after = after ≡ record before { written = after.written }
 
-module _ {L W : Type 0} (talk : L → Option (List Said)) (gives : W → Option ℕ → W → Type 0) (failed : W → ℕ) where
+module _ {L W : Type 0} (talk : L → Option (List Said)) (drawn : NodeEvent → W → W → Type 0) where
   -- A node of the settings to which nothing had come was run, with the lines of the script, and the acceptor is bound by the
   -- settings. A run that came to its end was a whole run of a node as its definition has it: each event that came to it is
   -- one that may come, what was done is what the definition asks for, and each word that the node drew was drawn there. It
@@ -105,44 +142,46 @@ module _ {L W : Type 0} (talk : L → Option (List Said)) (gives : W → Option 
   -- run up to there, with one action more in part. However it ended, there was one wait before each turn: of no time before the
   -- first; and then of 50 ms at most, and no longer than it was, at the turn before, until the next line. What the run wrote stands
   -- before what is written of its end.
-  pub record NodeRan (v : NodeSettings) (script : List ℕ) (before after : NodeWorld L W) (s : ℕ) : Type 0 where
+  pub record NodeRan (asked : NodeAsked) (before after : NodeWorld L W) (s : ℕ) : Type 0 where
     pub lines : List Due
-    pub reads : script_of script ≡ Ok (map wish_of lines)
+    pub reads : script_of asked.script ≡ Ok (map wish_of lines)
     pub last : Log
     pub end : Result RunEnd Halt
     pub door : Admitting L
     pub written : Option (List ℕ)
-    pub bound : IsBoundBy v.direct_port before.port after.port
+    pub bound : IsBoundBy asked.settings.direct_port before.port after.port
     pub unasked : IsUnasked before.door door
-    pub run : IfOk end (λ e. Run (GoesDrawing (GoesAsDefined (made_by v)) gives failed) talk (is_some v.direct_port) e v.turns lines
+    pub run : IfOk end (λ e. Run (GoesDrawing (GoesAsDefined (made_by asked.settings)) drawn) talk (is_some asked.settings.direct_port) e
+        asked.settings.turns lines
         (run_moment (at_rest [] before.random) before.dialled before.written door before.readings)
         (run_moment (at_rest last after.random) after.dialled written after.door after.readings))
-    pub fails : IfErr end (λ halt. RunFails (GoesDrawing (GoesAsDefined (made_by v)) gives failed) talk (is_some v.direct_port) v.turns lines
+    pub fails : IfErr end (λ halt. RunFails (GoesDrawing (GoesAsDefined (made_by asked.settings)) drawn) talk (is_some asked.settings.direct_port)
+        asked.settings.turns lines
         (run_moment (at_rest [] before.random) before.dialled before.written door before.readings)
         (outside after.dialled written after.door after.readings))
     pub said : IfOk end (λ e. IsSaid last before.dialled.calls after.dialled.calls before.written written × EndsAsTold e last)
     pub lonely : IfOk end (λ e. NoLinkCame before.dialled.calls after.dialled.calls door.left after.door.left
-        → (times : List ℕ) × Grows before.readings after.readings times × (last ≡ alone (made_by v) lines times))
+        → (times : List ℕ) × Grows before.readings after.readings times × (last ≡ alone (made_by asked.settings) lines times))
     pub rests : HasRested lines before.readings after.readings before.waited after.waited
     pub says : SaysEnd end s written after.written
 
   -- Either no node was run, nothing was dialled, no link was asked for, the clock wasn't read, nothing was waited for and no word
   -- was drawn; or a node was run.
-  abbrev pub Comes : NodeSettings → List ℕ → NodeWorld L W → NodeWorld L W → ℕ → Type 0
-  Comes v script before after s =
-      (IsIdle before after × NotRun v script before after s) ⊎ NodeRan v script before after s
+  abbrev pub Comes : NodeAsked → NodeWorld L W → NodeWorld L W → ℕ → Type 0
+  Comes asked before after s =
+      (IsIdle before after × NotRun asked.settings asked.script before after s) ⊎ NodeRan asked before after s
 
   -- Either the script wasn't read, and nothing was touched; or a node of these settings came to this by the script that the
   -- file has.
   abbrev pub RunsScript : NodeSettings → (List ℕ → Type 0) → CommandWorld L W → CommandWorld L W → ℕ → Type 0
   RunsScript v holds before after s =
       (IsUntouched before.beside after.beside × Unread before.unread after.unread s before.beside.written after.beside.written)
-      ⊎ ((script : List ℕ) × holds script × Comes v script before.beside after.beside s)
+      ⊎ ((script : List ℕ) × holds script × Comes (record { settings = v; script = script }) before.beside after.beside s)
 
-  -- Either there are no settings of a node in the file, and nothing was touched; or this became of the node of them, by the
-  -- script in the other file, of which `scripted` says what it has.
-  abbrev pub RunsFiles : (List ℕ → Type 0) → (List ℕ → Type 0) → CommandWorld L W → CommandWorld L W → ℕ → Type 0
-  RunsFiles settled scripted before after s =
+  -- Either there are no settings of a node in their file, and nothing was touched; or this became of the node of them, by the
+  -- script in the other file.
+  abbrev pub RunsFiles : NodeFiles → CommandWorld L W → CommandWorld L W → ℕ → Type 0
+  RunsFiles files before after s =
       (IsUntouched before.beside after.beside
-      × Unsettled settled before.unread after.unread s before.beside.written after.beside.written)
-      ⊎ ((v : NodeSettings) × IsSettled settled v × RunsScript v scripted before after s)
+      × Unsettled files.settings before.unread after.unread s before.beside.written after.beside.written)
+      ⊎ ((v : NodeSettings) × IsSettled files.settings v × RunsScript v files.script before after s)

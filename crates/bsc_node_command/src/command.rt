@@ -1,13 +1,15 @@
 //! The command over files of settings and of the script.
 ghost use Rattle.std.specs.Prelude.{◌≡◌, ◌≤◌, ◌⊎◌, map, Ok, IfErr, IfOk, List, ℕ};
 ghost use Rattle.bsc_outside.specs.Faults.{HasRisen};
+ghost use Rattle.bsc_player.specs.Faults.{RisesIf};
 ghost use Rattle.bsc_node_run.specs.declared.due.Due.{Due};
+ghost use Rattle.bsc_node_run.specs.Drawing.{Draws};
 ghost use Rattle.bsc_node_run.specs.Scripts.{script_of, wish_of};
-ghost use Rattle.bsc_node_run.specs.Worlds.{admitting, dialling};
+ghost use Rattle.bsc_node_run.specs.Worlds.{dialling};
 ghost use Rattle.bsc_node_runs.specs.Courses.{FinishCame};
 ghost use Rattle.bsc_node_command.specs.Lines.{NodeSays, settings_line};
 ghost use Rattle.bsc_node_command.specs.Settled.{IsSettled, Unread, Unsettled};
-ghost use Rattle.bsc_node_command.specs.Comes.{Comes, RunsScript, RunsFiles};
+ghost use Rattle.bsc_node_command.specs.Comes.{RunsFiles, RunsScript, acceptor_world, node_world};
 
 use crate::here::Here;
 use crate::playing::run_node;
@@ -43,8 +45,8 @@ fn load<K: Sink, F: Files>(
 ) -> Result<Octets, u8>
     ensures given { IfOk result (λ o. F.holds files.old path.now o × (K.held sink.new ≡ K.held sink.old)) }
     ensures unread { IfErr result (λ s. Unread (F.faults files.old) (F.faults files.new) s (K.held sink.old) (K.held sink.new)) }
-    ensures read { IfErr result (λ s. s ≡ 3 → HasRisen (F.faults files.old) (F.faults files.new)) }
-    ensures write { IfErr result (λ s. s ≡ 4 → HasRisen (K.faults sink.old) (K.faults sink.new)) }
+    ensures read { IfErr result (λ s. RisesIf s 3 (F.faults files.old) (F.faults files.new)) }
+    ensures write { IfErr result (λ s. RisesIf s 4 (K.faults sink.old) (K.faults sink.new)) }
     ensures other { IfErr result (λ s. (s ≡ 3) ⊎ (s ≡ 4) ⊎ (s ≡ 7)) }
     ensures reads_later { F.faults files.old ≤ F.faults files.new }
     ensures writes_later { K.faults sink.old ≤ K.faults sink.new }
@@ -67,8 +69,8 @@ fn load_settings<K: Sink, F: Files>(
     ensures stays { (other o : List ℕ) → F.holds files.new other o → F.holds files.old other o }
     ensures unsettled { IfErr result (λ s. Unsettled (F.holds files.old path.now) (F.faults files.old) (F.faults files.new) s
         (K.held sink.old) (K.held sink.new)) }
-    ensures read { IfErr result (λ s. s ≡ 3 → HasRisen (F.faults files.old) (F.faults files.new)) }
-    ensures write { IfErr result (λ s. s ≡ 4 → HasRisen (K.faults sink.old) (K.faults sink.new)) }
+    ensures read { IfErr result (λ s. RisesIf s 3 (F.faults files.old) (F.faults files.new)) }
+    ensures write { IfErr result (λ s. RisesIf s 4 (K.faults sink.old) (K.faults sink.new)) }
     ensures other { IfErr result (λ s. (s ≡ 3) ⊎ (s ≡ 4) ⊎ (s ≡ 5) ⊎ (s ≡ 7)) }
     ensures reads_later { F.faults files.old ≤ F.faults files.new }
     ensures writes_later { K.faults sink.old ≤ K.faults sink.new }
@@ -115,36 +117,20 @@ fn run_script<
     acceptor: &mut A,
     parts: &mut NodeParts<V, W, D>,
 ) -> u8
-    ensures runs { RunsScript L.talk W.gives W.faults here.entry.settings.now (F.holds files.old path.now)
+    ensures runs { RunsScript L.talk (Draws W.gives W.faults) here.entry.settings.now (F.holds files.old path.now)
         (record {
           unread = F.faults files.old;
-          beside = record {
-            dialled = dialling D.calls D.left D.faults parts.old.dialer;
-            door = admitting A.left A.waits acceptor.old;
-            port = A.bound acceptor.old;
-            faults = A.faults acceptor.old;
-            readings = C.readings clock.old;
-            waited = V.waits parts.old.waiter;
-            random = parts.old.random;
-            written = K.held sink.old;
-          };
+          beside = node_world (dialling D.calls D.left D.faults) V.waits parts.old
+              (acceptor_world A.left A.waits A.bound A.faults acceptor.old) (C.readings clock.old) (K.held sink.old);
         })
         (record {
           unread = F.faults files.new;
-          beside = record {
-            dialled = dialling D.calls D.left D.faults parts.new.dialer;
-            door = admitting A.left A.waits acceptor.new;
-            port = A.bound acceptor.new;
-            faults = A.faults acceptor.new;
-            readings = C.readings clock.new;
-            waited = V.waits parts.new.waiter;
-            random = parts.new.random;
-            written = K.held sink.new;
-          };
+          beside = node_world (dialling D.calls D.left D.faults) V.waits parts.new
+              (acceptor_world A.left A.waits A.bound A.faults acceptor.new) (C.readings clock.new) (K.held sink.new);
         }) result }
-    ensures read { result ≡ 3 → HasRisen (F.faults files.old) (F.faults files.new) }
-    ensures write { result ≡ 4 → HasRisen (K.faults sink.old) (K.faults sink.new) }
-    ensures link { result ≡ 6 → HasRisen (A.faults acceptor.old) (A.faults acceptor.new) }
+    ensures read { RisesIf result 3 (F.faults files.old) (F.faults files.new) }
+    ensures write { RisesIf result 4 (K.faults sink.old) (K.faults sink.new) }
+    ensures link { RisesIf result 6 (A.faults acceptor.old) (A.faults acceptor.new) }
     ensures statuses { (result ≡ 0) ⊎ (result ≡ 2) ⊎ (result ≡ 3) ⊎ (result ≡ 4) ⊎ (result ≡ 6) ⊎ (result ≡ 7) ⊎ (result ≡ 8) }
     ensures later { K.faults sink.old ≤ K.faults sink.new }
 {
@@ -182,41 +168,25 @@ pub fn run_node_files<
     parts: &mut NodeParts<V, W, D>,
 ) -> u8
     // The file of settings wasn't read or was refused; or a node of them was run by the script, where that was read.
-    ensures runs { RunsFiles L.talk W.gives W.faults
-        (F.holds files.old words.entry.path.now) (F.holds files.old words.entry.script.now)
+    ensures runs { RunsFiles L.talk (Draws W.gives W.faults)
+        (record { settings = F.holds files.old words.entry.path.now; script = F.holds files.old words.entry.script.now })
         (record {
           unread = F.faults files.old;
-          beside = record {
-            dialled = dialling D.calls D.left D.faults parts.old.dialer;
-            door = admitting A.left A.waits acceptor.old;
-            port = A.bound acceptor.old;
-            faults = A.faults acceptor.old;
-            readings = C.readings clock.old;
-            waited = V.waits parts.old.waiter;
-            random = parts.old.random;
-            written = K.held sink.old;
-          };
+          beside = node_world (dialling D.calls D.left D.faults) V.waits parts.old
+              (acceptor_world A.left A.waits A.bound A.faults acceptor.old) (C.readings clock.old) (K.held sink.old);
         })
         (record {
           unread = F.faults files.new;
-          beside = record {
-            dialled = dialling D.calls D.left D.faults parts.new.dialer;
-            door = admitting A.left A.waits acceptor.new;
-            port = A.bound acceptor.new;
-            faults = A.faults acceptor.new;
-            readings = C.readings clock.new;
-            waited = V.waits parts.new.waiter;
-            random = parts.new.random;
-            written = K.held sink.new;
-          };
+          beside = node_world (dialling D.calls D.left D.faults) V.waits parts.new
+              (acceptor_world A.left A.waits A.bound A.faults acceptor.new) (C.readings clock.new) (K.held sink.new);
         }) result }
 
     // Status 0 comes only once the time of the script's `finish` has passed, from the first reading of the clock to the last.
     ensures finished { result ≡ 0 → (script : List ℕ) × F.holds files.old words.entry.script.now script
         × (lines : List Due) × (script_of script ≡ Ok (map wish_of lines)) × FinishCame lines (C.readings clock.old) (C.readings clock.new) }
-    ensures read { result ≡ 3 → HasRisen (F.faults files.old) (F.faults files.new) }
-    ensures write { result ≡ 4 → HasRisen (K.faults sink.old) (K.faults sink.new) }
-    ensures link { result ≡ 6 → HasRisen (A.faults acceptor.old) (A.faults acceptor.new) }
+    ensures read { RisesIf result 3 (F.faults files.old) (F.faults files.new) }
+    ensures write { RisesIf result 4 (K.faults sink.old) (K.faults sink.new) }
+    ensures link { RisesIf result 6 (A.faults acceptor.old) (A.faults acceptor.new) }
     ensures statuses { (result ≡ 0) ⊎ (result ≡ 2) ⊎ (result ≡ 3) ⊎ (result ≡ 4) ⊎ (result ≡ 5) ⊎ (result ≡ 6) ⊎ (result ≡ 7)
         ⊎ (result ≡ 8) }
 {

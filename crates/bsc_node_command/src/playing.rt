@@ -1,15 +1,17 @@
 //! Running a node by its settings and a script.
 ghost use Rattle.std.specs.Prelude.{◌≡◌, ◌≤◌, ◌⊎◌, [], length, map, Ok, Err, IfOk, IsErr, ℕ, List, Option};
 ghost use Rattle.bsc_outside.specs.Faults.{HasRisen};
+ghost use Rattle.bsc_player.specs.Faults.{RisesIf};
 ghost use Rattle.bsc_edge.specs.Told.{Grows, Stays};
 ghost use Rattle.bsc_node_core.specs.Node.{NodeStands};
 ghost use Rattle.bsc_node_run.specs.declared.halt.Halt.{Halt as HaltType};
 ghost use Rattle.bsc_node_command.specs.Lines.{SaysEnd};
 ghost use Rattle.bsc_node_run.specs.declared.due.Due.{Due};
+ghost use Rattle.bsc_node_run.specs.Drawing.{Draws};
 ghost use Rattle.bsc_node_run.specs.Scripts.{script_of, wish_of};
 ghost use Rattle.bsc_node_run.specs.Worlds.{Admitting, admitting, dialling};
 ghost use Rattle.bsc_node_runs.specs.Courses.{FinishCame};
-ghost use Rattle.bsc_node_command.specs.Comes.{Comes, IsBoundBy, IsUnasked, NodeRan, made_by};
+ghost use Rattle.bsc_node_command.specs.Comes.{Comes, IsBoundBy, IsUnasked, NodeRan, acceptor_world, made_by, node_world};
 
 use crate::here::Here;
 use crate::making::make_node;
@@ -67,29 +69,13 @@ fn run_made<K: Sink, C: Clock, V: Waiter, W: Words, L: Link + Drop, A: Acceptor<
     ensures ran { (script : List ℕ) (door : Admitting L) (port : Option (Option ℕ)) (faults : ℕ) →
         script_of script ≡ Ok (map wish_of lines.now) → IsUnasked door (admitting A.left A.waits acceptor.old) →
         IsBoundBy here.entry.settings.now.direct_port port (A.bound acceptor.old) →
-        NodeRan L.talk W.gives W.faults here.entry.settings.now script
-        (record {
-          dialled = dialling D.calls D.left D.faults parts.old.dialer;
-          door = door;
-          port = port;
-          faults = faults;
-          readings = C.readings clock.old;
-          waited = V.waits parts.old.waiter;
-          random = parts.old.random;
-          written = K.held sink.old;
-        })
-        (record {
-          dialled = dialling D.calls D.left D.faults parts.new.dialer;
-          door = admitting A.left A.waits acceptor.new;
-          port = A.bound acceptor.new;
-          faults = A.faults acceptor.new;
-          readings = C.readings clock.new;
-          waited = V.waits parts.new.waiter;
-          random = parts.new.random;
-          written = K.held sink.new;
-        }) result }
-    ensures write { result ≡ 4 → HasRisen (K.faults sink.old) (K.faults sink.new) }
-    ensures link { result ≡ 6 → HasRisen (A.faults acceptor.old) (A.faults acceptor.new) }
+        NodeRan L.talk (Draws W.gives W.faults) (record { settings = here.entry.settings.now; script = script })
+        (node_world (dialling D.calls D.left D.faults) V.waits parts.old
+        (record { door = door; port = port; faults = faults }) (C.readings clock.old) (K.held sink.old))
+        (node_world (dialling D.calls D.left D.faults) V.waits parts.new
+        (acceptor_world A.left A.waits A.bound A.faults acceptor.new) (C.readings clock.new) (K.held sink.new)) result }
+    ensures write { RisesIf result 4 (K.faults sink.old) (K.faults sink.new) }
+    ensures link { RisesIf result 6 (A.faults acceptor.old) (A.faults acceptor.new) }
     ensures statuses { (result ≡ 0) ⊎ (result ≡ 4) ⊎ (result ≡ 6) ⊎ (result ≡ 7) ⊎ (result ≡ 8) }
     ensures writes_later { K.faults sink.old ≤ K.faults sink.new }
     ensures links_later { A.faults acceptor.old ≤ A.faults acceptor.new }
@@ -115,29 +101,13 @@ fn run_lines<K: Sink, C: Clock, V: Waiter, W: Words, L: Link + Drop, A: Acceptor
     parts: &mut NodeParts<V, W, D>,
 ) -> u8
     ensures comes { (script : List ℕ) → script_of script ≡ Ok (map wish_of lines.now) →
-        Comes L.talk W.gives W.faults here.entry.settings.now script
-        (record {
-          dialled = dialling D.calls D.left D.faults parts.old.dialer;
-          door = admitting A.left A.waits acceptor.old;
-          port = A.bound acceptor.old;
-          faults = A.faults acceptor.old;
-          readings = C.readings clock.old;
-          waited = V.waits parts.old.waiter;
-          random = parts.old.random;
-          written = K.held sink.old;
-        })
-        (record {
-          dialled = dialling D.calls D.left D.faults parts.new.dialer;
-          door = admitting A.left A.waits acceptor.new;
-          port = A.bound acceptor.new;
-          faults = A.faults acceptor.new;
-          readings = C.readings clock.new;
-          waited = V.waits parts.new.waiter;
-          random = parts.new.random;
-          written = K.held sink.new;
-        }) result }
-    ensures write { result ≡ 4 → HasRisen (K.faults sink.old) (K.faults sink.new) }
-    ensures link { result ≡ 6 → HasRisen (A.faults acceptor.old) (A.faults acceptor.new) }
+        Comes L.talk (Draws W.gives W.faults) (record { settings = here.entry.settings.now; script = script })
+        (node_world (dialling D.calls D.left D.faults) V.waits parts.old
+        (acceptor_world A.left A.waits A.bound A.faults acceptor.old) (C.readings clock.old) (K.held sink.old))
+        (node_world (dialling D.calls D.left D.faults) V.waits parts.new
+        (acceptor_world A.left A.waits A.bound A.faults acceptor.new) (C.readings clock.new) (K.held sink.new)) result }
+    ensures write { RisesIf result 4 (K.faults sink.old) (K.faults sink.new) }
+    ensures link { RisesIf result 6 (A.faults acceptor.old) (A.faults acceptor.new) }
     ensures statuses { (result ≡ 0) ⊎ (result ≡ 4) ⊎ (result ≡ 6) ⊎ (result ≡ 7) ⊎ (result ≡ 8) }
     ensures writes_later { K.faults sink.old ≤ K.faults sink.new }
     ensures links_later { A.faults acceptor.old ≤ A.faults acceptor.new }
@@ -160,29 +130,13 @@ fn run_text<K: Sink, C: Clock, V: Waiter, W: Words, L: Link + Drop, A: Acceptor<
     acceptor: &mut A,
     parts: &mut NodeParts<V, W, D>,
 ) -> u8
-    ensures comes { Comes L.talk W.gives W.faults here.entry.settings.now script.now
-        (record {
-          dialled = dialling D.calls D.left D.faults parts.old.dialer;
-          door = admitting A.left A.waits acceptor.old;
-          port = A.bound acceptor.old;
-          faults = A.faults acceptor.old;
-          readings = C.readings clock.old;
-          waited = V.waits parts.old.waiter;
-          random = parts.old.random;
-          written = K.held sink.old;
-        })
-        (record {
-          dialled = dialling D.calls D.left D.faults parts.new.dialer;
-          door = admitting A.left A.waits acceptor.new;
-          port = A.bound acceptor.new;
-          faults = A.faults acceptor.new;
-          readings = C.readings clock.new;
-          waited = V.waits parts.new.waiter;
-          random = parts.new.random;
-          written = K.held sink.new;
-        }) result }
-    ensures write { result ≡ 4 → HasRisen (K.faults sink.old) (K.faults sink.new) }
-    ensures link { result ≡ 6 → HasRisen (A.faults acceptor.old) (A.faults acceptor.new) }
+    ensures comes { Comes L.talk (Draws W.gives W.faults) (record { settings = here.entry.settings.now; script = script.now })
+        (node_world (dialling D.calls D.left D.faults) V.waits parts.old
+        (acceptor_world A.left A.waits A.bound A.faults acceptor.old) (C.readings clock.old) (K.held sink.old))
+        (node_world (dialling D.calls D.left D.faults) V.waits parts.new
+        (acceptor_world A.left A.waits A.bound A.faults acceptor.new) (C.readings clock.new) (K.held sink.new)) result }
+    ensures write { RisesIf result 4 (K.faults sink.old) (K.faults sink.new) }
+    ensures link { RisesIf result 6 (A.faults acceptor.old) (A.faults acceptor.new) }
     ensures statuses { (result ≡ 0) ⊎ (result ≡ 2) ⊎ (result ≡ 4) ⊎ (result ≡ 6) ⊎ (result ≡ 7) ⊎ (result ≡ 8) }
     ensures writes_later { K.faults sink.old ≤ K.faults sink.new }
     ensures links_later { A.faults acceptor.old ≤ A.faults acceptor.new }
@@ -223,27 +177,11 @@ pub fn run_node<
     parts: &mut NodeParts<V, W, D>,
 ) -> u8
     // Either no node was run, and nothing was dialled; or a node of the settings was, to its end or to a fault.
-    ensures comes { Comes L.talk W.gives W.faults settings.now script.now
-        (record {
-          dialled = dialling D.calls D.left D.faults parts.old.dialer;
-          door = admitting A.left A.waits acceptor.old;
-          port = A.bound acceptor.old;
-          faults = A.faults acceptor.old;
-          readings = C.readings clock.old;
-          waited = V.waits parts.old.waiter;
-          random = parts.old.random;
-          written = K.held sink.old;
-        })
-        (record {
-          dialled = dialling D.calls D.left D.faults parts.new.dialer;
-          door = admitting A.left A.waits acceptor.new;
-          port = A.bound acceptor.new;
-          faults = A.faults acceptor.new;
-          readings = C.readings clock.new;
-          waited = V.waits parts.new.waiter;
-          random = parts.new.random;
-          written = K.held sink.new;
-        }) result }
+    ensures comes { Comes L.talk (Draws W.gives W.faults) (record { settings = settings.now; script = script.now })
+        (node_world (dialling D.calls D.left D.faults) V.waits parts.old
+        (acceptor_world A.left A.waits A.bound A.faults acceptor.old) (C.readings clock.old) (K.held sink.old))
+        (node_world (dialling D.calls D.left D.faults) V.waits parts.new
+        (acceptor_world A.left A.waits A.bound A.faults acceptor.new) (C.readings clock.new) (K.held sink.new)) result }
 
     // Status 2 comes only of a script with a bad line, and such a script comes to no other, but where the write of the last
     // line failed or memory ran out.
@@ -256,8 +194,8 @@ pub fn run_node<
 
     // Status 8 comes only where the clock was read as often as the settings allow turns.
     ensures spent { result ≡ 8 → (times : List ℕ) × Grows (C.readings clock.old) (C.readings clock.new) times × (length times ≡ settings.now.turns) }
-    ensures write { result ≡ 4 → HasRisen (K.faults sink.old) (K.faults sink.new) }
-    ensures link { result ≡ 6 → HasRisen (A.faults acceptor.old) (A.faults acceptor.new) }
+    ensures write { RisesIf result 4 (K.faults sink.old) (K.faults sink.new) }
+    ensures link { RisesIf result 6 (A.faults acceptor.old) (A.faults acceptor.new) }
     ensures statuses { (result ≡ 0) ⊎ (result ≡ 2) ⊎ (result ≡ 4) ⊎ (result ≡ 6) ⊎ (result ≡ 7) ⊎ (result ≡ 8) }
     ensures writes_later { K.faults sink.old ≤ K.faults sink.new }
     ensures links_later { A.faults acceptor.old ≤ A.faults acceptor.new }

@@ -3,6 +3,8 @@ use Rattle.std.proofs.Common.{◌≡◌, ℕ, ◌+◌, Bool, false, cond, List, 
 use Rattle.std.specs.Prelude.{◌-◌, ◌%◌, min}
 use Rattle.std.proofs.Math.Seq.{take-append_seam}
 use Rattle.bsc_octets.specs.declared.vmac.Vmac.{Vmac}
+use Rattle.bsc_octets.specs.Forwarding.{function_in}
+use Rattle.bsc_octets.specs.Functions.{is_response}
 use Rattle.bsc_frame.specs.declared.body.Body.TheVariants.{AddressResolution}
 use Rattle.bsc_connector.specs.Standing.{ConnectorStands}
 use Rattle.bsc_direct.specs.Standing.{DirectStands}
@@ -18,7 +20,7 @@ use Rattle.bsc_node.specs.declared.note.Note.{Note}
 use Rattle.bsc_node.specs.declared.note.Note.TheVariants.{NoPath, AsksFull, AskPending}
 use Rattle.bsc_node.specs.declared.action.Action.{Action}
 use Rattle.bsc_node.specs.declared.action.Action.TheVariants.{Put, Tell}
-use Rattle.bsc_node.specs.Logs.{Made, Line, resolution, did, Log, Rule, now, next_id, in_order, is_response}
+use Rattle.bsc_node.specs.Logs.{Made, Line, resolution, did, Log, Rule, now, next_id, in_order}
 use Rattle.bsc_node.specs.Hubs.{waits}
 use Rattle.bsc_node.specs.Ways.{Way, way, ask_refusal, resolve_call_of, resolve_calls, resolution_sees}
 use Rattle.bsc_node.specs.Requesting.{puts_own, asks_unless, resolves}
@@ -96,7 +98,7 @@ resolves-by : (a : Made) (v : Vmac) (L : Log) (w : Way) (refusal : Option AskRef
 resolves-by a v L w refusal h e = rw (h, e) refl
 
 -- A question is no response.
-question-numbered : (n : ℕ) (dest : Option Vmac) → is_response (message_octets n dest AddressResolution) ≡ false
+question-numbered : (n : ℕ) (dest : Option Vmac) → is_response (function_in (message_octets n dest AddressResolution)) ≡ false
 question-numbered n dest = refl
 
 -- A question is put.
@@ -109,7 +111,7 @@ both-asked b out later s r r' L w v o t n p oe le asked h =
     let call : ResolveCall = Ask (now L) (next_id L) v in
     let is : Ask t s.next v ≡ call = ap (λ k. Ask k s.next v) (sym n ∙ sym h.state.now) ∙ ap (λ k. Ask (now L) k v) (sym h.state.next) in
     let lines : List Line = did (Put w.link o) ∷ [] in
-    let quiet : is_response o ≡ false = ap is_response oe ∙ question-numbered s.next w.dest in
+    let quiet : is_response (function_in o) ≡ false = ap (λ (x : List ℕ). is_response (function_in x)) oe ∙ question-numbered s.next w.dest in
     let put : Stands (asked_by L b) later after (L ++ lines) =
     subst (λ os. Stands (asked_by L b) os after (L ++ lines)) (sym le)
     (subst (λ (c : Bool). Stands (asked_by L b) (out ++ Put w.link o ∷ []) (record s { next = cond c s.next ((s.next + 1) % 65536) }) (L ++ lines)) quiet (put-stands (asked_by L b) out s L w.link o h.state)) in

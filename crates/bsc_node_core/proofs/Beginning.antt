@@ -1,16 +1,15 @@
 -- What a node keeps goes on standing for its log, where a link begins.
-use Rattle.std.proofs.Common.{◌≡◌, ℕ, ◌+◌, Bool, true, false, not, cond, ◌&&◌, ◌||◌, List, [], ◌∷◌, ◌++◌, length, take, Option, Some, None, unwrap_or, refl, ap, sym, ◌∙◌, subst, arith, length-append}
+use Rattle.std.proofs.Common.{◌≡◌, ℕ, ◌+◌, Bool, true, false, not, cond, ◌&&◌, ◌||◌, List, [], ◌∷◌, ◌++◌, Option, Some, None, unwrap_or, refl, ap, sym, ◌∙◌, subst, arith}
 use Rattle.std.specs.Prelude.{◌-◌, min, count_by, filter_map, is_some}
 use Rattle.std.specs.List.{list_any}
 use Rattle.std.specs.Option.{option_or}
 use Rattle.std.proofs.lemmas.Bool.{lt-ltb}
-use Rattle.std.proofs.lemmas.List.{take-append-le}
 use Rattle.bsc_connector.specs.declared.side.Side.TheVariants.{Primary, Failover}
 use Rattle.bsc_connector.specs.declared.event.HubEvent.{HubEvent}
-use Rattle.bsc_connector.specs.Back.{newest_of, since, until}
+use Rattle.bsc_connector.specs.Back.{newest_of, since}
 use Rattle.bsc_connector.specs.Sides as Sides
 use Rattle.bsc_connector.specs.Standing.{ConnectorStands}
-use Rattle.bsc_connector.proofs.BackLemmas.{newest_of-more, list_any-more}
+use Rattle.bsc_connector.proofs.BackLemmas.{newest_of-more, list_any-more, until-begun}
 use Rattle.bsc_direct.specs.declared.bounds.TheConstants.{SLOTS}
 use Rattle.bsc_direct.specs.Standing.{DirectStands}
 use Rattle.bsc_octets.specs.declared.identity.Identity.{Identity}
@@ -55,15 +54,6 @@ here name taken action g = g.begins name ∙ ap (λ (b : Bool). cond b (Some tak
 
 there : (name other : LinkName) (taken : Bool) (action : Action) → Begins name taken action → same_link name other ≡ false → begins_by other action ≡ None
 there name other taken action g e = g.begins other ∙ ap (λ (b : Bool). cond b (Some taken) None) e
-
-until-begun : {A : Type 0} (test : A → Bool) (xs : List A) (x : A) → test x ≡ true → until test (xs ++ x ∷ []) ≡ xs
-until-begun test xs x h =
-    let e : length (xs ++ x ∷ []) - length (since test (xs ++ x ∷ [])) - 1 ≡ length xs = rw (since-now test xs x h) (let a = length-append xs (x ∷ []) in omega (arith, a)) in
-    ap (λ n. take n (xs ++ x ∷ [])) e ∙ take-append-le (length xs) xs (x ∷ []) (omega arith) ∙ take-all xs
-  where
-    take-all : {B : Type 0} (ys : List B) → take (length ys) ys ≡ ys
-    take-all [] = refl
-    take-all (y ∷ ys) = ap (λ zs. y ∷ zs) (take-all ys)
 
 -- ---- the link that begins
 

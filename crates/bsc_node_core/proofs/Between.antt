@@ -41,12 +41,13 @@ use Rattle.bsc_node_core.specs.declared.touched.Touched.TheVariants.{Many}
 use Rattle.bsc_node_core.specs.Spares.{Agrees, KeepsSame}
 use Rattle.bsc_node_core.proofs.Asking.{both-still}
 use Rattle.bsc_node_core.proofs.Copying.{begun-stands, restored-stands}
-use Rattle.bsc_node_core.proofs.More.{there-kept, taken-kept, initiating-kept}
+use Rattle.bsc_node_core.proofs.More.{taken-kept, initiating-kept}
 use Rattle.bsc_lemmas.proofs.Booleans.{and_left, first_of_three}
 use Rattle.bsc_lemmas.proofs.Lists.{same_rest as same-lines}
 use Rattle.bsc_lemmas.proofs.Options.{some_none_any as some_none}
 use Rattle.bsc_node.proofs.Common.{slot-named}
 use Rattle.std.proofs.lemmas.Bool.{or_left as or_first, or_right as or_second}
+use Rattle.bsc_node.proofs.There.{there-other as there-kept}
 
 -- ---- the numbers of slots
 

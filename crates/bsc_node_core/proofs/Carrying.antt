@@ -1,5 +1,5 @@
 -- What a machine's newest step puts and closes is carried out, and then no link is busy any more.
-use Rattle.std.proofs.Common.{◌≡◌, ℕ, true, false, List, [], ◌∷◌, ◌++◌, None, refl, ap, sym, ◌∙◌, subst, append_assoc}
+use Rattle.std.proofs.Common.{◌≡◌, ℕ, true, false, List, [], ◌∷◌, ◌++◌, None, ap, sym, ◌∙◌, subst, append_assoc}
 use Rattle.std.proofs.lemmas.Bool.{false≢true}
 use Rattle.std.proofs.lemmas.List.{append-nil}
 use Rattle.bsc_accept.specs.declared.closing.Closing.{Closing}
@@ -11,13 +11,12 @@ use Rattle.bsc_node.specs.Links.{Outcome, puts, puts_and_closes, closes, meets, 
 use Rattle.bsc_node.specs.Ending.{carries_out_by, carries_out}
 use Rattle.bsc_node.proofs.Calm.{is_calm}
 use Rattle.bsc_node.proofs.Order.{in_order-cons, in_order-brought}
-use Rattle.bsc_node.proofs.Told.{same_link-self}
 use Rattle.bsc_node_core.specs.declared.state.State.{State}
 use Rattle.bsc_node_core.specs.Tables.{link_at, is_name}
 use Rattle.bsc_node_core.specs.Standing.{Base, Stands}
 use Rattle.bsc_node_core.specs.Telling.{busy_with, IsLeft, HasTold}
-use Rattle.bsc_node_core.proofs.Closing.{there-over}
 use Rattle.bsc_node_core.proofs.Settling.{settles, settles-gone}
+use Rattle.bsc_node.proofs.There.{closed-gone as gone-closed}
 
 -- ---- two rules in order
 
@@ -50,9 +49,6 @@ regrouped L first second third =
     ∙ sym (two-is L (in_order (first ∷ second ∷ [])) third)
 
 -- ---- a link that is closed isn't there
-
-pub gone-closed : (name : LinkName) (M : Log) (closing : Closing) → is_there name (M ++ did (Close name closing) ∷ []) ≡ false
-gone-closed name M closing = there-over name M (did (Close name closing)) refl (same_link-self name)
 
 gone-put : (name : LinkName) (M : Log) (o : List ℕ) (closing : Closing) → is_there name (M ++ in_order (does (Put name o) ∷ does (Close name closing) ∷ []) M) ≡ false
 gone-put name M o closing = ap (is_there name) (two-is M (does (Put name o)) (does (Close name closing))) ∙ gone-closed name (M ++ did (Put name o) ∷ []) closing

@@ -1,9 +1,7 @@
 -- What a node keeps goes on standing for its log, where a link is closed or begins.
-use Rattle.std.proofs.Common.{◌≡◌, ℕ, Bool, true, false, not, cond, ◌&&◌, ◌||◌, List, [], ◌∷◌, ◌++◌, Option, refl, ap, sym, ◌∙◌, subst}
+use Rattle.std.proofs.Common.{◌≡◌, ℕ, Bool, true, false, cond, ◌&&◌, List, [], ◌∷◌, ◌++◌, Option, refl, ap, sym, ◌∙◌, subst}
 use Rattle.std.specs.Prelude.{min}
-use Rattle.std.specs.List.{list_any}
 use Rattle.bsc_connector.specs.Standing.{ConnectorStands}
-use Rattle.bsc_connector.proofs.BackLemmas.{list_any-more}
 use Rattle.bsc_direct.specs.Standing.{DirectStands}
 use Rattle.bsc_accept.specs.declared.closing.Closing.{Closing}
 use Rattle.bsc_node.specs.declared.bounds.TheConstants.{RENEWALS}
@@ -12,9 +10,8 @@ use Rattle.bsc_node.specs.declared.link_name.LinkName.TheVariants.{Direct}
 use Rattle.bsc_node.specs.declared.action.Action.TheVariants.{Close}
 use Rattle.bsc_node.specs.declared.action.Action.{Action}
 use Rattle.bsc_node.specs.Logs.{Made, Line, did, Log}
-use Rattle.bsc_node.specs.Links.{begins, is_over_by, same_link, life, is_there}
+use Rattle.bsc_node.specs.Links.{same_link}
 use Rattle.bsc_node.specs.Hubs.{waits}
-use Rattle.bsc_node.proofs.Told.{life-more}
 use Rattle.bsc_node_core.specs.declared.machine.Machine.TheVariants.{Gone}
 use Rattle.bsc_node_core.specs.declared.links.Links.{Links}
 use Rattle.bsc_node_core.specs.declared.state.State.{State}
@@ -24,18 +21,7 @@ use Rattle.bsc_node_core.proofs.More.{now-kept, own-kept, next-kept, finishing-k
 use Rattle.bsc_node_core.proofs.Lines.{link-kept, peer-kept, came-did}
 use Rattle.bsc_node_core.proofs.Untouched.{agrees-set}
 use Rattle.bsc_node.proofs.Common.{hub_events-kept, resolve_calls-kept, same_link-is, slot_calls-kept}
-
-and_none : (a b : Bool) → (a && not (b || true)) ≡ false
-and_none true true = refl
-and_none true false = refl
-and_none false b = refl
-
--- A line by which a link is over: it isn't there any more.
-pub there-over : (name : LinkName) (L : Log) (m : Line) → begins name m ≡ false → is_over_by name m ≡ true → is_there name (L ++ m ∷ []) ≡ false
-there-over name L m h g =
-    ap (λ ys. list_any (begins name) (L ++ m ∷ []) && not (list_any (is_over_by name) ys)) (life-more L m name h)
-    ∙ ap (λ b. list_any (begins name) (L ++ m ∷ []) && not b) (list_any-more (is_over_by name) (life L name) m ∙ ap (λ b. list_any (is_over_by name) (life L name) || b) g)
-    ∙ and_none (list_any (begins name) (L ++ m ∷ [])) (list_any (is_over_by name) (life L name))
+use Rattle.bsc_node.proofs.There.{there-over}
 
 -- The links, where one is closed.
 closed-link : (a : Made) (busy : Option LinkName) (old new : Links) (L : Log) (name : LinkName) (closing : Closing) → Sets old new name (with_machine Gone (link_at old name))

@@ -31,10 +31,11 @@ use Rattle.bsc_node_core.specs.Standing.{Base, HaveCome, LinkStands, Stands}
 use Rattle.bsc_node_core.specs.Events.{at_time}
 use Rattle.bsc_node_core.proofs.More.{next-kept, own-kept, finishing-kept, renewals-kept, refusing-kept, dropped-kept, tries-kept, since-kept, count-one_more}
 use Rattle.bsc_node_core.proofs.Lines.{link-kept, peer-kept, came-other}
-use Rattle.bsc_node_core.proofs.Closing.{there-over, tries-closed}
+use Rattle.bsc_node_core.proofs.Closing.{tries-closed}
 use Rattle.bsc_node_core.proofs.Untouched.{agrees-set}
 use Rattle.bsc_lemmas.proofs.Booleans.{or_true}
 use Rattle.bsc_node.proofs.Common.{hub_events-kept, resolve_calls-kept, same_link-is, slot_calls-kept}
+use Rattle.bsc_node.proofs.There.{there-over}
 
 -- what is kept beside its parts, and the links
 abbrev known_at : State → Identity → Bool → ℕ → Option Side → Links → State

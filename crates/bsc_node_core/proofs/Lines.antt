@@ -3,6 +3,8 @@ use Rattle.std.proofs.Common.{◌≡◌, ℕ, ◌+◌, Bool, true, false, not, c
 use Rattle.std.specs.Prelude.{◌%◌, min, count_by, is_some}
 use Rattle.std.specs.Option.{option_or}
 use Rattle.std.proofs.Math.Nat.{mod-add-mod}
+use Rattle.bsc_octets.specs.Forwarding.{function_in}
+use Rattle.bsc_octets.specs.Functions.{is_response}
 use Rattle.bsc_connector.specs.declared.side.Side.TheVariants.{Primary, Failover}
 use Rattle.bsc_connector.specs.Standing.{ConnectorStands}
 use Rattle.bsc_direct.specs.Standing.{DirectStands}
@@ -12,7 +14,7 @@ use Rattle.bsc_node.specs.declared.link_name.LinkName.{LinkName}
 use Rattle.bsc_node.specs.declared.link_name.LinkName.TheVariants.{Hub, Direct}
 use Rattle.bsc_node.specs.declared.action.Action.{Action}
 use Rattle.bsc_node.specs.declared.action.Action.TheVariants.{Put}
-use Rattle.bsc_node.specs.Logs.{Made, Line, slot, connector, did, Log, now, action_of, is_numbered, is_response, next_id}
+use Rattle.bsc_node.specs.Logs.{Made, Line, slot, connector, did, Log, now, action_of, is_numbered, next_id}
 use Rattle.bsc_node.specs.Links.{beginning_of, begins, begins_by, is_over_by, life, initiating_event, accepting_event, initiating_events, accepting_events, who_accepted, who_asked, peer}
 use Rattle.std.specs.List.{list_any}
 use Rattle.bsc_connector.specs.declared.event.ConnectorEvent.{ConnectorEvent}
@@ -34,10 +36,11 @@ use Rattle.bsc_node_core.specs.declared.machine.Machine.TheVariants.{Gone, Over,
 use Rattle.bsc_node_core.specs.declared.state.State.{State}
 use Rattle.bsc_node_core.specs.Tables.{Kept, link_at}
 use Rattle.bsc_node_core.specs.Standing.{Base, next_after, renewals_after, dropped_after, HaveCome, TakenStands, MachineStands, LinkStands, Stands}
-use Rattle.bsc_node_core.proofs.More.{now-kept, own-kept, next-kept, finishing-kept, renewals-kept, refusing-kept, dropped-kept, tries-kept, there-kept, taken-kept, start-kept, initiating-kept, accepting-kept, since-now, count-one_more, filter-one_more}
+use Rattle.bsc_node_core.proofs.More.{now-kept, own-kept, next-kept, finishing-kept, renewals-kept, refusing-kept, dropped-kept, tries-kept, taken-kept, start-kept, initiating-kept, accepting-kept, since-now, count-one_more, filter-one_more}
 use Rattle.bsc_node_core.proofs.Untouched.{agrees-slots}
 use Rattle.bsc_lemmas.proofs.Lists.{filter_map_none as filter-kept}
 use Rattle.bsc_node.proofs.Common.{hub_events-kept, resolve_calls-kept, slot_calls-kept}
+use Rattle.bsc_node.proofs.There.{there-other as there-kept}
 
 -- ---- links of which a line says nothing
 
@@ -123,7 +126,7 @@ quiet-stands b out s L action q h = acts b out s L action s.next q.begins q.over
 
 -- ---- a message is put
 
-number_by : (L : Log) (name : LinkName) (o : List ℕ) (b : Bool) → is_response o ≡ b → next_id (L ++ did (Put name o) ∷ []) ≡ cond b (next_id L) ((next_id L + 1) % 65536)
+number_by : (L : Log) (name : LinkName) (o : List ℕ) (b : Bool) → is_response (function_in o) ≡ b → next_id (L ++ did (Put name o) ∷ []) ≡ cond b (next_id L) ((next_id L + 1) % 65536)
 number_by L name o true h = next-kept L (did (Put name o)) (ap not h)
 number_by L name o false h = ap (λ k. (k + 1) % 65536) (count-one_more is_numbered L (did (Put name o)) (ap not h)) ∙ sym (mod-add-mod (count_by is_numbered L + 1) 65536 1)
 
@@ -131,7 +134,7 @@ pub put-stands : (b : Base) (out : List Action) (s : State) (L : Log) (name : Li
     → Stands b (out ++ Put name o ∷ []) (record s { next = next_after o s.next }) (L ++ did (Put name o) ∷ [])
 put-stands b out s L name o h =
     acts b out s L (Put name o) (next_after o s.next) (λ n. refl) (λ n. refl)
-    (number_by L name o (is_response o) refl ∙ ap (next_after o) h.next) h
+    (number_by L name o (is_response (function_in o)) refl ∙ ap (next_after o) h.next) h
 
 -- ---- what the parts are told
 

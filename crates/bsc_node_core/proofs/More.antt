@@ -1,20 +1,19 @@
 -- What a log says with one line more.
-use Rattle.std.proofs.Common.{◌≡◌, ℕ, ◌+◌, Bool, true, false, not, cond, ◌&&◌, ◌||◌, List, [], ◌∷◌, ◌++◌, length, take, Option, Some, None, unwrap_or, refl, ap, ◌∙◌, arith, length-append}
+use Rattle.std.proofs.Common.{◌≡◌, ℕ, ◌+◌, Bool, true, false, cond, ◌||◌, List, [], ◌∷◌, ◌++◌, Option, Some, None, unwrap_or, refl, ap, ◌∙◌, arith}
 use Rattle.std.specs.Prelude.{◌-◌, ◌%◌, filter_map, count_by}
 use Rattle.std.specs.List.{list_any}
 use Rattle.std.specs.Option.{option_or, option_map}
 use Rattle.std.proofs.lemmas.List.Elements.{filter_map-append}
-use Rattle.std.proofs.lemmas.List.{take-append-le}
 use Rattle.bsc_connector.specs.declared.side.Side.TheVariants.{Primary, Failover}
 use Rattle.bsc_connector.specs.declared.event.HubEvent.{HubEvent}
-use Rattle.bsc_connector.specs.Back.{newest_of, since, until}
+use Rattle.bsc_connector.specs.Back.{newest_of, since}
 use Rattle.bsc_connector.specs.Sides as Sides
-use Rattle.bsc_connector.proofs.BackLemmas.{newest_of-more, since-more, count_by-more, list_any-more}
+use Rattle.bsc_connector.proofs.BackLemmas.{newest_of-more, since-more, count_by-more, list_any-more, until-other as until-kept}
 use Rattle.bsc_node.specs.declared.link_name.LinkName.{LinkName}
 use Rattle.bsc_node.specs.declared.link_name.LinkName.TheVariants.{Hub, Direct}
 use Rattle.bsc_node.specs.declared.timed_event.TimedEvent.{TimedEvent}
 use Rattle.bsc_node.specs.Logs.{Made, Line, Log, event_of, now, is_numbered, next_id, renewal_of, own, is_finish, is_finishing}
-use Rattle.bsc_node.specs.Links.{beginning_of, begins, is_over_by, life, is_there, was_taken, start, initiating_event, accepting_event, initiating_events, accepting_events}
+use Rattle.bsc_node.specs.Links.{beginning_of, begins, life, was_taken, start, initiating_event, accepting_event, initiating_events, accepting_events}
 use Rattle.bsc_node.specs.Hubs.{hub_event_of, hub_events, is_dropped}
 use Rattle.bsc_node.specs.Ways.{is_claim_of, tries}
 use Rattle.bsc_node.specs.Meeting.{is_renewal, is_accept_of_hub, renewals, hub_message_of, refusing_side}
@@ -49,12 +48,6 @@ count-one_more test xs x h = count_by-more test xs x ∙ ap (λ (b : Bool). coun
 pub filter-one_more : {A B : Type 0} (f : A → Option B) (xs : List A) (x : A) (y : B) → f x ≡ Some y → filter_map f (xs ++ x ∷ []) ≡ filter_map f xs ++ y ∷ []
 filter-one_more f xs x y h = filter_map-append f xs (x ∷ []) ∙ ap (λ ys. filter_map f xs ++ ys) (rw h refl)
 
-until-kept : {A : Type 0} (test : A → Bool) (xs : List A) (x : A) → test x ≡ false → until test (xs ++ x ∷ []) ≡ until test xs
-until-kept test xs x h =
-    let e : length (xs ++ x ∷ []) - length (since test (xs ++ x ∷ [])) - 1 ≡ length xs - length (since test xs) - 1
-    = rw (since-kept test xs x h) (let a = length-append xs (x ∷ []) in let b = length-append (since test xs) (x ∷ []) in omega (arith, a, b)) in
-    ap (λ n. take n (xs ++ x ∷ [])) e ∙ take-append-le (length xs - length (since test xs) - 1) xs (x ∷ []) (omega arith)
-
 -- ---- the time, the node itself, its numbers
 
 pub now-kept : (L : Log) (m : Line) → event_of m ≡ None → now (L ++ m ∷ []) ≡ now L
@@ -85,12 +78,6 @@ pub tries-kept : (k : ℕ) (L : Log) (m : Line) → begins (Direct k) m ≡ fals
 tries-kept k L m h g = ap (count_by (begins (Direct k))) (since-kept (is_claim_of k) L m g) ∙ count-kept (begins (Direct k)) (since (is_claim_of k) L) m h
 
 -- ---- links
-
-pub there-kept : (name : LinkName) (L : Log) (m : Line) → begins name m ≡ false → is_over_by name m ≡ false → is_there name (L ++ m ∷ []) ≡ is_there name L
-there-kept name L m h g =
-    ap (λ b. b && not (list_any (is_over_by name) (life (L ++ m ∷ []) name))) (any-kept (begins name) L m h)
-    ∙ ap (λ ys. list_any (begins name) L && not (list_any (is_over_by name) ys)) (life-more L m name h)
-    ∙ ap (λ b. list_any (begins name) L && not b) (any-kept (is_over_by name) (life L name) m g)
 
 pub taken-kept : (name : LinkName) (L : Log) (m : Line) → beginning_of name m ≡ None → was_taken name (L ++ m ∷ []) ≡ was_taken name L
 taken-kept name L m h = ap (λ o. unwrap_or o false) (newest-kept (beginning_of name) L m h)

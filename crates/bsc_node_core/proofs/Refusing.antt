@@ -17,10 +17,11 @@ use Rattle.bsc_node_core.specs.declared.state.State.{State}
 use Rattle.bsc_node_core.specs.Tables.{is_name}
 use Rattle.bsc_node_core.specs.Standing.{Base, Stands}
 use Rattle.bsc_node_core.specs.Telling.{busy_with}
-use Rattle.bsc_node_core.proofs.Carrying.{gone-closed, three-then}
+use Rattle.bsc_node_core.proofs.Carrying.{three-then}
 use Rattle.bsc_node_core.proofs.Lines.{IsQuiet, quiet-stands}
 use Rattle.bsc_node_core.proofs.Settling.{settles-gone}
 use Rattle.bsc_node_core.proofs.Wants.{tell-stands}
+use Rattle.bsc_node.proofs.There.{closed-gone as gone-closed}
 
 -- the log once the link was closed, and once the refusal was told too
 abbrev pub with_closed : LinkName → Log → Log

@@ -46,11 +46,12 @@ use Rattle.bsc_node_core.specs.Machines.{says_there, asks, taken_in, dialled_aft
 use Rattle.bsc_node_core.specs.Tables.{Kept, link_at, is_name, Sets, Touches, with_machine_and_peer}
 use Rattle.bsc_node_core.specs.Standing.{Base, DialledStands, TakenStands, MachineStands, LinkStands, Stands}
 use Rattle.bsc_node_core.specs.Telling.{busy_with, IsLeft, HasTold}
-use Rattle.bsc_node_core.proofs.More.{now-kept, own-kept, next-kept, finishing-kept, renewals-kept, refusing-kept, dropped-kept, tries-kept, there-kept, taken-kept, start-kept, initiating-kept, accepting-kept}
+use Rattle.bsc_node_core.proofs.More.{now-kept, own-kept, next-kept, finishing-kept, renewals-kept, refusing-kept, dropped-kept, tries-kept, taken-kept, start-kept, initiating-kept, accepting-kept}
 use Rattle.bsc_node_core.proofs.Lines.{link-kept, came-other}
 use Rattle.bsc_node_core.proofs.Untouched.{agrees-set}
 use Rattle.bsc_node_core.proofs.Naming.{accept-goes-on, accepted-goes-on, ask-goes-on, asked-goes-on}
 use Rattle.bsc_node.proofs.Common.{hub_events-kept, resolve_calls-kept, same_link-is, slot_calls-kept}
+use Rattle.bsc_node.proofs.There.{there-other as there-kept}
 
 -- ---- a line by which a link's machine is told something
 

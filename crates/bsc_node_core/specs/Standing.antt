@@ -1,5 +1,7 @@
 -- For which log a node's state stands.
 use Rattle.std.specs.Prelude.{◌≡◌, ℕ, ◌<◌, ◌+◌, ◌%◌, if◌then◌else◌, min, true, false, List, [], ◌++◌, filter_map, ⊤, Bool, ◌||◌, Option, Some, None, is_some}
+use Rattle.bsc_octets.specs.Forwarding.{function_in}
+use Rattle.bsc_octets.specs.Functions.{is_response}
 use Rattle.bsc_connector.specs.declared.side.Side.TheVariants.{Primary, Failover}
 use Rattle.bsc_connector.specs.declared.event.ConnectorEvent.{ConnectorEvent}
 use Rattle.bsc_connector.specs.Back.{first_of}
@@ -20,7 +22,7 @@ use Rattle.bsc_node.specs.declared.bounds.TheConstants.{RENEWALS}
 use Rattle.bsc_node.specs.declared.link_name.LinkName.{LinkName}
 use Rattle.bsc_node.specs.declared.link_name.LinkName.TheVariants.{Direct}
 use Rattle.bsc_node.specs.declared.action.Action.{Action}
-use Rattle.bsc_node.specs.Logs.{Made, Line, Log, Rule, now, next_id, own, is_finishing, is_response, action_of}
+use Rattle.bsc_node.specs.Logs.{Made, Line, Log, Rule, now, next_id, own, is_finishing, action_of}
 use Rattle.bsc_node.specs.Links.{is_there, was_taken, start, initiating_events, accepting_events, request, accepts_by, who_accepted, who_asked, peer}
 use Rattle.bsc_node.specs.Hubs.{waits, hub_events, is_dropped, is_connected_event}
 use Rattle.bsc_node.specs.Ways.{slot_calls, resolve_calls, tries}
@@ -109,7 +111,7 @@ pub record Stands (b : Base) (out : List Action) (s : State) (L : Log) : Type 0 
 
 -- the number of the next message once these octets are put: a response has none of its own
 abbrev pub next_after : List ℕ → ℕ → ℕ
-next_after o n = if is_response o then n else (n + 1) % 65536
+next_after o n = if is_response (function_in o) then n else (n + 1) % 65536
 
 -- the renewals since a hub accepted, and whether the failover was dropped, once the connector was told this
 abbrev pub renewals_after : ConnectorEvent → ℕ → ℕ

@@ -1,7 +1,8 @@
 //! The messages that a node puts of itself.
 ghost use Rattle.std.specs.Prelude.{◌≡◌, IfOk};
 ghost use Rattle.bsc_frame.specs.Payloads.{HasPayload};
-ghost use Rattle.bsc_node.specs.Logs.{is_response};
+ghost use Rattle.bsc_octets.specs.Forwarding.{function_in};
+ghost use Rattle.bsc_octets.specs.Functions.{is_response};
 ghost use Rattle.bsc_node.specs.Messages.{message_octets, nak};
 
 use bsc_frame::{Answer, Body, Message, write};
@@ -45,11 +46,11 @@ pub(crate) fn nak(alloc: Global, function: u8, code: u16) -> Body
 
 /// Whether these octets are a response, which has the Message ID of what it answers.
 pub(crate) fn is_response(octets: &[u8]) -> bool
-    ensures { result ≡ is_response octets.now }
+    ensures { result ≡ is_response (function_in octets.now) }
 {
     let function = match octets.first() {
         Some(function) => *function,
         None => 0x00,
     };
-    function::RESPONSES.contains(&function)
+    function::is_response(function)
 }

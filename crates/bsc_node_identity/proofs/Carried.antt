@@ -4,6 +4,7 @@ use Rattle.std.specs.Prelude.{◌^◌, ◌==◌, if◌then◌else◌, bit_or, bi
 use Rattle.byteorder.specs.Endian.{big_bytes}
 use Rattle.bsc_octets.specs.Addresses.{same_vmac, broadcast}
 use Rattle.bsc_octets.specs.Forwarding.{function_in, out}
+use Rattle.bsc_octets.specs.Functions.{is_response}
 use Rattle.bsc_octets.proofs.TwoOctets.{two_octet_number}
 use Rattle.bsc_frame.specs.declared.check.Check.{Check}
 use Rattle.bsc_frame.specs.declared.message.Message.{Message}
@@ -18,7 +19,7 @@ use Rattle.bsc_checks.specs.Options.{rest_of, data_options_in}
 use Rattle.bsc_checks.specs.Payloads.{body_in}
 use Rattle.bsc_checks.proofs.Payloads.{body_again}
 use Rattle.bsc_direct.proofs.OneMore.{both_ways}
-use Rattle.bsc_checks.specs.PlaceTests.{is_unicast, is_response}
+use Rattle.bsc_checks.specs.PlaceTests.{is_unicast}
 use Rattle.bsc_checks.specs.Failing.{fails}
 use Rattle.bsc_checks.specs.Outcomes.{message_in, answered, refused, accepted, decided, first_failing, outcome_of}
 use Rattle.bsc_node.specs.Messages.{message, message_octets}

@@ -47,7 +47,6 @@ use Rattle.bsc_node.proofs.Told.{outcome-initiating, outcome-accepting}
 use Rattle.bsc_node.proofs.Following.{opened-dialled}
 use Rattle.bsc_node.proofs.Lasting.{event_fits}
 use Rattle.bsc_node.proofs.Delivering.{up-came}
-use Rattle.bsc_node_laws.proofs.There.{there-other}
 use Rattle.bsc_node_identity.specs.Naming.{IsNamedAt}
 use Rattle.bsc_node_identity.specs.Resolving.{IsAnsweredAt}
 use Rattle.bsc_node_identity.proofs.Tame.{puts_tamely, tame-hears}
@@ -60,6 +59,7 @@ use Rattle.bsc_node_identity.proofs.OneMore.{open-stays, claimed-alone}
 use Rattle.bsc_node_identity.proofs.Reasons.{was_open, Unmet, Sides, is_beginning, Why, WhyPut, why-still}
 use Rattle.bsc_lemmas.proofs.Booleans.{and_left, and_right, first_of_three}
 use Rattle.bsc_node.proofs.Common.{draws_where_none}
+use Rattle.bsc_node.proofs.There.{there-other}
 
 -- A still rule's lines have their reasons.
 still-has : (a : Made) (L : Log) (e : TimedEvent) (rule : Rule) → Still a rule → (N : Log) → EachHas (Why a L e) N (rule N)

@@ -1,5 +1,5 @@
 -- The way of a message leads to its destination.
-use Rattle.std.proofs.Common.{◌≡◌, ℕ, Bool, true, false, cond, List, [], ◌∷◌, find, Option, Some, None, refl, ap, sym, ◌∙◌, subst}
+use Rattle.std.proofs.Common.{◌≡◌, ℕ, true, Option, Some, None, refl, sym, subst}
 use Rattle.std.specs.Option.{option_map}
 use Rattle.bsc_octets.specs.declared.vmac.Vmac.{Vmac}
 use Rattle.bsc_octets.specs.declared.identity.Identity.{Identity}
@@ -18,15 +18,7 @@ use Rattle.bsc_node_identity.specs.Carried.{LeadsTo, WaysLeadThere}
 use Rattle.bsc_lemmas.proofs.Options.{some_none_any as some_none}
 use Rattle.bsc_octets.proofs.Common.{vmac_same}
 use Rattle.std.proofs.lemmas.Option.{same_Some as some_same}
-
--- what is found passes the test
-found_passes : (test : ℕ → Bool) (ks : List ℕ) (k : ℕ) → find test ks ≡ Some k → test k ≡ true
-found_passes test [] k h = cc
-found_passes test (j ∷ ks) k h = by (test j) refl h (found_passes test ks k)
-  where
-    by : (b : Bool) → test j ≡ b → cond b (Some j) (find test ks) ≡ Some k → (find test ks ≡ Some k → test k ≡ true) → test k ≡ true
-    by true is g later = ap test (sym (some_same j k g)) ∙ is
-    by false is g later = later g
+use Rattle.bsc_node_laws.proofs.Tying.{found_passes}
 
 peer_at : (v : Vmac) (o : Option Identity) → is_peer (λ (peer : Identity). same_vmac peer.vmac v) o ≡ true → (who : Identity) × (o ≡ Some who) × (who.vmac ≡ v)
 peer_at v None h = cc

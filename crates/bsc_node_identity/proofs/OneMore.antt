@@ -1,12 +1,11 @@
 -- What a log says once one line more stands in it.
-use Rattle.std.proofs.Common.{◌≡◌, ◌≤◌, ℕ, ◌+◌, ◌-◌, Bool, true, false, cond, ◌||◌, List, [], ◌∷◌, ◌++◌, length, take, Option, Some, None, is_some, refl, ap, sym, ◌∙◌, subst, arith, length-append}
+use Rattle.std.proofs.Common.{◌≡◌, ℕ, ◌+◌, ◌-◌, Bool, true, false, cond, ◌||◌, List, [], ◌∷◌, ◌++◌, Option, Some, None, is_some, refl, ap, sym, ◌∙◌, subst}
 use Rattle.std.specs.Prelude.{filter_map, unwrap_or}
 use Rattle.std.specs.Option.{option_or}
-use Rattle.std.proofs.lemmas.List.{take-append-le, take_at}
 use Rattle.std.proofs.lemmas.List.Elements.{filter_map-append}
 use Rattle.bsc_octets.specs.declared.vmac.Vmac.{Vmac}
-use Rattle.bsc_connector.specs.Back.{newest_of, since, until}
-use Rattle.bsc_connector.proofs.BackLemmas.{newest_of-more, since-more}
+use Rattle.bsc_connector.specs.Back.{newest_of}
+use Rattle.bsc_connector.proofs.BackLemmas.{newest_of-more}
 use Rattle.bsc_initiate.specs.declared.event.InitEvent.{InitEvent}
 use Rattle.bsc_initiate.specs.declared.event.InitEvent.TheVariants.{Opened as MachineOpened, Message as InitMessage, Finish as InitFinish, Tick as InitTick}
 use Rattle.bsc_direct.specs.declared.call.SlotCall.{SlotCall}
@@ -74,29 +73,6 @@ pub own_vmac-same : (a : Made) (L : Log) (m : Line) → renewal_of m ≡ None �
 own_vmac-same a L m h = ap (λ (o : Option Vmac). unwrap_or o a.own.vmac) (newest_of-more renewal_of L m ∙ ap (λ (o : Option Vmac). option_or o (newest_of renewal_of L)) h)
 
 -- ---- what came before the newest of a kind
-
-take_whole : {A : Type 0} (xs : List A) (x : A) → take (length xs) (xs ++ x ∷ []) ≡ xs
-take_whole xs x = take_at xs (x ∷ []) (length xs) refl
-
-pub until-begun : {A : Type 0} (test : A → Bool) (xs : List A) (x : A) → test x ≡ true → until test (xs ++ x ∷ []) ≡ xs
-until-begun {A = A} test xs x h =
-    ap (λ (ys : List A). take (length (xs ++ x ∷ []) - length ys - 1) (xs ++ x ∷ [])) (since-more test xs x ∙ ap (λ (b : Bool). cond b [] (since test xs ++ x ∷ [])) h)
-    ∙ ap (λ (n : ℕ). take n (xs ++ x ∷ [])) (counted (length xs) (length (xs ++ x ∷ [])) (length-append xs (x ∷ []))) ∙ take_whole xs x
-  where
-    counted : (n m : ℕ) → m ≡ n + 1 → m - 0 - 1 ≡ n
-    counted n m e = omega (arith, e)
-
-pub until-other : {A : Type 0} (test : A → Bool) (xs : List A) (x : A) → test x ≡ false → until test (xs ++ x ∷ []) ≡ until test xs
-until-other {A = A} test xs x h =
-    ap (λ (ys : List A). take (length (xs ++ x ∷ []) - length ys - 1) (xs ++ x ∷ [])) (since-more test xs x ∙ ap (λ (b : Bool). cond b [] (since test xs ++ x ∷ [])) h)
-    ∙ ap (λ (n : ℕ). take n (xs ++ x ∷ [])) (counted (length xs) (length (since test xs)) (length (xs ++ x ∷ [])) (length (since test xs ++ x ∷ [])) (length-append xs (x ∷ [])) (length-append (since test xs) (x ∷ [])))
-    ∙ take-append-le (length xs - length (since test xs) - 1) xs (x ∷ []) (within (length xs) (length (since test xs)))
-  where
-    counted : (n s m t : ℕ) → m ≡ n + 1 → t ≡ s + 1 → m - t - 1 ≡ n - s - 1
-    counted n s m t e f = omega (arith, e, f)
-
-    within : (n s : ℕ) → n - s - 1 ≤ n
-    within n s = omega arith
 
 -- ---- what machines were told
 

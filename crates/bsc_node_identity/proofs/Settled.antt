@@ -9,7 +9,7 @@ use Rattle.bsc_octets.specs.declared.vmac.Vmac.{Vmac}
 use Rattle.bsc_octets.specs.declared.identity.Identity.{Identity}
 use Rattle.bsc_connector.specs.declared.side.Side.TheVariants.{Primary, Failover}
 use Rattle.bsc_connector.specs.Back.{first_of, newest_of, until}
-use Rattle.bsc_connector.proofs.BackLemmas.{newest_of-more}
+use Rattle.bsc_connector.proofs.BackLemmas.{newest_of-more, until-begun, until-other}
 use Rattle.bsc_initiate.specs.declared.event.InitEvent.{InitEvent}
 use Rattle.bsc_initiate.specs.declared.event.InitEvent.TheVariants.{Opened as MachineOpened, Message as InitMessage, Finish as InitFinish, Tick as InitTick}
 use Rattle.bsc_direct.specs.Slots.{slots}
@@ -30,15 +30,16 @@ use Rattle.bsc_node.specs.Laws.{with_event}
 use Rattle.bsc_node.proofs.Told.{at_last-more}
 use Rattle.bsc_node.proofs.Following.{goes_on-is}
 use Rattle.bsc_node.proofs.Lasting.{Fine, fine-goes_on, fine-log, there_in_slots, event_fits}
-use Rattle.bsc_node_laws.proofs.There.{there-other, there-before, opened-other}
+use Rattle.bsc_node_laws.proofs.There.{there-before, opened-other}
 use Rattle.bsc_node_identity.proofs.Each.{keeps}
 use Rattle.bsc_node_identity.proofs.Reasons.{was_open, NoneAccepts, Why, WhyBegun}
-use Rattle.bsc_node_identity.proofs.OneMore.{open-stays, opened-stays, established-same, own_vmac-same, until-begun, until-other, initiating-same, initiating-begun}
+use Rattle.bsc_node_identity.proofs.OneMore.{open-stays, opened-stays, established-same, own_vmac-same, initiating-same, initiating-begun}
 use Rattle.bsc_node_identity.proofs.Followed.{each-why}
 use Rattle.bsc_node_identity.proofs.Lines.{renewal_none, event_none, begun-why, begun-no_call, Stays, established-before, none-told, is_opening, OpensUnaccepted}
 use Rattle.bsc_lemmas.proofs.Booleans.{and_left, and_right, not_true}
 use Rattle.bsc_lemmas.proofs.Options.{some_none_any as some_none}
 use Rattle.bsc_node.proofs.Common.{word_awaited}
+use Rattle.bsc_node.proofs.There.{there-other}
 
 -- A link that is there began with the VMAC that the node has.
 abbrev pub VmacsStand : Made → Log → Type 0

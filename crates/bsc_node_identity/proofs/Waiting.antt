@@ -30,20 +30,20 @@ use Rattle.bsc_node.specs.declared.node_event.NodeEvent.TheVariants.{Came}
 use Rattle.bsc_node.specs.declared.timed_event.TimedEvent.{TimedEvent}
 use Rattle.bsc_node.specs.declared.action.Action.TheVariants.{Put, Close}
 use Rattle.bsc_node.specs.Logs.{Made, Line, came, did, accepting, Log, in_order, if_so, does, now}
-use Rattle.bsc_node.specs.Links.{same_link, begins, is_over_by_event, is_there, was_taken, accepting_events, asks_by, who_asked, by_machine, hears, verdict, Outcome, meets, accepting_outcome, outcome}
+use Rattle.bsc_node.specs.Links.{same_link, begins, is_over_by_event, is_there, was_taken, accepting_events, asks_by, who_asked, by_machine, verdict, Outcome, meets, accepting_outcome, outcome}
 use Rattle.bsc_node.specs.Ways.{awaits_peer, establish}
 use Rattle.bsc_node.specs.Ending.{carries_out_by, carries_out, ends, closes_link}
 use Rattle.bsc_node.specs.Meeting.{joins, refuses, wrong_peer, comes_up, meets_dialled, meets_taken, meets_slot, meets_direct}
-use Rattle.bsc_node.specs.Events.{obeys_by, obeys, follows}
+use Rattle.bsc_node.specs.Events.{obeys_by}
 use Rattle.bsc_node.specs.Node.{goes_on}
 use Rattle.bsc_node.specs.Conditions.{fits, may_come}
 use Rattle.bsc_node.specs.Laws.{with_event, with_heard}
 use Rattle.bsc_node.proofs.Order.{in_order-brought, in_order-cons}
 use Rattle.bsc_node.proofs.Told.{accepting_events-more, outcome-accepting}
-use Rattle.bsc_node.proofs.Following.{goes_on-is}
 use Rattle.bsc_node.proofs.Lasting.{event_fits}
-use Rattle.bsc_node_laws.proofs.There.{there-before, there-other, gone-stays, closed-gone, taken-other}
+use Rattle.bsc_node_laws.proofs.There.{there-before, gone-stays, taken-other}
 use Rattle.bsc_node_laws.proofs.Asked.{asked_closes}
+use Rattle.bsc_node_laws.proofs.Drawn.{came_log as log_heard}
 use Rattle.bsc_node_identity.proofs.Each.{EachHas, keeps}
 use Rattle.bsc_node_identity.proofs.OneMore.{open-stays, accepting-same, accepting-begun}
 use Rattle.bsc_node_identity.proofs.Reasons.{was_open, is_beginning, Why}
@@ -53,6 +53,7 @@ use Rattle.bsc_node_identity.proofs.Settled.{kept}
 use Rattle.bsc_connector.proofs.Common.{first_of-more}
 use Rattle.bsc_lemmas.proofs.Booleans.{and_left, and_right}
 use Rattle.bsc_node.proofs.Common.{same_link-is as same_link-true}
+use Rattle.bsc_node.proofs.There.{there-other, closed-gone}
 
 -- ---- a machine that awaits who asks
 
@@ -279,15 +280,6 @@ keep_past a L e k x N m why p = record {
   is = ap (λ (M : Log). M ++ m ∷ []) p.is ∙ append_assoc (with_event L e ++ x ∷ []) p.more (m ∷ []);
   waits = waits_more a L e k N m why (λ now v w. longer (with_event L e) x p.more (sym p.is ∙ w.0.3)) p.waits;
 }
-
-log_heard : (a : Made) (L : Log) (e : TimedEvent) (name : LinkName) (o : List ℕ) → e.event ≡ Came name o → L ++ goes_on a e L ≡ with_heard a L e name o ++ obeys a name (with_heard a L e name o)
-log_heard a L e name o is =
-    ap (λ lines. L ++ lines) (goes_on-is a L e)
-    ∙ sym (append_assoc L (came e ∷ []) (follows a e.event (with_event L e)))
-    ∙ ap (λ (ev : NodeEvent). with_event L e ++ follows a ev (with_event L e)) is
-    ∙ ap (λ lines. with_event L e ++ lines) (in_order-brought (hears a name o ∷ obeys a name ∷ []) (with_event L e))
-    ∙ sym (append_assoc (with_event L e) (hears a name o (with_event L e)) (obeys a name (with_heard a L e name o) ++ []))
-    ∙ ap (λ lines. with_heard a L e name o ++ lines) (append-nil (obeys a name (with_heard a L e name o)))
 
 fitting : (L : Log) (e : TimedEvent) → IsTrue (may_come L e) → (ev : NodeEvent) → e.event ≡ ev → fits L ev ≡ true
 fitting L e may ev is = sym (ap (fits L) is) ∙ event_fits L e may

@@ -11,9 +11,8 @@ use Rattle.bsc_initiate.specs.declared.event.InitEvent.TheVariants.{Message as I
 use Rattle.bsc_node.specs.declared.link_name.LinkName.{LinkName}
 use Rattle.bsc_node.specs.declared.link_name.LinkName.TheVariants.{Hub}
 use Rattle.bsc_node.specs.declared.node_event.NodeEvent.{NodeEvent}
-use Rattle.bsc_node.specs.declared.node_event.NodeEvent.TheVariants.{Opened, Came, Send}
+use Rattle.bsc_node.specs.declared.node_event.NodeEvent.TheVariants.{Came}
 use Rattle.bsc_node.specs.declared.timed_event.TimedEvent.{TimedEvent}
-use Rattle.bsc_node.specs.declared.action.Action.{Action}
 use Rattle.bsc_node.specs.declared.action.Action.TheVariants.{Put, Close, Draw}
 use Rattle.bsc_node.specs.Logs.{Made, Line, came, did, Log, either, if_so, does, now, action_of}
 use Rattle.bsc_node.specs.Links.{is_there, none_there, was_taken, by_machine, hears, verdict, Outcome, puts, puts_and_closes, closes, meets, is_refused, passes_up, keeps_still, outcome}
@@ -25,21 +24,17 @@ use Rattle.bsc_node.specs.Conditions.{is_draw, awaits_word, brings_word, may_com
 use Rattle.bsc_node.specs.Laws.{with_event, with_heard, draws}
 use Rattle.bsc_node.proofs.Order.{in_order-brought}
 use Rattle.bsc_node.proofs.Passing.{Passes, pass-in_order, pass-nothing}
-use Rattle.bsc_node.proofs.Quiet.{is_quiet_action, quiet-ends, quiet-closes_link}
+use Rattle.bsc_node.proofs.Quiet.{quiet-ends, quiet-closes_link}
 use Rattle.bsc_node.proofs.Heard.{LetsQuiet, lets-rule, pass-two-then, pass-meets_peer}
-use Rattle.bsc_node.proofs.Following.{is_came, pass-follows, opened-dialled, goes_on-is}
+use Rattle.bsc_node.proofs.Following.{is_came, opened-dialled, goes_on-is}
 use Rattle.bsc_node.proofs.Told.{at_last-more}
-use Rattle.bsc_node.proofs.Lasting.{LetsMessages, pass-takes_body, pass-sends}
-use Rattle.bsc_node.proofs.Drawing.{draws_none}
-use Rattle.bsc_node_laws.proofs.There.{there-other}
+use Rattle.bsc_node.proofs.Lasting.{LetsMessages, pass-takes_body}
+use Rattle.bsc_node.proofs.Drawing.{draws_none, none-follows as none_follows, came_acts, quiet_draws_none_by}
 use Rattle.bsc_lemmas.proofs.Booleans.{and_left, and_right, not_true}
 use Rattle.bsc_node.proofs.Common.{draws_where_none}
+use Rattle.bsc_node.proofs.There.{there-other}
 
 -- ---- lines that draw nothing
-
-quiet_draws_none_by : (action : Action) → is_quiet_action action ≡ true → not (draws action) ≡ true
-quiet_draws_none_by Draw h = h
-quiet_draws_none_by action h = refl
 
 quiet_draws_none : LetsQuiet draws_none
 quiet_draws_none (did action) h = quiet_draws_none_by action h
@@ -108,11 +103,6 @@ leaves_draw a L e C is drawn none = record {
 
 -- ---- every event but a message
 
-none_follows : (a : Made) (M : Log) (ev : NodeEvent) → is_came ev ≡ false → ((name : LinkName) → ev ≡ Opened name → was_taken name M ≡ false) → list_all draws_none (follows a ev M) ≡ true
-none_follows a M (Came name octets) s o = cc
-none_follows a M (Send dest npdu) s o = pass-sends draws_none messages dest npdu M
-none_follows a M ev s o = pass-follows draws_none quiet_draws_none a M ev refl refl (record { dialled = o; next = λ name k is named uri. refl; dial = λ k free uri. refl; take = λ k free. refl })
-
 not_came : (a : Made) (L : Log) (e : TimedEvent) → IsTrue (may_come L e) → is_came e.event ≡ false → list_all draws_none (follows a e.event (with_event L e)) ≡ true
 not_came a L e h s = none_follows a (with_event L e) e.event s (λ name is. opened-dialled L e name is h)
 
@@ -134,7 +124,7 @@ none_obeys_by a name (passes_up msg) h = pass-takes_body draws_none messages a n
 none_obeys_by a name keeps_still h = pass-nothing draws_none
 
 -- the log as a message leaves it
-came_log : (a : Made) (L : Log) (e : TimedEvent) (name : LinkName) (o : List ℕ) → e.event ≡ Came name o → L ++ goes_on a e L ≡ with_heard a L e name o ++ obeys a name (with_heard a L e name o)
+pub came_log : (a : Made) (L : Log) (e : TimedEvent) (name : LinkName) (o : List ℕ) → e.event ≡ Came name o → L ++ goes_on a e L ≡ with_heard a L e name o ++ obeys a name (with_heard a L e name o)
 came_log a L e name o is =
     ap (λ lines. L ++ lines) (goes_on-is a L e)
     ∙ sym (append_assoc L (came e ∷ []) (follows a e.event (with_event L e)))
@@ -142,20 +132,6 @@ came_log a L e name o is =
     ∙ ap (λ lines. with_event L e ++ lines) (in_order-brought (hears a name o ∷ obeys a name ∷ []) (with_event L e))
     ∙ sym (append_assoc (with_event L e) (hears a name o (with_event L e)) (obeys a name (with_heard a L e name o) ++ []))
     ∙ ap (λ lines. with_heard a L e name o ++ lines) (append-nil (obeys a name (with_heard a L e name o)))
-
-machine_acts : (b : Bool) (name : LinkName) (a : Made) (M : Log) (o : List ℕ) (lines : List Line)
-    → filter_map action_of (by_machine (λ n. InitMessage (now M) (verdict a M n o)) (λ n. AcceptMessage (now M) (verdict a M n o)) name b ++ lines) ≡ filter_map action_of lines
-machine_acts true name a M o lines = refl
-machine_acts false name a M o lines = refl
-
--- the actions at a message that came: those that follow from the machine's step
-came_acts : (a : Made) (L : Log) (e : TimedEvent) (name : LinkName) (o : List ℕ) → e.event ≡ Came name o → actions_at a L e ≡ filter_map action_of (obeys a name (with_heard a L e name o))
-came_acts a L e name o is =
-    ap (filter_map action_of) (goes_on-is a L e)
-    ∙ ap (λ (ev : NodeEvent). filter_map action_of (follows a ev (with_event L e))) is
-    ∙ ap (filter_map action_of) (in_order-brought (hears a name o ∷ obeys a name ∷ []) (with_event L e))
-    ∙ machine_acts (was_taken name (with_event L e)) name a (with_event L e) o (obeys a name (with_heard a L e name o) ++ [])
-    ∙ ap (filter_map action_of) (append-nil (obeys a name (with_heard a L e name o)))
 
 -- where what the machine's step brings about draws nothing, nothing that follows does
 none_came : (a : Made) (L : Log) (e : TimedEvent) (name : LinkName) (o : List ℕ) → e.event ≡ Came name o

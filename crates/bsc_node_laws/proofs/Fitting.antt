@@ -26,10 +26,11 @@ use Rattle.bsc_node.specs.Ending.{ends_hub, ends_slot, tells_finished, ends_by, 
 use Rattle.bsc_node.proofs.Order.{in_order-brought, in_order-cons}
 use Rattle.bsc_node.proofs.Passing.{pass-found, pass-nothing, pass-when}
 use Rattle.bsc_node_laws.proofs.Tied.{Tied, FitsHub, EachFits}
-use Rattle.bsc_node_laws.proofs.There.{gone-stays_all, closed-gone}
+use Rattle.bsc_node_laws.proofs.There.{gone-stays_all}
 use Rattle.bsc_node_laws.proofs.Tying.{keeps_each, fits_append, dials_when_gone}
 use Rattle.bsc_node_laws.proofs.Plain.{is_plain, Plain, plain-fits, plain-finishes_machine, plain-tells_use, plain-drops_failover}
 use Rattle.bsc_lemmas.proofs.Booleans.{and_left}
+use Rattle.bsc_node.proofs.There.{closed-gone}
 
 -- ---- how rules are put together
 

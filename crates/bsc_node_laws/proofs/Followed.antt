@@ -35,13 +35,14 @@ use Rattle.bsc_node.proofs.Lasting.{free_in_slots, there_in_slots, event_fits}
 use Rattle.bsc_node_laws.specs.Links.{opens_at, LogGoesOn, Admits}
 use Rattle.bsc_node_laws.proofs.Tied.{Tied, EachFits}
 use Rattle.bsc_node_laws.proofs.Between.{Between}
-use Rattle.bsc_node_laws.proofs.There.{there-over, gone-stays}
+use Rattle.bsc_node_laws.proofs.There.{gone-stays}
 use Rattle.bsc_node_laws.proofs.Tying.{keeps_event, keeps_opened, free_gone}
 use Rattle.bsc_node_laws.proofs.Plain.{plain-hears, plain-sends, plain-resolves, plain-solicits}
 use Rattle.bsc_node_laws.proofs.Fitting.{fit-plain, fit-then, fit-last, fit-in_order, over, fit-ends, fit-closes_link}
 use Rattle.bsc_node_laws.proofs.Obeying.{fit-obeys, fit-time_passes, fit-is_to_end, fit-directs, MayDialNext, fit-dial_fails, fit-ends_refused}
 use Rattle.bsc_lemmas.proofs.Booleans.{and_left}
 use Rattle.bsc_node.proofs.Common.{word_awaited}
+use Rattle.bsc_node.proofs.There.{there-over}
 
 -- ---- what an event is, once it came
 

@@ -32,12 +32,13 @@ use Rattle.bsc_node.proofs.Order.{in_order-brought}
 use Rattle.bsc_node.proofs.Passing.{pass-some}
 use Rattle.bsc_node.proofs.Lasting.{free_in_slots}
 use Rattle.bsc_node_laws.proofs.Tied.{Tied, EachFits}
-use Rattle.bsc_node_laws.proofs.There.{gone-stays, gone-stays_all, closed-gone}
+use Rattle.bsc_node_laws.proofs.There.{gone-stays, gone-stays_all}
 use Rattle.bsc_node_laws.proofs.Tying.{free_gone, claimed_now}
 use Rattle.bsc_node_laws.proofs.Asked.{asked_closes}
 use Rattle.bsc_node_laws.proofs.Plain.{plain-carries_by, plain-carries, plain-ticks, plain-takes_body}
 use Rattle.bsc_node_laws.proofs.Fitting.{FitsAlways, fit-plain, fit-cons, fit-then, fit-last, fit-in_order, fit-when, fit-either, fit-some, fit-mapped, fit-each_append}
 use Rattle.bsc_node_laws.proofs.Fitting.{fit-tells_connector, OverAt, over, fit-tells_finished, fit-ends, fit-closes_link, fit-finishes_link}
+use Rattle.bsc_node.proofs.There.{closed-gone}
 
 -- A link that a machine's step closed isn't there.
 carried_gone : (name : LinkName) (o : List ℕ) (closing : Closing) (L : Log) → is_there name (L ++ carries_out_by name (puts_and_closes o closing) L) ≡ false

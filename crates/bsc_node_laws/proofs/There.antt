@@ -7,23 +7,23 @@ use Rattle.std.proofs.lemmas.List.{append_assoc, append-nil}
 use Rattle.bsc_connector.specs.declared.side.Side.TheVariants.{Primary, Failover}
 use Rattle.bsc_connector.specs.Back.{newest_of}
 use Rattle.bsc_connector.proofs.BackLemmas.{newest_of-more, list_any-more}
-use Rattle.bsc_accept.specs.declared.closing.Closing.{Closing}
 use Rattle.bsc_initiate.specs.declared.event.InitEvent.{InitEvent}
 use Rattle.bsc_initiate.specs.declared.event.InitEvent.TheVariants.{Opened}
 use Rattle.bsc_initiate.specs.Past.{request_at}
 use Rattle.bsc_node.specs.declared.link_name.LinkName.{LinkName}
 use Rattle.bsc_node.specs.declared.link_name.LinkName.TheVariants.{Hub, Direct}
-use Rattle.bsc_node.specs.declared.action.Action.TheVariants.{Dial, Take, Close}
+use Rattle.bsc_node.specs.declared.action.Action.TheVariants.{Dial, Take}
 use Rattle.bsc_node.specs.Logs.{Line, initiating, did, Log}
 use Rattle.bsc_node.specs.Links.{same_link, beginning_of, begins, is_over_by, life, is_there, was_taken, initiating_event, initiating_events, request}
 use Rattle.bsc_node.specs.Conditions.{has_opened}
-use Rattle.bsc_node.proofs.Told.{same_link-self, life-more, initiating_events-more}
+use Rattle.bsc_node.proofs.Told.{life-more, initiating_events-more}
 use Rattle.bsc_connector.proofs.Common.{first_of-more}
-use Rattle.bsc_lemmas.proofs.Booleans.{and_false, and_left, and_right, not_true, or_false, or_true}
+use Rattle.bsc_lemmas.proofs.Booleans.{and_left, and_right, not_true, or_true}
 use Rattle.bsc_lemmas.proofs.Lists.{filter_map_none as filter_one}
 use Rattle.bsc_lemmas.proofs.Numbers.{eq_turned as same_order}
 use Rattle.bsc_lemmas.proofs.Options.{none_if as none_so, or_none as or_last, some_so}
 use Rattle.bsc_node.proofs.Common.{life_begun as life-begun}
+use Rattle.bsc_node.proofs.There.{there-other, there-over}
 
 -- ---- names
 
@@ -44,30 +44,6 @@ pub begins-take : (name other : LinkName) → begins name (did (Take other)) ≡
 begins-take name other = some_so (same_link other name) true
 
 -- ---- which links are there
-
--- A link is there, after a line that doesn't begin it, where it began and is over neither before nor by that line.
-pub there-more : (name : LinkName) (L : Log) (m : Line) → begins name m ≡ false
-    → is_there name (L ++ m ∷ []) ≡ (list_any (begins name) L && not (list_any (is_over_by name) (life L name) || is_over_by name m))
-there-more name L m b =
-    ap (λ (p : Bool). p && not (list_any (is_over_by name) (life (L ++ m ∷ []) name)))
-    (list_any-more (begins name) L m ∙ ap (λ (p : Bool). list_any (begins name) L || p) b ∙ or_false (list_any (begins name) L))
-    ∙ ap (λ (xs : Log). list_any (begins name) L && not (list_any (is_over_by name) xs)) (life-more L m name b)
-    ∙ ap (λ (p : Bool). list_any (begins name) L && not p) (list_any-more (is_over_by name) (life L name) m)
-
--- A line that neither begins nor ends a link leaves it there or not, as it was.
-pub there-other : (name : LinkName) (L : Log) (m : Line) → begins name m ≡ false → is_over_by name m ≡ false → is_there name (L ++ m ∷ []) ≡ is_there name L
-there-other name L m b o =
-    there-more name L m b
-    ∙ ap (λ (p : Bool). list_any (begins name) L && not (list_any (is_over_by name) (life L name) || p)) o
-    ∙ ap (λ (p : Bool). list_any (begins name) L && not p) (or_false (list_any (is_over_by name) (life L name)))
-
--- A link that is over isn't there.
-pub there-over : (name : LinkName) (L : Log) (m : Line) → begins name m ≡ false → is_over_by name m ≡ true → is_there name (L ++ m ∷ []) ≡ false
-there-over name L m b o =
-    there-more name L m b
-    ∙ ap (λ (p : Bool). list_any (begins name) L && not (list_any (is_over_by name) (life L name) || p)) o
-    ∙ ap (λ (p : Bool). list_any (begins name) L && not p) (or_true (list_any (is_over_by name) (life L name)))
-    ∙ and_false (list_any (begins name) L)
 
 -- A link that begins is there.
 pub there-begun : (name : LinkName) (L : Log) (m : Line) → begins name m ≡ true → is_over_by name m ≡ false → is_there name (L ++ m ∷ []) ≡ true
@@ -98,9 +74,6 @@ there-before name L m b there = by (is_there name L) refl
     by : (p : Bool) → is_there name L ≡ p → p ≡ true
     by true h = refl
     by false h = sym (gone-stays name L m b h) ∙ there
-
-pub closed-gone : (name : LinkName) (L : Log) (c : Closing) → is_there name (L ++ did (Close name c) ∷ []) ≡ false
-closed-gone name L c = there-over name L (did (Close name c)) refl (same_link-self name)
 
 -- ---- which were taken
 

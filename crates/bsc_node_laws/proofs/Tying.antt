@@ -35,6 +35,7 @@ use Rattle.bsc_node.specs.Ways.{slot_call_of, slot_calls, free_slot}
 use Rattle.bsc_node.specs.Ending.{dials}
 use Rattle.bsc_node.proofs.Told.{at_last-more, same_link-self}
 use Rattle.bsc_node_laws.specs.Links.{MayStand, EachMay}
+use Rattle.bsc_connector.proofs.Apart.{come_none}
 use Rattle.bsc_node_laws.proofs.Tied.{Tied, FitsHub, FitsDial, Fits, EachFits}
 use Rattle.bsc_node_laws.proofs.There.{begins-dial, begins-take, gone-stays, there-before}
 use Rattle.bsc_lemmas.proofs.Booleans.{and_left, and_right, not_true}
@@ -198,7 +199,7 @@ keeps_taken a L k t = record {
     by j false e there = claimed-same a M (did (Take (Direct k))) j (begins-take (Direct j) (Direct k) ∙ e) refl claimed there
 
 -- what is found passes the test
-found_passes : (test : ℕ → Bool) (ks : List ℕ) (k : ℕ) → find test ks ≡ Some k → test k ≡ true
+pub found_passes : (test : ℕ → Bool) (ks : List ℕ) (k : ℕ) → find test ks ≡ Some k → test k ≡ true
 found_passes test [] k h = cc
 found_passes test (j ∷ ks) k h = by (test j) refl h (found_passes test ks k)
   where
@@ -253,11 +254,6 @@ fits_may a L [] f = tt
 fits_may a L (m ∷ lines) f = (fits-may a L m f.0, fits_may a (L ++ m ∷ []) lines f.1)
 
 -- ---- the primary hub is dialled
-
--- once the next attempt has come none is due
-come_none : (n : ℕ) (o : Option ℕ) → has_come n o ≡ true → unless_come n o ≡ None
-come_none n None h = refl
-come_none n (Some at) h = rw h refl
 
 not_none : {B : Type 0} (n : ℕ) (o : Option ℕ) → has_come n o ≡ true → o ≡ None → B
 not_none n o h none = both_ways (has_come n o) h (ap (has_come n) none)

@@ -26,21 +26,21 @@ at_err (Err e) p = p
 module _ {N W L : Type 0} (goes : N → ℕ → NodeEvent → List Action → N → Type 0) (gives : W → Option ℕ → W → Type 0) (faults : W → ℕ) (talk : L → Option (List Said)) (now : ℕ) where
   -- a node at rest draws no word at what it is told
   pub stops_at_rest : (e : NodeEvent) (n : N) (words : W) (w v : World L) → StopsAt goes talk now e n w v
-      → StopsAt (GoesDrawing goes gives faults) talk now e (at_rest n words) w v
+      → StopsAt (GoesDrawing goes (Draws gives faults)) talk now e (at_rest n words) w v
   stops_at_rest e n words w v (inl same) = inl same
   stops_at_rest e n words w v (inr (actions, p, g, b)) = inr (actions, record { node = p; words = words; awaits = draws actions }, (g, refl, refl), b)
 
   -- the word was drawn that it waited for
   pub stops_drawn : (word : NodeEvent) (n : N) (words words' : W) (w v : World L) → Draws gives faults word words words' → StopsAt goes talk now word n w v
-      → StopsAt (GoesDrawing goes gives faults) talk now word (record { node = n; words = words; awaits = true }) w v
+      → StopsAt (GoesDrawing goes (Draws gives faults)) talk now word (record { node = n; words = words; awaits = true }) w v
   stops_drawn word n words words' w v drawn (inl same) = inl same
   stops_drawn word n words words' w v drawn (inr (actions, p, g, b)) = inr (actions, record { node = p; words = words'; awaits = false }, (g, drawn, refl), b)
 
   -- a node at rest drew a word, and stopped at that
   pub stops_at_word : (e : NodeEvent) (n p : N) (words : W) (w x v : World L) (actions : List Action) → true ≡ draws actions
       → goes n now e actions p → Carries talk actions w x
-      → (word : NodeEvent) × IsTrue (brings_word word) × StopsAt (GoesDrawing goes gives faults) talk now word (record { node = p; words = words; awaits = true }) x v
-      → GiveStops (GoesDrawing goes gives faults) talk now e (at_rest n words) w v
+      → (word : NodeEvent) × IsTrue (brings_word word) × StopsAt (GoesDrawing goes (Draws gives faults)) talk now word (record { node = p; words = words; awaits = true }) x v
+      → GiveStops (GoesDrawing goes (Draws gives faults)) talk now e (at_rest n words) w v
   stops_at_word e n p words w x v actions is g c (word, brings, s) =
       inr (actions, record { node = p; words = words; awaits = true }, x, word, (g, refl, is), c, sym is, brings, s)
 

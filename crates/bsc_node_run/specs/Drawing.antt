@@ -33,14 +33,14 @@ module _ {W : Type 0} (gives : W → Option ℕ → W → Type 0) (faults : W �
   Draws NoRandom before after = gives before None after × HasRisen (faults before) (faults after)
   Draws event before after = ⊥
 
-  -- A word is drawn exactly where one is waited for.
-  abbrev pub DrawsIf : Bool → NodeEvent → W → W → Type 0
-  DrawsIf true event before after = Draws event before after
-  DrawsIf false event before after = after ≡ before
+-- A word is drawn exactly where one is waited for.
+abbrev pub DrawsIf : {W : Type 0} → (NodeEvent → W → W → Type 0) → Bool → NodeEvent → W → W → Type 0
+DrawsIf drawn true event before after = drawn event before after
+DrawsIf drawn false event before after = after ≡ before
 
-module _ {N W : Type 0} (goes : N → ℕ → NodeEvent → List Action → N → Type 0) (gives : W → Option ℕ → W → Type 0) (faults : W → ℕ) where
+module _ {N W : Type 0} (goes : N → ℕ → NodeEvent → List Action → N → Type 0) (drawn : NodeEvent → W → W → Type 0) where
   -- A node at an event. Where it waits for a word, the event is that word, or that there is none. It waits for one once it
   -- has drawn one.
   abbrev pub GoesDrawing : Drawing N W → ℕ → NodeEvent → List Action → Drawing N W → Type 0
   GoesDrawing d now event actions f =
-      goes d.node now event actions f.node × DrawsIf gives faults d.awaits event d.words f.words × (f.awaits ≡ (not d.awaits && draws actions))
+      goes d.node now event actions f.node × DrawsIf drawn d.awaits event d.words f.words × (f.awaits ≡ (not d.awaits && draws actions))

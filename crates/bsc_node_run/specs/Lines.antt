@@ -46,7 +46,8 @@ uris_line v uris = codes "uris " ++ encode_upper v.0 ++ behind_space uris ++ cod
 
 -- An Advertisement of a VMAC: the hub status, whether it accepts direct connections, and the two maximum lengths.
 abbrev pub advert_line : Vmac → Advert → List ℕ
-advert_line v a = codes "advert " ++ encode_upper v.0 ++ then_number a.status ++ then_number a.accepts ++ then_number a.max_bvlc ++ then_number a.max_npdu ++ codes "\n"
+advert_line v a = codes "advert " ++ encode_upper v.0 ++ then_number a.status ++ then_number a.accepts ++ then_number a.max_bvlc ++ then_number a.max_npdu
+    ++ codes "\n"
 
 -- whose a NAK is: a node's, or the hub's own
 abbrev pub whose : Option Vmac → List ℕ

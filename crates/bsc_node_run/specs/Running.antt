@@ -8,6 +8,7 @@ use Rattle.bsc_node.specs.declared.action.Action.{Action}
 use Rattle.bsc_node_run.specs.declared.due.Due.{Due}
 use Rattle.bsc_node_run.specs.declared.run_end.RunEnd.{RunEnd}
 use Rattle.bsc_node_run.specs.declared.run_end.RunEnd.TheVariants.{Finished, Spent}
+use Rattle.bsc_node_run.specs.declared.run_terms.RunTerms.{RunTerms}
 use Rattle.bsc_node_run.specs.Moments.{Moment, RunMoment, moment}
 use Rattle.bsc_node_run.specs.Turning.{Turn}
 use Rattle.bsc_node_run.specs.Worlds.{Admitting, Dialling, World, Same}
@@ -56,3 +57,8 @@ module _ {N L : Type 0} (goes : N → ℕ → NodeEvent → List Action → N �
     pub readings : Grows before.out.readings after.out.readings times
     pub rise : DontFall 0 times
     pub ends : EndsSo end turns times last.finished
+
+module _ {N L : Type 0} (goes : N → ℕ → NodeEvent → List Action → N → Type 0) (talk : L → Option (List Said)) where
+  -- A whole run by these terms, which came to this end.
+  abbrev pub RunsTo : RunTerms → RunMoment N L → RunMoment N L → RunEnd → Type 0
+  RunsTo terms before after end = Run goes talk terms.listens end terms.turns terms.script.now before after

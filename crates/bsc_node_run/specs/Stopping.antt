@@ -16,6 +16,8 @@ use Rattle.bsc_node.specs.declared.action.Action.TheVariants.{Dial, Deliver, Tel
 use Rattle.bsc_node.specs.Conditions.{brings_word}
 use Rattle.bsc_node_run.specs.declared.due.Due.{Due}
 use Rattle.bsc_node_run.specs.declared.news.News.{News}
+use Rattle.bsc_node_run.specs.declared.run_terms.RunTerms.{RunTerms}
+use Rattle.bsc_node_run.specs.declared.turn_start.TurnStart.{TurnStart}
 use Rattle.bsc_node_run.specs.Lines.{note_line, delivered_line}
 use Rattle.bsc_node_run.specs.Moments.{Hands, Moment, Outside, RunMoment, in_hands, moment}
 use Rattle.bsc_node_run.specs.Performing.{Carries, Does, kind_of}
@@ -157,3 +159,12 @@ module _ {N L : Type 0} (goes : N → ℕ → NodeEvent → List Action → N �
   -- A run that ended by a fault: before its first turn, for want of memory, or in a turn.
   abbrev pub RunFails : ℕ → List Due → RunMoment N L → Outside L → Type 0
   RunFails turns script before after = (after ≡ before.out) ⊎ RunStops turns script before after
+
+module _ {N L : Type 0} (goes : N → ℕ → NodeEvent → List Action → N → Type 0) (talk : L → Option (List Said)) where
+  -- A turn from this start at this time, which stopped.
+  abbrev pub TurnBreaks : ℕ → TurnStart → Moment N L → Hands L → Type 0
+  TurnBreaks now from before after = TurnStops goes talk now from.start from.script.now from.listens before after
+
+  -- A run by these terms that ended by a fault.
+  abbrev pub RunBreaks : RunTerms → RunMoment N L → Outside L → Type 0
+  RunBreaks terms before after = RunFails goes talk terms.listens terms.turns terms.script.now before after

@@ -23,6 +23,8 @@ use Rattle.bsc_node_run.specs.declared.due.Due.{Due}
 use Rattle.bsc_node_run.specs.declared.news.Change.{Change}
 use Rattle.bsc_node_run.specs.declared.news.Change.TheVariants.{Opened as DidOpen, DialFailed as DidntOpen, Lost as WasLost}
 use Rattle.bsc_node_run.specs.declared.news.News.{News}
+use Rattle.bsc_node_run.specs.declared.turn_end.TurnEnd.{TurnEnd}
+use Rattle.bsc_node_run.specs.declared.turn_start.TurnStart.{TurnStart}
 use Rattle.bsc_node_run.specs.Performing.{Carries, is_draw}
 use Rattle.bsc_node_run.specs.Receiving.{link_wait}
 use Rattle.bsc_node_run.specs.Moments.{Moment, moment}
@@ -168,3 +170,8 @@ module _ {N L : Type 0} (goes : N → ℕ → NodeEvent → List Action → N �
     pub given : GivesLines lines node_told world_told node_given world_given
     pub heard : HearsEach names node_given world_given node_heard world_heard
     pub admits : Admits listens (moment node_heard world_heard before.hands.door) after
+
+module _ {N L : Type 0} (goes : N → ℕ → NodeEvent → List Action → N → Type 0) (talk : L → Option (List Said)) where
+  -- A turn from this start, which came to this end.
+  abbrev pub TurnsTo : TurnStart → Moment N L → Moment N L → TurnEnd → Type 0
+  TurnsTo from before after end = Turn goes talk end.time from.start from.script.now end.left.now from.listens before after

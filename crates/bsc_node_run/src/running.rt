@@ -2,11 +2,11 @@
 ghost use Rattle.std.specs.Prelude.{◌≡◌, ◌≤◌, IfOk, OnErr};
 ghost use Rattle.bsc_edge.specs.Told.{Stays};
 ghost use Rattle.bsc_node_run.specs.Halts.{RisesOnAcceptFault, RisesOnWriteFault};
-ghost use Rattle.bsc_node_run.specs.Drawing.{GoesDrawing, at_rest};
+ghost use Rattle.bsc_node_run.specs.Drawing.{Draws, GoesDrawing, at_rest};
 ghost use Rattle.bsc_node_run.specs.Moments.{outside, run_moment};
 ghost use Rattle.bsc_node_run.specs.Resting.{HasRested, IsOverBy, longest_rest};
-ghost use Rattle.bsc_node_run.specs.Running.{Run};
-ghost use Rattle.bsc_node_run.specs.Stopping.{RunFails};
+ghost use Rattle.bsc_node_run.specs.Running.{RunsTo};
+ghost use Rattle.bsc_node_run.specs.Stopping.{RunBreaks};
 ghost use Rattle.bsc_node_run.specs.Turning.{IsNotDue};
 ghost use Rattle.bsc_node_run.specs.Worlds.{admitting, dialling};
 
@@ -66,16 +66,14 @@ pub fn run_core<
     acceptor: &mut A,
     parts: &mut NodeParts<V, W, D>,
 ) -> Result<RunEnd, Halt>
-    ensures runs { IfOk result (λ end. Run (GoesDrawing N.goes W.gives W.faults) L.talk terms.entry.listens end
-        terms.entry.turns terms.entry.script.now
+    ensures runs { IfOk result (λ end. RunsTo (GoesDrawing N.goes (Draws W.gives W.faults)) L.talk terms.entry
         (run_moment (at_rest node.old parts.old.random) (dialling D.calls D.left D.faults parts.old.dialer)
         (K.held sink.old) (admitting A.left A.waits acceptor.old) (C.readings clock.old))
         (run_moment (at_rest node.new parts.new.random) (dialling D.calls D.left D.faults parts.new.dialer)
-        (K.held sink.new) (admitting A.left A.waits acceptor.new) (C.readings clock.new))) }
+        (K.held sink.new) (admitting A.left A.waits acceptor.new) (C.readings clock.new)) end) }
 
     // Where it ends by a fault, what was done is as in a run up to there, and one action more in part.
-    ensures fails { OnErr result (RunFails (GoesDrawing N.goes W.gives W.faults) L.talk terms.entry.listens
-        terms.entry.turns terms.entry.script.now
+    ensures fails { OnErr result (RunBreaks (GoesDrawing N.goes (Draws W.gives W.faults)) L.talk terms.entry
         (run_moment (at_rest node.old parts.old.random) (dialling D.calls D.left D.faults parts.old.dialer)
         (K.held sink.old) (admitting A.left A.waits acceptor.old) (C.readings clock.old))
         (outside (dialling D.calls D.left D.faults parts.new.dialer) (K.held sink.new) (admitting A.left A.waits acceptor.new)

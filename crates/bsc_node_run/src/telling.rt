@@ -91,11 +91,11 @@ fn tell_word<N: Core, K: Sink, W: Words, L: Link + Drop, D: Dialer<L>>(
     random: &mut W,
     dialer: &mut D,
 ) -> Result<(), Halt>
-    ensures answers { OnOk result (GivesWord (GoesDrawing N.goes W.gives W.faults) L.talk at.time true
+    ensures answers { OnOk result (GivesWord (GoesDrawing N.goes (Draws W.gives W.faults)) L.talk at.time true
         (record { node = node.old; words = random.old; awaits = true })
         (world_of set.old (dialling D.calls D.left D.faults dialer.old) (K.held sink.old))
         (at_rest node.new random.new) (world_of set.new (dialling D.calls D.left D.faults dialer.new) (K.held sink.new))) }
-    ensures stops { OnErr result ((word : NodeEventType) × IsTrue (brings_word word) × StopsAt (GoesDrawing N.goes W.gives W.faults) L.talk at.time word
+    ensures stops { OnErr result ((word : NodeEventType) × IsTrue (brings_word word) × StopsAt (GoesDrawing N.goes (Draws W.gives W.faults)) L.talk at.time word
         (record { node = node.old; words = random.old; awaits = true })
         (world_of set.old (dialling D.calls D.left D.faults dialer.old) (K.held sink.old))
         (world_of set.new (dialling D.calls D.left D.faults dialer.new) (K.held sink.new))) }
@@ -121,10 +121,10 @@ pub(crate) fn give<N: Core, K: Sink, W: Words, L: Link + Drop, D: Dialer<L>>(
     event: &NodeEvent,
 ) -> Result<(), Halt>
     requires { has_octets event.now ≡ true }
-    ensures gives { OnOk result (Gives (GoesDrawing N.goes W.gives W.faults) L.talk at.time event.now
+    ensures gives { OnOk result (Gives (GoesDrawing N.goes (Draws W.gives W.faults)) L.talk at.time event.now
         (at_rest node.old random.old) (world_of set.old (dialling D.calls D.left D.faults dialer.old) (K.held sink.old))
         (at_rest node.new random.new) (world_of set.new (dialling D.calls D.left D.faults dialer.new) (K.held sink.new))) }
-    ensures stops { OnErr result (GiveStops (GoesDrawing N.goes W.gives W.faults) L.talk at.time event.now
+    ensures stops { OnErr result (GiveStops (GoesDrawing N.goes (Draws W.gives W.faults)) L.talk at.time event.now
         (at_rest node.old random.old) (world_of set.old (dialling D.calls D.left D.faults dialer.old) (K.held sink.old))
         (world_of set.new (dialling D.calls D.left D.faults dialer.new) (K.held sink.new))) }
     ensures failed { RisesOnWriteFault result (K.faults sink.old) (K.faults sink.new) }

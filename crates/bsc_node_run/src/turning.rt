@@ -7,13 +7,13 @@ ghost use Rattle.bsc_node_run.specs.Halts.{RisesOnAcceptFault, RisesOnWriteFault
 ghost use Rattle.bsc_node_run.specs.declared.due.Due.{Due as DueType};
 ghost use Rattle.bsc_node_run.specs.declared.halt.Halt.{Halt as HaltType};
 ghost use Rattle.bsc_node_run.specs.declared.news.News.{News as NewsType};
-ghost use Rattle.bsc_node_run.specs.Drawing.{GoesDrawing, at_rest};
+ghost use Rattle.bsc_node_run.specs.Drawing.{Draws, GoesDrawing, at_rest};
 ghost use Rattle.bsc_node_run.specs.Moments.{in_hands, moment};
 ghost use Rattle.bsc_node_run.specs.Receiving.{Received};
 ghost use Rattle.bsc_node_run.specs.Requests.{has_octets};
-ghost use Rattle.bsc_node_run.specs.Stopping.{AdmitStops, EachStop, HearStops, LinesStop, NewsStop, StartStops, TurnStops};
+ghost use Rattle.bsc_node_run.specs.Stopping.{AdmitStops, EachStop, HearStops, LinesStop, NewsStop, StartStops, TurnBreaks};
 ghost use Rattle.bsc_node_run.specs.Turning.{Admits, AreDue, GivesLines, GivesNews, HearsEach, IsNotDue, LinkHears};
-ghost use Rattle.bsc_node_run.specs.Turning.{Starts, Turn, event_of, names, passed_by, slots_from};
+ghost use Rattle.bsc_node_run.specs.Turning.{Starts, TurnsTo, event_of, names, passed_by, slots_from};
 ghost use Rattle.bsc_node_run.specs.Worlds.{Dialling, Same, admitting, dialling, link_in, with_over, world_of};
 
 use crate::at::At;
@@ -57,10 +57,10 @@ fn give_news<N: Core, K: Sink, W: Words, L: Link + Drop, D: Dialer<L>>(
     random: &mut W,
     dialer: &mut D,
 ) -> Result<(), Halt>
-    ensures gives { OnOk result ((news : List NewsType) × GivesNews (GoesDrawing N.goes W.gives W.faults) L.talk at.time news
+    ensures gives { OnOk result ((news : List NewsType) × GivesNews (GoesDrawing N.goes (Draws W.gives W.faults)) L.talk at.time news
         (at_rest node.old random.old) (world_of set.old (dialling D.calls D.left D.faults dialer.old) (K.held sink.old))
         (at_rest node.new random.new) (world_of set.new (dialling D.calls D.left D.faults dialer.new) (K.held sink.new))) }
-    ensures stops { OnErr result ((news : List NewsType) × NewsStop (GoesDrawing N.goes W.gives W.faults) L.talk at.time news
+    ensures stops { OnErr result ((news : List NewsType) × NewsStop (GoesDrawing N.goes (Draws W.gives W.faults)) L.talk at.time news
         (at_rest node.old random.old) (world_of set.old (dialling D.calls D.left D.faults dialer.old) (K.held sink.old))
         (world_of set.new (dialling D.calls D.left D.faults dialer.new) (K.held sink.new))) }
     ensures failed { RisesOnWriteFault result (K.faults sink.old) (K.faults sink.new) }
@@ -85,11 +85,11 @@ fn give_due<'a, N: Core, K: Sink, W: Words, L: Link + Drop, D: Dialer<L>>(
 ) -> Result<&'a [Due], Halt>
     ensures gives { IfOk result (λ rest. (lines : List DueType)
         × (script.now ≡ lines ++ rest.now) × AreDue at.passed lines × IsNotDue at.passed rest.now
-        × GivesLines (GoesDrawing N.goes W.gives W.faults) L.talk at.time lines
+        × GivesLines (GoesDrawing N.goes (Draws W.gives W.faults)) L.talk at.time lines
         (at_rest node.old random.old) (world_of set.old (dialling D.calls D.left D.faults dialer.old) (K.held sink.old))
         (at_rest node.new random.new) (world_of set.new (dialling D.calls D.left D.faults dialer.new) (K.held sink.new))) }
     ensures stops { OnErr result ((lines rest : List DueType) × (script.now ≡ lines ++ rest) × AreDue at.passed lines
-        × LinesStop (GoesDrawing N.goes W.gives W.faults) L.talk at.time lines
+        × LinesStop (GoesDrawing N.goes (Draws W.gives W.faults)) L.talk at.time lines
         (at_rest node.old random.old) (world_of set.old (dialling D.calls D.left D.faults dialer.old) (K.held sink.old))
         (world_of set.new (dialling D.calls D.left D.faults dialer.new) (K.held sink.new))) }
     ensures failed { RisesOnWriteFault result (K.faults sink.old) (K.faults sink.new) }
@@ -164,10 +164,10 @@ fn hear<N: Core, K: Sink, W: Words, L: Link + Drop, D: Dialer<L>>(
     dialer: &mut D,
     name: LinkName,
 ) -> Result<(), Halt>
-    ensures hears { OnOk result (LinkHears (GoesDrawing N.goes W.gives W.faults) L.talk at.time name
+    ensures hears { OnOk result (LinkHears (GoesDrawing N.goes (Draws W.gives W.faults)) L.talk at.time name
         (at_rest node.old random.old) (world_of set.old (dialling D.calls D.left D.faults dialer.old) (K.held sink.old))
         (at_rest node.new random.new) (world_of set.new (dialling D.calls D.left D.faults dialer.new) (K.held sink.new))) }
-    ensures stops { OnErr result (HearStops (GoesDrawing N.goes W.gives W.faults) L.talk at.time name
+    ensures stops { OnErr result (HearStops (GoesDrawing N.goes (Draws W.gives W.faults)) L.talk at.time name
         (at_rest node.old random.old) (world_of set.old (dialling D.calls D.left D.faults dialer.old) (K.held sink.old))
         (world_of set.new (dialling D.calls D.left D.faults dialer.new) (K.held sink.new))) }
     ensures failed { RisesOnWriteFault result (K.faults sink.old) (K.faults sink.new) }
@@ -192,10 +192,10 @@ fn hear_slots<N: Core, K: Sink, W: Words, L: Link + Drop, D: Dialer<L>>(
     random: &mut W,
     dialer: &mut D,
 ) -> Result<(), Halt>
-    ensures hears { OnOk result (HearsEach (GoesDrawing N.goes W.gives W.faults) L.talk at.time (slots_from SLOTS 0)
+    ensures hears { OnOk result (HearsEach (GoesDrawing N.goes (Draws W.gives W.faults)) L.talk at.time (slots_from SLOTS 0)
         (at_rest node.old random.old) (world_of set.old (dialling D.calls D.left D.faults dialer.old) (K.held sink.old))
         (at_rest node.new random.new) (world_of set.new (dialling D.calls D.left D.faults dialer.new) (K.held sink.new))) }
-    ensures stops { OnErr result (EachStop (GoesDrawing N.goes W.gives W.faults) L.talk at.time (slots_from SLOTS 0)
+    ensures stops { OnErr result (EachStop (GoesDrawing N.goes (Draws W.gives W.faults)) L.talk at.time (slots_from SLOTS 0)
         (at_rest node.old random.old) (world_of set.old (dialling D.calls D.left D.faults dialer.old) (K.held sink.old))
         (world_of set.new (dialling D.calls D.left D.faults dialer.new) (K.held sink.new))) }
     ensures failed { RisesOnWriteFault result (K.faults sink.old) (K.faults sink.new) }
@@ -217,10 +217,10 @@ fn hear_all<N: Core, K: Sink, W: Words, L: Link + Drop, D: Dialer<L>>(
     random: &mut W,
     dialer: &mut D,
 ) -> Result<(), Halt>
-    ensures hears { OnOk result (HearsEach (GoesDrawing N.goes W.gives W.faults) L.talk at.time names
+    ensures hears { OnOk result (HearsEach (GoesDrawing N.goes (Draws W.gives W.faults)) L.talk at.time names
         (at_rest node.old random.old) (world_of set.old (dialling D.calls D.left D.faults dialer.old) (K.held sink.old))
         (at_rest node.new random.new) (world_of set.new (dialling D.calls D.left D.faults dialer.new) (K.held sink.new))) }
-    ensures stops { OnErr result (EachStop (GoesDrawing N.goes W.gives W.faults) L.talk at.time names
+    ensures stops { OnErr result (EachStop (GoesDrawing N.goes (Draws W.gives W.faults)) L.talk at.time names
         (at_rest node.old random.old) (world_of set.old (dialling D.calls D.left D.faults dialer.old) (K.held sink.old))
         (world_of set.new (dialling D.calls D.left D.faults dialer.new) (K.held sink.new))) }
     ensures failed { RisesOnWriteFault result (K.faults sink.old) (K.faults sink.new) }
@@ -259,12 +259,12 @@ fn admit<N: Core, K: Sink, W: Words, L: Link + Drop, A: Acceptor<L>, D: Dialer<L
     acceptor: &mut A,
     dialer: &mut D,
 ) -> Result<(), Halt>
-    ensures admits { OnOk result (Admits (GoesDrawing N.goes W.gives W.faults) L.talk at.time at.listens
+    ensures admits { OnOk result (Admits (GoesDrawing N.goes (Draws W.gives W.faults)) L.talk at.time at.listens
         (moment (at_rest node.old random.old) (world_of set.old (dialling D.calls D.left D.faults dialer.old) (K.held sink.old))
         (admitting A.left A.waits acceptor.old))
         (moment (at_rest node.new random.new) (world_of set.new (dialling D.calls D.left D.faults dialer.new) (K.held sink.new))
         (admitting A.left A.waits acceptor.new))) }
-    ensures stops { OnErr result (AdmitStops (GoesDrawing N.goes W.gives W.faults) L.talk at.time at.listens
+    ensures stops { OnErr result (AdmitStops (GoesDrawing N.goes (Draws W.gives W.faults)) L.talk at.time at.listens
         (moment (at_rest node.old random.old) (world_of set.old (dialling D.calls D.left D.faults dialer.old) (K.held sink.old))
         (admitting A.left A.waits acceptor.old))
         (in_hands (world_of set.new (dialling D.calls D.left D.faults dialer.new) (K.held sink.new))
@@ -299,10 +299,10 @@ fn begin<N: Core, K: Sink, W: Words, L: Link + Drop, D: Dialer<L>>(
     dialer: &mut D,
     start: Option<u64>,
 ) -> Result<(), Halt>
-    ensures starts { OnOk result (Starts (GoesDrawing N.goes W.gives W.faults) L.talk at.time start
+    ensures starts { OnOk result (Starts (GoesDrawing N.goes (Draws W.gives W.faults)) L.talk at.time start
         (at_rest node.old random.old) (world_of set.old (dialling D.calls D.left D.faults dialer.old) (K.held sink.old))
         (at_rest node.new random.new) (world_of set.new (dialling D.calls D.left D.faults dialer.new) (K.held sink.new))) }
-    ensures stops { OnErr result (StartStops (GoesDrawing N.goes W.gives W.faults) L.talk at.time start
+    ensures stops { OnErr result (StartStops (GoesDrawing N.goes (Draws W.gives W.faults)) L.talk at.time start
         (at_rest node.old random.old) (world_of set.old (dialling D.calls D.left D.faults dialer.old) (K.held sink.old))
         (world_of set.new (dialling D.calls D.left D.faults dialer.new) (K.held sink.new))) }
     ensures failed { RisesOnWriteFault result (K.faults sink.old) (K.faults sink.new) }
@@ -347,19 +347,17 @@ pub fn node_turn<
     acceptor: &mut A,
     parts: &mut NodeParts<V, W, D>,
 ) -> Result<TurnEnd<'a>, Halt>
-    ensures turns { IfOk result (λ r. Turn (GoesDrawing N.goes W.gives W.faults) L.talk r.time
-        from.entry.start from.entry.script.now r.left.now from.entry.listens
+    ensures turns { IfOk result (λ r. TurnsTo (GoesDrawing N.goes (Draws W.gives W.faults)) L.talk from.entry
         (moment (at_rest node.old parts.old.random)
         (world_of set.old (dialling D.calls D.left D.faults parts.old.dialer) (K.held sink.old))
         (admitting A.left A.waits acceptor.old))
         (moment (at_rest node.new parts.new.random)
         (world_of set.new (dialling D.calls D.left D.faults parts.new.dialer) (K.held sink.new))
-        (admitting A.left A.waits acceptor.new))) }
+        (admitting A.left A.waits acceptor.new)) r) }
 
     // Where it ends by a fault, its parts went through in this order, up to the one in which it stopped.
     ensures stops { OnErr result ((t : ℕ) × Grows (C.readings clock.old) (C.readings clock.new) (t ∷ []) × (t < 2 ^ 62)
-        × (C.newest clock.old ≤ t) × TurnStops (GoesDrawing N.goes W.gives W.faults) L.talk t
-        from.entry.start from.entry.script.now from.entry.listens
+        × (C.newest clock.old ≤ t) × TurnBreaks (GoesDrawing N.goes (Draws W.gives W.faults)) L.talk t from.entry
         (moment (at_rest node.old parts.old.random)
         (world_of set.old (dialling D.calls D.left D.faults parts.old.dialer) (K.held sink.old))
         (admitting A.left A.waits acceptor.old))

@@ -18,7 +18,7 @@ use Rattle.bsc_node.specs.Links.{same_link, begins, is_over_by, is_there, was_ta
 use Rattle.bsc_node.specs.Conditions.{has_opened}
 use Rattle.bsc_node.proofs.Told.{same_link-self}
 use Rattle.bsc_node_laws.specs.Links.{MayStand, EachMay}
-use Rattle.bsc_node_laws.proofs.There.{begins-dial, begins-take, there-begun, closed-gone, taken-begun, opened-begun, opened-other, opened-told}
+use Rattle.bsc_node_laws.proofs.There.{begins-dial, begins-take, there-begun, taken-begun, opened-begun, opened-other, opened-told}
 use Rattle.bsc_node_run.specs.declared.news.Change.{Change}
 use Rattle.bsc_node_run.specs.declared.news.Change.TheVariants.{Opened, DialFailed, Lost}
 use Rattle.bsc_node_run.specs.declared.news.News.{News}
@@ -28,6 +28,7 @@ use Rattle.bsc_node_runs.proofs.Agreeing.{changes_of, news_in, AgreesBy, Agrees}
 use Rattle.bsc_node_runs.proofs.Same.{in_slots_named, changes-last_here, changes-without, stands_open, agrees_as, or_same, ApartIn, line-apart, same-log}
 use Rattle.bsc_node_runs.proofs.Same.{Alike, agrees-alike, agrees-same, agrees-quiet, Apart, touches, apart-then, link-here, apart-link, apart-news, apart-forgets}
 use Rattle.bsc_node.proofs.Common.{same_link-is as same_link-true}
+use Rattle.bsc_node.proofs.There.{closed-gone}
 
 -- ---- lines
 

@@ -13,7 +13,7 @@ use Rattle.bsc_node.specs.Conditions.{has_opened, fits, is_open as is_open_in}
 use Rattle.bsc_node.specs.Laws.{with_event}
 use Rattle.bsc_node.proofs.Told.{same_link-self}
 use Rattle.bsc_node_laws.specs.Links.{opens_at}
-use Rattle.bsc_node_laws.proofs.There.{there-other, there-over, opened-other, opened-now}
+use Rattle.bsc_node_laws.proofs.There.{opened-other, opened-now}
 use Rattle.bsc_node_run.specs.declared.news.Change.{Change}
 use Rattle.bsc_node_run.specs.declared.news.Change.TheVariants.{Opened as DidOpen, DialFailed as DidntOpen, Lost as WasLost}
 use Rattle.bsc_node_run.specs.declared.news.News.{News}
@@ -26,6 +26,7 @@ use Rattle.bsc_node_runs.proofs.Same.{changes-here, changes-other, changes-none,
 use Rattle.bsc_node_runs.proofs.Same.{ApartIn, line-apart, agrees-alike, agrees-quiet, Apart, touches, link-here, apart-link}
 use Rattle.bsc_node_runs.proofs.Carrying.{in_hand, replaces}
 use Rattle.bsc_lemmas.proofs.Booleans.{and_left, and_right, not_true, or_true}
+use Rattle.bsc_node.proofs.There.{there-other, there-over}
 
 -- ---- which events end a link
 

@@ -16,7 +16,7 @@ use Rattle.bsc_node.specs.Logs.{Line, Log, is_finish, is_finishing}
 use Rattle.bsc_node.specs.Links.{same_link, begins, is_over_by, is_there, was_taken, is_in_slots}
 use Rattle.bsc_node.specs.Conditions.{has_opened}
 use Rattle.bsc_node.proofs.Told.{same_link-self}
-use Rattle.bsc_node_laws.proofs.There.{there-other, taken-other}
+use Rattle.bsc_node_laws.proofs.There.{taken-other}
 use Rattle.bsc_node_run.specs.declared.news.Change.{Change}
 use Rattle.bsc_node_run.specs.declared.news.News.{News}
 use Rattle.bsc_node_run.specs.Worlds.{World, Same, is_name, is_of, without, with_link, with_news, forgets}
@@ -24,6 +24,7 @@ use Rattle.bsc_node_runs.proofs.Agreeing.{changes_of, news_in, AgreesBy, AgreesO
 use Rattle.bsc_lemmas.proofs.Booleans.{and_left, and_right}
 use Rattle.bsc_node.proofs.Common.{same_link-is as same_link-true}
 use Rattle.std.proofs.lemmas.Bool.{and_from as and_both, or_left as or_first}
+use Rattle.bsc_node.proofs.There.{there-other}
 
 -- ---- names
 

@@ -3,7 +3,7 @@
 
 ghost use Rattle.std.specs.Prelude.{◌≡◌, ◌≤◌, IsTrue, IfOk, length, take, drop};
 ghost use Rattle.bsc_octets.specs.Envelopes.{SpellsEnvelope};
-ghost use Rattle.bsc_octets.specs.Forwarding.{out, envelope_out, has_route, is_broadcast, flags_out, kept};
+ghost use Rattle.bsc_octets.specs.Forwarding.{out, destination, envelope_out, has_route, is_broadcast, flags_out, kept};
 
 use crate::control;
 use crate::envelope::vmac_at;
@@ -12,20 +12,20 @@ use crate::octets::Octets;
 use crate::vmac::Vmac;
 use std::alloc::Global;
 
-/// Whether the Destination, in a message with no Originating address, is the broadcast address.
-fn is_to_all(m: &[u8]) -> bool
-    requires { 10 ≤ length m.now }
-    ensures { result ≡ is_broadcast m.now }
+/// The Destination of a message that is to be forwarded.
+pub fn destination(m: &[u8]) -> Vmac
+    requires { IsTrue (has_route m.now) }
+    ensures { result ≡ destination m.now }
 {
-    vmac_at(m, 4) == Vmac::BROADCAST
+    vmac_at(m, 4)
 }
 
 /// The flags with the Originating address announced, and with a unicast's Destination no longer.
-fn new_flags(m: &[u8]) -> u8
+fn new_flags(m: &[u8], to_all: bool) -> u8
     requires { 10 ≤ length m.now }
-    ensures { result ≡ flags_out m.now }
+    ensures { to_all ≡ is_broadcast m.now → result ≡ flags_out m.now }
 {
-    if is_to_all(m) {
+    if to_all {
         m[1] | control::ORIGIN
     } else {
         (m[1] | control::ORIGIN) & !control::DEST
@@ -33,11 +33,11 @@ fn new_flags(m: &[u8]) -> u8
 }
 
 /// The octets of the Destination that stay: all of a broadcast's, none of a unicast's.
-fn kept_destination(m: &[u8]) -> &[u8]
+fn kept_destination(m: &[u8], to_all: bool) -> &[u8]
     requires { 10 ≤ length m.now }
-    ensures { result.now ≡ kept m.now }
+    ensures { to_all ≡ is_broadcast m.now → result.now ≡ kept m.now }
 {
-    if is_to_all(m) { &m[4..10] } else { &m[10..10] }
+    if to_all { &m[4..10] } else { &m[10..10] }
 }
 
 #[tactic(auto, unfolding(crate::specs::Forwarding::out))]
@@ -45,12 +45,13 @@ fn octets_out(alloc: Global, m: &[u8], from: Vmac) -> Result<Octets, NoMemory>
     requires { IsTrue (has_route m.now) }
     ensures { IfOk result (λ o. o ≡ out m.now from) }
 {
+    let to_all = destination(m) == Vmac::BROADCAST;
     let mut octets = Vec::with_capacity(alloc, m.len() + 6)?;
     octets.push(m[0])?;
-    octets.push(new_flags(m))?;
+    octets.push(new_flags(m, to_all))?;
     octets.extend_from_slice(&m[2..4])?;
     octets.extend_from_slice(&from.0)?;
-    octets.extend_from_slice(kept_destination(m))?;
+    octets.extend_from_slice(kept_destination(m, to_all))?;
     octets.extend_from_slice(&m[10..])?;
     Ok(Octets::from_vec(octets))
 }

@@ -1,4 +1,6 @@
 //! The functions of messages.
+ghost use Rattle.std.specs.Prelude.{◌≡◌};
+ghost use Rattle.bsc_octets.specs.Functions.{is_response};
 
 /// BVLC-Result.
 pub const BVLC_RESULT: u8 = 0x00;
@@ -39,5 +41,12 @@ pub const HEARTBEAT_ACK: u8 = 0x0B;
 /// Proprietary-Message, the greatest function that is known.
 pub const PROPRIETARY_MESSAGE: u8 = 0x0C;
 
-/// The functions of responses: BVLC-Result, Address-Resolution-ACK, Connect-Accept, Disconnect-ACK, Heartbeat-ACK.
-pub const RESPONSES: [u8; 5] = [0x00, 0x03, 0x07, 0x09, 0x0B];
+/// Whether the function is one that answers another message, and so has the Message ID of that.
+pub fn is_response(function: u8) -> bool
+    ensures { result ≡ is_response function }
+{
+    matches!(
+        function,
+        BVLC_RESULT | ADDRESS_RESOLUTION_ACK | CONNECT_ACCEPT | DISCONNECT_ACK | HEARTBEAT_ACK
+    )
+}

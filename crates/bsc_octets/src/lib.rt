@@ -20,7 +20,7 @@ mod vmac;
 pub use bounds::LEAST_BVLC;
 pub use device_id::DeviceId;
 pub use envelope::{Envelope, EnvelopeFault, read_envelope};
-pub use forwarding::forwarded;
+pub use forwarding::{destination, forwarded};
 pub use identity::{Identity, read_identity};
 pub use no_memory::NoMemory;
 pub use octets::Octets;

@@ -22,9 +22,9 @@ pub(crate) struct FirstItem<'a> {
 /// The data behind a marker, where it says that there are some, and the octets after them. `None` comes where
 /// octets of the data are missing.
 fn first_data(present: bool, o: &[u8]) -> Option<(Option<&[u8]>, &[u8])>
-    ensures present { IfSome result (λ x. is_some (option_copied x.0) ≡ present) }
-    ensures found { IfSome result (λ x. FitsData (option_copied x.0)
-        × (o.now ≡ data_octets (option_copied x.0) ++ x.1.now)) }
+    ensures present { IfSome result (λ (it, _). is_some (option_copied it) ≡ present) }
+    ensures found { IfSome result (λ (it, rest). FitsData (option_copied it)
+        × (o.now ≡ data_octets (option_copied it) ++ rest.now)) }
     ensures none { IfNone result (IsCutData present o.now) }
 {
     if !present {

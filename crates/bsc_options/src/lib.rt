@@ -27,6 +27,7 @@ pub use checking::{check_options, options_end};
 pub use fault::OptionsFault;
 pub use item::OptionItem;
 pub use laws::{one_spelling, reads_back};
+pub use marker::{SECURE_PATH, has_data, has_must, kind_in};
 pub use options::Options;
 pub use reading::read_options;
 pub use writing::write_options;

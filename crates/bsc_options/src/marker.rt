@@ -23,6 +23,9 @@ const DATA: u8 = 0x20;
 /// Bits 4 to 0: the type.
 const TYPE: u8 = 0x1F;
 
+/// The type of Secure Path.
+pub const SECURE_PATH: u8 = 1;
+
 #[tactic(auto, using(crate::proofs::Markers::bit_tests))]
 pub(crate) fn has_more(marker: u8) -> bool
     ensures { result ≡ (marker / 128 % 2 == 1) }
@@ -30,22 +33,25 @@ pub(crate) fn has_more(marker: u8) -> bool
     marker & MORE != 0
 }
 
+/// Whether the option must be understood.
 #[tactic(auto, using(crate::proofs::Markers::bit_tests))]
-pub(crate) fn has_must(marker: u8) -> bool
+pub fn has_must(marker: u8) -> bool
     ensures { result ≡ (marker / 64 % 2 == 1) }
 {
     marker & MUST != 0
 }
 
+/// Whether the option has data.
 #[tactic(auto, using(crate::proofs::Markers::bit_tests))]
-pub(crate) fn has_data(marker: u8) -> bool
+pub fn has_data(marker: u8) -> bool
     ensures { result ≡ (marker / 32 % 2 == 1) }
 {
     marker & DATA != 0
 }
 
+/// The type of the option.
 #[tactic(auto, using(crate::proofs::Markers::bit_tests))]
-pub(crate) fn kind_in(marker: u8) -> u8
+pub fn kind_in(marker: u8) -> u8
     ensures { result ≡ marker % 32 }
 {
     marker & TYPE

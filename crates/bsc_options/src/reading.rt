@@ -9,12 +9,10 @@ ghost use Rattle.bsc_options.specs.Walk.{OptionListAnswers, EndsAt, first_fault,
 use crate::fault::OptionsFault;
 use crate::first::{FirstItem, first_item};
 use crate::item::OptionItem;
+use crate::marker::SECURE_PATH;
 use crate::options::Options;
 use bsc_octets::{NoMemory, Octets};
 use std::alloc::Global;
-
-/// The type of Secure Path.
-const SECURE_PATH: u8 = 1;
 
 /// The type of Proprietary.
 const PROPRIETARY: u8 = 31;
@@ -119,8 +117,8 @@ fn list_at(alloc: Global, m: &[u8], at: usize) -> Result<(Options, usize), Optio
 pub fn read_options(alloc: Global, m: &[u8], at: usize) -> Result<(Options, usize), OptionsFault>
     requires { at ≤ length m.now }
     // What is found is spelled by the octets from that place on, up to the place that is answered.
-    ensures found { IfOk result (λ x. AreOptions x.0 × BeginsWith m.now at x.0 x.1) }
-    ensures within { IfOk result (λ x. (at < x.1) × (x.1 ≤ length m.now)) }
+    ensures found { IfOk result (λ (list, end). AreOptions list × BeginsWith m.now at list end) }
+    ensures within { IfOk result (λ (_, end). (at < end) × (end ≤ length m.now)) }
 
     // No other list is spelled there, and one that is spelled there is found, unless memory runs out.
     ensures only { (list : List OptionItem) (end : ℕ) → AreOptions list → BeginsWith m.now at list end

@@ -77,3 +77,19 @@ pub record StatusTells (p : List ℕ → Played) (status : ℕ) (o t : List ℕ)
   pub ran_out : status ≡ 7 → RunsOut p o t left held
   pub refuses : (n : ℕ) → (p o).refused ≡ Some n → (status ≡ 2) ⊎ IsMishap status
   pub accepts : (p o).refused ≡ None → (status ≡ 0) ⊎ IsMishap status
+
+-- What a command that plays its input has outside it at a moment: the octets that the source has left, and what was written, each
+-- as far as it is told; and the source's count of faults.
+pub record PlayWorld : Type 0 where
+  pub left : Option (List ℕ)
+  pub written : Option (List ℕ)
+  pub faults : ℕ
+
+-- that of a source and a sink, by what those of their types tell
+abbrev pub play_world : {S K : Type 0} → (S → Option (List ℕ)) → (S → ℕ) → (K → Option (List ℕ)) → S → K → PlayWorld
+play_world left faults held source sink = record { left = left source; written = held sink; faults = faults source }
+
+-- What the status of a run says of its input, where the source told its octets before, and the sink what it held.
+abbrev pub StatusSays : (List ℕ → Played) → PlayWorld → PlayWorld → ℕ → Type 0
+StatusSays p before after status = (o t : List ℕ) → before.left ≡ Some o → before.written ≡ Some t
+    → StatusTells p status o t after.left after.written before.faults after.faults

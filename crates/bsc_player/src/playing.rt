@@ -1,6 +1,6 @@
 //! Plays a whole input.
 ghost use Rattle.std.specs.Prelude.{◌≡◌, ◌≤◌, ◌<◌, ℕ, List, vec_len, Some, OnOk, OnErr};
-ghost use Rattle.bsc_outside.specs.Faults.{HasRisen};
+ghost use Rattle.bsc_player.specs.Faults.{RisesIf};
 ghost use Rattle.bsc_player.specs.Playing.{played_of};
 ghost use Rattle.bsc_player.specs.Languages.{StepsTo};
 ghost use Rattle.bsc_player.specs.Ends.{PlaysOut};
@@ -54,8 +54,8 @@ pub fn play_lines<L: Language, S: Source, K: Sink>(
     ensures played { (s : L.State) (o t : List ℕ) → L.stands_for language.old s →
         S.left source.old ≡ Some o → K.held sink.old ≡ Some t →
         PlaysOut (played_of L.means s) result o t (S.left source.new) (K.held sink.new) }
-    ensures read_fault { result ≡ PlayEnd.ReadFault → HasRisen (S.faults source.old) (S.faults source.new) }
-    ensures write_fault { result ≡ PlayEnd.WriteFault → HasRisen (K.faults sink.old) (K.faults sink.new) }
+    ensures read_fault { RisesIf result PlayEnd.ReadFault (S.faults source.old) (S.faults source.new) }
+    ensures write_fault { RisesIf result PlayEnd.WriteFault (K.faults sink.old) (K.faults sink.new) }
     ensures reads_later { S.faults source.old ≤ S.faults source.new }
     ensures writes_later { K.faults sink.old ≤ K.faults sink.new }
 {

@@ -99,7 +99,7 @@ fn main(rt: HostRuntime) -> ExitCode {
         return ExitCode::from(out_of_memory(&mut sink));
     };
     let disk = NotedDisk::new(rt, of_disk);
-    let door = Door::new(rt, alloc, kind, of_gate);
+    let door = Door::new(rt, alloc, kind, of_gate).logged_at(rt.stderr());
     let mut outside = Outside {
         source,
         sink,

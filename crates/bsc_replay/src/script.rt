@@ -1,7 +1,7 @@
 //! Scripts, played.
 ghost use Rattle.std.specs.Prelude.{◌≡◌, ◌≤◌, ℕ, List, Some};
-ghost use Rattle.bsc_outside.specs.Faults.{HasRisen};
 ghost use Rattle.bsc_player.specs.Ends.{PlaysOut};
+ghost use Rattle.bsc_player.specs.Faults.{RisesIf};
 ghost use Rattle.bsc_script.specs.Scripts.{replay_of};
 
 use bsc_outside::{Sink, Source};
@@ -17,8 +17,8 @@ use std::alloc::Global;
 pub fn replay<S: Source, K: Sink>(alloc: Global, source: &mut S, sink: &mut K) -> PlayEnd
     ensures replayed { (o t : List ℕ) → S.left source.old ≡ Some o → K.held sink.old ≡ Some t →
         PlaysOut replay_of result o t (S.left source.new) (K.held sink.new) }
-    ensures read_fault { result ≡ PlayEnd.ReadFault → HasRisen (S.faults source.old) (S.faults source.new) }
-    ensures write_fault { result ≡ PlayEnd.WriteFault → HasRisen (K.faults sink.old) (K.faults sink.new) }
+    ensures read_fault { RisesIf result PlayEnd.ReadFault (S.faults source.old) (S.faults source.new) }
+    ensures write_fault { RisesIf result PlayEnd.WriteFault (K.faults sink.old) (K.faults sink.new) }
     ensures reads_later { S.faults source.old ≤ S.faults source.new }
     ensures writes_later { K.faults sink.old ≤ K.faults sink.new }
 {

@@ -1,7 +1,7 @@
 //! The lines of `check`, as a language of the player.
 ghost use Rattle.std.specs.Prelude.{◌≡◌, ◌≤◌, ℕ, List, Some, None};
-ghost use Rattle.bsc_outside.specs.Faults.{HasRisen};
 ghost use Rattle.bsc_player.specs.Ends.{PlaysOut, AcceptsLines};
+ghost use Rattle.bsc_player.specs.Faults.{RisesIf};
 ghost use Rattle.bsc_checks.specs.Outcomes.{outcome_of};
 ghost use Rattle.bsc_replay.specs.Checks.{check_of};
 
@@ -41,8 +41,8 @@ pub fn check<S: Source, K: Sink>(alloc: Global, source: &mut S, sink: &mut K) ->
 
     // An input may end anywhere: where its lines are accepted, none is refused.
     ensures accepts { (o : List ℕ) → AcceptsLines check_of o → (check_of o).refused ≡ None }
-    ensures read_fault { result ≡ PlayEnd.ReadFault → HasRisen (S.faults source.old) (S.faults source.new) }
-    ensures write_fault { result ≡ PlayEnd.WriteFault → HasRisen (K.faults sink.old) (K.faults sink.new) }
+    ensures read_fault { RisesIf result PlayEnd.ReadFault (S.faults source.old) (S.faults source.new) }
+    ensures write_fault { RisesIf result PlayEnd.WriteFault (K.faults sink.old) (K.faults sink.new) }
     ensures reads_later { S.faults source.old ≤ S.faults source.new }
     ensures writes_later { K.faults sink.old ≤ K.faults sink.new }
 {

@@ -1,7 +1,7 @@
 -- Entries by their VMACs, in a list that a call changed.
-use Rattle.std.proofs.Common.{◌≡◌, ◌<◌, ◌+◌, ℕ, zero, suc, Bool, true, false, not, nat_lt, cond, ◌||◌, List, [], ◌∷◌, ◌++◌, length, map, filter, take, drop, get_or, find, Option, Some, None, is_some, refl, ap, sym, ◌∙◌, subst, arith}
+use Rattle.std.proofs.Common.{◌≡◌, ◌<◌, ◌+◌, ℕ, zero, suc, Bool, true, false, cond, ◌||◌, List, [], ◌∷◌, ◌++◌, length, map, filter, take, drop, get_or, find, Option, Some, None, is_some, refl, ap, sym, ◌∙◌, subst, arith}
 use Rattle.std.specs.Option.{option_map}
-use Rattle.std.specs.List.{list_any, list_all, position, position_or_len, AllByRecursion, IsDistinct}
+use Rattle.std.specs.List.{list_any, list_all, position, AllByRecursion, IsDistinct}
 use Rattle.std.proofs.Math.ListN.{set}
 use Rattle.std.proofs.lemmas.Bool.{or_parts}
 use Rattle.std.proofs.lemmas.List.Quantifiers.{position-Some}
@@ -11,11 +11,10 @@ use Rattle.bsc_octets.specs.Addresses.{same_vmac}
 use Rattle.bsc_resolve.specs.declared.entry.Entry.{Entry}
 use Rattle.bsc_resolve.specs.Resolving.{has_id}
 use Rattle.bsc_resolve.specs.Kept.{is_for, entry_of, vmacs, kept_question, kept_uris, holds_something, at_first, ticked, unless_passed, awaiting_place}
-use Rattle.bsc_lemmas.proofs.Booleans.{above_zero}
-use Rattle.bsc_lemmas.proofs.Numbers.{below_both}
-use Rattle.bsc_lemmas.proofs.Options.{none_if as none_from, some_none_any as some_none}
+use Rattle.bsc_lemmas.proofs.Options.{none_if as none_from}
 use Rattle.bsc_octets.proofs.Common.{vmac_same}
 use Rattle.std.proofs.lemmas.Bool.{and_parts as both_true}
+use Rattle.bsc_lemmas.proofs.Lists.{position-none as none_found}
 
 -- ---- VMACs
 
@@ -38,19 +37,6 @@ find_here test (x ∷ xs) (suc i) e within here before at = rw (before 0 (omega 
 -- the element at the place is the one that is found
 pub find_placed : {A : Type 0} (test : A → Bool) (xs : List A) (i : ℕ) (e : A) → position test xs ≡ Some i → e ≡ get_or xs i e → find test xs ≡ Some e
 find_placed test xs i e place at = let q = position-Some test xs i e place in find_here test xs i e q.0 q.1 q.2 at
-
--- where there is no place, none is found
-pub none_found : {A : Type 0} (test : A → Bool) (xs : List A) → position test xs ≡ None → find test xs ≡ None
-none_found test [] h = refl
-none_found test (x ∷ xs) h = by (test x) (none_found test xs) h
-  where
-    later : (b : Bool) → nat_lt (position_or_len test xs) (length xs) ≡ b → cond b (Some (1 + position_or_len test xs)) None ≡ None → position test xs ≡ None
-    later true s k = cc
-    later false s k = rw s refl
-
-    by : (b : Bool) → (position test xs ≡ None → find test xs ≡ None) → cond (nat_lt (cond (not b) (1 + position_or_len test xs) 0) (suc (length xs))) (Some (cond (not b) (1 + position_or_len test xs) 0)) None ≡ None → cond b (Some x) (find test xs) ≡ None
-    by true r k = some_none 0 (ap (λ (b : Bool). cond b (Some 0) None) (sym (above_zero (length xs))) ∙ k)
-    by false r k = r (later (nat_lt (position_or_len test xs) (length xs)) refl (ap (λ (b : Bool). cond b (Some (1 + position_or_len test xs)) None) (sym (below_both (position_or_len test xs) (length xs))) ∙ k))
 
 -- ---- the first that passes is changed, and keeps its VMAC
 

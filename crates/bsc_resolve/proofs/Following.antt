@@ -21,9 +21,10 @@ use Rattle.bsc_resolve.specs.declared.resolve.Resolve.{Resolve}
 use Rattle.bsc_resolve.specs.Resolving.{vmac_of, uris_for, question, learnt, is_held, held, ask_refusal, has_id, awaits}
 use Rattle.bsc_resolve.specs.Kept.{is_for, entry_of, vmacs, kept_question, kept_uris, holds_something, at_first, ticked, unless_passed, with_question, with_uris, without_question, awaiting_place}
 use Rattle.bsc_resolve.specs.Standing.{Agrees, ResolveStands, IsAsked, IsAskRefused, AnswersAnswer, AnswersRefusal, StandsOn, IsUnchanged}
-use Rattle.bsc_resolve.proofs.Finding.{find_placed, none_found, awaiting_is, awaiting_none, KeepsVmac, first_same, first_other, vmacs_first, full_first, entry_filtered, apart_filtered, full_filtered, held_question, held_uris, entry_ticked, vmacs_ticked, ticked_question, ticked_uris, is_among, is_held_kept, length_vmacs}
+use Rattle.bsc_resolve.proofs.Finding.{find_placed, awaiting_is, awaiting_none, KeepsVmac, first_same, first_other, vmacs_first, full_first, entry_filtered, apart_filtered, full_filtered, held_question, held_uris, entry_ticked, vmacs_ticked, ticked_question, ticked_uris, is_among, is_held_kept, length_vmacs}
 use Rattle.bsc_resolve.proofs.OneMore.{unless_ends, question-more, question-asked, learnt-more, held_spoken}
 use Rattle.bsc_octets.proofs.Common.{vmac_laws, vmac_same}
+use Rattle.bsc_lemmas.proofs.Lists.{position-none as none_found}
 
 -- ---- one VMAC changes
 

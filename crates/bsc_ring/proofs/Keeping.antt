@@ -25,10 +25,6 @@ end_in_number (Some Replaced) = refl
 end_in_number (Some Full) = refl
 end_in_number (Some Stopped) = refl
 
-abbrev end_or : End → Option End → End
-end_or d None = d
-end_or d (Some e) = e
-
 abbrev recalls_in : List Found → Option End → Type 0
 recalls_in found h = (i : ℕ) (e : End) → get_elem? found i ≡ some (Ending (Some e)) → h ≡ Some e
 

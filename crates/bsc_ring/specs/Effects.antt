@@ -13,6 +13,10 @@ use Rattle.bsc_ring.specs.Rule.{Recalls, end_in}
 abbrev pub Seated : Type 0
 Seated = Me (Option Item) View
 
+-- The view of a seat.
+abbrev pub view_in : Seated → View
+view_in m = m.0
+
 -- Between two calls an inlet's seat has no slot in hand.
 abbrev pub InletRests : Seated → Type 0
 InletRests m = (m.1 ≡ []) × (m.0.inlet ≡ true) × (m.0.outlet ≡ false) × (m.0.writing ≡ false)

@@ -3,7 +3,7 @@ ghost use Rattle.std.specs.Prelude.{◌≡◌, ◌%◌, ◌<◌, ◌≤◌, leng
 ghost use Rattle.std.specs.Arc.{arc_value};
 ghost use Rattle.bsc_history.specs.declared.limits.TheConstants.{MOST_OUTBOX};
 ghost use Rattle.bsc_ring.specs.Lists.{newest};
-ghost use Rattle.bsc_ring.specs.Effects.{InletRests, OutletRests};
+ghost use Rattle.bsc_ring.specs.Effects.{InletRests, OutletRests, view_in};
 
 use crate::plays::{RingSeat, RingTable};
 use std::sync::Arc;
@@ -24,11 +24,11 @@ pub struct Inlet {
     // Between two calls no slot is in hand.
     ghost rests: { InletRests seat.me },
     // `sent` counts the items that were pushed.
-    ghost counts: { sent ≡ length seat.me.0.pushed },
+    ghost counts: { sent ≡ length (view_in seat.me).pushed },
     // `slot` is the slot of the next item.
     ghost at: { (slot ≡ sent % capacity) × (slot < capacity) },
     // At least as many items are known to be taken as the newest load found.
-    ghost newest: { newest seat.me.0.loads ≤ seat.me.0.least },
+    ghost newest: { newest (view_in seat.me).loads ≤ (view_in seat.me).least },
 }
 
 /// The end that takes. It may be sent to another thread, and dropped.
@@ -48,7 +48,7 @@ pub struct Outlet {
     // Between two calls no slot is in hand.
     ghost rests: { OutletRests seat.me },
     // `taken` counts the items that were given.
-    ghost counts: { taken ≡ length seat.me.0.given },
+    ghost counts: { taken ≡ length (view_in seat.me).given },
     // `slot` is the slot of the next item.
     ghost at: { (slot ≡ taken % capacity) × (slot < capacity) },
 }

@@ -13,10 +13,10 @@ use std::sync::Arc;
 #[tactic(auto, using(crate::proofs::Counting::newest_none))]
 pub fn make(alloc: Global, capacity: u32) -> Result<(Inlet, Outlet), NoMemory>
     requires { (2 ≤ capacity) × (capacity ≤ MOST_OUTBOX) }
-    ensures mark { IfOk result (λ ends. inlet_mark ends.0 ≡ outlet_mark ends.1) }
-    ensures capacity { IfOk result (λ ends. capacity_of ends.0 ≡ capacity) }
-    ensures inlet { IfOk result (λ ends. IsNewInlet ends.0) }
-    ensures outlet { IfOk result (λ ends. IsNewOutlet ends.1) }
+    ensures mark { IfOk result (λ (inlet, outlet). inlet_mark inlet ≡ outlet_mark outlet) }
+    ensures capacity { IfOk result (λ (inlet, _). capacity_of inlet ≡ capacity) }
+    ensures inlet { IfOk result (λ (inlet, _). IsNewInlet inlet) }
+    ensures outlet { IfOk result (λ (_, outlet). IsNewOutlet outlet) }
 {
     let (table, inlet, outlet) = lay_out(alloc, capacity)?;
     let table = Arc::new(alloc, table)?;

@@ -19,17 +19,17 @@ impl Inlet {
 
         // It loads the head once, and the number that is found is the one that is answered.
         ensures load { IfOk result (λ head. Loaded self.old head self.new) }
-        ensures load_refused { IfErr result (λ refusal. Loaded self.old refusal.1 self.new) }
+        ensures load_refused { IfErr result (λ (_, head). Loaded self.old head self.new) }
 
         // It is refused exactly where by this load the items that aren't taken are as many as the capacity.
         ensures room { IfOk result (λ head. length (pushed self.old) < head + capacity_of self.old) }
-        ensures full { IfErr result (λ refusal.
-            length (pushed self.old) ≡ refusal.1 + capacity_of self.old) }
+        ensures full { IfErr result (λ (_, head).
+            length (pushed self.old) ≡ head + capacity_of self.old) }
 
         // The frame is the newest item then, or comes back.
         ensures adds { OnOk result (pushed self.new ≡ pushed self.old ++ frame ∷ []) }
-        ensures refuses { IfErr result (λ refusal.
-            (refusal.0 ≡ frame) × (pushed self.new ≡ pushed self.old)) }
+        ensures refuses { IfErr result (λ (back, _).
+            (back ≡ frame) × (pushed self.new ≡ pushed self.old)) }
 
         ensures mark { inlet_mark self.new ≡ inlet_mark self.old }
         ensures same { (capacity_of self.new ≡ capacity_of self.old) × (ending_of self.new ≡ None) }

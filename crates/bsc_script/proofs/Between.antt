@@ -35,8 +35,9 @@ use Rattle.bsc_script.specs.States.{State, Peer, start_at}
 use Rattle.bsc_script.specs.Emptying.{due_after}
 use Rattle.bsc_script.specs.Holding.{Pairs, IsPeer, IsJoinedPeer, IsJoinedIf, IsIndexed, ScriptStands, name_of, conn_of, kept_conn, kept_in}
 use Rattle.bsc_script.specs.Between.{IsAtRest, IsJoinedIfBut, IsPeerBut, StandsBut}
+use Rattle.bsc_history.proofs.Capacity.{newest_of}
 use Rattle.bsc_script.proofs.Pairs.{Pairs-map, Pairs-weaker}
-use Rattle.bsc_script.proofs.Touched.{is_of_same, newest_of}
+use Rattle.bsc_script.proofs.Touched.{is_of_same}
 use Rattle.bsc_ring.proofs.Common.{short_of as starts_length}
 
 -- ---- nobody is touched

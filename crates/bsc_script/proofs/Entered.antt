@@ -138,12 +138,6 @@ settled_more cs a H e k h own s = record {
 
 -- ---- the entry that a line makes
 
--- the peer of a look
-record Written (s : State) (d : Desk) (G : List Entry) (c n : ℕ) : Type 0 where
-  pub written : written_for s c ≡ n
-  pub known : known_of d c ≡ n
-  pub behind : looked G c ≤ n
-
 -- what is known of a connection, by its peer
 known_by : (d : Desk) (S : List Stamped) (k : Peer) (c : ℕ) (o : Option Joined) → IsJoinedIf d S k o → k.conn ≡ Some c → (known_of d c ≡ length k.frames) × (looked (entries S) c ≤ length k.frames)
 known_by d S k c None h e = (let bad : Some c ≡ None = sym e ∙ h.0 in cc)
@@ -157,7 +151,7 @@ known_all d S [] (e ∷ es) p = absurd p
 known_all d S (k ∷ ks) [] p = absurd p
 known_all d S (k ∷ ks) (e ∷ es) p = ((λ c is. known_by d S k c e.1.joined p.0.joined is), known_all d S ks es p.1)
 
-live_unleft : (d : Desk) (S : List Stamped) (c : ℕ) → DeskStands d S → list_any (λ x. x.number == c) (live (entries S)) ≡ true → list_any (λ x. x.number == c) (unleft (entries S)) ≡ true
+pub live_unleft : (d : Desk) (S : List Stamped) (c : ℕ) → DeskStands d S → list_any (λ x. x.number == c) (live (entries S)) ≡ true → list_any (λ x. x.number == c) (unleft (entries S)) ≡ true
 live_unleft d S c s h =
     let p = λ (x : Connection). x.number == c in
     let q = λ (r : Row). p (connection r) in

@@ -31,8 +31,9 @@ use Rattle.bsc_script.specs.Emptying.{due_after}
 use Rattle.bsc_script.specs.Holding.{Pairs, ConnsApart, kept_in}
 use Rattle.bsc_script.specs.Between.{PeerMeets, IsAtRest, IsJoinedBut, IsJoinedIfBut, IsPeerBut, StandsBut}
 use Rattle.bsc_script.proofs.Changes.{kept, kept-set}
-use Rattle.bsc_script.proofs.Pairs.{In-at, Pairs-weaker, get-map, pair_at, position-gives, position-none}
+use Rattle.bsc_script.proofs.Pairs.{In-at, Pairs-weaker, get-map, pair_at, position-gives}
 use Rattle.bsc_script.proofs.Peers.{conn_has, has_conn}
+use Rattle.bsc_lemmas.proofs.Lists.{position-none}
 
 -- who has joined a connection that hasn't left has a connection of that number
 pub own_any : (H : List Entry) (p c : ℕ) → is_of H p c ≡ true → list_any (λ x. x.number == c) (unleft H) ≡ true

@@ -9,10 +9,10 @@ use Rattle.bsc_script.specs.declared.peer.Peer.{Peer as KeptPeer}
 use Rattle.bsc_script.specs.declared.script_hub.ScriptHub.{ScriptHub}
 use Rattle.bsc_script.specs.States.{Peer, is_named, has_joined_as}
 use Rattle.bsc_script.specs.Holding.{name_of, kept_in, IsIndexed}
-use Rattle.bsc_script.proofs.Pairs.{get-map, position-same, position-gives, position-none, same_length}
+use Rattle.bsc_script.proofs.Pairs.{get-map, position-same, position-gives, same_length}
 use Rattle.bsc_script.proofs.Peers.{same_name, name_same, other_name}
 use Rattle.bsc_script.proofs.Changes.{kept}
-use Rattle.bsc_lemmas.proofs.Lists.{position-cons}
+use Rattle.bsc_lemmas.proofs.Lists.{position-cons, position-none}
 use Rattle.std.proofs.lemmas.Option.{same_Some as one_some}
 
 both_ways : (p q : Bool) → (p ≡ true → q ≡ true) → (q ≡ true → p ≡ true) → p ≡ q

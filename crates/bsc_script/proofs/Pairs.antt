@@ -5,7 +5,6 @@ use Rattle.bsc_history.specs.Laws.{Apart}
 use Rattle.bsc_history.proofs.Lists.{In}
 use Rattle.bsc_script.specs.Holding.{Pairs}
 use Rattle.bsc_lemmas.proofs.Lists.{all_append as all-push, position-cons}
-use Rattle.bsc_lemmas.proofs.Options.{some_none}
 use Rattle.std.proofs.lemmas.Option.{same_Some as same_some}
 
 -- ---- pairs
@@ -208,15 +207,3 @@ position-gives {A} p (x ∷ xs) i h = by (p x) refl (λ n e. position-gives p xs
         let first : Some 0 ≡ Some i = sym (position-cons p x xs ∙ ap (λ (b : Bool). cond b (Some 0) (option_map (λ n. 1 + n) (position p xs))) f) ∙ h in
         (x, subst (λ m. slice_get (x ∷ xs) m ≡ Some x) (same_some 0 i first) refl, f, ap (λ (b : Bool). cond b (Some x) (find p xs)) f)
     by false f rec = later rec (position p xs) refl (sym (position-cons p x xs ∙ ap (λ (b : Bool). cond b (Some 0) (option_map (λ n. 1 + n) (position p xs))) f) ∙ h) f
-
-pub position-none : {A : Type 0} (p : A → Bool) (xs : List A) → position p xs ≡ None → find p xs ≡ None
-position-none p [] h = refl
-position-none {A} p (x ∷ xs) h = by (p x) refl (position-none p xs)
-  where
-    later : (position p xs ≡ None → find p xs ≡ None) → (o : Option ℕ) → position p xs ≡ o → option_map (λ n. 1 + n) o ≡ None → find p xs ≡ None
-    later rec None e g = rec e
-    later rec (Some n) e g = cc
-
-    by : (b : Bool) → p x ≡ b → (position p xs ≡ None → find p xs ≡ None) → find p (x ∷ xs) ≡ None
-    by true f rec = absurd (some_none 0 (sym (position-cons p x xs ∙ ap (λ (b : Bool). cond b (Some 0) (option_map (λ n. 1 + n) (position p xs))) f) ∙ h))
-    by false f rec = ap (λ (b : Bool). cond b (Some x) (find p xs)) f ∙ later rec (position p xs) refl (sym (position-cons p x xs ∙ ap (λ (b : Bool). cond b (Some 0) (option_map (λ n. 1 + n) (position p xs))) f) ∙ h)

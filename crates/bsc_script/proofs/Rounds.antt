@@ -326,19 +326,19 @@ round_goes s o now (n ∷ ns) c ds apart h r = by (nat_lt n c) (n == c) refl ref
 -- ---- the round as it is carried out
 
 -- So far it is carried out, and the outboxes of these are still to be emptied.
-pub record Goes (t : ScriptHub) (base b ds : List ℕ) (o : ScriptOutcome) : Type 0 where
+pub record RoundGoes (t : ScriptHub) (base b ds : List ℕ) (o : ScriptOutcome) : Type 0 where
   pub now : ScriptOutcome
   pub ns : List ℕ
   pub carried : CarriesOut t base b ds now
   pub round : Round o.state o now ns ds
 
-pub goes_begins : (t : ScriptHub) (base b ds : List ℕ) (o : ScriptOutcome) → CarriesOut t base b ds o → Goes t base b ds o
+pub goes_begins : (t : ScriptHub) (base b ds : List ℕ) (o : ScriptOutcome) → CarriesOut t base b ds o → RoundGoes t base b ds o
 goes_begins t base b ds o h = record { now = o; ns = numbers (unleft o.state.history); carried = h; round = round_begins t o ds h.stands }
 
-pub goes_on : (t n : ScriptHub) (base b b2 ds : List ℕ) (c : ℕ) (rest : List ℕ) (o : ScriptOutcome) → Goes t base b ds o → ds ≡ c ∷ rest
-    → ((s : State) (es : List ℕ) → ScriptStands t s → SettledBut (c ∷ es) s → CarriesOut n b b2 es (emptied_on s c)) → Goes n base b2 rest o
+pub goes_on : (t n : ScriptHub) (base b b2 ds : List ℕ) (c : ℕ) (rest : List ℕ) (o : ScriptOutcome) → RoundGoes t base b ds o → ds ≡ c ∷ rest
+    → ((s : State) (es : List ℕ) → ScriptStands t s → SettledBut (c ∷ es) s → CarriesOut n b b2 es (emptied_on s c)) → RoundGoes n base b2 rest o
 goes_on t n base b b2 ds c rest o i is step =
-    let j : Goes t base b (c ∷ rest) o = subst (λ es. Goes t base b es o) is i in
+    let j : RoundGoes t base b (c ∷ rest) o = subst (λ es. RoundGoes t base b es o) is i in
     let r = round_goes o.state o j.now j.ns c rest j.carried.stands.apart j.carried.settled j.round in
     record {
       now = and_then j.now (λ u. emptied_on u c);
@@ -347,13 +347,13 @@ goes_on t n base b b2 ds c rest o i is step =
       round = r.1;
     }
 
-pub goes_ends : (t : ScriptHub) (base b ds : List ℕ) (o : ScriptOutcome) → Goes t base b ds o → ds ≡ [] → CarriesOut t base b [] (emptied o)
+pub goes_ends : (t : ScriptHub) (base b ds : List ℕ) (o : ScriptOutcome) → RoundGoes t base b ds o → ds ≡ [] → CarriesOut t base b [] (emptied o)
 goes_ends t base b ds o i is =
-    let j : Goes t base b [] o = subst (λ es. Goes t base b es o) is i in
+    let j : RoundGoes t base b [] o = subst (λ es. RoundGoes t base b es o) is i in
     subst (CarriesOut t base b []) (sym (round_ends o.state o j.now j.ns j.carried.settled j.round)) j.carried
 
 -- The next one may be emptied.
-pub goes_some : (t : ScriptHub) (base b ds : List ℕ) (c : ℕ) (rest : List ℕ) (o : ScriptOutcome) → Goes t base b ds o → ds ≡ c ∷ rest → (s : State) × (es : List ℕ) × ScriptStands t s × SettledBut (c ∷ es) s
+pub goes_some : (t : ScriptHub) (base b ds : List ℕ) (c : ℕ) (rest : List ℕ) (o : ScriptOutcome) → RoundGoes t base b ds o → ds ≡ c ∷ rest → (s : State) × (es : List ℕ) × ScriptStands t s × SettledBut (c ∷ es) s
 goes_some t base b ds c rest o i is =
-    let j : Goes t base b (c ∷ rest) o = subst (λ es. Goes t base b es o) is i in
+    let j : RoundGoes t base b (c ∷ rest) o = subst (λ es. RoundGoes t base b es o) is i in
     (j.now.state, rest, j.carried.stands, j.carried.settled)

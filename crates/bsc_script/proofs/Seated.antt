@@ -7,7 +7,7 @@ use Rattle.std.specs.Ordering.{nat_cmp, eq_by_cmp, is_eq}
 use Rattle.std.specs.declared.cmp.Ordering.TheVariants.{Less, Equal, Greater}
 use Rattle.std.specs.BTreeMap.{get}
 use Rattle.std.proofs.lemmas.Bool.{both_ways, eq-eqb, eqb-true, ne_eqb, false_from_ne_true, ltb-true, or_cases, or_left, or_right}
-use Rattle.std.proofs.lemmas.List.Folds.{find-append, list_any-append}
+use Rattle.std.proofs.lemmas.List.Folds.{list_any-append}
 use Rattle.bsc_accept.specs.Standing.{AcceptingStands}
 use Rattle.indexmap.specs.IndexMap.{index_map_len, set_value_at}
 use Rattle.bsc_octets.specs.declared.identity.Identity.{Identity}
@@ -20,16 +20,15 @@ use Rattle.bsc_history.specs.declared.mark.Mark.{Mark}
 use Rattle.bsc_history.specs.declared.mark.Stamped.{Stamped}
 use Rattle.bsc_history.specs.declared.reply.Reply.TheVariants.{Joined as JoinedReply}
 use Rattle.bsc_history.specs.Entries.{connection_of, joins, moment}
-use Rattle.bsc_history.specs.Ends.{end_by, ended, joined, leaves, numbered, unleft}
+use Rattle.bsc_history.specs.Ends.{end_by, ended, joined, leaves, unleft}
 use Rattle.bsc_history.specs.Laws.{is_among}
 use Rattle.bsc_history.specs.Legality.{Lawful, Legal, is_of}
 use Rattle.bsc_history.specs.Marks.{entries}
-use Rattle.bsc_history.specs.Outboxes.{added_by, looked, sent, vmac_in, vmac_of}
+use Rattle.bsc_history.specs.Outboxes.{added_by, looked, sent, vmac_of}
 use Rattle.bsc_history.proofs.Fresh.{fresh_ended, fresh_joins, fresh_looked, fresh_sent}
 use Rattle.bsc_history.proofs.Lifting.{join_owned, own_joined}
-use Rattle.bsc_history.proofs.More.{ended-more, entries-more, joined-more, looked-more, sent-more, unleft-more}
+use Rattle.bsc_history.proofs.More.{ended-more, entries-more, looked-more, sent-more, unleft-more}
 use Rattle.bsc_history.proofs.Named.{unleft_joined}
-use Rattle.bsc_history.proofs.Parts.{numbered_joined}
 use Rattle.bsc_history.proofs.Takeover.{join_takes_over}
 use Rattle.bsc_history.proofs.Uniqueness.{comes}
 use Rattle.bsc_ring.specs.Ends.{IsNewOutlet, given, outlet_mark}
@@ -59,6 +58,7 @@ use Rattle.bsc_script.proofs.Sending.{MakesEntry}
 use Rattle.bsc_lemmas.proofs.Lists.{got-within as get_within, none_of}
 use Rattle.bsc_ring.proofs.Common.{nothing_found}
 use Rattle.std.proofs.lemmas.Option.{same_Some as same_some}
+use Rattle.bsc_history.proofs.Connections.{new_address}
 
 -- ---- tests
 
@@ -116,22 +116,8 @@ owned_nobody H c (k ∷ ks) fresh own = ((λ is. both_ways (list_any (joins c) H
 
 -- ---- the new connection
 
--- Of a connection x that joined after G, with a number that nobody had, the address is that of who joined.
-new_address : (G : List Entry) (e : Entry) (x : Connection) → connection_of e ≡ Some x → list_any (joins x.number) G ≡ false → vmac_of (G ++ e ∷ []) x.number ≡ x.who.vmac
-new_address G e x new none =
-    let c = x.number in
-    let nobody : (o : Option Connection) → is_some o ≡ false → option_or o (numbered c (x ∷ [])) ≡ Some x = λ o. elim o as (λ o. is_some o ≡ false → option_or o (numbered c (x ∷ [])) ≡ Some x) [
-      | None ↦ λ k. rw (eq-eqb c c refl) refl
-      | Some y ↦ λ k. cc
-    ] in
-    ap vmac_in (
-    ap (numbered c) (joined-more G e ∙ ap (λ (o : Option Connection). joined G ++ option_to_list o) new)
-    ∙ find-append (λ (y : Connection). y.number == c) (joined G) (x ∷ [])
-    ∙ nobody (numbered c (joined G)) (numbered_joined G c ∙ none)
-    )
-
 -- a desk knows nothing of a connection that nobody joined
-unknown : (d : Desk) (S : List Stamped) (c : ℕ) → DeskStands d S → list_any (joins c) (entries S) ≡ false → known_of d c ≡ 0
+pub unknown : (d : Desk) (S : List Stamped) (c : ℕ) → DeskStands d S → list_any (joins c) (entries S) ≡ false → known_of d c ≡ 0
 unknown d S c s fresh =
     let p = λ (x : Connection). x.number == c in
     let any : list_any (λ (r : Row). p (connection r)) d.rows.items ≡ list_any p (unleft (entries S)) = any_row p d.rows.items ∙ ap (list_any p) s.unleft_rows in

@@ -1,5 +1,5 @@
 -- What a line does where a hub may not be made yet.
-use Rattle.std.proofs.Common.{◌≡◌, ℕ, List, [], ◌∷◌, ◌++◌, Option, Some, None, Result, Ok, Err, option_map, refl, ap, sym, ◌∙◌, subst, append-nil}
+use Rattle.std.proofs.Common.{◌≡◌, ℕ, List, [], ◌∷◌, ◌++◌, Option, Some, None, Result, Ok, Err, option_map, ap, sym, ◌∙◌, subst, append-nil}
 use Rattle.std.specs.Prelude.{⊤}
 use Rattle.bsc_history.specs.declared.limits.About.{About}
 use Rattle.bsc_player.specs.declared.language.LineFault.{LineFault}
@@ -24,12 +24,6 @@ pub begun_does : (o h : Option ScriptHub) (s : Option State) (line : Line) (b : 
 begun_does None h None line b e holds does = does
 begun_does None h (Some s) line b e holds does = absurd holds
 begun_does (Some t) h s line b e holds does = cc
-
-pub begun_fault : (e : LineFault) (o h : Option ScriptHub) (s : Option State) (line : Line) (b a : List ℕ) → o ≡ None → HoldsIf o s → (e ≡ Refused → before_hub line ≡ None) → DoesLine h (Err e) b a (line_after s line)
-begun_fault Refused None h None line b a is holds none = none refl
-begun_fault Refused None h (Some s) line b a is holds none = absurd holds
-begun_fault Refused (Some t) h s line b a is holds none = cc
-begun_fault NoMemory o h s line b a is holds none = tt
 
 -- Where a hub stands for something it is a hub's state.
 pub some_made : (o : Option ScriptHub) (t : ScriptHub) → o ≡ Some t → SomeIf o → HoldsSome t

@@ -135,16 +135,3 @@ clock_set s ms low high = ap (λ b. cond b (Some (after s ms s.peers)) None) (bo
   where
     both : (a b c : ℕ) → a ≤ b → b ≤ c → (nat_le a b && nat_le b c) ≡ true
     both a b c h g = grind (arith, nat_tests)
-
-pub clock_back : (s : State) (ms : ℕ) → ms < s.clock → ticks s ms ≡ None
-clock_back s ms low = ap (λ b. cond b (Some (after s ms s.peers)) None) (first s.clock ms (nat_le ms latest) low)
-  where
-    first : (a b : ℕ) (t : Bool) → b < a → (nat_le a b && t) ≡ false
-    first a b t h = grind (arith, nat_tests)
-
-pub clock_far : (s : State) (ms : ℕ) → latest < ms → ticks s ms ≡ None
-clock_far s ms high = ap (λ b. cond b (Some (after s ms s.peers)) None) (second (nat_le s.clock ms) ms latest high)
-  where
-    second : (t : Bool) (a b : ℕ) → b < a → (t && nat_le a b) ≡ false
-    second true a b h = grind (arith, nat_tests)
-    second false a b h = refl

@@ -18,7 +18,7 @@ use Rattle.bsc_history.specs.Legality.{Lawful, Legal, is_of, looks_at, may_call}
 use Rattle.bsc_history.specs.Laws.{Apart, is_among, names}
 use Rattle.bsc_history.specs.Outboxes.{added_by, finds_full, is_found_full, is_too_long, looked, meant, means, newer, out_of, sent, takes}
 use Rattle.bsc_history.specs.Replies.{is_stopped, numbers}
-use Rattle.bsc_history.proofs.Capacity.{within_capacity}
+use Rattle.bsc_history.proofs.Capacity.{within_capacity, newest_of}
 use Rattle.bsc_history.proofs.Lifting.{stays}
 use Rattle.bsc_history.proofs.Lists.{In, any_gives, Apart-filter, same_one}
 use Rattle.bsc_history.proofs.More.{ended-more, ended-same, looked-more, sent-more}
@@ -124,17 +124,6 @@ sent_named a H e sender m c legal lawful is named =
     sent-more a H e c ∙ ap (λ (l : List (List ℕ)). sent a H c ++ l) (adds_as_named a H legal e sender m c lawful is ∙ ap (λ (b : Bool). cond b (out_of H sender m ∷ []) []) named)
 
 -- ---- looks
-
--- the newest of some looks at c is one of them, or there is none
-pub newest_of : (c : ℕ) (looks : List Look) (n : ℕ) → ((k : Look) × In k looks × (k.conn ≡ c) × (fold (newer c) n looks ≡ k.taken)) ⊎ ((is_among c (map (λ k. k.conn) looks) ≡ false) × (fold (newer c) n looks ≡ n))
-newest_of c [] n = inr (refl, refl)
-newest_of c (k ∷ ks) n =
-    let Goal = λ (b : Bool). ((l : Look) × In l (k ∷ ks) × (l.conn ≡ c) × (fold (newer c) (cond b k.taken n) ks ≡ l.taken)) ⊎ (((b || is_among c (map (λ l. l.conn) ks)) ≡ false) × (fold (newer c) (cond b k.taken n) ks ≡ n)) in
-    let by : (b : Bool) → (k.conn == c) ≡ b → Goal b = λ b. elim b as (λ b. (k.conn == c) ≡ b → Goal b) [
-      | true ↦ λ e. elim (newest_of c ks k.taken) [ inl r ↦ inl (r.0, inr r.1, r.2, r.3) | inr r ↦ inl (k, inl refl, eqb-true k.conn c e, r.1) ]
-      | false ↦ λ e. elim (newest_of c ks n) [ inl r ↦ inl (r.0, inr r.1, r.2, r.3) | inr r ↦ inr r ]
-    ] in
-    by (k.conn == c) refl
 
 pub among_In : (looks : List Look) (k : Look) → In k looks → is_among k.conn (map (λ l. l.conn) looks) ≡ true
 among_In [] k m = absurd m

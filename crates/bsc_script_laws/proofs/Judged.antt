@@ -8,6 +8,7 @@ use Rattle.bsc_octets.specs.Addresses.{same_vmac, zero_vmac, broadcast}
 use Rattle.bsc_octets.specs.Envelopes.{announces_origin, announces_dest, vmac_at}
 use Rattle.bsc_octets.specs.Forwarding.{has_route, flags_in, function_in}
 use Rattle.bsc_octets.specs.Identities.{identity_of}
+use Rattle.bsc_octets.specs.Functions.{is_response}
 use Rattle.bsc_frame.specs.declared.check.Check.{Check}
 use Rattle.bsc_frame.specs.declared.check.Check.TheVariants.{C13}
 use Rattle.bsc_frame.specs.declared.message.Message.{Message}
@@ -22,7 +23,7 @@ use Rattle.bsc_checks.specs.Places.{origin_in, dest_in, is_to_carry}
 use Rattle.bsc_checks.specs.Table.{checks_of, code_of, head_checks, later_checks}
 use Rattle.bsc_checks.specs.Options.{Found, data_options_in, rest_of}
 use Rattle.bsc_checks.specs.Payloads.{body_in, has_bad_details, has_bad_uris, has_no_nodes_vmac, has_unknown_accepts, has_unknown_result, has_unknown_status, is_out_of_range}
-use Rattle.bsc_checks.specs.PlaceTests.{is_in_place, is_response, is_unicast}
+use Rattle.bsc_checks.specs.PlaceTests.{is_in_place, is_unicast}
 use Rattle.bsc_checks.specs.Failing.{fails, of_payload}
 use Rattle.bsc_checks.specs.Outcomes.{accepted, answered, decided, first_failing, outcome_of, refused}
 use Rattle.bsc_accept.specs.Messages.{who_asks}

@@ -24,7 +24,8 @@ use Rattle.bsc_script.specs.States.{State, Peer, has_joined_as, is_named, peer_o
 use Rattle.bsc_script.specs.Calls.{entry_in, looks_in, written_for, written_in}
 use Rattle.bsc_script.specs.Holding.{name_of, conn_of}
 use Rattle.bsc_script.proofs.Peers.{conn_has, has_conn, same_name}
-use Rattle.bsc_script.proofs.Touched.{is_of_same, newest_of}
+use Rattle.bsc_history.proofs.Capacity.{newest_of}
+use Rattle.bsc_script.proofs.Touched.{is_of_same}
 use Rattle.bsc_script_laws.proofs.Looking.{all_found}
 use Rattle.bsc_ring.proofs.Common.{short_of}
 use Rattle.bsc_script_laws.proofs.Placed.{in_map}

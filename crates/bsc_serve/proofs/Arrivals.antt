@@ -15,6 +15,7 @@ use Rattle.bsc_edge.specs.declared.fault.LinkFault.{LinkFault}
 use Rattle.bsc_edge.specs.Told.{Grows, Leaves, Stays}
 use Rattle.bsc_session.specs.declared.job.SessionJob.{SessionJob}
 use Rattle.bsc_session.specs.declared.session_end.SessionEnd.{SessionEnd}
+use Rattle.bsc_serve.specs.declared.bounds.TheConstants.{WAIT_MS}
 use Rattle.bsc_serve.specs.Events.{AreFates, Event, OutAfter, arrived, callers_of, ended, jobs_of, links_of, returned_of, unstarted_of}
 use Rattle.bsc_serve.specs.Fates.{Fate, IsFate, IsSplitIn, caller_in, job_in, returned, spent, started, unstarted_in}
 use Rattle.bsc_serve.specs.Inner.{AllEnded, limit_of}
@@ -137,8 +138,8 @@ rose_then n k a b c (inr x) (inl y) = inr (omega (arith, x, y))
 rose_then n k a b c (inr x) (inr y) = inr y
 
 -- an acceptor that was asked once more
-pub asks_once : (old mid new : Option (List ℕ)) (n : ℕ) → Grows old mid (replicate n 20) → Grows mid new (20 ∷ []) → Grows old new (replicate (n + 1) 20)
-asks_once old mid new n a b = subst (λ (l : List ℕ). Grows old new l) (replicate_more n 20) (grows_then old mid new (replicate n 20) (20 ∷ []) a b)
+pub asks_once : (old mid new : Option (List ℕ)) (n : ℕ) → Grows old mid (replicate n WAIT_MS) → Grows mid new (WAIT_MS ∷ []) → Grows old new (replicate (n + 1) WAIT_MS)
+asks_once old mid new n a b = subst (λ (l : List ℕ). Grows old new l) (replicate_more n WAIT_MS) (grows_then old mid new (replicate n WAIT_MS) (WAIT_MS ∷ []) a b)
 
 pub rose_later : (n a b c : ℕ) → RoseBy n a b → b ≤ c → RoseBy n a c
 rose_later n a b c (inl x) y = inl (omega (arith, x, y))

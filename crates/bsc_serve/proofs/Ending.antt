@@ -26,10 +26,10 @@ use Rattle.bsc_session.specs.declared.job.SessionJob.{SessionJob}
 use Rattle.bsc_session.specs.declared.session_end.SessionEnd.{SessionEnd}
 use Rattle.bsc_serve.specs.Terms.{Terms}
 use Rattle.bsc_serve.specs.Events.{Event, OutAfter, callers_of, jobs_of, links_of, returned_of, unstarted_of}
-use Rattle.bsc_serve.specs.Inner.{CutAt, Halted, Stock, Stopped, Taken, fault_halt, halt_end, whole_end, world_of}
+use Rattle.bsc_serve.specs.Inner.{CutAt, Halted, Stopped, Taken, fault_halt, halt_end, whole_end, world_of}
 use Rattle.bsc_serve.specs.Serving.{Cut, CutBy, EndsSo, IsWithin, JournalFailed, Loses, RoseBy, Serving, StopAnswers, cut_callers, cut_links, stop_notes}
 use Rattle.bsc_serve.specs.Tallies.{CountsUp, Remains}
-use Rattle.bsc_serve.specs.Worlds.{ServeWorld}
+use Rattle.bsc_serve.specs.Worlds.{ServeWorld, Stock, served_world}
 use Rattle.bsc_serve.proofs.Arrivals.{SpentStays, fates_later, few_unstarted, grows_from, grows_still, rose_later}
 use Rattle.bsc_serve.proofs.Sessions.{stop_stands}
 
@@ -153,7 +153,7 @@ module _ {L C N : Type 0} (works : SessionJob L C N → SessionEnd → Type 0) (
   pub serves_whole : (h : Hub) (terms : Terms) (w m : ServeWorld L C N) (q : Pass) (u : ℕ) (r : Result (Told Counts) AlreadyStopped)
       (lost : Option LinkFault) (held held' : Option (List ℕ)) → ((s : ℕ) → terms.sessions ≡ Some s → s < 2 ^ 64) → Taken works begins h terms w m (record { remaining = Some 0; unstarted = u })
       → m.out ≡ [] → Stopped h m.pass q r → Records held held' (stop_notes (number_of m.pass) r) lost
-      → HasLine (stop_notes (number_of m.pass) r) lost → Serving works begins h terms w (record m { pass = q }) held held' (whole_end u r lost)
+      → HasLine (stop_notes (number_of m.pass) r) lost → Serving works begins terms (served_world h held w) (served_world h held' (record m { pass = q })) (whole_end u r lost)
   serves_whole h terms w m q u r lost held held' fits t none s noted line =
       let n = length (links_of t.events) in
       let all : n ≡ n + 0 = omega arith in
@@ -173,6 +173,7 @@ module _ {L C N : Type 0} (works : SessionJob L C N → SessionEnd → Type 0) (
         stop = r;
         lost = lost;
         cut_last = tt;
+        hub = refl;
         left = subst (λ xs. Loses w.links m.links xs) (sym (append-nil (links_of t.events))) t.left;
         within = within_whole terms.sessions n t.remains;
         asks = t.asks;
@@ -194,7 +195,7 @@ module _ {L C N : Type 0} (works : SessionJob L C N → SessionEnd → Type 0) (
   pub serves_halted : (h : Hub) (terms : Terms) (w m : ServeWorld L C N) (q : Pass) (s : Stock L C N) (halt : Halt)
       (r : Result (Told Counts) AlreadyStopped) (lost : Option LinkFault) (held held' : Option (List ℕ)) → Halted works begins h terms w m halt → Stays m.jobs s.jobs → s.out ≡ []
       → m.unstarted ≤ s.unstarted → Stopped h m.pass q r → Records held held' (stop_notes (number_of m.pass) r) lost
-      → HasLine (stop_notes (number_of m.pass) r) lost → Serving works begins h terms w (world_of q s m.links m.waits) held held' (halt_end halt lost)
+      → HasLine (stop_notes (number_of m.pass) r) lost → Serving works begins terms (served_world h held w) (served_world h held' (world_of q s m.links m.waits)) (halt_end halt lost)
   serves_halted h terms w m q s halt r lost held held' t stays none later stopped noted line =
       let n = length (links_of t.events) + length (cut_links t.cut) in
       let took : List EndedCaller = callers_of t.events ++ cut_callers t.cut in
@@ -206,6 +207,7 @@ module _ {L C N : Type 0} (works : SessionJob L C N → SessionEnd → Type 0) (
         stop = r;
         lost = lost;
         cut_last = cut_by t.cut halt lost t.cut_last;
+        hub = refl;
         left = t.left;
         within = t.within;
         asks = t.asks;
@@ -225,7 +227,7 @@ module _ {L C N : Type 0} (works : SessionJob L C N → SessionEnd → Type 0) (
 
   -- what the spawner had out before was awaited at first
   pub serves_after : (h : Hub) (terms : Terms) (w v : ServeWorld L C N) (s : Stock L C N) (held held' : Option (List ℕ)) (end : ServeEnd) → Stays w.jobs s.jobs
-      → w.unstarted ≤ s.unstarted → Serving works begins h terms (world_of w.pass s w.links w.waits) v held held' end → Serving works begins h terms w v held held' end
+      → w.unstarted ≤ s.unstarted → Serving works begins terms (served_world h held (world_of w.pass s w.links w.waits)) (served_world h held' v) end → Serving works begins terms (served_world h held w) (served_world h held' v) end
   serves_after h terms w v s held held' end stays later t = record {
     events = t.events;
     cut = t.cut;
@@ -233,6 +235,7 @@ module _ {L C N : Type 0} (works : SessionJob L C N → SessionEnd → Type 0) (
     stop = t.stop;
     lost = t.lost;
     cut_last = t.cut_last;
+    hub = t.hub;
     left = t.left;
     within = t.within;
     asks = t.asks;

@@ -20,8 +20,9 @@ use Rattle.bsc_serve.specs.Terms.{Terms}
 use Rattle.bsc_session.specs.declared.job.SessionJob.{SessionJob}
 use Rattle.bsc_session.specs.Jobs.{policy_of}
 use Rattle.bsc_serve.specs.Fates.{IsJobOf, IsSplitIn, returned, spent, started}
-use Rattle.bsc_serve.specs.Inner.{Draws, Fares, HandsOver, LacksRoom, SplitsOff, Stock, TakesBack, limit_of}
+use Rattle.bsc_serve.specs.Inner.{Draws, Fares, HandsOver, LacksRoom, SplitsOff, TakesBack, giver, limit_of}
 use Rattle.bsc_serve.specs.Serving.{RoseBy}
+use Rattle.bsc_serve.specs.Worlds.{Stock}
 use Rattle.bsc_serve.proofs.Arrivals.{grows_none}
 
 -- a job that came back is the one that was handed in
@@ -87,7 +88,7 @@ module _ {L C N : Type 0} (begins : Option (List ℕ) → ℕ → N → Type 0) 
 
   -- there was no number
   pub fares_spent : (h : Hub) (terms : Terms) (p q : Pass) (l : L) (s : Stock L C N)
-      → Went h p 1 [] None q → newest_number q ≡ (about_of h).limits.callers → Fares begins h terms p q l s s (Ok false)
+      → Went h p 1 [] None q → newest_number q ≡ (about_of h).limits.callers → Fares begins h terms l (giver p s) (giver q s) (Ok false)
   fares_spent h terms p q l s went all = record {
     fate = spent;
     is = all;
@@ -115,7 +116,7 @@ module _ {L C N : Type 0} (begins : Option (List ℕ) → ℕ → N → Type 0) 
   -- a job was made and handed over
   pub fares_made : (h : Hub) (terms : Terms) (p m q x : Pass) (l : L) (job : SessionJob L C N)
       (s s' : Stock L C N) (r : Result Bool LinkFault) → SplitsOff h p m x → IsMadeFor h terms x l job
-      → HandsOver h m q job s s' r → Fares begins h terms p q l s s' r
+      → HandsOver h m q job s s' r → Fares begins h terms l (giver p s) (giver q s') r
   fares_made h terms p m q x l job s s' (Ok true) off made t = record {
     fate = started job;
     is = subst (λ (y : Pass). IsJobOf begins h terms p y l job) (sym t.3)

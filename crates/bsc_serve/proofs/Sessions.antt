@@ -30,9 +30,10 @@ use Rattle.bsc_session.specs.declared.session_end.SessionEnd.{SessionEnd}
 use Rattle.bsc_session.specs.Jobs.{Worked}
 use Rattle.bsc_serve.specs.Events.{AllStand, Event, OutAfter, arrived, callers_of, ended, jobs_of, links_of, returned_of, unstarted_of}
 use Rattle.bsc_serve.specs.Fates.{caller_in}
-use Rattle.bsc_serve.specs.Inner.{AllEnded, AllOurs, GoesOn, IsOurEnd, IsOurs, Stock, limit_of}
+use Rattle.bsc_serve.specs.Inner.{AllEnded, AllOurs, GoesOn, IsOurEnd, IsOurs, limit_of}
 use Rattle.bsc_serve.specs.Serving.{Loses, RoseBy}
 use Rattle.bsc_serve.specs.Tallies.{CountsUp, Remains}
+use Rattle.bsc_serve.specs.Worlds.{Stock}
 use Rattle.bsc_serve.proofs.Arrivals.{all_ended_then, callers-append, fates_later, fates_then, grows_still, jobs-append, links-append, out_then, returned-append, rose_later, unstarted-append}
 
 module _ {L C N : Type 0} where

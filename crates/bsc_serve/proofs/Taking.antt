@@ -11,6 +11,7 @@ use Rattle.bsc_hub.proofs.Following.{passed_none, starts_then, went_then}
 use Rattle.bsc_edge.specs.declared.arrived.Arrived.TheVariants.{Link, Quiet}
 use Rattle.bsc_edge.specs.declared.fault.LinkFault.{LinkFault}
 use Rattle.bsc_edge.specs.Told.{Grows, Leaves}
+use Rattle.bsc_serve.specs.declared.bounds.TheConstants.{WAIT_MS}
 use Rattle.bsc_serve.specs.declared.halt.Halt.{Halt}
 use Rattle.bsc_serve.specs.declared.halt.Halt.TheVariants.{JournalFault}
 use Rattle.bsc_session.specs.declared.job.SessionJob.{SessionJob}
@@ -19,7 +20,7 @@ use Rattle.bsc_serve.specs.Events.{Event, OutAfter, arrived, callers_of, jobs_of
 use Rattle.bsc_serve.specs.Fates.{Fate, IsFate, IsSplitIn, caller_in, job_in, returned, spent, started}
 use Rattle.bsc_serve.specs.declared.tally.Tally.{Tally}
 use Rattle.bsc_serve.specs.Terms.{Terms}
-use Rattle.bsc_serve.specs.Inner.{AllOurs, Draws, DrawsFor, Fared, Halted, LacksRoom, Taken, fault_halt, limit_of, stock_of}
+use Rattle.bsc_serve.specs.Inner.{AllOurs, Draws, DrawsFor, Fared, Halted, LacksRoom, Taken, fault_halt, giver, limit_of, stock_of}
 use Rattle.bsc_serve.specs.Serving.{IsWithin, Loses, RoseBy}
 use Rattle.bsc_serve.specs.Tallies.{CountsUp, Remains, one_unless}
 use Rattle.bsc_serve.specs.Worlds.{ServeWorld}
@@ -115,7 +116,7 @@ module _ {L C N : Type 0} (works : SessionJob L C N → SessionEnd → Type 0) (
 
   -- none arrived
   pub taken_still : (h : Hub) (terms : Terms) (w m : ServeWorld L C N) (links : Option (List L)) (waits : Option (List ℕ))
-      (tally : Tally) → Taken works begins h terms w m tally → Leaves m.links links (Ok Quiet) → Grows m.waits waits (20 ∷ [])
+      (tally : Tally) → Taken works begins h terms w m tally → Leaves m.links links (Ok Quiet) → Grows m.waits waits (WAIT_MS ∷ [])
       → Taken works begins h terms w (record m { links = links; waits = waits }) tally
   taken_still h terms w m links waits tally t lost asked = record {
     events = t.events;
@@ -136,8 +137,8 @@ module _ {L C N : Type 0} (works : SessionJob L C N → SessionEnd → Type 0) (
 
   -- one arrived, and this became of it
   pub taken_more : (h : Hub) (terms : Terms) (w m v : ServeWorld L C N) (tally tally' : Tally) (x : L) (is_started : Bool)
-      → Taken works begins h terms w m tally → Leaves m.links v.links (Ok (Link x)) → Grows m.waits v.waits (20 ∷ [])
-      → Fared begins h terms m.pass v.pass x (stock_of m) (stock_of v) is_started
+      → Taken works begins h terms w m tally → Leaves m.links v.links (Ok (Link x)) → Grows m.waits v.waits (WAIT_MS ∷ [])
+      → Fared begins h terms x (giver m.pass (stock_of m)) (giver v.pass (stock_of v)) is_started
       → ((s : Option ℕ) (n : ℕ) → Remains s n tally.remaining → Remains s (n + 1) tally'.remaining)
       → ((u : ℕ) → CountsUp tally.unstarted u → CountsUp tally'.unstarted (u + one_unless is_started))
       → Taken works begins h terms w v tally'
@@ -187,7 +188,7 @@ module _ {L C N : Type 0} (works : SessionJob L C N → SessionEnd → Type 0) (
   -- the acceptor failed
   pub halted_now : (h : Hub) (terms : Terms) (w m : ServeWorld L C N) (links : Option (List L)) (waits : Option (List ℕ))
       (tally : Tally) (fault : LinkFault) (halt : Halt) → halt ≢ JournalFault → Taken works begins h terms w m tally → Leaves m.links links (Err fault)
-      → Grows m.waits waits (20 ∷ []) → Halted works begins h terms w (record m { links = links; waits = waits }) halt
+      → Grows m.waits waits (WAIT_MS ∷ []) → Halted works begins h terms w (record m { links = links; waits = waits }) halt
   halted_now h terms w m links waits tally fault halt other t lost asked =
       let all : length (links_of t.events) ≡ length (links_of t.events) + 0 = omega arith in
       record {
@@ -211,7 +212,7 @@ module _ {L C N : Type 0} (works : SessionJob L C N → SessionEnd → Type 0) (
   -- one arrived, whose job couldn't be made
   pub halted_cut : (h : Hub) (terms : Terms) (w m v : ServeWorld L C N) (tally : Tally) (x : L) (fault : LinkFault) (halt : Halt)
       → halt ≡ fault_halt fault → Taken works begins h terms w m tally → tally.remaining ≢ Some 0 → Leaves m.links v.links (Ok (Link x))
-      → Grows m.waits v.waits (20 ∷ []) → LacksRoom h m.pass v.pass (stock_of m) (stock_of v)
+      → Grows m.waits v.waits (WAIT_MS ∷ []) → LacksRoom h m.pass v.pass (stock_of m) (stock_of v)
       → Halted works begins h terms w v halt
   halted_cut h terms w m v tally x fault halt so t more_come lost asked r = record {
     events = t.events;

@@ -1,5 +1,6 @@
 -- What the inner functions of serving say of each other; no public clause cites any of it.
-use Rattle.std.specs.Prelude.{◌≡◌, ◌≢◌, ℕ, ◌≤◌, ◌+◌, ◌⊎◌, Bool, true, false, ◌<◌, List, [], ◌∷◌, ◌++◌, length, position, replicate, Option, Some, None, Result, Ok, Err, IfErr, IfOk, IsErr, IsTrue, ◌↔◌, ⊤}
+use Rattle.std.specs.Prelude.{◌≡◌, ◌≢◌, ℕ, ◌≤◌, ◌+◌, ◌⊎◌, Bool, true, false, ◌<◌, List, [], ◌∷◌, ◌++◌, length, position, replicate, Option, Some, None, Result}
+use Rattle.std.specs.Prelude.{Ok, Err, IfErr, IfOk, IsErr, IsTrue, ◌↔◌, ⊤}
 use Rattle.std.specs.Arc.{arc_value}
 use Rattle.bsc_history.specs.declared.counts.Counts.{Counts}
 use Rattle.bsc_history.specs.declared.told.AlreadyStopped.{AlreadyStopped}
@@ -19,6 +20,7 @@ use Rattle.bsc_outside.specs.Faults.{HasRisen}
 use Rattle.bsc_edge.specs.declared.fault.LinkFault.{LinkFault}
 use Rattle.bsc_edge.specs.declared.fault.LinkFault.TheVariants.{Failed as FaultFailed, NoMemory as FaultMemory}
 use Rattle.bsc_edge.specs.Told.{Grows}
+use Rattle.bsc_serve.specs.declared.bounds.TheConstants.{WAIT_MS}
 use Rattle.bsc_serve.specs.declared.halt.Halt.{Halt}
 use Rattle.bsc_serve.specs.declared.halt.Halt.TheVariants.{AcceptFault as HaltFault, JournalFault as HaltJournal, NoMemory as HaltMemory}
 use Rattle.bsc_serve.specs.declared.end.ServeEnd.{ServeEnd}
@@ -31,7 +33,7 @@ use Rattle.bsc_serve.specs.declared.tally.Tally.{Tally}
 use Rattle.bsc_serve.specs.Tallies.{CountsUp, Remains, one_unless}
 use Rattle.bsc_serve.specs.Serving.{Cut, IsWithin, Loses, RoseBy, cut_callers, cut_links}
 use Rattle.bsc_serve.specs.Terms.{Terms}
-use Rattle.bsc_serve.specs.Worlds.{ServeWorld}
+use Rattle.bsc_serve.specs.Worlds.{ServeWorld, Stock}
 
 -- What the newest load of the number word found, before and after a split: a number was drawn, or all are drawn.
 abbrev pub limit_of : Hub → ℕ
@@ -90,13 +92,15 @@ module _ {L C N : Type 0} where
   AllEnded h (arrived l f ∷ more) = AllEnded h more
   AllEnded h (ended j d ∷ more) = IsOurEnd h j d × AllEnded h more
 
--- What is seen of a spawner.
-pub record Stock (L C N : Type 0) : Type 0 where
-  pub jobs : Option (List (SessionJob L C N))
-  pub out : List (SessionJob L C N)
-  pub unstarted : ℕ
+-- What gives a link its session: the hub's own pass, and what is seen of the spawner.
+pub record Giver (L C N : Type 0) : Type 0 where
+  pub pass : Pass
+  pub stock : Stock L C N
 
 module _ {L C N : Type 0} where
+  abbrev pub giver : Pass → Stock L C N → Giver L C N
+  giver pass stock = record { pass = pass; stock = stock }
+
   abbrev pub stock_of : ServeWorld L C N → Stock L C N
   stock_of w = record { jobs = w.jobs; out = w.out; unstarted = w.unstarted }
 
@@ -125,19 +129,19 @@ module _ {L C N : Type 0} where
 
 module _ {L C N : Type 0} (begins : Option (List ℕ) → ℕ → N → Type 0) where
   -- What became of one link.
-  pub record Fared (h : Hub) (terms : Terms) (p q : Pass) (x : L) (s t : Stock L C N) (is_started : Bool) : Type 0 where
+  pub record Fared (h : Hub) (terms : Terms) (x : L) (before after : Giver L C N) (is_started : Bool) : Type 0 where
     pub fate : Fate (SessionJob L C N)
-    pub is : IsFate begins h terms p q x fate
-    pub jobs : Grows s.jobs t.jobs (job_in fate)
-    pub out : t.out ≡ s.out ++ job_in fate
-    pub went : Went h p 1 (caller_in fate) None q
-    pub draws : DrawsFor h p q fate
-    pub rose : RoseBy (length (caller_in fate)) s.unstarted t.unstarted
+    pub is : IsFate begins h terms before.pass after.pass x fate
+    pub jobs : Grows before.stock.jobs after.stock.jobs (job_in fate)
+    pub out : after.stock.out ≡ before.stock.out ++ job_in fate
+    pub went : Went h before.pass 1 (caller_in fate) None after.pass
+    pub draws : DrawsFor h before.pass after.pass fate
+    pub rose : RoseBy (length (caller_in fate)) before.stock.unstarted after.stock.unstarted
     pub counts : unstarted_in fate ≡ one_unless is_started
 
-  abbrev pub Fares : Hub → Terms → Pass → Pass → L → Stock L C N → Stock L C N → Result Bool LinkFault → Type 0
-  Fares h terms p q l s t (Ok is_started) = Fared h terms p q l s t is_started
-  Fares h terms p q l s t (Err fault) = LacksRoom h p q s t
+  abbrev pub Fares : Hub → Terms → L → Giver L C N → Giver L C N → Result Bool LinkFault → Type 0
+  Fares h terms l before after (Ok is_started) = Fared h terms l before after is_started
+  Fares h terms l before after (Err fault) = LacksRoom h before.pass after.pass before.stock after.stock
 
 module _ {L C N : Type 0} (works : SessionJob L C N → SessionEnd → Type 0) (begins : Option (List ℕ) → ℕ → N → Type 0) where
   -- What has happened, in a loop that began with the world w and stands at v with this tally.
@@ -145,7 +149,7 @@ module _ {L C N : Type 0} (works : SessionJob L C N → SessionEnd → Type 0) (
     pub events : List (Event L C N)
     pub left : Loses w.links v.links (links_of events)
     pub asks : ℕ
-    pub asked : Grows w.waits v.waits (replicate asks 20)
+    pub asked : Grows w.waits v.waits (replicate asks WAIT_MS)
     pub jobs : Grows w.jobs v.jobs (jobs_of events)
     pub fates : AreFates begins h terms w.pass v.pass events
     pub returned : RoseBy (returned_of events) w.unstarted v.unstarted
@@ -165,7 +169,7 @@ module _ {L C N : Type 0} (works : SessionJob L C N → SessionEnd → Type 0) (
     pub left : Loses w.links v.links (links_of events ++ cut_links cut)
     pub within : IsWithin terms.sessions (length (links_of events) + length (cut_links cut))
     pub asks : ℕ
-    pub asked : Grows w.waits v.waits (replicate asks 20)
+    pub asked : Grows w.waits v.waits (replicate asks WAIT_MS)
     pub jobs : Grows w.jobs v.jobs (jobs_of events)
     pub fates : AreFates begins h terms w.pass v.pass events
     pub returned : RoseBy (returned_of events) w.unstarted v.unstarted

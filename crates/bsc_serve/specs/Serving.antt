@@ -10,7 +10,6 @@ use Rattle.bsc_history.specs.Replies.{is_stopped}
 use Rattle.bsc_turn.specs.declared.pass.Pass.{Pass}
 use Rattle.bsc_turn.specs.declared.view.Ended.{Ended as EndedCaller}
 use Rattle.bsc_turn.specs.Passes.{number_of, seen}
-use Rattle.bsc_hub.specs.declared.hub.Hub.{Hub}
 use Rattle.bsc_hub.specs.Calls.{stop_made}
 use Rattle.bsc_hub.specs.Passing.{Went, found_history}
 use Rattle.bsc_edge.specs.declared.fault.LinkFault.{LinkFault}
@@ -18,6 +17,7 @@ use Rattle.bsc_edge.specs.declared.fault.LinkFault.TheVariants.{Failed}
 use Rattle.bsc_edge.specs.Told.{Grows}
 use Rattle.bsc_desk.specs.Entries.{stop_entry}
 use Rattle.bsc_notes.specs.Notes.{HasLine, Note, Records, made}
+use Rattle.bsc_serve.specs.declared.bounds.TheConstants.{WAIT_MS}
 use Rattle.bsc_serve.specs.declared.end.ServeEnd.{ServeEnd}
 use Rattle.bsc_serve.specs.declared.end.ServeEnd.TheVariants.{Done, StoppedBefore, AcceptFault, JournalFault, NoMemory}
 use Rattle.bsc_session.specs.declared.job.SessionJob.{SessionJob}
@@ -25,7 +25,7 @@ use Rattle.bsc_session.specs.declared.session_end.SessionEnd.{SessionEnd}
 use Rattle.bsc_serve.specs.Events.{AllStand, AreFates, Event, OutAfter, callers_of, jobs_of, links_of, returned_of, unstarted_of}
 use Rattle.bsc_serve.specs.Fates.{IsUnused}
 use Rattle.bsc_serve.specs.Terms.{Terms}
-use Rattle.bsc_serve.specs.Worlds.{ServeWorld}
+use Rattle.bsc_serve.specs.Worlds.{ServedWorld}
 
 -- What is left lost these, in order, and was told before. What isn't told any more says nothing.
 abbrev pub Loses : {A : Type 0} → Option (List A) → Option (List A) → List A → Type 0
@@ -102,41 +102,42 @@ module _ {L C N : Type 0} where
   EndsSo awaited events cut still stop lost NoMemory = JournalFailed cut lost → ⊥
 
 module _ {L C N : Type 0} (works : SessionJob L C N → SessionEnd → Type 0) (begins : Option (List ℕ) → ℕ → N → Type 0) where
-  -- What serving a hub comes to, on these terms, from one world to another and with what its own journal held and holds, where
-  -- `works` says what may be left of a job, and `begins` whether a sink is the journal of a prefix and a number: there is what
-  -- happened, in order, under want of memory or a fault of a journal one link more, the jobs that were still out when the hub
-  -- was stopped, an answer of its stop, and why the Stop's line wasn't put, if it wasn't, such that ..
-  pub record Serving (h : Hub) (terms : Terms) (before after : ServeWorld L C N) (held held' : Option (List ℕ)) (end : ServeEnd) : Type 0 where
+  -- What serving a hub comes to, on these terms, from one world to another of the same hub, where `works` says what may be left
+  -- of a job, and `begins` whether a sink is the journal of a prefix and a number: there is what happened, in order, under want
+  -- of memory or a fault of a journal one link more, the jobs that were still out when the hub was stopped, an answer of its
+  -- stop, and why the Stop's line wasn't put, if it wasn't, such that ..
+  pub record Serving (terms : Terms) (before after : ServedWorld L C N) (end : ServeEnd) : Type 0 where
     pub events : List (Event L C N)
     pub cut : Option (Cut L)
     pub still : List (SessionJob L C N)
     pub stop : Result (Told Counts) AlreadyStopped
     pub lost : Option LinkFault
     pub cut_last : CutBy cut end
+    pub hub : after.hub ≡ before.hub
     -- .. these links left the acceptor, in order, no more than are awaited; and it was asked so often, for 20 ms each time;
-    pub left : Loses before.links after.links (links_of events ++ cut_links cut)
+    pub left : Loses before.beside.links after.beside.links (links_of events ++ cut_links cut)
     pub within : IsWithin terms.sessions (length (links_of events) + length (cut_links cut))
     pub asks : ℕ
-    pub asked : Grows before.waits after.waits (replicate asks 20)
+    pub asked : Grows before.beside.waits after.beside.waits (replicate asks WAIT_MS)
     -- for each that isn't unstarted the spawner took one job, in order, with that link, this hub, a pass that was split in
     -- this call, these limits and turns, this policy, and a journal of this prefix and of the number of its own pass;
-    pub jobs : Grows before.jobs after.jobs (jobs_of events)
-    pub fates : AreFates begins h terms before.pass after.pass events
+    pub jobs : Grows before.beside.jobs after.beside.jobs (jobs_of events)
+    pub fates : AreFates begins before.hub terms before.beside.pass after.beside.pass events
     -- no more came back than the spawner's count rose by;
-    pub returned : RoseBy (returned_of events) before.unstarted after.unstarted
+    pub returned : RoseBy (returned_of events) before.beside.unstarted after.beside.unstarted
     -- each job that ended was one that was out, and those that didn't were still out when the hub was stopped; none is at last;
     pub out : OutAfter works [] events still
-    pub gathered : after.out ≡ []
+    pub gathered : after.beside.out ≡ []
     -- the hub's own pass drew one number for each link, took in the callers that came back and those of the jobs that ended,
     -- in this order, and then stopped the hub, or found it stopped;
-    pub went : Went h before.pass (length (links_of events) + length (cut_links cut)) (callers_of events ++ cut_callers cut)
-        (stop_made (number_of before.pass) stop) after.pass
-    pub stopped : StopAnswers after.pass stop
+    pub went : Went before.hub before.beside.pass (length (links_of events) + length (cut_links cut)) (callers_of events ++ cut_callers cut)
+        (stop_made (number_of before.beside.pass) stop) after.beside.pass
+    pub stopped : StopAnswers after.beside.pass stop
     -- all that the callers of these jobs entered stands in the history that the stop found, so before the Stop;
-    pub stop_last : AllStand (found_history (stop_made (number_of before.pass) stop) after.pass) events
+    pub stop_last : AllStand (found_history (stop_made (number_of before.beside.pass) stop) after.beside.pass) events
     -- the own journal has the line of the Stop, if this call made it, and nothing more; or a first part of that line, where it
     -- wasn't put;
-    pub records : Records held held' (stop_notes (number_of before.pass) stop) lost
-    pub has_line : HasLine (stop_notes (number_of before.pass) stop) lost
+    pub records : Records before.held after.held (stop_notes (number_of before.beside.pass) stop) lost
+    pub has_line : HasLine (stop_notes (number_of before.beside.pass) stop) lost
     -- and the end says what the stop answered, and how many links have no job.
     pub ends : EndsSo terms.sessions events cut still stop lost end

@@ -11,6 +11,7 @@ ghost use Rattle.bsc_serve.specs.Inner.{Accepts, TakesOn, Taken, fault_halt};
 ghost use Rattle.bsc_serve.specs.Terms.{all_terms};
 ghost use Rattle.bsc_serve.specs.Worlds.{ServeWorld};
 
+use crate::bounds::WAIT_MS;
 use crate::halt::Halt;
 use crate::parts::ServingParts;
 use crate::served::ServedHub;
@@ -22,9 +23,6 @@ use bsc_hub::Pass;
 use bsc_outside::Sink;
 use bsc_session::SessionJob;
 use std::sync::Wait;
-
-/// How long the acceptor is asked for a link at a time, in milliseconds.
-const WAIT_MS: u32 = 20;
 
 /// What ends the loop where a session couldn't be made.
 fn halt_of(fault: LinkFault) -> Halt

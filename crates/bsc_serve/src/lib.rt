@@ -7,6 +7,7 @@
 #![tactic(auto)]
 
 mod accepting;
+mod bounds;
 mod end;
 mod halt;
 mod parts;
@@ -19,6 +20,7 @@ mod tally;
 mod terms;
 mod turning_away;
 
+pub use bounds::WAIT_MS;
 pub use end::ServeEnd;
 pub use parts::ServingParts;
 pub use served::ServedHub;

@@ -170,24 +170,32 @@ pub fn serve_on<
     ensures again { P.can_start parts.new.spawner }
 
     // What became of the links, which jobs were taken and ended, and what the hub was told at last.
-    ensures serving { Serving (Worked L.talk L.faults C.readings N.held N.faults) J.begins (arc_value served.entry.hub.now)
+    ensures serving { Serving (Worked L.talk L.faults C.readings N.held N.faults) J.begins
         (all_terms served.entry.terms (option_map (λ p. p.now) served.entry.prefix) (policy_of served.entry.policy.now))
         (record {
-          pass = pass.old;
-          links = A.left parts.old.acceptor;
-          waits = A.waits parts.old.acceptor;
-          jobs = P.jobs parts.old.spawner;
-          out = P.out parts.old.spawner;
-          unstarted = P.faults parts.old.spawner;
+          hub = arc_value served.entry.hub.now;
+          held = N.held own.old;
+          beside = record {
+            pass = pass.old;
+            links = A.left parts.old.acceptor;
+            waits = A.waits parts.old.acceptor;
+            jobs = P.jobs parts.old.spawner;
+            out = P.out parts.old.spawner;
+            unstarted = P.faults parts.old.spawner;
+          };
         })
         (record {
-          pass = pass.new;
-          links = A.left parts.new.acceptor;
-          waits = A.waits parts.new.acceptor;
-          jobs = P.jobs parts.new.spawner;
-          out = P.out parts.new.spawner;
-          unstarted = P.faults parts.new.spawner;
-        }) (N.held own.old) (N.held own.new) result }
+          hub = arc_value served.entry.hub.now;
+          held = N.held own.new;
+          beside = record {
+            pass = pass.new;
+            links = A.left parts.new.acceptor;
+            waits = A.waits parts.new.acceptor;
+            jobs = P.jobs parts.new.spawner;
+            out = P.out parts.new.spawner;
+            unstarted = P.faults parts.new.spawner;
+          };
+        }) result }
 
     // The pass is still one of the hub.
     ensures caller { IsCaller (arc_value served.entry.hub.now) pass.new }

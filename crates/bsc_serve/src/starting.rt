@@ -48,13 +48,13 @@ fn hand_over<
     match spawner.start(rt, alloc, job) {
         Ok(()) => Ok(true),
         Err(Unstarted::Failed(job)) => {
-            let (_shared, other, link) = job.into_parts();
-            take_back(alloc, hub, pass, link, other);
+            let parts = job.into_parts();
+            take_back(alloc, hub, pass, parts.link, parts.pass);
             Ok(false)
         }
         Err(Unstarted::NoMemory(job)) => {
-            let (_shared, other, link) = job.into_parts();
-            take_back(alloc, hub, pass, link, other);
+            let parts = job.into_parts();
+            take_back(alloc, hub, pass, parts.link, parts.pass);
             Err(LinkFault::NoMemory)
         }
     }
@@ -94,10 +94,15 @@ pub(crate) fn start_session<
     ensures again { P.can_start parts.new.spawner }
     ensures fares { Fares J.begins (arc_value served.entry.hub.now)
         (all_terms served.entry.terms (option_map (λ p. p.now) served.entry.prefix) (policy_of served.entry.policy.now))
-        pass.old pass.new link
-        (record { jobs = P.jobs parts.old.spawner; out = P.out parts.old.spawner; unstarted = P.faults parts.old.spawner })
-        (record { jobs = P.jobs parts.new.spawner; out = P.out parts.new.spawner; unstarted = P.faults parts.new.spawner })
-        result }
+        link
+        (record {
+          pass = pass.old;
+          stock = record { jobs = P.jobs parts.old.spawner; out = P.out parts.old.spawner; unstarted = P.faults parts.old.spawner };
+        })
+        (record {
+          pass = pass.new;
+          stock = record { jobs = P.jobs parts.new.spawner; out = P.out parts.new.spawner; unstarted = P.faults parts.new.spawner };
+        }) result }
     ensures unbegun { result ≡ Err LinkFault.Failed → HasRisen (J.faults parts.old.journals) (J.faults parts.new.journals) }
     ensures journals_later { J.faults parts.old.journals ≤ J.faults parts.new.journals }
     ensures acceptor { parts.new.acceptor ≡ parts.old.acceptor }

@@ -47,6 +47,7 @@ use Rattle.bsc_session.specs.Hearing.{AnswersMessage}
 use Rattle.bsc_session.specs.Receiving.{Answer, replies, worn, no_memory}
 use Rattle.bsc_session.specs.Standings.{Standing, Terms, start_of, told, wanted}
 use Rattle.bsc_session.specs.Stops.{closes, closing_in, first_of, stop_if, stop_unrecorded}
+use Rattle.bsc_session.specs.Moments.{moment}
 use Rattle.bsc_session.proofs.HubCalls.{goes_as, goes_passed}
 use Rattle.bsc_session.proofs.Recording.{no_line, wrote_as, wrote_made, wrote_none}
 use Rattle.bsc_session.proofs.Lists.{grown, grows-nil, grows_stays}
@@ -69,16 +70,16 @@ left_open Nothing m fault why stop left calls is going = left
 
 -- ---- who has joined
 
-until_joined : (o : Option Farewell) → has_joined (until_farewell o) ≡ true
+pub until_joined : (o : Option Farewell) → has_joined (until_farewell o) ≡ true
 until_joined None = refl
 until_joined (Some f) = refl
 
-joined_moved : (g : MachineStanding) (e : Event) → is_joined e ≡ false → has_joined (moved g e) ≡ has_joined g
+pub joined_moved : (g : MachineStanding) (e : Event) → is_joined e ≡ false → has_joined (moved g e) ≡ has_joined g
 joined_moved awaiting_request e h = rw h refl
 joined_moved connected e h = until_joined (farewell_at e)
 joined_moved (disconnecting f) e h = refl
 
-joined_at : (g : MachineStanding) → has_joined (moved g JoinedEvent) ≡ true
+pub joined_at : (g : MachineStanding) → has_joined (moved g JoinedEvent) ≡ true
 joined_at awaiting_request = refl
 joined_at connected = refl
 joined_at (disconnecting f) = refl
@@ -139,7 +140,7 @@ pub ask_joined : (h : Hub) (v : Terms) (s : Standing) (given : Result Incoming L
     → Passed h p [] (connect_made (number_of p) who (Ok j)) q → IsOwnAs q j.conn who.vmac → IsNewOutlet j.outlet → mark_of (seen q) j.conn ≡ Some (outlet_mark j.outlet)
     → address ≡ who.vmac → mem ≡ Some (record { conn = j.conn; address = address; outlet = j.outlet }) → Stays old mid → AcceptingAnswers a.machine m JoinedEvent st → LeavesAccepting st m → Carries mid new st PeerLeft stop
     → Records held0 held1 (made j.at (connect_entry (number_of p) who (JoinedReply j.conn j.replaced)) ∷ []) None
-    → AnswersMessage v s (Ask who) given h p q a (record { machine = m; member = mem; ended = a.ended; receives = a.receives }) old new held0 held1 stop
+    → AnswersMessage v s (Ask who) given h (moment p a old held0) (moment q (record { machine = m; member = mem; ended = a.ended; receives = a.receives }) new held1) stop
 ask_joined h v s given p q a old mid new held0 held1 who j address m st stop mem held stood alone admitted passed owns fresh mark is set stays answers left carried records =
     let does = answers (start_of v s) s.events stood in
     let k : Carries mid new (wanted v s JoinedEvent) PeerLeft stop = rw does.0 at carried in
@@ -172,7 +173,7 @@ pub ask_joined_lost : (h : Hub) (v : Terms) (s : Standing) (given : Result Incom
     → Passed h p [] (connect_made (number_of p) who (Ok j)) q → IsOwnAs q j.conn who.vmac → IsNewOutlet j.outlet → mark_of (seen q) j.conn ≡ Some (outlet_mark j.outlet)
     → address ≡ who.vmac → mem ≡ Some (record { conn = j.conn; address = address; outlet = j.outlet }) → Stays old new → stop ≡ stop_unrecorded fault
     → Records held0 held1 (made j.at (connect_entry (number_of p) who (JoinedReply j.conn j.replaced)) ∷ []) (Some fault)
-    → AnswersMessage v s (Ask who) given h p q a (record { machine = a.machine; member = mem; ended = a.ended; receives = a.receives }) old new held0 held1 (Some stop)
+    → AnswersMessage v s (Ask who) given h (moment p a old held0) (moment q (record { machine = a.machine; member = mem; ended = a.ended; receives = a.receives }) new held1) (Some stop)
 ask_joined_lost h v s given p q a old new held0 held1 who j address mem fault stop held alone admitted passed owns fresh mark is set stays by records =
     let noted_so = noted_connect v s given who j.at (JoinedReply j.conn j.replaced) admitted in
     record {
@@ -218,7 +219,7 @@ pub ask_refused : (h : Hub) (v : Terms) (s : Standing) (given : Result Incoming 
     → Passed h p [] (placed at (refused_stamped (number_of p) who r)) q
     → Carries old new (wanted v s (RefusedEvent r)) (WhyRefused r) stop → b.member ≡ a.member → b.ended ≡ a.ended → b.receives ≡ a.receives
     → Records held0 held1 (made at (connect_entry (number_of p) who (RefusedReply r)) ∷ []) None
-    → AnswersMessage v s (Ask who) given h p q a b old new held0 held1 stop
+    → AnswersMessage v s (Ask who) given h (moment p a old held0) (moment q b new held1) stop
 ask_refused h v s given p q a b old new held0 held1 who at r stop held alone admitted passed k member ended receives records =
     record {
       answer = Some (replies at [] (RefusedReply r));
@@ -244,7 +245,7 @@ pub ask_refused_lost : (h : Hub) (v : Terms) (s : Standing) (given : Result Inco
     → Held h v p a s → a.member ≡ None → denied_in v s (Ask who) given ≡ None
     → Passed h p [] (placed at (refused_stamped (number_of p) who r)) q → stop ≡ stop_unrecorded fault
     → Records held0 held1 (made at (connect_entry (number_of p) who (RefusedReply r)) ∷ []) (Some fault)
-    → AnswersMessage v s (Ask who) given h p q a a old old held0 held1 (Some stop)
+    → AnswersMessage v s (Ask who) given h (moment p a old held0) (moment q a old held1) (Some stop)
 ask_refused_lost h v s given p q a old held0 held1 who at r fault stop held alone admitted passed by records =
     let noted_so = noted_connect v s given who at (RefusedReply r) admitted in
     record {
@@ -274,7 +275,7 @@ pub ask_ends : (h : Hub) (v : Terms) (s : Standing) (given : Result Incoming Lin
     → Held h v p a s → a.member ≡ None → denied_in v s (Ask who) given ≡ None → Passed h p [] None q
     → last_wanted v s (Ask who) (Some answer) ≡ Nothing → answered s (Ask who) (Some answer) ≡ s → called v s (Ask who) given (Some answer) ≡ [] → AnswerFits (Ask who) (Some answer)
     → Some stop ≡ stop_by (Some answer) → (answer ≡ worn → SeesWorn h q)
-    → AnswersMessage v s (Ask who) given h p q a a old old held0 held0 (Some stop)
+    → AnswersMessage v s (Ask who) given h (moment p a old held0) (moment q a old held0) (Some stop)
 ask_ends h v s given p q a old held0 who answer stop held alone admitted passed quiet same none fits stops wears = record {
   answer = Some answer;
   lost = None;

@@ -76,7 +76,7 @@ well_putting None os None later h = well-puts os
 well_putting None os (Some f) later h = cc
 well_putting (Some s) os fault later h = cc
 
-first_none : (a b : Option Stop) → first_of a b ≡ None → (a ≡ None) × (b ≡ None)
+pub first_none : (a b : Option Stop) → first_of a b ≡ None → (a ≡ None) × (b ≡ None)
 first_none None b h = (refl, h)
 first_none (Some s) b h = cc
 

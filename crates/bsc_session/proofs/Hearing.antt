@@ -49,6 +49,7 @@ use Rattle.bsc_session.specs.Puts.{HasPut, octets_in, puts}
 use Rattle.bsc_session.specs.Receiving.{Answer, replies, worn, no_memory, received_one}
 use Rattle.bsc_session.specs.Standings.{Standing, Terms, start_of, told, wanted}
 use Rattle.bsc_session.specs.Stops.{first_of, stop_at, stop_lost}
+use Rattle.bsc_session.specs.Moments.{moment, traces}
 use Rattle.bsc_session.proofs.Asking.{answer_is, left_open}
 use Rattle.bsc_session.proofs.HubCalls.{goes_as, goes_nowhere, member_stays, one_line, unless_lost}
 use Rattle.bsc_session.proofs.Lists.{grown, grows-nil, grows_stays}
@@ -89,8 +90,8 @@ noted_forward v s p m c answer n is free = rw free (ap (made_at (Some answer)) (
 -- a forward's answer stops the session, or it goes on as it stood
 pub carry_answers : (h : Hub) (v : Terms) (s : Standing) (p q : CallerPass) (a : At) (m : List ℕ) (n : Member) (old new : Option (List Said)) (pages pages' : Option (List ℕ)) (stop : Option Stop)
     → Held h v p a s → AcceptingStands a.machine (start_of v s) s.events → Tied s → LeavesAccepting Up a.machine → a.member ≡ Some n → denied_in v s Up (Ok (Message m)) ≡ None
-    → Forwards h p q n.conn m old new pages pages' stop
-    → AnswersMessage v s Up (Ok (Message m)) h p q a a old new pages pages' stop
+    → Forwards h p q n.conn m (traces old pages) (traces new pages') stop
+    → AnswersMessage v s Up (Ok (Message m)) h (moment p a old pages) (moment q a new pages') stop
 carry_answers h v s p q a m n old new pages pages' stop held stood tied left is free f =
     let conn : s.conn ≡ Some n.conn = sym held.follows.conn ∙ is_conn a.member n.conn n is refl in
     let notes = noted_forward v s p m n.conn f.answer held.number conn free in
@@ -130,7 +131,7 @@ message_so v s policy a n m o fixed f is denies = ap (λ x. denied_message x s.a
 pub carry_denied : (h : Hub) (v : Terms) (s : Standing) (p : CallerPass) (a : At) (m : List ℕ) (denial : Denial) (old : Option (List Said)) (pages pages' : Option (List ℕ)) (lost : Option LinkFault) (stop : Option Stop)
     → Held h v p a s → AcceptingStands a.machine (start_of v s) s.events → Tied s → LeavesAccepting Up a.machine → denied_in v s Up (Ok (Message m)) ≡ Some denial
     → Records pages pages' (denied denial ∷ []) lost → stop ≡ stop_lost lost
-    → AnswersMessage v s Up (Ok (Message m)) h p p a a old old pages pages' stop
+    → AnswersMessage v s Up (Ok (Message m)) h (moment p a old pages) (moment p a old pages') stop
 carry_denied h v s p a m denial old pages pages' lost stop held stood tied left is records by = record {
   answer = None;
   lost = lost;
@@ -153,7 +154,7 @@ carry_denied h v s p a m denial old pages pages' lost stop held stood tied left 
 -- a device that isn't admitted is turned away
 pub ask_denied : (h : Hub) (v : Terms) (s : Standing) (given : Result Incoming LinkFault) (p : CallerPass) (a : At) (who : Identity) (denial : Denial) (old : Option (List Said)) (pages pages' : Option (List ℕ)) (stop : Stop)
     → Held h v p a s → denied_in v s (Ask who) given ≡ Some denial → TurnsAway denial pages pages' stop
-    → AnswersMessage v s (Ask who) given h p p a a old old pages pages' (Some stop)
+    → AnswersMessage v s (Ask who) given h (moment p a old pages) (moment p a old pages') (Some stop)
 ask_denied h v s given p a who denial old pages pages' stop held is away = record {
   answer = None;
   lost = away.lost;
@@ -178,7 +179,7 @@ ask_denied h v s given p a who denial old pages pages' stop held is away = recor
 -- a step that calls nobody was carried out
 pub carried_answers : (h : Hub) (v : Terms) (s : Standing) (p : CallerPass) (a : At) (m : List ℕ) (st : Step) (old new : Option (List Said)) (pages : Option (List ℕ)) (stop : Option Stop)
     → Held h v p a s → AcceptingStands a.machine (start_of v s) s.events → Tied s → LeavesAccepting st a.machine → calls st ≡ false → Carries old new st PeerLeft stop
-    → AnswersMessage v s st (Ok (Message m)) h p p a a old new pages pages stop
+    → AnswersMessage v s st (Ok (Message m)) h (moment p a old pages) (moment p a new pages) stop
 carried_answers h v s p a m (Ask who) old new pages stop held stood tied left none k = cc
 carried_answers h v s p a m Up old new pages stop held stood tied left none k = cc
 carried_answers h v s p a m st old new pages stop held stood tied left none k = record {
@@ -205,13 +206,6 @@ carried_answers h v s p a m st old new pages stop held stood tied left none k = 
 no_carries : (b : Bool) (c : Closing) → cond b (Close c) Nothing ≡ Up → ⊥
 no_carries true c h = cc
 no_carries false c h = cc
-
--- who asks hasn't joined, and said so by a message that passed
-record IsAsked (g : MachineStanding) (verdict : Verdict) (who : Identity) : Type 0 where
-  apart : has_joined g ≡ false
-  msg : Bvlc
-  passes : verdict ≡ Pass msg
-  says : who_asks msg.body ≡ Some who
 
 carries_by : (g : MachineStanding) (verdict : Verdict) → message_step g verdict ≡ Up → (e : Envelope) × (verdict ≡ Carried e)
 carries_by awaiting_request (Pass msg) h = absurd (no_ask_carries (who_asks msg.body) h)
@@ -263,10 +257,10 @@ runs_received v s a n runs = record { machine = runs.machine; waits = runs.waits
 pub message_heard : (h : Hub) (v : Terms) (s : Standing) (now : ℕ) (m : List ℕ) (p q : CallerPass) (a a' b : At) (old new : Option (List Said)) (pages pages' : Option (List ℕ)) (verdict : Verdict) (st : Step) (stop : Option Stop)
     → verdict ≡ verdict_on v s m → st ≡ wanted v s (Came now verdict)
     → a'.member ≡ a.member
-    → AnswersMessage v (told s (Came now verdict)) st (Ok (Message m)) h p q a' b old new pages pages' stop
-    → HearsMessage v s now m h p q a b old new pages pages' stop
+    → AnswersMessage v (told s (Came now verdict)) st (Ok (Message m)) h (moment p a' old pages) (moment q b new pages') stop
+    → HearsMessage v s now m h (moment p a old pages) (moment q b new pages') stop
 message_heard h v s now m p q a a' b old new pages pages' verdict st stop is does same k =
-    let l : AnswersMessage v (told s (Came now (verdict_on v s m))) (wanted v s (Came now (verdict_on v s m))) (Ok (Message m)) h p q a' b old new pages pages' stop = rw (does, is) at k in
+    let l : AnswersMessage v (told s (Came now (verdict_on v s m))) (wanted v s (Came now (verdict_on v s m))) (Ok (Message m)) h (moment p a' old pages) (moment q b new pages') stop = rw (does, is) at k in
     record {
       judged = true;
       answer = l.answer;
@@ -291,7 +285,7 @@ message_heard h v s now m p q a a' b old new pages pages' verdict st stop is doe
 -- there was no memory to judge it
 pub message_unjudged : (h : Hub) (v : Terms) (s : Standing) (now : ℕ) (m : List ℕ) (p : CallerPass) (a : At) (old : Option (List Said)) (pages : Option (List ℕ)) (stop : Stop)
     → Held h v p a s → (msg : Bvlc) × (verdict_on v s m ≡ Pass msg) → stop ≡ stop_at NoMemory
-    → HearsMessage v s now m h p p a a old old pages pages (Some stop)
+    → HearsMessage v s now m h (moment p a old pages) (moment p a old pages) (Some stop)
 message_unjudged h v s now m p a old pages stop held passes is = record {
   judged = false;
   answer = None;
@@ -346,7 +340,7 @@ hears_judged : (h : Hub) (v : Terms) (s : Standing) (now wait : ℕ) (m : List �
     → given_by b.member ≡ given_by a'.member → empties_by b.member ≡ empties_by a'.member
     → Held h v q b (answered (heard_told v (received_one s) now judged (Ok (Message m))) (heard_step v (received_one s) now judged (Ok (Message m))) answer)
     → (stop ≡ None → SessionRuns v b (answered (heard_told v (received_one s) now judged (Ok (Message m))) (heard_step v (received_one s) now judged (Ok (Message m))) answer))
-    → Hears v s now wait h p q a b old new pages pages' stop
+    → Hears v s now wait h (moment p a old pages) (moment q b new pages') stop
 hears_judged h v s now wait m p q a a' b old mid new pages pages' stop true answer lost fault told_ same memory calls fits goes wrote line said cause stops worns given empties held runs = record {
   hearing = record { given = Ok (Message m); judged = true; answer = answer; lost = lost; fault = fault };
   is = record { memory = memory; calls = calls; fits = fits; line = line; cause = cause };
@@ -376,8 +370,8 @@ hears_judged h v s now wait m p q a a' b old mid new pages pages' stop false ans
 
 pub hears_message : (h : Hub) (v : Terms) (s : Standing) (now wait : ℕ) (m : List ℕ) (p q : CallerPass) (a a' b : At) (old mid new : Option (List Said)) (pages pages' : Option (List ℕ)) (stop : Option Stop)
     → Grows old mid (Gave wait (Ok (Message m)) ∷ []) → a'.member ≡ a.member
-    → HearsMessage v (received_one s) now m h p q a' b mid new pages pages' stop
-    → Hears v s now wait h p q a b old new pages pages' stop
+    → HearsMessage v (received_one s) now m h (moment p a' mid pages) (moment q b new pages') stop
+    → Hears v s now wait h (moment p a old pages) (moment q b new pages') stop
 hears_message h v s now wait m p q a a' b old mid new pages pages' stop told_ same k = hears_judged h v s now wait m p q a a' b old mid new pages pages' stop k.judged k.answer k.lost k.fault told_ same k.memory k.calls k.fits k.goes k.wrote k.line k.said k.cause k.stops k.is_worn k.given_same k.empties_same k.held k.runs
 
 -- what isn't a message is followed by nothing
@@ -385,7 +379,7 @@ pub hears_nothing : (h : Hub) (v : Terms) (s : Standing) (now wait : ℕ) (p : C
     → Grows old new (Gave wait given ∷ []) → heard_step v s now true given ≡ Nothing → heard_told v s now true given ≡ s
     → stop ≡ stop_given given (stop_judged true (stop_message v (received_one s) Nothing None None None None))
     → b.member ≡ a.member → Held h v p b (received_one s) → (stop ≡ None → SessionRuns v b (received_one s))
-    → Hears v s now wait h p p a b old new pages pages stop
+    → Hears v s now wait h (moment p a old pages) (moment p b new pages) stop
 hears_nothing h v s now wait p a b old new pages given stop told_ quiet stays stops same held runs = record {
   hearing = record { given = given; judged = true; answer = None; lost = None; fault = None };
   is = record { memory = tt; calls = rw quiet refl; fits = rw quiet tt; line = no_line _; cause = rw quiet tt };

@@ -31,6 +31,7 @@ use Rattle.bsc_session.specs.Following.{IsMember}
 use Rattle.bsc_session.specs.Hearing.{Calls, Forwards, forward_made}
 use Rattle.bsc_session.specs.Serving.{PassGoes}
 use Rattle.bsc_session.specs.Receiving.{Answer, no_memory, replies, worn}
+use Rattle.bsc_session.specs.Moments.{traces}
 
 -- the entry that a call made, or none
 abbrev pub entry_made : Option Placed → List Entry
@@ -99,7 +100,7 @@ unless_lost (Some fault) = refl
 
 pub one_told : (h : Hub) (p q : Pass) (conn : ℕ) (m : List ℕ) (t : Told OneReply) (old new : Option (List Said)) (pages pages' : Option (List ℕ)) (lost : Option LinkFault) (stop : Option Stop) → IsCaller h p
     → Passed h p [] (one_made (number_of p) conn m (Ok t)) q → Stays old new → Records pages pages' (made_note t.at (forward_entry (number_of p) conn m (one_looks t.said) (one_reply t.said)) ∷ []) lost → stop ≡ stop_lost lost
-    → Forwards h p q conn m old new pages pages' stop
+    → Forwards h p q conn m (traces old pages) (traces new pages') stop
 one_told h p q conn m t old new pages pages' lost stop is k said records stops = record {
   answer = replies t.at (one_looks t.said) (one_reply t.said);
   lost = lost;
@@ -112,7 +113,7 @@ one_told h p q conn m t old new pages pages' lost stop is k said records stops =
 }
 
 pub one_worn : (h : Hub) (p q : Pass) (conn : ℕ) (m : List ℕ) (old new : Option (List Said)) (pages : Option (List ℕ)) (stop : Option Stop) → IsCaller h p
-    → Passed h p [] None q → Stays old new → stop ≡ stop_by (Some worn) → SeesWorn h q → Forwards h p q conn m old new pages pages stop
+    → Passed h p [] None q → Stays old new → stop ≡ stop_by (Some worn) → SeesWorn h q → Forwards h p q conn m (traces old pages) (traces new pages) stop
 one_worn h p q conn m old new pages stop is k said stops wears = record {
   answer = worn;
   lost = None;
@@ -126,7 +127,7 @@ one_worn h p q conn m old new pages stop is k said stops wears = record {
 
 pub all_told : (h : Hub) (p q : Pass) (conn : ℕ) (m : List ℕ) (t : Told AllReply) (old new : Option (List Said)) (pages pages' : Option (List ℕ)) (lost : Option LinkFault) (stop : Option Stop) → IsCaller h p
     → Passed h p [] (all_made (number_of p) conn m (Ok t)) q → Stays old new → Records pages pages' (made_note t.at (forward_entry (number_of p) conn m (all_looks t.said) (all_reply t.said)) ∷ []) lost → stop ≡ stop_lost lost
-    → Forwards h p q conn m old new pages pages' stop
+    → Forwards h p q conn m (traces old pages) (traces new pages') stop
 all_told h p q conn m t old new pages pages' lost stop is k said records stops = record {
   answer = replies t.at (all_looks t.said) (all_reply t.said);
   lost = lost;
@@ -139,7 +140,7 @@ all_told h p q conn m t old new pages pages' lost stop is k said records stops =
 }
 
 pub all_refused : (h : Hub) (p q : Pass) (conn : ℕ) (m : List ℕ) (answer : Answer) (old new : Option (List Said)) (pages : Option (List ℕ)) (stop : Option Stop) → IsCaller h p
-    → Passed h p [] None q → Stays old new → forward_made (number_of p) conn m answer ≡ [] → stop ≡ stop_by (Some answer) → (answer ≡ worn → SeesWorn h q) → Forwards h p q conn m old new pages pages stop
+    → Passed h p [] None q → Stays old new → forward_made (number_of p) conn m answer ≡ [] → stop ≡ stop_by (Some answer) → (answer ≡ worn → SeesWorn h q) → Forwards h p q conn m (traces old pages) (traces new pages) stop
 all_refused h p q conn m answer old new pages stop is k said none stops wears = record {
   answer = answer;
   lost = None;

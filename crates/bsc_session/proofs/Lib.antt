@@ -2,7 +2,7 @@ pub mod TalkWords
 mod WorkedTalks
 mod WorkedEnds
 pub mod Lists
-mod EndingAtFault
+pub mod EndingAtFault
 mod Causing
 mod Keeping
 mod Waiting
@@ -13,13 +13,13 @@ mod Verdicts
 mod Running
 mod MakingTurns
 mod Opening
-mod Hearing
-mod Asking
+pub mod Hearing
+pub mod Asking
 mod HubCalls
 mod TakingFrames
 mod CarryingOut
 mod Recording
-mod Filtering
+pub mod Filtering
 mod Losing
 mod Denying
 mod Blaming

@@ -1,5 +1,5 @@
 -- Lines that weren't put: by which stop, behind which others, and what a journal holds then.
-use Rattle.std.proofs.Common.{◌≡◌, ◌≤◌, ◌⊎◌, ℕ, Bool, true, false, ◌&&◌, List, [], ◌∷◌, ◌++◌, map, take, refl, ap, sym, subst, ◌∙◌, append-nil, arith, inl, inr, Option, Some, None, Result, Ok, Err}
+use Rattle.std.proofs.Common.{◌≡◌, ◌≤◌, ◌⊎◌, ℕ, Bool, true, false, List, [], ◌∷◌, ◌++◌, map, take, refl, ap, sym, subst, ◌∙◌, append-nil, arith, inl, inr, Option, Some, None, Result, Ok, Err}
 use Rattle.std.specs.Io.KnownBytes.{Appends}
 use Rattle.std.proofs.KnownBytes.{Appends-trans}
 use Rattle.bsc_octets.specs.declared.vmac.Vmac.{Vmac}
@@ -33,6 +33,7 @@ use Rattle.bsc_session.specs.Standings.{Standing, Terms}
 use Rattle.bsc_session.specs.Stops.{closes, closing_in, first_of, stop_if, stop_lost}
 use Rattle.bsc_session.specs.Talk.{first_lost}
 use Rattle.bsc_session.specs.Taking.{IsOpening, Opening, end_step, ended_by, last_alone, noted_last, noted_of, notes_opening, opened, stop_before, waiting_for}
+use Rattle.bsc_outside.proofs.Common.{risen_from as risen_before}
 use Rattle.bsc_session.proofs.Filtering.{noted-append, noted-nil, records_more}
 use Rattle.bsc_session.proofs.Recording.{denied_stand, no_line, stand_append, stand_on}
 
@@ -128,10 +129,6 @@ wrote_opening v s p o pages pages' stop is stops records =
 
 -- ---- the hearing
 
-and_false : (b : Bool) → b && false ≡ false
-and_false true = refl
-and_false false = refl
-
 -- of what isn't asked or carried nothing is noted
 unheard_notes : (v : Terms) (s : Standing) (given : Result Incoming LinkFault) (a : Option Answer) → map denied (if_any (denied_in v s Nothing given)) ++ made_at a (called v s Nothing given a) ≡ []
 unheard_notes v s given None = refl
@@ -187,10 +184,6 @@ records_idle a b c ns (Some fault) h k = (h.0, h.1, h.2, subst (Appends a c) (ap
 
 -- ---- the journal's count
 
-pub risen_before : (a b c : ℕ) → a ≤ b → HasRisen b c → HasRisen a c
-risen_before a b c h (inl k) = inl (omega (arith, h, k))
-risen_before a b c h (inr k) = inr k
-
 pub risen_after : (a b c : ℕ) → b ≤ c → HasRisen a b → HasRisen a c
 risen_after a b c h (inl k) = inl (omega (arith, h, k))
 risen_after a b c h (inr k) = inr (omega (arith, h, k))
@@ -201,10 +194,6 @@ fault_is x y h = cc
 pub unput_before : (makes : Bool) (lost : Option LinkFault) (a b c : ℕ) → a ≤ b → UnputBy makes lost b c → UnputBy makes lost a c
 unput_before makes None a b c h k = tt
 unput_before makes (Some fault) a b c h k = (k.0, λ is. risen_before a b c h (k.1 is))
-
-pub unput_after : (makes : Bool) (lost : Option LinkFault) (a b c : ℕ) → b ≤ c → UnputBy makes lost a b → UnputBy makes lost a c
-unput_after makes None a b c h k = tt
-unput_after makes (Some fault) a b c h k = (k.0, λ is. risen_after a b c h (k.1 is))
 
 pub unput_if_before : (makes : Bool) (stop : Option Stop) (a b c : ℕ) → a ≤ b → UnputIf makes stop b c → UnputIf makes stop a c
 unput_if_before makes None a b c h k = tt

@@ -1,12 +1,11 @@
 -- A turn is its opening, and then its hearing where the opening didn't stop the session.
-use Rattle.std.proofs.Common.{◌≡◌, ℕ, ◌+◌, ◌≤◌, ◌<◌, Bool, true, false, is_some, is_none, ◌&&◌, cond, List, [], ◌∷◌, refl, ap, sym, ◌∙◌, append-nil, arith, Option, Some, None, Result, Ok, Err}
+use Rattle.std.proofs.Common.{◌≡◌, ℕ, ◌+◌, ◌≤◌, ◌<◌, Bool, true, false, is_some, is_none, ◌&&◌, cond, List, zero, suc, refl, ap, sym, ◌∙◌, subst, append-nil, arith, Option, Some, None, Result, Ok, Err}
 use Rattle.std.specs.Prelude.{length, nat_lt, if◌then◌else◌}
 use Rattle.bsc_history.specs.declared.ending.End.{End}
 use Rattle.bsc_history.specs.declared.reply.Reply.TheVariants.{Joined, Refused}
 use Rattle.bsc_turn.specs.declared.pass.Pass.{Pass}
 use Rattle.bsc_hub.specs.declared.hub.Hub.{Hub}
 use Rattle.bsc_edge.specs.declared.said.Said.{Said}
-use Rattle.bsc_edge.specs.Told.{Grows}
 use Rattle.bsc_accept.specs.declared.step.Step.{Step}
 use Rattle.bsc_accept.specs.declared.step.Step.TheVariants.{Ask}
 use Rattle.bsc_session.specs.declared.bounds.TheConstants.{TAKES}
@@ -20,17 +19,18 @@ use Rattle.bsc_edge.specs.declared.incoming.Incoming.{Incoming}
 use Rattle.bsc_edge.specs.declared.incoming.Incoming.TheVariants.{Message}
 use Rattle.bsc_session.specs.Judging.{heard_told}
 use Rattle.bsc_session.specs.CarryingOut.{is_more, stop_of}
-use Rattle.bsc_session.specs.Following.{Follows, HasStanding, Held, IsFollowed, IsMember, empties_by}
+use Rattle.bsc_session.specs.Following.{Follows, HasStanding, Held, IsFollowed, IsMember, SessionRuns, empties_by}
 use Rattle.bsc_session.specs.Hearing.{Hears}
 use Rattle.bsc_session.specs.Opening.{Opens, SameMember}
-use Rattle.bsc_session.specs.MakingTurns.{Between, Makes, Starts, lost_by}
+use Rattle.bsc_session.specs.MakingTurns.{Makes, Starts, lost_by}
 use Rattle.bsc_session.specs.Puts.{puts}
-use Rattle.bsc_session.specs.Reading.{started, ticked}
+use Rattle.bsc_session.specs.Reading.{start_at, started, ticked}
 use Rattle.bsc_session.specs.Receiving.{Answer, replies, Hearing}
 use Rattle.bsc_session.specs.Standings.{Standing, Terms, is_connected}
 use Rattle.bsc_session.specs.Stops.{first_of}
 use Rattle.bsc_session.specs.Taking.{Opening, end_told, notes_opening, opened, put_first, stop_before, wait_by, wait_in}
-use Rattle.bsc_session.specs.Turns.{after}
+use Rattle.bsc_session.specs.Turns.{after, empties_in}
+use Rattle.bsc_session.specs.Moments.{moment, traces}
 use Rattle.bsc_session.proofs.HubCalls.{goes_nowhere}
 use Rattle.bsc_session.proofs.Lists.{grows_as, grown}
 use Rattle.bsc_session.proofs.Losing.{line_behind, line_opening, lost_before, lost_hearing, wrote_hearing, wrote_opening}
@@ -41,52 +41,51 @@ member_same p (Some m) (Some n) h k = rw (h.0, h.1, h.2) k
 member_same p None (Some n) h k = absurd h
 member_same p (Some m) None h k = absurd h
 
-pub held_opened : (h : Hub) (v : Terms) (s : Standing) (now : ℕ) (p : Pass) (a a1 b : At) (old new : Option (List Said)) (pages pages' : Option (List ℕ)) (result : Result Backlog Stop) → Held h v p a s → Starts v s now a a1 → (k : Opens v s now a1 b old new pages pages' result) → Held h v p b (opened s k.opening)
-held_opened h v s now p a a1 b old new pages pages' result held st k = record {
+pub held_opened : (h : Hub) (v : Terms) (s : Standing) (now : ℕ) (p : Pass) (a b : At) (old new : Option (List Said)) (pages pages' : Option (List ℕ)) (result : Result Backlog Stop) → Held h v p a s → (k : Opens v s now a b (traces old pages) (traces new pages') result) → Held h v p b (opened s k.opening)
+held_opened h v s now p a b old new pages pages' result held k = record {
   caller = held.caller;
   number = held.number;
-  member = member_same p a1.member b.member k.same (rw st.member held.member);
+  member = member_same p a.member b.member k.same held.member;
   follows = k.follows;
 }
 
 -- the opening stops the session
-pub makes_opening : (h : Hub) (v : Terms) (s : Standing) (now : ℕ) (p : Pass) (a a1 b : At) (old new : Option (List Said)) (read read' : Option (List ℕ)) (pages pages' : Option (List ℕ)) (stop : Stop) → s.receives < v.turns → Held h v p a s → Starts v s now a a1
-    → Grows read read' (now ∷ []) → Opens v s now a1 b old new pages pages' (Err stop) → Makes v s h p p a b old new read read' pages pages' (Some stop)
-makes_opening h v s now p a a1 b old new read read' pages pages' stop room held st reads k = record {
+pub makes_opening : (h : Hub) (v : Terms) (s : Standing) (now : ℕ) (p : Pass) (a b : At) (old new : Option (List Said)) (pages pages' : Option (List ℕ)) (stop : Stop) → s.receives < v.turns → Held h v p a s
+    → Opens v s now a b (traces old pages) (traces new pages') (Err stop) → Makes v s now h (moment p a old pages) (moment p b new pages') (Some stop)
+makes_opening h v s now p a b old new pages pages' stop room held k = record {
   turn = record { opening = k.opening; hearing = None };
   is = record { room = room; opening = k.is; heard = rw (sym k.stops) refl; hearing = tt };
   goes = goes_nowhere h p held.caller;
-  gave = rw (sym st.member) k.gave;
-  empties = rw (sym st.member) (
-      let e : empties_by b.member ≡ empties_by a1.member + (if is_none k.opening.met && (false && (is_connected (ticked s k.opening.reading) && nat_lt (length k.opening.frames) TAKES)) then 1 else 0) = rw (sym k.stops) at k.empties in e);
+  gave = k.gave;
+  empties = (let e : empties_by b.member ≡ empties_by a.member + (if is_none k.opening.met && (false && (is_connected (ticked s k.opening.reading) && nat_lt (length k.opening.frames) TAKES)) then 1 else 0) = rw (sym k.stops) at k.empties in e);
   said = grows_as old new _ _ (sym (append-nil (puts (put_first v s k.opening) k.opening.fault))) k.said;
-  reads = rw k.read reads;
+  read = k.read;
   wrote = wrote_opening v s p k.opening pages pages' (Some stop) k.is k.stops k.records;
   line = line_opening v s k.opening (Some stop) k.is k.stops;
   stops = rw (sym k.stops) refl;
   is_worn = λ e. cc;
-  held = held_opened h v s now p a a1 b old new pages pages' (Err stop) held st k;
+  held = held_opened h v s now p a b old new pages pages' (Err stop) held k;
   runs = λ going. cc;
 }
 
 -- the opening goes on, and the session hears
-pub makes_hearing : (h : Hub) (v : Terms) (s : Standing) (now : ℕ) (p q : Pass) (a a1 b c : At) (old mid new : Option (List Said)) (read read' : Option (List ℕ)) (pages pages' pages'' : Option (List ℕ)) (stop : Option Stop) (backlog : Backlog) (wait : ℕ) → s.receives < v.turns
-    → Starts v s now a a1 → Grows read read' (now ∷ []) → (k : Opens v s now a1 b old mid pages pages' (Ok backlog)) → wait ≡ wait_by (is_more backlog) → Hears v (opened s k.opening) now wait h p q b c mid new pages' pages'' stop
-    → Makes v s h p q a c old new read read' pages pages'' stop
-makes_hearing h v s now p q a a1 b c old mid new read read' pages pages' pages'' stop backlog wait room st reads k waits hears =
+pub makes_hearing : (h : Hub) (v : Terms) (s : Standing) (now : ℕ) (p q : Pass) (a b c : At) (old mid new : Option (List Said)) (pages pages' pages'' : Option (List ℕ)) (stop : Option Stop) (backlog : Backlog) (wait : ℕ) → s.receives < v.turns
+    → (k : Opens v s now a b (traces old pages) (traces mid pages') (Ok backlog)) → wait ≡ wait_by (is_more backlog) → Hears v (opened s k.opening) now wait h (moment p b mid pages') (moment q c new pages'') stop
+    → Makes v s now h (moment p a old pages) (moment q c new pages'') stop
+makes_hearing h v s now p q a b c old mid new pages pages' pages'' stop backlog wait room k waits hears =
     let w : wait ≡ wait_in k.opening = waits ∙ ap wait_by k.more in
-    let l : Hears v (opened s k.opening) k.opening.reading (wait_in k.opening) h p q b c mid new pages' pages'' stop = rw (sym k.read, w) at hears in
+    let l : Hears v (opened s k.opening) k.opening.reading (wait_in k.opening) h (moment p b mid pages') (moment q c new pages'') stop = rw (sym k.read, w) at hears in
     let unlost : k.opening.lost ≡ None = sym (lost_before v s k.opening k.is) ∙ ap lost_by (sym k.stops) in
     let same : l.hearing.lost ≡ lost_by stop = sym (lost_hearing v (opened s k.opening) k.opening.reading l.hearing l.is) ∙ ap lost_by (sym l.stops) in
     record {
       turn = record { opening = k.opening; hearing = Some l.hearing };
       is = record { room = room; opening = k.is; heard = rw (sym k.stops) refl; hearing = l.is };
       goes = l.goes;
-      gave = rw (sym st.member) (l.given_same ∙ k.gave);
-      empties = rw (sym st.member) (l.empties_same ∙ (
-          let e : empties_by b.member ≡ empties_by a1.member + (if is_none k.opening.met && (true && (is_connected (ticked s k.opening.reading) && nat_lt (length k.opening.frames) TAKES)) then 1 else 0) = rw (sym k.stops) at k.empties in e));
+      gave = l.given_same ∙ k.gave;
+      empties = l.empties_same ∙ (
+          let e : empties_by b.member ≡ empties_by a.member + (if is_none k.opening.met && (true && (is_connected (ticked s k.opening.reading) && nat_lt (length k.opening.frames) TAKES)) then 1 else 0) = rw (sym k.stops) at k.empties in e);
       said = grown old mid new (puts (put_first v s k.opening) k.opening.fault) (said_hearing v (opened s k.opening) k.opening.reading (wait_in k.opening) l.hearing) k.said l.said;
-      reads = rw k.read reads;
+      read = k.read;
       wrote = rw same at (wrote_hearing v s p q k.opening l.hearing pages pages' pages'' (rw unlost at k.records) l.goes.sees l.wrote l.is.line);
       line = rw same at (line_behind (notes_opening v s k.opening) _ l.hearing.lost l.is.line);
       stops = rw (sym k.stops) l.stops;
@@ -131,31 +130,44 @@ at_most_one true = omega arith
 at_most_one false = omega arith
 
 -- a turn that goes on has received
-pub receives_more : (v : Terms) (s : Standing) (h : Hub) (p q : Pass) (a b : At) (old new : Option (List Said)) (read read' : Option (List ℕ)) (pages pages' : Option (List ℕ)) → (k : Makes v s h p q a b old new read read' pages pages' None) → (after v s k.turn).receives ≡ s.receives + 1
-receives_more v s h p q a b old new read read' pages pages' k =
+pub receives_more : (v : Terms) (s : Standing) (h : Hub) (p q : Pass) (a b : At) (now : ℕ) (old new : Option (List Said)) (pages pages' : Option (List ℕ)) → (k : Makes v s now h (moment p a old pages) (moment q b new pages') None) → (after v s k.turn).receives ≡ s.receives + 1
+receives_more v s h p q a b now old new pages pages' k =
     let some : is_some k.turn.hearing ≡ true = k.is.heard ∙ none_first (stop_before v s k.turn.opening) _ k.stops in
     receives_heard v s k.turn.opening k.turn.hearing some
 
 not_zero : (n m : ℕ) → n ≡ m + 1 → n ≡ 0 → ⊥
 not_zero n m h k = (let e : m + 1 ≡ 0 = sym h ∙ k in absurd (omega (arith, e)))
 
-pub between_more : (v : Terms) (s : Standing) (h : Hub) (p q : Pass) (a b : At) (old new : Option (List Said)) (read read' : Option (List ℕ)) (pages pages' : Option (List ℕ)) → Between v a s → (k : Makes v s h p q a b old new read read' pages pages' None) → Between v b (after v s k.turn)
-between_more v s h p q a b old new read read' pages pages' between k =
-    let more = receives_more v s h p q a b old new read read' pages pages' k in
+-- ---- the reading of a turn
+
+-- after the first turn no reading starts the machine
+kept_start : (n start now : ℕ) → (n ≡ 0 → ⊥) → start_at n start now ≡ start
+kept_start zero start now more = absurd (more refl)
+kept_start (suc n) start now more = refl
+
+started_later : (s : Standing) (now : ℕ) → (s.receives ≡ 0 → ⊥) → started s now ≡ s
+started_later s now more = (let begun_at : ℕ → Standing = λ k. record s { start = k } in ap begun_at (kept_start s.receives s.start now more))
+
+-- the next turn begins at any reading
+pub starts_more : (v : Terms) (s : Standing) (h : Hub) (p q : Pass) (a b : At) (now next : ℕ) (old new : Option (List Said)) (pages pages' : Option (List ℕ)) → Starts v s now a → (k : Makes v s now h (moment p a old pages) (moment q b new pages') None) → Starts v (after v s k.turn) next b
+starts_more v s h p q a b now next old new pages pages' starts k =
+    let more = receives_more v s h p q a b now old new pages pages' k in
     record {
-      runs = k.runs refl;
-      fresh = λ z. absurd (not_zero (after v s k.turn).receives s.receives more z);
-      bounded = (let e = k.empties in let x = between.bounded in let o = at_most_one (is_none k.turn.opening.met && (is_some k.turn.hearing && (is_connected (ticked s k.turn.opening.reading) && nat_lt (length k.turn.opening.frames) TAKES))) in omega (arith, e, x, o, more));
+      runs = subst (λ (t : Standing). SessionRuns v b t) (sym (started_later (after v s k.turn) next (not_zero (after v s k.turn).receives s.receives more))) (k.runs refl);
+      bounded = (let e : empties_by b.member ≡ empties_by a.member + empties_in v s k.turn = k.empties in let x = starts.bounded in let o = at_most_one (is_none k.turn.opening.met && (is_some k.turn.hearing && (is_connected (ticked s k.turn.opening.reading) && nat_lt (length k.turn.opening.frames) TAKES))) in omega (arith, e, x, o, more));
     }
 
-pub followed_started : (v : Terms) (s : Standing) (now : ℕ) (a b : At) → Starts v s now a b → IsFollowed b
-followed_started v s now a b st = (v, started s now, st.follows, st.runs)
+pub follows_started : (s : Standing) (now : ℕ) (a : At) → Follows a s → Follows a (started s now)
+follows_started s now a f = record { conn = f.conn; address = f.address; ended = f.ended; receives = f.receives; found = f.found }
 
-pub room_started : (v : Terms) (s : Standing) (now : ℕ) (a b : At) → Starts v s now a b → Follows a s → Between v a s → a.receives < 18446744073709551615 → empties_by b.member < 18446744073709551615
-room_started v s now a b st f between room = (let x = between.bounded in let r = f.receives in rw st.member (omega (arith, x, r, room)))
+pub followed_started : (v : Terms) (s : Standing) (now : ℕ) (a : At) → Follows a s → Starts v s now a → IsFollowed a
+followed_started v s now a f st = (v, started s now, follows_started s now a f, st.runs)
 
-pub standing_opened : (h : Hub) (v : Terms) (s : Standing) (now : ℕ) (p : Pass) (a a1 b : At) (old new : Option (List Said)) (pages pages' : Option (List ℕ)) (result : Result Backlog Stop) → stop_of result ≡ None → Held h v p a s → Starts v s now a a1 → Opens v s now a1 b old new pages pages' result → HasStanding h p b
-standing_opened h v s now p a a1 b old new pages pages' result going held st k = (v, opened s k.opening, held_opened h v s now p a a1 b old new pages pages' result held st k, k.runs going)
+pub room_started : (v : Terms) (s : Standing) (now : ℕ) (a : At) → Starts v s now a → Follows a s → a.receives < 18446744073709551615 → empties_by a.member < 18446744073709551615
+room_started v s now a st f room = (let x = st.bounded in let r = f.receives in omega (arith, x, r, room))
 
-pub room_opened : (h : Hub) (v : Terms) (s : Standing) (now : ℕ) (p : Pass) (a a1 b : At) (old new : Option (List Said)) (pages pages' : Option (List ℕ)) (result : Result Backlog Stop) → Held h v p a s → Opens v s now a1 b old new pages pages' result → a.receives < 18446744073709551615 → b.receives < 18446744073709551615
-room_opened h v s now p a a1 b old new pages pages' result held k room = (let e : b.receives ≡ a.receives = k.follows.receives ∙ receives_opened s k.opening ∙ sym held.follows.receives in rw e room)
+pub standing_opened : (h : Hub) (v : Terms) (s : Standing) (now : ℕ) (p : Pass) (a b : At) (old new : Option (List Said)) (pages pages' : Option (List ℕ)) (result : Result Backlog Stop) → stop_of result ≡ None → Held h v p a s → Opens v s now a b (traces old pages) (traces new pages') result → HasStanding h p b
+standing_opened h v s now p a b old new pages pages' result going held k = (v, opened s k.opening, held_opened h v s now p a b old new pages pages' result held k, k.runs going)
+
+pub room_opened : (h : Hub) (v : Terms) (s : Standing) (now : ℕ) (p : Pass) (a b : At) (old new : Option (List Said)) (pages pages' : Option (List ℕ)) (result : Result Backlog Stop) → Held h v p a s → Opens v s now a b (traces old pages) (traces new pages') result → a.receives < 18446744073709551615 → b.receives < 18446744073709551615
+room_opened h v s now p a b old new pages pages' result held k room = (let e : b.receives ≡ a.receives = k.follows.receives ∙ receives_opened s k.opening ∙ sym held.follows.receives in rw e room)

@@ -43,6 +43,7 @@ use Rattle.bsc_session.specs.Reading.{started, ticked, wanted_at}
 use Rattle.bsc_session.specs.Standings.{Standing, Terms, is_connected, is_phase_connected, start_of, told, wanted}
 use Rattle.bsc_session.specs.Stops.{closes, closing_in, stop_at, stop_for, stop_unrecorded}
 use Rattle.bsc_session.specs.Taking.{last_alone, may_be_more, noted_of, passing, waiting_for}
+use Rattle.bsc_session.specs.Moments.{traces}
 use Rattle.bsc_session.proofs.Asking.{left_open, tied_told}
 use Rattle.bsc_session.proofs.Hearing.{connected_joined, some_of}
 use Rattle.bsc_session.proofs.Filtering.{noted-nil, passing-nil}
@@ -99,8 +100,8 @@ keep_end : (e : Option End) (m : Member) (p : Outlet) → ((d : End) → OutletH
 keep_end None m p keeps h = tt
 keep_end (Some d) m p keeps h = keeps d h
 
-pub takes_from : (policy : Option Policy) (m : Member) (p : Outlet) (old new : Option (List Said)) (pages pages' : Option (List ℕ)) (taken : Taken) → Takes policy m.address m.outlet p old new pages pages' taken
-    → TakesFrom policy (Some m) (Some (record { conn = m.conn; address = m.address; outlet = p })) old new pages pages' taken
+pub takes_from : (policy : Option Policy) (m : Member) (p : Outlet) (old new : Option (List Said)) (pages pages' : Option (List ℕ)) (taken : Taken) → Takes policy m.address m.outlet p (traces old pages) (traces new pages') taken
+    → TakesFrom policy (Some m) (Some (record { conn = m.conn; address = m.address; outlet = p })) (traces old pages) (traces new pages') taken
 takes_from policy m p old new pages pages' taken t = record {
   frames = t.frames;
   same = (refl, refl, t.mark);
@@ -143,27 +144,27 @@ noted_so v s policy m frames fixed there = ap (λ x. map denied (denials x (addr
 
 -- the puts of a taking that met no End
 said_so : (v : Terms) (s : Standing) (policy : Option Policy) (m n : Option Member) (old new : Option (List Said)) (pages pages' : Option (List ℕ)) (taken : Taken) → v.policy ≡ policy → address_by m ≡ s.address
-    → (t : TakesFrom policy m n old new pages pages' taken) → Grows old new (puts (passing v s t.frames ++ []) (cut_in taken))
+    → (t : TakesFrom policy m n (traces old pages) (traces new pages') taken) → Grows old new (puts (passing v s t.frames ++ []) (cut_in taken))
 said_so v s policy m n old new pages pages' taken fixed there t = grows_as old new _ _ (ap (λ w. puts w (cut_in taken)) (passing_so v s policy m t.frames fixed there ∙ sym (append-nil (passing v s t.frames)))) t.said
 
 cause_so : (v : Terms) (s : Standing) (policy : Option Policy) (m n : Option Member) (old new : Option (List Said)) (pages pages' : Option (List ℕ)) (taken : Taken) → v.policy ≡ policy → address_by m ≡ s.address
-    → (t : TakesFrom policy m n old new pages pages' taken) → HasPut (passing v s (last_alone t.frames)) (cut_in taken)
+    → (t : TakesFrom policy m n (traces old pages) (traces new pages') taken) → HasPut (passing v s (last_alone t.frames)) (cut_in taken)
 cause_so v s policy m n old new pages pages' taken fixed there t = subst (λ w. HasPut w (cut_in taken)) (passing_so v s policy m (last_alone t.frames) fixed there) t.cause
 
 records_so : (v : Terms) (s : Standing) (policy : Option Policy) (m n : Option Member) (old new : Option (List Said)) (pages pages' : Option (List ℕ)) (taken : Taken) → v.policy ≡ policy → address_by m ≡ s.address
-    → (t : TakesFrom policy m n old new pages pages' taken) → Records pages pages' (noted_of v s t.frames) (unput_in taken)
+    → (t : TakesFrom policy m n (traces old pages) (traces new pages') taken) → Records pages pages' (noted_of v s t.frames) (unput_in taken)
 records_so v s policy m n old new pages pages' taken fixed there t = subst (λ w. Records pages pages' w (unput_in taken)) (noted_so v s policy m t.frames fixed there) t.records
 
 line_so : (v : Terms) (s : Standing) (policy : Option Policy) (m n : Option Member) (old new : Option (List Said)) (pages pages' : Option (List ℕ)) (taken : Taken) → v.policy ≡ policy → address_by m ≡ s.address
-    → (t : TakesFrom policy m n old new pages pages' taken) → HasLine (noted_of v s (last_alone t.frames)) (unput_in taken)
+    → (t : TakesFrom policy m n (traces old pages) (traces new pages') taken) → HasLine (noted_of v s (last_alone t.frames)) (unput_in taken)
 line_so v s policy m n old new pages pages' taken fixed there t = subst (λ w. HasLine w (unput_in taken)) (noted_so v s policy m (last_alone t.frames) fixed there) t.line
 
 -- no End and no fault came, and no line was lost
 attends_on : (v : Terms) (s : Standing) (now : ℕ) (policy : Option Policy) (a : At) (n : Option Member) (old new : Option (List Said)) (pages pages' : Option (List ℕ)) (taken : Taken) (backlog : Backlog)
     → v.policy ≡ policy → met_in taken ≡ None → cut_in taken ≡ None → unput_in taken ≡ None
-    → (t : TakesFrom policy a.member n old new pages pages' taken) → is_more backlog ≡ may_be_more t.frames None
+    → (t : TakesFrom policy a.member n (traces old pages) (traces new pages') taken) → is_more backlog ≡ may_be_more t.frames None
     → Follows a s → SessionRuns v a s
-    → Attends v s now a (record { machine = a.machine; member = n; ended = a.ended; receives = a.receives }) old new pages pages' (Ok backlog)
+    → Attends v s now a (record { machine = a.machine; member = n; ended = a.ended; receives = a.receives }) (traces old pages) (traces new pages') (Ok backlog)
 attends_on v s now policy a n old new pages pages' taken backlog fixed unmet uncut unlost t more f r = record {
   frames = t.frames;
   met = None;
@@ -193,20 +194,20 @@ many_more frames many = ap (λ (n : ℕ). not (nat_lt n TAKES)) (sym many)
 
 -- nothing more was there
 pub attends_all : (v : Terms) (s : Standing) (now : ℕ) (policy : Option Policy) (a : At) (n : Option Member) (old new : Option (List Said)) (pages pages' : Option (List ℕ))
-    → v.policy ≡ policy → TakesFrom policy a.member n old new pages pages' All → Follows a s → SessionRuns v a s
-    → Attends v s now a (record { machine = a.machine; member = n; ended = a.ended; receives = a.receives }) old new pages pages' (Ok NothingLeft)
+    → v.policy ≡ policy → TakesFrom policy a.member n (traces old pages) (traces new pages') All → Follows a s → SessionRuns v a s
+    → Attends v s now a (record { machine = a.machine; member = n; ended = a.ended; receives = a.receives }) (traces old pages) (traces new pages') (Ok NothingLeft)
 attends_all v s now policy a n old new pages pages' fixed t f r = attends_on v s now policy a n old new pages pages' All NothingLeft fixed refl refl refl t (few_more t.frames t.fits) f r
 
 -- there may be more
 pub attends_part : (v : Terms) (s : Standing) (now : ℕ) (policy : Option Policy) (a : At) (n : Option Member) (old new : Option (List Said)) (pages pages' : Option (List ℕ))
-    → v.policy ≡ policy → TakesFrom policy a.member n old new pages pages' Part → Follows a s → SessionRuns v a s
-    → Attends v s now a (record { machine = a.machine; member = n; ended = a.ended; receives = a.receives }) old new pages pages' (Ok MaybeMore)
+    → v.policy ≡ policy → TakesFrom policy a.member n (traces old pages) (traces new pages') Part → Follows a s → SessionRuns v a s
+    → Attends v s now a (record { machine = a.machine; member = n; ended = a.ended; receives = a.receives }) (traces old pages) (traces new pages') (Ok MaybeMore)
 attends_part v s now policy a n old new pages pages' fixed t f r = attends_on v s now policy a n old new pages pages' Part MaybeMore fixed refl refl refl t (many_more t.frames t.fits) f r
 
 -- the taking was cut off by a fault
 pub attends_cut : (v : Terms) (s : Standing) (now : ℕ) (policy : Option Policy) (a : At) (n : Option Member) (old new : Option (List Said)) (pages pages' : Option (List ℕ)) (fault : LinkFault) (stop : Stop)
-    → v.policy ≡ policy → TakesFrom policy a.member n old new pages pages' (Cut fault) → Follows a s → stop ≡ stop_at fault
-    → Attends v s now a (record { machine = a.machine; member = n; ended = a.ended; receives = a.receives }) old new pages pages' (Err stop)
+    → v.policy ≡ policy → TakesFrom policy a.member n (traces old pages) (traces new pages') (Cut fault) → Follows a s → stop ≡ stop_at fault
+    → Attends v s now a (record { machine = a.machine; member = n; ended = a.ended; receives = a.receives }) (traces old pages) (traces new pages') (Err stop)
 attends_cut v s now policy a n old new pages pages' fault stop fixed t f is = record {
   frames = t.frames;
   met = None;
@@ -229,8 +230,8 @@ attends_cut v s now policy a n old new pages pages' fault stop fixed t f is = re
 
 -- the taking was cut off by a line that wasn't put
 pub attends_lost : (v : Terms) (s : Standing) (now : ℕ) (policy : Option Policy) (a : At) (n : Option Member) (old new : Option (List Said)) (pages pages' : Option (List ℕ)) (fault : LinkFault) (stop : Stop)
-    → v.policy ≡ policy → TakesFrom policy a.member n old new pages pages' (Lost fault) → Follows a s → stop ≡ stop_unrecorded fault
-    → Attends v s now a (record { machine = a.machine; member = n; ended = a.ended; receives = a.receives }) old new pages pages' (Err stop)
+    → v.policy ≡ policy → TakesFrom policy a.member n (traces old pages) (traces new pages') (Lost fault) → Follows a s → stop ≡ stop_unrecorded fault
+    → Attends v s now a (record { machine = a.machine; member = n; ended = a.ended; receives = a.receives }) (traces old pages) (traces new pages') (Err stop)
 attends_lost v s now policy a n old new pages pages' fault stop fixed t f is = record {
   frames = t.frames;
   met = None;
@@ -258,46 +259,48 @@ ended_calls e = refl
 -- the machine was told an End
 pub meets : (v : Terms) (s : Standing) (now : ℕ) (e : End) (a : At) (m : Accepting) (st : Step) (old new : Option (List Said)) (stop : Option Stop) → AcceptingStands a.machine (start_of v s) s.events → Tied s
     → AcceptingAnswers a.machine m (Ended now e) st → LeavesAccepting st m → Carries old new st (EndedBy e) stop
-    → MeetsEnd v s now e a (record { machine = m; member = a.member; ended = Some e; receives = a.receives }) old new stop
+    → Carries old new (wanted v s (Ended now e)) (EndedBy e) stop × MeetsEnd v s now e a (record { machine = m; member = a.member; ended = Some e; receives = a.receives }) stop
 meets v s now e a m st old new stop stood tied answers left carried =
     let does = answers (start_of v s) s.events stood in
     let k : Carries old new (wanted v s (Ended now e)) (EndedBy e) stop = rw does.0 at carried in
-    let l : LeavesAccepting (wanted v s (Ended now e)) m = rw does.0 at left in
-    record {
-      carried = k;
-      member = refl;
-      ended = refl;
-      receives = refl;
-      runs = λ going. record { machine = does.1; waits = left_open (wanted v s (Ended now e)) m k.fault (EndedBy e) stop l (ended_calls e) k.stops going; tied = tied_told s (Ended now e) refl tied };
-    }
+    let l : LeavesAccepting (wanted v s (Ended now e)) m = rw does.0 at left in (
+      k,
+      record {
+        member = refl;
+        ended = refl;
+        receives = refl;
+        runs = λ going. record { machine = does.1; waits = left_open (wanted v s (Ended now e)) m k.fault (EndedBy e) stop l (ended_calls e) k.stops going; tied = tied_told s (Ended now e) refl tied };
+      },
+    )
 
 not_left : (e : End) → e ≢ Left → Some e ≢ Some Left
 not_left e h is = h cc
 
 -- the taking came to an End, and what the machine then wanted was carried out
 pub attends_met : (v : Terms) (s : Standing) (now : ℕ) (policy : Option Policy) (a b : At) (n : Option Member) (old mid new : Option (List Said)) (pages pages' : Option (List ℕ)) (e : End) (stop : Option Stop) (result : Result Backlog Stop)
-    → v.policy ≡ policy → TakesFrom policy a.member n old mid pages pages' (Met e) → Follows a s → MeetsEnd v s now e (record { machine = a.machine; member = n; ended = a.ended; receives = a.receives }) b mid new stop
-    → stop_of result ≡ stop → TellsMore result false → Attends v s now a b old new pages pages' result
+    → v.policy ≡ policy → TakesFrom policy a.member n (traces old pages) (traces mid pages') (Met e) → Follows a s
+    → Carries mid new (wanted v s (Ended now e)) (EndedBy e) stop × MeetsEnd v s now e (record { machine = a.machine; member = n; ended = a.ended; receives = a.receives }) b stop
+    → stop_of result ≡ stop → TellsMore result false → Attends v s now a b (traces old pages) (traces new pages') result
 attends_met v s now policy a b n old mid new pages pages' e stop result fixed t f k is more = record {
   frames = t.frames;
   met = Some e;
   lost = None;
-  fault = k.carried.fault;
-  same = rw k.member t.same;
-  gave = rw k.member t.gave;
-  empties = rw k.member t.empties;
+  fault = k.0.fault;
+  same = rw k.1.member t.same;
+  gave = rw k.1.member t.gave;
+  empties = rw k.1.member t.empties;
   few = t.few;
   left = not_left e (t.left e refl);
-  said = grows_as old new _ _ (sym (puts-append (passing v s t.frames) (octets_in (wanted v s (Ended now e))) k.carried.fault k.carried.cause))
-      (grown old mid new (puts (passing v s t.frames) None) (puts (octets_in (wanted v s (Ended now e))) k.carried.fault)
-      (grows_as old mid _ _ (ap (λ w. puts w None) (passing_so v s policy a.member t.frames fixed f.address)) t.said) k.carried.said);
-  cause = k.carried.cause;
+  said = grows_as old new _ _ (sym (puts-append (passing v s t.frames) (octets_in (wanted v s (Ended now e))) k.0.fault k.0.cause))
+      (grown old mid new (puts (passing v s t.frames) None) (puts (octets_in (wanted v s (Ended now e))) k.0.fault)
+      (grows_as old mid _ _ (ap (λ w. puts w None) (passing_so v s policy a.member t.frames fixed f.address)) t.said) k.0.said);
+  cause = k.0.cause;
   records = records_so v s policy a.member n old mid pages pages' (Met e) fixed f.address t;
   line = tt;
-  stops = is ∙ k.carried.stops;
+  stops = is ∙ k.0.stops;
   more = more;
-  follows = record { conn = rw k.member (conn_same a.member n t.same ∙ f.conn); address = rw k.member (address_same a.member n t.same ∙ f.address); ended = k.ended; receives = k.receives ∙ f.receives; found = rw (k.ended, k.member) (t.found e refl) };
-  runs = λ going. k.runs (sym is ∙ going);
+  follows = record { conn = rw k.1.member (conn_same a.member n t.same ∙ f.conn); address = rw k.1.member (address_same a.member n t.same ∙ f.address); ended = k.1.ended; receives = k.1.receives ∙ f.receives; found = rw (k.1.ended, k.1.member) (t.found e refl) };
+  runs = λ going. k.1.runs (sym is ∙ going);
 }
 
 -- ---- the opening
@@ -307,7 +310,7 @@ same_member None = tt
 same_member (Some m) = (refl, refl, refl)
 
 -- the reading closes the session
-pub opens_expired : (v : Terms) (s : Standing) (now : ℕ) (a b : At) (old : Option (List Said)) (pages : Option (List ℕ)) (stop : Stop) → Ticks v (started s now) now a b (Some stop) → Opens v s now a b old old pages pages (Err stop)
+pub opens_expired : (v : Terms) (s : Standing) (now : ℕ) (a b : At) (old : Option (List Said)) (pages : Option (List ℕ)) (stop : Stop) → Ticks v (started s now) now a b (Some stop) → Opens v s now a b (traces old pages) (traces old pages) (Err stop)
 opens_expired v s now a b old pages stop t = record {
   opening = record { reading = now; frames = []; met = None; lost = None; fault = None };
   read = refl;
@@ -328,7 +331,7 @@ closes_none w None h = refl
 closes_none w (Some c) h = cc
 
 -- nothing is taken outside of Connected
-pub opens_apart : (v : Terms) (s : Standing) (now : ℕ) (a b : At) (old : Option (List Said)) (pages : Option (List ℕ)) → Ticks v (started s now) now a b None → is_connected (ticked s now) ≡ false → Opens v s now a b old old pages pages (Ok NothingLeft)
+pub opens_apart : (v : Terms) (s : Standing) (now : ℕ) (a b : At) (old : Option (List Said)) (pages : Option (List ℕ)) → Ticks v (started s now) now a b None → is_connected (ticked s now) ≡ false → Opens v s now a b (traces old pages) (traces old pages) (Ok NothingLeft)
 opens_apart v s now a b old pages t apart = record {
   opening = record { reading = now; frames = []; met = None; lost = None; fault = None };
   read = refl;
@@ -346,7 +349,7 @@ opens_apart v s now a b old pages t apart = record {
 
 -- in Connected the frames are taken
 pub opens_attended : (v : Terms) (s : Standing) (now : ℕ) (a b c : At) (old new : Option (List Said)) (pages pages' : Option (List ℕ)) (result : Result Backlog Stop) → Ticks v (started s now) now a b None → is_connected (ticked s now) ≡ true
-    → Attends v (ticked s now) now b c old new pages pages' result → Opens v s now a c old new pages pages' result
+    → Attends v (ticked s now) now b c (traces old pages) (traces new pages') result → Opens v s now a c (traces old pages) (traces new pages') result
 opens_attended v s now a b c old new pages pages' result t live k =
     let quiet : closing_in (wanted_at v s now) ≡ None = closes_none _ _ t.stops in
     record {

@@ -75,10 +75,3 @@ wrote_as q a b ns ms lost e k = rw e at k
 pub wrote_made : (p q : Pass) (m : Placed) (e : Entry) (a b : Option (List ℕ)) (lost : Option LinkFault) → MadeOne p m q → m.stamped.entry ≡ e
     → Records a b (made m.at e ∷ []) lost → Wrote q a b (made m.at e ∷ []) lost
 wrote_made p q m e a b lost k same records = record { records = records; stand = (stands_made p q m k ∙ ap Some same, tt) }
-
--- one turn more, as long as no line was lost
-pub wrote_on : (p q : Pass) (a b c : Option (List ℕ)) (ns ms : List Note) → StartsWith (seen q) (seen p) → Wrote p a b ns None → Wrote q b c ms None → Wrote q a c (ns ++ ms) None
-wrote_on p q a b c ns ms more h k = record {
-  records = records_on a b c ns ms h.records k.records;
-  stand = stand_append (entries (seen q)) ns ms (stand_on (seen p) (seen q) ns more h.stand) k.stand;
-}

@@ -29,6 +29,7 @@ use Rattle.bsc_policy.specs.declared.policy.Policy.{Policy}
 use Rattle.bsc_notes.specs.Notes.{HasLine, Records, denied}
 use Rattle.bsc_session.specs.Guarding.{denials, let_through}
 use Rattle.bsc_session.specs.Taking.{last_alone}
+use Rattle.bsc_session.specs.Moments.{traces}
 use Rattle.bsc_session.proofs.Recording.{no_line, records-nil}
 use Rattle.bsc_session.proofs.Filtering.{last_alone-more, let_through-append, noted-append, records_more}
 
@@ -66,7 +67,7 @@ keeps_all o p (Closed e) h whole all = (h.0.3.3, h.0.1 ∙ sym h.0.0)
 keeps_ended : (o p : Outlet) (t : Take) (e : End) → Took o t p → OutletHasEnded o e → OutletHasEnded p e
 keeps_ended o p t e took h = (let k = keeps_all o p t took h.1 h.2 in (keeps_found o p t e took h.0, k.0, k.1))
 
-pub taking_begins : (policy : Option Policy) (to : Vmac) (o : Outlet) (old : Option (List Said)) (pages : Option (List ℕ)) → Taking policy to o o old old pages pages 0
+pub taking_begins : (policy : Option Policy) (to : Vmac) (o : Outlet) (old : Option (List Said)) (pages : Option (List ℕ)) → Taking policy to o o (traces old pages) (traces old pages) 0
 taking_begins None to o old pages = record { frames = []; many = refl; mark = refl; keeps = λ e h. h; gave = sym (append-nil (given o)); empties = refl; said = grows-nil old; records = records-nil pages }
 taking_begins (Some p) to o old pages = record { frames = []; many = refl; mark = refl; keeps = λ e h. h; gave = sym (append-nil (given o)); empties = refl; said = grows-nil old; records = records-nil pages }
 
@@ -81,8 +82,8 @@ noted_more : (policy : Option Policy) (to : Vmac) (frames : List (List ℕ)) (f 
 noted_more policy to frames f a b c lost h k line = subst (λ ns. Records a c ns lost) (sym (noted-append policy (Some to) frames (f ∷ []))) (records_more a b c _ _ lost h k line)
 
 -- a frame was taken, and put or noted
-pub taking_more : (policy : Option Policy) (to : Vmac) (o p q : Outlet) (old mid new : Option (List Said)) (a b c : Option (List ℕ)) (n : ℕ) (f : List ℕ) → Taking policy to o p old mid a b n
-    → Took p (Frame f) q → outlet_mark q ≡ outlet_mark p → HandsOn policy to f mid new b c None → Taking policy to o q old new a c (n + 1)
+pub taking_more : (policy : Option Policy) (to : Vmac) (o p q : Outlet) (old mid new : Option (List Said)) (a b c : Option (List ℕ)) (n : ℕ) (f : List ℕ) → Taking policy to o p (traces old a) (traces mid b) n
+    → Took p (Frame f) q → outlet_mark q ≡ outlet_mark p → HandsOn policy to f (traces mid b) (traces new c) None → Taking policy to o q (traces old a) (traces new c) (n + 1)
 taking_more policy to o p q old mid new a b c n f t took mark hands = record {
   frames = t.frames ++ f ∷ [];
   many = length-append t.frames (f ∷ []) ∙ ap (λ k. k + 1) t.many;
@@ -94,30 +95,12 @@ taking_more policy to o p q old mid new a b c n f t took mark hands = record {
   records = noted_more policy to t.frames f a b c None t.records hands.records hands.line;
 }
 
--- as many were taken as a turn takes
-pub takes_part : (policy : Option Policy) (to : Vmac) (o p : Outlet) (old new : Option (List Said)) (a c : Option (List ℕ)) → Taking policy to o p old new a c TAKES → Takes policy to o p old new a c Part
-takes_part policy to o p old new a c t = record {
-  frames = t.frames;
-  mark = t.mark;
-  keeps = t.keeps;
-  found = λ e h. cc;
-  left = λ e h. cc;
-  gave = t.gave;
-  empties = rw t.many (let k = t.empties in omega (arith, k));
-  few = (let k = t.many in omega (arith, k));
-  fits = t.many;
-  said = t.said;
-  cause = well (let_through policy (Some to) (last_alone t.frames));
-  records = t.records;
-  line = no_line (map denied (denials policy (Some to) (last_alone t.frames)));
-}
-
 counted : (a b : ℕ) → a < 18446744073709551615 → b ≡ min (a + 1) (2 ^ 64 - 1) → b ≡ a + 1
 counted a b h is = omega (arith, h, is)
 
 -- fewer were there
-pub takes_few : (policy : Option Policy) (to : Vmac) (o p q : Outlet) (old new : Option (List Said)) (a c : Option (List ℕ)) (n : ℕ) → Taking policy to o p old new a c n → n < TAKES → empties_of o < 18446744073709551615
-    → Took p Empty q → outlet_mark q ≡ outlet_mark p → Takes policy to o q old new a c All
+pub takes_few : (policy : Option Policy) (to : Vmac) (o p q : Outlet) (old new : Option (List Said)) (a c : Option (List ℕ)) (n : ℕ) → Taking policy to o p (traces old a) (traces new c) n → n < TAKES → empties_of o < 18446744073709551615
+    → Took p Empty q → outlet_mark q ≡ outlet_mark p → Takes policy to o q (traces old a) (traces new c) All
 takes_few policy to o p q old new a c n t few room took mark =
     let less : empties_of p < 18446744073709551615 = rw t.empties room in
     let one : empties_of q ≡ empties_of p + 1 = counted (empties_of p) (empties_of q) less took.2 in
@@ -138,8 +121,8 @@ takes_few policy to o p q old new a c n t few room took mark =
     }
 
 -- an End was there
-pub takes_met : (policy : Option Policy) (to : Vmac) (o p q : Outlet) (old new : Option (List Said)) (a c : Option (List ℕ)) (n : ℕ) (e : End) → Taking policy to o p old new a c n → n < TAKES
-    → Took p (Closed e) q → outlet_mark q ≡ outlet_mark p → OutletHasEnded q e → Takes policy to o q old new a c (Met e)
+pub takes_met : (policy : Option Policy) (to : Vmac) (o p q : Outlet) (old new : Option (List Said)) (a c : Option (List ℕ)) (n : ℕ) (e : End) → Taking policy to o p (traces old a) (traces new c) n → n < TAKES
+    → Took p (Closed e) q → outlet_mark q ≡ outlet_mark p → OutletHasEnded q e → Takes policy to o q (traces old a) (traces new c) (Met e)
 takes_met policy to o p q old new a c n e t few took mark finds = record {
   frames = t.frames;
   mark = mark ∙ t.mark;
@@ -181,8 +164,8 @@ unmet_end : (o : Option End) (e : End) → o ≡ None → o ≡ Some e → ⊥
 unmet_end o e h k = (let x : None ≡ Some e = sym h ∙ k in cc)
 
 -- a put failed, or a line was lost
-pub takes_cut : (policy : Option Policy) (to : Vmac) (o p q : Outlet) (old mid new : Option (List Said)) (a b c : Option (List ℕ)) (n : ℕ) (f : List ℕ) (cut : Taken) → Taking policy to o p old mid a b n → n < TAKES
-    → Took p (Frame f) q → outlet_mark q ≡ outlet_mark p → HandsOn policy to f mid new b c (Some cut) → Takes policy to o q old new a c cut
+pub takes_cut : (policy : Option Policy) (to : Vmac) (o p q : Outlet) (old mid new : Option (List Said)) (a b c : Option (List ℕ)) (n : ℕ) (f : List ℕ) (cut : Taken) → Taking policy to o p (traces old a) (traces mid b) n → n < TAKES
+    → Took p (Frame f) q → outlet_mark q ≡ outlet_mark p → HandsOn policy to f (traces mid b) (traces new c) (Some cut) → Takes policy to o q (traces old a) (traces new c) cut
 takes_cut policy to o p q old mid new a b c n f cut t few took mark hands = record {
   frames = t.frames ++ f ∷ [];
   mark = mark ∙ t.mark;

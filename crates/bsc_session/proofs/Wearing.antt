@@ -12,7 +12,6 @@ use Rattle.bsc_history.specs.Marks.{entries}
 use Rattle.bsc_history.proofs.More.{entries-more}
 use Rattle.bsc_turn.specs.declared.pass.Pass.{Pass}
 use Rattle.bsc_turn.specs.declared.view.Ended.{Ended}
-use Rattle.bsc_turn.specs.Histories.{StartsWith}
 use Rattle.bsc_turn.specs.Passes.{seen}
 use Rattle.bsc_desk.specs.Entries.{connect_due}
 use Rattle.bsc_hub.specs.declared.hub.Hub.{Hub}
@@ -25,12 +24,9 @@ use Rattle.bsc_hub.specs.declared.joined.ConnectRefusal.TheVariants.{NoMemory, W
 use Rattle.bsc_hub.specs.declared.joined.Joined.{Joined}
 use Rattle.bsc_hub.specs.Calls.{all_made, all_told, connect_made, connect_told}
 use Rattle.bsc_hub.specs.Passing.{Passed, Placed, about_of, found_history}
-use Rattle.bsc_hub.proofs.Guarding.{parts}
+use Rattle.bsc_hub.proofs.Guarding.{longer}
 use Rattle.bsc_session.specs.CarryingOut.{SeesWorn}
 use Rattle.bsc_history.proofs.Common.{due_none}
-
-longer : (F H : List Stamped) → StartsWith H F → length (entries F) ≤ length (entries H)
-longer F H begins = (let e = ap (λ (l : List Entry). length l) (parts F H begins) ∙ length-append (entries F) (entries begins.0) in omega (arith, e))
 
 one_longer : (F : List Stamped) (s : Stamped) (H : List Stamped) → H ≡ F ++ s ∷ [] → length (entries H) ≡ length (entries F) + 1
 one_longer F s H is = ap (λ (l : List Stamped). length (entries l)) is ∙ ap (λ (l : List Entry). length l) (entries-more F s) ∙ length-append (entries F) (s.entry ∷ [])

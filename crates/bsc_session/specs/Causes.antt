@@ -18,7 +18,8 @@ use Rattle.bsc_edge.specs.declared.incoming.Incoming.TheVariants.{Closed, Messag
 use Rattle.bsc_edge.specs.declared.said.Said.{Said}
 use Rattle.bsc_session.specs.declared.ended.Ended.{Ended}
 use Rattle.bsc_session.specs.declared.why.Why.{Why}
-use Rattle.bsc_session.specs.declared.why.Why.TheVariants.{Denied, EndedBy, Idle, JournalFault, LinkFault as WhyLinkFault, NoMemory, NotBinary, PeerClosed, PeerLeft, Refused, Spent, WaitExpired, Worn}
+use Rattle.bsc_session.specs.declared.why.Why.TheVariants.{Denied, EndedBy, Idle, JournalFault, LinkFault as WhyLinkFault, NoMemory, NotBinary, PeerClosed}
+use Rattle.bsc_session.specs.declared.why.Why.TheVariants.{PeerLeft, Refused, Spent, WaitExpired, Worn}
 use Rattle.bsc_octets.specs.declared.identity.Identity.{Identity}
 use Rattle.bsc_accept.specs.declared.step.Step.TheVariants.{Ask}
 use Rattle.bsc_lines.specs.declared.denial.Denial.{Denial}

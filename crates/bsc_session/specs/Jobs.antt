@@ -43,8 +43,10 @@ module _ {L C N : Type 0} (talk : L → Option (List Said)) (faults : L → ℕ)
     pub clock : C
     pub journal : N
     pub served :
-        Serves (terms_in job) (arc_value job.hub) job.pass left.pass (talk job.link) (talk link) (readings job.clock)
-        (readings clock) left.ended
+        Serves (terms_in job)
+        (record { hub = arc_value job.hub; pass = job.pass; talk = talk job.link; readings = readings job.clock; held = held job.journal })
+        (record { hub = arc_value job.hub; pass = left.pass; talk = talk link; readings = readings clock; held = held journal })
+        left.ended
     pub noted : makes_lines job.is_recorded (policy_of job.policy) ≡ true
         → AllStand (entries (seen left.pass)) (journal_of served.session)
         × Records (held job.journal) (held journal) (journal_of served.session) (lost_of served.session)

@@ -21,6 +21,7 @@ use Rattle.bsc_notes.specs.Notes.{Note, Records, denied, made}
 use Rattle.bsc_session.specs.Receiving.{worn}
 use Rattle.bsc_session.specs.Standings.{Terms}
 use Rattle.bsc_session.specs.Talk.{Session, journal_of, lost_of}
+use Rattle.bsc_session.specs.Worlds.{SessionWorld}
 
 -- The terms of a session with this pass at this hub, guarded by this policy if there is one.
 abbrev pub terms_of : Hub → Pass → SessionLimits → ℕ → Option Policy → Terms
@@ -56,31 +57,31 @@ abbrev pub AllStand : List Entry → List Note → Type 0
 AllStand H [] = ⊤
 AllStand H (n ∷ ns) = StandsAt H n × AllStand H ns
 
--- What a serving call says: the talk, the readings and the own list grew by those of a session, whose frames are the
--- first that entered the outbox of its connection, by what the pass has then seen, and all of them where an End was met;
--- and the hub answers that it is worn only where it is.
-pub record Serves (v : Terms) (h : Hub) (p q : Pass) (old new : Option (List Said)) (read read' : Option (List ℕ)) (ended : Ended) : Type 0 where
+-- What a serving call says, from one world to another: the hub is the same; the talk, the readings and the own list grew by
+-- those of a session, whose frames are the first that entered the outbox of its connection, by what the pass has then seen,
+-- and all of them where an End was met; and the hub answers that it is worn only where it is.
+pub record Serves (v : Terms) (before after : SessionWorld) (ended : Ended) : Type 0 where
   pub T : List Said
   pub R : List ℕ
   pub E : List Entry
-  pub talk : Grows old new T
-  pub readings : Grows read read' R
-  pub goes : PassGoes h p E q
-  pub session : Session v T R E (received (about_of h) (entries (seen q)) ended.conn ended.taken) ended
+  pub hub : after.hub ≡ before.hub
+  pub talk : Grows before.talk after.talk T
+  pub readings : Grows before.readings after.readings R
+  pub goes : PassGoes before.hub before.pass E after.pass
+  pub session : Session v T R E (received (about_of before.hub) (entries (seen after.pass)) ended.conn ended.taken) ended
   pub all : (c : ℕ) (e : End) → ended.conn ≡ Some c → (end_of session.course).ended ≡ Some e
-      → received (about_of h) (entries (seen q)) ended.conn ended.taken ≡ sent (about_of h) (entries (seen q)) c
-  pub is_worn : last_answer session.course.last ≡ Some worn → WasWorn (about_of h) (entries (seen q)) ended.conn
+      → received (about_of before.hub) (entries (seen after.pass)) ended.conn ended.taken ≡ sent (about_of before.hub) (entries (seen after.pass)) c
+  pub is_worn : last_answer session.course.last ≡ Some worn → WasWorn (about_of before.hub) (entries (seen after.pass)) ended.conn
 
 -- What a serving call without a journal says: it is such a session, and no line of it was lost, as none was made.
-pub record ServesUnrecorded (v : Terms) (h : Hub) (p q : Pass) (old new : Option (List Said)) (read read' : Option (List ℕ)) (ended : Ended) : Type 0 where
-  pub serves : Serves v h p q old new read read' ended
+pub record ServesUnrecorded (v : Terms) (before after : SessionWorld) (ended : Ended) : Type 0 where
+  pub serves : Serves v before after ended
   pub unlost : lost_of serves.session ≡ None
 
 -- What a serving call with a journal says: it is such a session, each own entry that it notes stands at its place in the
 -- history, and what it notes is in the journal, where that tells what it holds: the line of each own entry and of each denial,
 -- in order; and where a line wasn't put, all lines before that one and some first part of it.
-pub record ServesNoting (v : Terms) (h : Hub) (p q : Pass) (old new : Option (List Said)) (read read' : Option (List ℕ))
-    (held held' : Option (List ℕ)) (ended : Ended) : Type 0 where
-  pub serves : Serves v h p q old new read read' ended
-  pub stand : AllStand (entries (seen q)) (journal_of serves.session)
-  pub records : Records held held' (journal_of serves.session) (lost_of serves.session)
+pub record ServesNoting (v : Terms) (before after : SessionWorld) (ended : Ended) : Type 0 where
+  pub serves : Serves v before after ended
+  pub stand : AllStand (entries (seen after.pass)) (journal_of serves.session)
+  pub records : Records before.held after.held (journal_of serves.session) (lost_of serves.session)

@@ -3,7 +3,6 @@ use Rattle.std.specs.Prelude.{◌≡◌, ◌≢◌, ◌≤◌, ◌<◌, ◌+◌,
 use Rattle.bsc_octets.specs.declared.vmac.Vmac.{Vmac}
 use Rattle.bsc_history.specs.declared.ending.End.{End}
 use Rattle.bsc_edge.specs.declared.fault.LinkFault.{LinkFault}
-use Rattle.bsc_edge.specs.declared.said.Said.{Said}
 use Rattle.bsc_edge.specs.Told.{Grows}
 use Rattle.bsc_history.specs.declared.ending.End.TheVariants.{Left}
 use Rattle.bsc_ring.specs.declared.ends.Outlet.{Outlet}
@@ -17,6 +16,7 @@ use Rattle.bsc_session.specs.Guarding.{denials, let_through}
 use Rattle.bsc_session.specs.Puts.{HasPut, puts}
 use Rattle.bsc_session.specs.Taking.{count_of, last_alone}
 use Rattle.bsc_session.specs.Following.{OutletHasEnded}
+use Rattle.bsc_session.specs.Moments.{Traces}
 
 -- how a taking ended
 abbrev pub met_in : Taken → Option End
@@ -57,26 +57,26 @@ abbrev pub nothing_found : List (List ℕ) → Option End → Bool → ℕ
 nothing_found frames met goes_on = if is_none met && (goes_on && nat_lt (length frames) TAKES) then 1 else 0
 
 -- A frame was put, or noted as denied, and that may cut the taking.
-pub record HandsOn (policy : Option Policy) (to : Vmac) (f : List ℕ) (old new : Option (List Said)) (pages pages' : Option (List ℕ)) (cut : Option Taken) : Type 0 where
+pub record HandsOn (policy : Option Policy) (to : Vmac) (f : List ℕ) (before after : Traces) (cut : Option Taken) : Type 0 where
   pub cuts : IsCut cut
-  pub said : Grows old new (puts (let_through policy (Some to) (f ∷ [])) (fault_by cut))
+  pub said : Grows before.talk after.talk (puts (let_through policy (Some to) (f ∷ [])) (fault_by cut))
   pub cause : HasPut (let_through policy (Some to) (f ∷ [])) (fault_by cut)
-  pub records : Records pages pages' (map denied (denials policy (Some to) (f ∷ []))) (unput_by cut)
+  pub records : Records before.held after.held (map denied (denials policy (Some to) (f ∷ []))) (unput_by cut)
   pub line : HasLine (map denied (denials policy (Some to) (f ∷ []))) (unput_by cut)
 
 -- So many frames were taken from the outlet, and each was put, or noted as denied.
-pub record Taking (policy : Option Policy) (to : Vmac) (o p : Outlet) (old new : Option (List Said)) (pages pages' : Option (List ℕ)) (n : ℕ) : Type 0 where
+pub record Taking (policy : Option Policy) (to : Vmac) (o p : Outlet) (before after : Traces) (n : ℕ) : Type 0 where
   pub frames : List (List ℕ)
   pub many : length frames ≡ n
   pub mark : outlet_mark p ≡ outlet_mark o
   pub keeps : (e : End) → OutletHasEnded o e → OutletHasEnded p e
   pub gave : given p ≡ given o ++ frames
   pub empties : empties_of p ≡ empties_of o
-  pub said : Grows old new (puts (let_through policy (Some to) frames) None)
-  pub records : Records pages pages' (map denied (denials policy (Some to) frames)) None
+  pub said : Grows before.talk after.talk (puts (let_through policy (Some to) frames) None)
+  pub records : Records before.held after.held (map denied (denials policy (Some to) frames)) None
 
 -- Frames were taken from the outlet, and each was put, or noted as denied.
-pub record Takes (policy : Option Policy) (to : Vmac) (o p : Outlet) (old new : Option (List Said)) (pages pages' : Option (List ℕ)) (taken : Taken) : Type 0 where
+pub record Takes (policy : Option Policy) (to : Vmac) (o p : Outlet) (before after : Traces) (taken : Taken) : Type 0 where
   pub frames : List (List ℕ)
   pub mark : outlet_mark p ≡ outlet_mark o
   pub keeps : (e : End) → OutletHasEnded o e → OutletHasEnded p e
@@ -86,7 +86,7 @@ pub record Takes (policy : Option Policy) (to : Vmac) (o p : Outlet) (old new : 
   pub empties : empties_of p ≡ empties_of o + nothing_found frames (met_in taken) (is_none (cut_in taken) && is_none (unput_in taken))
   pub few : length frames + count_of (met_in taken) ≤ TAKES
   pub fits : FitsCount taken frames
-  pub said : Grows old new (puts (let_through policy (Some to) frames) (cut_in taken))
+  pub said : Grows before.talk after.talk (puts (let_through policy (Some to) frames) (cut_in taken))
   pub cause : HasPut (let_through policy (Some to) (last_alone frames)) (cut_in taken)
-  pub records : Records pages pages' (map denied (denials policy (Some to) frames)) (unput_in taken)
+  pub records : Records before.held after.held (map denied (denials policy (Some to) frames)) (unput_in taken)
   pub line : HasLine (map denied (denials policy (Some to) (last_alone frames))) (unput_in taken)

@@ -18,6 +18,7 @@ ghost use Rattle.bsc_session.specs.Hearing.{AnswersMessage, Forwards, HearsMessa
 ghost use Rattle.bsc_session.specs.Answering.{denied_in};
 ghost use Rattle.bsc_session.specs.Standings.{Standing, Terms, start_of, wanted};
 ghost use Rattle.bsc_session.specs.Stops.{stop_closing};
+ghost use Rattle.bsc_session.specs.Moments.{moment, traces};
 
 use crate::at::At;
 use crate::guarding::{denied_connect, denied_message};
@@ -100,8 +101,10 @@ fn ask<R: Wait, L: Link, J: Journal>(
         → Held here.entry.hub.now v pass.old at.old s
         → AcceptingStands at.old.machine (start_of v s) s.events → Tied s
         → denied_in v s (Step.Ask who) given ≡ None
-        → AnswersMessage v s (Step.Ask who) given here.entry.hub.now pass.old pass.new at.old at.new
-        (L.talk link.old) (L.talk link.new) (J.held journal.old) (J.held journal.new) result }
+        → AnswersMessage v s (Step.Ask who) given here.entry.hub.now
+        (moment pass.old at.old (L.talk link.old) (J.held journal.old))
+        (moment pass.new at.new (L.talk link.new) (J.held journal.new))
+        result }
     ensures later { L.faults link.old ≤ L.faults link.new }
     ensures failed { RoseIf result (L.faults link.old) (L.faults link.new) }
     ensures unrecorded { UnputIf J.makes_lines result (J.faults journal.old) (J.faults journal.new) }
@@ -159,8 +162,9 @@ fn forward_one<R: Wait, L: Link, J: Journal>(
     requires own { IsOwnAs pass.old conn frame.sender }
     requires same { m.now ≡ frame.message }
     requires unicast { IsFalse (is_broadcast frame.message) }
-    ensures forwarded { Forwards here.entry.hub.now pass.old pass.new conn frame.message (L.talk link.old) (L.talk link.new)
-        (J.held journal.old) (J.held journal.new) result }
+    ensures forwarded { Forwards here.entry.hub.now pass.old pass.new conn frame.message
+        (traces (L.talk link.old) (J.held journal.old))
+        (traces (L.talk link.new) (J.held journal.new)) result }
     ensures same { L.faults link.new ≡ L.faults link.old }
     ensures other { (n : ℕ) → RoseIf result n n }
     ensures unrecorded { UnputIf J.makes_lines result (J.faults journal.old) (J.faults journal.new) }
@@ -191,8 +195,9 @@ fn forward_all<R: Wait, L: Link, J: Journal>(
     requires own { IsOwnAs pass.old conn frame.now.sender }
     requires same { m.now ≡ frame.now.message }
     requires broadcast { IsTrue (is_broadcast frame.now.message) }
-    ensures forwarded { Forwards here.entry.hub.now pass.old pass.new conn frame.now.message (L.talk link.old) (L.talk link.new)
-        (J.held journal.old) (J.held journal.new) result }
+    ensures forwarded { Forwards here.entry.hub.now pass.old pass.new conn frame.now.message
+        (traces (L.talk link.old) (J.held journal.old))
+        (traces (L.talk link.new) (J.held journal.new)) result }
     ensures same { L.faults link.new ≡ L.faults link.old }
     ensures other { (n : ℕ) → RoseIf result n n }
     ensures unrecorded { UnputIf J.makes_lines result (J.faults journal.old) (J.faults journal.new) }
@@ -223,8 +228,9 @@ fn forward<R: Wait, L: Link, J: Journal>(
     requires caller { IsCaller here.hub.now pass.old }
     requires own { IsOwnAs pass.old conn address }
     requires route { IsTrue (has_route m.now) }
-    ensures forwarded { Forwards here.entry.hub.now pass.old pass.new conn m.now (L.talk link.old) (L.talk link.new)
-        (J.held journal.old) (J.held journal.new) result }
+    ensures forwarded { Forwards here.entry.hub.now pass.old pass.new conn m.now
+        (traces (L.talk link.old) (J.held journal.old))
+        (traces (L.talk link.new) (J.held journal.new)) result }
     ensures same { L.faults link.new ≡ L.faults link.old }
     ensures other { (n : ℕ) → RoseIf result n n }
     ensures unrecorded { UnputIf J.makes_lines result (J.faults journal.old) (J.faults journal.new) }
@@ -261,8 +267,10 @@ fn answer<R: Wait, L: Link, J: Journal>(
     ensures answered { (v : Terms) (s : Standing) → Held here.entry.hub.now v pass.old at.old s
         → AcceptingStands at.old.machine (start_of v s) s.events → Tied s
         → v.policy ≡ option_map (λ p. p.now) here.entry.policy
-        → AnswersMessage v s step (Ok (Incoming.Message m.now)) here.entry.hub.now pass.old pass.new at.old at.new
-        (L.talk link.old) (L.talk link.new) (J.held journal.old) (J.held journal.new) result }
+        → AnswersMessage v s step (Ok (Incoming.Message m.now)) here.entry.hub.now
+        (moment pass.old at.old (L.talk link.old) (J.held journal.old))
+        (moment pass.new at.new (L.talk link.new) (J.held journal.new))
+        result }
     ensures later { L.faults link.old ≤ L.faults link.new }
     ensures failed { RoseIf result (L.faults link.old) (L.faults link.new) }
     ensures unrecorded { UnputIf J.makes_lines result (J.faults journal.old) (J.faults journal.new) }
@@ -300,8 +308,10 @@ pub fn take_message<R: Wait, L: Link, J: Journal>(
     ensures heard { (v : Terms) (s : Standing) → v.hub ≡ (about_of here.entry.hub.now).hub
         → v.policy ≡ option_map (λ p. p.now) here.entry.policy
         → Held here.entry.hub.now v pass.old at.old s → SessionRuns v at.old s
-        → HearsMessage v s now m.now here.entry.hub.now pass.old pass.new at.old at.new (L.talk link.old) (L.talk link.new)
-        (J.held journal.old) (J.held journal.new) result }
+        → HearsMessage v s now m.now here.entry.hub.now
+        (moment pass.old at.old (L.talk link.old) (J.held journal.old))
+        (moment pass.new at.new (L.talk link.new) (J.held journal.new))
+        result }
     ensures later { L.faults link.old ≤ L.faults link.new }
     ensures failed { RoseIf result (L.faults link.old) (L.faults link.new) }
     ensures unrecorded { UnputIf J.makes_lines result (J.faults journal.old) (J.faults journal.new) }

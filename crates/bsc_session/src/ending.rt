@@ -13,10 +13,12 @@ ghost use Rattle.bsc_desk.specs.Entries.{leave_entry};
 ghost use Rattle.bsc_notes.specs.Notes.{HasLine, Records};
 ghost use Rattle.bsc_session.specs.declared.why.Why.{Why};
 ghost use Rattle.bsc_session.specs.Talk.{named, named_lost, noted_leaving};
+ghost use Rattle.bsc_session.specs.Moments.{leaves};
 
 use crate::here::Here;
 use crate::member::Member;
 use crate::noting::note_left;
+use crate::parted::Parted;
 use crate::why::Why;
 use bsc_accept::Closing;
 use bsc_desk::Gone;
@@ -26,16 +28,6 @@ use bsc_hub::Pass;
 use bsc_notes::Journal;
 use std::alloc::Global;
 use std::sync::Wait;
-
-/// What a session has of its connection at the end.
-#[derive(Clone, Copy)]
-pub struct Parted {
-    pub conn: Option<u64>,
-    pub taken: u64,
-    pub empties: u64,
-    /// Why the Leave's line wasn't put into the journal, where it wasn't.
-    pub lost: Option<LinkFault>,
-}
 
 /// An End that was met names the end of the session, unless the journal, the link, memory or the count of receives ends it.
 pub fn named(ended: Option<End>, why: Why) -> Why
@@ -114,8 +106,8 @@ pub fn part<R: Wait, J: Journal>(
     requires caller { IsCaller here.hub.now pass.old }
     requires member { IsMember pass.old member }
     ensures parts { (v : Terms) (ended : Option End) → v.caller ≡ number_of pass.old → HasFound ended member
-        → Parts v here.entry.hub.now pass.old pass.new (J.held journal.old) (J.held journal.new) lost member ended
-        result.conn result.taken result.empties result.lost }
+        → Parts v here.entry.hub.now (leaves pass.old (J.held journal.old))
+        (leaves pass.new (J.held journal.new)) lost member ended result }
     ensures unrecorded { UnputBy J.makes_lines result.lost (J.faults journal.old) (J.faults journal.new) }
     ensures journal_later { J.faults journal.old ≤ J.faults journal.new }
 {

@@ -1,10 +1,10 @@
 //! What a policy denies.
 ghost use Rattle.std.specs.Prelude.{◌≡◌, option_map, Some, IsTrue};
-ghost use Rattle.bsc_octets.specs.Forwarding.{destination, has_route};
+ghost use Rattle.bsc_octets.specs.Forwarding.{has_route};
 ghost use Rattle.bsc_session.specs.Guarding.{denied_connect, denied_frame, denied_message, denied_pair, origin};
 
 use bsc_lines::Denial;
-use bsc_octets::{Identity, Vmac, read_envelope};
+use bsc_octets::{Identity, Vmac, destination, read_envelope};
 use bsc_policy::{Decision, Policy};
 
 /// What is denied of a pair.
@@ -29,16 +29,6 @@ pub fn denied_connect(policy: Option<&Policy>, who: &Identity) -> Option<Denial>
         },
         None => None,
     }
-}
-
-/// The Destination of a message that is to be forwarded.
-fn destination(m: &[u8]) -> Vmac
-    requires { IsTrue (has_route m.now) }
-    ensures { result ≡ destination m.now }
-{
-    let mut octets = [0u8; 6];
-    octets.copy_from_slice(&m[4..10]);
-    Vmac(octets)
 }
 
 /// The origin of a frame.

@@ -4,6 +4,7 @@ ghost use Rattle.std.specs.Arc.{arc_value};
 ghost use Rattle.bsc_hub.specs.Passing.{IsCaller};
 ghost use Rattle.bsc_hub.proofs.Unique.{IsCaller-prop};
 
+use crate::job_parts::JobParts;
 use crate::job_terms::JobTerms;
 use crate::limits::SessionLimits;
 use bsc_hub::{Hub, Pass};
@@ -80,12 +81,16 @@ impl<L, C, N> SessionJob<L, C, N> {
 
 impl<L, C: Drop, N: Drop> SessionJob<L, C, N> {
     /// The hub, the pass and the link of a job that isn't to be worked off: the pass is of the hub. Its journal is let go.
-    pub fn into_parts(self) -> (Arc<Hub>, Pass, L)
-        ensures of_hub { IsCaller (arc_value result.0) result.1 }
-        ensures hub { result.0 ≡ self.hub }
-        ensures pass { result.1 ≡ self.pass }
-        ensures link { result.2 ≡ self.link }
+    pub fn into_parts(self) -> JobParts<L>
+        ensures of_hub { IsCaller (arc_value result.hub) result.pass }
+        ensures hub { result.hub ≡ self.hub }
+        ensures pass { result.pass ≡ self.pass }
+        ensures link { result.link ≡ self.link }
     {
-        (self.hub, self.pass, self.link)
+        JobParts {
+            hub: self.hub,
+            pass: self.pass,
+            link: self.link,
+        }
     }
 }

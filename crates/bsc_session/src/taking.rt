@@ -1,16 +1,19 @@
 //! What is taken from the outlet, and put.
 ghost use Rattle.std.specs.Prelude.{◌≡◌, ◌≢◌, ◌≤◌, ◌<◌, ℕ, Bool, IsTrue, Some, false, is_some, option_map};
 ghost use Rattle.bsc_history.specs.declared.ending.End.{End};
+ghost use Rattle.bsc_accept.specs.declared.event.Event.{Event};
 ghost use Rattle.bsc_accept.specs.Standing.{AcceptingStands, IsConnected};
 ghost use Rattle.bsc_ring.specs.Ends.{empties_of};
 ghost use Rattle.bsc_outside.specs.Faults.{HasRisen};
 ghost use Rattle.bsc_edge.specs.declared.fault.LinkFault.{LinkFault};
 ghost use Rattle.bsc_session.specs.declared.taken.Taken.{Taken};
-ghost use Rattle.bsc_session.specs.CarryingOut.{RoseIf, TellsMore, UnputBy, UnputIf, stop_of};
+ghost use Rattle.bsc_session.specs.declared.why.Why.{Why};
+ghost use Rattle.bsc_session.specs.CarryingOut.{Carries, RoseIf, TellsMore, UnputBy, UnputIf, stop_of};
 ghost use Rattle.bsc_session.specs.Following.{Follows, SessionRuns, Tied, empties_by};
 ghost use Rattle.bsc_session.specs.TakingFrames.{HandsOn, Takes, unput_by, unput_in};
 ghost use Rattle.bsc_session.specs.Opening.{Attends, MeetsEnd, TakesFrom};
-ghost use Rattle.bsc_session.specs.Standings.{Standing, Terms, start_of};
+ghost use Rattle.bsc_session.specs.Standings.{Standing, Terms, start_of, wanted};
+ghost use Rattle.bsc_session.specs.Moments.{traces};
 
 use crate::at::At;
 use crate::backlog::Backlog;
@@ -38,8 +41,9 @@ fn hand_on<L: Link, J: Journal>(
     to: Vmac,
     frame: &[u8],
 ) -> Option<Taken>
-    ensures handed { HandsOn (option_map (λ p. p.now) policy.entry) to frame.now (L.talk link.old) (L.talk link.new)
-        (J.held journal.old) (J.held journal.new) result }
+    ensures handed { HandsOn (option_map (λ p. p.now) policy.entry) to frame.now
+        (traces (L.talk link.old) (J.held journal.old))
+        (traces (L.talk link.new) (J.held journal.new)) result }
     ensures later { L.faults link.old ≤ L.faults link.new }
     ensures journal_later { J.faults journal.old ≤ J.faults journal.new }
     ensures failed { result ≡ Some (Taken.Cut LinkFault.Failed) → HasRisen (L.faults link.old) (L.faults link.new) }
@@ -69,8 +73,9 @@ pub fn take_frames<L: Link, J: Journal>(
     outlet: &mut Outlet,
 ) -> Taken
     requires { empties_of outlet.old < 18446744073709551615 }
-    ensures took { Takes (option_map (λ p. p.now) policy.entry) to outlet.old outlet.new (L.talk link.old) (L.talk link.new)
-        (J.held journal.old) (J.held journal.new) result }
+    ensures took { Takes (option_map (λ p. p.now) policy.entry) to outlet.old outlet.new
+        (traces (L.talk link.old) (J.held journal.old))
+        (traces (L.talk link.new) (J.held journal.new)) result }
     ensures later { L.faults link.old ≤ L.faults link.new }
     ensures journal_later { J.faults journal.old ≤ J.faults journal.new }
     ensures failed { result ≡ Taken.Cut LinkFault.Failed → HasRisen (L.faults link.old) (L.faults link.new) }
@@ -100,7 +105,8 @@ fn meet<L: Link>(alloc: Global, link: &mut L, at: &mut At, end: End, now: u64) -
     requires connected { IsConnected at.old.machine }
     requires ending { end ≢ End.Left }
     ensures met { (v : Terms) (s : Standing) → AcceptingStands at.old.machine (start_of v s) s.events → Tied s
-        → MeetsEnd v s now end at.old at.new (L.talk link.old) (L.talk link.new) result }
+        → Carries (L.talk link.old) (L.talk link.new) (wanted v s (Event.Ended now end)) (Why.EndedBy end) result
+        × MeetsEnd v s now end at.old at.new result }
     ensures later { L.faults link.old ≤ L.faults link.new }
     ensures failed { RoseIf result (L.faults link.old) (L.faults link.new) }
     ensures recorded { (makes : Bool) (a b : ℕ) → UnputIf makes result a b }
@@ -120,8 +126,9 @@ fn take_from<L: Link, J: Journal>(
 ) -> Taken
     requires some { IsTrue (is_some member.old) }
     requires room { empties_by member.old < 18446744073709551615 }
-    ensures took { TakesFrom (option_map (λ p. p.now) policy.entry) member.old member.new (L.talk link.old) (L.talk link.new)
-        (J.held journal.old) (J.held journal.new) result }
+    ensures took { TakesFrom (option_map (λ p. p.now) policy.entry) member.old member.new
+        (traces (L.talk link.old) (J.held journal.old))
+        (traces (L.talk link.new) (J.held journal.new)) result }
     ensures later { L.faults link.old ≤ L.faults link.new }
     ensures journal_later { J.faults journal.old ≤ J.faults journal.new }
     ensures failed { result ≡ Taken.Cut LinkFault.Failed → HasRisen (L.faults link.old) (L.faults link.new) }
@@ -164,7 +171,8 @@ pub fn attend<L: Link, J: Journal>(
     requires some { IsTrue (is_some at.old.member) }
     requires room { empties_by at.old.member < 18446744073709551615 }
     ensures attended { (v : Terms) (s : Standing) → v.policy ≡ option_map (λ p. p.now) policy.entry → Follows at.old s → SessionRuns v at.old s
-        → Attends v s now at.old at.new (L.talk link.old) (L.talk link.new) (J.held journal.old) (J.held journal.new) result }
+        → Attends v s now at.old at.new (traces (L.talk link.old) (J.held journal.old))
+        (traces (L.talk link.new) (J.held journal.new)) result }
     ensures later { L.faults link.old ≤ L.faults link.new }
     ensures failed { RoseIf (stop_of result) (L.faults link.old) (L.faults link.new) }
     ensures unrecorded { UnputIf J.makes_lines (stop_of result) (J.faults journal.old) (J.faults journal.new) }

@@ -6,19 +6,19 @@ ghost use Rattle.bsc_session.specs.CarryingOut.{RoseIf, UnputIf, is_more, stop_o
 ghost use Rattle.bsc_session.specs.Following.{empties_by, Follows, HasStanding, Held, IsFollowed, SessionRuns, conn_of};
 ghost use Rattle.bsc_session.specs.Hearing.{Hears};
 ghost use Rattle.bsc_session.specs.Opening.{Opens, Ticks};
-ghost use Rattle.bsc_session.specs.MakingTurns.{AreTerms, HasTerms, Starts, Between, Makes};
+ghost use Rattle.bsc_session.specs.MakingTurns.{AreTerms, HasTerms, Starts, Makes};
 ghost use Rattle.bsc_session.specs.Reading.{started};
 ghost use Rattle.bsc_session.specs.Stops.{closing_in};
 ghost use Rattle.bsc_session.specs.Taking.{wait_by, waiting_for};
 ghost use Rattle.bsc_session.specs.declared.why.Why.{Why};
 ghost use Rattle.bsc_session.specs.Standings.{Standing, Terms, is_connected, start_of};
+ghost use Rattle.bsc_session.specs.Moments.{moment, traces};
 
 use crate::answering::take_message;
 use crate::at::At;
 use crate::backlog::Backlog;
 use crate::bounds::WAIT_MS;
 use crate::here::Here;
-use crate::limits::SessionLimits;
 use crate::member::Member;
 use crate::stop::Stop;
 use crate::stopping::{stop_at, stop_closing};
@@ -26,8 +26,8 @@ use crate::taking::attend;
 use crate::why::Why;
 use bsc_accept::{Accepting, Closing, Step};
 use bsc_checks::Phase;
-use bsc_edge::{Clock, Incoming, Link};
-use bsc_hub::{Hub, Pass};
+use bsc_edge::{Incoming, Link};
+use bsc_hub::Pass;
 use bsc_notes::Journal;
 use bsc_policy::Policy;
 use std::alloc::Global;
@@ -95,7 +95,8 @@ fn open<L: Link, J: Journal>(
     requires room { empties_by at.old.member < 18446744073709551615 }
     ensures opened { (v : Terms) (s s0 : Standing) → s0 ≡ started s now → Follows at.old s0 → SessionRuns v at.old s0
         → v.policy ≡ option_map (λ p. p.now) policy.entry
-        → Opens v s now at.old at.new (L.talk link.old) (L.talk link.new) (J.held journal.old) (J.held journal.new) result }
+        → Opens v s now at.old at.new (traces (L.talk link.old) (J.held journal.old))
+        (traces (L.talk link.new) (J.held journal.new)) result }
     ensures later { L.faults link.old ≤ L.faults link.new }
     ensures failed { RoseIf (stop_of result) (L.faults link.old) (L.faults link.new) }
     ensures unrecorded { UnputIf J.makes_lines (stop_of result) (J.faults journal.old) (J.faults journal.new) }
@@ -136,8 +137,10 @@ fn hear<R: Wait, L: Link, J: Journal>(
     ensures heard { (v : Terms) (s : Standing) → v.hub ≡ (about_of here.entry.hub.now).hub
         → v.policy ≡ option_map (λ p. p.now) here.entry.policy
         → Held here.entry.hub.now v pass.old at.old s → SessionRuns v at.old s
-        → Hears v s now wait_ms here.entry.hub.now pass.old pass.new at.old at.new (L.talk link.old) (L.talk link.new)
-        (J.held journal.old) (J.held journal.new) result }
+        → Hears v s now wait_ms here.entry.hub.now
+        (moment pass.old at.old (L.talk link.old) (J.held journal.old))
+        (moment pass.new at.new (L.talk link.new) (J.held journal.new))
+        result }
     ensures later { L.faults link.old ≤ L.faults link.new }
     ensures failed { RoseIf result (L.faults link.old) (L.faults link.new) }
     ensures unrecorded { UnputIf J.makes_lines result (J.faults journal.old) (J.faults journal.new) }
@@ -157,39 +160,28 @@ fn hear<R: Wait, L: Link, J: Journal>(
     }
 }
 
-/// Starts the machine, in the first turn.
-fn start(hub: &Hub, limits: &SessionLimits, at: &mut At, now: u64)
-    ensures { (v : Terms) (s : Standing) → AreTerms v hub.now limits.now → Follows at.old s → Between v at.old s
-        → Starts v s now at.old at.new }
-{
-    if at.receives == 0 {
-        at.machine = Accepting::start(hub.identity(), limits.times, now);
-    }
-}
-
-/// Makes a turn.
-pub fn turn<R: Wait, L: Link, C: Clock, J: Journal>(
+/// Makes a turn at a reading.
+pub fn turn<R: Wait, L: Link, J: Journal>(
     here: Here<'_, R>,
     pass: &mut Pass,
     link: &mut L,
     journal: &mut J,
-    clock: &mut C,
     at: &mut At,
+    now: u64,
 ) -> Option<Stop>
-    requires stands { HasTerms here.hub.now pass.old here.limits.now (option_map (λ p. p.now) here.policy) at.old }
+    requires stands { HasTerms here.hub.now pass.old here.limits.now (option_map (λ p. p.now) here.policy) now at.old }
     requires room { at.old.receives < 18446744073709551615 }
     ensures made { (v : Terms) (s : Standing) → AreTerms v here.entry.hub.now here.entry.limits.now → s.receives < v.turns
-        → Held here.entry.hub.now v pass.old at.old s → Between v at.old s
+        → Held here.entry.hub.now v pass.old at.old s → Starts v s now at.old
         → v.policy ≡ option_map (λ p. p.now) here.entry.policy
-        → Makes v s here.entry.hub.now pass.old pass.new at.old at.new (L.talk link.old) (L.talk link.new)
-        (C.readings clock.old) (C.readings clock.new) (J.held journal.old) (J.held journal.new) result }
+        → Makes v s now here.entry.hub.now
+        (moment pass.old at.old (L.talk link.old) (J.held journal.old))
+        (moment pass.new at.new (L.talk link.new) (J.held journal.new)) result }
     ensures later { L.faults link.old ≤ L.faults link.new }
     ensures failed { RoseIf result (L.faults link.old) (L.faults link.new) }
     ensures unrecorded { UnputIf J.makes_lines result (J.faults journal.old) (J.faults journal.new) }
     ensures journal_later { J.faults journal.old ≤ J.faults journal.new }
 {
-    let now = clock.now();
-    start(here.hub, here.limits, at, now);
     match open(here.alloc, link, journal, here.policy, at, now) {
         Ok(backlog) => hear(here, pass, link, journal, at, now, wait_ms(backlog)),
         Err(stop) => Some(stop),

@@ -40,9 +40,10 @@ use Rattle.bsc_session.specs.Talk.{Session, leaving}
 use Rattle.bsc_session.specs.Turns.{IsHearingIf, IsTurn, Turn, after, entries_after, entries_in, said_in, stop_after}
 use Rattle.bsc_session_laws.specs.Laws.{AreAllBut, ConnectsAreAsked, IsTurnedAway, IsUnconnected, IsUnconnectedBy}
 use Rattle.bsc_session_laws.specs.Messages.{asked, asked_by, connected, connected_in, message_after, message_by, message_in, messages_of}
+use Rattle.bsc_session.proofs.EndingAtFault.{first_none}
 use Rattle.bsc_session_laws.proofs.Courses.{all_as, all_but, mapped_shares}
 use Rattle.bsc_session_laws.proofs.Forwarding.{Lacks, lacks_last, lacks_none, lost_or}
-use Rattle.bsc_session_laws.proofs.Turning.{Joins, Waits, at, first_none, hearing, in_asks_none, is_in, stays_in, tied_begun, turn_goes}
+use Rattle.bsc_session_laws.proofs.Turning.{Joins, Waits, at, hearing, in_asks_none, is_in, stays_in, tied_begun, turn_goes}
 use Rattle.bsc_session_laws.proofs.Verdicts.{asked_awaiting}
 use Rattle.bsc_accept.proofs.Common.{asked_so, connected_asks as not_asked_connected}
 

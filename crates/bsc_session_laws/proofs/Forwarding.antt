@@ -10,7 +10,6 @@ use Rattle.bsc_history.specs.declared.ending.End.{End}
 use Rattle.bsc_history.specs.declared.entry.Entry.{Entry}
 use Rattle.bsc_history.specs.declared.looks.Look.{Look}
 use Rattle.bsc_history.specs.declared.reply.Reply.{Reply}
-use Rattle.bsc_checks.specs.declared.phase.Phase.TheVariants.{Connected}
 use Rattle.bsc_checks.specs.declared.verdict.Verdict.{Verdict}
 use Rattle.bsc_checks.specs.declared.verdict.Verdict.TheVariants.{Pass, Carry as Carried, Silent, Nak}
 use Rattle.bsc_edge.specs.declared.fault.LinkFault.{LinkFault}
@@ -22,7 +21,7 @@ use Rattle.bsc_accept.specs.declared.closing.Closing.{Closing}
 use Rattle.bsc_accept.specs.declared.step.Step.{Step}
 use Rattle.bsc_accept.specs.declared.step.Step.TheVariants.{Ask, Put, PutClose, Up, Close, Nothing}
 use Rattle.bsc_accept.specs.Messages.{is_farewell_answer, who_asks}
-use Rattle.bsc_accept.specs.Past.{Standing as MachineStanding, awaiting_request, connected, disconnecting, phase, phase_named, standing}
+use Rattle.bsc_accept.specs.Past.{Standing as MachineStanding, awaiting_request, connected, disconnecting, phase, standing}
 use Rattle.bsc_accept.specs.Steps.{message_step, normal, passed_step}
 use Rattle.bsc_session.specs.declared.ended.Ended.{Ended}
 use Rattle.bsc_session.specs.declared.stop.Stop.{Stop}
@@ -30,7 +29,7 @@ use Rattle.bsc_session.specs.Answering.{IsHearing, called, calls_hub, denied_in,
 use Rattle.bsc_session.specs.Causes.{answer_in, given_in}
 use Rattle.bsc_session.specs.Course.{all_turns, entries_of, said_closing, shares}
 use Rattle.bsc_session.specs.Guarding.{denied_message}
-use Rattle.bsc_session.specs.Following.{Tied, has_joined}
+use Rattle.bsc_session.specs.Following.{Tied}
 use Rattle.bsc_session.specs.Judging.{verdict_on}
 use Rattle.bsc_session.specs.Puts.{puts}
 use Rattle.bsc_session.specs.Receiving.{Answer, replies, worn, no_memory, Hearing}
@@ -41,8 +40,10 @@ use Rattle.bsc_session.specs.Talk.{Session, leaving}
 use Rattle.bsc_session.specs.Turns.{IsHearingIf, IsTurn, Turn, after, entries_after, entries_in, said_after, said_in, stop_after}
 use Rattle.bsc_session_laws.specs.Laws.{AreAllBut, IsUnentered}
 use Rattle.bsc_session_laws.specs.Messages.{JudgedMessage, allowed, allowed_by, carried, carried_by, forwarded, forwarded_in, given_by, given_in as given_by_link, message_after, message_by, message_in, messages_of}
+use Rattle.bsc_session.proofs.EndingAtFault.{first_none}
+use Rattle.bsc_session.proofs.Hearing.{connected_joined as connected_in}
 use Rattle.bsc_session_laws.proofs.Courses.{all_as, all_but, mapped_shares}
-use Rattle.bsc_session_laws.proofs.Turning.{at, first_none, hearing, tied_begun, tied_opened}
+use Rattle.bsc_session_laws.proofs.Turning.{at, hearing, tied_begun, tied_opened}
 use Rattle.bsc_session_laws.proofs.Verdicts.{carried_connected}
 use Rattle.bsc_accept.proofs.Common.{connected_carries as not_carried_connected, no_ask_carries as not_carried_asked}
 
@@ -88,12 +89,6 @@ passed_not_carried : (g : MachineStanding) (msg : Bvlc) → passed_step g msg �
 passed_not_carried awaiting_request msg e = not_carried_asked (who_asks msg.body) e
 passed_not_carried connected msg e = not_carried_connected msg.id msg.body e
 passed_not_carried (disconnecting f) msg e = not_carried_parting (is_farewell_answer f.id msg) e
-
--- who is connected has a connection
-connected_in : (g : MachineStanding) → phase_named g ≡ Connected → has_joined g ≡ true
-connected_in awaiting_request h = cc
-connected_in connected h = refl
-connected_in (disconnecting f) h = refl
 
 made : (v : Terms) (c : Option ℕ) (m : List ℕ) (looks : List Look) (reply : Reply) → is_some c ≡ true → m ∷ [] ≡ forwarded (forwarded_by v c m looks reply)
 made v None m looks reply h = cc

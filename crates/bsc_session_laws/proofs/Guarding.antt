@@ -3,7 +3,6 @@ use Rattle.std.proofs.Common.{◌≡◌, ◌⊎◌, inl, inr, ℕ, Bool, true, f
 use Rattle.std.specs.Prelude.{if◌then◌else◌, is_none}
 use Rattle.std.specs.List.{AllByRecursion}
 use Rattle.std.proofs.lemmas.Grind.{flat_map-append}
-use Rattle.std.proofs.lemmas.List.Elements.{filter-append}
 use Rattle.std.proofs.lemmas.Option.{same_Some}
 use Rattle.bsc_lemmas.proofs.Lists.{all_append}
 use Rattle.bsc_octets.specs.declared.identity.Identity.{Identity}
@@ -35,7 +34,7 @@ use Rattle.bsc_accept.specs.Steps.{message_step}
 use Rattle.bsc_session.specs.declared.ended.Ended.{Ended}
 use Rattle.bsc_session.specs.Answering.{answered, called, calls_hub, denied_in, forwarded_by, made_at, stands_heard, step_of}
 use Rattle.bsc_session.specs.Course.{EachTurn, all_turns, end_of, entries_of, notes_of, shares, standing as stands_after_all}
-use Rattle.bsc_session.specs.Guarding.{denial_of, denials, denials_by, denied_by, denied_connect, denied_frame, denied_from, denied_message, denied_pair, if_any, let_through, origin}
+use Rattle.bsc_session.specs.Guarding.{denial_of, denials, denials_by, denied_by, denied_connect, denied_from, denied_message, denied_pair, if_any, let_through, origin}
 use Rattle.bsc_session.specs.Following.{Tied}
 use Rattle.bsc_session.specs.Judging.{heard, heard_step, verdict_on}
 use Rattle.bsc_session.specs.Reading.{ticked}
@@ -46,10 +45,11 @@ use Rattle.bsc_session.specs.Talk.{Session, journal_of, leave_of, leaving, noted
 use Rattle.bsc_session.specs.Turns.{IsHearingIf, IsTurn, Turn, after, entries_after, entries_in, frames_in, notes_after, notes_in, stands_after}
 use Rattle.bsc_session_laws.specs.Messages.{asked, asked_by, connected as connected_of, connected_in, message_after, message_by, message_in, messages_of}
 use Rattle.bsc_session_laws.specs.Policies.{Allows, AllowsCall, AllowsFrame, DeniesIfNoted, IsAmong, IsConnectedAs, PolicyIsFollowed, put_in}
+use Rattle.bsc_session.proofs.Filtering.{through-nil, let_through-append}
 use Rattle.bsc_session_laws.proofs.Connecting.{passed_asks}
 use Rattle.bsc_session_laws.proofs.Courses.{mapped_shares}
 use Rattle.bsc_session_laws.proofs.Owning.{heard_asks_for_none}
-use Rattle.bsc_session_laws.proofs.Turning.{heard_in, is_in, opened_in, stays_in, takes_none, through-nil, tied_after, tied_begun, told_in, told_joined_in}
+use Rattle.bsc_session_laws.proofs.Turning.{heard_in, is_in, opened_in, stays_in, takes_none, tied_after, tied_begun, told_in, told_joined_in}
 
 -- ---- the address, exactly where the machine has joined
 
@@ -172,10 +172,6 @@ connected_as v T R E frames ended x vmac e = by (came_turns v begun (all_turns x
     by (inr k) = (k.0, subst (λ (l : List Entry). IsAmong k.0 (connected_of l)) (sym x.entries) (among_first k.0 (entries_of x.course) (leave_of x) k.1), k.2)
 
 -- ---- the frames that are put
-
-let_through-append : (policy : Option Policy) (to : Option Vmac) (xs ys : List (List ℕ)) → let_through policy to (xs ++ ys) ≡ let_through policy to xs ++ let_through policy to ys
-let_through-append None to xs ys = refl
-let_through-append (Some p) to xs ys = filter-append (λ f. is_none (denied_frame p to f)) xs ys
 
 none_put : (v : Terms) (s : Standing) (t : Turn) → is_in s ≡ false → IsTurn v s t → put_in v s t ≡ []
 none_put v s t out is = ap (passing v s) (takes_none v s t.opening out is.opening.takes).0 ∙ through-nil v.policy s.address

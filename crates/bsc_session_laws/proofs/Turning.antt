@@ -1,10 +1,8 @@
 -- Who has joined, from turn to turn, and what a turn comes to before anybody has.
-use Rattle.std.proofs.Common.{◌≡◌, ◌⊎◌, inl, inr, ℕ, Bool, true, false, cond, ◌&&◌, List, [], ◌∷◌, ◌++◌, length, Option, Some, None, Result, Ok, Err, is_some, option_to_list, refl, ap, sym, ◌∙◌, subst}
+use Rattle.std.proofs.Common.{◌≡◌, ◌⊎◌, inl, inr, ℕ, Bool, true, false, ◌&&◌, List, [], ◌∷◌, ◌++◌, length, Option, Some, None, Result, Ok, Err, is_some, option_to_list, refl, ap, sym, ◌∙◌, subst}
 use Rattle.std.specs.Prelude.{is_none}
 use Rattle.std.proofs.lemmas.Bool.{both_ways}
 use Rattle.bsc_octets.specs.declared.identity.Identity.{Identity}
-use Rattle.bsc_octets.specs.declared.vmac.Vmac.{Vmac}
-use Rattle.bsc_policy.specs.declared.policy.Policy.{Policy}
 use Rattle.bsc_lines.specs.declared.denial.Denial.{Denial}
 use Rattle.bsc_frame.specs.declared.message.Message.{Message as Bvlc}
 use Rattle.bsc_frame.specs.Spelling.{spelling}
@@ -22,30 +20,30 @@ use Rattle.bsc_edge.specs.declared.said.Said.{Said}
 use Rattle.bsc_edge.specs.declared.said.Said.TheVariants.{Gave, Put}
 use Rattle.bsc_accept.specs.declared.event.Event.{Event}
 use Rattle.bsc_accept.specs.declared.event.Event.TheVariants.{Message as Came, Joined as JoinedEvent, Refused as RefusedEvent, Ended, Tick}
-use Rattle.bsc_accept.specs.declared.farewell.Farewell.{Farewell}
 use Rattle.bsc_accept.specs.declared.step.Step.{Step}
 use Rattle.bsc_accept.specs.declared.step.Step.TheVariants.{Ask}
-use Rattle.bsc_accept.specs.Kept.{moved}
 use Rattle.bsc_accept.specs.Messages.{connect_accept, who_asks}
-use Rattle.bsc_accept.specs.Past.{Standing as MachineStanding, awaiting_request, connected, disconnecting, farewell_at, is_joined, phase, phase_named, standing, until_farewell}
+use Rattle.bsc_accept.specs.Past.{Standing as MachineStanding, awaiting_request, connected, disconnecting, is_joined, phase, phase_named, standing}
 use Rattle.bsc_accept.specs.Steps.{asked_id, ask_step, message_step, passed_step, refused_step}
 use Rattle.bsc_accept.proofs.Looking.{standing-more}
-use Rattle.bsc_session.specs.declared.stop.Stop.{Stop}
 use Rattle.bsc_session.specs.declared.why.Why.{Why}
 use Rattle.bsc_session.specs.declared.why.Why.TheVariants.{Refused as WhyRefused}
 use Rattle.bsc_session.specs.Answering.{AnswerFits, IsHearing, after_hearing, answered, calls, denied_in, last_wanted, put_unless, said_hearing, stands_heard, stop_hearing, stop_message, step_of}
 use Rattle.bsc_session.specs.Course.{TurnGoesOn}
-use Rattle.bsc_session.specs.Guarding.{denied_message, let_through}
+use Rattle.bsc_session.specs.Guarding.{denied_message}
 use Rattle.bsc_session.specs.Following.{Tied, has_joined}
 use Rattle.bsc_session.specs.Judging.{heard, verdict_on}
 use Rattle.bsc_session.specs.Puts.{octets_in, puts}
 use Rattle.bsc_session.specs.Reading.{started, ticked}
 use Rattle.bsc_session.specs.Receiving.{Answer, replies, worn, no_memory, Hearing, received_one}
 use Rattle.bsc_session.specs.Standings.{Standing, Terms, begun, is_connected, is_phase_connected, told}
-use Rattle.bsc_session.specs.Stops.{closes, closing_in, first_of, stop_if}
+use Rattle.bsc_session.specs.Stops.{closes, closing_in, stop_if}
 use Rattle.bsc_session.specs.Taking.{Looks, Opening, end_step, end_told, full_wait, opened, passing, put_first, stop_before, wait_in}
 use Rattle.bsc_session.specs.Turns.{IsHearingIf, IsTurn, Turn, after, said_after, said_in, stands_after, stop_after}
 use Rattle.bsc_session_laws.specs.Messages.{JudgedMessage, asked, message_after, message_by, message_in}
+use Rattle.bsc_session.proofs.Asking.{joined_moved as moved_in, joined_at as joined_in}
+use Rattle.bsc_session.proofs.EndingAtFault.{first_none}
+use Rattle.bsc_session.proofs.Filtering.{through-nil}
 use Rattle.bsc_session_laws.proofs.Verdicts.{asked_awaiting}
 
 -- ---- who has joined
@@ -53,20 +51,6 @@ use Rattle.bsc_session_laws.proofs.Verdicts.{asked_awaiting}
 -- whether the machine has joined, by where the session stands
 abbrev pub is_in : Standing → Bool
 is_in s = has_joined (standing s.events)
-
-until_in : (o : Option Farewell) → has_joined (until_farewell o) ≡ true
-until_in None = refl
-until_in (Some f) = refl
-
-moved_in : (g : MachineStanding) (e : Event) → is_joined e ≡ false → has_joined (moved g e) ≡ has_joined g
-moved_in awaiting_request e h = ap (λ (b : Bool). has_joined (cond b connected awaiting_request)) h
-moved_in connected e h = until_in (farewell_at e)
-moved_in (disconnecting f) e h = refl
-
-joined_in : (g : MachineStanding) → has_joined (moved g JoinedEvent) ≡ true
-joined_in awaiting_request = refl
-joined_in connected = refl
-joined_in (disconnecting f) = refl
 
 -- an event that isn't a joining changes nothing of it
 pub told_in : (s : Standing) (e : Event) → is_joined e ≡ false → is_in (told s e) ≡ is_in s
@@ -116,10 +100,6 @@ tied_after v s t k = tied_heard v (opened s t.opening) t.opening.reading t.heari
 
 -- ---- how a turn goes on
 
-pub first_none : (a b : Option Stop) → first_of a b ≡ None → (a ≡ None) × (b ≡ None)
-first_none None b h = (refl, h)
-first_none (Some s) b h = cc
-
 pub fault_none : (f : Option LinkFault) → stop_if f ≡ None → f ≡ None
 fault_none None h = refl
 fault_none (Some f) h = cc
@@ -150,11 +130,6 @@ takes_none v s o out (inr none) = none
 waits_long : (o : Opening) → o.frames ≡ [] → o.met ≡ None → full_wait ≡ wait_in o
 waits_long o none unmet = rw (none, unmet) refl
 
--- of no frames none is let through
-pub through-nil : (policy : Option Policy) (to : Option Vmac) → let_through policy to [] ≡ []
-through-nil None to = refl
-through-nil (Some p) to = refl
-
 nothing_put : (v : Terms) (s : Standing) (o : Opening) → o.frames ≡ [] → o.met ≡ None → puts (put_first v s o) o.fault ≡ []
 nothing_put v s o none unmet =
     ap (λ (l : List (List ℕ)). puts (passing v s l ++ octets_in (end_step v (ticked s o.reading) o.reading o.met)) o.fault) none
@@ -174,8 +149,8 @@ abbrev pub Waits : List JudgedMessage → Standing → Type 0
 Waits ms next = (is_in next ≡ false) × (asked ms ≡ [])
 
 -- One of the two.
-abbrev pub Goes : Terms → List JudgedMessage → List Said → Standing → Type 0
-Goes v ms said next = Waits ms next ⊎ Joins v ms said next
+abbrev pub OpeningGoes : Terms → List JudgedMessage → List Said → Standing → Type 0
+OpeningGoes v ms said next = Waits ms next ⊎ Joins v ms said next
 
 -- a message with a verdict and what is denied of it, and where the session stands once the machine was told
 abbrev pub message : List ℕ → Verdict → Option Denial → List JudgedMessage
@@ -188,7 +163,7 @@ at s now w = received_one (told s (Came now w))
 abbrev GoesBy : Terms → Standing → ℕ → List ℕ → Option Answer → Option LinkFault → Option LinkFault → Verdict → Step → Option Denial → Type 0
 GoesBy v s now m answer lost fault w st d =
     AnswerFits st answer → is_some answer ≡ is_none d && calls st → stop_message v (at s now w) st d answer lost fault ≡ None
-    → Goes v (message m w (denied_message v.policy s.address m)) (Gave full_wait (Ok (Message m)) ∷ puts (put_unless lost (octets_in (last_wanted v (at s now w) st answer))) fault) (answered (at s now w) st answer)
+    → OpeningGoes v (message m w (denied_message v.policy s.address m)) (Gave full_wait (Ok (Message m)) ∷ puts (put_unless lost (octets_in (last_wanted v (at s now w) st answer))) fault) (answered (at s now w) st answer)
 
 module _ (v : Terms) (s : Standing) (now : ℕ) (m : List ℕ) (fault : Option LinkFault) (out : is_in s ≡ false) where
   -- who asks joins, where the session goes on
@@ -233,7 +208,7 @@ hearing given judged answer lost fault = record { given = given; judged = judged
 
 hearing_goes : (v : Terms) (s : Standing) (now : ℕ) (given : Result Incoming LinkFault) (judged : Bool) (answer : Option Answer) (lost fault : Option LinkFault) → is_in s ≡ false
     → IsHearing v s now (hearing given judged answer lost fault) → stop_hearing v s now (hearing given judged answer lost fault) ≡ None
-    → Goes v (message_by v s given) (said_hearing v s now full_wait (hearing given judged answer lost fault)) (after_hearing v s now (hearing given judged answer lost fault))
+    → OpeningGoes v (message_by v s given) (said_hearing v s now full_wait (hearing given judged answer lost fault)) (after_hearing v s now (hearing given judged answer lost fault))
 hearing_goes v s now (Err f) judged answer lost fault out is stop = cc
 hearing_goes v s now (Ok Closed) judged answer lost fault out is stop = cc
 hearing_goes v s now (Ok Text) judged answer lost fault out is stop = cc
@@ -243,7 +218,7 @@ hearing_goes v s now (Ok (Message m)) false answer lost fault out is stop = cc
 hearing_goes v s now (Ok (Message m)) true answer lost fault out is stop = verdict_goes v s now m fault out (verdict_on v s m) lost answer is.fits is.calls stop
 
 -- A turn that goes on before anybody has joined.
-pub turn_goes : (v : Terms) (s : Standing) (t : Turn) → is_in s ≡ false → IsTurn v s t → TurnGoesOn v s t → Goes v (message_in v s t) (said_in v s t) (after v s t)
+pub turn_goes : (v : Terms) (s : Standing) (t : Turn) → is_in s ≡ false → IsTurn v s t → TurnGoesOn v s t → OpeningGoes v (message_in v s t) (said_in v s t) (after v s t)
 turn_goes v s t out is goes = by t.hearing is.hearing (first_none (stop_before v s t.opening) (stop_after v (opened s t.opening) t.opening.reading t.hearing) goes).1
   where
     o : Opening
@@ -258,16 +233,16 @@ turn_goes v s t out is goes = by t.hearing is.hearing (first_none (stop_before v
     waits : full_wait ≡ wait_in o
     waits = (let two = takes_none v s o out is.opening.takes in waits_long o two.0 two.1)
 
-    behind : (h : Hearing) → Goes v (message_by v (opened s o) h.given) (said_hearing v (opened s o) o.reading full_wait h) (after_hearing v (opened s o) o.reading h)
-        → Goes v (message_by v (opened s o) h.given) (puts (put_first v s o) o.fault ++ said_hearing v (opened s o) o.reading full_wait h) (after_hearing v (opened s o) o.reading h)
+    behind : (h : Hearing) → OpeningGoes v (message_by v (opened s o) h.given) (said_hearing v (opened s o) o.reading full_wait h) (after_hearing v (opened s o) o.reading h)
+        → OpeningGoes v (message_by v (opened s o) h.given) (puts (put_first v s o) o.fault ++ said_hearing v (opened s o) o.reading full_wait h) (after_hearing v (opened s o) o.reading h)
     behind h (inl w) = inl w
     behind h (inr j) = inr (record { request = j.request; id = j.id; said_so = ap (λ (l : List Said). l ++ said_hearing v (opened s o) o.reading full_wait h) none ∙ j.said_so; joined = j.joined; one = j.one })
 
     by : (hh : Option Hearing) → IsHearingIf v (opened s o) o.reading hh → stop_after v (opened s o) o.reading hh ≡ None
-        → Goes v (message_after v (opened s o) hh) (puts (put_first v s o) o.fault ++ said_after v (opened s o) o.reading (wait_in o) hh) (stands_after v (opened s o) o.reading hh)
+        → OpeningGoes v (message_after v (opened s o) hh) (puts (put_first v s o) o.fault ++ said_after v (opened s o) o.reading (wait_in o) hh) (stands_after v (opened s o) o.reading hh)
     by None heard stop = inl (still, refl)
     by (Some h) heard stop = subst
-        (λ (wait : ℕ). Goes v (message_by v (opened s o) h.given) (puts (put_first v s o) o.fault ++ said_hearing v (opened s o) o.reading wait h) (after_hearing v (opened s o) o.reading h))
+        (λ (wait : ℕ). OpeningGoes v (message_by v (opened s o) h.given) (puts (put_first v s o) o.fault ++ said_hearing v (opened s o) o.reading wait h) (after_hearing v (opened s o) o.reading h))
         waits (behind h (hearing_goes v (opened s o) o.reading h.given h.judged h.answer h.lost h.fault still heard stop))
 
 -- ---- once somebody has joined

@@ -6,6 +6,7 @@ use Rattle.bsc_octets.specs.declared.envelope.Envelope.{Envelope}
 use Rattle.bsc_octets.specs.declared.identity.Identity.{Identity}
 use Rattle.bsc_octets.specs.Envelopes.{announces_dest}
 use Rattle.bsc_octets.specs.Forwarding.{flags_in, function_in}
+use Rattle.bsc_octets.specs.Functions.{is_response}
 use Rattle.bsc_frame.specs.declared.check.Check.{Check}
 use Rattle.bsc_frame.specs.declared.check.Check.TheVariants.{C13}
 use Rattle.bsc_frame.specs.declared.message.Message.{Message}
@@ -21,7 +22,7 @@ use Rattle.bsc_checks.specs.Failing.{fails}
 use Rattle.bsc_checks.specs.Options.{data_options_in, rest_of}
 use Rattle.bsc_checks.specs.Outcomes.{accepted, answered, decided, first_failing, outcome_of, refused}
 use Rattle.bsc_checks.specs.Payloads.{body_in}
-use Rattle.bsc_checks.specs.PlaceTests.{is_connected, is_in_place, is_response, is_unicast}
+use Rattle.bsc_checks.specs.PlaceTests.{is_connected, is_in_place, is_unicast}
 use Rattle.bsc_accept.specs.Messages.{who_asks}
 use Rattle.bsc_checks.proofs.Common.{carries_when, none_fails, passes_when}
 

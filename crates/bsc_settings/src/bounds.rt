@@ -11,3 +11,6 @@ pub const MOST_TURNS: u64 = 1 << 40;
 
 /// How many letters the name of a group has at most.
 pub const MAX_GROUP_LEN: usize = 16;
+
+/// How long a hub isn't dialled after one failure where the settings of a node don't say, in milliseconds.
+pub const RECONNECT_MS: u64 = 2_000;

@@ -32,7 +32,7 @@ mod unread;
 mod uris;
 mod values;
 
-pub use bounds::{GREATEST_MS, LEAST_MS, MAX_GROUP_LEN, MOST_TURNS};
+pub use bounds::{GREATEST_MS, LEAST_MS, MAX_GROUP_LEN, MOST_TURNS, RECONNECT_MS};
 pub use fault::SettingFault;
 pub use hub::HubSettings;
 pub use key::KeyName;

@@ -1,5 +1,6 @@
 //! The rows of the table `node`, as the code has them. `specs/Table.antt` has the table; that these are its rows is proved
 //! where they are read.
+use crate::bounds::RECONNECT_MS;
 use crate::key::KeyName;
 use crate::rows::{
     CONNECT_WAIT_MS, DISCONNECT_WAIT_MS, HEARTBEAT_MS, MAX_BVLC, MAX_NPDU, NumberRow, PORT, TURNS,
@@ -65,7 +66,7 @@ pub(crate) const NODE_HEARTBEAT_MS: NumberRow = NumberRow {
 pub(crate) const LEAST_RECONNECT_MS: NumberRow = NumberRow {
     key: KeyName::NodeLeastReconnectMs,
     word: "least_reconnect_ms",
-    default: Some(2_000),
+    default: Some(RECONNECT_MS),
     ..HEARTBEAT_MS
 };
 

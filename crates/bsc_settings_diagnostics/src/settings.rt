@@ -8,12 +8,9 @@ use crate::key_range::{range_of, text_of};
 use crate::unknown::unknown_in;
 use bsc_diagnostics::Shown;
 use bsc_octets::NoMemory;
-use bsc_settings::{KeyName, SettingFault, read_settings, refusal_of};
+use bsc_settings::{KeyName, RECONNECT_MS, SettingFault, read_settings, refusal_of};
 use std::alloc::Global;
 use toml::{Table, Value};
-
-/// The default of the least wait of a node, in milliseconds.
-const LEAST_RECONNECT_MS: u64 = 2_000;
 
 /// The line and the column of a place in a text, both from 1. A column counts characters.
 fn place_of(text: &[u8], at: usize) -> (u64, u64) {
@@ -70,10 +67,10 @@ fn value_of<'a>(doc: &'a Table, table: &str, key: &str) -> Option<&'a Value> {
 fn least_wait(doc: &Table) -> u64 {
     match value_of(doc, "node", "least_reconnect_ms") {
         Some(value) => match value.as_integer() {
-            Some(n) => u64::try_from(n).unwrap_or(LEAST_RECONNECT_MS),
-            None => LEAST_RECONNECT_MS,
+            Some(n) => u64::try_from(n).unwrap_or(RECONNECT_MS),
+            None => RECONNECT_MS,
         },
-        None => LEAST_RECONNECT_MS,
+        None => RECONNECT_MS,
     }
 }
 

@@ -6,11 +6,11 @@ use crate::waiting::Shared;
 use bsc_edge::{Acceptor, Arrived, Failed, Kind, LinkFault};
 use bsc_gate::Gate;
 use bsc_live::Bells;
-use bsc_log::{LoggedAcceptor, logging_of};
+use bsc_log::{LoggedAcceptor, Logging, logging_of};
 use bsc_octets::Vmac;
 use std::alloc::Global;
 use std::env::Env;
-use std::io::{self, Eprint};
+use std::io::{self, Eprint, Stderr};
 use std::net::{Ipv4Addr, Net};
 use std::random::RandomSource;
 use std::sync::{Arc, Wait};
@@ -19,14 +19,16 @@ use std::time::Clock;
 /// At most so many handshakes are at work.
 const PLACES: usize = 256;
 
-/// A gate that is made where it is bound, and tells on standard error what is behind it; with a log, where the environment asks for
-/// one.
+/// A gate that is made where it is bound, and tells on standard error what is behind it; with a log, where it has somewhere to write
+/// one and the environment asks for it.
 #[derive(Drop)]
 pub struct Door<R: Clock + Net + Wait + Eprint + Copy + Drop> {
     rt: R,
     alloc: Global,
     kind: Kind,
     shared: Shared,
+    /// Where a log is written, if anywhere.
+    stderr: Option<Stderr>,
     gate: Option<LoggedAcceptor<Gate<R>, R>>,
     faults: u64,
     quiets: u64,
@@ -39,10 +41,31 @@ impl<R: Clock + Net + Wait + Eprint + Copy + Drop> Door<R> {
             alloc,
             kind,
             shared,
+            stderr: None,
             gate: None,
             faults: 0,
             quiets: 0,
         }
+    }
+
+    /// The same door, with a log there, where the environment asks for one.
+    pub fn logged_at(self, stderr: Stderr) -> Door<R> {
+        let mut door = self;
+        door.stderr = Some(stderr);
+        door
+    }
+}
+
+/// What the logs of links share that are written there, if anywhere, where the environment asks for them.
+fn logging_at<R: Env + Copy>(
+    rt: R,
+    stderr: Option<Stderr>,
+    alloc: Global,
+    kind: Kind,
+) -> Option<Logging<R>> {
+    match stderr {
+        Some(stderr) => logging_of(rt, stderr, alloc, kind),
+        None => None,
     }
 }
 
@@ -113,7 +136,7 @@ impl<R: Clock + Net + Wait + Eprint + Env + RandomSource + Copy + Drop> Acceptor
         match open(self.rt, self.alloc, self.kind, port, owner, &self.shared) {
             Ok(gate) => {
                 tell_open(&self.rt, self.kind, port, owner);
-                let logging = logging_of(self.rt, self.alloc, self.kind);
+                let logging = logging_at(self.rt, self.stderr, self.alloc, self.kind);
                 self.gate = Some(LoggedAcceptor::new(gate, logging));
                 Ok(())
             }

@@ -33,7 +33,6 @@ use Rattle.bsc_load.specs.declared.ends.LoadStop.TheVariants.{Short as ShortStop
 use Rattle.bsc_load.specs.Inner.{Stops}
 use Rattle.bsc_load.specs.Workers.{within_64_bits}
 use Rattle.bsc_load.proofs.Passing.{went_on}
-use Rattle.bsc_load.proofs.Unjoined.{longer}
 use Rattle.bsc_storm.specs.declared.ends.StormEnd.{StormEnd}
 use Rattle.bsc_storm.specs.declared.works.Cut.{Cut}
 use Rattle.bsc_storm.specs.declared.works.Cut.TheVariants.{NoMemory, Short}
@@ -49,6 +48,7 @@ use Rattle.bsc_storm.proofs.Taking.{at_end}
 use Rattle.bsc_load.specs.Workers.{calls}
 use Rattle.bsc_lemmas.proofs.Booleans.{false_true as no_cut}
 use Rattle.bsc_load.proofs.Common.{stopped_now}
+use Rattle.bsc_hub.proofs.Guarding.{longer}
 
 -- what a work is as a worker, by the history that was seen in the end
 

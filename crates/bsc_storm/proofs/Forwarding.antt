@@ -33,13 +33,14 @@ use Rattle.bsc_load.proofs.Both.{goes_between, join_entry, joined_between, leave
 use Rattle.bsc_load.proofs.Calls.{forward_joins_none}
 use Rattle.bsc_load.proofs.Going.{goes_none, goes_one, goes_same, goes_then, holds_by, holds_same, holds_then}
 use Rattle.bsc_load.proofs.Running.{outer_calls}
-use Rattle.bsc_load.proofs.Unjoined.{asked_or_not, longer}
+use Rattle.bsc_load.proofs.Unjoined.{asked_or_not}
 use Rattle.bsc_storm.specs.declared.works.Cut.{Cut}
 use Rattle.bsc_storm.specs.declared.works.Cut.TheVariants.{NoMemory, Short}
 use Rattle.bsc_storm.specs.Inner.{Sent, SentAll, ShowsBy, StormForwards, StormWasWorn, StormWorkerRuns, cut_of, goes_on}
 use Rattle.bsc_storm.specs.Peers.{storm_frame, storm_sender}
 use Rattle.bsc_storm.specs.Workers.{IsPart, IsSender, storm_forwards}
 use Rattle.bsc_storm.proofs.Stays.{shows_own}
+use Rattle.bsc_hub.proofs.Guarding.{longer}
 
 -- a forward, whatever it was told
 forwarded : (h : Hub) (s k : ℕ) (p q : Pass) (r : Result (Told OneReply) Worn) → IsCaller h p → Passed h p [] (one_made (number_of p) s (storm_frame k) r) q → (IsErr r ↔ ((about_of h).limits.calls ≤ length (found_history (one_made (number_of p) s (storm_frame k) r) q))) → StormForwards h s k p q (goes_on r)

@@ -179,24 +179,23 @@ fn finish<R: Wait>(
     end_of(rt, hub, pass, taken, short)
 }
 
-/// Runs the three workers, as far as they got passes, and stops the hub.
+/// Runs the three workers by these passes, as far as they got one, and stops the hub.
 fn run<R: Threads + Wait + Sync>(
     rt: &R,
     alloc: Global,
     hub: &Hub,
     pass: &mut Pass,
-    one: Option<Pass>,
-    other: Option<Pass>,
-    sends: Option<Pass>,
+    passes: (Option<Pass>, Option<Pass>, Option<Pass>),
     rounds: u32,
 ) -> Result<StormEnd, LoadStop>
     requires caller { IsCaller hub.now pass.old }
-    requires one { IfSome one (IsNew hub.now) }
-    requires other { IfSome other (IsNew hub.now) }
-    requires sends { IfSome sends (IsNew hub.now) }
+    requires one { IfSome passes.0 (IsNew hub.now) }
+    requires other { IfSome passes.1 (IsNew hub.now) }
+    requires sends { IfSome passes.2 (IsNew hub.now) }
     requires rounds { rounds ≤ 30000 }
-    ensures { StormsFrom hub.now pass.old one other sends rounds pass.new result }
+    ensures { StormsFrom hub.now pass.old passes.0 passes.1 passes.2 rounds pass.new result }
 {
+    let (one, other, sends) = passes;
     let ((x, y), z) = run_three(rt, alloc, hub, one, other, sends, rounds);
     finish(rt, hub, pass, x, y, z)
 }
@@ -219,6 +218,6 @@ pub fn storm_on<R: Threads + Wait + Sync>(
     // Whose callers the pass took in, each with exactly which calls, and what shows each answer.
     ensures { Storms hub.now pass.old pass.new rounds result }
 {
-    let (one, other, sends) = split_three(rt, hub, pass);
-    run(rt, alloc, hub, pass, one, other, sends, rounds)
+    let passes = split_three(rt, hub, pass);
+    run(rt, alloc, hub, pass, passes, rounds)
 }

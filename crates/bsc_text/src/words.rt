@@ -31,9 +31,9 @@ fn word_len(line: &[u8]) -> usize
 pub fn next_word(line: &[u8]) -> Option<(&[u8], &[u8])>
     ensures word { MatchOption result
         (words_of line.now ≡ [])
-        (λ p. words_of line.now ≡ p.0.now ∷ words_of p.1.now) }
-    ensures some { IfSome result (λ p. 0 < length p.0.now) }
-    ensures shorter { IfSome result (λ p. length p.1.now < length line.now) }
+        (λ (word, rest). words_of line.now ≡ word.now ∷ words_of rest.now) }
+    ensures some { IfSome result (λ (word, _). 0 < length word.now) }
+    ensures shorter { IfSome result (λ (_, rest). length rest.now < length line.now) }
 {
     let line = skip_spaces(line);
     if line.is_empty() {

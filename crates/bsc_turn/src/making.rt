@@ -16,10 +16,10 @@ impl<S: Stands + Drop> Turn<S> {
     pub fn make(alloc: Global, state: S, callers: u64) -> Result<(Turn<S>, Pass), NoMemory>
         requires stands { S.stands state [] }
         requires bounds { (1 ≤ callers) × (callers ≤ 2 ^ 62) }
-        ensures pass { IfOk result (λ r. IsPassOf S.about r.0 r.1) }
-        ensures new { IfOk result (λ r. view_of r.1 ≡ first_view (S.about state) callers) }
-        ensures first { IfOk result (λ r. first_state r.0 ≡ state) }
-        ensures callers { IfOk result (λ r. callers_of r.0 ≡ callers) }
+        ensures pass { IfOk result (λ (turn, pass). IsPassOf S.about turn pass) }
+        ensures new { IfOk result (λ (_, pass). view_of pass ≡ first_view (S.about state) callers) }
+        ensures first { IfOk result (λ (turn, _). first_state turn ≡ state) }
+        ensures callers { IfOk result (λ (turn, _). callers_of turn ≡ callers) }
     {
         let (table, seat) = lay_out(alloc, state, callers)?;
         let pass = Pass {

@@ -20,12 +20,11 @@ use Rattle.bsc_node.specs.Events.{obeys_by, obeys, follows}
 use Rattle.bsc_node.specs.Node.{goes_on, actions_at}
 use Rattle.bsc_node.specs.Laws.{with_event, draws}
 use Rattle.bsc_node.specs.Conditions.{fits, may_come, awaits_word, brings_word}
-use Rattle.bsc_node.proofs.Order.{in_order-brought, in_order-cons}
 use Rattle.bsc_node.proofs.Passing.{Passes, pass-in_order, pass-nothing}
 use Rattle.bsc_node.proofs.Quiet.{quiet-ends, quiet-closes_link}
 use Rattle.bsc_node.proofs.Heard.{LetsQuiet, lets-rule, pass-meets_peer, pass-is_refused_by, pass-two-then}
 use Rattle.bsc_node.proofs.Lasting.{LetsMessages, pass-takes_body, pass-sends}
-use Rattle.bsc_node.proofs.Following.{pass-follows, opened-dialled, goes_on-is}
+use Rattle.bsc_node.proofs.Following.{pass-follows, opened-dialled, goes_on-is, brought-one as lines-one, brought-two as lines-two}
 use Rattle.bsc_node_laws.proofs.Drawn.{draws_at, word_settles}
 use Rattle.bsc_network.specs.NodeEvents.{brings_about}
 use Rattle.bsc_world.specs.Kept.{IsCalm}
@@ -93,12 +92,6 @@ now_then a L e may =
 pub may_then : (T : ℕ) (L : Log) (e : NodeEvent) → T < 2 ^ 62 → IsCalm T L → brings_word e ≡ false → fits L e ≡ true → IsTrue (may_come L (record { now = T; event = e }))
 may_then T L e below calm brings fit =
     all_four (nat_le (now L) T) (nat_lt T (2 ^ 62)) (if brings_word e then awaits_word L else not (awaits_word L)) (fits L e) (le-leb (now L) T calm.time) (lt-ltb T (2 ^ 62) below) (no_word (brings_word e) (awaits_word L) brings calm.word) fit
-
-pub lines-one : (a : Made) (e : TimedEvent) (L : Log) → in_order (goes_on a e ∷ []) L ≡ goes_on a e L
-lines-one a e L = in_order-cons (goes_on a e) [] L ∙ ap (λ lines. goes_on a e L ++ lines) (in_order-brought [] (L ++ goes_on a e L)) ∙ append-nil (goes_on a e L)
-
-pub lines-two : (a : Made) (e r : TimedEvent) (L : Log) → in_order (goes_on a e ∷ goes_on a r ∷ []) L ≡ goes_on a e L ++ goes_on a r (L ++ goes_on a e L)
-lines-two a e r L = in_order-cons (goes_on a e) (goes_on a r ∷ []) L ∙ ap (λ lines. goes_on a e L ++ lines) (lines-one a r (L ++ goes_on a e L))
 
 brought-one : (a : Made) (e : TimedEvent) (L : Log) → L ++ in_order (goes_on a e ∷ []) L ≡ L ++ goes_on a e L
 brought-one a e L = ap (λ lines. L ++ lines) (lines-one a e L)

@@ -1,11 +1,11 @@
 -- The hub's side of a link asks its hub to be accepted.
-use Rattle.std.proofs.Common.{◌≡◌, ◌≢◌, ◌≤◌, ◌<◌, ◌==◌, ◌&&◌, ◌||◌, ◌⊎◌, inl, inr, ℕ, zero, suc, nat_le, Bool, true, false, not, List, [], ◌∷◌, ◌++◌, length, drop, filter, set, get_or, slice_get, Option, Some, None, is_some, option_to_list, refl, ap, sym, ◌∙◌, subst, arith, length-set, append-nil}
+use Rattle.std.proofs.Common.{◌≡◌, ◌≢◌, ◌≤◌, ◌<◌, ◌==◌, ◌&&◌, ◌||◌, ◌⊎◌, inl, inr, ℕ, zero, suc, nat_le, Bool, true, false, not, List, [], ◌∷◌, ◌++◌, length, drop, filter, set, get_or, slice_get, Option, Some, None, refl, ap, sym, ◌∙◌, subst, arith, length-set, append-nil}
 use Rattle.std.specs.List.{list_any}
-use Rattle.std.specs.Option.{option_map, option_or}
+use Rattle.std.specs.Option.{option_map}
 use Rattle.std.proofs.lemmas.List.{length-map}
 use Rattle.std.proofs.lemmas.Option.{slice_get_past, slice_get_read}
-use Rattle.std.proofs.lemmas.List.Folds.{find-append, list_any-append}
-use Rattle.std.proofs.lemmas.Bool.{and_parts, both_ways, eq-eqb, eqb-true, false_from_ne_true, or_cases}
+use Rattle.std.proofs.lemmas.List.Folds.{list_any-append}
+use Rattle.std.proofs.lemmas.Bool.{and_parts, both_ways, eqb-true, or_cases}
 use Rattle.bsc_octets.specs.declared.identity.Identity.{Identity}
 use Rattle.bsc_node.specs.declared.link_name.LinkName.{LinkName}
 use Rattle.bsc_history.specs.declared.limits.About.{About}
@@ -16,27 +16,22 @@ use Rattle.bsc_history.specs.declared.mark.Stamped.{Stamped}
 use Rattle.bsc_history.specs.declared.reply.Refusal.{Refusal}
 use Rattle.bsc_history.specs.declared.reply.Reply.{Reply}
 use Rattle.bsc_history.specs.declared.reply.Reply.TheVariants.{Joined as JoinedReply, Refused as RefusedReply}
-use Rattle.bsc_history.specs.Entries.{connection_of, joins, moment}
-use Rattle.bsc_history.specs.Ends.{joined, leaves, numbered, unleft}
+use Rattle.bsc_history.specs.Entries.{joins, moment}
+use Rattle.bsc_history.specs.Ends.{joined, leaves, unleft}
 use Rattle.bsc_history.specs.Legality.{Lawful, Legal, is_of}
 use Rattle.bsc_history.specs.Marks.{entries as entries_of}
-use Rattle.bsc_history.specs.Outboxes.{added, added_by, looked, sent, vmac_in, vmac_of}
+use Rattle.bsc_history.specs.Outboxes.{added, added_by, looked, sent, vmac_of}
 use Rattle.bsc_history.proofs.Fresh.{fresh_joins, fresh_looked, fresh_sent}
 use Rattle.bsc_history.proofs.Lifting.{join_owned}
 use Rattle.bsc_history.proofs.Lists.{In-filter, any_In, any_gives}
-use Rattle.bsc_history.proofs.More.{joined-more, looked-more, sent-more, unleft-more, unleft-same}
-use Rattle.bsc_history.proofs.Named.{unleft_joined}
-use Rattle.bsc_history.proofs.Parts.{numbered_joined}
+use Rattle.bsc_history.proofs.More.{looked-more, sent-more, unleft-more, unleft-same}
 use Rattle.bsc_history.proofs.Uniqueness.{comes}
 use Rattle.bsc_ring.specs.Ends.{given, outlet_mark}
 use Rattle.bsc_desk.specs.declared.desk.Desk.{Desk}
-use Rattle.bsc_desk.specs.declared.row.Row.{Row}
 use Rattle.bsc_desk.specs.Entries.{connect_entry, connect_stamped}
-use Rattle.bsc_desk.specs.Live.{connection, known_in}
 use Rattle.bsc_desk.specs.Meetings.{IsOutletOf}
 use Rattle.bsc_desk.specs.Rows.{known_of}
 use Rattle.bsc_desk.specs.Standing.{DeskStands}
-use Rattle.bsc_desk.proofs.LiveRows.{any_row}
 use Rattle.bsc_desk.proofs.Rowed.{joined_mark}
 use Rattle.bsc_world.specs.declared.asked.Asked.TheVariants.{Joined as AskedJoined, Refused as AskedRefused}
 use Rattle.bsc_network.specs.declared.target.Target.TheVariants.{Hub as ToHub, Node as ToNode}
@@ -50,21 +45,23 @@ use Rattle.bsc_network.specs.Changes.{changed_at, with_side}
 use Rattle.bsc_network.specs.Outboxes.{frames}
 use Rattle.bsc_network.specs.HubCalls.{called, entry_in, is_worn, reply_in}
 use Rattle.bsc_world.specs.HubEntries.{HasJoined, HasRefused, IsSeated, LeadsNowhere, LeadsTo}
-use Rattle.bsc_world.specs.Sides.{IsSideOf, WasAsked}
+use Rattle.bsc_world.specs.Sides.{IsSideOf, WasAsked, call_at}
 use Rattle.bsc_world.specs.Kept.{IsConnKept, IsConnKeptIf, IsHubKept, IsSideKept, IsSideKeptIf, places_of}
 use Rattle.bsc_world.specs.Standing.{AreReadyBut, IsHubAt, WorldKeptAs}
 use Rattle.bsc_world.specs.Becoming.{Became, HasSide, Stands, ends}
 use Rattle.bsc_network.proofs.Places.{get-changed, get-other, get-set_other, length-changed, one_or_two}
+use Rattle.bsc_script.proofs.Seated.{unknown}
 use Rattle.bsc_world.proofs.LinkWays.{link_there, map-changed}
 use Rattle.bsc_world.proofs.Entering.{history-more, places_long, with_entry}
 use Rattle.bsc_world.proofs.OneHub.{HubChange, SameKept, SameLink, hub_changed, read_there, same_kept, same_link}
 use Rattle.bsc_world.proofs.OfSides.{SideAt, side_at}
 use Rattle.bsc_world.proofs.QuietEntries.{IsQuiet, hub_entered, entry_is, lawful_at, legal_at, side_quiet}
 use Rattle.bsc_world.proofs.StopCalls.{OnHub}
-use Rattle.bsc_lemmas.proofs.Lists.{get-set as get-set_here, got-at, none_of}
+use Rattle.bsc_lemmas.proofs.Lists.{get-set as get-set_here, got-at}
 use Rattle.bsc_network.proofs.Common.{same_hub as target_same}
 use Rattle.bsc_ring.proofs.Common.{nothing_found}
 use Rattle.std.proofs.lemmas.Option.{same_Some as some_same}
+use Rattle.bsc_history.proofs.Connections.{new_address}
 
 -- ---- a connect is quiet for all that had joined
 
@@ -176,28 +173,6 @@ call_refused t u F b w j l place who r h kept after read o says s at =
     )
 
 -- ---- joined
-
--- Of a connection x that joined after G, with a number that nobody had, the address is that of who joined.
-new_address : (G : List Entry) (e : Entry) (x : Connection) → connection_of e ≡ Some x → list_any (joins x.number) G ≡ false → vmac_of (G ++ e ∷ []) x.number ≡ x.who.vmac
-new_address G e x new none =
-    let c = x.number in
-    let nobody : (o : Option Connection) → is_some o ≡ false → option_or o (numbered c (x ∷ [])) ≡ Some x = λ o. elim o as (λ o. is_some o ≡ false → option_or o (numbered c (x ∷ [])) ≡ Some x) [
-      | None ↦ λ k. rw (eq-eqb c c refl) refl
-      | Some y ↦ λ k. cc
-    ] in
-    ap vmac_in (
-    ap (numbered c) (joined-more G e ∙ ap (λ (o : Option Connection). joined G ++ option_to_list o) new)
-    ∙ find-append (λ (y : Connection). y.number == c) (joined G) (x ∷ [])
-    ∙ nobody (numbered c (joined G)) (numbered_joined G c ∙ none)
-    )
-
--- a desk knows nothing of a connection that nobody joined
-unknown : (d : Desk) (S : List Stamped) (c : ℕ) → DeskStands d S → list_any (joins c) (entries_of S) ≡ false → known_of d c ≡ 0
-unknown d S c s fresh =
-    let p = λ (x : Connection). x.number == c in
-    let any : list_any (λ (r : Row). p (connection r)) d.rows.items ≡ list_any p (unleft (entries_of S)) = any_row p d.rows.items ∙ ap (list_any p) s.unleft_rows in
-    let none : list_any (λ (r : Row). p (connection r)) d.rows.items ≡ false = any ∙ false_from_ne_true (list_any p (unleft (entries_of S))) (λ t. both_ways (list_any (joins c) (entries_of S)) fresh (unleft_joined (λ k after. not (list_any (leaves k) after)) p c (λ x h. h) (entries_of S) t)) in
-    ap known_in (none_of (λ (r : Row). r.connection.number == c) d.rows.items none)
 
 -- What is so of a connection that joins.
 record Fresh (a : About) (H : List Entry) (e : Entry) (c : ℕ) : Type 0 where
@@ -393,7 +368,7 @@ call_joined_at t u F w j l place who k kept after hub hub_after was to hub_was o
     }
 
 pub call_joined : (t u : KeptWorld) (F : List LinkName) (w : World) (j l place : ℕ) (who : Identity) (k : KeptConn) (kept after : KeptLink) (hub hub_after : KeptHub) → slice_get t.links.items l ≡ Some kept → kept.to ≡ ToHub j → hub ≡ get_or t.hubs.items j hub → OnBoth t u j l hub_after after → IsSeated k kept after
-    → ((S : List Stamped) → DeskStands hub.desk S → (nat_le hub.desk.about.limits.calls (length S) ≡ false) × HasJoined S l who k hub hub_after) → HasSide t l (λ side. side.joined ≡ None) → WorldKeptAs t F (Some l) w → (h : Hub) (link : Link) → IsSideOf w l j h link → WasAsked AskedJoined t u F w j h l place who
+    → ((S : List Stamped) → DeskStands hub.desk S → (nat_le hub.desk.about.limits.calls (length S) ≡ false) × HasJoined S l who k hub hub_after) → HasSide t l (λ side. side.joined ≡ None) → WorldKeptAs t F (Some l) w → (h : Hub) (link : Link) → IsSideOf w l j h link → WasAsked AskedJoined t u (call_at F w j h l place) who
 call_joined t u F w j l place who k kept after hub hub_after was to read o g says unjoined s h0 link0 of =
     let x = side_at t F (Some l) w l j kept s was to in
     let h = x.hub in
@@ -409,7 +384,7 @@ call_joined t u F w j l place who k kept after hub hub_after was to read o g say
     let v = with_side l (λ z. record z { conn = Some c }) (called j l place (Connect who) w) in
     let h_is : h ≡ h0 = some_same h h0 (sym x.hub_there ∙ of.hub) in
     let became : Became t u F (Some l) w v = call_joined_at t u F w j l place who k kept after hub hub_after was to hub_was o g x side.0 side.1 side.2 (unjoined kept side.0 was side.1) e s in
-    subst (λ (z : Hub). WasAsked AskedJoined t u F w j z l place who) h_is (worn_as j h a.marks a.kept false a.hub said.0, (c, e.replaced, joined_reply w j l h a.marks a.kept hub_after who k a.hub e, became))
+    subst (λ (z : Hub). WasAsked AskedJoined t u (call_at F w j z l place) who) h_is (worn_as j h a.marks a.kept false a.hub said.0, (c, e.replaced, joined_reply w j l h a.marks a.kept hub_after who k a.hub e, became))
   where
     side_of : (h : Hub) (S : List Stamped) (d : Desk) (link : Link) (o : Option KeptSide) → kept.side ≡ o → link.side.is_over ≡ false → IsSideKeptIf l h S d link kept.side → (z : KeptSide) × (kept.side ≡ Some z) × IsSideKept l h S d link z
     side_of h S d link None is lasts p = (let over : link.side.is_over ≡ true = subst (IsSideKeptIf l h S d link) is p in let bad : false ≡ true = sym lasts ∙ over in cc)
@@ -445,19 +420,19 @@ asked_worn t F w l i j place who kept h link q read says s p =
     let same : a.kept ≡ kept = some_same a.kept kept (sym a.there ∙ read_there t.hubs.items j a.kept kept a.there (subst (λ n. kept ≡ get_or t.hubs.items n kept) at read)) in
     worn_as j h a.marks a.kept true a.hub (subst (λ (y : KeptHub). nat_le y.desk.about.limits.calls (length a.marks) ≡ true) (sym same) (says a.marks (subst (λ (y : KeptHub). DeskStands y.desk a.marks) same a.hub.desk)))
 
-pub asked_refused : (t u : KeptWorld) (F : List LinkName) (w : World) (l i j place : ℕ) (who : Identity) (r : Refusal) (kept after : KeptHub) (h : Hub) (link : Link) → LeadsTo t l i → kept ≡ get_or t.hubs.items i kept → OnHub t u i after → ((S : List Stamped) → DeskStands kept.desk S → (nat_le kept.desk.about.limits.calls (length S) ≡ false) × HasRefused S l who r kept after) → WorldKeptAs t F (Some l) w → IsSideOf w l j h link → WasAsked (AskedRefused r) t u F w j h l place who
+pub asked_refused : (t u : KeptWorld) (F : List LinkName) (w : World) (l i j place : ℕ) (who : Identity) (r : Refusal) (kept after : KeptHub) (h : Hub) (link : Link) → LeadsTo t l i → kept ≡ get_or t.hubs.items i kept → OnHub t u i after → ((S : List Stamped) → DeskStands kept.desk S → (nat_le kept.desk.about.limits.calls (length S) ≡ false) × HasRefused S l who r kept after) → WorldKeptAs t F (Some l) w → IsSideOf w l j h link → WasAsked (AskedRefused r) t u (call_at F w j h l place) who
 asked_refused t u F w l i j place who r kept after h link q read o says s p =
     let at = hub_is t F (Some l) w l i j h link q s p in
-    subst (λ n. WasAsked (AskedRefused r) t u F w n h l place who) at (call_refused t u F (Some l) w i l place who r h kept after read o says s (ap (hub_at w) at ∙ p.hub))
+    subst (λ n. WasAsked (AskedRefused r) t u (call_at F w n h l place) who) at (call_refused t u F (Some l) w i l place who r h kept after read o says s (ap (hub_at w) at ∙ p.hub))
 
 pub asked_joined : (t u : KeptWorld) (F : List LinkName) (w : World) (l i j place : ℕ) (who : Identity) (k : KeptConn) (kept after : KeptLink) (hub hub_after : KeptHub) (h : Hub) (link : Link) → LeadsTo t l i → kept ≡ get_or t.links.items l kept → hub ≡ get_or t.hubs.items i hub → OnBoth t u i l hub_after after → IsSeated k kept after
-    → ((S : List Stamped) → DeskStands hub.desk S → (nat_le hub.desk.about.limits.calls (length S) ≡ false) × HasJoined S l who k hub hub_after) → HasSide t l (λ side. side.joined ≡ None) → WorldKeptAs t F (Some l) w → IsSideOf w l j h link → WasAsked AskedJoined t u F w j h l place who
+    → ((S : List Stamped) → DeskStands hub.desk S → (nat_le hub.desk.about.limits.calls (length S) ≡ false) × HasJoined S l who k hub hub_after) → HasSide t l (λ side. side.joined ≡ None) → WorldKeptAs t F (Some l) w → IsSideOf w l j h link → WasAsked AskedJoined t u (call_at F w j h l place) who
 asked_joined t u F w l i j place who k kept after hub hub_after h link q link_read read o g says unjoined s p =
     let at = hub_is t F (Some l) w l i j h link q s p in
     let was = read_there t.links.items l q.kept kept q.there link_read in
     let to : kept.to ≡ ToHub i = ap (λ (y : KeptLink). y.to) (some_same kept q.kept (sym was ∙ q.there)) ∙ q.to in
     let of : IsSideOf w l i h link = record { there = p.there; to = p.to ∙ ap ToHub (sym at); hub = ap (hub_at w) at ∙ p.hub; lasts = p.lasts } in
-    subst (λ n. WasAsked AskedJoined t u F w n h l place who) at (call_joined t u F w i l place who k kept after hub hub_after was to read o g says unjoined s h link of)
+    subst (λ n. WasAsked AskedJoined t u (call_at F w n h l place) who) at (call_joined t u F w i l place who k kept after hub hub_after was to read o g says unjoined s h link of)
 
 -- A hub that isn't worn doesn't answer that it is.
 pub asked_never : (t : KeptWorld) (b : Option ℕ) (l i : ℕ) (one two : KeptHub) → Stands b t → LeadsTo t l i → one ≡ get_or t.hubs.items i one → two ≡ get_or t.hubs.items i two → ((S : List Stamped) → DeskStands one.desk S → nat_le one.desk.about.limits.calls (length S) ≡ false) → ((S : List Stamped) → DeskStands two.desk S → nat_le two.desk.about.limits.calls (length S) ≡ true) → ⊥

@@ -1,5 +1,5 @@
 -- A message is passed on.
-use Rattle.std.proofs.Common.{◌≡◌, ◌≤◌, ◌<◌, ◌==◌, ◌&&◌, ℕ, nat_le, Bool, true, false, List, [], ◌∷◌, ◌++◌, length, map, find, filter, take, get_or, slice_get, Option, Some, None, MatchOption, refl, ap, sym, ◌∙◌, subst, arith, length-set}
+use Rattle.std.proofs.Common.{◌≡◌, ◌≤◌, ◌<◌, ◌==◌, ◌&&◌, ℕ, nat_le, Bool, true, false, List, [], ◌∷◌, ◌++◌, length, map, find, take, get_or, slice_get, Option, Some, None, MatchOption, refl, ap, sym, ◌∙◌, subst, arith, length-set}
 use Rattle.std.specs.List.{AllByRecursion, list_any}
 use Rattle.std.proofs.Math.Seq.{take-length}
 use Rattle.std.proofs.lemmas.Bool.{and_from, both_ways, false_from_ne_true, eq-eqb, eqb-true}
@@ -22,13 +22,10 @@ use Rattle.bsc_history.proofs.Lists.{In, In_from_all, all_from_In, any_In, any_g
 use Rattle.bsc_history.proofs.More.{unleft-same}
 use Rattle.bsc_accept.specs.Standing.{IsOpen, phase_of}
 use Rattle.bsc_desk.specs.declared.desk.Desk.{Desk}
-use Rattle.bsc_desk.specs.declared.row.Row.{Row}
 use Rattle.bsc_desk.specs.Entries.{forward_entry, plain}
-use Rattle.bsc_desk.specs.Live.{connection, is_open}
 use Rattle.bsc_desk.specs.Rows.{IsRowOf, known_of}
 use Rattle.bsc_desk.specs.Standing.{DeskStands}
 use Rattle.bsc_history.proofs.Connections.{joined_apart, unleft_joined}
-use Rattle.bsc_desk.proofs.LiveRows.{live_rows}
 use Rattle.bsc_desk.proofs.Rowed.{is_row_of}
 use Rattle.bsc_script.proofs.Touched.{among_In, look_newest}
 use Rattle.bsc_world.specs.declared.passing.Passing.{Passing}
@@ -43,11 +40,12 @@ use Rattle.bsc_network.specs.Worlds.{World, Hub, Link, history, hub_at, link_at}
 use Rattle.bsc_network.specs.HubCalls.{called, entry_in, looks_in, taken_by, taken_from, taken_over}
 use Rattle.bsc_world.specs.HubEntries.{LeadsTo}
 use Rattle.bsc_world.specs.Passing.{HasForwarded, Midway, MidwaySome, MidwayTo, SameEnd, is_one, looked_at}
-use Rattle.bsc_world.specs.Sides.{IsSideOf, WasPassed}
+use Rattle.bsc_world.specs.Sides.{IsSideOf, WasPassed, call_at}
 use Rattle.bsc_world.specs.Kept.{IsConnKeptIf, IsSideKeptIf}
 use Rattle.bsc_world.specs.Standing.{AreReadyBut, IsHubAt, WorldKeptAs}
 use Rattle.bsc_world.specs.Becoming.{Became, Stands}
 use Rattle.bsc_network.proofs.Places.{get-set_other, got-beside}
+use Rattle.bsc_script.proofs.Entered.{live_unleft}
 use Rattle.bsc_world.proofs.Entering.{history-more, with_entry}
 use Rattle.bsc_world.proofs.OneHub.{HubChange, SameLink, hub_changed, read_there, same_link}
 use Rattle.bsc_world.proofs.OfSides.{side_at}
@@ -55,21 +53,12 @@ use Rattle.bsc_world.proofs.QuietEntries.{IsQuiet, entry_is, hub_entered, lawful
 use Rattle.bsc_world.proofs.Unlooked.{any_of_none, looked_kept, newest_kept, unlooked_added}
 use Rattle.bsc_world.proofs.StopCalls.{OnHub}
 use Rattle.bsc_world.proofs.ConnectCalls.{hub_is, target_at, worn_as}
-use Rattle.bsc_desk.proofs.Common.{any_kept, any_mapped}
 use Rattle.bsc_history.proofs.Common.{looks_live, looks_told}
 use Rattle.bsc_lemmas.proofs.Lists.{get-set as get-set_here, got-at}
 use Rattle.bsc_world.proofs.Common.{conn_at}
 use Rattle.std.proofs.lemmas.Option.{same_Some as some_same}
 
 -- ---- who is looked at
-
--- a live connection hasn't left
-pub live_unleft : (d : Desk) (S : List Stamped) (c : ℕ) → DeskStands d S → list_any (λ x. x.number == c) (live (entries_of S)) ≡ true → list_any (λ x. x.number == c) (unleft (entries_of S)) ≡ true
-live_unleft d S c s h =
-    let p = λ (x : Connection). x.number == c in
-    let q = λ (r : Row). p (connection r) in
-    ap (list_any p) (sym s.unleft_rows) ∙ any_mapped p d.rows.items
-    ∙ any_kept q is_open d.rows.items (sym (any_mapped p (filter is_open d.rows.items)) ∙ ap (list_any p) (sym (live_rows d S s)) ∙ h)
 
 -- of those that joined, the one with the number of a connection that hasn't left is that connection
 numbered_unleft : (a : About) (H : List Entry) (x : Connection) → Legal a H → In x (unleft H) → numbered x.number (joined H) ≡ Some x
@@ -262,7 +251,7 @@ may_forward t b l i kept hub side k c from (F, w, at, s) q link_read is joins co
     (subst (λ (n : ℕ). IsRowOf hub.desk l n from) (sym conn) (subst (IsRowOf hub.desk l k.conn) (sym vmac) (subst (λ (y : KeptHub). IsRowOf y.desk l k.conn k.vmac) same row)), stands)
 
 -- A side that hasn't joined passes nothing on.
-pub passed_alone : (t : KeptWorld) (F : List LinkName) (w : World) (l i j place : ℕ) (m : List ℕ) (kept : KeptLink) (h : Hub) (link : Link) → LeadsTo t l i → kept ≡ get_or t.links.items l kept → ((side : KeptSide) → kept.side ≡ Some side → side.joined ≡ None) → WorldKeptAs t F None w → IsSideOf w l j h link → WasPassed Alone t t F w j h link l place m
+pub passed_alone : (t : KeptWorld) (F : List LinkName) (w : World) (l i j place : ℕ) (m : List ℕ) (kept : KeptLink) (h : Hub) (link : Link) → LeadsTo t l i → kept ≡ get_or t.links.items l kept → ((side : KeptSide) → kept.side ≡ Some side → side.joined ≡ None) → WorldKeptAs t F None w → IsSideOf w l j h link → WasPassed Alone t t (call_at F w j h l place) link m
 passed_alone t F w l i j place m kept h link q link_read none s p =
     let was = read_there t.links.items l q.kept kept q.there link_read in
     let to = target_at t F None w l j h link kept s p was in
@@ -284,7 +273,7 @@ conn_then t F w l j kept side k c h link was is joins conn s p =
     ap (λ (y : Link). y.side.conn) (some_same link x.link (sym p.there ∙ x.there)) ∙ q.conn ∙ ap Some (sym conn)
 
 pub passed_worn : (t u : KeptWorld) (F : List LinkName) (w : World) (l i j place : ℕ) (m : List ℕ) (kept : KeptLink) (side : KeptSide) (k : KeptConn) (c : ℕ) (hub : KeptHub) (h : Hub) (link : Link) → LeadsTo t l i → kept ≡ get_or t.links.items l kept → kept.side ≡ Some side → side.joined ≡ Some k → c ≡ k.conn → hub ≡ get_or t.hubs.items i hub
-    → ((S : List Stamped) → DeskStands hub.desk S → nat_le hub.desk.about.limits.calls (length S) ≡ true) → u ≡ t → WorldKeptAs t F None w → IsSideOf w l j h link → WasPassed PassedWorn t u F w j h link l place m
+    → ((S : List Stamped) → DeskStands hub.desk S → nat_le hub.desk.about.limits.calls (length S) ≡ true) → u ≡ t → WorldKeptAs t F None w → IsSideOf w l j h link → WasPassed PassedWorn t u (call_at F w j h l place) link m
 passed_worn t u F w l i j place m kept side k c hub h link q link_read is joins conn read says same_world s p =
     let was = read_there t.links.items l q.kept kept q.there link_read in
     let at = hub_is t F None w l i j h link q s p in
@@ -308,7 +297,7 @@ may_meet_each t u l i place c m passing hub after (F, w, at, s) within read o sa
     (t, w, y.0, a, forward_entry l c m f.1.looks f.1.reply, midway_start t u F w i l c place m passing y.0 a after s (ap (λ xs. slice_get xs i) o.hubs ∙ get-set_here t.hubs.items i hub after was) o f.1)
 
 pub passed_made : (t u v : KeptWorld) (F : List LinkName) (w : World) (l i j place : ℕ) (m : List ℕ) (passing : Passing) (kept : KeptLink) (side : KeptSide) (k : KeptConn) (c : ℕ) (hub after : KeptHub) (h : Hub) (link : Link) → LeadsTo t l i → kept ≡ get_or t.links.items l kept → kept.side ≡ Some side → side.joined ≡ Some k → c ≡ k.conn → hub ≡ get_or t.hubs.items i hub → MidwayTo u v i place passing 0 (length (looked_at passing)) → OnHub t u i after
-    → ((S : List Stamped) → DeskStands hub.desk S → (nat_le hub.desk.about.limits.calls (length S) ≡ false) × HasForwarded S l c m passing hub after) → WorldKeptAs t F None w → IsSideOf w l j h link → WasPassed Made t v F w j h link l place m
+    → ((S : List Stamped) → DeskStands hub.desk S → (nat_le hub.desk.about.limits.calls (length S) ≡ false) × HasForwarded S l c m passing hub after) → WorldKeptAs t F None w → IsSideOf w l j h link → WasPassed Made t v (call_at F w j h l place) link m
 passed_made t u v F w l i j place m passing kept side k c hub after h link q link_read is joins conn read meets o says s p =
     let was = read_there t.links.items l q.kept kept q.there link_read in
     let at : i ≡ j = hub_is t F None w l i j h link q s p in

@@ -16,7 +16,7 @@ use Rattle.bsc_node.specs.Events.{follows}
 use Rattle.bsc_node.specs.Laws.{draws, with_event}
 use Rattle.bsc_node.specs.Conditions.{brings_word, fits, is_start, may_come}
 use Rattle.bsc_node.specs.Links.{begins_in_slots}
-use Rattle.bsc_node.proofs.Following.{opened-dialled, goes_on-is}
+use Rattle.bsc_node.proofs.Following.{opened-dialled, goes_on-is, brought-one as lines-one, brought-two as lines-two}
 use Rattle.bsc_node_core.specs.declared.node.Node.{Node as Core}
 use Rattle.bsc_node_core.specs.Node.{NodeStands, NodeAnswers}
 use Rattle.bsc_world.specs.declared.kept_node.KeptNode.{KeptNode}
@@ -25,7 +25,7 @@ use Rattle.bsc_network.specs.Worlds.{World, Node}
 use Rattle.bsc_world.specs.Kept.{IsCalm, IsNodeKept}
 use Rattle.bsc_world.specs.Standing.{WorldKeptAs}
 use Rattle.bsc_world.specs.Coming.{BeginsNamed, HasHeard, HearsAt, HearsIf, NodeHears, is_start_event, lines_of, with_lines}
-use Rattle.bsc_world.proofs.Calm.{no_event, calm_then, lines-one, lines-two, may_then, none-follows, now_then}
+use Rattle.bsc_world.proofs.Calm.{no_event, calm_then, may_then, none-follows, now_then}
 use Rattle.bsc_world.proofs.Ends.{node_there, no_node_there}
 use Rattle.bsc_world.proofs.Goings.{became_same}
 use Rattle.bsc_world.proofs.Spots.{NodeChange, node_changed}

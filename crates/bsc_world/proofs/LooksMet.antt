@@ -26,8 +26,8 @@ use Rattle.bsc_world.specs.declared.world.World.{World as KeptWorld}
 use Rattle.bsc_network.specs.Worlds.{World, Hub, Link, history}
 use Rattle.bsc_world.specs.Passing.{LinkMet, MayMeet, Midway, is_one, looked_at}
 use Rattle.bsc_world.specs.Standing.{IsHubAt}
+use Rattle.bsc_script.proofs.Entered.{live_unleft}
 use Rattle.bsc_world.proofs.Entering.{history-more}
-use Rattle.bsc_world.proofs.ForwardCalls.{live_unleft}
 use Rattle.bsc_world.proofs.QuietEntries.{legal_at, one_owner}
 use Rattle.bsc_world.proofs.SideMeetings.{may_meet, midway_meet}
 use Rattle.bsc_world.proofs.Unlooked.{any_next, conns_apart, not_before}

@@ -25,7 +25,7 @@ use Rattle.bsc_network.specs.HubSides.{closes, connects, forwards, gets_reply, j
 use Rattle.bsc_world.specs.Kept.{IsConnKeptIf, IsSideKept, IsSideKeptIf}
 use Rattle.bsc_world.specs.Standing.{WorldKeptAs}
 use Rattle.bsc_world.specs.Becoming.{Became, Becomes, BecomesBusy, HasSide, Stands}
-use Rattle.bsc_world.specs.Sides.{IsSideOf, KeepsMachine, WasAsked, WasPassed}
+use Rattle.bsc_world.specs.Sides.{IsSideOf, KeepsMachine, WasAsked, WasPassed, call_at}
 use Rattle.bsc_world.specs.SideCalls.{Finds}
 use Rattle.bsc_network.proofs.Places.{get-changed}
 use Rattle.bsc_world.proofs.Entering.{with_entry}
@@ -35,10 +35,10 @@ use Rattle.bsc_world.proofs.SideCalls.{side_with, unless_none}
 
 -- what is known of a call that is made where a session lasts
 abbrev pub Asks : Asked → KeptWorld → KeptWorld → ℕ → ℕ → Identity → Type 0
-Asks asked t u l place who = (F : List LinkName) (w : World) → w.now ≡ t.clock → WorldKeptAs t F (Some l) w → (j : ℕ) (h : Hub) (x : Link) → IsSideOf w l j h x → WasAsked asked t u F w j h l place who
+Asks asked t u l place who = (F : List LinkName) (w : World) → w.now ≡ t.clock → WorldKeptAs t F (Some l) w → (j : ℕ) (h : Hub) (x : Link) → IsSideOf w l j h x → WasAsked asked t u (call_at F w j h l place) who
 
 abbrev pub Passes : Passed → KeptWorld → KeptWorld → ℕ → ℕ → List ℕ → Type 0
-Passes passed t u l place m = (F : List LinkName) (w : World) → w.now ≡ t.clock → WorldKeptAs t F None w → (j : ℕ) (h : Hub) (x : Link) → IsSideOf w l j h x → WasPassed passed t u F w j h x l place m
+Passes passed t u l place m = (F : List LinkName) (w : World) → w.now ≡ t.clock → WorldKeptAs t F None w → (j : ℕ) (h : Hub) (x : Link) → IsSideOf w l j h x → WasPassed passed t u (call_at F w j h l place) x m
 
 -- a session lasts on where its hub has an entry more
 side_called : (w : World) (l j : ℕ) (h : Hub) (x : Link) (place : ℕ) (call : Call) → IsSideOf w l j h x → IsSideOf (called j l place call w) l j (with_entry h (entry_in w h l call) place) x

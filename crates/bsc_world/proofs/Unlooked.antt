@@ -23,7 +23,8 @@ use Rattle.bsc_history.proofs.Lists.{In, In_from_all, any_In, any_gives}
 use Rattle.bsc_history.proofs.More.{looked-more}
 use Rattle.bsc_history.proofs.Named.{among_filter, live_until_ended, none_live}
 use Rattle.bsc_script.proofs.Pairs.{In-at}
-use Rattle.bsc_script.proofs.Touched.{among_In, looks_apart, newest_of}
+use Rattle.bsc_history.proofs.Capacity.{newest_of}
+use Rattle.bsc_script.proofs.Touched.{among_In, looks_apart}
 use Rattle.bsc_lemmas.proofs.Booleans.{not_or, or_false}
 
 -- ---- one connection

@@ -1,14 +1,11 @@
 -- What the calls of a hub and the steps of its sides say: words of inner functions.
-use Rattle.std.specs.Prelude.{◌≡◌, ℕ, true, false, List, slice_get, Option, Some, None, ⊤}
+use Rattle.std.specs.Prelude.{◌≡◌, ℕ, true, false, List, slice_get, Option, Some, None}
 use Rattle.bsc_octets.specs.declared.identity.Identity.{Identity}
-use Rattle.bsc_octets.specs.Addresses.{same_vmac, zero_vmac, broadcast}
-use Rattle.bsc_octets.specs.Forwarding.{has_route}
 use Rattle.bsc_history.specs.declared.call.Call.TheVariants.{Connect, Forward}
 use Rattle.bsc_history.specs.declared.reply.Reply.TheVariants.{Joined as JoinedReply, Refused as RefusedReply}
 use Rattle.bsc_checks.specs.declared.phase.Phase.TheVariants.{AwaitingRequest}
 use Rattle.bsc_accept.specs.declared.event.Event.TheVariants.{Message as Came}
 use Rattle.bsc_accept.specs.declared.step.Step.{Step}
-use Rattle.bsc_accept.specs.declared.step.Step.TheVariants.{Ask, Up}
 use Rattle.bsc_accept.specs.Standing.{LeavesAccepting, phase_of}
 use Rattle.bsc_accept.specs.Steps.{closes}
 use Rattle.bsc_node.specs.declared.link_name.LinkName.{LinkName}
@@ -36,23 +33,43 @@ pub record IsSideOf (w : World) (l j : ℕ) (h : Hub) (link : Link) : Type 0 whe
 
 -- ---- calls
 
+-- A call of a hub that the side of a link makes, and the network in which it is made.
+pub record CallAt : Type 0 where
+  -- the dials that failed whose node wasn't told yet
+  pub failed : List LinkName
+  -- the network before the call
+  pub world : World
+  -- the number of the hub
+  pub number : ℕ
+  -- the hub
+  pub hub : Hub
+  -- the number of the link
+  pub link : ℕ
+  -- the place at which its entry is to stand
+  pub place : ℕ
+
+abbrev pub call_at : List LinkName → World → ℕ → Hub → ℕ → ℕ → CallAt
+call_at failed world number hub link place = record { failed = failed; world = world; number = number; hub = hub; link = link; place = place }
+
 -- What a connect comes to: it was worn and nothing changed, or its entry was made, and where who asked joined its side has
 -- the connection.
-abbrev pub WasAsked : Asked → KeptWorld → KeptWorld → List LinkName → World → ℕ → Hub → ℕ → ℕ → Identity → Type 0
-WasAsked AskedWorn old new failed w j h l place who = (is_worn h ≡ true) × (new ≡ old)
-WasAsked AskedJoined old new failed w j h l place who =
-    (is_worn h ≡ false) × ((conn : ℕ) × (replaced : Option ℕ) × (reply_in w h (Connect who) ≡ JoinedReply conn replaced)
-    × Became old new failed (Some l) w (with_side l (λ s. record s { conn = Some conn }) (called j l place (Connect who) w)))
-WasAsked (AskedRefused refusal) old new failed w j h l place who =
-    (is_worn h ≡ false) × (reply_in w h (Connect who) ≡ RefusedReply refusal)
-    × Became old new failed (Some l) w (called j l place (Connect who) w)
+abbrev pub WasAsked : Asked → KeptWorld → KeptWorld → CallAt → Identity → Type 0
+WasAsked AskedWorn old new x who = (is_worn x.hub ≡ true) × (new ≡ old)
+WasAsked AskedJoined old new x who =
+    (is_worn x.hub ≡ false) × ((conn : ℕ) × (replaced : Option ℕ) × (reply_in x.world x.hub (Connect who) ≡ JoinedReply conn replaced)
+    × Became old new x.failed (Some x.link) x.world
+    (with_side x.link (λ s. record s { conn = Some conn }) (called x.number x.link x.place (Connect who) x.world)))
+WasAsked (AskedRefused refusal) old new x who =
+    (is_worn x.hub ≡ false) × (reply_in x.world x.hub (Connect who) ≡ RefusedReply refusal)
+    × Became old new x.failed (Some x.link) x.world (called x.number x.link x.place (Connect who) x.world)
 
 -- What a forward comes to: the side hasn't joined, or it was worn, and nothing changed; or its entry was made.
-abbrev pub WasPassed : Passed → KeptWorld → KeptWorld → List LinkName → World → ℕ → Hub → Link → ℕ → ℕ → List ℕ → Type 0
-WasPassed Alone old new failed w j h link l place m = (link.side.conn ≡ None) × (new ≡ old)
-WasPassed PassedWorn old new failed w j h link l place m = ((c : ℕ) × (link.side.conn ≡ Some c)) × (is_worn h ≡ true) × (new ≡ old)
-WasPassed Made old new failed w j h link l place m =
-    (c : ℕ) × (link.side.conn ≡ Some c) × (is_worn h ≡ false) × Became old new failed None w (called j l place (Forward c m) w)
+abbrev pub WasPassed : Passed → KeptWorld → KeptWorld → CallAt → Link → List ℕ → Type 0
+WasPassed Alone old new x link m = (link.side.conn ≡ None) × (new ≡ old)
+WasPassed PassedWorn old new x link m = ((c : ℕ) × (link.side.conn ≡ Some c)) × (is_worn x.hub ≡ true) × (new ≡ old)
+WasPassed Made old new x link m =
+    (c : ℕ) × (link.side.conn ≡ Some c) × (is_worn x.hub ≡ false)
+    × Became old new x.failed None x.world (called x.number x.link x.place (Forward c m) x.world)
 
 -- ---- machines
 
@@ -61,13 +78,6 @@ WasPassed Made old new failed w j h link l place m =
 pub record IsReadyBy (step : Step) (side : KeptSide) : Type 0 where
   pub left : LeavesAccepting step side.machine
   pub asked : closes step ≡ false → (joined : KeptConn) → side.joined ≡ Some joined → phase_of side.machine ≡ AwaitingRequest → ⊥
-
--- What is known of a step that a message led to: who asks has an address of a node, and the side hasn't joined; and what is
--- carried has a route.
-abbrev pub AsksOf : List ℕ → KeptSide → Step → Type 0
-AsksOf m side (Ask who) = (same_vmac who.vmac zero_vmac ≡ false) × (same_vmac who.vmac broadcast ≡ false) × (side.joined ≡ None)
-AsksOf m side Up = has_route m ≡ true
-AsksOf m side step = ⊤
 
 -- What a message comes to at a side: nothing where there is none, or the step of its machine, which was told it.
 abbrev pub Heard : Option Step → ℕ → List ℕ → KeptWorld → KeptWorld → List LinkName → World → Type 0

@@ -166,7 +166,8 @@ impl World {
         requires unjoined { HasSide self.old link (λ side. side.joined ≡ None) }
         ensures machine { KeepsMachine link self.old self.new }
         ensures made { IfOk result (λ asked. (F : List NameOf) (w : WorldOf) → w.now ≡ self.old.clock → WorldKeptAs self.old F (Some link) w
-            → (j : ℕ) (h : Hub) (at : LinkOf) → IsSideOf w link j h at → WasAsked asked self.old self.new F w j h link place who) }
+            → (j : ℕ) (h : Hub) (at : LinkOf) → IsSideOf w link j h at → WasAsked asked self.old self.new
+            (record { failed = F; world = w; number = j; hub = h; link = link; place = place }) who) }
     {
         let Some(hub) = self.hub_of(link) else {
             return Ok(Asked::Worn);
@@ -198,7 +199,8 @@ impl World {
         requires some { Stands None self.old }
         ensures { IfOk result (λ passed. (F : List NameOf) (w : WorldOf) → w.now ≡ self.old.clock
             → WorldKeptAs self.old F None w
-            → (j : ℕ) (h : Hub) (at : LinkOf) → IsSideOf w link j h at → WasPassed passed self.old self.new F w j h at link place m.now) }
+            → (j : ℕ) (h : Hub) (at : LinkOf) → IsSideOf w link j h at → WasPassed passed self.old self.new
+            (record { failed = F; world = w; number = j; hub = h; link = link; place = place }) at m.now) }
     {
         let Some(hub) = self.hub_of(link) else {
             return Ok(Passed::Alone);

@@ -21,7 +21,8 @@ AnswersError (E.Io cause) answer =
     ⊎ ((error_kind cause ≢ WouldBlock) × (answer ≡ Err Failed))
 AnswersError e answer = answer ≡ Err Failed
 
--- What is answered where the socket read this: the octets of a binary message unless there is no memory for them, Text, Quiet of a ping and a pong, Closed of a close.
+-- What is answered where the socket read this: the octets of a binary message unless there is no memory for them, Text,
+-- Quiet of a ping and a pong, Closed of a close.
 abbrev pub AnswersRead : Result Message Error → Result Incoming LinkFault → Type 0
 AnswersRead (Ok (M.Binary octets)) answer = (answer ≡ Ok (In.Message octets)) ⊎ (answer ≡ Err NoMemory)
 AnswersRead (Ok (M.Text text)) answer = answer ≡ Ok In.Text

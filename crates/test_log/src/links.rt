@@ -76,7 +76,7 @@ const VALUES: [(&[u8], bool); 6] = [
 #[test]
 fn a_log_is_asked_for_by_1(rt: HostRuntime) {
     for (value, asks) in VALUES {
-        assert!(rt; logging_of(Set(value), rt.alloc(), Kind::Hub).is_some() == asks);
-        assert!(rt; logging_of(Set(value), rt.alloc(), Kind::Direct).is_none());
+        assert!(rt; logging_of(Set(value), rt.stderr(), rt.alloc(), Kind::Hub).is_some() == asks);
+        assert!(rt; logging_of(Set(value), rt.stderr(), rt.alloc(), Kind::Direct).is_none());
     }
 }

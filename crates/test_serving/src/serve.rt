@@ -60,14 +60,22 @@ fn prefix_beside(_: &Arc<Hub>) -> &str {
     "j"
 }
 
-/// Serves these links at a hub, and gives the spawner back. The calls of the acceptor with these numbers fail.
+/// What an acceptor gives.
+#[derive(Drop)]
+struct Arriving<'a> {
+    /// The links that arrive.
+    links: Vec<CuedLink>,
+    /// The numbers of the calls that fail.
+    failing: &'a [u64],
+}
+
+/// Serves what arrives at a hub, and gives the spawner back.
 fn serve<'a, R: Wait, P: Spawner<Session>>(
     rt: &'a R,
     alloc: Global,
     hub: &'a Arc<Hub>,
     pass: &mut Pass,
-    links: Vec<CuedLink>,
-    failing: &[u64],
+    arriving: Arriving<'_>,
     spawner: P,
     books: &mut Books,
 ) -> (ServeEnd, P)
@@ -75,6 +83,7 @@ fn serve<'a, R: Wait, P: Spawner<Session>>(
     requires can { P.can_start spawner }
     ensures { IsCaller (arc_value hub.now) pass.new }
 {
+    let Arriving { links, failing } = arriving;
     let terms = ServeTerms {
         limits: LIMITS,
         turns: TURNS,
@@ -126,7 +135,11 @@ fn served<R: Wait, P: Spawner<Session> + Drop>(
 {
     let (hub, mut pass) = new_hub(alloc, callers)?;
     let mut books = Books::new(alloc, false, 0, false);
-    Ok(serve(rt, alloc, &hub, &mut pass, links, &[], spawner, &mut books))
+    let arriving = Arriving {
+        links,
+        failing: &[],
+    };
+    Ok(serve(rt, alloc, &hub, &mut pass, arriving, spawner, &mut books))
 }
 
 /// Serves these links at a new hub, each session in a thread of its own.
@@ -263,7 +276,8 @@ fn served_until<R: Wait>(
     let scene = Scene::new(alloc)?;
     let links = links(alloc, &scene, &[CLOSING, CLOSING])?;
     let spawner = MemSpawner::new(alloc, &[]);
-    let (end, _spawner) = serve(rt, alloc, hub, pass, links, failing, spawner, books);
+    let arriving = Arriving { links, failing };
+    let (end, _spawner) = serve(rt, alloc, hub, pass, arriving, spawner, books);
     Ok(end)
 }
 

@@ -11,6 +11,9 @@ use std::alloc::Global;
 use std::sync::Wait;
 use std::test::Fail;
 
+/// The last octet of the address of the second caller.
+const SECOND: u8 = 2;
+
 /// To how many a broadcast was sent.
 fn reached(told: Result<Told<AllReply>, AllRefusal>) -> Option<usize> {
     match told {
@@ -45,7 +48,7 @@ fn tell_all<R: Wait>(
     reached(told)
 }
 
-/// Broadcasts, and then sends a unicast to `to`. Another caller takes the pass in.
+/// Broadcasts, and then sends a unicast to the second caller. Another caller takes the pass in.
 fn tell<R: Wait>(
     rt: &R,
     alloc: Global,
@@ -53,7 +56,6 @@ fn tell<R: Wait>(
     pass: Pass,
     conn: u64,
     from: u8,
-    to: u8,
     other: &mut Pass,
 ) -> Option<(usize, u64, OneReply)>
     requires pass { IsCaller hub.now pass × IsOwnAs pass conn (vmac_at from) }
@@ -62,7 +64,7 @@ fn tell<R: Wait>(
 {
     let mut pass = pass;
     let reached = tell_all(rt, alloc, hub, &mut pass, conn, from)?;
-    let message = [1, 4, 0, 2, 2, 0, 0, 0, 0, to];
+    let message = [1, 4, 0, 2, 2, 0, 0, 0, 0, SECOND];
     let Ok(frame) = prepare(alloc, &message, address(from)) else {
         return None;
     };
@@ -136,10 +138,10 @@ fn two_callers_and_no_more(rt: HostRuntime) -> Result<(), Fail> {
     let Some((conn, _outlet)) = enter(&rt, rt.alloc(), &hub, &mut first, 1) else {
         panic!(rt; "the first joins");
     };
-    let Some((other, mut outlet)) = enter(&rt, rt.alloc(), &hub, &mut second, 2) else {
+    let Some((other, mut outlet)) = enter(&rt, rt.alloc(), &hub, &mut second, SECOND) else {
         panic!(rt; "the second joins");
     };
-    let Some(told) = tell(&rt, rt.alloc(), &hub, first, conn, 1, 2, &mut second) else {
+    let Some(told) = tell(&rt, rt.alloc(), &hub, first, conn, 1, &mut second) else {
         panic!(rt; "the first sends");
     };
     let look = Look {

@@ -160,7 +160,7 @@ fn send_once<R: Wait>(
     sent(told, from, id)
 }
 
-/// Sends unicast `id` until it is told as appended, and answers how many calls that took.
+/// Sends unicast `id` until it is told as appended, and answers how many calls that took, and the note of it.
 fn insist<R: Wait>(
     rt: &R,
     alloc: Global,
@@ -169,8 +169,7 @@ fn insist<R: Wait>(
     conn: u64,
     from: u8,
     id: u16,
-    notes: &mut Vec<Note>,
-) -> u64
+) -> (u64, Note)
     requires { IsCaller hub.now pass.old × IsOwnAs pass.old conn (vmac_at from) }
     ensures { IsCaller hub.now pass.new × IsOwnAs pass.new conn (vmac_at from) }
 {
@@ -178,8 +177,7 @@ fn insist<R: Wait>(
     for _ in rt.forever() {
         calls = calls.saturating_add(1);
         if let Some(note) = send_once(rt, alloc, hub, pass, conn, from, id) {
-            let _memory = notes.push(note);
-            return calls;
+            return (calls, note);
         }
         thread::yield_now();
     }
@@ -201,7 +199,8 @@ fn send_all<R: Wait>(
 {
     let mut calls = 0u64;
     for id in 0..EACH {
-        let more = insist(rt, alloc, hub, pass, conn, from, id, notes);
+        let (more, note) = insist(rt, alloc, hub, pass, conn, from, id);
+        let _memory = notes.push(note);
         calls = calls.saturating_add(more);
     }
     calls

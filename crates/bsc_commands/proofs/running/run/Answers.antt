@@ -43,7 +43,7 @@ returns-in-Ok-clause-node g c path script named =
     c.run_asked.ensures.node path script (asks_same (asked_in read) (seen c.in-Ok.asked) (node path script) asked named)
 
 pub returns-in-Err-clause-replayed : goal.returns-in-Err-clause-replayed
-returns-in-Err-clause-replayed g c o t named left held =
+returns-in-Err-clause-replayed g c named o t left held =
     let none = λ (e : c.in-Err.fault ≡ Refused). c.args.read.now.refused (c.in-Err.is ∙ ap Err e) in
     let out = ran_out c.in-Err.fault (asked_in c.args.read.now) replay c.end_unasked.result
     (g.K.Sink.held c.args.outside.now.sink) (g.K.Sink.held c.end_unasked.new.sink) none c.end_unasked.ensures.ran_out named in
@@ -51,7 +51,7 @@ returns-in-Err-clause-replayed g c o t named left held =
     (g.S.Source.faults c.args.outside.now.source) (g.S.Source.faults c.args.outside.now.source) left held out
 
 pub returns-in-Err-clause-simulated : goal.returns-in-Err-clause-simulated
-returns-in-Err-clause-simulated g c o t named left held =
+returns-in-Err-clause-simulated g c named o t left held =
     let none = λ (e : c.in-Err.fault ≡ Refused). c.args.read.now.refused (c.in-Err.is ∙ ap Err e) in
     let out = ran_out c.in-Err.fault (asked_in c.args.read.now) simulate c.end_unasked.result
     (g.K.Sink.held c.args.outside.now.sink) (g.K.Sink.held c.end_unasked.new.sink) none c.end_unasked.ensures.ran_out named in
@@ -74,10 +74,10 @@ returns-in-Ok-clause-delivered g c o t named left held =
     let asked = said (asked_in read) read.asked c.in-Ok.asked c.in-Ok.is read.ok in
     writes_what_was_sent c.run_asked.result o t (g.S.Source.left c.run_asked.new.outside.source) (g.K.Sink.held c.run_asked.new.outside.sink)
     (g.S.Source.faults c.args.outside.now.source) (g.S.Source.faults c.run_asked.new.outside.source)
-    (c.run_asked.ensures.simulated o t (asks_same (asked_in read) (seen c.in-Ok.asked) simulate asked named) left held)
+    (c.run_asked.ensures.simulated (asks_same (asked_in read) (seen c.in-Ok.asked) simulate asked named) o t left held)
 
 pub returns-in-Err-clause-checked : goal.returns-in-Err-clause-checked
-returns-in-Err-clause-checked g c o t named left held =
+returns-in-Err-clause-checked g c named o t left held =
     let none = λ (e : c.in-Err.fault ≡ Refused). c.args.read.now.refused (c.in-Err.is ∙ ap Err e) in
     let out = ran_out c.in-Err.fault (asked_in c.args.read.now) check c.end_unasked.result
     (g.K.Sink.held c.args.outside.now.sink) (g.K.Sink.held c.end_unasked.new.sink) none c.end_unasked.ensures.ran_out named in

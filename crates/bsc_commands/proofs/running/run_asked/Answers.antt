@@ -3,9 +3,10 @@ use Rattle.clap.specs.Words.{Text}
 use Rattle.bsc_policy.specs.declared.policy.Policy.{Policy}
 use Rattle.bsc_settings.specs.declared.hub.HubSettings.{HubSettings}
 use Rattle.bsc_session.specs.Jobs.{Worked}
-use Rattle.bsc_hub_command.specs.Served.{HubRuns, HubWorld}
+use Rattle.bsc_hub_command.specs.Served.{HubRuns, HubWorld, telling}
 use Rattle.bsc_hub_command.specs.Settled.{IsSettled, Unsettled}
 use Rattle.bsc_node_run.specs.declared.due.Due.{Due}
+use Rattle.bsc_node_run.specs.Drawing.{Draws}
 use Rattle.bsc_node_run.specs.Scripts.{script_of, wish_of}
 use Rattle.bsc_node_run.specs.Worlds.{admitting, dialling}
 use Rattle.bsc_node_runs.specs.Courses.{FinishCame}
@@ -24,8 +25,7 @@ returns-in-Hub-clause-hub g c path sessions journal made named kept =
     let before : HubWorld g.row.L.Denot g.row.C.Denot g.row.N.Denot = record { links = A.left c.args.outside.now.parts.acceptor; waits = A.waits c.args.outside.now.parts.acceptor; port = A.bound c.args.outside.now.parts.acceptor; faults = A.faults c.args.outside.now.parts.acceptor; jobs = P.jobs c.args.outside.now.parts.spawner; out = P.out c.args.outside.now.parts.spawner; unstarted = P.faults c.args.outside.now.parts.spawner; unbegun = g.J.Journals.faults c.args.outside.now.parts.journals; written = g.K.Sink.held c.args.outside.now.sink } in
     let after : HubWorld g.row.L.Denot g.row.C.Denot g.row.N.Denot = record { links = A.left c.run_hub.new.parts.acceptor; waits = A.waits c.run_hub.new.parts.acceptor; port = A.bound c.run_hub.new.parts.acceptor; faults = A.faults c.run_hub.new.parts.acceptor; jobs = P.jobs c.run_hub.new.parts.spawner; out = P.out c.run_hub.new.parts.spawner; unstarted = P.faults c.run_hub.new.parts.spawner; unbegun = g.J.Journals.faults c.run_hub.new.parts.journals; written = g.K.Sink.held c.run_hub.new.sink } in
     of_hub (λ (p : Text) (n : Option ℕ) (j : Option Text). (v : HubSettings) × (policy : Option Policy) × IsSettled (g.F.Files.holds c.args.outside.now.files p) v policy
-    × HubRuns (Worked g.L.Link.talk g.L.Link.faults g.C.Clock.readings g.N.Sink.held g.N.Sink.faults) g.J.Journals.begins g.N.Sink.held g.N.Sink.faults
-    (record { settings = v; policy = policy; sessions = n; prefix = j }) c.run_hub.new.place.kept c.run_hub.new.place.own before after c.run_hub.result)
+    × HubRuns (telling (Worked g.L.Link.talk g.L.Link.faults g.C.Clock.readings g.N.Sink.held g.N.Sink.faults) g.J.Journals.begins g.N.Sink.held g.N.Sink.faults) (record { settings = v; policy = policy; sessions = n; prefix = j }) c.run_hub.new.place before after c.run_hub.result)
     c.in-Hub.path.now path c.in-Hub.sessions sessions (option_map (λ q. q.now) c.in-Hub.journal) journal (sym (ap seen c.in-Hub.is) ∙ named) (c.run_hub.ensures.runs made kept)
 
 pub returns-in-Hub-clause-no_hub : goal.returns-in-Hub-clause-no_hub
@@ -45,7 +45,7 @@ returns-in-Node-clause-node g c path script named =
     let F = g.F.Files in
     let before : CommandWorld g.row.L.Denot g.row.W.Denot = record { unread = F.faults c.args.outside.now.files; beside = record { dialled = dialling D.calls D.left D.faults c.args.outside.now.node.dialer; door = admitting A.left A.waits c.args.outside.now.parts.acceptor; port = A.bound c.args.outside.now.parts.acceptor; faults = A.faults c.args.outside.now.parts.acceptor; readings = C.readings c.args.outside.now.parts.clock; waited = V.waits c.args.outside.now.node.waiter; random = c.args.outside.now.node.random; written = g.K.Sink.held c.args.outside.now.sink } } in
     let after : CommandWorld g.row.L.Denot g.row.W.Denot = record { unread = F.faults c.run_node_files.new.files; beside = record { dialled = dialling D.calls D.left D.faults c.run_node_files.new.parts.dialer; door = admitting A.left A.waits c.run_node_files.new.acceptor; port = A.bound c.run_node_files.new.acceptor; faults = A.faults c.run_node_files.new.acceptor; readings = C.readings c.run_node_files.new.clock; waited = V.waits c.run_node_files.new.parts.waiter; random = c.run_node_files.new.parts.random; written = g.K.Sink.held c.run_node_files.new.sink } } in
-    of_node (λ (p q : Text). RunsFiles g.L.Link.talk g.W.Words.gives g.W.Words.faults (F.holds c.args.outside.now.files p) (F.holds c.args.outside.now.files q) before after c.run_node_files.result)
+    of_node (λ (p q : Text). RunsFiles g.L.Link.talk (Draws g.W.Words.gives g.W.Words.faults) (record { settings = F.holds c.args.outside.now.files p; script = F.holds c.args.outside.now.files q }) before after c.run_node_files.result)
     c.in-Node.path.now path c.in-Node.script.now script (sym (ap seen c.in-Node.is) ∙ named) c.run_node_files.ensures.runs
 
 pub returns-in-Node-clause-finished : goal.returns-in-Node-clause-finished

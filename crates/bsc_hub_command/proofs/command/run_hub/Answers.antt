@@ -1,7 +1,7 @@
 use Rattle.std.proofs.Common.{List, ℕ, Option, subst}
 use Rattle.std.specs.Prelude.{option_map}
 use Rattle.bsc_session.specs.Jobs.{Worked, policy_of}
-use Rattle.bsc_hub_command.specs.Served.{HubRuns, HubTerms, HubWorld}
+use Rattle.bsc_hub_command.specs.Served.{HubRuns, HubTerms, HubWorld, telling}
 use Rattle.bsc_hub_command.proofs.Binding.{sooner}
 use Rattle.bsc_hub_command.proofs.command.run_hub.Goals as goal
 
@@ -19,7 +19,7 @@ returns-in-Ok-clause-runs g c hub is =
       c.in-Ok.settings.hub,
       policy,
       c.in-Ok.ensures.settled.0,
-      subst (λ (t : Option (List ℕ)). HubRuns W J.begins N.held N.faults asked c.serve.new.place.kept c.serve.new.place.own (before t) after c.serve.result)
+      subst (λ (t : Option (List ℕ)). HubRuns (telling W J.begins N.held N.faults) asked c.serve.new.place (before t) after c.serve.result)
           c.in-Ok.ensures.settled.1 (c.serve.ensures.runs hub is),
     )
 

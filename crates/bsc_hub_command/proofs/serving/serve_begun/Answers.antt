@@ -1,7 +1,7 @@
 use Rattle.std.proofs.Common.{Err, ap, inl, inr, refl, subst, ℕ, ◌∙◌}
 use Rattle.std.specs.Arc.{arc_value}
 use Rattle.bsc_session.specs.Jobs.{Worked}
-use Rattle.bsc_hub_command.specs.Served.{HubTerms, HubWorld, terms_in}
+use Rattle.bsc_hub_command.specs.Served.{HubTerms, HubWorld, telling, terms_in}
 use Rattle.bsc_hub_command.proofs.Binding.{says_lost, titling_since, written_so}
 use Rattle.bsc_hub_command.proofs.serving.serve_begun.Goals as goal
 
@@ -22,7 +22,7 @@ returns-in-Ok-clause-went g c =
       of_pass = subst (λ (n : ℕ). J.begins asked.prefix n c.in-Ok.begun) c.number.ensures c.in-Ok.ensures.begun;
       fresh = c.in-Ok.ensures.fresh;
       keeps = refl;
-      went = titling_since W J.begins N.held N.faults (record { hub = arc_value c.args.made.hub.now; first = c.args.pass.now; last = n.pass }) asked c.in-Ok.begun n.own before after
+      went = titling_since (telling W J.begins N.held N.faults) (record { hub = arc_value c.args.made.hub.now; first = c.args.pass.now; last = n.pass }) asked c.in-Ok.begun n.own before after
           (J.faults c.begin.new.self) c.serve_titled-status.result c.serve_titled-status.ensures.went;
     })
 

@@ -1,4 +1,5 @@
 use Rattle.std.proofs.Common.{List, ℕ, Option, inl, inr, refl, subst}
+use Rattle.bsc_node_run.specs.Drawing.{Draws}
 use Rattle.bsc_node_run.specs.Worlds.{admitting, dialling}
 use Rattle.bsc_node_command.specs.Comes.{CommandWorld, NodeWorld, RunsScript}
 use Rattle.bsc_node_command.proofs.Ended.{files_finished}
@@ -8,8 +9,7 @@ use Rattle.bsc_node_command.proofs.command.run_node_files.Goals as goal
 pub returns-in-Ok-clause-runs : goal.returns-in-Ok-clause-runs
 returns-in-Ok-clause-runs g c =
     let talk = g.L.Link.talk in
-    let gives = g.W.Words.gives in
-    let failed = g.W.Words.faults in
+    let drawn = Draws g.W.Words.gives g.W.Words.faults in
     let F = g.F.Files in
     let A = g.A.Acceptor in
     let D = g.D.Dialer in
@@ -24,14 +24,14 @@ returns-in-Ok-clause-runs g c =
     let first : Option (List ℕ) → NodeWorld g.row.L.Denot g.row.W.Denot = λ (t : Option (List ℕ)). record { dialled = dialling D.calls D.left D.faults old.parts.now.dialer; door = admitting A.left A.waits old.acceptor.now; port = A.bound old.acceptor.now; faults = A.faults old.acceptor.now; readings = C.readings old.clock.now; waited = V.waits old.parts.now.waiter; random = old.parts.now.random; written = t } in
     let before : Option (List ℕ) → CommandWorld g.row.L.Denot g.row.W.Denot = λ (t : Option (List ℕ)). record { unread = F.faults mid.files; beside = first t } in
     let after : CommandWorld g.row.L.Denot g.row.W.Denot = record { unread = F.faults c.run_script.new.files; beside = record { dialled = dialling D.calls D.left D.faults c.run_script.new.parts.dialer; door = admitting A.left A.waits c.run_script.new.acceptor; port = A.bound c.run_script.new.acceptor; faults = A.faults c.run_script.new.acceptor; readings = C.readings c.run_script.new.clock; waited = V.waits c.run_script.new.parts.waiter; random = c.run_script.new.parts.random; written = K.held c.run_script.new.sink } } in
-    let ran = subst (λ (t : Option (List ℕ)). RunsScript talk gives failed v (F.holds mid.files path) (before t) after s)
+    let ran = subst (λ (t : Option (List ℕ)). RunsScript talk drawn v (F.holds mid.files path) (before t) after s)
     c.in-Ok.ensures.settled.1 c.run_script.ensures.runs in
-    let held = script_of_more talk gives failed v (F.holds mid.files path) (F.holds old.files.now path) (before (K.held old.sink.now)) after s
+    let held = script_of_more talk drawn v (F.holds mid.files path) (F.holds old.files.now path) (before (K.held old.sink.now)) after s
     (c.load_settings.ensures.stays path) ran in
     inr (
       v,
       c.in-Ok.ensures.settled.0,
-      script_from talk gives failed v (F.holds old.files.now path) (F.faults old.files.now) (F.faults mid.files) (first (K.held old.sink.now)) after s
+      script_from talk drawn v (F.holds old.files.now path) (F.faults old.files.now) (F.faults mid.files) (first (K.held old.sink.now)) after s
           c.load_settings.ensures.reads_later held,
     )
 
@@ -48,5 +48,5 @@ returns-in-Ok-clause-finished g c =
     let K = g.K.Sink in
     let before : CommandWorld g.row.L.Denot g.row.W.Denot = record { unread = F.faults c.args.files.now; beside = record { dialled = dialling D.calls D.left D.faults c.args.parts.now.dialer; door = admitting A.left A.waits c.args.acceptor.now; port = A.bound c.args.acceptor.now; faults = A.faults c.args.acceptor.now; readings = C.readings c.args.clock.now; waited = V.waits c.args.parts.now.waiter; random = c.args.parts.now.random; written = K.held c.args.sink.now } } in
     let after : CommandWorld g.row.L.Denot g.row.W.Denot = record { unread = F.faults c.run_script.new.files; beside = record { dialled = dialling D.calls D.left D.faults c.run_script.new.parts.dialer; door = admitting A.left A.waits c.run_script.new.acceptor; port = A.bound c.run_script.new.acceptor; faults = A.faults c.run_script.new.acceptor; readings = C.readings c.run_script.new.clock; waited = V.waits c.run_script.new.parts.waiter; random = c.run_script.new.parts.random; written = K.held c.run_script.new.sink } } in
-    files_finished g.L.Link.talk g.W.Words.gives g.W.Words.faults (F.holds c.args.files.now c.args.words.path.now) (F.holds c.args.files.now c.args.words.script.now) before after
+    files_finished g.L.Link.talk (Draws g.W.Words.gives g.W.Words.faults) (F.holds c.args.files.now c.args.words.path.now) (F.holds c.args.files.now c.args.words.script.now) before after
     c.run_script.result (returns-in-Ok-clause-runs g c)

@@ -1,4 +1,5 @@
 use Rattle.std.proofs.Common.{List, ℕ, Option, inl, inr, refl, subst, sym}
+use Rattle.bsc_node_run.specs.Drawing.{Draws}
 use Rattle.bsc_node_run.specs.Worlds.{admitting, dialling}
 use Rattle.bsc_node_command.specs.Comes.{Comes, NodeWorld}
 use Rattle.bsc_node_command.proofs.command.run_script.Goals as goal
@@ -16,7 +17,7 @@ returns-in-Ok-clause-runs g c =
     inr (
       c.as_slice.result.now,
       held,
-      subst (λ (t : Option (List ℕ)). Comes g.L.Link.talk g.W.Words.gives g.W.Words.faults c.args.here.settings.now c.as_slice.result.now (before t) after c.run_node.result)
+      subst (λ (t : Option (List ℕ)). Comes g.L.Link.talk (Draws g.W.Words.gives g.W.Words.faults) (record { settings = c.args.here.settings.now; script = c.as_slice.result.now }) (before t) after c.run_node.result)
           c.in-Ok.ensures.given.1 c.run_node.ensures.comes,
     )
 

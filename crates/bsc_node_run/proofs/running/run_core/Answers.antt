@@ -1,5 +1,5 @@
 use Rattle.std.proofs.Common.{ap, arith, inl, inr, refl, None, Some, ◌∷◌, [], ◌++◌, unwrap_or}
-use Rattle.bsc_node_run.specs.Drawing.{GoesDrawing, at_rest}
+use Rattle.bsc_node_run.specs.Drawing.{Draws, GoesDrawing, at_rest}
 use Rattle.bsc_node_run.specs.Worlds.{admitting, dialling, world_of}
 use Rattle.bsc_node_run.proofs.Runs.{grows_none, grows_still, grows_then, one_longer, rise_all, rise_before, rise_more, turns_all, turns_more}
 use Rattle.bsc_node_run.proofs.Resting.{all_left, left_then, rest_so, rests_all, rests_more, rests_now}
@@ -42,9 +42,9 @@ returns-then-set-clause-runs g c = record {
     dialled = refl;
     held = refl;
   };
-  went = turns_all (GoesDrawing g.N.Core.goes g.W.Words.gives g.W.Words.faults) g.L.Link.talk c.args.terms.listens None c.args.terms.script.now (at_rest c.args.node.now c.args.parts.now.random) (world_of c.in_ok-set.set (dialling g.D.Dialer.calls g.D.Dialer.left g.D.Dialer.faults c.args.parts.now.dialer) (g.K.Sink.held c.args.sink.now)) (admitting g.A.Acceptor.left g.A.Acceptor.waits c.args.acceptor.now)
+  went = turns_all (GoesDrawing g.N.Core.goes (Draws g.W.Words.gives g.W.Words.faults)) g.L.Link.talk c.args.terms.listens None c.args.terms.script.now (at_rest c.args.node.now c.args.parts.now.random) (world_of c.in_ok-set.set (dialling g.D.Dialer.calls g.D.Dialer.left g.D.Dialer.faults c.args.parts.now.dialer) (g.K.Sink.held c.args.sink.now)) (admitting g.A.Acceptor.left g.A.Acceptor.waits c.args.acceptor.now)
       (c.loop-made.invariant.times ++ c.in_ok-turn.turn.time ∷ []) (Some (unwrap_or c.loop-made.start c.in_ok-turn.turn.time)) c.in_ok-turn.turn.left.now (at_rest c.node_turn.new.node c.node_turn.new.parts.random) (world_of c.node_turn.new.set (dialling g.D.Dialer.calls g.D.Dialer.left g.D.Dialer.faults c.node_turn.new.parts.dialer) (g.K.Sink.held c.node_turn.new.sink)) (admitting g.A.Acceptor.left g.A.Acceptor.waits c.node_turn.new.acceptor)
-      (turns_more (GoesDrawing g.N.Core.goes g.W.Words.gives g.W.Words.faults) g.L.Link.talk c.args.terms.listens None c.args.terms.script.now (at_rest c.args.node.now c.args.parts.now.random) (world_of c.in_ok-set.set (dialling g.D.Dialer.calls g.D.Dialer.left g.D.Dialer.faults c.args.parts.now.dialer) (g.K.Sink.held c.args.sink.now)) (admitting g.A.Acceptor.left g.A.Acceptor.waits c.args.acceptor.now)
+      (turns_more (GoesDrawing g.N.Core.goes (Draws g.W.Words.gives g.W.Words.faults)) g.L.Link.talk c.args.terms.listens None c.args.terms.script.now (at_rest c.args.node.now c.args.parts.now.random) (world_of c.in_ok-set.set (dialling g.D.Dialer.calls g.D.Dialer.left g.D.Dialer.faults c.args.parts.now.dialer) (g.K.Sink.held c.args.sink.now)) (admitting g.A.Acceptor.left g.A.Acceptor.waits c.args.acceptor.now)
       c.loop-made.invariant.times c.in_ok-turn.turn.time c.loop-made.start c.loop-made.left.now c.in_ok-turn.turn.left.now (at_rest c.loop-made.node c.loop-made.parts.random) (at_rest c.node_turn.new.node c.node_turn.new.parts.random)
       (world_of c.loop-made.set (dialling g.D.Dialer.calls g.D.Dialer.left g.D.Dialer.faults c.loop-made.parts.dialer) (g.K.Sink.held c.loop-made.sink)) (world_of c.node_turn.new.set (dialling g.D.Dialer.calls g.D.Dialer.left g.D.Dialer.faults c.node_turn.new.parts.dialer) (g.K.Sink.held c.node_turn.new.sink)) (admitting g.A.Acceptor.left g.A.Acceptor.waits c.loop-made.acceptor) (admitting g.A.Acceptor.left g.A.Acceptor.waits c.node_turn.new.acceptor)
       c.loop-made.invariant.turns c.loop-made.invariant.going c.in_ok-turn.ensures.turns);
@@ -65,12 +65,12 @@ loop-made-preserved g c = record {
       c.loop-made.invariant.readings c.in_ok-turn.ensures.reading;
   count = one_longer c.loop-made.invariant.times c.in_ok-turn.turn.time c.loop-made.made c.loop-made.invariant.count;
   going = c.if-set.false;
-  turns = λ more m v door k. turns_more (GoesDrawing g.N.Core.goes g.W.Words.gives g.W.Words.faults) g.L.Link.talk c.args.terms.listens None c.args.terms.script.now (at_rest c.args.node.now c.args.parts.now.random) (world_of c.in_ok-set.set (dialling g.D.Dialer.calls g.D.Dialer.left g.D.Dialer.faults c.args.parts.now.dialer) (g.K.Sink.held c.args.sink.now)) (admitting g.A.Acceptor.left g.A.Acceptor.waits c.args.acceptor.now)
+  turns = λ more m v door k. turns_more (GoesDrawing g.N.Core.goes (Draws g.W.Words.gives g.W.Words.faults)) g.L.Link.talk c.args.terms.listens None c.args.terms.script.now (at_rest c.args.node.now c.args.parts.now.random) (world_of c.in_ok-set.set (dialling g.D.Dialer.calls g.D.Dialer.left g.D.Dialer.faults c.args.parts.now.dialer) (g.K.Sink.held c.args.sink.now)) (admitting g.A.Acceptor.left g.A.Acceptor.waits c.args.acceptor.now)
       c.loop-made.invariant.times c.in_ok-turn.turn.time c.loop-made.start c.loop-made.left.now c.in_ok-turn.turn.left.now (at_rest c.loop-made.node c.loop-made.parts.random) (at_rest c.node_turn.new.node c.node_turn.new.parts.random)
       (world_of c.loop-made.set (dialling g.D.Dialer.calls g.D.Dialer.left g.D.Dialer.faults c.loop-made.parts.dialer) (g.K.Sink.held c.loop-made.sink)) (world_of c.node_turn.new.set (dialling g.D.Dialer.calls g.D.Dialer.left g.D.Dialer.faults c.node_turn.new.parts.dialer) (g.K.Sink.held c.node_turn.new.sink)) (admitting g.A.Acceptor.left g.A.Acceptor.waits c.loop-made.acceptor) (admitting g.A.Acceptor.left g.A.Acceptor.waits c.node_turn.new.acceptor)
       c.loop-made.invariant.turns c.loop-made.invariant.going c.in_ok-turn.ensures.turns
       more m v door (rw c.unwrap_or.ensures at k);
-  stops = λ more v door k. stops_more (GoesDrawing g.N.Core.goes g.W.Words.gives g.W.Words.faults) g.L.Link.talk c.args.terms.listens None c.args.terms.script.now (at_rest c.args.node.now c.args.parts.now.random) (world_of c.in_ok-set.set (dialling g.D.Dialer.calls g.D.Dialer.left g.D.Dialer.faults c.args.parts.now.dialer) (g.K.Sink.held c.args.sink.now)) (admitting g.A.Acceptor.left g.A.Acceptor.waits c.args.acceptor.now)
+  stops = λ more v door k. stops_more (GoesDrawing g.N.Core.goes (Draws g.W.Words.gives g.W.Words.faults)) g.L.Link.talk c.args.terms.listens None c.args.terms.script.now (at_rest c.args.node.now c.args.parts.now.random) (world_of c.in_ok-set.set (dialling g.D.Dialer.calls g.D.Dialer.left g.D.Dialer.faults c.args.parts.now.dialer) (g.K.Sink.held c.args.sink.now)) (admitting g.A.Acceptor.left g.A.Acceptor.waits c.args.acceptor.now)
       c.loop-made.invariant.times c.in_ok-turn.turn.time c.loop-made.start c.loop-made.left.now c.in_ok-turn.turn.left.now (at_rest c.loop-made.node c.loop-made.parts.random) (at_rest c.node_turn.new.node c.node_turn.new.parts.random)
       (world_of c.loop-made.set (dialling g.D.Dialer.calls g.D.Dialer.left g.D.Dialer.faults c.loop-made.parts.dialer) (g.K.Sink.held c.loop-made.sink)) (world_of c.node_turn.new.set (dialling g.D.Dialer.calls g.D.Dialer.left g.D.Dialer.faults c.node_turn.new.parts.dialer) (g.K.Sink.held c.node_turn.new.sink)) (admitting g.A.Acceptor.left g.A.Acceptor.waits c.loop-made.acceptor) (admitting g.A.Acceptor.left g.A.Acceptor.waits c.node_turn.new.acceptor)
       c.loop-made.invariant.stops c.loop-made.invariant.going c.in_ok-turn.ensures.turns
@@ -109,7 +109,7 @@ returns-clause-runs g c = record {
     dialled = refl;
     held = refl;
   };
-  went = turns_all (GoesDrawing g.N.Core.goes g.W.Words.gives g.W.Words.faults) g.L.Link.talk c.args.terms.listens None c.args.terms.script.now (at_rest c.args.node.now c.args.parts.now.random) (world_of c.in_ok-set.set (dialling g.D.Dialer.calls g.D.Dialer.left g.D.Dialer.faults c.args.parts.now.dialer) (g.K.Sink.held c.args.sink.now)) (admitting g.A.Acceptor.left g.A.Acceptor.waits c.args.acceptor.now)
+  went = turns_all (GoesDrawing g.N.Core.goes (Draws g.W.Words.gives g.W.Words.faults)) g.L.Link.talk c.args.terms.listens None c.args.terms.script.now (at_rest c.args.node.now c.args.parts.now.random) (world_of c.in_ok-set.set (dialling g.D.Dialer.calls g.D.Dialer.left g.D.Dialer.faults c.args.parts.now.dialer) (g.K.Sink.held c.args.sink.now)) (admitting g.A.Acceptor.left g.A.Acceptor.waits c.args.acceptor.now)
       c.loop-made.invariant.times c.loop-made.start c.loop-made.left.now (at_rest c.loop-made.node c.loop-made.parts.random) (world_of c.loop-made.set (dialling g.D.Dialer.calls g.D.Dialer.left g.D.Dialer.faults c.loop-made.parts.dialer) (g.K.Sink.held c.loop-made.sink)) (admitting g.A.Acceptor.left g.A.Acceptor.waits c.loop-made.acceptor)
       c.loop-made.invariant.turns;
   dials = refl;
@@ -140,7 +140,7 @@ returns-in_err-turn-clause-fails g c =
         dialled = refl;
         held = refl;
       };
-      went = stops_now (GoesDrawing g.N.Core.goes g.W.Words.gives g.W.Words.faults) g.L.Link.talk c.args.terms.listens None c.args.terms.script.now (at_rest c.args.node.now c.args.parts.now.random) (world_of c.in_ok-set.set (dialling g.D.Dialer.calls g.D.Dialer.left g.D.Dialer.faults c.args.parts.now.dialer) (g.K.Sink.held c.args.sink.now)) (admitting g.A.Acceptor.left g.A.Acceptor.waits c.args.acceptor.now)
+      went = stops_now (GoesDrawing g.N.Core.goes (Draws g.W.Words.gives g.W.Words.faults)) g.L.Link.talk c.args.terms.listens None c.args.terms.script.now (at_rest c.args.node.now c.args.parts.now.random) (world_of c.in_ok-set.set (dialling g.D.Dialer.calls g.D.Dialer.left g.D.Dialer.faults c.args.parts.now.dialer) (g.K.Sink.held c.args.sink.now)) (admitting g.A.Acceptor.left g.A.Acceptor.waits c.args.acceptor.now)
           c.loop-made.invariant.times k.0 c.loop-made.start c.loop-made.left.now (at_rest c.loop-made.node c.loop-made.parts.random) (world_of c.loop-made.set (dialling g.D.Dialer.calls g.D.Dialer.left g.D.Dialer.faults c.loop-made.parts.dialer) (g.K.Sink.held c.loop-made.sink)) (world_of c.node_turn.new.set (dialling g.D.Dialer.calls g.D.Dialer.left g.D.Dialer.faults c.node_turn.new.parts.dialer) (g.K.Sink.held c.node_turn.new.sink))
           (admitting g.A.Acceptor.left g.A.Acceptor.waits c.loop-made.acceptor) (admitting g.A.Acceptor.left g.A.Acceptor.waits c.node_turn.new.acceptor) c.loop-made.invariant.stops c.loop-made.invariant.going k.4;
       dials = refl;

@@ -1,5 +1,5 @@
 use Rattle.std.proofs.Common.{arith, inl, inr, refl, ◌∙◌, ◌∷◌, []}
-use Rattle.bsc_node_run.specs.Drawing.{GoesDrawing, at_rest}
+use Rattle.bsc_node_run.specs.Drawing.{Draws, GoesDrawing, at_rest}
 use Rattle.bsc_node_run.specs.Worlds.{dialling, world_of}
 use Rattle.bsc_node_run.proofs.Fewer.{gives_fewer, one_more}
 use Rattle.bsc_node_run.proofs.Turns.{emptied, none_left}
@@ -8,7 +8,7 @@ use Rattle.bsc_node_run.proofs.turning.give_news.Goals as goal
 
 pub loop-news-smaller : goal.loop-news-smaller
 loop-news-smaller g c =
-    let k = gives_fewer (GoesDrawing g.N.Core.goes g.W.Words.gives g.W.Words.faults) g.L.Link.talk c.args.at.time c.event_of.result (at_rest c.loop-news.node c.loop-news.random) (at_rest c.give.new.node c.give.new.random)
+    let k = gives_fewer (GoesDrawing g.N.Core.goes (Draws g.W.Words.gives g.W.Words.faults)) g.L.Link.talk c.args.at.time c.event_of.result (at_rest c.loop-news.node c.loop-news.random) (at_rest c.give.new.node c.give.new.random)
     (world_of (record c.loop-news.set { due = c.pop_front.new.self }) (dialling g.D.Dialer.calls g.D.Dialer.left g.D.Dialer.faults c.loop-news.dialer) (g.K.Sink.held c.loop-news.sink))
     (world_of c.give.new.set (dialling g.D.Dialer.calls g.D.Dialer.left g.D.Dialer.faults c.give.new.dialer) (g.K.Sink.held c.give.new.sink))
     c.in_ok-give.ensures.gives in

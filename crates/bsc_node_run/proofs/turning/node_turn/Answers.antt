@@ -1,5 +1,5 @@
 use Rattle.std.proofs.Common.{inl, inr, refl}
-use Rattle.bsc_node_run.specs.Drawing.{GoesDrawing, at_rest}
+use Rattle.bsc_node_run.specs.Drawing.{Draws, GoesDrawing, at_rest}
 use Rattle.bsc_node_run.specs.Stopping.{TurnStops}
 use Rattle.bsc_node_run.specs.Worlds.{admitting, dialling, world_of}
 use Rattle.bsc_node_run.specs.Moments.{in_hands, moment}
@@ -38,7 +38,7 @@ returns-in_err-begin-clause-stops g c =
     let w0 = world_of c.begin_turn.new.self (dialling g.D.Dialer.calls g.D.Dialer.left g.D.Dialer.faults c.args.parts.now.dialer) (g.K.Sink.held c.args.sink.now) in
     let begins = c.begin_turn.ensures (dialling g.D.Dialer.calls g.D.Dialer.left g.D.Dialer.faults c.args.parts.now.dialer) (g.K.Sink.held c.args.sink.now) in
     at_err {P = Stopped g.C.Clock.readings g.C.Clock.newest c.args.clock.now c.now-now.new.self
-    (λ t. TurnStops (GoesDrawing g.N.Core.goes g.W.Words.gives g.W.Words.faults) g.L.Link.talk t c.args.from.start c.args.from.script.now c.args.from.listens (moment (at_rest c.args.node.now c.args.parts.now.random) (world_of c.args.set.now (dialling g.D.Dialer.calls g.D.Dialer.left g.D.Dialer.faults c.args.parts.now.dialer) (g.K.Sink.held c.args.sink.now)) (admitting g.A.Acceptor.left g.A.Acceptor.waits c.args.acceptor.now)) (in_hands (world_of c.begin.new.set (dialling g.D.Dialer.calls g.D.Dialer.left g.D.Dialer.faults c.begin.new.dialer) (g.K.Sink.held c.begin.new.sink)) (admitting g.A.Acceptor.left g.A.Acceptor.waits c.args.acceptor.now)))} _
+    (λ t. TurnStops (GoesDrawing g.N.Core.goes (Draws g.W.Words.gives g.W.Words.faults)) g.L.Link.talk t c.args.from.start c.args.from.script.now c.args.from.listens (moment (at_rest c.args.node.now c.args.parts.now.random) (world_of c.args.set.now (dialling g.D.Dialer.calls g.D.Dialer.left g.D.Dialer.faults c.args.parts.now.dialer) (g.K.Sink.held c.args.sink.now)) (admitting g.A.Acceptor.left g.A.Acceptor.waits c.args.acceptor.now)) (in_hands (world_of c.begin.new.set (dialling g.D.Dialer.calls g.D.Dialer.left g.D.Dialer.faults c.begin.new.dialer) (g.K.Sink.held c.begin.new.sink)) (admitting g.A.Acceptor.left g.A.Acceptor.waits c.args.acceptor.now)))} _
     ((c.now-now.result, c.now-now.ensures.told, c.now-now.ensures.below, c.now-now.ensures.rises, (w0, begins, inl (c.in_err-begin.ensures.stops, refl))))
 
 pub returns-in_err-give-clause-stops : goal.returns-in_err-give-clause-stops
@@ -46,7 +46,7 @@ returns-in_err-give-clause-stops g c =
     let w0 = world_of c.begin_turn.new.self (dialling g.D.Dialer.calls g.D.Dialer.left g.D.Dialer.faults c.args.parts.now.dialer) (g.K.Sink.held c.args.sink.now) in
     let begins = c.begin_turn.ensures (dialling g.D.Dialer.calls g.D.Dialer.left g.D.Dialer.faults c.args.parts.now.dialer) (g.K.Sink.held c.args.sink.now) in
     at_err {P = Stopped g.C.Clock.readings g.C.Clock.newest c.args.clock.now c.now-now.new.self
-    (λ t. TurnStops (GoesDrawing g.N.Core.goes g.W.Words.gives g.W.Words.faults) g.L.Link.talk t c.args.from.start c.args.from.script.now c.args.from.listens (moment (at_rest c.args.node.now c.args.parts.now.random) (world_of c.args.set.now (dialling g.D.Dialer.calls g.D.Dialer.left g.D.Dialer.faults c.args.parts.now.dialer) (g.K.Sink.held c.args.sink.now)) (admitting g.A.Acceptor.left g.A.Acceptor.waits c.args.acceptor.now)) (in_hands (world_of c.give.new.set (dialling g.D.Dialer.calls g.D.Dialer.left g.D.Dialer.faults c.give.new.dialer) (g.K.Sink.held c.give.new.sink)) (admitting g.A.Acceptor.left g.A.Acceptor.waits c.args.acceptor.now)))} _
+    (λ t. TurnStops (GoesDrawing g.N.Core.goes (Draws g.W.Words.gives g.W.Words.faults)) g.L.Link.talk t c.args.from.start c.args.from.script.now c.args.from.listens (moment (at_rest c.args.node.now c.args.parts.now.random) (world_of c.args.set.now (dialling g.D.Dialer.calls g.D.Dialer.left g.D.Dialer.faults c.args.parts.now.dialer) (g.K.Sink.held c.args.sink.now)) (admitting g.A.Acceptor.left g.A.Acceptor.waits c.args.acceptor.now)) (in_hands (world_of c.give.new.set (dialling g.D.Dialer.calls g.D.Dialer.left g.D.Dialer.faults c.give.new.dialer) (g.K.Sink.held c.give.new.sink)) (admitting g.A.Acceptor.left g.A.Acceptor.waits c.args.acceptor.now)))} _
     ((
       c.now-now.result,
       c.now-now.ensures.told,
@@ -69,7 +69,7 @@ returns-in_err-give_news-clause-stops g c =
     let w0 = world_of c.begin_turn.new.self (dialling g.D.Dialer.calls g.D.Dialer.left g.D.Dialer.faults c.args.parts.now.dialer) (g.K.Sink.held c.args.sink.now) in
     let begins = c.begin_turn.ensures (dialling g.D.Dialer.calls g.D.Dialer.left g.D.Dialer.faults c.args.parts.now.dialer) (g.K.Sink.held c.args.sink.now) in
     at_err {P = Stopped g.C.Clock.readings g.C.Clock.newest c.args.clock.now c.now-now.new.self
-    (λ t. TurnStops (GoesDrawing g.N.Core.goes g.W.Words.gives g.W.Words.faults) g.L.Link.talk t c.args.from.start c.args.from.script.now c.args.from.listens (moment (at_rest c.args.node.now c.args.parts.now.random) (world_of c.args.set.now (dialling g.D.Dialer.calls g.D.Dialer.left g.D.Dialer.faults c.args.parts.now.dialer) (g.K.Sink.held c.args.sink.now)) (admitting g.A.Acceptor.left g.A.Acceptor.waits c.args.acceptor.now)) (in_hands (world_of c.give_news.new.set (dialling g.D.Dialer.calls g.D.Dialer.left g.D.Dialer.faults c.give_news.new.dialer) (g.K.Sink.held c.give_news.new.sink)) (admitting g.A.Acceptor.left g.A.Acceptor.waits c.args.acceptor.now)))} _
+    (λ t. TurnStops (GoesDrawing g.N.Core.goes (Draws g.W.Words.gives g.W.Words.faults)) g.L.Link.talk t c.args.from.start c.args.from.script.now c.args.from.listens (moment (at_rest c.args.node.now c.args.parts.now.random) (world_of c.args.set.now (dialling g.D.Dialer.calls g.D.Dialer.left g.D.Dialer.faults c.args.parts.now.dialer) (g.K.Sink.held c.args.sink.now)) (admitting g.A.Acceptor.left g.A.Acceptor.waits c.args.acceptor.now)) (in_hands (world_of c.give_news.new.set (dialling g.D.Dialer.calls g.D.Dialer.left g.D.Dialer.faults c.give_news.new.dialer) (g.K.Sink.held c.give_news.new.sink)) (admitting g.A.Acceptor.left g.A.Acceptor.waits c.args.acceptor.now)))} _
     ((
       c.now-now.result,
       c.now-now.ensures.told,
@@ -97,7 +97,7 @@ returns-in_err-left-clause-stops g c =
     let w0 = world_of c.begin_turn.new.self (dialling g.D.Dialer.calls g.D.Dialer.left g.D.Dialer.faults c.args.parts.now.dialer) (g.K.Sink.held c.args.sink.now) in
     let begins = c.begin_turn.ensures (dialling g.D.Dialer.calls g.D.Dialer.left g.D.Dialer.faults c.args.parts.now.dialer) (g.K.Sink.held c.args.sink.now) in
     at_err {P = Stopped g.C.Clock.readings g.C.Clock.newest c.args.clock.now c.now-now.new.self
-    (λ t. TurnStops (GoesDrawing g.N.Core.goes g.W.Words.gives g.W.Words.faults) g.L.Link.talk t c.args.from.start c.args.from.script.now c.args.from.listens (moment (at_rest c.args.node.now c.args.parts.now.random) (world_of c.args.set.now (dialling g.D.Dialer.calls g.D.Dialer.left g.D.Dialer.faults c.args.parts.now.dialer) (g.K.Sink.held c.args.sink.now)) (admitting g.A.Acceptor.left g.A.Acceptor.waits c.args.acceptor.now)) (in_hands (world_of c.give_due.new.set (dialling g.D.Dialer.calls g.D.Dialer.left g.D.Dialer.faults c.give_due.new.dialer) (g.K.Sink.held c.give_due.new.sink)) (admitting g.A.Acceptor.left g.A.Acceptor.waits c.args.acceptor.now)))} _
+    (λ t. TurnStops (GoesDrawing g.N.Core.goes (Draws g.W.Words.gives g.W.Words.faults)) g.L.Link.talk t c.args.from.start c.args.from.script.now c.args.from.listens (moment (at_rest c.args.node.now c.args.parts.now.random) (world_of c.args.set.now (dialling g.D.Dialer.calls g.D.Dialer.left g.D.Dialer.faults c.args.parts.now.dialer) (g.K.Sink.held c.args.sink.now)) (admitting g.A.Acceptor.left g.A.Acceptor.waits c.args.acceptor.now)) (in_hands (world_of c.give_due.new.set (dialling g.D.Dialer.calls g.D.Dialer.left g.D.Dialer.faults c.give_due.new.dialer) (g.K.Sink.held c.give_due.new.sink)) (admitting g.A.Acceptor.left g.A.Acceptor.waits c.args.acceptor.now)))} _
     ((
       c.now-now.result,
       c.now-now.ensures.told,
@@ -133,7 +133,7 @@ returns-in_err-hear_all-clause-stops g c =
     let w0 = world_of c.begin_turn.new.self (dialling g.D.Dialer.calls g.D.Dialer.left g.D.Dialer.faults c.args.parts.now.dialer) (g.K.Sink.held c.args.sink.now) in
     let begins = c.begin_turn.ensures (dialling g.D.Dialer.calls g.D.Dialer.left g.D.Dialer.faults c.args.parts.now.dialer) (g.K.Sink.held c.args.sink.now) in
     at_err {P = Stopped g.C.Clock.readings g.C.Clock.newest c.args.clock.now c.now-now.new.self
-    (λ t. TurnStops (GoesDrawing g.N.Core.goes g.W.Words.gives g.W.Words.faults) g.L.Link.talk t c.args.from.start c.args.from.script.now c.args.from.listens (moment (at_rest c.args.node.now c.args.parts.now.random) (world_of c.args.set.now (dialling g.D.Dialer.calls g.D.Dialer.left g.D.Dialer.faults c.args.parts.now.dialer) (g.K.Sink.held c.args.sink.now)) (admitting g.A.Acceptor.left g.A.Acceptor.waits c.args.acceptor.now)) (in_hands (world_of c.hear_all.new.set (dialling g.D.Dialer.calls g.D.Dialer.left g.D.Dialer.faults c.hear_all.new.dialer) (g.K.Sink.held c.hear_all.new.sink)) (admitting g.A.Acceptor.left g.A.Acceptor.waits c.args.acceptor.now)))} _
+    (λ t. TurnStops (GoesDrawing g.N.Core.goes (Draws g.W.Words.gives g.W.Words.faults)) g.L.Link.talk t c.args.from.start c.args.from.script.now c.args.from.listens (moment (at_rest c.args.node.now c.args.parts.now.random) (world_of c.args.set.now (dialling g.D.Dialer.calls g.D.Dialer.left g.D.Dialer.faults c.args.parts.now.dialer) (g.K.Sink.held c.args.sink.now)) (admitting g.A.Acceptor.left g.A.Acceptor.waits c.args.acceptor.now)) (in_hands (world_of c.hear_all.new.set (dialling g.D.Dialer.calls g.D.Dialer.left g.D.Dialer.faults c.hear_all.new.dialer) (g.K.Sink.held c.hear_all.new.sink)) (admitting g.A.Acceptor.left g.A.Acceptor.waits c.args.acceptor.now)))} _
     ((
       c.now-now.result,
       c.now-now.ensures.told,
@@ -181,7 +181,7 @@ returns-in_err-admit-clause-stops g c =
     let w0 = world_of c.begin_turn.new.self (dialling g.D.Dialer.calls g.D.Dialer.left g.D.Dialer.faults c.args.parts.now.dialer) (g.K.Sink.held c.args.sink.now) in
     let begins = c.begin_turn.ensures (dialling g.D.Dialer.calls g.D.Dialer.left g.D.Dialer.faults c.args.parts.now.dialer) (g.K.Sink.held c.args.sink.now) in
     at_err {P = Stopped g.C.Clock.readings g.C.Clock.newest c.args.clock.now c.now-now.new.self
-    (λ t. TurnStops (GoesDrawing g.N.Core.goes g.W.Words.gives g.W.Words.faults) g.L.Link.talk t c.args.from.start c.args.from.script.now c.args.from.listens (moment (at_rest c.args.node.now c.args.parts.now.random) (world_of c.args.set.now (dialling g.D.Dialer.calls g.D.Dialer.left g.D.Dialer.faults c.args.parts.now.dialer) (g.K.Sink.held c.args.sink.now)) (admitting g.A.Acceptor.left g.A.Acceptor.waits c.args.acceptor.now)) (in_hands (world_of c.admit.new.set (dialling g.D.Dialer.calls g.D.Dialer.left g.D.Dialer.faults c.admit.new.dialer) (g.K.Sink.held c.admit.new.sink)) (admitting g.A.Acceptor.left g.A.Acceptor.waits c.admit.new.acceptor)))} _
+    (λ t. TurnStops (GoesDrawing g.N.Core.goes (Draws g.W.Words.gives g.W.Words.faults)) g.L.Link.talk t c.args.from.start c.args.from.script.now c.args.from.listens (moment (at_rest c.args.node.now c.args.parts.now.random) (world_of c.args.set.now (dialling g.D.Dialer.calls g.D.Dialer.left g.D.Dialer.faults c.args.parts.now.dialer) (g.K.Sink.held c.args.sink.now)) (admitting g.A.Acceptor.left g.A.Acceptor.waits c.args.acceptor.now)) (in_hands (world_of c.admit.new.set (dialling g.D.Dialer.calls g.D.Dialer.left g.D.Dialer.faults c.admit.new.dialer) (g.K.Sink.held c.admit.new.sink)) (admitting g.A.Acceptor.left g.A.Acceptor.waits c.admit.new.acceptor)))} _
     ((
       c.now-now.result,
       c.now-now.ensures.told,

@@ -1,6 +1,6 @@
 -- A line is carried out, over a hub or before one.
 use Rattle.std.proofs.Common.{refl, sym, ap, subst}
-use Rattle.bsc_script.proofs.Spoken.{begun_does, begun_fault, some_made, made_does}
+use Rattle.bsc_script.proofs.Spoken.{begun_does, some_made, made_does}
 use Rattle.bsc_script.proofs.script.carry_out.Goals as goal
 
 pub returns-in_ok-hub-in-None : goal.returns-in_ok-hub-in-None

@@ -4,10 +4,10 @@ use Rattle.std.specs.Arc.{arc_value}
 use Rattle.bsc_hub.specs.declared.hub.Hub.{Hub}
 use Rattle.bsc_session.specs.Jobs.{Worked, policy_of}
 use Rattle.bsc_serve.specs.declared.end.ServeEnd.{ServeEnd}
-use Rattle.bsc_serve.specs.Inner.{GoesOn, Stock, Stopped, world_of}
+use Rattle.bsc_serve.specs.Inner.{GoesOn, Stopped, world_of}
 use Rattle.bsc_serve.specs.Serving.{Serving}
 use Rattle.bsc_serve.specs.Terms.{all_terms}
-use Rattle.bsc_serve.specs.Worlds.{ServeWorld}
+use Rattle.bsc_serve.specs.Worlds.{ServeWorld, Stock, served_world}
 use Rattle.bsc_serve.proofs.Ending.{halt_failed, halt_lost, serves_after, serves_halted, serves_whole, whole_lost, whole_served}
 use Rattle.bsc_serve.proofs.serving.serve_on.Goals as goal
 
@@ -35,7 +35,7 @@ returns-in-Ok-clause-serving g c =
     let taken = goes terms first links waits (record { remaining = Some 0; unstarted = c.in-Ok.unstarted }) c.in-Ok.ensures.accepts in
     let stopped : Stopped h c.take_ended.new.pass c.finish-stopped.new.pass c.finish-stopped.result.answer =
     subst (λ (y : Hub). Stopped y c.take_ended.new.pass c.finish-stopped.new.pass c.finish-stopped.result.answer) c.deref-in-Ok.ensures c.finish-stopped.ensures.stopped in
-    subst (λ (e : ServeEnd). Serving W B h terms before after own own' e) (sym c.done.ensures)
+    subst (λ (e : ServeEnd). Serving W B terms (served_world h own before) (served_world h own' after) e) (sym c.done.ensures)
     (serves_after W B h terms before after none_out own own' _ c.await_all.ensures.jobs c.await_all.ensures.later
     (serves_whole W B h terms first m c.finish-stopped.new.pass c.in-Ok.unstarted c.finish-stopped.result.answer c.finish-stopped.result.lost own own' c.accept_all.ensures.fits taken
     (c.take_ended.ensures.none refl) stopped c.finish-stopped.ensures.records c.finish-stopped.ensures.has_line))
@@ -62,7 +62,7 @@ returns-in-Err-clause-serving g c =
     let stopped : Stopped h c.accept_all.new.pass c.finish-told.new.pass c.finish-told.result.answer =
     subst (λ (y : Hub). Stopped y c.accept_all.new.pass c.finish-told.new.pass c.finish-told.result.answer) c.deref-in-Err.ensures c.finish-told.ensures.stopped in
     let ended = c.await_all-in-Err.ensures in
-    subst (λ (e : ServeEnd). Serving W B h terms before after own own' e) (sym c.end_of.ensures)
+    subst (λ (e : ServeEnd). Serving W B terms (served_world h own before) (served_world h own' after) e) (sym c.end_of.ensures)
     (serves_after W B h terms before after none_out own own' _ c.await_all.ensures.jobs c.await_all.ensures.later
     (serves_halted W B h terms first m c.finish-told.new.pass all_ended c.in-Err.halt c.finish-told.result.answer c.finish-told.result.lost own own' c.in-Err.ensures.accepts ended.jobs
     ended.none ended.later stopped c.finish-told.ensures.records c.finish-told.ensures.has_line))

@@ -8,10 +8,10 @@ use Rattle.bsc_serve.proofs.starting.hand_over.Goals as goal
 pub take_back-requires-clause-other : goal.take_back-requires-clause-other
 take_back-requires-clause-other g c =
     let e = back_failed c.in-Err-Failed.field-0 c.in-Err-Failed.job c.args.job c.in-Err-Failed.field-0-is c.in-Err-Failed.ensures.back in
-    subst (λ (x : Pass). IsCaller c.args.hub.now x) (sym (c.into_parts-shared.ensures.pass ∙ ap (λ (j : SessionJob g.row.L.Denot g.row.C.Denot g.row.N.Denot). j.pass) e)) c.requires.other
+    subst (λ (x : Pass). IsCaller c.args.hub.now x) (sym (c.into_parts-parts.ensures.pass ∙ ap (λ (j : SessionJob g.row.L.Denot g.row.C.Denot g.row.N.Denot). j.pass) e)) c.requires.other
 
 pub take_back-requires-in-Err-NoMemory-clause-other :
     goal.take_back-requires-in-Err-NoMemory-clause-other
 take_back-requires-in-Err-NoMemory-clause-other g c =
     let e = back_memory c.in-Err-NoMemory.field-0 c.in-Err-NoMemory.job c.args.job c.in-Err-NoMemory.field-0-is c.in-Err-NoMemory.ensures.back in
-    subst (λ (x : Pass). IsCaller c.args.hub.now x) (sym (c.into_parts-shared-in-Err-NoMemory.ensures.pass ∙ ap (λ (j : SessionJob g.row.L.Denot g.row.C.Denot g.row.N.Denot). j.pass) e)) c.requires.other
+    subst (λ (x : Pass). IsCaller c.args.hub.now x) (sym (c.into_parts-parts-in-Err-NoMemory.ensures.pass ∙ ap (λ (j : SessionJob g.row.L.Denot g.row.C.Denot g.row.N.Denot). j.pass) e)) c.requires.other

@@ -4,8 +4,9 @@ use Rattle.std.specs.Arc.{arc_value}
 use Rattle.bsc_turn.specs.Passes.{number_of}
 use Rattle.bsc_hub.specs.declared.hub.Hub.{Hub}
 use Rattle.bsc_session.specs.Jobs.{policy_of}
-use Rattle.bsc_serve.specs.Inner.{Fares, LacksRoom, SplitsOff, Stock}
+use Rattle.bsc_serve.specs.Inner.{Fares, LacksRoom, SplitsOff, giver}
 use Rattle.bsc_serve.specs.Terms.{all_terms}
+use Rattle.bsc_serve.specs.Worlds.{Stock}
 use Rattle.bsc_serve.proofs.Giving.{IsMadeFor, fares_made, fares_unmade, is_mapped}
 use Rattle.bsc_serve.proofs.starting.start_session.Goals as goal
 
@@ -51,5 +52,5 @@ returns-clause-fares g c =
       is_recorded = n.is_recorded ∙ c.is_some.ensures ∙ is_mapped (λ p. p.now) c.args.served.prefix;
       policy = ap policy_of n.policy ∙ c.in-Ok-Ok-Ok.ensures'';
     } in
-    subst (λ (y : Hub). Fares B y terms c.args.pass.now c.hand_over.new.pass c.args.link before after c.hand_over.result) c.deref-here.ensures
+    subst (λ (y : Hub). Fares B y terms c.args.link (giver c.args.pass.now before) (giver c.hand_over.new.pass after) c.hand_over.result) c.deref-here.ensures
     (fares_made B c.deref-here.result.now terms c.args.pass.now c.split.new.pass c.hand_over.new.pass c.in-Ok.other c.args.link job before after c.hand_over.result s made c.hand_over.ensures.hands)

@@ -4,7 +4,7 @@ use Rattle.bsc_turn.specs.Effects.{ended_of}
 use Rattle.bsc_turn.specs.Passes.{view_of}
 use Rattle.bsc_hub.specs.Passing.{Passed}
 use Rattle.bsc_session.specs.Jobs.{Worked}
-use Rattle.bsc_serve.specs.Inner.{Stock}
+use Rattle.bsc_serve.specs.Worlds.{Stock}
 use Rattle.bsc_serve.proofs.Sessions.{goes_none, goes_one, goes_then, our_end, ours_ended, ours_left}
 use Rattle.bsc_serve.proofs.taking_in.take_ended.Goals as goal
 

@@ -11,23 +11,23 @@ use Rattle.bsc_session.proofs.serving.serve.Goals as goal
 
 pub returns-clause-served : goal.returns-clause-served
 returns-clause-served g c =
-    let r = c.run-stop.ensures.ran in
-    serves_by g.J.Journal.makes_lines (terms_of c.args.here.hub.now c.args.pass.now c.args.here.limits.now c.args.turns (option_map (λ p. p.now) c.args.here.policy)) c.args.here.hub.now c.args.pass.now c.run-stop.new.pass c.part-parted.new.pass c.run-stop.new.at (g.L.Link.talk c.args.link.now) (g.L.Link.talk c.run-stop.new.link) (g.L.Link.talk c.close.new.link) (g.C.Clock.readings c.args.clock.now) (g.C.Clock.readings c.run-stop.new.clock)
-    (g.J.Journal.held c.args.journal.now) (g.J.Journal.held c.run-stop.new.journal) (g.J.Journal.held c.part-parted.new.journal) c.run-stop.result c.part-parted.result.conn c.part-parted.result.taken c.part-parted.result.empties c.part-parted.result.lost c.named_lost.result _ _ _ _ r c.close.ensures.said
-    (c.part-parted.ensures.parts (terms_of c.args.here.hub.now c.args.pass.now c.args.here.limits.now c.args.turns (option_map (λ p. p.now) c.args.here.policy)) c.run-stop.new.at.ended (sym r.held.number) r.held.follows.found) (c.named_lost.ensures.is ∙ ap (named_lost c.part-parted.result.lost) c.named.ensures) c.run-stop.ensures.unrecorded c.part-parted.ensures.unrecorded
+    let r = c.run-stopped.ensures.ran in
+    serves_by g.J.Journal.makes_lines (terms_of c.args.here.hub.now c.args.pass.now c.args.here.limits.now c.args.turns (option_map (λ p. p.now) c.args.here.policy)) c.args.here.hub.now c.args.pass.now c.run-stopped.new.pass c.part-parted.new.pass c.run-stopped.result.at (g.L.Link.talk c.args.link.now) (g.L.Link.talk c.run-stopped.new.link) (g.L.Link.talk c.close.new.link) (g.C.Clock.readings c.args.clock.now) (g.C.Clock.readings c.run-stopped.new.clock)
+    (g.J.Journal.held c.args.journal.now) (g.J.Journal.held c.run-stopped.new.journal) (g.J.Journal.held c.part-parted.new.journal) c.run-stopped.result.stop c.part-parted.result c.named_lost.result _ _ _ _ r c.close.ensures.said
+    (c.part-parted.ensures.parts (terms_of c.args.here.hub.now c.args.pass.now c.args.here.limits.now c.args.turns (option_map (λ p. p.now) c.args.here.policy)) c.run-stopped.result.at.ended (sym r.held.number) r.held.follows.found) (c.named_lost.ensures.is ∙ ap (named_lost c.part-parted.result.lost) c.named.ensures) c.run-stopped.ensures.unrecorded c.part-parted.ensures.unrecorded
 
 pub returns-clause-caused : goal.returns-clause-caused
 returns-clause-caused g c = causes_are_exact (terms_of c.args.here.hub.now c.args.pass.now c.args.here.limits.now c.args.turns (option_map (λ p. p.now) c.args.here.policy)) _
 
 pub returns-clause-ends : goal.returns-clause-ends
-returns-clause-ends g c = grows_to_fault _ _ _ _ _ _ _ _ _ (returns-clause-served g c).noting.serves
+returns-clause-ends g c = grows_to_fault _ _ _ _ (returns-clause-served g c).noting.serves
 
 pub returns-clause-unrecorded : goal.returns-clause-unrecorded
 returns-clause-unrecorded g c why =
-    let r = c.run-stop.ensures.ran in
-    let stop = c.run-stop.result in
-    let left = c.part-parted.ensures.parts (terms_of c.args.here.hub.now c.args.pass.now c.args.here.limits.now c.args.turns (option_map (λ p. p.now) c.args.here.policy)) c.run-stop.new.at.ended (sym r.held.number) r.held.follows.found in
+    let r = c.run-stopped.ensures.ran in
+    let stop = c.run-stopped.result.stop in
+    let left = c.part-parted.ensures.parts (terms_of c.args.here.hub.now c.args.pass.now c.args.here.limits.now c.args.turns (option_map (λ p. p.now) c.args.here.policy)) c.run-stopped.result.at.ended (sym r.held.number) r.held.follows.found in
     let told = tells_stop (terms_of c.args.here.hub.now c.args.pass.now c.args.here.limits.now c.args.turns (option_map (λ p. p.now) c.args.here.policy)) (standing (terms_of c.args.here.hub.now c.args.pass.now c.args.here.limits.now c.args.turns (option_map (λ p. p.now) c.args.here.policy)) begun r.went_on) r.last stop r.stops in
-    let row = journal_row c.run-stop.new.at.ended stop.why stop.lost c.part-parted.result.lost told.journal told.failed (λ f is. unleft stop.lost c.part-parted.result.lost left.left_at _ f is left.line) in
-    risen_so g.J.Journal.makes_lines (g.J.Journal.faults c.args.journal.now) (g.J.Journal.faults c.run-stop.new.journal) (g.J.Journal.faults c.part-parted.new.journal) stop.lost c.part-parted.result.lost c.run-stop.ensures.journal_later c.part-parted.ensures.journal_later c.run-stop.ensures.unrecorded c.part-parted.ensures.unrecorded
+    let row = journal_row c.run-stopped.result.at.ended stop.why stop.lost c.part-parted.result.lost told.journal told.failed (λ f is. unleft stop.lost c.part-parted.result.lost left.left_at _ f is left.line) in
+    risen_so g.J.Journal.makes_lines (g.J.Journal.faults c.args.journal.now) (g.J.Journal.faults c.run-stopped.new.journal) (g.J.Journal.faults c.part-parted.new.journal) stop.lost c.part-parted.result.lost c.run-stopped.ensures.journal_later c.part-parted.ensures.journal_later c.run-stopped.ensures.unrecorded c.part-parted.ensures.unrecorded
     (row.0 (sym (c.named_lost.ensures.is ∙ ap (named_lost c.part-parted.result.lost) c.named.ensures) ∙ why))

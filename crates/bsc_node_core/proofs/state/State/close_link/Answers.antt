@@ -6,10 +6,10 @@ use Rattle.bsc_node.specs.Ending.{ends}
 use Rattle.bsc_node.proofs.Told.{same_link-self}
 use Rattle.bsc_node_core.specs.Standing.{Stands}
 use Rattle.bsc_node_core.specs.Telling.{busy_with}
-use Rattle.bsc_node_core.proofs.Closing.{there-over}
 use Rattle.bsc_node_core.proofs.Asking.{two-in-order}
 use Rattle.bsc_node_core.proofs.Settling.{settles-gone}
 use Rattle.bsc_node_core.proofs.state.State.close_link.Goals as goal
+use Rattle.bsc_node.proofs.There.{there-over}
 
 pub returns : goal.returns
 returns c = on_ok_weaker c.end.result

@@ -2,7 +2,7 @@
 use Rattle.std.proofs.Common.{◌≡◌, [], ◌∷◌, suc, drop, get_or, sym, subst, drop-cons, add-one, drop_of_length-le}
 use Rattle.bsc_script.specs.Carrying.{quietly}
 use Rattle.bsc_script.proofs.Carried.{quiet_carried}
-use Rattle.bsc_script.proofs.Rounds.{Goes, goes_begins, goes_on, goes_ends, goes_some}
+use Rattle.bsc_script.proofs.Rounds.{RoundGoes, goes_begins, goes_on, goes_ends, goes_some}
 use Rattle.bsc_script.proofs.script_hub.ScriptHub.empty_each.Goals as goal
 
 pub loop-conn-init : goal.loop-conn-init
@@ -12,7 +12,7 @@ pub loop-conn-preserved : goal.loop-conn-preserved
 loop-conn-preserved c = λ base o h. (
     let conns = c.args.conns.now in
     let i = c.loop-conn.conn-index in
-    subst (λ m. Goes c.empty_one.new.self base c.empty_one.new.text.items (drop m conns) o) (sym (add-one i))
+    subst (λ m. RoundGoes c.empty_one.new.self base c.empty_one.new.text.items (drop m conns) o) (sym (add-one i))
     (goes_on c.loop-conn.self c.empty_one.new.self base c.loop-conn.text.items c.empty_one.new.text.items (drop i conns) (get_or conns i 0) (drop (suc i) conns) o (c.loop-conn.invariant base o h)
     (drop-cons conns i 0 c.loop-conn-test.true) (λ s es a g. c.in_ok-empty_one.ensures s es a g)))
 

@@ -1,12 +1,13 @@
 -- The outbox of a connection is emptied, where its name is open and it is to be.
 use Rattle.std.proofs.Common.{true, false, sym, ◌∙◌}
 use Rattle.bsc_script.specs.States.{has_joined_as}
-use Rattle.bsc_script.proofs.Pairs.{position-gives, position-none}
+use Rattle.bsc_script.proofs.Pairs.{position-gives}
 use Rattle.bsc_script.proofs.Peers.{has_conn}
 use Rattle.bsc_script.proofs.Changes.{indexed}
 use Rattle.bsc_script.proofs.Outboxes.{due_by, to_empty, unopened, unemptied, emptied_there}
 use Rattle.bsc_script.proofs.script_hub.ScriptHub.empty_one.Goals as goal
 use Rattle.std.proofs.lemmas.Result.{on_ok_weaker as on_ok}
+use Rattle.bsc_lemmas.proofs.Lists.{position-none}
 
 pub empty_at-requires-clause-some : goal.empty_at-requires-clause-some
 empty_at-requires-clause-some c = (

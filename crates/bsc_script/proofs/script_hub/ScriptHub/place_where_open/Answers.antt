@@ -2,8 +2,9 @@
 use Rattle.std.proofs.Common.{◌≡◌, Some, None, position, refl, sym, ap, ◌∙◌, subst}
 use Rattle.bsc_script.specs.States.{is_named, peer_of}
 use Rattle.bsc_script.proofs.Changes.{indexed}
-use Rattle.bsc_script.proofs.Pairs.{position-gives, position-none}
+use Rattle.bsc_script.proofs.Pairs.{position-gives}
 use Rattle.bsc_script.proofs.script_hub.ScriptHub.place_where_open.Goals as goal
+use Rattle.bsc_lemmas.proofs.Lists.{position-none}
 
 pub returns-in-Some-clause-found : goal.returns-in-Some-clause-found
 returns-in-Some-clause-found c = λ s h. (

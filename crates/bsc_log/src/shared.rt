@@ -1,0 +1,123 @@
+//! What the links of a hub share, where lines are told of them.
+use crate::batch::{Batch, ROOM};
+use crate::takeovers::Takeovers;
+use crate::told::Told;
+use bsc_octets::NoMemory;
+use std::alloc::Global;
+use std::io::Stderr;
+use std::mem;
+use std::sync::atomic::{AtomicU64, Ordering};
+use std::sync::{Mutex, Wait};
+use std::time::Duration;
+
+/// Where so many records wait, the acceptor's next look has them written, whatever it brought.
+const MANY: usize = 64;
+
+/// Where so many wait, the link that told the last one writes them. There is room for more, which others tell meanwhile.
+const FULL: usize = 256;
+
+/// A record that has waited so many milliseconds is written at the acceptor's next look.
+const LATE_MS: u64 = 500;
+
+/// Where the acceptor hasn't looked for so many milliseconds, links write what they tell.
+const GONE_MS: u64 = 1_000;
+
+/// What was told and isn't written yet, and which connections were taken over.
+pub(crate) struct Shared {
+    pub(crate) takeovers: Takeovers,
+    /// What waits, in the order in which it was told.
+    waiting: Mutex<Vec<Told>>,
+    /// Where it is written. Who has this lock takes what waits: so batches are written in the order of the records.
+    batch: Mutex<Batch>,
+    /// When the acceptor looked last, in milliseconds since 1970.
+    looked: AtomicU64,
+}
+
+/// So many whole milliseconds, up to the greatest `u64`.
+fn millis_of(since: Duration) -> u64 {
+    u64::try_from(since.as_millis()).unwrap_or(u64::MAX)
+}
+
+/// Whether these, which wait, are to be written at a look of the acceptor's at this time: where there are many, where the first
+/// has waited long, and where no link has come, so that there is time.
+fn is_due(waiting: &[Told], now: u64, has_come: bool) -> bool {
+    match waiting {
+        [] => false,
+        [first, ..] => {
+            !has_come || waiting.len() >= MANY || millis_of(first.since).abs_diff(now) >= LATE_MS
+        }
+    }
+}
+
+impl Shared {
+    /// Nothing was told yet.
+    pub(crate) fn new(alloc: Global, stderr: Stderr) -> Result<Shared, NoMemory> {
+        Ok(Shared {
+            takeovers: Takeovers::new(alloc)?,
+            waiting: Mutex::new(Vec::with_capacity(alloc, ROOM)?),
+            batch: Mutex::new(Batch::new(alloc, stderr)?),
+            looked: AtomicU64::new(0),
+        })
+    }
+
+    /// Has this wait, and says whether it is full then.
+    fn push<R: Wait>(&self, rt: &R, told: Told) -> bool {
+        let mut waiting = self.waiting.lock(rt);
+        let _ = waiting.push(told);
+        waiting.len() >= FULL
+    }
+
+    /// Takes what waits, in exchange for these.
+    fn exchange<R: Wait>(&self, rt: &R, told: &mut Vec<Told>) {
+        let mut waiting = self.waiting.lock(rt);
+        mem::swap(&mut *waiting, told);
+    }
+
+    /// Writes what waits.
+    fn write<R: Wait>(&self, rt: &R) {
+        let mut guard = self.batch.lock(rt);
+        let batch = &mut *guard;
+        self.exchange(rt, &mut batch.told);
+        batch.write();
+    }
+
+    /// Whether what waits is to be written at a look of the acceptor's at this time.
+    fn owes<R: Wait>(&self, rt: &R, now: u64, has_come: bool) -> bool {
+        let waiting = self.waiting.lock(rt);
+        is_due(waiting.as_slice(), now, has_come)
+    }
+
+    /// A link tells this. It is written by the acceptor's next looks; where that is gone, and where too much waits, it is written
+    /// at once.
+    pub(crate) fn tell<R: Wait>(&self, rt: &R, told: Told) {
+        let now = millis_of(told.since);
+        let is_full = self.push(rt, told);
+        let looked = self.looked.load(Ordering::SeqCst);
+        if is_full || now.abs_diff(looked) >= GONE_MS {
+            self.write(rt);
+        }
+    }
+
+    /// The acceptor looks at this time, and a link has come to it or not.
+    pub(crate) fn look<R: Wait>(&self, rt: &R, since: Duration, has_come: bool) {
+        let now = millis_of(since);
+        self.looked.store(now, Ordering::SeqCst);
+        if self.owes(rt, now, has_come) {
+            self.write(rt);
+        }
+    }
+}
+
+impl Drop for Shared {
+    fn drop(self) {
+        let Shared {
+            takeovers: _,
+            waiting,
+            batch,
+            looked: _,
+        } = self;
+        let mut batch = batch.into_inner();
+        batch.told = waiting.into_inner();
+        batch.write();
+    }
+}

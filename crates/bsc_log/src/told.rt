@@ -1,0 +1,52 @@
+//! What a link tells, before it is written.
+ghost use Rattle.std.specs.Prelude.{◌≡◌};
+ghost use Rattle.std.specs.Duration.{as_nanos};
+ghost use Rattle.bsc_log.specs.Stamps.{IsStampOf};
+
+use crate::event::Event;
+use crate::line::Line;
+use crate::stamp::stamp_of;
+use bsc_octets::Identity;
+use std::time::Duration;
+
+/// What a link tells: what stands in a line, and its time as the clock gave it.
+#[derive(Clone, Copy)]
+pub(crate) struct Told {
+    /// When it was, since 1970.
+    pub(crate) since: Duration,
+    /// What it was.
+    pub(crate) event: Event,
+    /// The number of the link among those that arrived.
+    pub(crate) link: u64,
+    /// Its connection, if it has joined.
+    pub(crate) conn: Option<u64>,
+    /// Who asked to join on it last, if anybody did.
+    pub(crate) who: Option<Identity>,
+    /// How many messages came on it.
+    pub(crate) received: u64,
+    /// How many messages were put on it.
+    pub(crate) sent: u64,
+}
+
+impl Told {
+    /// The line that says it.
+    pub(crate) fn line(&self) -> Line
+        ensures stamp { IsStampOf (as_nanos self.now.since) result.stamp.bytes }
+        ensures event { result.event ≡ self.now.event }
+        ensures link { result.link ≡ self.now.link }
+        ensures conn { result.conn ≡ self.now.conn }
+        ensures who { result.who ≡ self.now.who }
+        ensures received { result.received ≡ self.now.received }
+        ensures sent { result.sent ≡ self.now.sent }
+    {
+        Line {
+            stamp: stamp_of(self.since),
+            event: self.event,
+            link: self.link,
+            conn: self.conn,
+            who: self.who,
+            received: self.received,
+            sent: self.sent,
+        }
+    }
+}
