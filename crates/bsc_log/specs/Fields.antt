@@ -1,8 +1,7 @@
 -- The texts of fields. Where there is none, a hyphen stands.
-use Rattle.std.specs.Prelude.{ℕ, ◌+◌, ◌/◌, ◌%◌, List, [], ◌∷◌, Option, Some, None, codes, decimal, nat_lt, if◌then◌else◌}
+use Rattle.std.specs.Prelude.{ℕ, ◌+◌, ◌/◌, ◌%◌, List, [], ◌∷◌, ◌++◌, Option, Some, None, codes, decimal, nat_lt, if◌then◌else◌}
 use Rattle.uuid.specs.Text.{hyphenated_text, lower}
-use Rattle.bsc_octets.specs.declared.device_id.DeviceId.{DeviceId}
-use Rattle.bsc_octets.specs.declared.vmac.Vmac.{Vmac}
+use Rattle.bsc_octets.specs.declared.identity.Identity.{Identity}
 
 -- the number of a connection
 abbrev pub connection_text : Option ℕ → List ℕ
@@ -18,12 +17,12 @@ abbrev pub digits_of : List ℕ → List ℕ
 digits_of [] = []
 digits_of (octet ∷ octets) = digit (octet / 16) ∷ digit (octet % 16) ∷ digits_of octets
 
--- a VMAC: twelve digits
-abbrev pub address_text : Option Vmac → List ℕ
-address_text (Some vmac) = digits_of vmac.0
-address_text None = codes "-"
+-- who asked to join: a VMAC in twelve digits, and a Device UUID in 32 with lower-case letters, and hyphens behind the first eight and
+-- three times four
+abbrev pub asker_text : Identity → List ℕ
+asker_text who = codes " vmac " ++ (digits_of who.vmac.0 ++ (codes " device " ++ hyphenated_text lower who.device.0))
 
--- a Device UUID: 32 digits with lower-case letters, and hyphens behind the first eight and three times four
-abbrev pub device_text : Option DeviceId → List ℕ
-device_text (Some device) = hyphenated_text lower device.0
-device_text None = codes "-"
+-- who asked to join, if anybody did
+abbrev pub peer_text : Option Identity → List ℕ
+peer_text (Some who) = asker_text who
+peer_text None = codes " vmac - device -"

@@ -1,31 +1,18 @@
-//! Fields of lines.
-ghost use Rattle.std.specs.Prelude.{◌≡◌, ◌<◌, Some};
-ghost use Rattle.bsc_log.specs.Fields.{address_text, connection_text, device_text, digit, digits_of};
+//! Fields of lines, put at the end of a text.
+ghost use Rattle.std.specs.Prelude.{◌≡◌, ◌++◌, ◌<◌, IfOk, decimal};
+ghost use Rattle.uuid.specs.Text.{hyphenated_text, lower};
+ghost use Rattle.bsc_log.specs.Fields.{asker_text, connection_text, digit, digits_of, peer_text};
 
-use bsc_octets::{DeviceId, Vmac};
-use std::fmt::{self, Display, Formatter, Write};
-use std::str;
+use bsc_lines::{put_number, put_words};
+use bsc_octets::{DeviceId, Identity, NoMemory, Vmac};
 
-/// The number of a connection, or a hyphen.
-#[derive(Clone, Copy)]
-pub(crate) struct Connection(pub(crate) Option<u64>);
-
-/// A VMAC, or a hyphen.
-#[derive(Clone, Copy)]
-pub(crate) struct Address(pub(crate) Option<Vmac>);
-
-/// A Device UUID, or a hyphen.
-#[derive(Clone, Copy)]
-pub(crate) struct Device(pub(crate) Option<DeviceId>);
-
-impl Display for Connection {
-    ghost output = { λ it. Some (connection_text it.0) };
-
-    fn fmt<W: Write>(&self, f: &mut Formatter<W>) -> fmt::Result {
-        match self.0 {
-            Some(conn) => write!(f, "{conn}"),
-            None => f.write_str("-"),
-        }
+/// Puts the number of a connection, or a hyphen.
+pub(crate) fn put_connection(text: &mut Vec<u8>, conn: Option<u64>) -> Result<(), NoMemory>
+    ensures { IfOk result (λ _. text.new.items ≡ text.old.items ++ connection_text conn) }
+{
+    match conn {
+        Some(conn) => put_number(text, conn),
+        None => put_words(text, "-"),
     }
 }
 
@@ -58,30 +45,46 @@ fn digits_of(vmac: Vmac) -> [u8; 12]
     ]
 }
 
-impl Display for Address {
-    ghost output = { λ it. Some (address_text it.0) };
+/// Puts a VMAC.
+fn put_address(text: &mut Vec<u8>, vmac: Vmac) -> Result<(), NoMemory>
+    ensures { IfOk result (λ _. text.new.items ≡ text.old.items ++ digits_of vmac.0) }
+{
+    text.extend_from_slice(&digits_of(vmac))?;
+    Ok(())
+}
 
-    fn fmt<W: Write>(&self, f: &mut Formatter<W>) -> fmt::Result {
-        match self.0 {
-            Some(vmac) => {
-                let digits = digits_of(vmac);
-                f.write_str(str::from_utf8(&digits).map_err(|_| fmt::Error)?)
-            }
-            None => f.write_str("-"),
-        }
+/// Puts a Device UUID.
+fn put_device(text: &mut Vec<u8>, device: DeviceId) -> Result<(), NoMemory>
+    ensures { IfOk result (λ _. text.new.items ≡ text.old.items ++ hyphenated_text lower device.0) }
+{
+    let mut room = [0; 36];
+    put_words(text, device.0.hyphenated().encode_lower(&mut room))
+}
+
+/// Puts who asked to join.
+fn put_asker(text: &mut Vec<u8>, who: &Identity) -> Result<(), NoMemory>
+    ensures { IfOk result (λ _. text.new.items ≡ text.old.items ++ asker_text who.now) }
+{
+    put_words(text, " vmac ")?;
+    put_address(text, who.vmac)?;
+    put_words(text, " device ")?;
+    put_device(text, who.device)
+}
+
+/// Puts who asked to join, or hyphens.
+pub(crate) fn put_peer(text: &mut Vec<u8>, who: &Option<Identity>) -> Result<(), NoMemory>
+    ensures { IfOk result (λ _. text.new.items ≡ text.old.items ++ peer_text who.now) }
+{
+    match who {
+        Some(who) => put_asker(text, who),
+        None => put_words(text, " vmac - device -"),
     }
 }
 
-impl Display for Device {
-    ghost output = { λ it. Some (device_text it.0) };
-
-    fn fmt<W: Write>(&self, f: &mut Formatter<W>) -> fmt::Result {
-        match self.0 {
-            Some(device) => {
-                let uuid = device.0;
-                write!(f, "{uuid}")
-            }
-            None => f.write_str("-"),
-        }
-    }
+/// Puts a word and a number behind it.
+pub(crate) fn put_field(text: &mut Vec<u8>, word: &str, n: u64) -> Result<(), NoMemory>
+    ensures { IfOk result (λ _. text.new.items ≡ text.old.items ++ (word.now ++ decimal n)) }
+{
+    put_words(text, word)?;
+    put_number(text, n)
 }

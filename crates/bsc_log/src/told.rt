@@ -5,7 +5,7 @@ ghost use Rattle.bsc_log.specs.Stamps.{IsStampOf};
 
 use crate::event::Event;
 use crate::line::Line;
-use crate::stamp::stamp_of;
+use crate::stamp::Day;
 use bsc_octets::Identity;
 use std::time::Duration;
 
@@ -29,8 +29,8 @@ pub(crate) struct Told {
 }
 
 impl Told {
-    /// The line that says it.
-    pub(crate) fn line(&self) -> Line
+    /// The line that says it, with the day that its stamp was made of last.
+    pub(crate) fn line(&self, day: &mut Day) -> Line
         ensures stamp { IsStampOf (as_nanos self.now.since) result.stamp.bytes }
         ensures event { result.event ≡ self.now.event }
         ensures link { result.link ≡ self.now.link }
@@ -40,7 +40,7 @@ impl Told {
         ensures sent { result.sent ≡ self.now.sent }
     {
         Line {
-            stamp: stamp_of(self.since),
+            stamp: day.stamp_of(self.since),
             event: self.event,
             link: self.link,
             conn: self.conn,

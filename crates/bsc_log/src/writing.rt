@@ -1,47 +1,63 @@
 //! The text of a line.
-ghost use Rattle.std.specs.Prelude.{Some};
-ghost use Rattle.bsc_log.specs.Lines.{line_text, reason_text};
+ghost use Rattle.std.specs.Prelude.{◌≡◌, ◌++◌, IfOk};
+ghost use Rattle.bsc_log.specs.Lines.{line_text, reason_text, what_text, whose_text, why_text};
 
 use crate::event::Event;
-use crate::fields::{Address, Connection, Device};
+use crate::fields::{put_connection, put_field, put_peer};
 use crate::line::Line;
-use std::fmt::{self, Display, Formatter, Write};
+use bsc_lines::put_words;
+use bsc_octets::NoMemory;
 
-/// Why something became of a link.
-#[derive(Clone, Copy)]
-struct Why(Event);
-
-impl Display for Why {
-    ghost output = { λ why. Some (reason_text why.0) };
-
-    fn fmt<W: Write>(&self, f: &mut Formatter<W>) -> fmt::Result {
-        match self.0 {
-            Event::Joined => f.write_str("-"),
-            Event::TookOver(conn) => write!(f, "took over connection {conn}"),
-            Event::Refused(refusal) => f.write_str(refusal.text()),
-            Event::Denied => f.write_str("policy"),
-            Event::Ended(cause) => f.write_str(cause.text()),
-            Event::NoSession => f.write_str("no session"),
-        }
+/// Puts why something became of a link.
+fn put_reason(text: &mut Vec<u8>, event: Event) -> Result<(), NoMemory>
+    ensures { IfOk result (λ _. text.new.items ≡ text.old.items ++ reason_text event) }
+{
+    match event {
+        Event::Joined => put_words(text, "-"),
+        Event::TookOver(conn) => put_field(text, "took over connection ", conn),
+        Event::Refused(refusal) => put_words(text, refusal.text()),
+        Event::Denied => put_words(text, "policy"),
+        Event::Ended(cause) => put_words(text, cause.text()),
+        Event::NoSession => put_words(text, "no session"),
     }
 }
 
-impl Display for Line {
-    ghost output = { λ line. Some (line_text line) };
+/// Puts the time, what became of the link, and its number.
+fn put_what(text: &mut Vec<u8>, line: &Line) -> Result<(), NoMemory>
+    ensures { IfOk result (λ _. text.new.items ≡ text.old.items ++ what_text line.now) }
+{
+    put_words(text, line.stamp.as_str())?;
+    put_words(text, " hub ")?;
+    put_words(text, line.event.word())?;
+    put_field(text, " link ", line.link)
+}
 
-    fn fmt<W: Write>(&self, f: &mut Formatter<W>) -> fmt::Result {
-        let stamp = self.stamp.as_str();
-        let word = self.event.word();
-        let link = self.link;
-        let conn = Connection(self.conn);
-        let vmac = Address(self.who.map(|who| who.vmac));
-        let device = Device(self.who.map(|who| who.device));
-        let received = self.received;
-        let sent = self.sent;
-        let why = Why(self.event);
-        write!(
-            f,
-            "{stamp} hub {word} link {link} connection {conn} vmac {vmac} device {device} received {received} sent {sent} cause {why}"
-        )
+/// Puts the link's connection, and who asked to join.
+fn put_whose(text: &mut Vec<u8>, line: &Line) -> Result<(), NoMemory>
+    ensures { IfOk result (λ _. text.new.items ≡ text.old.items ++ whose_text line.now) }
+{
+    put_words(text, " connection ")?;
+    put_connection(text, line.conn)?;
+    put_peer(text, &line.who)
+}
+
+/// Puts how many messages came and were put, and why it became so.
+fn put_why(text: &mut Vec<u8>, line: &Line) -> Result<(), NoMemory>
+    ensures { IfOk result (λ _. text.new.items ≡ text.old.items ++ why_text line.now) }
+{
+    put_field(text, " received ", line.received)?;
+    put_field(text, " sent ", line.sent)?;
+    put_words(text, " cause ")?;
+    put_reason(text, line.event)
+}
+
+impl Line {
+    /// Puts the text of the line at the end of a text. Where there is no memory for all of it, a part of it may stand there.
+    pub fn put(&self, text: &mut Vec<u8>) -> Result<(), NoMemory>
+        ensures { IfOk result (λ _. text.new.items ≡ text.old.items ++ line_text self.now) }
+    {
+        put_what(text, self)?;
+        put_whose(text, self)?;
+        put_why(text, self)
     }
 }

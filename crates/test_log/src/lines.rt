@@ -6,7 +6,7 @@ use std::test::*;
 use std::time::Duration;
 
 /// Instants in milliseconds of 1970, as Python's `datetime` has them.
-const STAMPS: [(u64, &str); 8] = [
+const STAMPS: [(u64, &str); 9] = [
     (0, "1970-01-01T00:00:00.000Z"),
     (946_684_799_999, "1999-12-31T23:59:59.999Z"),
     (951_825_600_000, "2000-02-29T12:00:00.000Z"),
@@ -14,8 +14,9 @@ const STAMPS: [(u64, &str); 8] = [
     (1_795_928_601_123, "2026-11-29T05:03:21.123Z"),
     (2_147_483_648_500, "2038-01-19T03:14:08.500Z"),
     (4_107_542_400_010, "2100-03-01T00:00:00.010Z"),
-    // Past the last instant of the calendar that is used, its last one is told.
-    (u64::MAX, "9999-12-30T22:00:00.999Z"),
+    (253_402_300_799_999, "9999-12-31T23:59:59.999Z"),
+    // Past the calendar's last day, that day is told.
+    (u64::MAX, "9999-12-31T14:25:51.615Z"),
 ];
 
 #[test]
@@ -107,8 +108,9 @@ fn lines_have_one_form(rt: HostRuntime) -> Result<(), NoMemory> {
             sent: 20,
         };
         let wanted = format!(in rt.alloc(); "2026-11-29T05:03:21.123Z hub {word} link 3 {rest}")?;
-        let text = format!(in rt.alloc(); "{line}")?;
-        assert!(rt; text.as_str() == wanted.as_str(), "{text}");
+        let mut text = Vec::new(rt.alloc());
+        line.put(&mut text)?;
+        assert!(rt; text.as_slice() == wanted.as_bytes(), "{word}");
     }
     Ok(())
 }
