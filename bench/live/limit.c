@@ -4,8 +4,12 @@
 // asks for alone: it answers the one key that wire.h sends, and takes no frame in parts.
 //
 //     limit [SHAPE] PORT LINKS
+//     limit --journal PREFIX PORT LINKS
 //
 // It listens at 127.0.0.1, and after so many links it writes the counts that `bsc hub --sessions` writes, and ends.
+//
+// With a prefix each connection has a file, PREFIX.NUMBER, into which its thread writes a line for each message that it passes
+// on, as long as the hub's own line of it, by one call, before it does anything else. It is there to learn what such a line costs.
 //
 // Other shapes need fewer descriptors a connection, and are there to learn what they cost:
 //
@@ -17,6 +21,7 @@
 #define _GNU_SOURCE
 #include "wire.h"
 
+#include <fcntl.h>
 #include <linux/futex.h>
 #include <pthread.h>
 #include <stdatomic.h>
@@ -37,7 +42,7 @@ struct message {
 
 struct peer {
     struct link link;
-    int watch, wake, code;
+    int watch, wake, code, journal;
     atomic_bool joined, closing;
     uint8_t vmac[6], device[16];
     size_t longest;
@@ -59,6 +64,8 @@ static pthread_mutex_t lock = PTHREAD_MUTEX_INITIALIZER;
 static struct peer *by_vmac[SLOTS], *live;
 static unsigned long joined, replaced, refused, unicasts, broadcasts, appended, dropped, full, missed;
 static long links, left;
+static const char *prefix;
+static uint8_t digits[256][2];
 
 static struct peer **slot(const uint8_t *vmac) {
     uint32_t hash = 2166136261u;
@@ -259,12 +266,23 @@ static void forward_direct(struct peer *p, const uint8_t *m, size_t length) {
     let_go(out);
 }
 
+// The line of a message that was passed on at a place, by one call. A broadcast's has no list of those who got it.
+static void write_line(struct peer *p, unsigned long place, const uint8_t *m, size_t length, unsigned conn) {
+    char *line = malloc(2 * length + 160);
+    if (!line) abort();
+    size_t at = (size_t)sprintf(line, "%lu %d forward %d ", place, p->link.socket, p->link.socket);
+    for (size_t i = 0; i < length; i++, at += 2) memcpy(line + at, digits[m[i]], 2);
+    at += (size_t)sprintf(line + at, " looks %u:%lu sent %u\n", conn, place, conn);
+    if (write(p->journal, line, at) != (ssize_t)at) abort();
+    free(line);
+}
+
 static void forward(struct peer *p, const uint8_t *m, size_t length) {
     bool to_all = !memcmp(m + 4, everyone, 6);
     struct message *out = passed_on(p, m, length, to_all);
     size_t whole = to_all ? length + 6 : length;
     pthread_mutex_lock(&lock);
-    unsigned long before = appended;
+    unsigned long before = appended, place = unicasts + broadcasts;
     if (to_all) {
         broadcasts++;
         for (struct peer *other = live; other; other = other->after)
@@ -276,6 +294,7 @@ static void forward(struct peer *p, const uint8_t *m, size_t length) {
     }
     if (appended == before) dropped++;
     pthread_mutex_unlock(&lock);
+    if (p->journal >= 0) write_line(p, place, m, length, (unsigned)p->link.socket + 1);
     let_go(out);
 }
 
@@ -413,7 +432,12 @@ static void set_up(struct peer *p) {
     int yes = 1;
     struct epoll_event both[2] = {{.events = EPOLLIN, .data.u32 = 0}, {.events = EPOLLIN, .data.u32 = 1}};
     setsockopt(p->link.socket, IPPROTO_TCP, TCP_NODELAY, &yes, sizeof yes);
-    p->watch = p->wake = -1;
+    p->watch = p->wake = p->journal = -1;
+    if (prefix) {
+        char path[4096];
+        snprintf(path, sizeof path, "%s.%d", prefix, p->link.socket);
+        if ((p->journal = open(path, O_WRONLY | O_CREAT | O_TRUNC | O_CLOEXEC, 0666)) < 0) abort();
+    }
     if (shape < THREADS && (p->wake = eventfd(0, EFD_CLOEXEC | EFD_NONBLOCK)) < 0) abort();
     if (shape > EPOLL) return;
     p->watch = epoll_create1(EPOLL_CLOEXEC);
@@ -443,6 +467,7 @@ static void *serve(void *of) {
     for (unsigned i = atomic_load(&p->taken); i != atomic_load(&p->put); i++) let_go(p->outbox[i % OUTBOX]);
     if (p->watch >= 0) close(p->watch);
     if (p->wake >= 0) close(p->wake);
+    if (p->journal >= 0) close(p->journal);
     let_peer_go(p);
     if (last) {
         printf("hub counts joined=%lu replaced=%lu refused=%lu unicasts=%lu broadcasts=%lu appended=%lu dropped=%lu full=%lu missed=%lu\n",
@@ -453,6 +478,11 @@ static void *serve(void *of) {
 }
 
 int main(int count, char **words) {
+    if (count == 5 && !strcmp(words[1], "--journal")) {
+        prefix = words[2];
+        for (unsigned i = 0; i < 256; i++) memcpy(digits[i], (uint8_t[]){"0123456789ABCDEF"[i / 16], "0123456789ABCDEF"[i % 16]}, 2);
+        words += 2, count -= 2;
+    }
     if (count == 4) {
         while (shape <= DIRECT && strcmp(words[1], shapes[shape])) shape++;
         words++, count--;

@@ -39,8 +39,9 @@ class TooBusy(Failed):
 PROGRAM = os.environ.get("BSC", str(ROOT / "bsc"))
 # Another program of bsc, as one of an earlier commit: it is met in place of the relays.
 BEFORE = os.environ.get("BEFORE")
-# The kind of a hub of bsc that writes journals.
+# The kind of a hub of bsc that writes journals, and that of limit.c which writes lines as long.
 RECORDED = "bsc --journal"
+LIMIT_RECORDED = "limit --journal"
 # The kinds of limit.c in each of its shapes. The first is the one that it has where none is named.
 SHAPES = [f"limit {shape}" for shape in ("epoll", "ppoll", "threads", "direct")]
 # How many octets an audit takes.
@@ -64,8 +65,10 @@ class Bench:
         shutil.rmtree(self.journals, ignore_errors=True)
 
     def add_recorded(self):
-        """The hub of bsc that writes journals."""
+        """The hub of bsc that writes journals, and the relay of its shape that writes lines as long, where that can be built."""
         self.hubs[RECORDED] = self.hubs["bsc"]
+        if "limit" in self.hubs or self.compile("limit"):
+            self.hubs["limit"] = self.hubs[LIMIT_RECORDED] = [str(self.work / "limit")]
 
     def add_shapes(self):
         """The shapes of limit.c; False where it can't be built."""
@@ -132,6 +135,10 @@ class Hub:
                 words += ["--journal", str(self.bench.journals / "j")]
         else:
             words = [str(self.port), str(self.links)]
+            if self.kind == LIMIT_RECORDED:
+                for file in self.bench.journals.iterdir():
+                    file.unlink()
+                words = ["--journal", str(self.bench.journals / "l"), *words]
             # This one has two loops, for few links at once and for many.
             if self.kind == "libwebsockets" and self.at_once:
                 words.append(str(self.at_once))
