@@ -1,6 +1,6 @@
 #!/usr/bin/env python3
 """Nodes of `./bsc node` at two hubs of `./bsc hub` that are killed and started again; one at a hub by another library; and one with
-32 direct connections by that library."""
+32 direct connections by that library. With the word --alone the first of these is all, and needs no library."""
 import asyncio
 import sys
 import tempfile
@@ -11,8 +11,11 @@ ROOT = Path(__file__).resolve().parents[2]
 sys.path += [str(ROOT / "bench" / "live"), str(ROOT / "interop" / "hub")]
 from live import Failed, TooBusy  # noqa: E402
 from nodes import Network, Watch  # noqa: E402
-import many  # noqa: E402
-import other_hub  # noqa: E402
+
+ALONE = sys.argv[1:] == ["--alone"]
+if not ALONE:
+    import many
+    import other_hub
 
 # How long the nodes run, in seconds, and how often each sends, in milliseconds.
 SECONDS, EVERY = 26, 100
@@ -41,6 +44,9 @@ def by_itself(scene, folder):
 
 def main():
     with tempfile.TemporaryDirectory() as folder:
+        if ALONE:
+            print(f"check-node: {at_hubs(folder)}; no more of it, since python3-websockets is not installed")
+            return
         print(f"check-node: {at_hubs(folder)}; {by_itself(other_hub.meet, folder)} came back from a hub by websockets; "
               f"{by_itself(many.meet, folder)} went by 32 direct connections")
 
