@@ -4,3 +4,4 @@ pub mod Layout
 pub mod PayloadChecks
 pub mod Checks
 pub mod Walk
+pub mod CheckNames

@@ -1,4 +1,6 @@
 //! The checks of a message, in their order.
+ghost use Rattle.std.specs.Prelude.{◌≡◌};
+ghost use Rattle.bsc_frame.specs.CheckNames.{check_name};
 
 /// A check of a message, named as the printed output names it. The order of the variants is the order of the
 /// checks: the first that fails decides what becomes of the message.
@@ -40,4 +42,30 @@ pub enum Check {
     C12,
     /// The function is out of place.
     C13,
+}
+
+impl Check {
+    /// Its name, as it is written.
+    pub fn name(self) -> &'static str
+        ensures { result.now ≡ check_name self }
+    {
+        match self {
+            Check::C1 => "C1",
+            Check::C2 => "C2",
+            Check::C3 => "C3",
+            Check::C4 => "C4",
+            Check::C5 => "C5",
+            Check::C6 => "C6",
+            Check::C7 => "C7",
+            Check::C7b => "C7b",
+            Check::C8 => "C8",
+            Check::C9 => "C9",
+            Check::C10 => "C10",
+            Check::C10b => "C10b",
+            Check::C10c => "C10c",
+            Check::C11 => "C11",
+            Check::C12 => "C12",
+            Check::C13 => "C13",
+        }
+    }
 }

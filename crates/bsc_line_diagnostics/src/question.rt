@@ -1,11 +1,11 @@
 //! Lines of `check` (docs/CHECKS.md, "The command `check`").
 ghost use Rattle.std.specs.Prelude.{◌≡◌, None, IfSome};
-ghost use Rattle.bsc_check_lines.specs.Asking.{line_of};
+ghost use Rattle.bsc_replay.specs.Asking.{line_of};
 
-use bsc_check_lines::{Line, read_line};
 use bsc_diagnostics::{Diagnostic, hold, hold_octets, word_of};
 use bsc_octets::NoMemory;
 use bsc_player::LineFault;
+use bsc_replay::{Line, read_line};
 use bsc_text::next_word;
 use std::alloc::Global;
 

@@ -4,7 +4,7 @@ use Rattle.hex.specs.Hex.{encode_upper}
 use Rattle.bsc_frame.specs.declared.check.Check.{Check}
 use Rattle.bsc_accept.specs.declared.closing.Closing.{Closing}
 use Rattle.bsc_accept.specs.Reasons.{reason_text}
-use Rattle.bsc_check_lines.specs.Answering.{check_name}
+use Rattle.bsc_frame.specs.CheckNames.{check_name}
 
 -- ---- messages, silence and closings
 

@@ -5,7 +5,6 @@ ghost use Rattle.bsc_script.specs.Texts.{out_words, silent_words, behind_space, 
 ghost use Rattle.bsc_lines.specs.Replies.{numbered_word};
 
 use bsc_accept::Closing;
-use bsc_check_lines::check_name;
 use bsc_checks::Check;
 use bsc_lines::{put_hex, put_number, put_words};
 use bsc_octets::NoMemory;
@@ -72,7 +71,7 @@ pub(crate) fn put_silent(text: &mut Vec<u8>, name: &[u8], check: Check) -> Resul
 {
     begin_line(text, name)?;
     put_words(text, "silent ")?;
-    put_words(text, check_name(check))?;
+    put_words(text, check.name())?;
     put_words(text, "\n")
 }
 

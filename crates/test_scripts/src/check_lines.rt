@@ -1,5 +1,5 @@
 //! What lines ask, and which lines are refused.
-use bsc_check_lines::{Line, read_line};
+use bsc_replay::{Line, read_line};
 use bsc_checks::{Phase, Place};
 use bsc_octets::Vmac;
 use bsc_player::LineFault;

@@ -1,36 +1,13 @@
 //! The line that answers a question.
 ghost use Rattle.std.specs.Prelude.{◌≡◌, ◌++◌, IfOk, codes};
 ghost use Rattle.hex.specs.Hex.{encode_upper};
-ghost use Rattle.bsc_check_lines.specs.Answering.{check_name, verdict_line};
+ghost use Rattle.bsc_frame.specs.CheckNames.{check_name};
+ghost use Rattle.bsc_replay.specs.Answering.{verdict_line};
 
 use bsc_checks::{Check, Verdict};
 use bsc_lines::{put_hex, put_words};
 use bsc_octets::NoMemory;
 use std::alloc::Global;
-
-/// The name of a check, as it is written.
-pub fn check_name(check: Check) -> &'static str
-    ensures { result.now ≡ check_name check }
-{
-    match check {
-        Check::C1 => "C1",
-        Check::C2 => "C2",
-        Check::C3 => "C3",
-        Check::C4 => "C4",
-        Check::C5 => "C5",
-        Check::C6 => "C6",
-        Check::C7 => "C7",
-        Check::C7b => "C7b",
-        Check::C8 => "C8",
-        Check::C9 => "C9",
-        Check::C10 => "C10",
-        Check::C10b => "C10b",
-        Check::C10c => "C10c",
-        Check::C11 => "C11",
-        Check::C12 => "C12",
-        Check::C13 => "C13",
-    }
-}
 
 /// Puts the line of silence at a check.
 fn put_silence(text: &mut Vec<u8>, check: Check) -> Result<(), NoMemory>
@@ -38,7 +15,7 @@ fn put_silence(text: &mut Vec<u8>, check: Check) -> Result<(), NoMemory>
         ≡ text.old.items ++ (codes "silent " ++ check_name check ++ codes "\n")) }
 {
     put_words(text, "silent ")?;
-    put_words(text, check_name(check))?;
+    put_words(text, check.name())?;
     put_words(text, "\n")
 }
 
@@ -48,7 +25,7 @@ fn put_nak(text: &mut Vec<u8>, alloc: Global, check: Check, octets: &[u8]) -> Re
         ++ (codes "nak " ++ check_name check ++ codes " " ++ encode_upper octets.now ++ codes "\n")) }
 {
     put_words(text, "nak ")?;
-    put_words(text, check_name(check))?;
+    put_words(text, check.name())?;
     put_words(text, " ")?;
     put_hex(text, alloc, octets)?;
     put_words(text, "\n")

@@ -8,8 +8,8 @@ use Rattle.bsc_checks.specs.declared.phase.Phase.{Phase}
 use Rattle.bsc_checks.specs.declared.phase.Phase.TheVariants.{AwaitingRequest, AwaitingAccept, Connected, Disconnecting}
 use Rattle.bsc_checks.specs.declared.place.Place.{Place}
 use Rattle.bsc_checks.specs.declared.place.Place.TheVariants.{HubPort, NodeHub, NodeDirect}
-use Rattle.bsc_check_lines.specs.declared.line.Line.{Line}
-use Rattle.bsc_check_lines.specs.declared.line.Line.TheVariants.{Nothing, Question}
+use Rattle.bsc_replay.specs.declared.line.Line.{Line}
+use Rattle.bsc_replay.specs.declared.line.Line.TheVariants.{Nothing, Question}
 
 -- ---- PHASE
 

@@ -2,7 +2,7 @@
 ghost use Rattle.std.specs.Prelude.{◌≡◌, IfOk, Some, None, Err};
 ghost use Rattle.bsc_text.specs.Words.{words_of};
 ghost use Rattle.bsc_text.specs.Grammar.{octets_of_words};
-ghost use Rattle.bsc_check_lines.specs.Asking.{phase_of_word, place_in, max_of_word, question_of, question_of_words, line_of};
+ghost use Rattle.bsc_replay.specs.Asking.{phase_of_word, place_in, max_of_word, question_of, question_of_words, line_of};
 
 use crate::places::{read_max, read_phase, read_place};
 use bsc_checks::Place;

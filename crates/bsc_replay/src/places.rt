@@ -1,6 +1,6 @@
 //! Places, phases and greatest lengths as words.
 ghost use Rattle.std.specs.Prelude.{◌≡◌, take, drop};
-ghost use Rattle.bsc_check_lines.specs.Asking.{phase_of_word, peer_of_word, place_of_word, max_of_word};
+ghost use Rattle.bsc_replay.specs.Asking.{phase_of_word, peer_of_word, place_of_word, max_of_word};
 
 use bsc_checks::{Phase, Place};
 use bsc_octets::Vmac;

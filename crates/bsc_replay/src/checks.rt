@@ -1,32 +1,52 @@
-//! The lines of `check`, as a language of the player.
-ghost use Rattle.std.specs.Prelude.{◌≡◌, ◌≤◌, ℕ, List, Some, None};
+//! The language of `check`.
+ghost use Rattle.std.specs.Prelude.{◌≡◌, ◌≤◌, ℕ, List, ⊤, Some, None};
 ghost use Rattle.bsc_player.specs.Ends.{PlaysOut, AcceptsLines};
 ghost use Rattle.bsc_player.specs.Faults.{RisesIf};
-ghost use Rattle.bsc_checks.specs.Outcomes.{outcome_of};
-ghost use Rattle.bsc_replay.specs.Checks.{check_of};
+ghost use Rattle.bsc_replay.specs.Checks.{checking, check_of};
 
-use bsc_check_lines::{Judge, check_by};
-use bsc_checks::{Place, Verdict, judge};
-use bsc_octets::NoMemory;
+use crate::answering::put_verdict;
+use crate::line::{Line, read_line};
+use bsc_checks::judge;
 use bsc_outside::{Sink, Source};
-use bsc_player::PlayEnd;
+use bsc_player::{Language, LineFault, PlayEnd, play_lines};
 use std::alloc::Global;
 
-/// The verdicts that messages have at their places.
+/// The language of `check`.
 #[derive(Drop)]
-struct Verdicts;
+struct Checks;
 
-impl Judge for Verdicts {
-    ghost verdict_of = { outcome_of };
+impl Language for Checks {
+    ghost State = { ⊤ };
 
-    fn judge(
-        &self,
+    ghost means = { checking };
+
+    ghost stands_for = { λ it s. ⊤ };
+
+    fn carry_out(
+        &mut self,
         alloc: Global,
-        message: &[u8],
-        place: &Place,
-        max: u16,
-    ) -> Result<Verdict, NoMemory> {
-        judge(alloc, message, place, max)
+        line: &[u8],
+        text: &mut Vec<u8>,
+    ) -> Result<(), LineFault> {
+        match read_line(alloc, line) {
+            Ok(Line::Nothing) => Ok(()),
+            Ok(
+                Line::Question {
+                    place,
+                    max,
+                    message,
+                },
+            ) => {
+                let verdict = judge(alloc, message.as_slice(), &place, max)?;
+                put_verdict(text, alloc, &verdict)?;
+                Ok(())
+            }
+            Err(fault) => Err(fault),
+        }
+    }
+
+    fn may_end(&self) -> bool {
+        true
     }
 }
 
@@ -46,5 +66,6 @@ pub fn check<S: Source, K: Sink>(alloc: Global, source: &mut S, sink: &mut K) ->
     ensures reads_later { S.faults source.old ≤ S.faults source.new }
     ensures writes_later { K.faults sink.old ≤ K.faults sink.new }
 {
-    check_by(alloc, Verdicts, source, sink)
+    let mut language = Checks;
+    play_lines(alloc, &mut language, source, sink)
 }
