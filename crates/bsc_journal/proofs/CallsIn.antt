@@ -1,10 +1,9 @@
--- Calls, read a word at a time.
+-- Leaves, read a word at a time.
 use Rattle.std.proofs.Common.{◌≡◌, ℕ, List, [], ◌∷◌, Option, Some, None, refl, ap, ◌∙◌}
 use Rattle.std.specs.Option.{option_map}
-use Rattle.hex.specs.Hex.{decode_of}
-use Rattle.bsc_history.specs.declared.call.Call.TheVariants.{Forward, Leave}
-use Rattle.bsc_text.specs.Grammar.{decoded, number_of}
-use Rattle.bsc_journal.specs.Reading.{Read, after_one, asked, forward_in, forward_of, leave_in, leave_of, looks_of, number_in, numbers_in, read}
+use Rattle.bsc_history.specs.declared.call.Call.TheVariants.{Leave}
+use Rattle.bsc_text.specs.Grammar.{number_of}
+use Rattle.bsc_journal.specs.Reading.{Read, asked, leave_in, leave_of, number_in, read}
 
 pub taken_apart : (o : Option ℕ) (ws : List (List ℕ)) (n : ℕ) (rest : List (List ℕ)) → option_map (λ m. read m ws) o ≡ Some (read n rest) → (o ≡ Some n) × (ws ≡ rest)
 taken_apart None ws n rest e = absurd cc
@@ -64,52 +63,3 @@ leave_all (w ∷ x ∷ y ∷ ws) conn r taken s empties t e f g =
     let b = taken_apart (number_of x) (y ∷ ws) taken s (ap number_in a.1 ∙ f) in
     let c = taken_apart (number_of y) ws empties t (ap number_in b.1 ∙ g) in
     λ i. leave_of (c.1 i) (a.0 i) (b.0 i) (c.0 i)
-
--- ---- forwards
-
-forward_cut : (looks : Read (List ℕ)) (a : Option ℕ) → forward_of looks a None ≡ None
-forward_cut looks None = refl
-forward_cut looks (Some conn) = refl
-
-pub forward_first : (ws : List (List ℕ)) → number_in ws ≡ None → forward_in ws ≡ None
-forward_first [] e = refl
-forward_first (w ∷ []) e = refl
-forward_first (w ∷ x ∷ ws) e =
-    ap (λ (o : Option ℕ). forward_of (numbers_in (after_one ws)) o (decoded (decode_of x))) (no_number (number_of w) (x ∷ ws) e)
-
-pub forward_short : (ws : List (List ℕ)) (conn : ℕ) (r : List (List ℕ)) → number_in ws ≡ Some (read conn r) → r ≡ [] → forward_in ws ≡ None
-forward_short [] conn r e f = refl
-forward_short (w ∷ []) conn r e f = refl
-forward_short (w ∷ x ∷ ws) conn r e f =
-    let a = taken_apart (number_of w) (x ∷ ws) conn r e in
-    let no : x ∷ ws ≡ [] = a.1 ∙ f in
-    absurd cc
-
-abbrev frame_at : List (List ℕ) → Option (List ℕ)
-frame_at [] = None
-frame_at (w ∷ ws) = decoded (decode_of w)
-
-pub forward_bad : (ws : List (List ℕ)) (conn : ℕ) (r : List (List ℕ)) (w : List ℕ) (s : List (List ℕ)) → number_in ws ≡ Some (read conn r) → r ≡ w ∷ s → decoded (decode_of w) ≡ None → forward_in ws ≡ None
-forward_bad [] conn r w s e f g = refl
-forward_bad (v ∷ []) conn r w s e f g = refl
-forward_bad (v ∷ x ∷ ws) conn r w s e f g =
-    let a = taken_apart (number_of v) (x ∷ ws) conn r e in
-    let none : decoded (decode_of x) ≡ None = ap frame_at (a.1 ∙ f) ∙ g in
-    ap (λ (o : Option (List ℕ)). forward_of (numbers_in (after_one ws)) (number_of v) o) none ∙ forward_cut (numbers_in (after_one ws)) (number_of v)
-
-abbrev after_two : List (List ℕ) → Read (List ℕ)
-after_two ws = numbers_in (after_one (after_one ws))
-
-pub forward_all : (ws : List (List ℕ)) (conn : ℕ) (r : List (List ℕ)) (w : List ℕ) (s : List (List ℕ)) (frame ns : List ℕ) (t : List (List ℕ)) →
-    number_in ws ≡ Some (read conn r) → r ≡ w ∷ s → decoded (decode_of w) ≡ Some frame → numbers_in (after_one s) ≡ read ns t →
-    forward_in ws ≡ Some (read (asked (Forward conn frame) (looks_of ns)) t)
-forward_all [] conn r w s frame ns t e f g h = cc
-forward_all (v ∷ []) conn r w s frame ns t e f g h =
-    let a = taken_apart (number_of v) [] conn r e in
-    let no : [] ≡ w ∷ s = a.1 ∙ f in
-    absurd cc
-forward_all (v ∷ x ∷ ws) conn r w s frame ns t e f g h =
-    let a = taken_apart (number_of v) (x ∷ ws) conn r e in
-    let some : decoded (decode_of x) ≡ Some frame = ap frame_at (a.1 ∙ f) ∙ g in
-    let looks : numbers_in (after_one ws) ≡ read ns t = ap after_two (a.1 ∙ f) ∙ h in
-    λ i. forward_of (looks i) (a.0 i) (some i)

@@ -8,6 +8,7 @@ pub mod Steps
 pub mod Found
 pub mod Whole
 pub mod CallsIn
+pub mod Forwards
 pub mod EntriesIn
 pub mod HubLines
 pub mod SaidOnce

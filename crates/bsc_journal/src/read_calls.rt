@@ -59,7 +59,7 @@ fn read_connect(alloc: Global, words: &[u8]) -> Result<(Call, Looks, &[u8]), Lin
 }
 
 /// A forward, by the words after its name.
-#[tactic(auto, using(crate::proofs::CallsIn::forward_first, crate::proofs::CallsIn::forward_short, crate::proofs::CallsIn::forward_bad, crate::proofs::CallsIn::forward_all))]
+#[tactic(auto, using(crate::proofs::Forwards::first, crate::proofs::Forwards::short, crate::proofs::Forwards::bad, crate::proofs::Forwards::all))]
 fn read_forward(alloc: Global, words: &[u8]) -> Result<(Call, Looks, &[u8]), LineFault>
     ensures read { IfOk result (λ (call, looks, rest). forward_in (words_of words.now) ≡ Some (read (asked call looks) (words_of rest.now))) }
     ensures refused { result ≡ Err LineFault.Refused → forward_in (words_of words.now) ≡ None }
