@@ -2,7 +2,6 @@
 ghost use Rattle.bsc_hub.specs.Passing.{IsCaller};
 
 mod guarded;
-mod random;
 mod recorded;
 mod table;
 mod waits;
@@ -33,7 +32,7 @@ enum Given {
     Quiet,
 }
 
-pub(crate) fn message(alloc: Global, octets: &[u8]) -> Result<Incoming, NoMemory> {
+fn message(alloc: Global, octets: &[u8]) -> Result<Incoming, NoMemory> {
     Ok(Incoming::Message(Octets::from_vec(Vec::from_slice(alloc, octets)?)))
 }
 
