@@ -17,7 +17,7 @@ use Rattle.bsc_edge.specs.declared.said.Said.TheVariants.{Gave}
 use Rattle.bsc_session.specs.Receiving.{Answer, replies, Hearing}
 use Rattle.bsc_session.specs.Standings.{Standing, Terms}
 use Rattle.bsc_session.specs.Talk.{Session, leaving, named}
-use Rattle.bsc_session.specs.Taking.{Opening, IsOpening, opened, stop_before}
+use Rattle.bsc_session.specs.Taking.{IsOpening, Opening, full_wait, opened, stop_before}
 use Rattle.bsc_session.specs.Turns.{Turn, IsTurn}
 use Rattle.bsc_session.specs.Answering.{AnswerFits, calls_hub, put_after, step_of}
 use Rattle.bsc_session.specs.Course.{SessionCourse, empties_of, end_of, entries_of, frames_of, readings_of, talk_of}
@@ -62,7 +62,7 @@ abbrev pub accept : List ℕ
 accept = 0x07 ∷ 0x00 ∷ 0x00 ∷ 0x01 ∷ hub_octets
 
 abbrev pub connects : Said
-connects = Gave 500 (Ok (Message connect))
+connects = Gave full_wait (Ok (Message connect))
 
 abbrev pub joins_as : ℕ → Turn
 joins_as c = given_at 0 (Ok (Message connect)) (Some (replies 0 [] (Joined c None))) None

@@ -17,7 +17,7 @@ use Rattle.bsc_session.specs.declared.why.Why.TheVariants.{PeerLeft, EndedBy, No
 use Rattle.bsc_session.specs.Receiving.{worn}
 use Rattle.bsc_session.specs.Standings.{Standing, Terms}
 use Rattle.bsc_session.specs.Stops.{stop_at, stop_closing}
-use Rattle.bsc_session.specs.Taking.{IsOpening}
+use Rattle.bsc_session.specs.Taking.{IsOpening, full_wait}
 use Rattle.bsc_session.specs.Talk.{Session}
 use Rattle.bsc_session.specs.Turns.{IsTurn, Turn}
 use Rattle.bsc_session.proofs.TalkWords.{a_octets, terms, reads, given_at, connect, accept, connects, joins, joined_as, left_as, back, to_b, farewell, farewell_ack, hears, told_by}
@@ -57,7 +57,7 @@ an_end_has_frames_before_it = told_by terms (record {
 
 -- A message of A is to be forwarded, and the hub has made as many calls as it may.
 the_hub_is_worn : Session terms
-    (connects ∷ Put accept None ∷ Gave 500 (Ok (Message (to_b 1))) ∷ SaidClosed 1008 (reason_text HubWorn) ∷ [])
+    (connects ∷ Put accept None ∷ Gave full_wait (Ok (Message (to_b 1))) ∷ SaidClosed 1008 (reason_text HubWorn) ∷ [])
     (0 ∷ 0 ∷ [])
     (joined_as 1 ∷ left_as 1 0 1 ∷ [])
     []
@@ -91,7 +91,7 @@ no_memory_is_found = told_by terms (record {
 
 -- A's connection is replaced: A is put a Disconnect-Request, answers it, and the link is closed.
 a_replaced_one_answers : Session terms
-    (connects ∷ Put accept None ∷ Put farewell None ∷ Gave 500 (Ok (Message farewell_ack)) ∷ SaidClosed 1000 [] ∷ [])
+    (connects ∷ Put accept None ∷ Put farewell None ∷ Gave full_wait (Ok (Message farewell_ack)) ∷ SaidClosed 1000 [] ∷ [])
     (0 ∷ 0 ∷ [])
     (joined_as 1 ∷ record { caller = 3; call = Leave 1 0 0; looks = []; reply = Gone Replaced 0 } ∷ [])
     []

@@ -15,12 +15,13 @@ use Rattle.bsc_session.specs.declared.bounds.TheConstants.{TAKES}
 use Rattle.bsc_session.specs.declared.why.Why.TheVariants.{PeerClosed, NotBinary, PeerLeft, Refused as WhyRefused, WaitExpired, LinkFault as WhyLinkFault}
 use Rattle.bsc_session.specs.Receiving.{replies}
 use Rattle.bsc_session.specs.Stops.{stop_at, stop_for, stop_closing}
+use Rattle.bsc_session.specs.Taking.{full_wait}
 use Rattle.bsc_session.specs.Talk.{Session}
 use Rattle.bsc_session.proofs.TalkWords.{a_octets, terms, reads, bare, given_at, gives, connect, accept, connects, joins_as, joins, joined_as, left_as, to_itself, back, to_b, leaves, leaves_ack, cut, too_long, forwards_to, forwarded, hears, told_by}
 
 -- The link gives A's connect, and then Closed; nothing fails.
 nothing_fails : Session terms
-    (connects ∷ Put accept None ∷ Gave 500 (Ok Closed) ∷ [])
+    (connects ∷ Put accept None ∷ Gave full_wait (Ok Closed) ∷ [])
     (0 ∷ 0 ∷ [])
     (joined_as 1 ∷ left_as 1 0 1 ∷ [])
     []
@@ -37,7 +38,7 @@ nothing_fails = told_by terms (record {
 
 -- The same, and call 1, the receive, fails.
 call_1_fails : Session terms
-    (Gave 500 (Err Failed) ∷ [])
+    (Gave full_wait (Err Failed) ∷ [])
     (0 ∷ [])
     []
     []
@@ -71,7 +72,7 @@ call_2_fails = told_by terms (record {
 
 -- Call 3, the second receive, fails.
 call_3_fails : Session terms
-    (connects ∷ Put accept None ∷ Gave 500 (Err Failed) ∷ [])
+    (connects ∷ Put accept None ∷ Gave full_wait (Err Failed) ∷ [])
     (0 ∷ 0 ∷ [])
     (joined_as 1 ∷ left_as 1 0 1 ∷ [])
     []
@@ -88,7 +89,7 @@ call_3_fails = told_by terms (record {
 
 -- A sends to itself; call 4, the put of the frame that comes back, fails.
 a_frame_cannot_leave : Session terms
-    (connects ∷ Put accept None ∷ Gave 500 (Ok (Message to_itself)) ∷ Put back (Some Failed) ∷ [])
+    (connects ∷ Put accept None ∷ Gave full_wait (Ok (Message to_itself)) ∷ Put back (Some Failed) ∷ [])
     (0 ∷ 0 ∷ 0 ∷ [])
     (joined_as 1 ∷ forwarded 1 1 to_itself Appended ∷ left_as 1 1 1 ∷ [])
     (back ∷ [])
@@ -105,7 +106,7 @@ a_frame_cannot_leave = told_by terms (record {
 
 -- A text comes.
 a_text_comes : Session terms
-    (connects ∷ Put accept None ∷ Gave 500 (Ok Text) ∷ SaidClosed 1003 [] ∷ [])
+    (connects ∷ Put accept None ∷ Gave full_wait (Ok Text) ∷ SaidClosed 1003 [] ∷ [])
     (0 ∷ 0 ∷ [])
     (joined_as 1 ∷ left_as 1 0 1 ∷ [])
     []
@@ -122,7 +123,7 @@ a_text_comes = told_by terms (record {
 
 -- The same, and call 4, the closing, fails: the talk has it, whatever it answered.
 a_text_comes_and_the_closing_fails : Session terms
-    (connects ∷ Put accept None ∷ Gave 500 (Ok Text) ∷ SaidClosed 1003 [] ∷ [])
+    (connects ∷ Put accept None ∷ Gave full_wait (Ok Text) ∷ SaidClosed 1003 [] ∷ [])
     (0 ∷ 0 ∷ [])
     (joined_as 1 ∷ left_as 1 0 1 ∷ [])
     []
@@ -139,7 +140,7 @@ a_text_comes_and_the_closing_fails = told_by terms (record {
 
 -- A Disconnect-Request comes; call 4, the put of its ACK, fails.
 the_ack_cannot_leave : Session terms
-    (connects ∷ Put accept None ∷ Gave 500 (Ok (Message leaves)) ∷ Put leaves_ack (Some Failed) ∷ [])
+    (connects ∷ Put accept None ∷ Gave full_wait (Ok (Message leaves)) ∷ Put leaves_ack (Some Failed) ∷ [])
     (0 ∷ 0 ∷ [])
     (joined_as 1 ∷ left_as 1 0 1 ∷ [])
     []
@@ -156,7 +157,7 @@ the_ack_cannot_leave = told_by terms (record {
 
 -- A Disconnect-Request comes; call 5, the closing, fails, which changes nothing.
 the_peer_leaves : Session terms
-    (connects ∷ Put accept None ∷ Gave 500 (Ok (Message leaves)) ∷ Put leaves_ack None ∷ SaidClosed 1000 [] ∷ [])
+    (connects ∷ Put accept None ∷ Gave full_wait (Ok (Message leaves)) ∷ Put leaves_ack None ∷ SaidClosed 1000 [] ∷ [])
     (0 ∷ 0 ∷ [])
     (joined_as 1 ∷ left_as 1 0 1 ∷ [])
     []
@@ -173,7 +174,7 @@ the_peer_leaves = told_by terms (record {
 
 -- A head comes that is cut; nothing is answered.
 a_cut_head_comes : Session terms
-    (connects ∷ Put accept None ∷ Gave 500 (Ok (Message cut)) ∷ Gave 500 (Ok Closed) ∷ [])
+    (connects ∷ Put accept None ∷ Gave full_wait (Ok (Message cut)) ∷ Gave full_wait (Ok Closed) ∷ [])
     (0 ∷ 0 ∷ 0 ∷ [])
     (joined_as 1 ∷ left_as 1 0 2 ∷ [])
     []
@@ -190,7 +191,7 @@ a_cut_head_comes = told_by terms (record {
 
 -- A message comes of an octet too many; nothing is answered.
 a_message_too_long_comes : Session terms
-    (connects ∷ Put accept None ∷ Gave 500 (Ok (Message too_long)) ∷ Gave 500 (Ok Closed) ∷ [])
+    (connects ∷ Put accept None ∷ Gave full_wait (Ok (Message too_long)) ∷ Gave full_wait (Ok Closed) ∷ [])
     (0 ∷ 0 ∷ 0 ∷ [])
     (joined_as 1 ∷ left_as 1 0 2 ∷ [])
     []
@@ -207,7 +208,7 @@ a_message_too_long_comes = told_by terms (record {
 
 -- Two waits end without a message, and the third reading finds the connect wait over.
 no_connect_comes : Session terms
-    (Gave 500 (Ok Quiet) ∷ Gave 500 (Ok Quiet) ∷ SaidClosed 1008 (reason_text ConnectWait) ∷ [])
+    (Gave full_wait (Ok Quiet) ∷ Gave full_wait (Ok Quiet) ∷ SaidClosed 1008 (reason_text ConnectWait) ∷ [])
     (0 ∷ 9999 ∷ 10000 ∷ [])
     []
     []
@@ -241,7 +242,7 @@ the_hub_has_stopped = told_by terms (record {
 
 -- B has connection 1 and an outbox for two frames, and takes none; A sends it three.
 an_outbox_is_full : Session terms
-    (connects ∷ Put accept None ∷ Gave 500 (Ok (Message (to_b 1))) ∷ Gave 500 (Ok (Message (to_b 2))) ∷ Gave 500 (Ok (Message (to_b 3))) ∷ Gave 500 (Ok Closed) ∷ [])
+    (connects ∷ Put accept None ∷ Gave full_wait (Ok (Message (to_b 1))) ∷ Gave full_wait (Ok (Message (to_b 2))) ∷ Gave full_wait (Ok (Message (to_b 3))) ∷ Gave full_wait (Ok Closed) ∷ [])
     (0 ∷ 0 ∷ 0 ∷ 0 ∷ 0 ∷ [])
     (joined_as 2 ∷ forwarded 2 1 (to_b 1) Appended ∷ forwarded 2 1 (to_b 2) Appended ∷ forwarded 2 1 (to_b 3) ClosedReply ∷ left_as 2 0 4 ∷ [])
     []

@@ -6,5 +6,5 @@ pub const TAKES: u64 = 16;
 
 /// How long a receive waits at most, in milliseconds. A wake ends it, so no frame waits so long. A wait of the machine
 /// that is over and a stop of the hub are seen so much later at most. With less, sessions that have nothing to do cost
-/// more: 1,000 of them make 2,000 turns a second.
-pub const WAIT_MS: u32 = 500;
+/// more: 1,000 of them make 1,000 turns a second.
+pub const WAIT_MS: u32 = 1_000;

@@ -19,7 +19,7 @@ use Rattle.bsc_session.specs.Puts.{puts}
 use Rattle.bsc_session.specs.Receiving.{replies}
 use Rattle.bsc_session.specs.Standings.{Standing}
 use Rattle.bsc_session.specs.Stops.{stop_closing, stop_for, stop_unrecorded}
-use Rattle.bsc_session.specs.Taking.{IsOpening}
+use Rattle.bsc_session.specs.Taking.{IsOpening, full_wait}
 use Rattle.bsc_session.proofs.TalkWords.{accept, forwarded, left_as}
 use Rattle.bsc_session_talks.proofs.JournalWords.{Talked, told_as, turn_with, hears_by, heard_with, no_fault, no_line}
 use Rattle.bsc_session_talks.proofs.JournalWords.{a_to_c, address, asks, c_to_a, comes_from, connect_of, from_a_to_all, guarded, joined_by, joins_by, members, rules}
@@ -64,7 +64,7 @@ a_strangers_line_is_lost p m r = told_as (guarded p) (record {
 
 -- C has connection 1. A sends it a unicast, which rule 1 denies: no entry is made of it, and the session goes on.
 a_unicast_is_denied : (p : Policy) → p.members.items ≡ members → p.rules.items ≡ rules → Talked (guarded p)
-    (asks 0x0A ∷ Put accept None ∷ Gave 500 (Ok (Message a_to_c)) ∷ Gave 500 (Ok Closed) ∷ [])
+    (asks 0x0A ∷ Put accept None ∷ Gave full_wait (Ok (Message a_to_c)) ∷ Gave full_wait (Ok Closed) ∷ [])
     (0 ∷ 0 ∷ 0 ∷ [])
     (joined_by 0x0A 2 ∷ left_as 2 0 2 ∷ [])
     []
@@ -97,7 +97,7 @@ its_journal = refl
 
 -- A has connection 1, and C sends it a unicast, which rule 2 allows.
 a_unicast_is_allowed : (p : Policy) → p.members.items ≡ members → p.rules.items ≡ rules → Talked (guarded p)
-    (asks 0x0C ∷ Put accept None ∷ Gave 500 (Ok (Message c_to_a)) ∷ Gave 500 (Ok Closed) ∷ [])
+    (asks 0x0C ∷ Put accept None ∷ Gave full_wait (Ok (Message c_to_a)) ∷ Gave full_wait (Ok Closed) ∷ [])
     (0 ∷ 0 ∷ 0 ∷ [])
     (joined_by 0x0C 2 ∷ forwarded 2 1 c_to_a Appended ∷ left_as 2 0 2 ∷ [])
     []
@@ -147,7 +147,7 @@ one_denial p m r = rw (from_a_denied p m r, its_own_allowed p m r) refl
 -- C takes a broadcast of A, which rule 1 denies it, and a unicast of its own: only the unicast is put. Both count as taken,
 -- and the outbox was empty behind them.
 a_broadcast_is_filtered : (p : Policy) → p.members.items ≡ members → p.rules.items ≡ rules → Talked (guarded p)
-    (asks 0x0C ∷ Put accept None ∷ Put (comes_from 0x0C) None ∷ Gave 500 (Ok Closed) ∷ [])
+    (asks 0x0C ∷ Put accept None ∷ Put (comes_from 0x0C) None ∷ Gave full_wait (Ok Closed) ∷ [])
     (0 ∷ 0 ∷ [])
     (joined_by 0x0C 2 ∷ left_as 2 2 1 ∷ [])
     (from_a_to_all ∷ comes_from 0x0C ∷ [])
@@ -177,7 +177,7 @@ a_broadcast_is_filtered p m r = told_as (guarded p) (record {
   goes_on = (rw m refl, tt);
   stops = refl;
 }) 4 None _ _ refl tt
-    (ap (λ fs. asks 0x0C ∷ Put accept None ∷ (((puts (fs ++ []) None ++ Gave 500 (Ok Closed) ∷ []) ++ []) ++ [])) (sym (passes p m r)))
+    (ap (λ fs. asks 0x0C ∷ Put accept None ∷ (((puts (fs ++ []) None ++ Gave full_wait (Ok Closed) ∷ []) ++ []) ++ [])) (sym (passes p m r)))
     (rw (r, m) refl)
 
 -- C takes a broadcast of A, and the line of its denial isn't put.

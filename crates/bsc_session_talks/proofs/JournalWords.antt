@@ -23,7 +23,7 @@ use Rattle.bsc_session.specs.Course.{SessionCourse, empties_of, end_of, entries_
 use Rattle.bsc_session.specs.Puts.{HasPut}
 use Rattle.bsc_session.specs.Receiving.{Answer, Hearing, replies}
 use Rattle.bsc_session.specs.Standings.{Standing, Terms}
-use Rattle.bsc_session.specs.Taking.{IsOpening, opened, stop_before}
+use Rattle.bsc_session.specs.Taking.{IsOpening, full_wait, opened, stop_before}
 use Rattle.bsc_session.specs.Talk.{Session, first_lost, journal_of, leaving, lost_of, named, named_lost, noted_leaving}
 use Rattle.bsc_session.specs.Turns.{IsTurn, Turn}
 use Rattle.bsc_session.proofs.TalkWords.{connect, reads, terms}
@@ -60,7 +60,7 @@ connect_of n = 0x06 ∷ 0x00 ∷ 0x00 ∷ 0x01 ∷ peer_octets n
 
 -- its connect joins as a connection
 abbrev pub asks : ℕ → Said
-asks n = Gave 500 (Ok (Message (connect_of n)))
+asks n = Gave full_wait (Ok (Message (connect_of n)))
 
 abbrev pub joins_by : ℕ → ℕ → ℕ → Turn
 joins_by n at c = turn_with (Ok (Message (connect_of n))) (Some (replies at [] (Joined c None))) None

@@ -13,6 +13,7 @@ use Rattle.bsc_session.specs.Answering.{IsHearing}
 use Rattle.bsc_session.specs.Receiving.{replies}
 use Rattle.bsc_session.specs.Standings.{Standing}
 use Rattle.bsc_session.specs.Stops.{stop_for, stop_unrecorded}
+use Rattle.bsc_session.specs.Taking.{full_wait}
 use Rattle.bsc_session.proofs.TalkWords.{accept, connect, connects, forwarded, joined_as, left_as, terms, to_b}
 use Rattle.bsc_session_talks.proofs.JournalWords.{Talked, heard_with, hears_by, joins_at, told_as, turn_with}
 
@@ -56,7 +57,7 @@ no_memory_for_a_joins_line = told_as terms (record {
 
 -- B has connection 1. A sends it a message, which is in its outbox, and the line of that isn't put.
 a_forwards_line_is_lost : Talked terms
-    (connects ∷ Put accept None ∷ Gave 500 (Ok (Message (to_b 2))) ∷ SaidClosed 1011 [] ∷ [])
+    (connects ∷ Put accept None ∷ Gave full_wait (Ok (Message (to_b 2))) ∷ SaidClosed 1011 [] ∷ [])
     (0 ∷ 0 ∷ [])
     (joined_as 2 ∷ forwarded 2 1 (to_b 2) Appended ∷ left_as 2 0 1 ∷ [])
     []
@@ -75,7 +76,7 @@ a_forwards_line_is_lost = told_as terms (record {
 
 -- A's link gives Closed, and the line of its Leave isn't put.
 the_leaves_line_is_lost : Talked terms
-    (connects ∷ Put accept None ∷ Gave 500 (Ok Closed) ∷ [])
+    (connects ∷ Put accept None ∷ Gave full_wait (Ok Closed) ∷ [])
     (0 ∷ 0 ∷ [])
     (joined_as 1 ∷ left_as 1 0 1 ∷ [])
     []
@@ -94,7 +95,7 @@ the_leaves_line_is_lost = told_as terms (record {
 
 -- The same, and no line is lost.
 no_line_is_lost : Talked terms
-    (connects ∷ Put accept None ∷ Gave 500 (Ok Closed) ∷ [])
+    (connects ∷ Put accept None ∷ Gave full_wait (Ok Closed) ∷ [])
     (0 ∷ 0 ∷ [])
     (joined_as 1 ∷ left_as 1 0 1 ∷ [])
     []

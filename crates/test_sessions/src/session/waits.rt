@@ -4,7 +4,7 @@ use crate::peers::{CONNECT_A, CONNECT_B, LIMITS, new_hub};
 use bsc_edge::{Incoming, Job, Link, LinkFault, MemClock, MemJournal, MemLink};
 use bsc_hub::Hub;
 use bsc_outside::MemSink;
-use bsc_session::{HubSide, JobTerms, SessionJob, Why, serve_connection};
+use bsc_session::{HubSide, JobTerms, SessionJob, WAIT_MS, Why, serve_connection};
 use std::alloc::Global;
 use std::process::Abort;
 use std::sync::{Arc, Wait};
@@ -128,6 +128,6 @@ fn frames_that_are_left(rt: HostRuntime) -> Result<(), Fail> {
         panic!(rt; "the job was worked off");
     };
     assert_eq!(rt; theirs.ended, ended(Why::PeerClosed, Some(2), 0, 37, 38));
-    assert!(rt; link.waits.as_slice() == [500, 500, 0, 0, 500].as_slice());
+    assert!(rt; link.waits.as_slice() == [WAIT_MS, WAIT_MS, 0, 0, WAIT_MS].as_slice());
     Ok(())
 }
