@@ -183,20 +183,11 @@ impl<R: Clock + Net + Wait + RandomSource + Copy + Drop> Gate<R> {
         let Some(place) = self.handshakes.place() else {
             return;
         };
-        let mut socket = socket;
-        let token = Token(place.saturating_add(1));
-        let registered = self.poll.registry().register(
-            &mut socket,
-            token,
-            Interest::READABLE | Interest::WRITABLE,
-        );
-        if registered.is_err() {
-            return;
-        }
         self.handshakes
             .begin(alloc, place, socket, self.kind, until);
-        // Of what its peer sent by then no event need tell.
+        // Most often its peer has sent all by now, and no event need tell of more.
         self.drive(alloc, place);
+        self.handshakes.register(self.poll.registry(), place);
     }
 
     /// Goes on with a handshake. Its link waits to be handed out where it is done.
@@ -204,11 +195,11 @@ impl<R: Clock + Net + Wait + RandomSource + Copy + Drop> Gate<R> {
         ensures faults { self.new.faults ≡ self.old.faults }
         ensures quiets { self.new.quiets ≡ self.old.quiets }
     {
-        let Some(socket) = self.handshakes.go_on(place) else {
+        let Some((socket, is_registered)) = self.handshakes.go_on(place) else {
             return;
         };
         let mut socket = socket;
-        if self.poll.registry().deregister(&mut socket).is_err() {
+        if is_registered && self.poll.registry().deregister(&mut socket).is_err() {
             return;
         }
         if self.watch.is_some() && DONE <= self.done.len() {
@@ -277,8 +268,8 @@ impl<R: Clock + Net + Wait + RandomSource + Copy + Drop> Gate<R> {
         }
     }
 
-    /// Waits at most so many microseconds, and goes on with what has come.
-    fn turn(&mut self, alloc: Global, left: u64) -> io::Result<()>
+    /// Waits at most so many microseconds, and goes on with what has come. Gives the time behind the wait.
+    fn turn(&mut self, alloc: Global, left: u64) -> io::Result<Moment>
         ensures faults { self.new.faults ≡ self.old.faults }
         ensures quiets { self.new.quiets ≡ self.old.quiets }
     {
@@ -302,7 +293,7 @@ impl<R: Clock + Net + Wait + RandomSource + Copy + Drop> Gate<R> {
         }
         self.handshakes.sweep(now);
         self.note(count == BATCH);
-        Ok(())
+        Ok(now)
     }
 
     /// The link that is done first, within so many milliseconds.
@@ -310,13 +301,14 @@ impl<R: Clock + Net + Wait + RandomSource + Copy + Drop> Gate<R> {
         ensures faults { self.new.faults ≡ self.old.faults }
         ensures quiets { self.new.quiets ≡ self.old.quiets }
     {
-        let until = Moment::now(&self.rt)?.after(wait_ms);
+        let mut now = Moment::now(&self.rt)?;
+        let until = now.after(wait_ms);
         for _ in 0..u64::MAX {
             if let Some(link) = self.done.pop_front() {
                 return Ok(Some(link));
             }
-            let left = until.left(Moment::now(&self.rt)?);
-            self.turn(alloc, left)?;
+            let left = until.left(now);
+            now = self.turn(alloc, left)?;
             if left == 0 {
                 return Ok(self.done.pop_front());
             }

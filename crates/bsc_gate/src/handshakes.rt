@@ -6,6 +6,7 @@ use bsc_live::Moment;
 use bsc_octets::NoMemory;
 use bsc_ws::{Handshake, Step, begin};
 use mio::net::TcpStream;
+use mio::{Interest, Registry, Token};
 use std::alloc::Global;
 
 /// How many streams were turned away, and why.
@@ -24,12 +25,16 @@ pub struct Turned {
 struct Row {
     handshake: Handshake<TcpStream>,
     until: Moment,
+    /// A registry tells of its stream.
+    is_registered: bool,
 }
 
 /// The handshakes at work, each in its place.
 #[derive(Drop)]
 pub(crate) struct Handshakes {
     rows: Vec<Option<Row>>,
+    /// No handshake's time is over before this.
+    due: Moment,
     turned: Turned,
 }
 
@@ -42,6 +47,7 @@ impl Handshakes {
         }
         Ok(Handshakes {
             rows,
+            due: Moment { micros: u64::MAX },
             turned: Turned {
                 late: 0,
                 refused: 0,
@@ -88,27 +94,62 @@ impl Handshakes {
         let begun = Row {
             handshake: begin(alloc, socket, kind),
             until,
+            is_registered: false,
         };
         if let Some(row) = self.rows.get_mut(place) {
             if row.is_some() {
                 self.turned.pushed_out = self.turned.pushed_out.saturating_add(1);
             }
             *row = Some(begun);
+            if until.micros < self.due.micros {
+                self.due = until;
+            }
         }
     }
 
-    /// Goes on with the handshake at a place. Gives its socket where it is done.
-    pub(crate) fn go_on(&mut self, place: usize) -> Option<TcpStream>
+    /// Has a registry tell of the handshake at a place, if one is there, as the token one behind the place. One of which it can't tell
+    /// is dropped.
+    pub(crate) fn register(&mut self, registry: &Registry, place: usize)
+        ensures { vec_len self.new.rows ≡ vec_len self.old.rows }
+    {
+        let Some(there) = self.rows.get_mut(place) else {
+            return;
+        };
+        let failed = match there {
+            Some(row) => {
+                row.is_registered = true;
+                let both = Interest::READABLE | Interest::WRITABLE;
+                registry
+                    .register(row.handshake.stream(), Token(place.saturating_add(1)), both)
+                    .is_err()
+            }
+            None => false,
+        };
+        if failed {
+            *there = None;
+        }
+    }
+
+    /// Goes on with the handshake at a place. Gives its socket where it is done, and whether a registry tells of it.
+    pub(crate) fn go_on(&mut self, place: usize) -> Option<(TcpStream, bool)>
         ensures { vec_len self.new.rows ≡ vec_len self.old.rows }
     {
         let row = self.rows.get_mut(place)?;
-        let Row { handshake, until } = row.take()?;
+        let Row {
+            handshake,
+            until,
+            is_registered,
+        } = row.take()?;
         match handshake.go_on() {
             Step::More(handshake) => {
-                *row = Some(Row { handshake, until });
+                *row = Some(Row {
+                    handshake,
+                    until,
+                    is_registered,
+                });
                 None
             }
-            Step::Done(socket) => Some(socket),
+            Step::Done(socket) => Some((socket, is_registered)),
             Step::Refused => {
                 self.turned.refused = self.turned.refused.saturating_add(1);
                 None
@@ -120,21 +161,28 @@ impl Handshakes {
         }
     }
 
-    /// Drops the handshakes whose time is over.
+    /// Drops the handshakes whose time is over. Before it may be over of one, it looks at none.
     pub(crate) fn sweep(&mut self, now: Moment)
         ensures { vec_len self.new.rows ≡ vec_len self.old.rows }
     {
+        if now.micros < self.due.micros {
+            return;
+        }
+        let mut due = Moment { micros: u64::MAX };
         for place in 0..self.rows.len() {
             if let Some(row) = self.rows.get_mut(place) {
-                let late = match row {
-                    Some(row) => row.until.micros <= now.micros,
-                    None => false,
+                let until = match row {
+                    Some(row) => row.until,
+                    None => due,
                 };
-                if late {
+                if row.is_some() && until.micros <= now.micros {
                     *row = None;
                     self.turned.late = self.turned.late.saturating_add(1);
+                } else if until.micros < due.micros {
+                    due = until;
                 }
             }
         }
+        self.due = due;
     }
 }

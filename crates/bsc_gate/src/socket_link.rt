@@ -1,7 +1,7 @@
 //! Links over sockets.
 use crate::boxed_link::BoxedLink;
 use bsc_edge::LinkFault;
-use bsc_live::{Bells, Lingering, LivePatience, LiveStream, Watch};
+use bsc_live::{Bells, Debts, Lingering, LivePatience, LiveStream, Watch};
 use bsc_ws::{RandomKeys, StreamLink, settle};
 use mio::net::TcpStream;
 use std::alloc::Global;
@@ -75,8 +75,12 @@ pub(crate) fn accepted<R: Clock + Net + Wait + RandomSource + Copy + Drop>(
     if watch.is_some() {
         return BoxedLink::new(alloc, settle(alloc, stream, wait, RandomKeys::new(rt)));
     }
-    let Ok(stream) = stream.holding().ringing(bells) else {
+    let Ok(debts) = Arc::new(alloc, Debts::new(alloc)) else {
         return Err(LinkFault::NoMemory);
     };
+    let Ok(stream) = stream.holding().ringing(&debts) else {
+        return Err(LinkFault::NoMemory);
+    };
+    let wait = wait.owing(debts);
     BoxedLink::new(alloc, settle(alloc, stream, wait, RandomKeys::new(rt)))
 }

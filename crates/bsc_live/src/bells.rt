@@ -45,16 +45,11 @@ impl Bells {
         }
     }
 
-    /// Says that a ring came for the connection's bell, if it is listed, be it one that was owed. The bell, where its stream sleeps.
-    fn call<R: Wait>(&self, rt: &R, conn: u64, is_owed: bool) -> Option<Arc<Bell>> {
+    /// Says that a ring came for the connection's bell, if it is listed. The bell, where its stream sleeps.
+    fn call<R: Wait>(&self, rt: &R, conn: u64) -> Option<Arc<Bell>> {
         let listed = self.shelf(conn)?.lock(rt);
         let bell = listed.get(&conn)?;
-        let sleeps = if is_owed {
-            bell.is_called_at_last()
-        } else {
-            bell.is_called()
-        };
-        if sleeps {
+        if bell.is_called() {
             Arc::try_clone(bell).ok()
         } else {
             None
@@ -63,51 +58,39 @@ impl Bells {
 
     /// Rings the connection's bell, if it is listed: one look-up, and where its stream sleeps a write, behind the lock.
     pub fn ring<R: Wait>(&self, rt: &R, conn: u64) {
-        if let Some(bell) = self.call(rt, conn, false) {
+        if let Some(bell) = self.call(rt, conn) {
             bell.wakes();
         }
     }
 
-    /// Makes a ring that was owed.
-    pub(crate) fn settle<R: Wait>(&self, rt: &R, conn: u64) {
-        if let Some(bell) = self.call(rt, conn, true) {
-            bell.wakes();
-        }
-    }
-
-    /// Asks the connection's bell what becomes of a ring of connection `by`, and clones it where its stream is to be woken.
-    fn call_by<R: Wait>(&self, rt: &R, conn: u64, by: u64) -> Option<(Ringing, Option<Arc<Bell>>)> {
+    /// Asks the connection's bell what becomes of a ring of connection `by`. That and the bell, where its stream is to be woken, now
+    /// or later.
+    fn call_by<R: Wait>(&self, rt: &R, conn: u64, by: u64) -> Option<(Ringing, Arc<Bell>)> {
         let listed = self.shelf(conn)?.lock(rt);
         let bell = listed.get(&conn)?;
         let ringing = bell.is_called_by(by);
         match ringing {
-            Ringing::Wakes => Some((ringing, Arc::try_clone(bell).ok())),
-            Ringing::Came | Ringing::PutOff | Ringing::Owed => Some((ringing, None)),
+            Ringing::Came | Ringing::Owed => None,
+            Ringing::Wakes | Ringing::PutOff => match Arc::try_clone(bell) {
+                Ok(bell) => Some((ringing, bell)),
+                Err(_) => {
+                    bell.ring_at_last();
+                    None
+                }
+            },
         }
     }
 
-    /// Rings the connection's bell, if it is listed, unless the link of connection `by` may put that off. True where it has from
-    /// now on to make a ring that it didn't owe before.
-    pub(crate) fn puts_off<R: Wait>(&self, rt: &R, conn: u64, by: u64) -> bool {
-        match self.call_by(rt, conn, by) {
-            Some((Ringing::PutOff, _)) => true,
-            Some((_, Some(bell))) => {
+    /// Rings the connection's bell, if it is listed, unless the link of connection `by` may put that off. The bell, where that has
+    /// from now on to make a ring that it didn't owe before.
+    pub(crate) fn puts_off<R: Wait>(&self, rt: &R, conn: u64, by: u64) -> Option<Arc<Bell>> {
+        let (ringing, bell) = self.call_by(rt, conn, by)?;
+        match ringing {
+            Ringing::PutOff => Some(bell),
+            Ringing::Wakes | Ringing::Came | Ringing::Owed => {
                 bell.wakes();
-                false
+                None
             }
-            _ => false,
-        }
-    }
-
-    /// Rings the bells that the link of this one owes a ring.
-    pub(crate) fn ring_owed<R: Wait>(&self, rt: &R, own: &Bell) {
-        if own.owes() {
-            own.owes_none();
-            let mut owed = own.owed().lock(rt);
-            for conn in owed.iter() {
-                self.settle(rt, *conn);
-            }
-            owed.clear();
         }
     }
 }

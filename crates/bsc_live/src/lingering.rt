@@ -11,7 +11,7 @@ use mio::net::TcpStream;
 use std::alloc::Global;
 use std::io::{ErrorKind, Read};
 use std::net::Shutdown;
-use std::sync::atomic::{AtomicU64, Ordering};
+use std::sync::atomic::{AtomicBool, AtomicU64, Ordering};
 use std::sync::{Mutex, Wait};
 use std::time::Clock;
 use std::{mem, thread};
@@ -26,9 +26,9 @@ pub const LOOK_MS: u32 = 10;
 const PLACES: usize = 256;
 
 /// At one look so many reads are made of a socket, of so many octets each.
-const READS: usize = 16;
+const READS: usize = 64;
 
-const READ: usize = 4_096;
+const READ: usize = 1_024;
 
 /// Reads what has come to a socket and drops it, 65,536 octets at most. Whether the peer's stream has ended or broken off.
 fn is_spent(socket: &mut TcpStream) -> bool {
@@ -127,6 +127,8 @@ impl Table {
 #[derive(Drop)]
 pub struct Lingering {
     table: Mutex<Table>,
+    /// A socket lingers that was put there since the last look, or went on behind it.
+    some: AtomicBool,
     /// When the next look is due, in microseconds of the monotonic clock; 0 where none lingered at the last one.
     due: AtomicU64,
 }
@@ -140,6 +142,7 @@ impl Lingering {
         }
         Ok(Lingering {
             table: Mutex::new(Table { rows }),
+            some: AtomicBool::new(false),
             due: AtomicU64::new(0),
         })
     }
@@ -147,6 +150,7 @@ impl Lingering {
     /// Lets a socket linger. What of another one has come that makes room for it is dropped at last.
     fn put<R: Wait>(&self, rt: &R, row: Row) {
         let oldest = self.table.lock(rt).put(row);
+        self.some.store(true, Ordering::SeqCst);
         if let Some(row) = oldest {
             let mut row = row;
             let _ = is_spent(&mut row.socket);
@@ -189,6 +193,9 @@ impl Lingering {
 
     /// Looks at the sockets that linger, unless that was done within the last 10 ms. Whether some go on.
     pub fn look<R: Clock + Wait>(&self, rt: &R) -> bool {
+        if !self.some.load(Ordering::SeqCst) {
+            return false;
+        }
         // Where the clock fails, nothing lingers.
         let now = match Moment::now(rt) {
             Ok(now) => now,
@@ -200,6 +207,8 @@ impl Lingering {
         if due.left(now) != 0 {
             return true;
         }
+        // Who is put there while it looks is found, or leaves this set.
+        self.some.store(false, Ordering::SeqCst);
         let lingers = self.look_at_all(rt, now);
         let next = if lingers {
             now.after(LOOK_MS).micros

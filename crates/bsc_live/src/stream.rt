@@ -2,7 +2,7 @@
 ghost use Rattle.std.specs.Prelude.{◌≤◌, IfOk, length};
 
 use crate::bell::Bell;
-use crate::bells::Bells;
+use crate::debts::Debts;
 use crate::lingering::Lingering;
 use crate::moment::{Moment, wait_of};
 use crate::watch::{Seat, Watch};
@@ -31,8 +31,8 @@ const ROOM: usize = 2_048;
 /// when it is dropped.
 ///
 /// Where it holds what is written, that leaves together, in one call of the system: at the next read, once there is more than
-/// it holds, and when the stream is dropped. A fault of the socket shows there then. It may also ring the bells that its link owes
-/// a ring: at the next read, and before a write waits.
+/// it holds, and when the stream is dropped. A fault of the socket shows there then. It may also make the rings that its link owes:
+/// at the next read, and before a write waits.
 ///
 /// A read that waits asks the socket only where it may have something: not behind one that took all that was there, until the poll
 /// has told of more, or of nothing in the time of the reads.
@@ -47,6 +47,8 @@ pub struct LiveStream<R: Clock + Wait + Drop> {
     until: Option<Moment>,
     /// The socket had no more at the last read of it, and the poll will tell when it has.
     is_drained: bool,
+    /// It said itself that it has no more, and the poll has told of nothing since.
+    is_empty: bool,
     /// The poll told that the peer's stream has ended or broken off.
     is_ended: bool,
     /// The poll tells also when the socket takes octets again.
@@ -58,8 +60,8 @@ pub struct LiveStream<R: Clock + Wait + Drop> {
     holds: bool,
     /// What is written and hasn't left.
     held: Vec<u8>,
-    /// Where the bells are that its link may owe a ring.
-    bells: Option<Arc<Bells>>,
+    /// Where the rings are noted that its link owes, if it may owe any.
+    debts: Option<Arc<Debts>>,
     /// Where it is waited for with others.
     seat: Option<Seat>,
     /// Where its socket lingers once it is dropped.
@@ -69,8 +71,10 @@ pub struct LiveStream<R: Clock + Wait + Drop> {
 /// What a poll told of the socket.
 #[derive(Clone, Copy)]
 struct Told {
-    /// It may have octets, or its end; also where the poll told of nothing at all.
+    /// It may have octets, or its end.
     more: bool,
+    /// The poll told of nothing at all.
+    nothing: bool,
     /// The peer's stream has ended or broken off.
     end: bool,
 }
@@ -78,7 +82,8 @@ struct Told {
 /// What the events of a poll tell of the socket.
 fn told_by(events: &Events) -> Told {
     let mut told = Told {
-        more: events.is_empty(),
+        more: false,
+        nothing: events.is_empty(),
         end: false,
     };
     for event in events.iter() {
@@ -108,7 +113,7 @@ impl<R: Clock + Net + Wait + Copy + Drop> LiveStream<R> {
         let Ok(events) = Events::with_capacity(alloc, 4) else {
             return Err(io::Error::from(ErrorKind::OutOfMemory));
         };
-        let Ok(bell) = Arc::new(alloc, Bell::new(alloc, waker)) else {
+        let Ok(bell) = Arc::new(alloc, Bell::new(waker)) else {
             return Err(io::Error::from(ErrorKind::OutOfMemory));
         };
         Ok(LiveStream {
@@ -120,13 +125,14 @@ impl<R: Clock + Net + Wait + Copy + Drop> LiveStream<R> {
             bell,
             until: None,
             is_drained: false,
+            is_empty: false,
             is_ended: false,
             tells_room: false,
             write_ms,
             write_until: None,
             holds: false,
             held: Vec::new(alloc),
-            bells: None,
+            debts: None,
             seat: None,
             lingering: None,
         })
@@ -159,14 +165,13 @@ impl<R: Clock + Wait + Drop> LiveStream<R> {
         stream
     }
 
-    /// The same stream, which rings the bells of these that its link owes a ring.
-    pub fn ringing(self, bells: &Arc<Bells>) -> io::Result<LiveStream<R>> {
+    /// The same stream, which makes the rings that are noted here.
+    pub fn ringing(self, debts: &Arc<Debts>) -> io::Result<LiveStream<R>> {
         let mut stream = self;
-        let Ok(bells) = Arc::try_clone(bells) else {
+        let Ok(debts) = Arc::try_clone(debts) else {
             return Err(io::Error::from(ErrorKind::OutOfMemory));
         };
-        stream.bells = Some(bells);
-        stream.bell.set_debtor();
+        stream.debts = Some(debts);
         Ok(stream)
     }
 
@@ -178,10 +183,10 @@ impl<R: Clock + Wait + Drop> LiveStream<R> {
         }
     }
 
-    /// Rings the bells that its link owes a ring.
+    /// Makes the rings that its link owes.
     fn rings(&self) {
-        if let Some(bells) = &self.bells {
-            bells.ring_owed(&self.clock, &self.bell);
+        if let Some(debts) = &self.debts {
+            debts.settle(&self.clock);
         }
     }
 
@@ -195,10 +200,13 @@ impl<R: Clock + Wait + Drop> LiveStream<R> {
         until
     }
 
-    /// Notes what the last poll told of the socket.
+    /// Notes what the last poll told of the socket. Where that is nothing at all, the socket may have something all the same, unless
+    /// it said itself that it hasn't.
     fn looks(&mut self) {
         let told = told_by(&self.events);
-        self.is_drained = self.is_drained && !told.more;
+        let more = told.more || (told.nothing && !self.is_empty);
+        self.is_drained = self.is_drained && !more;
+        self.is_empty = self.is_empty && !told.more;
         self.is_ended = self.is_ended || told.end;
     }
 
@@ -281,8 +289,24 @@ impl<R: Clock + Wait + Drop> LiveStream<R> {
         if self.held.is_empty() {
             return Ok(());
         }
+        // Most often the socket takes all of it at once. A fault shows again.
+        let sent = self.socket.write(self.held.as_slice()).unwrap_or(0);
+        if sent < self.held.len() {
+            return self.sends_from(sent);
+        }
+        self.write_until = None;
+        if self.held.capacity() <= ROOM {
+            self.held.clear();
+        } else {
+            self.held = Vec::new(self.alloc);
+        }
+        Ok(())
+    }
+
+    /// The same, from this octet on, however long the socket takes.
+    fn sends_from(&mut self, from: usize) -> io::Result<()> {
         let mut held = mem::replace(&mut self.held, Vec::new(self.alloc));
-        let mut sent = 0;
+        let mut sent = from;
         for _ in 0..held.len() {
             match held.as_slice().get(sent..) {
                 Some(left) if !left.is_empty() => match self.writes(left)? {
@@ -367,12 +391,14 @@ impl<R: Clock + Wait + Drop> Read for LiveStream<R> {
                         self.note(true);
                         // Where the stream has ended no event need tell so again.
                         self.is_drained = 0 < n && n < buf.len() && !self.is_ended;
+                        self.is_empty = false;
                         return Ok(n);
                     }
                     Err(error) => {
                         if error.kind() == ErrorKind::WouldBlock {
                             self.note(false);
                             self.is_drained = true;
+                            self.is_empty = true;
                             if !self.bell.waits() {
                                 return Err(error);
                             }
@@ -414,13 +440,14 @@ impl<R: Clock + Wait + Drop> Drop for LiveStream<R> {
             bell: _,
             until: _,
             is_drained: _,
+            is_empty: _,
             is_ended: _,
             tells_room: _,
             write_ms: _,
             write_until: _,
             holds: _,
             held: _,
-            bells: _,
+            debts: _,
             seat,
             lingering,
         } = self;

@@ -30,6 +30,8 @@ struct Place {
 pub struct Watch {
     registry: Registry,
     places: Vec<Place>,
+    /// Somebody was made hot since the last look at all places, or was hot then.
+    stirs: AtomicBool,
 }
 
 /// A place at a watch, until it is dropped. It is hot at first.
@@ -59,6 +61,9 @@ impl Watch {
     fn set_hot(&self, number: usize, hot: bool) {
         if let Some(place) = self.places.get(number) {
             place.hot.store(hot, Ordering::SeqCst);
+            if hot {
+                self.stirs.store(true, Ordering::SeqCst);
+            }
         }
     }
 
@@ -72,8 +77,15 @@ impl Watch {
 
     /// Whether somebody is hot.
     fn has_hot(&self) -> bool {
-        self.places.iter().any(|place| place.taken.load(Ordering::SeqCst)
-            && place.hot.load(Ordering::SeqCst))
+        if !self.stirs.swap(false, Ordering::SeqCst) {
+            return false;
+        }
+        let hot = self.places.iter().any(|place| place.taken.load(Ordering::SeqCst)
+            && place.hot.load(Ordering::SeqCst));
+        if hot {
+            self.stirs.store(true, Ordering::SeqCst);
+        }
+        hot
     }
 }
 
@@ -142,7 +154,14 @@ impl<R: Clock + Net + Drop> Watcher<R> {
         let Ok(events) = Events::with_capacity(alloc, BATCH) else {
             return Err(io::Error::from(ErrorKind::OutOfMemory));
         };
-        let watch = Arc::new(alloc, Watch { registry, places })?;
+        let watch = Arc::new(
+            alloc,
+            Watch {
+                registry,
+                places,
+                stirs: AtomicBool::new(false),
+            },
+        )?;
         Ok(Watcher {
             clock: rt,
             poll,

@@ -1,7 +1,7 @@
 //! What a stream is told of its socket, and whom its link tells.
 use crate::live::ends;
 use bsc_edge::Patience;
-use bsc_live::{Bells, LivePatience, LiveStream, Moment};
+use bsc_live::{Bells, Debts, LivePatience, LiveStream, Moment};
 use std::io::{ErrorKind, Read, Write};
 use std::net::Shutdown;
 use std::sync::{Arc, Wait};
@@ -134,8 +134,10 @@ fn what_is_owed_is_rung(rt: HostRuntime) -> Result<(), Fail> {
     for when in [When::Read, When::EighthWait, When::Dropped] {
         let bells = Arc::new(alloc, Bells::new(alloc)?)?;
         let (near, _far) = ends(&rt)?;
-        let mut from = LiveStream::over(rt, alloc, near, 50)?.ringing(&bells)?;
-        let mut sender = LivePatience::new(rt, from.bell()?, Arc::try_clone(&bells)?);
+        let debts = Arc::new(alloc, Debts::new(alloc))?;
+        let mut from = LiveStream::over(rt, alloc, near, 50)?.ringing(&debts)?;
+        let sender = LivePatience::new(rt, from.bell()?, Arc::try_clone(&bells)?);
+        let mut sender = sender.owing(debts);
         let (near, _other) = ends(&rt)?;
         let mut to = LiveStream::over(rt, alloc, near, 50)?;
         let mut receiver = LivePatience::new(rt, to.bell()?, Arc::try_clone(&bells)?);
