@@ -15,10 +15,8 @@ use crate::room::room_for;
 use bsc_journal::MOST_IN_ALL;
 use bsc_outside::{Failed, Source};
 use bsc_player::LineFault;
+use bsc_text::CHUNK_LEN;
 use std::alloc::Global;
-
-/// The most octets that one read gives: 64 KiB.
-const CHUNK_LEN: usize = 65_536;
 
 /// Journals that were read to their end, and what their lines came to.
 #[derive(Drop)]
