@@ -15,7 +15,7 @@ use Rattle.bsc_hub.specs.declared.hub.Hub.{Hub}
 use Rattle.bsc_hub.specs.Calls.{stop_made}
 use Rattle.bsc_hub.specs.Passing.{IsCaller, Passed, about_of}
 use Rattle.bsc_edge.specs.Told.{Stays, ToldIs}
-use Rattle.bsc_player.specs.LastLines.{EndsWith, RanOut}
+use Rattle.bsc_player.specs.LastLines.{EndsWith, RanOut, SaysOrRunsOut}
 use Rattle.bsc_session.specs.declared.job.SessionJob.{SessionJob}
 use Rattle.bsc_session.specs.declared.limits.SessionLimits.{SessionLimits}
 use Rattle.bsc_session.specs.declared.session_end.SessionEnd.{SessionEnd}
@@ -35,15 +35,10 @@ use Rattle.bsc_hub_command.specs.declared.place.HubPlace.{HubPlace}
 use Rattle.bsc_hub_command.specs.HubLines.{hub_line, hub_text}
 use Rattle.bsc_hub_command.specs.Lines.{end_text, link_line}
 
--- A text was written, and the status is the one that is wanted; or its write failed, and the status is 4; or there was no
--- memory for it.
-abbrev pub HubSays : ℕ → ℕ → Option (List ℕ) → Option (List ℕ) → List ℕ → Type 0
-HubSays s wanted before after text = EndsWith s wanted before after text ⊎ RanOut s before after
-
 -- What is written of the end of serving, and its status.
 abbrev pub SaysEnd : ServeEnd → ℕ → Option (List ℕ) → Option (List ℕ) → Type 0
-SaysEnd (Done c u) s before after = HubSays s 0 before after (end_text u (Some c))
-SaysEnd (StoppedBefore at u) s before after = HubSays s 0 before after (end_text u None)
+SaysEnd (Done c u) s before after = SaysOrRunsOut s 0 before after (end_text u (Some c))
+SaysEnd (StoppedBefore at u) s before after = SaysOrRunsOut s 0 before after (end_text u None)
 SaysEnd AcceptFault s before after = EndsWith s 6 before after link_line
 SaysEnd JournalFault s before after = (s ≡ 4) × (after ≡ before)
 SaysEnd NoMemory s before after = RanOut s before after

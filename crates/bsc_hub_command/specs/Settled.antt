@@ -4,7 +4,7 @@ use Rattle.toml.specs.Data.{Members}
 use Rattle.bsc_outside.specs.Faults.{HasRisen}
 use Rattle.bsc_policy.specs.declared.policy.Policy.{Policy}
 use Rattle.bsc_session.specs.Jobs.{policy_of}
-use Rattle.bsc_player.specs.LastLines.{EndsWith, RanOut, read_line}
+use Rattle.bsc_player.specs.LastLines.{EndsWith, RanOut, SaysOrRunsOut, read_line}
 use Rattle.bsc_settings.specs.declared.hub.HubSettings.{HubSettings}
 use Rattle.bsc_settings.specs.declared.key.KeyName.{KeyName}
 use Rattle.bsc_settings.specs.declared.settings.Settings.{Settings}
@@ -13,7 +13,6 @@ use Rattle.bsc_settings.specs.Faults.{fault_of}
 use Rattle.bsc_settings.specs.Fields.{IsSaidBy}
 use Rattle.bsc_settings.specs.Names.{name_of}
 use Rattle.bsc_hub_command.specs.Lines.{settings_line}
-use Rattle.bsc_hub_command.specs.Served.{HubSays}
 
 -- The file has these octets, as far as that is told, and they are settings with these of a hub, and with this policy, if any.
 pub record IsSettled (holds : List ℕ → Type 0) (v : HubSettings) (policy : Option Policy) : Type 0 where
@@ -37,5 +36,5 @@ IsRefusedAsHub text name =
 abbrev pub Unsettled : (List ℕ → Type 0) → ℕ → ℕ → ℕ → Option (List ℕ) → Option (List ℕ) → Type 0
 Unsettled holds f f' s before after =
     (HasRisen f f' × EndsWith s 3 before after read_line)
-    ⊎ ((text : List ℕ) × (name : List ℕ) × holds text × IsRefusedAsHub text name × HubSays s 5 before after (settings_line name))
+    ⊎ ((text : List ℕ) × (name : List ℕ) × holds text × IsRefusedAsHub text name × SaysOrRunsOut s 5 before after (settings_line name))
     ⊎ RanOut s before after

@@ -2,12 +2,12 @@
 ghost use Rattle.std.specs.Prelude.{◌≡◌, ◌≤◌, ◌⊎◌, IfErr, IfOk, None, Option, Some, option_map};
 ghost use Rattle.bsc_outside.specs.Faults.{HasRisen};
 ghost use Rattle.bsc_player.specs.Faults.{RisesIf};
-ghost use Rattle.bsc_player.specs.LastLines.{RanOut};
+ghost use Rattle.bsc_player.specs.LastLines.{RanOut, SaysOrRunsOut};
 ghost use Rattle.bsc_policy.specs.declared.policy.Policy.{Policy as PolicyType};
 ghost use Rattle.bsc_session.specs.Jobs.{Worked, policy_of};
 ghost use Rattle.bsc_settings.specs.declared.hub.HubSettings.{HubSettings as HubSettingsType};
 ghost use Rattle.bsc_hub_command.specs.Lines.{settings_line};
-ghost use Rattle.bsc_hub_command.specs.Served.{HasFailed, HubRuns, HubSays, door_by, stock_by, telling, world_by};
+ghost use Rattle.bsc_hub_command.specs.Served.{HasFailed, HubRuns, door_by, stock_by, telling, world_by};
 ghost use Rattle.bsc_hub_command.specs.Settled.{IsSettled, Unsettled};
 
 use crate::asked::HubAsked;
@@ -27,7 +27,7 @@ use std::sync::Wait;
 
 /// Ends a run whose settings are refused.
 fn refuse<K: Sink>(alloc: Global, sink: &mut K, name: &str) -> u8
-    ensures says { HubSays result 5 (K.held sink.old) (K.held sink.new) (settings_line name.now) }
+    ensures says { SaysOrRunsOut result 5 (K.held sink.old) (K.held sink.new) (settings_line name.now) }
     ensures failed { (result ≡ 5) ⊎ (result ≡ 7)
         ⊎ ((result ≡ 4) × HasRisen (K.faults sink.old) (K.faults sink.new)) }
     ensures later { K.faults sink.old ≤ K.faults sink.new }

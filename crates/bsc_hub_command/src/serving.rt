@@ -7,14 +7,14 @@ ghost use Rattle.bsc_edge.specs.declared.fault.LinkFault.{LinkFault};
 ghost use Rattle.bsc_turn.specs.Passes.{ended_callers, number_of, own_list, seen};
 ghost use Rattle.bsc_hub.specs.Passing.{IsCaller, about_of};
 ghost use Rattle.bsc_player.specs.Faults.{RisesIf};
-ghost use Rattle.bsc_player.specs.LastLines.{RanOut};
+ghost use Rattle.bsc_player.specs.LastLines.{RanOut, SaysOrRunsOut};
 ghost use Rattle.bsc_settings.specs.Parts.{identity_of, limits_of};
 ghost use Rattle.bsc_session.specs.Jobs.{Worked};
 ghost use Rattle.bsc_serve.specs.declared.end.ServeEnd.{ServeEnd};
 ghost use Rattle.bsc_journal.specs.Saying.{IsHubLine};
 ghost use Rattle.bsc_hub_command.specs.HubLines.{hub_line, hub_text};
 ghost use Rattle.bsc_hub_command.specs.Lines.{end_text};
-ghost use Rattle.bsc_hub_command.specs.Served.{Begun, Bound, HasFailed, HubRuns, HubSays, NotBound, SaysEnd, StopsAlone, Titling, Unbegun, door_by, stock_by};
+ghost use Rattle.bsc_hub_command.specs.Served.{Begun, Bound, HasFailed, HubRuns, NotBound, SaysEnd, StopsAlone, Titling, Unbegun, door_by, stock_by};
 ghost use Rattle.bsc_hub_command.specs.Served.{telling, terms_by, terms_in, world_by};
 
 use crate::asked::HubAsked;
@@ -36,7 +36,7 @@ use std::sync::{Arc, Wait};
 
 /// Writes what an end comes to that all sessions came to.
 fn tell_done<K: Sink>(alloc: Global, sink: &mut K, unstarted: u64, counts: Option<Counts>) -> u8
-    ensures says { HubSays result 0 (K.held sink.old) (K.held sink.new) (end_text unstarted counts) }
+    ensures says { SaysOrRunsOut result 0 (K.held sink.old) (K.held sink.new) (end_text unstarted counts) }
     ensures failed { (result ≡ 0) ⊎ (result ≡ 7)
         ⊎ ((result ≡ 4) × HasRisen (K.faults sink.old) (K.faults sink.new)) }
     ensures later { K.faults sink.old ≤ K.faults sink.new }

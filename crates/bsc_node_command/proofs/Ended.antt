@@ -1,7 +1,7 @@
 -- Status 0 comes only once the `finish` of the script came.
 use Rattle.std.proofs.Common.{◌≡◌, ◌<◌, inl, inr, ℕ, List, [], map, Option, is_some, Result, Ok, Err, IfOk, arith}
 use Rattle.bsc_edge.specs.declared.said.Said.{Said}
-use Rattle.bsc_player.specs.LastLines.{EndsWith}
+use Rattle.bsc_player.specs.LastLines.{EndsWith, SaysOrRunsOut}
 use Rattle.bsc_settings.specs.declared.node.NodeSettings.{NodeSettings}
 use Rattle.bsc_node.specs.declared.node_event.NodeEvent.{NodeEvent}
 use Rattle.bsc_node.specs.Logs.{Log}
@@ -16,7 +16,7 @@ use Rattle.bsc_node_run.specs.Scripts.{script_of, wish_of}
 use Rattle.bsc_node_run.specs.Worlds.{Admitting, Dialling}
 use Rattle.bsc_node_run.specs.Moments.{run_moment}
 use Rattle.bsc_node_run_laws.specs.Courses.{FinishCame, GoesAsDefined}
-use Rattle.bsc_node_command.specs.Lines.{NodeSays, SaysEnd}
+use Rattle.bsc_node_command.specs.Lines.{SaysEnd}
 use Rattle.bsc_node_command.specs.Settled.{Unread, Unsettled}
 use Rattle.bsc_node_command.specs.Comes.{made_by, CommandWorld, Comes, NodeWorld, NotRun, RunsScript, RunsFiles}
 use Rattle.bsc_node_command.proofs.Defined.{finish_came}
@@ -26,7 +26,7 @@ line_fails : (wanted s : ℕ) (b b' : Option (List ℕ)) (line : List ℕ) → 0
 line_fails wanted s b b' line some (inl k) is = omega (arith, some, k.0, is)
 line_fails wanted s b b' line some (inr k) is = omega (arith, k.0, is)
 
-said_fails : (wanted s : ℕ) (b b' : Option (List ℕ)) (line : List ℕ) → 0 < wanted → NodeSays s wanted b b' line → s ≡ 0 → ⊥
+said_fails : (wanted s : ℕ) (b b' : Option (List ℕ)) (line : List ℕ) → 0 < wanted → SaysOrRunsOut s wanted b b' line → s ≡ 0 → ⊥
 said_fails wanted s b b' line some (inl k) is = line_fails wanted s b b' line some k is
 said_fails wanted s b b' line some (inr k) is = omega (arith, k.0, is)
 

@@ -3,7 +3,7 @@ use Rattle.std.specs.Prelude.{◌≡◌, ℕ, ◌⊎◌, List, [], map, Option, 
 use Rattle.bsc_outside.specs.Faults.{HasRisen}
 use Rattle.bsc_edge.specs.declared.said.Said.{Said}
 use Rattle.bsc_edge.specs.Told.{Grows, Stays, ToldIs}
-use Rattle.bsc_player.specs.LastLines.{EndsWith, RanOut, script_line}
+use Rattle.bsc_player.specs.LastLines.{EndsWith, RanOut, SaysOrRunsOut, script_line}
 use Rattle.bsc_settings.specs.declared.node.NodeSettings.{NodeSettings}
 use Rattle.bsc_settings.specs.Parts.{node_identity_of, node_times_of}
 use Rattle.bsc_node.specs.declared.node_limits.NodeLimits.{NodeLimits}
@@ -26,7 +26,7 @@ use Rattle.bsc_node_run_laws.specs.Alone.{NoLinkCame, alone}
 use Rattle.bsc_node_run_laws.specs.Courses.{GoesAsDefined}
 use Rattle.bsc_node_run_laws.specs.Said.{EndsAsTold, IsSaid}
 use Rattle.bsc_node_command.specs.declared.running_node.RunningNode.{RunningNode}
-use Rattle.bsc_node_command.specs.Lines.{NodeSays, SaysEnd, link_line}
+use Rattle.bsc_node_command.specs.Lines.{SaysEnd, link_line}
 use Rattle.bsc_node_command.specs.Settled.{IsSettled, Unread, Unsettled}
 
 -- what a node of these settings is made with
@@ -115,7 +115,7 @@ module _ {L W : Type 0} where
   -- bound, and the acceptor's count of faults rose; or memory ran out, before the port was bound or after.
   abbrev pub NotRun : NodeSettings → List ℕ → NodeWorld L W → NodeWorld L W → ℕ → Type 0
   NotRun v script before after s =
-      ((n : ℕ) × (script_of script ≡ Err n) × Stays before.port after.port × NodeSays s 2 before.written after.written (script_line n))
+      ((n : ℕ) × (script_of script ≡ Err n) × Stays before.port after.port × SaysOrRunsOut s 2 before.written after.written (script_line n))
       ⊎ ((lines : List Due) × (script_of script ≡ Ok (map wish_of lines)) × HasRisen before.faults after.faults
       × EndsWith s 6 before.written after.written link_line)
       ⊎ ((Stays before.port after.port ⊎ IsBoundBy v.direct_port before.port after.port) × RanOut s before.written after.written)

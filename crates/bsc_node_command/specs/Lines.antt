@@ -1,5 +1,5 @@
 -- The lines that the command writes of its own, and what is written of the end of a run.
-use Rattle.std.specs.Prelude.{◌≡◌, ℕ, ◌⊎◌, List, ◌++◌, codes, Option, Result, Ok, Err}
+use Rattle.std.specs.Prelude.{◌≡◌, ℕ, List, ◌++◌, codes, Option, Result, Ok, Err}
 use Rattle.bsc_player.specs.LastLines.{EndsWith, RanOut}
 use Rattle.bsc_node_run.specs.declared.run_end.RunEnd.{RunEnd}
 use Rattle.bsc_node_run.specs.declared.run_end.RunEnd.TheVariants.{Finished, Spent}
@@ -16,11 +16,6 @@ turns_line = codes "fault turns\n"
 
 abbrev pub settings_line : List ℕ → List ℕ
 settings_line name = codes "fault settings " ++ name ++ codes "\n"
-
--- A text was written, and the status is the one that is wanted; or its write failed, and the status is 4; or there was no
--- memory for it.
-abbrev pub NodeSays : ℕ → ℕ → Option (List ℕ) → Option (List ℕ) → List ℕ → Type 0
-NodeSays s wanted before after text = EndsWith s wanted before after text ⊎ RanOut s before after
 
 -- What is written of the end of a run, and its status.
 abbrev pub SaysEnd : Result RunEnd Halt → ℕ → Option (List ℕ) → Option (List ℕ) → Type 0

@@ -2,7 +2,7 @@
 use Rattle.std.specs.Prelude.{◌≡◌, ℕ, ◌⊎◌, List, codes, Option, Some, None}
 use Rattle.toml.specs.Data.{Members}
 use Rattle.bsc_outside.specs.Faults.{HasRisen}
-use Rattle.bsc_player.specs.LastLines.{EndsWith, RanOut, read_line}
+use Rattle.bsc_player.specs.LastLines.{EndsWith, RanOut, SaysOrRunsOut, read_line}
 use Rattle.bsc_settings.specs.declared.key.KeyName.{KeyName}
 use Rattle.bsc_settings.specs.declared.node.NodeSettings.{NodeSettings}
 use Rattle.bsc_settings.specs.declared.settings.Settings.{Settings}
@@ -10,7 +10,7 @@ use Rattle.bsc_settings.specs.Documents.{IsDocument}
 use Rattle.bsc_settings.specs.Faults.{fault_of}
 use Rattle.bsc_settings.specs.Fields.{IsSaidBy}
 use Rattle.bsc_settings.specs.Names.{name_of}
-use Rattle.bsc_node_command.specs.Lines.{NodeSays, settings_line}
+use Rattle.bsc_node_command.specs.Lines.{settings_line}
 
 -- The file has these octets, as far as that is told, and they are settings with these of a node.
 pub record IsSettled (holds : List ℕ → Type 0) (v : NodeSettings) : Type 0 where
@@ -37,4 +37,4 @@ Unread f f' s before after = (HasRisen f f' × EndsWith s 3 before after read_li
 abbrev pub Unsettled : (List ℕ → Type 0) → ℕ → ℕ → ℕ → Option (List ℕ) → Option (List ℕ) → Type 0
 Unsettled holds f f' s before after =
     Unread f f' s before after
-    ⊎ ((text : List ℕ) × (name : List ℕ) × holds text × IsRefusedAsNode text name × NodeSays s 5 before after (settings_line name))
+    ⊎ ((text : List ℕ) × (name : List ℕ) × holds text × IsRefusedAsNode text name × SaysOrRunsOut s 5 before after (settings_line name))

@@ -2,12 +2,13 @@
 ghost use Rattle.std.specs.Prelude.{◌≡◌, ◌≤◌, ◌⊎◌, map, Ok, IfErr, IfOk, List, ℕ};
 ghost use Rattle.bsc_outside.specs.Faults.{HasRisen};
 ghost use Rattle.bsc_player.specs.Faults.{RisesIf};
+ghost use Rattle.bsc_player.specs.LastLines.{SaysOrRunsOut};
 ghost use Rattle.bsc_node_run.specs.declared.due.Due.{Due};
 ghost use Rattle.bsc_node_run.specs.Drawing.{Draws};
 ghost use Rattle.bsc_node_run.specs.Scripts.{script_of, wish_of};
 ghost use Rattle.bsc_node_run.specs.Worlds.{dialling};
 ghost use Rattle.bsc_node_run_laws.specs.Courses.{FinishCame};
-ghost use Rattle.bsc_node_command.specs.Lines.{NodeSays, settings_line};
+ghost use Rattle.bsc_node_command.specs.Lines.{settings_line};
 ghost use Rattle.bsc_node_command.specs.Settled.{IsSettled, Unread, Unsettled};
 ghost use Rattle.bsc_node_command.specs.Comes.{RunsFiles, RunsScript, acceptor_world, node_world};
 
@@ -25,7 +26,7 @@ use std::alloc::Global;
 
 /// Ends a run whose settings are refused.
 fn refuse<K: Sink>(alloc: Global, sink: &mut K, name: &str) -> u8
-    ensures says { NodeSays result 5 (K.held sink.old) (K.held sink.new) (settings_line name.now) }
+    ensures says { SaysOrRunsOut result 5 (K.held sink.old) (K.held sink.new) (settings_line name.now) }
     ensures failed { (result ≡ 5) ⊎ (result ≡ 7)
         ⊎ ((result ≡ 4) × HasRisen (K.faults sink.old) (K.faults sink.new)) }
     ensures later { K.faults sink.old ≤ K.faults sink.new }

@@ -27,6 +27,11 @@ EndsWith result status before after line =
 abbrev pub RanOut : ℕ → Option (List ℕ) → Option (List ℕ) → Type 0
 RanOut result before after = (result ≡ 7) × PutsPrefix before after memory_line
 
+-- A text was written, and the status is the one that is wanted; or its write failed, and the status is 4; or there was no
+-- memory for it.
+abbrev pub SaysOrRunsOut : ℕ → ℕ → Option (List ℕ) → Option (List ℕ) → List ℕ → Type 0
+SaysOrRunsOut s wanted before after text = EndsWith s wanted before after text ⊎ RanOut s before after
+
 -- What the end of a play comes to, by its status and its last line.
 abbrev pub EndsTo : PlayEnd → ℕ → Option (List ℕ) → Option (List ℕ) → Type 0
 EndsTo Done result before after = (result ≡ 0) × (after ≡ before)
