@@ -26,7 +26,7 @@ use crate::place::Place;
 use crate::refusal::Refusal;
 use crate::verdict::Verdict;
 use bsc_frame::{Check, Message, read};
-use bsc_octets::{Envelope, NoMemory, control, function};
+use bsc_octets::{Envelope, NoMemory, control, function, results};
 use std::alloc::Global;
 
 /// The error code that a check answers with.
@@ -35,14 +35,14 @@ fn code_of(check: Check) -> Option<u16>
 {
     match check {
         Check::C1 | Check::C2 | Check::C3 | Check::C4 | Check::C13 => None,
-        Check::C5 | Check::C7b | Check::C8 => Some(145),
-        Check::C6 => Some(143),
-        Check::C7 | Check::C10b => Some(147),
-        Check::C9 => Some(146),
-        Check::C10 => Some(149),
-        Check::C10c => Some(150),
-        Check::C11 => Some(80),
-        Check::C12 => Some(144),
+        Check::C5 | Check::C7b | Check::C8 => Some(results::HEADER_ENCODING_ERROR),
+        Check::C6 => Some(results::FUNCTION_UNKNOWN),
+        Check::C7 | Check::C10b => Some(results::MESSAGE_INCOMPLETE),
+        Check::C9 => Some(results::HEADER_NOT_UNDERSTOOD),
+        Check::C10 => Some(results::PAYLOAD_EXPECTED),
+        Check::C10c => Some(results::UNEXPECTED_DATA),
+        Check::C11 => Some(results::PARAMETER_OUT_OF_RANGE),
+        Check::C12 => Some(results::PROPRIETARY_FUNCTION_UNKNOWN),
     }
 }
 
