@@ -14,21 +14,12 @@ use Rattle.bsc_history.specs.Counting.{counts}
 use Rattle.bsc_history.specs.Outboxes.{vmac_in, vmac_of}
 use Rattle.bsc_history.specs.Legality.{Lawful, Legal}
 use Rattle.bsc_history.specs.Laws.{Apart}
-use Rattle.bsc_history.proofs.Lists.{In, In-append, In-option, In-filter, find_says, Apart-push, same_one}
+use Rattle.bsc_history.proofs.Lists.{In, In-append, In-option, In-filter, find_says, Apart-push, same_one, In-left, In-right}
 use Rattle.bsc_history.proofs.More.{along, live-more, unleft-more, joined-more, ended-more, counts-more}
 use Rattle.bsc_history.proofs.Uniqueness.{settled, comes, not_joined}
 use Rattle.bsc_history.proofs.Common.{counts_one, filter_only, leave_ends, none_both, number_is}
 use Rattle.std.proofs.lemmas.List.Folds.{find-append}
 use Rattle.bsc_history.proofs.Parts.{numbered_joined}
-
-In-left : {A : Type 0} (x : A) (xs ys : List A) → In x xs → In x (xs ++ ys)
-In-left x [] ys h = absurd h
-In-left x (y ∷ xs) ys (inl e) = inl e
-In-left x (y ∷ xs) ys (inr h) = inr (In-left x xs ys h)
-
-In-right : {A : Type 0} (x : A) (xs ys : List A) → In x ys → In x (xs ++ ys)
-In-right x [] ys h = h
-In-right x (y ∷ xs) ys h = inr (In-right x xs ys h)
 
 -- who is among the connections that a test keeps has joined
 

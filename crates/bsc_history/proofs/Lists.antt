@@ -13,6 +13,16 @@ In-append x [] ys h = inr h
 In-append x (y ∷ xs) ys (inl e) = inl (inl e)
 In-append x (y ∷ xs) ys (inr h) = elim (In-append x xs ys h) [ inl m ↦ inl (inr m) | inr m ↦ inr m ]
 
+-- who is in one of two lists is in both together
+pub In-left : {A : Type 0} (x : A) (xs ys : List A) → In x xs → In x (xs ++ ys)
+In-left x [] ys h = absurd h
+In-left x (y ∷ xs) ys (inl e) = inl e
+In-left x (y ∷ xs) ys (inr h) = inr (In-left x xs ys h)
+
+pub In-right : {A : Type 0} (x : A) (xs ys : List A) → In x ys → In x (xs ++ ys)
+In-right x [] ys h = h
+In-right x (y ∷ xs) ys h = inr (In-right x xs ys h)
+
 pub In-option : {A : Type 0} (x : A) (o : Option A) → In x (option_to_list o) → o ≡ Some x
 In-option x None h = absurd h
 In-option x (Some y) (inl e) = ap Some e

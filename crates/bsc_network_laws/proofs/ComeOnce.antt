@@ -15,7 +15,7 @@ use Rattle.bsc_history.specs.Ends.{first_end, joined_where, joined, live}
 use Rattle.bsc_history.specs.Laws.{Apart}
 use Rattle.bsc_history.specs.Legality.{Lawful, Legal}
 use Rattle.bsc_history.specs.Replies.{numbers}
-use Rattle.bsc_history.proofs.Lists.{In, In-append, In-filter, In_kept, In_from_all, any_gives, same_one}
+use Rattle.bsc_history.proofs.Lists.{In, In-append, In-filter, In_kept, In_from_all, any_gives, same_one, In-left, In-right}
 use Rattle.bsc_history.proofs.Uniqueness.{settled}
 use Rattle.bsc_network.specs.declared.way.Way.{Way}
 use Rattle.bsc_network.specs.declared.way.Way.TheVariants.{Up, Down}
@@ -93,15 +93,6 @@ numbers-apart s (x ∷ xs) h =
     differs x y here more same = omega arith
 
 -- a connection that is live before an entry has joined
-In-left : {A : Type 0} (x : A) (xs ys : List A) → In x xs → In x (xs ++ ys)
-In-left x [] ys h = absurd h
-In-left x (y ∷ xs) ys (inl same) = inl same
-In-left x (y ∷ xs) ys (inr later) = inr (In-left x xs ys later)
-
-In-right : {A : Type 0} (x : A) (xs ys : List A) → In x ys → In x (xs ++ ys)
-In-right x [] ys h = h
-In-right x (y ∷ xs) ys h = inr (In-right x xs ys h)
-
 live-joined : (G es : List Entry) (x : Connection) → In x (live G) → In x (joined (G ++ es))
 unfolding joined_where
 live-joined [] es x m = absurd m

@@ -10,19 +10,10 @@ use Rattle.bsc_history.specs.Ends.{joined_where, joined, leaves}
 use Rattle.bsc_history.specs.Legality.{Lawful, Legal, is_of}
 use Rattle.bsc_history.specs.Laws.{Apart}
 use Rattle.bsc_history.proofs.Lifting.{stays}
-use Rattle.bsc_history.proofs.Lists.{In, In-append, In-filter, In_kept, any_In, Apart-push}
+use Rattle.bsc_history.proofs.Lists.{In, In-append, In-filter, In_kept, any_In, Apart-push, In-left, In-right}
 use Rattle.bsc_history.proofs.More.{along, joined-more}
 use Rattle.bsc_history.proofs.Named.{unleft_joined}
 use Rattle.bsc_history.proofs.Uniqueness.{settled, comes}
-
-In_first : {A : Type 0} (x : A) (xs ys : List A) → In x xs → In x (xs ++ ys)
-In_first x [] ys m = absurd m
-In_first x (z ∷ xs) ys (inl e) = inl e
-In_first x (z ∷ xs) ys (inr m) = inr (In_first x xs ys m)
-
-In_last : {A : Type 0} (x : A) (xs ys : List A) → In x ys → In x (xs ++ ys)
-In_last x [] ys m = m
-In_last x (z ∷ xs) ys m = inr (In_last x xs ys m)
 
 -- the number of one that joins is that of none of those who joined before
 new_number : (a : About) (G : List Entry) (e : Entry) (x y : Connection) → Legal a G → Lawful a (moment G e) → In x (joined G) → connection_of e ≡ Some y → x.number ≢ y.number
@@ -50,8 +41,8 @@ joined_in test [] x m = absurd m
 joined_in test (e ∷ after) x m =
     let new : List Connection = option_to_list (connection_of e) in
     elim (In-append x (filter (λ c. test c.number after) new) (joined_where test after) m) [
-      | inl here ↦ In_first x (filter (λ c. true) new) (joined after) (In_kept (λ c. true) x new (In-filter (λ c. test c.number after) x new here).0 refl)
-      | inr later ↦ In_last x (filter (λ c. true) new) (joined after) (joined_in test after x later)
+      | inl here ↦ In-left x (filter (λ c. true) new) (joined after) (In_kept (λ c. true) x new (In-filter (λ c. test c.number after) x new here).0 refl)
+      | inr later ↦ In-right x (filter (λ c. true) new) (joined after) (joined_in test after x later)
     ]
 
 -- Who has joined has joined still, when other entries come behind.
@@ -60,4 +51,4 @@ unfolding joined_where
 joined_longer [] es x m = absurd m
 joined_longer (e ∷ G) es x m =
     let new : List Connection = filter (λ c. true) (option_to_list (connection_of e)) in
-    elim (In-append x new (joined G) m) [ inl here ↦ In_first x new (joined (G ++ es)) here | inr later ↦ In_last x new (joined (G ++ es)) (joined_longer G es x later) ]
+    elim (In-append x new (joined G) m) [ inl here ↦ In-left x new (joined (G ++ es)) here | inr later ↦ In-right x new (joined (G ++ es)) (joined_longer G es x later) ]

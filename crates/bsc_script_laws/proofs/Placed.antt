@@ -1,5 +1,5 @@
 -- Lists of peers where one stands in the place of those that have its name, and who is among them.
-use Rattle.std.proofs.Common.{◌≡◌, ◌⊎◌, inl, inr, ℕ, Bool, true, false, cond, List, [], ◌∷◌, ◌++◌, find, map, Option, Some, None, MatchOption, refl, ap, sym, ◌∙◌, subst}
+use Rattle.std.proofs.Common.{◌≡◌, ◌⊎◌, inl, inr, ℕ, Bool, true, false, cond, List, [], ◌∷◌, find, map, Option, Some, None, MatchOption, refl, ap, sym, ◌∙◌, subst}
 use Rattle.bsc_history.proofs.Lists.{In, find_says}
 use Rattle.bsc_script.specs.States.{Peer, is_named}
 use Rattle.bsc_script.specs.Holding.{name_of}
@@ -43,15 +43,6 @@ names_placed j [] = refl
 names_placed j (p ∷ ks) =
     ap (λ (n : List ℕ). n ∷ map name_of (placed j ks)) (name_kept j p (is_named j.name p) refl)
     ∙ ap (λ (l : List (List ℕ)). p.name ∷ l) (names_placed j ks)
-
-pub In-left : {A : Type 0} (x : A) (xs ys : List A) → In x xs → In x (xs ++ ys)
-In-left x [] ys m = absurd m
-In-left x (z ∷ xs) ys (inl e) = inl e
-In-left x (z ∷ xs) ys (inr m) = inr (In-left x xs ys m)
-
-pub In-right : {A : Type 0} (x : A) (xs ys : List A) → In x ys → In x (xs ++ ys)
-In-right x [] ys m = m
-In-right x (z ∷ xs) ys m = inr (In-right x xs ys m)
 
 pub in_map : {A B : Type 0} (f : A → B) (xs : List A) (y : B) → In y (map f xs) → (x : A) × In x xs × (f x ≡ y)
 in_map f [] y m = absurd m

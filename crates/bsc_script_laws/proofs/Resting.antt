@@ -9,7 +9,7 @@ use Rattle.bsc_history.specs.declared.ending.End.TheVariants.{Left, Replaced, Fu
 use Rattle.bsc_history.specs.declared.entry.Entry.{Entry}
 use Rattle.bsc_history.specs.Ends.{ended, unleft}
 use Rattle.bsc_history.specs.Outboxes.{added_by, looked, sent}
-use Rattle.bsc_history.proofs.Lists.{In, In-append, In-filter, In_from_all, In_kept, any_gives}
+use Rattle.bsc_history.proofs.Lists.{In, In-append, In-filter, In_from_all, In_kept, any_gives, In-left, In-right}
 use Rattle.bsc_history.proofs.More.{ended-same, sent-more}
 use Rattle.bsc_history.proofs.Numbers.{numbers_are_new}
 use Rattle.bsc_accept.specs.declared.closing.Closing.{Closing}
@@ -30,7 +30,7 @@ use Rattle.bsc_script.proofs.Peers.{conn_has, has_conn, name_same, other_name}
 use Rattle.bsc_script_laws.proofs.Keeping.{does_sound}
 use Rattle.bsc_script_laws.proofs.Once.{AtMostOne, apart_one, in_order, on, one_joined, peers_joined, peers_on}
 use Rattle.bsc_script_laws.proofs.Looking.{drop-front}
-use Rattle.bsc_script_laws.proofs.Placed.{In-left, In-right, in_map, in_placed, map_in, placed, placed_in, placed_other}
+use Rattle.bsc_script_laws.proofs.Placed.{in_map, in_placed, map_in, placed, placed_in, placed_other}
 use Rattle.bsc_script_laws.proofs.Sound.{IsSound, IsSoundPeer}
 use Rattle.bsc_script_laws.proofs.SoundSteps.{changed_sound, told_sound}
 use Rattle.bsc_lemmas.proofs.Lists.{drop_all as drop-whole}

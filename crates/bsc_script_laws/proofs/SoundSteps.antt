@@ -15,7 +15,7 @@ use Rattle.bsc_history.specs.Ends.{leaves, unleft}
 use Rattle.bsc_history.specs.Legality.{Lawful, can_find, is_of, may_call}
 use Rattle.bsc_history.specs.Outboxes.{looked, sent}
 use Rattle.bsc_history.proofs.Lifting.{join_owned, own_joined}
-use Rattle.bsc_history.proofs.Lists.{In, In-append, In-filter, In_from_all, In_kept, Apart-filter, Apart-push, any_gives, any_In, same_one}
+use Rattle.bsc_history.proofs.Lists.{In, In-append, In-filter, In_from_all, In_kept, Apart-filter, Apart-push, any_gives, any_In, same_one, In-left}
 use Rattle.bsc_history.proofs.More.{Legal-more, unleft-more, unleft-same}
 use Rattle.bsc_checks.specs.declared.phase.Phase.TheVariants.{AwaitingRequest}
 use Rattle.bsc_accept.specs.declared.event.Event.{Event}
@@ -38,7 +38,7 @@ use Rattle.bsc_lemmas.proofs.Booleans.{not_true as named_not}
 use Rattle.bsc_lemmas.proofs.Options.{some_none as some_nothing}
 use Rattle.bsc_ring.proofs.Common.{short_of}
 use Rattle.std.proofs.lemmas.Option.{none-some as nothing_some, same_Some as same_some}
-use Rattle.bsc_script_laws.proofs.Placed.{In-left, in_placed, names_placed, placed, placed_in, placed_other}
+use Rattle.bsc_script_laws.proofs.Placed.{in_placed, names_placed, placed, placed_in, placed_other}
 use Rattle.bsc_script_laws.proofs.Sound.{HasPeer, IsSound, IsSoundPeer, after_call, can_find_so, lawful_of, none_at_all, other_peer}
 
 -- ---- what keeps a state sound
