@@ -7,16 +7,16 @@ use Rattle.std.specs.Option.{option_map}
 use Rattle.std.proofs.lemmas.List.{map-append}
 use Rattle.std.proofs.lemmas.Bool.{eqb-true, and_parts}
 use Rattle.bsc_octets.specs.declared.identity.Identity.{Identity}
-use Rattle.bsc_history.specs.declared.limits.About.{About}
 use Rattle.bsc_history.specs.declared.entry.Entry.{Entry}
 use Rattle.bsc_history.specs.declared.connection.Connection.{Connection}
-use Rattle.bsc_history.specs.Entries.{connection_of, moments_after}
+use Rattle.bsc_history.specs.Entries.{connection_of}
 use Rattle.bsc_history.specs.Ends.{first_end, joined_where, joined, live}
 use Rattle.bsc_history.specs.Laws.{Apart}
-use Rattle.bsc_history.specs.Legality.{Lawful, Legal}
+use Rattle.bsc_history.specs.Legality.{Legal}
 use Rattle.bsc_history.specs.Replies.{numbers}
 use Rattle.bsc_history.proofs.Lists.{In, In-append, In-filter, In_kept, In_from_all, any_gives, same_one, In-left, In-right}
 use Rattle.bsc_history.proofs.Uniqueness.{settled}
+use Rattle.bsc_history.proofs.Parts.{Legal-first}
 use Rattle.bsc_network.specs.declared.way.Way.{Way}
 use Rattle.bsc_network.specs.declared.way.Way.TheVariants.{Up, Down}
 use Rattle.bsc_network.specs.declared.target.Target.{Target}
@@ -57,14 +57,6 @@ pub record IsOrderly (cast : Cast) (w : World) : Type 0 where
   pub legal : HubsLegal w
 
 -- ---- legal histories
-
-all-before : (a : About) (F G es : List Entry) → AllByRecursion (Lawful a) (moments_after F (G ++ es)) → AllByRecursion (Lawful a) (moments_after F G)
-all-before a F [] es all = tt
-all-before a F (e ∷ G) es all = (all.0, all-before a (F ++ e ∷ []) G es all.1)
-
--- a history is legal before each of its entries
-legal-before : (a : About) (G es : List Entry) → Legal a (G ++ es) → Legal a G
-legal-before a G es legal = record { lawful = all-before a [] G es legal.lawful }
 
 numbers-from : (s : ℕ) (xs : List Connection) → numbers xs ≡ range_with_len s (length xs) → AllByRecursion (λ (y : Connection). s ≤ y.number) xs
 numbers-from s [] h = tt
@@ -203,7 +195,7 @@ same-link cast w o j h k there l x f m y g at_x from_x at_y from_y a b index =
     let caller_d : d.0.caller ≡ m = caller_is m b.conn h G es d.0 legal split b.joined_by d.1 d.2 in
     let who : c.0.who ≡ d.0.who =
     some_same c.0.who d.0.who (sym (who_is cast w o j h k l x G es c.0 there split c.1 caller_c at_x from_x) ∙ who_is cast w o j h k m y G es d.0 there split d.1 caller_d at_y from_y) in
-    let devices = (settled h.about G (legal-before h.about G es (subst (Legal h.about) split legal))).devices in
+    let devices = (settled h.about G (Legal-first h.about G es (subst (Legal h.about) split legal))).devices in
     let same : c.0 ≡ d.0 = same_one (λ (z : Connection). z.who.device) c.0 d.0 (live G) devices c.1 d.1 (ap (λ (i : Identity). i.device) who) in
     sym caller_c ∙ ap (λ (z : Connection). z.caller) same ∙ caller_d
 

@@ -1,17 +1,16 @@
 -- After the close of a name only the word that its connection is gone is written under it.
-use Rattle.std.proofs.Common.{◌≡◌, ◌≢◌, ◌⊎◌, inl, inr, ℕ, nat_le, nat_lt, Bool, true, false, not, ◌&&◌, cond, List, [], ◌∷◌, ◌++◌, codes, fold, length, map, Some, None, refl, sym, subst, append_assoc, append-nil}
+use Rattle.std.proofs.Common.{◌≡◌, ◌≢◌, ◌⊎◌, inl, inr, ℕ, nat_le, nat_lt, Bool, true, false, not, ◌&&◌, cond, List, [], ◌∷◌, ◌++◌, codes, fold, length, map, Some, None, refl, sym, subst}
 use Rattle.std.specs.Prelude.{⊤}
 use Rattle.std.specs.List.{AllByRecursion}
 use Rattle.bsc_history.specs.declared.limits.About.{About}
-use Rattle.bsc_history.specs.declared.entry.Entry.{Entry}
 use Rattle.bsc_history.specs.declared.call.Call.TheVariants.{Stop as StopCall, Count}
 use Rattle.bsc_history.specs.Counting.{counts}
 use Rattle.bsc_history.specs.Ends.{unleft}
 use Rattle.bsc_history.specs.Laws.{Apart}
 use Rattle.bsc_history.specs.Legality.{Legal}
 use Rattle.bsc_history.specs.Replies.{is_stopped}
-use Rattle.bsc_history.proofs.More.{Legal-front}
 use Rattle.bsc_history.proofs.Numbers.{numbers_are_new}
+use Rattle.bsc_history.proofs.Parts.{Legal-first}
 use Rattle.bsc_accept.specs.declared.event.Event.TheVariants.{Tick}
 use Rattle.bsc_accept.specs.declared.reason.Reason.TheVariants.{Nothing as NoReason}
 use Rattle.bsc_accept.specs.Steps.{closing}
@@ -148,15 +147,11 @@ so_far_ends : (n : List ℕ) (o : ScriptOutcome) → SoFar n [] o → EndsByClos
 so_far_ends n o (inl f) = plain_ends n o.said f
 so_far_ends n o (inr v) = v.0.lines
 
-legal_before : (a : About) (H more : List Entry) → Legal a (H ++ more) → Legal a H
-legal_before a H [] h = subst (Legal a) (append-nil H) h
-legal_before a H (e ∷ more) h = (Legal-front a H e (legal_before a (H ++ e ∷ []) more (subst (Legal a) (sym (append_assoc H (e ∷ []) more)) h))).0
-
 emptied_ends : (n : List ℕ) (a : About) (u : ScriptOutcome) → Legal a (emptied u).state.history → IsFit n u → EndsByClosing n (emptied u).said
 emptied_ends n a u legal fit =
     let xs = in_order_of_joining u.state in
     let more = all_emptied_added (λ e. ⊤) (λ e c l. tt) u.state.about u.state.history xs u (nothing_added (λ e. ⊤) u.state) in
-    let before : Legal a u.state.history = legal_before a u.state.history more.more (subst (Legal a) more.behind legal) in
+    let before : Legal a u.state.history = Legal-first a u.state.history more.more (subst (Legal a) more.behind legal) in
     let one = subst (AtMostOne n) (sym (peers_joined u.state.peers (unleft u.state.history))) (one_joined n u.state.peers (unleft u.state.history) fit.one (numbers_are_new a u.state.history before)) in
     so_far_ends n (emptied u) (emptied_so_far n xs u one (before_emptied n u fit.lines))
 
