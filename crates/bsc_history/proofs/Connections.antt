@@ -41,6 +41,9 @@ kept_joined test (e ∷ after) x h =
           (In-right x (filter (λ y. true) o) (joined after) r.0, or_right (joins x.number e) (list_any (joins x.number) after) r.1))
     ]
 
+pub joined_in : (test : ℕ → List Entry → Bool) (H : List Entry) (x : Connection) → In x (joined_where test H) → In x (joined H)
+joined_in test H x h = (kept_joined test H x h).0
+
 pub unleft_joined : (H : List Entry) (x : Connection) → In x (unleft H) → In x (joined H) × (list_any (joins x.number) H ≡ true)
 unleft_joined H x h = kept_joined (λ c after. not (list_any (leaves c) after)) H x h
 

@@ -27,11 +27,12 @@ use Rattle.bsc_history.specs.Legality.{Lawful, Legal}
 use Rattle.bsc_history.specs.Outboxes.{added, added_by, is_found_full, is_too_long, meant, means, out_of, sent}
 use Rattle.bsc_history.specs.Replies.{broadcast_reply, connect_reply, forward_reply, is_stopped, numbers, number_of, refused_as_held, reply, rival, unicast_reply, unless_ended}
 use Rattle.bsc_history.proofs.Fresh.{fresh_sent}
-use Rattle.bsc_history.proofs.Lists.{Apart-filter, In, In-append, In-filter, find_says}
+use Rattle.bsc_history.proofs.Lists.{Apart-filter, In, In-filter, find_says}
 use Rattle.bsc_history.proofs.More.{along, counts-more, joined-more, sent-more}
 use Rattle.bsc_history.proofs.Named.{adds_as_named}
 use Rattle.bsc_history.proofs.Numbers.{live_numbers}
 use Rattle.bsc_history.proofs.Uniqueness.{comes, settled}
+use Rattle.bsc_history.proofs.Connections.{joined_in}
 use Rattle.bsc_load.specs.Laws.{AppendedIsSent}
 
 -- counts over lists
@@ -104,31 +105,6 @@ once_there (y ∷ ys) a (suc n) x are (inr m) =
     sum_by-cons (λ (z : Connection). cond (x.number == z.number) 1 0) y ys ∙ ap (λ (b : Bool). cond b 1 0 + count_by (λ z. x.number == z.number) ys) (ne_eqb x.number y.number (λ e. absurd (omega (arith, e, first, later))))
     ∙ zero_add (count_by (λ z. x.number == z.number) ys) ∙ once_there ys (a + 1) n x (ap (λ (l : List ℕ). drop 1 l) are) m
 
--- who is live has joined
-
-in_left : (x : Connection) (xs ys : List Connection) → In x xs → In x (xs ++ ys)
-in_left x [] ys m = absurd m
-in_left x (y ∷ xs) ys (inl e) = inl e
-in_left x (y ∷ xs) ys (inr m) = inr (in_left x xs ys m)
-
-in_right : (x : Connection) (xs ys : List Connection) → In x ys → In x (xs ++ ys)
-in_right x [] ys m = m
-in_right x (y ∷ xs) ys m = inr (in_right x xs ys m)
-
-in_every : (x : Connection) (o : Option Connection) → In x (option_to_list o) → In x (filter (λ y. true) (option_to_list o))
-in_every x None m = m
-in_every x (Some y) m = m
-
-where_joined : (test : ℕ → List Entry → Bool) (H : List Entry) (x : Connection) → In x (joined_where test H) → In x (joined H)
-unfolding joined_where
-where_joined test [] x m = absurd m
-where_joined test (e ∷ after) x m =
-    let o = option_to_list (connection_of e) in
-    elim (In-append x (filter (λ y. test y.number after) o) (joined_where test after) m) [
-      | inl here ↦ in_left x (filter (λ y. true) o) (joined after) (in_every x (connection_of e) (In-filter (λ (y : Connection). test y.number after) x o here).0)
-      | inr later ↦ in_right x (filter (λ y. true) o) (joined after) (where_joined test after x later)
-    ]
-
 -- numbers that are named, each once
 
 not_among : (ys : List Connection) (n c : ℕ) → AllByRecursion (λ z. n ≢ z.number) ys → n ≡ c → is_among c (numbers ys) ≡ false
@@ -156,7 +132,7 @@ holder_live G p c found =
 -- how many of those who joined a forward's reply names
 module _ (a : About) (G : List Entry) (legal : Legal a G) where
   live_once : (y : Connection) → In y (live G) → count_by (λ x. y.number == x.number) (joined G) ≡ 1
-  live_once y m = once_there (joined G) 1 (length (joined G)) y (settled a G legal).numbered (where_joined (λ c after. is_none (first_end c after)) G y m)
+  live_once y m = once_there (joined G) 1 (length (joined G)) y (settled a G legal).numbered (joined_in (λ c after. is_none (first_end c after)) G y m)
 
   named_all : (sender : ℕ) (m o : List ℕ) (looks : List Look) → count_by (λ x. names x.number (broadcast_reply a G o looks (meant G sender m))) (joined G) ≡ appended_in (broadcast_reply a G o looks (meant G sender m))
   named_all sender m o looks =

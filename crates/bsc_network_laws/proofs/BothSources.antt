@@ -11,6 +11,7 @@ use Rattle.bsc_checks.specs.Outcomes.{outcome_of}
 use Rattle.bsc_history.specs.declared.connection.Connection.{Connection}
 use Rattle.bsc_history.specs.Ends.{joined, live}
 use Rattle.bsc_history.proofs.Lists.{In, In_from_all}
+use Rattle.bsc_history.proofs.Connections.{joined_in}
 use Rattle.bsc_node.specs.declared.node_event.NodeEvent.{NodeEvent}
 use Rattle.bsc_node.specs.declared.node_event.NodeEvent.TheVariants.{Send}
 use Rattle.bsc_node.specs.Laws.{with_event, with_heard, delivery}
@@ -42,7 +43,7 @@ use Rattle.bsc_network_laws.proofs.Diallers.{Inv, IsFit, KnowsNames, diallers_st
 use Rattle.bsc_network_laws.proofs.HubsThere.{HubsThere, hub-found}
 use Rattle.bsc_network_laws.proofs.HubsThere as There
 use Rattle.bsc_network_laws.proofs.SentOnLinks.{IsCounted}
-use Rattle.bsc_network_laws.proofs.Numbering.{joined_in, joined_longer}
+use Rattle.bsc_network_laws.proofs.Numbering.{joined_longer}
 use Rattle.bsc_network_laws.proofs.Passing.{KnowsHistories, all_unfiltered, found_in, passes}
 use Rattle.bsc_network_laws.proofs.ComingDown.{comes_down}
 use Rattle.bsc_network_laws.proofs.Histories.{keeps_both, keeps_as, whole_as, knows_histories}

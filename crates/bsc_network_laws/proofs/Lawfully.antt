@@ -14,6 +14,7 @@ use Rattle.bsc_history.specs.Entries.{moment}
 use Rattle.bsc_history.specs.Legality.{Lawful, Legal, looks_at, can_find, may_call}
 use Rattle.bsc_history.specs.Outboxes.{looked, sent}
 use Rattle.bsc_history.proofs.Lists.{In, In_from_all, any_gives, find_says, same_one}
+use Rattle.bsc_history.proofs.Connections.{joined_apart}
 use Rattle.bsc_network.specs.Worlds.{World, Hub, Link, Posted, history, hub_at, link_at}
 use Rattle.bsc_network.specs.Outboxes.{Frame, frames}
 use Rattle.bsc_network.specs.HubCalls.{taken_over, taken_by, taken_from, entry_in, is_worn}
@@ -22,7 +23,6 @@ use Rattle.bsc_network_laws.specs.Connecting.{is_conn, HasJoinedBy, IsOfLink, Jo
 use Rattle.bsc_network_laws.proofs.Moves.{IsSide}
 use Rattle.bsc_network_laws.proofs.Taken.{SidesFit, LinkFits}
 use Rattle.bsc_network_laws.proofs.Looks.{LooksFit}
-use Rattle.bsc_network_laws.proofs.Numbering.{joined_numbers}
 use Rattle.bsc_lemmas.proofs.Lists.{all-at}
 use Rattle.bsc_octets.proofs.Common.{vmac_same}
 
@@ -83,7 +83,7 @@ side_took w l j h k c side legal has =
         → MatchOption o ((y : Connection) → In y (joined (history h)) → (y.number == c) ≡ false) (λ y. In y (joined (history h)) × ((y.number == c) ≡ true)) → taken_by w o ≡ k.side.taken
     found x m number caller None says = absurd (both_ways (x.number == c) (says x m) (eq-eqb x.number c number))
     found x m number caller (Some y) says =
-        let same : y ≡ x = same_one (λ (z : Connection). z.number) y x (joined (history h)) (joined_numbers h.about (history h) legal) says.0 m (eqb-true y.number c says.1 ∙ sym number) in
+        let same : y ≡ x = same_one (λ (z : Connection). z.number) y x (joined (history h)) (joined_apart h.about (history h) legal) says.0 m (eqb-true y.number c says.1 ∙ sym number) in
         ap (λ (z : Connection). taken_over (link_at w z.caller)) same ∙ ap (λ n. taken_over (link_at w n)) caller ∙ ap taken_over side.link
 
 -- A side can find what it took.

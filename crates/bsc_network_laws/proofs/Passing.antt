@@ -22,6 +22,7 @@ use Rattle.bsc_history.specs.Legality.{Legal}
 use Rattle.bsc_history.specs.Outboxes.{added_by, means, meant, out_of, sent, takes, vmac_in, vmac_of, is_too_long, is_found_full}
 use Rattle.bsc_history.proofs.Lists.{In, In-filter, any_gives, find_says, same_one}
 use Rattle.bsc_history.proofs.Numbers.{live_numbers}
+use Rattle.bsc_history.proofs.Connections.{joined_apart, joined_in}
 use Rattle.bsc_checks.specs.Outcomes.{outcome_of}
 use Rattle.bsc_checks.specs.declared.place.Place.TheVariants.{HubPort}
 use Rattle.bsc_accept.specs.Past.{phase, standing}
@@ -58,7 +59,6 @@ use Rattle.bsc_network_laws.proofs.Holding as Holding
 use Rattle.bsc_network_laws.proofs.Diallers.{dialled-on}
 use Rattle.bsc_network_laws.proofs.Named.{all-messages}
 use Rattle.bsc_network_laws.proofs.SentOnLinks.{LinkSent, AllSent}
-use Rattle.bsc_network_laws.proofs.Numbering.{joined_numbers, joined_in}
 use Rattle.bsc_network_laws.proofs.Legally.{KnowsSides, Legally}
 use Rattle.bsc_accept.proofs.Common.{carries_by}
 use Rattle.bsc_lemmas.proofs.Lists.{all-at, all_append as all-joined}
@@ -233,7 +233,7 @@ pub joined_by : (h : Hub) (l c : ℕ) (x : Connection) → Legal h.about (histor
 joined_by h l c x legal has m number =
     let one = any_gives (is_conn l c) (joined (history h)) has in
     let two = and_parts (one.0.number == c) (one.0.caller == l) one.2 in
-    let same : x ≡ one.0 = same_one (λ (y : Connection). y.number) x one.0 (joined (history h)) (joined_numbers h.about (history h) legal) m one.1 (number ∙ sym (eqb-true one.0.number c two.0)) in
+    let same : x ≡ one.0 = same_one (λ (y : Connection). y.number) x one.0 (joined (history h)) (joined_apart h.about (history h) legal) m one.1 (number ∙ sym (eqb-true one.0.number c two.0)) in
     ap (λ (y : Connection). y.caller) same ∙ eqb-true one.0.caller l two.1
 
 -- what is known when something is passed on
@@ -295,7 +295,7 @@ passes-forwards cast S T place w l j p h k m d side conn arrival said known c =
             sender_live = numbered_so sender.0 (live H) (live_numbers h.about H legal) from.0;
             receiver_live = numbered_so taker.0 (live H) (live_numbers h.about H legal) to.0;
             meant = ap (λ n. means m n taker.0) from.1 ∙ to.1;
-            octets = ap (λ o. out m (vmac_in o)) (ap (λ n. numbered n (joined H)) (sym from.1) ∙ numbered_so sender.0 (joined H) (joined_numbers h.about H legal) from_joined);
+            octets = ap (λ o. out m (vmac_in o)) (ap (λ n. numbered n (joined H)) (sym from.1) ∙ numbered_so sender.0 (joined H) (joined_apart h.about H legal) from_joined);
             sender = k.from;
             dialled = ap (λ n. option_map (λ (x : Link). x.from) (link_at w n)) caller ∙ ap (option_map (λ (x : Link). x.from)) side.link;
             dest = up.0;
