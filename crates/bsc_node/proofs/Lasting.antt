@@ -254,10 +254,11 @@ fine-goes_on a L e f h =
 
 -- ---- all events
 
-abbrev watch : Made → Watched → TimedEvent → Watched
+-- what `may_all_come` keeps, after one event more
+abbrev pub watch : Made → Watched → TimedEvent → Watched
 watch a w e = record { log = w.log ++ goes_on a e w.log; fine = w.fine && may_come w.log e }
 
-was_fine : (a : Made) (events : List TimedEvent) (w : Watched) → (fold (watch a) w events).fine ≡ true → w.fine ≡ true
+pub was_fine : (a : Made) (events : List TimedEvent) (w : Watched) → (fold (watch a) w events).fine ≡ true → w.fine ≡ true
 was_fine a [] w h = h
 was_fine a (e ∷ events) w h = and_left w.fine (may_come w.log e) (was_fine a events (watch a w e) h)
 

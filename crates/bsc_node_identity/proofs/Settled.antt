@@ -29,14 +29,14 @@ use Rattle.bsc_node.specs.Conditions.{has_opened, is_draw, awaits_word, brings_w
 use Rattle.bsc_node.specs.Laws.{with_event}
 use Rattle.bsc_node.proofs.Told.{at_last-more}
 use Rattle.bsc_node.proofs.Following.{goes_on-is}
-use Rattle.bsc_node.proofs.Lasting.{Fine, fine-goes_on, fine-log, there_in_slots, event_fits}
+use Rattle.bsc_node.proofs.Lasting.{Fine, fine-goes_on, fine-log, there_in_slots, event_fits, watch, was_fine}
 use Rattle.bsc_node_laws.proofs.There.{there-before, opened-other}
 use Rattle.bsc_node_identity.proofs.Each.{keeps}
 use Rattle.bsc_node_identity.proofs.Reasons.{was_open, NoneAccepts, Why, WhyBegun}
 use Rattle.bsc_node_identity.proofs.OneMore.{open-stays, opened-stays, established-same, own_vmac-same, initiating-same, initiating-begun}
 use Rattle.bsc_node_identity.proofs.Followed.{each-why}
 use Rattle.bsc_node_identity.proofs.Lines.{renewal_none, event_none, begun-why, begun-no_call, Stays, established-before, none-told, is_opening, OpensUnaccepted}
-use Rattle.bsc_lemmas.proofs.Booleans.{and_left, and_right, not_true}
+use Rattle.bsc_lemmas.proofs.Booleans.{and_right, not_true}
 use Rattle.bsc_lemmas.proofs.Options.{some_none_any as some_none}
 use Rattle.bsc_node.proofs.Common.{word_awaited}
 use Rattle.bsc_node.proofs.There.{there-other}
@@ -274,13 +274,6 @@ settled-goes_on a L e s may = record {
     fine = fine-goes_on a L e s.fine may
 
 -- ---- all events
-
-abbrev watch : Made → Watched → TimedEvent → Watched
-watch a w e = record { log = w.log ++ goes_on a e w.log; fine = w.fine && may_come w.log e }
-
-was_fine : (a : Made) (events : List TimedEvent) (w : Watched) → (fold (watch a) w events).fine ≡ true → w.fine ≡ true
-was_fine a [] w h = h
-was_fine a (e ∷ events) w h = and_left w.fine (may_come w.log e) (was_fine a events (watch a w e) h)
 
 lasts : (a : Made) (I : Log → Type 0) → ((L : Log) (e : TimedEvent) → I L → IsTrue (may_come L e) → I (L ++ goes_on a e L))
     → (events : List TimedEvent) (w : Watched) → I w.log → (fold (watch a) w events).fine ≡ true → I (fold (λ (L : Log) (e : TimedEvent). L ++ goes_on a e L) w.log events)

@@ -1,23 +1,16 @@
 -- What holds of the log of a node after every event, once it has started.
-use Rattle.std.proofs.Common.{◌≡◌, true, ◌&&◌, List, [], ◌∷◌, ◌++◌}
+use Rattle.std.proofs.Common.{◌≡◌, true, List, [], ◌∷◌, ◌++◌}
 use Rattle.std.specs.Prelude.{IsTrue, fold}
 use Rattle.bsc_node.specs.declared.node_event.NodeEvent.TheVariants.{Start}
 use Rattle.bsc_node.specs.declared.timed_event.TimedEvent.{TimedEvent}
 use Rattle.bsc_node.specs.Logs.{Made, Log}
 use Rattle.bsc_node.specs.Node.{goes_on, log}
 use Rattle.bsc_node.specs.Conditions.{may_come, Watched, may_all_come}
+use Rattle.bsc_node.proofs.Lasting.{watch, was_fine}
 use Rattle.bsc_node_laws.specs.Links.{Brings}
 use Rattle.bsc_node_laws.proofs.Between.{Between}
 use Rattle.bsc_node_laws.proofs.Bringing.{begun, brings}
-use Rattle.bsc_lemmas.proofs.Booleans.{and_left, and_right}
-
--- what `may_all_come` keeps, after one event more
-abbrev watch : Made → Watched → TimedEvent → Watched
-watch a w e = record { log = w.log ++ goes_on a e w.log; fine = w.fine && may_come w.log e }
-
-was_fine : (a : Made) (events : List TimedEvent) (w : Watched) → (fold (watch a) w events).fine ≡ true → w.fine ≡ true
-was_fine a [] w h = h
-was_fine a (e ∷ events) w h = and_left w.fine (may_come w.log e) (was_fine a events (watch a w e) h)
+use Rattle.bsc_lemmas.proofs.Booleans.{and_right}
 
 between_after : (a : Made) (events : List TimedEvent) (w : Watched) → Between a w.log → (fold (watch a) w events).fine ≡ true → Between a (fold (λ (L : Log) (e : TimedEvent). L ++ goes_on a e L) w.log events)
 between_after a [] w b h = b
