@@ -38,11 +38,11 @@ abbrev pub draws_none : Line → Bool
 draws_none (did action) = not (draws action)
 draws_none m = true
 
-pub quiet_draws_none_by : (action : Action) → is_quiet_action action ≡ true → not (draws action) ≡ true
+quiet_draws_none_by : (action : Action) → is_quiet_action action ≡ true → not (draws action) ≡ true
 quiet_draws_none_by Draw h = h
 quiet_draws_none_by action h = refl
 
-quiet_draws_none : LetsQuiet draws_none
+pub quiet_draws_none : LetsQuiet draws_none
 quiet_draws_none (did action) h = quiet_draws_none_by action h
 quiet_draws_none m h = refl
 
@@ -50,14 +50,14 @@ messages : LetsMessages draws_none
 messages = record { quiet = quiet_draws_none; put = λ name o. refl; deliver = λ d. refl }
 
 -- whether lines draw a word
-abbrev drawn_by : List Line → Bool
+abbrev pub drawn_by : List Line → Bool
 drawn_by lines = list_any draws (filter_map action_of lines)
 
 none_drawn_by : (m : Line) (lines : List Line) → draws_none m ≡ true → drawn_by lines ≡ false → drawn_by (m ∷ lines) ≡ false
 none_drawn_by (did action) lines h rest = ap (λ (b : Bool). b || drawn_by lines) (not_true (draws action) h) ∙ rest
 none_drawn_by m lines h rest = rest
 
-none_drawn : (lines : List Line) → list_all draws_none lines ≡ true → drawn_by lines ≡ false
+pub none_drawn : (lines : List Line) → list_all draws_none lines ≡ true → drawn_by lines ≡ false
 none_drawn [] h = refl
 none_drawn (m ∷ lines) h = none_drawn_by m lines (and_left (draws_none m) (list_all draws_none lines) h) (none_drawn lines (and_right (draws_none m) (list_all draws_none lines) h))
 
@@ -73,11 +73,11 @@ not_came a L e h s = ap drawn_by (goes_on-is a L e) ∙ none_drawn (follows a e.
 
 -- ---- a message that came
 
-abbrev is_refusal : Outcome → Bool
+abbrev pub is_refusal : Outcome → Bool
 is_refusal (is_refused origin code) = true
 is_refusal o = false
 
-none-obeys_by : (a : Made) (name : LinkName) (o : Outcome) → is_refusal o ≡ false → Passes draws_none (obeys_by a name o)
+pub none-obeys_by : (a : Made) (name : LinkName) (o : Outcome) → is_refusal o ≡ false → Passes draws_none (obeys_by a name o)
 none-obeys_by a name (puts o) h = λ L. refl
 none-obeys_by a name (puts_and_closes o closing) h =
     pass-in_order draws_none (carries_out_by name (puts_and_closes o closing) ∷ ends a name ∷ [])

@@ -13,35 +13,26 @@ use Rattle.bsc_node.specs.declared.link_name.LinkName.TheVariants.{Hub}
 use Rattle.bsc_node.specs.declared.node_event.NodeEvent.{NodeEvent}
 use Rattle.bsc_node.specs.declared.node_event.NodeEvent.TheVariants.{Came}
 use Rattle.bsc_node.specs.declared.timed_event.TimedEvent.{TimedEvent}
-use Rattle.bsc_node.specs.declared.action.Action.TheVariants.{Put, Close, Draw}
+use Rattle.bsc_node.specs.declared.action.Action.TheVariants.{Close, Draw}
 use Rattle.bsc_node.specs.Logs.{Made, Line, came, did, Log, either, if_so, does, now, action_of}
-use Rattle.bsc_node.specs.Links.{is_there, none_there, was_taken, by_machine, hears, verdict, Outcome, puts, puts_and_closes, closes, meets, is_refused, passes_up, keeps_still, outcome}
-use Rattle.bsc_node.specs.Ending.{carries_out_by, ends, closes_link}
+use Rattle.bsc_node.specs.Links.{is_there, none_there, was_taken, by_machine, hears, verdict, Outcome, is_refused, outcome}
+use Rattle.bsc_node.specs.Ending.{ends}
 use Rattle.bsc_node.specs.Meeting.{tells_refusal, may_draw, is_refused_by}
 use Rattle.bsc_node.specs.Events.{obeys_by, obeys, follows}
 use Rattle.bsc_node.specs.Node.{goes_on, actions_at}
 use Rattle.bsc_node.specs.Conditions.{is_draw, awaits_word, brings_word, may_come}
 use Rattle.bsc_node.specs.Laws.{with_event, with_heard, draws}
 use Rattle.bsc_node.proofs.Order.{in_order-brought}
-use Rattle.bsc_node.proofs.Passing.{Passes, pass-in_order, pass-nothing}
-use Rattle.bsc_node.proofs.Quiet.{quiet-ends, quiet-closes_link}
-use Rattle.bsc_node.proofs.Heard.{LetsQuiet, lets-rule, pass-two-then, pass-meets_peer}
+use Rattle.bsc_node.proofs.Quiet.{quiet-ends}
+use Rattle.bsc_node.proofs.Heard.{lets-rule, pass-two-then}
 use Rattle.bsc_node.proofs.Following.{is_came, opened-dialled, goes_on-is}
 use Rattle.bsc_node.proofs.Told.{at_last-more}
-use Rattle.bsc_node.proofs.Lasting.{LetsMessages, pass-takes_body}
-use Rattle.bsc_node.proofs.Drawing.{draws_none, none-follows as none_follows, came_acts, quiet_draws_none_by}
-use Rattle.bsc_lemmas.proofs.Booleans.{and_left, and_right, not_true}
+use Rattle.bsc_node.proofs.Drawing.{draws_none, none-follows as none_follows, came_acts, quiet_draws_none, drawn_by, none_drawn, none-obeys_by}
+use Rattle.bsc_lemmas.proofs.Booleans.{and_left, and_right}
 use Rattle.bsc_node.proofs.Common.{draws_where_none}
 use Rattle.bsc_node.proofs.There.{there-other}
 
 -- ---- lines that draw nothing
-
-quiet_draws_none : LetsQuiet draws_none
-quiet_draws_none (did action) h = quiet_draws_none_by action h
-quiet_draws_none m h = refl
-
-messages : LetsMessages draws_none
-messages = record { quiet = quiet_draws_none; put = λ name o. refl; deliver = λ d. refl }
 
 none_is_no_draw : (m : Line) → draws_none m ≡ true → is_draw m ≡ false
 none_is_no_draw (did Draw) h = sym h
@@ -53,18 +44,6 @@ awaits_none [] L m h rest = at_last-more (λ before n. is_draw n) false L m ∙ 
 awaits_none (n ∷ lines) L m h rest =
     ap awaits_word (sym (append_assoc L (m ∷ []) (n ∷ lines)))
     ∙ awaits_none lines (L ++ m ∷ []) n (none_is_no_draw n (and_left (draws_none n) (list_all draws_none lines) rest)) (and_right (draws_none n) (list_all draws_none lines) rest)
-
--- whether lines draw a word
-abbrev drawn_by : List Line → Bool
-drawn_by lines = list_any draws (filter_map action_of lines)
-
-none_drawn_by : (m : Line) (lines : List Line) → draws_none m ≡ true → drawn_by lines ≡ false → drawn_by (m ∷ lines) ≡ false
-none_drawn_by (did action) lines h rest = ap (λ (b : Bool). b || drawn_by lines) (not_true (draws action) h) ∙ rest
-none_drawn_by m lines h rest = rest
-
-none_drawn : (lines : List Line) → list_all draws_none lines ≡ true → drawn_by lines ≡ false
-none_drawn [] h = refl
-none_drawn (m ∷ lines) h = none_drawn_by m lines (and_left (draws_none m) (list_all draws_none lines) h) (none_drawn lines (and_right (draws_none m) (list_all draws_none lines) h))
 
 -- one line and some lines behind a log, and then some lines
 pub seam : (M : Log) (x : Line) (ys zs : List Line) → M ++ (x ∷ (ys ++ zs)) ≡ ((M ++ x ∷ []) ++ ys) ++ zs
@@ -107,21 +86,6 @@ not_came : (a : Made) (L : Log) (e : TimedEvent) → IsTrue (may_come L e) → i
 not_came a L e h s = none_follows a (with_event L e) e.event s (λ name is. opened-dialled L e name is h)
 
 -- ---- a message that came
-
-abbrev is_refusal : Outcome → Bool
-is_refusal (is_refused origin code) = true
-is_refusal o = false
-
-none_obeys_by : (a : Made) (name : LinkName) (o : Outcome) → is_refusal o ≡ false → Passes draws_none (obeys_by a name o)
-none_obeys_by a name (puts o) h = λ L. refl
-none_obeys_by a name (puts_and_closes o closing) h =
-    pass-in_order draws_none (carries_out_by name (puts_and_closes o closing) ∷ ends a name ∷ [])
-    (pass-in_order draws_none (does (Put name o) ∷ does (Close name closing) ∷ []) ((λ L. refl), ((λ L. refl), tt)), (lets-rule draws_none quiet_draws_none (ends a name) (quiet-ends a name), tt))
-none_obeys_by a name (closes closing) h = lets-rule draws_none quiet_draws_none (closes_link a name closing) (quiet-closes_link a name closing)
-none_obeys_by a name (meets who) h = pass-meets_peer draws_none quiet_draws_none (λ k w. refl) a name who
-none_obeys_by a name (is_refused origin code) h = cc
-none_obeys_by a name (passes_up msg) h = pass-takes_body draws_none messages a name msg msg.body
-none_obeys_by a name keeps_still h = pass-nothing draws_none
 
 -- the log as a message leaves it
 pub came_log : (a : Made) (L : Log) (e : TimedEvent) (name : LinkName) (o : List ℕ) → e.event ≡ Came name o → L ++ goes_on a e L ≡ with_heard a L e name o ++ obeys a name (with_heard a L e name o)
@@ -175,7 +139,7 @@ by_draw a L e name N origin code known false h =
 
 by_outcome : (a : Made) (L : Log) (e : TimedEvent) (name : LinkName) (N : Log) (u : Outcome) → Heard a L e name N u → Leaves a L e
 by_outcome a L e name N (is_refused origin code) known = by_draw a L e name N origin code known (may_draw name code (told name origin code N)) refl
-by_outcome a L e name N u known = leaves_none a L e (known.none (none_obeys_by a name u refl N))
+by_outcome a L e name N u known = leaves_none a L e (known.none (none-obeys_by a name u refl N))
 
 -- ---- all events
 
