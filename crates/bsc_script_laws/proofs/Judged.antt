@@ -8,48 +8,23 @@ use Rattle.bsc_octets.specs.Addresses.{same_vmac, zero_vmac, broadcast}
 use Rattle.bsc_octets.specs.Envelopes.{announces_origin, announces_dest, vmac_at}
 use Rattle.bsc_octets.specs.Forwarding.{has_route, flags_in, function_in}
 use Rattle.bsc_octets.specs.Identities.{identity_of}
-use Rattle.bsc_octets.specs.Functions.{is_response}
-use Rattle.bsc_frame.specs.declared.check.Check.{Check}
 use Rattle.bsc_frame.specs.declared.check.Check.TheVariants.{C13}
 use Rattle.bsc_frame.specs.declared.message.Message.{Message}
 use Rattle.bsc_frame.specs.Layout.{options_at}
 use Rattle.bsc_checks.specs.declared.phase.Phase.{Phase}
 use Rattle.bsc_checks.specs.declared.phase.Phase.TheVariants.{AwaitingRequest}
-use Rattle.bsc_checks.specs.declared.place.Place.{Place}
 use Rattle.bsc_checks.specs.declared.place.Place.TheVariants.{HubPort}
-use Rattle.bsc_checks.specs.declared.verdict.Verdict.{Verdict}
-use Rattle.bsc_checks.specs.declared.verdict.Verdict.TheVariants.{Pass, Carry as Carried, Silent, Nak}
-use Rattle.bsc_checks.specs.Places.{origin_in, dest_in, is_to_carry}
-use Rattle.bsc_checks.specs.Table.{checks_of, code_of, head_checks, later_checks}
+use Rattle.bsc_checks.specs.declared.verdict.Verdict.TheVariants.{Pass, Carry as Carried}
+use Rattle.bsc_checks.specs.Places.{origin_in}
+use Rattle.bsc_checks.specs.Table.{checks_of, head_checks, later_checks}
 use Rattle.bsc_checks.specs.Options.{Found, data_options_in, rest_of}
 use Rattle.bsc_checks.specs.Payloads.{body_in, has_bad_details, has_bad_uris, has_no_nodes_vmac, has_unknown_accepts, has_unknown_result, has_unknown_status, is_out_of_range}
-use Rattle.bsc_checks.specs.PlaceTests.{is_in_place, is_unicast}
+use Rattle.bsc_checks.specs.PlaceTests.{is_in_place}
 use Rattle.bsc_checks.specs.Failing.{fails, of_payload}
-use Rattle.bsc_checks.specs.Outcomes.{accepted, answered, decided, first_failing, outcome_of, refused}
+use Rattle.bsc_checks.specs.Outcomes.{first_failing, outcome_of}
 use Rattle.bsc_accept.specs.Messages.{who_asks}
-use Rattle.bsc_checks.proofs.Common.{carries_when, none_fails, passes_when}
+use Rattle.bsc_checks.proofs.Common.{carries_when, none_fails, passes_when, unrefused}
 use Rattle.std.proofs.lemmas.Option.{same_Some as same_some}
-
--- ---- a message that no check refuses
-
--- whether a verdict refuses
-abbrev refuses : Verdict → Bool
-refuses (Silent check) = true
-refuses (Nak check octets) = true
-refuses verdict = false
-
-answered_refuses : (b : Bool) (m : List ℕ) (place : Place) (check : Check) (code : ℕ) → refuses (answered b m place check code) ≡ true
-answered_refuses true m place check code = refl
-answered_refuses false m place check code = refl
-
-refused_refuses : (m : List ℕ) (place : Place) (check : Check) (code : Option ℕ) → refuses (refused m place check code) ≡ true
-refused_refuses m place check None = refl
-refused_refuses m place check (Some code) = answered_refuses (is_unicast (dest_in m) && not (is_response (function_in m))) m place check code
-
--- A verdict that doesn't refuse comes where no check fails.
-unrefused : (m : List ℕ) (place : Place) (r : Option Check) (v : Verdict) → decided m place r ≡ v → refuses v ≡ false → (r ≡ None) × (accepted (is_to_carry place m) m ≡ v)
-unrefused m place None v e h = (refl, e)
-unrefused m place (Some check) v e h = absurd (true≢false (sym (refused_refuses m place check (code_of check)) ∙ ap refuses e ∙ h))
 
 -- ---- a message that is carried on
 

@@ -1,51 +1,29 @@
 -- In which phase a message is to be carried on, and in which one that asks to connect passes.
-use Rattle.std.proofs.Common.{◌≡◌, inl, inr, ℕ, ◌==◌, Bool, true, false, not, ◌&&◌, ◌||◌, cond, List, [], ◌∷◌, ◌++◌, Option, Some, None, true≢false, refl, ap, sym, ◌∙◌, subst}
+use Rattle.std.proofs.Common.{◌≡◌, inl, inr, ℕ, ◌==◌, Bool, true, false, not, ◌||◌, cond, List, [], ◌∷◌, ◌++◌, Some, None, true≢false, refl, ap, sym, ◌∙◌, subst}
 use Rattle.std.specs.List.{AllByRecursion}
 use Rattle.std.proofs.lemmas.Bool.{eqb-true, or_cases, true_from_ne_false}
 use Rattle.bsc_octets.specs.declared.envelope.Envelope.{Envelope}
 use Rattle.bsc_octets.specs.declared.identity.Identity.{Identity}
 use Rattle.bsc_octets.specs.Envelopes.{announces_dest}
 use Rattle.bsc_octets.specs.Forwarding.{flags_in, function_in}
-use Rattle.bsc_octets.specs.Functions.{is_response}
 use Rattle.bsc_frame.specs.declared.check.Check.{Check}
 use Rattle.bsc_frame.specs.declared.check.Check.TheVariants.{C13}
 use Rattle.bsc_frame.specs.declared.message.Message.{Message}
 use Rattle.bsc_checks.specs.declared.phase.Phase.{Phase}
 use Rattle.bsc_checks.specs.declared.phase.Phase.TheVariants.{AwaitingRequest, AwaitingAccept, Connected, Disconnecting}
-use Rattle.bsc_checks.specs.declared.place.Place.{Place}
 use Rattle.bsc_checks.specs.declared.place.Place.TheVariants.{HubPort}
-use Rattle.bsc_checks.specs.declared.verdict.Verdict.{Verdict}
-use Rattle.bsc_checks.specs.declared.verdict.Verdict.TheVariants.{Pass, Carry, Silent, Nak}
-use Rattle.bsc_checks.specs.Places.{dest_in, is_to_carry, origin_in}
-use Rattle.bsc_checks.specs.Table.{checks_of, code_of, head_checks, later_checks}
+use Rattle.bsc_checks.specs.declared.verdict.Verdict.TheVariants.{Pass, Carry}
+use Rattle.bsc_checks.specs.Places.{origin_in}
+use Rattle.bsc_checks.specs.Table.{checks_of, head_checks, later_checks}
 use Rattle.bsc_checks.specs.Failing.{fails}
 use Rattle.bsc_checks.specs.Options.{data_options_in, rest_of}
-use Rattle.bsc_checks.specs.Outcomes.{accepted, answered, decided, first_failing, outcome_of, refused}
+use Rattle.bsc_checks.specs.Outcomes.{first_failing, outcome_of}
 use Rattle.bsc_checks.specs.Payloads.{body_in}
-use Rattle.bsc_checks.specs.PlaceTests.{is_connected, is_in_place, is_unicast}
+use Rattle.bsc_checks.specs.PlaceTests.{is_connected, is_in_place}
 use Rattle.bsc_accept.specs.Messages.{who_asks}
-use Rattle.bsc_checks.proofs.Common.{carries_when, none_fails, passes_when}
+use Rattle.bsc_checks.proofs.Common.{carries_when, none_fails, passes_when, unrefused}
 
 -- ---- a message that no check refuses
-
--- whether a verdict refuses
-abbrev refuses : Verdict → Bool
-refuses (Silent check) = true
-refuses (Nak check octets) = true
-refuses verdict = false
-
-answered_refuses : (b : Bool) (m : List ℕ) (place : Place) (check : Check) (code : ℕ) → refuses (answered b m place check code) ≡ true
-answered_refuses true m place check code = refl
-answered_refuses false m place check code = refl
-
-refused_refuses : (m : List ℕ) (place : Place) (check : Check) (code : Option ℕ) → refuses (refused m place check code) ≡ true
-refused_refuses m place check None = refl
-refused_refuses m place check (Some code) = answered_refuses (is_unicast (dest_in m) && not (is_response (function_in m))) m place check code
-
--- A verdict that doesn't refuse comes where no check fails.
-unrefused : (m : List ℕ) (place : Place) (r : Option Check) (v : Verdict) → decided m place r ≡ v → refuses v ≡ false → (r ≡ None) × (accepted (is_to_carry place m) m ≡ v)
-unrefused m place None v e h = (refl, e)
-unrefused m place (Some check) v e h = absurd (true≢false (sym (refused_refuses m place check (code_of check)) ∙ ap refuses e ∙ h))
 
 -- whether a message is in place, at the hub port
 abbrev at_port : Bool → Phase → List ℕ → Bool
