@@ -1,11 +1,12 @@
 -- A hub that was served on a port that was bound.
-use Rattle.std.proofs.Common.{inl, inr, ◌≡◌, ℕ, List, ◌++◌, Option, Some, None, refl, ap, sym, ◌∙◌, subst, arith}
+use Rattle.std.proofs.Common.{inl, inr, ◌≡◌, ℕ, List, Option, Some, None, refl, sym, ◌∙◌, subst, arith}
 use Rattle.std.specs.Prelude.{◌⊎◌, ◌≤◌, ◌≢◌}
 use Rattle.bsc_outside.specs.Faults.{HasRisen}
 use Rattle.bsc_player.specs.LastLines.{RanOut}
 use Rattle.bsc_edge.specs.declared.fault.LinkFault.{LinkFault}
 use Rattle.bsc_edge.specs.declared.fault.LinkFault.TheVariants.{Failed}
-use Rattle.bsc_edge.specs.Told.{Grows, Stays, ToldIs}
+use Rattle.bsc_edge.specs.Told.{Stays, ToldIs}
+use Rattle.bsc_edge.proofs.Common.{grows_from}
 use Rattle.bsc_serve.specs.declared.end.ServeEnd.{ServeEnd}
 use Rattle.bsc_serve.specs.declared.terms.ServeTerms.{ServeTerms}
 use Rattle.bsc_serve.specs.Serving.{Loses, Serving}
@@ -24,12 +25,6 @@ loses_from l m None xs s t = tt
 loses_from l None (Some n) xs s t = absurd t
 loses_from None (Some m) (Some n) xs s t = absurd s
 loses_from (Some l) (Some m) (Some n) xs s t = sym s ∙ t
-
-grows_from : {A : Type 0} → (l m n : Option (List A)) (xs : List A) → Stays l m → Grows m n xs → Grows l n xs
-grows_from l m None xs s t = tt
-grows_from l None (Some n) xs s t = absurd t
-grows_from None (Some m) (Some n) xs s t = absurd s
-grows_from (Some l) (Some m) (Some n) xs s t = t ∙ ap (λ ys. ys ++ xs) s
 
 module _ {L C N : Type 0} (tells : HubTelling L C N) where
   pub bound_so : (asked : HubTerms) (k : HubCourse) (titled held' : Option (List ℕ)) (before after : HubWorld L C N) (links : Option (List L))

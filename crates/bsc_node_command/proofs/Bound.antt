@@ -1,7 +1,7 @@
 -- To which port an acceptor is bound.
 use Rattle.std.proofs.Common.{ℕ, Option, Some, None, ◌∙◌}
 use Rattle.bsc_edge.specs.Told.{Stays, ToldIs}
-use Rattle.bsc_node_run.proofs.Told.{stays_then}
+use Rattle.bsc_edge.proofs.Common.{stays_then}
 use Rattle.bsc_node_command.specs.Comes.{IsBoundBy}
 
 told_still : (p p' : Option (Option ℕ)) (port : Option ℕ) → ToldIs p port → Stays p p' → ToldIs p' port

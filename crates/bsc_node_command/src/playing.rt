@@ -41,7 +41,7 @@ fn tell_end<K: Sink>(sink: &mut K, end: Result<RunEnd, Halt>) -> u8
 }
 
 /// Binds the port of direct connections, where the settings have one.
-#[tactic(auto, using(bsc_node_run::proofs::Told::stays_same))]
+#[tactic(auto, using(bsc_edge::proofs::Common::stays_same))]
 fn bind<L, A: Acceptor<L>>(settings: &NodeSettings, acceptor: &mut A) -> Result<(), Failed>
     ensures bound { IfOk result (λ _. IsBoundBy settings.now.direct_port (A.bound acceptor.old) (A.bound acceptor.new)) }
     ensures left { Stays (A.left acceptor.old) (A.left acceptor.new) }

@@ -8,7 +8,6 @@ pub mod Runs
 pub mod Resting
 pub mod Pieces
 pub mod Behind
-pub mod Told
 pub mod Asked
 pub mod WorkedScripts
 pub mod Stops

@@ -1,5 +1,5 @@
 -- Whole runs, from their turns.
-use Rattle.std.proofs.Common.{◌≡◌, ◌≤◌, ◌<◌, ◌^◌, ℕ, ◌+◌, Bool, false, List, [], ◌∷◌, ◌++◌, length, Option, Some, None, refl, ap, sym, ◌∙◌, subst, append_assoc, append-nil, arith, unwrap_or}
+use Rattle.std.proofs.Common.{◌≡◌, ◌≤◌, ◌<◌, ◌^◌, ℕ, ◌+◌, Bool, false, List, [], ◌∷◌, ◌++◌, length, Option, Some, refl, ap, sym, ◌∙◌, subst, append_assoc, append-nil, arith, unwrap_or}
 use Rattle.std.proofs.lemmas.List.{length-append}
 use Rattle.bsc_edge.specs.declared.said.Said.{Said}
 use Rattle.bsc_edge.specs.Told.{Grows}
@@ -11,16 +11,6 @@ use Rattle.bsc_node_run.specs.Turning.{Turn}
 use Rattle.bsc_node_run.specs.Worlds.{Admitting, World}
 use Rattle.bsc_node_run.specs.Moments.{moment}
 use Rattle.bsc_node_run.proofs.Turns.{same}
-
-pub grows_none : {A : Type 0} (old : Option (List A)) → Grows old old []
-grows_none None = tt
-grows_none (Some o) = sym (append-nil o)
-
-pub grows_then : {A : Type 0} (old mid new : Option (List A)) (xs ys : List A) → Grows old mid xs → Grows mid new ys → Grows old new (xs ++ ys)
-grows_then old mid None xs ys a b = tt
-grows_then old None (Some n) xs ys a b = absurd b
-grows_then None (Some m) (Some n) xs ys a b = absurd a
-grows_then (Some o) (Some m) (Some n) xs ys a b = b ∙ ap (λ l. l ++ ys) a ∙ append_assoc o xs ys
 
 -- What was told grew by these, and a later call told nothing more.
 pub grows_still : {A : Type 0} (old mid new : Option (List A)) (xs : List A) → new ≡ mid → Grows old mid xs → Grows old new xs

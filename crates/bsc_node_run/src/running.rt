@@ -47,7 +47,7 @@ fn rest_ms<L>(set: &LinkSet<L>, left: &[Due], passed: u64) -> u32
 
 /// Runs a node: makes turns until the node tells that it has ended, up to this number of them, and waits before each. The times
 /// of the turns don't fall.
-#[tactic(auto, using(crate::proofs::Told::stays_then))]
+#[tactic(auto, using(bsc_edge::proofs::Common::stays_then))]
 pub fn run_core<
     N: Core,
     K: Sink,

@@ -249,7 +249,7 @@ fn hear_all<N: Core, K: Sink, W: Words, L: Link + Drop, D: Dialer<L>>(
 }
 
 /// Asks the acceptor once, where the node accepts direct connections, and tells the node of the link that arrived.
-#[tactic(auto, using(crate::proofs::Told::stays_same))]
+#[tactic(auto, using(bsc_edge::proofs::Common::stays_same))]
 fn admit<N: Core, K: Sink, W: Words, L: Link + Drop, A: Acceptor<L>, D: Dialer<L>>(
     at: At,
     node: &mut N,
@@ -327,7 +327,7 @@ pub(crate) fn passed_by(start: Option<u64>, now: u64) -> u64
 /// link arrived, where it accepts direct connections. What the node does at each is carried out before the next.
 ///
 /// Nothing is asked of what the node waits by: `run_core` waits between turns.
-#[tactic(auto, using(crate::proofs::Told::stays_same))]
+#[tactic(auto, using(bsc_edge::proofs::Common::stays_same))]
 pub fn node_turn<
     'a,
     N: Core,

@@ -15,6 +15,7 @@ use Rattle.bsc_edge.specs.declared.incoming.Incoming.{Incoming}
 use Rattle.bsc_edge.specs.declared.incoming.Incoming.TheVariants.{Message, Text, Quiet, Closed}
 use Rattle.bsc_edge.specs.declared.said.Said.{Said}
 use Rattle.bsc_edge.specs.Told.{Grows}
+use Rattle.bsc_edge.proofs.Common.{grows_none, grows_then}
 use Rattle.bsc_accept.specs.declared.closing.Closing.{Closing}
 use Rattle.bsc_node.specs.declared.link_name.LinkName.{LinkName}
 use Rattle.bsc_node.specs.declared.node_event.NodeEvent.{NodeEvent}
@@ -33,7 +34,6 @@ use Rattle.bsc_node_run.specs.Running.{Run, Turns, EndsSo}
 use Rattle.bsc_node_run.specs.Turning.{Admits, GivesWord, Gives, GivesIn, GivesLines, GivesNews, HearsEach, HearsIf, HearsOf, Starts, Turn, draws, event_of, names}
 use Rattle.bsc_node_run.specs.Worlds.{Admitting, Dialling, World, Same, begun, ends, is_open, with_link}
 use Rattle.bsc_node_run.specs.Moments.{moment, run_moment}
-use Rattle.bsc_node_run.proofs.Runs.{grows_none, grows_then}
 use Rattle.bsc_node_run_laws.specs.Courses.{GoesAsDefined}
 use Rattle.bsc_node_run_laws.specs.Said.{AreDialled, EndsAsTold, IsSaid, done_in, line_by, tells_end, uri_by}
 use Rattle.bsc_lemmas.proofs.Booleans.{or_false as or_none}

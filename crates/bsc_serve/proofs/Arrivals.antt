@@ -1,5 +1,5 @@
 -- Lists of what happened, and of what is told, with one more.
-use Rattle.std.proofs.Common.{inl, inr, ◌≡◌, ℕ, ◌+◌, ◌≤◌, List, [], ◌∷◌, ◌++◌, length, Option, Some, None, Ok, Err, refl, ap, sym, ◌∙◌, subst, arith, append_assoc, append-nil}
+use Rattle.std.proofs.Common.{inl, inr, ◌≡◌, ℕ, ◌+◌, ◌≤◌, List, [], ◌∷◌, ◌++◌, length, Option, Some, None, Ok, Err, refl, ap, sym, ◌∙◌, subst, arith, append_assoc}
 use Rattle.std.specs.Prelude.{replicate}
 use Rattle.std.proofs.lemmas.List.{replicate_more}
 use Rattle.bsc_turn.specs.declared.pass.Pass.{Pass}
@@ -13,6 +13,7 @@ use Rattle.bsc_edge.specs.declared.arrived.Arrived.{Arrived}
 use Rattle.bsc_edge.specs.declared.arrived.Arrived.TheVariants.{Link, Quiet}
 use Rattle.bsc_edge.specs.declared.fault.LinkFault.{LinkFault}
 use Rattle.bsc_edge.specs.Told.{Grows, Leaves, Stays}
+use Rattle.bsc_edge.proofs.Common.{grows_then}
 use Rattle.bsc_session.specs.declared.job.SessionJob.{SessionJob}
 use Rattle.bsc_session.specs.declared.session_end.SessionEnd.{SessionEnd}
 use Rattle.bsc_serve.specs.declared.bounds.TheConstants.{WAIT_MS}
@@ -71,27 +72,11 @@ module _ {L C N : Type 0} (works : SessionJob L C N → SessionEnd → Type 0) w
   out_then out mid still (ended j d ∷ more) last a b = (a.0, a.1, a.2, a.3, out_then (a.0 ++ a.1) mid still more last a.4 b)
 
 module _ {A : Type 0} where
-  pub grows_then : (old mid new : Option (List A)) (xs ys : List A) → Grows old mid xs → Grows mid new ys → Grows old new (xs ++ ys)
-  grows_then old mid None xs ys a b = tt
-  grows_then old None (Some n) xs ys a b = absurd b
-  grows_then None (Some m) (Some n) xs ys a b = absurd a
-  grows_then (Some o) (Some m) (Some n) xs ys a b = b ∙ ap (λ (l : List A). l ++ ys) a ∙ append_assoc o xs ys
-
-  pub grows_none : (old : Option (List A)) → Grows old old []
-  grows_none None = tt
-  grows_none (Some o) = sym (append-nil o)
-
   pub grows_still : (old mid new : Option (List A)) (xs : List A) → Grows old mid xs → Stays mid new → Grows old new xs
   grows_still old mid None xs a b = tt
   grows_still old None (Some n) xs a b = absurd b
   grows_still None (Some m) (Some n) xs a b = absurd a
   grows_still (Some o) (Some m) (Some n) xs a b = b ∙ a
-
-  pub grows_from : (old mid new : Option (List A)) (xs : List A) → Stays old mid → Grows mid new xs → Grows old new xs
-  grows_from old mid None xs a b = tt
-  grows_from old None (Some n) xs a b = absurd b
-  grows_from None (Some m) (Some n) xs a b = absurd a
-  grows_from (Some o) (Some m) (Some n) xs a b = b ∙ ap (λ (l : List A). l ++ xs) a
 
   pub loses_none : (old : Option (List A)) → Loses old old []
   loses_none None = tt
@@ -119,17 +104,6 @@ module _ {A : Type 0} where
   loses_failed old None (Some n) xs f a b = absurd b
   loses_failed None (Some m) (Some n) xs f a b = absurd a
   loses_failed (Some o) (Some m) (Some n) xs f a b = a ∙ ap (λ (l : List A). xs ++ l) (sym b)
-
-module _ {B : Type 0} where
-  pub stays_same : (a : Option B) → Stays a a
-  stays_same None = tt
-  stays_same (Some x) = refl
-
-  pub stays_then : (a b c : Option B) → Stays a b → Stays b c → Stays a c
-  stays_then a b None s t = tt
-  stays_then a None (Some z) s t = absurd t
-  stays_then None (Some y) (Some z) s t = absurd s
-  stays_then (Some x) (Some y) (Some z) s t = t ∙ s
 
 pub rose_then : (n k a b c : ℕ) → RoseBy n a b → RoseBy k b c → RoseBy (n + k) a c
 rose_then n k a b c (inl x) (inl y) = inl (omega (arith, x, y))

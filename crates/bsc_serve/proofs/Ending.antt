@@ -17,6 +17,7 @@ use Rattle.bsc_hub.proofs.Following.{went_then}
 use Rattle.bsc_edge.specs.declared.fault.LinkFault.{LinkFault}
 use Rattle.bsc_edge.specs.declared.fault.LinkFault.TheVariants.{Failed, NoMemory as NoRoom}
 use Rattle.bsc_edge.specs.Told.{Stays}
+use Rattle.bsc_edge.proofs.Common.{grows_from}
 use Rattle.bsc_notes.specs.Notes.{HasLine, Records}
 use Rattle.bsc_serve.specs.declared.end.ServeEnd.{ServeEnd}
 use Rattle.bsc_serve.specs.declared.end.ServeEnd.TheVariants.{Done, StoppedBefore, AcceptFault, JournalFault, NoMemory}
@@ -30,7 +31,7 @@ use Rattle.bsc_serve.specs.Inner.{CutAt, Halted, Stopped, Taken, fault_halt, hal
 use Rattle.bsc_serve.specs.Serving.{Cut, CutBy, EndsSo, IsWithin, JournalFailed, Loses, RoseBy, Serving, StopAnswers, cut_callers, cut_links, stop_notes}
 use Rattle.bsc_serve.specs.Tallies.{CountsUp, Remains}
 use Rattle.bsc_serve.specs.Worlds.{ServeWorld, Stock, served_world}
-use Rattle.bsc_serve.proofs.Arrivals.{SpentStays, fates_later, few_unstarted, grows_from, grows_still, rose_later}
+use Rattle.bsc_serve.proofs.Arrivals.{SpentStays, fates_later, few_unstarted, grows_still, rose_later}
 use Rattle.bsc_serve.proofs.Sessions.{stop_stands}
 
 -- calls that made no entry, and the stop of the hub after them

@@ -16,6 +16,7 @@ use Rattle.bsc_edge.specs.declared.fault.LinkFault.{LinkFault}
 use Rattle.bsc_edge.specs.declared.unstarted.Unstarted.{Unstarted}
 use Rattle.bsc_edge.specs.declared.unstarted.Unstarted.TheVariants.{Failed, NoMemory as NoRoom}
 use Rattle.bsc_edge.specs.Told.{ComesBack}
+use Rattle.bsc_edge.proofs.Common.{grows_none}
 use Rattle.bsc_serve.specs.Terms.{Terms}
 use Rattle.bsc_session.specs.declared.job.SessionJob.{SessionJob}
 use Rattle.bsc_session.specs.Jobs.{policy_of}
@@ -23,7 +24,6 @@ use Rattle.bsc_serve.specs.Fates.{IsJobOf, IsSplitIn, returned, spent, started}
 use Rattle.bsc_serve.specs.Inner.{Draws, Fares, HandsOver, LacksRoom, SplitsOff, TakesBack, giver, limit_of}
 use Rattle.bsc_serve.specs.Serving.{RoseBy}
 use Rattle.bsc_serve.specs.Worlds.{Stock}
-use Rattle.bsc_serve.proofs.Arrivals.{grows_none}
 
 -- a job that came back is the one that was handed in
 pub back_failed : {J : Type 0} → (u : Unstarted J) (job given : J) → u ≡ Failed job → ComesBack u given → job ≡ given

@@ -11,6 +11,7 @@ use Rattle.bsc_hub.proofs.Following.{passed_none, starts_then, went_then}
 use Rattle.bsc_edge.specs.declared.arrived.Arrived.TheVariants.{Link, Quiet}
 use Rattle.bsc_edge.specs.declared.fault.LinkFault.{LinkFault}
 use Rattle.bsc_edge.specs.Told.{Grows, Leaves}
+use Rattle.bsc_edge.proofs.Common.{grows_none, grows_then}
 use Rattle.bsc_serve.specs.declared.bounds.TheConstants.{WAIT_MS}
 use Rattle.bsc_serve.specs.declared.halt.Halt.{Halt}
 use Rattle.bsc_serve.specs.declared.halt.Halt.TheVariants.{JournalFault}
@@ -24,7 +25,7 @@ use Rattle.bsc_serve.specs.Inner.{AllOurs, Draws, DrawsFor, Fared, Halted, Lacks
 use Rattle.bsc_serve.specs.Serving.{IsWithin, Loses, RoseBy}
 use Rattle.bsc_serve.specs.Tallies.{CountsUp, Remains, one_unless}
 use Rattle.bsc_serve.specs.Worlds.{ServeWorld}
-use Rattle.bsc_serve.proofs.Arrivals.{SpentStays, all_ended_then, asks_once, callers-append, fates_later, fates_then, grows_none, grows_then, jobs-append, links-append, loses_failed, loses_more, loses_none, loses_still, out_then, returned-append, rose_later, rose_then, unstarted-append}
+use Rattle.bsc_serve.proofs.Arrivals.{SpentStays, all_ended_then, asks_once, callers-append, fates_later, fates_then, jobs-append, links-append, loses_failed, loses_more, loses_none, loses_still, out_then, returned-append, rose_later, rose_then, unstarted-append}
 
 -- a loop that began at p and stands at m has drawn no fewer numbers, or all
 abbrev HasDrawn : Hub → Pass → Pass → Type 0

@@ -24,6 +24,7 @@ use Rattle.bsc_edge.specs.declared.fault.LinkFault.{LinkFault}
 use Rattle.bsc_edge.specs.declared.incoming.Incoming.{Incoming}
 use Rattle.bsc_edge.specs.declared.said.Said.{Said}
 use Rattle.bsc_edge.specs.Told.{Stays}
+use Rattle.bsc_edge.proofs.Common.{grows_none, grows_then}
 use Rattle.bsc_accept.specs.declared.accepting.Accepting.{Accepting}
 use Rattle.bsc_accept.specs.declared.event.Event.{Event}
 use Rattle.bsc_accept.specs.declared.farewell.Farewell.{Farewell}
@@ -50,7 +51,7 @@ use Rattle.bsc_session.specs.Stops.{closes, closing_in, first_of, stop_if, stop_
 use Rattle.bsc_session.specs.Moments.{moment}
 use Rattle.bsc_session.proofs.HubCalls.{goes_as, goes_passed}
 use Rattle.bsc_session.proofs.Recording.{no_line, wrote_as, wrote_made, wrote_none}
-use Rattle.bsc_session.proofs.Lists.{grown, grows-nil, grows_stays}
+use Rattle.bsc_session.proofs.Lists.{grows_stays}
 
 -- ---- a step
 
@@ -154,7 +155,7 @@ ask_joined h v s given p q a old mid new held0 held1 who j address m st stop mem
       goes = goes_as h p q _ _ (ap (λ (n : ℕ). let e : Entry = record { caller = n; call = Connect who; looks = []; reply = JoinedReply j.conn j.replaced } in e ∷ []) held.number) (goes_passed h p q (connect_made (number_of p) who (Ok j)) passed);
       wrote = wrote_as q held0 held1 _ _ None (sym (noted_connect v s given who j.at (JoinedReply j.conn j.replaced) admitted)) (wrote_connect h p q v.caller who j.at (connect_stamped (number_of p) who (outlet_mark j.outlet) (JoinedReply j.conn j.replaced)) (JoinedReply j.conn j.replaced) held0 held1 None refl held.number passed records);
       line = no_line (noted v s (Ask who) given (Some (replies j.at [] (JoinedReply j.conn j.replaced))));
-      said = grown old mid new [] _ (grows_stays old mid stays) k.said;
+      said = grows_then old mid new [] _ (grows_stays old mid stays) k.said;
       cause = k.cause;
       stops = rw admitted k.stops;
       is_worn = λ e. cc;
@@ -257,7 +258,7 @@ ask_refused_lost h v s given p q a old held0 held1 who at r fault stop held alon
       goes = goes_as h p q _ _ (ap (λ (n : ℕ). let e : Entry = record { caller = n; call = Connect who; looks = []; reply = RefusedReply r } in e ∷ []) held.number) (goes_passed h p q (placed at (refused_stamped (number_of p) who r)) passed);
       wrote = wrote_as q held0 held1 _ _ (Some fault) (sym noted_so) (wrote_connect h p q v.caller who at (refused_stamped (number_of p) who r) (RefusedReply r) held0 held1 (Some fault) refl held.number passed records);
       line = some_line _ _ fault noted_so;
-      said = grows-nil old;
+      said = grows_none old;
       cause = tt;
       stops = ap Some by;
       is_worn = λ e. cc;
@@ -285,7 +286,7 @@ ask_ends h v s given p q a old held0 who answer stop held alone admitted passed 
   goes = goes_as h p q [] _ (sym none) (goes_passed h p q None passed);
   wrote = wrote_as q held0 held0 _ _ None (sym (noted_nothing v s given who answer admitted none)) (wrote_none q held0);
   line = no_line (noted v s (Ask who) given (Some answer));
-  said = rw quiet (grows-nil old);
+  said = rw quiet (grows_none old);
   cause = rw quiet tt;
   stops = rw (admitted, sym stops) refl;
   is_worn = λ e. wears (answer_is answer worn e);

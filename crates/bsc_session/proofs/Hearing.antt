@@ -19,6 +19,7 @@ use Rattle.bsc_edge.specs.declared.incoming.Incoming.TheVariants.{Message}
 use Rattle.bsc_edge.specs.declared.said.Said.{Said}
 use Rattle.bsc_edge.specs.declared.said.Said.TheVariants.{Gave}
 use Rattle.bsc_edge.specs.Told.{Grows}
+use Rattle.bsc_edge.proofs.Common.{grows_none, grows_then}
 use Rattle.bsc_accept.specs.declared.accepting.Accepting.{Accepting}
 use Rattle.bsc_accept.specs.declared.event.Event.{Event}
 use Rattle.bsc_accept.specs.declared.event.Event.TheVariants.{Message as Came}
@@ -52,7 +53,7 @@ use Rattle.bsc_session.specs.Stops.{first_of, stop_at, stop_lost}
 use Rattle.bsc_session.specs.Moments.{moment, traces}
 use Rattle.bsc_session.proofs.Asking.{answer_is, left_open}
 use Rattle.bsc_session.proofs.HubCalls.{goes_as, goes_nowhere, member_stays, one_line, unless_lost}
-use Rattle.bsc_session.proofs.Lists.{grown, grows-nil, grows_stays}
+use Rattle.bsc_session.proofs.Lists.{grows_stays}
 use Rattle.bsc_session.proofs.Recording.{no_line, wrote_as, wrote_none}
 use Rattle.bsc_accept.proofs.Common.{connected_carries, no_ask_carries}
 
@@ -141,7 +142,7 @@ carry_denied h v s p a m denial old pages pages' lost stop held stood tied left 
   goes = goes_nowhere h p held.caller;
   wrote = rw is (record { records = records; stand = (tt, tt) });
   line = rw is (one_line (denied denial) lost);
-  said = rw (nothing_put lost None) (grows-nil old);
+  said = rw (nothing_put lost None) (grows_none old);
   cause = no_put lost;
   stops = rw is (by ∙ unless_lost lost);
   is_worn = λ e. cc;
@@ -164,7 +165,7 @@ ask_denied h v s given p a who denial old pages pages' stop held is away = recor
   goes = goes_nowhere h p held.caller;
   wrote = rw is (record { records = away.records; stand = (tt, tt) });
   line = rw is (one_line (denied denial) away.lost);
-  said = rw (nothing_put away.lost None) (grows-nil old);
+  said = rw (nothing_put away.lost None) (grows_none old);
   cause = no_put away.lost;
   stops = rw is away.stops;
   is_worn = λ e. cc;
@@ -297,7 +298,7 @@ message_unjudged h v s now m p a old pages stop held passes is = record {
   goes = goes_nowhere h p held.caller;
   wrote = wrote_none p pages;
   line = tt;
-  said = grows-nil old;
+  said = grows_none old;
   cause = tt;
   stops = ap (λ x. Some x) is;
   is_worn = λ e. cc;
@@ -346,7 +347,7 @@ hears_judged h v s now wait m p q a a' b old mid new pages pages' stop true answ
   is = record { memory = memory; calls = calls; fits = fits; line = line; cause = cause };
   goes = goes;
   wrote = wrote;
-  said = grown old mid new (Gave wait (Ok (Message m)) ∷ []) _ told_ said;
+  said = grows_then old mid new (Gave wait (Ok (Message m)) ∷ []) _ told_ said;
   stops = stops;
   is_worn = worns;
   given_same = rw same at given;
@@ -359,7 +360,7 @@ hears_judged h v s now wait m p q a a' b old mid new pages pages' stop false ans
   is = record { memory = memory; calls = calls; fits = fits; line = line; cause = cause };
   goes = goes;
   wrote = wrote;
-  said = grown old mid new (Gave wait (Ok (Message m)) ∷ []) _ told_ said;
+  said = grows_then old mid new (Gave wait (Ok (Message m)) ∷ []) _ told_ said;
   stops = stops;
   is_worn = worns;
   given_same = rw same at given;

@@ -7,10 +7,6 @@ use Rattle.bsc_session.specs.Puts.{HasPut, puts}
 use Rattle.bsc_session.specs.Standings.{Standing, Terms}
 use Rattle.bsc_session.specs.Turns.{Turn, after}
 
-pub grows-nil : {A : Type 0} (o : Option (List A)) → Grows o o []
-grows-nil None = tt
-grows-nil (Some xs) = sym (append-nil xs)
-
 -- what stays grows by nothing
 pub grows_stays : {A : Type 0} (o p : Option (List A)) → Stays o p → Grows o p []
 grows_stays o None h = tt
@@ -19,13 +15,6 @@ grows_stays (Some a) (Some b) h = h ∙ sym (append-nil a)
 
 pub grows_as : {A : Type 0} (o p : Option (List A)) (xs ys : List A) → xs ≡ ys → Grows o p xs → Grows o p ys
 grows_as o p xs ys e h = rw e at h
-
--- grown twice
-pub grown : {A : Type 0} (o p q : Option (List A)) (xs ys : List A) → Grows o p xs → Grows p q ys → Grows o q (xs ++ ys)
-grown o p None xs ys h k = tt
-grown o None (Some c) xs ys h k = absurd k
-grown None (Some b) (Some c) xs ys h k = absurd h
-grown (Some a) (Some b) (Some c) xs ys h k = k ∙ ap (λ w. w ++ ys) h ∙ append_assoc a xs ys
 
 -- the last of some puts has the fault
 pub puts-more : (os : List (List ℕ)) (o : List ℕ) (fault : Option LinkFault) → puts (os ++ o ∷ []) fault ≡ puts os None ++ puts (o ∷ []) fault
@@ -65,13 +54,3 @@ HasPut-append (x ∷ xs) ys fault h = tt
 pub well : (os : List (List ℕ)) → HasPut os None
 well [] = tt
 well (o ∷ os) = tt
-
-pub stays_same : {A : Type 0} (o : Option A) → Stays o o
-stays_same None = tt
-stays_same (Some x) = refl
-
-pub stays_on : {A : Type 0} (o p q : Option A) → Stays o p → Stays p q → Stays o q
-stays_on o p None h k = tt
-stays_on o None (Some c) h k = absurd k
-stays_on None (Some b) (Some c) h k = absurd h
-stays_on (Some a) (Some b) (Some c) h k = k ∙ h

@@ -17,6 +17,7 @@ use Rattle.bsc_session.specs.Answering.{answered, said_hearing, step_of, stands_
 use Rattle.bsc_edge.specs.declared.fault.LinkFault.{LinkFault}
 use Rattle.bsc_edge.specs.declared.incoming.Incoming.{Incoming}
 use Rattle.bsc_edge.specs.declared.incoming.Incoming.TheVariants.{Message}
+use Rattle.bsc_edge.proofs.Common.{grows_then}
 use Rattle.bsc_session.specs.Judging.{heard_told}
 use Rattle.bsc_session.specs.CarryingOut.{is_more, stop_of}
 use Rattle.bsc_session.specs.Following.{Follows, HasStanding, Held, IsFollowed, IsMember, SessionRuns, empties_by}
@@ -32,7 +33,7 @@ use Rattle.bsc_session.specs.Taking.{Opening, end_told, notes_opening, opened, p
 use Rattle.bsc_session.specs.Turns.{after, empties_in}
 use Rattle.bsc_session.specs.Moments.{moment, traces}
 use Rattle.bsc_session.proofs.HubCalls.{goes_nowhere}
-use Rattle.bsc_session.proofs.Lists.{grows_as, grown}
+use Rattle.bsc_session.proofs.Lists.{grows_as}
 use Rattle.bsc_session.proofs.Losing.{line_behind, line_opening, lost_before, lost_hearing, wrote_hearing, wrote_opening}
 
 pub member_same : (p : Pass) (m n : Option Member) → SameMember m n → IsMember p m → IsMember p n
@@ -84,7 +85,7 @@ makes_hearing h v s now p q a b c old mid new pages pages' pages'' stop backlog 
       gave = l.given_same ∙ k.gave;
       empties = l.empties_same ∙ (
           let e : empties_by b.member ≡ empties_by a.member + (if is_none k.opening.met && (true && (is_connected (ticked s k.opening.reading) && nat_lt (length k.opening.frames) TAKES)) then 1 else 0) = rw (sym k.stops) at k.empties in e);
-      said = grown old mid new (puts (put_first v s k.opening) k.opening.fault) (said_hearing v (opened s k.opening) k.opening.reading (wait_in k.opening) l.hearing) k.said l.said;
+      said = grows_then old mid new (puts (put_first v s k.opening) k.opening.fault) (said_hearing v (opened s k.opening) k.opening.reading (wait_in k.opening) l.hearing) k.said l.said;
       read = k.read;
       wrote = rw same at (wrote_hearing v s p q k.opening l.hearing pages pages' pages'' (rw unlost at k.records) l.goes.sees l.wrote l.is.line);
       line = rw same at (line_behind (notes_opening v s k.opening) _ l.hearing.lost l.is.line);

@@ -11,6 +11,7 @@ use Rattle.bsc_checks.specs.declared.phase.Phase.TheVariants.{Connected as Phase
 use Rattle.bsc_edge.specs.declared.fault.LinkFault.{LinkFault}
 use Rattle.bsc_edge.specs.declared.said.Said.{Said}
 use Rattle.bsc_edge.specs.Told.{Grows}
+use Rattle.bsc_edge.proofs.Common.{grows_none, grows_then}
 use Rattle.bsc_accept.specs.declared.accepting.Accepting.{Accepting}
 use Rattle.bsc_accept.specs.declared.closing.Closing.{Closing}
 use Rattle.bsc_accept.specs.declared.event.Event.TheVariants.{Ended, Tick}
@@ -47,7 +48,7 @@ use Rattle.bsc_session.specs.Moments.{traces}
 use Rattle.bsc_session.proofs.Asking.{left_open, tied_told}
 use Rattle.bsc_session.proofs.Hearing.{connected_joined, some_of}
 use Rattle.bsc_session.proofs.Filtering.{noted-nil, passing-nil}
-use Rattle.bsc_session.proofs.Lists.{grown, grows-nil, grows_as, puts-append, well}
+use Rattle.bsc_session.proofs.Lists.{grows_as, puts-append, well}
 use Rattle.bsc_session.proofs.Recording.{no_line, records-nil}
 
 -- ---- the time
@@ -292,7 +293,7 @@ attends_met v s now policy a b n old mid new pages pages' e stop result fixed t 
   few = t.few;
   left = not_left e (t.left e refl);
   said = grows_as old new _ _ (sym (puts-append (passing v s t.frames) (octets_in (wanted v s (Ended now e))) k.0.fault k.0.cause))
-      (grown old mid new (puts (passing v s t.frames) None) (puts (octets_in (wanted v s (Ended now e))) k.0.fault)
+      (grows_then old mid new (puts (passing v s t.frames) None) (puts (octets_in (wanted v s (Ended now e))) k.0.fault)
       (grows_as old mid _ _ (ap (λ w. puts w None) (passing_so v s policy a.member t.frames fixed f.address)) t.said) k.0.said);
   cause = k.0.cause;
   records = records_so v s policy a.member n old mid pages pages' (Met e) fixed f.address t;
@@ -318,7 +319,7 @@ opens_expired v s now a b old pages stop t = record {
   same = rw t.member (same_member a.member);
   gave = rw t.member (sym (append-nil (given_by a.member)));
   empties = rw (t.member, sym t.stops) (omega arith);
-  said = rw (passing-nil v s) (grows-nil old);
+  said = rw (passing-nil v s) (grows_none old);
   records = rw (noted-nil v s) (records-nil pages);
   stops = rw (sym t.stops) refl;
   more = tt;
@@ -339,7 +340,7 @@ opens_apart v s now a b old pages t apart = record {
   same = rw t.member (same_member a.member);
   gave = rw t.member (sym (append-nil (given_by a.member)));
   empties = rw (t.member, sym t.stops, apart) (omega arith);
-  said = rw (passing-nil v s) (grows-nil old);
+  said = rw (passing-nil v s) (grows_none old);
   records = rw (noted-nil v s) (records-nil pages);
   stops = rw (sym t.stops) refl;
   more = refl;

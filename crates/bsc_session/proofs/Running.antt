@@ -23,6 +23,7 @@ use Rattle.bsc_notes.specs.Notes.{HasLine, Note, Records, made}
 use Rattle.bsc_edge.specs.declared.fault.LinkFault.{LinkFault}
 use Rattle.bsc_edge.specs.declared.said.Said.{Said}
 use Rattle.bsc_edge.specs.Told.{Grows}
+use Rattle.bsc_edge.proofs.Common.{grows_none, grows_then}
 use Rattle.bsc_session.specs.declared.at.At.{At}
 use Rattle.bsc_session.specs.declared.limits.SessionLimits.{SessionLimits}
 use Rattle.bsc_session.specs.declared.member.Member.{Member}
@@ -48,7 +49,7 @@ use Rattle.bsc_session.specs.Turns.{Turn, IsTurn, reading_in, frames_in, notes_i
 use Rattle.bsc_session.specs.Moments.{leaves, moment}
 use Rattle.bsc_session.proofs.EndingAtFault.{sessions_end_at_fault}
 use Rattle.bsc_session.proofs.HubCalls.{goes_as, goes_nowhere, goes_on, goes_passed}
-use Rattle.bsc_session.proofs.Lists.{grows-nil, grows_as, grown, standing-more, shares-more, total-more, each-more}
+use Rattle.bsc_session.proofs.Lists.{grows_as, standing-more, shares-more, total-more, each-more}
 use Rattle.bsc_session.proofs.Filtering.{records_more}
 use Rattle.bsc_session.proofs.Losing.{records_idle, unmade_unlost, wrote_lost}
 use Rattle.bsc_session.proofs.MakingTurns.{receives_more, starts_more}
@@ -66,9 +67,9 @@ stood_begins v h p a now old read read' pages is number stands waits alone unend
   goes = goes_nowhere h p is;
   gave = rw alone refl;
   empties = rw alone refl;
-  said = grows-nil old;
+  said = grows_none old;
   reads = λ room. comes (subst (λ n. n < v.turns) none room);
-  spent = λ over. subst (λ (r : Option (List ℕ)). Grows read r []) (sym (idle (subst (λ n. v.turns ≤ n) none over))) (grows-nil read);
+  spent = λ over. subst (λ (r : Option (List ℕ)). Grows read r []) (sym (idle (subst (λ n. v.turns ≤ n) none over))) (grows_none read);
   wrote = wrote_none p pages;
   held = record { caller = is; number = number; member = rw alone tt; follows = record { conn = rw alone refl; address = rw alone refl; ended = unended; receives = none; found = rw unended tt } };
   starts = record { runs = record { machine = stands; waits = waits; tied = refl }; bounded = rw alone (omega arith) };
@@ -100,7 +101,7 @@ more_empties : (v : Terms) (m n : Option Member) (ts : List Turn) (t : Turn) →
 more_empties v m n ts t k l = l ∙ ap (λ w. w + empties_in v (standing v begun ts) t) k ∙ sym (total-more empties_in v begun ts t)
 
 more_told : {A : Type 0} (f : Terms → Standing → Turn → List A) (v : Terms) (ts : List Turn) (t : Turn) (base a b : Option (List A)) → Grows base a (shares f v begun ts) → Grows a b (f v (standing v begun ts) t) → Grows base b (shares f v begun (ts ++ t ∷ []))
-more_told f v ts t base a b k l = grows_as base b _ _ (sym (shares-more f v begun ts t)) (grown base a b _ _ k l)
+more_told f v ts t base a b k l = grows_as base b _ _ (sym (shares-more f v begun ts t)) (grows_then base a b _ _ k l)
 
 more_wrote : (v : Terms) (p q : Pass) (ts : List Turn) (t : Turn) (a b c : Option (List ℕ)) (lost : Option LinkFault) → StartsWith (seen q) (seen p) → Wrote p a b (shares notes_in v begun ts) None
     → Wrote q b c (notes_in v (standing v begun ts) t) lost → HasLine (notes_in v (standing v begun ts) t) lost → Wrote q a c (shares notes_in v begun (ts ++ t ∷ [])) lost
@@ -125,7 +126,7 @@ stood_more v h p0 p q a b now next old mid new read read' read'' pages pages' pa
       gave = more_gave v a.member b.member k.turns m.turn k.gave m.gave;
       empties = more_empties v a.member b.member k.turns m.turn k.empties m.empties;
       said = more_told said_in v k.turns m.turn old mid new k.said m.said;
-      reads = λ more. grown read read' read'' (shares reading_in v begun (k.turns ++ m.turn ∷ [])) (next ∷ []) all (comes more);
+      reads = λ more. grows_then read read' read'' (shares reading_in v begun (k.turns ++ m.turn ∷ [])) (next ∷ []) all (comes more);
       spent = λ over. subst (λ (r : Option (List ℕ)). Grows read r (shares reading_in v begun (k.turns ++ m.turn ∷ []))) (sym (idle over)) all;
       wrote = more_wrote v p q k.turns m.turn pages pages' pages'' None m.goes.sees k.wrote m.wrote m.line;
       held = rw stands m.held;
@@ -179,7 +180,7 @@ serves v h p0 p q a old mid new read read' pages pages' pages'' stop parted why 
   R = shares reading_in v begun (and_last r.went_on r.last);
   E = shares entries_in v begun (and_last r.went_on r.last) ++ leaving v.caller parted.conn parted.taken parted.empties left.reply;
   hub = refl;
-  talk = grown old mid new (shares said_in v begun (and_last r.went_on r.last)) (said_closing stop.closing) r.said closed;
+  talk = grows_then old mid new (shares said_in v begun (and_last r.went_on r.last)) (said_closing stop.closing) r.said closed;
   readings = r.reads;
   goes = goes_on h p0 p q _ _ r.goes left.goes;
   session = record {

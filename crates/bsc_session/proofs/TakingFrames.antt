@@ -6,6 +6,7 @@ use Rattle.bsc_history.specs.declared.ending.End.{End}
 use Rattle.bsc_edge.specs.declared.fault.LinkFault.{LinkFault}
 use Rattle.bsc_edge.specs.declared.said.Said.{Said}
 use Rattle.bsc_edge.specs.Told.{Grows}
+use Rattle.bsc_edge.proofs.Common.{grows_none, grows_then}
 use Rattle.bsc_ring.specs.declared.ends.Outlet.{Outlet}
 use Rattle.bsc_ring.specs.declared.take.Take.{Take}
 use Rattle.bsc_ring.specs.declared.take.Take.TheVariants.{Frame, Empty, Closed}
@@ -20,7 +21,7 @@ use Rattle.bsc_session.specs.declared.taken.Taken.TheVariants.{All, Part, Met, C
 use Rattle.bsc_session.specs.Following.{OutletHasEnded}
 use Rattle.bsc_session.specs.TakingFrames.{FitsCount, HandsOn, IsCut, Taking, Takes, cut_in, met_in, nothing_found, unput_in}
 use Rattle.bsc_session.specs.Puts.{puts, HasPut}
-use Rattle.bsc_session.proofs.Lists.{grows_as, grown, grows-nil, puts-append, well}
+use Rattle.bsc_session.proofs.Lists.{grows_as, puts-append, well}
 use Rattle.bsc_history.proofs.Common.{end_is}
 use Rattle.std.proofs.Common.{subst, map, is_none}
 use Rattle.std.specs.Prelude.{◌&&◌}
@@ -68,14 +69,14 @@ keeps_ended : (o p : Outlet) (t : Take) (e : End) → Took o t p → OutletHasEn
 keeps_ended o p t e took h = (let k = keeps_all o p t took h.1 h.2 in (keeps_found o p t e took h.0, k.0, k.1))
 
 pub taking_begins : (policy : Option Policy) (to : Vmac) (o : Outlet) (old : Option (List Said)) (pages : Option (List ℕ)) → Taking policy to o o (traces old pages) (traces old pages) 0
-taking_begins None to o old pages = record { frames = []; many = refl; mark = refl; keeps = λ e h. h; gave = sym (append-nil (given o)); empties = refl; said = grows-nil old; records = records-nil pages }
-taking_begins (Some p) to o old pages = record { frames = []; many = refl; mark = refl; keeps = λ e h. h; gave = sym (append-nil (given o)); empties = refl; said = grows-nil old; records = records-nil pages }
+taking_begins None to o old pages = record { frames = []; many = refl; mark = refl; keeps = λ e h. h; gave = sym (append-nil (given o)); empties = refl; said = grows_none old; records = records-nil pages }
+taking_begins (Some p) to o old pages = record { frames = []; many = refl; mark = refl; keeps = λ e h. h; gave = sym (append-nil (given o)); empties = refl; said = grows_none old; records = records-nil pages }
 
 -- the puts, and the notes, of one frame more
 said_more : (policy : Option Policy) (to : Vmac) (frames : List (List ℕ)) (f : List ℕ) (old mid new : Option (List Said)) (fault : Option LinkFault) → Grows old mid (puts (let_through policy (Some to) frames) None)
     → Grows mid new (puts (let_through policy (Some to) (f ∷ [])) fault) → HasPut (let_through policy (Some to) (f ∷ [])) fault → Grows old new (puts (let_through policy (Some to) (frames ++ f ∷ [])) fault)
 said_more policy to frames f old mid new fault h k cause =
-    grows_as old new _ _ (sym (ap (λ w. puts w fault) (let_through-append policy (Some to) frames (f ∷ [])) ∙ puts-append (let_through policy (Some to) frames) (let_through policy (Some to) (f ∷ [])) fault cause)) (grown old mid new _ _ h k)
+    grows_as old new _ _ (sym (ap (λ w. puts w fault) (let_through-append policy (Some to) frames (f ∷ [])) ∙ puts-append (let_through policy (Some to) frames) (let_through policy (Some to) (f ∷ [])) fault cause)) (grows_then old mid new _ _ h k)
 
 noted_more : (policy : Option Policy) (to : Vmac) (frames : List (List ℕ)) (f : List ℕ) (a b c : Option (List ℕ)) (lost : Option LinkFault) → Records a b (map denied (denials policy (Some to) frames)) None
     → Records b c (map denied (denials policy (Some to) (f ∷ []))) lost → HasLine (map denied (denials policy (Some to) (f ∷ []))) lost → Records a c (map denied (denials policy (Some to) (frames ++ f ∷ []))) lost

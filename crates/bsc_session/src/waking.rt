@@ -6,7 +6,7 @@ use bsc_desk::{AllReply, OneReply};
 use bsc_edge::Link;
 
 /// Tells the link of the receiver of a unicast, or of the connection that it ended.
-#[tactic(auto, using(crate::proofs::Lists::stays_same))]
+#[tactic(auto, using(bsc_edge::proofs::Common::stays_same))]
 pub fn wake_one<L: Link>(link: &mut L, said: OneReply)
     ensures told { Stays (L.talk link.old) (L.talk link.new) }
     ensures same { L.faults link.new ≡ L.faults link.old }
@@ -21,7 +21,7 @@ pub fn wake_one<L: Link>(link: &mut L, said: OneReply)
 }
 
 /// Tells the link of these connections.
-#[tactic(auto, using(crate::proofs::Lists::stays_same, crate::proofs::Lists::stays_on))]
+#[tactic(auto, using(bsc_edge::proofs::Common::stays_same, bsc_edge::proofs::Common::stays_then))]
 fn wake_each<L: Link>(link: &mut L, conns: &[u64])
     ensures told { Stays (L.talk link.old) (L.talk link.new) }
     ensures same { L.faults link.new ≡ L.faults link.old }
@@ -32,7 +32,7 @@ fn wake_each<L: Link>(link: &mut L, conns: &[u64])
 }
 
 /// Tells the link of the receivers of a broadcast.
-#[tactic(auto, using(crate::proofs::Lists::stays_same))]
+#[tactic(auto, using(bsc_edge::proofs::Common::stays_same))]
 pub fn wake_all<L: Link>(link: &mut L, said: &AllReply)
     ensures told { Stays (L.talk link.old) (L.talk link.new) }
     ensures same { L.faults link.new ≡ L.faults link.old }
@@ -44,7 +44,7 @@ pub fn wake_all<L: Link>(link: &mut L, said: &AllReply)
 }
 
 /// Tells the link whose it is, and of the connection that was replaced.
-#[tactic(auto, using(crate::proofs::Lists::stays_same, crate::proofs::Lists::stays_on))]
+#[tactic(auto, using(bsc_edge::proofs::Common::stays_same, bsc_edge::proofs::Common::stays_then))]
 pub fn introduce<L: Link>(link: &mut L, conn: u64, replaced: Option<u64>)
     ensures told { Stays (L.talk link.old) (L.talk link.new) }
     ensures same { L.faults link.new ≡ L.faults link.old }

@@ -1,7 +1,7 @@
 use Rattle.std.proofs.Common.{List, map, Ok, inl, inr, refl, sym, ap, ◌∙◌, rules}
+use Rattle.bsc_edge.proofs.Common.{stays_same}
 use Rattle.bsc_node_run.specs.declared.due.Due.{Due}
 use Rattle.bsc_node_run.specs.Scripts.{wish_of}
-use Rattle.bsc_node_run.proofs.Told.{stays_same}
 use Rattle.bsc_node_command.proofs.playing.run_text.Goals as goal
 
 pub returns-in-Ok-clause-comes : goal.returns-in-Ok-clause-comes

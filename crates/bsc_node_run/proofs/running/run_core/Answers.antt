@@ -1,9 +1,9 @@
 use Rattle.std.proofs.Common.{ap, arith, inl, inr, refl, None, Some, ◌∷◌, [], ◌++◌, unwrap_or}
+use Rattle.bsc_edge.proofs.Common.{grows_none, grows_then, stays_same, stays_then}
 use Rattle.bsc_node_run.specs.Drawing.{Draws, GoesDrawing, at_rest}
 use Rattle.bsc_node_run.specs.Worlds.{admitting, dialling, world_of}
-use Rattle.bsc_node_run.proofs.Runs.{grows_none, grows_still, grows_then, one_longer, rise_all, rise_before, rise_more, turns_all, turns_more}
+use Rattle.bsc_node_run.proofs.Runs.{grows_still, one_longer, rise_all, rise_before, rise_more, turns_all, turns_more}
 use Rattle.bsc_node_run.proofs.Resting.{all_left, left_then, rest_so, rests_all, rests_more, rests_now}
-use Rattle.bsc_node_run.proofs.Told.{stays_same, stays_then}
 use Rattle.bsc_node_run.proofs.Stops.{at_err, rise_now, stops_more, stops_now}
 use Rattle.bsc_node_run.proofs.running.run_core.Goals as goal
 

@@ -1,12 +1,12 @@
 use Rattle.std.proofs.Common.{arith, subst}
 use Rattle.std.specs.Prelude.{option_map}
 use Rattle.std.specs.Arc.{arc_value}
+use Rattle.bsc_edge.proofs.Common.{stays_same, stays_then}
 use Rattle.bsc_session.specs.Jobs.{Worked, policy_of}
 use Rattle.bsc_hub.specs.declared.hub.Hub.{Hub}
 use Rattle.bsc_serve.specs.Inner.{GoesOn}
 use Rattle.bsc_serve.specs.Terms.{all_terms}
 use Rattle.bsc_serve.specs.Worlds.{ServeWorld, Stock}
-use Rattle.bsc_serve.proofs.Arrivals.{stays_same, stays_then}
 use Rattle.bsc_serve.proofs.Taking.{taken_begins}
 use Rattle.bsc_serve.proofs.accepting.accept_all.Goals as goal
 

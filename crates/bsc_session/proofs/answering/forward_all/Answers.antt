@@ -1,8 +1,8 @@
 use Rattle.std.proofs.Common.{Some, Err, refl, ap}
 use Rattle.bsc_edge.specs.Told.{fault_in}
+use Rattle.bsc_edge.proofs.Common.{stays_same}
 use Rattle.bsc_turn.specs.Passes.{number_of}
 use Rattle.bsc_session.specs.Receiving.{worn, no_memory}
-use Rattle.bsc_session.proofs.Lists.{stays_same}
 use Rattle.bsc_session.proofs.HubCalls.{all_told, all_refused}
 use Rattle.bsc_session.proofs.Wearing.{all_wears}
 use Rattle.bsc_session.proofs.answering.forward_all.Goals as goal

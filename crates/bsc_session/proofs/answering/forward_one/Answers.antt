@@ -1,6 +1,6 @@
 use Rattle.std.proofs.Common.{Some, refl, ap}
 use Rattle.bsc_edge.specs.Told.{fault_in}
-use Rattle.bsc_session.proofs.Lists.{stays_same}
+use Rattle.bsc_edge.proofs.Common.{stays_same}
 use Rattle.bsc_session.proofs.HubCalls.{one_told, one_worn}
 use Rattle.bsc_session.proofs.answering.forward_one.Goals as goal
 
