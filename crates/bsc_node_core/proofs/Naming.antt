@@ -26,6 +26,7 @@ use Rattle.bsc_accept.specs.Standing as AN
 use Rattle.bsc_accept.specs.Messages as AM
 use Rattle.bsc_accept.specs.Waits.{connect_wait_is_over, is_idle, disconnect_wait_is_over}
 use Rattle.bsc_accept.proofs.Looking as AL
+use Rattle.bsc_accept.proofs.Common.{refusing}
 use Rattle.bsc_initiate.specs.declared.event.InitEvent.{InitEvent}
 use Rattle.bsc_initiate.specs.declared.event.InitEvent.TheVariants.{Opened, Message as Came, Finish, Tick}
 use Rattle.bsc_initiate.specs.declared.step.InitStep.TheVariants.{Put, Close, Nothing}
@@ -220,12 +221,6 @@ asked-by E now (Carry envelope) h = asked-first E (Heard now (Carry envelope)) h
 asked-by E now (Silent check) h = asked-first E (Heard now (Silent check)) h
 asked-by E now (Nak check octets) h = asked-first E (Heard now (Nak check octets)) h
 
--- who is refused is closed
-refused_closes : (id : ℕ) (refusal : Refusal) → AS.closes (AS.refused_step id refusal) ≡ true
-refused_closes id (Duplicate holder) = refl
-refused_closes id (TableFull rows) = refl
-refused_closes id Stopped = refl
-
 ask-by : (s : Start) (g : A.Standing) (q : Option ℕ) (E : List Event) (e : Event) → may_tell_taken (AN.open_stage g q) e ≡ true → AS.closes (AS.step s E e) ≡ false → AskStands g q E → AskStands (AK.moved g e) (A.asked_at e) (E ++ e ∷ [])
 ask-by s A.awaiting_request None E (Heard now v) m c h = asked-by E now v h
 ask-by s A.awaiting_request None E Joined m c h = absurd (false≢true m)
@@ -235,7 +230,7 @@ ask-by s A.awaiting_request None E (AskedToFinish now id) m c h = asked-first E 
 ask-by s A.awaiting_request None E (Ticked now) m c h = asked-first E (Ticked now) h
 ask-by s A.awaiting_request (Some q) E (Heard now v) m c h = absurd (false≢true m)
 ask-by s A.awaiting_request (Some q) E Joined m c h = still-asked E Joined h
-ask-by s A.awaiting_request (Some q) E (IsRefused refusal) m c h = absurd (false≢true (sym c ∙ refused_closes (AS.asked_id E) refusal))
+ask-by s A.awaiting_request (Some q) E (IsRefused refusal) m c h = absurd (false≢true (sym c ∙ refusing (AS.asked_id E) refusal))
 ask-by s A.awaiting_request (Some q) E (Ended now ending) m c h = absurd (false≢true m)
 ask-by s A.awaiting_request (Some q) E (AskedToFinish now id) m c h = absurd (false≢true m)
 ask-by s A.awaiting_request (Some q) E (Ticked now) m c h = absurd (false≢true m)
