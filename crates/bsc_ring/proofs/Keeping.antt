@@ -1,5 +1,6 @@
 -- Each step keeps the rule.
 use Rattle.std.proofs.Common.{◌≡◌, ◌≢◌, ℕ, suc, ◌+◌, ◌%◌, ◌<◌, ◌≤◌, Bool, true, false, List, [], ◌∷◌, ◌++◌, length, set, is_some, Option, Some, None, ⊎_elim, refl, sym, ◌∙◌, ap, subst, arith, length-append, append-nil, slice_index, slice_set}
+use Rattle.std.proofs.lemmas.Bool.{true≢false}
 use mathlib.Core.Option.{some, none}
 use mathlib.Core.Logic.{dite}
 use native.Mathlib.Decide.{ℕ_discrete}
@@ -14,7 +15,7 @@ use Rattle.bsc_ring.specs.declared.view.View.{View}
 use Rattle.bsc_ring.specs.Lists.{Item, StartsWith}
 use Rattle.bsc_ring.specs.Rule.{Homes, end_number, count_given, Stored, SeatFits, AtMostOne, is_inlet, is_outlet, RingKept, Recalls, end_in}
 use Rattle.bsc_ring.specs.Effects.{Seated, in_hand, LoadsHead, StoresTail, after_end, LoadsEnd, after_none, LoadsTail, StoresHead, StoresEnd}
-use Rattle.bsc_ring.proofs.Slots.{there, not_both, tail_home, tail_out, tail_back, head_home, head_out, head_back}
+use Rattle.bsc_ring.proofs.Slots.{there, tail_home, tail_out, tail_back, head_home, head_out, head_back}
 use Rattle.bsc_ring.proofs.Views.{starts_whole, next_starts, starts_length, longer_starts, starts_trans, changed, one_after}
 use Rattle.bsc_history.proofs.Common.{end_is as some_once}
 
@@ -35,7 +36,7 @@ recalls_tail found n h old i e at = ⊎_elim (λ there_. old i e there_) (λ bad
     tail_not n d bad = cc
 
 heard_some : (h ending : Option End) → ((e : End) → h ≡ Some e → ending ≡ Some e) → is_some h ≡ true → is_some ending ≡ true
-heard_some None ending f bad = absurd (not_both (sym bad))
+heard_some None ending f bad = absurd (true≢false (sym bad))
 heard_some (Some d) ending f h = ap (λ (e : Option End). is_some e) (f d refl)
 
 abbrev found_end : Option End → Found → Option End
@@ -169,7 +170,7 @@ module _ (id slots : ℕ) (me : Seated) (s : State (Option Item) View) (k : Ring
 
   module _ (x : Item) (carried : me.1 ≡ (length me.0.pushed % slots, Some x) ∷ []) (is : me.0.inlet ≡ true) (busy : me.0.writing ≡ true) (open_ : me.0.ended ≡ None) where
     still_open : {b : Bool} {known : List Item} → b ≡ true → (b ≡ true → (known ≡ pushed) × (is_some ending ≡ true)) → ⊥
-    still_open h f = not_both (sym (f h).1 ∙ ap (λ (e : Option End). is_some e) (sym (mine.inlet is).1 ∙ open_))
+    still_open h f = true≢false (sym (f h).1 ∙ ap (λ (e : Option End). is_some e) (sym (mine.inlet is).1 ∙ open_))
 
     tail_put : KeepsRule 1 (length me.0.pushed + 1) (StoresTail (step slots 1 (length me.0.pushed + 1) 0 none) me (length me.0.pushed + 1)) words
     tail_put =

@@ -1,6 +1,7 @@
 -- Notes between the two ends keep the rule, and what the ends know of each other after them.
 use Rattle.std.proofs.Common.{◌≡◌, ℕ, ◌≤◌, Bool, true, false, List, [], ◌∷◌, ◌++◌, length, drop, set, is_some, Option, Some, None, refl, sym, ◌∙◌, ap, subst, arith, append-nil, slice_index}
 use Rattle.std.proofs.lemmas.List.{drop_at}
+use Rattle.std.proofs.lemmas.Bool.{true≢false}
 use mathlib.Core.Option.{some, none, some-ne-none}
 use lib.ListN.{get_elem?}
 use Rattle.atomic_table.specs.Table.{State, step, keeps, Allows, Splits, Joins}
@@ -12,7 +13,6 @@ use Rattle.bsc_ring.specs.Lists.{Item, StartsWith}
 use Rattle.bsc_ring.specs.Rule.{count_given, SeatFits, is_inlet, is_outlet, RingKept}
 use Rattle.bsc_ring.specs.Effects.{Seated, longer, either_end, note, spent_view, inlet_note, outlet_note, inlet_hears, outlet_hears, IsConsistent, Confirms, inlet_met, outlet_met, Agree}
 use Rattle.bsc_ring.proofs.Keeping.{other_views}
-use Rattle.bsc_ring.proofs.Slots.{not_both}
 use Rattle.bsc_ring.proofs.Views.{starts_trans, changed, split_all, one_after, one_split}
 
 -- of two lists that one list begins with, the longer is such a list too
@@ -49,13 +49,13 @@ module _ (s : State (Option Item) View) (k : RingKept s) where
   noted id v least known whole heard at b l h t =
       other_views s k s.words k.words (set s.views id v ++ note least known whole heard ∷ [])
       (split_all s.views id v (note least known whole heard) Fit (k.fits id v at)
-      (record { begins = b; gave = (known, refl); low = l; heard = h; recalls = λ i e bad. absurd (some-ne-none (Ending (Some e)) (sym bad)); whole = t; inlet = λ bad. absurd (not_both (sym bad)); outlet = λ bad. absurd (not_both (sym bad)) })
+      (record { begins = b; gave = (known, refl); low = l; heard = h; recalls = λ i e bad. absurd (some-ne-none (Ending (Some e)) (sym bad)); whole = t; inlet = λ bad. absurd (true≢false (sym bad)); outlet = λ bad. absurd (true≢false (sym bad)) })
       k.fits)
-      (one_split is_inlet s.views id v at k.one_inlet v (note least known whole heard) (λ h. h) (λ bad. absurd (not_both (sym bad))))
-      (one_split is_outlet s.views id v at k.one_outlet v (note least known whole heard) (λ h. h) (λ bad. absurd (not_both (sym bad))))
+      (one_split is_inlet s.views id v at k.one_inlet v (note least known whole heard) (λ h. h) (λ bad. absurd (true≢false (sym bad))))
+      (one_split is_outlet s.views id v at k.one_outlet v (note least known whole heard) (λ h. h) (λ bad. absurd (true≢false (sym bad))))
 
   spent_fits : Fit spent_view
-  spent_fits = record { begins = (k.pushed, refl); gave = ([], refl); low = omega arith; heard = λ e bad. absurd (let clash : None ≡ Some e = bad in cc); recalls = λ i e bad. absurd (some-ne-none (Ending (Some e)) (sym bad)); whole = λ bad. absurd (not_both (sym bad)); inlet = λ bad. absurd (not_both (sym bad)); outlet = λ bad. absurd (not_both (sym bad)) }
+  spent_fits = record { begins = (k.pushed, refl); gave = ([], refl); low = omega arith; heard = λ e bad. absurd (let clash : None ≡ Some e = bad in cc); recalls = λ i e bad. absurd (some-ne-none (Ending (Some e)) (sym bad)); whole = λ bad. absurd (true≢false (sym bad)); inlet = λ bad. absurd (true≢false (sym bad)); outlet = λ bad. absurd (true≢false (sym bad)) }
 
   heard_fits : (v w : View) → Fit v → Fit w → Fit (outlet_hears v w)
   heard_fits v w f g =
@@ -80,7 +80,7 @@ module _ (s : State (Option Item) View) (k : RingKept s) where
         recalls = λ i e bad. absurd (some-ne-none (Ending (Some e)) (sym bad));
         whole = g.whole;
         inlet = f.inlet;
-        outlet = λ bad. absurd (not_both (sym bad ∙ not_outlet));
+        outlet = λ bad. absurd (true≢false (sym bad ∙ not_outlet));
       }
 
   joined : (id : ℕ) (v : View) (other : ℕ) (w both : View) → get_elem? s.views id ≡ some v → ¬ (other ≡ id) → get_elem? (set s.views id both) other ≡ some w
@@ -91,8 +91,8 @@ module _ (s : State (Option Item) View) (k : RingKept s) where
       let fits' = changed s.views id both Fit (fit (k.fits id v at) (k.fits other w there')) (λ j x _ got. k.fits j x got) in
       other_views s k s.words k.words (set (set s.views id both) other spent_view)
       (changed (set s.views id both) other spent_view Fit spent_fits (λ j x _ got. fits' j x got))
-      (one_after is_inlet (set s.views id both) other w there_ (one_after is_inlet s.views id v at k.one_inlet both i) spent_view (λ bad. absurd (not_both (sym bad))))
-      (one_after is_outlet (set s.views id both) other w there_ (one_after is_outlet s.views id v at k.one_outlet both o) spent_view (λ bad. absurd (not_both (sym bad))))
+      (one_after is_inlet (set s.views id both) other w there_ (one_after is_inlet s.views id v at k.one_inlet both i) spent_view (λ bad. absurd (true≢false (sym bad))))
+      (one_after is_outlet (set s.views id both) other w there_ (one_after is_outlet s.views id v at k.one_outlet both o) spent_view (λ bad. absurd (true≢false (sym bad))))
 
 pub notes_inlet : (id : ℕ) (v : View) → v.inlet ≡ true → Splits RingKept id v v (inlet_note v)
 notes_inlet id v is s k at =

@@ -1,6 +1,7 @@
 -- What a slot taken or given back does to the slots.
 use Rattle.std.proofs.Common.{◌≡◌, ◌≢◌, ℕ, zero, suc, ◌+◌, ◌%◌, ◌<◌, ◌≤◌, Bool, true, false, List, [], ◌∷◌, ◌++◌, length, set, Option, Some, None, ◌⊎◌, inl, inr, ⊎_elim, refl, sym, ◌∙◌, ap, subst, arith, length-append, length-set, mod-lt}
 use Rattle.std.proofs.Math.Nat.{add-mod_right}
+use Rattle.std.proofs.lemmas.Bool.{true≢false}
 use mathlib.Core.Option.{some, none, some-injective}
 use mathlib.Core.Logic.{dite}
 use native.Mathlib.Decide.{ℕ_discrete}
@@ -22,9 +23,6 @@ there [] i h = absurd (omega arith)
 there (x ∷ xs) zero h = (x, refl)
 there (x ∷ xs) (suc i) h = there xs i (omega arith)
 
-pub not_both : true ≢ false
-not_both e = cc
-
 pub at_or_below : (p n : ℕ) → p ≤ n → (p ≡ n) ⊎ (p < n)
 at_or_below p n le = dite (ℕ_discrete p n) (λ e. inl e) (λ (ne : p ≢ n). inr (omega (arith, le, ne)))
 
@@ -37,7 +35,7 @@ module _ (cap head : ℕ) (pushed : List Item) (writing reading : Bool) (homes :
 
   -- the slot at the tail goes out
   pub tail_home : writing ≡ false → length pushed < head + cap → get_elem? homes (length pushed % cap) ≡ some (some None)
-  tail_home idle room = s.free (length pushed) (omega arith) room (λ w. absurd (not_both (sym w ∙ idle)))
+  tail_home idle room = s.free (length pushed) (omega arith) room (λ w. absurd (true≢false (sym w ∙ idle)))
 
   pub tail_out : length pushed < head + cap → Stored cap head pushed true reading (set homes (length pushed % cap) none)
   tail_out room =
@@ -67,7 +65,7 @@ module _ (cap head : ℕ) (pushed : List Item) (writing reading : Bool) (homes :
         some_slot = s.some_slot;
         behind = let b = s.behind in omega (arith, long, b);
         within = omega (arith, long, room);
-        writes = λ bad. absurd (not_both (sym bad));
+        writes = λ bad. absurd (true≢false (sym bad));
         full = λ p y low hand at.
             ⊎_elim
             (λ (old : get_elem? pushed p ≡ some y).
@@ -90,7 +88,7 @@ module _ (cap head : ℕ) (pushed : List Item) (writing reading : Bool) (homes :
 
   -- the slot at the head goes out
   pub head_home : (x : Item) → reading ≡ false → get_elem? pushed head ≡ some x → get_elem? homes (head % cap) ≡ some (some (Some x))
-  head_home x idle at = s.full head x (omega arith) (λ r. absurd (not_both (sym r ∙ idle))) at
+  head_home x idle at = s.full head x (omega arith) (λ r. absurd (true≢false (sym r ∙ idle))) at
 
   pub head_out : head < length pushed → Stored cap head pushed writing true (set homes (head % cap) none)
   head_out more =

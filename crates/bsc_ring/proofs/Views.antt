@@ -1,12 +1,12 @@
 -- What every view knows after one view changed, was cut in two or took in another.
 use Rattle.std.proofs.Common.{◌≡◌, ◌≢◌, ℕ, suc, ◌+◌, ◌≤◌, Bool, true, false, List, [], ◌∷◌, ◌++◌, length, set, ⊎_elim, sym, ◌∙◌, ap, subst, arith, length-append, append_assoc, append-nil}
+use Rattle.std.proofs.lemmas.Bool.{true≢false}
 use mathlib.Core.Option.{some, some-injective, some-ne-none}
 use lib.ListN.{get_elem?}
 use Rattle.atomic_table.proofs.Lists.{at_set}
 use Rattle.bsc_ring.specs.declared.view.View.{View}
 use Rattle.bsc_ring.specs.Lists.{Item, StartsWith}
 use Rattle.bsc_ring.specs.Rule.{AtMostOne}
-use Rattle.bsc_ring.proofs.Slots.{not_both}
 use Rattle.bsc_lemmas.proofs.Lists.{get_of_pushed as at_end}
 
 pub longer_starts : (whole front more : List Item) → StartsWith whole front → StartsWith (whole ++ more) front
@@ -66,7 +66,7 @@ module _ (part : View → Bool) (views : List View) (id : ℕ) (v : View) (at : 
       λ r k z got has.
       let g = gets r in
       ⊎_elim
-      (λ h. not_both (sym has ∙ (ap part (sym h.1) ∙ g.1)))
+      (λ h. true≢false (sym has ∙ (ap part (sym h.1) ∙ g.1)))
       (λ h. h.0 (one k id z v h.1 at has g.0))
       (at_set views id k left z got) in
       ⊎_elim

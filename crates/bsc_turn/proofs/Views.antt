@@ -1,5 +1,6 @@
 -- What the views say after one of them changed.
 use Rattle.std.proofs.Common.{◌≡◌, ◌≢◌, ℕ, true, false, List, set, ◌⊎◌, inl, inr, ⊎_elim, refl, sym, ◌∙◌, ap, subst}
+use Rattle.std.proofs.lemmas.Bool.{true≢false}
 use mathlib.Core.Option.{some}
 use lib.ListN.{get_elem?}
 use Rattle.atomic_table.proofs.Lists.{at_set, set_here}
@@ -9,9 +10,6 @@ use Rattle.bsc_turn.specs.declared.view.Ended.{Ended}
 use Rattle.bsc_turn.specs.declared.view.View.{View}
 use Rattle.bsc_turn.specs.Rule.{holds_turn, has_state, knows_next, turn_word, At, DistinctNumbers, NoSeatOfEnded, Held}
 use Rattle.bsc_lemmas.proofs.Lists.{get_elem_below as at_below}
-
-pub not_both : true ≢ false
-not_both e = cc
 
 pub not_also : false ≢ true
 not_also e = cc
@@ -74,7 +72,7 @@ module _ (views : List View) (id : ℕ) (me : View) (at : At views id me) where
       let a = held.alone i x got holds in
       ⊎_elim
       (λ (mine : holds_turn me.phase ≡ true). other (a.0 ∙ sym (held.alone id me at mine).0))
-      (λ (free : phase ≡ Outside). not_both (sym holds ∙ ap (λ (s : SeatPhase). holds_turn s) (a.1 ∙ free)))
+      (λ (free : phase ≡ Outside). true≢false (sym holds ∙ ap (λ (s : SeatPhase). holds_turn s) (a.1 ∙ free)))
       how
 
   -- then it alone holds the turn, or nobody does, by its own phase
