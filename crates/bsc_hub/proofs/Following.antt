@@ -8,14 +8,12 @@ use Rattle.bsc_turn.specs.declared.pass.Pass.{Pass}
 use Rattle.bsc_turn.specs.declared.view.Ended.{Ended}
 use Rattle.bsc_turn.specs.Histories.{StartsWith}
 use Rattle.bsc_turn.specs.Passes.{ended_callers, loads_made, own_list, seen}
+use Rattle.bsc_turn.proofs.Beginnings.{starts_self}
 use Rattle.bsc_hub.specs.declared.hub.Hub.{Hub}
 use Rattle.bsc_hub.specs.Passing.{IsCaller, MadeEntry, Passed, Placed, Went}
 
 pub starts_then : (F G H : List Stamped) → StartsWith G F → StartsWith H G → StartsWith H F
 starts_then F G H a b = (a.0 ++ b.0, b.1 ∙ ap (λ (l : List Stamped). l ++ b.0) a.1 ∙ append_assoc F a.0 b.0)
-
-pub starts_same : (F : List Stamped) → StartsWith F F
-starts_same F = ([], sym (append-nil F))
 
 made_then : (p m q : Pass) (made : Option Placed) → own_list m ≡ own_list p → StartsWith (seen m) (seen p) → MadeEntry m made q → MadeEntry p made q
 made_then p m q None own begins b = b ∙ own
@@ -50,7 +48,7 @@ passed_none h p is =
     record {
       caller = is;
       number = refl;
-      grows = starts_same (seen p);
+      grows = starts_self (seen p);
       all_own = ap (own (entries (seen p))) (sym sound.2) ∙ sound.5.0;
       takes_in = sym (append-nil (ended_callers p));
       makes = refl;

@@ -7,9 +7,10 @@ use Rattle.bsc_history.proofs.Marks.{mark_grows}
 use Rattle.bsc_turn.specs.declared.pass.Pass.{Pass}
 use Rattle.bsc_turn.specs.Histories.{StartsWith}
 use Rattle.bsc_turn.specs.Passes.{ended_callers, own_list, seen}
+use Rattle.bsc_turn.proofs.Beginnings.{starts_self}
 use Rattle.bsc_hub.specs.declared.hub.Hub.{Hub}
 use Rattle.bsc_hub.specs.Passing.{IsCaller, Passed, Placed, StaysBy}
-use Rattle.bsc_hub.proofs.Following.{drew_none, starts_same, starts_then}
+use Rattle.bsc_hub.proofs.Following.{drew_none, starts_then}
 use Rattle.bsc_hub.proofs.Owning.{owned_kept}
 use Rattle.bsc_load.specs.Inner.{KeepsOwn, WorkerGoes}
 
@@ -18,7 +19,7 @@ pub goes_same : (h : Hub) (p : Pass) → IsCaller h p → WorkerGoes h p [] p
 goes_same h p is = record {
   caller = is;
   number = refl;
-  sees = starts_same (seen p);
+  sees = starts_self (seen p);
   own = sym (append-nil (own_list p));
   took_in = refl;
   draws_none = refl;

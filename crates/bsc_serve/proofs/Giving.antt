@@ -9,9 +9,10 @@ use Rattle.bsc_turn.specs.declared.view.Ended.{Ended as EndedCaller}
 use Rattle.bsc_turn.specs.Effects.{ended_of}
 use Rattle.bsc_turn.specs.Histories.{StartsWith}
 use Rattle.bsc_turn.specs.Passes.{newest_number, number_of, seen, view_of}
+use Rattle.bsc_turn.proofs.Beginnings.{starts_self}
 use Rattle.bsc_hub.specs.declared.hub.Hub.{Hub}
 use Rattle.bsc_hub.specs.Passing.{Went, about_of}
-use Rattle.bsc_hub.proofs.Following.{starts_same, went_then}
+use Rattle.bsc_hub.proofs.Following.{went_then}
 use Rattle.bsc_edge.specs.declared.fault.LinkFault.{LinkFault}
 use Rattle.bsc_edge.specs.declared.unstarted.Unstarted.{Unstarted}
 use Rattle.bsc_edge.specs.declared.unstarted.Unstarted.TheVariants.{Failed, NoMemory as NoRoom}
@@ -46,7 +47,7 @@ split_in h p m x s = record {
   new = (s.own, s.ended, s.fresh);
   number = s.more;
   drawn = s.newer;
-  since = subst (λ (l : List Stamped). StartsWith l (seen p)) (sym s.same) (starts_same (seen p));
+  since = subst (λ (l : List Stamped). StartsWith l (seen p)) (sym s.same) (starts_self (seen p));
   by = subst (λ (l : List Stamped). StartsWith (seen m) l) (sym s.same) s.went.grows;
 }
 
