@@ -46,3 +46,7 @@ same_some_number a b e = cc
 
 pub not_some : {A : Type 0} (o : Option A) (x : A) → o ≡ None → o ≡ Some x → ⊥
 not_some o x none some = (let bad : None ≡ Some x = sym none ∙ some in cc)
+
+pub found_some : {A : Type 0} (o : Option A) → is_some o ≡ true → (x : A) × (o ≡ Some x)
+found_some None h = cc
+found_some (Some x) h = (x, refl)

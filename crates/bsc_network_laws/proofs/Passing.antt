@@ -1,6 +1,6 @@
 -- After each step, each NPDU in an outbox was passed on to its connection: it is that of a Send of the node that dialled the
 -- sender's link, and meant for a connection that was live then.
-use Rattle.std.proofs.Common.{◌≡◌, ◌<◌, ◌⊎◌, inl, inr, ℕ, ◌==◌, nat_le, Bool, true, false, not, cond, ◌&&◌, ◌||◌, List, [], ◌∷◌, ◌++◌, filter, length, map, Option, Some, None, MatchOption, is_some, refl, ap, sym, subst, ◌∙◌, append_assoc}
+use Rattle.std.proofs.Common.{◌≡◌, ◌<◌, ◌⊎◌, inl, inr, ℕ, ◌==◌, nat_le, Bool, true, false, not, cond, ◌&&◌, ◌||◌, List, [], ◌∷◌, ◌++◌, filter, length, map, Option, Some, None, MatchOption, refl, ap, sym, subst, ◌∙◌, append_assoc}
 use Rattle.std.specs.Prelude.{◌^◌, slice_get, ⊤}
 use Rattle.std.specs.Option.{option_map}
 use Rattle.std.specs.List.{AllByRecursion, list_any}
@@ -62,6 +62,7 @@ use Rattle.bsc_network_laws.proofs.SentOnLinks.{LinkSent, AllSent}
 use Rattle.bsc_network_laws.proofs.Legally.{KnowsSides, Legally}
 use Rattle.bsc_accept.proofs.Common.{carries_by}
 use Rattle.bsc_lemmas.proofs.Lists.{all-at, all_append as all-joined}
+use Rattle.bsc_lemmas.proofs.Options.{found_some}
 use Rattle.bsc_network_laws.proofs.Common.{out-npdu as npdu-out}
 use Rattle.std.proofs.lemmas.Option.{same_Some as some_same}
 
@@ -215,10 +216,6 @@ with_dest S k place m route (dest, npdu, id, to, sends, octets, inr is, small) =
         announced o h =
             let first = and_parts (nat_le 10 (length o) && announces_dest (flags_in o)) (not (announces_origin (flags_in o))) h in
             (and_parts (nat_le 10 (length o)) (announces_dest (flags_in o)) first.0).1
-
-found_some : {A : Type 0} (o : Option A) → is_some o ≡ true → (x : A) × (o ≡ Some x)
-found_some None h = cc
-found_some (Some x) h = (x, refl)
 
 -- who is found is among those that were looked through
 pub found_in : (c : ℕ) (xs : List Connection) (x : Connection) → numbered c xs ≡ Some x → In x xs × (x.number ≡ c)

@@ -26,6 +26,7 @@ use Rattle.bsc_node_run_laws.proofs.Same.{changes-here, changes-other, changes-n
 use Rattle.bsc_node_run_laws.proofs.Same.{ApartIn, line-apart, agrees-alike, agrees-quiet, Apart, touches, link-here, apart-link}
 use Rattle.bsc_node_run_laws.proofs.Carrying.{in_hand, replaces}
 use Rattle.bsc_lemmas.proofs.Booleans.{and_left, and_right, not_true, or_true}
+use Rattle.bsc_lemmas.proofs.Options.{found_some}
 use Rattle.bsc_node.proofs.There.{there-other, there-over}
 
 -- ---- which events end a link
@@ -190,10 +191,6 @@ module _ {L : Type 0} where
 
   -- ---- what comes of a link
 
-  some_link : (o : Option L) → is_some o ≡ true → (l : L) × (o ≡ Some l)
-  some_link None h = cc
-  some_link (Some l) h = (l, refl)
-
   -- Of a link that is open nothing is new.
   open_quiet : (name : LinkName) (w : World L) → w.due ≡ [] → is_open name w ≡ true → changes_of name (news_in w) ≡ []
   open_quiet name w none h =
@@ -203,7 +200,7 @@ module _ {L : Type 0} where
   -- A link that is open in hand is open in the log.
   pub hears_may : (name : LinkName) (w : World L) (M : Log) → is_name name ≡ true → w.due ≡ [] → is_open name w ≡ true → Agrees w M
       → (is_open_in name M ≡ true) × (is_there name M ≡ true)
-  hears_may name w M is none h A = by (some_link (w.link name) (and_left (is_some (w.link name)) (not (list_any (is_of name) w.waiting)) h))
+  hears_may name w M is none h A = by (found_some (w.link name) (and_left (is_some (w.link name)) (not (list_any (is_of name) w.waiting)) h))
     where
       by : (l : L) × (w.link name ≡ Some l) → (is_open_in name M ≡ true) × (is_there name M ≡ true)
       by (l, e) = open_on (is_there name M) (stands_open name M) l
