@@ -1,10 +1,8 @@
 -- Hubs and nodes are added before the first step.
-use Rattle.std.proofs.Common.{◌≡◌, ℕ, true, ◌&&◌, nat_eq, nat_lt, nat_le, List, [], ◌∷◌, ◌++◌, length, refl, sym, subst, arith, append-nil, append_assoc}
+use Rattle.std.proofs.Common.{◌≡◌, ℕ, true, ◌&&◌, nat_eq, nat_lt, nat_le, List, [], ◌∷◌, length, refl, arith}
 use Rattle.std.proofs.lemmas.Bool.{and_parts, eqb-true}
 use Rattle.bsc_octets.specs.declared.identity.Identity.{Identity}
 use Rattle.bsc_network.specs.declared.limits.TheConstants.{NODES}
-use Rattle.bsc_network.specs.Settings.{Added}
-use Rattle.bsc_network.specs.Courses.{MayAdd, MayAddAll}
 use Rattle.bsc_network_script.specs.Scripts.{may_add_hub, may_add_node, may_be_hub, names_one}
 
 pub no_elements : {A : Type 0} (xs : List A) → length xs ≡ 0 → xs ≡ []
@@ -24,12 +22,3 @@ node_first made hub_total node_total own e =
     let q = and_parts (nat_eq made 0 && nat_le 1 hub_total) (nat_lt node_total NODES) p.0 in
     let r = and_parts (nat_eq made 0) (nat_le 1 hub_total) q.0 in
     eqb-true made 0 r.0
-
--- ---- one more is added
-
-one_more : (before added : List Added) (one : Added) → MayAddAll before added → MayAdd (before ++ added) one → MayAddAll before (added ++ one ∷ [])
-one_more before [] one all may = (subst (λ xs. MayAdd xs one) (append-nil before) may, tt)
-one_more before (x ∷ added) one all may = (all.0, one_more (before ++ x ∷ []) added one all.1 (subst (λ xs. MayAdd xs one) (sym (append_assoc before (x ∷ []) added)) may))
-
-pub may_add_one : (added : List Added) (one : Added) → MayAddAll [] added → MayAdd added one → MayAddAll [] (added ++ one ∷ [])
-may_add_one added one all may = one_more [] added one all may

@@ -30,11 +30,10 @@ use Rattle.bsc_network_script.specs.Lines.{line_of}
 use Rattle.bsc_network_script.specs.Written.{step_text}
 use Rattle.bsc_network_script.specs.Scripts.{State, at_clock, has_content, hub_limits, line_after, may_add_hub, may_add_node, may_be_hub, may_set, may_try, most_steps, names_one, nothing_yet, quietly, said_after, simulation}
 use Rattle.bsc_network_script_laws.specs.Laws.{DeliversItsSends, state_after, state_of}
-use Rattle.bsc_network_script_laws.proofs.First.{may_add_one}
 use Rattle.bsc_network_script_laws.proofs.Measured.{IsMeasured, IsSaid, line_said}
 use Rattle.bsc_network_script_laws.proofs.Stepping.{piece_said, state_after-more, state_after-none, where_some}
 use Rattle.bsc_lemmas.proofs.Booleans.{not_true as not_so}
-use Rattle.bsc_network.proofs.Common.{all_more, end_more}
+use Rattle.bsc_network.proofs.Common.{all_more, end_more, may_add_one}
 
 -- The hubs, nodes and steps are a course, what is sent goes to addresses, and the clock isn't behind the steps.
 pub record IsLawful (s : State) : Type 0 where

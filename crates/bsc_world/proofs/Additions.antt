@@ -1,5 +1,5 @@
 -- A world to which a hub or a node was added stands for a network with one more.
-use Rattle.std.proofs.Common.{◌≡◌, ◌≤◌, ◌<◌, ◌⊎◌, inl, inr, ℕ, ◌+◌, true, List, [], ◌∷◌, ◌++◌, length, map, slice_get, Some, refl, ap, sym, ◌∙◌, subst, arith, append_assoc, append-nil, length-append}
+use Rattle.std.proofs.Common.{◌≡◌, ◌≤◌, ◌<◌, ◌⊎◌, inl, inr, ℕ, ◌+◌, true, List, [], ◌∷◌, ◌++◌, length, map, slice_get, Some, refl, ap, sym, ◌∙◌, subst, arith, length-append}
 use Rattle.std.proofs.lemmas.List.{length-map, map-append}
 use Rattle.std.specs.Prelude.{Bool}
 use Rattle.bsc_octets.specs.declared.identity.Identity.{Identity}
@@ -16,10 +16,10 @@ use Rattle.bsc_world.specs.declared.world.World.{World as KeptWorld}
 use Rattle.bsc_network.specs.declared.limits.TheConstants.{NODES}
 use Rattle.bsc_network.specs.Settings.{Added, hub, node, hubs, nodes, nodes_after, settings, and_hub, and_node}
 use Rattle.bsc_network.specs.Worlds.{World, Hub, Node, history, new_hub, new_node, new_world}
-use Rattle.bsc_network.specs.Courses.{MayAdd, MayAddAll}
 use Rattle.bsc_world.specs.Kept.{IsHubKept, IsNodeKept, IsCalm}
 use Rattle.bsc_world.specs.Standing.{WorldStands, IsHubAt, IsNodeAt}
 use Rattle.bsc_network.proofs.Places.{got-last, got-last_of, got-longer}
+use Rattle.bsc_network.proofs.Common.{may_add_one}
 
 -- ---- what was added
 
@@ -64,13 +64,6 @@ nodes-node added own direct =
     nodes_after-node 0 0 added own direct
     ∙ ap (λ (n : ℕ). nodes added ++ record { own = own; limits = settings n (0 + length (nodes added)) direct } ∷ []) first
     ∙ ap (λ (n : ℕ). nodes added ++ record { own = own; limits = settings (length (hubs added)) n direct } ∷ []) second
-
-one_more : (before added : List Added) (one : Added) → MayAddAll before added → MayAdd (before ++ added) one → MayAddAll before (added ++ one ∷ [])
-one_more before [] one all may = (subst (λ xs. MayAdd xs one) (append-nil before) may, tt)
-one_more before (x ∷ added) one all may = (all.0, one_more (before ++ x ∷ []) added one all.1 (subst (λ xs. MayAdd xs one) (sym (append_assoc before (x ∷ []) added)) may))
-
-pub may_add_one : (added : List Added) (one : Added) → MayAddAll [] added → MayAdd added one → MayAddAll [] (added ++ one ∷ [])
-may_add_one added one all may = one_more [] added one all may
 
 -- ---- a hub
 
