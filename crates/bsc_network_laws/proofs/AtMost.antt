@@ -12,7 +12,6 @@ use Rattle.bsc_node.specs.Laws.{draws}
 use Rattle.bsc_node.specs.Node.{goes_on, actions_at}
 use Rattle.bsc_node.specs.Conditions.{fits, may_come, brings_word}
 use Rattle.bsc_node_laws.proofs.Drawn.{draws_at}
-use Rattle.bsc_node_identity.proofs.Settled.{now_then}
 use Rattle.bsc_node_identity.proofs.Timely.{Timely, may_then}
 use Rattle.bsc_network.specs.declared.arrival.Arrival.{Arrival}
 use Rattle.bsc_network.specs.Worlds.{World}
@@ -23,6 +22,7 @@ use Rattle.bsc_network_laws.proofs.Beside.{Keeps}
 use Rattle.bsc_network_laws.proofs.Events.{actions-one, actions-two}
 use Rattle.bsc_network_laws.proofs.Sent.{among-filter}
 use Rattle.bsc_node.proofs.Common.{no_word_then}
+use Rattle.bsc_node.proofs.Moments.{now_then}
 
 -- ---- actions
 

@@ -35,7 +35,7 @@ use Rattle.bsc_node_identity.proofs.Each.{each-action}
 use Rattle.bsc_node_identity.proofs.Reasons.{is_beginning, Why}
 use Rattle.bsc_node_identity.proofs.Followed.{each-why}
 use Rattle.bsc_node_identity.proofs.OneMore.{established-same}
-use Rattle.bsc_node_identity.proofs.Settled.{Settled, settled-goes_on, now_then}
+use Rattle.bsc_node_identity.proofs.Settled.{Settled, settled-goes_on}
 use Rattle.bsc_node_identity.proofs.Events.{peer-goes_on}
 use Rattle.bsc_node_identity.proofs.Leading.{ways_lead_there}
 use Rattle.bsc_node_identity.proofs.Timely.{Timely, may_then}
@@ -46,6 +46,7 @@ use Rattle.bsc_network_laws.proofs.Events.{among-both}
 use Rattle.bsc_network_laws.proofs.Sent.{IsOfSend, put_is_of_send}
 use Rattle.bsc_lemmas.proofs.Numbers.{small_id}
 use Rattle.bsc_node.proofs.Common.{no_word_then}
+use Rattle.bsc_node.proofs.Moments.{now_then}
 
 -- ---- the lines
 

@@ -13,12 +13,12 @@ use Rattle.bsc_node.specs.Laws.{draws}
 use Rattle.bsc_node.specs.Node.{goes_on, actions_at}
 use Rattle.bsc_node.specs.Conditions.{fits, may_come, brings_word}
 use Rattle.bsc_node_laws.proofs.Drawn.{draws_at}
-use Rattle.bsc_node_identity.proofs.Settled.{now_then}
 use Rattle.bsc_node_identity.proofs.Timely.{Timely, may_then}
 use Rattle.bsc_network.specs.NodeEvents.{brings_about}
 use Rattle.bsc_network_laws.proofs.Acting.{Among}
 use Rattle.bsc_node.proofs.Common.{no_word_then}
 use Rattle.bsc_node.proofs.Following.{brought-one, brought-two}
+use Rattle.bsc_node.proofs.Moments.{now_then}
 
 -- An event that may come then at this time, and brings no word: this one, or that there is no word.
 pub record IsOf (T : ℕ) (e : NodeEvent) (L : Log) (x : TimedEvent) : Type 0 where

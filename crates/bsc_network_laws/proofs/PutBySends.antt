@@ -20,7 +20,6 @@ use Rattle.bsc_node.specs.Node.{goes_on, actions_at}
 use Rattle.bsc_node.specs.Laws.{with_event, draws}
 use Rattle.bsc_node.specs.Conditions.{fits, may_come}
 use Rattle.bsc_node_laws.proofs.Drawn.{draws_at}
-use Rattle.bsc_node_identity.proofs.Settled.{now_then}
 use Rattle.bsc_node_identity.proofs.Timely.{Timely, may_then}
 use Rattle.bsc_network.specs.declared.world_step.WorldStep.{WorldStep}
 use Rattle.bsc_network.specs.declared.world_step.WorldStep.TheVariants.{Node as OfNode}
@@ -39,6 +38,7 @@ use Rattle.bsc_network_laws.proofs.Timing.{no_word_comes}
 use Rattle.bsc_lemmas.proofs.Numbers.{small_id}
 use Rattle.bsc_node.proofs.Common.{no_word_then}
 use Rattle.bsc_node.proofs.Following.{brought-one, brought-two}
+use Rattle.bsc_node.proofs.Moments.{now_then}
 
 -- ---- the way of a Send
 

@@ -12,7 +12,6 @@ use Rattle.bsc_node.specs.Laws.{draws}
 use Rattle.bsc_node.specs.Node.{goes_on, actions_at}
 use Rattle.bsc_node.specs.Conditions.{fits, may_come, brings_word}
 use Rattle.bsc_node_laws.proofs.Drawn.{draws_at}
-use Rattle.bsc_node_identity.proofs.Settled.{now_then}
 use Rattle.bsc_node_identity.proofs.Timely.{Timely, may_then, timely-undrawn, timely-settled, timely-later}
 use Rattle.bsc_network.specs.declared.world_step.WorldStep.{WorldStep}
 use Rattle.bsc_network.specs.declared.timed_step.TimedStep.{TimedStep}
@@ -34,6 +33,7 @@ use Rattle.bsc_network_laws.proofs.Stepping.{begun, done, lets-step}
 use Rattle.bsc_node.proofs.Common.{no_word_then}
 use Rattle.std.proofs.lemmas.Option.{same_Some as some_same}
 use Rattle.bsc_node.proofs.Following.{brought-one, brought-two}
+use Rattle.bsc_node.proofs.Moments.{now_then}
 
 -- ---- the log of a node after an event of a step
 

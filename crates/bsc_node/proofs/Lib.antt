@@ -22,4 +22,5 @@ pub mod Named
 pub mod Lasting
 pub mod Apart
 pub mod Drawing
+pub mod Moments
 pub mod Common

@@ -30,7 +30,7 @@ use Rattle.bsc_node.specs.declared.link_name.LinkName.{LinkName}
 use Rattle.bsc_node.specs.declared.link_name.LinkName.TheVariants.{Hub, Direct}
 use Rattle.bsc_node.specs.declared.timed_event.TimedEvent.{TimedEvent}
 use Rattle.bsc_node.specs.declared.action.Action.TheVariants.{Dial, Take}
-use Rattle.bsc_node.specs.Logs.{Made, Line, came, did, slot, connector, initiating, accepting, resolution, Log, event_of, renewal_of}
+use Rattle.bsc_node.specs.Logs.{Made, Line, came, did, slot, connector, initiating, accepting, resolution, Log, renewal_of}
 use Rattle.bsc_node.specs.Links.{same_link, begins, initiating_event, accepting_event, initiating_events, accepting_events, request, accepts_by, asks_by, who_accepted, who_asked, peer}
 use Rattle.bsc_node.specs.Ways.{slot_call_of, slot_calls, established_peer, resolve_call_of, resolve_calls, learnt}
 use Rattle.bsc_node.specs.Laws.{with_event}
@@ -51,10 +51,6 @@ use Rattle.std.proofs.lemmas.Option.{same_Some as some_same}
 pub renewal_none : (a : Made) (L : Log) (e : TimedEvent) (N : Log) (m : Line) → Why a L e N m → renewal_of m ≡ None
 renewal_none a L e N (came other) why = absurd why
 renewal_none a L e N m why = refl
-
-pub event_none : (a : Made) (L : Log) (e : TimedEvent) (N : Log) (m : Line) → Why a L e N m → event_of m ≡ None
-event_none a L e N (came other) why = absurd why
-event_none a L e N m why = refl
 
 -- ---- a slot's link begins
 

@@ -1,15 +1,14 @@
 -- What holds of the log of a node between two events, whatever came: it stays so by each event that may come.
 use Rattle.std.proofs.Common.{◌≡◌, inl, inr, ℕ, Bool, true, false, not, ◌&&◌, ◌||◌, List, [], ◌∷◌, ◌++◌, Option, Some, None, refl, ap, sym, ◌∙◌, subst}
-use Rattle.std.specs.Prelude.{⊤, ◌==◌, IsTrue, fold, map, unwrap_or}
-use Rattle.std.specs.Option.{option_or, option_map}
+use Rattle.std.specs.Prelude.{⊤, ◌==◌, IsTrue, fold, map}
 use Rattle.std.specs.List.{list_any}
 use Rattle.std.proofs.lemmas.Bool.{or_parts, eqb-true}
 use Rattle.std.proofs.lemmas.List.{append_assoc}
 use Rattle.bsc_octets.specs.declared.vmac.Vmac.{Vmac}
 use Rattle.bsc_octets.specs.declared.identity.Identity.{Identity}
 use Rattle.bsc_connector.specs.declared.side.Side.TheVariants.{Primary, Failover}
-use Rattle.bsc_connector.specs.Back.{first_of, newest_of, until}
-use Rattle.bsc_connector.proofs.BackLemmas.{newest_of-more, until-begun, until-other}
+use Rattle.bsc_connector.specs.Back.{first_of, until}
+use Rattle.bsc_connector.proofs.BackLemmas.{until-begun, until-other}
 use Rattle.bsc_initiate.specs.declared.event.InitEvent.{InitEvent}
 use Rattle.bsc_initiate.specs.declared.event.InitEvent.TheVariants.{Opened as MachineOpened, Message as InitMessage, Finish as InitFinish, Tick as InitTick}
 use Rattle.bsc_direct.specs.Slots.{slots}
@@ -20,7 +19,7 @@ use Rattle.bsc_node.specs.declared.node_event.NodeEvent.{NodeEvent}
 use Rattle.bsc_node.specs.declared.node_event.NodeEvent.TheVariants.{Opened, DialFailed, Random}
 use Rattle.bsc_node.specs.declared.timed_event.TimedEvent.{TimedEvent}
 use Rattle.bsc_node.specs.declared.action.Action.TheVariants.{Draw}
-use Rattle.bsc_node.specs.Logs.{Made, Line, came, did, initiating, Log, renewal_in, own_vmac, event_of, now}
+use Rattle.bsc_node.specs.Logs.{Made, Line, came, did, initiating, Log, renewal_in, own_vmac, now}
 use Rattle.bsc_node.specs.Links.{names, begins, is_there, none_there, was_taken, initiating_events, accepts_by, is_in_slots}
 use Rattle.bsc_node.specs.Ways.{established_peer}
 use Rattle.bsc_node.specs.Events.{follows}
@@ -35,7 +34,7 @@ use Rattle.bsc_node_identity.proofs.Each.{keeps}
 use Rattle.bsc_node_identity.proofs.Reasons.{was_open, NoneAccepts, Why, WhyBegun}
 use Rattle.bsc_node_identity.proofs.OneMore.{open-stays, opened-stays, established-same, own_vmac-same, initiating-same, initiating-begun}
 use Rattle.bsc_node_identity.proofs.Followed.{each-why}
-use Rattle.bsc_node_identity.proofs.Lines.{renewal_none, event_none, begun-why, begun-no_call, Stays, established-before, none-told, is_opening, OpensUnaccepted}
+use Rattle.bsc_node_identity.proofs.Lines.{renewal_none, begun-why, begun-no_call, Stays, established-before, none-told, is_opening, OpensUnaccepted}
 use Rattle.bsc_lemmas.proofs.Booleans.{and_right, not_true}
 use Rattle.bsc_lemmas.proofs.Options.{some_none_any as some_none}
 use Rattle.bsc_node.proofs.Common.{word_awaited}
@@ -74,16 +73,6 @@ kept a L e may I keep i =
 
 fitting : (L : Log) (e : TimedEvent) → IsTrue (may_come L e) → (ev : NodeEvent) → e.event ≡ ev → fits L ev ≡ true
 fitting L e may ev is = sym (ap (fits L) is) ∙ event_fits L e may
-
--- ---- the time
-
--- The time after an event that may come is its own.
-pub now_then : (a : Made) (L : Log) (e : TimedEvent) → IsTrue (may_come L e) → now (L ++ goes_on a e L) ≡ e.now
-now_then a L e may = kept a L e may (λ (N : Log). now N ≡ e.now) keep (ap (λ (o : Option TimedEvent). unwrap_or (option_map (λ (x : TimedEvent). x.now) o) 0) (newest_of-more event_of L (came e)))
-  where
-    keep : (N : Log) (m : Line) → Why a L e N m → now N ≡ e.now → now (N ++ m ∷ []) ≡ e.now
-    keep N m why h =
-        ap (λ (o : Option TimedEvent). unwrap_or (option_map (λ (x : TimedEvent). x.now) o) 0) (newest_of-more event_of N m ∙ ap (λ (o : Option TimedEvent). option_or o (newest_of event_of N)) (event_none a L e N m why)) ∙ h
 
 -- ---- the VMAC
 

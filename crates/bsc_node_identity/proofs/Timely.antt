@@ -9,8 +9,8 @@ use Rattle.bsc_node.specs.Logs.{Made, Log, now}
 use Rattle.bsc_node.specs.Node.{goes_on, actions_at}
 use Rattle.bsc_node.specs.Conditions.{fits, may_come, awaits_word, brings_word}
 use Rattle.bsc_node.specs.Laws.{draws}
+use Rattle.bsc_node.proofs.Moments.{now_then}
 use Rattle.bsc_node_laws.proofs.Drawn.{draws_at, word_settles}
-use Rattle.bsc_node_identity.proofs.Settled.{now_then}
 use Rattle.bsc_lemmas.proofs.Booleans.{all_four, if_no as no_word}
 
 -- The log of a node between two events, at this time or before it.

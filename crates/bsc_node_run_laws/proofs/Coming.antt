@@ -3,10 +3,9 @@
 use Rattle.std.proofs.Common.{◌≡◌, Bool, true, false, ◌||◌, inl, inr, List, [], ◌∷◌, ◌++◌, Option, Some, None, refl, ap, sym, ◌∙◌, subst}
 use Rattle.std.specs.Prelude.{filter_map, unwrap_or}
 use Rattle.std.specs.List.{list_all, list_any}
-use Rattle.std.specs.Option.{option_map, option_or}
-use Rattle.std.proofs.lemmas.List.{append_assoc, append-nil}
+use Rattle.std.specs.Option.{option_map}
+use Rattle.std.proofs.lemmas.List.{append_assoc}
 use Rattle.std.proofs.lemmas.List.Folds.{list_all-append, list_any-append}
-use Rattle.bsc_connector.specs.Back.{newest_of}
 use Rattle.bsc_connector.proofs.BackLemmas.{newest_of-more}
 use Rattle.bsc_accept.specs.declared.reason.Reason.TheVariants.{TableFull}
 use Rattle.bsc_accept.specs.Steps.{closing}
@@ -21,6 +20,7 @@ use Rattle.bsc_node.specs.declared.action.Action.TheVariants.{Take, Refuse, Draw
 use Rattle.bsc_node.specs.Logs.{Made, Line, came, slot, did, Log, event_of, action_of, now, is_finish, is_finishing}
 use Rattle.bsc_node.specs.Node.{goes_on, actions_at}
 use Rattle.bsc_node.specs.Laws.{with_event, draws}
+use Rattle.bsc_node.proofs.Moments.{no_event, now_stays}
 use Rattle.bsc_node_laws.specs.Links.{MayStand, EachMay, opens_at, LogGoesOn, Admits, Brings}
 use Rattle.bsc_node_laws.proofs.There.{gone-stays, opened-other}
 use Rattle.bsc_node_laws.proofs.Drawn.{seam}
@@ -35,10 +35,6 @@ use Rattle.std.proofs.lemmas.Bool.{and_from as both}
 
 -- ---- lines that are no event
 
-abbrev pub no_event : Line → Bool
-no_event (came e) = false
-no_event m = true
-
 may_no_event : (L : Log) (m : Line) → MayStand L m → no_event m ≡ true
 may_no_event L (came e) h = absurd h
 may_no_event L m h = refl
@@ -50,19 +46,6 @@ may_each_no_event L (m ∷ lines) h = both (no_event m) (list_all no_event lines
 opens_no_event : (e : NodeEvent) (L : Log) → list_all no_event (opens_at e L) ≡ true
 opens_no_event (Opened name) L = refl
 opens_no_event e L = refl
-
-event_of_none : (m : Line) → no_event m ≡ true → event_of m ≡ None
-event_of_none (came e) h = cc
-event_of_none m h = refl
-
--- They leave the time as it is.
-now_stays : (L : Log) (lines : List Line) → list_all no_event lines ≡ true → now (L ++ lines) ≡ now L
-now_stays L [] h = ap now (append-nil L)
-now_stays L (m ∷ lines) h =
-    ap now (sym (append_assoc L (m ∷ []) lines))
-    ∙ now_stays (L ++ m ∷ []) lines (and_right (no_event m) (list_all no_event lines) h)
-    ∙ ap (λ (o : Option TimedEvent). unwrap_or (option_map (λ (e : TimedEvent). e.now) o) 0)
-    (newest_of-more event_of L m ∙ ap (λ (o : Option TimedEvent). option_or o (newest_of event_of L)) (event_of_none m (and_left (no_event m) (list_all no_event lines) h)))
 
 finish_none : (m : Line) → no_event m ≡ true → is_finish m ≡ false
 finish_none (came e) h = cc
