@@ -19,6 +19,7 @@ use Rattle.bsc_desk.specs.Entries.{connect_entry, connect_stamped}
 use Rattle.bsc_history.specs.declared.mark.Stamped.{Stamped}
 use Rattle.bsc_history.specs.declared.reply.Reply.{Reply}
 use Rattle.bsc_notes.specs.Notes.{HasLine, Note, Records, made}
+use Rattle.bsc_notes.proofs.Common.{no_line}
 use Rattle.bsc_hub.specs.Passing.{IsOwnAs, Passed, Placed}
 use Rattle.bsc_edge.specs.declared.fault.LinkFault.{LinkFault}
 use Rattle.bsc_edge.specs.declared.incoming.Incoming.{Incoming}
@@ -50,7 +51,7 @@ use Rattle.bsc_session.specs.Standings.{Standing, Terms, start_of, told, wanted}
 use Rattle.bsc_session.specs.Stops.{closes, closing_in, first_of, stop_if, stop_unrecorded}
 use Rattle.bsc_session.specs.Moments.{moment}
 use Rattle.bsc_session.proofs.HubCalls.{goes_as, goes_passed}
-use Rattle.bsc_session.proofs.Recording.{no_line, wrote_as, wrote_made, wrote_none}
+use Rattle.bsc_session.proofs.Recording.{wrote_as, wrote_made, wrote_none}
 use Rattle.bsc_session.proofs.Lists.{grows_stays}
 
 -- ---- a step

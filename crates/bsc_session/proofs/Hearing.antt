@@ -34,6 +34,7 @@ use Rattle.bsc_accept.specs.Standing.{AcceptingAnswers, AcceptingStands, IsOpen,
 use Rattle.bsc_accept.specs.Steps.{message_step, normal}
 use Rattle.bsc_lines.specs.declared.denial.Denial.{Denial}
 use Rattle.bsc_notes.specs.Notes.{HasLine, Records, denied}
+use Rattle.bsc_notes.proofs.Common.{no_line}
 use Rattle.bsc_policy.specs.declared.policy.Policy.{Policy}
 use Rattle.bsc_session.specs.Guarding.{denied_connect, denied_message}
 use Rattle.bsc_session.specs.declared.at.At.{At}
@@ -54,7 +55,7 @@ use Rattle.bsc_session.specs.Moments.{moment, traces}
 use Rattle.bsc_session.proofs.Asking.{answer_is, left_open}
 use Rattle.bsc_session.proofs.HubCalls.{goes_as, goes_nowhere, member_stays, one_line, unless_lost}
 use Rattle.bsc_session.proofs.Lists.{grows_stays}
-use Rattle.bsc_session.proofs.Recording.{no_line, wrote_as, wrote_none}
+use Rattle.bsc_session.proofs.Recording.{wrote_as, wrote_none}
 use Rattle.bsc_accept.proofs.Common.{connected_carries, no_ask_carries}
 
 -- ---- the step of a message

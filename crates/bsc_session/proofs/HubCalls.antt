@@ -15,6 +15,7 @@ use Rattle.bsc_history.specs.declared.mark.Stamped.{Stamped}
 use Rattle.bsc_history.specs.declared.reply.Reply.{Reply}
 use Rattle.bsc_edge.specs.declared.fault.LinkFault.{LinkFault}
 use Rattle.bsc_notes.specs.Notes.{HasLine, Note, Records, made as made_note}
+use Rattle.bsc_notes.proofs.Common.{no_line}
 use Rattle.bsc_hub.specs.Passing.{IsCaller, MadeEntry, Passed, Placed, StaysBy}
 use Rattle.bsc_hub.proofs.Following.{drew_none}
 use Rattle.bsc_hub.proofs.Owning.{owned_kept, mark_kept}
@@ -25,7 +26,7 @@ use Rattle.bsc_session.specs.declared.member.Member.{Member}
 use Rattle.bsc_session.specs.declared.stop.Stop.{Stop}
 use Rattle.bsc_session.specs.Answering.{made_at, stop_by}
 use Rattle.bsc_session.specs.Stops.{first_of, stop_lost}
-use Rattle.bsc_session.proofs.Recording.{no_line, wrote_as, wrote_made, wrote_none}
+use Rattle.bsc_session.proofs.Recording.{wrote_as, wrote_made, wrote_none}
 use Rattle.bsc_session.specs.CarryingOut.{SeesWorn, Wrote}
 use Rattle.bsc_session.specs.Following.{IsMember}
 use Rattle.bsc_session.specs.Hearing.{Calls, Forwards, forward_made}

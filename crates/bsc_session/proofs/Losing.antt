@@ -19,6 +19,7 @@ use Rattle.bsc_accept.specs.declared.step.Step.{Step}
 use Rattle.bsc_accept.specs.declared.step.Step.TheVariants.{Ask, Nothing}
 use Rattle.bsc_lines.specs.declared.denial.Denial.{Denial}
 use Rattle.bsc_notes.specs.Notes.{HasLine, Note, Records, denied, lines_of}
+use Rattle.bsc_notes.proofs.Common.{no_line}
 use Rattle.bsc_session.specs.declared.stop.Stop.{Stop}
 use Rattle.bsc_session.specs.declared.why.Why.{Why}
 use Rattle.bsc_session.specs.Answering.{IsHearing, called, denial_in, denied_in, made_at, notes_hearing, stands_heard, stop_by, stop_denied, stop_given, stop_hearing, stop_judged, stop_message}
@@ -35,7 +36,7 @@ use Rattle.bsc_session.specs.Talk.{first_lost}
 use Rattle.bsc_session.specs.Taking.{IsOpening, Opening, end_step, ended_by, last_alone, noted_last, noted_of, notes_opening, opened, stop_before, waiting_for}
 use Rattle.bsc_outside.proofs.Common.{risen_from as risen_before}
 use Rattle.bsc_session.proofs.Filtering.{noted-append, noted-nil, records_more}
-use Rattle.bsc_session.proofs.Recording.{denied_stand, no_line, stand_append, stand_on}
+use Rattle.bsc_session.proofs.Recording.{denied_stand, stand_append, stand_on}
 
 -- ---- the line of a note
 

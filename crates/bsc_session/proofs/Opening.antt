@@ -34,6 +34,7 @@ use Rattle.bsc_session.specs.declared.why.Why.{Why}
 use Rattle.bsc_session.specs.declared.why.Why.TheVariants.{EndedBy}
 use Rattle.bsc_session.specs.Answering.{calls}
 use Rattle.bsc_notes.specs.Notes.{HasLine, Records, denied}
+use Rattle.bsc_notes.proofs.Common.{no_line}
 use Rattle.bsc_session.specs.Guarding.{denials, let_through}
 use Rattle.bsc_session.specs.CarryingOut.{Carries, TellsMore, is_more, stop_of}
 use Rattle.bsc_session.specs.Following.{Follows, HasFound, OutletHasEnded, SessionRuns, Tied, address_by, conn_of, given_by}
@@ -49,7 +50,7 @@ use Rattle.bsc_session.proofs.Asking.{left_open, tied_told}
 use Rattle.bsc_session.proofs.Hearing.{connected_joined, some_of}
 use Rattle.bsc_session.proofs.Filtering.{noted-nil, passing-nil}
 use Rattle.bsc_session.proofs.Lists.{grows_as, puts-append, well}
-use Rattle.bsc_session.proofs.Recording.{no_line, records-nil}
+use Rattle.bsc_session.proofs.Recording.{records-nil}
 
 -- ---- the time
 

@@ -11,7 +11,7 @@ use Rattle.bsc_turn.specs.Passes.{seen}
 use Rattle.bsc_hub.specs.Passing.{MadeOne, Placed}
 use Rattle.bsc_edge.specs.declared.fault.LinkFault.{LinkFault}
 use Rattle.bsc_lines.specs.declared.denial.Denial.{Denial}
-use Rattle.bsc_notes.specs.Notes.{HasLine, Note, Records, denied, line_of, made, lines_of}
+use Rattle.bsc_notes.specs.Notes.{Note, Records, denied, line_of, made, lines_of}
 use Rattle.bsc_session.specs.CarryingOut.{Wrote}
 use Rattle.bsc_session.specs.Serving.{AllStand}
 
@@ -23,11 +23,6 @@ lines-append (n ∷ ns) ms = ap (λ w. line_of n ++ w) (lines-append ns ms) ∙ 
 -- nothing is noted, and a journal stays as it was
 pub records-nil : (held : Option (List ℕ)) → Records held held [] None
 records-nil held = Appends-nil held
-
--- no lost line needs no note
-pub no_line : (ns : List Note) → HasLine ns None
-no_line [] = tt
-no_line (n ∷ ns) = tt
 
 -- notes behind notes whose lines were all put
 pub records_on : (a b c : Option (List ℕ)) (ns ms : List Note) → Records a b ns None → Records b c ms None → Records a c (ns ++ ms) None

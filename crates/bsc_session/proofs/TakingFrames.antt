@@ -28,10 +28,11 @@ use Rattle.std.specs.Prelude.{◌&&◌}
 use Rattle.bsc_octets.specs.declared.vmac.Vmac.{Vmac}
 use Rattle.bsc_policy.specs.declared.policy.Policy.{Policy}
 use Rattle.bsc_notes.specs.Notes.{HasLine, Records, denied}
+use Rattle.bsc_notes.proofs.Common.{no_line}
 use Rattle.bsc_session.specs.Guarding.{denials, let_through}
 use Rattle.bsc_session.specs.Taking.{last_alone}
 use Rattle.bsc_session.specs.Moments.{traces}
-use Rattle.bsc_session.proofs.Recording.{no_line, records-nil}
+use Rattle.bsc_session.proofs.Recording.{records-nil}
 use Rattle.bsc_session.proofs.Filtering.{last_alone-more, let_through-append, noted-append, records_more}
 
 elem_stays : (xs ys : List Found) (i : ℕ) (x : Found) → get_elem? xs i ≡ some x → get_elem? (xs ++ ys) i ≡ some x

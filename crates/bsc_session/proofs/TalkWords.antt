@@ -23,7 +23,7 @@ use Rattle.bsc_session.specs.Answering.{AnswerFits, calls_hub, put_after, step_o
 use Rattle.bsc_session.specs.Course.{SessionCourse, empties_of, end_of, entries_of, frames_of, readings_of, talk_of}
 use Rattle.bsc_session.specs.Judging.{LacksAtPass}
 use Rattle.bsc_session.specs.Puts.{HasPut}
-use Rattle.bsc_session.proofs.Recording.{no_line}
+use Rattle.bsc_notes.proofs.Common.{no_line}
 
 -- the octets of the hub's identity, and of A's
 abbrev pub hub_octets : List ℕ

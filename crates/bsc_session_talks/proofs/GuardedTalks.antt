@@ -13,6 +13,7 @@ use Rattle.bsc_lines.specs.declared.denial.Denial.TheVariants.{OfConnect, OfPair
 use Rattle.bsc_lines.proofs.OnLiterals.{lines_on_literals}
 use Rattle.bsc_checks.proofs.OnLiterals.{verdict_on_literals}
 use Rattle.bsc_notes.specs.Notes.{denied, line_feed, lines_of, made}
+use Rattle.bsc_notes.proofs.Common.{no_line}
 use Rattle.bsc_session.specs.Guarding.{denials, denied_frame, let_through}
 use Rattle.bsc_session.specs.declared.why.Why.TheVariants.{Denied, JournalFault, PeerClosed}
 use Rattle.bsc_session.specs.Puts.{puts}
@@ -21,7 +22,8 @@ use Rattle.bsc_session.specs.Standings.{Standing}
 use Rattle.bsc_session.specs.Stops.{stop_closing, stop_for, stop_unrecorded}
 use Rattle.bsc_session.specs.Taking.{IsOpening, full_wait}
 use Rattle.bsc_session.proofs.TalkWords.{accept, forwarded, left_as}
-use Rattle.bsc_session_talks.proofs.JournalWords.{Talked, told_as, turn_with, hears_by, heard_with, no_fault, no_line}
+use Rattle.bsc_session.proofs.Lists.{well}
+use Rattle.bsc_session_talks.proofs.JournalWords.{Talked, told_as, turn_with, hears_by, heard_with}
 use Rattle.bsc_session_talks.proofs.JournalWords.{a_to_c, address, asks, c_to_a, comes_from, connect_of, from_a_to_all, guarded, joined_by, joins_by, members, rules}
 
 -- D asks to join, and isn't admitted: the hub isn't called, and the link is closed.
@@ -167,7 +169,7 @@ a_broadcast_is_filtered p m r = told_as (guarded p) (record {
     (
       record {
         room = lit< tt;
-        opening = record { takes = inl (refl, refl); few = lit≤ tt; not_left = λ h. cc; line = no_line _; cause = no_fault _ };
+        opening = record { takes = inl (refl, refl); few = lit≤ tt; not_left = λ h. cc; line = no_line _; cause = well _ };
         heard = refl;
         hearing = record { memory = tt; calls = refl; fits = tt; line = tt; cause = tt };
       },
@@ -202,7 +204,7 @@ a_filtered_frames_line_is_lost p m r = told_as (guarded p) (record {
     (
       record {
         room = lit< tt;
-        opening = record { takes = inl (refl, refl); few = lit≤ tt; not_left = λ h. cc; line = rw (r, m) tt; cause = no_fault _ };
+        opening = record { takes = inl (refl, refl); few = lit≤ tt; not_left = λ h. cc; line = rw (r, m) tt; cause = well _ };
         heard = refl;
         hearing = tt;
       },

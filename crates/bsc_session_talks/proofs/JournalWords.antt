@@ -17,16 +17,17 @@ use Rattle.bsc_edge.specs.declared.incoming.Incoming.TheVariants.{Message}
 use Rattle.bsc_edge.specs.declared.said.Said.{Said}
 use Rattle.bsc_edge.specs.declared.said.Said.TheVariants.{Gave}
 use Rattle.bsc_notes.specs.Notes.{HasLine, Note}
+use Rattle.bsc_notes.proofs.Common.{no_line}
 use Rattle.bsc_session.specs.declared.ended.Ended.{Ended}
 use Rattle.bsc_session.specs.Answering.{AnswerFits, calls_hub, notes_hearing, step_of}
 use Rattle.bsc_session.specs.Course.{SessionCourse, empties_of, end_of, entries_of, frames_of, notes_of, readings_of, talk_of}
-use Rattle.bsc_session.specs.Puts.{HasPut}
 use Rattle.bsc_session.specs.Receiving.{Answer, Hearing, replies}
 use Rattle.bsc_session.specs.Standings.{Standing, Terms}
 use Rattle.bsc_session.specs.Taking.{IsOpening, full_wait, opened, stop_before}
 use Rattle.bsc_session.specs.Talk.{Session, first_lost, journal_of, leaving, lost_of, named, named_lost, noted_leaving}
 use Rattle.bsc_session.specs.Turns.{IsTurn, Turn}
 use Rattle.bsc_session.proofs.TalkWords.{connect, reads, terms}
+use Rattle.bsc_session.proofs.Lists.{well}
 
 -- A session with this talk, these readings, own entries, frames and end, that notes this in its journal; and why the line of
 -- the last note wasn't put, where it wasn't.
@@ -101,17 +102,9 @@ guarded p = record terms { policy = Some p }
 
 -- ---- turns as they may be
 
-pub no_line : (ns : List Note) → HasLine ns None
-no_line [] = tt
-no_line (n ∷ ns) = tt
-
-pub no_fault : (os : List (List ℕ)) → HasPut os None
-no_fault [] = tt
-no_fault (o ∷ os) = tt
-
 -- an opening that takes nothing
 bare_by : (v : Terms) (s : Standing) → IsOpening v s (reads 0)
-bare_by v s = record { takes = inr (refl, refl); few = lit≤ tt; not_left = λ h. cc; line = no_line _; cause = no_fault _ }
+bare_by v s = record { takes = inr (refl, refl); few = lit≤ tt; not_left = λ h. cc; line = no_line _; cause = well _ }
 
 -- a turn that takes nothing and receives, of which no put fails
 pub hears_by : (v : Terms) (s : Standing) (given : Result Incoming LinkFault) (answer : Option Answer) (lost : Option LinkFault)
@@ -121,7 +114,7 @@ pub hears_by : (v : Terms) (s : Standing) (given : Result Incoming LinkFault) (a
     → HasLine (notes_hearing v (opened s (reads 0)) 0 (heard_with given answer lost)) lost
     → IsTurn v s (turn_with given answer lost)
 hears_by v s given answer lost room on calls fits line =
-    record { room = room; opening = bare_by v s; heard = on; hearing = record { memory = tt; calls = calls; fits = fits; line = line; cause = no_fault _ } }
+    record { room = room; opening = bare_by v s; heard = on; hearing = record { memory = tt; calls = calls; fits = fits; line = line; cause = well _ } }
 
 -- ---- what a course comes to
 
