@@ -25,10 +25,10 @@ use Rattle.bsc_checks.proofs.Reflecting.{clear_of}
 use Rattle.bsc_checks.proofs.Walks.{behind_octets}
 use Rattle.bsc_checks.proofs.TwoLists.{BothSay, both_say, data_of}
 use Rattle.bsc_checks.proofs.OptionTests.{bad, good_all}
-use Rattle.bsc_checks.proofs.Payloads.{body_again}
 use Rattle.bsc_checks.proofs.Envelopes.{id_small, envelope_spelled, envelope_whole}
 use Rattle.bsc_checks.proofs.Bodies.{Passes, body_is, not_less}
 use Rattle.bsc_frame.proofs.Common.{list_fits, list_place, not_cut, same_message}
+use Rattle.bsc_frame.proofs.Bodies.{body_again}
 use Rattle.std.proofs.lemmas.Bool.{or_parts as neither}
 
 -- ---- a message that is spelled is read

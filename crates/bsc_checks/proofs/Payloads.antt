@@ -1,20 +1,11 @@
--- The checks of a payload as tests, and the body that a payload says.
-use Rattle.std.proofs.Common.{◌≡◌, ℕ, ◌<◌, ◌⊎◌, true, false, eqb, ltb, not, ◌||◌, List, [], ◌∷◌, ◌++◌, length, drop, slice_index, refl, ap, ◌∙◌}
+-- The checks of a payload as tests.
+use Rattle.std.proofs.Common.{◌≡◌, ℕ, ◌<◌, ◌⊎◌, true, false, eqb, ltb, not, ◌||◌, List, [], ◌∷◌, length, drop, slice_index, refl}
 use Rattle.std.specs.Str.{IsUtf8, is_utf8}
-use Rattle.byteorder.specs.Endian.{big_bytes, big_number}
 use Rattle.bsc_octets.specs.Addresses.{broadcast, zero_vmac, same_vmac}
 use Rattle.bsc_octets.specs.Envelopes.{vmac_at}
-use Rattle.bsc_octets.proofs.TwoOctets.{two_octet_number}
-use Rattle.bsc_octets.proofs.IdentityOctets.{identity_of-octets}
-use Rattle.bsc_frame.specs.declared.answer.Answer.TheVariants.{Ack, Nak}
-use Rattle.bsc_frame.specs.declared.body.Body.{Body}
-use Rattle.bsc_frame.specs.declared.body.Body.TheVariants.{BvlcResult, Npdu, AddressResolution, AddressResolutionAck, Advertisement, AdvertisementSolicitation, ConnectRequest, ConnectAccept, DisconnectRequest, DisconnectAck, HeartbeatRequest, HeartbeatAck, Proprietary}
-use Rattle.bsc_frame.specs.Payloads.{function_of, payload_of, HasPayload}
 use Rattle.bsc_frame.specs.PayloadChecks.{result_code, expects_payload, fixed_part, takes_rest, IsMissing, IsBelowFixedPart, IsBeyondFixedPart, IsOutOfRange, HasUnknownResult, HasBadDetails, HasBadUris, HasUnknownStatus, HasUnknownAccepts, HasNoNodesVmac}
-use Rattle.bsc_checks.specs.Payloads.{body_in, is_nothing, is_missing, is_below_fixed_part, is_beyond_fixed_part, is_out_of_range, has_unknown_result, has_bad_details, has_bad_uris, has_unknown_status, has_unknown_accepts, has_no_nodes_vmac}
+use Rattle.bsc_checks.specs.Payloads.{is_nothing, is_missing, is_below_fixed_part, is_beyond_fixed_part, is_out_of_range, has_unknown_result, has_bad_details, has_bad_uris, has_unknown_status, has_unknown_accepts, has_no_nodes_vmac}
 use Rattle.bsc_checks.proofs.Reflecting.{Reflects, also, three, either, never, equal, less, set, clear, one_address, text}
-
--- ---- the checks
 
 nothing : (p : List ℕ) → Reflects (p ≡ []) (is_nothing p)
 nothing [] = record { holds = (λ e. refl); back = (λ h. refl) }
@@ -61,27 +52,3 @@ out_of_range f p =
     (either (HasBadUris f p) _ (has_bad_uris f p) _ (bad_uris f p)
     (either (HasUnknownStatus f p) _ (has_unknown_status f p) _ (unknown_status f p)
     (either (HasUnknownAccepts f p) (HasNoNodesVmac f p) (has_unknown_accepts f p) (has_no_nodes_vmac f p) (unknown_accepts f p) (no_node f p)))))
-
--- ---- the body
-
-pub body_again : (body : Body) → HasPayload body → body_in (function_of body) (payload_of body) ≡ body
-body_again (BvlcResult (Ack function)) has = refl
-body_again (BvlcResult (Nak function marker class code details)) has =
-    let first : big_number 2 (big_bytes 2 class ++ big_bytes 2 code ++ details) ≡ class = two_octet_number class (big_bytes 2 code ++ details) has.0 in
-    let second : big_number 2 (big_bytes 2 code ++ details) ≡ code = two_octet_number code details has.1 in
-    ap (λ (n : ℕ). BvlcResult (Nak function marker n (big_number 2 (big_bytes 2 code ++ details)) details)) first ∙ ap (λ (n : ℕ). BvlcResult (Nak function marker class n details)) second
-body_again (Npdu npdu) has = refl
-body_again AddressResolution has = refl
-body_again (AddressResolutionAck uris) has = refl
-body_again (Advertisement advert) has =
-    let first : big_number 2 (big_bytes 2 advert.max_bvlc ++ big_bytes 2 advert.max_npdu) ≡ advert.max_bvlc = two_octet_number advert.max_bvlc (big_bytes 2 advert.max_npdu) has.bvlc in
-    let second : big_number 2 (big_bytes 2 advert.max_npdu ++ []) ≡ advert.max_npdu = two_octet_number advert.max_npdu [] has.npdu in
-    rw (first, second) refl
-body_again AdvertisementSolicitation has = refl
-body_again (ConnectRequest who) has = ap ConnectRequest (identity_of-octets who has.address has.device has.bvlc has.npdu)
-body_again (ConnectAccept who) has = ap ConnectAccept (identity_of-octets who has.address has.device has.bvlc has.npdu)
-body_again DisconnectRequest has = refl
-body_again DisconnectAck has = refl
-body_again HeartbeatRequest has = refl
-body_again HeartbeatAck has = refl
-body_again (Proprietary vendor function content) has = ap (λ (n : ℕ). Proprietary n function content) (two_octet_number vendor (function ∷ content) has)

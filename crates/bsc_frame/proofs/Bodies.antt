@@ -111,7 +111,7 @@ body_in f p =
     else if f == 0x0B then HeartbeatAck
     else Proprietary (big_number 2 p) (get_or p 2 0) (drop 3 p)
 
-body_again : (body : Body) → HasPayload body → body_in (function_of body) (payload_of body) ≡ body
+pub body_again : (body : Body) → HasPayload body → body_in (function_of body) (payload_of body) ≡ body
 body_again (BvlcResult (Ack function)) has = refl
 body_again (BvlcResult (Nak function marker class code details)) has =
     let first : big_number 2 (big_bytes 2 class ++ big_bytes 2 code ++ details) ≡ class = two_octet_number class (big_bytes 2 code ++ details) has.0 in

@@ -11,13 +11,13 @@ use Rattle.bsc_frame.specs.declared.message.Message.{Message}
 use Rattle.bsc_frame.specs.declared.body.Body.{Body}
 use Rattle.bsc_frame.specs.declared.body.Body.TheVariants.{Npdu, AddressResolutionAck, ConnectRequest, ConnectAccept}
 use Rattle.bsc_frame.specs.Payloads.{function_of, payload_of}
+use Rattle.bsc_frame.proofs.Bodies.{body_again}
 use Rattle.bsc_checks.specs.declared.place.Place.{Place}
 use Rattle.bsc_checks.specs.declared.verdict.Verdict.TheVariants.{Pass}
 use Rattle.bsc_checks.specs.Places.{dest_in, is_to_carry}
 use Rattle.bsc_checks.specs.Table.{code_of, checks_of}
 use Rattle.bsc_checks.specs.Options.{rest_of, data_options_in}
 use Rattle.bsc_checks.specs.Payloads.{body_in}
-use Rattle.bsc_checks.proofs.Payloads.{body_again}
 use Rattle.bsc_direct.proofs.OneMore.{both_ways}
 use Rattle.bsc_checks.specs.PlaceTests.{is_unicast}
 use Rattle.bsc_checks.specs.Failing.{fails}
