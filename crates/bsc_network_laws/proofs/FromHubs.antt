@@ -1,5 +1,5 @@
 -- What is delivered of an NPDU that came down from a hub came by this hub, as the theorem says it.
-use Rattle.std.proofs.Common.{◌≡◌, ◌<◌, ℕ, Bool, true, false, not, cond, List, [], ◌∷◌, length, Option, Some, None, refl, ap, sym, subst, ◌∙◌, arith}
+use Rattle.std.proofs.Common.{◌≡◌, ◌<◌, ℕ, Bool, true, false, not, cond, List, length, Option, Some, None, refl, ap, sym, subst, ◌∙◌}
 use Rattle.std.specs.Prelude.{◌==◌, ◌^◌}
 use Rattle.std.specs.Option.{option_map, option_or}
 use Rattle.bsc_octets.specs.declared.vmac.Vmac.{Vmac}
@@ -23,7 +23,7 @@ use Rattle.bsc_node.specs.Laws.{delivery}
 use Rattle.bsc_node.specs.Messages.{message_octets}
 use Rattle.bsc_node.specs.Receiving.{sender, is_for_all, is_broadcast_address}
 use Rattle.bsc_node_identity.specs.Carried.{dest_out, passed_on}
-use Rattle.bsc_node_identity.proofs.Carried.{npdus_on}
+use Rattle.bsc_node_identity.proofs.Carried.{npdus_on, Six, six, six_of}
 use Rattle.bsc_network.specs.declared.world_delivery.WorldDelivery.{WorldDelivery}
 use Rattle.bsc_network.specs.Worlds.{World, Hub, Link, hub_at, link_at}
 use Rattle.bsc_network.specs.Outboxes.{Frame}
@@ -36,20 +36,6 @@ use Rattle.bsc_octets.proofs.Common.{vmac_same}
 use Rattle.std.proofs.lemmas.Option.{same_Some as some_same}
 
 -- ---- the destination
-
--- six octets
-data Six : List ℕ → Type 0 where
-  six : (a b c d e f : ℕ) → Six (a ∷ b ∷ c ∷ d ∷ e ∷ f ∷ [])
-
-six_of : (xs : List ℕ) → length xs ≡ 6 → Six xs
-six_of (a ∷ b ∷ c ∷ d ∷ e ∷ f ∷ []) h = six a b c d e f
-six_of (a ∷ b ∷ c ∷ d ∷ e ∷ f ∷ g ∷ xs) h = absurd (omega (arith, h))
-six_of (a ∷ b ∷ c ∷ d ∷ e ∷ []) h = absurd (omega (arith, h))
-six_of (a ∷ b ∷ c ∷ d ∷ []) h = absurd (omega (arith, h))
-six_of (a ∷ b ∷ c ∷ []) h = absurd (omega (arith, h))
-six_of (a ∷ b ∷ []) h = absurd (omega (arith, h))
-six_of (a ∷ []) h = absurd (omega (arith, h))
-six_of [] h = absurd (omega (arith, h))
 
 dest_said : (id : ℕ) (dest npdu : List ℕ) → Six dest → destination (message_octets id (Some (record { 0 = dest })) (Npdu npdu)) ≡ record { 0 = dest }
 dest_said id dest npdu (six a b c d e f) = refl

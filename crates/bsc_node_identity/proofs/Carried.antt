@@ -72,10 +72,10 @@ uris_plainly uris = carried_plainly (AddressResolutionAck uris) refl
 -- ---- over a hub
 
 -- six octets
-data Six : List ℕ → Type 0 where
+pub data Six : List ℕ → Type 0 where
   six : (a b c d e f : ℕ) → Six (a ∷ b ∷ c ∷ d ∷ e ∷ f ∷ [])
 
-six_of : (xs : List ℕ) → length xs ≡ 6 → Six xs
+pub six_of : (xs : List ℕ) → length xs ≡ 6 → Six xs
 six_of (a ∷ b ∷ c ∷ d ∷ e ∷ f ∷ []) h = six a b c d e f
 six_of (a ∷ b ∷ c ∷ d ∷ e ∷ f ∷ g ∷ xs) h = absurd (omega (arith, h))
 six_of (a ∷ b ∷ c ∷ d ∷ e ∷ []) h = absurd (omega (arith, h))
