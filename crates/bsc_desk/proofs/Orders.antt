@@ -58,10 +58,6 @@ pub order-push : {A : Type 0} (R : A → A → Type 0) (xs : List A) (y : A) →
 order-push R [] y order all = (tt, tt)
 order-push R (x ∷ xs) y order all = (all-push (R x) xs y order.0 all.0, order-push R xs y order.1 all.1)
 
-pub order-map : {A B : Type 0} (R : A → A → Type 0) (S : B → B → Type 0) (f : A → B) (xs : List A) → ((x y : A) → R x y → S (f x) (f y)) → InOrder R xs → InOrder S (map f xs)
-order-map R S f [] each order = tt
-order-map R S f (x ∷ xs) each order = (all-map (R x) (S (f x)) f xs (each x) order.0, order-map R S f xs each order.1)
-
 pub order-at : {A : Type 0} (R : A → A → Type 0) (xs : List A) (i j : ℕ) (d : A) → InOrder R xs → i < j → j < length xs → R (get_or xs i d) (get_or xs j d)
 order-at R [] i j d order before within = absurd (omega arith)
 order-at R (x ∷ xs) i zero d order before within = absurd (omega arith)

@@ -109,10 +109,6 @@ module _ (key : Connection → List ℕ) where
 
   -- all
 
-  order-fold : (cs es : List Connection) → InOrder (Precedes key) es → InOrder (Precedes key) (fold (filed key) es cs)
-  order-fold [] es order = order
-  order-fold (c ∷ cs) es order = order-fold cs (filed key es c) (order-filed es c order)
-
   length-fold : (cs es : List Connection) (n : ℕ) → length es ≡ n → length (fold (filed key) es cs) ≡ length cs + n
   length-fold [] es n h = omega arith
   length-fold (c ∷ cs) es n h = (let more : length (filed key es c) ≡ suc n = length-put (key c) es c ∙ ap suc h in let rest = length-fold cs (filed key es c) (suc n) more in omega arith)

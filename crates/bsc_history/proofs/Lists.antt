@@ -2,7 +2,7 @@
 use Rattle.std.proofs.Common.{◌≡◌, ◌≢◌, ◌⊎◌, inl, inr, Bool, true, false, cond, List, [], ◌∷◌, ◌++◌, filter, find, Option, Some, None, MatchOption, option_to_list, refl, ap, sym, ◌∙◌, subst}
 use Rattle.std.specs.List.{list_any, AllByRecursion}
 use Rattle.std.proofs.lemmas.Bool.{false_from_ne_true, or_cases, or_left, or_right}
-use Rattle.bsc_history.specs.Laws.{Apart, kept_if}
+use Rattle.bsc_history.specs.Laws.{Apart}
 
 abbrev pub In : {A : Type 0} → A → List A → Type 0
 In x [] = ⊥
@@ -106,27 +106,6 @@ same_one f x y (z ∷ zs) h (inl p) (inl q) e = sym p ∙ q
 same_one f x y (z ∷ zs) h (inl p) (inr n) e = absurd (In_from_all (λ w. f z ≢ f w) y zs h.0 n (ap f p ∙ e))
 same_one f x y (z ∷ zs) h (inr m) (inl q) e = absurd (In_from_all (λ w. f z ≢ f w) x zs h.0 m (ap f q ∙ sym e))
 same_one f x y (z ∷ zs) h (inr m) (inr n) e = same_one f x y zs h.1 m n e
-
--- of elements that are apart, the one found is found among those kept, or is not kept
-pub find-filter : {A B : Type 0} (f : A → B) (p q : A → Bool) (xs : List A) → Apart f xs → ((x y : A) → p x ≡ true → p y ≡ true → f x ≡ f y) → find p (filter q xs) ≡ kept_if q (find p xs)
-find-filter f p q [] h agree = refl
-find-filter {A} f p q (x ∷ xs) h agree =
-    let rest = find-filter f p q xs h.1 agree in
-    let by : (b c : Bool) → p x ≡ b → q x ≡ c → find p (cond c (x ∷ filter q xs) (filter q xs)) ≡ kept_if q (cond b (Some x) (find p xs)) = λ b c. elim b as (λ b. p x ≡ b → q x ≡ c → find p (cond c (x ∷ filter q xs) (filter q xs)) ≡ kept_if q (cond b (Some x) (find p xs))) [
-      | true ↦ elim c as (λ c. p x ≡ true → q x ≡ c → find p (cond c (x ∷ filter q xs) (filter q xs)) ≡ kept_if q (Some x)) [
-        | true ↦ λ e d. rw (e, d) refl
-        | false ↦ λ e d. (
-            let gone : find p xs ≡ None = (
-            let on : (o : Option A) → MatchOption o ((z : A) → In z xs → p z ≡ false) (λ z. In z xs × (p z ≡ true)) → o ≡ None = λ o. elim o as (λ o. MatchOption o ((z : A) → In z xs → p z ≡ false) (λ z. In z xs × (p z ≡ true)) → o ≡ None) [ None ↦ λ r. refl | Some z ↦ λ r. absurd (In_from_all (λ w. f x ≢ f w) z xs h.0 r.0 (agree x z e r.1)) ] in
-            on (find p xs) (find_says p xs)) in
-            rest ∙ ap (kept_if q) gone ∙ sym (ap (λ (k : Bool). cond k (Some x) None) d))
-      ]
-      | false ↦ elim c as (λ c. p x ≡ false → q x ≡ c → find p (cond c (x ∷ filter q xs) (filter q xs)) ≡ kept_if q (find p xs)) [
-        | true ↦ λ e d. rw e rest
-        | false ↦ λ e d. rest
-      ]
-    ] in
-    by (p x) (q x) refl refl
 
 pub none_found : {A : Type 0} (p : A → Bool) (xs : List A) → ((x : A) → In x xs → p x ≡ false) → find p xs ≡ None
 none_found p [] f = refl

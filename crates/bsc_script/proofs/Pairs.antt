@@ -122,11 +122,6 @@ all-drop P xs zero h = h
 all-drop P [] (suc i) h = tt
 all-drop P (x ∷ xs) (suc i) h = all-drop P xs i h.1
 
-pub all-set : {A : Type 0} (P : A → Type 0) (xs : List A) (i : ℕ) (y : A) → AllByRecursion P (take i xs) → AllByRecursion P (drop (suc i) xs) → P y → AllByRecursion P (set xs i y)
-all-set P [] i y b d h = tt
-all-set P (a ∷ xs) zero y b d h = (h, d)
-all-set P (a ∷ xs) (suc i) y b d h = (b.0, all-set P xs i y b.1 d h)
-
 pub all-join : {A : Type 0} (P : A → Type 0) (xs : List A) (i : ℕ) (x : A) → slice_get xs i ≡ Some x → AllByRecursion P (take i xs) → AllByRecursion P (drop (suc i) xs) → P x → AllByRecursion P xs
 all-join P [] i x e b d h = tt
 all-join P (a ∷ xs) zero x e b d h = (subst P (sym (same_some a x e)) h, d)

@@ -11,7 +11,7 @@ use Rattle.bsc_turn.specs.Histories.{StartsWith}
 use Rattle.bsc_turn.specs.Passes.{newest_number, number_of, seen, view_of}
 use Rattle.bsc_turn.proofs.Beginnings.{starts_self}
 use Rattle.bsc_hub.specs.declared.hub.Hub.{Hub}
-use Rattle.bsc_hub.specs.Passing.{Went, about_of}
+use Rattle.bsc_hub.specs.Passing.{Went}
 use Rattle.bsc_hub.proofs.Following.{went_then}
 use Rattle.bsc_edge.specs.declared.fault.LinkFault.{LinkFault}
 use Rattle.bsc_edge.specs.declared.unstarted.Unstarted.{Unstarted}
@@ -21,7 +21,7 @@ use Rattle.bsc_edge.proofs.Common.{grows_none}
 use Rattle.bsc_serve.specs.Terms.{Terms}
 use Rattle.bsc_session.specs.declared.job.SessionJob.{SessionJob}
 use Rattle.bsc_session.specs.Jobs.{policy_of}
-use Rattle.bsc_serve.specs.Fates.{IsJobOf, IsSplitIn, returned, spent, started}
+use Rattle.bsc_serve.specs.Fates.{IsJobOf, IsSplitIn, returned, started}
 use Rattle.bsc_serve.specs.Inner.{Draws, Fares, HandsOver, LacksRoom, SplitsOff, TakesBack, giver, limit_of}
 use Rattle.bsc_serve.specs.Serving.{RoseBy}
 use Rattle.bsc_serve.specs.Worlds.{Stock}
@@ -86,20 +86,6 @@ module _ {L C N : Type 0} (begins : Option (List ℕ) → ℕ → N → Type 0) 
     pub journal : begins terms.prefix (number_of j.pass) j.journal
     pub is_recorded : j.is_recorded ≡ is_some terms.prefix
     pub policy : policy_of j.policy ≡ terms.policy
-
-  -- there was no number
-  pub fares_spent : (h : Hub) (terms : Terms) (p q : Pass) (l : L) (s : Stock L C N)
-      → Went h p 1 [] None q → newest_number q ≡ (about_of h).limits.callers → Fares begins h terms l (giver p s) (giver q s) (Ok false)
-  fares_spent h terms p q l s went all = record {
-    fate = spent;
-    is = all;
-    jobs = grows_none s.jobs;
-    out = sym (append-nil s.out);
-    went = went;
-    draws = all;
-    rose = inl (omega arith);
-    counts = refl;
-  }
 
   started_so : (h : Hub) (terms : Terms) (p m x : Pass) (l : L) (job : SessionJob L C N) → SplitsOff h p m x → IsMadeFor h terms x l job
       → IsJobOf begins h terms p m l job

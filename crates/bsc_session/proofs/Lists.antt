@@ -16,12 +16,6 @@ grows_stays (Some a) (Some b) h = h ∙ sym (append-nil a)
 pub grows_as : {A : Type 0} (o p : Option (List A)) (xs ys : List A) → xs ≡ ys → Grows o p xs → Grows o p ys
 grows_as o p xs ys e h = rw e at h
 
--- the last of some puts has the fault
-pub puts-more : (os : List (List ℕ)) (o : List ℕ) (fault : Option LinkFault) → puts (os ++ o ∷ []) fault ≡ puts os None ++ puts (o ∷ []) fault
-puts-more [] o fault = refl
-puts-more (p ∷ []) o fault = refl
-puts-more (p ∷ (q ∷ os)) o fault = ap (λ w. puts (p ∷ []) None ++ w) (puts-more (q ∷ os) o fault)
-
 pub standing-more : (v : Terms) (s : Standing) (ts : List Turn) (t : Turn) → standing v s (ts ++ t ∷ []) ≡ after v (standing v s ts) t
 standing-more v s [] t = refl
 standing-more v s (u ∷ ts) t = standing-more v (after v s u) ts t

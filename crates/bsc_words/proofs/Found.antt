@@ -1,11 +1,11 @@
 -- What is asked for by what `clap` finds.
-use Rattle.std.proofs.Common.{◌≡◌, ◌≢◌, ◌∙◌, true, codes, List, [], ◌∷◌, Option, Some, None, refl, sym, ap, ap₂}
+use Rattle.std.proofs.Common.{◌≡◌, ◌≢◌, ◌∙◌, true, codes, List, [], ◌∷◌, Option, None, refl, sym, ap, ap₂}
 use Rattle.std.proofs.lemmas.Bool.{and_parts}
 use Rattle.clap.specs.Words.{App, Kinds, Row, Text, fault_of, first_of, is_simple, is_simple_and_free, matches_of}
 use Rattle.clap.specs.Faults.{is_free_app}
 use Rattle.clap.specs.Simple.{built}
 use Rattle.bsc_words.specs.Commands.{replay_app, simulate_app, check_app, audit_app, hub_app, node_app, load_app}
-use Rattle.bsc_words.specs.Words.{AskedOf, replay, simulate, check, audit, hub_of, node_of, load_of, unless}
+use Rattle.bsc_words.specs.Words.{AskedOf, hub_of, node_of, load_of, unless}
 use Rattle.bsc_words.specs.Words.{replay_asked, simulate_asked, check_asked, audit_asked, hub_asked, node_asked, load_asked}
 
 pub simple_of : (app : App) → is_simple_and_free app ≡ true → is_simple app ≡ true
@@ -66,23 +66,11 @@ module _ (app : App) (words : List Text) where
   pub replay_faulty : app ≡ replay_app → fault_of app words ≢ [] → replay_asked words ≡ None
   replay_faulty is faulty = none_if_faulty _ _ (other_fault replay_app is faulty)
 
-  pub replay_fine : app ≡ replay_app → fault_of app words ≡ [] → replay_asked words ≡ Some replay
-  replay_fine is fine = asked_if_fine _ _ (sym (ap (λ a. fault_of a words) is) ∙ fine)
-
   pub simulate_faulty : app ≡ simulate_app → fault_of app words ≢ [] → simulate_asked words ≡ None
   simulate_faulty is faulty = none_if_faulty _ _ (other_fault simulate_app is faulty)
-
-  pub simulate_fine : app ≡ simulate_app → fault_of app words ≡ [] → simulate_asked words ≡ Some simulate
-  simulate_fine is fine = asked_if_fine _ _ (sym (ap (λ a. fault_of a words) is) ∙ fine)
 
   pub check_faulty : app ≡ check_app → fault_of app words ≢ [] → check_asked words ≡ None
   check_faulty is faulty = none_if_faulty _ _ (other_fault check_app is faulty)
 
-  pub check_fine : app ≡ check_app → fault_of app words ≡ [] → check_asked words ≡ Some check
-  check_fine is fine = asked_if_fine _ _ (sym (ap (λ a. fault_of a words) is) ∙ fine)
-
   pub audit_faulty : app ≡ audit_app → fault_of app words ≢ [] → audit_asked words ≡ None
   audit_faulty is faulty = none_if_faulty _ _ (other_fault audit_app is faulty)
-
-  pub audit_fine : app ≡ audit_app → fault_of app words ≡ [] → audit_asked words ≡ Some audit
-  audit_fine is fine = asked_if_fine _ _ (sym (ap (λ a. fault_of a words) is) ∙ fine)
