@@ -1,6 +1,6 @@
 -- What holds of every legal history.
 use Rattle.std.specs.Prelude.{◌≡◌, ◌≢◌, ◌≤◌, ◌+◌, ◌⊎◌, ℕ, ◌==◌, Bool, false, not, ◌&&◌, is_none, if◌then◌else◌, count_by, List, [], ◌∷◌}
-use Rattle.std.specs.Prelude.{◌++◌, length, Option, Some, None, IsTrue, ⊤}
+use Rattle.std.specs.Prelude.{◌++◌, length, Option, Some, IsTrue, ⊤}
 use Rattle.std.specs.List.{AllByRecursion, list_any, range_with_len}
 use Rattle.bsc_octets.specs.declared.identity.Identity.{Identity}
 use Rattle.bsc_octets.specs.Forwarding.{destination, is_broadcast, out}
@@ -170,11 +170,6 @@ abbrev pub EndsByCause : List Entry → Type 0
 EndsByCause H = (c : ℕ) (ending : End) → ended H c ≡ Some ending →
     (before : List Entry) × (e : Entry) × (after : List Entry) ×
     (H ≡ before ++ e ∷ after) × IsTrue (is_live before c) × IsCause c ending e
-
--- an option, kept where its value passes a test
-abbrev pub kept_if : {A : Type 0} → (A → Bool) → Option A → Option A
-kept_if stays None = None
-kept_if stays (Some x) = if stays x then Some x else None
 
 -- A Forward adds its frame to the outboxes that its reply names, and to no other.
 abbrev pub AddsAsNamed : About → List Entry → Type 0
