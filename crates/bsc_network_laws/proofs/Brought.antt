@@ -44,6 +44,7 @@ use Rattle.bsc_network_laws.specs.Carrying.{is_npdu}
 use Rattle.bsc_network_laws.proofs.Acting.{Among}
 use Rattle.bsc_network_laws.proofs.Events.{among-both}
 use Rattle.bsc_network_laws.proofs.Sent.{IsOfSend, put_is_of_send}
+use Rattle.bsc_network_laws.proofs.Named.{all-among}
 use Rattle.bsc_lemmas.proofs.Numbers.{small_id}
 use Rattle.bsc_node.proofs.Common.{no_word_then}
 use Rattle.bsc_node.proofs.Moments.{now_then}
@@ -92,11 +93,6 @@ by-each P T a L e below timely word fit one two =
         → Among action (actions_at a L (at_once T e)) ⊎ Among action (actions_at a (L ++ goes_on a (at_once T e) L) (at_once T NoRandom)) → IsTrue (may_come L (at_once T e)) → P action
     either_of next action (inl h) may = one may action h
     either_of next action (inr h) may = two (L ++ goes_on a (at_once T e) L) next action h
-
-all-among : (P : Action → Type 0) (xs : List Action) (x : Action) → AllByRecursion P xs → Among x xs → P x
-all-among P [] x all none = absurd none
-all-among P (y ∷ xs) x all (inl same) = subst P (sym same) all.0
-all-among P (y ∷ xs) x all (inr later) = all-among P xs x all.1 later
 
 -- ---- peers
 

@@ -135,7 +135,7 @@ by-call : (w : World) (j caller place : ℕ) (call : Call) → ((h : Hub) → hu
 by-call w j caller place call = by-called w (called j caller place call w) j caller place call refl (lasts-none w.links)
 
 -- a connect that isn't answered with a connection
-none_made : (P : Connection → Type 0) (caller : ℕ) (who : Identity) (r : Reply) → says_joined r ≡ false → AllByRecursion P (option_to_list (made_by caller (Connect who) r))
+pub none_made : (P : Connection → Type 0) (caller : ℕ) (who : Identity) (r : Reply) → says_joined r ≡ false → AllByRecursion P (option_to_list (made_by caller (Connect who) r))
 none_made P caller who (Joined c replaced) h = cc
 none_made P caller who r h = tt
 

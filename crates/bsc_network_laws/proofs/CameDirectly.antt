@@ -1,20 +1,17 @@
 -- What is delivered of a message that came from a node over a direct connection came over it from the Send at its place; and that stays
 -- so.
-use Rattle.std.proofs.Common.{◌≡◌, ℕ, Bool, true, false, cond, List, [], ◌∷◌, Option, Some, None, refl, ap, sym, subst, ◌∙◌}
-use Rattle.std.specs.Prelude.{◌==◌, IsTrue, filter, filter_map}
-use Rattle.std.specs.List.{AllByRecursion}
+use Rattle.std.proofs.Common.{◌≡◌, ℕ, Bool, true, false, List, Option, Some, None, refl, ap, sym, subst, ◌∙◌}
+use Rattle.std.specs.Prelude.{IsTrue, filter_map}
 use Rattle.std.proofs.lemmas.List.Elements.{filter_map-append}
 use Rattle.bsc_direct.proofs.OneMore.{both_ways}
 use Rattle.bsc_octets.specs.declared.identity.Identity.{Identity}
 use Rattle.bsc_octets.specs.declared.vmac.Vmac.{Vmac}
 use Rattle.bsc_octets.specs.Forwarding.{function_in}
 use Rattle.bsc_frame.specs.declared.message.Message.{Message}
-use Rattle.bsc_frame.specs.declared.body.Body.{Body}
 use Rattle.bsc_frame.specs.declared.body.Body.TheVariants.{Npdu}
 use Rattle.bsc_checks.specs.declared.verdict.Verdict.TheVariants.{Pass}
 use Rattle.bsc_checks.specs.Options.{rest_of, data_options_in}
 use Rattle.bsc_checks.specs.Outcomes.{message_in, outcome_of}
-use Rattle.bsc_checks.specs.Payloads.{body_in}
 use Rattle.bsc_node.specs.declared.link_name.LinkName.{LinkName}
 use Rattle.bsc_node.specs.declared.link_name.LinkName.TheVariants.{Hub as HubName, Direct}
 use Rattle.bsc_node.specs.declared.node_event.NodeEvent.{NodeEvent}
@@ -26,6 +23,7 @@ use Rattle.bsc_node.specs.Laws.{with_event, with_heard, delivery}
 use Rattle.bsc_node.specs.Links.{same_link, place as place_at, verdict}
 use Rattle.bsc_node.specs.Logs.{Made}
 use Rattle.bsc_node.specs.Receiving.{is_for_all, sender}
+use Rattle.bsc_node.proofs.Heard.{is_npdu_body}
 use Rattle.bsc_node_identity.specs.Naming.{named_by}
 use Rattle.bsc_node_identity.proofs.Carried.{passed-said, npdus_plainly}
 use Rattle.bsc_node_identity.proofs.Events.{sender-was_peer}
@@ -52,25 +50,13 @@ use Rattle.bsc_network_laws.proofs.Brought.{at_once}
 use Rattle.bsc_network_laws.proofs.OtherEnds.{LeadsToHub, EndsRight, putter-grows, receiver-grows, CameBy, came-end}
 use Rattle.bsc_network_laws.proofs.DirectLinks.{IsSentDirectly, AllDirect, among-longer, established-grows}
 use Rattle.bsc_network_laws.proofs.Directly.{each-among, held-name}
+use Rattle.bsc_network_laws.proofs.Receipts.{no_npdu_in}
+use Rattle.bsc_network_laws.proofs.Passing.{all_unfiltered}
 use Rattle.bsc_frame.proofs.Common.{same_npdu}
 use Rattle.bsc_lemmas.proofs.Lists.{all-at}
 use Rattle.std.proofs.lemmas.Option.{same_Some as some_same}
 
 -- ---- what passes with an NPDU is one
-
-abbrev has_npdu : Body → Bool
-has_npdu (Npdu npdu) = true
-has_npdu body = false
-
-none_if : (b : Bool) (x y : Body) → (b ≡ true → has_npdu x ≡ false) → has_npdu y ≡ false → has_npdu (cond b x y) ≡ false
-none_if true x y p q = p refl
-none_if false x y p q = q
-
-none_in : (f : ℕ) (p : List ℕ) → (f == 0x01) ≡ false → has_npdu (body_in f p) ≡ false
-none_in f p other =
-    none_if (f == 0x00) _ _ (λ e. refl) (none_if (f == 0x01) _ _ (λ e. both_ways (f == 0x01) e other) (none_if (f == 0x02) _ _ (λ e. refl) (none_if (f == 0x03) _ _ (λ e. refl) (none_if (f == 0x04) _ _ (λ e. refl) (none_if (f == 0x05) _ _ (λ e. refl)
-    (none_if (f == 0x06) _ _ (λ e. refl) (none_if (f == 0x07) _ _ (λ e. refl) (none_if (f == 0x08) _ _ (λ e. refl) (none_if (f == 0x09) _ _ (λ e. refl)
-    (none_if (f == 0x0A) _ _ (λ e. refl) (none_if (f == 0x0B) _ _ (λ e. refl) refl)))))))))))
 
 pub npdu-said : (o : List ℕ) (msg : Message) (npdu : List ℕ) → message_in o ≡ msg → msg.body ≡ Npdu npdu → is_npdu o ≡ true
 npdu-said o msg npdu said body = by (is_npdu o) refl
@@ -78,18 +64,7 @@ npdu-said o msg npdu said body = by (is_npdu o) refl
     by : (b : Bool) → is_npdu o ≡ b → is_npdu o ≡ true
     by true is = is
     by false is =
-        both_ways (has_npdu msg.body) (ap has_npdu body) (sym (ap (λ (m : Message). has_npdu m.body) said) ∙ none_in (function_in o) (rest_of (data_options_in o)) is)
-
--- ---- what stands on a way is among its messages
-
-all-passing : {A : Type 0} (P : A → Type 0) (test : A → Bool) (xs : List A) → AllByRecursion P (filter test xs) → AllByRecursion (λ x. test x ≡ true → P x) xs
-all-passing P test [] all = tt
-all-passing P test (x ∷ xs) all = by (test x) refl all (all-passing P test xs)
-  where
-    by : (b : Bool) → test x ≡ b → AllByRecursion P (cond b (x ∷ filter test xs) (filter test xs)) → (AllByRecursion P (filter test xs) → AllByRecursion (λ y. test y ≡ true → P y) xs)
-        → (test x ≡ true → P x) × AllByRecursion (λ y. test y ≡ true → P y) xs
-    by true is h later = (λ passes. h.0, later h.1)
-    by false is h later = (λ passes. both_ways (test x) passes is, later h)
+        both_ways (is_npdu_body msg.body) (ap is_npdu_body body) (sym (ap (λ (m : Message). is_npdu_body m.body) said) ∙ no_npdu_in (function_in o) (rest_of (data_options_in o)) is)
 
 -- ---- a delivery
 
@@ -140,7 +115,7 @@ came_directly S cast w k n by e name o other c msg npdu v passed body from = (
     sent : IsSentDirectly S cast w a.link a.way other k (record { octets = o; sent_at = a.sent_at })
     sent =
         all-messages (λ (f : Frame). is_npdu f.octets ≡ true → IsSentDirectly S cast w a.link a.way other k f) (traffic a.way c.over.link).put c.over.place o a.sent_at
-        (all-passing (IsSentDirectly S cast w a.link a.way other k) (λ (f : Frame). is_npdu f.octets) (messages (traffic a.way c.over.link))
+        (all_unfiltered (IsSentDirectly S cast w a.link a.way other k) (λ (f : Frame). is_npdu f.octets) (messages (traffic a.way c.over.link))
         (c.direct a.link c.over.link a.way other k (record { link = c.over.found; puts = c.puts; hears = c.over.heard }))) c.over.stood
         (npdu-said o msg npdu (passed-said o (place_at n.made (with_event n.log event) name) n.made.own.max_bvlc msg passed) body)
 

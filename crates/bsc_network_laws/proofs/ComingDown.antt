@@ -1,6 +1,5 @@
 -- An NPDU on the way down from a hub was passed on to the connection that joined by this link.
-use Rattle.std.proofs.Common.{◌≡◌, ℕ, zero, suc, true, List, [], ◌∷◌, ◌++◌, Option, Some, None, refl, ap, sym, subst, ◌∙◌}
-use Rattle.std.specs.Prelude.{take}
+use Rattle.std.proofs.Common.{◌≡◌, ℕ, List, ◌∷◌, ◌++◌, Option, Some, None, refl, ap, sym, subst, ◌∙◌}
 use Rattle.std.specs.List.{AllByRecursion}
 use Rattle.std.proofs.lemmas.List.{map-append}
 use Rattle.bsc_history.specs.declared.connection.Connection.{Connection}
@@ -12,24 +11,15 @@ use Rattle.bsc_history.specs.Legality.{Legal}
 use Rattle.bsc_network.specs.Worlds.{World, Hub, Posted, entries, history}
 use Rattle.bsc_network.specs.Outboxes.{Frame, frames}
 use Rattle.bsc_network.proofs.Places.{all-mapped}
-use Rattle.bsc_network_laws.specs.Carrying.{Sendings, is_npdu, npdus, taken_of}
+use Rattle.bsc_network_laws.specs.Carrying.{Sendings, npdus, taken_of}
 use Rattle.bsc_network_laws.specs.Passing.{IsPassedOn, IsPassedTo, IsPassedBy, PassesOn, ComesDown}
 use Rattle.bsc_network_laws.proofs.Taken.{SidesFit, LinkFits}
 use Rattle.bsc_network_laws.proofs.Joins.{SidesJoined}
 use Rattle.bsc_network_laws.proofs.Legally.{Legally}
-use Rattle.bsc_network_laws.proofs.Passing.{all_filtered, all_unfiltered, found_in, joined_by}
+use Rattle.bsc_network_laws.proofs.Passing.{found_in, joined_by}
 use Rattle.bsc_network_laws.proofs.Numbering.{joined_longer}
+use Rattle.bsc_network_laws.proofs.OutboxOnce.{all-taken}
 use Rattle.bsc_lemmas.proofs.Lists.{all-at}
-
-all_taken : {A : Type 0} (P : A → Type 0) (n : ℕ) (xs : List A) → AllByRecursion P xs → AllByRecursion P (take n xs)
-all_taken P zero xs all = tt
-all_taken P (suc n) [] all = tt
-all_taken P (suc n) (x ∷ xs) all = (all.0, all_taken P n xs all.1)
-
--- those that were taken are among those that entered
-taken-npdus : (P : Frame → Type 0) (n : ℕ) (fs : List Frame) → AllByRecursion P (npdus fs) → AllByRecursion P (npdus (take n fs))
-taken-npdus P n fs all =
-    all_filtered P (λ f. is_npdu f.octets) (take n fs) (all_taken (λ f. is_npdu f.octets ≡ true → P f) n fs (all_unfiltered P (λ f. is_npdu f.octets) fs all))
 
 -- who was sent to has joined
 to_has_joined : (S : Sendings) (w : World) (posted : List Posted) (to : Connection) (f : Frame) → IsPassedOn S w posted to f → In to (joined (entries posted))
@@ -48,4 +38,4 @@ comes_down S w joins legally fit passes l j h link here leads at =
     by (Some c) is =
         all-mapped (IsPassedTo S w h.posted c) (IsPassedBy S w h.posted l)
         (λ f p. (p.0, joined_by h l c p.0 (all-at (λ (x : Hub). Legal x.about (history x)) w.hubs j h legally.legal at) (joins l j h link c (record { hub = at; link = here; leads = leads }) is) (to_has_joined S w h.posted p.0 f p.2) p.1, p.2))
-        (npdus (taken_of h (Some c) link.side.taken)) (taken-npdus (IsPassedTo S w h.posted c) link.side.taken (frames h c) (passes j h c at))
+        (npdus (taken_of h (Some c) link.side.taken)) (all-taken (IsPassedTo S w h.posted c) link.side.taken (frames h c) (passes j h c at))

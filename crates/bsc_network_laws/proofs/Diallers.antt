@@ -1,20 +1,16 @@
 -- After each step, a connection of a hub has the identity of the node that dialled its link.
-use Rattle.std.proofs.Common.{◌≡◌, ℕ, Bool, true, false, cond, List, [], ◌∷◌, ◌++◌, Option, Some, None, option_to_list, refl, ap, sym, subst, ◌∙◌}
+use Rattle.std.proofs.Common.{◌≡◌, ℕ, Bool, true, false, List, [], ◌∷◌, ◌++◌, Option, Some, None, option_to_list, refl, ap, sym, subst, ◌∙◌}
 use Rattle.std.specs.Prelude.{◌+◌, slice_get, ⊤}
 use Rattle.std.specs.Option.{option_map}
 use Rattle.std.specs.List.{AllByRecursion}
 use Rattle.std.proofs.lemmas.List.{map-append}
 use Rattle.bsc_octets.specs.declared.identity.Identity.{Identity}
 use Rattle.bsc_frame.specs.declared.message.Message.{Message}
-use Rattle.bsc_frame.specs.declared.body.Body.{Body}
-use Rattle.bsc_frame.specs.declared.body.Body.TheVariants.{DisconnectRequest, HeartbeatRequest}
 use Rattle.bsc_frame.specs.Payloads.{IsNode}
-use Rattle.bsc_history.specs.declared.connection.Connection.{Connection}
 use Rattle.bsc_history.specs.declared.call.Call.{Call}
 use Rattle.bsc_history.specs.declared.call.Call.TheVariants.{Connect, Forward}
-use Rattle.bsc_history.specs.declared.reply.Reply.{Reply}
 use Rattle.bsc_history.specs.declared.reply.Reply.TheVariants.{Joined}
-use Rattle.bsc_history.specs.Entries.{made_by, connection_of}
+use Rattle.bsc_history.specs.Entries.{connection_of}
 use Rattle.bsc_history.specs.Ends.{joined}
 use Rattle.bsc_history.proofs.More as More
 use Rattle.bsc_checks.specs.declared.place.Place.{Place}
@@ -60,6 +56,8 @@ use Rattle.bsc_network_laws.proofs.Holding.{Keep, KeepFrom, keep-log}
 use Rattle.bsc_network_laws.proofs.Holding as Holding
 use Rattle.bsc_network_laws.proofs.Casting.{KnowsAll, knows_all, AmidAll, hears-all}
 use Rattle.bsc_network_laws.proofs.Named.{Named, arrived-up, named_stays}
+use Rattle.bsc_network_laws.proofs.Callers.{none_made}
+use Rattle.bsc_network_laws.proofs.SideFits.{asks, asks-if, asks-connected}
 use Rattle.bsc_accept.proofs.Common.{asked_by as asked_who}
 use Rattle.bsc_history.proofs.Common.{one_made}
 use Rattle.bsc_lemmas.proofs.Lists.{all-at, all_append as all-joined}
@@ -72,19 +70,6 @@ pub record IsAskedBy (v : Verdict) (who : Identity) : Type 0 where
   pub message : Message
   pub passed : v ≡ Pass message
   pub asks : who_asks message.body ≡ Some who
-
-abbrev asks : Step → Bool
-asks (Ask who) = true
-asks other = false
-
-asks-if : (b : Bool) (x y : Step) → asks x ≡ false → asks y ≡ false → asks (cond b x y) ≡ false
-asks-if true x y p q = p
-asks-if false x y p q = q
-
-asks-connected : (id : ℕ) (body : Body) → asks (connected_step id body) ≡ false
-asks-connected id HeartbeatRequest = refl
-asks-connected id DisconnectRequest = refl
-asks-connected id body = refl
 
 not_asked : (st : Step) (who : Identity) → asks st ≡ false → Ask who ≡ st → ⊥
 not_asked st who none is = no (ap asks is ∙ none)
@@ -155,11 +140,6 @@ joins-more cast w caller place call h all one =
 inv-called : (cast : Cast) (w : World) (j caller place : ℕ) (call : Call) → ((h : Hub) → hub_at w j ≡ Some h → AllByRecursion (IsOfDialler cast w) (option_to_list (connection_of (entry_in w h caller call))))
     → Inv cast w → Inv cast (called j caller place call w)
 inv-called cast w j caller place call one = all-changed_here (JoinsDiallers cast w) j (with_call w caller place call) w.hubs (λ h here all. joins-more cast w caller place call h all (one h here))
-
--- a connect that isn't answered with a connection
-none_made : (P : Connection → Type 0) (caller : ℕ) (who : Identity) (r : Reply) → says_joined r ≡ false → AllByRecursion P (option_to_list (made_by caller (Connect who) r))
-none_made P caller who (Joined c replaced) h = cc
-none_made P caller who r h = tt
 
 -- ---- the moves of a step
 

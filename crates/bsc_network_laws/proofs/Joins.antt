@@ -3,15 +3,13 @@ use Rattle.std.proofs.Common.{◌≡◌, ◌⊎◌, inl, inr, ℕ, ◌==◌, Boo
 use Rattle.std.specs.Prelude.{◌+◌, length, slice_get, ⊤}
 use Rattle.std.specs.List.{list_any}
 use Rattle.std.specs.Option.{option_map}
-use Rattle.std.proofs.lemmas.List.{map-append}
 use Rattle.bsc_octets.specs.declared.identity.Identity.{Identity}
 use Rattle.bsc_history.specs.declared.call.Call.{Call}
 use Rattle.bsc_history.specs.declared.call.Call.TheVariants.{Connect}
 use Rattle.bsc_history.specs.declared.reply.Reply.{Reply}
 use Rattle.bsc_history.specs.declared.reply.Reply.TheVariants.{Joined}
-use Rattle.bsc_history.specs.Entries.{made_by, connection_of}
+use Rattle.bsc_history.specs.Entries.{made_by}
 use Rattle.bsc_history.specs.Ends.{joined}
-use Rattle.bsc_history.proofs.More as More
 use Rattle.bsc_accept.specs.declared.event.Event.TheVariants.{Joined as HasJoined}
 use Rattle.bsc_node.specs.declared.link_name.LinkName.{LinkName}
 use Rattle.bsc_network.specs.declared.world_step.WorldStep.{WorldStep}
@@ -25,9 +23,9 @@ use Rattle.bsc_network.specs.declared.arrival.Arrival.{Arrival}
 use Rattle.bsc_network.specs.declared.parcel.Content.{Content}
 use Rattle.bsc_network.specs.declared.parcel.Content.TheVariants.{Message, Closed}
 use Rattle.bsc_network.specs.Traffic.{Traffic}
-use Rattle.bsc_network.specs.Worlds.{World, Hub, HubSide, Node, Link, Posted, history, hub_at, node_at, link_at}
+use Rattle.bsc_network.specs.Worlds.{World, Hub, HubSide, Node, Link, history, hub_at, node_at, link_at}
 use Rattle.bsc_network.specs.Changes.{with_found, with_link, with_side, with_traffic}
-use Rattle.bsc_network.specs.HubCalls.{called, entry_in, reply_in}
+use Rattle.bsc_network.specs.HubCalls.{called, reply_in}
 use Rattle.bsc_network.specs.NodeSides.{other_way, hold_of, puts_on, puts_by}
 use Rattle.bsc_network.specs.Dialling.{dials, new_link}
 use Rattle.bsc_network.proofs.Places.{got-changed, got-last_of, get-changed}
@@ -36,6 +34,7 @@ use Rattle.bsc_network_laws.proofs.Moves.{HasSide, IsSide, Lets}
 use Rattle.bsc_network_laws.proofs.Acting.{LetsActs, lets-hears}
 use Rattle.bsc_network_laws.proofs.Sides.{with_call}
 use Rattle.bsc_network_laws.proofs.Stepping.{begun, lets-makes}
+use Rattle.bsc_network_laws.proofs.Callers.{joined-called as history-more}
 use Rattle.bsc_lemmas.proofs.Booleans.{eq_self as same_number}
 use Rattle.bsc_network.proofs.Common.{same_hub}
 use Rattle.std.proofs.lemmas.Bool.{or_right as or-right}
@@ -83,10 +82,6 @@ any-more f (x ∷ xs) ys h = or-more (f x) (list_any f xs) (list_any f (xs ++ ys
 any-last : {A : Type 0} (f : A → Bool) (xs : List A) (y : A) → f y ≡ true → list_any f (xs ++ y ∷ []) ≡ true
 any-last f [] y h = ap (λ b. b || false) h
 any-last f (x ∷ xs) y h = or-right (f x) (list_any f (xs ++ y ∷ [])) (any-last f xs y h)
-
-history-more : (w : World) (caller place : ℕ) (call : Call) (h : Hub) → joined (history (with_call w caller place call h)) ≡ joined (history h) ++ option_to_list (connection_of (entry_in w h caller call))
-history-more w caller place call h =
-    ap joined (map-append (λ (p : Posted). p.entry) h.posted (record { entry = entry_in w h caller call; sent_at = place } ∷ [])) ∙ More.joined-more (history h) (entry_in w h caller call)
 
 -- what joined before has joined still
 joined-before : (w : World) (caller place : ℕ) (call : Call) (h : Hub) (l c : ℕ) → HasJoinedBy h l c → HasJoinedBy (with_call w caller place call h) l c

@@ -147,7 +147,7 @@ own-same a L e wordless vmac = ap (λ v. record a.own { vmac = v }) (own_vmac-ev
     own_vmac-event : own_vmac a (with_event L e) ≡ own_vmac a L
     own_vmac-event = own_vmac-same a L (came e) wordless
 
-all-among : (P : Action → Type 0) (xs : List Action) (x : Action) → AllByRecursion P xs → Among x xs → P x
+pub all-among : (P : Action → Type 0) (xs : List Action) (x : Action) → AllByRecursion P xs → Among x xs → P x
 all-among P [] x all none = absurd none
 all-among P (y ∷ xs) x all (inl same) = subst P (sym same) all.0
 all-among P (y ∷ xs) x all (inr later) = all-among P xs x all.1 later

@@ -3,7 +3,6 @@ use Rattle.std.proofs.Common.{◌≡◌, ◌<◌, ◌⊎◌, inl, inr, ℕ, Bool
 use Rattle.std.specs.Prelude.{◌^◌, IsTrue, if◌then◌else◌, filter_map, map}
 use Rattle.std.specs.List.{list_any}
 use Rattle.std.specs.Option.{option_map}
-use Rattle.std.proofs.lemmas.List.Elements.{filter_map-append}
 use Rattle.bsc_octets.specs.declared.vmac.Vmac.{Vmac}
 use Rattle.bsc_direct.specs.declared.routes.Route.{Route}
 use Rattle.bsc_direct.specs.declared.routes.Route.TheVariants.{Direct as ByDirect, Hub as ByHub, NoPath as ByNone}
@@ -13,7 +12,7 @@ use Rattle.bsc_node.specs.declared.node_event.NodeEvent.{NodeEvent}
 use Rattle.bsc_node.specs.declared.node_event.NodeEvent.TheVariants.{Send, NoRandom}
 use Rattle.bsc_node.specs.declared.timed_event.TimedEvent.{TimedEvent}
 use Rattle.bsc_node.specs.declared.action.Action.TheVariants.{Put}
-use Rattle.bsc_node.specs.Logs.{Made, Log, action_of, in_order, next_id}
+use Rattle.bsc_node.specs.Logs.{Log, action_of, in_order, next_id}
 use Rattle.bsc_node.specs.Hubs.{hub_use, link_in_use}
 use Rattle.bsc_node.specs.Ways.{Way as NodeWay, way, way_by, slot_calls}
 use Rattle.bsc_node.specs.Node.{goes_on, actions_at}
@@ -35,9 +34,9 @@ use Rattle.bsc_network_laws.proofs.Acting.{Among}
 use Rattle.bsc_network_laws.proofs.Moves.{Comes}
 use Rattle.bsc_network_laws.proofs.Sent.{IsOfSend, put_is_of_send}
 use Rattle.bsc_network_laws.proofs.Timing.{no_word_comes}
+use Rattle.bsc_network_laws.proofs.Events.{among-both, actions-one, actions-two}
 use Rattle.bsc_lemmas.proofs.Numbers.{small_id}
 use Rattle.bsc_node.proofs.Common.{no_word_then}
-use Rattle.bsc_node.proofs.Following.{brought-one, brought-two}
 use Rattle.bsc_node.proofs.Moments.{now_then}
 
 -- ---- the way of a Send
@@ -71,25 +70,6 @@ sent_is_own D w k n (Some a) e dest npdu (content, heard, came, is) sent = absur
 sent_is_own D w k n None e dest npdu (inl own) sent = own.0 ∙ ap (OfNode k) sent
 sent_is_own D w k n None e dest npdu (inr (inl (l, way, name, is, held))) sent = cc
 sent_is_own D w k n None e dest npdu (inr (inr (name, is))) sent = cc
-
--- ---- the actions of an event, and of the answer to a word that is drawn
-
-among-both : {A : Type 0} (x : A) (xs ys : List A) → Among x (xs ++ ys) → Among x xs ⊎ Among x ys
-among-both x [] ys h = inr h
-among-both x (y ∷ xs) ys (inl same) = inl (inl same)
-among-both x (y ∷ xs) ys (inr later) = next (among-both x xs ys later)
-  where
-    next : Among x xs ⊎ Among x ys → Among x (y ∷ xs) ⊎ Among x ys
-    next (inl g) = inl (inr g)
-    next (inr g) = inr g
-
-actions-one : (a : Made) (e : TimedEvent) (L : Log) → filter_map action_of (in_order (goes_on a e ∷ []) L) ≡ actions_at a L e
-actions-one a e L = ap (filter_map action_of) (brought-one a e L)
-
-actions-two : (a : Made) (e r : TimedEvent) (L : Log) → filter_map action_of (in_order (goes_on a e ∷ goes_on a r ∷ []) L) ≡ actions_at a L e ++ actions_at a (L ++ goes_on a e L) r
-actions-two a e r L =
-    ap (filter_map action_of) (brought-two a e r L)
-    ∙ filter_map-append action_of (goes_on a e L) (goes_on a r (L ++ goes_on a e L))
 
 -- ---- an NPDU that is put
 

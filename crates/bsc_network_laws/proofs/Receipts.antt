@@ -28,6 +28,7 @@ use Rattle.bsc_node.specs.Receiving.{sender}
 use Rattle.bsc_node.specs.Logs.{Made, Log, action_of}
 use Rattle.bsc_node.specs.Node.{actions_at}
 use Rattle.bsc_node.proofs.Delivering.{delivers_what_came}
+use Rattle.bsc_node.proofs.Heard.{is_npdu_body}
 use Rattle.bsc_node_identity.proofs.Carried.{passed-said}
 use Rattle.bsc_node_identity.proofs.Timely.{Timely}
 use Rattle.bsc_network.specs.declared.world_step.WorldStep.{WorldStep}
@@ -163,15 +164,11 @@ arrived_next B w l way p come begins x here =
 
 -- ---- what is delivered is an NPDU
 
-abbrev is_npdu_body : Body → Bool
-is_npdu_body (Npdu npdu) = true
-is_npdu_body body = false
-
 no-if : (b : Bool) (x y : Body) → (b ≡ true → is_npdu_body x ≡ false) → is_npdu_body y ≡ false → is_npdu_body (cond b x y) ≡ false
 no-if true x y p q = p refl
 no-if false x y p q = q
 
-no_npdu_in : (f : ℕ) (p : List ℕ) → (f == 0x01) ≡ false → is_npdu_body (body_in f p) ≡ false
+pub no_npdu_in : (f : ℕ) (p : List ℕ) → (f == 0x01) ≡ false → is_npdu_body (body_in f p) ≡ false
 no_npdu_in f p npdu =
     no-if (f == 0x00) _ _ (λ e. refl) (no-if (f == 0x01) _ _ (λ e. both_ways (f == 0x01) e npdu) (no-if (f == 0x02) _ _ (λ e. refl) (no-if (f == 0x03) _ _ (λ e. refl) (no-if (f == 0x04) _ _ (λ e. refl) (no-if (f == 0x05) _ _ (λ e. refl)
     (no-if (f == 0x06) _ _ (λ e. refl) (no-if (f == 0x07) _ _ (λ e. refl) (no-if (f == 0x08) _ _ (λ e. refl) (no-if (f == 0x09) _ _ (λ e. refl)

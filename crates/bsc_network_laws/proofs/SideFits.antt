@@ -126,15 +126,15 @@ side-takes h k c f conn is fits =
 -- ---- a peer joins
 
 -- whether a step asks about a peer
-abbrev asks : Step → Bool
+abbrev pub asks : Step → Bool
 asks (Ask who) = true
 asks other = false
 
-asks-if : (b : Bool) (x y : Step) → asks x ≡ false → asks y ≡ false → asks (cond b x y) ≡ false
+pub asks-if : (b : Bool) (x y : Step) → asks x ≡ false → asks y ≡ false → asks (cond b x y) ≡ false
 asks-if true x y p q = p
 asks-if false x y p q = q
 
-asks-connected : (id : ℕ) (body : Body) → asks (connected_step id body) ≡ false
+pub asks-connected : (id : ℕ) (body : Body) → asks (connected_step id body) ≡ false
 asks-connected id HeartbeatRequest = refl
 asks-connected id DisconnectRequest = refl
 asks-connected id body = refl

@@ -1,5 +1,5 @@
 -- After each step, each delivery comes from the Send at its place, where each does of which a hub put the message.
-use Rattle.std.proofs.Common.{◌≡◌, ◌<◌, ◌⊎◌, inl, inr, ℕ, true, false, List, [], ◌∷◌, ◌++◌, Option, Some, None, refl, ap, sym, subst, ◌∙◌, append_assoc}
+use Rattle.std.proofs.Common.{◌≡◌, ◌<◌, ◌⊎◌, inl, inr, ℕ, true, false, List, ◌∷◌, ◌++◌, Option, Some, None, refl, ap, sym, subst, ◌∙◌, append_assoc}
 use Rattle.std.specs.Prelude.{◌^◌, IsTrue, ⊤}
 use Rattle.std.specs.List.{AllByRecursion}
 use Rattle.bsc_octets.specs.declared.vmac.Vmac.{Vmac}
@@ -42,7 +42,7 @@ use Rattle.bsc_network_laws.proofs.Acting.{Among, goes_on_in, EachAct, LetsActs}
 use Rattle.bsc_network_laws.proofs.Beside.{KeepsGiven}
 use Rattle.bsc_network_laws.proofs.Timing.{no_word_comes}
 use Rattle.bsc_network_laws.proofs.Casting.{AmidAll}
-use Rattle.bsc_network_laws.proofs.Sent.{among-filter, delivery_is_of_came}
+use Rattle.bsc_network_laws.proofs.Sent.{among-filter, delivery_is_of_came, only}
 use Rattle.bsc_network_laws.proofs.Lasting.{Lasts, lasts-then, lasts-log}
 use Rattle.bsc_network_laws.proofs.Lasting as Lasting
 use Rattle.bsc_network_laws.proofs.Brought.{at_once, by-each}
@@ -108,10 +108,6 @@ HubsPart S w k n by e =
     (name : LinkName) (o : List ℕ) (c : CameBy w k n name o by) (j : ℕ) (msg : Message) (npdu : List ℕ) (v : Vmac) → e ≡ Came name o → putter c.arrival.way c.link ≡ ToHub j
     → verdict n.made (with_event n.log (at_once w.now e)) name o ≡ Pass msg → msg.body ≡ Npdu npdu → sender name msg (with_heard n.made n.log (at_once w.now e) name o) ≡ Some v
     → IsFrom S w (record { sent_at = c.arrival.sent_at; node = k; delivered = delivery msg npdu v })
-
-only : {A : Type 0} (x y : A) → Among x (y ∷ []) → x ≡ y
-only x y (inl same) = same
-only x y (inr none) = absurd none
 
 same_delivered : (d b : Delivered) → Deliver d ≡ Deliver b → d ≡ b
 same_delivered d b h = cc

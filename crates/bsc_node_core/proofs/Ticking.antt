@@ -11,7 +11,7 @@ use Rattle.bsc_resolve.specs.declared.resolve.Resolve.{Resolve}
 use Rattle.bsc_resolve.specs.Standing.{ResolveStands}
 use Rattle.bsc_node.specs.declared.link_name.LinkName.{LinkName}
 use Rattle.bsc_node.specs.declared.action.Action.{Action}
-use Rattle.bsc_node.specs.Logs.{Made, Log, Rule, in_order, now, next_id}
+use Rattle.bsc_node.specs.Logs.{Made, Log, in_order, now, next_id}
 use Rattle.bsc_node.specs.Links.{Outcome, meets, passes_up, keeps_still, is_there, was_taken, opens, ticks, outcome}
 use Rattle.bsc_node.specs.Ways.{resolve_calls}
 use Rattle.bsc_node.specs.Conditions.{is_dialling, has_opened}
@@ -27,15 +27,10 @@ use Rattle.bsc_node_core.specs.Resolving.{BothStand, asked_by}
 use Rattle.bsc_node_core.specs.Rules.{outcome_of}
 use Rattle.bsc_node_core.specs.Standing.{Base, Stands}
 use Rattle.bsc_node_core.specs.Telling.{HasTold}
-use Rattle.bsc_node_core.proofs.Asking.{both-still}
+use Rattle.bsc_node_core.proofs.Asking.{both-still, two-in-order}
 use Rattle.bsc_node_core.proofs.Branching.{when-so}
-use Rattle.bsc_node_core.proofs.Carrying.{two-is}
 use Rattle.bsc_node_core.proofs.Settling.{settles}
 use Rattle.bsc_lemmas.proofs.Booleans.{second_of_three_not as dialled-by}
-
--- Two rules, one after the other.
-pub two-then : (P : Log → Type 0) (L : Log) (first second : Rule) → P ((L ++ first L) ++ second (L ++ first L)) → P (L ++ in_order (first ∷ second ∷ []) L)
-two-then P L first second h = subst P (sym (two-is L first second)) h
 
 -- ---- no peer names itself by a tick, nor where the WebSocket opens
 
@@ -53,7 +48,7 @@ unmet-opened a name L who d e =
 
 pub ticked : (b : Base) (out : List Action) (s : State) (L : Log) (name : LinkName) → is_there name L ≡ true → Stands b out s ((L ++ ticks name L) ++ obeys b.made name (L ++ ticks name L)) → Stands b out s (L ++ ticks_link b.made name L)
 ticked b out s L name t h =
-    when-so (Stands b out s) L (is_there name) (in_order (ticks name ∷ obeys b.made name ∷ [])) t (two-then (Stands b out s) L (ticks name) (obeys b.made name) h)
+    when-so (Stands b out s) L (is_there name) (in_order (ticks name ∷ obeys b.made name ∷ [])) t (two-in-order (Stands b out s) L (ticks name) (obeys b.made name) h)
 
 -- ---- a message
 

@@ -71,7 +71,7 @@ kept a L e may I keep i =
     subst I (sym (ap (λ (lines : List Line). L ++ lines) (goes_on-is a L e) ∙ sym (append_assoc L (came e ∷ []) (follows a e.event (with_event L e)))))
     (keeps (Why a L e) I keep (with_event L e) (follows a e.event (with_event L e)) (each-why a L e may) i)
 
-fitting : (L : Log) (e : TimedEvent) → IsTrue (may_come L e) → (ev : NodeEvent) → e.event ≡ ev → fits L ev ≡ true
+pub fitting : (L : Log) (e : TimedEvent) → IsTrue (may_come L e) → (ev : NodeEvent) → e.event ≡ ev → fits L ev ≡ true
 fitting L e may ev is = sym (ap (fits L) is) ∙ event_fits L e may
 
 -- ---- the VMAC

@@ -25,7 +25,6 @@ use Rattle.bsc_direct.specs.declared.establish.Establish.TheVariants.{Up as IsUp
 use Rattle.bsc_direct.proofs.OneMore.{both_ways}
 use Rattle.bsc_node.specs.declared.link_name.LinkName.{LinkName}
 use Rattle.bsc_node.specs.declared.link_name.LinkName.TheVariants.{Direct}
-use Rattle.bsc_node.specs.declared.node_event.NodeEvent.{NodeEvent}
 use Rattle.bsc_node.specs.declared.node_event.NodeEvent.TheVariants.{Came}
 use Rattle.bsc_node.specs.declared.timed_event.TimedEvent.{TimedEvent}
 use Rattle.bsc_node.specs.declared.action.Action.TheVariants.{Put, Close}
@@ -36,11 +35,10 @@ use Rattle.bsc_node.specs.Ending.{carries_out_by, carries_out, ends, closes_link
 use Rattle.bsc_node.specs.Meeting.{joins, refuses, wrong_peer, comes_up, meets_dialled, meets_taken, meets_slot, meets_direct}
 use Rattle.bsc_node.specs.Events.{obeys_by}
 use Rattle.bsc_node.specs.Node.{goes_on}
-use Rattle.bsc_node.specs.Conditions.{fits, may_come}
+use Rattle.bsc_node.specs.Conditions.{may_come}
 use Rattle.bsc_node.specs.Laws.{with_event, with_heard}
 use Rattle.bsc_node.proofs.Order.{in_order-brought, in_order-cons}
 use Rattle.bsc_node.proofs.Told.{accepting_events-more, outcome-accepting}
-use Rattle.bsc_node.proofs.Lasting.{event_fits}
 use Rattle.bsc_node_laws.proofs.There.{there-before, gone-stays, taken-other}
 use Rattle.bsc_node_laws.proofs.Asked.{asked_closes}
 use Rattle.bsc_node_laws.proofs.Drawn.{came_log as log_heard}
@@ -49,7 +47,7 @@ use Rattle.bsc_node_identity.proofs.OneMore.{open-stays, accepting-same, accepti
 use Rattle.bsc_node_identity.proofs.Reasons.{was_open, is_beginning, Why}
 use Rattle.bsc_node_identity.proofs.Followed.{has-obeyed}
 use Rattle.bsc_node_identity.proofs.Lines.{begun-why, asked-told}
-use Rattle.bsc_node_identity.proofs.Settled.{kept}
+use Rattle.bsc_node_identity.proofs.Settled.{kept, fitting}
 use Rattle.bsc_connector.proofs.Common.{first_of-more}
 use Rattle.bsc_lemmas.proofs.Booleans.{and_left, and_right}
 use Rattle.bsc_node.proofs.Common.{same_link-is as same_link-true}
@@ -280,9 +278,6 @@ keep_past a L e k x N m why p = record {
   is = ap (λ (M : Log). M ++ m ∷ []) p.is ∙ append_assoc (with_event L e ++ x ∷ []) p.more (m ∷ []);
   waits = waits_more a L e k N m why (λ now v w. longer (with_event L e) x p.more (sym p.is ∙ w.0.3)) p.waits;
 }
-
-fitting : (L : Log) (e : TimedEvent) → IsTrue (may_come L e) → (ev : NodeEvent) → e.event ≡ ev → fits L ev ≡ true
-fitting L e may ev is = sym (ap (fits L) is) ∙ event_fits L e may
 
 abbrev is_meeting : Outcome → Bool
 is_meeting (meets who) = true

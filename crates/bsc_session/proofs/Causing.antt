@@ -28,6 +28,7 @@ use Rattle.bsc_session.specs.Stops.{stop_at, stop_if, closes, first_of, closing_
 use Rattle.bsc_session.specs.Taking.{Opening, put_first, waiting_for, ended_by, end_step, stop_before, opened}
 use Rattle.bsc_session.specs.Turns.{IsTurn, stop_in}
 use Rattle.bsc_session.proofs.EndingAtFault.{fault_put, nothing_put, some_is, alone, no_stop, after_none, none_put}
+use Rattle.bsc_session.proofs.Filtering.{no_put}
 
 -- the hub answered neither Worn nor NoMemory
 abbrev pub IsTaken : Option Answer → Type 0
@@ -55,10 +56,6 @@ pub data Ends : Option (Result Incoming LinkFault) → Bool → Option Answer �
 
 pub why_is : (a b : Stop) → Some a ≡ Some b → b.why ≡ a.why
 why_is a b h = ap (λ (s : Stop). s.why) (some_is a b h)
-
-no_put : (fault : Option LinkFault) → HasPut [] fault → fault ≡ None
-no_put None h = refl
-no_put (Some f) h = absurd h
 
 -- what asks for no call gets no answer
 no_answer : (d : Option Denial) (a : Option Answer) → is_some a ≡ is_none d && false → a ≡ None

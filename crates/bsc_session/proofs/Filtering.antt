@@ -64,7 +64,7 @@ through_last policy to (f ∷ (g ∷ fs)) fault h =
 
 -- ---- a frame that is denied isn't put
 
-no_put : (fault : Option LinkFault) → HasPut [] fault → fault ≡ None
+pub no_put : (fault : Option LinkFault) → HasPut [] fault → fault ≡ None
 no_put None h = refl
 no_put (Some f) h = absurd h
 

@@ -36,7 +36,7 @@ use Rattle.bsc_session.proofs.Causing.{Ends, closes_why, left_after, lost_after,
 use Rattle.bsc_session.proofs.EndingAtFault.{after_none, alone, no_stop}
 use Rattle.bsc_session.proofs.Keeping.{Sound, has_quit, met_known, sound_opened, unmet_opened, unquit}
 
-no_gift : (h : Hearing) → given_in (Some h) ≡ None → ⊥
+pub no_gift : (h : Hearing) → given_in (Some h) ≡ None → ⊥
 no_gift h is = cc
 
 -- ---- an End

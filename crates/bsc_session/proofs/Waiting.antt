@@ -25,6 +25,7 @@ use Rattle.bsc_session.specs.Turns.{after, stop_in}
 use Rattle.bsc_session.proofs.Causing.{Ends, closes_why, waits_before, why_is}
 use Rattle.bsc_session.proofs.EndingAtFault.{alone}
 use Rattle.bsc_session.proofs.Keeping.{Sound, has_quit, unmet, unquit}
+use Rattle.bsc_session.proofs.Leaving.{no_gift}
 
 -- ---- what the reading wants
 
@@ -130,9 +131,6 @@ idle_found v s o h stop sound none is why =
     let k = opening_closes v s o stop is (inr why) in
     idled_at (start_of v (started s o.reading)) (last_message (start_of v (started s o.reading)) s.events) o.reading (standing s.events) k.1.0 (sound.tied ∙ waits_joined s.conn (sym k.0 ∙ why))
     (unquit s sound none) k.1.1
-
-no_gift : (h : Hearing) → given_in (Some h) ≡ None → ⊥
-no_gift h is = cc
 
 wait_first : (v : Terms) (s : Standing) (o : Opening) (h : Option Hearing) (stop : Stop) → Ends (given_in h) (judged_in h) (answer_in h) (hearing_fault o.fault h) stop.why → Sound s
     → stop_in v s (record { opening = o; hearing = h }) ≡ Some stop → stop.why ≡ WaitExpired → HasWaited v s (Some (record { opening = o; hearing = h }))
