@@ -54,7 +54,7 @@ use Rattle.bsc_script.specs.Holding.{Pairs, IsJoinedPeer, IsJoinedIf, IsPeer, Ar
 use Rattle.bsc_script.proofs.Pairs.{Pairs-remove, Pairs-weaker, all-remove, map-remove}
 use Rattle.bsc_script.proofs.Changes.{kept, kept_at, some_at}
 use Rattle.bsc_script.proofs.Carried.{quiet_carried, line_carried}
-use Rattle.bsc_script.proofs.Peers.{taken_out, ConnsApart-filter, find-remove, gone_conn, alone, found_conn, conn_has, has_conn}
+use Rattle.bsc_script.proofs.Peers.{taken_out, ConnsApart-filter, find-remove, gone_conn, found_conn, conn_has, has_conn}
 
 -- ---- what is known of another connection
 

@@ -88,16 +88,6 @@ found_conn c k (p ∷ ks) h = by (has_joined_as c p) refl (λ g. found_conn c k 
         let r = rec (sym (ap (λ (b : Bool). cond b (Some p) (find (has_joined_as c) ks)) e) ∙ h) in
         (r.0, inr r.1)
 
--- of peers with connections that are apart, the one with c is the one found
-pub alone : (ks : List Peer) (k : Peer) (c : ℕ) → ConnsApart ks → In k ks → k.conn ≡ Some c → find (has_joined_as c) ks ≡ Some k
-alone [] k c h m e = absurd m
-alone (p ∷ ks) k c h (inl same) e =
-    let here : has_joined_as c p ≡ true = conn_has c p (ap conn_of same ∙ e) in
-    ap (λ (b : Bool). cond b (Some p) (find (has_joined_as c) ks)) here ∙ ap Some same
-alone (p ∷ ks) k c h (inr m) e =
-    let other : has_joined_as c p ≡ false = false_from_ne_true (has_joined_as c p) (λ t. In_from_all (λ (j : Peer). (d : ℕ) → p.conn ≡ Some d → j.conn ≡ Some d → ⊥) k ks h.0 m c (has_conn c p t) e) in
-    ap (λ (b : Bool). cond b (Some p) (find (has_joined_as c) ks)) other ∙ alone ks k c h.1 m e
-
 pub ConnsApart-filter : (q : Peer → Bool) (ks : List Peer) → ConnsApart ks → ConnsApart (filter q ks)
 ConnsApart-filter q [] h = tt
 ConnsApart-filter q (p ∷ ks) h =

@@ -43,10 +43,6 @@ pub at_changed : (views : List View) (id : ℕ) (w : View) (i : ℕ) (x : View) 
 at_changed views id w i x got = ⊎_elim (λ h. inl h) (λ h. inr (h.0, (h.1, got.1))) (at_set views id i w x got.0)
 
 module _ (views : List View) (id : ℕ) (me : View) (at : At views id me) where
-  -- who was there before, with the same number and the same callers
-  Before : ℕ → View → Type 0
-  Before i x = (y : View) × At views i y × (x.number ≡ y.number) × (x.ended ≡ y.ended)
-
   had : (w : View) → w.number ≡ me.number → w.ended ≡ me.ended → (i : ℕ) (x : View) → At (set views id w) i x → (y : View) × At views i y × (x.number ≡ y.number) × (x.ended ≡ y.ended)
   had w n t i x got =
       ⊎_elim

@@ -1,5 +1,5 @@
 -- A take from an outbox: what its outlet gave, and what the desk knows of it.
-use Rattle.std.proofs.Common.{◌≡◌, ◌≢◌, ℕ, drop, slice_get, List, [], ◌∷◌, ◌++◌, length, Option, Some, None, ap, sym, ◌∙◌, subst}
+use Rattle.std.proofs.Common.{◌≡◌, ◌≢◌, List, [], ◌∷◌, length, Option, Some, None, ap, sym, ◌∙◌, subst}
 use Rattle.bsc_history.specs.declared.ending.End.{End}
 use Rattle.bsc_history.specs.declared.ending.End.TheVariants.{Left}
 use Rattle.bsc_history.specs.declared.mark.Stamped.{Stamped}
@@ -9,7 +9,7 @@ use Rattle.bsc_ring.specs.declared.ends.Outlet.{Outlet}
 use mathlib.Core.Option.{some}
 use lib.ListN.{get_elem?}
 use Rattle.bsc_ring.specs.declared.found.Found.TheVariants.{Ending, Tail}
-use Rattle.bsc_ring.specs.declared.take.Take.TheVariants.{Frame, Empty, Closed}
+use Rattle.bsc_ring.specs.declared.take.Take.TheVariants.{Empty, Closed}
 use Rattle.bsc_ring.specs.Ends.{GaveAll, Took, found, given, empties_of, outlet_mark}
 use Rattle.bsc_desk.specs.declared.desk.Desk.{Desk}
 use Rattle.bsc_desk.specs.Meetings.{IsOutletOf}
@@ -17,7 +17,7 @@ use Rattle.bsc_desk.specs.Rows.{HasRow, IsMarkOf, known_of}
 use Rattle.bsc_desk.proofs.Rowed.{has_unleft, is_mark_of}
 use Rattle.bsc_script.specs.Emptying.{empties_after}
 use Rattle.bsc_world.specs.declared.kept_link.KeptConn.{KeptConn}
-use Rattle.bsc_world.specs.Takes.{OutletMeets, OwnsOutlet, StaysMet, TookNext, TookNone}
+use Rattle.bsc_world.specs.Takes.{OutletMeets, OwnsOutlet, StaysMet, TookNone}
 use Rattle.bsc_desk.proofs.Common.{gave_all}
 use Rattle.bsc_ring.proofs.Common.{at_end}
 
@@ -46,25 +46,6 @@ module _ (S : List Stamped) (d n : Desk) (i j : KeptConn) (w : OwnsOutlet d S i)
       mark = again.mark_same ∙ same ∙ m.mark_same;
       outlet = subst (λ a. IsOutletOf a (entries S) i.conn k.outlet) m.about (subst (λ c. IsOutletOf n.about (entries S) c k.outlet) m.conn (again.outlet S (m.stands S w.stands)));
       known = ap (known_of r) (sym m.conn) ∙ again.known;
-    }
-
-    -- a frame was taken, and what stood at the front of the places
-    pub took_frame : (x : List ℕ) (place : ℕ) (after : KeptConn) → Took j.outlet (Frame x) p → after.conn ≡ k.conn → after.vmac ≡ k.vmac → after.outlet ≡ k.outlet → after.places.items ≡ drop 1 k.places.items → ((y : ℕ) → slice_get k.places.items 0 ≡ Some y → place ≡ y) → TookNext S x place d r i after
-    took_frame x place after g conn vmac outlet rest front = record {
-      stays = record {
-        stands = stays_met.stands;
-        about = stays_met.about;
-        others = stays_met.others;
-        conn = conn ∙ stays_met.conn;
-        vmac = vmac ∙ stays_met.vmac;
-        mark = ap outlet_mark outlet ∙ stays_met.mark;
-        outlet = subst (IsOutletOf d.about (entries S) i.conn) (sym outlet) stays_met.outlet;
-        known = stays_met.known ∙ ap (λ o. length (given o)) (sym outlet);
-      };
-      more = ap given outlet ∙ again.given_same ∙ g.0 ∙ ap (λ (l : List (List ℕ)). l ++ x ∷ []) m.given_same;
-      empties = ap empties_of outlet ∙ again.empties_same ∙ g.2 ∙ m.empties_same;
-      front = λ y at. front y (ap (λ q. slice_get q.items 0) (again.places ∙ m.places) ∙ at);
-      places = rest ∙ ap (λ q. drop 1 q.items) (again.places ∙ m.places);
     }
 
     took_none : (ending : Option End) → GaveAll j.outlet ending p → ending ≡ ended (entries S) i.conn → ending ≢ Some Left → empties_of p ≡ empties_after ending (empties_of j.outlet) → TookNone S ending d r i k
