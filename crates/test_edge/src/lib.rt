@@ -1,8 +1,14 @@
 //! Tests of what a hub and its nodes ask of the outside, `bsc_edge`: the objects in memory, with calls that fail, and the real
-//! clock, files and threads.
+//! clock, files and threads; and of an operator's log, `bsc_log`.
 //!
 //! They stand in a crate of their own, since a crate's own tests have all of its functions proved a second time.
 #![tactic(auto)]
 
 #[cfg(test)]
+mod arriving;
+#[cfg(test)]
 mod edge;
+#[cfg(test)]
+mod lines;
+#[cfg(test)]
+mod links;

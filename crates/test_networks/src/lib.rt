@@ -1,7 +1,0 @@
-//! Tests of networks in memory, and of their scripts.
-//!
-//! They stand in a crate of their own, since a crate's own tests have all of its functions proved a second time.
-#![tactic(auto)]
-
-#[cfg(test)]
-mod simulate;
