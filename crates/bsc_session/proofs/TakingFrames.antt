@@ -1,5 +1,5 @@
 -- Frames are taken and put.
-use Rattle.std.proofs.Common.{◌≡◌, ℕ, Bool, true, false, ◌+◌, ◌<◌, List, [], ◌∷◌, ◌++◌, refl, ap, sym, ◌∙◌, append_assoc, append-nil, length-append, arith, Option, Some, None}
+use Rattle.std.proofs.Common.{◌≡◌, ℕ, true, ◌+◌, ◌<◌, List, [], ◌∷◌, ◌++◌, refl, ap, sym, ◌∙◌, append_assoc, append-nil, length-append, arith, Option, Some, None}
 use Rattle.std.specs.Prelude.{◌^◌, ◌-◌, min, suc, zero, length}
 use Rattle.std.proofs.lemmas.Bool.{lt-ltb}
 use Rattle.bsc_history.specs.declared.ending.End.{End}
@@ -34,6 +34,7 @@ use Rattle.bsc_session.specs.Taking.{last_alone}
 use Rattle.bsc_session.specs.Moments.{traces}
 use Rattle.bsc_session.proofs.Recording.{records-nil}
 use Rattle.bsc_session.proofs.Filtering.{last_alone-more, let_through-append, noted-append, records_more}
+use Rattle.bsc_lemmas.proofs.Booleans.{not_both}
 
 elem_stays : (xs ys : List Found) (i : ℕ) (x : Found) → get_elem? xs i ≡ some x → get_elem? (xs ++ ys) i ≡ some x
 elem_stays [] ys i x h = cc
@@ -55,15 +56,12 @@ no_more given_ all rest x same more =
     let g = length-append given_ (x ∷ []) in
     omega (arith, e, f, g)
 
-no_longer : (b : Bool) → b ≡ true → b ≡ false → ⊥
-no_longer b h k = (let e : true ≡ false = sym h ∙ k in cc)
-
 -- an outlet that gave all that was pushed gives no more
 keeps_all : (o p : Outlet) (t : Take) → Took o t p → knows_all o ≡ true → known_pushed o ≡ given o → (knows_all p ≡ true) × (known_pushed p ≡ given p)
 keeps_all o p (Frame x) h whole all =
     let k = h.3.4.2 whole in
     absurd (no_more (given o) (known_pushed p) h.1.0 x (k.0 ∙ all) (h.1.1 ∙ ap (λ w. w ++ h.1.0) h.0))
-keeps_all o p Empty h whole all = absurd (no_longer (knows_all p) (h.0.4.2 whole).1 h.0.3.3)
+keeps_all o p Empty h whole all = absurd (not_both {b = knows_all p} (h.0.4.2 whole).1 h.0.3.3)
 keeps_all o p (Closed e) h whole all = (h.0.3.3, h.0.1 ∙ sym h.0.0)
 
 keeps_ended : (o p : Outlet) (t : Take) (e : End) → Took o t p → OutletHasEnded o e → OutletHasEnded p e
