@@ -1,12 +1,11 @@
-//! Tests of the session of one connection, `bsc_session`, and of a hub that is served, `bsc_serve`, over links in memory.
+//! Tests of the session of one connection, `bsc_session`, over links in memory.
 //!
 //! They stand in a crate of their own, since a crate's own tests have all of its functions proved a second time. `peers` has
-//! the hub and the devices that they are with.
+//! the hub and the devices that they are with, for them and for `test_serving`, and is proved as a library.
 #![tactic(auto)]
 
-#[cfg(test)]
 mod peers;
 #[cfg(test)]
-mod serve;
-#[cfg(test)]
 mod session;
+
+pub use peers::{CONNECT_A, CONNECT_B, LIMITS, new_hub};

@@ -7,7 +7,6 @@ ghost use Rattle.bsc_hub.specs.Passing.{IsCaller};
 mod books;
 mod scene;
 
-use crate::peers::{self, LIMITS};
 use crate::serve::books::{Books, KeptJournal};
 use crate::serve::scene::{CLOSING, CuedLink, FIRST, JOINING, LATER, Scene, Still, links};
 use bsc_edge::{
@@ -24,6 +23,7 @@ use std::sync::atomic::Ordering;
 use std::sync::{Arc, Wait};
 use std::test::*;
 use std::thread::Threads;
+use test_sessions::LIMITS;
 
 type Session = SessionJob<CuedLink, Still, KeptJournal>;
 
@@ -51,7 +51,7 @@ fn new_hub(alloc: Global, callers: u64) -> Result<(Arc<Hub>, Pass), NoMemory>
     requires { (1 ≤ callers) × (callers ≤ 100) }
     ensures { IfOk result (λ r. IsCaller (arc_value r.0) r.1) }
 {
-    let (hub, pass) = peers::new_hub(alloc, callers)?;
+    let (hub, pass) = test_sessions::new_hub(alloc, callers)?;
     Ok((Arc::new(alloc, hub)?, pass))
 }
 

@@ -3,12 +3,12 @@ ghost use Rattle.std.specs.Prelude.{◌≡◌, Err, None};
 ghost use Rattle.bsc_edge.specs.declared.fault.LinkFault.{LinkFault};
 ghost use Rattle.bsc_edge.specs.Told.{IsQuiet};
 
-use crate::peers::{CONNECT_A, CONNECT_B};
 use bsc_edge::{Clock, Incoming, Link, LinkFault};
 use bsc_octets::{NoMemory, Octets};
 use std::alloc::Global;
 use std::sync::Arc;
 use std::sync::atomic::{AtomicBool, AtomicU64, Ordering};
+use test_sessions::{CONNECT_A, CONNECT_B};
 
 /// What the links of a test see of each other.
 #[derive(Drop)]
