@@ -1,8 +1,8 @@
 //! What lines ask, and which lines are refused.
-use bsc_replay::{Line, read_line};
 use bsc_checks::{Phase, Place};
 use bsc_octets::Vmac;
 use bsc_player::LineFault;
+use bsc_replay::{Line, read_line};
 use std::alloc::Global;
 use std::process::Abort;
 use std::test::*;
