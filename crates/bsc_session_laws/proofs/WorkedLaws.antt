@@ -16,6 +16,7 @@ use Rattle.bsc_session.specs.Course.{shares}
 use Rattle.bsc_session.specs.Receiving.{replies, worn}
 use Rattle.bsc_session.specs.Standings.{begun}
 use Rattle.bsc_session.specs.Stops.{stop_for, stop_unrecorded}
+use Rattle.bsc_session.specs.Taking.{full_wait}
 use Rattle.bsc_session.specs.Talk.{Session}
 use Rattle.bsc_session.specs.Turns.{Turn}
 use Rattle.bsc_session.proofs.TalkWords.{a_octets, accept, back, bare, connect, connects, forwarded as forwarded_as, forwards_to, given_at, hears, joined_as, joins, left_as, reads, terms, to_itself, told_by}
@@ -26,7 +27,7 @@ use Rattle.bsc_session_laws.proofs.Connecting.{connects_are_asked}
 use Rattle.bsc_session_laws.proofs.Owning.{forwards_are_carried}
 
 abbrev talk : List Said
-talk = connects ∷ Put accept None ∷ Gave 500 (Ok (Message to_itself)) ∷ Put back None ∷ Gave 500 (Ok Closed) ∷ []
+talk = connects ∷ Put accept None ∷ Gave full_wait (Ok (Message to_itself)) ∷ Put back None ∷ Gave full_wait (Ok Closed) ∷ []
 
 abbrev made : List Entry
 made = joined_as 1 ∷ forwarded_as 1 1 to_itself Appended ∷ left_as 1 1 2 ∷ []
