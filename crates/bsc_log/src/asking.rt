@@ -1,13 +1,54 @@
 //! Who asks to join.
 ghost use Rattle.std.specs.Prelude.{◌≡◌, IfSome};
+ghost use Rattle.bsc_octets.specs.Identities.{identity_octets};
+ghost use Rattle.bsc_frame.specs.Payloads.{IsNode};
 ghost use Rattle.bsc_log.specs.Asking.{Asks};
 
 use bsc_frame::{Body, read};
-use bsc_octets::Identity;
+use bsc_octets::{Identity, Vmac, function, read_identity};
 use std::alloc::Global;
 
-/// Who asks to join by these octets, if they are a Connect-Request.
-pub(crate) fn asker_in(alloc: Global, m: &[u8]) -> Option<Identity>
+/// So many octets stand before the payload of a message without addresses and options.
+const HEAD: usize = 4;
+
+/// So many octets say who connects.
+const PAYLOAD: usize = 26;
+
+/// Who connects, where a payload says that of a node.
+fn node_in(p: &[u8]) -> Option<Identity>
+    ensures { IfSome result (λ who. IsNode who × (identity_octets who ≡ p.now)) }
+{
+    if p.len() != PAYLOAD {
+        return None;
+    }
+    let who = read_identity(p);
+    if who.vmac == Vmac::ZERO {
+        return None;
+    }
+    if who.vmac == Vmac::BROADCAST {
+        return None;
+    }
+    Some(who)
+}
+
+/// Who asks to join by these octets, if they are a Connect-Request without addresses and options, as nearly all are.
+fn plain_asker(m: &[u8]) -> Option<Identity>
+    ensures { IfSome result (λ who. Asks m.now who) }
+{
+    if m.len() != HEAD + PAYLOAD {
+        return None;
+    }
+    if m[0] != function::CONNECT_REQUEST {
+        return None;
+    }
+    if m[1] != 0 {
+        return None;
+    }
+    node_in(&m[HEAD..])
+}
+
+/// Who asks to join by these octets, if they are any Connect-Request.
+fn any_asker(alloc: Global, m: &[u8]) -> Option<Identity>
     ensures { IfSome result (λ who. Asks m.now who) }
 {
     match read(alloc, m) {
@@ -16,5 +57,15 @@ pub(crate) fn asker_in(alloc: Global, m: &[u8]) -> Option<Identity>
             _ => None,
         },
         Err(_) => None,
+    }
+}
+
+/// Who asks to join by these octets, if they are a Connect-Request.
+pub(crate) fn asker_in(alloc: Global, m: &[u8]) -> Option<Identity>
+    ensures { IfSome result (λ who. Asks m.now who) }
+{
+    match plain_asker(m) {
+        Some(who) => Some(who),
+        None => any_asker(alloc, m),
     }
 }

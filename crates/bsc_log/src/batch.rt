@@ -1,6 +1,7 @@
 //! Lines that are written together.
-ghost use Rattle.std.specs.Prelude.{◌≡◌, ◌++◌, flat_map, IfOk};
-ghost use Rattle.bsc_log.specs.Batches.{ended_text};
+ghost use Rattle.std.specs.Prelude.{◌≡◌, ◌++◌, List, flat_map, IfOk};
+ghost use Rattle.bsc_log.specs.declared.line.Line.{Line};
+ghost use Rattle.bsc_log.specs.Batches.{AllSay, ended_text};
 
 use crate::line::Line;
 use crate::stamp::Day;
@@ -24,21 +25,15 @@ fn put_line(text: &mut Vec<u8>, line: &Line) -> Result<(), NoMemory>
     put_words(text, "\n")
 }
 
-/// Puts lines at the end of a text, in this order. Where there is no memory for one, those before it stay.
-fn put_lines(text: &mut Vec<u8>, lines: &[Line]) -> Result<(), NoMemory>
-    ensures { IfOk result (λ _. text.new.items ≡ text.old.items ++ flat_map ended_text lines.now) }
+/// Puts the lines that say what was told at the end of a text, in this order, with the day of the last line before. Where there
+/// is no memory for one, those before it stay.
+fn put_told(text: &mut Vec<u8>, told: &[Told], day: &mut Day) -> Result<(), NoMemory>
+    ensures { IfOk result (λ _. (lines : List Line) × AllSay told.now lines × (text.new.items ≡ text.old.items ++ flat_map ended_text lines)) }
 {
-    for line in lines.iter() {
-        put_line(text, line)?;
+    for one in told.iter() {
+        put_line(text, &one.line(day))?;
     }
     Ok(())
-}
-
-/// Puts the lines that say what was told behind these, with the day of the last one before.
-fn put_told(lines: &mut Vec<Line>, told: &[Told], day: &mut Day) {
-    for one in told.iter() {
-        let _ = lines.push(one.line(day));
-    }
 }
 
 /// What is written next, and where.
@@ -46,7 +41,6 @@ fn put_told(lines: &mut Vec<Line>, told: &[Told], day: &mut Day) {
 pub(crate) struct Batch {
     /// What was told, in this order.
     pub(crate) told: Vec<Told>,
-    lines: Vec<Line>,
     /// The day of the last line.
     day: Day,
     text: Vec<u8>,
@@ -58,7 +52,6 @@ impl Batch {
     pub(crate) fn new(alloc: Global, stderr: Stderr) -> Result<Batch, NoMemory> {
         Ok(Batch {
             told: Vec::with_capacity(alloc, ROOM)?,
-            lines: Vec::with_capacity(alloc, ROOM)?,
             day: Day::new(0),
             text: Vec::with_capacity(alloc, ROOM * LINE)?,
             stderr,
@@ -67,13 +60,11 @@ impl Batch {
 
     /// Writes the lines of what was told as one text, and is empty again. What can't be written is lost.
     pub(crate) fn write(&mut self) {
-        put_told(&mut self.lines, self.told.as_slice(), &mut self.day);
-        let _ = put_lines(&mut self.text, self.lines.as_slice());
+        let _ = put_told(&mut self.text, self.told.as_slice(), &mut self.day);
         if !self.text.is_empty() {
             let _ = Print::write_all(&self.stderr, self.text.as_slice());
         }
         self.told.clear();
-        self.lines.clear();
         self.text.clear();
     }
 }

@@ -110,6 +110,19 @@ impl Course {
         }
     }
 
+    /// Its connection, where the hub asked its peer to leave.
+    pub(crate) fn leaving(&self) -> Option<u64> {
+        match self.stage {
+            Stage::Leaving => self.conn,
+            Stage::Silent
+            | Stage::Waiting
+            | Stage::Asked
+            | Stage::Introduced
+            | Stage::Joined
+            | Stage::Over => None,
+        }
+    }
+
     /// A message came, and it is the Connect-Request of this one, if of anyone.
     pub(crate) fn message(&mut self, asker: Option<Identity>)
         ensures received { self.new.received ≡ counted self.old.received }

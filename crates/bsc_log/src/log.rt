@@ -17,9 +17,9 @@ pub(crate) struct Log<R> {
 }
 
 impl<R> Log<R> {
-    /// Whether its connection is known to have been taken over.
+    /// Whether the hub asked its peer to leave, and its connection is known to have been taken over.
     fn is_taken(&self) -> bool {
-        match self.course.conn {
+        match self.course.leaving() {
             Some(conn) => self.shared.takeovers.has(conn),
             None => false,
         }

@@ -12,8 +12,8 @@ use std::alloc::Global;
 use std::sync::Wait;
 use std::time::Clock;
 
-/// An acceptor over another: each link that arrives there is told of, where there is a logging. At each call of `next` it has
-/// what its links told written, where much waits, where some has waited long, and where no link has come.
+/// An acceptor over another: each link that arrives there is told of, where there is a logging. It has what its links told written
+/// where no link has come; at one link of sixteen it does so where much waits, or some has waited long.
 #[derive(Drop)]
 pub struct LoggedAcceptor<A, R> {
     acceptor: A,

@@ -25,12 +25,12 @@ const GONE_MS: u64 = 1_000;
 /// What was told and isn't written yet, and which connections were taken over.
 pub(crate) struct Shared {
     pub(crate) takeovers: Takeovers,
+    /// When the acceptor looked last, in milliseconds since 1970. It stands beside what else is met where something is told.
+    looked: AtomicU64,
     /// What waits, in the order in which it was told.
     waiting: Mutex<Vec<Told>>,
     /// Where it is written. Who has this lock takes what waits: so batches are written in the order of the records.
     batch: Mutex<Batch>,
-    /// When the acceptor looked last, in milliseconds since 1970.
-    looked: AtomicU64,
 }
 
 /// So many whole milliseconds, up to the greatest `u64`.
@@ -54,9 +54,9 @@ impl Shared {
     pub(crate) fn new(alloc: Global, stderr: Stderr) -> Result<Shared, NoMemory> {
         Ok(Shared {
             takeovers: Takeovers::new(alloc)?,
+            looked: AtomicU64::new(0),
             waiting: Mutex::new(Vec::with_capacity(alloc, ROOM)?),
             batch: Mutex::new(Batch::new(alloc, stderr)?),
-            looked: AtomicU64::new(0),
         })
     }
 
@@ -112,9 +112,9 @@ impl Drop for Shared {
     fn drop(self) {
         let Shared {
             takeovers: _,
+            looked: _,
             waiting,
             batch,
-            looked: _,
         } = self;
         let mut batch = batch.into_inner();
         batch.told = waiting.into_inner();
