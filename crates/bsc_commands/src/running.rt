@@ -20,7 +20,7 @@ ghost use Rattle.bsc_node_run.specs.declared.due.Due.{Due};
 ghost use Rattle.bsc_node_run.specs.Drawing.{Draws};
 ghost use Rattle.bsc_node_run.specs.Scripts.{script_of, wish_of};
 ghost use Rattle.bsc_node_run.specs.Worlds.{dialling};
-ghost use Rattle.bsc_node_run_laws.specs.Courses.{FinishCame};
+ghost use Rattle.bsc_node_laws.specs.Courses.{FinishCame};
 ghost use Rattle.bsc_words.specs.declared.fault.WordsFault.TheVariants as words_fault;
 ghost use Rattle.bsc_words.specs.Read.{asked_in};
 ghost use Rattle.bsc_words.specs.Words.{audit, check, hub, load, node, replay, seen, simulate};

@@ -4,15 +4,11 @@
 //! links that are done, so that no peer makes it wait. `SocketOpener` opens the streams that a `StreamDialer` dials over.
 #![tactic(auto)]
 
-mod boxed_link;
-mod boxing_dialer;
 mod gate;
 mod handshakes;
 mod opening;
 mod socket_link;
 
-pub use boxed_link::BoxedLink;
-pub use boxing_dialer::BoxingDialer;
 pub use gate::Gate;
 pub use handshakes::Turned;
 pub use opening::SocketOpener;

@@ -1,5 +1,4 @@
 //! Links over sockets.
-use crate::boxed_link::BoxedLink;
 use bsc_edge::LinkFault;
 use bsc_live::{Bells, Debts, Lingering, LivePatience, LiveStream, Watch};
 use bsc_ws::{RandomKeys, StreamLink, settle};
@@ -12,7 +11,7 @@ use std::sync::{Arc, Wait};
 use std::time::Clock;
 
 /// A link over a socket, dialled or accepted. It draws its keys from the machine; one that was accepted draws none.
-pub type SocketLink<R> = BoxedLink<StreamLink<LiveStream<R>, LivePatience<R>, RandomKeys<R>>>;
+pub type SocketLink<R> = StreamLink<LiveStream<R>, LivePatience<R>, RandomKeys<R>>;
 
 /// A handshake's time as a whole, in milliseconds.
 pub const HANDSHAKE_MS: u32 = 1_000;
@@ -73,7 +72,7 @@ pub(crate) fn accepted<R: Clock + Net + Wait + RandomSource + Copy + Drop>(
 ) -> Result<SocketLink<R>, LinkFault> {
     let (stream, wait) = alive(rt, alloc, socket, bells, watch, lingering)?;
     if watch.is_some() {
-        return BoxedLink::new(alloc, settle(alloc, stream, wait, RandomKeys::new(rt)));
+        return Ok(settle(alloc, stream, wait, RandomKeys::new(rt)));
     }
     let Ok(debts) = Arc::new(alloc, Debts::new(alloc)) else {
         return Err(LinkFault::NoMemory);
@@ -82,5 +81,5 @@ pub(crate) fn accepted<R: Clock + Net + Wait + RandomSource + Copy + Drop>(
         return Err(LinkFault::NoMemory);
     };
     let wait = wait.owing(debts);
-    BoxedLink::new(alloc, settle(alloc, stream, wait, RandomKeys::new(rt)))
+    Ok(settle(alloc, stream, wait, RandomKeys::new(rt)))
 }

@@ -21,16 +21,16 @@ use Rattle.bsc_node_run.specs.Stopping.{RunFails}
 use Rattle.bsc_node_run.specs.Worlds.{Admitting, Dialling}
 use Rattle.bsc_node_run.specs.Moments.{outside, run_moment}
 use Rattle.bsc_node_run.proofs.Asked.{asked_of}
-use Rattle.bsc_node_run_laws.specs.Alone.{NoLinkCame, alone}
-use Rattle.bsc_node_run_laws.specs.Courses.{FinishCame, GoesAsDefined}
-use Rattle.bsc_node_run_laws.specs.Said.{EndsAsTold, IsSaid}
-use Rattle.bsc_node_run_laws.proofs.Beside.{Beside, Both, beside}
-use Rattle.bsc_node_run_laws.proofs.Courses.{lifted}
-use Rattle.bsc_node_run_laws.proofs.Lonely.{lonely}
-use Rattle.bsc_node_run_laws.proofs.Mapping.{Maps, run_map}
-use Rattle.bsc_node_run_laws.proofs.Saying.{ends_as_told, said}
-use Rattle.bsc_node_run_laws.proofs.Stopping.{fails_lifted}
-use Rattle.bsc_node_run_laws.proofs.StopsMapping.{fails_map}
+use Rattle.bsc_node_laws.specs.Alone.{NoLinkCame, alone}
+use Rattle.bsc_node_laws.specs.Courses.{FinishCame, GoesAsDefined}
+use Rattle.bsc_node_laws.specs.Said.{EndsAsTold, IsSaid}
+use Rattle.bsc_node_laws.proofs.Beside.{Beside, Both, beside}
+use Rattle.bsc_node_laws.proofs.Courses.{lifted}
+use Rattle.bsc_node_laws.proofs.Lonely.{lonely}
+use Rattle.bsc_node_laws.proofs.Mapping.{Maps, run_map}
+use Rattle.bsc_node_laws.proofs.Saying.{ends_as_told, said}
+use Rattle.bsc_node_laws.proofs.Stopping.{fails_lifted}
+use Rattle.bsc_node_laws.proofs.StopsMapping.{fails_map}
 use Rattle.bsc_node_command.specs.declared.running_node.RunningNode.{RunningNode}
 use Rattle.bsc_node_command.specs.Comes.{AnswersAt, made_by}
 

@@ -15,7 +15,7 @@ use Rattle.bsc_node_run.specs.Running.{Run}
 use Rattle.bsc_node_run.specs.Scripts.{script_of, wish_of}
 use Rattle.bsc_node_run.specs.Worlds.{Admitting, Dialling}
 use Rattle.bsc_node_run.specs.Moments.{run_moment}
-use Rattle.bsc_node_run_laws.specs.Courses.{FinishCame, GoesAsDefined}
+use Rattle.bsc_node_laws.specs.Courses.{FinishCame, GoesAsDefined}
 use Rattle.bsc_node_command.specs.Lines.{SaysEnd}
 use Rattle.bsc_node_command.specs.Settled.{Unread, Unsettled}
 use Rattle.bsc_node_command.specs.Comes.{made_by, CommandWorld, Comes, NodeWorld, NotRun, RunsScript, RunsFiles}

@@ -22,9 +22,9 @@ use Rattle.bsc_node_run.specs.Scripts.{script_of, wish_of}
 use Rattle.bsc_node_run.specs.Stopping.{RunFails}
 use Rattle.bsc_node_run.specs.Worlds.{Admitting, Dialling, admitting}
 use Rattle.bsc_node_run.specs.Moments.{outside, run_moment}
-use Rattle.bsc_node_run_laws.specs.Alone.{NoLinkCame, alone}
-use Rattle.bsc_node_run_laws.specs.Courses.{GoesAsDefined}
-use Rattle.bsc_node_run_laws.specs.Said.{EndsAsTold, IsSaid}
+use Rattle.bsc_node_laws.specs.Alone.{NoLinkCame, alone}
+use Rattle.bsc_node_laws.specs.Courses.{GoesAsDefined}
+use Rattle.bsc_node_laws.specs.Said.{EndsAsTold, IsSaid}
 use Rattle.bsc_node_command.specs.declared.running_node.RunningNode.{RunningNode}
 use Rattle.bsc_node_command.specs.Lines.{SaysEnd, link_line}
 use Rattle.bsc_node_command.specs.Settled.{IsSettled, Unread, Unsettled}

@@ -7,7 +7,7 @@ ghost use Rattle.bsc_node_run.specs.declared.due.Due.{Due};
 ghost use Rattle.bsc_node_run.specs.Drawing.{Draws};
 ghost use Rattle.bsc_node_run.specs.Scripts.{script_of, wish_of};
 ghost use Rattle.bsc_node_run.specs.Worlds.{dialling};
-ghost use Rattle.bsc_node_run_laws.specs.Courses.{FinishCame};
+ghost use Rattle.bsc_node_laws.specs.Courses.{FinishCame};
 ghost use Rattle.bsc_node_command.specs.Lines.{settings_line};
 ghost use Rattle.bsc_node_command.specs.Settled.{IsSettled, Unread, Unsettled};
 ghost use Rattle.bsc_node_command.specs.Comes.{RunsFiles, RunsScript, acceptor_world, node_world};

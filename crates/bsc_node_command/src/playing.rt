@@ -10,7 +10,7 @@ ghost use Rattle.bsc_node_run.specs.declared.due.Due.{Due};
 ghost use Rattle.bsc_node_run.specs.Drawing.{Draws};
 ghost use Rattle.bsc_node_run.specs.Scripts.{script_of, wish_of};
 ghost use Rattle.bsc_node_run.specs.Worlds.{Admitting, admitting, dialling};
-ghost use Rattle.bsc_node_run_laws.specs.Courses.{FinishCame};
+ghost use Rattle.bsc_node_laws.specs.Courses.{FinishCame};
 ghost use Rattle.bsc_node_command.specs.Comes.{Comes, IsBoundBy, IsUnasked, NodeRan, acceptor_world, made_by, node_world};
 
 use crate::here::Here;

@@ -1,10 +1,11 @@
 -- What one action comes to, from what its steps did.
-use Rattle.std.proofs.Common.{◌≡◌, inl, inr, ℕ, ◌<◌, ◌≤◌, ◌==◌, zero, suc, Bool, true, false, ◌&&◌, if◌then◌else◌, List, [], ◌∷◌, length, Option, Some, None, refl, ap, sym, ◌∙◌, subst, arith, slice_get, slice_set}
+use Rattle.std.proofs.Common.{◌≡◌, inl, inr, ℕ, ◌<◌, ◌≤◌, ◌==◌, zero, suc, Bool, true, false, ◌&&◌, if◌then◌else◌, List, [], ◌∷◌, length, Option, Some, None, Ok, Err, refl, ap, sym, ◌∙◌, subst, arith, slice_get, slice_set}
 use Rattle.std.proofs.lemmas.Bool.{eqb-true, false≢true, lt-ltb}
 use Rattle.std.proofs.lemmas.Option.{slice_get-get_or, slice_get_past}
 use Rattle.std.proofs.lemmas.List.{get_or-set_same, length-set}
 use Rattle.bsc_connector.specs.declared.side.Side.TheVariants.{Primary, Failover}
 use Rattle.bsc_direct.specs.declared.bounds.TheConstants.{SLOTS}
+use Rattle.bsc_edge.specs.declared.fault.LinkFault.TheVariants.{Failed}
 use Rattle.bsc_edge.specs.declared.said.Said.{Said}
 use Rattle.bsc_edge.specs.Told.{Grows}
 use Rattle.bsc_accept.specs.declared.closing.Closing.{Closing}
@@ -12,10 +13,10 @@ use Rattle.bsc_node.specs.declared.link_name.LinkName.{LinkName}
 use Rattle.bsc_node.specs.declared.link_name.LinkName.TheVariants.{Hub, Direct}
 use Rattle.bsc_node.specs.Links.{same_link}
 use Rattle.bsc_node_run.specs.declared.news.Change.TheVariants.{Opened, DialFailed, Lost}
-use Rattle.bsc_node_run.specs.Worlds.{World, Same, with_link, with_news, with_over, without_arrived, forgets, link_among, link_if, is_name}
+use Rattle.bsc_node_run.specs.Worlds.{World, Same, with_link, with_news, with_over, without_arrived, ends, forgets, link_among, link_if, is_name}
 use Rattle.bsc_node_run.specs.Performing.{Dials, IsAnswered, Takes, Refuses, IsClosed, Puts, Closes, kind_of}
-use Rattle.bsc_node_run.specs.Putting.{PutsOut}
-use Rattle.bsc_node_run.proofs.Worlds.{same_then, on_link, on_news, on_over, link_news, link_again, closed_so, closed_none, none_kept}
+use Rattle.bsc_node_run.specs.Calling.{IsPut}
+use Rattle.bsc_node_run.proofs.Worlds.{same_then, on_link, on_news, on_over, link_news, ends_again, closed_so, closed_none, none_kept}
 use Rattle.bsc_lemmas.proofs.Booleans.{eq_self as same_number}
 
 -- ---- a link in a slot
@@ -49,6 +50,13 @@ module _ {L : Type 0} where
       ap (λ (zs : List (Option L)). link_among other p f zs) e
       ∙ slot_set p f xs k x (is_name (Direct k)) (lt-ltb k SLOTS h) (omega (arith, h, l)) other
       ∙ ap (λ m. if same_link m other && is_name m then x else link_among other p f xs) (sym n)
+
+  -- A link in a slot was called where it stands.
+  pub slot_called : (name : LinkName) (k : ℕ) (p f : Option L) (xs ys : List (Option L)) → name ≡ Direct k → ys ≡ slice_set xs k (link_if (slice_get ys k)) → k < SLOTS → length xs ≡ SLOTS → (other : LinkName)
+      → link_among other p f ys ≡ (if same_link name other && is_name name then link_among name p f ys else link_among other p f xs)
+  slot_called name k p f xs ys n e h l other =
+      slot_named name k p f xs ys (link_if (slice_get ys k)) n e h l other
+      ∙ ap (λ (x : Option L). if same_link name other && is_name name then x else link_among other p f xs) (sym (ap (λ m. link_among m p f ys) n))
 
   pub none_past : (name : LinkName) (k : ℕ) (p f : Option L) (xs : List (Option L)) → name ≡ Direct k → length xs ≡ SLOTS → SLOTS ≤ k → None ≡ link_among name p f xs
   none_past name k p f xs n l h = sym (ap (λ m. link_among m p f xs) n ∙ ap link_if (slice_get_past xs k (omega (arith, h, l))))
@@ -86,14 +94,26 @@ module _ {L : Type 0} (talk : L → Option (List Said)) where
 
   -- ---- puts
 
-  pub puts_none : (name : LinkName) (o : List ℕ) (w v : World L) → None ≡ w.link name → Same v (with_link name None w) → Puts talk name o (w.link name) w v
-  puts_none name o w v e s = subst (λ (l : Option L). Puts talk name o l w v) e (none_kept w v name (sym e) s)
+  pub puts_ok : (name : LinkName) (o : List ℕ) (before after : Option L) (w v : World L) → before ≡ w.link name → IsPut talk o before after (Ok tt)
+      → Same v (with_link name after w) → Puts talk name o before w v
+  puts_ok name o (Some k) (Some l) w v e p s = (l, inl (p, s))
+  puts_ok name o (Some k) None w v e p s = absurd p
+  puts_ok name o None (Some l) w v e p s = absurd p
+  puts_ok name o None None w v e p s = none_kept w v name (sym e) s
 
-  pub puts_some : (name : LinkName) (o : List ℕ) (w x v : World L) (l : L) → Some l ≡ w.link name → Same x (with_link name None w)
-      → PutsOut talk name o l x v → Puts talk name o (w.link name) w v
-  puts_some name o w x v l e s (m, inl p) = subst (λ (k : Option L). Puts talk name o k w v) e (m, inl (p.0, link_again w x v name None (Some m) s p.1))
-  puts_some name o w x v l e s (m, inr p) = subst (λ (k : Option L). Puts talk name o k w v) e
-      (m, inr (p.0, same_then v (with_news name Lost (with_over m x)) (with_news name Lost (with_over m (with_link name None w))) p.1 (on_news (with_over m x) (with_over m (with_link name None w)) name Lost (on_over x (with_link name None w) m s))))
+  pub puts_failed : (name : LinkName) (o : List ℕ) (before after : Option L) (w x v : World L) → IsPut talk o before after (Err Failed)
+      → Same x (with_link name after w) → ((l : L) → after ≡ Some l → Same v (with_news name Lost (ends name l x))) → Puts talk name o before w v
+  puts_failed name o (Some k) (Some l) w x v p s lost = (
+    l,
+    inr (
+      p,
+      same_then v (with_news name Lost (ends name l x)) (with_news name Lost (ends name l w)) (lost l refl)
+          (on_news (ends name l x) (ends name l w) name Lost (ends_again w x name (Some l) l s)),
+    ),
+  )
+  puts_failed name o (Some k) None w x v p s lost = absurd p
+  puts_failed name o None (Some l) w x v p s lost = absurd p
+  puts_failed name o None None w x v p s lost = absurd p
 
   -- ---- closes
 

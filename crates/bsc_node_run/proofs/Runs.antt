@@ -10,7 +10,7 @@ use Rattle.bsc_node_run.specs.Running.{DontFall, Turns}
 use Rattle.bsc_node_run.specs.Turning.{Turn}
 use Rattle.bsc_node_run.specs.Worlds.{Admitting, World}
 use Rattle.bsc_node_run.specs.Moments.{moment}
-use Rattle.bsc_node_run.proofs.Turns.{same}
+use Rattle.bsc_node_run.proofs.Worlds.{same}
 
 -- What was told grew by these, and a later call told nothing more.
 pub grows_still : {A : Type 0} (old mid new : Option (List A)) (xs : List A) → new ≡ mid → Grows old mid xs → Grows old new xs

@@ -9,8 +9,6 @@ use Rattle.bsc_edge.specs.declared.fault.LinkFault.TheVariants.{Failed, NoMemory
 use Rattle.bsc_edge.specs.declared.incoming.Incoming.{Incoming}
 use Rattle.bsc_edge.specs.declared.incoming.Incoming.TheVariants.{Message, Text, Quiet, Closed}
 use Rattle.bsc_edge.specs.declared.said.Said.{Said}
-use Rattle.bsc_edge.specs.declared.said.Said.TheVariants.{Gave}
-use Rattle.bsc_edge.specs.Told.{Grows}
 use Rattle.bsc_node.specs.declared.link_name.LinkName.{LinkName}
 use Rattle.bsc_node.specs.declared.link_name.LinkName.TheVariants.{Direct}
 use Rattle.bsc_node.specs.declared.node_event.NodeEvent.{NodeEvent}
@@ -18,14 +16,13 @@ use Rattle.bsc_node.specs.declared.node_event.NodeEvent.TheVariants.{Came, CameT
 use Rattle.bsc_node.specs.declared.action.Action.{Action}
 use Rattle.bsc_node_run.specs.declared.due.Due.{Due}
 use Rattle.bsc_node_run.specs.declared.news.News.{News}
-use Rattle.bsc_node_run.specs.Receiving.{Received, WasGiven, left_by, link_wait, told_of}
+use Rattle.bsc_node_run.specs.Calling.{IsHeard}
+use Rattle.bsc_node_run.specs.Receiving.{Received, WasGiven, left_by, told_of}
 use Rattle.bsc_node_run.specs.Turning.{Gives, GivesIn, HearsEach, HearsIf, HearsOf, IsNotDue, LinkHears, slots_from}
 use Rattle.bsc_node_run.specs.Worlds.{World, Same, is_of, is_open, with_link, ends}
+use Rattle.bsc_node_run.proofs.Worlds.{same}
 
 module _ {L : Type 0} where
-  pub same : (w : World L) → Same w w
-  same w = record { link = λ name. refl; arrived = refl; over = refl; due = refl; waiting = refl; finished = refl; dialled = refl; held = refl }
-
   -- What is due stays so.
   pub emptied : (w : World L) (due : List News) → w.due ≡ due → Same (record w { due = due }) w
   emptied w due e = record { link = λ name. refl; arrived = refl; over = refl; due = sym e; waiting = refl; finished = refl; dialled = refl; held = refl }
@@ -61,9 +58,18 @@ none_left (y ∷ ys) e = (let k : length (y ∷ ys) ≡ length ys = ap length e 
 -- ---- what is received
 
 module _ {L : Type 0} (talk : L → Option (List Said)) where
-  pub received : (name : LinkName) (k l : L) (given : Result Incoming LinkFault) (e : Option NodeEvent) (w v : World L) → Some k ≡ w.link name
-      → WasGiven given → Grows (talk k) (talk l) (Gave link_wait given ∷ []) → e ≡ told_of name given → Same v (left_by name l given w) → Received talk name (w.link name) e w v
-  received name k l given e w v is ok g told s = subst (λ (o : Option L). Received talk name o e w v) is (l, given, ok, g, told, s)
+  pub received : (name : LinkName) (before after : Option L) (given : Result Incoming LinkFault) (e : Option NodeEvent) (w v : World L) → WasGiven given
+      → IsHeard talk before after (Some given) → e ≡ told_of name given → ((l : L) → after ≡ Some l → Same v (left_by name l given w)) → Received talk name before e w v
+  received name (Some k) (Some l) given e w v ok g told s = (l, given, ok, g, told, s l refl)
+  received name (Some k) None given e w v ok g told s = absurd g
+  received name None (Some l) given e w v ok g told s = absurd g
+  received name None None given e w v ok g told s = absurd g
+
+  -- nothing is received where there is no link
+  pub unheard : (name : LinkName) (before after : Option L) (w v : World L) → IsHeard talk before after None → Received talk name before None w v
+  unheard name (Some k) (Some l) w v g = absurd g
+  unheard name (Some k) None w v g = absurd g
+  unheard name None after w v g = refl
 
 module _ {N L : Type 0} (goes : N → ℕ → NodeEvent → List Action → N → Type 0) (talk : L → Option (List Said)) (now : ℕ) where
   -- ---- what is heard

@@ -11,6 +11,9 @@ again true x y z = refl
 again false x y z = refl
 
 module _ {L : Type 0} where
+  pub same : (w : World L) → Same w w
+  same w = record { link = λ name. refl; arrived = refl; over = refl; due = refl; waiting = refl; finished = refl; dialled = refl; held = refl }
+
   pub same_then : (a b c : World L) → Same a b → Same b c → Same a c
   same_then a b c s t = record {
     link = λ name. s.link name ∙ t.link name;
@@ -63,7 +66,7 @@ module _ {L : Type 0} where
   pub link_news : (a b c : World L) (name : LinkName) (l : Option L) (change : Change) → Same b (with_link name l a) → Same c (with_news name change b) → Same c (with_news name change (with_link name l a))
   link_news a b c name l change s t = same_then c (with_news name change b) (with_news name change (with_link name l a)) t (on_news b (with_link name l a) name change s)
 
-  -- A link is taken out and put back.
+  -- A link is another one, and then one more.
   pub link_again : (a b c : World L) (name : LinkName) (x y : Option L) → Same b (with_link name x a) → Same c (with_link name y b) → Same c (with_link name y a)
   link_again a b c name x y s t = record {
     link = λ other. t.link other ∙ ap (λ (z : Option L). if same_link name other && is_name name then y else z) (s.link other) ∙ again (same_link name other && is_name name) x y (a.link other);
@@ -79,6 +82,10 @@ module _ {L : Type 0} where
   -- A link is taken out, and it was lost.
   pub ends_so : (a b c : World L) (name : LinkName) (l : L) → Same b (with_link name None a) → Same c (with_over l b) → Same c (ends name l a)
   ends_so a b c name l s t = same_then c (with_over l b) (ends name l a) t (on_over b (with_link name None a) l s)
+
+  -- A link is taken out that was another one before.
+  pub ends_again : (w x : World L) (name : LinkName) (k : Option L) (l : L) → Same x (with_link name k w) → Same (ends name l x) (ends name l w)
+  ends_again w x name k l s = on_over (with_link name None x) (with_link name None w) l (link_again w x (with_link name None x) name k None s (same (with_link name None x)))
 
   -- A link is closed, of which nothing new is told any more.
   pub closed_so : (a b c e : World L) (name : LinkName) (l : L) → Same b (forgets name a) → Same c (with_link name None b) → Same e (with_over l c) → Same e (ends name l (forgets name a))

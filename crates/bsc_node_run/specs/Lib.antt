@@ -8,7 +8,7 @@ pub mod Turning
 pub mod Receiving
 pub mod Running
 pub mod Resting
-pub mod Putting
+pub mod Calling
 pub mod Saying
 pub mod Scripts
 pub mod Reading

@@ -1,11 +1,12 @@
 //! Runs a node (Annex AB): its links, its script and the time.
 //!
 //! Start at `running`, and go down: `turning` is one turn, `telling` one event of it, `performing` carries out what the
-//! node does. `link_set` has the links of a node, and what is new of them.
+//! node does. `link_set` has the links of a node, and what is new of them; `calling` receives and puts on them where they stand.
 #![tactic(auto)]
 
 mod at;
 mod bounds;
+mod calling;
 mod due;
 mod halt;
 mod line;

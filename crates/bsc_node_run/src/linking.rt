@@ -1,10 +1,10 @@
 //! The links of a node by their names.
-ghost use Rattle.std.specs.Prelude.{◌≡◌, not, [], ◌∷◌, ◌++◌, true, false, None, Option, is_some, ◌&&◌, OnOk, IfOk};
+ghost use Rattle.std.specs.Prelude.{◌≡◌, not, [], ◌∷◌, ◌++◌, true, false, None, Some, Option, is_some, ◌&&◌, OnOk, IfOk};
 ghost use Rattle.std.specs.Prelude.{List, ℕ, ◌<◌, vec_len, slice_get, slice_set};
 ghost use Rattle.std.specs.List.{list_any};
 ghost use Rattle.bsc_node.specs.declared.link_name.LinkName.{LinkName as LinkNameType};
 ghost use Rattle.bsc_node.specs.Links.{same_link};
-ghost use Rattle.bsc_node_run.specs.Worlds.{Dialling, World, Same, begun, forgets, is_of, is_open, link_if, link_in};
+ghost use Rattle.bsc_node_run.specs.Worlds.{Dialling, World, Same, begun, ends, forgets, is_of, is_open, link_if, link_in};
 ghost use Rattle.bsc_node_run.specs.Worlds.{with_link, with_news, with_over, without, without_arrived, world_of};
 
 use crate::link_set::LinkSet;
@@ -140,6 +140,17 @@ impl<L: Drop> LinkSet<L> {
         match self.over.push(link) {
             Ok(()) => Ok(()),
             Err(_) => Err(NoMemory),
+        }
+    }
+
+    /// The link of a name is over: it is taken out, where there is one.
+    pub(crate) fn take_out(&mut self, name: LinkName) -> Result<(), NoMemory>
+        ensures { OnOk result ((d : Dialling L) (h : Option (List ℕ)) (l : L) → link_in self.old name ≡ Some l →
+            Same (world_of self.new d h) (ends name l (world_of self.old d h))) }
+    {
+        match self.replace(name, None) {
+            Some(link) => self.end(link),
+            None => Ok(()),
         }
     }
 

@@ -1,16 +1,15 @@
 //! Carrying out what a node does.
-ghost use Rattle.std.specs.Prelude.{◌≡◌, ◌≢◌, ◌≤◌, Err, List, ℕ, OnErr, OnOk, Option};
+ghost use Rattle.std.specs.Prelude.{◌≡◌, ◌≢◌, ◌≤◌, Err, List, ℕ, OnErr, OnOk, Option, Some};
 ghost use Rattle.bsc_outside.specs.Faults.{HasRisen, PutsPrefix};
 ghost use Rattle.bsc_node.specs.declared.action.Action.TheVariants.{Dial};
 ghost use Rattle.bsc_node_run.specs.Halts.{RisesOnWriteFault};
 ghost use Rattle.bsc_node_run.specs.declared.halt.Halt.{Halt as HaltType};
 ghost use Rattle.bsc_node_run.specs.Lines.{delivered_line, note_line};
 ghost use Rattle.bsc_node_run.specs.declared.news.Change.TheVariants.{Lost};
-ghost use Rattle.bsc_node_run.specs.Putting.{PutsOut};
 ghost use Rattle.bsc_node_run.specs.Performing.{Carries, Closes, Dials, Does, IsClosed, Puts, Refuses, Takes, Tells};
 ghost use Rattle.bsc_node_run.specs.Performing.{Writes, is_end, kind_of};
 ghost use Rattle.bsc_node_run.specs.Stopping.{Breaks, DoesPart};
-ghost use Rattle.bsc_node_run.specs.Worlds.{Dialling, Same, dialling, link_in, with_news, with_over, world_of};
+ghost use Rattle.bsc_node_run.specs.Worlds.{Dialling, Same, dialling, ends, link_in, with_news, with_over, world_of};
 ghost use Rattle.std.specs.Io.KnownBytes.{Appends};
 
 use crate::halt::Halt;
@@ -102,35 +101,13 @@ fn refuse<L: Link + Drop>(
     }
 }
 
-/// A link that was taken out is lost.
-fn lose<L: Link + Drop>(set: &mut LinkSet<L>, name: LinkName, link: L) -> Result<(), NoMemory>
-    ensures { OnOk result ((d : Dialling L) (h : Option (List ℕ)) →
-        Same (world_of set.new d h) (with_news name Lost (with_over link (world_of set.old d h)))) }
+/// The link of a name is lost.
+fn lose<L: Link + Drop>(set: &mut LinkSet<L>, name: LinkName) -> Result<(), NoMemory>
+    ensures { OnOk result ((d : Dialling L) (h : Option (List ℕ)) (l : L) → link_in set.old name ≡ Some l →
+        Same (world_of set.new d h) (with_news name Lost (ends name l (world_of set.old d h)))) }
 {
-    set.end(link)?;
+    set.take_out(name)?;
     set.note(name, Change::Lost)
-}
-
-/// Puts a message on a link that was taken out, and puts the link back. One that fails is lost.
-fn put_on<L: Link + Drop>(
-    alloc: Global,
-    set: &mut LinkSet<L>,
-    name: LinkName,
-    link: L,
-    octets: &[u8],
-) -> Result<(), NoMemory>
-    ensures { OnOk result ((d : Dialling L) (h : Option (List ℕ)) →
-        PutsOut L.talk name octets.now link (world_of set.old d h) (world_of set.new d h)) }
-{
-    let mut link = link;
-    match link.put(alloc, octets) {
-        Ok(()) => {
-            let _ = set.replace(name, Some(link));
-            Ok(())
-        }
-        Err(LinkFault::Failed) => lose(set, name, link),
-        Err(LinkFault::NoMemory) => Err(NoMemory),
-    }
 }
 
 /// Puts a message on the link of a name, where there is one. A link that fails is lost.
@@ -143,9 +120,10 @@ fn put<L: Link + Drop>(
     ensures { OnOk result ((d : Dialling L) (h : Option (List ℕ)) →
         Puts L.talk name octets.now (link_in set.old name) (world_of set.old d h) (world_of set.new d h)) }
 {
-    match set.replace(name, None) {
-        Some(link) => put_on(alloc, set, name, link, octets),
-        None => Ok(()),
+    match set.put(alloc, name, octets) {
+        Ok(()) => Ok(()),
+        Err(LinkFault::Failed) => lose(set, name),
+        Err(LinkFault::NoMemory) => Err(NoMemory),
     }
 }
 

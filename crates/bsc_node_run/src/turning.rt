@@ -14,10 +14,10 @@ ghost use Rattle.bsc_node_run.specs.Requests.{has_octets};
 ghost use Rattle.bsc_node_run.specs.Stopping.{AdmitStops, EachStop, HearStops, LinesStop, NewsStop, StartStops, TurnBreaks};
 ghost use Rattle.bsc_node_run.specs.Turning.{Admits, AreDue, GivesLines, GivesNews, HearsEach, IsNotDue, LinkHears};
 ghost use Rattle.bsc_node_run.specs.Turning.{Starts, TurnsTo, event_of, names, passed_by, slots_from};
-ghost use Rattle.bsc_node_run.specs.Worlds.{Dialling, Same, admitting, dialling, link_in, with_over, world_of};
+ghost use Rattle.bsc_node_run.specs.Worlds.{Dialling, Same, admitting, dialling, ends, link_in, world_of};
 
 use crate::at::At;
-use crate::bounds::{ACCEPT_WAIT_MS, LINK_WAIT_MS};
+use crate::bounds::ACCEPT_WAIT_MS;
 use crate::due::Due;
 use crate::halt::Halt;
 use crate::link_set::LinkSet;
@@ -107,17 +107,13 @@ fn give_due<'a, N: Core, K: Sink, W: Words, L: Link + Drop, D: Dialer<L>>(
     Ok(left)
 }
 
-/// A link that was taken out was lost: what the node is told of it.
-fn lose<L: Link + Drop>(
-    set: &mut LinkSet<L>,
-    name: LinkName,
-    link: L,
-) -> Result<Option<NodeEvent>, NoMemory>
+/// The link of a name is lost: what the node is told of it.
+fn lose<L: Link + Drop>(set: &mut LinkSet<L>, name: LinkName) -> Result<Option<NodeEvent>, NoMemory>
     ensures octets { IfOk result (λ e. IfSome e (λ event. has_octets event ≡ true)) }
-    ensures ended { IfOk result (λ e. (e ≡ Some (LostEvent name)) × ((d : Dialling L) (h : Option (List ℕ)) →
-        Same (world_of set.new d h) (with_over link (world_of set.old d h)))) }
+    ensures ended { IfOk result (λ e. (e ≡ Some (LostEvent name)) × ((d : Dialling L) (h : Option (List ℕ)) (l : L) →
+        link_in set.old name ≡ Some l → Same (world_of set.new d h) (ends name l (world_of set.old d h)))) }
 {
-    set.end(link)?;
+    set.take_out(name)?;
     Ok(Some(NodeEvent::Lost(name)))
 }
 
@@ -131,26 +127,14 @@ fn receive<L: Link + Drop>(
     ensures received { IfOk result (λ e. (d : Dialling L) (h : Option (List ℕ)) →
         Received L.talk name (link_in set.old name) e (world_of set.old d h) (world_of set.new d h)) }
 {
-    let Some(link) = set.replace(name, None) else {
-        return Ok(None);
-    };
-    let mut link = link;
-    match link.receive(alloc, LINK_WAIT_MS) {
-        Ok(Incoming::Message(octets)) => {
-            let _ = set.replace(name, Some(link));
-            Ok(Some(NodeEvent::Came(name, octets)))
-        }
-        Ok(Incoming::Text) => {
-            let _ = set.replace(name, Some(link));
-            Ok(Some(NodeEvent::CameText(name)))
-        }
-        Ok(Incoming::Quiet) => {
-            let _ = set.replace(name, Some(link));
-            Ok(None)
-        }
-        Ok(Incoming::Closed) => lose(set, name, link),
-        Err(LinkFault::Failed) => lose(set, name, link),
-        Err(LinkFault::NoMemory) => Err(NoMemory),
+    match set.receive(alloc, name) {
+        Some(Ok(Incoming::Message(octets))) => Ok(Some(NodeEvent::Came(name, octets))),
+        Some(Ok(Incoming::Text)) => Ok(Some(NodeEvent::CameText(name))),
+        Some(Ok(Incoming::Quiet)) => Ok(None),
+        Some(Ok(Incoming::Closed)) => lose(set, name),
+        Some(Err(LinkFault::Failed)) => lose(set, name),
+        Some(Err(LinkFault::NoMemory)) => Err(NoMemory),
+        None => Ok(None),
     }
 }
 

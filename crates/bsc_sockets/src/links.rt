@@ -1,6 +1,6 @@
 //! The links of the program, and what dials them.
 use crate::waiting::Shared;
-use bsc_gate::{BoxingDialer, SocketLink, SocketOpener};
+use bsc_gate::{SocketLink, SocketOpener};
 use bsc_live::Bells;
 use bsc_log::{LoggedLink, UnloggedDialer};
 use bsc_octets::NoMemory;
@@ -12,7 +12,7 @@ use std::sync::Arc;
 pub type RealLink<R> = LoggedLink<SocketLink<R>, R>;
 
 /// The dialer of the program's links.
-pub type RealDialer<R> = UnloggedDialer<BoxingDialer<StreamDialer<SocketOpener<R>>>>;
+pub type RealDialer<R> = UnloggedDialer<StreamDialer<SocketOpener<R>>>;
 
 /// The dialer of links over sockets, which share this.
 pub fn real_dialer<R: Drop>(
@@ -27,5 +27,5 @@ pub fn real_dialer<R: Drop>(
         Some(watch) => opener.watched_by(watch),
         None => opener,
     });
-    Ok(UnloggedDialer::new(BoxingDialer::new(dialer)))
+    Ok(UnloggedDialer::new(dialer))
 }

@@ -9,7 +9,7 @@ use Rattle.bsc_node_run.specs.declared.due.Due.{Due}
 use Rattle.bsc_node_run.specs.Drawing.{Draws}
 use Rattle.bsc_node_run.specs.Scripts.{script_of, wish_of}
 use Rattle.bsc_node_run.specs.Worlds.{admitting, dialling}
-use Rattle.bsc_node_run_laws.specs.Courses.{FinishCame}
+use Rattle.bsc_node_laws.specs.Courses.{FinishCame}
 use Rattle.bsc_node_command.specs.Comes.{CommandWorld, RunsFiles}
 use Rattle.bsc_words.specs.Words.{seen}
 use Rattle.bsc_commands.proofs.Reading.{of_hub, of_node}

@@ -3,7 +3,7 @@ use Rattle.bsc_node_run.specs.Drawing.{at_rest}
 use Rattle.bsc_node_run.specs.Turning.{draws}
 use Rattle.bsc_node_run.specs.Worlds.{dialling, world_of}
 use Rattle.bsc_node_run.proofs.Giving.{gives_at_rest}
-use Rattle.bsc_node_run.proofs.Turns.{same}
+use Rattle.bsc_node_run.proofs.Worlds.{same}
 use Rattle.bsc_node_run.proofs.Stops.{at_err, stops_at_rest, stops_at_word}
 use Rattle.bsc_node_run.proofs.telling.give.Goals as goal
 use Rattle.std.proofs.lemmas.Result.{on_err_weaker as on_err, on_ok_weaker as on_ok}

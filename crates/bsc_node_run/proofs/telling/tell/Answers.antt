@@ -1,6 +1,6 @@
 use Rattle.std.proofs.Common.{inl, inr}
 use Rattle.bsc_node_run.specs.Worlds.{dialling, world_of}
-use Rattle.bsc_node_run.proofs.Turns.{same}
+use Rattle.bsc_node_run.proofs.Worlds.{same}
 use Rattle.bsc_node_run.proofs.Stops.{at_err}
 use Rattle.bsc_node_run.proofs.telling.tell.Goals as goal
 

@@ -1,7 +1,8 @@
 use Rattle.std.proofs.Common.{inl, inr, refl, arith, ◌∷◌, []}
 use Rattle.bsc_node_run.specs.Drawing.{at_rest}
 use Rattle.bsc_node_run.specs.Worlds.{dialling, world_of}
-use Rattle.bsc_node_run.proofs.Turns.{cut_first, none_due, not_due, same}
+use Rattle.bsc_node_run.proofs.Turns.{cut_first, none_due, not_due}
+use Rattle.bsc_node_run.proofs.Worlds.{same}
 use Rattle.bsc_node_run.proofs.Stops.{at_err}
 use Rattle.bsc_node_run.proofs.turning.give_due.Goals as goal
 

@@ -20,7 +20,7 @@ use Rattle.bsc_node_laws.proofs.There.{taken-other}
 use Rattle.bsc_node_run.specs.declared.news.Change.{Change}
 use Rattle.bsc_node_run.specs.declared.news.News.{News}
 use Rattle.bsc_node_run.specs.Worlds.{World, Same, is_name, is_of, without, with_link, with_news, forgets}
-use Rattle.bsc_node_run_laws.proofs.Agreeing.{changes_of, news_in, AgreesBy, AgreesOn, Agrees}
+use Rattle.bsc_node_laws.proofs.Agreeing.{changes_of, news_in, AgreesBy, AgreesOn, Agrees}
 use Rattle.bsc_lemmas.proofs.Booleans.{and_left, and_right}
 use Rattle.bsc_node.proofs.Common.{same_link-is as same_link-true}
 use Rattle.std.proofs.lemmas.Bool.{and_from as and_both, or_left as or_first}

@@ -34,8 +34,8 @@ use Rattle.bsc_node_run.specs.Running.{Run, Turns, EndsSo}
 use Rattle.bsc_node_run.specs.Turning.{Admits, GivesWord, Gives, GivesIn, GivesLines, GivesNews, HearsEach, HearsIf, HearsOf, Starts, Turn, draws, event_of, names}
 use Rattle.bsc_node_run.specs.Worlds.{Admitting, Dialling, World, Same, begun, ends, is_open, with_link}
 use Rattle.bsc_node_run.specs.Moments.{moment, run_moment}
-use Rattle.bsc_node_run_laws.specs.Courses.{GoesAsDefined}
-use Rattle.bsc_node_run_laws.specs.Said.{AreDialled, EndsAsTold, IsSaid, done_in, line_by, tells_end, uri_by}
+use Rattle.bsc_node_laws.specs.Courses.{GoesAsDefined}
+use Rattle.bsc_node_laws.specs.Said.{AreDialled, EndsAsTold, IsSaid, done_in, line_by, tells_end, uri_by}
 use Rattle.bsc_lemmas.proofs.Booleans.{or_false as or_none}
 
 -- ---- what is written and dialled between two moments

@@ -27,9 +27,9 @@ use Rattle.bsc_node_laws.proofs.Drawn.{seam}
 use Rattle.bsc_node_run.specs.Performing.{Carries}
 use Rattle.bsc_node_run.specs.Turning as Turning
 use Rattle.bsc_node_run.specs.Worlds.{World}
-use Rattle.bsc_node_run_laws.proofs.Agreeing.{Agrees}
-use Rattle.bsc_node_run_laws.proofs.Same.{agrees-quiet}
-use Rattle.bsc_node_run_laws.proofs.Carrying.{carries_keeps, takes_keeps}
+use Rattle.bsc_node_laws.proofs.Agreeing.{Agrees}
+use Rattle.bsc_node_laws.proofs.Same.{agrees-quiet}
+use Rattle.bsc_node_laws.proofs.Carrying.{carries_keeps, takes_keeps}
 use Rattle.bsc_lemmas.proofs.Booleans.{and_left, and_right}
 use Rattle.std.proofs.lemmas.Bool.{and_from as both}
 

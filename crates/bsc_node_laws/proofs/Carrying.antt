@@ -24,9 +24,9 @@ use Rattle.bsc_node_run.specs.declared.news.Change.TheVariants.{Opened, DialFail
 use Rattle.bsc_node_run.specs.declared.news.News.{News}
 use Rattle.bsc_node_run.specs.Performing.{after_dial, Takes, Refuses, Puts, Closes, Does, Carries}
 use Rattle.bsc_node_run.specs.Worlds.{World, Same, is_name, is_of, without, with_link, with_news, forgets}
-use Rattle.bsc_node_run_laws.proofs.Agreeing.{changes_of, news_in, AgreesBy, Agrees}
-use Rattle.bsc_node_run_laws.proofs.Same.{in_slots_named, changes-last_here, changes-without, stands_open, agrees_as, or_same, ApartIn, line-apart, same-log}
-use Rattle.bsc_node_run_laws.proofs.Same.{Alike, agrees-alike, agrees-same, agrees-quiet, Apart, touches, apart-then, link-here, apart-link, apart-news, apart-forgets}
+use Rattle.bsc_node_laws.proofs.Agreeing.{changes_of, news_in, AgreesBy, Agrees}
+use Rattle.bsc_node_laws.proofs.Same.{in_slots_named, changes-last_here, changes-without, stands_open, agrees_as, or_same, ApartIn, line-apart, same-log}
+use Rattle.bsc_node_laws.proofs.Same.{Alike, agrees-alike, agrees-same, agrees-quiet, Apart, touches, apart-then, link-here, apart-link, apart-news, apart-forgets}
 use Rattle.bsc_node.proofs.Common.{same_link-is as same_link-true}
 use Rattle.bsc_node.proofs.There.{closed-gone}
 

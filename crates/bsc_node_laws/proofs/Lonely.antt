@@ -11,11 +11,11 @@ use Rattle.bsc_node_run.specs.Requests.{is_asked}
 use Rattle.bsc_node_run.specs.Worlds.{Admitting, Dialling, World}
 use Rattle.bsc_node_run.specs.Running.{Turns, Run}
 use Rattle.bsc_node_run.specs.Moments.{moment, run_moment}
-use Rattle.bsc_node_run_laws.specs.Courses.{GoesAsDefined}
-use Rattle.bsc_node_run_laws.specs.Alone.{Alone, turn, turns_from, due_by, not_due_by, alone, NoLinkCame}
-use Rattle.bsc_node_run_laws.proofs.AloneBack.{LeadsTo, StillLeft, turns_back, turns_left}
-use Rattle.bsc_node_run_laws.proofs.AloneActing.{NoneComes, Stands, stays}
-use Rattle.bsc_node_run_laws.proofs.AloneTurning.{all_asked, first_events, turn_stands}
+use Rattle.bsc_node_laws.specs.Courses.{GoesAsDefined}
+use Rattle.bsc_node_laws.specs.Alone.{Alone, turn, turns_from, due_by, not_due_by, alone, NoLinkCame}
+use Rattle.bsc_node_laws.proofs.AloneBack.{LeadsTo, StillLeft, turns_back, turns_left}
+use Rattle.bsc_node_laws.proofs.AloneActing.{NoneComes, Stands, stays}
+use Rattle.bsc_node_laws.proofs.AloneTurning.{all_asked, first_events, turn_stands}
 
 module _ {L : Type 0} (a : Made) (talk : L → Option (List Said)) (all : List Dialled) (links : List L) (listens : Bool) where
   -- Turns after the first, which was at this time.

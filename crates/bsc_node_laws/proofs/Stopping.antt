@@ -24,12 +24,12 @@ use Rattle.bsc_node_run.specs.Stopping.{RunFails, StopsFromLines, StopsFromLinks
 use Rattle.bsc_node_run.specs.Turning.{AreDue, Gives, GivesLines, GivesNews, HearsEach, LinkHears, Starts, Turn, event_of, names, passed_by}
 use Rattle.bsc_node_run.specs.Worlds.{Admitting, Dialling, World, Same, begun, is_name, is_open}
 use Rattle.bsc_node_run.specs.Moments.{in_hands, moment, outside, run_moment}
-use Rattle.bsc_node_run_laws.proofs.Beside.{Both, beside}
-use Rattle.bsc_node_run_laws.proofs.Coming.{draws-same}
-use Rattle.bsc_node_run_laws.proofs.Courses.{FinishBy, asked_rest, at_first, at_later, by_due, within_rest}
-use Rattle.bsc_node_run_laws.proofs.Lifting.{at, Holds, Ready, Stood, Steps, after, gives, ready_word}
-use Rattle.bsc_node_run_laws.proofs.Turning.{asks, contains_first, given_lines, given_news, goes_on_later, heard_each, heard_if}
-use Rattle.bsc_node_run_laws.proofs.Turning.{ready_arrived, ready_heard, ready_line, ready_news, ready_start, ready_tick, started, turn}
+use Rattle.bsc_node_laws.proofs.Beside.{Both, beside}
+use Rattle.bsc_node_laws.proofs.Coming.{draws-same}
+use Rattle.bsc_node_laws.proofs.Courses.{FinishBy, asked_rest, at_first, at_later, by_due, within_rest}
+use Rattle.bsc_node_laws.proofs.Lifting.{at, Holds, Ready, Stood, Steps, after, gives, ready_word}
+use Rattle.bsc_node_laws.proofs.Turning.{asks, contains_first, given_lines, given_news, goes_on_later, heard_each, heard_if}
+use Rattle.bsc_node_laws.proofs.Turning.{ready_arrived, ready_heard, ready_line, ready_news, ready_start, ready_tick, started, turn}
 use Rattle.bsc_lemmas.proofs.Booleans.{and_left, and_right}
 
 module _ {N L : Type 0} (goes : N → ℕ → NodeEvent → List Action → N → Type 0) (talk : L → Option (List Said)) (a : Made) (Stands : N → Log → Type 0)

@@ -16,13 +16,13 @@ use Rattle.bsc_node_run.specs.Running.{DontFall, EndsSo, IsEmpty, Run, Turns}
 use Rattle.bsc_node_run.specs.Turning.{Turn}
 use Rattle.bsc_node_run.specs.Worlds.{Admitting, Dialling, World, Same, begun}
 use Rattle.bsc_node_run.specs.Moments.{moment, run_moment}
-use Rattle.bsc_node_run_laws.specs.Courses.{last_from, FinishIsOver, FinishCame}
-use Rattle.bsc_node_run_laws.proofs.Agreeing.{Agrees}
-use Rattle.bsc_node_run_laws.proofs.Beside.{Both, beside, beside_same}
-use Rattle.bsc_node_run_laws.proofs.Same.{agrees-same}
-use Rattle.bsc_node_run_laws.proofs.News.{begun_keeps, empty_agrees}
-use Rattle.bsc_node_run_laws.proofs.Lifting.{Holds, Steps}
-use Rattle.bsc_node_run_laws.proofs.Turning.{asks, no_true, started, goes_on_later, turn}
+use Rattle.bsc_node_laws.specs.Courses.{last_from, FinishIsOver, FinishCame}
+use Rattle.bsc_node_laws.proofs.Agreeing.{Agrees}
+use Rattle.bsc_node_laws.proofs.Beside.{Both, beside, beside_same}
+use Rattle.bsc_node_laws.proofs.Same.{agrees-same}
+use Rattle.bsc_node_laws.proofs.News.{begun_keeps, empty_agrees}
+use Rattle.bsc_node_laws.proofs.Lifting.{Holds, Steps}
+use Rattle.bsc_node_laws.proofs.Turning.{asks, no_true, started, goes_on_later, turn}
 use Rattle.bsc_lemmas.proofs.Booleans.{and_right}
 
 -- A line of the script is `finish`, and its time has passed at a reading of the clock, from the first one.

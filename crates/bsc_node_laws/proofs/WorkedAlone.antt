@@ -8,8 +8,8 @@ use Rattle.bsc_node.specs.declared.note.Note.TheVariants.{NoPath, Finished}
 use Rattle.bsc_node.specs.Logs.{Made, Log}
 use Rattle.bsc_node_run.specs.declared.due.Due.{Due}
 use Rattle.bsc_node_run.specs.Lines.{note_line}
-use Rattle.bsc_node_run_laws.specs.Said.{text_of, uris_of}
-use Rattle.bsc_node_run_laws.specs.Alone.{alone}
+use Rattle.bsc_node_laws.specs.Said.{text_of, uris_of}
+use Rattle.bsc_node_laws.specs.Alone.{alone}
 
 abbrev address : ℕ → Vmac
 address n = record { 0 = 2 ∷ 0 ∷ 0 ∷ 0 ∷ 0 ∷ n ∷ [] }

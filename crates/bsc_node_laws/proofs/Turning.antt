@@ -32,12 +32,12 @@ use Rattle.bsc_node_run.specs.Requests.{is_asked}
 use Rattle.bsc_node_run.specs.Turning.{event_of, names, passed_by, AreDue, Gives, GivesIn, GivesNews, GivesLines, HearsOf, HearsIf, LinkHears, HearsEach, Admits, Starts, Turn}
 use Rattle.bsc_node_run.specs.Worlds.{Admitting, World, Same, begun, ends, is_name, is_open, with_link}
 use Rattle.bsc_node_run.specs.Moments.{moment}
-use Rattle.bsc_node_run_laws.proofs.Agreeing.{Agrees}
-use Rattle.bsc_node_run_laws.proofs.Beside.{Both, beside, beside_same}
-use Rattle.bsc_node_run_laws.proofs.Same.{agrees-same}
-use Rattle.bsc_node_run_laws.proofs.News.{begun_keeps, news_may, news_keeps, event_keeps, hears_may, hears_keeps, lost_keeps, asked-ends}
-use Rattle.bsc_node_run_laws.proofs.Coming.{goes_keeps, admits_keeps}
-use Rattle.bsc_node_run_laws.proofs.Lifting.{at, is_plain, may_at, Holds, stood_same, Ready, ready_of, ready_plain, Steps, gives, gives_in, gives_due, gives_in_due}
+use Rattle.bsc_node_laws.proofs.Agreeing.{Agrees}
+use Rattle.bsc_node_laws.proofs.Beside.{Both, beside, beside_same}
+use Rattle.bsc_node_laws.proofs.Same.{agrees-same}
+use Rattle.bsc_node_laws.proofs.News.{begun_keeps, news_may, news_keeps, event_keeps, hears_may, hears_keeps, lost_keeps, asked-ends}
+use Rattle.bsc_node_laws.proofs.Coming.{goes_keeps, admits_keeps}
+use Rattle.bsc_node_laws.proofs.Lifting.{at, is_plain, may_at, Holds, stood_same, Ready, ready_of, ready_plain, Steps, gives, gives_in, gives_due, gives_in_due}
 use Rattle.bsc_lemmas.proofs.Booleans.{and_left, and_right, if_no as no_word}
 
 -- ---- what the events of a turn are

@@ -23,12 +23,12 @@ use Rattle.bsc_node_run.specs.Performing.{Carries}
 use Rattle.bsc_node_run.specs.Turning.{GivesWord, Gives, GivesIn}
 use Rattle.bsc_node_run.specs.Turning as Turning
 use Rattle.bsc_node_run.specs.Worlds.{World, Same}
-use Rattle.bsc_node_run_laws.proofs.Agreeing.{Agrees}
-use Rattle.bsc_node_run_laws.proofs.Beside.{Both, beside, beside_same}
-use Rattle.bsc_node_run_laws.proofs.Same.{agrees-same}
-use Rattle.bsc_node_run_laws.proofs.Carrying.{carries_due}
-use Rattle.bsc_node_run_laws.proofs.News.{event_keeps}
-use Rattle.bsc_node_run_laws.proofs.Coming.{comes_of, now_then, finishing_by, draws-same, goes_keeps}
+use Rattle.bsc_node_laws.proofs.Agreeing.{Agrees}
+use Rattle.bsc_node_laws.proofs.Beside.{Both, beside, beside_same}
+use Rattle.bsc_node_laws.proofs.Same.{agrees-same}
+use Rattle.bsc_node_laws.proofs.Carrying.{carries_due}
+use Rattle.bsc_node_laws.proofs.News.{event_keeps}
+use Rattle.bsc_node_laws.proofs.Coming.{comes_of, now_then, finishing_by, draws-same, goes_keeps}
 use Rattle.bsc_lemmas.proofs.Booleans.{all_four}
 
 -- an event at a time

@@ -25,10 +25,10 @@ use Rattle.bsc_node_run.specs.Requests.{is_asked}
 use Rattle.bsc_node_run.specs.Worlds.{Admitting, Dialling, World, Same, is_of, is_open, begun}
 use Rattle.bsc_node_run.specs.Turning.{Gives, GivesNews, GivesLines, HearsIf, HearsEach, Admits, Starts, Turn, AreDue, IsNotDue, event_of, names as all_names, passed_by}
 use Rattle.bsc_node_run.specs.Moments.{moment}
-use Rattle.bsc_node_run_laws.specs.Courses.{GoesAsDefined}
-use Rattle.bsc_node_run_laws.specs.Alone.{Alone, after_action, told, told_oldest, told_failed, turn, due_by, not_due_by}
-use Rattle.bsc_node_run_laws.proofs.AloneBack.{LeadsTo, StillLeft, gives_back, news_back, lines_back, each_back, admits_back}
-use Rattle.bsc_node_run_laws.proofs.AloneActing.{NoneComes, failure, Stands, stays, gives_stands}
+use Rattle.bsc_node_laws.specs.Courses.{GoesAsDefined}
+use Rattle.bsc_node_laws.specs.Alone.{Alone, after_action, told, told_oldest, told_failed, turn, due_by, not_due_by}
+use Rattle.bsc_node_laws.proofs.AloneBack.{LeadsTo, StillLeft, gives_back, news_back, lines_back, each_back, admits_back}
+use Rattle.bsc_node_laws.proofs.AloneActing.{NoneComes, failure, Stands, stays, gives_stands}
 use Rattle.bsc_lemmas.proofs.Booleans.{and_left, and_right}
 use Rattle.bsc_lemmas.proofs.Lists.{filter_le}
 

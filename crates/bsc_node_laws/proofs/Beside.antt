@@ -3,7 +3,7 @@ use Rattle.std.proofs.Common.{◌≡◌, ℕ, List, ap}
 use Rattle.bsc_node.specs.declared.node_event.NodeEvent.{NodeEvent}
 use Rattle.bsc_node.specs.declared.action.Action.{Action}
 use Rattle.bsc_node.specs.Logs.{Made, Log}
-use Rattle.bsc_node_run_laws.specs.Courses.{GoesAsDefined}
+use Rattle.bsc_node_laws.specs.Courses.{GoesAsDefined}
 
 pub record Beside (N : Type 0) : Type 0 where
   pub core : N

@@ -12,7 +12,7 @@ use Rattle.bsc_node_run.specs.Stopping.{RunFails, StopsFromLines, StopsFromLinks
 use Rattle.bsc_node_run.specs.Turning.{event_of, names, passed_by}
 use Rattle.bsc_node_run.specs.Worlds.{Admitting, Dialling, World, is_open}
 use Rattle.bsc_node_run.specs.Moments.{in_hands, moment, outside, run_moment}
-use Rattle.bsc_node_run_laws.proofs.Mapping.{Maps, each_map, gives_map, hears_map, lines_map, news_map, starts_map, turn_map}
+use Rattle.bsc_node_laws.proofs.Mapping.{Maps, each_map, gives_map, hears_map, lines_map, news_map, starts_map, turn_map}
 
 module _ {N P L : Type 0} (goes : N → ℕ → NodeEvent → List Action → N → Type 0) (goes' : P → ℕ → NodeEvent → List Action → P → Type 0) (f : N → P)
     (step : Maps goes goes' f) (talk : L → Option (List Said)) (t : ℕ) where

@@ -29,9 +29,9 @@ use Rattle.bsc_node_run.specs.declared.news.News.{News}
 use Rattle.bsc_node_run.specs.Worlds.{Dialling, World, Same, without, forgets}
 use Rattle.bsc_node_run.specs.Performing.{Takes, Refuses, Puts, Closes, Does, Carries, is_draw, after_dial}
 use Rattle.bsc_node_run.specs.Turning.{GivesWord, Gives, draws}
-use Rattle.bsc_node_run_laws.specs.Courses.{GoesAsDefined}
-use Rattle.bsc_node_run_laws.specs.Alone.{Alone, all_but, after_action, told}
-use Rattle.bsc_node_run_laws.proofs.AloneBack.{LeadsTo, carries_back}
+use Rattle.bsc_node_laws.specs.Courses.{GoesAsDefined}
+use Rattle.bsc_node_laws.specs.Alone.{Alone, all_but, after_action, told}
+use Rattle.bsc_node_laws.proofs.AloneBack.{LeadsTo, carries_back}
 use Rattle.bsc_lemmas.proofs.Booleans.{and_left, and_right, not_true}
 
 -- ---- no word is drawn

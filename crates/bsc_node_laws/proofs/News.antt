@@ -21,10 +21,10 @@ use Rattle.bsc_node_run.specs.Requests.{is_asked}
 use Rattle.bsc_node_run.specs.Running.{IsEmpty}
 use Rattle.bsc_node_run.specs.Turning.{event_of}
 use Rattle.bsc_node_run.specs.Worlds.{Dialling, World, is_name, is_of, with_link, begun, ends, is_open}
-use Rattle.bsc_node_run_laws.proofs.Agreeing.{changes_of, news_in, AgreesBy, Agrees}
-use Rattle.bsc_node_run_laws.proofs.Same.{changes-here, changes-other, changes-none, named, stands_open, agrees_as, agrees_like}
-use Rattle.bsc_node_run_laws.proofs.Same.{ApartIn, line-apart, agrees-alike, agrees-quiet, Apart, touches, link-here, apart-link}
-use Rattle.bsc_node_run_laws.proofs.Carrying.{in_hand, replaces}
+use Rattle.bsc_node_laws.proofs.Agreeing.{changes_of, news_in, AgreesBy, Agrees}
+use Rattle.bsc_node_laws.proofs.Same.{changes-here, changes-other, changes-none, named, stands_open, agrees_as, agrees_like}
+use Rattle.bsc_node_laws.proofs.Same.{ApartIn, line-apart, agrees-alike, agrees-quiet, Apart, touches, link-here, apart-link}
+use Rattle.bsc_node_laws.proofs.Carrying.{in_hand, replaces}
 use Rattle.bsc_lemmas.proofs.Booleans.{and_left, and_right, not_true, or_true}
 use Rattle.bsc_lemmas.proofs.Options.{found_some}
 use Rattle.bsc_node.proofs.There.{there-other, there-over}
