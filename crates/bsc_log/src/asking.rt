@@ -48,6 +48,8 @@ fn plain_asker(m: &[u8]) -> Option<Identity>
 }
 
 /// Who asks to join by these octets, if they are any Connect-Request.
+#[cold]
+#[inline(never)]
 fn any_asker(alloc: Global, m: &[u8]) -> Option<Identity>
     ensures { IfSome result (λ who. Asks m.now who) }
 {

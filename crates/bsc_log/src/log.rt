@@ -35,7 +35,8 @@ impl<R: Clock + Wait> Log<R> {
         }
     }
 
-    /// This was given by a receive.
+    /// This was given by a receive. It is one piece of code, apart from the receive's, of which each join meets a part alone.
+    #[inline(never)]
     pub(crate) fn given(&mut self, alloc: Global, given: &Result<Incoming, LinkFault>) {
         match given {
             Ok(Incoming::Message(m)) => {

@@ -11,7 +11,7 @@ use std::sync::{Mutex, Wait};
 use std::time::Duration;
 
 /// Where so many records wait, the acceptor's next look has them written, whatever it brought.
-const MANY: usize = 64;
+const MANY: usize = 128;
 
 /// Where so many wait, the link that told the last one writes them. There is room for more, which others tell meanwhile.
 const FULL: usize = 256;

@@ -1,6 +1,7 @@
 //! The real acceptor, and what an operator is told of it.
 ghost use Rattle.std.specs.Prelude.{◌≡◌, ◌≤◌, None};
 
+use crate::boxed_link::BoxedLink;
 use crate::links::RealLink;
 use crate::waiting::Shared;
 use bsc_edge::{Acceptor, Arrived, Failed, Kind, LinkFault};
@@ -120,6 +121,18 @@ fn tell_open<R: Eprint>(rt: &R, kind: Kind, port: u16, owner: Vmac) {
     );
 }
 
+/// What an acceptor answered, with its link in memory of its own.
+fn boxed<L: Drop>(
+    alloc: Global,
+    answer: Result<Arrived<L>, LinkFault>,
+) -> Result<Arrived<BoxedLink<L>>, LinkFault> {
+    match answer {
+        Ok(Arrived::Link(link)) => Ok(Arrived::Link(BoxedLink::new(alloc, link)?)),
+        Ok(Arrived::Quiet) => Ok(Arrived::Quiet),
+        Err(fault) => Err(fault),
+    }
+}
+
 impl<R: Clock + Net + Wait + Eprint + Env + RandomSource + Copy + Drop> Acceptor<RealLink<R>>
     for Door<R> {
     ghost faults = { λ d. d.faults };
@@ -149,7 +162,7 @@ impl<R: Clock + Net + Wait + Eprint + Env + RandomSource + Copy + Drop> Acceptor
 
     fn next(&mut self, alloc: Global, wait_ms: u32) -> Result<Arrived<RealLink<R>>, LinkFault> {
         let answer = match &mut self.gate {
-            Some(gate) => gate.next(alloc, wait_ms),
+            Some(gate) => boxed(alloc, gate.next(alloc, wait_ms)),
             None => Err(LinkFault::Failed),
         };
         match &answer {

@@ -2,14 +2,18 @@
 //!
 //! `door` has the acceptor, a gate that is made where it is bound, and then tells of its port on standard error; `links` the type
 //! of the program's links, which may be dialled or accepted, and of which a log is told where the environment asks for one, and the
-//! dialer; and `waiting` the waiter, by which a node waits for all of its links. `main` of `bsc_program` hands them to the commands,
+//! dialer; `boxed_link` and `boxing_dialer` give each link memory of its own; and `waiting` is the waiter, by which a node waits for all of its links. `main` of `bsc_program` hands them to the commands,
 //! which take any.
 #![tactic(auto)]
 
+mod boxed_link;
+mod boxing_dialer;
 mod door;
 mod links;
 mod waiting;
 
+pub use boxed_link::BoxedLink;
+pub use boxing_dialer::BoxingDialer;
 pub use door::Door;
 pub use links::{RealDialer, RealLink, real_dialer};
 pub use waiting::{RealWaiter, Shared};

@@ -1,4 +1,6 @@
 //! The links of the program, and what dials them.
+use crate::boxed_link::BoxedLink;
+use crate::boxing_dialer::BoxingDialer;
 use crate::waiting::Shared;
 use bsc_gate::{SocketLink, SocketOpener};
 use bsc_live::Bells;
@@ -8,11 +10,11 @@ use bsc_ws::StreamDialer;
 use std::alloc::Global;
 use std::sync::Arc;
 
-/// A link of the program: over a socket, dialled or accepted. A log may be told of one that was accepted.
-pub type RealLink<R> = LoggedLink<SocketLink<R>, R>;
+/// A link of the program: over a socket, dialled or accepted, in memory of its own. A log may be told of one that was accepted.
+pub type RealLink<R> = BoxedLink<LoggedLink<SocketLink<R>, R>>;
 
 /// The dialer of the program's links.
-pub type RealDialer<R> = UnloggedDialer<StreamDialer<SocketOpener<R>>>;
+pub type RealDialer<R> = BoxingDialer<UnloggedDialer<StreamDialer<SocketOpener<R>>>>;
 
 /// The dialer of links over sockets, which share this.
 pub fn real_dialer<R: Drop>(
@@ -27,5 +29,5 @@ pub fn real_dialer<R: Drop>(
         Some(watch) => opener.watched_by(watch),
         None => opener,
     });
-    Ok(UnloggedDialer::new(dialer))
+    Ok(BoxingDialer::new(UnloggedDialer::new(dialer)))
 }

@@ -1,0 +1,32 @@
+//! A dialer of links in memory of their own.
+ghost use Rattle.std.specs.Prelude.{None};
+
+use crate::boxed_link::BoxedLink;
+use bsc_edge::{Dialer, Kind, LinkFault};
+use std::alloc::Global;
+
+/// A dialer over another, each of whose links has memory of its own. It tells nothing of its calls: a link for which there is no
+/// memory was dialled, and is let go.
+#[derive(Debug, Drop)]
+pub struct BoxingDialer<D> {
+    dialer: D,
+}
+
+impl<D> BoxingDialer<D> {
+    /// A dialer over this one.
+    pub fn new(dialer: D) -> BoxingDialer<D> {
+        BoxingDialer { dialer }
+    }
+}
+
+impl<L: Drop, D: Dialer<L>> Dialer<BoxedLink<L>> for BoxingDialer<D> {
+    ghost faults = { λ d. D.faults d.dialer };
+
+    ghost calls = { λ _. None };
+
+    ghost left = { λ _. None };
+
+    fn dial(&mut self, alloc: Global, uri: &[u8], kind: Kind) -> Result<BoxedLink<L>, LinkFault> {
+        BoxedLink::new(alloc, self.dialer.dial(alloc, uri, kind)?)
+    }
+}
