@@ -2,8 +2,8 @@
 //!
 //! `door` has the acceptor, a gate that is made where it is bound, and then tells of its port on standard error; `links` the type
 //! of the program's links, which may be dialled or accepted, and of which a log is told where the environment asks for one, and the
-//! dialer; `boxed_link` and `boxing_dialer` give each link memory of its own; and `waiting` is the waiter, by which a node waits for all of its links. `main` of `bsc_program` hands them to the commands,
-//! which take any.
+//! dialer; `boxed_link` and `boxing_dialer` give each link memory of its own; and `waiting` is the waiter, by which a node waits for
+//! all of its links. `main` of `bsc_program` hands them to the commands, which take any.
 #![tactic(auto)]
 
 mod boxed_link;
