@@ -133,6 +133,19 @@ def files():
     return sorted(FOLDER.glob("**/*.rows"))
 
 
+def judged(*names):
+    """What the tests of some files ask `bsc check` about: each message, its place as words, and its verdict, each once."""
+    runs = [run for name in names for test in read(FOLDER / name) for run in test.runs()]
+    asked = {}
+    for run in runs:
+        if run.words == [b"check"] and run.status == 0:
+            lines = [it for it in run.input.decode().splitlines() if it.strip() and not it.lstrip().startswith("#")]
+            for line, verdict in zip(lines, run.output.decode().splitlines()):
+                words = line.split()
+                asked[bytes.fromhex("".join(words[3:])), tuple(words[:3]), verdict] = None
+    return list(asked)
+
+
 def program():
     """The path of the program: the one that the variable PROGRAM names, or that was built last; None without any."""
     named = os.environ.get("PROGRAM")
