@@ -67,8 +67,8 @@ fn octets_come_in_pieces(rt: HostRuntime) {
         );
     }
     // The second read would find the end.
-    for failing in [&[1], &[2]] {
-        let mut source = MemSource::new(EVERY_CALL.as_bytes(), failing);
+    for failing in [[1_u64], [2]] {
+        let mut source = MemSource::new(EVERY_CALL.as_bytes(), &failing);
         assert!(rt; audit(rt.alloc(), &mut source) == AuditEnd::ReadFault);
     }
 }
