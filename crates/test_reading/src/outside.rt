@@ -1,6 +1,5 @@
-//! Each stream once, with a fault in it.
-use bsc_octets::NoMemory;
-use bsc_outside::{MemSink, MemSource, ReaderSource, Sink, Source, SureSource, WriterSink};
+//! Streams over a reader and a writer that fail, and pieces of octets.
+use bsc_outside::{ReaderSource, Sink, Source, SureSource, WriterSink};
 use std::io;
 use std::process::Abort;
 use std::test::*;
@@ -36,21 +35,16 @@ fn reads<S: Source>(source: &mut S) -> [Option<usize>; 5] {
 }
 
 #[test]
-fn each_stream_once(rt: HostRuntime) -> Result<(), NoMemory> {
+fn adapters_tell_a_fault(rt: HostRuntime) {
     let mut sink = WriterSink::new(Full);
     assert!(rt; sink.write(b"").is_ok() && sink.write(b"x").is_err());
     assert!(rt; reads(&mut ReaderSource::new(Full)) == [None; 5]);
+}
+
+#[test]
+fn octets_come_in_pieces(rt: HostRuntime) {
     let given = reads(&mut ReaderSource::new(b"abcdef".as_slice()));
     assert!(rt; given == [Some(4), Some(2), Some(0), Some(0), Some(0)]);
-    let given = reads(&mut MemSource::new(b"abcdef", &[1, 3]));
-    assert!(rt; given == [None, Some(4), None, Some(2), Some(0)]);
-    let given = reads(&mut MemSource::in_pieces(b"abcdef", 3, &[]));
-    assert!(rt; given == [Some(3), Some(3), Some(0), Some(0), Some(0)]);
     let given = reads(&mut SureSource::in_pieces(b"abcdef", 3));
     assert!(rt; given == [Some(3), Some(3), Some(0), Some(0), Some(0)]);
-    let mut sink = MemSink::make(rt.alloc(), 6, &[2])?;
-    assert!(rt; sink.write(b"abcd").is_ok() && sink.write(b"x").is_err());
-    assert!(rt; sink.write(b"").is_ok() && sink.write(b"efg").is_err());
-    assert!(rt; sink.held() == b"abcdef".as_slice());
-    Ok(())
 }

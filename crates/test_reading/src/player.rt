@@ -1,4 +1,4 @@
-//! Inputs of the small language with the texts that they come to, and the last lines of runs.
+//! Inputs of the small language with the texts that they come to.
 mod echo;
 mod rows;
 
@@ -6,7 +6,7 @@ use crate::player::echo::Echo;
 use crate::player::rows::CASES;
 use bsc_octets::NoMemory;
 use bsc_outside::{MemSink, MemSource};
-use bsc_player::{PlayEnd, end_play, play_lines};
+use bsc_player::play_lines;
 use std::process::Abort;
 use std::test::*;
 
@@ -21,28 +21,6 @@ fn plays(rt: HostRuntime) -> Result<(), NoMemory> {
         assert!(rt;
             end == case.end && sink.held() == case.text.as_bytes(),
             "{what:?}"
-        );
-    }
-    Ok(())
-}
-
-/// The end of a play, with the last line and the status of its run.
-const LASTS: [(PlayEnd, &str, u8); 5] = [
-    (PlayEnd::Done, "", 0),
-    (PlayEnd::BadLine { line: 12 }, "fault script line 12\n", 2),
-    (PlayEnd::ReadFault, "fault read\n", 3),
-    (PlayEnd::WriteFault, "", 4),
-    (PlayEnd::NoMemory, "fault memory\n", 7),
-];
-
-#[test]
-fn ends_with_a_status(rt: HostRuntime) -> Result<(), NoMemory> {
-    for (end, line, status) in &LASTS {
-        let mut sink = MemSink::make(rt.alloc(), 99, &[])?;
-        let found = end_play(rt.alloc(), &mut sink, *end);
-        assert!(rt;
-            found == *status && sink.held() == line.as_bytes(),
-            "{line}"
         );
     }
     Ok(())
