@@ -6,8 +6,8 @@ mod journals;
 use bsc_edge::{
     Acceptor, Arrived, Clock, Dialer, Disk, Failed, FileFault, Files, Incoming, Job, Kind, Link,
     LinkFault, MemAcceptor, MemClock, MemDialer, MemFile, MemFiles, MemLink, MemPatience,
-    MemSpawner, MemWaiter, Monotonic, Patience, Places, Promised, Running, Said, Spawner,
-    ThreadSpawner, Unstarted, Waiter, launch,
+    MemSpawner, MemWaiter, Monotonic, Patience, Places, Promised, Running, Spawner, ThreadSpawner,
+    Unstarted, Waiter, launch,
 };
 use bsc_octets::{NoMemory, Octets, Vmac};
 use std::alloc::Global;
@@ -19,51 +19,7 @@ fn octets(alloc: Global, of: &[u8]) -> Result<Octets, NoMemory> {
     Ok(Octets::from_vec(Vec::from_slice(alloc, of)?))
 }
 
-/// What a receive gave: the first octet of a message, or a letter.
-fn given(answer: &Result<Incoming, LinkFault>) -> u8 {
-    match answer {
-        Ok(Incoming::Message(m)) => m.as_slice().first().copied().unwrap_or(0),
-        Ok(Incoming::Text) => b'T',
-        Ok(Incoming::Quiet) => b'Q',
-        Ok(Incoming::Closed) => b'C',
-        Err(_) => b'F',
-    }
-}
-
-/// The letter of one call in the talk of a link.
-fn letter(said: &Said) -> u8 {
-    match said {
-        Said::Gave(_, answer) => given(answer),
-        Said::Put(_, None) => b'p',
-        Said::Put(_, Some(_)) => b'!',
-        Said::Closed(_, _) => b'X',
-    }
-}
-
-/// Whether the calls of a talk have these letters.
-fn is_talk(talk: &[Said], letters: &[u8]) -> bool {
-    talk.len() == letters.len()
-        && talk
-            .iter()
-            .zip(letters.iter())
-            .all(|(said, wanted)| letter(said) == *wanted)
-}
-
-/// Whether each receive of a talk was asked to wait so long.
-fn waits_so(talk: &[Said], wait_ms: u32) -> bool {
-    talk.iter().all(|said| match said {
-        Said::Gave(waited, _) => *waited == wait_ms,
-        _ => true,
-    })
-}
-
-/// Receives so often.
-fn receive<L: Link>(alloc: Global, link: &mut L, times: u32) {
-    for _ in 0..times {
-        let _ = link.receive(alloc, 20);
-    }
-}
-
+/// What a link in memory gives, and which of its calls fail: the second, the seventh and the eighth.
 #[test]
 fn links_in_memory(rt: HostRuntime) -> Result<(), Fail> {
     let alloc = rt.alloc();
@@ -71,14 +27,21 @@ fn links_in_memory(rt: HostRuntime) -> Result<(), Fail> {
     gives.push(Incoming::Message(octets(alloc, b"m")?))?;
     gives.push(Incoming::Text)?;
     gives.push(Incoming::Quiet)?;
-    let mut link = MemLink::new(alloc, gives, &[2, 4, 8]);
-    receive(alloc, &mut link, 2);
-    let _ = link.put(alloc, b"p");
-    let _ = link.put(alloc, b"q");
-    receive(alloc, &mut link, 3);
+    let mut link = MemLink::new(alloc, gives, &[2, 7, 8]);
+    for wanted in b"mFTQC".iter() {
+        let given = match link.receive(alloc, 20) {
+            Ok(Incoming::Message(m)) => m.as_slice().first().copied().unwrap_or(0),
+            Ok(Incoming::Text) => b'T',
+            Ok(Incoming::Quiet) => b'Q',
+            Ok(Incoming::Closed) => b'C',
+            Err(_) => b'F',
+        };
+        assert_eq!(rt; given, *wanted);
+    }
+    assert_eq!(rt; link.put(alloc, b"p"), Ok(()));
+    assert_eq!(rt; link.put(alloc, b"q"), Err(LinkFault::Failed));
     assert_eq!(rt; link.close(alloc, 1008, "idle"), Err(LinkFault::Failed));
-    assert!(rt; is_talk(link.talk().unwrap_or(&[]), b"mFp!TQCX"));
-    assert!(rt; waits_so(link.talk().unwrap_or(&[]), 20));
+    assert_eq!(rt; link.talk().unwrap_or(&[]).len(), 8);
     Ok(())
 }
 
@@ -127,24 +90,17 @@ fn files(rt: HostRuntime) -> Result<(), Fail> {
     Ok(())
 }
 
-fn arrived(answer: Result<Arrived<u64>, LinkFault>) -> Option<u64> {
-    match answer {
-        Ok(Arrived::Link(link)) => Some(link),
-        _ => None,
-    }
-}
-
 #[test]
 fn acceptors_and_waits_in_memory(rt: HostRuntime) -> Result<(), Fail> {
     let alloc = rt.alloc();
-    let mut acceptor = MemAcceptor::new(alloc, Vec::from_slice(alloc, &[7])?, &[1, 3]);
+    let mut acceptor = MemAcceptor::new(alloc, Vec::from_slice(alloc, &[7u64])?, &[1, 3]);
     assert_eq!(rt; acceptor.bind(1, Vmac([0; 6])), Err(Failed));
     assert_eq!(rt; acceptor.bind(4443, Vmac([0; 6])), Ok(()));
     assert_eq!(rt; acceptor.bound(), Some(4443));
-    assert_eq!(rt; arrived(acceptor.next(alloc, 20)), None);
+    assert!(rt; matches!(acceptor.next(alloc, 20), Err(LinkFault::Failed)));
     assert_eq!(rt; acceptor.left(), 1);
-    assert_eq!(rt; arrived(acceptor.next(alloc, 0)), Some(7));
-    assert_eq!(rt; arrived(acceptor.next(alloc, 5)), None);
+    assert!(rt; matches!(acceptor.next(alloc, 0), Ok(Arrived::Link(7))));
+    assert!(rt; matches!(acceptor.next(alloc, 5), Ok(Arrived::Quiet)));
     assert!(rt; acceptor.waits().unwrap_or(&[]) == [20, 0, 5].as_slice());
     let mut patience = MemPatience::new(alloc, &[1]);
     assert_eq!(rt; patience.set(1), Err(Failed));
@@ -213,40 +169,13 @@ fn jobs_in_memory(rt: HostRuntime) -> Result<(), Fail> {
     Ok(())
 }
 
-/// One place: while a job has it, the next comes back, and none has ended. It is free again when what is left of the job was
-/// given back.
+/// Two places: while jobs have them, the next comes back. The job that has ended is given back while the other one runs, without a
+/// wait. A place is free again when what is left of its job was given back: a hundred jobs run one after another.
 #[test]
 fn threads(rt: HostRuntime) -> Result<(), Fail> {
     let alloc = rt.alloc();
-    let sum = Arc::new(alloc, Mutex::new(0u64))?;
-    let begin = move |alloc: Global, places: &Arc<Places>, job: Adds| -> Result<
-        Running<Result<u64, Adds>, Promised<Adds>>,
-        Unstarted<Adds>,
-    > { launch(&rt, alloc, places, job) };
-    let mut spawner = ThreadSpawner::new(rt, alloc, begin, Places::make(alloc, 1)?);
-    let held = sum.lock(&rt);
-    assert!(rt; starts(&rt, alloc, &mut spawner, &sum)?);
-    assert!(rt; !starts(&rt, alloc, &mut spawner, &sum)?);
-    assert_eq!(rt; spawner.ended(&rt), None);
-    drop(held);
-    assert_eq!(rt; spawner.next_end(&rt), Some(1));
-    assert_eq!(rt; spawner.next_end(&rt), None);
-    for n in 2..102 {
-        assert!(rt; starts(&rt, alloc, &mut spawner, &sum)?);
-        assert_eq!(rt; spawner.next_end(&rt), Some(n));
-    }
-    assert_eq!(rt; *sum.lock(&rt), 101);
-    Ok(())
-}
-
-/// Two places: the job that has ended is given back while the other one runs, without a wait.
-#[test]
-fn an_end_beside_a_thread(rt: HostRuntime) -> Result<(), Fail> {
-    let alloc = rt.alloc();
-    let (slow, quick) = (
-        Arc::new(alloc, Mutex::new(10u64))?,
-        Arc::new(alloc, Mutex::new(20u64))?,
-    );
+    let slow = Arc::new(alloc, Mutex::new(10u64))?;
+    let quick = Arc::new(alloc, Mutex::new(20u64))?;
     let begin = move |alloc: Global, places: &Arc<Places>, job: Adds| -> Result<
         Running<Result<u64, Adds>, Promised<Adds>>,
         Unstarted<Adds>,
@@ -254,8 +183,14 @@ fn an_end_beside_a_thread(rt: HostRuntime) -> Result<(), Fail> {
     let mut spawner = ThreadSpawner::new(rt, alloc, begin, Places::make(alloc, 2)?);
     let held = slow.lock(&rt);
     assert!(rt; starts(&rt, alloc, &mut spawner, &slow)?);
+    assert_eq!(rt; spawner.ended(&rt), None);
     assert!(rt; starts(&rt, alloc, &mut spawner, &quick)?);
+    assert!(rt; !starts(&rt, alloc, &mut spawner, &quick)?);
     assert_eq!(rt; spawner.next_end(&rt), Some(21));
+    for n in 22..122 {
+        assert!(rt; starts(&rt, alloc, &mut spawner, &quick)?);
+        assert_eq!(rt; spawner.next_end(&rt), Some(n));
+    }
     assert_eq!(rt; spawner.ended(&rt), None);
     drop(held);
     assert_eq!(rt; spawner.next_end(&rt), Some(11));

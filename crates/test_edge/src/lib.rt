@@ -5,10 +5,8 @@
 #![tactic(auto)]
 
 #[cfg(test)]
-mod arriving;
-#[cfg(test)]
 mod edge;
 #[cfg(test)]
 mod lines;
 #[cfg(test)]
-mod links;
+mod wanted;

@@ -1,6 +1,6 @@
 //! The text of a line.
 use bsc_log::{Cause, Event, Line, Refusal, stamp_of};
-use bsc_octets::{Identity, NoMemory, read_identity};
+use bsc_octets::{NoMemory, read_identity};
 use std::process::Abort;
 use std::test::*;
 use std::time::Duration;
@@ -27,13 +27,11 @@ fn stamps_are_those_of_the_calendar(rt: HostRuntime) {
     }
 }
 
-/// The device 0A0A0A0A-0a0a-.. at 02:00:AB:CD:EF:09, say.
-fn device() -> Identity {
-    read_identity(&[
-        2, 0, 0xAB, 0xCD, 0xEF, 9, 0x01, 0x23, 0x45, 0x67, 0x89, 0xAB, 0xCD, 0xEF, 0x01, 0x23,
-        0x45, 0x67, 0x89, 0xAB, 0xCD, 0xEF, 6, 64, 5, 217,
-    ])
-}
+/// Who asked to join: the octets of an identity.
+const WHO: [u8; 26] = [
+    2, 0, 0xAB, 0xCD, 0xEF, 9, 0x01, 0x23, 0x45, 0x67, 0x89, 0xAB, 0xCD, 0xEF, 0x01, 0x23, 0x45,
+    0x67, 0x89, 0xAB, 0xCD, 0xEF, 6, 64, 5, 217,
+];
 
 /// What a line tells, whether its link has joined, and what stands behind its link's number.
 const LINES: [(Event, Option<u64>, bool, &str, &str); 8] = [
@@ -103,7 +101,11 @@ fn lines_have_one_form(rt: HostRuntime) -> Result<(), NoMemory> {
             event,
             link: 3,
             conn,
-            who: if has_asked { Some(device()) } else { None },
+            who: if has_asked {
+                Some(read_identity(&WHO))
+            } else {
+                None
+            },
             received: 1,
             sent: 20,
         };

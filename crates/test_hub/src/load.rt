@@ -62,6 +62,7 @@ fn loaded<R: Threads + Wait + Sync>(
     load_on(rt, alloc, &hub, &mut pass, workers)
 }
 
+/// One row is too few for a worker, and a hub that is worn or has stopped cuts all short.
 #[test]
 fn four_workers_and_one(rt: HostRuntime) -> Result<(), Fail> {
     let alloc = rt.alloc();
@@ -71,13 +72,6 @@ fn four_workers_and_one(rt: HostRuntime) -> Result<(), Fail> {
         pass: None,
     };
     assert!(rt; load(&rt, alloc, 1, &mut kept) == Ok(ONE));
-    Ok(())
-}
-
-/// One row is too few for a worker, and a hub that is worn or has stopped cuts all short.
-#[test]
-fn workloads_that_are_short(rt: HostRuntime) -> Result<(), Fail> {
-    let alloc = rt.alloc();
     assert!(rt; loaded(&rt, alloc, 1, 1 << 20, false, 1) == Err(LoadStop::Short { workers: 1 }));
     assert!(rt; loaded(&rt, alloc, 1_024, 100, false, 3) == Err(LoadStop::Short { workers: 3 }));
     assert!(rt; loaded(&rt, alloc, 1_024, 1 << 20, true, 2) == Err(LoadStop::Short { workers: 2 }));

@@ -27,14 +27,11 @@ fn gives(take: Take, n: u32) -> bool {
     }
 }
 
-/// The frames that say 1, 2 and 3.
-fn three_frames(alloc: Global) -> Result<(Octets, Octets, Octets), NoMemory> {
-    Ok((frame(alloc, 1)?, frame(alloc, 2)?, frame(alloc, 3)?))
-}
-
 #[test]
 fn two_slots(rt: HostRuntime) -> Result<(), Fail> {
-    let (one, two, three) = three_frames(rt.alloc())?;
+    let one = frame(rt.alloc(), 1)?;
+    let two = frame(rt.alloc(), 2)?;
+    let three = frame(rt.alloc(), 3)?;
     let Ok((mut inlet, mut outlet)) = make(rt.alloc(), 2) else {
         panic!(rt; "no memory");
     };

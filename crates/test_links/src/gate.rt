@@ -6,12 +6,10 @@ use bsc_octets::Vmac;
 use bsc_ws::StreamDialer;
 use mio::net::TcpStream;
 use std::alloc::Global;
-use std::net::{Ipv4Addr, Net, SocketAddr};
-use std::random::RandomSource;
-use std::sync::{Arc, Wait};
+use std::net::{Ipv4Addr, SocketAddr};
+use std::sync::Arc;
 use std::test::*;
 use std::thread;
-use std::time::Clock;
 
 /// The next message, however many quiets come before.
 fn message<L: Link>(alloc: Global, link: &mut L) -> Option<Vec<u8>> {
@@ -25,67 +23,8 @@ fn message<L: Link>(alloc: Global, link: &mut L) -> Option<Vec<u8>> {
     None
 }
 
-/// Sends the first message of the first link back, until a refused and a late stream were turned away too.
-fn serves<R: Clock + Net + Wait + RandomSource + Copy + Drop>(
-    alloc: Global,
-    gate: &mut Gate<R>,
-) -> bool {
-    let mut echoed = false;
-    for _ in 0..200 {
-        if let Ok(Arrived::Link(link)) = gate.next(alloc, 50) {
-            let mut link = link;
-            if let Some(m) = message(alloc, &mut link) {
-                echoed = link.put(alloc, m.as_slice()).is_ok();
-            }
-        }
-        let turned = gate.turned();
-        if echoed && turned.refused == 1 && turned.late == 1 {
-            return true;
-        }
-    }
-    false
-}
-
-/// Whether a message that is put on a link comes back.
-fn echoes<L: Link>(alloc: Global, link: &mut L) -> bool {
-    if link.put(alloc, b"over").is_err() {
-        return false;
-    }
-    match message(alloc, link) {
-        Some(m) => m.as_slice() == b"over".as_slice(),
-        None => false,
-    }
-}
-
-/// Whether of the links of both kinds that are dialled one is refused, and the other echoes.
-fn meets<L: Link + Drop, D: Dialer<L>>(alloc: Global, dialer: &mut D, uri: &[u8]) -> bool {
-    match dialer.dial(alloc, uri, Kind::Direct) {
-        Err(LinkFault::Failed) => {}
-        _ => return false,
-    }
-    match dialer.dial(alloc, uri, Kind::Hub) {
-        Ok(link) => {
-            let mut link = link;
-            echoes(alloc, &mut link)
-        }
-        Err(_) => false,
-    }
-}
-
-/// Dials links of both kinds to a gate of hubs at this port.
-fn dials<R: Clock + Net + Wait + RandomSource + Copy + Drop>(
-    rt: R,
-    alloc: Global,
-    port: u16,
-    bells: Arc<Bells>,
-) -> bool {
-    let mut dialer = StreamDialer::new(SocketOpener::new(rt, bells));
-    match format!(in alloc; "ws://localhost:{port}/") {
-        Ok(uri) => meets(alloc, &mut dialer, uri.as_bytes()),
-        Err(_) => false,
-    }
-}
-
+/// Of the links of both kinds that are dialled one is refused, and over the other a message goes there and back, while a silent
+/// stream is turned away as late.
 #[test]
 fn a_dialer_meets_a_gate(rt: HostRuntime) -> Result<(), Fail> {
     let alloc = rt.alloc();
@@ -101,8 +40,43 @@ fn a_dialer_meets_a_gate(rt: HostRuntime) -> Result<(), Fail> {
     let silent = TcpStream::connect(&rt, at)?;
     let (served, dialled) = thread::join(
         &rt,
-        move || -> bool { serves(alloc, &mut gate) },
-        move || -> bool { dials(rt, alloc, port, others) },
+        move || -> bool {
+            let mut echoed = false;
+            for _ in 0..200 {
+                if let Ok(Arrived::Link(link)) = gate.next(alloc, 50) {
+                    let mut link = link;
+                    if let Some(m) = message(alloc, &mut link) {
+                        echoed = link.put(alloc, m.as_slice()).is_ok();
+                    }
+                }
+                let turned = gate.turned();
+                if echoed && turned.refused == 1 && turned.late == 1 {
+                    return true;
+                }
+            }
+            false
+        },
+        move || -> bool {
+            let mut dialer = StreamDialer::new(SocketOpener::new(rt, others));
+            let Ok(uri) = format!(in alloc; "ws://localhost:{port}/") else {
+                return false;
+            };
+            let other = dialer.dial(alloc, uri.as_bytes(), Kind::Direct);
+            if !matches!(other, Err(LinkFault::Failed)) {
+                return false;
+            }
+            let Ok(link) = dialer.dial(alloc, uri.as_bytes(), Kind::Hub) else {
+                return false;
+            };
+            let mut link = link;
+            if link.put(alloc, b"over").is_err() {
+                return false;
+            }
+            match message(alloc, &mut link) {
+                Some(m) => m.as_slice() == b"over".as_slice(),
+                None => false,
+            }
+        },
     );
     drop(silent);
     assert!(rt; served);

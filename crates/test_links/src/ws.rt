@@ -3,7 +3,7 @@ mod handshakes;
 
 use bsc_edge::{Incoming, Link, LinkFault, MemPatience};
 use bsc_ws::{StreamLink, limits};
-use std::alloc::Global;
+use std::alloc::{AllocError, Global};
 use std::cell::Cell;
 use std::io::{self, ErrorKind, Read, Write};
 use std::test::Fail;
@@ -85,39 +85,26 @@ fn link_of(
     StreamLink::over(socket, MemPatience::new(alloc, &[]))
 }
 
-/// What a receive gave, a letter or the octets, and nothing for a Quiet.
-fn given(answer: &Result<Incoming, LinkFault>) -> &[u8] {
-    match answer {
-        Ok(Incoming::Message(m)) => m.as_slice(),
-        Ok(Incoming::Text) => b"T".as_slice(),
-        Ok(Incoming::Quiet) => &[],
-        Ok(Incoming::Closed) => b"C".as_slice(),
-        Err(_) => b"F".as_slice(),
-    }
-}
-
-/// What is left to be answered behind the next answer, if it begins so.
-fn left_of<'a, L: Link>(alloc: Global, link: &mut L, wanted: &'a [u8]) -> Option<&'a [u8]> {
-    let answer = link.receive(alloc, 20);
-    let octets = given(&answer);
-    if wanted.starts_with(octets) {
-        wanted.get(octets.len()..)
-    } else {
-        None
-    }
-}
-
-/// Whether this is what a link answers next.
-fn is_told<L: Link>(alloc: Global, link: &mut L, wanted: &[u8]) -> bool {
-    let mut wanted = wanted;
+/// What a link answers in eight receives, or until it has closed or failed: the octets of messages, T for a text, C for Closed,
+/// F for a fault, and nothing for a Quiet.
+fn told<L: Link>(alloc: Global, link: &mut L) -> Result<Vec<u8>, AllocError> {
+    let mut told = Vec::new(alloc);
     for _ in 0..8 {
-        match left_of(alloc, link, wanted) {
-            Some([]) => return true,
-            Some(left) => wanted = left,
-            None => return false,
+        match link.receive(alloc, 20) {
+            Ok(Incoming::Message(m)) => told.extend_from_slice(m.as_slice())?,
+            Ok(Incoming::Text) => told.push(b'T')?,
+            Ok(Incoming::Quiet) => {}
+            Ok(Incoming::Closed) => {
+                told.push(b'C')?;
+                return Ok(told);
+            }
+            Err(_) => {
+                told.push(b'F')?;
+                return Ok(told);
+            }
         }
     }
-    false
+    Ok(told)
 }
 
 /// In which role the octets of a peer are read, these, the answers but for Quiets, and what is written.
@@ -209,57 +196,47 @@ const ROWS: [Row; 12] = [
     },
 ];
 
-/// Whether a row is so where a time-out cuts its octets here.
-fn is_so(alloc: Global, row: &Row, cut: usize) -> bool {
-    let wanting = Cell::new(0);
-    let mut link = link_of(
-        alloc,
-        peer_of(row.gives, cut, row.writes, &wanting),
-        row.role,
-    );
-    is_told(alloc, &mut link, row.answers) && wanting.get() == 0
-}
-
 /// Frames of clients and of servers, with the answers and the replies, wherever a time-out cuts them.
 #[test]
 fn frames(rt: HostRuntime) -> Result<(), Fail> {
     let alloc = rt.alloc();
     for (at, row) in ROWS.iter().enumerate() {
         for cut in 0..row.gives.len() {
-            assert!(rt; is_so(alloc, row, cut), "in row {at}, cut at {cut}");
+            let wanting = Cell::new(0);
+            let peer = peer_of(row.gives, cut, row.writes, &wanting);
+            let mut link = link_of(alloc, peer, row.role);
+            let answers = told(alloc, &mut link)?;
+            assert!(rt;
+                answers.as_slice() == row.answers && wanting.get() == 0,
+                "in row {at}, cut at {cut}"
+            );
         }
     }
     Ok(())
 }
 
-/// Whether a put and a closing write just this in this role, and a put behind them is a fault.
-fn puts(alloc: Global, role: Role, writes: &[u8]) -> bool {
-    let wanting = Cell::new(0);
-    let mut link = link_of(alloc, peer_of(&[], 0, writes, &wanting), role);
-    let is_put = link.put(alloc, b"abc").is_ok();
-    let is_closed = link.close(alloc, 1008, "idle").is_ok();
-    let is_written = wanting.get() == 0;
-    is_put && is_closed && is_written && link.put(alloc, b"abc") == Err(LinkFault::Failed)
-}
+/// What a put and a closing write in each role: a client masks it, and a server doesn't.
+const PUTS: [(Role, &[u8]); 2] = [
+    (Role::Server, b"\x82\x03abc\x88\x06\x03\xF0idle"),
+    (
+        Role::Client,
+        b"\x82\x83\x01\x02\x03\x04```\x88\x86\x01\x02\x03\x04\x02\xF2j`mg",
+    ),
+];
 
-/// A client masks what it puts, and a server doesn't.
+/// A put and a closing write just this, and a put behind them is a fault.
 #[test]
 fn puts_and_closings(rt: HostRuntime) -> Result<(), Fail> {
     let alloc = rt.alloc();
-    assert!(rt; puts(alloc, Role::Server, b"\x82\x03abc\x88\x06\x03\xF0idle"));
-    let masked = b"\x82\x83\x01\x02\x03\x04```\x88\x86\x01\x02\x03\x04\x02\xF2j`mg";
-    assert!(rt; puts(alloc, Role::Client, masked));
-    Ok(())
-}
-
-/// Whether a link gives nothing, so often.
-fn stays_quiet<L: Link>(alloc: Global, link: &mut L, times: u64) -> bool {
-    for _ in 0..times {
-        if !matches!(link.receive(alloc, 20), Ok(Incoming::Quiet)) {
-            return false;
-        }
+    for (role, writes) in PUTS {
+        let wanting = Cell::new(0);
+        let mut link = link_of(alloc, peer_of(&[], 0, writes, &wanting), role);
+        assert_eq!(rt; link.put(alloc, b"abc"), Ok(()));
+        assert_eq!(rt; link.close(alloc, 1008, "idle"), Ok(()));
+        assert_eq!(rt; wanting.get(), 0);
+        assert_eq!(rt; link.put(alloc, b"abc"), Err(LinkFault::Failed));
     }
-    true
+    Ok(())
 }
 
 /// A put that the peer doesn't take is a fault. A peer that sends pings and takes no replies is read no further once the
@@ -275,13 +252,12 @@ fn what_waits_is_bounded(rt: HostRuntime) -> Result<(), Fail> {
         pings.extend_from_slice(&ping)?;
     }
     let wanting = Cell::new(0);
-    let mut link = link_of(
-        alloc,
-        peer_of(pings.as_slice(), 0, &[], &wanting),
-        Role::Server,
-    );
+    let peer = peer_of(pings.as_slice(), 0, &[], &wanting);
+    let mut link = link_of(alloc, peer, Role::Server);
     assert_eq!(rt; link.put(alloc, b"abc"), Err(LinkFault::Failed));
     // The replies to 2,200 pings are 279,400 octets. Were all read, the stream's end would be a fault.
-    assert!(rt; stays_quiet(alloc, &mut link, 2_300));
+    for _ in 0..2_300u32 {
+        assert!(rt; matches!(link.receive(alloc, 20), Ok(Incoming::Quiet)));
+    }
     Ok(())
 }

@@ -54,22 +54,17 @@ fn machines_make_the_worked_steps(rt: HostRuntime) {
     }
 }
 
-/// Whether a machine puts these octets where it is told something.
-fn puts(alloc: Global, machine: &mut Machine, told: Told, wanted: &[u8]) -> bool {
-    match machine.tell(alloc, 1, told) {
-        Some(Step::Put(octets)) => octets.as_slice() == wanted,
-        Some(Step::PutClose(octets, _)) => octets.as_slice() == wanted,
-        _ => false,
-    }
-}
-
 #[test]
 fn replies_have_the_octets_of_the_worked_scripts(rt: HostRuntime) {
     for rows in [JOINED.as_slice(), NOT_JOINED.as_slice()] {
         let mut machine = Machine::start(hub(), HUB_TIMES, 0);
         run(&rt, rt.alloc(), &mut machine, &JOIN[..1]);
         for (told, octets) in rows {
-            assert!(rt; puts(rt.alloc(), &mut machine, *told, octets), "{octets:?}");
+            match machine.tell(rt.alloc(), 1, *told) {
+                Some(Step::Put(put)) => assert!(rt; put.as_slice() == *octets),
+                Some(Step::PutClose(put, _)) => assert!(rt; put.as_slice() == *octets),
+                _ => assert!(rt; false, "{octets:?}"),
+            }
         }
     }
 }
@@ -126,76 +121,34 @@ const TIMES: Times = Times {
     heartbeat: 4,
 };
 
-/// A machine and a reader of the rules, who are told the same.
-#[derive(Clone, Copy)]
-struct Course {
-    machine: Machine,
-    reading: Reading,
-    now: u64,
-    seed: u64,
-    /// How many events there were.
-    events: u32,
-    /// How many of them closed an idle machine.
-    idle: u32,
-}
-
-impl Course {
-    fn start(seed: u64) -> Course {
-        Course {
-            machine: Machine::start(hub(), TIMES, 0),
-            reading: Reading::start(TIMES, 0),
-            now: 0,
-            seed,
-            events: 0,
-            idle: 0,
-        }
-    }
-
-    /// A while passes.
-    fn pass(&mut self) {
-        let leap = if drawn(&mut self.seed, 8) == 0 { 50 } else { 8 };
-        self.now = self.now.saturating_add(drawn(&mut self.seed, leap));
-    }
-
-    /// What the machine did is counted.
-    fn count(&mut self, does: Does) {
-        self.events = self.events.saturating_add(1);
-        if does == Does::Closes(Closing::IDLE) {
-            self.idle = self.idle.saturating_add(1);
-        }
-    }
-
-    /// Both begin anew, where it is over.
-    fn begin(&mut self) {
-        if self.reading.over {
-            self.machine = Machine::start(hub(), TIMES, self.now);
-            self.reading = Reading::start(TIMES, self.now);
-        }
-    }
-
-    /// Something is told to both, where it may come. Whether they do the same.
-    fn go_on(&mut self, alloc: Global) -> bool {
-        let told = something(&mut self.seed);
-        self.pass();
-        match self.machine.does(alloc, self.now, told) {
-            None => true,
-            Some(does) => {
-                let same = self.reading.step(self.now, told) == does;
-                self.count(does);
-                self.begin();
-                same
-            }
-        }
-    }
-}
-
+/// Machines and readers of the rules are told the same, for as long as both last, and then begin anew.
 #[test]
 fn ten_thousand_events_give_the_steps_of_the_second_reading(rt: HostRuntime) {
-    for seed in [1, 20, 300, 4_000] {
-        let mut course = Course::start(seed);
+    for start in [1, 20, 300, 4_000] {
+        let mut seed = start;
+        let mut now = 0u64;
+        let (mut events, mut idle) = (0u32, 0u32);
+        let mut machine = Machine::start(hub(), TIMES, 0);
+        let mut reading = Reading::start(TIMES, 0);
         for turn in 0..8_000 {
-            assert!(rt; course.go_on(rt.alloc()), "seed {seed}, turn {turn}");
+            let told = something(&mut seed);
+            let leap = if drawn(&mut seed, 8) == 0 { 50 } else { 8 };
+            now = now.saturating_add(drawn(&mut seed, leap));
+            if let Some(does) = machine.does(rt.alloc(), now, told) {
+                assert!(rt;
+                    reading.step(now, told) == does,
+                    "seed {start}, turn {turn}"
+                );
+                events = events.saturating_add(1);
+                if does == Does::Closes(Closing::IDLE) {
+                    idle = idle.saturating_add(1);
+                }
+            }
+            if reading.over {
+                machine = Machine::start(hub(), TIMES, now);
+                reading = Reading::start(TIMES, now);
+            }
         }
-        assert!(rt; course.events >= 2_500 && course.idle >= 5, "seed {seed}");
+        assert!(rt; events >= 2_500 && idle >= 5, "seed {start}");
     }
 }

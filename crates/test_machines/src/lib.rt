@@ -19,5 +19,3 @@ mod messages;
 mod peers;
 #[cfg(test)]
 mod resolve;
-#[cfg(test)]
-mod switch;

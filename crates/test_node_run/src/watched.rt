@@ -22,7 +22,7 @@ impl<C: Clock> Clock for Watched<C> {
 
     fn now(&mut self) -> u64 {
         let now = self.inner.now();
-        self.log.set_time(now);
+        self.log.now.set(now);
         now
     }
 

@@ -1,11 +1,16 @@
-//! Tests of the session of one connection, `bsc_session`, over links in memory.
+//! Tests of sessions, `bsc_session`, and of a hub that is served, `bsc_serve`, over links in memory.
 //!
 //! They stand in a crate of their own, since a crate's own tests have all of its functions proved a second time. `peers` has
-//! the hub and the devices that they are with, for them and for `test_serving`, and is proved as a library.
+//! the hub and the devices that both are with, and `scene` the links of a hub that is served.
 #![tactic(auto)]
 
+#[cfg(test)]
+mod books;
+#[cfg(test)]
 mod peers;
 #[cfg(test)]
+mod scene;
+#[cfg(test)]
+mod serve;
+#[cfg(test)]
 mod session;
-
-pub use peers::{CONNECT_A, CONNECT_B, LIMITS, new_hub};

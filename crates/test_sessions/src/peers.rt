@@ -1,12 +1,11 @@
 //! The hub of a test, the limits of its sessions, and devices by numbers.
-ghost use Rattle.std.specs.Prelude.{◌≡◌, ◌≤◌, IfOk};
+ghost use Rattle.std.specs.Prelude.{◌≤◌, IfOk};
 ghost use Rattle.bsc_hub.specs.Passing.{IsCaller};
-ghost use Rattle.bsc_hub.specs.Testing.{vmac_at};
 
 use bsc_accept::Times;
 use bsc_history::Limits;
 use bsc_hub::{Hub, Pass};
-use bsc_octets::{Identity, NoMemory, Vmac, read_identity};
+use bsc_octets::{NoMemory, read_identity};
 use bsc_session::SessionLimits;
 use std::alloc::Global;
 
@@ -31,22 +30,9 @@ pub const CONNECT_B: &[u8] = &[
     6, 64, 5, 217,
 ];
 
-/// A device of its own at the address 02:00:00:00:00:`last`.
-pub(crate) fn who(last: u8) -> Identity
-    ensures { result.vmac ≡ vmac_at last }
-{
-    let device = read_identity(&[last; 26]).device;
-    Identity {
-        vmac: Vmac([2, 0, 0, 0, 0, last]),
-        device,
-        max_bvlc: 1600,
-        max_npdu: 1497,
-    }
-}
-
-/// A hub at 02:00:00:00:00:01 with eight rows and outboxes of 64 frames, for so many callers, and its first pass.
+/// A hub at 01:01:01:01:01:01 with eight rows and outboxes of 64 frames, for so many callers, and its first pass.
 pub fn new_hub(alloc: Global, callers: u64) -> Result<(Hub, Pass), NoMemory>
-    requires { (1 ≤ callers) × (callers ≤ 100) }
+    requires { (1 ≤ callers) × (callers ≤ 1000) }
     ensures { IfOk result (λ r. IsCaller r.0 r.1) }
 {
     let limits = Limits {
@@ -55,5 +41,5 @@ pub fn new_hub(alloc: Global, callers: u64) -> Result<(Hub, Pass), NoMemory>
         calls: 1 << 40,
         callers,
     };
-    Hub::make(alloc, who(1), limits)
+    Hub::make(alloc, read_identity(&[1; 26]), limits)
 }

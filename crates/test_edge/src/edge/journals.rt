@@ -13,41 +13,26 @@ fn in_memory(rt: HostRuntime) -> Result<(), Fail> {
     let Ok(mut journal) = journals.begin(alloc, Some("hub"), 3) else {
         panic!(rt; "it is begun");
     };
-    let Some(prefix) = &journal.prefix else {
-        panic!(rt; "it has a prefix");
-    };
-    assert!(rt; prefix.as_slice() == b"hub".as_slice());
-    assert_eq!(rt; journal.number, 3);
     assert_eq!(rt; journal.write(b"one\n"), Ok(()));
     assert_eq!(rt; journal.write(b"two\n"), Err(Failed));
     assert_eq!(rt; journal.write(b"three\n"), Ok(()));
     assert!(rt; journal.sink.held() == b"one\nthree\n".as_slice());
     assert!(rt; matches!(journals.begin(alloc, None, 4), Err(LinkFault::Failed)));
-    let Ok(other) = journals.begin(alloc, None, 5) else {
-        panic!(rt; "it is begun");
-    };
-    assert!(rt; other.prefix.is_none());
-    assert_eq!(rt; other.number, 5);
+    assert!(rt; journals.begin(alloc, None, 5).is_ok());
     Ok(())
 }
 
-/// A folder of this process, with nothing in it.
-fn new_folder(rt: &HostRuntime) -> Result<String, Fail> {
-    let id = process::id(rt.process());
-    let folder = format!(in rt.alloc(); "/tmp/bsc_journals_{id}")?;
-    if fs::exists(rt, folder.as_str())? {
-        fs::remove_dir_all(rt, folder.as_str())?;
-    }
-    fs::create_dir(rt, folder.as_str())?;
-    Ok(folder)
-}
-
 /// The journal of number 3 is the file of that number, made anew. It isn't written over, and without a prefix no file is
-/// made.
+/// made. They stand in a folder of this process.
 #[test]
 fn in_files(rt: HostRuntime) -> Result<(), Fail> {
     let alloc = rt.alloc();
-    let folder = new_folder(&rt)?;
+    let id = process::id(rt.process());
+    let folder = format!(in alloc; "/tmp/bsc_journals_{id}")?;
+    if fs::exists(&rt, folder.as_str())? {
+        fs::remove_dir_all(&rt, folder.as_str())?;
+    }
+    fs::create_dir(&rt, folder.as_str())?;
     let prefix = format!(in alloc; "{folder}/hub")?;
     let path = format!(in alloc; "{folder}/hub.3")?;
     let mut journals = DiskJournals::new(rt);

@@ -206,36 +206,28 @@ fn send_all<R: Wait>(
     calls
 }
 
-/// Joins, and sends.
-fn join_and_send<R: Wait>(
-    rt: &R,
-    alloc: Global,
-    hub: &Hub,
-    pass: &mut Pass,
-    from: u8,
-    notes: &mut Vec<Note>,
-) -> u64
-    requires { IsCaller hub.now pass.old }
-    ensures { IsCaller hub.now pass.new }
-{
-    match enter(rt, alloc, hub, pass, from) {
-        Some((conn, _outlet)) => {
-            let calls = send_all(rt, alloc, hub, pass, conn, from, notes);
-            calls.saturating_add(1)
-        }
-        None => 1,
-    }
-}
-
-/// What a thread comes to that sends.
+/// Joins, and sends: what a thread comes to that sends.
 fn send<R: Wait>(rt: &R, alloc: Global, hub: &Hub, pass: Pass, from: u8) -> Done
     requires { IsCaller hub.now pass }
     ensures { IsCaller hub.now result.pass }
 {
     let mut pass = pass;
     let mut notes = Vec::new(alloc);
-    let calls = join_and_send(rt, alloc, hub, &mut pass, from, &mut notes);
-    Done { pass, calls, notes }
+    match enter(rt, alloc, hub, &mut pass, from) {
+        Some((conn, _outlet)) => {
+            let calls = send_all(rt, alloc, hub, &mut pass, conn, from, &mut notes);
+            Done {
+                pass,
+                calls: calls.saturating_add(1),
+                notes,
+            }
+        }
+        None => Done {
+            pass,
+            calls: 1,
+            notes,
+        },
+    }
 }
 
 /// Receives at the address of the receivers, and sends from any other.
@@ -295,17 +287,6 @@ fn run_both<R: Threads + Wait + Sync>(
     unite(hub, one, two)
 }
 
-/// Whether a connection was taken over, by the counts of the hub.
-fn has_replaced<R: Wait>(rt: &R, hub: &Hub, pass: &mut Pass) -> bool
-    requires { IsCaller hub.now pass.old }
-    ensures { IsCaller hub.now pass.new }
-{
-    match hub.counts(rt, pass) {
-        Ok(told) => told.said.replaced > 0,
-        Err(_) => true,
-    }
-}
-
 /// Asks for the counts until a connection was taken over, and answers how many calls that took.
 fn await_takeover<R: Wait>(rt: &R, hub: &Hub, pass: &mut Pass) -> u64
     requires { IsCaller hub.now pass.old }
@@ -314,8 +295,11 @@ fn await_takeover<R: Wait>(rt: &R, hub: &Hub, pass: &mut Pass) -> u64
     let mut calls = 0u64;
     for _ in rt.forever() {
         calls = calls.saturating_add(1);
-        if has_replaced(rt, hub, pass) {
-            return calls;
+        match hub.counts(rt, pass) {
+            Ok(told) => if told.said.replaced > 0 {
+                return calls;
+            },
+            Err(_) => return calls,
         }
         thread::yield_now();
     }
@@ -371,18 +355,16 @@ fn are_as_sent(notes: &[Note]) -> bool {
     let mut all_sent = notes.iter().filter(|note| note.what == What::Sent);
     for came in notes.iter().filter(|note| note.what == What::Came) {
         match all_sent.next() {
-            Some(sent) => if !is_same(came, sent) {
+            Some(sent) => if came.conn != sent.conn
+                || came.from != sent.from
+                || came.id != sent.id
+            {
                 return false;
             },
             None => return false,
         }
     }
     all_sent.next().is_none()
-}
-
-/// Whether a frame came where its unicast was told to be.
-fn is_same(came: &Note, sent: &Note) -> bool {
-    came.conn == sent.conn && came.from == sent.from && came.id == sent.id
 }
 
 #[test]

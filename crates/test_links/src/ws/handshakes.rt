@@ -1,8 +1,7 @@
 //! Handshakes over streams in memory.
-use super::{Keys, is_told, peer_of};
+use super::{Keys, peer_of, told};
 use bsc_edge::{Kind, MemPatience};
 use bsc_ws::{accept, dial};
-use std::alloc::{AllocError, Global};
 use std::cell::Cell;
 use std::test::Fail;
 
@@ -48,36 +47,25 @@ const OFFERS: [Offer; 5] = [
     },
 ];
 
-/// The head of a client's request.
-fn request(alloc: Global, offer: &Offer) -> Result<Vec<u8>, AllocError> {
-    let mut head = Vec::from_slice(alloc, REQUEST.as_bytes())?;
-    head.extend_from_slice(offer.fields.as_bytes())?;
-    head.extend_from_slice(b"X: ")?;
-    for _ in 0..offer.padding {
-        head.push(b'x')?;
-    }
-    head.extend_from_slice(b"\r\n\r\n")?;
-    Ok(head)
-}
-
-/// Whether a server answers a request by this status, and takes it where that is 101.
-fn is_answered(alloc: Global, head: &[u8], status: &[u8]) -> bool {
-    let wanting = Cell::new(0);
-    let mut peer = peer_of(head, head.len(), status, &wanting);
-    peer.takes_more = !status.is_empty();
-    let wait = MemPatience::new(alloc, &[]);
-    let is_taken = accept(alloc, peer, wait, Keys([0; 4]), Kind::Hub).is_ok();
-    is_taken == status.ends_with(b"101") && wanting.get() == 0
-}
-
-/// Offers of sub-protocols to a server, and what it answers.
+/// Offers of sub-protocols to a server, and what it answers: it takes those that it answers by 101.
 #[test]
 fn offers(rt: HostRuntime) -> Result<(), Fail> {
     let alloc = rt.alloc();
     for (at, offer) in OFFERS.iter().enumerate() {
-        let head = request(alloc, offer)?;
+        let mut head = Vec::from_slice(alloc, REQUEST.as_bytes())?;
+        head.extend_from_slice(offer.fields.as_bytes())?;
+        head.extend_from_slice(b"X: ")?;
+        for _ in 0..offer.padding {
+            head.push(b'x')?;
+        }
+        head.extend_from_slice(b"\r\n\r\n")?;
+        let wanting = Cell::new(0);
+        let mut peer = peer_of(head.as_slice(), head.len(), offer.status, &wanting);
+        peer.takes_more = !offer.status.is_empty();
+        let wait = MemPatience::new(alloc, &[]);
+        let is_taken = accept(alloc, peer, wait, Keys([0; 4]), Kind::Hub).is_ok();
         assert!(rt;
-            is_answered(alloc, head.as_slice(), offer.status),
+            is_taken == offer.status.ends_with(b"101") && wanting.get() == 0,
             "in row {at}"
         );
     }
@@ -90,36 +78,14 @@ const ANSWER: &str = concat!(
     "Sec-WebSocket-Accept: ICX+Yqv66kxgM0FcWaLWlFLwTAI=\r\n",
 );
 
-/// Whether a client that offers direct connections takes this answer, and then reads the message right behind it.
-fn is_taken(alloc: Global, answer: &[u8]) -> bool {
-    let wanting = Cell::new(0);
-    let mut peer = peer_of(answer, answer.len(), b"GET / HTTP/1.1\r\n", &wanting);
-    peer.takes_more = true;
-    let wait = MemPatience::new(alloc, &[]);
-    match dial(
-        alloc,
-        peer,
-        wait,
-        Keys([0; 4]),
-        "ws://localhost/",
-        Kind::Direct,
-    ) {
-        Ok(link) => {
-            let mut link = link;
-            is_told(alloc, &mut link, b"mF")
-        }
-        Err(_) => false,
-    }
-}
-
-/// The fields of answers, and whether a client takes them.
+/// The fields of answers, and whether a client that offers direct connections takes them.
 const ANSWERS: [(&str, bool); 3] = [
     ("Sec-WebSocket-Protocol: dc.bsc.bacnet.org\r\n", true),
     ("Sec-WebSocket-Protocol: hub.bsc.bacnet.org\r\n", false),
     ("", false),
 ];
 
-/// Which answers of servers a client takes.
+/// Which answers of servers a client takes; it then reads the message right behind one.
 #[test]
 fn answers(rt: HostRuntime) -> Result<(), Fail> {
     let alloc = rt.alloc();
@@ -127,7 +93,24 @@ fn answers(rt: HostRuntime) -> Result<(), Fail> {
         let mut answer = Vec::from_slice(alloc, ANSWER.as_bytes())?;
         answer.extend_from_slice(fields.as_bytes())?;
         answer.extend_from_slice(b"\r\n\x82\x01m")?;
-        assert_eq!(rt; is_taken(alloc, answer.as_slice()), *wanted, "{fields}");
+        let wanting = Cell::new(0);
+        let mut peer = peer_of(
+            answer.as_slice(),
+            answer.len(),
+            b"GET / HTTP/1.1\r\n",
+            &wanting,
+        );
+        peer.takes_more = true;
+        let wait = MemPatience::new(alloc, &[]);
+        let uri = "ws://localhost/";
+        let is_taken = match dial(alloc, peer, wait, Keys([0; 4]), uri, Kind::Direct) {
+            Ok(link) => {
+                let mut link = link;
+                told(alloc, &mut link)?.as_slice() == b"mF".as_slice()
+            }
+            Err(_) => false,
+        };
+        assert_eq!(rt; is_taken, *wanted, "{fields}");
     }
     Ok(())
 }

@@ -1,0 +1,376 @@
+//! A hub that is served, in memory: links that meet, links that get no session, and each end.
+ghost use Rattle.bsc_edge.specs.Threads.{Begins, job_of};
+
+use crate::books::{KeptJournal, KeptJournals, Still};
+use crate::peers::{LIMITS, new_hub};
+use crate::scene::{CLOSING, CuedLink, FIRST, JOINING, LATER, OTHER, Part, Scene};
+use bsc_edge::{
+    MemAcceptor, MemSpawner, Places, Promised, Running, Spawner, ThreadSpawner, Unstarted, launch,
+};
+use bsc_history::Counts;
+use bsc_hub::Hub;
+use bsc_octets::{NoMemory, read_identity};
+use bsc_policy::{Policy, PolicyFault};
+use bsc_serve::{ServeEnd, ServeTerms, ServedHub, ServingParts, serve_on};
+use bsc_session::{SessionEnd, SessionJob};
+use std::alloc::Global;
+use std::process::Abort;
+use std::sync::atomic::{AtomicBool, AtomicU64, Ordering};
+use std::sync::{Arc, Wait};
+use std::test::*;
+
+type Session = SessionJob<CuedLink, Still, KeptJournal>;
+
+/// The thread of a session.
+type Thread = Running<Result<SessionEnd, Session>, Promised<Session>>;
+
+/// The greatest number of receives of a session that meets another: time enough for a thread to start.
+const TURNS: u64 = 5_000_000;
+
+/// The counts of a hub at which nobody connected.
+const NONE: Counts = Counts {
+    joined: 0,
+    replaced: 0,
+    refused: 0,
+    unicasts: 0,
+    broadcasts: 0,
+    appended: 0,
+    dropped: 0,
+    full: 0,
+    missed: 0,
+};
+
+/// The line of the Stop of such a hub.
+const STOP_LINE: &str =
+    "0 0 stop counts joined=0 replaced=0 refused=0 unicasts=0 broadcasts=0 appended=0 dropped=0 full=0 missed=0\n";
+
+/// What a hub is served with: for how many sessions it has numbers; the links that arrive; which calls of the acceptor and of
+/// the spawner fail, and which beginning of a journal; whether the own journal takes nothing, whether sessions have journals, and
+/// whether there is a policy, which admits A alone.
+#[derive(Drop)]
+struct Served {
+    numbers: u8,
+    parts: &'static [Part],
+    accepts: &'static [u64],
+    starts: &'static [u64],
+    begins: u64,
+    is_full: bool,
+    is_recorded: bool,
+    is_guarded: bool,
+}
+
+/// Two links that close at once, where nothing fails.
+const TWO: Served = Served {
+    numbers: 7,
+    parts: &[CLOSING, CLOSING],
+    accepts: &[],
+    starts: &[],
+    begins: 0,
+    is_full: false,
+    is_recorded: false,
+    is_guarded: false,
+};
+
+/// Two links that meet.
+const MEETING: Served = Served {
+    parts: &[FIRST, LATER],
+    ..TWO
+};
+
+/// The prefix of journals, for as long as the hub is there.
+fn prefix_beside(_: &Arc<Hub>) -> &str {
+    "j"
+}
+
+/// A policy that admits A alone.
+fn of_a(alloc: Global) -> Result<Policy, PolicyFault> {
+    let a = read_identity(&[
+        2, 0, 0, 0, 0, 10, 10, 10, 10, 10, 10, 10, 10, 10, 10, 10, 10, 10, 10, 10, 10, 10, 6, 64,
+        5, 217,
+    ]);
+    let mut policy = Policy::make(alloc);
+    policy.member(a.device, a.vmac, "a")?;
+    policy.settle()?;
+    Ok(policy)
+}
+
+/// Serves a new hub: how that ends, the spawner, the own journal, and what is noted of the links.
+fn serve<R: Wait, P: Spawner<Session> + Drop>(
+    rt: &R,
+    alloc: Global,
+    asked: &Served,
+    spawner: P,
+) -> Result<(ServeEnd, P, KeptJournal, Arc<Scene>), NoMemory>
+    requires { P.can_start spawner }
+{
+    let (hub, mut pass) = new_hub(alloc, u64::from(asked.numbers) + 1)?;
+    let hub = Arc::new(alloc, hub)?;
+    let scene = Scene {
+        accepted: AtomicBool::new(false),
+        carried: AtomicBool::new(false),
+        away: AtomicU64::new(0),
+        closed: AtomicU64::new(0),
+    };
+    let scene = Arc::new(alloc, scene)?;
+    let mut links = Vec::new(alloc);
+    for part in asked.parts {
+        links.push(CuedLink {
+            part: *part,
+            quiets: 0,
+            scene: Arc::try_clone(&scene)?,
+        })?;
+    }
+    let policy = if asked.is_guarded {
+        let Ok(policy) = of_a(alloc) else {
+            return Err(NoMemory);
+        };
+        Some(Arc::new(alloc, policy)?)
+    } else {
+        None
+    };
+    let mut own = KeptJournal {
+        octets: Vec::new(alloc),
+        is_full: asked.is_full,
+        faults: 0,
+    };
+    let mut parts = ServingParts {
+        acceptor: MemAcceptor::new(alloc, links, asked.accepts),
+        clock: Still,
+        spawner,
+        journals: KeptJournals {
+            failing: asked.begins,
+            begun: 0,
+            faults: 0,
+        },
+    };
+    let served = ServedHub {
+        rt,
+        alloc,
+        hub: &hub,
+        terms: ServeTerms {
+            limits: LIMITS,
+            turns: TURNS,
+            sessions: Some(asked.parts.len() as u64),
+        },
+        prefix: if asked.is_recorded {
+            Some(prefix_beside(&hub))
+        } else {
+            None
+        },
+        policy: &policy,
+    };
+    let end = serve_on(served, &mut pass, &mut own, &mut parts);
+    let ServingParts { spawner, .. } = parts;
+    Ok((end, spawner, own, scene))
+}
+
+/// The sessions of two links run beside each other, and a session hands on a message before its next receive: the first
+/// link gives its message when the peer of the later one was accepted, and both close only when it was put on that.
+#[test]
+fn a_message_is_carried_at_once(rt: HostRuntime) -> Result<(), Fail> {
+    let alloc = rt.alloc();
+    let begin = move |alloc: Global, places: &Arc<Places>, job: Session| -> Result<
+        Thread,
+        Unstarted<Session>,
+    > { launch(&rt, alloc, places, job) };
+    let spawner = ThreadSpawner::new(rt, alloc, begin, Places::make(alloc, 8)?);
+    let (end, _spawner, _own, scene) = serve(&rt, alloc, &MEETING, spawner)?;
+    let counts = Counts {
+        joined: 2,
+        unicasts: 1,
+        appended: 1,
+        ..NONE
+    };
+    assert_eq!(rt;
+        end,
+        ServeEnd::Done {
+            counts,
+            unstarted: 0
+        }
+    );
+    assert_eq!(rt; scene.closed.load(Ordering::SeqCst), 2);
+    Ok(())
+}
+
+/// There is no memory for a session.
+fn begin_none(session: Session) -> Result<Thread, Unstarted<Session>>
+    ensures { Begins job_of result session }
+{
+    Err(Unstarted::NoMemory(session))
+}
+
+/// There is no memory for the first of two jobs: its link is closed, and no link is taken after it.
+#[test]
+fn want_of_memory_ends_serving(rt: HostRuntime) -> Result<(), Fail> {
+    let alloc = rt.alloc();
+    let begin = move |_alloc: Global, _places: &Arc<Places>, job: Session| -> Result<
+        Thread,
+        Unstarted<Session>,
+    > { begin_none(job) };
+    let spawner = ThreadSpawner::new(rt, alloc, begin, Places::make(alloc, 1)?);
+    let (end, _spawner, _own, scene) = serve(&rt, alloc, &TWO, spawner)?;
+    assert_eq!(rt; end, ServeEnd::NoMemory);
+    assert_eq!(rt; scene.away.load(Ordering::SeqCst), 1);
+    Ok(())
+}
+
+/// What a hub is served with, and what comes of it: how that ends, how many links were closed with 1001 and how many gave
+/// Closed, how many jobs were taken, and what the own journal has.
+struct Row {
+    asked: Served,
+    end: ServeEnd,
+    away: u64,
+    closed: u64,
+    jobs: usize,
+    own: &'static str,
+}
+
+const ROWS: [Row; 9] = [
+    // Each session has joined and left before the hub is stopped: its counts have both.
+    Row {
+        asked: Served {
+            parts: &[JOINING, JOINING],
+            is_recorded: true,
+            ..TWO
+        },
+        end: ServeEnd::Done {
+            counts: Counts { joined: 2, ..NONE },
+            unstarted: 0,
+        },
+        away: 0,
+        closed: 2,
+        jobs: 2,
+        own: "4 0 stop counts joined=2 replaced=0 refused=0 unicasts=0 broadcasts=0 appended=0 dropped=0 full=0 missed=0\n",
+    },
+    // A device that the policy doesn't admit doesn't join.
+    Row {
+        asked: Served {
+            parts: &[OTHER, JOINING],
+            is_guarded: true,
+            ..TWO
+        },
+        end: ServeEnd::Done {
+            counts: Counts { joined: 1, ..NONE },
+            unstarted: 0,
+        },
+        away: 0,
+        closed: 1,
+        jobs: 2,
+        own: "2 0 stop counts joined=1 replaced=0 refused=0 unicasts=0 broadcasts=0 appended=0 dropped=0 full=0 missed=0\n",
+    },
+    // The second of three starts fails; and at a hub with one number there is none for a second session.
+    Row {
+        asked: Served {
+            parts: &[CLOSING, CLOSING, CLOSING],
+            starts: &[2],
+            ..TWO
+        },
+        end: ServeEnd::Done {
+            counts: NONE,
+            unstarted: 1,
+        },
+        away: 1,
+        closed: 2,
+        jobs: 2,
+        own: STOP_LINE,
+    },
+    Row {
+        asked: Served {
+            numbers: 1,
+            parts: &[CLOSING, CLOSING, CLOSING],
+            ..TWO
+        },
+        end: ServeEnd::Done {
+            counts: NONE,
+            unstarted: 2,
+        },
+        away: 2,
+        closed: 1,
+        jobs: 1,
+        own: STOP_LINE,
+    },
+    // The line of the Stop is put into the own journal.
+    Row {
+        asked: TWO,
+        end: ServeEnd::Done {
+            counts: NONE,
+            unstarted: 0,
+        },
+        away: 0,
+        closed: 2,
+        jobs: 2,
+        own: STOP_LINE,
+    },
+    // The acceptor fails: the session that has begun is awaited, and the hub is stopped.
+    Row {
+        asked: Served {
+            accepts: &[2],
+            ..TWO
+        },
+        end: ServeEnd::AcceptFault,
+        away: 0,
+        closed: 1,
+        jobs: 1,
+        own: STOP_LINE,
+    },
+    // A journal can't be begun, for the second of two links.
+    Row {
+        asked: Served {
+            begins: 2,
+            is_recorded: true,
+            ..TWO
+        },
+        end: ServeEnd::JournalFault,
+        away: 1,
+        closed: 1,
+        jobs: 1,
+        own: STOP_LINE,
+    },
+    // The own journal takes no line; that goes before a fault of the acceptor.
+    Row {
+        asked: Served {
+            is_full: true,
+            ..TWO
+        },
+        end: ServeEnd::JournalFault,
+        away: 0,
+        closed: 2,
+        jobs: 2,
+        own: "",
+    },
+    Row {
+        asked: Served {
+            accepts: &[2],
+            is_full: true,
+            ..TWO
+        },
+        end: ServeEnd::JournalFault,
+        away: 0,
+        closed: 1,
+        jobs: 1,
+        own: "",
+    },
+];
+
+#[test]
+fn each_end(rt: HostRuntime) -> Result<(), Fail> {
+    let alloc = rt.alloc();
+    for (place, row) in ROWS.iter().enumerate() {
+        let spawner = MemSpawner::new(alloc, row.asked.starts);
+        let (end, spawner, own, scene) = serve(&rt, alloc, &row.asked, spawner)?;
+        assert!(rt;
+            end == row.end && spawner.taken() == Some(row.jobs),
+            "row {place}"
+        );
+        assert!(rt;
+            scene.away.load(Ordering::SeqCst) == row.away,
+            "row {place}"
+        );
+        assert!(rt;
+            scene.closed.load(Ordering::SeqCst) == row.closed,
+            "row {place}"
+        );
+        assert!(rt; own.octets.as_slice() == row.own.as_bytes(), "row {place}");
+    }
+    Ok(())
+}
