@@ -1,9 +1,11 @@
-"""Reads the files of tests/: tests/README.md has their form."""
+"""Reads the files of tests/: tests/README.md has their form. Finds the program that is built."""
+import os
 import re
 import shlex
 from pathlib import Path
 
 FOLDER = Path(__file__).resolve().parents[2] / "tests"
+BUILT = ("out/bsc", "crates/bsc_program/out/bsc_program")
 PART = re.compile(r"-- (file \S+|input|status \S+|output|errors|rows)$")
 MARK = re.compile(r"\{([1-9])\}|\{([0-9A-F]{2})\}|\{([^{}*]*)\*(\d+)\}")
 
@@ -129,3 +131,11 @@ def read(path):
 def files():
     """The files of rows, in their order."""
     return sorted(FOLDER.glob("**/*.rows"))
+
+
+def program():
+    """The path of the program: the one that the variable PROGRAM names, or that was built last; None without any."""
+    named = os.environ.get("PROGRAM")
+    found = [Path(named)] if named else [FOLDER.parent / it for it in BUILT]
+    there = [it for it in found if os.access(it, os.X_OK)]
+    return str(max(there, key=lambda it: it.stat().st_mtime).resolve()) if there else None
