@@ -7,7 +7,8 @@ from pathlib import Path
 FOLDER = Path(__file__).resolve().parents[2] / "tests"
 BUILT = ("out/bsc", "crates/bsc_program/out/bsc_program")
 PART = re.compile(r"-- (file \S+|input|status \S+|output|errors|rows)$")
-MARK = re.compile(r"\{([1-9])\}|\{([0-9A-F]{2})\}|\{([^{}*]*)\*(\d+)\}")
+COLUMN = re.compile(r"\{([1-9])\}")
+MARK = re.compile(r"\{([0-9A-F]{2})\}|\{([^{}*]*)\*(\d+)\}")
 
 
 class BadRows(Exception):
@@ -36,7 +37,7 @@ class Run:
             lines = test.parts.get(name)
             return None if lines is None else octets("\n".join([*lines, ""]), columns)
 
-        words = shlex.split(re.sub(r"\{([1-9])\}", lambda it: column(columns, it[1]), test.words))
+        words = shlex.split(with_columns(test.words, columns))
         self.words, self.reads, self.writes = [], None, None
         rest = iter(words[1:])
         for word in rest:
@@ -57,20 +58,18 @@ class Run:
         return f"{self.test.file}:{self.line}: {self.test.name}"
 
 
-def column(columns, number):
-    """A column of a row, by its number, counted from 1."""
-    if int(number) > len(columns):
-        raise BadRows(f"the row has no column {number}")
-    return columns[int(number) - 1]
+def with_columns(text, columns):
+    """A text with the columns of a row in it, which has all that the text names."""
+    return COLUMN.sub(lambda it: columns[int(it[1]) - 1], text)
 
 
 def octets(text, columns):
-    """The octets of a text with marks: columns first, and then octets by their digits and texts that are repeated."""
-    text = re.sub(r"\{([1-9])\}", lambda it: column(columns, it[1]), text)
+    """The octets of a text: the columns are put in first, and then stand octets for digits and for texts that are repeated."""
+    text = with_columns(text, columns)
     found, at = b"", 0
     for it in MARK.finditer(text):
         found += text[at : it.start()].encode()
-        found += bytes.fromhex(it[2]) if it[2] else it[3].encode() * int(it[4])
+        found += bytes.fromhex(it[1]) if it[1] else it[2].encode() * int(it[3])
         at = it.end()
     return (found + text[at:].encode()).replace(b"{no LF}\n", b"")
 
@@ -119,18 +118,31 @@ def read(path):
             while lines and not lines[-1]:
                 lines.pop()
         told = "\n".join([test.words, test.parts.get("status", ""), *(line for lines in lists for line in lines)])
-        used = set(re.findall(r"\{([1-9])\}", told))
+        used = set(COLUMN.findall(told))
         for number, columns in test.table or ():
             if used != {str(it) for it in range(1, len(columns) + 1)}:
                 raise BadRows(f"{file}:{number}: the row has {len(columns)} columns, and the test uses {sorted(used)}")
-        if used and not test.table:
-            raise BadRows(f"{file}:{test.line}: there are columns, and no rows")
+        if not test.table if test.table is not None else used:
+            raise BadRows(f"{file}:{test.line}: there are no rows")
     return tests
 
 
 def files():
     """The files of rows, in their order."""
     return sorted(FOLDER.glob("**/*.rows"))
+
+
+def judged(*names):
+    """What the tests of some files ask `bsc check` about: each message, its place as words, and its verdict, each once."""
+    runs = [run for name in names for test in read(FOLDER / name) for run in test.runs()]
+    asked = {}
+    for run in runs:
+        if run.words == [b"check"] and run.status == 0:
+            lines = [it for it in run.input.decode().splitlines() if it.strip() and not it.lstrip().startswith("#")]
+            for line, verdict in zip(lines, run.output.decode().splitlines()):
+                words = line.split()
+                asked[bytes.fromhex("".join(words[3:])), tuple(words[:3]), verdict] = None
+    return list(asked)
 
 
 def program():
