@@ -1,4 +1,4 @@
-"""The messages that both ends put: 1,000 of 1 to 65,535 octets, as crates/bench_links/src/messages.rt makes them."""
+"""The messages that both ends put: 1,000 of 1 to 65,535 octets, as bench/crates/bench_links/src/messages.rt.txt makes them."""
 
 MESSAGES = 1000
 LONGEST = 65535
