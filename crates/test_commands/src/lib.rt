@@ -1,5 +1,4 @@
-//! Tests of policies, of what is kept of a long input, and of a hub that is served over memory: what no file of `tests/` can
-//! show, as the program doesn't.
+//! Tests of policies and of what is kept of a long input: what no file of `tests/` can show, as the program doesn't.
 //!
 //! They stand in a crate of their own, since a crate's own tests have all of its functions proved a second time.
 #![tactic(auto)]
@@ -8,5 +7,3 @@
 mod long_inputs;
 #[cfg(test)]
 mod policies;
-#[cfg(test)]
-mod serving;
