@@ -1,14 +1,9 @@
-//! Tests of the commands of the program, and of scripts of networks, over memory.
+//! Tests of policies and of what is kept of a long input: what no file of `tests/` can show, as the program doesn't.
 //!
-//! They stand in a crate of their own, since a crate's own tests have all of its functions proved a second time. `runs` and
-//! `journals` have a run on some words.
+//! They stand in a crate of their own, since a crate's own tests have all of its functions proved a second time.
 #![tactic(auto)]
 
 #[cfg(test)]
-mod commands;
+mod long_inputs;
 #[cfg(test)]
-mod journals;
-#[cfg(test)]
-mod runs;
-#[cfg(test)]
-mod simulate;
+mod policies;
