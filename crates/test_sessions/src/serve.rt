@@ -1,5 +1,7 @@
 //! A hub that is served, in memory: links that meet, links that get no session, and each end.
+ghost use Rattle.std.specs.Arc.{arc_value};
 ghost use Rattle.bsc_edge.specs.Threads.{Begins, job_of};
+ghost use Rattle.bsc_hub.specs.Passing.{IsCaller};
 
 use crate::books::{KeptJournal, KeptJournals, Still};
 use crate::peers::{LIMITS, new_hub};
@@ -8,7 +10,7 @@ use bsc_edge::{
     MemAcceptor, MemSpawner, Places, Promised, Running, Spawner, ThreadSpawner, Unstarted, launch,
 };
 use bsc_history::Counts;
-use bsc_hub::Hub;
+use bsc_hub::{Hub, Pass};
 use bsc_octets::{NoMemory, read_identity};
 use bsc_policy::{Policy, PolicyFault};
 use bsc_serve::{ServeEnd, ServeTerms, ServedHub, ServingParts, serve_on};
@@ -94,6 +96,48 @@ fn of_a(alloc: Global) -> Result<Policy, PolicyFault> {
     Ok(policy)
 }
 
+/// The links and the journals of a hub, and what starts its sessions.
+type Parts<P> = ServingParts<MemAcceptor<'static, CuedLink>, Still, P, KeptJournals>;
+
+/// Serves a hub: how that ends.
+fn serve_links<'a, R: Wait, P: Spawner<Session>>(
+    rt: &'a R,
+    alloc: Global,
+    hub: &'a Arc<Hub>,
+    policy: &'a Option<Arc<Policy>>,
+    pass: &mut Pass,
+    asked: &Served,
+    own: &mut KeptJournal,
+    parts: &mut Parts<P>,
+) -> ServeEnd
+    requires pass { IsCaller (arc_value hub.now) pass.old }
+    requires can { P.can_start parts.old.spawner }
+{
+    let terms = ServeTerms {
+        limits: LIMITS,
+        turns: TURNS,
+        sessions: Some(asked.parts.len() as u64),
+    };
+    let prefix = if asked.is_recorded {
+        Some(prefix_beside(hub))
+    } else {
+        None
+    };
+    serve_on(
+        ServedHub {
+            rt,
+            alloc,
+            hub,
+            terms,
+            prefix,
+            policy,
+        },
+        pass,
+        own,
+        parts,
+    )
+}
+
 /// Serves a new hub: how that ends, the spawner, the own journal, and what is noted of the links.
 fn serve<R: Wait, P: Spawner<Session> + Drop>(
     rt: &R,
@@ -143,23 +187,9 @@ fn serve<R: Wait, P: Spawner<Session> + Drop>(
             faults: 0,
         },
     };
-    let served = ServedHub {
-        rt,
-        alloc,
-        hub: &hub,
-        terms: ServeTerms {
-            limits: LIMITS,
-            turns: TURNS,
-            sessions: Some(asked.parts.len() as u64),
-        },
-        prefix: if asked.is_recorded {
-            Some(prefix_beside(&hub))
-        } else {
-            None
-        },
-        policy: &policy,
-    };
-    let end = serve_on(served, &mut pass, &mut own, &mut parts);
+    let end = serve_links(
+        rt, alloc, &hub, &policy, &mut pass, asked, &mut own, &mut parts,
+    );
     let ServingParts { spawner, .. } = parts;
     Ok((end, spawner, own, scene))
 }
