@@ -1,5 +1,5 @@
 //! Files that keep what they gave last.
-ghost use Rattle.std.specs.Prelude.{◌≡◌};
+ghost use Rattle.std.specs.Prelude.{◌≡◌, None};
 
 use bsc_edge::{FileFault, Files};
 use bsc_octets::Octets;
@@ -16,7 +16,9 @@ pub struct KeptFiles<F> {
 impl<F: Files> KeptFiles<F> {
     /// Files over these, which gave nothing yet.
     pub fn new(files: F) -> KeptFiles<F>
-        ensures { result.files ≡ files }
+        ensures files { result.files ≡ files }
+        ensures given { result.given ≡ 0 }
+        ensures text { result.text ≡ None }
     {
         KeptFiles {
             files,

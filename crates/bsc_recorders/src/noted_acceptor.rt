@@ -1,5 +1,5 @@
 //! An acceptor that notes its port.
-ghost use Rattle.std.specs.Prelude.{◌≡◌};
+ghost use Rattle.std.specs.Prelude.{◌≡◌, None, false};
 
 use bsc_edge::{Acceptor, Arrived, Failed, LinkFault};
 use bsc_octets::Vmac;
@@ -24,7 +24,9 @@ pub struct NotedAcceptor<A> {
 impl<A> NotedAcceptor<A> {
     /// An acceptor over this one, which is bound to no port.
     pub fn new(acceptor: A) -> NotedAcceptor<A>
-        ensures { result.acceptor ≡ acceptor }
+        ensures acceptor { result.acceptor ≡ acceptor }
+        ensures port { result.note.port ≡ None }
+        ensures bound { result.note.is_bound ≡ false }
     {
         NotedAcceptor {
             acceptor,
