@@ -1,9 +1,9 @@
 """The functions of a crate's sources: where each stands, what it is called, and who may call it. No prover is needed.
 
 The sources are read as text: comments, strings and characters are blanked, and a function's body is told from the clauses
-of its contract, which have braces too. A function has the name that `rattle check` prints, the path of its module and, of
-a method, of the module of its type, as `entering::Guard::commit` of the crate `bsc_turn`; of a trait's method the type's
-name and the trait's are one word, as `vmac::VmacOrd::cmp`."""
+of its contract, which have braces too. A function has the name that `rattle check` prints: the path of its module and, of
+a method, of the module of its type, as `connector::Connector::make`. Of a trait's method it is the module of the impl, and
+the names in the impl's type and trait are one word, as `vmac::VmacOrd::cmp` or `fault::FrameFaultFromCheck::from`."""
 import re
 from dataclasses import dataclass, field
 from pathlib import Path
@@ -76,6 +76,63 @@ class Function:
         return self.path.split("::")[-1]
 
 
+class Head:
+    """The head of an impl, from behind the word `impl` to its brace."""
+
+    def __init__(self, text):
+        text = " ".join(re.sub(r"\bwhere\b.*", "", text, flags=re.S).split())
+        self.parameters, text = self.split(text)
+        trait, of = self.halves(text)
+        self.of_type = (self.words(of, plain=True) or ["Any"])[0]
+        self.of_trait = (self.words(trait, plain=True) or [""])[0]
+        # An impl of a type itself is of all its values where it names nothing but parameters.
+        self.is_generic = not trait and len(self.words(of)) == 1
+        if trait == "Drop":
+            self.name = self.of_type
+        elif trait:
+            self.name = "".join([*(self.words(of) or ["Any"]), *self.words(trait)])
+        elif self.is_generic:
+            self.name = self.of_type
+        else:
+            self.name = "+".join(re.findall(r"\w+", re.sub(r"&\s*(?:'\w+\s*)?(?:mut\s+)?", " ref ", of)))
+
+    @staticmethod
+    def split(text):
+        """The parameters of an impl, and what stands behind them."""
+        if not text.startswith("<"):
+            return set(), text
+        depth, names, begin = 0, set(), True
+        for at, it in enumerate(text):
+            if it == "<" or it in "([":
+                depth += 1
+            elif it in ")]" or it == ">" and text[at - 1] != "-":
+                depth -= 1
+                if depth == 0:
+                    return names, text[at + 1 :].strip()
+            if depth == 1 and it in "<,":
+                found = re.compile(r"[<,]\s*(?:const\s+)?('?\w+)").match(text, at)
+                if found:
+                    names.add(found[1])
+        return names, text
+
+    @staticmethod
+    def halves(text):
+        """The trait and the type of an impl; no trait of one of the type itself."""
+        depth = 0
+        for at, it in enumerate(text):
+            depth += it in "<(["
+            depth -= it in ")]" or it == ">" and text[at - 1] != "-"
+            if depth == 0 and text.startswith(" for ", at):
+                return text[:at].strip(), text[at + 5 :].strip()
+        return "", text.strip()
+
+    def words(self, text, plain=False):
+        """The names in a type but those of parameters and of modules; of a plain one those before its angle brackets alone."""
+        text = text.partition("<")[0] if plain else text
+        text = re.sub(r"'\w+", " ", re.sub(r"\b\w+\s*::\s*", "", text))
+        return [it for it in re.findall(r"\w+", text) if it not in self.parameters and it not in ("dyn", "mut", "const")]
+
+
 def module_of(file):
     """The path of the module that a file below src/ is; the root has none."""
     parts = Path(file).with_suffix("").parts[1:]
@@ -102,10 +159,10 @@ class Sources:
         for it in self.functions:
             if it.body:
                 text = self.blank[it.file][it.body[0] : it.body[1]]
-                it.calls = {word for word in re.findall(r"\b(\w+)\b", text) if word in names} - {it.name}
+                it.calls = {word for word in re.findall(r"\b(\w+)\s*(?:::\s*<[^()]*>\s*)?\(", text) if word in names}
 
     def read(self, file, at, end, module, owner):
-        """Reads the items between two places. owner: the type and the trait whose methods these are."""
+        """Reads the items between two places. owner: the type and the trait whose methods these are, and their name."""
         text = self.blank[file]
         while found := HEAD.search(text, at, end):
             kind, at = found["kind"], found.end()
@@ -118,8 +175,8 @@ class Sources:
                 begin = text.rfind("\n", 0, found.start()) + 1
                 before = text[begin : found.start()]
                 stop = body[1] if body else text.find(";", named.end()) + 1
-                of_type, of_trait = owner or ("", "")
-                parts = [*module, *([of_type + of_trait] if owner else []), named[1]]
+                of_type, of_trait, called = owner or ("", "", "")
+                parts = [*module, *([called] if owner else []), named[1]]
                 is_pub = bool(re.search(r"\bpub\s+(?:const\s+|unsafe\s+)*\Z", before))
                 self.functions.append(
                     Function(self.crate, "::".join(parts), file, begin, stop, body, is_pub, of_type, of_trait)
@@ -129,19 +186,17 @@ class Sources:
                 brace = self.opening(text, at)
                 if brace is None:
                     continue
-                head, last = text[at:brace], closing(text, brace)
-                head = re.sub(r"\bwhere\b.*", "", head, flags=re.S)
-                first = self.without_parameters(head)
-                trait, _, of = first.rpartition(" for ")
-                of_type = self.last_word(of or first)
-                self.read(file, brace + 1, last - 1, self.types.get(of_type, module), (of_type, self.last_word(trait) if trait else ""))
+                last = closing(text, brace)
+                head = Head(text[at:brace])
+                where = self.types.get(head.of_type, module) if head.is_generic else module
+                self.read(file, brace + 1, last - 1, where, (head.of_type, head.of_trait, head.name))
                 at = last
             elif kind == "trait":
                 named = re.compile(r"\s+(\w+)").match(text, at)
                 brace = self.opening(text, at)
                 if named and brace is not None:
                     last = closing(text, brace)
-                    self.read(file, brace + 1, last - 1, module, (named[1], ""))
+                    self.read(file, brace + 1, last - 1, module, (named[1], "", named[1]))
                     at = last
             elif kind == "mod":
                 named = re.compile(r"\s+(\w+)\s*\{").match(text, at)
@@ -172,24 +227,6 @@ class Sources:
                 return place
             last = closing(text, place)
         return None
-
-    @staticmethod
-    def without_parameters(head):
-        """The head of an impl without what stands in angle brackets, on one line."""
-        made, depth = [], 0
-        for at, it in enumerate(head):
-            if it == "<":
-                depth += 1
-            elif it == ">" and head[at - 1] != "-":
-                depth -= 1
-            elif depth == 0:
-                made.append(it)
-        return " ".join("".join(made).split())
-
-    @staticmethod
-    def last_word(text):
-        words = re.findall(r"\w+", text)
-        return words[-1] if words else ""
 
     def public(self):
         """The functions that other crates may call: those with `pub`, of a module or a type that the root file hands on."""
