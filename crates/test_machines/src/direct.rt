@@ -30,14 +30,14 @@ fn establish(
 #[test]
 fn a_course_of_connections(rt: HostRuntime) -> Result<(), Fail> {
     let mut direct = Direct::make(rt.alloc())?;
-    let peer = node();
-    assert!(rt; direct.claim(Some(peer.vmac)) == Ok(0));
-    assert!(rt; route(&direct, HubUse::Primary, peer.vmac) == Route::Hub);
-    let up = establish(&rt, &mut direct, address(10), 0, peer);
+    let peer = address(11);
+    assert!(rt; direct.claim(Some(peer)) == Ok(0));
+    assert!(rt; route(&direct, HubUse::Primary, peer) == Route::Hub);
+    let up = establish(&rt, &mut direct, address(10), 0, node());
     assert_eq!(rt; up, Establish::Up { replaced: None });
-    assert!(rt; direct.established(peer.vmac) == Some(0));
-    assert!(rt; route(&direct, HubUse::NoHub, peer.vmac) == Route::Direct(0));
+    assert!(rt; direct.established(peer) == Some(0));
+    assert!(rt; route(&direct, HubUse::NoHub, peer) == Route::Direct(0));
     direct.release(0);
-    assert!(rt; route(&direct, HubUse::NoHub, peer.vmac) == Route::NoPath);
+    assert!(rt; route(&direct, HubUse::NoHub, peer) == Route::NoPath);
     Ok(())
 }

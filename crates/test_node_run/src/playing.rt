@@ -12,27 +12,33 @@ const WORDS: NodeWords<'static> = NodeWords {
     script: "node.script",
 };
 
-/// Whether a run comes to what it is to come to: its status, what it wrote, the port that it bound, what it did outside, and, where
-/// that is looked at, how long it waited.
-fn comes_to(alloc: Global, row: &Row) -> Result<bool, NoMemory> {
-    let mut outside = Outside::of(alloc, row)?;
+/// Runs a node: its status.
+fn run(alloc: Global, outside: &mut Outside) -> u8 {
     let Outside {
         sink,
         files,
         clock,
         acceptor,
         node,
-    } = &mut outside;
-    let status = run_node_files(alloc, WORDS, sink, files, clock, acceptor, node);
-    let did = match node.dialer.log.text.take() {
+    } = outside;
+    run_node_files(alloc, WORDS, sink, files, clock, acceptor, node)
+}
+
+/// Whether a run comes to what it is to come to: its status, what it wrote, the port that it bound, what it did outside, and, where
+/// that is looked at, how long it waited.
+fn comes_to(alloc: Global, row: &Row) -> Result<bool, NoMemory> {
+    let mut outside = Outside::of(alloc, row)?;
+    let status = run(alloc, &mut outside);
+    let did = match outside.node.dialer.log.text.take() {
         Some(text) => text.as_str() == row.did,
         None => false,
     };
     let rested = match row.rests {
-        Some(rests) => node.waiter.waits().unwrap_or(&[]) == rests,
+        Some(rests) => outside.node.waiter.waits().unwrap_or(&[]) == rests,
         None => true,
     };
-    let wrote = sink.held() == row.written.as_bytes() && acceptor.bound() == row.port;
+    let wrote = outside.sink.held() == row.written.as_bytes()
+        && outside.acceptor.bound() == row.port;
     Ok(status == row.status && wrote && did && rested)
 }
 

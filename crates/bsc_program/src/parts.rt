@@ -1,0 +1,68 @@
+//! What is made of the machine before a run.
+use bsc_edge::{Kind, Places};
+use bsc_octets::NoMemory;
+use bsc_recorders::{DiskNote, KeptFiles, NotedDisk};
+use bsc_sockets::{Door, RealDialer, RealWaiter, real_dialer};
+use std::alloc::Global;
+use std::cell::Cell;
+use std::env::Env;
+use std::fs::Files;
+use std::io::{Eprint, Stderr};
+use std::net::Net;
+use std::rc::Rc;
+use std::sync::{Arc, Wait};
+use std::time::Clock;
+
+/// At most so many sessions run at once.
+const SESSIONS: u64 = 2048;
+
+/// What takes and makes links.
+#[derive(Drop)]
+pub(crate) struct Sockets<H: Clock + Net + Wait + Eprint + Copy + Drop> {
+    pub waiter: RealWaiter<H>,
+    pub dialer: RealDialer<H>,
+    pub door: Door<H>,
+}
+
+/// What takes and makes links of this kind. A log of them is written there, where the environment asks for one.
+pub(crate) fn sockets_of<H: Clock + Net + Wait + Eprint + Copy + Drop>(
+    rt: H,
+    alloc: Global,
+    kind: Kind,
+    stderr: Stderr,
+) -> Result<Sockets<H>, NoMemory> {
+    let Ok(waiter) = RealWaiter::of(rt, alloc, kind) else {
+        return Err(NoMemory);
+    };
+    let (Ok(of_links), Ok(of_gate)) = (waiter.shared(), waiter.shared()) else {
+        return Err(NoMemory);
+    };
+    let dialer = real_dialer(rt, alloc, of_links)?;
+    let door = Door::new(rt, alloc, kind, of_gate).logged_at(stderr);
+    Ok(Sockets {
+        waiter,
+        dialer,
+        door,
+    })
+}
+
+/// The files, and the threads' places.
+#[derive(Drop)]
+pub(crate) struct Rooms<H: Files> {
+    pub files: KeptFiles<NotedDisk<H>>,
+    /// Why the last file couldn't be read, where it couldn't.
+    pub unread: DiskNote,
+    pub places: Arc<Places>,
+}
+
+/// The files of the machine, and places for the threads of sessions.
+pub(crate) fn rooms_of<H: Files + Drop>(rt: H, alloc: Global) -> Result<Rooms<H>, NoMemory> {
+    let unread = Rc::new(alloc, Cell::new(None))?;
+    let files = KeptFiles::new(NotedDisk::new(rt, unread.clone()?));
+    let places = Places::make(alloc, SESSIONS)?;
+    Ok(Rooms {
+        files,
+        unread,
+        places,
+    })
+}
