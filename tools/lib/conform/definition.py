@@ -1,0 +1,74 @@
+"""What the definition says of a script: bsc replay computes it, line by line."""
+import os
+import re
+import shutil
+import subprocess
+from pathlib import Path
+from typing import NamedTuple
+
+from conform.events import Closing, Coming
+
+TOP = Path(__file__).resolve().parents[3]
+MARK = "counts"  # a line that changes nothing and is always answered: so one sees which lines a step comes to
+ANSWER = re.compile(r"hub (counts|worn)\b")
+
+
+class NoProgram(Exception):
+    """The program isn't there, or didn't do what it is for."""
+
+
+class Due(NamedTuple):
+    """What a step comes to: what the hub said of it, and what comes to peers."""
+
+    said: tuple  # lines of replay, as words
+    events: tuple
+
+
+def program():
+    """The program: that which BSC names, that of this checkout, or that which is installed."""
+    named = os.environ.get("BSC")
+    if named:
+        return named
+    launcher = TOP / "bsc"
+    return str(launcher) if launcher.is_file() else shutil.which("bsc") or "bsc"
+
+
+def replayed(script):
+    """The text that bsc replay writes for a script."""
+    try:
+        done = subprocess.run([program(), "replay"], input=script, capture_output=True, text=True)
+    except OSError as why:
+        raise NoProgram(f"{program()} can't be run: {why.strerror}; BSC=PATH names another program") from None
+    if done.returncode:
+        last = (done.stdout.splitlines() or [""])[-1]
+        raise NoProgram(f"{program()} replay ended with status {done.returncode}: {last} {done.stderr.strip()}")
+    return done.stdout
+
+
+def dues(hub_line, steps):
+    """What each step comes to."""
+    asked = "".join(f"{it.line}\n{MARK}\n" for it in steps)
+    told = replayed(f"{hub_line}\n{asked}").splitlines()
+    found, lines = [], []
+    for line in told:
+        if ANSWER.match(line):
+            found.append(due_of(lines))
+            lines = []
+        else:
+            lines.append(tuple(line.split()))
+    if len(found) != len(steps) or lines:
+        raise NoProgram(f"{program()} replay wrote something else than lines of a script come to")
+    return found
+
+
+def due_of(lines):
+    events, said = [], []
+    for line in lines:
+        name, what, *words = line
+        if what == "out":
+            events.append(Coming(name, bytes.fromhex("".join(words))))
+        elif what == "close":
+            events.append(Closing(name, int(words[0]), " ".join(words[1:])))
+        else:
+            said.append(line)
+    return Due(tuple(said), tuple(events))

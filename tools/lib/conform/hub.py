@@ -1,0 +1,117 @@
+"""The command `hub` of tools/conform: plays scripts against a hub, and tells where it does otherwise than the definition says."""
+import argparse
+import asyncio
+import secrets
+import sys
+import time
+from typing import NamedTuple
+
+from conform import definition, judging, peers, playing, report, rules, scripts
+from conform.scripts import Identity, StandIns
+from message import CONNECT_ACCEPT, Message, digits_of, number
+
+SAME, DIFFERS, WORDS, NO_HUB = range(4)
+PATIENCE = 3.0  # seconds for what is due
+QUIET = 0.08  # seconds in which nothing more is to come, at least
+PROBE = Identity("", "", 1600, 1497)
+
+
+class Result(NamedTuple):
+    """What became of a script: why it was left out, or its differences, with what is needed to draw it."""
+
+    script: object
+    skipped: str = ""
+    differences: tuple = ()
+    strangers: int = 0
+    steps: tuple = ()
+    dues: tuple = ()
+    log: tuple = ()
+    hub_line: str = ""
+
+
+class NoHub(Exception):
+    """What is there joins nobody. It says why."""
+
+
+async def probed(uri, tls, patience):
+    """Who the hub is, by the Connect-Accept that a node gets, and how long that took."""
+    ws = await peers.opened(uri, tls)
+    try:
+        own = StandIns(PROBE, secrets.token_bytes)
+        request = "06000001" + own("02000000000A") + own("A" * 32) + "064005D9"
+        begun = time.monotonic()
+        await ws.send(bytes.fromhex(request))
+        came = await asyncio.wait_for(ws.recv(), patience)
+        took = time.monotonic() - begun
+    except asyncio.TimeoutError:
+        raise NoHub("no Connect-Accept came") from None
+    except peers.ConnectionClosed:
+        raise NoHub(f"in place of a Connect-Accept a close {ws.close_code} came") from None
+    finally:
+        await ws.close()
+    message = Message(came) if isinstance(came, bytes) else None
+    if not message or message.function != CONNECT_ACCEPT or not message.is_whole():
+        raise NoHub(f"in place of a Connect-Accept came {digits_of(came) if message else 'a text message'}")
+    lengths = [number(message.field(f"max. {it} length")) for it in ("BVLC", "NPDU")]
+    return Identity(digits_of(message.field("VMAC")), digits_of(message.field("Device UUID")), max(64, lengths[0]), max(1, lengths[1])), took
+
+
+async def played(script, hub, asked, tls, pace):
+    """Plays one script, with VMACs and devices that no other has."""
+    skipped = left_out(script, asked)
+    if skipped:
+        return Result(script, skipped)
+    stand_ins = StandIns(hub, secrets.token_bytes)
+    steps = scripts.ready(script, hub, stand_ins)
+    hub_line = scripts.hub_line(hub, asked.outbox)
+    dues = definition.dues(hub_line, steps)
+    play = playing.Play(asked.uri, tls, pace)
+    log = await play.play(steps, dues)
+    judge = judging.Judge(script, steps, dues, log, stand_ins.vmacs())
+    found = tuple(judge.differences())
+    return Result(script, "", found, judge.strangers, tuple(steps), tuple(dues), tuple(log), hub_line)
+
+
+def left_out(script, asked):
+    """Why a script isn't played, if so."""
+    return ""
+
+
+async def run(asked):
+    tls = peers.tls_context(asked) if asked.uri.startswith("wss:") else None
+    chosen = [it for it in scripts.all_scripts() if not asked.only or any(it.name.startswith(word) for word in asked.only)]
+    hub, took = await probed(asked.uri, tls, asked.patience)
+    pace = playing.Pace(asked.patience, max(QUIET, 4 * took))
+    told = report.Tap(chosen, hub, asked.profile)
+    for script in chosen:
+        told.add(await played(script, hub, asked, tls, pace))
+    told.end()
+    return DIFFERS if told.failed else SAME
+
+
+def words_of(arguments):
+    words = argparse.ArgumentParser(prog="tools/conform hub", description=__doc__, formatter_class=argparse.RawDescriptionHelpFormatter)
+    words.add_argument("uri", metavar="URI", help="of the hub, ws://.. or wss://..")
+    words.add_argument("--only", action="append", metavar="NAME", help="only scripts whose names begin so; may be said again")
+    words.add_argument("--profile", action="store_true", help="differences of the profile make the status 1 too")
+    words.add_argument("--outbox", type=int, metavar="N", help="how many frames an outbox of the hub has")
+    words.add_argument("--patience", type=float, default=PATIENCE, metavar="SECONDS", help="how long is waited for what is due")
+    words.add_argument("--ca")
+    words.add_argument("--cert")
+    words.add_argument("--key")
+    return words.parse_args(arguments)
+
+
+def main(arguments):
+    asked = words_of(arguments)
+    try:
+        return asyncio.run(run(asked))
+    except peers.NoConnection as why:
+        print(f"conform: {asked.uri}: {why}", file=sys.stderr)
+        return NO_HUB
+    except (definition.NoProgram, scripts.BadScript) as why:
+        print(f"conform: {why}", file=sys.stderr)
+        return WORDS
+    except NoHub as why:
+        print(f"Bail out! {why}")
+        return DIFFERS

@@ -1,0 +1,110 @@
+"""Plays a script against a hub: line by line, each when what is due for the one before has come."""
+import asyncio
+import time
+from typing import NamedTuple
+
+from conform import peers
+from conform.events import Coming, plain
+
+INSTEAD = 0.3  # seconds that what is due still has, where something else has come, or something was missing before
+
+
+class Sent(NamedTuple):
+    """What a peer did: a step of the script."""
+
+    step: int
+
+
+class Came(NamedTuple):
+    """What came to a peer, while a step was played."""
+
+    step: int
+    event: object
+
+
+class Pace(NamedTuple):
+    """How long is waited, in seconds: for what is due, and for what isn't."""
+
+    patience: float
+    quiet: float
+
+
+class Play:
+    """One script at one hub. `log` is what happened, in the order of the clock."""
+
+    def __init__(self, uri, tls, pace):
+        self.uri, self.tls, self.pace = uri, tls, pace
+        self.peers, self.log, self.waiting = {}, [], []
+        self.step = 0
+        self.missed = False  # whether something that was due hasn't come in time
+        self.strange = False  # whether something came that isn't due
+        self.arrival = asyncio.Event()
+
+    def tell(self, event):
+        self.log.append(Came(self.step, event))
+        found = plain(event)
+        due = next((it for it in self.waiting if is_met(it, found)), None)
+        if due is None:
+            self.strange = True
+        else:
+            self.waiting.remove(due)
+        self.arrival.set()
+
+    async def play(self, steps, dues, clock=None):
+        """Plays all steps, and gives back the log."""
+        try:
+            for self.step, (step, due) in enumerate(zip(steps, dues)):
+                if step.words[0] == "at":
+                    await clock(int(step.words[1]))
+                self.waiting += due.events
+                self.log.append(Sent(self.step))
+                await self.do(step)
+                if step.waits:
+                    await self.wait(self.step, steps, dues)
+            await asyncio.sleep(self.pace.quiet)
+        finally:
+            await asyncio.gather(*(it.drop() for it in self.peers.values()), return_exceptions=True)
+        return self.log
+
+    async def do(self, step):
+        what, *words = step.words
+        if what == "open":
+            ws = await peers.opened(self.uri, self.tls)
+            self.peers[words[0]] = peers.Peer(words[0], ws, self.tell)
+        elif what == "in":
+            await self.peers[words[0]].send(step.octets)
+        elif what == "text":
+            await self.peers[words[0]].send("text")
+        elif what == "drop":
+            await self.peers.pop(words[0]).drop()
+        elif what == "hold":
+            self.peers[words[0]].hold()
+        elif what == "free":
+            self.peers[words[0]].free()
+
+    async def wait(self, at, steps, dues):
+        """Waits for what is due. Where nothing is, and another peer goes on, it waits until the hub will have seen this step."""
+        until = time.monotonic() + (INSTEAD if self.missed else self.pace.patience)
+        while self.waiting and time.monotonic() < until:
+            self.arrival.clear()
+            if self.strange:
+                until = min(until, time.monotonic() + INSTEAD)
+                self.strange = False
+            try:
+                await asyncio.wait_for(self.arrival.wait(), max(0.0, until - time.monotonic()))
+            except asyncio.TimeoutError:
+                break
+        if self.waiting:
+            self.missed = True
+            self.waiting.clear()
+        step, due = steps[at], dues[at]
+        after = steps[at + 1] if at + 1 < len(steps) else None
+        if after and not due.events and step.words[0] != "open" and after.words[1:2] != step.words[1:2]:
+            await asyncio.sleep(self.pace.quiet)
+
+
+def is_met(due, found):
+    """Whether what came is what is due. Of a close it is enough that it came: its code is looked at later."""
+    if isinstance(due, Coming):
+        return due == found
+    return type(due) is type(found) and due.name == found.name

@@ -1,0 +1,46 @@
+"""What a run comes to, a line a script, in TAP (Test Anything Protocol)."""
+import sys
+
+from conform.judging import told
+from conform.rules import PROFILE, STANDARD
+from message import digits_of
+
+SHOWN = 80  # octets that are shown of a message
+
+
+class Tap:
+    def __init__(self, chosen, hub, judges_profile, out=sys.stdout):
+        self.chosen, self.judges_profile, self.out = chosen, judges_profile, out
+        self.results = []
+        self.failed = False
+        self.say("TAP version 13")
+        self.say(f"1..{len(chosen)}")
+        self.say(f"# the hub {hub.vmac}, device {hub.device}, takes {hub.max_bvlc} octets and NPDUs of {hub.max_npdu}")
+
+    def say(self, line):
+        print(line, file=self.out, flush=True)
+
+    def add(self, result):
+        self.results.append(result)
+        number, name = len(self.results), result.script.name
+        if result.skipped:
+            self.say(f"ok {number} - {name} # SKIP {result.skipped}")
+            return
+        whose = {it.whose for it in result.differences}
+        fails = STANDARD in whose or self.judges_profile and PROFILE in whose
+        self.failed = self.failed or fails
+        if not whose:
+            self.say(f"ok {number} - {name}")
+        elif fails:
+            self.say(f"not ok {number} - {name}")
+        else:
+            self.say(f"not ok {number} - {name} # TODO differs from the profile alone")
+        for it in result.differences:
+            self.say(f"# {it.whose} {it.clause or '-'} {it.rule.name}: {it.name}: {it.words}")
+
+    def end(self):
+        differences = [it for result in self.results for it in result.differences]
+        counts = {whose: sum(it.whose == whose for it in differences) for whose in (STANDARD, PROFILE)}
+        skipped = sum(bool(it.skipped) for it in self.results)
+        self.say(f"# {len(self.results)} scripts, {skipped} skipped: {counts[STANDARD]} differences of the standard, "
+                 f"{counts[PROFILE]} of the profile")
