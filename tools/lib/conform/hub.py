@@ -12,8 +12,11 @@ from message import CONNECT_ACCEPT, Message, digits_of, number
 
 SAME, DIFFERS, WORDS, NO_HUB = range(4)
 PATIENCE = 3.0  # seconds for what is due
+LONGEST = 40  # seconds that a script may take, beside its own times
 QUIET = 0.08  # seconds in which nothing more is to come, at least
 PROBE = Identity("", "", 1600, 1497)
+# The waits of scripts, in ms: docs/SCRIPTS.md has them.
+WAITS = {"connect": 10_000, "disconnect": 10_000, "heartbeat": 300_000}
 
 
 class Result(NamedTuple):
@@ -66,7 +69,8 @@ async def played(script, hub, asked, tls, pace):
     hub_line = scripts.hub_line(hub, asked.outbox)
     dues = definition.dues(hub_line, steps)
     play = playing.Play(asked.uri, tls, pace)
-    log = await play.play(steps, dues)
+    scale = scale_of(script, asked.times)
+    log = await play.play(steps, dues, scale, LONGEST + (steps_last(steps) * scale if scale else 0))
     judge = judging.Judge(script, steps, dues, log, stand_ins.vmacs())
     found = tuple(judge.differences())
     return Result(script, "", found, judge.strangers, tuple(steps), tuple(dues), tuple(log), hub_line)
@@ -74,7 +78,35 @@ async def played(script, hub, asked, tls, pace):
 
 def left_out(script, asked):
     """Why a script isn't played, if so."""
+    if script.marks & set(WAITS) and not asked.times:
+        return "--times isn't given"
+    if "outbox" in script.marks and not asked.outbox:
+        return "--outbox isn't given"
     return ""
+
+
+def steps_last(steps):
+    """How long a script lasts by its own clock, in ms."""
+    return max((int(it.words[1]) for it in steps if it.words[0] == "at"), default=0)
+
+
+def scale_of(script, times):
+    """How many seconds a millisecond of a script is, by the wait that it is about."""
+    return next((ms / WAITS[wait] / 1000 for wait, ms in zip(WAITS, times or ()) if wait in script.marks), None)
+
+
+def three_times(word):
+    """The words of --times: three waits in ms."""
+    times = [int(it) for it in word.split(",")]
+    if len(times) != 3 or min(times) < 1:
+        raise ValueError
+    return times
+
+
+def at_least_two(word):
+    if int(word) < 2:
+        raise ValueError
+    return int(word)
 
 
 async def run(asked):
@@ -94,7 +126,8 @@ def words_of(arguments):
     words.add_argument("uri", metavar="URI", help="of the hub, ws://.. or wss://..")
     words.add_argument("--only", action="append", metavar="NAME", help="only scripts whose names begin so; may be said again")
     words.add_argument("--profile", action="store_true", help="differences of the profile make the status 1 too")
-    words.add_argument("--outbox", type=int, metavar="N", help="how many frames an outbox of the hub has")
+    words.add_argument("--outbox", type=at_least_two, metavar="N", help="how many frames wait for a node at the hub at most")
+    words.add_argument("--times", type=three_times, metavar="CONNECT,DISCONNECT,HEARTBEAT", help="the waits of the hub, in ms")
     words.add_argument("--patience", type=float, default=PATIENCE, metavar="SECONDS", help="how long is waited for what is due")
     words.add_argument("--ca")
     words.add_argument("--cert")

@@ -34,8 +34,9 @@ class Play:
 
     def __init__(self, uri, tls, pace):
         self.uri, self.tls, self.pace = uri, tls, pace
-        self.peers, self.log, self.waiting = {}, [], []
-        self.step = 0
+        self.peers, self.opened = {}, []  # those that are open, by their names, and all that were
+        self.log, self.waiting = [], []
+        self.step, self.begun = 0, None
         self.missed = False  # whether something that was due hasn't come in time
         self.strange = False  # whether something came that isn't due
         self.arrival = asyncio.Event()
@@ -50,27 +51,40 @@ class Play:
             self.waiting.remove(due)
         self.arrival.set()
 
-    async def play(self, steps, dues, clock=None):
-        """Plays all steps, and gives back the log."""
+    async def play(self, steps, dues, scale, longest):
+        """Plays all steps, and gives back the log. A millisecond of the script lasts `scale` seconds. What isn't done after
+        `longest` seconds is left out: a hub that doesn't read any more keeps a peer from sending."""
         try:
-            for self.step, (step, due) in enumerate(zip(steps, dues)):
-                if step.words[0] == "at":
-                    await clock(int(step.words[1]))
-                self.waiting += due.events
-                self.log.append(Sent(self.step))
-                await self.do(step)
-                if step.waits:
-                    await self.wait(self.step, steps, dues)
-            await asyncio.sleep(self.pace.quiet)
+            await asyncio.wait_for(self.play_all(steps, dues, scale), longest)
+        except asyncio.TimeoutError:
+            self.missed = True
         finally:
-            await asyncio.gather(*(it.drop() for it in self.peers.values()), return_exceptions=True)
+            await asyncio.gather(*(it.drop() for it in self.opened), return_exceptions=True)
         return self.log
+
+    async def play_all(self, steps, dues, scale):
+        for self.step, (step, due) in enumerate(zip(steps, dues)):
+            if step.words[0] == "at":
+                await self.pass_until(int(step.words[1]) * scale)
+            self.waiting += due.events
+            self.log.append(Sent(self.step))
+            await self.do(step)
+            if step.waits:
+                await self.wait(self.step, steps, dues)
+        await asyncio.sleep(self.pace.quiet)
+
+    async def pass_until(self, seconds):
+        """Waits until so much time has passed since the script's clock was first set."""
+        now = time.monotonic()
+        self.begun = now if self.begun is None else self.begun
+        await asyncio.sleep(max(0.0, self.begun + seconds - now))
 
     async def do(self, step):
         what, *words = step.words
         if what == "open":
             ws = await peers.opened(self.uri, self.tls)
             self.peers[words[0]] = peers.Peer(words[0], ws, self.tell)
+            self.opened.append(self.peers[words[0]])
         elif what == "in":
             await self.peers[words[0]].send(step.octets)
         elif what == "text":
