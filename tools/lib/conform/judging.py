@@ -8,7 +8,7 @@ from typing import NamedTuple
 
 from conform.events import Closing, Coming, Texting, plain
 from conform.rules import PROFILE, RULES, STANDARD, Difference
-from message import (BROADCAST, CONNECT_ACCEPT, DISCONNECT_ACK, DISCONNECT_REQUEST, RESULT, Message, digits_of, name_of, number,
+from message import (BROADCAST, CONNECT_ACCEPT, CONNECT_REQUEST, DISCONNECT_ACK, DISCONNECT_REQUEST, RESULT, Message, digits_of, name_of, number,
                      told_of)
 
 HEARTBEAT_ACK = 0x0B
@@ -55,6 +55,7 @@ class Judge:
         self.found = [Placed(it.step, it.event) for it in log if hasattr(it, "event")]
         self.names = list(dict.fromkeys(it.event.name for it in self.wanted + self.found))
         self.sent = [(n, it.words[1], Message(it.octets)) for n, it in enumerate(steps) if it.words[0] == "in"]
+        self.asked = {(n, name): it.field("VMAC") for n, name, it in self.sent if it.function == CONNECT_REQUEST}
         self.strangers = 0
 
     def differences(self):
@@ -109,7 +110,7 @@ class Judge:
 
     def rules_between(self, wanted, due, came):
         if due.function != came.function:
-            yield self.rule_of_answer(due, came)
+            yield self.rule_of_answer(wanted, due, came)
             return
         if due.id != came.id:
             yield "message-id", None
@@ -127,14 +128,14 @@ class Judge:
         if due.octets[rest_at(due):] != came.octets[rest_at(came):] or (due.flags ^ came.flags) & 0x03:
             yield "unchanged", None
 
-    def rule_of_answer(self, due, came):
+    def rule_of_answer(self, wanted, due, came):
         """Of an answer that has another function than what was due."""
         if due.function == RESULT and number(due.field("error code")) == DUPLICATE:
             return "duplicate", None
         if due.function == RESULT:
             return ("no-accept" if came.function == CONNECT_ACCEPT else "nak"), None
         if due.function == CONNECT_ACCEPT:
-            return "accept", None
+            return ("takeover" if self.takes_over(wanted.step) else "accept"), None
         return {HEARTBEAT_ACK: "heartbeat-ack", DISCONNECT_ACK: "disconnect-ack"}.get(due.function, "unchanged"), None
 
     def rules_of_nak(self, wanted, due, came):
@@ -191,16 +192,22 @@ class Judge:
             rule = "close-early" if early else "close-undue"
             return self.make(rule, found, f"{told(event)} came", None, event)
         message = read(event)
-        if message.origin and message.origin not in self.vmacs:
+        if message.origin and message.origin not in self.vmacs and not self.source_of(message, found.step):
+            # Of a node that isn't of this script.
             self.strangers += 1
             return None
         rule, whose = (self.rule_of_frame if message.origin else self.rule_of_own)(found, message)
         return self.make(rule, found, f"{told(event)} came", None, event, whose)
 
     def source_of(self, message, step):
-        """The message of the script that is this one, as far as it was sent by then."""
+        """The message of the script that is this one, as far as it was sent by then: of the node whose VMAC it has, or of another."""
         same = [it for it in self.sent if it[0] <= step and (it[2].function, it[2].id) == (message.function, message.id)]
-        return same[-1] if same else None
+        own = [it for it in same if self.vmac_of(it[1], it[0]) == message.origin]
+        return (own or same or [None])[-1]
+
+    def vmac_of(self, name, step):
+        """The VMAC for which a name has asked last, when a step is played."""
+        return next((vmac for (n, it), vmac in reversed(self.asked.items()) if it == name and n <= step), b"")
 
     def rule_of_frame(self, found, message):
         """Of a message of another node, or of one that is taken for it."""
@@ -309,7 +316,7 @@ def left_over(these, others):
 
 def paired(missing, extra):
     """Pairs of what is missing and what came in its place. They are taken out of both."""
-    for alike in (is_close, is_same_message, is_same_answer, is_same_place):
+    for alike in (is_close, is_same_frame, is_same_message, is_same_answer, is_same_kind):
         for one in list(missing):
             other = next((it for it in extra if alike(one, it)), None)
             if other:
@@ -320,6 +327,11 @@ def paired(missing, extra):
 
 def is_close(one, other):
     return isinstance(one.event, Closing) and isinstance(other.event, Closing)
+
+
+def is_same_frame(one, other):
+    """Two messages with one function, one ID and one sender."""
+    return is_same_message(one, other) and read(one.event).origin == read(other.event).origin
 
 
 def is_same_message(one, other):
@@ -334,7 +346,7 @@ def is_same_answer(one, other):
     return bool(due and came) and not due.origin and not came.origin and due.id == came.id and one.step == other.step
 
 
-def is_same_place(one, other):
-    """Two messages of one function that came at one step, with other IDs."""
+def is_same_kind(one, other):
+    """Two messages of one function, of which the one came when the other was due or later, with another ID."""
     due, came = read(one.event), read(other.event)
-    return bool(due and came) and due.function == came.function and one.step == other.step and bool(due.origin) == bool(came.origin)
+    return bool(due and came) and (due.function, due.origin) == (came.function, came.origin) and one.step <= other.step

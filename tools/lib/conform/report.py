@@ -1,11 +1,17 @@
 """What a run comes to, a line a script, in TAP (Test Anything Protocol)."""
 import sys
 
-from conform.judging import told
 from conform.rules import PROFILE, STANDARD
-from message import digits_of
 
-SHOWN = 80  # octets that are shown of a message
+SHOWN = 3  # differences of one script by one rule
+
+
+def alike(differences):
+    """The differences of each rule."""
+    kinds = {}
+    for it in differences:
+        kinds.setdefault((it.rule.name, it.whose), []).append(it)
+    return kinds.values()
 
 
 class Tap:
@@ -35,8 +41,11 @@ class Tap:
             self.say(f"not ok {number} - {name}")
         else:
             self.say(f"not ok {number} - {name} # TODO differs from the profile alone")
-        for it in result.differences:
-            self.say(f"# {it.whose} {it.clause or '-'} {it.rule.name}: {it.name}: {it.words}")
+        for same in alike(result.differences):
+            for it in same[:SHOWN]:
+                self.say(f"# {it.whose} {it.clause or '-'} {it.rule.name}: {it.name}: {it.words}")
+            if same[SHOWN:]:
+                self.say(f"# {same[0].whose} {same[0].clause or '-'} {same[0].rule.name}: {len(same) - SHOWN} more")
 
     def end(self):
         differences = [it for result in self.results for it in result.differences]
