@@ -10,6 +10,7 @@ from conform.events import Closing, Coming
 
 TOP = Path(__file__).resolve().parents[3]
 MARK = "counts"  # a line that changes nothing and is always answered: so one sees which lines a step comes to
+PATIENCE = 60  # seconds that a script may take to be replayed
 ANSWER = re.compile(r"hub (counts|worn)\b")
 
 
@@ -36,9 +37,11 @@ def program():
 def replayed(script):
     """The text that bsc replay writes for a script."""
     try:
-        done = subprocess.run([program(), "replay"], input=script, capture_output=True, text=True)
+        done = subprocess.run([program(), "replay"], input=script, capture_output=True, text=True, timeout=PATIENCE)
     except OSError as why:
         raise NoProgram(f"{program()} can't be run: {why.strerror}; BSC=PATH names another program") from None
+    except subprocess.TimeoutExpired:
+        raise NoProgram(f"{program()} replay didn't end within {PATIENCE} s") from None
     if done.returncode:
         last = (done.stdout.splitlines() or [""])[-1]
         raise NoProgram(f"{program()} replay ended with status {done.returncode}: {last} {done.stderr.strip()}")

@@ -4,9 +4,10 @@ import asyncio
 import secrets
 import sys
 import time
+from pathlib import Path
 from typing import NamedTuple
 
-from conform import definition, judging, peers, playing, report, rules, scripts
+from conform import definition, judging, page, peers, playing, report, scripts
 from conform.scripts import Identity, StandIns
 from message import CONNECT_ACCEPT, Message, digits_of, number
 
@@ -118,6 +119,8 @@ async def run(asked):
     for script in chosen:
         told.add(await played(script, hub, asked, tls, pace))
     told.end()
+    if asked.html:
+        Path(asked.html).write_text(page.page(asked.uri, told.results), encoding="utf-8")
     return DIFFERS if told.failed else SAME
 
 
@@ -128,6 +131,7 @@ def words_of(arguments):
     words.add_argument("--profile", action="store_true", help="differences of the profile make the status 1 too")
     words.add_argument("--outbox", type=at_least_two, metavar="N", help="how many frames wait for a node at the hub at most")
     words.add_argument("--times", type=three_times, metavar="CONNECT,DISCONNECT,HEARTBEAT", help="the waits of the hub, in ms")
+    words.add_argument("--html", metavar="FILE", help="writes a page with a ladder of each script that differs")
     words.add_argument("--patience", type=float, default=PATIENCE, metavar="SECONDS", help="how long is waited for what is due")
     words.add_argument("--ca")
     words.add_argument("--cert")

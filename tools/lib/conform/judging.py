@@ -192,7 +192,7 @@ class Judge:
             rule = "close-early" if early else "close-undue"
             return self.make(rule, found, f"{told(event)} came", None, event)
         message = read(event)
-        if message.origin and message.origin not in self.vmacs and not self.source_of(message, found.step):
+        if any(message.origin) and message.origin not in self.vmacs:
             # Of a node that isn't of this script.
             self.strangers += 1
             return None

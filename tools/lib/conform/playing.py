@@ -6,6 +6,7 @@ from typing import NamedTuple
 from conform import peers
 from conform.events import Coming, plain
 
+LEAVING = 5  # seconds in which all peers close
 INSTEAD = 0.3  # seconds that what is due still has, where something else has come, or something was missing before
 
 
@@ -59,7 +60,8 @@ class Play:
         except asyncio.TimeoutError:
             self.missed = True
         finally:
-            await asyncio.gather(*(it.drop() for it in self.opened), return_exceptions=True)
+            if self.opened:
+                await asyncio.wait([asyncio.ensure_future(it.drop()) for it in self.opened], timeout=LEAVING)
         return self.log
 
     async def play_all(self, steps, dues, scale):
