@@ -15,33 +15,33 @@ const BROADCAST = 'ffffffffffff';
 const NOBODY = '000000000000';
 const ALL_PHASES = { awaiting: [CONNECT_REQUEST], connected: [DISCONNECT_REQUEST, HEARTBEAT_REQUEST], disconnecting: [RESULT, DISCONNECT_ACK] };
 
-// Which rule each bug is found by, and what it does.
+// The bug that each word plants: the rule by which it is found, a group of scripts that find it, and what it does.
 const BUGS = {
-  'old-asked-not': ['old-asked', 'the old connection of a device that took over is let alone'],
-  'old-holder': ['old-holder', 'a broadcast goes to the old connection too, until it has answered'],
-  'old-sender': ['old-sender', 'what the old connection sends is forwarded'],
-  'back-to-sender': ['back-to-sender', 'a broadcast comes back to its sender'],
-  'nak-to-response': ['nak-to-response', 'a response that is wrong gets a NAK'],
-  'origin-kept': ['origin-in', 'the Originating address that a sender gives is taken for its own'],
-  'destination-left': ['destination-out', 'a unicast is forwarded with its Destination'],
-  'destination-lost': ['destination-kept', 'a broadcast is forwarded without its Destination'],
-  'hub-vmac-in': ['duplicate', 'a node that asks for the VMAC of the hub is let in'],
-  'wrong-duplicate': ['duplicate', 'a duplicate gets the code 152'],
-  'no-nak': ['nak', 'a payload where none belongs is met by silence'],
-  'unknown-code': ['nak-code', 'an unknown function gets the code of an unknown proprietary one'],
-  'reserved-forwarded': ['refused-forwarded', 'a unicast with a reserved flag is forwarded'],
-  'order': ['order', 'frames wait for the next turn of the loop, and the last one goes first'],
-  'to-all': ['only-holder', 'a unicast that nobody holds goes to all'],
-  'too-long': ['too-long', 'the longest message of a receiver is not looked at'],
-  'accept-id': ['message-id', 'a Connect-Accept has the Message ID 1'],
-  'no-heartbeat': ['heartbeat-ack', 'a Heartbeat-Request with options gets no answer'],
-  'payload-changed': ['unchanged', 'the last octet of a long payload is lost'],
-  'no-close': ['close', 'the WebSocket of who has left is not closed'],
+  'old-asked-not': ['old-asked', 'takeover', 'the old connection of a device that took over is let alone'],
+  'old-holder': ['old-holder', 'takeover', 'a broadcast goes to the old connection too, until it has answered'],
+  'old-sender': ['old-sender', 'takeover', 'what the old connection sends is forwarded'],
+  'back-to-sender': ['back-to-sender', 'broadcast', 'a broadcast comes back to its sender'],
+  'nak-to-response': ['nak-to-response', 'malformed', 'a response that is wrong gets a NAK'],
+  'origin-kept': ['origin-in', 'addresses', 'the Originating address that a sender gives is taken for its own'],
+  'destination-left': ['destination-out', 'unicast', 'a unicast is forwarded with its Destination'],
+  'destination-lost': ['destination-kept', 'broadcast', 'a broadcast is forwarded without its Destination'],
+  'hub-vmac-in': ['duplicate', 'refusals', 'a node that asks for the VMAC of the hub is let in'],
+  'wrong-duplicate': ['duplicate', 'refusals', 'a duplicate gets the code 152'],
+  'no-nak': ['nak', 'malformed', 'a payload where none belongs is met by silence'],
+  'unknown-code': ['nak-code', 'malformed', 'an unknown function gets the code of an unknown proprietary one'],
+  'reserved-forwarded': ['refused-forwarded', 'malformed', 'a unicast with a reserved flag is forwarded'],
+  'order': ['order', 'ordering', 'frames wait for the next turn of the loop, and the last one goes first'],
+  'to-all': ['only-holder', 'unicast', 'a unicast that nobody holds goes to all'],
+  'too-long': ['too-long', 'unicast', 'the longest message of a receiver is not looked at'],
+  'accept-id': ['message-id', 'join', 'a Connect-Accept has the Message ID 1'],
+  'no-heartbeat': ['heartbeat-ack', 'heartbeat', 'a Heartbeat-Request with options gets no answer'],
+  'payload-changed': ['unchanged', 'unicast', 'the last octet of a long payload is lost'],
+  'no-close': ['close', 'disconnect', 'the WebSocket of who has left is not closed'],
 };
 
 const words = process.argv.slice(2);
 if (words[0] === '--bugs') {
-  Object.entries(BUGS).forEach(([word, [rule]]) => console.log(`${word} ${rule}`));
+  Object.entries(BUGS).forEach(([word, [rule, group]]) => console.log(`${word} ${rule} ${group}`));
   process.exit(0);
 }
 if (words.length > 1 || (words.length === 1 && !BUGS[words[0]])) {

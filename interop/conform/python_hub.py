@@ -27,28 +27,28 @@ FIXED = {bvlc.NPDU: 1, bvlc.ADVERTISEMENT: 6, bvlc.CONNECT_REQUEST: 26, bvlc.CON
 HAS_REST = (bvlc.NPDU, bvlc.RESOLUTION_ACK, bvlc.PROPRIETARY)
 AWAITING, CONNECTED, DISCONNECTING, OVER = "awaiting", "connected", "disconnecting", "over"
 
-# Which bug each word plants, and the rule by which it is found.
+# The bug that each word plants: the rule by which it is found, a group of scripts that find it, and what it does.
 BUGS = {
-    "old-holder": ("old-holder", "what is for a VMAC goes to the old connection too, after a takeover"),
-    "back-to-sender": ("back-to-sender", "a broadcast comes back to its sender"),
-    "nak-to-response": ("nak-to-response", "a response that is wrong gets a NAK"),
-    "nak-to-broadcast": ("nak-to-broadcast", "a broadcast that is wrong gets a NAK"),
-    "origin-in": ("origin-in", "a message in which its sender gives an Originating address is forwarded"),
-    "no-origin": ("origin", "a message is forwarded without an Originating address"),
-    "destination-left": ("destination-out", "a unicast is forwarded with its Destination"),
-    "duplicate-in": ("duplicate", "a duplicate is let in"),
-    "no-disconnect-ack": ("disconnect-ack", "no Disconnect-ACK comes before the close"),
-    "wrong-code": ("nak-code", "options that are cut get the code of a header that is encoded wrongly"),
-    "out-of-order": ("order", "of forty unicasts one is put behind the next"),
-    "twice": ("once", "of forty unicasts one comes twice"),
-    "lost": ("unicast", "of forty unicasts one is lost"),
-    "no-takeover": ("takeover", "a device that comes again is refused as a duplicate"),
-    "heartbeat-id": ("message-id", "a Heartbeat-ACK has the Message ID 0"),
-    "options-lost": ("unchanged", "data options are left out of what is forwarded"),
-    "before-joining": ("not-joined", "what a node sends before it has joined is forwarded"),
-    "left-stays": ("accept", "who has left still has its VMAC"),
+    "old-holder": ("old-holder", "takeover", "what is for a VMAC goes to the old connection too, after a takeover"),
+    "back-to-sender": ("back-to-sender", "broadcast", "a broadcast comes back to its sender"),
+    "nak-to-response": ("nak-to-response", "malformed", "a response that is wrong gets a NAK"),
+    "nak-to-broadcast": ("nak-to-broadcast", "malformed", "a broadcast that is wrong gets a NAK"),
+    "origin-in": ("origin-in", "addresses", "a message in which its sender gives an Originating address is forwarded"),
+    "no-origin": ("origin", "unicast", "a message is forwarded without an Originating address"),
+    "destination-left": ("destination-out", "unicast", "a unicast is forwarded with its Destination"),
+    "duplicate-in": ("duplicate", "refusals", "a duplicate is let in"),
+    "no-disconnect-ack": ("disconnect-ack", "disconnect", "no Disconnect-ACK comes before the close"),
+    "wrong-code": ("nak-code", "malformed", "options that are cut get the code of a header that is encoded wrongly"),
+    "out-of-order": ("order", "ordering", "of forty unicasts one is put behind the next"),
+    "twice": ("once", "ordering", "of forty unicasts one comes twice"),
+    "lost": ("unicast", "ordering", "of forty unicasts one is lost"),
+    "no-takeover": ("takeover", "takeover", "a device that comes again is refused as a duplicate"),
+    "heartbeat-id": ("message-id", "heartbeat", "a Heartbeat-ACK has the Message ID 0"),
+    "options-lost": ("unchanged", "options", "data options are left out of what is forwarded"),
+    "before-joining": ("not-joined", "join", "what a node sends before it has joined is forwarded"),
+    "left-stays": ("accept", "join", "who has left still has its VMAC"),
 }
-__doc__ += "\n" + "\n".join(f"    {word:18} {says}" for word, (_, says) in BUGS.items()) + "\n"
+__doc__ += "\n" + "\n".join(f"    {word:18} {says}" for word, (_, _, says) in BUGS.items()) + "\n"
 
 bug = ""
 
@@ -306,7 +306,7 @@ async def main(words):
         tls.load_verify_locations(ca)
         tls.verify_mode = ssl.CERT_REQUIRED
     if words in (["--help"], ["--bugs"]):
-        print(__doc__ if words == ["--help"] else "\n".join(f"{word} {rule}" for word, (rule, _) in BUGS.items()))
+        print(__doc__ if words == ["--help"] else "\n".join(f"{word} {rule} {group}" for word, (rule, group, _) in BUGS.items()))
         return 0
     if words and (len(words) > 1 or words[0] not in BUGS):
         print("python_hub: no such bug; --help names them", file=sys.stderr)

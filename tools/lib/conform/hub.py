@@ -112,11 +112,10 @@ def at_least_two(word):
 
 async def run(asked):
     tls = peers.tls_context(asked) if asked.uri.startswith("wss:") else None
-    chosen = [it for it in scripts.all_scripts() if not asked.only or any(it.name.startswith(word) for word in asked.only)]
     hub, took = await probed(asked.uri, tls, asked.patience)
     pace = playing.Pace(asked.patience, max(QUIET, 4 * took))
-    told = report.Tap(chosen, hub, asked.profile)
-    for script in chosen:
+    told = report.Tap(asked.chosen, hub, asked.profile)
+    for script in asked.chosen:
         told.add(await played(script, hub, asked, tls, pace))
     told.end()
     if asked.html:
@@ -126,22 +125,43 @@ async def run(asked):
 
 def words_of(arguments):
     words = argparse.ArgumentParser(prog="tools/conform hub", description=__doc__, formatter_class=argparse.RawDescriptionHelpFormatter)
-    words.add_argument("uri", metavar="URI", help="of the hub, ws://.. or wss://..")
+    words.add_argument("uri", metavar="URI", nargs="?", help="of the hub, ws://.. or wss://..")
+    words.add_argument("--print", dest="printed", metavar="NAME", help="writes the script of this name, as bsc replay takes it")
     words.add_argument("--only", action="append", metavar="NAME", help="only scripts whose names begin so; may be said again")
     words.add_argument("--profile", action="store_true", help="differences of the profile make the status 1 too")
     words.add_argument("--outbox", type=at_least_two, metavar="N", help="how many frames wait for a node at the hub at most")
     words.add_argument("--times", type=three_times, metavar="CONNECT,DISCONNECT,HEARTBEAT", help="the waits of the hub, in ms")
     words.add_argument("--html", metavar="FILE", help="writes a page with a ladder of each script that differs")
     words.add_argument("--patience", type=float, default=PATIENCE, metavar="SECONDS", help="how long is waited for what is due")
-    words.add_argument("--ca")
-    words.add_argument("--cert")
-    words.add_argument("--key")
-    return words.parse_args(arguments)
+    words.add_argument("--ca", metavar="FILE", help="the certificates that the hub's is looked at by, for wss://")
+    words.add_argument("--cert", metavar="FILE", help="the own certificate, for wss://")
+    words.add_argument("--key", metavar="FILE", help="its key")
+    asked = words.parse_args(arguments)
+    if not asked.printed and not (asked.uri or "").startswith(("ws://", "wss://")):
+        words.error("a URI that begins with ws:// or wss:// is wanted")
+    if bool(asked.cert) != bool(asked.key):
+        words.error("--cert and --key go together")
+    asked.chosen = [it for it in scripts.all_scripts() if not asked.only or it.name.startswith(tuple(asked.only))]
+    if asked.printed:
+        asked.chosen = [it for it in asked.chosen if it.name == asked.printed]
+    if not asked.chosen:
+        words.error("there is no script of that name; --only takes the beginnings of names")
+    return asked
+
+
+def printed(script):
+    """A script as bsc replay takes it, at a hub as docs/SCRIPTS.md has it."""
+    hub = Identity("0200000000FF", "00112233445566778899AABBCCDDEEFF", 1600, 1497)
+    steps = scripts.ready(script, hub, lambda word: word)
+    return "\n".join([f"# {script.says}", scripts.hub_line(hub, 64), *(it.line for it in steps)])
 
 
 def main(arguments):
-    asked = words_of(arguments)
     try:
+        asked = words_of(arguments)
+        if asked.printed:
+            print(printed(asked.chosen[0]))
+            return SAME
         return asyncio.run(run(asked))
     except peers.NoConnection as why:
         print(f"conform: {asked.uri}: {why}", file=sys.stderr)
