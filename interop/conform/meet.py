@@ -238,6 +238,10 @@ def the_scripts():
 
 
 async def main(words):
+    # Where the program isn't built yet, that comes first: it takes longer than any patience.
+    if subprocess.run([PROGRAM, "check"], stdin=subprocess.DEVNULL, stdout=subprocess.DEVNULL).returncode:
+        print("check-conform: the program isn't built")
+        return 1
     whole = words == ["--whole"]
     begun = time.monotonic()
     room = asyncio.Semaphore(AT_ONCE)

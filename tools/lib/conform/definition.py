@@ -26,12 +26,12 @@ class Due(NamedTuple):
 
 
 def program():
-    """The program: that which BSC names, that of this checkout, or that which is installed."""
-    named = os.environ.get("BSC")
-    if named:
-        return named
-    launcher = TOP / "bsc"
-    return str(launcher) if launcher.is_file() else shutil.which("bsc") or "bsc"
+    """The program: that which BSC names, that which is built in this checkout, or that which is installed. None is built for this."""
+    places = [TOP / "out/bsc", TOP / "crates/bsc_program/out/bsc_program"]
+    found = os.environ.get("BSC") or next((str(it) for it in places if os.access(it, os.X_OK) and it.is_file()), shutil.which("bsc"))
+    if not found:
+        raise NoProgram("bsc isn't built here; ./bsc replay < /dev/null proves and builds it, and BSC=PATH names another program")
+    return found
 
 
 def replayed(script):

@@ -3,7 +3,7 @@ import asyncio
 import ssl
 
 import websockets
-from websockets.exceptions import ConnectionClosed, InvalidHandshake
+from websockets.exceptions import ConnectionClosed, InvalidHandshake, InvalidMessage
 
 from conform.events import Closing, Coming, Texting, is_request_to_leave
 
@@ -37,6 +37,9 @@ async def opened(uri, tls):
     except ssl.SSLError as why:
         raise NoConnection(f"TLS was refused: {why}") from None
     except InvalidHandshake as why:
+        # With TLS 1.3 a server looks at the certificate behind the handshake, and ends the link.
+        if tls and isinstance(why, InvalidMessage):
+            raise NoConnection("TLS was refused: the hub ended the link behind the handshake; does it take the own certificate?") from None
         raise NoConnection(f"the hub refused the WebSocket: {why}") from None
     except (OSError, ConnectionClosed, asyncio.TimeoutError) as why:
         raise NoConnection(f"no connection: {why or type(why).__name__}") from None
