@@ -25,17 +25,15 @@ AT_ONCE = 2 * (os.cpu_count() or 2)  # hubs that are met at once: what they do m
 PATIENCE = 60  # seconds that a hub has to begin
 LONGEST = 120  # seconds of a run without --times
 WAIT, OUTBOX = 1500, 16  # ms, frames
-SETTINGS = f"""[hub]
+SETTINGS = """[hub]
 vmac = "0200000000FF"
 uuid = "00112233-4455-6677-8899-aabbccddeeff"
-port = {{port}}
+port = {port}
 max_bvlc = 1600
 max_npdu = 1497
-outbox = {OUTBOX}
-connect_wait_ms = {WAIT}
-disconnect_wait_ms = {WAIT}
-heartbeat_ms = {WAIT}
 """
+OF_OUTBOX = f"outbox = {OUTBOX}\n"
+OF_TIMES = f"connect_wait_ms = {WAIT}\ndisconnect_wait_ms = {WAIT}\nheartbeat_ms = {WAIT}\n"
 
 faults = []
 
@@ -78,10 +76,10 @@ class Started:
         await self.process.wait()
 
 
-async def bsc_hub(work):
-    """The proved hub, with all scripts: no difference, of the profile neither."""
-    port, settings = free_port(), Path(work, "hub.toml")
-    settings.write_text(SETTINGS.format(port=port))
+async def bsc_hub(work, name, more, *words):
+    """The proved hub: no difference, of the profile neither."""
+    port, settings = free_port(), Path(work, f"{name}.toml")
+    settings.write_text(SETTINGS.format(port=port) + more)
     hub = await asyncio.create_subprocess_exec(PROGRAM, "hub", settings, stdout=subprocess.DEVNULL, stderr=subprocess.PIPE,
                                                env={**os.environ, "BSC_LOG": ""})
     try:
@@ -89,15 +87,14 @@ async def bsc_hub(work):
         if b" serves " not in begun:
             say(f"bsc hub doesn't serve: {begun.decode()}")
             return ""
-        uri = f"ws://127.0.0.1:{port}/"
-        status, told, said = await run("hub", uri, "--profile", "--outbox", OUTBOX, "--times", f"{WAIT},{WAIT},{WAIT}")
+        status, told, said = await run("hub", f"ws://127.0.0.1:{port}/", "--profile", *words)
     finally:
         if hub.returncode is None:
             hub.kill()
         await hub.wait()
-    if status or not told.endswith(" 0 skipped: 0 differences of the standard, 0 of the profile\n"):
+    if status or not told.endswith(" 0 differences of the standard, 0 of the profile\n"):
         say(f"bsc hub: status {status}\n{differing(told)}{said}")
-    return last(told)
+    return f"bsc hub {' '.join(map(str, words))}: {last(told)}"
 
 
 def last(told):
@@ -256,7 +253,9 @@ async def main(words):
             hubs["node-ws"] = ("node", HERE / "node_hub.js")
         else:
             print("check-conform: node or node-ws isn't installed, so the hub by it isn't met")
-        tasks = [bsc_hub(work), *(clean(name, *it) for name, it in hubs.items()), no_hub(), over_tls(work), the_page(work)]
+        proved = [bsc_hub(work, "all", ""), bsc_hub(work, "outbox", OF_OUTBOX, "--outbox", OUTBOX, "--only", "outbox."),
+                  bsc_hub(work, "times", OF_TIMES, "--times", f"{WAIT},{WAIT},{WAIT}", "--only", "heartbeat.", "--only", "timeouts.")]
+        tasks = [*proved, *(clean(name, *it) for name, it in hubs.items()), no_hub(), over_tls(work), the_page(work)]
         bugs = [planted(name, *bug, whole, *it) for name, it in hubs.items() for bug in bugs_of(*it)]
         told = await asyncio.gather(*map(one, [*tasks, *bugs]))
     for line in [the_scripts(), *filter(None, told)]:

@@ -7,6 +7,8 @@ from pathlib import Path
 from typing import NamedTuple
 
 from conform.events import Closing, Coming
+from conform.scripts import is_flood
+from message import NPDU
 
 TOP = Path(__file__).resolve().parents[3]
 MARK = "counts"  # a line that changes nothing and is always answered: so one sees which lines a step comes to
@@ -62,6 +64,24 @@ def dues(hub_line, steps):
     if len(found) != len(steps) or lines:
         raise NoProgram(f"{program()} replay wrote something else than lines of a script come to")
     return found
+
+
+def dues_of_flood(hub_line, steps):
+    """The same of a script with a flood. The definition looks at no octet of what is forwarded, so it is asked with payloads of one
+    octet, which are put back into what comes."""
+    floods = {it.octets[2:4]: it.octets for it in steps if is_flood(it)}
+    short = [it._replace(words=(*it.words[:-1], it.words[-1][:2])) if is_flood(it) else it for it in steps]
+    tail = next(iter(floods.values()))[len(short[first_flood(steps)].octets):]
+
+    def whole(event):
+        is_cut = isinstance(event, Coming) and event.octets[0] == NPDU and event.octets[2:4] in floods
+        return event._replace(octets=event.octets + tail) if is_cut else event
+
+    return [it._replace(events=tuple(map(whole, it.events))) for it in dues(hub_line, short)]
+
+
+def first_flood(steps):
+    return next(n for n, it in enumerate(steps) if is_flood(it))
 
 
 def due_of(lines):

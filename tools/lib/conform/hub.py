@@ -8,8 +8,9 @@ from pathlib import Path
 from typing import NamedTuple
 
 from conform import definition, judging, page, peers, playing, report, scripts
+from conform.events import Coming
 from conform.scripts import Identity, StandIns
-from message import CONNECT_ACCEPT, Message, digits_of, number
+from message import BROADCAST, CONNECT_ACCEPT, NPDU, Message, digits_of, number
 
 SAME, DIFFERS, WORDS, NO_HUB = range(4)
 PATIENCE = 3.0  # seconds for what is due
@@ -66,15 +67,46 @@ async def played(script, hub, asked, tls, pace):
     if skipped:
         return Result(script, skipped)
     stand_ins = StandIns(hub, secrets.token_bytes)
-    steps = scripts.ready(script, hub, stand_ins)
+    steps = scripts.ready(script, hub, stand_ins, asked.outbox)
     hub_line = scripts.hub_line(hub, asked.outbox)
-    dues = definition.dues(hub_line, steps)
-    play = playing.Play(asked.uri, tls, pace)
+    floods = "outbox" in script.marks
+    asking = definition.dues_of_flood if floods else definition.dues
+    dues = asking(hub_line, steps)
+    play = playing.Play(asked.uri, tls, pace, floods)
     scale = scale_of(script, asked.times)
     log = await play.play(steps, dues, scale, LONGEST + (steps_last(steps) * scale if scale else 0))
+    if floods:
+        came, is_missed = flood_that_came(steps, log, asked.outbox)
+        steps = scripts.held_later(steps, asked.outbox, came)
+        dues = asking(hub_line, steps)
+        if is_missed:
+            dues, log = ([without_flood(it) for it in these] for these in (dues, log))
     judge = judging.Judge(script, steps, dues, log, stand_ins.vmacs())
     found = tuple(judge.differences())
     return Result(script, "", found, judge.strangers, tuple(steps), tuple(dues), tuple(log), hub_line)
+
+
+def flood_that_came(steps, log, outbox):
+    """How many messages of a flood came to the node that is held, the first of them without a gap; and whether they are broadcasts
+    of which it missed some, as it may at any time at which its outbox is full: each came once and in order, and first an outbox full."""
+    held = next(it.words[1] for it in steps if it.words[0] == "hold")
+    flood = [it.octets for it in steps if scripts.is_flood(it)]
+    ids = {it[2:4]: n for n, it in enumerate(flood)}
+    came = [it.event.octets[2:4] for it in log if isinstance(getattr(it, "event", None), Coming) and it.event.name == held]
+    places = [ids[it] for it in came if it in ids]
+    first = next((n for n, place in enumerate(places) if place != n), len(places))
+    is_in_order = all(one < other for one, other in zip(places, places[1:]))
+    return first, flood[0][4:10] == BROADCAST and is_in_order and outbox <= first and len(places) < len(flood)
+
+
+def without_flood(it):
+    """What is due, or what happened, without broadcasts of a flood."""
+    def is_of_flood(event):
+        return isinstance(event, Coming) and event.octets[0] == NPDU and event.octets[2] >= scripts.FIRST >> 8
+
+    if hasattr(it, "events"):
+        return it._replace(events=tuple(one for one in it.events if not is_of_flood(one)))
+    return playing.Sent(it.step) if hasattr(it, "event") and is_of_flood(it.event) else it
 
 
 def left_out(script, asked):

@@ -1,6 +1,8 @@
 """Peers of a hub over WebSocket, by Debian's python3-websockets."""
 import asyncio
+import socket
 import ssl
+from urllib.parse import urlsplit
 
 import websockets
 from websockets.exceptions import ConnectionClosed, InvalidHandshake, InvalidMessage
@@ -10,6 +12,7 @@ from conform.events import Closing, Coming, Texting, is_request_to_leave
 PROTOCOL = "hub.bsc.bacnet.org"
 OPENING = 10  # seconds that a hub has for the handshake
 CLOSING = 1  # seconds that it has for the reply to a close
+NARROW = 16_384  # octets that wait in the socket of a node that is held
 ANSWERS = (0x00, 0x09)  # functions by which a node answers a Disconnect-Request
 
 
@@ -29,11 +32,25 @@ def tls_context(asked):
         raise NoConnection(f"the CA, the certificate or the key can't be used: {why}") from None
 
 
-async def opened(uri, tls):
-    """A link to the hub. It is None of TLS where the URI begins with ws."""
+async def narrow_socket(uri):
+    """A socket to the hub that takes few octets while nobody reads them."""
+    where = urlsplit(uri)
+    port = where.port or (443 if where.scheme == "wss" else 80)
+    loop = asyncio.get_running_loop()
+    family, kind, protocol, _, address = (await loop.getaddrinfo(where.hostname, port, type=socket.SOCK_STREAM))[0]
+    it = socket.socket(family, kind, protocol)
+    it.setsockopt(socket.SOL_SOCKET, socket.SO_RCVBUF, NARROW)
+    it.setblocking(False)
+    await loop.sock_connect(it, address)
+    return {"sock": it, **({"server_hostname": where.hostname} if where.scheme == "wss" else {})}
+
+
+async def opened(uri, tls, narrow=False):
+    """A link to the hub. `tls` is None where the URI begins with ws."""
     try:
+        more = await narrow_socket(uri) if narrow else {}
         ws = await websockets.connect(uri, subprotocols=[PROTOCOL], compression=None, max_size=None, ping_interval=None, ssl=tls,
-                                      open_timeout=OPENING, close_timeout=CLOSING)
+                                      open_timeout=OPENING, close_timeout=CLOSING, **more)
     except ssl.SSLError as why:
         raise NoConnection(f"TLS was refused: {why}") from None
     except InvalidHandshake as why:

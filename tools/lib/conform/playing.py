@@ -7,6 +7,8 @@ from conform import peers
 from conform.events import Coming, plain
 
 LEAVING = 5  # seconds in which all peers close
+DRAINED = 1.0  # seconds without a message, behind which all has come that waited
+FLOODED = 10  # times the patience that a hub has behind a flood
 INSTEAD = 0.3  # seconds that what is due still has, where something else has come, or something was missing before
 
 
@@ -33,8 +35,8 @@ class Pace(NamedTuple):
 class Play:
     """One script at one hub. `log` is what happened, in the order of the clock."""
 
-    def __init__(self, uri, tls, pace):
-        self.uri, self.tls, self.pace = uri, tls, pace
+    def __init__(self, uri, tls, pace, floods=False):
+        self.uri, self.tls, self.pace, self.floods = uri, tls, pace, floods
         self.peers, self.opened = {}, []  # those that are open, by their names, and all that were
         self.log, self.waiting = [], []
         self.step, self.begun = 0, None
@@ -84,7 +86,7 @@ class Play:
     async def do(self, step):
         what, *words = step.words
         if what == "open":
-            ws = await peers.opened(self.uri, self.tls)
+            ws = await peers.opened(self.uri, self.tls, self.floods)
             self.peers[words[0]] = peers.Peer(words[0], ws, self.tell)
             self.opened.append(self.peers[words[0]])
         elif what == "in":
@@ -97,10 +99,22 @@ class Play:
             self.peers[words[0]].hold()
         elif what == "free":
             self.peers[words[0]].free()
+            await self.drain()
+
+    async def drain(self):
+        """Waits until nothing more comes of what an outbox and sockets held."""
+        self.arrival.clear()
+        while True:
+            try:
+                await asyncio.wait_for(self.arrival.wait(), DRAINED)
+            except asyncio.TimeoutError:
+                return
+            self.arrival.clear()
 
     async def wait(self, at, steps, dues):
         """Waits for what is due. Where nothing is, and another peer goes on, it waits until the hub will have seen this step."""
-        until = time.monotonic() + (INSTEAD if self.missed else self.pace.patience)
+        patience = self.pace.patience * (FLOODED if self.floods else 1)
+        until = time.monotonic() + (INSTEAD if self.missed else patience)
         while self.waiting and time.monotonic() < until:
             self.arrival.clear()
             if self.strange:

@@ -14,6 +14,7 @@ MARKS = {"profile", "outbox", "connect", "disconnect", "heartbeat"}
 COUNTER = "####"
 FIRST = 0x1000  # the Message ID of the first message of a `repeat`
 WINDOW = 16  # messages of a `repeat` that are under way at most
+FLOOD = 5_000_000  # octets that the sockets between a hub and a node don't hold, and that fill its outbox
 PLAYED = {"open", "in", "text", "drop", "hold", "free", "at"}
 
 
@@ -95,15 +96,16 @@ def all_scripts():
     return read(FILE.read_text(encoding="utf-8"))
 
 
-def written_out(lines):
-    """The lines of a script without `join` and `repeat`: the number of each, its words, and whether it waits."""
+def written_out(lines, full):
+    """The lines of a script without `join` and `repeat`: the number of each, its words, and whether it waits. `full` is how many
+    messages fill an outbox and the sockets before it."""
     out = []
     inside = None
     for number, words in lines:
         if words[0] == "repeat" and inside is None:
-            inside, times = [], int(words[1])
+            inside, times = [], words[1]
         elif words[0] == "end" and inside is not None:
-            out += repeated(inside, times)
+            out += repeated(inside, full, full + 1) if times == "full" else repeated(inside, int(times), WINDOW)
             inside = None
         elif inside is not None:
             inside.append((number, words))
@@ -121,13 +123,13 @@ def joining(name):
     return ("open", name), ("in", name, "0600", "0001", f"02000000000{name}", 32 * name, "0640", "05D9")
 
 
-def repeated(lines, times):
+def repeated(lines, times, window):
     """Lines so many times, with no wait between them but behind each window."""
     out, under_way = [], 0
     for turn in range(times):
         for number, words in lines:
             under_way += 1
-            waits = under_way % WINDOW == 0
+            waits = under_way % window == 0
             out.append((number, tuple(it.replace(COUNTER, f"{FIRST + turn:04X}") for it in words), waits))
     number, words, _ = out[-1]
     return [*out[:-1], (number, words, True)]
@@ -142,10 +144,11 @@ def octets_of(word, longest):
     return digits * (longest + int(few[1] or 0) if few else int(count))
 
 
-def ready(script, hub, stand_ins, times=None):
+def ready(script, hub, stand_ins, outbox=None):
     """The steps of a script, for a hub of this identity. `stand_ins` gives the word that stands for a VMAC or a device."""
     steps, codes = [], frozenset()
-    for number, words, waits in written_out(script.lines):
+    full = (outbox or 0) + FLOOD // hub.max_bvlc
+    for number, words, waits in written_out(script.lines, full):
         if words[:2] == ("#", "or"):
             codes = frozenset(map(int, words[2:]))
         elif not words[0].startswith("#"):
@@ -157,6 +160,21 @@ def ready(script, hub, stand_ins, times=None):
             steps.append(Step(number, words, waits, codes))
             codes = frozenset()
     return steps
+
+
+def is_flood(step):
+    """Whether a step is one of those that fill an outbox."""
+    return step.words[0] == "in" and len(step.octets) > 3 and step.octets[2] >= FIRST >> 8
+
+
+def held_later(steps, outbox, came):
+    """The same steps, with the `hold` where it stands for what was seen: of a flood so many messages came to the node that is held.
+    Those that an outbox doesn't hold were taken before it was full, and stood in the sockets."""
+    flood = [n for n, it in enumerate(steps) if is_flood(it)]
+    later = max(0, min(came - outbox, len(flood) - outbox - 1))
+    at = next(n for n, it in enumerate(steps) if it.words[0] == "hold")
+    to = flood[later] - 1
+    return [*steps[:at], *steps[at + 1 : to + 1], steps[at], *steps[to + 1 :]]
 
 
 class StandIns:
@@ -183,6 +201,7 @@ class StandIns:
 
 
 def hub_line(hub, outbox):
+    """The line by which bsc replay has a hub like this one."""
     rows = 64
     most = 2**30 // (rows * hub.max_bvlc)
     frames = max(2, min(outbox or 1024, 1024, most))
