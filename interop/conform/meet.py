@@ -135,9 +135,20 @@ async def planted(name, bug, rule, group, whole, *command):
     return f"{name} {bug}: {rule} by {', '.join(found[rule])}"
 
 
-def bugs_of(*command):
-    """The bugs of a hub: the word, the rule, and a group of scripts."""
-    return [line.split() for line in subprocess.run([*map(str, command), "--bugs"], capture_output=True, text=True).stdout.splitlines()]
+async def chosen(choice, rule, group, *command):
+    """A small hub that chose otherwise where the standard leaves it open: the status is 0, and with --profile 1."""
+    async with Started(*command, choice) as hub:
+        status, told, said = await run("hub", hub.uri, "--only", f"{group}.")
+        strict, _, _ = await run("hub", hub.uri, "--only", f"{group}.", "--profile")
+    if (status, strict) != (0, 1) or f" {rule}: " not in told or " 0 differences of the standard" not in told:
+        say(f"a hub with the choice {choice}: status {status}, with --profile {strict}\n{differing(told)}{said}")
+        return ""
+    return f"{choice}: {rule}, of the profile"
+
+
+def listed(command, word):
+    """The bugs or choices of a hub: the word, the rule, and a group of scripts."""
+    return [line.split() for line in subprocess.run([*map(str, command), word], capture_output=True, text=True).stdout.splitlines()]
 
 
 async def no_hub():
@@ -256,7 +267,9 @@ async def main(words):
         proved = [bsc_hub(work, "all", ""), bsc_hub(work, "outbox", OF_OUTBOX, "--outbox", OUTBOX, "--only", "outbox."),
                   bsc_hub(work, "times", OF_TIMES, "--times", f"{WAIT},{WAIT},{WAIT}", "--only", "heartbeat.", "--only", "timeouts.")]
         tasks = [*proved, *(clean(name, *it) for name, it in hubs.items()), no_hub(), over_tls(work), the_page(work)]
-        bugs = [planted(name, *bug, whole, *it) for name, it in hubs.items() for bug in bugs_of(*it)]
+        python_hub = hubs["python3-websockets"]
+        tasks += [chosen(*choice, *python_hub) for choice in listed(python_hub, "--choices")]
+        bugs = [planted(name, *bug, whole, *it) for name, it in hubs.items() for bug in listed(it, "--bugs")]
         told = await asyncio.gather(*map(one, [*tasks, *bugs]))
     for line in [the_scripts(), *filter(None, told)]:
         print(f"check-conform: {line}")

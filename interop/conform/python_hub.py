@@ -48,7 +48,15 @@ BUGS = {
     "before-joining": ("not-joined", "join", "what a node sends before it has joined is forwarded"),
     "left-stays": ("accept", "join", "who has left still has its VMAC"),
 }
-__doc__ += "\n" + "\n".join(f"    {word:18} {says}" for word, (_, _, says) in BUGS.items()) + "\n"
+# What the standard leaves open: the rule of the profile, a group of scripts, and what is done otherwise.
+CHOICES = {
+    "details": ("nak-details", "malformed", "a NAK has details"),
+    "marker": ("nak-marker", "malformed", "the header marker of each NAK is 00"),
+    "close-code": ("close-code", "malformed", "a text message is closed with 1002"),
+    "payload-first": ("nak-first", "malformed", "a heartbeat with a payload is refused for that, whatever else is wrong with it"),
+}
+BUGS_AND_CHOICES = {**BUGS, **CHOICES}
+__doc__ += "\n" + "\n".join(f"    {word:18} {says}" for word, (_, _, says) in BUGS_AND_CHOICES.items()) + "\n"
 
 bug = ""
 
@@ -81,7 +89,7 @@ class Hub:
             while it.phase != OVER:
                 octets = await asyncio.wait_for(ws.recv(), 10) if it.phase == AWAITING else await ws.recv()
                 if isinstance(octets, str):
-                    await ws.close(1003)
+                    await ws.close(1002 if bug == "close-code" else 1003)
                     break
                 await self.receive(it, octets)
         except asyncio.TimeoutError:
@@ -131,7 +139,11 @@ class Hub:
         is_broadcast = octets[1] & 0x04 and octets[4:10] == BROADCAST
         if is_broadcast and bug != "nak-to-broadcast" or octets[0] in RESPONSES and bug != "nak-to-response":
             return
-        await put(it, bvlc.nak(int.from_bytes(octets[2:4], "big"), octets[0], code, wrong.marker).octets())
+        if bug == "payload-first" and octets[0] == bvlc.HEARTBEAT_REQUEST and octets[-1] == 0xAA:
+            code = 150
+        marker = 0 if bug == "marker" or code == 150 else wrong.marker
+        nak = bvlc.nak(int.from_bytes(octets[2:4], "big"), octets[0], code, marker)
+        await put(it, nak.octets() + (b"no" if bug == "details" else b""))
 
     async def connect(self, it, request):
         who = Identity(request.payload[:6], request.payload[6:22], *(int.from_bytes(request.payload[at : at + 2], "big") for at in (22, 24)))
@@ -294,6 +306,10 @@ def look_at_place(phase, function):
         raise Wrong()
 
 
+def listed(table):
+    return "\n".join(f"{word} {rule} {group}" for word, (rule, group, _) in table.items())
+
+
 async def main(words):
     global bug
     tls = None
@@ -306,9 +322,12 @@ async def main(words):
         tls.load_verify_locations(ca)
         tls.verify_mode = ssl.CERT_REQUIRED
     if words in (["--help"], ["--bugs"]):
-        print(__doc__ if words == ["--help"] else "\n".join(f"{word} {rule} {group}" for word, (rule, group, _) in BUGS.items()))
+        print(__doc__ if words == ["--help"] else listed(BUGS))
         return 0
-    if words and (len(words) > 1 or words[0] not in BUGS):
+    if words == ["--choices"]:
+        print(listed(CHOICES))
+        return 0
+    if words and (len(words) > 1 or words[0] not in BUGS_AND_CHOICES):
         print("python_hub: no such bug; --help names them", file=sys.stderr)
         return 2
     bug = "".join(words)

@@ -7,13 +7,14 @@ import time
 from pathlib import Path
 from typing import NamedTuple
 
-from conform import definition, judging, page, peers, playing, report, scripts
+from conform import definition, judging, page, peers, playing, report, rules, scripts
 from conform.events import Coming
 from conform.scripts import Identity, StandIns
 from message import BROADCAST, CONNECT_ACCEPT, NPDU, Message, digits_of, number
 
 SAME, DIFFERS, WORDS, NO_HUB = range(4)
 PATIENCE = 3.0  # seconds for what is due
+GONE = 5  # scripts in a row that can't open a WebSocket, behind which the hub is taken for gone
 LONGEST = 40  # seconds that a script may take, beside its own times
 QUIET = 0.08  # seconds in which nothing more is to come, at least
 PROBE = Identity("", "", 1600, 1497)
@@ -74,7 +75,13 @@ async def played(script, hub, asked, tls, pace):
     dues = asking(hub_line, steps)
     play = playing.Play(asked.uri, tls, pace, floods)
     scale = scale_of(script, asked.times)
-    log = await play.play(steps, dues, scale, LONGEST + (steps_last(steps) * scale if scale else 0))
+    try:
+        log = await play.play(steps, dues, scale, LONGEST + (steps_last(steps) * scale if scale else 0))
+    except peers.NoConnection as why:
+        rule = rules.RULES["open"]
+        name = steps[play.step].words[1]
+        found = (rules.Difference(rule, rule.whose, rule.clause, name, play.step, str(why), None, None),)
+        return Result(script, "", found, 0, tuple(steps), tuple(dues), tuple(play.log), hub_line)
     if floods:
         came, is_missed = flood_that_came(steps, log, asked.outbox)
         steps = scripts.held_later(steps, asked.outbox, came)
@@ -149,6 +156,8 @@ async def run(asked):
     told = report.Tap(asked.chosen, hub, asked.profile)
     for script in asked.chosen:
         told.add(await played(script, hub, asked, tls, pace))
+        if told.unopened() == GONE:
+            raise peers.NoConnection(f"{GONE} scripts in a row couldn't open a WebSocket any more")
     told.end()
     if asked.html:
         Path(asked.html).write_text(page.page(asked.uri, told.results), encoding="utf-8")
@@ -202,5 +211,6 @@ def main(arguments):
         print(f"conform: {why}", file=sys.stderr)
         return WORDS
     except NoHub as why:
-        print(f"Bail out! {why}")
+        rule = rules.RULES["accept"]
+        print(f"Bail out! {rule.whose} {rule.clause} {rule.name}: {why}")
         return DIFFERS

@@ -1,4 +1,5 @@
 """What a run comes to, a line a script, in TAP (Test Anything Protocol)."""
+import itertools
 import sys
 
 from conform.rules import PROFILE, STANDARD
@@ -19,15 +20,33 @@ class Tap:
         self.chosen, self.judges_profile, self.out = chosen, judges_profile, out
         self.results = []
         self.failed = False
+        self.progress()
         self.say("TAP version 13")
         self.say(f"1..{len(chosen)}")
         self.say(f"# the hub {hub.vmac}, device {hub.device}, takes {hub.max_bvlc} octets and NPDUs of {hub.max_npdu}")
 
     def say(self, line):
+        if sys.stderr.isatty():
+            print("\r\x1b[K", end="", file=sys.stderr, flush=True)
         print(line, file=self.out, flush=True)
+
+    def progress(self):
+        """On a terminal, a line of what is played now."""
+        at = len(self.results)
+        if sys.stderr.isatty() and at < len(self.chosen):
+            print(f"\r\x1b[K{at + 1} of {len(self.chosen)}: {self.chosen[at].name}", end="", file=sys.stderr, flush=True)
+
+    def unopened(self):
+        """How many scripts, up to the last, couldn't open a WebSocket."""
+        last = itertools.takewhile(lambda it: any(one.rule.name == "open" for one in it.differences), reversed(self.results))
+        return sum(1 for _ in last)
 
     def add(self, result):
         self.results.append(result)
+        self.tell(result)
+        self.progress()
+
+    def tell(self, result):
         number, name = len(self.results), result.script.name
         if result.skipped:
             self.say(f"ok {number} - {name} # SKIP {result.skipped}")
@@ -51,5 +70,8 @@ class Tap:
         differences = [it for result in self.results for it in result.differences]
         counts = {whose: sum(it.whose == whose for it in differences) for whose in (STANDARD, PROFILE)}
         skipped = sum(bool(it.skipped) for it in self.results)
+        strangers = sum(it.strangers for it in self.results)
+        if strangers:
+            self.say(f"# {strangers} messages of other nodes came, and were passed over")
         self.say(f"# {len(self.results)} scripts, {skipped} skipped: {counts[STANDARD]} differences of the standard, "
                  f"{counts[PROFILE]} of the profile")

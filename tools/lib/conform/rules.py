@@ -17,6 +17,7 @@ class Rule(NamedTuple):
 
 
 RULES = {it.name: it for it in (
+    Rule("open", "a hub takes the WebSocket of a node, and agrees to hub.bsc.bacnet.org"),
     Rule("accept", "a Connect-Request that isn't refused is answered with a Connect-Accept", clause=ACCEPTING),
     Rule("identity", "a Connect-Accept has the hub's own VMAC, device and lengths", clause=CONNECTING),
     Rule("duplicate", "who asks for a VMAC that another device's connection or the hub has gets a NAK with code 151", clause=ACCEPTING),
