@@ -210,6 +210,8 @@ def main(arguments):
     except (definition.NoProgram, scripts.BadScript) as why:
         print(f"conform: {why}", file=sys.stderr)
         return WORDS
+    except KeyboardInterrupt:
+        return WORDS
     except NoHub as why:
         rule = rules.RULES["accept"]
         print(f"Bail out! {rule.whose} {rule.clause} {rule.name}: {why}")

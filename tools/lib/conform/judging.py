@@ -109,6 +109,9 @@ class Judge:
             yield self.make(rule, found, f"{told(other)} came in place of {told(one)}", one, other, whose)
 
     def rules_between(self, wanted, due, came):
+        if came.id is None or came.missing and not due.missing:
+            yield "whole", None
+            return
         if due.function != came.function:
             yield self.rule_of_answer(wanted, due, came)
             return
@@ -192,6 +195,8 @@ class Judge:
             rule = "close-early" if early else "close-undue"
             return self.make(rule, found, f"{told(event)} came", None, event)
         message = read(event)
+        if message.id is None:
+            return self.make("whole", found, f"{told(event)} came", None, event)
         if any(message.origin) and message.origin not in self.vmacs:
             # Of a node that isn't of this script.
             self.strangers += 1

@@ -9,6 +9,7 @@ from conform.events import Coming, plain
 LEAVING = 5  # seconds in which all peers close
 DRAINED = 1.0  # seconds without a message, behind which all has come that waited
 FLOODED = 10  # times the patience that a hub has behind a flood
+LOST = 20  # seconds in which a run may wait in vain before it waits less
 INSTEAD = 0.3  # seconds that what is due still has, where something else has come, or something was missing before
 
 
@@ -25,11 +26,19 @@ class Came(NamedTuple):
     event: object
 
 
-class Pace(NamedTuple):
-    """How long is waited, in seconds: for what is due, and for what isn't."""
+class Pace:
+    """How long is waited, in seconds: for what is due, and for what isn't. Where much that is due doesn't come, it is waited for
+    less: a run ends in time, whatever the hub does."""
 
-    patience: float
-    quiet: float
+    def __init__(self, patience, quiet):
+        self.longest, self.quiet = patience, quiet
+        self.lost = 0.0
+
+    def patience(self, missed):
+        """How long is waited for what is due, in a script in which so often something was missed."""
+        if missed > 1:
+            return self.quiet
+        return INSTEAD if missed or self.lost > LOST else self.longest
 
 
 class Play:
@@ -40,7 +49,7 @@ class Play:
         self.peers, self.opened = {}, []  # those that are open, by their names, and all that were
         self.log, self.waiting = [], []
         self.step, self.begun = 0, None
-        self.missed = False  # whether something that was due hasn't come in time
+        self.missed = 0  # how often something that was due hasn't come in time
         self.strange = False  # whether something came that isn't due
         self.arrival = asyncio.Event()
 
@@ -60,7 +69,7 @@ class Play:
         try:
             await asyncio.wait_for(self.play_all(steps, dues, scale), longest)
         except asyncio.TimeoutError:
-            self.missed = True
+            pass
         finally:
             if self.opened:
                 await asyncio.wait([asyncio.ensure_future(it.drop()) for it in self.opened], timeout=LEAVING)
@@ -113,8 +122,8 @@ class Play:
 
     async def wait(self, at, steps, dues):
         """Waits for what is due. Where nothing is, and another peer goes on, it waits until the hub will have seen this step."""
-        patience = self.pace.patience * (FLOODED if self.floods else 1)
-        until = time.monotonic() + (INSTEAD if self.missed else patience)
+        begun = time.monotonic()
+        until = begun + self.pace.patience(self.missed) * (FLOODED if self.floods else 1)
         while self.waiting and time.monotonic() < until:
             self.arrival.clear()
             if self.strange:
@@ -125,7 +134,8 @@ class Play:
             except asyncio.TimeoutError:
                 break
         if self.waiting:
-            self.missed = True
+            self.missed += 1
+            self.pace.lost += time.monotonic() - begun
             self.waiting.clear()
         step, due = steps[at], dues[at]
         after = steps[at + 1] if at + 1 < len(steps) else None

@@ -52,6 +52,7 @@ RULES = {it.name: it for it in (
     Rule("refused-forwarded", "what is refused isn't forwarded", clause=FORWARDING),
     Rule("close", "the hub closes the WebSocket of a connection that has ended"),
     Rule("close-undue", "a connection goes on until a cause ends it"),
+    Rule("whole", "what a hub sends are whole messages"),
     Rule("binary", "what a hub sends are binary messages"),
     Rule("undue", "nothing comes to a node that isn't due"),
     Rule("nak-first", "which of several checks that fail the NAK tells of", PROFILE),

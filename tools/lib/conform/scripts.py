@@ -96,16 +96,16 @@ def all_scripts():
     return read(FILE.read_text(encoding="utf-8"))
 
 
-def written_out(lines, full):
+def written_out(lines, full, window):
     """The lines of a script without `join` and `repeat`: the number of each, its words, and whether it waits. `full` is how many
-    messages fill an outbox and the sockets before it."""
+    messages fill an outbox and the sockets before it, `window` how many are under way in a `repeat`."""
     out = []
     inside = None
     for number, words in lines:
         if words[0] == "repeat" and inside is None:
             inside, times = [], words[1]
         elif words[0] == "end" and inside is not None:
-            out += repeated(inside, full, full + 1) if times == "full" else repeated(inside, int(times), WINDOW)
+            out += repeated(inside, full, full + 1) if times == "full" else repeated(inside, int(times), window)
             inside = None
         elif inside is not None:
             inside.append((number, words))
@@ -148,7 +148,7 @@ def ready(script, hub, stand_ins, outbox=None):
     """The steps of a script, for a hub of this identity. `stand_ins` gives the word that stands for a VMAC or a device."""
     steps, codes = [], frozenset()
     full = (outbox or 0) + FLOOD // hub.max_bvlc
-    for number, words, waits in written_out(script.lines, full):
+    for number, words, waits in written_out(script.lines, full, min(WINDOW, outbox or WINDOW)):
         if words[:2] == ("#", "or"):
             codes = frozenset(map(int, words[2:]))
         elif not words[0].startswith("#"):
