@@ -14,7 +14,7 @@ TOP = Path(__file__).resolve().parents[2]
 sys.dont_write_bytecode = True
 sys.path.insert(0, str(TOP / "tools/lib"))
 import looking  # noqa: E402
-from conform import scripts  # noqa: E402
+from conform import rules, scripts  # noqa: E402
 
 CONFORM, HERE = TOP / "tools/conform", TOP / "interop/conform"
 PROGRAM = os.environ.get("BSC") or str(TOP / "bsc")
@@ -23,6 +23,7 @@ GROUPS = ("join", "refusals", "takeover", "unicast", "broadcast", "outbox", "mal
 LEAST = 60  # scripts
 AT_ONCE = 2 * (os.cpu_count() or 2)  # hubs that are met at once: what they do most is to wait
 PATIENCE = 60  # seconds that a hub has to begin
+PATIENT = ("--patience", 10)  # where nothing may be missed: the machine may be busy
 LONGEST = 120  # seconds of a run without --times
 WAIT, OUTBOX = 1500, 16  # ms, frames
 SETTINGS = """[hub]
@@ -87,7 +88,7 @@ async def bsc_hub(work, name, more, *words):
         if b" serves " not in begun:
             say(f"bsc hub doesn't serve: {begun.decode()}")
             return ""
-        status, told, said = await run("hub", f"ws://127.0.0.1:{port}/", "--profile", *words)
+        status, told, said = await run("hub", f"ws://127.0.0.1:{port}/", "--profile", *PATIENT, *words)
     finally:
         if hub.returncode is None:
             hub.kill()
@@ -109,7 +110,7 @@ async def clean(name, *command):
     """A small hub without a bug: no difference of the standard, in less than two minutes."""
     begun = time.monotonic()
     async with Started(*command) as hub:
-        status, told, said = await run("hub", hub.uri)
+        status, told, said = await run("hub", hub.uri, *PATIENT)
     took = time.monotonic() - begun
     if status or " 0 differences of the standard" not in told:
         say(f"the hub by {name}: status {status}\n{differing(told)}{said}")
@@ -237,8 +238,13 @@ def dumped(path):
 
 
 def the_scripts():
-    """There are enough of them, in all groups."""
+    """There are enough of them, in all groups, and no clause is named but those of docs/DEFINITIONS.md."""
     found = scripts.all_scripts()
+    page = (TOP / "docs/DEFINITIONS.md").read_text(encoding="utf-8")
+    named = {it.clause for it in [*found, *rules.RULES.values()] if it.clause}
+    strange = sorted(it for it in named if not re.search(rf"\b{re.escape(it)}\b(?!\.\d)", page))
+    if strange:
+        say(f"docs/DEFINITIONS.md names no clause {', '.join(strange)}")
     counts = {group: sum(it.group == group for it in found) for group in GROUPS}
     if len(found) < LEAST or not all(counts.values()) or sum(counts.values()) != len(found):
         say(f"of {len(found)} scripts the groups have {counts}")
@@ -273,7 +279,8 @@ async def main(words):
         told = await asyncio.gather(*map(one, [*tasks, *bugs]))
     for line in [the_scripts(), *filter(None, told)]:
         print(f"check-conform: {line}")
-    print(f"check-conform: {sum(bool(it) for it in told[len(tasks):])} of {len(bugs)} bugs found, {len(faults)} faults; {time.monotonic() - begun:.0f} s")
+    found = sum(bool(it) for it in told[len(tasks):])
+    print(f"check-conform: {found} of {len(bugs)} bugs found, {len(faults)} faults; {time.monotonic() - begun:.0f} s")
     return 1 if faults else 0
 
 

@@ -16,7 +16,6 @@ SAME, DIFFERS, WORDS, NO_HUB = range(4)
 PATIENCE = 3.0  # seconds for what is due
 GONE = 5  # scripts in a row that can't open a WebSocket, behind which the hub is taken for gone
 LONGEST = 40  # seconds that a script may take, beside its own times
-QUIET = 0.08  # seconds in which nothing more is to come, at least
 PROBE = Identity("", "", 1600, 1497)
 # The waits of scripts, in ms: docs/SCRIPTS.md has them.
 WAITS = {"connect": 10_000, "disconnect": 10_000, "heartbeat": 300_000}
@@ -152,7 +151,7 @@ def at_least_two(word):
 async def run(asked):
     tls = peers.tls_context(asked) if asked.uri.startswith("wss:") else None
     hub, took = await probed(asked.uri, tls, asked.patience)
-    pace = playing.Pace(asked.patience, max(QUIET, 4 * took))
+    pace = playing.Pace(asked.patience, took)
     told = report.Tap(asked.chosen, hub, asked.profile)
     for script in asked.chosen:
         told.add(await played(script, hub, asked, tls, pace))

@@ -7,7 +7,7 @@ from collections import Counter
 from typing import NamedTuple
 
 from conform.events import Closing, Coming, Texting, plain
-from conform.rules import PROFILE, RULES, STANDARD, Difference
+from conform.rules import PROFILE, RULES, Difference
 from message import (BROADCAST, CONNECT_ACCEPT, CONNECT_REQUEST, DISCONNECT_ACK, DISCONNECT_REQUEST, RESULT, Message, digits_of, name_of, number,
                      told_of)
 

@@ -9,6 +9,8 @@ from conform.events import Coming, plain
 LEAVING = 5  # seconds in which all peers close
 DRAINED = 1.0  # seconds without a message, behind which all has come that waited
 FLOODED = 10  # times the patience that a hub has behind a flood
+QUIET, LONG_QUIET = 0.08, 1.0  # seconds in which nothing more is to come, at least and at most
+SLOWER, FORGETS = 4, 0.9  # times as long as what was due took; what is kept of that time at the next
 LOST = 20  # seconds in which a run may wait in vain before it waits less
 INSTEAD = 0.3  # seconds that what is due still has, where something else has come, or something was missing before
 
@@ -30,9 +32,18 @@ class Pace:
     """How long is waited, in seconds: for what is due, and for what isn't. Where much that is due doesn't come, it is waited for
     less: a run ends in time, whatever the hub does."""
 
-    def __init__(self, patience, quiet):
-        self.longest, self.quiet = patience, quiet
+    def __init__(self, patience, took):
+        self.longest, self.took = patience, took
         self.lost = 0.0
+
+    @property
+    def quiet(self):
+        """How long nothing more is to come: some times as long as what was due took of late."""
+        return min(LONG_QUIET, max(QUIET, SLOWER * self.took))
+
+    def saw(self, took):
+        """What was due came within this time."""
+        self.took = max(took, FORGETS * self.took)
 
     def patience(self, missed):
         """How long is waited for what is due, in a script in which so often something was missed."""
@@ -133,11 +144,13 @@ class Play:
                 await asyncio.wait_for(self.arrival.wait(), max(0.0, until - time.monotonic()))
             except asyncio.TimeoutError:
                 break
+        step, due = steps[at], dues[at]
+        if due.events and not self.waiting and step.words[0] != "at" and not self.floods:
+            self.pace.saw(time.monotonic() - begun)
         if self.waiting:
             self.missed += 1
             self.pace.lost += time.monotonic() - begun
             self.waiting.clear()
-        step, due = steps[at], dues[at]
         after = steps[at + 1] if at + 1 < len(steps) else None
         if after and not due.events and step.words[0] != "open" and after.words[1:2] != step.words[1:2]:
             await asyncio.sleep(self.pace.quiet)

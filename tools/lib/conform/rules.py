@@ -6,7 +6,7 @@ ANSI/ASHRAE 135-2020, Annex AB, as docs/DEFINITIONS.md names them; where none is
 from typing import NamedTuple
 
 STANDARD, PROFILE = "standard", "profile"
-FORWARDING, RESULTS, ACCEPTING, CONNECTING, OPTIONS, FLAGS, LONGEST = "AB.5.3", "AB.2.4", "AB.6.2.3", "AB.2.11", "AB.2.3", "AB.2.2", "AB.2.10"
+FORWARDING, RESULTS, ACCEPTING, CONNECTING, LONGEST = "AB.5.3", "AB.2.4", "AB.6.2.3", "AB.2.11", "AB.2.10"
 
 
 class Rule(NamedTuple):
