@@ -159,7 +159,7 @@ async def run(asked):
             raise peers.NoConnection(f"{GONE} scripts in a row couldn't open a WebSocket any more")
     told.end()
     if asked.html:
-        Path(asked.html).write_text(page.page(asked.uri, told.results), encoding="utf-8")
+        Path(asked.html).write_text(page.page(asked.uri, told.hub, told.results), encoding="utf-8")
     return DIFFERS if told.failed else SAME
 
 

@@ -174,6 +174,8 @@ class Judge:
         message = read(event)
         if message.origin:
             return ("broadcast" if message.destination == BROADCAST else "unicast"), None
+        if message.function == RESULT and 0 in self.steps[wanted.step].codes:
+            return "nak-first", None
         if message.function == RESULT:
             code = number(message.field("error code"))
             return ("duplicate" if code == DUPLICATE else "nak"), (None if code in JUDGED else PROFILE)

@@ -1,5 +1,6 @@
 """What a run comes to as a page: each script with differences has a ladder of what is due and one of what was found, and the
 octets explained."""
+import time
 from html import escape
 
 import drawing
@@ -33,10 +34,10 @@ pre { overflow-x: auto; }
 """
 
 
-def page(uri, results):
+def page(uri, hub, results):
     """The page of a run."""
     differ = [it for it in results if it.differences]
-    body = [summary(uri, results), *map(section, differ)]
+    body = [summary(uri, hub, results), *map(section, differ)]
     return "\n".join(["<!doctype html>", '<html lang="en"><meta charset="utf-8">', "<title>tools/conform hub</title>",
                       f"<style>{STYLE}</style>", "<body>", *body, "</body></html>", ""])
 
@@ -45,10 +46,11 @@ def counted(results, whose):
     return sum(it.whose == whose for result in results for it in result.differences)
 
 
-def summary(uri, results):
+def summary(uri, hub, results):
     skipped = sum(bool(it.skipped) for it in results)
     rows = "".join(row_of(it) for it in results)
-    return (f"<h1>{escape(uri)}</h1><p>{len(results)} scripts, {skipped} skipped. Differences: "
+    return (f"<h1>{escape(uri)}</h1><p>Played {time.strftime('%Y-%m-%d %H:%M UTC', time.gmtime())}. The hub has the VMAC {hub.vmac} and "
+            f"the device {hub.device}, and takes {hub.max_bvlc:,} octets and NPDUs of {hub.max_npdu:,}.</p><p>{len(results)} scripts, {skipped} skipped. Differences: "
             f"<span class=standard>{counted(results, STANDARD)} of the standard</span>, "
             f"<span class=profile>{counted(results, PROFILE)} of the profile</span>. The standard is ANSI/ASHRAE 135-2020, Annex AB; "
             "the profile is what this project chose where the standard leaves it open.</p>"

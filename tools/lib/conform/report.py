@@ -17,7 +17,7 @@ def alike(differences):
 
 class Tap:
     def __init__(self, chosen, hub, judges_profile, out=sys.stdout):
-        self.chosen, self.judges_profile, self.out = chosen, judges_profile, out
+        self.chosen, self.hub, self.judges_profile, self.out = chosen, hub, judges_profile, out
         self.results = []
         self.failed = False
         self.progress()

@@ -50,7 +50,7 @@ class Step(NamedTuple):
     number: int  # in hub.scripts
     words: tuple
     waits: bool  # whether what is due for it has to come before the next line
-    codes: frozenset  # of NAKs by other checks that the message fails too
+    codes: frozenset  # of NAKs by other checks that the message fails too; 0 is silence
 
     @property
     def line(self):
@@ -150,7 +150,7 @@ def ready(script, hub, stand_ins, outbox=None):
     full = (outbox or 0) + FLOOD // hub.max_bvlc
     for number, words, waits in written_out(script.lines, full, min(WINDOW, outbox or WINDOW)):
         if words[:2] == ("#", "or"):
-            codes = frozenset(map(int, words[2:]))
+            codes = frozenset(0 if it == "silence" else int(it) for it in words[2:])
         elif not words[0].startswith("#"):
             if words[0] not in PLAYED:
                 raise BadScript(f"line {number} is no line of a script: {' '.join(words)}")
