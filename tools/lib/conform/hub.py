@@ -1,4 +1,20 @@
-"""The command `hub` of tools/conform: plays scripts against a hub, and tells where it does otherwise than the definition says."""
+"""Tests a hub of BACnet/SC: it plays scripts against it, and tells where the hub does otherwise than the definition says.
+
+    tools/conform hub ws://127.0.0.1:47808/
+    tools/conform hub wss://hub.example:443/ --ca ca.pem --cert node.pem --key node.key --html report.html
+    tools/conform hub --print takeover.twice | ./bsc replay
+
+Each script joins nodes of its own, with new VMACs and devices. A line a script is written, in TAP, and below it each difference:
+whether it is of the standard or of the profile, the clause of ANSI/ASHRAE 135-2020, Annex AB, where it is known, the rule, the
+peer, and what came. The profile is what this project chose where the standard leaves it open; a script that differs from that
+alone is marked TODO. The scripts stand in tools/lib/conform/hub.scripts. What is due is computed by bsc replay: the program that
+is built here, or the one that BSC names.
+
+Time-outs are played with --times, full outboxes with --outbox; else these scripts are skipped. Other nodes may be at the hub, but
+no second run of this tool.
+
+Status 0: nothing of the standard differs. 1: something does. 2: the words are wrong, or bsc isn't there. 3: no connection.
+"""
 import argparse
 import asyncio
 import secrets
