@@ -35,6 +35,7 @@ max_npdu = 1497
 """
 OF_OUTBOX = f"outbox = {OUTBOX}\n"
 OF_TIMES = f"connect_wait_ms = {WAIT}\ndisconnect_wait_ms = {WAIT}\nheartbeat_ms = {WAIT}\n"
+OF_WAITS = ("--times", f"{WAIT},{WAIT},{WAIT}", "--only", "heartbeat.", "--only", "timeouts.")
 
 faults = []
 
@@ -117,6 +118,15 @@ async def clean(name, *command):
     if took > LONGEST:
         say(f"the hub by {name} took {took:.0f} s")
     return f"the hub by {name}: {last(told)}; {took:.0f} s"
+
+
+async def timed(name, *command):
+    """The same with short waits, and the scripts on time-outs."""
+    async with Started(*command, "--wait", WAIT) as hub:
+        status, told, said = await run("hub", hub.uri, *PATIENT, *OF_WAITS)
+    if status or not told.endswith(" 0 skipped: 0 differences of the standard, 0 of the profile\n"):
+        say(f"the hub by {name} with waits of {WAIT} ms: status {status}\n{differing(told)}{said}")
+    return f"the hub by {name} with waits of {WAIT} ms: {last(told)}"
 
 
 async def planted(name, bug, rule, group, whole, *command):
@@ -271,8 +281,9 @@ async def main(words):
         else:
             print("check-conform: node or node-ws isn't installed, so the hub by it isn't met")
         proved = [bsc_hub(work, "all", ""), bsc_hub(work, "outbox", OF_OUTBOX, "--outbox", OUTBOX, "--only", "outbox."),
-                  bsc_hub(work, "times", OF_TIMES, "--times", f"{WAIT},{WAIT},{WAIT}", "--only", "heartbeat.", "--only", "timeouts.")]
-        tasks = [*proved, *(clean(name, *it) for name, it in hubs.items()), no_hub(), over_tls(work), the_page(work)]
+                  bsc_hub(work, "times", OF_TIMES, *OF_WAITS)]
+        small = [meets(name, *it) for name, it in hubs.items() for meets in (clean, timed)]
+        tasks = [*proved, *small, no_hub(), over_tls(work), the_page(work)]
         python_hub = hubs["python3-websockets"]
         tasks += [chosen(*choice, *python_hub) for choice in listed(python_hub, "--choices")]
         bugs = [planted(name, *bug, whole, *it) for name, it in hubs.items() for bug in listed(it, "--bugs")]

@@ -1,7 +1,7 @@
-// A small hub by node-ws, written from docs/HUB.md and docs/CHECKS.md: node_hub.js [BUG]
+// A small hub by node-ws, written from docs/HUB.md and docs/CHECKS.md: node_hub.js [BUG] [--wait MS]
 //
 // It binds a free port of 127.0.0.1, writes that port, and serves until it is killed. It keeps no outboxes: what is forwarded
-// waits in the library. A word plants a bug, which tools/conform hub has to find; --bugs names them all.
+// waits in the library. Its waits are those of docs/SCRIPTS.md, or with --wait each of them so long. A word plants a bug, which tools/conform hub has to find; --bugs names them all.
 'use strict';
 
 const WebSocket = require('../websocket/messages.js').library();
@@ -40,6 +40,10 @@ const BUGS = {
 };
 
 const words = process.argv.slice(2);
+let [connectWait, disconnectWait, heartbeat] = [10000, 10000, 300000]; // ms
+if (words.includes('--wait')) {
+  connectWait = disconnectWait = heartbeat = Number(words.splice(words.indexOf('--wait'), 2)[1]);
+}
 if (words[0] === '--bugs') {
   Object.entries(BUGS).forEach(([word, [rule, group]]) => console.log(`${word} ${rule} ${group}`));
   process.exit(0);
@@ -86,6 +90,12 @@ function leave(it) {
     live.delete(it.vmac);
   }
   old.delete(it);
+}
+
+// A connection without a message for twice the heartbeat ends.
+function waitForMessage(it) {
+  clearTimeout(it.timer);
+  it.timer = setTimeout(() => end(it, 1008, 'idle'), 2 * heartbeat);
 }
 
 function receive(it, message) {
@@ -145,13 +155,14 @@ function connect(it, id, who) {
     other.asked = 0x4000 + Math.floor(Math.random() * 0x4000);
     old.add(other);
   }
-  clearTimeout(it.timer);
   Object.assign(it, { vmac, device, longest: who.readUInt16BE(22), phase: 'connected' });
+  waitForMessage(it);
   live.set(vmac, it);
   put(it, [CONNECT_ACCEPT, 0], is('accept-id') ? [0, 1] : id, OWN);
   if (other && !is('old-asked-not')) {
     put(other, [DISCONNECT_REQUEST, 0, other.asked >> 8, other.asked & 0xff]);
-    other.timer = setTimeout(() => end(other), 10000);
+    clearTimeout(other.timer);
+    other.timer = setTimeout(() => end(other), disconnectWait);
   }
 }
 
@@ -312,7 +323,7 @@ const server = new WebSocket.Server({
 server.on('listening', () => console.log(server.address().port));
 server.on('connection', (ws) => {
   const it = { ws, phase: 'awaiting', vmac: '', waiting: [] };
-  it.timer = setTimeout(() => end(it, 1008, 'connect wait'), 10000);
+  it.timer = setTimeout(() => end(it, 1008, 'connect wait'), connectWait);
   ws.on('message', (message, isBinary) => {
     if (it.phase === 'over') {
       return;
@@ -320,6 +331,9 @@ server.on('connection', (ws) => {
     if (!isBinary) {
       end(it, 1003);
       return;
+    }
+    if (it.phase === 'connected') {
+      waitForMessage(it);
     }
     receive(it, message);
   });

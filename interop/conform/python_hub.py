@@ -1,12 +1,13 @@
 #!/usr/bin/env python3
-"""A small hub by python3-websockets, written from docs/HUB.md and docs/CHECKS.md: python_hub.py [BUG] [--tls CA CERT KEY]
+"""A small hub by python3-websockets, written from docs/HUB.md and docs/CHECKS.md: python_hub.py [BUG] [--wait MS] [--tls CA CERT KEY]
 
 It binds a free port of 127.0.0.1, writes that port, and serves until it is killed. It keeps no outboxes: what is forwarded waits
-in the library. A word plants a bug, which tools/conform hub has to find (interop/check-conform):
+in the library. Its waits are those of docs/SCRIPTS.md, or with --wait each of them so long. A word plants a bug, which tools/conform hub has to find (interop/check-conform):
 """
 import asyncio
 import ssl
 import sys
+import time
 from dataclasses import dataclass, field
 from pathlib import Path
 
@@ -59,6 +60,7 @@ BUGS_AND_CHOICES = {**BUGS, **CHOICES}
 __doc__ += "\n" + "\n".join(f"    {word:18} {says}" for word, (_, _, says) in BUGS_AND_CHOICES.items()) + "\n"
 
 bug = ""
+connect_wait, disconnect_wait, heartbeat = 10, 10, 300  # seconds
 
 
 class Wrong(Exception):
@@ -85,15 +87,17 @@ class Hub:
 
     async def serve(self, ws):
         it = Connection(ws)
+        begun = time.monotonic()
         try:
             while it.phase != OVER:
-                octets = await asyncio.wait_for(ws.recv(), 10) if it.phase == AWAITING else await ws.recv()
+                left = begun + connect_wait - time.monotonic() if it.phase == AWAITING else 2 * heartbeat
+                octets = await asyncio.wait_for(ws.recv(), left)
                 if isinstance(octets, str):
                     await ws.close(1002 if bug == "close-code" else 1003)
                     break
                 await self.receive(it, octets)
         except asyncio.TimeoutError:
-            await ws.close(1008, "connect wait")
+            await ws.close(1008, "connect wait" if it.phase == AWAITING else "idle")
         except ConnectionClosed:
             pass
         finally:
@@ -167,7 +171,7 @@ class Hub:
         await put(it, bvlc.connect_accept(request.id, OWN).octets())
         if old:
             await put(old, Message(bvlc.DISCONNECT_REQUEST, 1).octets())
-            asyncio.get_running_loop().call_later(10, lambda: asyncio.ensure_future(old.ws.close()))
+            asyncio.get_running_loop().call_later(disconnect_wait, lambda: asyncio.ensure_future(old.ws.close()))
 
     async def forward(self, it, octets):
         vmac = it.who.vmac if it.who else bytes(6)
@@ -311,7 +315,7 @@ def listed(table):
 
 
 async def main(words):
-    global bug
+    global bug, connect_wait, disconnect_wait, heartbeat
     tls = None
     if "--tls" in words:
         at = words.index("--tls")
@@ -321,6 +325,10 @@ async def main(words):
         tls.load_cert_chain(cert, key)
         tls.load_verify_locations(ca)
         tls.verify_mode = ssl.CERT_REQUIRED
+    if "--wait" in words:
+        at = words.index("--wait")
+        connect_wait = disconnect_wait = heartbeat = int(words[at + 1]) / 1000
+        del words[at : at + 2]
     if words in (["--help"], ["--bugs"]):
         print(__doc__ if words == ["--help"] else listed(BUGS))
         return 0
