@@ -31,7 +31,7 @@ from message import BROADCAST, CONNECT_ACCEPT, NPDU, Message, digits_of, number
 SAME, DIFFERS, WORDS, NO_HUB = range(4)
 PATIENCE = 3.0  # seconds for what is due
 GONE = 5  # scripts in a row that can't open a WebSocket, behind which the hub is taken for gone
-LONGEST = 40  # seconds that a script may take, beside its own times
+LONGEST, LONGEST_FLOOD = 40, 120  # seconds that a script may take, beside its own times; with a flood
 PROBE = Identity("", "", 1600, 1497)
 # The waits of scripts, in ms: docs/SCRIPTS.md has them.
 WAITS = {"connect": 10_000, "disconnect": 10_000, "heartbeat": 300_000}
@@ -91,7 +91,7 @@ async def played(script, hub, asked, tls, pace):
     play = playing.Play(asked.uri, tls, pace, floods)
     scale = scale_of(script, asked.times)
     try:
-        log = await play.play(steps, dues, scale, LONGEST + (steps_last(steps) * scale if scale else 0))
+        log = await play.play(steps, dues, scale, (LONGEST_FLOOD if floods else LONGEST) + (steps_last(steps) * scale if scale else 0))
     except peers.NoConnection as why:
         rule = rules.RULES["open"]
         name = steps[play.step].words[1]

@@ -69,14 +69,17 @@ def row_of(result):
 
 def section(result):
     shown = [it for same in alike(result.differences) for it in same[:EACH]]
-    page_of = lambda course, at: drawing.Drawing(course, "", page=at // ROWS + 1, rows=ROWS).svg()
-    ladders = "".join(f"<figure><figcaption>{words}</figcaption>{page_of(*course)}</figure>"
-                      for words, course in (("Expected", expected(result)), ("Found", found(result))))
+    ladders = drawn("Expected", *expected(result)) + drawn("Found", *found(result))
     script = "\n".join([result.hub_line, *(it.line for it in result.steps[:ROWS])])
     more = f"\n.. {len(result.steps) - ROWS} lines more" if result.steps[ROWS:] else ""
     return (f'<section id="{result.script.name}"><h2>{result.script.name}</h2><p>{escape(result.script.says)}</p>'
             f'{"".join(map(explained, shown))}<div class=ladders>{ladders}</div>'
             f"<details><summary>The script as it was played, for bsc replay</summary><pre>{escape(script)}{more}</pre></details></section>")
+
+
+def drawn(title, course, at):
+    """The ladder of a course, and of a long one the page with this row."""
+    return f"<figure>{drawing.Drawing(course, title, page=at // ROWS + 1, rows=ROWS).svg()}</figure>"
 
 
 def explained(it):
