@@ -24,7 +24,7 @@ LEAST = 60  # scripts
 AT_ONCE = 2 * (os.cpu_count() or 2)  # hubs that are met at once: what they do most is to wait
 PATIENCE = 60  # seconds that a hub has to begin
 PATIENT = ("--patience", 10)  # where nothing may be missed: the machine may be busy
-LONGEST = 120  # seconds of a run without --times
+LONGEST = 120  # seconds of a run without --times, where the machine isn't busy with something else
 WAIT, OUTBOX = 1500, 16  # ms, frames
 SETTINGS = """[hub]
 vmac = "0200000000FF"
@@ -115,8 +115,8 @@ async def clean(name, *command):
     took = time.monotonic() - begun
     if status or " 0 differences of the standard" not in told:
         say(f"the hub by {name}: status {status}\n{differing(told)}{said}")
-    if took > LONGEST:
-        say(f"the hub by {name} took {took:.0f} s")
+    if took > LONGEST and os.getloadavg()[0] < 2 * (os.cpu_count() or 2):
+        say(f"a run against the hub by {name} took {took:.0f} s")
     return f"the hub by {name}: {last(told)}; {took:.0f} s"
 
 
