@@ -127,22 +127,27 @@ def made_cases():
     return files
 
 
-def phase_of(it):
-    """The phase at the hub in which the message of a course comes: what was written for its name before."""
-    name = it.script[it.at - 1].split()[1]
-    before = proved.answers("replay", "".join(f"{line}\n" for line in it.script[:it.at - 1]))
+def phase_of(name, before):
+    """The phase of a name at the hub, by what was written before."""
     phase = "request"
-    for line in before:
-        words = line.split()
+    for words in (line.split() for line in before):
         if words[0] != name:
             continue
         if words[1] == "joined":
             phase = "connected"
-        elif words[1] == "out" and words[2].startswith("08") and len(words[2]) == 8:
+        elif words[1] == "out" and words[2].startswith("0800") and len(words[2]) == 8:
             phase = "disconnecting"
         elif words[1] == "close":
             phase = "request"
     return phase
+
+
+def replayed(it):
+    """What is written for a course before its message, and all of it. A line `counts` changes nothing, and marks the place."""
+    lines = [*it.script[:it.at - 1], "counts", *it.script[it.at - 1:]]
+    told = proved.answers("replay", "".join(f"{line}\n" for line in lines))
+    mark = next(at for at, line in enumerate(told) if line.startswith("hub counts "))
+    return told[:mark], tuple(told[:mark] + told[mark + 1:])
 
 
 def refusal_of(it):
@@ -154,11 +159,12 @@ def refusal_of(it):
 
 def course_object(it):
     """A course as an object. Its octets, phase and verdict are those of the message that it is about."""
-    told = tuple(proved.answers("replay", "".join(f"{line}\n" for line in it.script)))
+    before, told = replayed(it)
     if told != it.text:
         raise Unlike(f"{it.name}: {' / '.join(it.text)} is meant, and the program writes {' / '.join(told)}")
-    octets = octets_in(it.script[it.at - 1].split()[2:])
-    phase = phase_of(it)
+    words = it.script[it.at - 1].split()
+    octets = octets_in(words[2:])
+    phase = phase_of(words[1], before)
     verdict = judged(octets, Place("hub"), phase, cases.LONGEST)
     word, check, nak = verdict.word, verdict.check, verdict.nak and digits(verdict.nak)
     refusal = refusal_of(it)
