@@ -2,8 +2,9 @@
 import re
 
 import journal
+import replay
 from conform.capture import Packet
-from course import BadText
+from course import Arrow, BadText, Time
 from message import octets_in
 
 HUB = "hub"
@@ -65,33 +66,45 @@ def receivers(it):
 
 
 class OfRecording:
-    """The traffic of peers whole. A line is one message: `MS NAME > OCTETS` was sent by a peer, `MS NAME < OCTETS` came to it. The
-    lines of scripts and of what bsc replay writes are taken too, `in NAME OCTETS`, `NAME out OCTETS`, `at MS`; others are passed over."""
+    """The traffic of peers whole. A line is one message: `MS NAME > OCTETS` was sent by a peer, `MS NAME < OCTETS` came to it."""
 
     def __init__(self, text):
         self.found, self.names = [], [HUB]
-        now = 0
         for number, line in enumerate(text.splitlines(), 1):
-            words = line.split()
+            if not line.strip() or line.lstrip().startswith("#"):
+                continue
             record = RECORD.fullmatch(line.strip())
-            if record:
-                now = max(now, round(float(record[1]) * MILLISECOND))
-                self.add(now, record[2], record[3] == ">", octets_in(record[4].split()), number)
-            elif len(words) > 1 and words[0] == "in":
-                self.add(now, words[1], True, octets_in(words[2:]), number)
-            elif len(words) > 1 and words[1] == "out":
-                self.add(now, words[0], False, octets_in(words[2:]), number)
-            elif len(words) == 2 and words[0] == "at" and words[1].isdecimal():
-                now = int(words[1]) * MILLISECOND
+            octets = record and octets_in(record[4].split())
+            if octets is None:
+                raise BadText(f"line {number} is no message of a recording: {line[:SHOWN]}")
+            self.add(round(float(record[1]) * MILLISECOND), record[2], record[3] == ">", octets, number)
 
     def add(self, at, name, is_sent, octets, number):
-        if octets is None:
-            raise BadText(f"line {number} has no whole octets")
         if name not in self.names:
             self.names.append(name)
-        at = max([at, *(it.at + 1 for it in self.found[-1:] if it.at >= at)])
+        # Of two messages in one millisecond the later one comes a microsecond behind.
+        at = max([at, *(it.at + 1 for it in self.found[-1:])])
         ends = (name, HUB) if is_sent else (HUB, name)
         self.found.append(Packet(at, *ends, octets, f"line {number}"))
+
+    def packets(self):
+        return self.found
+
+
+class OfReplay:
+    """The messages of a script and of the text that bsc replay wrote for it, with the times that the script sets."""
+
+    def __init__(self, script, text):
+        course = replay.read(script, text)
+        self.names = [HUB, *(it.name for it in course.lines if it.name != HUB)]
+        self.found = []
+        now = 0
+        for it in course.records:
+            if isinstance(it, Time):
+                now = max(now, it.ms * MILLISECOND)
+            elif isinstance(it, Arrow) and it.octets:
+                self.found.append(Packet(now, it.start, it.end, octets_in([it.octets]), it.said))
+                now += 1
 
     def packets(self):
         return self.found
