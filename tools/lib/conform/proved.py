@@ -14,10 +14,10 @@ class NoProgram(Exception):
 
 
 def program():
-    """The program: that which BSC names, that which is built in this checkout, or that which is installed. None is built for this."""
+    """The program: that which BSC names, that of this checkout or of the package, or that on the PATH. None is built for this."""
     found = os.environ.get("BSC") or built.found_anywhere()
     if not found:
-        raise NoProgram("bsc isn't built here; ./bsc check < /dev/null proves and builds it, and BSC=PATH names another program")
+        raise NoProgram("there is no bsc; in a checkout ./bsc check < /dev/null proves and builds it, and BSC=PATH names another program")
     return found
 
 
