@@ -168,7 +168,8 @@ async def run(asked, file):
         status = await talk.run(Lines(), asked.wait)
     except ConnectionClosed:
         await talk.reading
-        return CLOSED
+        # A person sees the close, and hasn't typed more.
+        return ALL_SENT if sys.stdin.isatty() else CLOSED
     if not talk.reading.done():
         talk.reading.cancel()
         await ws.close()
