@@ -10,7 +10,7 @@ PAGES = "/usr/share/doc/bsc"
 DOCSTRING = re.compile(r'"""(.*?)"""', re.S)
 # A tool of a checkout, where it is called, and no file that a link leads to.
 CALLED = re.compile(rf"(?<![\w.(/-])tools/({'|'.join(TOOLS)})(?![\w/-]|\.\w)")
-READ = ("docs/CHECKS.md",)  # what the tools read beside their own files
+READ = ("docs/CHECKS.md",)  # what the tools read beside their own files, where it is there
 
 
 def of_commands(text):
@@ -59,7 +59,7 @@ def files(top):
             found.add(file)
             left += [it for it in (library / f"{name}.py" for name in imported(file)) if it.is_file()]
     scripts = (it for it in (library / "conform").iterdir() if it.suffix == ".scripts")
-    return sorted([*found, *scripts, *(top / it for it in READ), *(it for it in (top / "vectors").iterdir() if it.is_file())])
+    return sorted([*found, *scripts])
 
 
 def help_of(file):
