@@ -153,7 +153,7 @@ class Link:
             await self.end()
         elif function in (bvlc.RESOLUTION, bvlc.SOLICITATION):
             await self.answer(message)
-        elif function == bvlc.RESOLUTION_ACK and message.origin == self.node.peer:
+        elif function == bvlc.RESOLUTION_ACK and (message.origin, message.id) == (self.node.peer, self.node.asked):
             self.node.learn(message.payload.decode())
         return False
 
@@ -212,7 +212,7 @@ class Node:
         self.uris, self.peer = {"primary": primary, "failover": failover}, bytes.fromhex(peer)
         self.vmac, self.device = drawn(), DEVICE
         self.hub, self.links, self.uri, self.id = None, {}, "", 0
-        self.peers_uri, self.failed = "", asyncio.Event()
+        self.peers_uri, self.asked, self.failed = "", None, asyncio.Event()
 
     def next_id(self):
         self.id = self.id % 0xFFFF + 1
@@ -284,7 +284,8 @@ class Node:
                 if self.peers_uri:
                     await self.dial("dialled", self.peers_uri, HUB if bug == "hub-protocol" else DIRECT)
                 else:
-                    await self.hub.put(Message(bvlc.RESOLUTION, self.next_id(), destination=self.peer))
+                    self.asked = self.next_id()
+                    await self.hub.put(Message(bvlc.RESOLUTION, self.asked, destination=self.peer))
 
     async def accept(self, ws, path=None):
         await Link(self, "accepted", ws).run()
@@ -340,7 +341,7 @@ def judged(link, octets):
 
 def look_at_addresses(link, function, origin, destination):
     if link.is_hub:
-        own = function == bvlc.RESULT or function >= bvlc.CONNECT_REQUEST
+        own = function == bvlc.RESULT or bvlc.CONNECT_REQUEST <= function <= bvlc.HEARTBEAT_ACK
         if not own and not origin or destination and destination not in (BROADCAST, link.node.vmac):
             raise Wrong()
     elif origin and origin != link.peer or destination and destination != link.node.vmac:

@@ -86,8 +86,9 @@ async def played(case, asked, stand, node):
 
 
 async def at_home(stand, node):
-    """The primary hub takes the node again, and the failover doesn't."""
-    stand.sides["primary"].refuses, stand.sides["failover"].refuses = False, True
+    """The primary hub and the peer take the node again, and the failover doesn't."""
+    for name, side in stand.sides.items():
+        side.refuses = name == "failover"
     if node.failover and not node.failover.closed:
         await node.failover.close()
     node.failover = None

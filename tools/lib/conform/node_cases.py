@@ -272,6 +272,14 @@ async def leave_hub_breaks(t):
 # ----------------------------------------------------------------------------------------------------------------- renewal
 
 
+async def alone(t):
+    """A new link of a node that has no direct connection, where it may keep its VMAC."""
+    t.stand.sides["peer"].refuses = True
+    for link, _ in t.stand.of_peer:
+        await link.close()
+    return await fresh(t)
+
+
 async def renewed(t, link):
     """Refuses a node as a duplicate; its next link, with another VMAC."""
     old = t.node.vmac
@@ -294,7 +302,7 @@ async def renewed(t, link):
 @case("renewal.duplicate", "AB.1.5.2")
 async def renewal_duplicate(t):
     """A node that is refused with code 151 asks with another VMAC, a Random-48, and as the same device."""
-    link = await renewed(t, await fresh(t))
+    link = await renewed(t, await alone(t))
     await t.accept(link)
     await t.stays(link)
 
@@ -302,7 +310,7 @@ async def renewal_duplicate(t):
 @case("renewal.twice", "AB.1.5.2")
 async def renewal_twice(t):
     """One that is refused so twice draws twice."""
-    link = await renewed(t, await renewed(t, await fresh(t)))
+    link = await renewed(t, await renewed(t, await alone(t)))
     await t.accept(link)
     await t.stays(link)
 
@@ -310,7 +318,7 @@ async def renewal_twice(t):
 @case("renewal.other-id", "AB.1.5.2")
 async def renewal_other_id(t):
     """A NAK with another Message ID than its request is no refusal."""
-    link = await fresh(t)
+    link = await alone(t)
     own, vmac = Message(link.request or bytes(4)).id, t.node.vmac
     await link.send(spelled(NAK, (own + 7) & 0xFFFF, payload=DUPLICATE))
     for event in await t.quiet(link):
@@ -325,7 +333,7 @@ async def renewal_other_id(t):
 @case("renewal.answers", "AB.1.5.2")
 async def renewal_answers(t):
     """What the new VMAC is for: a message for it is taken, and one for the old isn't."""
-    link = await fresh(t)
+    link = await alone(t)
     old = t.node.vmac
     link = await t.accept(await renewed(t, link))
     octets = spelled(SOLICITATION, t.node.next_id(), PEER, t.node.vmac)

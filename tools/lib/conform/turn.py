@@ -254,6 +254,9 @@ class Turn:
 
     @staticmethod
     def rule_of(due):
+        """The rule by which an answer is due."""
+        if due.function == NAK and number(due.field("error code")) == DUPLICATE:
+            return "direct-duplicate"
         return {NAK: "nak", HEARTBEAT_ACK: "heartbeat-ack", RESOLUTION_ACK: "resolution-ack", 0x04: "advertisement", 0x09: "disconnect-ack",
                 CONNECT_ACCEPT: "direct-accept"}[due.function]
 
