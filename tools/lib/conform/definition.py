@@ -1,23 +1,16 @@
 """What the definition says of a script: bsc replay computes it, line by line."""
-import os
 import re
-import shutil
 import subprocess
-from pathlib import Path
 from typing import NamedTuple
 
 from conform.events import Closing, Coming
+from conform.proved import NoProgram, program
 from conform.scripts import is_flood
 from message import NPDU
 
-TOP = Path(__file__).resolve().parents[3]
 MARK = "counts"  # a line that changes nothing and is always answered: so one sees which lines a step comes to
 PATIENCE = 60  # seconds that a script may take to be replayed
 ANSWER = re.compile(r"hub (counts|worn)\b")
-
-
-class NoProgram(Exception):
-    """The program isn't there, or didn't do what it is for."""
 
 
 class Due(NamedTuple):
@@ -25,15 +18,6 @@ class Due(NamedTuple):
 
     said: tuple  # lines of replay, as words
     events: tuple
-
-
-def program():
-    """The program: that which BSC names, that which is built in this checkout, or that which is installed. None is built for this."""
-    places = [TOP / "out/bsc", TOP / "crates/bsc_program/out/bsc_program"]
-    found = os.environ.get("BSC") or next((str(it) for it in places if os.access(it, os.X_OK) and it.is_file()), shutil.which("bsc"))
-    if not found:
-        raise NoProgram("bsc isn't built here; ./bsc replay < /dev/null proves and builds it, and BSC=PATH names another program")
-    return found
 
 
 def replayed(script):

@@ -7,8 +7,8 @@
 Each script joins nodes of its own, with new VMACs and devices. A line a script is written, in TAP, and below it each difference:
 whether it is of the standard or of the profile, the clause of ANSI/ASHRAE 135-2020, Annex AB, where it is known, the rule, the
 peer, and what came. The profile is what this project chose where the standard leaves it open; a script that differs from that
-alone is marked TODO. The scripts stand in tools/lib/conform/hub.scripts. What is due is computed by bsc replay: the program that
-is built here, or the one that BSC names.
+alone is marked TODO. The scripts stand in tools/lib/conform/hub.scripts. What is due is computed by bsc replay: the program of
+this checkout or of the package, or the one that BSC names.
 
 Time-outs are played with --times, full outboxes with --outbox; else these scripts are skipped. Other nodes may be at the hub, but
 no second run of this tool.

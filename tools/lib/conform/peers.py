@@ -45,11 +45,11 @@ async def narrow_socket(uri):
     return {"sock": it, **({"server_hostname": where.hostname} if where.scheme == "wss" else {})}
 
 
-async def opened(uri, tls, narrow=False):
+async def opened(uri, tls, narrow=False, protocol=PROTOCOL):
     """A link to the hub. `tls` is None where the URI begins with ws."""
     try:
         more = await narrow_socket(uri) if narrow else {}
-        ws = await websockets.connect(uri, subprotocols=[PROTOCOL], compression=None, max_size=None, ping_interval=None, ssl=tls,
+        ws = await websockets.connect(uri, subprotocols=[protocol], compression=None, max_size=None, ping_interval=None, ssl=tls,
                                       open_timeout=OPENING, close_timeout=CLOSING, **more)
     except ssl.SSLError as why:
         raise NoConnection(f"TLS was refused: {why}") from None
@@ -60,9 +60,9 @@ async def opened(uri, tls, narrow=False):
         raise NoConnection(f"the hub refused the WebSocket: {why}") from None
     except (OSError, ConnectionClosed, asyncio.TimeoutError) as why:
         raise NoConnection(f"no connection: {why or type(why).__name__}") from None
-    if ws.subprotocol != PROTOCOL:
+    if ws.subprotocol != protocol:
         await ws.close()
-        raise NoConnection(f"the hub agreed to no sub-protocol {PROTOCOL}")
+        raise NoConnection(f"the hub agreed to no sub-protocol {protocol}")
     return ws
 
 

@@ -1,8 +1,9 @@
 """The proved program: where it is, and what it answers."""
 import os
-import shutil
 import subprocess
 from pathlib import Path
+
+import built
 
 TOP = Path(__file__).resolve().parents[3]
 PATIENCE = 600  # seconds that a run may take
@@ -13,11 +14,10 @@ class NoProgram(Exception):
 
 
 def program():
-    """The program: that which BSC names, that which is built in this checkout, or that which is installed. None is built for this."""
-    places = [TOP / "out/bsc", TOP / "crates/bsc_program/out/bsc_program"]
-    found = os.environ.get("BSC") or next((str(it) for it in places if os.access(it, os.X_OK) and it.is_file()), shutil.which("bsc"))
+    """The program: that which BSC names, that of this checkout or of the package, or that on the PATH. None is built for this."""
+    found = os.environ.get("BSC") or built.found_anywhere()
     if not found:
-        raise NoProgram("bsc isn't built here; ./bsc check < /dev/null proves and builds it, and BSC=PATH names another program")
+        raise NoProgram("there is no bsc; in a checkout ./bsc check < /dev/null proves and builds it, and BSC=PATH names another program")
     return found
 
 
