@@ -168,14 +168,15 @@ async def run(asked):
     tls = peers.tls_context(asked) if asked.uri.startswith("wss:") else None
     hub, took = await probed(asked.uri, tls, asked.patience)
     pace = playing.Pace(asked.patience, took)
-    told = report.Tap(asked.chosen, hub, asked.profile)
+    about = f"the hub {hub.vmac}, device {hub.device}, takes {hub.max_bvlc} octets and NPDUs of {hub.max_npdu}"
+    told = report.Tap(asked.chosen, about, asked.profile)
     for script in asked.chosen:
         told.add(await played(script, hub, asked, tls, pace))
         if told.unopened() == GONE:
             raise peers.NoConnection(f"{GONE} scripts in a row couldn't open a WebSocket any more")
     told.end()
     if asked.html:
-        Path(asked.html).write_text(page.page(asked.uri, told.hub, told.results), encoding="utf-8")
+        Path(asked.html).write_text(page.page(asked.uri, hub, told.results), encoding="utf-8")
     return DIFFERS if told.failed else SAME
 
 

@@ -16,14 +16,16 @@ def alike(differences):
 
 
 class Tap:
-    def __init__(self, chosen, hub, judges_profile, out=sys.stdout):
-        self.chosen, self.hub, self.judges_profile, self.out = chosen, hub, judges_profile, out
+    """`about` is a line on what is tested, and `what` the word for what is played."""
+
+    def __init__(self, chosen, about, judges_profile, what="scripts", out=sys.stdout):
+        self.chosen, self.judges_profile, self.what, self.out = chosen, judges_profile, what, out
         self.results = []
         self.failed = False
         self.progress()
         self.say("TAP version 13")
         self.say(f"1..{len(chosen)}")
-        self.say(f"# the hub {hub.vmac}, device {hub.device}, takes {hub.max_bvlc} octets and NPDUs of {hub.max_npdu}")
+        self.say(f"# {about}")
 
     def say(self, line):
         if sys.stderr.isatty():
@@ -73,5 +75,5 @@ class Tap:
         strangers = sum(it.strangers for it in self.results)
         if strangers:
             self.say(f"# {strangers} messages of other nodes came, and were passed over")
-        self.say(f"# {len(self.results)} scripts, {skipped} skipped: {counts[STANDARD]} differences of the standard, "
+        self.say(f"# {len(self.results)} {self.what}, {skipped} skipped: {counts[STANDARD]} differences of the standard, "
                  f"{counts[PROFILE]} of the profile")
