@@ -8,7 +8,7 @@ the definition says.
 It listens, says by which URIs the node is pointed at it, and waits for the node. Then each case has a line in TAP, and below it each
 difference: whether it is of the standard or of the profile, the clause of ANSI/ASHRAE 135-2020, Annex AB, where it is known, the rule,
 at whom it is seen, and what came. The profile is what this project chose where the standard leaves it open; a case that differs from
-that alone is marked TODO. Which NAK is due bsc check says: the program that is built here, or the one that BSC names.
+that alone is marked TODO. Which NAK is due bsc check says: that of this checkout or of the package, or which BSC names.
 
 The node may send what it wants meanwhile: its questions to the hub and to the peer 02000000000E are answered. Some cases wait until
 it dials again; so its least reconnect time is best short. No second run of this tool may be at the node.
